@@ -1,0 +1,123 @@
+-- The kinds of errors: their numbers and descriptions.
+use Rattle.std.specs.Prelude.{ℕ, List, codes}
+use Rattle.nom_error.specs.declared.kind.ErrorKind.{ErrorKind}
+use Rattle.nom_error.specs.declared.kind.ErrorKind.TheVariants as Kind
+
+abbrev pub number_of : ErrorKind → ℕ
+number_of Kind.Tag = 1
+number_of Kind.MapRes = 2
+number_of Kind.MapOpt = 3
+number_of Kind.Alt = 4
+number_of Kind.IsNot = 5
+number_of Kind.IsA = 6
+number_of Kind.SeparatedList = 7
+number_of Kind.SeparatedNonEmptyList = 8
+number_of Kind.Many0 = 62
+number_of Kind.Many1 = 9
+number_of Kind.ManyTill = 65
+number_of Kind.Count = 10
+number_of Kind.TakeUntil = 12
+number_of Kind.LengthValue = 15
+number_of Kind.TagClosure = 16
+number_of Kind.Alpha = 17
+number_of Kind.Digit = 18
+number_of Kind.HexDigit = 59
+number_of Kind.OctDigit = 61
+number_of Kind.BinDigit = 78
+number_of Kind.AlphaNumeric = 19
+number_of Kind.Space = 20
+number_of Kind.MultiSpace = 21
+number_of Kind.LengthValueFn = 22
+number_of Kind.Eof = 23
+number_of Kind.Switch = 27
+number_of Kind.TagBits = 28
+number_of Kind.OneOf = 29
+number_of Kind.NoneOf = 30
+number_of Kind.Char = 40
+number_of Kind.CrLf = 41
+number_of Kind.RegexpMatch = 42
+number_of Kind.RegexpMatches = 43
+number_of Kind.RegexpFind = 44
+number_of Kind.RegexpCapture = 45
+number_of Kind.RegexpCaptures = 46
+number_of Kind.TakeWhile1 = 47
+number_of Kind.Complete = 48
+number_of Kind.Fix = 49
+number_of Kind.Escaped = 50
+number_of Kind.EscapedTransform = 51
+number_of Kind.NonEmpty = 56
+number_of Kind.ManyMN = 57
+number_of Kind.Not = 63
+number_of Kind.Permutation = 64
+number_of Kind.Verify = 66
+number_of Kind.TakeTill1 = 67
+number_of Kind.TakeWhileMN = 69
+number_of Kind.TooLarge = 70
+number_of Kind.Many0Count = 71
+number_of Kind.Many1Count = 72
+number_of Kind.Float = 73
+number_of Kind.Satisfy = 74
+number_of Kind.Fail = 75
+number_of Kind.Many = 76
+number_of Kind.Fold = 77
+number_of Kind.Precedence = 79
+
+-- the description of a kind, as bytes
+abbrev pub description_of : ErrorKind → List ℕ
+description_of Kind.Tag = codes "Tag"
+description_of Kind.MapRes = codes "Map on Result"
+description_of Kind.MapOpt = codes "Map on Option"
+description_of Kind.Alt = codes "Alternative"
+description_of Kind.IsNot = codes "IsNot"
+description_of Kind.IsA = codes "IsA"
+description_of Kind.SeparatedList = codes "Separated list"
+description_of Kind.SeparatedNonEmptyList = codes "Separated non empty list"
+description_of Kind.Many0 = codes "Many0"
+description_of Kind.Many1 = codes "Many1"
+description_of Kind.ManyTill = codes "ManyTill"
+description_of Kind.Count = codes "Count"
+description_of Kind.TakeUntil = codes "Take until"
+description_of Kind.LengthValue = codes "Length followed by value"
+description_of Kind.TagClosure = codes "Tag closure"
+description_of Kind.Alpha = codes "Alphabetic"
+description_of Kind.Digit = codes "Digit"
+description_of Kind.HexDigit = codes "Hexadecimal Digit"
+description_of Kind.OctDigit = codes "Octal digit"
+description_of Kind.BinDigit = codes "Binary digit"
+description_of Kind.AlphaNumeric = codes "AlphaNumeric"
+description_of Kind.Space = codes "Space"
+description_of Kind.MultiSpace = codes "Multiple spaces"
+description_of Kind.LengthValueFn = codes "LengthValueFn"
+description_of Kind.Eof = codes "End of file"
+description_of Kind.Switch = codes "Switch"
+description_of Kind.TagBits = codes "Tag on bitstream"
+description_of Kind.OneOf = codes "OneOf"
+description_of Kind.NoneOf = codes "NoneOf"
+description_of Kind.Char = codes "Char"
+description_of Kind.CrLf = codes "CrLf"
+description_of Kind.RegexpMatch = codes "RegexpMatch"
+description_of Kind.RegexpMatches = codes "RegexpMatches"
+description_of Kind.RegexpFind = codes "RegexpFind"
+description_of Kind.RegexpCapture = codes "RegexpCapture"
+description_of Kind.RegexpCaptures = codes "RegexpCaptures"
+description_of Kind.TakeWhile1 = codes "TakeWhile1"
+description_of Kind.Complete = codes "Complete"
+description_of Kind.Fix = codes "Fix"
+description_of Kind.Escaped = codes "Escaped"
+description_of Kind.EscapedTransform = codes "EscapedTransform"
+description_of Kind.NonEmpty = codes "NonEmpty"
+description_of Kind.ManyMN = codes "Many(m, n)"
+description_of Kind.Not = codes "Negation"
+description_of Kind.Permutation = codes "Permutation"
+description_of Kind.Verify = codes "predicate verification"
+description_of Kind.TakeTill1 = codes "TakeTill1"
+description_of Kind.TakeWhileMN = codes "TakeWhileMN"
+description_of Kind.TooLarge = codes "Needed data size is too large"
+description_of Kind.Many0Count = codes "Count occurrence of >=0 patterns"
+description_of Kind.Many1Count = codes "Count occurrence of >=1 patterns"
+description_of Kind.Float = codes "Float"
+description_of Kind.Satisfy = codes "Satisfy"
+description_of Kind.Fail = codes "Fail"
+description_of Kind.Many = codes "Many"
+description_of Kind.Fold = codes "Fold"
+description_of Kind.Precedence = codes "Precedence"

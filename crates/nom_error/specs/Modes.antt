@@ -1,0 +1,18 @@
+-- Values that are built only where a mode asks for them.
+use Rattle.std.specs.Prelude.{◌≡◌, Bool, true, false, Option, Some, None}
+
+-- a value with the fact, where values are built, and none elsewhere
+abbrev pub Built : {T : Type 0} → Bool → (T → Type 0) → Option T → Type 0
+Built {T} true P b = (v : T) × (b ≡ Some v) × P v
+Built false P b = b ≡ None
+
+-- what a closure gives for a value, where values are built
+abbrev pub BuiltFrom : {T U : Type 0} → Bool → (T → U → Type 0) → Option T → Option U → Type 0
+BuiltFrom built Gives None y = y ≡ None
+BuiltFrom built Gives (Some x) y = Built built (Gives x) y
+
+-- what a closure gives for two values, where values are built
+abbrev pub BuiltFromBoth : {S T U : Type 0} → Bool → (S → T → U → Type 0) → Option S → Option T → Option U → Type 0
+BuiltFromBoth built Gives None y z = z ≡ None
+BuiltFromBoth built Gives (Some x) None z = z ≡ None
+BuiltFromBoth built Gives (Some x) (Some y) z = Built built (Gives x y) z

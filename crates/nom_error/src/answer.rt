@@ -1,0 +1,117 @@
+//! What a parser answers.
+ghost use Rattle.std.specs.Prelude.{◌≡◌, ◌<◌, ◌↔◌, Some, None, IsTrue};
+ghost use Rattle.nom_error.specs.Answers.{size_of, text_of, IsIncomplete, IsMapped, IsNeededBy};
+
+use crate::value::Error;
+use std::fmt;
+use std::num::NonZeroUsize;
+
+/// Memory ran out: a growth, or a clone that takes memory, was refused.
+#[derive(Clone, Copy, Debug, PartialEq, Eq)]
+pub struct OutOfMemory;
+
+/// How much more a parser needs.
+#[derive(Clone, Copy, Debug, PartialEq, Eq)]
+pub enum Needed {
+    /// More, and it isn't known how much.
+    Unknown,
+    /// So many more bytes or characters, as the leaf that asks for them counts.
+    Size(NonZeroUsize),
+}
+
+impl Needed {
+    /// `Size` of `s`, or `Unknown` where that is 0.
+    #[inline(always)]
+    pub fn new(s: usize) -> Self
+        ensures none { s ≡ 0 → result ≡ Needed.Unknown }
+        ensures some { 0 < s → size_of result ≡ Some s }
+    {
+        match NonZeroUsize::new(s) {
+            Some(size) => Needed::Size(size),
+            None => Needed::Unknown,
+        }
+    }
+
+    /// Whether a size is known.
+    pub fn is_known(&self) -> bool
+        ensures { IsTrue result ↔ (size_of self.now ≡ None → ⊥) }
+    {
+        match self {
+            Needed::Unknown => false,
+            Needed::Size(_) => true,
+        }
+    }
+
+    /// Maps a size; one that becomes 0 is `Unknown`.
+    pub fn map<F: Fn(NonZeroUsize) -> usize>(self, f: F) -> Needed
+        requires { F.IsAlwaysCallable f }
+        ensures { IsNeededBy (F.post f) self result }
+    {
+        match self {
+            Needed::Unknown => Needed::Unknown,
+            Needed::Size(n) => Needed::new(f(n)),
+        }
+    }
+}
+
+/// What a parser answers in place of an acceptance. A refusal holds an `E`, a failure an `F`.
+#[derive(Clone, Debug, Drop, PartialEq, Eq)]
+pub enum Err<F, E = F> {
+    /// More input is needed to decide.
+    Incomplete(Needed),
+    /// The parser refuses, and another may be tried.
+    Error(E),
+    /// The parser refuses, and no other is to be tried.
+    Failure(F),
+    /// Memory ran out.
+    OutOfMemory,
+}
+
+impl<E> Err<E> {
+    /// Whether more input is needed.
+    pub fn is_incomplete(&self) -> bool
+        ensures { IsTrue result ↔ IsIncomplete self.now }
+    {
+        match self {
+            Err::Incomplete(_) => true,
+            Err::Error(_) => false,
+            Err::Failure(_) => false,
+            Err::OutOfMemory => false,
+        }
+    }
+
+    /// Maps the error that a refusal or a failure holds.
+    pub fn map<E2, F: FnOnce(E) -> E2 + Drop>(self, f: F) -> Err<E2>
+        requires { F.IsAlwaysCallable f }
+        ensures { IsMapped (F.post f) self result }
+    {
+        match self {
+            Err::Incomplete(needed) => Err::Incomplete(needed),
+            Err::Error(error) => Err::Error(f(error)),
+            Err::Failure(error) => Err::Failure(f(error)),
+            Err::OutOfMemory => Err::OutOfMemory,
+        }
+    }
+}
+
+/// The texts for `Incomplete` and `OutOfMemory` are promised, the others are not.
+impl<E: fmt::Debug> fmt::Display for Err<E> {
+    ghost output = { text_of };
+
+    fn fmt<W: fmt::Write>(&self, f: &mut fmt::Formatter<W>) -> fmt::Result {
+        match self {
+            Err::Incomplete(Needed::Size(size)) => write!(f, "Parsing requires {size} bytes/chars"),
+            Err::Incomplete(Needed::Unknown) => write!(f, "Parsing requires more data"),
+            Err::Failure(error) => write!(f, "Parsing Failure: {error:?}"),
+            Err::Error(error) => write!(f, "Parsing Error: {error:?}"),
+            Err::OutOfMemory => write!(f, "Parsing ran out of memory"),
+        }
+    }
+}
+
+/// What `parse` answers: the rest of the input and the output, or an `Err`.
+pub type IResult<I, O, E = Error<I>> = Result<(I, O), Err<E>>;
+
+/// What `process` answers: an output only where outputs are built, the error of a refusal only where
+/// errors are built, and that of a failure always.
+pub type PResult<I, O, E> = Result<(I, Option<O>), Err<E, Option<E>>>;

@@ -1,0 +1,115 @@
+//! Error values.
+ghost use Rattle.std.specs.Prelude.{◌≡◌, ℕ, MatchResult};
+ghost use Rattle.nom_error.specs.declared.kind.ErrorKind.{ErrorKind};
+ghost use Rattle.nom_error.specs.declared.kind.ErrorKind.TheVariants.{Char};
+ghost use Rattle.nom_error.specs.Answers.{Refuses};
+
+use crate::answer::{Err, OutOfMemory};
+use crate::kind::ErrorKind;
+use crate::mode::Mode;
+use std::fmt;
+
+/// An error type of parsers over inputs of type `I`. Each function has a ghost relation that says what
+/// it gives, and may answer `OutOfMemory` where `grows` holds.
+pub trait ParseError<I>: Drop + Sized {
+    /// The error for a kind at an input.
+    ghost from_error_kind_gives: { I → ErrorKind → Self → Type 0 };
+
+    /// The error that adds a kind at an input to one from below.
+    ghost append_gives: { I → ErrorKind → Self → Self → Type 0 };
+
+    /// The error for a character that was wanted at an input.
+    ghost from_char_gives: { I → ℕ → Self → Type 0 };
+
+    /// The error of two branches, the first tried first.
+    ghost or_gives: { Self → Self → Self → Type 0 };
+
+    /// Whether making one may take memory.
+    ghost grows: { Type 0 };
+
+    fn from_error_kind(input: I, kind: ErrorKind) -> Result<Self, OutOfMemory>
+        ensures { MatchResult result (from_error_kind_gives input kind) (λ _. grows) };
+
+    fn append(input: I, kind: ErrorKind, other: Self) -> Result<Self, OutOfMemory>
+        ensures { MatchResult result (append_gives input kind other) (λ _. grows) };
+
+    fn from_char(input: I, wanted: char) -> Result<Self, OutOfMemory>
+        ensures { MatchResult result (from_char_gives input wanted) (λ _. grows) };
+
+    fn or(self, other: Self) -> Result<Self, OutOfMemory>
+        ensures { MatchResult result (or_gives self other) (λ _. grows) };
+}
+
+/// The error type that parsers have where no other is asked for: the input at which a parser refused,
+/// and why. It takes no memory.
+#[derive(Clone, Copy, Debug, PartialEq, Eq)]
+pub struct Error<I> {
+    pub input: I,
+    pub code: ErrorKind,
+}
+
+impl<I> Error<I> {
+    pub fn new(input: I, code: ErrorKind) -> Error<I>
+        ensures { result ≡ record { input = input; code = code } }
+    {
+        Error { input, code }
+    }
+}
+
+impl<I: Drop> ParseError<I> for Error<I> {
+    ghost from_error_kind_gives = { λ i k e. e ≡ record { input = i; code = k } };
+
+    // The error from below is kept.
+    ghost append_gives = { λ _ _ other e. e ≡ other };
+
+    ghost from_char_gives = { λ i _ e. e ≡ record { input = i; code = Char } };
+
+    // The second error is kept.
+    ghost or_gives = { λ _ other e. e ≡ other };
+
+    ghost grows = { ⊥ };
+
+    #[inline(always)]
+    fn from_error_kind(input: I, kind: ErrorKind) -> Result<Self, OutOfMemory> {
+        Ok(Error { input, code: kind })
+    }
+
+    #[inline(always)]
+    fn append(_input: I, _kind: ErrorKind, other: Self) -> Result<Self, OutOfMemory> {
+        Ok(other)
+    }
+
+    #[inline(always)]
+    fn from_char(input: I, _wanted: char) -> Result<Self, OutOfMemory> {
+        Ok(Error {
+            input,
+            code: ErrorKind::Char,
+        })
+    }
+
+    #[inline(always)]
+    fn or(self, other: Self) -> Result<Self, OutOfMemory> {
+        Ok(other)
+    }
+}
+
+impl<I: fmt::Display> fmt::Display for Error<I> {
+    fn fmt<W: fmt::Write>(&self, f: &mut fmt::Formatter<W>) -> fmt::Result {
+        write!(f, "error {:?} at: {}", self.code, self.input)
+    }
+}
+
+/// A refusal of a kind at an input, with its error where errors are built.
+#[inline(always)]
+pub fn refusal<M: Mode, I: Drop, E: ParseError<I>>(input: I, kind: ErrorKind) -> Err<E, Option<E>>
+    ensures { Refuses (E.from_error_kind_gives input kind) E.grows M.BUILDS result }
+{
+    if M::BUILDS {
+        match E::from_error_kind(input, kind) {
+            Ok(error) => Err::Error(Some(error)),
+            Err(_) => Err::OutOfMemory,
+        }
+    } else {
+        Err::Error(None)
+    }
+}
