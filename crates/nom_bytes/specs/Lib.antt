@@ -1,0 +1,4 @@
+pub mod TagLaws
+pub mod Tags
+pub mod TakeLaws
+pub mod Takes

@@ -1,0 +1,36 @@
+//! Parsers of items: tags and slices.
+#![tactic(auto)]
+
+ghost use Rattle.std.specs.Prelude.{◌≡◌};
+
+mod leaf;
+
+pub use crate::leaf::{Tag, Take};
+use std::marker::PhantomData;
+
+/// The first `count` items: bytes of a byte slice, characters of a text.
+///
+/// Where there are fewer, streaming asks for the rest, and complete refuses with `Eof`.
+#[inline(always)]
+pub fn take<E>(count: usize) -> Take<E>
+    ensures { result.count ≡ count }
+{
+    Take {
+        count,
+        error: PhantomData,
+    }
+}
+
+/// A tag that the input begins with; its output is that front of the input.
+///
+/// Any other input is refused with `Tag`. Where the input is only a beginning of the tag, streaming
+/// asks for the rest of the tag, and complete refuses.
+#[inline(always)]
+pub fn tag<T: Copy, E>(tag: T) -> Tag<T, E>
+    ensures { result.tag ≡ tag }
+{
+    Tag {
+        tag,
+        error: PhantomData,
+    }
+}

@@ -1,0 +1,76 @@
+-- What a parser answers at an input, and what `process` and `parse` return for it.
+use Rattle.std.specs.Prelude.{◌≡◌, ℕ, Bool, Result, Ok, Err, Option}
+use Rattle.nom_error.specs.declared.answer.Err as Answer
+use Rattle.nom_error.specs.declared.answer.Err.TheVariants.{Incomplete, Error, Failure, OutOfMemory}
+use Rattle.nom_error.specs.declared.answer.Needed.{Needed}
+use Rattle.nom_error.specs.Answers.{size_of}
+use Rattle.nom_error.specs.Modes.{Built}
+use Rattle.nom_traits.specs.Input.{Seen, IsRest}
+
+-- An acceptance of the first items, of a length, with a parse tree; a refusal; a failure; a failure since what is lacking
+-- doesn't fit a size; or more is needed, of a size or, by None, of an unknown one.
+pub data Outcome (V : Type 0) : Type 0 where
+  Accept : ℕ → V → Outcome V
+  Refuse : Outcome V
+  Fail : Outcome V
+  TooLarge : Outcome V
+  Undecided : Option ℕ → Outcome V
+
+-- settled, whatever more may come: an acceptance, a refusal or a failure
+abbrev pub IsDecided : {V : Type 0} → Outcome V → Type 0
+IsDecided (Accept n v) = Unit {0}
+IsDecided Refuse = Unit {0}
+IsDecided Fail = Unit {0}
+IsDecided TooLarge = ⊥
+IsDecided (Undecided k) = ⊥
+
+-- an outcome that holds an error
+abbrev pub IsFault : {V : Type 0} → Outcome V → Type 0
+IsFault (Accept n v) = ⊥
+IsFault Refuse = Unit {0}
+IsFault Fail = Unit {0}
+IsFault TooLarge = Unit {0}
+IsFault (Undecided k) = ⊥
+
+-- an outcome whose error is told whether errors are built or not
+abbrev pub IsFailure : {V : Type 0} → Outcome V → Type 0
+IsFailure (Accept n v) = ⊥
+IsFailure Refuse = ⊥
+IsFailure Fail = Unit {0}
+IsFailure TooLarge = Unit {0}
+IsFailure (Undecided k) = ⊥
+
+-- a part has an outcome of a kind, and the fact holds
+pub record OnOutcome {I V : Type 0} (IsKind : Outcome V → Type 0) (Part : I → Outcome V → Type 0) (Fact : Type 0) (i : I) : Type 0 where
+  pub outcome : Outcome V
+  pub answered : Part i outcome
+  pub kind_is : IsKind outcome
+  pub fact : Fact
+
+module _ {I A V O E : Type 0} (w : Seen I A) (IsOutput : V → O → Type 0) (outputs errors : Bool) (i : I) where
+  -- what `process` returns at i for an outcome, with an error of which the fact holds
+  abbrev pub Shows : (E → Type 0) → Outcome V → Result (I × Option O) (Answer.Err E (Option E)) → Type 0
+  Shows IsError (Accept n v) r = (j : I) × (b : Option O) × IsRest w i n j × Built outputs (IsOutput v) b × (r ≡ Ok (j, b))
+  Shows IsError Refuse r = (b : Option E) × Built errors IsError b × (r ≡ Err (Error b))
+  Shows IsError Fail r = (e : E) × IsError e × (r ≡ Err (Failure e))
+  Shows IsError TooLarge r = (e : E) × IsError e × (r ≡ Err (Failure e))
+  Shows IsError (Undecided k) r = (n : Needed) × (size_of n ≡ k) × (r ≡ Err (Incomplete n))
+
+  -- memory ran out, where it may, or an outcome is shown
+  pub data ShowsAnswer (Answers : Outcome V → Type 0) (IsError : E → Type 0) (RunsOut : Type 0) (r : Result (I × Option O) (Answer.Err E (Option E))) : Type 0 where
+    RanOut : r ≡ Err OutOfMemory → RunsOut → ShowsAnswer Answers IsError RunsOut r
+    Shown : (o : Outcome V) → Answers o → Shows IsError o r → ShowsAnswer Answers IsError RunsOut r
+
+module _ {I A V O E : Type 0} (w : Seen I A) (IsOutput : V → O → Type 0) (i : I) where
+  -- what `parse` returns at i for an outcome: outputs and errors are built
+  abbrev pub Parses : (E → Type 0) → Outcome V → Result (I × O) (Answer.Err E E) → Type 0
+  Parses IsError (Accept n v) r = (j : I) × (b : O) × IsRest w i n j × IsOutput v b × (r ≡ Ok (j, b))
+  Parses IsError Refuse r = (e : E) × IsError e × (r ≡ Err (Error e))
+  Parses IsError Fail r = (e : E) × IsError e × (r ≡ Err (Failure e))
+  Parses IsError TooLarge r = (e : E) × IsError e × (r ≡ Err (Failure e))
+  Parses IsError (Undecided k) r = (n : Needed) × (size_of n ≡ k) × (r ≡ Err (Incomplete n))
+
+  -- memory ran out, where it may, or an outcome is shown
+  pub data ParsesAnswer (Answers : Outcome V → Type 0) (IsError : E → Type 0) (RunsOut : Type 0) (r : Result (I × O) (Answer.Err E E)) : Type 0 where
+    ParseRanOut : r ≡ Err OutOfMemory → RunsOut → ParsesAnswer Answers IsError RunsOut r
+    Parsed : (o : Outcome V) → Answers o → Parses IsError o r → ParsesAnswer Answers IsError RunsOut r

@@ -1,0 +1,66 @@
+-- A part that is followed by another.
+use Rattle.std.specs.Prelude.{◌≡◌, ℕ, ◌+◌, Bool}
+use Rattle.nom_traits.specs.Input.{Seen, IsRest}
+use Rattle.nom_internal.specs.Outcome.{Outcome, IsFault, OnOutcome}
+use Rattle.nom_internal.specs.Outcome.Outcome.{Accept, Refuse, Fail, TooLarge, Undecided}
+use Rattle.nom_internal.specs.Meaning.{Meaning}
+
+-- the outcome after n items that were accepted before, with a tree made of its own
+abbrev pub after : {V W : Type 0} → ℕ → (V → W) → Outcome V → Outcome W
+after n f (Accept m v) = Accept (n + m) (f v)
+after n f Refuse = Refuse
+after n f Fail = Fail
+after n f TooLarge = TooLarge
+after n f (Undecided k) = Undecided k
+
+module _ {I A P Q T : Type 0} (w : Seen I A) (tree : P → Q → T) where
+  -- how a first outcome goes on: an acceptance by what follows on the rest, and else as it is
+  abbrev pub GoesOn : (P → I → Outcome Q → Type 0) → I → Outcome P → Outcome T → Type 0
+  GoesOn Next i (Accept n u) o = (j : I) × (p : Outcome Q) × IsRest w i n j × Next u j p × (o ≡ after n (tree u) p)
+  GoesOn _ _ Refuse o = o ≡ Refuse
+  GoesOn _ _ Fail o = o ≡ Fail
+  GoesOn _ _ TooLarge o = o ≡ TooLarge
+  GoesOn _ _ (Undecided k) o = o ≡ Undecided k
+
+  -- a first part, and then what follows its tree
+  pub record Then (First : I → Outcome P → Type 0) (Next : P → I → Outcome Q → Type 0) (i : I) (o : Outcome T) : Type 0 where
+    pub first : Outcome P
+    pub answered : First i first
+    pub goes_on : GoesOn Next i first o
+
+module _ {I A P : Type 0} (w : Seen I A) where
+  -- a first part accepts and leaves a rest, of which the fact holds
+  pub record OnRest (First : I → Outcome P → Type 0) (Fact : P → I → Type 0) (i : I) : Type 0 where
+    pub length : ℕ
+    pub tree : P
+    pub rest : I
+    pub accepted : First i (Accept length tree)
+    pub rest_is : IsRest w i length rest
+    pub fact : Fact tree rest
+
+module _ {I A P Q E : Type 0} (w : Seen I A) (First : I → Outcome P → Type 0) (FirstBlames : I → E → Type 0) (Next : P → I → Outcome Q → Type 0) (NextBlames : P → I → E → Type 0) where
+  -- the error that a first part holds, or what follows it
+  pub data ThenBlames (i : I) (e : E) : Type 0 where
+    BlamesFirst : OnOutcome IsFault First (FirstBlames i e) i → ThenBlames i e
+    BlamesNext : OnRest w First (λ u j. OnOutcome IsFault (Next u) (NextBlames u j e) j) i → ThenBlames i e
+
+module _ {I A P : Type 0} (w : Seen I A) (First : I → Outcome P → Type 0) (FirstRunsOut : I → Type 0) (NextRunsOut : P → I → Type 0) where
+  -- memory may run out in a first part, or in what follows it
+  pub data ThenRunsOut (i : I) : Type 0 where
+    RunsOutFirst : FirstRunsOut i → ThenRunsOut i
+    RunsOutNext : OnRest w First NextRunsOut i → ThenRunsOut i
+
+-- two parts in sequence, with a tree made of theirs; where outputs are built, which of them each part builds
+abbrev pub sequence_meaning : {I A P Q T E : Type 0} → Seen I A → (P → Q → T) → (Bool → Bool) → (Bool → Bool) → Meaning I P E → Meaning I Q E → Meaning I T E
+sequence_meaning w tree first_builds second_builds a b = record {
+  IsSound = a.IsSound × b.IsSound;
+  answers = λ s. Then w tree (a.answers s) (λ _. b.answers s);
+  blames = λ s. ThenBlames w (a.answers s) (a.blames s) (λ _. b.answers s) (λ _. b.blames s);
+  runs_out = λ outputs errors s. ThenRunsOut w (a.answers s) (a.runs_out (first_builds outputs) errors s) (λ _. b.runs_out (second_builds outputs) errors s);
+  IsFrugal = λ outputs errors. a.IsFrugal (first_builds outputs) errors × b.IsFrugal (second_builds outputs) errors;
+  Settles = a.Settles × b.Settles;
+}
+
+-- two parts in sequence, with the pair of their trees
+abbrev pub pair_meaning : {I A P Q E : Type 0} → Seen I A → Meaning I P E → Meaning I Q E → Meaning I (P × Q) E
+pair_meaning w a b = sequence_meaning w (λ u v. (u, v)) (λ o. o) (λ o. o) a b

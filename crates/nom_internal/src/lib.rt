@@ -1,0 +1,8 @@
+//! Parsers: what they mean, their laws, sequences of two, and inputs that grow.
+#![tactic(auto)]
+
+pub mod growing;
+pub mod parser;
+pub mod promises;
+pub mod sequence;
+pub mod slices;

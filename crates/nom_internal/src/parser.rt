@@ -1,0 +1,108 @@
+//! Parsers.
+ghost use Rattle.std.specs.Prelude.{◌≡◌, true, false};
+ghost use Rattle.nom_internal.specs.Meaning.{Meaning, IsLawful, IsSteady, ShowsMeaning, ParsesMeaning};
+ghost use Rattle.nom_internal.specs.Results.{IsFull, HoldsSame};
+
+use crate::sequence::And;
+use nom_error::answer::{Err, IResult, PResult};
+use nom_error::mode::{Complete, Emit, IsStreaming, Mode, OutputM, OutputMode, Streaming};
+use nom_error::value::ParseError;
+use nom_traits::input::Items;
+
+/// A parser over inputs of type `I`: it means one fixed function from a mode, streaming or complete,
+/// and an input to an outcome, and `process` shows that outcome.
+pub trait Parser<I: Items>: Sized {
+    /// What an acceptance gives.
+    type Output: Drop;
+
+    /// What a refusal or a failure gives.
+    type Error: ParseError<I>;
+
+    /// What of the parser its meaning depends on.
+    ghost State: { Type 0 };
+
+    ghost state: { Self → State };
+
+    /// The parse trees of what is accepted.
+    ghost Tree: { Type 0 };
+
+    /// Which output a tree stands for.
+    ghost IsOutput: { State → Tree → Self.Output → Type 0 };
+
+    /// What the parser means.
+    ghost meaning: { State → Meaning I Tree Self.Error };
+
+    /// Runs the parser in the mode `OM`: builds the output and the error only where it asks for them,
+    /// and answers as it says whether more input may come.
+    fn process<OM: OutputMode>(&mut self, input: I) -> PResult<I, Self::Output, Self::Error>
+        requires sound { (meaning (state self.old)).IsSound }
+        ensures shown { ShowsMeaning I.seen (IsOutput (state self.old)) (meaning (state self.old)) OM.Output.BUILDS OM.Error.BUILDS OM.Incomplete.STREAMING input result }
+        // A call keeps the meaning.
+        ensures kept { state self.new ≡ state self.old };
+
+    /// One outcome for each mode and input, fronts alone accepted, no want of memory where the parser
+    /// is frugal, and where it settles, decided streaming outcomes that are the complete ones.
+    ghost lawful: { (s : State) → IsLawful I.seen (meaning s) };
+
+    /// Parses an input of which more may come.
+    #[inline(always)]
+    final fn parse(&mut self, input: I) -> IResult<I, Self::Output, Self::Error>
+        requires sound { (meaning (state self.old)).IsSound }
+        ensures shown { ParsesMeaning I.seen (IsOutput (state self.old)) (meaning (state self.old)) true input result }
+        ensures kept { state self.new ≡ state self.old }
+    {
+        full(self.process::<OutputM<Emit, Emit, Streaming>>(input))
+    }
+
+    /// Parses an input that is complete.
+    #[inline(always)]
+    final fn parse_complete(&mut self, input: I) -> IResult<I, Self::Output, Self::Error>
+        requires sound { (meaning (state self.old)).IsSound }
+        ensures shown { ParsesMeaning I.seen (IsOutput (state self.old)) (meaning (state self.old)) false input result }
+        ensures kept { state self.new ≡ state self.old }
+    {
+        full(self.process::<OutputM<Emit, Emit, Complete>>(input))
+    }
+
+    /// This parser, and then another, with both outputs.
+    final fn and<G: Parser<I, Error = Self::Error>>(self, second: G) -> And<Self, G>
+        ensures first { result.first ≡ self }
+        ensures second { result.second ≡ second }
+    {
+        And {
+            first: self,
+            second,
+        }
+    }
+}
+
+/// A parser whose decided streaming outcomes stay on every longer input.
+pub trait StreamParser<I: Items>: Parser<I> {
+    /// Does nothing: a parser is called by `Parser`.
+    #[inline(always)]
+    fn streams(&self) {}
+
+    ghost steady: { (s : Self.State) → IsSteady I.seen (Self.meaning s) };
+}
+
+/// A result in which outputs and errors are built, without their options.
+#[inline(always)]
+fn full<I: Drop, O: Drop, E: Drop>(answer: PResult<I, O, E>) -> IResult<I, O, E>
+    requires { IsFull answer }
+    ensures { HoldsSame answer result }
+{
+    match answer {
+        Ok(accepted) => {
+            let (rest, output) = accepted;
+            match output {
+                Some(output) => Ok((rest, output)),
+                None => unreachable!(),
+            }
+        }
+        Err(Err::Incomplete(needed)) => Err(Err::Incomplete(needed)),
+        Err(Err::Error(Some(error))) => Err(Err::Error(error)),
+        Err(Err::Error(None)) => unreachable!(),
+        Err(Err::Failure(error)) => Err(Err::Failure(error)),
+        Err(Err::OutOfMemory) => Err(Err::OutOfMemory),
+    }
+}

@@ -1,0 +1,62 @@
+//! One parser after another.
+ghost use Rattle.std.specs.Prelude.{◌≡◌, Some, None};
+ghost use Rattle.nom_internal.specs.Sequence.{pair_meaning};
+
+use crate::parser::{Parser, StreamParser};
+use nom_error::answer::PResult;
+use nom_error::mode::OutputMode;
+use nom_traits::input::Items;
+
+/// Two values that are built together, as a pair.
+#[inline(always)]
+pub fn combine<A: Drop, B: Drop>(first: Option<A>, second: Option<B>) -> Option<(A, B)>
+    ensures both { (a : A) (b : B) → first ≡ Some a → second ≡ Some b → result ≡ Some (a, b) }
+    ensures none { first ≡ None → result ≡ None }
+{
+    match (first, second) {
+        (Some(a), Some(b)) => Some((a, b)),
+        _ => None,
+    }
+}
+
+/// One parser after another, with both outputs.
+#[derive(Drop)]
+pub struct And<F, G> {
+    pub first: F,
+    pub second: G,
+}
+
+impl<I: Items, F: Parser<I> + Drop, G: Parser<I, Error = F::Error> + Drop> Parser<I> for And<F, G> {
+    ghost use Rattle.nom_internal.specs.SequenceLaws.{sequence_lawful};
+
+    type Output = (F::Output, G::Output);
+
+    type Error = F::Error;
+
+    ghost State = { F.State × G.State };
+
+    ghost state = { λ p. (F.state p.first, G.state p.second) };
+
+    ghost Tree = { F.Tree × G.Tree };
+
+    ghost IsOutput = { λ s t o. F.IsOutput s.0 t.0 o.0 × G.IsOutput s.1 t.1 o.1 };
+
+    ghost meaning = { λ s. pair_meaning I.seen (F.meaning s.0) (G.meaning s.1) };
+
+    #[inline(always)]
+    fn process<OM: OutputMode>(&mut self, input: I) -> PResult<I, Self::Output, Self::Error> {
+        let (rest, first) = self.first.process::<OM>(input)?;
+        let (rest, second) = self.second.process::<OM>(rest)?;
+        Ok((rest, combine(first, second)))
+    }
+
+    ghost lawful = { λ s. sequence_lawful I.seen I.lawful _ _ _ (F.meaning s.0) (G.meaning s.1) (F.lawful s.0) (G.lawful s.1) };
+}
+
+impl<I: Items, F: StreamParser<I> + Drop, G: StreamParser<I, Error = F::Error> + Drop> StreamParser<
+    I,
+> for And<F, G> {
+    ghost use Rattle.nom_internal.specs.SequenceLaws.{sequence_steady};
+
+    ghost steady = { λ s. sequence_steady I.seen I.lawful _ _ _ (F.meaning s.0) (G.meaning s.1) (F.steady s.0) (G.steady s.1) };
+}

@@ -1,0 +1,2 @@
+pub mod ByteCompared
+pub mod ByteCuts

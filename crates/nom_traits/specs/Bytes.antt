@@ -1,0 +1,24 @@
+-- How a slice of bytes is seen.
+use Rattle.std.specs.Prelude.{ℕ, ◌<◌, ◌^◌, List, length, refl}
+use Rattle.std.specs.Borrow.{Bor}
+use Rattle.std.proofs.Common.{lit<}
+use Rattle.nom_traits.specs.Input.{Seen, AreValues, InputLaws}
+
+-- bytes are seen as they are
+abbrev pub seen_bytes : Seen (Bor (List ℕ)) ℕ
+seen_bytes = record {
+  elements = λ s. s.now;
+  weight = λ _. 1;
+  Mark = Unit {0};
+  mark = λ _. tt;
+  mark_after = λ m _. m;
+  IsKnown = λ s. AreValues (λ b. b < 256) s.now × (length s.now < 2 ^ 63);
+  IsMore = λ _. Unit {0};
+}
+
+pub bytes_lawful : InputLaws seen_bytes
+bytes_lawful = record {
+  positive = λ _. lit< tt;
+  mark_none = λ _. refl;
+  mark_more = λ _ _ _. refl;
+}

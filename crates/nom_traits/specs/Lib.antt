@@ -1,0 +1,7 @@
+pub mod ByteCompares
+pub mod Bytes
+pub mod Compares
+pub mod Input
+pub mod Rests
+pub mod Slices
+pub mod View

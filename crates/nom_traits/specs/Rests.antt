@@ -1,0 +1,73 @@
+-- Rests of inputs.
+use Rattle.std.specs.Prelude.{◌≡◌, ℕ, ◌+◌, ◌<◌, Bool, true, false, List, [], ◌∷◌, ◌++◌, length, refl}
+use Rattle.std.proofs.Common.{arith, sym, ◌∙◌, ap, append_assoc}
+use Rattle.nom_traits.specs.Input.{Seen, span, IsFront, IsRest, IsPlace, IsSame, Related, InputLaws}
+
+pub span-append : {A : Type 0} (weight : A → ℕ) (xs ys : List A) → span weight (xs ++ ys) ≡ span weight xs + span weight ys
+span-append weight [] ys = omega arith
+span-append weight (x ∷ xs) ys = omega (arith, span-append weight xs ys)
+
+pub span-ones : {A : Type 0} (xs : List A) → span (λ _. 1) xs ≡ length xs
+span-ones [] = refl
+span-ones (x ∷ xs) = omega (arith, span-ones xs)
+
+-- two cuts of a list at one length are one
+pub same_cut : {A : Type 0} (weight : A → ℕ) → ((a : A) → 0 < weight a) → (xs ys xs' ys' : List A) → xs ++ ys ≡ xs' ++ ys' → span weight xs ≡ span weight xs' → (xs ≡ xs') × (ys ≡ ys')
+same_cut weight pos [] ys [] ys' e h = (refl, e)
+same_cut weight pos [] ys (x ∷ xs') ys' e h = absurd (omega (arith, pos x))
+same_cut weight pos (x ∷ xs) ys [] ys' e h = absurd (omega (arith, pos x))
+same_cut weight pos (x ∷ xs) ys (y ∷ xs') ys' e h =
+    let heads : x ≡ y = cc in
+    let tails : xs ++ ys ≡ xs' ++ ys' = cc in
+    let spans : span weight xs ≡ span weight xs' = omega (arith, ap weight heads) in
+    let r = same_cut weight pos xs ys xs' ys' tails spans in
+    (cc, r.1)
+
+module _ {I A : Type 0} (w : Seen I A) where
+  pub same_self : (i : I) → IsSame w i i
+  same_self i = record { elements_are = refl; mark_is = refl }
+
+  pub rest_place : (i : I) (n : ℕ) (j : I) → IsRest w i n j → IsPlace w i n
+  rest_place i n j p = record { front = p.front; rest = w.elements j; whole = p.whole; length_is = p.length_is }
+
+  pub place_more : (i : I) (n : ℕ) (j : I) (m : ℕ) → IsRest w i n j → IsPlace w j m → IsPlace w i (n + m)
+  place_more i n j m p q = record {
+    front = p.front ++ q.front;
+    rest = q.rest;
+    whole = p.whole ∙ (ap (λ xs. p.front ++ xs) q.whole ∙ sym (append_assoc p.front q.front q.rest));
+    length_is = omega (arith, span-append w.weight p.front q.front, p.length_is, q.length_is);
+  }
+
+module _ {I A : Type 0} (w : Seen I A) (l : InputLaws w) where
+  pub rest_rest : (i : I) (n : ℕ) (j : I) (m : ℕ) (k : I) → IsRest w i n j → IsRest w j m k → IsRest w i (n + m) k
+  rest_rest i n j m k p q = record {
+    known = q.known;
+    front = p.front ++ q.front;
+    whole = p.whole ∙ (ap (λ xs. p.front ++ xs) q.whole ∙ sym (append_assoc p.front q.front (w.elements k)));
+    length_is = omega (arith, span-append w.weight p.front q.front, p.length_is, q.length_is);
+    mark_is = q.mark_is ∙ (ap (λ s. w.mark_after s q.front) p.mark_is ∙ sym (l.mark_more (w.mark i) p.front q.front));
+  }
+
+  -- fronts of one length are seen alike
+  pub same_front : (i : I) (n : ℕ) (x y : I) → IsFront w i n x → IsFront w i n y → IsSame w x y
+  same_front i n x y p q =
+      let c = same_cut w.weight l.positive (w.elements x) p.rest (w.elements y) q.rest (sym p.whole ∙ q.whole) (p.length_is ∙ sym q.length_is) in
+      record { elements_are = c.0; mark_is = p.mark_is ∙ sym q.mark_is }
+
+  -- rests of related inputs at one place are related alike
+  pub rest_related : (longer : Bool) (x y : I) (n : ℕ) (j k : I) → Related w longer x y → IsRest w x n j → IsRest w y n k → Related w longer j k
+  rest_related true x y n j k e p q =
+      let whole : q.front ++ w.elements k ≡ p.front ++ (w.elements j ++ e.more) = sym q.whole ∙ (e.whole ∙ (ap (λ xs. xs ++ e.more) p.whole ∙ append_assoc p.front (w.elements j) e.more)) in
+      let u = same_cut w.weight l.positive q.front (w.elements k) p.front (w.elements j ++ e.more) whole (q.length_is ∙ sym p.length_is) in
+      record {
+        more = e.more;
+        added = e.added;
+        whole = u.1;
+        mark_is = q.mark_is ∙ (ap (λ xs. w.mark_after (w.mark y) xs) u.0 ∙ (ap (λ m. w.mark_after m p.front) e.mark_is ∙ sym p.mark_is));
+      }
+  rest_related false x y n j k s p q =
+      let u = same_cut w.weight l.positive p.front (w.elements j) q.front (w.elements k) (sym p.whole ∙ (s.elements_are ∙ q.whole)) (p.length_is ∙ sym q.length_is) in
+      record {
+        elements_are = u.1;
+        mark_is = p.mark_is ∙ (ap (λ m. w.mark_after m p.front) s.mark_is ∙ (ap (λ xs. w.mark_after (w.mark y) xs) u.0 ∙ sym q.mark_is));
+      }

@@ -1,0 +1,57 @@
+//! Slices of bytes as inputs: the items are the bytes, each of length 1.
+ghost use Rattle.std.specs.Prelude.{◌≡◌, ◌-◌, length, Some};
+ghost use Rattle.nom_traits.specs.Bytes.{seen_bytes, bytes_lawful};
+
+use crate::input::{Input, Items};
+use nom_error::answer::Needed;
+
+impl Items for &[u8] {
+    type Item = u8;
+
+    ghost seen = { seen_bytes };
+
+    #[inline(always)]
+    fn known(self) {
+        let _n = self.len();
+    }
+
+    ghost lawful = { bytes_lawful };
+
+    ghost values = { λ i h. h.0 };
+
+    ghost views = { λ x y h. h.elements_are };
+}
+
+impl Input for &[u8] {
+    ghost lack = { λ count xs. Some (count - length xs) };
+
+    #[inline(always)]
+    fn input_len(&self) -> usize {
+        self.len()
+    }
+
+    #[inline(always)]
+    fn take(&self, index: usize) -> Self {
+        let slice = *self;
+        slice.known();
+        &slice[..index]
+    }
+
+    #[inline(always)]
+    fn take_from(&self, index: usize) -> Self {
+        let slice = *self;
+        slice.known();
+        &slice[index..]
+    }
+
+    #[inline(always)]
+    fn slice_index(&self, count: usize) -> Result<usize, Needed> {
+        if self.len() >= count {
+            Ok(count)
+        } else {
+            Err(Needed::new(count - self.len()))
+        }
+    }
+
+    ghost more = { λ _. tt };
+}

@@ -1,0 +1,79 @@
+//! Inputs.
+ghost use Rattle.std.specs.Prelude.{◌≡◌, ◌<◌, ℕ, List, length, Option, MatchResult};
+ghost use Rattle.nom_error.specs.Answers.{size_of};
+ghost use Rattle.nom_traits.specs.Input.{Seen, InputLaws, AreValues, IsPlace, IsFront, IsRest, IsSame, input_len};
+ghost use Rattle.nom_traits.specs.Slices.{IsCount};
+
+use crate::view::Viewed;
+use nom_error::answer::Needed;
+
+/// A type of items.
+pub trait Value {
+    /// Which values in contracts are values of the type.
+    ghost IsValue: { Self → Type 0 };
+}
+
+impl Value for u8 {
+    ghost IsValue = { λ b. b < 256 };
+}
+
+/// A value seen as a list of items, each of a length of at least 1, with a mark.
+pub trait Items: Copy + Viewed {
+    /// An item.
+    type Item: Value;
+
+    /// How the values are seen.
+    ghost seen: { Seen Self Self.Item };
+
+    /// Changes nothing, and tells that a value of the type is an input.
+    fn known(self)
+        ensures { seen.IsKnown self };
+
+    /// Each item has a length, and the mark after some items follows from theirs.
+    ghost lawful: { InputLaws seen };
+
+    /// The items are values of their type.
+    ghost values: { (i : Self) → seen.IsKnown i → AreValues Self.Item.IsValue (seen.elements i) };
+
+    /// Inputs that are seen alike are compared as one.
+    ghost views: { (x y : Self) → IsSame seen x y → Self.view.value x ≡ Self.view.value y };
+}
+
+/// An input that can be cut at the places between its items.
+pub trait Input: Items {
+    /// The size that is needed, where a list has fewer items than a count; none where it is unknown.
+    ghost lack: { ℕ → List Self.Item → Option ℕ };
+
+    /// The length: the sum of the items' lengths.
+    fn input_len(&self) -> usize
+        ensures { result ≡ input_len Self.seen self.now };
+
+    /// The first items, of length `index`.
+    fn take(&self, index: usize) -> Self
+        requires { IsPlace Self.seen self.now index }
+        ensures { IsFront Self.seen self.now index result };
+
+    /// The rest after the first items, of length `index`.
+    fn take_from(&self, index: usize) -> Self
+        requires { IsPlace Self.seen self.now index }
+        ensures { IsRest Self.seen self.now index result };
+
+    /// The length of the first `count` items, or what is needed where there are fewer.
+    fn slice_index(&self, count: usize) -> Result<usize, Needed>
+        ensures { MatchResult result
+            (λ n. IsCount Self.seen self.now count n)
+            (λ k. (length (Self.seen.elements self.now) < count) × (size_of k ≡ lack count (Self.seen.elements self.now))) };
+
+    /// Any items may follow.
+    ghost more: { (xs : List Self.Item) → Self.seen.IsMore xs };
+
+    /// The rest, and then the first items, of length `index`.
+    #[inline(always)]
+    final fn take_split(&self, index: usize) -> (Self, Self)
+        requires { IsPlace Self.seen self.now index }
+        ensures rest { IsRest Self.seen self.now index result.0 }
+        ensures front { IsFront Self.seen self.now index result.1 }
+    {
+        (self.take_from(index), self.take(index))
+    }
+}

@@ -1,0 +1,8 @@
+//! Inputs: values seen as lists of items, how they are cut, and how they are compared with tags.
+#![tactic(auto)]
+
+pub mod bytes;
+pub mod compare;
+pub mod input;
+pub mod offset;
+pub mod view;

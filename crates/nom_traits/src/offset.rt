@@ -1,0 +1,20 @@
+//! How far one input lies in another.
+ghost use Rattle.std.specs.Prelude.{ℕ};
+ghost use Rattle.nom_traits.specs.Input.{IsRest};
+
+use crate::input::Items;
+
+/// An input that tells where a rest of it begins.
+pub trait Offset: Items {
+    /// The length of the items before `second`, which is a rest of this input.
+    fn offset(&self, second: &Self) -> usize
+        requires { (n : ℕ) × IsRest Self.seen self.now n second.now }
+        ensures { IsRest Self.seen self.now result second.now };
+}
+
+impl Offset for &[u8] {
+    #[inline(always)]
+    fn offset(&self, second: &Self) -> usize {
+        self.len() - second.len()
+    }
+}
