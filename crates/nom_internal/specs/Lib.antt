@@ -1,3 +1,4 @@
+pub mod ByteCuts
 pub mod Growing
 pub mod Leaf
 pub mod Meaning

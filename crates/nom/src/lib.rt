@@ -1,0 +1,20 @@
+//! nom for Rattle: streaming and complete parser combinators, proved.
+//!
+//! The public names stand under the paths of nom 8.0.0.
+#![tactic(auto)]
+
+pub mod bytes;
+pub mod error;
+#[cfg(test)]
+mod tests;
+
+pub use nom_error::answer::{Err, IResult, Needed, OutOfMemory, PResult};
+pub use nom_error::finish::{Finish, FinishError};
+pub use nom_error::mode::{Check, Complete, Emit, IsStreaming, Mode, OutputM, OutputMode, Streaming};
+pub use nom_internal::growing::{Grown, parse_growing};
+pub use nom_internal::parser::{Parser, StreamParser};
+pub use nom_internal::sequence::And;
+pub use nom_traits::compare::{Compare, CompareResult};
+pub use nom_traits::input::{Input, Items, Value};
+pub use nom_traits::offset::Offset;
+pub use nom_traits::view::Viewed;

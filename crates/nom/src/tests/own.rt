@@ -1,0 +1,155 @@
+//! Parsers over an input type and an error type of a user's own.
+ghost use Rattle.std.specs.Prelude.{◌≡◌, ℕ, ◌-◌, List, length, Some, MatchResult};
+ghost use Rattle.nom_traits.specs.Compares.{ComparesBytes};
+ghost use Rattle.nom.specs.Held.{seen_held, held_view, held_lawful, held_comparing};
+
+use crate::bytes::{tag, take};
+use crate::error::{ErrorKind, ParseError};
+use crate::{Compare, CompareResult, Err, Input, Items, Needed, OutOfMemory, Parser, Viewed};
+
+/// The bytes of a packet.
+#[derive(Clone, Copy)]
+struct Packet<'a> {
+    bytes: &'a [u8],
+}
+
+impl Viewed for Packet<'_> {
+    ghost view = { held_view (λ p. p.bytes) };
+}
+
+impl Items for Packet<'_> {
+    type Item = u8;
+
+    ghost seen = { seen_held (λ p. p.bytes) };
+
+    fn known(self) {
+        self.bytes.known();
+    }
+
+    ghost lawful = { held_lawful (λ p. p.bytes) };
+
+    ghost values = { λ p h. h.0 };
+
+    ghost views = { λ x y h. h.elements_are };
+}
+
+impl Input for Packet<'_> {
+    ghost lack = { λ count xs. Some (count - length xs) };
+
+    fn input_len(&self) -> usize {
+        self.bytes.input_len()
+    }
+
+    fn take(&self, index: usize) -> Self {
+        Packet {
+            bytes: self.bytes.take(index),
+        }
+    }
+
+    fn take_from(&self, index: usize) -> Self {
+        Packet {
+            bytes: self.bytes.take_from(index),
+        }
+    }
+
+    fn slice_index(&self, count: usize) -> Result<usize, Needed> {
+        self.bytes.slice_index(count)
+    }
+
+    ghost more = { λ _. tt };
+}
+
+impl<'a, 'b> Compare<&'b [u8]> for Packet<'a> {
+    ghost Tag = { List ℕ };
+
+    ghost tag_seen = { λ t. t.now };
+
+    ghost tag_size = { length };
+
+    ghost compares = { ComparesBytes };
+
+    fn tag_len(tag: &'b [u8]) -> usize
+        ensures { result ≡ length tag.now }
+    {
+        tag.len()
+    }
+
+    fn compare(&self, tag: &'b [u8]) -> CompareResult {
+        self.bytes.compare(tag)
+    }
+
+    ghost comparing = { held_comparing (λ p. p.bytes) };
+}
+
+/// How many bytes were left at a refusal, and why.
+#[derive(Clone, Copy, PartialEq, Eq)]
+struct Refusal {
+    left: usize,
+    kind: ErrorKind,
+}
+
+impl ParseError<Packet<'_>> for Refusal {
+    ghost from_error_kind_gives = { λ i k e. e ≡ record { left = length i.bytes.now; kind = k } };
+
+    ghost append_gives = { λ _ _ other e. e ≡ other };
+
+    ghost from_char_gives = { λ _ _ _. Unit {0} };
+
+    ghost or_gives = { λ first _ e. e ≡ first };
+
+    ghost grows = { ⊥ };
+
+    fn from_error_kind(input: Packet<'_>, kind: ErrorKind) -> Result<Self, OutOfMemory> {
+        Ok(Refusal {
+            left: input.bytes.len(),
+            kind,
+        })
+    }
+
+    fn append(_input: Packet<'_>, _kind: ErrorKind, other: Self) -> Result<Self, OutOfMemory> {
+        Ok(other)
+    }
+
+    fn from_char(input: Packet<'_>, _wanted: char) -> Result<Self, OutOfMemory> {
+        Ok(Refusal {
+            left: input.bytes.len(),
+            kind: ErrorKind::Char,
+        })
+    }
+
+    fn or(self, _other: Self) -> Result<Self, OutOfMemory>
+        ensures { MatchResult result (λ e. e ≡ self) (λ _. ⊥) }
+    {
+        Ok(self)
+    }
+}
+
+#[test]
+fn a_record_of_packets(rt: HostRuntime) {
+    let tag_of = &b"ab"[..];
+    let mut record = tag::<_, Refusal>(tag_of).and(take::<Refusal>(4));
+    match record.parse(Packet { bytes: b"abcdefg" }) {
+        Ok((rest, (name, value))) => {
+            assert!(rt; rest.bytes == b"g".as_slice());
+            assert!(rt; name.bytes == b"ab".as_slice());
+            assert!(rt; value.bytes == b"cdef".as_slice());
+        }
+        _ => panic!(rt; "no record"),
+    }
+    match record.parse(Packet { bytes: b"abc" }) {
+        Err(Err::Incomplete(needed)) => assert!(rt; needed == Needed::new(3)),
+        _ => panic!(rt; "not incomplete"),
+    }
+    match record.parse_complete(Packet { bytes: b"abc" }) {
+        Err(Err::Error(error)) => {
+            assert!(rt; error == Refusal { left: 1, kind: ErrorKind::Eof });
+        }
+        _ => panic!(rt; "no refusal"),
+    }
+    match record.parse(Packet { bytes: b"axcd" }) {
+        Err(Err::Error(error)) => {
+            assert!(rt; error == Refusal { left: 4, kind: ErrorKind::Tag });
+        }
+        _ => panic!(rt; "no refusal"),
+    }
+}
