@@ -1,7 +1,7 @@
 -- What parsers answer beside an acceptance.
 use Rattle.std.specs.Prelude.{◌≡◌, ℕ, Bool, true, ◌⊎◌, List, ◌++◌, Result, Ok, Option, Some, None, codes}
 use Rattle.std.specs.Prelude as Std
-use Rattle.std.specs.Fmt.{decimal}
+use Rattle.std.specs.Fmt.{decimal, ◌++?◌}
 use Rattle.std.specs.Int.NonZero.{non_zero_usize_get}
 use Rattle.std.specs.declared.num.NonZeroUsize.{NonZeroUsize}
 use Rattle.nom_error.specs.declared.answer.Needed.{Needed}
@@ -35,13 +35,13 @@ IsMapped {D} {E} Gives (Error d) r = (e : E) × Gives d e × (r ≡ Error e)
 IsMapped {D} {E} Gives (Failure d) r = (e : E) × Gives d e × (r ≡ Failure e)
 IsMapped Gives OutOfMemory r = r ≡ OutOfMemory
 
--- the text that is displayed, where it is promised
-abbrev pub text_of : {E : Type 0} → Answer.Err E E → Option (List ℕ)
-text_of (Incomplete Unknown) = Some (codes "Parsing requires more data")
-text_of (Incomplete (Size n)) = Some (codes "Parsing requires " ++ decimal (non_zero_usize_get n) ++ codes " bytes/chars")
-text_of (Error e) = None
-text_of (Failure e) = None
-text_of OutOfMemory = Some (codes "Parsing ran out of memory")
+-- the text that is displayed: that of a refusal or a failure ends in its error, as `{:?}` writes it, where that is promised
+abbrev pub text_of : {E : Type 0} → (E → Option (List ℕ)) → Answer.Err E E → Option (List ℕ)
+text_of shown (Incomplete Unknown) = Some (codes "Parsing requires more data")
+text_of shown (Incomplete (Size n)) = Some (codes "Parsing requires " ++ decimal (non_zero_usize_get n) ++ codes " bytes/chars")
+text_of shown (Error e) = Some (codes "Parsing Error: ") ++? shown e
+text_of shown (Failure e) = Some (codes "Parsing Failure: ") ++? shown e
+text_of shown OutOfMemory = Some (codes "Parsing ran out of memory")
 
 -- an answer that asks for more input
 abbrev pub WantsMore : {T E : Type 0} → Result T (Answer.Err E E) → Type 0

@@ -94,9 +94,9 @@ impl<E> Err<E> {
     }
 }
 
-/// The texts for `Incomplete` and `OutOfMemory` are promised, the others are not.
+/// The text of a refusal or a failure ends in its error as `{:?}` writes it.
 impl<E: fmt::Debug> fmt::Display for Err<E> {
-    ghost output = { text_of };
+    ghost output = { text_of E.debug_output };
 
     fn fmt<W: fmt::Write>(&self, f: &mut fmt::Formatter<W>) -> fmt::Result {
         match self {
