@@ -9,7 +9,7 @@ use std::test::Fail;
 
 #[test]
 fn texts_of_answers(rt: HostRuntime) -> Result<(), Fail> {
-    let error = Error::new(7u64, ErrorKind::Tag);
+    let error = Error::new("rest", ErrorKind::Tag);
     let answers = [
         (
             Err::Incomplete(Needed::new(3)),
@@ -21,11 +21,11 @@ fn texts_of_answers(rt: HostRuntime) -> Result<(), Fail> {
         ),
         (
             Err::Error(error),
-            "Parsing Error: Error { input: 7, code: Tag }",
+            "Parsing Error: Error { input: \"rest\", code: Tag }",
         ),
         (
             Err::Failure(error),
-            "Parsing Failure: Error { input: 7, code: Tag }",
+            "Parsing Failure: Error { input: \"rest\", code: Tag }",
         ),
         (Err::OutOfMemory, "Parsing ran out of memory"),
     ];
@@ -46,7 +46,7 @@ fn text_of_an_error(rt: HostRuntime) -> Result<(), Fail> {
 
 #[test]
 fn texts_for_debugging(rt: HostRuntime) -> Result<(), Fail> {
-    let answer: Err<Error<u64>> = Err::Incomplete(Needed::new(2));
+    let answer: Err<Error<&str>> = Err::Incomplete(Needed::new(2));
     let shown = format!(in rt.alloc(); "{answer:?}")?;
     assert!(rt; !shown.is_empty());
     let fault: FinishError<ErrorKind> = FinishError::Parse(ErrorKind::Alt);
@@ -57,9 +57,9 @@ fn texts_for_debugging(rt: HostRuntime) -> Result<(), Fail> {
 
 #[test]
 fn equal_answers(rt: HostRuntime) -> Result<(), Fail> {
-    let error = Error::new(7, ErrorKind::Tag);
-    let refused: Err<Error<u64>> = Err::Error(error);
-    let failed: Err<Error<u64>> = Err::Failure(error);
+    let error = Error::new("rest", ErrorKind::Tag);
+    let refused: Err<Error<&str>> = Err::Error(error);
+    let failed: Err<Error<&str>> = Err::Failure(error);
     assert!(rt; refused.clone()? == refused);
     assert!(rt; refused != failed);
     assert!(rt; Needed::new(1) != Needed::new(2));
@@ -123,14 +123,14 @@ fn mapped_answers(rt: HostRuntime) {
 
 #[test]
 fn finished_answers(rt: HostRuntime) {
-    let error = Error::new(7, ErrorKind::Tag);
-    let accepted: IResult<u64, char> = Ok((7, 'a'));
-    assert_eq!(rt; accepted.finish(), Ok((7, 'a')));
-    let refused: IResult<u64, char> = Err(Err::Error(error));
+    let error = Error::new("rest", ErrorKind::Tag);
+    let accepted: IResult<&str, u8> = Ok(("rest", 7));
+    assert_eq!(rt; accepted.finish(), Ok(("rest", 7)));
+    let refused: IResult<&str, u8> = Err(Err::Error(error));
     assert_eq!(rt; refused.finish(), Err(FinishError::Parse(error)));
-    let failed: IResult<u64, char> = Err(Err::Failure(error));
+    let failed: IResult<&str, u8> = Err(Err::Failure(error));
     assert_eq!(rt; failed.finish(), Err(FinishError::Parse(error)));
-    let starved: IResult<u64, char> = Err(Err::OutOfMemory);
+    let starved: IResult<&str, u8> = Err(Err::OutOfMemory);
     assert_eq!(rt; starved.finish(), Err(FinishError::OutOfMemory));
 }
 
@@ -150,9 +150,12 @@ fn errors_through_a_bound(rt: HostRuntime) -> Result<(), Fail> {
 
 #[test]
 fn refusals(rt: HostRuntime) {
-    let built: PResult<u64, char, Error<u64>> = Err(refusal::<Emit, _, _>(7, ErrorKind::Eof));
-    assert!(rt; built == Err(Err::Error(Some(Error::new(7, ErrorKind::Eof)))));
-    let checked: PResult<u64, char, Error<u64>> = Err(refusal::<Check, _, _>(7, ErrorKind::Eof));
+    let built: PResult<&str, u8, Error<&str>> = Err(refusal::<Emit, _, _>("rest", ErrorKind::Eof));
+    assert!(rt; built == Err(Err::Error(Some(Error::new("rest", ErrorKind::Eof)))));
+    let checked: PResult<&str, u8, Error<&str>> = Err(refusal::<Check, _, _>(
+        "rest",
+        ErrorKind::Eof,
+    ));
     assert!(rt; checked == Err(Err::Error(None)));
 }
 
