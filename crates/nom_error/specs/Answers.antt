@@ -1,7 +1,7 @@
 -- What parsers answer beside an acceptance.
 use Rattle.std.specs.Prelude.{◌≡◌, ℕ, Bool, true, ◌⊎◌, List, ◌++◌, Result, Ok, Option, Some, None, codes}
 use Rattle.std.specs.Prelude as Std
-use Rattle.std.specs.Fmt.{decimal}
+use Rattle.std.specs.Fmt.{decimal, ◌++?◌}
 use Rattle.std.specs.Int.NonZero.{non_zero_usize_get}
 use Rattle.std.specs.declared.num.NonZeroUsize.{NonZeroUsize}
 use Rattle.nom_error.specs.declared.answer.Needed.{Needed}
@@ -22,34 +22,34 @@ abbrev pub IsNeededBy : (NonZeroUsize → ℕ → Type 0) → Needed → Needed 
 IsNeededBy Gives Unknown r = r ≡ Unknown
 IsNeededBy Gives (Size n) r = (m : ℕ) × Gives n m × (((m ≡ 0) × (r ≡ Unknown)) ⊎ (size_of r ≡ Some m))
 
-abbrev pub IsIncomplete : {F E : Type 0} → Answer.Err F E → Type 0
+abbrev pub IsIncomplete : {F E : Type 0} → Answer.Err F E Needed → Type 0
 IsIncomplete (Incomplete k) = Unit {0}
 IsIncomplete (Error e) = ⊥
 IsIncomplete (Failure e) = ⊥
 IsIncomplete OutOfMemory = ⊥
 
 -- the error that a refusal or a failure holds is mapped, and all else stays
-abbrev pub IsMapped : {D E : Type 0} → (D → E → Type 0) → Answer.Err D D → Answer.Err E E → Type 0
+abbrev pub IsMapped : {D E : Type 0} → (D → E → Type 0) → Answer.Err D D Needed → Answer.Err E E Needed → Type 0
 IsMapped Gives (Incomplete k) r = r ≡ Incomplete k
 IsMapped {D} {E} Gives (Error d) r = (e : E) × Gives d e × (r ≡ Error e)
 IsMapped {D} {E} Gives (Failure d) r = (e : E) × Gives d e × (r ≡ Failure e)
 IsMapped Gives OutOfMemory r = r ≡ OutOfMemory
 
--- the text that is displayed, where it is promised
-abbrev pub text_of : {E : Type 0} → Answer.Err E E → Option (List ℕ)
-text_of (Incomplete Unknown) = Some (codes "Parsing requires more data")
-text_of (Incomplete (Size n)) = Some (codes "Parsing requires " ++ decimal (non_zero_usize_get n) ++ codes " bytes/chars")
-text_of (Error e) = None
-text_of (Failure e) = None
-text_of OutOfMemory = Some (codes "Parsing ran out of memory")
+-- the text that is displayed: that of a refusal or a failure ends in its error, as `{:?}` writes it, where that is promised
+abbrev pub text_of : {E : Type 0} → (E → Option (List ℕ)) → Answer.Err E E Needed → Option (List ℕ)
+text_of shown (Incomplete Unknown) = Some (codes "Parsing requires more data")
+text_of shown (Incomplete (Size n)) = Some (codes "Parsing requires " ++ decimal (non_zero_usize_get n) ++ codes " bytes/chars")
+text_of shown (Error e) = Some (codes "Parsing Error: ") ++? shown e
+text_of shown (Failure e) = Some (codes "Parsing Failure: ") ++? shown e
+text_of shown OutOfMemory = Some (codes "Parsing ran out of memory")
 
 -- an answer that asks for more input
-abbrev pub WantsMore : {T E : Type 0} → Result T (Answer.Err E E) → Type 0
+abbrev pub WantsMore : {T E : Type 0} → Result T (Answer.Err E E Needed) → Type 0
 WantsMore (Ok v) = ⊥
 WantsMore (Std.Err e) = IsIncomplete e
 
 -- a finished answer: an acceptance as it is, and else the error that a refusal or a failure holds, or want of memory
-abbrev pub IsFinished : {T E : Type 0} → Result T (Answer.Err E E) → Result T (FinishError E) → Type 0
+abbrev pub IsFinished : {T E : Type 0} → Result T (Answer.Err E E Needed) → Result T (FinishError E) → Type 0
 IsFinished (Ok v) r = r ≡ Ok v
 IsFinished (Std.Err (Incomplete k)) r = ⊥
 IsFinished (Std.Err (Error e)) r = r ≡ Std.Err (Finish.Parse e)
@@ -57,5 +57,5 @@ IsFinished (Std.Err (Failure e)) r = r ≡ Std.Err (Finish.Parse e)
 IsFinished (Std.Err OutOfMemory) r = r ≡ Std.Err Finish.OutOfMemory
 
 -- what is answered for a refusal: its error, where errors are built, or that memory ran out
-abbrev pub Refuses : {E : Type 0} → (E → Type 0) → Type 0 → Bool → Answer.Err E (Option E) → Type 0
+abbrev pub Refuses : {E : Type 0} → (E → Type 0) → Type 0 → Bool → Answer.Err E (Option E) Needed → Type 0
 Refuses {E} Gives Grows errors r = ((r ≡ OutOfMemory) × (errors ≡ true) × Grows) ⊎ ((b : Option E) × Built errors Gives b × (r ≡ Error b))

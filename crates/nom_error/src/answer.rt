@@ -54,11 +54,13 @@ impl Needed {
     }
 }
 
-/// What a parser answers in place of an acceptance. A refusal holds an `E`, a failure an `F`.
+/// What a parser answers in place of an acceptance. A refusal holds an `E`, a failure an `F`. What is
+/// needed is a type argument, always `Needed`, since the check covers an enum that holds both references
+/// and a `NonZeroUsize` only so.
 #[derive(Clone, Debug, Drop, PartialEq, Eq)]
-pub enum Err<F, E = F> {
+pub enum Err<F, E = F, N = Needed> {
     /// More input is needed to decide.
-    Incomplete(Needed),
+    Incomplete(N),
     /// The parser refuses, and another may be tried.
     Error(E),
     /// The parser refuses, and no other is to be tried.
@@ -94,9 +96,9 @@ impl<E> Err<E> {
     }
 }
 
-/// The texts for `Incomplete` and `OutOfMemory` are promised, the others are not.
+/// The text of a refusal or a failure ends in its error as `{:?}` writes it.
 impl<E: fmt::Debug> fmt::Display for Err<E> {
-    ghost output = { text_of };
+    ghost output = { text_of E.debug_output };
 
     fn fmt<W: fmt::Write>(&self, f: &mut fmt::Formatter<W>) -> fmt::Result {
         match self {

@@ -1,10 +1,11 @@
 //! Why a parser refuses.
-ghost use Rattle.std.specs.Prelude.{◌≡◌};
-ghost use Rattle.nom_error.specs.Kinds.{description_of, number_of};
+ghost use Rattle.std.specs.Prelude.{◌≡◌, Some};
+ghost use Rattle.nom_error.specs.Kinds.{description_of, name_of, number_of};
 
-/// Why a parser refuses: the kind of an error. The names, numbers and descriptions are nom's;
-/// `Precedence` (79) is this crate's own.
-#[derive(Clone, Copy, Debug, PartialEq, Eq, Hash)]
+use std::fmt;
+
+/// Why a parser refuses: the kind of an error. The names, numbers and descriptions are nom's.
+#[derive(Clone, Copy, PartialEq, Eq, Hash)]
 pub enum ErrorKind {
     Tag,
     MapRes,
@@ -129,6 +130,74 @@ impl ErrorKind {
             ErrorKind::Fold => "Fold",
             ErrorKind::Precedence => "Precedence",
         }
+    }
+}
+
+/// The name of the kind. It is written out, since a derived one promises no text.
+impl fmt::Debug for ErrorKind {
+    ghost debug_output = { λ kind. Some (name_of kind) };
+
+    fn fmt<W: fmt::Write>(&self, f: &mut fmt::Formatter<W>) -> fmt::Result {
+        let name = match self {
+            ErrorKind::Tag => "Tag",
+            ErrorKind::MapRes => "MapRes",
+            ErrorKind::MapOpt => "MapOpt",
+            ErrorKind::Alt => "Alt",
+            ErrorKind::IsNot => "IsNot",
+            ErrorKind::IsA => "IsA",
+            ErrorKind::SeparatedList => "SeparatedList",
+            ErrorKind::SeparatedNonEmptyList => "SeparatedNonEmptyList",
+            ErrorKind::Many0 => "Many0",
+            ErrorKind::Many1 => "Many1",
+            ErrorKind::ManyTill => "ManyTill",
+            ErrorKind::Count => "Count",
+            ErrorKind::TakeUntil => "TakeUntil",
+            ErrorKind::LengthValue => "LengthValue",
+            ErrorKind::TagClosure => "TagClosure",
+            ErrorKind::Alpha => "Alpha",
+            ErrorKind::Digit => "Digit",
+            ErrorKind::HexDigit => "HexDigit",
+            ErrorKind::OctDigit => "OctDigit",
+            ErrorKind::BinDigit => "BinDigit",
+            ErrorKind::AlphaNumeric => "AlphaNumeric",
+            ErrorKind::Space => "Space",
+            ErrorKind::MultiSpace => "MultiSpace",
+            ErrorKind::LengthValueFn => "LengthValueFn",
+            ErrorKind::Eof => "Eof",
+            ErrorKind::Switch => "Switch",
+            ErrorKind::TagBits => "TagBits",
+            ErrorKind::OneOf => "OneOf",
+            ErrorKind::NoneOf => "NoneOf",
+            ErrorKind::Char => "Char",
+            ErrorKind::CrLf => "CrLf",
+            ErrorKind::RegexpMatch => "RegexpMatch",
+            ErrorKind::RegexpMatches => "RegexpMatches",
+            ErrorKind::RegexpFind => "RegexpFind",
+            ErrorKind::RegexpCapture => "RegexpCapture",
+            ErrorKind::RegexpCaptures => "RegexpCaptures",
+            ErrorKind::TakeWhile1 => "TakeWhile1",
+            ErrorKind::Complete => "Complete",
+            ErrorKind::Fix => "Fix",
+            ErrorKind::Escaped => "Escaped",
+            ErrorKind::EscapedTransform => "EscapedTransform",
+            ErrorKind::NonEmpty => "NonEmpty",
+            ErrorKind::ManyMN => "ManyMN",
+            ErrorKind::Not => "Not",
+            ErrorKind::Permutation => "Permutation",
+            ErrorKind::Verify => "Verify",
+            ErrorKind::TakeTill1 => "TakeTill1",
+            ErrorKind::TakeWhileMN => "TakeWhileMN",
+            ErrorKind::TooLarge => "TooLarge",
+            ErrorKind::Many0Count => "Many0Count",
+            ErrorKind::Many1Count => "Many1Count",
+            ErrorKind::Float => "Float",
+            ErrorKind::Satisfy => "Satisfy",
+            ErrorKind::Fail => "Fail",
+            ErrorKind::Many => "Many",
+            ErrorKind::Fold => "Fold",
+            ErrorKind::Precedence => "Precedence",
+        };
+        f.write_str(name)
     }
 }
 

@@ -6,4 +6,6 @@ pub mod answer;
 pub mod finish;
 pub mod kind;
 pub mod mode;
+#[cfg(test)]
+mod tests;
 pub mod value;

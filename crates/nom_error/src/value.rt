@@ -1,8 +1,10 @@
 //! Error values.
-ghost use Rattle.std.specs.Prelude.{◌≡◌, ℕ, MatchResult};
+ghost use Rattle.std.specs.Prelude.{◌≡◌, ℕ, ◌++◌, MatchResult, Some, codes};
+ghost use Rattle.std.specs.Fmt.{◌++?◌};
 ghost use Rattle.nom_error.specs.declared.kind.ErrorKind.{ErrorKind};
 ghost use Rattle.nom_error.specs.declared.kind.ErrorKind.TheVariants.{Char};
 ghost use Rattle.nom_error.specs.Answers.{Refuses};
+ghost use Rattle.nom_error.specs.Kinds.{name_of};
 
 use crate::answer::{Err, OutOfMemory};
 use crate::kind::ErrorKind;
@@ -94,6 +96,8 @@ impl<I: Drop> ParseError<I> for Error<I> {
 }
 
 impl<I: fmt::Display> fmt::Display for Error<I> {
+    ghost output = { λ e. Some (codes "error " ++ name_of e.code ++ codes " at: ") ++? I.output e.input };
+
     fn fmt<W: fmt::Write>(&self, f: &mut fmt::Formatter<W>) -> fmt::Result {
         write!(f, "error {:?} at: {}", self.code, self.input)
     }
