@@ -35,7 +35,7 @@ module _ {I A : Type 0} (w : Seen I A) (x j : I) (n a b : ℕ) (p : IsRest w x n
   }
 
 -- the acceptance on a beginning, with the rest of the whole at its place
-pub accepts_in_whole : {I A O E : Type 0} (w : Seen I A) (x whole rest k : I) (output : O) (a b : ℕ) (r : Result (I × O) (Answer.Err E E)) → r ≡ Ok (rest, output) → a ≡ input_len w x → b ≡ input_len w rest → IsRest w whole (a - b) k → WithRest (IsRest w x) (IsRest w whole) r (Ok (k, output))
+pub accepts_in_whole : {I A O E : Type 0} (w : Seen I A) (x whole rest k : I) (output : O) (a b : ℕ) (r : Result (I × O) (Answer.Err E E Needed)) → r ≡ Ok (rest, output) → a ≡ input_len w x → b ≡ input_len w rest → IsRest w whole (a - b) k → WithRest (IsRest w x) (IsRest w whole) r (Ok (k, output))
 accepts_in_whole {I} {A} {O} {E} w x whole rest k output a b r was e f q = record {
   accepts = λ j v n h p.
       let same : ◌≡◌ {A = I × O} (rest, output) (j, v) = cc (was, h) in
@@ -62,7 +62,7 @@ module _ {I A V O E : Type 0} (w : Seen I A) (IsOutput : V → O → Type 0) (Is
       ap Undecided (sym s.1 ∙ ap size_of (sym same))
 
   -- what is shown on a beginning is shown on the whole, with the rest there
-  shown_in_whole : (whole : I) (o : Outcome V) (r r' : Result (I × O) (Answer.Err E E)) → WithRest (IsRest w x) (IsRest w whole) r r' → Parses w IsOutput x IsError o r → Parses w IsOutput whole IsError o r'
+  shown_in_whole : (whole : I) (o : Outcome V) (r r' : Result (I × O) (Answer.Err E E Needed)) → WithRest (IsRest w x) (IsRest w whole) r r' → Parses w IsOutput x IsError o r → Parses w IsOutput whole IsError o r'
   shown_in_whole whole (Accept n v) r r' t s = let k = t.accepts s.0 s.1 n s.4 s.2 in (k.0, s.1, k.1, s.3, k.2)
   shown_in_whole whole Refuse r r' t s = (s.0, s.1, t.else_same _ s.2)
   shown_in_whole whole Fail r r' t s = (s.0, s.1, t.else_same _ s.2)
@@ -82,11 +82,11 @@ module _ {I A V O E : Type 0} (w : Seen I A) (IsOutput : V → O → Type 0) (Is
   rest_answered Answers RunsOut j v (ParseRanOut e h) = cc
   rest_answered Answers RunsOut j v (Parsed o a s) = rest_of o j v s
 
-  pub rest_shown : (Answers : Outcome V → Type 0) (RunsOut : Type 0) (r : Result (I × O) (Answer.Err E E)) → ParsesAnswer w IsOutput x Answers IsError RunsOut r → HasRests (λ j. (n : ℕ) × IsRest w x n j) r
+  pub rest_shown : (Answers : Outcome V → Type 0) (RunsOut : Type 0) (r : Result (I × O) (Answer.Err E E Needed)) → ParsesAnswer w IsOutput x Answers IsError RunsOut r → HasRests (λ j. (n : ℕ) × IsRest w x n j) r
   rest_shown Answers RunsOut r s j v e = rest_answered Answers RunsOut j v (subst (λ t. ParsesAnswer w IsOutput x Answers IsError RunsOut t) e s)
 
 -- what is shown at one state is shown at an equal one
-pub shown_along : {I A V O E State : Type 0} (w : Seen I A) (IsOutput : State → V → O → Type 0) (meaning : State → Meaning I V E) (x : I) (r : Result (I × O) (Answer.Err E E)) (s t : State) → s ≡ t → ParsesMeaning w (IsOutput s) (meaning s) true x r → ParsesMeaning w (IsOutput t) (meaning t) true x r
+pub shown_along : {I A V O E State : Type 0} (w : Seen I A) (IsOutput : State → V → O → Type 0) (meaning : State → Meaning I V E) (x : I) (r : Result (I × O) (Answer.Err E E Needed)) (s t : State) → s ≡ t → ParsesMeaning w (IsOutput s) (meaning s) true x r → ParsesMeaning w (IsOutput t) (meaning t) true x r
 shown_along w IsOutput meaning x r s t e h = subst (λ u. ParsesMeaning w (IsOutput u) (meaning u) true x r) e h
 
 module _ {I A V O E : Type 0} (w : Seen I A) (l : InputLaws w) (IsOutput : V → O → Type 0) (m : Meaning I V E) (laws : IsLawful w m) (sound : m.IsSound) (whole : I) where
@@ -102,11 +102,11 @@ module _ {I A V O E : Type 0} (w : Seen I A) (l : InputLaws w) (IsOutput : V →
         only = λ y z q c. laws.one_outcome true sound x y (Undecided (size_of k)) z p.known q.known (same_front w l whole cut x y p q) b tt c;
       }
 
-  pub waits : (cut : ℕ) (x : I) (r : Result (I × O) (Answer.Err E E)) → IsFront w whole cut x → AsksForMore r → ParsesMeaning w IsOutput m true x r → Waits w m whole cut
+  pub waits : (cut : ℕ) (x : I) (r : Result (I × O) (Answer.Err E E Needed)) → IsFront w whole cut x → AsksForMore r → ParsesMeaning w IsOutput m true x r → Waits w m whole cut
   waits cut x r p e s = waits_shown cut x e.0 p (subst (λ t. ParsesMeaning w IsOutput m true x t) e.1 s)
 
 module _ {I A V O E : Type 0} (w : Seen I A) (IsOutput : V → O → Type 0) (m : Meaning I V E) (laws : IsLawful w m) (sound : m.IsSound) (whole : I) (known : w.IsKnown whole) (cuts : List ℕ) (index : ℕ) (before : (k : ℕ) → k < index → Waits w m whole (slice_index cuts k)) where
-  module _ (more : (xs : List A) → w.IsMore xs) (steady : IsSteady w m) (inside : index < length cuts) (x : I) (p : IsFront w whole (slice_index cuts index) x) (r r' : Result (I × O) (Answer.Err E E)) (decided : AsksForMore r → ⊥) (rest : WithRest (IsRest w x) (IsRest w whole) r r') where
+  module _ (more : (xs : List A) → w.IsMore xs) (steady : IsSteady w m) (inside : index < length cuts) (x : I) (p : IsFront w whole (slice_index cuts index) x) (r r' : Result (I × O) (Answer.Err E E Needed)) (decided : AsksForMore r → ⊥) (rest : WithRest (IsRest w x) (IsRest w whole) r r') where
     asks : (k : Option ℕ) → Parses w IsOutput x (m.blames true x) (Undecided k) r → AsksForMore r
     asks k s = (s.0, s.2)
 
@@ -132,7 +132,7 @@ module _ {I A V O E : Type 0} (w : Seen I A) (IsOutput : V → O → Type 0) (m 
       answer = answer_at s;
     }
 
-  module _ (r : Result (I × O) (Answer.Err E E)) (at_end : index ≡ length cuts) where
+  module _ (r : Result (I × O) (Answer.Err E E Needed)) (at_end : index ≡ length cuts) where
     answer_whole : ParsesMeaning w IsOutput m true whole r → AnswersOn w IsOutput m whole cuts index whole r
     answer_whole (ParseRanOut e h) = RanOutOn e h
     answer_whole (Parsed o a s) = ShownOn (record {

@@ -58,7 +58,7 @@ module _ {I A V O E : Type 0} (w : Seen I A) (IsOutput : V → O → Type 0) (bu
   accepts RunsOut j x (Shown o a s) = some_accepts j x o a s
 
 module _ {I A V O P E : Type 0} (w : Seen I A) (IsOutput : V → O → Type 0) (IsResult : V → P → Type 0) (built outputs errors : Bool) (i : I) (Answers : Outcome V → Type 0) (IsError : E → Type 0) (RunsOut : Type 0) where
-  err_shown : (e : Answer.Err E (Option E)) (o : Outcome V) → Shows w IsOutput built errors i IsError o (Err e) → Shows w IsResult outputs errors i IsError o (Err e)
+  err_shown : (e : Answer.Err E (Option E) Needed) (o : Outcome V) → Shows w IsOutput built errors i IsError o (Err e) → Shows w IsResult outputs errors i IsError o (Err e)
   err_shown e (Accept n v) s = cc (s.4)
   err_shown e Refuse s = (s.0, s.1, cc (s.2))
   err_shown e Fail s = (s.0, s.1, cc (s.2))
@@ -66,7 +66,7 @@ module _ {I A V O P E : Type 0} (w : Seen I A) (IsOutput : V → O → Type 0) (
   err_shown e (Undecided k) s = (s.0, s.1, cc (s.2))
 
   -- no acceptance: whatever an acceptance would have built
-  pub output_err : (e : Answer.Err E (Option E)) (r : Result (I × Option P) (Answer.Err E (Option E))) → ShowsAnswer w IsOutput built errors i Answers IsError RunsOut (Err e) → r ≡ Err e → ShowsAnswer w IsResult outputs errors i Answers IsError RunsOut r
+  pub output_err : (e : Answer.Err E (Option E) Needed) (r : Result (I × Option P) (Answer.Err E (Option E) Needed)) → ShowsAnswer w IsOutput built errors i Answers IsError RunsOut (Err e) → r ≡ Err e → ShowsAnswer w IsResult outputs errors i Answers IsError RunsOut r
   output_err e r (RanOut f h) q = RanOut (cc) h
   output_err e r (Shown o a s) q = Shown o a (subst (λ x. Shows w IsResult outputs errors i IsError o x) (sym q) (err_shown e o s))
 
@@ -77,13 +77,13 @@ module _ {I A V O P E : Type 0} (w : Seen I A) (IsOutput : V → O → Type 0) (
       Shown (Accept a.length a.tree) a.answered (j, y, a.rest_is, k a.tree a.built_is, refl)
 
 module _ {I A P Q T X Y E : Type 0} (w : Seen I A) (l : InputLaws w) (tree : P → Q → T) (First : I → Outcome P → Type 0) (FirstBlames : I → E → Type 0) (FirstRunsOut : I → Type 0) (Next : P → I → Outcome Q → Type 0) (NextBlames : P → I → E → Type 0) (NextRunsOut : P → I → Type 0) (IsFirst : P → X → Type 0) (IsResult : T → Y → Type 0) (built outputs errors : Bool) (i : I) where
-  abbrev pub ShowsThen : Result (I × Option Y) (Answer.Err E (Option E)) → Type 0
+  abbrev pub ShowsThen : Result (I × Option Y) (Answer.Err E (Option E) Needed) → Type 0
   ShowsThen r = ShowsAnswer w IsResult outputs errors i (Then w tree First Next i) (ThenBlames w First FirstBlames Next NextBlames i) (ThenRunsOut w First FirstRunsOut NextRunsOut i) r
 
   first_fact : (o : Outcome P) → First i o → IsFault o → (e : E) → FirstBlames i e → ThenBlames w First FirstBlames Next NextBlames i e
   first_fact o a f e h = BlamesFirst (record { outcome = o; answered = a; kind_is = f; fact = h })
 
-  first_err : (e : Answer.Err E (Option E)) (o : Outcome P) → First i o → Shows w IsFirst built errors i (FirstBlames i) o (Err e) → ShowsThen (Err e)
+  first_err : (e : Answer.Err E (Option E) Needed) (o : Outcome P) → First i o → Shows w IsFirst built errors i (FirstBlames i) o (Err e) → ShowsThen (Err e)
   first_err e (Accept n v) a s = cc (s.4)
   first_err e Refuse a s = Shown Refuse (record { first = Refuse; answered = a; goes_on = refl }) (s.0, built_error errors _ _ s.0 (first_fact Refuse a tt) s.1, cc (s.2))
   first_err e Fail a s = Shown Fail (record { first = Fail; answered = a; goes_on = refl }) (s.0, first_fact Fail a tt s.0 s.1, cc (s.2))
@@ -91,7 +91,7 @@ module _ {I A P Q T X Y E : Type 0} (w : Seen I A) (l : InputLaws w) (tree : P �
   first_err e (Undecided k) a s = Shown (Undecided k) (record { first = Undecided k; answered = a; goes_on = refl }) (s.0, s.1, cc (s.2))
 
   -- a first part that does not accept
-  pub then_err : (e : Answer.Err E (Option E)) (r : Result (I × Option Y) (Answer.Err E (Option E))) → ShowsAnswer w IsFirst built errors i (First i) (FirstBlames i) (FirstRunsOut i) (Err e) → r ≡ Err e → ShowsThen r
+  pub then_err : (e : Answer.Err E (Option E) Needed) (r : Result (I × Option Y) (Answer.Err E (Option E) Needed)) → ShowsAnswer w IsFirst built errors i (First i) (FirstBlames i) (FirstRunsOut i) (Err e) → r ≡ Err e → ShowsThen r
   then_err e r (RanOut f h) q = RanOut (cc) (RunsOutFirst h)
   then_err e r (Shown o a s) q = subst (λ x. ShowsThen x) (sym q) (first_err e o a s)
 
@@ -99,19 +99,19 @@ module _ {I A P Q T X Y E : Type 0} (w : Seen I A) (l : InputLaws w) (tree : P �
     next_fact : (o : Outcome Q) → Next u j o → IsFault o → (e : E) → NextBlames u j e → ThenBlames w First FirstBlames Next NextBlames i e
     next_fact o b f e h = BlamesNext (record { length = n; tree = u; rest = j; accepted = a; rest_is = p; fact = record { outcome = o; answered = b; kind_is = f; fact = h } })
 
-    shows_after : (o : Outcome Q) (r : Result (I × Option Y) (Answer.Err E (Option E))) → Next u j o → Shows w (λ v. IsResult (tree u v)) outputs errors j (NextBlames u j) o r → Shows w IsResult outputs errors i (ThenBlames w First FirstBlames Next NextBlames i) (after n (tree u) o) r
+    shows_after : (o : Outcome Q) (r : Result (I × Option Y) (Answer.Err E (Option E) Needed)) → Next u j o → Shows w (λ v. IsResult (tree u v)) outputs errors j (NextBlames u j) o r → Shows w IsResult outputs errors i (ThenBlames w First FirstBlames Next NextBlames i) (after n (tree u) o) r
     shows_after (Accept m v) r b s = (s.0, s.1, rest_rest w l i n j m s.0 p s.2, s.3, s.4)
     shows_after Refuse r b s = (s.0, built_error errors _ _ s.0 (next_fact Refuse b tt) s.1, s.2)
     shows_after Fail r b s = (s.0, next_fact Fail b tt s.0 s.1, s.2)
     shows_after TooLarge r b s = (s.0, next_fact TooLarge b tt s.0 s.1, s.2)
     shows_after (Undecided k) r b s = s
 
-    next_shown : (r : Result (I × Option Y) (Answer.Err E (Option E))) → ShowsAnswer w (λ v. IsResult (tree u v)) outputs errors j (Next u j) (NextBlames u j) (NextRunsOut u j) r → ShowsThen r
+    next_shown : (r : Result (I × Option Y) (Answer.Err E (Option E) Needed)) → ShowsAnswer w (λ v. IsResult (tree u v)) outputs errors j (Next u j) (NextBlames u j) (NextRunsOut u j) r → ShowsThen r
     next_shown r (RanOut f h) = RanOut f (RunsOutNext (record { length = n; tree = u; rest = j; accepted = a; rest_is = p; fact = h }))
     next_shown r (Shown o b s) = Shown (after n (tree u) o) (record { first = Accept n u; answered = a; goes_on = (j, o, p, b, refl) }) (shows_after o r b s)
 
   -- a first part accepts, and what follows answers for both
-  pub then_ok : (j : I) (x : Option X) (r : Result (I × Option Y) (Answer.Err E (Option E))) → ShowsAnswer w IsFirst built errors i (First i) (FirstBlames i) (FirstRunsOut i) (Ok (j, x)) → ((u : P) → Built built (IsFirst u) x → ShowsAnswer w (λ v. IsResult (tree u v)) outputs errors j (Next u j) (NextBlames u j) (NextRunsOut u j) r) → ShowsThen r
+  pub then_ok : (j : I) (x : Option X) (r : Result (I × Option Y) (Answer.Err E (Option E) Needed)) → ShowsAnswer w IsFirst built errors i (First i) (FirstBlames i) (FirstRunsOut i) (Ok (j, x)) → ((u : P) → Built built (IsFirst u) x → ShowsAnswer w (λ v. IsResult (tree u v)) outputs errors j (Next u j) (NextBlames u j) (NextRunsOut u j) r) → ShowsThen r
   then_ok j x r h k =
       let a = accepts w IsFirst built errors i (First i) (FirstBlames i) (FirstRunsOut i) j x h in
       next_shown j a.length a.tree a.answered a.rest_is r (k a.tree a.built_is)
@@ -123,30 +123,30 @@ both_built IsFirst IsSecond false x y z p q both none = none p
 
 -- what `process` shows is shown by a result without its options
 module _ {I A V O E : Type 0} (w : Seen I A) (IsOutput : V → O → Type 0) (i : I) (Answers : Outcome V → Type 0) (IsError : E → Type 0) where
-  full_of : (o : Outcome V) (r : Result (I × Option O) (Answer.Err E (Option E))) → Shows w IsOutput true true i IsError o r → IsFull r
+  full_of : (o : Outcome V) (r : Result (I × Option O) (Answer.Err E (Option E) Needed)) → Shows w IsOutput true true i IsError o r → IsFull r
   full_of (Accept n v) r s = subst (λ x. IsFull x) (sym (s.4 ∙ ap (λ b. Ok (s.0, b)) s.3.1)) tt
   full_of Refuse r s = subst (λ x. IsFull x) (sym (s.2 ∙ ap (λ b. Err (Error b)) s.1.1)) tt
   full_of Fail r s = subst (λ x. IsFull x) (sym s.2) tt
   full_of TooLarge r s = subst (λ x. IsFull x) (sym s.2) tt
   full_of (Undecided k) r s = subst (λ x. IsFull x) (sym s.2) tt
 
-  pub answer_full : (RunsOut : Type 0) (r : Result (I × Option O) (Answer.Err E (Option E))) → ShowsAnswer w IsOutput true true i Answers IsError RunsOut r → IsFull r
+  pub answer_full : (RunsOut : Type 0) (r : Result (I × Option O) (Answer.Err E (Option E) Needed)) → ShowsAnswer w IsOutput true true i Answers IsError RunsOut r → IsFull r
   answer_full RunsOut r (RanOut e h) = subst (λ x. IsFull x) (sym e) tt
   answer_full RunsOut r (Shown o a s) = full_of o r s
 
-  parses_of : (o : Outcome V) (p : Result (I × Option O) (Answer.Err E (Option E))) (r : Result (I × O) (Answer.Err E E)) → HoldsSame p r → Shows w IsOutput true true i IsError o p → Parses w IsOutput i IsError o r
+  parses_of : (o : Outcome V) (p : Result (I × Option O) (Answer.Err E (Option E) Needed)) (r : Result (I × O) (Answer.Err E E Needed)) → HoldsSame p r → Shows w IsOutput true true i IsError o p → Parses w IsOutput i IsError o r
   parses_of (Accept n v) p r h s = (s.0, s.3.0, s.2, s.3.2, subst (λ x. HoldsSame x r) (s.4 ∙ ap (λ b. Ok (s.0, b)) s.3.1) h)
   parses_of Refuse p r h s = (s.1.0, s.1.2, subst (λ x. HoldsSame x r) (s.2 ∙ ap (λ b. Err (Error b)) s.1.1) h)
   parses_of Fail p r h s = (s.0, s.1, subst (λ x. HoldsSame x r) s.2 h)
   parses_of TooLarge p r h s = (s.0, s.1, subst (λ x. HoldsSame x r) s.2 h)
   parses_of (Undecided k) p r h s = (s.0, s.1, subst (λ x. HoldsSame x r) s.2 h)
 
-  pub parsed : (RunsOut : Type 0) (p : Result (I × Option O) (Answer.Err E (Option E))) (r : Result (I × O) (Answer.Err E E)) → HoldsSame p r → ShowsAnswer w IsOutput true true i Answers IsError RunsOut p → ParsesAnswer w IsOutput i Answers IsError RunsOut r
+  pub parsed : (RunsOut : Type 0) (p : Result (I × Option O) (Answer.Err E (Option E) Needed)) (r : Result (I × O) (Answer.Err E E Needed)) → HoldsSame p r → ShowsAnswer w IsOutput true true i Answers IsError RunsOut p → ParsesAnswer w IsOutput i Answers IsError RunsOut r
   parsed RunsOut p r h (RanOut e k) = ParseRanOut (subst (λ x. HoldsSame x r) e h) k
   parsed RunsOut p r h (Shown o a s) = Parsed o a (parses_of o p r h s)
 
 -- what a refusal at a leaf shows
-pub refused : {I A V O E : Type 0} (w : Seen I A) (IsOutput : V → O → Type 0) (outputs errors : Bool) (i : I) (Answers : Outcome V → Type 0) (IsError : E → Type 0) (Grows : Type 0) (r : Answer.Err E (Option E)) → Refuses IsError Grows errors r → Answers Refuse → ShowsAnswer w IsOutput outputs errors i Answers IsError (Answers Refuse × (errors ≡ true) × Grows) (Err r)
+pub refused : {I A V O E : Type 0} (w : Seen I A) (IsOutput : V → O → Type 0) (outputs errors : Bool) (i : I) (Answers : Outcome V → Type 0) (IsError : E → Type 0) (Grows : Type 0) (r : Answer.Err E (Option E) Needed) → Refuses IsError Grows errors r → Answers Refuse → ShowsAnswer w IsOutput outputs errors i Answers IsError (Answers Refuse × (errors ≡ true) × Grows) (Err r)
 refused w IsOutput outputs errors i Answers IsError Grows r (inl h) a = RanOut (ap Err h.0) (a, h.1, h.2)
 refused w IsOutput outputs errors i Answers IsError Grows r (inr h) a = Shown Refuse a (h.0, h.1, ap Err h.2)
 

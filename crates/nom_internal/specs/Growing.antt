@@ -1,5 +1,6 @@
 -- What a parser answers on an input that grows.
 use Rattle.std.specs.Prelude.{◌≡◌, ℕ, ◌<◌, ◌≤◌, true, List, length, slice_index, Result, Err, Option}
+use Rattle.nom_error.specs.declared.answer.Needed.{Needed}
 use Rattle.nom_error.specs.declared.answer.Err as Answer
 use Rattle.nom_error.specs.declared.answer.Err.TheVariants.{OutOfMemory}
 use Rattle.nom_traits.specs.Input.{Seen, IsPlace, IsFront}
@@ -27,7 +28,7 @@ pub record Waits {I A V E : Type 0} (w : Seen I A) (m : Meaning I V E) (whole : 
 
 module _ {I A V O E : Type 0} (w : Seen I A) (IsOutput : V → O → Type 0) (m : Meaning I V E) (whole : I) (cuts : List ℕ) (index : ℕ) where
   -- the outcome on a beginning, shown with the rest in the whole
-  pub record ShowsBeginning (beginning : I) (r : Result (I × O) (Answer.Err E E)) : Type 0 where
+  pub record ShowsBeginning (beginning : I) (r : Result (I × O) (Answer.Err E E Needed)) : Type 0 where
     pub outcome : Outcome V
     pub answered : m.answers true beginning outcome
     pub decided : index < length cuts → (k : Option ℕ) → outcome ≡ Undecided k → ⊥
@@ -36,12 +37,12 @@ module _ {I A V O E : Type 0} (w : Seen I A) (IsOutput : V → O → Type 0) (m 
     pub stays : (outcome ≡ TooLarge → ⊥) → (o : Outcome V) → m.answers true whole o → outcome ≡ o
 
   -- memory ran out on a beginning, where it may, or its outcome is shown
-  pub data AnswersOn (beginning : I) (r : Result (I × O) (Answer.Err E E)) : Type 0 where
+  pub data AnswersOn (beginning : I) (r : Result (I × O) (Answer.Err E E Needed)) : Type 0 where
     RanOutOn : r ≡ Err OutOfMemory → m.runs_out true true true beginning → AnswersOn beginning r
     ShownOn : ShowsBeginning beginning r → AnswersOn beginning r
 
   -- the answer at the least cut whose beginning does not wait, or at the end
-  pub record IsGrown (r : Result (I × O) (Answer.Err E E)) : Type 0 where
+  pub record IsGrown (r : Result (I × O) (Answer.Err E E Needed)) : Type 0 where
     pub in_range : index ≤ length cuts
     pub waited : (k : ℕ) → k < index → Waits w m whole (slice_index cuts k)
     pub beginning : I

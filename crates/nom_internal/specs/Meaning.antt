@@ -1,5 +1,6 @@
 -- What a parser means, and the laws of meanings.
 use Rattle.std.specs.Prelude.{◌≡◌, ℕ, Bool, true, false, Result, Option}
+use Rattle.nom_error.specs.declared.answer.Needed.{Needed}
 use Rattle.nom_error.specs.declared.answer.Err as Answer
 use Rattle.nom_traits.specs.Input.{Seen, IsPlace, Related}
 use Rattle.nom_internal.specs.Outcome.{Outcome, IsDecided, ShowsAnswer, ParsesAnswer}
@@ -57,9 +58,9 @@ module _ {I A V E : Type 0} (w : Seen I A) (m : Meaning I V E) where
     pub stays : m.IsSound → Agree w true (m.answers true) (m.answers true)
 
 -- what `process` returns of a parser that means m, at i: what is built of outputs and errors, and the mode
-abbrev pub ShowsMeaning : {I A V O E : Type 0} → Seen I A → (V → O → Type 0) → Meaning I V E → Bool → Bool → Bool → I → Result (I × Option O) (Answer.Err E (Option E)) → Type 0
+abbrev pub ShowsMeaning : {I A V O E : Type 0} → Seen I A → (V → O → Type 0) → Meaning I V E → Bool → Bool → Bool → I → Result (I × Option O) (Answer.Err E (Option E) Needed) → Type 0
 ShowsMeaning w IsOutput m outputs errors s i r = ShowsAnswer w IsOutput outputs errors i (m.answers s i) (m.blames s i) (m.runs_out outputs errors s i) r
 
 -- what `parse` (true) and `parse_complete` (false) return of it
-abbrev pub ParsesMeaning : {I A V O E : Type 0} → Seen I A → (V → O → Type 0) → Meaning I V E → Bool → I → Result (I × O) (Answer.Err E E) → Type 0
+abbrev pub ParsesMeaning : {I A V O E : Type 0} → Seen I A → (V → O → Type 0) → Meaning I V E → Bool → I → Result (I × O) (Answer.Err E E Needed) → Type 0
 ParsesMeaning w IsOutput m s i r = ParsesAnswer w IsOutput i (m.answers s i) (m.blames s i) (m.runs_out true true s i) r

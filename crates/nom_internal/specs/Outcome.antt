@@ -49,7 +49,7 @@ pub record OnOutcome {I V : Type 0} (IsKind : Outcome V → Type 0) (Part : I �
 
 module _ {I A V O E : Type 0} (w : Seen I A) (IsOutput : V → O → Type 0) (outputs errors : Bool) (i : I) where
   -- what `process` returns at i for an outcome, with an error of which the fact holds
-  abbrev pub Shows : (E → Type 0) → Outcome V → Result (I × Option O) (Answer.Err E (Option E)) → Type 0
+  abbrev pub Shows : (E → Type 0) → Outcome V → Result (I × Option O) (Answer.Err E (Option E) Needed) → Type 0
   Shows IsError (Accept n v) r = (j : I) × (b : Option O) × IsRest w i n j × Built outputs (IsOutput v) b × (r ≡ Ok (j, b))
   Shows IsError Refuse r = (b : Option E) × Built errors IsError b × (r ≡ Err (Error b))
   Shows IsError Fail r = (e : E) × IsError e × (r ≡ Err (Failure e))
@@ -57,13 +57,13 @@ module _ {I A V O E : Type 0} (w : Seen I A) (IsOutput : V → O → Type 0) (ou
   Shows IsError (Undecided k) r = (n : Needed) × (size_of n ≡ k) × (r ≡ Err (Incomplete n))
 
   -- memory ran out, where it may, or an outcome is shown
-  pub data ShowsAnswer (Answers : Outcome V → Type 0) (IsError : E → Type 0) (RunsOut : Type 0) (r : Result (I × Option O) (Answer.Err E (Option E))) : Type 0 where
+  pub data ShowsAnswer (Answers : Outcome V → Type 0) (IsError : E → Type 0) (RunsOut : Type 0) (r : Result (I × Option O) (Answer.Err E (Option E) Needed)) : Type 0 where
     RanOut : r ≡ Err OutOfMemory → RunsOut → ShowsAnswer Answers IsError RunsOut r
     Shown : (o : Outcome V) → Answers o → Shows IsError o r → ShowsAnswer Answers IsError RunsOut r
 
 module _ {I A V O E : Type 0} (w : Seen I A) (IsOutput : V → O → Type 0) (i : I) where
   -- what `parse` returns at i for an outcome: outputs and errors are built
-  abbrev pub Parses : (E → Type 0) → Outcome V → Result (I × O) (Answer.Err E E) → Type 0
+  abbrev pub Parses : (E → Type 0) → Outcome V → Result (I × O) (Answer.Err E E Needed) → Type 0
   Parses IsError (Accept n v) r = (j : I) × (b : O) × IsRest w i n j × IsOutput v b × (r ≡ Ok (j, b))
   Parses IsError Refuse r = (e : E) × IsError e × (r ≡ Err (Error e))
   Parses IsError Fail r = (e : E) × IsError e × (r ≡ Err (Failure e))
@@ -71,6 +71,6 @@ module _ {I A V O E : Type 0} (w : Seen I A) (IsOutput : V → O → Type 0) (i 
   Parses IsError (Undecided k) r = (n : Needed) × (size_of n ≡ k) × (r ≡ Err (Incomplete n))
 
   -- memory ran out, where it may, or an outcome is shown
-  pub data ParsesAnswer (Answers : Outcome V → Type 0) (IsError : E → Type 0) (RunsOut : Type 0) (r : Result (I × O) (Answer.Err E E)) : Type 0 where
+  pub data ParsesAnswer (Answers : Outcome V → Type 0) (IsError : E → Type 0) (RunsOut : Type 0) (r : Result (I × O) (Answer.Err E E Needed)) : Type 0 where
     ParseRanOut : r ≡ Err OutOfMemory → RunsOut → ParsesAnswer Answers IsError RunsOut r
     Parsed : (o : Outcome V) → Answers o → Parses IsError o r → ParsesAnswer Answers IsError RunsOut r
