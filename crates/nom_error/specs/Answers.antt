@@ -1,5 +1,5 @@
 -- What parsers answer beside an acceptance.
-use Rattle.std.specs.Prelude.{◌≡◌, ℕ, Bool, true, ◌⊎◌, List, ◌++◌, Result, Ok, Option, Some, None, codes}
+use Rattle.std.specs.Prelude.{◌≡◌, ℕ, Bool, true, false, ◌⊎◌, List, ◌++◌, Result, Ok, Option, Some, None, codes}
 use Rattle.std.specs.Prelude as Std
 use Rattle.std.specs.Fmt.{decimal, ◌++?◌}
 use Rattle.std.specs.Int.NonZero.{non_zero_usize_get}
@@ -59,3 +59,8 @@ IsFinished (Std.Err OutOfMemory) r = r ≡ Std.Err Finish.OutOfMemory
 -- what is answered for a refusal: its error, where errors are built, or that memory ran out
 abbrev pub Refuses : {E : Type 0} → (E → Type 0) → Type 0 → Bool → Answer.Err E (Option E) Needed → Type 0
 Refuses {E} Gives Grows errors r = ((r ≡ OutOfMemory) × (errors ≡ true) × Grows) ⊎ ((b : Option E) × Built errors Gives b × (r ≡ Error b))
+
+-- where an input ends too early: more is needed where more may come, else a refusal with an error of which the fact holds
+abbrev pub IsLack : {E : Type 0} → Bool → (E → Type 0) → Needed → Answer.Err E E Needed → Type 0
+IsLack true Gives needed r = r ≡ Incomplete needed
+IsLack {E} false Gives needed r = (e : E) × Gives e × (r ≡ Error e)

@@ -1,7 +1,9 @@
 //! What a parser builds, and whether more input may come.
 ghost use Rattle.std.specs.Prelude.{Bool, true, false, ◌≡◌, Option};
 ghost use Rattle.nom_error.specs.Modes.{Built, BuiltFrom, BuiltFromBoth};
+ghost use Rattle.nom_error.specs.Answers.{IsLack};
 
+use crate::answer::{Err, Needed};
 use std::marker::PhantomData;
 
 /// Whether values are built.
@@ -81,6 +83,27 @@ pub trait IsStreaming: Sized {
 
     /// Whether more input may come.
     const STREAMING: bool;
+
+    /// Whether more input may come.
+    #[inline(always)]
+    final fn is_streaming() -> bool
+        ensures { result ≡ STREAMING }
+    {
+        Self::STREAMING
+    }
+
+    /// What is answered where an input ends too early: more is needed, or a refusal with what `f` gives.
+    #[inline(always)]
+    final fn incomplete<E, F: FnOnce() -> E + Drop>(needed: Needed, f: F) -> Err<E>
+        requires { F.IsAlwaysCallable f }
+        ensures { IsLack STREAMING (F.post f) needed result }
+    {
+        if Self::STREAMING {
+            Err::Incomplete(needed)
+        } else {
+            Err::Error(f())
+        }
+    }
 }
 
 /// More input may come: where a parser can't decide, its answer is `Incomplete`.
