@@ -1,2 +1,3 @@
 pub mod ByteCompared
 pub mod ByteCuts
+pub mod ByteItems

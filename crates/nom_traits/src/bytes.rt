@@ -4,6 +4,8 @@ ghost use Rattle.nom_traits.specs.Bytes.{seen_bytes, bytes_lawful};
 
 use crate::input::{Input, Items};
 use nom_error::answer::Needed;
+use std::iter::Copied;
+use std::slice::Iter;
 
 impl Items for &[u8] {
     type Item = u8;
@@ -22,8 +24,10 @@ impl Items for &[u8] {
     ghost views = { λ x y h. h.elements_are };
 }
 
-impl Input for &[u8] {
+impl<'a> Input for &'a [u8] {
     ghost lack = { λ count xs. Some (count - length xs) };
+
+    type Iter = Copied<Iter<'a, u8>>;
 
     #[inline(always)]
     fn input_len(&self) -> usize {
@@ -51,6 +55,11 @@ impl Input for &[u8] {
         } else {
             Err(Needed::new(count - self.len()))
         }
+    }
+
+    #[inline(always)]
+    fn iter_elements(&self) -> Copied<Iter<'a, u8>> {
+        self.iter().copied()
     }
 
     ghost more = { λ _. tt };

@@ -1,5 +1,6 @@
 //! Inputs.
 ghost use Rattle.std.specs.Prelude.{◌≡◌, ◌<◌, ℕ, List, length, Option, MatchResult};
+ghost use Rattle.std.specs.Iterator.{AlwaysYields};
 ghost use Rattle.nom_error.specs.Answers.{size_of};
 ghost use Rattle.nom_traits.specs.Input.{Seen, InputLaws, AreValues, IsPlace, IsFront, IsRest, IsSame, input_len};
 ghost use Rattle.nom_traits.specs.Slices.{IsCount};
@@ -44,6 +45,9 @@ pub trait Input: Items {
     /// The size that is needed, where a list has fewer items than a count; none where it is unknown.
     ghost lack: { ℕ → List Self.Item → Option ℕ };
 
+    /// Gives the items one by one.
+    type Iter: Iterator<Item = Self::Item> + Drop;
+
     /// The length: the sum of the items' lengths.
     fn input_len(&self) -> usize
         ensures { result ≡ input_len Self.seen self.now };
@@ -63,6 +67,10 @@ pub trait Input: Items {
         ensures { MatchResult result
             (λ n. IsCount Self.seen self.now count n)
             (λ k. (length (Self.seen.elements self.now) < count) × (size_of k ≡ lack count (Self.seen.elements self.now))) };
+
+    /// The items, one by one.
+    fn iter_elements(&self) -> Self::Iter
+        ensures { AlwaysYields Self.Iter.next_gives (λ x. x) result (Self.seen.elements self.now) };
 
     /// Any items may follow.
     ghost more: { (xs : List Self.Item) → Self.seen.IsMore xs };

@@ -6,6 +6,8 @@ ghost use Rattle.nom.specs.Held.{seen_held, held_view, held_lawful, held_compari
 use crate::bytes::{tag, take};
 use crate::error::{ErrorKind, ParseError};
 use crate::{Compare, CompareResult, Err, Input, Items, Needed, OutOfMemory, Parser, Viewed};
+use std::iter::Copied;
+use std::slice::Iter;
 
 /// The bytes of a packet.
 #[derive(Clone, Copy)]
@@ -33,8 +35,10 @@ impl Items for Packet<'_> {
     ghost views = { λ x y h. h.elements_are };
 }
 
-impl Input for Packet<'_> {
+impl<'a> Input for Packet<'a> {
     ghost lack = { λ count xs. Some (count - length xs) };
+
+    type Iter = Copied<Iter<'a, u8>>;
 
     fn input_len(&self) -> usize {
         self.bytes.input_len()
@@ -54,6 +58,10 @@ impl Input for Packet<'_> {
 
     fn slice_index(&self, count: usize) -> Result<usize, Needed> {
         self.bytes.slice_index(count)
+    }
+
+    fn iter_elements(&self) -> Copied<Iter<'a, u8>> {
+        self.bytes.iter_elements()
     }
 
     ghost more = { λ _. tt };

@@ -1,0 +1,89 @@
+//! The parsers that run two parts in sequence.
+ghost use Rattle.nom_internal.specs.SequenceLaws.{sequence_lawful, sequence_steady};
+ghost use Rattle.nom_sequence.specs.Sequences.{preceded_meaning, terminated_meaning};
+
+use nom_error::answer::PResult;
+use nom_error::mode::{Check, OutputM, OutputMode};
+use nom_internal::parser::{Parser, StreamParser};
+use nom_traits::input::Items;
+
+/// One parser after another, with the second's output; made by `preceded`.
+#[derive(Drop)]
+pub struct Preceded<F, G> {
+    pub first: F,
+    pub second: G,
+}
+
+impl<I: Items, F: Parser<I> + Drop, G: Parser<I, Error = F::Error> + Drop> Parser<I>
+    for Preceded<F, G> {
+    type Output = G::Output;
+
+    type Error = F::Error;
+
+    ghost State = { F.State × G.State };
+
+    ghost state = { λ p. (F.state p.first, G.state p.second) };
+
+    ghost Tree = { G.Tree };
+
+    ghost IsOutput = { λ s. G.IsOutput s.1 };
+
+    ghost meaning = { λ s. preceded_meaning I.seen (F.meaning s.0) (G.meaning s.1) };
+
+    #[inline(always)]
+    fn process<OM: OutputMode>(&mut self, input: I) -> PResult<I, Self::Output, Self::Error> {
+        let (rest, _) = self
+            .first
+            .process::<OutputM<Check, OM::Error, OM::Incomplete>>(input)?;
+        self.second.process::<OM>(rest)
+    }
+
+    ghost lawful = { λ s. sequence_lawful I.seen I.lawful _ _ _ (F.meaning s.0) (G.meaning s.1) (F.lawful s.0) (G.lawful s.1) };
+}
+
+impl<I: Items, F: StreamParser<I> + Drop, G: StreamParser<I, Error = F::Error> + Drop> StreamParser<
+    I,
+> for Preceded<F, G> {
+    ghost steady = { λ s. sequence_steady I.seen I.lawful _ _ _ (F.meaning s.0) (G.meaning s.1) (F.steady s.0) (G.steady s.1) };
+}
+
+/// One parser after another, with the first's output; made by `terminated`.
+#[derive(Drop)]
+pub struct Terminated<F, G> {
+    pub first: F,
+    pub second: G,
+}
+
+impl<I: Items, F: Parser<I> + Drop, G: Parser<I, Error = F::Error> + Drop> Parser<I>
+    for Terminated<F, G> {
+    type Output = F::Output;
+
+    type Error = F::Error;
+
+    ghost State = { F.State × G.State };
+
+    ghost state = { λ p. (F.state p.first, G.state p.second) };
+
+    ghost Tree = { F.Tree };
+
+    ghost IsOutput = { λ s. F.IsOutput s.0 };
+
+    ghost meaning = { λ s. terminated_meaning I.seen (F.meaning s.0) (G.meaning s.1) };
+
+    #[inline(always)]
+    fn process<OM: OutputMode>(&mut self, input: I) -> PResult<I, Self::Output, Self::Error> {
+        let (rest, first) = self.first.process::<OM>(input)?;
+        let (rest, _) = self
+            .second
+            .process::<OutputM<Check, OM::Error, OM::Incomplete>>(rest)?;
+        Ok((rest, first))
+    }
+
+    ghost lawful = { λ s. sequence_lawful I.seen I.lawful _ _ _ (F.meaning s.0) (G.meaning s.1) (F.lawful s.0) (G.lawful s.1) };
+}
+
+impl<I: Items, F: StreamParser<I> + Drop, G: StreamParser<I, Error = F::Error> + Drop> StreamParser<
+    I,
+> for Terminated<F, G> {
+    ghost steady = { λ s. sequence_steady I.seen I.lawful _ _ _ (F.meaning s.0) (G.meaning s.1) (F.steady s.0) (G.steady s.1) };
+}
