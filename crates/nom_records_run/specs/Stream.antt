@@ -1,5 +1,5 @@
 -- What a read, a write and a whole run do to the bytes and the counts of their two ends.
-use Rattle.std.specs.Prelude.{◌≡◌, ℕ, ◌+◌, ◌-◌, ◌^◌, ◌<◌, ◌≤◌, min, List, length, take, Option, Result, MatchResult, slice_index}
+use Rattle.std.specs.Prelude.{◌≡◌, ℕ, ◌+◌, ◌-◌, ◌^◌, ◌<◌, ◌≤◌, min, ◌⊎◌, List, length, take, Option, Result, MatchResult, slice_index}
 use Rattle.std.specs.Io.KnownBytes.{Appends, Consumes, IsAtEnd}
 use Rattle.nom_records_run.specs.declared.error.RunError.{RunError}
 use Rattle.nom_records_run.specs.declared.error.RunError.TheVariants.{Read, Write, OutOfMemory, Usage}
@@ -16,6 +16,10 @@ CountsErr old new r = MatchResult r (λ _. new ≡ old) (λ _. new ≡ one_more 
 -- the count rises by one where none of some bytes was taken, and stays otherwise
 abbrev pub CountsStall : {E : Type 0} → ℕ → ℕ → ℕ → Result ℕ E → Type 0
 CountsStall old new some r = MatchResult r (λ n. (0 < n → new ≡ old) × (some ≡ 0 → new ≡ old) × (n ≡ 0 → 0 < some → new ≡ one_more old)) (λ _. new ≡ old)
+
+-- one write failed: it gave an error, or it took none of some bytes
+abbrev pub WriteFailed : (failures failures' stalls stalls' : ℕ) → Type 0
+WriteFailed failures failures' stalls stalls' = (failures' ≡ one_more failures) ⊎ ((failures' ≡ failures) × (stalls' ≡ one_more stalls))
 
 -- no number of the list is below the one before
 abbrev pub NeverFalls : List ℕ → Type 0
@@ -38,10 +42,10 @@ pub record ReadWhole (left new : Option (List ℕ)) (bytes : List ℕ) : Type 0 
   pub read : Consumes left new bytes
   pub ended : IsAtEnd new
 
--- the first `count` bytes of `text` were added
+-- the first `count` bytes of `text` were added, and not all
 pub record WroteFront (held new : Option (List ℕ)) (text : List ℕ) : Type 0 where
   pub count : ℕ
-  pub within : count ≤ length text
+  pub within : count < length text
   pub wrote : Appends held new (take count text)
 
 -- the source was read to its end, and the report on what was read was written, with this status
@@ -53,7 +57,7 @@ pub record Reported (left left' held held' : Option (List ℕ)) (cuts : List ℕ
   pub report : IsReport bytes cuts text status
   pub wrote : Appends held held' text
 
--- the source was read to its end, and of the report on what was read a beginning was written
+-- the source was read to its end, and of the report on what was read a beginning was written, and not all
 pub record Stopped (left left' held held' : Option (List ℕ)) (cuts : List ℕ) : Type 0 where
   pub bytes : List ℕ
   pub text : List ℕ

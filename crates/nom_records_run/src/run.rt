@@ -1,7 +1,7 @@
 //! The whole run: read, report, write.
 ghost use Rattle.std.specs.Prelude.{◌≡◌, ◌++◌, ◌⊎◌, [], length, IfOk, IfErr, Err, MatchBool};
 ghost use Rattle.std.specs.Io.KnownBytes.{Appends};
-ghost use Rattle.nom_records_run.specs.Stream.{CutAbove, Falls, MatchRunError, NeverFalls, NoneAbove, SomeAbove, ReadWhole, Reported, Stopped, WroteFront, one_more};
+ghost use Rattle.nom_records_run.specs.Stream.{CutAbove, Falls, MatchRunError, NeverFalls, NoneAbove, SomeAbove, ReadWhole, Reported, Stopped, WriteFailed, WroteFront, one_more};
 
 use crate::error::RunError;
 use crate::report::report;
@@ -65,7 +65,7 @@ fn read_all<A: Allocator, S: Source>(source: &mut S, bytes: &mut Vec<u8, A>) -> 
 // Writes the text, in as many calls as it takes.
 fn write_all<W: Sink>(sink: &mut W, text: &[u8]) -> Result<(), RunError>
     ensures whole { IfOk result (λ _. Appends (W.held sink.old) (W.held sink.new) text.now × (W.failures sink.new ≡ W.failures sink.old)) }
-    ensures error { IfErr result (λ e. MatchRunError e ⊥ (WroteFront (W.held sink.old) (W.held sink.new) text.now × ((W.failures sink.new ≡ one_more (W.failures sink.old)) ⊎ ((W.failures sink.new ≡ W.failures sink.old) × (W.stalls sink.new ≡ one_more (W.stalls sink.old))))) ⊥ ⊥) }
+    ensures error { IfErr result (λ e. MatchRunError e ⊥ (WroteFront (W.held sink.old) (W.held sink.new) text.now × WriteFailed (W.failures sink.old) (W.failures sink.new) (W.stalls sink.old) (W.stalls sink.new)) ⊥ ⊥) }
 {
     let mut at = 0;
     while at < text.len() {
@@ -102,7 +102,7 @@ pub fn run<A: Allocator + Copy, S: Source, W: Sink>(
         ((sink.new ≡ sink.old) × (S.failures source.new ≡ one_more (S.failures source.old)))
         (Stopped (S.left source.old) (S.left source.new) (W.held sink.old) (W.held sink.new) cuts.now
         × (S.failures source.new ≡ S.failures source.old)
-        × ((W.failures sink.new ≡ one_more (W.failures sink.old)) ⊎ ((W.failures sink.new ≡ W.failures sink.old) × (W.stalls sink.new ≡ one_more (W.stalls sink.old)))))
+        × WriteFailed (W.failures sink.old) (W.failures sink.new) (W.stalls sink.old) (W.stalls sink.new))
         ((sink.new ≡ sink.old) × (S.failures source.new ≡ S.failures source.old))
         ((sink.new ≡ sink.old) × (S.failures source.new ≡ S.failures source.old)
         × (((source.new ≡ source.old) × Falls cuts.now) ⊎ CutAbove (S.left source.old) (S.left source.new) cuts.now))) }
