@@ -1,0 +1,4 @@
+pub mod Report
+pub mod Stream
+pub mod Texts
+pub mod Words

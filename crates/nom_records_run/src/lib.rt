@@ -1,0 +1,15 @@
+//! The engine of the program `nom_records`: a source is read to its end, reported on, and the text of
+//! the report is written to a sink.
+#![tactic(auto)]
+
+pub mod counted;
+pub mod error;
+#[cfg(test)]
+pub mod fails;
+pub mod report;
+pub mod run;
+pub mod stream;
+#[cfg(test)]
+mod tests;
+pub mod text;
+pub mod words;

@@ -1,0 +1,155 @@
+use crate::counted::Counted;
+use crate::error::RunError;
+use crate::fails::Fails;
+use crate::run::run;
+use crate::text::{add_decided, add_error, add_failure, add_hex, add_need, add_record, add_rest};
+use crate::words::read_cuts;
+use nom_error::answer::Needed;
+use nom_error::kind::ErrorKind;
+use std::test::Fail;
+
+#[test]
+fn reports_on_memory(rt: HostRuntime) -> Result<(), Fail> {
+    let mut source = Counted::new(b"abc".as_slice());
+    let mut sink = Counted::new(Vec::new(rt.alloc()));
+    let status = run(rt.alloc(), &mut source, &[0, 3], &mut sink);
+    assert_eq!(rt; status, Ok(0));
+    assert_eq!(rt; sink.inner.as_slice(), b"rest 3\n".as_slice());
+    Ok(())
+}
+
+#[test]
+fn reads_more_than_fits_one_call(rt: HostRuntime) -> Result<(), Fail> {
+    let bytes = [7u8; 1000];
+    let mut source = Counted::new(bytes.as_slice());
+    let mut sink = Counted::new(Vec::new(rt.alloc()));
+    let status = run(rt.alloc(), &mut source, &[1000], &mut sink);
+    assert_eq!(rt; status, Ok(0));
+    assert_eq!(rt; sink.inner.as_slice(), b"rest 1000\n".as_slice());
+    Ok(())
+}
+
+#[test]
+fn refuses_cuts(rt: HostRuntime) -> Result<(), Fail> {
+    let mut source = Counted::new(b"abc".as_slice());
+    let mut sink = Counted::new(Vec::new(rt.alloc()));
+    assert_eq!(rt;
+        run(rt.alloc(), &mut source, &[2, 1], &mut sink),
+        Err(RunError::Usage)
+    );
+    assert_eq!(rt; source.inner.len(), 3);
+    assert_eq!(rt;
+        run(rt.alloc(), &mut source, &[0, 4], &mut sink),
+        Err(RunError::Usage)
+    );
+    assert_eq!(rt; source.inner.len(), 0);
+    assert_eq!(rt; sink.inner.len(), 0);
+    Ok(())
+}
+
+#[test]
+fn stops_at_each_write(rt: HostRuntime) -> Result<(), Fail> {
+    let text = b"rest 3\n";
+    for calls in 0..7 {
+        let mut source = Counted::new(b"abc".as_slice());
+        let mut sink = Counted::new(Fails {
+            inner: Vec::new(rt.alloc()),
+            calls,
+        });
+        let status = run(rt.alloc(), &mut source, &[0, 3], &mut sink);
+        assert_eq!(rt; status, Err(RunError::Write));
+        assert_eq!(rt; sink.failed, 1);
+        assert_eq!(rt; sink.inner.inner.as_slice(), &text[..calls as usize]);
+    }
+    Ok(())
+}
+
+#[test]
+fn stops_at_each_read(rt: HostRuntime) -> Result<(), Fail> {
+    for calls in 0..4 {
+        let mut source = Counted::new(Fails {
+            inner: b"abc".as_slice(),
+            calls,
+        });
+        let mut sink = Counted::new(Vec::new(rt.alloc()));
+        let status = run(rt.alloc(), &mut source, &[0, 3], &mut sink);
+        assert_eq!(rt; status, Err(RunError::Read));
+        assert_eq!(rt; source.failed, 1);
+        assert_eq!(rt; source.inner.inner.len() as u64, 3 - calls);
+        assert_eq!(rt; sink.inner.len(), 0);
+    }
+    Ok(())
+}
+
+#[test]
+fn stops_where_no_byte_is_taken(rt: HostRuntime) -> Result<(), Fail> {
+    let mut source = Counted::new(b"abc".as_slice());
+    let mut room = [0u8; 4];
+    let mut sink = Counted::new(room.as_mut_slice());
+    let status = run(rt.alloc(), &mut source, &[], &mut sink);
+    assert_eq!(rt; status, Err(RunError::Write));
+    assert_eq!(rt; sink.stalled, 1);
+    assert_eq!(rt; sink.failed, 0);
+    assert_eq!(rt; room.as_slice(), b"rest".as_slice());
+    Ok(())
+}
+
+// Holds whichever allocation is refused.
+#[test]
+fn tells_want_of_memory(rt: HostRuntime) -> Result<(), Fail> {
+    let mut source = Counted::new(b"abc".as_slice());
+    let mut room = [0u8; 7];
+    let mut sink = Counted::new(room.as_mut_slice());
+    match run(rt.alloc(), &mut source, &[3], &mut sink) {
+        Ok(status) => {
+            assert_eq!(rt; status, 0);
+            assert_eq!(rt; room.as_slice(), b"rest 3\n".as_slice());
+        }
+        Err(error) => {
+            assert_eq!(rt; error, RunError::OutOfMemory);
+            assert_eq!(rt; room.as_slice(), [0u8; 7].as_slice());
+        }
+    }
+    match read_cuts(rt.alloc(), &["1", "2"]) {
+        Ok(cuts) => assert_eq!(rt; cuts.as_slice(), [1, 2].as_slice()),
+        Err(error) => assert_eq!(rt; error, RunError::OutOfMemory),
+    }
+    Ok(())
+}
+
+#[test]
+fn reads_words(rt: HostRuntime) -> Result<(), Fail> {
+    match read_cuts(rt.alloc(), &["0", "07", "7", "18446744073709551615"]) {
+        Ok(cuts) => assert_eq!(rt; cuts.as_slice(), [0, 7, 7, usize::MAX].as_slice()),
+        Err(_) => assert!(rt; false),
+    }
+    match read_cuts(rt.alloc(), &[]) {
+        Ok(cuts) => assert_eq!(rt; cuts.len(), 0),
+        Err(_) => assert!(rt; false),
+    }
+    for word in ["", "+7", "-1", "7 ", "0x7", "18446744073709551616", "6"] {
+        assert!(rt;
+            matches!(read_cuts(rt.alloc(), &["7", word]), Err(RunError::Usage)),
+            "{word}"
+        );
+    }
+    Ok(())
+}
+
+#[test]
+fn writes_lines(rt: HostRuntime) -> Result<(), Fail> {
+    let mut text = String::new(rt.alloc());
+    assert_eq!(rt; add_decided(&mut text, 12), Ok(()));
+    assert_eq!(rt; add_record(&mut text, b""), Ok(()));
+    assert_eq!(rt; add_record(&mut text, &[0x00, 0x0a, 0xb0, 0xff]), Ok(()));
+    assert_eq!(rt; add_hex(&mut text, &[0x9c]), Ok(()));
+    assert_eq!(rt; add_rest(&mut text, 0), Ok(()));
+    assert_eq!(rt; add_error(&mut text, ErrorKind::Tag, 3), Ok(()));
+    assert_eq!(rt; add_failure(&mut text, ErrorKind::TooLarge, 10), Ok(()));
+    assert_eq!(rt; add_need(&mut text, Needed::new(255)), Ok(()));
+    assert_eq!(rt; add_need(&mut text, Needed::Unknown), Ok(()));
+    let expected =
+        "decided at 12\nrecord 0\nrecord 4 000ab0ff\n9crest 0\nerror Tag at 3\nfailure Needed data size is too large at 10\nneed 255\nneed more\n";
+    assert_eq!(rt; text.as_str(), expected);
+    Ok(())
+}
