@@ -1,2 +1,4 @@
-pub mod Known
 pub mod Hex
+pub mod Known
+pub mod Reported
+pub mod Told

@@ -1,7 +1,73 @@
--- The report on bytes.
-use Rattle.std.specs.Prelude.{◌≡◌, ℕ, List, length}
-use Rattle.nom_records_run.specs.Texts.{rest_text}
+-- The report on the bytes of a file that comes in pieces.
+use Rattle.std.specs.Prelude.{◌≡◌, ℕ, ◌-◌, ◌<◌, ◌≤◌, true, List, [], ◌∷◌, ◌++◌, length, slice_index, Result, Ok, Err, Option, Some}
+use Rattle.std.specs.Borrow.{Bor}
+use Rattle.nom_error.specs.declared.kind.ErrorKind.{ErrorKind}
+use Rattle.nom_error.specs.declared.value.Error.{Error}
+use Rattle.nom_error.specs.declared.answer.Needed.{Needed}
+use Rattle.nom_error.specs.declared.answer.Err as Answer
+use Rattle.nom_error.specs.declared.answer.Err.TheVariants as Stop
+use Rattle.nom_error.specs.Answers.{size_of}
+use Rattle.nom_traits.specs.Bytes.{seen_bytes}
+use Rattle.nom_traits.specs.Compares.{ComparesBytes}
+use Rattle.nom_traits.specs.Slices.{Slice}
+use Rattle.nom_internal.specs.Outcome.{Outcome}
+use Rattle.nom_internal.specs.Outcome.Outcome.{Accept, Refuse, Fail, TooLarge, Undecided}
+use Rattle.nom_internal.specs.Meaning.{Meaning}
+use Rattle.nom_internal.specs.Growing.{IsBeginning, Waits}
+use Rattle.nom_internal.specs.Sequence.{pair_meaning}
+use Rattle.nom_bytes.specs.Tags.{tag_meaning}
+use Rattle.nom_bytes.specs.Takes.{take_meaning}
+use Rattle.nom_records_run.specs.Texts.{decided_text, record_text, rest_text, error_text, failure_text, need_text}
+
+-- an error that holds where it stands, and its kind
+abbrev pub IsErrorAt : Bor (List ℕ) → ErrorKind → Error (Bor (List ℕ)) → Type 0
+IsErrorAt i kind e = e ≡ record { input = i; code = kind }
+
+-- the lines of the records
+abbrev pub records_text : List (List ℕ) → List ℕ
+records_text [] = []
+records_text (r ∷ rs) = record_text r ++ records_text rs
+
+-- The text and the status for an outcome on a beginning of the whole: `index` is that of the cut where it begins, and
+-- offsets count from the beginning's first byte.
+abbrev pub Says : {V : Type 0} → (V → List (List ℕ)) → (Error (Bor (List ℕ)) → Type 0) → ℕ → (whole beginning : List ℕ) → Outcome V → List ℕ → ℕ → Type 0
+Says records Blames index whole beginning (Accept n v) text status = (text ≡ decided_text index ++ records_text (records v) ++ rest_text (length whole - n)) × (status ≡ 0)
+Says records Blames index whole beginning Refuse text status = (e : Error (Bor (List ℕ))) × Blames e × (text ≡ error_text e.code (length beginning - length e.input.now)) × (status ≡ 1)
+Says records Blames index whole beginning Fail text status = (e : Error (Bor (List ℕ))) × Blames e × (text ≡ failure_text e.code (length beginning - length e.input.now)) × (status ≡ 1)
+Says records Blames index whole beginning TooLarge text status = (e : Error (Bor (List ℕ))) × Blames e × (text ≡ failure_text e.code (length beginning - length e.input.now)) × (status ≡ 1)
+Says records Blames index whole beginning (Undecided k) text status = (text ≡ need_text k) × (status ≡ 2)
+
+-- The report by a grammar: the streaming outcome on the first of the beginnings at the cuts, and then of the whole, that
+-- does not wait for more, is told by the text and the status.
+pub record IsReportBy {V : Type 0} (m : Meaning (Bor (List ℕ)) V (Error (Bor (List ℕ)))) (records : V → List (List ℕ)) (bytes cuts text : List ℕ) (status : ℕ) : Type 0 where
+  pub whole : Bor (List ℕ)
+  pub whole_is : whole.now ≡ bytes
+  pub index : ℕ
+  pub in_range : index ≤ length cuts
+  pub waited : (k : ℕ) → k < index → Waits seen_bytes m whole (slice_index cuts k)
+  pub beginning : Bor (List ℕ)
+  pub begins : IsBeginning seen_bytes whole cuts index beginning
+  pub outcome : Outcome V
+  pub answered : m.answers true beginning outcome
+  pub decided : index < length cuts → (k : Option ℕ) → outcome ≡ Undecided k → ⊥
+  pub says : Says records (m.blames true beginning) index whole.now beginning.now outcome text status
+
+-- the text and the status for an answer on a beginning of a length
+abbrev pub IsTold : {O : Type 0} → (O → List (List ℕ)) → (index beginning : ℕ) → Result (Bor (List ℕ) × O) (Answer.Err (Error (Bor (List ℕ))) (Error (Bor (List ℕ))) Needed) → List ℕ → ℕ → Type 0
+IsTold records index beginning (Ok (rest, o)) text status = (text ≡ decided_text index ++ records_text (records o) ++ rest_text (length rest.now)) × (status ≡ 0)
+IsTold records index beginning (Err (Stop.Incomplete k)) text status = (text ≡ need_text (size_of k)) × (status ≡ 2)
+IsTold records index beginning (Err (Stop.Error e)) text status = (text ≡ error_text e.code (beginning - length e.input.now)) × (status ≡ 1)
+IsTold records index beginning (Err (Stop.Failure e)) text status = (text ≡ failure_text e.code (beginning - length e.input.now)) × (status ≡ 1)
+IsTold records index beginning (Err Stop.OutOfMemory) text status = ⊥
+
+-- the grammar: `R`, and four bytes
+abbrev pub record_grammar : Meaning (Bor (List ℕ)) (Slice seen_bytes × Slice seen_bytes) (Error (Bor (List ℕ)))
+record_grammar = pair_meaning seen_bytes (tag_meaning seen_bytes IsErrorAt ⊥ length ComparesBytes (82 ∷ [])) (take_meaning seen_bytes IsErrorAt ⊥ (λ count xs. Some (count - length xs)) 4)
+
+-- its one record
+abbrev pub records_of : Slice seen_bytes × Slice seen_bytes → List (List ℕ)
+records_of t = t.1.items ∷ []
 
 -- `text` and `status` are the report on `bytes`, given in the parts that `cuts` make of them
-unfoldable pub IsReport : (bytes cuts text : List ℕ) → (status : ℕ) → Type 0
-IsReport bytes cuts text status = (text ≡ rest_text (length bytes)) × (status ≡ 0)
+abbrev pub IsReport : (bytes cuts text : List ℕ) → (status : ℕ) → Type 0
+IsReport = IsReportBy record_grammar records_of

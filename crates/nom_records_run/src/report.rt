@@ -1,28 +1,99 @@
 //! The report on bytes and cuts.
-ghost use Rattle.std.specs.Prelude.{◌≡◌, IfOk, length, string_bytes};
-ghost use Rattle.nom_records_run.specs.Report.{IsReport};
-ghost use Rattle.nom_records_run.specs.Stream.{NeverFalls, NoneAbove};
+ghost use Rattle.std.specs.Prelude.{◌≡◌, ◌++◌, ◌<◌, ◌≤◌, [], ◌∷◌, IfOk, length, map, slice_index, string_bytes};
+ghost use Rattle.nom_records_run.specs.Report.{IsReport, IsTold, records_text};
+ghost use Rattle.nom_records_run.specs.Stream.{NoneAbove};
+ghost use Rattle.nom_records_run.specs.Texts.{decided_text, rest_text};
 
-use crate::text::add_rest;
-use nom_error::answer::OutOfMemory;
+use crate::text::{add_decided, add_error, add_failure, add_need, add_record, add_rest};
+use nom::bytes::{tag, take};
+use nom::error::Error;
+use nom::{Err, IResult, OutOfMemory, Parser, parse_growing};
 use std::alloc::Allocator;
+
+// The length of the beginning at the cut of an index; the number of cuts stands for the whole.
+fn beginning_len(whole: usize, cuts: &[usize], index: usize) -> usize
+    ensures at_cut { index < length cuts.now → result ≡ slice_index cuts.now index }
+    ensures at_end { length cuts.now ≤ index → result ≡ whole }
+{
+    if index < cuts.len() {
+        cuts[index]
+    } else {
+        whole
+    }
+}
+
+// Adds the lines of records.
+fn add_records<A: Allocator + Copy>(
+    text: &mut String<A>,
+    records: &[&[u8]],
+) -> Result<(), OutOfMemory>
+    ensures { IfOk result (λ _. string_bytes text.new ≡ string_bytes text.old ++ records_text (map (λ r. r.now) records.now)) }
+{
+    for record in records {
+        add_record(text, record)?;
+    }
+    Ok(())
+}
+
+// Adds the lines for an acceptance.
+fn add_accepted<A: Allocator + Copy>(
+    text: &mut String<A>,
+    index: usize,
+    records: &[&[u8]],
+    rest: usize,
+) -> Result<(), OutOfMemory>
+    ensures { IfOk result (λ _. string_bytes text.new ≡ string_bytes text.old ++ (decided_text index ++ records_text (map (λ r. r.now) records.now) ++ rest_text rest)) }
+{
+    add_decided(text, index)?;
+    add_records(text, records)?;
+    add_rest(text, rest)
+}
+
+// The text and the status for an answer on a beginning of a length, at the cut of an index.
+fn tell<'a, A: Allocator + Copy>(
+    alloc: A,
+    index: usize,
+    beginning: usize,
+    answer: IResult<&'a [u8], (&'a [u8], &'a [u8])>,
+) -> Result<(String<A>, u8), OutOfMemory>
+    ensures { IfOk result (λ r. IsTold (λ o. o.1.now ∷ []) index beginning answer.entry (string_bytes r.0) r.1) }
+{
+    let mut text = String::new(alloc);
+    match answer {
+        Ok((rest, (_, record))) => {
+            add_accepted(&mut text, index, &[record], rest.len())?;
+            Ok((text, 0))
+        }
+        Err(Err::Incomplete(needed)) => {
+            add_need(&mut text, needed)?;
+            Ok((text, 2))
+        }
+        Err(Err::Error(error)) => {
+            let offset = beginning.saturating_sub(error.input.len());
+            add_error(&mut text, error.code, offset)?;
+            Ok((text, 1))
+        }
+        Err(Err::Failure(error)) => {
+            let offset = beginning.saturating_sub(error.input.len());
+            add_failure(&mut text, error.code, offset)?;
+            Ok((text, 1))
+        }
+        Err(Err::OutOfMemory) => Err(OutOfMemory),
+    }
+}
 
 /// The text of the report on `bytes`, given in the parts that `cuts` (offsets in bytes) make of them,
 /// and the status.
-#[tactic(auto, unfolding(crate::specs::Report::IsReport))]
 pub fn report<A: Allocator + Copy>(
     alloc: A,
     bytes: &[u8],
     cuts: &[usize],
 ) -> Result<(String<A>, u8), OutOfMemory>
-    requires never_falls { NeverFalls cuts.now }
-    requires none_above { NoneAbove cuts.now (length bytes.now) }
+    requires { NoneAbove cuts.now (length bytes.now) }
     ensures { IfOk result (λ r. IsReport bytes.now cuts.now (string_bytes r.0) r.1) }
 {
-    let _ = cuts;
-    let mut text = String::new(alloc);
-    match add_rest(&mut text, bytes.len()) {
-        Ok(()) => Ok((text, 0)),
-        Err(_) => Err(OutOfMemory),
-    }
+    let record = tag::<_, Error<&[u8]>>(&b"R"[..]).and(take::<Error<&[u8]>>(4));
+    let grown = parse_growing(record, bytes, cuts);
+    let beginning = beginning_len(bytes.len(), cuts, grown.index);
+    tell(alloc, grown.index, beginning, grown.result)
 }
