@@ -5,8 +5,10 @@
 //! is 3; after a write that failed nothing more is written.
 #![tactic(auto)]
 
-ghost use Rattle.std.specs.Prelude.{◌≡◌};
+ghost use Rattle.std.specs.Prelude.{◌≡◌, map, IfOk, IfErr, string_bytes};
 ghost use Rattle.nom_records.specs.Lines.{fault_text};
+ghost use Rattle.nom_records.specs.Words.{Asks, IsWrong};
+ghost use Rattle.nom_records_run.specs.Stream.{MatchRunError};
 
 use nom_records_run::counted::Counted;
 use nom_records_run::error::RunError;
@@ -46,17 +48,30 @@ fn read_words(rt: &(impl Env + Alloc<A = Global>)) -> Result<Vec<String>, RunErr
     }
 }
 
-// What the words ask for. `Usage` where they name no file, or their cuts are wrong.
-fn read_task(alloc: Global, words: &[String]) -> Result<Task, RunError> {
-    let [_, file, cuts @ ..] = words else {
-        return Err(RunError::Usage);
-    };
+// The texts of words.
+fn texts_of(alloc: Global, words: &[String]) -> Result<Vec<&str>, RunError>
+    ensures texts { IfOk result (λ v. map (λ w. w.now) v.items ≡ map string_bytes words.now) }
+    ensures error { IfErr result (λ e. e ≡ RunError.OutOfMemory) }
+{
     let mut texts = Vec::new(alloc);
-    for cut in cuts {
-        texts.push(cut.as_str()).map_err(refused)?;
+    for word in words {
+        texts.push(word.as_str()).map_err(refused)?;
     }
+    Ok(texts)
+}
+
+// What the words ask for, the first of which is the program's name. `Usage` where they name no file,
+// or their cuts are wrong.
+fn read_task(alloc: Global, words: &[String]) -> Result<Task, RunError>
+    ensures task { IfOk result (λ t. Asks (map string_bytes words.now) (string_bytes t.file) t.cuts.items) }
+    ensures error { IfErr result (λ e. MatchRunError e ⊥ ⊥ (Unit {0}) (IsWrong (map string_bytes words.now))) }
+{
+    if words.len() < 2 {
+        return Err(RunError::Usage);
+    }
+    let texts = texts_of(alloc, &words[2..])?;
     let cuts = read_cuts(alloc, &texts)?;
-    let file = file.clone().map_err(refused)?;
+    let file = words[1].clone().map_err(refused)?;
     Ok(Task { file, cuts })
 }
 
