@@ -10,7 +10,9 @@ mod tests;
 
 pub use nom_error::answer::{Err, IResult, Needed, OutOfMemory, PResult};
 pub use nom_error::finish::{Finish, FinishError};
-pub use nom_error::mode::{Check, Complete, Emit, IsStreaming, Mode, OutputM, OutputMode, Streaming};
+pub use nom_error::mode::{
+    Check, Complete, Emit, IsStreaming, Mode, OutputM, OutputMode, Streaming,
+};
 pub use nom_internal::growing::{Grown, parse_growing};
 pub use nom_internal::parser::{Parser, StreamParser};
 pub use nom_internal::sequence::And;

@@ -47,7 +47,7 @@ module _ {V O : Type 0} (records : V → List (List ℕ)) (IsOutput : V → O �
   says (Accept n v) answer text status p t =
       let told = subst (λ a. IsTold given index start a text status) p.4 t in
       let parts : decided_text index ++ records_text (given p.1) ++ rest_text (length (p.0).now) ≡ decided_text index ++ records_text (records v) ++ rest_text (length whole.now - n) =
-          ap (λ rs. decided_text index ++ records_text rs ++ rest_text (length (p.0).now)) (same v p.1 p.3) ∙ ap (λ k. decided_text index ++ records_text (records v) ++ rest_text k) (rest_len whole p.0 n p.2) in
+      ap (λ rs. decided_text index ++ records_text rs ++ rest_text (length (p.0).now)) (same v p.1 p.3) ∙ ap (λ k. decided_text index ++ records_text (records v) ++ rest_text k) (rest_len whole p.0 n p.2) in
       (told.0 ∙ parts, told.1)
   says Refuse answer text status p t =
       let told = subst (λ a. IsTold given index start a text status) p.2 t in

@@ -13,8 +13,9 @@ abbrev pub hex_of : List ℕ → List ℕ
 hex_of [] = []
 hex_of (byte ∷ bytes) = hex_digit (byte / 16) ∷ hex_digit (byte % 16) ∷ hex_of bytes
 
+-- `index` is that of the cut at which the answer was decided
 abbrev pub decided_text : ℕ → List ℕ
-decided_text count = codes "decided at " ++ decimal count ++ codes "\n"
+decided_text index = codes "decided at " ++ decimal index ++ codes "\n"
 
 -- the digits of a record, after a space; an empty one has neither
 abbrev pub digits_text : List ℕ → List ℕ

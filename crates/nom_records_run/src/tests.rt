@@ -6,69 +6,91 @@ use crate::text::{add_decided, add_error, add_failure, add_hex, add_need, add_re
 use crate::words::read_cuts;
 use nom_error::answer::Needed;
 use nom_error::kind::ErrorKind;
+use std::alloc::Global;
+use std::process::Abort;
 use std::test::Fail;
 
-#[test]
-fn reports_on_memory(rt: HostRuntime) -> Result<(), Fail> {
-    let mut source = Counted::new(b"abc".as_slice());
+// The status and the text for bytes in memory.
+fn told(
+    rt: &(impl Abort + Alloc<A = Global>),
+    bytes: &[u8],
+    cuts: &[usize],
+    status: u8,
+    text: &str,
+) {
+    let mut source = Counted::new(bytes);
     let mut sink = Counted::new(Vec::new(rt.alloc()));
-    let status = run(rt.alloc(), &mut source, &[0, 3], &mut sink);
-    assert_eq!(rt; status, Ok(0));
-    assert_eq!(rt; sink.inner.as_slice(), b"rest 3\n".as_slice());
-    Ok(())
+    assert_eq!(rt; run(rt.alloc(), &mut source, cuts, &mut sink), Ok(status));
+    assert_eq!(rt; sink.inner.as_slice(), text.as_bytes());
 }
 
 #[test]
-fn reads_more_than_fits_one_call(rt: HostRuntime) -> Result<(), Fail> {
-    let bytes = [7u8; 1000];
-    let mut source = Counted::new(bytes.as_slice());
-    let mut sink = Counted::new(Vec::new(rt.alloc()));
-    let status = run(rt.alloc(), &mut source, &[1000], &mut sink);
-    assert_eq!(rt; status, Ok(0));
-    assert_eq!(rt; sink.inner.as_slice(), b"rest 1000\n".as_slice());
-    Ok(())
+fn reports(rt: HostRuntime) {
+    told(
+        &rt,
+        b"Rabcd",
+        &[2],
+        0,
+        "decided at 1\nrecord 4 61626364\nrest 0\n",
+    );
+    told(
+        &rt,
+        b"Rabcdxy",
+        &[],
+        0,
+        "decided at 0\nrecord 4 61626364\nrest 2\n",
+    );
+    told(&rt, b"Ra", &[0, 1], 2, "need 3\n");
+    told(&rt, b"", &[], 2, "need 1\n");
+    told(&rt, b"Xabcd", &[1], 1, "error Tag at 0\n");
 }
 
 #[test]
-fn refuses_cuts(rt: HostRuntime) -> Result<(), Fail> {
-    let mut source = Counted::new(b"abc".as_slice());
+fn reads_more_than_fits_one_call(rt: HostRuntime) {
+    let mut bytes = [7u8; 1000];
+    bytes[0] = b'R';
+    let text = "decided at 1\nrecord 4 07070707\nrest 995\n";
+    told(&rt, bytes.as_slice(), &[0, 1000], 0, text);
+}
+
+#[test]
+fn refuses_cuts(rt: HostRuntime) {
+    let mut source = Counted::new(b"Rabcd".as_slice());
     let mut sink = Counted::new(Vec::new(rt.alloc()));
     assert_eq!(rt;
         run(rt.alloc(), &mut source, &[2, 1], &mut sink),
         Err(RunError::Usage)
     );
-    assert_eq!(rt; source.inner.len(), 3);
+    assert_eq!(rt; source.inner.len(), 5);
     assert_eq!(rt;
-        run(rt.alloc(), &mut source, &[0, 4], &mut sink),
+        run(rt.alloc(), &mut source, &[0, 6], &mut sink),
         Err(RunError::Usage)
     );
     assert_eq!(rt; source.inner.len(), 0);
     assert_eq!(rt; sink.inner.len(), 0);
-    Ok(())
 }
 
 #[test]
-fn stops_at_each_write(rt: HostRuntime) -> Result<(), Fail> {
-    let text = b"rest 3\n";
+fn stops_at_each_write(rt: HostRuntime) {
+    let text = b"need 1\n";
     for calls in 0..7 {
-        let mut source = Counted::new(b"abc".as_slice());
+        let mut source = Counted::new(b"".as_slice());
         let mut sink = Counted::new(Fails {
             inner: Vec::new(rt.alloc()),
             calls,
         });
-        let status = run(rt.alloc(), &mut source, &[0, 3], &mut sink);
+        let status = run(rt.alloc(), &mut source, &[0], &mut sink);
         assert_eq!(rt; status, Err(RunError::Write));
         assert_eq!(rt; sink.failed, 1);
         assert_eq!(rt; sink.inner.inner.as_slice(), &text[..calls as usize]);
     }
-    Ok(())
 }
 
 #[test]
-fn stops_at_each_read(rt: HostRuntime) -> Result<(), Fail> {
+fn stops_at_each_read(rt: HostRuntime) {
     for calls in 0..4 {
         let mut source = Counted::new(Fails {
-            inner: b"abc".as_slice(),
+            inner: b"Rab".as_slice(),
             calls,
         });
         let mut sink = Counted::new(Vec::new(rt.alloc()));
@@ -78,32 +100,30 @@ fn stops_at_each_read(rt: HostRuntime) -> Result<(), Fail> {
         assert_eq!(rt; source.inner.inner.len() as u64, 3 - calls);
         assert_eq!(rt; sink.inner.len(), 0);
     }
-    Ok(())
 }
 
 #[test]
-fn stops_where_no_byte_is_taken(rt: HostRuntime) -> Result<(), Fail> {
-    let mut source = Counted::new(b"abc".as_slice());
+fn stops_where_no_byte_is_taken(rt: HostRuntime) {
+    let mut source = Counted::new(b"".as_slice());
     let mut room = [0u8; 4];
     let mut sink = Counted::new(room.as_mut_slice());
     let status = run(rt.alloc(), &mut source, &[], &mut sink);
     assert_eq!(rt; status, Err(RunError::Write));
     assert_eq!(rt; sink.stalled, 1);
     assert_eq!(rt; sink.failed, 0);
-    assert_eq!(rt; room.as_slice(), b"rest".as_slice());
-    Ok(())
+    assert_eq!(rt; room.as_slice(), b"need".as_slice());
 }
 
 // Holds whichever allocation is refused.
 #[test]
-fn tells_want_of_memory(rt: HostRuntime) -> Result<(), Fail> {
-    let mut source = Counted::new(b"abc".as_slice());
+fn tells_want_of_memory(rt: HostRuntime) {
+    let mut source = Counted::new(b"Rabc".as_slice());
     let mut room = [0u8; 7];
     let mut sink = Counted::new(room.as_mut_slice());
     match run(rt.alloc(), &mut source, &[3], &mut sink) {
         Ok(status) => {
-            assert_eq!(rt; status, 0);
-            assert_eq!(rt; room.as_slice(), b"rest 3\n".as_slice());
+            assert_eq!(rt; status, 2);
+            assert_eq!(rt; room.as_slice(), b"need 1\n".as_slice());
         }
         Err(error) => {
             assert_eq!(rt; error, RunError::OutOfMemory);
@@ -114,7 +134,6 @@ fn tells_want_of_memory(rt: HostRuntime) -> Result<(), Fail> {
         Ok(cuts) => assert_eq!(rt; cuts.as_slice(), [1, 2].as_slice()),
         Err(error) => assert_eq!(rt; error, RunError::OutOfMemory),
     }
-    Ok(())
 }
 
 #[test]

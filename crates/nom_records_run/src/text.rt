@@ -10,14 +10,15 @@ use nom_error::kind::ErrorKind;
 use std::alloc::Allocator;
 use std::fmt::Write;
 
-/// Adds `decided at` and how many bytes had come when the answer was decided.
+/// Adds `decided at` and the index of the cut at which the answer was decided; the number of cuts
+/// stands for the whole.
 pub fn add_decided<A: Allocator + Copy>(
     text: &mut String<A>,
-    count: usize,
+    index: usize,
 ) -> Result<(), OutOfMemory>
-    ensures { IfOk result (λ _. string_bytes text.new ≡ string_bytes text.old ++ decided_text count) }
+    ensures { IfOk result (λ _. string_bytes text.new ≡ string_bytes text.old ++ decided_text index) }
 {
-    match write!(text, "decided at {count}\n") {
+    match write!(text, "decided at {index}\n") {
         Ok(()) => Ok(()),
         Err(_) => Err(OutOfMemory),
     }

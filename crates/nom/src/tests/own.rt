@@ -150,13 +150,25 @@ fn a_record_of_packets(rt: HostRuntime) {
     }
     match record.parse_complete(Packet { bytes: b"abc" }) {
         Err(Err::Error(error)) => {
-            assert!(rt; error == Refusal { left: 1, kind: ErrorKind::Eof });
+            assert!(rt;
+                error
+                    == Refusal {
+                        left: 1,
+                        kind: ErrorKind::Eof
+                    }
+            );
         }
         _ => panic!(rt; "no refusal"),
     }
     match record.parse(Packet { bytes: b"axcd" }) {
         Err(Err::Error(error)) => {
-            assert!(rt; error == Refusal { left: 4, kind: ErrorKind::Tag });
+            assert!(rt;
+                error
+                    == Refusal {
+                        left: 4,
+                        kind: ErrorKind::Tag
+                    }
+            );
         }
         _ => panic!(rt; "no refusal"),
     }
