@@ -70,10 +70,10 @@ fn next_branch<I: Items, P: Parser<I>, OM: OutputMode>(
     ensures kept { P.state next.new ≡ P.state next.old }
 {
     match before {
-        Ok(accepted) => Ok(accepted),
-        Err(Err::Incomplete(needed)) => Err(Err::Incomplete(needed)),
+        Ok(taken) => Ok(taken),
+        Err(Err::Incomplete(more)) => Err(Err::Incomplete(more)),
         Err(Err::Error(error)) => after_refusal::<I, P, OM>(error, next, input),
-        Err(Err::Failure(error)) => Err(Err::Failure(error)),
+        Err(Err::Failure(failure)) => Err(Err::Failure(failure)),
         Err(Err::OutOfMemory) => Err(Err::OutOfMemory),
     }
 }
@@ -99,13 +99,13 @@ fn close_error<I: Drop, E: ParseError<I>>(
 /// A result, where a refusal's error is closed at an input.
 #[inline(always)]
 fn close<I: Drop, T, E: ParseError<I>>(
-    before: Result<T, Err<E, Option<E>>>,
+    answer: Result<T, Err<E, Option<E>>>,
     input: I,
     kind: ErrorKind,
 ) -> Result<T, Err<E, Option<E>>>
-    ensures { ClosesResult (E.append_gives input kind) E.grows before result }
+    ensures { ClosesResult (E.append_gives input kind) E.grows answer result }
 {
-    match before {
+    match answer {
         Ok(accepted) => Ok(accepted),
         Err(Err::Incomplete(needed)) => Err(Err::Incomplete(needed)),
         Err(Err::Error(error)) => Err(close_error(error, input, kind)),
