@@ -5,6 +5,7 @@ use nom_error::answer::{Err, Needed, OutOfMemory};
 use nom_error::kind::ErrorKind;
 use nom_error::mode::{Check, Complete, Emit, OutputM, Streaming};
 use nom_error::value::{Error, ParseError};
+use nom_internal::growing::parse_growing;
 use nom_internal::parser::Parser;
 
 type At<'a> = Error<&'a [u8]>;
@@ -92,6 +93,16 @@ fn a_branch_that_waits_is_the_choice(rt: HostRuntime) {
     assert!(rt; need(words.parse(input)) == Some(Needed::new(1)));
     let (rest, word) = acceptance(words.parse_complete(input)).expect(&rt, "refused");
     assert!(rt; rest.is_empty());
+    assert!(rt; word == b"ab".as_slice());
+}
+
+#[test]
+fn a_choice_that_grows(rt: HostRuntime) {
+    let words = alt((tag::<_, At>(&b"abc"[..]), tag::<_, At>(&b"ab"[..])));
+    let grown = parse_growing(words, &b"abd"[..], &[2]);
+    assert!(rt; grown.index == 1);
+    let (rest, word) = acceptance(grown.result).expect(&rt, "refused");
+    assert!(rt; rest == b"d".as_slice());
     assert!(rt; word == b"ab".as_slice());
 }
 
