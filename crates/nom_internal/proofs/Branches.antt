@@ -73,9 +73,11 @@ module _ {B S I A V O E : Type 0} (w : Seen I A) (IsOutput : S → V → O → T
   abbrev pub ShowsBefore : List B → ℕ → Result (I × Option O) (Answer.Err E (Option E)) → Type 0
   ShowsBefore os k r = ShowsMeaning w (ListOutput IsOutput (map st os)) (any_meaning Joins Grows part Gives (take k (map st os))) outputs errors s i r
 
+  -- the premises of the branch at k
   pub branch_sound : (bs os : List B) (k : ℕ) (x : B) → map st bs ≡ map st os → k < length bs → (list_meaning Joins Grows part Closes Gives (map st os)).IsSound → (part (st (get_or bs k x))).IsSound
   branch_sound bs os k x e h p = rw (state_at st bs (map st os) k x e) (sound_at Joins Grows part Closes Gives (map st os) k (st x) (omega (arith, ap length e, length-map bs st)) p)
 
+  -- the first branch's result
   pub branch_first : (os : List B) (x : B) (r : Result (I × Option O) (Answer.Err E (Option E))) → 0 < length os → ShowsMeaning w (IsOutput (st (get_or os 0 x))) (part (st (get_or os 0 x))) outputs errors s i r → ShowsBefore os 1 r
   branch_first [] x r h t = absurd (omega (arith, h))
   branch_first (o ∷ os) x r h t = labelled_shown w (λ t. (0, t)) (IsOutput (st o)) (ListOutput IsOutput (map st (o ∷ os))) (λ t o' k. (st o, refl, k)) outputs errors i ((part (st o)).answers s) ((part (st o)).blames s i) ((part (st o)).runs_out outputs errors s i) r t
@@ -89,9 +91,11 @@ module _ {B S I A V O E : Type 0} (w : Seen I A) (IsOutput : S → V → O → T
       let next = on_error_map (ShowsNext w (IsOutput z) Joins Grows (part z) outputs errors s i) (ShowsNext w out Joins Grows (labelled_meaning label (part z)) outputs errors s i) before r (λ x u. next_labelled w label (IsOutput z) out (λ t o u. (z, stands_at ss k d h, u)) Joins Grows (part z) outputs errors s i x r u) q in
       subst (λ n. ShowsMeaning w out n outputs errors s i r) (sym (any_more Joins Grows part Gives ss k d p h)) (or_shown w out Joins Grows m (labelled_meaning label (part z)) outputs errors s i before r t next)
 
+  -- one branch more
   pub branch_step : (bs os : List B) (k : ℕ) (x : B) (before r : Result (I × Option O) (Answer.Err E (Option E))) → map st bs ≡ map st os → 0 < k → k < length bs → ShowsBefore os k before → OnError (ShowsNext w (IsOutput (st (get_or bs k x))) Joins Grows (part (st (get_or bs k x))) outputs errors s i) before r → ShowsBefore os (k + 1) r
   branch_step bs os k x before r e p h t q = state_step (map st os) k (st x) before r p (omega (arith, ap length e, length-map bs st)) t (subst (λ z. OnError (ShowsNext w (IsOutput z) Joins Grows (part z) outputs errors s i) before r) (state_at st bs (map st os) k x e) q)
 
+  -- all branches, closed
   pub branch_close : (os : List B) (k : ℕ) (before r : Result (I × Option O) (Answer.Err E (Option E))) → 0 < length os → k ≡ length os → ShowsBefore os k before → ClosesResult (Closes i) Grows before r → ShowsMeaning w (ListOutput IsOutput (map st os)) (list_meaning Joins Grows part Closes Gives (map st os)) outputs errors s i r
   branch_close [] k before r h n t q = absurd (omega (arith, h))
   branch_close (o ∷ os) k before r h n t q =
@@ -99,10 +103,11 @@ module _ {B S I A V O E : Type 0} (w : Seen I A) (IsOutput : S → V → O → T
       let whole = take_whole ss k (n ∙ sym (length-map (o ∷ os) st)) in
       closed_shown w (ListOutput IsOutput ss) outputs errors s i (any_meaning Joins Grows part Gives ss) Closes Grows before r (subst (λ l. ShowsMeaning w (ListOutput IsOutput ss) (any_meaning Joins Grows part Gives l) outputs errors s i before) whole t) q
 
+  -- no branch at all
   pub branch_none : (os : List B) (f : Answer.Err E (Option E)) → length os ≡ 0 → Refuses (Gives i) Grows errors f → ShowsMeaning w (ListOutput IsOutput (map st os)) (list_meaning Joins Grows part Closes Gives (map st os)) outputs errors s i (Err f)
   branch_none [] f h m = refusal_shown w (ListOutput IsOutput []) outputs errors i (λ o. o ≡ Refuse) (Gives i) (Gives i) Grows ((errors ≡ true) × Grows) f (Err f) refl (λ e g. g) (λ e g. (e, g)) m refl
   branch_none (o ∷ os) f h m = absurd (omega (arith, h))
 
--- a branch after a call
+-- a call of a branch keeps the states of all
 pub branch_kept : {B S : Type 0} (st : B → S) (bs os : List B) (k : ℕ) (x y : B) → map st bs ≡ map st os → st y ≡ st (get_or bs k x) → map st (set bs k y) ≡ map st os
 branch_kept st bs os k x y e h = map-set_same st bs k y x h ∙ e

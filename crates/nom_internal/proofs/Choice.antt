@@ -22,17 +22,21 @@ module _ {E : Type 0} (Grows : Type 0) where
   refuses_more P Q errors f g (inl h) = inl h
   refuses_more P Q errors f g (inr h) = inr (h.0, built_error errors P Q h.0 g h.1, h.2)
 
+  -- where errors aren't built, a refusal holds none
   none_refused : (P : E → Type 0) (f : Answer.Err E (Option E)) → f ≡ Error None → Refuses P Grows false f
   none_refused P f h = inr (None, refl, h)
 
+  -- the error of a refusal, closed
   pub closes_built : (C : E → E → Type 0) (P : E → Type 0) (errors : Bool) (x : Option E) (f : Answer.Err E (Option E)) → Built errors P x → ClosesError C Grows x f → Refuses (λ e. (a : E) × P a × C a e) Grows errors f
   closes_built C P true x f b h = refuses_more (C b.0) (λ e. (a : E) × P a × C a e) true f (λ e g. (b.0, b.2, g)) (subst (λ y. ClosesError C Grows y f) b.1 h)
   closes_built C P false x f b h = none_refused (λ e. (a : E) × P a × C a e) f (subst (λ y. ClosesError C Grows y f) b h)
 
+  -- the errors of two refusals, joined
   pub joins_built : (J : E → E → E → Type 0) (P Q : E → Type 0) (errors : Bool) (x y : Option E) (f : Answer.Err E (Option E)) → Built errors P x → Built errors Q y → JoinsErrors J Grows x y f → Refuses (Joined J P Q) Grows errors f
   joins_built J P Q true x y f b c h = refuses_more (J b.0 c.0) (Joined J P Q) true f (λ e g. record { first = b.0; second = c.0; first_is = b.2; second_is = c.2; joined = g }) (subst (λ z. JoinsErrors J Grows (Some b.0) z f) c.1 (subst (λ z. JoinsErrors J Grows z y f) b.1 h))
   joins_built J P Q false x y f b c h = none_refused (Joined J P Q) f (subst (λ z. JoinsErrors J Grows z y f) b h)
 
+  -- two errors that were joined, and one that was closed
   pub joins_made : (J : E → E → E → Type 0) (x y : Option E) (a b e : E) → x ≡ Some a → y ≡ Some b → J a b e → JoinsErrors J Grows x y (Error (Some e))
   joins_made J x y a b e h k g = rw (h, k) (inr (Some e, (e, refl, g), refl))
 
@@ -44,15 +48,17 @@ pub built_fact : {T : Type 0} (b : Bool) (P : T → Type 0) (x : Option T) (v : 
 built_fact true P x v h e = let same : h.0 ≡ v = cc (h.1, e) in subst P same h.2
 built_fact false P x v h e = cc
 
+-- a further fact of an error that is built, and of which error it is
 pub built_map : {T : Type 0} (b : Bool) (P Q : T → Type 0) (x : Option T) → ((v : T) → x ≡ Some v → P v → Q v) → Built b P x → Built b Q x
 built_map true P Q x f h = (h.0, h.1, f h.0 h.1 h.2)
 built_map false P Q x f h = h
 
--- what is said of an error
+-- where the result before is a refusal, what is said of its error
 pub on_error : {T E : Type 0} (Q : Option E → Result T (Answer.Err E (Option E)) → Type 0) (before : Result T (Answer.Err E (Option E))) (x : Option E) (r : Result T (Answer.Err E (Option E))) → before ≡ Err (Error x) → Q x r → OnError Q before r
 on_error Q before x r h k = rw h k
 
 module _ {T E : Type 0} (Q R : Option E → Result T (Answer.Err E (Option E)) → Type 0) where
+  -- what is said of a refusal's error, where it implies more
   pub on_error_map : (before r : Result T (Answer.Err E (Option E))) → ((x : Option E) → Q x r → R x r) → OnError Q before r → OnError R before r
   on_error_map (Ok x) r f h = h
   on_error_map (Err (Incomplete k)) r f h = h
@@ -61,6 +67,7 @@ module _ {T E : Type 0} (Q R : Option E → Result T (Answer.Err E (Option E)) �
   on_error_map (Err OutOfMemory) r f h = h
 
 module _ {I A V O E : Type 0} (w : Seen I A) (IsOutput : V → O → Type 0) (outputs errors : Bool) (i : I) where
+  -- what is shown, of an error of which more is known
   pub shows_map : (P Q : E → Type 0) (o : Outcome V) (r : Result (I × Option O) (Answer.Err E (Option E))) → ((e : E) → P e → Q e) → Shows w IsOutput outputs errors i P o r → Shows w IsOutput outputs errors i Q o r
   shows_map P Q (Accept n v) r f h = h
   shows_map P Q Refuse r f h = (h.0, built_map errors P Q h.0 (λ e _ p. f e p) h.1, h.2)
@@ -98,7 +105,7 @@ module _ {I A V O E : Type 0} (w : Seen I A) (IsOutput : V → O → Type 0) (ou
   closed_shown Closes Grows before r (Shown TooLarge a h) g = Shown TooLarge a (h.0, ClosedFails (record { outcome = TooLarge; answered = a; kind_is = tt; fact = h.1 }), rw h.2 at g)
   closed_shown Closes Grows before r (Shown (Undecided k) a h) g = Shown (Undecided k) a (h.0, h.1, rw h.2 at g)
 
--- labels
+-- a part's failure and its refusal, labelled
 failure_labelled : {I P T : Type 0} (label : P → T) (F : I → Outcome P → Type 0) (Fact : Type 0) (i : I) → OnOutcome IsFailure F Fact i → OnOutcome IsFailure (Labelled label F) Fact i
 failure_labelled {P = P} label F Fact i f = record { outcome = labelled label f.outcome; answered = record { outcome = f.outcome; answered = f.answered; is = refl }; kind_is = still f.outcome f.kind_is; fact = f.fact }
   where
@@ -120,12 +127,13 @@ module _ {I A P T O : Type 0} (w : Seen I A) (label : P → T) (IsOutput : P →
   shows_labelled IsError TooLarge r h = h
   shows_labelled IsError (Undecided k) r h = h
 
+  -- a part, with its trees labelled
   pub labelled_shown : {E : Type 0} (F : I → Outcome P → Type 0) (IsError : E → Type 0) (RunsOut : Type 0) (r : Result (I × Option O) (Answer.Err E (Option E))) → ShowsAnswer w IsOutput outputs errors i (F i) IsError RunsOut r → ShowsAnswer w IsLabelled outputs errors i (Labelled label F i) IsError RunsOut r
   labelled_shown F IsError RunsOut r (RanOut e h) = RanOut e h
   labelled_shown F IsError RunsOut r (Shown o a h) = Shown (labelled label o) (record { outcome = o; answered = a; is = refl }) (shows_labelled IsError o r h)
 
 module _ {I A V O E : Type 0} (w : Seen I A) (IsOutput : V → O → Type 0) (outputs errors : Bool) (i : I) where
-  -- what is shown, of an answer, an error and a lack of memory that are more
+  -- what is shown, where the answers, the errors and the want of memory are more
   pub shown_map : (F G : Outcome V → Type 0) (P Q : E → Type 0) (R S : Type 0) (r : Result (I × Option O) (Answer.Err E (Option E))) → ((o : Outcome V) → F o → G o) → ((e : E) → P e → Q e) → (R → S) → ShowsAnswer w IsOutput outputs errors i F P R r → ShowsAnswer w IsOutput outputs errors i G Q S r
   shown_map F G P Q R S r f g k (RanOut e h) = RanOut e (k h)
   shown_map F G P Q R S r f g k (Shown o a h) = Shown o (f o a) (shows_map w IsOutput outputs errors i P Q o r g h)
@@ -139,6 +147,7 @@ module _ {I A V T O E : Type 0} (w : Seen I A) (label : V → T) (IsOutput : V �
   next_runs_out_labelled (inl h) = inl h
   next_runs_out_labelled (inr h) = inr (refusal_labelled label (m.answers s) i h.0, h.1, h.2)
 
+  -- a branch after a refusal, with its trees labelled
   pub next_labelled : (x : Option E) (r : Result (I × Option O) (Answer.Err E (Option E))) → ShowsNext w IsOutput Joins Grows m outputs errors s i x r → ShowsNext w IsLabelled Joins Grows (labelled_meaning label m) outputs errors s i x r
   next_labelled x r h b = shown_map w IsLabelled outputs errors i (Labelled label (m.answers s) i) (Labelled label (m.answers s) i) (NextBlames Joins m s i (λ a. x ≡ Some a)) (NextBlames Joins (labelled_meaning label m) s i (λ a. x ≡ Some a)) (NextRunsOut Grows m outputs errors s i) (NextRunsOut Grows (labelled_meaning label m) outputs errors s i) r (λ o a. a) (λ e n. next_blames_labelled (λ a. x ≡ Some a) e n) next_runs_out_labelled
       (labelled_shown w label IsOutput IsLabelled same outputs errors i (m.answers s) (NextBlames Joins m s i (λ a. x ≡ Some a)) (NextRunsOut Grows m outputs errors s i) r (h b))
@@ -149,6 +158,7 @@ module _ {I A V O E : Type 0} (w : Seen I A) (IsOutput : V → O → Type 0) (Jo
   next_blames_first x e h (NextFails f) = NextFails f
   next_blames_first x e h (NextRefuses r j) = NextRefuses r (record { first = j.first; second = j.second; first_is = built_fact errors (a.blames s i) x j.first h j.first_is; second_is = j.second_is; joined = j.joined })
 
+  -- a first part's result, and what becomes of its refusal
   pub or_shown : (before r : Result (I × Option O) (Answer.Err E (Option E))) → ShowsMeaning w IsOutput a outputs errors s i before → OnError (ShowsNext w IsOutput Joins Grows b outputs errors s i) before r → ShowsMeaning w IsOutput (or_meaning Joins Grows a b) outputs errors s i r
   or_shown before r (RanOut e h) g = RanOut (rw e at g) (inl h)
   or_shown before r (Shown (Accept n v) c h) g = Shown (Accept n v) (record { first = Accept n v; answered = c; goes_on = refl }) (h.0, h.1, h.2, h.3, rw h.4 at g)
