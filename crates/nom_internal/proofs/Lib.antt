@@ -1,2 +1,4 @@
+pub mod Branches
+pub mod Choice
 pub mod Grown
 pub mod Shown

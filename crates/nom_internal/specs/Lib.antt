@@ -1,8 +1,11 @@
 pub mod ByteCuts
+pub mod Choice
+pub mod ChoiceLaws
 pub mod Growing
 pub mod Leaf
 pub mod Meaning
 pub mod Outcome
+pub mod PartLaws
 pub mod Promises
 pub mod Results
 pub mod Sequence

@@ -1,0 +1,181 @@
+-- How choices show their answers.
+use Rattle.std.specs.Prelude.{◌≡◌, Bool, true, false, Result, Ok, Err, Option, Some, None, refl}
+use Rattle.std.proofs.Common.{inl, inr, ◌∙◌, ap, subst}
+use Rattle.nom_error.specs.declared.answer.Needed.{Needed}
+use Rattle.nom_error.specs.declared.answer.Err as Answer
+use Rattle.nom_error.specs.declared.answer.Err.TheVariants.{Incomplete, Error, Failure, OutOfMemory}
+use Rattle.nom_error.specs.Answers.{Refuses}
+use Rattle.nom_error.specs.Modes.{Built}
+use Rattle.nom_traits.specs.Input.{Seen}
+use Rattle.nom_internal.specs.Outcome.{Outcome, Shows, ShowsAnswer, IsFailure, OnOutcome}
+use Rattle.nom_internal.specs.Outcome.Outcome.{Accept, Refuse, Fail, TooLarge, Undecided}
+use Rattle.nom_internal.specs.Outcome.ShowsAnswer.{RanOut, Shown}
+use Rattle.nom_internal.specs.Meaning.{Meaning, ShowsMeaning}
+use Rattle.nom_internal.specs.Choice.{labelled, Labelled, labelled_meaning, Joined, NextBlames, NextRunsOut, or_meaning, either_meaning, closed_meaning, EitherOutput, OnError, JoinsErrors, ClosesError, JoinsResult, ClosesResult, ShowsNext}
+use Rattle.nom_internal.specs.Choice.NextBlames.{NextFails, NextRefuses}
+use Rattle.nom_internal.specs.Choice.OrBlames.{FirstFails, FirstRefuses}
+use Rattle.nom_internal.specs.Choice.CloseBlames.{ClosedFails, ClosedRefuses}
+use Rattle.nom_internal.proofs.Shown.{built_error}
+
+module _ {E : Type 0} (Grows : Type 0) where
+  -- a refusal whose error comes of one that is built
+  refuses_more : (P Q : E → Type 0) (errors : Bool) (f : Answer.Err E (Option E) Needed) → ((e : E) → P e → Q e) → Refuses P Grows errors f → Refuses Q Grows errors f
+  refuses_more P Q errors f g (inl h) = inl h
+  refuses_more P Q errors f g (inr h) = inr (h.0, built_error errors P Q h.0 g h.1, h.2)
+
+  -- where errors aren't built, a refusal holds none
+  none_refused : (P : E → Type 0) (f : Answer.Err E (Option E) Needed) → f ≡ Error None → Refuses P Grows false f
+  none_refused P f h = inr (None, refl, h)
+
+  -- the error of a refusal, closed
+  pub closes_built : (C : E → E → Type 0) (P : E → Type 0) (errors : Bool) (x : Option E) (f : Answer.Err E (Option E) Needed) → Built errors P x → ClosesError C Grows x f → Refuses (λ e. (a : E) × P a × C a e) Grows errors f
+  closes_built C P true x f b h = refuses_more (C b.0) (λ e. (a : E) × P a × C a e) true f (λ e g. (b.0, b.2, g)) (subst (λ y. ClosesError C Grows y f) b.1 h)
+  closes_built C P false x f b h = none_refused (λ e. (a : E) × P a × C a e) f (subst (λ y. ClosesError C Grows y f) b h)
+
+  -- the errors of two refusals, joined
+  pub joins_built : (J : E → E → E → Type 0) (P Q : E → Type 0) (errors : Bool) (x y : Option E) (f : Answer.Err E (Option E) Needed) → Built errors P x → Built errors Q y → JoinsErrors J Grows x y f → Refuses (Joined J P Q) Grows errors f
+  joins_built J P Q true x y f b c h = refuses_more (J b.0 c.0) (Joined J P Q) true f (λ e g. record { first = b.0; second = c.0; first_is = b.2; second_is = c.2; joined = g }) (subst (λ z. JoinsErrors J Grows (Some b.0) z f) c.1 (subst (λ z. JoinsErrors J Grows z y f) b.1 h))
+  joins_built J P Q false x y f b c h = none_refused (Joined J P Q) f (subst (λ z. JoinsErrors J Grows z y f) b h)
+
+  -- two errors that were joined, and one that was closed
+  pub joins_made : (J : E → E → E → Type 0) (x y : Option E) (a b e : E) → x ≡ Some a → y ≡ Some b → J a b e → JoinsErrors J Grows x y (Error (Some e))
+  joins_made J x y a b e h k g = rw (h, k) (inr (Some e, (e, refl, g), refl))
+
+  pub closes_made : (C : E → E → Type 0) (x : Option E) (a e : E) → x ≡ Some a → C a e → ClosesError C Grows x (Error (Some e))
+  closes_made C x a e h g = rw h (inr (Some e, (e, refl, g), refl))
+
+-- the fact of an error that is built
+pub built_fact : {T : Type 0} (b : Bool) (P : T → Type 0) (x : Option T) (v : T) → Built b P x → x ≡ Some v → P v
+built_fact true P x v h e = let same : h.0 ≡ v = cc (h.1, e) in subst P same h.2
+built_fact false P x v h e = cc
+
+-- a further fact of an error that is built, and of which error it is
+pub built_map : {T : Type 0} (b : Bool) (P Q : T → Type 0) (x : Option T) → ((v : T) → x ≡ Some v → P v → Q v) → Built b P x → Built b Q x
+built_map true P Q x f h = (h.0, h.1, f h.0 h.1 h.2)
+built_map false P Q x f h = h
+
+-- where the result before is a refusal, what is said of its error
+pub on_error : {T E : Type 0} (Q : Option E → Result T (Answer.Err E (Option E) Needed) → Type 0) (before : Result T (Answer.Err E (Option E) Needed)) (x : Option E) (r : Result T (Answer.Err E (Option E) Needed)) → before ≡ Err (Error x) → Q x r → OnError Q before r
+on_error Q before x r h k = rw h k
+
+module _ {T E : Type 0} (Q R : Option E → Result T (Answer.Err E (Option E) Needed) → Type 0) where
+  -- what is said of a refusal's error, where it implies more
+  pub on_error_map : (before r : Result T (Answer.Err E (Option E) Needed)) → ((x : Option E) → Q x r → R x r) → OnError Q before r → OnError R before r
+  on_error_map (Ok x) r f h = h
+  on_error_map (Err (Incomplete k)) r f h = h
+  on_error_map (Err (Error x)) r f h = f x h
+  on_error_map (Err (Failure e)) r f h = h
+  on_error_map (Err OutOfMemory) r f h = h
+
+module _ {I A V O E : Type 0} (w : Seen I A) (IsOutput : V → O → Type 0) (outputs errors : Bool) (i : I) where
+  -- what is shown, of an error of which more is known
+  pub shows_map : (P Q : E → Type 0) (o : Outcome V) (r : Result (I × Option O) (Answer.Err E (Option E) Needed)) → ((e : E) → P e → Q e) → Shows w IsOutput outputs errors i P o r → Shows w IsOutput outputs errors i Q o r
+  shows_map P Q (Accept n v) r f h = h
+  shows_map P Q Refuse r f h = (h.0, built_map errors P Q h.0 (λ e _ p. f e p) h.1, h.2)
+  shows_map P Q Fail r f h = (h.0, f h.0 h.1, h.2)
+  shows_map P Q TooLarge r f h = (h.0, f h.0 h.1, h.2)
+  shows_map P Q (Undecided k) r f h = h
+
+  -- a refusal, with an error that is made
+  pub refusal_shown : (Answers : Outcome V → Type 0) (Gives IsError : E → Type 0) (Grows RunsOut : Type 0) (f : Answer.Err E (Option E) Needed) (r : Result (I × Option O) (Answer.Err E (Option E) Needed)) → Answers Refuse → ((e : E) → Gives e → IsError e) → (errors ≡ true → Grows → RunsOut) → Refuses Gives Grows errors f → r ≡ Err f → ShowsAnswer w IsOutput outputs errors i Answers IsError RunsOut r
+  refusal_shown Answers Gives IsError Grows RunsOut f r a g k (inl h) e = RanOut (e ∙ ap Err h.0) (k h.1 h.2)
+  refusal_shown Answers Gives IsError Grows RunsOut f r a g k (inr h) e = Shown Refuse a (h.0, built_error errors Gives IsError h.0 g h.1, e ∙ ap Err h.2)
+
+module _ {I A V O E : Type 0} (w : Seen I A) (IsOutput : V → O → Type 0) (outputs errors s : Bool) (i : I) (m : Meaning I V E) where
+  -- a branch after a refusal
+  pub next_shown : (Joins : E → E → E → Type 0) (Grows : Type 0) (x : Option E) (before r : Result (I × Option O) (Answer.Err E (Option E) Needed)) → Built errors (λ _. Unit {0}) x → ShowsMeaning w IsOutput m outputs errors s i before → JoinsResult Joins Grows x before r → ShowsAnswer w IsOutput outputs errors i (m.answers s i) (NextBlames Joins m s i (λ a. x ≡ Some a)) (NextRunsOut Grows m outputs errors s i) r
+  next_shown Joins Grows x before r b (RanOut e h) g = RanOut (rw e at g) (inl h)
+  next_shown Joins Grows x before r b (Shown (Accept n v) a h) g = Shown (Accept n v) a (h.0, h.1, h.2, h.3, rw h.4 at g)
+  next_shown Joins Grows x before r b (Shown Refuse a h) g =
+      let made = rw h.2 at g in
+      let first = built_map errors (λ _. Unit {0}) (λ e. x ≡ Some e) x (λ e is _. is) b in
+      refusal_shown w IsOutput outputs errors i (m.answers s i) (Joined Joins (λ e. x ≡ Some e) (m.blames s i)) (NextBlames Joins m s i (λ e. x ≡ Some e)) Grows (NextRunsOut Grows m outputs errors s i) made.0 r a (λ e j. NextRefuses a j) (λ e z. inr (a, e, z)) (joins_built Grows Joins (λ e. x ≡ Some e) (m.blames s i) errors x h.0 made.0 first h.1 made.1) made.2
+  next_shown Joins Grows x before r b (Shown Fail a h) g = Shown Fail a (h.0, NextFails (record { outcome = Fail; answered = a; kind_is = tt; fact = h.1 }), rw h.2 at g)
+  next_shown Joins Grows x before r b (Shown TooLarge a h) g = Shown TooLarge a (h.0, NextFails (record { outcome = TooLarge; answered = a; kind_is = tt; fact = h.1 }), rw h.2 at g)
+  next_shown Joins Grows x before r b (Shown (Undecided k) a h) g = Shown (Undecided k) a (h.0, h.1, rw h.2 at g)
+
+  -- a parser, closed
+  pub closed_shown : (Closes : I → E → E → Type 0) (Grows : Type 0) (before r : Result (I × Option O) (Answer.Err E (Option E) Needed)) → ShowsMeaning w IsOutput m outputs errors s i before → ClosesResult (Closes i) Grows before r → ShowsMeaning w IsOutput (closed_meaning Closes Grows m) outputs errors s i r
+  closed_shown Closes Grows before r (RanOut e h) g = RanOut (rw e at g) (inl h)
+  closed_shown Closes Grows before r (Shown (Accept n v) a h) g = Shown (Accept n v) a (h.0, h.1, h.2, h.3, rw h.4 at g)
+  closed_shown Closes Grows before r (Shown Refuse a h) g =
+      let made = rw h.2 at g in
+      let closed = closed_meaning Closes Grows m in
+      refusal_shown w IsOutput outputs errors i (m.answers s i) (λ e. (x : E) × m.blames s i x × Closes i x e) (closed.blames s i) Grows (closed.runs_out outputs errors s i) made.0 r a (λ e c. ClosedRefuses a c.0 c.1 c.2) (λ e z. inr (a, e, z)) (closes_built Grows (Closes i) (m.blames s i) errors h.0 made.0 h.1 made.1) made.2
+  closed_shown Closes Grows before r (Shown Fail a h) g = Shown Fail a (h.0, ClosedFails (record { outcome = Fail; answered = a; kind_is = tt; fact = h.1 }), rw h.2 at g)
+  closed_shown Closes Grows before r (Shown TooLarge a h) g = Shown TooLarge a (h.0, ClosedFails (record { outcome = TooLarge; answered = a; kind_is = tt; fact = h.1 }), rw h.2 at g)
+  closed_shown Closes Grows before r (Shown (Undecided k) a h) g = Shown (Undecided k) a (h.0, h.1, rw h.2 at g)
+
+-- a part's failure and its refusal, labelled
+failure_labelled : {I P T : Type 0} (label : P → T) (F : I → Outcome P → Type 0) (Fact : Type 0) (i : I) → OnOutcome IsFailure F Fact i → OnOutcome IsFailure (Labelled label F) Fact i
+failure_labelled {P = P} label F Fact i f = record { outcome = labelled label f.outcome; answered = record { outcome = f.outcome; answered = f.answered; is = refl }; kind_is = still f.outcome f.kind_is; fact = f.fact }
+  where
+    still : (o : Outcome P) → IsFailure o → IsFailure (labelled label o)
+    still (Accept n v) h = h
+    still Refuse h = h
+    still Fail h = h
+    still TooLarge h = h
+    still (Undecided k) h = h
+
+refusal_labelled : {I P T : Type 0} (label : P → T) (F : I → Outcome P → Type 0) (i : I) → F i Refuse → Labelled label F i Refuse
+refusal_labelled label F i h = record { outcome = Refuse; answered = h; is = refl }
+
+module _ {I A P T O : Type 0} (w : Seen I A) (label : P → T) (IsOutput : P → O → Type 0) (IsLabelled : T → O → Type 0) (same : (t : P) (o : O) → IsOutput t o → IsLabelled (label t) o) (outputs errors : Bool) (i : I) where
+  shows_labelled : {E : Type 0} (IsError : E → Type 0) (o : Outcome P) (r : Result (I × Option O) (Answer.Err E (Option E) Needed)) → Shows w IsOutput outputs errors i IsError o r → Shows w IsLabelled outputs errors i IsError (labelled label o) r
+  shows_labelled IsError (Accept n v) r h = (h.0, h.1, h.2, built_map outputs (IsOutput v) (IsLabelled (label v)) h.1 (λ o _ p. same v o p) h.3, h.4)
+  shows_labelled IsError Refuse r h = h
+  shows_labelled IsError Fail r h = h
+  shows_labelled IsError TooLarge r h = h
+  shows_labelled IsError (Undecided k) r h = h
+
+  -- a part, with its trees labelled
+  pub labelled_shown : {E : Type 0} (F : I → Outcome P → Type 0) (IsError : E → Type 0) (RunsOut : Type 0) (r : Result (I × Option O) (Answer.Err E (Option E) Needed)) → ShowsAnswer w IsOutput outputs errors i (F i) IsError RunsOut r → ShowsAnswer w IsLabelled outputs errors i (Labelled label F i) IsError RunsOut r
+  labelled_shown F IsError RunsOut r (RanOut e h) = RanOut e h
+  labelled_shown F IsError RunsOut r (Shown o a h) = Shown (labelled label o) (record { outcome = o; answered = a; is = refl }) (shows_labelled IsError o r h)
+
+module _ {I A V O E : Type 0} (w : Seen I A) (IsOutput : V → O → Type 0) (outputs errors : Bool) (i : I) where
+  -- what is shown, where the answers, the errors and the want of memory are more
+  pub shown_map : (F G : Outcome V → Type 0) (P Q : E → Type 0) (R S : Type 0) (r : Result (I × Option O) (Answer.Err E (Option E) Needed)) → ((o : Outcome V) → F o → G o) → ((e : E) → P e → Q e) → (R → S) → ShowsAnswer w IsOutput outputs errors i F P R r → ShowsAnswer w IsOutput outputs errors i G Q S r
+  shown_map F G P Q R S r f g k (RanOut e h) = RanOut e (k h)
+  shown_map F G P Q R S r f g k (Shown o a h) = Shown o (f o a) (shows_map w IsOutput outputs errors i P Q o r g h)
+
+module _ {I A V T O E : Type 0} (w : Seen I A) (label : V → T) (IsOutput : V → O → Type 0) (IsLabelled : T → O → Type 0) (same : (t : V) (o : O) → IsOutput t o → IsLabelled (label t) o) (Joins : E → E → E → Type 0) (Grows : Type 0) (m : Meaning I V E) (outputs errors s : Bool) (i : I) where
+  next_blames_labelled : (First : E → Type 0) (e : E) → NextBlames Joins m s i First e → NextBlames Joins (labelled_meaning label m) s i First e
+  next_blames_labelled First e (NextFails f) = NextFails (failure_labelled label (m.answers s) (m.blames s i e) i f)
+  next_blames_labelled First e (NextRefuses a j) = NextRefuses (refusal_labelled label (m.answers s) i a) j
+
+  next_runs_out_labelled : NextRunsOut Grows m outputs errors s i → NextRunsOut Grows (labelled_meaning label m) outputs errors s i
+  next_runs_out_labelled (inl h) = inl h
+  next_runs_out_labelled (inr h) = inr (refusal_labelled label (m.answers s) i h.0, h.1, h.2)
+
+  -- a branch after a refusal, with its trees labelled
+  pub next_labelled : (x : Option E) (r : Result (I × Option O) (Answer.Err E (Option E) Needed)) → ShowsNext w IsOutput Joins Grows m outputs errors s i x r → ShowsNext w IsLabelled Joins Grows (labelled_meaning label m) outputs errors s i x r
+  next_labelled x r h b = shown_map w IsLabelled outputs errors i (Labelled label (m.answers s) i) (Labelled label (m.answers s) i) (NextBlames Joins m s i (λ a. x ≡ Some a)) (NextBlames Joins (labelled_meaning label m) s i (λ a. x ≡ Some a)) (NextRunsOut Grows m outputs errors s i) (NextRunsOut Grows (labelled_meaning label m) outputs errors s i) r (λ o a. a) (λ e n. next_blames_labelled (λ a. x ≡ Some a) e n) next_runs_out_labelled
+      (labelled_shown w label IsOutput IsLabelled same outputs errors i (m.answers s) (NextBlames Joins m s i (λ a. x ≡ Some a)) (NextRunsOut Grows m outputs errors s i) r (h b))
+
+-- one of two parsers, of one type of trees
+module _ {I A V O E : Type 0} (w : Seen I A) (IsOutput : V → O → Type 0) (Joins : E → E → E → Type 0) (Grows : Type 0) (a b : Meaning I V E) (outputs errors s : Bool) (i : I) where
+  next_blames_first : (x : Option E) (e : E) → Built errors (a.blames s i) x → NextBlames Joins b s i (λ f. x ≡ Some f) e → NextBlames Joins b s i (a.blames s i) e
+  next_blames_first x e h (NextFails f) = NextFails f
+  next_blames_first x e h (NextRefuses r j) = NextRefuses r (record { first = j.first; second = j.second; first_is = built_fact errors (a.blames s i) x j.first h j.first_is; second_is = j.second_is; joined = j.joined })
+
+  -- a first part's result, and what becomes of its refusal
+  pub or_shown : (before r : Result (I × Option O) (Answer.Err E (Option E) Needed)) → ShowsMeaning w IsOutput a outputs errors s i before → OnError (ShowsNext w IsOutput Joins Grows b outputs errors s i) before r → ShowsMeaning w IsOutput (or_meaning Joins Grows a b) outputs errors s i r
+  or_shown before r (RanOut e h) g = RanOut (rw e at g) (inl h)
+  or_shown before r (Shown (Accept n v) c h) g = Shown (Accept n v) (record { first = Accept n v; answered = c; goes_on = refl }) (h.0, h.1, h.2, h.3, rw h.4 at g)
+  or_shown before r (Shown Refuse c h) g =
+      let next = rw h.2 at g in
+      let both = or_meaning Joins Grows a b in
+      shown_map w IsOutput outputs errors i (b.answers s i) (both.answers s i) (NextBlames Joins b s i (λ f. h.0 ≡ Some f)) (both.blames s i) (NextRunsOut Grows b outputs errors s i) (both.runs_out outputs errors s i) r (λ o d. record { first = Refuse; answered = c; goes_on = d }) (λ e n. FirstRefuses c (next_blames_first h.0 e h.1 n)) (λ k. inr (c, k))
+      (next (built_map errors (a.blames s i) (λ _. Unit {0}) h.0 (λ _ _ _. tt) h.1))
+  or_shown before r (Shown Fail c h) g = Shown Fail (record { first = Fail; answered = c; goes_on = refl }) (h.0, FirstFails (record { outcome = Fail; answered = c; kind_is = tt; fact = h.1 }), rw h.2 at g)
+  or_shown before r (Shown TooLarge c h) g = Shown TooLarge (record { first = TooLarge; answered = c; goes_on = refl }) (h.0, FirstFails (record { outcome = TooLarge; answered = c; kind_is = tt; fact = h.1 }), rw h.2 at g)
+  or_shown before r (Shown (Undecided k) c h) g = Shown (Undecided k) (record { first = Undecided k; answered = c; goes_on = refl }) (h.0, h.1, rw h.2 at g)
+
+-- one of two parsers, with a tree that says which
+pub either_shown : {I A P Q O E : Type 0} (w : Seen I A) (First : P → O → Type 0) (Second : Q → O → Type 0) (Joins : E → E → E → Type 0) (Grows : Type 0) (a : Meaning I P E) (b : Meaning I Q E) (outputs errors s : Bool) (i : I) (before r : Result (I × Option O) (Answer.Err E (Option E) Needed)) → ShowsMeaning w First a outputs errors s i before → OnError (ShowsNext w Second Joins Grows b outputs errors s i) before r → ShowsMeaning w (EitherOutput First Second) (either_meaning Joins Grows a b) outputs errors s i r
+either_shown w First Second Joins Grows a b outputs errors s i before r h g =
+    let out = EitherOutput First Second in
+    or_shown w out Joins Grows (labelled_meaning inl a) (labelled_meaning inr b) outputs errors s i before r
+    (labelled_shown w inl First out (λ t o k. k) outputs errors i (a.answers s) (a.blames s i) (a.runs_out outputs errors s i) before h)
+    (on_error_map (ShowsNext w Second Joins Grows b outputs errors s i) (ShowsNext w out Joins Grows (labelled_meaning inr b) outputs errors s i) before r (λ x k. next_labelled w inr Second out (λ t o k. k) Joins Grows b outputs errors s i x r k) g)

@@ -1,0 +1,179 @@
+-- Choice: the first outcome that isn't a refusal. Where all branches refuse, their errors are joined by `or` from left to
+-- right, and the whole is closed by `append` at the start.
+use Rattle.std.specs.Prelude.{◌≡◌, ℕ, ◌+◌, Bool, true, List, [], ◌∷◌, Result, Ok, Err, Option, Some, None, ◌⊎◌}
+use Rattle.std.proofs.Common.{inl, inr, zero, suc}
+use Rattle.nom_error.specs.declared.answer.Needed.{Needed}
+use Rattle.nom_error.specs.declared.answer.Err as Answer
+use Rattle.nom_error.specs.declared.answer.Err.TheVariants.{Incomplete, Error, Failure, OutOfMemory}
+use Rattle.nom_error.specs.Answers.{Refuses}
+use Rattle.nom_error.specs.Modes.{Built}
+use Rattle.nom_traits.specs.Input.{Seen}
+use Rattle.nom_internal.specs.Outcome.{Outcome, ShowsAnswer, IsFailure, OnOutcome}
+use Rattle.nom_internal.specs.Outcome.Outcome.{Accept, Refuse, Fail, TooLarge, Undecided}
+use Rattle.nom_internal.specs.Meaning.{Meaning}
+
+-- an outcome with its tree labelled, by which branch it comes from
+abbrev pub labelled : {P T : Type 0} → (P → T) → Outcome P → Outcome T
+labelled label (Accept n v) = Accept n (label v)
+labelled label Refuse = Refuse
+labelled label Fail = Fail
+labelled label TooLarge = TooLarge
+labelled label (Undecided k) = Undecided k
+
+-- what a part answers, with its trees labelled
+pub record Labelled {I P T : Type 0} (label : P → T) (Part : I → Outcome P → Type 0) (i : I) (o : Outcome T) : Type 0 where
+  pub outcome : Outcome P
+  pub answered : Part i outcome
+  pub is : o ≡ labelled label outcome
+
+-- a part with its trees labelled
+abbrev pub labelled_meaning : {I P T E : Type 0} → (P → T) → Meaning I P E → Meaning I T E
+labelled_meaning label m = record {
+  IsSound = m.IsSound;
+  answers = λ s. Labelled label (m.answers s);
+  blames = m.blames;
+  runs_out = m.runs_out;
+  IsFrugal = m.IsFrugal;
+  Settles = m.Settles;
+}
+
+-- how a first outcome goes on: a refusal by what follows it, and else as it is
+abbrev pub GoesOnRefused : {V : Type 0} → (Outcome V → Type 0) → Outcome V → Outcome V → Type 0
+GoesOnRefused Next (Accept n v) o = o ≡ Accept n v
+GoesOnRefused Next Refuse o = Next o
+GoesOnRefused Next Fail o = o ≡ Fail
+GoesOnRefused Next TooLarge o = o ≡ TooLarge
+GoesOnRefused Next (Undecided k) o = o ≡ Undecided k
+
+-- a first part, and where it refuses the next one, on the same input
+pub record OnRefusal {I V : Type 0} (First Next : I → Outcome V → Type 0) (i : I) (o : Outcome V) : Type 0 where
+  pub first : Outcome V
+  pub answered : First i first
+  pub goes_on : GoesOnRefused (Next i) first o
+
+-- two errors, joined, the first before the second
+pub record Joined {E : Type 0} (Joins : E → E → E → Type 0) (First Second : E → Type 0) (e : E) : Type 0 where
+  pub first : E
+  pub second : E
+  pub first_is : First first
+  pub second_is : Second second
+  pub joined : Joins first second e
+
+-- the error of a part after a refusal, of whose error First holds: its own failure's, or, where it refuses too, both joined
+pub data NextBlames {I V E : Type 0} (Joins : E → E → E → Type 0) (m : Meaning I V E) (s : Bool) (i : I) (First : E → Type 0) (e : E) : Type 0 where
+  NextFails : OnOutcome IsFailure (m.answers s) (m.blames s i e) i → NextBlames Joins m s i First e
+  NextRefuses : m.answers s i Refuse → Joined Joins First (m.blames s i) e → NextBlames Joins m s i First e
+
+-- the error of one of two parts: the first one's failure's, or where it refuses what comes of the second
+pub data OrBlames {I V E : Type 0} (Joins : E → E → E → Type 0) (a b : Meaning I V E) (s : Bool) (i : I) (e : E) : Type 0 where
+  FirstFails : OnOutcome IsFailure (a.answers s) (a.blames s i e) i → OrBlames Joins a b s i e
+  FirstRefuses : a.answers s i Refuse → NextBlames Joins b s i (a.blames s i) e → OrBlames Joins a b s i e
+
+-- where a part may run out of memory after a refusal: in itself, or in the joining of errors
+abbrev pub NextRunsOut : {I V E : Type 0} → Type 0 → Meaning I V E → Bool → Bool → Bool → I → Type 0
+NextRunsOut Grows m outputs errors s i = m.runs_out outputs errors s i ⊎ (m.answers s i Refuse × (errors ≡ true) × Grows)
+
+-- One of two parsers: the second where the first refuses; if both refuse, their errors joined. It is frugal where both are
+-- and, where errors are built, making one takes no memory.
+abbrev pub or_meaning : {I V E : Type 0} → (E → E → E → Type 0) → Type 0 → Meaning I V E → Meaning I V E → Meaning I V E
+or_meaning Joins Grows a b = record {
+  IsSound = a.IsSound × b.IsSound;
+  answers = λ s. OnRefusal (a.answers s) (b.answers s);
+  blames = OrBlames Joins a b;
+  runs_out = λ outputs errors s i. a.runs_out outputs errors s i ⊎ (a.answers s i Refuse × NextRunsOut Grows b outputs errors s i);
+  IsFrugal = λ outputs errors. a.IsFrugal outputs errors × b.IsFrugal outputs errors × (errors ≡ true → Grows → ⊥);
+  Settles = a.Settles × b.Settles;
+}
+
+-- one of two parsers, with a tree that says which
+abbrev pub either_meaning : {I P Q E : Type 0} → (E → E → E → Type 0) → Type 0 → Meaning I P E → Meaning I Q E → Meaning I (P ⊎ Q) E
+either_meaning Joins Grows a b = or_meaning Joins Grows (labelled_meaning inl a) (labelled_meaning inr b)
+
+-- the error of a refusal, closed at the start; a failure's stays
+pub data CloseBlames {I V E : Type 0} (Closes : I → E → E → Type 0) (m : Meaning I V E) (s : Bool) (i : I) (e : E) : Type 0 where
+  ClosedFails : OnOutcome IsFailure (m.answers s) (m.blames s i e) i → CloseBlames Closes m s i e
+  ClosedRefuses : m.answers s i Refuse → (x : E) → m.blames s i x → Closes i x e → CloseBlames Closes m s i e
+
+-- a parser whose refusals' errors are closed at the start
+abbrev pub closed_meaning : {I V E : Type 0} → (I → E → E → Type 0) → Type 0 → Meaning I V E → Meaning I V E
+closed_meaning Closes Grows m = record {
+  IsSound = m.IsSound;
+  answers = m.answers;
+  blames = CloseBlames Closes m;
+  runs_out = λ outputs errors s i. m.runs_out outputs errors s i ⊎ (m.answers s i Refuse × (errors ≡ true) × Grows);
+  IsFrugal = λ outputs errors. m.IsFrugal outputs errors × (errors ≡ true → Grows → ⊥);
+  Settles = m.Settles;
+}
+
+-- a refusal with a fresh error, of any input
+abbrev pub refusal_meaning : {I V E : Type 0} → (I → E → Type 0) → Type 0 → Meaning I V E
+refusal_meaning Gives Grows = record {
+  IsSound = Unit {0};
+  answers = λ s i o. o ≡ Refuse;
+  blames = λ s. Gives;
+  runs_out = λ outputs errors s i. (errors ≡ true) × Grows;
+  IsFrugal = λ outputs errors. errors ≡ true → Grows → ⊥;
+  Settles = Unit {0};
+}
+
+module _ {S I V E : Type 0} (Joins : E → E → E → Type 0) (Grows : Type 0) (part : S → Meaning I V E) where
+  -- one of some parsers, and after them those of a list, numbered from k on
+  abbrev pub or_others : Meaning I (ℕ × V) E → ℕ → List S → Meaning I (ℕ × V) E
+  or_others m k [] = m
+  or_others m k (s ∷ ss) = or_others (or_meaning Joins Grows m (labelled_meaning (λ t. (k, t)) (part s))) (k + 1) ss
+
+  -- one of a list of parsers, with a tree that says which; of none, a refusal
+  abbrev pub any_meaning : (I → E → Type 0) → List S → Meaning I (ℕ × V) E
+  any_meaning Gives [] = refusal_meaning Gives Grows
+  any_meaning Gives (s ∷ ss) = or_others (labelled_meaning (λ t. (0, t)) (part s)) 1 ss
+
+  -- that, closed if there are some
+  abbrev pub list_meaning : (I → E → E → Type 0) → (I → E → Type 0) → List S → Meaning I (ℕ × V) E
+  list_meaning Closes Gives [] = refusal_meaning Gives Grows
+  list_meaning Closes Gives (s ∷ ss) = closed_meaning Closes Grows (any_meaning Gives (s ∷ ss))
+
+-- which output a tree of one of two parsers stands for: one of the branch that it names
+abbrev pub EitherOutput : {P Q O : Type 0} → (P → O → Type 0) → (Q → O → Type 0) → P ⊎ Q → O → Type 0
+EitherOutput First Second (inl t) o = First t o
+EitherOutput First Second (inr t) o = Second t o
+
+-- s stands at place k of a list
+abbrev pub StandsAt : {S : Type 0} → List S → ℕ → S → Type 0
+StandsAt [] k s = ⊥
+StandsAt (x ∷ xs) zero s = x ≡ s
+StandsAt (x ∷ xs) (suc k) s = StandsAt xs k s
+
+-- which output a tree of one of a list of parsers stands for
+abbrev pub ListOutput : {S V O : Type 0} → (S → V → O → Type 0) → List S → ℕ × V → O → Type 0
+ListOutput {S} IsOutput ss t o = (s : S) × StandsAt ss t.0 s × IsOutput s t.1 o
+
+-- what becomes of a result: of a refusal what is said of its error, and else itself
+abbrev pub OnError : {T E : Type 0} → (Option E → Result T (Answer.Err E (Option E) Needed) → Type 0) → Result T (Answer.Err E (Option E) Needed) → Result T (Answer.Err E (Option E) Needed) → Type 0
+OnError Then (Ok x) r = r ≡ Ok x
+OnError Then (Err (Incomplete k)) r = r ≡ Err (Incomplete k)
+OnError Then (Err (Error x)) r = Then x r
+OnError Then (Err (Failure e)) r = r ≡ Err (Failure e)
+OnError Then (Err OutOfMemory) r = r ≡ Err OutOfMemory
+
+-- two errors joined, where they are built, or memory ran out
+abbrev pub JoinsErrors : {E : Type 0} → (E → E → E → Type 0) → Type 0 → Option E → Option E → Answer.Err E (Option E) Needed → Type 0
+JoinsErrors Joins Grows (Some a) (Some b) f = Refuses (Joins a b) Grows true f
+JoinsErrors Joins Grows (Some a) None f = f ≡ Error None
+JoinsErrors Joins Grows None b f = f ≡ Error None
+
+-- an error closed, where it is built, or memory ran out
+abbrev pub ClosesError : {E : Type 0} → (E → E → Type 0) → Type 0 → Option E → Answer.Err E (Option E) Needed → Type 0
+ClosesError Closes Grows (Some a) f = Refuses (Closes a) Grows true f
+ClosesError Closes Grows None f = f ≡ Error None
+
+-- a result, where a refusal's error is joined to one before it
+abbrev pub JoinsResult : {T E : Type 0} → (E → E → E → Type 0) → Type 0 → Option E → Result T (Answer.Err E (Option E) Needed) → Result T (Answer.Err E (Option E) Needed) → Type 0
+JoinsResult {E = E} Joins Grows x = OnError (λ y r. (f : Answer.Err E (Option E) Needed) × JoinsErrors Joins Grows x y f × (r ≡ Err f))
+
+-- a result, where a refusal's error is closed
+abbrev pub ClosesResult : {T E : Type 0} → (E → E → Type 0) → Type 0 → Result T (Answer.Err E (Option E) Needed) → Result T (Answer.Err E (Option E) Needed) → Type 0
+ClosesResult {E = E} Closes Grows = OnError (λ x r. (f : Answer.Err E (Option E) Needed) × ClosesError Closes Grows x f × (r ≡ Err f))
+
+-- what a part shows after a refusal with an error, where errors are built
+abbrev pub ShowsNext : {I A V O E : Type 0} → Seen I A → (V → O → Type 0) → (E → E → E → Type 0) → Type 0 → Meaning I V E → Bool → Bool → Bool → I → Option E → Result (I × Option O) (Answer.Err E (Option E) Needed) → Type 0
+ShowsNext w IsOutput Joins Grows m outputs errors s i x r = Built errors (λ _. Unit {0}) x → ShowsAnswer w IsOutput outputs errors i (m.answers s i) (NextBlames Joins m s i (λ a. x ≡ Some a)) (NextRunsOut Grows m outputs errors s i) r
