@@ -1,6 +1,6 @@
 //! Inputs.
 ghost use Rattle.std.specs.Prelude.{◌≡◌, ◌<◌, ℕ, List, length, Option, MatchResult};
-ghost use Rattle.std.specs.Iterator.{AlwaysYields};
+ghost use Rattle.std.specs.Iterator.{AlwaysYields, IsFinite};
 ghost use Rattle.nom_error.specs.Answers.{size_of};
 ghost use Rattle.nom_traits.specs.Input.{Seen, InputLaws, AreValues, IsPlace, IsFront, IsRest, IsSame, input_len};
 ghost use Rattle.nom_traits.specs.Slices.{IsCount};
@@ -70,7 +70,9 @@ pub trait Input: Items {
 
     /// The items, one by one.
     fn iter_elements(&self) -> Self::Iter
-        ensures { AlwaysYields Self.Iter.next_gives (λ x. x) result (Self.seen.elements self.now) };
+        ensures gives { AlwaysYields Self.Iter.next_gives (λ x. x) result (Self.seen.elements self.now) }
+        ensures can { Self.Iter.can_next result }
+        ensures ends { IsFinite (Self.Iter.remaining result) };
 
     /// Any items may follow.
     ghost more: { (xs : List Self.Item) → Self.seen.IsMore xs };
