@@ -14,18 +14,18 @@ use Rattle.nom_multi.specs.Lengths.{OfLength, IsOneLength, length_data_meaning}
 
 -- what follows a length, by the one number that it stands for
 module _ {I A Q : Type 0} (w : Seen I A) (IsLength : ℕ → Type 0) (N M : ℕ → I → Outcome Q → Type 0) where
-  of_length_agree : (longer : Bool) → ((m n : ℕ) → IsLength m → IsLength n → m ≡ n) → ((n : ℕ) → Agree w longer (N n) (M n)) → Agree w longer (λ j o. OfLength IsLength (λ n. N n j o)) (λ j o. OfLength IsLength (λ n. M n j o))
+  pub of_length_agree : (longer : Bool) → ((m n : ℕ) → IsLength m → IsLength n → m ≡ n) → ((n : ℕ) → Agree w longer (N n) (M n)) → Agree w longer (λ j o. OfLength IsLength (λ n. N n j o)) (λ j o. OfLength IsLength (λ n. M n j o))
   of_length_agree longer one f x y o p kx ky r a k b =
       let same = one b.number a.number b.is_length a.is_length in
       f a.number x y o p kx ky r a.fact k (subst (λ n. M n y p) same b.fact)
 
-  of_length_settled : ((n : ℕ) → Settled w (N n) (M n)) → Settled w (λ j o. OfLength IsLength (λ n. N n j o)) (λ j o. OfLength IsLength (λ n. M n j o))
+  pub of_length_settled : ((n : ℕ) → Settled w (N n) (M n)) → Settled w (λ j o. OfLength IsLength (λ n. N n j o)) (λ j o. OfLength IsLength (λ n. M n j o))
   of_length_settled f i o h a d = record { number = a.number; is_length = a.is_length; fact = f a.number i o h a.fact d }
 
-of_length_within : {I A Q : Type 0} (w : Seen I A) (IsLength : ℕ → Type 0) (N : ℕ → I → Outcome Q → Type 0) → ((n : ℕ) → Within w (N n)) → Within w (λ j o. OfLength IsLength (λ n. N n j o))
+pub of_length_within : {I A Q : Type 0} (w : Seen I A) (IsLength : ℕ → Type 0) (N : ℕ → I → Outcome Q → Type 0) → ((n : ℕ) → Within w (N n)) → Within w (λ j o. OfLength IsLength (λ n. N n j o))
 of_length_within w IsLength N f i n v h a = f a.number i n v h a.fact
 
-of_length_blame : {I A Q E : Type 0} (w : Seen I A) (IsLength : ℕ → Type 0) (N : ℕ → I → Outcome Q → Type 0) (B C : ℕ → I → E → Type 0) → ((m n : ℕ) → IsLength m → IsLength n → m ≡ n) → ((n : ℕ) → SettledBlame w (N n) (B n) (C n)) → SettledBlame w (λ j o. OfLength IsLength (λ n. N n j o)) (λ j e. OfLength IsLength (λ n. B n j e)) (λ j e. OfLength IsLength (λ n. C n j e))
+pub of_length_blame : {I A Q E : Type 0} (w : Seen I A) (IsLength : ℕ → Type 0) (N : ℕ → I → Outcome Q → Type 0) (B C : ℕ → I → E → Type 0) → ((m n : ℕ) → IsLength m → IsLength n → m ≡ n) → ((n : ℕ) → SettledBlame w (N n) (B n) (C n)) → SettledBlame w (λ j o. OfLength IsLength (λ n. N n j o)) (λ j e. OfLength IsLength (λ n. B n j e)) (λ j e. OfLength IsLength (λ n. C n j e))
 of_length_blame w IsLength N B C one f i o e h a d b =
     let same = one b.number a.number b.is_length a.is_length in
     record { number = a.number; is_length = a.is_length; fact = f a.number i o e h a.fact d (subst (λ n. B n i e) same b.fact) }

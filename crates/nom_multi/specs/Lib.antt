@@ -1,3 +1,4 @@
+pub mod FirstByte
 pub mod Lengths
 pub mod LengthLaws
 pub mod Lists

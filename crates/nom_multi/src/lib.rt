@@ -6,6 +6,8 @@ ghost use Rattle.std.specs.Prelude.{◌≡◌};
 mod length;
 mod many;
 pub mod promises;
+#[cfg(test)]
+mod tests;
 
 pub use crate::length::LengthData;
 pub use crate::many::Many0;
@@ -27,7 +29,8 @@ pub fn length_data<F>(parser: F) -> LengthData<F>
 ///
 /// A refusal ends the list with success, before the item. An item that is accepted without consuming
 /// anything is refused with `Many0`, so that no input makes a list without an end. All else that the
-/// item answers is passed on.
+/// item answers is passed on. No memory is taken ahead: the list grows by the items that are accepted,
+/// and where it can't, the answer is `OutOfMemory`.
 #[inline(always)]
 pub fn many0<A: Allocator + Copy, F>(alloc: A, parser: F) -> Many0<A, F>
     ensures alloc { result.alloc ≡ alloc }

@@ -37,7 +37,7 @@ loop-next-preserved g c =
     let moves = consumes _ _ _ _ _ _ item.rest_is c.input_len.ensures c.input_len-in-Ok.ensures c.if-input_len.false in
     record {
       state_kept = cc;
-      collected = many_more _ g.met.I.Items.lawful _ _ _ _ _ _ c.loop-next.invariant.collected tt _ _ item moves (longer_built _ _ _ _ _ _ _ (c.keep.ensures.kept (search rules)) c.loop-next.invariant.collected.held item.built_is);
+      collected = many_more _ g.met.I.Items.lawful _ _ _ _ _ _ c.loop-next.invariant.collected tt _ _ item moves (longer_built (g.F.Parser.IsOutput (g.F.Parser.state c.args.self.now.parser)) _ _ _ _ _ _ (c.keep.ensures.kept (search rules)) c.loop-next.invariant.collected.held item.built_is);
     }
 
 pub returns-in-Err-Error-clause-shown : goal.returns-in-Err-Error-clause-shown
