@@ -1,3 +1,5 @@
 pub mod ByteCompared
 pub mod ByteCuts
 pub mod ByteItems
+pub mod TextAfter
+pub mod TextCuts

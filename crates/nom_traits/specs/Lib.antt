@@ -4,4 +4,5 @@ pub mod Compares
 pub mod Input
 pub mod Rests
 pub mod Slices
+pub mod Text
 pub mod View

@@ -5,4 +5,5 @@ pub mod bytes;
 pub mod compare;
 pub mod input;
 pub mod offset;
+pub mod text;
 pub mod view;

@@ -1,0 +1,39 @@
+-- How a text is seen.
+use Rattle.std.specs.Prelude.{◌≡◌, ℕ, ◌<◌, ◌^◌, Bool, true, false, List, [], ◌∷◌, length, refl, chars, IsUtf8, ◌&&◌}
+use Rattle.std.specs.Borrow.{Bor}
+use Rattle.std.specs.Char.{len_utf8, IsScalar}
+use Rattle.std.specs.Str.{all_scalars}
+use Rattle.std.proofs.Common.{arith}
+use Rattle.std.proofs.Math.Utf8.{scalar}
+use Rattle.std.proofs.lemmas.Str.{len_utf8_bounds, scalars-chars}
+use Rattle.nom_traits.specs.Input.{Seen, AreValues, InputLaws}
+
+-- a text is seen as its characters, each as long as its UTF-8 form
+abbrev pub seen_text : Seen (Bor (List ℕ)) ℕ
+seen_text = record {
+  elements = λ s. chars s.now;
+  weight = len_utf8;
+  Mark = Unit {0};
+  mark = λ _. tt;
+  mark_after = λ m _. m;
+  IsKnown = λ s. IsUtf8 s.now × (length s.now < 2 ^ 63);
+  IsMore = λ _. Unit {0};
+}
+
+pub text_lawful : InputLaws seen_text
+text_lawful = record {
+  positive = λ c. omega (arith, (len_utf8_bounds c).0);
+  mark_none = λ _. refl;
+  mark_more = λ _ _ _. refl;
+}
+
+pub both : (x y : Bool) → (x && y) ≡ true → (x ≡ true) × (y ≡ true)
+both true y h = (refl, h)
+both false y h = (h, absurd (cc))
+
+scalars_are_values : (cs : List ℕ) → all_scalars cs ≡ true → AreValues IsScalar cs
+scalars_are_values [] h = tt
+scalars_are_values (c ∷ cs) h = let b = both (scalar c) (all_scalars cs) h in (b.0, scalars_are_values cs b.1)
+
+pub text_values : (i : Bor (List ℕ)) → seen_text.IsKnown i → AreValues IsScalar (chars i.now)
+text_values i h = scalars_are_values (chars i.now) (scalars-chars i.now h.0)
