@@ -1,13 +1,13 @@
 -- The cuts of texts.
 use Rattle.std.proofs.Common.{◌≡◌, ℕ, ◌+◌, ◌-◌, ◌<◌, ◌≤◌, ◌^◌, ◌++◌, List, [], ◌∷◌, Bor, true, length, take, drop, sym, ◌∙◌, ap, subst, refl, arith, length-append}
-use Rattle.std.specs.Prelude.{chars, encode_utf8_all, encode_utf8, IsUtf8, IsCharBoundary}
+use Rattle.std.specs.Prelude.{chars, encode_utf8_all, IsUtf8, IsCharBoundary}
 use Rattle.std.specs.Char.{len_utf8}
 use Rattle.std.specs.Str.{all_scalars}
 use Rattle.std.proofs.Math.Utf8.{scalar}
 use Rattle.std.proofs.Math.Seq.{take-append_seam, drop-append_seam}
-use Rattle.std.proofs.lemmas.Str.{chars-encodes, encodes-append, length-encode, encodes-chars, scalars-chars, IsCharBoundary-at_seam}
+use Rattle.std.proofs.lemmas.Str.{chars-encodes, encodes-append, encodes-chars, scalars-chars, IsCharBoundary-at_seam}
 use Rattle.nom_traits.specs.Input.{span, IsPlace, IsFront, IsRest}
-use Rattle.nom_traits.specs.Text.{seen_text, both}
+use Rattle.nom_traits.specs.Text.{seen_text, both, span-text}
 
 scalars_parts : (xs ys : List ℕ) → all_scalars (xs ++ ys) ≡ true → (all_scalars xs ≡ true) × (all_scalars ys ≡ true)
 scalars_parts [] ys h = (refl, h)
@@ -16,13 +16,9 @@ scalars_parts (x ∷ xs) ys h =
     let r = scalars_parts xs ys b.1 in
     (simp (b.0, r.0), r.1)
 
-pub span_text : (cs : List ℕ) → span len_utf8 cs ≡ length (encode_utf8_all cs)
-span_text [] = refl
-span_text (c ∷ cs) = omega (arith, span_text cs, length-append (encode_utf8 c) (encode_utf8_all cs), length-encode c)
-
 -- the length of a text in bytes is that of its characters
 pub text_length : (bs : List ℕ) → IsUtf8 bs → span len_utf8 (chars bs) ≡ length bs
-text_length bs u = span_text (chars bs) ∙ ap length (encodes-chars bs u)
+text_length bs u = span-text (chars bs) ∙ ap length (encodes-chars bs u)
 
 -- what stands before and after a place, as bytes
 pub record IsCut (bs : List ℕ) (n : ℕ) : Type 0 where
@@ -41,7 +37,7 @@ is_cut i n u p =
       front = p.front;
       rest = p.rest;
       whole = p.whole;
-      length_is = sym p.length_is ∙ span_text p.front;
+      length_is = sym p.length_is ∙ span-text p.front;
       bytes_are = sym (encodes-chars i.now u) ∙ ap encode_utf8_all p.whole ∙ encodes-append p.front p.rest;
       front_is = s.0;
       rest_is = s.1;
@@ -71,7 +67,7 @@ text_front i j n u p e =
       known = part_known j.now c.front c.front_is b (omega (arith, u.1, ap length b, ap length c.bytes_are, length-append (encode_utf8_all c.front) (encode_utf8_all c.rest)));
       rest = c.rest;
       whole = c.whole ∙ ap (λ l. l ++ c.rest) (sym f);
-      length_is = ap (span len_utf8) f ∙ span_text c.front ∙ sym c.length_is;
+      length_is = ap (span len_utf8) f ∙ span-text c.front ∙ sym c.length_is;
       mark_is = refl;
     }
 
@@ -84,7 +80,7 @@ text_rest i j n u p e =
       known = part_known j.now c.rest c.rest_is b (omega (arith, u.1, ap length b, ap length c.bytes_are, length-append (encode_utf8_all c.front) (encode_utf8_all c.rest)));
       front = c.front;
       whole = c.whole ∙ ap (λ l. c.front ++ l) (sym f);
-      length_is = span_text c.front ∙ sym c.length_is;
+      length_is = span-text c.front ∙ sym c.length_is;
       mark_is = refl;
     }
 
@@ -92,7 +88,7 @@ text_rest i j n u p e =
 rest_bytes : (i j : Bor (List ℕ)) (n : ℕ) → seen_text.IsKnown i → IsRest seen_text i n j → length i.now ≡ n + length j.now
 rest_bytes i j n u p =
     let bytes : i.now ≡ encode_utf8_all p.front ++ j.now = sym (encodes-chars i.now u.0) ∙ (ap encode_utf8_all p.whole ∙ (encodes-append p.front (chars j.now) ∙ ap (λ l. encode_utf8_all p.front ++ l) (encodes-chars j.now p.known.0))) in
-    omega (arith, ap length bytes, length-append (encode_utf8_all p.front) j.now, span_text p.front, p.length_is)
+    omega (arith, ap length bytes, length-append (encode_utf8_all p.front) j.now, span-text p.front, p.length_is)
 
 pub rest_within : (i j : Bor (List ℕ)) (n : ℕ) → seen_text.IsKnown i → IsRest seen_text i n j → length j.now ≤ length i.now
 rest_within i j n u p = omega (arith, rest_bytes i j n u p)

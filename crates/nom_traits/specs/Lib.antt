@@ -1,5 +1,5 @@
-pub mod ByteCompares
 pub mod Bytes
+pub mod CompareTags
 pub mod Compares
 pub mod Input
 pub mod Rests

@@ -1,12 +1,12 @@
 -- How a text is seen.
-use Rattle.std.specs.Prelude.{◌≡◌, ℕ, ◌<◌, ◌^◌, Bool, true, false, List, [], ◌∷◌, length, refl, chars, IsUtf8, ◌&&◌}
+use Rattle.std.specs.Prelude.{◌≡◌, ℕ, ◌<◌, ◌^◌, Bool, true, false, List, [], ◌∷◌, length, refl, chars, encode_utf8, encode_utf8_all, IsUtf8, ◌&&◌}
 use Rattle.std.specs.Borrow.{Bor}
 use Rattle.std.specs.Char.{len_utf8, IsScalar}
 use Rattle.std.specs.Str.{all_scalars}
-use Rattle.std.proofs.Common.{arith}
+use Rattle.std.proofs.Common.{arith, length-append}
 use Rattle.std.proofs.Math.Utf8.{scalar}
-use Rattle.std.proofs.lemmas.Str.{len_utf8_bounds, scalars-chars}
-use Rattle.nom_traits.specs.Input.{Seen, AreValues, InputLaws}
+use Rattle.std.proofs.lemmas.Str.{len_utf8_bounds, scalars-chars, length-encode}
+use Rattle.nom_traits.specs.Input.{Seen, AreValues, InputLaws, span}
 
 -- a text is seen as its characters, each as long as its UTF-8 form
 abbrev pub seen_text : Seen (Bor (List ℕ)) ℕ
@@ -37,3 +37,8 @@ scalars_are_values (c ∷ cs) h = let b = both (scalar c) (all_scalars cs) h in 
 
 pub text_values : (i : Bor (List ℕ)) → seen_text.IsKnown i → AreValues IsScalar (chars i.now)
 text_values i h = scalars_are_values (chars i.now) (scalars-chars i.now h.0)
+
+-- the length of characters is that of their bytes
+pub span-text : (cs : List ℕ) → span len_utf8 cs ≡ length (encode_utf8_all cs)
+span-text [] = refl
+span-text (c ∷ cs) = omega (arith, span-text cs, length-append (encode_utf8 c) (encode_utf8_all cs), length-encode c)

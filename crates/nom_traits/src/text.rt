@@ -69,9 +69,9 @@ impl<'a> Input for &'a str {
 impl Offset for &str {
     #[inline(always)]
     fn offset(&self, second: &Self) -> usize {
-        let text = *self;
-        text.known();
-        text.len() - second.len()
+        let whole = *self;
+        whole.known();
+        whole.len() - second.len()
     }
 }
 
