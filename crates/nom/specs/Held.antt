@@ -4,12 +4,12 @@ use Rattle.std.specs.Borrow.{Bor}
 use Rattle.std.proofs.Common.{lit<}
 use Rattle.nom_error.specs.declared.answer.Needed.{Needed}
 use Rattle.nom_error.specs.Answers.{size_of}
+use Rattle.nom_traits.specs.declared.compare.CompareResult.{CompareResult}
 use Rattle.nom_traits.specs.Input.{Seen, InputLaws, IsPlace, IsFront, IsRest, Extends}
 use Rattle.nom_traits.specs.Slices.{IsCount}
 use Rattle.nom_traits.specs.View.{View}
 use Rattle.nom_traits.specs.Bytes.{seen_bytes}
-use Rattle.nom_traits.specs.Compares.{CompareLaws, ComparesBytes}
-use Rattle.nom_traits.specs.ByteCompares.{bytes_comparing}
+use Rattle.nom_traits.specs.Compares.{CompareLaws}
 
 module _ {S : Type 0} (bytes : S → Bor (List ℕ)) where
   abbrev pub seen_held : Seen S ℕ
@@ -48,16 +48,14 @@ module _ {S : Type 0} (bytes : S → Bor (List ℕ)) where
   extends_held : (x y : S) → Extends seen_held x y → Extends seen_bytes (bytes x) (bytes y)
   extends_held x y e = record { more = e.more; added = e.added; whole = e.whole; mark_is = refl }
 
-  pub held_comparing : CompareLaws {I = S} {T = List ℕ} seen_held length ComparesBytes
-  held_comparing =
-      let c = bytes_comparing in
-      record {
-        one = c.one;
-        place = λ t x h. place_held x (length t) (c.place t (bytes x) h);
-        shorter = λ t x k h. c.shorter t (bytes x) k h;
-        ok_stays = λ t x y h k e r. c.ok_stays t (bytes x) (bytes y) h k (extends_held x y e) r;
-        error_stays = λ t x y h k e r. c.error_stays t (bytes x) (bytes y) h k (extends_held x y e) r;
-      }
+  pub held_comparing : {T : Type 0} {size : T → ℕ} {Compares : T → List ℕ → CompareResult → Type 0} → CompareLaws seen_bytes size Compares → CompareLaws seen_held size Compares
+  held_comparing {size = size} c = record {
+    one = c.one;
+    place = λ t x h. place_held x (size t) (c.place t (bytes x) h);
+    shorter = λ t x k h. c.shorter t (bytes x) k h;
+    ok_stays = λ t x y h k e r. c.ok_stays t (bytes x) (bytes y) h k (extends_held x y e) r;
+    error_stays = λ t x y h k e r. c.error_stays t (bytes x) (bytes y) h k (extends_held x y e) r;
+  }
 
   pub counts_held : (x : S) (count : ℕ) (lack : ℕ → List ℕ → Option ℕ) (r : Result ℕ Needed) → MatchResult r (IsCount seen_bytes (bytes x) count) (λ k. (length (bytes x).now < count) × (size_of k ≡ lack count (bytes x).now)) → MatchResult r (IsCount seen_held x count) (λ k. (length (bytes x).now < count) × (size_of k ≡ lack count (bytes x).now))
   counts_held x count lack (Ok n) h = count_held x count n h

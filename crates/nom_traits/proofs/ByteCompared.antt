@@ -1,28 +1,12 @@
 -- What a comparison of bytes finds.
-use Rattle.std.proofs.Common.{◌≡◌, ℕ, ◌≤◌, ◌<◌, ◌+◌, ◌++◌, List, [], ◌∷◌, length, get_or, take, drop, min, sym, ◌∙◌, ap, subst, refl, arith, length-drop}
-use Rattle.std.proofs.lemmas.List.{get_or-take, take_more_same, take-append-le, take-append-drop, take_all}
+use Rattle.std.proofs.Common.{◌≡◌, ℕ, ◌≤◌, ◌<◌, ◌+◌, ◌++◌, ◌∷◌, List, length, get_or, take, drop, min, sym, ◌∙◌, ap, subst, arith, length-drop}
+use Rattle.std.specs.Char.{to_ascii_lowercase}
+use Rattle.std.specs.Str.{str_to_ascii_lowercase}
+use Rattle.std.proofs.Math.Seq.{take-append_seam}
+use Rattle.std.proofs.lemmas.List.{get_or-take, get_or-map, length-map, length-take-le, take_more_same, take-append-le, take-append-drop, take_all}
 use Rattle.nom_traits.specs.declared.compare.CompareResult.TheVariants as Compared
-use Rattle.nom_traits.specs.Compares.{ComparesBytes}
-
-pub compared_error : (xs t : List ℕ) (n : ℕ) → n ≡ min (length xs) (length t) → (take n xs ≡ take n t → ⊥) → ComparesBytes t xs Compared.Error
-compared_error xs t n h k =
-    (λ rest e. k (ap (λ ys. take n ys) e ∙ take-append-le n t rest (omega arith)), λ x rest e. k (sym (ap (λ ys. take n ys) e ∙ take-append-le n xs (x ∷ rest) (omega arith))))
-
-pub compared_ok : (xs t : List ℕ) (n : ℕ) → n ≡ min (length xs) (length t) → take n xs ≡ take n t → length t ≤ length xs → ComparesBytes t xs Compared.Ok
-compared_ok xs t n h e k =
-    (drop n xs, sym (take-append-drop n xs) ∙ ap (λ ys. ys ++ drop n xs) (e ∙ take_all n t (omega arith)))
-
-one_more : (ys : List ℕ) → 0 < length ys → (x : ℕ) × (rest : List ℕ) × (ys ≡ x ∷ rest)
-one_more [] h = absurd (omega arith)
-one_more (x ∷ rest) h = (x, rest, refl)
-
-more_after : (xs t : List ℕ) (n x : ℕ) (rest : List ℕ) → take n t ≡ xs → drop n t ≡ x ∷ rest → t ≡ xs ++ (x ∷ rest)
-more_after xs t n x rest e f = sym (take-append-drop n t) ∙ (ap (λ ys. ys ++ drop n t) e ∙ ap (λ ys. xs ++ ys) f)
-
-pub compared_incomplete : (xs t : List ℕ) (n : ℕ) → n ≡ min (length xs) (length t) → take n xs ≡ take n t → length xs < length t → ComparesBytes t xs Compared.Incomplete
-compared_incomplete xs t n h e k =
-    let p = one_more (drop n t) (omega (arith, length-drop n t)) in
-    (p.0, p.1, more_after xs t n p.0 p.1 (sym e ∙ take_all n xs (omega arith)) p.2)
+use Rattle.nom_traits.specs.Compares.{ComparesAs}
+use Rattle.nom_traits.specs.CompareTags.{IsForm, begun_with}
 
 -- fronts of lists that differ at a place
 pub fronts_differ : (xs t : List ℕ) (i n : ℕ) → i < n → (get_or xs i 0 ≡ get_or t i 0 → ⊥) → take n xs ≡ take n t → ⊥
@@ -35,3 +19,45 @@ pub fronts_are : (xs t : List ℕ) (i n : ℕ) → i ≤ n → n ≤ i → take 
 fronts_are xs t i n h k e =
     let same : i ≡ n = omega (arith, h, k) in
     subst (λ m. take m xs ≡ take m t) same e
+
+module _ (form : List ℕ → List ℕ) (f : IsForm form) (xs t : List ℕ) where
+  pub form_take : (n : ℕ) → n ≤ length xs → take n (form xs) ≡ form (take n xs)
+  form_take n h =
+      let parts : form xs ≡ form (take n xs) ++ form (drop n xs) = ap form (sym (take-append-drop n xs)) ∙ f.append (take n xs) (drop n xs) in
+      let size : n ≡ length (form (take n xs)) = sym (f.size (take n xs) ∙ length-take-le n xs h) in
+      ap (λ ys. take n ys) parts ∙ (ap (λ k. take k (form (take n xs) ++ form (drop n xs))) size ∙ take-append_seam (form (take n xs)) (form (drop n xs)))
+
+  pub compared_ok : (n : ℕ) → n ≡ min (length xs) (length t) → take n (form xs) ≡ take n (form t) → length t ≤ length xs → ComparesAs (λ ys. ys) form t xs Compared.Ok
+  compared_ok n h e k =
+      let whole : take n (form t) ≡ form t = take_all n (form t) (omega (arith, h, f.size t)) in
+      (take n xs, drop n xs, sym (take-append-drop n xs), sym (form_take n (omega (arith, h))) ∙ (e ∙ whole))
+
+  pub compared_incomplete : (n : ℕ) → n ≡ min (length xs) (length t) → take n (form xs) ≡ take n (form t) → length xs < length t → ComparesAs (λ ys. ys) form t xs Compared.Incomplete
+  compared_incomplete n h e k =
+      let whole : take n (form xs) ≡ form xs = take_all n (form xs) (omega (arith, h, f.size xs)) in
+      begun_with (λ ys. ys) form t xs (drop n (form t)) (omega (arith, h, f.size t, length-drop n (form t))) (sym (take-append-drop n (form t)) ∙ ap (λ ys. ys ++ drop n (form t)) (sym e ∙ whole))
+
+  pub compared_error : (n : ℕ) → n ≡ min (length xs) (length t) → (take n (form xs) ≡ take n (form t) → ⊥) → ComparesAs (λ ys. ys) form t xs Compared.Error
+  compared_error n h differ = (
+    λ k.
+        let parts : form xs ≡ form k.0 ++ form k.1 = ap form k.2 ∙ f.append k.0 k.1 in
+        let room : n ≤ length (form k.0) = omega (arith, h, ap length k.3, f.size t) in
+        differ (ap (λ ys. take n ys) parts ∙ (take-append-le n (form k.0) (form k.1) room ∙ ap (λ ys. take n ys) k.3)),
+    λ k.
+        let room : n ≤ length (form xs) = omega (arith, h, f.size xs) in
+        differ (sym (ap (λ ys. take n ys) k.2 ∙ take-append-le n (form xs) (k.0 ∷ k.1) room)),
+  )
+
+-- ASCII letters folded
+pub folded_at : (xs : List ℕ) (i : ℕ) → i < length xs → get_or (str_to_ascii_lowercase xs) i 0 ≡ to_ascii_lowercase (get_or xs i 0)
+folded_at xs i h = get_or-map to_ascii_lowercase xs i 0 0 h
+
+pub folded_min : (xs t : List ℕ) (n : ℕ) → n ≡ min (length xs) (length t) → n ≡ min (length (str_to_ascii_lowercase xs)) (length (str_to_ascii_lowercase t))
+folded_min xs t n h = omega (arith, h, length-map xs to_ascii_lowercase, length-map t to_ascii_lowercase)
+
+-- what is found at a place of both, with letters folded
+pub folded_same : (xs t : List ℕ) (i n x y : ℕ) → n ≡ min (length xs) (length t) → i < n → x ≡ to_ascii_lowercase (get_or xs i 0) → y ≡ to_ascii_lowercase (get_or t i 0) → x ≡ y → get_or (str_to_ascii_lowercase xs) i 0 ≡ get_or (str_to_ascii_lowercase t) i 0
+folded_same xs t i n x y m h e f g = folded_at xs i (omega (arith, m, h)) ∙ (sym e ∙ (g ∙ (f ∙ sym (folded_at t i (omega (arith, m, h))))))
+
+pub folded_other : (xs t : List ℕ) (i n x y : ℕ) → n ≡ min (length xs) (length t) → i < n → x ≡ to_ascii_lowercase (get_or xs i 0) → y ≡ to_ascii_lowercase (get_or t i 0) → (x ≡ y → ⊥) → get_or (str_to_ascii_lowercase xs) i 0 ≡ get_or (str_to_ascii_lowercase t) i 0 → ⊥
+folded_other xs t i n x y m h e f g k = g (e ∙ (sym (folded_at xs i (omega (arith, m, h))) ∙ (k ∙ (folded_at t i (omega (arith, m, h)) ∙ sym f))))

@@ -1,5 +1,5 @@
 -- The items of a slice of bytes, one by one.
-use Rattle.std.proofs.Common.{◌≡◌, ℕ, List, Iter, sym, ◌∙◌, ap, subst}
+use Rattle.std.proofs.Common.{◌≡◌, ℕ, List, Iter, ◌∙◌, ap, subst}
 use Rattle.std.specs.Iterator.{AlwaysYields}
 use Rattle.std.proofs.lemmas.Fn.{fronts, slice_gives}
 use Rattle.std.proofs.lemmas.Iterator.{YieldsList}

@@ -1,3 +1,6 @@
 pub mod ByteCompared
 pub mod ByteCuts
 pub mod ByteItems
+pub mod TextAfter
+pub mod TextCompared
+pub mod TextCuts

@@ -1,5 +1,6 @@
 -- Comparisons with tags.
-use Rattle.std.specs.Prelude.{◌≡◌, ℕ, ◌<◌, List, ◌∷◌, ◌++◌}
+use Rattle.std.specs.Prelude.{◌≡◌, ℕ, ◌<◌, List, ◌∷◌, ◌++◌, encode_utf8_all}
+use Rattle.std.specs.Str.{str_to_ascii_lowercase}
 use Rattle.nom_traits.specs.declared.compare.CompareResult.{CompareResult}
 use Rattle.nom_traits.specs.declared.compare.CompareResult.TheVariants as Compared
 use Rattle.nom_traits.specs.Input.{Seen, IsPlace, Extends, input_len}
@@ -15,8 +16,33 @@ pub record CompareLaws {I A T : Type 0} (w : Seen I A) (size : T → ℕ) (Compa
   pub ok_stays : (t : T) (x y : I) → w.IsKnown x → w.IsKnown y → Extends w x y → Compares t (w.elements x) Compared.Ok → Compares t (w.elements y) Compared.Ok
   pub error_stays : (t : T) (x y : I) → w.IsKnown x → w.IsKnown y → Extends w x y → Compares t (w.elements x) Compared.Error → Compares t (w.elements y) Compared.Error
 
--- a list of bytes against a tag: the tag is a front of it, or it is a proper front of the tag, or neither
+-- items that are read as bytes, against a tag of bytes: bytes of one form are alike
+module _ {A : Type 0} (bytes : List A → List ℕ) (form : List ℕ → List ℕ) (t : List ℕ) (xs : List A) where
+  -- the tag is the first items
+  abbrev pub IsFound : Type 0
+  IsFound = (front : List A) × (rest : List A) × (xs ≡ front ++ rest) × (form (bytes front) ≡ form t)
+
+  -- all items together are a proper front of the tag
+  abbrev pub IsBegun : Type 0
+  IsBegun = (x : ℕ) × (rest : List ℕ) × (form t ≡ form (bytes xs) ++ (x ∷ rest))
+
+  abbrev pub ComparesAs : CompareResult → Type 0
+  ComparesAs Compared.Ok = IsFound
+  ComparesAs Compared.Incomplete = IsBegun
+  ComparesAs Compared.Error = (IsFound → ⊥) × (IsBegun → ⊥)
+
+-- bytes against a tag
 abbrev pub ComparesBytes : List ℕ → List ℕ → CompareResult → Type 0
-ComparesBytes t xs Compared.Ok = (rest : List ℕ) × (xs ≡ t ++ rest)
-ComparesBytes t xs Compared.Incomplete = (x : ℕ) × (rest : List ℕ) × (t ≡ xs ++ (x ∷ rest))
-ComparesBytes t xs Compared.Error = ((rest : List ℕ) → xs ≡ t ++ rest → ⊥) × ((x : ℕ) (rest : List ℕ) → t ≡ xs ++ (x ∷ rest) → ⊥)
+ComparesBytes = ComparesAs (λ xs. xs) (λ t. t)
+
+-- with ASCII letters folded
+abbrev pub ComparesBytesNoCase : List ℕ → List ℕ → CompareResult → Type 0
+ComparesBytesNoCase = ComparesAs (λ xs. xs) str_to_ascii_lowercase
+
+-- characters against a tag of bytes
+abbrev pub ComparesText : List ℕ → List ℕ → CompareResult → Type 0
+ComparesText = ComparesAs encode_utf8_all (λ t. t)
+
+-- with ASCII letters folded
+abbrev pub ComparesTextNoCase : List ℕ → List ℕ → CompareResult → Type 0
+ComparesTextNoCase = ComparesAs encode_utf8_all str_to_ascii_lowercase

@@ -1,7 +1,8 @@
-pub mod ByteCompares
 pub mod Bytes
+pub mod CompareTags
 pub mod Compares
 pub mod Input
 pub mod Rests
 pub mod Slices
+pub mod Text
 pub mod View

@@ -1,5 +1,5 @@
 -- What values are compared by.
-use Rattle.std.specs.Prelude.{List, Option, Some, None}
+use Rattle.std.specs.Prelude.{ℕ, List, Option, Some, None, chars}
 use Rattle.std.specs.Borrow.{Bor}
 use Rattle.nom_traits.specs.Input.{Seen}
 
@@ -26,6 +26,10 @@ option_view a = record { Value = Option a.Value; value = view_some a }
 -- the value behind a reference
 abbrev pub behind_view : {A : Type 0} → View (Bor A)
 behind_view {A} = record { Value = A; value = λ r. r.now }
+
+-- the characters of a text
+abbrev pub text_view : View (Bor (List ℕ))
+text_view = record { Value = List ℕ; value = λ t. chars t.now }
 
 -- the items of an input, with its mark
 abbrev pub items_view : {I A : Type 0} → Seen I A → View I

@@ -1,5 +1,6 @@
 //! Inputs.
 ghost use Rattle.std.specs.Prelude.{◌≡◌, ◌<◌, ℕ, List, length, Option, MatchResult};
+ghost use Rattle.std.specs.Char.{IsScalar};
 ghost use Rattle.std.specs.Iterator.{AlwaysYields, IsFinite};
 ghost use Rattle.nom_error.specs.Answers.{size_of};
 ghost use Rattle.nom_traits.specs.Input.{Seen, InputLaws, AreValues, IsPlace, IsFront, IsRest, IsSame, input_len};
@@ -16,6 +17,10 @@ pub trait Value {
 
 impl Value for u8 {
     ghost IsValue = { λ b. b < 256 };
+}
+
+impl Value for char {
+    ghost IsValue = { λ c. IsScalar c };
 }
 
 /// A value seen as a list of items, each of a length of at least 1, with a mark.

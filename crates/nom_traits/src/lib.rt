@@ -5,4 +5,7 @@ pub mod bytes;
 pub mod compare;
 pub mod input;
 pub mod offset;
+#[cfg(test)]
+mod tests;
+pub mod text;
 pub mod view;

@@ -1,5 +1,5 @@
 //! What outputs are compared by.
-ghost use Rattle.nom_traits.specs.View.{View, itself, pair_view, option_view, behind_view};
+ghost use Rattle.nom_traits.specs.View.{View, itself, pair_view, option_view, behind_view, text_view};
 
 /// A type whose values are compared by a view of them: references by what they point to. With no
 /// member given, a value is compared as it is, so `impl Viewed for Color {}` serves most types.
@@ -50,5 +50,5 @@ impl Viewed for &[u8] {
 }
 
 impl Viewed for &str {
-    ghost view = { behind_view };
+    ghost view = { text_view };
 }

@@ -1,6 +1,7 @@
 //! Parsers over an input type and an error type of a user's own.
 ghost use Rattle.std.specs.Prelude.{◌≡◌, ℕ, ◌-◌, List, length, Some, MatchResult};
-ghost use Rattle.nom_traits.specs.Compares.{ComparesBytes};
+ghost use Rattle.nom_traits.specs.Compares.{ComparesBytes, ComparesBytesNoCase};
+ghost use Rattle.nom_traits.specs.CompareTags.{bytes_comparing, bytes_comparing_no_case};
 ghost use Rattle.nom.specs.Held.{seen_held, held_view, held_lawful, held_comparing};
 
 use crate::bytes::{tag, take};
@@ -76,6 +77,8 @@ impl<'a, 'b> Compare<&'b [u8]> for Packet<'a> {
 
     ghost compares = { ComparesBytes };
 
+    ghost compares_no_case = { ComparesBytesNoCase };
+
     fn tag_len(tag: &'b [u8]) -> usize
         ensures { result ≡ length tag.now }
     {
@@ -86,7 +89,13 @@ impl<'a, 'b> Compare<&'b [u8]> for Packet<'a> {
         self.bytes.compare(tag)
     }
 
-    ghost comparing = { held_comparing (λ p. p.bytes) };
+    fn compare_no_case(&self, tag: &'b [u8]) -> CompareResult {
+        self.bytes.compare_no_case(tag)
+    }
+
+    ghost comparing = { held_comparing (λ p. p.bytes) bytes_comparing };
+
+    ghost comparing_no_case = { held_comparing (λ p. p.bytes) bytes_comparing_no_case };
 }
 
 /// How many bytes were left at a refusal, and why.

@@ -1,0 +1,44 @@
+-- How a text is seen.
+use Rattle.std.specs.Prelude.{◌≡◌, ℕ, ◌<◌, ◌^◌, Bool, true, false, List, [], ◌∷◌, length, refl, chars, encode_utf8, encode_utf8_all, IsUtf8, ◌&&◌}
+use Rattle.std.specs.Borrow.{Bor}
+use Rattle.std.specs.Char.{len_utf8, IsScalar}
+use Rattle.std.specs.Str.{all_scalars}
+use Rattle.std.proofs.Common.{arith, length-append}
+use Rattle.std.proofs.Math.Utf8.{scalar}
+use Rattle.std.proofs.lemmas.Str.{len_utf8_bounds, scalars-chars, length-encode}
+use Rattle.nom_traits.specs.Input.{Seen, AreValues, InputLaws, span}
+
+-- a text is seen as its characters, each as long as its UTF-8 form
+abbrev pub seen_text : Seen (Bor (List ℕ)) ℕ
+seen_text = record {
+  elements = λ s. chars s.now;
+  weight = len_utf8;
+  Mark = Unit {0};
+  mark = λ _. tt;
+  mark_after = λ m _. m;
+  IsKnown = λ s. IsUtf8 s.now × (length s.now < 2 ^ 63);
+  IsMore = λ _. Unit {0};
+}
+
+pub text_lawful : InputLaws seen_text
+text_lawful = record {
+  positive = λ c. omega (arith, (len_utf8_bounds c).0);
+  mark_none = λ _. refl;
+  mark_more = λ _ _ _. refl;
+}
+
+pub both : (x y : Bool) → (x && y) ≡ true → (x ≡ true) × (y ≡ true)
+both true y h = (refl, h)
+both false y h = (h, absurd (cc))
+
+scalars_are_values : (cs : List ℕ) → all_scalars cs ≡ true → AreValues IsScalar cs
+scalars_are_values [] h = tt
+scalars_are_values (c ∷ cs) h = let b = both (scalar c) (all_scalars cs) h in (b.0, scalars_are_values cs b.1)
+
+pub text_values : (i : Bor (List ℕ)) → seen_text.IsKnown i → AreValues IsScalar (chars i.now)
+text_values i h = scalars_are_values (chars i.now) (scalars-chars i.now h.0)
+
+-- the length of characters is that of their bytes
+pub span-text : (cs : List ℕ) → span len_utf8 cs ≡ length (encode_utf8_all cs)
+span-text [] = refl
+span-text (c ∷ cs) = omega (arith, span-text cs, length-append (encode_utf8 c) (encode_utf8_all cs), length-encode c)

@@ -1,0 +1,69 @@
+//! Inputs, and comparisons with tags.
+
+use crate::compare::{Compare, CompareResult};
+use crate::input::Input;
+use crate::offset::Offset;
+use nom_error::answer::Needed;
+
+// Characters of 1, 2, 3, 4, 3, 2 and 1 bytes.
+const MIXED: &str = "a¡€💢€¡a";
+
+#[test]
+fn places_of_a_text(rt: HostRuntime) {
+    let text = MIXED;
+    assert!(rt; text.input_len() == 16);
+    assert!(rt; text.slice_index(0) == Ok(0));
+    assert!(rt; text.slice_index(4) == Ok(10));
+    assert!(rt; text.slice_index(7) == Ok(16));
+    assert!(rt; text.slice_index(8) == Err(Needed::Unknown));
+    assert!(rt; "".slice_index(0) == Ok(0));
+}
+
+#[test]
+fn cuts_of_a_text(rt: HostRuntime) {
+    let text = MIXED;
+    match text.slice_index(4) {
+        Ok(place) => {
+            let (rest, front) = text.take_split(place);
+            assert!(rt; front == "a¡€💢");
+            assert!(rt; rest == "€¡a");
+            assert!(rt; text.offset(&rest) == 10);
+        }
+        Err(_) => panic!(rt; "no place"),
+    }
+    assert!(rt; text.iter_elements().count() == 7);
+}
+
+#[test]
+fn tags_of_bytes(rt: HostRuntime) {
+    let input = b"abcde".as_slice();
+    assert!(rt; input.compare("abc") == CompareResult::Ok);
+    assert!(rt; input.compare(*b"abcde") == CompareResult::Ok);
+    assert!(rt; input.compare(b"abcdef") == CompareResult::Incomplete);
+    assert!(rt; input.compare("abd") == CompareResult::Error);
+    assert!(rt; input.compare("ABC") == CompareResult::Error);
+    assert!(rt; input.compare("") == CompareResult::Ok);
+    assert!(rt; b"".as_slice().compare("a") == CompareResult::Incomplete);
+}
+
+// '@' and '`', '[' and '{', stand beside the letters and are no letters.
+#[test]
+fn tags_without_case(rt: HostRuntime) {
+    let input = b"AzaZ@[".as_slice();
+    assert!(rt; input.compare_no_case("aZAz@[") == CompareResult::Ok);
+    assert!(rt; input.compare_no_case(*b"AZAZ`[") == CompareResult::Error);
+    assert!(rt; input.compare_no_case(b"azaz@{") == CompareResult::Error);
+    assert!(rt; input.compare_no_case("azaz@[a") == CompareResult::Incomplete);
+    assert!(rt; "É".compare_no_case("é") == CompareResult::Error);
+    assert!(rt; "aÉ".compare_no_case("AÉ") == CompareResult::Ok);
+}
+
+#[test]
+fn tags_of_texts(rt: HostRuntime) {
+    assert!(rt; "éa".compare("é") == CompareResult::Ok);
+    assert!(rt; "é".compare("éa") == CompareResult::Incomplete);
+    assert!(rt; "é".compare([0xC3].as_slice()) == CompareResult::Error);
+    assert!(rt; "é".compare([0xC3, 0xA9].as_slice()) == CompareResult::Ok);
+    assert!(rt; "é".compare([0xC3, 0xA8].as_slice()) == CompareResult::Error);
+    assert!(rt; "".compare([0xC3].as_slice()) == CompareResult::Incomplete);
+}

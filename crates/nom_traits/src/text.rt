@@ -1,0 +1,100 @@
+//! Texts as inputs: the items are the characters, each as long as its UTF-8 form.
+ghost use Rattle.std.specs.Prelude.{◌≡◌, ◌<◌, length, chars, None, MatchResult};
+ghost use Rattle.nom_error.specs.Answers.{size_of};
+ghost use Rattle.nom_traits.specs.Slices.{IsCount};
+ghost use Rattle.nom_traits.specs.Text.{seen_text, text_lawful, text_values};
+
+use crate::input::{Input, Items};
+use crate::offset::Offset;
+use nom_error::answer::Needed;
+use std::str::Chars;
+
+impl Items for &str {
+    type Item = char;
+
+    ghost seen = { seen_text };
+
+    #[inline(always)]
+    fn known(self) {
+        let _bytes = self.as_bytes();
+    }
+
+    ghost lawful = { text_lawful };
+
+    ghost values = { text_values };
+
+    ghost views = { λ x y h. h.elements_are };
+}
+
+impl<'a> Input for &'a str {
+    // How many bytes the characters that are lacking take isn't known.
+    ghost lack = { λ _ _. None };
+
+    type Iter = Chars<'a>;
+
+    #[inline(always)]
+    fn input_len(&self) -> usize {
+        let text = *self;
+        text.known();
+        text.len()
+    }
+
+    #[inline(always)]
+    fn take(&self, index: usize) -> Self {
+        let text = *self;
+        text.known();
+        &text[..index]
+    }
+
+    #[inline(always)]
+    fn take_from(&self, index: usize) -> Self {
+        let text = *self;
+        text.known();
+        &text[index..]
+    }
+
+    #[inline]
+    fn slice_index(&self, count: usize) -> Result<usize, Needed> {
+        index_after(self, count)
+    }
+
+    #[inline(always)]
+    fn iter_elements(&self) -> Chars<'a> {
+        self.chars()
+    }
+
+    ghost more = { λ _. tt };
+}
+
+impl Offset for &str {
+    #[inline(always)]
+    fn offset(&self, second: &Self) -> usize {
+        let whole = *self;
+        whole.known();
+        whole.len() - second.len()
+    }
+}
+
+/// The place after the first `count` characters.
+#[inline]
+fn index_after(text: &str, count: usize) -> Result<usize, Needed>
+    ensures { MatchResult result
+        (λ n. IsCount seen_text text.entry count n)
+        (λ k. (length (chars text.now) < count) × (size_of k ≡ None)) }
+{
+    text.known();
+    let mut index = 0;
+    let mut left = count;
+    for c in text.chars() {
+        if left == 0 {
+            return Ok(index);
+        }
+        index += c.len_utf8();
+        left -= 1;
+    }
+    if left == 0 {
+        Ok(index)
+    } else {
+        Err(Needed::Unknown)
+    }
+}
