@@ -1,3 +1,3 @@
-//! Parsers of items: tags and slices.
+//! Parsers of items: tags and slices. Those at the top run in the mode that is asked for.
 
-pub use nom_bytes::{Tag, Take, tag, take};
+pub use nom_bytes::{Fixed, Tag, TagNoCase, Take, complete, streaming, tag, tag_no_case, take};

@@ -1,3 +1,4 @@
+pub mod Fixed
 pub mod TagLaws
 pub mod Tags
 pub mod TakeLaws

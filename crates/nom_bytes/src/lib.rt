@@ -3,9 +3,15 @@
 
 ghost use Rattle.std.specs.Prelude.{◌≡◌};
 
+pub mod complete;
+mod fixed;
 mod leaf;
+mod no_case;
+pub mod streaming;
 
+pub use crate::fixed::Fixed;
 pub use crate::leaf::{Tag, Take};
+pub use crate::no_case::TagNoCase;
 use std::marker::PhantomData;
 
 /// The first `count` items: bytes of a byte slice, characters of a text.
@@ -30,6 +36,20 @@ pub fn tag<T: Copy, E>(tag: T) -> Tag<T, E>
     ensures { result.tag ≡ tag }
 {
     Tag {
+        tag,
+        error: PhantomData,
+    }
+}
+
+/// A tag that the input begins with, where the case of ASCII letters doesn't matter; its output is that
+/// front of the input.
+///
+/// It refuses and asks for more as `tag` does.
+#[inline(always)]
+pub fn tag_no_case<T: Copy, E>(tag: T) -> TagNoCase<T, E>
+    ensures { result.tag ≡ tag }
+{
+    TagNoCase {
         tag,
         error: PhantomData,
     }

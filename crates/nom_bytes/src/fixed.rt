@@ -1,0 +1,43 @@
+//! Parsers in one mode.
+ghost use Rattle.nom_bytes.specs.Fixed.{fixed_meaning, fixed_lawful, fixed_steady};
+
+use nom_error::answer::PResult;
+use nom_error::mode::{IsStreaming, OutputM, OutputMode, Streaming};
+use nom_internal::parser::{Parser, StreamParser};
+use nom_traits::input::Items;
+use std::marker::PhantomData;
+
+/// A parser that runs in the mode `S`, whatever mode is asked for.
+#[derive(Drop)]
+pub struct Fixed<P, S> {
+    pub parser: P,
+    pub mode: PhantomData<S>,
+}
+
+impl<I: Items, P: Parser<I> + Drop, S: IsStreaming> Parser<I> for Fixed<P, S> {
+    type Output = P::Output;
+
+    type Error = P::Error;
+
+    ghost State = { P.State };
+
+    ghost state = { λ p. P.state p.parser };
+
+    ghost Tree = { P.Tree };
+
+    ghost IsOutput = { P.IsOutput };
+
+    ghost meaning = { λ s. fixed_meaning S.STREAMING (P.meaning s) };
+
+    #[inline(always)]
+    fn process<OM: OutputMode>(&mut self, input: I) -> PResult<I, P::Output, P::Error> {
+        self.parser
+            .process::<OutputM<OM::Output, OM::Error, S>>(input)
+    }
+
+    ghost lawful = { λ s. fixed_lawful I.seen S.STREAMING (P.meaning s) (P.lawful s) };
+}
+
+impl<I: Items, P: StreamParser<I> + Drop> StreamParser<I> for Fixed<P, Streaming> {
+    ghost steady = { λ s. fixed_steady I.seen (P.meaning s) (P.steady s) };
+}

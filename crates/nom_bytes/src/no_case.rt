@@ -1,0 +1,61 @@
+//! Tags without the case of ASCII letters.
+ghost use Rattle.nom_traits.specs.Slices.{Slice, IsSeenAs};
+ghost use Rattle.nom_bytes.specs.Tags.{tag_meaning};
+ghost use Rattle.nom_bytes.specs.TagLaws.{tag_lawful, tag_steady};
+
+use nom_error::answer::{Err, Needed, PResult};
+use nom_error::kind::ErrorKind;
+use nom_error::mode::{IsStreaming, OutputMode};
+use nom_error::value::{ParseError, refusal};
+use nom_internal::parser::{Parser, StreamParser};
+use nom_internal::slices::front;
+use nom_traits::compare::{Compare, CompareResult};
+use nom_traits::input::Input;
+use std::marker::PhantomData;
+
+/// A tag without the case of ASCII letters, made by `tag_no_case`.
+#[derive(Drop)]
+pub struct TagNoCase<T, E> {
+    pub tag: T,
+    pub error: PhantomData<E>,
+}
+
+impl<T: Copy, I: Input + Compare<T>, E: ParseError<I>> Parser<I> for TagNoCase<T, E> {
+    type Output = I;
+
+    type Error = E;
+
+    // Tags that are seen alike are one parser.
+    ghost State = { I.Tag };
+
+    ghost state = { λ p. I.tag_seen p.tag };
+
+    ghost Tree = { Slice I.seen };
+
+    ghost IsOutput = { λ _. IsSeenAs I.seen };
+
+    ghost meaning = { λ tag. tag_meaning I.seen E.from_error_kind_gives E.grows I.tag_size I.compares_no_case tag };
+
+    #[inline(always)]
+    fn process<OM: OutputMode>(&mut self, input: I) -> PResult<I, I, E> {
+        input.known();
+        match input.compare_no_case(self.tag) {
+            CompareResult::Ok => {
+                let n = I::tag_len(self.tag);
+                Ok((input.take_from(n), front::<OM::Output, I>(input, n)))
+            }
+            CompareResult::Incomplete if OM::Incomplete::STREAMING => {
+                let n = I::tag_len(self.tag) - input.input_len();
+                Err(Err::Incomplete(Needed::new(n)))
+            }
+            CompareResult::Incomplete => Err(refusal::<OM::Error, I, E>(input, ErrorKind::Tag)),
+            CompareResult::Error => Err(refusal::<OM::Error, I, E>(input, ErrorKind::Tag)),
+        }
+    }
+
+    ghost lawful = { tag_lawful I.seen I.lawful E.from_error_kind_gives E.grows I.tag_size I.compares_no_case I.comparing_no_case };
+}
+
+impl<T: Copy, I: Input + Compare<T>, E: ParseError<I>> StreamParser<I> for TagNoCase<T, E> {
+    ghost steady = { tag_steady I.seen I.lawful E.from_error_kind_gives E.grows I.tag_size I.compares_no_case I.comparing_no_case };
+}
