@@ -1,5 +1,7 @@
-//! The first rows, and parsers over a user's own input and error types.
+//! Parsers put together: over bytes and texts, over input and error types of a user's own, on inputs
+//! that grow, and where memory runs out.
 
 mod growing;
+mod memory;
 mod own;
 mod texts;

@@ -1,0 +1,41 @@
+//! Want of memory.
+use crate::bytes::tag;
+use crate::error::Error;
+use crate::multi::many0;
+use crate::{Err, Parser};
+use linked_list_allocator::LocalHeap;
+use std::alloc::AllocError;
+
+type Fail<'a> = Error<&'a [u8]>;
+
+/// Heaps of each size up to one that suffices: each growth of the list is refused in turn, and each
+/// time the answer is want of memory, and no shorter list.
+#[test]
+fn each_growth_refused(rt: HostRuntime) -> Result<(), AllocError> {
+    let input = b"aaaaaaaaaaaaaaaaaaaaaaaaaaaaaaaaaaaaaaaab".as_slice();
+    let mut refused = 0usize;
+    let mut accepted = false;
+    for units in 1..200 {
+        let heap = LocalHeap::new(rt.alloc(), units * 16)?;
+        let mut items = many0(&heap, tag::<_, Fail>(&b"a"[..]));
+        match items.parse(input) {
+            Ok((rest, list)) => {
+                accepted = true;
+                assert!(rt; rest == b"b".as_slice());
+                assert!(rt; list.len() == 40);
+            }
+            Err(Err::OutOfMemory) => {
+                refused = refused.saturating_add(1);
+                assert!(rt; !accepted);
+            }
+            _ => panic!(rt; "refused"),
+        }
+        match items.parse(b"b".as_slice()) {
+            Ok((rest, list)) => assert!(rt; rest.len() == 1 && list.is_empty()),
+            _ => panic!(rt; "an empty list takes memory"),
+        }
+    }
+    assert!(rt; refused > 3);
+    assert!(rt; accepted);
+    Ok(())
+}
