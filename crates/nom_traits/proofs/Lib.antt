@@ -4,3 +4,4 @@ pub mod ByteItems
 pub mod TextAfter
 pub mod TextCompared
 pub mod TextCuts
+pub mod Walks

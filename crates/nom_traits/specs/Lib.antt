@@ -3,6 +3,7 @@ pub mod CompareTags
 pub mod Compares
 pub mod Input
 pub mod Rests
+pub mod Runs
 pub mod Slices
 pub mod Text
 pub mod View

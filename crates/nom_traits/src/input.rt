@@ -1,10 +1,11 @@
 //! Inputs.
-ghost use Rattle.std.specs.Prelude.{◌≡◌, ◌<◌, ℕ, List, length, Option, MatchResult};
+ghost use Rattle.std.specs.Prelude.{◌≡◌, ◌<◌, ℕ, List, length, Option, true, false, MatchResult};
 ghost use Rattle.std.specs.Char.{IsScalar};
-ghost use Rattle.std.specs.Iterator.{AlwaysYields};
+ghost use Rattle.std.specs.Iterator.{AlwaysYields, IsFinite};
 ghost use Rattle.nom_error.specs.Answers.{size_of};
-ghost use Rattle.nom_traits.specs.Input.{Seen, InputLaws, AreValues, IsPlace, IsFront, IsRest, IsSame, input_len};
+ghost use Rattle.nom_traits.specs.Input.{Seen, InputLaws, AreValues, placed, IsPlace, IsFront, IsRest, IsSame, input_len};
 ghost use Rattle.nom_traits.specs.Slices.{IsCount};
+ghost use Rattle.nom_traits.specs.Runs.{IsPosition};
 
 use crate::view::Viewed;
 use nom_error::answer::Needed;
@@ -53,6 +54,9 @@ pub trait Input: Items {
     /// Gives the items one by one.
     type Iter: Iterator<Item = Self::Item> + Drop;
 
+    /// Gives the items one by one, each with its place.
+    type IterIndices: Iterator<Item = (usize, Self::Item)> + Drop;
+
     /// The length: the sum of the items' lengths.
     fn input_len(&self) -> usize
         ensures { result ≡ input_len Self.seen self.now };
@@ -75,7 +79,15 @@ pub trait Input: Items {
 
     /// The items, one by one.
     fn iter_elements(&self) -> Self::Iter
-        ensures { AlwaysYields Self.Iter.next_gives (λ x. x) result (Self.seen.elements self.now) };
+        ensures items { AlwaysYields Self.Iter.next_gives (λ x. x) result (Self.seen.elements self.now) }
+        ensures starts { Self.Iter.can_next result }
+        ensures ends { IsFinite (Self.Iter.remaining result) };
+
+    /// The items, one by one, each with its place.
+    fn iter_indices(&self) -> Self::IterIndices
+        ensures items { AlwaysYields Self.IterIndices.next_gives (λ x. x) result (placed Self.seen.weight 0 (Self.seen.elements self.now)) }
+        ensures starts { Self.IterIndices.can_next result }
+        ensures ends { IsFinite (Self.IterIndices.remaining result) };
 
     /// Any items may follow.
     ghost more: { (xs : List Self.Item) → Self.seen.IsMore xs };
@@ -88,5 +100,20 @@ pub trait Input: Items {
         ensures front { IsFront Self.seen self.now index result.1 }
     {
         (self.take_from(index), self.take(index))
+    }
+
+    /// The place of the first item for which the predicate answers true; `None` where it answers false
+    /// for each.
+    #[inline(always)]
+    final fn position<P: Fn(Self::Item) -> bool>(&self, predicate: P) -> Option<usize>
+        requires { P.IsAlwaysCallable predicate }
+        ensures { IsPosition Self.seen (λ x. P.post predicate x false) (λ x. P.post predicate x true) self.now result }
+    {
+        for (index, item) in self.iter_indices() {
+            if predicate(item) {
+                return Some(index);
+            }
+        }
+        None
     }
 }

@@ -67,3 +67,21 @@ fn tags_of_texts(rt: HostRuntime) {
     assert!(rt; "é".compare([0xC3, 0xA8].as_slice()) == CompareResult::Error);
     assert!(rt; "".compare([0xC3].as_slice()) == CompareResult::Incomplete);
 }
+
+#[test]
+fn positions(rt: HostRuntime) {
+    let text = MIXED;
+    assert!(rt; text.position(|c| c == '€') == Some(3));
+    assert!(rt; text.position(|c| c == 'b') == None);
+    let bytes = b"ab,cd,".as_slice();
+    assert!(rt; bytes.position(|b| b == b',') == Some(2));
+    assert!(rt; bytes.position(|b| b == b'a') == Some(0));
+    assert!(rt; b"".as_slice().position(|_| true) == None);
+    match text.iter_indices().last() {
+        Some((place, c)) => {
+            assert!(rt; place == 15);
+            assert!(rt; c == 'a');
+        }
+        None => panic!(rt; "no characters"),
+    }
+}
