@@ -5,5 +5,6 @@ pub mod Input
 pub mod Rests
 pub mod Runs
 pub mod Slices
+pub mod Splits
 pub mod Text
 pub mod View
