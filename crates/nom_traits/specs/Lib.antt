@@ -3,6 +3,8 @@ pub mod CompareTags
 pub mod Compares
 pub mod Input
 pub mod Rests
+pub mod Runs
 pub mod Slices
+pub mod Splits
 pub mod Text
 pub mod View

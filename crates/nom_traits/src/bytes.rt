@@ -4,7 +4,7 @@ ghost use Rattle.nom_traits.specs.Bytes.{seen_bytes, bytes_lawful};
 
 use crate::input::{Input, Items};
 use nom_error::answer::Needed;
-use std::iter::Copied;
+use std::iter::{Copied, Enumerate};
 use std::slice::Iter;
 
 impl Items for &[u8] {
@@ -28,6 +28,8 @@ impl<'a> Input for &'a [u8] {
     ghost lack = { λ count xs. Some (count - length xs) };
 
     type Iter = Copied<Iter<'a, u8>>;
+
+    type IterIndices = Enumerate<Copied<Iter<'a, u8>>>;
 
     #[inline(always)]
     fn input_len(&self) -> usize {
@@ -60,6 +62,11 @@ impl<'a> Input for &'a [u8] {
     #[inline(always)]
     fn iter_elements(&self) -> Copied<Iter<'a, u8>> {
         self.iter().copied()
+    }
+
+    #[inline(always)]
+    fn iter_indices(&self) -> Enumerate<Copied<Iter<'a, u8>>> {
+        self.iter_elements().enumerate()
     }
 
     ghost more = { λ _. tt };

@@ -260,7 +260,9 @@ fn compare_bytes(bytes: &[u8], tag: &[u8]) -> CompareResult
 {
     let n = bytes.len().min(tag.len());
     for i in 0..n {
-        if bytes[i] != tag[i] {
+        let byte = bytes[i];
+        let wanted = tag[i];
+        if byte != wanted {
             return CompareResult::Error;
         }
     }

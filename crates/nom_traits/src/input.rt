@@ -1,13 +1,19 @@
 //! Inputs.
-ghost use Rattle.std.specs.Prelude.{◌≡◌, ◌<◌, ℕ, List, length, Option, MatchResult};
+ghost use Rattle.std.specs.Prelude.{◌≡◌, ◌<◌, ℕ, List, length, Option, true, false, MatchResult};
 ghost use Rattle.std.specs.Char.{IsScalar};
 ghost use Rattle.std.specs.Iterator.{AlwaysYields, IsFinite};
-ghost use Rattle.nom_error.specs.Answers.{size_of};
-ghost use Rattle.nom_traits.specs.Input.{Seen, InputLaws, AreValues, IsPlace, IsFront, IsRest, IsSame, input_len};
+ghost use Rattle.nom_error.specs.Answers.{size_of, Refuses};
+ghost use Rattle.nom_traits.specs.Input.{Seen, InputLaws, AreValues, placed, IsPlace, IsFront, IsRest, IsSame, input_len};
 ghost use Rattle.nom_traits.specs.Slices.{IsCount};
+ghost use Rattle.nom_traits.specs.Runs.{IsPosition};
+ghost use Rattle.nom_traits.specs.Splits.{Splits, Never, RefusesWith, FrontBuilt};
 
+use crate::split::{front_built, refused, run_len};
 use crate::view::Viewed;
-use nom_error::answer::Needed;
+use nom_error::answer::{Err, IResult, Needed, PResult};
+use nom_error::kind::ErrorKind;
+use nom_error::mode::{Complete, OutputMode, Streaming};
+use nom_error::value::{ParseError, refusal};
 
 /// A type of items.
 pub trait Value {
@@ -53,6 +59,9 @@ pub trait Input: Items {
     /// Gives the items one by one.
     type Iter: Iterator<Item = Self::Item> + Drop;
 
+    /// Gives the items one by one, each with its place.
+    type IterIndices: Iterator<Item = (usize, Self::Item)> + Drop;
+
     /// The length: the sum of the items' lengths.
     fn input_len(&self) -> usize
         ensures { result ≡ input_len Self.seen self.now };
@@ -75,9 +84,15 @@ pub trait Input: Items {
 
     /// The items, one by one.
     fn iter_elements(&self) -> Self::Iter
-        ensures gives { AlwaysYields Self.Iter.next_gives (λ x. x) result (Self.seen.elements self.now) }
-        ensures can { Self.Iter.can_next result }
+        ensures items { AlwaysYields Self.Iter.next_gives (λ x. x) result (Self.seen.elements self.now) }
+        ensures starts { Self.Iter.can_next result }
         ensures ends { IsFinite (Self.Iter.remaining result) };
+
+    /// The items, one by one, each with its place.
+    fn iter_indices(&self) -> Self::IterIndices
+        ensures items { AlwaysYields Self.IterIndices.next_gives (λ x. x) result (placed Self.seen.weight 0 (Self.seen.elements self.now)) }
+        ensures starts { Self.IterIndices.can_next result }
+        ensures ends { IsFinite (Self.IterIndices.remaining result) };
 
     /// Any items may follow.
     ghost more: { (xs : List Self.Item) → Self.seen.IsMore xs };
@@ -90,5 +105,120 @@ pub trait Input: Items {
         ensures front { IsFront Self.seen self.now index result.1 }
     {
         (self.take_from(index), self.take(index))
+    }
+
+    /// The place of the first item for which the predicate answers true; `None` where it answers false
+    /// for each.
+    #[inline(always)]
+    final fn position<P: Fn(Self::Item) -> bool>(&self, predicate: P) -> Option<usize>
+        requires { P.IsAlwaysCallable predicate }
+        ensures { IsPosition Self.seen (λ x. P.post predicate x false) (λ x. P.post predicate x true) self.now result }
+    {
+        for (index, item) in self.iter_indices() {
+            if predicate(item) {
+                return Some(index);
+            }
+        }
+        None
+    }
+
+    /// The items before the first for which the predicate answers true, and the rest first. Where there is
+    /// none, more is needed.
+    #[inline(always)]
+    final fn split_at_position<P: Fn(Self::Item) -> bool, E: ParseError<Self>>(
+        &self,
+        predicate: P,
+    ) -> IResult<Self, Self, E>
+        requires { P.IsAlwaysCallable predicate }
+        ensures { Splits Self.seen (λ x. P.post predicate x false) (λ x. P.post predicate x true) true self.now false (IsFront Self.seen) Never result }
+    {
+        match run_len::<Self, Streaming, P>(*self, predicate) {
+            Some(n) => Ok(self.take_split(n)),
+            None => Err(Err::Incomplete(Needed::new(1))),
+        }
+    }
+
+    /// `split_at_position`, one item at least: where the first item is such, it refuses with the kind.
+    #[inline(always)]
+    final fn split_at_position1<P: Fn(Self::Item) -> bool, E: ParseError<Self>>(
+        &self,
+        predicate: P,
+        kind: ErrorKind,
+    ) -> IResult<Self, Self, E>
+        requires { P.IsAlwaysCallable predicate }
+        ensures { Splits Self.seen (λ x. P.post predicate x false) (λ x. P.post predicate x true) true self.now true (IsFront Self.seen) (RefusesWith (E.from_error_kind_gives self.now kind) E.grows) result }
+    {
+        match run_len::<Self, Streaming, P>(*self, predicate) {
+            Some(n) if n == 0 => Err(refused(*self, kind)),
+            Some(n) => Ok(self.take_split(n)),
+            None => Err(Err::Incomplete(Needed::new(1))),
+        }
+    }
+
+    /// `split_at_position`, where no more may come: where there is no such item, it gives all.
+    #[inline(always)]
+    final fn split_at_position_complete<P: Fn(Self::Item) -> bool, E: ParseError<Self>>(
+        &self,
+        predicate: P,
+    ) -> IResult<Self, Self, E>
+        requires { P.IsAlwaysCallable predicate }
+        ensures { Splits Self.seen (λ x. P.post predicate x false) (λ x. P.post predicate x true) false self.now false (IsFront Self.seen) Never result }
+    {
+        match run_len::<Self, Complete, P>(*self, predicate) {
+            Some(n) => Ok(self.take_split(n)),
+            None => unreachable!(),
+        }
+    }
+
+    /// `split_at_position_complete`, one item at least: where there is none, or the first is such, it
+    /// refuses with the kind.
+    #[inline(always)]
+    final fn split_at_position1_complete<P: Fn(Self::Item) -> bool, E: ParseError<Self>>(
+        &self,
+        predicate: P,
+        kind: ErrorKind,
+    ) -> IResult<Self, Self, E>
+        requires { P.IsAlwaysCallable predicate }
+        ensures { Splits Self.seen (λ x. P.post predicate x false) (λ x. P.post predicate x true) false self.now true (IsFront Self.seen) (RefusesWith (E.from_error_kind_gives self.now kind) E.grows) result }
+    {
+        match run_len::<Self, Complete, P>(*self, predicate) {
+            Some(n) if n == 0 => Err(refused(*self, kind)),
+            Some(n) => Ok(self.take_split(n)),
+            None => unreachable!(),
+        }
+    }
+
+    /// `split_at_position` or `split_at_position_complete`, as the mode says, with the items only where
+    /// outputs are built.
+    #[inline(always)]
+    final fn split_at_position_mode<OM: OutputMode, P: Fn(Self::Item) -> bool, E: ParseError<Self>>(
+        &self,
+        predicate: P,
+    ) -> PResult<Self, Self, E>
+        requires { P.IsAlwaysCallable predicate }
+        ensures { Splits Self.seen (λ x. P.post predicate x false) (λ x. P.post predicate x true) OM.Incomplete.STREAMING self.now false (FrontBuilt Self.seen OM.Output.BUILDS) Never result }
+    {
+        match run_len::<Self, OM::Incomplete, P>(*self, predicate) {
+            Some(n) => Ok((self.take_from(n), front_built::<OM::Output, Self>(*self, n))),
+            None => Err(Err::Incomplete(Needed::new(1))),
+        }
+    }
+
+    /// `split_at_position1` or `split_at_position1_complete`, as the mode says, with the items and the
+    /// error only where outputs and errors are built.
+    #[inline(always)]
+    final fn split_at_position_mode1<
+        OM: OutputMode,
+        P: Fn(Self::Item) -> bool,
+        E: ParseError<Self>,
+    >(&self, predicate: P, kind: ErrorKind) -> PResult<Self, Self, E>
+        requires { P.IsAlwaysCallable predicate }
+        ensures { Splits Self.seen (λ x. P.post predicate x false) (λ x. P.post predicate x true) OM.Incomplete.STREAMING self.now true (FrontBuilt Self.seen OM.Output.BUILDS) (Refuses (E.from_error_kind_gives self.now kind) E.grows OM.Error.BUILDS) result }
+    {
+        match run_len::<Self, OM::Incomplete, P>(*self, predicate) {
+            Some(n) if n == 0 => Err(refusal::<OM::Error, Self, E>(*self, kind)),
+            Some(n) => Ok((self.take_from(n), front_built::<OM::Output, Self>(*self, n))),
+            None => Err(Err::Incomplete(Needed::new(1))),
+        }
     }
 }

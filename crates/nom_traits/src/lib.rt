@@ -5,6 +5,7 @@ pub mod bytes;
 pub mod compare;
 pub mod input;
 pub mod offset;
+mod split;
 #[cfg(test)]
 mod tests;
 pub mod text;

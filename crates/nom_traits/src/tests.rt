@@ -3,7 +3,10 @@
 use crate::compare::{Compare, CompareResult};
 use crate::input::Input;
 use crate::offset::Offset;
-use nom_error::answer::Needed;
+use nom_error::answer::{Err, IResult, Needed};
+use nom_error::kind::ErrorKind;
+use nom_error::mode::{Check, Complete, Emit, OutputM, Streaming};
+use nom_error::value::Error;
 
 // Characters of 1, 2, 3, 4, 3, 2 and 1 bytes.
 const MIXED: &str = "a¡€💢€¡a";
@@ -66,4 +69,73 @@ fn tags_of_texts(rt: HostRuntime) {
     assert!(rt; "é".compare([0xC3, 0xA9].as_slice()) == CompareResult::Ok);
     assert!(rt; "é".compare([0xC3, 0xA8].as_slice()) == CompareResult::Error);
     assert!(rt; "".compare([0xC3].as_slice()) == CompareResult::Incomplete);
+}
+
+#[test]
+fn positions(rt: HostRuntime) {
+    let text = MIXED;
+    assert!(rt; text.position(|c| c == '€') == Some(3));
+    assert!(rt; text.position(|c| c == 'b') == None);
+    let bytes = b"ab,cd,".as_slice();
+    assert!(rt; bytes.position(|b| b == b',') == Some(2));
+    assert!(rt; bytes.position(|b| b == b'a') == Some(0));
+    assert!(rt; b"".as_slice().position(|_| true) == None);
+    match text.iter_indices().last() {
+        Some((place, c)) => {
+            assert!(rt; place == 15);
+            assert!(rt; c == 'a');
+        }
+        None => panic!(rt; "no characters"),
+    }
+}
+
+/// The rest and the front, where a split was accepted.
+fn split_of<'a>(answer: IResult<&'a str, &'a str>) -> Option<(&'a str, &'a str)> {
+    answer.ok()
+}
+
+#[test]
+fn splits(rt: HostRuntime) {
+    let text = "aé,b";
+    assert!(rt; split_of(text.split_at_position(|c| c == ',')) == Some((",b", "aé")));
+    assert!(rt; split_of(text.split_at_position_complete(|c| c == ';')) == Some(("", text)));
+    assert!(rt;
+        split_of(text.split_at_position1(|c| c == 'é', ErrorKind::Alpha)) == Some(("é,b", "a"))
+    );
+    match text.split_at_position::<_, Error<&str>>(|c| c == ';') {
+        Err(Err::Incomplete(needed)) => assert!(rt; needed == Needed::new(1)),
+        _ => panic!(rt; "not incomplete"),
+    }
+    match text.split_at_position1::<_, Error<&str>>(|c| c == 'a', ErrorKind::Alpha) {
+        Err(Err::Error(error)) => {
+            assert!(rt; error.input == text);
+            assert!(rt; error.code == ErrorKind::Alpha);
+        }
+        _ => panic!(rt; "no refusal"),
+    }
+    match "".split_at_position1_complete::<_, Error<&str>>(|c| c == 'a', ErrorKind::Digit) {
+        Err(Err::Error(error)) => assert!(rt; error.code == ErrorKind::Digit),
+        _ => panic!(rt; "no refusal"),
+    }
+}
+
+#[test]
+fn splits_in_modes(rt: HostRuntime) {
+    let bytes = b"12".as_slice();
+    match bytes.split_at_position_mode::<OutputM<Check, Check, Complete>, _, Error<&[u8]>>(|b| b
+        == b'2')
+    {
+        Ok((rest, output)) => {
+            assert!(rt; rest == b"2".as_slice());
+            assert!(rt; output == None);
+        }
+        _ => panic!(rt; "no split"),
+    }
+    match bytes.split_at_position_mode1::<OutputM<Emit, Check, Streaming>, _, Error<&[u8]>>(
+        |b| b == b'1',
+        ErrorKind::Digit,
+    ) {
+        Err(Err::Error(error)) => assert!(rt; error == None),
+        _ => panic!(rt; "no refusal"),
+    }
 }

@@ -7,7 +7,7 @@ ghost use Rattle.nom_traits.specs.Text.{seen_text, text_lawful, text_values};
 use crate::input::{Input, Items};
 use crate::offset::Offset;
 use nom_error::answer::Needed;
-use std::str::Chars;
+use std::str::{CharIndices, Chars};
 
 impl Items for &str {
     type Item = char;
@@ -31,6 +31,8 @@ impl<'a> Input for &'a str {
     ghost lack = { λ _ _. None };
 
     type Iter = Chars<'a>;
+
+    type IterIndices = CharIndices<'a>;
 
     #[inline(always)]
     fn input_len(&self) -> usize {
@@ -61,6 +63,13 @@ impl<'a> Input for &'a str {
     #[inline(always)]
     fn iter_elements(&self) -> Chars<'a> {
         self.chars()
+    }
+
+    #[inline(always)]
+    fn iter_indices(&self) -> CharIndices<'a> {
+        let text = *self;
+        text.known();
+        text.char_indices()
     }
 
     ghost more = { λ _. tt };

@@ -7,7 +7,7 @@ ghost use Rattle.nom.specs.Held.{seen_held, held_view, held_lawful, held_compari
 use crate::bytes::{tag, take};
 use crate::error::{ErrorKind, ParseError};
 use crate::{Compare, CompareResult, Err, Input, Items, Needed, OutOfMemory, Parser, Viewed};
-use std::iter::Copied;
+use std::iter::{Copied, Enumerate};
 use std::slice::Iter;
 
 /// The bytes of a packet.
@@ -41,6 +41,8 @@ impl<'a> Input for Packet<'a> {
 
     type Iter = Copied<Iter<'a, u8>>;
 
+    type IterIndices = Enumerate<Copied<Iter<'a, u8>>>;
+
     fn input_len(&self) -> usize {
         self.bytes.input_len()
     }
@@ -63,6 +65,10 @@ impl<'a> Input for Packet<'a> {
 
     fn iter_elements(&self) -> Copied<Iter<'a, u8>> {
         self.bytes.iter_elements()
+    }
+
+    fn iter_indices(&self) -> Enumerate<Copied<Iter<'a, u8>>> {
+        self.bytes.iter_indices()
     }
 
     ghost more = { λ _. tt };

@@ -2,12 +2,12 @@ use Rattle.nom_traits.specs.CompareTags.{itself_form}
 use Rattle.nom_traits.proofs.ByteCompared.{fronts_differ, fronts_more, fronts_are, compared_error, compared_ok, compared_incomplete}
 use Rattle.nom_traits.proofs.compare.compare_bytes.Goals as goal
 
-pub returns-then-bytes-i : goal.returns-then-bytes-i
-returns-then-bytes-i c =
-    compared_error (λ t. t) itself_form _ _ _ c.min-n.ensures (fronts_differ _ _ c.loop-i.i _ c.loop-i-test.true c.if-bytes-i.true)
+pub returns-then-byte-wanted : goal.returns-then-byte-wanted
+returns-then-byte-wanted c =
+    compared_error (λ t. t) itself_form _ _ _ c.min-n.ensures (fronts_differ _ _ c.loop-i.i _ c.loop-i-test.true c.if-byte-wanted.true)
 
 pub loop-i-preserved : goal.loop-i-preserved
-loop-i-preserved c = fronts_more _ _ c.loop-i.i _ c.min-n.ensures c.loop-i-test.true c.loop-i.invariant c.if-bytes-i.false
+loop-i-preserved c = fronts_more _ _ c.loop-i.i _ c.min-n.ensures c.loop-i-test.true c.loop-i.invariant c.if-byte-wanted.false
 
 pub returns-then-bytes-tag : goal.returns-then-bytes-tag
 returns-then-bytes-tag c =

@@ -1,0 +1,115 @@
+-- The items of inputs, one by one, each with its place.
+use Rattle.std.proofs.Common.{◌≡◌, ℕ, ◌+◌, ◌++◌, Option, Iter, Some, None, List, [], ◌∷◌, length, sym, ◌∙◌, ap, subst, refl, arith, append_assoc, append-nil, length-append}
+use Rattle.std.specs.Prelude.{encode_utf8, encode_utf8_all}
+use Rattle.std.specs.Char.{len_utf8}
+use Rattle.std.specs.Iterator.{AlwaysYields}
+use Rattle.std.specs.Iterator.Adapters.{enumerate_source, enumerate_count, enumerate_steps}
+use Rattle.std.specs.declared.iter.Copied.{Copied}
+use Rattle.std.specs.declared.iter.Enumerate.{Enumerate}
+use Rattle.std.proofs.iter.Yields.{copies}
+use Rattle.std.proofs.lemmas.Fn.{fronts}
+use Rattle.std.proofs.lemmas.Iterator.{YieldsList}
+use Rattle.std.proofs.lemmas.Iterator.Consumers.{YieldsList-from_enumerate}
+use Rattle.std.specs.List.{All, enumerate_from}
+use Rattle.std.specs.Str.Iter.{char_indices_rest, char_indices_offset, char_indices_steps}
+use Rattle.std.specs.declared.str.CharIndices.{CharIndices}
+use Rattle.std.proofs.lemmas.List.Elements.{All-nil, All-cons, All-append}
+use Rattle.std.proofs.lemmas.Str.{encode_same, length-encode, len_utf8_bounds}
+use Rattle.nom_traits.specs.Input.{Seen, span, placed}
+use Rattle.nom_traits.specs.Rests.{span-append}
+use Rattle.nom_traits.specs.Runs.{IsPosition}
+
+-- bytes are at their indices
+pub placed_bytes : (n : ℕ) (xs : List ℕ) → enumerate_from n xs ≡ placed (λ _. 1) n xs
+placed_bytes n [] = refl
+placed_bytes n (x ∷ xs) = ap (λ ys. (n, x) ∷ ys) (placed_bytes (n + 1) xs)
+
+pub bytes_walk : (e : Enumerate (Copied (Iter ℕ))) (s : Copied (Iter ℕ)) (xs : List ℕ) → enumerate_source e ≡ s → enumerate_count e ≡ 0 → AlwaysYields (copies fronts) (λ x. x) s xs → AlwaysYields (enumerate_steps (copies fronts)) (λ p. p) e (placed (λ _. 1) 0 xs)
+bytes_walk e s xs f n h =
+    let source : YieldsList (copies fronts) (λ x. x) (enumerate_source e) xs = record { runs = subst (λ z. AlwaysYields (copies fronts) (λ x. x) z xs) (sym f) h } in
+    subst (λ ys. AlwaysYields (enumerate_steps (copies fronts)) (λ p. p) e ys) (placed_bytes 0 xs) (YieldsList-from_enumerate source n).runs
+
+pair_same : {A : Type 0} (p : ℕ × A) (n : ℕ) (x : A) → p.0 ≡ n → p.1 ≡ x → p ≡ (n, x)
+pair_same {A} p n x e f =
+    let pair : ℕ → A → ℕ × A = λ a b. (a, b) in
+    ap (λ a. pair a p.1) e ∙ ap (λ b. pair n b) f
+
+-- characters are at their places
+pub text_placed : (cs : List ℕ) (n : ℕ) (s : CharIndices) → encode_utf8_all cs ≡ char_indices_rest s → n ≡ char_indices_offset s → AlwaysYields char_indices_steps (λ p. p) s (placed len_utf8 n cs)
+text_placed [] n s e f = λ x j p. omega (arith, ap length e, ap length p.1, length-append (encode_utf8 x.1) (char_indices_rest j), length-encode x.1, (len_utf8_bounds x.1).0)
+text_placed (c ∷ cs) n s e f = (
+  λ j p. omega (arith, ap length e, p.0, length-append (encode_utf8 c) (encode_utf8_all cs), length-encode c, (len_utf8_bounds c).0),
+  λ x j p.
+      let k = encode_same c x.1 (encode_utf8_all cs) (char_indices_rest j) (e ∙ p.1) in
+      (pair_same x n c (p.0 ∙ sym f) (sym k.0), text_placed cs (n + len_utf8 c) j k.1 (omega (arith, f, p.2, length-encode x.1, ap len_utf8 k.0))),
+)
+
+module _ {I A S : Type 0} (w : Seen I A) (Meets Ends : A → Type 0) (steps : S → Option (ℕ × A) → S → Type 0) where
+  -- the items that were passed all meet the test, and s gives the others
+  pub record IsWalking (i : I) (s : S) : Type 0 where
+    pub passed : List A
+    pub rest : List A
+    pub whole : w.elements i ≡ passed ++ rest
+    pub meets : All Meets passed
+    pub gives : AlwaysYields steps (λ p. p) s (placed w.weight (span w.weight passed) rest)
+
+  pub walk_begins : (i : I) (s : S) → AlwaysYields steps (λ p. p) s (placed w.weight 0 (w.elements i)) → IsWalking i s
+  walk_begins i s h = record { passed = []; rest = w.elements i; whole = refl; meets = All-nil Meets; gives = h }
+
+  -- the next item, with its place
+  record IsNext (i : I) (n : ℕ) (x : A) (t : S) : Type 0 where
+    passed : List A
+    rest : List A
+    whole : w.elements i ≡ passed ++ (x ∷ rest)
+    meets : All Meets passed
+    place : n ≡ span w.weight passed
+    gives : AlwaysYields steps (λ p. p) t (placed w.weight (n + w.weight x) rest)
+
+  next_of : (i : I) (s t : S) (n : ℕ) (x : A) (passed rest : List A) → w.elements i ≡ passed ++ rest → All Meets passed → AlwaysYields steps (λ p. p) s (placed w.weight (span w.weight passed) rest) → steps s (Some (n, x)) t → IsNext i n x t
+  next_of i s t n x passed [] e h g k = absurd (g (n, x) t k)
+  next_of i s t n x passed (y ∷ rest) e h g k =
+      let r = g.1 (n, x) t k in
+      let place : n ≡ span w.weight passed = ap (λ p. p.0) r.0 in
+      let item : x ≡ y = ap (λ p. p.1) r.0 in
+      let gives : AlwaysYields steps (λ p. p) t (placed w.weight (n + w.weight y) rest) = subst (λ m. AlwaysYields steps (λ p. p) t (placed w.weight (m + w.weight y) rest)) (sym place) r.1 in
+      record {
+        passed = passed;
+        rest = rest;
+        whole = e ∙ ap (λ z. passed ++ (z ∷ rest)) (sym item);
+        meets = h;
+        place = place;
+        gives = subst (λ z. AlwaysYields steps (λ p. p) t (placed w.weight (n + w.weight z) rest)) (sym item) gives;
+      }
+
+  next_in : (i : I) (s t : S) (n : ℕ) (x : A) → IsWalking i s → steps s (Some (n, x)) t → IsNext i n x t
+  next_in i s t n x h k = next_of i s t n x h.passed h.rest h.whole h.meets h.gives k
+
+  pub walk_goes_on : (i : I) (s t : S) (n : ℕ) (x : A) → IsWalking i s → steps s (Some (n, x)) t → Meets x → IsWalking i t
+  walk_goes_on i s t n x h k m =
+      let r = next_in i s t n x h k in
+      let place : n + w.weight x ≡ span w.weight (r.passed ++ (x ∷ [])) = omega (arith, r.place, span-append w.weight r.passed (x ∷ [])) in
+      record {
+        passed = r.passed ++ (x ∷ []);
+        rest = r.rest;
+        whole = r.whole ∙ sym (append_assoc r.passed (x ∷ []) r.rest);
+        meets = All-append Meets r.passed (x ∷ []) r.meets (All-cons Meets x [] m (All-nil Meets));
+        gives = subst (λ m. AlwaysYields steps (λ p. p) t (placed w.weight m r.rest)) place r.gives;
+      }
+
+  pub walk_stops : (i : I) (s t : S) (n : ℕ) (x : A) → IsWalking i s → steps s (Some (n, x)) t → Ends x → IsPosition w Meets Ends i (Some n)
+  walk_stops i s t n x h k m =
+      let r = next_in i s t n x h k in
+      record {
+        run = r.passed;
+        item = x;
+        rest = r.rest;
+        is_run = record { whole = r.whole; meets = r.meets; stops = m };
+        length_is = sym r.place;
+      }
+
+  ends_of : (i : I) (s t : S) (n : ℕ) (passed rest : List A) → w.elements i ≡ passed ++ rest → All Meets passed → AlwaysYields steps (λ p. p) s (placed w.weight n rest) → steps s None t → All Meets (w.elements i)
+  ends_of i s t n passed [] e h g k = subst (All Meets) (sym (e ∙ append-nil passed)) h
+  ends_of i s t n passed (y ∷ rest) e h g k = absurd (g.0 t k)
+
+  pub walk_ends : (i : I) (s t : S) → IsWalking i s → steps s None t → IsPosition w Meets Ends i None
+  walk_ends i s t h k = ends_of i s t (span w.weight h.passed) h.passed h.rest h.whole h.meets h.gives k

@@ -1,0 +1,53 @@
+//! Splits of inputs after a run of items.
+ghost use Rattle.std.specs.Prelude.{◌≡◌, true, false, MatchOption};
+ghost use Rattle.nom_traits.specs.Input.{IsPlace};
+ghost use Rattle.nom_traits.specs.Splits.{IsRunLength, IsRunOpen, RefusesWith, FrontBuilt};
+
+use crate::input::Input;
+use nom_error::answer::Err;
+use nom_error::kind::ErrorKind;
+use nom_error::mode::{IsStreaming, Mode};
+use nom_error::value::ParseError;
+
+/// The length of the first items for which the predicate answers false; `None` where more may come and
+/// no item ends them.
+#[inline(always)]
+pub fn run_len<I: Input, S: IsStreaming, P: Fn(I::Item) -> bool>(
+    input: I,
+    predicate: P,
+) -> Option<usize>
+    requires { P.IsAlwaysCallable predicate }
+    ensures { MatchOption result
+        (IsRunOpen I.seen (λ x. P.post predicate x false) (λ x. P.post predicate x true) S.STREAMING input)
+        (IsRunLength I.seen (λ x. P.post predicate x false) (λ x. P.post predicate x true) S.STREAMING input) }
+{
+    match input.position(predicate) {
+        Some(n) => Some(n),
+        None if S::STREAMING => None,
+        None => Some(input.input_len()),
+    }
+}
+
+/// The first items of an input, where outputs are built.
+#[inline(always)]
+pub fn front_built<M: Mode, I: Input>(input: I, index: usize) -> Option<I>
+    requires { IsPlace I.seen input index }
+    ensures { FrontBuilt I.seen M.BUILDS input index result }
+{
+    if M::BUILDS {
+        Some(input.take(index))
+    } else {
+        None
+    }
+}
+
+/// A refusal of a kind at an input.
+#[inline(always)]
+pub fn refused<I: Drop, E: ParseError<I>>(input: I, kind: ErrorKind) -> Err<E>
+    ensures { RefusesWith (E.from_error_kind_gives input kind) E.grows result }
+{
+    match E::from_error_kind(input, kind) {
+        Ok(error) => Err::Error(error),
+        Err(_) => Err::OutOfMemory,
+    }
+}
