@@ -19,15 +19,15 @@ use Rattle.nom_traits.specs.Input.{Seen, span, placed}
 use Rattle.nom_traits.specs.Rests.{span-append}
 use Rattle.nom_traits.specs.Runs.{IsPosition}
 
--- bytes are at their indices
-pub placed_bytes : (n : ℕ) (xs : List ℕ) → enumerate_from n xs ≡ placed (λ _. 1) n xs
-placed_bytes n [] = refl
-placed_bytes n (x ∷ xs) = ap (λ ys. (n, x) ∷ ys) (placed_bytes (n + 1) xs)
+-- items of length 1 are at their indices
+pub placed_ones : {A : Type 0} (n : ℕ) (xs : List A) → enumerate_from n xs ≡ placed (λ _. 1) n xs
+placed_ones n [] = refl
+placed_ones n (x ∷ xs) = ap (λ ys. (n, x) ∷ ys) (placed_ones (n + 1) xs)
 
-pub bytes_walk : (e : Enumerate (Copied (Iter ℕ))) (s : Copied (Iter ℕ)) (xs : List ℕ) → enumerate_source e ≡ s → enumerate_count e ≡ 0 → AlwaysYields (copies fronts) (λ x. x) s xs → AlwaysYields (enumerate_steps (copies fronts)) (λ p. p) e (placed (λ _. 1) 0 xs)
-bytes_walk e s xs f n h =
+pub slice_walk : {A : Type 0} (e : Enumerate (Copied (Iter A))) (s : Copied (Iter A)) (xs : List A) → enumerate_source e ≡ s → enumerate_count e ≡ 0 → AlwaysYields (copies fronts) (λ x. x) s xs → AlwaysYields (enumerate_steps (copies fronts)) (λ p. p) e (placed (λ _. 1) 0 xs)
+slice_walk e s xs f n h =
     let source : YieldsList (copies fronts) (λ x. x) (enumerate_source e) xs = record { runs = subst (λ z. AlwaysYields (copies fronts) (λ x. x) z xs) (sym f) h } in
-    subst (λ ys. AlwaysYields (enumerate_steps (copies fronts)) (λ p. p) e ys) (placed_bytes 0 xs) (YieldsList-from_enumerate source n).runs
+    subst (λ ys. AlwaysYields (enumerate_steps (copies fronts)) (λ p. p) e ys) (placed_ones 0 xs) (YieldsList-from_enumerate source n).runs
 
 pair_same : {A : Type 0} (p : ℕ × A) (n : ℕ) (x : A) → p.0 ≡ n → p.1 ≡ x → p ≡ (n, x)
 pair_same {A} p n x e f =
