@@ -1,0 +1,4 @@
+//! Items by their class, tokens and substrings that are looked for, bytes, and builders.
+#![tactic(auto)]
+
+pub mod character;
