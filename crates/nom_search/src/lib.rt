@@ -2,3 +2,4 @@
 #![tactic(auto)]
 
 pub mod character;
+pub mod token;
