@@ -2,4 +2,5 @@
 #![tactic(auto)]
 
 pub mod character;
+pub mod substring;
 pub mod token;
