@@ -5,4 +5,6 @@ pub mod bytes;
 pub mod character;
 pub mod extend;
 pub mod substring;
+#[cfg(test)]
+mod tests;
 pub mod token;
