@@ -1,0 +1,3 @@
+pub mod BytePlaces
+pub mod TextPlaces
+pub mod Tokens

@@ -1,0 +1,60 @@
+-- The laws of a search for the first place of a needle.
+use Rattle.std.specs.Prelude.{◌≡◌, ℕ, ◌≤◌, ◌⊎◌, List, [], ◌∷◌, ◌++◌, Option, Some, None, refl}
+use Rattle.std.specs.Borrow.{Bor}
+use Rattle.std.specs.Char.{len_utf8}
+use Rattle.std.proofs.Common.{arith, sym, ◌∙◌, ap, subst, inl, inr, append_assoc}
+use Rattle.nom_traits.specs.Input.{Seen, span}
+use Rattle.nom_traits.specs.Rests.{span-append}
+use Rattle.nom_traits.specs.Bytes.{seen_bytes}
+use Rattle.nom_traits.specs.Text.{seen_text}
+use Rattle.nom_search.specs.Substrings.{FindLaws, StandsAt, FindsFirst, FindsBytes}
+
+-- of two lists in front of one, one is a front of the other
+one_longer : {A : Type 0} (t xs ys more : List A) → t ++ ys ≡ xs ++ more → ((rest : List A) × (xs ≡ t ++ rest)) ⊎ ((x : A) × (rest : List A) × (t ≡ xs ++ (x ∷ rest)))
+one_longer [] xs ys more e = inl (xs, refl)
+one_longer (a ∷ t) [] ys more e = inr (a, t, refl)
+one_longer (a ∷ t) (b ∷ xs) ys more e =
+    let heads : a ≡ b = cc in
+    let tails : t ++ ys ≡ xs ++ more = cc in
+    elim (one_longer t xs ys more tails) [ inl h ↦ inl (h.0, cc (heads, h.1)) | inr h ↦ inr (h.0, h.1, cc (heads, h.2)) ]
+
+module _ {A : Type 0} (weight : A → ℕ) (t : List A) where
+  one_result : (xs : List A) (r s : Option ℕ) → FindsFirst weight t xs r → FindsFirst weight t xs s → r ≡ s
+  one_result xs (Some n) (Some m) h k = ap Some (omega (arith, h.1 m k.0, k.1 n h.0))
+  one_result xs (Some n) None h k = absurd (k n h.0)
+  one_result xs None (Some m) h k = absurd (h m k.0)
+  one_result xs None None h k = refl
+
+  stands_more : (xs more : List A) (n : ℕ) → StandsAt weight t xs n → StandsAt weight t (xs ++ more) n
+  stands_more xs more n s = record {
+    before = s.before;
+    rest = s.rest ++ more;
+    whole = ap (λ ys. ys ++ more) s.whole ∙ (append_assoc s.before (t ++ s.rest) more ∙ ap (λ ys. s.before ++ ys) (append_assoc t s.rest more));
+    length_is = s.length_is;
+  }
+
+  -- a needle that stands before the end of a place found stands in the shorter list
+  least_more : (xs more : List A) (n m : ℕ) → FindsFirst weight t xs (Some n) → StandsAt weight t (xs ++ more) m → n ≤ m
+  least_more xs more n m h k =
+      elim (one_longer (k.before ++ t) xs k.rest more (append_assoc k.before t k.rest ∙ sym k.whole)) [
+        | inl j ↦ h.1 m (record { before = k.before; rest = j.0; whole = j.1 ∙ append_assoc k.before t j.0; length_is = k.length_is })
+        | inr j ↦
+            let s = h.0 in
+            omega (arith, s.length_is, k.length_is, ap (span weight) s.whole, ap (span weight) j.2, span-append weight k.before t, span-append weight xs (j.0 ∷ j.1), span-append weight s.before (t ++ s.rest), span-append weight t s.rest)
+      ]
+
+  found_more : (xs more : List A) (n : ℕ) → FindsFirst weight t xs (Some n) → FindsFirst weight t (xs ++ more) (Some n)
+  found_more xs more n h = (stands_more xs more n h.0, λ m k. least_more xs more n m h k)
+
+pub first_finding : {I A : Type 0} (w : Seen I A) → FindLaws {T = List A} w (FindsFirst w.weight)
+first_finding {A = A} w = record {
+  one = λ t xs r s h k. one_result w.weight t xs r s h k;
+  place = λ t i n h. let s = h.0 in record { front = s.before; rest = t ++ s.rest; whole = s.whole; length_is = s.length_is };
+  found_stays = λ t x y n h k e f. subst (λ xs. FindsFirst w.weight t xs (Some n)) (sym e.whole) (found_more w.weight t (w.elements x) e.more n f);
+}
+
+pub bytes_finding : FindLaws {I = Bor (List ℕ)} {T = List ℕ} seen_bytes FindsBytes
+bytes_finding = first_finding seen_bytes
+
+pub text_finding : FindLaws {I = Bor (List ℕ)} {T = List ℕ} seen_text (FindsFirst len_utf8)
+text_finding = first_finding seen_text

@@ -1,0 +1,28 @@
+-- Searches for a needle, a list of items.
+use Rattle.std.specs.Prelude.{◌≡◌, ℕ, ◌≤◌, List, ◌++◌, Option, Some, None}
+use Rattle.nom_traits.specs.Input.{Seen, IsPlace, Extends, span}
+
+-- the laws of a search for needles
+pub record FindLaws {I A T : Type 0} (w : Seen I A) (Finds : T → List A → Option ℕ → Type 0) : Type 0 where
+  pub one : (t : T) (xs : List A) (r s : Option ℕ) → Finds t xs r → Finds t xs s → r ≡ s
+  -- what is found begins at a place
+  pub place : (t : T) (i : I) (n : ℕ) → Finds t (w.elements i) (Some n) → IsPlace w i n
+  -- and is found there in what is longer
+  pub found_stays : (t : T) (x y : I) (n : ℕ) → w.IsKnown x → w.IsKnown y → Extends w x y → Finds t (w.elements x) (Some n) → Finds t (w.elements y) (Some n)
+
+module _ {A : Type 0} (weight : A → ℕ) (needle xs : List A) where
+  -- the needle is a front of what follows the first items, of length n
+  pub record StandsAt (n : ℕ) : Type 0 where
+    pub before : List A
+    pub rest : List A
+    pub whole : xs ≡ before ++ (needle ++ rest)
+    pub length_is : span weight before ≡ n
+
+  -- the least place at which the needle stands, or none where it stands nowhere
+  abbrev pub FindsFirst : Option ℕ → Type 0
+  FindsFirst (Some n) = StandsAt n × ((m : ℕ) → StandsAt m → n ≤ m)
+  FindsFirst None = (m : ℕ) → StandsAt m → ⊥
+
+-- bytes in bytes
+abbrev pub FindsBytes : List ℕ → List ℕ → Option ℕ → Type 0
+FindsBytes = FindsFirst (λ _. 1)

@@ -1,0 +1,110 @@
+//! Values that are appended to builders.
+ghost use Rattle.std.specs.Prelude.{◌≡◌, ℕ, ◌++◌, List, [], encode_utf8, is_ok, string_bytes, if◌then◌else◌};
+
+use nom_error::answer::OutOfMemory;
+use std::alloc::Allocator;
+
+/// What values are appended to: a list of parts grows.
+pub trait Builder {
+    /// A part.
+    type Part;
+
+    /// The parts, the first first.
+    ghost parts: { Self → List Self.Part };
+}
+
+impl<T, A: Allocator> Builder for Vec<T, A> {
+    type Part = T;
+
+    ghost parts = { λ v. v.items };
+}
+
+/// The parts of a text are the bytes of its UTF-8 form.
+impl<A: Allocator> Builder for String<A> {
+    type Part = u8;
+
+    ghost parts = { string_bytes };
+}
+
+/// A value that can be appended to a builder, which takes its memory from an allocator of type `A`.
+pub trait ExtendInto<A: Allocator + Copy> {
+    /// An item of the value.
+    type Item;
+
+    /// What the value is appended to.
+    type Extender: Builder;
+
+    /// The parts that the value adds.
+    ghost added: { Self → List Self.Extender.Part };
+
+    /// An empty builder.
+    fn new_builder(&self, alloc: A) -> Self::Extender
+        ensures { Self.Extender.parts result ≡ [] };
+
+    /// Appends the value. Where memory runs out, the builder stays as it was.
+    fn extend_into(&self, acc: &mut Self::Extender) -> Result<(), OutOfMemory>
+        ensures { Self.Extender.parts acc.new ≡ (if is_ok result then Self.Extender.parts acc.old ++ added self.now else Self.Extender.parts acc.old) };
+}
+
+impl<A: Allocator + Copy> ExtendInto<A> for &[u8] {
+    type Item = u8;
+
+    type Extender = Vec<u8, A>;
+
+    ghost added = { λ s. s.now };
+
+    #[inline(always)]
+    fn new_builder(&self, alloc: A) -> Vec<u8, A> {
+        Vec::new(alloc)
+    }
+
+    #[inline(always)]
+    fn extend_into(&self, acc: &mut Vec<u8, A>) -> Result<(), OutOfMemory> {
+        match acc.extend_from_slice(self) {
+            Ok(()) => Ok(()),
+            Err(_) => Err(OutOfMemory),
+        }
+    }
+}
+
+impl<A: Allocator + Copy> ExtendInto<A> for &str {
+    type Item = char;
+
+    type Extender = String<A>;
+
+    ghost added = { λ s. s.now };
+
+    #[inline(always)]
+    fn new_builder(&self, alloc: A) -> String<A> {
+        String::new(alloc)
+    }
+
+    #[inline(always)]
+    fn extend_into(&self, acc: &mut String<A>) -> Result<(), OutOfMemory> {
+        match acc.push_str(self) {
+            Ok(()) => Ok(()),
+            Err(_) => Err(OutOfMemory),
+        }
+    }
+}
+
+impl<A: Allocator + Copy> ExtendInto<A> for char {
+    type Item = char;
+
+    type Extender = String<A>;
+
+    ghost added = { encode_utf8 };
+
+    #[inline(always)]
+    fn new_builder(&self, alloc: A) -> String<A> {
+        String::new(alloc)
+    }
+
+    #[inline(always)]
+    fn extend_into(&self, acc: &mut String<A>) -> Result<(), OutOfMemory> {
+        match acc.push(*self) {
+            Ok(()) => Ok(()),
+            Err(_) => Err(OutOfMemory),
+        }
+    }
+}

@@ -1,0 +1,200 @@
+//! Classes, tokens, searches, bytes and builders.
+ghost use Rattle.std.specs.Prelude.{◌≡◌, ◌<◌, ◌++◌, IfOk};
+
+use crate::bytes::AsBytes;
+use crate::character::AsChar;
+use crate::extend::{Builder, ExtendInto};
+use crate::substring::FindSubstring;
+use crate::token::FindToken;
+use nom_error::answer::OutOfMemory;
+use std::alloc::Allocator;
+
+/// Whether an item is a letter, a letter or digit, a decimal, hexadecimal, octal and binary digit, a
+/// space, and the end of a line.
+fn classes<C: AsChar>(item: C) -> [bool; 8] {
+    [
+        item.is_alpha(),
+        item.is_alphanum(),
+        item.is_dec_digit(),
+        item.is_hex_digit(),
+        item.is_oct_digit(),
+        item.is_bin_digit(),
+        item.is_space(),
+        item.is_newline(),
+    ]
+}
+
+/// The classes of a character of one byte, however it is given.
+fn are_classes(byte: u8, wanted: [bool; 8]) -> bool {
+    let c = byte as char;
+    classes(byte) == wanted
+        && classes(&byte) == wanted
+        && classes(c) == wanted
+        && classes(&c) == wanted
+}
+
+const NONE: [bool; 8] = [false; 8];
+
+const LETTER: [bool; 8] = [true, true, false, false, false, false, false, false];
+
+const HEX_LETTER: [bool; 8] = [true, true, false, true, false, false, false, false];
+
+const DECIMAL: [bool; 8] = [false, true, true, true, false, false, false, false];
+
+const OCTAL: [bool; 8] = [false, true, true, true, true, false, false, false];
+
+const BINARY: [bool; 8] = [false, true, true, true, true, true, false, false];
+
+const SPACE: [bool; 8] = [false, false, false, false, false, false, true, false];
+
+const LINE: [bool; 8] = [false, false, false, false, false, false, false, true];
+
+#[test]
+fn borders_of_classes(rt: HostRuntime) {
+    for byte in b"/:@[`{\r\x0B\x0C\x00\x7F" {
+        assert!(rt; are_classes(*byte, NONE));
+    }
+    for byte in b"01" {
+        assert!(rt; are_classes(*byte, BINARY));
+    }
+    for byte in b"27" {
+        assert!(rt; are_classes(*byte, OCTAL));
+    }
+    for byte in b"89" {
+        assert!(rt; are_classes(*byte, DECIMAL));
+    }
+    for byte in b"AFaf" {
+        assert!(rt; are_classes(*byte, HEX_LETTER));
+    }
+    for byte in b"GZgz" {
+        assert!(rt; are_classes(*byte, LETTER));
+    }
+    for byte in b" \t" {
+        assert!(rt; are_classes(*byte, SPACE));
+    }
+    assert!(rt; are_classes(b'\n', LINE));
+    // No class has characters beyond ASCII: 'é', a fullwidth digit, a no-break space, a line separator.
+    for c in ['é', '٣', '１', '\u{A0}', '\u{2028}'] {
+        assert!(rt; classes(c) == NONE);
+    }
+    assert!(rt; classes(0xE9u8) == NONE);
+}
+
+#[test]
+fn characters_and_lengths(rt: HostRuntime) {
+    assert!(rt; 0xE9u8.as_char() == 'é');
+    assert!(rt; AsChar::as_char(&0x41u8) == 'A');
+    assert!(rt; '€'.as_char() == '€');
+    assert!(rt; AsChar::len(0xE9u8) == 1);
+    assert!(rt; AsChar::len(&0xE9u8) == 1);
+    assert!(rt; AsChar::len('é') == 2);
+    assert!(rt; AsChar::len(&'€') == 3);
+}
+
+/// The bytes below a bound.
+struct Below(u8);
+
+impl FindToken<u8> for Below {
+    ghost finds = { λ s t. t < s.0 };
+
+    fn find_token(&self, token: u8) -> bool {
+        token < self.0
+    }
+}
+
+#[test]
+fn tokens(rt: HostRuntime) {
+    let bytes = b"abc".as_slice();
+    assert!(rt; bytes.find_token(b'c'));
+    assert!(rt; bytes.find_token(&b'a'));
+    assert!(rt; !bytes.find_token(b'd'));
+    assert!(rt; !b"".as_slice().find_token(b'a'));
+    assert!(rt; b"abc".find_token(b'b'));
+    assert!(rt; !b"abc".find_token(&b'd'));
+    // A byte of a character stands in a text's bytes.
+    assert!(rt; "é".find_token(0xA9u8));
+    assert!(rt; !"é".find_token(&0xE9u8));
+    assert!(rt; "aé".find_token('é'));
+    assert!(rt; !"é".find_token('©'));
+    let list = ['a', 'é'].as_slice();
+    assert!(rt; list.find_token('é'));
+    assert!(rt; !list.find_token(&'b'));
+    assert!(rt; Below(b'c').find_token(b'b'));
+    assert!(rt; !Below(b'c').find_token(b'c'));
+}
+
+#[test]
+fn characters_in_bytes(rt: HostRuntime) {
+    let bytes = [0x61u8, 0xE9].as_slice();
+    assert!(rt; bytes.find_token('a'));
+    assert!(rt; bytes.find_token('é'));
+    // U+0161 and U+01E9 end in the bytes 0x61 and 0xE9.
+    assert!(rt; !bytes.find_token('š'));
+    assert!(rt; !bytes.find_token('ǩ'));
+}
+
+// 100 times 'a', and then 'b'.
+const HAY: &[u8; 101] =
+    b"aaaaaaaaaaaaaaaaaaaaaaaaaaaaaaaaaaaaaaaaaaaaaaaaaaaaaaaaaaaaaaaaaaaaaaaaaaaaaaaaaaaaaaaaaaaaaaaaaaaab";
+
+#[test]
+fn substrings_of_bytes(rt: HostRuntime) {
+    let hay = HAY.as_slice();
+    assert!(rt; hay.find_substring("aaab") == Some(97));
+    assert!(rt; hay.find_substring("b") == Some(100));
+    assert!(rt; hay.find_substring(hay) == Some(0));
+    assert!(rt; hay.find_substring("ba") == None);
+    assert!(rt; b"aaaab".as_slice().find_substring("aab") == Some(2));
+    assert!(rt; b"abab".as_slice().find_substring(b"ab".as_slice()) == Some(0));
+    assert!(rt; b"ab".as_slice().find_substring("abc") == None);
+    assert!(rt; b"ab".as_slice().find_substring("") == Some(0));
+    assert!(rt; b"".as_slice().find_substring("") == Some(0));
+    assert!(rt; b"".as_slice().find_substring("a") == None);
+    assert!(rt; AsBytes::as_bytes(&"é").find_substring([0xA9u8].as_slice()) == Some(1));
+}
+
+#[test]
+fn substrings_of_texts(rt: HostRuntime) {
+    assert!(rt; "é".find_substring("©") == None);
+    assert!(rt; "éé".find_substring("é") == Some(0));
+    assert!(rt; "€éa".find_substring("éa") == Some(3));
+    assert!(rt; "éaéa".find_substring("a") == Some(2));
+    assert!(rt; "ab".find_substring("abc") == None);
+    assert!(rt; "é".find_substring("") == Some(0));
+    assert!(rt; "".find_substring("") == Some(0));
+}
+
+#[test]
+fn bytes_of_values(rt: HostRuntime) {
+    assert!(rt; AsBytes::as_bytes(&"é") == [0xC3u8, 0xA9].as_slice());
+    assert!(rt; AsBytes::as_bytes(&b"ab".as_slice()) == b"ab".as_slice());
+    assert!(rt; AsBytes::as_bytes(b"ab") == b"ab".as_slice());
+    assert!(rt; AsBytes::as_bytes(&b"ab") == b"ab".as_slice());
+}
+
+/// Two values in a new builder.
+fn joined<A, O, X, Y>(alloc: A, first: X, second: Y) -> Result<O, OutOfMemory>
+where
+    A: Allocator + Copy,
+    O: Builder + Drop,
+    X: ExtendInto<A, Extender = O> + Drop,
+    Y: ExtendInto<A, Extender = O> + Drop,
+    ensures { IfOk result (λ o. O.parts o ≡ X.added first ++ Y.added second) }
+{
+    let mut whole = first.new_builder(alloc);
+    first.extend_into(&mut whole)?;
+    second.extend_into(&mut whole)?;
+    Ok(whole)
+}
+
+#[test]
+fn builders(rt: HostRuntime) {
+    match joined(rt.alloc(), b"ab".as_slice(), b"cd".as_slice()) {
+        Ok(bytes) => assert!(rt; bytes.as_slice() == b"abcd".as_slice()),
+        Err(_) => panic!(rt; "out of memory"),
+    }
+    match joined(rt.alloc(), "né", '€') {
+        Ok(text) => assert!(rt; text.as_str() == "né€"),
+        Err(_) => panic!(rt; "out of memory"),
+    }
+}

@@ -1,0 +1,140 @@
+//! Tokens that are looked for.
+ghost use Rattle.std.specs.Prelude.{◌≡◌, ◌==◌, ◌↔◌, IsTrue, chars};
+ghost use Rattle.std.specs.List.{Contains, list_any};
+
+/// A list in which tokens of type `T` are looked for.
+pub trait FindToken<T> {
+    /// That a token stands in the list.
+    ghost finds: { Self → T → Type 0 };
+
+    /// Whether the token stands in the list.
+    fn find_token(&self, token: T) -> bool
+        ensures { IsTrue result ↔ finds self.now token };
+}
+
+impl FindToken<u8> for &[u8] {
+    ghost finds = { λ s t. Contains s.now t };
+
+    #[inline(always)]
+    fn find_token(&self, token: u8) -> bool {
+        has_byte(self, token)
+    }
+}
+
+impl<'a> FindToken<&'a u8> for &[u8] {
+    ghost finds = { λ s t. Contains s.now t.now };
+
+    #[inline(always)]
+    fn find_token(&self, token: &'a u8) -> bool {
+        has_byte(self, *token)
+    }
+}
+
+/// A byte in a text is one of the bytes of its UTF-8 form.
+impl FindToken<u8> for &str {
+    ghost finds = { λ s t. Contains s.now t };
+
+    #[inline(always)]
+    fn find_token(&self, token: u8) -> bool {
+        has_byte(self.as_bytes(), token)
+    }
+}
+
+impl<'a> FindToken<&'a u8> for &str {
+    ghost finds = { λ s t. Contains s.now t.now };
+
+    #[inline(always)]
+    fn find_token(&self, token: &'a u8) -> bool {
+        has_byte(self.as_bytes(), *token)
+    }
+}
+
+impl<const N: usize> FindToken<u8> for [u8; N] {
+    ghost finds = { λ s t. Contains s t };
+
+    #[inline(always)]
+    fn find_token(&self, token: u8) -> bool {
+        has_byte(self, token)
+    }
+}
+
+impl<'a, const N: usize> FindToken<&'a u8> for [u8; N] {
+    ghost finds = { λ s t. Contains s t.now };
+
+    #[inline(always)]
+    fn find_token(&self, token: &'a u8) -> bool {
+        has_byte(self, *token)
+    }
+}
+
+/// A character in bytes is a byte of its code point: none, where that is above 255.
+impl FindToken<char> for &[u8] {
+    ghost finds = { λ s t. Contains s.now t };
+
+    #[inline(always)]
+    fn find_token(&self, token: char) -> bool {
+        has_code(self, token)
+    }
+}
+
+impl FindToken<char> for &str {
+    ghost finds = { λ s t. Contains (chars s.now) t };
+
+    #[inline(always)]
+    fn find_token(&self, token: char) -> bool {
+        has_char_in_text(self, token)
+    }
+}
+
+impl FindToken<char> for &[char] {
+    ghost finds = { λ s t. Contains s.now t };
+
+    #[inline(always)]
+    fn find_token(&self, token: char) -> bool {
+        has_char(self, token)
+    }
+}
+
+impl<'a> FindToken<&'a char> for &[char] {
+    ghost finds = { λ s t. Contains s.now t.now };
+
+    #[inline(always)]
+    fn find_token(&self, token: &'a char) -> bool {
+        has_char(self, *token)
+    }
+}
+
+#[inline(always)]
+fn has_byte(bytes: &[u8], token: u8) -> bool
+    ensures { IsTrue result ↔ Contains bytes.now token }
+{
+    bytes.iter().any(|byte| *byte == token)
+}
+
+#[inline(always)]
+fn has_code(bytes: &[u8], token: char) -> bool
+    ensures { IsTrue result ↔ Contains bytes.now token }
+{
+    bytes.iter().any(|byte| *byte as char == token)
+}
+
+#[inline(always)]
+fn has_char(list: &[char], token: char) -> bool
+    ensures { IsTrue result ↔ Contains list.now token }
+{
+    list.iter().any(|c| *c == token)
+}
+
+#[inline(always)]
+fn has_char_in_text(text: &str, token: char) -> bool
+    ensures { IsTrue result ↔ Contains (chars text.now) token }
+{
+    any_char_is(text, token)
+}
+
+#[inline(always)]
+fn any_char_is(text: &str, token: char) -> bool
+    ensures { result ≡ list_any (λ c. c == token) (chars text.now) }
+{
+    text.chars().any(|c| c == token)
+}
