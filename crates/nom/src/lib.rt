@@ -3,8 +3,12 @@
 //! The public names stand under the paths of nom 8.0.0.
 #![tactic(auto)]
 
+pub mod branch;
 pub mod bytes;
 pub mod error;
+pub mod multi;
+pub mod number;
+pub mod sequence;
 #[cfg(test)]
 mod tests;
 

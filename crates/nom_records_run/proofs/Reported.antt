@@ -1,14 +1,12 @@
 -- The report, from the answer on an input that grows.
-use Rattle.std.proofs.Common.{◌≡◌, ℕ, true, ◌-◌, ◌<◌, ◌≤◌, List, [], ◌∷◌, ◌++◌, length, slice_index, Result, Ok, Err, Option, Some, None, Bor, IfOk, refl, sym, ◌∙◌, ap, subst, arith, length-append}
+use Rattle.std.proofs.Common.{◌≡◌, ℕ, true, ◌-◌, ◌<◌, ◌≤◌, List, [], ◌∷◌, ◌++◌, length, map, slice_index, codes, Vec, Result, Ok, Err, Bor, IfOk, refl, sym, ◌∙◌, ap, subst, arith, length-append}
 use Rattle.nom_error.specs.declared.value.Error.{Error}
 use Rattle.nom_error.specs.declared.answer.Needed.{Needed}
 use Rattle.nom_error.specs.declared.answer.Err as Answer
-use Rattle.nom_error.specs.declared.answer.Err.TheVariants as Stop
-use Rattle.nom_error.specs.Answers.{size_of}
 use Rattle.nom_traits.specs.Input.{IsRest}
 use Rattle.nom_traits.specs.Rests.{span-ones}
 use Rattle.nom_traits.specs.Bytes.{seen_bytes}
-use Rattle.nom_traits.specs.Compares.{ComparesBytes}
+use Rattle.std.specs.List.{AllZip}
 use Rattle.nom_traits.specs.Slices.{Slice, IsSeenAs}
 use Rattle.nom_internal.specs.Outcome.{Outcome, Parses}
 use Rattle.nom_internal.specs.Outcome.Outcome.{Accept, Refuse, Fail, TooLarge, Undecided}
@@ -17,10 +15,7 @@ use Rattle.nom_internal.specs.Growing.{IsBeginning, AnswersOn, IsGrown}
 use Rattle.nom_internal.specs.Growing.IsBeginning.{AtCut, AtEnd}
 use Rattle.nom_internal.specs.Growing.AnswersOn.{RanOutOn, ShownOn}
 use Rattle.nom_records_run.specs.Texts.{decided_text, rest_text, error_text, failure_text, need_text}
-use Rattle.nom_internal.specs.Sequence.{pair_meaning}
-use Rattle.nom_bytes.specs.Tags.{tag_meaning}
-use Rattle.nom_bytes.specs.Takes.{take_meaning}
-use Rattle.nom_records_run.specs.Report.{IsErrorAt, records_text, Says, IsTold, IsReportBy, IsReport, record_grammar, records_of}
+use Rattle.nom_records_run.specs.Report.{records_text, Says, IsTold, IsReportBy, IsReport, grammar_of, record_grammar, records_of}
 
 abbrev Bytes : Type 0
 Bytes = Bor (List ℕ)
@@ -82,16 +77,19 @@ module _ {V O : Type 0} (m : Meaning Bytes V (Error Bytes)) (records : V → Lis
   pub reported : (answer : Result (Bytes × O) Stops) (text : List ℕ) (status : ℕ) → IsGrown seen_bytes IsOutput m whole cuts index answer → IsTold given index start answer text status → IsReportBy m records whole.now cuts text status
   reported answer text status g t = answered answer text status g g.answer t
 
--- the grammar of a tag and a count is that of the report, where these are its own
-abbrev grammar_of : List ℕ → ℕ → Meaning Bytes (Slice seen_bytes × Slice seen_bytes) (Error Bytes)
-grammar_of tag count = pair_meaning seen_bytes (tag_meaning seen_bytes IsErrorAt ⊥ length ComparesBytes tag) (take_meaning seen_bytes IsErrorAt ⊥ (λ n xs. Some (n - length xs)) count)
+-- the outputs of a tree: the slices of its records
+abbrev AreRecords : {A : Type 0} → List (ℕ × Slice seen_bytes) → Vec Bytes A → Type 0
+AreRecords ts v = AllZip (λ t o. IsSeenAs seen_bytes t.1 o) ts v.items
 
--- the outputs of a tree: both slices
-abbrev IsPair : Slice seen_bytes × Slice seen_bytes → Bytes × Bytes → Type 0
-IsPair t o = IsSeenAs seen_bytes t.0 o.0 × IsSeenAs seen_bytes t.1 o.1
+contents_are : (ts : List (ℕ × Slice seen_bytes)) (os : List Bytes) → AllZip (λ t o. IsSeenAs seen_bytes t.1 o) ts os → map (λ r. r.now) os ≡ records_of ts
+contents_are [] [] h = refl
+contents_are [] (o ∷ os) h = absurd h
+contents_are (t ∷ ts) [] h = absurd h
+contents_are (t ∷ ts) (o ∷ os) h = ap (λ x. x ∷ map (λ r. r.now) os) (h.0).elements_are ∙ ap (λ xs. t.1.items ∷ xs) (contents_are ts os h.1)
 
-pub reported_record : (tag : List ℕ) (count : ℕ) → tag ≡ 82 ∷ [] → count ≡ 4 → (whole : Bytes) (cuts : List ℕ) (index start : ℕ) → (index < length cuts → start ≡ slice_index cuts index) → (length cuts ≤ index → start ≡ length whole.now) → (answer : Result (Bytes × (Bytes × Bytes)) Stops) (text : List ℕ) (status : ℕ) → IsGrown seen_bytes IsPair (grammar_of tag count) whole cuts index answer → IsTold (λ o. o.1.now ∷ []) index start answer text status → IsReport whole.now cuts text status
-reported_record tag count e f whole cuts index start at_cut at_end answer text status g t =
-    let tagged = subst (λ x. IsGrown seen_bytes IsPair (grammar_of x count) whole cuts index answer) e g in
-    let counted = subst (λ n. IsGrown seen_bytes IsPair (grammar_of (82 ∷ []) n) whole cuts index answer) f tagged in
-    reported record_grammar records_of IsPair (λ o. o.1.now ∷ []) (λ v o h. ap (λ xs. xs ∷ []) h.1.elements_are) whole cuts index start at_cut at_end answer text status counted t
+-- the grammar of two tags is that of the report, where these are its own
+pub reported_records : {A : Type 0} (tag end : List ℕ) → tag ≡ codes "R" → end ≡ codes "." → (whole : Bytes) (cuts : List ℕ) (index start : ℕ) → (index < length cuts → start ≡ slice_index cuts index) → (length cuts ≤ index → start ≡ length whole.now) → (answer : Result (Bytes × Vec Bytes A) Stops) (text : List ℕ) (status : ℕ) → IsGrown seen_bytes AreRecords (grammar_of tag end) whole cuts index answer → IsTold (λ o. map (λ r. r.now) o.items) index start answer text status → IsReport whole.now cuts text status
+reported_records tag end e f whole cuts index start at_cut at_end answer text status g t =
+    let tagged = subst (λ x. IsGrown seen_bytes AreRecords (grammar_of x end) whole cuts index answer) e g in
+    let ended = subst (λ x. IsGrown seen_bytes AreRecords (grammar_of (codes "R") x) whole cuts index answer) f tagged in
+    reported record_grammar records_of AreRecords (λ o. map (λ r. r.now) o.items) (λ v o h. contents_are v o.items h) whole cuts index start at_cut at_end answer text status ended t

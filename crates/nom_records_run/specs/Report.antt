@@ -1,5 +1,5 @@
 -- The report on the bytes of a file that comes in pieces.
-use Rattle.std.specs.Prelude.{◌≡◌, ℕ, ◌-◌, ◌<◌, ◌≤◌, true, List, [], ◌∷◌, ◌++◌, length, slice_index, Result, Ok, Err, Option, Some}
+use Rattle.std.specs.Prelude.{◌≡◌, ℕ, ◌-◌, ◌<◌, ◌≤◌, true, List, [], ◌∷◌, ◌++◌, length, map, slice_index, codes, Result, Ok, Err, Option, Some}
 use Rattle.std.specs.Borrow.{Bor}
 use Rattle.nom_error.specs.declared.kind.ErrorKind.{ErrorKind}
 use Rattle.nom_error.specs.declared.value.Error.{Error}
@@ -14,9 +14,11 @@ use Rattle.nom_internal.specs.Outcome.{Outcome}
 use Rattle.nom_internal.specs.Outcome.Outcome.{Accept, Refuse, Fail, TooLarge, Undecided}
 use Rattle.nom_internal.specs.Meaning.{Meaning}
 use Rattle.nom_internal.specs.Growing.{IsBeginning, Waits}
-use Rattle.nom_internal.specs.Sequence.{pair_meaning}
 use Rattle.nom_bytes.specs.Tags.{tag_meaning}
-use Rattle.nom_bytes.specs.Takes.{take_meaning}
+use Rattle.nom_sequence.specs.Sequences.{preceded_meaning, terminated_meaning}
+use Rattle.nom_multi.specs.Many.{many0_meaning}
+use Rattle.nom_multi.specs.Lengths.{length_data_meaning}
+use Rattle.nom_number.specs.Numbers.{number_meaning, value_of}
 use Rattle.nom_records_run.specs.Texts.{decided_text, record_text, rest_text, error_text, failure_text, need_text}
 
 -- an error that holds where it stands, and its kind
@@ -60,13 +62,28 @@ IsTold records index beginning (Err (Stop.Error e)) text status = (text ≡ erro
 IsTold records index beginning (Err (Stop.Failure e)) text status = (text ≡ failure_text e.code (beginning - length e.input.now)) × (status ≡ 1)
 IsTold records index beginning (Err Stop.OutOfMemory) text status = ⊥
 
--- the grammar: `R`, and four bytes
-abbrev pub record_grammar : Meaning (Bor (List ℕ)) (Slice seen_bytes × Slice seen_bytes) (Error (Bor (List ℕ)))
-record_grammar = pair_meaning seen_bytes (tag_meaning seen_bytes IsErrorAt ⊥ length ComparesBytes (82 ∷ [])) (take_meaning seen_bytes IsErrorAt ⊥ (λ count xs. Some (count - length xs)) 4)
+-- a number of bytes that are not there
+abbrev pub bytes_lacking : ℕ → List ℕ → Option ℕ
+bytes_lacking count bytes = Some (count - length bytes)
 
--- its one record
-abbrev pub records_of : Slice seen_bytes × Slice seen_bytes → List (List ℕ)
-records_of t = t.1.items ∷ []
+abbrev pub tag_of : List ℕ → Meaning (Bor (List ℕ)) (Slice seen_bytes) (Error (Bor (List ℕ)))
+tag_of = tag_meaning seen_bytes IsErrorAt ⊥ length ComparesBytes
+
+-- a record: a tag, a byte that says how many bytes follow, and these
+abbrev pub record_of : List ℕ → Meaning (Bor (List ℕ)) (ℕ × Slice seen_bytes) (Error (Bor (List ℕ)))
+record_of tag = preceded_meaning seen_bytes (tag_of tag) (length_data_meaning seen_bytes IsErrorAt ⊥ bytes_lacking (λ t v. v ≡ t) (number_meaning seen_bytes IsErrorAt ⊥ bytes_lacking (value_of 256) 1))
+
+-- records, and then another tag
+abbrev pub grammar_of : (tag end : List ℕ) → Meaning (Bor (List ℕ)) (List (ℕ × Slice seen_bytes)) (Error (Bor (List ℕ)))
+grammar_of tag end = terminated_meaning seen_bytes (many0_meaning seen_bytes IsErrorAt ⊥ (record_of tag)) (tag_of end)
+
+-- the grammar: records that begin with `R`, and then `.`
+abbrev pub record_grammar : Meaning (Bor (List ℕ)) (List (ℕ × Slice seen_bytes)) (Error (Bor (List ℕ)))
+record_grammar = grammar_of (codes "R") (codes ".")
+
+-- the bytes of its records
+abbrev pub records_of : List (ℕ × Slice seen_bytes) → List (List ℕ)
+records_of ts = map (λ t. t.1.items) ts
 
 -- `text` and `status` are the report on `bytes`, given in the parts that `cuts` make of them
 abbrev pub IsReport : (bytes cuts text : List ℕ) → (status : ℕ) → Type 0

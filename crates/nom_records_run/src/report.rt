@@ -1,13 +1,16 @@
 //! The report on bytes and cuts.
-ghost use Rattle.std.specs.Prelude.{◌≡◌, ◌++◌, ◌<◌, ◌≤◌, [], ◌∷◌, IfOk, length, map, slice_index, string_bytes};
+ghost use Rattle.std.specs.Prelude.{◌≡◌, ◌++◌, ◌<◌, ◌≤◌, IfOk, length, map, slice_index, string_bytes};
 ghost use Rattle.nom_records_run.specs.Report.{IsReport, IsTold, records_text};
 ghost use Rattle.nom_records_run.specs.Stream.{NoneAbove};
 ghost use Rattle.nom_records_run.specs.Texts.{decided_text, rest_text};
 
 use crate::text::{add_decided, add_error, add_failure, add_need, add_record, add_rest};
-use nom::bytes::{tag, take};
+use nom::bytes::tag;
 use nom::error::Error;
-use nom::{Err, IResult, OutOfMemory, Parser, parse_growing};
+use nom::multi::{length_data, many0};
+use nom::number::be_u8;
+use nom::sequence::{preceded, terminated};
+use nom::{Err, IResult, OutOfMemory, parse_growing};
 use std::alloc::Allocator;
 
 // The length of the beginning at the cut of an index; the number of cuts stands for the whole.
@@ -54,14 +57,14 @@ fn tell<'a, A: Allocator + Copy>(
     alloc: A,
     index: usize,
     beginning: usize,
-    answer: IResult<&'a [u8], (&'a [u8], &'a [u8])>,
+    answer: IResult<&'a [u8], Vec<&'a [u8], A>>,
 ) -> Result<(String<A>, u8), OutOfMemory>
-    ensures { IfOk result (λ r. IsTold (λ o. o.1.now ∷ []) index beginning answer.entry (string_bytes r.0) r.1) }
+    ensures { IfOk result (λ r. IsTold (λ o. map (λ r. r.now) o.items) index beginning answer.entry (string_bytes r.0) r.1) }
 {
     let mut text = String::new(alloc);
     match answer {
-        Ok((rest, (_, record))) => {
-            add_accepted(&mut text, index, &[record], rest.len())?;
+        Ok((rest, records)) => {
+            add_accepted(&mut text, index, &records, rest.len())?;
             Ok((text, 0))
         }
         Err(Err::Incomplete(needed)) => {
@@ -92,8 +95,12 @@ pub fn report<A: Allocator + Copy>(
     requires { NoneAbove cuts.now (length bytes.now) }
     ensures { IfOk result (λ r. IsReport bytes.now cuts.now (string_bytes r.0) r.1) }
 {
-    let record = tag::<_, Error<&[u8]>>(&b"R"[..]).and(take::<Error<&[u8]>>(4));
-    let grown = parse_growing(record, bytes, cuts);
+    let record = preceded(
+        tag::<_, Error<&[u8]>>(&b"R"[..]),
+        length_data(be_u8::<Error<&[u8]>>()),
+    );
+    let records = terminated(many0(alloc, record), tag::<_, Error<&[u8]>>(&b"."[..]));
+    let grown = parse_growing(records, bytes, cuts);
     let beginning = beginning_len(bytes.len(), cuts, grown.index);
     tell(alloc, grown.index, beginning, grown.result)
 }

@@ -24,46 +24,42 @@ fn told(
     assert_eq!(rt; sink.inner.as_slice(), text.as_bytes());
 }
 
+// Two records, and two bytes more.
+const FILE: [u8; 9] = *b"R\x02abR\x00.xy";
+
+const TEXT: &str = "decided at 1\nrecord 2 6162\nrecord 0\nrest 2\n";
+
 #[test]
 fn reports(rt: HostRuntime) {
-    told(
-        &rt,
-        b"Rabcd",
-        &[2],
-        0,
-        "decided at 1\nrecord 4 61626364\nrest 0\n",
-    );
-    told(
-        &rt,
-        b"Rabcdxy",
-        &[],
-        0,
-        "decided at 0\nrecord 4 61626364\nrest 2\n",
-    );
-    told(&rt, b"Ra", &[0, 1], 2, "need 3\n");
+    told(&rt, &FILE, &[3, 7], 0, TEXT);
     told(&rt, b"", &[], 2, "need 1\n");
-    told(&rt, b"Xabcd", &[1], 1, "error Tag at 0\n");
+    told(&rt, b"R\x03a", &[0, 1, 3], 2, "need 2\n");
+    told(&rt, b"R\x01aX", &[], 1, "error Tag at 3\n");
+    told(&rt, b"Rabcd", &[2], 2, "need 94\n");
+    told(&rt, b".", &[0, 0, 1], 0, "decided at 2\nrest 0\n");
 }
 
 #[test]
 fn reads_more_than_fits_one_call(rt: HostRuntime) {
-    let mut bytes = [7u8; 1000];
-    bytes[0] = b'R';
-    let text = "decided at 1\nrecord 4 07070707\nrest 995\n";
-    told(&rt, bytes.as_slice(), &[0, 1000], 0, text);
+    let mut bytes = [0u8; 1001];
+    for k in 0..500 {
+        bytes[2 * k] = b'R';
+    }
+    bytes[1000] = b'X';
+    told(&rt, bytes.as_slice(), &[0, 1000], 1, "error Tag at 1000\n");
 }
 
 #[test]
 fn refuses_cuts(rt: HostRuntime) {
-    let mut source = Counted::new(b"Rabcd".as_slice());
+    let mut source = Counted::new(FILE.as_slice());
     let mut sink = Counted::new(Vec::new(rt.alloc()));
     assert_eq!(rt;
-        run(rt.alloc(), &mut source, &[2, 1], &mut sink),
+        run(rt.alloc(), &mut source, &[7, 3], &mut sink),
         Err(RunError::Usage)
     );
-    assert_eq!(rt; source.inner.len(), 5);
+    assert_eq!(rt; source.inner.len(), 9);
     assert_eq!(rt;
-        run(rt.alloc(), &mut source, &[0, 6], &mut sink),
+        run(rt.alloc(), &mut source, &[0, 10], &mut sink),
         Err(RunError::Usage)
     );
     assert_eq!(rt; source.inner.len(), 0);
@@ -72,32 +68,34 @@ fn refuses_cuts(rt: HostRuntime) {
 
 #[test]
 fn stops_at_each_write(rt: HostRuntime) {
-    let text = b"need 1\n";
-    for calls in 0..7 {
-        let mut source = Counted::new(b"".as_slice());
+    for calls in 0..43 {
+        let mut source = Counted::new(FILE.as_slice());
         let mut sink = Counted::new(Fails {
             inner: Vec::new(rt.alloc()),
             calls,
         });
-        let status = run(rt.alloc(), &mut source, &[0], &mut sink);
+        let status = run(rt.alloc(), &mut source, &[3, 7], &mut sink);
         assert_eq!(rt; status, Err(RunError::Write));
         assert_eq!(rt; sink.failed, 1);
-        assert_eq!(rt; sink.inner.inner.as_slice(), &text[..calls as usize]);
+        assert_eq!(rt;
+            sink.inner.inner.as_slice(),
+            &TEXT.as_bytes()[..calls as usize]
+        );
     }
 }
 
 #[test]
 fn stops_at_each_read(rt: HostRuntime) {
-    for calls in 0..4 {
+    for calls in 0..10 {
         let mut source = Counted::new(Fails {
-            inner: b"Rab".as_slice(),
+            inner: FILE.as_slice(),
             calls,
         });
         let mut sink = Counted::new(Vec::new(rt.alloc()));
-        let status = run(rt.alloc(), &mut source, &[0, 3], &mut sink);
+        let status = run(rt.alloc(), &mut source, &[3, 7], &mut sink);
         assert_eq!(rt; status, Err(RunError::Read));
         assert_eq!(rt; source.failed, 1);
-        assert_eq!(rt; source.inner.inner.len() as u64, 3 - calls);
+        assert_eq!(rt; source.inner.inner.len() as u64, 9 - calls);
         assert_eq!(rt; sink.inner.len(), 0);
     }
 }
@@ -117,17 +115,17 @@ fn stops_where_no_byte_is_taken(rt: HostRuntime) {
 // Holds whichever allocation is refused.
 #[test]
 fn tells_want_of_memory(rt: HostRuntime) {
-    let mut source = Counted::new(b"Rabc".as_slice());
-    let mut room = [0u8; 7];
+    let mut source = Counted::new(FILE.as_slice());
+    let mut room = [0u8; 43];
     let mut sink = Counted::new(room.as_mut_slice());
-    match run(rt.alloc(), &mut source, &[3], &mut sink) {
+    match run(rt.alloc(), &mut source, &[3, 7], &mut sink) {
         Ok(status) => {
-            assert_eq!(rt; status, 2);
-            assert_eq!(rt; room.as_slice(), b"need 1\n".as_slice());
+            assert_eq!(rt; status, 0);
+            assert_eq!(rt; room.as_slice(), TEXT.as_bytes());
         }
         Err(error) => {
             assert_eq!(rt; error, RunError::OutOfMemory);
-            assert_eq!(rt; room.as_slice(), [0u8; 7].as_slice());
+            assert_eq!(rt; room.as_slice(), [0u8; 43].as_slice());
         }
     }
     match read_cuts(rt.alloc(), &["1", "2"]) {

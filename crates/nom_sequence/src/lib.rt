@@ -1,5 +1,6 @@
 //! Parsers made of parsers in sequence.
 #![tactic(auto)]
+
 ghost use Rattle.std.specs.Prelude.{◌≡◌};
 
 mod parts;

@@ -1,0 +1,3 @@
+//! Choice.
+
+pub use nom_branch::{Choice, alt};

@@ -1,0 +1,3 @@
+//! Repetition, and data behind a length.
+
+pub use nom_multi::{LengthData, Many0, length_data, many0};

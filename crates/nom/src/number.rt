@@ -1,0 +1,3 @@
+//! Numbers.
+
+pub use nom_number::{BeU8, be_u8};

@@ -1,0 +1,3 @@
+//! Parsers in sequence.
+
+pub use nom_sequence::{Preceded, Terminated, preceded, terminated};

@@ -1,0 +1,6 @@
+pub mod LengthShown
+pub mod Longer
+pub mod ManyShown
+pub mod Parts
+pub mod Promised
+pub mod Repeated

@@ -1,0 +1,112 @@
+-- What a repetition shows.
+use Rattle.std.proofs.Common.{◌≡◌, ℕ, ◌+◌, ◌<◌, Bool, true, false, Result, Ok, Err, Option, ◌⊎◌, List, [], ◌∷◌, ◌++◌, length, refl, zero, suc, arith, ap, inl, inr, subst, sym}
+use Rattle.nom_error.specs.declared.answer.Needed.{Needed}
+use Rattle.nom_error.specs.declared.answer.Err as Answer
+use Rattle.nom_error.specs.declared.answer.Err.TheVariants.{Incomplete, Error, Failure, OutOfMemory}
+use Rattle.nom_error.specs.Modes.{Built}
+use Rattle.nom_error.specs.Answers.{size_of}
+use Rattle.nom_traits.specs.Input.{Seen, InputLaws, IsRest, input_len, span}
+use Rattle.nom_traits.specs.Rests.{rest_rest, span-append}
+use Rattle.nom_internal.specs.Outcome.{Outcome}
+use Rattle.nom_internal.specs.Outcome.Outcome.{Accept, Refuse, Fail, TooLarge, Undecided}
+use Rattle.nom_internal.specs.Outcome.ShowsAnswer.{RanOut, Shown}
+use Rattle.nom_internal.specs.Meaning.{Meaning, ShowsMeaning}
+use Rattle.nom_internal.specs.Sequence.{after}
+use Rattle.nom_multi.specs.Repeat.{Turn, Pieces, Reaches, Repeats, IsBelow, Replies, OnReply, TurnsBy, Rule, repeat_meaning}
+use Rattle.nom_multi.specs.Repeat.Turn.{Takes, Ends}
+
+-- items were taken from i to j, and of their trees the fact holds
+pub record Collected {I A V T : Type 0} (w : Seen I A) (Turns : ℕ → I → Turn V T → Type 0) (Held : List V → Type 0) (i j : I) : Type 0 where
+  pub trees : List V
+  pub taken : ℕ
+  pub pieces : Pieces w Turns (λ _ x. x ≡ j) 0 i trees taken
+  pub rest_is : IsRest w i taken j
+  pub held : Held trees
+
+module _ {I A V T : Type 0} (w : Seen I A) (Turns : ℕ → I → Turn V T → Type 0) where
+  -- what holds at the place reached
+  pub pieces_end : (Fact : ℕ → I → Type 0) (j : I) (c : ℕ) → Fact c j → (k : ℕ) (i : I) (vs : List V) (n : ℕ) → k + length vs ≡ c → Pieces w Turns (λ _ x. x ≡ j) k i vs n → Pieces w Turns Fact k i vs n
+  pieces_end Fact j c h k i [] n e p = (p.0, subst (λ x. Fact k x) (sym p.1) (subst (λ z. Fact z j) (omega (arith, e)) h))
+  pieces_end Fact j c h k i (v ∷ vs) n e p = (p.0, p.1, p.2, p.3, p.4, pieces_end Fact j c h (k + 1) p.2 vs p.1 (omega (arith, e)) p.5, p.6)
+
+  -- one item more
+  pub pieces_more : (h j : I) (a : ℕ) (v : V) (c : ℕ) → IsRest w h a j → Turns c h (Takes a v) → (k : ℕ) (i : I) (vs : List V) (n : ℕ) → k + length vs ≡ c → Pieces w Turns (λ _ x. x ≡ h) k i vs n → Pieces w Turns (λ _ x. x ≡ j) k i (vs ++ v ∷ []) (n + a)
+  pieces_more h j a v c r t k i [] n e p =
+      (a, 0, j, subst (λ x. Turns k x (Takes a v)) (sym p.1) (subst (λ z. Turns z h (Takes a v)) (omega (arith, e)) t), subst (λ x. IsRest w x a j) (sym p.1) r, (refl, refl), omega (arith, p.0))
+  pieces_more h j a v c r t k i (u ∷ vs) n e p =
+      (p.0, p.1 + a, p.2, p.3, p.4, pieces_more h j a v c r t (k + 1) p.2 vs p.1 (omega (arith, e)) p.5, omega (arith, p.6))
+
+module _ {I A V T : Type 0} (w : Seen I A) (l : InputLaws w) (Turns : ℕ → I → Turn V T → Type 0) where
+  pub collected_none : {Held : List V → Type 0} (i : I) → w.IsKnown i → Held [] → Collected w Turns Held i i
+  collected_none i known h = record { trees = []; taken = 0; pieces = (refl, refl); rest_is = record { known = known; front = []; whole = refl; length_is = refl; mark_is = sym (l.mark_none (w.mark i)) }; held = h }
+
+  pub collected_more : {Held More : List V → Type 0} (i j h : I) (a : ℕ) (v : V) → (c : Collected w Turns Held i j) → Turns (length c.trees) j (Takes a v) → IsRest w j a h → More (c.trees ++ v ∷ []) → Collected w Turns More i h
+  collected_more i j h a v c t q z = record {
+    trees = c.trees ++ v ∷ [];
+    taken = c.taken + a;
+    pieces = pieces_more w Turns j h a v (length c.trees) q t 0 i c.trees c.taken (omega arith) c.pieces;
+    rest_is = rest_rest w l i c.taken j a h c.rest_is q;
+    held = z;
+  }
+
+module _ {I A P V T R O E : Type 0} (w : Seen I A) (r : Rule I P V T E) (tree : List V → T → R) (m : Meaning I P E) (s : Bool) (IsOutput : R → O → Type 0) (outputs errors : Bool) {Held : List V → Type 0} (i j : I) (c : Collected w (TurnsBy r.bound r.turn (m.answers s)) Held i j) where
+  abbrev Goal : Result (I × Option O) (Answer.Err E (Option E) Needed) → Type 0
+  Goal = ShowsMeaning w IsOutput (repeat_meaning w r tree m) outputs errors s i
+
+  reaches : (Fact : ℕ → I → Type 0) → Fact (length c.trees) j → Reaches w (TurnsBy r.bound r.turn (m.answers s)) Fact i
+  reaches Fact h = record { trees = c.trees; taken = c.taken; pieces = pieces_end w (TurnsBy r.bound r.turn (m.answers s)) Fact j (length c.trees) h 0 i c.trees c.taken (omega arith) c.pieces }
+
+  -- what the part replies here
+  module _ (a : Option (Outcome P)) (p : Replies r.bound (m.answers s) (length c.trees) j a) where
+    ends : (o : Outcome T) → Ends o ≡ r.turn (length c.trees) a → Repeats w (TurnsBy r.bound r.turn (m.answers s)) tree i (after c.taken (tree c.trees) o)
+    ends o t = record { trees = c.trees; taken = c.taken; ending = o; pieces = pieces_end w (TurnsBy r.bound r.turn (m.answers s)) (λ k x. TurnsBy r.bound r.turn (m.answers s) k x (Ends o)) j (length c.trees) (record { reply = a; replied = p; fact = t }) 0 i c.trees c.taken (omega arith) c.pieces; outcome_is = refl }
+
+    -- the repetition ends with success, before what the part accepts
+    pub ended : (t : T) → Ends (Accept 0 t) ≡ r.turn (length c.trees) a → (b : Option O) → Built outputs (IsOutput (tree c.trees t)) b → Goal (Ok (j, b))
+    ended t e b h = Shown (Accept (c.taken + 0) (tree c.trees t)) (ends (Accept 0 t) e) (j, b, subst (λ n. IsRest w i n j) (omega arith) c.rest_is, h, refl)
+
+    abbrev IsBlamed : E → Type 0
+    IsBlamed = r.Blames i (length c.trees) j a (m.blames s j)
+
+    -- it ends by an error that is blamed on the part's outcome
+    blamed : (e : E) → IsBlamed e → (repeat_meaning w r tree m).blames s i e
+    blamed e h = reaches (λ k x. OnReply r.bound (m.answers s) (λ y. r.Blames i k x y (m.blames s x) e) k x) (record { reply = a; replied = p; fact = h })
+
+    built_error : (x : Bool) (b : Option E) → Built x IsBlamed b → Built x ((repeat_meaning w r tree m).blames s i) b
+    built_error true b h = (h.0, h.1, blamed h.0 h.2)
+    built_error false b h = h
+
+    pub refused : Ends Refuse ≡ r.turn (length c.trees) a → (b : Option E) → Built errors IsBlamed b → Goal (Err (Error b))
+    refused e b h = Shown Refuse (ends Refuse e) (b, built_error errors b h, refl)
+
+    pub failed : Ends Fail ≡ r.turn (length c.trees) a → (x : E) → IsBlamed x → Goal (Err (Failure x))
+    failed e x h = Shown Fail (ends Fail e) (x, blamed x h, refl)
+
+    pub too_large : Ends TooLarge ≡ r.turn (length c.trees) a → (x : E) → IsBlamed x → Goal (Err (Failure x))
+    too_large e x h = Shown TooLarge (ends TooLarge e) (x, blamed x h, refl)
+
+    pub lacking : (k : Needed) → Ends (Undecided (size_of k)) ≡ r.turn (length c.trees) a → Goal (Err (Incomplete k))
+    lacking k e = Shown (Undecided (size_of k)) (ends (Undecided (size_of k)) e) (k, refl, refl)
+
+    -- memory ran out at what the part replies
+    pub ran_out : r.Asks outputs errors (length c.trees) a → Goal (Err OutOfMemory)
+    ran_out h = RanOut refl (reaches (λ k x. OnReply r.bound (m.answers s) (r.Asks outputs errors k) k x ⊎ (IsBelow r.bound k × m.runs_out (r.outputs outputs) (r.errors k errors) s x)) (inl (record { reply = a; replied = p; fact = h })))
+
+  -- memory ran out in the part
+  pub ran_out_within : IsBelow r.bound (length c.trees) → m.runs_out (r.outputs outputs) (r.errors (length c.trees) errors) s j → Goal (Err OutOfMemory)
+  ran_out_within b h = RanOut refl (reaches (λ k x. OnReply r.bound (m.answers s) (r.Asks outputs errors k) k x ⊎ (IsBelow r.bound k × m.runs_out (r.outputs outputs) (r.errors k errors) s x)) (inr (b, h)))
+
+-- lengths tell whether a part consumed
+module _ {I A : Type 0} (w : Seen I A) where
+  pub rest_length : (i : I) (n : ℕ) (j : I) → IsRest w i n j → input_len w i ≡ n + input_len w j
+  rest_length i n j p = omega (arith, ap (λ xs. span w.weight xs) p.whole, span-append w.weight p.front (w.elements j), p.length_is)
+
+  pub is_empty : (i : I) (n : ℕ) (j : I) (a b : ℕ) → IsRest w i n j → b ≡ input_len w j → a ≡ input_len w i → b ≡ a → n ≡ 0
+  is_empty i n j a b r x y e = omega (arith, rest_length i n j r)
+
+  pub consumes : (i : I) (n : ℕ) (j : I) (a b : ℕ) → IsRest w i n j → b ≡ input_len w j → a ≡ input_len w i → (b ≡ a → ⊥) → 0 < n
+  consumes i zero j a b r x y e = absurd (e (omega (arith, rest_length i zero j r)))
+  consumes i (suc n) j a b r x y e = omega arith
+
+  pub is_shorter : (i : I) (n : ℕ) (j : I) → IsRest w i n j → 0 < n → input_len w j < input_len w i
+  is_shorter i n j r p = omega (arith, rest_length i n j r)

@@ -1,0 +1,95 @@
+-- Repetition: items in turn, and what ends them.
+--
+-- A part runs at a place. By its outcome, and by the number of items before, a rule says whether an item is taken, and the
+-- part runs again behind it, or the repetition ends, and how. At a bound the part doesn't run. So a repetition is a rule: it
+-- says whether an item may be empty, which error a refusal gives, before or behind so many items, and where memory is asked for.
+--
+-- A second part is no more than another part for a rule:
+-- - A separator and the item behind it, in sequence, are one part, with the item's tree. Where both together consume nothing,
+--   there is no progress, at the separator. A refusal of either ends the list before the separator. The first item stands in
+--   sequence with the repetition of all others.
+-- - An end that is tried first, or else an item, are one part, whose tree is of the one or of the other, and whose errors are
+--   the item's. An accepted end ends the repetition with its tree, and consumes; an accepted item is taken.
+use Rattle.std.specs.Prelude.{◌≡◌, ℕ, ◌+◌, ◌<◌, Bool, ◌⊎◌, Option, Some, None, List, [], ◌∷◌}
+use Rattle.nom_traits.specs.Input.{Seen, IsRest}
+use Rattle.nom_internal.specs.Outcome.{Outcome}
+use Rattle.nom_internal.specs.Meaning.{Meaning}
+use Rattle.nom_internal.specs.Sequence.{after}
+
+-- a turn of a repetition: it takes an item, of a length, with a tree; or it ends, by an outcome of its own
+pub data Turn (V T : Type 0) : Type 0 where
+  Takes : ℕ → V → Turn V T
+  Ends : Outcome T → Turn V T
+
+module _ {I A V T : Type 0} (w : Seen I A) (Turns : ℕ → I → Turn V T → Type 0) where
+  -- From i on, where k items were taken before, items with the trees vs, of length n together, are taken in turn, each
+  -- beginning where the one before ended, and of the number of items and the place then reached the fact holds.
+  abbrev pub Pieces : (ℕ → I → Type 0) → ℕ → I → List V → ℕ → Type 0
+  Pieces Fact k i [] n = (n ≡ 0) × Fact k i
+  Pieces Fact k i (v ∷ vs) n = (a : ℕ) × (m : ℕ) × (j : I) × Turns k i (Takes a v) × IsRest w i a j × Pieces Fact (k + 1) j vs m × (n ≡ a + m)
+
+  -- of a place that is reached the fact holds
+  pub record Reaches (Fact : ℕ → I → Type 0) (i : I) : Type 0 where
+    pub trees : List V
+    pub taken : ℕ
+    pub pieces : Pieces Fact 0 i trees taken
+
+  -- items, and then an end
+  pub record Repeats {R : Type 0} (tree : List V → T → R) (i : I) (o : Outcome R) : Type 0 where
+    pub trees : List V
+    pub taken : ℕ
+    pub ending : Outcome T
+    pub pieces : Pieces (λ k j. Turns k j (Ends ending)) 0 i trees taken
+    pub outcome_is : o ≡ after taken (tree trees) ending
+
+-- below a bound, where there is one
+abbrev pub IsBelow : Option ℕ → ℕ → Type 0
+IsBelow None k = Unit {0}
+IsBelow (Some bound) k = k < bound
+
+-- what a part replies after k items: its outcome, or nothing at the bound, where it doesn't run
+abbrev pub Replies : {I P : Type 0} → Option ℕ → (I → Outcome P → Type 0) → ℕ → I → Option (Outcome P) → Type 0
+Replies bound Part k i (Some o) = IsBelow bound k × Part i o
+Replies bound Part k i None = IsBelow bound k → ⊥
+
+-- the part ran
+abbrev pub Ran : {P : Type 0} → Option (Outcome P) → Type 0
+Ran (Some o) = Unit {0}
+Ran None = ⊥
+
+-- the fact holds of what a part replies
+pub record OnReply {I P : Type 0} (bound : Option ℕ) (Part : I → Outcome P → Type 0) (Fact : Option (Outcome P) → Type 0) (k : ℕ) (i : I) : Type 0 where
+  pub reply : Option (Outcome P)
+  pub replied : Replies bound Part k i reply
+  pub fact : Fact reply
+
+-- the turn by what a part replies
+abbrev pub TurnsBy : {I P V T : Type 0} → Option ℕ → (ℕ → Option (Outcome P) → Turn V T) → (I → Outcome P → Type 0) → ℕ → I → Turn V T → Type 0
+TurnsBy bound turn Part k i t = OnReply bound Part (λ a. t ≡ turn k a) k i
+
+-- a repetition of a part with trees P: its items have trees V, and its end a tree T
+pub record Rule (I P V T E : Type 0) : Type 1 where
+  -- how many items it takes at most
+  pub bound : Option ℕ
+  -- how it goes on after so many items, by what the part replies
+  pub turn : ℕ → Option (Outcome P) → Turn V T
+  -- the error, where it ends so: from its start, after so many items, at a place, by what the part replies and by its errors there
+  pub Blames : I → ℕ → I → Option (Outcome P) → (E → Type 0) → E → Type 0
+  -- does the part build its outputs, and after so many items its errors, by whether the repetition does
+  pub outputs : Bool → Bool
+  pub errors : ℕ → Bool → Bool
+  -- may it ask for memory after so many items, by what is built of outputs and errors, and by what the part replies
+  pub Asks : Bool → Bool → ℕ → Option (Outcome P) → Type 0
+  -- it is frugal, by whether its part is: are outputs built, are errors built
+  pub IsFrugal : (Bool → Bool → Type 0) → Bool → Bool → Type 0
+
+-- the repetition of a part by a rule, with a tree made of its items' trees and its end's
+abbrev pub repeat_meaning : {I A P V T R E : Type 0} → Seen I A → Rule I P V T E → (List V → T → R) → Meaning I P E → Meaning I R E
+repeat_meaning w r tree m = record {
+  IsSound = m.IsSound;
+  answers = λ s. Repeats w (TurnsBy r.bound r.turn (m.answers s)) tree;
+  blames = λ s i e. Reaches w (TurnsBy r.bound r.turn (m.answers s)) (λ k j. OnReply r.bound (m.answers s) (λ a. r.Blames i k j a (m.blames s j) e) k j) i;
+  runs_out = λ outputs errors s. Reaches w (TurnsBy r.bound r.turn (m.answers s)) (λ k j. OnReply r.bound (m.answers s) (r.Asks outputs errors k) k j ⊎ (IsBelow r.bound k × m.runs_out (r.outputs outputs) (r.errors k errors) s j));
+  IsFrugal = r.IsFrugal m.IsFrugal;
+  Settles = m.Settles;
+}

@@ -1,0 +1,58 @@
+//! Data behind a length.
+ghost use Rattle.std.specs.Prelude.{◌≡◌};
+ghost use Rattle.nom_traits.specs.Slices.{Slice, IsSeenAs};
+ghost use Rattle.nom_multi.specs.Lengths.{length_data_meaning};
+
+use nom_bytes::take;
+use nom_error::answer::PResult;
+use nom_error::mode::{Emit, OutputM, OutputMode};
+use nom_error::value::ParseError;
+use nom_internal::parser::{Parser, StreamParser};
+use nom_traits::input::{Input, Items};
+
+/// A length and so many items behind it, made by `length_data`.
+#[derive(Drop)]
+pub struct LengthData<F> {
+    pub parser: F,
+}
+
+impl<I: Input, F: Parser<I, Output = u8> + Drop> Parser<I> for LengthData<F> {
+    ghost use Rattle.nom_multi.specs.LengthLaws.{length_data_lawful};
+
+    type Output = I;
+
+    type Error = F::Error;
+
+    ghost State = { F.State };
+
+    ghost state = { λ p. F.state p.parser };
+
+    // The tree of the length, and the items.
+    ghost Tree = { F.Tree × Slice I.seen };
+
+    ghost IsOutput = { λ s t o. IsSeenAs I.seen t.1 o };
+
+    ghost meaning = { λ s. length_data_meaning I.seen F.Error.from_error_kind_gives F.Error.grows I.lack (F.IsOutput s) (F.meaning s) };
+
+    #[inline(always)]
+    fn process<OM: OutputMode>(&mut self, input: I) -> PResult<I, I, F::Error> {
+        let (rest, length) = self
+            .parser
+            .process::<OutputM<Emit, OM::Error, OM::Incomplete>>(input)?;
+        match length {
+            Some(length) => {
+                let mut data = take::<F::Error>(length as usize);
+                data.process::<OM>(rest)
+            }
+            None => unreachable!(),
+        }
+    }
+
+    ghost lawful = { λ s. length_data_lawful I.seen I.lawful F.Error.from_error_kind_gives F.Error.grows I.lack (F.IsOutput s) (F.meaning s) (F.lawful s) };
+}
+
+impl<I: Input, F: StreamParser<I, Output = u8> + Drop> StreamParser<I> for LengthData<F> {
+    ghost use Rattle.nom_multi.specs.LengthLaws.{length_data_steady};
+
+    ghost steady = { λ s. length_data_steady I.seen I.lawful F.Error.from_error_kind_gives F.Error.grows I.lack (F.IsOutput s) (F.meaning s) (F.steady s) };
+}

@@ -1,0 +1,40 @@
+//! Repetition: lists of items, and data behind a length.
+#![tactic(auto)]
+
+ghost use Rattle.std.specs.Prelude.{◌≡◌};
+
+mod length;
+mod many;
+pub mod promises;
+#[cfg(test)]
+mod tests;
+
+pub use crate::length::LengthData;
+pub use crate::many::Many0;
+use std::alloc::Allocator;
+
+/// A length, as `parser` reads it, and behind it so many items: bytes of a byte slice, characters of a
+/// text. Its output is those items.
+///
+/// Where there are fewer, streaming asks for the rest, and complete refuses with `Eof` behind the
+/// length, as `take` does.
+#[inline(always)]
+pub fn length_data<F>(parser: F) -> LengthData<F>
+    ensures { result.parser ≡ parser }
+{
+    LengthData { parser }
+}
+
+/// Items until one is refused: a list of their outputs, which takes its memory from `alloc`.
+///
+/// A refusal ends the list with success, before the item. An item that is accepted without consuming
+/// anything is refused with `Many0`, so that no input makes a list without an end. All else that the
+/// item answers is passed on. No memory is taken ahead: the list grows by the items that are accepted,
+/// and where it can't, the answer is `OutOfMemory`.
+#[inline(always)]
+pub fn many0<A: Allocator + Copy, F>(alloc: A, parser: F) -> Many0<A, F>
+    ensures alloc { result.alloc ≡ alloc }
+    ensures parser { result.parser ≡ parser }
+{
+    Many0 { alloc, parser }
+}

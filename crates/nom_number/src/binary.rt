@@ -1,0 +1,64 @@
+//! Binary integers.
+ghost use Rattle.std.specs.Prelude.{◌≡◌, ◌<◌, ◌∷◌, ℕ, List, length};
+ghost use Rattle.nom_error.specs.Modes.{Built};
+ghost use Rattle.nom_internal.specs.ChoiceLaws.{labelled_lawful, labelled_steady};
+ghost use Rattle.nom_bytes.specs.TakeLaws.{take_lawful, take_steady};
+ghost use Rattle.nom_number.specs.Numbers.{number_meaning, value_of};
+
+use nom_error::answer::{Err, PResult};
+use nom_error::kind::ErrorKind;
+use nom_error::mode::{IsStreaming, Mode, OutputMode};
+use nom_error::value::{ParseError, refusal};
+use nom_internal::parser::{Parser, StreamParser};
+use nom_traits::input::Input;
+use std::marker::PhantomData;
+
+/// The first byte of an input, where outputs are built.
+#[inline(always)]
+fn first_byte<M: Mode, I: Input<Item = u8>>(input: I) -> Option<u8>
+    requires { 0 < length (I.seen.elements input) }
+    ensures { Built M.BUILDS (λ b. (rest : List ℕ) × (I.seen.elements input ≡ b ∷ rest)) result }
+{
+    if M::BUILDS {
+        input.iter_elements().next()
+    } else {
+        None
+    }
+}
+
+/// One byte, as a number; made by `be_u8`.
+#[derive(Drop)]
+pub struct BeU8<E> {
+    pub error: PhantomData<E>,
+}
+
+impl<I: Input<Item = u8>, E: ParseError<I>> Parser<I> for BeU8<E> {
+    type Output = u8;
+
+    type Error = E;
+
+    ghost State = { Unit {0} };
+
+    ghost state = { λ _. tt };
+
+    ghost Tree = { ℕ };
+
+    ghost IsOutput = { λ _ t v. v ≡ t };
+
+    ghost meaning = { λ _. number_meaning I.seen E.from_error_kind_gives E.grows I.lack (value_of 256) 1 };
+
+    #[inline(always)]
+    fn process<OM: OutputMode>(&mut self, input: I) -> PResult<I, u8, E> {
+        match input.slice_index(1) {
+            Ok(n) => Ok((input.take_from(n), first_byte::<OM::Output, I>(input))),
+            Err(needed) if OM::Incomplete::STREAMING => Err(Err::Incomplete(needed)),
+            Err(_) => Err(refusal::<OM::Error, I, E>(input, ErrorKind::Eof)),
+        }
+    }
+
+    ghost lawful = { λ _. labelled_lawful I.seen (λ t. value_of 256 t.items) _ (take_lawful I.seen E.from_error_kind_gives E.grows I.lack 1) };
+}
+
+impl<I: Input<Item = u8>, E: ParseError<I>> StreamParser<I> for BeU8<E> {
+    ghost steady = { λ _. labelled_steady I.seen (λ t. value_of 256 t.items) _ (take_steady I.seen E.from_error_kind_gives E.grows I.lack 1) };
+}

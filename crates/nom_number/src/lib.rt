@@ -1,0 +1,15 @@
+//! Numbers.
+#![tactic(auto)]
+
+mod binary;
+
+pub use crate::binary::BeU8;
+use std::marker::PhantomData;
+
+/// One byte, as a number.
+///
+/// Where there is none, streaming asks for it, and complete refuses with `Eof`.
+#[inline(always)]
+pub fn be_u8<E>() -> BeU8<E> {
+    BeU8 { error: PhantomData }
+}
