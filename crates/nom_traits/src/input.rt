@@ -84,14 +84,14 @@ pub trait Input: Items {
 
     /// The items, one by one.
     fn iter_elements(&self) -> Self::Iter
-        ensures items { AlwaysYields Self.Iter.next_gives (λ x. x) result (Self.seen.elements self.now) }
-        ensures starts { Self.Iter.can_next result }
+        ensures gives { AlwaysYields Self.Iter.next_gives (λ x. x) result (Self.seen.elements self.now) }
+        ensures can { Self.Iter.can_next result }
         ensures ends { IsFinite (Self.Iter.remaining result) };
 
     /// The items, one by one, each with its place.
     fn iter_indices(&self) -> Self::IterIndices
-        ensures items { AlwaysYields Self.IterIndices.next_gives (λ x. x) result (placed Self.seen.weight 0 (Self.seen.elements self.now)) }
-        ensures starts { Self.IterIndices.can_next result }
+        ensures gives { AlwaysYields Self.IterIndices.next_gives (λ x. x) result (placed Self.seen.weight 0 (Self.seen.elements self.now)) }
+        ensures can { Self.IterIndices.can_next result }
         ensures ends { IsFinite (Self.IterIndices.remaining result) };
 
     /// Any items may follow.

@@ -2,5 +2,5 @@ use Rattle.std.proofs.lemmas.Iterator.Consumers.{YieldsList-from_copied}
 use Rattle.nom_traits.proofs.SliceItems.{items_given}
 use Rattle.nom_traits.proofs.bytes.RefSliceU8Input.iter_elements.Goals as goal
 
-pub returns-clause-items : goal.returns-clause-items
-returns-clause-items c = (YieldsList-from_copied (items_given _ _ c.args.self.now.now c.copied.ensures.source c.iter.ensures.rest)).runs
+pub returns-clause-gives : goal.returns-clause-gives
+returns-clause-gives c = (YieldsList-from_copied (items_given _ _ c.args.self.now.now c.copied.ensures.source c.iter.ensures.rest)).runs

@@ -6,7 +6,7 @@ use Rattle.nom_traits.proofs.input.Input.position.Goals as goal
 
 pub loop-index-init : goal.loop-index-init
 loop-index-init g c =
-    let gives = subst (λ s. AlwaysYields g.Self.IterIndices.Iterator.next_gives (λ p. p) s (placed g.Self.Items.seen.weight 0 (g.Self.Items.seen.elements c.args.self.now))) (sym c.into_iter-index-iterator.ensures.into_iter_gives) c.iter_indices-index-items.ensures.items in
+    let gives = subst (λ s. AlwaysYields g.Self.IterIndices.Iterator.next_gives (λ p. p) s (placed g.Self.Items.seen.weight 0 (g.Self.Items.seen.elements c.args.self.now))) (sym c.into_iter-index-iterator.ensures.into_iter_gives) c.iter_indices-index-items.ensures.gives in
     (search rules, search rules, walk_begins _ _ _ _ _ _ gives)
 
 pub returns-then-predicate : goal.returns-then-predicate
