@@ -3,3 +3,5 @@ pub mod TagLaws
 pub mod Tags
 pub mod TakeLaws
 pub mod Takes
+pub mod UntilLaws
+pub mod Untils

@@ -1,7 +1,7 @@
 //! Parsers of items in one mode: the input is complete, whatever mode is asked for.
 ghost use Rattle.std.specs.Prelude.{◌≡◌};
 
-use crate::{Fixed, Tag, TagNoCase, Take};
+use crate::{Fixed, Tag, TagNoCase, Take, TakeUntil, TakeUntil1};
 use nom_error::mode::Complete;
 use std::marker::PhantomData;
 
@@ -34,6 +34,28 @@ pub fn tag_no_case<T: Copy, E>(tag: T) -> Fixed<TagNoCase<T, E>, Complete>
 {
     Fixed {
         parser: crate::tag_no_case(tag),
+        mode: PhantomData,
+    }
+}
+
+/// `bytes::take_until` in the complete mode.
+#[inline(always)]
+pub fn take_until<T: Copy, E>(tag: T) -> Fixed<TakeUntil<T, E>, Complete>
+    ensures { result.parser.tag ≡ tag }
+{
+    Fixed {
+        parser: crate::take_until(tag),
+        mode: PhantomData,
+    }
+}
+
+/// `bytes::take_until1` in the complete mode.
+#[inline(always)]
+pub fn take_until1<T: Copy, E>(tag: T) -> Fixed<TakeUntil1<T, E>, Complete>
+    ensures { result.parser.tag ≡ tag }
+{
+    Fixed {
+        parser: crate::take_until1(tag),
         mode: PhantomData,
     }
 }

@@ -8,10 +8,12 @@ mod fixed;
 mod leaf;
 mod no_case;
 pub mod streaming;
+mod until;
 
 pub use crate::fixed::Fixed;
 pub use crate::leaf::{Tag, Take};
 pub use crate::no_case::TagNoCase;
+pub use crate::until::{TakeUntil, TakeUntil1};
 use std::marker::PhantomData;
 
 /// The first `count` items: bytes of a byte slice, characters of a text.
@@ -50,6 +52,30 @@ pub fn tag_no_case<T: Copy, E>(tag: T) -> TagNoCase<T, E>
     ensures { result.tag ≡ tag }
 {
     TagNoCase {
+        tag,
+        error: PhantomData,
+    }
+}
+
+/// The items before the first place of a needle, which stays in the rest.
+///
+/// Where the needle stands nowhere, streaming asks for more, and complete refuses with `TakeUntil`.
+#[inline(always)]
+pub fn take_until<T: Copy, E>(tag: T) -> TakeUntil<T, E>
+    ensures { result.tag ≡ tag }
+{
+    TakeUntil {
+        tag,
+        error: PhantomData,
+    }
+}
+
+/// `take_until`, one item at least: a needle at the start is refused with `TakeUntil`.
+#[inline(always)]
+pub fn take_until1<T: Copy, E>(tag: T) -> TakeUntil1<T, E>
+    ensures { result.tag ≡ tag }
+{
+    TakeUntil1 {
         tag,
         error: PhantomData,
     }

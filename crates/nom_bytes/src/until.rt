@@ -1,0 +1,94 @@
+//! Items up to a needle.
+ghost use Rattle.std.specs.Prelude.{◌≡◌, true, false};
+ghost use Rattle.nom_traits.specs.Slices.{Slice, IsSeenAs};
+ghost use Rattle.nom_bytes.specs.Untils.{until_meaning};
+ghost use Rattle.nom_bytes.specs.UntilLaws.{until_lawful, until_steady};
+
+use nom_error::answer::{Err, Needed, PResult};
+use nom_error::kind::ErrorKind;
+use nom_error::mode::{IsStreaming, OutputMode};
+use nom_error::value::{ParseError, refusal};
+use nom_internal::parser::{Parser, StreamParser};
+use nom_internal::slices::front;
+use nom_search::substring::FindSubstring;
+use nom_traits::input::Input;
+use std::marker::PhantomData;
+
+/// The items up to the first place of a needle, made by `take_until`.
+#[derive(Drop)]
+pub struct TakeUntil<T, E> {
+    pub tag: T,
+    pub error: PhantomData<E>,
+}
+
+impl<T: Copy, I: Input + FindSubstring<T>, E: ParseError<I>> Parser<I> for TakeUntil<T, E> {
+    type Output = I;
+
+    type Error = E;
+
+    // Needles that are seen alike are one parser.
+    ghost State = { I.Needle };
+
+    ghost state = { λ p. I.needle_seen p.tag };
+
+    ghost Tree = { Slice I.seen };
+
+    ghost IsOutput = { λ _. IsSeenAs I.seen };
+
+    ghost meaning = { λ needle. until_meaning I.seen E.from_error_kind_gives E.grows I.finds false needle };
+
+    #[inline(always)]
+    fn process<OM: OutputMode>(&mut self, input: I) -> PResult<I, I, E> {
+        match input.find_substring(self.tag) {
+            Some(n) => Ok((input.take_from(n), front::<OM::Output, I>(input, n))),
+            None if OM::Incomplete::STREAMING => Err(Err::Incomplete(Needed::Unknown)),
+            None => Err(refusal::<OM::Error, I, E>(input, ErrorKind::TakeUntil)),
+        }
+    }
+
+    ghost lawful = { until_lawful I.seen I.lawful E.from_error_kind_gives E.grows I.finds I.finding false };
+}
+
+impl<T: Copy, I: Input + FindSubstring<T>, E: ParseError<I>> StreamParser<I> for TakeUntil<T, E> {
+    ghost steady = { until_steady I.seen I.lawful E.from_error_kind_gives E.grows I.finds I.finding false };
+}
+
+/// The items up to the first place of a needle, at least one; made by `take_until1`.
+#[derive(Drop)]
+pub struct TakeUntil1<T, E> {
+    pub tag: T,
+    pub error: PhantomData<E>,
+}
+
+impl<T: Copy, I: Input + FindSubstring<T>, E: ParseError<I>> Parser<I> for TakeUntil1<T, E> {
+    type Output = I;
+
+    type Error = E;
+
+    // Needles that are seen alike are one parser.
+    ghost State = { I.Needle };
+
+    ghost state = { λ p. I.needle_seen p.tag };
+
+    ghost Tree = { Slice I.seen };
+
+    ghost IsOutput = { λ _. IsSeenAs I.seen };
+
+    ghost meaning = { λ needle. until_meaning I.seen E.from_error_kind_gives E.grows I.finds true needle };
+
+    #[inline(always)]
+    fn process<OM: OutputMode>(&mut self, input: I) -> PResult<I, I, E> {
+        match input.find_substring(self.tag) {
+            Some(0) => Err(refusal::<OM::Error, I, E>(input, ErrorKind::TakeUntil)),
+            Some(n) => Ok((input.take_from(n), front::<OM::Output, I>(input, n))),
+            None if OM::Incomplete::STREAMING => Err(Err::Incomplete(Needed::Unknown)),
+            None => Err(refusal::<OM::Error, I, E>(input, ErrorKind::TakeUntil)),
+        }
+    }
+
+    ghost lawful = { until_lawful I.seen I.lawful E.from_error_kind_gives E.grows I.finds I.finding true };
+}
+
+impl<T: Copy, I: Input + FindSubstring<T>, E: ParseError<I>> StreamParser<I> for TakeUntil1<T, E> {
+    ghost steady = { until_steady I.seen I.lawful E.from_error_kind_gives E.grows I.finds I.finding true };
+}
