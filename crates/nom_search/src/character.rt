@@ -65,22 +65,22 @@ impl AsChar for u8 {
 
     #[inline(always)]
     fn is_alpha(self) -> bool {
-        self.is_ascii_alphabetic()
+        matches!(self, b'A'..=b'Z' | b'a'..=b'z')
     }
 
     #[inline(always)]
     fn is_alphanum(self) -> bool {
-        self.is_ascii_alphanumeric()
+        matches!(self, b'0'..=b'9' | b'A'..=b'Z' | b'a'..=b'z')
     }
 
     #[inline(always)]
     fn is_dec_digit(self) -> bool {
-        self.is_ascii_digit()
+        matches!(self, b'0'..=b'9')
     }
 
     #[inline(always)]
     fn is_hex_digit(self) -> bool {
-        self.is_ascii_hexdigit()
+        matches!(self, b'0'..=b'9' | b'A'..=b'F' | b'a'..=b'f')
     }
 
     #[inline(always)]

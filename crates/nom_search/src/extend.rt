@@ -2,7 +2,7 @@
 ghost use Rattle.std.specs.Prelude.{◌≡◌, ℕ, ◌++◌, List, [], encode_utf8, is_ok, string_bytes, if◌then◌else◌};
 
 use nom_error::answer::OutOfMemory;
-use std::alloc::Allocator;
+use std::alloc::{AllocError, Allocator};
 
 /// What values are appended to: a list of parts grows.
 pub trait Builder {
@@ -60,10 +60,7 @@ impl<A: Allocator + Copy> ExtendInto<A> for &[u8] {
 
     #[inline(always)]
     fn extend_into(&self, acc: &mut Vec<u8, A>) -> Result<(), OutOfMemory> {
-        match acc.extend_from_slice(self) {
-            Ok(()) => Ok(()),
-            Err(_) => Err(OutOfMemory),
-        }
+        told(acc.extend_from_slice(self))
     }
 }
 
@@ -81,10 +78,7 @@ impl<A: Allocator + Copy> ExtendInto<A> for &str {
 
     #[inline(always)]
     fn extend_into(&self, acc: &mut String<A>) -> Result<(), OutOfMemory> {
-        match acc.push_str(self) {
-            Ok(()) => Ok(()),
-            Err(_) => Err(OutOfMemory),
-        }
+        told(acc.push_str(self))
     }
 }
 
@@ -102,9 +96,17 @@ impl<A: Allocator + Copy> ExtendInto<A> for char {
 
     #[inline(always)]
     fn extend_into(&self, acc: &mut String<A>) -> Result<(), OutOfMemory> {
-        match acc.push(*self) {
-            Ok(()) => Ok(()),
-            Err(_) => Err(OutOfMemory),
-        }
+        told(acc.push(*self))
+    }
+}
+
+/// Whether a builder grew.
+#[inline(always)]
+fn told(grown: Result<(), AllocError>) -> Result<(), OutOfMemory>
+    ensures { is_ok result ≡ is_ok grown }
+{
+    match grown {
+        Ok(()) => Ok(()),
+        Err(_) => Err(OutOfMemory),
     }
 }
