@@ -30,7 +30,7 @@ module _ (form : List ℕ → List ℕ) (f : IsForm form) (xs t : List ℕ) wher
   pub compared_ok : (n : ℕ) → n ≡ min (length xs) (length t) → take n (form xs) ≡ take n (form t) → length t ≤ length xs → ComparesAs (λ ys. ys) form t xs Compared.Ok
   compared_ok n h e k =
       let whole : take n (form t) ≡ form t = take_all n (form t) (omega (arith, h, f.size t)) in
-      (take n xs, drop n xs, sym (take-append-drop n xs), sym (form_take n (omega (arith, h))) ∙ (e ∙ whole))
+      record { front = take n xs; rest = drop n xs; whole = sym (take-append-drop n xs); tag_is = sym (form_take n (omega (arith, h))) ∙ (e ∙ whole) }
 
   pub compared_incomplete : (n : ℕ) → n ≡ min (length xs) (length t) → take n (form xs) ≡ take n (form t) → length xs < length t → ComparesAs (λ ys. ys) form t xs Compared.Incomplete
   compared_incomplete n h e k =
@@ -40,12 +40,12 @@ module _ (form : List ℕ → List ℕ) (f : IsForm form) (xs t : List ℕ) wher
   pub compared_error : (n : ℕ) → n ≡ min (length xs) (length t) → (take n (form xs) ≡ take n (form t) → ⊥) → ComparesAs (λ ys. ys) form t xs Compared.Error
   compared_error n h differ = (
     λ k.
-        let parts : form xs ≡ form k.0 ++ form k.1 = ap form k.2 ∙ f.append k.0 k.1 in
-        let room : n ≤ length (form k.0) = omega (arith, h, ap length k.3, f.size t) in
-        differ (ap (λ ys. take n ys) parts ∙ (take-append-le n (form k.0) (form k.1) room ∙ ap (λ ys. take n ys) k.3)),
+        let parts : form xs ≡ form k.front ++ form k.rest = ap form k.whole ∙ f.append k.front k.rest in
+        let room : n ≤ length (form k.front) = omega (arith, h, ap length k.tag_is, f.size t) in
+        differ (ap (λ ys. take n ys) parts ∙ (take-append-le n (form k.front) (form k.rest) room ∙ ap (λ ys. take n ys) k.tag_is)),
     λ k.
         let room : n ≤ length (form xs) = omega (arith, h, f.size xs) in
-        differ (sym (ap (λ ys. take n ys) k.2 ∙ take-append-le n (form xs) (k.0 ∷ k.1) room)),
+        differ (sym (ap (λ ys. take n ys) k.tag_is ∙ take-append-le n (form xs) (k.byte ∷ k.more) room)),
   )
 
 -- ASCII letters folded

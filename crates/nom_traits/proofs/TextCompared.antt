@@ -14,23 +14,23 @@ module _ (form : List ℕ → List ℕ) (f : IsForm form) (i : Bor (List ℕ)) (
   -- the characters of a front that ends between characters
   pub text_ok : ComparesAs (λ xs. xs) form t i.now Compared.Ok → IsCharBoundary i.now (length t) → ComparesAs encode_utf8_all form t (chars i.now) Compared.Ok
   text_ok k p =
-      let size : length k.0 ≡ length t = sym (f.size k.0) ∙ (ap length k.3 ∙ f.size t) in
-      let front : take (length t) i.now ≡ k.0 = ap (λ xs. take (length t) xs) k.2 ∙ (ap (λ n. take n (k.0 ++ k.1)) (sym size) ∙ take-append_seam k.0 k.1) in
-      let is_text : IsUtf8 k.0 = subst IsUtf8 front (IsUtf8-take i.now (length t) u.0 p) in
-      (chars k.0, chars k.1, ap chars k.2 ∙ chars-append k.0 k.1 is_text, ap form (encodes-chars k.0 is_text) ∙ k.3)
+      let size : length k.front ≡ length t = sym (f.size k.front) ∙ (ap length k.tag_is ∙ f.size t) in
+      let front : take (length t) i.now ≡ k.front = ap (λ xs. take (length t) xs) k.whole ∙ (ap (λ n. take n (k.front ++ k.rest)) (sym size) ∙ take-append_seam k.front k.rest) in
+      let is_text : IsUtf8 k.front = subst IsUtf8 front (IsUtf8-take i.now (length t) u.0 p) in
+      record { front = chars k.front; rest = chars k.rest; whole = ap chars k.whole ∙ chars-append k.front k.rest is_text; tag_is = ap form (encodes-chars k.front is_text) ∙ k.tag_is }
 
   -- a text's front is a front of its bytes, and ends between characters
   pub found_bytes : IsFound encode_utf8_all form t (chars i.now) → IsFound (λ xs. xs) form t i.now
-  found_bytes k = (encode_utf8_all k.0, encode_utf8_all k.1, sym (encodes-chars i.now u.0) ∙ (ap encode_utf8_all k.2 ∙ encodes-append k.0 k.1), k.3)
+  found_bytes k = record { front = encode_utf8_all k.front; rest = encode_utf8_all k.rest; whole = sym (encodes-chars i.now u.0) ∙ (ap encode_utf8_all k.whole ∙ encodes-append k.front k.rest); tag_is = k.tag_is }
 
   found_boundary : IsFound encode_utf8_all form t (chars i.now) → IsCharBoundary i.now (length t)
-  found_boundary k = place_boundary i (length t) u (record { front = k.0; rest = k.1; whole = k.2; length_is = span-text k.0 ∙ (sym (f.size (encode_utf8_all k.0)) ∙ (ap length k.3 ∙ f.size t)) })
+  found_boundary k = place_boundary i (length t) u (record { front = k.front; rest = k.rest; whole = k.whole; length_is = span-text k.front ∙ (sym (f.size (encode_utf8_all k.front)) ∙ (ap length k.tag_is ∙ f.size t)) })
 
   begun_bytes : IsBegun encode_utf8_all form t (chars i.now) → IsBegun (λ xs. xs) form t i.now
-  begun_bytes k = (k.0, k.1, k.2 ∙ ap (λ xs. form xs ++ (k.0 ∷ k.1)) (encodes-chars i.now u.0))
+  begun_bytes k = record { byte = k.byte; more = k.more; tag_is = k.tag_is ∙ ap (λ xs. form xs ++ (k.byte ∷ k.more)) (encodes-chars i.now u.0) }
 
   pub text_incomplete : ComparesAs (λ xs. xs) form t i.now Compared.Incomplete → ComparesAs encode_utf8_all form t (chars i.now) Compared.Incomplete
-  text_incomplete k = (k.0, k.1, k.2 ∙ ap (λ xs. form xs ++ (k.0 ∷ k.1)) (sym (encodes-chars i.now u.0)))
+  text_incomplete k = record { byte = k.byte; more = k.more; tag_is = k.tag_is ∙ ap (λ xs. form xs ++ (k.byte ∷ k.more)) (sym (encodes-chars i.now u.0)) }
 
   pub text_error : ComparesAs (λ xs. xs) form t i.now Compared.Error → ComparesAs encode_utf8_all form t (chars i.now) Compared.Error
   text_error h = (λ k. h.0 (found_bytes k), λ k. h.1 (begun_bytes k))

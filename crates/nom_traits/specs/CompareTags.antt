@@ -51,17 +51,17 @@ one_more (x ∷ rest) h = (x, rest, refl)
 
 module _ {A : Type 0} (bytes : List A → List ℕ) (form : List ℕ → List ℕ) (t : List ℕ) (xs : List A) where
   pub begun_with : (ys : List ℕ) → 0 < length ys → form t ≡ form (bytes xs) ++ ys → IsBegun bytes form t xs
-  begun_with ys h e = let k = one_more ys h in (k.0, k.1, e ∙ ap (λ zs. form (bytes xs) ++ zs) k.2)
+  begun_with ys h e = let k = one_more ys h in record { byte = k.0; more = k.1; tag_is = e ∙ ap (λ zs. form (bytes xs) ++ zs) k.2 }
 
 module _ {I A : Type 0} (w : Seen I A) (l : InputLaws w) (bytes : List A → List ℕ) (b : AreBytes w bytes) (form : List ℕ → List ℕ) (f : IsForm form) (t : List ℕ) where
-  found_size : (xs : List A) (k : IsFound bytes form t xs) → length (bytes k.0) ≡ length t
-  found_size xs k = sym (f.size (bytes k.0)) ∙ (ap length k.3 ∙ f.size t)
+  found_size : (xs : List A) (k : IsFound bytes form t xs) → length (bytes k.front) ≡ length t
+  found_size xs k = sym (f.size (bytes k.front)) ∙ (ap length k.tag_is ∙ f.size t)
 
   begun_size : (xs : List A) → IsBegun bytes form t xs → length (bytes xs) < length t
-  begun_size xs k = omega (arith, ap length k.2, length-append (form (bytes xs)) (k.0 ∷ k.1), f.size t, f.size (bytes xs))
+  begun_size xs k = omega (arith, ap length k.tag_is, length-append (form (bytes xs)) (k.byte ∷ k.more), f.size t, f.size (bytes xs))
 
   pub found_not_begun : (xs : List A) → IsFound bytes form t xs → IsBegun bytes form t xs → ⊥
-  found_not_begun xs h k = omega (arith, found_size xs h, begun_size xs k, ap (λ ys. length (bytes ys)) h.2, ap length (b.append h.0 h.1), length-append (bytes h.0) (bytes h.1))
+  found_not_begun xs h k = omega (arith, found_size xs h, begun_size xs k, ap (λ ys. length (bytes ys)) h.whole, ap length (b.append h.front h.rest), length-append (bytes h.front) (bytes h.rest))
 
   one_result : (xs : List A) (r s : CompareResult) → ComparesAs bytes form t xs r → ComparesAs bytes form t xs s → r ≡ s
   one_result xs Compared.Ok Compared.Ok h k = refl
@@ -82,17 +82,17 @@ module _ {I A : Type 0} (w : Seen I A) (l : InputLaws w) (bytes : List A → Lis
 
   error_kept : (xs more : List A) → ComparesAs bytes form t xs Compared.Error → ComparesAs bytes form t (xs ++ more) Compared.Error
   error_kept xs more h = (
-    λ k. elim (one_longer k.0 xs k.1 more (sym k.2)) [ inl j ↦ h.0 (k.0, j.0, j.1, k.3) | inr j ↦ h.1 (begun_with bytes form t xs (form (bytes (j.0 ∷ j.1))) (some_bytes j.0 j.1) (sym k.3 ∙ (ap (λ ys. form (bytes ys)) j.2 ∙ form_parts xs (j.0 ∷ j.1)))) ],
-    λ k. h.1 (begun_with bytes form t xs (form (bytes more) ++ (k.0 ∷ k.1)) (omega (arith, length-append (form (bytes more)) (k.0 ∷ k.1))) (k.2 ∙ (ap (λ ys. ys ++ (k.0 ∷ k.1)) (form_parts xs more) ∙ append_assoc (form (bytes xs)) (form (bytes more)) (k.0 ∷ k.1)))),
+    λ k. elim (one_longer k.front xs k.rest more (sym k.whole)) [ inl j ↦ h.0 (record { front = k.front; rest = j.0; whole = j.1; tag_is = k.tag_is }) | inr j ↦ h.1 (begun_with bytes form t xs (form (bytes (j.0 ∷ j.1))) (some_bytes j.0 j.1) (sym k.tag_is ∙ (ap (λ ys. form (bytes ys)) j.2 ∙ form_parts xs (j.0 ∷ j.1)))) ],
+    λ k. h.1 (begun_with bytes form t xs (form (bytes more) ++ (k.byte ∷ k.more)) (omega (arith, length-append (form (bytes more)) (k.byte ∷ k.more))) (k.tag_is ∙ (ap (λ ys. ys ++ (k.byte ∷ k.more)) (form_parts xs more) ∙ append_assoc (form (bytes xs)) (form (bytes more)) (k.byte ∷ k.more)))),
   )
 
 module _ {I A : Type 0} (w : Seen I A) (l : InputLaws w) (bytes : List A → List ℕ) (b : AreBytes w bytes) (form : List ℕ → List ℕ) (f : IsForm form) where
   comparing : CompareLaws {T = List ℕ} w length (ComparesAs bytes form)
   comparing = record {
     one = one_result w l bytes b form f;
-    place = λ t i k. record { front = k.0; rest = k.1; whole = k.2; length_is = b.size k.0 ∙ found_size w l bytes b form f t (w.elements i) k };
+    place = λ t i k. record { front = k.front; rest = k.rest; whole = k.whole; length_is = b.size k.front ∙ found_size w l bytes b form f t (w.elements i) k };
     shorter = λ t i h k. omega (arith, b.size (w.elements i), begun_size w l bytes b form f t (w.elements i) k);
-    ok_stays = λ t x y h k e r. (r.0, r.1 ++ e.more, e.whole ∙ (ap (λ xs. xs ++ e.more) r.2 ∙ append_assoc r.0 r.1 e.more), r.3);
+    ok_stays = λ t x y h k e r. record { front = r.front; rest = r.rest ++ e.more; whole = e.whole ∙ (ap (λ xs. xs ++ e.more) r.whole ∙ append_assoc r.front r.rest e.more); tag_is = r.tag_is };
     error_stays = λ t x y h k e r. subst (λ xs. ComparesAs bytes form t xs Compared.Error) (sym e.whole) (error_kept w l bytes b form f t (w.elements x) e.more r);
   }
 

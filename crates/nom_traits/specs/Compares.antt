@@ -19,12 +19,17 @@ pub record CompareLaws {I A T : Type 0} (w : Seen I A) (size : T → ℕ) (Compa
 -- items that are read as bytes, against a tag of bytes: bytes of one form are alike
 module _ {A : Type 0} (bytes : List A → List ℕ) (form : List ℕ → List ℕ) (t : List ℕ) (xs : List A) where
   -- the tag is the first items
-  abbrev pub IsFound : Type 0
-  IsFound = (front : List A) × (rest : List A) × (xs ≡ front ++ rest) × (form (bytes front) ≡ form t)
+  pub record IsFound : Type 0 where
+    pub front : List A
+    pub rest : List A
+    pub whole : xs ≡ front ++ rest
+    pub tag_is : form (bytes front) ≡ form t
 
   -- all items together are a proper front of the tag
-  abbrev pub IsBegun : Type 0
-  IsBegun = (x : ℕ) × (rest : List ℕ) × (form t ≡ form (bytes xs) ++ (x ∷ rest))
+  pub record IsBegun : Type 0 where
+    pub byte : ℕ
+    pub more : List ℕ
+    pub tag_is : form t ≡ form (bytes xs) ++ (byte ∷ more)
 
   abbrev pub ComparesAs : CompareResult → Type 0
   ComparesAs Compared.Ok = IsFound
