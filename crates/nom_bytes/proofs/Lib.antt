@@ -1,1 +1,2 @@
 pub mod Lacks
+pub mod RunShown

@@ -1,7 +1,9 @@
 //! Parsers of items in one mode: the input is complete, whatever mode is asked for.
 ghost use Rattle.std.specs.Prelude.{◌≡◌};
 
-use crate::{Fixed, Tag, TagNoCase, Take, TakeUntil, TakeUntil1};
+use crate::predicate::{StopsUnless, StopsWhere};
+use crate::{Fixed, SplitPosition, SplitPosition1, Tag, TagNoCase, Take, TakeUntil, TakeUntil1};
+use nom_error::kind::ErrorKind;
 use nom_error::mode::Complete;
 use std::marker::PhantomData;
 
@@ -34,6 +36,52 @@ pub fn tag_no_case<T: Copy, E>(tag: T) -> Fixed<TagNoCase<T, E>, Complete>
 {
     Fixed {
         parser: crate::tag_no_case(tag),
+        mode: PhantomData,
+    }
+}
+
+/// `bytes::take_while` in the complete mode.
+#[inline(always)]
+pub fn take_while<F, E>(test: F) -> Fixed<SplitPosition<StopsUnless<F>, E>, Complete>
+    ensures { result.parser.predicate.test ≡ test }
+{
+    Fixed {
+        parser: crate::take_while(test),
+        mode: PhantomData,
+    }
+}
+
+/// `bytes::take_while1` in the complete mode.
+#[inline(always)]
+pub fn take_while1<F, E>(test: F) -> Fixed<SplitPosition1<StopsUnless<F>, E>, Complete>
+    ensures predicate { result.parser.predicate.test ≡ test }
+    ensures kind { result.parser.kind ≡ ErrorKind.TakeWhile1 }
+{
+    Fixed {
+        parser: crate::take_while1(test),
+        mode: PhantomData,
+    }
+}
+
+/// `bytes::take_till` in the complete mode.
+#[inline(always)]
+pub fn take_till<F, E>(test: F) -> Fixed<SplitPosition<StopsWhere<F>, E>, Complete>
+    ensures { result.parser.predicate.test ≡ test }
+{
+    Fixed {
+        parser: crate::take_till(test),
+        mode: PhantomData,
+    }
+}
+
+/// `bytes::take_till1` in the complete mode.
+#[inline(always)]
+pub fn take_till1<F, E>(test: F) -> Fixed<SplitPosition1<StopsWhere<F>, E>, Complete>
+    ensures predicate { result.parser.predicate.test ≡ test }
+    ensures kind { result.parser.kind ≡ ErrorKind.TakeTill1 }
+{
+    Fixed {
+        parser: crate::take_till1(test),
         mode: PhantomData,
     }
 }

@@ -7,12 +7,19 @@ pub mod complete;
 mod fixed;
 mod leaf;
 mod no_case;
+pub mod predicate;
+mod run;
 pub mod streaming;
+#[cfg(test)]
+mod tests;
 mod until;
 
 pub use crate::fixed::Fixed;
 pub use crate::leaf::{Tag, Take};
 pub use crate::no_case::TagNoCase;
+pub use crate::run::{
+    SplitPosition, SplitPosition1, take_till, take_till1, take_while, take_while1,
+};
 pub use crate::until::{TakeUntil, TakeUntil1};
 use std::marker::PhantomData;
 

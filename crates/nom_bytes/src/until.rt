@@ -40,7 +40,7 @@ impl<T: Copy, I: Input + FindSubstring<T>, E: ParseError<I>> Parser<I> for TakeU
     #[inline(always)]
     fn process<OM: OutputMode>(&mut self, input: I) -> PResult<I, I, E> {
         match input.find_substring(self.tag) {
-            Some(n) => Ok((input.take_from(n), front::<OM::Output, I>(input, n))),
+            Some(index) => Ok((input.take_from(index), front::<OM::Output, I>(input, index))),
             None if OM::Incomplete::STREAMING => Err(Err::Incomplete(Needed::Unknown)),
             None => Err(refusal::<OM::Error, I, E>(input, ErrorKind::TakeUntil)),
         }

@@ -19,8 +19,8 @@ module _ (bs t rest : List ℕ) (n : ℕ) (h : n ≤ length bs) (e : rest ≡ dr
   pub stands : ComparesBytes t rest Compared.Ok → StandsAt (λ _. 1) t bs n
   stands k = record {
     before = take n bs;
-    rest = k.1;
-    whole = sym (take-append-drop n bs) ∙ ap (λ ys. take n bs ++ ys) (sym e ∙ (k.2 ∙ ap (λ ys. ys ++ k.1) k.3));
+    rest = k.rest;
+    whole = sym (take-append-drop n bs) ∙ ap (λ ys. take n bs ++ ys) (sym e ∙ (k.whole ∙ ap (λ ys. ys ++ k.rest) k.tag_is));
     length_is = span-ones (take n bs) ∙ length-take-le n bs h;
   }
 
@@ -28,7 +28,7 @@ module _ (bs t rest : List ℕ) (n : ℕ) (h : n ≤ length bs) (e : rest ≡ dr
   standing s =
       let size : n ≡ length s.before = sym s.length_is ∙ span-ones s.before in
       let dropped : drop n bs ≡ t ++ s.rest = ap (λ ys. drop n ys) s.whole ∙ (ap (λ k. drop k (s.before ++ (t ++ s.rest))) size ∙ drop-append_seam s.before (t ++ s.rest)) in
-      (t, s.rest, e ∙ dropped, refl)
+      record { front = t; rest = s.rest; whole = e ∙ dropped; tag_is = refl }
 
   pub not_begun : ComparesBytes t rest Compared.Incomplete → StandsAt (λ _. 1) t bs n → ⊥
   not_begun k s = found_not_begun seen_bytes bytes_lawful (λ ys. ys) bytes_are_bytes (λ ys. ys) itself_form t rest (standing s) k
