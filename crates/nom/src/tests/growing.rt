@@ -81,7 +81,10 @@ fn records_of_four_bytes(rt: HostRuntime) {
 fn a_list_that_grows(rt: HostRuntime) {
     let input = &b"aabX"[..];
     let grown = parse_growing(
-        terminated(many0(rt.alloc(), tag::<_, Fail>(&b"a"[..])), tag::<_, Fail>(&b"b"[..])),
+        terminated(
+            many0(rt.alloc(), tag::<_, Fail>(&b"a"[..])),
+            tag::<_, Fail>(&b"b"[..]),
+        ),
         input,
         &[0, 1, 2, 3],
     );
@@ -94,7 +97,10 @@ fn a_list_that_grows(rt: HostRuntime) {
         _ => panic!(rt; "no list"),
     }
     let grown = parse_growing(
-        terminated(many0(rt.alloc(), tag::<_, Fail>(&b"a"[..])), tag::<_, Fail>(&b"b"[..])),
+        terminated(
+            many0(rt.alloc(), tag::<_, Fail>(&b"a"[..])),
+            tag::<_, Fail>(&b"b"[..]),
+        ),
         input,
         &[1, 3, 4],
     );
@@ -107,7 +113,10 @@ fn a_list_that_grows(rt: HostRuntime) {
         _ => panic!(rt; "no list"),
     }
     let grown = parse_growing(
-        terminated(many0(rt.alloc(), tag::<_, Fail>(&b"a"[..])), tag::<_, Fail>(&b"b"[..])),
+        terminated(
+            many0(rt.alloc(), tag::<_, Fail>(&b"a"[..])),
+            tag::<_, Fail>(&b"b"[..]),
+        ),
         input,
         &[],
     );
