@@ -89,6 +89,7 @@ contents_are (t ∷ ts) (o ∷ os) h = ap (λ x. x ∷ map (λ r. r.now) os) (h.
 
 -- the grammar of two tags is that of the report, where these are its own
 pub reported_records : {A : Type 0} (tag end : List ℕ) → tag ≡ codes "R" → end ≡ codes "." → (whole : Bytes) (cuts : List ℕ) (index start : ℕ) → (index < length cuts → start ≡ slice_index cuts index) → (length cuts ≤ index → start ≡ length whole.now) → (answer : Result (Bytes × Vec Bytes A) Stops) (text : List ℕ) (status : ℕ) → IsGrown seen_bytes AreRecords (grammar_of tag end) whole cuts index answer → IsTold (λ o. map (λ r. r.now) o.items) index start answer text status → IsReport whole.now cuts text status
+unfolding IsReport
 reported_records tag end e f whole cuts index start at_cut at_end answer text status g t =
     let tagged = subst (λ x. IsGrown seen_bytes AreRecords (grammar_of x end) whole cuts index answer) e g in
     let ended = subst (λ x. IsGrown seen_bytes AreRecords (grammar_of (codes "R") x) whole cuts index answer) f tagged in

@@ -86,5 +86,5 @@ abbrev pub records_of : List (ℕ × Slice seen_bytes) → List (List ℕ)
 records_of ts = map (λ t. t.1.items) ts
 
 -- `text` and `status` are the report on `bytes`, given in the parts that `cuts` make of them
-abbrev pub IsReport : (bytes cuts text : List ℕ) → (status : ℕ) → Type 0
-IsReport = IsReportBy record_grammar records_of
+unfoldable pub IsReport : (bytes cuts text : List ℕ) → (status : ℕ) → Type 0
+IsReport bytes cuts text status = IsReportBy record_grammar records_of bytes cuts text status
