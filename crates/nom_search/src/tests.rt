@@ -1,5 +1,7 @@
 //! Classes, tokens, searches, bytes and builders.
-ghost use Rattle.std.specs.Prelude.{◌≡◌, ◌<◌, ◌++◌, IfOk};
+ghost use Rattle.std.specs.Prelude.{◌≡◌, ℕ, ◌<◌, ◌∷◌, ◌++◌, [], Some, IfOk, IfSome};
+ghost use Rattle.nom_traits.specs.Input.{IsFront};
+ghost use Rattle.nom_search.specs.Classes.{is_alpha_code, is_alphanum_code, is_bin_digit_code, is_dec_digit_code, is_hex_digit_code, is_newline_code, is_oct_digit_code, is_space_code};
 
 use crate::bytes::AsBytes;
 use crate::character::AsChar;
@@ -7,11 +9,14 @@ use crate::extend::{Builder, ExtendInto};
 use crate::substring::FindSubstring;
 use crate::token::FindToken;
 use nom_error::answer::OutOfMemory;
+use nom_traits::input::Input;
 use std::alloc::Allocator;
 
 /// Whether an item is a letter, a letter or digit, a decimal, hexadecimal, octal and binary digit, a
 /// space, and the end of a line.
-fn classes<C: AsChar>(item: C) -> [bool; 8] {
+fn classes<C: AsChar>(item: C) -> [bool; 8]
+    ensures { let c = C.code item in result ≡ is_alpha_code c ∷ is_alphanum_code c ∷ is_dec_digit_code c ∷ is_hex_digit_code c ∷ is_oct_digit_code c ∷ is_bin_digit_code c ∷ is_space_code c ∷ is_newline_code c ∷ [] }
+{
     [
         item.is_alpha(),
         item.is_alphanum(),
@@ -151,6 +156,23 @@ fn substrings_of_bytes(rt: HostRuntime) {
     assert!(rt; b"".as_slice().find_substring("") == Some(0));
     assert!(rt; b"".as_slice().find_substring("a") == None);
     assert!(rt; AsBytes::as_bytes(&"é").find_substring([0xA9u8].as_slice()) == Some(1));
+}
+
+/// What stands before the first place of a needle.
+fn before<I: Input + FindSubstring<T>, T: Drop>(input: I, needle: T) -> Option<I>
+    ensures { IfSome result (λ front. (n : ℕ) × I.finds (I.needle_seen needle) (I.seen.elements input) (Some n) × IsFront I.seen input n front) }
+{
+    match input.find_substring(needle) {
+        Some(place) => Some(input.take(place)),
+        None => None,
+    }
+}
+
+#[test]
+fn fronts_before_needles(rt: HostRuntime) {
+    assert!(rt; before("aé€b", "€") == Some("aé"));
+    assert!(rt; before(b"abcb".as_slice(), "b") == Some(b"a".as_slice()));
+    assert!(rt; before("aé", "©") == None);
 }
 
 #[test]
