@@ -1,9 +1,9 @@
 //! Classes, tokens, searches, bytes and builders.
 ghost use Rattle.std.specs.Prelude.{◌≡◌, ℕ, ◌<◌, ◌∷◌, ◌++◌, [], Some, IfOk, IfSome};
-ghost use Rattle.nom_traits.specs.Input.{IsFront};
+ghost use Rattle.nom_traits.specs.Input.{IsFront, input_len};
 ghost use Rattle.nom_search.specs.Classes.{is_alpha_code, is_alphanum_code, is_bin_digit_code, is_dec_digit_code, is_hex_digit_code, is_newline_code, is_oct_digit_code, is_space_code};
 
-use crate::bytes::AsBytes;
+use crate::bytes::{AsBytes, ByteItems};
 use crate::character::AsChar;
 use crate::extend::{Builder, ExtendInto};
 use crate::substring::FindSubstring;
@@ -192,6 +192,20 @@ fn bytes_of_values(rt: HostRuntime) {
     assert!(rt; AsBytes::as_bytes(&b"ab".as_slice()) == b"ab".as_slice());
     assert!(rt; AsBytes::as_bytes(b"ab") == b"ab".as_slice());
     assert!(rt; AsBytes::as_bytes(&b"ab") == b"ab".as_slice());
+}
+
+/// How many bytes an input lends: as many as its length.
+fn lent<I: ByteItems>(input: I) -> usize
+    ensures { result ≡ input_len I.seen input }
+{
+    input.known();
+    input.as_bytes().len()
+}
+
+#[test]
+fn lengths_in_bytes(rt: HostRuntime) {
+    assert!(rt; lent("né€") == 6);
+    assert!(rt; lent(b"ab".as_slice()) == 2);
 }
 
 /// Two values in a new builder.
