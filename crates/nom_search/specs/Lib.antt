@@ -1,3 +1,4 @@
 pub mod Classes
+pub mod Reads
 pub mod SubstringLaws
 pub mod Substrings

@@ -1,5 +1,8 @@
 //! Values as bytes.
-ghost use Rattle.std.specs.Prelude.{◌≡◌, ℕ, List};
+ghost use Rattle.std.specs.Prelude.{◌≡◌, ℕ, ◌∷◌, List, [], encode_utf8};
+ghost use Rattle.nom_search.specs.Reads.{ReadsBytes, bytes_read, text_read};
+
+use nom_traits::input::Items;
 
 /// A value that lends its bytes.
 pub trait AsBytes {
@@ -46,4 +49,30 @@ impl<const N: usize> AsBytes for &[u8; N] {
     fn as_bytes(&self) -> &[u8] {
         *self
     }
+}
+
+/// An input whose items are read as bytes.
+pub trait ByteItems: Items + AsBytes {
+    /// The bytes of an item.
+    ghost read: { Self.Item → List ℕ };
+
+    /// Does nothing: `AsBytes` lends the bytes.
+    #[inline(always)]
+    fn reads(&self) {}
+
+    /// The bytes are those of the items, each of which has as many as its length. A byte of ASCII is an
+    /// item of its own.
+    ghost reading: { ReadsBytes Self.seen Self.bytes read };
+}
+
+impl ByteItems for &[u8] {
+    ghost read = { λ b. b ∷ [] };
+
+    ghost reading = { bytes_read };
+}
+
+impl ByteItems for &str {
+    ghost read = { encode_utf8 };
+
+    ghost reading = { text_read };
 }

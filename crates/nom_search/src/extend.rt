@@ -1,5 +1,5 @@
 //! Values that are appended to builders.
-ghost use Rattle.std.specs.Prelude.{◌≡◌, ℕ, ◌++◌, List, [], encode_utf8, is_ok, string_bytes, if◌then◌else◌};
+ghost use Rattle.std.specs.Prelude.{◌≡◌, ℕ, ◌+◌, ◌<◌, ◌++◌, List, [], length, encode_utf8, is_ok, OnErr, string_bytes, string_capacity, string_len, vec_capacity, vec_len, if◌then◌else◌};
 
 use nom_error::answer::OutOfMemory;
 use std::alloc::{AllocError, Allocator};
@@ -37,13 +37,17 @@ pub trait ExtendInto<A: Allocator + Copy> {
     /// The parts that the value adds.
     ghost added: { Self → List Self.Extender.Part };
 
+    /// That the builder has to grow before the value fits.
+    ghost grows: { Self → Self.Extender → Type 0 };
+
     /// An empty builder.
     fn new_builder(&self, alloc: A) -> Self::Extender
         ensures { Self.Extender.parts result ≡ [] };
 
     /// Appends the value. Where memory runs out, the builder stays as it was.
     fn extend_into(&self, acc: &mut Self::Extender) -> Result<(), OutOfMemory>
-        ensures { Self.Extender.parts acc.new ≡ (if is_ok result then Self.Extender.parts acc.old ++ added self.now else Self.Extender.parts acc.old) };
+        ensures parts { Self.Extender.parts acc.new ≡ (if is_ok result then Self.Extender.parts acc.old ++ added self.now else Self.Extender.parts acc.old) }
+        ensures full { OnErr result (grows self.now acc.old) };
 }
 
 impl<A: Allocator + Copy> ExtendInto<A> for &[u8] {
@@ -52,6 +56,8 @@ impl<A: Allocator + Copy> ExtendInto<A> for &[u8] {
     type Extender = Vec<u8, A>;
 
     ghost added = { λ s. s.now };
+
+    ghost grows = { λ s b. vec_capacity b < vec_len b + length s.now };
 
     #[inline(always)]
     fn new_builder(&self, alloc: A) -> Vec<u8, A> {
@@ -71,6 +77,8 @@ impl<A: Allocator + Copy> ExtendInto<A> for &str {
 
     ghost added = { λ s. s.now };
 
+    ghost grows = { λ s b. string_capacity b < string_len b + length s.now };
+
     #[inline(always)]
     fn new_builder(&self, alloc: A) -> String<A> {
         String::new(alloc)
@@ -88,6 +96,8 @@ impl<A: Allocator + Copy> ExtendInto<A> for char {
     type Extender = String<A>;
 
     ghost added = { encode_utf8 };
+
+    ghost grows = { λ c b. string_capacity b < string_len b + length (encode_utf8 c) };
 
     #[inline(always)]
     fn new_builder(&self, alloc: A) -> String<A> {

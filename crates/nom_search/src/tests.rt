@@ -1,17 +1,22 @@
 //! Classes, tokens, searches, bytes and builders.
-ghost use Rattle.std.specs.Prelude.{◌≡◌, ◌<◌, ◌++◌, IfOk};
+ghost use Rattle.std.specs.Prelude.{◌≡◌, ℕ, ◌<◌, ◌∷◌, ◌++◌, [], Some, IfOk, IfSome};
+ghost use Rattle.nom_traits.specs.Input.{IsFront, input_len};
+ghost use Rattle.nom_search.specs.Classes.{is_alpha_code, is_alphanum_code, is_bin_digit_code, is_dec_digit_code, is_hex_digit_code, is_newline_code, is_oct_digit_code, is_space_code};
 
-use crate::bytes::AsBytes;
+use crate::bytes::{AsBytes, ByteItems};
 use crate::character::AsChar;
 use crate::extend::{Builder, ExtendInto};
 use crate::substring::FindSubstring;
 use crate::token::FindToken;
 use nom_error::answer::OutOfMemory;
+use nom_traits::input::Input;
 use std::alloc::Allocator;
 
 /// Whether an item is a letter, a letter or digit, a decimal, hexadecimal, octal and binary digit, a
 /// space, and the end of a line.
-fn classes<C: AsChar>(item: C) -> [bool; 8] {
+fn classes<C: AsChar>(item: C) -> [bool; 8]
+    ensures { let c = C.code item in result ≡ is_alpha_code c ∷ is_alphanum_code c ∷ is_dec_digit_code c ∷ is_hex_digit_code c ∷ is_oct_digit_code c ∷ is_bin_digit_code c ∷ is_space_code c ∷ is_newline_code c ∷ [] }
+{
     [
         item.is_alpha(),
         item.is_alphanum(),
@@ -153,6 +158,23 @@ fn substrings_of_bytes(rt: HostRuntime) {
     assert!(rt; AsBytes::as_bytes(&"é").find_substring([0xA9u8].as_slice()) == Some(1));
 }
 
+/// What stands before the first place of a needle.
+fn before<I: Input + FindSubstring<T>, T: Drop>(input: I, needle: T) -> Option<I>
+    ensures { IfSome result (λ front. (n : ℕ) × I.finds (I.needle_seen needle) (I.seen.elements input) (Some n) × IsFront I.seen input n front) }
+{
+    match input.find_substring(needle) {
+        Some(place) => Some(input.take(place)),
+        None => None,
+    }
+}
+
+#[test]
+fn fronts_before_needles(rt: HostRuntime) {
+    assert!(rt; before("aé€b", "€") == Some("aé"));
+    assert!(rt; before(b"abcb".as_slice(), "b") == Some(b"a".as_slice()));
+    assert!(rt; before("aé", "©") == None);
+}
+
 #[test]
 fn substrings_of_texts(rt: HostRuntime) {
     assert!(rt; "é".find_substring("©") == None);
@@ -170,6 +192,20 @@ fn bytes_of_values(rt: HostRuntime) {
     assert!(rt; AsBytes::as_bytes(&b"ab".as_slice()) == b"ab".as_slice());
     assert!(rt; AsBytes::as_bytes(b"ab") == b"ab".as_slice());
     assert!(rt; AsBytes::as_bytes(&b"ab") == b"ab".as_slice());
+}
+
+/// How many bytes an input lends: as many as its length.
+fn lent<I: ByteItems>(input: I) -> usize
+    ensures { result ≡ input_len I.seen input }
+{
+    input.known();
+    input.as_bytes().len()
+}
+
+#[test]
+fn lengths_in_bytes(rt: HostRuntime) {
+    assert!(rt; lent("né€") == 6);
+    assert!(rt; lent(b"ab".as_slice()) == 2);
 }
 
 /// Two values in a new builder.
