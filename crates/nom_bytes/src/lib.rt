@@ -9,6 +9,7 @@ mod leaf;
 mod no_case;
 pub mod predicate;
 mod run;
+mod run_of_one;
 pub mod streaming;
 #[cfg(test)]
 mod tests;
@@ -17,9 +18,8 @@ mod until;
 pub use crate::fixed::Fixed;
 pub use crate::leaf::{Tag, Take};
 pub use crate::no_case::TagNoCase;
-pub use crate::run::{
-    SplitPosition, SplitPosition1, take_till, take_till1, take_while, take_while1,
-};
+pub use crate::run::{SplitPosition, take_till, take_while};
+pub use crate::run_of_one::{SplitPosition1, take_till1, take_while1};
 pub use crate::until::{TakeUntil, TakeUntil1};
 use std::marker::PhantomData;
 

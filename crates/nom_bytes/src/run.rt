@@ -1,16 +1,14 @@
-//! The parsers of runs.
+//! The parsers of runs that may be empty.
 ghost use Rattle.std.specs.Prelude.{◌≡◌, true, false, MatchOption};
 ghost use Rattle.std.specs.List.{All};
-ghost use Rattle.nom_error.specs.declared.kind.ErrorKind.{ErrorKind};
 ghost use Rattle.nom_traits.specs.Slices.{Slice, IsSeenAs};
 ghost use Rattle.nom_bytes.specs.ParsedRuns.{IsRunSlice, run_meaning};
 ghost use Rattle.nom_bytes.specs.RunLaws.{run_lawful, run_steady};
 
 use crate::predicate::{Predicate, StopsUnless, StopsWhere};
 use nom_error::answer::{Err, Needed, PResult};
-use nom_error::kind::ErrorKind;
 use nom_error::mode::{IsStreaming, OutputMode};
-use nom_error::value::{ParseError, refusal};
+use nom_error::value::ParseError;
 use nom_internal::parser::{Parser, StreamParser};
 use nom_internal::slices::front;
 use nom_traits::input::Input;
@@ -18,7 +16,7 @@ use std::marker::PhantomData;
 
 /// The length of the run of an input; `None` where more may come and no item ends it.
 #[inline(always)]
-fn length_of_run<I: Input, S: IsStreaming, P: Predicate<I::Item>>(
+pub(crate) fn length_of_run<I: Input, S: IsStreaming, P: Predicate<I::Item>>(
     input: I,
     predicate: &P,
 ) -> Option<usize>
@@ -72,45 +70,6 @@ impl<I: Input, P: Predicate<I::Item>, E: ParseError<I>> StreamParser<I> for Spli
     ghost steady = { λ s. run_steady I.seen I.lawful I.Item.IsValue I.values (P.answers s) (P.IsSound s) (P.fixed s) (λ _ _. ⊥) ⊥ 0 };
 }
 
-/// A run of one item at least, made by `take_while1` and `take_till1`.
-#[derive(Drop)]
-pub struct SplitPosition1<P, E> {
-    pub predicate: P,
-    pub kind: ErrorKind,
-    pub error: PhantomData<E>,
-}
-
-impl<I: Input, P: Predicate<I::Item>, E: ParseError<I>> Parser<I> for SplitPosition1<P, E> {
-    type Output = I;
-
-    type Error = E;
-
-    ghost State = { P.State × ErrorKind };
-
-    ghost state = { λ p. (P.state p.predicate, p.kind) };
-
-    ghost Tree = { Slice I.seen };
-
-    ghost IsOutput = { λ _. IsSeenAs I.seen };
-
-    ghost meaning = { λ s. run_meaning I.seen (P.answers s.0) (P.IsSound s.0) (λ i. E.from_error_kind_gives i s.1) E.grows 1 };
-
-    #[inline(always)]
-    fn process<OM: OutputMode>(&mut self, input: I) -> PResult<I, I, E> {
-        match length_of_run::<I, OM::Incomplete, P>(input, &self.predicate) {
-            Some(n) if n == 0 => Err(refusal::<OM::Error, I, E>(input, self.kind)),
-            Some(n) => Ok((input.take_from(n), front::<OM::Output, I>(input, n))),
-            None => Err(Err::Incomplete(Needed::new(1))),
-        }
-    }
-
-    ghost lawful = { λ s. run_lawful I.seen I.lawful I.Item.IsValue I.values (P.answers s.0) (P.IsSound s.0) (P.fixed s.0) (λ i. E.from_error_kind_gives i s.1) E.grows 1 };
-}
-
-impl<I: Input, P: Predicate<I::Item>, E: ParseError<I>> StreamParser<I> for SplitPosition1<P, E> {
-    ghost steady = { λ s. run_steady I.seen I.lawful I.Item.IsValue I.values (P.answers s.0) (P.IsSound s.0) (P.fixed s.0) (λ i. E.from_error_kind_gives i s.1) E.grows 1 };
-}
-
 /// The longest list of first items that meet the test; it may be empty.
 ///
 /// Where each item meets it, streaming asks for more, and complete accepts all.
@@ -124,20 +83,6 @@ pub fn take_while<F, E>(test: F) -> SplitPosition<StopsUnless<F>, E>
     }
 }
 
-/// `take_while`, one item at least: where the first doesn't meet the test, it refuses with
-/// `TakeWhile1`, and so it does in the complete mode where there is none.
-#[inline(always)]
-pub fn take_while1<F, E>(test: F) -> SplitPosition1<StopsUnless<F>, E>
-    ensures predicate { result.predicate.test ≡ test }
-    ensures kind { result.kind ≡ ErrorKind.TakeWhile1 }
-{
-    SplitPosition1 {
-        predicate: StopsUnless { test },
-        kind: ErrorKind::TakeWhile1,
-        error: PhantomData,
-    }
-}
-
 /// The items before the first that meets the test; there may be none.
 ///
 /// Where no item meets it, streaming asks for more, and complete accepts all.
@@ -147,20 +92,6 @@ pub fn take_till<F, E>(test: F) -> SplitPosition<StopsWhere<F>, E>
 {
     SplitPosition {
         predicate: StopsWhere { test },
-        error: PhantomData,
-    }
-}
-
-/// `take_till`, one item at least: where the first meets the test, it refuses with `TakeTill1`, and so
-/// it does in the complete mode where there is none.
-#[inline(always)]
-pub fn take_till1<F, E>(test: F) -> SplitPosition1<StopsWhere<F>, E>
-    ensures predicate { result.predicate.test ≡ test }
-    ensures kind { result.kind ≡ ErrorKind.TakeTill1 }
-{
-    SplitPosition1 {
-        predicate: StopsWhere { test },
-        kind: ErrorKind::TakeTill1,
         error: PhantomData,
     }
 }

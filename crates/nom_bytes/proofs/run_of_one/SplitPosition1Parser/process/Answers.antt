@@ -1,7 +1,7 @@
 use Rattle.std.proofs.Common.{arith, refl}
 use Rattle.nom_internal.proofs.Shown.{accepted, undecided, refused}
 use Rattle.nom_bytes.proofs.RunShown.{run_none, run_some}
-use Rattle.nom_bytes.proofs.run.SplitPosition1Parser.process.Goals as goal
+use Rattle.nom_bytes.proofs.run_of_one.SplitPosition1Parser.process.Goals as goal
 
 pub returns-in-Some-clause-shown : goal.returns-in-Some-clause-shown
 returns-in-Some-clause-shown g c =
