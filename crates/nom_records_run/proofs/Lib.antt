@@ -2,3 +2,4 @@ pub mod Hex
 pub mod Known
 pub mod Reported
 pub mod Told
+pub mod WriteEnds
