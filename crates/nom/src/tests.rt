@@ -1,7 +1,9 @@
 //! Parsers put together: over bytes and texts, over input and error types of a user's own, on inputs
 //! that grow, and where memory runs out.
 
+mod asked;
 mod growing;
 mod memory;
 mod own;
+mod table;
 mod texts;

@@ -1,8 +1,11 @@
-//! Tags and slices of texts.
+//! Tags, slices, lists and choices of texts.
+ghost use Rattle.std.specs.Prelude.{◌≡◌};
 
+use crate::branch::alt;
 use crate::bytes::{tag, take};
 use crate::error::{Error, ErrorKind};
-use crate::{Err, Needed, Parser};
+use crate::multi::{length_data, many0};
+use crate::{Err, Items, Mode, Needed, OutputMode, PResult, Parser};
 
 #[test]
 fn tags_of_a_text(rt: HostRuntime) {
@@ -57,5 +60,77 @@ fn characters_taken(rt: HostRuntime) {
             assert!(rt; error.code == ErrorKind::Eof);
         }
         _ => panic!(rt; "no refusal"),
+    }
+}
+
+/// The length 2.
+fn length_of_two() -> u8
+    ensures { result ≡ 2 }
+{
+    2
+}
+
+/// Nothing, as the length 2.
+#[derive(Drop)]
+struct Two;
+
+impl<'a> Parser<&'a str> for Two {
+    ghost use Rattle.nom_traits.specs.Text.{seen_text};
+    ghost use Rattle.nom.specs.Nothing.{nothing_lawful, nothing_meaning};
+
+    type Output = u8;
+
+    type Error = Error<&'a str>;
+
+    ghost State = { Unit {0} };
+
+    ghost state = { λ _. tt };
+
+    ghost Tree = { Unit {0} };
+
+    ghost IsOutput = { λ _ _ n. n ≡ 2 };
+
+    ghost meaning = { λ _. nothing_meaning };
+
+    fn process<OM: OutputMode>(&mut self, input: &'a str) -> PResult<&'a str, u8, Error<&'a str>> {
+        input.known();
+        Ok((input, OM::Output::bind(length_of_two)))
+    }
+
+    ghost lawful = { λ _. nothing_lawful seen_text };
+}
+
+#[test]
+fn lists_and_choices_of_texts(rt: HostRuntime) {
+    let item = alt((tag::<_, Error<&str>>("é"), tag::<_, Error<&str>>("💢")));
+    let mut list = many0(rt.alloc(), item).and(tag::<_, Error<&str>>(";"));
+    match list.parse("é💢é;¡") {
+        Ok((rest, (items, end))) => {
+            assert!(rt; rest == "¡");
+            assert!(rt; items.len() == 3);
+            assert!(rt; items[1] == "💢");
+            assert!(rt; end == ";");
+        }
+        _ => panic!(rt; "no list"),
+    }
+    match list.parse("é💢") {
+        Err(Err::Incomplete(needed)) => assert!(rt; needed == Needed::new(2)),
+        _ => panic!(rt; "not incomplete"),
+    }
+}
+
+#[test]
+fn characters_behind_a_length(rt: HostRuntime) {
+    let mut data = length_data(Two);
+    match data.parse("é💢¡") {
+        Ok((rest, output)) => {
+            assert!(rt; rest == "¡");
+            assert!(rt; output == "é💢");
+        }
+        _ => panic!(rt; "no characters"),
+    }
+    match data.parse("é") {
+        Err(Err::Incomplete(needed)) => assert!(rt; needed == Needed::Unknown),
+        _ => panic!(rt; "not incomplete"),
     }
 }
