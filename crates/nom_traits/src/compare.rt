@@ -30,7 +30,7 @@ pub trait Compare<T>: Items {
     /// What a comparison of a list of items with a tag finds.
     ghost compares: { Tag → List Self.Item → CompareResult → Type 0 };
 
-    /// What one finds that takes ASCII letters as their lower case.
+    /// The same, where the case of ASCII letters doesn't matter.
     ghost compares_no_case: { Tag → List Self.Item → CompareResult → Type 0 };
 
     /// The length of a tag, as a front of an input.
@@ -49,10 +49,11 @@ pub trait Compare<T>: Items {
     /// needed, the input is shorter than the tag.
     ghost comparing: { CompareLaws Self.seen tag_size compares };
 
+    /// The same laws of `compare_no_case`.
     ghost comparing_no_case: { CompareLaws Self.seen tag_size compares_no_case };
 }
 
-/// A slice of bytes is compared with its first bytes.
+/// Bytes are compared one by one.
 impl<'a, 'b> Compare<&'b [u8]> for &'a [u8] {
     ghost Tag = { List ℕ };
 
