@@ -3,6 +3,7 @@
 
 ghost use Rattle.std.specs.Prelude.{◌≡◌};
 
+mod bounded;
 pub mod complete;
 mod fixed;
 mod leaf;
@@ -14,6 +15,7 @@ pub mod streaming;
 #[cfg(test)]
 mod tests;
 
+pub use crate::bounded::{TakeWhileMN, take_while_m_n};
 pub use crate::fixed::Fixed;
 pub use crate::leaf::{Tag, Take};
 pub use crate::no_case::TagNoCase;

@@ -2,7 +2,7 @@
 ghost use Rattle.std.specs.Prelude.{◌≡◌};
 
 use crate::predicate::{StopsUnless, StopsWhere};
-use crate::{Fixed, SplitPosition, SplitPosition1, Tag, TagNoCase, Take};
+use crate::{Fixed, SplitPosition, SplitPosition1, Tag, TagNoCase, Take, TakeWhileMN};
 use nom_error::kind::ErrorKind;
 use nom_error::mode::Streaming;
 use std::marker::PhantomData;
@@ -82,6 +82,23 @@ pub fn take_till1<F, E>(test: F) -> Fixed<SplitPosition1<StopsWhere<F>, E>, Stre
 {
     Fixed {
         parser: crate::take_till1(test),
+        mode: PhantomData,
+    }
+}
+
+/// `bytes::take_while_m_n` in the streaming mode.
+#[inline(always)]
+pub fn take_while_m_n<F, E>(
+    m: usize,
+    n: usize,
+    predicate: F,
+) -> Fixed<TakeWhileMN<StopsUnless<F>, E>, Streaming>
+    ensures least { result.parser.m ≡ m }
+    ensures most { result.parser.n ≡ n }
+    ensures predicate { result.parser.predicate.test ≡ predicate }
+{
+    Fixed {
+        parser: crate::take_while_m_n(m, n, predicate),
         mode: PhantomData,
     }
 }
