@@ -1,4 +1,4 @@
-//! Parsers of items: tags and slices.
+//! Parsers of items: tags, slices and runs.
 #![tactic(auto)]
 
 ghost use Rattle.std.specs.Prelude.{◌≡◌};
