@@ -1,2 +1,4 @@
+pub mod BoundedShown
+pub mod CountedWalks
 pub mod Lacks
 pub mod RunShown

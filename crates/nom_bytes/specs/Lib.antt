@@ -1,3 +1,5 @@
+pub mod BoundedLaws
+pub mod BoundedRuns
 pub mod Fixed
 pub mod ParsedRuns
 pub mod Predicates

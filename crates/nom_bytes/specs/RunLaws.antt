@@ -12,30 +12,35 @@ use Rattle.nom_internal.specs.Meaning.{IsLawful, IsSteady, Agree, Settled}
 use Rattle.nom_bytes.specs.Predicates.{IsFixed}
 use Rattle.nom_bytes.specs.ParsedRuns.{IsRunSlice, ParsesRun, run_meaning}
 
+module _ {A : Type 0} (V : A → Type 0) where
+  values_after : (front others : List A) → AreValues V (front ++ others) → AreValues V others
+  values_after [] others a = a
+  values_after (x ∷ front) others a = values_after front others a.1
+
 module _ {A : Type 0} (V E : A → Type 0) where
   stops_known : (xs : List A) → AreValues V xs → Stops E xs → Stops (λ x. V x × E x) xs
   stops_known [] a h = tt
   stops_known (x ∷ xs) a h = (a.0, h)
 
-module _ {A : Type 0} (V M E : A → Type 0) where
-  parts_known : (run rest : List A) → AreValues V (run ++ rest) → All M run → Stops E rest → All (λ x. V x × M x) run × Stops (λ x. V x × E x) rest
-  parts_known [] rest a h s = (All-nil (λ x. V x × M x), stops_known V E rest a s)
-  parts_known (x ∷ run) rest a h s =
-      let r = parts_known run rest a.1 (All-tail M x run h) s in
-      (All-cons (λ x. V x × M x) x run (a.0, All-head M x run h) r.0, r.1)
+module _ {A : Type 0} (V M : A → Type 0) where
+  -- the items of a front are values, where those of the list are
+  pub all_known : (front others : List A) → AreValues V (front ++ others) → All M front → All (λ x. V x × M x) front
+  all_known [] others a h = All-nil (λ x. V x × M x)
+  all_known (x ∷ front) others a h = All-cons (λ x. V x × M x) x front (a.0, All-head M x front h) (all_known front others a.1 (All-tail M x front h))
 
+module _ {A : Type 0} (V M E : A → Type 0) where
   -- the items of a run are values, where those of the list are
-  run_known : (xs run rest : List A) → AreValues V xs → IsRun M E xs run rest → IsRun (λ x. V x × M x) (λ x. V x × E x) xs run rest
+  pub run_known : (xs run rest : List A) → AreValues V xs → IsRun M E xs run rest → IsRun (λ x. V x × M x) (λ x. V x × E x) xs run rest
   run_known xs run rest a r =
-      let p = parts_known run rest (subst (AreValues V) r.whole a) r.meets r.stops in
-      record { whole = r.whole; meets = p.0; stops = p.1 }
+      let b = subst (AreValues V) r.whole a in
+      record { whole = r.whole; meets = all_known V M run rest b r.meets; stops = stops_known V E rest (values_after V run rest b) r.stops }
 
   -- a list of values has one run
   same_run : ((x : A) → V x → E x → M x → ⊥) → (xs run rest run' rest' : List A) → AreValues V xs → IsRun M E xs run rest → IsRun M E xs run' rest' → (run ≡ run') × (rest ≡ rest')
   same_run apart xs run rest run' rest' a r q = one_run (λ x. V x × M x) (λ x. V x × E x) (λ x m e. apart x m.0 e.1 m.1) xs run rest run' rest' (run_known xs run rest a r) (run_known xs run' rest' a q)
 
 module _ {A : Type 0} (M E : A → Type 0) where
-  run_longer : (xs run rest more : List A) → 0 < length rest → IsRun M E xs run rest → IsRun M E (xs ++ more) run (rest ++ more)
+  pub run_longer : (xs run rest more : List A) → 0 < length rest → IsRun M E xs run rest → IsRun M E (xs ++ more) run (rest ++ more)
   run_longer xs run [] more h r = absurd (omega (arith, h))
   run_longer xs run (x ∷ rest) more h r = run_stays M E xs run x rest more r
 

@@ -1,8 +1,9 @@
-//! Parsers of items: tags and slices.
+//! Parsers of items: tags, slices and runs.
 #![tactic(auto)]
 
 ghost use Rattle.std.specs.Prelude.{◌≡◌};
 
+mod bounded;
 pub mod complete;
 mod fixed;
 mod leaf;
@@ -15,6 +16,7 @@ pub mod streaming;
 mod tests;
 mod until;
 
+pub use crate::bounded::{TakeWhileMN, take_while_m_n};
 pub use crate::fixed::Fixed;
 pub use crate::leaf::{Tag, Take};
 pub use crate::no_case::TagNoCase;

@@ -2,7 +2,9 @@
 ghost use Rattle.std.specs.Prelude.{◌≡◌};
 
 use crate::predicate::{StopsUnless, StopsWhere};
-use crate::{Fixed, SplitPosition, SplitPosition1, Tag, TagNoCase, Take, TakeUntil, TakeUntil1};
+use crate::{
+    Fixed, SplitPosition, SplitPosition1, Tag, TagNoCase, Take, TakeUntil, TakeUntil1, TakeWhileMN,
+};
 use nom_error::kind::ErrorKind;
 use nom_error::mode::Streaming;
 use std::marker::PhantomData;
@@ -104,6 +106,23 @@ pub fn take_until1<T: Copy, E>(tag: T) -> Fixed<TakeUntil1<T, E>, Streaming>
 {
     Fixed {
         parser: crate::take_until1(tag),
+        mode: PhantomData,
+    }
+}
+
+/// `bytes::take_while_m_n` in the streaming mode.
+#[inline(always)]
+pub fn take_while_m_n<F, E>(
+    m: usize,
+    n: usize,
+    predicate: F,
+) -> Fixed<TakeWhileMN<StopsUnless<F>, E>, Streaming>
+    ensures least { result.parser.m ≡ m }
+    ensures most { result.parser.n ≡ n }
+    ensures predicate { result.parser.predicate.test ≡ predicate }
+{
+    Fixed {
+        parser: crate::take_while_m_n(m, n, predicate),
         mode: PhantomData,
     }
 }

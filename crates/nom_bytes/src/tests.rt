@@ -1,6 +1,6 @@
 //! Runs of items.
 
-use crate::{take_till, take_till1, take_while, take_while1};
+use crate::{take_till, take_till1, take_while, take_while_m_n, take_while1};
 use nom_error::answer::{Err, Needed};
 use nom_error::kind::ErrorKind;
 use nom_error::mode::{Check, Complete, Emit, OutputM};
@@ -75,4 +75,28 @@ fn runs_of_a_text(rt: HostRuntime) {
     let (rest, run) = acceptance(words.parse_complete("é¡")).expect(&rt, "refused");
     assert!(rt; rest == "");
     assert!(rt; run == "é¡");
+}
+
+#[test]
+fn two_to_three_digits(rt: HostRuntime) {
+    let mut digits = take_while_m_n::<_, Error<&[u8]>>(2, 3, |b: u8| b.is_ascii_digit());
+    let (rest, run) = acceptance(digits.parse(&b"1234"[..])).expect(&rt, "refused");
+    assert!(rt; rest == b"4".as_slice());
+    assert!(rt; run == b"123".as_slice());
+    let (rest, run) = acceptance(digits.parse(&b"12a"[..])).expect(&rt, "refused");
+    assert!(rt; rest == b"a".as_slice());
+    assert!(rt; run == b"12".as_slice());
+    let error = error_of(digits.parse(&b"1a"[..])).expect(&rt, "not refused");
+    assert!(rt; error.code == ErrorKind::TakeWhileMN);
+    assert!(rt; error.input == b"1a".as_slice());
+    assert!(rt; need(digits.parse(&b""[..])) == Some(Needed::new(2)));
+    assert!(rt; need(digits.parse(&b"123"[..])) == Some(Needed::new(1)));
+    let (_, run) = acceptance(digits.parse_complete(&b"12"[..])).expect(&rt, "refused");
+    assert!(rt; run == b"12".as_slice());
+    let error = error_of(digits.parse_complete(&b"1"[..])).expect(&rt, "not refused");
+    assert!(rt; error.code == ErrorKind::TakeWhileMN);
+    let mut letters = take_while_m_n::<_, Error<&str>>(2, 1, |c: char| c != ' ');
+    let (rest, run) = acceptance(letters.parse("éa")).expect(&rt, "refused");
+    assert!(rt; rest == "a");
+    assert!(rt; run == "é");
 }

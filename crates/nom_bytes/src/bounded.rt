@@ -1,0 +1,119 @@
+//! The parser of runs with a bound.
+ghost use Rattle.std.specs.Prelude.{◌≡◌, ◌-◌, ℕ, max};
+ghost use Rattle.nom_traits.specs.Slices.{Slice, IsSeenAs};
+ghost use Rattle.nom_bytes.specs.BoundedRuns.{IsReach, bounded_meaning};
+ghost use Rattle.nom_bytes.specs.BoundedLaws.{bounded_lawful, bounded_steady};
+
+use crate::predicate::{Predicate, StopsUnless};
+use nom_error::answer::{Err, Needed, PResult};
+use nom_error::kind::ErrorKind;
+use nom_error::mode::{IsStreaming, OutputMode};
+use nom_error::value::{ParseError, refusal};
+use nom_internal::parser::{Parser, StreamParser};
+use nom_internal::slices::front;
+use nom_traits::input::Input;
+use std::marker::PhantomData;
+
+/// The length of the run of an input, of `most` items at most, and how many items it has; no length
+/// where the run is all of the input.
+#[inline(always)]
+fn bounded_run<I: Input, P: Predicate<I::Item>>(
+    input: I,
+    predicate: &P,
+    most: usize,
+) -> (Option<usize>, usize)
+    requires { P.IsSound (P.state predicate.now) }
+    ensures { IsReach I.seen (P.answers (P.state predicate.now)) most input result.0 result.1 }
+{
+    let mut count = 0usize;
+    for (index, item) in input.iter_indices() {
+        // Each item that is given goes to the test, since an item may not be one to let go.
+        let stops = predicate.stops(item);
+        if count == most || stops {
+            return (Some(index), count);
+        }
+        count += 1;
+    }
+    (None, count)
+}
+
+/// What a length lacks of another, and 1 at least.
+#[inline(always)]
+fn lack(least: usize, length: usize) -> usize
+    ensures { result ≡ max 1 (least - length) }
+{
+    if least > length { least - length } else { 1 }
+}
+
+/// A run of `m` items at least and `n` at most, made by `take_while_m_n`.
+#[derive(Drop)]
+pub struct TakeWhileMN<P, E> {
+    pub m: usize,
+    pub n: usize,
+    pub predicate: P,
+    pub error: PhantomData<E>,
+}
+
+impl<I: Input, P: Predicate<I::Item>, E: ParseError<I>> Parser<I> for TakeWhileMN<P, E> {
+    type Output = I;
+
+    type Error = E;
+
+    ghost State = { P.State × ℕ × ℕ };
+
+    ghost state = { λ p. (P.state p.predicate, p.m, p.n) };
+
+    ghost Tree = { Slice I.seen };
+
+    ghost IsOutput = { λ _. IsSeenAs I.seen };
+
+    ghost meaning = { λ s. bounded_meaning I.seen (P.answers s.0) s.2 (P.IsSound s.0) E.from_error_kind_gives E.grows s.1 };
+
+    #[inline(always)]
+    fn process<OM: OutputMode>(&mut self, input: I) -> PResult<I, I, E> {
+        let least = self.m.min(self.n);
+        let (place, count) = bounded_run::<I, P>(input, &self.predicate, self.n);
+        match place {
+            // An item follows, so that as many as the bound are enough.
+            Some(n) if least <= count => {
+                Ok((input.take_from(n), front::<OM::Output, I>(input, n)))
+            }
+            Some(_) => Err(refusal::<OM::Error, I, E>(input, ErrorKind::TakeWhileMN)),
+            None if OM::Incomplete::STREAMING => Err(Err::Incomplete(Needed::new(lack(
+                self.m,
+                input.input_len(),
+            )))),
+            None if self.m <= count => {
+                let n = input.input_len();
+                Ok((input.take_from(n), front::<OM::Output, I>(input, n)))
+            }
+            None => Err(refusal::<OM::Error, I, E>(input, ErrorKind::TakeWhileMN)),
+        }
+    }
+
+    ghost lawful = { λ s. bounded_lawful I.seen I.Item.IsValue I.values (P.answers s.0) (P.IsSound s.0) (P.fixed s.0) E.from_error_kind_gives E.grows s.2 s.1 };
+}
+
+impl<I: Input, P: Predicate<I::Item>, E: ParseError<I>> StreamParser<I> for TakeWhileMN<P, E> {
+    ghost steady = { λ s. bounded_steady I.seen I.Item.IsValue I.values (P.answers s.0) (P.IsSound s.0) (P.fixed s.0) E.from_error_kind_gives E.grows s.2 s.1 };
+}
+
+/// The first items that meet the test, `m` at least and `n` at most.
+///
+/// Where an item follows `n` that meet the test, these are accepted, whatever `m` is; where fewer than
+/// `m` are followed by one that doesn't meet it, it refuses with `TakeWhileMN`. Where the input ends
+/// before, streaming asks for more: for what the input's length lacks of `m`, or else for 1. Complete
+/// accepts all where there are `m` items at least, and else refuses so.
+#[inline(always)]
+pub fn take_while_m_n<F, E>(m: usize, n: usize, predicate: F) -> TakeWhileMN<StopsUnless<F>, E>
+    ensures least { result.m ≡ m }
+    ensures most { result.n ≡ n }
+    ensures predicate { result.predicate.test ≡ predicate }
+{
+    TakeWhileMN {
+        m,
+        n,
+        predicate: StopsUnless { test: predicate },
+        error: PhantomData,
+    }
+}
