@@ -1,5 +1,5 @@
 -- Choice: the first outcome that isn't a refusal. Where all branches refuse, their errors are joined by `or` from left to
--- right, and the whole is closed by `append` at the start.
+-- right. A closed choice then passes that error to `append` at the start.
 use Rattle.std.specs.Prelude.{◌≡◌, ℕ, ◌+◌, Bool, true, List, [], ◌∷◌, Result, Ok, Err, Option, Some, None, ◌⊎◌}
 use Rattle.std.proofs.Common.{inl, inr, zero, suc}
 use Rattle.nom_error.specs.declared.answer.Needed.{Needed}

@@ -8,7 +8,7 @@ use Rattle.nom_internal.specs.Outcome.Outcome.{Accept}
 
 -- what a parser over I means, with parse trees V and errors E; its mode is streaming (true) or complete (false)
 pub record Meaning (I V E : Type 0) : Type 1 where
-  -- the premises: its closures are total and answer as fixed functions, and its parts keep their laws
+  -- the premises: its closures are total and answer as fixed functions, and its parts are sound
   pub IsSound : Type 0
   -- its outcome, by mode and input
   pub answers : Bool → I → Outcome V → Type 0

@@ -44,8 +44,8 @@ fn in_whole<I: Input, O: Drop, E: Drop>(
     Ok((whole.take_from(n), output))
 }
 
-/// Parses the beginnings of `whole` at `cuts` in turn, until one is decided, and then the whole. The
-/// cuts are places of `whole`; no cuts at all are fine.
+/// Parses the beginnings of `whole` at `cuts` in turn, until the answer on one isn't that more is
+/// needed, and then the whole. The cuts are places of `whole`; no cuts at all are fine.
 pub fn parse_growing<I: Input, P: StreamParser<I> + Drop>(
     mut parser: P,
     whole: I,

@@ -1,4 +1,5 @@
-//! Parsers: what they mean, their laws, sequences of two, and inputs that grow.
+//! Parsers: what they mean, their laws and promises, slices of their inputs, sequences of two, and
+//! inputs that grow.
 #![tactic(auto)]
 
 pub mod growing;
