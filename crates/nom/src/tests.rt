@@ -5,5 +5,6 @@ mod asked;
 mod growing;
 mod memory;
 mod own;
+mod splits;
 mod table;
 mod texts;
