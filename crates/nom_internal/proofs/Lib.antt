@@ -1,4 +1,5 @@
 pub mod Branches
 pub mod Choice
+pub mod Consumed
 pub mod Grown
 pub mod Shown

@@ -11,7 +11,7 @@ use Rattle.nom_internal.specs.Choice.NextBlames.{NextFails, NextRefuses}
 use Rattle.nom_internal.specs.Choice.OrBlames.{FirstFails, FirstRefuses}
 use Rattle.nom_internal.specs.Choice.CloseBlames.{ClosedFails, ClosedRefuses}
 
-keeps_labelled : {P T : Type 0} (longer : Bool) (label : P → T) (o : Outcome P) → Keeps longer (labelled label o) → Keeps longer o
+pub keeps_labelled : {P T : Type 0} (longer : Bool) (label : P → T) (o : Outcome P) → Keeps longer (labelled label o) → Keeps longer o
 keeps_labelled true label (Accept n v) k = tt
 keeps_labelled true label Refuse k = tt
 keeps_labelled true label Fail k = tt
@@ -20,7 +20,7 @@ keeps_labelled true label (Undecided d) k = k
 keeps_labelled false label o k = tt
 
 module _ {I A P T : Type 0} (w : Seen I A) (label : P → T) where
-  labelled_agree : (longer : Bool) (F G : I → Outcome P → Type 0) → Agree w longer F G → Agree w longer (Labelled label F) (Labelled label G)
+  pub labelled_agree : (longer : Bool) (F G : I → Outcome P → Type 0) → Agree w longer F G → Agree w longer (Labelled label F) (Labelled label G)
   labelled_agree longer F G f x y o p kx ky r s k t =
       let e = f x y s.outcome t.outcome kx ky r s.answered (keeps_labelled longer label s.outcome (subst (λ z. Keeps longer z) s.is k)) t.answered in
       s.is ∙ (ap (λ z. labelled label z) e ∙ sym t.is)
@@ -32,10 +32,10 @@ module _ {I A P T : Type 0} (w : Seen I A) (label : P → T) where
   labelled_place i n v TooLarge f e = cc
   labelled_place i n v (Undecided k) f e = cc
 
-  labelled_within : (F : I → Outcome P → Type 0) → Within w F → Within w (Labelled label F)
+  pub labelled_within : (F : I → Outcome P → Type 0) → Within w F → Within w (Labelled label F)
   labelled_within F f i n v h t = labelled_place i n v t.outcome (λ m u e. f i m u h (subst (λ o. F i o) e t.answered)) t.is
 
-  labelled_settled : (F G : I → Outcome P → Type 0) → Settled w F G → Settled w (Labelled label F) (Labelled label G)
+  pub labelled_settled : (F G : I → Outcome P → Type 0) → Settled w F G → Settled w (Labelled label F) (Labelled label G)
   labelled_settled F G f i o h t d = record {
     outcome = t.outcome;
     answered = f i t.outcome h t.answered (keeps_labelled true label t.outcome (subst (λ z. IsDecided z) t.is d));
@@ -56,7 +56,7 @@ module _ {I A P T : Type 0} (w : Seen I A) (label : P → T) where
 
 module _ {V : Type 0} (N : Outcome V → Type 0) where
   -- the first outcome is kept where the last one is
-  keeps_first : (longer : Bool) (a o : Outcome V) → Keeps longer o → GoesOnRefused N a o → Keeps longer a
+  pub keeps_first : (longer : Bool) (a o : Outcome V) → Keeps longer o → GoesOnRefused N a o → Keeps longer a
   keeps_first true (Accept n v) o k s = tt
   keeps_first true Refuse o k s = tt
   keeps_first true Fail o k s = tt
@@ -86,13 +86,13 @@ module _ {V : Type 0} (N : Outcome V → Type 0) where
   goes_accepted (Undecided d) n v s = cc
 
 module _ {I A V : Type 0} (w : Seen I A) (F G N M : I → Outcome V → Type 0) where
-  or_agree : (longer : Bool) → Agree w longer F G → Agree w longer N M → Agree w longer (OnRefusal F N) (OnRefusal G M)
+  pub or_agree : (longer : Bool) → Agree w longer F G → Agree w longer N M → Agree w longer (OnRefusal F N) (OnRefusal G M)
   or_agree longer f g x y o p kx ky r s k t =
       let e = f x y s.first t.first kx ky r s.answered (keeps_first (N x) longer s.first o k s.goes_on) t.answered in
       goes_agree (N x) (M y) s.first o p (λ n m. g x y o p kx ky r n k m) s.goes_on (subst (λ z. GoesOnRefused (M y) z p) (sym e) t.goes_on)
 
 module _ {I A V : Type 0} (w : Seen I A) (F G N M : I → Outcome V → Type 0) where
-  or_settled : Settled w F G → Settled w N M → Settled w (OnRefusal F N) (OnRefusal G M)
+  pub or_settled : Settled w F G → Settled w N M → Settled w (OnRefusal F N) (OnRefusal G M)
   or_settled f g i o h t d = record {
     first = t.first;
     answered = f i t.first h t.answered (keeps_first (N i) true t.first o d t.goes_on);
@@ -100,7 +100,7 @@ module _ {I A V : Type 0} (w : Seen I A) (F G N M : I → Outcome V → Type 0) 
   }
 
 module _ {I A V : Type 0} (w : Seen I A) (F N : I → Outcome V → Type 0) where
-  or_within : Within w F → Within w N → Within w (OnRefusal F N)
+  pub or_within : Within w F → Within w N → Within w (OnRefusal F N)
   or_within f g i n v h t = elim (goes_accepted (N i) t.first n v t.goes_on) as (λ _. IsPlace w i n) [
     | inl e ↦ f i n v h (subst (λ o. F i o) e t.answered)
     | inr m ↦ g i n v h m

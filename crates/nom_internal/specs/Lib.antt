@@ -7,6 +7,8 @@ pub mod Meaning
 pub mod Outcome
 pub mod PartLaws
 pub mod Promises
+pub mod Recognized
+pub mod RecognizedLaws
 pub mod Results
 pub mod Sequence
 pub mod SequenceLaws

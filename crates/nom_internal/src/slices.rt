@@ -1,6 +1,7 @@
 //! Slices of inputs as outputs.
 ghost use Rattle.nom_error.specs.Modes.{Built};
-ghost use Rattle.nom_traits.specs.Input.{IsPlace};
+ghost use Rattle.std.specs.Prelude.{ℕ};
+ghost use Rattle.nom_traits.specs.Input.{IsPlace, IsRest};
 ghost use Rattle.nom_traits.specs.Slices.{Slice, IsFirst, IsSeenAs};
 
 use nom_error::mode::Mode;
@@ -13,4 +14,13 @@ pub fn front<M: Mode, I: Input>(input: I, n: usize) -> Option<I>
     ensures { (t : Slice I.seen) → IsFirst I.seen input n t → Built M.BUILDS (IsSeenAs I.seen t) result }
 {
     if M::BUILDS { Some(input.take(n)) } else { None }
+}
+
+/// The items of an input before a rest of it, where outputs are built.
+#[inline(always)]
+pub fn before<M: Mode, I: Input>(input: I, rest: I) -> Option<I>
+    requires { (n : ℕ) × IsRest I.seen input n rest }
+    ensures { (n : ℕ) (t : Slice I.seen) → IsRest I.seen input n rest → IsFirst I.seen input n t → Built M.BUILDS (IsSeenAs I.seen t) result }
+{
+    front::<M, I>(input, input.input_len() - rest.input_len())
 }

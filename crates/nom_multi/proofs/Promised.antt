@@ -11,7 +11,7 @@ use Rattle.nom_multi.specs.Repeat.{Pieces, Replies, TurnsBy}
 use Rattle.nom_multi.specs.Repeat.Turn.{Takes, Ends}
 use Rattle.nom_multi.specs.Many.{until_refused, many0_meaning}
 use Rattle.nom_multi.specs.Promises.{HasEmptyItem, RefusesAtEmpty, HasFewItems}
-use Rattle.nom_multi.proofs.Repeated.{rest_length}
+use Rattle.nom_internal.proofs.Consumed.{rest_length}
 
 -- what is taken consumes
 taken_consumes : {V : Type 0} (a : Option (Outcome V)) (n : ℕ) (v : V) → Takes n v ≡ until_refused a → 0 < n

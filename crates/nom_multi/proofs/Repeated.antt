@@ -5,13 +5,14 @@ use Rattle.nom_error.specs.declared.answer.Err as Answer
 use Rattle.nom_error.specs.declared.answer.Err.TheVariants.{Incomplete, Error, Failure, OutOfMemory}
 use Rattle.nom_error.specs.Modes.{Built}
 use Rattle.nom_error.specs.Answers.{size_of}
-use Rattle.nom_traits.specs.Input.{Seen, InputLaws, IsRest, input_len, span}
-use Rattle.nom_traits.specs.Rests.{rest_rest, span-append}
+use Rattle.nom_traits.specs.Input.{Seen, InputLaws, IsRest, input_len}
+use Rattle.nom_traits.specs.Rests.{rest_rest}
 use Rattle.nom_internal.specs.Outcome.{Outcome}
 use Rattle.nom_internal.specs.Outcome.Outcome.{Accept, Refuse, Fail, TooLarge, Undecided}
 use Rattle.nom_internal.specs.Outcome.ShowsAnswer.{RanOut, Shown}
 use Rattle.nom_internal.specs.Meaning.{Meaning, ShowsMeaning}
 use Rattle.nom_internal.specs.Sequence.{after}
+use Rattle.nom_internal.proofs.Consumed.{rest_length}
 use Rattle.nom_multi.specs.Repeat.{Turn, Pieces, Reaches, Repeats, IsBelow, Replies, OnReply, TurnsBy, Rule, repeat_meaning}
 use Rattle.nom_multi.specs.Repeat.Turn.{Takes, Ends}
 
@@ -98,15 +99,12 @@ module _ {I A P V T R O E : Type 0} (w : Seen I A) (r : Rule I P V T E) (tree : 
 
 -- lengths tell whether a part consumed
 module _ {I A : Type 0} (w : Seen I A) where
-  pub rest_length : (i : I) (n : ℕ) (j : I) → IsRest w i n j → input_len w i ≡ n + input_len w j
-  rest_length i n j p = omega (arith, ap (λ xs. span w.weight xs) p.whole, span-append w.weight p.front (w.elements j), p.length_is)
-
   pub is_empty : (i : I) (n : ℕ) (j : I) (a b : ℕ) → IsRest w i n j → b ≡ input_len w j → a ≡ input_len w i → b ≡ a → n ≡ 0
-  is_empty i n j a b r x y e = omega (arith, rest_length i n j r)
+  is_empty i n j a b r x y e = omega (arith, rest_length w i n j r)
 
   pub consumes : (i : I) (n : ℕ) (j : I) (a b : ℕ) → IsRest w i n j → b ≡ input_len w j → a ≡ input_len w i → (b ≡ a → ⊥) → 0 < n
-  consumes i zero j a b r x y e = absurd (e (omega (arith, rest_length i zero j r)))
+  consumes i zero j a b r x y e = absurd (e (omega (arith, rest_length w i zero j r)))
   consumes i (suc n) j a b r x y e = omega arith
 
   pub is_shorter : (i : I) (n : ℕ) (j : I) → IsRest w i n j → 0 < n → input_len w j < input_len w i
-  is_shorter i n j r p = omega (arith, rest_length i n j r)
+  is_shorter i n j r p = omega (arith, rest_length w i n j r)

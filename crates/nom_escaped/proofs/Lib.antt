@@ -1,0 +1,4 @@
+pub mod Controls
+pub mod SpotShown
+pub mod EscapeShown
+pub mod EscapedShown

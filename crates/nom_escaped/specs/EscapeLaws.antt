@@ -1,0 +1,83 @@
+-- The laws of escapes.
+use Rattle.std.specs.Prelude.{◌≡◌, ℕ, Bool, true, Option, Some, None, zero, suc}
+use Rattle.std.proofs.Common.{inl}
+use Rattle.nom_error.specs.declared.kind.ErrorKind.{ErrorKind}
+use Rattle.nom_error.specs.declared.kind.ErrorKind.TheVariants as Kind
+use Rattle.nom_traits.specs.Input.{Seen, InputLaws}
+use Rattle.nom_internal.specs.Outcome.{Outcome}
+use Rattle.nom_internal.specs.Outcome.Outcome.{Accept, Refuse, Fail, TooLarge, Undecided}
+use Rattle.nom_internal.specs.Meaning.{Meaning, IsLawful, IsSteady}
+use Rattle.nom_internal.specs.RecognizedLaws.{recognized_lawful, recognized_steady}
+use Rattle.nom_multi.specs.Repeat.{Ran, repeat_meaning}
+use Rattle.nom_multi.specs.Repeat.Turn.{Takes, Ends}
+use Rattle.nom_multi.specs.RepeatLaws.{KeepsTurn, KeepsReply, EndsAt, RuleLaws, repeat_lawful, repeat_steady}
+use Rattle.nom_escaped.specs.declared.spot.Spot.{Spot}
+use Rattle.nom_escaped.specs.declared.spot.Spot.TheVariants.{Found, Other, Dangling, Done}
+use Rattle.nom_escaped.specs.Spots.{spot_meaning}
+use Rattle.nom_escaped.specs.SpotLaws.{spot_lawful, spot_steady}
+use Rattle.nom_escaped.specs.Escapes.{by_spot, escape_turn, OnReplied, escape_rule, all_pieces, escaped_meaning, escaped_transform_meaning}
+
+escape_decided : {V : Type 0} (k : ℕ) (a : Option (Outcome (Spot V))) → KeepsTurn true (escape_turn k a) → KeepsReply true a
+escape_decided k (Some (Accept n v)) h = tt
+escape_decided k (Some Refuse) h = tt
+escape_decided k (Some Fail) h = tt
+escape_decided k (Some TooLarge) h = h
+escape_decided k (Some (Undecided d)) h = h
+escape_decided k None h = tt
+
+spot_ends : {V : Type 0} (v : Spot V) (k m : ℕ) (n : ℕ) (t : Option V) → Ends (Accept n t) ≡ by_spot v k m → n ≡ 0
+spot_ends (Found v) k zero n t e = cc
+spot_ends (Found v) k (suc m) n t e = absurd (cc)
+spot_ends Other zero m n t e = absurd (cc)
+spot_ends Other (suc k) m n t e = cc
+spot_ends Dangling k m n t e = absurd (cc)
+spot_ends Done k m n t e = cc
+
+escape_ends : {V : Type 0} (k : ℕ) (a : Option (Outcome (Spot V))) (n : ℕ) (t : Option V) → Ends (Accept n t) ≡ escape_turn k a → EndsAt n a
+escape_ends k (Some (Accept m v)) n t e = inl (spot_ends v k m n t e)
+escape_ends k (Some Refuse) n t e = absurd (cc)
+escape_ends k (Some Fail) n t e = absurd (cc)
+escape_ends k (Some TooLarge) n t e = absurd (cc)
+escape_ends k (Some (Undecided d)) n t e = absurd (cc)
+escape_ends k None n t e = cc
+
+on_fault : {V : Type 0} (Taken Unknown Last : Type 0) {P Q : Type 0} (a : Option (Outcome (Spot V))) → (Ran a → P → Q) → OnReplied Taken Unknown Last P a → OnReplied Taken Unknown Last Q a
+on_fault Taken Unknown Last (Some (Accept n v)) f h = h
+on_fault Taken Unknown Last (Some Refuse) f h = f tt h
+on_fault Taken Unknown Last (Some Fail) f h = f tt h
+on_fault Taken Unknown Last (Some TooLarge) f h = f tt h
+on_fault Taken Unknown Last (Some (Undecided d)) f h = h
+on_fault Taken Unknown Last None f h = h
+
+on_none : {V : Type 0} (Taken Own : Type 0) (a : Option (Outcome (Spot V))) → (Taken → ⊥) → (Own → ⊥) → OnReplied Taken Own Own ⊥ a → ⊥
+on_none Taken Own (Some (Accept n (Found v))) f g h = f h
+on_none Taken Own (Some (Accept n Other)) f g h = g h
+on_none Taken Own (Some (Accept n Dangling)) f g h = g h
+on_none Taken Own (Some (Accept n Done)) f g h = h
+on_none Taken Own (Some Refuse) f g h = h
+on_none Taken Own (Some Fail) f g h = h
+on_none Taken Own (Some TooLarge) f g h = h
+on_none Taken Own (Some (Undecided d)) f g h = h
+on_none Taken Own None f g h = h
+
+escape_rule_laws : {I V E : Type 0} (Gives : I → E → Type 0) (Grows : Type 0) (at : I → I → I) → RuleLaws (escape_rule {V = V} Gives Grows at)
+escape_rule_laws Gives Grows at = record {
+  decided = escape_decided;
+  ends = escape_ends;
+  blames = λ i k j a P Q e f. on_fault ⊥ (Gives i e) (Gives (at i j) e) a (λ r. f r e);
+  part_frugal = λ Part outputs errors k h. h.0;
+  asks_none = λ Part outputs errors k a h. on_none (outputs ≡ true) ((errors ≡ true) × Grows) a h.1 (λ p. h.2 p.0 p.1);
+}
+
+module _ {I A U W E : Type 0} (w : Seen I A) (l : InputLaws w) (Gives : I → ErrorKind → E → Type 0) (Grows : Type 0) (IsControl : A → Type 0) (m : Meaning I U E) (g : Meaning I W E) where
+  pub escaped_lawful : IsLawful w m → IsLawful w g → IsLawful w (escaped_meaning w Gives Grows IsControl m g)
+  escaped_lawful p q = recognized_lawful w l (repeat_meaning w (escape_rule (λ i. Gives i Kind.Escaped) Grows (λ i j. i)) all_pieces (spot_meaning w IsControl (Some 1) m g)) (repeat_lawful w l (escape_rule (λ i. Gives i Kind.Escaped) Grows (λ i j. i)) (escape_rule_laws _ _ _) all_pieces (spot_meaning w IsControl (Some 1) m g) (spot_lawful w l IsControl (Some 1) m g p q))
+
+  pub escaped_steady : IsSteady w m → IsSteady w g → IsSteady w (escaped_meaning w Gives Grows IsControl m g)
+  escaped_steady p q = recognized_steady w l (repeat_meaning w (escape_rule (λ i. Gives i Kind.Escaped) Grows (λ i j. i)) all_pieces (spot_meaning w IsControl (Some 1) m g)) (repeat_steady w l (escape_rule (λ i. Gives i Kind.Escaped) Grows (λ i j. i)) (escape_rule_laws _ _ _) all_pieces (spot_meaning w IsControl (Some 1) m g) (spot_steady w l IsControl (Some 1) m g p q))
+
+  pub escaped_transform_lawful : IsLawful w m → IsLawful w g → IsLawful w (escaped_transform_meaning w Gives Grows IsControl m g)
+  escaped_transform_lawful p q = repeat_lawful w l (escape_rule (λ i. Gives i Kind.EscapedTransform) Grows (λ i j. j)) (escape_rule_laws _ _ _) all_pieces (spot_meaning w IsControl None m g) (spot_lawful w l IsControl None m g p q)
+
+  pub escaped_transform_steady : IsSteady w m → IsSteady w g → IsSteady w (escaped_transform_meaning w Gives Grows IsControl m g)
+  escaped_transform_steady p q = repeat_steady w l (escape_rule (λ i. Gives i Kind.EscapedTransform) Grows (λ i j. j)) (escape_rule_laws _ _ _) all_pieces (spot_meaning w IsControl None m g) (spot_steady w l IsControl None m g p q)

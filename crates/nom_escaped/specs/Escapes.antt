@@ -1,0 +1,84 @@
+-- Escapes: a list of pieces.
+--
+-- At each place where items are left, what stands there is a piece or ends the list:
+-- - A piece that consumes is taken, and the next place is behind it.
+-- - A normal piece that consumes nothing is the last one.
+-- - An item that begins no piece ends the list; where it is the first item, the whole is refused.
+-- - The control character as the last item is refused, or more is needed.
+-- - All else that a part answers is passed on.
+-- Where no items are left, the list ends, or more is needed.
+use Rattle.std.specs.Prelude.{◌≡◌, ℕ, Bool, true, List, [], ◌∷◌, ◌++◌, Option, Some, None, zero, suc}
+use Rattle.nom_error.specs.declared.kind.ErrorKind.{ErrorKind}
+use Rattle.nom_error.specs.declared.kind.ErrorKind.TheVariants as Kind
+use Rattle.nom_traits.specs.Input.{Seen}
+use Rattle.nom_traits.specs.Slices.{Slice}
+use Rattle.nom_internal.specs.Outcome.{Outcome}
+use Rattle.nom_internal.specs.Outcome.Outcome.{Accept, Refuse, Fail, TooLarge, Undecided}
+use Rattle.nom_internal.specs.Meaning.{Meaning}
+use Rattle.nom_internal.specs.Recognized.{recognized_meaning}
+use Rattle.nom_multi.specs.Repeat.{Turn, Rule, repeat_meaning}
+use Rattle.nom_multi.specs.Repeat.Turn.{Takes, Ends}
+use Rattle.nom_escaped.specs.declared.spot.Piece.{Piece}
+use Rattle.nom_escaped.specs.declared.spot.Spot.{Spot}
+use Rattle.nom_escaped.specs.declared.spot.Spot.TheVariants.{Found, Other, Dangling, Done}
+use Rattle.nom_escaped.specs.Spots.{spot_meaning}
+
+-- how the list goes on by what stands at the place, after k pieces, and by its length; an end may have a last piece
+abbrev pub by_spot : {V : Type 0} → Spot V → ℕ → ℕ → Turn V (Option V)
+by_spot (Found v) k zero = Ends (Accept 0 (Some v))
+by_spot (Found v) k (suc n) = Takes (suc n) v
+by_spot Other zero n = Ends Refuse
+by_spot Other (suc k) n = Ends (Accept 0 None)
+by_spot Dangling k n = Ends Refuse
+by_spot Done k n = Ends (Accept 0 None)
+
+abbrev pub escape_turn : {V : Type 0} → ℕ → Option (Outcome (Spot V)) → Turn V (Option V)
+escape_turn k (Some (Accept n v)) = by_spot v k n
+escape_turn k (Some Refuse) = Ends Refuse
+escape_turn k (Some Fail) = Ends Fail
+escape_turn k (Some TooLarge) = Ends TooLarge
+escape_turn k (Some (Undecided d)) = Ends (Undecided d)
+escape_turn k None = Ends (Accept 0 None)
+
+-- by cases: a piece, an item that begins none, the control character as the last item, no item
+abbrev pub OnSpot : {V : Type 0} → Type 0 → Type 0 → Type 0 → Spot V → Type 0
+OnSpot Taken Unknown Last (Found v) = Taken
+OnSpot Taken Unknown Last Other = Unknown
+OnSpot Taken Unknown Last Dangling = Last
+OnSpot Taken Unknown Last Done = ⊥
+
+-- that, and a fault of a part
+abbrev pub OnReplied : {V : Type 0} → Type 0 → Type 0 → Type 0 → Type 0 → Option (Outcome (Spot V)) → Type 0
+OnReplied Taken Unknown Last Fault (Some (Accept n v)) = OnSpot Taken Unknown Last v
+OnReplied Taken Unknown Last Fault (Some Refuse) = Fault
+OnReplied Taken Unknown Last Fault (Some Fail) = Fault
+OnReplied Taken Unknown Last Fault (Some TooLarge) = Fault
+OnReplied Taken Unknown Last Fault (Some (Undecided d)) = ⊥
+OnReplied Taken Unknown Last Fault None = ⊥
+
+-- Where a list is refused, the error of a kind stands at its start; for the control character as the last item at the start, or at the
+-- control character, as `at` says. Where outputs are built, a piece may ask for memory.
+abbrev pub escape_rule : {I V E : Type 0} → (I → E → Type 0) → Type 0 → (I → I → I) → Rule I (Spot V) V (Option V) E
+escape_rule Gives Grows at = record {
+  bound = None;
+  turn = escape_turn;
+  Blames = λ i k j a P e. OnReplied ⊥ (Gives i e) (Gives (at i j) e) (P e) a;
+  outputs = λ b. b;
+  errors = λ _ b. b;
+  Asks = λ outputs errors k. OnReplied (outputs ≡ true) ((errors ≡ true) × Grows) ((errors ≡ true) × Grows) ⊥;
+  IsFrugal = λ PartIs outputs errors. PartIs outputs errors × (outputs ≡ true → ⊥) × (errors ≡ true → Grows → ⊥);
+}
+
+-- the pieces, with the last one
+abbrev pub all_pieces : {V : Type 0} → List V → Option V → List V
+all_pieces vs None = vs
+all_pieces vs (Some v) = vs ++ v ∷ []
+
+module _ {I A U W E : Type 0} (w : Seen I A) (Gives : I → ErrorKind → E → Type 0) (Grows : Type 0) (IsControl : A → Type 0) (m : Meaning I U E) (g : Meaning I W E) where
+  -- the items of all pieces; the size that lacks behind a last control character is 1
+  abbrev pub escaped_meaning : Meaning I (Slice w) E
+  escaped_meaning = recognized_meaning w (repeat_meaning w (escape_rule (λ i. Gives i Kind.Escaped) Grows (λ i j. i)) all_pieces (spot_meaning w IsControl (Some 1) m g))
+
+  -- all pieces; what lacks behind a last control character is unknown
+  abbrev pub escaped_transform_meaning : Meaning I (List (Piece U W)) E
+  escaped_transform_meaning = repeat_meaning w (escape_rule (λ i. Gives i Kind.EscapedTransform) Grows (λ i j. j)) all_pieces (spot_meaning w IsControl None m g)

@@ -1,0 +1,7 @@
+//! Texts with escapes.
+#![tactic(auto)]
+
+mod escaped;
+pub mod spot;
+
+pub use crate::escaped::Escaped;
