@@ -4,7 +4,7 @@ use Rattle.std.specs.Iterator.{AlwaysYields}
 use Rattle.nom_traits.specs.Input.{Seen, InputLaws, IsRest, input_len, span}
 use Rattle.nom_traits.specs.Rests.{same_cut}
 use Rattle.nom_traits.specs.Slices.{IsCount}
-use Rattle.nom_escaped.specs.Spots.{BehindControl, StandsOther, StandsLast}
+use Rattle.nom_escaped.specs.Spots.{BehindControl, StandsLast}
 
 module _ {A S : Type 0} (steps : S → Option A → S → Type 0) where
   -- the first item that is given is the first of the list

@@ -1,11 +1,11 @@
 -- What a list of pieces shows.
-use Rattle.std.proofs.Common.{◌≡◌, ℕ, ◌+◌, ◌<◌, Bool, true, false, Result, Ok, Err, Option, Some, None, ◌⊎◌, List, [], ◌∷◌, ◌++◌, length, refl, sym, ◌∙◌, ap, subst, zero, suc, arith, inl, inr}
+use Rattle.std.proofs.Common.{◌≡◌, ℕ, ◌<◌, Bool, true, Result, Ok, Err, Option, Some, None, List, [], ◌∷◌, ◌++◌, length, refl, sym, ap, subst, zero, suc, arith, inl, inr}
 use Rattle.std.specs.Prelude.{IsSome}
 use Rattle.nom_error.specs.declared.answer.Needed.{Needed}
 use Rattle.nom_error.specs.declared.answer.Err as Answer
-use Rattle.nom_error.specs.declared.answer.Err.TheVariants.{Incomplete, Error, Failure, OutOfMemory}
+use Rattle.nom_error.specs.declared.answer.Err.TheVariants.{OutOfMemory}
 use Rattle.nom_error.specs.Modes.{Built}
-use Rattle.nom_error.specs.Answers.{Refuses, size_of}
+use Rattle.nom_error.specs.Answers.{Refuses}
 use Rattle.nom_traits.specs.Input.{Seen, InputLaws, IsRest, input_len}
 use Rattle.nom_internal.specs.Outcome.{Outcome, Shows, ShowsAnswer}
 use Rattle.nom_internal.specs.Outcome.Outcome.{Accept, Refuse, Fail, TooLarge, Undecided}
@@ -13,7 +13,7 @@ use Rattle.nom_internal.specs.Outcome.ShowsAnswer.{RanOut, Shown}
 use Rattle.nom_internal.specs.Meaning.{Meaning, ShowsMeaning}
 use Rattle.nom_internal.proofs.Consumed.{rest_length}
 use Rattle.nom_internal.proofs.Shown.{Accepts}
-use Rattle.nom_multi.specs.Repeat.{Turn, Pieces, TurnsBy, repeat_meaning}
+use Rattle.nom_multi.specs.Repeat.{Pieces, TurnsBy, repeat_meaning}
 use Rattle.nom_multi.specs.Repeat.Turn.{Takes, Ends}
 use Rattle.nom_multi.proofs.Longer.{built_map}
 use Rattle.nom_multi.proofs.Repeated.{Collected, collected_more, ended, refused, failed, too_large, lacking, ran_out, ran_out_within}
@@ -21,7 +21,7 @@ use Rattle.nom_escaped.specs.declared.spot.Piece.{Piece}
 use Rattle.nom_escaped.specs.declared.spot.Spot.{Spot}
 use Rattle.nom_escaped.specs.declared.spot.Spot.TheVariants.{Found, Other, Dangling, Done}
 use Rattle.nom_escaped.specs.Spots.{IsPiece, IsSpot, ShowsSpot}
-use Rattle.nom_escaped.specs.Escapes.{by_spot, escape_turn, OnReplied, escape_rule, all_pieces}
+use Rattle.nom_escaped.specs.Escapes.{by_spot, escape_turn, escape_rule, all_pieces}
 
 -- a piece that is empty is the last one, and another is taken
 empty_turn : {V : Type 0} (k n : ℕ) (v : V) → n ≡ 0 → Ends (Accept 0 (Some v)) ≡ by_spot (Found v) k n

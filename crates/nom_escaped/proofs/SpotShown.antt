@@ -1,11 +1,11 @@
 -- What is shown of what stands at a place.
-use Rattle.std.proofs.Common.{◌≡◌, ℕ, ◌+◌, ◌<◌, Bool, true, false, List, [], ◌∷◌, length, Result, Ok, Err, Option, Some, None, ◌⊎◌, refl, sym, ◌∙◌, ap, subst, inl, inr, arith}
+use Rattle.std.proofs.Common.{◌≡◌, ℕ, ◌+◌, ◌<◌, Bool, true, false, List, [], ◌∷◌, length, Result, Ok, Err, Option, Some, ◌⊎◌, refl, sym, ◌∙◌, subst, inl, inr, arith}
 use Rattle.nom_error.specs.declared.answer.Needed.{Needed}
 use Rattle.nom_error.specs.declared.answer.Needed.TheVariants.{Unknown}
 use Rattle.nom_error.specs.declared.answer.Err as Answer
 use Rattle.nom_error.specs.declared.answer.Err.TheVariants.{Incomplete, Error, Failure, OutOfMemory}
 use Rattle.nom_error.specs.Answers.{size_of}
-use Rattle.nom_traits.specs.Input.{Seen, InputLaws, IsRest, input_len, span}
+use Rattle.nom_traits.specs.Input.{Seen, InputLaws, IsRest, input_len}
 use Rattle.nom_traits.specs.Rests.{rest_rest}
 use Rattle.nom_internal.specs.Outcome.{Outcome, IsFault, Shows}
 use Rattle.nom_internal.specs.Outcome.Outcome.{Accept, Refuse, Fail, TooLarge, Undecided}
@@ -19,7 +19,7 @@ use Rattle.nom_escaped.specs.declared.spot.Piece.{Piece}
 use Rattle.nom_escaped.specs.declared.spot.Piece.TheVariants.{Normal, Escapable}
 use Rattle.nom_escaped.specs.declared.spot.Spot.{Spot}
 use Rattle.nom_escaped.specs.declared.spot.Spot.TheVariants.{Found, Other, Dangling, Done}
-use Rattle.nom_escaped.specs.Spots.{lacks, Lacks, BehindControl, StandsOther, StandsLast, Behind, Escaped, Stands, SpotBlames, spot_meaning, IsSpot, ShowsSpot}
+use Rattle.nom_escaped.specs.Spots.{lacks, Lacks, BehindControl, StandsOther, StandsLast, Behind, Escaped, Stands, SpotBlames, IsSpot, ShowsSpot}
 use Rattle.nom_escaped.specs.Spots.NotNormal.{AtControl, AtOther}
 use Rattle.nom_escaped.specs.Spots.SpotBlames.{NormalFails, EscapableFaults}
 use Rattle.nom_escaped.proofs.Controls.{no_items, some_items}

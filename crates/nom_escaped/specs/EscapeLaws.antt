@@ -1,5 +1,5 @@
 -- The laws of escapes.
-use Rattle.std.specs.Prelude.{◌≡◌, ℕ, Bool, true, Option, Some, None, zero, suc}
+use Rattle.std.specs.Prelude.{◌≡◌, ℕ, true, Option, Some, None, zero, suc}
 use Rattle.std.proofs.Common.{inl}
 use Rattle.nom_error.specs.declared.kind.ErrorKind.{ErrorKind}
 use Rattle.nom_error.specs.declared.kind.ErrorKind.TheVariants as Kind
@@ -9,7 +9,7 @@ use Rattle.nom_internal.specs.Outcome.Outcome.{Accept, Refuse, Fail, TooLarge, U
 use Rattle.nom_internal.specs.Meaning.{Meaning, IsLawful, IsSteady}
 use Rattle.nom_internal.specs.RecognizedLaws.{recognized_lawful, recognized_steady}
 use Rattle.nom_multi.specs.Repeat.{Ran, repeat_meaning}
-use Rattle.nom_multi.specs.Repeat.Turn.{Takes, Ends}
+use Rattle.nom_multi.specs.Repeat.Turn.{Ends}
 use Rattle.nom_multi.specs.RepeatLaws.{KeepsTurn, KeepsReply, EndsAt, RuleLaws, repeat_lawful, repeat_steady}
 use Rattle.nom_escaped.specs.declared.spot.Spot.{Spot}
 use Rattle.nom_escaped.specs.declared.spot.Spot.TheVariants.{Found, Other, Dangling, Done}

@@ -1,5 +1,5 @@
 -- The laws of what stands at a place of a text with escapes.
-use Rattle.std.specs.Prelude.{◌≡◌, ℕ, ◌+◌, ◌<◌, Bool, true, false, ◌⊎◌, List, [], ◌∷◌, ◌++◌, length, Option, None, refl}
+use Rattle.std.specs.Prelude.{◌≡◌, ℕ, ◌+◌, ◌<◌, Bool, true, false, List, [], ◌∷◌, ◌++◌, length, Option, None, refl}
 use Rattle.std.proofs.Common.{arith, sym, ◌∙◌, ap, subst, inl, inr}
 use Rattle.nom_traits.specs.Input.{Seen, InputLaws, IsRest, IsPlace, Related}
 use Rattle.nom_traits.specs.Rests.{same_self, rest_related, place_more}
@@ -7,14 +7,14 @@ use Rattle.nom_internal.specs.Outcome.{Outcome, IsDecided, IsFailure, IsFault, O
 use Rattle.nom_internal.specs.Outcome.Outcome.{Accept, Refuse, Fail, TooLarge, Undecided}
 use Rattle.nom_internal.specs.Meaning.{Meaning, IsLawful, IsSteady, Keeps, Agree, Within, Settled}
 use Rattle.nom_internal.specs.PartLaws.{one_at, blame_settled}
-use Rattle.nom_internal.specs.Choice.{Labelled, labelled, OnRefusal, GoesOnRefused}
+use Rattle.nom_internal.specs.Choice.{labelled, GoesOnRefused}
 use Rattle.nom_internal.specs.ChoiceLaws.{keeps_labelled, labelled_agree, labelled_within, labelled_settled, keeps_first, or_agree, or_within, or_settled}
 use Rattle.nom_internal.specs.Sequence.{after}
 use Rattle.nom_internal.specs.SequenceLaws.{keeps_after}
 use Rattle.nom_escaped.specs.declared.spot.Piece.{Piece}
 use Rattle.nom_escaped.specs.declared.spot.Piece.TheVariants.{Normal, Escapable}
 use Rattle.nom_escaped.specs.declared.spot.Spot.{Spot}
-use Rattle.nom_escaped.specs.declared.spot.Spot.TheVariants.{Found, Other, Dangling, Done}
+use Rattle.nom_escaped.specs.declared.spot.Spot.TheVariants.{Found, Dangling, Done}
 use Rattle.nom_escaped.specs.Spots.{lacks, Behind, NotNormal, Escaped, Stands, EscapableBlames, SpotBlames, spot_meaning}
 use Rattle.nom_escaped.specs.Spots.NotNormal.{AtControl, AtOther}
 use Rattle.nom_escaped.specs.Spots.SpotBlames.{NormalFails, EscapableFaults}

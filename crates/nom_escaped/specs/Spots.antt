@@ -11,7 +11,6 @@ use Rattle.nom_internal.specs.Meaning.{Meaning}
 use Rattle.nom_internal.specs.Choice.{Labelled, OnRefusal}
 use Rattle.nom_internal.specs.Sequence.{after}
 use Rattle.nom_escaped.specs.declared.spot.Control.{Control}
-use Rattle.nom_escaped.specs.declared.spot.Control.TheVariants as Control
 use Rattle.nom_escaped.specs.declared.spot.Piece.{Piece}
 use Rattle.nom_escaped.specs.declared.spot.Piece.TheVariants.{Normal, Escapable}
 use Rattle.nom_escaped.specs.declared.spot.Spot.{Spot}

@@ -21,7 +21,8 @@ pub struct Escaped<F, G> {
     pub escapable: G,
 }
 
-impl<I: Input, F: Parser<I> + Drop, G: Parser<I, Error = F::Error> + Drop> Parser<I> for Escaped<F, G>
+impl<I: Input, F: Parser<I> + Drop, G: Parser<I, Error = F::Error> + Drop> Parser<I>
+    for Escaped<F, G>
 where
     I::Item: AsChar,
 {
@@ -78,8 +79,9 @@ where
     ghost lawful = { λ s. escaped_lawful I.seen I.lawful F.Error.from_error_kind_gives F.Error.grows (λ x. I.Item.code x ≡ s.1) (F.meaning s.0) (G.meaning s.2) (F.lawful s.0) (G.lawful s.2) };
 }
 
-impl<I: Input, F: StreamParser<I> + Drop, G: StreamParser<I, Error = F::Error> + Drop> StreamParser<I>
-    for Escaped<F, G>
+impl<I: Input, F: StreamParser<I> + Drop, G: StreamParser<I, Error = F::Error> + Drop> StreamParser<
+    I,
+> for Escaped<F, G>
 where
     I::Item: AsChar,
 {

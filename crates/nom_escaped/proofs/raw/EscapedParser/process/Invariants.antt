@@ -6,7 +6,7 @@ use Rattle.nom_multi.proofs.Repeated.{Collected}
 use Rattle.nom_escaped.specs.Spots.{spot_meaning}
 use Rattle.nom_escaped.specs.Escapes.{escape_turn}
 use Rattle.nom_escaped.proofs.EscapeShown.{AnyPieces}
-use Rattle.nom_escaped.proofs.escaped.EscapedParser.process.Given as goal
+use Rattle.nom_escaped.proofs.raw.EscapedParser.process.Given as goal
 
 abbrev pub invariant-loop-next : goal.invariant-loop-next
 invariant-loop-next g l = record {

@@ -3,7 +3,7 @@ use Rattle.nom_internal.proofs.Shown.{accepts, err_from_residual}
 use Rattle.nom_multi.proofs.Repeated.{collected_none, consumes, is_shorter}
 use Rattle.nom_escaped.proofs.EscapeShown.{same_spot}
 use Rattle.nom_escaped.proofs.EscapedShown.{escaped_passed, escaped_empty, escaped_none, escaped_other, escaped_dangling, escaped_done, escaped_more}
-use Rattle.nom_escaped.proofs.escaped.EscapedParser.process.Goals as goal
+use Rattle.nom_escaped.proofs.raw.EscapedParser.process.Goals as goal
 
 pub loop-next-init : goal.loop-next-init
 loop-next-init g c = record {

@@ -1,0 +1,40 @@
+//! Texts with escapes in one mode: more input may come, whatever mode is asked for.
+ghost use Rattle.std.specs.Prelude.{◌≡◌};
+
+use crate::{Escaped, EscapedTransform};
+use nom_bytes::Fixed;
+use nom_error::mode::Streaming;
+use std::alloc::Allocator;
+use std::marker::PhantomData;
+
+/// `bytes::escaped` in the streaming mode.
+#[inline(always)]
+pub fn escaped<F, G>(normal: F, control_char: char, escapable: G) -> Fixed<Escaped<F, G>, Streaming>
+    ensures normal { result.parser.normal ≡ normal }
+    ensures control_char { result.parser.control_char ≡ control_char }
+    ensures escapable { result.parser.escapable ≡ escapable }
+{
+    Fixed {
+        parser: crate::escaped(normal, control_char, escapable),
+        mode: PhantomData,
+    }
+}
+
+/// `bytes::escaped_transform` in the streaming mode.
+#[inline(always)]
+pub fn escaped_transform<A: Allocator + Copy, F, G>(
+    alloc: A,
+    normal: F,
+    control_char: char,
+    transform: G,
+) -> Fixed<EscapedTransform<A, F, G>, Streaming>
+    ensures alloc { result.parser.alloc ≡ alloc }
+    ensures normal { result.parser.normal ≡ normal }
+    ensures control_char { result.parser.control_char ≡ control_char }
+    ensures transform { result.parser.transform ≡ transform }
+{
+    Fixed {
+        parser: crate::escaped_transform(alloc, normal, control_char, transform),
+        mode: PhantomData,
+    }
+}
