@@ -1,6 +1,6 @@
 //! Answers of nom, as they are written.
 
-use crate::literal::{list_of, literal_of};
+use crate::literal::{literal_of, numbers_of};
 use nom::Needed;
 use nom::error::ErrorKind;
 use std::alloc::Global;
@@ -38,7 +38,7 @@ fn need_of(text: &str) -> Option<Needed> {
 
 fn bytes_of(alloc: Global, text: &str) -> Option<Vec<u8>> {
     if text.starts_with('[') {
-        return list_of(alloc, text);
+        return numbers_of(alloc, text);
     }
     let literal = literal_of(alloc, text)?;
     literal.as_bytes().to_vec(alloc).ok()

@@ -44,7 +44,21 @@ impl Test {
     }
 }
 
-/// The runs.
+/// The parsers of a tag.
+#[derive(Clone, Copy)]
+pub enum Tagged {
+    Tag,
+    TagNoCase,
+}
+
+/// The parsers of what stands before a needle.
+#[derive(Clone, Copy)]
+pub enum Search {
+    Until,
+    Until1,
+}
+
+/// The parsers of a run.
 #[derive(Clone, Copy)]
 pub enum Run {
     While,
@@ -97,33 +111,30 @@ macro_rules! answers {
     };
 }
 
-pub fn tag<I: Input + AsBytes + Compare<T>, T: Copy>(question: Question<'_, I>, tag: T) -> bool {
-    answers!(question, tag(tag))
-}
-
-pub fn tag_no_case<I: Input + AsBytes + Compare<T>, T: Copy>(
+pub fn take_tag<I: Input + AsBytes + Compare<T>, T: Copy>(
     question: Question<'_, I>,
+    tagged: Tagged,
     tag: T,
 ) -> bool {
-    answers!(question, tag_no_case(tag))
+    match tagged {
+        Tagged::Tag => answers!(question, tag(tag)),
+        Tagged::TagNoCase => answers!(question, tag_no_case(tag)),
+    }
 }
 
-pub fn take<I: Input + AsBytes>(question: Question<'_, I>, count: usize) -> bool {
+pub fn take_count<I: Input + AsBytes>(question: Question<'_, I>, count: usize) -> bool {
     answers!(question, take(count))
 }
 
-pub fn take_until<I: Input + AsBytes + FindSubstring<T>, T: Copy>(
+pub fn take_front<I: Input + AsBytes + FindSubstring<T>, T: Copy>(
     question: Question<'_, I>,
+    search: Search,
     needle: T,
 ) -> bool {
-    answers!(question, take_until(needle))
-}
-
-pub fn take_until1<I: Input + AsBytes + FindSubstring<T>, T: Copy>(
-    question: Question<'_, I>,
-    needle: T,
-) -> bool {
-    answers!(question, take_until1(needle))
+    match search {
+        Search::Until => answers!(question, take_until(needle)),
+        Search::Until1 => answers!(question, take_until1(needle)),
+    }
 }
 
 pub fn take_run<I: Input + AsBytes>(question: Question<'_, I>, run: Run, test: Test) -> bool

@@ -1,20 +1,17 @@
 //! Lines of the file.
 
 use crate::answer::{Answer, answer_of};
-use crate::ask::{self, Module, Question, Run, Test, Way};
+use crate::ask::{self, Module, Question, Run, Search, Tagged, Test, Way};
 use crate::literal::{Literal, literal_of};
 use crate::number::number_of;
-use nom::{AsBytes, AsChar, Compare, Input};
 use std::alloc::Global;
 
 /// A parser and its arguments.
 #[derive(Drop)]
 enum Call {
-    Tag(Literal),
-    TagNoCase(Literal),
+    Tagged(Tagged, Literal),
     Take(usize),
-    TakeUntil(Literal),
-    TakeUntil1(Literal),
+    Search(Search, Literal),
     Run(Run, Test),
 }
 
@@ -37,11 +34,11 @@ fn bounded_of(arguments: &str) -> Option<Call> {
 
 fn call_of(alloc: Global, name: &str, arguments: &str) -> Option<Call> {
     match name.as_bytes() {
-        b"tag" => Some(Call::Tag(literal_of(alloc, arguments)?)),
-        b"tag_no_case" => Some(Call::TagNoCase(literal_of(alloc, arguments)?)),
+        b"tag" => Some(Call::Tagged(Tagged::Tag, literal_of(alloc, arguments)?)),
+        b"tag_no_case" => Some(Call::Tagged(Tagged::TagNoCase, literal_of(alloc, arguments)?)),
         b"take" => Some(Call::Take(number_of(arguments)?)),
-        b"take_until" => Some(Call::TakeUntil(literal_of(alloc, arguments)?)),
-        b"take_until1" => Some(Call::TakeUntil1(literal_of(alloc, arguments)?)),
+        b"take_until" => Some(Call::Search(Search::Until, literal_of(alloc, arguments)?)),
+        b"take_until1" => Some(Call::Search(Search::Until1, literal_of(alloc, arguments)?)),
         b"take_while" => Some(Call::Run(Run::While, test_of(arguments)?)),
         b"take_while1" => Some(Call::Run(Run::While1, test_of(arguments)?)),
         b"take_while_m_n" => bounded_of(arguments),
@@ -70,59 +67,70 @@ fn way_of(name: &str) -> Option<Way> {
     }
 }
 
-/// A text as input.
+/// Whether the answer at a text is nom's; none where nom has no such parser over texts.
 fn over_text(question: Question<'_, &str>, call: &Call) -> Option<bool> {
     match call {
-        Call::Tag(Literal::Text(tag)) => Some(ask::tag(question, tag.as_str())),
-        Call::Tag(Literal::Bytes(tag)) => Some(ask::tag(question, tag.as_slice())),
-        Call::TagNoCase(Literal::Text(tag)) => Some(ask::tag_no_case(question, tag.as_str())),
-        Call::TagNoCase(Literal::Bytes(tag)) => Some(ask::tag_no_case(question, tag.as_slice())),
-        Call::Take(count) => Some(ask::take(question, *count)),
-        Call::TakeUntil(Literal::Text(needle)) => Some(ask::take_until(question, needle.as_str())),
-        Call::TakeUntil1(Literal::Text(needle)) => {
-            Some(ask::take_until1(question, needle.as_str()))
+        Call::Tagged(tagged, Literal::Text(tag)) => {
+            Some(ask::take_tag(question, *tagged, tag.as_str()))
         }
-        Call::TakeUntil(Literal::Bytes(_)) | Call::TakeUntil1(Literal::Bytes(_)) => None,
+        Call::Tagged(tagged, Literal::Bytes(tag)) => {
+            Some(ask::take_tag(question, *tagged, tag.as_slice()))
+        }
+        Call::Take(count) => Some(ask::take_count(question, *count)),
+        Call::Search(search, Literal::Text(needle)) => {
+            Some(ask::take_front(question, *search, needle.as_str()))
+        }
+        Call::Search(_, Literal::Bytes(_)) => None,
         Call::Run(run, test) => Some(ask::take_run(question, *run, *test)),
     }
 }
 
-/// A slice of bytes as input.
-fn over_bytes(question: Question<'_, &[u8]>, call: &Call) -> bool {
+/// The same at a slice of bytes.
+fn over_bytes(question: Question<'_, &[u8]>, call: &Call) -> Option<bool> {
     match call {
-        Call::Tag(Literal::Text(tag)) => ask::tag(question, tag.as_str()),
-        Call::Tag(Literal::Bytes(tag)) => ask::tag(question, tag.as_slice()),
-        Call::TagNoCase(Literal::Text(tag)) => ask::tag_no_case(question, tag.as_str()),
-        Call::TagNoCase(Literal::Bytes(tag)) => ask::tag_no_case(question, tag.as_slice()),
-        Call::Take(count) => ask::take(question, *count),
-        Call::TakeUntil(Literal::Text(needle)) => ask::take_until(question, needle.as_str()),
-        Call::TakeUntil(Literal::Bytes(needle)) => ask::take_until(question, needle.as_slice()),
-        Call::TakeUntil1(Literal::Text(needle)) => ask::take_until1(question, needle.as_str()),
-        Call::TakeUntil1(Literal::Bytes(needle)) => ask::take_until1(question, needle.as_slice()),
-        Call::Run(run, test) => ask::take_run(question, *run, *test),
+        Call::Tagged(tagged, Literal::Text(tag)) => {
+            Some(ask::take_tag(question, *tagged, tag.as_str()))
+        }
+        Call::Tagged(tagged, Literal::Bytes(tag)) => {
+            Some(ask::take_tag(question, *tagged, tag.as_slice()))
+        }
+        Call::Take(count) => Some(ask::take_count(question, *count)),
+        Call::Search(search, Literal::Text(needle)) => {
+            Some(ask::take_front(question, *search, needle.as_str()))
+        }
+        Call::Search(search, Literal::Bytes(needle)) => {
+            Some(ask::take_front(question, *search, needle.as_slice()))
+        }
+        Call::Run(run, test) => Some(ask::take_run(question, *run, *test)),
     }
 }
 
 fn is_met(module: Module, way: Way, call: &Call, input: &Literal, answer: &Answer) -> Option<bool> {
     match input {
-        Literal::Text(text) => over_text(
-            Question {
-                module,
-                way,
-                input: text.as_str(),
-                answer,
-            },
-            call,
-        ),
-        Literal::Bytes(bytes) => Some(over_bytes(
-            Question {
-                module,
-                way,
-                input: bytes.as_slice(),
-                answer,
-            },
-            call,
-        )),
+        Literal::Text(text) => {
+            let input = text.as_str();
+            over_text(
+                Question {
+                    module,
+                    way,
+                    input,
+                    answer,
+                },
+                call,
+            )
+        }
+        Literal::Bytes(bytes) => {
+            let input = bytes.as_slice();
+            over_bytes(
+                Question {
+                    module,
+                    way,
+                    input,
+                    answer,
+                },
+                call,
+            )
+        }
     }
 }
 

@@ -125,7 +125,7 @@ pub fn literal_of(alloc: Global, text: &str) -> Option<Literal> {
 }
 
 /// Bytes as a list of numbers, as `[97, 98]`.
-pub fn list_of(alloc: Global, text: &str) -> Option<Vec<u8>> {
+pub fn numbers_of(alloc: Global, text: &str) -> Option<Vec<u8>> {
     let mut bytes = Vec::new(alloc);
     let body = between(text, "[", "]")?;
     if !body.is_empty() {

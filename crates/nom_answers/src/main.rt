@@ -16,6 +16,9 @@
 //! 4. The answer: the rest and the output of an acceptance, the output of bytes as numbers; the kind of a
 //!    refusal, and the length of the front before the input that it holds; or how much more is needed.
 //!
+//! The answers in which this library differs on purpose, and calls with which nom panics, are left out of the
+//! file in `data`: docs/DIFFERENCES.md lists them.
+//!
 //! For each line to which the answer here is another, and for each that can't be read, it prints `differs`
 //! and the number of the line; then how many lines there were, and how many of them were wrong. The
 //! status is 0 where none was; 1 where one was, or a write fails; 3 where the file can't be read.
