@@ -1,10 +1,16 @@
 //! What a row says of an answer.
+ghost use Rattle.std.specs.Prelude.{◌≡◌, ◌↔◌, IsTrue, MatchResult};
+ghost use Rattle.nom_error.specs.Answers.{size_of};
+ghost use Rattle.nom_error.specs.Kinds.{number_of};
+ghost use Rattle.nom_vectors.specs.Answers.{IsLack, IsRefusal};
 
-use nom::error::ErrorKind;
+use nom::error::{ErrorKind, error_to_u32};
 use nom::{AsBytes, Err, IResult, Needed};
 
 /// Whether a slice of the input was accepted, with this rest.
-pub fn accepts<I: AsBytes + Drop>(answer: IResult<I, I>, rest: &[u8], output: &[u8]) -> bool {
+pub fn accepts<I: AsBytes + Drop>(answer: IResult<I, I>, rest: &[u8], output: &[u8]) -> bool
+    ensures { IsTrue result ↔ MatchResult answer (λ a. (I.bytes a.0 ≡ rest.now) × (I.bytes a.1 ≡ output.now)) (λ _. ⊥) }
+{
     match answer {
         Ok((left, found)) => left.as_bytes() == rest && found.as_bytes() == output,
         Err(_) => false,
@@ -16,17 +22,41 @@ pub fn refuses<I: AsBytes + Drop, O: Drop>(
     answer: IResult<I, O>,
     kind: ErrorKind,
     place: &[u8],
-) -> bool {
+) -> bool
+    ensures { IsTrue result ↔ MatchResult answer (λ _. ⊥) (IsRefusal (λ e. (number_of e.code ≡ number_of kind) × (I.bytes e.input ≡ place.now))) }
+{
     match answer {
-        Err(Err::Error(error)) => error.code == kind && error.input.as_bytes() == place,
-        _ => false,
+        Ok(_) => false,
+        Err(Err::Incomplete(_)) => false,
+        Err(Err::Error(error)) => error_to_u32(&error.code) == error_to_u32(&kind)
+            && error.input.as_bytes() == place,
+        Err(Err::Failure(_)) => false,
+        Err(Err::OutOfMemory) => false,
     }
 }
 
-/// Whether so much more is needed.
-pub fn needs<I: Drop, O: Drop>(answer: IResult<I, O>, needed: Needed) -> bool {
+/// Whether a size is needed; none where it isn't known.
+fn is_size(needed: Needed, size: Option<usize>) -> bool
+    ensures { IsTrue result ↔ (size_of needed ≡ size) }
+{
+    match needed {
+        Needed::Unknown => size.is_none(),
+        Needed::Size(found) => match size {
+            Some(size) => found.get() == size,
+            None => false,
+        },
+    }
+}
+
+/// Whether more is needed, by this size; none where it isn't known.
+pub fn needs<I: Drop, O: Drop>(answer: IResult<I, O>, size: Option<usize>) -> bool
+    ensures { IsTrue result ↔ MatchResult answer (λ _. ⊥) (IsLack size) }
+{
     match answer {
-        Err(Err::Incomplete(found)) => found == needed,
-        _ => false,
+        Ok(_) => false,
+        Err(Err::Incomplete(needed)) => is_size(needed, size),
+        Err(Err::Error(_)) => false,
+        Err(Err::Failure(_)) => false,
+        Err(Err::OutOfMemory) => false,
     }
 }

@@ -1,9 +1,9 @@
 //! Rows of tags, slices and runs.
 
 use crate::answers::{accepts, needs, refuses};
+use nom::Parser;
 use nom::bytes::{tag, take, take_while_m_n};
 use nom::error::{Error, ErrorKind};
-use nom::{Needed, Parser};
 
 /// `take_while_m_n(3, 2, digit)`: on `12a` rest `a`, output `12`; on `12` streaming Incomplete 1, complete
 /// Error TakeWhileMN at `12`.
@@ -11,7 +11,7 @@ pub fn row_6() -> bool {
     let mut digits = take_while_m_n::<_, Error<&str>>(3, 2, |c: char| c.is_ascii_digit());
     accepts(digits.parse("12a"), b"a", b"12")
         && accepts(digits.parse_complete("12a"), b"a", b"12")
-        && needs(digits.parse("12"), Needed::new(1))
+        && needs(digits.parse("12"), Some(1))
         && refuses(digits.parse_complete("12"), ErrorKind::TakeWhileMN, b"12")
 }
 
@@ -20,11 +20,11 @@ pub fn row_12() -> bool {
     let mut part = tag::<_, Error<&str>>(&[0xC3][..]);
     refuses(part.parse("é"), ErrorKind::Tag, "é".as_bytes())
         && refuses(part.parse_complete("é"), ErrorKind::Tag, "é".as_bytes())
-        && needs(part.parse(""), Needed::new(1))
+        && needs(part.parse(""), Some(1))
 }
 
 /// Streaming `take(18446744073709551615)` on three bytes: Incomplete 18446744073709551612.
 pub fn row_23() -> bool {
     let mut all = take::<Error<&[u8]>>(18446744073709551615);
-    needs(all.parse(&b"abc"[..]), Needed::new(18446744073709551612))
+    needs(all.parse(&b"abc"[..]), Some(18446744073709551612))
 }
