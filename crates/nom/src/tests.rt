@@ -3,6 +3,7 @@
 
 mod asked;
 mod growing;
+mod leaves;
 mod memory;
 mod own;
 mod splits;

@@ -1,0 +1,153 @@
+//! Lines of the file.
+
+use crate::answer::{Answer, answer_of};
+use crate::ask::{self, Module, Question, Run, Search, Tagged, Test, Way};
+use crate::literal::{Literal, literal_of};
+use crate::number::number_of;
+use std::alloc::Global;
+
+/// A parser and its arguments.
+#[derive(Drop)]
+enum Call {
+    Tagged(Tagged, Literal),
+    Take(usize),
+    Search(Search, Literal),
+    Run(Run, Test),
+}
+
+fn test_of(name: &str) -> Option<Test> {
+    match name.as_bytes() {
+        b"AsChar::is_alpha" => Some(Test::IsAlpha),
+        b"AsChar::is_dec_digit" => Some(Test::IsDecDigit),
+        b"not_digit" => Some(Test::IsNoDigit),
+        _ => None,
+    }
+}
+
+/// The run of bounded length, from `m, n, test`.
+fn bounded_of(arguments: &str) -> Option<Call> {
+    let (m, others) = arguments.split_once(", ")?;
+    let (n, test) = others.split_once(", ")?;
+    let run = Run::WhileMN(number_of(m)?, number_of(n)?);
+    Some(Call::Run(run, test_of(test)?))
+}
+
+fn call_of(alloc: Global, name: &str, arguments: &str) -> Option<Call> {
+    match name.as_bytes() {
+        b"tag" => Some(Call::Tagged(Tagged::Tag, literal_of(alloc, arguments)?)),
+        b"tag_no_case" => Some(Call::Tagged(Tagged::TagNoCase, literal_of(alloc, arguments)?)),
+        b"take" => Some(Call::Take(number_of(arguments)?)),
+        b"take_until" => Some(Call::Search(Search::Until, literal_of(alloc, arguments)?)),
+        b"take_until1" => Some(Call::Search(Search::Until1, literal_of(alloc, arguments)?)),
+        b"take_while" => Some(Call::Run(Run::While, test_of(arguments)?)),
+        b"take_while1" => Some(Call::Run(Run::While1, test_of(arguments)?)),
+        b"take_while_m_n" => bounded_of(arguments),
+        b"take_till" => Some(Call::Run(Run::Till, test_of(arguments)?)),
+        b"take_till1" => Some(Call::Run(Run::Till1, test_of(arguments)?)),
+        _ => None,
+    }
+}
+
+/// The module of a path below `bytes`, and the rest of the path.
+fn module_of(path: &str) -> (Module, &str) {
+    if let Some(rest) = path.strip_prefix("complete::") {
+        return (Module::Complete, rest);
+    }
+    match path.strip_prefix("streaming::") {
+        Some(rest) => (Module::Streaming, rest),
+        None => (Module::Top, path),
+    }
+}
+
+fn way_of(name: &str) -> Option<Way> {
+    match name.as_bytes() {
+        b"complete" => Some(Way::Complete),
+        b"streaming" => Some(Way::Streaming),
+        _ => None,
+    }
+}
+
+/// Whether the answer at a text is nom's; none where nom has no such parser over texts.
+fn over_text(question: Question<'_, &str>, call: &Call) -> Option<bool> {
+    match call {
+        Call::Tagged(tagged, Literal::Text(tag)) => {
+            Some(ask::take_tag(question, *tagged, tag.as_str()))
+        }
+        Call::Tagged(tagged, Literal::Bytes(tag)) => {
+            Some(ask::take_tag(question, *tagged, tag.as_slice()))
+        }
+        Call::Take(count) => Some(ask::take_count(question, *count)),
+        Call::Search(search, Literal::Text(needle)) => {
+            Some(ask::take_front(question, *search, needle.as_str()))
+        }
+        Call::Search(_, Literal::Bytes(_)) => None,
+        Call::Run(run, test) => Some(ask::take_run(question, *run, *test)),
+    }
+}
+
+/// The same at a slice of bytes.
+fn over_bytes(question: Question<'_, &[u8]>, call: &Call) -> Option<bool> {
+    match call {
+        Call::Tagged(tagged, Literal::Text(tag)) => {
+            Some(ask::take_tag(question, *tagged, tag.as_str()))
+        }
+        Call::Tagged(tagged, Literal::Bytes(tag)) => {
+            Some(ask::take_tag(question, *tagged, tag.as_slice()))
+        }
+        Call::Take(count) => Some(ask::take_count(question, *count)),
+        Call::Search(search, Literal::Text(needle)) => {
+            Some(ask::take_front(question, *search, needle.as_str()))
+        }
+        Call::Search(search, Literal::Bytes(needle)) => {
+            Some(ask::take_front(question, *search, needle.as_slice()))
+        }
+        Call::Run(run, test) => Some(ask::take_run(question, *run, *test)),
+    }
+}
+
+fn is_met(module: Module, way: Way, call: &Call, input: &Literal, answer: &Answer) -> Option<bool> {
+    match input {
+        Literal::Text(text) => {
+            let input = text.as_str();
+            over_text(
+                Question {
+                    module,
+                    way,
+                    input,
+                    answer,
+                },
+                call,
+            )
+        }
+        Literal::Bytes(bytes) => {
+            let input = bytes.as_slice();
+            over_bytes(
+                Question {
+                    module,
+                    way,
+                    input,
+                    answer,
+                },
+                call,
+            )
+        }
+    }
+}
+
+/// Whether the answer here is that of a line; none where the line can't be read.
+fn agreement(alloc: Global, line: &str) -> Option<bool> {
+    let (call, asked) = line.split_once(" | ")?;
+    let (input, replied) = asked.split_once(" | ")?;
+    let (way, answer) = replied.split_once(" | ")?;
+    let (module, path) = module_of(call.strip_prefix("bytes::")?);
+    let (name, arguments) = path.strip_suffix(")")?.split_once("(")?;
+    let call = call_of(alloc, name, arguments)?;
+    let input = literal_of(alloc, input)?;
+    let answer = answer_of(alloc, answer)?;
+    is_met(module, way_of(way)?, &call, &input, &answer)
+}
+
+/// Whether a line can be read, and the answer here is that of the line.
+pub fn agrees(alloc: Global, line: &str) -> bool {
+    agreement(alloc, line).unwrap_or(false)
+}

@@ -1,0 +1,20 @@
+-- What a row says of an answer that isn't an acceptance.
+use Rattle.std.specs.Prelude.{◌≡◌, ℕ, Option}
+use Rattle.nom_error.specs.Answers.{size_of}
+use Rattle.nom_error.specs.declared.answer.Needed.{Needed}
+use Rattle.nom_error.specs.declared.answer.Err.{Err}
+use Rattle.nom_error.specs.declared.answer.Err.TheVariants.{Incomplete, Error, Failure, OutOfMemory}
+
+-- a refusal whose error is such
+abbrev pub IsRefusal : {E : Type 0} → (E → Type 0) → Err E E Needed → Type 0
+IsRefusal P (Incomplete k) = ⊥
+IsRefusal P (Error e) = P e
+IsRefusal P (Failure e) = ⊥
+IsRefusal P OutOfMemory = ⊥
+
+-- more is needed, by this size; none where it is unknown
+abbrev pub IsLack : {E : Type 0} → Option ℕ → Err E E Needed → Type 0
+IsLack size (Incomplete needed) = size_of needed ≡ size
+IsLack size (Error e) = ⊥
+IsLack size (Failure e) = ⊥
+IsLack size OutOfMemory = ⊥

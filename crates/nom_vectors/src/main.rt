@@ -1,0 +1,97 @@
+//! `nom_vectors`: runs the worked rows of nom, each by the parsers that it names, and prints for each
+//! whether it holds, in the order of their numbers, and then how many don't.
+//!
+//! The status is 0 where each row holds; 1 where one is wrong, or a write fails. A row that meets want of
+//! memory is wrong.
+#![tactic(auto)]
+
+ghost use Rattle.std.specs.Prelude.{◌≡◌, ◌==◌, if◌then◌else◌, count_by};
+ghost use Rattle.nom_vectors.specs.Rows.{is_wrong};
+
+mod answers;
+mod branch;
+mod bytes;
+mod multi;
+mod traits;
+
+use std::alloc::Global;
+use std::process::ExitCode;
+use std::{array, io};
+
+/// The greatest number of a row.
+const LAST: usize = 33;
+
+/// How a row ended.
+#[derive(Clone, Copy)]
+enum Outcome {
+    /// No row of this number is run here.
+    Absent,
+    Holds,
+    Wrong,
+}
+
+impl Outcome {
+    fn of(holds: bool) -> Outcome {
+        if holds {
+            Outcome::Holds
+        } else {
+            Outcome::Wrong
+        }
+    }
+}
+
+/// Runs the row of a number.
+fn run_row(alloc: Global, number: usize) -> Outcome {
+    match number {
+        3 => Outcome::of(branch::row_3()),
+        5 => Outcome::of(multi::row_5(alloc)),
+        6 => Outcome::of(bytes::row_6()),
+        12 => Outcome::of(bytes::row_12()),
+        21 => Outcome::of(traits::row_21()),
+        23 => Outcome::of(bytes::row_23()),
+        _ => Outcome::Absent,
+    }
+}
+
+/// How many rows are wrong.
+fn count_wrong(rows: &[Outcome]) -> usize
+    ensures { result ≡ count_by is_wrong rows.now }
+{
+    rows.iter()
+        .filter(|row| matches!(row, Outcome::Wrong))
+        .count()
+}
+
+fn status_of(wrong: usize) -> u8
+    ensures { result ≡ (if wrong == 0 then 0 else 1) }
+{
+    if wrong == 0 { 0 } else { 1 }
+}
+
+fn print_rows(rt: &impl Print, rows: &[Outcome]) -> io::Result<()> {
+    for (number, row) in rows.iter().enumerate() {
+        match row {
+            Outcome::Absent => {}
+            Outcome::Holds => println!(rt; "row {number} ok")?,
+            Outcome::Wrong => println!(rt; "row {number} wrong")?,
+        }
+    }
+    Ok(())
+}
+
+/// Runs and prints each row; answers the status.
+fn answer(rt: &(impl Print + Alloc<A = Global>)) -> io::Result<u8> {
+    let alloc = rt.alloc();
+    let rows: [Outcome; LAST + 1] = array::from_fn(|number| run_row(alloc, number));
+    print_rows(rt, &rows)?;
+    let wrong = count_wrong(&rows);
+    println!(rt; "wrong {wrong}")?;
+    Ok(status_of(wrong))
+}
+
+fn main(rt: HostRuntime) -> ExitCode {
+    match answer(&rt) {
+        Ok(status) => ExitCode::from(status),
+        Err(_) => ExitCode::from(1),
+    }
+}
