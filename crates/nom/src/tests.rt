@@ -5,6 +5,7 @@ mod asked;
 mod growing;
 mod memory;
 mod own;
+mod sets;
 mod splits;
 mod table;
 mod texts;
