@@ -69,6 +69,7 @@ fn by_check(alloc: Global, bytes: &[u8]) -> Option<Round> {
     }
 }
 
+#[inline(never)]
 fn by_take_while1(bytes: &[u8]) -> Option<Round> {
     let mut run = take_while1::<_, Fail>(|byte: u8| byte != b';');
     match run.parse_complete(bytes) {
@@ -80,6 +81,7 @@ fn by_take_while1(bytes: &[u8]) -> Option<Round> {
     }
 }
 
+#[inline(never)]
 fn by_take_until(bytes: &[u8]) -> Option<Round> {
     let mut front = take_until::<_, Fail>(&b";;"[..]);
     match front.parse_complete(bytes) {
