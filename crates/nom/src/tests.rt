@@ -6,6 +6,7 @@ mod growing;
 mod leaves;
 mod memory;
 mod own;
+mod sets;
 mod splits;
 mod table;
 mod texts;

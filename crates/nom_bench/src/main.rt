@@ -1,11 +1,16 @@
-//! `nom_bench FILE [ROUNDS]`: how fast the grammar of nom_records runs over a file, held in memory.
+//! `nom_bench FILE [ROUNDS]`: how fast the grammar of nom_records, a run and a search go over a file,
+//! held in memory.
 //!
-//! The grammar runs by `parse`, by `parse_complete`, and by `process` where nothing is built, ROUNDS
-//! times each (7 where none are named), and a line for each tells the records, the bytes consumed, and
-//! the MB (10^6 bytes) a second of the best round. With no argument nothing is printed.
+//! The grammar runs by `parse`, by `parse_complete`, and by `process` where nothing is built. By
+//! `parse_complete` also run a `take_while1` of all bytes before the first `;`, and a `take_until` of
+//! all before the first `;;`. Each runs ROUNDS times (7 where none are named), and a line for each tells
+//! the records, if it is the grammar, the bytes consumed, and the MB (10^6 bytes) a second of the best
+//! round. A file that isn't accepted gets `no records`, `no run` or `no needle`: so a file for the
+//! grammar is one of records, and a file for the other two is long, with a `;;` at its end and no `;`
+//! before. With no argument nothing is printed.
 #![tactic(auto)]
 
-use nom::bytes::tag;
+use nom::bytes::{tag, take_until, take_while1};
 use nom::error::Error;
 use nom::multi::{length_data, many0};
 use nom::number::be_u8;
@@ -19,11 +24,11 @@ use std::{env, fs, io};
 
 type Fail<'a> = Error<&'a [u8]>;
 
-/// What a round of a run told.
+/// What a round told.
 #[derive(Clone, Copy)]
 struct Round {
-    /// The records of the list; none where no list is built.
-    records: usize,
+    /// The records, if it ran the grammar: those of the list, 0 where no list is built.
+    records: Option<usize>,
     /// The bytes that were consumed.
     bytes: usize,
 }
@@ -33,7 +38,7 @@ fn by_parse(alloc: Global, bytes: &[u8]) -> Option<Round> {
     let mut records = terminated(many0(alloc, record), tag::<_, Fail>(&b"."[..]));
     match records.parse(bytes) {
         Ok((rest, list)) => Some(Round {
-            records: list.len(),
+            records: Some(list.len()),
             bytes: bytes.len().saturating_sub(rest.len()),
         }),
         Err(_) => None,
@@ -45,7 +50,7 @@ fn by_parse_complete(alloc: Global, bytes: &[u8]) -> Option<Round> {
     let mut records = terminated(many0(alloc, record), tag::<_, Fail>(&b"."[..]));
     match records.parse_complete(bytes) {
         Ok((rest, list)) => Some(Round {
-            records: list.len(),
+            records: Some(list.len()),
             bytes: bytes.len().saturating_sub(rest.len()),
         }),
         Err(_) => None,
@@ -57,19 +62,45 @@ fn by_check(alloc: Global, bytes: &[u8]) -> Option<Round> {
     let mut records = terminated(many0(alloc, record), tag::<_, Fail>(&b"."[..]));
     match records.process::<OutputM<Check, Check, Streaming>>(bytes) {
         Ok((rest, _none)) => Some(Round {
-            records: 0,
+            records: Some(0),
             bytes: bytes.len().saturating_sub(rest.len()),
         }),
         Err(_) => None,
     }
 }
 
-/// The ways to run the grammar.
+#[inline(never)]
+fn by_take_while1(bytes: &[u8]) -> Option<Round> {
+    let mut run = take_while1::<_, Fail>(|byte: u8| byte != b';');
+    match run.parse_complete(bytes) {
+        Ok((rest, _run)) => Some(Round {
+            records: None,
+            bytes: bytes.len().saturating_sub(rest.len()),
+        }),
+        Err(_) => None,
+    }
+}
+
+#[inline(never)]
+fn by_take_until(bytes: &[u8]) -> Option<Round> {
+    let mut front = take_until::<_, Fail>(&b";;"[..]);
+    match front.parse_complete(bytes) {
+        Ok((rest, _front)) => Some(Round {
+            records: None,
+            bytes: bytes.len().saturating_sub(rest.len()),
+        }),
+        Err(_) => None,
+    }
+}
+
+/// The parsers, and the ways to run them.
 #[derive(Clone, Copy)]
 enum Way {
     Parse,
     ParseComplete,
     Check,
+    TakeWhile1,
+    TakeUntil,
 }
 
 impl Way {
@@ -78,6 +109,19 @@ impl Way {
             Way::Parse => "parse",
             Way::ParseComplete => "parse_complete",
             Way::Check => "check",
+            Way::TakeWhile1 => "take_while1",
+            Way::TakeUntil => "take_until",
+        }
+    }
+
+    /// What a file has not, that isn't accepted.
+    fn lacking(self) -> &'static str {
+        match self {
+            Way::Parse => "no records",
+            Way::ParseComplete => "no records",
+            Way::Check => "no records",
+            Way::TakeWhile1 => "no run",
+            Way::TakeUntil => "no needle",
         }
     }
 
@@ -86,6 +130,8 @@ impl Way {
             Way::Parse => by_parse(alloc, bytes),
             Way::ParseComplete => by_parse_complete(alloc, bytes),
             Way::Check => by_check(alloc, bytes),
+            Way::TakeWhile1 => by_take_while1(bytes),
+            Way::TakeUntil => by_take_until(bytes),
         }
     }
 }
@@ -111,11 +157,18 @@ fn bench(
                 .saturating_mul(1000)
                 .checked_div(best)
                 .unwrap_or(0);
-            let records = round.records;
             let consumed = round.bytes;
-            println!(rt; "{name}: {records} records, {consumed} bytes, {speed} MB/s")
+            match round.records {
+                Some(records) => {
+                    println!(rt; "{name}: {records} records, {consumed} bytes, {speed} MB/s")
+                }
+                None => println!(rt; "{name}: {consumed} bytes, {speed} MB/s"),
+            }
         }
-        None => println!(rt; "{name}: no records"),
+        None => {
+            let lacking = way.lacking();
+            println!(rt; "{name}: {lacking}")
+        }
     }
 }
 
@@ -132,7 +185,9 @@ fn run(rt: &(impl Clock + Env + Files + Print + Alloc<A = Global>)) -> io::Resul
     let bytes = fs::read(rt, file.as_str())?;
     bench(rt, Way::Parse, &bytes, rounds)?;
     bench(rt, Way::ParseComplete, &bytes, rounds)?;
-    bench(rt, Way::Check, &bytes, rounds)
+    bench(rt, Way::Check, &bytes, rounds)?;
+    bench(rt, Way::TakeWhile1, &bytes, rounds)?;
+    bench(rt, Way::TakeUntil, &bytes, rounds)
 }
 
 fn main(rt: HostRuntime) -> ExitCode {

@@ -21,7 +21,7 @@ pub use crate::fixed::Fixed;
 pub use crate::leaf::{Tag, Take};
 pub use crate::no_case::TagNoCase;
 pub use crate::run::{SplitPosition, take_till, take_while};
-pub use crate::run_of_one::{SplitPosition1, take_till1, take_while1};
+pub use crate::run_of_one::{SplitPosition1, is_a, is_not, take_till1, take_while1};
 pub use crate::until::{TakeUntil, TakeUntil1};
 use std::marker::PhantomData;
 

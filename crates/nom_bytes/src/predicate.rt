@@ -1,7 +1,8 @@
 //! Tests of items, at which a run stops.
-ghost use Rattle.std.specs.Prelude.{Bool, true, false, not};
-ghost use Rattle.nom_bytes.specs.Predicates.{IsFixed};
+ghost use Rattle.std.specs.Prelude.{◌↔◌, IsTrue, Bool, true, false, not};
+ghost use Rattle.nom_bytes.specs.Predicates.{IsFixed, one_answer};
 
+use nom_search::token::FindToken;
 use nom_traits::input::Value;
 
 /// A test of items: a closure, or a set of items.
@@ -70,4 +71,50 @@ impl<T: Value, F: Fn(T) -> bool> Predicate<T> for StopsUnless<F> {
     }
 
     ghost fixed = { λ f h x v p q. h.1 x v q p };
+}
+
+/// Stops at the items of a set.
+#[derive(Drop)]
+pub struct StopsIn<L> {
+    pub list: L,
+}
+
+impl<T: Value, L: FindToken<T>> Predicate<T> for StopsIn<L> {
+    ghost State = { L };
+
+    ghost state = { λ p. p.list };
+
+    ghost answers = { λ list item b. IsTrue b ↔ L.finds list item };
+
+    ghost IsSound = { λ _. Unit {0} };
+
+    #[inline(always)]
+    fn stops(&self, item: T) -> bool {
+        self.list.find_token(item)
+    }
+
+    ghost fixed = { λ list h x v stops goes_on. one_answer stops goes_on };
+}
+
+/// Stops at the items that aren't in a set.
+#[derive(Drop)]
+pub struct StopsOutside<L> {
+    pub list: L,
+}
+
+impl<T: Value, L: FindToken<T>> Predicate<T> for StopsOutside<L> {
+    ghost State = { L };
+
+    ghost state = { λ p. p.list };
+
+    ghost answers = { λ list item b. IsTrue (not b) ↔ L.finds list item };
+
+    ghost IsSound = { λ _. Unit {0} };
+
+    #[inline(always)]
+    fn stops(&self, item: T) -> bool {
+        !self.list.find_token(item)
+    }
+
+    ghost fixed = { λ list h x v stops goes_on. one_answer goes_on stops };
 }

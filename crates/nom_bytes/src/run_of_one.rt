@@ -5,7 +5,7 @@ ghost use Rattle.nom_traits.specs.Slices.{Slice, IsSeenAs};
 ghost use Rattle.nom_bytes.specs.ParsedRuns.{run_meaning};
 ghost use Rattle.nom_bytes.specs.RunLaws.{run_lawful, run_steady};
 
-use crate::predicate::{Predicate, StopsUnless, StopsWhere};
+use crate::predicate::{Predicate, StopsIn, StopsOutside, StopsUnless, StopsWhere};
 use crate::run::length_of_run;
 use nom_error::answer::{Err, Needed, PResult};
 use nom_error::kind::ErrorKind;
@@ -16,7 +16,7 @@ use nom_internal::slices::front;
 use nom_traits::input::Input;
 use std::marker::PhantomData;
 
-/// A run of one item at least, made by `take_while1` and `take_till1`.
+/// A run of one item at least, made by `take_while1`, `take_till1`, `is_a` and `is_not`.
 #[derive(Drop)]
 pub struct SplitPosition1<P, E> {
     pub predicate: P,
@@ -79,6 +79,41 @@ pub fn take_till1<F, E>(test: F) -> SplitPosition1<StopsWhere<F>, E>
     SplitPosition1 {
         predicate: StopsWhere { test },
         kind: ErrorKind::TakeTill1,
+        error: PhantomData,
+    }
+}
+
+/// The longest list of first items that are in the set, one at least.
+///
+/// The set is a list of bytes, as `&[u8]` or `[u8; N]`, or of characters, as `&[char]` or `&str`, or
+/// any other in which items are found by `FindToken`. Where the first item isn't in it, it refuses with
+/// `IsA`. Where each item is, streaming asks for one more, and complete accepts all; where there is no
+/// item, streaming asks for one, and complete refuses so.
+#[inline(always)]
+pub fn is_a<T, E>(list: T) -> SplitPosition1<StopsOutside<T>, E>
+    ensures predicate { result.predicate.list ≡ list }
+    ensures kind { result.kind ≡ ErrorKind.IsA }
+{
+    SplitPosition1 {
+        predicate: StopsOutside { list },
+        kind: ErrorKind::IsA,
+        error: PhantomData,
+    }
+}
+
+/// The items before the first that is in the set, one at least.
+///
+/// The set is a list as `is_a` takes one. Where the first item is in it, it refuses with `IsNot`. Where
+/// no item is, streaming asks for one more, and complete accepts all; where there is no item, streaming
+/// asks for one, and complete refuses so.
+#[inline(always)]
+pub fn is_not<T, E>(list: T) -> SplitPosition1<StopsIn<T>, E>
+    ensures predicate { result.predicate.list ≡ list }
+    ensures kind { result.kind ≡ ErrorKind.IsNot }
+{
+    SplitPosition1 {
+        predicate: StopsIn { list },
+        kind: ErrorKind::IsNot,
         error: PhantomData,
     }
 }

@@ -1,7 +1,7 @@
 //! Parsers of items in one mode: more input may come, whatever mode is asked for.
 ghost use Rattle.std.specs.Prelude.{◌≡◌};
 
-use crate::predicate::{StopsUnless, StopsWhere};
+use crate::predicate::{StopsIn, StopsOutside, StopsUnless, StopsWhere};
 use crate::{
     Fixed, SplitPosition, SplitPosition1, Tag, TagNoCase, Take, TakeUntil, TakeUntil1, TakeWhileMN,
 };
@@ -123,6 +123,30 @@ pub fn take_while_m_n<F, E>(
 {
     Fixed {
         parser: crate::take_while_m_n(m, n, predicate),
+        mode: PhantomData,
+    }
+}
+
+/// `bytes::is_a` in the streaming mode.
+#[inline(always)]
+pub fn is_a<T, E>(list: T) -> Fixed<SplitPosition1<StopsOutside<T>, E>, Streaming>
+    ensures predicate { result.parser.predicate.list ≡ list }
+    ensures kind { result.parser.kind ≡ ErrorKind.IsA }
+{
+    Fixed {
+        parser: crate::is_a(list),
+        mode: PhantomData,
+    }
+}
+
+/// `bytes::is_not` in the streaming mode.
+#[inline(always)]
+pub fn is_not<T, E>(list: T) -> Fixed<SplitPosition1<StopsIn<T>, E>, Streaming>
+    ensures predicate { result.parser.predicate.list ≡ list }
+    ensures kind { result.parser.kind ≡ ErrorKind.IsNot }
+{
+    Fixed {
+        parser: crate::is_not(list),
         mode: PhantomData,
     }
 }

@@ -1,5 +1,7 @@
 //! Runs of items.
 
+mod sets;
+
 use crate::{take_till, take_till1, take_while, take_while_m_n, take_while1};
 use nom_error::answer::{Err, Needed};
 use nom_error::kind::ErrorKind;
