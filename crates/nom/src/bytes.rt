@@ -1,7 +1,12 @@
-//! Parsers of items: tags, slices, runs and searches. Those at the top run in the mode that is asked for.
+//! Parsers of items: tags, slices, runs, searches and texts with escapes. Those at the top run in the
+//! mode that is asked for.
+
+pub mod complete;
+pub mod streaming;
 
 pub use nom_bytes::{
     Fixed, SplitPosition, SplitPosition1, Tag, TagNoCase, Take, TakeUntil, TakeUntil1, TakeWhileMN,
-    complete, is_a, is_not, predicate, streaming, tag, tag_no_case, take, take_till, take_till1,
-    take_until, take_until1, take_while, take_while_m_n, take_while1,
+    is_a, is_not, predicate, tag, tag_no_case, take, take_till, take_till1, take_until,
+    take_until1, take_while, take_while_m_n, take_while1,
 };
+pub use nom_escaped::{Escaped, EscapedTransform, escaped, escaped_transform};

@@ -2,6 +2,7 @@
 //! that grow, and where memory runs out.
 
 mod asked;
+mod escapes;
 mod growing;
 mod leaves;
 mod memory;

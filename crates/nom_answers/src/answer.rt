@@ -21,6 +21,8 @@ fn kind_of(name: &str) -> Option<ErrorKind> {
         b"TakeWhile1" => Some(ErrorKind::TakeWhile1),
         b"TakeTill1" => Some(ErrorKind::TakeTill1),
         b"TakeWhileMN" => Some(ErrorKind::TakeWhileMN),
+        b"IsA" => Some(ErrorKind::IsA),
+        b"IsNot" => Some(ErrorKind::IsNot),
         b"TakeUntil" => Some(ErrorKind::TakeUntil),
         _ => None,
     }

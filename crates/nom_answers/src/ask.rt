@@ -6,7 +6,7 @@ use crate::agree::is_answer;
 use crate::answer::Answer;
 use nom::bytes::{self, complete, streaming};
 use nom::error::Error;
-use nom::{AsBytes, AsChar, Compare, FindSubstring, Input, Parser};
+use nom::{AsBytes, AsChar, Compare, FindSubstring, FindToken, Input, Parser};
 
 /// The module that a parser is of.
 #[derive(Clone, Copy)]
@@ -56,6 +56,13 @@ pub enum Tagged {
 pub enum Search {
     Until,
     Until1,
+}
+
+/// The parsers of items by a set.
+#[derive(Clone, Copy)]
+pub enum Set {
+    IsA,
+    IsNot,
 }
 
 /// The parsers of a run.
@@ -134,6 +141,17 @@ pub fn take_front<I: Input + AsBytes + FindSubstring<T>, T: Copy>(
     match search {
         Search::Until => answers!(question, take_until(needle)),
         Search::Until1 => answers!(question, take_until1(needle)),
+    }
+}
+
+pub fn take_set<I: Input + AsBytes, L: FindToken<I::Item> + Copy>(
+    question: Question<'_, I>,
+    set: Set,
+    list: L,
+) -> bool {
+    match set {
+        Set::IsA => answers!(question, is_a(list)),
+        Set::IsNot => answers!(question, is_not(list)),
     }
 }
 

@@ -1,7 +1,8 @@
 //! Lines of the file.
 
 use crate::answer::{Answer, answer_of};
-use crate::ask::{self, Module, Question, Run, Search, Tagged, Test, Way};
+use crate::ask::{self, Module, Question, Run, Search, Set, Tagged, Test, Way};
+use crate::list::{List, list_of};
 use crate::literal::{Literal, literal_of};
 use crate::number::number_of;
 use std::alloc::Global;
@@ -12,6 +13,7 @@ enum Call {
     Tagged(Tagged, Literal),
     Take(usize),
     Search(Search, Literal),
+    Set(Set, List),
     Run(Run, Test),
 }
 
@@ -36,6 +38,8 @@ fn call_of(alloc: Global, name: &str, arguments: &str) -> Option<Call> {
     match name.as_bytes() {
         b"tag" => Some(Call::Tagged(Tagged::Tag, literal_of(alloc, arguments)?)),
         b"tag_no_case" => Some(Call::Tagged(Tagged::TagNoCase, literal_of(alloc, arguments)?)),
+        b"is_a" => Some(Call::Set(Set::IsA, list_of(alloc, arguments)?)),
+        b"is_not" => Some(Call::Set(Set::IsNot, list_of(alloc, arguments)?)),
         b"take" => Some(Call::Take(number_of(arguments)?)),
         b"take_until" => Some(Call::Search(Search::Until, literal_of(alloc, arguments)?)),
         b"take_until1" => Some(Call::Search(Search::Until1, literal_of(alloc, arguments)?)),
@@ -81,6 +85,14 @@ fn over_text(question: Question<'_, &str>, call: &Call) -> Option<bool> {
             Some(ask::take_front(question, *search, needle.as_str()))
         }
         Call::Search(_, Literal::Bytes(_)) => None,
+        Call::Set(set, List::Literal(Literal::Text(list))) => {
+            Some(ask::take_set(question, *set, list.as_str()))
+        }
+        Call::Set(set, List::Literal(Literal::Bytes(list))) => {
+            Some(ask::take_set(question, *set, list.as_slice()))
+        }
+        Call::Set(set, List::Chars(list)) => Some(ask::take_set(question, *set, list.as_slice())),
+        Call::Set(_, List::Array(_)) => None,
         Call::Run(run, test) => Some(ask::take_run(question, *run, *test)),
     }
 }
@@ -101,6 +113,14 @@ fn over_bytes(question: Question<'_, &[u8]>, call: &Call) -> Option<bool> {
         Call::Search(search, Literal::Bytes(needle)) => {
             Some(ask::take_front(question, *search, needle.as_slice()))
         }
+        Call::Set(set, List::Literal(Literal::Text(list))) => {
+            Some(ask::take_set(question, *set, list.as_str()))
+        }
+        Call::Set(set, List::Literal(Literal::Bytes(list))) => {
+            Some(ask::take_set(question, *set, list.as_slice()))
+        }
+        Call::Set(set, List::Array(list)) => Some(ask::take_set(question, *set, *list)),
+        Call::Set(_, List::Chars(_)) => None,
         Call::Run(run, test) => Some(ask::take_run(question, *run, *test)),
     }
 }

@@ -9,8 +9,8 @@
 //! bytes::streaming::take(4u32) | "\u{e9}" | streaming | incomplete unknown
 //! ```
 //!
-//! 1. The parser: its path in nom, and its arguments. These are texts, slices or numbers, as Rust writes
-//!    them, and the tests `AsChar::is_alpha`, `AsChar::is_dec_digit` and `not_digit`, their contrary.
+//! 1. The parser: its path in nom, and its arguments. These are texts, slices, arrays or numbers, as Rust
+//!    writes them, and the tests `AsChar::is_alpha`, `AsChar::is_dec_digit` and `not_digit`, their contrary.
 //! 2. The input, a slice of bytes or a text.
 //! 3. The mode that was asked for.
 //! 4. The answer: the rest and the output of an acceptance, the output of bytes as numbers; the kind of a
@@ -28,6 +28,7 @@ mod agree;
 mod answer;
 mod ask;
 mod line;
+mod list;
 mod literal;
 mod number;
 

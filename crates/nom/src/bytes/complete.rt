@@ -1,0 +1,7 @@
+//! The parsers of `bytes` in the complete mode, whatever mode is asked for.
+
+pub use nom_bytes::complete::{
+    is_a, is_not, tag, tag_no_case, take, take_till, take_till1, take_until, take_until1,
+    take_while, take_while_m_n, take_while1,
+};
+pub use nom_escaped::complete::{escaped, escaped_transform};
