@@ -1,5 +1,5 @@
 //! Want of memory.
-use crate::bytes::tag;
+use crate::bytes::{escaped_transform, tag, take_while1};
 use crate::error::Error;
 use crate::multi::many0;
 use crate::{Err, Parser};
@@ -36,6 +36,39 @@ fn each_growth_refused(rt: HostRuntime) -> Result<(), AllocError> {
         }
     }
     assert!(rt; refused > 3);
+    assert!(rt; accepted);
+    Ok(())
+}
+
+/// The same of the text that `escaped_transform` builds: each growth is refused in turn, and each time
+/// the answer is want of memory, and no shorter text.
+#[test]
+fn each_growth_of_a_text_refused(rt: HostRuntime) -> Result<(), AllocError> {
+    let input = "11111111\\n22222222\\n33333333\\n44444444\\n55555555\\n66666666;";
+    let mut refused = 0usize;
+    let mut accepted = false;
+    for units in 1..60 {
+        let heap = LocalHeap::new(rt.alloc(), units * 16)?;
+        let mut text = escaped_transform(
+            &heap,
+            take_while1::<_, Error<&str>>(|c: char| c.is_ascii_digit()),
+            '\\',
+            tag::<_, Error<&str>>("n"),
+        );
+        match text.parse(input) {
+            Ok((rest, output)) => {
+                accepted = true;
+                assert!(rt; rest == ";");
+                assert!(rt; output.as_str() == "11111111n22222222n33333333n44444444n55555555n66666666");
+            }
+            Err(Err::OutOfMemory) => {
+                refused = refused.saturating_add(1);
+                assert!(rt; !accepted);
+            }
+            _ => panic!(rt; "refused"),
+        }
+    }
+    assert!(rt; refused > 2);
     assert!(rt; accepted);
     Ok(())
 }
