@@ -24,6 +24,8 @@ fn kind_of(name: &str) -> Option<ErrorKind> {
         b"IsA" => Some(ErrorKind::IsA),
         b"IsNot" => Some(ErrorKind::IsNot),
         b"TakeUntil" => Some(ErrorKind::TakeUntil),
+        b"Escaped" => Some(ErrorKind::Escaped),
+        b"EscapedTransform" => Some(ErrorKind::EscapedTransform),
         _ => None,
     }
 }

@@ -2,11 +2,12 @@
 ghost use Rattle.std.specs.Prelude.{◌≡◌};
 ghost use Rattle.nom_answers.specs.Tests.{meets_code};
 
-use crate::agree::is_answer;
+use crate::agree::{Content, is_answer};
 use crate::answer::Answer;
 use nom::bytes::{self, complete, streaming};
 use nom::error::Error;
-use nom::{AsBytes, AsChar, Compare, FindSubstring, FindToken, Input, Parser};
+use nom::{AsChar, Compare, ExtendInto, FindSubstring, FindToken, Input, Parser, Value};
+use std::alloc::Global;
 
 /// The module that a parser is of.
 #[derive(Clone, Copy)]
@@ -75,6 +76,64 @@ pub enum Run {
     Till1,
 }
 
+/// What a part of a text with escapes takes.
+#[derive(Drop)]
+pub enum Piece<T> {
+    Tag(T),
+    While(Test),
+    While1(Test),
+}
+
+/// A part of a text with escapes.
+#[derive(Drop)]
+pub struct Part<T> {
+    pub module: Module,
+    pub piece: Piece<T>,
+}
+
+impl Part<String> {
+    fn borrowed(&self) -> Part<&str> {
+        let piece = match &self.piece {
+            Piece::Tag(tag) => Piece::Tag(tag.as_str()),
+            Piece::While(test) => Piece::While(*test),
+            Piece::While1(test) => Piece::While1(*test),
+        };
+        Part {
+            module: self.module,
+            piece,
+        }
+    }
+}
+
+/// What the output of a text with escapes is.
+#[derive(Clone, Copy)]
+pub enum Form {
+    /// The text as it stands, as `escaped` has it.
+    Slice,
+    /// The text as it is meant, as `escaped_transform` has it, in memory of its own.
+    Made(Global),
+}
+
+/// The parsers of a text with escapes.
+#[derive(Drop)]
+pub struct Escapes<T> {
+    pub form: Form,
+    pub normal: Part<T>,
+    pub control_char: char,
+    pub escapable: Part<T>,
+}
+
+impl Escapes<String> {
+    pub fn borrowed(&self) -> Escapes<&str> {
+        Escapes {
+            form: self.form,
+            normal: self.normal.borrowed(),
+            control_char: self.control_char,
+            escapable: self.escapable.borrowed(),
+        }
+    }
+}
+
 /// What a parser is asked, and what nom answered.
 #[derive(Clone, Copy)]
 pub struct Question<'a, I> {
@@ -84,26 +143,32 @@ pub struct Question<'a, I> {
     pub answer: &'a Answer,
 }
 
-impl<'a, I: Input + AsBytes> Question<'a, I> {
+impl<'a, I: Input + Content> Question<'a, I> {
     /// Whether a parser answers so in the mode that is asked for.
-    fn is_met<P: Parser<I, Output = I, Error = Error<I>> + Drop>(self, mut parser: P) -> bool
+    fn is_met<O: Content + Drop, P: Parser<I, Output = O, Error = Error<I>> + Drop>(
+        self,
+        mut parser: P,
+    ) -> bool
         requires { (P.meaning (P.state parser)).IsSound }
     {
         let found = match self.way {
             Way::Streaming => parser.parse(self.input),
             Way::Complete => parser.parse_complete(self.input),
         };
-        is_answer(found, self.input.as_bytes(), self.answer)
+        is_answer(found, self.input.content(), self.answer)
     }
 
     /// Whether a parser of one mode answers so, whatever mode is asked for.
-    fn is_met_always<P: Parser<I, Output = I, Error = Error<I>> + Drop>(self, mut parser: P) -> bool
+    fn is_met_always<O: Content + Drop, P: Parser<I, Output = O, Error = Error<I>> + Drop>(
+        self,
+        mut parser: P,
+    ) -> bool
         requires { (P.meaning (P.state parser)).IsSound }
     {
         let streaming = parser.parse(self.input);
         let complete = parser.parse_complete(self.input);
-        is_answer(streaming, self.input.as_bytes(), self.answer)
-            && is_answer(complete, self.input.as_bytes(), self.answer)
+        is_answer(streaming, self.input.content(), self.answer)
+            && is_answer(complete, self.input.content(), self.answer)
     }
 }
 
@@ -118,7 +183,7 @@ macro_rules! answers {
     };
 }
 
-pub fn take_tag<I: Input + AsBytes + Compare<T>, T: Copy>(
+pub fn take_tag<I: Input + Content + Compare<T>, T: Copy>(
     question: Question<'_, I>,
     tagged: Tagged,
     tag: T,
@@ -129,11 +194,11 @@ pub fn take_tag<I: Input + AsBytes + Compare<T>, T: Copy>(
     }
 }
 
-pub fn take_count<I: Input + AsBytes>(question: Question<'_, I>, count: usize) -> bool {
+pub fn take_count<I: Input + Content>(question: Question<'_, I>, count: usize) -> bool {
     answers!(question, take(count))
 }
 
-pub fn take_front<I: Input + AsBytes + FindSubstring<T>, T: Copy>(
+pub fn take_front<I: Input + Content + FindSubstring<T>, T: Copy>(
     question: Question<'_, I>,
     search: Search,
     needle: T,
@@ -144,7 +209,7 @@ pub fn take_front<I: Input + AsBytes + FindSubstring<T>, T: Copy>(
     }
 }
 
-pub fn take_set<I: Input + AsBytes, L: FindToken<I::Item> + Copy>(
+pub fn take_set<I: Input + Content, L: FindToken<I::Item> + Copy>(
     question: Question<'_, I>,
     set: Set,
     list: L,
@@ -155,7 +220,7 @@ pub fn take_set<I: Input + AsBytes, L: FindToken<I::Item> + Copy>(
     }
 }
 
-pub fn take_run<I: Input + AsBytes>(question: Question<'_, I>, run: Run, test: Test) -> bool
+pub fn take_run<I: Input + Content>(question: Question<'_, I>, run: Run, test: Test) -> bool
 where
     I::Item: AsChar,
 {
@@ -166,5 +231,96 @@ where
         Run::WhileMN(m, n) => answers!(question, take_while_m_n(m, n, meets)),
         Run::Till => answers!(question, take_till(meets)),
         Run::Till1 => answers!(question, take_till1(meets)),
+    }
+}
+
+/// Hands the parser of a name, in a module, to a function as its last argument.
+macro_rules! hand {
+    ($module:expr, $name:ident($argument:expr), $next:ident($($other:expr),*)) => {
+        match $module {
+            Module::Top => $next($($other,)* bytes::$name($argument)),
+            Module::Complete => $next($($other,)* complete::$name($argument)),
+            Module::Streaming => $next($($other,)* streaming::$name($argument)),
+        }
+    };
+}
+
+/// Asks a text with escapes, by the parsers of both parts.
+fn take_pieces<
+    T,
+    C: AsChar + Value,
+    I: Input<Item = C> + Content + ExtendInto<Global>,
+    F: Parser<I, Output = I, Error = Error<I>> + Drop,
+    G: Parser<I, Output = I, Error = Error<I>> + Drop,
+>(question: Question<'_, I>, escapes: &Escapes<T>, normal: F, escapable: G) -> bool
+where
+    I::Extender: Content + Drop,
+    requires normal { (F.meaning (F.state normal)).IsSound }
+    requires escapable { (G.meaning (G.state escapable)).IsSound }
+{
+    let control_char = escapes.control_char;
+    match escapes.form {
+        Form::Slice => answers!(question, escaped(normal, control_char, escapable)),
+        Form::Made(alloc) => {
+            answers!(
+                question,
+                escaped_transform(alloc, normal, control_char, escapable)
+            )
+        }
+    }
+}
+
+/// The same, by the parser of the normal part.
+fn take_normal<
+    T: Copy,
+    C: AsChar + Value,
+    I: Input<Item = C> + Content + Compare<T> + ExtendInto<Global>,
+    F: Parser<I, Output = I, Error = Error<I>> + Drop,
+>(question: Question<'_, I>, escapes: &Escapes<T>, normal: F) -> bool
+where
+    I::Extender: Content + Drop,
+    requires { (F.meaning (F.state normal)).IsSound }
+{
+    let module = escapes.escapable.module;
+    match escapes.escapable.piece {
+        Piece::Tag(tag) => { hand!(module, tag(tag), take_pieces(question, escapes, normal)) }
+        Piece::While(test) => {
+            let meets = move |item: C| test.meets(item);
+            hand!(
+                module,
+                take_while(meets),
+                take_pieces(question, escapes, normal)
+            )
+        }
+        Piece::While1(test) => {
+            let meets = move |item: C| test.meets(item);
+            hand!(
+                module,
+                take_while1(meets),
+                take_pieces(question, escapes, normal)
+            )
+        }
+    }
+}
+
+pub fn take_escapes<
+    T: Copy,
+    C: AsChar + Value,
+    I: Input<Item = C> + Content + Compare<T> + ExtendInto<Global>,
+>(question: Question<'_, I>, escapes: &Escapes<T>) -> bool
+where
+    I::Extender: Content + Drop,
+{
+    let module = escapes.normal.module;
+    match escapes.normal.piece {
+        Piece::Tag(tag) => hand!(module, tag(tag), take_normal(question, escapes)),
+        Piece::While(test) => {
+            let meets = move |item: C| test.meets(item);
+            hand!(module, take_while(meets), take_normal(question, escapes))
+        }
+        Piece::While1(test) => {
+            let meets = move |item: C| test.meets(item);
+            hand!(module, take_while1(meets), take_normal(question, escapes))
+        }
     }
 }

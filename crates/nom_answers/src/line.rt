@@ -1,9 +1,12 @@
 //! Lines of the file.
 
 use crate::answer::{Answer, answer_of};
-use crate::ask::{self, Module, Question, Run, Search, Set, Tagged, Test, Way};
+use crate::arguments::split_first;
+use crate::ask::{
+    self, Escapes, Form, Module, Part, Piece, Question, Run, Search, Set, Tagged, Test, Way,
+};
 use crate::list::{List, list_of};
-use crate::literal::{Literal, literal_of};
+use crate::literal::{Literal, char_of, literal_of};
 use crate::number::number_of;
 use std::alloc::Global;
 
@@ -15,6 +18,7 @@ enum Call {
     Search(Search, Literal),
     Set(Set, List),
     Run(Run, Test),
+    Escapes(Escapes<String>),
 }
 
 fn test_of(name: &str) -> Option<Test> {
@@ -34,6 +38,33 @@ fn bounded_of(arguments: &str) -> Option<Call> {
     Some(Call::Run(run, test_of(test)?))
 }
 
+/// A part from its path in nom, with a tag or a run.
+fn part_of(alloc: Global, text: &str) -> Option<Part<String>> {
+    let (module, name, argument) = path_of(text)?;
+    let piece = match name.as_bytes() {
+        b"tag" => match literal_of(alloc, argument)? {
+            Literal::Text(tag) => Piece::Tag(tag),
+            Literal::Bytes(_) => return None,
+        },
+        b"take_while" => Piece::While(test_of(argument)?),
+        b"take_while1" => Piece::While1(test_of(argument)?),
+        _ => return None,
+    };
+    Some(Part { module, piece })
+}
+
+/// A text with escapes, from `normal, control character, escapable`.
+fn escapes_of(alloc: Global, form: Form, arguments: &str) -> Option<Call> {
+    let (normal, others) = split_first(arguments)?;
+    let (control_char, escapable) = split_first(others)?;
+    Some(Call::Escapes(Escapes {
+        form,
+        normal: part_of(alloc, normal)?,
+        control_char: char_of(alloc, control_char)?,
+        escapable: part_of(alloc, escapable)?,
+    }))
+}
+
 fn call_of(alloc: Global, name: &str, arguments: &str) -> Option<Call> {
     match name.as_bytes() {
         b"tag" => Some(Call::Tagged(Tagged::Tag, literal_of(alloc, arguments)?)),
@@ -48,6 +79,8 @@ fn call_of(alloc: Global, name: &str, arguments: &str) -> Option<Call> {
         b"take_while_m_n" => bounded_of(arguments),
         b"take_till" => Some(Call::Run(Run::Till, test_of(arguments)?)),
         b"take_till1" => Some(Call::Run(Run::Till1, test_of(arguments)?)),
+        b"escaped" => escapes_of(alloc, Form::Slice, arguments),
+        b"escaped_transform" => escapes_of(alloc, Form::Made(alloc), arguments),
         _ => None,
     }
 }
@@ -61,6 +94,13 @@ fn module_of(path: &str) -> (Module, &str) {
         Some(rest) => (Module::Streaming, rest),
         None => (Module::Top, path),
     }
+}
+
+/// The module, the name and the arguments of a call.
+fn path_of(call: &str) -> Option<(Module, &str, &str)> {
+    let (module, path) = module_of(call.strip_prefix("bytes::")?);
+    let (name, arguments) = path.strip_suffix(")")?.split_once("(")?;
+    Some((module, name, arguments))
 }
 
 fn way_of(name: &str) -> Option<Way> {
@@ -94,6 +134,7 @@ fn over_text(question: Question<'_, &str>, call: &Call) -> Option<bool> {
         Call::Set(set, List::Chars(list)) => Some(ask::take_set(question, *set, list.as_slice())),
         Call::Set(_, List::Array(_)) => None,
         Call::Run(run, test) => Some(ask::take_run(question, *run, *test)),
+        Call::Escapes(escapes) => Some(ask::take_escapes(question, &escapes.borrowed())),
     }
 }
 
@@ -122,6 +163,7 @@ fn over_bytes(question: Question<'_, &[u8]>, call: &Call) -> Option<bool> {
         Call::Set(set, List::Array(list)) => Some(ask::take_set(question, *set, *list)),
         Call::Set(_, List::Chars(_)) => None,
         Call::Run(run, test) => Some(ask::take_run(question, *run, *test)),
+        Call::Escapes(escapes) => Some(ask::take_escapes(question, &escapes.borrowed())),
     }
 }
 
@@ -159,8 +201,7 @@ fn agreement(alloc: Global, line: &str) -> Option<bool> {
     let (call, asked) = line.split_once(" | ")?;
     let (input, replied) = asked.split_once(" | ")?;
     let (way, answer) = replied.split_once(" | ")?;
-    let (module, path) = module_of(call.strip_prefix("bytes::")?);
-    let (name, arguments) = path.strip_suffix(")")?.split_once("(")?;
+    let (module, name, arguments) = path_of(call)?;
     let call = call_of(alloc, name, arguments)?;
     let input = literal_of(alloc, input)?;
     let answer = answer_of(alloc, answer)?;

@@ -1,6 +1,6 @@
 //! Sets of items, as Rust writes them.
 
-use crate::literal::{Literal, between, literal_of};
+use crate::literal::{Literal, between, char_of, literal_of};
 use std::alloc::Global;
 
 /// A set of items.
@@ -12,19 +12,10 @@ pub enum List {
     Array([u8; 1]),
 }
 
-fn char_of(text: &str) -> Option<char> {
-    let mut chars = between(text, "'", "'")?.chars();
-    let only = chars.next()?;
-    match chars.next() {
-        None => Some(only),
-        Some(_) => None,
-    }
-}
-
 fn chars_of(alloc: Global, body: &str) -> Option<Vec<char>> {
     let mut chars = Vec::new(alloc);
     for c in body.split(", ") {
-        chars.push(char_of(c)?).ok()?;
+        chars.push(char_of(alloc, c)?).ok()?;
     }
     Some(chars)
 }

@@ -124,6 +124,17 @@ pub fn literal_of(alloc: Global, text: &str) -> Option<Literal> {
     Some(Literal::Text(String::from_str(alloc, text).ok()?))
 }
 
+/// A character, as `'a'`.
+pub fn char_of(alloc: Global, text: &str) -> Option<char> {
+    let bytes = unescaped(alloc, between(text, "'", "'")?)?;
+    let mut chars = str::from_utf8(&bytes).ok()?.chars();
+    let only = chars.next()?;
+    match chars.next() {
+        None => Some(only),
+        Some(_) => None,
+    }
+}
+
 /// Bytes as a list of numbers, as `[97, 98]`.
 pub fn numbers_of(alloc: Global, text: &str) -> Option<Vec<u8>> {
     let mut bytes = Vec::new(alloc);

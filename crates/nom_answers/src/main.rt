@@ -7,17 +7,19 @@
 //! bytes::take_while_m_n(2, 3, AsChar::is_dec_digit) | b"12a" | streaming | rest=b"a" value=[49, 50]
 //! bytes::complete::tag("ab") | "a" | complete | error Tag at 0
 //! bytes::streaming::take(4u32) | "\u{e9}" | streaming | incomplete unknown
+//! bytes::escaped_transform(bytes::tag("1"), '\\', bytes::tag("n")) | "11n" | streaming | rest="n" value="11"
 //! ```
 //!
-//! 1. The parser: its path in nom, and its arguments. These are texts, slices, arrays or numbers, as Rust
-//!    writes them, and the tests `AsChar::is_alpha`, `AsChar::is_dec_digit` and `not_digit`, their contrary.
+//! 1. The parser: its path in nom, and its arguments. These are texts, slices, arrays, characters or numbers,
+//!    as Rust writes them, the tests `AsChar::is_alpha`, `AsChar::is_dec_digit` and `not_digit`, the contrary
+//!    of the second, and, as parts of texts with escapes, calls of `tag`, `take_while` and `take_while1`.
 //! 2. The input, a slice of bytes or a text.
 //! 3. The mode that was asked for.
 //! 4. The answer: the rest and the output of an acceptance, the output of bytes as numbers; the kind of a
 //!    refusal, and the length of the front before the input that it holds; or how much more is needed.
 //!
-//! The answers in which this library differs on purpose, and calls with which nom panics, are left out of the
-//! file in `data`: docs/DIFFERENCES.md lists them.
+//! The answers in which this library differs on purpose, and calls with which nom panics or runs for ever, are
+//! left out of the file in `data`: docs/DIFFERENCES.md lists them.
 //!
 //! For each line to which the answer here is another, and for each that can't be read, it prints `differs`
 //! and the number of the line; then how many lines there were, and how many of them were wrong. The
@@ -26,6 +28,7 @@
 
 mod agree;
 mod answer;
+mod arguments;
 mod ask;
 mod line;
 mod list;
