@@ -22,7 +22,7 @@ pub use nom_internal::parser::{Parser, StreamParser};
 pub use nom_internal::sequence::And;
 pub use nom_search::bytes::AsBytes;
 pub use nom_search::character::AsChar;
-pub use nom_search::extend::ExtendInto;
+pub use nom_search::extend::{Builder, ExtendInto};
 pub use nom_search::substring::FindSubstring;
 pub use nom_search::token::FindToken;
 pub use nom_traits::compare::{Compare, CompareResult};

@@ -112,3 +112,21 @@ fn an_empty_piece(rt: HostRuntime) {
         _ => panic!(rt; "refused"),
     }
 }
+
+// In bytes the control character is one byte, whatever its length in UTF-8 is.
+#[test]
+fn a_control_character_past_ascii(rt: HostRuntime) {
+    let input = [b'a', 0xE9, b'n', b';'];
+    let mut text = escaped(
+        take_while1::<_, Error<&[u8]>>(|b: u8| b.is_alpha()),
+        'é',
+        tag::<_, Error<&[u8]>>("n"),
+    );
+    match text.parse_complete(input.as_slice()) {
+        Ok((rest, output)) => {
+            assert!(rt; rest == b";".as_slice());
+            assert!(rt; output == [b'a', 0xE9, b'n'].as_slice());
+        }
+        _ => panic!(rt; "refused"),
+    }
+}

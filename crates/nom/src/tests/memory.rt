@@ -59,7 +59,9 @@ fn each_growth_of_a_text_refused(rt: HostRuntime) -> Result<(), AllocError> {
             Ok((rest, output)) => {
                 accepted = true;
                 assert!(rt; rest == ";");
-                assert!(rt; output.as_str() == "11111111n22222222n33333333n44444444n55555555n66666666");
+                assert!(rt;
+                    output.as_str() == "11111111n22222222n33333333n44444444n55555555n66666666"
+                );
             }
             Err(Err::OutOfMemory) => {
                 refused = refused.saturating_add(1);
