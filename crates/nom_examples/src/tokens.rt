@@ -92,6 +92,10 @@ impl<'a> Input for Tokens<'a> {
         }
     }
 
+    fn item_len(&self, _item: &Token) -> usize {
+        1
+    }
+
     fn iter_elements(&self) -> Copied<Iter<'a, Token>> {
         self.tokens.iter().copied()
     }

@@ -1,5 +1,5 @@
 -- The items of inputs, one by one, each with its place.
-use Rattle.std.proofs.Common.{◌≡◌, ℕ, ◌+◌, ◌++◌, Option, Iter, Some, None, List, [], ◌∷◌, length, sym, ◌∙◌, ap, subst, refl, arith, append_assoc, append-nil, length-append}
+use Rattle.std.proofs.Common.{◌≡◌, ℕ, ◌+◌, ◌≤◌, ◌++◌, Option, Iter, Some, None, List, [], ◌∷◌, length, sym, ◌∙◌, ap, subst, refl, arith, append_assoc, append-nil, length-append}
 use Rattle.std.specs.Prelude.{encode_utf8, encode_utf8_all}
 use Rattle.std.specs.Char.{len_utf8}
 use Rattle.std.specs.Iterator.{AlwaysYields}
@@ -44,59 +44,63 @@ text_placed (c ∷ cs) n s e f = (
       (pair_same x n c (p.0 ∙ sym f) (sym k.0), text_placed cs (n + len_utf8 c) j k.1 (omega (arith, f, p.2, length-encode x.1, ap len_utf8 k.0))),
 )
 
-module _ {I A S : Type 0} (w : Seen I A) (Meets Ends : A → Type 0) (steps : S → Option (ℕ × A) → S → Type 0) where
-  -- the items that were passed all meet the test, and s gives the others
-  pub record IsWalking (i : I) (s : S) : Type 0 where
+module _ {I A S : Type 0} (w : Seen I A) (Meets Ends : A → Type 0) (steps : S → Option A → S → Type 0) where
+  -- the items that were passed all meet the test, a place lies behind them, and s gives the others
+  pub record IsWalking (i : I) (place : ℕ) (s : S) : Type 0 where
     pub passed : List A
     pub rest : List A
     pub whole : w.elements i ≡ passed ++ rest
     pub meets : All Meets passed
-    pub gives : AlwaysYields steps (λ p. p) s (placed w.weight (span w.weight passed) rest)
+    pub place_is : place ≡ span w.weight passed
+    pub gives : AlwaysYields steps (λ x. x) s rest
 
-  pub walk_begins : (i : I) (s : S) → AlwaysYields steps (λ p. p) s (placed w.weight 0 (w.elements i)) → IsWalking i s
-  walk_begins i s h = record { passed = []; rest = w.elements i; whole = refl; meets = All-nil Meets; gives = h }
+  pub walk_begins : (i : I) (s : S) → AlwaysYields steps (λ x. x) s (w.elements i) → IsWalking i 0 s
+  walk_begins i s h = record { passed = []; rest = w.elements i; whole = refl; meets = All-nil Meets; place_is = refl; gives = h }
 
-  -- the next item, with its place
+  -- the next item
   record IsNext (i : I) (n : ℕ) (x : A) (t : S) : Type 0 where
     passed : List A
     rest : List A
     whole : w.elements i ≡ passed ++ (x ∷ rest)
     meets : All Meets passed
     place : n ≡ span w.weight passed
-    gives : AlwaysYields steps (λ p. p) t (placed w.weight (n + w.weight x) rest)
+    gives : AlwaysYields steps (λ x. x) t rest
 
-  next_of : (i : I) (s t : S) (n : ℕ) (x : A) (passed rest : List A) → w.elements i ≡ passed ++ rest → All Meets passed → AlwaysYields steps (λ p. p) s (placed w.weight (span w.weight passed) rest) → steps s (Some (n, x)) t → IsNext i n x t
-  next_of i s t n x passed [] e h g k = absurd (g (n, x) t k)
-  next_of i s t n x passed (y ∷ rest) e h g k =
-      let r = g.1 (n, x) t k in
-      let place : n ≡ span w.weight passed = ap (λ p. p.0) r.0 in
-      let item : x ≡ y = ap (λ p. p.1) r.0 in
-      let gives : AlwaysYields steps (λ p. p) t (placed w.weight (n + w.weight y) rest) = subst (λ m. AlwaysYields steps (λ p. p) t (placed w.weight (m + w.weight y) rest)) (sym place) r.1 in
+  next_of : (i : I) (s t : S) (n : ℕ) (x : A) (passed rest : List A) → w.elements i ≡ passed ++ rest → All Meets passed → n ≡ span w.weight passed → AlwaysYields steps (λ x. x) s rest → steps s (Some x) t → IsNext i n x t
+  next_of i s t n x passed [] e h p g k = absurd (g x t k)
+  next_of i s t n x passed (y ∷ rest) e h p g k =
+      let r = g.1 x t k in
       record {
         passed = passed;
         rest = rest;
-        whole = e ∙ ap (λ z. passed ++ (z ∷ rest)) (sym item);
+        whole = e ∙ ap (λ z. passed ++ (z ∷ rest)) (sym r.0);
         meets = h;
-        place = place;
-        gives = subst (λ z. AlwaysYields steps (λ p. p) t (placed w.weight (n + w.weight z) rest)) (sym item) gives;
+        place = p;
+        gives = r.1;
       }
 
-  next_in : (i : I) (s t : S) (n : ℕ) (x : A) → IsWalking i s → steps s (Some (n, x)) t → IsNext i n x t
-  next_in i s t n x h k = next_of i s t n x h.passed h.rest h.whole h.meets h.gives k
+  next_in : (i : I) (s t : S) (n : ℕ) (x : A) → IsWalking i n s → steps s (Some x) t → IsNext i n x t
+  next_in i s t n x h k = next_of i s t n x h.passed h.rest h.whole h.meets h.place_is h.gives k
 
-  pub walk_goes_on : (i : I) (s t : S) (n : ℕ) (x : A) → IsWalking i s → steps s (Some (n, x)) t → Meets x → IsWalking i t
-  walk_goes_on i s t n x h k m =
+  -- the place behind the next item is within the input
+  pub walk_fits : (i : I) (s t : S) (n m : ℕ) (x : A) → IsWalking i n s → steps s (Some x) t → m ≡ w.weight x → n + m ≤ span w.weight (w.elements i)
+  walk_fits i s t n m x h k e =
       let r = next_in i s t n x h k in
-      let place : n + w.weight x ≡ span w.weight (r.passed ++ (x ∷ [])) = omega (arith, r.place, span-append w.weight r.passed (x ∷ [])) in
+      omega (arith, r.place, e, ap (λ ys. span w.weight ys) r.whole, span-append w.weight r.passed (x ∷ r.rest))
+
+  pub walk_goes_on : (i : I) (s t : S) (n m : ℕ) (x : A) → IsWalking i n s → steps s (Some x) t → m ≡ w.weight x → Meets x → IsWalking i (n + m) t
+  walk_goes_on i s t n m x h k e meets =
+      let r = next_in i s t n x h k in
       record {
         passed = r.passed ++ (x ∷ []);
         rest = r.rest;
         whole = r.whole ∙ sym (append_assoc r.passed (x ∷ []) r.rest);
-        meets = All-append Meets r.passed (x ∷ []) r.meets (All-cons Meets x [] m (All-nil Meets));
-        gives = subst (λ m. AlwaysYields steps (λ p. p) t (placed w.weight m r.rest)) place r.gives;
+        meets = All-append Meets r.passed (x ∷ []) r.meets (All-cons Meets x [] meets (All-nil Meets));
+        place_is = omega (arith, r.place, e, span-append w.weight r.passed (x ∷ []));
+        gives = r.gives;
       }
 
-  pub walk_stops : (i : I) (s t : S) (n : ℕ) (x : A) → IsWalking i s → steps s (Some (n, x)) t → Ends x → IsPosition w Meets Ends i (Some n)
+  pub walk_stops : (i : I) (s t : S) (n : ℕ) (x : A) → IsWalking i n s → steps s (Some x) t → Ends x → IsPosition w Meets Ends i (Some n)
   walk_stops i s t n x h k m =
       let r = next_in i s t n x h k in
       record {
@@ -107,9 +111,9 @@ module _ {I A S : Type 0} (w : Seen I A) (Meets Ends : A → Type 0) (steps : S 
         length_is = sym r.place;
       }
 
-  ends_of : (i : I) (s t : S) (n : ℕ) (passed rest : List A) → w.elements i ≡ passed ++ rest → All Meets passed → AlwaysYields steps (λ p. p) s (placed w.weight n rest) → steps s None t → All Meets (w.elements i)
-  ends_of i s t n passed [] e h g k = subst (All Meets) (sym (e ∙ append-nil passed)) h
-  ends_of i s t n passed (y ∷ rest) e h g k = absurd (g.0 t k)
+  ends_of : (i : I) (s t : S) (passed rest : List A) → w.elements i ≡ passed ++ rest → All Meets passed → AlwaysYields steps (λ x. x) s rest → steps s None t → All Meets (w.elements i)
+  ends_of i s t passed [] e h g k = subst (All Meets) (sym (e ∙ append-nil passed)) h
+  ends_of i s t passed (y ∷ rest) e h g k = absurd (g.0 t k)
 
-  pub walk_ends : (i : I) (s t : S) → IsWalking i s → steps s None t → IsPosition w Meets Ends i None
-  walk_ends i s t h k = ends_of i s t (span w.weight h.passed) h.passed h.rest h.whole h.meets h.gives k
+  pub walk_ends : (i : I) (s t : S) (n : ℕ) → IsWalking i n s → steps s None t → IsPosition w Meets Ends i None
+  walk_ends i s t n h k = ends_of i s t h.passed h.rest h.whole h.meets h.gives k

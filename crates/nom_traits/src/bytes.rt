@@ -60,6 +60,11 @@ impl<'a> Input for &'a [u8] {
     }
 
     #[inline(always)]
+    fn item_len(&self, _item: &u8) -> usize {
+        1
+    }
+
+    #[inline(always)]
     fn iter_elements(&self) -> Copied<Iter<'a, u8>> {
         self.iter().copied()
     }

@@ -82,6 +82,10 @@ pub trait Input: Items {
             (λ n. IsCount Self.seen self.now count n)
             (λ k. (length (Self.seen.elements self.now) < count) × (size_of k ≡ lack count (Self.seen.elements self.now))) };
 
+    /// The length of an item.
+    fn item_len(&self, item: &Self::Item) -> usize
+        ensures { result ≡ Self.seen.weight item.now };
+
     /// The items, one by one.
     fn iter_elements(&self) -> Self::Iter
         ensures gives { AlwaysYields Self.Iter.next_gives (λ x. x) result (Self.seen.elements self.now) }
@@ -114,10 +118,15 @@ pub trait Input: Items {
         requires { P.IsAlwaysCallable predicate }
         ensures { IsPosition Self.seen (λ x. P.post predicate x false) (λ x. P.post predicate x true) self.now result }
     {
-        for (index, item) in self.iter_indices() {
+        // The length is the bound of each place; it is read and not used.
+        let _length = self.input_len();
+        let mut place = 0;
+        for item in self.iter_elements() {
+            let behind = place + self.item_len(&item);
             if predicate(item) {
-                return Some(index);
+                return Some(place);
             }
+            place = behind;
         }
         None
     }

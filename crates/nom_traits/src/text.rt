@@ -61,6 +61,11 @@ impl<'a> Input for &'a str {
     }
 
     #[inline(always)]
+    fn item_len(&self, item: &char) -> usize {
+        item.len_utf8()
+    }
+
+    #[inline(always)]
     fn iter_elements(&self) -> Chars<'a> {
         self.chars()
     }

@@ -63,6 +63,10 @@ impl<'a> Input for Packet<'a> {
         self.bytes.slice_index(count)
     }
 
+    fn item_len(&self, _item: &u8) -> usize {
+        1
+    }
+
     fn iter_elements(&self) -> Copied<Iter<'a, u8>> {
         self.bytes.iter_elements()
     }
