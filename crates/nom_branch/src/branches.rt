@@ -13,7 +13,7 @@ use nom_traits::input::Items;
 /// Two errors, joined where they are built.
 #[inline(always)]
 fn join_errors<I, E: ParseError<I>>(first: Option<E>, second: Option<E>) -> Err<E, Option<E>>
-    ensures { JoinsErrors E.or_gives E.grows first second result }
+    ensures { JoinsErrors E.errors.joined E.errors.grows first second result }
 {
     match first {
         Some(first) => match second {
@@ -33,7 +33,7 @@ fn join<I, T, E: ParseError<I>>(
     first: Option<E>,
     second: Result<T, Err<E, Option<E>>>,
 ) -> Result<T, Err<E, Option<E>>>
-    ensures { JoinsResult E.or_gives E.grows first second result }
+    ensures { JoinsResult E.errors.joined E.errors.grows first second result }
 {
     match second {
         Ok(accepted) => Ok(accepted),
@@ -52,7 +52,7 @@ fn after_refusal<I: Items, P: Parser<I>, OM: OutputMode>(
     input: I,
 ) -> PResult<I, P::Output, P::Error>
     requires { (P.meaning (P.state next.old)).IsSound }
-    ensures shown { ShowsNext I.seen (P.IsOutput (P.state next.old)) P.Error.or_gives P.Error.grows (P.meaning (P.state next.old)) OM.Output.BUILDS OM.Error.BUILDS OM.Incomplete.STREAMING input error result }
+    ensures shown { ShowsNext I.seen (P.IsOutput (P.state next.old)) P.Error.errors.joined P.Error.errors.grows (P.meaning (P.state next.old)) OM.Output.BUILDS OM.Error.BUILDS OM.Incomplete.STREAMING input error result }
     ensures kept { P.state next.new ≡ P.state next.old }
 {
     join(error, next.process::<OM>(input))
@@ -66,7 +66,7 @@ fn next_branch<I: Items, P: Parser<I>, OM: OutputMode>(
     input: I,
 ) -> PResult<I, P::Output, P::Error>
     requires { (P.meaning (P.state next.old)).IsSound }
-    ensures shown { OnError (ShowsNext I.seen (P.IsOutput (P.state next.old)) P.Error.or_gives P.Error.grows (P.meaning (P.state next.old)) OM.Output.BUILDS OM.Error.BUILDS OM.Incomplete.STREAMING input) before result }
+    ensures shown { OnError (ShowsNext I.seen (P.IsOutput (P.state next.old)) P.Error.errors.joined P.Error.errors.grows (P.meaning (P.state next.old)) OM.Output.BUILDS OM.Error.BUILDS OM.Incomplete.STREAMING input) before result }
     ensures kept { P.state next.new ≡ P.state next.old }
 {
     match before {
@@ -85,7 +85,7 @@ fn close_error<I: Drop, E: ParseError<I>>(
     input: I,
     kind: ErrorKind,
 ) -> Err<E, Option<E>>
-    ensures { ClosesError (E.append_gives input kind) E.grows error result }
+    ensures { ClosesError (E.errors.appended input kind) E.errors.grows error result }
 {
     match error {
         Some(error) => match E::append(input, kind, error) {
@@ -103,7 +103,7 @@ fn close<I: Drop, T, E: ParseError<I>>(
     input: I,
     kind: ErrorKind,
 ) -> Result<T, Err<E, Option<E>>>
-    ensures { ClosesResult (E.append_gives input kind) E.grows answer result }
+    ensures { ClosesResult (E.errors.appended input kind) E.errors.grows answer result }
 {
     match answer {
         Ok(accepted) => Ok(accepted),
@@ -137,7 +137,7 @@ impl<I: Items, A: Parser<I>, B: Parser<I, Output = A::Output, Error = A::Error>>
 
     ghost IsOutput = { λ s. EitherOutput (A.IsOutput s.0) (B.IsOutput s.1) };
 
-    ghost meaning = { λ s. closed_meaning (λ i. A.Error.append_gives i Alt) A.Error.grows (either_meaning A.Error.or_gives A.Error.grows (A.meaning s.0) (B.meaning s.1)) };
+    ghost meaning = { λ s. closed_meaning (λ i. A.Error.errors.appended i Alt) A.Error.errors.grows (either_meaning A.Error.errors.joined A.Error.errors.grows (A.meaning s.0) (B.meaning s.1)) };
 
     #[inline(always)]
     fn process<OM: OutputMode>(&mut self, input: I) -> PResult<I, Self::Output, Self::Error> {
@@ -146,7 +146,7 @@ impl<I: Items, A: Parser<I>, B: Parser<I, Output = A::Output, Error = A::Error>>
         close(answer, input, ErrorKind::Alt)
     }
 
-    ghost lawful = { λ s. closed_lawful I.seen (λ i. A.Error.append_gives i Alt) A.Error.grows (either_meaning A.Error.or_gives A.Error.grows (A.meaning s.0) (B.meaning s.1)) (either_lawful I.seen A.Error.or_gives A.Error.grows (A.meaning s.0) (B.meaning s.1) (A.lawful s.0) (B.lawful s.1)) };
+    ghost lawful = { λ s. closed_lawful I.seen (λ i. A.Error.errors.appended i Alt) A.Error.errors.grows (either_meaning A.Error.errors.joined A.Error.errors.grows (A.meaning s.0) (B.meaning s.1)) (either_lawful I.seen A.Error.errors.joined A.Error.errors.grows (A.meaning s.0) (B.meaning s.1) (A.lawful s.0) (B.lawful s.1)) };
 }
 
 impl<
@@ -156,5 +156,5 @@ impl<
 > StreamParser<I> for Choice<(A, B)> {
     ghost use Rattle.nom_internal.specs.ChoiceLaws.{either_steady, closed_steady};
 
-    ghost steady = { λ s. closed_steady I.seen (λ i. A.Error.append_gives i Alt) A.Error.grows (either_meaning A.Error.or_gives A.Error.grows (A.meaning s.0) (B.meaning s.1)) (either_steady I.seen A.Error.or_gives A.Error.grows (A.meaning s.0) (B.meaning s.1) (A.steady s.0) (B.steady s.1)) };
+    ghost steady = { λ s. closed_steady I.seen (λ i. A.Error.errors.appended i Alt) A.Error.errors.grows (either_meaning A.Error.errors.joined A.Error.errors.grows (A.meaning s.0) (B.meaning s.1)) (either_steady I.seen A.Error.errors.joined A.Error.errors.grows (A.meaning s.0) (B.meaning s.1) (A.steady s.0) (B.steady s.1)) };
 }

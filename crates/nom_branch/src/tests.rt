@@ -29,15 +29,13 @@ fn followed(trail: Trail, kind: ErrorKind) -> Trail {
 }
 
 impl<I: Drop> ParseError<I> for Trail {
-    ghost from_error_kind_gives = { λ _ _ _. Unit {0} };
-
-    ghost append_gives = { λ _ _ _ _. Unit {0} };
-
-    ghost from_char_gives = { λ _ _ _. Unit {0} };
-
-    ghost or_gives = { λ _ _ _. Unit {0} };
-
-    ghost grows = { ⊥ };
+    ghost errors = { record {
+        of_kind = λ _ _ _. Unit {0};
+        appended = λ _ _ _ _. Unit {0};
+        of_char = λ _ _ _. Unit {0};
+        joined = λ _ _ _. Unit {0};
+        grows = ⊥;
+    } };
 
     fn from_error_kind(_input: I, kind: ErrorKind) -> Result<Self, OutOfMemory> {
         Ok(followed(Trail { kinds: [None; 4] }, kind))

@@ -67,7 +67,7 @@ impl<I: Input, P: Predicate<I::Item>, E: ParseError<I>> Parser<I> for TakeWhileM
 
     ghost IsOutput = { λ _. IsSeenAs I.seen };
 
-    ghost meaning = { λ s. bounded_meaning I.seen (P.answers s.0) s.2 (P.IsSound s.0) E.from_error_kind_gives E.grows s.1 };
+    ghost meaning = { λ s. bounded_meaning I.seen (P.answers s.0) s.2 (P.IsSound s.0) E.errors.of_kind E.errors.grows s.1 };
 
     #[inline(always)]
     fn process<OM: OutputMode>(&mut self, input: I) -> PResult<I, I, E> {
@@ -91,11 +91,11 @@ impl<I: Input, P: Predicate<I::Item>, E: ParseError<I>> Parser<I> for TakeWhileM
         }
     }
 
-    ghost lawful = { λ s. bounded_lawful I.seen I.Item.IsValue I.values (P.answers s.0) (P.IsSound s.0) (P.fixed s.0) E.from_error_kind_gives E.grows s.2 s.1 };
+    ghost lawful = { λ s. bounded_lawful I.seen I.Item.IsValue I.values (P.answers s.0) (P.IsSound s.0) (P.fixed s.0) E.errors.of_kind E.errors.grows s.2 s.1 };
 }
 
 impl<I: Input, P: Predicate<I::Item>, E: ParseError<I>> StreamParser<I> for TakeWhileMN<P, E> {
-    ghost steady = { λ s. bounded_steady I.seen I.Item.IsValue I.values (P.answers s.0) (P.IsSound s.0) (P.fixed s.0) E.from_error_kind_gives E.grows s.2 s.1 };
+    ghost steady = { λ s. bounded_steady I.seen I.Item.IsValue I.values (P.answers s.0) (P.IsSound s.0) (P.fixed s.0) E.errors.of_kind E.errors.grows s.2 s.1 };
 }
 
 /// The first items that meet the test, `m` at least and `n` at most.

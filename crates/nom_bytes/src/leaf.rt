@@ -36,7 +36,7 @@ impl<I: Input, E: ParseError<I>> Parser<I> for Take<E> {
 
     ghost IsOutput = { λ _. IsSeenAs I.seen };
 
-    ghost meaning = { λ count. take_meaning I.seen E.from_error_kind_gives E.grows I.lack count };
+    ghost meaning = { λ count. take_meaning I.seen E.errors.of_kind E.errors.grows I.lack count };
 
     #[inline(always)]
     fn process<OM: OutputMode>(&mut self, input: I) -> PResult<I, I, E> {
@@ -47,11 +47,11 @@ impl<I: Input, E: ParseError<I>> Parser<I> for Take<E> {
         }
     }
 
-    ghost lawful = { take_lawful I.seen E.from_error_kind_gives E.grows I.lack };
+    ghost lawful = { take_lawful I.seen E.errors.of_kind E.errors.grows I.lack };
 }
 
 impl<I: Input, E: ParseError<I>> StreamParser<I> for Take<E> {
-    ghost steady = { take_steady I.seen E.from_error_kind_gives E.grows I.lack };
+    ghost steady = { take_steady I.seen E.errors.of_kind E.errors.grows I.lack };
 }
 
 /// A tag, made by `tag`.
@@ -75,7 +75,7 @@ impl<T: Copy, I: Input + Compare<T>, E: ParseError<I>> Parser<I> for Tag<T, E> {
 
     ghost IsOutput = { λ _. IsSeenAs I.seen };
 
-    ghost meaning = { λ tag. tag_meaning I.seen E.from_error_kind_gives E.grows I.tag_size I.compares tag };
+    ghost meaning = { λ tag. tag_meaning I.seen E.errors.of_kind E.errors.grows I.tag_size I.compares tag };
 
     #[inline(always)]
     fn process<OM: OutputMode>(&mut self, input: I) -> PResult<I, I, E> {
@@ -94,9 +94,9 @@ impl<T: Copy, I: Input + Compare<T>, E: ParseError<I>> Parser<I> for Tag<T, E> {
         }
     }
 
-    ghost lawful = { tag_lawful I.seen I.lawful E.from_error_kind_gives E.grows I.tag_size I.compares I.comparing };
+    ghost lawful = { tag_lawful I.seen I.lawful E.errors.of_kind E.errors.grows I.tag_size I.compares I.comparing };
 }
 
 impl<T: Copy, I: Input + Compare<T>, E: ParseError<I>> StreamParser<I> for Tag<T, E> {
-    ghost steady = { tag_steady I.seen I.lawful E.from_error_kind_gives E.grows I.tag_size I.compares I.comparing };
+    ghost steady = { tag_steady I.seen I.lawful E.errors.of_kind E.errors.grows I.tag_size I.compares I.comparing };
 }

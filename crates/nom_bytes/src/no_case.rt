@@ -34,7 +34,7 @@ impl<T: Copy, I: Input + Compare<T>, E: ParseError<I>> Parser<I> for TagNoCase<T
 
     ghost IsOutput = { λ _. IsSeenAs I.seen };
 
-    ghost meaning = { λ tag. tag_meaning I.seen E.from_error_kind_gives E.grows I.tag_size I.compares_no_case tag };
+    ghost meaning = { λ tag. tag_meaning I.seen E.errors.of_kind E.errors.grows I.tag_size I.compares_no_case tag };
 
     #[inline(always)]
     fn process<OM: OutputMode>(&mut self, input: I) -> PResult<I, I, E> {
@@ -53,9 +53,9 @@ impl<T: Copy, I: Input + Compare<T>, E: ParseError<I>> Parser<I> for TagNoCase<T
         }
     }
 
-    ghost lawful = { tag_lawful I.seen I.lawful E.from_error_kind_gives E.grows I.tag_size I.compares_no_case I.comparing_no_case };
+    ghost lawful = { tag_lawful I.seen I.lawful E.errors.of_kind E.errors.grows I.tag_size I.compares_no_case I.comparing_no_case };
 }
 
 impl<T: Copy, I: Input + Compare<T>, E: ParseError<I>> StreamParser<I> for TagNoCase<T, E> {
-    ghost steady = { tag_steady I.seen I.lawful E.from_error_kind_gives E.grows I.tag_size I.compares_no_case I.comparing_no_case };
+    ghost steady = { tag_steady I.seen I.lawful E.errors.of_kind E.errors.grows I.tag_size I.compares_no_case I.comparing_no_case };
 }

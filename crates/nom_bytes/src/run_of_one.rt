@@ -37,7 +37,7 @@ impl<I: Input, P: Predicate<I::Item>, E: ParseError<I>> Parser<I> for SplitPosit
 
     ghost IsOutput = { λ _. IsSeenAs I.seen };
 
-    ghost meaning = { λ s. run_meaning I.seen (P.answers s.0) (P.IsSound s.0) (λ i. E.from_error_kind_gives i s.1) E.grows 1 };
+    ghost meaning = { λ s. run_meaning I.seen (P.answers s.0) (P.IsSound s.0) (λ i. E.errors.of_kind i s.1) E.errors.grows 1 };
 
     #[inline(always)]
     fn process<OM: OutputMode>(&mut self, input: I) -> PResult<I, I, E> {
@@ -48,11 +48,11 @@ impl<I: Input, P: Predicate<I::Item>, E: ParseError<I>> Parser<I> for SplitPosit
         }
     }
 
-    ghost lawful = { λ s. run_lawful I.seen I.lawful I.Item.IsValue I.values (P.answers s.0) (P.IsSound s.0) (P.fixed s.0) (λ i. E.from_error_kind_gives i s.1) E.grows 1 };
+    ghost lawful = { λ s. run_lawful I.seen I.lawful I.Item.IsValue I.values (P.answers s.0) (P.IsSound s.0) (P.fixed s.0) (λ i. E.errors.of_kind i s.1) E.errors.grows 1 };
 }
 
 impl<I: Input, P: Predicate<I::Item>, E: ParseError<I>> StreamParser<I> for SplitPosition1<P, E> {
-    ghost steady = { λ s. run_steady I.seen I.lawful I.Item.IsValue I.values (P.answers s.0) (P.IsSound s.0) (P.fixed s.0) (λ i. E.from_error_kind_gives i s.1) E.grows 1 };
+    ghost steady = { λ s. run_steady I.seen I.lawful I.Item.IsValue I.values (P.answers s.0) (P.IsSound s.0) (P.fixed s.0) (λ i. E.errors.of_kind i s.1) E.errors.grows 1 };
 }
 
 /// `take_while`, one item at least: where the first doesn't meet the test, it refuses with

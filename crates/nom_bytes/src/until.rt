@@ -35,7 +35,7 @@ impl<T: Copy, I: Input + FindSubstring<T>, E: ParseError<I>> Parser<I> for TakeU
 
     ghost IsOutput = { λ _. IsSeenAs I.seen };
 
-    ghost meaning = { λ needle. until_meaning I.seen E.from_error_kind_gives E.grows I.finds false needle };
+    ghost meaning = { λ needle. until_meaning I.seen E.errors.of_kind E.errors.grows I.finds false needle };
 
     #[inline(always)]
     fn process<OM: OutputMode>(&mut self, input: I) -> PResult<I, I, E> {
@@ -46,11 +46,11 @@ impl<T: Copy, I: Input + FindSubstring<T>, E: ParseError<I>> Parser<I> for TakeU
         }
     }
 
-    ghost lawful = { until_lawful I.seen I.lawful E.from_error_kind_gives E.grows I.finds I.finding false };
+    ghost lawful = { until_lawful I.seen I.lawful E.errors.of_kind E.errors.grows I.finds I.finding false };
 }
 
 impl<T: Copy, I: Input + FindSubstring<T>, E: ParseError<I>> StreamParser<I> for TakeUntil<T, E> {
-    ghost steady = { until_steady I.seen I.lawful E.from_error_kind_gives E.grows I.finds I.finding false };
+    ghost steady = { until_steady I.seen I.lawful E.errors.of_kind E.errors.grows I.finds I.finding false };
 }
 
 /// The items up to the first place of a needle, at least one; made by `take_until1`.
@@ -74,7 +74,7 @@ impl<T: Copy, I: Input + FindSubstring<T>, E: ParseError<I>> Parser<I> for TakeU
 
     ghost IsOutput = { λ _. IsSeenAs I.seen };
 
-    ghost meaning = { λ needle. until_meaning I.seen E.from_error_kind_gives E.grows I.finds true needle };
+    ghost meaning = { λ needle. until_meaning I.seen E.errors.of_kind E.errors.grows I.finds true needle };
 
     #[inline(always)]
     fn process<OM: OutputMode>(&mut self, input: I) -> PResult<I, I, E> {
@@ -86,9 +86,9 @@ impl<T: Copy, I: Input + FindSubstring<T>, E: ParseError<I>> Parser<I> for TakeU
         }
     }
 
-    ghost lawful = { until_lawful I.seen I.lawful E.from_error_kind_gives E.grows I.finds I.finding true };
+    ghost lawful = { until_lawful I.seen I.lawful E.errors.of_kind E.errors.grows I.finds I.finding true };
 }
 
 impl<T: Copy, I: Input + FindSubstring<T>, E: ParseError<I>> StreamParser<I> for TakeUntil1<T, E> {
-    ghost steady = { until_steady I.seen I.lawful E.from_error_kind_gives E.grows I.finds I.finding true };
+    ghost steady = { until_steady I.seen I.lawful E.errors.of_kind E.errors.grows I.finds I.finding true };
 }

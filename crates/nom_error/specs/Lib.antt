@@ -1,3 +1,4 @@
 pub mod Answers
+pub mod Errors
 pub mod Kinds
 pub mod Modes

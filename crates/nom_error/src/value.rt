@@ -4,6 +4,7 @@ ghost use Rattle.std.specs.Fmt.{◌++?◌};
 ghost use Rattle.nom_error.specs.declared.kind.ErrorKind.{ErrorKind};
 ghost use Rattle.nom_error.specs.declared.kind.ErrorKind.TheVariants.{Char};
 ghost use Rattle.nom_error.specs.Answers.{Refuses};
+ghost use Rattle.nom_error.specs.Errors.{Errors};
 ghost use Rattle.nom_error.specs.Kinds.{name_of};
 
 use crate::answer::{Err, OutOfMemory};
@@ -11,35 +12,22 @@ use crate::kind::ErrorKind;
 use crate::mode::Mode;
 use std::fmt;
 
-/// An error type of parsers over inputs of type `I`. Each function has a ghost relation that says what
-/// it gives, and may answer `OutOfMemory` where `grows` holds.
+/// An error type of parsers over inputs of type `I`. `errors` says what each function gives; it may answer
+/// `OutOfMemory` where `grows` holds.
 pub trait ParseError<I>: Drop + Sized {
-    /// The error for a kind at an input.
-    ghost from_error_kind_gives: { I → ErrorKind → Self → Type 0 };
-
-    /// The error that adds a kind at an input to one from below.
-    ghost append_gives: { I → ErrorKind → Self → Self → Type 0 };
-
-    /// The error for a character that was wanted at an input.
-    ghost from_char_gives: { I → ℕ → Self → Type 0 };
-
-    /// The error of two branches, the first tried first.
-    ghost or_gives: { Self → Self → Self → Type 0 };
-
-    /// Whether making one may take memory.
-    ghost grows: { Type 0 };
+    ghost errors: { Errors I Self };
 
     fn from_error_kind(input: I, kind: ErrorKind) -> Result<Self, OutOfMemory>
-        ensures { MatchResult result (from_error_kind_gives input kind) (λ _. grows) };
+        ensures { MatchResult result (errors.of_kind input kind) (λ _. errors.grows) };
 
     fn append(input: I, kind: ErrorKind, other: Self) -> Result<Self, OutOfMemory>
-        ensures { MatchResult result (append_gives input kind other) (λ _. grows) };
+        ensures { MatchResult result (errors.appended input kind other) (λ _. errors.grows) };
 
     fn from_char(input: I, wanted: char) -> Result<Self, OutOfMemory>
-        ensures { MatchResult result (from_char_gives input wanted) (λ _. grows) };
+        ensures { MatchResult result (errors.of_char input wanted) (λ _. errors.grows) };
 
     fn or(self, other: Self) -> Result<Self, OutOfMemory>
-        ensures { MatchResult result (or_gives self other) (λ _. grows) };
+        ensures { MatchResult result (errors.joined self other) (λ _. errors.grows) };
 }
 
 /// The error type that parsers have where no other is asked for: the input at which a parser refused,
@@ -59,17 +47,14 @@ impl<I> Error<I> {
 }
 
 impl<I: Drop> ParseError<I> for Error<I> {
-    ghost from_error_kind_gives = { λ i k e. e ≡ record { input = i; code = k } };
-
-    // The error from below is kept.
-    ghost append_gives = { λ _ _ other e. e ≡ other };
-
-    ghost from_char_gives = { λ i _ e. e ≡ record { input = i; code = Char } };
-
-    // The second error is kept.
-    ghost or_gives = { λ _ other e. e ≡ other };
-
-    ghost grows = { ⊥ };
+    // The error from below is kept, and of two the second.
+    ghost errors = { record {
+        of_kind = λ i k e. e ≡ record { input = i; code = k };
+        appended = λ _ _ other e. e ≡ other;
+        of_char = λ i _ e. e ≡ record { input = i; code = Char };
+        joined = λ _ other e. e ≡ other;
+        grows = ⊥;
+    } };
 
     #[inline(always)]
     fn from_error_kind(input: I, kind: ErrorKind) -> Result<Self, OutOfMemory> {
@@ -106,7 +91,7 @@ impl<I: fmt::Display> fmt::Display for Error<I> {
 /// A refusal of a kind at an input, with its error where errors are built.
 #[inline(always)]
 pub fn refusal<M: Mode, I: Drop, E: ParseError<I>>(input: I, kind: ErrorKind) -> Err<E, Option<E>>
-    ensures { Refuses (E.from_error_kind_gives input kind) E.grows M.BUILDS result }
+    ensures { Refuses (E.errors.of_kind input kind) E.errors.grows M.BUILDS result }
 {
     if M::BUILDS {
         match E::from_error_kind(input, kind) {

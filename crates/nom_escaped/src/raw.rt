@@ -40,7 +40,7 @@ where
 
     ghost IsOutput = { λ _. IsSeenAs I.seen };
 
-    ghost meaning = { λ s. escaped_meaning I.seen F.Error.from_error_kind_gives F.Error.grows (λ x. I.Item.code x ≡ s.1) (F.meaning s.0) (G.meaning s.2) };
+    ghost meaning = { λ s. escaped_meaning I.seen F.Error.errors.of_kind F.Error.errors.grows (λ x. I.Item.code x ≡ s.1) (F.meaning s.0) (G.meaning s.2) };
 
     #[inline]
     fn process<OM: OutputMode>(&mut self, input: I) -> PResult<I, I, F::Error> {
@@ -76,7 +76,7 @@ where
         }
     }
 
-    ghost lawful = { λ s. escaped_lawful I.seen I.lawful F.Error.from_error_kind_gives F.Error.grows (λ x. I.Item.code x ≡ s.1) (F.meaning s.0) (G.meaning s.2) (F.lawful s.0) (G.lawful s.2) };
+    ghost lawful = { λ s. escaped_lawful I.seen I.lawful F.Error.errors.of_kind F.Error.errors.grows (λ x. I.Item.code x ≡ s.1) (F.meaning s.0) (G.meaning s.2) (F.lawful s.0) (G.lawful s.2) };
 }
 
 impl<I: Input, F: StreamParser<I> + Drop, G: StreamParser<I, Error = F::Error> + Drop> StreamParser<
@@ -87,5 +87,5 @@ where
 {
     ghost use Rattle.nom_escaped.specs.EscapeLaws.{escaped_steady};
 
-    ghost steady = { λ s. escaped_steady I.seen I.lawful F.Error.from_error_kind_gives F.Error.grows (λ x. I.Item.code x ≡ s.1) (F.meaning s.0) (G.meaning s.2) (F.steady s.0) (G.steady s.2) };
+    ghost steady = { λ s. escaped_steady I.seen I.lawful F.Error.errors.of_kind F.Error.errors.grows (λ x. I.Item.code x ≡ s.1) (F.meaning s.0) (G.meaning s.2) (F.steady s.0) (G.steady s.2) };
 }

@@ -98,7 +98,7 @@ where
 
     ghost IsOutput = { λ s vs text. AddAll (F.IsOutput s.0) (G.IsOutput s.2) F.Output.added G.Output.added vs (X.parts text) };
 
-    ghost meaning = { λ s. escaped_transform_meaning I.seen F.Error.from_error_kind_gives F.Error.grows (λ x. C.code x ≡ s.1) (F.meaning s.0) (G.meaning s.2) };
+    ghost meaning = { λ s. escaped_transform_meaning I.seen F.Error.errors.of_kind F.Error.errors.grows (λ x. C.code x ≡ s.1) (F.meaning s.0) (G.meaning s.2) };
 
     #[inline]
     fn process<OM: OutputMode>(&mut self, input: I) -> PResult<I, X, F::Error> {
@@ -143,7 +143,7 @@ where
         }
     }
 
-    ghost lawful = { λ s. escaped_transform_lawful I.seen I.lawful F.Error.from_error_kind_gives F.Error.grows (λ x. C.code x ≡ s.1) (F.meaning s.0) (G.meaning s.2) (F.lawful s.0) (G.lawful s.2) };
+    ghost lawful = { λ s. escaped_transform_lawful I.seen I.lawful F.Error.errors.of_kind F.Error.errors.grows (λ x. C.code x ≡ s.1) (F.meaning s.0) (G.meaning s.2) (F.lawful s.0) (G.lawful s.2) };
 }
 
 impl<
@@ -160,5 +160,5 @@ where
 {
     ghost use Rattle.nom_escaped.specs.EscapeLaws.{escaped_transform_steady};
 
-    ghost steady = { λ s. escaped_transform_steady I.seen I.lawful F.Error.from_error_kind_gives F.Error.grows (λ x. C.code x ≡ s.1) (F.meaning s.0) (G.meaning s.2) (F.steady s.0) (G.steady s.2) };
+    ghost steady = { λ s. escaped_transform_steady I.seen I.lawful F.Error.errors.of_kind F.Error.errors.grows (λ x. C.code x ≡ s.1) (F.meaning s.0) (G.meaning s.2) (F.steady s.0) (G.steady s.2) };
 }

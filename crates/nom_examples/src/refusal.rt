@@ -16,15 +16,13 @@ impl ParseError<Tokens<'_>> for Refusal {
     ghost use Rattle.nom_examples.specs.Further.{further};
     ghost use Rattle.nom_error.specs.declared.kind.ErrorKind.TheVariants.{Char};
 
-    ghost from_error_kind_gives = { λ i k e. e ≡ record { left = length i.tokens.now; kind = k } };
-
-    ghost append_gives = { λ _ _ other e. e ≡ other };
-
-    ghost from_char_gives = { λ i _ e. e ≡ record { left = length i.tokens.now; kind = Char } };
-
-    ghost or_gives = { λ first second e. e ≡ further first second };
-
-    ghost grows = { ⊥ };
+    ghost errors = { record {
+        of_kind = λ i k e. e ≡ record { left = length i.tokens.now; kind = k };
+        appended = λ _ _ other e. e ≡ other;
+        of_char = λ i _ e. e ≡ record { left = length i.tokens.now; kind = Char };
+        joined = λ first second e. e ≡ further first second;
+        grows = ⊥;
+    } };
 
     fn from_error_kind(input: Tokens<'_>, kind: ErrorKind) -> Result<Self, OutOfMemory> {
         Ok(Refusal {

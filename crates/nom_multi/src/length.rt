@@ -32,7 +32,7 @@ impl<I: Input, F: Parser<I, Output = u8> + Drop> Parser<I> for LengthData<F> {
 
     ghost IsOutput = { λ s t o. IsSeenAs I.seen t.1 o };
 
-    ghost meaning = { λ s. length_data_meaning I.seen F.Error.from_error_kind_gives F.Error.grows I.lack (F.IsOutput s) (F.meaning s) };
+    ghost meaning = { λ s. length_data_meaning I.seen F.Error.errors.of_kind F.Error.errors.grows I.lack (F.IsOutput s) (F.meaning s) };
 
     #[inline(always)]
     fn process<OM: OutputMode>(&mut self, input: I) -> PResult<I, I, F::Error> {
@@ -48,11 +48,11 @@ impl<I: Input, F: Parser<I, Output = u8> + Drop> Parser<I> for LengthData<F> {
         }
     }
 
-    ghost lawful = { λ s. length_data_lawful I.seen I.lawful F.Error.from_error_kind_gives F.Error.grows I.lack (F.IsOutput s) (F.meaning s) (F.lawful s) };
+    ghost lawful = { λ s. length_data_lawful I.seen I.lawful F.Error.errors.of_kind F.Error.errors.grows I.lack (F.IsOutput s) (F.meaning s) (F.lawful s) };
 }
 
 impl<I: Input, F: StreamParser<I, Output = u8> + Drop> StreamParser<I> for LengthData<F> {
     ghost use Rattle.nom_multi.specs.LengthLaws.{length_data_steady};
 
-    ghost steady = { λ s. length_data_steady I.seen I.lawful F.Error.from_error_kind_gives F.Error.grows I.lack (F.IsOutput s) (F.meaning s) (F.steady s) };
+    ghost steady = { λ s. length_data_steady I.seen I.lawful F.Error.errors.of_kind F.Error.errors.grows I.lack (F.IsOutput s) (F.meaning s) (F.steady s) };
 }

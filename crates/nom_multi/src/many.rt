@@ -35,7 +35,7 @@ impl<I: Input, A: Allocator + Copy, F: Parser<I> + Drop> Parser<I> for Many0<A, 
 
     ghost IsOutput = { λ s vs o. AllZip (F.IsOutput s) vs o.items };
 
-    ghost meaning = { λ s. many0_meaning I.seen F.Error.from_error_kind_gives F.Error.grows (F.meaning s) };
+    ghost meaning = { λ s. many0_meaning I.seen F.Error.errors.of_kind F.Error.errors.grows (F.meaning s) };
 
     #[inline]
     fn process<OM: OutputMode>(&mut self, input: I) -> PResult<I, Self::Output, Self::Error> {
@@ -64,13 +64,13 @@ impl<I: Input, A: Allocator + Copy, F: Parser<I> + Drop> Parser<I> for Many0<A, 
         }
     }
 
-    ghost lawful = { λ s. many0_lawful I.seen I.lawful F.Error.from_error_kind_gives F.Error.grows (F.meaning s) (F.lawful s) };
+    ghost lawful = { λ s. many0_lawful I.seen I.lawful F.Error.errors.of_kind F.Error.errors.grows (F.meaning s) (F.lawful s) };
 }
 
 impl<I: Input, A: Allocator + Copy, F: StreamParser<I> + Drop> StreamParser<I> for Many0<A, F> {
     ghost use Rattle.nom_multi.specs.ManyLaws.{many0_steady};
 
-    ghost steady = { λ s. many0_steady I.seen I.lawful F.Error.from_error_kind_gives F.Error.grows (F.meaning s) (F.steady s) };
+    ghost steady = { λ s. many0_steady I.seen I.lawful F.Error.errors.of_kind F.Error.errors.grows (F.meaning s) (F.steady s) };
 }
 
 /// A list of no items, where a list is built; it takes no memory.

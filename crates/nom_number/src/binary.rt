@@ -45,7 +45,7 @@ impl<I: Input<Item = u8>, E: ParseError<I>> Parser<I> for BeU8<E> {
 
     ghost IsOutput = { λ _ t v. v ≡ t };
 
-    ghost meaning = { λ _. number_meaning I.seen E.from_error_kind_gives E.grows I.lack (value_of 256) 1 };
+    ghost meaning = { λ _. number_meaning I.seen E.errors.of_kind E.errors.grows I.lack (value_of 256) 1 };
 
     #[inline(always)]
     fn process<OM: OutputMode>(&mut self, input: I) -> PResult<I, u8, E> {
@@ -56,9 +56,9 @@ impl<I: Input<Item = u8>, E: ParseError<I>> Parser<I> for BeU8<E> {
         }
     }
 
-    ghost lawful = { λ _. labelled_lawful I.seen (λ t. value_of 256 t.items) _ (take_lawful I.seen E.from_error_kind_gives E.grows I.lack 1) };
+    ghost lawful = { λ _. labelled_lawful I.seen (λ t. value_of 256 t.items) _ (take_lawful I.seen E.errors.of_kind E.errors.grows I.lack 1) };
 }
 
 impl<I: Input<Item = u8>, E: ParseError<I>> StreamParser<I> for BeU8<E> {
-    ghost steady = { λ _. labelled_steady I.seen (λ t. value_of 256 t.items) _ (take_steady I.seen E.from_error_kind_gives E.grows I.lack 1) };
+    ghost steady = { λ _. labelled_steady I.seen (λ t. value_of 256 t.items) _ (take_steady I.seen E.errors.of_kind E.errors.grows I.lack 1) };
 }

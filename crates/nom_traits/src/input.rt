@@ -155,7 +155,7 @@ pub trait Input: Items {
         kind: ErrorKind,
     ) -> IResult<Self, Self, E>
         requires { P.IsAlwaysCallable predicate }
-        ensures { Splits Self.seen (λ x. P.post predicate x false) (λ x. P.post predicate x true) true self.now true (IsFront Self.seen) (RefusesWith (E.from_error_kind_gives self.now kind) E.grows) result }
+        ensures { Splits Self.seen (λ x. P.post predicate x false) (λ x. P.post predicate x true) true self.now true (IsFront Self.seen) (RefusesWith (E.errors.of_kind self.now kind) E.errors.grows) result }
     {
         match run_len::<Self, Streaming, P>(*self, predicate) {
             Some(n) if n == 0 => Err(refused(*self, kind)),
@@ -188,7 +188,7 @@ pub trait Input: Items {
         kind: ErrorKind,
     ) -> IResult<Self, Self, E>
         requires { P.IsAlwaysCallable predicate }
-        ensures { Splits Self.seen (λ x. P.post predicate x false) (λ x. P.post predicate x true) false self.now true (IsFront Self.seen) (RefusesWith (E.from_error_kind_gives self.now kind) E.grows) result }
+        ensures { Splits Self.seen (λ x. P.post predicate x false) (λ x. P.post predicate x true) false self.now true (IsFront Self.seen) (RefusesWith (E.errors.of_kind self.now kind) E.errors.grows) result }
     {
         match run_len::<Self, Complete, P>(*self, predicate) {
             Some(n) if n == 0 => Err(refused(*self, kind)),
@@ -222,7 +222,7 @@ pub trait Input: Items {
         E: ParseError<Self>,
     >(&self, predicate: P, kind: ErrorKind) -> PResult<Self, Self, E>
         requires { P.IsAlwaysCallable predicate }
-        ensures { Splits Self.seen (λ x. P.post predicate x false) (λ x. P.post predicate x true) OM.Incomplete.STREAMING self.now true (FrontBuilt Self.seen OM.Output.BUILDS) (Refuses (E.from_error_kind_gives self.now kind) E.grows OM.Error.BUILDS) result }
+        ensures { Splits Self.seen (λ x. P.post predicate x false) (λ x. P.post predicate x true) OM.Incomplete.STREAMING self.now true (FrontBuilt Self.seen OM.Output.BUILDS) (Refuses (E.errors.of_kind self.now kind) E.errors.grows OM.Error.BUILDS) result }
     {
         match run_len::<Self, OM::Incomplete, P>(*self, predicate) {
             Some(n) if n == 0 => Err(refusal::<OM::Error, Self, E>(*self, kind)),

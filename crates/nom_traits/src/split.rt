@@ -44,7 +44,7 @@ pub fn front_built<M: Mode, I: Input>(input: I, index: usize) -> Option<I>
 /// A refusal of a kind at an input.
 #[inline(always)]
 pub fn refused<I: Drop, E: ParseError<I>>(input: I, kind: ErrorKind) -> Err<E>
-    ensures { RefusesWith (E.from_error_kind_gives input kind) E.grows result }
+    ensures { RefusesWith (E.errors.of_kind input kind) E.errors.grows result }
 {
     match E::from_error_kind(input, kind) {
         Ok(error) => Err::Error(error),

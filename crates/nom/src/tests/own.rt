@@ -116,15 +116,13 @@ struct Refusal {
 }
 
 impl ParseError<Packet<'_>> for Refusal {
-    ghost from_error_kind_gives = { λ i k e. e ≡ record { left = length i.bytes.now; kind = k } };
-
-    ghost append_gives = { λ _ _ other e. e ≡ other };
-
-    ghost from_char_gives = { λ _ _ _. Unit {0} };
-
-    ghost or_gives = { λ first _ e. e ≡ first };
-
-    ghost grows = { ⊥ };
+    ghost errors = { record {
+        of_kind = λ i k e. e ≡ record { left = length i.bytes.now; kind = k };
+        appended = λ _ _ other e. e ≡ other;
+        of_char = λ _ _ _. Unit {0};
+        joined = λ first _ e. e ≡ first;
+        grows = ⊥;
+    } };
 
     fn from_error_kind(input: Packet<'_>, kind: ErrorKind) -> Result<Self, OutOfMemory> {
         Ok(Refusal {

@@ -6,8 +6,8 @@ use Rattle.nom_branch.proofs.branches.ChoiceTuple2Parser.process.Goals as goal
 pub returns-clause-shown : goal.returns-clause-shown
 returns-clause-shown g c =
     let w = g.I.Items.seen in
-    let joins = g.A.Error.ParseError.or_gives in
-    let grows = g.A.Error.ParseError.grows in
+    let joins = g.A.Error.ParseError.errors.joined in
+    let grows = g.A.Error.ParseError.errors.grows in
     let outputs = g.OM.Output.Mode.BUILDS in
     let errors = g.OM.Error.Mode.BUILDS in
     let s = g.OM.Incomplete.IsStreaming.STREAMING in
@@ -18,4 +18,4 @@ returns-clause-shown g c =
     let m1 = g.B.Parser.meaning (g.B.Parser.state p.1) in
     let o1 = g.B.Parser.IsOutput (g.B.Parser.state p.1) in
     let t1 = either_shown w o0 o1 joins grows m0 m1 outputs errors s i c.process-answer.result c.next_branch-answer.result c.process-answer.ensures.shown c.next_branch-answer.ensures.shown in
-    closed_shown w (EitherOutput o0 o1) outputs errors s i (either_meaning joins grows m0 m1) (λ i. g.A.Error.ParseError.append_gives i Alt) grows c.next_branch-answer.result c.close.result t1 c.close.ensures
+    closed_shown w (EitherOutput o0 o1) outputs errors s i (either_meaning joins grows m0 m1) (λ i. g.A.Error.ParseError.errors.appended i Alt) grows c.next_branch-answer.result c.close.result t1 c.close.ensures
