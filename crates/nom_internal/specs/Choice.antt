@@ -1,41 +1,18 @@
 -- Choice: the first outcome that isn't a refusal. Where all branches refuse, their errors are joined by `or` from left to
--- right. A closed choice then passes that error to `append` at the start.
-use Rattle.std.specs.Prelude.{◌≡◌, ℕ, ◌+◌, Bool, true, List, [], ◌∷◌, Result, Ok, Err, Option, Some, None, ◌⊎◌}
-use Rattle.std.proofs.Common.{inl, inr, zero, suc}
+-- right; or the first's is dropped. A closed choice passes that error to `append` at the start.
+use Rattle.std.specs.Prelude.{◌≡◌, Bool, true, false, Result, Ok, Err, Option, Some, None, ◌⊎◌}
+use Rattle.std.proofs.Common.{inl, inr}
+use Rattle.nom_error.specs.Errors.{Errors}
 use Rattle.nom_error.specs.declared.answer.Needed.{Needed}
 use Rattle.nom_error.specs.declared.answer.Err as Answer
 use Rattle.nom_error.specs.declared.answer.Err.TheVariants.{Incomplete, Error, Failure, OutOfMemory}
 use Rattle.nom_error.specs.Answers.{Refuses}
 use Rattle.nom_error.specs.Modes.{Built}
 use Rattle.nom_traits.specs.Input.{Seen}
-use Rattle.nom_internal.specs.Outcome.{Outcome, ShowsAnswer, IsFailure, OnOutcome}
+use Rattle.nom_internal.specs.Outcome.{Outcome, ShowsAnswer, IsFailure, IsFault, OnOutcome}
 use Rattle.nom_internal.specs.Outcome.Outcome.{Accept, Refuse, Fail, TooLarge, Undecided}
 use Rattle.nom_internal.specs.Meaning.{Meaning}
-
--- an outcome with its tree labelled, by which branch it comes from
-abbrev pub labelled : {P T : Type 0} → (P → T) → Outcome P → Outcome T
-labelled label (Accept n v) = Accept n (label v)
-labelled label Refuse = Refuse
-labelled label Fail = Fail
-labelled label TooLarge = TooLarge
-labelled label (Undecided k) = Undecided k
-
--- what a part answers, with its trees labelled
-pub record Labelled {I P T : Type 0} (label : P → T) (Part : I → Outcome P → Type 0) (i : I) (o : Outcome T) : Type 0 where
-  pub outcome : Outcome P
-  pub answered : Part i outcome
-  pub is : o ≡ labelled label outcome
-
--- a part with its trees labelled
-abbrev pub labelled_meaning : {I P T E : Type 0} → (P → T) → Meaning I P E → Meaning I T E
-labelled_meaning label m = record {
-  IsSound = m.IsSound;
-  answers = λ s. Labelled label (m.answers s);
-  blames = m.blames;
-  runs_out = m.runs_out;
-  IsFrugal = m.IsFrugal;
-  Settles = m.Settles;
-}
+use Rattle.nom_internal.specs.Cases.{labelled_meaning}
 
 -- how a first outcome goes on: a refusal by what follows it, and else as it is
 abbrev pub GoesOnRefused : {V : Type 0} → (Outcome V → Type 0) → Outcome V → Outcome V → Type 0
@@ -83,69 +60,34 @@ or_meaning Joins Grows a b = record {
   runs_out = λ outputs errors s i. a.runs_out outputs errors s i ⊎ (a.answers s i Refuse × NextRunsOut Grows b outputs errors s i);
   IsFrugal = λ outputs errors. a.IsFrugal outputs errors × b.IsFrugal outputs errors × (errors ≡ true → Grows → ⊥);
   Settles = a.Settles × b.Settles;
+  NeverFails = λ large. a.NeverFails large × b.NeverFails large;
 }
 
 -- one of two parsers, with a tree that says which
 abbrev pub either_meaning : {I P Q E : Type 0} → (E → E → E → Type 0) → Type 0 → Meaning I P E → Meaning I Q E → Meaning I (P ⊎ Q) E
 either_meaning Joins Grows a b = or_meaning Joins Grows (labelled_meaning inl a) (labelled_meaning inr b)
 
--- the error of a refusal, closed at the start; a failure's stays
-pub data CloseBlames {I V E : Type 0} (Closes : I → E → E → Type 0) (m : Meaning I V E) (s : Bool) (i : I) (e : E) : Type 0 where
-  ClosedFails : OnOutcome IsFailure (m.answers s) (m.blames s i e) i → CloseBlames Closes m s i e
-  ClosedRefuses : m.answers s i Refuse → (x : E) → m.blames s i x → Closes i x e → CloseBlames Closes m s i e
+-- the error of a parser that stands in for a first one: the first one's failure's, or where that refuses its own
+pub data OtherwiseBlames {I V E : Type 0} (a b : Meaning I V E) (s : Bool) (i : I) (e : E) : Type 0 where
+  FirstFaults : OnOutcome IsFailure (a.answers s) (a.blames s i e) i → OtherwiseBlames a b s i e
+  NextFaults : a.answers s i Refuse → OnOutcome IsFault (b.answers s) (b.blames s i e) i → OtherwiseBlames a b s i e
 
--- a parser whose refusals' errors are closed at the start
-abbrev pub closed_meaning : {I V E : Type 0} → (I → E → E → Type 0) → Type 0 → Meaning I V E → Meaning I V E
-closed_meaning Closes Grows m = record {
-  IsSound = m.IsSound;
-  answers = m.answers;
-  blames = CloseBlames Closes m;
-  runs_out = λ outputs errors s i. m.runs_out outputs errors s i ⊎ (m.answers s i Refuse × (errors ≡ true) × Grows);
-  IsFrugal = λ outputs errors. m.IsFrugal outputs errors × (errors ≡ true → Grows → ⊥);
-  Settles = m.Settles;
+-- The first parser, and where it refuses, its error dropped, the second. The dropped error isn't built.
+abbrev pub otherwise_meaning : {I V E : Type 0} → Meaning I V E → Meaning I V E → Meaning I V E
+otherwise_meaning a b = record {
+  IsSound = a.IsSound × b.IsSound;
+  answers = λ s. OnRefusal (a.answers s) (b.answers s);
+  blames = OtherwiseBlames a b;
+  runs_out = λ outputs errors s i. a.runs_out outputs false s i ⊎ (a.answers s i Refuse × b.runs_out outputs errors s i);
+  IsFrugal = λ outputs errors. a.IsFrugal outputs false × b.IsFrugal outputs errors;
+  Settles = a.Settles × b.Settles;
+  NeverFails = λ large. a.NeverFails large × b.NeverFails large;
 }
-
--- a refusal with a fresh error, of any input
-abbrev pub refusal_meaning : {I V E : Type 0} → (I → E → Type 0) → Type 0 → Meaning I V E
-refusal_meaning Gives Grows = record {
-  IsSound = Unit {0};
-  answers = λ s i o. o ≡ Refuse;
-  blames = λ s. Gives;
-  runs_out = λ outputs errors s i. (errors ≡ true) × Grows;
-  IsFrugal = λ outputs errors. errors ≡ true → Grows → ⊥;
-  Settles = Unit {0};
-}
-
-module _ {S I V E : Type 0} (Joins : E → E → E → Type 0) (Grows : Type 0) (part : S → Meaning I V E) where
-  -- one of some parsers, and after them those of a list, numbered from k on
-  abbrev pub or_others : Meaning I (ℕ × V) E → ℕ → List S → Meaning I (ℕ × V) E
-  or_others m k [] = m
-  or_others m k (s ∷ ss) = or_others (or_meaning Joins Grows m (labelled_meaning (λ t. (k, t)) (part s))) (k + 1) ss
-
-  -- one of a list of parsers, with a tree that says which; of none, a refusal
-  abbrev pub any_meaning : (I → E → Type 0) → List S → Meaning I (ℕ × V) E
-  any_meaning Gives [] = refusal_meaning Gives Grows
-  any_meaning Gives (s ∷ ss) = or_others (labelled_meaning (λ t. (0, t)) (part s)) 1 ss
-
-  -- that, closed if there are some
-  abbrev pub list_meaning : (I → E → E → Type 0) → (I → E → Type 0) → List S → Meaning I (ℕ × V) E
-  list_meaning Closes Gives [] = refusal_meaning Gives Grows
-  list_meaning Closes Gives (s ∷ ss) = closed_meaning Closes Grows (any_meaning Gives (s ∷ ss))
 
 -- which output a tree of one of two parsers stands for: one of the branch that it names
 abbrev pub EitherOutput : {P Q O : Type 0} → (P → O → Type 0) → (Q → O → Type 0) → P ⊎ Q → O → Type 0
 EitherOutput First Second (inl t) o = First t o
 EitherOutput First Second (inr t) o = Second t o
-
--- s stands at place k of a list
-abbrev pub StandsAt : {S : Type 0} → List S → ℕ → S → Type 0
-StandsAt [] k s = ⊥
-StandsAt (x ∷ xs) zero s = x ≡ s
-StandsAt (x ∷ xs) (suc k) s = StandsAt xs k s
-
--- which output a tree of one of a list of parsers stands for
-abbrev pub ListOutput : {S V O : Type 0} → (S → V → O → Type 0) → List S → ℕ × V → O → Type 0
-ListOutput {S} IsOutput ss t o = (s : S) × StandsAt ss t.0 s × IsOutput s t.1 o
 
 -- what becomes of a result: of a refusal what is said of its error, and else itself
 abbrev pub OnError : {T E : Type 0} → (Option E → Result T (Answer.Err E (Option E) Needed) → Type 0) → Result T (Answer.Err E (Option E) Needed) → Result T (Answer.Err E (Option E) Needed) → Type 0

@@ -1,12 +1,14 @@
 -- What a parser answers on an input that grows.
-use Rattle.std.specs.Prelude.{◌≡◌, ℕ, ◌<◌, ◌≤◌, true, List, length, slice_index, Result, Err, Option}
+use Rattle.std.specs.Prelude.{◌≡◌, ℕ, ◌<◌, ◌≤◌, true, ◌⊎◌, List, length, slice_index, Result, Err, Option}
 use Rattle.nom_error.specs.declared.answer.Needed.{Needed}
 use Rattle.nom_error.specs.declared.answer.Err as Answer
 use Rattle.nom_error.specs.declared.answer.Err.TheVariants.{OutOfMemory}
 use Rattle.nom_traits.specs.Input.{Seen, IsPlace, IsFront}
+use Rattle.nom_traits.specs.View.{View}
 use Rattle.nom_internal.specs.Outcome.{Outcome, Parses}
 use Rattle.nom_internal.specs.Outcome.Outcome.{TooLarge, Undecided}
-use Rattle.nom_internal.specs.Meaning.{Meaning}
+use Rattle.nom_internal.specs.Meaning.{Meaning, ParsesMeaning}
+use Rattle.nom_internal.specs.Promises.{IsOfWhole}
 
 module _ {I A : Type 0} (w : Seen I A) (whole : I) (cuts : List ℕ) where
   -- each cut is a place
@@ -48,3 +50,10 @@ module _ {I A V O E : Type 0} (w : Seen I A) (IsOutput : V → O → Type 0) (m 
     pub beginning : I
     pub begins : IsBeginning w whole cuts index beginning
     pub answer : AnswersOn beginning r
+
+-- Verdict, output as it is seen, and rest are those of one `parse` of the whole, want of memory aside, where the parser pins;
+-- unless what is lacking on the beginning is too large.
+pub record AgreesWithWhole {I A V O E : Type 0} (w : Seen I A) (view : View O) (Pins : Type 0) (IsOutput : V → O → Type 0) (m : Meaning I V E) (whole : I) (cuts : List ℕ) (index : ℕ) (r : Result (I × O) (Answer.Err E E Needed)) : Type 0 where
+  pub beginning : I
+  pub begins : IsBeginning w whole cuts index beginning
+  pub of_whole : (s : Result (I × O) (Answer.Err E E Needed)) → ParsesMeaning w IsOutput m true whole s → (s ≡ Err OutOfMemory) ⊎ IsOfWhole w view Pins IsOutput m beginning r s

@@ -1,31 +1,110 @@
 -- Leaves: parsers with no part.
-use Rattle.std.specs.Prelude.{◌≡◌, Bool, true, false}
-use Rattle.nom_error.specs.declared.kind.ErrorKind.{ErrorKind}
-use Rattle.nom_traits.specs.Input.{Seen}
-use Rattle.nom_internal.specs.Outcome.{Outcome}
-use Rattle.nom_internal.specs.Outcome.Outcome.{Refuse}
-use Rattle.nom_internal.specs.Meaning.{Meaning, IsLawful, IsSteady, Agree, Within, Settled}
+use Rattle.std.specs.Prelude.{◌≡◌, ℕ, Bool, true, false, not, Option, refl}
+use Rattle.std.proofs.Common.{sym, ◌∙◌, ap, subst}
+use Rattle.nom_error.specs.Errors.{Errors}
+use Rattle.nom_traits.specs.Input.{Seen, IsPlace, IsSame, Related}
+use Rattle.nom_traits.specs.Rests.{same_self}
+use Rattle.nom_internal.specs.Outcome.{Outcome, failure}
+use Rattle.nom_internal.specs.Outcome.Outcome.{Accept, Refuse, Fail, TooLarge, Undecided}
+use Rattle.nom_internal.specs.Meaning.{Meaning, IsLawful, IsSteady, Keeps, Agree, Carries}
 
--- a leaf that refuses with a kind of error at its start, and takes memory only for that
-abbrev pub leaf_meaning : {I V E : Type 0} → (I → ErrorKind → E → Type 0) → Type 0 → ErrorKind → (Bool → I → Outcome V → Type 0) → Meaning I V E
-leaf_meaning Gives Grows kind Answers = record {
-  IsSound = Unit {0};
-  answers = Answers;
-  blames = λ s i. Gives i kind;
-  runs_out = λ outputs errors s i. Answers s i Refuse × (errors ≡ true) × Grows;
+-- what a leaf does, by mode and input
+pub record Leaf (I V : Type 0) : Type 1 where
+  -- it accepts the first items, of a length, with a tree
+  pub Accepts : Bool → I → ℕ → V → Type 0
+  pub Refuses : Bool → I → Type 0
+  -- more is needed, of a size or an unknown one, where more may come
+  pub Lacks : I → Option ℕ → Type 0
+
+abbrev pub LeafAnswers : {I V : Type 0} → Leaf I V → Bool → I → Outcome V → Type 0
+LeafAnswers leaf s i (Accept n v) = leaf.Accepts s i n v
+LeafAnswers leaf s i Refuse = leaf.Refuses s i
+LeafAnswers leaf s i Fail = ⊥
+LeafAnswers leaf s i TooLarge = ⊥
+LeafAnswers leaf s i (Undecided k) = (s ≡ true) × leaf.Lacks i k
+
+-- a leaf with a premise and with the error of its refusals, for which alone it takes memory
+abbrev pub leaf_meaning : {I V E : Type 0} → Type 0 → (I → E → Type 0) → Type 0 → Leaf I V → Meaning I V E
+leaf_meaning IsSound Blames Grows leaf = record {
+  IsSound = IsSound;
+  answers = LeafAnswers leaf;
+  blames = λ s. Blames;
+  runs_out = λ outputs errors s i. leaf.Refuses s i × (errors ≡ true) × Grows;
   IsFrugal = λ outputs errors. errors ≡ true → Grows → ⊥;
   Settles = Unit {0};
+  NeverFails = λ large. Unit {0};
 }
 
-module _ {I A V E : Type 0} (w : Seen I A) (Gives : I → ErrorKind → E → Type 0) (Grows : Type 0) (kind : ErrorKind) (Answers : Bool → I → Outcome V → Type 0) where
-  pub leaf_lawful : ((s : Bool) → Within w (Answers s)) → ((s : Bool) → Agree w false (Answers s) (Answers s)) → Settled w (Answers true) (Answers false) → IsLawful w (leaf_meaning Gives Grows kind Answers)
-  leaf_lawful within one settled = record {
-    within = λ s k. within s;
-    one_outcome = λ s k. one s;
-    frugal = λ outputs errors s i k f r. f r.1 r.2;
-    settles = λ k t. settled;
-    settles_blame = λ i o e k t h a d b. b;
-  }
+-- What a leaf must keep. Where it is said of two inputs, the second is longer than the first, and more may come, or seen alike.
+pub record LeafLaws {I A V : Type 0} (w : Seen I A) (leaf : Leaf I V) : Type 0 where
+  pub place : (s : Bool) (i : I) (n : ℕ) (v : V) → w.IsKnown i → leaf.Accepts s i n v → IsPlace w i n
+  -- no two answers
+  pub one_accepted : (s : Bool) (i : I) (n m : ℕ) (u v : V) → w.IsKnown i → leaf.Accepts s i n u → leaf.Accepts s i m v → (n ≡ m) × (u ≡ v)
+  pub one_lack : (i : I) (j k : Option ℕ) → w.IsKnown i → leaf.Lacks i j → leaf.Lacks i k → j ≡ k
+  pub accepted_refused : (s : Bool) (i : I) (n : ℕ) (v : V) → w.IsKnown i → leaf.Accepts s i n v → leaf.Refuses s i → ⊥
+  pub accepted_lacks : (i : I) (n : ℕ) (v : V) (k : Option ℕ) → w.IsKnown i → leaf.Accepts true i n v → leaf.Lacks i k → ⊥
+  pub refused_lacks : (i : I) (k : Option ℕ) → w.IsKnown i → leaf.Refuses true i → leaf.Lacks i k → ⊥
+  -- an answer stays
+  pub accepted_stays : (longer s : Bool) → (longer ≡ true → s ≡ true) → (x y : I) (n : ℕ) (v : V) → w.IsKnown x → w.IsKnown y → Related w longer x y → leaf.Accepts s x n v → leaf.Accepts s y n v
+  pub refused_stays : (longer s : Bool) → (longer ≡ true → s ≡ true) → (x y : I) → w.IsKnown x → w.IsKnown y → Related w longer x y → leaf.Refuses s x → leaf.Refuses s y
+  pub lack_alike : (x y : I) (k : Option ℕ) → w.IsKnown x → w.IsKnown y → IsSame w x y → leaf.Lacks x k → leaf.Lacks y k
+  -- a streaming answer is the complete one
+  pub accepted_settles : (i : I) (n : ℕ) (v : V) → w.IsKnown i → leaf.Accepts true i n v → leaf.Accepts false i n v
+  pub refused_settles : (i : I) → w.IsKnown i → leaf.Refuses true i → leaf.Refuses false i
 
-  pub leaf_steady : Agree w true (Answers true) (Answers true) → IsSteady w (leaf_meaning Gives Grows kind Answers)
-  leaf_steady stays = record { stays = λ k. stays }
+module _ {I A V : Type 0} (w : Seen I A) (leaf : Leaf I V) (l : LeafLaws w leaf) where
+  answers_carry : (longer s : Bool) → (longer ≡ true → s ≡ true) → (x y : I) (o : Outcome V) → w.IsKnown x → w.IsKnown y → Related w longer x y → LeafAnswers leaf s x o → Keeps longer o → LeafAnswers leaf s y o
+  answers_carry longer s only x y (Accept n v) kx ky r a d = l.accepted_stays longer s only x y n v kx ky r a
+  answers_carry longer s only x y Refuse kx ky r a d = l.refused_stays longer s only x y kx ky r a
+  answers_carry longer s only x y Fail kx ky r a d = absurd a
+  answers_carry longer s only x y TooLarge kx ky r a d = absurd a
+  answers_carry true s only x y (Undecided k) kx ky r a d = absurd d
+  answers_carry false s only x y (Undecided k) kx ky r a d = (a.0, l.lack_alike x y k kx ky r a.1)
+
+  one_answer : (s : Bool) (i : I) (o p : Outcome V) → w.IsKnown i → LeafAnswers leaf s i o → LeafAnswers leaf s i p → o ≡ p
+  one_answer s i (Accept n u) (Accept m v) h a b = let e = l.one_accepted s i n m u v h a b in cc (e.0, e.1)
+  one_answer s i (Accept n u) Refuse h a b = absurd (l.accepted_refused s i n u h a b)
+  one_answer s i (Accept n u) (Undecided k) h a b = absurd (l.accepted_lacks i n u k h (subst (λ z. leaf.Accepts z i n u) b.0 a) b.1)
+  one_answer s i Refuse (Accept n v) h a b = absurd (l.accepted_refused s i n v h b a)
+  one_answer s i Refuse Refuse h a b = refl
+  one_answer s i Refuse (Undecided k) h a b = absurd (l.refused_lacks i k h (subst (λ z. leaf.Refuses z i) b.0 a) b.1)
+  one_answer s i (Undecided j) (Accept n v) h a b = absurd (l.accepted_lacks i n v j h (subst (λ z. leaf.Accepts z i n v) a.0 b) a.1)
+  one_answer s i (Undecided j) Refuse h a b = absurd (l.refused_lacks i j h (subst (λ z. leaf.Refuses z i) a.0 b) a.1)
+  one_answer s i (Undecided j) (Undecided k) h a b = ap Undecided (l.one_lack i j k h a.1 b.1)
+  one_answer s i Fail p h a b = absurd a
+  one_answer s i TooLarge p h a b = absurd a
+  one_answer s i (Accept n u) Fail h a b = absurd b
+  one_answer s i (Accept n u) TooLarge h a b = absurd b
+  one_answer s i Refuse Fail h a b = absurd b
+  one_answer s i Refuse TooLarge h a b = absurd b
+  one_answer s i (Undecided j) Fail h a b = absurd b
+  one_answer s i (Undecided j) TooLarge h a b = absurd b
+
+  answers_agree : (longer s : Bool) → (longer ≡ true → s ≡ true) → Agree w longer (LeafAnswers leaf s) (LeafAnswers leaf s)
+  answers_agree longer s only x y o p kx ky r a d b = one_answer s y o p ky (answers_carry longer s only x y o kx ky r a d) b
+
+  answers_settle : (i : I) (o : Outcome V) → w.IsKnown i → LeafAnswers leaf true i o → Keeps true o → LeafAnswers leaf false i o
+  answers_settle i (Accept n v) h a d = l.accepted_settles i n v h a
+  answers_settle i Refuse h a d = l.refused_settles i h a
+  answers_settle i Fail h a d = a
+  answers_settle i TooLarge h a d = a
+  answers_settle i (Undecided k) h a d = absurd d
+
+  never_answers : (large s : Bool) (i : I) → LeafAnswers leaf s i (failure large) → ⊥
+  never_answers true s i a = a
+  never_answers false s i a = a
+
+  module _ {E : Type 0} (IsSound : Type 0) (Blames : I → E → Type 0) (Grows : Type 0) where
+    pub leaf_lawful : IsLawful w (leaf_meaning IsSound Blames Grows leaf)
+    leaf_lawful = record {
+      within = λ s i n v h a. l.place s i n v h a;
+      one_outcome = λ s. answers_agree false s (λ e. cc);
+      alike = λ s x y o kx ky r a d. answers_carry false s (λ e. cc) x y o kx ky r a d;
+      frugal = λ outputs errors s i h f r. f r.1 r.2;
+      settles = λ t x y o kx ky r a d. answers_settle y o ky (answers_carry false true (λ e. e) x y o kx ky r a tt) d;
+      blames_alike = λ t s i o e h a b d z. z;
+      never_fails = λ large g s i h a. never_answers large s i a;
+    }
+
+    pub leaf_steady : IsSteady w (leaf_meaning IsSound Blames Grows leaf)
+    leaf_steady = answers_agree true true (λ e. e)

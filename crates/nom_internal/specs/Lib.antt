@@ -1,11 +1,15 @@
 pub mod ByteCuts
+pub mod CaseLaws
+pub mod Cases
 pub mod Choice
 pub mod ChoiceLaws
+pub mod Families
 pub mod Growing
 pub mod Leaf
 pub mod Meaning
 pub mod Outcome
 pub mod PartLaws
+pub mod Pinned
 pub mod Promises
 pub mod Recognized
 pub mod RecognizedLaws

@@ -1,9 +1,9 @@
 -- What a parser means, and the laws of meanings.
-use Rattle.std.specs.Prelude.{◌≡◌, ℕ, Bool, true, false, Result, Option}
+use Rattle.std.specs.Prelude.{◌≡◌, ℕ, Bool, true, false, not, Result, Option}
 use Rattle.nom_error.specs.declared.answer.Needed.{Needed}
 use Rattle.nom_error.specs.declared.answer.Err as Answer
-use Rattle.nom_traits.specs.Input.{Seen, IsPlace, Related}
-use Rattle.nom_internal.specs.Outcome.{Outcome, IsDecided, ShowsAnswer, ParsesAnswer}
+use Rattle.nom_traits.specs.Input.{Seen, IsPlace, IsSame, Related}
+use Rattle.nom_internal.specs.Outcome.{Outcome, IsDecided, ShowsAnswer, ParsesAnswer, failure}
 use Rattle.nom_internal.specs.Outcome.Outcome.{Accept}
 
 -- what a parser over I means, with parse trees V and errors E; its mode is streaming (true) or complete (false)
@@ -20,6 +20,12 @@ pub record Meaning (I V E : Type 0) : Type 1 where
   pub IsFrugal : Bool → Bool → Type 0
   -- a decided streaming outcome is the complete one too
   pub Settles : Type 0
+  -- it never fails by itself (false), and what it lacks is never too large (true)
+  pub NeverFails : Bool → Type 0
+
+-- what a parser lacks is never too large, so that a failure is final
+abbrev pub NeverTooLarge : {I V E : Type 0} → Meaning I V E → Type 0
+NeverTooLarge m = m.NeverFails true
 
 -- which outcomes a longer input keeps (true), and one seen alike (false)
 abbrev pub Keeps : {V : Type 0} → Bool → Outcome V → Type 0
@@ -31,31 +37,34 @@ module _ {I A : Type 0} (w : Seen I A) {V : Type 0} where
   abbrev pub Agree : Bool → (I → Outcome V → Type 0) → (I → Outcome V → Type 0) → Type 0
   Agree longer P Q = (x y : I) (o p : Outcome V) → w.IsKnown x → w.IsKnown y → Related w longer x y → P x o → Keeps longer o → Q y p → o ≡ p
 
+  -- on inputs seen alike an outcome of the first relation, if only a decided one (true), is one of the second
+  abbrev pub Carries : Bool → (I → Outcome V → Type 0) → (I → Outcome V → Type 0) → Type 0
+  Carries decided P Q = (x y : I) (o : Outcome V) → w.IsKnown x → w.IsKnown y → IsSame w x y → P x o → Keeps decided o → Q y o
+
   -- what is accepted is a front
   abbrev pub Within : (I → Outcome V → Type 0) → Type 0
   Within P = (i : I) (n : ℕ) (v : V) → w.IsKnown i → P i (Accept n v) → IsPlace w i n
 
-  -- what the first relation decides, the second does
-  abbrev pub Settled : (I → Outcome V → Type 0) → (I → Outcome V → Type 0) → Type 0
-  Settled P Q = (i : I) (o : Outcome V) → w.IsKnown i → P i o → IsDecided o → Q i o
-
-module _ {I A V E : Type 0} (w : Seen I A) where
-  -- where the relation decides, the first mode's error is the second's
-  abbrev pub SettledBlame : (I → Outcome V → Type 0) → (I → E → Type 0) → (I → E → Type 0) → Type 0
-  SettledBlame P B C = (i : I) (o : Outcome V) (e : E) → w.IsKnown i → P i o → IsDecided o → B i e → C i e
+-- where both relations decide alike, the first's error is the second's
+abbrev pub SameBlame : {I A V E : Type 0} → Seen I A → (I → Outcome V → Type 0) → (I → Outcome V → Type 0) → (I → E → Type 0) → (I → E → Type 0) → Type 0
+SameBlame {I} {V = V} {E = E} w P Q B C = (i : I) (o : Outcome V) (e : E) → w.IsKnown i → P i o → Q i o → IsDecided o → B i e → C i e
 
 module _ {I A V E : Type 0} (w : Seen I A) (m : Meaning I V E) where
-  -- the laws of every parser
+  -- the laws of every sound parser
   pub record IsLawful : Type 0 where
-    pub within : (s : Bool) → m.IsSound → Within w (m.answers s)
-    pub one_outcome : (s : Bool) → m.IsSound → Agree w false (m.answers s) (m.answers s)
-    pub frugal : (outputs errors s : Bool) (i : I) → m.IsSound → m.IsFrugal outputs errors → m.runs_out outputs errors s i → ⊥
-    pub settles : m.IsSound → m.Settles → Settled w (m.answers true) (m.answers false)
-    pub settles_blame : (i : I) (o : Outcome V) (e : E) → m.IsSound → m.Settles → w.IsKnown i → m.answers true i o → IsDecided o → m.blames true i e → m.blames false i e
+    pub within : (s : Bool) → Within w (m.answers s)
+    -- inputs that are seen alike have one outcome, and the same
+    pub one_outcome : (s : Bool) → Agree w false (m.answers s) (m.answers s)
+    pub alike : (s : Bool) → Carries w false (m.answers s) (m.answers s)
+    pub frugal : (outputs errors s : Bool) (i : I) → w.IsKnown i → m.IsFrugal outputs errors → m.runs_out outputs errors s i → ⊥
+    -- where it settles, a decided streaming outcome is the complete one, and the errors of either mode are the other's
+    pub settles : m.Settles → Carries w true (m.answers true) (m.answers false)
+    pub blames_alike : m.Settles → (s : Bool) → SameBlame w (m.answers s) (m.answers (not s)) (m.blames s) (m.blames (not s))
+    pub never_fails : (large : Bool) → m.NeverFails large → (s : Bool) (i : I) → w.IsKnown i → m.answers s i (failure large) → ⊥
 
   -- the law of a stream parser: a decided streaming outcome stays on every longer input
-  pub record IsSteady : Type 0 where
-    pub stays : m.IsSound → Agree w true (m.answers true) (m.answers true)
+  abbrev pub IsSteady : Type 0
+  IsSteady = Agree w true (m.answers true) (m.answers true)
 
 -- what `process` returns of a parser that means m, at i: what is built of outputs and errors, and the mode
 abbrev pub ShowsMeaning : {I A V O E : Type 0} → Seen I A → (V → O → Type 0) → Meaning I V E → Bool → Bool → Bool → I → Result (I × Option O) (Answer.Err E (Option E) Needed) → Type 0

@@ -1,5 +1,5 @@
 -- What a parser answers at an input, and what `process` and `parse` return for it.
-use Rattle.std.specs.Prelude.{◌≡◌, ℕ, Bool, Result, Ok, Err, Option}
+use Rattle.std.specs.Prelude.{◌≡◌, ℕ, Bool, true, false, Result, Ok, Err, Option}
 use Rattle.nom_error.specs.declared.answer.Err as Answer
 use Rattle.nom_error.specs.declared.answer.Err.TheVariants.{Incomplete, Error, Failure, OutOfMemory}
 use Rattle.nom_error.specs.declared.answer.Needed.{Needed}
@@ -23,6 +23,11 @@ IsDecided Refuse = Unit {0}
 IsDecided Fail = Unit {0}
 IsDecided TooLarge = ⊥
 IsDecided (Undecided k) = ⊥
+
+-- a failure: by the parser itself (false), or since what is lacking is too large (true)
+abbrev pub failure : {V : Type 0} → Bool → Outcome V
+failure false = Fail
+failure true = TooLarge
 
 -- an outcome that holds an error
 abbrev pub IsFault : {V : Type 0} → Outcome V → Type 0

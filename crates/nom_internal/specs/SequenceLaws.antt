@@ -1,12 +1,14 @@
--- The laws of sequences.
-use Rattle.std.specs.Prelude.{◌≡◌, ℕ, ◌+◌, Bool, true, false}
+-- The laws of a part that is followed by another.
+use Rattle.std.specs.Prelude.{◌≡◌, ℕ, ◌+◌, Bool, true, false, not}
 use Rattle.std.proofs.Common.{sym, ◌∙◌, ap, subst}
-use Rattle.nom_traits.specs.Input.{Seen, InputLaws, IsRest, IsPlace, Related}
-use Rattle.nom_traits.specs.Rests.{same_self, rest_related, place_more}
-use Rattle.nom_internal.specs.Outcome.{Outcome, IsDecided, IsFault, OnOutcome}
+use Rattle.nom_traits.specs.Input.{Seen, InputLaws, IsRest, IsPlace, IsSame, Related}
+use Rattle.nom_traits.specs.Rests.{same_self, same_sym, rest_related, rest_alike, place_more}
+use Rattle.nom_internal.specs.Outcome.{Outcome, IsDecided, IsFault, OnOutcome, failure}
 use Rattle.nom_internal.specs.Outcome.Outcome.{Accept, Refuse, Fail, TooLarge, Undecided}
-use Rattle.nom_internal.specs.Meaning.{Meaning, IsLawful, IsSteady, Keeps, Agree, Within, Settled, SettledBlame}
-use Rattle.nom_internal.specs.Sequence.{after, GoesOn, Then, OnRest, ThenBlames, sequence_meaning}
+use Rattle.nom_internal.specs.Meaning.{Meaning, IsLawful, IsSteady, Keeps, Agree, Carries, Within, SameBlame}
+use Rattle.nom_internal.specs.PartLaws.{Transfers, transfers, transferred, blame_transferred}
+use Rattle.nom_internal.specs.Families.{Family, IsLawfulFamily, AnyKey, always, always_lawful}
+use Rattle.nom_internal.specs.Sequence.{after, GoesOn, Then, OnRest, ThenBlames, then_meaning, sequence_meaning}
 use Rattle.nom_internal.specs.Sequence.ThenBlames.{BlamesFirst, BlamesNext}
 use Rattle.nom_internal.specs.Sequence.ThenRunsOut.{RunsOutFirst, RunsOutNext}
 
@@ -17,6 +19,29 @@ keeps_after true n f Fail k = tt
 keeps_after true n f TooLarge k = k
 keeps_after true n f (Undecided d) k = k
 keeps_after false n f o k = tt
+
+-- what comes out as a failure was one
+pub failure_after : {V W : Type 0} (large : Bool) (n : ℕ) (f : V → W) (o : Outcome V) → failure large ≡ after n f o → o ≡ failure large
+failure_after true n f (Accept m v) e = cc
+failure_after true n f Refuse e = cc
+failure_after true n f Fail e = cc
+failure_after true n f TooLarge e = cc
+failure_after true n f (Undecided d) e = cc
+failure_after false n f (Accept m v) e = cc
+failure_after false n f Refuse e = cc
+failure_after false n f Fail e = cc
+failure_after false n f TooLarge e = cc
+failure_after false n f (Undecided d) e = cc
+
+-- where what follows is kept, so is the first part
+module _ {I A P Q T : Type 0} (w : Seen I A) (tree : P → Q → T) (N : P → I → Outcome Q → Type 0) where
+  pub keeps_first : (longer : Bool) (x : I) (a : Outcome P) (o : Outcome T) → Keeps longer o → GoesOn w tree N x a o → Keeps longer a
+  keeps_first true x (Accept n u) o k s = tt
+  keeps_first true x Refuse o k s = tt
+  keeps_first true x Fail o k s = tt
+  keeps_first true x TooLarge o k s = subst (λ y. IsDecided y) s k
+  keeps_first true x (Undecided d) o k s = subst (λ y. IsDecided y) s k
+  keeps_first false x a o k s = tt
 
 module _ {I A P Q T : Type 0} (w : Seen I A) (l : InputLaws w) (tree : P → Q → T) (longer : Bool) (F G : I → Outcome P → Type 0) (N M : P → I → Outcome Q → Type 0) where
   goes_agree : ((u : P) → Agree w longer (N u) (M u)) → (x y : I) (a : Outcome P) (o p : Outcome T) → w.IsKnown x → w.IsKnown y → Related w longer x y → Keeps longer o → GoesOn w tree N x a o → GoesOn w tree M y a p → o ≡ p
@@ -29,21 +54,26 @@ module _ {I A P Q T : Type 0} (w : Seen I A) (l : InputLaws w) (tree : P → Q �
   goes_agree h x y TooLarge o p kx ky r k s t = s ∙ sym t
   goes_agree h x y (Undecided d) o p kx ky r k s t = s ∙ sym t
 
-  keeps_first : (x : I) (a : Outcome P) (o : Outcome T) → Keeps longer o → GoesOn w tree N x a o → Keeps longer a
-  keeps_first x a o k s = keeps_of longer a o k s
-    where
-      keeps_of : (b : Bool) (c : Outcome P) (z : Outcome T) → Keeps b z → GoesOn w tree N x c z → Keeps b c
-      keeps_of true (Accept n u) z k s = tt
-      keeps_of true Refuse z k s = tt
-      keeps_of true Fail z k s = tt
-      keeps_of true TooLarge z k s = subst (λ y. IsDecided y) s k
-      keeps_of true (Undecided d) z k s = subst (λ y. IsDecided y) s k
-      keeps_of false c z k s = tt
-
   pub then_agree : Agree w longer F G → ((u : P) → Agree w longer (N u) (M u)) → Agree w longer (Then w tree F N) (Then w tree G M)
   then_agree f h x y o p kx ky r s k t =
-      let e = f x y s.first t.first kx ky r s.answered (keeps_first x s.first o k s.goes_on) t.answered in
+      let e = f x y s.first t.first kx ky r s.answered (keeps_first w tree N longer x s.first o k s.goes_on) t.answered in
       goes_agree h x y s.first o p kx ky r k s.goes_on (subst (λ z. GoesOn w tree M y z p) (sym e) t.goes_on)
+
+module _ {I A P Q T : Type 0} (w : Seen I A) (tree : P → Q → T) (decided : Bool) (F G : I → Outcome P → Type 0) (N M : P → I → Outcome Q → Type 0) where
+  goes_carries : ((u : P) → Carries w decided (N u) (M u)) → (x y : I) (a : Outcome P) (o : Outcome T) → IsSame w x y → Keeps decided o → GoesOn w tree N x a o → GoesOn w tree M y a o
+  goes_carries g x y (Accept n u) o r k t =
+      (t.0, t.1, rest_alike w x y n t.0 r t.2, g u t.0 t.0 t.1 t.2.known t.2.known (same_self w t.0) t.3 (keeps_after decided n (tree u) t.1 (subst (λ z. Keeps decided z) t.4 k)), t.4)
+  goes_carries g x y Refuse o r k t = t
+  goes_carries g x y Fail o r k t = t
+  goes_carries g x y TooLarge o r k t = t
+  goes_carries g x y (Undecided d) o r k t = t
+
+  pub then_carries : Carries w decided F G → ((u : P) → Carries w decided (N u) (M u)) → Carries w decided (Then w tree F N) (Then w tree G M)
+  then_carries f g x y o kx ky r t k = record {
+    first = t.first;
+    answered = f x y t.first kx ky r t.answered (keeps_first w tree N decided x t.first o k t.goes_on);
+    goes_on = goes_carries g x y t.first o r k t.goes_on;
+  }
 
 module _ {I A P Q T : Type 0} (w : Seen I A) (tree : P → Q → T) (F : I → Outcome P → Type 0) (N : P → I → Outcome Q → Type 0) where
   goes_within : ((u : P) → Within w (N u)) → (i : I) (n m : ℕ) (v : T) (u : P) (j : I) (p : Outcome Q) → IsRest w i m j → N u j p → Accept n v ≡ after m (tree u) p → IsPlace w i n
@@ -65,66 +95,61 @@ module _ {I A P Q T : Type 0} (w : Seen I A) (tree : P → Q → T) (F : I → O
   pub then_within : ((u : P) → Within w (N u)) → Within w (Then w tree F N)
   then_within g i n v h t = first_within g i n v t.first t.goes_on
 
-module _ {I A P Q T : Type 0} (w : Seen I A) (tree : P → Q → T) (F G : I → Outcome P → Type 0) (N M : P → I → Outcome Q → Type 0) where
-  goes_settled : Settled w F G → ((u : P) → Settled w (N u) (M u)) → (i : I) (a : Outcome P) (o : Outcome T) → w.IsKnown i → F i a → GoesOn w tree N i a o → IsDecided o → Then w tree G M i o
-  goes_settled f g i (Accept n u) o h a t d = record {
-    first = Accept n u;
-    answered = f i (Accept n u) h a tt;
-    goes_on = (t.0, t.1, t.2, g u t.0 t.1 t.2.known t.3 (keeps_after true n (tree u) t.1 (subst (λ x. IsDecided x) t.4 d)), t.4);
+  never_goes : (large : Bool) → ((i : I) → w.IsKnown i → F i (failure large) → ⊥) → ((u : P) (i : I) → w.IsKnown i → N u i (failure large) → ⊥) → (i : I) → w.IsKnown i → (a : Outcome P) → F i a → GoesOn w tree N i a (failure large) → ⊥
+  never_goes large f g i h (Accept n u) b t = g u t.0 (t.2).known (subst (λ z. N u t.0 z) (failure_after large n (tree u) t.1 t.4) t.3)
+  never_goes true f g i h Refuse b t = absurd (cc (t))
+  never_goes true f g i h Fail b t = absurd (cc (t))
+  never_goes true f g i h TooLarge b t = f i h b
+  never_goes true f g i h (Undecided d) b t = absurd (cc (t))
+  never_goes false f g i h Refuse b t = absurd (cc (t))
+  never_goes false f g i h Fail b t = f i h b
+  never_goes false f g i h TooLarge b t = absurd (cc (t))
+  never_goes false f g i h (Undecided d) b t = absurd (cc (t))
+
+module _ {I A P Q T E : Type 0} (w : Seen I A) (l : InputLaws w) (tree : P → Q → T) (F G : I → Outcome P → Type 0) (B C : I → E → Type 0) (N M : P → I → Outcome Q → Type 0) (D H : P → I → E → Type 0) (f : Transfers w F G B C) (g : (u : P) → Transfers w (N u) (M u) (D u) (H u)) where
+  next_blamed : (i : I) (n : ℕ) (u : P) (j : I) (o : Outcome T) (e : E) → IsDecided o → IsRest w i n j → GoesOn w tree N i (Accept n u) o → GoesOn w tree M i (Accept n u) o → OnOutcome IsFault (N u) (D u j e) j → OnOutcome IsFault (M u) (H u j e) j
+  next_blamed i n u j o e d r s t b =
+      blame_transferred w (N u) (M u) (D u) (H u) (g u) j s.0 t.0 s.1 t.1 e r.known s.2.known t.2.known (rest_related w l false i i n j s.0 (same_self w i) r s.2) (rest_related w l false i i n t.0 j (same_self w i) t.2 r) s.3 t.3 (keeps_after true n (tree u) s.1 (subst (λ z. IsDecided z) s.4 d)) (keeps_after true n (tree u) t.1 (subst (λ z. IsDecided z) t.4 d)) IsFault b
+
+  pub then_blames : SameBlame w (Then w tree F N) (Then w tree G M) (ThenBlames w F B N D) (ThenBlames w G C M H)
+  then_blames i o e h s t d (BlamesFirst b) =
+      BlamesFirst (blame_transferred w F G B C f i i i s.first t.first e h h h (same_self w i) (same_self w i) s.answered t.answered (keeps_first w tree N true i s.first o d s.goes_on) (keeps_first w tree M true i t.first o d t.goes_on) IsFault b)
+  then_blames i o e h s t d (BlamesNext r) =
+      let a : Outcome P = Accept r.length r.tree in
+      let mine : a ≡ s.first = f.one i i a s.first h h (same_self w i) r.accepted tt s.answered in
+      let yours : a ≡ t.first = f.meets i i a t.first h h (same_self w i) r.accepted t.answered tt (keeps_first w tree M true i t.first o d t.goes_on) in
+      BlamesNext (record {
+        length = r.length;
+        tree = r.tree;
+        rest = r.rest;
+        accepted = subst (λ z. G i z) (sym yours) t.answered;
+        rest_is = r.rest_is;
+        fact = next_blamed i r.length r.tree r.rest o e d r.rest_is (subst (λ z. GoesOn w tree N i z o) (sym mine) s.goes_on) (subst (λ z. GoesOn w tree M i z o) (sym yours) t.goes_on) r.fact;
+      })
+
+module _ {I A P Q T E : Type 0} (w : Seen I A) (l : InputLaws w) (tree : P → Q → T) (first_builds next_builds : Bool → Bool) (a : Meaning I P E) (f : Family P I Q E) where
+  then_frugal : IsLawful w a → IsLawfulFamily w AnyKey f → (outputs errors s : Bool) (i : I) → w.IsKnown i → a.IsFrugal (first_builds outputs) errors × f.IsFrugal (next_builds outputs) errors → (then_meaning w tree first_builds next_builds a f).runs_out outputs errors s i → ⊥
+  then_frugal p q outputs errors s i h g (RunsOutFirst r) = p.frugal (first_builds outputs) errors s i h g.0 r
+  then_frugal p q outputs errors s i h g (RunsOutNext r) = (q.lawful r.tree tt).frugal (next_builds outputs) errors s r.rest (r.rest_is).known (q.frugal (next_builds outputs) errors g.1 r.tree tt) r.fact
+
+  pub then_lawful : IsLawful w a → IsLawfulFamily w AnyKey f → IsLawful w (then_meaning w tree first_builds next_builds a f)
+  then_lawful p q = record {
+    within = λ s. then_within w tree (a.answers s) (λ u. (f.at u).answers s) (λ u. (q.lawful u tt).within s);
+    one_outcome = λ s. then_agree w l tree false (a.answers s) (a.answers s) (λ u. (f.at u).answers s) (λ u. (f.at u).answers s) (p.one_outcome s) (λ u. (q.lawful u tt).one_outcome s);
+    alike = λ s. then_carries w tree false (a.answers s) (a.answers s) (λ u. (f.at u).answers s) (λ u. (f.at u).answers s) (p.alike s) (λ u. (q.lawful u tt).alike s);
+    frugal = then_frugal p q;
+    settles = λ t. then_carries w tree true (a.answers true) (a.answers false) (λ u. (f.at u).answers true) (λ u. (f.at u).answers false) (p.settles t.0) (λ u. (q.lawful u tt).settles (q.settles t.1 u tt));
+    blames_alike = λ t s. then_blames w l tree (a.answers s) (a.answers (not s)) (a.blames s) (a.blames (not s)) (λ u. (f.at u).answers s) (λ u. (f.at u).answers (not s)) (λ u. (f.at u).blames s) (λ u. (f.at u).blames (not s)) (transfers w a p t.0 s) (λ u. transfers w (f.at u) (q.lawful u tt) (q.settles t.1 u tt) s);
+    never_fails = λ large g s i h t. never_goes w tree (a.answers s) (λ u. (f.at u).answers s) large (p.never_fails large g.0 s) (λ u. (q.lawful u tt).never_fails large (q.never_fails large g.1 u tt) s) i h t.first t.answered t.goes_on;
   }
-  goes_settled f g i Refuse o h a t d = record { first = Refuse; answered = f i Refuse h a tt; goes_on = t }
-  goes_settled f g i Fail o h a t d = record { first = Fail; answered = f i Fail h a tt; goes_on = t }
-  goes_settled f g i TooLarge o h a t d = absurd (subst (λ x. IsDecided x) t d)
-  goes_settled f g i (Undecided x) o h a t d = absurd (subst (λ x. IsDecided x) t d)
 
-  pub then_settled : Settled w F G → ((u : P) → Settled w (N u) (M u)) → Settled w (Then w tree F N) (Then w tree G M)
-  then_settled f g i o h t d = goes_settled f g i t.first o h t.answered t.goes_on d
+  pub then_steady : IsSteady w a → ((u : P) → IsSteady w (f.at u)) → IsSteady w (then_meaning w tree first_builds next_builds a f)
+  then_steady p q = then_agree w l tree true (a.answers true) (a.answers true) (λ u. (f.at u).answers true) (λ u. (f.at u).answers true) p q
 
-module _ {I A P Q T E : Type 0} (w : Seen I A) (l : InputLaws w) (tree : P → Q → T) (F G : I → Outcome P → Type 0) (B C : I → E → Type 0) (N M : P → I → Outcome Q → Type 0) (D H : P → I → E → Type 0) where
-  module _ (one : Agree w false F F) (settled : Settled w F G) (blamed : SettledBlame w F B C) where
-    blame_first : (i : I) (o : Outcome T) (e : E) → w.IsKnown i → Then w tree F N i o → IsDecided o → OnOutcome IsFault F (B i e) i → OnOutcome IsFault G (C i e) i
-    blame_first i o e h t d f =
-        let same = one i i f.outcome t.first h h (same_self w i) f.answered tt t.answered in
-        let k : IsDecided f.outcome = subst (λ x. IsDecided x) (sym same) (keeps_first w l tree true F F N N i t.first o d t.goes_on) in
-        record { outcome = f.outcome; answered = settled i f.outcome h f.answered k; kind_is = f.kind_is; fact = blamed i f.outcome e h f.answered k f.fact }
-
-    blame_next : ((u : P) → Agree w false (N u) (N u)) → ((u : P) → Settled w (N u) (M u)) → ((u : P) → SettledBlame w (N u) (D u) (H u)) → (i : I) (o : Outcome T) (e : E) → w.IsKnown i → Then w tree F N i o → IsDecided o → OnRest w F (λ u j. OnOutcome IsFault (N u) (D u j e) j) i → OnRest w G (λ u j. OnOutcome IsFault (M u) (H u j e) j) i
-    blame_next ones settles blames i o e h t d r =
-        let same = one i i (Accept r.length r.tree) t.first h h (same_self w i) r.accepted tt t.answered in
-        let s = subst (λ x. GoesOn w tree N i x o) (sym same) t.goes_on in
-        let j = r.rest in
-        let f = r.fact in
-        let known = r.rest_is.known in
-        let equal = ones r.tree j s.0 f.outcome s.1 known s.2.known (rest_related w l false i i r.length j s.0 (same_self w i) r.rest_is s.2) f.answered tt s.3 in
-        let k : IsDecided f.outcome = subst (λ x. IsDecided x) (sym equal) (keeps_after true r.length (tree r.tree) s.1 (subst (λ x. IsDecided x) s.4 d)) in
-        record {
-          length = r.length;
-          tree = r.tree;
-          rest = j;
-          accepted = settled i (Accept r.length r.tree) h r.accepted tt;
-          rest_is = r.rest_is;
-          fact = record { outcome = f.outcome; answered = settles r.tree j f.outcome known f.answered k; kind_is = f.kind_is; fact = blames r.tree j f.outcome e known f.answered k f.fact };
-        }
-
-    pub then_settled_blame : ((u : P) → Agree w false (N u) (N u)) → ((u : P) → Settled w (N u) (M u)) → ((u : P) → SettledBlame w (N u) (D u) (H u)) → SettledBlame w (Then w tree F N) (ThenBlames w F B N D) (ThenBlames w G C M H)
-    then_settled_blame ones settles blames i o e h t d (BlamesFirst f) = BlamesFirst (blame_first i o e h t d f)
-    then_settled_blame ones settles blames i o e h t d (BlamesNext r) = BlamesNext (blame_next ones settles blames i o e h t d r)
-
+-- sequences
 module _ {I A P Q T E : Type 0} (w : Seen I A) (l : InputLaws w) (tree : P → Q → T) (first_builds second_builds : Bool → Bool) (a : Meaning I P E) (b : Meaning I Q E) where
-  frugal : IsLawful w a → IsLawful w b → (outputs errors s : Bool) (i : I) → a.IsSound × b.IsSound → a.IsFrugal (first_builds outputs) errors × b.IsFrugal (second_builds outputs) errors → (sequence_meaning w tree first_builds second_builds a b).runs_out outputs errors s i → ⊥
-  frugal p q outputs errors s i k f (RunsOutFirst r) = p.frugal (first_builds outputs) errors s i k.0 f.0 r
-  frugal p q outputs errors s i k f (RunsOutNext r) = q.frugal (second_builds outputs) errors s r.rest k.1 f.1 r.fact
-
   pub sequence_lawful : IsLawful w a → IsLawful w b → IsLawful w (sequence_meaning w tree first_builds second_builds a b)
-  sequence_lawful p q = record {
-    within = λ s k. then_within w tree (a.answers s) (λ _. b.answers s) (λ _. q.within s k.1);
-    one_outcome = λ s k. then_agree w l tree false (a.answers s) (a.answers s) (λ _. b.answers s) (λ _. b.answers s) (p.one_outcome s k.0) (λ _. q.one_outcome s k.1);
-    frugal = frugal p q;
-    settles = λ k t. then_settled w tree (a.answers true) (a.answers false) (λ _. b.answers true) (λ _. b.answers false) (p.settles k.0 t.0) (λ _. q.settles k.1 t.1);
-    settles_blame = λ i o e k t. then_settled_blame w l tree (a.answers true) (a.answers false) (a.blames true) (a.blames false) (λ _. b.answers true) (λ _. b.answers false) (λ _. b.blames true) (λ _. b.blames false) (p.one_outcome true k.0) (p.settles k.0 t.0) (λ j r c. p.settles_blame j r c k.0 t.0) (λ _. q.one_outcome true k.1) (λ _. q.settles k.1 t.1) (λ _ j r c. q.settles_blame j r c k.1 t.1) i o e;
-  }
+  sequence_lawful p q = then_lawful w l tree first_builds second_builds a (always b) p (always_lawful w b q)
 
   pub sequence_steady : IsSteady w a → IsSteady w b → IsSteady w (sequence_meaning w tree first_builds second_builds a b)
-  sequence_steady p q = record {
-    stays = λ k. then_agree w l tree true (a.answers true) (a.answers true) (λ _. b.answers true) (λ _. b.answers true) (p.stays k.0) (λ _. q.stays k.1);
-  }
+  sequence_steady p q = then_steady w l tree first_builds second_builds a (always b) p (λ _. q)

@@ -1,6 +1,7 @@
 //! Parsers.
 ghost use Rattle.std.specs.Prelude.{◌≡◌, true, false};
 ghost use Rattle.nom_internal.specs.Meaning.{Meaning, IsLawful, IsSteady, ShowsMeaning, ParsesMeaning};
+ghost use Rattle.nom_internal.specs.Pinned.{IsPinned};
 ghost use Rattle.nom_internal.specs.Results.{IsFull, HoldsSame};
 
 use crate::sequence::And;
@@ -8,6 +9,7 @@ use nom_error::answer::{Err, IResult, PResult};
 use nom_error::mode::{Complete, Emit, IsStreaming, Mode, OutputM, OutputMode, Streaming};
 use nom_error::value::ParseError;
 use nom_traits::input::Items;
+use nom_traits::view::Viewed;
 
 /// A parser over inputs of type `I`: it means one fixed function from a mode, streaming or complete,
 /// and an input to an outcome, and `process` shows that outcome.
@@ -32,6 +34,10 @@ pub trait Parser<I: Items>: Sized {
     /// What the parser means.
     ghost meaning: { State → Meaning I Tree Self.Error };
 
+    /// Where the outputs that a tree stands for are one, as they are compared: closures answer arguments
+    /// that are seen alike by results that are.
+    ghost Pins: { State → Type 0 };
+
     /// Runs the parser in the mode `OM`: builds the output and the error only where it asks for them,
     /// and answers as it says whether more input may come.
     fn process<OM: OutputMode>(&mut self, input: I) -> PResult<I, Self::Output, Self::Error>
@@ -40,9 +46,10 @@ pub trait Parser<I: Items>: Sized {
         // A call keeps the meaning.
         ensures kept { state self.new ≡ state self.old };
 
-    /// One outcome for each mode and input, fronts alone accepted, no want of memory where the parser
-    /// is frugal, and where it settles, decided streaming outcomes that are the complete ones.
-    ghost lawful: { (s : State) → IsLawful I.seen (meaning s) };
+    /// Of a sound parser: one outcome for each mode and input, fronts alone accepted, no want of memory
+    /// where it is frugal, where it settles, decided streaming outcomes that are the complete ones, and no
+    /// failure where it never fails.
+    ghost lawful: { (s : State) → (meaning s).IsSound → IsLawful I.seen (meaning s) };
 
     /// Parses an input of which more may come.
     #[inline(always)]
@@ -76,13 +83,18 @@ pub trait Parser<I: Items>: Sized {
     }
 }
 
-/// A parser whose decided streaming outcomes stay on every longer input.
-pub trait StreamParser<I: Items>: Parser<I> {
+/// A parser whose decided streaming outcomes stay on every longer input, and whose outputs are compared
+/// by a view.
+pub trait StreamParser<I: Items>: Parser<I, Output: Viewed> {
     /// Does nothing: a parser is called by `Parser`.
     #[inline(always)]
     fn streams(&self) {}
 
-    ghost steady: { (s : Self.State) → IsSteady I.seen (Self.meaning s) };
+    /// Where it pins, two outputs of one tree are seen alike.
+    ghost pinned: { (s : Self.State) → (Self.meaning s).IsSound → Self.Parser.Pins s → IsPinned Self.Output.view (Self.IsOutput s) };
+
+    /// A decided streaming outcome stays on every longer input.
+    ghost steady: { (s : Self.State) → (Self.meaning s).IsSound → IsSteady I.seen (Self.meaning s) };
 }
 
 /// A result in which outputs and errors are built, without their options.

@@ -43,6 +43,8 @@ impl<I: Items, F: Parser<I> + Drop, G: Parser<I, Error = F::Error> + Drop> Parse
 
     ghost meaning = { λ s. pair_meaning I.seen (F.meaning s.0) (G.meaning s.1) };
 
+    ghost Pins = { λ s. F.Pins s.0 × G.Pins s.1 };
+
     #[inline(always)]
     fn process<OM: OutputMode>(&mut self, input: I) -> PResult<I, Self::Output, Self::Error> {
         let (rest, first) = self.first.process::<OM>(input)?;
@@ -50,13 +52,16 @@ impl<I: Items, F: Parser<I> + Drop, G: Parser<I, Error = F::Error> + Drop> Parse
         Ok((rest, combine(first, second)))
     }
 
-    ghost lawful = { λ s. sequence_lawful I.seen I.lawful _ _ _ (F.meaning s.0) (G.meaning s.1) (F.lawful s.0) (G.lawful s.1) };
+    ghost lawful = { λ s k. sequence_lawful I.seen I.lawful _ _ _ (F.meaning s.0) (G.meaning s.1) (F.lawful s.0 k.0) (G.lawful s.1 k.1) };
 }
 
 impl<I: Items, F: StreamParser<I> + Drop, G: StreamParser<I, Error = F::Error> + Drop> StreamParser<
     I,
 > for And<F, G> {
+    ghost use Rattle.nom_internal.specs.Pinned.{pair_pinned};
     ghost use Rattle.nom_internal.specs.SequenceLaws.{sequence_steady};
 
-    ghost steady = { λ s. sequence_steady I.seen I.lawful _ _ _ (F.meaning s.0) (G.meaning s.1) (F.steady s.0) (G.steady s.1) };
+    ghost pinned = { λ s k p. pair_pinned F.Output.view G.Output.view (F.IsOutput s.0) (G.IsOutput s.1) (F.pinned s.0 k.0 p.0) (G.pinned s.1 k.1 p.1) };
+
+    ghost steady = { λ s k. sequence_steady I.seen I.lawful _ _ _ (F.meaning s.0) (G.meaning s.1) (F.steady s.0 k.0) (G.steady s.1 k.1) };
 }

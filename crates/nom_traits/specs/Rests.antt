@@ -27,6 +27,22 @@ module _ {I A : Type 0} (w : Seen I A) where
   pub same_self : (i : I) → IsSame w i i
   same_self i = record { elements_are = refl; mark_is = refl }
 
+  pub same_sym : (x y : I) → IsSame w x y → IsSame w y x
+  same_sym x y r = record { elements_are = sym r.elements_are; mark_is = sym r.mark_is }
+
+  pub same_then : (x y z : I) → IsSame w x y → IsSame w y z → IsSame w x z
+  same_then x y z r s = record { elements_are = r.elements_are ∙ s.elements_are; mark_is = r.mark_is ∙ s.mark_is }
+
+  -- a rest of an input is a rest of one that is seen alike
+  pub rest_alike : (x y : I) (n : ℕ) (j : I) → IsSame w x y → IsRest w x n j → IsRest w y n j
+  rest_alike x y n j r p = record {
+    known = p.known;
+    front = p.front;
+    whole = sym r.elements_are ∙ p.whole;
+    length_is = p.length_is;
+    mark_is = p.mark_is ∙ ap (λ m. w.mark_after m p.front) r.mark_is;
+  }
+
   pub rest_place : (i : I) (n : ℕ) (j : I) → IsRest w i n j → IsPlace w i n
   rest_place i n j p = record { front = p.front; rest = w.elements j; whole = p.whole; length_is = p.length_is }
 
