@@ -30,7 +30,7 @@ impl Value for char {
 }
 
 /// A value seen as a list of items, each of a length of at least 1, with a mark.
-pub trait Items: Copy + Viewed {
+pub trait Items: Copy {
     /// An item.
     type Item: Value;
 
@@ -46,13 +46,10 @@ pub trait Items: Copy + Viewed {
 
     /// The items are values of their type.
     ghost values: { (i : Self) → seen.IsKnown i → AreValues Self.Item.IsValue (seen.elements i) };
-
-    /// Inputs that are seen alike are compared as one.
-    ghost views: { (x y : Self) → IsSame seen x y → Self.view.value x ≡ Self.view.value y };
 }
 
 /// An input that can be cut at the places between its items.
-pub trait Input: Items {
+pub trait Input: Items + Viewed {
     /// The size that is needed, where a list has fewer items than a count; none where it is unknown.
     ghost lack: { ℕ → List Self.Item → Option ℕ };
 
@@ -100,6 +97,9 @@ pub trait Input: Items {
 
     /// Any items may follow.
     ghost more: { (xs : List Self.Item) → Self.seen.IsMore xs };
+
+    /// Inputs that are seen alike are compared as one.
+    ghost views: { (x y : Self) → IsSame Self.seen x y → Self.view.value x ≡ Self.view.value y };
 
     /// The rest, and then the first items, of length `index`.
     #[inline(always)]
