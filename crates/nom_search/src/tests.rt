@@ -162,6 +162,7 @@ fn substrings_of_bytes(rt: HostRuntime) {
 fn before<I: Input + FindSubstring<T>, T: Drop>(input: I, needle: T) -> Option<I>
     ensures { IfSome result (λ front. (n : ℕ) × I.finds (I.needle_seen needle) (I.seen.elements input) (Some n) × IsFront I.seen input n front) }
 {
+    input.known();
     match input.find_substring(needle) {
         Some(place) => Some(input.take(place)),
         None => None,
