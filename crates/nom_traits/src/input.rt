@@ -19,14 +19,28 @@ use nom_error::value::{ParseError, refusal};
 pub trait Value {
     /// Which values in contracts are values of the type.
     ghost IsValue: { Self → Type 0 };
+
+    /// The code point of a value that stands for a character; 0 for any other.
+    ghost code: { Self → ℕ } = { λ _. 0 };
 }
 
 impl Value for u8 {
     ghost IsValue = { λ b. b < 256 };
+
+    ghost code = { λ b. b };
 }
 
 impl Value for char {
     ghost IsValue = { λ c. IsScalar c };
+
+    ghost code = { λ c. c };
+}
+
+/// A reference is a value as what it points to is.
+impl<T: Value> Value for &T {
+    ghost IsValue = { λ r. T.IsValue r.now };
+
+    ghost code = { λ r. T.code r.now };
 }
 
 /// A value seen as a list of items, each of a length of at least 1, with a mark.
