@@ -1,4 +1,5 @@
 pub mod Bytes
+pub mod Classes
 pub mod CompareTags
 pub mod Compares
 pub mod Input

@@ -20,8 +20,6 @@ impl Items for &[u8] {
     ghost lawful = { bytes_lawful };
 
     ghost values = { λ i h. h.0 };
-
-    ghost views = { λ x y h. h.elements_are };
 }
 
 impl<'a> Input for &'a [u8] {
@@ -75,4 +73,6 @@ impl<'a> Input for &'a [u8] {
     }
 
     ghost more = { λ _. tt };
+
+    ghost views = { λ x y h. h.elements_are };
 }

@@ -19,18 +19,32 @@ use nom_error::value::{ParseError, refusal};
 pub trait Value {
     /// Which values in contracts are values of the type.
     ghost IsValue: { Self → Type 0 };
+
+    /// The code point of a value that stands for a character; 0 for any other.
+    ghost code: { Self → ℕ } = { λ _. 0 };
 }
 
 impl Value for u8 {
     ghost IsValue = { λ b. b < 256 };
+
+    ghost code = { λ b. b };
 }
 
 impl Value for char {
     ghost IsValue = { λ c. IsScalar c };
+
+    ghost code = { λ c. c };
+}
+
+/// A reference is a value as what it points to is.
+impl<T: Value> Value for &T {
+    ghost IsValue = { λ r. T.IsValue r.now };
+
+    ghost code = { λ r. T.code r.now };
 }
 
 /// A value seen as a list of items, each of a length of at least 1, with a mark.
-pub trait Items: Copy + Viewed {
+pub trait Items: Copy {
     /// An item.
     type Item: Value;
 
@@ -46,13 +60,10 @@ pub trait Items: Copy + Viewed {
 
     /// The items are values of their type.
     ghost values: { (i : Self) → seen.IsKnown i → AreValues Self.Item.IsValue (seen.elements i) };
-
-    /// Inputs that are seen alike are compared as one.
-    ghost views: { (x y : Self) → IsSame seen x y → Self.view.value x ≡ Self.view.value y };
 }
 
 /// An input that can be cut at the places between its items.
-pub trait Input: Items {
+pub trait Input: Items + Viewed {
     /// The size that is needed, where a list has fewer items than a count; none where it is unknown.
     ghost lack: { ℕ → List Self.Item → Option ℕ };
 
@@ -100,6 +111,9 @@ pub trait Input: Items {
 
     /// Any items may follow.
     ghost more: { (xs : List Self.Item) → Self.seen.IsMore xs };
+
+    /// Inputs that are seen alike are compared as one.
+    ghost views: { (x y : Self) → IsSame Self.seen x y → Self.view.value x ≡ Self.view.value y };
 
     /// The rest, and then the first items, of length `index`.
     #[inline(always)]

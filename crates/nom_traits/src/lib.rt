@@ -2,6 +2,7 @@
 #![tactic(auto)]
 
 pub mod bytes;
+pub mod character;
 pub mod compare;
 pub mod input;
 pub mod offset;

@@ -22,8 +22,6 @@ impl Items for &str {
     ghost lawful = { text_lawful };
 
     ghost values = { text_values };
-
-    ghost views = { λ x y h. h.elements_are };
 }
 
 impl<'a> Input for &'a str {
@@ -78,6 +76,8 @@ impl<'a> Input for &'a str {
     }
 
     ghost more = { λ _. tt };
+
+    ghost views = { λ x y h. h.elements_are };
 }
 
 impl Offset for &str {
