@@ -10,7 +10,8 @@ use Rattle.nom_internal.specs.Outcome.{Outcome, Shows}
 use Rattle.nom_internal.specs.Outcome.Outcome.{Accept, Refuse, Fail, TooLarge, Undecided}
 use Rattle.nom_internal.specs.Outcome.ShowsAnswer.{RanOut, Shown}
 use Rattle.nom_internal.specs.Meaning.{Meaning, ShowsMeaning}
-use Rattle.nom_internal.specs.Recognized.{recognized_meaning}
+use Rattle.nom_internal.specs.Recognized.{IsSliced, recognized_meaning}
+use Rattle.nom_internal.proofs.Cased.{here, plain_err}
 use Rattle.nom_internal.proofs.Shown.{accepts}
 
 module _ {I A : Type 0} (w : Seen I A) where
@@ -29,19 +30,11 @@ module _ {I A : Type 0} (w : Seen I A) where
 
 -- what a part shows whose outputs aren't built, as the slice that it consumed
 module _ {I A V O E : Type 0} (w : Seen I A) (IsOutput : V → O → Type 0) (m : Meaning I V E) (outputs errors s : Bool) (i : I) where
-  recognized_of : (f : Answer.Err E (Option E) Needed) (o : Outcome V) → m.answers s i o → Shows w IsOutput false errors i (m.blames s i) o (Err f) → ShowsMeaning w (IsSeenAs w) (recognized_meaning w m) outputs errors s i (Err f)
-  recognized_of f (Accept n v) a h = absurd (cc (h.4))
-  recognized_of f Refuse a h = Shown Refuse (record { outcome = Refuse; answered = a; sliced = refl }) (h.0, h.1, cc (h.2))
-  recognized_of f Fail a h = Shown Fail (record { outcome = Fail; answered = a; sliced = refl }) (h.0, h.1, cc (h.2))
-  recognized_of f TooLarge a h = Shown TooLarge (record { outcome = TooLarge; answered = a; sliced = refl }) (h.0, h.1, cc (h.2))
-  recognized_of f (Undecided k) a h = Shown (Undecided k) (record { outcome = Undecided k; answered = a; sliced = refl }) (h.0, h.1, cc (h.2))
-
   pub recognized_err : (f : Answer.Err E (Option E) Needed) → ShowsMeaning w IsOutput m false errors s i (Err f) → ShowsMeaning w (IsSeenAs w) (recognized_meaning w m) outputs errors s i (Err f)
-  recognized_err f (RanOut e h) = RanOut (cc (e)) h
-  recognized_err f (Shown o a h) = recognized_of f o a h
+  recognized_err f h = plain_err w IsOutput (IsSeenAs w) (λ _. false) (λ i n u. IsSliced w i n) m outputs errors s i f h
 
   pub recognized_ok : (j : I) (x : Option O) (b : Option I) → ShowsMeaning w IsOutput m false errors s i (Ok (j, x)) → ((n : ℕ) (t : Slice w) → IsRest w i n j → IsFirst w i n t → Built outputs (IsSeenAs w t) b) → ShowsMeaning w (IsSeenAs w) (recognized_meaning w m) outputs errors s i (Ok (j, b))
   recognized_ok j x b h f =
       let a = accepts w IsOutput false errors i (m.answers s i) (m.blames s i) (m.runs_out false errors s i) j x h in
       let t = slice_before w i j a.length a.rest_is in
-      Shown (Accept a.length t.0) (record { outcome = Accept a.length a.tree; answered = a.answered; sliced = (t.0, t.1, refl) }) (j, b, a.rest_is, f a.length t.0 a.rest_is t.1, refl)
+      Shown (Accept a.length t.0) (here (Accept a.length a.tree) a.answered (t.0, t.1, refl)) (j, b, a.rest_is, f a.length t.0 a.rest_is t.1, refl)

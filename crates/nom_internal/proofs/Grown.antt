@@ -1,17 +1,20 @@
 -- What is shown of an input that grows.
-use Rattle.std.proofs.Common.{◌≡◌, ℕ, ◌+◌, ◌-◌, ◌<◌, ◌≤◌, ◌++◌, true, List, length, slice_index, Result, Ok, Err, Option, sym, ◌∙◌, ap, subst, refl, arith, append_assoc}
+use Rattle.std.proofs.Common.{◌≡◌, ℕ, ◌+◌, ◌-◌, ◌<◌, ◌≤◌, ◌++◌, true, false, List, length, slice_index, Result, Ok, Err, Option, sym, ◌∙◌, ap, subst, refl, arith, append_assoc, ◌⊎◌, inl, inr}
 use Rattle.nom_error.specs.declared.answer.Needed.{Needed}
 use Rattle.nom_error.specs.declared.answer.Err as Answer
 use Rattle.nom_error.specs.declared.answer.Err.TheVariants.{Incomplete, OutOfMemory}
 use Rattle.nom_error.specs.Answers.{size_of}
 use Rattle.nom_internal.specs.Results.{AsksForMore, HasRests, WithRest}
 use Rattle.nom_traits.specs.Input.{Seen, InputLaws, IsPlace, IsFront, IsRest, span, input_len}
-use Rattle.nom_traits.specs.Rests.{same_self, same_front, span-append}
+use Rattle.nom_traits.specs.Rests.{same_self, same_front, rest_related, span-append}
+use Rattle.nom_traits.specs.View.{View}
+use Rattle.nom_internal.specs.Pinned.{IsPinned}
+use Rattle.nom_internal.specs.Promises.{IsOfWhole}
 use Rattle.nom_internal.specs.Outcome.{Outcome, Parses, ParsesAnswer, IsDecided}
 use Rattle.nom_internal.specs.Outcome.Outcome.{Accept, Refuse, Fail, TooLarge, Undecided}
 use Rattle.nom_internal.specs.Outcome.ParsesAnswer.{ParseRanOut, Parsed}
 use Rattle.nom_internal.specs.Meaning.{Meaning, IsLawful, IsSteady, ParsesMeaning}
-use Rattle.nom_internal.specs.Growing.{Waits, AnswersOn, IsGrown}
+use Rattle.nom_internal.specs.Growing.{Waits, AnswersOn, IsGrown, AgreesWithWhole}
 use Rattle.nom_internal.specs.Growing.IsBeginning.{AtCut, AtEnd}
 use Rattle.nom_internal.specs.Growing.AnswersOn.{RanOutOn, ShownOn}
 
@@ -89,7 +92,7 @@ module _ {I A V O E : Type 0} (w : Seen I A) (IsOutput : V → O → Type 0) (Is
 pub shown_along : {I A V O E State : Type 0} (w : Seen I A) (IsOutput : State → V → O → Type 0) (meaning : State → Meaning I V E) (x : I) (r : Result (I × O) (Answer.Err E E Needed)) (s t : State) → s ≡ t → ParsesMeaning w (IsOutput s) (meaning s) true x r → ParsesMeaning w (IsOutput t) (meaning t) true x r
 shown_along w IsOutput meaning x r s t e h = subst (λ u. ParsesMeaning w (IsOutput u) (meaning u) true x r) e h
 
-module _ {I A V O E : Type 0} (w : Seen I A) (l : InputLaws w) (IsOutput : V → O → Type 0) (m : Meaning I V E) (laws : IsLawful w m) (sound : m.IsSound) (whole : I) where
+module _ {I A V O E : Type 0} (w : Seen I A) (l : InputLaws w) (IsOutput : V → O → Type 0) (m : Meaning I V E) (laws : IsLawful w m) (whole : I) where
   waits_shown : (cut : ℕ) (x : I) (k : Needed) → IsFront w whole cut x → ParsesMeaning w IsOutput m true x (Err (Incomplete k)) → Waits w m whole cut
   waits_shown cut x k p (ParseRanOut e h) = cc
   waits_shown cut x k p (Parsed o a s) =
@@ -99,13 +102,13 @@ module _ {I A V O E : Type 0} (w : Seen I A) (l : InputLaws w) (IsOutput : V →
         begins = p;
         needed = size_of k;
         answered = b;
-        only = λ y z q c. laws.one_outcome true sound x y (Undecided (size_of k)) z p.known q.known (same_front w l whole cut x y p q) b tt c;
+        only = λ y z q c. laws.one_outcome true x y (Undecided (size_of k)) z p.known q.known (same_front w l whole cut x y p q) b tt c;
       }
 
   pub waits : (cut : ℕ) (x : I) (r : Result (I × O) (Answer.Err E E Needed)) → IsFront w whole cut x → AsksForMore r → ParsesMeaning w IsOutput m true x r → Waits w m whole cut
   waits cut x r p e s = waits_shown cut x e.0 p (subst (λ t. ParsesMeaning w IsOutput m true x t) e.1 s)
 
-module _ {I A V O E : Type 0} (w : Seen I A) (IsOutput : V → O → Type 0) (m : Meaning I V E) (laws : IsLawful w m) (sound : m.IsSound) (whole : I) (known : w.IsKnown whole) (cuts : List ℕ) (index : ℕ) (before : (k : ℕ) → k < index → Waits w m whole (slice_index cuts k)) where
+module _ {I A V O E : Type 0} (w : Seen I A) (IsOutput : V → O → Type 0) (m : Meaning I V E) (laws : IsLawful w m) (whole : I) (known : w.IsKnown whole) (cuts : List ℕ) (index : ℕ) (before : (k : ℕ) → k < index → Waits w m whole (slice_index cuts k)) where
   module _ (more : (xs : List A) → w.IsMore xs) (steady : IsSteady w m) (inside : index < length cuts) (x : I) (p : IsFront w whole (slice_index cuts index) x) (r r' : Result (I × O) (Answer.Err E E Needed)) (decided : AsksForMore r → ⊥) (rest : WithRest (IsRest w x) (IsRest w whole) r r') where
     asks : (k : Option ℕ) → Parses w IsOutput x (m.blames true x) (Undecided k) r → AsksForMore r
     asks k s = (s.0, s.2)
@@ -120,7 +123,7 @@ module _ {I A V O E : Type 0} (w : Seen I A) (IsOutput : V → O → Type 0) (m 
       answered = a;
       decided = λ _. not_undecided o s;
       shown = shown_in_whole w IsOutput (m.blames true x) x whole o r r' rest s;
-      stays = λ t z b. steady.stays sound x whole o z p.known known (record { more = p.rest; added = more p.rest; whole = p.whole; mark_is = sym p.mark_is }) a (decided_from o t (not_undecided o s)) b;
+      stays = λ t z b. steady x whole o z p.known known (record { more = p.rest; added = more p.rest; whole = p.whole; mark_is = sym p.mark_is }) a (decided_from o t (not_undecided o s)) b;
     })
 
     pub grown_at : ParsesMeaning w IsOutput m true x r → IsGrown w IsOutput m whole cuts index r'
@@ -140,7 +143,7 @@ module _ {I A V O E : Type 0} (w : Seen I A) (IsOutput : V → O → Type 0) (m 
       answered = a;
       decided = λ b. absurd (omega (arith, b, at_end));
       shown = s;
-      stays = λ t z b. laws.one_outcome true sound whole whole o z known known (same_self w whole) a tt b;
+      stays = λ t z b. laws.one_outcome true whole whole o z known known (same_self w whole) a tt b;
     })
 
     pub grown_whole : ParsesMeaning w IsOutput m true whole r → IsGrown w IsOutput m whole cuts index r
@@ -151,3 +154,43 @@ module _ {I A V O E : Type 0} (w : Seen I A) (IsOutput : V → O → Type 0) (m 
       begins = AtEnd at_end refl;
       answer = answer_whole s;
     }
+
+is_too_large : {V : Type 0} (o : Outcome V) → (o ≡ TooLarge) ⊎ (o ≡ TooLarge → ⊥)
+is_too_large (Accept n v) = inr (λ e. cc)
+is_too_large Refuse = inr (λ e. cc)
+is_too_large Fail = inr (λ e. cc)
+is_too_large TooLarge = inl refl
+is_too_large (Undecided k) = inr (λ e. cc)
+
+-- one `parse` of the whole, beside the answer on a beginning with the rest of the whole
+module _ {I A V O E : Type 0} (w : Seen I A) (l : InputLaws w) (view : View O) (Pins : Type 0) (IsOutput : V → O → Type 0) (pinned : Pins → IsPinned view IsOutput) (m : Meaning I V E) (whole beginning : I) where
+  of_outcome : (o : Outcome V) (r s : Result (I × O) (Answer.Err E E Needed)) → m.answers true beginning o → Parses w IsOutput whole (m.blames true beginning) o r → (o ≡ TooLarge → ⊥) → Parses w IsOutput whole (m.blames true whole) o s → IsOfWhole w view Pins IsOutput m beginning r s
+  of_outcome (Accept n v) r s a h f t =
+      let answer : IsOfWhole w view Pins IsOutput m beginning (Ok (h.0, h.1)) s = (t.0, t.1, rest_related w l false whole whole n h.0 t.0 (same_self w whole) h.2 t.2, (λ p. pinned p v h.1 t.1 h.3 t.3), t.4) in
+      subst (λ z. IsOfWhole w view Pins IsOutput m beginning z s) (sym h.4) answer
+  of_outcome Refuse r s a h f t = subst (λ z. IsOfWhole w view Pins IsOutput m beginning z s) (sym h.2) (t.0, t.2)
+  of_outcome Fail r s a h f t = subst (λ z. IsOfWhole w view Pins IsOutput m beginning z s) (sym h.2) (inr (t.0, t.2))
+  of_outcome TooLarge r s a h f t = absurd (f refl)
+  of_outcome (Undecided k) r s a h f t = subst (λ z. IsOfWhole w view Pins IsOutput m beginning z s) (sym h.2) (t.0, t.1 ∙ sym h.1, t.2)
+
+  large_failure : (r s : Result (I × O) (Answer.Err E E Needed)) → m.answers true beginning TooLarge → Parses w IsOutput whole (m.blames true beginning) TooLarge r → IsOfWhole w view Pins IsOutput m beginning r s
+  large_failure r s a h = subst (λ z. IsOfWhole w view Pins IsOutput m beginning z s) (sym h.2) (inl a)
+
+  of_shown : (o p : Outcome V) (r s : Result (I × O) (Answer.Err E E Needed)) → m.answers true beginning o → Parses w IsOutput whole (m.blames true beginning) o r → ((o ≡ TooLarge → ⊥) → o ≡ p) → Parses w IsOutput whole (m.blames true whole) p s → IsOfWhole w view Pins IsOutput m beginning r s
+  of_shown o p r s a h f t = elim (is_too_large o) as (λ _. IsOfWhole w view Pins IsOutput m beginning r s) [
+    | inl e ↦ large_failure r s (subst (λ z. m.answers true beginning z) e a) (subst (λ z. Parses w IsOutput whole (m.blames true beginning) z r) e h)
+    | inr other ↦ of_outcome o r s a h other (subst (λ z. Parses w IsOutput whole (m.blames true whole) z s) (sym (f other)) t)
+  ]
+
+  module _ (cuts : List ℕ) (index : ℕ) (r s : Result (I × O) (Answer.Err E E Needed)) where
+    of_answer : AnswersOn w IsOutput m whole cuts index beginning r → ParsesMeaning w IsOutput m true whole s → (s ≡ Err OutOfMemory) ⊎ IsOfWhole w view Pins IsOutput m beginning r s
+    of_answer (RanOutOn e h) t = inr (subst (λ z. IsOfWhole w view Pins IsOutput m beginning z s) (sym e) tt)
+    of_answer (ShownOn a) (ParseRanOut e h) = inl e
+    of_answer (ShownOn a) (Parsed p b t) = inr (of_shown a.outcome p r s a.answered a.shown (λ f. a.stays f p b) t)
+
+pub agrees : {I A V O E : Type 0} (w : Seen I A) (l : InputLaws w) (view : View O) (Pins : Type 0) (IsOutput : V → O → Type 0) (m : Meaning I V E) (whole : I) (cuts : List ℕ) (index : ℕ) (r : Result (I × O) (Answer.Err E E Needed)) → (Pins → IsPinned view IsOutput) → IsGrown w IsOutput m whole cuts index r → AgreesWithWhole w view Pins IsOutput m whole cuts index r
+agrees w l view Pins IsOutput m whole cuts index r pinned g = record {
+  beginning = g.beginning;
+  begins = g.begins;
+  of_whole = λ s. of_answer w l view Pins IsOutput pinned m whole g.beginning cuts index r s g.answer;
+}

@@ -1,5 +1,5 @@
-pub mod Branches
-pub mod Choice
+pub mod Cased
+pub mod Choices
 pub mod Consumed
 pub mod Grown
 pub mod Shown

@@ -100,7 +100,7 @@ module _ {I A J B P T E F : Type 0} (w : Seen I A) (v : Seen J B) (m : Meaning J
 
   case_blames_alike : (mode : PartMode) → c.mode ≡ mode → SettlesIn mode m.Settles → (s : Bool) → SameBlame w (Answers (mode_of mode s)) (Answers (mode_of mode (not s))) (Errors (mode_of mode s)) (Errors (mode_of mode (not s)))
   case_blames_alike AsAsked e t s = case_blames w v c l (ap (λ z. mode_of z true) e) (m.answers s) (m.answers (not s)) (m.blames s) (m.blames (not s)) (transfers v m p t s)
-  case_blames_alike (Always b) e t s i o f h a z d x = x
+  case_blames_alike (Always b) e t s = λ i o f h a z d x. x
 
   pub case_lawful : IsLawful w (case_meaning c m)
   case_lawful = record {

@@ -69,7 +69,7 @@ module _ {P V I A Q E : Type 0} (w : Seen I A) (IsValue : P → V → Type 0) (f
   same_blame : (u : P) → f.Settles → (s : Bool) → SameBlame w (((of_value IsValue f).at u).answers s) (((of_value IsValue f).at u).answers (not s)) (((of_value IsValue f).at u).blames s) (((of_value IsValue f).at u).blames (not s))
   same_blame u t s i o e h a b d z =
       let v = z.value in
-      let key = (u, z.is_value) in
+      let key : (x : P) × IsValue x v = (u, z.is_value) in
       let first = subst (λ n. (f.at n).answers s i o) (one u a.value v a.is_value z.is_value) a.fact in
       let second = subst (λ n. (f.at n).answers (not s) i o) (one u b.value v b.is_value z.is_value) b.fact in
       record { value = v; is_value = z.is_value; fact = (l.lawful v key).blames_alike (l.settles t v key) s i o e h first second d z.fact }

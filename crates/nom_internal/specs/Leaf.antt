@@ -101,7 +101,7 @@ module _ {I A V : Type 0} (w : Seen I A) (leaf : Leaf I V) (l : LeafLaws w leaf)
       one_outcome = λ s. answers_agree false s (λ e. cc);
       alike = λ s x y o kx ky r a d. answers_carry false s (λ e. cc) x y o kx ky r a d;
       frugal = λ outputs errors s i h f r. f r.1 r.2;
-      settles = λ t x y o kx ky r a d. answers_settle y o ky (answers_carry false true (λ e. e) x y o kx ky r a tt) d;
+      settles = λ t x y o kx ky r a d. answers_settle y o ky (answers_carry false true (λ e. refl) x y o kx ky r a tt) d;
       blames_alike = λ t s i o e h a b d z. z;
       never_fails = λ large g s i h a. never_answers large s i a;
     }

@@ -11,7 +11,7 @@ abbrev pub IsPinned : {V O : Type 0} → View O → (V → O → Type 0) → Typ
 IsPinned {V} {O} view IsOutput = (t : V) (a b : O) → IsOutput t a → IsOutput t b → view.value a ≡ view.value b
 
 -- a value that is its own tree
-pub value_pinned : {O : Type 0} → IsPinned (itself {O}) (λ t o. o ≡ t)
+pub value_pinned : {O : Type 0} → IsPinned (itself {O = O}) (λ t o. o ≡ t)
 value_pinned t a b p q = p ∙ sym q
 
 -- a slice, where inputs that are seen alike are compared as one

@@ -73,25 +73,26 @@ module _ {I A P T : Type 0} (w : Seen I A) (OnAccept : I → ℕ → P → Outco
   }
 
 -- slices
-module _ {I A V : Type 0} (w : Seen I A) (l : InputLaws w) where
-  sliced : (longer : Bool) (x y : I) (n : ℕ) (o p : Outcome (Slice w)) → Related w longer x y → IsSliced w x n o → IsSliced w y n p → o ≡ p
-  sliced longer x y n o p r s t =
+module _ {I A : Type 0} (w : Seen I A) where
+  sliced : InputLaws w → (longer : Bool) (x y : I) (n : ℕ) (o p : Outcome (Slice w)) → Related w longer x y → IsSliced w x n o → IsSliced w y n p → o ≡ p
+  sliced l longer x y n o p r s t =
       let same = same_length w l y n n s.0 t.0 (first_related w longer x y n s.0 r s.1) t.1 refl in
       s.2 ∙ (ap (λ z. Accept n z) same ∙ sym t.2)
 
-  sliced_place : (i : I) (n m : ℕ) (t u : Slice w) → IsFirst w i n t → Accept {V = Slice w} m u ≡ Accept n t → IsPlace w i m
-  sliced_place i n m t u f e = let same : n ≡ m = cc in subst (λ z. IsPlace w i z) same (first_place w i n t f)
+  sliced_place : (i : I) (n m : ℕ) (t u : Slice w) → IsFirst w i n t → Accept m u ≡ Accept n t → IsPlace w i m
+  sliced_place i n m t u f e = let same : n ≡ m = cc (e) in subst (λ z. IsPlace w i z) same (first_place w i n t f)
 
   never_sliced : (large : Bool) (i : I) (n : ℕ) → IsSliced w i n (failure large) → ⊥
   never_sliced true i n s = absurd (cc (s.2))
   never_sliced false i n s = absurd (cc (s.2))
 
+module _ {I A V : Type 0} (w : Seen I A) (l : InputLaws w) where
   pub sliced_laws : AcceptLaws w (λ i n (u : V). IsSliced w i n)
   sliced_laws = record {
-    same = λ longer x y n u o p kx ky r s k t. sliced longer x y n o p r s t;
+    same = λ longer x y n u o p kx ky r s k t. sliced w l longer x y n o p r s t;
     alike = λ x y n u o kx ky r s. (s.0, first_related w false x y n s.0 r s.1, s.2);
-    place = λ i m n u t h p s. sliced_place i m n s.0 t s.1 s.2;
-    never_fails = λ large i n u s. never_sliced large i n s;
+    place = λ i m n u t h p s. sliced_place w i m n s.0 t s.1 s.2;
+    never_fails = λ large i n u s. never_sliced w large i n s;
   }
 
 module _ {I A V E : Type 0} (w : Seen I A) (l : InputLaws w) (m : Meaning I V E) where

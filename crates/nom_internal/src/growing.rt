@@ -1,7 +1,7 @@
 //! Inputs that grow.
 ghost use Rattle.std.specs.Prelude.{ℕ, MatchBool};
 ghost use Rattle.nom_traits.specs.Input.{IsRest, IsFront};
-ghost use Rattle.nom_internal.specs.Growing.{AreCuts, IsGrown};
+ghost use Rattle.nom_internal.specs.Growing.{AreCuts, IsGrown, AgreesWithWhole};
 ghost use Rattle.nom_internal.specs.Results.{AsksForMore, HasRests, WithRest};
 
 use crate::parser::StreamParser;
@@ -53,7 +53,9 @@ pub fn parse_growing<I: Input, P: StreamParser<I> + Drop>(
 ) -> Grown<I, P::Output, P::Error>
     requires sound { (P.meaning (P.state parser)).IsSound }
     requires cuts { AreCuts I.seen whole cuts.now }
-    ensures { IsGrown I.seen (P.IsOutput (P.state parser)) (P.meaning (P.state parser)) whole cuts.now result.index result.result }
+    ensures grown { IsGrown I.seen (P.IsOutput (P.state parser)) (P.meaning (P.state parser)) whole cuts.now result.index result.result }
+    // Where the parser pins, one parse of the whole answers the same.
+    ensures whole { AgreesWithWhole I.seen P.Output.view (P.Parser.Pins (P.state parser)) (P.IsOutput (P.state parser)) (P.meaning (P.state parser)) whole cuts.now result.index result.result }
 {
     whole.known();
     for (index, cut) in cuts.iter().enumerate() {

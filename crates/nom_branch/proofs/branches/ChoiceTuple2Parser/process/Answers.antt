@@ -1,6 +1,6 @@
 use Rattle.nom_error.specs.declared.kind.ErrorKind.TheVariants.{Alt}
 use Rattle.nom_internal.specs.Choice.{either_meaning, EitherOutput}
-use Rattle.nom_internal.proofs.Choice.{either_shown, closed_shown}
+use Rattle.nom_internal.proofs.Choices.{either_shown, closed_shown}
 use Rattle.nom_branch.proofs.branches.ChoiceTuple2Parser.process.Goals as goal
 
 pub returns-clause-shown : goal.returns-clause-shown

@@ -1,7 +1,7 @@
 use Rattle.std.proofs.Common.{◌≡◌, sym, ◌∙◌, refl}
 use Rattle.nom_traits.specs.Slices.{place_first}
 use Rattle.nom_internal.proofs.Shown.{accepted, undecided, refused, built_error}
-use Rattle.nom_internal.proofs.Choice.{labelled_shown}
+use Rattle.nom_internal.proofs.Choices.{labelled_shown}
 use Rattle.nom_number.specs.Numbers.{value_of}
 use Rattle.nom_number.proofs.Bytes.{value_first, some_more}
 use Rattle.nom_number.proofs.binary.BeU8Parser.process.Goals as goal

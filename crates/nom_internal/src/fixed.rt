@@ -1,9 +1,10 @@
 //! Parsers in one mode.
-ghost use Rattle.nom_bytes.specs.Fixed.{fixed_meaning, fixed_lawful, fixed_steady};
+ghost use Rattle.nom_internal.specs.Cases.{fixed_meaning};
+ghost use Rattle.nom_internal.specs.CaseLaws.{fixed_lawful, fixed_steady};
 
+use crate::parser::{Parser, StreamParser};
 use nom_error::answer::PResult;
 use nom_error::mode::{IsStreaming, OutputM, OutputMode, Streaming};
-use nom_internal::parser::{Parser, StreamParser};
 use nom_traits::input::Items;
 use std::marker::PhantomData;
 
@@ -29,15 +30,19 @@ impl<I: Items, P: Parser<I> + Drop, S: IsStreaming> Parser<I> for Fixed<P, S> {
 
     ghost meaning = { λ s. fixed_meaning S.STREAMING (P.meaning s) };
 
+    ghost Pins = { P.Pins };
+
     #[inline(always)]
     fn process<OM: OutputMode>(&mut self, input: I) -> PResult<I, P::Output, P::Error> {
         self.parser
             .process::<OutputM<OM::Output, OM::Error, S>>(input)
     }
 
-    ghost lawful = { λ s. fixed_lawful I.seen S.STREAMING (P.meaning s) (P.lawful s) };
+    ghost lawful = { λ s k. fixed_lawful I.seen (P.meaning s) S.STREAMING (P.lawful s k) };
 }
 
 impl<I: Items, P: StreamParser<I> + Drop> StreamParser<I> for Fixed<P, Streaming> {
-    ghost steady = { λ s. fixed_steady I.seen (P.meaning s) (P.steady s) };
+    ghost pinned = { P.pinned };
+
+    ghost steady = { λ s k. fixed_steady I.seen (P.meaning s) (P.steady s k) };
 }

@@ -11,11 +11,13 @@ use Rattle.nom_internal.specs.Outcome.{Outcome, Shows, ShowsAnswer, IsFailure, O
 use Rattle.nom_internal.specs.Outcome.Outcome.{Accept, Refuse, Fail, TooLarge, Undecided}
 use Rattle.nom_internal.specs.Outcome.ShowsAnswer.{RanOut, Shown}
 use Rattle.nom_internal.specs.Meaning.{Meaning, ShowsMeaning}
-use Rattle.nom_internal.specs.Choice.{labelled, Labelled, labelled_meaning, Joined, NextBlames, NextRunsOut, or_meaning, either_meaning, closed_meaning, EitherOutput, OnError, JoinsErrors, ClosesError, JoinsResult, ClosesResult, ShowsNext}
+use Rattle.nom_internal.specs.Choice.{Joined, NextBlames, NextRunsOut, or_meaning, either_meaning, EitherOutput, OnError, JoinsErrors, ClosesError, JoinsResult, ClosesResult, ShowsNext}
 use Rattle.nom_internal.specs.Choice.NextBlames.{NextFails, NextRefuses}
 use Rattle.nom_internal.specs.Choice.OrBlames.{FirstFails, FirstRefuses}
-use Rattle.nom_internal.specs.Choice.CloseBlames.{ClosedFails, ClosedRefuses}
+use Rattle.nom_internal.specs.Cases.{labelled, labelled_meaning, closed_meaning}
+use Rattle.nom_internal.specs.Cases.CaseRunsOut.{RunsOutInPart, RunsOutBeside}
 use Rattle.nom_internal.proofs.Shown.{built_error}
+use Rattle.nom_internal.proofs.Cased.{here, labelled_shown}
 
 module _ {E : Type 0} (Grows : Type 0) where
   -- a refusal whose error comes of one that is built
@@ -96,42 +98,15 @@ module _ {I A V O E : Type 0} (w : Seen I A) (IsOutput : V → O → Type 0) (ou
 
   -- a parser, closed
   pub closed_shown : (Closes : I → E → E → Type 0) (Grows : Type 0) (before r : Result (I × Option O) (Answer.Err E (Option E) Needed)) → ShowsMeaning w IsOutput m outputs errors s i before → ClosesResult (Closes i) Grows before r → ShowsMeaning w IsOutput (closed_meaning Closes Grows m) outputs errors s i r
-  closed_shown Closes Grows before r (RanOut e h) g = RanOut (rw e at g) (inl h)
-  closed_shown Closes Grows before r (Shown (Accept n v) a h) g = Shown (Accept n v) a (h.0, h.1, h.2, h.3, rw h.4 at g)
+  closed_shown Closes Grows before r (RanOut e h) g = RanOut (rw e at g) (RunsOutInPart i refl h)
+  closed_shown Closes Grows before r (Shown (Accept n v) a h) g = Shown (Accept n v) (here (Accept n v) a refl) (h.0, h.1, h.2, h.3, rw h.4 at g)
   closed_shown Closes Grows before r (Shown Refuse a h) g =
       let made = rw h.2 at g in
       let closed = closed_meaning Closes Grows m in
-      refusal_shown w IsOutput outputs errors i (m.answers s i) (λ e. (x : E) × m.blames s i x × Closes i x e) (closed.blames s i) Grows (closed.runs_out outputs errors s i) made.0 r a (λ e c. ClosedRefuses a c.0 c.1 c.2) (λ e z. inr (a, e, z)) (closes_built Grows (Closes i) (m.blames s i) errors h.0 made.0 h.1 made.1) made.2
-  closed_shown Closes Grows before r (Shown Fail a h) g = Shown Fail a (h.0, ClosedFails (record { outcome = Fail; answered = a; kind_is = tt; fact = h.1 }), rw h.2 at g)
-  closed_shown Closes Grows before r (Shown TooLarge a h) g = Shown TooLarge a (h.0, ClosedFails (record { outcome = TooLarge; answered = a; kind_is = tt; fact = h.1 }), rw h.2 at g)
-  closed_shown Closes Grows before r (Shown (Undecided k) a h) g = Shown (Undecided k) a (h.0, h.1, rw h.2 at g)
-
--- a part's failure and its refusal, labelled
-failure_labelled : {I P T : Type 0} (label : P → T) (F : I → Outcome P → Type 0) (Fact : Type 0) (i : I) → OnOutcome IsFailure F Fact i → OnOutcome IsFailure (Labelled label F) Fact i
-failure_labelled {P = P} label F Fact i f = record { outcome = labelled label f.outcome; answered = record { outcome = f.outcome; answered = f.answered; is = refl }; kind_is = still f.outcome f.kind_is; fact = f.fact }
-  where
-    still : (o : Outcome P) → IsFailure o → IsFailure (labelled label o)
-    still (Accept n v) h = h
-    still Refuse h = h
-    still Fail h = h
-    still TooLarge h = h
-    still (Undecided k) h = h
-
-refusal_labelled : {I P T : Type 0} (label : P → T) (F : I → Outcome P → Type 0) (i : I) → F i Refuse → Labelled label F i Refuse
-refusal_labelled label F i h = record { outcome = Refuse; answered = h; is = refl }
-
-module _ {I A P T O : Type 0} (w : Seen I A) (label : P → T) (IsOutput : P → O → Type 0) (IsLabelled : T → O → Type 0) (same : (t : P) (o : O) → IsOutput t o → IsLabelled (label t) o) (outputs errors : Bool) (i : I) where
-  shows_labelled : {E : Type 0} (IsError : E → Type 0) (o : Outcome P) (r : Result (I × Option O) (Answer.Err E (Option E) Needed)) → Shows w IsOutput outputs errors i IsError o r → Shows w IsLabelled outputs errors i IsError (labelled label o) r
-  shows_labelled IsError (Accept n v) r h = (h.0, h.1, h.2, built_map outputs (IsOutput v) (IsLabelled (label v)) h.1 (λ o _ p. same v o p) h.3, h.4)
-  shows_labelled IsError Refuse r h = h
-  shows_labelled IsError Fail r h = h
-  shows_labelled IsError TooLarge r h = h
-  shows_labelled IsError (Undecided k) r h = h
-
-  -- a part, with its trees labelled
-  pub labelled_shown : {E : Type 0} (F : I → Outcome P → Type 0) (IsError : E → Type 0) (RunsOut : Type 0) (r : Result (I × Option O) (Answer.Err E (Option E) Needed)) → ShowsAnswer w IsOutput outputs errors i (F i) IsError RunsOut r → ShowsAnswer w IsLabelled outputs errors i (Labelled label F i) IsError RunsOut r
-  labelled_shown F IsError RunsOut r (RanOut e h) = RanOut e h
-  labelled_shown F IsError RunsOut r (Shown o a h) = Shown (labelled label o) (record { outcome = o; answered = a; is = refl }) (shows_labelled IsError o r h)
+      refusal_shown w IsOutput outputs errors i (closed.answers s i) (λ e. (x : E) × m.blames s i x × Closes i x e) (closed.blames s i) Grows (closed.runs_out outputs errors s i) made.0 r (here Refuse a refl) (λ e c. here Refuse a c) (λ e z. RunsOutBeside (here Refuse a (e, z))) (closes_built Grows (Closes i) (m.blames s i) errors h.0 made.0 h.1 made.1) made.2
+  closed_shown Closes Grows before r (Shown Fail a h) g = Shown Fail (here Fail a refl) (h.0, here Fail a h.1, rw h.2 at g)
+  closed_shown Closes Grows before r (Shown TooLarge a h) g = Shown TooLarge (here TooLarge a refl) (h.0, here TooLarge a h.1, rw h.2 at g)
+  closed_shown Closes Grows before r (Shown (Undecided k) a h) g = Shown (Undecided k) (here (Undecided k) a refl) (h.0, h.1, rw h.2 at g)
 
 module _ {I A V O E : Type 0} (w : Seen I A) (IsOutput : V → O → Type 0) (outputs errors : Bool) (i : I) where
   -- what is shown, where the answers, the errors and the want of memory are more
@@ -140,18 +115,38 @@ module _ {I A V O E : Type 0} (w : Seen I A) (IsOutput : V → O → Type 0) (ou
   shown_map F G P Q R S r f g k (Shown o a h) = Shown o (f o a) (shows_map w IsOutput outputs errors i P Q o r g h)
 
 module _ {I A V T O E : Type 0} (w : Seen I A) (label : V → T) (IsOutput : V → O → Type 0) (IsLabelled : T → O → Type 0) (same : (t : V) (o : O) → IsOutput t o → IsLabelled (label t) o) (Joins : E → E → E → Type 0) (Grows : Type 0) (m : Meaning I V E) (outputs errors s : Bool) (i : I) where
+  failure_labelled : (e : E) → OnOutcome IsFailure (m.answers s) (m.blames s i e) i → OnOutcome IsFailure ((labelled_meaning label m).answers s) ((labelled_meaning label m).blames s i e) i
+  failure_labelled e f = record { outcome = labelled label f.outcome; answered = here f.outcome f.answered refl; kind_is = still f.outcome f.kind_is; fact = here f.outcome f.answered f.fact }
+    where
+      still : (o : Outcome V) → IsFailure o → IsFailure (labelled label o)
+      still (Accept n v) h = h
+      still Refuse h = h
+      still Fail h = h
+      still TooLarge h = h
+      still (Undecided k) h = h
+
   next_blames_labelled : (First : E → Type 0) (e : E) → NextBlames Joins m s i First e → NextBlames Joins (labelled_meaning label m) s i First e
-  next_blames_labelled First e (NextFails f) = NextFails (failure_labelled label (m.answers s) (m.blames s i e) i f)
-  next_blames_labelled First e (NextRefuses a j) = NextRefuses (refusal_labelled label (m.answers s) i a) j
+  next_blames_labelled First e (NextFails f) = NextFails (failure_labelled e f)
+  next_blames_labelled First e (NextRefuses a j) = NextRefuses (here Refuse a refl) (record { first = j.first; second = j.second; first_is = j.first_is; second_is = here Refuse a j.second_is; joined = j.joined })
 
   next_runs_out_labelled : NextRunsOut Grows m outputs errors s i → NextRunsOut Grows (labelled_meaning label m) outputs errors s i
-  next_runs_out_labelled (inl h) = inl h
-  next_runs_out_labelled (inr h) = inr (refusal_labelled label (m.answers s) i h.0, h.1, h.2)
+  next_runs_out_labelled (inl h) = inl (RunsOutInPart i refl h)
+  next_runs_out_labelled (inr h) = inr (here Refuse h.0 refl, h.1, h.2)
+
+  next_of : (x : Option E) (r : Result (I × Option O) (Answer.Err E (Option E) Needed)) (o : Outcome V) → m.answers s i o → Shows w IsOutput outputs errors i (NextBlames Joins m s i (λ a. x ≡ Some a)) o r → Shows w IsLabelled outputs errors i (NextBlames Joins (labelled_meaning label m) s i (λ a. x ≡ Some a)) (labelled label o) r
+  next_of x r (Accept n v) a h = (h.0, h.1, h.2, built_map outputs (IsOutput v) (IsLabelled (label v)) h.1 (λ o _ p. same v o p) h.3, h.4)
+  next_of x r Refuse a h = (h.0, built_map errors _ _ h.0 (λ e _ n. next_blames_labelled (λ a. x ≡ Some a) e n) h.1, h.2)
+  next_of x r Fail a h = (h.0, next_blames_labelled (λ a. x ≡ Some a) h.0 h.1, h.2)
+  next_of x r TooLarge a h = (h.0, next_blames_labelled (λ a. x ≡ Some a) h.0 h.1, h.2)
+  next_of x r (Undecided k) a h = h
 
   -- a branch after a refusal, with its trees labelled
   pub next_labelled : (x : Option E) (r : Result (I × Option O) (Answer.Err E (Option E) Needed)) → ShowsNext w IsOutput Joins Grows m outputs errors s i x r → ShowsNext w IsLabelled Joins Grows (labelled_meaning label m) outputs errors s i x r
-  next_labelled x r h b = shown_map w IsLabelled outputs errors i (Labelled label (m.answers s) i) (Labelled label (m.answers s) i) (NextBlames Joins m s i (λ a. x ≡ Some a)) (NextBlames Joins (labelled_meaning label m) s i (λ a. x ≡ Some a)) (NextRunsOut Grows m outputs errors s i) (NextRunsOut Grows (labelled_meaning label m) outputs errors s i) r (λ o a. a) (λ e n. next_blames_labelled (λ a. x ≡ Some a) e n) next_runs_out_labelled
-      (labelled_shown w label IsOutput IsLabelled same outputs errors i (m.answers s) (NextBlames Joins m s i (λ a. x ≡ Some a)) (NextRunsOut Grows m outputs errors s i) r (h b))
+  next_labelled x r h b = labelled_next (h b)
+    where
+      labelled_next : ShowsAnswer w IsOutput outputs errors i (m.answers s i) (NextBlames Joins m s i (λ a. x ≡ Some a)) (NextRunsOut Grows m outputs errors s i) r → ShowsAnswer w IsLabelled outputs errors i ((labelled_meaning label m).answers s i) (NextBlames Joins (labelled_meaning label m) s i (λ a. x ≡ Some a)) (NextRunsOut Grows (labelled_meaning label m) outputs errors s i) r
+      labelled_next (RanOut e k) = RanOut e (next_runs_out_labelled k)
+      labelled_next (Shown o a k) = Shown (labelled label o) (here o a refl) (next_of x r o a k)
 
 -- one of two parsers, of one type of trees
 module _ {I A V O E : Type 0} (w : Seen I A) (IsOutput : V → O → Type 0) (Joins : E → E → E → Type 0) (Grows : Type 0) (a b : Meaning I V E) (outputs errors s : Bool) (i : I) where
@@ -177,5 +172,5 @@ pub either_shown : {I A P Q O E : Type 0} (w : Seen I A) (First : P → O → Ty
 either_shown w First Second Joins Grows a b outputs errors s i before r h g =
     let out = EitherOutput First Second in
     or_shown w out Joins Grows (labelled_meaning inl a) (labelled_meaning inr b) outputs errors s i before r
-    (labelled_shown w inl First out (λ t o k. k) outputs errors i (a.answers s) (a.blames s i) (a.runs_out outputs errors s i) before h)
+    (labelled_shown w inl First out (λ t o k. k) a outputs errors s i before h)
     (on_error_map (ShowsNext w Second Joins Grows b outputs errors s i) (ShowsNext w out Joins Grows (labelled_meaning inr b) outputs errors s i) before r (λ x k. next_labelled w inr Second out (λ t o k. k) Joins Grows b outputs errors s i x r k) g)

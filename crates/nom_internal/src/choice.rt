@@ -1,0 +1,114 @@
+//! Choices, and the errors that are joined and closed in them.
+ghost use Rattle.std.specs.Prelude.{◌≡◌};
+ghost use Rattle.nom_internal.specs.Choice.{OnError, JoinsErrors, ClosesError, JoinsResult, ClosesResult, ShowsNext};
+
+use crate::parser::Parser;
+use nom_error::answer::{Err, PResult};
+use nom_error::kind::ErrorKind;
+use nom_error::mode::OutputMode;
+use nom_error::value::ParseError;
+use nom_traits::input::Items;
+
+/// Two errors, joined where they are built.
+#[inline(always)]
+pub fn join_errors<I, E: ParseError<I>>(first: Option<E>, second: Option<E>) -> Err<E, Option<E>>
+    ensures { JoinsErrors E.errors.joined E.errors.grows first second result }
+{
+    match first {
+        Some(first) => match second {
+            Some(second) => match first.or(second) {
+                Ok(both) => Err::Error(Some(both)),
+                Err(_) => Err::OutOfMemory,
+            },
+            None => Err::Error(None),
+        },
+        None => Err::Error(None),
+    }
+}
+
+/// A result, where a refusal's error is joined to one before it.
+#[inline(always)]
+pub fn join<I, T, E: ParseError<I>>(
+    first: Option<E>,
+    second: Result<T, Err<E, Option<E>>>,
+) -> Result<T, Err<E, Option<E>>>
+    ensures { JoinsResult E.errors.joined E.errors.grows first second result }
+{
+    match second {
+        Ok(accepted) => Ok(accepted),
+        Err(Err::Incomplete(needed)) => Err(Err::Incomplete(needed)),
+        Err(Err::Error(error)) => Err(join_errors(first, error)),
+        Err(Err::Failure(error)) => Err(Err::Failure(error)),
+        Err(Err::OutOfMemory) => Err(Err::OutOfMemory),
+    }
+}
+
+/// What a branch answers after a refusal with an error.
+#[inline(always)]
+pub fn after_refusal<I: Items, P: Parser<I>, OM: OutputMode>(
+    error: Option<P::Error>,
+    next: &mut P,
+    input: I,
+) -> PResult<I, P::Output, P::Error>
+    requires { (P.meaning (P.state next.old)).IsSound }
+    ensures shown { ShowsNext I.seen (P.IsOutput (P.state next.old)) P.Error.errors.joined P.Error.errors.grows (P.meaning (P.state next.old)) OM.Output.BUILDS OM.Error.BUILDS OM.Incomplete.STREAMING input error result }
+    ensures kept { P.state next.new ≡ P.state next.old }
+{
+    join(error, next.process::<OM>(input))
+}
+
+/// What a branch answers after those before it: it is tried only where they refuse.
+#[inline(always)]
+pub fn next_branch<I: Items, P: Parser<I>, OM: OutputMode>(
+    before: PResult<I, P::Output, P::Error>,
+    next: &mut P,
+    input: I,
+) -> PResult<I, P::Output, P::Error>
+    requires { (P.meaning (P.state next.old)).IsSound }
+    ensures shown { OnError (ShowsNext I.seen (P.IsOutput (P.state next.old)) P.Error.errors.joined P.Error.errors.grows (P.meaning (P.state next.old)) OM.Output.BUILDS OM.Error.BUILDS OM.Incomplete.STREAMING input) before result }
+    ensures kept { P.state next.new ≡ P.state next.old }
+{
+    match before {
+        Ok(taken) => Ok(taken),
+        Err(Err::Incomplete(more)) => Err(Err::Incomplete(more)),
+        Err(Err::Error(error)) => after_refusal::<I, P, OM>(error, next, input),
+        Err(Err::Failure(failure)) => Err(Err::Failure(failure)),
+        Err(Err::OutOfMemory) => Err(Err::OutOfMemory),
+    }
+}
+
+/// An error, closed at an input where it is built.
+#[inline(always)]
+pub fn close_error<I: Drop, E: ParseError<I>>(
+    error: Option<E>,
+    input: I,
+    kind: ErrorKind,
+) -> Err<E, Option<E>>
+    ensures { ClosesError (E.errors.appended input kind) E.errors.grows error result }
+{
+    match error {
+        Some(error) => match E::append(input, kind, error) {
+            Ok(closed) => Err::Error(Some(closed)),
+            Err(_) => Err::OutOfMemory,
+        },
+        None => Err::Error(None),
+    }
+}
+
+/// A result, where a refusal's error is closed at an input.
+#[inline(always)]
+pub fn close<I: Drop, T, E: ParseError<I>>(
+    answer: Result<T, Err<E, Option<E>>>,
+    input: I,
+    kind: ErrorKind,
+) -> Result<T, Err<E, Option<E>>>
+    ensures { ClosesResult (E.errors.appended input kind) E.errors.grows answer result }
+{
+    match answer {
+        Ok(accepted) => Ok(accepted),
+        Err(Err::Incomplete(needed)) => Err(Err::Incomplete(needed)),
+        Err(Err::Error(error)) => Err(close_error(error, input, kind)),
+        Err(Err::Failure(error)) => Err(Err::Failure(error)),
+        Err(Err::OutOfMemory) => Err(Err::OutOfMemory),
+    }
+}
