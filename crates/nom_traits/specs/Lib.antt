@@ -1,3 +1,4 @@
+pub mod Bits
 pub mod Bytes
 pub mod CompareTags
 pub mod Compares

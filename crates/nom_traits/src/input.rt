@@ -29,6 +29,10 @@ impl Value for char {
     ghost IsValue = { λ c. IsScalar c };
 }
 
+impl Value for bool {
+    ghost IsValue = { λ _. Unit {0} };
+}
+
 /// A value seen as a list of items, each of a length of at least 1, with a mark.
 pub trait Items: Copy {
     /// An item.
