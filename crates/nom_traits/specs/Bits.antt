@@ -45,13 +45,14 @@ abbrev pub AreBytes : List ℕ → Type 0
 AreBytes xs = AreValues (λ b. b < 256) xs
 
 module _ {I : Type 0} (w : Seen I ℕ) where
-  -- inputs of I can differ in their marks
+  -- the marks of I can differ: not all are equal
   abbrev pub HasMarks : Type 0
   HasMarks = ((m n : w.Mark) → m ≡ n) → ⊥
 
-  -- What is told of a place between two bits: the mark of I at the last place between two bytes, and the bits
-  -- passed since. Those bits are told only where inputs of I can differ in their marks: a place among the bits of
-  -- a slice of bytes has no mark at all, whatever bits stand before it.
+  -- What is told of a place among the bits: the mark of I at the last place between two bytes, and the bits passed
+  -- since. Those bits are told only where the marks of I can differ: so bits of a slice of bytes, whose mark says
+  -- nothing, have none either, whatever bits stand before them. Whether the marks can differ follows from their
+  -- type, so Seen needn't say it.
   abbrev pub BitPlace : Type 0
   BitPlace = w.Mark × (HasMarks → List Bool)
 
@@ -67,9 +68,9 @@ module _ {I : Type 0} (w : Seen I ℕ) where
     pub bits_are : bs ≡ all_bits bytes
 
   -- (x, o) is seen as the bits of x without the first o.
-  -- Its mark is the place that the first o bits of x lead to, from the start of x: the mark of x without its first
-  -- o / 8 bytes, and the o % 8 bits passed of the next. Bits that are passed change the mark of I once their byte
-  -- is whole, also where they are not told; so the mark is a function of the bits that follow, to the place that
+  -- Its mark is the place that the first o bits of x lead to, or all where there are fewer: the mark of x without
+  -- its first o / 8 bytes, and the o % 8 bits passed of the next. Bits that are passed take part in the mark of I
+  -- once their byte is whole, told or not; so the mark is a function, from the bits that follow to the place that
   -- they lead to.
   abbrev pub seen_bits : Seen (I × ℕ) Bool
   seen_bits = record {

@@ -1,3 +1,5 @@
+pub mod BitLists
+pub mod BitPlaces
 pub mod Bits
 pub mod Bytes
 pub mod CompareTags
