@@ -1,4 +1,3 @@
-pub mod Classes
 pub mod Reads
 pub mod SubstringLaws
 pub mod Substrings

@@ -48,8 +48,8 @@ module _ {A : Type 0} (weight : A → ℕ) (t : List A) where
 
 pub first_finding : {I A : Type 0} (w : Seen I A) → FindLaws {T = List A} w (FindsFirst w.weight)
 first_finding {A = A} w = record {
-  one = λ t xs r s h k. one_result w.weight t xs r s h k;
-  place = λ t i n h. let s = h.0 in record { front = s.before; rest = t ++ s.rest; whole = s.whole; length_is = s.length_is };
+  one = λ t i r s u h k. one_result w.weight t (w.elements i) r s h k;
+  place = λ t i n u h. let s = h.0 in record { front = s.before; rest = t ++ s.rest; whole = s.whole; length_is = s.length_is };
   found_stays = λ t x y n h k e f. subst (λ xs. FindsFirst w.weight t xs (Some n)) (sym e.whole) (found_more w.weight t (w.elements x) e.more n f);
 }
 

@@ -2,11 +2,11 @@
 use Rattle.std.specs.Prelude.{◌≡◌, ℕ, ◌≤◌, List, ◌++◌, Option, Some, None}
 use Rattle.nom_traits.specs.Input.{Seen, IsPlace, Extends, span}
 
--- the laws of a search for needles
+-- the laws of a search for needles in inputs
 pub record FindLaws {I A T : Type 0} (w : Seen I A) (Finds : T → List A → Option ℕ → Type 0) : Type 0 where
-  pub one : (t : T) (xs : List A) (r s : Option ℕ) → Finds t xs r → Finds t xs s → r ≡ s
+  pub one : (t : T) (i : I) (r s : Option ℕ) → w.IsKnown i → Finds t (w.elements i) r → Finds t (w.elements i) s → r ≡ s
   -- what is found begins at a place
-  pub place : (t : T) (i : I) (n : ℕ) → Finds t (w.elements i) (Some n) → IsPlace w i n
+  pub place : (t : T) (i : I) (n : ℕ) → w.IsKnown i → Finds t (w.elements i) (Some n) → IsPlace w i n
   -- and is found there in what is longer
   pub found_stays : (t : T) (x y : I) (n : ℕ) → w.IsKnown x → w.IsKnown y → Extends w x y → Finds t (w.elements x) (Some n) → Finds t (w.elements y) (Some n)
 

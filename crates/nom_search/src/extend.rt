@@ -1,22 +1,30 @@
 //! Values that are appended to builders.
-ghost use Rattle.std.specs.Prelude.{◌≡◌, ℕ, ◌+◌, ◌<◌, ◌++◌, List, [], length, encode_utf8, is_ok, OnErr, string_bytes, string_capacity, string_len, vec_capacity, vec_len, if◌then◌else◌};
+ghost use Rattle.std.specs.Prelude.{◌≡◌, ℕ, ◌+◌, ◌<◌, ◌++◌, List, [], length, chars, encode_utf8, encode_utf8_all, is_ok, map, OnErr, string_bytes, string_capacity, string_len, vec_capacity, vec_len, if◌then◌else◌};
+ghost use Rattle.std.proofs.Common.{ap};
 
 use nom_error::answer::OutOfMemory;
+use nom_traits::input::Items;
+use nom_traits::view::Viewed;
 use std::alloc::{AllocError, Allocator};
 
-/// What values are appended to: a list of parts grows.
-pub trait Builder {
+/// What values are appended to: a list of parts grows. Builders are compared by their parts.
+pub trait Builder: Viewed {
     /// A part.
     type Part;
 
     /// The parts, the first first.
     ghost parts: { Self → List Self.Part };
+
+    /// Builders of the same parts are compared as one.
+    ghost views: { (x y : Self) → parts x ≡ parts y → Self.view.value x ≡ Self.view.value y };
 }
 
-impl<T, A: Allocator> Builder for Vec<T, A> {
+impl<T: Viewed, A: Allocator> Builder for Vec<T, A> {
     type Part = T;
 
     ghost parts = { λ v. v.items };
+
+    ghost views = { λ x y h. ap (map T.view.value) h };
 }
 
 /// The parts of a text are the bytes of its UTF-8 form.
@@ -24,10 +32,12 @@ impl<A: Allocator> Builder for String<A> {
     type Part = u8;
 
     ghost parts = { string_bytes };
+
+    ghost views = { λ x y h. ap chars h };
 }
 
 /// A value that can be appended to a builder, which takes its memory from an allocator of type `A`.
-pub trait ExtendInto<A: Allocator + Copy> {
+pub trait ExtendInto<A: Allocator + Copy>: Viewed {
     /// An item of the value.
     type Item;
 
@@ -48,6 +58,9 @@ pub trait ExtendInto<A: Allocator + Copy> {
     fn extend_into(&self, acc: &mut Self::Extender) -> Result<(), OutOfMemory>
         ensures parts { Self.Extender.parts acc.new ≡ (if is_ok result then Self.Extender.parts acc.old ++ added self.now else Self.Extender.parts acc.old) }
         ensures full { OnErr result (grows self.now acc.old) };
+
+    /// Values that are compared as one add the same.
+    ghost views: { (x y : Self) → Self.view.value x ≡ Self.view.value y → added x ≡ added y };
 }
 
 impl<A: Allocator + Copy> ExtendInto<A> for &[u8] {
@@ -68,14 +81,17 @@ impl<A: Allocator + Copy> ExtendInto<A> for &[u8] {
     fn extend_into(&self, acc: &mut Vec<u8, A>) -> Result<(), OutOfMemory> {
         told(acc.extend_from_slice(self))
     }
+
+    ghost views = { λ x y h. h };
 }
 
+/// A text adds the UTF-8 form of its characters.
 impl<A: Allocator + Copy> ExtendInto<A> for &str {
     type Item = char;
 
     type Extender = String<A>;
 
-    ghost added = { λ s. s.now };
+    ghost added = { λ s. encode_utf8_all (chars s.now) };
 
     ghost grows = { λ s b. string_capacity b < string_len b + length s.now };
 
@@ -86,8 +102,12 @@ impl<A: Allocator + Copy> ExtendInto<A> for &str {
 
     #[inline(always)]
     fn extend_into(&self, acc: &mut String<A>) -> Result<(), OutOfMemory> {
-        told(acc.push_str(self))
+        let text = *self;
+        text.known();
+        told(acc.push_str(text))
     }
+
+    ghost views = { λ x y h. ap encode_utf8_all h };
 }
 
 impl<A: Allocator + Copy> ExtendInto<A> for char {
@@ -108,6 +128,8 @@ impl<A: Allocator + Copy> ExtendInto<A> for char {
     fn extend_into(&self, acc: &mut String<A>) -> Result<(), OutOfMemory> {
         told(acc.push(*self))
     }
+
+    ghost views = { λ x y h. ap encode_utf8 h };
 }
 
 /// Whether a builder grew.

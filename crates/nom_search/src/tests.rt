@@ -1,14 +1,14 @@
 //! Classes, tokens, searches, bytes and builders.
 ghost use Rattle.std.specs.Prelude.{◌≡◌, ℕ, ◌<◌, ◌∷◌, ◌++◌, [], Some, IfOk, IfSome};
 ghost use Rattle.nom_traits.specs.Input.{IsFront, input_len};
-ghost use Rattle.nom_search.specs.Classes.{is_alpha_code, is_alphanum_code, is_bin_digit_code, is_dec_digit_code, is_hex_digit_code, is_newline_code, is_oct_digit_code, is_space_code};
+ghost use Rattle.nom_traits.specs.Classes.{is_alpha_code, is_alphanum_code, is_bin_digit_code, is_dec_digit_code, is_hex_digit_code, is_newline_code, is_oct_digit_code, is_space_code};
 
 use crate::bytes::{AsBytes, ByteItems};
-use crate::character::AsChar;
 use crate::extend::{Builder, ExtendInto};
 use crate::substring::FindSubstring;
 use crate::token::FindToken;
 use nom_error::answer::OutOfMemory;
+use nom_traits::character::AsChar;
 use nom_traits::input::Input;
 use std::alloc::Allocator;
 
@@ -162,6 +162,7 @@ fn substrings_of_bytes(rt: HostRuntime) {
 fn before<I: Input + FindSubstring<T>, T: Drop>(input: I, needle: T) -> Option<I>
     ensures { IfSome result (λ front. (n : ℕ) × I.finds (I.needle_seen needle) (I.seen.elements input) (Some n) × IsFront I.seen input n front) }
 {
+    input.known();
     match input.find_substring(needle) {
         Some(place) => Some(input.take(place)),
         None => None,

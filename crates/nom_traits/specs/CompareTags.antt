@@ -89,8 +89,8 @@ module _ {I A : Type 0} (w : Seen I A) (l : InputLaws w) (bytes : List A → Lis
 module _ {I A : Type 0} (w : Seen I A) (l : InputLaws w) (bytes : List A → List ℕ) (b : AreBytes w bytes) (form : List ℕ → List ℕ) (f : IsForm form) where
   comparing : CompareLaws {T = List ℕ} w length (ComparesAs bytes form)
   comparing = record {
-    one = one_result w l bytes b form f;
-    place = λ t i k. record { front = k.front; rest = k.rest; whole = k.whole; length_is = b.size k.front ∙ found_size w l bytes b form f t (w.elements i) k };
+    one = λ t i r s h j k. one_result w l bytes b form f t (w.elements i) r s j k;
+    place = λ t i h k. record { front = k.front; rest = k.rest; whole = k.whole; length_is = b.size k.front ∙ found_size w l bytes b form f t (w.elements i) k };
     shorter = λ t i h k. omega (arith, b.size (w.elements i), begun_size w l bytes b form f t (w.elements i) k);
     ok_stays = λ t x y h k e r. record { front = r.front; rest = r.rest ++ e.more; whole = e.whole ∙ (ap (λ xs. xs ++ e.more) r.whole ∙ append_assoc r.front r.rest e.more); tag_is = r.tag_is };
     error_stays = λ t x y h k e r. subst (λ xs. ComparesAs bytes form t xs Compared.Error) (sym e.whole) (error_kept w l bytes b form f t (w.elements x) e.more r);

@@ -2,6 +2,7 @@ pub mod BitLists
 pub mod BitPlaces
 pub mod Bits
 pub mod Bytes
+pub mod Classes
 pub mod CompareTags
 pub mod Compares
 pub mod Input

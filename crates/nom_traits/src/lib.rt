@@ -3,6 +3,7 @@
 
 pub mod bits;
 pub mod bytes;
+pub mod character;
 pub mod compare;
 pub mod input;
 pub mod offset;

@@ -1,8 +1,12 @@
 //! What outputs are compared by.
-ghost use Rattle.nom_traits.specs.View.{View, itself, pair_view, option_view, behind_view, text_view};
+ghost use Rattle.nom_traits.specs.View.{View, itself, single_view, pair_view, view_3, view_4, view_5, view_6, view_7, view_8, option_view, result_view, list_view, vec_view, deque_view, string_view, behind_view, text_view};
 
-/// A type whose values are compared by a view of them: references by what they point to. With no
-/// member given, a value is compared as it is, so `impl Viewed for Color {}` serves most types.
+use std::alloc::Allocator;
+use std::collections::VecDeque;
+
+/// A type whose values are compared by a view of them: references by what they point to, lists by
+/// their items and texts by their characters. With no member given, a value is compared as it is, so
+/// `impl Viewed for Color {}` serves most types.
 pub trait Viewed {
     ghost view: { View Self } = { itself };
 }
@@ -37,12 +41,63 @@ impl Viewed for char {}
 
 impl Viewed for () {}
 
+impl<A: Viewed> Viewed for (A,) {
+    ghost view = { single_view A.view };
+}
+
 impl<A: Viewed, B: Viewed> Viewed for (A, B) {
     ghost view = { pair_view A.view B.view };
 }
 
+impl<A: Viewed, B: Viewed, C: Viewed> Viewed for (A, B, C) {
+    ghost view = { view_3 A.view B.view C.view };
+}
+
+impl<A: Viewed, B: Viewed, C: Viewed, D: Viewed> Viewed for (A, B, C, D) {
+    ghost view = { view_4 A.view B.view C.view D.view };
+}
+
+impl<A: Viewed, B: Viewed, C: Viewed, D: Viewed, E: Viewed> Viewed for (A, B, C, D, E) {
+    ghost view = { view_5 A.view B.view C.view D.view E.view };
+}
+
+impl<A: Viewed, B: Viewed, C: Viewed, D: Viewed, E: Viewed, F: Viewed> Viewed
+    for (A, B, C, D, E, F) {
+    ghost view = { view_6 A.view B.view C.view D.view E.view F.view };
+}
+
+impl<A: Viewed, B: Viewed, C: Viewed, D: Viewed, E: Viewed, F: Viewed, G: Viewed> Viewed
+    for (A, B, C, D, E, F, G) {
+    ghost view = { view_7 A.view B.view C.view D.view E.view F.view G.view };
+}
+
+impl<A: Viewed, B: Viewed, C: Viewed, D: Viewed, E: Viewed, F: Viewed, G: Viewed, H: Viewed> Viewed
+    for (A, B, C, D, E, F, G, H) {
+    ghost view = { view_8 A.view B.view C.view D.view E.view F.view G.view H.view };
+}
+
 impl<A: Viewed> Viewed for Option<A> {
     ghost view = { option_view A.view };
+}
+
+impl<A: Viewed, E: Viewed> Viewed for Result<A, E> {
+    ghost view = { result_view A.view E.view };
+}
+
+impl<T: Viewed, const N: usize> Viewed for [T; N] {
+    ghost view = { list_view T.view };
+}
+
+impl<T: Viewed, A: Allocator> Viewed for Vec<T, A> {
+    ghost view = { vec_view T.view };
+}
+
+impl<T: Viewed, A: Allocator> Viewed for VecDeque<T, A> {
+    ghost view = { deque_view T.view };
+}
+
+impl<A: Allocator> Viewed for String<A> {
+    ghost view = { string_view };
 }
 
 impl Viewed for &[u8] {

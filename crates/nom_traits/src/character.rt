@@ -1,44 +1,85 @@
 //! Items as characters, and their classes.
 ghost use Rattle.std.specs.Prelude.{◌≡◌, ℕ};
 ghost use Rattle.std.specs.Char.{len_utf8};
-ghost use Rattle.nom_search.specs.Classes.{is_alpha_code, is_alphanum_code, is_bin_digit_code, is_dec_digit_code, is_hex_digit_code, is_newline_code, is_oct_digit_code, is_space_code};
+ghost use Rattle.nom_traits.specs.Classes.{has_code, is_alpha_code, is_alphanum_code, is_bin_digit_code, is_dec_digit_code, is_hex_digit_code, is_newline_code, is_oct_digit_code, is_space_code};
+
+use crate::input::Value;
+
+/// A class of ASCII characters.
+#[derive(Clone, Copy, Debug, PartialEq, Eq)]
+pub enum AsciiClass {
+    /// `A` to `Z` and `a` to `z`.
+    Alpha,
+    /// `0` to `9`.
+    Digit,
+    /// `0` to `9`, `A` to `F` and `a` to `f`.
+    HexDigit,
+    /// `0` to `7`.
+    OctDigit,
+    /// `0` and `1`.
+    BinDigit,
+    /// Letters and decimal digits.
+    Alphanumeric,
+    /// A space or a tab.
+    Space,
+    /// A space, a tab, `\r` or `\n`.
+    MultiSpace,
+}
+
+impl AsciiClass {
+    /// Whether an item is of the class.
+    #[inline(always)]
+    pub fn has<C: AsChar>(self, item: C) -> bool
+        ensures { result ≡ has_code self (C.code item) }
+    {
+        match self {
+            AsciiClass::Alpha => item.is_alpha(),
+            AsciiClass::Digit => item.is_dec_digit(),
+            AsciiClass::HexDigit => item.is_hex_digit(),
+            AsciiClass::OctDigit => item.is_oct_digit(),
+            AsciiClass::BinDigit => item.is_bin_digit(),
+            AsciiClass::Alphanumeric => item.is_alphanum(),
+            AsciiClass::Space => item.is_space(),
+            AsciiClass::MultiSpace => {
+                item.is_space() || item.is_newline() || item.as_char() == '\r'
+            }
+        }
+    }
+}
 
 /// An item that stands for a character: a byte is the character of the same number. Each class has
 /// ASCII characters alone.
-pub trait AsChar: Copy {
-    /// The code point.
-    ghost code: { Self → ℕ };
-
+pub trait AsChar: Copy + Value {
     /// The length as an item of an input.
     ghost size: { Self → ℕ };
 
     /// The character.
     fn as_char(self) -> char
-        ensures { result ≡ code self };
+        ensures { result ≡ Self.code self };
 
     /// A letter: `A` to `Z` or `a` to `z`.
     fn is_alpha(self) -> bool
-        ensures { result ≡ is_alpha_code (code self) };
+        ensures { result ≡ is_alpha_code (Self.code self) };
 
     /// A letter or a decimal digit.
     fn is_alphanum(self) -> bool
-        ensures { result ≡ is_alphanum_code (code self) };
+        ensures { result ≡ is_alphanum_code (Self.code self) };
 
     /// `0` to `9`.
     fn is_dec_digit(self) -> bool
-        ensures { result ≡ is_dec_digit_code (code self) };
+        ensures { result ≡ is_dec_digit_code (Self.code self) };
 
     /// `0` to `9`, `A` to `F` or `a` to `f`.
     fn is_hex_digit(self) -> bool
-        ensures { result ≡ is_hex_digit_code (code self) };
+        ensures { result ≡ is_hex_digit_code (Self.code self) };
 
     /// `0` to `7`.
     fn is_oct_digit(self) -> bool
-        ensures { result ≡ is_oct_digit_code (code self) };
+        ensures { result ≡ is_oct_digit_code (Self.code self) };
 
     /// `0` or `1`.
     fn is_bin_digit(self) -> bool
-        ensures { result ≡ is_bin_digit_code (code self) };
+        ensures { result ≡ is_bin_digit_code (Self.code self) };
 
     /// The length as an item: 1 for a byte, that of its UTF-8 form for a character.
     fn len(self) -> usize
@@ -46,16 +87,14 @@ pub trait AsChar: Copy {
 
     /// A space or a tab.
     fn is_space(self) -> bool
-        ensures { result ≡ is_space_code (code self) };
+        ensures { result ≡ is_space_code (Self.code self) };
 
     /// The end of a line, `\n`.
     fn is_newline(self) -> bool
-        ensures { result ≡ is_newline_code (code self) };
+        ensures { result ≡ is_newline_code (Self.code self) };
 }
 
 impl AsChar for u8 {
-    ghost code = { λ c. c };
-
     ghost size = { λ _. 1 };
 
     #[inline(always)]
@@ -110,8 +149,6 @@ impl AsChar for u8 {
 }
 
 impl AsChar for char {
-    ghost code = { λ c. c };
-
     ghost size = { len_utf8 };
 
     #[inline(always)]
@@ -165,134 +202,67 @@ impl AsChar for char {
     }
 }
 
-impl AsChar for &u8 {
-    ghost code = { λ c. c.now };
-
-    ghost size = { λ _. 1 };
+/// A reference stands for what it points to.
+impl<T: AsChar> AsChar for &T {
+    ghost size = { λ c. T.size c.now };
 
     #[inline(always)]
     fn as_char(self) -> char {
         let value = *self;
-        AsChar::as_char(value)
+        value.as_char()
     }
 
     #[inline(always)]
     fn is_alpha(self) -> bool {
         let value = *self;
-        AsChar::is_alpha(value)
+        value.is_alpha()
     }
 
     #[inline(always)]
     fn is_alphanum(self) -> bool {
         let value = *self;
-        AsChar::is_alphanum(value)
+        value.is_alphanum()
     }
 
     #[inline(always)]
     fn is_dec_digit(self) -> bool {
         let value = *self;
-        AsChar::is_dec_digit(value)
+        value.is_dec_digit()
     }
 
     #[inline(always)]
     fn is_hex_digit(self) -> bool {
         let value = *self;
-        AsChar::is_hex_digit(value)
+        value.is_hex_digit()
     }
 
     #[inline(always)]
     fn is_oct_digit(self) -> bool {
         let value = *self;
-        AsChar::is_oct_digit(value)
+        value.is_oct_digit()
     }
 
     #[inline(always)]
     fn is_bin_digit(self) -> bool {
         let value = *self;
-        AsChar::is_bin_digit(value)
+        value.is_bin_digit()
     }
 
     #[inline(always)]
     fn len(self) -> usize {
         let value = *self;
-        AsChar::len(value)
+        value.len()
     }
 
     #[inline(always)]
     fn is_space(self) -> bool {
         let value = *self;
-        AsChar::is_space(value)
+        value.is_space()
     }
 
     #[inline(always)]
     fn is_newline(self) -> bool {
         let value = *self;
-        AsChar::is_newline(value)
-    }
-}
-
-impl AsChar for &char {
-    ghost code = { λ c. c.now };
-
-    ghost size = { λ c. len_utf8 c.now };
-
-    #[inline(always)]
-    fn as_char(self) -> char {
-        let value = *self;
-        AsChar::as_char(value)
-    }
-
-    #[inline(always)]
-    fn is_alpha(self) -> bool {
-        let value = *self;
-        AsChar::is_alpha(value)
-    }
-
-    #[inline(always)]
-    fn is_alphanum(self) -> bool {
-        let value = *self;
-        AsChar::is_alphanum(value)
-    }
-
-    #[inline(always)]
-    fn is_dec_digit(self) -> bool {
-        let value = *self;
-        AsChar::is_dec_digit(value)
-    }
-
-    #[inline(always)]
-    fn is_hex_digit(self) -> bool {
-        let value = *self;
-        AsChar::is_hex_digit(value)
-    }
-
-    #[inline(always)]
-    fn is_oct_digit(self) -> bool {
-        let value = *self;
-        AsChar::is_oct_digit(value)
-    }
-
-    #[inline(always)]
-    fn is_bin_digit(self) -> bool {
-        let value = *self;
-        AsChar::is_bin_digit(value)
-    }
-
-    #[inline(always)]
-    fn len(self) -> usize {
-        let value = *self;
-        AsChar::len(value)
-    }
-
-    #[inline(always)]
-    fn is_space(self) -> bool {
-        let value = *self;
-        AsChar::is_space(value)
-    }
-
-    #[inline(always)]
-    fn is_newline(self) -> bool {
-        let value = *self;
-        AsChar::is_newline(value)
+        value.is_newline()
     }
 }
