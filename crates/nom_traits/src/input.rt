@@ -38,15 +38,15 @@ impl Value for char {
     ghost code = { λ c. c };
 }
 
+impl Value for bool {
+    ghost IsValue = { λ _. Unit {0} };
+}
+
 /// A reference is a value as what it points to is.
 impl<T: Value> Value for &T {
     ghost IsValue = { λ r. T.IsValue r.now };
 
     ghost code = { λ r. T.code r.now };
-}
-
-impl Value for bool {
-    ghost IsValue = { λ _. Unit {0} };
 }
 
 /// A value seen as a list of items, each of a length of at least 1, with a mark.
