@@ -1,5 +1,6 @@
 pub mod ByteCompared
 pub mod ByteCuts
+pub mod ByteRuns
 pub mod Splitting
 pub mod TextAfter
 pub mod TextCompared

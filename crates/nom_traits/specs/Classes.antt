@@ -1,6 +1,8 @@
 -- The classes of characters, by the code point: 48 is '0', 65 is 'A' and 97 is 'a'. All are ASCII.
-use Rattle.std.specs.Prelude.{ℕ, Bool, ◌||◌, ◌==◌}
+use Rattle.std.specs.Prelude.{◌≡◌, ℕ, Bool, true, false, ◌||◌, ◌==◌}
 use Rattle.std.specs.Int.{is_in_range}
+use Rattle.nom_traits.specs.declared.character.AsciiClass.{AsciiClass}
+use Rattle.nom_traits.specs.declared.character.AsciiClass.TheVariants as Class
 
 -- 'A' to 'Z' and 'a' to 'z'
 abbrev pub is_alpha_code : ℕ → Bool
@@ -33,3 +35,24 @@ is_space_code c = c == 32 || c == 9
 -- the end of a line, '\n'
 abbrev pub is_newline_code : ℕ → Bool
 is_newline_code c = c == 10
+
+-- a space, a tab, '\r' or '\n'
+abbrev pub is_multispace_code : ℕ → Bool
+is_multispace_code c = is_space_code c || (is_newline_code c || c == 13)
+
+-- the code points of a class
+abbrev pub has_code : AsciiClass → ℕ → Bool
+has_code Class.Alpha = is_alpha_code
+has_code Class.Digit = is_dec_digit_code
+has_code Class.HexDigit = is_hex_digit_code
+has_code Class.OctDigit = is_oct_digit_code
+has_code Class.BinDigit = is_bin_digit_code
+has_code Class.Alphanumeric = is_alphanum_code
+has_code Class.Space = is_space_code
+has_code Class.MultiSpace = is_multispace_code
+
+abbrev pub IsInside : AsciiClass → ℕ → Type 0
+IsInside class c = has_code class c ≡ true
+
+abbrev pub IsOutside : AsciiClass → ℕ → Type 0
+IsOutside class c = has_code class c ≡ false

@@ -1,3 +1,6 @@
+pub mod BitLists
+pub mod BitPlaces
+pub mod Bits
 pub mod Bytes
 pub mod Classes
 pub mod CompareTags

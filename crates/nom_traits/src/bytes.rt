@@ -1,7 +1,10 @@
 //! Slices of bytes as inputs: the items are the bytes, each of length 1.
 ghost use Rattle.std.specs.Prelude.{◌≡◌, ◌-◌, length, Some};
 ghost use Rattle.nom_traits.specs.Bytes.{seen_bytes, bytes_lawful};
+ghost use Rattle.nom_traits.specs.Classes.{IsInside, IsOutside};
+ghost use Rattle.nom_traits.specs.Runs.{IsPosition};
 
+use crate::character::AsciiClass;
 use crate::input::{Input, Items};
 use nom_error::answer::Needed;
 use std::iter::{Copied, Enumerate};
@@ -72,7 +75,25 @@ impl<'a> Input for &'a [u8] {
         self.iter_elements().enumerate()
     }
 
+    #[inline]
+    fn class_end(&self, class: AsciiClass) -> Option<Option<usize>> {
+        Some(bytes_outside(self, class))
+    }
+
     ghost more = { λ _. tt };
 
     ghost views = { λ x y h. h.elements_are };
+}
+
+/// The place of the first byte that isn't of the class; `None` where all are.
+#[inline]
+fn bytes_outside(bytes: &[u8], class: AsciiClass) -> Option<usize>
+    ensures { IsPosition seen_bytes (IsInside class) (IsOutside class) bytes.entry result }
+{
+    for place in 0..bytes.len() {
+        if !class.has(bytes[place]) {
+            return Some(place);
+        }
+    }
+    None
 }

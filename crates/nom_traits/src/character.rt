@@ -1,9 +1,51 @@
 //! Items as characters, and their classes.
 ghost use Rattle.std.specs.Prelude.{◌≡◌, ℕ};
 ghost use Rattle.std.specs.Char.{len_utf8};
-ghost use Rattle.nom_traits.specs.Classes.{is_alpha_code, is_alphanum_code, is_bin_digit_code, is_dec_digit_code, is_hex_digit_code, is_newline_code, is_oct_digit_code, is_space_code};
+ghost use Rattle.nom_traits.specs.Classes.{has_code, is_alpha_code, is_alphanum_code, is_bin_digit_code, is_dec_digit_code, is_hex_digit_code, is_newline_code, is_oct_digit_code, is_space_code};
 
 use crate::input::Value;
+
+/// A class of ASCII characters.
+#[derive(Clone, Copy, Debug, PartialEq, Eq)]
+pub enum AsciiClass {
+    /// `A` to `Z` and `a` to `z`.
+    Alpha,
+    /// `0` to `9`.
+    Digit,
+    /// `0` to `9`, `A` to `F` and `a` to `f`.
+    HexDigit,
+    /// `0` to `7`.
+    OctDigit,
+    /// `0` and `1`.
+    BinDigit,
+    /// Letters and decimal digits.
+    Alphanumeric,
+    /// A space or a tab.
+    Space,
+    /// A space, a tab, `\r` or `\n`.
+    MultiSpace,
+}
+
+impl AsciiClass {
+    /// Whether an item is of the class.
+    #[inline(always)]
+    pub fn has<C: AsChar>(self, item: C) -> bool
+        ensures { result ≡ has_code self (C.code item) }
+    {
+        match self {
+            AsciiClass::Alpha => item.is_alpha(),
+            AsciiClass::Digit => item.is_dec_digit(),
+            AsciiClass::HexDigit => item.is_hex_digit(),
+            AsciiClass::OctDigit => item.is_oct_digit(),
+            AsciiClass::BinDigit => item.is_bin_digit(),
+            AsciiClass::Alphanumeric => item.is_alphanum(),
+            AsciiClass::Space => item.is_space(),
+            AsciiClass::MultiSpace => {
+                item.is_space() || item.is_newline() || item.as_char() == '\r'
+            }
+        }
+    }
+}
 
 /// An item that stands for a character: a byte is the character of the same number. Each class has
 /// ASCII characters alone.

@@ -1,13 +1,15 @@
 //! Inputs.
-ghost use Rattle.std.specs.Prelude.{◌≡◌, ◌<◌, ℕ, List, length, Option, true, false, MatchResult};
+ghost use Rattle.std.specs.Prelude.{◌≡◌, ◌<◌, ℕ, List, length, Option, true, false, not, MatchOption, MatchResult};
 ghost use Rattle.std.specs.Char.{IsScalar};
 ghost use Rattle.std.specs.Iterator.{AlwaysYields, IsFinite};
 ghost use Rattle.nom_error.specs.Answers.{size_of, Refuses};
+ghost use Rattle.nom_traits.specs.Classes.{has_code, IsInside, IsOutside};
 ghost use Rattle.nom_traits.specs.Input.{Seen, InputLaws, AreValues, placed, IsPlace, IsFront, IsRest, IsSame, input_len};
 ghost use Rattle.nom_traits.specs.Slices.{IsCount};
 ghost use Rattle.nom_traits.specs.Runs.{IsPosition};
 ghost use Rattle.nom_traits.specs.Splits.{Splits, Never, RefusesWith, FrontBuilt};
 
+use crate::character::{AsChar, AsciiClass};
 use crate::split::{front_built, refused, run_len};
 use crate::view::Viewed;
 use nom_error::answer::{Err, IResult, Needed, PResult};
@@ -34,6 +36,10 @@ impl Value for char {
     ghost IsValue = { λ c. IsScalar c };
 
     ghost code = { λ c. c };
+}
+
+impl Value for bool {
+    ghost IsValue = { λ _. Unit {0} };
 }
 
 /// A reference is a value as what it points to is.
@@ -109,6 +115,13 @@ pub trait Input: Items + Viewed {
         ensures can { Self.IterIndices.can_next result }
         ensures ends { IsFinite (Self.IterIndices.remaining result) };
 
+    /// What `position_outside` answers, where the input knows a quicker way than item by item.
+    fn class_end(&self, class: AsciiClass) -> Option<Option<usize>>
+        ensures { MatchOption result (Unit {0}) (λ place. IsPosition Self.seen (λ x. IsInside class (Self.Item.code x)) (λ x. IsOutside class (Self.Item.code x)) self.now place) }
+    {
+        None
+    }
+
     /// Any items may follow.
     ghost more: { (xs : List Self.Item) → Self.seen.IsMore xs };
 
@@ -143,6 +156,24 @@ pub trait Input: Items + Viewed {
             place = behind;
         }
         None
+    }
+
+    /// The place of the first item that isn't of the class; `None` where all are.
+    #[inline(always)]
+    final fn position_outside(&self, class: AsciiClass) -> Option<usize>
+    where
+        Self::Item: AsChar,
+        ensures { IsPosition Self.seen (λ x. IsInside class (Self.Item.code x)) (λ x. IsOutside class (Self.Item.code x)) self.now result }
+    {
+        match self.class_end(class) {
+            Some(place) => place,
+            None => {
+                let is_outside = |item: Self::Item| -> bool
+                    ensures { result ≡ not (has_code class (Self.Item.code item)) }
+                { !class.has(item) };
+                self.position(is_outside)
+            }
+        }
     }
 
     /// The items before the first for which the predicate answers true, and the rest first. Where there is

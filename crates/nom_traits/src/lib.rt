@@ -1,6 +1,7 @@
 //! Inputs: values seen as lists of items, how they are cut, and how they are compared with tags.
 #![tactic(auto)]
 
+pub mod bits;
 pub mod bytes;
 pub mod character;
 pub mod compare;

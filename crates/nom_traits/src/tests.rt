@@ -1,7 +1,8 @@
 //! Inputs, and comparisons with tags.
 
+use crate::bits::{bits_grow_by_bytes, bits_pass, bits_tell_marks};
 use crate::compare::{Compare, CompareResult};
-use crate::input::Input;
+use crate::input::{Input, Items};
 use crate::offset::Offset;
 use nom_error::answer::{Err, IResult, Needed};
 use nom_error::kind::ErrorKind;
@@ -138,4 +139,19 @@ fn splits_in_modes(rt: HostRuntime) {
         Err(Err::Error(error)) => assert!(rt; error == None),
         _ => panic!(rt; "no refusal"),
     }
+}
+
+fn known_twice<J: Items>(input: J) -> (J, J) {
+    input.known();
+    (input, input)
+}
+
+#[test]
+fn bits_of_bytes(rt: HostRuntime) {
+    bits_grow_by_bytes::<&[u8]>();
+    bits_pass::<&[u8]>();
+    bits_tell_marks::<&[u8]>();
+    let ((bytes, position), _) = known_twice((b"ab".as_slice(), 11));
+    assert!(rt; bytes == b"ab".as_slice());
+    assert!(rt; position == 11);
 }
