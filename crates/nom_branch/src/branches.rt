@@ -1,12 +1,13 @@
 //! The branches of a choice.
-ghost use Rattle.std.specs.Prelude.{◌≡◌, ◌⊎◌};
+ghost use Rattle.std.specs.Prelude.{◌⊎◌};
 ghost use Rattle.nom_error.specs.declared.kind.ErrorKind.TheVariants.{Alt};
-ghost use Rattle.nom_internal.specs.Choice.{either_meaning, closed_meaning, EitherOutput, OnError, JoinsErrors, ClosesError, JoinsResult, ClosesResult, ShowsNext};
+ghost use Rattle.nom_internal.specs.Cases.{closed_meaning};
+ghost use Rattle.nom_internal.specs.Choice.{either_meaning, EitherOutput};
 
-use nom_error::answer::{Err, PResult};
+use nom_error::answer::PResult;
 use nom_error::kind::ErrorKind;
 use nom_error::mode::OutputMode;
-use nom_error::value::ParseError;
+use nom_internal::choice::{close, next_branch};
 use nom_internal::parser::{Parser, StreamParser};
 use nom_traits::input::Items;
 
@@ -18,7 +19,8 @@ pub struct Choice<T> {
 
 impl<I: Items, A: Parser<I>, B: Parser<I, Output = A::Output, Error = A::Error>> Parser<I>
     for Choice<(A, B)> {
-    ghost use Rattle.nom_internal.specs.ChoiceLaws.{either_lawful, closed_lawful};
+    ghost use Rattle.nom_internal.specs.CaseLaws.{closed_lawful};
+    ghost use Rattle.nom_internal.specs.ChoiceLaws.{either_lawful};
 
     type Output = A::Output;
 
@@ -35,6 +37,8 @@ impl<I: Items, A: Parser<I>, B: Parser<I, Output = A::Output, Error = A::Error>>
 
     ghost meaning = { λ s. closed_meaning (λ i. A.Error.errors.appended i Alt) A.Error.errors.grows (either_meaning A.Error.errors.joined A.Error.errors.grows (A.meaning s.0) (B.meaning s.1)) };
 
+    ghost Pins = { λ s. A.Pins s.0 × B.Pins s.1 };
+
     #[inline(always)]
     fn process<OM: OutputMode>(&mut self, input: I) -> PResult<I, Self::Output, Self::Error> {
         let answer = self.parser.0.process::<OM>(input);
@@ -42,7 +46,7 @@ impl<I: Items, A: Parser<I>, B: Parser<I, Output = A::Output, Error = A::Error>>
         close(answer, input, ErrorKind::Alt)
     }
 
-    ghost lawful = { λ s. closed_lawful I.seen (λ i. A.Error.errors.appended i Alt) A.Error.errors.grows (either_meaning A.Error.errors.joined A.Error.errors.grows (A.meaning s.0) (B.meaning s.1)) (either_lawful I.seen A.Error.errors.joined A.Error.errors.grows (A.meaning s.0) (B.meaning s.1) (A.lawful s.0) (B.lawful s.1)) };
+    ghost lawful = { λ s k. closed_lawful I.seen (either_meaning A.Error.errors.joined A.Error.errors.grows (A.meaning s.0) (B.meaning s.1)) (λ i. A.Error.errors.appended i Alt) A.Error.errors.grows (either_lawful I.seen A.Error.errors.joined A.Error.errors.grows (A.meaning s.0) (B.meaning s.1) (A.lawful s.0 k.0) (B.lawful s.1 k.1)) };
 }
 
 impl<
@@ -50,7 +54,11 @@ impl<
     A: StreamParser<I>,
     B: StreamParser<I, Output = A::Output, Error = A::Error>,
 > StreamParser<I> for Choice<(A, B)> {
-    ghost use Rattle.nom_internal.specs.ChoiceLaws.{either_steady, closed_steady};
+    ghost use Rattle.nom_internal.specs.CaseLaws.{closed_steady};
+    ghost use Rattle.nom_internal.specs.ChoiceLaws.{either_steady};
+    ghost use Rattle.nom_internal.specs.Pinned.{either_pinned};
 
-    ghost steady = { λ s. closed_steady I.seen (λ i. A.Error.errors.appended i Alt) A.Error.errors.grows (either_meaning A.Error.errors.joined A.Error.errors.grows (A.meaning s.0) (B.meaning s.1)) (either_steady I.seen A.Error.errors.joined A.Error.errors.grows (A.meaning s.0) (B.meaning s.1) (A.steady s.0) (B.steady s.1)) };
+    ghost pinned = { λ s k p. either_pinned A.Output.view (A.IsOutput s.0) (B.IsOutput s.1) (A.pinned s.0 k.0 p.0) (B.pinned s.1 k.1 p.1) };
+
+    ghost steady = { λ s k. closed_steady I.seen (either_meaning A.Error.errors.joined A.Error.errors.grows (A.meaning s.0) (B.meaning s.1)) (λ i. A.Error.errors.appended i Alt) A.Error.errors.grows (either_steady I.seen A.Error.errors.joined A.Error.errors.grows (A.meaning s.0) (B.meaning s.1) (A.steady s.0 k.0) (B.steady s.1 k.1)) };
 }

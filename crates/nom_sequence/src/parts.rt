@@ -1,4 +1,5 @@
 //! The parsers that run two parts in sequence.
+ghost use Rattle.std.specs.Prelude.{false};
 ghost use Rattle.nom_internal.specs.SequenceLaws.{sequence_lawful, sequence_steady};
 ghost use Rattle.nom_sequence.specs.Sequences.{preceded_meaning, terminated_meaning};
 
@@ -30,6 +31,8 @@ impl<I: Items, F: Parser<I> + Drop, G: Parser<I, Error = F::Error> + Drop> Parse
 
     ghost meaning = { λ s. preceded_meaning I.seen (F.meaning s.0) (G.meaning s.1) };
 
+    ghost Pins = { λ s. G.Pins s.1 };
+
     #[inline(always)]
     fn process<OM: OutputMode>(&mut self, input: I) -> PResult<I, Self::Output, Self::Error> {
         let (rest, _) = self
@@ -38,13 +41,15 @@ impl<I: Items, F: Parser<I> + Drop, G: Parser<I, Error = F::Error> + Drop> Parse
         self.second.process::<OM>(rest)
     }
 
-    ghost lawful = { λ s. sequence_lawful I.seen I.lawful _ _ _ (F.meaning s.0) (G.meaning s.1) (F.lawful s.0) (G.lawful s.1) };
+    ghost lawful = { λ s k. sequence_lawful I.seen I.lawful (λ u v. v) (λ _. false) (λ o. o) (F.meaning s.0) (G.meaning s.1) (F.lawful s.0 k.0) (G.lawful s.1 k.1) };
 }
 
 impl<I: Items, F: StreamParser<I> + Drop, G: StreamParser<I, Error = F::Error> + Drop> StreamParser<
     I,
 > for Preceded<F, G> {
-    ghost steady = { λ s. sequence_steady I.seen I.lawful _ _ _ (F.meaning s.0) (G.meaning s.1) (F.steady s.0) (G.steady s.1) };
+    ghost pinned = { λ s k p. G.pinned s.1 k.1 p };
+
+    ghost steady = { λ s k. sequence_steady I.seen I.lawful (λ u v. v) (λ _. false) (λ o. o) (F.meaning s.0) (G.meaning s.1) (F.steady s.0 k.0) (G.steady s.1 k.1) };
 }
 
 /// One parser after another, with the first's output; made by `terminated`.
@@ -70,6 +75,8 @@ impl<I: Items, F: Parser<I> + Drop, G: Parser<I, Error = F::Error> + Drop> Parse
 
     ghost meaning = { λ s. terminated_meaning I.seen (F.meaning s.0) (G.meaning s.1) };
 
+    ghost Pins = { λ s. F.Pins s.0 };
+
     #[inline(always)]
     fn process<OM: OutputMode>(&mut self, input: I) -> PResult<I, Self::Output, Self::Error> {
         let (rest, first) = self.first.process::<OM>(input)?;
@@ -79,11 +86,13 @@ impl<I: Items, F: Parser<I> + Drop, G: Parser<I, Error = F::Error> + Drop> Parse
         Ok((rest, first))
     }
 
-    ghost lawful = { λ s. sequence_lawful I.seen I.lawful _ _ _ (F.meaning s.0) (G.meaning s.1) (F.lawful s.0) (G.lawful s.1) };
+    ghost lawful = { λ s k. sequence_lawful I.seen I.lawful (λ u v. u) (λ o. o) (λ _. false) (F.meaning s.0) (G.meaning s.1) (F.lawful s.0 k.0) (G.lawful s.1 k.1) };
 }
 
 impl<I: Items, F: StreamParser<I> + Drop, G: StreamParser<I, Error = F::Error> + Drop> StreamParser<
     I,
 > for Terminated<F, G> {
-    ghost steady = { λ s. sequence_steady I.seen I.lawful _ _ _ (F.meaning s.0) (G.meaning s.1) (F.steady s.0) (G.steady s.1) };
+    ghost pinned = { λ s k p. F.pinned s.0 k.0 p };
+
+    ghost steady = { λ s k. sequence_steady I.seen I.lawful (λ u v. u) (λ o. o) (λ _. false) (F.meaning s.0) (G.meaning s.1) (F.steady s.0 k.0) (G.steady s.1 k.1) };
 }
