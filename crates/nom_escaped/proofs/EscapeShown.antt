@@ -13,10 +13,10 @@ use Rattle.nom_internal.specs.Outcome.ShowsAnswer.{RanOut, Shown}
 use Rattle.nom_internal.specs.Meaning.{Meaning, ShowsMeaning}
 use Rattle.nom_internal.proofs.Consumed.{rest_length}
 use Rattle.nom_internal.proofs.Shown.{Accepts}
-use Rattle.nom_multi.specs.Repeat.{Pieces, TurnsBy, repeat_meaning}
-use Rattle.nom_multi.specs.Repeat.Turn.{Takes, Ends}
+use Rattle.nom_repeat.specs.Repeat.{Pieces, TurnsBy, repeat_meaning}
+use Rattle.nom_repeat.specs.Repeat.Turn.{Takes, Ends}
 use Rattle.nom_multi.proofs.Longer.{built_map}
-use Rattle.nom_multi.proofs.Repeated.{Collected, collected_more, ended, refused, failed, too_large, lacking, ran_out, ran_out_within}
+use Rattle.nom_repeat.proofs.Repeated.{Collected, collected_more, ended, refused, failed, too_large, lacking, ran_out, ran_out_within}
 use Rattle.nom_escaped.specs.declared.spot.Piece.{Piece}
 use Rattle.nom_escaped.specs.declared.spot.Spot.{Spot}
 use Rattle.nom_escaped.specs.declared.spot.Spot.TheVariants.{Found, Other, Dangling, Done}

@@ -11,8 +11,8 @@ use Rattle.nom_traits.specs.Slices.{Slice, IsFirst, IsSeenAs}
 use Rattle.nom_internal.specs.Meaning.{Meaning, ShowsMeaning}
 use Rattle.nom_internal.proofs.Shown.{accepts}
 use Rattle.nom_internal.proofs.Consumed.{recognized_err, recognized_ok}
-use Rattle.nom_multi.specs.Repeat.{TurnsBy, repeat_meaning}
-use Rattle.nom_multi.proofs.Repeated.{Collected, is_empty, consumes}
+use Rattle.nom_repeat.specs.Repeat.{TurnsBy, repeat_meaning}
+use Rattle.nom_repeat.proofs.Repeated.{Collected, is_empty, consumes}
 use Rattle.nom_escaped.specs.declared.spot.Piece.{Piece}
 use Rattle.nom_escaped.specs.declared.spot.Spot.{Spot}
 use Rattle.nom_escaped.specs.declared.spot.Spot.TheVariants.{Found, Other, Dangling, Done}

@@ -11,8 +11,8 @@ use Rattle.nom_error.specs.Answers.{Refuses}
 use Rattle.nom_traits.specs.Input.{Seen, InputLaws, input_len}
 use Rattle.nom_internal.specs.Meaning.{Meaning, ShowsMeaning}
 use Rattle.nom_internal.proofs.Shown.{accepts}
-use Rattle.nom_multi.specs.Repeat.{TurnsBy}
-use Rattle.nom_multi.proofs.Repeated.{Collected, is_empty, consumes}
+use Rattle.nom_repeat.specs.Repeat.{TurnsBy}
+use Rattle.nom_repeat.proofs.Repeated.{Collected, is_empty, consumes}
 use Rattle.nom_escaped.specs.declared.spot.Piece.{Piece}
 use Rattle.nom_escaped.specs.declared.spot.Spot.{Spot}
 use Rattle.nom_escaped.specs.declared.spot.Spot.TheVariants.{Found, Other, Dangling, Done}

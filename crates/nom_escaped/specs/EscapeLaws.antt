@@ -8,9 +8,9 @@ use Rattle.nom_internal.specs.Outcome.{Outcome}
 use Rattle.nom_internal.specs.Outcome.Outcome.{Accept, Refuse, Fail, TooLarge, Undecided}
 use Rattle.nom_internal.specs.Meaning.{Meaning, IsLawful, IsSteady}
 use Rattle.nom_internal.specs.RecognizedLaws.{recognized_lawful, recognized_steady}
-use Rattle.nom_multi.specs.Repeat.{Ran, repeat_meaning}
-use Rattle.nom_multi.specs.Repeat.Turn.{Ends}
-use Rattle.nom_multi.specs.RepeatLaws.{KeepsTurn, KeepsReply, EndsAt, RuleLaws, repeat_lawful, repeat_steady}
+use Rattle.nom_repeat.specs.Repeat.{Ran, repeat_meaning}
+use Rattle.nom_repeat.specs.Repeat.Turn.{Ends}
+use Rattle.nom_repeat.specs.RepeatLaws.{KeepsTurn, KeepsReply, EndsAt, RuleLaws, repeat_lawful, repeat_steady}
 use Rattle.nom_escaped.specs.declared.spot.Spot.{Spot}
 use Rattle.nom_escaped.specs.declared.spot.Spot.TheVariants.{Found, Other, Dangling, Done}
 use Rattle.nom_escaped.specs.Spots.{spot_meaning}

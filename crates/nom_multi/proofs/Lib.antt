@@ -3,4 +3,3 @@ pub mod Longer
 pub mod ManyShown
 pub mod Parts
 pub mod Promised
-pub mod Repeated

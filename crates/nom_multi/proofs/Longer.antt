@@ -1,11 +1,9 @@
 -- A list that is built.
 use Rattle.std.proofs.Common.{◌≡◌, ◌++◌, ◌∷◌, [], List, Option, Some, None, Bool, true, false, refl, sym, subst}
-use Rattle.std.specs.Prelude.{IsSome}
-use Rattle.std.proofs.Common.{rules}
 use Rattle.std.specs.List.{AllZip}
 use Rattle.std.specs.declared.vec.Vec.{Vec}
 use Rattle.nom_error.specs.Modes.{Built}
-use Rattle.nom_multi.specs.Lists.{IsLonger}
+use Rattle.nom_multi.specs.Lists.{IsFull, IsLonger}
 
 zip_push : {V O : Type 0} (P : V → O → Type 0) (vs : List V) (os : List O) (v : V) (o : O) → AllZip P vs os → P v o → AllZip P (vs ++ v ∷ []) (os ++ o ∷ [])
 zip_push P [] [] v o h p = (p, tt)
@@ -31,10 +29,10 @@ module _ {V T A : Type 0} (P : V → T → Type 0) where
   longer_built false vs v (Some l) n x g b c = absurd (cc (b))
   longer_built false vs v None n x g b c = g
 
-  pub list_built : (builds : Bool) (vs : List V) (list : Option (Vec T A)) → IsSome list → Built builds (λ (l : Vec T A). AllZip P vs l.items) list → builds ≡ true
+  pub list_built : (builds : Bool) (vs : List V) (list : Option (Vec T A)) → IsFull list → Built builds (λ (l : Vec T A). AllZip P vs l.items) list → builds ≡ true
   list_built true vs list h b = refl
   list_built false vs (Some l) h b = absurd (cc (b))
-  list_built false vs None h b = absurd (search rules)
+  list_built false vs None h b = absurd h
 
   pub empty_built : (builds : Bool) (list : Option (Vec T A)) → Built builds (λ (l : Vec T A). l.items ≡ []) list → Built builds (λ (l : Vec T A). AllZip P [] l.items) list
   empty_built builds list h = built_map (λ (l : Vec T A). l.items ≡ []) (λ (l : Vec T A). AllZip P [] l.items) builds list (λ l e. subst (λ xs. AllZip P [] xs) (sym e) tt) h

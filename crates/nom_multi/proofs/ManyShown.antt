@@ -9,14 +9,15 @@ use Rattle.nom_traits.specs.Input.{Seen, InputLaws}
 use Rattle.nom_internal.specs.Outcome.{Outcome}
 use Rattle.nom_internal.specs.Outcome.Outcome.{Accept, Refuse, Fail, TooLarge, Undecided}
 use Rattle.nom_internal.specs.Meaning.{Meaning, ShowsMeaning}
+use Rattle.nom_internal.specs.Families.{always}
 use Rattle.nom_internal.proofs.Shown.{Accepts}
-use Rattle.nom_multi.specs.Repeat.{IsBelow, TurnsBy, repeat_meaning}
-use Rattle.nom_multi.specs.Repeat.Turn.{Ends}
+use Rattle.nom_repeat.specs.Repeat.{IsBelow, TurnsBy, repeat_meaning}
+use Rattle.nom_repeat.specs.Repeat.Turn.{Ends}
 use Rattle.nom_multi.specs.Many.{until_refused, OnItem, many_rule}
 use Rattle.nom_multi.specs.ManyLaws.{takes}
 use Rattle.nom_multi.proofs.Longer.{built_map}
 use Rattle.nom_multi.proofs.Parts.{part_refused, part_failed, part_lacks, part_ran_out}
-use Rattle.nom_multi.proofs.Repeated.{Collected, collected_more, ended, refused, failed, too_large, lacking, ran_out, ran_out_within}
+use Rattle.nom_repeat.proofs.Repeated.{Collected, collected_more, ended, refused, failed, too_large, lacking, ran_out, ran_out_within}
 
 module _ {V : Type 0} (Empty Taken Failed : Type 0) where
   on_empty : (n : ℕ) (v : V) → n ≡ 0 → Empty → OnItem Empty Taken Failed (Some (Accept n v))
@@ -31,27 +32,27 @@ empty_ends : {V : Type 0} (n : ℕ) (v : V) → n ≡ 0 → Ends Refuse ≡ unti
 empty_ends zero v e = refl
 empty_ends (suc n) v e = absurd (omega (arith, e))
 
-module _ {I A V E X O : Type 0} (w : Seen I A) (EmptyGives : I → E → Type 0) (ErrorGrows : Type 0) (bound : Option ℕ) (builds : Bool → Bool) (Keeps : Bool → Type 0) (m : Meaning I V E) (s : Bool) (IsItem : V → X → Type 0) (IsOutput : List V → O → Type 0) (outputs errors : Bool) {Held : List V → Type 0} (i j : I) (c : Collected w (TurnsBy bound (λ _. until_refused) (m.answers s)) Held i j) where
+module _ {I A V E X O : Type 0} (w : Seen I A) (EmptyGives : I → E → Type 0) (ErrorGrows : Type 0) (bound : Option ℕ) (builds : Bool → Bool) (Keeps : Bool → Type 0) (m : Meaning I V E) (s : Bool) (IsItem : V → X → Type 0) (IsOutput : List V → O → Type 0) (outputs errors : Bool) {Held : List V → Type 0} (i j : I) (c : Collected w (TurnsBy bound (λ _. until_refused) (λ _. m.answers s)) Held i j) where
   abbrev Part : Result (I × Option X) (Answer.Err E (Option E) Needed) → Type 0
   Part = ShowsMeaning w IsItem m (builds outputs) false s j
 
   abbrev Goal : Result (I × Option O) (Answer.Err E (Option E) Needed) → Type 0
-  Goal = ShowsMeaning w IsOutput (repeat_meaning w (many_rule EmptyGives ErrorGrows bound builds Keeps) (λ vs _. vs) m) outputs errors s i
+  Goal = ShowsMeaning w IsOutput (repeat_meaning w (many_rule EmptyGives ErrorGrows bound builds Keeps) (λ vs _. vs) (always m)) outputs errors s i
 
   -- at the bound the list ends
   pub many_at_bound : (IsBelow bound (length c.trees) → ⊥) → (b : Option O) → Built outputs (IsOutput c.trees) b → Goal (Ok (j, b))
-  many_at_bound h b q = ended w (many_rule EmptyGives ErrorGrows bound builds Keeps) (λ vs _. vs) m s IsOutput outputs errors i j c None h tt refl b q
+  many_at_bound h b q = ended w (many_rule EmptyGives ErrorGrows bound builds Keeps) (λ vs _. vs) (always m) s IsOutput outputs errors i j c None h tt refl b q
 
   module _ (below : IsBelow bound (length c.trees)) where
     -- a refusal ends the list
     pub many_refused : (f : Answer.Err E (Option E) Needed) (x : Option E) → f ≡ Error x → Part (Err f) → (b : Option O) → Built outputs (IsOutput c.trees) b → Goal (Ok (j, b))
     many_refused f x e h b q =
         let t = part_refused w IsItem (builds outputs) false j (m.answers s j) (m.blames s j) (m.runs_out (builds outputs) false s j) f x e h in
-        ended w (many_rule EmptyGives ErrorGrows bound builds Keeps) (λ vs _. vs) m s IsOutput outputs errors i j c (Some Refuse) (below, t) tt refl b q
+        ended w (many_rule EmptyGives ErrorGrows bound builds Keeps) (λ vs _. vs) (always m) s IsOutput outputs errors i j c (Some Refuse) (below, t) tt refl b q
 
     many_stopped : (x : E) → m.answers s j Fail ⊎ m.answers s j TooLarge → m.blames s j x → Goal (Err (Failure x))
-    many_stopped x (inl t) b = failed w (many_rule EmptyGives ErrorGrows bound builds Keeps) (λ vs _. vs) m s IsOutput outputs errors i j c (Some Fail) (below, t) refl x b
-    many_stopped x (inr t) b = too_large w (many_rule EmptyGives ErrorGrows bound builds Keeps) (λ vs _. vs) m s IsOutput outputs errors i j c (Some TooLarge) (below, t) refl x b
+    many_stopped x (inl t) b = failed w (many_rule EmptyGives ErrorGrows bound builds Keeps) (λ vs _. vs) (always m) s IsOutput outputs errors i j c (Some Fail) (below, t) refl x b
+    many_stopped x (inr t) b = too_large w (many_rule EmptyGives ErrorGrows bound builds Keeps) (λ vs _. vs) (always m) s IsOutput outputs errors i j c (Some TooLarge) (below, t) refl x b
 
     -- all else is passed on
     pub many_failed : (f : Answer.Err E (Option E) Needed) (x : E) → f ≡ Failure x → Part (Err f) → Goal (Err (Failure x))
@@ -62,25 +63,25 @@ module _ {I A V E X O : Type 0} (w : Seen I A) (EmptyGives : I → E → Type 0)
     pub many_lacks : (f : Answer.Err E (Option E) Needed) (k : Needed) → f ≡ Incomplete k → Part (Err f) → Goal (Err (Incomplete k))
     many_lacks f k e h =
         let t = part_lacks w IsItem (builds outputs) false j (m.answers s j) (m.blames s j) (m.runs_out (builds outputs) false s j) f k e h in
-        lacking w (many_rule EmptyGives ErrorGrows bound builds Keeps) (λ vs _. vs) m s IsOutput outputs errors i j c (Some (Undecided (size_of k))) (below, t) k refl
+        lacking w (many_rule EmptyGives ErrorGrows bound builds Keeps) (λ vs _. vs) (always m) s IsOutput outputs errors i j c (Some (Undecided (size_of k))) (below, t) k refl
 
     pub many_part_ran_out : (f : Answer.Err E (Option E) Needed) → f ≡ OutOfMemory → Part (Err f) → Goal (Err OutOfMemory)
     many_part_ran_out f e h =
         let t = part_ran_out w IsItem (builds outputs) false j (m.answers s j) (m.blames s j) (m.runs_out (builds outputs) false s j) f e h in
-        ran_out_within w (many_rule EmptyGives ErrorGrows bound builds Keeps) (λ vs _. vs) m s IsOutput outputs errors i j c below t
+        ran_out_within w (many_rule EmptyGives ErrorGrows bound builds Keeps) (λ vs _. vs) (always m) s IsOutput outputs errors i j c below t
 
     -- an item that consumes nothing is refused
     pub many_empty : (h : I) (b : Option X) (a : Accepts w IsItem (builds outputs) j (m.answers s j) h b) → a.length ≡ 0 → (f : Answer.Err E (Option E) Needed) → Refuses (EmptyGives j) ErrorGrows errors f → Goal (Err f)
     many_empty h b a z f (inl g) =
-        subst (λ y. Goal (Err y)) (sym g.0) (ran_out w (many_rule EmptyGives ErrorGrows bound builds Keeps) (λ vs _. vs) m s IsOutput outputs errors i j c (Some (Accept a.length a.tree)) (below, a.answered) (on_empty ((errors ≡ true) × ErrorGrows) (Keeps outputs) ⊥ a.length a.tree z (g.1, g.2)))
+        subst (λ y. Goal (Err y)) (sym g.0) (ran_out w (many_rule EmptyGives ErrorGrows bound builds Keeps) (λ vs _. vs) (always m) s IsOutput outputs errors i j c (Some (Accept a.length a.tree)) (below, a.answered) (on_empty ((errors ≡ true) × ErrorGrows) (Keeps outputs) ⊥ a.length a.tree z (g.1, g.2)))
     many_empty h b a z f (inr g) =
-        subst (λ y. Goal (Err y)) (sym g.2) (refused w (many_rule EmptyGives ErrorGrows bound builds Keeps) (λ vs _. vs) m s IsOutput outputs errors i j c (Some (Accept a.length a.tree)) (below, a.answered) (empty_ends a.length a.tree z) g.0 (built_map (EmptyGives j) (λ y. OnItem (EmptyGives j y) ⊥ (m.blames s j y) (Some (Accept a.length a.tree))) errors g.0 (λ y. on_empty (EmptyGives j y) ⊥ (m.blames s j y) a.length a.tree z) g.1))
+        subst (λ y. Goal (Err y)) (sym g.2) (refused w (many_rule EmptyGives ErrorGrows bound builds Keeps) (λ vs _. vs) (always m) s IsOutput outputs errors i j c (Some (Accept a.length a.tree)) (below, a.answered) (empty_ends a.length a.tree z) g.0 (built_map (EmptyGives j) (λ y. OnItem (EmptyGives j y) ⊥ (m.blames s j y) (Some (Accept a.length a.tree))) errors g.0 (λ y. on_empty (EmptyGives j y) ⊥ (m.blames s j y) a.length a.tree z) g.1))
 
     -- there is no memory to keep an item
     pub many_full : (h : I) (b : Option X) (a : Accepts w IsItem (builds outputs) j (m.answers s j) h b) → 0 < a.length → Keeps outputs → Goal (Err OutOfMemory)
-    many_full h b a p t = ran_out w (many_rule EmptyGives ErrorGrows bound builds Keeps) (λ vs _. vs) m s IsOutput outputs errors i j c (Some (Accept a.length a.tree)) (below, a.answered) (on_taken ((errors ≡ true) × ErrorGrows) (Keeps outputs) ⊥ a.length a.tree p t)
+    many_full h b a p t = ran_out w (many_rule EmptyGives ErrorGrows bound builds Keeps) (λ vs _. vs) (always m) s IsOutput outputs errors i j c (Some (Accept a.length a.tree)) (below, a.answered) (on_taken ((errors ≡ true) × ErrorGrows) (Keeps outputs) ⊥ a.length a.tree p t)
 
 -- an item that consumes is taken
-pub many_more : {I A V X : Type 0} (w : Seen I A) (l : InputLaws w) (bound : Option ℕ) (Item : I → Outcome V → Type 0) (IsItem : V → X → Type 0) (builds : Bool) {Held More : List V → Type 0} (i j : I) (c : Collected w (TurnsBy bound (λ _. until_refused) Item) Held i j) → IsBelow bound (length c.trees) → (h : I) (b : Option X) (a : Accepts w IsItem builds j (Item j) h b) → 0 < a.length → More (c.trees ++ a.tree ∷ []) → Collected w (TurnsBy bound (λ _. until_refused) Item) More i h
+pub many_more : {I A V X : Type 0} (w : Seen I A) (l : InputLaws w) (bound : Option ℕ) (Item : I → Outcome V → Type 0) (IsItem : V → X → Type 0) (builds : Bool) {Held More : List V → Type 0} (i j : I) (c : Collected w (TurnsBy bound (λ _. until_refused) (λ _. Item)) Held i j) → IsBelow bound (length c.trees) → (h : I) (b : Option X) (a : Accepts w IsItem builds j (Item j) h b) → 0 < a.length → More (c.trees ++ a.tree ∷ []) → Collected w (TurnsBy bound (λ _. until_refused) (λ _. Item)) More i h
 many_more w l bound Item IsItem builds i j c below h b a p z =
-    collected_more w l (TurnsBy bound (λ _. until_refused) Item) i j h a.length a.tree c (record { reply = Some (Accept a.length a.tree); replied = (below, a.answered); fact = takes a.length a.tree p }) a.rest_is z
+    collected_more w l (TurnsBy bound (λ _. until_refused) (λ _. Item)) i j h a.length a.tree c (record { reply = Some (Accept a.length a.tree); replied = (below, a.answered); fact = takes a.length a.tree p }) a.rest_is z

@@ -1,14 +1,14 @@
 -- What follows from the items of a repetition.
 use Rattle.std.proofs.Common.{◌≡◌, ℕ, ◌+◌, ◌<◌, ◌≤◌, Option, Some, None, List, [], ◌∷◌, length, zero, suc, refl, arith, sym, ap, subst}
-use Rattle.nom_error.specs.declared.kind.ErrorKind.{ErrorKind}
+use Rattle.nom_error.specs.Errors.{Errors}
 use Rattle.nom_traits.specs.Input.{Seen, InputLaws, input_len}
 use Rattle.nom_traits.specs.Rests.{rest_rest}
 use Rattle.nom_internal.specs.Outcome.{Outcome}
 use Rattle.nom_internal.specs.Outcome.Outcome.{Accept, Refuse, Fail, TooLarge, Undecided}
 use Rattle.nom_internal.specs.Meaning.{Meaning}
 use Rattle.nom_internal.specs.Sequence.{after}
-use Rattle.nom_multi.specs.Repeat.{Pieces, Replies, TurnsBy}
-use Rattle.nom_multi.specs.Repeat.Turn.{Takes, Ends}
+use Rattle.nom_repeat.specs.Repeat.{Pieces, Replies, TurnsBy}
+use Rattle.nom_repeat.specs.Repeat.Turn.{Takes, Ends}
 use Rattle.nom_multi.specs.Many.{until_refused, many0_meaning}
 use Rattle.nom_multi.specs.Promises.{HasEmptyItem, RefusesAtEmpty, HasFewItems}
 use Rattle.nom_internal.proofs.Consumed.{rest_length}
@@ -26,7 +26,7 @@ taken_consumes (Some (Undecided k)) n v e = absurd (cc)
 taken_consumes None n v e = absurd (cc)
 
 -- a refusal is that of an empty item
-refused_empty : {I V : Type 0} (bound : Option ℕ) (Item : I → Outcome V → Type 0) (k : ℕ) (i : I) (a : Option (Outcome V)) → Replies bound Item k i a → Ends Refuse ≡ until_refused a → (v : V) × Item i (Accept 0 v)
+refused_empty : {I V : Type 0} (bound : Option ℕ) (Item : I → Outcome V → Type 0) (k : ℕ) (i : I) (a : Option (Outcome V)) → Replies bound (λ _. Item) k i a → Ends Refuse ≡ until_refused a → (v : V) × Item i (Accept 0 v)
 refused_empty bound Item k i (Some (Accept zero u)) p e = (u, p.1)
 refused_empty bound Item k i (Some (Accept (suc m) u)) p e = absurd (cc)
 refused_empty bound Item k i (Some Refuse) p e = absurd (cc)
@@ -50,12 +50,12 @@ accepted_tree n m t v TooLarge e = absurd (cc)
 accepted_tree n m t v (Undecided d) e = absurd (cc)
 
 module _ {I A V : Type 0} (w : Seen I A) (bound : Option ℕ) (Item : I → Outcome V → Type 0) where
-  pieces_few : (Fact : ℕ → I → Type 0) (k : ℕ) (i : I) (vs : List V) (n : ℕ) → Pieces w (TurnsBy bound (λ _. until_refused) Item) Fact k i vs n → length vs ≤ input_len w i
+  pieces_few : (Fact : ℕ → I → Type 0) (k : ℕ) (i : I) (vs : List V) (n : ℕ) → Pieces w (TurnsBy bound (λ _. until_refused) (λ _. Item)) Fact k i vs n → length vs ≤ input_len w i
   pieces_few Fact k i [] n p = omega arith
   pieces_few Fact k i (v ∷ vs) n p =
       omega (arith, pieces_few Fact (k + 1) p.2 vs p.1 p.5, rest_length w i p.0 p.2 p.4, taken_consumes (p.3).reply p.0 v (p.3).fact)
 
-  pieces_empty : InputLaws w → (o : Outcome (Unit {0})) → o ≡ Refuse → (k : ℕ) (i : I) (vs : List V) (n : ℕ) → w.IsKnown i → Pieces w (TurnsBy bound (λ _. until_refused) Item) (λ h j. TurnsBy bound (λ _. until_refused) Item h j (Ends o)) k i vs n → HasEmptyItem w Item i
+  pieces_empty : InputLaws w → (o : Outcome (Unit {0})) → o ≡ Refuse → (k : ℕ) (i : I) (vs : List V) (n : ℕ) → w.IsKnown i → Pieces w (TurnsBy bound (λ _. until_refused) (λ _. Item)) (λ h j. TurnsBy bound (λ _. until_refused) (λ _. Item) h j (Ends o)) k i vs n → HasEmptyItem w Item i
   pieces_empty l o q k i [] n h p =
       let e : Ends Refuse ≡ until_refused (p.1).reply = subst (λ z. Ends z ≡ until_refused (p.1).reply) q (p.1).fact in
       let a = refused_empty bound Item k i (p.1).reply (p.1).replied e in
@@ -64,11 +64,11 @@ module _ {I A V : Type 0} (w : Seen I A) (bound : Option ℕ) (Item : I → Outc
       let b = pieces_empty l o q (k + 1) p.2 vs p.1 (p.4).known p.5 in
       record { taken = p.0 + b.taken; place = b.place; rest_is = rest_rest w l i p.0 p.2 b.taken b.place p.4 b.rest_is; tree = b.tree; accepted = b.accepted }
 
-module _ {I A V E : Type 0} (w : Seen I A) (Gives : I → ErrorKind → E → Type 0) (Grows : Type 0) (m : Meaning I V E) where
-  pub many0_refuses_at_empty : InputLaws w → RefusesAtEmpty w m (many0_meaning w Gives Grows m)
+module _ {I A V E : Type 0} (w : Seen I A) (errs : Errors I E) (m : Meaning I V E) where
+  pub many0_refuses_at_empty : InputLaws w → RefusesAtEmpty w m (many0_meaning w errs m)
   many0_refuses_at_empty l s i h a = pieces_empty w None (m.answers s) l a.ending (ends_refused a.taken (λ _. a.trees) a.ending a.outcome_is) 0 i a.trees a.taken h a.pieces
 
-  pub many0_has_few_items : HasFewItems w (many0_meaning w Gives Grows m)
+  pub many0_has_few_items : HasFewItems w (many0_meaning w errs m)
   many0_has_few_items s i n vs h a =
       let same : vs ≡ a.trees = accepted_tree n a.taken a.trees vs a.ending a.outcome_is in
       omega (arith, ap length same, pieces_few w None (m.answers s) _ 0 i a.trees a.taken a.pieces)

@@ -1,13 +1,14 @@
 -- The repetitions that end at a refusal.
 use Rattle.std.specs.Prelude.{◌≡◌, ℕ, Bool, true, false, Option, Some, None, List, zero, suc}
-use Rattle.nom_error.specs.declared.kind.ErrorKind.{ErrorKind}
+use Rattle.nom_error.specs.Errors.{Errors}
 use Rattle.nom_error.specs.declared.kind.ErrorKind.TheVariants as Kind
 use Rattle.nom_traits.specs.Input.{Seen}
 use Rattle.nom_internal.specs.Outcome.{Outcome}
 use Rattle.nom_internal.specs.Outcome.Outcome.{Accept, Refuse, Fail, TooLarge, Undecided}
 use Rattle.nom_internal.specs.Meaning.{Meaning}
-use Rattle.nom_multi.specs.Repeat.{Turn, Rule, repeat_meaning}
-use Rattle.nom_multi.specs.Repeat.Turn.{Takes, Ends}
+use Rattle.nom_internal.specs.Families.{always}
+use Rattle.nom_repeat.specs.Repeat.{Turn, Rule, repeat_meaning}
+use Rattle.nom_repeat.specs.Repeat.Turn.{Takes, Ends}
 
 -- an item that consumes is taken; an empty one is refused; a refusal ends with success, as does the bound; all else is passed on
 abbrev pub until_refused : {V : Type 0} → Option (Outcome V) → Turn V (Unit {0})
@@ -39,12 +40,14 @@ many_rule EmptyGives ErrorGrows bound builds Keeps = record {
   outputs = builds;
   errors = λ _ _. false;
   Asks = λ outputs errors _. OnItem ((errors ≡ true) × ErrorGrows) (Keeps outputs) ⊥;
+  IsSound = λ Part. Part;
   IsFrugal = λ PartIs outputs errors. PartIs (builds outputs) false × (Keeps outputs → ⊥) × (errors ≡ true → ErrorGrows → ⊥);
+  NeverFails = λ Part. Part;
 }
 
 -- a list of the items, which grows by each where outputs are built
-abbrev pub many0_rule : {I V E : Type 0} → (I → ErrorKind → E → Type 0) → Type 0 → Rule I V V (Unit {0}) E
-many0_rule Gives Grows = many_rule (λ j. Gives j Kind.Many0) Grows None (λ b. b) (λ b. b ≡ true)
+abbrev pub many0_rule : {I V E : Type 0} → Errors I E → Rule I V V (Unit {0}) E
+many0_rule errs = many_rule (λ j. errs.of_kind j Kind.Many0) errs.grows None (λ b. b) (λ b. b ≡ true)
 
-abbrev pub many0_meaning : {I A V E : Type 0} → Seen I A → (I → ErrorKind → E → Type 0) → Type 0 → Meaning I V E → Meaning I (List V) E
-many0_meaning w Gives Grows m = repeat_meaning w (many0_rule Gives Grows) (λ vs _. vs) m
+abbrev pub many0_meaning : {I A V E : Type 0} → Seen I A → Errors I E → Meaning I V E → Meaning I (List V) E
+many0_meaning w errs m = repeat_meaning w (many0_rule errs) (λ vs _. vs) (always m)

@@ -1,14 +1,15 @@
 -- The laws of the repetitions that end at a refusal.
-use Rattle.std.specs.Prelude.{◌≡◌, ℕ, ◌<◌, Bool, true, Option, Some, None, zero, suc, refl}
+use Rattle.std.specs.Prelude.{◌≡◌, ℕ, ◌<◌, Bool, true, false, Option, Some, None, zero, suc, refl}
 use Rattle.std.proofs.Common.{arith}
-use Rattle.nom_error.specs.declared.kind.ErrorKind.{ErrorKind}
+use Rattle.nom_error.specs.Errors.{Errors}
 use Rattle.nom_traits.specs.Input.{Seen, InputLaws}
-use Rattle.nom_internal.specs.Outcome.{Outcome}
+use Rattle.nom_internal.specs.Outcome.{Outcome, failure}
 use Rattle.nom_internal.specs.Outcome.Outcome.{Accept, Refuse, Fail, TooLarge, Undecided}
 use Rattle.nom_internal.specs.Meaning.{Meaning, IsLawful, IsSteady}
-use Rattle.nom_multi.specs.Repeat.{Ran}
-use Rattle.nom_multi.specs.Repeat.Turn.{Takes, Ends}
-use Rattle.nom_multi.specs.RepeatLaws.{KeepsTurn, KeepsReply, EndsAt, RuleLaws, repeat_lawful, repeat_steady}
+use Rattle.nom_internal.specs.Families.{always, always_lawful}
+use Rattle.nom_repeat.specs.Repeat.{Ran}
+use Rattle.nom_repeat.specs.Repeat.Turn.{Takes, Ends}
+use Rattle.nom_repeat.specs.RepeatLaws.{KeepsTurn, KeepsReply, EndsAt, RuleLaws, repeat_lawful, repeat_steady}
 use Rattle.nom_multi.specs.Many.{until_refused, OnItem, many_rule, many0_rule, many0_meaning}
 
 until_decided : {V : Type 0} (a : Option (Outcome V)) → KeepsTurn true (until_refused a) → KeepsReply true a
@@ -46,6 +47,22 @@ on_none Empty Taken (Some TooLarge) f g h = h
 on_none Empty Taken (Some (Undecided k)) f g h = h
 on_none Empty Taken None f g h = h
 
+until_fails : {V : Type 0} (large : Bool) (a : Option (Outcome V)) → Ends (failure large) ≡ until_refused a → a ≡ Some (failure large)
+until_fails true (Some (Accept zero v)) e = absurd (cc (e))
+until_fails true (Some (Accept (suc k) v)) e = absurd (cc (e))
+until_fails true (Some Refuse) e = absurd (cc (e))
+until_fails true (Some Fail) e = absurd (cc (e))
+until_fails true (Some TooLarge) e = refl
+until_fails true (Some (Undecided k)) e = absurd (cc (e))
+until_fails true None e = absurd (cc (e))
+until_fails false (Some (Accept zero v)) e = absurd (cc (e))
+until_fails false (Some (Accept (suc k) v)) e = absurd (cc (e))
+until_fails false (Some Refuse) e = absurd (cc (e))
+until_fails false (Some Fail) e = refl
+until_fails false (Some TooLarge) e = absurd (cc (e))
+until_fails false (Some (Undecided k)) e = absurd (cc (e))
+until_fails false None e = absurd (cc (e))
+
 pub many_rule_laws : {I V E : Type 0} (EmptyGives : I → E → Type 0) (ErrorGrows : Type 0) (bound : Option ℕ) (builds : Bool → Bool) (Keeps : Bool → Type 0) → RuleLaws (many_rule {V = V} EmptyGives ErrorGrows bound builds Keeps)
 many_rule_laws EmptyGives ErrorGrows bound builds Keeps = record {
   decided = λ k a. until_decided a;
@@ -53,14 +70,15 @@ many_rule_laws EmptyGives ErrorGrows bound builds Keeps = record {
   blames = λ i k j a P Q e f. on_failed (EmptyGives j e) ⊥ a (λ r. f r e);
   part_frugal = λ Part outputs errors k h. h.0;
   asks_none = λ Part outputs errors k a h. on_none ((errors ≡ true) × ErrorGrows) (Keeps outputs) a (λ p. h.2 p.0 p.1) h.1;
+  never_fails = λ Part large k a h e. (h, until_fails large a e);
 }
 
-module _ {I A V E : Type 0} (w : Seen I A) (l : InputLaws w) (Gives : I → ErrorKind → E → Type 0) (Grows : Type 0) (m : Meaning I V E) where
-  pub many0_lawful : IsLawful w m → IsLawful w (many0_meaning w Gives Grows m)
-  many0_lawful = repeat_lawful w l (many0_rule Gives Grows) (many_rule_laws _ _ _ _ _) (λ vs _. vs) m
+module _ {I A V E : Type 0} (w : Seen I A) (l : InputLaws w) (errs : Errors I E) (m : Meaning I V E) where
+  pub many0_lawful : IsLawful w m → IsLawful w (many0_meaning w errs m)
+  many0_lawful p = repeat_lawful w l (many0_rule errs) (many_rule_laws _ _ _ _ _) (λ vs _. vs) (always m) (always_lawful w m p)
 
-  pub many0_steady : IsSteady w m → IsSteady w (many0_meaning w Gives Grows m)
-  many0_steady = repeat_steady w l (many0_rule Gives Grows) (many_rule_laws _ _ _ _ _) (λ vs _. vs) m
+  pub many0_steady : IsSteady w m → IsSteady w (many0_meaning w errs m)
+  many0_steady p = repeat_steady w l (many0_rule errs) (many_rule_laws _ _ _ _ _) (λ vs _. vs) (always m) (λ _. p)
 
 -- an item that consumes is taken
 pub takes : {V : Type 0} (n : ℕ) (v : V) → 0 < n → Takes n v ≡ until_refused (Some (Accept n v))

@@ -32,7 +32,9 @@ impl<I: Input, F: Parser<I, Output = u8> + Drop> Parser<I> for LengthData<F> {
 
     ghost IsOutput = { λ s t o. IsSeenAs I.seen t.1 o };
 
-    ghost meaning = { λ s. length_data_meaning I.seen F.Error.errors.of_kind F.Error.errors.grows I.lack (F.IsOutput s) (F.meaning s) };
+    ghost meaning = { λ s. length_data_meaning I.seen F.Error.errors I.lack (F.IsOutput s) (F.meaning s) };
+
+    ghost Pins = { λ _. Unit {0} };
 
     #[inline(always)]
     fn process<OM: OutputMode>(&mut self, input: I) -> PResult<I, I, F::Error> {
@@ -48,11 +50,14 @@ impl<I: Input, F: Parser<I, Output = u8> + Drop> Parser<I> for LengthData<F> {
         }
     }
 
-    ghost lawful = { λ s. length_data_lawful I.seen I.lawful F.Error.errors.of_kind F.Error.errors.grows I.lack (F.IsOutput s) (F.meaning s) (F.lawful s) };
+    ghost lawful = { λ s k. length_data_lawful I.seen I.lawful F.Error.errors I.lack (F.IsOutput s) (F.meaning s) k.1.1 (F.lawful s k.0) };
 }
 
 impl<I: Input, F: StreamParser<I, Output = u8> + Drop> StreamParser<I> for LengthData<F> {
+    ghost use Rattle.nom_internal.specs.Pinned.{slice_pinned};
     ghost use Rattle.nom_multi.specs.LengthLaws.{length_data_steady};
 
-    ghost steady = { λ s. length_data_steady I.seen I.lawful F.Error.errors.of_kind F.Error.errors.grows I.lack (F.IsOutput s) (F.meaning s) (F.steady s) };
+    ghost pinned = { λ s k p t a b x y. slice_pinned I.seen I.view I.views t.1 a b x y };
+
+    ghost steady = { λ s k. length_data_steady I.seen I.lawful F.Error.errors I.lack (F.IsOutput s) (F.meaning s) k.1.1 (F.steady s k.0) };
 }

@@ -1,8 +1,8 @@
 //! Items until one is refused.
-ghost use Rattle.std.specs.Prelude.{◌≡◌, List, [], Option, IsTrue, IsSome, false};
+ghost use Rattle.std.specs.Prelude.{◌≡◌, List, [], Option, IsTrue, false};
 ghost use Rattle.std.specs.List.{AllZip};
 ghost use Rattle.nom_error.specs.Modes.{Built};
-ghost use Rattle.nom_multi.specs.Lists.{IsLonger};
+ghost use Rattle.nom_multi.specs.Lists.{IsFull, IsLonger};
 ghost use Rattle.nom_multi.specs.Many.{many0_meaning};
 
 use nom_error::answer::{Err, PResult};
@@ -35,7 +35,9 @@ impl<I: Input, A: Allocator + Copy, F: Parser<I> + Drop> Parser<I> for Many0<A, 
 
     ghost IsOutput = { λ s vs o. AllZip (F.IsOutput s) vs o.items };
 
-    ghost meaning = { λ s. many0_meaning I.seen F.Error.errors.of_kind F.Error.errors.grows (F.meaning s) };
+    ghost meaning = { λ s. many0_meaning I.seen F.Error.errors (F.meaning s) };
+
+    ghost Pins = { F.Pins };
 
     #[inline]
     fn process<OM: OutputMode>(&mut self, input: I) -> PResult<I, Self::Output, Self::Error> {
@@ -64,13 +66,16 @@ impl<I: Input, A: Allocator + Copy, F: Parser<I> + Drop> Parser<I> for Many0<A, 
         }
     }
 
-    ghost lawful = { λ s. many0_lawful I.seen I.lawful F.Error.errors.of_kind F.Error.errors.grows (F.meaning s) (F.lawful s) };
+    ghost lawful = { λ s k. many0_lawful I.seen I.lawful F.Error.errors (F.meaning s) (F.lawful s k) };
 }
 
 impl<I: Input, A: Allocator + Copy, F: StreamParser<I> + Drop> StreamParser<I> for Many0<A, F> {
+    ghost use Rattle.nom_multi.specs.Lists.{list_pinned};
     ghost use Rattle.nom_multi.specs.ManyLaws.{many0_steady};
 
-    ghost steady = { λ s. many0_steady I.seen I.lawful F.Error.errors.of_kind F.Error.errors.grows (F.meaning s) (F.steady s) };
+    ghost pinned = { λ s k p. list_pinned F.Output.view (F.IsOutput s) (F.pinned s k p) };
+
+    ghost steady = { λ s k. many0_steady I.seen I.lawful F.Error.errors (F.meaning s) (F.steady s k) };
 }
 
 /// A list of no items, where a list is built; it takes no memory.
@@ -85,11 +90,12 @@ fn none_yet<M: Mode, T, A: Allocator>(alloc: A) -> Option<Vec<T, A>>
     }
 }
 
-/// Appends an item, where a list is built, and tells whether there was memory for it.
+/// Appends an item, where a list is built, and tells whether there was memory for it; there may be none
+/// only where the list is full.
 #[inline(always)]
 fn keep<T: Drop, A: Allocator>(list: &mut Option<Vec<T, A>>, item: Option<T>) -> bool
     ensures kept { IsTrue result → IsLonger list.old item list.new }
-    ensures refused { result ≡ false → IsSome list.old }
+    ensures refused { result ≡ false → IsFull list.old }
 {
     match (list, item) {
         (Some(list), Some(item)) => list.push(item).is_ok(),

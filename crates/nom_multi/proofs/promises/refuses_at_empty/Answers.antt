@@ -2,4 +2,4 @@ use Rattle.nom_multi.proofs.Promised.{many0_refuses_at_empty}
 use Rattle.nom_multi.proofs.promises.refuses_at_empty.Goals as goal
 
 pub returns : goal.returns
-returns g c = many0_refuses_at_empty _ g.F.Error.ParseError.errors.of_kind g.F.Error.ParseError.errors.grows (g.F.Parser.meaning (g.F.Parser.state c.args._parser.now.parser)) g.met.I.Items.lawful
+returns g c = many0_refuses_at_empty _ g.F.Error.ParseError.errors (g.F.Parser.meaning (g.F.Parser.state c.args._parser.now.parser)) g.met.I.Items.lawful

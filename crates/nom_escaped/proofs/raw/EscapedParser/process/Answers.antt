@@ -1,6 +1,6 @@
 use Rattle.std.proofs.Common.{◌≡◌, ◌∙◌, refl, arith}
 use Rattle.nom_internal.proofs.Shown.{accepts, err_from_residual}
-use Rattle.nom_multi.proofs.Repeated.{collected_none, consumes, is_shorter}
+use Rattle.nom_repeat.proofs.Repeated.{collected_none, consumes, is_shorter}
 use Rattle.nom_escaped.proofs.EscapeShown.{same_spot}
 use Rattle.nom_escaped.proofs.EscapedShown.{escaped_passed, escaped_empty, escaped_none, escaped_other, escaped_dangling, escaped_done, escaped_more}
 use Rattle.nom_escaped.proofs.raw.EscapedParser.process.Goals as goal

@@ -1,8 +1,8 @@
 use Rattle.std.proofs.Common.{◌≡◌, None, Some}
 use Rattle.nom_error.specs.Answers.{size_of}
 use Rattle.nom_traits.specs.Input.{input_len}
-use Rattle.nom_multi.specs.Repeat.{TurnsBy}
-use Rattle.nom_multi.proofs.Repeated.{Collected}
+use Rattle.nom_repeat.specs.Repeat.{TurnsBy}
+use Rattle.nom_repeat.proofs.Repeated.{Collected}
 use Rattle.nom_escaped.specs.Spots.{spot_meaning}
 use Rattle.nom_escaped.specs.Escapes.{escape_turn}
 use Rattle.nom_escaped.proofs.EscapeShown.{AnyPieces}

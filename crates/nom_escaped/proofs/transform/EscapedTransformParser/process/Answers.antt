@@ -1,6 +1,6 @@
 use Rattle.std.proofs.Common.{◌≡◌, ◌∙◌, None, refl, rules}
 use Rattle.nom_internal.proofs.Shown.{accepts, err_from_residual}
-use Rattle.nom_multi.proofs.Repeated.{collected_none, consumes, is_shorter}
+use Rattle.nom_repeat.proofs.Repeated.{collected_none, consumes, is_shorter}
 use Rattle.nom_escaped.proofs.EscapeShown.{same_spot}
 use Rattle.nom_escaped.proofs.TransformShown.{transform_passed, transform_full, transform_empty, transform_more, transform_none, transform_other, transform_dangling, transform_done}
 use Rattle.nom_escaped.proofs.transform.EscapedTransformParser.process.Goals as goal

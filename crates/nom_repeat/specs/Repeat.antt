@@ -6,14 +6,15 @@
 --
 -- A second part is no more than another part for a rule:
 -- - A separator and the item behind it, in sequence, are one part, with the item's tree. Where both together consume nothing,
---   there is no progress, at the separator. A refusal of either ends the list before the separator. The first item stands in
---   sequence with the repetition of all others.
+--   there is no progress, at the separator. A refusal of either ends the list before the separator. The first item alone is
+--   the part for no item before it.
 -- - An end that is tried first, or else an item, are one part, whose tree is of the one or of the other, and whose errors are
 --   the item's. An accepted end ends the repetition with its tree, and consumes; an accepted item is taken.
 use Rattle.std.specs.Prelude.{◌≡◌, ℕ, ◌+◌, ◌<◌, Bool, ◌⊎◌, Option, Some, None, List, [], ◌∷◌}
 use Rattle.nom_traits.specs.Input.{Seen, IsRest}
 use Rattle.nom_internal.specs.Outcome.{Outcome}
 use Rattle.nom_internal.specs.Meaning.{Meaning}
+use Rattle.nom_internal.specs.Families.{Family}
 use Rattle.nom_internal.specs.Sequence.{after}
 
 -- a turn of a repetition: it takes an item, of a length, with a tree; or it ends, by an outcome of its own
@@ -47,9 +48,9 @@ abbrev pub IsBelow : Option ℕ → ℕ → Type 0
 IsBelow None k = Unit {0}
 IsBelow (Some bound) k = k < bound
 
--- what a part replies after k items: its outcome, or nothing at the bound, where it doesn't run
-abbrev pub Replies : {I P : Type 0} → Option ℕ → (I → Outcome P → Type 0) → ℕ → I → Option (Outcome P) → Type 0
-Replies bound Part k i (Some o) = IsBelow bound k × Part i o
+-- what the part for a count replies after so many items: its outcome, or nothing at the bound, where it doesn't run
+abbrev pub Replies : {I P : Type 0} → Option ℕ → (ℕ → I → Outcome P → Type 0) → ℕ → I → Option (Outcome P) → Type 0
+Replies bound Part k i (Some o) = IsBelow bound k × Part k i o
 Replies bound Part k i None = IsBelow bound k → ⊥
 
 -- the part ran
@@ -57,17 +58,17 @@ abbrev pub Ran : {P : Type 0} → Option (Outcome P) → Type 0
 Ran (Some o) = Unit {0}
 Ran None = ⊥
 
--- the fact holds of what a part replies
-pub record OnReply {I P : Type 0} (bound : Option ℕ) (Part : I → Outcome P → Type 0) (Fact : Option (Outcome P) → Type 0) (k : ℕ) (i : I) : Type 0 where
+-- the fact holds of what the part replies
+pub record OnReply {I P : Type 0} (bound : Option ℕ) (Part : ℕ → I → Outcome P → Type 0) (Fact : Option (Outcome P) → Type 0) (k : ℕ) (i : I) : Type 0 where
   pub reply : Option (Outcome P)
   pub replied : Replies bound Part k i reply
   pub fact : Fact reply
 
--- the turn by what a part replies
-abbrev pub TurnsBy : {I P V T : Type 0} → Option ℕ → (ℕ → Option (Outcome P) → Turn V T) → (I → Outcome P → Type 0) → ℕ → I → Turn V T → Type 0
+-- the turn by what the part replies
+abbrev pub TurnsBy : {I P V T : Type 0} → Option ℕ → (ℕ → Option (Outcome P) → Turn V T) → (ℕ → I → Outcome P → Type 0) → ℕ → I → Turn V T → Type 0
 TurnsBy bound turn Part k i t = OnReply bound Part (λ a. t ≡ turn k a) k i
 
--- a repetition of a part with trees P: its items have trees V, and its end a tree T
+-- a repetition of parts with trees P: its items have trees V, and its end a tree T
 pub record Rule (I P V T E : Type 0) : Type 1 where
   -- how many items it takes at most
   pub bound : Option ℕ
@@ -80,16 +81,19 @@ pub record Rule (I P V T E : Type 0) : Type 1 where
   pub errors : ℕ → Bool → Bool
   -- may it ask for memory after so many items, by what is built of outputs and errors, and by what the part replies
   pub Asks : Bool → Bool → ℕ → Option (Outcome P) → Type 0
-  -- it is frugal, by whether its part is: are outputs built, are errors built
+  -- by what holds of the parts: its premise, that it is frugal, that it never fails
+  pub IsSound : Type 0 → Type 0
   pub IsFrugal : (Bool → Bool → Type 0) → Bool → Bool → Type 0
+  pub NeverFails : (Bool → Type 0) → Bool → Type 0
 
--- the repetition of a part by a rule, with a tree made of its items' trees and its end's
-abbrev pub repeat_meaning : {I A P V T R E : Type 0} → Seen I A → Rule I P V T E → (List V → T → R) → Meaning I P E → Meaning I R E
-repeat_meaning w r tree m = record {
-  IsSound = m.IsSound;
-  answers = λ s. Repeats w (TurnsBy r.bound r.turn (m.answers s)) tree;
-  blames = λ s i e. Reaches w (TurnsBy r.bound r.turn (m.answers s)) (λ k j. OnReply r.bound (m.answers s) (λ a. r.Blames i k j a (m.blames s j) e) k j) i;
-  runs_out = λ outputs errors s. Reaches w (TurnsBy r.bound r.turn (m.answers s)) (λ k j. OnReply r.bound (m.answers s) (r.Asks outputs errors k) k j ⊎ (IsBelow r.bound k × m.runs_out (r.outputs outputs) (r.errors k errors) s j));
-  IsFrugal = r.IsFrugal m.IsFrugal;
-  Settles = m.Settles;
+-- The repetition, by a rule, of a part for each count of items before it, with a tree made of its items' trees and its end's.
+abbrev pub repeat_meaning : {I A P V T R E : Type 0} → Seen I A → Rule I P V T E → (List V → T → R) → Family ℕ I P E → Meaning I R E
+repeat_meaning w r tree f = record {
+  IsSound = r.IsSound f.IsSound;
+  answers = λ s. Repeats w (TurnsBy r.bound r.turn (λ k. (f.at k).answers s)) tree;
+  blames = λ s i e. Reaches w (TurnsBy r.bound r.turn (λ k. (f.at k).answers s)) (λ k j. OnReply r.bound (λ k. (f.at k).answers s) (λ a. r.Blames i k j a ((f.at k).blames s j) e) k j) i;
+  runs_out = λ outputs errors s. Reaches w (TurnsBy r.bound r.turn (λ k. (f.at k).answers s)) (λ k j. OnReply r.bound (λ k. (f.at k).answers s) (r.Asks outputs errors k) k j ⊎ (IsBelow r.bound k × (f.at k).runs_out (r.outputs outputs) (r.errors k errors) s j));
+  IsFrugal = r.IsFrugal f.IsFrugal;
+  Settles = f.Settles;
+  NeverFails = r.NeverFails f.NeverFails;
 }

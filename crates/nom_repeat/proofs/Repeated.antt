@@ -10,11 +10,12 @@ use Rattle.nom_traits.specs.Rests.{rest_rest}
 use Rattle.nom_internal.specs.Outcome.{Outcome}
 use Rattle.nom_internal.specs.Outcome.Outcome.{Accept, Refuse, Fail, TooLarge, Undecided}
 use Rattle.nom_internal.specs.Outcome.ShowsAnswer.{RanOut, Shown}
-use Rattle.nom_internal.specs.Meaning.{Meaning, ShowsMeaning}
+use Rattle.nom_internal.specs.Meaning.{ShowsMeaning}
+use Rattle.nom_internal.specs.Families.{Family}
 use Rattle.nom_internal.specs.Sequence.{after}
 use Rattle.nom_internal.proofs.Consumed.{rest_length}
-use Rattle.nom_multi.specs.Repeat.{Turn, Pieces, Reaches, Repeats, IsBelow, Replies, OnReply, TurnsBy, Rule, repeat_meaning}
-use Rattle.nom_multi.specs.Repeat.Turn.{Takes, Ends}
+use Rattle.nom_repeat.specs.Repeat.{Turn, Pieces, Reaches, Repeats, IsBelow, Replies, OnReply, TurnsBy, Rule, repeat_meaning}
+use Rattle.nom_repeat.specs.Repeat.Turn.{Takes, Ends}
 
 -- items were taken from i to j, and of their trees the fact holds
 pub record Collected {I A V T : Type 0} (w : Seen I A) (Turns : ℕ → I → Turn V T → Type 0) (Held : List V → Type 0) (i j : I) : Type 0 where
@@ -50,30 +51,30 @@ module _ {I A V T : Type 0} (w : Seen I A) (l : InputLaws w) (Turns : ℕ → I 
     held = z;
   }
 
-module _ {I A P V T R O E : Type 0} (w : Seen I A) (r : Rule I P V T E) (tree : List V → T → R) (m : Meaning I P E) (s : Bool) (IsOutput : R → O → Type 0) (outputs errors : Bool) {Held : List V → Type 0} (i j : I) (c : Collected w (TurnsBy r.bound r.turn (m.answers s)) Held i j) where
+module _ {I A P V T R O E : Type 0} (w : Seen I A) (r : Rule I P V T E) (tree : List V → T → R) (f : Family ℕ I P E) (s : Bool) (IsOutput : R → O → Type 0) (outputs errors : Bool) {Held : List V → Type 0} (i j : I) (c : Collected w (TurnsBy r.bound r.turn (λ k. (f.at k).answers s)) Held i j) where
   abbrev Goal : Result (I × Option O) (Answer.Err E (Option E) Needed) → Type 0
-  Goal = ShowsMeaning w IsOutput (repeat_meaning w r tree m) outputs errors s i
+  Goal = ShowsMeaning w IsOutput (repeat_meaning w r tree f) outputs errors s i
 
-  reaches : (Fact : ℕ → I → Type 0) → Fact (length c.trees) j → Reaches w (TurnsBy r.bound r.turn (m.answers s)) Fact i
-  reaches Fact h = record { trees = c.trees; taken = c.taken; pieces = pieces_end w (TurnsBy r.bound r.turn (m.answers s)) Fact j (length c.trees) h 0 i c.trees c.taken (omega arith) c.pieces }
+  reaches : (Fact : ℕ → I → Type 0) → Fact (length c.trees) j → Reaches w (TurnsBy r.bound r.turn (λ k. (f.at k).answers s)) Fact i
+  reaches Fact h = record { trees = c.trees; taken = c.taken; pieces = pieces_end w (TurnsBy r.bound r.turn (λ k. (f.at k).answers s)) Fact j (length c.trees) h 0 i c.trees c.taken (omega arith) c.pieces }
 
   -- what the part replies here
-  module _ (a : Option (Outcome P)) (p : Replies r.bound (m.answers s) (length c.trees) j a) where
-    ends : (o : Outcome T) → Ends o ≡ r.turn (length c.trees) a → Repeats w (TurnsBy r.bound r.turn (m.answers s)) tree i (after c.taken (tree c.trees) o)
-    ends o t = record { trees = c.trees; taken = c.taken; ending = o; pieces = pieces_end w (TurnsBy r.bound r.turn (m.answers s)) (λ k x. TurnsBy r.bound r.turn (m.answers s) k x (Ends o)) j (length c.trees) (record { reply = a; replied = p; fact = t }) 0 i c.trees c.taken (omega arith) c.pieces; outcome_is = refl }
+  module _ (a : Option (Outcome P)) (p : Replies r.bound (λ k. (f.at k).answers s) (length c.trees) j a) where
+    ends : (o : Outcome T) → Ends o ≡ r.turn (length c.trees) a → Repeats w (TurnsBy r.bound r.turn (λ k. (f.at k).answers s)) tree i (after c.taken (tree c.trees) o)
+    ends o t = record { trees = c.trees; taken = c.taken; ending = o; pieces = pieces_end w (TurnsBy r.bound r.turn (λ k. (f.at k).answers s)) (λ k x. TurnsBy r.bound r.turn (λ k. (f.at k).answers s) k x (Ends o)) j (length c.trees) (record { reply = a; replied = p; fact = t }) 0 i c.trees c.taken (omega arith) c.pieces; outcome_is = refl }
 
     -- the repetition ends with success, before what the part accepts
     pub ended : (t : T) → Ends (Accept 0 t) ≡ r.turn (length c.trees) a → (b : Option O) → Built outputs (IsOutput (tree c.trees t)) b → Goal (Ok (j, b))
     ended t e b h = Shown (Accept (c.taken + 0) (tree c.trees t)) (ends (Accept 0 t) e) (j, b, subst (λ n. IsRest w i n j) (omega arith) c.rest_is, h, refl)
 
     abbrev IsBlamed : E → Type 0
-    IsBlamed = r.Blames i (length c.trees) j a (m.blames s j)
+    IsBlamed = r.Blames i (length c.trees) j a ((f.at (length c.trees)).blames s j)
 
     -- it ends by an error that is blamed on the part's outcome
-    blamed : (e : E) → IsBlamed e → (repeat_meaning w r tree m).blames s i e
-    blamed e h = reaches (λ k x. OnReply r.bound (m.answers s) (λ y. r.Blames i k x y (m.blames s x) e) k x) (record { reply = a; replied = p; fact = h })
+    blamed : (e : E) → IsBlamed e → (repeat_meaning w r tree f).blames s i e
+    blamed e h = reaches (λ k x. OnReply r.bound (λ k. (f.at k).answers s) (λ y. r.Blames i k x y ((f.at k).blames s x) e) k x) (record { reply = a; replied = p; fact = h })
 
-    built_error : (x : Bool) (b : Option E) → Built x IsBlamed b → Built x ((repeat_meaning w r tree m).blames s i) b
+    built_error : (x : Bool) (b : Option E) → Built x IsBlamed b → Built x ((repeat_meaning w r tree f).blames s i) b
     built_error true b h = (h.0, h.1, blamed h.0 h.2)
     built_error false b h = h
 
@@ -91,11 +92,11 @@ module _ {I A P V T R O E : Type 0} (w : Seen I A) (r : Rule I P V T E) (tree : 
 
     -- memory ran out at what the part replies
     pub ran_out : r.Asks outputs errors (length c.trees) a → Goal (Err OutOfMemory)
-    ran_out h = RanOut refl (reaches (λ k x. OnReply r.bound (m.answers s) (r.Asks outputs errors k) k x ⊎ (IsBelow r.bound k × m.runs_out (r.outputs outputs) (r.errors k errors) s x)) (inl (record { reply = a; replied = p; fact = h })))
+    ran_out h = RanOut refl (reaches (λ k x. OnReply r.bound (λ k. (f.at k).answers s) (r.Asks outputs errors k) k x ⊎ (IsBelow r.bound k × (f.at k).runs_out (r.outputs outputs) (r.errors k errors) s x)) (inl (record { reply = a; replied = p; fact = h })))
 
   -- memory ran out in the part
-  pub ran_out_within : IsBelow r.bound (length c.trees) → m.runs_out (r.outputs outputs) (r.errors (length c.trees) errors) s j → Goal (Err OutOfMemory)
-  ran_out_within b h = RanOut refl (reaches (λ k x. OnReply r.bound (m.answers s) (r.Asks outputs errors k) k x ⊎ (IsBelow r.bound k × m.runs_out (r.outputs outputs) (r.errors k errors) s x)) (inr (b, h)))
+  pub ran_out_within : IsBelow r.bound (length c.trees) → (f.at (length c.trees)).runs_out (r.outputs outputs) (r.errors (length c.trees) errors) s j → Goal (Err OutOfMemory)
+  ran_out_within b h = RanOut refl (reaches (λ k x. OnReply r.bound (λ k. (f.at k).answers s) (r.Asks outputs errors k) k x ⊎ (IsBelow r.bound k × (f.at k).runs_out (r.outputs outputs) (r.errors k errors) s x)) (inr (b, h)))
 
 -- lengths tell whether a part consumed
 module _ {I A : Type 0} (w : Seen I A) where

@@ -1,0 +1,2 @@
+pub mod Repeat
+pub mod RepeatLaws
