@@ -10,7 +10,7 @@ use Rattle.nom_internal.specs.Outcome.ShowsAnswer.{RanOut, Shown}
 use Rattle.nom_internal.specs.Meaning.{Meaning, ShowsMeaning}
 use Rattle.nom_internal.specs.Cases.{OnPart, case_meaning, Passes, plain_case, labelled, labelled_meaning, fixed_meaning}
 use Rattle.nom_internal.specs.Cases.CaseRunsOut.{RunsOutInPart}
-use Rattle.nom_internal.proofs.Shown.{built_error}
+use Rattle.nom_internal.proofs.Shown.{accepts, built_error}
 
 -- a part at the same input
 pub here : {I P : Type 0} {Part : I → Outcome P → Type 0} {Fact : I → Outcome P → Type 0} {i : I} (a : Outcome P) → Part i a → Fact i a → OnPart (λ i j. i ≡ j) Part Fact i
@@ -54,3 +54,24 @@ module _ {I A P O E : Type 0} (w : Seen I A) (IsOutput : P → O → Type 0) (mo
   pub fixed_shown : (r : Result (I × Option O) (Answer.Err E (Option E) Needed)) → ShowsMeaning w IsOutput m outputs errors mode i r → ShowsMeaning w IsOutput (fixed_meaning mode m) outputs errors s i r
   fixed_shown r (RanOut e h) = RanOut e (RunsOutInPart i refl h)
   fixed_shown r (Shown o a h) = Shown o (here o a refl) (fixed_of o r a h)
+
+-- a part with its trees labelled, whose value is told in another form
+module _ {I A P T O X E : Type 0} (w : Seen I A) (label : P → T) (IsOutput : P → O → Type 0) (IsLabelled : T → X → Type 0) (m : Meaning I P E) (outputs built errors s : Bool) (i : I) where
+  abbrev Labels : Result (I × Option X) (Answer.Err E (Option E) Needed) → Type 0
+  Labels = ShowsAnswer w IsLabelled built errors i ((labelled_meaning label m).answers s i) ((labelled_meaning label m).blames s i) ((labelled_meaning label m).runs_out outputs errors s i)
+
+  labels_passed : (f : Answer.Err E (Option E) Needed) (o : Outcome P) → m.answers s i o → Shows w IsOutput outputs errors i (m.blames s i) o (Err f) → Labels (Err f)
+  labels_passed f (Accept n v) a h = absurd (cc (h.4))
+  labels_passed f Refuse a h = Shown Refuse (here Refuse a refl) (h.0, built_error errors _ _ h.0 (λ e b. here Refuse a b) h.1, cc (h.2))
+  labels_passed f Fail a h = Shown Fail (here Fail a refl) (h.0, here Fail a h.1, cc (h.2))
+  labels_passed f TooLarge a h = Shown TooLarge (here TooLarge a refl) (h.0, here TooLarge a h.1, cc (h.2))
+  labels_passed f (Undecided k) a h = Shown (Undecided k) (here (Undecided k) a refl) (h.0, h.1, cc (h.2))
+
+  pub labels_err : (f : Answer.Err E (Option E) Needed) → ShowsMeaning w IsOutput m outputs errors s i (Err f) → Labels (Err f)
+  labels_err f (RanOut e h) = RanOut (cc (e)) (RunsOutInPart i refl h)
+  labels_err f (Shown o a h) = labels_passed f o a h
+
+  pub labels_ok : (j : I) (x : Option O) (y : Option X) → ShowsMeaning w IsOutput m outputs errors s i (Ok (j, x)) → ((u : P) → Built outputs (IsOutput u) x → Built built (IsLabelled (label u)) y) → Labels (Ok (j, y))
+  labels_ok j x y h f =
+      let a = accepts w IsOutput outputs errors i (m.answers s i) (m.blames s i) (m.runs_out outputs errors s i) j x h in
+      Shown (Accept a.length (label a.tree)) (here (Accept a.length a.tree) a.answered refl) (j, y, a.rest_is, f a.tree a.built_is, refl)

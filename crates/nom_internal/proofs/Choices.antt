@@ -7,13 +7,14 @@ use Rattle.nom_error.specs.declared.answer.Err.TheVariants.{Incomplete, Error, F
 use Rattle.nom_error.specs.Answers.{Refuses}
 use Rattle.nom_error.specs.Modes.{Built}
 use Rattle.nom_traits.specs.Input.{Seen}
-use Rattle.nom_internal.specs.Outcome.{Outcome, Shows, ShowsAnswer, IsFailure, OnOutcome}
+use Rattle.nom_internal.specs.Outcome.{Outcome, Shows, ShowsAnswer, IsFailure, IsFault, OnOutcome}
 use Rattle.nom_internal.specs.Outcome.Outcome.{Accept, Refuse, Fail, TooLarge, Undecided}
 use Rattle.nom_internal.specs.Outcome.ShowsAnswer.{RanOut, Shown}
 use Rattle.nom_internal.specs.Meaning.{Meaning, ShowsMeaning}
-use Rattle.nom_internal.specs.Choice.{Joined, NextBlames, NextRunsOut, or_meaning, either_meaning, EitherOutput, OnError, JoinsErrors, ClosesError, JoinsResult, ClosesResult, ShowsNext}
+use Rattle.nom_internal.specs.Choice.{Joined, NextBlames, NextRunsOut, or_meaning, either_meaning, otherwise_meaning, EitherOutput, OnError, JoinsErrors, ClosesError, JoinsResult, ClosesResult, ShowsNext}
 use Rattle.nom_internal.specs.Choice.NextBlames.{NextFails, NextRefuses}
 use Rattle.nom_internal.specs.Choice.OrBlames.{FirstFails, FirstRefuses}
+use Rattle.nom_internal.specs.Choice.OtherwiseBlames.{FirstFaults, NextFaults}
 use Rattle.nom_internal.specs.Cases.{labelled, labelled_meaning, closed_meaning}
 use Rattle.nom_internal.specs.Cases.CaseRunsOut.{RunsOutInPart, RunsOutBeside}
 use Rattle.nom_internal.proofs.Shown.{built_error}
@@ -174,3 +175,36 @@ either_shown w First Second Joins Grows a b outputs errors s i before r h g =
     or_shown w out Joins Grows (labelled_meaning inl a) (labelled_meaning inr b) outputs errors s i before r
     (labelled_shown w inl First out (λ t o k. k) a outputs errors s i before h)
     (on_error_map (ShowsNext w Second Joins Grows b outputs errors s i) (ShowsNext w out Joins Grows (labelled_meaning inr b) outputs errors s i) before r (λ x k. next_labelled w inr Second out (λ t o k. k) Joins Grows b outputs errors s i x r k) g)
+
+-- a parser that stands in where the first refuses, whose error is dropped
+module _ {I A V O E : Type 0} (w : Seen I A) (IsOutput : V → O → Type 0) (a b : Meaning I V E) (built outputs errors s : Bool) (i : I) where
+  abbrev Otherwise : Result (I × Option O) (Answer.Err E (Option E) Needed) → Type 0
+  Otherwise = ShowsAnswer w IsOutput built errors i ((otherwise_meaning a b).answers s i) ((otherwise_meaning a b).blames s i) ((otherwise_meaning a b).runs_out outputs errors s i)
+
+  first_of : (o : Outcome V) (r : Result (I × Option O) (Answer.Err E (Option E) Needed)) → a.answers s i o → ((x : Option E) → r ≡ Err (Error x) → ⊥) → Shows w IsOutput built false i (a.blames s i) o r → Otherwise r
+  first_of (Accept n v) r c f h = Shown (Accept n v) (record { first = Accept n v; answered = c; goes_on = refl }) h
+  first_of Refuse r c f h = absurd (f h.0 h.2)
+  first_of Fail r c f h = Shown Fail (record { first = Fail; answered = c; goes_on = refl }) (h.0, FirstFaults (record { outcome = Fail; answered = c; kind_is = tt; fact = h.1 }), h.2)
+  first_of TooLarge r c f h = Shown TooLarge (record { first = TooLarge; answered = c; goes_on = refl }) (h.0, FirstFaults (record { outcome = TooLarge; answered = c; kind_is = tt; fact = h.1 }), h.2)
+  first_of (Undecided k) r c f h = Shown (Undecided k) (record { first = Undecided k; answered = c; goes_on = refl }) h
+
+  -- whatever the first answers but a refusal
+  pub otherwise_first : (r : Result (I × Option O) (Answer.Err E (Option E) Needed)) → ((x : Option E) → r ≡ Err (Error x) → ⊥) → ShowsAnswer w IsOutput built false i (a.answers s i) (a.blames s i) (a.runs_out outputs false s i) r → Otherwise r
+  otherwise_first r f (RanOut e h) = RanOut e (inl h)
+  otherwise_first r f (Shown o c h) = first_of o r c f h
+
+  module _ (refused : a.answers s i Refuse) where
+    next_fact : (o : Outcome V) → b.answers s i o → IsFault o → (e : E) → b.blames s i e → (otherwise_meaning a b).blames s i e
+    next_fact o c k e h = NextFaults refused (record { outcome = o; answered = c; kind_is = k; fact = h })
+
+    otherwise_of : (o : Outcome V) (r : Result (I × Option O) (Answer.Err E (Option E) Needed)) → b.answers s i o → Shows w IsOutput built errors i (b.blames s i) o r → Shows w IsOutput built errors i ((otherwise_meaning a b).blames s i) o r
+    otherwise_of (Accept n v) r c h = h
+    otherwise_of Refuse r c h = (h.0, built_error errors _ _ h.0 (next_fact Refuse c tt) h.1, h.2)
+    otherwise_of Fail r c h = (h.0, next_fact Fail c tt h.0 h.1, h.2)
+    otherwise_of TooLarge r c h = (h.0, next_fact TooLarge c tt h.0 h.1, h.2)
+    otherwise_of (Undecided k) r c h = h
+
+    -- where the first refuses, what the second answers
+    pub otherwise_next : (r : Result (I × Option O) (Answer.Err E (Option E) Needed)) → ShowsAnswer w IsOutput built errors i (b.answers s i) (b.blames s i) (b.runs_out outputs errors s i) r → Otherwise r
+    otherwise_next r (RanOut e h) = RanOut e (inr (refused, h))
+    otherwise_next r (Shown o c h) = Shown o (record { first = Refuse; answered = refused; goes_on = c }) (otherwise_of o r c h)

@@ -76,25 +76,11 @@ module _ {I A V O P E : Type 0} (w : Seen I A) (IsOutput : V → O → Type 0) (
       let a = accepts w IsOutput built errors i Answers IsError RunsOut j x h in
       Shown (Accept a.length a.tree) a.answered (j, y, a.rest_is, k a.tree a.built_is, refl)
 
-module _ {I A P Q T X Y E : Type 0} (w : Seen I A) (l : InputLaws w) (tree : P → Q → T) (First : I → Outcome P → Type 0) (FirstBlames : I → E → Type 0) (FirstRunsOut : I → Type 0) (Next : P → I → Outcome Q → Type 0) (NextBlames : P → I → E → Type 0) (NextRunsOut : P → I → Type 0) (IsFirst : P → X → Type 0) (IsResult : T → Y → Type 0) (built outputs errors : Bool) (i : I) where
-  abbrev pub ShowsThen : Result (I × Option Y) (Answer.Err E (Option E) Needed) → Type 0
-  ShowsThen r = ShowsAnswer w IsResult outputs errors i (Then w tree First Next i) (ThenBlames w First FirstBlames Next NextBlames i) (ThenRunsOut w First FirstRunsOut NextRunsOut i) r
+-- what two parts in sequence show
+abbrev pub ShowsThen : {I A P Q T Y E : Type 0} (w : Seen I A) (tree : P → Q → T) (First : I → Outcome P → Type 0) (FirstBlames : I → E → Type 0) (FirstRunsOut : I → Type 0) (Next : P → I → Outcome Q → Type 0) (NextBlames : P → I → E → Type 0) (NextRunsOut : P → I → Type 0) (IsResult : T → Y → Type 0) (outputs errors : Bool) (i : I) → Result (I × Option Y) (Answer.Err E (Option E) Needed) → Type 0
+ShowsThen w tree First FirstBlames FirstRunsOut Next NextBlames NextRunsOut IsResult outputs errors i r = ShowsAnswer w IsResult outputs errors i (Then w tree First Next i) (ThenBlames w First FirstBlames Next NextBlames i) (ThenRunsOut w First FirstRunsOut NextRunsOut i) r
 
-  first_fact : (o : Outcome P) → First i o → IsFault o → (e : E) → FirstBlames i e → ThenBlames w First FirstBlames Next NextBlames i e
-  first_fact o a f e h = BlamesFirst (record { outcome = o; answered = a; kind_is = f; fact = h })
-
-  first_err : (e : Answer.Err E (Option E) Needed) (o : Outcome P) → First i o → Shows w IsFirst built errors i (FirstBlames i) o (Err e) → ShowsThen (Err e)
-  first_err e (Accept n v) a s = cc (s.4)
-  first_err e Refuse a s = Shown Refuse (record { first = Refuse; answered = a; goes_on = refl }) (s.0, built_error errors _ _ s.0 (first_fact Refuse a tt) s.1, cc (s.2))
-  first_err e Fail a s = Shown Fail (record { first = Fail; answered = a; goes_on = refl }) (s.0, first_fact Fail a tt s.0 s.1, cc (s.2))
-  first_err e TooLarge a s = Shown TooLarge (record { first = TooLarge; answered = a; goes_on = refl }) (s.0, first_fact TooLarge a tt s.0 s.1, cc (s.2))
-  first_err e (Undecided k) a s = Shown (Undecided k) (record { first = Undecided k; answered = a; goes_on = refl }) (s.0, s.1, cc (s.2))
-
-  -- a first part that does not accept
-  pub then_err : (e : Answer.Err E (Option E) Needed) (r : Result (I × Option Y) (Answer.Err E (Option E) Needed)) → ShowsAnswer w IsFirst built errors i (First i) (FirstBlames i) (FirstRunsOut i) (Err e) → r ≡ Err e → ShowsThen r
-  then_err e r (RanOut f h) q = RanOut (cc) (RunsOutFirst h)
-  then_err e r (Shown o a s) q = subst (λ x. ShowsThen x) (sym q) (first_err e o a s)
-
+module _ {I A P Q T Y E : Type 0} (w : Seen I A) (l : InputLaws w) (tree : P → Q → T) (First : I → Outcome P → Type 0) (FirstBlames : I → E → Type 0) (FirstRunsOut : I → Type 0) (Next : P → I → Outcome Q → Type 0) (NextBlames : P → I → E → Type 0) (NextRunsOut : P → I → Type 0) (IsResult : T → Y → Type 0) (outputs errors : Bool) (i : I) where
   module _ (j : I) (n : ℕ) (u : P) (a : First i (Accept n u)) (p : IsRest w i n j) where
     next_fact : (o : Outcome Q) → Next u j o → IsFault o → (e : E) → NextBlames u j e → ThenBlames w First FirstBlames Next NextBlames i e
     next_fact o b f e h = BlamesNext (record { length = n; tree = u; rest = j; accepted = a; rest_is = p; fact = record { outcome = o; answered = b; kind_is = f; fact = h } })
@@ -106,15 +92,35 @@ module _ {I A P Q T X Y E : Type 0} (w : Seen I A) (l : InputLaws w) (tree : P �
     shows_after TooLarge r b s = (s.0, next_fact TooLarge b tt s.0 s.1, s.2)
     shows_after (Undecided k) r b s = s
 
-    next_shown : (r : Result (I × Option Y) (Answer.Err E (Option E) Needed)) → ShowsAnswer w (λ v. IsResult (tree u v)) outputs errors j (Next u j) (NextBlames u j) (NextRunsOut u j) r → ShowsThen r
+    -- where a first part accepts, what follows answers for both
+    pub next_shown : (r : Result (I × Option Y) (Answer.Err E (Option E) Needed)) → ShowsAnswer w (λ v. IsResult (tree u v)) outputs errors j (Next u j) (NextBlames u j) (NextRunsOut u j) r → ShowsThen w tree First FirstBlames FirstRunsOut Next NextBlames NextRunsOut IsResult outputs errors i r
     next_shown r (RanOut f h) = RanOut f (RunsOutNext (record { length = n; tree = u; rest = j; accepted = a; rest_is = p; fact = h }))
     next_shown r (Shown o b s) = Shown (after n (tree u) o) (record { first = Accept n u; answered = a; goes_on = (j, o, p, b, refl) }) (shows_after o r b s)
 
+module _ {I A P Q T X Y E : Type 0} (w : Seen I A) (l : InputLaws w) (tree : P → Q → T) (First : I → Outcome P → Type 0) (FirstBlames : I → E → Type 0) (FirstRunsOut : I → Type 0) (Next : P → I → Outcome Q → Type 0) (NextBlames : P → I → E → Type 0) (NextRunsOut : P → I → Type 0) (IsFirst : P → X → Type 0) (IsResult : T → Y → Type 0) (built outputs errors : Bool) (i : I) where
+  abbrev Goal : Result (I × Option Y) (Answer.Err E (Option E) Needed) → Type 0
+  Goal = ShowsThen w tree First FirstBlames FirstRunsOut Next NextBlames NextRunsOut IsResult outputs errors i
+
+  first_fact : (o : Outcome P) → First i o → IsFault o → (e : E) → FirstBlames i e → ThenBlames w First FirstBlames Next NextBlames i e
+  first_fact o a f e h = BlamesFirst (record { outcome = o; answered = a; kind_is = f; fact = h })
+
+  first_err : (e : Answer.Err E (Option E) Needed) (o : Outcome P) → First i o → Shows w IsFirst built errors i (FirstBlames i) o (Err e) → Goal (Err e)
+  first_err e (Accept n v) a s = cc (s.4)
+  first_err e Refuse a s = Shown Refuse (record { first = Refuse; answered = a; goes_on = refl }) (s.0, built_error errors _ _ s.0 (first_fact Refuse a tt) s.1, cc (s.2))
+  first_err e Fail a s = Shown Fail (record { first = Fail; answered = a; goes_on = refl }) (s.0, first_fact Fail a tt s.0 s.1, cc (s.2))
+  first_err e TooLarge a s = Shown TooLarge (record { first = TooLarge; answered = a; goes_on = refl }) (s.0, first_fact TooLarge a tt s.0 s.1, cc (s.2))
+  first_err e (Undecided k) a s = Shown (Undecided k) (record { first = Undecided k; answered = a; goes_on = refl }) (s.0, s.1, cc (s.2))
+
+  -- a first part that does not accept
+  pub then_err : (e : Answer.Err E (Option E) Needed) (r : Result (I × Option Y) (Answer.Err E (Option E) Needed)) → ShowsAnswer w IsFirst built errors i (First i) (FirstBlames i) (FirstRunsOut i) (Err e) → r ≡ Err e → Goal r
+  then_err e r (RanOut f h) q = RanOut (cc) (RunsOutFirst h)
+  then_err e r (Shown o a s) q = subst (λ x. Goal x) (sym q) (first_err e o a s)
+
   -- a first part accepts, and what follows answers for both
-  pub then_ok : (j : I) (x : Option X) (r : Result (I × Option Y) (Answer.Err E (Option E) Needed)) → ShowsAnswer w IsFirst built errors i (First i) (FirstBlames i) (FirstRunsOut i) (Ok (j, x)) → ((u : P) → Built built (IsFirst u) x → ShowsAnswer w (λ v. IsResult (tree u v)) outputs errors j (Next u j) (NextBlames u j) (NextRunsOut u j) r) → ShowsThen r
+  pub then_ok : (j : I) (x : Option X) (r : Result (I × Option Y) (Answer.Err E (Option E) Needed)) → ShowsAnswer w IsFirst built errors i (First i) (FirstBlames i) (FirstRunsOut i) (Ok (j, x)) → ((u : P) → Built built (IsFirst u) x → ShowsAnswer w (λ v. IsResult (tree u v)) outputs errors j (Next u j) (NextBlames u j) (NextRunsOut u j) r) → Goal r
   then_ok j x r h k =
       let a = accepts w IsFirst built errors i (First i) (FirstBlames i) (FirstRunsOut i) j x h in
-      next_shown j a.length a.tree a.answered a.rest_is r (k a.tree a.built_is)
+      next_shown w l tree First FirstBlames FirstRunsOut Next NextBlames NextRunsOut IsResult outputs errors i j a.length a.tree a.answered a.rest_is r (k a.tree a.built_is)
 
 -- two outputs that are built alike
 pub both_built : {X Y : Type 0} (IsFirst : X → Type 0) (IsSecond : Y → Type 0) (built : Bool) (x : Option X) (y : Option Y) (z : Option (X × Y)) → Built built IsFirst x → Built built IsSecond y → ((a : X) (b : Y) → x ≡ Some a → y ≡ Some b → z ≡ Some (a, b)) → (x ≡ None → z ≡ None) → Built built (λ o. IsFirst o.0 × IsSecond o.1) z

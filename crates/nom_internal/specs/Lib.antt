@@ -16,3 +16,4 @@ pub mod RecognizedLaws
 pub mod Results
 pub mod Sequence
 pub mod SequenceLaws
+pub mod Success
