@@ -11,11 +11,11 @@ use Rattle.nom_internal.specs.Outcome.{Outcome, Shows, ShowsAnswer}
 use Rattle.nom_internal.specs.Outcome.Outcome.{Accept, Refuse, Fail, TooLarge, Undecided}
 use Rattle.nom_internal.specs.Outcome.ShowsAnswer.{RanOut, Shown}
 use Rattle.nom_internal.specs.Meaning.{Meaning, ShowsMeaning}
+use Rattle.nom_internal.specs.Families.{always}
 use Rattle.nom_internal.proofs.Consumed.{rest_length}
-use Rattle.nom_internal.proofs.Shown.{Accepts}
+use Rattle.nom_internal.proofs.Shown.{Accepts, built_error}
 use Rattle.nom_repeat.specs.Repeat.{Pieces, TurnsBy, repeat_meaning}
 use Rattle.nom_repeat.specs.Repeat.Turn.{Takes, Ends}
-use Rattle.nom_multi.proofs.Longer.{built_map}
 use Rattle.nom_repeat.proofs.Repeated.{Collected, collected_more, ended, refused, failed, too_large, lacking, ran_out, ran_out_within}
 use Rattle.nom_escaped.specs.declared.spot.Piece.{Piece}
 use Rattle.nom_escaped.specs.declared.spot.Spot.{Spot}
@@ -59,61 +59,61 @@ turn_some k a v (Some (Undecided d)) e = absurd (cc (e))
 turn_some k a v None e = absurd (cc (e))
 
 module _ {I A V : Type 0} (w : Seen I A) (Part : I → Outcome (Spot V) → Type 0) where
-  none_taken : (j : I) (k : ℕ) (i : I) (vs : List V) (n : ℕ) → Pieces w (TurnsBy None escape_turn Part) (λ _ x. x ≡ j) k i vs n → n ≡ 0 → length vs ≡ 0
+  none_taken : (j : I) (k : ℕ) (i : I) (vs : List V) (n : ℕ) → Pieces w (TurnsBy None escape_turn (λ _. Part)) (λ _ x. x ≡ j) k i vs n → n ≡ 0 → length vs ≡ 0
   none_taken j k i [] n p e = refl
   none_taken j k i (v ∷ vs) n p e = absurd (omega (arith, turn_some k p.0 v (p.3).reply (p.3).fact, p.6, e))
 
-  some_taken : (j : I) (k : ℕ) (i : I) (vs : List V) (n : ℕ) → Pieces w (TurnsBy None escape_turn Part) (λ _ x. x ≡ j) k i vs n → (n ≡ 0 → ⊥) → length vs ≡ 0 → ⊥
+  some_taken : (j : I) (k : ℕ) (i : I) (vs : List V) (n : ℕ) → Pieces w (TurnsBy None escape_turn (λ _. Part)) (λ _ x. x ≡ j) k i vs n → (n ≡ 0 → ⊥) → length vs ≡ 0 → ⊥
   some_taken j k i [] n p h e = h p.0
   some_taken j k i (v ∷ vs) n p h e = omega (arith, e)
 
-module _ {I A V O E : Type 0} (w : Seen I A) (l : InputLaws w) (Gives : I → E → Type 0) (Grows : Type 0) (at : I → I → I) (m : Meaning I (Spot V) E) (s : Bool) (IsOutput : List V → O → Type 0) (outputs errors : Bool) {Held : List V → Type 0} (i j : I) (c : Collected w (TurnsBy None escape_turn (m.answers s)) Held i j) where
+module _ {I A V O E : Type 0} (w : Seen I A) (l : InputLaws w) (Gives : I → E → Type 0) (Grows : Type 0) (at : I → I → I) (m : Meaning I (Spot V) E) (s : Bool) (IsOutput : List V → O → Type 0) (outputs errors : Bool) {Held : List V → Type 0} (i j : I) (c : Collected w (TurnsBy None escape_turn (λ _. m.answers s)) Held i j) where
   abbrev Goal : Result (I × Option O) (Answer.Err E (Option E) Needed) → Type 0
-  Goal = ShowsMeaning w IsOutput (repeat_meaning w (escape_rule Gives Grows at) all_pieces m) outputs errors s i
+  Goal = ShowsMeaning w IsOutput (repeat_meaning w (escape_rule Gives Grows at) all_pieces (always m)) outputs errors s i
 
   -- no item is left
   pub done_shown : (n : ℕ) → m.answers s j (Accept n Done) → (b : Option O) → Built outputs (IsOutput c.trees) b → Goal (Ok (j, b))
-  done_shown n a b h = ended w (escape_rule Gives Grows at) all_pieces m s IsOutput outputs errors i j c (Some (Accept n Done)) (tt, a) None refl b h
+  done_shown n a b h = ended w (escape_rule Gives Grows at) all_pieces (always m) s IsOutput outputs errors i j c (Some (Accept n Done)) (tt, a) None refl b h
 
   -- an item that begins no piece ends the list
   pub other_shown : (n : ℕ) → m.answers s j (Accept n Other) → (c.taken ≡ 0 → ⊥) → (b : Option O) → Built outputs (IsOutput c.trees) b → Goal (Ok (j, b))
-  other_shown n a h b g = ended w (escape_rule Gives Grows at) all_pieces m s IsOutput outputs errors i j c (Some (Accept n Other)) (tt, a) None (other_turn (length c.trees) n (some_taken w (m.answers s) j 0 i c.trees c.taken c.pieces h)) b g
+  other_shown n a h b g = ended w (escape_rule Gives Grows at) all_pieces (always m) s IsOutput outputs errors i j c (Some (Accept n Other)) (tt, a) None (other_turn (length c.trees) n (some_taken w (m.answers s) j 0 i c.trees c.taken c.pieces h)) b g
 
   -- a refusal with an error of its own
   module _ (n : ℕ) (x : Spot V) (a : m.answers s j (Accept n x)) (place : I) (e : Ends Refuse ≡ by_spot x (length c.trees) n) where
     own_refused : ((y : E) → Gives place y → (escape_rule Gives Grows at).Blames i (length c.trees) j (Some (Accept n x)) (m.blames s j) y) → ((errors ≡ true) × Grows → (escape_rule Gives Grows at).Asks outputs errors (length c.trees) (Some (Accept n x))) → (f : Answer.Err E (Option E) Needed) → Refuses (Gives place) Grows errors f → Goal (Err f)
-    own_refused blames asks f (inl h) = subst (λ y. Goal (Err y)) (sym h.0) (ran_out w (escape_rule Gives Grows at) all_pieces m s IsOutput outputs errors i j c (Some (Accept n x)) (tt, a) (asks (h.1, h.2)))
-    own_refused blames asks f (inr h) = subst (λ y. Goal (Err y)) (sym h.2) (refused w (escape_rule Gives Grows at) all_pieces m s IsOutput outputs errors i j c (Some (Accept n x)) (tt, a) e h.0 (built_map (Gives place) _ errors h.0 blames h.1))
+    own_refused blames asks f (inl h) = subst (λ y. Goal (Err y)) (sym h.0) (ran_out w (escape_rule Gives Grows at) all_pieces (always m) s IsOutput outputs errors i j c (Some (Accept n x)) (tt, a) (asks (h.1, h.2)))
+    own_refused blames asks f (inr h) = subst (λ y. Goal (Err y)) (sym h.2) (refused w (escape_rule Gives Grows at) all_pieces (always m) s IsOutput outputs errors i j c (Some (Accept n x)) (tt, a) e h.0 (built_error errors (Gives place) _ h.0 blames h.1))
 
   pub start_refused : (n : ℕ) → m.answers s j (Accept n Other) → c.taken ≡ 0 → (f : Answer.Err E (Option E) Needed) → Refuses (Gives i) Grows errors f → Goal (Err f)
-  start_refused n a h f r = own_refused n Other a i (refused_turn (length c.trees) n (none_taken w (m.answers s) j 0 i c.trees c.taken c.pieces h)) (λ y g. g) (λ g. g) f r
+  start_refused n a h f r = own_refused n Other a i (refused_turn (length c.trees) n (none_taken w (m.answers s) j 0 i c.trees c.taken c.pieces h)) (λ y g. g) (λ g. (none_taken w (m.answers s) j 0 i c.trees c.taken c.pieces h, g.0, g.1)) f r
 
   pub dangling_refused : (n : ℕ) → m.answers s j (Accept n Dangling) → (f : Answer.Err E (Option E) Needed) → Refuses (Gives (at i j)) Grows errors f → Goal (Err f)
   dangling_refused n a f r = own_refused n Dangling a (at i j) refl (λ y g. g) (λ g. g) f r
 
   -- a piece that consumes nothing is the last one
   pub empty_shown : (n : ℕ) (v : V) → m.answers s j (Accept n (Found v)) → n ≡ 0 → (b : Option O) → Built outputs (IsOutput (c.trees ++ v ∷ [])) b → Goal (Ok (j, b))
-  empty_shown n v a e b h = ended w (escape_rule Gives Grows at) all_pieces m s IsOutput outputs errors i j c (Some (Accept n (Found v))) (tt, a) (Some v) (empty_turn (length c.trees) n v e) b h
+  empty_shown n v a e b h = ended w (escape_rule Gives Grows at) all_pieces (always m) s IsOutput outputs errors i j c (Some (Accept n (Found v))) (tt, a) (Some v) (empty_turn (length c.trees) n v e) b h
 
   -- there is no memory for a piece
   pub full_shown : (n : ℕ) (v : V) → m.answers s j (Accept n (Found v)) → outputs ≡ true → Goal (Err OutOfMemory)
-  full_shown n v a h = ran_out w (escape_rule Gives Grows at) all_pieces m s IsOutput outputs errors i j c (Some (Accept n (Found v))) (tt, a) h
+  full_shown n v a h = ran_out w (escape_rule Gives Grows at) all_pieces (always m) s IsOutput outputs errors i j c (Some (Accept n (Found v))) (tt, a) h
 
   -- a piece that consumes is taken
-  pub piece_taken : {More : List V → Type 0} (n : ℕ) (v : V) (h : I) → m.answers s j (Accept n (Found v)) → 0 < n → IsRest w j n h → More (c.trees ++ v ∷ []) → Collected w (TurnsBy None escape_turn (m.answers s)) More i h
-  piece_taken n v h a p r g = collected_more w l (TurnsBy None escape_turn (m.answers s)) i j h n v c (record { reply = Some (Accept n (Found v)); replied = (tt, a); fact = taken_turn (length c.trees) n v p }) r g
+  pub piece_taken : {More : List V → Type 0} (n : ℕ) (v : V) (h : I) → m.answers s j (Accept n (Found v)) → 0 < n → IsRest w j n h → More (c.trees ++ v ∷ []) → Collected w (TurnsBy None escape_turn (λ _. m.answers s)) More i h
+  piece_taken n v h a p r g = collected_more w l (TurnsBy None escape_turn (λ _. m.answers s)) i j h n v c (record { reply = Some (Accept n (Found v)); replied = (tt, a); fact = taken_turn (length c.trees) n v p }) r g
 
   -- all else is passed on
   module _ {X : Type 0} (IsX : Spot V → X → Type 0) where
     passed : (f : Answer.Err E (Option E) Needed) (o : Outcome (Spot V)) → m.answers s j o → Shows w IsX true errors j (m.blames s j) o (Err f) → Goal (Err f)
     passed f (Accept n v) a h = absurd (cc (h.4))
-    passed f Refuse a h = subst (λ y. Goal (Err y)) (cc (h.2)) (refused w (escape_rule Gives Grows at) all_pieces m s IsOutput outputs errors i j c (Some Refuse) (tt, a) refl h.0 h.1)
-    passed f Fail a h = subst (λ y. Goal (Err y)) (cc (h.2)) (failed w (escape_rule Gives Grows at) all_pieces m s IsOutput outputs errors i j c (Some Fail) (tt, a) refl h.0 h.1)
-    passed f TooLarge a h = subst (λ y. Goal (Err y)) (cc (h.2)) (too_large w (escape_rule Gives Grows at) all_pieces m s IsOutput outputs errors i j c (Some TooLarge) (tt, a) refl h.0 h.1)
-    passed f (Undecided k) a h = subst (λ y. Goal (Err y)) (cc (h.2)) (lacking w (escape_rule Gives Grows at) all_pieces m s IsOutput outputs errors i j c (Some (Undecided k)) (tt, a) h.0 (ap (λ z. Ends (Undecided z)) h.1))
+    passed f Refuse a h = subst (λ y. Goal (Err y)) (cc (h.2)) (refused w (escape_rule Gives Grows at) all_pieces (always m) s IsOutput outputs errors i j c (Some Refuse) (tt, a) refl h.0 h.1)
+    passed f Fail a h = subst (λ y. Goal (Err y)) (cc (h.2)) (failed w (escape_rule Gives Grows at) all_pieces (always m) s IsOutput outputs errors i j c (Some Fail) (tt, a) refl h.0 h.1)
+    passed f TooLarge a h = subst (λ y. Goal (Err y)) (cc (h.2)) (too_large w (escape_rule Gives Grows at) all_pieces (always m) s IsOutput outputs errors i j c (Some TooLarge) (tt, a) refl h.0 h.1)
+    passed f (Undecided k) a h = subst (λ y. Goal (Err y)) (cc (h.2)) (lacking w (escape_rule Gives Grows at) all_pieces (always m) s IsOutput outputs errors i j c (Some (Undecided k)) (tt, a) h.0 (ap (λ z. Ends (Undecided z)) h.1))
 
     pub passed_on : (f : Answer.Err E (Option E) Needed) → ShowsAnswer w IsX true errors j (m.answers s j) (m.blames s j) (m.runs_out outputs errors s j) (Err f) → Goal (Err f)
-    passed_on f (RanOut e h) = subst (λ y. Goal (Err y)) (cc (e)) (ran_out_within w (escape_rule Gives Grows at) all_pieces m s IsOutput outputs errors i j c tt h)
+    passed_on f (RanOut e h) = subst (λ y. Goal (Err y)) (cc (e)) (ran_out_within w (escape_rule Gives Grows at) all_pieces (always m) s IsOutput outputs errors i j c tt h)
     passed_on f (Shown o a h) = passed f o a h
 
 -- what stands at a place, by the value that is told

@@ -1,132 +1,102 @@
 -- What is shown of what stands at a place.
-use Rattle.std.proofs.Common.{◌≡◌, ℕ, ◌+◌, ◌<◌, Bool, true, false, List, [], ◌∷◌, length, Result, Ok, Err, Option, Some, ◌⊎◌, refl, sym, ◌∙◌, subst, inl, inr, arith}
+use Rattle.std.proofs.Common.{◌≡◌, ℕ, ◌<◌, Bool, true, false, List, [], length, Result, Ok, Err, Option, Some, None, refl, sym, ◌∙◌, subst}
 use Rattle.nom_error.specs.declared.answer.Needed.{Needed}
 use Rattle.nom_error.specs.declared.answer.Needed.TheVariants.{Unknown}
 use Rattle.nom_error.specs.declared.answer.Err as Answer
-use Rattle.nom_error.specs.declared.answer.Err.TheVariants.{Incomplete, Error, Failure, OutOfMemory}
+use Rattle.nom_error.specs.declared.answer.Err.TheVariants.{Error}
 use Rattle.nom_error.specs.Answers.{size_of}
 use Rattle.nom_traits.specs.Input.{Seen, InputLaws, IsRest, input_len}
-use Rattle.nom_traits.specs.Rests.{rest_rest}
-use Rattle.nom_internal.specs.Outcome.{Outcome, IsFault, Shows}
-use Rattle.nom_internal.specs.Outcome.Outcome.{Accept, Refuse, Fail, TooLarge, Undecided}
+use Rattle.nom_internal.specs.Outcome.{ShowsAnswer}
+use Rattle.nom_internal.specs.Outcome.Outcome.{Accept, Refuse, Undecided}
 use Rattle.nom_internal.specs.Outcome.ShowsAnswer.{RanOut, Shown}
 use Rattle.nom_internal.specs.Meaning.{Meaning, ShowsMeaning}
-use Rattle.nom_internal.specs.Choice.{Labelled, OnRefusal}
-use Rattle.nom_internal.specs.Sequence.{after}
-use Rattle.nom_internal.proofs.Shown.{accepts, built_error}
-use Rattle.nom_multi.proofs.Parts.{part_refused, part_failed, part_lacks, part_ran_out}
+use Rattle.nom_internal.specs.Leaf.{LeafAnswers}
+use Rattle.nom_internal.specs.Cases.{labelled_meaning}
+use Rattle.nom_internal.proofs.Shown.{next_shown}
+use Rattle.nom_internal.proofs.Cased.{here, labels_err, labels_ok}
+use Rattle.nom_internal.proofs.Choices.{otherwise_first, otherwise_next}
+use Rattle.nom_repeat.proofs.Parts.{part_refused}
+use Rattle.nom_escaped.specs.declared.spot.Control.{Control}
 use Rattle.nom_escaped.specs.declared.spot.Piece.{Piece}
 use Rattle.nom_escaped.specs.declared.spot.Piece.TheVariants.{Normal, Escapable}
 use Rattle.nom_escaped.specs.declared.spot.Spot.{Spot}
 use Rattle.nom_escaped.specs.declared.spot.Spot.TheVariants.{Found, Other, Dangling, Done}
-use Rattle.nom_escaped.specs.Spots.{lacks, Lacks, BehindControl, StandsOther, StandsLast, Behind, Escaped, Stands, SpotBlames, IsSpot, ShowsSpot}
-use Rattle.nom_escaped.specs.Spots.NotNormal.{AtControl, AtOther}
-use Rattle.nom_escaped.specs.Spots.SpotBlames.{NormalFails, EscapableFaults}
+use Rattle.nom_escaped.specs.Spots.{Lacks, look, left_leaf, IsLeft, BehindControl, StandsOther, StandsLast, TellsControl, control_leaf, by_control, escape_meaning, piece_meaning, by_left, IsSpot, ShowsSpot}
 use Rattle.nom_escaped.proofs.Controls.{no_items, some_items}
 
 module _ {I A : Type 0} (w : Seen I A) (l : InputLaws w) where
   pub rest_self : (i : I) → w.IsKnown i → IsRest w i 0 i
   rest_self i h = record { known = h; front = []; whole = refl; length_is = refl; mark_is = sym (l.mark_none (w.mark i)) }
 
-module _ {I A U W O X E : Type 0} (w : Seen I A) (l : InputLaws w) (IsNormal : U → O → Type 0) (IsEscapable : W → X → Type 0) (outputs errors s : Bool) (IsControl : A → Type 0) (lack : Option ℕ) (m : Meaning I U E) (g : Meaning I W E) (i : I) where
-  abbrev Goal : Result (I × Option (Spot (Piece (Option O) (Option X)))) (Answer.Err E (Option E) Needed) → Type 0
-  Goal = ShowsSpot w IsNormal IsEscapable outputs errors s IsControl lack m g i
+module _ {I A U W O X E : Type 0} (w : Seen I A) (l : InputLaws w) (IsNormal : U → O → Type 0) (IsEscapable : W → X → Type 0) (outputs errors : Bool) (IsControl : A → Type 0) (lack : Option ℕ) (m : Meaning I U E) (g : Meaning I W E) (i : I) (known : w.IsKnown i) where
+  abbrev Told : Type 0
+  Told = Result (I × Option (Spot (Piece (Option O) (Option X)))) (Answer.Err E (Option E) Needed)
 
-  -- an acceptance of nothing
-  here : (v : Spot (Piece U W)) (b : Spot (Piece (Option O) (Option X))) → w.IsKnown i → Stands w IsControl lack m g s i (w.elements i) (Accept 0 v) → IsSpot outputs IsNormal IsEscapable v b → Goal (Ok (i, Some b))
-  here v b k a h = Shown (Accept 0 v) a (i, Some b, rest_self w l i k, (b, refl, h), refl)
+  -- what a part that tells a spot shows at a place
+  abbrev Tells : Meaning I (Spot (Piece U W)) E → Bool → I → Told → Type 0
+  Tells part s j = ShowsAnswer w (IsSpot outputs IsNormal IsEscapable) true errors j (part.answers s j) (part.blames s j) (part.runs_out outputs errors s j)
 
-  -- where the input ends, more is needed, or what stands there is told
-  lacks_shown : w.IsKnown i → (b : Bool) (size : Needed) (v : Spot (Piece U W)) (x : Spot (Piece (Option O) (Option X))) (r : Result (I × Option (Spot (Piece (Option O) (Option X)))) (Answer.Err E (Option E) Needed)) → IsSpot outputs IsNormal IsEscapable v x → Lacks b size i x r → ((o : Outcome (Spot (Piece U W))) → o ≡ lacks b (size_of size) v → Stands w IsControl lack m g s i (w.elements i) o) → Goal r
-  lacks_shown k true size v x r t h f = subst Goal (sym h) (Shown (Undecided (size_of size)) (f (Undecided (size_of size)) refl) (size, refl, refl))
-  lacks_shown k false size v x r t h f = subst Goal (sym h) (here v x k (f (Accept 0 v) refl) t)
+  abbrev NormalPart : Meaning I (Spot (Piece U W)) E
+  NormalPart = labelled_meaning (λ u. Found (Normal u)) m
 
-  module _ (n : ℕ) (e : n ≡ input_len w i) (z : n ≡ 0) where
-    -- no item is left
-    pub end_shown : w.IsKnown i → (r : Result (I × Option (Spot (Piece (Option O) (Option X)))) (Answer.Err E (Option E) Needed)) → Lacks s Unknown i Done r → Goal r
-    end_shown k r h = lacks_shown k s Unknown Done Done r refl h (λ o q. subst (λ xs. Stands w IsControl lack m g s i xs o) (sym (no_items w.weight l.positive (w.elements i) (sym e ∙ z))) q)
+  abbrev Goal : Bool → Told → Type 0
+  Goal s = ShowsSpot w IsNormal IsEscapable outputs errors s IsControl lack m g i
 
-  module _ (n : ℕ) (e : n ≡ input_len w i) (z : n ≡ 0 → ⊥) where
+  -- what is told by whether an item is left
+  goes : (s b : Bool) → IsLeft s (w.elements i) b → (r : Told) → Tells (by_left Done (piece_meaning w IsControl lack m g) b) s i r → Goal s r
+  goes s b a r h = next_shown w l (λ _ t. t) (LeafAnswers (left_leaf w) s) (λ _ _. ⊥) (λ j. ⊥ × (errors ≡ true) × ⊥) (λ u. (by_left Done (piece_meaning w IsControl lack m g) u).answers s) (λ u. (by_left Done (piece_meaning w IsControl lack m g) u).blames s) (λ u. (by_left Done (piece_meaning w IsControl lack m g) u).runs_out outputs errors s) (IsSpot outputs IsNormal IsEscapable) true errors i i 0 b (refl, a) (rest_self w l i known) r h
+
+  -- no item is left
+  end_by : (s : Bool) → length (w.elements i) ≡ 0 → (r : Told) → Lacks s Unknown i Done r → Goal s r
+  end_by true e r h = Shown (Undecided None) (record { first = Undecided None; answered = (refl, (e, refl)); goes_on = refl }) (Unknown, refl, h)
+  end_by false e r h = goes false false (refl, e) r (Shown (Accept 0 Done) (refl, refl) (i, Some Done, rest_self w l i known, (Done, refl, refl), h))
+
+  pub end_shown : (s : Bool) (n : ℕ) → n ≡ input_len w i → n ≡ 0 → (r : Told) → Lacks s Unknown i Done r → Goal s r
+  end_shown s n e z r h = end_by s (length_zero (no_items w.weight l.positive (w.elements i) (sym e ∙ z))) r h
+    where
+      length_zero : {B : Type 0} {xs : List B} → xs ≡ [] → length xs ≡ 0
+      length_zero q = subst (λ ys. length ys ≡ 0) (sym q) refl
+
+  module _ (s : Bool) (n : ℕ) (e : n ≡ input_len w i) (z : n ≡ 0 → ⊥) where
     left : 0 < length (w.elements i)
     left = some_items w.weight l.positive (w.elements i) (λ h. z (e ∙ h))
 
-    stands_left : (xs : List A) (o : Outcome (Spot (Piece U W))) → 0 < length xs → OnRefusal (Labelled (λ u. Found (Normal u)) (m.answers s)) (λ j. Escaped w IsControl lack (g.answers s) s j (w.elements j)) i o → Stands w IsControl lack m g s i xs o
-    stands_left [] o h a = absurd (omega (arith, h))
-    stands_left (x ∷ xs) o h a = a
+    -- whatever `normal` answers but a refusal
+    first : (r : Told) → ((x : Option E) → r ≡ Err (Error x) → ⊥) → ShowsAnswer w (IsSpot outputs IsNormal IsEscapable) true false i (NormalPart.answers s i) (NormalPart.blames s i) (NormalPart.runs_out outputs false s i) r → Goal s r
+    first r f h = goes s true left r (otherwise_first w (IsSpot outputs IsNormal IsEscapable) NormalPart (escape_meaning w IsControl lack g) true outputs errors s i r f h)
 
-    -- what `normal` answers, but for a refusal
-    pub normal_found : (j : I) (x : Option O) → ShowsMeaning w IsNormal m outputs false s i (Ok (j, x)) → Goal (Ok (j, Some (Found (Normal x))))
-    normal_found j x h =
-        let a = accepts w IsNormal outputs false i (m.answers s i) (m.blames s i) (m.runs_out outputs false s i) j x h in
-        let stands = stands_left (w.elements i) (Accept a.length (Found (Normal a.tree))) left (record { first = Accept a.length (Found (Normal a.tree)); answered = record { outcome = Accept a.length a.tree; answered = a.answered; is = refl }; goes_on = refl }) in
-        Shown (Accept a.length (Found (Normal a.tree))) stands (j, Some (Found (Normal x)), a.rest_is, (Found (Normal x), refl, a.built_is), refl)
+    pub normal_found : (j : I) (x : Option O) → ShowsMeaning w IsNormal m outputs false s i (Ok (j, x)) → Goal s (Ok (j, Some (Found (Normal x))))
+    normal_found j x h = first (Ok (j, Some (Found (Normal x)))) (λ y q. cc (q)) (labels_ok w (λ u. Found (Normal u)) IsNormal (IsSpot outputs IsNormal IsEscapable) m outputs true false s i j x (Some (Found (Normal x))) h (λ u b. (Found (Normal x), refl, b)))
 
-    normal_stops : (x : E) → m.answers s i Fail ⊎ m.answers s i TooLarge → m.blames s i x → Goal (Err (Failure x))
-    normal_stops x (inl a) b =
-        let stands = stands_left (w.elements i) Fail left (record { first = Fail; answered = record { outcome = Fail; answered = a; is = refl }; goes_on = refl }) in
-        Shown Fail stands (x, NormalFails (record { outcome = Fail; answered = a; kind_is = tt; fact = b }), refl)
-    normal_stops x (inr a) b =
-        let stands = stands_left (w.elements i) TooLarge left (record { first = TooLarge; answered = record { outcome = TooLarge; answered = a; is = refl }; goes_on = refl }) in
-        Shown TooLarge stands (x, NormalFails (record { outcome = TooLarge; answered = a; kind_is = tt; fact = b }), refl)
-
-    pub normal_failed : (f : Answer.Err E (Option E) Needed) (x : E) → f ≡ Failure x → ShowsMeaning w IsNormal m outputs false s i (Err f) → Goal (Err (Failure x))
-    normal_failed f x e h =
-        let t = part_failed w IsNormal outputs false i (m.answers s i) (m.blames s i) (m.runs_out outputs false s i) f x e h in
-        normal_stops x t.0 t.1
-
-    pub normal_lacks : (f : Answer.Err E (Option E) Needed) (k : Needed) → f ≡ Incomplete k → ShowsMeaning w IsNormal m outputs false s i (Err f) → Goal (Err (Incomplete k))
-    normal_lacks f k e h =
-        let t = part_lacks w IsNormal outputs false i (m.answers s i) (m.blames s i) (m.runs_out outputs false s i) f k e h in
-        let stands = stands_left (w.elements i) (Undecided (size_of k)) left (record { first = Undecided (size_of k); answered = record { outcome = Undecided (size_of k); answered = t; is = refl }; goes_on = refl }) in
-        Shown (Undecided (size_of k)) stands (k, refl, refl)
-
-    pub normal_ran_out : (f : Answer.Err E (Option E) Needed) → f ≡ OutOfMemory → ShowsMeaning w IsNormal m outputs false s i (Err f) → Goal (Err OutOfMemory)
-    normal_ran_out f e h = RanOut refl (inl (left, part_ran_out w IsNormal outputs false i (m.answers s i) (m.blames s i) (m.runs_out outputs false s i) f e h))
+    pub normal_stops : (f k : Answer.Err E (Option E) Needed) → f ≡ k → ((x : Option E) → k ≡ Error x → ⊥) → ShowsMeaning w IsNormal m outputs false s i (Err f) → Goal s (Err k)
+    normal_stops f k q other h = first (Err k) (λ x p. other x (cc (p))) (labels_err w (λ u. Found (Normal u)) IsNormal (IsSpot outputs IsNormal IsEscapable) m outputs true false s i k (subst (λ y. ShowsMeaning w IsNormal m outputs false s i (Err y)) q h))
 
     -- `normal` refuses
     module _ (f : Answer.Err E (Option E) Needed) (b : Option E) (is : f ≡ Error b) (h : ShowsMeaning w IsNormal m outputs false s i (Err f)) where
-      refused : m.answers s i Refuse
-      refused = part_refused w IsNormal outputs false i (m.answers s i) (m.blames s i) (m.runs_out outputs false s i) f b is h
+      next : (r : Told) → Tells (escape_meaning w IsControl lack g) s i r → Goal s r
+      next r k =
+          let refused = part_refused w IsNormal outputs false i (m.answers s i) (m.blames s i) (m.runs_out outputs false s i) f b is h in
+          goes s true left r (otherwise_next w (IsSpot outputs IsNormal IsEscapable) NormalPart (escape_meaning w IsControl lack g) true outputs errors s i (here Refuse refused refl) r k)
 
-      escapes : (o : Outcome (Spot (Piece U W))) → Escaped w IsControl lack (g.answers s) s i (w.elements i) o → Stands w IsControl lack m g s i (w.elements i) o
-      escapes o a = stands_left (w.elements i) o left (record { first = Refuse; answered = record { outcome = Refuse; answered = refused; is = refl }; goes_on = a })
+      told : (c : Control (Unit {0})) (n : ℕ) (j : I) → TellsControl w IsControl s i n c → IsRest w i n j → (r : Told) → Tells (by_control g c) s j r → Goal s r
+      told c n j a p r k = next r (next_shown w l (λ _ t. t) (LeafAnswers (control_leaf w IsControl lack) s) (λ _ _. ⊥) (λ j. ⊥ × (errors ≡ true) × ⊥) (λ u. (by_control g u).answers s) (λ u. (by_control g u).blames s) (λ u. (by_control g u).runs_out outputs errors s) (IsSpot outputs IsNormal IsEscapable) true errors i j n c a p r k)
 
-      pub other_stands : w.IsKnown i → StandsOther w IsControl i → Goal (Ok (i, Some Other))
-      other_stands k a = here Other Other k (escapes (Accept 0 Other) (subst (λ xs. Escaped {U = U} w IsControl lack (g.answers s) s i xs (Accept 0 Other)) (sym a.elements_are) (AtOther a.is_other refl))) refl
-
-      pub last_shown : w.IsKnown i → (size : Needed) → size_of size ≡ lack → StandsLast w IsControl i → (r : Result (I × Option (Spot (Piece (Option O) (Option X)))) (Answer.Err E (Option E) Needed)) → Lacks s size i Dangling r → Goal r
-      last_shown k size c a r h = lacks_shown k s size Dangling Dangling r refl h (λ o q. escapes o (subst (λ xs. Escaped w IsControl lack (g.answers s) s i xs o) (sym a.elements_are) (AtControl a.is_control (subst (λ d. o ≡ lacks s d Dangling) c q))))
+      pub other_stands : StandsOther w IsControl i → Goal s (Ok (i, Some Other))
+      other_stands a = told Control.None 0 i (refl, a) (rest_self w l i known) (Ok (i, Some Other)) (Shown (Accept 0 Other) (refl, refl) (i, Some Other, rest_self w l i known, (Other, refl, refl), refl))
 
       -- an escapable piece is sought behind the control character
       module _ (j : I) (c : BehindControl w IsControl (λ y. y ≡ j) i) where
-        rest_is : IsRest w i (w.weight c.item) j
-        rest_is = subst (λ y. IsRest w i (w.weight c.item) y) c.fact c.rest_is
+        behind : (r : Told) → Tells (labelled_meaning (λ v. Found (Escapable v)) g) s j r → Goal s r
+        behind r k = told (Control.Before tt) (w.weight c.item) j (record { item = c.item; items = c.items; elements_are = c.elements_are; is_control = c.is_control; some = c.some; length_is = refl }) (subst (λ y. IsRest w i (w.weight c.item) y) c.fact c.rest_is) r k
 
-        behind_some : (xs : List A) (p : Outcome W) → 0 < length xs → g.answers s j p → Behind {U = U} w IsControl lack (g.answers s) s i c.item xs (after (w.weight c.item) (λ v. Found (Escapable v)) p)
-        behind_some [] p k a = absurd (omega (arith, k))
-        behind_some (x ∷ xs) p k a = (j, p, rest_is, a, refl)
+        pub escapable_faults : (e : Answer.Err E (Option E) Needed) (r : Told) → ShowsMeaning w IsEscapable g outputs errors s j (Err e) → r ≡ Err e → Goal s r
+        escapable_faults e r k y = subst (λ q. Goal s q) (sym y) (behind (Err e) (labels_err w (λ v. Found (Escapable v)) IsEscapable (IsSpot outputs IsNormal IsEscapable) g outputs true errors s j e k))
 
-        stands : (p : Outcome W) → g.answers s j p → Stands w IsControl lack m g s i (w.elements i) (after (w.weight c.item) (λ v. Found (Escapable v)) p)
-        stands p a = escapes (after (w.weight c.item) (λ v. Found (Escapable v)) p) (subst (λ xs. Escaped {U = U} w IsControl lack (g.answers s) s i xs (after (w.weight c.item) (λ v. Found (Escapable v)) p)) (sym c.elements_are) (AtControl c.is_control (behind_some c.items p c.some a)))
+        pub escapable_found : (h : I) (x : Option X) → ShowsMeaning w IsEscapable g outputs errors s j (Ok (h, x)) → Goal s (Ok (h, Some (Found (Escapable x))))
+        escapable_found h x k = behind (Ok (h, Some (Found (Escapable x)))) (labels_ok w (λ v. Found (Escapable v)) IsEscapable (IsSpot outputs IsNormal IsEscapable) g outputs true errors s j h x (Some (Found (Escapable x))) k (λ u b. (Found (Escapable x), refl, b)))
 
-        behind_fact : {Fact : I → Type 0} → Fact j → BehindControl w IsControl Fact i
-        behind_fact k = record { item = c.item; items = c.items; elements_are = c.elements_are; is_control = c.is_control; some = c.some; rest = j; rest_is = rest_is; fact = k }
-
-        blamed : (p : Outcome W) → g.answers s j p → IsFault p → (x : E) → g.blames s j x → SpotBlames w IsControl lack m g s i x
-        blamed p a k x y = EscapableFaults refused (behind_fact (record { outcome = p; answered = a; kind_is = k; fact = y }))
-
-        shows : (p : Outcome W) (e : Answer.Err E (Option E) Needed) → g.answers s j p → Shows w IsEscapable outputs errors j (g.blames s j) p (Err e) → Goal (Err e)
-        shows (Accept n v) e a r = absurd (cc (r.4))
-        shows Refuse e a r = Shown Refuse (stands Refuse a) (r.0, built_error errors _ _ r.0 (blamed Refuse a tt) r.1, cc (r.2))
-        shows Fail e a r = Shown Fail (stands Fail a) (r.0, blamed Fail a tt r.0 r.1, cc (r.2))
-        shows TooLarge e a r = Shown TooLarge (stands TooLarge a) (r.0, blamed TooLarge a tt r.0 r.1, cc (r.2))
-        shows (Undecided k) e a r = Shown (Undecided k) (stands (Undecided k) a) (r.0, r.1, cc (r.2))
-
-        pub escapable_faults : (e : Answer.Err E (Option E) Needed) (r : Result (I × Option (Spot (Piece (Option O) (Option X)))) (Answer.Err E (Option E) Needed)) → ShowsMeaning w IsEscapable g outputs errors s j (Err e) → r ≡ Err e → Goal r
-        escapable_faults e r (RanOut q k) y = RanOut (cc) (inr (refused, behind_fact k))
-        escapable_faults e r (Shown p a q) y = subst Goal (sym y) (shows p e a q)
-
-        pub escapable_found : (k : I) (x : Option X) → ShowsMeaning w IsEscapable g outputs errors s j (Ok (k, x)) → Goal (Ok (k, Some (Found (Escapable x))))
-        escapable_found k x q =
-            let a = accepts w IsEscapable outputs errors j (g.answers s j) (g.blames s j) (g.runs_out outputs errors s j) k x q in
-            Shown (Accept (w.weight c.item + a.length) (Found (Escapable a.tree))) (stands (Accept a.length a.tree) a.answered) (k, Some (Found (Escapable x)), rest_rest w l i (w.weight c.item) j a.length k rest_is a.rest_is, (Found (Escapable x), refl, a.built_is), refl)
+  module _ (n : ℕ) (e : n ≡ input_len w i) (z : n ≡ 0 → ⊥) where
+    -- the control character is the last item
+    pub last_shown : (s : Bool) (f : Answer.Err E (Option E) Needed) (b : Option E) → f ≡ Error b → ShowsMeaning w IsNormal m outputs false s i (Err f) → (size : Needed) → size_of size ≡ lack → StandsLast w IsControl i → (r : Told) → Lacks s size i Dangling r → Goal s r
+    last_shown true f b is h size c a r k = next true n e z f b is h r (Shown (Undecided lack) (record { first = Undecided lack; answered = (refl, (a, refl)); goes_on = refl }) (size, c, k))
+    last_shown false f b is h size c a r k = told false n e z f b is h Control.Last 0 i (refl, refl, a) (rest_self w l i known) r (Shown (Accept 0 Dangling) (refl, refl) (i, Some Dangling, rest_self w l i known, (Dangling, refl, refl), k))

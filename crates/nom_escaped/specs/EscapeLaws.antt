@@ -1,12 +1,13 @@
 -- The laws of escapes.
-use Rattle.std.specs.Prelude.{◌≡◌, ℕ, true, Option, Some, None, zero, suc}
+use Rattle.std.specs.Prelude.{◌≡◌, ℕ, Bool, true, false, Option, Some, None, zero, suc, refl}
 use Rattle.std.proofs.Common.{inl}
-use Rattle.nom_error.specs.declared.kind.ErrorKind.{ErrorKind}
+use Rattle.nom_error.specs.Errors.{Errors}
 use Rattle.nom_error.specs.declared.kind.ErrorKind.TheVariants as Kind
 use Rattle.nom_traits.specs.Input.{Seen, InputLaws}
-use Rattle.nom_internal.specs.Outcome.{Outcome}
+use Rattle.nom_internal.specs.Outcome.{Outcome, failure}
 use Rattle.nom_internal.specs.Outcome.Outcome.{Accept, Refuse, Fail, TooLarge, Undecided}
 use Rattle.nom_internal.specs.Meaning.{Meaning, IsLawful, IsSteady}
+use Rattle.nom_internal.specs.Families.{always, always_lawful}
 use Rattle.nom_internal.specs.RecognizedLaws.{recognized_lawful, recognized_steady}
 use Rattle.nom_repeat.specs.Repeat.{Ran, repeat_meaning}
 use Rattle.nom_repeat.specs.Repeat.Turn.{Ends}
@@ -49,16 +50,43 @@ on_fault Taken Unknown Last (Some TooLarge) f h = f tt h
 on_fault Taken Unknown Last (Some (Undecided d)) f h = h
 on_fault Taken Unknown Last None f h = h
 
-on_none : {V : Type 0} (Taken Own : Type 0) (a : Option (Outcome (Spot V))) → (Taken → ⊥) → (Own → ⊥) → OnReplied Taken Own Own ⊥ a → ⊥
-on_none Taken Own (Some (Accept n (Found v))) f g h = f h
-on_none Taken Own (Some (Accept n Other)) f g h = g h
-on_none Taken Own (Some (Accept n Dangling)) f g h = g h
-on_none Taken Own (Some (Accept n Done)) f g h = h
-on_none Taken Own (Some Refuse) f g h = h
-on_none Taken Own (Some Fail) f g h = h
-on_none Taken Own (Some TooLarge) f g h = h
-on_none Taken Own (Some (Undecided d)) f g h = h
-on_none Taken Own None f g h = h
+on_none : {V : Type 0} (Taken Unknown Last : Type 0) (a : Option (Outcome (Spot V))) → (Taken → ⊥) → (Unknown → ⊥) → (Last → ⊥) → OnReplied Taken Unknown Last ⊥ a → ⊥
+on_none Taken Unknown Last (Some (Accept n (Found v))) f g k h = f h
+on_none Taken Unknown Last (Some (Accept n Other)) f g k h = g h
+on_none Taken Unknown Last (Some (Accept n Dangling)) f g k h = k h
+on_none Taken Unknown Last (Some (Accept n Done)) f g k h = h
+on_none Taken Unknown Last (Some Refuse) f g k h = h
+on_none Taken Unknown Last (Some Fail) f g k h = h
+on_none Taken Unknown Last (Some TooLarge) f g k h = h
+on_none Taken Unknown Last (Some (Undecided d)) f g k h = h
+on_none Taken Unknown Last None f g k h = h
+
+spot_fails : {V : Type 0} (large : Bool) (v : Spot V) (k n : ℕ) → Ends (failure large) ≡ by_spot v k n → ⊥
+spot_fails true (Found v) k zero e = cc (e)
+spot_fails true (Found v) k (suc n) e = cc (e)
+spot_fails true Other zero n e = cc (e)
+spot_fails true Other (suc k) n e = cc (e)
+spot_fails true Dangling k n e = cc (e)
+spot_fails true Done k n e = cc (e)
+spot_fails false (Found v) k zero e = cc (e)
+spot_fails false (Found v) k (suc n) e = cc (e)
+spot_fails false Other zero n e = cc (e)
+spot_fails false Other (suc k) n e = cc (e)
+spot_fails false Dangling k n e = cc (e)
+spot_fails false Done k n e = cc (e)
+
+escape_fails : {V : Type 0} (large : Bool) (k : ℕ) (a : Option (Outcome (Spot V))) → Ends (failure large) ≡ escape_turn k a → a ≡ Some (failure large)
+escape_fails large k (Some (Accept n v)) e = absurd (spot_fails large v k n e)
+escape_fails true k (Some Refuse) e = absurd (cc (e))
+escape_fails true k (Some Fail) e = absurd (cc (e))
+escape_fails true k (Some TooLarge) e = refl
+escape_fails true k (Some (Undecided d)) e = absurd (cc (e))
+escape_fails true k None e = absurd (cc (e))
+escape_fails false k (Some Refuse) e = absurd (cc (e))
+escape_fails false k (Some Fail) e = refl
+escape_fails false k (Some TooLarge) e = absurd (cc (e))
+escape_fails false k (Some (Undecided d)) e = absurd (cc (e))
+escape_fails false k None e = absurd (cc (e))
 
 escape_rule_laws : {I V E : Type 0} (Gives : I → E → Type 0) (Grows : Type 0) (at : I → I → I) → RuleLaws (escape_rule {V = V} Gives Grows at)
 escape_rule_laws Gives Grows at = record {
@@ -66,18 +94,19 @@ escape_rule_laws Gives Grows at = record {
   ends = escape_ends;
   blames = λ i k j a P Q e f. on_fault ⊥ (Gives i e) (Gives (at i j) e) a (λ r. f r e);
   part_frugal = λ Part outputs errors k h. h.0;
-  asks_none = λ Part outputs errors k a h. on_none (outputs ≡ true) ((errors ≡ true) × Grows) a h.1 (λ p. h.2 p.0 p.1);
+  asks_none = λ Part outputs errors k a h. on_none (outputs ≡ true) ((k ≡ 0) × (errors ≡ true) × Grows) ((errors ≡ true) × Grows) a h.1 (λ p. h.2 p.1 p.2) (λ p. h.2 p.0 p.1);
+  never_fails = λ Part large k a h e. (h, escape_fails large k a e);
 }
 
-module _ {I A U W E : Type 0} (w : Seen I A) (l : InputLaws w) (Gives : I → ErrorKind → E → Type 0) (Grows : Type 0) (IsControl : A → Type 0) (m : Meaning I U E) (g : Meaning I W E) where
-  pub escaped_lawful : IsLawful w m → IsLawful w g → IsLawful w (escaped_meaning w Gives Grows IsControl m g)
-  escaped_lawful p q = recognized_lawful w l (repeat_meaning w (escape_rule (λ i. Gives i Kind.Escaped) Grows (λ i j. i)) all_pieces (spot_meaning w IsControl (Some 1) m g)) (repeat_lawful w l (escape_rule (λ i. Gives i Kind.Escaped) Grows (λ i j. i)) (escape_rule_laws _ _ _) all_pieces (spot_meaning w IsControl (Some 1) m g) (spot_lawful w l IsControl (Some 1) m g p q))
+module _ {I A U W E : Type 0} (w : Seen I A) (l : InputLaws w) (errs : Errors I E) (IsControl : A → Type 0) (m : Meaning I U E) (g : Meaning I W E) where
+  pub escaped_lawful : IsLawful w m → IsLawful w g → IsLawful w (escaped_meaning w errs IsControl m g)
+  escaped_lawful p q = recognized_lawful w l (repeat_meaning w (escape_rule (λ i. errs.of_kind i Kind.Escaped) errs.grows (λ i j. i)) all_pieces (always (spot_meaning w IsControl (Some 1) m g))) (repeat_lawful w l (escape_rule (λ i. errs.of_kind i Kind.Escaped) errs.grows (λ i j. i)) (escape_rule_laws _ _ _) all_pieces (always (spot_meaning w IsControl (Some 1) m g)) (always_lawful w (spot_meaning w IsControl (Some 1) m g) (spot_lawful w l IsControl (Some 1) m g p q)))
 
-  pub escaped_steady : IsSteady w m → IsSteady w g → IsSteady w (escaped_meaning w Gives Grows IsControl m g)
-  escaped_steady p q = recognized_steady w l (repeat_meaning w (escape_rule (λ i. Gives i Kind.Escaped) Grows (λ i j. i)) all_pieces (spot_meaning w IsControl (Some 1) m g)) (repeat_steady w l (escape_rule (λ i. Gives i Kind.Escaped) Grows (λ i j. i)) (escape_rule_laws _ _ _) all_pieces (spot_meaning w IsControl (Some 1) m g) (spot_steady w l IsControl (Some 1) m g p q))
+  pub escaped_steady : IsSteady w m → IsSteady w g → IsSteady w (escaped_meaning w errs IsControl m g)
+  escaped_steady p q = recognized_steady w l (repeat_meaning w (escape_rule (λ i. errs.of_kind i Kind.Escaped) errs.grows (λ i j. i)) all_pieces (always (spot_meaning w IsControl (Some 1) m g))) (repeat_steady w l (escape_rule (λ i. errs.of_kind i Kind.Escaped) errs.grows (λ i j. i)) (escape_rule_laws _ _ _) all_pieces (always (spot_meaning w IsControl (Some 1) m g)) (λ _. spot_steady w l IsControl (Some 1) m g p q))
 
-  pub escaped_transform_lawful : IsLawful w m → IsLawful w g → IsLawful w (escaped_transform_meaning w Gives Grows IsControl m g)
-  escaped_transform_lawful p q = repeat_lawful w l (escape_rule (λ i. Gives i Kind.EscapedTransform) Grows (λ i j. j)) (escape_rule_laws _ _ _) all_pieces (spot_meaning w IsControl None m g) (spot_lawful w l IsControl None m g p q)
+  pub escaped_transform_lawful : IsLawful w m → IsLawful w g → IsLawful w (escaped_transform_meaning w errs IsControl m g)
+  escaped_transform_lawful p q = repeat_lawful w l (escape_rule (λ i. errs.of_kind i Kind.EscapedTransform) errs.grows (λ i j. j)) (escape_rule_laws _ _ _) all_pieces (always (spot_meaning w IsControl None m g)) (always_lawful w (spot_meaning w IsControl None m g) (spot_lawful w l IsControl None m g p q))
 
-  pub escaped_transform_steady : IsSteady w m → IsSteady w g → IsSteady w (escaped_transform_meaning w Gives Grows IsControl m g)
-  escaped_transform_steady p q = repeat_steady w l (escape_rule (λ i. Gives i Kind.EscapedTransform) Grows (λ i j. j)) (escape_rule_laws _ _ _) all_pieces (spot_meaning w IsControl None m g) (spot_steady w l IsControl None m g p q)
+  pub escaped_transform_steady : IsSteady w m → IsSteady w g → IsSteady w (escaped_transform_meaning w errs IsControl m g)
+  escaped_transform_steady p q = repeat_steady w l (escape_rule (λ i. errs.of_kind i Kind.EscapedTransform) errs.grows (λ i j. j)) (escape_rule_laws _ _ _) all_pieces (always (spot_meaning w IsControl None m g)) (λ _. spot_steady w l IsControl None m g p q)

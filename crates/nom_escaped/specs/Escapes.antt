@@ -8,13 +8,14 @@
 -- - All else that a part answers is passed on.
 -- Where no items are left, the list ends, or more is needed.
 use Rattle.std.specs.Prelude.{◌≡◌, ℕ, true, List, [], ◌∷◌, ◌++◌, Option, Some, None, zero, suc}
-use Rattle.nom_error.specs.declared.kind.ErrorKind.{ErrorKind}
+use Rattle.nom_error.specs.Errors.{Errors}
 use Rattle.nom_error.specs.declared.kind.ErrorKind.TheVariants as Kind
 use Rattle.nom_traits.specs.Input.{Seen}
 use Rattle.nom_traits.specs.Slices.{Slice}
 use Rattle.nom_internal.specs.Outcome.{Outcome}
 use Rattle.nom_internal.specs.Outcome.Outcome.{Accept, Refuse, Fail, TooLarge, Undecided}
 use Rattle.nom_internal.specs.Meaning.{Meaning}
+use Rattle.nom_internal.specs.Families.{always}
 use Rattle.nom_internal.specs.Recognized.{recognized_meaning}
 use Rattle.nom_repeat.specs.Repeat.{Turn, Rule, repeat_meaning}
 use Rattle.nom_repeat.specs.Repeat.Turn.{Takes, Ends}
@@ -65,8 +66,10 @@ escape_rule Gives Grows at = record {
   Blames = λ i k j a P e. OnReplied ⊥ (Gives i e) (Gives (at i j) e) (P e) a;
   outputs = λ b. b;
   errors = λ _ b. b;
-  Asks = λ outputs errors k. OnReplied (outputs ≡ true) ((errors ≡ true) × Grows) ((errors ≡ true) × Grows) ⊥;
+  Asks = λ outputs errors k. OnReplied (outputs ≡ true) ((k ≡ 0) × (errors ≡ true) × Grows) ((errors ≡ true) × Grows) ⊥;
+  IsSound = λ Part. Part;
   IsFrugal = λ PartIs outputs errors. PartIs outputs errors × (outputs ≡ true → ⊥) × (errors ≡ true → Grows → ⊥);
+  NeverFails = λ Part. Part;
 }
 
 -- the pieces, with the last one
@@ -74,11 +77,11 @@ abbrev pub all_pieces : {V : Type 0} → List V → Option V → List V
 all_pieces vs None = vs
 all_pieces vs (Some v) = vs ++ v ∷ []
 
-module _ {I A U W E : Type 0} (w : Seen I A) (Gives : I → ErrorKind → E → Type 0) (Grows : Type 0) (IsControl : A → Type 0) (m : Meaning I U E) (g : Meaning I W E) where
+module _ {I A U W E : Type 0} (w : Seen I A) (errs : Errors I E) (IsControl : A → Type 0) (m : Meaning I U E) (g : Meaning I W E) where
   -- the items of all pieces; the size that lacks behind a last control character is 1
   abbrev pub escaped_meaning : Meaning I (Slice w) E
-  escaped_meaning = recognized_meaning w (repeat_meaning w (escape_rule (λ i. Gives i Kind.Escaped) Grows (λ i j. i)) all_pieces (spot_meaning w IsControl (Some 1) m g))
+  escaped_meaning = recognized_meaning w (repeat_meaning w (escape_rule (λ i. errs.of_kind i Kind.Escaped) errs.grows (λ i j. i)) all_pieces (always (spot_meaning w IsControl (Some 1) m g)))
 
   -- all pieces; what lacks behind a last control character is unknown
   abbrev pub escaped_transform_meaning : Meaning I (List (Piece U W)) E
-  escaped_transform_meaning = repeat_meaning w (escape_rule (λ i. Gives i Kind.EscapedTransform) Grows (λ i j. j)) all_pieces (spot_meaning w IsControl None m g)
+  escaped_transform_meaning = repeat_meaning w (escape_rule (λ i. errs.of_kind i Kind.EscapedTransform) errs.grows (λ i j. j)) all_pieces (always (spot_meaning w IsControl None m g))

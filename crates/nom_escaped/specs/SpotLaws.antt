@@ -1,191 +1,223 @@
--- The laws of what stands at a place of a text with escapes.
-use Rattle.std.specs.Prelude.{◌≡◌, ℕ, ◌+◌, ◌<◌, Bool, true, false, List, [], ◌∷◌, ◌++◌, length, Option, None, refl}
-use Rattle.std.proofs.Common.{arith, sym, ◌∙◌, ap, subst, inl, inr}
-use Rattle.nom_traits.specs.Input.{Seen, InputLaws, IsRest, IsPlace, Related}
-use Rattle.nom_traits.specs.Rests.{same_self, rest_related, place_more}
-use Rattle.nom_internal.specs.Outcome.{Outcome, IsDecided, IsFailure, IsFault, OnOutcome}
-use Rattle.nom_internal.specs.Outcome.Outcome.{Accept, Refuse, Fail, TooLarge, Undecided}
-use Rattle.nom_internal.specs.Meaning.{Meaning, IsLawful, IsSteady, Keeps, Agree, Within, Settled}
-use Rattle.nom_internal.specs.PartLaws.{one_at, blame_settled}
-use Rattle.nom_internal.specs.Choice.{labelled, GoesOnRefused}
-use Rattle.nom_internal.specs.ChoiceLaws.{keeps_labelled, labelled_agree, labelled_within, labelled_settled, keeps_first, or_agree, or_within, or_settled}
-use Rattle.nom_internal.specs.Sequence.{after}
-use Rattle.nom_internal.specs.SequenceLaws.{keeps_after}
+-- The laws of what stands at a place.
+use Rattle.std.specs.Prelude.{◌≡◌, ℕ, ◌<◌, Bool, true, false, List, [], ◌∷◌, ◌++◌, length, Option, Some, None, refl}
+use Rattle.std.proofs.Common.{arith, sym, ◌∙◌, ap, subst, length-append}
+use Rattle.nom_traits.specs.Input.{Seen, InputLaws, IsPlace, IsSame, Related, span}
+use Rattle.nom_traits.specs.Rests.{span-append}
+use Rattle.nom_internal.specs.Meaning.{Meaning, IsLawful, IsSteady}
+use Rattle.nom_internal.specs.Leaf.{LeafLaws, leaf_lawful, leaf_steady}
+use Rattle.nom_internal.specs.Success.{place_zero, success_lawful, success_steady}
+use Rattle.nom_internal.specs.Families.{IsLawfulFamily, AnyKey}
+use Rattle.nom_internal.specs.SequenceLaws.{then_lawful, then_steady}
+use Rattle.nom_internal.specs.ChoiceLaws.{otherwise_lawful, otherwise_steady}
+use Rattle.nom_internal.specs.Cases.{labelled_meaning}
+use Rattle.nom_internal.specs.CaseLaws.{labelled_lawful, labelled_steady}
+use Rattle.nom_escaped.specs.declared.spot.Control.{Control}
 use Rattle.nom_escaped.specs.declared.spot.Piece.{Piece}
 use Rattle.nom_escaped.specs.declared.spot.Piece.TheVariants.{Normal, Escapable}
 use Rattle.nom_escaped.specs.declared.spot.Spot.{Spot}
-use Rattle.nom_escaped.specs.declared.spot.Spot.TheVariants.{Found, Dangling, Done}
-use Rattle.nom_escaped.specs.Spots.{lacks, Behind, NotNormal, Escaped, Stands, EscapableBlames, SpotBlames, spot_meaning}
-use Rattle.nom_escaped.specs.Spots.NotNormal.{AtControl, AtOther}
-use Rattle.nom_escaped.specs.Spots.SpotBlames.{NormalFails, EscapableFaults}
+use Rattle.nom_escaped.specs.declared.spot.Spot.TheVariants.{Found, Other, Dangling, Done}
+use Rattle.nom_escaped.specs.Spots.{look, IsLeft, left_leaf, StandsOther, StandsLast, StandsBefore, TellsControl, control_leaf, by_control, behind_control, escape_meaning, piece_meaning, by_left, where_left, spot_meaning}
 
--- a list that is longer than another (true), or equal (false)
-abbrev Longer : {A : Type 0} → Bool → List A → List A → Type 0
-Longer {A} true xs ys = (more : List A) × (ys ≡ xs ++ more)
-Longer false xs ys = ys ≡ xs
-
-longer_parts : {A : Type 0} (longer : Bool) (x y : A) (xs ys : List A) → Longer longer (x ∷ xs) (y ∷ ys) → (y ≡ x) × Longer longer xs ys
-longer_parts true x y xs ys h = (cc (h.1), (h.0, cc (h.1)))
-longer_parts false x y xs ys h = (cc (h), cc (h))
-
-longer_some : {A : Type 0} (longer : Bool) (x : A) (xs : List A) → Longer longer (x ∷ xs) [] → ⊥
-longer_some true x xs h = cc (h.1)
-longer_some false x xs h = cc (h)
-
--- a list that ends the input is kept where no more may come
-longer_end : {A T : Type 0} (longer s : Bool) (y : A) (ys : List A) (o : Bool → Outcome T) → (longer ≡ true → s ≡ true) → (IsDecided (o true) → ⊥) → Longer longer [] (y ∷ ys) → Keeps longer (o s) → ⊥
-longer_end true s y ys o only undecided h k = undecided (subst (λ z. IsDecided (o z)) (only refl) k)
-longer_end false s y ys o only undecided h k = cc (h)
-
+-- the items of the second of related inputs begin with the first's
 module _ {I A : Type 0} (w : Seen I A) where
-  elements_longer : (longer : Bool) (x y : I) → Related w longer x y → Longer longer (w.elements x) (w.elements y)
-  elements_longer true x y r = (r.more, r.whole)
-  elements_longer false x y r = sym r.elements_are
+  items_stay : (longer : Bool) (x y : I) → Related w longer x y → (more : List A) × (w.elements y ≡ w.elements x ++ more)
+  items_stay true x y r = (r.more, r.whole)
+  items_stay false x y r = ([], sym r.elements_are ∙ sym (no_more (w.elements x)))
+    where
+      no_more : (xs : List A) → xs ++ [] ≡ xs
+      no_more [] = refl
+      no_more (x ∷ xs) = ap (λ z. x ∷ z) (no_more xs)
 
-  at_start : (i : I) (n : ℕ) → n ≡ 0 → IsPlace w i n
-  at_start i n e = record { front = []; rest = w.elements i; whole = refl; length_is = sym e }
+-- whether an item is left
+module _ {I A : Type 0} (w : Seen I A) where
+  one_left : (s : Bool) (xs : List A) (u v : Bool) → IsLeft s xs u → IsLeft s xs v → u ≡ v
+  one_left s xs true true a b = refl
+  one_left s xs true false a b = absurd (omega (arith, a, b.1))
+  one_left s xs false true a b = absurd (omega (arith, b, a.1))
+  one_left s xs false false a b = refl
 
-module _ {I A U W E : Type 0} (w : Seen I A) (l : InputLaws w) (IsControl : A → Type 0) (lack : Option ℕ) (m : Meaning I U E) (g : Meaning I W E) where
-  module _ (longer s : Bool) (only : longer ≡ true → s ≡ true) where
-    behind_agree : Agree w longer (g.answers s) (g.answers s) → (x y : I) (a : A) (xs ys : List A) (o p : Outcome (Spot (Piece U W))) → Related w longer x y → Longer longer xs ys → Behind w IsControl lack (g.answers s) s x a xs o → Keeps longer o → Behind w IsControl lack (g.answers s) s y a ys p → o ≡ p
-    behind_agree f x y a [] [] o p r h b d c = b ∙ sym c
-    behind_agree f x y a [] (z ∷ zs) o p r h b d c = absurd (longer_end longer s z zs (λ t. lacks t lack Dangling) only (λ z. z) h (subst (λ z. Keeps longer z) b d))
-    behind_agree f x y a (v ∷ vs) [] o p r h b d c = absurd (longer_some longer v vs h)
-    behind_agree f x y a (v ∷ vs) (z ∷ zs) o p r h b d c =
-        let rests = rest_related w l longer x y (w.weight a) b.0 c.0 r b.2 c.2 in
-        let kept = keeps_after longer (w.weight a) (λ v. Found (Escapable v)) b.1 (subst (λ z. Keeps longer z) b.4 d) in
-        let same = f b.0 c.0 b.1 c.1 (b.2).known (c.2).known rests b.3 kept c.3 in
-        b.4 ∙ (ap (λ z. after (w.weight a) (λ v. Found (Escapable v)) z) same ∙ sym c.4)
+  left_stays : (longer s : Bool) → (longer ≡ true → s ≡ true) → (x y : I) (v : Bool) → Related w longer x y → IsLeft s (w.elements x) v → IsLeft s (w.elements y) v
+  left_stays longer s only x y true r a = let k = items_stay w longer x y r in omega (arith, a, ap length k.1, length-append (w.elements x) k.0)
+  left_stays true s only x y false r a = absurd (cc (only refl, a.0))
+  left_stays false s only x y false r a = (a.0, ap length (sym r.elements_are) ∙ a.1)
 
-    not_normal_agree : Agree w longer (g.answers s) (g.answers s) → (x y : I) (a b : A) (xs ys : List A) (o p : Outcome (Spot (Piece U W))) → Related w longer x y → (b ≡ a) × Longer longer xs ys → NotNormal w IsControl lack (g.answers s) s x a xs o → Keeps longer o → NotNormal w IsControl lack (g.answers s) s y b ys p → o ≡ p
-    not_normal_agree f x y a b xs ys o p r h (AtControl c t) d (AtControl e u) = behind_agree f x y a xs ys o p r h.1 t d (subst (λ z. Behind w IsControl lack (g.answers s) s y z ys p) h.0 u)
-    not_normal_agree f x y a b xs ys o p r h (AtControl c t) d (AtOther e u) = absurd (e (subst (λ z. IsControl z) (sym h.0) c))
-    not_normal_agree f x y a b xs ys o p r h (AtOther c t) d (AtControl e u) = absurd (c (subst (λ z. IsControl z) h.0 e))
-    not_normal_agree f x y a b xs ys o p r h (AtOther c t) d (AtOther e u) = t ∙ sym u
+  left_settles : (xs : List A) (v : Bool) → IsLeft true xs v → IsLeft false xs v
+  left_settles xs true a = a
+  left_settles xs false a = absurd (cc (a.0))
 
-    escaped_agree : Agree w longer (g.answers s) (g.answers s) → (x y : I) (xs ys : List A) (o p : Outcome (Spot (Piece U W))) → Related w longer x y → Longer longer xs ys → Escaped w IsControl lack (g.answers s) s x xs o → Keeps longer o → Escaped w IsControl lack (g.answers s) s y ys p → o ≡ p
-    escaped_agree f x y [] ys o p r h b d c = absurd b
-    escaped_agree f x y (v ∷ vs) [] o p r h b d c = absurd c
-    escaped_agree f x y (v ∷ vs) (z ∷ zs) o p r h b d c = not_normal_agree f x y v z vs zs o p r (longer_parts longer v z vs zs h) b d c
+  left_lacks : (xs : List A) (v : Bool) → IsLeft true xs v → length xs ≡ 0 → ⊥
+  left_lacks xs true a e = omega (arith, a, e)
+  left_lacks xs false a e = cc (a.0)
 
-    stands_agree : Agree w longer (m.answers s) (m.answers s) → Agree w longer (g.answers s) (g.answers s) → (x y : I) (xs ys : List A) (o p : Outcome (Spot (Piece U W))) → w.IsKnown x → w.IsKnown y → Related w longer x y → Longer longer xs ys → Stands w IsControl lack m g s x xs o → Keeps longer o → Stands w IsControl lack m g s y ys p → o ≡ p
-    stands_agree e f x y [] [] o p kx ky r h b d c = b ∙ sym c
-    stands_agree e f x y [] (z ∷ zs) o p kx ky r h b d c = absurd (longer_end longer s z zs (λ t. lacks t None Done) only (λ z. z) h (subst (λ z. Keeps longer z) b d))
-    stands_agree e f x y (v ∷ vs) [] o p kx ky r h b d c = absurd (longer_some longer v vs h)
-    stands_agree e f x y (v ∷ vs) (z ∷ zs) o p kx ky r h b d c =
-        let first = labelled_agree w (λ u. Found (Normal u)) longer (m.answers s) (m.answers s) e in
-        or_agree w _ _ _ _ longer first (λ i j a q ki kj t u k v. escaped_agree f i j (w.elements i) (w.elements j) a q t (elements_longer w longer i j t) u k v) x y o p kx ky r b d c
-
-    spot_agree : Agree w longer (m.answers s) (m.answers s) → Agree w longer (g.answers s) (g.answers s) → Agree w longer ((spot_meaning w IsControl lack m g).answers s) ((spot_meaning w IsControl lack m g).answers s)
-    spot_agree e f x y o p kx ky r b d c = stands_agree e f x y (w.elements x) (w.elements y) o p kx ky r (elements_longer w longer x y r) b d c
-
-  -- what is accepted is a front
-  module _ (s : Bool) where
-    after_place : Within w (g.answers s) → (i j : I) (a n : ℕ) (v : Spot (Piece U W)) (p : Outcome W) → IsRest w i a j → g.answers s j p → Accept n v ≡ after a (λ v. Found (Escapable v)) p → IsPlace w i n
-    after_place f i j a n v (Accept k u) r h e =
-        let same : a + k ≡ n = cc in
-        subst (λ z. IsPlace w i z) same (place_more w i a j k r (f j k u r.known h))
-    after_place f i j a n v Refuse r h e = absurd (cc)
-    after_place f i j a n v Fail r h e = absurd (cc)
-    after_place f i j a n v TooLarge r h e = absurd (cc)
-    after_place f i j a n v (Undecided k) r h e = absurd (cc)
-
-    lacks_place : (b : Bool) (size : Option ℕ) (spot : Spot (Piece U W)) (i : I) (n : ℕ) (v : Spot (Piece U W)) → Accept n v ≡ lacks b size spot → IsPlace w i n
-    lacks_place true size spot i n v e = absurd (cc)
-    lacks_place false size spot i n v e = at_start w i n (cc)
-
-    behind_place : Within w (g.answers s) → (i : I) (a : A) (xs : List A) (n : ℕ) (v : Spot (Piece U W)) → Behind w IsControl lack (g.answers s) s i a xs (Accept n v) → IsPlace w i n
-    behind_place f i a [] n v b = lacks_place s lack Dangling i n v b
-    behind_place f i a (y ∷ ys) n v b = after_place f i b.0 (w.weight a) n v b.1 b.2 b.3 b.4
-
-    escaped_place : Within w (g.answers s) → (i : I) (xs : List A) (n : ℕ) (v : Spot (Piece U W)) → Escaped w IsControl lack (g.answers s) s i xs (Accept n v) → IsPlace w i n
-    escaped_place f i [] n v b = absurd b
-    escaped_place f i (a ∷ xs) n v (AtControl c b) = behind_place f i a xs n v b
-    escaped_place f i (a ∷ xs) n v (AtOther c b) = at_start w i n (cc (b))
-
-    stands_place : Within w (m.answers s) → Within w (g.answers s) → (i : I) (xs : List A) (n : ℕ) (v : Spot (Piece U W)) → w.IsKnown i → Stands w IsControl lack m g s i xs (Accept n v) → IsPlace w i n
-    stands_place e f i [] n v h b = lacks_place s None Done i n v b
-    stands_place e f i (a ∷ xs) n v h b = or_within w _ _ (labelled_within w (λ u. Found (Normal u)) (m.answers s) e) (λ j k u kj z. escaped_place f j (w.elements j) k u z) i n v h b
-
-  -- what is decided while more may come is the complete outcome too
-  behind_settled : Settled w (g.answers true) (g.answers false) → (i : I) (a : A) (xs : List A) (o : Outcome (Spot (Piece U W))) → Behind w IsControl lack (g.answers true) true i a xs o → IsDecided o → Behind w IsControl lack (g.answers false) false i a xs o
-  behind_settled f i a [] o b d = absurd (subst (λ z. IsDecided z) b d)
-  behind_settled f i a (y ∷ ys) o b d =
-      let decided = keeps_after true (w.weight a) (λ v. Found (Escapable v)) b.1 (subst (λ z. IsDecided z) b.4 d) in
-      (b.0, b.1, b.2, f b.0 b.1 (b.2).known b.3 decided, b.4)
-
-  escaped_settled : Settled w (g.answers true) (g.answers false) → (i : I) (xs : List A) (o : Outcome (Spot (Piece U W))) → Escaped w IsControl lack (g.answers true) true i xs o → IsDecided o → Escaped w IsControl lack (g.answers false) false i xs o
-  escaped_settled f i [] o b d = absurd b
-  escaped_settled f i (a ∷ xs) o (AtControl c b) d = AtControl c (behind_settled f i a xs o b d)
-  escaped_settled f i (a ∷ xs) o (AtOther c b) d = AtOther c b
-
-  stands_settled : Settled w (m.answers true) (m.answers false) → Settled w (g.answers true) (g.answers false) → (i : I) (xs : List A) (o : Outcome (Spot (Piece U W))) → w.IsKnown i → Stands w IsControl lack m g true i xs o → IsDecided o → Stands w IsControl lack m g false i xs o
-  stands_settled e f i [] o h b d = absurd (subst (λ z. IsDecided z) b d)
-  stands_settled e f i (a ∷ xs) o h b d = or_settled w _ _ _ _ (labelled_settled w (λ u. Found (Normal u)) (m.answers true) (m.answers false) e) (λ j q kj z k. escaped_settled f j (w.elements j) q z k) i o h b d
-
-  module _ (p : IsLawful w m) (q : IsLawful w g) (k : m.IsSound × g.IsSound) (t : m.Settles × g.Settles) where
-    -- the normal piece's outcome is decided where what stands there is
-    normal_decided : (i : I) (e : E) (xs : List A) (o : Outcome (Spot (Piece U W))) → w.IsKnown i → Stands w IsControl lack m g true i xs o → IsDecided o → OnOutcome IsFailure (m.answers true) (m.blames true i e) i → OnOutcome IsFailure (m.answers false) (m.blames false i e) i
-    normal_decided i e [] o h b d f = absurd (subst (λ z. IsDecided z) b d)
-    normal_decided i e (a ∷ xs) o h b d f =
-        let first = keeps_first _ true b.first o d b.goes_on in
-        let part = b.answered in
-        blame_settled w m IsFailure p i part.outcome e k.0 t.0 h part.answered (keeps_labelled true (λ u. Found (Normal u)) part.outcome (subst (λ z. IsDecided z) part.is first)) f
-
-    -- where a normal piece is refused, and the control character stands before items, the escapable piece's is decided too
-    behind_decided : (i j : I) (a b : A) (xs ys : List A) (o : Outcome (Spot (Piece U W))) (c : Outcome W) → a ∷ xs ≡ b ∷ ys → 0 < length ys → IsControl b → IsRest w i (w.weight b) j → g.answers true j c → NotNormal w IsControl lack (g.answers true) true i a xs o → IsDecided o → IsDecided c
-    behind_decided i j a b [] ys o c e some is r u (AtControl y z) d = absurd (omega (arith, some, ap length e))
-    behind_decided i j a b (x ∷ xs) ys o c e some is r u (AtControl y z) d =
-        let item : b ≡ a = cc (e) in
-        let rests = rest_related w l false i i (w.weight a) j z.0 (same_self w i) (subst (λ v. IsRest w i (w.weight v) j) item r) z.2 in
-        let same = q.one_outcome true k.1 j z.0 c z.1 r.known (z.2).known rests u tt z.3 in
-        subst (λ v. IsDecided v) (sym same) (keeps_after true (w.weight a) (λ v. Found (Escapable v)) z.1 (subst (λ v. IsDecided v) z.4 d))
-    behind_decided i j a b xs ys o c e some is r u (AtOther y z) d =
-        let item : b ≡ a = cc (e) in
-        absurd (y (subst (λ v. IsControl v) item is))
-
-    escaped_decided : (i j : I) (b : A) (xs ys : List A) (o : Outcome (Spot (Piece U W))) (c : Outcome W) → xs ≡ b ∷ ys → 0 < length ys → IsControl b → IsRest w i (w.weight b) j → g.answers true j c → Escaped w IsControl lack (g.answers true) true i xs o → IsDecided o → IsDecided c
-    escaped_decided i j b [] ys o c e some is r u z d = absurd z
-    escaped_decided i j b (a ∷ xs) ys o c e some is r u z d = behind_decided i j a b xs ys o c e some is r u z d
-
-    -- what stands behind a refused normal piece
-    refused_goes_on : (i : I) (a : A) (xs : List A) (o : Outcome (Spot (Piece U W))) → w.IsKnown i → Stands w IsControl lack m g true i (a ∷ xs) o → m.answers true i Refuse → Escaped w IsControl lack (g.answers true) true i (w.elements i) o
-    refused_goes_on i a xs o h b u =
-        let same = one_at w m true i b.answered.outcome Refuse p k.0 h b.answered.answered u in
-        let first : b.first ≡ Refuse = b.answered.is ∙ ap (λ z. labelled (λ u. Found (Normal u)) z) same in
-        subst (λ z. GoesOnRefused (λ o. Escaped w IsControl lack (g.answers true) true i (w.elements i) o) z o) first b.goes_on
-
-    escapable_settled : (i : I) (e : E) (xs : List A) (o : Outcome (Spot (Piece U W))) → w.elements i ≡ xs → w.IsKnown i → Stands w IsControl lack m g true i xs o → IsDecided o → m.answers true i Refuse → EscapableBlames w IsControl lack m g true i e → EscapableBlames w IsControl lack m g false i e
-    escapable_settled i e [] o at h b d u f = absurd (subst (λ z. IsDecided z) b d)
-    escapable_settled i e (a ∷ xs) o at h b d u f =
-        let decided = escaped_decided i f.rest f.item (w.elements i) f.items o f.fact.outcome f.elements_are f.some f.is_control f.rest_is f.fact.answered (refused_goes_on i a xs o h b u) d in
-        record {
-          item = f.item;
-          items = f.items;
-          elements_are = f.elements_are;
-          is_control = f.is_control;
-          some = f.some;
-          rest = f.rest;
-          rest_is = f.rest_is;
-          fact = blame_settled w g IsFault q f.rest f.fact.outcome e k.1 t.1 (f.rest_is).known f.fact.answered decided f.fact;
-        }
-
-    blames_settled : (i : I) (e : E) (o : Outcome (Spot (Piece U W))) → w.IsKnown i → Stands w IsControl lack m g true i (w.elements i) o → IsDecided o → SpotBlames w IsControl lack m g true i e → SpotBlames w IsControl lack m g false i e
-    blames_settled i e o h b d (NormalFails f) = NormalFails (normal_decided i e (w.elements i) o h b d f)
-    blames_settled i e o h b d (EscapableFaults u f) = EscapableFaults (p.settles k.0 t.0 i Refuse h u tt) (escapable_settled i e (w.elements i) o refl h b d u f)
-
-  spot_frugal : IsLawful w m → IsLawful w g → (outputs errors s : Bool) (i : I) → m.IsSound × g.IsSound → m.IsFrugal outputs false × g.IsFrugal outputs errors → (spot_meaning w IsControl lack m g).runs_out outputs errors s i → ⊥
-  spot_frugal p q outputs errors s i k f (inl h) = p.frugal outputs false s i k.0 f.0 h.1
-  spot_frugal p q outputs errors s i k f (inr h) = q.frugal outputs errors s (h.1).rest k.1 f.1 (h.1).fact
-
-  pub spot_lawful : IsLawful w m → IsLawful w g → IsLawful w (spot_meaning w IsControl lack m g)
-  spot_lawful p q = record {
-    within = λ s k i n v h a. stands_place s (p.within s k.0) (q.within s k.1) i (w.elements i) n v h a;
-    one_outcome = λ s k. spot_agree false s (λ e. cc) (p.one_outcome s k.0) (q.one_outcome s k.1);
-    frugal = spot_frugal p q;
-    settles = λ k t i o h a d. stands_settled (p.settles k.0 t.0) (q.settles k.1 t.1) i (w.elements i) o h a d;
-    settles_blame = λ i o e k t h a d b. blames_settled p q k t i e o h a d b;
+  pub left_laws : LeafLaws w (left_leaf w)
+  left_laws = record {
+    place = λ s i n v h a. place_zero w i n a.0;
+    one_accepted = λ s i n m u v h a b. (a.0 ∙ sym b.0, one_left s (w.elements i) u v a.1 b.1);
+    one_lack = λ i j k h a b. a.1 ∙ sym b.1;
+    accepted_refused = λ s i n v h a b. b;
+    accepted_lacks = λ i n v k h a b. left_lacks (w.elements i) v a.1 b.0;
+    refused_lacks = λ i k h a b. a;
+    accepted_stays = λ longer s only x y n v kx ky r a. (a.0, left_stays longer s only x y v r a.1);
+    refused_stays = λ longer s only x y kx ky r a. a;
+    lack_alike = λ x y k kx ky r a. (ap length (sym r.elements_are) ∙ a.0, a.1);
+    accepted_settles = λ i n v h a. (a.0, left_settles (w.elements i) v a.1);
+    refused_settles = λ i h a. a;
   }
 
+-- whether the first item is the control character
+module _ {I A : Type 0} (w : Seen I A) (IsControl : A → Type 0) (lack : Option ℕ) where
+  other_control : (i : I) (x : A) (xs : List A) → StandsOther w IsControl i → w.elements i ≡ x ∷ xs → IsControl x → ⊥
+  other_control i x xs a e c =
+      let both : a.item ∷ a.items ≡ x ∷ xs = sym a.elements_are ∙ e in
+      let same : x ≡ a.item = cc (both) in
+      a.is_other (subst (λ z. IsControl z) same c)
+
+  last_before : (i : I) (n : ℕ) → StandsLast w IsControl i → StandsBefore w IsControl i n → ⊥
+  last_before i n a b = omega (arith, ap length (sym a.elements_are ∙ b.elements_are), b.some)
+
+  one_length : (i : I) (n m : ℕ) → StandsBefore w IsControl i n → StandsBefore w IsControl i m → n ≡ m
+  one_length i n m a b =
+      let both : a.item ∷ a.items ≡ b.item ∷ b.items = sym a.elements_are ∙ b.elements_are in
+      let same : a.item ≡ b.item = cc (both) in
+      a.length_is ∙ (ap w.weight same ∙ sym b.length_is)
+
+  one_told : (s : Bool) (i : I) (n m : ℕ) (u v : Control (Unit {0})) → TellsControl w IsControl s i n u → TellsControl w IsControl s i m v → (n ≡ m) × (u ≡ v)
+  one_told s i n m Control.None Control.None a b = (a.0 ∙ sym b.0, refl)
+  one_told s i n m Control.None Control.Last a b = absurd (other_control i b.2.item [] a.1 b.2.elements_are b.2.is_control)
+  one_told s i n m Control.None (Control.Before v) a b = absurd (other_control i b.item b.items a.1 b.elements_are b.is_control)
+  one_told s i n m Control.Last Control.None a b = absurd (other_control i a.2.item [] b.1 a.2.elements_are a.2.is_control)
+  one_told s i n m Control.Last Control.Last a b = (a.0 ∙ sym b.0, refl)
+  one_told s i n m Control.Last (Control.Before v) a b = absurd (last_before i m a.2 b)
+  one_told s i n m (Control.Before u) Control.None a b = absurd (other_control i a.item a.items b.1 a.elements_are a.is_control)
+  one_told s i n m (Control.Before u) Control.Last a b = absurd (last_before i n b.2 a)
+  one_told s i n m (Control.Before u) (Control.Before v) a b = (one_length i n m a b, refl)
+
+  told_lacks : (i : I) (n : ℕ) (v : Control (Unit {0})) → TellsControl w IsControl true i n v → StandsLast w IsControl i → ⊥
+  told_lacks i n Control.None a b = other_control i b.item [] a.1 b.elements_are b.is_control
+  told_lacks i n Control.Last a b = cc (a.1)
+  told_lacks i n (Control.Before v) a b = last_before i n b a
+
+  told_place : (s : Bool) (i : I) (n : ℕ) (v : Control (Unit {0})) → TellsControl w IsControl s i n v → IsPlace w i n
+  told_place s i n Control.None a = place_zero w i n a.0
+  told_place s i n Control.Last a = place_zero w i n a.0
+  told_place s i n (Control.Before v) a = record { front = a.item ∷ []; rest = a.items; whole = a.elements_are; length_is = omega (arith, a.length_is) }
+
+  told_stays : (longer s : Bool) → (longer ≡ true → s ≡ true) → (x y : I) (n : ℕ) (v : Control (Unit {0})) → Related w longer x y → TellsControl w IsControl s x n v → TellsControl w IsControl s y n v
+  told_stays longer s only x y n Control.None r a =
+      let k = items_stay w longer x y r in
+      (a.0, record { item = a.1.item; items = a.1.items ++ k.0; elements_are = k.1 ∙ ap (λ z. z ++ k.0) a.1.elements_are; is_other = a.1.is_other })
+  told_stays true s only x y n Control.Last r a = absurd (cc (only refl, a.1))
+  told_stays false s only x y n Control.Last r a = (a.0, a.1, record { item = a.2.item; elements_are = sym r.elements_are ∙ a.2.elements_are; is_control = a.2.is_control })
+  told_stays longer s only x y n (Control.Before v) r a =
+      let k = items_stay w longer x y r in
+      record {
+        item = a.item;
+        items = a.items ++ k.0;
+        elements_are = k.1 ∙ ap (λ z. z ++ k.0) a.elements_are;
+        is_control = a.is_control;
+        some = omega (arith, a.some, length-append a.items k.0);
+        length_is = a.length_is;
+      }
+
+  told_settles : (i : I) (n : ℕ) (v : Control (Unit {0})) → TellsControl w IsControl true i n v → TellsControl w IsControl false i n v
+  told_settles i n Control.None a = a
+  told_settles i n Control.Last a = absurd (cc (a.1))
+  told_settles i n (Control.Before v) a = a
+
+  pub control_laws : LeafLaws w (control_leaf w IsControl lack)
+  control_laws = record {
+    place = λ s i n v h a. told_place s i n v a;
+    one_accepted = λ s i n m u v h a b. one_told s i n m u v a b;
+    one_lack = λ i j k h a b. a.1 ∙ sym b.1;
+    accepted_refused = λ s i n v h a b. b;
+    accepted_lacks = λ i n v k h a b. told_lacks i n v a b.0;
+    refused_lacks = λ i k h a b. a;
+    accepted_stays = λ longer s only x y n v kx ky r a. told_stays longer s only x y n v r a;
+    refused_stays = λ longer s only x y kx ky r a. a;
+    lack_alike = λ x y k kx ky r a. (record { item = (a.0).item; elements_are = sym r.elements_are ∙ (a.0).elements_are; is_control = (a.0).is_control }, a.1);
+    accepted_settles = λ i n v h a. told_settles i n v a;
+    refused_settles = λ i h a. a;
+  }
+
+-- what follows by what was told
+module _ {I A W E : Type 0} (U : Type 0) (w : Seen I A) (g : Meaning I W E) where
+  control_lawful : IsLawful w g → (c : Control (Unit {0})) → IsLawful w (by_control {U = U} g c)
+  control_lawful q Control.None = success_lawful E w Other
+  control_lawful q Control.Last = success_lawful E w Dangling
+  control_lawful q (Control.Before u) = labelled_lawful w g (λ v. Found (Escapable v)) q
+
+  control_steady : IsSteady w g → (c : Control (Unit {0})) → IsSteady w (by_control {U = U} g c)
+  control_steady q Control.None = success_steady E w Other
+  control_steady q Control.Last = success_steady E w Dangling
+  control_steady q (Control.Before u) = labelled_steady w g (λ v. Found (Escapable v)) q
+
+  control_frugal : (outputs errors : Bool) → g.IsFrugal outputs errors → (c : Control (Unit {0})) → (by_control {U = U} g c).IsFrugal outputs errors
+  control_frugal outputs errors h Control.None = λ e z. z
+  control_frugal outputs errors h Control.Last = λ e z. z
+  control_frugal outputs errors h (Control.Before u) = h
+
+  control_settles : g.Settles → (c : Control (Unit {0})) → (by_control {U = U} g c).Settles
+  control_settles h Control.None = tt
+  control_settles h Control.Last = tt
+  control_settles h (Control.Before u) = h
+
+  control_never : (large : Bool) → g.NeverFails large → (c : Control (Unit {0})) → (by_control {U = U} g c).NeverFails large
+  control_never large h Control.None = tt
+  control_never large h Control.Last = tt
+  control_never large h (Control.Before u) = h
+
+  pub behind_lawful : IsLawful w g → IsLawfulFamily w AnyKey (behind_control {U = U} g)
+  behind_lawful q = record {
+    lawful = λ c _. control_lawful q c;
+    frugal = λ outputs errors h c _. control_frugal outputs errors h c;
+    settles = λ h c _. control_settles h c;
+    never_fails = λ large h c _. control_never large h c;
+  }
+
+module _ {I A V E : Type 0} (w : Seen I A) (done : V) (m : Meaning I V E) where
+  left_lawful : IsLawful w m → (b : Bool) → IsLawful w (by_left done m b)
+  left_lawful p true = p
+  left_lawful p false = success_lawful E w done
+
+  pub left_steady : IsSteady w m → (b : Bool) → IsSteady w (by_left done m b)
+  left_steady p true = p
+  left_steady p false = success_steady E w done
+
+  left_frugal : (outputs errors : Bool) → m.IsFrugal outputs errors → (b : Bool) → (by_left done m b).IsFrugal outputs errors
+  left_frugal outputs errors h true = h
+  left_frugal outputs errors h false = λ e z. z
+
+  left_settled : m.Settles → (b : Bool) → (by_left done m b).Settles
+  left_settled h true = h
+  left_settled h false = tt
+
+  left_never : (large : Bool) → m.NeverFails large → (b : Bool) → (by_left done m b).NeverFails large
+  left_never large h true = h
+  left_never large h false = tt
+
+  pub where_left_lawful : IsLawful w m → IsLawfulFamily w AnyKey (where_left done m)
+  where_left_lawful p = record {
+    lawful = λ b _. left_lawful p b;
+    frugal = λ outputs errors h b _. left_frugal outputs errors h b;
+    settles = λ h b _. left_settled h b;
+    never_fails = λ large h b _. left_never large h b;
+  }
+
+module _ {I A U W E : Type 0} (w : Seen I A) (l : InputLaws w) (IsControl : A → Type 0) (lack : Option ℕ) (m : Meaning I U E) (g : Meaning I W E) where
+  escape_lawful : IsLawful w g → IsLawful w (escape_meaning {U = U} w IsControl lack g)
+  escape_lawful q = then_lawful w l (λ _ t. t) (λ b. b) (λ b. b) (look (control_leaf w IsControl lack)) (behind_control g) (leaf_lawful w (control_leaf w IsControl lack) (control_laws w IsControl lack) (Unit {0}) (λ i e. ⊥) ⊥) (behind_lawful U w g q)
+
+  escape_steady : IsSteady w g → IsSteady w (escape_meaning {U = U} w IsControl lack g)
+  escape_steady q = then_steady w l (λ _ t. t) (λ b. b) (λ b. b) (look (control_leaf w IsControl lack)) (behind_control g) (leaf_steady w (control_leaf w IsControl lack) (control_laws w IsControl lack) {E = E} (Unit {0}) (λ i e. ⊥) ⊥) (control_steady U w g q)
+
+  piece_lawful : IsLawful w m → IsLawful w g → IsLawful w (piece_meaning w IsControl lack m g)
+  piece_lawful p q = otherwise_lawful w (labelled_meaning (λ u. Found (Normal u)) m) (escape_meaning w IsControl lack g) (labelled_lawful w m (λ u. Found (Normal u)) p) (escape_lawful q)
+
+  piece_steady : IsSteady w m → IsSteady w g → IsSteady w (piece_meaning w IsControl lack m g)
+  piece_steady p q = otherwise_steady w (labelled_meaning (λ u. Found (Normal u)) m) (escape_meaning w IsControl lack g) (labelled_steady w m (λ u. Found (Normal u)) p) (escape_steady q)
+
+  pub spot_lawful : IsLawful w m → IsLawful w g → IsLawful w (spot_meaning w IsControl lack m g)
+  spot_lawful p q = then_lawful w l (λ _ t. t) (λ b. b) (λ b. b) (look (left_leaf w)) (where_left Done (piece_meaning w IsControl lack m g)) (leaf_lawful w (left_leaf w) (left_laws w) (Unit {0}) (λ i e. ⊥) ⊥) (where_left_lawful w Done (piece_meaning w IsControl lack m g) (piece_lawful p q))
+
   pub spot_steady : IsSteady w m → IsSteady w g → IsSteady w (spot_meaning w IsControl lack m g)
-  spot_steady p q = record { stays = λ k. spot_agree true true (λ e. e) (p.stays k.0) (q.stays k.1) }
+  spot_steady p q = then_steady w l (λ _ t. t) (λ b. b) (λ b. b) (look (left_leaf w)) (where_left Done (piece_meaning w IsControl lack m g)) (leaf_steady w (left_leaf w) (left_laws w) {E = E} (Unit {0}) (λ i e. ⊥) ⊥) (left_steady w Done (piece_meaning w IsControl lack m g) (piece_steady p q))

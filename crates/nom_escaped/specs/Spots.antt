@@ -1,25 +1,41 @@
--- What stands at a place of a text with escapes: a normal piece, or the control character with an escapable piece behind it.
-use Rattle.std.specs.Prelude.{◌≡◌, ℕ, ◌<◌, Bool, true, false, ◌⊎◌, List, [], ◌∷◌, length, Option, Some, None, Result, Ok, Err}
+-- What stands at a place of a text with escapes: where an item is left, a normal piece, otherwise the control character and behind
+-- it an escapable piece.
+use Rattle.std.specs.Prelude.{◌≡◌, ℕ, ◌<◌, Bool, true, false, List, [], ◌∷◌, length, Option, Some, None, Result, Ok, Err}
 use Rattle.nom_error.specs.declared.answer.Needed.{Needed}
 use Rattle.nom_error.specs.declared.answer.Err as Answer
 use Rattle.nom_error.specs.declared.answer.Err.TheVariants.{Incomplete}
 use Rattle.nom_error.specs.Modes.{Built}
 use Rattle.nom_traits.specs.Input.{Seen, IsRest}
-use Rattle.nom_internal.specs.Outcome.{Outcome, IsFailure, IsFault, OnOutcome, ShowsAnswer}
-use Rattle.nom_internal.specs.Outcome.Outcome.{Accept, Undecided, Refuse}
+use Rattle.nom_internal.specs.Outcome.{Outcome, ShowsAnswer}
 use Rattle.nom_internal.specs.Meaning.{Meaning}
-use Rattle.nom_internal.specs.Choice.{Labelled, OnRefusal}
-use Rattle.nom_internal.specs.Sequence.{after}
+use Rattle.nom_internal.specs.Leaf.{Leaf, leaf_meaning}
+use Rattle.nom_internal.specs.Success.{success_meaning}
+use Rattle.nom_internal.specs.Families.{Family}
+use Rattle.nom_internal.specs.Sequence.{then_meaning}
+use Rattle.nom_internal.specs.Choice.{otherwise_meaning}
+use Rattle.nom_internal.specs.Cases.{labelled_meaning}
 use Rattle.nom_escaped.specs.declared.spot.Control.{Control}
 use Rattle.nom_escaped.specs.declared.spot.Piece.{Piece}
 use Rattle.nom_escaped.specs.declared.spot.Piece.TheVariants.{Normal, Escapable}
 use Rattle.nom_escaped.specs.declared.spot.Spot.{Spot}
 use Rattle.nom_escaped.specs.declared.spot.Spot.TheVariants.{Found, Other, Dangling, Done}
 
--- where an input ends: more is needed where more may come, of a size or an unknown one, else what stands there is told
-abbrev pub lacks : {V : Type 0} → Bool → Option ℕ → Spot V → Outcome (Spot V)
-lacks true size spot = Undecided size
-lacks false size spot = Accept 0 spot
+-- a leaf that refuses nothing
+abbrev pub look : {I V E : Type 0} → Leaf I V → Meaning I V E
+look leaf = leaf_meaning (Unit {0}) (λ i e. ⊥) ⊥ leaf
+
+-- whether an item is left
+abbrev pub IsLeft : {A : Type 0} → Bool → List A → Bool → Type 0
+IsLeft s xs true = 0 < length xs
+IsLeft s xs false = (s ≡ false) × (length xs ≡ 0)
+
+-- Whether an item is left; where none is, and more may come, that isn't settled, and nobody knows how much is needed.
+abbrev pub left_leaf : {I A : Type 0} → Seen I A → Leaf I Bool
+left_leaf w = record {
+  Accepts = λ s i n v. (n ≡ 0) × IsLeft s (w.elements i) v;
+  Refuses = λ s i. ⊥;
+  Lacks = λ i k. (length (w.elements i) ≡ 0) × (k ≡ None);
+}
 
 module _ {I A : Type 0} (w : Seen I A) (IsControl : A → Type 0) where
   -- at i the control character stands, items follow it, and of the rest behind it the fact holds
@@ -52,46 +68,57 @@ IsControlAt w IsControl i Control.None = StandsOther w IsControl i
 IsControlAt w IsControl i Control.Last = StandsLast w IsControl i
 IsControlAt w IsControl i (Control.Before j) = BehindControl w IsControl (λ x. x ≡ j) i
 
-module _ {I A U W : Type 0} (w : Seen I A) (IsControl : A → Type 0) (lack : Option ℕ) (Escapes : I → Outcome W → Type 0) (s : Bool) where
-  -- the control character x stands at i, before xs: an escapable piece behind it
-  abbrev pub Behind : I → A → List A → Outcome (Spot (Piece U W)) → Type 0
-  Behind i x [] o = o ≡ lacks s lack Dangling
-  Behind i x (y ∷ ys) o = (j : I) × (p : Outcome W) × IsRest w i (w.weight x) j × Escapes j p × (o ≡ after (w.weight x) (λ v. Found (Escapable v)) p)
+-- the first item of i, of length n, is the control character, and items follow it
+pub record StandsBefore {I A : Type 0} (w : Seen I A) (IsControl : A → Type 0) (i : I) (n : ℕ) : Type 0 where
+  pub item : A
+  pub items : List A
+  pub elements_are : w.elements i ≡ item ∷ items
+  pub is_control : IsControl item
+  pub some : 0 < length items
+  pub length_is : n ≡ w.weight item
 
-  -- the items from i on are x and xs, and no normal piece begins there
-  pub data NotNormal (i : I) (x : A) (xs : List A) (o : Outcome (Spot (Piece U W))) : Type 0 where
-    AtControl : IsControl x → Behind i x xs o → NotNormal i x xs o
-    AtOther : (IsControl x → ⊥) → o ≡ Accept 0 Other → NotNormal i x xs o
+-- what is told of the first item, and what is consumed of it
+abbrev pub TellsControl : {I A : Type 0} → Seen I A → (A → Type 0) → Bool → I → ℕ → Control (Unit {0}) → Type 0
+TellsControl w IsControl s i n Control.None = (n ≡ 0) × StandsOther w IsControl i
+TellsControl w IsControl s i n Control.Last = (n ≡ 0) × (s ≡ false) × StandsLast w IsControl i
+TellsControl w IsControl s i n (Control.Before u) = StandsBefore w IsControl i n
 
-  abbrev pub Escaped : I → List A → Outcome (Spot (Piece U W)) → Type 0
-  Escaped i [] o = ⊥
-  Escaped i (x ∷ xs) o = NotNormal i x xs o
+-- Whether the first item is the control character. As the last item it lacks what follows it, where more may come.
+abbrev pub control_leaf : {I A : Type 0} → Seen I A → (A → Type 0) → Option ℕ → Leaf I (Control (Unit {0}))
+control_leaf w IsControl lack = record {
+  Accepts = TellsControl w IsControl;
+  Refuses = λ s i. ⊥;
+  Lacks = λ i k. StandsLast w IsControl i × (k ≡ lack);
+}
 
-module _ {I A U W E : Type 0} (w : Seen I A) (IsControl : A → Type 0) (lack : Option ℕ) (m : Meaning I U E) (g : Meaning I W E) where
-  -- where an item is left, a normal piece is tried first
-  abbrev pub Stands : Bool → I → List A → Outcome (Spot (Piece U W)) → Type 0
-  Stands s i [] o = o ≡ lacks s None Done
-  Stands s i (x ∷ xs) o = OnRefusal (Labelled (λ u. Found (Normal u)) (m.answers s)) (λ j. Escaped w IsControl lack (g.answers s) s j (w.elements j)) i o
+-- what follows by what the first item is: behind the control character an escapable piece
+abbrev pub by_control : {I U W E : Type 0} → Meaning I W E → Control (Unit {0}) → Meaning I (Spot (Piece U W)) E
+by_control g Control.None = success_meaning Other
+by_control g Control.Last = success_meaning Dangling
+by_control g (Control.Before u) = labelled_meaning (λ v. Found (Escapable v)) g
 
-  -- the error of an escapable piece behind the control character
-  abbrev pub EscapableBlames : Bool → I → E → Type 0
-  EscapableBlames s i e = BehindControl w IsControl (λ j. OnOutcome IsFault (g.answers s) (g.blames s j e) j) i
+abbrev pub behind_control : {I U W E : Type 0} → Meaning I W E → Family (Control (Unit {0})) I (Spot (Piece U W)) E
+behind_control g = record { at = by_control g; IsSound = g.IsSound; IsFrugal = g.IsFrugal; Settles = g.Settles; NeverFails = g.NeverFails }
 
-  -- the error of what stands at a place: the normal piece's failure's, or the escapable piece's
-  pub data SpotBlames (s : Bool) (i : I) (e : E) : Type 0 where
-    NormalFails : OnOutcome IsFailure (m.answers s) (m.blames s i e) i → SpotBlames s i e
-    EscapableFaults : m.answers s i Refuse → EscapableBlames s i e → SpotBlames s i e
+-- the control character, and behind it an escapable piece
+abbrev pub escape_meaning : {I A U W E : Type 0} → Seen I A → (A → Type 0) → Option ℕ → Meaning I W E → Meaning I (Spot (Piece U W)) E
+escape_meaning w IsControl lack g = then_meaning w (λ _ t. t) (λ b. b) (λ b. b) (look (control_leaf w IsControl lack)) (behind_control g)
 
-  -- The error with which the normal piece refuses is dropped, so it isn't built.
-  abbrev pub spot_meaning : Meaning I (Spot (Piece U W)) E
-  spot_meaning = record {
-    IsSound = m.IsSound × g.IsSound;
-    answers = λ s i. Stands s i (w.elements i);
-    blames = SpotBlames;
-    runs_out = λ outputs errors s i. ((0 < length (w.elements i)) × m.runs_out outputs false s i) ⊎ (m.answers s i Refuse × BehindControl w IsControl (g.runs_out outputs errors s) i);
-    IsFrugal = λ outputs errors. m.IsFrugal outputs false × g.IsFrugal outputs errors;
-    Settles = m.Settles × g.Settles;
-  }
+-- a normal piece, otherwise the control character and behind it an escapable piece
+abbrev pub piece_meaning : {I A U W E : Type 0} → Seen I A → (A → Type 0) → Option ℕ → Meaning I U E → Meaning I W E → Meaning I (Spot (Piece U W)) E
+piece_meaning w IsControl lack m g = otherwise_meaning (labelled_meaning (λ u. Found (Normal u)) m) (escape_meaning w IsControl lack g)
+
+-- what follows, by whether an item is left
+abbrev pub by_left : {I V E : Type 0} → V → Meaning I V E → Bool → Meaning I V E
+by_left done m true = m
+by_left done m false = success_meaning done
+
+abbrev pub where_left : {I V E : Type 0} → V → Meaning I V E → Family Bool I V E
+where_left done m = record { at = by_left done m; IsSound = m.IsSound; IsFrugal = m.IsFrugal; Settles = m.Settles; NeverFails = m.NeverFails }
+
+-- A piece, where an item is left. The size that lacks behind a last control character is `lack`.
+abbrev pub spot_meaning : {I A U W E : Type 0} → Seen I A → (A → Type 0) → Option ℕ → Meaning I U E → Meaning I W E → Meaning I (Spot (Piece U W)) E
+spot_meaning w IsControl lack m g = then_meaning w (λ _ t. t) (λ b. b) (λ b. b) (look (left_leaf w)) (where_left Done (piece_meaning w IsControl lack m g))
 
 module _ {U W O X : Type 0} (outputs : Bool) (IsNormal : U → O → Type 0) (IsEscapable : W → X → Type 0) where
   -- which value a piece stands for, where outputs are built

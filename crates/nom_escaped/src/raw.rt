@@ -10,7 +10,7 @@ use nom_error::mode::{Check, OutputM, OutputMode};
 use nom_error::value::refusal;
 use nom_internal::parser::{Parser, StreamParser};
 use nom_internal::slices::before;
-use nom_search::character::AsChar;
+use nom_traits::character::AsChar;
 use nom_traits::input::Input;
 
 /// A text with escapes, made by `escaped`.
@@ -40,7 +40,9 @@ where
 
     ghost IsOutput = { λ _. IsSeenAs I.seen };
 
-    ghost meaning = { λ s. escaped_meaning I.seen F.Error.errors.of_kind F.Error.errors.grows (λ x. I.Item.code x ≡ s.1) (F.meaning s.0) (G.meaning s.2) };
+    ghost meaning = { λ s. escaped_meaning I.seen F.Error.errors (λ x. I.Item.code x ≡ s.1) (F.meaning s.0) (G.meaning s.2) };
+
+    ghost Pins = { λ _. Unit {0} };
 
     #[inline]
     fn process<OM: OutputMode>(&mut self, input: I) -> PResult<I, I, F::Error> {
@@ -76,7 +78,7 @@ where
         }
     }
 
-    ghost lawful = { λ s. escaped_lawful I.seen I.lawful F.Error.errors.of_kind F.Error.errors.grows (λ x. I.Item.code x ≡ s.1) (F.meaning s.0) (G.meaning s.2) (F.lawful s.0) (G.lawful s.2) };
+    ghost lawful = { λ s k. escaped_lawful I.seen I.lawful F.Error.errors (λ x. I.Item.code x ≡ s.1) (F.meaning s.0) (G.meaning s.2) (F.lawful s.0 k.1.0) (G.lawful s.2 k.1.1.1) };
 }
 
 impl<I: Input, F: StreamParser<I> + Drop, G: StreamParser<I, Error = F::Error> + Drop> StreamParser<
@@ -85,7 +87,10 @@ impl<I: Input, F: StreamParser<I> + Drop, G: StreamParser<I, Error = F::Error> +
 where
     I::Item: AsChar,
 {
+    ghost use Rattle.nom_internal.specs.Pinned.{slice_pinned};
     ghost use Rattle.nom_escaped.specs.EscapeLaws.{escaped_steady};
 
-    ghost steady = { λ s. escaped_steady I.seen I.lawful F.Error.errors.of_kind F.Error.errors.grows (λ x. I.Item.code x ≡ s.1) (F.meaning s.0) (G.meaning s.2) (F.steady s.0) (G.steady s.2) };
+    ghost pinned = { λ s k p. slice_pinned I.seen I.view I.views };
+
+    ghost steady = { λ s k. escaped_steady I.seen I.lawful F.Error.errors (λ x. I.Item.code x ≡ s.1) (F.meaning s.0) (G.meaning s.2) (F.steady s.0 k.1.0) (G.steady s.2 k.1.1.1) };
 }

@@ -6,7 +6,7 @@ ghost use Rattle.nom_escaped.specs.Spots.{IsControlAt, Lacks, ShowsSpot};
 use nom_error::answer::{Err, Needed, PResult};
 use nom_error::mode::{Check, IsStreaming, OutputM, OutputMode};
 use nom_internal::parser::Parser;
-use nom_search::character::AsChar;
+use nom_traits::character::AsChar;
 use nom_traits::input::Input;
 
 /// A piece.

@@ -2,10 +2,10 @@
 ghost use Rattle.std.specs.Prelude.{◌≡◌};
 
 use crate::{Escaped, EscapedTransform};
-use nom_bytes::Fixed;
 use nom_error::mode::Streaming;
+use nom_internal::fixed::Fixed;
+use nom_internal::one_mode::fixed;
 use std::alloc::Allocator;
-use std::marker::PhantomData;
 
 /// `bytes::escaped` in the streaming mode.
 #[inline(always)]
@@ -14,10 +14,7 @@ pub fn escaped<F, G>(normal: F, control_char: char, escapable: G) -> Fixed<Escap
     ensures control_char { result.parser.control_char ≡ control_char }
     ensures escapable { result.parser.escapable ≡ escapable }
 {
-    Fixed {
-        parser: crate::escaped(normal, control_char, escapable),
-        mode: PhantomData,
-    }
+    fixed(crate::escaped(normal, control_char, escapable))
 }
 
 /// `bytes::escaped_transform` in the streaming mode.
@@ -33,8 +30,5 @@ pub fn escaped_transform<A: Allocator + Copy, F, G>(
     ensures control_char { result.parser.control_char ≡ control_char }
     ensures transform { result.parser.transform ≡ transform }
 {
-    Fixed {
-        parser: crate::escaped_transform(alloc, normal, control_char, transform),
-        mode: PhantomData,
-    }
+    fixed(crate::escaped_transform(alloc, normal, control_char, transform))
 }

@@ -11,8 +11,8 @@ use nom_error::kind::ErrorKind;
 use nom_error::mode::{Mode, OutputMode};
 use nom_error::value::refusal;
 use nom_internal::parser::{Parser, StreamParser};
-use nom_search::character::AsChar;
 use nom_search::extend::{Builder, ExtendInto};
+use nom_traits::character::AsChar;
 use nom_traits::input::{Input, Value};
 use std::alloc::Allocator;
 
@@ -98,7 +98,9 @@ where
 
     ghost IsOutput = { λ s vs text. AddAll (F.IsOutput s.0) (G.IsOutput s.2) F.Output.added G.Output.added vs (X.parts text) };
 
-    ghost meaning = { λ s. escaped_transform_meaning I.seen F.Error.errors.of_kind F.Error.errors.grows (λ x. C.code x ≡ s.1) (F.meaning s.0) (G.meaning s.2) };
+    ghost meaning = { λ s. escaped_transform_meaning I.seen F.Error.errors (λ x. C.code x ≡ s.1) (F.meaning s.0) (G.meaning s.2) };
+
+    ghost Pins = { λ s. F.Pins s.0 × G.Pins s.2 };
 
     #[inline]
     fn process<OM: OutputMode>(&mut self, input: I) -> PResult<I, X, F::Error> {
@@ -143,7 +145,7 @@ where
         }
     }
 
-    ghost lawful = { λ s. escaped_transform_lawful I.seen I.lawful F.Error.errors.of_kind F.Error.errors.grows (λ x. C.code x ≡ s.1) (F.meaning s.0) (G.meaning s.2) (F.lawful s.0) (G.lawful s.2) };
+    ghost lawful = { λ s k. escaped_transform_lawful I.seen I.lawful F.Error.errors (λ x. C.code x ≡ s.1) (F.meaning s.0) (G.meaning s.2) (F.lawful s.0 k.1.0) (G.lawful s.2 k.1.1.1) };
 }
 
 impl<
@@ -159,6 +161,9 @@ where
     G::Output: ExtendInto<A, Extender = X>,
 {
     ghost use Rattle.nom_escaped.specs.EscapeLaws.{escaped_transform_steady};
+    ghost use Rattle.nom_escaped.specs.Texts.{texts_pinned};
 
-    ghost steady = { λ s. escaped_transform_steady I.seen I.lawful F.Error.errors.of_kind F.Error.errors.grows (λ x. C.code x ≡ s.1) (F.meaning s.0) (G.meaning s.2) (F.steady s.0) (G.steady s.2) };
+    ghost pinned = { λ s k p. texts_pinned X.view X.parts X.views F.Output.view G.Output.view (F.IsOutput s.0) (G.IsOutput s.2) F.Output.added G.Output.added F.Output.views G.Output.views (F.pinned s.0 k.1.0 p.0) (G.pinned s.2 k.1.1.1 p.1) };
+
+    ghost steady = { λ s k. escaped_transform_steady I.seen I.lawful F.Error.errors (λ x. C.code x ≡ s.1) (F.meaning s.0) (G.meaning s.2) (F.steady s.0 k.1.0) (G.steady s.2 k.1.1.1) };
 }

@@ -1,5 +1,4 @@
 pub mod LengthShown
 pub mod Longer
 pub mod ManyShown
-pub mod Parts
 pub mod Promised

@@ -3,6 +3,7 @@ use Rattle.std.proofs.Common.{◌≡◌, ◌++◌, ◌∷◌, [], List, Option, 
 use Rattle.std.specs.List.{AllZip}
 use Rattle.std.specs.declared.vec.Vec.{Vec}
 use Rattle.nom_error.specs.Modes.{Built}
+use Rattle.nom_internal.proofs.Shown.{built_error}
 use Rattle.nom_multi.specs.Lists.{IsFull, IsLonger}
 
 zip_push : {V O : Type 0} (P : V → O → Type 0) (vs : List V) (os : List O) (v : V) (o : O) → AllZip P vs os → P v o → AllZip P (vs ++ v ∷ []) (os ++ o ∷ [])
@@ -10,11 +11,6 @@ zip_push P [] [] v o h p = (p, tt)
 zip_push P [] (x ∷ os) v o h p = absurd h
 zip_push P (u ∷ vs) [] v o h p = absurd h
 zip_push P (u ∷ vs) (x ∷ os) v o h p = (h.0, zip_push P vs os v o h.1 p)
-
--- another fact of what is built
-pub built_map : {T : Type 0} (P Q : T → Type 0) (builds : Bool) (o : Option T) → ((v : T) → P v → Q v) → Built builds P o → Built builds Q o
-built_map P Q true o f h = (h.0, h.1, f h.0 h.2)
-built_map P Q false o f h = h
 
 module _ {V T A : Type 0} (P : V → T → Type 0) where
   -- the list has outputs of one tree more
@@ -35,4 +31,4 @@ module _ {V T A : Type 0} (P : V → T → Type 0) where
   list_built false vs None h b = absurd h
 
   pub empty_built : (builds : Bool) (list : Option (Vec T A)) → Built builds (λ (l : Vec T A). l.items ≡ []) list → Built builds (λ (l : Vec T A). AllZip P [] l.items) list
-  empty_built builds list h = built_map (λ (l : Vec T A). l.items ≡ []) (λ (l : Vec T A). AllZip P [] l.items) builds list (λ l e. subst (λ xs. AllZip P [] xs) (sym e) tt) h
+  empty_built builds list h = built_error builds (λ (l : Vec T A). l.items ≡ []) (λ (l : Vec T A). AllZip P [] l.items) list (λ l e. subst (λ xs. AllZip P [] xs) (sym e) tt) h

@@ -10,13 +10,12 @@ use Rattle.nom_internal.specs.Outcome.{Outcome}
 use Rattle.nom_internal.specs.Outcome.Outcome.{Accept, Refuse, Fail, TooLarge, Undecided}
 use Rattle.nom_internal.specs.Meaning.{Meaning, ShowsMeaning}
 use Rattle.nom_internal.specs.Families.{always}
-use Rattle.nom_internal.proofs.Shown.{Accepts}
+use Rattle.nom_internal.proofs.Shown.{Accepts, built_error}
 use Rattle.nom_repeat.specs.Repeat.{IsBelow, TurnsBy, repeat_meaning}
 use Rattle.nom_repeat.specs.Repeat.Turn.{Ends}
 use Rattle.nom_multi.specs.Many.{until_refused, OnItem, many_rule}
 use Rattle.nom_multi.specs.ManyLaws.{takes}
-use Rattle.nom_multi.proofs.Longer.{built_map}
-use Rattle.nom_multi.proofs.Parts.{part_refused, part_failed, part_lacks, part_ran_out}
+use Rattle.nom_repeat.proofs.Parts.{part_refused, part_failed, part_lacks, part_ran_out}
 use Rattle.nom_repeat.proofs.Repeated.{Collected, collected_more, ended, refused, failed, too_large, lacking, ran_out, ran_out_within}
 
 module _ {V : Type 0} (Empty Taken Failed : Type 0) where
@@ -75,7 +74,7 @@ module _ {I A V E X O : Type 0} (w : Seen I A) (EmptyGives : I → E → Type 0)
     many_empty h b a z f (inl g) =
         subst (λ y. Goal (Err y)) (sym g.0) (ran_out w (many_rule EmptyGives ErrorGrows bound builds Keeps) (λ vs _. vs) (always m) s IsOutput outputs errors i j c (Some (Accept a.length a.tree)) (below, a.answered) (on_empty ((errors ≡ true) × ErrorGrows) (Keeps outputs) ⊥ a.length a.tree z (g.1, g.2)))
     many_empty h b a z f (inr g) =
-        subst (λ y. Goal (Err y)) (sym g.2) (refused w (many_rule EmptyGives ErrorGrows bound builds Keeps) (λ vs _. vs) (always m) s IsOutput outputs errors i j c (Some (Accept a.length a.tree)) (below, a.answered) (empty_ends a.length a.tree z) g.0 (built_map (EmptyGives j) (λ y. OnItem (EmptyGives j y) ⊥ (m.blames s j y) (Some (Accept a.length a.tree))) errors g.0 (λ y. on_empty (EmptyGives j y) ⊥ (m.blames s j y) a.length a.tree z) g.1))
+        subst (λ y. Goal (Err y)) (sym g.2) (refused w (many_rule EmptyGives ErrorGrows bound builds Keeps) (λ vs _. vs) (always m) s IsOutput outputs errors i j c (Some (Accept a.length a.tree)) (below, a.answered) (empty_ends a.length a.tree z) g.0 (built_error errors (EmptyGives j) (λ y. OnItem (EmptyGives j y) ⊥ (m.blames s j y) (Some (Accept a.length a.tree))) g.0 (λ y. on_empty (EmptyGives j y) ⊥ (m.blames s j y) a.length a.tree z) g.1))
 
     -- there is no memory to keep an item
     pub many_full : (h : I) (b : Option X) (a : Accepts w IsItem (builds outputs) j (m.answers s j) h b) → 0 < a.length → Keeps outputs → Goal (Err OutOfMemory)

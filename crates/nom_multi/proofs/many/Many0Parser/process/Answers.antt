@@ -1,6 +1,6 @@
 use Rattle.std.proofs.Common.{rules, refl, ◌≡◌, true}
 use Rattle.nom_internal.proofs.Shown.{accepts}
-use Rattle.nom_multi.proofs.Parts.{shown_at}
+use Rattle.nom_repeat.proofs.Parts.{shown_at}
 use Rattle.nom_repeat.proofs.Repeated.{collected_none, is_empty, consumes, is_shorter}
 use Rattle.nom_multi.proofs.ManyShown.{many_refused, many_failed, many_lacks, many_part_ran_out, many_empty, many_full, many_more}
 use Rattle.nom_multi.proofs.Longer.{longer_built, list_built, empty_built}
