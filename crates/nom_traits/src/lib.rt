@@ -1,10 +1,12 @@
-//! Inputs: values seen as lists of items, how they are cut, and how they are compared with tags.
+//! Inputs: values seen as lists of items, how they are cut, and how they are compared with tags; items as
+//! characters and their classes; what outputs are compared by; numbers as lengths.
 #![tactic(auto)]
 
 pub mod bits;
 pub mod bytes;
 pub mod character;
 pub mod compare;
+pub mod convert;
 pub mod input;
 pub mod offset;
 mod split;

@@ -1,7 +1,12 @@
-//! Inputs, and comparisons with tags.
+//! Inputs, classes of items, and comparisons with tags.
+ghost use Rattle.std.specs.Prelude.{◌≡◌};
+ghost use Rattle.nom_traits.specs.Classes.{IsInside, IsOutside};
+ghost use Rattle.nom_traits.specs.Runs.{IsPosition};
 
 use crate::bits::{bits_grow_by_bytes, bits_pass, bits_tell_marks};
+use crate::character::{AsChar, AsciiClass};
 use crate::compare::{Compare, CompareResult};
+use crate::convert::ToUsize;
 use crate::input::{Input, Items};
 use crate::offset::Offset;
 use nom_error::answer::{Err, IResult, Needed};
@@ -154,4 +159,42 @@ fn bits_of_bytes(rt: HostRuntime) {
     let ((bytes, position), _) = known_twice((b"ab".as_slice(), 11));
     assert!(rt; bytes == b"ab".as_slice());
     assert!(rt; position == 11);
+}
+
+/// The place at which a class ends, of any input.
+fn outside<I: Input>(input: I, class: AsciiClass) -> Option<usize>
+where
+    I::Item: AsChar,
+    ensures { IsPosition I.seen (λ x. IsInside class (I.Item.code x)) (λ x. IsOutside class (I.Item.code x)) input result }
+{
+    input.position_outside(class)
+}
+
+#[test]
+fn ends_of_classes(rt: HostRuntime) {
+    assert!(rt; outside(b"azAZ@".as_slice(), AsciiClass::Alpha) == Some(4));
+    assert!(rt; outside("09é", AsciiClass::Alphanumeric) == Some(2));
+    assert!(rt; outside("\u{ff11}", AsciiClass::Digit) == Some(0));
+    assert!(rt; outside(b"09aFg".as_slice(), AsciiClass::HexDigit) == Some(4));
+    assert!(rt; outside("078", AsciiClass::OctDigit) == Some(2));
+    assert!(rt; outside(b"012".as_slice(), AsciiClass::BinDigit) == Some(2));
+    assert!(rt; outside(b" \t\r\n".as_slice(), AsciiClass::Space) == Some(2));
+    assert!(rt; outside(" \t\r\n", AsciiClass::MultiSpace).is_none());
+    assert!(rt; outside(b"".as_slice(), AsciiClass::Digit).is_none());
+}
+
+/// A length of any number's type.
+fn lengths<N: ToUsize + Drop>(n: N) -> usize
+    ensures { result ≡ N.size n }
+{
+    n.to_usize()
+}
+
+#[test]
+fn numbers_as_lengths(rt: HostRuntime) {
+    assert!(rt; lengths(0xFFu8) == 255);
+    assert!(rt; lengths(0xFFFFu16) == 65_535);
+    assert!(rt; lengths(0xFFFF_FFFFu32) == 4_294_967_295);
+    assert!(rt; lengths(u64::MAX) == usize::MAX);
+    assert!(rt; lengths(7usize) == 7);
 }
