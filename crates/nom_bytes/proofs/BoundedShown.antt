@@ -1,6 +1,5 @@
 -- What is shown of a run with a bound.
 use Rattle.std.proofs.Common.{◌≡◌, ℕ, ◌-◌, ◌<◌, ◌≤◌, min, max, ◌⊎◌, Option, Some, None, Bool, true, false, [], length, refl, sym, ◌∙◌, ap, subst, arith, append-nil, inl, inr}
-use Rattle.std.specs.List.{All}
 use Rattle.std.proofs.lemmas.Bool.{cases_lt}
 use Rattle.nom_traits.specs.Input.{Seen, input_len}
 use Rattle.nom_traits.specs.Slices.{Slice}
@@ -10,6 +9,9 @@ use Rattle.nom_internal.specs.Outcome.Outcome.{Accept, Refuse, Undecided}
 use Rattle.nom_bytes.specs.ParsedRuns.{IsEnough, IsRunSlice, runs, Reaches}
 use Rattle.nom_bytes.specs.RunLaws.{run_closed}
 
+closed : {P : Type 0} → false ≡ true → P
+closed k = absurd (cc (k))
+
 module _ {I A : Type 0} (w : Seen I A) (Test : A → Bool → Type 0) (most : ℕ) where
   -- the run is all of the input
   abbrev all_run : (i : I) (n count : ℕ) → n ≡ input_len w i → Reaches w Test most i None count → IsRunSlice w Test (Some most) false i n (record { items = w.elements i; mark = w.mark i })
@@ -18,7 +20,7 @@ module _ {I A : Type 0} (w : Seen I A) (Test : A → Bool → Type 0) (most : �
     meets = h.0;
     bounded = omega (arith, h.1, h.2);
     stops = tt;
-    followed = λ k. absurd (cc (k));
+    followed = closed;
   }
 
 by_order : (least most count : ℕ) → min least most ≤ count → count ≤ most → (count < least) ⊎ (least ≤ count) → (least ≤ count) ⊎ (count ≡ most)
