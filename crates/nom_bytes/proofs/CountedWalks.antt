@@ -6,7 +6,7 @@ use Rattle.std.proofs.lemmas.List.Elements.{All-nil, All-cons, All-append}
 use Rattle.nom_traits.specs.Input.{Seen, span, placed}
 use Rattle.nom_traits.specs.Rests.{span-append}
 use Rattle.nom_traits.specs.Slices.{Slice}
-use Rattle.nom_bytes.specs.BoundedRuns.{IsBoundedRun}
+use Rattle.nom_bytes.specs.ParsedRuns.{IsRunSlice}
 
 -- why a count stops
 pub stop_of : {Full Open Stopped Ends : Type 0} → Full ⊎ (Open × Stopped) → (Stopped → Ends) → Full ⊎ Ends
@@ -14,29 +14,29 @@ stop_of (inl h) f = inl h
 stop_of (inr h) f = inr (f h.1)
 
 module _ {I A S : Type 0} (w : Seen I A) (Test : A → Bool → Type 0) (steps : S → Option (ℕ × A) → S → Type 0) where
-  -- the test stopped at none of the items that were passed, which are so many, and s gives the others
+  -- the items that were passed, which are so many, all meet the test, and s gives the others
   pub record IsCounting (i : I) (count : ℕ) (s : S) : Type 0 where
     pub passed : List A
     pub rest : List A
     pub whole : w.elements i ≡ passed ++ rest
-    pub meets : All (λ x. Test x false) passed
+    pub meets : All (λ x. Test x true) passed
     pub counted : length passed ≡ count
     pub gives : AlwaysYields steps (λ p. p) s (placed w.weight (span w.weight passed) rest)
 
   pub count_begins : (i : I) (s : S) → AlwaysYields steps (λ p. p) s (placed w.weight 0 (w.elements i)) → IsCounting i 0 s
-  count_begins i s h = record { passed = []; rest = w.elements i; whole = refl; meets = All-nil (λ x. Test x false); counted = refl; gives = h }
+  count_begins i s h = record { passed = []; rest = w.elements i; whole = refl; meets = All-nil (λ x. Test x true); counted = refl; gives = h }
 
   -- the next item, with its place
   record IsNext (i : I) (count n : ℕ) (x : A) (t : S) : Type 0 where
     passed : List A
     rest : List A
     whole : w.elements i ≡ passed ++ (x ∷ rest)
-    meets : All (λ z. Test z false) passed
+    meets : All (λ z. Test z true) passed
     counted : length passed ≡ count
     place : n ≡ span w.weight passed
     gives : AlwaysYields steps (λ p. p) t (placed w.weight (n + w.weight x) rest)
 
-  next_of : (i : I) (s t : S) (count n : ℕ) (x : A) (passed rest : List A) → w.elements i ≡ passed ++ rest → All (λ z. Test z false) passed → length passed ≡ count → AlwaysYields steps (λ p. p) s (placed w.weight (span w.weight passed) rest) → steps s (Some (n, x)) t → IsNext i count n x t
+  next_of : (i : I) (s t : S) (count n : ℕ) (x : A) (passed rest : List A) → w.elements i ≡ passed ++ rest → All (λ z. Test z true) passed → length passed ≡ count → AlwaysYields steps (λ p. p) s (placed w.weight (span w.weight passed) rest) → steps s (Some (n, x)) t → IsNext i count n x t
   next_of i s t count n x passed [] e h c g k = absurd (g (n, x) t k)
   next_of i s t count n x passed (y ∷ rest) e h c g k =
       let r = g.1 (n, x) t k in
@@ -56,7 +56,7 @@ module _ {I A S : Type 0} (w : Seen I A) (Test : A → Bool → Type 0) (steps :
   next_in : (i : I) (s t : S) (count n : ℕ) (x : A) → IsCounting i count s → steps s (Some (n, x)) t → IsNext i count n x t
   next_in i s t count n x h k = next_of i s t count n x h.passed h.rest h.whole h.meets h.counted h.gives k
 
-  pub count_goes_on : (i : I) (s t : S) (count n : ℕ) (x : A) → IsCounting i count s → steps s (Some (n, x)) t → Test x false → IsCounting i (count + 1) t
+  pub count_goes_on : (i : I) (s t : S) (count n : ℕ) (x : A) → IsCounting i count s → steps s (Some (n, x)) t → Test x true → IsCounting i (count + 1) t
   count_goes_on i s t count n x h k m =
       let r = next_in i s t count n x h k in
       let place : n + w.weight x ≡ span w.weight (r.passed ++ (x ∷ [])) = omega (arith, r.place, span-append w.weight r.passed (x ∷ [])) in
@@ -64,19 +64,20 @@ module _ {I A S : Type 0} (w : Seen I A) (Test : A → Bool → Type 0) (steps :
         passed = r.passed ++ (x ∷ []);
         rest = r.rest;
         whole = r.whole ∙ sym (append_assoc r.passed (x ∷ []) r.rest);
-        meets = All-append (λ z. Test z false) r.passed (x ∷ []) r.meets (All-cons (λ z. Test z false) x [] m (All-nil (λ z. Test z false)));
+        meets = All-append (λ z. Test z true) r.passed (x ∷ []) r.meets (All-cons (λ z. Test z true) x [] m (All-nil (λ z. Test z true)));
         counted = omega (arith, r.counted, length-append r.passed (x ∷ []));
         gives = subst (λ m. AlwaysYields steps (λ p. p) t (placed w.weight m r.rest)) place r.gives;
       }
 
-  pub count_stops : (i : I) (s t : S) (most count n : ℕ) (x : A) → IsCounting i count s → steps s (Some (n, x)) t → count ≤ most → (count ≡ most) ⊎ Test x true → (b : Slice w) × IsBoundedRun w Test most true i n b × (length b.items ≡ count)
+  pub count_stops : (i : I) (s t : S) (most count n : ℕ) (x : A) → IsCounting i count s → steps s (Some (n, x)) t → count ≤ most → (count ≡ most) ⊎ Test x false → (b : Slice w) × IsRunSlice w Test (Some most) true i n b × (length b.items ≡ count)
   count_stops i s t most count n x h k b e =
       let r = next_in i s t count n x h k in
       let same : count ≡ length r.passed = sym r.counted in (
         record { items = r.passed; mark = w.mark i },
         record {
           first = record { rest = x ∷ r.rest; whole = r.whole; length_is = sym r.place; mark_is = refl };
-          is_run = record { whole = r.whole; meets = r.meets; stops = subst (λ c. (c ≡ most) ⊎ Test x true) same e };
+          meets = r.meets;
+          stops = subst (λ c. (c ≡ most) ⊎ Test x false) same e;
           bounded = omega (arith, r.counted, b);
           followed = λ _. omega arith;
         },
@@ -87,7 +88,7 @@ module _ {I A S : Type 0} (w : Seen I A) (Test : A → Bool → Type 0) (steps :
   ends_of i s t n passed [] e g k = e ∙ append-nil passed
   ends_of i s t n passed (y ∷ rest) e g k = absurd (g.0 t k)
 
-  pub count_ends : (i : I) (s t : S) (most count : ℕ) → IsCounting i count s → steps s None t → count ≤ most → All (λ x. Test x false) (w.elements i) × (length (w.elements i) ≡ count) × (count ≤ most)
+  pub count_ends : (i : I) (s t : S) (most count : ℕ) → IsCounting i count s → steps s None t → count ≤ most → All (λ x. Test x true) (w.elements i) × (length (w.elements i) ≡ count) × (count ≤ most)
   count_ends i s t most count h k b =
       let all : w.elements i ≡ h.passed = ends_of i s t (span w.weight h.passed) h.passed h.rest h.whole h.gives k in
-      (subst (All (λ x. Test x false)) (sym all) h.meets, ap length all ∙ h.counted, b)
+      (subst (All (λ x. Test x true)) (sym all) h.meets, ap length all ∙ h.counted, b)

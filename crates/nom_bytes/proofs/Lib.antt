@@ -1,4 +1,5 @@
 pub mod BoundedShown
 pub mod CountedWalks
-pub mod Lacks
 pub mod RunShown
+pub mod TagShown
+pub mod UntilShown

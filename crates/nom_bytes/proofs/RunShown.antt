@@ -1,50 +1,66 @@
--- What is shown of a run.
-use Rattle.std.proofs.Common.{◌≡◌, ℕ, ◌<◌, ◌≤◌, Bool, true, false, List, [], ◌∷◌, length, refl, sym, arith, append-nil}
-use Rattle.std.specs.List.{All}
-use Rattle.nom_traits.specs.Input.{Seen, InputLaws, span, input_len}
-use Rattle.nom_traits.specs.Runs.{EndsAt, run_all}
-use Rattle.nom_traits.specs.Slices.{Slice}
-use Rattle.nom_bytes.specs.ParsedRuns.{IsRunSlice}
+-- What a split of an input after its run shows.
+use Rattle.std.proofs.Common.{◌≡◌, ℕ, ◌-◌, ◌<◌, ◌≤◌, max, cond, ◌⊎◌, Bool, true, false, Result, Ok, Option, Some, None, List, [], ◌∷◌, length, refl, sym, ap, subst, arith, inl, inr}
+use Rattle.std.specs.Prelude as Std
+use Rattle.std.proofs.lemmas.List.Elements.{All-nil}
+use Rattle.nom_error.specs.declared.answer.Needed.{Needed}
+use Rattle.nom_error.specs.declared.answer.Err as Answer
+use Rattle.nom_error.specs.Answers.{Refuses}
+use Rattle.nom_traits.specs.Input.{Seen, InputLaws, span}
+use Rattle.nom_traits.specs.Runs.{Stops}
+use Rattle.nom_traits.specs.Slices.{Slice, IsSeenAs, front_seen}
+use Rattle.nom_traits.specs.Splits.{IsRunLength, IsRunEmpty, FrontBuilt, Splits}
+use Rattle.nom_internal.specs.Leaf.{LeafAnswers, leaf_meaning}
+use Rattle.nom_internal.specs.Meaning.{ShowsMeaning}
+use Rattle.nom_internal.proofs.Shown.{accepted, undecided, refused, built_error}
+use Rattle.nom_bytes.specs.ParsedRuns.{IsEnough, IsRunSlice, runs}
 
--- a run of length n, as a slice
-abbrev pub HasRun : {I A : Type 0} → Seen I A → (A → Bool → Type 0) → Bool → I → ℕ → Type 0
-HasRun w Test s i n = (t : Slice w) × IsRunSlice w Test s i n t
+-- what ends a run with no bound
+stops_ends : {A : Type 0} (Ends Fails : A → Type 0) → ((x : A) → Ends x → Fails x) → (xs : List A) → Stops Ends xs → Stops (λ x. ⊥ ⊎ Fails x) xs
+stops_ends Ends Fails f [] h = tt
+stops_ends Ends Fails f (x ∷ xs) h = inr (f x h)
 
-module _ {I A : Type 0} (w : Seen I A) (Passed Stopped : A → Type 0) (Test : A → Bool → Type 0) where
-  pub run_before : ((x : A) → Passed x → Test x false) → ((x : A) → Stopped x → Test x true) → (s : Bool) (i : I) (n : ℕ) → EndsAt w Passed Stopped i n → HasRun w Test s i n
-  run_before passed stopped s i n r = (
-    record { items = r.run; mark = w.mark i },
-    record {
-      first = record { rest = r.item ∷ r.rest; whole = r.is_run.whole; length_is = r.length_is; mark_is = refl };
-      is_run = record { whole = r.is_run.whole; meets = λ k d p. passed _ (r.is_run.meets k d p); stops = stopped r.item r.is_run.stops };
-      followed = λ _. omega arith;
-    },
-  )
+enough_items : {A : Type 0} (weight : A → ℕ) (wanted : Bool) (xs : List A) (n : ℕ) → span weight xs ≡ n → (wanted ≡ true → 0 < n) → cond wanted 1 0 ≤ length xs
+enough_items weight false xs n e h = omega arith
+enough_items weight true [] n e h = absurd (omega (arith, e, h refl))
+enough_items weight true (x ∷ xs) n e h = omega arith
 
-module _ {I A : Type 0} (w : Seen I A) (Test : A → Bool → Type 0) where
-  pub run_of_all : (s : Bool) (i : I) (n : ℕ) → s ≡ false → n ≡ input_len w i → All (λ x. Test x false) (w.elements i) → HasRun w Test s i n
-  run_of_all s i n e f h = (
-    record { items = w.elements i; mark = w.mark i },
-    record {
-      first = record { rest = []; whole = sym (append-nil (w.elements i)); length_is = sym f; mark_is = refl };
-      is_run = run_all (λ x. Test x false) (λ x. Test x true) (w.elements i) h;
-      followed = λ k. absurd (cc (e, k));
-    },
-  )
+none_enough : (wanted : Bool) (behind : ℕ) → wanted ≡ true → IsEnough (cond wanted 1 0) None 0 behind → ⊥
+none_enough true behind e (inl h) = omega (arith, h)
+none_enough true behind e (inr h) = h.0
+none_enough false behind e h = absurd (cc (e))
 
-module _ {A : Type 0} (weight : A → ℕ) (positive : (a : A) → 0 < weight a) where
-  -- a list of length 0 has no items, and another has some
-  no_items : (xs : List A) (n : ℕ) → span weight xs ≡ n → n ≡ 0 → length xs < 1
-  no_items [] n e h = omega arith
-  no_items (x ∷ xs) n e h = absurd (omega (arith, positive x, e, h))
+one_lacks : (wanted : Bool) (n : ℕ) → Some 1 ≡ Some (max 1 (cond wanted 1 0 - n))
+one_lacks true n = let one : 1 ≡ max 1 (1 - n) = omega arith in ap Some one
+one_lacks false n = let one : 1 ≡ max 1 (0 - n) = omega arith in ap Some one
 
-  some_items : (xs : List A) (n : ℕ) → span weight xs ≡ n → (n ≡ 0 → ⊥) → 1 ≤ length xs
-  some_items [] n e h = absurd (h (sym e))
-  some_items (x ∷ xs) n e h = omega arith
+module _ {I A : Type 0} (w : Seen I A) (l : InputLaws w) (Meets Ends : A → Type 0) (Test : A → Bool → Type 0) (meets : (x : A) → Meets x → Test x true) (ends : (x : A) → Ends x → Test x false) where
+  abbrev items_of : (s : Bool) (i : I) (n : ℕ) → IsRunLength w Meets Ends s i n → Slice w
+  items_of s i n r = record { items = r.run; mark = w.mark i }
 
-module _ {I A : Type 0} (w : Seen I A) (l : InputLaws w) (Test : A → Bool → Type 0) where
-  pub run_none : (s : Bool) (i : I) (n : ℕ) (t : Slice w) → IsRunSlice w Test s i n t → n ≡ 0 → length t.items < 1
-  run_none s i n t r e = no_items w.weight l.positive t.items n r.first.length_is e
+  abbrev run_of : (s : Bool) (i : I) (n : ℕ) (r : IsRunLength w Meets Ends s i n) → IsRunSlice w Test None s i n (items_of s i n r)
+  run_of s i n r = record {
+    first = record { rest = r.rest; whole = r.is_run.whole; length_is = r.length_is; mark_is = refl };
+    meets = λ k d p. meets _ (r.is_run.meets k d p);
+    bounded = tt;
+    stops = stops_ends Ends (λ x. Test x false) ends r.rest r.is_run.stops;
+    followed = r.followed;
+  }
 
-  pub run_some : (s : Bool) (i : I) (n : ℕ) (t : Slice w) → IsRunSlice w Test s i n t → (n ≡ 0 → ⊥) → 1 ≤ length t.items
-  run_some s i n t r h = some_items w.weight l.positive t.items n r.first.length_is h
+  abbrev no_run : (s : Bool) (i : I) → IsRunEmpty w Meets Ends s i → IsRunSlice w Test None s i 0 (record { items = []; mark = w.mark i })
+  no_run s i r = record {
+    first = record { rest = w.elements i; whole = refl; length_is = refl; mark_is = refl };
+    meets = All-nil (λ x. Test x true);
+    bounded = tt;
+    stops = stops_ends Ends (λ x. Test x false) ends (w.elements i) r.stops;
+    followed = r.followed;
+  }
+
+  -- a split after the run, where one item is wanted at least or none, shows the run's meaning, whatever its premise
+  pub split_shown : {E : Type 0} (wanted : Bool) (Blames : I → E → Type 0) (Grows : Type 0) (IsRefusal : Answer.Err E (Option E) Needed → Type 0) (outputs errors s : Bool) (i : I) → ((e : Answer.Err E (Option E) Needed) → IsRefusal e → Refuses (Blames i) Grows errors e) → (r : Result (I × Option I) (Answer.Err E (Option E) Needed)) → Splits w Meets Ends s i wanted (FrontBuilt w outputs) IsRefusal r → ShowsMeaning w (IsSeenAs w) (leaf_meaning (Unit {0}) Blames Grows (runs w Test None (cond wanted 1 0))) outputs errors s i r
+  split_shown wanted Blames Grows IsRefusal outputs errors s i refuses (Ok p) h =
+      let run = run_of s i h.0 h.1 in
+      accepted w (IsSeenAs w) outputs errors i _ (Blames i) _ h.0 (items_of s i h.0 h.1) p.0 p.1 h.3 (run, inl (enough_items w.weight wanted h.1.run h.0 h.1.length_is h.2)) (built_error outputs _ _ p.1 (λ v f. front_seen w l i h.0 v (items_of s i h.0 h.1) f run.first) h.4)
+  split_shown wanted Blames Grows IsRefusal outputs errors s i refuses (Std.Err e) (inl h) =
+      subst (λ f. ShowsMeaning w (IsSeenAs w) (leaf_meaning (Unit {0}) Blames Grows (runs w Test None (cond wanted 1 0))) outputs errors s i (Std.Err f)) (sym h.1.2) (undecided w (IsSeenAs w) outputs errors i _ (Blames i) _ (Some 1) h.1.0 h.1.1 (h.0.0, (λ k d p. meets _ (h.0.1 k d p), tt, one_lacks wanted (span w.weight (w.elements i)))))
+  split_shown wanted Blames Grows IsRefusal outputs errors s i refuses (Std.Err e) (inr h) =
+      refused w (IsSeenAs w) outputs errors i (LeafAnswers (runs w Test None (cond wanted 1 0)) s i) (Blames i) Grows e (refuses e h.2) (0, record { items = []; mark = w.mark i }, no_run s i h.1, none_enough wanted (length (w.elements i)) h.0)

@@ -1,9 +1,7 @@
-pub mod BoundedLaws
-pub mod BoundedRuns
-pub mod Fixed
 pub mod ParsedRuns
 pub mod Predicates
 pub mod RunLaws
+pub mod Stays
 pub mod TagLaws
 pub mod Tags
 pub mod TakeLaws

@@ -1,37 +1,64 @@
--- The run of an input, parsed.
-use Rattle.std.specs.Prelude.{◌≡◌, ℕ, ◌<◌, ◌≤◌, Bool, true, false, length, Some}
+-- The run of an input, parsed. How many items it may have is a bound: Some of a number, or None, as many as there are.
+use Rattle.std.specs.Prelude.{◌≡◌, ℕ, ◌-◌, ◌<◌, ◌≤◌, max, Bool, true, false, ◌⊎◌, length, Option, Some, None}
 use Rattle.std.specs.List.{All}
-use Rattle.nom_traits.specs.Input.{Seen}
+use Rattle.nom_error.specs.declared.kind.ErrorKind.{ErrorKind}
+use Rattle.nom_error.specs.declared.kind.ErrorKind.TheVariants as Kind
+use Rattle.nom_error.specs.Errors.{Errors}
+use Rattle.nom_traits.specs.Input.{Seen, input_len}
 use Rattle.nom_traits.specs.Slices.{Slice, IsFirst}
-use Rattle.nom_traits.specs.Runs.{IsRun}
-use Rattle.nom_internal.specs.Outcome.{Outcome}
-use Rattle.nom_internal.specs.Outcome.Outcome.{Accept, Refuse, Fail, TooLarge, Undecided}
+use Rattle.nom_traits.specs.Runs.{Stops}
 use Rattle.nom_internal.specs.Meaning.{Meaning}
+use Rattle.nom_internal.specs.Leaf.{Leaf, leaf_meaning}
 
--- Stops is what the test answers: true at an item where the run ends, false at an item of the run.
-module _ {I A : Type 0} (w : Seen I A) (Stops : A → Bool → Type 0) where
-  -- The slice is the run of i, of length n: the longest list of first items at which the test doesn't stop. Where more may come, an
-  -- item follows it, since more might make it longer.
+-- no more than the bound
+abbrev pub IsWithin : Option ℕ → ℕ → Type 0
+IsWithin (Some most) count = count ≤ most
+IsWithin None count = Unit {0}
+
+-- as many as the bound
+abbrev pub IsFull : Option ℕ → ℕ → Type 0
+IsFull (Some most) count = count ≡ most
+IsFull None count = ⊥
+
+-- a number of items, with so many behind them, is enough: as many as are wanted at least, or as many as the bound, and an item behind
+abbrev pub IsEnough : (least : ℕ) (bound : Option ℕ) (count behind : ℕ) → Type 0
+IsEnough least bound count behind = (least ≤ count) ⊎ (IsFull bound count × (0 < behind))
+
+-- Test is what the test answers at an item: true where the item meets it.
+module _ {I A : Type 0} (w : Seen I A) (Test : A → Bool → Type 0) (bound : Option ℕ) where
+  -- The slice is the run of i, of length n: the longest list of first items, no more than the bound, that all meet the test. Where more
+  -- may come, an item follows it, since more might make it longer.
   pub record IsRunSlice (streaming : Bool) (i : I) (n : ℕ) (t : Slice w) : Type 0 where
     pub first : IsFirst w i n t
-    pub is_run : IsRun (λ x. Stops x false) (λ x. Stops x true) (w.elements i) t.items first.rest
+    pub meets : All (λ x. Test x true) t.items
+    pub bounded : IsWithin bound (length t.items)
+    pub stops : Stops (λ x. IsFull bound (length t.items) ⊎ Test x false) first.rest
     pub followed : streaming ≡ true → 0 < length first.rest
 
-  -- the run, where it has as many items as are wanted at least, and else a refusal; where more may come and no item follows, more is needed
-  abbrev pub ParsesRun : ℕ → Bool → I → Outcome (Slice w) → Type 0
-  ParsesRun least s i (Accept n t) = IsRunSlice s i n t × (least ≤ length t.items)
-  ParsesRun least s i Refuse = (n : ℕ) × (t : Slice w) × IsRunSlice s i n t × (length t.items < least)
-  ParsesRun least s i Fail = ⊥
-  ParsesRun least s i TooLarge = ⊥
-  ParsesRun least s i (Undecided k) = (s ≡ true) × All (λ x. Stops x false) (w.elements i) × (k ≡ Some 1)
-
-  -- Sound is the test's premise, Blames the errors of a refusal, and Grows whether making one may take memory.
-  abbrev pub run_meaning : {E : Type 0} → Type 0 → (I → E → Type 0) → Type 0 → ℕ → Meaning I (Slice w) E
-  run_meaning Sound Blames Grows least = record {
-    IsSound = Sound;
-    answers = ParsesRun least;
-    blames = λ s. Blames;
-    runs_out = λ outputs errors s i. ParsesRun least s i Refuse × (errors ≡ true) × Grows;
-    IsFrugal = λ outputs errors. errors ≡ true → Grows → ⊥;
-    Settles = Unit {0};
+  -- The run, where it is enough, and else a refusal. Where more may come and might make it longer, more is needed: what the input's length
+  -- lacks of the number that is wanted at least, and 1 at least.
+  abbrev pub runs : (least : ℕ) → Leaf I (Slice w)
+  runs least = record {
+    Accepts = λ s i n t. (r : IsRunSlice s i n t) × IsEnough least bound (length t.items) (length r.first.rest);
+    Refuses = λ s i. (n : ℕ) × (t : Slice w) × (r : IsRunSlice s i n t) × (IsEnough least bound (length t.items) (length r.first.rest) → ⊥);
+    Lacks = λ i k. All (λ x. Test x true) (w.elements i) × IsWithin bound (length (w.elements i)) × (k ≡ Some (max 1 (least - input_len w i)));
   }
+
+-- IsSound is the test's premise.
+module _ {I A : Type 0} (w : Seen I A) (Test : A → Bool → Type 0) (IsSound : Type 0) where
+  -- a run that may be empty: nothing is refused
+  abbrev pub run_meaning : {E : Type 0} → Meaning I (Slice w) E
+  run_meaning = leaf_meaning IsSound (λ _ _. ⊥) ⊥ (runs w Test None 0)
+
+  -- a run of one item at least
+  abbrev pub run1_meaning : {E : Type 0} → Errors I E → ErrorKind → Meaning I (Slice w) E
+  run1_meaning errs kind = leaf_meaning IsSound (λ i. errs.of_kind i kind) errs.grows (runs w Test None 1)
+
+  abbrev pub bounded_meaning : {E : Type 0} → Errors I E → (least most : ℕ) → Meaning I (Slice w) E
+  bounded_meaning errs least most = leaf_meaning IsSound (λ i. errs.of_kind i Kind.TakeWhileMN) errs.grows (runs w Test (Some most) least)
+
+module _ {I A : Type 0} (w : Seen I A) (Test : A → Bool → Type 0) (most : ℕ) where
+  -- how far a run under a bound reaches, and how many items it has: to an item that follows it, or through all of the input
+  abbrev pub Reaches : I → Option ℕ → ℕ → Type 0
+  Reaches i (Some n) count = (t : Slice w) × IsRunSlice w Test (Some most) true i n t × (length t.items ≡ count)
+  Reaches i None count = All (λ x. Test x true) (w.elements i) × (length (w.elements i) ≡ count) × (count ≤ most)

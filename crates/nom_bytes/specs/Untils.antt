@@ -1,23 +1,21 @@
 -- Items up to the first place of a needle.
 use Rattle.std.specs.Prelude.{◌≡◌, ℕ, ◌<◌, Bool, true, false, ◌⊎◌, List, Option, Some, None}
-use Rattle.nom_error.specs.declared.kind.ErrorKind.{ErrorKind}
 use Rattle.nom_error.specs.declared.kind.ErrorKind.TheVariants as Kind
+use Rattle.nom_error.specs.Errors.{Errors}
 use Rattle.nom_traits.specs.Input.{Seen}
 use Rattle.nom_traits.specs.Slices.{Slice, IsFirst}
-use Rattle.nom_internal.specs.Outcome.{Outcome}
-use Rattle.nom_internal.specs.Outcome.Outcome.{Accept, Refuse, Fail, TooLarge, Undecided}
 use Rattle.nom_internal.specs.Meaning.{Meaning}
-use Rattle.nom_internal.specs.Leaf.{leaf_meaning}
+use Rattle.nom_internal.specs.Leaf.{Leaf, leaf_meaning}
 
 module _ {I A : Type 0} (w : Seen I A) where
   -- The items before the first place of a needle, and at least one where that is asked for: else it is refused. Where there
   -- is no such place, more is needed, and none can tell how much; in the complete mode it is refused.
-  abbrev pub Untils : {T : Type 0} → (T → List A → Option ℕ → Type 0) → (one : Bool) → T → Bool → I → Outcome (Slice w) → Type 0
-  Untils Finds one needle s i (Accept n t) = IsFirst w i n t × Finds needle (w.elements i) (Some n) × (one ≡ true → 0 < n)
-  Untils Finds one needle s i Refuse = ((s ≡ false) × Finds needle (w.elements i) None) ⊎ ((one ≡ true) × Finds needle (w.elements i) (Some 0))
-  Untils Finds one needle s i Fail = ⊥
-  Untils Finds one needle s i TooLarge = ⊥
-  Untils Finds one needle s i (Undecided k) = (s ≡ true) × Finds needle (w.elements i) None × (k ≡ None)
+  abbrev pub untils : {T : Type 0} → (T → List A → Option ℕ → Type 0) → (one : Bool) → T → Leaf I (Slice w)
+  untils Finds one needle = record {
+    Accepts = λ s i n t. IsFirst w i n t × Finds needle (w.elements i) (Some n) × (one ≡ true → 0 < n);
+    Refuses = λ s i. ((s ≡ false) × Finds needle (w.elements i) None) ⊎ ((one ≡ true) × Finds needle (w.elements i) (Some 0));
+    Lacks = λ i k. Finds needle (w.elements i) None × (k ≡ None);
+  }
 
-  abbrev pub until_meaning : {T E : Type 0} → (I → ErrorKind → E → Type 0) → Type 0 → (T → List A → Option ℕ → Type 0) → (one : Bool) → T → Meaning I (Slice w) E
-  until_meaning Gives Grows Finds one needle = leaf_meaning Gives Grows Kind.TakeUntil (Untils Finds one needle)
+  abbrev pub until_meaning : {T E : Type 0} → Errors I E → (T → List A → Option ℕ → Type 0) → (one : Bool) → T → Meaning I (Slice w) E
+  until_meaning errs Finds one needle = leaf_meaning (Unit {0}) (λ i. errs.of_kind i Kind.TakeUntil) errs.grows (untils Finds one needle)

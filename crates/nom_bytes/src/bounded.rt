@@ -1,10 +1,12 @@
 //! The parser of runs with a bound.
-ghost use Rattle.std.specs.Prelude.{◌≡◌, ◌-◌, ℕ, max};
+ghost use Rattle.std.specs.Prelude.{◌≡◌, ◌-◌, ℕ, max, Some};
+ghost use Rattle.nom_error.specs.declared.kind.ErrorKind.TheVariants as Kind;
 ghost use Rattle.nom_traits.specs.Slices.{Slice, IsSeenAs};
-ghost use Rattle.nom_bytes.specs.BoundedRuns.{IsReach, bounded_meaning};
-ghost use Rattle.nom_bytes.specs.BoundedLaws.{bounded_lawful, bounded_steady};
+ghost use Rattle.nom_internal.specs.Pinned.{slice_pinned};
+ghost use Rattle.nom_bytes.specs.ParsedRuns.{Reaches, bounded_meaning};
+ghost use Rattle.nom_bytes.specs.RunLaws.{run_lawful, run_steady};
 
-use crate::predicate::{Predicate, StopsUnless};
+use crate::predicate::{Predicate, Where};
 use nom_error::answer::{Err, Needed, PResult};
 use nom_error::kind::ErrorKind;
 use nom_error::mode::{IsStreaming, OutputMode};
@@ -23,13 +25,13 @@ fn bounded_run<I: Input, P: Predicate<I::Item>>(
     most: usize,
 ) -> (Option<usize>, usize)
     requires { P.IsSound (P.state predicate.now) }
-    ensures { IsReach I.seen (P.answers (P.state predicate.now)) most input result.0 result.1 }
+    ensures { Reaches I.seen (P.answers (P.state predicate.now)) most input result.0 result.1 }
 {
     let mut count = 0usize;
     for (index, item) in input.iter_indices() {
         // Each item that is given goes to the test, since an item may not be one to let go.
-        let stops = predicate.stops(item);
-        if count == most || stops {
+        let meets = predicate.meets(item);
+        if count == most || !meets {
             return (Some(index), count);
         }
         count += 1;
@@ -47,14 +49,14 @@ fn lack(least: usize, length: usize) -> usize
 
 /// A run of `m` items at least and `n` at most, made by `take_while_m_n`.
 #[derive(Drop)]
-pub struct TakeWhileMN<P, E> {
+pub struct TakeWhileMN<P, I, E> {
     pub m: usize,
     pub n: usize,
     pub predicate: P,
-    pub error: PhantomData<E>,
+    pub error: PhantomData<(I, E)>,
 }
 
-impl<I: Input, P: Predicate<I::Item>, E: ParseError<I>> Parser<I> for TakeWhileMN<P, E> {
+impl<I: Input, P: Predicate<I::Item>, E: ParseError<I>> Parser<I> for TakeWhileMN<P, I, E> {
     type Output = I;
 
     type Error = E;
@@ -67,7 +69,9 @@ impl<I: Input, P: Predicate<I::Item>, E: ParseError<I>> Parser<I> for TakeWhileM
 
     ghost IsOutput = { λ _. IsSeenAs I.seen };
 
-    ghost meaning = { λ s. bounded_meaning I.seen (P.answers s.0) s.2 (P.IsSound s.0) E.errors.of_kind E.errors.grows s.1 };
+    ghost meaning = { λ s. bounded_meaning I.seen (P.answers s.0) (P.IsSound s.0) E.errors s.1 s.2 };
+
+    ghost Pins = { λ _. Unit {0} };
 
     #[inline(always)]
     fn process<OM: OutputMode>(&mut self, input: I) -> PResult<I, I, E> {
@@ -91,11 +95,13 @@ impl<I: Input, P: Predicate<I::Item>, E: ParseError<I>> Parser<I> for TakeWhileM
         }
     }
 
-    ghost lawful = { λ s. bounded_lawful I.seen I.Item.IsValue I.values (P.answers s.0) (P.IsSound s.0) (P.fixed s.0) E.errors.of_kind E.errors.grows s.2 s.1 };
+    ghost lawful = { λ s k. run_lawful I.seen I.Item.IsValue I.values (P.answers s.0) (P.fixed s.0 k) (Some s.2) s.1 (P.IsSound s.0) (λ i. E.errors.of_kind i Kind.TakeWhileMN) E.errors.grows };
 }
 
-impl<I: Input, P: Predicate<I::Item>, E: ParseError<I>> StreamParser<I> for TakeWhileMN<P, E> {
-    ghost steady = { λ s. bounded_steady I.seen I.Item.IsValue I.values (P.answers s.0) (P.IsSound s.0) (P.fixed s.0) E.errors.of_kind E.errors.grows s.2 s.1 };
+impl<I: Input, P: Predicate<I::Item>, E: ParseError<I>> StreamParser<I> for TakeWhileMN<P, I, E> {
+    ghost pinned = { λ s k p. slice_pinned I.seen I.view I.views };
+
+    ghost steady = { λ s k. run_steady I.seen I.Item.IsValue I.values (P.answers s.0) (P.fixed s.0 k) (Some s.2) s.1 (P.IsSound s.0) (λ i. E.errors.of_kind i Kind.TakeWhileMN) E.errors.grows };
 }
 
 /// The first items that meet the test, `m` at least and `n` at most.
@@ -105,7 +111,7 @@ impl<I: Input, P: Predicate<I::Item>, E: ParseError<I>> StreamParser<I> for Take
 /// before, streaming asks for more: for what the input's length lacks of `m`, or else for 1. Complete
 /// accepts all where there are `m` items at least, and else refuses so.
 #[inline(always)]
-pub fn take_while_m_n<F, E>(m: usize, n: usize, predicate: F) -> TakeWhileMN<StopsUnless<F>, E>
+pub fn take_while_m_n<F, I, E>(m: usize, n: usize, predicate: F) -> TakeWhileMN<Where<F>, I, E>
     ensures least { result.m ≡ m }
     ensures most { result.n ≡ n }
     ensures predicate { result.predicate.test ≡ predicate }
@@ -113,7 +119,7 @@ pub fn take_while_m_n<F, E>(m: usize, n: usize, predicate: F) -> TakeWhileMN<Sto
     TakeWhileMN {
         m,
         n,
-        predicate: StopsUnless { test: predicate },
+        predicate: Where { test: predicate },
         error: PhantomData,
     }
 }

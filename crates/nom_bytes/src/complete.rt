@@ -1,152 +1,117 @@
 //! Parsers of items in one mode: the input is complete, whatever mode is asked for.
 ghost use Rattle.std.specs.Prelude.{◌≡◌};
 
-use crate::predicate::{StopsIn, StopsOutside, StopsUnless, StopsWhere};
+use crate::predicate::{Outside, Unless, Where, Within};
 use crate::{
     Fixed, SplitPosition, SplitPosition1, Tag, TagNoCase, Take, TakeUntil, TakeUntil1, TakeWhileMN,
 };
 use nom_error::kind::ErrorKind;
 use nom_error::mode::Complete;
-use std::marker::PhantomData;
+use nom_internal::one_mode::fixed;
+use nom_traits::convert::ToUsize;
 
 /// `bytes::take` in the complete mode.
 #[inline(always)]
-pub fn take<E>(count: usize) -> Fixed<Take<E>, Complete>
-    ensures { result.parser.count ≡ count }
+pub fn take<C: ToUsize + Drop, I, E>(count: C) -> Fixed<Take<I, E>, Complete>
+    ensures { result.parser.count ≡ C.size count }
 {
-    Fixed {
-        parser: crate::take(count),
-        mode: PhantomData,
-    }
+    fixed(crate::take(count))
 }
 
 /// `bytes::tag` in the complete mode.
 #[inline(always)]
-pub fn tag<T: Copy, E>(tag: T) -> Fixed<Tag<T, E>, Complete>
+pub fn tag<T: Copy, I, E>(tag: T) -> Fixed<Tag<T, I, E>, Complete>
     ensures { result.parser.tag ≡ tag }
 {
-    Fixed {
-        parser: crate::tag(tag),
-        mode: PhantomData,
-    }
+    fixed(crate::tag(tag))
 }
 
 /// `bytes::tag_no_case` in the complete mode.
 #[inline(always)]
-pub fn tag_no_case<T: Copy, E>(tag: T) -> Fixed<TagNoCase<T, E>, Complete>
+pub fn tag_no_case<T: Copy, I, E>(tag: T) -> Fixed<TagNoCase<T, I, E>, Complete>
     ensures { result.parser.tag ≡ tag }
 {
-    Fixed {
-        parser: crate::tag_no_case(tag),
-        mode: PhantomData,
-    }
+    fixed(crate::tag_no_case(tag))
 }
 
 /// `bytes::take_while` in the complete mode.
 #[inline(always)]
-pub fn take_while<F, E>(test: F) -> Fixed<SplitPosition<StopsUnless<F>, E>, Complete>
+pub fn take_while<F, I, E>(test: F) -> Fixed<SplitPosition<Where<F>, I, E>, Complete>
     ensures { result.parser.predicate.test ≡ test }
 {
-    Fixed {
-        parser: crate::take_while(test),
-        mode: PhantomData,
-    }
+    fixed(crate::take_while(test))
 }
 
 /// `bytes::take_while1` in the complete mode.
 #[inline(always)]
-pub fn take_while1<F, E>(test: F) -> Fixed<SplitPosition1<StopsUnless<F>, E>, Complete>
+pub fn take_while1<F, I, E>(test: F) -> Fixed<SplitPosition1<Where<F>, I, E>, Complete>
     ensures predicate { result.parser.predicate.test ≡ test }
     ensures kind { result.parser.kind ≡ ErrorKind.TakeWhile1 }
 {
-    Fixed {
-        parser: crate::take_while1(test),
-        mode: PhantomData,
-    }
+    fixed(crate::take_while1(test))
 }
 
 /// `bytes::take_till` in the complete mode.
 #[inline(always)]
-pub fn take_till<F, E>(test: F) -> Fixed<SplitPosition<StopsWhere<F>, E>, Complete>
+pub fn take_till<F, I, E>(test: F) -> Fixed<SplitPosition<Unless<F>, I, E>, Complete>
     ensures { result.parser.predicate.test ≡ test }
 {
-    Fixed {
-        parser: crate::take_till(test),
-        mode: PhantomData,
-    }
+    fixed(crate::take_till(test))
 }
 
 /// `bytes::take_till1` in the complete mode.
 #[inline(always)]
-pub fn take_till1<F, E>(test: F) -> Fixed<SplitPosition1<StopsWhere<F>, E>, Complete>
+pub fn take_till1<F, I, E>(test: F) -> Fixed<SplitPosition1<Unless<F>, I, E>, Complete>
     ensures predicate { result.parser.predicate.test ≡ test }
     ensures kind { result.parser.kind ≡ ErrorKind.TakeTill1 }
 {
-    Fixed {
-        parser: crate::take_till1(test),
-        mode: PhantomData,
-    }
+    fixed(crate::take_till1(test))
 }
 
 /// `bytes::take_until` in the complete mode.
 #[inline(always)]
-pub fn take_until<T: Copy, E>(tag: T) -> Fixed<TakeUntil<T, E>, Complete>
+pub fn take_until<T: Copy, I, E>(tag: T) -> Fixed<TakeUntil<T, I, E>, Complete>
     ensures { result.parser.tag ≡ tag }
 {
-    Fixed {
-        parser: crate::take_until(tag),
-        mode: PhantomData,
-    }
+    fixed(crate::take_until(tag))
 }
 
 /// `bytes::take_until1` in the complete mode.
 #[inline(always)]
-pub fn take_until1<T: Copy, E>(tag: T) -> Fixed<TakeUntil1<T, E>, Complete>
+pub fn take_until1<T: Copy, I, E>(tag: T) -> Fixed<TakeUntil1<T, I, E>, Complete>
     ensures { result.parser.tag ≡ tag }
 {
-    Fixed {
-        parser: crate::take_until1(tag),
-        mode: PhantomData,
-    }
+    fixed(crate::take_until1(tag))
 }
 
 /// `bytes::take_while_m_n` in the complete mode.
 #[inline(always)]
-pub fn take_while_m_n<F, E>(
+pub fn take_while_m_n<F, I, E>(
     m: usize,
     n: usize,
     predicate: F,
-) -> Fixed<TakeWhileMN<StopsUnless<F>, E>, Complete>
+) -> Fixed<TakeWhileMN<Where<F>, I, E>, Complete>
     ensures least { result.parser.m ≡ m }
     ensures most { result.parser.n ≡ n }
     ensures predicate { result.parser.predicate.test ≡ predicate }
 {
-    Fixed {
-        parser: crate::take_while_m_n(m, n, predicate),
-        mode: PhantomData,
-    }
+    fixed(crate::take_while_m_n(m, n, predicate))
 }
 
 /// `bytes::is_a` in the complete mode.
 #[inline(always)]
-pub fn is_a<T, E>(list: T) -> Fixed<SplitPosition1<StopsOutside<T>, E>, Complete>
+pub fn is_a<T, I, E>(list: T) -> Fixed<SplitPosition1<Within<T>, I, E>, Complete>
     ensures predicate { result.parser.predicate.list ≡ list }
     ensures kind { result.parser.kind ≡ ErrorKind.IsA }
 {
-    Fixed {
-        parser: crate::is_a(list),
-        mode: PhantomData,
-    }
+    fixed(crate::is_a(list))
 }
 
 /// `bytes::is_not` in the complete mode.
 #[inline(always)]
-pub fn is_not<T, E>(list: T) -> Fixed<SplitPosition1<StopsIn<T>, E>, Complete>
+pub fn is_not<T, I, E>(list: T) -> Fixed<SplitPosition1<Outside<T>, I, E>, Complete>
     ensures predicate { result.parser.predicate.list ≡ list }
     ensures kind { result.parser.kind ≡ ErrorKind.IsNot }
 {
-    Fixed {
-        parser: crate::is_not(list),
-        mode: PhantomData,
-    }
+    fixed(crate::is_not(list))
 }

@@ -1,6 +1,7 @@
 //! The parsers of items.
 ghost use Rattle.std.specs.Prelude.{◌≡◌, ℕ};
 ghost use Rattle.nom_traits.specs.Slices.{Slice, IsSeenAs};
+ghost use Rattle.nom_internal.specs.Pinned.{slice_pinned};
 ghost use Rattle.nom_bytes.specs.Takes.{take_meaning};
 ghost use Rattle.nom_bytes.specs.TakeLaws.{take_lawful, take_steady};
 ghost use Rattle.nom_bytes.specs.Tags.{tag_meaning};
@@ -18,12 +19,12 @@ use std::marker::PhantomData;
 
 /// A number of items, made by `take`.
 #[derive(Drop)]
-pub struct Take<E> {
+pub struct Take<I, E> {
     pub count: usize,
-    pub error: PhantomData<E>,
+    pub error: PhantomData<(I, E)>,
 }
 
-impl<I: Input, E: ParseError<I>> Parser<I> for Take<E> {
+impl<I: Input, E: ParseError<I>> Parser<I> for Take<I, E> {
     type Output = I;
 
     type Error = E;
@@ -36,7 +37,9 @@ impl<I: Input, E: ParseError<I>> Parser<I> for Take<E> {
 
     ghost IsOutput = { λ _. IsSeenAs I.seen };
 
-    ghost meaning = { λ count. take_meaning I.seen E.errors.of_kind E.errors.grows I.lack count };
+    ghost meaning = { λ count. take_meaning I.seen E.errors I.lack count };
+
+    ghost Pins = { λ _. Unit {0} };
 
     #[inline(always)]
     fn process<OM: OutputMode>(&mut self, input: I) -> PResult<I, I, E> {
@@ -47,21 +50,23 @@ impl<I: Input, E: ParseError<I>> Parser<I> for Take<E> {
         }
     }
 
-    ghost lawful = { take_lawful I.seen E.errors.of_kind E.errors.grows I.lack };
+    ghost lawful = { λ count k. take_lawful I.seen E.errors I.lack count };
 }
 
-impl<I: Input, E: ParseError<I>> StreamParser<I> for Take<E> {
-    ghost steady = { take_steady I.seen E.errors.of_kind E.errors.grows I.lack };
+impl<I: Input, E: ParseError<I>> StreamParser<I> for Take<I, E> {
+    ghost pinned = { λ s k p. slice_pinned I.seen I.view I.views };
+
+    ghost steady = { λ count k. take_steady I.seen E.errors I.lack count };
 }
 
 /// A tag, made by `tag`.
 #[derive(Drop)]
-pub struct Tag<T, E> {
+pub struct Tag<T, I, E> {
     pub tag: T,
-    pub error: PhantomData<E>,
+    pub error: PhantomData<(I, E)>,
 }
 
-impl<T: Copy, I: Input + Compare<T>, E: ParseError<I>> Parser<I> for Tag<T, E> {
+impl<T: Copy, I: Input + Compare<T>, E: ParseError<I>> Parser<I> for Tag<T, I, E> {
     type Output = I;
 
     type Error = E;
@@ -75,7 +80,9 @@ impl<T: Copy, I: Input + Compare<T>, E: ParseError<I>> Parser<I> for Tag<T, E> {
 
     ghost IsOutput = { λ _. IsSeenAs I.seen };
 
-    ghost meaning = { λ tag. tag_meaning I.seen E.errors.of_kind E.errors.grows I.tag_size I.compares tag };
+    ghost meaning = { λ tag. tag_meaning I.seen E.errors I.tag_size I.compares tag };
+
+    ghost Pins = { λ _. Unit {0} };
 
     #[inline(always)]
     fn process<OM: OutputMode>(&mut self, input: I) -> PResult<I, I, E> {
@@ -94,9 +101,11 @@ impl<T: Copy, I: Input + Compare<T>, E: ParseError<I>> Parser<I> for Tag<T, E> {
         }
     }
 
-    ghost lawful = { tag_lawful I.seen I.lawful E.errors.of_kind E.errors.grows I.tag_size I.compares I.comparing };
+    ghost lawful = { λ tag k. tag_lawful I.seen I.lawful E.errors I.tag_size I.compares I.comparing tag };
 }
 
-impl<T: Copy, I: Input + Compare<T>, E: ParseError<I>> StreamParser<I> for Tag<T, E> {
-    ghost steady = { tag_steady I.seen I.lawful E.errors.of_kind E.errors.grows I.tag_size I.compares I.comparing };
+impl<T: Copy, I: Input + Compare<T>, E: ParseError<I>> StreamParser<I> for Tag<T, I, E> {
+    ghost pinned = { λ s k p. slice_pinned I.seen I.view I.views };
+
+    ghost steady = { λ tag k. tag_steady I.seen I.lawful E.errors I.tag_size I.compares I.comparing tag };
 }

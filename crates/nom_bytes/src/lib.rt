@@ -5,35 +5,33 @@ ghost use Rattle.std.specs.Prelude.{◌≡◌};
 
 mod bounded;
 pub mod complete;
-mod fixed;
 mod leaf;
 mod no_case;
 pub mod predicate;
 mod run;
 mod run_of_one;
 pub mod streaming;
-#[cfg(test)]
-mod tests;
 mod until;
 
 pub use crate::bounded::{TakeWhileMN, take_while_m_n};
-pub use crate::fixed::Fixed;
 pub use crate::leaf::{Tag, Take};
 pub use crate::no_case::TagNoCase;
 pub use crate::run::{SplitPosition, take_till, take_while};
 pub use crate::run_of_one::{SplitPosition1, is_a, is_not, take_till1, take_while1};
 pub use crate::until::{TakeUntil, TakeUntil1};
+pub use nom_internal::fixed::Fixed;
+use nom_traits::convert::ToUsize;
 use std::marker::PhantomData;
 
 /// The first `count` items: bytes of a byte slice, characters of a text.
 ///
 /// Where there are fewer, streaming asks for the rest, and complete refuses with `Eof`.
 #[inline(always)]
-pub fn take<E>(count: usize) -> Take<E>
-    ensures { result.count ≡ count }
+pub fn take<C: ToUsize + Drop, I, E>(count: C) -> Take<I, E>
+    ensures { result.count ≡ C.size count }
 {
     Take {
-        count,
+        count: count.to_usize(),
         error: PhantomData,
     }
 }
@@ -43,7 +41,7 @@ pub fn take<E>(count: usize) -> Take<E>
 /// Any other input is refused with `Tag`. Where the input is only a beginning of the tag, streaming
 /// asks for the rest of the tag, and complete refuses.
 #[inline(always)]
-pub fn tag<T: Copy, E>(tag: T) -> Tag<T, E>
+pub fn tag<T: Copy, I, E>(tag: T) -> Tag<T, I, E>
     ensures { result.tag ≡ tag }
 {
     Tag {
@@ -57,7 +55,7 @@ pub fn tag<T: Copy, E>(tag: T) -> Tag<T, E>
 ///
 /// It refuses and asks for more as `tag` does.
 #[inline(always)]
-pub fn tag_no_case<T: Copy, E>(tag: T) -> TagNoCase<T, E>
+pub fn tag_no_case<T: Copy, I, E>(tag: T) -> TagNoCase<T, I, E>
     ensures { result.tag ≡ tag }
 {
     TagNoCase {
@@ -70,7 +68,7 @@ pub fn tag_no_case<T: Copy, E>(tag: T) -> TagNoCase<T, E>
 ///
 /// Where the needle stands nowhere, streaming asks for more, and complete refuses with `TakeUntil`.
 #[inline(always)]
-pub fn take_until<T: Copy, E>(tag: T) -> TakeUntil<T, E>
+pub fn take_until<T: Copy, I, E>(tag: T) -> TakeUntil<T, I, E>
     ensures { result.tag ≡ tag }
 {
     TakeUntil {
@@ -81,7 +79,7 @@ pub fn take_until<T: Copy, E>(tag: T) -> TakeUntil<T, E>
 
 /// `take_until`, one item at least: a needle at the start is refused with `TakeUntil`.
 #[inline(always)]
-pub fn take_until1<T: Copy, E>(tag: T) -> TakeUntil1<T, E>
+pub fn take_until1<T: Copy, I, E>(tag: T) -> TakeUntil1<T, I, E>
     ensures { result.tag ≡ tag }
 {
     TakeUntil1 {

@@ -1,5 +1,6 @@
 //! Tags without the case of ASCII letters.
 ghost use Rattle.nom_traits.specs.Slices.{Slice, IsSeenAs};
+ghost use Rattle.nom_internal.specs.Pinned.{slice_pinned};
 ghost use Rattle.nom_bytes.specs.Tags.{tag_meaning};
 ghost use Rattle.nom_bytes.specs.TagLaws.{tag_lawful, tag_steady};
 
@@ -15,12 +16,12 @@ use std::marker::PhantomData;
 
 /// A tag without the case of ASCII letters, made by `tag_no_case`.
 #[derive(Drop)]
-pub struct TagNoCase<T, E> {
+pub struct TagNoCase<T, I, E> {
     pub tag: T,
-    pub error: PhantomData<E>,
+    pub error: PhantomData<(I, E)>,
 }
 
-impl<T: Copy, I: Input + Compare<T>, E: ParseError<I>> Parser<I> for TagNoCase<T, E> {
+impl<T: Copy, I: Input + Compare<T>, E: ParseError<I>> Parser<I> for TagNoCase<T, I, E> {
     type Output = I;
 
     type Error = E;
@@ -34,7 +35,9 @@ impl<T: Copy, I: Input + Compare<T>, E: ParseError<I>> Parser<I> for TagNoCase<T
 
     ghost IsOutput = { λ _. IsSeenAs I.seen };
 
-    ghost meaning = { λ tag. tag_meaning I.seen E.errors.of_kind E.errors.grows I.tag_size I.compares_no_case tag };
+    ghost meaning = { λ tag. tag_meaning I.seen E.errors I.tag_size I.compares_no_case tag };
+
+    ghost Pins = { λ _. Unit {0} };
 
     #[inline(always)]
     fn process<OM: OutputMode>(&mut self, input: I) -> PResult<I, I, E> {
@@ -53,9 +56,11 @@ impl<T: Copy, I: Input + Compare<T>, E: ParseError<I>> Parser<I> for TagNoCase<T
         }
     }
 
-    ghost lawful = { tag_lawful I.seen I.lawful E.errors.of_kind E.errors.grows I.tag_size I.compares_no_case I.comparing_no_case };
+    ghost lawful = { λ tag k. tag_lawful I.seen I.lawful E.errors I.tag_size I.compares_no_case I.comparing_no_case tag };
 }
 
-impl<T: Copy, I: Input + Compare<T>, E: ParseError<I>> StreamParser<I> for TagNoCase<T, E> {
-    ghost steady = { tag_steady I.seen I.lawful E.errors.of_kind E.errors.grows I.tag_size I.compares_no_case I.comparing_no_case };
+impl<T: Copy, I: Input + Compare<T>, E: ParseError<I>> StreamParser<I> for TagNoCase<T, I, E> {
+    ghost pinned = { λ s k p. slice_pinned I.seen I.view I.views };
+
+    ghost steady = { λ tag k. tag_steady I.seen I.lawful E.errors I.tag_size I.compares_no_case I.comparing_no_case tag };
 }

@@ -1,4 +1,4 @@
-//! Tests of items, at which a run stops.
+//! Tests that the items of a run meet.
 ghost use Rattle.std.specs.Prelude.{◌↔◌, IsTrue, Bool, true, false, not};
 ghost use Rattle.nom_bytes.specs.Predicates.{IsFixed, one_answer};
 
@@ -12,14 +12,14 @@ pub trait Predicate<T: Value> {
 
     ghost state: { Self → State };
 
-    /// What it answers at an item.
+    /// What it answers at an item: true where the item meets it.
     ghost answers: { State → T → Bool → Type 0 };
 
     /// The premise: it may be called at each item, and answers no item in both ways.
     ghost IsSound: { State → Type 0 };
 
-    /// Whether a run stops at the item.
-    fn stops(&self, item: T) -> bool
+    /// Whether the item meets the test.
+    fn meets(&self, item: T) -> bool
         requires { IsSound (state self.now) }
         ensures { answers (state self.now) item result };
 
@@ -27,13 +27,13 @@ pub trait Predicate<T: Value> {
     ghost fixed: { (s : State) → IsSound s → IsFixed T.IsValue (answers s) };
 }
 
-/// Stops where the closure answers true.
+/// The items at which the closure answers true.
 #[derive(Drop)]
-pub struct StopsWhere<F> {
+pub struct Where<F> {
     pub test: F,
 }
 
-impl<T: Value, F: Fn(T) -> bool> Predicate<T> for StopsWhere<F> {
+impl<T: Value, F: Fn(T) -> bool> Predicate<T> for Where<F> {
     ghost State = { F };
 
     ghost state = { λ p. p.test };
@@ -43,20 +43,20 @@ impl<T: Value, F: Fn(T) -> bool> Predicate<T> for StopsWhere<F> {
     ghost IsSound = { λ f. ((x : T) → F.pre f x) × IsFixed T.IsValue (F.post f) };
 
     #[inline(always)]
-    fn stops(&self, item: T) -> bool {
+    fn meets(&self, item: T) -> bool {
         (self.test)(item)
     }
 
     ghost fixed = { λ f h. h.1 };
 }
 
-/// Stops where the closure answers false.
+/// The items at which the closure answers false.
 #[derive(Drop)]
-pub struct StopsUnless<F> {
+pub struct Unless<F> {
     pub test: F,
 }
 
-impl<T: Value, F: Fn(T) -> bool> Predicate<T> for StopsUnless<F> {
+impl<T: Value, F: Fn(T) -> bool> Predicate<T> for Unless<F> {
     ghost State = { F };
 
     ghost state = { λ p. p.test };
@@ -66,20 +66,20 @@ impl<T: Value, F: Fn(T) -> bool> Predicate<T> for StopsUnless<F> {
     ghost IsSound = { λ f. ((x : T) → F.pre f x) × IsFixed T.IsValue (F.post f) };
 
     #[inline(always)]
-    fn stops(&self, item: T) -> bool {
+    fn meets(&self, item: T) -> bool {
         !(self.test)(item)
     }
 
     ghost fixed = { λ f h x v p q. h.1 x v q p };
 }
 
-/// Stops at the items of a set.
+/// The items of a set.
 #[derive(Drop)]
-pub struct StopsIn<L> {
+pub struct Within<L> {
     pub list: L,
 }
 
-impl<T: Value, L: FindToken<T>> Predicate<T> for StopsIn<L> {
+impl<T: Value, L: FindToken<T>> Predicate<T> for Within<L> {
     ghost State = { L };
 
     ghost state = { λ p. p.list };
@@ -89,20 +89,20 @@ impl<T: Value, L: FindToken<T>> Predicate<T> for StopsIn<L> {
     ghost IsSound = { λ _. Unit {0} };
 
     #[inline(always)]
-    fn stops(&self, item: T) -> bool {
+    fn meets(&self, item: T) -> bool {
         self.list.find_token(item)
     }
 
-    ghost fixed = { λ list h x v stops goes_on. one_answer stops goes_on };
+    ghost fixed = { λ list h x v meets fails. one_answer meets fails };
 }
 
-/// Stops at the items that aren't in a set.
+/// The items that aren't in a set.
 #[derive(Drop)]
-pub struct StopsOutside<L> {
+pub struct Outside<L> {
     pub list: L,
 }
 
-impl<T: Value, L: FindToken<T>> Predicate<T> for StopsOutside<L> {
+impl<T: Value, L: FindToken<T>> Predicate<T> for Outside<L> {
     ghost State = { L };
 
     ghost state = { λ p. p.list };
@@ -112,9 +112,9 @@ impl<T: Value, L: FindToken<T>> Predicate<T> for StopsOutside<L> {
     ghost IsSound = { λ _. Unit {0} };
 
     #[inline(always)]
-    fn stops(&self, item: T) -> bool {
+    fn meets(&self, item: T) -> bool {
         !self.list.find_token(item)
     }
 
-    ghost fixed = { λ list h x v stops goes_on. one_answer goes_on stops };
+    ghost fixed = { λ list h x v meets fails. one_answer fails meets };
 }

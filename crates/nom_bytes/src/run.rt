@@ -1,45 +1,26 @@
 //! The parsers of runs that may be empty.
-ghost use Rattle.std.specs.Prelude.{◌≡◌, true, false, MatchOption};
-ghost use Rattle.std.specs.List.{All};
+ghost use Rattle.std.specs.Prelude.{◌≡◌, None};
 ghost use Rattle.nom_traits.specs.Slices.{Slice, IsSeenAs};
-ghost use Rattle.nom_bytes.specs.ParsedRuns.{IsRunSlice, run_meaning};
+ghost use Rattle.nom_internal.specs.Pinned.{slice_pinned};
+ghost use Rattle.nom_bytes.specs.ParsedRuns.{run_meaning};
 ghost use Rattle.nom_bytes.specs.RunLaws.{run_lawful, run_steady};
 
-use crate::predicate::{Predicate, StopsUnless, StopsWhere};
-use nom_error::answer::{Err, Needed, PResult};
-use nom_error::mode::{IsStreaming, OutputMode};
+use crate::predicate::{Predicate, Unless, Where};
+use nom_error::answer::PResult;
+use nom_error::mode::OutputMode;
 use nom_error::value::ParseError;
 use nom_internal::parser::{Parser, StreamParser};
-use nom_internal::slices::front;
 use nom_traits::input::Input;
 use std::marker::PhantomData;
 
-/// The length of the run of an input; `None` where more may come and no item ends it.
-#[inline(always)]
-pub(crate) fn length_of_run<I: Input, S: IsStreaming, P: Predicate<I::Item>>(
-    input: I,
-    predicate: &P,
-) -> Option<usize>
-    requires { P.IsSound (P.state predicate.now) }
-    ensures { MatchOption result
-        ((S.STREAMING ≡ true) × All (λ x. P.answers (P.state predicate.now) x false) (I.seen.elements input))
-        (λ n. (t : Slice I.seen) × IsRunSlice I.seen (P.answers (P.state predicate.now)) S.STREAMING input n t) }
-{
-    match input.position(|item| predicate.stops(item)) {
-        Some(n) => Some(n),
-        None if S::STREAMING => None,
-        None => Some(input.input_len()),
-    }
-}
-
 /// A run, made by `take_while` and `take_till`.
 #[derive(Drop)]
-pub struct SplitPosition<P, E> {
+pub struct SplitPosition<P, I, E> {
     pub predicate: P,
-    pub error: PhantomData<E>,
+    pub error: PhantomData<(I, E)>,
 }
 
-impl<I: Input, P: Predicate<I::Item>, E: ParseError<I>> Parser<I> for SplitPosition<P, E> {
+impl<I: Input, P: Predicate<I::Item>, E: ParseError<I>> Parser<I> for SplitPosition<P, I, E> {
     type Output = I;
 
     type Error = E;
@@ -52,46 +33,47 @@ impl<I: Input, P: Predicate<I::Item>, E: ParseError<I>> Parser<I> for SplitPosit
 
     ghost IsOutput = { λ _. IsSeenAs I.seen };
 
-    // It refuses nothing.
-    ghost meaning = { λ s. run_meaning I.seen (P.answers s) (P.IsSound s) (λ _ _. ⊥) ⊥ 0 };
+    ghost meaning = { λ s. run_meaning I.seen (P.answers s) (P.IsSound s) };
+
+    ghost Pins = { λ _. Unit {0} };
 
     #[inline(always)]
     fn process<OM: OutputMode>(&mut self, input: I) -> PResult<I, I, E> {
-        match length_of_run::<I, OM::Incomplete, P>(input, &self.predicate) {
-            Some(n) => Ok((input.take_from(n), front::<OM::Output, I>(input, n))),
-            None => Err(Err::Incomplete(Needed::new(1))),
-        }
+        let predicate = &self.predicate;
+        input.split_at_position_mode::<OM, _, E>(|item| !predicate.meets(item))
     }
 
-    ghost lawful = { λ s. run_lawful I.seen I.lawful I.Item.IsValue I.values (P.answers s) (P.IsSound s) (P.fixed s) (λ _ _. ⊥) ⊥ 0 };
+    ghost lawful = { λ s k. run_lawful I.seen I.Item.IsValue I.values (P.answers s) (P.fixed s k) None 0 (P.IsSound s) (λ _ _. ⊥) ⊥ };
 }
 
-impl<I: Input, P: Predicate<I::Item>, E: ParseError<I>> StreamParser<I> for SplitPosition<P, E> {
-    ghost steady = { λ s. run_steady I.seen I.lawful I.Item.IsValue I.values (P.answers s) (P.IsSound s) (P.fixed s) (λ _ _. ⊥) ⊥ 0 };
+impl<I: Input, P: Predicate<I::Item>, E: ParseError<I>> StreamParser<I> for SplitPosition<P, I, E> {
+    ghost pinned = { λ s k p. slice_pinned I.seen I.view I.views };
+
+    ghost steady = { λ s k. run_steady I.seen I.Item.IsValue I.values (P.answers s) (P.fixed s k) None 0 {E = E} (P.IsSound s) (λ _ _. ⊥) ⊥ };
 }
 
 /// The longest list of first items that meet the test; it may be empty.
 ///
-/// Where each item meets it, streaming asks for more, and complete accepts all.
+/// Where each item meets it, streaming asks for 1 more, and complete accepts all.
 #[inline(always)]
-pub fn take_while<F, E>(test: F) -> SplitPosition<StopsUnless<F>, E>
+pub fn take_while<F, I, E>(test: F) -> SplitPosition<Where<F>, I, E>
     ensures { result.predicate.test ≡ test }
 {
     SplitPosition {
-        predicate: StopsUnless { test },
+        predicate: Where { test },
         error: PhantomData,
     }
 }
 
 /// The items before the first that meets the test; there may be none.
 ///
-/// Where no item meets it, streaming asks for more, and complete accepts all.
+/// Where no item meets it, streaming asks for 1 more, and complete accepts all.
 #[inline(always)]
-pub fn take_till<F, E>(test: F) -> SplitPosition<StopsWhere<F>, E>
+pub fn take_till<F, I, E>(test: F) -> SplitPosition<Unless<F>, I, E>
     ensures { result.predicate.test ≡ test }
 {
     SplitPosition {
-        predicate: StopsWhere { test },
+        predicate: Unless { test },
         error: PhantomData,
     }
 }

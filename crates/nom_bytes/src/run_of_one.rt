@@ -1,30 +1,29 @@
 //! The parsers of runs of one item at least.
-ghost use Rattle.std.specs.Prelude.{◌≡◌};
+ghost use Rattle.std.specs.Prelude.{◌≡◌, None};
 ghost use Rattle.nom_error.specs.declared.kind.ErrorKind.{ErrorKind};
 ghost use Rattle.nom_traits.specs.Slices.{Slice, IsSeenAs};
-ghost use Rattle.nom_bytes.specs.ParsedRuns.{run_meaning};
+ghost use Rattle.nom_internal.specs.Pinned.{slice_pinned};
+ghost use Rattle.nom_bytes.specs.ParsedRuns.{run1_meaning};
 ghost use Rattle.nom_bytes.specs.RunLaws.{run_lawful, run_steady};
 
-use crate::predicate::{Predicate, StopsIn, StopsOutside, StopsUnless, StopsWhere};
-use crate::run::length_of_run;
-use nom_error::answer::{Err, Needed, PResult};
+use crate::predicate::{Outside, Predicate, Unless, Where, Within};
+use nom_error::answer::PResult;
 use nom_error::kind::ErrorKind;
 use nom_error::mode::OutputMode;
-use nom_error::value::{ParseError, refusal};
+use nom_error::value::ParseError;
 use nom_internal::parser::{Parser, StreamParser};
-use nom_internal::slices::front;
 use nom_traits::input::Input;
 use std::marker::PhantomData;
 
 /// A run of one item at least, made by `take_while1`, `take_till1`, `is_a` and `is_not`.
 #[derive(Drop)]
-pub struct SplitPosition1<P, E> {
+pub struct SplitPosition1<P, I, E> {
     pub predicate: P,
     pub kind: ErrorKind,
-    pub error: PhantomData<E>,
+    pub error: PhantomData<(I, E)>,
 }
 
-impl<I: Input, P: Predicate<I::Item>, E: ParseError<I>> Parser<I> for SplitPosition1<P, E> {
+impl<I: Input, P: Predicate<I::Item>, E: ParseError<I>> Parser<I> for SplitPosition1<P, I, E> {
     type Output = I;
 
     type Error = E;
@@ -37,33 +36,35 @@ impl<I: Input, P: Predicate<I::Item>, E: ParseError<I>> Parser<I> for SplitPosit
 
     ghost IsOutput = { λ _. IsSeenAs I.seen };
 
-    ghost meaning = { λ s. run_meaning I.seen (P.answers s.0) (P.IsSound s.0) (λ i. E.errors.of_kind i s.1) E.errors.grows 1 };
+    ghost meaning = { λ s. run1_meaning I.seen (P.answers s.0) (P.IsSound s.0) E.errors s.1 };
+
+    ghost Pins = { λ _. Unit {0} };
 
     #[inline(always)]
     fn process<OM: OutputMode>(&mut self, input: I) -> PResult<I, I, E> {
-        match length_of_run::<I, OM::Incomplete, P>(input, &self.predicate) {
-            Some(n) if n == 0 => Err(refusal::<OM::Error, I, E>(input, self.kind)),
-            Some(n) => Ok((input.take_from(n), front::<OM::Output, I>(input, n))),
-            None => Err(Err::Incomplete(Needed::new(1))),
-        }
+        let predicate = &self.predicate;
+        input.split_at_position_mode1::<OM, _, E>(|item| !predicate.meets(item), self.kind)
     }
 
-    ghost lawful = { λ s. run_lawful I.seen I.lawful I.Item.IsValue I.values (P.answers s.0) (P.IsSound s.0) (P.fixed s.0) (λ i. E.errors.of_kind i s.1) E.errors.grows 1 };
+    ghost lawful = { λ s k. run_lawful I.seen I.Item.IsValue I.values (P.answers s.0) (P.fixed s.0 k) None 1 (P.IsSound s.0) (λ i. E.errors.of_kind i s.1) E.errors.grows };
 }
 
-impl<I: Input, P: Predicate<I::Item>, E: ParseError<I>> StreamParser<I> for SplitPosition1<P, E> {
-    ghost steady = { λ s. run_steady I.seen I.lawful I.Item.IsValue I.values (P.answers s.0) (P.IsSound s.0) (P.fixed s.0) (λ i. E.errors.of_kind i s.1) E.errors.grows 1 };
+impl<I: Input, P: Predicate<I::Item>, E: ParseError<I>> StreamParser<I>
+    for SplitPosition1<P, I, E> {
+    ghost pinned = { λ s k p. slice_pinned I.seen I.view I.views };
+
+    ghost steady = { λ s k. run_steady I.seen I.Item.IsValue I.values (P.answers s.0) (P.fixed s.0 k) None 1 (P.IsSound s.0) (λ i. E.errors.of_kind i s.1) E.errors.grows };
 }
 
 /// `take_while`, one item at least: where the first doesn't meet the test, it refuses with
 /// `TakeWhile1`, and so it does in the complete mode where there is none.
 #[inline(always)]
-pub fn take_while1<F, E>(test: F) -> SplitPosition1<StopsUnless<F>, E>
+pub fn take_while1<F, I, E>(test: F) -> SplitPosition1<Where<F>, I, E>
     ensures predicate { result.predicate.test ≡ test }
     ensures kind { result.kind ≡ ErrorKind.TakeWhile1 }
 {
     SplitPosition1 {
-        predicate: StopsUnless { test },
+        predicate: Where { test },
         kind: ErrorKind::TakeWhile1,
         error: PhantomData,
     }
@@ -72,12 +73,12 @@ pub fn take_while1<F, E>(test: F) -> SplitPosition1<StopsUnless<F>, E>
 /// `take_till`, one item at least: where the first meets the test, it refuses with `TakeTill1`, and so
 /// it does in the complete mode where there is none.
 #[inline(always)]
-pub fn take_till1<F, E>(test: F) -> SplitPosition1<StopsWhere<F>, E>
+pub fn take_till1<F, I, E>(test: F) -> SplitPosition1<Unless<F>, I, E>
     ensures predicate { result.predicate.test ≡ test }
     ensures kind { result.kind ≡ ErrorKind.TakeTill1 }
 {
     SplitPosition1 {
-        predicate: StopsWhere { test },
+        predicate: Unless { test },
         kind: ErrorKind::TakeTill1,
         error: PhantomData,
     }
@@ -90,12 +91,12 @@ pub fn take_till1<F, E>(test: F) -> SplitPosition1<StopsWhere<F>, E>
 /// `IsA`. Where each item is, streaming asks for one more, and complete accepts all; where there is no
 /// item, streaming asks for one, and complete refuses so.
 #[inline(always)]
-pub fn is_a<T, E>(list: T) -> SplitPosition1<StopsOutside<T>, E>
+pub fn is_a<T, I, E>(list: T) -> SplitPosition1<Within<T>, I, E>
     ensures predicate { result.predicate.list ≡ list }
     ensures kind { result.kind ≡ ErrorKind.IsA }
 {
     SplitPosition1 {
-        predicate: StopsOutside { list },
+        predicate: Within { list },
         kind: ErrorKind::IsA,
         error: PhantomData,
     }
@@ -107,12 +108,12 @@ pub fn is_a<T, E>(list: T) -> SplitPosition1<StopsOutside<T>, E>
 /// no item is, streaming asks for one more, and complete accepts all; where there is no item, streaming
 /// asks for one, and complete refuses so.
 #[inline(always)]
-pub fn is_not<T, E>(list: T) -> SplitPosition1<StopsIn<T>, E>
+pub fn is_not<T, I, E>(list: T) -> SplitPosition1<Outside<T>, I, E>
     ensures predicate { result.predicate.list ≡ list }
     ensures kind { result.kind ≡ ErrorKind.IsNot }
 {
     SplitPosition1 {
-        predicate: StopsIn { list },
+        predicate: Outside { list },
         kind: ErrorKind::IsNot,
         error: PhantomData,
     }

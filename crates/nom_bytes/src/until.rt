@@ -1,6 +1,7 @@
 //! Items up to a needle.
 ghost use Rattle.std.specs.Prelude.{◌≡◌, true, false};
 ghost use Rattle.nom_traits.specs.Slices.{Slice, IsSeenAs};
+ghost use Rattle.nom_internal.specs.Pinned.{slice_pinned};
 ghost use Rattle.nom_bytes.specs.Untils.{until_meaning};
 ghost use Rattle.nom_bytes.specs.UntilLaws.{until_lawful, until_steady};
 
@@ -16,12 +17,12 @@ use std::marker::PhantomData;
 
 /// The items up to the first place of a needle, made by `take_until`.
 #[derive(Drop)]
-pub struct TakeUntil<T, E> {
+pub struct TakeUntil<T, I, E> {
     pub tag: T,
-    pub error: PhantomData<E>,
+    pub error: PhantomData<(I, E)>,
 }
 
-impl<T: Copy, I: Input + FindSubstring<T>, E: ParseError<I>> Parser<I> for TakeUntil<T, E> {
+impl<T: Copy, I: Input + FindSubstring<T>, E: ParseError<I>> Parser<I> for TakeUntil<T, I, E> {
     type Output = I;
 
     type Error = E;
@@ -35,10 +36,13 @@ impl<T: Copy, I: Input + FindSubstring<T>, E: ParseError<I>> Parser<I> for TakeU
 
     ghost IsOutput = { λ _. IsSeenAs I.seen };
 
-    ghost meaning = { λ needle. until_meaning I.seen E.errors.of_kind E.errors.grows I.finds false needle };
+    ghost meaning = { λ needle. until_meaning I.seen E.errors I.finds false needle };
+
+    ghost Pins = { λ _. Unit {0} };
 
     #[inline(always)]
     fn process<OM: OutputMode>(&mut self, input: I) -> PResult<I, I, E> {
+        input.known();
         match input.find_substring(self.tag) {
             Some(index) => Ok((input.take_from(index), front::<OM::Output, I>(input, index))),
             None if OM::Incomplete::STREAMING => Err(Err::Incomplete(Needed::Unknown)),
@@ -46,21 +50,24 @@ impl<T: Copy, I: Input + FindSubstring<T>, E: ParseError<I>> Parser<I> for TakeU
         }
     }
 
-    ghost lawful = { until_lawful I.seen I.lawful E.errors.of_kind E.errors.grows I.finds I.finding false };
+    ghost lawful = { λ needle k. until_lawful I.seen I.lawful E.errors I.finds I.finding false needle };
 }
 
-impl<T: Copy, I: Input + FindSubstring<T>, E: ParseError<I>> StreamParser<I> for TakeUntil<T, E> {
-    ghost steady = { until_steady I.seen I.lawful E.errors.of_kind E.errors.grows I.finds I.finding false };
+impl<T: Copy, I: Input + FindSubstring<T>, E: ParseError<I>> StreamParser<I>
+    for TakeUntil<T, I, E> {
+    ghost pinned = { λ s k p. slice_pinned I.seen I.view I.views };
+
+    ghost steady = { λ needle k. until_steady I.seen I.lawful E.errors I.finds I.finding false needle };
 }
 
 /// The items up to the first place of a needle, at least one; made by `take_until1`.
 #[derive(Drop)]
-pub struct TakeUntil1<T, E> {
+pub struct TakeUntil1<T, I, E> {
     pub tag: T,
-    pub error: PhantomData<E>,
+    pub error: PhantomData<(I, E)>,
 }
 
-impl<T: Copy, I: Input + FindSubstring<T>, E: ParseError<I>> Parser<I> for TakeUntil1<T, E> {
+impl<T: Copy, I: Input + FindSubstring<T>, E: ParseError<I>> Parser<I> for TakeUntil1<T, I, E> {
     type Output = I;
 
     type Error = E;
@@ -74,10 +81,13 @@ impl<T: Copy, I: Input + FindSubstring<T>, E: ParseError<I>> Parser<I> for TakeU
 
     ghost IsOutput = { λ _. IsSeenAs I.seen };
 
-    ghost meaning = { λ needle. until_meaning I.seen E.errors.of_kind E.errors.grows I.finds true needle };
+    ghost meaning = { λ needle. until_meaning I.seen E.errors I.finds true needle };
+
+    ghost Pins = { λ _. Unit {0} };
 
     #[inline(always)]
     fn process<OM: OutputMode>(&mut self, input: I) -> PResult<I, I, E> {
+        input.known();
         match input.find_substring(self.tag) {
             Some(0) => Err(refusal::<OM::Error, I, E>(input, ErrorKind::TakeUntil)),
             Some(n) => Ok((input.take_from(n), front::<OM::Output, I>(input, n))),
@@ -86,9 +96,12 @@ impl<T: Copy, I: Input + FindSubstring<T>, E: ParseError<I>> Parser<I> for TakeU
         }
     }
 
-    ghost lawful = { until_lawful I.seen I.lawful E.errors.of_kind E.errors.grows I.finds I.finding true };
+    ghost lawful = { λ needle k. until_lawful I.seen I.lawful E.errors I.finds I.finding true needle };
 }
 
-impl<T: Copy, I: Input + FindSubstring<T>, E: ParseError<I>> StreamParser<I> for TakeUntil1<T, E> {
-    ghost steady = { until_steady I.seen I.lawful E.errors.of_kind E.errors.grows I.finds I.finding true };
+impl<T: Copy, I: Input + FindSubstring<T>, E: ParseError<I>> StreamParser<I>
+    for TakeUntil1<T, I, E> {
+    ghost pinned = { λ s k p. slice_pinned I.seen I.view I.views };
+
+    ghost steady = { λ needle k. until_steady I.seen I.lawful E.errors I.finds I.finding true needle };
 }

@@ -1,25 +1,19 @@
-use Rattle.std.proofs.Common.{sym, ◌∙◌, inl, inr, subst}
-use Rattle.nom_traits.specs.Input.{IsPlace}
-use Rattle.nom_traits.specs.Slices.{place_first}
-use Rattle.nom_internal.proofs.Shown.{accepted, undecided, refused}
-use Rattle.nom_bytes.proofs.Lacks.{lack_of, lacks_some}
+use Rattle.std.proofs.Common.{sym, ◌∙◌, inl, inr}
+use Rattle.nom_internal.proofs.Shown.{refused}
+use Rattle.nom_bytes.proofs.TagShown.{tag_found, tag_begun}
 use Rattle.nom_bytes.proofs.leaf.TagParser.process.Goals as goal
 
 pub returns-in-Ok-clause-shown : goal.returns-in-Ok-clause-shown
 returns-in-Ok-clause-shown g c =
-    let place = g.met.I.Compare.comparing.place (g.I.Compare.tag_seen c.args.self.now.tag) c.args.input c.in-Ok.ensures in
-    let first = place_first g.I.Items.seen c.args.input _ (subst (λ n. IsPlace g.I.Items.seen c.args.input n) (sym c.tag_len-n.ensures) place) in
-    accepted _ _ _ _ _ _ _ _ _ _ _ _ c.take_from.ensures (c.tag_len-n.ensures, first, c.in-Ok.ensures) (c.front.ensures _ first)
+    tag_found _ g.E.ParseError.errors _ _ g.met.I.Compare.comparing _ _ _ _ _ c.known.ensures _ _ _ c.tag_len-n.ensures c.in-Ok.ensures c.take_from.ensures c.front.ensures
 
 pub returns-in-Incomplete-clause-shown : goal.returns-in-Incomplete-clause-shown
 returns-in-Incomplete-clause-shown g c =
-    let shorter = g.met.I.Compare.comparing.shorter (g.I.Compare.tag_seen c.args.self.now.tag) c.args.input c.known.ensures c.in-Incomplete.ensures in
-    undecided _ _ _ _ _ _ _ _ _ _ (c.new.ensures.some (lacks_some _ _ _ _ c.tag_len.ensures c.input_len.ensures shorter)) (sym c.STREAMING.ensures ∙ c.if-STREAMING.true, c.in-Incomplete.ensures, lack_of _ _ _ _ c.tag_len.ensures c.input_len.ensures)
+    tag_begun _ g.E.ParseError.errors _ _ g.met.I.Compare.comparing _ _ _ _ _ c.known.ensures _ _ _ (sym c.STREAMING.ensures ∙ c.if-STREAMING.true) c.tag_len.ensures c.input_len.ensures c.in-Incomplete.ensures c.new.ensures.some
 
 pub returns-in-Incomplete-2-clause-shown : goal.returns-in-Incomplete-2-clause-shown
 returns-in-Incomplete-2-clause-shown g c =
     refused _ _ _ _ _ _ _ _ _ c.refusal.ensures (inr (sym c.STREAMING.ensures ∙ c.if-STREAMING.false, c.in-Incomplete-2.ensures))
 
 pub returns-in-Error-clause-shown : goal.returns-in-Error-clause-shown
-returns-in-Error-clause-shown g c =
-    refused _ _ _ _ _ _ _ _ _ c.refusal-in-Error.ensures (inl c.in-Error.ensures)
+returns-in-Error-clause-shown g c = refused _ _ _ _ _ _ _ _ _ c.refusal-in-Error.ensures (inl c.in-Error.ensures)

@@ -12,7 +12,7 @@ returns-in-Ok-clause-shown g c =
 pub returns-in-Err-clause-shown : goal.returns-in-Err-clause-shown
 returns-in-Err-clause-shown g c =
     let h = c.in-Err.ensures in
-    undecided _ _ _ _ _ _ _ _ _ _ h.1 (sym c.STREAMING.ensures ∙ c.if-STREAMING.true, h.0, refl)
+    undecided _ _ _ _ _ _ _ _ _ _ h.1 (sym c.STREAMING.ensures ∙ c.if-STREAMING.true, (h.0, refl))
 
 pub returns-in-Err-2-clause-shown : goal.returns-in-Err-2-clause-shown
 returns-in-Err-2-clause-shown g c =

@@ -1,12 +1,8 @@
-use Rattle.std.proofs.Common.{arith, refl}
-use Rattle.nom_internal.proofs.Shown.{accepted, undecided}
+use Rattle.std.proofs.Common.{rules, false}
+use Rattle.nom_traits.specs.Splits.{Never}
+use Rattle.nom_bytes.proofs.RunShown.{split_shown}
 use Rattle.nom_bytes.proofs.run.SplitPositionParser.process.Goals as goal
 
-pub returns-in-Some-clause-shown : goal.returns-in-Some-clause-shown
-returns-in-Some-clause-shown g c =
-    let r = c.in-Some.ensures in
-    accepted _ _ _ _ _ _ _ _ _ _ _ _ c.take_from.ensures (r.1, omega arith) (c.front.ensures r.0 r.1.first)
-
-pub returns-in-None-clause-shown : goal.returns-in-None-clause-shown
-returns-in-None-clause-shown g c =
-    undecided _ _ _ _ _ _ _ _ _ _ (c.new.ensures.some (omega arith)) (c.in-None.ensures.0, c.in-None.ensures.1, refl)
+pub returns-clause-shown : goal.returns-clause-shown
+returns-clause-shown g c =
+    split_shown _ g.met.I.Items.lawful _ _ _ (λ x p. search rules) (λ x p. search rules) false (λ _ _. ⊥) ⊥ Never _ _ _ _ (λ e h. absurd h) c.split_at_position_mode.result c.split_at_position_mode.ensures

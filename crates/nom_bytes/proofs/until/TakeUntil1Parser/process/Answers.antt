@@ -1,7 +1,6 @@
-use Rattle.std.proofs.Common.{Some, sym, ◌∙◌, inl, inr, subst, refl}
-use Rattle.nom_traits.specs.Slices.{place_first}
-use Rattle.nom_internal.proofs.Shown.{accepted, undecided, refused}
-use Rattle.nom_bytes.proofs.Lacks.{some_items}
+use Rattle.std.proofs.Common.{true, Some, sym, ◌∙◌, inl, inr, subst, refl}
+use Rattle.nom_internal.proofs.Shown.{refused}
+use Rattle.nom_bytes.proofs.UntilShown.{until_found, until_open, not_none}
 use Rattle.nom_bytes.proofs.until.TakeUntil1Parser.process.Goals as goal
 
 pub returns-in-Some-eq0-clause-shown : goal.returns-in-Some-eq0-clause-shown
@@ -11,13 +10,10 @@ returns-in-Some-eq0-clause-shown g c =
 
 pub returns-in-Some-clause-shown : goal.returns-in-Some-clause-shown
 returns-in-Some-clause-shown g c =
-    let place = g.met.I.FindSubstring.finding.place (g.I.FindSubstring.needle_seen c.args.self.now.tag) c.args.input _ c.in-Some.ensures in
-    let first = place_first g.I.Items.seen c.args.input _ place in
-    accepted _ _ _ _ _ _ _ _ _ _ _ _ c.take_from.ensures (first, c.in-Some.ensures, λ e. some_items _ c.in-Some.n-test.1) (c.front.ensures _ first)
+    until_found _ g.E.ParseError.errors _ _ _ _ _ _ _ g.met.I.FindSubstring.finding _ _ _ c.known.ensures c.in-Some.ensures (λ e. not_none _ c.in-Some.n-test.1) c.take_from.ensures c.front.ensures
 
 pub returns-in-None-clause-shown : goal.returns-in-None-clause-shown
-returns-in-None-clause-shown g c =
-    undecided _ _ _ _ _ _ _ _ _ _ refl (sym c.STREAMING.ensures ∙ c.if-STREAMING.true, c.in-None.ensures, refl)
+returns-in-None-clause-shown g c = until_open _ g.E.ParseError.errors g.I.FindSubstring.finds true (g.I.FindSubstring.needle_seen c.args.self.now.tag) _ _ _ _ (sym c.STREAMING.ensures ∙ c.if-STREAMING.true) c.in-None.ensures
 
 pub returns-in-None-2-clause-shown : goal.returns-in-None-2-clause-shown
 returns-in-None-2-clause-shown g c =
