@@ -4,8 +4,6 @@
 ghost use Rattle.std.specs.Prelude.{◌≡◌};
 
 mod branches;
-#[cfg(test)]
-mod tests;
 
 pub use crate::branches::Choice;
 

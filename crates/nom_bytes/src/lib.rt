@@ -12,8 +12,6 @@ pub mod predicate;
 mod run;
 mod run_of_one;
 pub mod streaming;
-#[cfg(test)]
-mod tests;
 mod until;
 
 pub use crate::bounded::{TakeWhileMN, take_while_m_n};

@@ -1,4 +1,3 @@
-pub mod FirstByte
 pub mod Lengths
 pub mod LengthLaws
 pub mod Lists

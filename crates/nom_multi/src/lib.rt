@@ -6,8 +6,6 @@ ghost use Rattle.std.specs.Prelude.{◌≡◌};
 mod length;
 mod many;
 pub mod promises;
-#[cfg(test)]
-mod tests;
 
 pub use crate::length::LengthData;
 pub use crate::many::Many0;
