@@ -9,8 +9,6 @@ pub mod error;
 pub mod multi;
 pub mod number;
 pub mod sequence;
-#[cfg(test)]
-mod tests;
 
 pub use nom_error::answer::{Err, IResult, Needed, OutOfMemory, PResult};
 pub use nom_error::finish::{Finish, FinishError};

@@ -1,4 +1,5 @@
 pub mod Answers
+pub mod Equality
 pub mod Errors
 pub mod Kinds
 pub mod Modes

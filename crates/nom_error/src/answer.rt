@@ -3,12 +3,31 @@ ghost use Rattle.std.specs.Prelude.{◌≡◌, ◌<◌, ◌↔◌, Some, None, I
 ghost use Rattle.nom_error.specs.Answers.{size_of, text_of, IsIncomplete, IsMapped, IsNeededBy};
 
 use crate::value::Error;
+use std::alloc::AllocError;
 use std::fmt;
 use std::num::NonZeroUsize;
 
 /// Memory ran out: a growth, or a clone that takes memory, was refused.
 #[derive(Clone, Copy, Debug, PartialEq, Eq)]
 pub struct OutOfMemory;
+
+/// So that `?` passes a refused growth on.
+impl From<AllocError> for OutOfMemory {
+    ghost from_gives = { λ _ e. e ≡ record {} };
+
+    fn from(_error: AllocError) -> OutOfMemory {
+        OutOfMemory
+    }
+}
+
+/// So that `?` passes on that a text could not be written to memory.
+impl From<fmt::Error> for OutOfMemory {
+    ghost from_gives = { λ _ e. e ≡ record {} };
+
+    fn from(_error: fmt::Error) -> OutOfMemory {
+        OutOfMemory
+    }
+}
 
 /// How much more a parser needs.
 #[derive(Clone, Copy, Debug, PartialEq, Eq)]

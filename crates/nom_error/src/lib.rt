@@ -5,6 +5,7 @@
 pub mod answer;
 pub mod finish;
 pub mod kind;
+pub mod laws;
 pub mod mode;
 #[cfg(test)]
 mod tests;

@@ -2,8 +2,13 @@
 use crate::answer::{Err, IResult, Needed, OutOfMemory, PResult};
 use crate::finish::{Finish, FinishError};
 use crate::kind::{ErrorKind, error_to_u32};
+use crate::laws::{
+    answers_are_equal, errors_are_equal, finished_are_equal, kinds_are_equal, needs_are_equal,
+};
 use crate::mode::{Check, Complete, Emit, IsStreaming, Mode, OutputM, OutputMode, Streaming};
 use crate::value::{Error, ParseError, refusal};
+use std::alloc::AllocError;
+use std::fmt;
 use std::hash::{DefaultHasher, Hash, Hasher};
 use std::test::Fail;
 
@@ -67,6 +72,31 @@ fn equal_answers(rt: HostRuntime) -> Result<(), Fail> {
     assert!(rt; fault.clone()? == fault);
     assert!(rt; fault != FinishError::OutOfMemory);
     Ok(())
+}
+
+#[test]
+fn equal_parts(rt: HostRuntime) {
+    let error = Error::new("rest", ErrorKind::Tag);
+    let refused: Err<Error<&str>> = Err::Error(error);
+    let fault = FinishError::Parse(error);
+    assert!(rt; kinds_are_equal(ErrorKind::Alt, ErrorKind::Alt));
+    assert!(rt; needs_are_equal(Needed::new(2), Needed::new(2)));
+    assert!(rt; errors_are_equal(&error, &error));
+    assert!(rt; answers_are_equal(&refused, &refused));
+    assert!(rt; finished_are_equal(&fault, &fault));
+}
+
+/// A number that a growth made, or a text.
+fn grown(number: Result<u8, AllocError>, text: fmt::Result) -> Result<u8, OutOfMemory> {
+    text?;
+    Ok(number?)
+}
+
+#[test]
+fn want_of_memory_passed_on(rt: HostRuntime) {
+    assert_eq!(rt; grown(Ok(7), Ok(())), Ok(7));
+    assert_eq!(rt; grown(Err(AllocError), Ok(())), Err(OutOfMemory));
+    assert_eq!(rt; grown(Ok(7), Err(fmt::Error)), Err(OutOfMemory));
 }
 
 fn hash_of(kind: ErrorKind) -> u64 {

@@ -49,11 +49,11 @@ impl<I> Error<I> {
 impl<I: Drop> ParseError<I> for Error<I> {
     // The error from below is kept, and of two the second.
     ghost errors = { record {
-        of_kind = λ i k e. e ≡ record { input = i; code = k };
-        appended = λ _ _ other e. e ≡ other;
-        of_char = λ i _ e. e ≡ record { input = i; code = Char };
-        joined = λ _ other e. e ≡ other;
-        grows = ⊥;
+      of_kind = λ i k e. e ≡ record { input = i; code = k };
+      appended = λ _ _ other e. e ≡ other;
+      of_char = λ i _ e. e ≡ record { input = i; code = Char };
+      joined = λ _ other e. e ≡ other;
+      grows = ⊥;
     } };
 
     #[inline(always)]

@@ -1,9 +1,0 @@
-use Rattle.std.proofs.Common.{[], ◌∷◌, lit≤}
-use Rattle.nom_internal.specs.ByteCuts.{byte_cuts}
-use Rattle.nom.proofs.tests.growing.a_list_that_grows.Goals as goal
-
-pub parse_growing-grown-requires-clause-cuts : goal.parse_growing-grown-requires-clause-cuts
-parse_growing-grown-requires-clause-cuts g c = byte_cuts _ (0 ∷ (1 ∷ (2 ∷ (3 ∷ [])))) (lit≤ tt, (lit≤ tt, (lit≤ tt, (lit≤ tt, tt))))
-
-pub parse_growing-grown-requires-2-clause-cuts : goal.parse_growing-grown-requires-2-clause-cuts
-parse_growing-grown-requires-2-clause-cuts g c = byte_cuts _ (1 ∷ (3 ∷ (4 ∷ []))) (lit≤ tt, (lit≤ tt, (lit≤ tt, tt)))

@@ -1,0 +1,192 @@
+//! Parsers over an input type and an error type of a user's own.
+ghost use Rattle.std.specs.Prelude.{◌≡◌, ℕ, ◌-◌, List, length, Some, MatchResult};
+ghost use Rattle.nom_traits.specs.Compares.{ComparesBytes, ComparesBytesNoCase};
+ghost use Rattle.nom_traits.specs.CompareTags.{bytes_comparing, bytes_comparing_no_case};
+ghost use Rattle.nom_growing_tests.specs.Held.{seen_held, held_view, held_lawful, held_comparing};
+
+use nom::bytes::{tag, take};
+use nom::error::{ErrorKind, ParseError};
+use nom::{Compare, CompareResult, Err, Input, Items, Needed, OutOfMemory, Parser, Viewed};
+use std::iter::{Copied, Enumerate};
+use std::slice::Iter;
+
+/// The bytes of a packet.
+#[derive(Clone, Copy)]
+struct Packet<'a> {
+    bytes: &'a [u8],
+}
+
+impl Viewed for Packet<'_> {
+    ghost view = { held_view (λ p. p.bytes) };
+}
+
+impl Items for Packet<'_> {
+    type Item = u8;
+
+    ghost seen = { seen_held (λ p. p.bytes) };
+
+    fn known(self) {
+        self.bytes.known();
+    }
+
+    ghost lawful = { held_lawful (λ p. p.bytes) };
+
+    ghost values = { λ p h. h.0 };
+
+    ghost views = { λ x y h. h.elements_are };
+}
+
+impl<'a> Input for Packet<'a> {
+    ghost lack = { λ count xs. Some (count - length xs) };
+
+    type Iter = Copied<Iter<'a, u8>>;
+
+    type IterIndices = Enumerate<Copied<Iter<'a, u8>>>;
+
+    fn input_len(&self) -> usize {
+        self.bytes.input_len()
+    }
+
+    fn take(&self, index: usize) -> Self {
+        Packet {
+            bytes: self.bytes.take(index),
+        }
+    }
+
+    fn take_from(&self, index: usize) -> Self {
+        Packet {
+            bytes: self.bytes.take_from(index),
+        }
+    }
+
+    fn slice_index(&self, count: usize) -> Result<usize, Needed> {
+        self.bytes.slice_index(count)
+    }
+
+    fn item_len(&self, _item: &u8) -> usize {
+        1
+    }
+
+    fn iter_elements(&self) -> Copied<Iter<'a, u8>> {
+        self.bytes.iter_elements()
+    }
+
+    fn iter_indices(&self) -> Enumerate<Copied<Iter<'a, u8>>> {
+        self.bytes.iter_indices()
+    }
+
+    ghost more = { λ _. tt };
+}
+
+impl<'a, 'b> Compare<&'b [u8]> for Packet<'a> {
+    ghost Tag = { List ℕ };
+
+    ghost tag_seen = { λ t. t.now };
+
+    ghost tag_size = { length };
+
+    ghost compares = { ComparesBytes };
+
+    ghost compares_no_case = { ComparesBytesNoCase };
+
+    fn tag_len(tag: &'b [u8]) -> usize
+        ensures { result ≡ length tag.now }
+    {
+        tag.len()
+    }
+
+    fn compare(&self, tag: &'b [u8]) -> CompareResult {
+        self.bytes.compare(tag)
+    }
+
+    fn compare_no_case(&self, tag: &'b [u8]) -> CompareResult {
+        self.bytes.compare_no_case(tag)
+    }
+
+    ghost comparing = { held_comparing (λ p. p.bytes) bytes_comparing };
+
+    ghost comparing_no_case = { held_comparing (λ p. p.bytes) bytes_comparing_no_case };
+}
+
+/// How many bytes were left at a refusal, and why.
+#[derive(Clone, Copy, PartialEq, Eq)]
+struct Refusal {
+    left: usize,
+    kind: ErrorKind,
+}
+
+impl ParseError<Packet<'_>> for Refusal {
+    ghost errors = { record {
+      of_kind = λ i k e. e ≡ record { left = length i.bytes.now; kind = k };
+      appended = λ _ _ other e. e ≡ other;
+      of_char = λ _ _ _. Unit {0};
+      joined = λ first _ e. e ≡ first;
+      grows = ⊥;
+    } };
+
+    fn from_error_kind(input: Packet<'_>, kind: ErrorKind) -> Result<Self, OutOfMemory> {
+        Ok(Refusal {
+            left: input.bytes.len(),
+            kind,
+        })
+    }
+
+    fn append(_input: Packet<'_>, _kind: ErrorKind, other: Self) -> Result<Self, OutOfMemory> {
+        Ok(other)
+    }
+
+    fn from_char(input: Packet<'_>, _wanted: char) -> Result<Self, OutOfMemory> {
+        Ok(Refusal {
+            left: input.bytes.len(),
+            kind: ErrorKind::Char,
+        })
+    }
+
+    fn or(self, _other: Self) -> Result<Self, OutOfMemory>
+        ensures { MatchResult result (λ e. e ≡ self) (λ _. ⊥) }
+    {
+        Ok(self)
+    }
+}
+
+#[test]
+fn a_record_of_packets(rt: HostRuntime) {
+    let tag_of = &b"ab"[..];
+    let mut record = tag::<_, Refusal>(tag_of).and(take::<Refusal>(4));
+    match record.parse(Packet { bytes: b"abcdefg" }) {
+        Ok((rest, (name, value))) => {
+            assert!(rt; rest.bytes == b"g".as_slice());
+            assert!(rt; name.bytes == b"ab".as_slice());
+            assert!(rt; value.bytes == b"cdef".as_slice());
+        }
+        _ => panic!(rt; "no record"),
+    }
+    match record.parse(Packet { bytes: b"abc" }) {
+        Err(Err::Incomplete(needed)) => assert!(rt; needed == Needed::new(3)),
+        _ => panic!(rt; "not incomplete"),
+    }
+    match record.parse_complete(Packet { bytes: b"abc" }) {
+        Err(Err::Error(error)) => {
+            assert!(rt;
+                error
+                    == Refusal {
+                        left: 1,
+                        kind: ErrorKind::Eof
+                    }
+            );
+        }
+        _ => panic!(rt; "no refusal"),
+    }
+    match record.parse(Packet { bytes: b"axcd" }) {
+        Err(Err::Error(error)) => {
+            assert!(rt;
+                error
+                    == Refusal {
+                        left: 4,
+                        kind: ErrorKind::Tag
+                    }
+            );
+        }
+        _ => panic!(rt; "no refusal"),
+    }
+}

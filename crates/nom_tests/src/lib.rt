@@ -1,0 +1,5 @@
+//! Tests of the parsers of nom over texts and byte slices.
+#![tactic(auto)]
+
+#[cfg(test)]
+mod tests;

@@ -1,0 +1,9 @@
+//! Rows of inputs and what nom answers at them, each row through one call of its parser.
+
+mod answers;
+mod byte_sets;
+mod escapes;
+mod leaves;
+mod runs;
+mod sets;
+mod texts;

@@ -1,0 +1,114 @@
+//! Tags, slices, lists and choices of texts.
+ghost use Rattle.std.specs.Prelude.{◌≡◌};
+
+use super::answers::{Answer, Way, answers};
+use nom::branch::alt;
+use nom::bytes::{tag, take};
+use nom::error::{Error, ErrorKind};
+use nom::multi::{length_data, many0};
+use nom::{Err, Items, Mode, Needed, OutputMode, PResult, Parser};
+
+type Fail<'a> = Error<&'a str>;
+
+#[test]
+fn tags_of_a_text(rt: HostRuntime) {
+    for (word, input, answer) in [
+        ("é", "éa", Answer::Accepts("a", "é")),
+        ("é€", "é", Answer::Needs(3)),
+    ] {
+        assert!(rt;
+            answers(tag::<_, Fail>(word), Way::Streaming, input, answer),
+            "at {input}"
+        );
+    }
+}
+
+// A tag of bytes that ends inside a character.
+#[test]
+fn a_part_of_a_character(rt: HostRuntime) {
+    let part = [0xC3];
+    for (input, answer) in [
+        ("é", Answer::Refuses(ErrorKind::Tag, "é")),
+        ("", Answer::Needs(1)),
+    ] {
+        let first = tag::<_, Fail>(part.as_slice());
+        assert!(rt; answers(first, Way::Streaming, input, answer), "at {input}");
+    }
+}
+
+#[test]
+fn characters_taken(rt: HostRuntime) {
+    for (way, input, answer) in [
+        (Way::Streaming, "a¡€💢€¡a", Answer::Accepts("€¡a", "a¡€💢")),
+        (Way::Streaming, "€¡a", Answer::Needs(0)),
+        (Way::Complete, "€¡a", Answer::Refuses(ErrorKind::Eof, "€¡a")),
+    ] {
+        assert!(rt; answers(take::<Fail>(4), way, input, answer), "at {input}");
+    }
+}
+
+/// The length 2.
+fn length_of_two() -> u8
+    ensures { result ≡ 2 }
+{
+    2
+}
+
+/// Nothing, as the length 2.
+#[derive(Drop)]
+struct Two;
+
+impl<'a> Parser<&'a str> for Two {
+    ghost use Rattle.nom_traits.specs.Text.{seen_text};
+    ghost use Rattle.nom_tests.specs.Nothing.{nothing_lawful, nothing_meaning};
+
+    type Output = u8;
+
+    type Error = Error<&'a str>;
+
+    ghost State = { Unit {0} };
+
+    ghost state = { λ _. tt };
+
+    ghost Tree = { Unit {0} };
+
+    ghost IsOutput = { λ _ _ n. n ≡ 2 };
+
+    ghost meaning = { λ _. nothing_meaning };
+
+    fn process<OM: OutputMode>(&mut self, input: &'a str) -> PResult<&'a str, u8, Error<&'a str>> {
+        input.known();
+        Ok((input, OM::Output::bind(length_of_two)))
+    }
+
+    ghost lawful = { λ _. nothing_lawful seen_text };
+}
+
+#[test]
+fn lists_and_choices_of_texts(rt: HostRuntime) {
+    let item = alt((tag::<_, Error<&str>>("é"), tag::<_, Error<&str>>("💢")));
+    let mut list = many0(rt.alloc(), item).and(tag::<_, Error<&str>>(";"));
+    match list.parse("é💢é;¡") {
+        Ok((rest, (items, end))) => {
+            assert!(rt; rest == "¡");
+            assert!(rt; items.len() == 3);
+            assert!(rt; items[1] == "💢");
+            assert!(rt; end == ";");
+        }
+        _ => panic!(rt; "no list"),
+    }
+    match list.parse("é💢") {
+        Err(Err::Incomplete(needed)) => assert!(rt; needed == Needed::new(2)),
+        _ => panic!(rt; "not incomplete"),
+    }
+}
+
+#[test]
+fn characters_behind_a_length(rt: HostRuntime) {
+    for (input, answer) in [("é💢¡", Answer::Accepts("¡", "é💢")), ("é", Answer::Needs(0))] {
+        assert!(rt;
+            answers(length_data(Two), Way::Streaming, input, answer),
+            "at {input}"
+        );
+    }
+}
