@@ -17,13 +17,15 @@ pub use nom_error::mode::{
 };
 pub use nom_internal::growing::{Grown, parse_growing};
 pub use nom_internal::parser::{Parser, StreamParser};
+pub use nom_internal::promises;
 pub use nom_internal::sequence::And;
 pub use nom_search::bytes::AsBytes;
-pub use nom_search::character::AsChar;
 pub use nom_search::extend::{Builder, ExtendInto};
 pub use nom_search::substring::FindSubstring;
 pub use nom_search::token::FindToken;
+pub use nom_traits::character::{AsChar, AsciiClass};
 pub use nom_traits::compare::{Compare, CompareResult};
+pub use nom_traits::convert::ToUsize;
 pub use nom_traits::input::{Input, Items, Value};
 pub use nom_traits::offset::Offset;
 pub use nom_traits::view::Viewed;

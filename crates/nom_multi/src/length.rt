@@ -43,7 +43,7 @@ impl<I: Input, F: Parser<I, Output = u8> + Drop> Parser<I> for LengthData<F> {
             .process::<OutputM<Emit, OM::Error, OM::Incomplete>>(input)?;
         match length {
             Some(length) => {
-                let mut data = take::<F::Error>(length as usize);
+                let mut data = take::<usize, I, F::Error>(length as usize);
                 data.process::<OM>(rest)
             }
             None => unreachable!(),

@@ -1,7 +1,8 @@
 -- The first byte of an input, and the number that it writes.
-use Rattle.std.proofs.Common.{◌≡◌, ℕ, ◌<◌, Bool, true, false, List, [], ◌∷◌, ◌++◌, length, Option, Some, None, refl, sym, ◌∙◌, ap, arith, length-append}
+use Rattle.std.proofs.Common.{◌≡◌, ℕ, ◌<◌, ◌-◌, Bool, true, false, List, [], ◌∷◌, ◌++◌, length, Option, Some, None, refl, sym, ◌∙◌, ap, arith, length-append}
 use Rattle.std.specs.Iterator.{AlwaysYields}
 use Rattle.nom_error.specs.Modes.{Built}
+use Rattle.nom_traits.specs.Input.{span}
 use Rattle.nom_number.specs.Numbers.{value_of}
 
 -- what the first call of an iterator over some items gives
@@ -25,3 +26,8 @@ value_first xs (x ∷ (y ∷ ys)) rest b e h f = absurd (omega (arith, h))
 
 pub some_more : (xs front rest : List ℕ) → xs ≡ front ++ rest → length front ≡ 1 → 0 < length xs
 some_more xs front rest e h = omega (arith, ap length e, length-append front rest, h)
+
+-- of one byte that isn't there all lacks
+pub lacks_one : {A : Type 0} (weight : A → ℕ) (xs : List A) → length xs < 1 → Some 1 ≡ Some (1 - span weight xs)
+lacks_one weight [] h = refl
+lacks_one weight (x ∷ xs) h = absurd (omega (arith, h))

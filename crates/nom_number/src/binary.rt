@@ -1,11 +1,13 @@
 //! Binary integers.
 ghost use Rattle.std.specs.Prelude.{◌≡◌, ◌<◌, ◌∷◌, ℕ, List, length};
 ghost use Rattle.nom_error.specs.Modes.{Built};
-ghost use Rattle.nom_internal.specs.ChoiceLaws.{labelled_lawful, labelled_steady};
+ghost use Rattle.nom_internal.specs.CaseLaws.{labelled_lawful, labelled_steady};
+ghost use Rattle.nom_internal.specs.Pinned.{value_pinned};
+ghost use Rattle.nom_bytes.specs.Takes.{take_meaning};
 ghost use Rattle.nom_bytes.specs.TakeLaws.{take_lawful, take_steady};
-ghost use Rattle.nom_number.specs.Numbers.{number_meaning, value_of};
+ghost use Rattle.nom_number.specs.Numbers.{bytes_lack, number_meaning, value_of};
 
-use nom_error::answer::{Err, PResult};
+use nom_error::answer::{Err, Needed, PResult};
 use nom_error::kind::ErrorKind;
 use nom_error::mode::{IsStreaming, Mode, OutputMode};
 use nom_error::value::{ParseError, refusal};
@@ -28,11 +30,11 @@ fn first_byte<M: Mode, I: Input<Item = u8>>(input: I) -> Option<u8>
 
 /// One byte, as a number; made by `be_u8`.
 #[derive(Drop)]
-pub struct BeU8<E> {
-    pub error: PhantomData<E>,
+pub struct BeU8<I, E> {
+    pub error: PhantomData<(I, E)>,
 }
 
-impl<I: Input<Item = u8>, E: ParseError<I>> Parser<I> for BeU8<E> {
+impl<I: Input<Item = u8>, E: ParseError<I>> Parser<I> for BeU8<I, E> {
     type Output = u8;
 
     type Error = E;
@@ -45,20 +47,24 @@ impl<I: Input<Item = u8>, E: ParseError<I>> Parser<I> for BeU8<E> {
 
     ghost IsOutput = { λ _ t v. v ≡ t };
 
-    ghost meaning = { λ _. number_meaning I.seen E.errors.of_kind E.errors.grows I.lack (value_of 256) 1 };
+    ghost meaning = { λ _. number_meaning I.seen E.errors (value_of 256) 1 };
+
+    ghost Pins = { λ _. Unit {0} };
 
     #[inline(always)]
     fn process<OM: OutputMode>(&mut self, input: I) -> PResult<I, u8, E> {
         match input.slice_index(1) {
             Ok(n) => Ok((input.take_from(n), first_byte::<OM::Output, I>(input))),
-            Err(needed) if OM::Incomplete::STREAMING => Err(Err::Incomplete(needed)),
+            Err(_) if OM::Incomplete::STREAMING => Err(Err::Incomplete(Needed::new(1))),
             Err(_) => Err(refusal::<OM::Error, I, E>(input, ErrorKind::Eof)),
         }
     }
 
-    ghost lawful = { λ _. labelled_lawful I.seen (λ t. value_of 256 t.items) _ (take_lawful I.seen E.errors.of_kind E.errors.grows I.lack 1) };
+    ghost lawful = { λ _ k. labelled_lawful I.seen (take_meaning I.seen E.errors (bytes_lack I.seen) 1) (λ t. value_of 256 t.items) (take_lawful I.seen E.errors (bytes_lack I.seen) 1) };
 }
 
-impl<I: Input<Item = u8>, E: ParseError<I>> StreamParser<I> for BeU8<E> {
-    ghost steady = { λ _. labelled_steady I.seen (λ t. value_of 256 t.items) _ (take_steady I.seen E.errors.of_kind E.errors.grows I.lack 1) };
+impl<I: Input<Item = u8>, E: ParseError<I>> StreamParser<I> for BeU8<I, E> {
+    ghost pinned = { λ _ k p. value_pinned };
+
+    ghost steady = { λ _ k. labelled_steady I.seen (take_meaning I.seen E.errors (bytes_lack I.seen) 1) (λ t. value_of 256 t.items) (take_steady I.seen E.errors (bytes_lack I.seen) 1) };
 }

@@ -10,6 +10,6 @@ use std::marker::PhantomData;
 ///
 /// Where there is none, streaming asks for it, and complete refuses with `Eof`.
 #[inline(always)]
-pub fn be_u8<E>() -> BeU8<E> {
+pub fn be_u8<I, E>() -> BeU8<I, E> {
     BeU8 { error: PhantomData }
 }
