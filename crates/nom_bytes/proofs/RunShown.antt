@@ -1,6 +1,7 @@
 -- What a split of an input after its run shows.
 use Rattle.std.proofs.Common.{◌≡◌, ℕ, ◌-◌, ◌<◌, ◌≤◌, max, cond, ◌⊎◌, Bool, true, false, Result, Ok, Option, Some, None, List, [], ◌∷◌, length, refl, sym, ap, subst, arith, inl, inr}
 use Rattle.std.specs.Prelude as Std
+use Rattle.std.specs.List.{All}
 use Rattle.std.proofs.lemmas.List.Elements.{All-nil}
 use Rattle.nom_error.specs.declared.answer.Needed.{Needed}
 use Rattle.nom_error.specs.declared.answer.Err as Answer
@@ -55,12 +56,18 @@ module _ {I A : Type 0} (w : Seen I A) (l : InputLaws w) (Meets Ends : A → Typ
     followed = r.followed;
   }
 
-  -- a split after the run, where one item is wanted at least or none, shows the run's meaning, whatever its premise
-  pub split_shown : {E : Type 0} (wanted : Bool) (Blames : I → E → Type 0) (Grows : Type 0) (IsRefusal : Answer.Err E (Option E) Needed → Type 0) (outputs errors s : Bool) (i : I) → ((e : Answer.Err E (Option E) Needed) → IsRefusal e → Refuses (Blames i) Grows errors e) → (r : Result (I × Option I) (Answer.Err E (Option E) Needed)) → Splits w Meets Ends s i wanted (FrontBuilt w outputs) IsRefusal r → ShowsMeaning w (IsSeenAs w) (leaf_meaning (Unit {0}) Blames Grows (runs w Test None (cond wanted 1 0))) outputs errors s i r
-  split_shown wanted Blames Grows IsRefusal outputs errors s i refuses (Ok p) h =
-      let run = run_of s i h.0 h.1 in
-      accepted w (IsSeenAs w) outputs errors i _ (Blames i) _ h.0 (items_of s i h.0 h.1) p.0 p.1 h.3 (run, inl (enough_items w.weight wanted h.1.run h.0 h.1.length_is h.2)) (built_error outputs _ _ p.1 (λ v f. front_seen w l i h.0 v (items_of s i h.0 h.1) f run.first) h.4)
-  split_shown wanted Blames Grows IsRefusal outputs errors s i refuses (Std.Err e) (inl h) =
-      subst (λ f. ShowsMeaning w (IsSeenAs w) (leaf_meaning (Unit {0}) Blames Grows (runs w Test None (cond wanted 1 0))) outputs errors s i (Std.Err f)) (sym h.1.2) (undecided w (IsSeenAs w) outputs errors i _ (Blames i) _ (Some 1) h.1.0 h.1.1 (h.0.0, (λ k d p. meets _ (h.0.1 k d p), tt, one_lacks wanted (span w.weight (w.elements i)))))
-  split_shown wanted Blames Grows IsRefusal outputs errors s i refuses (Std.Err e) (inr h) =
-      refused w (IsSeenAs w) outputs errors i (LeafAnswers (runs w Test None (cond wanted 1 0)) s i) (Blames i) Grows e (refuses e h.2) (0, record { items = []; mark = w.mark i }, no_run s i h.1, none_enough wanted (length (w.elements i)) h.0)
+  module _ {E : Type 0} (wanted : Bool) (Blames : I → E → Type 0) (Grows : Type 0) (outputs errors s : Bool) (i : I) where
+    abbrev Shows : Result (I × Option I) (Answer.Err E (Option E) Needed) → Type 0
+    Shows r = ShowsMeaning w (IsSeenAs w) (leaf_meaning (Unit {0}) Blames Grows (runs w Test None (cond wanted 1 0))) outputs errors s i r
+
+    -- a split after the run, where one item is wanted at least or none, shows the run's meaning, whatever its premise
+    pub split_shown : (IsRefusal : Answer.Err E (Option E) Needed → Type 0) → ((e : Answer.Err E (Option E) Needed) → IsRefusal e → Refuses (Blames i) Grows errors e) → (r : Result (I × Option I) (Answer.Err E (Option E) Needed)) → Splits w Meets Ends s i wanted (FrontBuilt w outputs) IsRefusal r → Shows r
+    split_shown IsRefusal refuses (Ok p) h =
+        let run = run_of s i h.0 h.1 in
+        let built = built_error outputs _ _ p.1 (λ v f. front_seen w l i h.0 v (items_of s i h.0 h.1) f run.first) h.4 in
+        accepted w (IsSeenAs w) outputs errors i _ (Blames i) _ h.0 (items_of s i h.0 h.1) p.0 p.1 h.3 (run, inl (enough_items w.weight wanted h.1.run h.0 h.1.length_is h.2)) built
+    split_shown IsRefusal refuses (Std.Err e) (inl h) =
+        let all : All (λ x. Test x true) (w.elements i) = λ k d p. meets _ (h.0.1 k d p) in
+        subst (λ f. Shows (Std.Err f)) (sym h.1.2) (undecided w (IsSeenAs w) outputs errors i _ (Blames i) _ (Some 1) h.1.0 h.1.1 (h.0.0, (all, tt, one_lacks wanted (span w.weight (w.elements i)))))
+    split_shown IsRefusal refuses (Std.Err e) (inr h) =
+        refused w (IsSeenAs w) outputs errors i (LeafAnswers (runs w Test None (cond wanted 1 0)) s i) (Blames i) Grows e (refuses e h.2) (0, record { items = []; mark = w.mark i }, no_run s i h.1, none_enough wanted (length (w.elements i)) h.0)

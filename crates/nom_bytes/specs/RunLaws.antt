@@ -91,7 +91,7 @@ module _ {I A : Type 0} (w : Seen I A) (Test : A → Bool → Type 0) (bound : O
     behind_longer = λ h. h;
   }
 
-  -- where an item follows whatever the mode, the mode doesn't matter
+  -- a run that an item follows is one in either mode
   abbrev pub run_closed : (s : Bool) (i : I) (n : ℕ) (t : Slice w) → IsRunSlice w Test bound true i n t → IsRunSlice w Test bound s i n t
   run_closed s i n t r = record { first = r.first; meets = r.meets; bounded = r.bounded; stops = r.stops; followed = λ _. r.followed refl }
 
@@ -102,7 +102,7 @@ module _ {I A : Type 0} (w : Seen I A) (IsValue : A → Type 0) (values : (i : I
       let down = no_longer IsValue Test fixed bound (w.elements i) u.items q.first.rest t.items r.first.rest (values i h) q.first.whole q.meets q.bounded r.first.whole r.stops in
       same_count w i n m t u r.first q.first (omega (arith, up, down))
 
-  -- one run follows another nowhere
+  -- no item follows the run where all items are the run
   none_follows : (i : I) (n : ℕ) (t : Slice w) → w.IsKnown i → IsRunSlice w Test bound true i n t → All (λ x. Test x true) (w.elements i) → IsWithin bound (length (w.elements i)) → ⊥
   none_follows i n t h r all b =
       let up = no_longer IsValue Test fixed bound (w.elements i) (w.elements i) [] t.items r.first.rest (values i h) (sym (append-nil (w.elements i))) all b r.first.whole r.stops in
