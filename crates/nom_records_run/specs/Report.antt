@@ -2,6 +2,8 @@
 use Rattle.std.specs.Prelude.{◌≡◌, ℕ, ◌-◌, ◌<◌, ◌≤◌, true, List, [], ◌∷◌, ◌++◌, length, map, slice_index, codes, Result, Ok, Err, Option, Some}
 use Rattle.std.specs.Borrow.{Bor}
 use Rattle.nom_error.specs.declared.kind.ErrorKind.{ErrorKind}
+use Rattle.nom_error.specs.declared.kind.ErrorKind.TheVariants.{Char}
+use Rattle.nom_error.specs.Errors.{Errors}
 use Rattle.nom_error.specs.declared.value.Error.{Error}
 use Rattle.nom_error.specs.declared.answer.Needed.{Needed}
 use Rattle.nom_error.specs.declared.answer.Err as Answer
@@ -31,12 +33,12 @@ records_text [] = []
 records_text (r ∷ rs) = record_text r ++ records_text rs
 
 -- The text and the status for an outcome on a beginning of the whole: `index` is that of the cut where it begins, and
--- offsets count from the beginning's first byte.
+-- offsets count from the beginning's first byte. The grammar never fails, so there is nothing to be said of a failure.
 abbrev pub Says : {V : Type 0} → (V → List (List ℕ)) → (Error (Bor (List ℕ)) → Type 0) → ℕ → (whole beginning : List ℕ) → Outcome V → List ℕ → ℕ → Type 0
 Says records Blames index whole beginning (Accept n v) text status = (text ≡ decided_text index ++ records_text (records v) ++ rest_text (length whole - n)) × (status ≡ 0)
 Says records Blames index whole beginning Refuse text status = (e : Error (Bor (List ℕ))) × Blames e × (text ≡ error_text e.code (length beginning - length e.input.now)) × (status ≡ 1)
-Says records Blames index whole beginning Fail text status = (e : Error (Bor (List ℕ))) × Blames e × (text ≡ failure_text e.code (length beginning - length e.input.now)) × (status ≡ 1)
-Says records Blames index whole beginning TooLarge text status = (e : Error (Bor (List ℕ))) × Blames e × (text ≡ failure_text e.code (length beginning - length e.input.now)) × (status ≡ 1)
+Says records Blames index whole beginning Fail text status = ⊥
+Says records Blames index whole beginning TooLarge text status = ⊥
 Says records Blames index whole beginning (Undecided k) text status = (text ≡ need_text k) × (status ≡ 2)
 
 -- The report by a grammar: the streaming outcome on the first of the beginnings at the cuts, and then of the whole, that
@@ -66,16 +68,26 @@ IsTold records index beginning (Err Stop.OutOfMemory) text status = ⊥
 abbrev pub bytes_lacking : ℕ → List ℕ → Option ℕ
 bytes_lacking count bytes = Some (count - length bytes)
 
+-- the errors that hold where they stand, and their kind
+abbrev pub errors_at : Errors (Bor (List ℕ)) (Error (Bor (List ℕ)))
+errors_at = record {
+  of_kind = IsErrorAt;
+  appended = λ _ _ other e. e ≡ other;
+  of_char = λ i _ e. IsErrorAt i Char e;
+  joined = λ _ other e. e ≡ other;
+  grows = ⊥;
+}
+
 abbrev pub tag_of : List ℕ → Meaning (Bor (List ℕ)) (Slice seen_bytes) (Error (Bor (List ℕ)))
-tag_of = tag_meaning seen_bytes IsErrorAt ⊥ length ComparesBytes
+tag_of = tag_meaning seen_bytes errors_at length ComparesBytes
 
 -- a record: a tag, a byte that says how many bytes follow, and these
 abbrev pub record_of : List ℕ → Meaning (Bor (List ℕ)) (ℕ × Slice seen_bytes) (Error (Bor (List ℕ)))
-record_of tag = preceded_meaning seen_bytes (tag_of tag) (length_data_meaning seen_bytes IsErrorAt ⊥ bytes_lacking (λ t v. v ≡ t) (number_meaning seen_bytes IsErrorAt ⊥ bytes_lacking (value_of 256) 1))
+record_of tag = preceded_meaning seen_bytes (tag_of tag) (length_data_meaning seen_bytes errors_at bytes_lacking (λ t v. v ≡ t) (number_meaning seen_bytes errors_at (value_of 256) 1))
 
 -- records, and then another tag
 abbrev pub grammar_of : (tag end : List ℕ) → Meaning (Bor (List ℕ)) (List (ℕ × Slice seen_bytes)) (Error (Bor (List ℕ)))
-grammar_of tag end = terminated_meaning seen_bytes (many0_meaning seen_bytes IsErrorAt ⊥ (record_of tag)) (tag_of end)
+grammar_of tag end = terminated_meaning seen_bytes (many0_meaning seen_bytes errors_at (record_of tag)) (tag_of end)
 
 -- the grammar: records that begin with `R`, and then `.`
 abbrev pub record_grammar : Meaning (Bor (List ℕ)) (List (ℕ × Slice seen_bytes)) (Error (Bor (List ℕ)))

@@ -10,7 +10,7 @@ use nom::error::Error;
 use nom::multi::{length_data, many0};
 use nom::number::be_u8;
 use nom::sequence::{preceded, terminated};
-use nom::{Err, IResult, OutOfMemory, parse_growing};
+use nom::{Err, IResult, Items, OutOfMemory, parse_growing};
 use std::alloc::Allocator;
 
 // The length of the beginning at the cut of an index; the number of cuts stands for the whole.
@@ -95,11 +95,12 @@ pub fn report<A: Allocator + Copy>(
     requires { NoneAbove cuts.now (length bytes.now) }
     ensures { IfOk result (λ r. IsReport bytes.now cuts.now (string_bytes r.0) r.1) }
 {
+    bytes.known();
     let record = preceded(
-        tag::<_, Error<&[u8]>>(&b"R"[..]),
-        length_data(be_u8::<Error<&[u8]>>()),
+        tag::<_, _, Error<&[u8]>>(&b"R"[..]),
+        length_data(be_u8::<_, Error<&[u8]>>()),
     );
-    let records = terminated(many0(alloc, record), tag::<_, Error<&[u8]>>(&b"."[..]));
+    let records = terminated(many0(alloc, record), tag::<_, _, Error<&[u8]>>(&b"."[..]));
     let grown = parse_growing(records, bytes, cuts);
     let beginning = beginning_len(bytes.len(), cuts, grown.index);
     tell(alloc, grown.index, beginning, grown.result)

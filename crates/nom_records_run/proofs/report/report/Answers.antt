@@ -10,4 +10,4 @@ pub returns : goal.returns
 returns g c =
     let begins = ap (λ p. p.parser.first.tag.now) c.terminated-records.ensures.first ∙ (ap (λ p. p.first.tag.now) c.many0.ensures.parser ∙ (ap (λ p. p.tag.now) c.preceded-record.ensures.first ∙ ap (λ t. t.now) c.tag.ensures)) in
     let ends = ap (λ p. p.tag.now) c.terminated-records.ensures.second ∙ ap (λ t. t.now) c.tag-2.ensures in
-    on_ok _ _ c.tell.result (λ r t. reported_records _ _ begins ends c.args.bytes c.args.cuts.now _ _ c.beginning_len-beginning.ensures.at_cut c.beginning_len-beginning.ensures.at_end _ _ _ c.parse_growing-grown.ensures t) c.tell.ensures
+    on_ok _ _ c.tell.result (λ r t. reported_records _ _ begins ends c.args.bytes c.args.cuts.now _ _ c.beginning_len-beginning.ensures.at_cut c.beginning_len-beginning.ensures.at_end c.known.ensures _ _ _ c.parse_growing-grown.ensures.grown t) c.tell.ensures
