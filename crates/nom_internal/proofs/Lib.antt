@@ -2,4 +2,5 @@ pub mod Cased
 pub mod Choices
 pub mod Consumed
 pub mod Grown
+pub mod InSequence
 pub mod Shown

@@ -4,7 +4,7 @@ use Rattle.std.specs.List.{AllZip}
 use Rattle.std.specs.declared.vec.Vec.{Vec}
 use Rattle.nom_error.specs.Modes.{Built}
 use Rattle.nom_internal.proofs.Shown.{built_error}
-use Rattle.nom_multi.specs.Lists.{IsFull, IsLonger}
+use Rattle.nom_multi.specs.Lists.{HasNoRoom, IsLonger}
 
 zip_push : {V O : Type 0} (P : V → O → Type 0) (vs : List V) (os : List O) (v : V) (o : O) → AllZip P vs os → P v o → AllZip P (vs ++ v ∷ []) (os ++ o ∷ [])
 zip_push P [] [] v o h p = (p, tt)
@@ -25,7 +25,7 @@ module _ {V T A : Type 0} (P : V → T → Type 0) where
   longer_built false vs v (Some l) n x g b c = absurd (cc (b))
   longer_built false vs v None n x g b c = g
 
-  pub list_built : (builds : Bool) (vs : List V) (list : Option (Vec T A)) → IsFull list → Built builds (λ (l : Vec T A). AllZip P vs l.items) list → builds ≡ true
+  pub list_built : (builds : Bool) (vs : List V) (list : Option (Vec T A)) → HasNoRoom list → Built builds (λ (l : Vec T A). AllZip P vs l.items) list → builds ≡ true
   list_built true vs list h b = refl
   list_built false vs (Some l) h b = absurd (cc (b))
   list_built false vs None h b = absurd h

@@ -13,9 +13,9 @@ IsLonger (Some list) None new = new ≡ Some list
 IsLonger None item new = new ≡ None
 
 -- a list is built, and has no room for another item
-abbrev pub IsFull : {T A : Type 0} → Option (Vec T A) → Type 0
-IsFull (Some list) = vec_capacity list ≤ vec_len list
-IsFull None = ⊥
+abbrev pub HasNoRoom : {T A : Type 0} → Option (Vec T A) → Type 0
+HasNoRoom (Some list) = vec_capacity list ≤ vec_len list
+HasNoRoom None = ⊥
 
 -- lists of outputs, each of its own tree
 pub list_pinned : {V O A : Type 0} (view : View O) (IsOutput : V → O → Type 0) → IsPinned view IsOutput → IsPinned (vec_view {A = A} view) (λ vs (list : Vec O A). AllZip IsOutput vs list.items)

@@ -2,7 +2,7 @@
 ghost use Rattle.std.specs.Prelude.{◌≡◌, List, [], Option, IsTrue, false};
 ghost use Rattle.std.specs.List.{AllZip};
 ghost use Rattle.nom_error.specs.Modes.{Built};
-ghost use Rattle.nom_multi.specs.Lists.{IsFull, IsLonger};
+ghost use Rattle.nom_multi.specs.Lists.{HasNoRoom, IsLonger};
 ghost use Rattle.nom_multi.specs.Many.{many0_meaning};
 
 use nom_error::answer::{Err, PResult};
@@ -95,7 +95,7 @@ fn none_yet<M: Mode, T, A: Allocator>(alloc: A) -> Option<Vec<T, A>>
 #[inline(always)]
 fn keep<T: Drop, A: Allocator>(list: &mut Option<Vec<T, A>>, item: Option<T>) -> bool
     ensures kept { IsTrue result → IsLonger list.old item list.new }
-    ensures refused { result ≡ false → IsFull list.old }
+    ensures refused { result ≡ false → HasNoRoom list.old }
 {
     match (list, item) {
         (Some(list), Some(item)) => list.push(item).is_ok(),

@@ -3,7 +3,7 @@ use Rattle.std.proofs.Common.{◌≡◌, ℕ, ◌<◌, ◌-◌, Bool, true, fals
 use Rattle.std.specs.Iterator.{AlwaysYields}
 use Rattle.nom_error.specs.Modes.{Built}
 use Rattle.nom_traits.specs.Input.{span}
-use Rattle.nom_number.specs.Numbers.{value_of}
+use Rattle.nom_traits.specs.Digits.{value_of}
 
 -- what the first call of an iterator over some items gives
 first_given : {S : Type 0} (steps : S → Option ℕ → S → Type 0) (s t : S) (xs : List ℕ) (r : Option ℕ) → 0 < length xs → AlwaysYields steps (λ x. x) s xs → steps s r t → (b : ℕ) × (r ≡ Some b) × ((rest : List ℕ) × (xs ≡ b ∷ rest))

@@ -1,24 +1,10 @@
 -- Numbers that are written as items of an input.
-use Rattle.std.specs.Prelude.{◌≡◌, ℕ, ◌+◌, ◌-◌, ◌*◌, List, [], ◌∷◌, ◌++◌, Option, Some, refl}
+use Rattle.std.specs.Prelude.{ℕ, ◌-◌, List, Option, Some}
 use Rattle.nom_error.specs.Errors.{Errors}
 use Rattle.nom_traits.specs.Input.{Seen, span}
 use Rattle.nom_internal.specs.Meaning.{Meaning}
 use Rattle.nom_internal.specs.Cases.{labelled_meaning}
 use Rattle.nom_bytes.specs.Takes.{take_meaning}
-
--- the value of digits in a base, the highest first, after digits of a value
-abbrev pub digits_after : ℕ → ℕ → List ℕ → ℕ
-digits_after base value [] = value
-digits_after base value (d ∷ ds) = digits_after base (base * value + d) ds
-
--- the value of digits in a base, the highest first
-abbrev pub value_of : ℕ → List ℕ → ℕ
-value_of base ds = digits_after base 0 ds
-
--- the value of digits and one more is base times theirs, and the last
-pub value_more : (base value d : ℕ) (ds : List ℕ) → digits_after base value (ds ++ d ∷ []) ≡ base * digits_after base value ds + d
-value_more base value d [] = refl
-value_more base value d (x ∷ ds) = value_more base (base * value + x) d ds
 
 -- what lacks of so many bytes is their number less the input's length
 abbrev pub bytes_lack : {I A : Type 0} → Seen I A → ℕ → List A → Option ℕ

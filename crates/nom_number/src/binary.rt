@@ -5,7 +5,8 @@ ghost use Rattle.nom_internal.specs.CaseLaws.{labelled_lawful, labelled_steady};
 ghost use Rattle.nom_internal.specs.Pinned.{value_pinned};
 ghost use Rattle.nom_bytes.specs.Takes.{take_meaning};
 ghost use Rattle.nom_bytes.specs.TakeLaws.{take_lawful, take_steady};
-ghost use Rattle.nom_number.specs.Numbers.{bytes_lack, number_meaning, value_of};
+ghost use Rattle.nom_traits.specs.Digits.{value_of};
+ghost use Rattle.nom_number.specs.Numbers.{bytes_lack, number_meaning};
 
 use nom_error::answer::{Err, Needed, PResult};
 use nom_error::kind::ErrorKind;

@@ -23,7 +23,8 @@ use Rattle.nom_multi.specs.Lengths.{length_data_meaning}
 use Rattle.nom_multi.specs.LengthLaws.{length_data_lawful}
 use Rattle.nom_multi.specs.Many.{many0_meaning}
 use Rattle.nom_multi.specs.ManyLaws.{many0_lawful}
-use Rattle.nom_number.specs.Numbers.{bytes_lack, number_meaning, value_of}
+use Rattle.nom_traits.specs.Digits.{value_of}
+use Rattle.nom_number.specs.Numbers.{bytes_lack, number_meaning}
 use Rattle.nom_internal.specs.Growing.{IsBeginning, AnswersOn, IsGrown}
 use Rattle.nom_internal.specs.Growing.IsBeginning.{AtCut, AtEnd}
 use Rattle.nom_internal.specs.Growing.AnswersOn.{RanOutOn, ShownOn}
@@ -33,8 +34,8 @@ use Rattle.nom_records_run.specs.Report.{records_text, Says, IsTold, IsReportBy,
 abbrev Bytes : Type 0
 Bytes = Bor (List ℕ)
 
-abbrev Stops : Type 0
-Stops = Answer.Err (Error Bytes) (Error Bytes) Needed
+abbrev AnswerErr : Type 0
+AnswerErr = Answer.Err (Error Bytes) (Error Bytes) Needed
 
 pub on_ok : {T E : Type 0} (P Q : T → Type 0) (r : Result T E) → ((x : T) → P x → Q x) → IfOk r P → IfOk r Q
 on_ok P Q (Ok x) f h = f x h
@@ -51,7 +52,7 @@ rest_len : (whole j : Bytes) (n : ℕ) → IsRest seen_bytes whole n j → lengt
 rest_len whole j n p = omega (arith, ap length p.whole, length-append p.front j.now, span-ones p.front, p.length_is)
 
 module _ {V O : Type 0} (records : V → List (List ℕ)) (IsOutput : V → O → Type 0) (given : O → List (List ℕ)) (same : (v : V) (o : O) → IsOutput v o → given o ≡ records v) (Blames : Error Bytes → Type 0) (index start : ℕ) (whole x : Bytes) (begins : start ≡ length x.now) where
-  says : (o : Outcome V) → ((large : Bool) → o ≡ failure large → ⊥) → (answer : Result (Bytes × O) Stops) (text : List ℕ) (status : ℕ) → Parses seen_bytes IsOutput whole Blames o answer → IsTold given index start answer text status → Says records Blames index whole.now x.now o text status
+  says : (o : Outcome V) → ((large : Bool) → o ≡ failure large → ⊥) → (answer : Result (Bytes × O) AnswerErr) (text : List ℕ) (status : ℕ) → Parses seen_bytes IsOutput whole Blames o answer → IsTold given index start answer text status → Says records Blames index whole.now x.now o text status
   says (Accept n v) never answer text status p t =
       let told = subst (λ a. IsTold given index start a text status) p.4 t in
       let parts : decided_text index ++ records_text (given p.1) ++ rest_text (length (p.0).now) ≡ decided_text index ++ records_text (records v) ++ rest_text (length whole.now - n) =
@@ -71,7 +72,7 @@ module _ {V O : Type 0} (m : Meaning Bytes V (Error Bytes)) (records : V → Lis
   begins_known x (AtCut h p) = p.known
   begins_known x (AtEnd h e) = subst seen_bytes.IsKnown (sym e) known
 
-  answered : (answer : Result (Bytes × O) Stops) (text : List ℕ) (status : ℕ) (g : IsGrown seen_bytes IsOutput m whole cuts index answer) → AnswersOn seen_bytes IsOutput m whole cuts index g.beginning answer → IsTold given index start answer text status → IsReportBy m records whole.now cuts text status
+  answered : (answer : Result (Bytes × O) AnswerErr) (text : List ℕ) (status : ℕ) (g : IsGrown seen_bytes IsOutput m whole cuts index answer) → AnswersOn seen_bytes IsOutput m whole cuts index g.beginning answer → IsTold given index start answer text status → IsReportBy m records whole.now cuts text status
   answered answer text status g (RanOutOn e h) t = absurd (subst (λ a. IsTold given index start a text status) e t)
   answered answer text status g (ShownOn b) t = record {
     whole = whole;
@@ -87,7 +88,7 @@ module _ {V O : Type 0} (m : Meaning Bytes V (Error Bytes)) (records : V → Lis
     says = says records IsOutput given same (m.blames true g.beginning) index start whole g.beginning (start_is whole cuts index start g.beginning at_cut at_end g.begins) b.outcome (λ large e. never large g.beginning (begins_known g.beginning g.begins) (subst (λ o. m.answers true g.beginning o) e b.answered)) answer text status b.shown t;
   }
 
-  pub reported : (answer : Result (Bytes × O) Stops) (text : List ℕ) (status : ℕ) → IsGrown seen_bytes IsOutput m whole cuts index answer → IsTold given index start answer text status → IsReportBy m records whole.now cuts text status
+  pub reported : (answer : Result (Bytes × O) AnswerErr) (text : List ℕ) (status : ℕ) → IsGrown seen_bytes IsOutput m whole cuts index answer → IsTold given index start answer text status → IsReportBy m records whole.now cuts text status
   reported answer text status g t = answered answer text status g g.answer t
 
 -- the outputs of a tree: the slices of its records
@@ -112,7 +113,7 @@ grammar_never_fails : (large : Bool) (i : Bytes) → seen_bytes.IsKnown i → re
 grammar_never_fails large i h = (grammar_lawful (codes "R") (codes ".")).never_fails large ((tt, (tt, tt)), tt) true i h
 
 -- the grammar of two tags is that of the report, where these are its own
-pub reported_records : {A : Type 0} (tag end : List ℕ) → tag ≡ codes "R" → end ≡ codes "." → (whole : Bytes) (cuts : List ℕ) (index start : ℕ) → (index < length cuts → start ≡ slice_index cuts index) → (length cuts ≤ index → start ≡ length whole.now) → seen_bytes.IsKnown whole → (answer : Result (Bytes × Vec Bytes A) Stops) (text : List ℕ) (status : ℕ) → IsGrown seen_bytes AreRecords (grammar_of tag end) whole cuts index answer → IsTold (λ o. map (λ r. r.now) o.items) index start answer text status → IsReport whole.now cuts text status
+pub reported_records : {A : Type 0} (tag end : List ℕ) → tag ≡ codes "R" → end ≡ codes "." → (whole : Bytes) (cuts : List ℕ) (index start : ℕ) → (index < length cuts → start ≡ slice_index cuts index) → (length cuts ≤ index → start ≡ length whole.now) → seen_bytes.IsKnown whole → (answer : Result (Bytes × Vec Bytes A) AnswerErr) (text : List ℕ) (status : ℕ) → IsGrown seen_bytes AreRecords (grammar_of tag end) whole cuts index answer → IsTold (λ o. map (λ r. r.now) o.items) index start answer text status → IsReport whole.now cuts text status
 unfolding IsReport
 reported_records tag end e f whole cuts index start at_cut at_end known answer text status g t =
     let tagged = subst (λ x. IsGrown seen_bytes AreRecords (grammar_of x end) whole cuts index answer) e g in

@@ -7,6 +7,7 @@ use Rattle.nom_internal.specs.Outcome.{Outcome, IsDecided, failure}
 use Rattle.nom_internal.specs.Outcome.Outcome.{Accept, Refuse, Fail, TooLarge, Undecided}
 use Rattle.nom_internal.specs.Meaning.{Meaning, IsLawful, IsSteady, Keeps, Agree, Carries, Within, SameBlame}
 use Rattle.nom_internal.specs.PartLaws.{transfers}
+use Rattle.nom_internal.specs.Success.{place_zero}
 use Rattle.nom_internal.specs.Families.{Family, IsLawfulFamily, AnyKey}
 use Rattle.nom_internal.specs.Sequence.{after}
 use Rattle.nom_internal.specs.SequenceLaws.{keeps_after, failure_after}
@@ -208,18 +209,15 @@ module _ {I A P V T R E : Type 0} (w : Seen I A) (l : InputLaws w) (r : Rule I P
   abbrev Turns : Bool → ℕ → I → Turn V T → Type 0
   Turns s = TurnsBy r.bound r.turn (Part s)
 
-  here : (j : I) (n : ℕ) → n ≡ 0 → IsPlace w j n
-  here j n e = record { front = []; rest = w.elements j; whole = refl; length_is = sym e }
-
   -- an end with success is within the input
   end_place : (s : Bool) → ((k : ℕ) → Within w (Part s k)) → (k : ℕ) (j : I) (n : ℕ) (a : Option (Outcome P)) → w.IsKnown j → Replies r.bound (Part s) k j a → EndsAt n a → IsPlace w j n
-  end_place s g k j n (Some (Accept x u)) h p (inl e) = here j n e
+  end_place s g k j n (Some (Accept x u)) h p (inl e) = place_zero w j n e
   end_place s g k j n (Some (Accept x u)) h p (inr e) = subst (λ z. IsPlace w j z) (sym e) (g k j x u h p.1)
-  end_place s g k j n (Some Refuse) h p e = here j n e
-  end_place s g k j n (Some Fail) h p e = here j n e
-  end_place s g k j n (Some TooLarge) h p e = here j n e
-  end_place s g k j n (Some (Undecided d)) h p e = here j n e
-  end_place s g k j n None h p e = here j n e
+  end_place s g k j n (Some Refuse) h p e = place_zero w j n e
+  end_place s g k j n (Some Fail) h p e = place_zero w j n e
+  end_place s g k j n (Some TooLarge) h p e = place_zero w j n e
+  end_place s g k j n (Some (Undecided d)) h p e = place_zero w j n e
+  end_place s g k j n None h p e = place_zero w j n e
 
   -- what the part replies at a place is blamed by an error
   abbrev Blamed : Bool → I → E → ℕ → I → Type 0

@@ -5,6 +5,7 @@ pub mod Bytes
 pub mod Classes
 pub mod CompareTags
 pub mod Compares
+pub mod Digits
 pub mod Input
 pub mod Rests
 pub mod Runs

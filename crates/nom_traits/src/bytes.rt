@@ -1,5 +1,5 @@
 //! Slices of bytes as inputs: the items are the bytes, each of length 1.
-ghost use Rattle.std.specs.Prelude.{◌≡◌, ◌-◌, length, Some};
+ghost use Rattle.std.specs.Prelude.{◌≡◌, ◌-◌, length, Some, refl};
 ghost use Rattle.nom_traits.specs.Bytes.{seen_bytes, bytes_lawful};
 ghost use Rattle.nom_traits.specs.Classes.{IsInside, IsOutside};
 ghost use Rattle.nom_traits.specs.Runs.{IsPosition};
@@ -83,6 +83,8 @@ impl<'a> Input for &'a [u8] {
     ghost more = { λ _. tt };
 
     ghost views = { λ x y h. h.elements_are };
+
+    ghost tells = { λ x y e. record { elements_are = e; mark_is = refl } };
 }
 
 /// The place of the first byte that isn't of the class; `None` where all are.

@@ -128,6 +128,9 @@ pub trait Input: Items + Viewed {
     /// Inputs that are seen alike are compared as one.
     ghost views: { (x y : Self) → IsSame Self.seen x y → Self.view.value x ≡ Self.view.value y };
 
+    /// Inputs that are compared as one are seen alike: they have the same items and the same mark.
+    ghost tells: { (x y : Self) → Self.view.value x ≡ Self.view.value y → IsSame Self.seen x y };
+
     /// The rest, and then the first items, of length `index`.
     #[inline(always)]
     final fn take_split(&self, index: usize) -> (Self, Self)

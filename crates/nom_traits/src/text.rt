@@ -1,5 +1,5 @@
 //! Texts as inputs: the items are the characters, each as long as its UTF-8 form.
-ghost use Rattle.std.specs.Prelude.{◌≡◌, ◌<◌, length, chars, None, MatchResult};
+ghost use Rattle.std.specs.Prelude.{◌≡◌, ◌<◌, length, chars, None, MatchResult, refl};
 ghost use Rattle.nom_error.specs.Answers.{size_of};
 ghost use Rattle.nom_traits.specs.Slices.{IsCount};
 ghost use Rattle.nom_traits.specs.Text.{seen_text, text_lawful, text_values};
@@ -78,6 +78,8 @@ impl<'a> Input for &'a str {
     ghost more = { λ _. tt };
 
     ghost views = { λ x y h. h.elements_are };
+
+    ghost tells = { λ x y e. record { elements_are = e; mark_is = refl } };
 }
 
 impl Offset for &str {
