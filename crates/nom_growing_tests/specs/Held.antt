@@ -50,8 +50,8 @@ module _ {S : Type 0} (bytes : S → Bor (List ℕ)) where
 
   pub held_comparing : {T : Type 0} {size : T → ℕ} {Compares : T → List ℕ → CompareResult → Type 0} → CompareLaws seen_bytes size Compares → CompareLaws seen_held size Compares
   held_comparing {size = size} c = record {
-    one = c.one;
-    place = λ t x h. place_held x (size t) (c.place t (bytes x) h);
+    one = λ t x r s k. c.one t (bytes x) r s k;
+    place = λ t x k h. place_held x (size t) (c.place t (bytes x) k h);
     shorter = λ t x k h. c.shorter t (bytes x) k h;
     ok_stays = λ t x y h k e r. c.ok_stays t (bytes x) (bytes y) h k (extends_held x y e) r;
     error_stays = λ t x y h k e r. c.error_stays t (bytes x) (bytes y) h k (extends_held x y e) r;

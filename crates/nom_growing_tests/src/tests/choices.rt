@@ -60,7 +60,7 @@ impl<I: Drop> ParseError<I> for Trail {
 #[test]
 fn a_branch_that_waits_is_the_choice(rt: HostRuntime) {
     let input = &b"ab"[..];
-    let mut words = alt((tag::<_, At>(&b"abc"[..]), tag::<_, At>(&b"ab"[..])));
+    let mut words = alt((tag::<_, _, At>(&b"abc"[..]), tag::<_, _, At>(&b"ab"[..])));
     assert!(rt; need(words.parse(input)) == Some(Needed::new(1)));
     let (rest, word) = acceptance(words.parse_complete(input)).expect(&rt, "refused");
     assert!(rt; rest.is_empty());
@@ -69,7 +69,7 @@ fn a_branch_that_waits_is_the_choice(rt: HostRuntime) {
 
 #[test]
 fn a_choice_that_grows(rt: HostRuntime) {
-    let words = alt((tag::<_, At>(&b"abc"[..]), tag::<_, At>(&b"ab"[..])));
+    let words = alt((tag::<_, _, At>(&b"abc"[..]), tag::<_, _, At>(&b"ab"[..])));
     let grown = parse_growing(words, &b"abd"[..], &[2]);
     assert!(rt; grown.index == 1);
     let (rest, word) = acceptance(grown.result).expect(&rt, "refused");
@@ -79,7 +79,7 @@ fn a_choice_that_grows(rt: HostRuntime) {
 
 #[test]
 fn a_refusal_is_at_the_start(rt: HostRuntime) {
-    let mut words = alt((tag::<_, At>(&b"a"[..]), tag::<_, At>(&b"b"[..])));
+    let mut words = alt((tag::<_, _, At>(&b"a"[..]), tag::<_, _, At>(&b"b"[..])));
     let error = error_of(words.parse(&b"cd"[..])).expect(&rt, "not refused");
     assert!(rt; error.code == ErrorKind::Tag);
     assert!(rt; error.input == b"cd".as_slice());
@@ -87,7 +87,7 @@ fn a_refusal_is_at_the_start(rt: HostRuntime) {
 
 #[test]
 fn errors_are_joined_in_order_and_closed(rt: HostRuntime) {
-    let mut words = alt((tag::<_, Trail>(&b"a"[..]), tag::<_, Trail>(&b"b"[..])));
+    let mut words = alt((tag::<_, _, Trail>(&b"a"[..]), tag::<_, _, Trail>(&b"b"[..])));
     let trail = error_of(words.parse_complete(&b"c"[..])).expect(&rt, "not refused");
     let [first, second, third, last] = trail.kinds;
     assert!(rt; first == Some(ErrorKind::Tag));
@@ -98,7 +98,7 @@ fn errors_are_joined_in_order_and_closed(rt: HostRuntime) {
 
 #[test]
 fn modes_decide_alike(rt: HostRuntime) {
-    let mut words = alt((tag::<_, At>(&b"a"[..]), tag::<_, At>(&b"b"[..])));
+    let mut words = alt((tag::<_, _, At>(&b"a"[..]), tag::<_, _, At>(&b"b"[..])));
     let checked = words.process::<OutputM<Check, Check, Streaming>>(&b"bc"[..]);
     let (rest, output) = acceptance(checked).expect(&rt, "refused");
     assert!(rt; rest == b"c".as_slice());

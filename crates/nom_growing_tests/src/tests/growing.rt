@@ -14,7 +14,7 @@ type Fail<'a> = Error<&'a [u8]>;
 #[test]
 fn a_record_that_grows(rt: HostRuntime) {
     let input = &b"Rabcd"[..];
-    let record = tag::<_, Fail>(&b"R"[..]).and(take::<Fail>(4));
+    let record = tag::<_, _, Fail>(&b"R"[..]).and(take::<_, _, Fail>(4usize));
     let grown = parse_growing(record, input, &[2]);
     assert!(rt; grown.index == 1);
     match grown.result {
@@ -30,7 +30,7 @@ fn a_record_that_grows(rt: HostRuntime) {
 #[test]
 fn a_tag_at_the_least_cut(rt: HostRuntime) {
     let input = &b"abX"[..];
-    let grown = parse_growing(tag::<_, Fail>(&b"ab"[..]), input, &[0, 1, 2, 3]);
+    let grown = parse_growing(tag::<_, _, Fail>(&b"ab"[..]), input, &[0, 1, 2, 3]);
     assert!(rt; grown.index == 2);
     match grown.result {
         Ok((rest, value)) => {
@@ -48,7 +48,11 @@ fn grown_record<'a>(
 ) -> Grown<&'a [u8], (&'a [u8], &'a [u8]), Fail<'a>>
     requires { AreCuts seen_bytes input cuts.now }
 {
-    parse_growing(tag::<_, Fail>(&b"R"[..]).and(take::<Fail>(4)), input, cuts)
+    parse_growing(
+        tag::<_, _, Fail>(&b"R"[..]).and(take::<_, _, Fail>(4usize)),
+        input,
+        cuts,
+    )
 }
 
 #[test]
@@ -95,8 +99,8 @@ fn grown_list<'a>(
 ) -> Grown<&'a [u8], Vec<&'a [u8]>, Fail<'a>>
     requires { AreCuts seen_bytes input cuts.now }
 {
-    let items = many0(alloc, tag::<_, Fail>(&b"a"[..]));
-    parse_growing(terminated(items, tag::<_, Fail>(&b"b"[..])), input, cuts)
+    let items = many0(alloc, tag::<_, _, Fail>(&b"a"[..]));
+    parse_growing(terminated(items, tag::<_, _, Fail>(&b"b"[..])), input, cuts)
 }
 
 #[test]

@@ -36,6 +36,8 @@ impl<'a> Parser<&'a [u8]> for Byte {
 
     ghost meaning = { λ _. byte_meaning };
 
+    ghost Pins = { λ _. Unit {0} };
+
     fn process<OM: OutputMode>(
         &mut self,
         input: &'a [u8],
@@ -47,7 +49,7 @@ impl<'a> Parser<&'a [u8]> for Byte {
         }
     }
 
-    ghost lawful = { λ _. byte_lawful };
+    ghost lawful = { λ _ k. byte_lawful };
 }
 
 /// The first byte, where outputs are built.
@@ -60,7 +62,7 @@ fn first<M: Mode>(input: &[u8]) -> Option<u8>
 
 #[test]
 fn items_until_one_is_refused(rt: HostRuntime) {
-    let mut list = many0(rt.alloc(), tag::<_, At>(&b"a"[..]));
+    let mut list = many0(rt.alloc(), tag::<_, _, At>(&b"a"[..]));
     for (input, count) in [
         (&b"b"[..], 0),
         (&b"aab"[..], 2),
@@ -87,7 +89,7 @@ fn items_until_one_is_refused(rt: HostRuntime) {
 
 #[test]
 fn an_empty_item_is_refused(rt: HostRuntime) {
-    let mut list = many0(rt.alloc(), tag::<_, At>(&b""[..]));
+    let mut list = many0(rt.alloc(), tag::<_, _, At>(&b""[..]));
     let error = error_of(list.parse_complete(&b"x"[..])).expect(&rt, "not refused");
     assert!(rt; error.code == ErrorKind::Many0);
     assert!(rt; error.input == b"x".as_slice());

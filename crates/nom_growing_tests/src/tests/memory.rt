@@ -17,7 +17,7 @@ fn each_growth_refused(rt: HostRuntime) -> Result<(), AllocError> {
     let mut accepted = false;
     for units in 1..200 {
         let heap = LocalHeap::new(rt.alloc(), units * 16)?;
-        let mut items = many0(&heap, tag::<_, Fail>(&b"a"[..]));
+        let mut items = many0(&heap, tag::<_, _, Fail>(&b"a"[..]));
         match items.parse(input) {
             Ok((rest, list)) => {
                 accepted = true;
@@ -51,9 +51,9 @@ fn each_growth_of_a_text_refused(rt: HostRuntime) -> Result<(), AllocError> {
         let heap = LocalHeap::new(rt.alloc(), units * 16)?;
         let mut text = escaped_transform(
             &heap,
-            take_while1::<_, Error<&str>>(|c: char| c.is_ascii_digit()),
+            take_while1::<_, _, Error<&str>>(|c: char| c.is_ascii_digit()),
             '\\',
-            tag::<_, Error<&str>>("n"),
+            tag::<_, _, Error<&str>>("n"),
         );
         match text.parse(input) {
             Ok((rest, output)) => {

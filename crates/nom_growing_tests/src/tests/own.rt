@@ -32,8 +32,6 @@ impl Items for Packet<'_> {
     ghost lawful = { held_lawful (λ p. p.bytes) };
 
     ghost values = { λ p h. h.0 };
-
-    ghost views = { λ x y h. h.elements_are };
 }
 
 impl<'a> Input for Packet<'a> {
@@ -76,6 +74,8 @@ impl<'a> Input for Packet<'a> {
     }
 
     ghost more = { λ _. tt };
+
+    ghost views = { λ x y h. h.elements_are };
 }
 
 impl<'a, 'b> Compare<&'b [u8]> for Packet<'a> {
@@ -152,7 +152,7 @@ impl ParseError<Packet<'_>> for Refusal {
 #[test]
 fn a_record_of_packets(rt: HostRuntime) {
     let tag_of = &b"ab"[..];
-    let mut record = tag::<_, Refusal>(tag_of).and(take::<Refusal>(4));
+    let mut record = tag::<_, _, Refusal>(tag_of).and(take::<_, _, Refusal>(4usize));
     match record.parse(Packet { bytes: b"abcdefg" }) {
         Ok((rest, (name, value))) => {
             assert!(rt; rest.bytes == b"g".as_slice());

@@ -34,7 +34,7 @@ fn bytes_of_a_set(rt: HostRuntime) {
         ),
     ] {
         assert!(rt;
-            answers(is_a::<_, Fail>(&b"+-"[..]), way, input, answer),
+            answers(is_a::<_, _, Fail>(&b"+-"[..]), way, input, answer),
             "at {input:?}"
         );
     }
@@ -78,7 +78,7 @@ fn bytes_outside_a_set(rt: HostRuntime) {
         ),
     ] {
         assert!(rt;
-            answers(is_not::<_, Fail>(set), way, input, answer),
+            answers(is_not::<_, _, Fail>(set), way, input, answer),
             "at {input:?}"
         );
     }
@@ -86,7 +86,7 @@ fn bytes_outside_a_set(rt: HostRuntime) {
 
 #[test]
 fn sets_that_are_checked(rt: HostRuntime) {
-    let mut signs = is_a::<_, Fail>([b'+', b'-']);
+    let mut signs = is_a::<_, _, Fail>([b'+', b'-']);
     match signs.process::<OutputM<Check, Check, Streaming>>(&b"+-1"[..]) {
         Ok((rest, run)) => {
             assert!(rt; rest == b"1".as_slice());
@@ -98,7 +98,7 @@ fn sets_that_are_checked(rt: HostRuntime) {
         Err(Err::Error(error)) => assert!(rt; error.is_none()),
         _ => panic!(rt; "not refused"),
     }
-    let mut others = is_not::<_, Fail>([b'+', b'-']);
+    let mut others = is_not::<_, _, Fail>([b'+', b'-']);
     match others.process::<OutputM<Check, Emit, Complete>>(&b"12"[..]) {
         Ok((rest, run)) => {
             assert!(rt; rest.is_empty());
@@ -117,12 +117,12 @@ fn empty_sets(rt: HostRuntime) {
     let none = &b""[..];
     let input = &b"ab"[..];
     let refused = Answer::Refuses(ErrorKind::IsA, input);
-    assert!(rt; answers(is_a::<_, Fail>(none), Way::Streaming, input, refused));
+    assert!(rt; answers(is_a::<_, _, Fail>(none), Way::Streaming, input, refused));
     for (way, answer) in [
         (Way::Streaming, Answer::Needs(1)),
         (Way::Complete, Answer::Accepts(&b""[..], input)),
     ] {
-        assert!(rt; answers(is_not::<_, Fail>(none), way, input, answer));
+        assert!(rt; answers(is_not::<_, _, Fail>(none), way, input, answer));
     }
 }
 
@@ -133,7 +133,7 @@ fn sets_in_one_mode(rt: HostRuntime) {
     let none = &b""[..];
     assert!(rt;
         answers(
-            complete::is_a::<_, Fail>(signs),
+            complete::is_a::<_, _, Fail>(signs),
             Way::Streaming,
             signs,
             Answer::Accepts(none, signs)
@@ -141,7 +141,7 @@ fn sets_in_one_mode(rt: HostRuntime) {
     );
     assert!(rt;
         answers(
-            streaming::is_a::<_, Fail>(signs),
+            streaming::is_a::<_, _, Fail>(signs),
             Way::Complete,
             signs,
             Answer::Needs(1)
@@ -149,7 +149,7 @@ fn sets_in_one_mode(rt: HostRuntime) {
     );
     assert!(rt;
         answers(
-            complete::is_not::<_, Fail>(signs),
+            complete::is_not::<_, _, Fail>(signs),
             Way::Streaming,
             none,
             Answer::Refuses(ErrorKind::IsNot, none)
@@ -157,7 +157,7 @@ fn sets_in_one_mode(rt: HostRuntime) {
     );
     assert!(rt;
         answers(
-            streaming::is_not::<_, Fail>(signs),
+            streaming::is_not::<_, _, Fail>(signs),
             Way::Complete,
             none,
             Answer::Needs(1)

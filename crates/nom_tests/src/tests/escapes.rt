@@ -19,9 +19,9 @@ fn texts_as_they_stand(rt: HostRuntime) {
         (Way::Complete, "12\\n34;", Answer::Accepts(";", "12\\n34")),
     ] {
         let text = escaped(
-            take_while1::<_, Fail>(|c: char| c.is_ascii_digit()),
+            take_while1::<_, _, Fail>(|c: char| c.is_ascii_digit()),
             '\\',
-            tag::<_, Fail>("n"),
+            tag::<_, _, Fail>("n"),
         );
         assert!(rt; answers(text, way, input, answer), "at {input}");
     }
@@ -40,9 +40,9 @@ fn texts_as_they_are_meant(rt: HostRuntime) {
     ] {
         let text = escaped_transform(
             rt.alloc(),
-            take_while1::<_, Fail>(|c: char| c.is_ascii_digit()),
+            take_while1::<_, _, Fail>(|c: char| c.is_ascii_digit()),
             '\\',
-            tag::<_, Fail>("n"),
+            tag::<_, _, Fail>("n"),
         );
         assert!(rt; answers(text, way, input, answer), "at {input}");
     }
@@ -51,9 +51,9 @@ fn texts_as_they_are_meant(rt: HostRuntime) {
 #[test]
 fn texts_that_are_checked(rt: HostRuntime) {
     let mut text = escaped(
-        take_while1::<_, Fail>(|c: char| c.is_ascii_digit()),
+        take_while1::<_, _, Fail>(|c: char| c.is_ascii_digit()),
         '\\',
-        tag::<_, Fail>("n"),
+        tag::<_, _, Fail>("n"),
     );
     match text.process::<OutputM<Check, Check, Streaming>>("12\\n34;") {
         Ok((rest, output)) => {
@@ -64,9 +64,9 @@ fn texts_that_are_checked(rt: HostRuntime) {
     }
     let mut text = escaped_transform(
         rt.alloc(),
-        take_while1::<_, Fail>(|c: char| c.is_ascii_digit()),
+        take_while1::<_, _, Fail>(|c: char| c.is_ascii_digit()),
         '\\',
-        tag::<_, Fail>("n"),
+        tag::<_, _, Fail>("n"),
     );
     match text.process::<OutputM<Check, Emit, Complete>>("12\\n34;") {
         Ok((rest, output)) => {
@@ -83,9 +83,9 @@ fn an_empty_piece(rt: HostRuntime) {
     for way in [Way::Streaming, Way::Complete] {
         let text = escaped_transform(
             rt.alloc(),
-            complete::take_while::<_, Fail>(|c: char| c.is_alpha()),
+            complete::take_while::<_, _, Fail>(|c: char| c.is_alpha()),
             '\\',
-            tag::<_, Fail>("n"),
+            tag::<_, _, Fail>("n"),
         );
         assert!(rt; answers(text, way, "ab7", Answer::Accepts("7", "ab")));
     }
@@ -95,9 +95,9 @@ fn an_empty_piece(rt: HostRuntime) {
 #[test]
 fn a_control_character_past_ascii(rt: HostRuntime) {
     let text = escaped(
-        take_while1::<_, Error<&[u8]>>(|b: u8| b.is_alpha()),
+        take_while1::<_, _, Error<&[u8]>>(|b: u8| b.is_alpha()),
         'é',
-        tag::<_, Error<&[u8]>>("n"),
+        tag::<_, _, Error<&[u8]>>("n"),
     );
     let answer = Answer::Accepts(&b";"[..], &b"a\xE9n"[..]);
     assert!(rt; answers(text, Way::Complete, &b"a\xE9n;"[..], answer));

@@ -15,7 +15,7 @@ fn words_without_case(rt: HostRuntime) {
     ] {
         for way in [Way::Streaming, Way::Complete] {
             assert!(rt;
-                answers(tag_no_case::<_, Fail>(word), way, input, answer),
+                answers(tag_no_case::<_, _, Fail>(word), way, input, answer),
                 "at {input}"
             );
         }
@@ -26,6 +26,6 @@ fn words_without_case(rt: HostRuntime) {
 fn up_to_a_character(rt: HostRuntime) {
     for way in [Way::Streaming, Way::Complete] {
         let answer = Answer::Accepts("é", "a");
-        assert!(rt; answers(take_until::<_, Fail>("é"), way, "aé", answer));
+        assert!(rt; answers(take_until::<_, _, Fail>("é"), way, "aé", answer));
     }
 }

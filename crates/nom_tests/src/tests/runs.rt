@@ -23,14 +23,14 @@ fn digits(rt: HostRuntime) {
             Answer::Accepts(&b""[..], &b"12"[..]),
         ),
     ] {
-        let digits = take_while::<_, Fail>(|b: u8| b.is_ascii_digit());
+        let digits = take_while::<_, _, Fail>(|b: u8| b.is_ascii_digit());
         assert!(rt; answers(digits, way, input, answer), "at {input:?}");
     }
 }
 
 #[test]
 fn digits_that_are_checked(rt: HostRuntime) {
-    let mut digits = take_while::<_, Fail>(|b: u8| b.is_ascii_digit());
+    let mut digits = take_while::<_, _, Fail>(|b: u8| b.is_ascii_digit());
     match digits.process::<OutputM<Check, Emit, Complete>>(&b"12a"[..]) {
         Ok((rest, run)) => {
             assert!(rt; rest == b"a".as_slice());
@@ -55,7 +55,7 @@ fn one_digit_at_least(rt: HostRuntime) {
             Answer::Refuses(ErrorKind::TakeWhile1, &b""[..]),
         ),
     ] {
-        let digits = take_while1::<_, Fail>(|b: u8| b.is_ascii_digit());
+        let digits = take_while1::<_, _, Fail>(|b: u8| b.is_ascii_digit());
         assert!(rt; answers(digits, way, input, answer), "at {input:?}");
     }
 }
@@ -69,7 +69,7 @@ fn one_item_before_a_space_at_least(rt: HostRuntime) {
         ),
         (&b"ab c"[..], Answer::Accepts(&b" c"[..], &b"ab"[..])),
     ] {
-        let words = take_till1::<_, Fail>(|b: u8| b == b' ');
+        let words = take_till1::<_, _, Fail>(|b: u8| b == b' ');
         assert!(rt;
             answers(words, Way::Streaming, input, answer),
             "at {input:?}"
@@ -84,7 +84,7 @@ fn runs_of_a_text(rt: HostRuntime) {
         (Way::Streaming, "é¡", Answer::Needs(1)),
         (Way::Complete, "é¡", Answer::Accepts("", "é¡")),
     ] {
-        let words = take_till::<_, Error<&str>>(|c: char| c == '€');
+        let words = take_till::<_, _, Error<&str>>(|c: char| c == '€');
         assert!(rt; answers(words, way, input, answer), "at {input}");
     }
 }
@@ -120,7 +120,7 @@ fn two_to_three_digits(rt: HostRuntime) {
             Answer::Refuses(ErrorKind::TakeWhileMN, &b"1"[..]),
         ),
     ] {
-        let digits = take_while_m_n::<_, Fail>(2, 3, |b: u8| b.is_ascii_digit());
+        let digits = take_while_m_n::<_, _, Fail>(2, 3, |b: u8| b.is_ascii_digit());
         assert!(rt; answers(digits, way, input, answer), "at {input:?}");
     }
 }
@@ -128,6 +128,6 @@ fn two_to_three_digits(rt: HostRuntime) {
 // The bounds are turned, so the least is the greatest.
 #[test]
 fn bounds_that_are_turned(rt: HostRuntime) {
-    let letters = take_while_m_n::<_, Error<&str>>(2, 1, |c: char| c != ' ');
+    let letters = take_while_m_n::<_, _, Error<&str>>(2, 1, |c: char| c != ' ');
     assert!(rt; answers(letters, Way::Streaming, "éa", Answer::Accepts("a", "é")));
 }

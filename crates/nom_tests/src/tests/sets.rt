@@ -18,7 +18,7 @@ fn characters_of_a_set(rt: HostRuntime) {
         (Way::Streaming, "", Answer::Needs(1)),
         (Way::Complete, "", Answer::Refuses(ErrorKind::IsA, "")),
     ] {
-        let run = is_a::<_, Fail>(marks.as_slice());
+        let run = is_a::<_, _, Fail>(marks.as_slice());
         assert!(rt; answers(run, way, input, answer), "at {input}");
     }
 }
@@ -30,14 +30,14 @@ fn characters_outside_a_set(rt: HostRuntime) {
         ("é💢a", Answer::Refuses(ErrorKind::IsNot, "é💢a")),
         ("a", Answer::Needs(1)),
     ] {
-        let run = is_not::<_, Fail>("💢é");
+        let run = is_not::<_, _, Fail>("💢é");
         assert!(rt; answers(run, Way::Streaming, input, answer), "at {input}");
     }
 }
 
 #[test]
 fn a_set_that_is_checked(rt: HostRuntime) {
-    let mut run = is_not::<_, Fail>("💢é");
+    let mut run = is_not::<_, _, Fail>("💢é");
     match run.process::<OutputM<Check, Check, Complete>>("a") {
         Ok((rest, output)) => {
             assert!(rt; rest == "");
@@ -51,16 +51,16 @@ fn a_set_that_is_checked(rt: HostRuntime) {
 #[test]
 fn characters_in_bytes(rt: HostRuntime) {
     let codes = [97u8, 233];
-    let inside = is_a::<_, Fail>(codes.as_slice());
+    let inside = is_a::<_, _, Fail>(codes.as_slice());
     assert!(rt; answers(inside, Way::Streaming, "aé€", Answer::Accepts("€", "aé")));
-    let outside = is_not::<_, Fail>(codes.as_slice());
+    let outside = is_not::<_, _, Fail>(codes.as_slice());
     assert!(rt; answers(outside, Way::Streaming, "ba", Answer::Accepts("a", "b")));
 }
 
 #[test]
 fn sets_of_a_text_in_one_mode(rt: HostRuntime) {
-    let outside = complete::is_not::<_, Fail>(" ");
+    let outside = complete::is_not::<_, _, Fail>(" ");
     assert!(rt; answers(outside, Way::Streaming, "é", Answer::Accepts("", "é")));
-    let inside = streaming::is_a::<_, Fail>(" ");
+    let inside = streaming::is_a::<_, _, Fail>(" ");
     assert!(rt; answers(inside, Way::Complete, " ", Answer::Needs(1)));
 }

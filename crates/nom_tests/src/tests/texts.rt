@@ -17,7 +17,7 @@ fn tags_of_a_text(rt: HostRuntime) {
         ("é€", "é", Answer::Needs(3)),
     ] {
         assert!(rt;
-            answers(tag::<_, Fail>(word), Way::Streaming, input, answer),
+            answers(tag::<_, _, Fail>(word), Way::Streaming, input, answer),
             "at {input}"
         );
     }
@@ -31,7 +31,7 @@ fn a_part_of_a_character(rt: HostRuntime) {
         ("é", Answer::Refuses(ErrorKind::Tag, "é")),
         ("", Answer::Needs(1)),
     ] {
-        let first = tag::<_, Fail>(part.as_slice());
+        let first = tag::<_, _, Fail>(part.as_slice());
         assert!(rt; answers(first, Way::Streaming, input, answer), "at {input}");
     }
 }
@@ -43,7 +43,10 @@ fn characters_taken(rt: HostRuntime) {
         (Way::Streaming, "€¡a", Answer::Needs(0)),
         (Way::Complete, "€¡a", Answer::Refuses(ErrorKind::Eof, "€¡a")),
     ] {
-        assert!(rt; answers(take::<Fail>(4), way, input, answer), "at {input}");
+        assert!(rt;
+            answers(take::<_, _, Fail>(4usize), way, input, answer),
+            "at {input}"
+        );
     }
 }
 
@@ -60,7 +63,7 @@ struct Two;
 
 impl<'a> Parser<&'a str> for Two {
     ghost use Rattle.nom_traits.specs.Text.{seen_text};
-    ghost use Rattle.nom_tests.specs.Nothing.{nothing_lawful, nothing_meaning};
+    ghost use Rattle.nom_internal.specs.Success.{success_lawful, success_meaning};
 
     type Output = u8;
 
@@ -74,20 +77,22 @@ impl<'a> Parser<&'a str> for Two {
 
     ghost IsOutput = { λ _ _ n. n ≡ 2 };
 
-    ghost meaning = { λ _. nothing_meaning };
+    ghost meaning = { λ _. success_meaning tt };
+
+    ghost Pins = { λ _. Unit {0} };
 
     fn process<OM: OutputMode>(&mut self, input: &'a str) -> PResult<&'a str, u8, Error<&'a str>> {
         input.known();
         Ok((input, OM::Output::bind(length_of_two)))
     }
 
-    ghost lawful = { λ _. nothing_lawful seen_text };
+    ghost lawful = { λ _ k. success_lawful _ seen_text tt };
 }
 
 #[test]
 fn lists_and_choices_of_texts(rt: HostRuntime) {
-    let item = alt((tag::<_, Error<&str>>("é"), tag::<_, Error<&str>>("💢")));
-    let mut list = many0(rt.alloc(), item).and(tag::<_, Error<&str>>(";"));
+    let item = alt((tag::<_, _, Error<&str>>("é"), tag::<_, _, Error<&str>>("💢")));
+    let mut list = many0(rt.alloc(), item).and(tag::<_, _, Error<&str>>(";"));
     match list.parse("é💢é;¡") {
         Ok((rest, (items, end))) => {
             assert!(rt; rest == "¡");

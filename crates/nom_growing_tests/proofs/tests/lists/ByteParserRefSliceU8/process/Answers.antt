@@ -1,9 +1,8 @@
 use Rattle.std.proofs.Common.{◌≡◌, ℕ, List, [], ◌∷◌, ◌++◌, length, sym, ◌∙◌, refl, arith}
 use Rattle.nom_traits.specs.Bytes.{seen_bytes}
 use Rattle.nom_traits.specs.Slices.{place_first}
-use Rattle.nom_internal.proofs.Shown.{accepted, undecided, refused}
+use Rattle.nom_internal.proofs.Shown.{accepted, undecided, refused, built_error}
 use Rattle.nom_growing_tests.specs.FirstByte.{IsFirstByte}
-use Rattle.nom_multi.proofs.Longer.{built_map}
 use Rattle.nom_growing_tests.proofs.tests.lists.ByteParserRefSliceU8.process.Goals as goal
 
 byte_of : (xs front rest : List ℕ) (b : ℕ) → xs ≡ front ++ rest → length front ≡ 1 → IsFirstByte xs b → IsFirstByte front b
@@ -17,12 +16,12 @@ returns-in-Ok-clause-shown g c =
     let n = c.in-Ok.ensures in
     let place = n.place in
     let first = place_first seen_bytes c.args.input _ place in
-    accepted seen_bytes (λ t. IsFirstByte t.items) _ _ _ _ _ _ _ _ _ _ c.take_from.ensures (first, n.count_is) (built_map (IsFirstByte c.args.input.now) (IsFirstByte place.front) _ _ (λ b. byte_of c.args.input.now place.front place.rest b place.whole n.count_is) c.first.ensures)
+    accepted seen_bytes (λ t. IsFirstByte t.items) _ _ _ _ _ _ _ _ _ _ c.take_from.ensures (first, n.count_is) (built_error _ (IsFirstByte c.args.input.now) (IsFirstByte place.front) _ (λ b. byte_of c.args.input.now place.front place.rest b place.whole n.count_is) c.first.ensures)
 
 pub returns-in-Err-clause-shown : goal.returns-in-Err-clause-shown
 returns-in-Err-clause-shown g c =
     let h = c.in-Err.ensures in
-    undecided seen_bytes (λ t. IsFirstByte t.items) _ _ _ _ _ _ _ _ h.1 (sym c.STREAMING.ensures ∙ c.if-STREAMING.true, h.0, refl)
+    undecided seen_bytes (λ t. IsFirstByte t.items) _ _ _ _ _ _ _ _ h.1 (sym c.STREAMING.ensures ∙ c.if-STREAMING.true, (h.0, refl))
 
 pub returns-in-Err-2-clause-shown : goal.returns-in-Err-2-clause-shown
 returns-in-Err-2-clause-shown g c =
