@@ -1,5 +1,5 @@
 //! Parsers over an input type and an error type of a user's own.
-ghost use Rattle.std.specs.Prelude.{◌≡◌, ℕ, ◌-◌, List, length, Some, MatchResult};
+ghost use Rattle.std.specs.Prelude.{◌≡◌, ℕ, ◌-◌, List, length, Some, MatchResult, refl};
 ghost use Rattle.nom_traits.specs.Compares.{ComparesBytes, ComparesBytesNoCase};
 ghost use Rattle.nom_traits.specs.CompareTags.{bytes_comparing, bytes_comparing_no_case};
 ghost use Rattle.nom_growing_tests.specs.Held.{seen_held, held_view, held_lawful, held_comparing};
@@ -76,6 +76,8 @@ impl<'a> Input for Packet<'a> {
     ghost more = { λ _. tt };
 
     ghost views = { λ x y h. h.elements_are };
+
+    ghost tells = { λ x y e. record { elements_are = e; mark_is = refl } };
 }
 
 impl<'a, 'b> Compare<&'b [u8]> for Packet<'a> {
