@@ -17,11 +17,11 @@ impl ParseError<Tokens<'_>> for Refusal {
     ghost use Rattle.nom_error.specs.declared.kind.ErrorKind.TheVariants.{Char};
 
     ghost errors = { record {
-        of_kind = λ i k e. e ≡ record { left = length i.tokens.now; kind = k };
-        appended = λ _ _ other e. e ≡ other;
-        of_char = λ i _ e. e ≡ record { left = length i.tokens.now; kind = Char };
-        joined = λ first second e. e ≡ further first second;
-        grows = ⊥;
+      of_kind = λ i k e. e ≡ record { left = length i.tokens.now; kind = k };
+      appended = λ _ _ other e. e ≡ other;
+      of_char = λ i _ e. e ≡ record { left = length i.tokens.now; kind = Char };
+      joined = λ first second e. e ≡ further first second;
+      grows = ⊥;
     } };
 
     fn from_error_kind(input: Tokens<'_>, kind: ErrorKind) -> Result<Self, OutOfMemory> {
