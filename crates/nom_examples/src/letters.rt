@@ -1,5 +1,6 @@
-//! A leaf parser of a user's own, in four steps: what it does by mode and input (`letters`), the laws of
-//! that (`letter_laws`), which give those of its meaning, `process`, and the two implementations.
+//! A leaf parser of a user's own, in four steps: what it does by mode and input (`letters`, in
+//! `specs/Letters.antt`); the laws of that (`letter_laws`), which give those of its meaning; `process`; and
+//! the two implementations.
 ghost use Rattle.std.specs.Prelude.{◌≡◌, ℕ, [], MatchOption};
 ghost use Rattle.nom_internal.specs.Pinned.{value_pinned};
 ghost use Rattle.nom_examples.specs.Letters.{BeginsWith, letter_lawful, letter_meaning, letter_steady};
