@@ -121,8 +121,8 @@ one_result t xs Compared.Error Compared.Error h k = refl
 module _ {S A : Type 0} (tokens : S → Bor (List A)) (offset : S → ℕ) where
   pub tokens_comparing : CompareLaws {I = S} {A = A} {T = A} (seen_tokens tokens offset) (λ _. 1) Begins
   tokens_comparing = record {
-    one = λ t xs r s h k. one_result t xs r s h k;
-    place = λ t x h. record { front = t ∷ []; rest = h.0; whole = h.1; length_is = span-ones (t ∷ []) };
+    one = λ t x r s k h j. one_result t (tokens x).now r s h j;
+    place = λ t x k h. record { front = t ∷ []; rest = h.0; whole = h.1; length_is = span-ones (t ∷ []) };
     shorter = λ t x k h. omega (arith, span-ones (tokens x).now, ap length h);
     ok_stays = λ t x y h k e r. (r.0 ++ e.more, e.whole ∙ ap (λ xs. xs ++ e.more) r.1);
     error_stays = λ t x y h k e r. (r.0, r.1 ++ e.more, e.whole ∙ ap (λ xs. xs ++ e.more) r.2, r.3);

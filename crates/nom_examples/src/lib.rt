@@ -1,10 +1,14 @@
 //! Examples that are proved: what a user of the library writes.
 #![tactic(auto)]
 
+mod letters;
+mod promises;
 mod refusal;
 #[cfg(test)]
 mod tests;
 mod tokens;
 
+pub use crate::letters::{Letter, one_letter};
+pub use crate::promises::promised;
 pub use crate::refusal::Refusal;
 pub use crate::tokens::{Token, Tokens};

@@ -1,18 +1,21 @@
-//! Lists of words in brackets.
-use crate::{Refusal, Token, Tokens};
+//! Lists of words in brackets, letters, and a composed parser that keeps nom's promises.
+use crate::{Refusal, Token, Tokens, one_letter, promised};
 use nom::branch::alt;
 use nom::bytes::{tag, take};
-use nom::error::ErrorKind;
-use nom::multi::many0;
+use nom::error::{Error, ErrorKind};
+use nom::multi::{length_data, many0};
+use nom::number::be_u8;
 use nom::sequence::{preceded, terminated};
-use nom::{Err, Needed, Parser};
+use nom::{Err, IResult, Needed, Parser};
+
+type Fail<'a> = Error<&'a [u8]>;
 
 #[test]
 fn words_in_brackets(rt: HostRuntime) {
-    let words = many0(rt.alloc(), tag::<_, Refusal>(Token::Word));
+    let words = many0(rt.alloc(), tag::<_, _, Refusal>(Token::Word));
     let mut list = preceded(
-        tag::<_, Refusal>(Token::Open),
-        terminated(words, tag::<_, Refusal>(Token::Close)),
+        tag::<_, _, Refusal>(Token::Open),
+        terminated(words, tag::<_, _, Refusal>(Token::Close)),
     );
     let tokens = [
         Token::Open,
@@ -51,8 +54,11 @@ fn words_in_brackets(rt: HostRuntime) {
 #[test]
 fn the_further_refusal(rt: HostRuntime) {
     let mut either = alt((
-        preceded(take::<Refusal>(1), tag::<_, Refusal>(Token::Comma)),
-        tag::<_, Refusal>(Token::Close),
+        preceded(
+            take::<_, _, Refusal>(1usize),
+            tag::<_, _, Refusal>(Token::Comma),
+        ),
+        tag::<_, _, Refusal>(Token::Close),
     ));
     match either.parse(Tokens::new(&[Token::Word, Token::Word])) {
         Err(Err::Error(refusal)) => {
@@ -65,5 +71,48 @@ fn the_further_refusal(rt: HostRuntime) {
             );
         }
         _ => panic!(rt; "not refused"),
+    }
+}
+
+#[test]
+fn records_and_their_promises(rt: HostRuntime) {
+    let record = preceded(tag::<_, _, Fail>("R"), length_data(be_u8::<_, Fail>()));
+    let mut records = terminated(many0(rt.alloc(), record), tag::<_, _, Fail>("."));
+    promised(&records);
+    match records.parse(&b"R\x02abR\x00.z"[..]) {
+        Ok((rest, items)) => {
+            assert!(rt; rest == b"z".as_slice());
+            assert!(rt; items.len() == 2);
+            assert!(rt; items[0] == b"ab".as_slice());
+            assert!(rt; items[1].is_empty());
+        }
+        _ => panic!(rt; "no records"),
+    }
+}
+
+/// What is answered of a letter: its number, or the kind of the refusal, or what is needed.
+fn is_letter(answer: IResult<&[u8], u8>, wanted: Result<u8, Option<ErrorKind>>) -> bool {
+    match answer {
+        Ok((_, letter)) => wanted == Ok(letter),
+        Err(Err::Error(error)) => wanted == Err(Some(error.code)),
+        Err(Err::Incomplete(needed)) => wanted == Err(None) && needed == Needed::new(1),
+        Err(_) => false,
+    }
+}
+
+#[test]
+fn letters(rt: HostRuntime) {
+    let refused = Err(Some(ErrorKind::Char));
+    for (input, streaming, complete) in [
+        (&b"Zo"[..], Ok(b'Z'), Ok(b'Z')),
+        (&b"4Z"[..], refused, refused),
+        (&b""[..], Err(None), refused),
+    ] {
+        let mut first = one_letter::<_, Fail>();
+        assert!(rt; is_letter(first.parse(input), streaming), "at {input:?}");
+        assert!(rt;
+            is_letter(first.parse_complete(input), complete),
+            "at {input:?}"
+        );
     }
 }

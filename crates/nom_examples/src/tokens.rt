@@ -53,8 +53,6 @@ impl Items for Tokens<'_> {
     ghost lawful = { tokens_lawful (λ t. t.tokens) (λ t. t.offset) };
 
     ghost values = { λ x _. all_values x.tokens.now };
-
-    ghost views = { same_views (λ t. t.tokens) (λ t. t.offset) };
 }
 
 impl<'a> Input for Tokens<'a> {
@@ -105,6 +103,8 @@ impl<'a> Input for Tokens<'a> {
     }
 
     ghost more = { λ _. tt };
+
+    ghost views = { same_views (λ t. t.tokens) (λ t. t.offset) };
 }
 
 /// A token is a tag: `tag(Token::Comma)`.
