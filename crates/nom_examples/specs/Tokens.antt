@@ -63,6 +63,9 @@ module _ {S A : Type 0} (tokens : S → Bor (List A)) (offset : S → ℕ) where
       let pair : List A → ℕ → List A × ℕ = λ xs m. (xs, m) in
       ap (λ xs. pair xs (offset x)) h.elements_are ∙ ap (λ m. pair (tokens y).now m) h.mark_is
 
+  pub told_by_views : (x y : S) → tokens_view.value x ≡ tokens_view.value y → IsSame seen_tokens x y
+  told_by_views x y e = record { elements_are = ap (λ p. p.0) e; mark_is = ap (λ p. p.1) e }
+
   pub tokens_lawful : InputLaws seen_tokens
   tokens_lawful = record { positive = λ _. lit< tt; mark_none = λ _. refl; mark_more = past-append }
 

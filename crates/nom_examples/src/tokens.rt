@@ -1,6 +1,6 @@
 //! An input type of a user's own: the tokens of a text, as a lexer gave them.
 ghost use Rattle.std.specs.Prelude.{◌≡◌};
-ghost use Rattle.nom_examples.specs.Tokens.{Begins, all_values, same_views, seen_tokens, tokens_comparing, tokens_lacking, tokens_lawful, tokens_view};
+ghost use Rattle.nom_examples.specs.Tokens.{Begins, all_values, same_views, told_by_views, seen_tokens, tokens_comparing, tokens_lacking, tokens_lawful, tokens_view};
 
 use nom::{Compare, CompareResult, Input, Items, Needed, Value, Viewed};
 use std::iter::{Copied, Enumerate};
@@ -105,6 +105,8 @@ impl<'a> Input for Tokens<'a> {
     ghost more = { λ _. tt };
 
     ghost views = { same_views (λ t. t.tokens) (λ t. t.offset) };
+
+    ghost tells = { told_by_views (λ t. t.tokens) (λ t. t.offset) };
 }
 
 /// A token is a tag: `tag(Token::Comma)`.
