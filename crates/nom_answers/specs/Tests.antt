@@ -2,7 +2,7 @@
 use Rattle.std.specs.Prelude.{Bool, ℕ, not}
 use Rattle.nom_answers.specs.declared.ask.Test.{Test}
 use Rattle.nom_answers.specs.declared.ask.Test.TheVariants.{IsAlpha, IsDecDigit, IsNoDigit}
-use Rattle.nom_search.specs.Classes.{is_alpha_code, is_dec_digit_code}
+use Rattle.nom_traits.specs.Classes.{is_alpha_code, is_dec_digit_code}
 
 -- what a test answers at the character of a code point
 abbrev pub meets_code : Test → ℕ → Bool

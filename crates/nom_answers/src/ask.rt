@@ -1,12 +1,15 @@
 //! Parsers of nom's module `bytes`, run at an input.
 ghost use Rattle.std.specs.Prelude.{◌≡◌};
 ghost use Rattle.nom_answers.specs.Tests.{meets_code};
+ghost use Rattle.nom_bytes.specs.Predicates.{IsFixed};
 
 use crate::agree::{Content, is_answer};
 use crate::answer::Answer;
-use nom::bytes::{self, complete, streaming};
+use nom::bytes::{self, Fixed, complete, streaming};
 use nom::error::Error;
-use nom::{AsChar, Compare, ExtendInto, FindSubstring, FindToken, Input, Parser, Value};
+use nom::{
+    AsChar, Compare, Complete, ExtendInto, FindSubstring, FindToken, Input, Parser, Streaming,
+};
 use std::alloc::Global;
 
 /// The module that a parser is of.
@@ -170,9 +173,107 @@ impl<'a, I: Input + Content> Question<'a, I> {
         is_answer(streaming, self.input.content(), self.answer)
             && is_answer(complete, self.input.content(), self.answer)
     }
+
+    /// Whether the parser of a name answers so, in the module of the question.
+    fn is_met_in_module<O: Content + Drop, P: Parser<I, Output = O, Error = Error<I>> + Drop>(
+        self,
+        top: P,
+        complete: Fixed<P, Complete>,
+        streaming: Fixed<P, Streaming>,
+    ) -> bool
+        requires top { (P.meaning (P.state top)).IsSound }
+        requires complete { (P.meaning (P.state complete.parser)).IsSound }
+        requires streaming { (P.meaning (P.state streaming.parser)).IsSound }
+    {
+        match self.module {
+            Module::Top => self.is_met(top),
+            Module::Complete => self.is_met_always(complete),
+            Module::Streaming => self.is_met_always(streaming),
+        }
+    }
 }
 
-/// Whether the parser of a name, in the module of the question, answers as nom did.
+/// Hands the parser of a name, as each module has it, to a function as its last arguments.
+macro_rules! hand {
+    ($name:ident($($argument:expr),*), $next:path, $($other:expr),*) => {
+        $next(
+            $($other,)*
+            bytes::$name($($argument),*),
+            complete::$name($($argument),*),
+            streaming::$name($($argument),*),
+        )
+    };
+}
+
+pub fn take_tag<I: Input + Content + Compare<T>, T: Copy>(
+    question: Question<'_, I>,
+    tagged: Tagged,
+    tag: T,
+) -> bool {
+    match tagged {
+        Tagged::Tag => hand!(tag(tag), Question::is_met_in_module, question),
+        Tagged::TagNoCase => hand!(tag_no_case(tag), Question::is_met_in_module, question),
+    }
+}
+
+pub fn take_count<I: Input + Content>(question: Question<'_, I>, count: usize) -> bool {
+    hand!(take(count), Question::is_met_in_module, question)
+}
+
+pub fn take_front<I: Input + Content + FindSubstring<T>, T: Copy>(
+    question: Question<'_, I>,
+    search: Search,
+    needle: T,
+) -> bool {
+    match search {
+        Search::Until => hand!(take_until(needle), Question::is_met_in_module, question),
+        Search::Until1 => hand!(take_until1(needle), Question::is_met_in_module, question),
+    }
+}
+
+pub fn take_set<I: Input + Content, L: FindToken<I::Item> + Copy>(
+    question: Question<'_, I>,
+    set: Set,
+    list: L,
+) -> bool {
+    match set {
+        Set::IsA => hand!(is_a(list), Question::is_met_in_module, question),
+        Set::IsNot => hand!(is_not(list), Question::is_met_in_module, question),
+    }
+}
+
+/// The parsers of a run, by any test.
+fn take_run_of<I: Input + Content, F: Fn(I::Item) -> bool + Copy>(
+    question: Question<'_, I>,
+    run: Run,
+    meets: F,
+) -> bool
+    requires called { (x : I.Item) → F.pre meets x }
+    requires fixed { IsFixed I.Item.IsValue (F.post meets) }
+{
+    match run {
+        Run::While => hand!(take_while(meets), Question::is_met_in_module, question),
+        Run::While1 => hand!(take_while1(meets), Question::is_met_in_module, question),
+        Run::WhileMN(m, n) => {
+            hand!(
+                take_while_m_n(m, n, meets),
+                Question::is_met_in_module,
+                question
+            )
+        }
+        Run::Till => hand!(take_till(meets), Question::is_met_in_module, question),
+        Run::Till1 => hand!(take_till1(meets), Question::is_met_in_module, question),
+    }
+}
+
+pub fn take_run<I: Input + Content>(question: Question<'_, I>, run: Run, test: Test) -> bool
+where
+    I::Item: AsChar,
+{
+    take_run_of(question, run, move |item: I::Item| test.meets(item))
+}
+
+/// Whether the parser of a text with escapes, in the module of the question, answers as nom did.
 macro_rules! answers {
     ($question:ident, $name:ident($($argument:expr),*)) => {
         match $question.module {
@@ -183,72 +284,10 @@ macro_rules! answers {
     };
 }
 
-pub fn take_tag<I: Input + Content + Compare<T>, T: Copy>(
-    question: Question<'_, I>,
-    tagged: Tagged,
-    tag: T,
-) -> bool {
-    match tagged {
-        Tagged::Tag => answers!(question, tag(tag)),
-        Tagged::TagNoCase => answers!(question, tag_no_case(tag)),
-    }
-}
-
-pub fn take_count<I: Input + Content>(question: Question<'_, I>, count: usize) -> bool {
-    answers!(question, take(count))
-}
-
-pub fn take_front<I: Input + Content + FindSubstring<T>, T: Copy>(
-    question: Question<'_, I>,
-    search: Search,
-    needle: T,
-) -> bool {
-    match search {
-        Search::Until => answers!(question, take_until(needle)),
-        Search::Until1 => answers!(question, take_until1(needle)),
-    }
-}
-
-pub fn take_set<I: Input + Content, L: FindToken<I::Item> + Copy>(
-    question: Question<'_, I>,
-    set: Set,
-    list: L,
-) -> bool {
-    match set {
-        Set::IsA => answers!(question, is_a(list)),
-        Set::IsNot => answers!(question, is_not(list)),
-    }
-}
-
-pub fn take_run<I: Input + Content>(question: Question<'_, I>, run: Run, test: Test) -> bool
-where
-    I::Item: AsChar,
-{
-    let meets = move |item: I::Item| test.meets(item);
-    match run {
-        Run::While => answers!(question, take_while(meets)),
-        Run::While1 => answers!(question, take_while1(meets)),
-        Run::WhileMN(m, n) => answers!(question, take_while_m_n(m, n, meets)),
-        Run::Till => answers!(question, take_till(meets)),
-        Run::Till1 => answers!(question, take_till1(meets)),
-    }
-}
-
-/// Hands the parser of a name, in a module, to a function as its last argument.
-macro_rules! hand {
-    ($module:expr, $name:ident($argument:expr), $next:ident($($other:expr),*)) => {
-        match $module {
-            Module::Top => $next($($other,)* bytes::$name($argument)),
-            Module::Complete => $next($($other,)* complete::$name($argument)),
-            Module::Streaming => $next($($other,)* streaming::$name($argument)),
-        }
-    };
-}
-
 /// Asks a text with escapes, by the parsers of both parts.
 fn take_pieces<
     T,
-    C: AsChar + Value,
+    C: AsChar,
     I: Input<Item = C> + Content + ExtendInto<Global>,
     F: Parser<I, Output = I, Error = Error<I>> + Drop,
     G: Parser<I, Output = I, Error = Error<I>> + Drop,
@@ -270,10 +309,39 @@ where
     }
 }
 
+/// The same, by the parser of the escapable part, as each module has it.
+fn take_escapable<
+    T,
+    C: AsChar,
+    I: Input<Item = C> + Content + ExtendInto<Global>,
+    F: Parser<I, Output = I, Error = Error<I>> + Drop,
+    G: Parser<I, Output = I, Error = Error<I>> + Drop,
+>(
+    question: Question<'_, I>,
+    escapes: &Escapes<T>,
+    normal: F,
+    top: G,
+    complete: Fixed<G, Complete>,
+    streaming: Fixed<G, Streaming>,
+) -> bool
+where
+    I::Extender: Content + Drop,
+    requires normal { (F.meaning (F.state normal)).IsSound }
+    requires top { (G.meaning (G.state top)).IsSound }
+    requires complete { (G.meaning (G.state complete.parser)).IsSound }
+    requires streaming { (G.meaning (G.state streaming.parser)).IsSound }
+{
+    match escapes.escapable.module {
+        Module::Top => take_pieces(question, escapes, normal, top),
+        Module::Complete => take_pieces(question, escapes, normal, complete),
+        Module::Streaming => take_pieces(question, escapes, normal, streaming),
+    }
+}
+
 /// The same, by the parser of the normal part.
-fn take_normal<
+fn take_second<
     T: Copy,
-    C: AsChar + Value,
+    C: AsChar,
     I: Input<Item = C> + Content + Compare<T> + ExtendInto<Global>,
     F: Parser<I, Output = I, Error = Error<I>> + Drop,
 >(question: Question<'_, I>, escapes: &Escapes<T>, normal: F) -> bool
@@ -281,46 +349,68 @@ where
     I::Extender: Content + Drop,
     requires { (F.meaning (F.state normal)).IsSound }
 {
-    let module = escapes.escapable.module;
     match escapes.escapable.piece {
-        Piece::Tag(tag) => { hand!(module, tag(tag), take_pieces(question, escapes, normal)) }
+        Piece::Tag(tag) => hand!(tag(tag), take_escapable, question, escapes, normal),
         Piece::While(test) => {
             let meets = move |item: C| test.meets(item);
-            hand!(
-                module,
-                take_while(meets),
-                take_pieces(question, escapes, normal)
-            )
+            hand!(take_while(meets), take_escapable, question, escapes, normal)
         }
         Piece::While1(test) => {
             let meets = move |item: C| test.meets(item);
             hand!(
-                module,
                 take_while1(meets),
-                take_pieces(question, escapes, normal)
+                take_escapable,
+                question,
+                escapes,
+                normal
             )
         }
     }
 }
 
+/// The same, by the parser of the normal part, as each module has it.
+fn take_normal<
+    T: Copy,
+    C: AsChar,
+    I: Input<Item = C> + Content + Compare<T> + ExtendInto<Global>,
+    F: Parser<I, Output = I, Error = Error<I>> + Drop,
+>(
+    question: Question<'_, I>,
+    escapes: &Escapes<T>,
+    top: F,
+    complete: Fixed<F, Complete>,
+    streaming: Fixed<F, Streaming>,
+) -> bool
+where
+    I::Extender: Content + Drop,
+    requires top { (F.meaning (F.state top)).IsSound }
+    requires complete { (F.meaning (F.state complete.parser)).IsSound }
+    requires streaming { (F.meaning (F.state streaming.parser)).IsSound }
+{
+    match escapes.normal.module {
+        Module::Top => take_second(question, escapes, top),
+        Module::Complete => take_second(question, escapes, complete),
+        Module::Streaming => take_second(question, escapes, streaming),
+    }
+}
+
 pub fn take_escapes<
     T: Copy,
-    C: AsChar + Value,
+    C: AsChar,
     I: Input<Item = C> + Content + Compare<T> + ExtendInto<Global>,
 >(question: Question<'_, I>, escapes: &Escapes<T>) -> bool
 where
     I::Extender: Content + Drop,
 {
-    let module = escapes.normal.module;
     match escapes.normal.piece {
-        Piece::Tag(tag) => hand!(module, tag(tag), take_normal(question, escapes)),
+        Piece::Tag(tag) => hand!(tag(tag), take_normal, question, escapes),
         Piece::While(test) => {
             let meets = move |item: C| test.meets(item);
-            hand!(module, take_while(meets), take_normal(question, escapes))
+            hand!(take_while(meets), take_normal, question, escapes)
         }
         Piece::While1(test) => {
             let meets = move |item: C| test.meets(item);
-            hand!(module, take_while1(meets), take_normal(question, escapes))
+            hand!(take_while1(meets), take_normal, question, escapes)
         }
     }
 }

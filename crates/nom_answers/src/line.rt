@@ -65,20 +65,57 @@ fn escapes_of(alloc: Global, form: Form, arguments: &str) -> Option<Call> {
     }))
 }
 
-fn call_of(alloc: Global, name: &str, arguments: &str) -> Option<Call> {
+fn tagged_of(name: &str) -> Option<Tagged> {
     match name.as_bytes() {
-        b"tag" => Some(Call::Tagged(Tagged::Tag, literal_of(alloc, arguments)?)),
-        b"tag_no_case" => Some(Call::Tagged(Tagged::TagNoCase, literal_of(alloc, arguments)?)),
-        b"is_a" => Some(Call::Set(Set::IsA, list_of(alloc, arguments)?)),
-        b"is_not" => Some(Call::Set(Set::IsNot, list_of(alloc, arguments)?)),
+        b"tag" => Some(Tagged::Tag),
+        b"tag_no_case" => Some(Tagged::TagNoCase),
+        _ => None,
+    }
+}
+
+fn set_of(name: &str) -> Option<Set> {
+    match name.as_bytes() {
+        b"is_a" => Some(Set::IsA),
+        b"is_not" => Some(Set::IsNot),
+        _ => None,
+    }
+}
+
+fn search_of(name: &str) -> Option<Search> {
+    match name.as_bytes() {
+        b"take_until" => Some(Search::Until),
+        b"take_until1" => Some(Search::Until1),
+        _ => None,
+    }
+}
+
+/// A run without bounds.
+fn run_of(name: &str) -> Option<Run> {
+    match name.as_bytes() {
+        b"take_while" => Some(Run::While),
+        b"take_while1" => Some(Run::While1),
+        b"take_till" => Some(Run::Till),
+        b"take_till1" => Some(Run::Till1),
+        _ => None,
+    }
+}
+
+fn call_of(alloc: Global, name: &str, arguments: &str) -> Option<Call> {
+    if let Some(tagged) = tagged_of(name) {
+        return Some(Call::Tagged(tagged, literal_of(alloc, arguments)?));
+    }
+    if let Some(set) = set_of(name) {
+        return Some(Call::Set(set, list_of(alloc, arguments)?));
+    }
+    if let Some(search) = search_of(name) {
+        return Some(Call::Search(search, literal_of(alloc, arguments)?));
+    }
+    if let Some(run) = run_of(name) {
+        return Some(Call::Run(run, test_of(arguments)?));
+    }
+    match name.as_bytes() {
         b"take" => Some(Call::Take(number_of(arguments)?)),
-        b"take_until" => Some(Call::Search(Search::Until, literal_of(alloc, arguments)?)),
-        b"take_until1" => Some(Call::Search(Search::Until1, literal_of(alloc, arguments)?)),
-        b"take_while" => Some(Call::Run(Run::While, test_of(arguments)?)),
-        b"take_while1" => Some(Call::Run(Run::While1, test_of(arguments)?)),
         b"take_while_m_n" => bounded_of(arguments),
-        b"take_till" => Some(Call::Run(Run::Till, test_of(arguments)?)),
-        b"take_till1" => Some(Call::Run(Run::Till1, test_of(arguments)?)),
         b"escaped" => escapes_of(alloc, Form::Slice, arguments),
         b"escaped_transform" => escapes_of(alloc, Form::Made(alloc), arguments),
         _ => None,

@@ -34,8 +34,11 @@ struct Round {
 }
 
 fn by_parse(alloc: Global, bytes: &[u8]) -> Option<Round> {
-    let record = preceded(tag::<_, Fail>(&b"R"[..]), length_data(be_u8::<Fail>()));
-    let mut records = terminated(many0(alloc, record), tag::<_, Fail>(&b"."[..]));
+    let record = preceded(
+        tag::<_, _, Fail>(&b"R"[..]),
+        length_data(be_u8::<_, Fail>()),
+    );
+    let mut records = terminated(many0(alloc, record), tag::<_, _, Fail>(&b"."[..]));
     match records.parse(bytes) {
         Ok((rest, list)) => Some(Round {
             records: Some(list.len()),
@@ -46,8 +49,11 @@ fn by_parse(alloc: Global, bytes: &[u8]) -> Option<Round> {
 }
 
 fn by_parse_complete(alloc: Global, bytes: &[u8]) -> Option<Round> {
-    let record = preceded(tag::<_, Fail>(&b"R"[..]), length_data(be_u8::<Fail>()));
-    let mut records = terminated(many0(alloc, record), tag::<_, Fail>(&b"."[..]));
+    let record = preceded(
+        tag::<_, _, Fail>(&b"R"[..]),
+        length_data(be_u8::<_, Fail>()),
+    );
+    let mut records = terminated(many0(alloc, record), tag::<_, _, Fail>(&b"."[..]));
     match records.parse_complete(bytes) {
         Ok((rest, list)) => Some(Round {
             records: Some(list.len()),
@@ -58,8 +64,11 @@ fn by_parse_complete(alloc: Global, bytes: &[u8]) -> Option<Round> {
 }
 
 fn by_check(alloc: Global, bytes: &[u8]) -> Option<Round> {
-    let record = preceded(tag::<_, Fail>(&b"R"[..]), length_data(be_u8::<Fail>()));
-    let mut records = terminated(many0(alloc, record), tag::<_, Fail>(&b"."[..]));
+    let record = preceded(
+        tag::<_, _, Fail>(&b"R"[..]),
+        length_data(be_u8::<_, Fail>()),
+    );
+    let mut records = terminated(many0(alloc, record), tag::<_, _, Fail>(&b"."[..]));
     match records.process::<OutputM<Check, Check, Streaming>>(bytes) {
         Ok((rest, _none)) => Some(Round {
             records: Some(0),
@@ -71,7 +80,7 @@ fn by_check(alloc: Global, bytes: &[u8]) -> Option<Round> {
 
 #[inline(never)]
 fn by_take_while1(bytes: &[u8]) -> Option<Round> {
-    let mut run = take_while1::<_, Fail>(|byte: u8| byte != b';');
+    let mut run = take_while1::<_, _, Fail>(|byte: u8| byte != b';');
     match run.parse_complete(bytes) {
         Ok((rest, _run)) => Some(Round {
             records: None,
@@ -83,7 +92,7 @@ fn by_take_while1(bytes: &[u8]) -> Option<Round> {
 
 #[inline(never)]
 fn by_take_until(bytes: &[u8]) -> Option<Round> {
-    let mut front = take_until::<_, Fail>(&b";;"[..]);
+    let mut front = take_until::<_, _, Fail>(&b";;"[..]);
     match front.parse_complete(bytes) {
         Ok((rest, _front)) => Some(Round {
             records: None,

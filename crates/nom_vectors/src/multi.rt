@@ -9,7 +9,7 @@ use std::alloc::Global;
 
 /// `many0(tag(""))` on `x`: Error Many0 at `x`.
 pub fn row_5(alloc: Global) -> bool {
-    let mut items = many0(alloc, tag::<_, Error<&str>>(""));
+    let mut items = many0(alloc, tag::<_, _, Error<&str>>(""));
     refuses(items.parse("x"), ErrorKind::Many0, b"x")
         && refuses(items.parse_complete("x"), ErrorKind::Many0, b"x")
 }
