@@ -1,0 +1,44 @@
+-- Runs of the items of a class. How many are wanted is None, where there may be none, or Some of the kind of the refusal, where one is wanted at least.
+use Rattle.std.specs.Prelude.{◌≡◌, ℕ, Bool, Option, Some, None}
+use Rattle.nom_error.specs.declared.kind.ErrorKind.{ErrorKind}
+use Rattle.nom_error.specs.Errors.{Errors}
+use Rattle.nom_traits.specs.declared.character.AsciiClass.{AsciiClass}
+use Rattle.nom_traits.specs.Classes.{has_code}
+use Rattle.nom_traits.specs.Input.{Seen, AreValues}
+use Rattle.nom_traits.specs.Slices.{Slice}
+use Rattle.nom_internal.specs.Meaning.{Meaning, IsLawful, IsSteady}
+use Rattle.nom_internal.specs.Leaf.{leaf_meaning}
+use Rattle.nom_bytes.specs.Predicates.{IsFixed}
+use Rattle.nom_bytes.specs.ParsedRuns.{runs}
+use Rattle.nom_bytes.specs.RunLaws.{run_lawful, run_steady}
+
+abbrev pub least_of : Option ErrorKind → ℕ
+least_of None = 0
+least_of (Some kind) = 1
+
+module _ {I E : Type 0} (errs : Errors I E) where
+  abbrev pub wanted_error : Option ErrorKind → I → E → Type 0
+  wanted_error None i e = ⊥
+  wanted_error (Some kind) i e = errs.of_kind i kind e
+
+  abbrev pub wanted_grows : Option ErrorKind → Type 0
+  wanted_grows None = ⊥
+  wanted_grows (Some kind) = errs.grows
+
+-- whether an item is of the class
+abbrev pub IsOf : {A : Type 0} → (code : A → ℕ) → AsciiClass → A → Bool → Type 0
+IsOf code class x b = has_code class (code x) ≡ b
+
+-- the longest list of first items that are of the class
+abbrev pub class_meaning : {I A E : Type 0} (w : Seen I A) → (code : A → ℕ) → Errors I E → AsciiClass → Option ErrorKind → Meaning I (Slice w) E
+class_meaning w code errs class wanted = leaf_meaning (Unit {0}) (wanted_error errs wanted) (wanted_grows errs wanted) (runs w (IsOf code class) None (least_of wanted))
+
+module _ {I A E : Type 0} (w : Seen I A) (IsValue : A → Type 0) (values : (i : I) → w.IsKnown i → AreValues IsValue (w.elements i)) (code : A → ℕ) (errs : Errors I E) (class : AsciiClass) (wanted : Option ErrorKind) where
+  one_class : IsFixed IsValue (IsOf code class)
+  one_class x v p q = cc (p, q)
+
+  pub class_lawful : IsLawful w (class_meaning w code errs class wanted)
+  class_lawful = run_lawful w IsValue values (IsOf code class) one_class None (least_of wanted) (Unit {0}) (wanted_error errs wanted) (wanted_grows errs wanted)
+
+  pub class_steady : IsSteady w (class_meaning w code errs class wanted)
+  class_steady = run_steady w IsValue values (IsOf code class) one_class None (least_of wanted) (Unit {0}) (wanted_error errs wanted) (wanted_grows errs wanted)

@@ -1,0 +1,3 @@
+pub mod ClassRuns
+pub mod HeadLaws
+pub mod Heads

@@ -1,0 +1,221 @@
+//! Runs of the items of a class.
+ghost use Rattle.std.specs.Prelude.{◌≡◌, Option, Some, None, true, false, MatchOption};
+ghost use Rattle.nom_error.specs.Answers.{Refuses};
+ghost use Rattle.nom_error.specs.declared.kind.ErrorKind.{ErrorKind};
+ghost use Rattle.nom_error.specs.declared.kind.ErrorKind.TheVariants as Kind;
+ghost use Rattle.nom_traits.specs.declared.character.AsciiClass.{AsciiClass};
+ghost use Rattle.nom_traits.specs.declared.character.AsciiClass.TheVariants as Class;
+ghost use Rattle.nom_traits.specs.Classes.{IsInside, IsOutside};
+ghost use Rattle.nom_traits.specs.Input.{IsPlace};
+ghost use Rattle.nom_traits.specs.Slices.{Slice, IsSeenAs};
+ghost use Rattle.nom_traits.specs.Splits.{Splits, Never, FrontBuilt, IsRunLength, IsRunOpen};
+ghost use Rattle.nom_internal.specs.Meaning.{ShowsMeaning};
+ghost use Rattle.nom_internal.specs.Pinned.{slice_pinned};
+ghost use Rattle.nom_character.specs.ClassRuns.{class_meaning, class_lawful, class_steady};
+
+use nom_error::answer::{Err, Needed, PResult};
+use nom_error::kind::ErrorKind;
+use nom_error::mode::{IsStreaming, Mode, OutputMode};
+use nom_error::value::{ParseError, refusal};
+use nom_internal::parser::{Parser, StreamParser};
+use nom_traits::character::{AsChar, AsciiClass};
+use nom_traits::input::Input;
+use std::marker::PhantomData;
+
+/// The length of the first items that are of the class; `None` where more may come and all are.
+#[inline(always)]
+fn class_len<I: Input, S: IsStreaming>(input: I, class: AsciiClass) -> Option<usize>
+where
+    I::Item: AsChar,
+    ensures { MatchOption result
+        (IsRunOpen I.seen (λ x. IsInside class (I.Item.code x)) (λ x. IsOutside class (I.Item.code x)) S.STREAMING input)
+        (IsRunLength I.seen (λ x. IsInside class (I.Item.code x)) (λ x. IsOutside class (I.Item.code x)) S.STREAMING input) }
+{
+    match input.position_outside(class) {
+        Some(n) => Some(n),
+        None if S::STREAMING => None,
+        None => Some(input.input_len()),
+    }
+}
+
+/// The first items of an input, of length `n`, where outputs are built.
+#[inline(always)]
+fn first_items<M: Mode, I: Input>(input: I, n: usize) -> Option<I>
+    requires { IsPlace I.seen input n }
+    ensures { FrontBuilt I.seen M.BUILDS input n result }
+{
+    if M::BUILDS { Some(input.take(n)) } else { None }
+}
+
+/// The first items that are of the class; there may be none.
+#[inline(always)]
+fn class_split<OM: OutputMode, I: Input, E: ParseError<I>>(
+    input: I,
+    class: AsciiClass,
+) -> PResult<I, I, E>
+where
+    I::Item: AsChar,
+    ensures { Splits I.seen (λ x. IsInside class (I.Item.code x)) (λ x. IsOutside class (I.Item.code x)) OM.Incomplete.STREAMING input false (FrontBuilt I.seen OM.Output.BUILDS) Never result }
+{
+    match class_len::<I, OM::Incomplete>(input, class) {
+        Some(n) => Ok((input.take_from(n), first_items::<OM::Output, I>(input, n))),
+        None => Err(Err::Incomplete(Needed::new(1))),
+    }
+}
+
+/// The first items that are of the class, one at least: where there is none, it refuses with the kind.
+#[inline(always)]
+fn class_split1<OM: OutputMode, I: Input, E: ParseError<I>>(
+    input: I,
+    class: AsciiClass,
+    kind: ErrorKind,
+) -> PResult<I, I, E>
+where
+    I::Item: AsChar,
+    ensures { Splits I.seen (λ x. IsInside class (I.Item.code x)) (λ x. IsOutside class (I.Item.code x)) OM.Incomplete.STREAMING input true (FrontBuilt I.seen OM.Output.BUILDS) (Refuses (E.errors.of_kind input kind) E.errors.grows OM.Error.BUILDS) result }
+{
+    match class_len::<I, OM::Incomplete>(input, class) {
+        Some(n) if n == 0 => Err(refusal::<OM::Error, I, E>(input, kind)),
+        Some(n) => Ok((input.take_from(n), first_items::<OM::Output, I>(input, n))),
+        None => Err(Err::Incomplete(Needed::new(1))),
+    }
+}
+
+/// The first items that are of the class: one at least, where a kind for its refusal is given.
+#[inline(always)]
+pub(crate) fn class_run<OM: OutputMode, I: Input, E: ParseError<I>>(
+    input: I,
+    class: AsciiClass,
+    wanted: Option<ErrorKind>,
+) -> PResult<I, I, E>
+where
+    I::Item: AsChar,
+    ensures { ShowsMeaning I.seen (IsSeenAs I.seen) (class_meaning I.seen I.Item.code E.errors class wanted) OM.Output.BUILDS OM.Error.BUILDS OM.Incomplete.STREAMING input result }
+{
+    match wanted {
+        None => class_split::<OM, I, E>(input, class),
+        Some(kind) => class_split1::<OM, I, E>(input, class, kind),
+    }
+}
+
+/// The first items of a class, one at least where a kind is given.
+#[derive(Drop)]
+pub(crate) struct ClassRun<I, E> {
+    pub class: AsciiClass,
+    pub wanted: Option<ErrorKind>,
+    pub error: PhantomData<(I, E)>,
+}
+
+impl<I: Input, E: ParseError<I>> Parser<I> for ClassRun<I, E>
+where
+    I::Item: AsChar,
+{
+    type Output = I;
+
+    type Error = E;
+
+    ghost State = { AsciiClass × Option ErrorKind };
+
+    ghost state = { λ p. (p.class, p.wanted) };
+
+    ghost Tree = { Slice I.seen };
+
+    ghost IsOutput = { λ _. IsSeenAs I.seen };
+
+    ghost meaning = { λ s. class_meaning I.seen I.Item.code E.errors s.0 s.1 };
+
+    ghost Pins = { λ _. Unit {0} };
+
+    #[inline(always)]
+    fn process<OM: OutputMode>(&mut self, input: I) -> PResult<I, I, E> {
+        class_run::<OM, I, E>(input, self.class, self.wanted)
+    }
+
+    ghost lawful = { λ s k. class_lawful I.seen I.Item.IsValue I.values I.Item.code E.errors s.0 s.1 };
+}
+
+/// Decimal digits, one at least, made by `digit1`.
+#[derive(Drop)]
+pub struct Digit1<I, E> {
+    pub error: PhantomData<(I, E)>,
+}
+
+impl<I: Input, E: ParseError<I>> Parser<I> for Digit1<I, E>
+where
+    I::Item: AsChar,
+{
+    type Output = I;
+
+    type Error = E;
+
+    ghost State = { Unit {0} };
+
+    ghost state = { λ _. tt };
+
+    ghost Tree = { Slice I.seen };
+
+    ghost IsOutput = { λ _. IsSeenAs I.seen };
+
+    ghost meaning = { λ _. class_meaning I.seen I.Item.code E.errors Class.Digit (Some Kind.Digit) };
+
+    ghost Pins = { λ _. Unit {0} };
+
+    #[inline(always)]
+    fn process<OM: OutputMode>(&mut self, input: I) -> PResult<I, I, E> {
+        class_run::<OM, I, E>(input, AsciiClass::Digit, Some(ErrorKind::Digit))
+    }
+
+    ghost lawful = { λ _ k. class_lawful I.seen I.Item.IsValue I.values I.Item.code E.errors Class.Digit (Some Kind.Digit) };
+}
+
+impl<I: Input, E: ParseError<I>> StreamParser<I> for Digit1<I, E>
+where
+    I::Item: AsChar,
+{
+    ghost pinned = { λ s k p. slice_pinned I.seen I.view I.views };
+
+    ghost steady = { λ _ k. class_steady I.seen I.Item.IsValue I.values I.Item.code E.errors Class.Digit (Some Kind.Digit) };
+}
+
+/// Spaces, tabs and ends of lines, made by `multispace0`.
+#[derive(Drop)]
+pub struct MultiSpace0<I, E> {
+    pub error: PhantomData<(I, E)>,
+}
+
+impl<I: Input, E: ParseError<I>> Parser<I> for MultiSpace0<I, E>
+where
+    I::Item: AsChar,
+{
+    type Output = I;
+
+    type Error = E;
+
+    ghost State = { Unit {0} };
+
+    ghost state = { λ _. tt };
+
+    ghost Tree = { Slice I.seen };
+
+    ghost IsOutput = { λ _. IsSeenAs I.seen };
+
+    ghost meaning = { λ _. class_meaning I.seen I.Item.code E.errors Class.MultiSpace None };
+
+    ghost Pins = { λ _. Unit {0} };
+
+    #[inline(always)]
+    fn process<OM: OutputMode>(&mut self, input: I) -> PResult<I, I, E> {
+        class_run::<OM, I, E>(input, AsciiClass::MultiSpace, None)
+    }
+
+    ghost lawful = { λ _ k. class_lawful I.seen I.Item.IsValue I.values I.Item.code E.errors Class.MultiSpace None };
+}
+
+impl<I: Input, E: ParseError<I>> StreamParser<I> for MultiSpace0<I, E>
+where
+    I::Item: AsChar,
+{
+    ghost pinned = { λ s k p. slice_pinned I.seen I.view I.views };
+
+    ghost steady = { λ _ k. class_steady I.seen I.Item.IsValue I.values I.Item.code E.errors Class.MultiSpace None };
+}

@@ -1,0 +1,173 @@
+//! The parsers of one character.
+ghost use Rattle.std.specs.Prelude.{◌≡◌, ℕ, true, ◌==◌, Some, None};
+ghost use Rattle.std.specs.Char.{len_utf8};
+ghost use Rattle.nom_error.specs.declared.kind.ErrorKind.{ErrorKind};
+ghost use Rattle.nom_error.specs.declared.kind.ErrorKind.TheVariants as Kind;
+ghost use Rattle.nom_internal.specs.Pinned.{value_pinned};
+ghost use Rattle.nom_character.specs.declared.first.Blame.TheVariants.{OfKind, OfChar};
+ghost use Rattle.nom_character.specs.Heads.{char_meaning, satisfy_meaning, any_meaning};
+ghost use Rattle.nom_character.specs.HeadLaws.{told, head_lawful, head_steady};
+
+use crate::first::{Blame, first_where};
+use crate::predicate::{Any, Is};
+use nom_bytes::predicate::Predicate;
+use nom_error::answer::{Needed, PResult};
+use nom_error::kind::ErrorKind;
+use nom_error::mode::OutputMode;
+use nom_error::value::ParseError;
+use nom_internal::parser::{Parser, StreamParser};
+use nom_traits::character::AsChar;
+use nom_traits::input::Input;
+use std::marker::PhantomData;
+
+/// A character, made by `char`.
+#[derive(Drop)]
+pub struct Char<I, E> {
+    pub wanted: char,
+    pub error: PhantomData<(I, E)>,
+}
+
+impl<I: Input, E: ParseError<I>> Parser<I> for Char<I, E>
+where
+    I::Item: AsChar,
+{
+    type Output = char;
+
+    type Error = E;
+
+    ghost State = { ℕ };
+
+    ghost state = { λ p. p.wanted };
+
+    ghost Tree = { ℕ };
+
+    ghost IsOutput = { λ _ t c. c ≡ t };
+
+    ghost meaning = { λ wanted. char_meaning I.seen I.Item.code E.errors wanted };
+
+    ghost Pins = { λ _. Unit {0} };
+
+    #[inline(always)]
+    fn process<OM: OutputMode>(&mut self, input: I) -> PResult<I, char, E> {
+        let lack = Needed::new(self.wanted.len_utf8());
+        let test = Is {
+            wanted: self.wanted,
+        };
+        first_where::<OM, I, Is, E>(input, &test, Blame::OfChar(self.wanted), lack)
+    }
+
+    ghost lawful = { λ wanted k. head_lawful I.seen I.Item.IsValue I.values I.Item.code (λ x b. b ≡ (I.Item.code x == wanted)) (told I.Item.IsValue (λ x. I.Item.code x == wanted)) (Some (len_utf8 wanted)) (Unit {0}) E.errors (OfChar wanted) };
+}
+
+impl<I: Input, E: ParseError<I>> StreamParser<I> for Char<I, E>
+where
+    I::Item: AsChar,
+{
+    ghost pinned = { λ s k p. value_pinned };
+
+    ghost steady = { λ wanted k. head_steady I.seen I.Item.IsValue I.values I.Item.code (λ x b. b ≡ (I.Item.code x == wanted)) (told I.Item.IsValue (λ x. I.Item.code x == wanted)) (Some (len_utf8 wanted)) (Unit {0}) E.errors (OfChar wanted) };
+}
+
+/// A character that passes a test, made by `satisfy`, `one_of` and `none_of`.
+#[derive(Drop)]
+pub struct Satisfy<F, I, E> {
+    pub predicate: F,
+    pub kind: ErrorKind,
+    pub error: PhantomData<(I, E)>,
+}
+
+impl<I: Input, P: Predicate<I::Item>, E: ParseError<I>> Parser<I> for Satisfy<P, I, E>
+where
+    I::Item: AsChar,
+{
+    type Output = char;
+
+    type Error = E;
+
+    ghost State = { P.State × ErrorKind };
+
+    ghost state = { λ p. (P.state p.predicate, p.kind) };
+
+    ghost Tree = { ℕ };
+
+    ghost IsOutput = { λ _ t c. c ≡ t };
+
+    ghost meaning = { λ s. satisfy_meaning I.seen I.Item.code (P.answers s.0) (P.IsSound s.0) E.errors s.1 };
+
+    ghost Pins = { λ _. Unit {0} };
+
+    #[inline(always)]
+    fn process<OM: OutputMode>(&mut self, input: I) -> PResult<I, char, E> {
+        first_where::<OM, I, P, E>(
+            input,
+            &self.predicate,
+            Blame::OfKind(self.kind),
+            Needed::Unknown,
+        )
+    }
+
+    ghost lawful = { λ s k. head_lawful I.seen I.Item.IsValue I.values I.Item.code (P.answers s.0) (P.fixed s.0 k) None (P.IsSound s.0) E.errors (OfKind s.1) };
+}
+
+impl<I: Input, P: Predicate<I::Item>, E: ParseError<I>> StreamParser<I> for Satisfy<P, I, E>
+where
+    I::Item: AsChar,
+{
+    ghost pinned = { λ s k p. value_pinned };
+
+    ghost steady = { λ s k. head_steady I.seen I.Item.IsValue I.values I.Item.code (P.answers s.0) (P.fixed s.0 k) None (P.IsSound s.0) E.errors (OfKind s.1) };
+}
+
+/// Any one character.
+///
+/// Where there is none, streaming asks for 1, and complete refuses with `Eof`.
+#[derive(Drop)]
+pub struct AnyChar<I, E> {
+    pub error: PhantomData<(I, E)>,
+}
+
+impl<I, E> AnyChar<I, E> {
+    /// The parser of any one character.
+    #[inline(always)]
+    pub fn new() -> AnyChar<I, E> {
+        AnyChar { error: PhantomData }
+    }
+}
+
+impl<I: Input, E: ParseError<I>> Parser<I> for AnyChar<I, E>
+where
+    I::Item: AsChar,
+{
+    type Output = char;
+
+    type Error = E;
+
+    ghost State = { Unit {0} };
+
+    ghost state = { λ _. tt };
+
+    ghost Tree = { ℕ };
+
+    ghost IsOutput = { λ _ t c. c ≡ t };
+
+    ghost meaning = { λ _. any_meaning I.seen I.Item.code E.errors };
+
+    ghost Pins = { λ _. Unit {0} };
+
+    #[inline(always)]
+    fn process<OM: OutputMode>(&mut self, input: I) -> PResult<I, char, E> {
+        let lack = Needed::new(1);
+        first_where::<OM, I, Any, E>(input, &Any, Blame::OfKind(ErrorKind::Eof), lack)
+    }
+
+    ghost lawful = { λ _ k. head_lawful I.seen I.Item.IsValue I.values I.Item.code (λ x b. b ≡ true) (told I.Item.IsValue (λ x. true)) (Some 1) (Unit {0}) E.errors (OfKind Kind.Eof) };
+}
+
+impl<I: Input, E: ParseError<I>> StreamParser<I> for AnyChar<I, E>
+where
+    I::Item: AsChar,
+{
+    ghost pinned = { λ s k p. value_pinned };
+
+    ghost steady = { λ _ k. head_steady I.seen I.Item.IsValue I.values I.Item.code (λ x b. b ≡ true) (told I.Item.IsValue (λ x. true)) (Some 1) (Unit {0}) E.errors (OfKind Kind.Eof) };
+}

@@ -1,0 +1,121 @@
+//! Tests of the characters of items.
+ghost use Rattle.std.specs.Prelude.{ℕ, ◌≡◌, ◌==◌, ◌↔◌, IsTrue, true, false, not};
+ghost use Rattle.nom_bytes.specs.Predicates.{IsFixed, one_answer};
+ghost use Rattle.nom_character.specs.HeadLaws.{told};
+
+use nom_bytes::predicate::Predicate;
+use nom_search::token::FindToken;
+use nom_traits::character::AsChar;
+
+/// The items at whose characters the closure answers true.
+#[derive(Drop)]
+pub struct CharWhere<F> {
+    pub test: F,
+}
+
+impl<T: AsChar, F: Fn(char) -> bool> Predicate<T> for CharWhere<F> {
+    ghost State = { F };
+
+    ghost state = { λ p. p.test };
+
+    ghost answers = { λ f x. F.post f (T.code x) };
+
+    ghost IsSound = { λ f. ((c : _) → F.pre f c) × IsFixed T.IsValue (λ x. F.post f (T.code x)) };
+
+    #[inline(always)]
+    fn meets(&self, item: T) -> bool {
+        (self.test)(item.as_char())
+    }
+
+    ghost fixed = { λ f h. h.1 };
+}
+
+/// The items whose characters are in a set.
+#[derive(Drop)]
+pub struct CharWithin<L> {
+    pub list: L,
+}
+
+impl<T: AsChar, L: FindToken<char>> Predicate<T> for CharWithin<L> {
+    ghost State = { L };
+
+    ghost state = { λ p. p.list };
+
+    ghost answers = { λ list x b. IsTrue b ↔ L.finds list (T.code x) };
+
+    ghost IsSound = { λ _. Unit {0} };
+
+    #[inline(always)]
+    fn meets(&self, item: T) -> bool {
+        self.list.find_token(item.as_char())
+    }
+
+    ghost fixed = { λ list h x v meets fails. one_answer meets fails };
+}
+
+/// The items whose characters aren't in a set.
+#[derive(Drop)]
+pub struct CharOutside<L> {
+    pub list: L,
+}
+
+impl<T: AsChar, L: FindToken<char>> Predicate<T> for CharOutside<L> {
+    ghost State = { L };
+
+    ghost state = { λ p. p.list };
+
+    ghost answers = { λ list x b. IsTrue (not b) ↔ L.finds list (T.code x) };
+
+    ghost IsSound = { λ _. Unit {0} };
+
+    #[inline(always)]
+    fn meets(&self, item: T) -> bool {
+        !self.list.find_token(item.as_char())
+    }
+
+    ghost fixed = { λ list h x v meets fails. one_answer fails meets };
+}
+
+/// The items that are a character.
+#[derive(Drop)]
+pub struct Is {
+    pub wanted: char,
+}
+
+impl<T: AsChar> Predicate<T> for Is {
+    ghost State = { ℕ };
+
+    ghost state = { λ p. p.wanted };
+
+    ghost answers = { λ wanted x b. b ≡ (T.code x == wanted) };
+
+    ghost IsSound = { λ _. Unit {0} };
+
+    #[inline(always)]
+    fn meets(&self, item: T) -> bool {
+        item.as_char() == self.wanted
+    }
+
+    ghost fixed = { λ wanted h. told T.IsValue (λ x. T.code x == wanted) };
+}
+
+/// All items.
+#[derive(Drop)]
+pub struct Any;
+
+impl<T: AsChar> Predicate<T> for Any {
+    ghost State = { Unit {0} };
+
+    ghost state = { λ _. tt };
+
+    ghost answers = { λ _ x b. b ≡ true };
+
+    ghost IsSound = { λ _. Unit {0} };
+
+    #[inline(always)]
+    fn meets(&self, _item: T) -> bool {
+        true
+    }
+
+    ghost fixed = { λ _ h. told T.IsValue (λ x. true) };
+}
