@@ -5,6 +5,7 @@
 
 pub mod branch;
 pub mod bytes;
+pub mod character;
 pub mod error;
 pub mod multi;
 pub mod number;
