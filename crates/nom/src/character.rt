@@ -1,4 +1,4 @@
-//! Parsers of characters: single ones, classes and ends of lines. Those at the top run in the mode that
+//! Parsers of characters: single ones and runs of a class. Those at the top run in the mode that
 //! is asked for.
 
 pub mod complete;
