@@ -1,14 +1,19 @@
 -- What was found at the start of an input.
-use Rattle.std.proofs.Common.{◌≡◌, ℕ, ◌+◌, ◌==◌, Bool, true, false, cond, Option, Some, None, List, [], ◌∷◌, ◌++◌, length, refl, sym, ◌∙◌, ap, subst, arith}
+use Rattle.std.proofs.Common.{◌≡◌, ℕ, ◌+◌, ◌==◌, Bool, true, false, cond, ◌||◌, suc, Option, Some, None, List, [], ◌∷◌, ◌++◌, length, refl, sym, ◌∙◌, ap, subst, arith, append-nil}
+use Rattle.std.specs.List.{All}
+use Rattle.std.proofs.lemmas.List.Elements.{All-head, All-tail}
 use Rattle.nom_error.specs.declared.answer.Needed.{Needed}
+use Rattle.nom_error.specs.declared.answer.Needed.TheVariants.{Unknown}
 use Rattle.nom_error.specs.Answers.{size_of}
 use Rattle.std.proofs.lemmas.Bool.Decides.{nat_tests}
-use Rattle.nom_traits.specs.Input.{Seen, InputLaws, IsRest, span}
+use Rattle.nom_traits.specs.Input.{Seen, InputLaws, IsRest, span, input_len}
+use Rattle.nom_traits.specs.Runs.{EndsAt}
 use Rattle.nom_traits.specs.Rests.{same_cut, rest_rest}
 use Rattle.nom_character.specs.declared.line.Sighted.{Sighted}
 use Rattle.nom_character.specs.declared.line.Sighted.TheVariants as Found
 use Rattle.nom_character.specs.Heads.{IsHead}
-use Rattle.nom_character.specs.Sights.{Sight, at_end, after_return, crlf_in, line_ending_in, line_in, IsSighted, IsNewline}
+use Rattle.nom_character.specs.HeadLaws.{one_head}
+use Rattle.nom_character.specs.Sights.{Sight, at_end, one_more, after_return, crlf_in, line_ending_in, line_in, is_line_code, IsSighted, IsNewline, IsLineEnd}
 use Rattle.nom_character.specs.Sights.Sight.{Stands, Absent, Begins}
 
 by_true : (b : Bool) (p q : Sight) → b ≡ true → cond b p q ≡ p
@@ -96,3 +101,111 @@ module _ {I A : Type 0} (w : Seen I A) (l : InputLaws w) where
   newline_first code s i j x p r t =
       let e = ap (line_ending_in code s) (behind_head i j x p r) ∙ by_true (code x == 10) (Stands 1) (cond (code x == 13) (after_return code s (Stands 2) (Some 2) (w.elements j)) Absent) t in
       one_stands code s (line_ending_in code) i j x p r e
+
+-- so many items before
+abbrev later : Sight → ℕ → Sight
+later (Stands n) k = Stands (n + k)
+later Absent k = Absent
+later (Begins lack) k = Begins lack
+
+zero_more : (n : ℕ) → 0 + n ≡ n
+zero_more n = omega arith
+
+later_none : (a : Sight) → later a 0 ≡ a
+later_none (Stands n) = let e : n + 0 ≡ n = omega arith in ap Stands e
+later_none Absent = refl
+later_none (Begins lack) = refl
+
+later_more : (a : Sight) (k : ℕ) → one_more (later a k) ≡ later a (suc k)
+later_more (Stands n) k = let e : (n + k) + 1 ≡ n + suc k = omega arith in ap Stands e
+later_more Absent k = refl
+later_more (Begins lack) k = refl
+
+neither : (c : ℕ) → is_line_code c ≡ false → ((c == 10) ≡ false) × ((c == 13) ≡ false)
+neither c h = split (c == 10) (c == 13) h
+  where
+    split : (a b : Bool) → (a || b) ≡ false → (a ≡ false) × (b ≡ false)
+    split true b e = absurd (cc (e))
+    split false b e = (refl, e)
+
+other_one : (c : ℕ) → is_line_code c ≡ true → (c == 10) ≡ false → (c == 13) ≡ true
+other_one c h f = split (c == 10) (c == 13) h f
+  where
+    split : (a b : Bool) → (a || b) ≡ true → a ≡ false → b ≡ true
+    split true b e f = absurd (cc (f))
+    split false b e f = e
+
+module _ {A : Type 0} (code : A → ℕ) (s : Bool) where
+  abbrev Passes : A → Type 0
+  Passes x = is_line_code (code x) ≡ false
+
+  -- behind items that end no line it is as without them, so many items later
+  past : (xs ys : List A) → All Passes xs → line_in code s (xs ++ ys) ≡ later (line_in code s ys) (length xs)
+  past [] ys h = sym (later_none (line_in code s ys))
+  past (x ∷ xs) ys h =
+      let none = neither (code x) (All-head Passes x xs h) in
+      let after = after_return code s (Stands 0) None (xs ++ ys) in
+      let line = line_in code s (xs ++ ys) in
+      by_false (code x == 10) (Stands 0) (cond (code x == 13) after (one_more line)) none.0 ∙ (by_false (code x == 13) after (one_more line) none.1 ∙ (ap one_more (past xs ys (All-tail Passes x xs h)) ∙ later_more (line_in code s ys) (length xs)))
+
+module _ {I A : Type 0} (w : Seen I A) (l : InputLaws w) (code : A → ℕ) (s : Bool) where
+  module _ (i : I) (x : A) (p : IsHead w i x) where
+    pub line_ends : (code x == 10) ≡ true → IsLineEnd w code s i (Found.Stands i)
+    line_ends t = (refl, ap (line_in code s) p.whole ∙ by_true (code x == 10) (Stands 0) (cond (code x == 13) (after_return code s (Stands 0) None p.rest) (one_more (line_in code s p.rest))) t)
+
+    module _ (y : A) (q : IsHead w i y) (t : is_line_code (code y) ≡ true) (f : (code x == 10) ≡ false) (j : I) (r : IsRest w i (w.weight x) j) where
+      returns : line_in code s (w.elements i) ≡ after_return code s (Stands 0) None (w.elements j)
+      returns =
+          let same : x ≡ y = one_head w i x y p q in
+          let is = other_one (code x) (subst (λ z. is_line_code (code z) ≡ true) (sym same) t) f in
+          let after = after_return code s (Stands 0) None (w.elements j) in
+          let line = one_more (line_in code s (w.elements j)) in
+          ap (line_in code s) (behind_head w l i j x p r) ∙ (by_false (code x == 10) (Stands 0) (cond (code x == 13) after line) f ∙ by_true (code x == 13) after line is)
+
+      pub return_stands : (found : Sighted I) (k : I) → found ≡ Found.Stands k → IsNewline w code s None j found → IsLineEnd w code s i (Found.Stands i)
+      return_stands found k e h = let n = subst (IsNewline w code s None j) e h in (refl, returns ∙ n.3 (Stands 0))
+
+      pub return_absent : (found : Sighted I) → found ≡ Found.Absent → IsNewline w code s None j found → IsLineEnd w code s i Found.Absent
+      return_absent found e h = let n = subst (IsNewline w code s None j) e h in returns ∙ n (Stands 0)
+
+      pub return_begins : (found : Sighted I) (k : Needed) → found ≡ Found.Begins k → IsNewline w code s None j found → IsLineEnd w code s i (Found.Begins k)
+      return_begins found k e h = let n = subst (IsNewline w code s None j) e h in (n.0, returns ∙ n.1 (Stands 0))
+
+  module _ (Meets Ends : A → Type 0) (meets : (x : A) → Meets x → is_line_code (code x) ≡ false) where
+    all_pass : (xs : List A) → All Meets xs → All (Passes code s) xs
+    all_pass xs h k d p = meets _ (h k d p)
+
+    -- the rest that begins with the item which ends the run
+    pub end_head : (i j : I) (n : ℕ) → (e : EndsAt w Meets Ends i n) → IsRest w i n j → IsHead w j e.item
+    end_head i j n e r =
+        let cut = same_cut w.weight l.positive r.front (w.elements j) e.run (e.item ∷ e.rest) (sym r.whole ∙ e.is_run.whole) (r.length_is ∙ sym e.length_is) in
+        record { rest = e.rest; whole = cut.1 }
+
+    pub line_shown : (i j : I) (n : ℕ) → EndsAt w Meets Ends i n → IsRest w i n j → (found : Sighted I) → IsLineEnd w code s j found → IsSighted w (line_in code) s i found
+    line_shown i j n e r found h = shown found h
+      where
+        cut : (r.front ≡ e.run) × (w.elements j ≡ e.item ∷ e.rest)
+        cut = same_cut w.weight l.positive r.front (w.elements j) e.run (e.item ∷ e.rest) (sym r.whole ∙ e.is_run.whole) (r.length_is ∙ sym e.length_is)
+
+        line : line_in code s (w.elements i) ≡ later (line_in code s (w.elements j)) (length r.front)
+        line = ap (line_in code s) r.whole ∙ past code s r.front (w.elements j) (subst (All (Passes code s)) (sym cut.0) (all_pass e.run e.is_run.meets))
+
+        shown : (found : Sighted I) → IsLineEnd w code s j found → IsSighted w (line_in code) s i found
+        shown (Found.Stands k) h =
+            let stands = line ∙ (ap (λ a. later a (length r.front)) h.1 ∙ ap Stands (zero_more (length r.front))) in
+            subst (λ z. IsSighted w (line_in code) s i (Found.Stands z)) (sym h.0) (n, r, stands)
+        shown Found.Absent h = line ∙ ap (λ a. later a (length r.front)) h
+        shown (Found.Begins k) h = (h.0, subst (λ b. line_in code b (w.elements i) ≡ Begins (size_of k)) h.0 (line ∙ ap (λ a. later a (length r.front)) h.1))
+
+    module _ (i : I) (h : All Meets (w.elements i)) where
+      no_end : line_in code s (w.elements i) ≡ later (at_end s None (Stands 0)) (length (w.elements i))
+      no_end = ap (line_in code s) (sym (append-nil (w.elements i))) ∙ past code s (w.elements i) [] (all_pass (w.elements i) h)
+
+      pub all_stands : (j : I) → IsRest w i (input_len w i) j → s ≡ false → IsSighted w (line_in code) s i (Found.Stands j)
+      all_stands j r f =
+          let cut = same_cut w.weight l.positive r.front (w.elements j) (w.elements i) [] (sym r.whole ∙ sym (append-nil (w.elements i))) r.length_is in
+          let stands = no_end ∙ (ap (λ a. later a (length (w.elements i))) (ended s None (Stands 0) f) ∙ ap Stands (zero_more (length (w.elements i)))) in
+          (input_len w i, r, stands ∙ ap Stands (sym (ap length cut.0)))
+
+      pub all_begins : s ≡ true → IsSighted w (line_in code) s i (Found.Begins Unknown)
+      all_begins t = (t, subst (λ b. line_in code b (w.elements i) ≡ Begins None) t (no_end ∙ ap (λ a. later a (length (w.elements i))) (ended_open s None (Stands 0) t)))

@@ -1,5 +1,5 @@
 -- What is sought at the first items of an input, by a function of the list of items.
-use Rattle.std.specs.Prelude.{◌≡◌, ℕ, ◌+◌, ◌==◌, ◌&&◌, Bool, true, false, cond, List, [], ◌∷◌, length, Option, Some, None}
+use Rattle.std.specs.Prelude.{◌≡◌, ℕ, ◌+◌, ◌==◌, ◌||◌, Bool, true, false, cond, List, [], ◌∷◌, length, Option, Some, None}
 use Rattle.nom_error.specs.declared.kind.ErrorKind.{ErrorKind}
 use Rattle.nom_error.specs.declared.kind.ErrorKind.TheVariants as Kind
 use Rattle.nom_error.specs.Errors.{Errors}
@@ -84,3 +84,13 @@ abbrev pub IsNewline : {I A : Type 0} → Seen I A → (code : A → ℕ) → Bo
 IsNewline {A = A} w code s lack i (Found.Stands j) = (x : A) × IsHead w i x × IsRest w i (w.weight x) j × ((found : Sight) → after_return code s found lack (w.elements i) ≡ found)
 IsNewline w code s lack i Found.Absent = (found : Sight) → after_return code s found lack (w.elements i) ≡ Absent
 IsNewline w code s lack i (Found.Begins k) = (s ≡ true) × ((found : Sight) → after_return code s found lack (w.elements i) ≡ Begins (size_of k))
+
+-- '\n' or '\r'
+abbrev pub is_line_code : ℕ → Bool
+is_line_code c = c == 10 || c == 13
+
+-- what was found at an input that begins with an '\n' or an '\r': all of it stands behind the line before
+abbrev pub IsLineEnd : {I A : Type 0} → Seen I A → (code : A → ℕ) → Bool → I → Sighted I → Type 0
+IsLineEnd w code s i (Found.Stands j) = (j ≡ i) × (line_in code s (w.elements i) ≡ Stands 0)
+IsLineEnd w code s i Found.Absent = line_in code s (w.elements i) ≡ Absent
+IsLineEnd w code s i (Found.Begins k) = (s ≡ true) × (line_in code s (w.elements i) ≡ Begins (size_of k))

@@ -4,7 +4,8 @@ ghost use Rattle.nom_error.specs.Answers.{size_of};
 ghost use Rattle.nom_error.specs.declared.kind.ErrorKind.TheVariants as Kind;
 ghost use Rattle.nom_traits.specs.Slices.{Slice, IsSeenAs};
 ghost use Rattle.nom_internal.specs.Meaning.{ShowsMeaning};
-ghost use Rattle.nom_character.specs.Sights.{Sight, IsSighted, IsNewline, sight_meaning, crlf_in, crlf_meaning, line_ending_in, line_ending_meaning, line_in, line_meaning};
+ghost use Rattle.nom_character.specs.Heads.{IsHead};
+ghost use Rattle.nom_character.specs.Sights.{Sight, IsSighted, IsNewline, IsLineEnd, is_line_code, sight_meaning, crlf_in, crlf_meaning, line_ending_in, line_ending_meaning, line_in, line_meaning};
 ghost use Rattle.nom_character.specs.SightLaws.{sight_lawful, crlf_laws, line_ending_laws, line_laws};
 
 use crate::first::{behind, first};
@@ -96,6 +97,46 @@ where
     }
 }
 
+/// The end of a line at the start of an input whose first item is `\r` or `\n`: all of it is what
+/// stands behind the line before.
+#[inline(always)]
+fn line_end_at<I: Input, S: IsStreaming>(input: I) -> Sighted<I>
+where
+    I::Item: AsChar,
+    requires { (x : I.Item) × IsHead I.seen input x × (is_line_code (I.Item.code x) ≡ true) }
+    ensures { IsLineEnd I.seen I.Item.code S.STREAMING input result }
+{
+    match first(input) {
+        Some(item) if item.as_char() == '\n' => Sighted::Stands(input),
+        Some(item) => match newline_at::<I, S>(behind(input, item), Needed::Unknown) {
+            Sighted::Stands(_) => Sighted::Stands(input),
+            Sighted::Absent => Sighted::Absent,
+            Sighted::Begins(needed) => Sighted::Begins(needed),
+        },
+        None => unreachable!(),
+    }
+}
+
+/// The items before the first end of a line.
+#[inline(always)]
+fn line_at<I: Input, S: IsStreaming>(input: I) -> Sighted<I>
+where
+    I::Item: AsChar,
+    ensures { IsSighted I.seen (line_in I.Item.code) S.STREAMING input result }
+{
+    let is_end = |item: I::Item| -> bool
+        ensures { result ≡ is_line_code (I.Item.code item) }
+    {
+        let c = item.as_char();
+        c == '\n' || c == '\r'
+    };
+    match input.position(is_end) {
+        Some(n) => line_end_at::<I, S>(input.take_from(n)),
+        None if S::STREAMING => Sighted::Begins(Needed::Unknown),
+        None => Sighted::Stands(input.take_from(input.input_len())),
+    }
+}
+
 /// `\r\n`.
 #[derive(Drop)]
 pub(crate) struct Crlf<I, E> {
@@ -164,4 +205,39 @@ where
     }
 
     ghost lawful = { λ _ k. sight_lawful I.seen (line_ending_in I.Item.code) (line_ending_laws I.Item.code) E.errors Kind.CrLf };
+}
+
+/// The items before the first end of a line.
+#[derive(Drop)]
+pub(crate) struct NotLineEnding<I, E> {
+    pub error: PhantomData<(I, E)>,
+}
+
+impl<I: Input, E: ParseError<I>> Parser<I> for NotLineEnding<I, E>
+where
+    I::Item: AsChar,
+{
+    type Output = I;
+
+    type Error = E;
+
+    ghost State = { Unit {0} };
+
+    ghost state = { λ _. tt };
+
+    ghost Tree = { Slice I.seen };
+
+    ghost IsOutput = { λ _. IsSeenAs I.seen };
+
+    ghost meaning = { λ _. line_meaning I.seen I.Item.code E.errors };
+
+    ghost Pins = { λ _. Unit {0} };
+
+    #[inline(always)]
+    fn process<OM: OutputMode>(&mut self, input: I) -> PResult<I, I, E> {
+        let found = line_at::<I, OM::Incomplete>(input);
+        answer::<OM, I, E>(input, found, ErrorKind::Tag)
+    }
+
+    ghost lawful = { λ _ k. sight_lawful I.seen (line_in I.Item.code) (line_laws I.Item.code) E.errors Kind.Tag };
 }
