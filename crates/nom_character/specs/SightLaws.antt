@@ -1,5 +1,5 @@
 -- The laws of what is sought at the first items of an input.
-use Rattle.std.specs.Prelude.{◌≡◌, ℕ, ◌+◌, ◌==◌, Bool, true, false, cond, List, [], ◌∷◌, ◌++◌, length, Option, Some, None, refl}
+use Rattle.std.specs.Prelude.{◌≡◌, ℕ, ◌==◌, Bool, true, false, cond, List, [], ◌∷◌, ◌++◌, length, Option, Some, None, refl}
 use Rattle.std.proofs.Common.{sym, ◌∙◌, ap, subst, append-nil}
 use Rattle.nom_error.specs.declared.kind.ErrorKind.{ErrorKind}
 use Rattle.nom_error.specs.Errors.{Errors}
@@ -7,7 +7,7 @@ use Rattle.nom_traits.specs.Input.{Seen, Related}
 use Rattle.nom_traits.specs.Slices.{first_place, first_related, same_count}
 use Rattle.nom_internal.specs.Meaning.{IsLawful, IsSteady}
 use Rattle.nom_internal.specs.Leaf.{LeafLaws, leaf_lawful, leaf_steady}
-use Rattle.nom_character.specs.Sights.{Sight, at_end, one_more, after_return, crlf_in, line_ending_in, line_in, sights, sight_meaning}
+use Rattle.nom_character.specs.Sights.{Sight, one_more, after_return, crlf_in, line_ending_in, line_in, sights, sight_meaning}
 use Rattle.nom_character.specs.Sights.Sight.{Stands, Absent, Begins}
 
 -- nothing is open
