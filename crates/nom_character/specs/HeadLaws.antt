@@ -1,5 +1,5 @@
 -- The laws of parsers of a first item.
-use Rattle.std.specs.Prelude.{◌≡◌, ℕ, ◌==◌, Bool, true, false, ◌⊎◌, List, [], ◌∷◌, ◌++◌, Option, refl}
+use Rattle.std.specs.Prelude.{◌≡◌, ℕ, Bool, true, false, [], ◌∷◌, ◌++◌, Option}
 use Rattle.std.proofs.Common.{arith, sym, ◌∙◌, ap, subst, inl, inr}
 use Rattle.nom_error.specs.Errors.{Errors}
 use Rattle.nom_traits.specs.Input.{Seen, AreValues, IsPlace, Related}
@@ -16,7 +16,7 @@ told IsValue test x v p q = cc (p, q)
 
 module _ {I A : Type 0} (w : Seen I A) where
   -- an input has one first item
-  one_head : (i : I) (x y : A) → IsHead w i x → IsHead w i y → x ≡ y
+  pub one_head : (i : I) (x y : A) → IsHead w i x → IsHead w i y → x ≡ y
   one_head i x y p q = let same : x ∷ p.rest ≡ y ∷ q.rest = sym p.whole ∙ q.whole in cc (same)
 
   pub no_head : (i : I) (x : A) → IsHead w i x → w.elements i ≡ [] → ⊥

@@ -4,8 +4,10 @@ ghost use Rattle.nom_traits.specs.Slices.{IsSeenAs};
 ghost use Rattle.nom_internal.specs.Meaning.{ParsesMeaning};
 ghost use Rattle.nom_character.specs.ClassRuns.{class_meaning};
 ghost use Rattle.nom_character.specs.Heads.{any_meaning, char_meaning};
+ghost use Rattle.nom_character.specs.Sights.{crlf_meaning, line_ending_meaning, line_meaning};
 
 use crate::class::ClassRun;
+use crate::line::{Crlf, LineEnding, NotLineEnding};
 use crate::predicate::{CharOutside, CharWhere, CharWithin};
 use crate::{AnyChar, Char, Fixed, Satisfy};
 use nom_error::answer::IResult;
@@ -284,5 +286,45 @@ where
         wanted: '\t',
         error: PhantomData,
     };
+    parser.parse_complete(input)
+}
+
+/// `\r\n`.
+///
+/// Any other input is refused with `CrLf`, also one that ends before.
+#[inline(always)]
+pub fn crlf<T: Input, E: ParseError<T>>(input: T) -> IResult<T, T, E>
+where
+    T::Item: AsChar,
+    ensures { ParsesMeaning T.seen (IsSeenAs T.seen) (crlf_meaning T.seen T.Item.code E.errors) false input result }
+{
+    let mut parser = Crlf::<T, E> { error: PhantomData };
+    parser.parse_complete(input)
+}
+
+/// The end of a line, `\n` or `\r\n`.
+///
+/// Any other input is refused with `CrLf`, also one that ends before.
+#[inline(always)]
+pub fn line_ending<T: Input, E: ParseError<T>>(input: T) -> IResult<T, T, E>
+where
+    T::Item: AsChar,
+    ensures { ParsesMeaning T.seen (IsSeenAs T.seen) (line_ending_meaning T.seen T.Item.code E.errors) false input result }
+{
+    let mut parser = LineEnding::<T, E> { error: PhantomData };
+    parser.parse_complete(input)
+}
+
+/// The items before the first `\n` or `\r\n`; there may be none.
+///
+/// Where there is none, all items are accepted. An `\r` that comes first, with no `\n` behind it, is
+/// refused with `Tag`.
+#[inline(always)]
+pub fn not_line_ending<T: Input, E: ParseError<T>>(input: T) -> IResult<T, T, E>
+where
+    T::Item: AsChar,
+    ensures { ParsesMeaning T.seen (IsSeenAs T.seen) (line_meaning T.seen T.Item.code E.errors) false input result }
+{
+    let mut parser = NotLineEnding::<T, E> { error: PhantomData };
     parser.parse_complete(input)
 }

@@ -51,7 +51,7 @@ fn refused_char<M: Mode, I: Drop, E: ParseError<I>>(input: I, wanted: char) -> E
 
 /// The first item of an input.
 #[inline(always)]
-fn first<I: Input>(input: I) -> Option<I::Item>
+pub(crate) fn first<I: Input>(input: I) -> Option<I::Item>
     ensures { MatchOption result (I.seen.elements input ≡ []) (IsHead I.seen input) }
 {
     input.iter_elements().next()
@@ -71,7 +71,7 @@ fn character<M: Mode, C: AsChar>(item: C) -> Option<char>
 
 /// The input behind its first item.
 #[inline(always)]
-fn behind<I: Input>(input: I, item: I::Item) -> I
+pub(crate) fn behind<I: Input>(input: I, item: I::Item) -> I
 where
     I::Item: AsChar,
     requires { IsHead I.seen input item }

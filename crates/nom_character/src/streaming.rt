@@ -4,8 +4,10 @@ ghost use Rattle.nom_traits.specs.Slices.{IsSeenAs};
 ghost use Rattle.nom_internal.specs.Meaning.{ParsesMeaning};
 ghost use Rattle.nom_character.specs.ClassRuns.{class_meaning};
 ghost use Rattle.nom_character.specs.Heads.{any_meaning, char_meaning};
+ghost use Rattle.nom_character.specs.Sights.{crlf_meaning, line_ending_meaning, line_meaning};
 
 use crate::class::ClassRun;
+use crate::line::{Crlf, LineEnding, NotLineEnding};
 use crate::predicate::{CharOutside, CharWhere, CharWithin};
 use crate::{AnyChar, Char, Fixed, Satisfy};
 use nom_error::answer::IResult;
@@ -292,5 +294,45 @@ where
         wanted: '\t',
         error: PhantomData,
     };
+    parser.parse(input)
+}
+
+/// `\r\n`.
+///
+/// Any other input is refused with `CrLf`; of an empty one, and of a single `\r`, it asks for 2.
+#[inline(always)]
+pub fn crlf<T: Input, E: ParseError<T>>(input: T) -> IResult<T, T, E>
+where
+    T::Item: AsChar,
+    ensures { ParsesMeaning T.seen (IsSeenAs T.seen) (crlf_meaning T.seen T.Item.code E.errors) true input result }
+{
+    let mut parser = Crlf::<T, E> { error: PhantomData };
+    parser.parse(input)
+}
+
+/// The end of a line, `\n` or `\r\n`.
+///
+/// Any other input is refused with `CrLf`; of an empty one it asks for 1, and of a single `\r` for 2.
+#[inline(always)]
+pub fn line_ending<T: Input, E: ParseError<T>>(input: T) -> IResult<T, T, E>
+where
+    T::Item: AsChar,
+    ensures { ParsesMeaning T.seen (IsSeenAs T.seen) (line_ending_meaning T.seen T.Item.code E.errors) true input result }
+{
+    let mut parser = LineEnding::<T, E> { error: PhantomData };
+    parser.parse(input)
+}
+
+/// The items before the first `\n` or `\r\n`; there may be none.
+///
+/// Where there is none, or where the input ends behind an `\r`, it asks for more, and can't tell how much.
+/// An `\r` that comes first, with another item behind it than `\n`, is refused with `Tag`.
+#[inline(always)]
+pub fn not_line_ending<T: Input, E: ParseError<T>>(input: T) -> IResult<T, T, E>
+where
+    T::Item: AsChar,
+    ensures { ParsesMeaning T.seen (IsSeenAs T.seen) (line_meaning T.seen T.Item.code E.errors) true input result }
+{
+    let mut parser = NotLineEnding::<T, E> { error: PhantomData };
     parser.parse(input)
 }

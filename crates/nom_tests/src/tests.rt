@@ -2,6 +2,7 @@
 
 mod answers;
 mod byte_sets;
+mod characters;
 mod escapes;
 mod leaves;
 mod runs;

@@ -44,7 +44,7 @@ impl Content for String {
     }
 }
 
-fn is_answer<T: Content + Drop, O: Content + Drop>(
+pub fn is_answer<T: Content + Drop, O: Content + Drop>(
     found: IResult<T, O>,
     answer: Answer<T>,
 ) -> bool {

@@ -1,4 +1,4 @@
-use Rattle.std.proofs.Common.{true, false, Some, None, sym, subst}
+use Rattle.std.proofs.Common.{true, false, sym, subst}
 use Rattle.nom_error.specs.Answers.{Refuses}
 use Rattle.nom_traits.specs.Classes.{IsInside, IsOutside}
 use Rattle.nom_traits.specs.Slices.{IsSeenAs}

@@ -1,4 +1,4 @@
-use Rattle.std.proofs.Common.{subst, sym}
+use Rattle.std.proofs.Common.{subst}
 use Rattle.nom_traits.specs.Input.{IsRest}
 use Rattle.nom_character.specs.HeadLaws.{head_place}
 use Rattle.nom_character.proofs.first.behind.Goals as goal

@@ -1,0 +1,243 @@
+//! Ends of lines, and the items before them.
+ghost use Rattle.std.specs.Prelude.{◌≡◌, Bool, List, true, false};
+ghost use Rattle.nom_error.specs.Answers.{size_of};
+ghost use Rattle.nom_error.specs.declared.kind.ErrorKind.TheVariants as Kind;
+ghost use Rattle.nom_traits.specs.Slices.{Slice, IsSeenAs};
+ghost use Rattle.nom_internal.specs.Meaning.{ShowsMeaning};
+ghost use Rattle.nom_character.specs.Heads.{IsHead};
+ghost use Rattle.nom_character.specs.Sights.{Sight, IsSighted, IsNewline, IsLineEnd, is_line_code, sight_meaning, crlf_in, crlf_meaning, line_ending_in, line_ending_meaning, line_in, line_meaning};
+ghost use Rattle.nom_character.specs.SightLaws.{sight_lawful, crlf_laws, line_ending_laws, line_laws};
+
+use crate::first::{behind, first};
+use nom_error::answer::{Err, Needed, PResult};
+use nom_error::kind::ErrorKind;
+use nom_error::mode::{IsStreaming, OutputMode};
+use nom_error::value::{ParseError, refusal};
+use nom_internal::parser::Parser;
+use nom_internal::slices::before;
+use nom_traits::character::AsChar;
+use nom_traits::input::Input;
+use std::marker::PhantomData;
+
+/// What was found at the start of an input.
+#[derive(Drop)]
+pub enum Sighted<I> {
+    /// What is sought, with the rest behind it.
+    Stands(I),
+    /// Something else.
+    Absent,
+    /// A beginning of it, of which this lacks.
+    Begins(Needed),
+}
+
+/// The answer for what was found.
+#[inline(always)]
+fn answer<OM: OutputMode, I: Input, E: ParseError<I>>(
+    input: I,
+    found: Sighted<I>,
+    kind: ErrorKind,
+) -> PResult<I, I, E>
+    requires { (sight : Bool → List I.Item → Sight) × IsSighted I.seen sight OM.Incomplete.STREAMING input found }
+    ensures { (sight : Bool → List I.Item → Sight) → IsSighted I.seen sight OM.Incomplete.STREAMING input found → ShowsMeaning I.seen (IsSeenAs I.seen) (sight_meaning I.seen sight E.errors kind) OM.Output.BUILDS OM.Error.BUILDS OM.Incomplete.STREAMING input result }
+{
+    match found {
+        Sighted::Stands(rest) => Ok((rest, before::<OM::Output, I>(input, rest))),
+        Sighted::Absent => Err(refusal::<OM::Error, I, E>(input, kind)),
+        Sighted::Begins(needed) => Err(Err::Incomplete(needed)),
+    }
+}
+
+/// An `\n` that is wanted after an `\r`; where there is no item, what lacks is `lack`.
+#[inline(always)]
+fn newline_at<I: Input, S: IsStreaming>(input: I, lack: Needed) -> Sighted<I>
+where
+    I::Item: AsChar,
+    ensures { IsNewline I.seen I.Item.code S.STREAMING (size_of lack) input result }
+{
+    match first(input) {
+        Some(item) if item.as_char() == '\n' => Sighted::Stands(behind(input, item)),
+        Some(_) => Sighted::Absent,
+        None if S::STREAMING => Sighted::Begins(lack),
+        None => Sighted::Absent,
+    }
+}
+
+/// `\r\n` at the start of an input.
+#[inline(always)]
+fn crlf_at<I: Input, S: IsStreaming>(input: I) -> Sighted<I>
+where
+    I::Item: AsChar,
+    ensures { IsSighted I.seen (crlf_in I.Item.code) S.STREAMING input result }
+{
+    match first(input) {
+        Some(item) if item.as_char() == '\r' => {
+            newline_at::<I, S>(behind(input, item), Needed::new(2))
+        }
+        Some(_) => Sighted::Absent,
+        None if S::STREAMING => Sighted::Begins(Needed::new(2)),
+        None => Sighted::Absent,
+    }
+}
+
+/// `\n` or `\r\n` at the start of an input.
+#[inline(always)]
+fn line_ending_at<I: Input, S: IsStreaming>(input: I) -> Sighted<I>
+where
+    I::Item: AsChar,
+    ensures { IsSighted I.seen (line_ending_in I.Item.code) S.STREAMING input result }
+{
+    match first(input) {
+        Some(item) if item.as_char() == '\n' => Sighted::Stands(behind(input, item)),
+        Some(item) if item.as_char() == '\r' => {
+            newline_at::<I, S>(behind(input, item), Needed::new(2))
+        }
+        Some(_) => Sighted::Absent,
+        None if S::STREAMING => Sighted::Begins(Needed::new(1)),
+        None => Sighted::Absent,
+    }
+}
+
+/// The end of a line at the start of an input whose first item is `\r` or `\n`: all of it is what
+/// stands behind the line before.
+#[inline(always)]
+fn line_end_at<I: Input, S: IsStreaming>(input: I) -> Sighted<I>
+where
+    I::Item: AsChar,
+    requires { (x : I.Item) × IsHead I.seen input x × (is_line_code (I.Item.code x) ≡ true) }
+    ensures { IsLineEnd I.seen I.Item.code S.STREAMING input result }
+{
+    match first(input) {
+        Some(item) if item.as_char() == '\n' => Sighted::Stands(input),
+        Some(item) => match newline_at::<I, S>(behind(input, item), Needed::Unknown) {
+            Sighted::Stands(_) => Sighted::Stands(input),
+            Sighted::Absent => Sighted::Absent,
+            Sighted::Begins(needed) => Sighted::Begins(needed),
+        },
+        None => unreachable!(),
+    }
+}
+
+/// The items before the first end of a line.
+#[inline(always)]
+fn line_at<I: Input, S: IsStreaming>(input: I) -> Sighted<I>
+where
+    I::Item: AsChar,
+    ensures { IsSighted I.seen (line_in I.Item.code) S.STREAMING input result }
+{
+    let is_end = |item: I::Item| -> bool
+        ensures { result ≡ is_line_code (I.Item.code item) }
+    {
+        let c = item.as_char();
+        c == '\n' || c == '\r'
+    };
+    match input.position(is_end) {
+        Some(n) => line_end_at::<I, S>(input.take_from(n)),
+        None if S::STREAMING => Sighted::Begins(Needed::Unknown),
+        None => Sighted::Stands(input.take_from(input.input_len())),
+    }
+}
+
+/// `\r\n`.
+#[derive(Drop)]
+pub(crate) struct Crlf<I, E> {
+    pub error: PhantomData<(I, E)>,
+}
+
+impl<I: Input, E: ParseError<I>> Parser<I> for Crlf<I, E>
+where
+    I::Item: AsChar,
+{
+    type Output = I;
+
+    type Error = E;
+
+    ghost State = { Unit {0} };
+
+    ghost state = { λ _. tt };
+
+    ghost Tree = { Slice I.seen };
+
+    ghost IsOutput = { λ _. IsSeenAs I.seen };
+
+    ghost meaning = { λ _. crlf_meaning I.seen I.Item.code E.errors };
+
+    ghost Pins = { λ _. Unit {0} };
+
+    #[inline(always)]
+    fn process<OM: OutputMode>(&mut self, input: I) -> PResult<I, I, E> {
+        let found = crlf_at::<I, OM::Incomplete>(input);
+        answer::<OM, I, E>(input, found, ErrorKind::CrLf)
+    }
+
+    ghost lawful = { λ _ k. sight_lawful I.seen (crlf_in I.Item.code) (crlf_laws I.Item.code) E.errors Kind.CrLf };
+}
+
+/// `\n` or `\r\n`.
+#[derive(Drop)]
+pub(crate) struct LineEnding<I, E> {
+    pub error: PhantomData<(I, E)>,
+}
+
+impl<I: Input, E: ParseError<I>> Parser<I> for LineEnding<I, E>
+where
+    I::Item: AsChar,
+{
+    type Output = I;
+
+    type Error = E;
+
+    ghost State = { Unit {0} };
+
+    ghost state = { λ _. tt };
+
+    ghost Tree = { Slice I.seen };
+
+    ghost IsOutput = { λ _. IsSeenAs I.seen };
+
+    ghost meaning = { λ _. line_ending_meaning I.seen I.Item.code E.errors };
+
+    ghost Pins = { λ _. Unit {0} };
+
+    #[inline(always)]
+    fn process<OM: OutputMode>(&mut self, input: I) -> PResult<I, I, E> {
+        let found = line_ending_at::<I, OM::Incomplete>(input);
+        answer::<OM, I, E>(input, found, ErrorKind::CrLf)
+    }
+
+    ghost lawful = { λ _ k. sight_lawful I.seen (line_ending_in I.Item.code) (line_ending_laws I.Item.code) E.errors Kind.CrLf };
+}
+
+/// The items before the first end of a line.
+#[derive(Drop)]
+pub(crate) struct NotLineEnding<I, E> {
+    pub error: PhantomData<(I, E)>,
+}
+
+impl<I: Input, E: ParseError<I>> Parser<I> for NotLineEnding<I, E>
+where
+    I::Item: AsChar,
+{
+    type Output = I;
+
+    type Error = E;
+
+    ghost State = { Unit {0} };
+
+    ghost state = { λ _. tt };
+
+    ghost Tree = { Slice I.seen };
+
+    ghost IsOutput = { λ _. IsSeenAs I.seen };
+
+    ghost meaning = { λ _. line_meaning I.seen I.Item.code E.errors };
+
+    ghost Pins = { λ _. Unit {0} };
+
+    #[inline(always)]
+    fn process<OM: OutputMode>(&mut self, input: I) -> PResult<I, I, E> {
+        let found = line_at::<I, OM::Incomplete>(input);
+        answer::<OM, I, E>(input, found, ErrorKind::Tag)
+    }
+
+    ghost lawful = { λ _ k. sight_lawful I.seen (line_in I.Item.code) (line_laws I.Item.code) E.errors Kind.Tag };
+}
