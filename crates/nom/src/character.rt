@@ -1,5 +1,5 @@
-//! Parsers of characters: single ones and runs of a class. Those at the top run in the mode that
-//! is asked for.
+//! Parsers of characters: single ones, runs of a class and ends of lines. Those at the top run in
+//! the mode that is asked for.
 
 pub mod complete;
 pub mod streaming;

@@ -1,7 +1,7 @@
 //! The parsers of `character` in the complete mode, whatever mode is asked for.
 
 pub use nom_character::complete::{
-    alpha0, alpha1, alphanumeric0, alphanumeric1, anychar, bin_digit0, bin_digit1, char, digit0,
-    digit1, hex_digit0, hex_digit1, multispace0, multispace1, newline, none_of, oct_digit0,
-    oct_digit1, one_of, satisfy, space0, space1, tab,
+    alpha0, alpha1, alphanumeric0, alphanumeric1, anychar, bin_digit0, bin_digit1, char, crlf,
+    digit0, digit1, hex_digit0, hex_digit1, line_ending, multispace0, multispace1, newline,
+    none_of, not_line_ending, oct_digit0, oct_digit1, one_of, satisfy, space0, space1, tab,
 };
