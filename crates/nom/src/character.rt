@@ -1,4 +1,4 @@
-//! Parsers of characters: single ones, runs of a class and ends of lines. Those at the top run in
+//! Parsers of characters: single ones, runs of a class, ends of lines and decimal integers. Those at the top run in
 //! the mode that is asked for.
 
 pub mod complete;

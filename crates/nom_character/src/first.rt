@@ -49,9 +49,9 @@ fn refused_char<M: Mode, I: Drop, E: ParseError<I>>(input: I, wanted: char) -> E
     }
 }
 
-/// The first item of an input.
+/// The first item of an input, if there is one.
 #[inline(always)]
-pub(crate) fn first<I: Input>(input: I) -> Option<I::Item>
+pub fn first<I: Input>(input: I) -> Option<I::Item>
     ensures { MatchOption result (I.seen.elements input ≡ []) (IsHead I.seen input) }
 {
     input.iter_elements().next()

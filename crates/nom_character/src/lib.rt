@@ -8,7 +8,7 @@ ghost use Rattle.nom_character.specs.Heads.{any_meaning};
 
 mod class;
 pub mod complete;
-mod first;
+pub mod first;
 mod line;
 mod one;
 pub mod predicate;

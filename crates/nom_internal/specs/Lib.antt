@@ -17,3 +17,4 @@ pub mod Results
 pub mod Sequence
 pub mod SequenceLaws
 pub mod Success
+pub mod TextCuts

@@ -4,6 +4,7 @@ mod answers;
 mod byte_sets;
 mod characters;
 mod escapes;
+mod integers;
 mod leaves;
 mod runs;
 mod sets;

@@ -11,6 +11,7 @@ ghost use Rattle.nom_vectors.specs.Rows.{is_wrong};
 mod answers;
 mod branch;
 mod bytes;
+mod character;
 mod multi;
 mod traits;
 
@@ -46,7 +47,10 @@ fn run_row(alloc: Global, number: usize) -> Outcome {
         3 => Outcome::of(branch::row_3()),
         5 => Outcome::of(multi::row_5(alloc)),
         6 => Outcome::of(bytes::row_6()),
+        11 => Outcome::of(character::row_11()),
         12 => Outcome::of(bytes::row_12()),
+        17 => Outcome::of(character::row_17()),
+        18 => Outcome::of(character::row_18(alloc)),
         21 => Outcome::of(traits::row_21()),
         23 => Outcome::of(bytes::row_23()),
         _ => Outcome::Absent,

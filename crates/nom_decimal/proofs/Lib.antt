@@ -1,0 +1,3 @@
+pub mod Readings
+pub mod Shown
+pub mod Signs

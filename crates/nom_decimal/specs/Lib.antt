@@ -1,0 +1,3 @@
+pub mod IntegerLaws
+pub mod Integers
+pub mod Read
