@@ -1,22 +1,26 @@
-//! `nom_bench FILE [ROUNDS]`: how fast the grammar of nom_records, a run and a search go over a file,
-//! held in memory.
+//! `nom_bench FILE [ROUNDS]`: how fast the grammar of nom_records, runs, a search and decimal numbers go
+//! over a file, held in memory.
 //!
 //! The grammar runs by `parse`, by `parse_complete`, and by `process` where nothing is built. By
-//! `parse_complete` also run a `take_while1` of all bytes before the first `;`, and a `take_until` of
-//! all before the first `;;`. Each runs ROUNDS times (7 where none are named), and a line for each tells
-//! the records, if it is the grammar, the bytes consumed, and the MB (10^6 bytes) a second of the best
-//! round. A file that isn't accepted gets `no records`, `no run` or `no needle`: so a file for the
-//! grammar is one of records, and a file for the other two is long, with a `;;` at its end and no `;`
-//! before. With no argument nothing is printed.
+//! `parse_complete` also run a `take_while1` of all bytes before the first `;`, a `take_until` of all before
+//! the first `;;`, an `alphanumeric1`, and a list of decimal numbers of 32 bits, each with a `,` behind it.
+//! Each runs ROUNDS times (7 where none are named), and a line for each tells the records or the numbers,
+//! the bytes consumed, and the MB (10^6 bytes) a second of the best round. A file that isn't accepted gets
+//! `no records`, `no run`, `no needle`, `no word` or `no numbers`: so a file for the grammar is one of
+//! records; a file for a run and a needle is long, with a `;;` at its end and no `;` before; one for a word
+//! is of letters and digits; and one for numbers as they are written. With no argument nothing is printed.
 #![tactic(auto)]
 
 use nom::bytes::{tag, take_until, take_while1};
+use nom::character::{char, complete};
 use nom::error::Error;
 use nom::multi::{length_data, many0};
 use nom::number::be_u8;
 use nom::sequence::{preceded, terminated};
 use nom::{Check, Err, OutputM, Parser, Streaming};
+use nom_decimal::integer::Integer;
 use std::alloc::Global;
+use std::marker::PhantomData;
 use std::process::ExitCode;
 use std::rt::{Clock, Env, Files};
 use std::time::Instant;
@@ -27,8 +31,8 @@ type Fail<'a> = Error<&'a [u8]>;
 /// What a round told.
 #[derive(Clone, Copy)]
 struct Round {
-    /// The records, if it ran the grammar: those of the list, 0 where no list is built.
-    records: Option<usize>,
+    /// How many items a list has, where the parser makes lists: 0 where none is built.
+    items: Option<usize>,
     /// The bytes that were consumed.
     bytes: usize,
 }
@@ -41,7 +45,7 @@ fn by_parse(alloc: Global, bytes: &[u8]) -> Option<Round> {
     let mut records = terminated(many0(alloc, record), tag::<_, _, Fail>(&b"."[..]));
     match records.parse(bytes) {
         Ok((rest, list)) => Some(Round {
-            records: Some(list.len()),
+            items: Some(list.len()),
             bytes: bytes.len().saturating_sub(rest.len()),
         }),
         Err(_) => None,
@@ -56,7 +60,7 @@ fn by_parse_complete(alloc: Global, bytes: &[u8]) -> Option<Round> {
     let mut records = terminated(many0(alloc, record), tag::<_, _, Fail>(&b"."[..]));
     match records.parse_complete(bytes) {
         Ok((rest, list)) => Some(Round {
-            records: Some(list.len()),
+            items: Some(list.len()),
             bytes: bytes.len().saturating_sub(rest.len()),
         }),
         Err(_) => None,
@@ -71,7 +75,7 @@ fn by_check(alloc: Global, bytes: &[u8]) -> Option<Round> {
     let mut records = terminated(many0(alloc, record), tag::<_, _, Fail>(&b"."[..]));
     match records.process::<OutputM<Check, Check, Streaming>>(bytes) {
         Ok((rest, _none)) => Some(Round {
-            records: Some(0),
+            items: Some(0),
             bytes: bytes.len().saturating_sub(rest.len()),
         }),
         Err(_) => None,
@@ -83,7 +87,7 @@ fn by_take_while1(bytes: &[u8]) -> Option<Round> {
     let mut run = take_while1::<_, _, Fail>(|byte: u8| byte != b';');
     match run.parse_complete(bytes) {
         Ok((rest, _run)) => Some(Round {
-            records: None,
+            items: None,
             bytes: bytes.len().saturating_sub(rest.len()),
         }),
         Err(_) => None,
@@ -95,10 +99,37 @@ fn by_take_until(bytes: &[u8]) -> Option<Round> {
     let mut front = take_until::<_, _, Fail>(&b";;"[..]);
     match front.parse_complete(bytes) {
         Ok((rest, _front)) => Some(Round {
-            records: None,
+            items: None,
             bytes: bytes.len().saturating_sub(rest.len()),
         }),
         Err(_) => None,
+    }
+}
+
+#[inline(never)]
+fn by_alphanumeric1(bytes: &[u8]) -> Option<Round> {
+    match complete::alphanumeric1::<_, Fail>(bytes) {
+        Ok((rest, _word)) => Some(Round {
+            items: None,
+            bytes: bytes.len().saturating_sub(rest.len()),
+        }),
+        Err(_) => None,
+    }
+}
+
+#[inline(never)]
+fn by_numbers(alloc: Global, bytes: &[u8]) -> Option<Round> {
+    let number = Integer::<u32, _, Fail> {
+        signed: false,
+        types: PhantomData,
+    };
+    let mut numbers = many0(alloc, terminated(number, char(',')));
+    match numbers.parse_complete(bytes) {
+        Ok((rest, list)) if !list.is_empty() => Some(Round {
+            items: Some(list.len()),
+            bytes: bytes.len().saturating_sub(rest.len()),
+        }),
+        _ => None,
     }
 }
 
@@ -110,6 +141,8 @@ enum Way {
     Check,
     TakeWhile1,
     TakeUntil,
+    Alphanumeric1,
+    Numbers,
 }
 
 impl Way {
@@ -120,6 +153,16 @@ impl Way {
             Way::Check => "check",
             Way::TakeWhile1 => "take_while1",
             Way::TakeUntil => "take_until",
+            Way::Alphanumeric1 => "alphanumeric1",
+            Way::Numbers => "u32",
+        }
+    }
+
+    /// What a list holds.
+    fn items(self) -> &'static str {
+        match self {
+            Way::Numbers => "numbers",
+            _ => "records",
         }
     }
 
@@ -131,6 +174,8 @@ impl Way {
             Way::Check => "no records",
             Way::TakeWhile1 => "no run",
             Way::TakeUntil => "no needle",
+            Way::Alphanumeric1 => "no word",
+            Way::Numbers => "no numbers",
         }
     }
 
@@ -141,6 +186,8 @@ impl Way {
             Way::Check => by_check(alloc, bytes),
             Way::TakeWhile1 => by_take_while1(bytes),
             Way::TakeUntil => by_take_until(bytes),
+            Way::Alphanumeric1 => by_alphanumeric1(bytes),
+            Way::Numbers => by_numbers(alloc, bytes),
         }
     }
 }
@@ -167,9 +214,10 @@ fn bench(
                 .checked_div(best)
                 .unwrap_or(0);
             let consumed = round.bytes;
-            match round.records {
-                Some(records) => {
-                    println!(rt; "{name}: {records} records, {consumed} bytes, {speed} MB/s")
+            match round.items {
+                Some(count) => {
+                    let items = way.items();
+                    println!(rt; "{name}: {count} {items}, {consumed} bytes, {speed} MB/s")
                 }
                 None => println!(rt; "{name}: {consumed} bytes, {speed} MB/s"),
             }
@@ -196,7 +244,9 @@ fn run(rt: &(impl Clock + Env + Files + Print + Alloc<A = Global>)) -> io::Resul
     bench(rt, Way::ParseComplete, &bytes, rounds)?;
     bench(rt, Way::Check, &bytes, rounds)?;
     bench(rt, Way::TakeWhile1, &bytes, rounds)?;
-    bench(rt, Way::TakeUntil, &bytes, rounds)
+    bench(rt, Way::TakeUntil, &bytes, rounds)?;
+    bench(rt, Way::Alphanumeric1, &bytes, rounds)?;
+    bench(rt, Way::Numbers, &bytes, rounds)
 }
 
 fn main(rt: HostRuntime) -> ExitCode {
