@@ -75,7 +75,7 @@ impl<'a> Input for &'a [u8] {
         self.iter_elements().enumerate()
     }
 
-    #[inline]
+    #[inline(always)]
     fn class_end(&self, class: AsciiClass) -> Option<Option<usize>> {
         Some(bytes_outside(self, class))
     }
@@ -88,7 +88,8 @@ impl<'a> Input for &'a [u8] {
 }
 
 /// The place of the first byte that isn't of the class; `None` where all are.
-#[inline]
+// Inlined, since the class is known where it is called.
+#[inline(always)]
 fn bytes_outside(bytes: &[u8], class: AsciiClass) -> Option<usize>
     ensures { IsPosition seen_bytes (IsInside class) (IsOutside class) bytes.entry result }
 {

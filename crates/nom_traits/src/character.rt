@@ -104,12 +104,12 @@ impl AsChar for u8 {
 
     #[inline(always)]
     fn is_alpha(self) -> bool {
-        matches!(self, b'A'..=b'Z' | b'a'..=b'z')
+        matches!(self, b'A'..=b'Z') | matches!(self, b'a'..=b'z')
     }
 
     #[inline(always)]
     fn is_alphanum(self) -> bool {
-        matches!(self, b'0'..=b'9' | b'A'..=b'Z' | b'a'..=b'z')
+        self.is_alpha() | self.is_dec_digit()
     }
 
     #[inline(always)]
@@ -119,7 +119,7 @@ impl AsChar for u8 {
 
     #[inline(always)]
     fn is_hex_digit(self) -> bool {
-        matches!(self, b'0'..=b'9' | b'A'..=b'F' | b'a'..=b'f')
+        self.is_dec_digit() | matches!(self, b'A'..=b'F') | matches!(self, b'a'..=b'f')
     }
 
     #[inline(always)]
