@@ -10,7 +10,7 @@ use Rattle.nom_traits.specs.Input.{Seen, InputLaws, span}
 use Rattle.nom_traits.specs.Runs.{Stops}
 use Rattle.nom_traits.specs.Slices.{Slice, IsSeenAs, front_seen}
 use Rattle.nom_traits.specs.Splits.{IsRunLength, IsRunEmpty, FrontBuilt, Splits}
-use Rattle.nom_internal.specs.Leaf.{LeafAnswers, leaf_meaning}
+use Rattle.nom_internal.specs.Leaf.{leaf_meaning}
 use Rattle.nom_internal.specs.Meaning.{ShowsMeaning}
 use Rattle.nom_internal.proofs.Shown.{accepted, undecided, refused, built_error}
 use Rattle.nom_bytes.specs.ParsedRuns.{IsEnough, IsRunSlice, runs}
@@ -65,9 +65,9 @@ module _ {I A : Type 0} (w : Seen I A) (l : InputLaws w) (Meets Ends : A → Typ
     split_shown IsRefusal refuses (Ok p) h =
         let run = run_of s i h.0 h.1 in
         let built = built_error outputs _ _ p.1 (λ v f. front_seen w l i h.0 v (items_of s i h.0 h.1) f run.first) h.4 in
-        accepted w (IsSeenAs w) outputs errors i _ (Blames i) _ h.0 (items_of s i h.0 h.1) p.0 p.1 h.3 (run, inl (enough_items w.weight wanted h.1.run h.0 h.1.length_is h.2)) built
+        accepted (items_of s i h.0 h.1) h.3 (run, inl (enough_items w.weight wanted h.1.run h.0 h.1.length_is h.2)) built
     split_shown IsRefusal refuses (Std.Err e) (inl h) =
         let all : All (λ x. Test x true) (w.elements i) = λ k d p. meets _ (h.0.1 k d p) in
-        subst (λ f. Shows (Std.Err f)) (sym h.1.2) (undecided w (IsSeenAs w) outputs errors i _ (Blames i) _ (Some 1) h.1.0 h.1.1 (h.0.0, (all, tt, one_lacks wanted (span w.weight (w.elements i)))))
+        subst (λ f. Shows (Std.Err f)) (sym h.1.2) (undecided h.1.1 (h.0.0, (all, tt, one_lacks wanted (span w.weight (w.elements i)))))
     split_shown IsRefusal refuses (Std.Err e) (inr h) =
-        refused w (IsSeenAs w) outputs errors i (LeafAnswers (runs w Test None (cond wanted 1 0)) s i) (Blames i) Grows e (refuses e h.2) (0, record { items = []; mark = w.mark i }, no_run s i h.1, none_enough wanted (length (w.elements i)) h.0)
+        refused (refuses e h.2) (0, record { items = []; mark = w.mark i }, no_run s i h.1, none_enough wanted (length (w.elements i)) h.0)

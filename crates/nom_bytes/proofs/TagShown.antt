@@ -22,11 +22,11 @@ module _ {I A T E : Type 0} (w : Seen I A) (errs : Errors I E) (size : T → ℕ
   pub tag_found : (n : ℕ) (j : I) (x : Option I) → n ≡ size tag → Compares tag (w.elements i) Compared.Ok → IsRest w i n j → ((t : Slice w) → IsFirst w i n t → Built outputs (IsSeenAs w t) x) → Shows (Ok (j, x))
   tag_found n j x e a r built =
       let first = place_first w i n (subst (λ m. IsPlace w i m) (sym e) (c.place tag i known a)) in
-      accepted _ _ _ _ _ _ _ _ n _ j x r (e, first, a) (built _ first)
+      accepted _ r (e, first, a) (built _ first)
 
   -- what is lacking of the tag, of length n, is needed
   pub tag_begun : (n m : ℕ) (k : Needed) → s ≡ true → n ≡ size tag → m ≡ input_len w i → Compares tag (w.elements i) Compared.Incomplete → (0 < n - m → size_of k ≡ Some (n - m)) → Shows (Err (Incomplete k))
   tag_begun n m k more e f a asks =
       let lack : n - m ≡ size tag - input_len w i = omega (arith, e, f) in
       let some : 0 < n - m = omega (arith, e, f, c.shorter tag i known a) in
-      undecided _ _ _ _ _ _ _ _ (Some (size tag - input_len w i)) k (asks some ∙ ap Some lack) (more, (a, refl))
+      undecided (asks some ∙ ap Some lack) (more, (a, refl))

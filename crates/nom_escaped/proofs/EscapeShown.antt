@@ -73,17 +73,17 @@ module _ {I A V O E : Type 0} (w : Seen I A) (l : InputLaws w) (Gives : I → E 
 
   -- no item is left
   pub done_shown : (n : ℕ) → m.answers s j (Accept n Done) → (b : Option O) → Built outputs (IsOutput c.trees) b → Goal (Ok (j, b))
-  done_shown n a b h = ended w (escape_rule Gives Grows at) all_pieces (always m) s IsOutput outputs errors i j c (Some (Accept n Done)) (tt, a) None refl b h
+  done_shown n a b h = ended (escape_rule Gives Grows at) all_pieces (always m) s c (Some (Accept n Done)) (tt, a) None refl h
 
   -- an item that begins no piece ends the list
   pub other_shown : (n : ℕ) → m.answers s j (Accept n Other) → (c.taken ≡ 0 → ⊥) → (b : Option O) → Built outputs (IsOutput c.trees) b → Goal (Ok (j, b))
-  other_shown n a h b g = ended w (escape_rule Gives Grows at) all_pieces (always m) s IsOutput outputs errors i j c (Some (Accept n Other)) (tt, a) None (other_turn (length c.trees) n (some_taken w (m.answers s) j 0 i c.trees c.taken c.pieces h)) b g
+  other_shown n a h b g = ended (escape_rule Gives Grows at) all_pieces (always m) s c (Some (Accept n Other)) (tt, a) None (other_turn (length c.trees) n (some_taken w (m.answers s) j 0 i c.trees c.taken c.pieces h)) g
 
   -- a refusal with an error of its own
   module _ (n : ℕ) (x : Spot V) (a : m.answers s j (Accept n x)) (place : I) (e : Ends Refuse ≡ by_spot x (length c.trees) n) where
     own_refused : ((y : E) → Gives place y → (escape_rule Gives Grows at).Blames i (length c.trees) j (Some (Accept n x)) (m.blames s j) y) → ((errors ≡ true) × Grows → (escape_rule Gives Grows at).Asks outputs errors (length c.trees) (Some (Accept n x))) → (f : Answer.Err E (Option E) Needed) → Refuses (Gives place) Grows errors f → Goal (Err f)
-    own_refused blames asks f (inl h) = subst (λ y. Goal (Err y)) (sym h.0) (ran_out w (escape_rule Gives Grows at) all_pieces (always m) s IsOutput outputs errors i j c (Some (Accept n x)) (tt, a) (asks (h.1, h.2)))
-    own_refused blames asks f (inr h) = subst (λ y. Goal (Err y)) (sym h.2) (refused w (escape_rule Gives Grows at) all_pieces (always m) s IsOutput outputs errors i j c (Some (Accept n x)) (tt, a) e h.0 (built_error errors (Gives place) _ h.0 blames h.1))
+    own_refused blames asks f (inl h) = subst (λ y. Goal (Err y)) (sym h.0) (ran_out (escape_rule Gives Grows at) all_pieces (always m) s c (Some (Accept n x)) (tt, a) (asks (h.1, h.2)))
+    own_refused blames asks f (inr h) = subst (λ y. Goal (Err y)) (sym h.2) (refused (escape_rule Gives Grows at) all_pieces (always m) s c (Some (Accept n x)) (tt, a) e h.0 (built_error errors (Gives place) _ h.0 blames h.1))
 
   pub start_refused : (n : ℕ) → m.answers s j (Accept n Other) → c.taken ≡ 0 → (f : Answer.Err E (Option E) Needed) → Refuses (Gives i) Grows errors f → Goal (Err f)
   start_refused n a h f r = own_refused n Other a i (refused_turn (length c.trees) n (none_taken w (m.answers s) j 0 i c.trees c.taken c.pieces h)) (λ y g. g) (λ g. (none_taken w (m.answers s) j 0 i c.trees c.taken c.pieces h, g.0, g.1)) f r
@@ -93,27 +93,27 @@ module _ {I A V O E : Type 0} (w : Seen I A) (l : InputLaws w) (Gives : I → E 
 
   -- a piece that consumes nothing is the last one
   pub empty_shown : (n : ℕ) (v : V) → m.answers s j (Accept n (Found v)) → n ≡ 0 → (b : Option O) → Built outputs (IsOutput (c.trees ++ v ∷ [])) b → Goal (Ok (j, b))
-  empty_shown n v a e b h = ended w (escape_rule Gives Grows at) all_pieces (always m) s IsOutput outputs errors i j c (Some (Accept n (Found v))) (tt, a) (Some v) (empty_turn (length c.trees) n v e) b h
+  empty_shown n v a e b h = ended (escape_rule Gives Grows at) all_pieces (always m) s c (Some (Accept n (Found v))) (tt, a) (Some v) (empty_turn (length c.trees) n v e) h
 
   -- there is no memory for a piece
   pub full_shown : (n : ℕ) (v : V) → m.answers s j (Accept n (Found v)) → outputs ≡ true → Goal (Err OutOfMemory)
-  full_shown n v a h = ran_out w (escape_rule Gives Grows at) all_pieces (always m) s IsOutput outputs errors i j c (Some (Accept n (Found v))) (tt, a) h
+  full_shown n v a h = ran_out (escape_rule Gives Grows at) all_pieces (always m) s c (Some (Accept n (Found v))) (tt, a) h
 
   -- a piece that consumes is taken
   pub piece_taken : {More : List V → Type 0} (n : ℕ) (v : V) (h : I) → m.answers s j (Accept n (Found v)) → 0 < n → IsRest w j n h → More (c.trees ++ v ∷ []) → Collected w (TurnsBy None escape_turn (λ _. m.answers s)) More i h
-  piece_taken n v h a p r g = collected_more w l (TurnsBy None escape_turn (λ _. m.answers s)) i j h n v c (record { reply = Some (Accept n (Found v)); replied = (tt, a); fact = taken_turn (length c.trees) n v p }) r g
+  piece_taken n v h a p r g = collected_more l (TurnsBy None escape_turn (λ _. m.answers s)) v c (record { reply = Some (Accept n (Found v)); replied = (tt, a); fact = taken_turn (length c.trees) n v p }) r g
 
   -- all else is passed on
   module _ {X : Type 0} (IsX : Spot V → X → Type 0) where
     passed : (f : Answer.Err E (Option E) Needed) (o : Outcome (Spot V)) → m.answers s j o → Shows w IsX true errors j (m.blames s j) o (Err f) → Goal (Err f)
     passed f (Accept n v) a h = absurd (cc (h.4))
-    passed f Refuse a h = subst (λ y. Goal (Err y)) (cc (h.2)) (refused w (escape_rule Gives Grows at) all_pieces (always m) s IsOutput outputs errors i j c (Some Refuse) (tt, a) refl h.0 h.1)
-    passed f Fail a h = subst (λ y. Goal (Err y)) (cc (h.2)) (failed w (escape_rule Gives Grows at) all_pieces (always m) s IsOutput outputs errors i j c (Some Fail) (tt, a) refl h.0 h.1)
-    passed f TooLarge a h = subst (λ y. Goal (Err y)) (cc (h.2)) (too_large w (escape_rule Gives Grows at) all_pieces (always m) s IsOutput outputs errors i j c (Some TooLarge) (tt, a) refl h.0 h.1)
-    passed f (Undecided k) a h = subst (λ y. Goal (Err y)) (cc (h.2)) (lacking w (escape_rule Gives Grows at) all_pieces (always m) s IsOutput outputs errors i j c (Some (Undecided k)) (tt, a) h.0 (ap (λ z. Ends (Undecided z)) h.1))
+    passed f Refuse a h = subst (λ y. Goal (Err y)) (cc (h.2)) (refused (escape_rule Gives Grows at) all_pieces (always m) s c (Some Refuse) (tt, a) refl h.0 h.1)
+    passed f Fail a h = subst (λ y. Goal (Err y)) (cc (h.2)) (failed (escape_rule Gives Grows at) all_pieces (always m) s c (Some Fail) (tt, a) refl h.0 h.1)
+    passed f TooLarge a h = subst (λ y. Goal (Err y)) (cc (h.2)) (too_large (escape_rule Gives Grows at) all_pieces (always m) s c (Some TooLarge) (tt, a) refl h.0 h.1)
+    passed f (Undecided k) a h = subst (λ y. Goal (Err y)) (cc (h.2)) (lacking (escape_rule Gives Grows at) all_pieces (always m) s c (Some (Undecided k)) (tt, a) (ap (λ z. Ends (Undecided z)) h.1))
 
     pub passed_on : (f : Answer.Err E (Option E) Needed) → ShowsAnswer w IsX true errors j (m.answers s j) (m.blames s j) (m.runs_out outputs errors s j) (Err f) → Goal (Err f)
-    passed_on f (RanOut e h) = subst (λ y. Goal (Err y)) (cc (e)) (ran_out_within w (escape_rule Gives Grows at) all_pieces (always m) s IsOutput outputs errors i j c tt h)
+    passed_on f (RanOut e h) = subst (λ y. Goal (Err y)) (cc (e)) (ran_out_within (escape_rule Gives Grows at) all_pieces (always m) s c tt h)
     passed_on f (Shown o a h) = passed f o a h
 
 -- what stands at a place, by the value that is told
@@ -195,4 +195,4 @@ NoValue vs o = Unit {0}
 
 -- a rest that is shorter was not reached by nothing
 pub taken_some : {I A : Type 0} (w : Seen I A) (i : I) (n : ℕ) (j : I) (a b : ℕ) → IsRest w i n j → b ≡ input_len w j → a ≡ input_len w i → (b ≡ a → ⊥) → n ≡ 0 → ⊥
-taken_some w i n j a b r x y h e = h (omega (arith, rest_length w i n j r, x, y, e))
+taken_some w i n j a b r x y h e = h (omega (arith, rest_length r, x, y, e))

@@ -1,5 +1,5 @@
 -- What `escaped` shows.
-use Rattle.std.proofs.Common.{◌≡◌, ℕ, Bool, true, false, Result, Ok, Err, Option, Some, None, refl, sym, subst}
+use Rattle.std.proofs.Common.{◌≡◌, ℕ, Bool, false, Result, Ok, Err, Option, Some, None, refl, sym, subst}
 use Rattle.nom_error.specs.declared.answer.Needed.{Needed}
 use Rattle.nom_error.specs.declared.answer.Err as Answer
 use Rattle.nom_error.specs.Errors.{Errors}
@@ -17,7 +17,7 @@ use Rattle.nom_repeat.proofs.Repeated.{Collected, is_empty, consumes}
 use Rattle.nom_escaped.specs.declared.spot.Piece.{Piece}
 use Rattle.nom_escaped.specs.declared.spot.Spot.{Spot}
 use Rattle.nom_escaped.specs.declared.spot.Spot.TheVariants.{Found, Other, Dangling, Done}
-use Rattle.nom_escaped.specs.Spots.{spot_meaning, IsSpot, ShowsSpot}
+use Rattle.nom_escaped.specs.Spots.{spot_meaning, ShowsSpot}
 use Rattle.nom_escaped.specs.Escapes.{escape_turn, escape_rule, all_pieces, escaped_meaning}
 use Rattle.nom_escaped.proofs.EscapeShown.{AnyPieces, NoValue, Told, spot_told, done_shown, other_shown, start_refused, dangling_refused, empty_shown, piece_taken, passed_on, piece_found, other_found, dangling_found, done_found, taken_some}
 
@@ -46,15 +46,15 @@ module _ {I A U W O X E : Type 0} (w : Seen I A) (l : InputLaws w) (errs : Error
 
   module _ (h : I) (o : Option (Spot (Piece (Option O) (Option X)))) (y : Spot (Piece (Option O) (Option X))) (is : o ≡ Some y) (part : ShowsSpot w IsNormal IsEscapable false errors s IsControl (Some 1) m g j (Ok (h, o))) where
     t : Stood h y
-    t = spot_told w false IsNormal IsEscapable j ((spot_meaning w IsControl (Some 1) m g).answers s j) h o y is (accepts w (IsSpot false IsNormal IsEscapable) true errors j ((spot_meaning w IsControl (Some 1) m g).answers s j) ((spot_meaning w IsControl (Some 1) m g).blames s j) ((spot_meaning w IsControl (Some 1) m g).runs_out false errors s j) h o part)
+    t = spot_told w false IsNormal IsEscapable j ((spot_meaning w IsControl (Some 1) m g).answers s j) h o y is (accepts part)
 
     pub escaped_empty : (x : Piece (Option O) (Option X)) → y ≡ Found x → (b a : ℕ) → b ≡ input_len w h → a ≡ input_len w j → b ≡ a → (z : Option I) → SliceBefore j z → Goal (Ok (j, z))
     escaped_empty x e b a p q k z f =
         let item = piece_found w false IsNormal IsEscapable j ((spot_meaning w IsControl (Some 1) m g).answers s j) h y x e t in
-        given z (empty_shown w l (λ k. errs.of_kind k Kind.Escaped) errs.grows (λ x y. x) (spot_meaning w IsControl (Some 1) m g) s NoValue false errors i j c item.length item.tree item.answered (is_empty w j item.length h a b item.rest_is p q k) None refl) f
+        given z (empty_shown w l (λ k. errs.of_kind k Kind.Escaped) errs.grows (λ x y. x) (spot_meaning w IsControl (Some 1) m g) s NoValue false errors i j c item.length item.tree item.answered (is_empty item.rest_is p q k) None refl) f
 
     pub escaped_none : y ≡ Other → (b a : ℕ) → b ≡ input_len w j → a ≡ input_len w i → b ≡ a → (f : Answer.Err E (Option E) Needed) → Refuses (errs.of_kind i Kind.Escaped) errs.grows errors f → Goal (Err f)
-    escaped_none e b a p q k f r = fault f (start_refused w l (λ k. errs.of_kind k Kind.Escaped) errs.grows (λ x y. x) (spot_meaning w IsControl (Some 1) m g) s NoValue false errors i j c (t).length (other_found w false IsNormal IsEscapable j ((spot_meaning w IsControl (Some 1) m g).answers s j) h y e t) (is_empty w i c.taken j a b c.rest_is p q k) f r)
+    escaped_none e b a p q k f r = fault f (start_refused w l (λ k. errs.of_kind k Kind.Escaped) errs.grows (λ x y. x) (spot_meaning w IsControl (Some 1) m g) s NoValue false errors i j c (t).length (other_found w false IsNormal IsEscapable j ((spot_meaning w IsControl (Some 1) m g).answers s j) h y e t) (is_empty c.rest_is p q k) f r)
 
     pub escaped_other : y ≡ Other → (b a : ℕ) → b ≡ input_len w j → a ≡ input_len w i → (b ≡ a → ⊥) → (z : Option I) → SliceBefore j z → Goal (Ok (j, z))
     escaped_other e b a p q k z f = given z (other_shown w l (λ k. errs.of_kind k Kind.Escaped) errs.grows (λ x y. x) (spot_meaning w IsControl (Some 1) m g) s NoValue false errors i j c (t).length (other_found w false IsNormal IsEscapable j ((spot_meaning w IsControl (Some 1) m g).answers s j) h y e t) (taken_some w i c.taken j a b c.rest_is p q k) None refl) f
@@ -68,4 +68,4 @@ module _ {I A U W O X E : Type 0} (w : Seen I A) (l : InputLaws w) (errs : Error
     pub escaped_more : (x : Piece (Option O) (Option X)) → y ≡ Found x → (b a : ℕ) → b ≡ input_len w h → a ≡ input_len w j → (b ≡ a → ⊥) → Collected w (TurnsBy None escape_turn (λ _. (spot_meaning w IsControl (Some 1) m g).answers s)) AnyPieces i h
     escaped_more x e b a p q k =
         let item = piece_found w false IsNormal IsEscapable j ((spot_meaning w IsControl (Some 1) m g).answers s j) h y x e t in
-        piece_taken w l (λ k. errs.of_kind k Kind.Escaped) errs.grows (λ x y. x) (spot_meaning w IsControl (Some 1) m g) s NoValue false errors i j c item.length item.tree h item.answered (consumes w j item.length h a b item.rest_is p q k) item.rest_is tt
+        piece_taken w l (λ k. errs.of_kind k Kind.Escaped) errs.grows (λ x y. x) (spot_meaning w IsControl (Some 1) m g) s NoValue false errors i j c item.length item.tree h item.answered (consumes item.rest_is p q k) item.rest_is tt

@@ -8,7 +8,7 @@ use Rattle.nom_error.specs.Answers.{size_of}
 use Rattle.nom_traits.specs.Input.{Seen, InputLaws, IsRest, input_len}
 use Rattle.nom_internal.specs.Outcome.{ShowsAnswer}
 use Rattle.nom_internal.specs.Outcome.Outcome.{Accept, Refuse, Undecided}
-use Rattle.nom_internal.specs.Outcome.ShowsAnswer.{RanOut, Shown}
+use Rattle.nom_internal.specs.Outcome.ShowsAnswer.{Shown}
 use Rattle.nom_internal.specs.Meaning.{Meaning, ShowsMeaning}
 use Rattle.nom_internal.specs.Leaf.{LeafAnswers}
 use Rattle.nom_internal.specs.Cases.{labelled_meaning}
@@ -21,7 +21,7 @@ use Rattle.nom_escaped.specs.declared.spot.Piece.{Piece}
 use Rattle.nom_escaped.specs.declared.spot.Piece.TheVariants.{Normal, Escapable}
 use Rattle.nom_escaped.specs.declared.spot.Spot.{Spot}
 use Rattle.nom_escaped.specs.declared.spot.Spot.TheVariants.{Found, Other, Dangling, Done}
-use Rattle.nom_escaped.specs.Spots.{Lacks, look, left_leaf, IsLeft, BehindControl, StandsOther, StandsLast, TellsControl, control_leaf, by_control, escape_meaning, piece_meaning, by_left, IsSpot, ShowsSpot}
+use Rattle.nom_escaped.specs.Spots.{Lacks, left_leaf, IsLeft, BehindControl, StandsOther, StandsLast, TellsControl, control_leaf, by_control, escape_meaning, piece_meaning, by_left, IsSpot, ShowsSpot}
 use Rattle.nom_escaped.proofs.Controls.{no_items, some_items}
 
 module _ {I A : Type 0} (w : Seen I A) (l : InputLaws w) where
@@ -75,7 +75,7 @@ module _ {I A U W O X E : Type 0} (w : Seen I A) (l : InputLaws w) (IsNormal : U
     module _ (f : Answer.Err E (Option E) Needed) (b : Option E) (is : f ≡ Error b) (h : ShowsMeaning w IsNormal m outputs false s i (Err f)) where
       next : (r : Told) → Tells (escape_meaning w IsControl lack g) s i r → Goal s r
       next r k =
-          let refused = part_refused w IsNormal outputs false i (m.answers s i) (m.blames s i) (m.runs_out outputs false s i) f b is h in
+          let refused = part_refused is h in
           goes s true left r (otherwise_next w (IsSpot outputs IsNormal IsEscapable) NormalPart (escape_meaning w IsControl lack g) true outputs errors s i (here Refuse refused refl) r k)
 
       told : (c : Control (Unit {0})) (n : ℕ) (j : I) → TellsControl w IsControl s i n c → IsRest w i n j → (r : Told) → Tells (by_control g c) s j r → Goal s r

@@ -1,5 +1,5 @@
 -- What `escaped_transform` shows.
-use Rattle.std.proofs.Common.{◌≡◌, ℕ, Bool, true, Result, Ok, Err, Option, Some, None, List, ◌∷◌, [], ◌++◌, sym, subst}
+use Rattle.std.proofs.Common.{◌≡◌, ℕ, Bool, Result, Ok, Err, Option, Some, None, List, ◌∷◌, [], ◌++◌, sym, subst}
 use Rattle.std.specs.Prelude.{IsSome}
 use Rattle.nom_error.specs.declared.answer.Needed.{Needed}
 use Rattle.nom_error.specs.declared.answer.Err as Answer
@@ -16,7 +16,7 @@ use Rattle.nom_repeat.proofs.Repeated.{Collected, is_empty, consumes}
 use Rattle.nom_escaped.specs.declared.spot.Piece.{Piece}
 use Rattle.nom_escaped.specs.declared.spot.Spot.{Spot}
 use Rattle.nom_escaped.specs.declared.spot.Spot.TheVariants.{Found, Other, Dangling, Done}
-use Rattle.nom_escaped.specs.Spots.{spot_meaning, IsSpot, ShowsSpot}
+use Rattle.nom_escaped.specs.Spots.{spot_meaning, ShowsSpot}
 use Rattle.nom_escaped.specs.Escapes.{escape_turn, escaped_transform_meaning}
 use Rattle.nom_escaped.specs.Texts.{AddAll, IsExtended}
 use Rattle.nom_escaped.proofs.TextsBuilt.{some_is_built, text_extended}
@@ -40,7 +40,7 @@ module _ {I A U W O X E T P : Type 0} (w : Seen I A) (l : InputLaws w) (errs : E
 
     module _ (h : I) (o : Option (Spot (Piece (Option O) (Option X)))) (y : Spot (Piece (Option O) (Option X))) (is : o ≡ Some y) (part : ShowsSpot w IsNormal IsEscapable outputs errors s IsControl None m g j (Ok (h, o))) where
       t : Told w outputs IsNormal IsEscapable j ((spot_meaning w IsControl None m g).answers s j) h y
-      t = spot_told w outputs IsNormal IsEscapable j ((spot_meaning w IsControl None m g).answers s j) h o y is (accepts w (IsSpot outputs IsNormal IsEscapable) true errors j ((spot_meaning w IsControl None m g).answers s j) ((spot_meaning w IsControl None m g).blames s j) ((spot_meaning w IsControl None m g).runs_out outputs errors s j) h o part)
+      t = spot_told w outputs IsNormal IsEscapable j ((spot_meaning w IsControl None m g).answers s j) h o y is (accepts part)
 
       -- a piece
       module _ (x : Piece (Option O) (Option X)) (e : y ≡ Found x) (new : Option T) where
@@ -55,13 +55,13 @@ module _ {I A U W O X E T P : Type 0} (w : Seen I A) (l : InputLaws w) (errs : E
           longer = text_extended IsNormal IsEscapable normal_adds escapable_adds parts c.trees (item).tree outputs text x new k c.held (item).is_piece
 
           pub transform_empty : (b a : ℕ) → b ≡ input_len w h → a ≡ input_len w j → b ≡ a → Goal (Ok (j, new))
-          transform_empty b a p q z = empty_shown w l (λ k. errs.of_kind k Kind.EscapedTransform) errs.grows (λ x y. y) (spot_meaning w IsControl None m g) s AllAdded outputs errors i j c (item).length (item).tree (item).answered (is_empty w j (item).length h a b (item).rest_is p q z) new longer
+          transform_empty b a p q z = empty_shown w l (λ k. errs.of_kind k Kind.EscapedTransform) errs.grows (λ x y. y) (spot_meaning w IsControl None m g) s AllAdded outputs errors i j c (item).length (item).tree (item).answered (is_empty (item).rest_is p q z) new longer
 
           pub transform_more : (b a : ℕ) → b ≡ input_len w h → a ≡ input_len w j → (b ≡ a → ⊥) → Gathered w IsControl m g IsNormal IsEscapable normal_adds escapable_adds parts outputs s i h new
-          transform_more b a p q z = piece_taken w l (λ k. errs.of_kind k Kind.EscapedTransform) errs.grows (λ x y. y) (spot_meaning w IsControl None m g) s AllAdded outputs errors i j c (item).length (item).tree h (item).answered (consumes w j (item).length h a b (item).rest_is p q z) (item).rest_is longer
+          transform_more b a p q z = piece_taken w l (λ k. errs.of_kind k Kind.EscapedTransform) errs.grows (λ x y. y) (spot_meaning w IsControl None m g) s AllAdded outputs errors i j c (item).length (item).tree h (item).answered (consumes (item).rest_is p q z) (item).rest_is longer
 
       pub transform_none : y ≡ Other → (b a : ℕ) → b ≡ input_len w j → a ≡ input_len w i → b ≡ a → (f : Answer.Err E (Option E) Needed) → Refuses (errs.of_kind i Kind.EscapedTransform) errs.grows errors f → Goal (Err f)
-      transform_none e b a p q k f r = start_refused w l (λ k. errs.of_kind k Kind.EscapedTransform) errs.grows (λ x y. y) (spot_meaning w IsControl None m g) s AllAdded outputs errors i j c (t).length (other_found w outputs IsNormal IsEscapable j ((spot_meaning w IsControl None m g).answers s j) h y e t) (is_empty w i c.taken j a b c.rest_is p q k) f r
+      transform_none e b a p q k f r = start_refused w l (λ k. errs.of_kind k Kind.EscapedTransform) errs.grows (λ x y. y) (spot_meaning w IsControl None m g) s AllAdded outputs errors i j c (t).length (other_found w outputs IsNormal IsEscapable j ((spot_meaning w IsControl None m g).answers s j) h y e t) (is_empty c.rest_is p q k) f r
 
       pub transform_other : y ≡ Other → (b a : ℕ) → b ≡ input_len w j → a ≡ input_len w i → (b ≡ a → ⊥) → Goal (Ok (j, text))
       transform_other e b a p q k = other_shown w l (λ k. errs.of_kind k Kind.EscapedTransform) errs.grows (λ x y. y) (spot_meaning w IsControl None m g) s AllAdded outputs errors i j c (t).length (other_found w outputs IsNormal IsEscapable j ((spot_meaning w IsControl None m g).answers s j) h y e t) (taken_some w i c.taken j a b c.rest_is p q k) text c.held

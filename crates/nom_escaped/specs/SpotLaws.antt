@@ -1,8 +1,7 @@
 -- The laws of what stands at a place.
-use Rattle.std.specs.Prelude.{◌≡◌, ℕ, ◌<◌, Bool, true, false, List, [], ◌∷◌, ◌++◌, length, Option, Some, None, refl}
+use Rattle.std.specs.Prelude.{◌≡◌, ℕ, Bool, true, false, List, [], ◌∷◌, ◌++◌, length, Option, refl}
 use Rattle.std.proofs.Common.{arith, sym, ◌∙◌, ap, subst, length-append}
-use Rattle.nom_traits.specs.Input.{Seen, InputLaws, IsPlace, IsSame, Related, span}
-use Rattle.nom_traits.specs.Rests.{span-append}
+use Rattle.nom_traits.specs.Input.{Seen, InputLaws, IsPlace, Related}
 use Rattle.nom_internal.specs.Meaning.{Meaning, IsLawful, IsSteady}
 use Rattle.nom_internal.specs.Leaf.{LeafLaws, leaf_lawful, leaf_steady}
 use Rattle.nom_internal.specs.Success.{place_zero, success_lawful, success_steady}
@@ -12,9 +11,7 @@ use Rattle.nom_internal.specs.ChoiceLaws.{otherwise_lawful, otherwise_steady}
 use Rattle.nom_internal.specs.Cases.{labelled_meaning}
 use Rattle.nom_internal.specs.CaseLaws.{labelled_lawful, labelled_steady}
 use Rattle.nom_escaped.specs.declared.spot.Control.{Control}
-use Rattle.nom_escaped.specs.declared.spot.Piece.{Piece}
 use Rattle.nom_escaped.specs.declared.spot.Piece.TheVariants.{Normal, Escapable}
-use Rattle.nom_escaped.specs.declared.spot.Spot.{Spot}
 use Rattle.nom_escaped.specs.declared.spot.Spot.TheVariants.{Found, Other, Dangling, Done}
 use Rattle.nom_escaped.specs.Spots.{look, IsLeft, left_leaf, StandsOther, StandsLast, StandsBefore, TellsControl, control_leaf, by_control, behind_control, escape_meaning, piece_meaning, by_left, where_left, spot_meaning}
 

@@ -1,5 +1,5 @@
 -- What cases over a part's outcome show, from what the part showed.
-use Rattle.std.proofs.Common.{◌≡◌, ℕ, Bool, true, false, Result, Ok, Err, Option, refl}
+use Rattle.std.proofs.Common.{◌≡◌, ℕ, Bool, Result, Ok, Err, Option, refl}
 use Rattle.nom_error.specs.declared.answer.Needed.{Needed}
 use Rattle.nom_error.specs.declared.answer.Err as Answer
 use Rattle.nom_error.specs.Modes.{Built}
@@ -73,5 +73,5 @@ module _ {I A P T O X E : Type 0} (w : Seen I A) (label : P → T) (IsOutput : P
 
   pub labels_ok : (j : I) (x : Option O) (y : Option X) → ShowsMeaning w IsOutput m outputs errors s i (Ok (j, x)) → ((u : P) → Built outputs (IsOutput u) x → Built built (IsLabelled (label u)) y) → Labels (Ok (j, y))
   labels_ok j x y h f =
-      let a = accepts w IsOutput outputs errors i (m.answers s i) (m.blames s i) (m.runs_out outputs errors s i) j x h in
+      let a = accepts h in
       Shown (Accept a.length (label a.tree)) (here (Accept a.length a.tree) a.answered refl) (j, y, a.rest_is, f a.tree a.built_is, refl)

@@ -2,12 +2,12 @@
 use Rattle.std.specs.Prelude.{◌≡◌, ℕ, Bool, true, false, not, refl}
 use Rattle.std.proofs.Common.{sym, ◌∙◌, ap, subst}
 use Rattle.nom_traits.specs.Input.{Seen, IsPlace, IsSame, Related}
-use Rattle.nom_traits.specs.Rests.{same_self, same_sym}
+use Rattle.nom_traits.specs.Rests.{same_self}
 use Rattle.nom_internal.specs.Outcome.{Outcome, IsDecided, failure}
 use Rattle.nom_internal.specs.Outcome.Outcome.{Accept, Refuse, Fail, TooLarge, Undecided}
 use Rattle.nom_internal.specs.Meaning.{Meaning, IsLawful, IsSteady, Keeps, Agree, Carries, Within, SameBlame}
 use Rattle.nom_internal.specs.PartLaws.{Transfers, transfers, transferred}
-use Rattle.nom_internal.specs.Cases.{PartMode, mode_of, SettlesIn, Case, OnPart, case_meaning, Passes, plain_case, labelled, labelled_meaning, fixed_case, fixed_meaning, Closed, OnRefused, closed_case, closed_meaning}
+use Rattle.nom_internal.specs.Cases.{PartMode, mode_of, SettlesIn, Case, OnPart, case_meaning, plain_case, labelled, labelled_meaning, fixed_case, fixed_meaning, Closed, OnRefused, closed_case, closed_meaning}
 use Rattle.nom_internal.specs.Cases.PartMode.{AsAsked, Always}
 use Rattle.nom_internal.specs.Cases.CaseRunsOut.{RunsOutInPart, RunsOutBeside}
 

@@ -2,7 +2,6 @@
 -- right; or the first's is dropped. A closed choice passes that error to `append` at the start.
 use Rattle.std.specs.Prelude.{◌≡◌, Bool, true, false, Result, Ok, Err, Option, Some, None, ◌⊎◌}
 use Rattle.std.proofs.Common.{inl, inr}
-use Rattle.nom_error.specs.Errors.{Errors}
 use Rattle.nom_error.specs.declared.answer.Needed.{Needed}
 use Rattle.nom_error.specs.declared.answer.Err as Answer
 use Rattle.nom_error.specs.declared.answer.Err.TheVariants.{Incomplete, Error, Failure, OutOfMemory}

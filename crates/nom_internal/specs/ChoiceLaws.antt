@@ -1,7 +1,7 @@
 -- The laws of choices.
-use Rattle.std.specs.Prelude.{◌≡◌, ℕ, Bool, true, false, not, ◌⊎◌}
+use Rattle.std.specs.Prelude.{◌≡◌, Bool, true, false, not, ◌⊎◌}
 use Rattle.std.proofs.Common.{sym, ◌∙◌, subst, inl, inr}
-use Rattle.nom_traits.specs.Input.{Seen, IsPlace, IsSame}
+use Rattle.nom_traits.specs.Input.{Seen, IsPlace}
 use Rattle.nom_traits.specs.Rests.{same_self}
 use Rattle.nom_internal.specs.Outcome.{Outcome, IsDecided, IsFailure, IsFault, OnOutcome, failure}
 use Rattle.nom_internal.specs.Outcome.Outcome.{Accept, Refuse, Fail, TooLarge, Undecided}

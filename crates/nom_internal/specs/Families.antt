@@ -1,9 +1,7 @@
 -- Meanings by a key: what follows a part, by the part's tree; or a part of a repetition, by the number of items before it.
-use Rattle.std.specs.Prelude.{◌≡◌, Bool, true, not, refl}
-use Rattle.std.proofs.Common.{sym, subst}
+use Rattle.std.specs.Prelude.{◌≡◌, Bool, true, not}
+use Rattle.std.proofs.Common.{subst}
 use Rattle.nom_traits.specs.Input.{Seen}
-use Rattle.nom_traits.specs.Rests.{same_self}
-use Rattle.nom_internal.specs.Outcome.{Outcome}
 use Rattle.nom_internal.specs.Meaning.{Meaning, IsLawful, IsSteady, SameBlame}
 
 pub record Family (K I V E : Type 0) : Type 1 where

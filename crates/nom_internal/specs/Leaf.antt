@@ -1,12 +1,10 @@
 -- Leaves: parsers with no part.
-use Rattle.std.specs.Prelude.{◌≡◌, ℕ, Bool, true, false, not, Option, refl}
-use Rattle.std.proofs.Common.{sym, ◌∙◌, ap, subst}
-use Rattle.nom_error.specs.Errors.{Errors}
+use Rattle.std.specs.Prelude.{◌≡◌, ℕ, Bool, true, false, Option, refl}
+use Rattle.std.proofs.Common.{ap, subst}
 use Rattle.nom_traits.specs.Input.{Seen, IsPlace, IsSame, Related}
-use Rattle.nom_traits.specs.Rests.{same_self}
 use Rattle.nom_internal.specs.Outcome.{Outcome, failure}
 use Rattle.nom_internal.specs.Outcome.Outcome.{Accept, Refuse, Fail, TooLarge, Undecided}
-use Rattle.nom_internal.specs.Meaning.{Meaning, IsLawful, IsSteady, Keeps, Agree, Carries}
+use Rattle.nom_internal.specs.Meaning.{Meaning, IsLawful, IsSteady, Keeps, Agree}
 
 -- what a leaf does, by mode and input
 pub record Leaf (I V : Type 0) : Type 1 where

@@ -1,6 +1,6 @@
 -- What the laws of a part give at one input, and from one mode to the other.
 use Rattle.std.specs.Prelude.{◌≡◌, Bool, true, false, not}
-use Rattle.std.proofs.Common.{sym, ◌∙◌, subst}
+use Rattle.std.proofs.Common.{sym, subst}
 use Rattle.nom_traits.specs.Input.{Seen, IsSame}
 use Rattle.nom_traits.specs.Rests.{same_self, same_sym}
 use Rattle.nom_internal.specs.Outcome.{Outcome, IsDecided, OnOutcome}

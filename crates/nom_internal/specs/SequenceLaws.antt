@@ -2,13 +2,13 @@
 use Rattle.std.specs.Prelude.{◌≡◌, ℕ, ◌+◌, Bool, true, false, not}
 use Rattle.std.proofs.Common.{sym, ◌∙◌, ap, subst}
 use Rattle.nom_traits.specs.Input.{Seen, InputLaws, IsRest, IsPlace, IsSame, Related}
-use Rattle.nom_traits.specs.Rests.{same_self, same_sym, rest_related, rest_alike, place_more}
+use Rattle.nom_traits.specs.Rests.{same_self, rest_related, rest_alike, place_more}
 use Rattle.nom_internal.specs.Outcome.{Outcome, IsDecided, IsFault, OnOutcome, failure}
 use Rattle.nom_internal.specs.Outcome.Outcome.{Accept, Refuse, Fail, TooLarge, Undecided}
 use Rattle.nom_internal.specs.Meaning.{Meaning, IsLawful, IsSteady, Keeps, Agree, Carries, Within, SameBlame}
-use Rattle.nom_internal.specs.PartLaws.{Transfers, transfers, transferred, blame_transferred}
+use Rattle.nom_internal.specs.PartLaws.{Transfers, transfers, blame_transferred}
 use Rattle.nom_internal.specs.Families.{Family, IsLawfulFamily, AnyKey, always, always_lawful}
-use Rattle.nom_internal.specs.Sequence.{after, GoesOn, Then, OnRest, ThenBlames, then_meaning, sequence_meaning}
+use Rattle.nom_internal.specs.Sequence.{after, GoesOn, Then, ThenBlames, then_meaning, sequence_meaning}
 use Rattle.nom_internal.specs.Sequence.ThenBlames.{BlamesFirst, BlamesNext}
 use Rattle.nom_internal.specs.Sequence.ThenRunsOut.{RunsOutFirst, RunsOutNext}
 

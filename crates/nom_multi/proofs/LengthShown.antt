@@ -1,5 +1,6 @@
 -- What data behind a length shows.
 use Rattle.std.proofs.Common.{◌≡◌, ℕ, Bool, true, Result, Ok, Err, Option, Some, List, subst}
+use Rattle.std.specs.Result.{IsErrAnd, IsErr}
 use Rattle.nom_error.specs.declared.answer.Needed.{Needed}
 use Rattle.nom_error.specs.declared.answer.Err as Answer
 use Rattle.nom_error.specs.Errors.{Errors}
@@ -32,23 +33,13 @@ module _ {I A P E : Type 0} (w : Seen I A) (l : InputLaws w) (errs : Errors I E)
   Goal = ShowsMeaning w (λ (t : P × Slice w) o. IsSeenAs w t.1 o) (length_data_meaning w errs lack IsLength a) outputs errors s i
 
   -- there is no length
-  pub length_err : (e : Answer.Err E (Option E) Needed) (r : Result (I × Option I) (Answer.Err E (Option E) Needed)) → ShowsMeaning w IsLength a true errors s i (Err e) → r ≡ Err e → Goal r
-  length_err e r h q =
-      then_err w l (λ u t. (u, t)) (a.answers s) (a.blames s) (a.runs_out true errors s)
-      (λ u j o. OfValue (IsLength u) (λ n. (take_meaning w errs lack n).answers s j o))
-      (λ u j e. OfValue (IsLength u) (λ n. (take_meaning w errs lack n).blames s j e))
-      (λ u j. OfValue (IsLength u) (λ n. (take_meaning w errs lack n).runs_out outputs errors s j))
-      IsLength (λ (t : P × Slice w) o. IsSeenAs w t.1 o) true outputs errors i e r h q
+  pub length_err : (e : Answer.Err E (Option E) Needed) (r : Result (I × Option I) (Answer.Err E (Option E) Needed)) → ShowsMeaning w IsLength a true errors s i (Err e) → IsErr r × IsErrAnd r (λ y. y ≡ e) → Goal r
+  length_err e r h q = then_err l h q
 
   -- so many items are taken
   pub length_ok : (j : I) (x : Option ℕ) (n m : ℕ) (r : Result (I × Option I) (Answer.Err E (Option E) Needed)) → ShowsMeaning w IsLength a true errors s i (Ok (j, x)) → x ≡ Some n → m ≡ n → ShowsMeaning w (IsSeenAs w) (take_meaning w errs lack m) outputs errors s j r → Goal r
   length_ok j x n m r h q e t =
-      then_ok w l (λ u t. (u, t)) (a.answers s) (a.blames s) (a.runs_out true errors s)
-      (λ u j o. OfValue (IsLength u) (λ n. (take_meaning w errs lack n).answers s j o))
-      (λ u j e. OfValue (IsLength u) (λ n. (take_meaning w errs lack n).blames s j e))
-      (λ u j. OfValue (IsLength u) (λ n. (take_meaning w errs lack n).runs_out outputs errors s j))
-      IsLength (λ (t : P × Slice w) o. IsSeenAs w t.1 o) true outputs errors i j x r h
-      (λ u b.
+      then_ok l h (λ u b.
       let same : b.0 ≡ m = cc (b.1, q, e) in
       length_shown w (IsSeenAs w) outputs errors j (IsLength u) m (subst (λ z. IsLength u z) same b.2)
       (λ k o. (take_meaning w errs lack k).answers s j o) (λ k y. (take_meaning w errs lack k).blames s j y) (λ k. (take_meaning w errs lack k).runs_out outputs errors s j) r t)

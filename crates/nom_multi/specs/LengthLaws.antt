@@ -1,8 +1,7 @@
 -- The laws of data behind a length.
-use Rattle.std.specs.Prelude.{ℕ, Bool, true, List, Option}
+use Rattle.std.specs.Prelude.{ℕ, true, List, Option}
 use Rattle.nom_error.specs.Errors.{Errors}
 use Rattle.nom_traits.specs.Input.{Seen, InputLaws}
-use Rattle.nom_traits.specs.Slices.{Slice}
 use Rattle.nom_internal.specs.Meaning.{Meaning, IsLawful, IsSteady}
 use Rattle.nom_internal.specs.Families.{IsLawfulFamily, IsOne, of_value, of_value_lawful, of_value_steady}
 use Rattle.nom_internal.specs.SequenceLaws.{then_lawful, then_steady}

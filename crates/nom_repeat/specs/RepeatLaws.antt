@@ -5,7 +5,7 @@ use Rattle.nom_traits.specs.Input.{Seen, InputLaws, IsRest, IsPlace, IsSame, Rel
 use Rattle.nom_traits.specs.Rests.{same_self, rest_related, rest_alike, place_more}
 use Rattle.nom_internal.specs.Outcome.{Outcome, IsDecided, failure}
 use Rattle.nom_internal.specs.Outcome.Outcome.{Accept, Refuse, Fail, TooLarge, Undecided}
-use Rattle.nom_internal.specs.Meaning.{Meaning, IsLawful, IsSteady, Keeps, Agree, Carries, Within, SameBlame}
+use Rattle.nom_internal.specs.Meaning.{IsLawful, IsSteady, Keeps, Agree, Carries, Within, SameBlame}
 use Rattle.nom_internal.specs.PartLaws.{transfers}
 use Rattle.nom_internal.specs.Success.{place_zero}
 use Rattle.nom_internal.specs.Families.{Family, IsLawfulFamily, AnyKey}

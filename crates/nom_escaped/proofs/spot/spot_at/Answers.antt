@@ -10,7 +10,7 @@ pub returns-in-None-clause-shown : goal.returns-in-None-clause-shown
 returns-in-None-clause-shown g c = other_stands _ g.met.I.Items.lawful _ _ _ _ _ _ _ _ _ c.known.ensures _ _ c.input_len.ensures c.if-input_len-eq0.false _ _ c.in-Err-Error.field-0-is c.in-Err-Error.ensures.shown c.in-None.ensures
 
 pub returns-in_err-rest-in-Before-clause-shown : goal.returns-in_err-rest-in-Before-clause-shown
-returns-in_err-rest-in-Before-clause-shown g c = escapable_faults _ g.met.I.Items.lawful _ _ _ _ _ _ _ _ _ c.known.ensures _ _ c.input_len.ensures c.if-input_len-eq0.false _ _ c.in-Err-Error.field-0-is c.in-Err-Error.ensures.shown _ c.in-Before.ensures _ _ c.in_err-rest-in-Before.ensures.shown (err_from_residual _ _ c.from_residual.ensures)
+returns-in_err-rest-in-Before-clause-shown g c = escapable_faults _ g.met.I.Items.lawful _ _ _ _ _ _ _ _ _ c.known.ensures _ _ c.input_len.ensures c.if-input_len-eq0.false _ _ c.in-Err-Error.field-0-is c.in-Err-Error.ensures.shown _ c.in-Before.ensures _ _ c.in_err-rest-in-Before.ensures.shown (err_from_residual c.from_residual.ensures)
 
 pub returns-in-Err-Error-clause-shown : goal.returns-in-Err-Error-clause-shown
 returns-in-Err-Error-clause-shown g c = escapable_found _ g.met.I.Items.lawful _ _ _ _ _ _ _ _ _ c.known.ensures _ _ c.input_len.ensures c.if-input_len-eq0.false _ _ c.in-Err-Error.field-0-is c.in-Err-Error.ensures.shown _ c.in-Before.ensures _ _ c.in_ok-rest-in-Before.ensures.shown

@@ -13,7 +13,7 @@ returns-in-Incomplete-clause-shown g c =
 
 pub returns-in-Incomplete-2-clause-shown : goal.returns-in-Incomplete-2-clause-shown
 returns-in-Incomplete-2-clause-shown g c =
-    refused _ _ _ _ _ _ _ _ _ c.refusal.ensures (inr (sym c.STREAMING.ensures ∙ c.if-STREAMING.false, c.in-Incomplete-2.ensures))
+    refused c.refusal.ensures (inr (sym c.STREAMING.ensures ∙ c.if-STREAMING.false, c.in-Incomplete-2.ensures))
 
 pub returns-in-Error-clause-shown : goal.returns-in-Error-clause-shown
-returns-in-Error-clause-shown g c = refused _ _ _ _ _ _ _ _ _ c.refusal-in-Error.ensures (inl c.in-Error.ensures)
+returns-in-Error-clause-shown g c = refused c.refusal-in-Error.ensures (inl c.in-Error.ensures)

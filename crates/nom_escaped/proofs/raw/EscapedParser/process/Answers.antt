@@ -11,7 +11,7 @@ loop-next-init g c = record {
   control_kept = refl;
   escapable_kept = refl;
   lack_is = c.new-lack.ensures.some (omega arith);
-  collected = collected_none _ g.met.I.Items.lawful _ _ c.known.ensures tt;
+  collected = collected_none g.met.I.Items.lawful c.known.ensures tt;
 }
 
 pub returns-in_err-next-clause-shown : goal.returns-in_err-next-clause-shown
@@ -20,7 +20,7 @@ returns-in_err-next-clause-shown g c =
     let normal = g.F.Parser.state c.args.self.now.normal in
     let escapable = g.G.Parser.state c.args.self.now.escapable in
     let part = same_spot _ g.F.Parser.IsOutput g.G.Parser.IsOutput _ _ _ (λ y x. g.I.Item.Value.code x ≡ y) g.F.Parser.meaning g.G.Parser.meaning _ _ _ normal _ _ _ escapable _ _ inv.normal_kept inv.control_kept inv.escapable_kept inv.lack_is c.in_err-next.ensures.shown in
-    escaped_passed _ g.met.I.Items.lawful g.F.Error.ParseError.errors (λ x. g.I.Item.Value.code x ≡ c.args.self.now.control_char) (g.F.Parser.meaning normal) (g.G.Parser.meaning escapable) (g.F.Parser.IsOutput normal) (g.G.Parser.IsOutput escapable) g.OM.Output.Mode.BUILDS _ _ _ _ inv.collected _ _ part (err_from_residual _ _ c.from_residual.ensures)
+    escaped_passed _ g.met.I.Items.lawful g.F.Error.ParseError.errors (λ x. g.I.Item.Value.code x ≡ c.args.self.now.control_char) (g.F.Parser.meaning normal) (g.G.Parser.meaning escapable) (g.F.Parser.IsOutput normal) (g.G.Parser.IsOutput escapable) g.OM.Output.Mode.BUILDS _ _ _ _ inv.collected _ _ part (err_from_residual c.from_residual.ensures)
 
 pub returns-then-input_len-clause-shown : goal.returns-then-input_len-clause-shown
 returns-then-input_len-clause-shown g c =
@@ -64,8 +64,8 @@ returns-in-Done-clause-shown g c =
 
 pub loop-next-smaller-else-input_len-2 : goal.loop-next-smaller-else-input_len-2
 loop-next-smaller-else-input_len-2 g c =
-    let a = accepts _ _ _ _ _ _ _ _ _ _ c.in_ok-next.ensures.shown in
-    is_shorter _ _ _ _ a.rest_is (consumes _ _ _ _ _ _ a.rest_is c.input_len.ensures c.input_len-in-Found.ensures c.if-input_len.false)
+    let a = accepts c.in_ok-next.ensures.shown in
+    is_shorter a.rest_is (consumes a.rest_is c.input_len.ensures c.input_len-in-Found.ensures c.if-input_len.false)
 
 pub loop-next-preserved-else-input_len-2 : goal.loop-next-preserved-else-input_len-2
 loop-next-preserved-else-input_len-2 g c =
@@ -83,8 +83,8 @@ loop-next-preserved-else-input_len-2 g c =
 
 pub loop-next-smaller-else-input_len-4 : goal.loop-next-smaller-else-input_len-4
 loop-next-smaller-else-input_len-4 g c =
-    let a = accepts _ _ _ _ _ _ _ _ _ _ c.in_ok-next.ensures.shown in
-    is_shorter _ _ _ _ a.rest_is (consumes _ _ _ _ _ _ a.rest_is c.input_len.ensures c.input_len-in-Found.ensures c.if-input_len.false)
+    let a = accepts c.in_ok-next.ensures.shown in
+    is_shorter a.rest_is (consumes a.rest_is c.input_len.ensures c.input_len-in-Found.ensures c.if-input_len.false)
 
 pub loop-next-preserved-else-input_len-4 : goal.loop-next-preserved-else-input_len-4
 loop-next-preserved-else-input_len-4 g c =

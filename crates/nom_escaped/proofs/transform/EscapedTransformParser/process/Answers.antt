@@ -10,7 +10,7 @@ loop-text-init g c = record {
   normal_kept = refl;
   control_kept = refl;
   transform_kept = refl;
-  collected = collected_none _ g.met.I.Items.lawful _ _ c.known.ensures c.no_text-text.ensures;
+  collected = collected_none g.met.I.Items.lawful c.known.ensures c.no_text-text.ensures;
 }
 
 pub returns-in_err-next-clause-shown : goal.returns-in_err-next-clause-shown
@@ -19,7 +19,7 @@ returns-in_err-next-clause-shown g c =
     let normal = g.F.Parser.state c.args.self.now.normal in
     let escapable = g.G.Parser.state c.args.self.now.transform in
     let part = same_spot _ g.F.Parser.IsOutput g.G.Parser.IsOutput _ _ _ (λ y x. g.C.Value.code x ≡ y) g.F.Parser.meaning g.G.Parser.meaning _ _ _ normal _ _ _ escapable None None inv.normal_kept inv.control_kept inv.transform_kept refl c.in_err-next.ensures.shown in
-    transform_passed _ g.met.I.Items.lawful g.F.Error.ParseError.errors (λ x. g.C.Value.code x ≡ c.args.self.now.control_char) (g.F.Parser.meaning normal) (g.G.Parser.meaning escapable) (g.F.Parser.IsOutput normal) (g.G.Parser.IsOutput escapable) g.F.Output.ExtendInto.added g.G.Output.ExtendInto.added g.X.Builder.parts _ g.OM.Error.Mode.BUILDS _ _ _ _ inv.collected _ _ part (err_from_residual _ _ c.from_residual.ensures)
+    transform_passed _ g.met.I.Items.lawful g.F.Error.ParseError.errors (λ x. g.C.Value.code x ≡ c.args.self.now.control_char) (g.F.Parser.meaning normal) (g.G.Parser.meaning escapable) (g.F.Parser.IsOutput normal) (g.G.Parser.IsOutput escapable) g.F.Output.ExtendInto.added g.G.Output.ExtendInto.added g.X.Builder.parts _ g.OM.Error.Mode.BUILDS _ _ _ _ inv.collected _ _ part (err_from_residual c.from_residual.ensures)
 
 pub returns-then-not-extend-clause-shown : goal.returns-then-not-extend-clause-shown
 returns-then-not-extend-clause-shown g c =
@@ -39,8 +39,8 @@ returns-then-input_len-clause-shown g c =
 
 pub loop-text-smaller : goal.loop-text-smaller
 loop-text-smaller g c =
-    let a = accepts _ _ _ _ _ _ _ _ _ _ c.in_ok-next.ensures.shown in
-    is_shorter _ _ _ _ a.rest_is (consumes _ _ _ _ _ _ a.rest_is c.input_len.ensures c.input_len-in-Found.ensures c.if-input_len.false)
+    let a = accepts c.in_ok-next.ensures.shown in
+    is_shorter a.rest_is (consumes a.rest_is c.input_len.ensures c.input_len-in-Found.ensures c.if-input_len.false)
 
 pub loop-text-preserved : goal.loop-text-preserved
 loop-text-preserved g c =
