@@ -1,8 +1,8 @@
 -- How much of an input lies before a rest of it, and what is shown of the slice before it.
-use Rattle.std.proofs.Common.{◌≡◌, ℕ, ◌+◌, ◌-◌, ◌≤◌, Bool, false, Ok, Err, Option, refl, ap, arith}
+use Rattle.std.proofs.Common.{◌≡◌, ℕ, ◌+◌, ◌-◌, ◌≤◌, false, Ok, Err, Option, refl, ap, arith}
 use Rattle.nom_error.specs.declared.answer.Needed.{Needed}
 use Rattle.nom_error.specs.declared.answer.Err as Answer
-use Rattle.nom_error.specs.Modes.{Built}
+use Rattle.nom_error.specs.Modes.{Built, Modes, with_outputs}
 use Rattle.nom_traits.specs.Input.{Seen, IsRest, input_len, span}
 use Rattle.nom_traits.specs.Rests.{span-append}
 use Rattle.nom_traits.specs.Slices.{Slice, IsFirst, IsSeenAs}
@@ -28,11 +28,11 @@ module _ {I A : Type 0} {w : Seen I A} {i : I} {n : ℕ} {j : I} where
   slice_before r = (record { items = r.front; mark = w.mark i }, record { rest = w.elements j; whole = r.whole; length_is = r.length_is; mark_is = refl })
 
 -- what a part shows whose outputs aren't built, as the slice that it consumed
-module _ {I A V O E : Type 0} (w : Seen I A) (IsOutput : V → O → Type 0) (m : Meaning I V E) (outputs errors s : Bool) (i : I) where
-  pub recognized_err : (f : Answer.Err E (Option E) Needed) → ShowsMeaning w IsOutput m false errors s i (Err f) → ShowsMeaning w (IsSeenAs w) (recognized_meaning w m) outputs errors s i (Err f)
-  recognized_err f h = plain_err w IsOutput (IsSeenAs w) (λ _. false) (λ i n u. IsSliced w i n) m outputs errors s i f h
+module _ {I A V O E : Type 0} (w : Seen I A) (IsOutput : V → O → Type 0) (m : Meaning I V E) (mode : Modes) (i : I) where
+  pub recognized_err : (f : Answer.Err E (Option E) Needed) → ShowsMeaning w IsOutput m (with_outputs false mode) i (Err f) → ShowsMeaning w (IsSeenAs w) (recognized_meaning w m) mode i (Err f)
+  recognized_err f h = plain_err w IsOutput (IsSeenAs w) (λ _. false) (λ i n u. IsSliced w i n) m mode i f h
 
-  pub recognized_ok : (j : I) (x : Option O) (b : Option I) → ShowsMeaning w IsOutput m false errors s i (Ok (j, x)) → ((n : ℕ) (t : Slice w) → IsRest w i n j → IsFirst w i n t → Built outputs (IsSeenAs w t) b) → ShowsMeaning w (IsSeenAs w) (recognized_meaning w m) outputs errors s i (Ok (j, b))
+  pub recognized_ok : (j : I) (x : Option O) (b : Option I) → ShowsMeaning w IsOutput m (with_outputs false mode) i (Ok (j, x)) → ((n : ℕ) (t : Slice w) → IsRest w i n j → IsFirst w i n t → Built mode.outputs (IsSeenAs w t) b) → ShowsMeaning w (IsSeenAs w) (recognized_meaning w m) mode i (Ok (j, b))
   recognized_ok j x b h f =
       let a = accepts h in
       let t = slice_before a.rest_is in

@@ -27,8 +27,8 @@ leaf_meaning IsSound Blames Grows leaf = record {
   IsSound = IsSound;
   answers = LeafAnswers leaf;
   blames = λ s. Blames;
-  runs_out = λ outputs errors s i. leaf.Refuses s i × (errors ≡ true) × Grows;
-  IsFrugal = λ outputs errors. errors ≡ true → Grows → ⊥;
+  runs_out = λ mode i. leaf.Refuses mode.streaming i × (mode.errors ≡ true) × Grows;
+  IsFrugal = λ mode. mode.errors ≡ true → Grows → ⊥;
   Settles = Unit {0};
   NeverFails = λ large. Unit {0};
 }
@@ -98,7 +98,7 @@ module _ {I A V : Type 0} (w : Seen I A) (leaf : Leaf I V) (l : LeafLaws w leaf)
       within = λ s i n v h a. l.place s i n v h a;
       one_outcome = λ s. answers_agree false s (λ e. cc);
       alike = λ s x y o kx ky r a d. answers_carry false s (λ e. cc) x y o kx ky r a d;
-      frugal = λ outputs errors s i h f r. f r.1 r.2;
+      frugal = λ mode i h f r. f r.1 r.2;
       settles = λ t x y o kx ky r a d. answers_settle y o ky (answers_carry false true (λ e. refl) x y o kx ky r a tt) d;
       blames_alike = λ t s i o e h a b d z. z;
       never_fails = λ large g s i h a. never_answers large s i a;

@@ -3,7 +3,7 @@ use Rattle.std.proofs.Common.{◌≡◌, ℕ, ◌<◌, Bool, true, false, Result
 use Rattle.nom_error.specs.declared.answer.Needed.{Needed}
 use Rattle.nom_error.specs.declared.answer.Err as Answer
 use Rattle.nom_error.specs.declared.answer.Err.TheVariants.{Incomplete, Error, Failure, OutOfMemory}
-use Rattle.nom_error.specs.Modes.{Built}
+use Rattle.nom_error.specs.Modes.{Built, Modes, modes}
 use Rattle.nom_error.specs.Answers.{Refuses, size_of}
 use Rattle.nom_traits.specs.Input.{Seen, InputLaws}
 use Rattle.nom_internal.specs.Outcome.{Outcome}
@@ -32,45 +32,45 @@ empty_ends zero v e = refl
 empty_ends (suc n) v e = absurd (omega (arith, e))
 
 -- what the list shows
-abbrev pub ShowsMany : {I A V E O : Type 0} (w : Seen I A) (EmptyGives : I → E → Type 0) (ErrorGrows : Type 0) (bound : Option ℕ) (builds : Bool → Bool) (Keeps : Bool → Type 0) (m : Meaning I V E) (s : Bool) (IsOutput : List V → O → Type 0) (outputs errors : Bool) (i : I) → Result (I × Option O) (Answer.Err E (Option E) Needed) → Type 0
-ShowsMany w EmptyGives ErrorGrows bound builds Keeps m s IsOutput outputs errors i r = ShowsMeaning w IsOutput (repeat_meaning w (many_rule EmptyGives ErrorGrows bound builds Keeps) (λ vs _. vs) (always m)) outputs errors s i r
+abbrev pub ShowsMany : {I A V E O : Type 0} (w : Seen I A) (EmptyGives : I → E → Type 0) (ErrorGrows : Type 0) (bound : Option ℕ) (builds : Bool → Bool) (Keeps : Bool → Type 0) (m : Meaning I V E) (IsOutput : List V → O → Type 0) (mode : Modes) (i : I) → Result (I × Option O) (Answer.Err E (Option E) Needed) → Type 0
+ShowsMany w EmptyGives ErrorGrows bound builds Keeps m IsOutput mode i r = ShowsMeaning w IsOutput (repeat_meaning w (many_rule EmptyGives ErrorGrows bound builds Keeps) (λ vs _. vs) (always m)) mode i r
 
-module _ {I A V E O : Type 0} {w : Seen I A} (EmptyGives : I → E → Type 0) (ErrorGrows : Type 0) {bound : Option ℕ} (builds : Bool → Bool) (Keeps : Bool → Type 0) (m : Meaning I V E) (s : Bool) {IsOutput : List V → O → Type 0} {outputs errors : Bool} {Held : List V → Type 0} {i j : I} (c : Collected w (TurnsBy bound (λ _. until_refused) (λ _. m.answers s)) Held i j) where
+module _ {I A V E O : Type 0} {w : Seen I A} (EmptyGives : I → E → Type 0) (ErrorGrows : Type 0) {bound : Option ℕ} (builds : Bool → Bool) (Keeps : Bool → Type 0) (m : Meaning I V E) {IsOutput : List V → O → Type 0} {mode : Modes} {Held : List V → Type 0} {i j : I} (c : Collected w (TurnsBy bound (λ _. until_refused) (λ _. m.answers mode.streaming)) Held i j) where
   -- at the bound the list ends
-  pub many_at_bound : (IsBelow bound (length c.trees) → ⊥) → {b : Option O} → Built outputs (IsOutput c.trees) b → ShowsMany w EmptyGives ErrorGrows bound builds Keeps m s IsOutput outputs errors i (Ok (j, b))
-  many_at_bound h q = ended (many_rule EmptyGives ErrorGrows bound builds Keeps) (λ vs _. vs) (always m) s c None h tt refl q
+  pub many_at_bound : (IsBelow bound (length c.trees) → ⊥) → {b : Option O} → Built mode.outputs (IsOutput c.trees) b → ShowsMany w EmptyGives ErrorGrows bound builds Keeps m IsOutput mode i (Ok (j, b))
+  many_at_bound h q = ended (many_rule EmptyGives ErrorGrows bound builds Keeps) (λ vs _. vs) (always m) c None h tt refl q
 
   module _ (below : IsBelow bound (length c.trees)) where
-    many_stopped : {x : E} → m.answers s j Fail ⊎ m.answers s j TooLarge → m.blames s j x → ShowsMany w EmptyGives ErrorGrows bound builds Keeps m s IsOutput outputs errors i (Err (Failure x))
-    many_stopped {x = x} (inl t) b = failed (many_rule EmptyGives ErrorGrows bound builds Keeps) (λ vs _. vs) (always m) s c (Some Fail) (below, t) refl x b
-    many_stopped {x = x} (inr t) b = too_large (many_rule EmptyGives ErrorGrows bound builds Keeps) (λ vs _. vs) (always m) s c (Some TooLarge) (below, t) refl x b
+    many_stopped : {x : E} → m.answers mode.streaming j Fail ⊎ m.answers mode.streaming j TooLarge → m.blames mode.streaming j x → ShowsMany w EmptyGives ErrorGrows bound builds Keeps m IsOutput mode i (Err (Failure x))
+    many_stopped {x = x} (inl t) b = failed (many_rule EmptyGives ErrorGrows bound builds Keeps) (λ vs _. vs) (always m) c (Some Fail) (below, t) refl x b
+    many_stopped {x = x} (inr t) b = too_large (many_rule EmptyGives ErrorGrows bound builds Keeps) (λ vs _. vs) (always m) c (Some TooLarge) (below, t) refl x b
 
     module _ {X : Type 0} {IsItem : V → X → Type 0} where
       -- a refusal ends the list
-      pub many_refused : {f : Answer.Err E (Option E) Needed} {x : Option E} → f ≡ Error x → ShowsMeaning w IsItem m (builds outputs) false s j (Err f) → {b : Option O} → Built outputs (IsOutput c.trees) b → ShowsMany w EmptyGives ErrorGrows bound builds Keeps m s IsOutput outputs errors i (Ok (j, b))
-      many_refused e h q = ended (many_rule EmptyGives ErrorGrows bound builds Keeps) (λ vs _. vs) (always m) s c (Some Refuse) (below, part_refused e h) tt refl q
+      pub many_refused : {f : Answer.Err E (Option E) Needed} {x : Option E} → f ≡ Error x → ShowsMeaning w IsItem m (modes (builds mode.outputs) false mode.streaming) j (Err f) → {b : Option O} → Built mode.outputs (IsOutput c.trees) b → ShowsMany w EmptyGives ErrorGrows bound builds Keeps m IsOutput mode i (Ok (j, b))
+      many_refused e h q = ended (many_rule EmptyGives ErrorGrows bound builds Keeps) (λ vs _. vs) (always m) c (Some Refuse) (below, part_refused e h) tt refl q
 
       -- all else is passed on
-      pub many_failed : {f : Answer.Err E (Option E) Needed} {x : E} → f ≡ Failure x → ShowsMeaning w IsItem m (builds outputs) false s j (Err f) → ShowsMany w EmptyGives ErrorGrows bound builds Keeps m s IsOutput outputs errors i (Err (Failure x))
+      pub many_failed : {f : Answer.Err E (Option E) Needed} {x : E} → f ≡ Failure x → ShowsMeaning w IsItem m (modes (builds mode.outputs) false mode.streaming) j (Err f) → ShowsMany w EmptyGives ErrorGrows bound builds Keeps m IsOutput mode i (Err (Failure x))
       many_failed e h = let t = part_failed e h in many_stopped t.0 t.1
 
-      pub many_lacks : {f : Answer.Err E (Option E) Needed} {k : Needed} → f ≡ Incomplete k → ShowsMeaning w IsItem m (builds outputs) false s j (Err f) → ShowsMany w EmptyGives ErrorGrows bound builds Keeps m s IsOutput outputs errors i (Err (Incomplete k))
-      many_lacks {k = k} e h = lacking (many_rule EmptyGives ErrorGrows bound builds Keeps) (λ vs _. vs) (always m) s c (Some (Undecided (size_of k))) (below, part_lacks e h) refl
+      pub many_lacks : {f : Answer.Err E (Option E) Needed} {k : Needed} → f ≡ Incomplete k → ShowsMeaning w IsItem m (modes (builds mode.outputs) false mode.streaming) j (Err f) → ShowsMany w EmptyGives ErrorGrows bound builds Keeps m IsOutput mode i (Err (Incomplete k))
+      many_lacks {k = k} e h = lacking (many_rule EmptyGives ErrorGrows bound builds Keeps) (λ vs _. vs) (always m) c (Some (Undecided (size_of k))) (below, part_lacks e h) refl
 
-      pub many_part_ran_out : {f : Answer.Err E (Option E) Needed} → f ≡ OutOfMemory → ShowsMeaning w IsItem m (builds outputs) false s j (Err f) → ShowsMany w EmptyGives ErrorGrows bound builds Keeps m s IsOutput outputs errors i (Err OutOfMemory)
-      many_part_ran_out e h = ran_out_within (many_rule EmptyGives ErrorGrows bound builds Keeps) (λ vs _. vs) (always m) s c below (part_ran_out e h)
+      pub many_part_ran_out : {f : Answer.Err E (Option E) Needed} → f ≡ OutOfMemory → ShowsMeaning w IsItem m (modes (builds mode.outputs) false mode.streaming) j (Err f) → ShowsMany w EmptyGives ErrorGrows bound builds Keeps m IsOutput mode i (Err OutOfMemory)
+      many_part_ran_out e h = ran_out_within (many_rule EmptyGives ErrorGrows bound builds Keeps) (λ vs _. vs) (always m) c below (part_ran_out e h)
 
-      module _ {h : I} {b : Option X} (a : Accepts w IsItem (builds outputs) j (m.answers s j) h b) where
+      module _ {h : I} {b : Option X} (a : Accepts w IsItem (builds mode.outputs) j (m.answers mode.streaming j) h b) where
         -- an item that consumes nothing is refused
-        pub many_empty : a.length ≡ 0 → {f : Answer.Err E (Option E) Needed} → Refuses (EmptyGives j) ErrorGrows errors f → ShowsMany w EmptyGives ErrorGrows bound builds Keeps m s IsOutput outputs errors i (Err f)
+        pub many_empty : a.length ≡ 0 → {f : Answer.Err E (Option E) Needed} → Refuses (EmptyGives j) ErrorGrows mode.errors f → ShowsMany w EmptyGives ErrorGrows bound builds Keeps m IsOutput mode i (Err f)
         many_empty z (inl g) =
-            subst (λ y. ShowsMany w EmptyGives ErrorGrows bound builds Keeps m s IsOutput outputs errors i (Err y)) (sym g.0) (ran_out (many_rule EmptyGives ErrorGrows bound builds Keeps) (λ vs _. vs) (always m) s c (Some (Accept a.length a.tree)) (below, a.answered) (on_empty ((errors ≡ true) × ErrorGrows) (Keeps outputs) ⊥ a.length a.tree z (g.1, g.2)))
+            subst (λ y. ShowsMany w EmptyGives ErrorGrows bound builds Keeps m IsOutput mode i (Err y)) (sym g.0) (ran_out (many_rule EmptyGives ErrorGrows bound builds Keeps) (λ vs _. vs) (always m) c (Some (Accept a.length a.tree)) (below, a.answered) (on_empty ((mode.errors ≡ true) × ErrorGrows) (Keeps mode.outputs) ⊥ a.length a.tree z (g.1, g.2)))
         many_empty z (inr g) =
-            subst (λ y. ShowsMany w EmptyGives ErrorGrows bound builds Keeps m s IsOutput outputs errors i (Err y)) (sym g.2) (refused (many_rule EmptyGives ErrorGrows bound builds Keeps) (λ vs _. vs) (always m) s c (Some (Accept a.length a.tree)) (below, a.answered) (empty_ends a.length a.tree z) g.0 (built_error errors (EmptyGives j) (λ y. OnItem (EmptyGives j y) ⊥ (m.blames s j y) (Some (Accept a.length a.tree))) g.0 (λ y. on_empty (EmptyGives j y) ⊥ (m.blames s j y) a.length a.tree z) g.1))
+            subst (λ y. ShowsMany w EmptyGives ErrorGrows bound builds Keeps m IsOutput mode i (Err y)) (sym g.2) (refused (many_rule EmptyGives ErrorGrows bound builds Keeps) (λ vs _. vs) (always m) c (Some (Accept a.length a.tree)) (below, a.answered) (empty_ends a.length a.tree z) g.0 (built_error mode.errors (EmptyGives j) (λ y. OnItem (EmptyGives j y) ⊥ (m.blames mode.streaming j y) (Some (Accept a.length a.tree))) g.0 (λ y. on_empty (EmptyGives j y) ⊥ (m.blames mode.streaming j y) a.length a.tree z) g.1))
 
         -- there is no memory to keep an item
-        pub many_full : 0 < a.length → Keeps outputs → ShowsMany w EmptyGives ErrorGrows bound builds Keeps m s IsOutput outputs errors i (Err OutOfMemory)
-        many_full p t = ran_out (many_rule EmptyGives ErrorGrows bound builds Keeps) (λ vs _. vs) (always m) s c (Some (Accept a.length a.tree)) (below, a.answered) (on_taken ((errors ≡ true) × ErrorGrows) (Keeps outputs) ⊥ a.length a.tree p t)
+        pub many_full : 0 < a.length → Keeps mode.outputs → ShowsMany w EmptyGives ErrorGrows bound builds Keeps m IsOutput mode i (Err OutOfMemory)
+        many_full p t = ran_out (many_rule EmptyGives ErrorGrows bound builds Keeps) (λ vs _. vs) (always m) c (Some (Accept a.length a.tree)) (below, a.answered) (on_taken ((mode.errors ≡ true) × ErrorGrows) (Keeps mode.outputs) ⊥ a.length a.tree p t)
 
 -- an item that consumes is taken
 pub many_more : {I A V X : Type 0} {w : Seen I A} (l : InputLaws w) {bound : Option ℕ} {Item : I → Outcome V → Type 0} {IsItem : V → X → Type 0} {builds : Bool} {Held More : List V → Type 0} {i j : I} (c : Collected w (TurnsBy bound (λ _. until_refused) (λ _. Item)) Held i j) → IsBelow bound (length c.trees) → {h : I} {b : Option X} (a : Accepts w IsItem builds j (Item j) h b) → 0 < a.length → More (c.trees ++ a.tree ∷ []) → Collected w (TurnsBy bound (λ _. until_refused) (λ _. Item)) More i h

@@ -2,7 +2,7 @@
 use Rattle.std.proofs.Common.{◌≡◌, ℕ, ◌+◌, ◌<◌, Bool, Ok, Err, Option, ◌⊎◌, List, [], ◌∷◌, ◌++◌, length, refl, zero, suc, arith, inl, inr, subst, sym}
 use Rattle.nom_error.specs.declared.answer.Needed.{Needed}
 use Rattle.nom_error.specs.declared.answer.Err.TheVariants.{Incomplete, Error, Failure, OutOfMemory}
-use Rattle.nom_error.specs.Modes.{Built}
+use Rattle.nom_error.specs.Modes.{Built, Modes}
 use Rattle.nom_error.specs.Answers.{size_of}
 use Rattle.nom_traits.specs.Input.{Seen, InputLaws, IsRest, input_len}
 use Rattle.nom_traits.specs.Rests.{rest_rest}
@@ -64,32 +64,32 @@ module _ {I A P V T R E : Type 0} (w : Seen I A) (r : Rule I P V T E) (tree : Li
     blamed : (e : E) → r.Blames i (length c.trees) j a ((f.at (length c.trees)).blames s j) e → (repeat_meaning w r tree f).blames s i e
     blamed e h = reaches (λ k x. OnReply r.bound (λ k. (f.at k).answers s) (λ y. r.Blames i k x y ((f.at k).blames s x) e) k x) (record { reply = a; replied = p; fact = h })
 
-module _ {I A P V T R O E : Type 0} {w : Seen I A} (r : Rule I P V T E) (tree : List V → T → R) (f : Family ℕ I P E) (s : Bool) {IsOutput : R → O → Type 0} {outputs errors : Bool} {Held : List V → Type 0} {i j : I} (c : Collected w (TurnsBy r.bound r.turn (λ k. (f.at k).answers s)) Held i j) where
+module _ {I A P V T R O E : Type 0} {w : Seen I A} (r : Rule I P V T E) (tree : List V → T → R) (f : Family ℕ I P E) {IsOutput : R → O → Type 0} {mode : Modes} {Held : List V → Type 0} {i j : I} (c : Collected w (TurnsBy r.bound r.turn (λ k. (f.at k).answers mode.streaming)) Held i j) where
   -- what the part replies here
-  module _ (a : Option (Outcome P)) (p : Replies r.bound (λ k. (f.at k).answers s) (length c.trees) j a) where
+  module _ (a : Option (Outcome P)) (p : Replies r.bound (λ k. (f.at k).answers mode.streaming) (length c.trees) j a) where
     -- the repetition ends with success, before what the part accepts
-    pub ended : (t : T) → Ends (Accept 0 t) ≡ r.turn (length c.trees) a → {b : Option O} → Built outputs (IsOutput (tree c.trees t)) b → ShowsMeaning w IsOutput (repeat_meaning w r tree f) outputs errors s i (Ok (j, b))
-    ended t e {b = b} h = Shown (Accept (c.taken + 0) (tree c.trees t)) (ends w r tree f s i j c a p (Accept 0 t) e) (j, b, subst (λ n. IsRest w i n j) (omega arith) c.rest_is, h, refl)
+    pub ended : (t : T) → Ends (Accept 0 t) ≡ r.turn (length c.trees) a → {b : Option O} → Built mode.outputs (IsOutput (tree c.trees t)) b → ShowsMeaning w IsOutput (repeat_meaning w r tree f) mode i (Ok (j, b))
+    ended t e {b = b} h = Shown (Accept (c.taken + 0) (tree c.trees t)) (ends w r tree f mode.streaming i j c a p (Accept 0 t) e) (j, b, subst (λ n. IsRest w i n j) (omega arith) c.rest_is, h, refl)
 
-    pub refused : Ends Refuse ≡ r.turn (length c.trees) a → (b : Option E) → Built errors (r.Blames i (length c.trees) j a ((f.at (length c.trees)).blames s j)) b → ShowsMeaning w IsOutput (repeat_meaning w r tree f) outputs errors s i (Err (Error b))
-    refused e b h = Shown Refuse (ends w r tree f s i j c a p Refuse e) (b, built_error errors _ _ b (blamed w r tree f s i j c a p) h, refl)
+    pub refused : Ends Refuse ≡ r.turn (length c.trees) a → (b : Option E) → Built mode.errors (r.Blames i (length c.trees) j a ((f.at (length c.trees)).blames mode.streaming j)) b → ShowsMeaning w IsOutput (repeat_meaning w r tree f) mode i (Err (Error b))
+    refused e b h = Shown Refuse (ends w r tree f mode.streaming i j c a p Refuse e) (b, built_error mode.errors _ _ b (blamed w r tree f mode.streaming i j c a p) h, refl)
 
-    pub failed : Ends Fail ≡ r.turn (length c.trees) a → (x : E) → r.Blames i (length c.trees) j a ((f.at (length c.trees)).blames s j) x → ShowsMeaning w IsOutput (repeat_meaning w r tree f) outputs errors s i (Err (Failure x))
-    failed e x h = Shown Fail (ends w r tree f s i j c a p Fail e) (x, blamed w r tree f s i j c a p x h, refl)
+    pub failed : Ends Fail ≡ r.turn (length c.trees) a → (x : E) → r.Blames i (length c.trees) j a ((f.at (length c.trees)).blames mode.streaming j) x → ShowsMeaning w IsOutput (repeat_meaning w r tree f) mode i (Err (Failure x))
+    failed e x h = Shown Fail (ends w r tree f mode.streaming i j c a p Fail e) (x, blamed w r tree f mode.streaming i j c a p x h, refl)
 
-    pub too_large : Ends TooLarge ≡ r.turn (length c.trees) a → (x : E) → r.Blames i (length c.trees) j a ((f.at (length c.trees)).blames s j) x → ShowsMeaning w IsOutput (repeat_meaning w r tree f) outputs errors s i (Err (Failure x))
-    too_large e x h = Shown TooLarge (ends w r tree f s i j c a p TooLarge e) (x, blamed w r tree f s i j c a p x h, refl)
+    pub too_large : Ends TooLarge ≡ r.turn (length c.trees) a → (x : E) → r.Blames i (length c.trees) j a ((f.at (length c.trees)).blames mode.streaming j) x → ShowsMeaning w IsOutput (repeat_meaning w r tree f) mode i (Err (Failure x))
+    too_large e x h = Shown TooLarge (ends w r tree f mode.streaming i j c a p TooLarge e) (x, blamed w r tree f mode.streaming i j c a p x h, refl)
 
-    pub lacking : {k : Needed} → Ends (Undecided (size_of k)) ≡ r.turn (length c.trees) a → ShowsMeaning w IsOutput (repeat_meaning w r tree f) outputs errors s i (Err (Incomplete k))
-    lacking {k = k} e = Shown (Undecided (size_of k)) (ends w r tree f s i j c a p (Undecided (size_of k)) e) (k, refl, refl)
+    pub lacking : {k : Needed} → Ends (Undecided (size_of k)) ≡ r.turn (length c.trees) a → ShowsMeaning w IsOutput (repeat_meaning w r tree f) mode i (Err (Incomplete k))
+    lacking {k = k} e = Shown (Undecided (size_of k)) (ends w r tree f mode.streaming i j c a p (Undecided (size_of k)) e) (k, refl, refl)
 
     -- memory ran out at what the part replies
-    pub ran_out : r.Asks outputs errors (length c.trees) a → ShowsMeaning w IsOutput (repeat_meaning w r tree f) outputs errors s i (Err OutOfMemory)
-    ran_out h = RanOut refl (reaches w r tree f s i j c (λ k x. OnReply r.bound (λ k. (f.at k).answers s) (r.Asks outputs errors k) k x ⊎ (IsBelow r.bound k × (f.at k).runs_out (r.outputs outputs) (r.errors k errors) s x)) (inl (record { reply = a; replied = p; fact = h })))
+    pub ran_out : r.Asks mode (length c.trees) a → ShowsMeaning w IsOutput (repeat_meaning w r tree f) mode i (Err OutOfMemory)
+    ran_out h = RanOut refl (reaches w r tree f mode.streaming i j c (λ k x. OnReply r.bound (λ k. (f.at k).answers mode.streaming) (r.Asks mode k) k x ⊎ (IsBelow r.bound k × (f.at k).runs_out (r.part k mode) x)) (inl (record { reply = a; replied = p; fact = h })))
 
   -- memory ran out in the part
-  pub ran_out_within : IsBelow r.bound (length c.trees) → (f.at (length c.trees)).runs_out (r.outputs outputs) (r.errors (length c.trees) errors) s j → ShowsMeaning w IsOutput (repeat_meaning w r tree f) outputs errors s i (Err OutOfMemory)
-  ran_out_within b h = RanOut refl (reaches w r tree f s i j c (λ k x. OnReply r.bound (λ k. (f.at k).answers s) (r.Asks outputs errors k) k x ⊎ (IsBelow r.bound k × (f.at k).runs_out (r.outputs outputs) (r.errors k errors) s x)) (inr (b, h)))
+  pub ran_out_within : IsBelow r.bound (length c.trees) → (f.at (length c.trees)).runs_out (r.part (length c.trees) mode) j → ShowsMeaning w IsOutput (repeat_meaning w r tree f) mode i (Err OutOfMemory)
+  ran_out_within b h = RanOut refl (reaches w r tree f mode.streaming i j c (λ k x. OnReply r.bound (λ k. (f.at k).answers mode.streaming) (r.Asks mode k) k x ⊎ (IsBelow r.bound k × (f.at k).runs_out (r.part k mode) x)) (inr (b, h)))
 
 -- lengths tell whether a part consumed
 module _ {I A : Type 0} {w : Seen I A} {i : I} {n : ℕ} {j : I} where

@@ -16,14 +16,14 @@ pub returns-then-input_len-clause-shown : goal.returns-then-input_len-clause-sho
 returns-then-input_len-clause-shown g c =
     let part = shown_at g.F.Parser.IsOutput g.F.Parser.meaning c.loop-next.invariant.state_kept c.in-Ok.ensures.shown in
     let item = accepts part in
-    many_empty _ _ (λ b. b) (λ b. b ≡ true) (g.F.Parser.meaning (g.F.Parser.state c.args.self.now.parser)) g.OM.Incomplete.IsStreaming.STREAMING c.loop-next.invariant.collected tt item (is_empty item.rest_is c.input_len.ensures c.input_len-in-Ok.ensures c.if-input_len.true) c.refusal.ensures
+    many_empty _ _ (λ b. b) (λ b. b ≡ true) (g.F.Parser.meaning (g.F.Parser.state c.args.self.now.parser)) c.loop-next.invariant.collected tt item (is_empty item.rest_is c.input_len.ensures c.input_len-in-Ok.ensures c.if-input_len.true) c.refusal.ensures
 
 pub returns-then-not-keep-clause-shown : goal.returns-then-not-keep-clause-shown
 returns-then-not-keep-clause-shown g c =
     let part = shown_at g.F.Parser.IsOutput g.F.Parser.meaning c.loop-next.invariant.state_kept c.in-Ok.ensures.shown in
     let item = accepts part in
     let moves = consumes item.rest_is c.input_len.ensures c.input_len-in-Ok.ensures c.if-input_len.false in
-    many_full _ _ (λ b. b) (λ b. b ≡ true) (g.F.Parser.meaning (g.F.Parser.state c.args.self.now.parser)) g.OM.Incomplete.IsStreaming.STREAMING c.loop-next.invariant.collected tt item moves (list_built _ _ _ _ (c.keep.ensures.refused c.if-not-keep.true) c.loop-next.invariant.collected.held)
+    many_full _ _ (λ b. b) (λ b. b ≡ true) (g.F.Parser.meaning (g.F.Parser.state c.args.self.now.parser)) c.loop-next.invariant.collected tt item moves (list_built _ _ _ _ (c.keep.ensures.refused c.if-not-keep.true) c.loop-next.invariant.collected.held)
 
 pub loop-next-smaller : goal.loop-next-smaller
 loop-next-smaller g c =
@@ -43,19 +43,19 @@ loop-next-preserved g c =
 pub returns-in-Err-Error-clause-shown : goal.returns-in-Err-Error-clause-shown
 returns-in-Err-Error-clause-shown g c =
     let part = shown_at g.F.Parser.IsOutput g.F.Parser.meaning c.loop-next.invariant.state_kept c.in-Err-Error.ensures.shown in
-    many_refused _ _ (λ b. b) (λ b. b ≡ true) (g.F.Parser.meaning (g.F.Parser.state c.args.self.now.parser)) g.OM.Incomplete.IsStreaming.STREAMING c.loop-next.invariant.collected tt c.in-Err-Error.field-0-is part c.loop-next.invariant.collected.held
+    many_refused _ _ (λ b. b) (λ b. b ≡ true) (g.F.Parser.meaning (g.F.Parser.state c.args.self.now.parser)) c.loop-next.invariant.collected tt c.in-Err-Error.field-0-is part c.loop-next.invariant.collected.held
 
 pub returns-in-Err-Failure-clause-shown : goal.returns-in-Err-Failure-clause-shown
 returns-in-Err-Failure-clause-shown g c =
     let part = shown_at g.F.Parser.IsOutput g.F.Parser.meaning c.loop-next.invariant.state_kept c.in-Err-Failure.ensures.shown in
-    many_failed _ _ (λ b. b) (λ b. b ≡ true) (g.F.Parser.meaning (g.F.Parser.state c.args.self.now.parser)) g.OM.Incomplete.IsStreaming.STREAMING c.loop-next.invariant.collected tt c.in-Err-Failure.field-0-is part
+    many_failed _ _ (λ b. b) (λ b. b ≡ true) (g.F.Parser.meaning (g.F.Parser.state c.args.self.now.parser)) c.loop-next.invariant.collected tt c.in-Err-Failure.field-0-is part
 
 pub returns-in-Err-Incomplete-clause-shown : goal.returns-in-Err-Incomplete-clause-shown
 returns-in-Err-Incomplete-clause-shown g c =
     let part = shown_at g.F.Parser.IsOutput g.F.Parser.meaning c.loop-next.invariant.state_kept c.in-Err-Incomplete.ensures.shown in
-    many_lacks _ _ (λ b. b) (λ b. b ≡ true) (g.F.Parser.meaning (g.F.Parser.state c.args.self.now.parser)) g.OM.Incomplete.IsStreaming.STREAMING c.loop-next.invariant.collected tt c.in-Err-Incomplete.field-0-is part
+    many_lacks _ _ (λ b. b) (λ b. b ≡ true) (g.F.Parser.meaning (g.F.Parser.state c.args.self.now.parser)) c.loop-next.invariant.collected tt c.in-Err-Incomplete.field-0-is part
 
 pub returns-in-Err-OutOfMemory-clause-shown : goal.returns-in-Err-OutOfMemory-clause-shown
 returns-in-Err-OutOfMemory-clause-shown g c =
     let part = shown_at g.F.Parser.IsOutput g.F.Parser.meaning c.loop-next.invariant.state_kept c.in-Err-OutOfMemory.ensures.shown in
-    many_part_ran_out _ _ (λ b. b) (λ b. b ≡ true) (g.F.Parser.meaning (g.F.Parser.state c.args.self.now.parser)) g.OM.Incomplete.IsStreaming.STREAMING c.loop-next.invariant.collected tt c.in-Err-OutOfMemory.field-0-is part
+    many_part_ran_out _ _ (λ b. b) (λ b. b ≡ true) (g.F.Parser.meaning (g.F.Parser.state c.args.self.now.parser)) c.loop-next.invariant.collected tt c.in-Err-OutOfMemory.field-0-is part
