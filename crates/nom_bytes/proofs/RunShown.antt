@@ -6,11 +6,12 @@ use Rattle.std.proofs.lemmas.List.Elements.{All-nil}
 use Rattle.nom_error.specs.declared.answer.Needed.{Needed}
 use Rattle.nom_error.specs.declared.answer.Err as Answer
 use Rattle.nom_error.specs.Answers.{Refuses}
+use Rattle.nom_error.specs.Modes.{Modes}
 use Rattle.nom_traits.specs.Input.{Seen, InputLaws, span}
 use Rattle.nom_traits.specs.Runs.{Stops}
 use Rattle.nom_traits.specs.Slices.{Slice, IsSeenAs, front_seen}
 use Rattle.nom_traits.specs.Splits.{IsRunLength, IsRunEmpty, FrontBuilt, Splits}
-use Rattle.nom_internal.specs.Leaf.{LeafAnswers, leaf_meaning}
+use Rattle.nom_internal.specs.Leaf.{leaf_meaning}
 use Rattle.nom_internal.specs.Meaning.{ShowsMeaning}
 use Rattle.nom_internal.proofs.Shown.{accepted, undecided, refused, built_error}
 use Rattle.nom_bytes.specs.ParsedRuns.{IsEnough, IsRunSlice, runs}
@@ -56,18 +57,18 @@ module _ {I A : Type 0} (w : Seen I A) (l : InputLaws w) (Meets Ends : A → Typ
     followed = r.followed;
   }
 
-  module _ {E : Type 0} (wanted : Bool) (Blames : I → E → Type 0) (Grows : Type 0) (outputs errors s : Bool) (i : I) where
+  module _ {E : Type 0} (wanted : Bool) (Blames : I → E → Type 0) (Grows : Type 0) (mode : Modes) (i : I) where
     abbrev Shows : Result (I × Option I) (Answer.Err E (Option E) Needed) → Type 0
-    Shows r = ShowsMeaning w (IsSeenAs w) (leaf_meaning (Unit {0}) Blames Grows (runs w Test None (cond wanted 1 0))) outputs errors s i r
+    Shows r = ShowsMeaning w (IsSeenAs w) (leaf_meaning (Unit {0}) Blames Grows (runs w Test None (cond wanted 1 0))) mode i r
 
     -- a split after the run, where one item is wanted at least or none, shows the run's meaning, whatever its premise
-    pub split_shown : (IsRefusal : Answer.Err E (Option E) Needed → Type 0) → ((e : Answer.Err E (Option E) Needed) → IsRefusal e → Refuses (Blames i) Grows errors e) → (r : Result (I × Option I) (Answer.Err E (Option E) Needed)) → Splits w Meets Ends s i wanted (FrontBuilt w outputs) IsRefusal r → Shows r
+    pub split_shown : (IsRefusal : Answer.Err E (Option E) Needed → Type 0) → ((e : Answer.Err E (Option E) Needed) → IsRefusal e → Refuses (Blames i) Grows mode.errors e) → (r : Result (I × Option I) (Answer.Err E (Option E) Needed)) → Splits w Meets Ends mode.streaming i wanted (FrontBuilt w mode.outputs) IsRefusal r → Shows r
     split_shown IsRefusal refuses (Ok p) h =
-        let run = run_of s i h.0 h.1 in
-        let built = built_error outputs _ _ p.1 (λ v f. front_seen w l i h.0 v (items_of s i h.0 h.1) f run.first) h.4 in
-        accepted w (IsSeenAs w) outputs errors i _ (Blames i) _ h.0 (items_of s i h.0 h.1) p.0 p.1 h.3 (run, inl (enough_items w.weight wanted h.1.run h.0 h.1.length_is h.2)) built
+        let run = run_of mode.streaming i h.0 h.1 in
+        let built = built_error mode.outputs _ _ p.1 (λ v f. front_seen w l i h.0 v (items_of mode.streaming i h.0 h.1) f run.first) h.4 in
+        accepted (items_of mode.streaming i h.0 h.1) h.3 (run, inl (enough_items w.weight wanted h.1.run h.0 h.1.length_is h.2)) built
     split_shown IsRefusal refuses (Std.Err e) (inl h) =
         let all : All (λ x. Test x true) (w.elements i) = λ k d p. meets _ (h.0.1 k d p) in
-        subst (λ f. Shows (Std.Err f)) (sym h.1.2) (undecided w (IsSeenAs w) outputs errors i _ (Blames i) _ (Some 1) h.1.0 h.1.1 (h.0.0, (all, tt, one_lacks wanted (span w.weight (w.elements i)))))
+        subst (λ f. Shows (Std.Err f)) (sym h.1.2) (undecided h.1.1 (h.0.0, (all, tt, one_lacks wanted (span w.weight (w.elements i)))))
     split_shown IsRefusal refuses (Std.Err e) (inr h) =
-        refused w (IsSeenAs w) outputs errors i (LeafAnswers (runs w Test None (cond wanted 1 0)) s i) (Blames i) Grows e (refuses e h.2) (0, record { items = []; mark = w.mark i }, no_run s i h.1, none_enough wanted (length (w.elements i)) h.0)
+        refused (refuses e h.2) (0, record { items = []; mark = w.mark i }, no_run mode.streaming i h.1, none_enough wanted (length (w.elements i)) h.0)

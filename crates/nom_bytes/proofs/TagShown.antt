@@ -1,11 +1,11 @@
 -- What a comparison of an input with a tag shows.
-use Rattle.std.proofs.Common.{◌≡◌, ℕ, ◌-◌, ◌<◌, Bool, true, List, Result, Ok, Err, Option, Some, refl, sym, ◌∙◌, ap, subst, arith}
+use Rattle.std.proofs.Common.{◌≡◌, ℕ, ◌-◌, ◌<◌, true, List, Result, Ok, Err, Option, Some, refl, sym, ◌∙◌, ap, subst, arith}
 use Rattle.nom_error.specs.declared.answer.Needed.{Needed}
 use Rattle.nom_error.specs.declared.answer.Err as Answer
 use Rattle.nom_error.specs.declared.answer.Err.TheVariants.{Incomplete}
 use Rattle.nom_error.specs.Answers.{size_of}
 use Rattle.nom_error.specs.Errors.{Errors}
-use Rattle.nom_error.specs.Modes.{Built}
+use Rattle.nom_error.specs.Modes.{Built, Modes}
 use Rattle.nom_traits.specs.declared.compare.CompareResult.{CompareResult}
 use Rattle.nom_traits.specs.declared.compare.CompareResult.TheVariants as Compared
 use Rattle.nom_traits.specs.Input.{Seen, IsPlace, IsRest, input_len}
@@ -15,18 +15,18 @@ use Rattle.nom_internal.specs.Meaning.{ShowsMeaning}
 use Rattle.nom_internal.proofs.Shown.{accepted, undecided}
 use Rattle.nom_bytes.specs.Tags.{tag_meaning}
 
-module _ {I A T E : Type 0} (w : Seen I A) (errs : Errors I E) (size : T → ℕ) (Compares : T → List A → CompareResult → Type 0) (c : CompareLaws w size Compares) (tag : T) (outputs errors s : Bool) (i : I) (known : w.IsKnown i) where
+module _ {I A T E : Type 0} (w : Seen I A) (errs : Errors I E) (size : T → ℕ) (Compares : T → List A → CompareResult → Type 0) (c : CompareLaws w size Compares) (tag : T) (mode : Modes) (i : I) (known : w.IsKnown i) where
   abbrev Shows : Result (I × Option I) (Answer.Err E (Option E) Needed) → Type 0
-  Shows r = ShowsMeaning w (IsSeenAs w) (tag_meaning w errs size Compares tag) outputs errors s i r
+  Shows r = ShowsMeaning w (IsSeenAs w) (tag_meaning w errs size Compares tag) mode i r
 
-  pub tag_found : (n : ℕ) (j : I) (x : Option I) → n ≡ size tag → Compares tag (w.elements i) Compared.Ok → IsRest w i n j → ((t : Slice w) → IsFirst w i n t → Built outputs (IsSeenAs w t) x) → Shows (Ok (j, x))
+  pub tag_found : (n : ℕ) (j : I) (x : Option I) → n ≡ size tag → Compares tag (w.elements i) Compared.Ok → IsRest w i n j → ((t : Slice w) → IsFirst w i n t → Built mode.outputs (IsSeenAs w t) x) → Shows (Ok (j, x))
   tag_found n j x e a r built =
       let first = place_first w i n (subst (λ m. IsPlace w i m) (sym e) (c.place tag i known a)) in
-      accepted _ _ _ _ _ _ _ _ n _ j x r (e, first, a) (built _ first)
+      accepted _ r (e, first, a) (built _ first)
 
   -- what is lacking of the tag, of length n, is needed
-  pub tag_begun : (n m : ℕ) (k : Needed) → s ≡ true → n ≡ size tag → m ≡ input_len w i → Compares tag (w.elements i) Compared.Incomplete → (0 < n - m → size_of k ≡ Some (n - m)) → Shows (Err (Incomplete k))
+  pub tag_begun : (n m : ℕ) (k : Needed) → mode.streaming ≡ true → n ≡ size tag → m ≡ input_len w i → Compares tag (w.elements i) Compared.Incomplete → (0 < n - m → size_of k ≡ Some (n - m)) → Shows (Err (Incomplete k))
   tag_begun n m k more e f a asks =
       let lack : n - m ≡ size tag - input_len w i = omega (arith, e, f) in
       let some : 0 < n - m = omega (arith, e, f, c.shorter tag i known a) in
-      undecided _ _ _ _ _ _ _ _ (Some (size tag - input_len w i)) k (asks some ∙ ap Some lack) (more, (a, refl))
+      undecided (asks some ∙ ap Some lack) (more, (a, refl))

@@ -1,11 +1,9 @@
 -- What a search for a needle shows.
-use Rattle.std.proofs.Common.{◌≡◌, ℕ, ◌<◌, Bool, true, false, List, Result, Ok, Err, Option, Some, None, refl, arith}
-use Rattle.nom_error.specs.declared.answer.Needed.{Needed}
+use Rattle.std.proofs.Common.{◌≡◌, ℕ, ◌<◌, Bool, true, false, List, Ok, Err, Option, Some, None, refl, arith}
 use Rattle.nom_error.specs.declared.answer.Needed.TheVariants.{Unknown}
-use Rattle.nom_error.specs.declared.answer.Err as Answer
 use Rattle.nom_error.specs.declared.answer.Err.TheVariants.{Incomplete}
 use Rattle.nom_error.specs.Errors.{Errors}
-use Rattle.nom_error.specs.Modes.{Built}
+use Rattle.nom_error.specs.Modes.{Built, Modes}
 use Rattle.nom_traits.specs.Input.{Seen, IsRest}
 use Rattle.nom_traits.specs.Slices.{Slice, IsFirst, IsSeenAs, place_first}
 use Rattle.nom_search.specs.Substrings.{FindLaws}
@@ -13,17 +11,15 @@ use Rattle.nom_internal.specs.Meaning.{ShowsMeaning}
 use Rattle.nom_internal.proofs.Shown.{accepted, undecided}
 use Rattle.nom_bytes.specs.Untils.{until_meaning}
 
-module _ {I A T E : Type 0} (w : Seen I A) (errs : Errors I E) (Finds : T → List A → Option ℕ → Type 0) (one : Bool) (needle : T) (outputs errors s : Bool) (i : I) where
-  abbrev Shows : Result (I × Option I) (Answer.Err E (Option E) Needed) → Type 0
-  Shows r = ShowsMeaning w (IsSeenAs w) (until_meaning w errs Finds one needle) outputs errors s i r
-
-  pub until_found : (f : FindLaws w Finds) (n : ℕ) (j : I) (x : Option I) → w.IsKnown i → Finds needle (w.elements i) (Some n) → (one ≡ true → 0 < n) → IsRest w i n j → ((t : Slice w) → IsFirst w i n t → Built outputs (IsSeenAs w t) x) → Shows (Ok (j, x))
-  until_found f n j x known a some r built =
+module _ {I A T E : Type 0} {w : Seen I A} (errs : Errors I E) {Finds : T → List A → Option ℕ → Type 0} {one : Bool} {needle : T} {mode : Modes} {i : I} where
+  pub until_found : FindLaws w Finds → {n : ℕ} {j : I} {x : Option I} → w.IsKnown i → Finds needle (w.elements i) (Some n) → (one ≡ true → 0 < n) → IsRest w i n j → ((t : Slice w) → IsFirst w i n t → Built mode.outputs (IsSeenAs w t) x) → ShowsMeaning w (IsSeenAs w) (until_meaning w errs Finds one needle) mode i (Ok (j, x))
+  until_found f {n = n} known a some r built =
       let first = place_first w i n (f.place needle i n known a) in
-      accepted _ _ _ _ _ _ _ _ n _ j x r (first, a, some) (built _ first)
+      accepted _ r (first, a, some) (built _ first)
 
-  pub until_open : s ≡ true → Finds needle (w.elements i) None → Shows (Err (Incomplete Unknown))
-  until_open more a = undecided _ _ _ _ _ _ _ _ None Unknown refl (more, (a, refl))
+module _ {I A T E : Type 0} {w : Seen I A} (errs : Errors I E) (Finds : T → List A → Option ℕ → Type 0) (one : Bool) (needle : T) {mode : Modes} {i : I} where
+  pub until_open : mode.streaming ≡ true → Finds needle (w.elements i) None → ShowsMeaning w (IsSeenAs w) (until_meaning w errs Finds one needle) mode i (Err (Incomplete Unknown))
+  until_open more a = undecided refl (more, (a, refl))
 
 -- where one item isn't asked for, none is
 pub not_one : (n : ℕ) → false ≡ true → 0 < n

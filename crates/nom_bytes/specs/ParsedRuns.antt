@@ -16,13 +16,13 @@ IsWithin (Some most) count = count ≤ most
 IsWithin None count = Unit {0}
 
 -- as many as the bound
-abbrev pub IsFull : Option ℕ → ℕ → Type 0
-IsFull (Some most) count = count ≡ most
-IsFull None count = ⊥
+abbrev pub IsAtBound : Option ℕ → ℕ → Type 0
+IsAtBound (Some most) count = count ≡ most
+IsAtBound None count = ⊥
 
 -- a number of items, with so many behind them, is enough: as many as are wanted at least, or as many as the bound, and an item behind
 abbrev pub IsEnough : (least : ℕ) (bound : Option ℕ) (count behind : ℕ) → Type 0
-IsEnough least bound count behind = (least ≤ count) ⊎ (IsFull bound count × (0 < behind))
+IsEnough least bound count behind = (least ≤ count) ⊎ (IsAtBound bound count × (0 < behind))
 
 -- Test is what the test answers at an item: true where the item meets it.
 module _ {I A : Type 0} (w : Seen I A) (Test : A → Bool → Type 0) (bound : Option ℕ) where
@@ -32,7 +32,7 @@ module _ {I A : Type 0} (w : Seen I A) (Test : A → Bool → Type 0) (bound : O
     pub first : IsFirst w i n t
     pub meets : All (λ x. Test x true) t.items
     pub bounded : IsWithin bound (length t.items)
-    pub stops : Stops (λ x. IsFull bound (length t.items) ⊎ Test x false) first.rest
+    pub stops : Stops (λ x. IsAtBound bound (length t.items) ⊎ Test x false) first.rest
     pub followed : streaming ≡ true → 0 < length first.rest
 
   -- The run, where it is enough, and else a refusal. Where more may come and might make it longer, more is needed: what the input's length

@@ -9,9 +9,9 @@ use Rattle.nom_traits.specs.Slices.{Slice, first_place, same_count}
 use Rattle.nom_internal.specs.Meaning.{IsLawful, IsSteady}
 use Rattle.nom_internal.specs.Leaf.{LeafLaws, leaf_meaning, leaf_lawful, leaf_steady}
 use Rattle.nom_bytes.specs.Predicates.{IsFixed}
-use Rattle.nom_bytes.specs.ParsedRuns.{IsWithin, IsFull, IsEnough, IsRunSlice, runs}
+use Rattle.nom_bytes.specs.ParsedRuns.{IsWithin, IsAtBound, IsEnough, IsRunSlice, runs}
 
-full_most : (bound : Option ℕ) (a b : ℕ) → IsFull bound a → IsWithin bound b → b ≤ a
+full_most : (bound : Option ℕ) (a b : ℕ) → IsAtBound bound a → IsWithin bound b → b ≤ a
 full_most (Some most) a b f h = omega (arith, f, h)
 full_most None a b f h = absurd f
 
@@ -42,7 +42,7 @@ module _ {A : Type 0} (IsValue : A → Type 0) (Test : A → Bool → Type 0) (f
 
   module _ (bound : Option ℕ) where
     -- no front within the bound whose items all meet the test is longer than the run
-    no_longer : (xs front others run rest : List A) → AreValues IsValue xs → xs ≡ front ++ others → All (λ x. Test x true) front → IsWithin bound (length front) → xs ≡ run ++ rest → Stops (λ x. IsFull bound (length run) ⊎ Test x false) rest → length front ≤ length run
+    no_longer : (xs front others run rest : List A) → AreValues IsValue xs → xs ≡ front ++ others → All (λ x. Test x true) front → IsWithin bound (length front) → xs ≡ run ++ rest → Stops (λ x. IsAtBound bound (length run) ⊎ Test x false) rest → length front ≤ length run
     no_longer xs front others run [] a e h b f s = omega (arith, ap length e, ap length f, length-append front others, length-append run [])
     no_longer xs front others run (x ∷ rest) a e h b f (inl s) = full_most bound (length run) (length front) s b
     no_longer xs front others run (x ∷ rest) a e h b f (inr s) = front_within front others run (x ∷ rest) (subst (AreValues IsValue) e a) (sym e ∙ f) h (omega arith) s
@@ -68,7 +68,7 @@ module _ {I A : Type 0} (w : Seen I A) (Test : A → Bool → Type 0) (bound : O
           };
           meets = r.meets;
           bounded = r.bounded;
-          stops = stops_longer (λ z. IsFull bound (length t.items) ⊎ Test z false) r.first.rest e.more followed r.stops;
+          stops = stops_longer (λ z. IsAtBound bound (length t.items) ⊎ Test z false) r.first.rest e.more followed r.stops;
           followed = λ _. after;
         };
         longer_behind = λ _. after;

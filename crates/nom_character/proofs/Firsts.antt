@@ -4,6 +4,7 @@ use Rattle.std.specs.Iterator.{AlwaysYields}
 use Rattle.nom_error.specs.declared.answer.Needed.{Needed}
 use Rattle.nom_error.specs.declared.answer.Err as Answer
 use Rattle.nom_error.specs.Errors.{Errors}
+use Rattle.nom_error.specs.Modes.{Modes}
 use Rattle.nom_traits.specs.Input.{Seen}
 use Rattle.nom_internal.specs.Meaning.{ShowsMeaning}
 use Rattle.nom_character.specs.declared.first.Blame.{Blame}
@@ -24,6 +25,6 @@ first_given w steps s t i None g k = none_given steps s t (w.elements i) g k
 first_given w steps s t i (Some x) g k = let r = some_given steps s t x (w.elements i) g k in record { rest = r.0; whole = r.1 }
 
 -- what is lacking, told in another way
-module _ {I A E : Type 0} (w : Seen I A) (code : A → ℕ) (Test : A → Bool → Type 0) (IsSound : Type 0) (errs : Errors I E) (blame : Blame) (outputs errors s : Bool) (i : I) where
-  pub head_lacking : (k l : Option ℕ) (r : Result (I × Option ℕ) (Answer.Err E (Option E) Needed)) → k ≡ l → ShowsMeaning w (λ t c. c ≡ t) (head_meaning w code Test IsSound errs blame k) outputs errors s i r → ShowsMeaning w (λ t c. c ≡ t) (head_meaning w code Test IsSound errs blame l) outputs errors s i r
-  head_lacking k l r e h = subst (λ z. ShowsMeaning w (λ t c. c ≡ t) (head_meaning w code Test IsSound errs blame z) outputs errors s i r) e h
+module _ {I A E : Type 0} {w : Seen I A} (code : A → ℕ) (Test : A → Bool → Type 0) (IsSound : Type 0) (errs : Errors I E) (blame : Blame) {mode : Modes} {i : I} where
+  pub head_lacking : {k l : Option ℕ} {r : Result (I × Option ℕ) (Answer.Err E (Option E) Needed)} → k ≡ l → ShowsMeaning w (λ t c. c ≡ t) (head_meaning w code Test IsSound errs blame k) mode i r → ShowsMeaning w (λ t c. c ≡ t) (head_meaning w code Test IsSound errs blame l) mode i r
+  head_lacking {r = r} e h = subst (λ z. ShowsMeaning w (λ t c. c ≡ t) (head_meaning w code Test IsSound errs blame z) mode i r) e h

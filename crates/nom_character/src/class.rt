@@ -1,5 +1,6 @@
 //! Runs of the items of a class.
 ghost use Rattle.std.specs.Prelude.{◌≡◌, Option, Some, None, true, false, MatchOption};
+ghost use Rattle.nom_error.specs.Modes.{modes};
 ghost use Rattle.nom_error.specs.Answers.{Refuses};
 ghost use Rattle.nom_error.specs.declared.kind.ErrorKind.{ErrorKind};
 ghost use Rattle.nom_error.specs.declared.kind.ErrorKind.TheVariants as Kind;
@@ -90,7 +91,7 @@ pub(crate) fn class_run<OM: OutputMode, I: Input, E: ParseError<I>>(
 ) -> PResult<I, I, E>
 where
     I::Item: AsChar,
-    ensures { ShowsMeaning I.seen (IsSeenAs I.seen) (class_meaning I.seen I.Item.code E.errors class wanted) OM.Output.BUILDS OM.Error.BUILDS OM.Incomplete.STREAMING input result }
+    ensures { ShowsMeaning I.seen (IsSeenAs I.seen) (class_meaning I.seen I.Item.code E.errors class wanted) (modes OM.Output.BUILDS OM.Error.BUILDS OM.Incomplete.STREAMING) input result }
 {
     match wanted {
         None => class_split::<OM, I, E>(input, class),

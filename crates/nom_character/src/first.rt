@@ -1,7 +1,7 @@
 //! The first item of an input, under a test.
 ghost use Rattle.std.specs.Prelude.{◌≡◌, [], MatchOption};
 ghost use Rattle.nom_error.specs.Answers.{Refuses, size_of};
-ghost use Rattle.nom_error.specs.Modes.{Built};
+ghost use Rattle.nom_error.specs.Modes.{Built, modes};
 ghost use Rattle.nom_traits.specs.Input.{IsRest};
 ghost use Rattle.nom_internal.specs.Meaning.{ShowsMeaning};
 ghost use Rattle.nom_character.specs.Heads.{IsHead, blamed, head_meaning};
@@ -91,7 +91,7 @@ pub(crate) fn first_where<OM: OutputMode, I: Input, P: Predicate<I::Item>, E: Pa
 where
     I::Item: AsChar,
     requires { P.IsSound (P.state test.now) }
-    ensures { ShowsMeaning I.seen (λ t c. c ≡ t) (head_meaning I.seen I.Item.code (P.answers (P.state test.now)) (P.IsSound (P.state test.now)) E.errors blame (size_of lack)) OM.Output.BUILDS OM.Error.BUILDS OM.Incomplete.STREAMING input result }
+    ensures { ShowsMeaning I.seen (λ t c. c ≡ t) (head_meaning I.seen I.Item.code (P.answers (P.state test.now)) (P.IsSound (P.state test.now)) E.errors blame (size_of lack)) (modes OM.Output.BUILDS OM.Error.BUILDS OM.Incomplete.STREAMING) input result }
 {
     match first(input) {
         Some(item) if test.meets(item) => Ok((

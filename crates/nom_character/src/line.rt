@@ -1,5 +1,6 @@
 //! Ends of lines, and the items before them.
 ghost use Rattle.std.specs.Prelude.{◌≡◌, Bool, List, true, false};
+ghost use Rattle.nom_error.specs.Modes.{modes};
 ghost use Rattle.nom_error.specs.Answers.{size_of};
 ghost use Rattle.nom_error.specs.declared.kind.ErrorKind.TheVariants as Kind;
 ghost use Rattle.nom_traits.specs.Slices.{Slice, IsSeenAs};
@@ -38,7 +39,7 @@ fn answer<OM: OutputMode, I: Input, E: ParseError<I>>(
     kind: ErrorKind,
 ) -> PResult<I, I, E>
     requires { (sight : Bool → List I.Item → Sight) × IsSighted I.seen sight OM.Incomplete.STREAMING input found }
-    ensures { (sight : Bool → List I.Item → Sight) → IsSighted I.seen sight OM.Incomplete.STREAMING input found → ShowsMeaning I.seen (IsSeenAs I.seen) (sight_meaning I.seen sight E.errors kind) OM.Output.BUILDS OM.Error.BUILDS OM.Incomplete.STREAMING input result }
+    ensures { (sight : Bool → List I.Item → Sight) → IsSighted I.seen sight OM.Incomplete.STREAMING input found → ShowsMeaning I.seen (IsSeenAs I.seen) (sight_meaning I.seen sight E.errors kind) (modes OM.Output.BUILDS OM.Error.BUILDS OM.Incomplete.STREAMING) input result }
 {
     match found {
         Sighted::Stands(rest) => Ok((rest, before::<OM::Output, I>(input, rest))),

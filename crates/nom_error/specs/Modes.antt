@@ -1,6 +1,28 @@
 -- Values that are built only where a mode asks for them.
 use Rattle.std.specs.Prelude.{◌≡◌, Bool, true, false, Option, Some, None}
 
+-- what is built, and whether more input may come
+pub record Modes : Type 0 where
+  -- outputs are built
+  pub outputs : Bool
+  -- so are the errors of refusals
+  pub errors : Bool
+  -- more input may come
+  pub streaming : Bool
+
+abbrev pub modes : Bool → Bool → Bool → Modes
+modes outputs errors streaming = record { outputs = outputs; errors = errors; streaming = streaming }
+
+-- the same but for one of them
+abbrev pub with_outputs : Bool → Modes → Modes
+with_outputs outputs mode = modes outputs mode.errors mode.streaming
+
+abbrev pub with_errors : Bool → Modes → Modes
+with_errors errors mode = modes mode.outputs errors mode.streaming
+
+abbrev pub with_streaming : Bool → Modes → Modes
+with_streaming streaming mode = modes mode.outputs mode.errors streaming
+
 -- a value with the fact, where values are built, and none elsewhere
 abbrev pub Built : {T : Type 0} → Bool → (T → Type 0) → Option T → Type 0
 Built {T} true P b = (v : T) × (b ≡ Some v) × P v

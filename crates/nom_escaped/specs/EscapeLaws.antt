@@ -93,8 +93,8 @@ escape_rule_laws Gives Grows at = record {
   decided = escape_decided;
   ends = escape_ends;
   blames = λ i k j a P Q e f. on_fault ⊥ (Gives i e) (Gives (at i j) e) a (λ r. f r e);
-  part_frugal = λ Part outputs errors k h. h.0;
-  asks_none = λ Part outputs errors k a h. on_none (outputs ≡ true) ((k ≡ 0) × (errors ≡ true) × Grows) ((errors ≡ true) × Grows) a h.1 (λ p. h.2 p.1 p.2) (λ p. h.2 p.0 p.1);
+  part_frugal = λ Part mode k h. h.0;
+  asks_none = λ Part mode k a h. on_none (mode.outputs ≡ true) ((k ≡ 0) × (mode.errors ≡ true) × Grows) ((mode.errors ≡ true) × Grows) a h.1 (λ p. h.2 p.1 p.2) (λ p. h.2 p.0 p.1);
   never_fails = λ Part large k a h e. (h, escape_fails large k a e);
 }
 

@@ -64,11 +64,10 @@ escape_rule Gives Grows at = record {
   bound = None;
   turn = escape_turn;
   Blames = λ i k j a P e. OnReplied ⊥ (Gives i e) (Gives (at i j) e) (P e) a;
-  outputs = λ b. b;
-  errors = λ _ b. b;
-  Asks = λ outputs errors k. OnReplied (outputs ≡ true) ((k ≡ 0) × (errors ≡ true) × Grows) ((errors ≡ true) × Grows) ⊥;
+  part = λ _ mode. mode;
+  Asks = λ mode k. OnReplied (mode.outputs ≡ true) ((k ≡ 0) × (mode.errors ≡ true) × Grows) ((mode.errors ≡ true) × Grows) ⊥;
   IsSound = λ Part. Part;
-  IsFrugal = λ PartIs outputs errors. PartIs outputs errors × (outputs ≡ true → ⊥) × (errors ≡ true → Grows → ⊥);
+  IsFrugal = λ PartIs mode. PartIs mode × (mode.outputs ≡ true → ⊥) × (mode.errors ≡ true → Grows → ⊥);
   NeverFails = λ Part. Part;
 }
 

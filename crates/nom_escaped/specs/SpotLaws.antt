@@ -1,8 +1,8 @@
 -- The laws of what stands at a place.
-use Rattle.std.specs.Prelude.{◌≡◌, ℕ, ◌<◌, Bool, true, false, List, [], ◌∷◌, ◌++◌, length, Option, Some, None, refl}
+use Rattle.std.specs.Prelude.{◌≡◌, ℕ, Bool, true, false, List, [], ◌∷◌, ◌++◌, length, Option, refl}
 use Rattle.std.proofs.Common.{arith, sym, ◌∙◌, ap, subst, length-append}
-use Rattle.nom_traits.specs.Input.{Seen, InputLaws, IsPlace, IsSame, Related, span}
-use Rattle.nom_traits.specs.Rests.{span-append}
+use Rattle.nom_error.specs.Modes.{Modes}
+use Rattle.nom_traits.specs.Input.{Seen, InputLaws, IsPlace, Related}
 use Rattle.nom_internal.specs.Meaning.{Meaning, IsLawful, IsSteady}
 use Rattle.nom_internal.specs.Leaf.{LeafLaws, leaf_lawful, leaf_steady}
 use Rattle.nom_internal.specs.Success.{place_zero, success_lawful, success_steady}
@@ -12,9 +12,7 @@ use Rattle.nom_internal.specs.ChoiceLaws.{otherwise_lawful, otherwise_steady}
 use Rattle.nom_internal.specs.Cases.{labelled_meaning}
 use Rattle.nom_internal.specs.CaseLaws.{labelled_lawful, labelled_steady}
 use Rattle.nom_escaped.specs.declared.spot.Control.{Control}
-use Rattle.nom_escaped.specs.declared.spot.Piece.{Piece}
 use Rattle.nom_escaped.specs.declared.spot.Piece.TheVariants.{Normal, Escapable}
-use Rattle.nom_escaped.specs.declared.spot.Spot.{Spot}
 use Rattle.nom_escaped.specs.declared.spot.Spot.TheVariants.{Found, Other, Dangling, Done}
 use Rattle.nom_escaped.specs.Spots.{look, IsLeft, left_leaf, StandsOther, StandsLast, StandsBefore, TellsControl, control_leaf, by_control, behind_control, escape_meaning, piece_meaning, by_left, where_left, spot_meaning}
 
@@ -151,10 +149,10 @@ module _ {I A W E : Type 0} (U : Type 0) (w : Seen I A) (g : Meaning I W E) wher
   control_steady q Control.Last = success_steady E w Dangling
   control_steady q (Control.Before u) = labelled_steady w g (λ v. Found (Escapable v)) q
 
-  control_frugal : (outputs errors : Bool) → g.IsFrugal outputs errors → (c : Control (Unit {0})) → (by_control {U = U} g c).IsFrugal outputs errors
-  control_frugal outputs errors h Control.None = λ e z. z
-  control_frugal outputs errors h Control.Last = λ e z. z
-  control_frugal outputs errors h (Control.Before u) = h
+  control_frugal : (mode : Modes) → g.IsFrugal mode → (c : Control (Unit {0})) → (by_control {U = U} g c).IsFrugal mode
+  control_frugal mode h Control.None = λ e z. z
+  control_frugal mode h Control.Last = λ e z. z
+  control_frugal mode h (Control.Before u) = h
 
   control_settles : g.Settles → (c : Control (Unit {0})) → (by_control {U = U} g c).Settles
   control_settles h Control.None = tt
@@ -169,7 +167,7 @@ module _ {I A W E : Type 0} (U : Type 0) (w : Seen I A) (g : Meaning I W E) wher
   pub behind_lawful : IsLawful w g → IsLawfulFamily w AnyKey (behind_control {U = U} g)
   behind_lawful q = record {
     lawful = λ c _. control_lawful q c;
-    frugal = λ outputs errors h c _. control_frugal outputs errors h c;
+    frugal = λ mode h c _. control_frugal mode h c;
     settles = λ h c _. control_settles h c;
     never_fails = λ large h c _. control_never large h c;
   }
@@ -183,9 +181,9 @@ module _ {I A V E : Type 0} (w : Seen I A) (done : V) (m : Meaning I V E) where
   left_steady p true = p
   left_steady p false = success_steady E w done
 
-  left_frugal : (outputs errors : Bool) → m.IsFrugal outputs errors → (b : Bool) → (by_left done m b).IsFrugal outputs errors
-  left_frugal outputs errors h true = h
-  left_frugal outputs errors h false = λ e z. z
+  left_frugal : (mode : Modes) → m.IsFrugal mode → (b : Bool) → (by_left done m b).IsFrugal mode
+  left_frugal mode h true = h
+  left_frugal mode h false = λ e z. z
 
   left_settled : m.Settles → (b : Bool) → (by_left done m b).Settles
   left_settled h true = h
@@ -198,7 +196,7 @@ module _ {I A V E : Type 0} (w : Seen I A) (done : V) (m : Meaning I V E) where
   pub where_left_lawful : IsLawful w m → IsLawfulFamily w AnyKey (where_left done m)
   where_left_lawful p = record {
     lawful = λ b _. left_lawful p b;
-    frugal = λ outputs errors h b _. left_frugal outputs errors h b;
+    frugal = λ mode h b _. left_frugal mode h b;
     settles = λ h b _. left_settled h b;
     never_fails = λ large h b _. left_never large h b;
   }

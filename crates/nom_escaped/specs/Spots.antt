@@ -4,9 +4,9 @@ use Rattle.std.specs.Prelude.{◌≡◌, ℕ, ◌<◌, Bool, true, false, List, 
 use Rattle.nom_error.specs.declared.answer.Needed.{Needed}
 use Rattle.nom_error.specs.declared.answer.Err as Answer
 use Rattle.nom_error.specs.declared.answer.Err.TheVariants.{Incomplete}
-use Rattle.nom_error.specs.Modes.{Built}
+use Rattle.nom_error.specs.Modes.{Built, Modes, with_outputs}
 use Rattle.nom_traits.specs.Input.{Seen, IsRest}
-use Rattle.nom_internal.specs.Outcome.{Outcome, ShowsAnswer}
+use Rattle.nom_internal.specs.Outcome.{ShowsAnswer}
 use Rattle.nom_internal.specs.Meaning.{Meaning}
 use Rattle.nom_internal.specs.Leaf.{Leaf, leaf_meaning}
 use Rattle.nom_internal.specs.Success.{success_meaning}
@@ -138,9 +138,9 @@ module _ {U W O X : Type 0} (outputs : Bool) (IsNormal : U → O → Type 0) (Is
   IsSpot Done b = b ≡ Done
 
 -- what is returned for what stands at i: a spot is there always, and its values where outputs are built
-abbrev pub ShowsSpot : {I A U W O X E : Type 0} → Seen I A → (U → O → Type 0) → (W → X → Type 0) → Bool → Bool → Bool → (A → Type 0) → Option ℕ → Meaning I U E → Meaning I W E → I → Result (I × Option (Spot (Piece (Option O) (Option X)))) (Answer.Err E (Option E) Needed) → Type 0
-ShowsSpot w IsNormal IsEscapable outputs errors s IsControl lack m g i r =
-    ShowsAnswer w (IsSpot outputs IsNormal IsEscapable) true errors i ((spot_meaning w IsControl lack m g).answers s i) ((spot_meaning w IsControl lack m g).blames s i) ((spot_meaning w IsControl lack m g).runs_out outputs errors s i) r
+abbrev pub ShowsSpot : {I A U W O X E : Type 0} → Seen I A → (U → O → Type 0) → (W → X → Type 0) → Modes → (A → Type 0) → Option ℕ → Meaning I U E → Meaning I W E → I → Result (I × Option (Spot (Piece (Option O) (Option X)))) (Answer.Err E (Option E) Needed) → Type 0
+ShowsSpot w IsNormal IsEscapable mode IsControl lack m g i r =
+    ShowsAnswer w (IsSpot mode.outputs IsNormal IsEscapable) (with_outputs true mode) i ((spot_meaning w IsControl lack m g).answers mode.streaming i) ((spot_meaning w IsControl lack m g).blames mode.streaming i) ((spot_meaning w IsControl lack m g).runs_out mode i) r
 
 -- what is returned where an input ends at i
 abbrev pub Lacks : {I T E : Type 0} → Bool → Needed → I → T → Result (I × Option T) (Answer.Err E (Option E) Needed) → Type 0

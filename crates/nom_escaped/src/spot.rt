@@ -1,5 +1,6 @@
 //! What stands at a place of an input with escapes.
 ghost use Rattle.std.specs.Prelude.{◌≡◌, ◌<◌, length, IsSome, Some};
+ghost use Rattle.nom_error.specs.Modes.{modes};
 ghost use Rattle.nom_error.specs.Answers.{size_of};
 ghost use Rattle.nom_escaped.specs.Spots.{IsControlAt, Lacks, ShowsSpot};
 
@@ -92,7 +93,7 @@ where
     I::Item: AsChar,
     requires normal { (F.meaning (F.state normal.old)).IsSound }
     requires escapable { (G.meaning (G.state escapable.old)).IsSound }
-    ensures shown { ShowsSpot I.seen (F.IsOutput (F.state normal.old)) (G.IsOutput (G.state escapable.old)) OM.Output.BUILDS OM.Error.BUILDS OM.Incomplete.STREAMING (λ x. I.Item.code x ≡ control_char) (size_of lack) (F.meaning (F.state normal.old)) (G.meaning (G.state escapable.old)) input result }
+    ensures shown { ShowsSpot I.seen (F.IsOutput (F.state normal.old)) (G.IsOutput (G.state escapable.old)) (modes OM.Output.BUILDS OM.Error.BUILDS OM.Incomplete.STREAMING) (λ x. I.Item.code x ≡ control_char) (size_of lack) (F.meaning (F.state normal.old)) (G.meaning (G.state escapable.old)) input result }
     ensures normal_kept { F.state normal.new ≡ F.state normal.old }
     ensures escapable_kept { G.state escapable.new ≡ G.state escapable.old }
 {

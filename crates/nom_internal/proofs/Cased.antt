@@ -1,8 +1,8 @@
 -- What cases over a part's outcome show, from what the part showed.
-use Rattle.std.proofs.Common.{◌≡◌, ℕ, Bool, true, false, Result, Ok, Err, Option, refl}
+use Rattle.std.proofs.Common.{◌≡◌, ℕ, Bool, Result, Ok, Err, Option, refl}
 use Rattle.nom_error.specs.declared.answer.Needed.{Needed}
 use Rattle.nom_error.specs.declared.answer.Err as Answer
-use Rattle.nom_error.specs.Modes.{Built}
+use Rattle.nom_error.specs.Modes.{Built, Modes, with_outputs, with_streaming}
 use Rattle.nom_traits.specs.Input.{Seen}
 use Rattle.nom_internal.specs.Outcome.{Outcome, Shows, ShowsAnswer}
 use Rattle.nom_internal.specs.Outcome.Outcome.{Accept, Refuse, Fail, TooLarge, Undecided}
@@ -16,62 +16,62 @@ use Rattle.nom_internal.proofs.Shown.{accepts, built_error}
 pub here : {I P : Type 0} {Part : I → Outcome P → Type 0} {Fact : I → Outcome P → Type 0} {i : I} (a : Outcome P) → Part i a → Fact i a → OnPart (λ i j. i ≡ j) Part Fact i
 here {i = i} a p f = record { at = i; at_is = refl; outcome = a; answered = p; fact = f }
 
-module _ {I A P T O X E : Type 0} (w : Seen I A) (IsOutput : P → O → Type 0) (IsResult : T → X → Type 0) (builds : Bool → Bool) (OnAccept : I → ℕ → P → Outcome T → Type 0) (m : Meaning I P E) (outputs errors s : Bool) (i : I) where
-  err_passes : (f : Answer.Err E (Option E) Needed) (o : Outcome P) → m.answers s i o → Shows w IsOutput (builds outputs) errors i (m.blames s i) o (Err f) → ShowsMeaning w IsResult (case_meaning (plain_case builds (λ i. Passes (OnAccept i))) m) outputs errors s i (Err f)
+module _ {I A P T O X E : Type 0} (w : Seen I A) (IsOutput : P → O → Type 0) (IsResult : T → X → Type 0) (builds : Bool → Bool) (OnAccept : I → ℕ → P → Outcome T → Type 0) (m : Meaning I P E) (mode : Modes) (i : I) where
+  err_passes : (f : Answer.Err E (Option E) Needed) (o : Outcome P) → m.answers mode.streaming i o → Shows w IsOutput (with_outputs (builds mode.outputs) mode) i (m.blames mode.streaming i) o (Err f) → ShowsMeaning w IsResult (case_meaning (plain_case builds (λ i. Passes (OnAccept i))) m) mode i (Err f)
   err_passes f (Accept n v) a h = absurd (cc (h.4))
-  err_passes f Refuse a h = Shown Refuse (here Refuse a refl) (h.0, built_error errors _ _ h.0 (λ e b. here Refuse a b) h.1, cc (h.2))
+  err_passes f Refuse a h = Shown Refuse (here Refuse a refl) (h.0, built_error mode.errors _ _ h.0 (λ e b. here Refuse a b) h.1, cc (h.2))
   err_passes f Fail a h = Shown Fail (here Fail a refl) (h.0, here Fail a h.1, cc (h.2))
   err_passes f TooLarge a h = Shown TooLarge (here TooLarge a refl) (h.0, here TooLarge a h.1, cc (h.2))
   err_passes f (Undecided k) a h = Shown (Undecided k) (here (Undecided k) a refl) (h.0, h.1, cc (h.2))
 
   -- whatever isn't an acceptance passes
-  pub plain_err : (f : Answer.Err E (Option E) Needed) → ShowsMeaning w IsOutput m (builds outputs) errors s i (Err f) → ShowsMeaning w IsResult (case_meaning (plain_case builds (λ i. Passes (OnAccept i))) m) outputs errors s i (Err f)
+  pub plain_err : (f : Answer.Err E (Option E) Needed) → ShowsMeaning w IsOutput m (with_outputs (builds mode.outputs) mode) i (Err f) → ShowsMeaning w IsResult (case_meaning (plain_case builds (λ i. Passes (OnAccept i))) m) mode i (Err f)
   plain_err f (RanOut e h) = RanOut (cc (e)) (RunsOutInPart i refl h)
   plain_err f (Shown o a h) = err_passes f o a h
 
-module _ {I A P T O E : Type 0} (w : Seen I A) (label : P → T) (IsOutput : P → O → Type 0) (IsLabelled : T → O → Type 0) (same : (t : P) (o : O) → IsOutput t o → IsLabelled (label t) o) (m : Meaning I P E) (outputs errors s : Bool) (i : I) where
-  labelled_of : (o : Outcome P) (r : Result (I × Option O) (Answer.Err E (Option E) Needed)) → m.answers s i o → Shows w IsOutput outputs errors i (m.blames s i) o r → Shows w IsLabelled outputs errors i ((labelled_meaning label m).blames s i) (labelled label o) r
-  labelled_of (Accept n v) r a h = (h.0, h.1, h.2, built_error outputs _ _ h.1 (λ x p. same v x p) h.3, h.4)
-  labelled_of Refuse r a h = (h.0, built_error errors _ _ h.0 (λ e b. here Refuse a b) h.1, h.2)
+module _ {I A P T O E : Type 0} (w : Seen I A) (label : P → T) (IsOutput : P → O → Type 0) (IsLabelled : T → O → Type 0) (same : (t : P) (o : O) → IsOutput t o → IsLabelled (label t) o) (m : Meaning I P E) (mode : Modes) (i : I) where
+  labelled_of : (o : Outcome P) (r : Result (I × Option O) (Answer.Err E (Option E) Needed)) → m.answers mode.streaming i o → Shows w IsOutput mode i (m.blames mode.streaming i) o r → Shows w IsLabelled mode i ((labelled_meaning label m).blames mode.streaming i) (labelled label o) r
+  labelled_of (Accept n v) r a h = (h.0, h.1, h.2, built_error mode.outputs _ _ h.1 (λ x p. same v x p) h.3, h.4)
+  labelled_of Refuse r a h = (h.0, built_error mode.errors _ _ h.0 (λ e b. here Refuse a b) h.1, h.2)
   labelled_of Fail r a h = (h.0, here Fail a h.1, h.2)
   labelled_of TooLarge r a h = (h.0, here TooLarge a h.1, h.2)
   labelled_of (Undecided k) r a h = h
 
   -- a part, with its trees labelled
-  pub labelled_shown : (r : Result (I × Option O) (Answer.Err E (Option E) Needed)) → ShowsMeaning w IsOutput m outputs errors s i r → ShowsMeaning w IsLabelled (labelled_meaning label m) outputs errors s i r
+  pub labelled_shown : (r : Result (I × Option O) (Answer.Err E (Option E) Needed)) → ShowsMeaning w IsOutput m mode i r → ShowsMeaning w IsLabelled (labelled_meaning label m) mode i r
   labelled_shown r (RanOut e h) = RanOut e (RunsOutInPart i refl h)
   labelled_shown r (Shown o a h) = Shown (labelled label o) (here o a refl) (labelled_of o r a h)
 
-module _ {I A P O E : Type 0} (w : Seen I A) (IsOutput : P → O → Type 0) (mode : Bool) (m : Meaning I P E) (outputs errors s : Bool) (i : I) where
-  fixed_of : (o : Outcome P) (r : Result (I × Option O) (Answer.Err E (Option E) Needed)) → m.answers mode i o → Shows w IsOutput outputs errors i (m.blames mode i) o r → Shows w IsOutput outputs errors i ((fixed_meaning mode m).blames s i) o r
+module _ {I A P O E : Type 0} (w : Seen I A) (IsOutput : P → O → Type 0) (streaming : Bool) (m : Meaning I P E) (mode : Modes) (i : I) where
+  fixed_of : (o : Outcome P) (r : Result (I × Option O) (Answer.Err E (Option E) Needed)) → m.answers streaming i o → Shows w IsOutput mode i (m.blames streaming i) o r → Shows w IsOutput mode i ((fixed_meaning streaming m).blames mode.streaming i) o r
   fixed_of (Accept n v) r a h = h
-  fixed_of Refuse r a h = (h.0, built_error errors _ _ h.0 (λ e b. here Refuse a b) h.1, h.2)
+  fixed_of Refuse r a h = (h.0, built_error mode.errors _ _ h.0 (λ e b. here Refuse a b) h.1, h.2)
   fixed_of Fail r a h = (h.0, here Fail a h.1, h.2)
   fixed_of TooLarge r a h = (h.0, here TooLarge a h.1, h.2)
   fixed_of (Undecided k) r a h = h
 
   -- a part in its one mode
-  pub fixed_shown : (r : Result (I × Option O) (Answer.Err E (Option E) Needed)) → ShowsMeaning w IsOutput m outputs errors mode i r → ShowsMeaning w IsOutput (fixed_meaning mode m) outputs errors s i r
+  pub fixed_shown : (r : Result (I × Option O) (Answer.Err E (Option E) Needed)) → ShowsMeaning w IsOutput m (with_streaming streaming mode) i r → ShowsMeaning w IsOutput (fixed_meaning streaming m) mode i r
   fixed_shown r (RanOut e h) = RanOut e (RunsOutInPart i refl h)
   fixed_shown r (Shown o a h) = Shown o (here o a refl) (fixed_of o r a h)
 
 -- a part with its trees labelled, whose value is told in another form
-module _ {I A P T O X E : Type 0} (w : Seen I A) (label : P → T) (IsOutput : P → O → Type 0) (IsLabelled : T → X → Type 0) (m : Meaning I P E) (outputs built errors s : Bool) (i : I) where
+module _ {I A P T O X E : Type 0} (w : Seen I A) (label : P → T) (IsOutput : P → O → Type 0) (IsLabelled : T → X → Type 0) (m : Meaning I P E) (built : Bool) (mode : Modes) (i : I) where
   abbrev Labels : Result (I × Option X) (Answer.Err E (Option E) Needed) → Type 0
-  Labels = ShowsAnswer w IsLabelled built errors i ((labelled_meaning label m).answers s i) ((labelled_meaning label m).blames s i) ((labelled_meaning label m).runs_out outputs errors s i)
+  Labels = ShowsAnswer w IsLabelled (with_outputs built mode) i ((labelled_meaning label m).answers mode.streaming i) ((labelled_meaning label m).blames mode.streaming i) ((labelled_meaning label m).runs_out mode i)
 
-  labels_passed : (f : Answer.Err E (Option E) Needed) (o : Outcome P) → m.answers s i o → Shows w IsOutput outputs errors i (m.blames s i) o (Err f) → Labels (Err f)
+  labels_passed : (f : Answer.Err E (Option E) Needed) (o : Outcome P) → m.answers mode.streaming i o → Shows w IsOutput mode i (m.blames mode.streaming i) o (Err f) → Labels (Err f)
   labels_passed f (Accept n v) a h = absurd (cc (h.4))
-  labels_passed f Refuse a h = Shown Refuse (here Refuse a refl) (h.0, built_error errors _ _ h.0 (λ e b. here Refuse a b) h.1, cc (h.2))
+  labels_passed f Refuse a h = Shown Refuse (here Refuse a refl) (h.0, built_error mode.errors _ _ h.0 (λ e b. here Refuse a b) h.1, cc (h.2))
   labels_passed f Fail a h = Shown Fail (here Fail a refl) (h.0, here Fail a h.1, cc (h.2))
   labels_passed f TooLarge a h = Shown TooLarge (here TooLarge a refl) (h.0, here TooLarge a h.1, cc (h.2))
   labels_passed f (Undecided k) a h = Shown (Undecided k) (here (Undecided k) a refl) (h.0, h.1, cc (h.2))
 
-  pub labels_err : (f : Answer.Err E (Option E) Needed) → ShowsMeaning w IsOutput m outputs errors s i (Err f) → Labels (Err f)
+  pub labels_err : (f : Answer.Err E (Option E) Needed) → ShowsMeaning w IsOutput m mode i (Err f) → Labels (Err f)
   labels_err f (RanOut e h) = RanOut (cc (e)) (RunsOutInPart i refl h)
   labels_err f (Shown o a h) = labels_passed f o a h
 
-  pub labels_ok : (j : I) (x : Option O) (y : Option X) → ShowsMeaning w IsOutput m outputs errors s i (Ok (j, x)) → ((u : P) → Built outputs (IsOutput u) x → Built built (IsLabelled (label u)) y) → Labels (Ok (j, y))
+  pub labels_ok : (j : I) (x : Option O) (y : Option X) → ShowsMeaning w IsOutput m mode i (Ok (j, x)) → ((u : P) → Built mode.outputs (IsOutput u) x → Built built (IsLabelled (label u)) y) → Labels (Ok (j, y))
   labels_ok j x y h f =
-      let a = accepts w IsOutput outputs errors i (m.answers s i) (m.blames s i) (m.runs_out outputs errors s i) j x h in
+      let a = accepts h in
       Shown (Accept a.length (label a.tree)) (here (Accept a.length a.tree) a.answered refl) (j, y, a.rest_is, f a.tree a.built_is, refl)

@@ -1,40 +1,39 @@
 -- How much of an input lies before a rest of it, and what is shown of the slice before it.
-use Rattle.std.proofs.Common.{◌≡◌, ℕ, ◌+◌, ◌-◌, ◌≤◌, Bool, false, Ok, Err, Option, refl, ap, arith}
+use Rattle.std.proofs.Common.{◌≡◌, ℕ, ◌+◌, ◌-◌, ◌≤◌, false, Ok, Err, Option, refl, ap, arith}
 use Rattle.nom_error.specs.declared.answer.Needed.{Needed}
 use Rattle.nom_error.specs.declared.answer.Err as Answer
-use Rattle.nom_error.specs.Modes.{Built}
+use Rattle.nom_error.specs.Modes.{Built, Modes, with_outputs}
 use Rattle.nom_traits.specs.Input.{Seen, IsRest, input_len, span}
 use Rattle.nom_traits.specs.Rests.{span-append}
 use Rattle.nom_traits.specs.Slices.{Slice, IsFirst, IsSeenAs}
-use Rattle.nom_internal.specs.Outcome.{Outcome, Shows}
-use Rattle.nom_internal.specs.Outcome.Outcome.{Accept, Refuse, Fail, TooLarge, Undecided}
-use Rattle.nom_internal.specs.Outcome.ShowsAnswer.{RanOut, Shown}
+use Rattle.nom_internal.specs.Outcome.Outcome.{Accept}
+use Rattle.nom_internal.specs.Outcome.ShowsAnswer.{Shown}
 use Rattle.nom_internal.specs.Meaning.{Meaning, ShowsMeaning}
 use Rattle.nom_internal.specs.Recognized.{IsSliced, recognized_meaning}
 use Rattle.nom_internal.proofs.Cased.{here, plain_err}
 use Rattle.nom_internal.proofs.Shown.{accepts}
 
-module _ {I A : Type 0} (w : Seen I A) where
-  pub rest_length : (i : I) (n : ℕ) (j : I) → IsRest w i n j → input_len w i ≡ n + input_len w j
-  rest_length i n j p = omega (arith, ap (λ xs. span w.weight xs) p.whole, span-append w.weight p.front (w.elements j), p.length_is)
+module _ {I A : Type 0} {w : Seen I A} {i : I} {n : ℕ} {j : I} where
+  pub rest_length : IsRest w i n j → input_len w i ≡ n + input_len w j
+  rest_length p = omega (arith, ap (λ xs. span w.weight xs) p.whole, span-append w.weight p.front (w.elements j), p.length_is)
 
-  pub rest_within : (i j : I) (a b n : ℕ) → IsRest w i n j → a ≡ input_len w i → b ≡ input_len w j → b ≤ a
-  rest_within i j a b n r x y = omega (arith, rest_length i n j r)
+  pub rest_within : {a b : ℕ} → IsRest w i n j → a ≡ input_len w i → b ≡ input_len w j → b ≤ a
+  rest_within r x y = omega (arith, rest_length r, x, y)
 
-  pub before_length : (i j : I) (a b n : ℕ) → IsRest w i n j → a ≡ input_len w i → b ≡ input_len w j → n ≡ a - b
-  before_length i j a b n r x y = omega (arith, rest_length i n j r)
+  pub before_length : {a b : ℕ} → IsRest w i n j → a ≡ input_len w i → b ≡ input_len w j → n ≡ a - b
+  before_length r x y = omega (arith, rest_length r, x, y)
 
   -- the slice before a rest
-  pub slice_before : (i j : I) (n : ℕ) → IsRest w i n j → (t : Slice w) × IsFirst w i n t
-  slice_before i j n r = (record { items = r.front; mark = w.mark i }, record { rest = w.elements j; whole = r.whole; length_is = r.length_is; mark_is = refl })
+  pub slice_before : IsRest w i n j → (t : Slice w) × IsFirst w i n t
+  slice_before r = (record { items = r.front; mark = w.mark i }, record { rest = w.elements j; whole = r.whole; length_is = r.length_is; mark_is = refl })
 
 -- what a part shows whose outputs aren't built, as the slice that it consumed
-module _ {I A V O E : Type 0} (w : Seen I A) (IsOutput : V → O → Type 0) (m : Meaning I V E) (outputs errors s : Bool) (i : I) where
-  pub recognized_err : (f : Answer.Err E (Option E) Needed) → ShowsMeaning w IsOutput m false errors s i (Err f) → ShowsMeaning w (IsSeenAs w) (recognized_meaning w m) outputs errors s i (Err f)
-  recognized_err f h = plain_err w IsOutput (IsSeenAs w) (λ _. false) (λ i n u. IsSliced w i n) m outputs errors s i f h
+module _ {I A V O E : Type 0} (w : Seen I A) (IsOutput : V → O → Type 0) (m : Meaning I V E) (mode : Modes) (i : I) where
+  pub recognized_err : (f : Answer.Err E (Option E) Needed) → ShowsMeaning w IsOutput m (with_outputs false mode) i (Err f) → ShowsMeaning w (IsSeenAs w) (recognized_meaning w m) mode i (Err f)
+  recognized_err f h = plain_err w IsOutput (IsSeenAs w) (λ _. false) (λ i n u. IsSliced w i n) m mode i f h
 
-  pub recognized_ok : (j : I) (x : Option O) (b : Option I) → ShowsMeaning w IsOutput m false errors s i (Ok (j, x)) → ((n : ℕ) (t : Slice w) → IsRest w i n j → IsFirst w i n t → Built outputs (IsSeenAs w t) b) → ShowsMeaning w (IsSeenAs w) (recognized_meaning w m) outputs errors s i (Ok (j, b))
+  pub recognized_ok : (j : I) (x : Option O) (b : Option I) → ShowsMeaning w IsOutput m (with_outputs false mode) i (Ok (j, x)) → ((n : ℕ) (t : Slice w) → IsRest w i n j → IsFirst w i n t → Built mode.outputs (IsSeenAs w t) b) → ShowsMeaning w (IsSeenAs w) (recognized_meaning w m) mode i (Ok (j, b))
   recognized_ok j x b h f =
-      let a = accepts w IsOutput false errors i (m.answers s i) (m.blames s i) (m.runs_out false errors s i) j x h in
-      let t = slice_before w i j a.length a.rest_is in
+      let a = accepts h in
+      let t = slice_before a.rest_is in
       Shown (Accept a.length t.0) (here (Accept a.length a.tree) a.answered (t.0, t.1, refl)) (j, b, a.rest_is, f a.length t.0 a.rest_is t.1, refl)

@@ -1,12 +1,12 @@
 -- What is shown of an input that grows.
-use Rattle.std.proofs.Common.{◌≡◌, ℕ, ◌+◌, ◌-◌, ◌<◌, ◌≤◌, ◌++◌, true, false, List, length, slice_index, Result, Ok, Err, Option, sym, ◌∙◌, ap, subst, refl, arith, append_assoc, ◌⊎◌, inl, inr}
+use Rattle.std.proofs.Common.{◌≡◌, ℕ, ◌-◌, ◌<◌, ◌++◌, true, false, List, length, slice_index, Result, Ok, Err, Option, sym, ◌∙◌, ap, subst, refl, arith, append_assoc, ◌⊎◌, inl, inr}
 use Rattle.nom_error.specs.declared.answer.Needed.{Needed}
 use Rattle.nom_error.specs.declared.answer.Err as Answer
 use Rattle.nom_error.specs.declared.answer.Err.TheVariants.{Incomplete, OutOfMemory}
 use Rattle.nom_error.specs.Answers.{size_of}
 use Rattle.nom_internal.specs.Results.{AsksForMore, HasRests, WithRest}
-use Rattle.nom_traits.specs.Input.{Seen, InputLaws, IsPlace, IsFront, IsRest, span, input_len}
-use Rattle.nom_traits.specs.Rests.{same_self, same_front, rest_related, span-append}
+use Rattle.nom_traits.specs.Input.{Seen, InputLaws, IsPlace, IsFront, IsRest, input_len}
+use Rattle.nom_traits.specs.Rests.{same_self, same_front, rest_related}
 use Rattle.nom_traits.specs.View.{View}
 use Rattle.nom_internal.specs.Pinned.{IsPinned}
 use Rattle.nom_internal.specs.Promises.{IsOfWhole}
@@ -14,36 +14,27 @@ use Rattle.nom_internal.specs.Outcome.{Outcome, Parses, ParsesAnswer, IsDecided}
 use Rattle.nom_internal.specs.Outcome.Outcome.{Accept, Refuse, Fail, TooLarge, Undecided}
 use Rattle.nom_internal.specs.Outcome.ParsesAnswer.{ParseRanOut, Parsed}
 use Rattle.nom_internal.specs.Meaning.{Meaning, IsLawful, IsSteady, ParsesMeaning}
+use Rattle.nom_internal.proofs.Consumed.{before_length}
 use Rattle.nom_internal.specs.Growing.{Waits, AnswersOn, IsGrown, AgreesWithWhole}
 use Rattle.nom_internal.specs.Growing.IsBeginning.{AtCut, AtEnd}
 use Rattle.nom_internal.specs.Growing.AnswersOn.{RanOutOn, ShownOn}
 
--- a rest in a beginning, by its length
-module _ {I A : Type 0} (w : Seen I A) (x j : I) (n a b : ℕ) (p : IsRest w x n j) (e : a ≡ input_len w x) (f : b ≡ input_len w j) where
-  rest_length : n + b ≡ a
-  rest_length = omega (arith, ap (λ xs. span w.weight xs) p.whole, span-append w.weight p.front (w.elements j), p.length_is)
-
-  pub rest_fits : b ≤ a
-  rest_fits = omega (arith, rest_length)
-
-  pub rest_starts : a - b ≡ n
-  rest_starts = omega (arith, rest_length)
-
-  pub rest_place_in : (whole : I) (cut : ℕ) → IsFront w whole cut x → IsPlace w whole (a - b)
-  rest_place_in whole cut q = record {
-    front = p.front;
-    rest = w.elements j ++ q.rest;
-    whole = q.whole ∙ (ap (λ xs. xs ++ q.rest) p.whole ∙ append_assoc p.front (w.elements j) q.rest);
-    length_is = p.length_is ∙ sym rest_starts;
-  }
+-- the place in the whole where a rest in a beginning starts
+pub rest_place_in : {I A : Type 0} {w : Seen I A} {x j : I} {n a b : ℕ} {whole : I} {cut : ℕ} → IsRest w x n j → a ≡ input_len w x → b ≡ input_len w j → IsFront w whole cut x → IsPlace w whole (a - b)
+rest_place_in {w = w} {j = j} p e f q = record {
+  front = p.front;
+  rest = w.elements j ++ q.rest;
+  whole = q.whole ∙ (ap (λ xs. xs ++ q.rest) p.whole ∙ append_assoc p.front (w.elements j) q.rest);
+  length_is = p.length_is ∙ before_length p e f;
+}
 
 -- the acceptance on a beginning, with the rest of the whole at its place
-pub accepts_in_whole : {I A O E : Type 0} (w : Seen I A) (x whole rest k : I) (output : O) (a b : ℕ) (r : Result (I × O) (Answer.Err E E Needed)) → r ≡ Ok (rest, output) → a ≡ input_len w x → b ≡ input_len w rest → IsRest w whole (a - b) k → WithRest (IsRest w x) (IsRest w whole) r (Ok (k, output))
-accepts_in_whole {I} {A} {O} {E} w x whole rest k output a b r was e f q = record {
+pub accepts_in_whole : {I A O E : Type 0} {w : Seen I A} {x whole rest k : I} {output : O} {a b : ℕ} {r : Result (I × O) (Answer.Err E E Needed)} → r ≡ Ok (rest, output) → a ≡ input_len w x → b ≡ input_len w rest → IsRest w whole (a - b) k → WithRest (IsRest w x) (IsRest w whole) r (Ok (k, output))
+accepts_in_whole {I = I} {O = O} {w = w} {x = x} {whole = whole} {rest = rest} {k = k} {output = output} was e f q = record {
   accepts = λ j v n h p.
       let same : ◌≡◌ {A = I × O} (rest, output) (j, v) = cc (was, h) in
       let here : IsRest w x n rest = subst (λ i. IsRest w x n i) (sym (ap (λ t. t.0) same)) p in
-      (k, subst (λ t. IsRest w whole t k) (rest_starts w x rest n a b here e f) q, ap (λ u. Ok (k, u)) (ap (λ t. t.1) same));
+      (k, subst (λ t. IsRest w whole t k) (sym (before_length here e f)) q, ap (λ u. Ok (k, u)) (ap (λ t. t.1) same));
   else_same = λ u h. cc (was, h);
 }
 
@@ -85,8 +76,8 @@ module _ {I A V O E : Type 0} (w : Seen I A) (IsOutput : V → O → Type 0) (Is
   rest_answered Answers RunsOut j v (ParseRanOut e h) = cc
   rest_answered Answers RunsOut j v (Parsed o a s) = rest_of o j v s
 
-  pub rest_shown : (Answers : Outcome V → Type 0) (RunsOut : Type 0) (r : Result (I × O) (Answer.Err E E Needed)) → ParsesAnswer w IsOutput x Answers IsError RunsOut r → HasRests (λ j. (n : ℕ) × IsRest w x n j) r
-  rest_shown Answers RunsOut r s j v e = rest_answered Answers RunsOut j v (subst (λ t. ParsesAnswer w IsOutput x Answers IsError RunsOut t) e s)
+pub rest_shown : {I A V O E : Type 0} {w : Seen I A} {IsOutput : V → O → Type 0} {IsError : E → Type 0} {x : I} {Answers : Outcome V → Type 0} {RunsOut : Type 0} {r : Result (I × O) (Answer.Err E E Needed)} → ParsesAnswer w IsOutput x Answers IsError RunsOut r → HasRests (λ j. (n : ℕ) × IsRest w x n j) r
+rest_shown {w = w} {IsOutput = IsOutput} {IsError = IsError} {x = x} {Answers = Answers} {RunsOut = RunsOut} s j v e = rest_answered w IsOutput IsError x Answers RunsOut j v (subst (λ t. ParsesAnswer w IsOutput x Answers IsError RunsOut t) e s)
 
 -- what is shown at one state is shown at an equal one
 pub shown_along : {I A V O E State : Type 0} (w : Seen I A) (IsOutput : State → V → O → Type 0) (meaning : State → Meaning I V E) (x : I) (r : Result (I × O) (Answer.Err E E Needed)) (s t : State) → s ≡ t → ParsesMeaning w (IsOutput s) (meaning s) true x r → ParsesMeaning w (IsOutput t) (meaning t) true x r

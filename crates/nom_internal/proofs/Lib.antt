@@ -2,5 +2,4 @@ pub mod Cased
 pub mod Choices
 pub mod Consumed
 pub mod Grown
-pub mod InSequence
 pub mod Shown

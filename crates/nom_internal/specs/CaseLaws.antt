@@ -1,13 +1,14 @@
 -- The laws of cases over one part's outcome.
 use Rattle.std.specs.Prelude.{◌≡◌, ℕ, Bool, true, false, not, refl}
 use Rattle.std.proofs.Common.{sym, ◌∙◌, ap, subst}
+use Rattle.nom_error.specs.Modes.{Modes}
 use Rattle.nom_traits.specs.Input.{Seen, IsPlace, IsSame, Related}
-use Rattle.nom_traits.specs.Rests.{same_self, same_sym}
+use Rattle.nom_traits.specs.Rests.{same_self}
 use Rattle.nom_internal.specs.Outcome.{Outcome, IsDecided, failure}
 use Rattle.nom_internal.specs.Outcome.Outcome.{Accept, Refuse, Fail, TooLarge, Undecided}
 use Rattle.nom_internal.specs.Meaning.{Meaning, IsLawful, IsSteady, Keeps, Agree, Carries, Within, SameBlame}
-use Rattle.nom_internal.specs.PartLaws.{Transfers, transfers, transferred}
-use Rattle.nom_internal.specs.Cases.{PartMode, mode_of, SettlesIn, Case, OnPart, case_meaning, Passes, plain_case, labelled, labelled_meaning, fixed_case, fixed_meaning, Closed, OnRefused, closed_case, closed_meaning}
+use Rattle.nom_internal.specs.PartLaws.{keeps_mapped, failure_mapped, Transfers, transfers, transferred}
+use Rattle.nom_internal.specs.Cases.{PartMode, mode_of, SettlesIn, Case, OnPart, case_meaning, plain_case, labelled, labelled_meaning, fixed_case, fixed_meaning, Closed, OnRefused, closed_case, closed_meaning}
 use Rattle.nom_internal.specs.Cases.PartMode.{AsAsked, Always}
 use Rattle.nom_internal.specs.Cases.CaseRunsOut.{RunsOutInPart, RunsOutBeside}
 
@@ -31,8 +32,8 @@ pub record CaseLaws {I A J B P T E F : Type 0} (w : Seen I A) (v : Seen J B) (c 
   pub never_fails : (Part : Bool → Type 0) (large : Bool) (i : I) (a : Outcome P) → c.NeverFails Part large → c.Becomes i a (failure large) → Part large × (a ≡ failure large)
   -- the part's errors stand for themselves
   pub blames : (i : I) (a : Outcome P) (X Y : E → Type 0) (e : F) → ((f : E) → X f → Y f) → c.Blames i a X e → c.Blames i a Y e
-  pub part_frugal : (Part : Bool → Bool → Type 0) (outputs errors : Bool) → c.IsFrugal Part outputs errors → Part (c.outputs outputs) (c.errors errors)
-  pub asks_none : (Part : Bool → Bool → Type 0) (outputs errors : Bool) (i : I) (a : Outcome P) → c.IsFrugal Part outputs errors → c.Asks outputs errors i a → ⊥
+  pub part_frugal : (Part : Modes → Type 0) (mode : Modes) → c.IsFrugal Part mode → Part (c.part mode)
+  pub asks_none : (Part : Modes → Type 0) (mode : Modes) (i : I) (a : Outcome P) → c.IsFrugal Part mode → c.Asks mode i a → ⊥
 
 module _ {I A J B P T E F : Type 0} (w : Seen I A) (v : Seen J B) (c : Case I J P T E F) (l : CaseLaws w v c) where
   keeps_part : (longer : Bool) → (longer ≡ true → Streams c.mode) → (i : I) (a : Outcome P) (o : Outcome T) → c.Becomes i a o → Keeps longer o → Keeps longer a
@@ -74,9 +75,9 @@ module _ {I A J B P T E F : Type 0} (w : Seen I A) (v : Seen J B) (c : Case I J 
       }
 
   module _ (m : Meaning J P E) (p : IsLawful v m) where
-    case_frugal : (outputs errors s : Bool) (i : I) → w.IsKnown i → c.IsFrugal m.IsFrugal outputs errors → (case_meaning c m).runs_out outputs errors s i → ⊥
-    case_frugal outputs errors s i h g (RunsOutInPart j q r) = p.frugal (c.outputs outputs) (c.errors errors) (mode_of c.mode s) j (l.at_known i j h q) (l.part_frugal m.IsFrugal outputs errors g) r
-    case_frugal outputs errors s i h g (RunsOutBeside r) = l.asks_none m.IsFrugal outputs errors i r.outcome g r.fact
+    case_frugal : (mode : Modes) (i : I) → w.IsKnown i → c.IsFrugal m.IsFrugal mode → (case_meaning c m).runs_out mode i → ⊥
+    case_frugal mode i h g (RunsOutInPart j q r) = p.frugal (c.part mode) j (l.at_known i j h q) (l.part_frugal m.IsFrugal mode g) r
+    case_frugal mode i h g (RunsOutBeside r) = l.asks_none m.IsFrugal mode i r.outcome g r.fact
 
     case_never : (large : Bool) → c.NeverFails m.NeverFails large → (s : Bool) (i : I) → w.IsKnown i → (case_meaning c m).answers s i (failure large) → ⊥
     case_never large g s i h a =
@@ -138,33 +139,14 @@ pub record IsOutcomeMap {P T : Type 0} (f : Outcome P → Outcome T) : Type 0 wh
   pub fails : (large : Bool) (a : Outcome P) → failure large ≡ f a → a ≡ failure large
 
 pub labels : {P T : Type 0} (label : P → T) → IsOutcomeMap (labelled label)
-labels {P} {T} label = record { keeps = keeps; accepts = accepts; fails = fails }
+labels {P} {T} label = record { keeps = λ a. keeps_mapped true (λ n. n) label a; accepts = accepts; fails = λ large a. failure_mapped large (λ n. n) label a }
   where
-    keeps : (a : Outcome P) → IsDecided (labelled label a) → IsDecided a
-    keeps (Accept n v) d = tt
-    keeps Refuse d = tt
-    keeps Fail d = tt
-    keeps TooLarge d = d
-    keeps (Undecided k) d = d
-
     accepts : (a : Outcome P) (n : ℕ) (t : T) → Accept n t ≡ labelled label a → (u : P) × (a ≡ Accept n u)
     accepts (Accept m u) n t e = let same : n ≡ m = cc in (u, ap (λ z. Accept z u) (sym same))
     accepts Refuse n t e = cc
     accepts Fail n t e = cc
     accepts TooLarge n t e = cc
     accepts (Undecided k) n t e = cc
-
-    fails : (large : Bool) (a : Outcome P) → failure large ≡ labelled label a → a ≡ failure large
-    fails true (Accept m u) e = cc
-    fails true Refuse e = cc
-    fails true Fail e = cc
-    fails true TooLarge e = refl
-    fails true (Undecided k) e = cc
-    fails false (Accept m u) e = cc
-    fails false Refuse e = cc
-    fails false Fail e = refl
-    fails false TooLarge e = cc
-    fails false (Undecided k) e = cc
 
 pub passes_all : {P : Type 0} → IsOutcomeMap {P = P} (λ a. a)
 passes_all = record {
@@ -192,8 +174,8 @@ module _ {I A P : Type 0} (w : Seen I A) where
     place = λ i j a n t h e place b. map_place w (labelled label) (labels label) i j a n t e place b;
     never_fails = λ Part large i a g e. (g, (labels label).fails large a e);
     blames = λ i a X Y e f. f e;
-    part_frugal = λ Part outputs errors h. h;
-    asks_none = λ Part outputs errors i a h g. g;
+    part_frugal = λ Part mode h. h;
+    asks_none = λ Part mode i a h g. g;
   }
 
   pub fixed_laws : {E : Type 0} (mode : Bool) → CaseLaws {E = E} w w (fixed_case {P = P} mode)
@@ -207,8 +189,8 @@ module _ {I A P : Type 0} (w : Seen I A) where
     place = λ i j a n t h e place b. map_place w (λ a. a) passes_all i j a n t e place b;
     never_fails = λ Part large i a g e. (g, sym e);
     blames = λ i a X Y e f. f e;
-    part_frugal = λ Part outputs errors h. h;
-    asks_none = λ Part outputs errors i a h g. g;
+    part_frugal = λ Part mode h. h;
+    asks_none = λ Part mode i a h g. g;
   }
 
   closed_more : {E : Type 0} (Closes : E → E → Type 0) (a : Outcome P) (X Y : E → Type 0) (e : E) → ((f : E) → X f → Y f) → Closed Closes a X e → Closed Closes a Y e
@@ -236,8 +218,8 @@ module _ {I A P : Type 0} (w : Seen I A) where
     place = λ i j a n t h e place b. map_place w (λ a. a) passes_all i j a n t e place b;
     never_fails = λ Part large i a g e. (g, sym e);
     blames = λ i a X Y e f. closed_more (Closes i) a X Y e f;
-    part_frugal = λ Part outputs errors h. h.0;
-    asks_none = λ Part outputs errors i a h g. refused_only ((errors ≡ true) × Grows) a (λ z. h.1 z.0 z.1) g;
+    part_frugal = λ Part mode h. h.0;
+    asks_none = λ Part mode i a h g. refused_only ((mode.errors ≡ true) × Grows) a (λ z. h.1 z.0 z.1) g;
   }
 
 module _ {I A P E : Type 0} (w : Seen I A) (m : Meaning I P E) where

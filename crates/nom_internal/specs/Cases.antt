@@ -1,6 +1,7 @@
 -- Cases over one part's outcome: what it becomes, with which error, where memory is asked for, what is built, in which mode.
 use Rattle.std.specs.Prelude.{◌≡◌, ℕ, Bool, true}
-use Rattle.nom_internal.specs.Outcome.{Outcome}
+use Rattle.nom_error.specs.Modes.{Modes, with_outputs, with_streaming}
+use Rattle.nom_internal.specs.Outcome.{Outcome, mapped}
 use Rattle.nom_internal.specs.Outcome.Outcome.{Accept, Refuse, Fail, TooLarge, Undecided}
 use Rattle.nom_internal.specs.Meaning.{Meaning}
 
@@ -27,14 +28,13 @@ pub record Case (I J P T E F : Type 0) : Type 1 where
   pub Becomes : I → Outcome P → Outcome T → Type 0
   -- the error, by the part's outcome and by its errors
   pub Blames : I → Outcome P → (E → Type 0) → F → Type 0
-  -- does the part build its outputs, and its errors, by whether the whole does
-  pub outputs : Bool → Bool
-  pub errors : Bool → Bool
-  -- may memory be asked for beside the part: are outputs built, are errors built, by the part's outcome
-  pub Asks : Bool → Bool → I → Outcome P → Type 0
+  -- what the part builds, and in which mode, by what the whole does
+  pub part : Modes → Modes
+  -- may memory be asked for beside the part, by what is built and by the part's outcome
+  pub Asks : Modes → I → Outcome P → Type 0
   -- by what holds of the part
   pub IsSound : Type 0 → Type 0
-  pub IsFrugal : (Bool → Bool → Type 0) → Bool → Bool → Type 0
+  pub IsFrugal : (Modes → Type 0) → Modes → Type 0
   pub NeverFails : (Bool → Type 0) → Bool → Type 0
 
 -- the part runs at an input of its own, and of that and its outcome the fact holds
@@ -55,7 +55,7 @@ case_meaning c m = record {
   IsSound = c.IsSound m.IsSound;
   answers = λ s i o. OnPart c.At (m.answers (mode_of c.mode s)) (λ _ a. c.Becomes i a o) i;
   blames = λ s i e. OnPart c.At (m.answers (mode_of c.mode s)) (λ j a. c.Blames i a (m.blames (mode_of c.mode s) j) e) i;
-  runs_out = λ outputs errors s. CaseRunsOut c.At (m.answers (mode_of c.mode s)) (m.runs_out (c.outputs outputs) (c.errors errors) (mode_of c.mode s)) (c.Asks outputs errors);
+  runs_out = λ mode. CaseRunsOut c.At (m.answers (mode_of c.mode mode.streaming)) (m.runs_out (c.part mode)) (c.Asks mode);
   IsFrugal = c.IsFrugal m.IsFrugal;
   Settles = SettlesIn c.mode m.Settles;
   NeverFails = c.NeverFails m.NeverFails;
@@ -77,21 +77,16 @@ plain_case outputs Becomes = record {
   mode = AsAsked;
   Becomes = Becomes;
   Blames = λ i a P. P;
-  outputs = outputs;
-  errors = λ b. b;
-  Asks = λ _ _ i a. ⊥;
+  part = λ mode. with_outputs (outputs mode.outputs) mode;
+  Asks = λ _ i a. ⊥;
   IsSound = λ Part. Part;
-  IsFrugal = λ Part outputs' errors. Part (outputs outputs') errors;
+  IsFrugal = λ Part mode. Part (with_outputs (outputs mode.outputs) mode);
   NeverFails = λ Part. Part;
 }
 
 -- an outcome with its tree labelled
 abbrev pub labelled : {P T : Type 0} → (P → T) → Outcome P → Outcome T
-labelled label (Accept n v) = Accept n (label v)
-labelled label Refuse = Refuse
-labelled label Fail = Fail
-labelled label TooLarge = TooLarge
-labelled label (Undecided k) = Undecided k
+labelled = mapped (λ n. n)
 
 -- a part with its trees labelled: as a branch, by which it is
 abbrev pub labelled_meaning : {I P T E : Type 0} → (P → T) → Meaning I P E → Meaning I T E
@@ -104,11 +99,10 @@ fixed_case mode = record {
   mode = Always mode;
   Becomes = λ i a o. o ≡ a;
   Blames = λ i a P. P;
-  outputs = λ b. b;
-  errors = λ b. b;
-  Asks = λ _ _ i a. ⊥;
+  part = with_streaming mode;
+  Asks = λ _ i a. ⊥;
   IsSound = λ Part. Part;
-  IsFrugal = λ Part. Part;
+  IsFrugal = λ Part asked. Part (with_streaming mode asked);
   NeverFails = λ Part. Part;
 }
 
@@ -138,11 +132,10 @@ closed_case Closes Grows = record {
   mode = AsAsked;
   Becomes = λ i a o. o ≡ a;
   Blames = λ i. Closed (Closes i);
-  outputs = λ b. b;
-  errors = λ b. b;
-  Asks = λ outputs errors i. OnRefused ((errors ≡ true) × Grows);
+  part = λ mode. mode;
+  Asks = λ mode i. OnRefused ((mode.errors ≡ true) × Grows);
   IsSound = λ Part. Part;
-  IsFrugal = λ Part outputs errors. Part outputs errors × (errors ≡ true → Grows → ⊥);
+  IsFrugal = λ Part mode. Part mode × (mode.errors ≡ true → Grows → ⊥);
   NeverFails = λ Part. Part;
 }
 

@@ -1,7 +1,8 @@
 -- The laws of choices.
-use Rattle.std.specs.Prelude.{◌≡◌, ℕ, Bool, true, false, not, ◌⊎◌}
+use Rattle.std.specs.Prelude.{◌≡◌, Bool, true, false, not, ◌⊎◌}
 use Rattle.std.proofs.Common.{sym, ◌∙◌, subst, inl, inr}
-use Rattle.nom_traits.specs.Input.{Seen, IsPlace, IsSame}
+use Rattle.nom_error.specs.Modes.{Modes, with_errors}
+use Rattle.nom_traits.specs.Input.{Seen, IsPlace}
 use Rattle.nom_traits.specs.Rests.{same_self}
 use Rattle.nom_internal.specs.Outcome.{Outcome, IsDecided, IsFailure, IsFault, OnOutcome, failure}
 use Rattle.nom_internal.specs.Outcome.Outcome.{Accept, Refuse, Fail, TooLarge, Undecided}
@@ -109,17 +110,17 @@ module _ {I A V E : Type 0} (w : Seen I A) (a b : Meaning I V E) (p : IsLawful w
     otherwise_blames_too e (FirstFaults f) = FirstFaults (first_too e f)
     otherwise_blames_too e (NextFaults r f) = NextFaults (refused_too r) (next_too IsFault e r f)
 
-  next_frugal : (Grows : Type 0) (outputs errors s : Bool) (i : I) → w.IsKnown i → b.IsFrugal outputs errors → (errors ≡ true → Grows → ⊥) → NextRunsOut Grows b outputs errors s i → ⊥
-  next_frugal Grows outputs errors s i h f g (inl r) = q.frugal outputs errors s i h f r
-  next_frugal Grows outputs errors s i h f g (inr r) = g r.1 r.2
+  next_frugal : (Grows : Type 0) (mode : Modes) (i : I) → w.IsKnown i → b.IsFrugal mode → (mode.errors ≡ true → Grows → ⊥) → NextRunsOut Grows b mode i → ⊥
+  next_frugal Grows mode i h f g (inl r) = q.frugal mode i h f r
+  next_frugal Grows mode i h f g (inr r) = g r.1 r.2
 
-  or_frugal : (Joins : E → E → E → Type 0) (Grows : Type 0) (outputs errors s : Bool) (i : I) → w.IsKnown i → a.IsFrugal outputs errors × b.IsFrugal outputs errors × (errors ≡ true → Grows → ⊥) → (or_meaning Joins Grows a b).runs_out outputs errors s i → ⊥
-  or_frugal Joins Grows outputs errors s i h f (inl r) = p.frugal outputs errors s i h f.0 r
-  or_frugal Joins Grows outputs errors s i h f (inr r) = next_frugal Grows outputs errors s i h f.1 f.2 r.1
+  or_frugal : (Joins : E → E → E → Type 0) (Grows : Type 0) (mode : Modes) (i : I) → w.IsKnown i → a.IsFrugal mode × b.IsFrugal mode × (mode.errors ≡ true → Grows → ⊥) → (or_meaning Joins Grows a b).runs_out mode i → ⊥
+  or_frugal Joins Grows mode i h f (inl r) = p.frugal mode i h f.0 r
+  or_frugal Joins Grows mode i h f (inr r) = next_frugal Grows mode i h f.1 f.2 r.1
 
-  otherwise_frugal : (outputs errors s : Bool) (i : I) → w.IsKnown i → a.IsFrugal outputs false × b.IsFrugal outputs errors → (otherwise_meaning a b).runs_out outputs errors s i → ⊥
-  otherwise_frugal outputs errors s i h f (inl r) = p.frugal outputs false s i h f.0 r
-  otherwise_frugal outputs errors s i h f (inr r) = q.frugal outputs errors s i h f.1 r.1
+  otherwise_frugal : (mode : Modes) (i : I) → w.IsKnown i → a.IsFrugal (with_errors false mode) × b.IsFrugal mode → (otherwise_meaning a b).runs_out mode i → ⊥
+  otherwise_frugal mode i h f (inl r) = p.frugal (with_errors false mode) i h f.0 r
+  otherwise_frugal mode i h f (inr r) = q.frugal mode i h f.1 r.1
 
   pub or_lawful : (Joins : E → E → E → Type 0) (Grows : Type 0) → IsLawful w (or_meaning Joins Grows a b)
   or_lawful Joins Grows = record {

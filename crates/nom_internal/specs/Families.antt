@@ -1,16 +1,15 @@
 -- Meanings by a key: what follows a part, by the part's tree; or a part of a repetition, by the number of items before it.
-use Rattle.std.specs.Prelude.{◌≡◌, Bool, true, not, refl}
-use Rattle.std.proofs.Common.{sym, subst}
+use Rattle.std.specs.Prelude.{◌≡◌, Bool, true, not}
+use Rattle.std.proofs.Common.{subst}
+use Rattle.nom_error.specs.Modes.{Modes}
 use Rattle.nom_traits.specs.Input.{Seen}
-use Rattle.nom_traits.specs.Rests.{same_self}
-use Rattle.nom_internal.specs.Outcome.{Outcome}
 use Rattle.nom_internal.specs.Meaning.{Meaning, IsLawful, IsSteady, SameBlame}
 
 pub record Family (K I V E : Type 0) : Type 1 where
   pub at : K → Meaning I V E
   -- what holds of all of them
   pub IsSound : Type 0
-  pub IsFrugal : Bool → Bool → Type 0
+  pub IsFrugal : Modes → Type 0
   pub Settles : Type 0
   pub NeverFails : Bool → Type 0
 
@@ -21,7 +20,7 @@ always m = record { at = λ _. m; IsSound = m.IsSound; IsFrugal = m.IsFrugal; Se
 -- the laws of a sound family, of the keys of which the fact holds
 pub record IsLawfulFamily {K I A V E : Type 0} (w : Seen I A) (IsKey : K → Type 0) (f : Family K I V E) : Type 0 where
   pub lawful : (k : K) → IsKey k → IsLawful w (f.at k)
-  pub frugal : (outputs errors : Bool) → f.IsFrugal outputs errors → (k : K) → IsKey k → (f.at k).IsFrugal outputs errors
+  pub frugal : (mode : Modes) → f.IsFrugal mode → (k : K) → IsKey k → (f.at k).IsFrugal mode
   pub settles : f.Settles → (k : K) → IsKey k → (f.at k).Settles
   pub never_fails : (large : Bool) → f.NeverFails large → (k : K) → IsKey k → (f.at k).NeverFails large
 
@@ -32,7 +31,7 @@ AnyKey _ = Unit {0}
 pub always_lawful : {K I A V E : Type 0} (w : Seen I A) (m : Meaning I V E) → IsLawful w m → IsLawfulFamily {K = K} w AnyKey (always m)
 always_lawful w m l = record {
   lawful = λ _ _. l;
-  frugal = λ outputs errors h _ _. h;
+  frugal = λ mode h _ _. h;
   settles = λ h _ _. h;
   never_fails = λ large h _ _. h;
 }
@@ -54,7 +53,7 @@ of_value IsValue f = record {
     IsSound = f.IsSound;
     answers = λ s i o. OfValue (IsValue u) (λ v. (f.at v).answers s i o);
     blames = λ s i e. OfValue (IsValue u) (λ v. (f.at v).blames s i e);
-    runs_out = λ outputs errors s i. OfValue (IsValue u) (λ v. (f.at v).runs_out outputs errors s i);
+    runs_out = λ mode i. OfValue (IsValue u) (λ v. (f.at v).runs_out mode i);
     IsFrugal = f.IsFrugal;
     Settles = f.Settles;
     NeverFails = f.NeverFails;
@@ -81,7 +80,7 @@ module _ {P V I A Q E : Type 0} (w : Seen I A) (IsValue : P → V → Type 0) (f
         let v = a.value in
         (l.lawful v (u, a.is_value)).one_outcome s x y o p kx ky r a.fact k (subst (λ n. (f.at n).answers s y p) (one u b.value v b.is_value a.is_value) b.fact);
     alike = λ s x y o kx ky r a k. record { value = a.value; is_value = a.is_value; fact = (l.lawful a.value (u, a.is_value)).alike s x y o kx ky r a.fact k };
-    frugal = λ outputs errors s i h g a. (l.lawful a.value (u, a.is_value)).frugal outputs errors s i h (l.frugal outputs errors g a.value (u, a.is_value)) a.fact;
+    frugal = λ mode i h g a. (l.lawful a.value (u, a.is_value)).frugal mode i h (l.frugal mode g a.value (u, a.is_value)) a.fact;
     settles = λ t x y o kx ky r a k. record { value = a.value; is_value = a.is_value; fact = (l.lawful a.value (u, a.is_value)).settles (l.settles t a.value (u, a.is_value)) x y o kx ky r a.fact k };
     blames_alike = same_blame u;
     never_fails = λ large g s i h a. (l.lawful a.value (u, a.is_value)).never_fails large (l.never_fails large g a.value (u, a.is_value)) s i h a.fact;
@@ -90,7 +89,7 @@ module _ {P V I A Q E : Type 0} (w : Seen I A) (IsValue : P → V → Type 0) (f
   pub of_value_lawful : IsLawfulFamily w AnyKey (of_value IsValue f)
   of_value_lawful = record {
     lawful = λ u _. at_lawful u;
-    frugal = λ outputs errors h _ _. h;
+    frugal = λ mode h _ _. h;
     settles = λ h _ _. h;
     never_fails = λ large h _ _. h;
   }

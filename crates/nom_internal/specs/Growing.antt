@@ -3,6 +3,7 @@ use Rattle.std.specs.Prelude.{◌≡◌, ℕ, ◌<◌, ◌≤◌, true, ◌⊎�
 use Rattle.nom_error.specs.declared.answer.Needed.{Needed}
 use Rattle.nom_error.specs.declared.answer.Err as Answer
 use Rattle.nom_error.specs.declared.answer.Err.TheVariants.{OutOfMemory}
+use Rattle.nom_error.specs.Modes.{modes}
 use Rattle.nom_traits.specs.Input.{Seen, IsPlace, IsFront}
 use Rattle.nom_traits.specs.View.{View}
 use Rattle.nom_internal.specs.Outcome.{Outcome, Parses}
@@ -40,7 +41,7 @@ module _ {I A V O E : Type 0} (w : Seen I A) (IsOutput : V → O → Type 0) (m 
 
   -- memory ran out on a beginning, where it may, or its outcome is shown
   pub data AnswersOn (beginning : I) (r : Result (I × O) (Answer.Err E E Needed)) : Type 0 where
-    RanOutOn : r ≡ Err OutOfMemory → m.runs_out true true true beginning → AnswersOn beginning r
+    RanOutOn : r ≡ Err OutOfMemory → m.runs_out (modes true true true) beginning → AnswersOn beginning r
     ShownOn : ShowsBeginning beginning r → AnswersOn beginning r
 
   -- the answer at the least cut whose beginning does not wait, or at the end

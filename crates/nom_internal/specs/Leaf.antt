@@ -1,12 +1,10 @@
 -- Leaves: parsers with no part.
-use Rattle.std.specs.Prelude.{◌≡◌, ℕ, Bool, true, false, not, Option, refl}
-use Rattle.std.proofs.Common.{sym, ◌∙◌, ap, subst}
-use Rattle.nom_error.specs.Errors.{Errors}
+use Rattle.std.specs.Prelude.{◌≡◌, ℕ, Bool, true, false, Option, refl}
+use Rattle.std.proofs.Common.{ap, subst}
 use Rattle.nom_traits.specs.Input.{Seen, IsPlace, IsSame, Related}
-use Rattle.nom_traits.specs.Rests.{same_self}
 use Rattle.nom_internal.specs.Outcome.{Outcome, failure}
 use Rattle.nom_internal.specs.Outcome.Outcome.{Accept, Refuse, Fail, TooLarge, Undecided}
-use Rattle.nom_internal.specs.Meaning.{Meaning, IsLawful, IsSteady, Keeps, Agree, Carries}
+use Rattle.nom_internal.specs.Meaning.{Meaning, IsLawful, IsSteady, Keeps, Agree}
 
 -- what a leaf does, by mode and input
 pub record Leaf (I V : Type 0) : Type 1 where
@@ -29,8 +27,8 @@ leaf_meaning IsSound Blames Grows leaf = record {
   IsSound = IsSound;
   answers = LeafAnswers leaf;
   blames = λ s. Blames;
-  runs_out = λ outputs errors s i. leaf.Refuses s i × (errors ≡ true) × Grows;
-  IsFrugal = λ outputs errors. errors ≡ true → Grows → ⊥;
+  runs_out = λ mode i. leaf.Refuses mode.streaming i × (mode.errors ≡ true) × Grows;
+  IsFrugal = λ mode. mode.errors ≡ true → Grows → ⊥;
   Settles = Unit {0};
   NeverFails = λ large. Unit {0};
 }
@@ -100,7 +98,7 @@ module _ {I A V : Type 0} (w : Seen I A) (leaf : Leaf I V) (l : LeafLaws w leaf)
       within = λ s i n v h a. l.place s i n v h a;
       one_outcome = λ s. answers_agree false s (λ e. cc);
       alike = λ s x y o kx ky r a d. answers_carry false s (λ e. cc) x y o kx ky r a d;
-      frugal = λ outputs errors s i h f r. f r.1 r.2;
+      frugal = λ mode i h f r. f r.1 r.2;
       settles = λ t x y o kx ky r a d. answers_settle y o ky (answers_carry false true (λ e. refl) x y o kx ky r a tt) d;
       blames_alike = λ t s i o e h a b d z. z;
       never_fails = λ large g s i h a. never_answers large s i a;

@@ -2,6 +2,7 @@
 use Rattle.std.specs.Prelude.{◌≡◌, ℕ, Bool, true, false, not, Result, Option}
 use Rattle.nom_error.specs.declared.answer.Needed.{Needed}
 use Rattle.nom_error.specs.declared.answer.Err as Answer
+use Rattle.nom_error.specs.Modes.{Modes, modes}
 use Rattle.nom_traits.specs.Input.{Seen, IsPlace, IsSame, Related}
 use Rattle.nom_internal.specs.Outcome.{Outcome, IsDecided, ShowsAnswer, ParsesAnswer, failure}
 use Rattle.nom_internal.specs.Outcome.Outcome.{Accept}
@@ -14,10 +15,10 @@ pub record Meaning (I V E : Type 0) : Type 1 where
   pub answers : Bool → I → Outcome V → Type 0
   -- the error that a refusal or a failure holds, by mode and input
   pub blames : Bool → I → E → Type 0
-  -- where memory may run out: are outputs built, are errors built, the mode, the input
-  pub runs_out : Bool → Bool → Bool → I → Type 0
-  -- the parser is frugal, so memory never runs out: are outputs built, are errors built
-  pub IsFrugal : Bool → Bool → Type 0
+  -- where memory may run out, by what is built, the mode and the input
+  pub runs_out : Modes → I → Type 0
+  -- the parser is frugal, so memory never runs out, by what is built
+  pub IsFrugal : Modes → Type 0
   -- a decided streaming outcome is the complete one too
   pub Settles : Type 0
   -- it never fails by itself (false), and what it lacks is never too large (true)
@@ -56,7 +57,7 @@ module _ {I A V E : Type 0} (w : Seen I A) (m : Meaning I V E) where
     -- inputs that are seen alike have one outcome, and the same
     pub one_outcome : (s : Bool) → Agree w false (m.answers s) (m.answers s)
     pub alike : (s : Bool) → Carries w false (m.answers s) (m.answers s)
-    pub frugal : (outputs errors s : Bool) (i : I) → w.IsKnown i → m.IsFrugal outputs errors → m.runs_out outputs errors s i → ⊥
+    pub frugal : (mode : Modes) (i : I) → w.IsKnown i → m.IsFrugal mode → m.runs_out mode i → ⊥
     -- where it settles, a decided streaming outcome is the complete one, and the errors of either mode are the other's
     pub settles : m.Settles → Carries w true (m.answers true) (m.answers false)
     pub blames_alike : m.Settles → (s : Bool) → SameBlame w (m.answers s) (m.answers (not s)) (m.blames s) (m.blames (not s))
@@ -67,9 +68,9 @@ module _ {I A V E : Type 0} (w : Seen I A) (m : Meaning I V E) where
   IsSteady = Agree w true (m.answers true) (m.answers true)
 
 -- what `process` returns of a parser that means m, at i: what is built of outputs and errors, and the mode
-abbrev pub ShowsMeaning : {I A V O E : Type 0} → Seen I A → (V → O → Type 0) → Meaning I V E → Bool → Bool → Bool → I → Result (I × Option O) (Answer.Err E (Option E) Needed) → Type 0
-ShowsMeaning w IsOutput m outputs errors s i r = ShowsAnswer w IsOutput outputs errors i (m.answers s i) (m.blames s i) (m.runs_out outputs errors s i) r
+abbrev pub ShowsMeaning : {I A V O E : Type 0} → Seen I A → (V → O → Type 0) → Meaning I V E → Modes → I → Result (I × Option O) (Answer.Err E (Option E) Needed) → Type 0
+ShowsMeaning w IsOutput m mode i r = ShowsAnswer w IsOutput mode i (m.answers mode.streaming i) (m.blames mode.streaming i) (m.runs_out mode i) r
 
 -- what `parse` (true) and `parse_complete` (false) return of it
 abbrev pub ParsesMeaning : {I A V O E : Type 0} → Seen I A → (V → O → Type 0) → Meaning I V E → Bool → I → Result (I × O) (Answer.Err E E Needed) → Type 0
-ParsesMeaning w IsOutput m s i r = ParsesAnswer w IsOutput i (m.answers s i) (m.blames s i) (m.runs_out true true s i) r
+ParsesMeaning w IsOutput m s i r = ParsesAnswer w IsOutput i (m.answers s i) (m.blames s i) (m.runs_out (modes true true s) i) r

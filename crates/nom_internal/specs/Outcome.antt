@@ -4,7 +4,7 @@ use Rattle.nom_error.specs.declared.answer.Err as Answer
 use Rattle.nom_error.specs.declared.answer.Err.TheVariants.{Incomplete, Error, Failure, OutOfMemory}
 use Rattle.nom_error.specs.declared.answer.Needed.{Needed}
 use Rattle.nom_error.specs.Answers.{size_of}
-use Rattle.nom_error.specs.Modes.{Built}
+use Rattle.nom_error.specs.Modes.{Built, Modes}
 use Rattle.nom_traits.specs.Input.{Seen, IsRest}
 
 -- An acceptance of the first items, of a length, with a parse tree; a refusal; a failure; a failure since what is lacking
@@ -15,6 +15,14 @@ pub data Outcome (V : Type 0) : Type 0 where
   Fail : Outcome V
   TooLarge : Outcome V
   Undecided : Option ℕ → Outcome V
+
+-- the outcome with a length and a tree that are made of its own
+abbrev pub mapped : {V W : Type 0} → (ℕ → ℕ) → (V → W) → Outcome V → Outcome W
+mapped l f (Accept n v) = Accept (l n) (f v)
+mapped l f Refuse = Refuse
+mapped l f Fail = Fail
+mapped l f TooLarge = TooLarge
+mapped l f (Undecided k) = Undecided k
 
 -- settled, whatever more may come: an acceptance, a refusal or a failure
 abbrev pub IsDecided : {V : Type 0} → Outcome V → Type 0
@@ -37,7 +45,7 @@ IsFault Fail = Unit {0}
 IsFault TooLarge = Unit {0}
 IsFault (Undecided k) = ⊥
 
--- an outcome whose error is told whether errors are built or not
+-- an outcome whose error is told whether mode.errors are built or not
 abbrev pub IsFailure : {V : Type 0} → Outcome V → Type 0
 IsFailure (Accept n v) = ⊥
 IsFailure Refuse = ⊥
@@ -52,11 +60,11 @@ pub record OnOutcome {I V : Type 0} (IsKind : Outcome V → Type 0) (Part : I �
   pub kind_is : IsKind outcome
   pub fact : Fact
 
-module _ {I A V O E : Type 0} (w : Seen I A) (IsOutput : V → O → Type 0) (outputs errors : Bool) (i : I) where
+module _ {I A V O E : Type 0} (w : Seen I A) (IsOutput : V → O → Type 0) (mode : Modes) (i : I) where
   -- what `process` returns at i for an outcome, with an error of which the fact holds
   abbrev pub Shows : (E → Type 0) → Outcome V → Result (I × Option O) (Answer.Err E (Option E) Needed) → Type 0
-  Shows IsError (Accept n v) r = (j : I) × (b : Option O) × IsRest w i n j × Built outputs (IsOutput v) b × (r ≡ Ok (j, b))
-  Shows IsError Refuse r = (b : Option E) × Built errors IsError b × (r ≡ Err (Error b))
+  Shows IsError (Accept n v) r = (j : I) × (b : Option O) × IsRest w i n j × Built mode.outputs (IsOutput v) b × (r ≡ Ok (j, b))
+  Shows IsError Refuse r = (b : Option E) × Built mode.errors IsError b × (r ≡ Err (Error b))
   Shows IsError Fail r = (e : E) × IsError e × (r ≡ Err (Failure e))
   Shows IsError TooLarge r = (e : E) × IsError e × (r ≡ Err (Failure e))
   Shows IsError (Undecided k) r = (n : Needed) × (size_of n ≡ k) × (r ≡ Err (Incomplete n))
@@ -67,7 +75,7 @@ module _ {I A V O E : Type 0} (w : Seen I A) (IsOutput : V → O → Type 0) (ou
     Shown : (o : Outcome V) → Answers o → Shows IsError o r → ShowsAnswer Answers IsError RunsOut r
 
 module _ {I A V O E : Type 0} (w : Seen I A) (IsOutput : V → O → Type 0) (i : I) where
-  -- what `parse` returns at i for an outcome: outputs and errors are built
+  -- what `parse` returns at i for an outcome: mode.outputs and mode.errors are built
   abbrev pub Parses : (E → Type 0) → Outcome V → Result (I × O) (Answer.Err E E Needed) → Type 0
   Parses IsError (Accept n v) r = (j : I) × (b : O) × IsRest w i n j × IsOutput v b × (r ≡ Ok (j, b))
   Parses IsError Refuse r = (e : E) × IsError e × (r ≡ Err (Error e))

@@ -1,9 +1,8 @@
 -- Outputs that one tree stands for are one, as they are compared.
-use Rattle.std.specs.Prelude.{◌≡◌, ◌⊎◌, List, [], ◌∷◌, map, refl}
-use Rattle.std.specs.List.{AllZip}
+use Rattle.std.specs.Prelude.{◌≡◌}
 use Rattle.std.proofs.Common.{sym, ◌∙◌, ap, inl, inr}
 use Rattle.nom_traits.specs.Input.{Seen, IsSame}
-use Rattle.nom_traits.specs.Slices.{Slice, IsSeenAs}
+use Rattle.nom_traits.specs.Slices.{IsSeenAs}
 use Rattle.nom_traits.specs.View.{View, itself, pair_view}
 use Rattle.nom_internal.specs.Choice.{EitherOutput}
 

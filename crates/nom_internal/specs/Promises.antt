@@ -4,6 +4,7 @@ use Rattle.nom_error.specs.declared.answer.Needed.{Needed}
 use Rattle.nom_error.specs.declared.answer.Err as Answer
 use Rattle.nom_error.specs.declared.answer.Err.TheVariants.{Incomplete, Error, Failure, OutOfMemory}
 use Rattle.nom_error.specs.Answers.{size_of}
+use Rattle.nom_error.specs.Modes.{Modes}
 use Rattle.nom_traits.specs.Input.{Seen, Extends, IsSame, IsPlace, IsRest}
 use Rattle.nom_traits.specs.View.{View}
 use Rattle.nom_internal.specs.Outcome.{Outcome, IsDecided, failure}
@@ -29,7 +30,7 @@ module _ {I A V E : Type 0} (w : Seen I A) (m : Meaning I V E) where
 
   -- where a parser is frugal, memory never runs out
   abbrev pub NeverRunsOut : Type 0
-  NeverRunsOut = (outputs errors s : Bool) (i : I) → w.IsKnown i → m.IsFrugal outputs errors → m.runs_out outputs errors s i → ⊥
+  NeverRunsOut = (mode : Modes) (i : I) → w.IsKnown i → m.IsFrugal mode → m.runs_out mode i → ⊥
 
   -- where a parser never fails so, by itself or since what is lacking is too large, it has no such outcome
   abbrev pub HasNoFailure : Type 0

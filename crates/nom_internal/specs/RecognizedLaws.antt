@@ -68,8 +68,8 @@ module _ {I A P T : Type 0} (w : Seen I A) (OnAccept : I → ℕ → P → Outco
     place = passes_place;
     never_fails = λ Part large i a g e. (g, passes_fails large i a e);
     blames = λ i a X Y e f. f e;
-    part_frugal = λ Part outputs errors h. h;
-    asks_none = λ Part outputs errors i a h g. g;
+    part_frugal = λ Part mode h. h;
+    asks_none = λ Part mode i a h g. g;
   }
 
 -- slices

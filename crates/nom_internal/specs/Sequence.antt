@@ -1,18 +1,15 @@
 -- A part that is followed by another.
-use Rattle.std.specs.Prelude.{◌≡◌, ℕ, ◌+◌, Bool}
+use Rattle.std.specs.Prelude.{◌≡◌, ℕ, ◌+◌}
+use Rattle.nom_error.specs.Modes.{Modes}
 use Rattle.nom_traits.specs.Input.{Seen, IsRest}
-use Rattle.nom_internal.specs.Outcome.{Outcome, IsFault, OnOutcome}
+use Rattle.nom_internal.specs.Outcome.{Outcome, mapped, IsFault, OnOutcome}
 use Rattle.nom_internal.specs.Outcome.Outcome.{Accept, Refuse, Fail, TooLarge, Undecided}
 use Rattle.nom_internal.specs.Meaning.{Meaning}
 use Rattle.nom_internal.specs.Families.{Family, always}
 
 -- the outcome after n items that were accepted before, with a tree made of its own
 abbrev pub after : {V W : Type 0} → ℕ → (V → W) → Outcome V → Outcome W
-after n f (Accept m v) = Accept (n + m) (f v)
-after n f Refuse = Refuse
-after n f Fail = Fail
-after n f TooLarge = TooLarge
-after n f (Undecided k) = Undecided k
+after n = mapped (λ m. n + m)
 
 module _ {I A P Q T : Type 0} (w : Seen I A) (tree : P → Q → T) where
   -- how a first outcome goes on: an acceptance by what follows on the rest, and else as it is
@@ -51,21 +48,21 @@ module _ {I A P : Type 0} (w : Seen I A) (First : I → Outcome P → Type 0) (F
     RunsOutFirst : FirstRunsOut i → ThenRunsOut i
     RunsOutNext : OnRest w First NextRunsOut i → ThenRunsOut i
 
--- A part, and then what its tree says, with a tree made of theirs; where outputs are built, which of them each builds.
-abbrev pub then_meaning : {I A P Q T E : Type 0} → Seen I A → (P → Q → T) → (Bool → Bool) → (Bool → Bool) → Meaning I P E → Family P I Q E → Meaning I T E
-then_meaning w tree first_builds next_builds a f = record {
+-- A part, and then what its tree says, with a tree made of theirs, and with what each of them builds.
+abbrev pub then_meaning : {I A P Q T E : Type 0} → Seen I A → (P → Q → T) → (Modes → Modes) → (Modes → Modes) → Meaning I P E → Family P I Q E → Meaning I T E
+then_meaning w tree first_mode next_mode a f = record {
   IsSound = a.IsSound × f.IsSound;
   answers = λ s. Then w tree (a.answers s) (λ u. (f.at u).answers s);
   blames = λ s. ThenBlames w (a.answers s) (a.blames s) (λ u. (f.at u).answers s) (λ u. (f.at u).blames s);
-  runs_out = λ outputs errors s. ThenRunsOut w (a.answers s) (a.runs_out (first_builds outputs) errors s) (λ u. (f.at u).runs_out (next_builds outputs) errors s);
-  IsFrugal = λ outputs errors. a.IsFrugal (first_builds outputs) errors × f.IsFrugal (next_builds outputs) errors;
+  runs_out = λ mode. ThenRunsOut w (a.answers mode.streaming) (a.runs_out (first_mode mode)) (λ u. (f.at u).runs_out (next_mode mode));
+  IsFrugal = λ mode. a.IsFrugal (first_mode mode) × f.IsFrugal (next_mode mode);
   Settles = a.Settles × f.Settles;
   NeverFails = λ large. a.NeverFails large × f.NeverFails large;
 }
 
 -- two parts in sequence: whatever the first's tree, the second follows
-abbrev pub sequence_meaning : {I A P Q T E : Type 0} → Seen I A → (P → Q → T) → (Bool → Bool) → (Bool → Bool) → Meaning I P E → Meaning I Q E → Meaning I T E
-sequence_meaning w tree first_builds second_builds a b = then_meaning w tree first_builds second_builds a (always b)
+abbrev pub sequence_meaning : {I A P Q T E : Type 0} → Seen I A → (P → Q → T) → (Modes → Modes) → (Modes → Modes) → Meaning I P E → Meaning I Q E → Meaning I T E
+sequence_meaning w tree first_mode second_mode a b = then_meaning w tree first_mode second_mode a (always b)
 
 -- two parts in sequence, with the pair of their trees
 abbrev pub pair_meaning : {I A P Q E : Type 0} → Seen I A → Meaning I P E → Meaning I Q E → Meaning I (P × Q) E

@@ -1,5 +1,5 @@
 -- An acceptance of nothing.
-use Rattle.std.specs.Prelude.{◌≡◌, ℕ, Bool, [], Option, refl}
+use Rattle.std.specs.Prelude.{◌≡◌, ℕ, [], refl}
 use Rattle.std.proofs.Common.{sym, ◌∙◌}
 use Rattle.nom_traits.specs.Input.{Seen, IsPlace}
 use Rattle.nom_internal.specs.Meaning.{Meaning, IsLawful, IsSteady}

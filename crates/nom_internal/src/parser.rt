@@ -1,5 +1,6 @@
 //! Parsers.
 ghost use Rattle.std.specs.Prelude.{◌≡◌, true, false};
+ghost use Rattle.nom_error.specs.Modes.{modes};
 ghost use Rattle.nom_internal.specs.Meaning.{Meaning, IsLawful, IsSteady, ShowsMeaning, ParsesMeaning};
 ghost use Rattle.nom_internal.specs.Pinned.{IsPinned};
 ghost use Rattle.nom_internal.specs.Results.{IsFull, HoldsSame};
@@ -42,7 +43,7 @@ pub trait Parser<I: Items>: Sized {
     /// and answers as it says whether more input may come.
     fn process<OM: OutputMode>(&mut self, input: I) -> PResult<I, Self::Output, Self::Error>
         requires sound { (meaning (state self.old)).IsSound }
-        ensures shown { ShowsMeaning I.seen (IsOutput (state self.old)) (meaning (state self.old)) OM.Output.BUILDS OM.Error.BUILDS OM.Incomplete.STREAMING input result }
+        ensures shown { ShowsMeaning I.seen (IsOutput (state self.old)) (meaning (state self.old)) (modes OM.Output.BUILDS OM.Error.BUILDS OM.Incomplete.STREAMING) input result }
         // A call keeps the meaning.
         ensures kept { state self.new ≡ state self.old };
 

@@ -1,8 +1,10 @@
 -- What data behind a length shows.
-use Rattle.std.proofs.Common.{◌≡◌, ℕ, Bool, true, Result, Ok, Err, Option, Some, List, subst}
+use Rattle.std.proofs.Common.{◌≡◌, ℕ, true, Result, Ok, Err, Option, Some, List, subst}
+use Rattle.std.specs.Result.{IsErrAnd, IsErr}
 use Rattle.nom_error.specs.declared.answer.Needed.{Needed}
 use Rattle.nom_error.specs.declared.answer.Err as Answer
 use Rattle.nom_error.specs.Errors.{Errors}
+use Rattle.nom_error.specs.Modes.{Modes, with_outputs}
 use Rattle.nom_traits.specs.Input.{Seen, InputLaws}
 use Rattle.nom_traits.specs.Slices.{Slice, IsSeenAs}
 use Rattle.nom_internal.specs.Outcome.{Outcome, Shows, ShowsAnswer}
@@ -15,40 +17,30 @@ use Rattle.nom_internal.specs.Families.{OfValue}
 use Rattle.nom_multi.specs.Lengths.{length_data_meaning}
 
 -- what is shown by the number that a length stands for
-module _ {I A V O E : Type 0} (w : Seen I A) (IsOutput : V → O → Type 0) (outputs errors : Bool) (i : I) (IsLength : ℕ → Type 0) (n : ℕ) (h : IsLength n) where
-  shows_of : (B : ℕ → E → Type 0) (o : Outcome V) (r : Result (I × Option O) (Answer.Err E (Option E) Needed)) → Shows w IsOutput outputs errors i (B n) o r → Shows w IsOutput outputs errors i (λ e. OfValue IsLength (λ k. B k e)) o r
+module _ {I A V O E : Type 0} (w : Seen I A) (IsOutput : V → O → Type 0) (mode : Modes) (i : I) (IsLength : ℕ → Type 0) (n : ℕ) (h : IsLength n) where
+  shows_of : (B : ℕ → E → Type 0) (o : Outcome V) (r : Result (I × Option O) (Answer.Err E (Option E) Needed)) → Shows w IsOutput mode i (B n) o r → Shows w IsOutput mode i (λ e. OfValue IsLength (λ k. B k e)) o r
   shows_of B (Accept m v) r s = s
-  shows_of B Refuse r s = (s.0, built_error errors _ _ s.0 (λ e f. record { value = n; is_value = h; fact = f }) s.1, s.2)
+  shows_of B Refuse r s = (s.0, built_error mode.errors _ _ s.0 (λ e f. record { value = n; is_value = h; fact = f }) s.1, s.2)
   shows_of B Fail r s = (s.0, record { value = n; is_value = h; fact = s.1 }, s.2)
   shows_of B TooLarge r s = (s.0, record { value = n; is_value = h; fact = s.1 }, s.2)
   shows_of B (Undecided k) r s = s
 
-  pub length_shown : (N : ℕ → Outcome V → Type 0) (B : ℕ → E → Type 0) (R : ℕ → Type 0) (r : Result (I × Option O) (Answer.Err E (Option E) Needed)) → ShowsAnswer w IsOutput outputs errors i (N n) (B n) (R n) r → ShowsAnswer w IsOutput outputs errors i (λ o. OfValue IsLength (λ k. N k o)) (λ e. OfValue IsLength (λ k. B k e)) (OfValue IsLength R) r
+  pub length_shown : (N : ℕ → Outcome V → Type 0) (B : ℕ → E → Type 0) (R : ℕ → Type 0) (r : Result (I × Option O) (Answer.Err E (Option E) Needed)) → ShowsAnswer w IsOutput mode i (N n) (B n) (R n) r → ShowsAnswer w IsOutput mode i (λ o. OfValue IsLength (λ k. N k o)) (λ e. OfValue IsLength (λ k. B k e)) (OfValue IsLength R) r
   length_shown N B R r (RanOut e f) = RanOut e (record { value = n; is_value = h; fact = f })
   length_shown N B R r (Shown o a s) = Shown o (record { value = n; is_value = h; fact = a }) (shows_of B o r s)
 
-module _ {I A P E : Type 0} (w : Seen I A) (l : InputLaws w) (errs : Errors I E) (lack : ℕ → List A → Option ℕ) (IsLength : P → ℕ → Type 0) (a : Meaning I P E) (outputs errors s : Bool) (i : I) where
+module _ {I A P E : Type 0} (w : Seen I A) (l : InputLaws w) (errs : Errors I E) (lack : ℕ → List A → Option ℕ) (IsLength : P → ℕ → Type 0) (a : Meaning I P E) (mode : Modes) (i : I) where
   abbrev Goal : Result (I × Option I) (Answer.Err E (Option E) Needed) → Type 0
-  Goal = ShowsMeaning w (λ (t : P × Slice w) o. IsSeenAs w t.1 o) (length_data_meaning w errs lack IsLength a) outputs errors s i
+  Goal = ShowsMeaning w (λ (t : P × Slice w) o. IsSeenAs w t.1 o) (length_data_meaning w errs lack IsLength a) mode i
 
   -- there is no length
-  pub length_err : (e : Answer.Err E (Option E) Needed) (r : Result (I × Option I) (Answer.Err E (Option E) Needed)) → ShowsMeaning w IsLength a true errors s i (Err e) → r ≡ Err e → Goal r
-  length_err e r h q =
-      then_err w l (λ u t. (u, t)) (a.answers s) (a.blames s) (a.runs_out true errors s)
-      (λ u j o. OfValue (IsLength u) (λ n. (take_meaning w errs lack n).answers s j o))
-      (λ u j e. OfValue (IsLength u) (λ n. (take_meaning w errs lack n).blames s j e))
-      (λ u j. OfValue (IsLength u) (λ n. (take_meaning w errs lack n).runs_out outputs errors s j))
-      IsLength (λ (t : P × Slice w) o. IsSeenAs w t.1 o) true outputs errors i e r h q
+  pub length_err : (e : Answer.Err E (Option E) Needed) (r : Result (I × Option I) (Answer.Err E (Option E) Needed)) → ShowsMeaning w IsLength a (with_outputs true mode) i (Err e) → IsErr r × IsErrAnd r (λ y. y ≡ e) → Goal r
+  length_err e r h q = then_err l h q
 
   -- so many items are taken
-  pub length_ok : (j : I) (x : Option ℕ) (n m : ℕ) (r : Result (I × Option I) (Answer.Err E (Option E) Needed)) → ShowsMeaning w IsLength a true errors s i (Ok (j, x)) → x ≡ Some n → m ≡ n → ShowsMeaning w (IsSeenAs w) (take_meaning w errs lack m) outputs errors s j r → Goal r
+  pub length_ok : (j : I) (x : Option ℕ) (n m : ℕ) (r : Result (I × Option I) (Answer.Err E (Option E) Needed)) → ShowsMeaning w IsLength a (with_outputs true mode) i (Ok (j, x)) → x ≡ Some n → m ≡ n → ShowsMeaning w (IsSeenAs w) (take_meaning w errs lack m) mode j r → Goal r
   length_ok j x n m r h q e t =
-      then_ok w l (λ u t. (u, t)) (a.answers s) (a.blames s) (a.runs_out true errors s)
-      (λ u j o. OfValue (IsLength u) (λ n. (take_meaning w errs lack n).answers s j o))
-      (λ u j e. OfValue (IsLength u) (λ n. (take_meaning w errs lack n).blames s j e))
-      (λ u j. OfValue (IsLength u) (λ n. (take_meaning w errs lack n).runs_out outputs errors s j))
-      IsLength (λ (t : P × Slice w) o. IsSeenAs w t.1 o) true outputs errors i j x r h
-      (λ u b.
+      then_ok l h (λ u b.
       let same : b.0 ≡ m = cc (b.1, q, e) in
-      length_shown w (IsSeenAs w) outputs errors j (IsLength u) m (subst (λ z. IsLength u z) same b.2)
-      (λ k o. (take_meaning w errs lack k).answers s j o) (λ k y. (take_meaning w errs lack k).blames s j y) (λ k. (take_meaning w errs lack k).runs_out outputs errors s j) r t)
+      length_shown w (IsSeenAs w) mode j (IsLength u) m (subst (λ z. IsLength u z) same b.2)
+      (λ k o. (take_meaning w errs lack k).answers mode.streaming j o) (λ k y. (take_meaning w errs lack k).blames mode.streaming j y) (λ k. (take_meaning w errs lack k).runs_out mode j) r t)

@@ -3,7 +3,7 @@ use Rattle.std.proofs.Common.{◌≡◌, ℕ, ◌<◌, Bool, true, false, Result
 use Rattle.nom_error.specs.declared.answer.Needed.{Needed}
 use Rattle.nom_error.specs.declared.answer.Err as Answer
 use Rattle.nom_error.specs.declared.answer.Err.TheVariants.{Incomplete, Error, Failure, OutOfMemory}
-use Rattle.nom_error.specs.Modes.{Built}
+use Rattle.nom_error.specs.Modes.{Built, Modes, modes}
 use Rattle.nom_error.specs.Answers.{Refuses, size_of}
 use Rattle.nom_traits.specs.Input.{Seen, InputLaws}
 use Rattle.nom_internal.specs.Outcome.{Outcome}
@@ -31,56 +31,48 @@ empty_ends : {V : Type 0} (n : ℕ) (v : V) → n ≡ 0 → Ends Refuse ≡ unti
 empty_ends zero v e = refl
 empty_ends (suc n) v e = absurd (omega (arith, e))
 
-module _ {I A V E X O : Type 0} (w : Seen I A) (EmptyGives : I → E → Type 0) (ErrorGrows : Type 0) (bound : Option ℕ) (builds : Bool → Bool) (Keeps : Bool → Type 0) (m : Meaning I V E) (s : Bool) (IsItem : V → X → Type 0) (IsOutput : List V → O → Type 0) (outputs errors : Bool) {Held : List V → Type 0} (i j : I) (c : Collected w (TurnsBy bound (λ _. until_refused) (λ _. m.answers s)) Held i j) where
-  abbrev Part : Result (I × Option X) (Answer.Err E (Option E) Needed) → Type 0
-  Part = ShowsMeaning w IsItem m (builds outputs) false s j
+-- what the list shows
+abbrev pub ShowsMany : {I A V E O : Type 0} (w : Seen I A) (EmptyGives : I → E → Type 0) (ErrorGrows : Type 0) (bound : Option ℕ) (builds : Bool → Bool) (Keeps : Bool → Type 0) (m : Meaning I V E) (IsOutput : List V → O → Type 0) (mode : Modes) (i : I) → Result (I × Option O) (Answer.Err E (Option E) Needed) → Type 0
+ShowsMany w EmptyGives ErrorGrows bound builds Keeps m IsOutput mode i r = ShowsMeaning w IsOutput (repeat_meaning w (many_rule EmptyGives ErrorGrows bound builds Keeps) (λ vs _. vs) (always m)) mode i r
 
-  abbrev Goal : Result (I × Option O) (Answer.Err E (Option E) Needed) → Type 0
-  Goal = ShowsMeaning w IsOutput (repeat_meaning w (many_rule EmptyGives ErrorGrows bound builds Keeps) (λ vs _. vs) (always m)) outputs errors s i
-
+module _ {I A V E O : Type 0} {w : Seen I A} (EmptyGives : I → E → Type 0) (ErrorGrows : Type 0) {bound : Option ℕ} (builds : Bool → Bool) (Keeps : Bool → Type 0) (m : Meaning I V E) {IsOutput : List V → O → Type 0} {mode : Modes} {Held : List V → Type 0} {i j : I} (c : Collected w (TurnsBy bound (λ _. until_refused) (λ _. m.answers mode.streaming)) Held i j) where
   -- at the bound the list ends
-  pub many_at_bound : (IsBelow bound (length c.trees) → ⊥) → (b : Option O) → Built outputs (IsOutput c.trees) b → Goal (Ok (j, b))
-  many_at_bound h b q = ended w (many_rule EmptyGives ErrorGrows bound builds Keeps) (λ vs _. vs) (always m) s IsOutput outputs errors i j c None h tt refl b q
+  pub many_at_bound : (IsBelow bound (length c.trees) → ⊥) → {b : Option O} → Built mode.outputs (IsOutput c.trees) b → ShowsMany w EmptyGives ErrorGrows bound builds Keeps m IsOutput mode i (Ok (j, b))
+  many_at_bound h q = ended (many_rule EmptyGives ErrorGrows bound builds Keeps) (λ vs _. vs) (always m) c None h tt refl q
 
   module _ (below : IsBelow bound (length c.trees)) where
-    -- a refusal ends the list
-    pub many_refused : (f : Answer.Err E (Option E) Needed) (x : Option E) → f ≡ Error x → Part (Err f) → (b : Option O) → Built outputs (IsOutput c.trees) b → Goal (Ok (j, b))
-    many_refused f x e h b q =
-        let t = part_refused w IsItem (builds outputs) false j (m.answers s j) (m.blames s j) (m.runs_out (builds outputs) false s j) f x e h in
-        ended w (many_rule EmptyGives ErrorGrows bound builds Keeps) (λ vs _. vs) (always m) s IsOutput outputs errors i j c (Some Refuse) (below, t) tt refl b q
+    many_stopped : {x : E} → m.answers mode.streaming j Fail ⊎ m.answers mode.streaming j TooLarge → m.blames mode.streaming j x → ShowsMany w EmptyGives ErrorGrows bound builds Keeps m IsOutput mode i (Err (Failure x))
+    many_stopped {x = x} (inl t) b = failed (many_rule EmptyGives ErrorGrows bound builds Keeps) (λ vs _. vs) (always m) c (Some Fail) (below, t) refl x b
+    many_stopped {x = x} (inr t) b = too_large (many_rule EmptyGives ErrorGrows bound builds Keeps) (λ vs _. vs) (always m) c (Some TooLarge) (below, t) refl x b
 
-    many_stopped : (x : E) → m.answers s j Fail ⊎ m.answers s j TooLarge → m.blames s j x → Goal (Err (Failure x))
-    many_stopped x (inl t) b = failed w (many_rule EmptyGives ErrorGrows bound builds Keeps) (λ vs _. vs) (always m) s IsOutput outputs errors i j c (Some Fail) (below, t) refl x b
-    many_stopped x (inr t) b = too_large w (many_rule EmptyGives ErrorGrows bound builds Keeps) (λ vs _. vs) (always m) s IsOutput outputs errors i j c (Some TooLarge) (below, t) refl x b
+    module _ {X : Type 0} {IsItem : V → X → Type 0} where
+      -- a refusal ends the list
+      pub many_refused : {f : Answer.Err E (Option E) Needed} {x : Option E} → f ≡ Error x → ShowsMeaning w IsItem m (modes (builds mode.outputs) false mode.streaming) j (Err f) → {b : Option O} → Built mode.outputs (IsOutput c.trees) b → ShowsMany w EmptyGives ErrorGrows bound builds Keeps m IsOutput mode i (Ok (j, b))
+      many_refused e h q = ended (many_rule EmptyGives ErrorGrows bound builds Keeps) (λ vs _. vs) (always m) c (Some Refuse) (below, part_refused e h) tt refl q
 
-    -- all else is passed on
-    pub many_failed : (f : Answer.Err E (Option E) Needed) (x : E) → f ≡ Failure x → Part (Err f) → Goal (Err (Failure x))
-    many_failed f x e h =
-        let t = part_failed w IsItem (builds outputs) false j (m.answers s j) (m.blames s j) (m.runs_out (builds outputs) false s j) f x e h in
-        many_stopped x t.0 t.1
+      -- all else is passed on
+      pub many_failed : {f : Answer.Err E (Option E) Needed} {x : E} → f ≡ Failure x → ShowsMeaning w IsItem m (modes (builds mode.outputs) false mode.streaming) j (Err f) → ShowsMany w EmptyGives ErrorGrows bound builds Keeps m IsOutput mode i (Err (Failure x))
+      many_failed e h = let t = part_failed e h in many_stopped t.0 t.1
 
-    pub many_lacks : (f : Answer.Err E (Option E) Needed) (k : Needed) → f ≡ Incomplete k → Part (Err f) → Goal (Err (Incomplete k))
-    many_lacks f k e h =
-        let t = part_lacks w IsItem (builds outputs) false j (m.answers s j) (m.blames s j) (m.runs_out (builds outputs) false s j) f k e h in
-        lacking w (many_rule EmptyGives ErrorGrows bound builds Keeps) (λ vs _. vs) (always m) s IsOutput outputs errors i j c (Some (Undecided (size_of k))) (below, t) k refl
+      pub many_lacks : {f : Answer.Err E (Option E) Needed} {k : Needed} → f ≡ Incomplete k → ShowsMeaning w IsItem m (modes (builds mode.outputs) false mode.streaming) j (Err f) → ShowsMany w EmptyGives ErrorGrows bound builds Keeps m IsOutput mode i (Err (Incomplete k))
+      many_lacks {k = k} e h = lacking (many_rule EmptyGives ErrorGrows bound builds Keeps) (λ vs _. vs) (always m) c (Some (Undecided (size_of k))) (below, part_lacks e h) refl
 
-    pub many_part_ran_out : (f : Answer.Err E (Option E) Needed) → f ≡ OutOfMemory → Part (Err f) → Goal (Err OutOfMemory)
-    many_part_ran_out f e h =
-        let t = part_ran_out w IsItem (builds outputs) false j (m.answers s j) (m.blames s j) (m.runs_out (builds outputs) false s j) f e h in
-        ran_out_within w (many_rule EmptyGives ErrorGrows bound builds Keeps) (λ vs _. vs) (always m) s IsOutput outputs errors i j c below t
+      pub many_part_ran_out : {f : Answer.Err E (Option E) Needed} → f ≡ OutOfMemory → ShowsMeaning w IsItem m (modes (builds mode.outputs) false mode.streaming) j (Err f) → ShowsMany w EmptyGives ErrorGrows bound builds Keeps m IsOutput mode i (Err OutOfMemory)
+      many_part_ran_out e h = ran_out_within (many_rule EmptyGives ErrorGrows bound builds Keeps) (λ vs _. vs) (always m) c below (part_ran_out e h)
 
-    -- an item that consumes nothing is refused
-    pub many_empty : (h : I) (b : Option X) (a : Accepts w IsItem (builds outputs) j (m.answers s j) h b) → a.length ≡ 0 → (f : Answer.Err E (Option E) Needed) → Refuses (EmptyGives j) ErrorGrows errors f → Goal (Err f)
-    many_empty h b a z f (inl g) =
-        subst (λ y. Goal (Err y)) (sym g.0) (ran_out w (many_rule EmptyGives ErrorGrows bound builds Keeps) (λ vs _. vs) (always m) s IsOutput outputs errors i j c (Some (Accept a.length a.tree)) (below, a.answered) (on_empty ((errors ≡ true) × ErrorGrows) (Keeps outputs) ⊥ a.length a.tree z (g.1, g.2)))
-    many_empty h b a z f (inr g) =
-        subst (λ y. Goal (Err y)) (sym g.2) (refused w (many_rule EmptyGives ErrorGrows bound builds Keeps) (λ vs _. vs) (always m) s IsOutput outputs errors i j c (Some (Accept a.length a.tree)) (below, a.answered) (empty_ends a.length a.tree z) g.0 (built_error errors (EmptyGives j) (λ y. OnItem (EmptyGives j y) ⊥ (m.blames s j y) (Some (Accept a.length a.tree))) g.0 (λ y. on_empty (EmptyGives j y) ⊥ (m.blames s j y) a.length a.tree z) g.1))
+      module _ {h : I} {b : Option X} (a : Accepts w IsItem (builds mode.outputs) j (m.answers mode.streaming j) h b) where
+        -- an item that consumes nothing is refused
+        pub many_empty : a.length ≡ 0 → {f : Answer.Err E (Option E) Needed} → Refuses (EmptyGives j) ErrorGrows mode.errors f → ShowsMany w EmptyGives ErrorGrows bound builds Keeps m IsOutput mode i (Err f)
+        many_empty z (inl g) =
+            subst (λ y. ShowsMany w EmptyGives ErrorGrows bound builds Keeps m IsOutput mode i (Err y)) (sym g.0) (ran_out (many_rule EmptyGives ErrorGrows bound builds Keeps) (λ vs _. vs) (always m) c (Some (Accept a.length a.tree)) (below, a.answered) (on_empty ((mode.errors ≡ true) × ErrorGrows) (Keeps mode.outputs) ⊥ a.length a.tree z (g.1, g.2)))
+        many_empty z (inr g) =
+            subst (λ y. ShowsMany w EmptyGives ErrorGrows bound builds Keeps m IsOutput mode i (Err y)) (sym g.2) (refused (many_rule EmptyGives ErrorGrows bound builds Keeps) (λ vs _. vs) (always m) c (Some (Accept a.length a.tree)) (below, a.answered) (empty_ends a.length a.tree z) g.0 (built_error mode.errors (EmptyGives j) (λ y. OnItem (EmptyGives j y) ⊥ (m.blames mode.streaming j y) (Some (Accept a.length a.tree))) g.0 (λ y. on_empty (EmptyGives j y) ⊥ (m.blames mode.streaming j y) a.length a.tree z) g.1))
 
-    -- there is no memory to keep an item
-    pub many_full : (h : I) (b : Option X) (a : Accepts w IsItem (builds outputs) j (m.answers s j) h b) → 0 < a.length → Keeps outputs → Goal (Err OutOfMemory)
-    many_full h b a p t = ran_out w (many_rule EmptyGives ErrorGrows bound builds Keeps) (λ vs _. vs) (always m) s IsOutput outputs errors i j c (Some (Accept a.length a.tree)) (below, a.answered) (on_taken ((errors ≡ true) × ErrorGrows) (Keeps outputs) ⊥ a.length a.tree p t)
+        -- there is no memory to keep an item
+        pub many_full : 0 < a.length → Keeps mode.outputs → ShowsMany w EmptyGives ErrorGrows bound builds Keeps m IsOutput mode i (Err OutOfMemory)
+        many_full p t = ran_out (many_rule EmptyGives ErrorGrows bound builds Keeps) (λ vs _. vs) (always m) c (Some (Accept a.length a.tree)) (below, a.answered) (on_taken ((mode.errors ≡ true) × ErrorGrows) (Keeps mode.outputs) ⊥ a.length a.tree p t)
 
 -- an item that consumes is taken
-pub many_more : {I A V X : Type 0} (w : Seen I A) (l : InputLaws w) (bound : Option ℕ) (Item : I → Outcome V → Type 0) (IsItem : V → X → Type 0) (builds : Bool) {Held More : List V → Type 0} (i j : I) (c : Collected w (TurnsBy bound (λ _. until_refused) (λ _. Item)) Held i j) → IsBelow bound (length c.trees) → (h : I) (b : Option X) (a : Accepts w IsItem builds j (Item j) h b) → 0 < a.length → More (c.trees ++ a.tree ∷ []) → Collected w (TurnsBy bound (λ _. until_refused) (λ _. Item)) More i h
-many_more w l bound Item IsItem builds i j c below h b a p z =
-    collected_more w l (TurnsBy bound (λ _. until_refused) (λ _. Item)) i j h a.length a.tree c (record { reply = Some (Accept a.length a.tree); replied = (below, a.answered); fact = takes a.length a.tree p }) a.rest_is z
+pub many_more : {I A V X : Type 0} {w : Seen I A} (l : InputLaws w) {bound : Option ℕ} {Item : I → Outcome V → Type 0} {IsItem : V → X → Type 0} {builds : Bool} {Held More : List V → Type 0} {i j : I} (c : Collected w (TurnsBy bound (λ _. until_refused) (λ _. Item)) Held i j) → IsBelow bound (length c.trees) → {h : I} {b : Option X} (a : Accepts w IsItem builds j (Item j) h b) → 0 < a.length → More (c.trees ++ a.tree ∷ []) → Collected w (TurnsBy bound (λ _. until_refused) (λ _. Item)) More i h
+many_more l {bound = bound} {Item = Item} c below a p z =
+    collected_more l (TurnsBy bound (λ _. until_refused) (λ _. Item)) a.tree c (record { reply = Some (Accept a.length a.tree); replied = (below, a.answered); fact = takes a.length a.tree p }) a.rest_is z

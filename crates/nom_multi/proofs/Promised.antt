@@ -53,7 +53,7 @@ module _ {I A V : Type 0} (w : Seen I A) (bound : Option ℕ) (Item : I → Outc
   pieces_few : (Fact : ℕ → I → Type 0) (k : ℕ) (i : I) (vs : List V) (n : ℕ) → Pieces w (TurnsBy bound (λ _. until_refused) (λ _. Item)) Fact k i vs n → length vs ≤ input_len w i
   pieces_few Fact k i [] n p = omega arith
   pieces_few Fact k i (v ∷ vs) n p =
-      omega (arith, pieces_few Fact (k + 1) p.2 vs p.1 p.5, rest_length w i p.0 p.2 p.4, taken_consumes (p.3).reply p.0 v (p.3).fact)
+      omega (arith, pieces_few Fact (k + 1) p.2 vs p.1 p.5, rest_length p.4, taken_consumes (p.3).reply p.0 v (p.3).fact)
 
   pieces_empty : InputLaws w → (o : Outcome (Unit {0})) → o ≡ Refuse → (k : ℕ) (i : I) (vs : List V) (n : ℕ) → w.IsKnown i → Pieces w (TurnsBy bound (λ _. until_refused) (λ _. Item)) (λ h j. TurnsBy bound (λ _. until_refused) (λ _. Item) h j (Ends o)) k i vs n → HasEmptyItem w Item i
   pieces_empty l o q k i [] n h p =

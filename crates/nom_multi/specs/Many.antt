@@ -2,6 +2,7 @@
 use Rattle.std.specs.Prelude.{◌≡◌, ℕ, Bool, true, false, Option, Some, None, List, zero, suc}
 use Rattle.nom_error.specs.Errors.{Errors}
 use Rattle.nom_error.specs.declared.kind.ErrorKind.TheVariants as Kind
+use Rattle.nom_error.specs.Modes.{modes}
 use Rattle.nom_traits.specs.Input.{Seen}
 use Rattle.nom_internal.specs.Outcome.{Outcome}
 use Rattle.nom_internal.specs.Outcome.Outcome.{Accept, Refuse, Fail, TooLarge, Undecided}
@@ -37,11 +38,10 @@ many_rule EmptyGives ErrorGrows bound builds Keeps = record {
   bound = bound;
   turn = λ _. until_refused;
   Blames = λ _ _ j a P e. OnItem (EmptyGives j e) ⊥ (P e) a;
-  outputs = builds;
-  errors = λ _ _. false;
-  Asks = λ outputs errors _. OnItem ((errors ≡ true) × ErrorGrows) (Keeps outputs) ⊥;
+  part = λ _ mode. modes (builds mode.outputs) false mode.streaming;
+  Asks = λ mode _. OnItem ((mode.errors ≡ true) × ErrorGrows) (Keeps mode.outputs) ⊥;
   IsSound = λ Part. Part;
-  IsFrugal = λ PartIs outputs errors. PartIs (builds outputs) false × (Keeps outputs → ⊥) × (errors ≡ true → ErrorGrows → ⊥);
+  IsFrugal = λ PartIs mode. PartIs (modes (builds mode.outputs) false mode.streaming) × (Keeps mode.outputs → ⊥) × (mode.errors ≡ true → ErrorGrows → ⊥);
   NeverFails = λ Part. Part;
 }
 

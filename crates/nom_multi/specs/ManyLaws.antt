@@ -68,8 +68,8 @@ many_rule_laws EmptyGives ErrorGrows bound builds Keeps = record {
   decided = λ k a. until_decided a;
   ends = λ k a. until_ends a;
   blames = λ i k j a P Q e f. on_failed (EmptyGives j e) ⊥ a (λ r. f r e);
-  part_frugal = λ Part outputs errors k h. h.0;
-  asks_none = λ Part outputs errors k a h. on_none ((errors ≡ true) × ErrorGrows) (Keeps outputs) a (λ p. h.2 p.0 p.1) h.1;
+  part_frugal = λ Part mode k h. h.0;
+  asks_none = λ Part mode k a h. on_none ((mode.errors ≡ true) × ErrorGrows) (Keeps mode.outputs) a (λ p. h.2 p.0 p.1) h.1;
   never_fails = λ Part large k a h e. (h, until_fails large a e);
 }
 

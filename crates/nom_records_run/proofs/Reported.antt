@@ -3,6 +3,7 @@ use Rattle.std.proofs.Common.{◌≡◌, ℕ, Bool, true, false, ◌-◌, ◌<�
 use Rattle.nom_error.specs.declared.value.Error.{Error}
 use Rattle.nom_error.specs.declared.answer.Needed.{Needed}
 use Rattle.nom_error.specs.declared.answer.Err as Answer
+use Rattle.nom_error.specs.Modes.{with_outputs}
 use Rattle.nom_traits.specs.Input.{IsRest}
 use Rattle.nom_traits.specs.Rests.{span-ones}
 use Rattle.nom_traits.specs.Bytes.{seen_bytes}
@@ -106,8 +107,8 @@ grammar_lawful : (tag end : List ℕ) → IsLawful seen_bytes (grammar_of tag en
 grammar_lawful tag end =
     let number = labelled_lawful seen_bytes (take_meaning seen_bytes errors_at (bytes_lack seen_bytes) 1) (λ t. value_of 256 t.items) (take_lawful seen_bytes errors_at (bytes_lack seen_bytes) 1) in
     let length_data = length_data_lawful seen_bytes bytes_lawful errors_at bytes_lacking (λ t v. v ≡ t) (number_meaning seen_bytes errors_at (value_of 256) 1) (λ u m n a b. a ∙ sym b) number in
-    let item = sequence_lawful seen_bytes bytes_lawful (λ u v. v) (λ _. false) (λ o. o) (tag_of tag) (length_data_meaning seen_bytes errors_at bytes_lacking (λ t v. v ≡ t) (number_meaning seen_bytes errors_at (value_of 256) 1)) (tag_lawful seen_bytes bytes_lawful errors_at length ComparesBytes bytes_comparing tag) length_data in
-    sequence_lawful seen_bytes bytes_lawful (λ u v. u) (λ o. o) (λ _. false) (many0_meaning seen_bytes errors_at (record_of tag)) (tag_of end) (many0_lawful seen_bytes bytes_lawful errors_at (record_of tag) item) (tag_lawful seen_bytes bytes_lawful errors_at length ComparesBytes bytes_comparing end)
+    let item = sequence_lawful seen_bytes bytes_lawful (λ u v. v) (with_outputs false) (λ o. o) (tag_of tag) (length_data_meaning seen_bytes errors_at bytes_lacking (λ t v. v ≡ t) (number_meaning seen_bytes errors_at (value_of 256) 1)) (tag_lawful seen_bytes bytes_lawful errors_at length ComparesBytes bytes_comparing tag) length_data in
+    sequence_lawful seen_bytes bytes_lawful (λ u v. u) (λ o. o) (with_outputs false) (many0_meaning seen_bytes errors_at (record_of tag)) (tag_of end) (many0_lawful seen_bytes bytes_lawful errors_at (record_of tag) item) (tag_lawful seen_bytes bytes_lawful errors_at length ComparesBytes bytes_comparing end)
 
 grammar_never_fails : (large : Bool) (i : Bytes) → seen_bytes.IsKnown i → record_grammar.answers true i (failure large) → ⊥
 grammar_never_fails large i h = (grammar_lawful (codes "R") (codes ".")).never_fails large ((tt, (tt, tt)), tt) true i h

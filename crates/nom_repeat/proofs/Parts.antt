@@ -1,51 +1,52 @@
 -- What the answer of a part tells.
-use Rattle.std.proofs.Common.{◌≡◌, Bool, Result, Err, Option, ◌⊎◌, inl, inr, subst, sym}
+use Rattle.std.proofs.Common.{◌≡◌, Result, Err, Option, ◌⊎◌, inl, inr, subst, sym}
 use Rattle.nom_error.specs.declared.answer.Needed.{Needed}
 use Rattle.nom_error.specs.declared.answer.Err as Answer
 use Rattle.nom_error.specs.declared.answer.Err.TheVariants.{Incomplete, Error, Failure, OutOfMemory}
 use Rattle.nom_error.specs.Answers.{size_of}
+use Rattle.nom_error.specs.Modes.{Modes}
 use Rattle.nom_traits.specs.Input.{Seen}
 use Rattle.nom_internal.specs.Outcome.{Outcome, ShowsAnswer}
 use Rattle.nom_internal.specs.Outcome.Outcome.{Accept, Refuse, Fail, TooLarge, Undecided}
 use Rattle.nom_internal.specs.Outcome.ShowsAnswer.{RanOut, Shown}
 use Rattle.nom_internal.specs.Meaning.{Meaning, ShowsMeaning}
 
-module _ {I A V O E : Type 0} (w : Seen I A) (IsOutput : V → O → Type 0) (outputs errors : Bool) (i : I) (Answers : Outcome V → Type 0) (IsError : E → Type 0) (RunsOut : Type 0) where
-  pub part_refused : (f : Answer.Err E (Option E) Needed) (b : Option E) → f ≡ Error b → ShowsAnswer w IsOutput outputs errors i Answers IsError RunsOut (Err f) → Answers Refuse
-  part_refused f b is (RanOut e h) = absurd (cc (e, is))
-  part_refused f b is (Shown (Accept n v) a s) = absurd (cc (s.4))
-  part_refused f b is (Shown Refuse a s) = a
-  part_refused f b is (Shown Fail a s) = absurd (cc (is, s.2))
-  part_refused f b is (Shown TooLarge a s) = absurd (cc (is, s.2))
-  part_refused f b is (Shown (Undecided k) a s) = absurd (cc (is, s.2))
+module _ {I A V O E : Type 0} {w : Seen I A} {IsOutput : V → O → Type 0} {mode : Modes} {i : I} {Answers : Outcome V → Type 0} {IsError : E → Type 0} {RunsOut : Type 0} {f : Answer.Err E (Option E) Needed} where
+  pub part_refused : {b : Option E} → f ≡ Error b → ShowsAnswer w IsOutput mode i Answers IsError RunsOut (Err f) → Answers Refuse
+  part_refused is (RanOut e h) = absurd (cc (e, is))
+  part_refused is (Shown (Accept n v) a s) = absurd (cc (s.4))
+  part_refused is (Shown Refuse a s) = a
+  part_refused is (Shown Fail a s) = absurd (cc (is, s.2))
+  part_refused is (Shown TooLarge a s) = absurd (cc (is, s.2))
+  part_refused is (Shown (Undecided k) a s) = absurd (cc (is, s.2))
 
-  pub part_failed : (f : Answer.Err E (Option E) Needed) (x : E) → f ≡ Failure x → ShowsAnswer w IsOutput outputs errors i Answers IsError RunsOut (Err f) → (Answers Fail ⊎ Answers TooLarge) × IsError x
-  part_failed f x is (RanOut e h) = absurd (cc (e, is))
-  part_failed f x is (Shown (Accept n v) a s) = absurd (cc (s.4))
-  part_failed f x is (Shown Refuse a s) = absurd (cc (is, s.2))
-  part_failed f x is (Shown Fail a s) = let e : x ≡ s.0 = cc (is, s.2) in (inl a, subst (λ z. IsError z) (sym e) s.1)
-  part_failed f x is (Shown TooLarge a s) = let e : x ≡ s.0 = cc (is, s.2) in (inr a, subst (λ z. IsError z) (sym e) s.1)
-  part_failed f x is (Shown (Undecided k) a s) = absurd (cc (is, s.2))
+  pub part_failed : {x : E} → f ≡ Failure x → ShowsAnswer w IsOutput mode i Answers IsError RunsOut (Err f) → (Answers Fail ⊎ Answers TooLarge) × IsError x
+  part_failed is (RanOut e h) = absurd (cc (e, is))
+  part_failed is (Shown (Accept n v) a s) = absurd (cc (s.4))
+  part_failed is (Shown Refuse a s) = absurd (cc (is, s.2))
+  part_failed {x = x} is (Shown Fail a s) = let e : x ≡ s.0 = cc (is, s.2) in (inl a, subst (λ z. IsError z) (sym e) s.1)
+  part_failed {x = x} is (Shown TooLarge a s) = let e : x ≡ s.0 = cc (is, s.2) in (inr a, subst (λ z. IsError z) (sym e) s.1)
+  part_failed is (Shown (Undecided k) a s) = absurd (cc (is, s.2))
 
-  pub part_lacks : (f : Answer.Err E (Option E) Needed) (x : Needed) → f ≡ Incomplete x → ShowsAnswer w IsOutput outputs errors i Answers IsError RunsOut (Err f) → Answers (Undecided (size_of x))
-  part_lacks f x is (RanOut e h) = absurd (cc (e, is))
-  part_lacks f x is (Shown (Accept n v) a s) = absurd (cc (s.4))
-  part_lacks f x is (Shown Refuse a s) = absurd (cc (is, s.2))
-  part_lacks f x is (Shown Fail a s) = absurd (cc (is, s.2))
-  part_lacks f x is (Shown TooLarge a s) = absurd (cc (is, s.2))
-  part_lacks f x is (Shown (Undecided k) a s) =
+  pub part_lacks : {x : Needed} → f ≡ Incomplete x → ShowsAnswer w IsOutput mode i Answers IsError RunsOut (Err f) → Answers (Undecided (size_of x))
+  part_lacks is (RanOut e h) = absurd (cc (e, is))
+  part_lacks is (Shown (Accept n v) a s) = absurd (cc (s.4))
+  part_lacks is (Shown Refuse a s) = absurd (cc (is, s.2))
+  part_lacks is (Shown Fail a s) = absurd (cc (is, s.2))
+  part_lacks is (Shown TooLarge a s) = absurd (cc (is, s.2))
+  part_lacks {x = x} is (Shown (Undecided k) a s) =
       let e : s.0 ≡ x = cc (is, s.2) in
       let size : k ≡ size_of x = subst (λ z. k ≡ size_of z) e (sym s.1) in
       subst (λ z. Answers (Undecided z)) size a
 
-  pub part_ran_out : (f : Answer.Err E (Option E) Needed) → f ≡ OutOfMemory → ShowsAnswer w IsOutput outputs errors i Answers IsError RunsOut (Err f) → RunsOut
-  part_ran_out f is (RanOut e h) = h
-  part_ran_out f is (Shown (Accept n v) a s) = absurd (cc (s.4))
-  part_ran_out f is (Shown Refuse a s) = absurd (cc (is, s.2))
-  part_ran_out f is (Shown Fail a s) = absurd (cc (is, s.2))
-  part_ran_out f is (Shown TooLarge a s) = absurd (cc (is, s.2))
-  part_ran_out f is (Shown (Undecided k) a s) = absurd (cc (is, s.2))
+  pub part_ran_out : f ≡ OutOfMemory → ShowsAnswer w IsOutput mode i Answers IsError RunsOut (Err f) → RunsOut
+  part_ran_out is (RanOut e h) = h
+  part_ran_out is (Shown (Accept n v) a s) = absurd (cc (s.4))
+  part_ran_out is (Shown Refuse a s) = absurd (cc (is, s.2))
+  part_ran_out is (Shown Fail a s) = absurd (cc (is, s.2))
+  part_ran_out is (Shown TooLarge a s) = absurd (cc (is, s.2))
+  part_ran_out is (Shown (Undecided k) a s) = absurd (cc (is, s.2))
 
 -- the same at an equal state
-pub shown_at : {S I A V O E : Type 0} (w : Seen I A) (IsOutput : S → V → O → Type 0) (meaning : S → Meaning I V E) (outputs errors streaming : Bool) (i : I) (r : Result (I × Option O) (Answer.Err E (Option E) Needed)) (a b : S) → a ≡ b → ShowsMeaning w (IsOutput a) (meaning a) outputs errors streaming i r → ShowsMeaning w (IsOutput b) (meaning b) outputs errors streaming i r
-shown_at w IsOutput meaning outputs errors streaming i r a b e h = subst (λ z. ShowsMeaning w (IsOutput z) (meaning z) outputs errors streaming i r) e h
+pub shown_at : {S I A V O E : Type 0} {w : Seen I A} (IsOutput : S → V → O → Type 0) (meaning : S → Meaning I V E) {mode : Modes} {i : I} {r : Result (I × Option O) (Answer.Err E (Option E) Needed)} {a b : S} → a ≡ b → ShowsMeaning w (IsOutput a) (meaning a) mode i r → ShowsMeaning w (IsOutput b) (meaning b) mode i r
+shown_at {w = w} IsOutput meaning {mode = mode} {i = i} {r = r} e h = subst (λ z. ShowsMeaning w (IsOutput z) (meaning z) mode i r) e h

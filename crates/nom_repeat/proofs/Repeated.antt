@@ -1,9 +1,8 @@
 -- What a repetition shows.
-use Rattle.std.proofs.Common.{◌≡◌, ℕ, ◌+◌, ◌<◌, Bool, true, false, Result, Ok, Err, Option, ◌⊎◌, List, [], ◌∷◌, ◌++◌, length, refl, zero, suc, arith, ap, inl, inr, subst, sym}
+use Rattle.std.proofs.Common.{◌≡◌, ℕ, ◌+◌, ◌<◌, Bool, Ok, Err, Option, ◌⊎◌, List, [], ◌∷◌, ◌++◌, length, refl, zero, suc, arith, inl, inr, subst, sym}
 use Rattle.nom_error.specs.declared.answer.Needed.{Needed}
-use Rattle.nom_error.specs.declared.answer.Err as Answer
 use Rattle.nom_error.specs.declared.answer.Err.TheVariants.{Incomplete, Error, Failure, OutOfMemory}
-use Rattle.nom_error.specs.Modes.{Built}
+use Rattle.nom_error.specs.Modes.{Built, Modes}
 use Rattle.nom_error.specs.Answers.{size_of}
 use Rattle.nom_traits.specs.Input.{Seen, InputLaws, IsRest, input_len}
 use Rattle.nom_traits.specs.Rests.{rest_rest}
@@ -14,6 +13,7 @@ use Rattle.nom_internal.specs.Meaning.{ShowsMeaning}
 use Rattle.nom_internal.specs.Families.{Family}
 use Rattle.nom_internal.specs.Sequence.{after}
 use Rattle.nom_internal.proofs.Consumed.{rest_length}
+use Rattle.nom_internal.proofs.Shown.{built_error}
 use Rattle.nom_repeat.specs.Repeat.{Turn, Pieces, Reaches, Repeats, IsBelow, Replies, OnReply, TurnsBy, Rule, repeat_meaning}
 use Rattle.nom_repeat.specs.Repeat.Turn.{Takes, Ends}
 
@@ -38,12 +38,12 @@ module _ {I A V T : Type 0} (w : Seen I A) (Turns : ℕ → I → Turn V T → T
   pieces_more h j a v c r t k i (u ∷ vs) n e p =
       (p.0, p.1 + a, p.2, p.3, p.4, pieces_more h j a v c r t (k + 1) p.2 vs p.1 (omega (arith, e)) p.5, omega (arith, p.6))
 
-module _ {I A V T : Type 0} (w : Seen I A) (l : InputLaws w) (Turns : ℕ → I → Turn V T → Type 0) where
-  pub collected_none : {Held : List V → Type 0} (i : I) → w.IsKnown i → Held [] → Collected w Turns Held i i
-  collected_none i known h = record { trees = []; taken = 0; pieces = (refl, refl); rest_is = record { known = known; front = []; whole = refl; length_is = refl; mark_is = sym (l.mark_none (w.mark i)) }; held = h }
+module _ {I A V T : Type 0} {w : Seen I A} (l : InputLaws w) where
+  pub collected_none : {Turns : ℕ → I → Turn V T → Type 0} {Held : List V → Type 0} {i : I} → w.IsKnown i → Held [] → Collected w Turns Held i i
+  collected_none {i = i} known h = record { trees = []; taken = 0; pieces = (refl, refl); rest_is = record { known = known; front = []; whole = refl; length_is = refl; mark_is = sym (l.mark_none (w.mark i)) }; held = h }
 
-  pub collected_more : {Held More : List V → Type 0} (i j h : I) (a : ℕ) (v : V) → (c : Collected w Turns Held i j) → Turns (length c.trees) j (Takes a v) → IsRest w j a h → More (c.trees ++ v ∷ []) → Collected w Turns More i h
-  collected_more i j h a v c t q z = record {
+  pub collected_more : (Turns : ℕ → I → Turn V T → Type 0) {Held More : List V → Type 0} {i j h : I} {a : ℕ} (v : V) → (c : Collected w Turns Held i j) → Turns (length c.trees) j (Takes a v) → IsRest w j a h → More (c.trees ++ v ∷ []) → Collected w Turns More i h
+  collected_more Turns {i = i} {j = j} {h = h} {a = a} v c t q z = record {
     trees = c.trees ++ v ∷ [];
     taken = c.taken + a;
     pieces = pieces_more w Turns j h a v (length c.trees) q t 0 i c.trees c.taken (omega arith) c.pieces;
@@ -51,10 +51,7 @@ module _ {I A V T : Type 0} (w : Seen I A) (l : InputLaws w) (Turns : ℕ → I 
     held = z;
   }
 
-module _ {I A P V T R O E : Type 0} (w : Seen I A) (r : Rule I P V T E) (tree : List V → T → R) (f : Family ℕ I P E) (s : Bool) (IsOutput : R → O → Type 0) (outputs errors : Bool) {Held : List V → Type 0} (i j : I) (c : Collected w (TurnsBy r.bound r.turn (λ k. (f.at k).answers s)) Held i j) where
-  abbrev Goal : Result (I × Option O) (Answer.Err E (Option E) Needed) → Type 0
-  Goal = ShowsMeaning w IsOutput (repeat_meaning w r tree f) outputs errors s i
-
+module _ {I A P V T R E : Type 0} (w : Seen I A) (r : Rule I P V T E) (tree : List V → T → R) (f : Family ℕ I P E) (s : Bool) {Held : List V → Type 0} (i j : I) (c : Collected w (TurnsBy r.bound r.turn (λ k. (f.at k).answers s)) Held i j) where
   reaches : (Fact : ℕ → I → Type 0) → Fact (length c.trees) j → Reaches w (TurnsBy r.bound r.turn (λ k. (f.at k).answers s)) Fact i
   reaches Fact h = record { trees = c.trees; taken = c.taken; pieces = pieces_end w (TurnsBy r.bound r.turn (λ k. (f.at k).answers s)) Fact j (length c.trees) h 0 i c.trees c.taken (omega arith) c.pieces }
 
@@ -63,49 +60,48 @@ module _ {I A P V T R O E : Type 0} (w : Seen I A) (r : Rule I P V T E) (tree : 
     ends : (o : Outcome T) → Ends o ≡ r.turn (length c.trees) a → Repeats w (TurnsBy r.bound r.turn (λ k. (f.at k).answers s)) tree i (after c.taken (tree c.trees) o)
     ends o t = record { trees = c.trees; taken = c.taken; ending = o; pieces = pieces_end w (TurnsBy r.bound r.turn (λ k. (f.at k).answers s)) (λ k x. TurnsBy r.bound r.turn (λ k. (f.at k).answers s) k x (Ends o)) j (length c.trees) (record { reply = a; replied = p; fact = t }) 0 i c.trees c.taken (omega arith) c.pieces; outcome_is = refl }
 
-    -- the repetition ends with success, before what the part accepts
-    pub ended : (t : T) → Ends (Accept 0 t) ≡ r.turn (length c.trees) a → (b : Option O) → Built outputs (IsOutput (tree c.trees t)) b → Goal (Ok (j, b))
-    ended t e b h = Shown (Accept (c.taken + 0) (tree c.trees t)) (ends (Accept 0 t) e) (j, b, subst (λ n. IsRest w i n j) (omega arith) c.rest_is, h, refl)
-
-    abbrev IsBlamed : E → Type 0
-    IsBlamed = r.Blames i (length c.trees) j a ((f.at (length c.trees)).blames s j)
-
     -- it ends by an error that is blamed on the part's outcome
-    blamed : (e : E) → IsBlamed e → (repeat_meaning w r tree f).blames s i e
+    blamed : (e : E) → r.Blames i (length c.trees) j a ((f.at (length c.trees)).blames s j) e → (repeat_meaning w r tree f).blames s i e
     blamed e h = reaches (λ k x. OnReply r.bound (λ k. (f.at k).answers s) (λ y. r.Blames i k x y ((f.at k).blames s x) e) k x) (record { reply = a; replied = p; fact = h })
 
-    built_error : (x : Bool) (b : Option E) → Built x IsBlamed b → Built x ((repeat_meaning w r tree f).blames s i) b
-    built_error true b h = (h.0, h.1, blamed h.0 h.2)
-    built_error false b h = h
+module _ {I A P V T R O E : Type 0} {w : Seen I A} (r : Rule I P V T E) (tree : List V → T → R) (f : Family ℕ I P E) {IsOutput : R → O → Type 0} {mode : Modes} {Held : List V → Type 0} {i j : I} (c : Collected w (TurnsBy r.bound r.turn (λ k. (f.at k).answers mode.streaming)) Held i j) where
+  -- what the part replies here
+  module _ (a : Option (Outcome P)) (p : Replies r.bound (λ k. (f.at k).answers mode.streaming) (length c.trees) j a) where
+    -- the repetition ends with success, before what the part accepts
+    pub ended : (t : T) → Ends (Accept 0 t) ≡ r.turn (length c.trees) a → {b : Option O} → Built mode.outputs (IsOutput (tree c.trees t)) b → ShowsMeaning w IsOutput (repeat_meaning w r tree f) mode i (Ok (j, b))
+    ended t e {b = b} h = Shown (Accept (c.taken + 0) (tree c.trees t)) (ends w r tree f mode.streaming i j c a p (Accept 0 t) e) (j, b, subst (λ n. IsRest w i n j) (omega arith) c.rest_is, h, refl)
 
-    pub refused : Ends Refuse ≡ r.turn (length c.trees) a → (b : Option E) → Built errors IsBlamed b → Goal (Err (Error b))
-    refused e b h = Shown Refuse (ends Refuse e) (b, built_error errors b h, refl)
+    pub refused : Ends Refuse ≡ r.turn (length c.trees) a → (b : Option E) → Built mode.errors (r.Blames i (length c.trees) j a ((f.at (length c.trees)).blames mode.streaming j)) b → ShowsMeaning w IsOutput (repeat_meaning w r tree f) mode i (Err (Error b))
+    refused e b h = Shown Refuse (ends w r tree f mode.streaming i j c a p Refuse e) (b, built_error mode.errors _ _ b (blamed w r tree f mode.streaming i j c a p) h, refl)
 
-    pub failed : Ends Fail ≡ r.turn (length c.trees) a → (x : E) → IsBlamed x → Goal (Err (Failure x))
-    failed e x h = Shown Fail (ends Fail e) (x, blamed x h, refl)
+    pub failed : Ends Fail ≡ r.turn (length c.trees) a → (x : E) → r.Blames i (length c.trees) j a ((f.at (length c.trees)).blames mode.streaming j) x → ShowsMeaning w IsOutput (repeat_meaning w r tree f) mode i (Err (Failure x))
+    failed e x h = Shown Fail (ends w r tree f mode.streaming i j c a p Fail e) (x, blamed w r tree f mode.streaming i j c a p x h, refl)
 
-    pub too_large : Ends TooLarge ≡ r.turn (length c.trees) a → (x : E) → IsBlamed x → Goal (Err (Failure x))
-    too_large e x h = Shown TooLarge (ends TooLarge e) (x, blamed x h, refl)
+    pub too_large : Ends TooLarge ≡ r.turn (length c.trees) a → (x : E) → r.Blames i (length c.trees) j a ((f.at (length c.trees)).blames mode.streaming j) x → ShowsMeaning w IsOutput (repeat_meaning w r tree f) mode i (Err (Failure x))
+    too_large e x h = Shown TooLarge (ends w r tree f mode.streaming i j c a p TooLarge e) (x, blamed w r tree f mode.streaming i j c a p x h, refl)
 
-    pub lacking : (k : Needed) → Ends (Undecided (size_of k)) ≡ r.turn (length c.trees) a → Goal (Err (Incomplete k))
-    lacking k e = Shown (Undecided (size_of k)) (ends (Undecided (size_of k)) e) (k, refl, refl)
+    pub lacking : {k : Needed} → Ends (Undecided (size_of k)) ≡ r.turn (length c.trees) a → ShowsMeaning w IsOutput (repeat_meaning w r tree f) mode i (Err (Incomplete k))
+    lacking {k = k} e = Shown (Undecided (size_of k)) (ends w r tree f mode.streaming i j c a p (Undecided (size_of k)) e) (k, refl, refl)
 
     -- memory ran out at what the part replies
-    pub ran_out : r.Asks outputs errors (length c.trees) a → Goal (Err OutOfMemory)
-    ran_out h = RanOut refl (reaches (λ k x. OnReply r.bound (λ k. (f.at k).answers s) (r.Asks outputs errors k) k x ⊎ (IsBelow r.bound k × (f.at k).runs_out (r.outputs outputs) (r.errors k errors) s x)) (inl (record { reply = a; replied = p; fact = h })))
+    pub ran_out : r.Asks mode (length c.trees) a → ShowsMeaning w IsOutput (repeat_meaning w r tree f) mode i (Err OutOfMemory)
+    ran_out h = RanOut refl (reaches w r tree f mode.streaming i j c (λ k x. OnReply r.bound (λ k. (f.at k).answers mode.streaming) (r.Asks mode k) k x ⊎ (IsBelow r.bound k × (f.at k).runs_out (r.part k mode) x)) (inl (record { reply = a; replied = p; fact = h })))
 
   -- memory ran out in the part
-  pub ran_out_within : IsBelow r.bound (length c.trees) → (f.at (length c.trees)).runs_out (r.outputs outputs) (r.errors (length c.trees) errors) s j → Goal (Err OutOfMemory)
-  ran_out_within b h = RanOut refl (reaches (λ k x. OnReply r.bound (λ k. (f.at k).answers s) (r.Asks outputs errors k) k x ⊎ (IsBelow r.bound k × (f.at k).runs_out (r.outputs outputs) (r.errors k errors) s x)) (inr (b, h)))
+  pub ran_out_within : IsBelow r.bound (length c.trees) → (f.at (length c.trees)).runs_out (r.part (length c.trees) mode) j → ShowsMeaning w IsOutput (repeat_meaning w r tree f) mode i (Err OutOfMemory)
+  ran_out_within b h = RanOut refl (reaches w r tree f mode.streaming i j c (λ k x. OnReply r.bound (λ k. (f.at k).answers mode.streaming) (r.Asks mode k) k x ⊎ (IsBelow r.bound k × (f.at k).runs_out (r.part k mode) x)) (inr (b, h)))
 
 -- lengths tell whether a part consumed
-module _ {I A : Type 0} (w : Seen I A) where
-  pub is_empty : (i : I) (n : ℕ) (j : I) (a b : ℕ) → IsRest w i n j → b ≡ input_len w j → a ≡ input_len w i → b ≡ a → n ≡ 0
-  is_empty i n j a b r x y e = omega (arith, rest_length w i n j r)
+module _ {I A : Type 0} {w : Seen I A} {i : I} {n : ℕ} {j : I} where
+  pub is_empty : {a b : ℕ} → IsRest w i n j → b ≡ input_len w j → a ≡ input_len w i → b ≡ a → n ≡ 0
+  is_empty r x y e = omega (arith, rest_length r, x, y, e)
 
-  pub consumes : (i : I) (n : ℕ) (j : I) (a b : ℕ) → IsRest w i n j → b ≡ input_len w j → a ≡ input_len w i → (b ≡ a → ⊥) → 0 < n
-  consumes i zero j a b r x y e = absurd (e (omega (arith, rest_length w i zero j r)))
-  consumes i (suc n) j a b r x y e = omega arith
+  pub consumes : {a b : ℕ} → IsRest w i n j → b ≡ input_len w j → a ≡ input_len w i → (b ≡ a → ⊥) → 0 < n
+  consumes {a} {b} r x y e = by_cases n r x y e
+    where
+      by_cases : (m : ℕ) → IsRest w i m j → b ≡ input_len w j → a ≡ input_len w i → (b ≡ a → ⊥) → 0 < m
+      by_cases zero r x y e = absurd (e (omega (arith, rest_length r, x, y)))
+      by_cases (suc m) r x y e = omega arith
 
-  pub is_shorter : (i : I) (n : ℕ) (j : I) → IsRest w i n j → 0 < n → input_len w j < input_len w i
-  is_shorter i n j r p = omega (arith, rest_length w i n j r)
+  pub is_shorter : IsRest w i n j → 0 < n → input_len w j < input_len w i
+  is_shorter r p = omega (arith, rest_length r, p)

@@ -11,6 +11,7 @@
 -- - An end that is tried first, or else an item, are one part, whose tree is of the one or of the other, and whose errors are
 --   the item's. An accepted end ends the repetition with its tree, and consumes; an accepted item is taken.
 use Rattle.std.specs.Prelude.{◌≡◌, ℕ, ◌+◌, ◌<◌, Bool, ◌⊎◌, Option, Some, None, List, [], ◌∷◌}
+use Rattle.nom_error.specs.Modes.{Modes}
 use Rattle.nom_traits.specs.Input.{Seen, IsRest}
 use Rattle.nom_internal.specs.Outcome.{Outcome}
 use Rattle.nom_internal.specs.Meaning.{Meaning}
@@ -76,14 +77,13 @@ pub record Rule (I P V T E : Type 0) : Type 1 where
   pub turn : ℕ → Option (Outcome P) → Turn V T
   -- the error, where it ends so: from its start, after so many items, at a place, by what the part replies and by its errors there
   pub Blames : I → ℕ → I → Option (Outcome P) → (E → Type 0) → E → Type 0
-  -- does the part build its outputs, and after so many items its errors, by whether the repetition does
-  pub outputs : Bool → Bool
-  pub errors : ℕ → Bool → Bool
-  -- may it ask for memory after so many items, by what is built of outputs and errors, and by what the part replies
-  pub Asks : Bool → Bool → ℕ → Option (Outcome P) → Type 0
+  -- what the part builds after so many items, by what the repetition does
+  pub part : ℕ → Modes → Modes
+  -- may it ask for memory after so many items, by what is built and by what the part replies
+  pub Asks : Modes → ℕ → Option (Outcome P) → Type 0
   -- by what holds of the parts: its premise, that it is frugal, that it never fails
   pub IsSound : Type 0 → Type 0
-  pub IsFrugal : (Bool → Bool → Type 0) → Bool → Bool → Type 0
+  pub IsFrugal : (Modes → Type 0) → Modes → Type 0
   pub NeverFails : (Bool → Type 0) → Bool → Type 0
 
 -- The repetition, by a rule, of a part for each count of items before it, with a tree made of its items' trees and its end's.
@@ -92,7 +92,7 @@ repeat_meaning w r tree f = record {
   IsSound = r.IsSound f.IsSound;
   answers = λ s. Repeats w (TurnsBy r.bound r.turn (λ k. (f.at k).answers s)) tree;
   blames = λ s i e. Reaches w (TurnsBy r.bound r.turn (λ k. (f.at k).answers s)) (λ k j. OnReply r.bound (λ k. (f.at k).answers s) (λ a. r.Blames i k j a ((f.at k).blames s j) e) k j) i;
-  runs_out = λ outputs errors s. Reaches w (TurnsBy r.bound r.turn (λ k. (f.at k).answers s)) (λ k j. OnReply r.bound (λ k. (f.at k).answers s) (r.Asks outputs errors k) k j ⊎ (IsBelow r.bound k × (f.at k).runs_out (r.outputs outputs) (r.errors k errors) s j));
+  runs_out = λ mode. Reaches w (TurnsBy r.bound r.turn (λ k. (f.at k).answers mode.streaming)) (λ k j. OnReply r.bound (λ k. (f.at k).answers mode.streaming) (r.Asks mode k) k j ⊎ (IsBelow r.bound k × (f.at k).runs_out (r.part k mode) j));
   IsFrugal = r.IsFrugal f.IsFrugal;
   Settles = f.Settles;
   NeverFails = r.NeverFails f.NeverFails;

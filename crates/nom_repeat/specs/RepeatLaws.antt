@@ -1,16 +1,16 @@
 -- The laws of repetitions.
 use Rattle.std.specs.Prelude.{◌≡◌, ℕ, ◌+◌, Bool, true, false, not, ◌⊎◌, Option, Some, None, List, [], ◌∷◌, refl}
 use Rattle.std.proofs.Common.{arith, sym, ◌∙◌, ap, subst, inl, inr}
+use Rattle.nom_error.specs.Modes.{Modes}
 use Rattle.nom_traits.specs.Input.{Seen, InputLaws, IsRest, IsPlace, IsSame, Related}
 use Rattle.nom_traits.specs.Rests.{same_self, rest_related, rest_alike, place_more}
 use Rattle.nom_internal.specs.Outcome.{Outcome, IsDecided, failure}
 use Rattle.nom_internal.specs.Outcome.Outcome.{Accept, Refuse, Fail, TooLarge, Undecided}
-use Rattle.nom_internal.specs.Meaning.{Meaning, IsLawful, IsSteady, Keeps, Agree, Carries, Within, SameBlame}
-use Rattle.nom_internal.specs.PartLaws.{transfers}
+use Rattle.nom_internal.specs.Meaning.{IsLawful, IsSteady, Keeps, Agree, Carries, Within, SameBlame}
+use Rattle.nom_internal.specs.PartLaws.{keeps_mapped, failure_mapped, transfers}
 use Rattle.nom_internal.specs.Success.{place_zero}
 use Rattle.nom_internal.specs.Families.{Family, IsLawfulFamily, AnyKey}
 use Rattle.nom_internal.specs.Sequence.{after}
-use Rattle.nom_internal.specs.SequenceLaws.{keeps_after, failure_after}
 use Rattle.nom_repeat.specs.Repeat.{Turn, Pieces, Reaches, Repeats, IsBelow, Replies, Ran, OnReply, TurnsBy, Rule, repeat_meaning}
 use Rattle.nom_repeat.specs.Repeat.Turn.{Takes, Ends}
 
@@ -67,7 +67,7 @@ module _ {I A V T : Type 0} (w : Seen I A) (l : InputLaws w) (longer : Bool) (F 
 
   pub repeats_agree : {R : Type 0} (tree : List V → T → R) → AgreeTurns w longer F G → Agree w longer (Repeats w F tree) (Repeats w G tree)
   repeats_agree tree f x y o p kx ky r a d b =
-      let kept = keeps_after longer a.taken (tree a.trees) a.ending (subst (λ z. Keeps longer z) a.outcome_is d) in
+      let kept = keeps_mapped longer (λ m. a.taken + m) (tree a.trees) a.ending (subst (λ z. Keeps longer z) a.outcome_is d) in
       let e = pieces_agree f 0 x y a.trees b.trees a.taken b.taken a.ending b.ending kx ky r kept a.pieces b.pieces in
       a.outcome_is ∙ (ap (λ z. after z (tree a.trees) a.ending) e.taken_is ∙ (ap (λ z. after b.taken (tree z) a.ending) e.trees_are ∙ (ap (λ z. after b.taken (tree b.trees) z) e.ending_is ∙ sym b.outcome_is)))
 
@@ -99,7 +99,7 @@ module _ {I A V T : Type 0} (w : Seen I A) (F : ℕ → I → Turn V T → Type 
 
   pub repeats_never : {R : Type 0} (tree : List V → T → R) (large : Bool) → ((k : ℕ) (j : I) → w.IsKnown j → F k j (Ends (failure large)) → ⊥) → (i : I) → w.IsKnown i → Repeats w F tree i (failure large) → ⊥
   repeats_never tree large f i h a =
-      let e = failure_after large a.taken (tree a.trees) a.ending a.outcome_is in
+      let e = failure_mapped large (λ m. a.taken + m) (tree a.trees) a.ending a.outcome_is in
       pieces_never (λ k j. F k j (Ends (failure large))) f 0 i a.trees a.taken h (subst (λ z. Pieces w F (λ k j. F k j (Ends z)) 0 i a.trees a.taken) e a.pieces)
 
 module _ {I A V T : Type 0} (w : Seen I A) (F G : ℕ → I → Turn V T → Type 0) where
@@ -116,7 +116,7 @@ module _ {I A V T : Type 0} (w : Seen I A) (decided : Bool) (F G : ℕ → I →
 
   pub repeats_carry : {R : Type 0} (tree : List V → T → R) → CarriesTurns w decided F G → Carries w decided (Repeats w F tree) (Repeats w G tree)
   repeats_carry tree f x y o kx ky r a d =
-      let kept = keeps_after decided a.taken (tree a.trees) a.ending (subst (λ z. Keeps decided z) a.outcome_is d) in
+      let kept = keeps_mapped decided (λ m. a.taken + m) (tree a.trees) a.ending (subst (λ z. Keeps decided z) a.outcome_is d) in
       record {
         trees = a.trees;
         taken = a.taken;
@@ -160,8 +160,8 @@ pub record RuleLaws {I P V T E : Type 0} (r : Rule I P V T E) : Type 1 where
   -- the errors of the part, where it ran, stand for themselves
   pub blames : (i : I) (k : ℕ) (j : I) (a : Option (Outcome P)) (X Y : E → Type 0) (e : E) → (Ran a → (f : E) → X f → Y f) → r.Blames i k j a X e → r.Blames i k j a Y e
   -- where it is frugal, so is the part, and it asks for no memory
-  pub part_frugal : (PartIs : Bool → Bool → Type 0) (outputs errors : Bool) (k : ℕ) → r.IsFrugal PartIs outputs errors → PartIs (r.outputs outputs) (r.errors k errors)
-  pub asks_none : (PartIs : Bool → Bool → Type 0) (outputs errors : Bool) (k : ℕ) (a : Option (Outcome P)) → r.IsFrugal PartIs outputs errors → r.Asks outputs errors k a → ⊥
+  pub part_frugal : (PartIs : Modes → Type 0) (mode : Modes) (k : ℕ) → r.IsFrugal PartIs mode → PartIs (r.part k mode)
+  pub asks_none : (PartIs : Modes → Type 0) (mode : Modes) (k : ℕ) (a : Option (Outcome P)) → r.IsFrugal PartIs mode → r.Asks mode k a → ⊥
   -- where it never fails, nor does the part, and it fails where the part does
   pub never_fails : (Part : Bool → Type 0) (large : Bool) (k : ℕ) (a : Option (Outcome P)) → r.NeverFails Part large → Ends (failure large) ≡ r.turn k a → Part large × (a ≡ Some (failure large))
 
@@ -265,16 +265,16 @@ module _ {I A P V T R E : Type 0} (w : Seen I A) (l : InputLaws w) (r : Rule I P
 
     blames_alike : f.Settles → (s : Bool) (i : I) (o : Outcome R) (e : E) → w.IsKnown i → Repeats w (Turns true) tree i o → IsDecided o → (repeat_meaning w r tree f).blames s i e → (repeat_meaning w r tree f).blames (not s) i e
     blames_alike t s i o e h a d b =
-        let decided = keeps_after true a.taken (tree a.trees) a.ending (subst (λ z. IsDecided z) a.outcome_is d) in
+        let decided = keeps_mapped true (λ m. a.taken + m) (tree a.trees) a.ending (subst (λ z. IsDecided z) a.outcome_is d) in
         reaches_too w l (Turns s) (Turns (not s)) (agree s) (alike (not s)) (Blamed s i e) (Blamed (not s) i e) (blamed_too t s i e) i a.trees a.taken a.ending h decided (in_both t s i a.trees a.taken a.ending h decided a.pieces) b
 
     both_blames : f.Settles → (s : Bool) → SameBlame w (Repeats w (Turns s) tree) (Repeats w (Turns (not s)) tree) ((repeat_meaning w r tree f).blames s) ((repeat_meaning w r tree f).blames (not s))
     both_blames t true i o e h a b d z = blames_alike t true i o e h a d z
     both_blames t false i o e h a b d z = blames_alike t false i o e h b d z
 
-    never_asks : (outputs errors s : Bool) → r.IsFrugal f.IsFrugal outputs errors → (k : ℕ) (j : I) → w.IsKnown j → OnReply r.bound (Part s) (r.Asks outputs errors k) k j ⊎ (IsBelow r.bound k × (f.at k).runs_out (r.outputs outputs) (r.errors k errors) s j) → ⊥
-    never_asks outputs errors s g k j h (inl a) = rl.asks_none f.IsFrugal outputs errors k a.reply g a.fact
-    never_asks outputs errors s g k j h (inr a) = (q.lawful k tt).frugal (r.outputs outputs) (r.errors k errors) s j h (q.frugal (r.outputs outputs) (r.errors k errors) (rl.part_frugal f.IsFrugal outputs errors k g) k tt) a.1
+    never_asks : (mode : Modes) → r.IsFrugal f.IsFrugal mode → (k : ℕ) (j : I) → w.IsKnown j → OnReply r.bound (Part mode.streaming) (r.Asks mode k) k j ⊎ (IsBelow r.bound k × (f.at k).runs_out (r.part k mode) j) → ⊥
+    never_asks mode g k j h (inl a) = rl.asks_none f.IsFrugal mode k a.reply g a.fact
+    never_asks mode g k j h (inr a) = (q.lawful k tt).frugal (r.part k mode) j h (q.frugal (r.part k mode) (rl.part_frugal f.IsFrugal mode k g) k tt) a.1
 
     never : (large s : Bool) → r.NeverFails f.NeverFails large → (k : ℕ) (j : I) → w.IsKnown j → Turns s k j (Ends (failure large)) → ⊥
     never large s g k j h a =
@@ -286,7 +286,7 @@ module _ {I A P V T R E : Type 0} (w : Seen I A) (l : InputLaws w) (r : Rule I P
       within = λ s. repeats_within w (Turns s) tree (λ k j n t kj z. end_place s (λ c. (q.lawful c tt).within s) k j n z.reply kj z.replied (rl.ends k z.reply n t z.fact));
       one_outcome = λ s. repeats_agree w l false (Turns s) (Turns s) tree (agree s);
       alike = λ s. repeats_carry w false (Turns s) (Turns s) tree (alike s);
-      frugal = λ outputs errors s i h g. reaches_never w (Turns s) (λ k j. OnReply r.bound (Part s) (r.Asks outputs errors k) k j ⊎ (IsBelow r.bound k × (f.at k).runs_out (r.outputs outputs) (r.errors k errors) s j)) (never_asks outputs errors s g) i h;
+      frugal = λ mode i h g. reaches_never w (Turns mode.streaming) (λ k j. OnReply r.bound (Part mode.streaming) (r.Asks mode k) k j ⊎ (IsBelow r.bound k × (f.at k).runs_out (r.part k mode) j)) (never_asks mode g) i h;
       settles = λ t. repeats_carry w true (Turns true) (Turns false) tree (settle t);
       blames_alike = both_blames;
       never_fails = λ large g s i h. repeats_never w (Turns s) tree large (never large s g) i h;

@@ -1,5 +1,6 @@
 //! The parsers that run two parts in sequence.
 ghost use Rattle.std.specs.Prelude.{false};
+ghost use Rattle.nom_error.specs.Modes.{with_outputs};
 ghost use Rattle.nom_internal.specs.SequenceLaws.{sequence_lawful, sequence_steady};
 ghost use Rattle.nom_sequence.specs.Sequences.{preceded_meaning, terminated_meaning};
 
@@ -41,7 +42,7 @@ impl<I: Items, F: Parser<I> + Drop, G: Parser<I, Error = F::Error> + Drop> Parse
         self.second.process::<OM>(rest)
     }
 
-    ghost lawful = { λ s k. sequence_lawful I.seen I.lawful (λ u v. v) (λ _. false) (λ o. o) (F.meaning s.0) (G.meaning s.1) (F.lawful s.0 k.0) (G.lawful s.1 k.1) };
+    ghost lawful = { λ s k. sequence_lawful I.seen I.lawful (λ u v. v) (with_outputs false) (λ o. o) (F.meaning s.0) (G.meaning s.1) (F.lawful s.0 k.0) (G.lawful s.1 k.1) };
 }
 
 impl<I: Items, F: StreamParser<I> + Drop, G: StreamParser<I, Error = F::Error> + Drop> StreamParser<
@@ -49,7 +50,7 @@ impl<I: Items, F: StreamParser<I> + Drop, G: StreamParser<I, Error = F::Error> +
 > for Preceded<F, G> {
     ghost pinned = { λ s k p. G.pinned s.1 k.1 p };
 
-    ghost steady = { λ s k. sequence_steady I.seen I.lawful (λ u v. v) (λ _. false) (λ o. o) (F.meaning s.0) (G.meaning s.1) (F.steady s.0 k.0) (G.steady s.1 k.1) };
+    ghost steady = { λ s k. sequence_steady I.seen I.lawful (λ u v. v) (with_outputs false) (λ o. o) (F.meaning s.0) (G.meaning s.1) (F.steady s.0 k.0) (G.steady s.1 k.1) };
 }
 
 /// One parser after another, with the first's output; made by `terminated`.
@@ -86,7 +87,7 @@ impl<I: Items, F: Parser<I> + Drop, G: Parser<I, Error = F::Error> + Drop> Parse
         Ok((rest, first))
     }
 
-    ghost lawful = { λ s k. sequence_lawful I.seen I.lawful (λ u v. u) (λ o. o) (λ _. false) (F.meaning s.0) (G.meaning s.1) (F.lawful s.0 k.0) (G.lawful s.1 k.1) };
+    ghost lawful = { λ s k. sequence_lawful I.seen I.lawful (λ u v. u) (λ o. o) (with_outputs false) (F.meaning s.0) (G.meaning s.1) (F.lawful s.0 k.0) (G.lawful s.1 k.1) };
 }
 
 impl<I: Items, F: StreamParser<I> + Drop, G: StreamParser<I, Error = F::Error> + Drop> StreamParser<
@@ -94,5 +95,5 @@ impl<I: Items, F: StreamParser<I> + Drop, G: StreamParser<I, Error = F::Error> +
 > for Terminated<F, G> {
     ghost pinned = { λ s k p. F.pinned s.0 k.0 p };
 
-    ghost steady = { λ s k. sequence_steady I.seen I.lawful (λ u v. u) (λ o. o) (λ _. false) (F.meaning s.0) (G.meaning s.1) (F.steady s.0 k.0) (G.steady s.1 k.1) };
+    ghost steady = { λ s k. sequence_steady I.seen I.lawful (λ u v. u) (λ o. o) (with_outputs false) (F.meaning s.0) (G.meaning s.1) (F.steady s.0 k.0) (G.steady s.1 k.1) };
 }

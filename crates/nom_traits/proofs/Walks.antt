@@ -54,9 +54,6 @@ module _ {I A S : Type 0} (w : Seen I A) (Meets Ends : A → Type 0) (steps : S 
     pub place_is : place ≡ span w.weight passed
     pub gives : AlwaysYields steps (λ x. x) s rest
 
-  pub walk_begins : (i : I) (s : S) → AlwaysYields steps (λ x. x) s (w.elements i) → IsWalking i 0 s
-  walk_begins i s h = record { passed = []; rest = w.elements i; whole = refl; meets = All-nil Meets; place_is = refl; gives = h }
-
   -- the next item
   record IsNext (i : I) (n : ℕ) (x : A) (t : S) : Type 0 where
     passed : List A
@@ -82,15 +79,23 @@ module _ {I A S : Type 0} (w : Seen I A) (Meets Ends : A → Type 0) (steps : S 
   next_in : (i : I) (s t : S) (n : ℕ) (x : A) → IsWalking i n s → steps s (Some x) t → IsNext i n x t
   next_in i s t n x h k = next_of i s t n x h.passed h.rest h.whole h.meets h.place_is h.gives k
 
+  ends_of : (i : I) (s t : S) (passed rest : List A) → w.elements i ≡ passed ++ rest → All Meets passed → AlwaysYields steps (λ x. x) s rest → steps s None t → All Meets (w.elements i)
+  ends_of i s t passed [] e h g k = subst (All Meets) (sym (e ∙ append-nil passed)) h
+  ends_of i s t passed (y ∷ rest) e h g k = absurd (g.0 t k)
+
+module _ {I A S : Type 0} {w : Seen I A} {Meets Ends : A → Type 0} {steps : S → Option A → S → Type 0} where
+  pub walk_begins : {i : I} {s : S} → AlwaysYields steps (λ x. x) s (w.elements i) → IsWalking w Meets Ends steps i 0 s
+  walk_begins {i = i} h = record { passed = []; rest = w.elements i; whole = refl; meets = All-nil Meets; place_is = refl; gives = h }
+
   -- the place behind the next item is within the input
-  pub walk_fits : (i : I) (s t : S) (n m : ℕ) (x : A) → IsWalking i n s → steps s (Some x) t → m ≡ w.weight x → n + m ≤ span w.weight (w.elements i)
-  walk_fits i s t n m x h k e =
-      let r = next_in i s t n x h k in
+  pub walk_fits : {i : I} {s : S} (t : S) {n m : ℕ} (x : A) → IsWalking w Meets Ends steps i n s → steps s (Some x) t → m ≡ w.weight x → n + m ≤ span w.weight (w.elements i)
+  walk_fits {i = i} {s = s} t {n = n} x h k e =
+      let r = next_in w Meets Ends steps i s t n x h k in
       omega (arith, r.place, e, ap (λ ys. span w.weight ys) r.whole, span-append w.weight r.passed (x ∷ r.rest))
 
-  pub walk_goes_on : (i : I) (s t : S) (n m : ℕ) (x : A) → IsWalking i n s → steps s (Some x) t → m ≡ w.weight x → Meets x → IsWalking i (n + m) t
-  walk_goes_on i s t n m x h k e meets =
-      let r = next_in i s t n x h k in
+  pub walk_goes_on : {i : I} {s : S} (t : S) {n m : ℕ} (x : A) → IsWalking w Meets Ends steps i n s → steps s (Some x) t → m ≡ w.weight x → Meets x → IsWalking w Meets Ends steps i (n + m) t
+  walk_goes_on {i = i} {s = s} t {n = n} x h k e meets =
+      let r = next_in w Meets Ends steps i s t n x h k in
       record {
         passed = r.passed ++ (x ∷ []);
         rest = r.rest;
@@ -100,9 +105,9 @@ module _ {I A S : Type 0} (w : Seen I A) (Meets Ends : A → Type 0) (steps : S 
         gives = r.gives;
       }
 
-  pub walk_stops : (i : I) (s t : S) (n : ℕ) (x : A) → IsWalking i n s → steps s (Some x) t → Ends x → IsPosition w Meets Ends i (Some n)
-  walk_stops i s t n x h k m =
-      let r = next_in i s t n x h k in
+  pub walk_stops : {i : I} {s : S} (t : S) {n : ℕ} (x : A) → IsWalking w Meets Ends steps i n s → steps s (Some x) t → Ends x → IsPosition w Meets Ends i (Some n)
+  walk_stops {i = i} {s = s} t {n = n} x h k m =
+      let r = next_in w Meets Ends steps i s t n x h k in
       record {
         run = r.passed;
         item = x;
@@ -111,9 +116,5 @@ module _ {I A S : Type 0} (w : Seen I A) (Meets Ends : A → Type 0) (steps : S 
         length_is = sym r.place;
       }
 
-  ends_of : (i : I) (s t : S) (passed rest : List A) → w.elements i ≡ passed ++ rest → All Meets passed → AlwaysYields steps (λ x. x) s rest → steps s None t → All Meets (w.elements i)
-  ends_of i s t passed [] e h g k = subst (All Meets) (sym (e ∙ append-nil passed)) h
-  ends_of i s t passed (y ∷ rest) e h g k = absurd (g.0 t k)
-
-  pub walk_ends : (i : I) (s t : S) (n : ℕ) → IsWalking i n s → steps s None t → IsPosition w Meets Ends i None
-  walk_ends i s t n h k = ends_of i s t h.passed h.rest h.whole h.meets h.gives k
+  pub walk_ends : {i : I} {s : S} (t : S) {n : ℕ} → IsWalking w Meets Ends steps i n s → steps s None t → IsPosition w Meets Ends i None
+  walk_ends {i = i} {s = s} t h k = ends_of w Meets Ends steps i s t h.passed h.rest h.whole h.meets h.gives k

@@ -13,8 +13,8 @@ IsRefusal P (Failure e) = ⊥
 IsRefusal P OutOfMemory = ⊥
 
 -- more is needed, by this size; none where it is unknown
-abbrev pub IsLack : {E : Type 0} → Option ℕ → Err E E Needed → Type 0
-IsLack size (Incomplete needed) = size_of needed ≡ size
-IsLack size (Error e) = ⊥
-IsLack size (Failure e) = ⊥
-IsLack size OutOfMemory = ⊥
+abbrev pub AsksFor : {E : Type 0} → Option ℕ → Err E E Needed → Type 0
+AsksFor size (Incomplete needed) = size_of needed ≡ size
+AsksFor size (Error e) = ⊥
+AsksFor size (Failure e) = ⊥
+AsksFor size OutOfMemory = ⊥

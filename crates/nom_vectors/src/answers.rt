@@ -2,7 +2,7 @@
 ghost use Rattle.std.specs.Prelude.{◌≡◌, ◌↔◌, IsTrue, MatchResult};
 ghost use Rattle.nom_error.specs.Answers.{size_of};
 ghost use Rattle.nom_error.specs.Kinds.{number_of};
-ghost use Rattle.nom_vectors.specs.Answers.{IsLack, IsRefusal};
+ghost use Rattle.nom_vectors.specs.Answers.{AsksFor, IsRefusal};
 
 use nom::error::{ErrorKind, error_to_u32};
 use nom::{AsBytes, Err, IResult, Needed};
@@ -50,7 +50,7 @@ fn is_size(needed: Needed, size: Option<usize>) -> bool
 
 /// Whether more is needed, by this size; none where it isn't known.
 pub fn needs<I: Drop, O: Drop>(answer: IResult<I, O>, size: Option<usize>) -> bool
-    ensures { IsTrue result ↔ MatchResult answer (λ _. ⊥) (IsLack size) }
+    ensures { IsTrue result ↔ MatchResult answer (λ _. ⊥) (AsksFor size) }
 {
     match answer {
         Ok(_) => false,

@@ -10,14 +10,14 @@ returns-in-Stands g c sight h =
     let found = subst (IsSighted w sight g.OM.Incomplete.IsStreaming.STREAMING c.args.input) c.in-Stands.is h in
     let slice : Slice w = record { items = found.1.front; mark = w.mark c.args.input } in
     let first : IsFirst w c.args.input found.0 slice = record { rest = w.elements c.in-Stands.rest; whole = found.1.whole; length_is = found.1.length_is; mark_is = refl } in
-    accepted _ _ _ _ _ _ _ _ found.0 slice _ _ found.1 (first, found.2) (c.before-in-Stands.ensures found.0 slice found.1 first)
+    accepted slice found.1 (first, found.2) (c.before-in-Stands.ensures found.0 slice found.1 first)
 
 pub returns-in-Absent : goal.returns-in-Absent
 returns-in-Absent g c sight h =
     let found = subst (IsSighted g.I.Items.seen sight g.OM.Incomplete.IsStreaming.STREAMING c.args.input) c.in-Absent.is h in
-    refused _ _ _ _ _ _ _ _ _ c.refusal.ensures found
+    refused c.refusal.ensures found
 
 pub returns-in-Begins : goal.returns-in-Begins
 returns-in-Begins g c sight h =
     let found = subst (IsSighted g.I.Items.seen sight g.OM.Incomplete.IsStreaming.STREAMING c.args.input) c.in-Begins.is h in
-    undecided _ _ _ _ _ _ _ _ _ _ refl found
+    undecided refl found

@@ -6,7 +6,7 @@ pub in_whole-result-requires-clause-begins : goal.in_whole-result-requires-claus
 in_whole-result-requires-clause-begins g c = (_, c.take-beginning.ensures)
 
 pub in_whole-result-requires-clause-rests : goal.in_whole-result-requires-clause-rests
-in_whole-result-requires-clause-rests g c = rest_shown _ _ _ _ _ _ _ c.parse-answer.ensures.shown
+in_whole-result-requires-clause-rests g c = rest_shown c.parse-answer.ensures.shown
 
 pub returns-then-not-waits-clause-grown : goal.returns-then-not-waits-clause-grown
 returns-then-not-waits-clause-grown g c =

@@ -7,13 +7,13 @@ pub returns-in-Ok-clause-shown : goal.returns-in-Ok-clause-shown
 returns-in-Ok-clause-shown g c =
     let n = c.in-Ok.ensures in
     let first = place_first g.I.Items.seen _ _ n.place in
-    accepted _ _ _ _ _ _ _ _ _ _ _ _ c.take_from.ensures (first, n.count_is) (c.front.ensures _ first)
+    accepted _ c.take_from.ensures (first, n.count_is) (c.front.ensures _ first)
 
 pub returns-in-Err-clause-shown : goal.returns-in-Err-clause-shown
 returns-in-Err-clause-shown g c =
     let h = c.in-Err.ensures in
-    undecided _ _ _ _ _ _ _ _ _ _ h.1 (sym c.STREAMING.ensures ∙ c.if-STREAMING.true, (h.0, refl))
+    undecided h.1 (sym c.STREAMING.ensures ∙ c.if-STREAMING.true, (h.0, refl))
 
 pub returns-in-Err-2-clause-shown : goal.returns-in-Err-2-clause-shown
 returns-in-Err-2-clause-shown g c =
-    refused _ _ _ _ _ _ _ _ _ c.refusal.ensures (sym c.STREAMING.ensures ∙ c.if-STREAMING.false, (c.in-Err-2.ensures).0)
+    refused c.refusal.ensures (sym c.STREAMING.ensures ∙ c.if-STREAMING.false, (c.in-Err-2.ensures).0)

@@ -5,15 +5,15 @@ use Rattle.nom_bytes.proofs.no_case.TagNoCaseParser.process.Goals as goal
 
 pub returns-in-Ok-clause-shown : goal.returns-in-Ok-clause-shown
 returns-in-Ok-clause-shown g c =
-    tag_found _ g.E.ParseError.errors _ _ g.met.I.Compare.comparing_no_case _ _ _ _ _ c.known.ensures _ _ _ c.tag_len-n.ensures c.in-Ok.ensures c.take_from.ensures c.front.ensures
+    tag_found _ g.E.ParseError.errors _ _ g.met.I.Compare.comparing_no_case _ _ _ c.known.ensures _ _ _ c.tag_len-n.ensures c.in-Ok.ensures c.take_from.ensures c.front.ensures
 
 pub returns-in-Incomplete-clause-shown : goal.returns-in-Incomplete-clause-shown
 returns-in-Incomplete-clause-shown g c =
-    tag_begun _ g.E.ParseError.errors _ _ g.met.I.Compare.comparing_no_case _ _ _ _ _ c.known.ensures _ _ _ (sym c.STREAMING.ensures ∙ c.if-STREAMING.true) c.tag_len.ensures c.input_len.ensures c.in-Incomplete.ensures c.new.ensures.some
+    tag_begun _ g.E.ParseError.errors _ _ g.met.I.Compare.comparing_no_case _ _ _ c.known.ensures _ _ _ (sym c.STREAMING.ensures ∙ c.if-STREAMING.true) c.tag_len.ensures c.input_len.ensures c.in-Incomplete.ensures c.new.ensures.some
 
 pub returns-in-Incomplete-2-clause-shown : goal.returns-in-Incomplete-2-clause-shown
 returns-in-Incomplete-2-clause-shown g c =
-    refused _ _ _ _ _ _ _ _ _ c.refusal.ensures (inr (sym c.STREAMING.ensures ∙ c.if-STREAMING.false, c.in-Incomplete-2.ensures))
+    refused c.refusal.ensures (inr (sym c.STREAMING.ensures ∙ c.if-STREAMING.false, c.in-Incomplete-2.ensures))
 
 pub returns-in-Error-clause-shown : goal.returns-in-Error-clause-shown
-returns-in-Error-clause-shown g c = refused _ _ _ _ _ _ _ _ _ c.refusal-in-Error.ensures (inl c.in-Error.ensures)
+returns-in-Error-clause-shown g c = refused c.refusal-in-Error.ensures (inl c.in-Error.ensures)

@@ -5,11 +5,11 @@ use Rattle.nom_bytes.proofs.until.TakeUntilParser.process.Goals as goal
 
 pub returns-in-Some-clause-shown : goal.returns-in-Some-clause-shown
 returns-in-Some-clause-shown g c =
-    until_found _ g.E.ParseError.errors _ _ _ _ _ _ _ g.met.I.FindSubstring.finding _ _ _ c.known.ensures c.in-Some.ensures (not_one _) c.take_from.ensures c.front.ensures
+    until_found g.E.ParseError.errors g.met.I.FindSubstring.finding c.known.ensures c.in-Some.ensures (not_one _) c.take_from.ensures c.front.ensures
 
 pub returns-in-None-clause-shown : goal.returns-in-None-clause-shown
-returns-in-None-clause-shown g c = until_open _ g.E.ParseError.errors g.I.FindSubstring.finds false (g.I.FindSubstring.needle_seen c.args.self.now.tag) _ _ _ _ (sym c.STREAMING.ensures ∙ c.if-STREAMING.true) c.in-None.ensures
+returns-in-None-clause-shown g c = until_open g.E.ParseError.errors g.I.FindSubstring.finds false (g.I.FindSubstring.needle_seen c.args.self.now.tag) (sym c.STREAMING.ensures ∙ c.if-STREAMING.true) c.in-None.ensures
 
 pub returns-in-None-2-clause-shown : goal.returns-in-None-2-clause-shown
 returns-in-None-2-clause-shown g c =
-    refused _ _ _ _ _ _ _ _ _ c.refusal.ensures (inl (sym c.STREAMING.ensures ∙ c.if-STREAMING.false, c.in-None-2.ensures))
+    refused c.refusal.ensures (inl (sym c.STREAMING.ensures ∙ c.if-STREAMING.false, c.in-None-2.ensures))

@@ -2,4 +2,4 @@ use Rattle.nom_internal.proofs.Shown.{parsed}
 use Rattle.nom_internal.proofs.parser.Parser.parse.Goals as goal
 
 pub returns-clause-shown : goal.returns-clause-shown
-returns-clause-shown g c = parsed _ _ _ _ _ _ _ _ c.full.ensures c.process.ensures.shown
+returns-clause-shown g c = parsed c.full.ensures c.process.ensures.shown

@@ -16,13 +16,13 @@ returns-in-Ok-clause-shown g c =
     let n = c.in-Ok.ensures in
     let place = n.place in
     let first = place_first seen_bytes c.args.input _ place in
-    accepted seen_bytes (λ t. IsFirstByte t.items) _ _ _ _ _ _ _ _ _ _ c.take_from.ensures (first, n.count_is) (built_error _ (IsFirstByte c.args.input.now) (IsFirstByte place.front) _ (λ b. byte_of c.args.input.now place.front place.rest b place.whole n.count_is) c.first.ensures)
+    accepted _ c.take_from.ensures (first, n.count_is) (built_error _ (IsFirstByte c.args.input.now) (IsFirstByte place.front) _ (λ b. byte_of c.args.input.now place.front place.rest b place.whole n.count_is) c.first.ensures)
 
 pub returns-in-Err-clause-shown : goal.returns-in-Err-clause-shown
 returns-in-Err-clause-shown g c =
     let h = c.in-Err.ensures in
-    undecided seen_bytes (λ t. IsFirstByte t.items) _ _ _ _ _ _ _ _ h.1 (sym c.STREAMING.ensures ∙ c.if-STREAMING.true, (h.0, refl))
+    undecided h.1 (sym c.STREAMING.ensures ∙ c.if-STREAMING.true, (h.0, refl))
 
 pub returns-in-Err-2-clause-shown : goal.returns-in-Err-2-clause-shown
 returns-in-Err-2-clause-shown g c =
-    refused seen_bytes (λ t. IsFirstByte t.items) _ _ _ _ _ _ _ c.refusal.ensures (sym c.STREAMING.ensures ∙ c.if-STREAMING.false, (c.in-Err-2.ensures).0)
+    refused c.refusal.ensures (sym c.STREAMING.ensures ∙ c.if-STREAMING.false, (c.in-Err-2.ensures).0)

@@ -6,4 +6,4 @@ use Rattle.nom_tests.proofs.tests.texts.TwoParserRefStr.process.Goals as goal
 
 pub returns-clause-shown : goal.returns-clause-shown
 returns-clause-shown g c =
-    accepted _ _ _ _ _ _ _ _ _ _ _ _ (rest_here seen_text text_lawful _ c.known.ensures) (refl, refl) c.bind.ensures
+    accepted _ (rest_here seen_text text_lawful _ c.known.ensures) (refl, refl) c.bind.ensures
