@@ -1,11 +1,13 @@
-use crate::counted::Counted;
-use crate::error::RunError;
-use crate::fails::Fails;
-use crate::run::run;
-use crate::text::{add_decided, add_error, add_failure, add_hex, add_need, add_record, add_rest};
-use crate::words::read_cuts;
+use super::fails::Fails;
 use nom_error::answer::Needed;
 use nom_error::kind::ErrorKind;
+use nom_records_run::counted::Counted;
+use nom_records_run::error::RunError;
+use nom_records_run::run::run;
+use nom_records_run::text::{
+    add_decided, add_error, add_failure, add_hex, add_need, add_record, add_rest,
+};
+use nom_records_run::words::read_cuts;
 use std::alloc::Global;
 use std::process::Abort;
 use std::test::Fail;

@@ -3,11 +3,11 @@ ghost use Rattle.std.specs.Prelude.{◌≡◌, ℕ, ◌<◌, ◌∷◌, ◌++◌
 ghost use Rattle.nom_traits.specs.Input.{IsFront, input_len};
 ghost use Rattle.nom_traits.specs.Classes.{is_alpha_code, is_alphanum_code, is_bin_digit_code, is_dec_digit_code, is_hex_digit_code, is_newline_code, is_oct_digit_code, is_space_code};
 
-use crate::bytes::{AsBytes, ByteItems};
-use crate::extend::{Builder, ExtendInto};
-use crate::substring::FindSubstring;
-use crate::token::FindToken;
 use nom_error::answer::OutOfMemory;
+use nom_search::bytes::{AsBytes, ByteItems};
+use nom_search::extend::{Builder, ExtendInto};
+use nom_search::substring::FindSubstring;
+use nom_search::token::FindToken;
 use nom_traits::character::AsChar;
 use nom_traits::input::Input;
 use std::alloc::Allocator;

@@ -3,16 +3,16 @@ ghost use Rattle.std.specs.Prelude.{◌≡◌};
 ghost use Rattle.nom_traits.specs.Classes.{IsInside, IsOutside};
 ghost use Rattle.nom_traits.specs.Runs.{IsPosition};
 
-use crate::bits::{bits_grow_by_bytes, bits_pass, bits_tell_marks};
-use crate::character::{AsChar, AsciiClass};
-use crate::compare::{Compare, CompareResult};
-use crate::convert::ToUsize;
-use crate::input::{Input, Items};
-use crate::offset::Offset;
 use nom_error::answer::{Err, IResult, Needed};
 use nom_error::kind::ErrorKind;
 use nom_error::mode::{Check, Complete, Emit, OutputM, Streaming};
 use nom_error::value::Error;
+use nom_traits::bits::{bits_grow_by_bytes, bits_pass, bits_tell_marks};
+use nom_traits::character::{AsChar, AsciiClass};
+use nom_traits::compare::{Compare, CompareResult};
+use nom_traits::convert::ToUsize;
+use nom_traits::input::{Input, Items};
+use nom_traits::offset::Offset;
 
 // Characters of 1, 2, 3, 4, 3, 2 and 1 bytes.
 const MIXED: &str = "a¡€💢€¡a";
