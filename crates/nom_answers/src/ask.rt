@@ -1,8 +1,9 @@
 //! Parsers that are asked.
 
 use crate::answer::{Answer, answer_of};
+use nom::bytes::Fixed;
 use nom::error::Error;
-use nom::{AsBytes, IResult, Input, Parser};
+use nom::{AsBytes, Complete, IResult, Input, Parser, Streaming};
 use std::alloc::Global;
 use std::fmt::Debug;
 
@@ -13,10 +14,20 @@ pub enum Way {
     Streaming,
 }
 
-/// What parsers are asked: an input, in a mode.
+/// The module of nom that a parser is of.
+#[derive(Clone, Copy)]
+pub enum Module {
+    /// `bytes` or `character` itself.
+    Top,
+    Complete,
+    Streaming,
+}
+
+/// What parsers are asked: an input, in a mode, of the parser as a module has it.
 #[derive(Clone, Copy)]
 pub struct Question<I> {
     pub alloc: Global,
+    pub module: Module,
     pub way: Way,
     pub input: I,
 }
@@ -34,5 +45,22 @@ impl<I: Input + AsBytes> Question<I> {
             Way::Complete => parser.parse_complete(self.input),
         };
         answer_of(self.alloc, found)
+    }
+    /// What the parser of a name answers, in the module of the question.
+    pub fn ask_in_module<O: Debug + Drop, P: Parser<I, Output = O, Error = Error<I>> + Drop>(
+        self,
+        top: P,
+        complete: Fixed<P, Complete>,
+        streaming: Fixed<P, Streaming>,
+    ) -> Option<Answer>
+        requires top { (P.meaning (P.state top)).IsSound }
+        requires complete { (P.meaning (P.state complete.parser)).IsSound }
+        requires streaming { (P.meaning (P.state streaming.parser)).IsSound }
+    {
+        match self.module {
+            Module::Top => self.ask(top),
+            Module::Complete => self.ask(complete),
+            Module::Streaming => self.ask(streaming),
+        }
     }
 }

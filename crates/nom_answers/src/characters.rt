@@ -1,61 +1,58 @@
-//! The parsers of nom's module `character`.
+//! The parsers of nom's module `character`, by their names.
 
 use crate::answer::{Answer, answer_of};
-use crate::ask::Question;
+use crate::ask::{Module, Question};
 use crate::names::place_of;
 use crate::test::Test;
 use nom::character::{self, complete, streaming};
 use nom::{AsBytes, AsChar, FindToken, IResult, Input};
 use std::fmt::Debug;
 
+/// Asks the parser of a name, as the module of the question has it.
+macro_rules! in_module {
+    ($question:ident, $name:ident($($argument:expr),*)) => {
+        $question.ask_in_module(
+            character::$name($($argument),*),
+            complete::$name($($argument),*),
+            streaming::$name($($argument),*),
+        )
+    };
+}
+
 /// A character that is in a set, or isn't.
 pub fn of_set<I: Input + AsBytes + Debug, L: FindToken<char> + Copy>(
     question: Question<I>,
-    path: &str,
+    name: &str,
     list: L,
 ) -> Option<Answer>
 where
     I::Item: AsChar,
 {
-    let names = "character::one_of character::complete::one_of character::streaming::one_of \
-        character::none_of character::complete::none_of character::streaming::none_of";
-    match place_of(names, path)? {
-        0 => question.ask(character::one_of(list)),
-        1 => question.ask(complete::one_of(list)),
-        2 => question.ask(streaming::one_of(list)),
-        3 => question.ask(character::none_of(list)),
-        4 => question.ask(complete::none_of(list)),
-        _ => question.ask(streaming::none_of(list)),
+    match place_of("one_of none_of", name)? {
+        0 => in_module!(question, one_of(list)),
+        _ => in_module!(question, none_of(list)),
     }
 }
 
-pub fn one<I: Input + AsBytes + Debug>(question: Question<I>, path: &str, c: char) -> Option<Answer>
+pub fn one<I: Input + AsBytes + Debug>(question: Question<I>, name: &str, c: char) -> Option<Answer>
 where
     I::Item: AsChar,
 {
-    let names = "character::char character::complete::char character::streaming::char";
-    match place_of(names, path)? {
-        0 => question.ask(character::char(c)),
-        1 => question.ask(complete::char(c)),
-        _ => question.ask(streaming::char(c)),
-    }
+    place_of("char", name)?;
+    in_module!(question, char(c))
 }
 
 pub fn tested<I: Input + AsBytes + Debug>(
     question: Question<I>,
-    path: &str,
+    name: &str,
     test: Test,
 ) -> Option<Answer>
 where
     I::Item: AsChar,
 {
+    place_of("satisfy", name)?;
     let meets = move |c: char| test.meets(c);
-    let names = "character::satisfy character::complete::satisfy character::streaming::satisfy";
-    match place_of(names, path)? {
-        0 => question.ask(character::satisfy(meets)),
-        1 => question.ask(complete::satisfy(meets)),
-        _ => question.ask(streaming::satisfy(meets)),
-    }
+    in_module!(question, satisfy(meets))
 }
 
 /// Classes and ends of lines, where no more may come.
@@ -123,45 +120,42 @@ where
 }
 
 /// Single characters.
-fn single<I: Input>(input: I, path: &str) -> Option<IResult<I, char>>
+fn single<I: Input>(input: I, module: Module, name: &str) -> Option<IResult<I, char>>
 where
     I::Item: AsChar,
 {
-    let names = "character::anychar character::complete::anychar character::streaming::anychar \
-        character::complete::newline character::streaming::newline character::complete::tab \
-        character::streaming::tab";
-    match place_of(names, path)? {
-        0 => Some(character::anychar(input)),
-        1 => Some(complete::anychar(input)),
-        2 => Some(streaming::anychar(input)),
-        3 => Some(complete::newline(input)),
-        4 => Some(streaming::newline(input)),
-        5 => Some(complete::tab(input)),
-        _ => Some(streaming::tab(input)),
+    match (module, place_of("anychar newline tab", name)?) {
+        (Module::Top, 0) => Some(character::anychar(input)),
+        (Module::Top, _) => None,
+        (Module::Complete, 0) => Some(complete::anychar(input)),
+        (Module::Complete, 1) => Some(complete::newline(input)),
+        (Module::Complete, _) => Some(complete::tab(input)),
+        (Module::Streaming, 0) => Some(streaming::anychar(input)),
+        (Module::Streaming, 1) => Some(streaming::newline(input)),
+        (Module::Streaming, _) => Some(streaming::tab(input)),
     }
 }
 
 /// Parsers that are given nothing.
-pub fn plain<I: Input + AsBytes + Debug>(question: Question<I>, path: &str) -> Option<Answer>
+pub fn plain<I: Input + AsBytes + Debug>(question: Question<I>, name: &str) -> Option<Answer>
 where
     I::Item: AsChar,
 {
-    let Question { alloc, input, .. } = question;
-    if let Some(name) = path.strip_prefix("character::complete::") {
-        if let Some(found) = part_complete(input, name) {
-            return answer_of(alloc, found);
-        }
-    }
-    if let Some(name) = path.strip_prefix("character::streaming::") {
-        if let Some(found) = part_streaming(input, name) {
-            return answer_of(alloc, found);
-        }
-    }
-    if let Some(found) = single(input, path) {
+    let Question {
+        alloc,
+        module,
+        input,
+        ..
+    } = question;
+    if let Some(found) = single(input, module, name) {
         return answer_of(alloc, found);
     }
-    match place_of("character::digit1 character::multispace0", path)? {
-        0 => question.ask(character::digit1()),
-        _ => question.ask(character::multispace0()),
+    match module {
+        Module::Top => match place_of("digit1 multispace0", name)? {
+            0 => question.ask(character::digit1()),
+            _ => question.ask(character::multispace0()),
+        },
+        Module::Complete => answer_of(alloc, part_complete(input, name)?),
+        Module::Streaming => answer_of(alloc, part_streaming(input, name)?),
     }
 }

@@ -2,8 +2,9 @@
 
 use crate::answer::{Answer, read_answer};
 use crate::argument::{Argument, argument_of};
-use crate::ask::{Question, Way};
+use crate::ask::{Module, Question, Way};
 use crate::literal::{Literal, literal_of};
+use crate::names::place_of;
 use crate::{bytes, characters, methods};
 use nom::{AsBytes, AsChar, Compare, ExtendInto, FindSubstring, FindToken, Input};
 use std::alloc::Global;
@@ -18,34 +19,34 @@ pub enum Verdict {
 }
 
 /// What a parser answers that takes a text or a slice of bytes which may be a needle of the input.
-fn by_list<I, T>(question: Question<I>, path: &str, list: T) -> Option<Answer>
+fn by_list<I, T>(question: Question<I>, name: &str, list: T) -> Option<Answer>
 where
     I: Input + AsBytes + Debug + Compare<T> + FindSubstring<T>,
     I::Item: AsChar,
     T: FindToken<I::Item> + FindToken<char> + Copy,
 {
-    bytes::tagged(question, path, list)
-        .or(bytes::before(question, path, list))
-        .or(bytes::of_set(question, path, list))
-        .or(characters::of_set(question, path, list))
+    bytes::tagged(question, name, list)
+        .or(bytes::before(question, name, list))
+        .or(bytes::of_set(question, name, list))
+        .or(characters::of_set(question, name, list))
 }
 
 /// The same of an argument that is the same over any input.
-fn by_value<'a, C, I>(question: Question<I>, path: &str, argument: &'a Argument) -> Option<Answer>
+fn by_value<'a, C, I>(question: Question<I>, name: &str, argument: &'a Argument) -> Option<Answer>
 where
     C: AsChar,
     I: Input<Item = C> + AsBytes + Debug + Compare<&'a str> + ExtendInto<Global>,
     I::Extender: Debug + Drop,
 {
     match argument {
-        Argument::Nothing => characters::plain(question, path),
-        Argument::Char(c) => characters::one(question, path, *c),
-        Argument::Count(count) => bytes::counted(question, path, *count),
+        Argument::Nothing => characters::plain(question, name),
+        Argument::Char(c) => characters::one(question, name, *c),
+        Argument::Count(count) => bytes::counted(question, name, *count),
         Argument::Test(test) => {
-            bytes::runs(question, path, *test).or(characters::tested(question, path, *test))
+            bytes::runs(question, name, *test).or(characters::tested(question, name, *test))
         }
-        Argument::Bounds(m, n, test) => bytes::bounded(question, path, *m, *n, *test),
-        Argument::Escapes(escapes) => bytes::escapes(question, path, escapes),
+        Argument::Bounds(m, n, test) => bytes::bounded(question, name, *m, *n, *test),
+        Argument::Escapes(escapes) => bytes::escapes(question, name, escapes),
         _ => None,
     }
 }
@@ -53,58 +54,83 @@ where
 /// What a parser answers at a text; none where nom has no such parser over texts.
 fn over_text<'a>(
     question: Question<&'a str>,
-    path: &str,
+    name: &str,
     argument: &'a Argument,
 ) -> Option<Answer> {
     match argument {
-        Argument::Literal(Literal::Text(list)) => by_list(question, path, list.as_str()),
+        Argument::Literal(Literal::Text(list)) => by_list(question, name, list.as_str()),
         Argument::Literal(Literal::Bytes(list)) => {
             let list = list.as_slice();
-            bytes::tagged(question, path, list)
-                .or(bytes::of_set(question, path, list))
-                .or(characters::of_set(question, path, list))
+            bytes::tagged(question, name, list)
+                .or(bytes::of_set(question, name, list))
+                .or(characters::of_set(question, name, list))
         }
         Argument::Chars(list) => {
             let list = list.as_slice();
-            bytes::of_set(question, path, list).or(characters::of_set(question, path, list))
+            bytes::of_set(question, name, list).or(characters::of_set(question, name, list))
         }
         Argument::Array(_) => None,
-        _ => by_value(question, path, argument),
+        _ => by_value(question, name, argument),
     }
 }
 
 /// The same at a slice of bytes.
 fn over_bytes<'a>(
     question: Question<&'a [u8]>,
-    path: &str,
+    name: &str,
     argument: &'a Argument,
 ) -> Option<Answer> {
     match argument {
-        Argument::Literal(Literal::Text(list)) => by_list(question, path, list.as_str()),
-        Argument::Literal(Literal::Bytes(list)) => by_list(question, path, list.as_slice()),
-        Argument::Chars(list) => characters::of_set(question, path, list.as_slice()),
-        Argument::Array(list) => bytes::of_set(question, path, *list),
-        _ => by_value(question, path, argument),
+        Argument::Literal(Literal::Text(list)) => by_list(question, name, list.as_str()),
+        Argument::Literal(Literal::Bytes(list)) => by_list(question, name, list.as_slice()),
+        Argument::Chars(list) => characters::of_set(question, name, list.as_slice()),
+        Argument::Array(list) => bytes::of_set(question, name, *list),
+        _ => by_value(question, name, argument),
     }
 }
 
-/// What a parser answers at an input in a mode.
+/// What a parser answers at an input.
 fn found(
     alloc: Global,
+    module: Module,
     way: Way,
-    path: &str,
+    name: &str,
     argument: &Argument,
     input: &Literal,
 ) -> Option<Answer> {
     match input {
         Literal::Text(text) => {
             let input = text.as_str();
-            over_text(Question { alloc, way, input }, path, argument)
+            let question = Question {
+                alloc,
+                module,
+                way,
+                input,
+            };
+            over_text(question, name, argument)
         }
         Literal::Bytes(bytes) => {
             let input = bytes.as_slice();
-            over_bytes(Question { alloc, way, input }, path, argument)
+            let question = Question {
+                alloc,
+                module,
+                way,
+                input,
+            };
+            over_bytes(question, name, argument)
         }
+    }
+}
+
+/// The module of a path, and the name behind it.
+fn module_of(path: &str) -> Option<(Module, &str)> {
+    let modules = "bytes character bytes::complete character::complete bytes::streaming \
+        character::streaming";
+    let (module, name) = path.rsplit_once("::")?;
+    match place_of(modules, module)? {
+        0 | 1 => Some((Module::Top, name)),
+        2 | 3 => Some((Module::Complete, name)),
+        _ => Some((Module::Streaming, name)),
     }
 }
 
@@ -114,18 +140,19 @@ fn parsed(alloc: Global, call: &str, input: &str, way: &str, answer: &str) -> Op
         Some(open) => open.split_once("(")?,
         None => (call, ""),
     };
+    let (module, name) = module_of(path)?;
     let argument = argument_of(alloc, argument)?;
     let input = literal_of(alloc, input)?;
     let wanted = read_answer(alloc, answer, input.as_bytes())?;
-    let is_fixed = path.contains("::complete::") || path.contains("::streaming::");
+    let is_fixed = !matches!(module, Module::Top);
     if is_fixed || way == "streaming" {
-        let streaming = found(alloc, Way::Streaming, path, &argument, &input)?;
+        let streaming = found(alloc, module, Way::Streaming, name, &argument, &input)?;
         if !streaming.is(&wanted) {
             return Some(Verdict::Differs(streaming));
         }
     }
     if is_fixed || way == "complete" {
-        let complete = found(alloc, Way::Complete, path, &argument, &input)?;
+        let complete = found(alloc, module, Way::Complete, name, &argument, &input)?;
         if !complete.is(&wanted) {
             return Some(Verdict::Differs(complete));
         }
