@@ -1,65 +1,93 @@
-//! Answers of nom, as they are written.
+//! Answers, as lines tell them.
+ghost use Rattle.std.specs.Prelude.{◌≡◌, ◌↔◌, IsTrue, IfSome, string_bytes};
+ghost use Rattle.nom_answers.specs.Answers.{IsKnownAs, IsSame, left_of, said_of};
 
-use crate::literal::{literal_of, numbers_of};
-use nom::Needed;
-use nom::error::ErrorKind;
+use crate::literal::literal_of;
+use nom::{AsBytes, Err, IResult, Needed};
 use std::alloc::Global;
+use std::fmt::Debug;
 
-/// What nom answered.
+/// What an answer says, and the bytes that it leaves.
 #[derive(Drop)]
-pub enum Answer {
-    Accepts { rest: Vec<u8>, value: Vec<u8> },
-    /// The kind, and the place.
-    Refuses(ErrorKind, usize),
-    Needs(Needed),
+pub struct Answer {
+    /// As `value=[97]`, `error Tag`, `failure Tag` or `incomplete 1`.
+    pub said: String,
+    /// The rest of an acceptance, or the input that an error holds; none where more is needed.
+    pub left: Vec<u8>,
 }
 
-fn kind_of(name: &str) -> Option<ErrorKind> {
-    match name.as_bytes() {
-        b"Tag" => Some(ErrorKind::Tag),
-        b"Eof" => Some(ErrorKind::Eof),
-        b"TakeWhile1" => Some(ErrorKind::TakeWhile1),
-        b"TakeTill1" => Some(ErrorKind::TakeTill1),
-        b"TakeWhileMN" => Some(ErrorKind::TakeWhileMN),
-        b"IsA" => Some(ErrorKind::IsA),
-        b"IsNot" => Some(ErrorKind::IsNot),
-        b"TakeUntil" => Some(ErrorKind::TakeUntil),
-        b"Escaped" => Some(ErrorKind::Escaped),
-        b"EscapedTransform" => Some(ErrorKind::EscapedTransform),
-        _ => None,
+impl Answer {
+    /// Whether two answers are one.
+    pub fn is(&self, other: &Answer) -> bool
+        ensures { IsTrue result ↔ IsSame self.now other.now }
+    {
+        self.said.as_str() == other.said.as_str() && self.left.as_slice() == other.left.as_slice()
     }
 }
 
-fn need_of(text: &str) -> Option<Needed> {
-    if text == "unknown" {
-        return Some(Needed::Unknown);
-    }
-    match text.parse::<usize>().ok()? {
-        0 => None,
-        size => Some(Needed::new(size)),
+/// What a parser's answer says, with its output and its kind as `{:?}` writes them; none where memory runs
+/// out.
+fn said<I, O: Debug>(alloc: Global, found: &IResult<I, O>) -> Option<String>
+    ensures { IfSome result (λ text. IsKnownAs (said_of O.debug_output found.now) (string_bytes text)) }
+{
+    match found {
+        Ok((_, output)) => format!(in alloc; "value={output:?}").ok(),
+        Err(Err::Incomplete(Needed::Size(size))) => format!(in alloc; "incomplete {size}").ok(),
+        Err(Err::Incomplete(Needed::Unknown)) => {
+            String::from_str(alloc, "incomplete unknown").ok()
+        }
+        Err(Err::Error(error)) => {
+            let kind = error.code;
+            format!(in alloc; "error {kind:?}").ok()
+        }
+        Err(Err::Failure(error)) => {
+            let kind = error.code;
+            format!(in alloc; "failure {kind:?}").ok()
+        }
+        Err(Err::OutOfMemory) => None,
     }
 }
 
-fn bytes_of(alloc: Global, text: &str) -> Option<Vec<u8>> {
-    if text.starts_with('[') {
-        return numbers_of(alloc, text);
+/// What a parser's answer leaves.
+fn left<I: AsBytes, O>(found: &IResult<I, O>) -> &[u8]
+    ensures { result.now ≡ left_of I.bytes found.now }
+{
+    match found {
+        Ok((rest, _)) => rest.as_bytes(),
+        Err(Err::Incomplete(_)) => &[],
+        Err(Err::Error(error)) => error.input.as_bytes(),
+        Err(Err::Failure(error)) => error.input.as_bytes(),
+        Err(Err::OutOfMemory) => &[],
     }
-    let literal = literal_of(alloc, text)?;
-    literal.as_bytes().to_vec(alloc).ok()
 }
 
-/// An answer, from its text.
-pub fn answer_of(alloc: Global, text: &str) -> Option<Answer> {
-    if let Some(need) = text.strip_prefix("incomplete ") {
-        return Some(Answer::Needs(need_of(need)?));
+/// A parser's answer; none where memory runs out.
+pub fn answer_of<I: AsBytes + Drop, O: Debug + Drop>(
+    alloc: Global,
+    found: IResult<I, O>,
+) -> Option<Answer>
+    ensures { IfSome result (λ a. IsKnownAs (said_of O.debug_output found) (string_bytes a.said) × (a.left.items ≡ left_of I.bytes found)) }
+{
+    let said = said(alloc, &found)?;
+    let left = left(&found).to_vec(alloc).ok()?;
+    Some(Answer { said, left })
+}
+
+/// The answer that a line tells, at an input.
+pub fn read_answer(alloc: Global, text: &str, input: &[u8]) -> Option<Answer> {
+    if let Some(accepted) = text.strip_prefix("rest=") {
+        let (rest, value) = accepted.split_once(" value=")?;
+        return Some(Answer {
+            said: format!(in alloc; "value={value}").ok()?,
+            left: literal_of(alloc, rest)?.as_bytes().to_vec(alloc).ok()?,
+        });
     }
-    if let Some(error) = text.strip_prefix("error ") {
-        let (kind, place) = error.split_once(" at ")?;
-        return Some(Answer::Refuses(kind_of(kind)?, place.parse::<usize>().ok()?));
-    }
-    let (rest, value) = text.strip_prefix("rest=")?.split_once(" value=")?;
-    Some(Answer::Accepts {
-        rest: bytes_of(alloc, rest)?,
-        value: bytes_of(alloc, value)?,
+    let (said, left) = match text.split_once(" at ") {
+        Some((said, place)) => (said, input.get(place.parse::<usize>().ok()?..)?),
+        None => (text, &input[..0]),
+    };
+    Some(Answer {
+        said: String::from_str(alloc, said).ok()?,
+        left: left.to_vec(alloc).ok()?,
     })
 }

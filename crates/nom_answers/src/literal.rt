@@ -134,15 +134,3 @@ pub fn char_of(alloc: Global, text: &str) -> Option<char> {
         Some(_) => None,
     }
 }
-
-/// Bytes as a list of numbers, as `[97, 98]`.
-pub fn numbers_of(alloc: Global, text: &str) -> Option<Vec<u8>> {
-    let mut bytes = Vec::new(alloc);
-    let body = between(text, "[", "]")?;
-    if !body.is_empty() {
-        for number in body.split(", ") {
-            bytes.push(number.parse::<u8>().ok()?).ok()?;
-        }
-    }
-    Some(bytes)
-}

@@ -1,96 +1,129 @@
-//! `nom_answers FILE`: replays answers of nom 8.0.0 that stand in a file, and tells where the parsers
-//! here answer otherwise.
+//! `nom_answers FILE ..`: replays answers of nom 8.0.0 that stand in files, and tells where this library
+//! answers otherwise.
 //!
-//! Each line is one answer that nom gave when it was asked, in four columns with ` | ` between them:
+//! Each line is one answer that nom gave when it was asked, in columns with ` | ` between them. Of a parser
+//! there are four:
 //!
 //! ```text
 //! bytes::take_while_m_n(2, 3, AsChar::is_dec_digit) | b"12a" | streaming | rest=b"a" value=[49, 50]
 //! bytes::complete::tag("ab") | "a" | complete | error Tag at 0
 //! bytes::streaming::take(4u32) | "\u{e9}" | streaming | incomplete unknown
 //! bytes::escaped_transform(bytes::tag("1"), '\\', bytes::tag("n")) | "11n" | streaming | rest="n" value="11"
+//! character::one_of(&['a', 'é'][..]) | "a" | complete | rest="" value='a'
+//! character::complete::digit1 | b"0" | complete | rest=b"" value=[48]
 //! ```
 //!
 //! 1. The parser: its path in nom, and its arguments. These are texts, slices, arrays, characters or numbers,
-//!    as Rust writes them, the tests `AsChar::is_alpha`, `AsChar::is_dec_digit` and `not_digit`, the contrary
-//!    of the second, and, as parts of texts with escapes, calls of `tag`, `take_while` and `take_while1`.
+//!    as Rust writes them, the names of tests of items, and, as parts of texts with escapes, calls of `tag`,
+//!    `take_while` and `take_while1`.
 //! 2. The input, a slice of bytes or a text.
-//! 3. The mode that was asked for.
-//! 4. The answer: the rest and the output of an acceptance, the output of bytes as numbers; the kind of a
-//!    refusal, and the length of the front before the input that it holds; or how much more is needed.
+//! 3. The mode that was asked for. A parser of `complete` or `streaming` answers alike in both.
+//! 4. The answer: the rest and the output of an acceptance, as `{:?}` writes it; the kind of a refusal, and
+//!    the length of the front before the input that it holds; or how much more is needed.
+//!
+//! Of a method of texts and characters there are three:
+//!
+//! ```text
+//! slice_index(2) | "aé" | 3
+//! position(U+E9) | "aé" | 1
+//! find_substring("é") | "a" | none
+//! compare_no_case("A") | "a" | ok
+//! split_at_position1(U+61) | "é" | incomplete 1
+//! is_alpha() | U+61 | true
+//! ```
+//!
+//! 1. The method, and its argument: a count, a character by its code point, or a text as it stands between
+//!    the quotes. A character that is handed to a split ends the run, and where a split has to refuse it is
+//!    told to do so with `Alpha`.
+//! 2. The text or the character that is asked.
+//! 3. The answer: a number, `none` where there is none, `true` or `false`, a character; `ok`, `incomplete` or
+//!    `error` of a comparison; of a split `run` and the length of the run, `refused` at the start of the text
+//!    with `Alpha`, or `incomplete` and how much more is needed.
 //!
 //! The answers in which this library differs on purpose, and calls with which nom panics or runs for ever, are
-//! left out of the file in `data`: docs/DIFFERENCES.md lists them.
+//! left out of the files in `data`: docs/DIFFERENCES.md lists them. But `data/wrong.txt` has answers that
+//! nobody gave, which have to be told.
 //!
-//! For each line to which the answer here is another, and for each that can't be read, it prints `differs`
-//! and the number of the line; then how many lines there were, and how many of them were wrong. The
-//! status is 0 where none was; 1 where one was, or a write fails; 3 where the file can't be read.
+//! For each file it prints its name; for each line to which the answer here is another `differs`, the number of
+//! the line and what was found, and for each that can't be read `unread` and its number; then how many lines
+//! there were, and how many of them were wrong. The status is 0 where none was; 1 where one was, or a write
+//! fails; 3 where a file can't be read.
 #![tactic(auto)]
 
-mod agree;
-mod answer;
-mod arguments;
-mod ask;
-mod line;
-mod list;
-mod literal;
-mod number;
+ghost use Rattle.std.specs.Prelude.{◌≡◌, ◌==◌, if◌then◌else◌};
 
+mod answer;
+mod argument;
+mod ask;
+mod bytes;
+mod characters;
+mod line;
+mod literal;
+mod methods;
+mod names;
+mod test;
+
+use crate::line::{Verdict, compared};
 use std::alloc::Global;
 use std::process::ExitCode;
 use std::rt::{Env, Files};
 use std::{env, fs, io};
 
-/// What the file's lines came to.
-#[derive(Clone, Copy)]
-struct Tally {
-    answers: u64,
-    wrong: u64,
-}
-
-/// Replays each line of a text.
-fn replay(rt: &(impl Print + Alloc<A = Global>), text: &str) -> io::Result<Tally> {
-    let mut tally = Tally {
-        answers: 0,
-        wrong: 0,
-    };
+/// Replays each line of a text; answers how many were wrong.
+fn replay(rt: &(impl Print + Alloc<A = Global>), text: &str) -> io::Result<u64> {
+    let mut lines = 0u64;
+    let mut wrong = 0u64;
     for line in text.lines() {
-        tally.answers = tally.answers.saturating_add(1);
-        if !line::agrees(rt.alloc(), line) {
-            tally.wrong = tally.wrong.saturating_add(1);
-            let number = tally.answers;
-            println!(rt; "differs {number}")?;
+        lines = lines.saturating_add(1);
+        match compared(rt.alloc(), line) {
+            Some(Verdict::Agrees) => {}
+            Some(Verdict::Differs(found)) => {
+                wrong = wrong.saturating_add(1);
+                let said = found.said.as_str();
+                let left = found.left.as_slice();
+                println!(rt; "differs {lines}, found {said}, left {left:?}")?;
+            }
+            None => {
+                wrong = wrong.saturating_add(1);
+                println!(rt; "unread {lines}")?;
+            }
         }
     }
-    Ok(tally)
+    println!(rt; "answers {lines}")?;
+    println!(rt; "wrong {wrong}")?;
+    Ok(wrong)
 }
 
-fn read(rt: &(impl Env + Files + Alloc<A = Global>)) -> io::Result<Option<String>> {
+fn status_of(wrong: u64) -> u8
+    ensures { result ≡ (if wrong == 0 then 0 else 1) }
+{
+    if wrong == 0 { 0 } else { 1 }
+}
+
+/// Replays each file; answers the status.
+fn replay_all(rt: &(impl Env + Files + Print + Alloc<A = Global>)) -> io::Result<u8> {
     let mut words = env::args(rt)?;
     let _program = words.next();
-    match words.next() {
-        Some(file) => Ok(Some(fs::read_to_string(rt, file.as_str())?)),
-        None => Ok(None),
+    let mut wrong = 0u64;
+    for file in words {
+        let name = file.as_str();
+        match fs::read_to_string(rt, name) {
+            Ok(text) => {
+                println!(rt; "{name}")?;
+                wrong = wrong.saturating_add(replay(rt, text.as_str())?);
+            }
+            Err(_) => {
+                println!(rt; "file fault")?;
+                return Ok(3);
+            }
+        }
     }
-}
-
-fn report(rt: &(impl Print + Alloc<A = Global>), text: &str) -> io::Result<u8> {
-    let tally = replay(rt, text)?;
-    let answers = tally.answers;
-    let wrong = tally.wrong;
-    println!(rt; "answers {answers}")?;
-    println!(rt; "wrong {wrong}")?;
-    Ok(if wrong == 0 { 0 } else { 1 })
+    Ok(status_of(wrong))
 }
 
 fn main(rt: HostRuntime) -> ExitCode {
-    match read(&rt) {
-        Ok(Some(text)) => match report(&rt, text.as_str()) {
-            Ok(status) => ExitCode::from(status),
-            Err(_) => ExitCode::from(1),
-        },
-        _ => {
-            let _ = println!(rt; "file fault");
-            ExitCode::from(3)
-        }
+    match replay_all(&rt) {
+        Ok(status) => ExitCode::from(status),
+        Err(_) => ExitCode::from(1),
     }
 }

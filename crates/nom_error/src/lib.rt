@@ -7,6 +7,4 @@ pub mod finish;
 pub mod kind;
 pub mod laws;
 pub mod mode;
-#[cfg(test)]
-mod tests;
 pub mod value;

@@ -4,12 +4,8 @@
 
 pub mod counted;
 pub mod error;
-#[cfg(test)]
-pub mod fails;
 pub mod report;
 pub mod run;
 pub mod stream;
-#[cfg(test)]
-mod tests;
 pub mod text;
 pub mod words;

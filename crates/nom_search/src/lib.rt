@@ -4,6 +4,4 @@
 pub mod bytes;
 pub mod extend;
 pub mod substring;
-#[cfg(test)]
-mod tests;
 pub mod token;

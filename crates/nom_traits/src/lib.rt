@@ -10,7 +10,5 @@ pub mod convert;
 pub mod input;
 pub mod offset;
 mod split;
-#[cfg(test)]
-mod tests;
 pub mod text;
 pub mod view;

@@ -3,16 +3,16 @@ ghost use Rattle.std.specs.Prelude.{◌≡◌};
 ghost use Rattle.nom_traits.specs.Classes.{IsInside, IsOutside};
 ghost use Rattle.nom_traits.specs.Runs.{IsPosition};
 
-use crate::bits::{bits_grow_by_bytes, bits_pass, bits_tell_marks};
-use crate::character::{AsChar, AsciiClass};
-use crate::compare::{Compare, CompareResult};
-use crate::convert::ToUsize;
-use crate::input::{Input, Items};
-use crate::offset::Offset;
 use nom_error::answer::{Err, IResult, Needed};
 use nom_error::kind::ErrorKind;
 use nom_error::mode::{Check, Complete, Emit, OutputM, Streaming};
 use nom_error::value::Error;
+use nom_traits::bits::{bits_grow_by_bytes, bits_pass, bits_tell_marks};
+use nom_traits::character::{AsChar, AsciiClass};
+use nom_traits::compare::{Compare, CompareResult};
+use nom_traits::convert::ToUsize;
+use nom_traits::input::{Input, Items};
+use nom_traits::offset::Offset;
 
 // Characters of 1, 2, 3, 4, 3, 2 and 1 bytes.
 const MIXED: &str = "a¡€💢€¡a";
@@ -46,13 +46,17 @@ fn cuts_of_a_text(rt: HostRuntime) {
 #[test]
 fn tags_of_bytes(rt: HostRuntime) {
     let input = b"abcde".as_slice();
-    assert!(rt; input.compare("abc") == CompareResult::Ok);
     assert!(rt; input.compare(*b"abcde") == CompareResult::Ok);
     assert!(rt; input.compare(b"abcdef") == CompareResult::Incomplete);
-    assert!(rt; input.compare("abd") == CompareResult::Error);
-    assert!(rt; input.compare("ABC") == CompareResult::Error);
-    assert!(rt; input.compare("") == CompareResult::Ok);
-    assert!(rt; b"".as_slice().compare("a") == CompareResult::Incomplete);
+    for (input, tag, wanted) in [
+        (input, "abc", CompareResult::Ok),
+        (input, "abd", CompareResult::Error),
+        (input, "ABC", CompareResult::Error),
+        (input, "", CompareResult::Ok),
+        (b"".as_slice(), "a", CompareResult::Incomplete),
+    ] {
+        assert!(rt; input.compare(tag) == wanted, "at {tag}");
+    }
 }
 
 // '@' and '`', '[' and '{', stand beside the letters and are no letters.
@@ -71,10 +75,14 @@ fn tags_without_case(rt: HostRuntime) {
 fn tags_of_texts(rt: HostRuntime) {
     assert!(rt; "éa".compare("é") == CompareResult::Ok);
     assert!(rt; "é".compare("éa") == CompareResult::Incomplete);
-    assert!(rt; "é".compare([0xC3].as_slice()) == CompareResult::Error);
-    assert!(rt; "é".compare([0xC3, 0xA9].as_slice()) == CompareResult::Ok);
-    assert!(rt; "é".compare([0xC3, 0xA8].as_slice()) == CompareResult::Error);
-    assert!(rt; "".compare([0xC3].as_slice()) == CompareResult::Incomplete);
+    for (input, tag, wanted) in [
+        ("é", [0xC3].as_slice(), CompareResult::Error),
+        ("é", [0xC3, 0xA9].as_slice(), CompareResult::Ok),
+        ("é", [0xC3, 0xA8].as_slice(), CompareResult::Error),
+        ("", [0xC3].as_slice(), CompareResult::Incomplete),
+    ] {
+        assert!(rt; input.compare(tag) == wanted, "at {input}");
+    }
 }
 
 #[test]
@@ -172,15 +180,23 @@ where
 
 #[test]
 fn ends_of_classes(rt: HostRuntime) {
-    assert!(rt; outside(b"azAZ@".as_slice(), AsciiClass::Alpha) == Some(4));
-    assert!(rt; outside("09é", AsciiClass::Alphanumeric) == Some(2));
-    assert!(rt; outside("\u{ff11}", AsciiClass::Digit) == Some(0));
-    assert!(rt; outside(b"09aFg".as_slice(), AsciiClass::HexDigit) == Some(4));
-    assert!(rt; outside("078", AsciiClass::OctDigit) == Some(2));
-    assert!(rt; outside(b"012".as_slice(), AsciiClass::BinDigit) == Some(2));
-    assert!(rt; outside(b" \t\r\n".as_slice(), AsciiClass::Space) == Some(2));
-    assert!(rt; outside(" \t\r\n", AsciiClass::MultiSpace).is_none());
-    assert!(rt; outside(b"".as_slice(), AsciiClass::Digit).is_none());
+    for (input, class, place) in [
+        (b"azAZ@".as_slice(), AsciiClass::Alpha, Some(4)),
+        (b"09aFg".as_slice(), AsciiClass::HexDigit, Some(4)),
+        (b"012".as_slice(), AsciiClass::BinDigit, Some(2)),
+        (b" \t\r\n".as_slice(), AsciiClass::Space, Some(2)),
+        (b"".as_slice(), AsciiClass::Digit, None),
+    ] {
+        assert!(rt; outside(input, class) == place);
+    }
+    for (input, class, place) in [
+        ("09é", AsciiClass::Alphanumeric, Some(2)),
+        ("\u{ff11}", AsciiClass::Digit, Some(0)),
+        ("078", AsciiClass::OctDigit, Some(2)),
+        (" \t\r\n", AsciiClass::MultiSpace, None),
+    ] {
+        assert!(rt; outside(input, class) == place, "at {input}");
+    }
 }
 
 /// A length of any number's type.

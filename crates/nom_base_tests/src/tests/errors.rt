@@ -1,12 +1,12 @@
 //! What no clause says: printed texts, derives, the members of a mode, and each call once.
-use crate::answer::{Err, IResult, Needed, OutOfMemory, PResult};
-use crate::finish::{Finish, FinishError};
-use crate::kind::{ErrorKind, error_to_u32};
-use crate::laws::{
+use nom_error::answer::{Err, IResult, Needed, OutOfMemory, PResult};
+use nom_error::finish::{Finish, FinishError};
+use nom_error::kind::{ErrorKind, error_to_u32};
+use nom_error::laws::{
     answers_are_equal, errors_are_equal, finished_are_equal, kinds_are_equal, needs_are_equal,
 };
-use crate::mode::{Check, Complete, Emit, IsStreaming, Mode, OutputM, OutputMode, Streaming};
-use crate::value::{Error, ParseError, refusal};
+use nom_error::mode::{Check, Complete, Emit, IsStreaming, Mode, OutputM, OutputMode, Streaming};
+use nom_error::value::{Error, ParseError, refusal};
 use std::alloc::AllocError;
 use std::fmt;
 use std::hash::{DefaultHasher, Hash, Hasher};

@@ -1,11 +1,13 @@
-use crate::counted::Counted;
-use crate::error::RunError;
-use crate::fails::Fails;
-use crate::run::run;
-use crate::text::{add_decided, add_error, add_failure, add_hex, add_need, add_record, add_rest};
-use crate::words::read_cuts;
+use super::fails::Fails;
 use nom_error::answer::Needed;
 use nom_error::kind::ErrorKind;
+use nom_records_run::counted::Counted;
+use nom_records_run::error::RunError;
+use nom_records_run::run::run;
+use nom_records_run::text::{
+    add_decided, add_error, add_failure, add_hex, add_need, add_record, add_rest,
+};
+use nom_records_run::words::read_cuts;
 use std::alloc::Global;
 use std::process::Abort;
 use std::test::Fail;
@@ -31,12 +33,21 @@ const TEXT: &str = "decided at 1\nrecord 2 6162\nrecord 0\nrest 2\n";
 
 #[test]
 fn reports(rt: HostRuntime) {
-    told(&rt, &FILE, &[3, 7], 0, TEXT);
-    told(&rt, b"", &[], 2, "need 1\n");
-    told(&rt, b"R\x03a", &[0, 1, 3], 2, "need 2\n");
-    told(&rt, b"R\x01aX", &[], 1, "error Tag at 3\n");
-    told(&rt, b"Rabcd", &[2], 2, "need 94\n");
-    told(&rt, b".", &[0, 0, 1], 0, "decided at 2\nrest 0\n");
+    for (bytes, cuts, status, text) in [
+        (FILE.as_slice(), [3, 7].as_slice(), 0, TEXT),
+        (b"".as_slice(), [].as_slice(), 2, "need 1\n"),
+        (b"R\x03a".as_slice(), [0, 1, 3].as_slice(), 2, "need 2\n"),
+        (b"R\x01aX".as_slice(), [].as_slice(), 1, "error Tag at 3\n"),
+        (b"Rabcd".as_slice(), [2].as_slice(), 2, "need 94\n"),
+        (
+            b".".as_slice(),
+            [0, 0, 1].as_slice(),
+            0,
+            "decided at 2\nrest 0\n",
+        ),
+    ] {
+        told(&rt, bytes, cuts, status, text);
+    }
 }
 
 #[test]

@@ -3,11 +3,11 @@ ghost use Rattle.std.specs.Prelude.{◌≡◌, ℕ, ◌<◌, ◌∷◌, ◌++◌
 ghost use Rattle.nom_traits.specs.Input.{IsFront, input_len};
 ghost use Rattle.nom_traits.specs.Classes.{is_alpha_code, is_alphanum_code, is_bin_digit_code, is_dec_digit_code, is_hex_digit_code, is_newline_code, is_oct_digit_code, is_space_code};
 
-use crate::bytes::{AsBytes, ByteItems};
-use crate::extend::{Builder, ExtendInto};
-use crate::substring::FindSubstring;
-use crate::token::FindToken;
 use nom_error::answer::OutOfMemory;
+use nom_search::bytes::{AsBytes, ByteItems};
+use nom_search::extend::{Builder, ExtendInto};
+use nom_search::substring::FindSubstring;
+use nom_search::token::FindToken;
 use nom_traits::character::AsChar;
 use nom_traits::input::Input;
 use std::alloc::Allocator;
@@ -56,28 +56,20 @@ const LINE: [bool; 8] = [false, false, false, false, false, false, false, true];
 
 #[test]
 fn borders_of_classes(rt: HostRuntime) {
-    for byte in b"/:@[`{\r\x0B\x0C\x00\x7F" {
-        assert!(rt; are_classes(*byte, NONE));
+    for (bytes, wanted) in [
+        (b"/:@[`{\r\x0B\x0C\x00\x7F".as_slice(), NONE),
+        (b"01".as_slice(), BINARY),
+        (b"27".as_slice(), OCTAL),
+        (b"89".as_slice(), DECIMAL),
+        (b"AFaf".as_slice(), HEX_LETTER),
+        (b"GZgz".as_slice(), LETTER),
+        (b" \t".as_slice(), SPACE),
+        (b"\n".as_slice(), LINE),
+    ] {
+        for byte in bytes {
+            assert!(rt; are_classes(*byte, wanted));
+        }
     }
-    for byte in b"01" {
-        assert!(rt; are_classes(*byte, BINARY));
-    }
-    for byte in b"27" {
-        assert!(rt; are_classes(*byte, OCTAL));
-    }
-    for byte in b"89" {
-        assert!(rt; are_classes(*byte, DECIMAL));
-    }
-    for byte in b"AFaf" {
-        assert!(rt; are_classes(*byte, HEX_LETTER));
-    }
-    for byte in b"GZgz" {
-        assert!(rt; are_classes(*byte, LETTER));
-    }
-    for byte in b" \t" {
-        assert!(rt; are_classes(*byte, SPACE));
-    }
-    assert!(rt; are_classes(b'\n', LINE));
     // No class has characters beyond ASCII: 'é', a fullwidth digit, a no-break space, a line separator.
     for c in ['é', '٣', '１', '\u{A0}', '\u{2028}'] {
         assert!(rt; classes(c) == NONE);
@@ -145,17 +137,25 @@ const HAY: &[u8; 101] =
 #[test]
 fn substrings_of_bytes(rt: HostRuntime) {
     let hay = HAY.as_slice();
-    assert!(rt; hay.find_substring("aaab") == Some(97));
-    assert!(rt; hay.find_substring("b") == Some(100));
-    assert!(rt; hay.find_substring(hay) == Some(0));
-    assert!(rt; hay.find_substring("ba") == None);
-    assert!(rt; b"aaaab".as_slice().find_substring("aab") == Some(2));
-    assert!(rt; b"abab".as_slice().find_substring(b"ab".as_slice()) == Some(0));
-    assert!(rt; b"ab".as_slice().find_substring("abc") == None);
-    assert!(rt; b"ab".as_slice().find_substring("") == Some(0));
-    assert!(rt; b"".as_slice().find_substring("") == Some(0));
-    assert!(rt; b"".as_slice().find_substring("a") == None);
-    assert!(rt; AsBytes::as_bytes(&"é").find_substring([0xA9u8].as_slice()) == Some(1));
+    for (input, needle, place) in [
+        (hay, "aaab", Some(97)),
+        (hay, "b", Some(100)),
+        (hay, "ba", None),
+        (b"aaaab".as_slice(), "aab", Some(2)),
+        (b"ab".as_slice(), "abc", None),
+        (b"ab".as_slice(), "", Some(0)),
+        (b"".as_slice(), "", Some(0)),
+        (b"".as_slice(), "a", None),
+    ] {
+        assert!(rt; input.find_substring(needle) == place, "at {needle}");
+    }
+    for (input, needle, place) in [
+        (hay, hay, 0),
+        (b"abab".as_slice(), b"ab".as_slice(), 0),
+        (AsBytes::as_bytes(&"é"), [0xA9u8].as_slice(), 1),
+    ] {
+        assert!(rt; input.find_substring(needle) == Some(place));
+    }
 }
 
 /// What stands before the first place of a needle.
@@ -178,13 +178,20 @@ fn fronts_before_needles(rt: HostRuntime) {
 
 #[test]
 fn substrings_of_texts(rt: HostRuntime) {
-    assert!(rt; "é".find_substring("©") == None);
-    assert!(rt; "éé".find_substring("é") == Some(0));
-    assert!(rt; "€éa".find_substring("éa") == Some(3));
-    assert!(rt; "éaéa".find_substring("a") == Some(2));
-    assert!(rt; "ab".find_substring("abc") == None);
-    assert!(rt; "é".find_substring("") == Some(0));
-    assert!(rt; "".find_substring("") == Some(0));
+    for (input, needle, place) in [
+        ("é", "©", None),
+        ("éé", "é", Some(0)),
+        ("€éa", "éa", Some(3)),
+        ("éaéa", "a", Some(2)),
+        ("ab", "abc", None),
+        ("é", "", Some(0)),
+        ("", "", Some(0)),
+    ] {
+        assert!(rt;
+            input.find_substring(needle) == place,
+            "{needle} in {input}"
+        );
+    }
 }
 
 #[test]

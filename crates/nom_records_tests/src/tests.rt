@@ -1,0 +1,4 @@
+//! Runs over sources and sinks in memory, and over ones that fail in mid-stream.
+
+mod fails;
+mod reports;
