@@ -5,6 +5,7 @@ mod byte_sets;
 mod characters;
 mod escapes;
 mod leaves;
+mod parse_to;
 mod runs;
 mod sets;
 mod texts;
