@@ -7,6 +7,10 @@ pub mod finish;
 pub mod kind;
 pub mod laws;
 pub mod mode;
+pub mod outside;
+pub mod owned;
+pub mod pair;
 #[cfg(test)]
 mod tests;
+pub mod unit;
 pub mod value;

@@ -3,6 +3,7 @@
 mod answers;
 mod byte_sets;
 mod characters;
+mod errors;
 mod escapes;
 mod leaves;
 mod parse_to;
