@@ -11,6 +11,7 @@ pub mod multi;
 pub mod number;
 pub mod sequence;
 
+pub use nom_convert::parse::ParseTo;
 pub use nom_error::answer::{Err, IResult, Needed, OutOfMemory, PResult};
 pub use nom_error::finish::{Finish, FinishError};
 pub use nom_error::mode::{

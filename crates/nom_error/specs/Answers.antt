@@ -35,6 +35,13 @@ IsMapped {D} {E} Gives (Error d) r = (e : E) × Gives d e × (r ≡ Error e)
 IsMapped {D} {E} Gives (Failure d) r = (e : E) × Gives d e × (r ≡ Failure e)
 IsMapped Gives OutOfMemory r = r ≡ OutOfMemory
 
+-- the answer holds an error, of which the fact holds
+abbrev pub HoldsError : {D : Type 0} → (D → Type 0) → Answer.Err D D Needed → Type 0
+HoldsError P (Incomplete k) = ⊥
+HoldsError P (Error d) = P d
+HoldsError P (Failure d) = P d
+HoldsError P OutOfMemory = ⊥
+
 -- the text that is displayed: that of a refusal or a failure ends in its error, as `{:?}` writes it, where that is promised
 abbrev pub text_of : {E : Type 0} → (E → Option (List ℕ)) → Answer.Err E E Needed → Option (List ℕ)
 text_of shown (Incomplete Unknown) = Some (codes "Parsing requires more data")

@@ -1,5 +1,6 @@
 pub mod Answers
 pub mod Equality
 pub mod Errors
+pub mod Inputs
 pub mod Kinds
 pub mod Modes

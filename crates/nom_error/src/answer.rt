@@ -1,7 +1,9 @@
 //! What a parser answers.
 ghost use Rattle.std.specs.Prelude.{◌≡◌, ◌<◌, ◌↔◌, Some, None, IsTrue};
 ghost use Rattle.nom_error.specs.Answers.{size_of, text_of, IsIncomplete, IsMapped, IsNeededBy};
+ghost use Rattle.nom_error.specs.Inputs.{IsInputMapped, IsFirstMapped};
 
+use crate::kind::ErrorKind;
 use crate::value::Error;
 use std::alloc::AllocError;
 use std::fmt;
@@ -110,6 +112,56 @@ impl<E> Err<E> {
             Err::Incomplete(needed) => Err::Incomplete(needed),
             Err::Error(error) => Err::Error(f(error)),
             Err::Failure(error) => Err::Failure(f(error)),
+            Err::OutOfMemory => Err::OutOfMemory,
+        }
+    }
+
+    /// Converts the error that a refusal or a failure holds.
+    pub fn convert<F>(e: Err<F>) -> Self
+    where
+        E: From<F>,
+        ensures { IsMapped E.from_gives e result }
+    {
+        match e {
+            Err::Incomplete(needed) => Err::Incomplete(needed),
+            Err::Error(error) => Err::Error(E::from(error)),
+            Err::Failure(error) => Err::Failure(E::from(error)),
+            Err::OutOfMemory => Err::OutOfMemory,
+        }
+    }
+}
+
+impl<T> Err<Error<T>> {
+    /// Maps the input of the error that a refusal or a failure holds.
+    pub fn map_input<U, F: FnOnce(T) -> U + Drop>(self, f: F) -> Err<Error<U>>
+        requires { F.IsAlwaysCallable f }
+        ensures { IsMapped (IsInputMapped (F.post f)) self result }
+    {
+        match self {
+            Err::Incomplete(needed) => Err::Incomplete(needed),
+            Err::Error(error) => Err::Error(Error {
+                input: f(error.input),
+                code: error.code,
+            }),
+            Err::Failure(error) => Err::Failure(Error {
+                input: f(error.input),
+                code: error.code,
+            }),
+            Err::OutOfMemory => Err::OutOfMemory,
+        }
+    }
+}
+
+impl<T> Err<(T, ErrorKind)> {
+    /// Maps the input that a refusal or a failure holds.
+    pub fn map_input<U, F: FnOnce(T) -> U + Drop>(self, f: F) -> Err<(U, ErrorKind)>
+        requires { F.IsAlwaysCallable f }
+        ensures { IsMapped (IsFirstMapped (F.post f)) self result }
+    {
+        match self {
+            Err::Incomplete(needed) => Err::Incomplete(needed),
+            Err::Error((input, kind)) => Err::Error((f(input), kind)),
+            Err::Failure((input, kind)) => Err::Failure((f(input), kind)),
             Err::OutOfMemory => Err::OutOfMemory,
         }
     }

@@ -7,4 +7,8 @@ pub mod finish;
 pub mod kind;
 pub mod laws;
 pub mod mode;
+pub mod outside;
+pub mod owned;
+pub mod pair;
+pub mod unit;
 pub mod value;

@@ -88,6 +88,26 @@ impl<I: fmt::Display> fmt::Display for Error<I> {
     }
 }
 
+/// The error for a kind at an input.
+#[inline(always)]
+pub fn make_error<I, E: ParseError<I>>(input: I, kind: ErrorKind) -> Result<E, OutOfMemory>
+    ensures { MatchResult result (E.errors.of_kind input kind) (λ _. E.errors.grows) }
+{
+    E::from_error_kind(input, kind)
+}
+
+/// The error that adds a kind at an input to one from below.
+#[inline(always)]
+pub fn append_error<I, E: ParseError<I>>(
+    input: I,
+    kind: ErrorKind,
+    other: E,
+) -> Result<E, OutOfMemory>
+    ensures { MatchResult result (E.errors.appended input kind other) (λ _. E.errors.grows) }
+{
+    E::append(input, kind, other)
+}
+
 /// A refusal of a kind at an input, with its error where errors are built.
 #[inline(always)]
 pub fn refusal<M: Mode, I: Drop, E: ParseError<I>>(input: I, kind: ErrorKind) -> Err<E, Option<E>>

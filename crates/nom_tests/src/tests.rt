@@ -3,9 +3,11 @@
 mod answers;
 mod byte_sets;
 mod characters;
+mod errors;
 mod escapes;
 mod integers;
 mod leaves;
+mod parse_to;
 mod runs;
 mod sets;
 mod texts;
