@@ -1,7 +1,7 @@
 -- What is shown of a decimal integer.
 use Rattle.std.proofs.Common.{◌≡◌, ℕ, ◌+◌, ◌<◌, Bool, true, false, Option, Ok, List, [], ◌∷◌, ◌++◌, length, refl, sym, ◌∙◌, ap, subst, arith}
 use Rattle.std.specs.Prelude.{ℤ}
-use Rattle.nom_error.specs.Modes.{Built}
+use Rattle.nom_error.specs.Modes.{Modes, Built}
 use Rattle.nom_error.specs.Errors.{Errors}
 use Rattle.nom_traits.specs.Input.{Seen, span, IsPlace, IsRest, InputLaws}
 use Rattle.nom_traits.specs.Rests.{span-append, rest_rest}
@@ -68,7 +68,7 @@ module _ {I A T : Type 0} (w : Seen I A) (l : InputLaws w) (code : A → ℕ) (s
         some [] k = absurd (k refl)
         some (x ∷ xs) k = omega arith
 
-    module _ (s : Bool) (j : I) (rest : IsRest w u.digits n.length j) where
+    module _ (mode : Modes) (j : I) (rest : IsRest w u.digits n.length j) where
       abbrev place : ℕ
       place = span w.weight (sign_of code signed (w.elements i)) + n.length
 
@@ -79,9 +79,9 @@ module _ {I A T : Type 0} (w : Seen I A) (l : InputLaws w) (code : A → ℕ) (s
       place_is = omega (arith, r.length_is, ap (span w.weight) same_digits, span-append w.weight (sign_of code signed (w.elements i)) (integer_digits code signed (w.elements i)))
 
       -- a number that was read is accepted
-      pub integer_shown : {E : Type 0} (errs : Errors I E) (outputs errors : Bool) (x : Option T) → (n.followed ≡ false → s ≡ false) → (n.length ≡ 0 → ⊥) → Built outputs (λ y. y ≡ n.value) x → ShowsMeaning w (λ z y. value y ≡ z) (integer_meaning w code signed fits errs) outputs errors s i (Ok (j, x))
-      integer_shown errs outputs errors x h k built =
-          accepted w (λ z y. value y ≡ z) outputs errors i _ _ _ place (integer_of code signed (w.elements i)) j x rest_is (place_is, refl, integer_fits, some_digits k, ended s h) (of_value outputs x built)
+      pub integer_shown : {E : Type 0} (errs : Errors I E) (x : Option T) → (n.followed ≡ false → mode.streaming ≡ false) → (n.length ≡ 0 → ⊥) → Built mode.outputs (λ y. y ≡ n.value) x → ShowsMeaning w (λ z y. value y ≡ z) (integer_meaning w code signed fits errs) mode i (Ok (j, x))
+      integer_shown errs x h k built =
+          accepted (integer_of code signed (w.elements i)) rest_is (place_is, refl, integer_fits, some_digits k, ended mode.streaming h) (of_value mode.outputs x built)
         where
           of_value : (o : Bool) (x : Option T) → Built o (λ y. y ≡ n.value) x → Built o (λ y. value y ≡ integer_of code signed (w.elements i)) x
           of_value true x b = (b.0, b.1, ap value b.2 ∙ integer_is)
