@@ -5,7 +5,7 @@ use crate::argument::{Argument, argument_of};
 use crate::ask::{Module, Question, Way};
 use crate::literal::{Literal, literal_of};
 use crate::names::place_of;
-use crate::{bytes, characters, methods};
+use crate::{bytes, characters, integers, methods};
 use nom::{AsBytes, AsChar, Compare, ExtendInto, FindSubstring, FindToken, Input};
 use std::alloc::Global;
 use std::fmt::Debug;
@@ -39,7 +39,9 @@ where
     I::Extender: Debug + Drop,
 {
     match argument {
-        Argument::Nothing => characters::plain(question, name),
+        Argument::Nothing => {
+            characters::plain(question, name).or(integers::integer(question, name))
+        }
         Argument::Char(c) => characters::one(question, name, *c),
         Argument::Count(count) => bytes::counted(question, name, *count),
         Argument::Test(test) => {

@@ -11,6 +11,7 @@
 //! bytes::escaped_transform(bytes::tag("1"), '\\', bytes::tag("n")) | "11n" | streaming | rest="n" value="11"
 //! character::one_of(&['a', 'é'][..]) | "a" | complete | rest="" value='a'
 //! character::complete::digit1 | b"0" | complete | rest=b"" value=[48]
+//! character::streaming::i8 | b"-11-" | streaming | rest=b"-" value=-11
 //! ```
 //!
 //! 1. The parser: its path in nom, and its arguments. These are texts, slices, arrays, characters or numbers,
@@ -57,6 +58,7 @@ mod argument;
 mod ask;
 mod bytes;
 mod characters;
+mod integers;
 mod line;
 mod literal;
 mod methods;
