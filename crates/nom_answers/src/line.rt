@@ -124,13 +124,14 @@ fn found(
 
 /// The module of a path, and the name behind it.
 fn module_of(path: &str) -> Option<(Module, &str)> {
-    let modules = "bytes character bytes::complete character::complete bytes::streaming \
-        character::streaming";
-    let (module, name) = path.rsplit_once("::")?;
-    match place_of(modules, module)? {
-        0 | 1 => Some((Module::Top, name)),
-        2 | 3 => Some((Module::Complete, name)),
-        _ => Some((Module::Streaming, name)),
+    let (root, path) = path.split_once("::")?;
+    place_of("bytes character", root)?;
+    if let Some(name) = path.strip_prefix("complete::") {
+        return Some((Module::Complete, name));
+    }
+    match path.strip_prefix("streaming::") {
+        Some(name) => Some((Module::Streaming, name)),
+        None => Some((Module::Top, path)),
     }
 }
 
