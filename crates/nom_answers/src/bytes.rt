@@ -206,10 +206,11 @@ where
     }
 }
 
-/// The same, where the normal part is a run of decimal digits.
-fn escapes_of_digits<'a, C, I>(
+/// The same, where the normal part is a run of items by any test.
+fn escapes_of_runs<'a, C, I, F>(
     question: Question<I>,
     key: &str,
+    meets: F,
     control_char: char,
     escapable: &'a str,
 ) -> Option<Answer>
@@ -217,8 +218,10 @@ where
     C: AsChar,
     I: Input<Item = C> + AsBytes + Debug + Compare<&'a str> + ExtendInto<Global>,
     I::Extender: Debug + Drop,
+    F: Fn(C) -> bool + Copy,
+    requires called { (x : C) → F.pre meets x }
+    requires fixed { IsFixed C.IsValue (F.post meets) }
 {
-    let is_digit = move |item: C| item.is_dec_digit();
     let names = "escaped_transform/bytes::take_while/bytes::tag \
         escaped_transform/bytes::take_while1/bytes::tag \
         escaped_transform/bytes::complete::take_while1/bytes::complete::tag \
@@ -226,25 +229,25 @@ where
     match place_of(names, key)? {
         0 => transformed(
             question,
-            bytes::take_while(is_digit),
+            bytes::take_while(meets),
             control_char,
             bytes::tag(escapable),
         ),
         1 => transformed(
             question,
-            bytes::take_while1(is_digit),
+            bytes::take_while1(meets),
             control_char,
             bytes::tag(escapable),
         ),
         2 => transformed(
             question,
-            complete::take_while1(is_digit),
+            complete::take_while1(meets),
             control_char,
             complete::tag(escapable),
         ),
         _ => transformed(
             question,
-            streaming::take_while1(is_digit),
+            streaming::take_while1(meets),
             control_char,
             streaming::tag(escapable),
         ),
@@ -264,6 +267,9 @@ where
     let escapable = escapes.escapable.as_str();
     match &escapes.normal {
         Some(normal) => escapes_of_tags(question, &key, normal.as_str(), control_char, escapable),
-        None => escapes_of_digits(question, &key, control_char, escapable),
+        None => {
+            let is_digit = |item: C| item.is_dec_digit();
+            escapes_of_runs(question, &key, is_digit, control_char, escapable)
+        }
     }
 }
