@@ -8,8 +8,8 @@ use std::alloc::Global;
 /// The parts of a text with escapes: the path of each, and the text of its tag.
 #[derive(Drop)]
 pub struct Escapes {
-    /// The paths of the normal and of the escapable part.
-    pub paths: (String, String),
+    /// The paths of the normal and of the escapable part, with a `/` between them.
+    pub parts: String,
     /// None where the part is a run of decimal digits.
     pub normal: Option<String>,
     pub control_char: char,
@@ -62,10 +62,7 @@ fn escapes_of(alloc: Global, text: &str) -> Option<Argument> {
     let (escapable, tag) = escapable.strip_suffix(")")?.split_once("(")?;
     let digits = matches!(Test::named(argument), Some(Test::IsDecDigit));
     Some(Argument::Escapes(Escapes {
-        paths: (
-            String::from_str(alloc, normal).ok()?,
-            String::from_str(alloc, escapable).ok()?,
-        ),
+        parts: format!(in alloc; "{normal}/{escapable}").ok()?,
         normal: if digits {
             None
         } else {

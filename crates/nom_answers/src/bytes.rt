@@ -7,7 +7,8 @@ use crate::ask::{Module, Question};
 use crate::names::place_of;
 use crate::test::Test;
 use nom::bytes::{self, complete, streaming};
-use nom::{AsBytes, AsChar, Compare, ExtendInto, FindSubstring, FindToken, Input};
+use nom::error::Error;
+use nom::{AsBytes, AsChar, Compare, ExtendInto, FindSubstring, FindToken, Input, Parser};
 use std::alloc::Global;
 use std::fmt::Debug;
 
@@ -110,79 +111,165 @@ where
     in_module!(question, take_while_m_n(m, n, meets))
 }
 
-/// Texts with escapes, by their name, the module, and the paths of their parts.
-pub fn escapes<
-    'a,
-    C: AsChar,
-    I: Input<Item = C> + AsBytes + Debug + Compare<&'a str> + ExtendInto<Global>,
->(question: Question<I>, name: &str, escapes: &'a Escapes) -> Option<Answer>
+/// A text with escapes as it stands, of any parts.
+fn escaped<C, I, F, G>(
+    question: Question<I>,
+    normal: F,
+    control_char: char,
+    escapable: G,
+) -> Option<Answer>
 where
+    C: AsChar,
+    I: Input<Item = C> + AsBytes + Debug,
+    F: Parser<I, Error = Error<I>> + Drop,
+    G: Parser<I, Error = Error<I>> + Drop,
+    requires normal { (F.meaning (F.state normal)).IsSound }
+    requires escapable { (G.meaning (G.state escapable)).IsSound }
+{
+    question.ask(bytes::escaped(normal, control_char, escapable))
+}
+
+/// The text that one with escapes means, of any parts.
+fn transformed<C, I, F, G>(
+    question: Question<I>,
+    normal: F,
+    control_char: char,
+    escapable: G,
+) -> Option<Answer>
+where
+    C: AsChar,
+    I: Input<Item = C> + AsBytes + Debug + ExtendInto<Global>,
     I::Extender: Debug + Drop,
+    F: Parser<I, Output = I, Error = Error<I>> + Drop,
+    G: Parser<I, Output = I, Error = Error<I>> + Drop,
+    requires normal { (F.meaning (F.state normal)).IsSound }
+    requires escapable { (G.meaning (G.state escapable)).IsSound }
 {
     let alloc = question.alloc;
-    let (normal, escapable) = &escapes.paths;
-    let module = match question.module {
-        Module::Top => "bytes",
-        Module::Complete => "complete",
-        Module::Streaming => "streaming",
-    };
-    let key = format!(in alloc; "{module}/{name}/{normal}/{escapable}").ok()?;
-    let c = escapes.control_char;
-    let tag = escapes.escapable.as_str();
-    let digits = move |item: C| item.is_dec_digit();
+    match question.module {
+        Module::Top => question.ask(bytes::escaped_transform(
+            alloc,
+            normal,
+            control_char,
+            escapable,
+        )),
+        Module::Complete => question.ask(complete::escaped_transform(
+            alloc,
+            normal,
+            control_char,
+            escapable,
+        )),
+        Module::Streaming => question.ask(streaming::escaped_transform(
+            alloc,
+            normal,
+            control_char,
+            escapable,
+        )),
+    }
+}
+
+/// A text with escapes whose parts are tags, by its name and the module of its parts.
+fn escapes_of_tags<'a, C, I>(
+    question: Question<I>,
+    key: &str,
+    normal: &'a str,
+    control_char: char,
+    escapable: &'a str,
+) -> Option<Answer>
+where
+    C: AsChar,
+    I: Input<Item = C> + AsBytes + Debug + Compare<&'a str> + ExtendInto<Global>,
+    I::Extender: Debug + Drop,
+{
+    let names = "escaped/bytes::tag/bytes::tag \
+        escaped_transform/bytes::tag/bytes::tag \
+        escaped_transform/bytes::complete::tag/bytes::complete::tag";
+    match place_of(names, key)? {
+        0 => escaped(
+            question,
+            bytes::tag(normal),
+            control_char,
+            bytes::tag(escapable),
+        ),
+        1 => transformed(
+            question,
+            bytes::tag(normal),
+            control_char,
+            bytes::tag(escapable),
+        ),
+        _ => transformed(
+            question,
+            complete::tag(normal),
+            control_char,
+            complete::tag(escapable),
+        ),
+    }
+}
+
+/// The same, where the normal part is a run of items by any test.
+fn escapes_of_runs<'a, C, I, F>(
+    question: Question<I>,
+    key: &str,
+    meets: F,
+    control_char: char,
+    escapable: &'a str,
+) -> Option<Answer>
+where
+    C: AsChar,
+    I: Input<Item = C> + AsBytes + Debug + Compare<&'a str> + ExtendInto<Global>,
+    I::Extender: Debug + Drop,
+    F: Fn(C) -> bool + Copy,
+    requires called { (x : C) → F.pre meets x }
+    requires fixed { IsFixed C.IsValue (F.post meets) }
+{
+    let names = "escaped_transform/bytes::take_while/bytes::tag \
+        escaped_transform/bytes::take_while1/bytes::tag \
+        escaped_transform/bytes::complete::take_while1/bytes::complete::tag \
+        escaped_transform/bytes::streaming::take_while1/bytes::streaming::tag";
+    match place_of(names, key)? {
+        0 => transformed(
+            question,
+            bytes::take_while(meets),
+            control_char,
+            bytes::tag(escapable),
+        ),
+        1 => transformed(
+            question,
+            bytes::take_while1(meets),
+            control_char,
+            bytes::tag(escapable),
+        ),
+        2 => transformed(
+            question,
+            complete::take_while1(meets),
+            control_char,
+            complete::tag(escapable),
+        ),
+        _ => transformed(
+            question,
+            streaming::take_while1(meets),
+            control_char,
+            streaming::tag(escapable),
+        ),
+    }
+}
+
+/// Texts with escapes, by their name and the paths of their parts.
+pub fn escapes<'a, C, I>(question: Question<I>, name: &str, escapes: &'a Escapes) -> Option<Answer>
+where
+    C: AsChar,
+    I: Input<Item = C> + AsBytes + Debug + Compare<&'a str> + ExtendInto<Global>,
+    I::Extender: Debug + Drop,
+{
+    let parts = escapes.parts.as_str();
+    let key = format!(in question.alloc; "{name}/{parts}").ok()?;
+    let control_char = escapes.control_char;
+    let escapable = escapes.escapable.as_str();
     match &escapes.normal {
-        Some(normal) => {
-            let text = normal.as_str();
-            let names = "bytes/escaped/bytes::tag/bytes::tag \
-                bytes/escaped_transform/bytes::tag/bytes::tag \
-                streaming/escaped_transform/bytes::complete::tag/bytes::complete::tag";
-            match place_of(names, &key)? {
-                0 => question.ask(bytes::escaped(bytes::tag(text), c, bytes::tag(tag))),
-                1 => question.ask(bytes::escaped_transform(
-                    alloc,
-                    bytes::tag(text),
-                    c,
-                    bytes::tag(tag),
-                )),
-                _ => question.ask(streaming::escaped_transform(
-                    alloc,
-                    complete::tag(text),
-                    c,
-                    complete::tag(tag),
-                )),
-            }
-        }
+        Some(normal) => escapes_of_tags(question, &key, normal.as_str(), control_char, escapable),
         None => {
-            let names = "bytes/escaped_transform/bytes::take_while/bytes::tag \
-                bytes/escaped_transform/bytes::take_while1/bytes::tag \
-                complete/escaped_transform/bytes::complete::take_while1/bytes::complete::tag \
-                streaming/escaped_transform/bytes::streaming::take_while1/bytes::streaming::tag";
-            match place_of(names, &key)? {
-                0 => question.ask(bytes::escaped_transform(
-                    alloc,
-                    bytes::take_while(digits),
-                    c,
-                    bytes::tag(tag),
-                )),
-                1 => question.ask(bytes::escaped_transform(
-                    alloc,
-                    bytes::take_while1(digits),
-                    c,
-                    bytes::tag(tag),
-                )),
-                2 => question.ask(complete::escaped_transform(
-                    alloc,
-                    complete::take_while1(digits),
-                    c,
-                    complete::tag(tag),
-                )),
-                _ => question.ask(streaming::escaped_transform(
-                    alloc,
-                    streaming::take_while1(digits),
-                    c,
-                    streaming::tag(tag),
-                )),
-            }
+            let is_digit = |item: C| item.is_dec_digit();
+            escapes_of_runs(question, &key, is_digit, control_char, escapable)
         }
     }
 }

@@ -119,20 +119,27 @@ where
     }
 }
 
-/// Single characters.
-fn single<I: Input>(input: I, module: Module, name: &str) -> Option<IResult<I, char>>
+/// Single characters, where no more may come.
+fn single_complete<I: Input>(input: I, name: &str) -> Option<IResult<I, char>>
 where
     I::Item: AsChar,
 {
-    match (module, place_of("anychar newline tab", name)?) {
-        (Module::Top, 0) => Some(character::anychar(input)),
-        (Module::Top, _) => None,
-        (Module::Complete, 0) => Some(complete::anychar(input)),
-        (Module::Complete, 1) => Some(complete::newline(input)),
-        (Module::Complete, _) => Some(complete::tab(input)),
-        (Module::Streaming, 0) => Some(streaming::anychar(input)),
-        (Module::Streaming, 1) => Some(streaming::newline(input)),
-        (Module::Streaming, _) => Some(streaming::tab(input)),
+    match place_of("anychar newline tab", name)? {
+        0 => Some(complete::anychar(input)),
+        1 => Some(complete::newline(input)),
+        _ => Some(complete::tab(input)),
+    }
+}
+
+/// Single characters, where more may come.
+fn single_streaming<I: Input>(input: I, name: &str) -> Option<IResult<I, char>>
+where
+    I::Item: AsChar,
+{
+    match place_of("anychar newline tab", name)? {
+        0 => Some(streaming::anychar(input)),
+        1 => Some(streaming::newline(input)),
+        _ => Some(streaming::tab(input)),
     }
 }
 
@@ -147,15 +154,19 @@ where
         input,
         ..
     } = question;
-    if let Some(found) = single(input, module, name) {
-        return answer_of(alloc, found);
-    }
     match module {
-        Module::Top => match place_of("digit1 multispace0", name)? {
+        Module::Top => match place_of("digit1 multispace0 anychar", name)? {
             0 => question.ask(character::digit1()),
-            _ => question.ask(character::multispace0()),
+            1 => question.ask(character::multispace0()),
+            _ => answer_of(alloc, character::anychar(input)),
         },
-        Module::Complete => answer_of(alloc, part_complete(input, name)?),
-        Module::Streaming => answer_of(alloc, part_streaming(input, name)?),
+        Module::Complete => match single_complete(input, name) {
+            Some(found) => answer_of(alloc, found),
+            None => answer_of(alloc, part_complete(input, name)?),
+        },
+        Module::Streaming => match single_streaming(input, name) {
+            Some(found) => answer_of(alloc, found),
+            None => answer_of(alloc, part_streaming(input, name)?),
+        },
     }
 }

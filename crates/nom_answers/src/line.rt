@@ -18,7 +18,17 @@ pub enum Verdict {
     Differs(Answer),
 }
 
-/// What a parser answers that takes a text or a slice of bytes which may be a needle of the input.
+/// What a parser answers that takes a set of items or of characters.
+fn by_set<I, L>(question: Question<I>, name: &str, list: L) -> Option<Answer>
+where
+    I: Input + AsBytes + Debug,
+    I::Item: AsChar,
+    L: FindToken<I::Item> + FindToken<char> + Copy,
+{
+    bytes::of_set(question, name, list).or(characters::of_set(question, name, list))
+}
+
+/// What a parser answers that takes a text or a slice of bytes: a tag, a needle or a set.
 fn by_list<I, T>(question: Question<I>, name: &str, list: T) -> Option<Answer>
 where
     I: Input + AsBytes + Debug + Compare<T> + FindSubstring<T>,
@@ -27,8 +37,7 @@ where
 {
     bytes::tagged(question, name, list)
         .or(bytes::before(question, name, list))
-        .or(bytes::of_set(question, name, list))
-        .or(characters::of_set(question, name, list))
+        .or(by_set(question, name, list))
 }
 
 /// The same of an argument that is the same over any input.
@@ -63,14 +72,9 @@ fn over_text<'a>(
         Argument::Literal(Literal::Text(list)) => by_list(question, name, list.as_str()),
         Argument::Literal(Literal::Bytes(list)) => {
             let list = list.as_slice();
-            bytes::tagged(question, name, list)
-                .or(bytes::of_set(question, name, list))
-                .or(characters::of_set(question, name, list))
+            bytes::tagged(question, name, list).or(by_set(question, name, list))
         }
-        Argument::Chars(list) => {
-            let list = list.as_slice();
-            bytes::of_set(question, name, list).or(characters::of_set(question, name, list))
-        }
+        Argument::Chars(list) => by_set(question, name, list.as_slice()),
         Argument::Array(_) => None,
         _ => by_value(question, name, argument),
     }
@@ -126,13 +130,14 @@ fn found(
 
 /// The module of a path, and the name behind it.
 fn module_of(path: &str) -> Option<(Module, &str)> {
-    let modules = "bytes character bytes::complete character::complete bytes::streaming \
-        character::streaming";
-    let (module, name) = path.rsplit_once("::")?;
-    match place_of(modules, module)? {
-        0 | 1 => Some((Module::Top, name)),
-        2 | 3 => Some((Module::Complete, name)),
-        _ => Some((Module::Streaming, name)),
+    let (root, path) = path.split_once("::")?;
+    place_of("bytes character", root)?;
+    if let Some(name) = path.strip_prefix("complete::") {
+        return Some((Module::Complete, name));
+    }
+    match path.strip_prefix("streaming::") {
+        Some(name) => Some((Module::Streaming, name)),
+        None => Some((Module::Top, path)),
     }
 }
 

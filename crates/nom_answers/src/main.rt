@@ -46,8 +46,8 @@
 //! nobody gave, which have to be told.
 //!
 //! For each file it prints its name; for each line to which the answer here is another `differs`, the number of
-//! the line and what was found, and for each that can't be read `unread` and its number; then how many lines
-//! there were, and how many of them were wrong. The status is 0 where none was; 1 where one was, or a write
+//! the line, what was found and how many bytes it leaves, and for each that can't be read `unread` and its
+//! number; then how many lines there were, and how many of them were wrong. The status is 0 where none was; 1 where one was, or a write
 //! fails; 3 where a file can't be read.
 #![tactic(auto)]
 
@@ -82,8 +82,8 @@ fn replay(rt: &(impl Print + Alloc<A = Global>), text: &str) -> io::Result<u64> 
             Some(Verdict::Differs(found)) => {
                 wrong = wrong.saturating_add(1);
                 let said = found.said.as_str();
-                let left = found.left.as_slice();
-                println!(rt; "differs {lines}, found {said}, left {left:?}")?;
+                let left = found.left.len();
+                println!(rt; "differs {lines}, found {said}, {left} left")?;
             }
             None => {
                 wrong = wrong.saturating_add(1);
