@@ -147,6 +147,7 @@ fn parsed(alloc: Global, call: &str, input: &str, way: &str, answer: &str) -> Op
         Some(open) => open.split_once("(")?,
         None => (call, ""),
     };
+    place_of("streaming complete", way)?;
     let (module, name) = module_of(path)?;
     let argument = argument_of(alloc, argument)?;
     let input = literal_of(alloc, input)?;
