@@ -1,0 +1,42 @@
+//! Parsers by what becomes of a part's outcome.
+#![tactic(auto)]
+
+ghost use Rattle.std.specs.Prelude.{◌≡◌};
+
+mod verdict;
+
+pub use crate::verdict::{Cut, Not, Opt, Peek};
+
+/// A parser whose refusals are failures, after which no other branch is tried.
+#[inline(always)]
+pub fn cut<F>(parser: F) -> Cut<F>
+    ensures { result.parser ≡ parser }
+{
+    Cut { parser }
+}
+
+/// A parser, or nothing where it refuses: then `None` is accepted, and nothing is consumed. The errors of
+/// its refusals aren't built; its failures stay.
+#[inline(always)]
+pub fn opt<F>(parser: F) -> Opt<F>
+    ensures { result.parser ≡ parser }
+{
+    Opt { parser }
+}
+
+/// A parser of which nothing is consumed.
+#[inline(always)]
+pub fn peek<F>(parser: F) -> Peek<F>
+    ensures { result.parser ≡ parser }
+{
+    Peek { parser }
+}
+
+/// Accepts nothing where a parser refuses, and refuses with `Not` at the start where it accepts. Its
+/// failures stay, and so does its want of more input.
+#[inline(always)]
+pub fn not<F>(parser: F) -> Not<F>
+    ensures { result.parser ≡ parser }
+{
+    Not { parser }
+}
