@@ -2,19 +2,22 @@
 use Rattle.std.proofs.Common.{◌≡◌, ℕ, Bool, true, false, [], Result, Ok, Err, Option, Some, None, refl, sym, ◌∙◌, ap, subst, inl, inr}
 use Rattle.nom_error.specs.declared.answer.Needed.{Needed}
 use Rattle.nom_error.specs.declared.answer.Err as Answer
-use Rattle.nom_error.specs.declared.answer.Err.TheVariants.{Error, Failure}
+use Rattle.nom_error.specs.declared.answer.Err.TheVariants.{Incomplete, Error, Failure}
 use Rattle.nom_error.specs.Answers.{Refuses}
-use Rattle.nom_error.specs.Modes.{Built, Modes, modes}
+use Rattle.nom_error.specs.Modes.{with_outputs, Built, Modes, modes}
 use Rattle.nom_traits.specs.Input.{Seen, InputLaws, IsRest}
+use Rattle.nom_traits.specs.Slices.{Slice, IsFirst, IsSeenAs}
+use Rattle.nom_internal.specs.Recognized.{recognized_meaning}
+use Rattle.nom_internal.proofs.Consumed.{slice_before, recognized_err}
 use Rattle.nom_internal.specs.Outcome.{Outcome, Shows}
 use Rattle.nom_internal.specs.Outcome.Outcome.{Accept, Refuse, Fail, TooLarge, Undecided}
 use Rattle.nom_internal.specs.Outcome.ShowsAnswer.{RanOut, Shown}
 use Rattle.nom_internal.specs.Meaning.{Meaning, ShowsMeaning}
 use Rattle.nom_internal.specs.Cases.{case_meaning}
 use Rattle.nom_internal.specs.Cases.CaseRunsOut.{RunsOutInPart, RunsOutBeside}
-use Rattle.nom_internal.proofs.Shown.{accepts, built_error}
+use Rattle.nom_internal.proofs.Shown.{both_built, accepts, built_error}
 use Rattle.nom_internal.proofs.Cased.{here, plain_err}
-use Rattle.nom_combinator.specs.Verdicts.{verdict_case, cut_outcome, NeverCut, cut_meaning, opt_outcome, opt_meaning, OptOutput, Looks, peek_meaning, not_meaning}
+use Rattle.nom_combinator.specs.Verdicts.{complete_meaning, WithSlice, consumed_meaning, verdict_case, cut_outcome, NeverCut, cut_meaning, opt_outcome, opt_meaning, OptOutput, Looks, peek_meaning, not_meaning}
 
 module _ {I A : Type 0} (w : Seen I A) (l : InputLaws w) where
   pub rest_self : (i : I) → w.IsKnown i → IsRest w i 0 i
@@ -154,3 +157,66 @@ module _ {I A P O E : Type 0} (w : Seen I A) (l : InputLaws w) (IsOutput : P →
 
   pub not_accepted : (p : I × Option O) (f : Answer.Err E (Option E) Needed) → NotPart (Ok p) → Refuses (Own i) Grows mode.errors f → NotShown (Err f)
   not_accepted p f h k = let a = accepts h in accepted_refusal a.length a.tree a.answered f k
+
+-- a part that runs as on a complete input
+module _ {I A P O E : Type 0} (w : Seen I A) (IsOutput : P → O → Type 0) (Own : I → E → Type 0) (Grows : Type 0) (m : Meaning I P E) (mode : Modes) (i : I) where
+  abbrev CompleteShown : Result (I × Option O) (Answer.Err E (Option E) Needed) → Type 0
+  CompleteShown = ShowsMeaning w IsOutput (complete_meaning Own Grows m) mode i
+
+  abbrev CompletePart : Result (I × Option O) (Answer.Err E (Option E) Needed) → Type 0
+  CompletePart = ShowsMeaning w IsOutput m (modes mode.outputs mode.errors false) i
+
+  complete_of : (k : Answer.Err E (Option E) Needed) → ((x : Needed) → k ≡ Incomplete x → ⊥) → (o : Outcome P) → m.answers false i o → Shows w IsOutput (modes mode.outputs mode.errors false) i (m.blames false i) o (Err k) → CompleteShown (Err k)
+  complete_of k other (Accept n v) a h = absurd (cc (h.4))
+  complete_of k other Refuse a h = Shown Refuse (here Refuse a refl) (h.0, built_error mode.errors _ _ h.0 (λ e b. here Refuse a b) h.1, cc (h.2))
+  complete_of k other Fail a h = Shown Fail (here Fail a refl) (h.0, here Fail a h.1, cc (h.2))
+  complete_of k other TooLarge a h = Shown TooLarge (here TooLarge a refl) (h.0, here TooLarge a h.1, cc (h.2))
+  complete_of k other (Undecided d) a h = absurd (other h.0 (cc (h.2)))
+
+  complete_passed : (k : Answer.Err E (Option E) Needed) → ((x : Needed) → k ≡ Incomplete x → ⊥) → CompletePart (Err k) → CompleteShown (Err k)
+  complete_passed k other (RanOut e h) = RanOut (cc (e)) (RunsOutInPart i refl h)
+  complete_passed k other (Shown o a h) = complete_of k other o a h
+
+  pub complete_passes : (f k : Answer.Err E (Option E) Needed) → f ≡ k → ((x : Needed) → k ≡ Incomplete x → ⊥) → CompletePart (Err f) → CompleteShown (Err k)
+  complete_passes f k q other h = complete_passed k other (subst (λ y. CompletePart (Err y)) q h)
+
+  pub complete_ok : (p : I × Option O) → CompletePart (Ok p) → CompleteShown (Ok p)
+  complete_ok p h = let a = accepts h in Shown (Accept a.length a.tree) (here (Accept a.length a.tree) a.answered refl) (p.0, p.1, a.rest_is, a.built_is, refl)
+
+  wanted_refusal : (d : Option ℕ) → m.answers false i (Undecided d) → (r : Answer.Err E (Option E) Needed) → Refuses (Own i) Grows mode.errors r → CompleteShown (Err r)
+  wanted_refusal d a r (inl h) = RanOut (ap Err h.0) (RunsOutBeside (here (Undecided d) a (h.1, h.2)))
+  wanted_refusal d a r (inr h) = Shown Refuse (here (Undecided d) a refl) (h.0, built_error mode.errors _ _ h.0 (λ e g. here (Undecided d) a g) h.1, ap Err h.2)
+
+  wanted_of : (x : Needed) (o : Outcome P) → m.answers false i o → Shows w IsOutput (modes mode.outputs mode.errors false) i (m.blames false i) o (Err (Incomplete x)) → (r : Answer.Err E (Option E) Needed) → Refuses (Own i) Grows mode.errors r → CompleteShown (Err r)
+  wanted_of x (Accept n v) a h r g = absurd (cc (h.4))
+  wanted_of x Refuse a h r g = absurd (cc (h.2))
+  wanted_of x Fail a h r g = absurd (cc (h.2))
+  wanted_of x TooLarge a h r g = absurd (cc (h.2))
+  wanted_of x (Undecided d) a h r g = wanted_refusal d a r g
+
+  wanted : (x : Needed) → CompletePart (Err (Incomplete x)) → (r : Answer.Err E (Option E) Needed) → Refuses (Own i) Grows mode.errors r → CompleteShown (Err r)
+  wanted x (RanOut e h) r g = absurd (cc (e))
+  wanted x (Shown o a h) r g = wanted_of x o a h r g
+
+  pub complete_wanted : (f : Answer.Err E (Option E) Needed) (x : Needed) → f ≡ Incomplete x → CompletePart (Err f) → (r : Answer.Err E (Option E) Needed) → Refuses (Own i) Grows mode.errors r → CompleteShown (Err r)
+  complete_wanted f x q h r g = wanted x (subst (λ y. CompletePart (Err y)) q h) r g
+
+-- what a part consumes
+module _ {I A P O E : Type 0} (w : Seen I A) (IsOutput : P → O → Type 0) (m : Meaning I P E) (mode : Modes) (i : I) where
+  pub recognize_err : (f : Answer.Err E (Option E) Needed) (r : Result (I × Option I) (Answer.Err E (Option E) Needed)) → ShowsMeaning w IsOutput m (with_outputs false mode) i (Err f) → r ≡ Err f → ShowsMeaning w (IsSeenAs w) (recognized_meaning w m) mode i r
+  recognize_err f r h e = subst (λ z. ShowsMeaning w (IsSeenAs w) (recognized_meaning w m) mode i z) (sym e) (recognized_err w IsOutput m mode i f h)
+
+  pub has_rest : (j : I) (x : Option O) → ShowsMeaning w IsOutput m mode i (Ok (j, x)) → (n : ℕ) × IsRest w i n j
+  has_rest j x h = let a = accepts h in (a.length, a.rest_is)
+
+  abbrev ConsumedShown : Result (I × Option (I × O)) (Answer.Err E (Option E) Needed) → Type 0
+  ConsumedShown = ShowsMeaning w (λ t o. IsSeenAs w t.0 o.0 × IsOutput t.1 o.1) (consumed_meaning w m) mode i
+
+  pub consumed_err : (f : Answer.Err E (Option E) Needed) (r : Result (I × Option (I × O)) (Answer.Err E (Option E) Needed)) → ShowsMeaning w IsOutput m mode i (Err f) → r ≡ Err f → ConsumedShown r
+  consumed_err f r h e = subst (λ z. ConsumedShown z) (sym e) (plain_err w IsOutput (λ t o. IsSeenAs w t.0 o.0 × IsOutput t.1 o.1) (λ b. b) (λ i. WithSlice w i) m mode i f h)
+
+  pub consumed_ok : (j : I) (x : Option O) (b : Option I) (y : Option (I × O)) → ShowsMeaning w IsOutput m mode i (Ok (j, x)) → ((n : ℕ) (t : Slice w) → IsRest w i n j → IsFirst w i n t → Built mode.outputs (IsSeenAs w t) b) → ((a : I) (c : O) → b ≡ Some a → x ≡ Some c → y ≡ Some (a, c)) → (b ≡ None → y ≡ None) → ConsumedShown (Ok (j, y))
+  consumed_ok j x b y h f both none =
+      let a = accepts h in
+      let t = slice_before a.rest_is in
+      Shown (Accept a.length (t.0, a.tree)) (here (Accept a.length a.tree) a.answered (t.0, t.1, refl)) (j, y, a.rest_is, both_built (IsSeenAs w t.0) (IsOutput a.tree) mode.outputs b x y (f a.length t.0 a.rest_is t.1) a.built_is both none, refl)

@@ -1,11 +1,13 @@
 -- What becomes of a part's outcome: a refusal that is final, an option, a look ahead, and a part that must refuse.
 use Rattle.std.specs.Prelude.{◌≡◌, ℕ, Bool, true, false, Option, Some, None}
-use Rattle.nom_error.specs.Modes.{modes}
+use Rattle.nom_error.specs.Modes.{with_streaming, modes}
+use Rattle.nom_traits.specs.Input.{Seen}
+use Rattle.nom_traits.specs.Slices.{Slice, IsFirst}
 use Rattle.nom_internal.specs.Outcome.{Outcome}
 use Rattle.nom_internal.specs.Outcome.Outcome.{Accept, Refuse, Fail, TooLarge, Undecided}
 use Rattle.nom_internal.specs.Meaning.{Meaning}
 use Rattle.nom_internal.specs.Cases.{Case, case_meaning, Passes, plain_case}
-use Rattle.nom_internal.specs.Cases.PartMode.{AsAsked}
+use Rattle.nom_internal.specs.Cases.PartMode.{AsAsked, Always}
 
 -- Of a part at the same input, in the mode that is asked for, whose errors stand for themselves: what its outcome becomes,
 -- whether its refusals' errors are built, and when it never fails.
@@ -105,3 +107,53 @@ not_case Own Grows = record {
 
 abbrev pub not_meaning : {I P E : Type 0} → (I → E → Type 0) → Type 0 → Meaning I P E → Meaning I (Unit {0}) E
 not_meaning Own Grows = case_meaning (not_case Own Grows)
+
+-- want of more becomes a refusal
+abbrev pub complete_outcome : {P : Type 0} → Outcome P → Outcome P
+complete_outcome (Accept n v) = Accept n v
+complete_outcome Refuse = Refuse
+complete_outcome Fail = Fail
+complete_outcome TooLarge = TooLarge
+complete_outcome (Undecided k) = Refuse
+
+-- the error where more was wanted is its own; any other is the part's
+abbrev pub CompleteBlames : {P E : Type 0} → (E → Type 0) → Outcome P → (E → Type 0) → E → Type 0
+CompleteBlames Own (Accept n v) Part e = ⊥
+CompleteBlames Own Refuse Part e = Part e
+CompleteBlames Own Fail Part e = Part e
+CompleteBlames Own TooLarge Part e = Part e
+CompleteBlames Own (Undecided k) Part e = Own e
+
+-- of want of more alone
+abbrev pub OnUndecided : {P : Type 0} → Type 0 → Outcome P → Type 0
+OnUndecided Fact (Accept n v) = ⊥
+OnUndecided Fact Refuse = ⊥
+OnUndecided Fact Fail = ⊥
+OnUndecided Fact TooLarge = ⊥
+OnUndecided Fact (Undecided k) = Fact
+
+-- A part that runs as on a complete input, where want of more is refused all the same. The error of that is made at the start,
+-- which may take memory where errors are built.
+abbrev pub complete_case : {I P E : Type 0} → (I → E → Type 0) → Type 0 → Case I I P P E E
+complete_case Own Grows = record {
+  At = λ i j. i ≡ j;
+  mode = Always false;
+  Becomes = λ i a o. o ≡ complete_outcome a;
+  Blames = λ i. CompleteBlames (Own i);
+  part = with_streaming false;
+  Asks = λ mode i. OnUndecided ((mode.errors ≡ true) × Grows);
+  IsSound = λ Part. Part;
+  IsFrugal = λ Part mode. Part (with_streaming false mode) × (mode.errors ≡ true → Grows → ⊥);
+  NeverFails = λ Part. Part;
+}
+
+abbrev pub complete_meaning : {I P E : Type 0} → (I → E → Type 0) → Type 0 → Meaning I P E → Meaning I P E
+complete_meaning Own Grows = case_meaning (complete_case Own Grows)
+
+-- an acceptance, with the slice that the part consumed beside its tree
+abbrev pub WithSlice : {I A P : Type 0} (w : Seen I A) → I → ℕ → P → Outcome (Slice w × P) → Type 0
+WithSlice w i n v o = (t : Slice w) × IsFirst w i n t × (o ≡ Accept n (t, v))
+
+-- a part with the slice that it consumes
+abbrev pub consumed_meaning : {I A P E : Type 0} (w : Seen I A) → Meaning I P E → Meaning I (Slice w × P) E
+consumed_meaning w = case_meaning (plain_case (λ b. b) (λ i. Passes (WithSlice w i)))

@@ -3,9 +3,11 @@
 
 ghost use Rattle.std.specs.Prelude.{◌≡◌};
 
+mod piece;
 mod verdict;
 
-pub use crate::verdict::{Cut, Not, Opt, Peek};
+pub use crate::piece::{Consumed, Recognize};
+pub use crate::verdict::{Cut, MakeComplete, Not, Opt, Peek};
 
 /// A parser whose refusals are failures, after which no other branch is tried.
 #[inline(always)]
@@ -39,4 +41,29 @@ pub fn not<F>(parser: F) -> Not<F>
     ensures { result.parser ≡ parser }
 {
     Not { parser }
+}
+
+/// A parser that runs as on a complete input; where it wants more all the same, it refuses with `Complete`
+/// at the start.
+#[inline(always)]
+pub fn complete<F>(parser: F) -> MakeComplete<F>
+    ensures { result.parser ≡ parser }
+{
+    MakeComplete { parser }
+}
+
+/// What a parser consumes, as a slice of the input; its own outputs aren't built.
+#[inline(always)]
+pub fn recognize<F>(parser: F) -> Recognize<F>
+    ensures { result.parser ≡ parser }
+{
+    Recognize { parser }
+}
+
+/// A parser's output, behind the slice of the input that it consumes.
+#[inline(always)]
+pub fn consumed<F>(parser: F) -> Consumed<F>
+    ensures { result.parser ≡ parser }
+{
+    Consumed { parser }
 }

@@ -2,12 +2,12 @@
 ghost use Rattle.std.specs.Prelude.{◌≡◌, Option};
 ghost use Rattle.nom_error.specs.Modes.{Built};
 ghost use Rattle.nom_error.specs.declared.kind.ErrorKind.TheVariants as Kind;
-ghost use Rattle.nom_combinator.specs.Verdicts.{cut_meaning, OptOutput, opt_meaning, peek_meaning, not_meaning};
-ghost use Rattle.nom_combinator.specs.VerdictLaws.{cut_lawful, cut_steady, opt_pinned, opt_lawful, opt_steady, peek_lawful, peek_steady, not_lawful, not_steady};
+ghost use Rattle.nom_combinator.specs.Verdicts.{complete_meaning, cut_meaning, OptOutput, opt_meaning, peek_meaning, not_meaning};
+ghost use Rattle.nom_combinator.specs.VerdictLaws.{complete_lawful, cut_lawful, cut_steady, opt_pinned, opt_lawful, opt_steady, peek_lawful, peek_steady, not_lawful, not_steady};
 
 use nom_error::answer::{Err, PResult};
 use nom_error::kind::ErrorKind;
-use nom_error::mode::{Check, Emit, Mode, OutputM, OutputMode};
+use nom_error::mode::{Check, Complete, Emit, Mode, OutputM, OutputMode};
 use nom_error::value::refusal;
 use nom_internal::parser::{Parser, StreamParser};
 use nom_traits::input::Items;
@@ -200,4 +200,46 @@ impl<I: Items, F: StreamParser<I> + Drop> StreamParser<I> for Not<F> {
     ghost pinned = { λ s k p. value_pinned };
 
     ghost steady = { λ s k. not_steady I.seen (F.meaning s) (λ i. F.Error.errors.of_kind i Kind.Not) F.Error.errors.grows (F.steady s k) };
+}
+
+/// A parser that runs as on a complete input; made by `complete`.
+#[derive(Drop)]
+pub struct MakeComplete<F> {
+    pub parser: F,
+}
+
+impl<I: Items, F: Parser<I> + Drop> Parser<I> for MakeComplete<F> {
+    type Output = F::Output;
+
+    type Error = F::Error;
+
+    ghost State = { F.State };
+
+    ghost state = { λ p. F.state p.parser };
+
+    ghost Tree = { F.Tree };
+
+    ghost IsOutput = { F.IsOutput };
+
+    ghost meaning = { λ s. complete_meaning (λ i. F.Error.errors.of_kind i Kind.Complete) F.Error.errors.grows (F.meaning s) };
+
+    ghost Pins = { F.Pins };
+
+    #[inline(always)]
+    fn process<OM: OutputMode>(&mut self, input: I) -> PResult<I, Self::Output, Self::Error> {
+        match self
+            .parser
+            .process::<OutputM<OM::Output, OM::Error, Complete>>(input)
+        {
+            Ok(accepted) => Ok(accepted),
+            Err(Err::Error(error)) => Err(Err::Error(error)),
+            Err(Err::Incomplete(_)) => {
+                Err(refusal::<OM::Error, I, F::Error>(input, ErrorKind::Complete))
+            }
+            Err(Err::Failure(error)) => Err(Err::Failure(error)),
+            Err(Err::OutOfMemory) => Err(Err::OutOfMemory),
+        }
+    }
+
+    ghost lawful = { λ s k. complete_lawful I.seen (F.meaning s) (λ i. F.Error.errors.of_kind i Kind.Complete) F.Error.errors.grows (F.lawful s k) };
 }
