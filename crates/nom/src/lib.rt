@@ -6,6 +6,7 @@
 pub mod branch;
 pub mod bytes;
 pub mod character;
+pub mod combinator;
 pub mod error;
 pub mod multi;
 pub mod number;

@@ -1,0 +1,222 @@
+-- What is shown of what becomes of a part's outcome.
+use Rattle.std.proofs.Common.{◌≡◌, ℕ, Bool, true, false, [], Result, Ok, Err, Option, Some, None, refl, sym, ◌∙◌, ap, subst, inl, inr}
+use Rattle.nom_error.specs.declared.answer.Needed.{Needed}
+use Rattle.nom_error.specs.declared.answer.Err as Answer
+use Rattle.nom_error.specs.declared.answer.Err.TheVariants.{Incomplete, Error, Failure}
+use Rattle.nom_error.specs.Answers.{Refuses}
+use Rattle.nom_error.specs.Modes.{with_outputs, Built, Modes, modes}
+use Rattle.nom_traits.specs.Input.{Seen, InputLaws, IsRest}
+use Rattle.nom_traits.specs.Slices.{Slice, IsFirst, IsSeenAs}
+use Rattle.nom_internal.specs.Recognized.{recognized_meaning}
+use Rattle.nom_internal.proofs.Consumed.{slice_before, recognized_err}
+use Rattle.nom_internal.specs.Outcome.{Outcome, Shows}
+use Rattle.nom_internal.specs.Outcome.Outcome.{Accept, Refuse, Fail, TooLarge, Undecided}
+use Rattle.nom_internal.specs.Outcome.ShowsAnswer.{RanOut, Shown}
+use Rattle.nom_internal.specs.Meaning.{Meaning, ShowsMeaning}
+use Rattle.nom_internal.specs.Cases.{case_meaning}
+use Rattle.nom_internal.specs.Cases.CaseRunsOut.{RunsOutInPart, RunsOutBeside}
+use Rattle.nom_internal.proofs.Shown.{both_built, accepts, built_error}
+use Rattle.nom_internal.proofs.Cased.{here, plain_err}
+use Rattle.nom_combinator.specs.Verdicts.{complete_meaning, WithSlice, consumed_meaning, verdict_case, cut_outcome, NeverCut, cut_meaning, opt_outcome, opt_meaning, OptOutput, Looks, peek_meaning, not_meaning}
+
+module _ {I A : Type 0} (w : Seen I A) (l : InputLaws w) where
+  pub rest_self : (i : I) → w.IsKnown i → IsRest w i 0 i
+  rest_self i h = record { known = h; front = []; whole = refl; length_is = refl; mark_is = sym (l.mark_none (w.mark i)) }
+
+-- what neither accepts nor refuses passes
+module _ {I A P T O X E : Type 0} (w : Seen I A) (becomes : Outcome P → Outcome T) (errors : Bool → Bool) (Never : (Bool → Type 0) → Bool → Type 0) (fails : Fail ≡ becomes Fail) (larges : TooLarge ≡ becomes TooLarge) (waits : (k : Option ℕ) → Undecided k ≡ becomes (Undecided k)) (IsOutput : P → O → Type 0) (IsResult : T → X → Type 0) (m : Meaning I P E) (mode : Modes) (i : I) where
+  abbrev Goal : Result (I × Option X) (Answer.Err E (Option E) Needed) → Type 0
+  Goal = ShowsMeaning w IsResult (case_meaning (verdict_case becomes errors Never) m) mode i
+
+  passes_of : (k : Answer.Err E (Option E) Needed) → ((x : Option E) → k ≡ Error x → ⊥) → (o : Outcome P) → m.answers mode.streaming i o → Shows w IsOutput (modes mode.outputs (errors mode.errors) mode.streaming) i (m.blames mode.streaming i) o (Err k) → Goal (Err k)
+  passes_of k other (Accept n v) a h = absurd (cc (h.4))
+  passes_of k other Refuse a h = absurd (other h.0 (cc (h.2)))
+  passes_of k other Fail a h = Shown Fail (here Fail a fails) (h.0, here Fail a h.1, cc (h.2))
+  passes_of k other TooLarge a h = Shown TooLarge (here TooLarge a larges) (h.0, here TooLarge a h.1, cc (h.2))
+  passes_of k other (Undecided d) a h = Shown (Undecided d) (here (Undecided d) a (waits d)) (h.0, h.1, cc (h.2))
+
+  shown_passes : (k : Answer.Err E (Option E) Needed) → ((x : Option E) → k ≡ Error x → ⊥) → ShowsMeaning w IsOutput m (modes mode.outputs (errors mode.errors) mode.streaming) i (Err k) → Goal (Err k)
+  shown_passes k other (RanOut e h) = RanOut (cc (e)) (RunsOutInPart i refl h)
+  shown_passes k other (Shown o a h) = passes_of k other o a h
+
+  pub verdict_passes : (f k : Answer.Err E (Option E) Needed) → f ≡ k → ((x : Option E) → k ≡ Error x → ⊥) → ShowsMeaning w IsOutput m (modes mode.outputs (errors mode.errors) mode.streaming) i (Err f) → Goal (Err k)
+  verdict_passes f k q other h = shown_passes k other (subst (λ y. ShowsMeaning w IsOutput m (modes mode.outputs (errors mode.errors) mode.streaming) i (Err y)) q h)
+
+-- a refusal that was shown, with its error where that is built
+pub record Refusal {E : Type 0} (Answered : Type 0) (IsError : E → Type 0) (errors : Bool) (b : Option E) : Type 0 where
+  pub answered : Answered
+  pub error_is : Built errors IsError b
+
+module _ {I A P O E : Type 0} (w : Seen I A) (IsOutput : P → O → Type 0) (m : Meaning I P E) (mode : Modes) (i : I) (b : Option E) where
+  refusal_of : (o : Outcome P) → m.answers mode.streaming i o → Shows w IsOutput mode i (m.blames mode.streaming i) o (Err (Error b)) → Refusal (m.answers mode.streaming i Refuse) (m.blames mode.streaming i) mode.errors b
+  refusal_of (Accept n v) a h = cc (h.4)
+  refusal_of Refuse a h = let same : h.0 ≡ b = cc (h.2) in record { answered = a; error_is = subst (λ z. Built mode.errors (m.blames mode.streaming i) z) same h.1 }
+  refusal_of Fail a h = cc (h.2)
+  refusal_of TooLarge a h = cc (h.2)
+  refusal_of (Undecided k) a h = cc (h.2)
+
+  shown_refusal : ShowsMeaning w IsOutput m mode i (Err (Error b)) → Refusal (m.answers mode.streaming i Refuse) (m.blames mode.streaming i) mode.errors b
+  shown_refusal (RanOut e h) = cc (e)
+  shown_refusal (Shown o a h) = refusal_of o a h
+
+  pub refuses : (f : Answer.Err E (Option E) Needed) → f ≡ Error b → ShowsMeaning w IsOutput m mode i (Err f) → Refusal (m.answers mode.streaming i Refuse) (m.blames mode.streaming i) mode.errors b
+  refuses f q h = shown_refusal (subst (λ y. ShowsMeaning w IsOutput m mode i (Err y)) q h)
+
+-- a refusal that is final
+module _ {I A P O E : Type 0} (w : Seen I A) (IsOutput : P → O → Type 0) (m : Meaning I P E) (mode : Modes) (i : I) where
+  abbrev CutShown : Result (I × Option O) (Answer.Err E (Option E) Needed) → Type 0
+  CutShown = ShowsMeaning w IsOutput (cut_meaning m) mode i
+
+  abbrev CutPart : Result (I × Option O) (Answer.Err E (Option E) Needed) → Type 0
+  CutPart = ShowsMeaning w IsOutput m (modes mode.outputs true mode.streaming) i
+
+  pub cut_passes : (f k : Answer.Err E (Option E) Needed) → f ≡ k → ((x : Option E) → k ≡ Error x → ⊥) → CutPart (Err f) → CutShown (Err k)
+  cut_passes = verdict_passes w cut_outcome (λ _. true) NeverCut refl refl (λ k. refl) IsOutput IsOutput m mode i
+
+  pub cut_ok : (p : I × Option O) → CutPart (Ok p) → CutShown (Ok p)
+  cut_ok p h = let a = accepts h in Shown (Accept a.length a.tree) (here (Accept a.length a.tree) a.answered refl) (p.0, p.1, a.rest_is, a.built_is, refl)
+
+  pub cut_refused : (f : Answer.Err E (Option E) Needed) (b : Option E) (e : E) → f ≡ Error b → b ≡ Some e → CutPart (Err f) → CutShown (Err (Failure e))
+  cut_refused f b e q is h =
+      let r = refuses w IsOutput m (modes mode.outputs true mode.streaming) i b f q h in
+      let same : r.error_is.0 ≡ e = cc (r.error_is.1, is) in
+      Shown Fail (here Refuse r.answered refl) (e, here Refuse r.answered (subst (λ z. m.blames mode.streaming i z) same r.error_is.2), refl)
+
+-- an option
+module _ {I A P O E : Type 0} (w : Seen I A) (l : InputLaws w) (IsOutput : P → O → Type 0) (m : Meaning I P E) (mode : Modes) (i : I) where
+  abbrev OptShown : Result (I × Option (Option O)) (Answer.Err E (Option E) Needed) → Type 0
+  OptShown = ShowsMeaning w (OptOutput IsOutput) (opt_meaning m) mode i
+
+  abbrev OptPart : Result (I × Option O) (Answer.Err E (Option E) Needed) → Type 0
+  OptPart = ShowsMeaning w IsOutput m (modes mode.outputs false mode.streaming) i
+
+  pub opt_passes : (f k : Answer.Err E (Option E) Needed) → f ≡ k → ((x : Option E) → k ≡ Error x → ⊥) → OptPart (Err f) → OptShown (Err k)
+  opt_passes = verdict_passes w opt_outcome (λ _. false) (λ Part. Part) refl refl (λ k. refl) IsOutput (OptOutput IsOutput) m mode i
+
+  some_built : (b : Bool) (v : P) (x : Option O) (y : Option (Option O)) → Built b (IsOutput v) x → Built b (λ z. z ≡ x) y → Built b (OptOutput IsOutput (Some v)) y
+  some_built true v x y h k = (k.0, k.1, (h.0, k.2 ∙ h.1, h.2))
+  some_built false v x y h k = k
+
+  none_built : (b : Bool) (y : Option (Option O)) → Built b (λ z. z ≡ None) y → Built b (OptOutput IsOutput None) y
+  none_built true y k = k
+  none_built false y k = k
+
+  pub opt_ok : (j : I) (x : Option O) (y : Option (Option O)) → OptPart (Ok (j, x)) → Built mode.outputs (λ z. z ≡ x) y → OptShown (Ok (j, y))
+  opt_ok j x y h k =
+      let a = accepts h in
+      Shown (Accept a.length (Some a.tree)) (here (Accept a.length a.tree) a.answered refl) (j, y, a.rest_is, some_built mode.outputs a.tree x y a.built_is k, refl)
+
+  pub opt_refused : w.IsKnown i → (f : Answer.Err E (Option E) Needed) (b : Option E) (y : Option (Option O)) → f ≡ Error b → OptPart (Err f) → Built mode.outputs (λ z. z ≡ None) y → OptShown (Ok (i, y))
+  opt_refused known f b y q h k =
+      let r = refuses w IsOutput m (modes mode.outputs false mode.streaming) i b f q h in
+      Shown (Accept 0 None) (here Refuse r.answered refl) (i, y, rest_self w l i known, none_built mode.outputs y k, refl)
+
+-- a look ahead
+module _ {I A P O E : Type 0} (w : Seen I A) (l : InputLaws w) (IsOutput : P → O → Type 0) (m : Meaning I P E) (mode : Modes) (i : I) where
+  abbrev PeekShown : Result (I × Option O) (Answer.Err E (Option E) Needed) → Type 0
+  PeekShown = ShowsMeaning w IsOutput (peek_meaning m) mode i
+
+  pub peek_err : (f : Answer.Err E (Option E) Needed) (r : Result (I × Option O) (Answer.Err E (Option E) Needed)) → ShowsMeaning w IsOutput m mode i (Err f) → r ≡ Err f → PeekShown r
+  peek_err f r h e = subst (λ z. PeekShown z) (sym e) (plain_err w IsOutput IsOutput (λ b. b) (λ i. Looks) m mode i f h)
+
+  pub peek_ok : w.IsKnown i → (j : I) (x : Option O) → ShowsMeaning w IsOutput m mode i (Ok (j, x)) → PeekShown (Ok (i, x))
+  peek_ok known j x h =
+      let a = accepts h in
+      Shown (Accept 0 a.tree) (here (Accept a.length a.tree) a.answered refl) (i, x, rest_self w l i known, a.built_is, refl)
+
+-- a part that must refuse
+module _ {I A P O E : Type 0} (w : Seen I A) (l : InputLaws w) (IsOutput : P → O → Type 0) (Own : I → E → Type 0) (Grows : Type 0) (m : Meaning I P E) (mode : Modes) (i : I) where
+  abbrev NotShown : Result (I × Option (Unit {0})) (Answer.Err E (Option E) Needed) → Type 0
+  NotShown = ShowsMeaning w (λ t o. o ≡ t) (not_meaning Own Grows m) mode i
+
+  abbrev NotPart : Result (I × Option O) (Answer.Err E (Option E) Needed) → Type 0
+  NotPart = ShowsMeaning w IsOutput m (modes false false mode.streaming) i
+
+  not_of : (k : Answer.Err E (Option E) Needed) → ((x : Option E) → k ≡ Error x → ⊥) → (o : Outcome P) → m.answers mode.streaming i o → Shows w IsOutput (modes false false mode.streaming) i (m.blames mode.streaming i) o (Err k) → NotShown (Err k)
+  not_of k other (Accept n v) a h = absurd (cc (h.4))
+  not_of k other Refuse a h = absurd (other h.0 (cc (h.2)))
+  not_of k other Fail a h = Shown Fail (here Fail a refl) (h.0, here Fail a h.1, cc (h.2))
+  not_of k other TooLarge a h = Shown TooLarge (here TooLarge a refl) (h.0, here TooLarge a h.1, cc (h.2))
+  not_of k other (Undecided d) a h = Shown (Undecided d) (here (Undecided d) a refl) (h.0, h.1, cc (h.2))
+
+  not_passed : (k : Answer.Err E (Option E) Needed) → ((x : Option E) → k ≡ Error x → ⊥) → NotPart (Err k) → NotShown (Err k)
+  not_passed k other (RanOut e h) = RanOut (cc (e)) (RunsOutInPart i refl h)
+  not_passed k other (Shown o a h) = not_of k other o a h
+
+  pub not_passes : (f k : Answer.Err E (Option E) Needed) → f ≡ k → ((x : Option E) → k ≡ Error x → ⊥) → NotPart (Err f) → NotShown (Err k)
+  not_passes f k q other h = not_passed k other (subst (λ y. NotPart (Err y)) q h)
+
+  pub not_refused : w.IsKnown i → (f : Answer.Err E (Option E) Needed) (b : Option E) (y : Option (Unit {0})) → f ≡ Error b → NotPart (Err f) → Built mode.outputs (λ z. z ≡ tt) y → NotShown (Ok (i, y))
+  not_refused known f b y q h k =
+      let r = refuses w IsOutput m (modes false false mode.streaming) i b f q h in
+      Shown (Accept 0 tt) (here Refuse r.answered refl) (i, y, rest_self w l i known, k, refl)
+
+  accepted_refusal : (n : ℕ) (v : P) → m.answers mode.streaming i (Accept n v) → (f : Answer.Err E (Option E) Needed) → Refuses (Own i) Grows mode.errors f → NotShown (Err f)
+  accepted_refusal n v a f (inl h) = RanOut (ap Err h.0) (RunsOutBeside (here (Accept n v) a (h.1, h.2)))
+  accepted_refusal n v a f (inr h) = Shown Refuse (here (Accept n v) a refl) (h.0, built_error mode.errors _ _ h.0 (λ e g. here (Accept n v) a g) h.1, ap Err h.2)
+
+  pub not_accepted : (p : I × Option O) (f : Answer.Err E (Option E) Needed) → NotPart (Ok p) → Refuses (Own i) Grows mode.errors f → NotShown (Err f)
+  not_accepted p f h k = let a = accepts h in accepted_refusal a.length a.tree a.answered f k
+
+-- a part that runs as on a complete input
+module _ {I A P O E : Type 0} (w : Seen I A) (IsOutput : P → O → Type 0) (Own : I → E → Type 0) (Grows : Type 0) (m : Meaning I P E) (mode : Modes) (i : I) where
+  abbrev CompleteShown : Result (I × Option O) (Answer.Err E (Option E) Needed) → Type 0
+  CompleteShown = ShowsMeaning w IsOutput (complete_meaning Own Grows m) mode i
+
+  abbrev CompletePart : Result (I × Option O) (Answer.Err E (Option E) Needed) → Type 0
+  CompletePart = ShowsMeaning w IsOutput m (modes mode.outputs mode.errors false) i
+
+  complete_of : (k : Answer.Err E (Option E) Needed) → ((x : Needed) → k ≡ Incomplete x → ⊥) → (o : Outcome P) → m.answers false i o → Shows w IsOutput (modes mode.outputs mode.errors false) i (m.blames false i) o (Err k) → CompleteShown (Err k)
+  complete_of k other (Accept n v) a h = absurd (cc (h.4))
+  complete_of k other Refuse a h = Shown Refuse (here Refuse a refl) (h.0, built_error mode.errors _ _ h.0 (λ e b. here Refuse a b) h.1, cc (h.2))
+  complete_of k other Fail a h = Shown Fail (here Fail a refl) (h.0, here Fail a h.1, cc (h.2))
+  complete_of k other TooLarge a h = Shown TooLarge (here TooLarge a refl) (h.0, here TooLarge a h.1, cc (h.2))
+  complete_of k other (Undecided d) a h = absurd (other h.0 (cc (h.2)))
+
+  complete_passed : (k : Answer.Err E (Option E) Needed) → ((x : Needed) → k ≡ Incomplete x → ⊥) → CompletePart (Err k) → CompleteShown (Err k)
+  complete_passed k other (RanOut e h) = RanOut (cc (e)) (RunsOutInPart i refl h)
+  complete_passed k other (Shown o a h) = complete_of k other o a h
+
+  pub complete_passes : (f k : Answer.Err E (Option E) Needed) → f ≡ k → ((x : Needed) → k ≡ Incomplete x → ⊥) → CompletePart (Err f) → CompleteShown (Err k)
+  complete_passes f k q other h = complete_passed k other (subst (λ y. CompletePart (Err y)) q h)
+
+  pub complete_ok : (p : I × Option O) → CompletePart (Ok p) → CompleteShown (Ok p)
+  complete_ok p h = let a = accepts h in Shown (Accept a.length a.tree) (here (Accept a.length a.tree) a.answered refl) (p.0, p.1, a.rest_is, a.built_is, refl)
+
+  wanted_refusal : (d : Option ℕ) → m.answers false i (Undecided d) → (r : Answer.Err E (Option E) Needed) → Refuses (Own i) Grows mode.errors r → CompleteShown (Err r)
+  wanted_refusal d a r (inl h) = RanOut (ap Err h.0) (RunsOutBeside (here (Undecided d) a (h.1, h.2)))
+  wanted_refusal d a r (inr h) = Shown Refuse (here (Undecided d) a refl) (h.0, built_error mode.errors _ _ h.0 (λ e g. here (Undecided d) a g) h.1, ap Err h.2)
+
+  wanted_of : (x : Needed) (o : Outcome P) → m.answers false i o → Shows w IsOutput (modes mode.outputs mode.errors false) i (m.blames false i) o (Err (Incomplete x)) → (r : Answer.Err E (Option E) Needed) → Refuses (Own i) Grows mode.errors r → CompleteShown (Err r)
+  wanted_of x (Accept n v) a h r g = absurd (cc (h.4))
+  wanted_of x Refuse a h r g = absurd (cc (h.2))
+  wanted_of x Fail a h r g = absurd (cc (h.2))
+  wanted_of x TooLarge a h r g = absurd (cc (h.2))
+  wanted_of x (Undecided d) a h r g = wanted_refusal d a r g
+
+  wanted : (x : Needed) → CompletePart (Err (Incomplete x)) → (r : Answer.Err E (Option E) Needed) → Refuses (Own i) Grows mode.errors r → CompleteShown (Err r)
+  wanted x (RanOut e h) r g = absurd (cc (e))
+  wanted x (Shown o a h) r g = wanted_of x o a h r g
+
+  pub complete_wanted : (f : Answer.Err E (Option E) Needed) (x : Needed) → f ≡ Incomplete x → CompletePart (Err f) → (r : Answer.Err E (Option E) Needed) → Refuses (Own i) Grows mode.errors r → CompleteShown (Err r)
+  complete_wanted f x q h r g = wanted x (subst (λ y. CompletePart (Err y)) q h) r g
+
+-- what a part consumes
+module _ {I A P O E : Type 0} (w : Seen I A) (IsOutput : P → O → Type 0) (m : Meaning I P E) (mode : Modes) (i : I) where
+  pub recognize_err : (f : Answer.Err E (Option E) Needed) (r : Result (I × Option I) (Answer.Err E (Option E) Needed)) → ShowsMeaning w IsOutput m (with_outputs false mode) i (Err f) → r ≡ Err f → ShowsMeaning w (IsSeenAs w) (recognized_meaning w m) mode i r
+  recognize_err f r h e = subst (λ z. ShowsMeaning w (IsSeenAs w) (recognized_meaning w m) mode i z) (sym e) (recognized_err w IsOutput m mode i f h)
+
+  pub has_rest : (j : I) (x : Option O) → ShowsMeaning w IsOutput m mode i (Ok (j, x)) → (n : ℕ) × IsRest w i n j
+  has_rest j x h = let a = accepts h in (a.length, a.rest_is)
+
+  abbrev ConsumedShown : Result (I × Option (I × O)) (Answer.Err E (Option E) Needed) → Type 0
+  ConsumedShown = ShowsMeaning w (λ t o. IsSeenAs w t.0 o.0 × IsOutput t.1 o.1) (consumed_meaning w m) mode i
+
+  pub consumed_err : (f : Answer.Err E (Option E) Needed) (r : Result (I × Option (I × O)) (Answer.Err E (Option E) Needed)) → ShowsMeaning w IsOutput m mode i (Err f) → r ≡ Err f → ConsumedShown r
+  consumed_err f r h e = subst (λ z. ConsumedShown z) (sym e) (plain_err w IsOutput (λ t o. IsSeenAs w t.0 o.0 × IsOutput t.1 o.1) (λ b. b) (λ i. WithSlice w i) m mode i f h)
+
+  pub consumed_ok : (j : I) (x : Option O) (b : Option I) (y : Option (I × O)) → ShowsMeaning w IsOutput m mode i (Ok (j, x)) → ((n : ℕ) (t : Slice w) → IsRest w i n j → IsFirst w i n t → Built mode.outputs (IsSeenAs w t) b) → ((a : I) (c : O) → b ≡ Some a → x ≡ Some c → y ≡ Some (a, c)) → (b ≡ None → y ≡ None) → ConsumedShown (Ok (j, y))
+  consumed_ok j x b y h f both none =
+      let a = accepts h in
+      let t = slice_before a.rest_is in
+      Shown (Accept a.length (t.0, a.tree)) (here (Accept a.length a.tree) a.answered (t.0, t.1, refl)) (j, y, a.rest_is, both_built (IsSeenAs w t.0) (IsOutput a.tree) mode.outputs b x y (f a.length t.0 a.rest_is t.1) a.built_is both none, refl)

@@ -1,0 +1,159 @@
+-- What becomes of a part's outcome: a refusal that is final, an option, a look ahead, and a part that must refuse.
+use Rattle.std.specs.Prelude.{◌≡◌, ℕ, Bool, true, false, Option, Some, None}
+use Rattle.nom_error.specs.Modes.{with_streaming, modes}
+use Rattle.nom_traits.specs.Input.{Seen}
+use Rattle.nom_traits.specs.Slices.{Slice, IsFirst}
+use Rattle.nom_internal.specs.Outcome.{Outcome}
+use Rattle.nom_internal.specs.Outcome.Outcome.{Accept, Refuse, Fail, TooLarge, Undecided}
+use Rattle.nom_internal.specs.Meaning.{Meaning}
+use Rattle.nom_internal.specs.Cases.{Case, case_meaning, Passes, plain_case}
+use Rattle.nom_internal.specs.Cases.PartMode.{AsAsked, Always}
+
+-- Of a part at the same input, in the mode that is asked for, whose errors stand for themselves: what its outcome becomes,
+-- whether its refusals' errors are built, and when it never fails.
+abbrev pub verdict_case : {I P T E : Type 0} → (Outcome P → Outcome T) → (Bool → Bool) → ((Bool → Type 0) → Bool → Type 0) → Case I I P T E E
+verdict_case becomes errors Never = record {
+  At = λ i j. i ≡ j;
+  mode = AsAsked;
+  Becomes = λ i a o. o ≡ becomes a;
+  Blames = λ i a P. P;
+  part = λ mode. modes mode.outputs (errors mode.errors) mode.streaming;
+  Asks = λ _ i a. ⊥;
+  IsSound = λ Part. Part;
+  IsFrugal = λ Part mode. Part (modes mode.outputs (errors mode.errors) mode.streaming);
+  NeverFails = Never;
+}
+
+-- a refusal becomes a failure
+abbrev pub cut_outcome : {P : Type 0} → Outcome P → Outcome P
+cut_outcome (Accept n v) = Accept n v
+cut_outcome Refuse = Fail
+cut_outcome Fail = Fail
+cut_outcome TooLarge = TooLarge
+cut_outcome (Undecided k) = Undecided k
+
+-- any part may refuse, so only that what it lacks is never too large can be said
+abbrev pub NeverCut : (Bool → Type 0) → Bool → Type 0
+NeverCut Part true = Part true
+NeverCut Part false = ⊥
+
+-- a part whose refusals are failures, so their errors are always built
+abbrev pub cut_meaning : {I P E : Type 0} → Meaning I P E → Meaning I P E
+cut_meaning = case_meaning (verdict_case cut_outcome (λ _. true) NeverCut)
+
+-- a refusal becomes an acceptance of nothing, with none
+abbrev pub opt_outcome : {P : Type 0} → Outcome P → Outcome (Option P)
+opt_outcome (Accept n v) = Accept n (Some v)
+opt_outcome Refuse = Accept 0 None
+opt_outcome Fail = Fail
+opt_outcome TooLarge = TooLarge
+opt_outcome (Undecided k) = Undecided k
+
+-- a part, or nothing where it refuses; the errors of its refusals aren't built
+abbrev pub opt_meaning : {I P E : Type 0} → Meaning I P E → Meaning I (Option P) E
+opt_meaning = case_meaning (verdict_case opt_outcome (λ _. false) (λ Part. Part))
+
+-- which option a tree stands for
+abbrev pub OptOutput : {P O : Type 0} → (P → O → Type 0) → Option P → Option O → Type 0
+OptOutput {O = O} IsOutput (Some t) o = (x : O) × (o ≡ Some x) × IsOutput t x
+OptOutput IsOutput None o = o ≡ None
+
+-- an acceptance of nothing, with the part's tree
+abbrev pub Looks : {P : Type 0} → ℕ → P → Outcome P → Type 0
+Looks n v o = o ≡ Accept 0 v
+
+-- a part of which nothing is consumed
+abbrev pub peek_meaning : {I P E : Type 0} → Meaning I P E → Meaning I P E
+peek_meaning = case_meaning (plain_case (λ b. b) (λ i. Passes Looks))
+
+-- a refusal becomes an acceptance of nothing, and an acceptance a refusal
+abbrev pub not_outcome : {P : Type 0} → Outcome P → Outcome (Unit {0})
+not_outcome (Accept n v) = Refuse
+not_outcome Refuse = Accept 0 tt
+not_outcome Fail = Fail
+not_outcome TooLarge = TooLarge
+not_outcome (Undecided k) = Undecided k
+
+-- the error of what was accepted is its own; a failure's is the part's
+abbrev pub NotBlames : {P E : Type 0} → (E → Type 0) → Outcome P → (E → Type 0) → E → Type 0
+NotBlames Own (Accept n v) Part e = Own e
+NotBlames Own Refuse Part e = ⊥
+NotBlames Own Fail Part e = Part e
+NotBlames Own TooLarge Part e = Part e
+NotBlames Own (Undecided k) Part e = ⊥
+
+-- of an acceptance alone
+abbrev pub OnAccepted : {P : Type 0} → Type 0 → Outcome P → Type 0
+OnAccepted Fact (Accept n v) = Fact
+OnAccepted Fact Refuse = ⊥
+OnAccepted Fact Fail = ⊥
+OnAccepted Fact TooLarge = ⊥
+OnAccepted Fact (Undecided k) = ⊥
+
+-- A part that must refuse: its outputs and the errors of its refusals aren't built. The error of what it accepts is made at
+-- the start, which may take memory where errors are built.
+abbrev pub not_case : {I P E : Type 0} → (I → E → Type 0) → Type 0 → Case I I P (Unit {0}) E E
+not_case Own Grows = record {
+  At = λ i j. i ≡ j;
+  mode = AsAsked;
+  Becomes = λ i a o. o ≡ not_outcome a;
+  Blames = λ i. NotBlames (Own i);
+  part = λ mode. modes false false mode.streaming;
+  Asks = λ mode i. OnAccepted ((mode.errors ≡ true) × Grows);
+  IsSound = λ Part. Part;
+  IsFrugal = λ Part mode. Part (modes false false mode.streaming) × (mode.errors ≡ true → Grows → ⊥);
+  NeverFails = λ Part. Part;
+}
+
+abbrev pub not_meaning : {I P E : Type 0} → (I → E → Type 0) → Type 0 → Meaning I P E → Meaning I (Unit {0}) E
+not_meaning Own Grows = case_meaning (not_case Own Grows)
+
+-- want of more becomes a refusal
+abbrev pub complete_outcome : {P : Type 0} → Outcome P → Outcome P
+complete_outcome (Accept n v) = Accept n v
+complete_outcome Refuse = Refuse
+complete_outcome Fail = Fail
+complete_outcome TooLarge = TooLarge
+complete_outcome (Undecided k) = Refuse
+
+-- the error where more was wanted is its own; any other is the part's
+abbrev pub CompleteBlames : {P E : Type 0} → (E → Type 0) → Outcome P → (E → Type 0) → E → Type 0
+CompleteBlames Own (Accept n v) Part e = ⊥
+CompleteBlames Own Refuse Part e = Part e
+CompleteBlames Own Fail Part e = Part e
+CompleteBlames Own TooLarge Part e = Part e
+CompleteBlames Own (Undecided k) Part e = Own e
+
+-- of want of more alone
+abbrev pub OnUndecided : {P : Type 0} → Type 0 → Outcome P → Type 0
+OnUndecided Fact (Accept n v) = ⊥
+OnUndecided Fact Refuse = ⊥
+OnUndecided Fact Fail = ⊥
+OnUndecided Fact TooLarge = ⊥
+OnUndecided Fact (Undecided k) = Fact
+
+-- A part that runs as on a complete input, where want of more is refused all the same. The error of that is made at the start,
+-- which may take memory where errors are built.
+abbrev pub complete_case : {I P E : Type 0} → (I → E → Type 0) → Type 0 → Case I I P P E E
+complete_case Own Grows = record {
+  At = λ i j. i ≡ j;
+  mode = Always false;
+  Becomes = λ i a o. o ≡ complete_outcome a;
+  Blames = λ i. CompleteBlames (Own i);
+  part = with_streaming false;
+  Asks = λ mode i. OnUndecided ((mode.errors ≡ true) × Grows);
+  IsSound = λ Part. Part;
+  IsFrugal = λ Part mode. Part (with_streaming false mode) × (mode.errors ≡ true → Grows → ⊥);
+  NeverFails = λ Part. Part;
+}
+
+abbrev pub complete_meaning : {I P E : Type 0} → (I → E → Type 0) → Type 0 → Meaning I P E → Meaning I P E
+complete_meaning Own Grows = case_meaning (complete_case Own Grows)
+
+-- an acceptance, with the slice that the part consumed beside its tree
+abbrev pub WithSlice : {I A P : Type 0} (w : Seen I A) → I → ℕ → P → Outcome (Slice w × P) → Type 0
+WithSlice w i n v o = (t : Slice w) × IsFirst w i n t × (o ≡ Accept n (t, v))
+
+-- a part with the slice that it consumes
+abbrev pub consumed_meaning : {I A P E : Type 0} (w : Seen I A) → Meaning I P E → Meaning I (Slice w × P) E
+consumed_meaning w = case_meaning (plain_case (λ b. b) (λ i. Passes (WithSlice w i)))

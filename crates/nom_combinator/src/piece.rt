@@ -1,0 +1,94 @@
+//! The parsers that give what a part consumes.
+ghost use Rattle.nom_traits.specs.Slices.{Slice, IsSeenAs};
+ghost use Rattle.nom_internal.specs.Recognized.{recognized_meaning};
+ghost use Rattle.nom_internal.specs.RecognizedLaws.{recognized_lawful, recognized_steady};
+ghost use Rattle.nom_internal.specs.Pinned.{slice_pinned, pair_pinned};
+ghost use Rattle.nom_combinator.specs.Verdicts.{consumed_meaning};
+ghost use Rattle.nom_combinator.specs.VerdictLaws.{consumed_lawful, consumed_steady};
+
+use nom_error::answer::PResult;
+use nom_error::mode::{Check, OutputM, OutputMode};
+use nom_internal::parser::{Parser, StreamParser};
+use nom_internal::sequence::combine;
+use nom_internal::slices::before;
+use nom_traits::input::Input;
+
+/// What a parser consumes; made by `recognize`.
+#[derive(Drop)]
+pub struct Recognize<F> {
+    pub parser: F,
+}
+
+impl<I: Input, F: Parser<I> + Drop> Parser<I> for Recognize<F> {
+    type Output = I;
+
+    type Error = F::Error;
+
+    ghost State = { F.State };
+
+    ghost state = { λ p. F.state p.parser };
+
+    ghost Tree = { Slice I.seen };
+
+    ghost IsOutput = { λ _. IsSeenAs I.seen };
+
+    ghost meaning = { λ s. recognized_meaning I.seen (F.meaning s) };
+
+    ghost Pins = { λ _. Unit {0} };
+
+    #[inline(always)]
+    fn process<OM: OutputMode>(&mut self, input: I) -> PResult<I, I, F::Error> {
+        let (rest, _) = self
+            .parser
+            .process::<OutputM<Check, OM::Error, OM::Incomplete>>(input)?;
+        let slice = before::<OM::Output, I>(input, rest);
+        Ok((rest, slice))
+    }
+
+    ghost lawful = { λ s k. recognized_lawful I.seen I.lawful (F.meaning s) (F.lawful s k) };
+}
+
+impl<I: Input, F: StreamParser<I> + Drop> StreamParser<I> for Recognize<F> {
+    ghost pinned = { λ s k p. slice_pinned I.seen I.view I.views };
+
+    ghost steady = { λ s k. recognized_steady I.seen I.lawful (F.meaning s) (F.steady s k) };
+}
+
+/// A parser's output, and what it consumes; made by `consumed`.
+#[derive(Drop)]
+pub struct Consumed<F> {
+    pub parser: F,
+}
+
+impl<I: Input, F: Parser<I> + Drop> Parser<I> for Consumed<F> {
+    type Output = (I, F::Output);
+
+    type Error = F::Error;
+
+    ghost State = { F.State };
+
+    ghost state = { λ p. F.state p.parser };
+
+    ghost Tree = { Slice I.seen × F.Tree };
+
+    ghost IsOutput = { λ s t o. IsSeenAs I.seen t.0 o.0 × F.IsOutput s t.1 o.1 };
+
+    ghost meaning = { λ s. consumed_meaning I.seen (F.meaning s) };
+
+    ghost Pins = { F.Pins };
+
+    #[inline(always)]
+    fn process<OM: OutputMode>(&mut self, input: I) -> PResult<I, Self::Output, Self::Error> {
+        let (rest, output) = self.parser.process::<OM>(input)?;
+        let slice = before::<OM::Output, I>(input, rest);
+        Ok((rest, combine(slice, output)))
+    }
+
+    ghost lawful = { λ s k. consumed_lawful I.seen (F.meaning s) I.lawful (F.lawful s k) };
+}
+
+impl<I: Input, F: StreamParser<I> + Drop> StreamParser<I> for Consumed<F> {
+    ghost pinned = { λ s k p. pair_pinned I.view F.Output.view (IsSeenAs I.seen) (F.IsOutput s) (slice_pinned I.seen I.view I.views) (F.pinned s k p) };
+
+    ghost steady = { λ s k. consumed_steady I.seen (F.meaning s) I.lawful (F.steady s k) };
+}

@@ -1,0 +1,245 @@
+//! The parsers that tell something of a part's outcome.
+ghost use Rattle.std.specs.Prelude.{◌≡◌, Option};
+ghost use Rattle.nom_error.specs.Modes.{Built};
+ghost use Rattle.nom_error.specs.declared.kind.ErrorKind.TheVariants as Kind;
+ghost use Rattle.nom_combinator.specs.Verdicts.{complete_meaning, cut_meaning, OptOutput, opt_meaning, peek_meaning, not_meaning};
+ghost use Rattle.nom_combinator.specs.VerdictLaws.{complete_lawful, cut_lawful, cut_steady, opt_pinned, opt_lawful, opt_steady, peek_lawful, peek_steady, not_lawful, not_steady};
+
+use nom_error::answer::{Err, PResult};
+use nom_error::kind::ErrorKind;
+use nom_error::mode::{Check, Complete, Emit, Mode, OutputM, OutputMode};
+use nom_error::value::refusal;
+use nom_internal::parser::{Parser, StreamParser};
+use nom_traits::input::Items;
+
+/// A parser whose refusals are failures; made by `cut`.
+#[derive(Drop)]
+pub struct Cut<F> {
+    pub parser: F,
+}
+
+impl<I: Items, F: Parser<I> + Drop> Parser<I> for Cut<F> {
+    type Output = F::Output;
+
+    type Error = F::Error;
+
+    ghost State = { F.State };
+
+    ghost state = { λ p. F.state p.parser };
+
+    ghost Tree = { F.Tree };
+
+    ghost IsOutput = { F.IsOutput };
+
+    ghost meaning = { λ s. cut_meaning (F.meaning s) };
+
+    ghost Pins = { F.Pins };
+
+    #[inline(always)]
+    fn process<OM: OutputMode>(&mut self, input: I) -> PResult<I, Self::Output, Self::Error> {
+        match self
+            .parser
+            .process::<OutputM<OM::Output, Emit, OM::Incomplete>>(input)
+        {
+            Ok(accepted) => Ok(accepted),
+            Err(Err::Error(Some(error))) => Err(Err::Failure(error)),
+            Err(Err::Error(None)) => unreachable!(),
+            Err(Err::Incomplete(needed)) => Err(Err::Incomplete(needed)),
+            Err(Err::Failure(error)) => Err(Err::Failure(error)),
+            Err(Err::OutOfMemory) => Err(Err::OutOfMemory),
+        }
+    }
+
+    ghost lawful = { λ s k. cut_lawful I.seen (F.meaning s) (F.lawful s k) };
+}
+
+impl<I: Items, F: StreamParser<I> + Drop> StreamParser<I> for Cut<F> {
+    ghost pinned = { F.pinned };
+
+    ghost steady = { λ s k. cut_steady I.seen (F.meaning s) (F.steady s k) };
+}
+
+/// A value, where values are built.
+#[inline(always)]
+fn built<M: Mode, T: Drop>(value: T) -> Option<T>
+    ensures { Built M.BUILDS (λ x. x ≡ value) result }
+{
+    if M::BUILDS { Some(value) } else { None }
+}
+
+/// A parser, or nothing where it refuses; made by `opt`.
+#[derive(Drop)]
+pub struct Opt<F> {
+    pub parser: F,
+}
+
+impl<I: Items, F: Parser<I> + Drop> Parser<I> for Opt<F> {
+    type Output = Option<F::Output>;
+
+    type Error = F::Error;
+
+    ghost State = { F.State };
+
+    ghost state = { λ p. F.state p.parser };
+
+    ghost Tree = { Option F.Tree };
+
+    ghost IsOutput = { λ s. OptOutput (F.IsOutput s) };
+
+    ghost meaning = { λ s. opt_meaning (F.meaning s) };
+
+    ghost Pins = { F.Pins };
+
+    #[inline(always)]
+    fn process<OM: OutputMode>(&mut self, input: I) -> PResult<I, Self::Output, Self::Error> {
+        input.known();
+        match self
+            .parser
+            .process::<OutputM<OM::Output, Check, OM::Incomplete>>(input)
+        {
+            Ok((rest, output)) => Ok((rest, built::<OM::Output, Option<F::Output>>(output))),
+            Err(Err::Error(_)) => Ok((input, built::<OM::Output, Option<F::Output>>(None))),
+            Err(Err::Incomplete(needed)) => Err(Err::Incomplete(needed)),
+            Err(Err::Failure(failure)) => Err(Err::Failure(failure)),
+            Err(Err::OutOfMemory) => Err(Err::OutOfMemory),
+        }
+    }
+
+    ghost lawful = { λ s k. opt_lawful I.seen (F.meaning s) (F.lawful s k) };
+}
+
+impl<I: Items, F: StreamParser<I> + Drop> StreamParser<I> for Opt<F> {
+    ghost pinned = { λ s k p. opt_pinned F.Output.view (F.IsOutput s) (F.pinned s k p) };
+
+    ghost steady = { λ s k. opt_steady I.seen (F.meaning s) (F.steady s k) };
+}
+
+/// A parser of which nothing is consumed; made by `peek`.
+#[derive(Drop)]
+pub struct Peek<F> {
+    pub parser: F,
+}
+
+impl<I: Items, F: Parser<I> + Drop> Parser<I> for Peek<F> {
+    type Output = F::Output;
+
+    type Error = F::Error;
+
+    ghost State = { F.State };
+
+    ghost state = { λ p. F.state p.parser };
+
+    ghost Tree = { F.Tree };
+
+    ghost IsOutput = { F.IsOutput };
+
+    ghost meaning = { λ s. peek_meaning (F.meaning s) };
+
+    ghost Pins = { F.Pins };
+
+    #[inline(always)]
+    fn process<OM: OutputMode>(&mut self, input: I) -> PResult<I, Self::Output, Self::Error> {
+        input.known();
+        let (_, output) = self.parser.process::<OM>(input)?;
+        Ok((input, output))
+    }
+
+    ghost lawful = { λ s k. peek_lawful I.seen (F.meaning s) (F.lawful s k) };
+}
+
+impl<I: Items, F: StreamParser<I> + Drop> StreamParser<I> for Peek<F> {
+    ghost pinned = { F.pinned };
+
+    ghost steady = { λ s k. peek_steady I.seen (F.meaning s) (F.steady s k) };
+}
+
+/// A parser that must refuse; made by `not`.
+#[derive(Drop)]
+pub struct Not<F> {
+    pub parser: F,
+}
+
+impl<I: Items, F: Parser<I> + Drop> Parser<I> for Not<F> {
+    type Output = ();
+
+    type Error = F::Error;
+
+    ghost State = { F.State };
+
+    ghost state = { λ p. F.state p.parser };
+
+    ghost Tree = { Unit {0} };
+
+    ghost IsOutput = { λ _ t o. o ≡ t };
+
+    ghost meaning = { λ s. not_meaning (λ i. F.Error.errors.of_kind i Kind.Not) F.Error.errors.grows (F.meaning s) };
+
+    ghost Pins = { λ _. Unit {0} };
+
+    #[inline(always)]
+    fn process<OM: OutputMode>(&mut self, input: I) -> PResult<I, Self::Output, Self::Error> {
+        input.known();
+        match self
+            .parser
+            .process::<OutputM<Check, Check, OM::Incomplete>>(input)
+        {
+            Ok(_) => Err(refusal::<OM::Error, I, F::Error>(input, ErrorKind::Not)),
+            Err(Err::Error(_)) => Ok((input, built::<OM::Output, ()>(()))),
+            Err(Err::Incomplete(more)) => Err(Err::Incomplete(more)),
+            Err(Err::Failure(error)) => Err(Err::Failure(error)),
+            Err(Err::OutOfMemory) => Err(Err::OutOfMemory),
+        }
+    }
+
+    ghost lawful = { λ s k. not_lawful I.seen (F.meaning s) (λ i. F.Error.errors.of_kind i Kind.Not) F.Error.errors.grows (F.lawful s k) };
+}
+
+impl<I: Items, F: StreamParser<I> + Drop> StreamParser<I> for Not<F> {
+    ghost use Rattle.nom_internal.specs.Pinned.{value_pinned};
+
+    ghost pinned = { λ s k p. value_pinned };
+
+    ghost steady = { λ s k. not_steady I.seen (F.meaning s) (λ i. F.Error.errors.of_kind i Kind.Not) F.Error.errors.grows (F.steady s k) };
+}
+
+/// A parser that runs as on a complete input; made by `complete`.
+#[derive(Drop)]
+pub struct MakeComplete<F> {
+    pub parser: F,
+}
+
+impl<I: Items, F: Parser<I> + Drop> Parser<I> for MakeComplete<F> {
+    type Output = F::Output;
+
+    type Error = F::Error;
+
+    ghost State = { F.State };
+
+    ghost state = { λ p. F.state p.parser };
+
+    ghost Tree = { F.Tree };
+
+    ghost IsOutput = { F.IsOutput };
+
+    ghost meaning = { λ s. complete_meaning (λ i. F.Error.errors.of_kind i Kind.Complete) F.Error.errors.grows (F.meaning s) };
+
+    ghost Pins = { F.Pins };
+
+    #[inline(always)]
+    fn process<OM: OutputMode>(&mut self, input: I) -> PResult<I, Self::Output, Self::Error> {
+        match self
+            .parser
+            .process::<OutputM<OM::Output, OM::Error, Complete>>(input)
+        {
+            Ok(accepted) => Ok(accepted),
+            Err(Err::Error(error)) => Err(Err::Error(error)),
+            Err(Err::Incomplete(_)) => {
+                Err(refusal::<OM::Error, I, F::Error>(input, ErrorKind::Complete))
+            }
+            Err(Err::Failure(error)) => Err(Err::Failure(error)),
+            Err(Err::OutOfMemory) => Err(Err::OutOfMemory),
+        }
+    }
+
+    ghost lawful = { λ s k. complete_lawful I.seen (F.meaning s) (λ i. F.Error.errors.of_kind i Kind.Complete) F.Error.errors.grows (F.lawful s k) };
+}
