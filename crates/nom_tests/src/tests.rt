@@ -11,3 +11,4 @@ mod parse_to;
 mod runs;
 mod sets;
 mod texts;
+mod verdicts;
