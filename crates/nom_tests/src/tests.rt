@@ -3,6 +3,7 @@
 mod answers;
 mod byte_sets;
 mod characters;
+mod ends;
 mod errors;
 mod escapes;
 mod integers;

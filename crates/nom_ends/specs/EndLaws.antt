@@ -1,0 +1,37 @@
+-- The laws of parsers that look at no item.
+use Rattle.std.specs.Prelude.{◌≡◌}
+use Rattle.std.proofs.Common.{sym, ◌∙◌, ap}
+use Rattle.nom_error.specs.declared.kind.ErrorKind.TheVariants as Kind
+use Rattle.nom_error.specs.Errors.{Errors}
+use Rattle.nom_traits.specs.Input.{Seen}
+use Rattle.nom_traits.specs.View.{View}
+use Rattle.nom_internal.specs.Meaning.{IsLawful, IsSteady}
+use Rattle.nom_internal.specs.Leaf.{LeafLaws, leaf_lawful, leaf_steady}
+use Rattle.nom_internal.specs.Pinned.{IsPinned}
+use Rattle.nom_ends.specs.Ends.{fail_leaf, fail_meaning}
+
+-- one value, by any view
+pub same_pinned : {O : Type 0} (view : View O) → IsPinned view (λ t o. o ≡ t)
+same_pinned view t a b p q = ap view.value (p ∙ sym q)
+
+fail_laws : {I A V : Type 0} (w : Seen I A) → LeafLaws w (fail_leaf {I = I} {V = V})
+fail_laws w = record {
+  place = λ s i n u h a. absurd a;
+  one_accepted = λ s i n m u t h a b. absurd a;
+  one_lack = λ i j k h a b. absurd a;
+  accepted_refused = λ s i n u h a b. a;
+  accepted_lacks = λ i n u k h a b. a;
+  refused_lacks = λ i k h a b. b;
+  accepted_stays = λ longer s only x y n u kx ky r a. a;
+  refused_stays = λ longer s only x y kx ky r a. a;
+  lack_alike = λ x y k kx ky r a. a;
+  accepted_settles = λ i n u h a. a;
+  refused_settles = λ i h a. a;
+}
+
+module _ {I A E : Type 0} (V : Type 0) (w : Seen I A) (errs : Errors I E) where
+  pub fail_lawful : IsLawful w (fail_meaning {V = V} errs)
+  fail_lawful = leaf_lawful w fail_leaf (fail_laws w) (Unit {0}) (λ i e. errs.of_kind i Kind.Fail e) errs.grows
+
+  pub fail_steady : IsSteady w (fail_meaning {V = V} errs)
+  fail_steady = leaf_steady w fail_leaf (fail_laws w) (Unit {0}) (λ i e. errs.of_kind i Kind.Fail e) errs.grows

@@ -1,0 +1,55 @@
+-- Parsers that look at no item, and those of all that is left.
+use Rattle.std.specs.Prelude.{◌≡◌, ℕ, []}
+use Rattle.nom_error.specs.declared.kind.ErrorKind.TheVariants as Kind
+use Rattle.nom_error.specs.Errors.{Errors}
+use Rattle.nom_traits.specs.Input.{Seen, input_len}
+use Rattle.nom_traits.specs.Slices.{Slice}
+use Rattle.nom_internal.specs.Meaning.{Meaning}
+use Rattle.nom_internal.specs.Leaf.{Leaf, leaf_meaning}
+
+-- every input is refused
+abbrev pub fail_leaf : {I V : Type 0} → Leaf I V
+fail_leaf = record {
+  Accepts = λ s i n v. ⊥;
+  Refuses = λ s i. Unit {0};
+  Lacks = λ i k. ⊥;
+}
+
+-- with the kind Fail
+abbrev pub fail_meaning : {I V E : Type 0} → Errors I E → Meaning I V E
+fail_meaning errs = leaf_meaning (Unit {0}) (λ i e. errs.of_kind i Kind.Fail e) errs.grows fail_leaf
+
+-- what is accepted and what is refused, alike in both modes
+abbrev pub plain_leaf : {I V : Type 0} → (I → ℕ → V → Type 0) → (I → Type 0) → Leaf I V
+plain_leaf Accepts Refuses = record {
+  Accepts = λ s. Accepts;
+  Refuses = λ s. Refuses;
+  Lacks = λ i k. ⊥;
+}
+
+module _ {I A : Type 0} (w : Seen I A) where
+  -- an input, as it is seen
+  abbrev pub all_of : I → Slice w
+  all_of i = record { items = w.elements i; mark = w.mark i }
+
+  -- no item is left: an input without one, with itself as tree
+  abbrev pub IsEnd : I → ℕ → Slice w → Type 0
+  IsEnd i n t = (w.elements i ≡ []) × (n ≡ 0) × (t ≡ all_of i)
+
+  -- all items are taken
+  abbrev pub IsAll : I → ℕ → Slice w → Type 0
+  IsAll i n t = (n ≡ input_len w i) × (t ≡ all_of i)
+
+  -- none is taken, and the tree is the input's length
+  abbrev pub IsLength : I → ℕ → ℕ → Type 0
+  IsLength i n t = (n ≡ 0) × (t ≡ input_len w i)
+
+  -- an input with an item is refused with the kind Eof
+  abbrev pub eof_meaning : {E : Type 0} → Errors I E → Meaning I (Slice w) E
+  eof_meaning errs = leaf_meaning (Unit {0}) (λ i e. errs.of_kind i Kind.Eof e) errs.grows (plain_leaf IsEnd (λ i. w.elements i ≡ [] → ⊥))
+
+  abbrev pub rest_meaning : {E : Type 0} → Meaning I (Slice w) E
+  rest_meaning = leaf_meaning (Unit {0}) (λ i e. ⊥) ⊥ (plain_leaf IsAll (λ i. ⊥))
+
+  abbrev pub rest_len_meaning : {E : Type 0} → Meaning I ℕ E
+  rest_len_meaning = leaf_meaning (Unit {0}) (λ i e. ⊥) ⊥ (plain_leaf IsLength (λ i. ⊥))
