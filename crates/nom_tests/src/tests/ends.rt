@@ -9,7 +9,11 @@ type Fail<'a> = Error<&'a str>;
 
 #[test]
 fn the_same_at_any_input(rt: HostRuntime) {
-    for (way, input) in [(Way::Streaming, ""), (Way::Complete, ""), (Way::Streaming, "é")] {
+    for (way, input) in [
+        (Way::Streaming, ""),
+        (Way::Complete, ""),
+        (Way::Streaming, "é"),
+    ] {
         let given = Answer::Accepts(input, "v");
         assert!(rt;
             answers(success::<_, &str, Fail>("v"), way, input, given),
@@ -31,7 +35,10 @@ fn ends_and_rests(rt: HostRuntime) {
         ("é", 2, Answer::Refuses(ErrorKind::Eof, "é")),
     ] {
         assert!(rt; is_answer(eof::<_, Fail>(input), end), "eof at {input}");
-        assert!(rt; answers(Eof::<_, Fail>::new(), Way::Streaming, input, end), "Eof at {input}");
+        assert!(rt;
+            answers(Eof::<_, Fail>::new(), Way::Streaming, input, end),
+            "Eof at {input}"
+        );
         let all = Answer::Accepts("", input);
         assert!(rt; is_answer(rest::<_, Fail>(input), all), "rest at {input}");
         match rest_len::<_, Fail>(input) {
