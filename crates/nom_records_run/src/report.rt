@@ -5,12 +5,14 @@ ghost use Rattle.nom_records_run.specs.Stream.{NoneAbove};
 ghost use Rattle.nom_records_run.specs.Texts.{decided_text, rest_text};
 
 use crate::text::{add_decided, add_error, add_failure, add_need, add_record, add_rest};
-use nom::bytes::tag;
-use nom::error::Error;
-use nom::multi::{length_data, many0};
-use nom::number::be_u8;
-use nom::sequence::{preceded, terminated};
-use nom::{Err, IResult, Items, OutOfMemory, parse_growing};
+use nom_bytes::tag;
+use nom_error::answer::{Err, IResult, OutOfMemory};
+use nom_error::value::Error;
+use nom_internal::growing::parse_growing;
+use nom_multi::{length_data, many0};
+use nom_number::be_u8;
+use nom_sequence::{preceded, terminated};
+use nom_traits::input::Items;
 use std::alloc::Allocator;
 
 // The length of the beginning at the cut of an index; the number of cuts stands for the whole.
