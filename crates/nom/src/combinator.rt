@@ -1,7 +1,9 @@
 //! Parsers by what becomes of a part's outcome, and parsers that take nothing or all.
 
 pub use nom_combinator::{
-    Consumed, Cut, MakeComplete, Not, Opt, Peek, Recognize, complete, consumed, cut, not, opt,
-    peek, recognize,
+    Cond, Consumed, Cut, MakeComplete, Not, Opt, Peek, Recognize, complete, cond, consumed, cut,
+    not, opt, peek, recognize,
 };
-pub use nom_ends::{Fail, Success, eof, fail, rest, rest_len, success};
+pub use nom_ends::{
+    AllConsuming, Fail, Success, all_consuming, eof, fail, rest, rest_len, success,
+};

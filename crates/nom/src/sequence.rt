@@ -1,3 +1,5 @@
 //! Parsers in sequence.
 
-pub use nom_sequence::{Preceded, Terminated, preceded, terminated};
+pub use nom_sequence::{
+    Preceded, Terminated, delimited, pair, preceded, separated_pair, terminated,
+};

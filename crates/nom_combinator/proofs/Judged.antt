@@ -82,6 +82,12 @@ module _ {I A P O E : Type 0} (w : Seen I A) (IsOutput : P → O → Type 0) (m 
       let same : r.error_is.0 ≡ e = cc (r.error_is.1, is) in
       Shown Fail (here Refuse r.answered refl) (e, here Refuse r.answered (subst (λ z. m.blames mode.streaming i z) same r.error_is.2), refl)
 
+-- an option that is built of what was built
+module _ {P O : Type 0} (IsOutput : P → O → Type 0) where
+  pub option_built : (b : Bool) (v : P) (x : Option O) (y : Option (Option O)) → Built b (IsOutput v) x → Built b (λ z. z ≡ x) y → Built b (OptOutput IsOutput (Some v)) y
+  option_built true v x y h k = (k.0, k.1, (h.0, k.2 ∙ h.1, h.2))
+  option_built false v x y h k = k
+
 -- an option
 module _ {I A P O E : Type 0} (w : Seen I A) (l : InputLaws w) (IsOutput : P → O → Type 0) (m : Meaning I P E) (mode : Modes) (i : I) where
   abbrev OptShown : Result (I × Option (Option O)) (Answer.Err E (Option E) Needed) → Type 0
@@ -93,23 +99,15 @@ module _ {I A P O E : Type 0} (w : Seen I A) (l : InputLaws w) (IsOutput : P →
   pub opt_passes : (f k : Answer.Err E (Option E) Needed) → f ≡ k → ((x : Option E) → k ≡ Error x → ⊥) → OptPart (Err f) → OptShown (Err k)
   opt_passes = verdict_passes w opt_outcome (λ _. false) (λ Part. Part) refl refl (λ k. refl) IsOutput (OptOutput IsOutput) m mode i
 
-  some_built : (b : Bool) (v : P) (x : Option O) (y : Option (Option O)) → Built b (IsOutput v) x → Built b (λ z. z ≡ x) y → Built b (OptOutput IsOutput (Some v)) y
-  some_built true v x y h k = (k.0, k.1, (h.0, k.2 ∙ h.1, h.2))
-  some_built false v x y h k = k
-
-  none_built : (b : Bool) (y : Option (Option O)) → Built b (λ z. z ≡ None) y → Built b (OptOutput IsOutput None) y
-  none_built true y k = k
-  none_built false y k = k
-
   pub opt_ok : (j : I) (x : Option O) (y : Option (Option O)) → OptPart (Ok (j, x)) → Built mode.outputs (λ z. z ≡ x) y → OptShown (Ok (j, y))
   opt_ok j x y h k =
       let a = accepts h in
-      Shown (Accept a.length (Some a.tree)) (here (Accept a.length a.tree) a.answered refl) (j, y, a.rest_is, some_built mode.outputs a.tree x y a.built_is k, refl)
+      Shown (Accept a.length (Some a.tree)) (here (Accept a.length a.tree) a.answered refl) (j, y, a.rest_is, option_built IsOutput mode.outputs a.tree x y a.built_is k, refl)
 
   pub opt_refused : w.IsKnown i → (f : Answer.Err E (Option E) Needed) (b : Option E) (y : Option (Option O)) → f ≡ Error b → OptPart (Err f) → Built mode.outputs (λ z. z ≡ None) y → OptShown (Ok (i, y))
   opt_refused known f b y q h k =
       let r = refuses w IsOutput m (modes mode.outputs false mode.streaming) i b f q h in
-      Shown (Accept 0 None) (here Refuse r.answered refl) (i, y, rest_self w l i known, none_built mode.outputs y k, refl)
+      Shown (Accept 0 None) (here Refuse r.answered refl) (i, y, rest_self w l i known, k, refl)
 
 -- a look ahead
 module _ {I A P O E : Type 0} (w : Seen I A) (l : InputLaws w) (IsOutput : P → O → Type 0) (m : Meaning I P E) (mode : Modes) (i : I) where

@@ -1,2 +1,4 @@
 pub mod Verdicts
 pub mod VerdictLaws
+pub mod Conditions
+pub mod ConditionLaws

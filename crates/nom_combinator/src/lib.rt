@@ -1,11 +1,13 @@
 //! Parsers by what becomes of a part's outcome.
 #![tactic(auto)]
 
-ghost use Rattle.std.specs.Prelude.{◌≡◌};
+ghost use Rattle.std.specs.Prelude.{◌≡◌, Some, None, true, false};
 
+mod condition;
 mod piece;
 mod verdict;
 
+pub use crate::condition::Cond;
 pub use crate::piece::{Consumed, Recognize};
 pub use crate::verdict::{Cut, MakeComplete, Not, Opt, Peek};
 
@@ -66,4 +68,17 @@ pub fn consumed<F>(parser: F) -> Consumed<F>
     ensures { result.parser ≡ parser }
 {
     Consumed { parser }
+}
+
+/// A parser that runs only where `b` holds; else `None` is given, and nothing is consumed.
+#[inline(always)]
+pub fn cond<F: Drop>(b: bool, f: F) -> Cond<F>
+    ensures runs { b ≡ true → result.parser ≡ Some f }
+    ensures skips { b ≡ false → result.parser ≡ None }
+{
+    if b {
+        Cond { parser: Some(f) }
+    } else {
+        Cond { parser: None }
+    }
 }

@@ -61,7 +61,7 @@ impl<I: Items, F: StreamParser<I> + Drop> StreamParser<I> for Cut<F> {
 
 /// A value, where values are built.
 #[inline(always)]
-fn built<M: Mode, T: Drop>(value: T) -> Option<T>
+pub(crate) fn built<M: Mode, T: Drop>(value: T) -> Option<T>
     ensures { Built M.BUILDS (λ x. x ≡ value) result }
 {
     if M::BUILDS { Some(value) } else { None }

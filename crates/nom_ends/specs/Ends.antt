@@ -1,11 +1,13 @@
 -- Parsers that look at no item, and those of all that is left.
-use Rattle.std.specs.Prelude.{◌≡◌, ℕ, []}
+use Rattle.std.specs.Prelude.{◌≡◌, ℕ, false, []}
+use Rattle.nom_error.specs.Modes.{with_outputs}
 use Rattle.nom_error.specs.declared.kind.ErrorKind.TheVariants as Kind
 use Rattle.nom_error.specs.Errors.{Errors}
 use Rattle.nom_traits.specs.Input.{Seen, input_len}
 use Rattle.nom_traits.specs.Slices.{Slice}
 use Rattle.nom_internal.specs.Meaning.{Meaning}
 use Rattle.nom_internal.specs.Leaf.{Leaf, leaf_meaning}
+use Rattle.nom_internal.specs.Sequence.{sequence_meaning}
 
 -- every input is refused
 abbrev pub fail_leaf : {I V : Type 0} → Leaf I V
@@ -47,6 +49,10 @@ module _ {I A : Type 0} (w : Seen I A) where
   -- an input with an item is refused with the kind Eof
   abbrev pub eof_meaning : {E : Type 0} → Errors I E → Meaning I (Slice w) E
   eof_meaning errs = leaf_meaning (Unit {0}) (λ i e. errs.of_kind i Kind.Eof e) errs.grows (plain_leaf IsEnd (λ i. w.elements i ≡ [] → ⊥))
+
+  -- a part, and then the end, with the part's tree: what is left behind it is refused there
+  abbrev pub all_consuming_meaning : {V E : Type 0} → Errors I E → Meaning I V E → Meaning I V E
+  all_consuming_meaning errs m = sequence_meaning w (λ u v. u) (λ o. o) (with_outputs false) m (eof_meaning errs)
 
   abbrev pub rest_meaning : {E : Type 0} → Meaning I (Slice w) E
   rest_meaning = leaf_meaning (Unit {0}) (λ i e. ⊥) ⊥ (plain_leaf IsAll (λ i. ⊥))

@@ -6,9 +6,11 @@ ghost use Rattle.nom_traits.specs.Slices.{IsSeenAs};
 ghost use Rattle.nom_internal.specs.Meaning.{ParsesMeaning};
 ghost use Rattle.nom_ends.specs.Ends.{eof_meaning, rest_meaning, rest_len_meaning};
 
+mod consuming;
 pub mod fixed;
 pub mod left;
 
+pub use crate::consuming::AllConsuming;
 pub use crate::fixed::{Fail, Success};
 use crate::left::{Eof, Rest, RestLen};
 use nom_error::answer::IResult;
@@ -32,6 +34,14 @@ pub fn success<I, O, E>(value: O) -> Success<O, I, E>
 #[inline(always)]
 pub fn fail<I, O, E>() -> Fail<O, I, E> {
     Fail { of: PhantomData }
+}
+
+/// A parser behind which nothing may be left: what is left is refused with `Eof`, where it begins.
+#[inline(always)]
+pub fn all_consuming<F>(parser: F) -> AllConsuming<F>
+    ensures { result.parser ≡ parser }
+{
+    AllConsuming { parser }
 }
 
 /// The end of the input: an empty input is given, and any other is refused with `Eof`, in both modes.

@@ -1,0 +1,25 @@
+-- A part that runs on a condition, or an acceptance of nothing in its place.
+use Rattle.std.specs.Prelude.{◌≡◌, Option, Some, None}
+use Rattle.nom_internal.specs.Meaning.{Meaning}
+use Rattle.nom_internal.specs.Cases.{labelled_meaning}
+use Rattle.nom_internal.specs.Success.{success_meaning}
+use Rattle.nom_combinator.specs.Verdicts.{OptOutput}
+
+-- the state of a part, where there is one
+abbrev pub state_of : {F S : Type 0} → (F → S) → Option F → Option S
+state_of state (Some f) = Some (state f)
+state_of state None = None
+
+-- a part's tree as an option; without a part, none at once
+abbrev pub cond_meaning : {I S P E : Type 0} → (S → Meaning I P E) → Option S → Meaning I (Option P) E
+cond_meaning meaning (Some s) = labelled_meaning (λ t. Some t) (meaning s)
+cond_meaning meaning None = success_meaning None
+
+-- which option a tree stands for
+abbrev pub CondOutput : {S P O : Type 0} → (S → P → O → Type 0) → Option S → Option P → Option O → Type 0
+CondOutput IsOutput (Some s) t o = OptOutput (IsOutput s) t o
+CondOutput IsOutput None t o = o ≡ None
+
+abbrev pub CondPins : {S : Type 0} → (S → Type 0) → Option S → Type 0
+CondPins Pins (Some s) = Pins s
+CondPins Pins None = Unit {0}

@@ -1,0 +1,56 @@
+//! A part that runs on a condition.
+ghost use Rattle.std.specs.Prelude.{Option};
+ghost use Rattle.nom_combinator.specs.Conditions.{state_of, cond_meaning, CondOutput, CondPins};
+ghost use Rattle.nom_combinator.specs.ConditionLaws.{cond_lawful, cond_steady, cond_pinned};
+
+use crate::verdict::built;
+use nom_error::answer::PResult;
+use nom_error::mode::OutputMode;
+use nom_internal::parser::{Parser, StreamParser};
+use nom_traits::input::Items;
+
+/// A parser, or none, which gives nothing at once; made by `cond`.
+#[derive(Drop)]
+pub struct Cond<F> {
+    pub parser: Option<F>,
+}
+
+impl<I: Items, F: Parser<I> + Drop> Parser<I> for Cond<F> {
+    type Output = Option<F::Output>;
+
+    type Error = F::Error;
+
+    ghost State = { Option F.State };
+
+    ghost state = { λ p. state_of F.state p.parser };
+
+    ghost Tree = { Option F.Tree };
+
+    ghost IsOutput = { CondOutput F.IsOutput };
+
+    ghost meaning = { cond_meaning F.meaning };
+
+    ghost Pins = { CondPins F.Pins };
+
+    #[inline(always)]
+    fn process<OM: OutputMode>(&mut self, input: I) -> PResult<I, Self::Output, Self::Error> {
+        match &mut self.parser {
+            Some(parser) => {
+                let (rest, output) = parser.process::<OM>(input)?;
+                Ok((rest, built::<OM::Output, Option<F::Output>>(output)))
+            }
+            None => {
+                input.known();
+                Ok((input, built::<OM::Output, Option<F::Output>>(None)))
+            }
+        }
+    }
+
+    ghost lawful = { cond_lawful I.seen F.meaning F.lawful };
+}
+
+impl<I: Items, F: StreamParser<I> + Drop> StreamParser<I> for Cond<F> {
+    ghost pinned = { cond_pinned F.Output.view F.meaning F.IsOutput F.Pins F.pinned };
+
+    ghost steady = { cond_steady I.seen F.meaning F.steady };
+}

@@ -1,0 +1,46 @@
+//! A part that leaves nothing.
+ghost use Rattle.std.specs.Prelude.{false};
+ghost use Rattle.nom_error.specs.Modes.{with_outputs};
+ghost use Rattle.nom_internal.specs.SequenceLaws.{sequence_lawful};
+ghost use Rattle.nom_ends.specs.AllLaws.{eof_lawful};
+ghost use Rattle.nom_ends.specs.Ends.{all_consuming_meaning, eof_meaning};
+
+use crate::left::Eof;
+use nom_error::answer::PResult;
+use nom_error::mode::{Check, OutputM, OutputMode};
+use nom_internal::parser::Parser;
+use nom_traits::input::Input;
+
+/// A parser behind which nothing is left; made by `all_consuming`.
+#[derive(Drop)]
+pub struct AllConsuming<F> {
+    pub parser: F,
+}
+
+impl<I: Input, F: Parser<I> + Drop> Parser<I> for AllConsuming<F> {
+    type Output = F::Output;
+
+    type Error = F::Error;
+
+    ghost State = { F.State };
+
+    ghost state = { λ p. F.state p.parser };
+
+    ghost Tree = { F.Tree };
+
+    ghost IsOutput = { F.IsOutput };
+
+    ghost meaning = { λ s. all_consuming_meaning I.seen F.Error.errors (F.meaning s) };
+
+    ghost Pins = { F.Pins };
+
+    #[inline(always)]
+    fn process<OM: OutputMode>(&mut self, input: I) -> PResult<I, Self::Output, Self::Error> {
+        let (rest, output) = self.parser.process::<OM>(input)?;
+        let mut end = Eof::<I, F::Error>::new();
+        let (rest, _) = end.process::<OutputM<Check, OM::Error, OM::Incomplete>>(rest)?;
+        Ok((rest, output))
+    }
+
+    ghost lawful = { λ s k. sequence_lawful I.seen I.lawful (λ u v. u) (λ o. o) (with_outputs false) (F.meaning s) (eof_meaning I.seen F.Error.errors) (F.lawful s k.0) (eof_lawful I.seen F.Error.errors) };
+}
