@@ -1,5 +1,6 @@
 //! Error values.
 
+pub use nom_combinator::{Context, context};
 pub use nom_error::kind::{ErrorKind, error_to_u32};
 pub use nom_error::outside::{ContextError, FromExternalError};
 pub use nom_error::value::{Error, ParseError, append_error, make_error};

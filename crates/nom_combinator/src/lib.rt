@@ -4,10 +4,12 @@
 ghost use Rattle.std.specs.Prelude.{◌≡◌, Some, None, true, false};
 
 mod condition;
+mod named;
 mod piece;
 mod verdict;
 
 pub use crate::condition::Cond;
+pub use crate::named::Context;
 pub use crate::piece::{Consumed, Recognize};
 pub use crate::verdict::{Cut, MakeComplete, Not, Opt, Peek};
 
@@ -81,4 +83,14 @@ pub fn cond<F: Drop>(b: bool, f: F) -> Cond<F>
     } else {
         Cond { parser: None }
     }
+}
+
+/// A parser whose errors are told with a name, by `ContextError`: of its refusals and of its failures, at
+/// the start.
+#[inline(always)]
+pub fn context<F>(context: &'static str, parser: F) -> Context<F>
+    ensures context { result.context ≡ context.entry }
+    ensures parser { result.parser ≡ parser }
+{
+    Context { context, parser }
 }

@@ -156,10 +156,10 @@ passes_all = record {
 }
 
 module _ {I A P T : Type 0} (w : Seen I A) (f : Outcome P → Outcome T) (is : IsOutcomeMap f) where
-  map_keeps : (a : Outcome P) (o : Outcome T) → o ≡ f a → IsDecided o → IsDecided a
+  pub map_keeps : (a : Outcome P) (o : Outcome T) → o ≡ f a → IsDecided o → IsDecided a
   map_keeps a o e d = is.keeps a (subst (λ z. IsDecided z) e d)
 
-  map_place : (i j : I) (a : Outcome P) (n : ℕ) (t : T) → i ≡ j → ((m : ℕ) (u : P) → a ≡ Accept m u → IsPlace w j m) → Accept n t ≡ f a → IsPlace w i n
+  pub map_place : (i j : I) (a : Outcome P) (n : ℕ) (t : T) → i ≡ j → ((m : ℕ) (u : P) → a ≡ Accept m u → IsPlace w j m) → Accept n t ≡ f a → IsPlace w i n
   map_place i j a n t e place b = let k = is.accepts a n t b in here_place w i j n e (place n k.0 k.1)
 
 module _ {I A P : Type 0} (w : Seen I A) where

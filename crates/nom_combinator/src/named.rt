@@ -1,0 +1,81 @@
+//! A part whose errors are told with a name.
+ghost use Rattle.nom_combinator.specs.Contexts.{IsRenamed, renamed_meaning};
+ghost use Rattle.nom_combinator.specs.ContextLaws.{renamed_lawful, renamed_steady};
+ghost use Rattle.std.specs.Prelude.{ℕ, List};
+
+use nom_error::answer::{Err, PResult};
+use nom_error::mode::OutputMode;
+use nom_error::outside::ContextError;
+use nom_internal::parser::{Parser, StreamParser};
+use nom_traits::input::Items;
+
+/// An answer, whose error is told with a name where it holds one.
+#[inline(always)]
+fn named<I: Drop, E: ContextError<I> + Drop>(
+    input: I,
+    context: &'static str,
+    answer: Err<E, Option<E>>,
+) -> Err<E, Option<E>>
+    ensures { IsRenamed (E.contexts.named input context.now) E.contexts.grows answer result }
+{
+    match answer {
+        Err::Incomplete(needed) => Err::Incomplete(needed),
+        Err::Error(Some(error)) => match E::add_context(input, context, error) {
+            Ok(error) => Err::Error(Some(error)),
+            Err(_) => Err::OutOfMemory,
+        },
+        Err::Error(None) => Err::Error(None),
+        Err::Failure(error) => match E::add_context(input, context, error) {
+            Ok(error) => Err::Failure(error),
+            Err(_) => Err::OutOfMemory,
+        },
+        Err::OutOfMemory => Err::OutOfMemory,
+    }
+}
+
+/// A parser whose errors are told with a name; made by `context`.
+#[derive(Drop)]
+pub struct Context<F> {
+    pub context: &'static str,
+    pub parser: F,
+}
+
+impl<I: Items, F: Parser<I> + Drop> Parser<I> for Context<F>
+where
+    F::Error: ContextError<I>,
+{
+    type Output = F::Output;
+
+    type Error = F::Error;
+
+    ghost State = { List ℕ × F.State };
+
+    ghost state = { λ p. (p.context.now, F.state p.parser) };
+
+    ghost Tree = { F.Tree };
+
+    ghost IsOutput = { λ s. F.IsOutput s.1 };
+
+    ghost meaning = { λ s. renamed_meaning (λ i. F.Error.contexts.named i s.0) F.Error.contexts.grows (F.meaning s.1) };
+
+    ghost Pins = { λ s. F.Pins s.1 };
+
+    #[inline(always)]
+    fn process<OM: OutputMode>(&mut self, input: I) -> PResult<I, Self::Output, Self::Error> {
+        match self.parser.process::<OM>(input) {
+            Ok(accepted) => Ok(accepted),
+            Err(answer) => Err(named::<I, F::Error>(input, self.context, answer)),
+        }
+    }
+
+    ghost lawful = { λ s k. renamed_lawful I.seen (λ i. F.Error.contexts.named i s.0) F.Error.contexts.grows (F.meaning s.1) (F.lawful s.1 k) };
+}
+
+impl<I: Items, F: StreamParser<I> + Drop> StreamParser<I> for Context<F>
+where
+    F::Error: ContextError<I>,
+{
+    ghost pinned = { λ s k p. F.pinned s.1 k p };
+
+    ghost steady = { λ s k. renamed_steady I.seen (λ i. F.Error.contexts.named i s.0) F.Error.contexts.grows (F.meaning s.1) (F.steady s.1 k) };
+}
