@@ -10,6 +10,7 @@ pub mod combinator;
 pub mod error;
 pub mod multi;
 pub mod number;
+pub mod promises;
 pub mod sequence;
 
 pub use nom_convert::parse::ParseTo;
@@ -20,7 +21,6 @@ pub use nom_error::mode::{
 };
 pub use nom_internal::growing::{Grown, parse_growing};
 pub use nom_internal::parser::{Parser, StreamParser};
-pub use nom_internal::promises;
 pub use nom_internal::sequence::And;
 pub use nom_search::bytes::AsBytes;
 pub use nom_search::extend::{Builder, ExtendInto};

@@ -1,0 +1,7 @@
+//! What every parser promises.
+
+pub use nom_internal::promises::{
+    accepts_fronts, answers_stay, has_no_failure, has_one_outcome, is_complete_too, never_runs_out,
+    stays_on_longer,
+};
+pub use nom_iterator::promises::{gives_items, items_are_one, items_fit, items_stay};

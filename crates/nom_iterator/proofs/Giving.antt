@@ -1,0 +1,126 @@
+-- What calls of `next` give, one after another.
+use Rattle.std.proofs.Common.{◌≡◌, ℕ, true, ◌⊎◌, List, [], ◌∷◌, length, Result, Ok, Err, Option, Some, None, refl, sym, ◌∙◌, ap, subst, inl, inr}
+use Rattle.std.specs.Iterator.{Yields}
+use Rattle.std.specs.List.{AllZip}
+use Rattle.nom_error.specs.declared.answer.Needed.{Needed}
+use Rattle.nom_error.specs.declared.answer.Err as Answer
+use Rattle.nom_error.specs.declared.answer.Err.TheVariants as Variant
+use Rattle.nom_error.specs.Modes.{modes}
+use Rattle.nom_traits.specs.Input.{Seen, IsRest}
+use Rattle.nom_internal.specs.Outcome.{Outcome, Parses}
+use Rattle.nom_internal.specs.Outcome.Outcome.{Accept, Refuse, Fail, TooLarge, Undecided}
+use Rattle.nom_internal.specs.Outcome.ParsesAnswer.{ParseRanOut, Parsed}
+use Rattle.nom_internal.specs.Meaning.{Meaning, ParsesMeaning}
+use Rattle.nom_iterator.specs.Iterated.{Ends, AreItems}
+use Rattle.nom_iterator.specs.Steps.{Moves, Gives, Next, GivesItems, EndsThere, StaysEnded}
+use Rattle.nom_iterator.specs.declared.items.State.{State}
+use Rattle.nom_iterator.specs.declared.items.State.TheVariants.{Running, Done, Failure, Incomplete, OutOfMemory}
+
+-- an item that was given: its piece was accepted, and what is left is held
+record IsItem {I A V O E : Type 0} (w : Seen I A) (IsOutput : V → O → Type 0) (m : Meaning I V E) (i : I) (v : O) (j : I) (s : State E) : Type 0 where
+  size : ℕ
+  tree : V
+  accepted : m.answers true i (Accept size tree)
+  rest_is : IsRest w i size j
+  output_is : IsOutput tree v
+  runs : s ≡ Running
+
+module _ {I A V O E : Type 0} (w : Seen I A) (IsOutput : V → O → Type 0) (m : Meaning I V E) (i : I) where
+  -- what an answer is, by what was given for it
+  item_of_answer : (q : Result (I × O) (Answer.Err E E Needed)) (v : O) (j : I) (s : State E) → Moves i q (Some v) j s → (o : Outcome V) → m.answers true i o → Parses w IsOutput i (m.blames true i) o q → IsItem w IsOutput m i v j s
+  item_of_answer (Ok (k, u)) v j s g (Accept n t) a h =
+      let both : ◌≡◌ {A = I × O} (h.0, h.1) (k, u) = cc (h.4) in
+      let value : h.1 ≡ v = ap (λ (z : I × O). z.1) both ∙ cc (g.0) in
+      let place : h.0 ≡ j = ap (λ (z : I × O). z.0) both ∙ sym g.1 in
+      record { size = n; tree = t; accepted = a; rest_is = subst (λ z. IsRest w i n z) place h.2; output_is = subst (λ z. IsOutput t z) value h.3; runs = g.2 }
+  item_of_answer (Ok (k, u)) v j s g Refuse a h = absurd (cc (h.2))
+  item_of_answer (Ok (k, u)) v j s g Fail a h = absurd (cc (h.2))
+  item_of_answer (Ok (k, u)) v j s g TooLarge a h = absurd (cc (h.2))
+  item_of_answer (Ok (k, u)) v j s g (Undecided d) a h = absurd (cc (h.2))
+  item_of_answer (Err (Variant.Error e)) v j s g o a h = absurd (cc (g.0))
+  item_of_answer (Err (Variant.Failure e)) v j s g o a h = absurd (cc (g.0))
+  item_of_answer (Err (Variant.Incomplete k)) v j s g o a h = absurd (cc (g.0))
+  item_of_answer (Err Variant.OutOfMemory) v j s g o a h = absurd (cc (g.0))
+
+  item_of : (q : Result (I × O) (Answer.Err E E Needed)) (v : O) (j : I) (s : State E) → Moves i q (Some v) j s → ParsesMeaning w IsOutput m true i q → IsItem w IsOutput m i v j s
+  item_of q v j s g (ParseRanOut e h) = absurd (cc ((subst (λ z. Moves i z (Some v) j s) e g).0))
+  item_of q v j s g (Parsed o a h) = item_of_answer q v j s g o a h
+
+  given_item : (p : State E) (v : O) (j : I) (s : State E) → p ≡ Running → Gives w IsOutput m i p (Some v) j s → IsItem w IsOutput m i v j s
+  given_item Running v j s e g = item_of g.0 v j s g.2 g.1
+  given_item Done v j s e g = absurd (cc (e))
+  given_item (Failure x) v j s e g = absurd (cc (e))
+  given_item (Incomplete k) v j s e g = absurd (cc (e))
+  given_item OutOfMemory v j s e g = absurd (cc (e))
+
+  abbrev EndsAt : Type 0
+  EndsAt = ((o : Outcome V) × m.answers true i o × Ends o) ⊎ m.runs_out (modes true true true) i
+
+  end_of_answer : (q : Result (I × O) (Answer.Err E E Needed)) (j : I) (s : State E) → Moves i q None j s → (o : Outcome V) → m.answers true i o → Parses w IsOutput i (m.blames true i) o q → EndsAt
+  end_of_answer q j s g (Accept n t) a h = absurd (cc ((subst (λ z. Moves i z None j s) h.4 g).0))
+  end_of_answer q j s g Refuse a h = inl (Refuse, a, tt)
+  end_of_answer q j s g Fail a h = inl (Fail, a, tt)
+  end_of_answer q j s g TooLarge a h = inl (TooLarge, a, tt)
+  end_of_answer q j s g (Undecided k) a h = inl (Undecided k, a, tt)
+
+  end_of : (q : Result (I × O) (Answer.Err E E Needed)) (j : I) (s : State E) → Moves i q None j s → ParsesMeaning w IsOutput m true i q → EndsAt
+  end_of q j s g (ParseRanOut e h) = inr h
+  end_of q j s g (Parsed o a h) = end_of_answer q j s g o a h
+
+  given_end : (p : State E) (j : I) (s : State E) → p ≡ Running → Gives w IsOutput m i p None j s → EndsAt
+  given_end Running j s e g = end_of g.0 j s g.2 g.1
+  given_end Done j s e g = absurd (cc (e))
+  given_end (Failure x) j s e g = absurd (cc (e))
+  given_end (Incomplete k) j s e g = absurd (cc (e))
+  given_end OutOfMemory j s e g = absurd (cc (e))
+
+  -- what ended gives nothing
+  nothing_moves : (q : Result (I × O) (Answer.Err E E Needed)) (j : I) (s : State E) → Moves i q None j s → s ≡ Running → ⊥
+  nothing_moves (Ok (k, u)) j s g e = cc (g.0)
+  nothing_moves (Err (Variant.Error x)) j s g e = cc (e, g.2)
+  nothing_moves (Err (Variant.Failure x)) j s g e = cc (e, g.2)
+  nothing_moves (Err (Variant.Incomplete k)) j s g e = cc (e, g.2)
+  nothing_moves (Err Variant.OutOfMemory) j s g e = cc (e, g.2)
+
+  ended_holds : (p : State E) (j : I) (s : State E) → Gives w IsOutput m i p None j s → s ≡ Running → ⊥
+  ended_holds Running j s g e = nothing_moves g.0 j s g.2 e
+  ended_holds Done j s g e = cc (e, g.2)
+  ended_holds (Failure x) j s g e = cc (e, g.2)
+  ended_holds (Incomplete k) j s g e = cc (e, g.2)
+  ended_holds OutOfMemory j s g e = cc (e, g.2)
+
+  ended_gives : (p : State E) (r : Option O) (j : I) (s : State E) → (p ≡ Running → ⊥) → Gives w IsOutput m i p r j s → r ≡ None
+  ended_gives Running r j s e g = absurd (e refl)
+  ended_gives Done r j s e g = g.0
+  ended_gives (Failure x) r j s e g = g.0
+  ended_gives (Incomplete k) r j s e g = g.0
+  ended_gives OutOfMemory r j s e g = g.0
+
+module _ {X S I A V O E : Type 0} (w : Seen I A) (IsOutput : S → V → O → Type 0) (m : S → Meaning I V E) (state : X → S) (place : X → I) (held : X → State E) where
+  abbrev Steps : X → Option O → X → Type 0
+  Steps = Next w IsOutput m state place held
+
+  -- after items it runs on, with the parser's state
+  pub still_runs : (vs : List O) (s t : X) → held s ≡ Running → Yields Steps s vs t → (held t ≡ Running) × (state t ≡ state s)
+  still_runs [] s t e y = (subst (λ z. held z ≡ Running) y e, ap state (sym y))
+  still_runs (v ∷ vs) s t e y =
+      let step : Steps s (Some v) y.0 = y.1 in
+      let item = given_item w (IsOutput (state s)) (m (state s)) (place s) (held s) v (place y.0) (held y.0) e step.gives in
+      let others = still_runs vs y.0 t item.runs y.2 in
+      (others.0, others.1 ∙ step.kept)
+
+  pub gives_items : (s : X) → held s ≡ Running → GivesItems w IsOutput m state place held s
+  gives_items s e [] t y = ([], tt, refl)
+  gives_items s e (v ∷ vs) t y =
+      let step : Steps s (Some v) y.0 = y.1 in
+      let item = given_item w (IsOutput (state s)) (m (state s)) (place s) (held s) v (place y.0) (held y.0) e step.gives in
+      let others = gives_items y.0 item.runs vs t y.2 in
+      (item.tree ∷ others.0, (item.output_is, subst (λ z. AllZip (IsOutput z) others.0 vs) step.kept others.1), (item.size, place y.0, item.accepted, item.rest_is, subst (λ z. AreItems w ((m z).answers true) (length vs) (place y.0) others.0) step.kept others.2))
+
+  pub ends_there : (s : X) → held s ≡ Running → EndsThere w IsOutput m state place held s
+  ends_there s e vs t u y n =
+      let runs = still_runs vs s t e y in
+      subst (λ z. ((o : Outcome V) × (m z).answers true (place t) o × Ends o) ⊎ (m z).runs_out (modes true true true) (place t)) runs.1 (given_end w (IsOutput (state t)) (m (state t)) (place t) (held t) (place u) (held u) runs.0 n.gives)
+
+  pub stays_ended : (s : X) → StaysEnded w IsOutput m state place held s
+  stays_ended s vs t u v r y n o = ended_gives w (IsOutput (state u)) (m (state u)) (place u) (held u) r (place v) (held v) (ended_holds w (IsOutput (state t)) (m (state t)) (place t) (held t) (place u) (held u) n.gives) o.gives

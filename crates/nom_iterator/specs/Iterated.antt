@@ -1,0 +1,35 @@
+-- The items that a parser accepts one after another.
+use Rattle.std.specs.Prelude.{◌≡◌, ℕ, suc, zero, ◌<◌, ◌≤◌, true, List, [], ◌∷◌, ◌++◌, length}
+use Rattle.nom_traits.specs.Input.{Seen, IsRest, Extends, IsSame, input_len}
+use Rattle.nom_internal.specs.Outcome.{Outcome}
+use Rattle.nom_internal.specs.Outcome.Outcome.{Accept, Refuse, Fail, TooLarge, Undecided}
+use Rattle.nom_internal.specs.Meaning.{Meaning}
+
+-- the outcome is no acceptance
+abbrev pub Ends : {V : Type 0} → Outcome V → Type 0
+Ends (Accept n v) = ⊥
+Ends Refuse = Unit {0}
+Ends Fail = Unit {0}
+Ends TooLarge = Unit {0}
+Ends (Undecided k) = Unit {0}
+
+module _ {I A V : Type 0} (w : Seen I A) (Answers : I → Outcome V → Type 0) where
+  -- The trees of the items from an input on, up to a limit: each of a piece that is accepted, and each begun where the one before
+  -- ended, until something else than an acceptance is answered.
+  abbrev pub AreItems : ℕ → I → List V → Type 0
+  AreItems zero i ts = ts ≡ []
+  AreItems (suc n) i [] = (o : Outcome V) × Answers i o × Ends o
+  AreItems (suc n) i (t ∷ ts) = (k : ℕ) × (j : I) × Answers i (Accept k t) × IsRest w i k j × AreItems n j ts
+
+module _ {I A V E : Type 0} (w : Seen I A) (m : Meaning I V E) where
+  -- the items on an input are a beginning of those on every input that extends it
+  abbrev pub ItemsStay : Type 0
+  ItemsStay = (limit : ℕ) (x y : I) (ts us : List V) → w.IsKnown x → w.IsKnown y → Extends w x y → AreItems w (m.answers true) limit x ts → AreItems w (m.answers true) limit y us → (more : List V) × (us ≡ ts ++ more)
+
+  -- inputs that are seen alike have the same items, and no others
+  abbrev pub ItemsAreOne : Type 0
+  ItemsAreOne = (limit : ℕ) (x y : I) (ts us : List V) → w.IsKnown x → w.IsKnown y → IsSame w x y → AreItems w (m.answers true) limit x ts → AreItems w (m.answers true) limit y us → ts ≡ us
+
+  -- where each acceptance consumes something, there are no more items than the input is long
+  abbrev pub ItemsFit : Type 0
+  ItemsFit = ((i : I) (k : ℕ) (t : V) → m.answers true i (Accept k t) → 0 < k) → (limit : ℕ) (x : I) (ts : List V) → AreItems w (m.answers true) limit x ts → length ts ≤ input_len w x

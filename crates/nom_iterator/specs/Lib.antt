@@ -1,0 +1,2 @@
+pub mod Iterated
+pub mod Steps

@@ -1,0 +1,65 @@
+-- What `next` and `finish` answer, by the place that is reached and by what is held.
+use Rattle.std.specs.Prelude.{◌≡◌, true, ◌⊎◌, List, length, Result, Ok, Err, Option, Some, None}
+use Rattle.std.specs.Iterator.{Yields}
+use Rattle.std.specs.List.{AllZip}
+use Rattle.nom_error.specs.Modes.{modes}
+use Rattle.nom_error.specs.declared.answer.Needed.{Needed}
+use Rattle.nom_error.specs.declared.answer.Err as Answer
+use Rattle.nom_error.specs.declared.answer.Err.TheVariants as Variant
+use Rattle.nom_traits.specs.Input.{Seen}
+use Rattle.nom_internal.specs.Outcome.{Outcome}
+use Rattle.nom_internal.specs.Meaning.{Meaning, ParsesMeaning}
+use Rattle.nom_iterator.specs.Iterated.{Ends, AreItems}
+use Rattle.nom_iterator.specs.declared.items.State.{State}
+use Rattle.nom_iterator.specs.declared.items.State.TheVariants as Held
+
+-- what `next` gives for an answer of the parser at i, the place j after it, and what is held then
+abbrev pub Moves : {I O E : Type 0} → I → Result (I × O) (Answer.Err E E Needed) → Option O → I → State E → Type 0
+Moves i (Ok (k, v)) r j s = (r ≡ Some v) × (j ≡ k) × (s ≡ Held.Running)
+Moves i (Err (Variant.Error e)) r j s = (r ≡ None) × (j ≡ i) × (s ≡ Held.Done)
+Moves i (Err (Variant.Failure e)) r j s = (r ≡ None) × (j ≡ i) × (s ≡ Held.Failure e)
+Moves i (Err (Variant.Incomplete k)) r j s = (r ≡ None) × (j ≡ i) × (s ≡ Held.Incomplete k)
+Moves i (Err Variant.OutOfMemory) r j s = (r ≡ None) × (j ≡ i) × (s ≡ Held.OutOfMemory)
+
+-- nothing is given, and all stays as it was
+abbrev pub Rests : {I O E : Type 0} → I → State E → Option O → I → State E → Type 0
+Rests i s r j t = (r ≡ None) × (j ≡ i) × (t ≡ s)
+
+module _ {I A V O E : Type 0} (w : Seen I A) (IsOutput : V → O → Type 0) (m : Meaning I V E) where
+  -- One `next` at the place i: while it runs, by what `parse` answers there; after it ended, nothing is given.
+  abbrev pub Gives : I → State E → Option O → I → State E → Type 0
+  Gives i Held.Running r j t = (q : Result (I × O) (Answer.Err E E Needed)) × ParsesMeaning w IsOutput m true i q × Moves i q r j t
+  Gives i Held.Done r j t = Rests i Held.Done r j t
+  Gives i (Held.Failure e) r j t = Rests i (Held.Failure e) r j t
+  Gives i (Held.Incomplete k) r j t = Rests i (Held.Incomplete k) r j t
+  Gives i Held.OutOfMemory r j t = Rests i Held.OutOfMemory r j t
+
+  -- and the parser's state p stays, as q
+  pub record IsStep {S : Type 0} (p q : S) (i : I) (s : State E) (r : Option O) (j : I) (t : State E) : Type 0 where
+    pub kept : q ≡ p
+    pub gives : Gives i s r j t
+
+-- `finish`, by the place that is reached and by what is held
+abbrev pub IsFinish : {I E : Type 0} → I → State E → Result (I × Unit {0}) (Answer.Err E E Needed) → Type 0
+IsFinish i Held.Running r = r ≡ Ok (i, tt)
+IsFinish i Held.Done r = r ≡ Ok (i, tt)
+IsFinish i (Held.Failure e) r = r ≡ Err (Variant.Failure e)
+IsFinish i (Held.Incomplete k) r = r ≡ Err (Variant.Incomplete k)
+IsFinish i Held.OutOfMemory r = r ≡ Err Variant.OutOfMemory
+
+-- iterators X, by the parser's state, the place reached and what is held
+module _ {X S I A V O E : Type 0} (w : Seen I A) (IsOutput : S → V → O → Type 0) (m : S → Meaning I V E) (state : X → S) (place : X → I) (held : X → State E) where
+  abbrev pub Next : X → Option O → X → Type 0
+  Next s r t = IsStep w (IsOutput (state s)) (m (state s)) (state s) (state t) (place s) (held s) r (place t) (held t)
+
+  -- What calls of `next` give, from one that runs: the outputs of items, each begun where the one before ended.
+  abbrev pub GivesItems : X → Type 0
+  GivesItems s = (vs : List O) (t : X) → Yields Next s vs t → (ts : List V) × AllZip (IsOutput (state s)) ts vs × AreItems w ((m (state s)).answers true) (length vs) (place s) ts
+
+  -- A call that gives nothing stands at a place where something else than an acceptance is answered, or where memory runs out.
+  abbrev pub EndsThere : X → Type 0
+  EndsThere s = (vs : List O) (t u : X) → Yields Next s vs t → Next t None u → ((o : Outcome V) × (m (state s)).answers true (place t) o × Ends o) ⊎ (m (state s)).runs_out (modes true true true) (place t)
+
+  -- and from then on nothing is given
+  abbrev pub StaysEnded : X → Type 0
+  StaysEnded s = (vs : List O) (t u v : X) (r : Option O) → Yields Next s vs t → Next t None u → Next u r v → r ≡ None

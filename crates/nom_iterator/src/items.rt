@@ -1,0 +1,80 @@
+//! The iterator, and what it holds.
+ghost use Rattle.std.specs.Prelude.{◌≡◌};
+ghost use Rattle.nom_iterator.specs.Steps.{IsFinish, IsStep, Moves};
+
+use nom_error::answer::{Err, IResult, Needed};
+use nom_error::value::ParseError;
+use nom_internal::parser::Parser;
+use nom_traits::input::Items;
+
+/// Whether more items may be given, or what ended them: a refusal, or an answer that `finish` gives.
+#[derive(Drop)]
+pub enum State<E> {
+    Running,
+    Done,
+    Failure(E),
+    Incomplete(Needed),
+    OutOfMemory,
+}
+
+/// The items of an input, one for each `next`; made by `iterator`. It holds the place that is reached.
+#[derive(Drop)]
+pub struct ParserIterator<I, E, F> {
+    pub parser: F,
+    pub input: I,
+    pub state: State<E>,
+}
+
+/// What is given for an answer at the input, the place after it, and what is held then.
+#[inline(always)]
+fn moved<I: Drop, O: Drop, E: Drop>(input: I, answer: IResult<I, O, E>) -> (Option<O>, I, State<E>)
+    ensures { Moves input answer result.0 result.1 result.2 }
+{
+    match answer {
+        Ok((rest, output)) => (Some(output), rest, State::Running),
+        Err(Err::Error(_)) => (None, input, State::Done),
+        Err(Err::Failure(error)) => (None, input, State::Failure(error)),
+        Err(Err::Incomplete(needed)) => (None, input, State::Incomplete(needed)),
+        Err(Err::OutOfMemory) => (None, input, State::OutOfMemory),
+    }
+}
+
+impl<I: Items, E: ParseError<I>, F: Parser<I, Error = E> + Drop> Iterator
+    for ParserIterator<I, E, F> {
+    type Item = F::Output;
+
+    // The parser is sound.
+    ghost can_next = { λ s. (F.meaning (F.state s.parser)).IsSound };
+
+    ghost next_gives = { λ s r t. IsStep I.seen (F.IsOutput (F.state s.parser)) (F.meaning (F.state s.parser)) (F.state s.parser) (F.state t.parser) s.input s.state r t.input t.state };
+
+    #[inline(always)]
+    fn next(&mut self) -> Option<F::Output> {
+        match self.state {
+            State::Running => {}
+            _ => return None,
+        }
+        let answer = self.parser.parse(self.input);
+        let (output, place, state) = moved(self.input, answer);
+        self.input = place;
+        self.state = state;
+        output
+    }
+}
+
+impl<I: Drop, E: Drop, F: Drop> ParserIterator<I, E, F> {
+    /// The rest of the input, where the items ended by a refusal or may go on; and else the answer that
+    /// ended them.
+    pub fn finish(self) -> IResult<I, (), E>
+        ensures { IsFinish self.input self.state result }
+    {
+        let ParserIterator { input, state, .. } = self;
+        match state {
+            State::Running => Ok((input, ())),
+            State::Done => Ok((input, ())),
+            State::Failure(error) => Err(Err::Failure(error)),
+            State::Incomplete(needed) => Err(Err::Incomplete(needed)),
+            State::OutOfMemory => Err(Err::OutOfMemory),
+        }
+    }
+}

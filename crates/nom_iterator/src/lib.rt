@@ -1,0 +1,24 @@
+//! A parser as an iterator over the items that it accepts one after another.
+#![tactic(auto)]
+
+ghost use Rattle.std.specs.Prelude.{◌≡◌};
+ghost use Rattle.nom_iterator.specs.declared.items.State.TheVariants.{Running};
+
+mod items;
+pub mod promises;
+
+pub use crate::items::{ParserIterator, State};
+
+/// The items of an input: each accepted by the parser, and each begun where the one before ended.
+#[inline(always)]
+pub fn iterator<I, E, F>(input: I, parser: F) -> ParserIterator<I, E, F>
+    ensures parser { result.parser ≡ parser }
+    ensures input { result.input ≡ input }
+    ensures runs { result.state ≡ Running }
+{
+    ParserIterator {
+        parser,
+        input,
+        state: State::Running,
+    }
+}
