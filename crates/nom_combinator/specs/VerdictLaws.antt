@@ -37,13 +37,13 @@ module _ {I A P T : Type 0} (w : Seen I A) (becomes : Outcome P → Outcome T) (
   verdict_keeps : (a : Outcome P) (o : Outcome T) → o ≡ becomes a → IsDecided o → IsDecided a
   verdict_keeps a o e d = is.keeps a (subst (λ z. IsDecided z) e d)
 
-  verdict_laws : {E : Type 0} (errors : Bool → Bool) → CaseLaws {E = E} w w (verdict_case becomes errors Never)
+  verdict_laws : {E : Type 0} (errors : Bool → Bool) → CaseLaws {E = E} true w w (verdict_case becomes errors Never)
   verdict_laws errors = record {
     at_known = here_known w;
-    at_related = here_related w;
+    at_related = λ longer stays. here_related w longer;
     at_alike = here_alike w;
     keeps = λ only i a o. verdict_keeps a o;
-    same = λ longer x y a o p kx ky r s k t. s ∙ sym t;
+    same = λ longer stays x y a o p kx ky r s k t. s ∙ sym t;
     alike = λ x y a o kx ky r b. b;
     place = λ i j a n t h e place b. accepted_place w i j a n e place (is.accepts a n t b);
     never_fails = λ Part large i a g e. is.never Part large a g e;
@@ -168,13 +168,13 @@ module _ {I A P : Type 0} (w : Seen I A) where
     blames_more Own TooLarge X Y e f h = f e h
     blames_more Own (Undecided k) X Y e f h = h
 
-    not_laws : (Own : I → E → Type 0) (Grows : Type 0) → CaseLaws w w (not_case {P = P} Own Grows)
+    not_laws : (Own : I → E → Type 0) (Grows : Type 0) → CaseLaws true w w (not_case {P = P} Own Grows)
     not_laws Own Grows = record {
       at_known = here_known w;
-      at_related = here_related w;
+      at_related = λ longer stays. here_related w longer;
       at_alike = here_alike w;
       keeps = λ only i a o. verdict_keeps w not_outcome (λ Part. Part) not_is a o;
-      same = λ longer x y a o p kx ky r s k t. s ∙ sym t;
+      same = λ longer stays x y a o p kx ky r s k t. s ∙ sym t;
       alike = λ x y a o kx ky r b. b;
       place = λ i j a n t h e place b. accepted_place w i j a n e place (not_is.accepts a n t b);
       never_fails = λ Part large i a g e. not_is.never Part large a g e;
@@ -218,13 +218,13 @@ module _ {I A P : Type 0} (w : Seen I A) where
     complete_more Own TooLarge X Y e f h = f e h
     complete_more Own (Undecided k) X Y e f h = h
 
-    complete_laws : (Own : I → E → Type 0) (Grows : Type 0) → CaseLaws w w (complete_case {P = P} Own Grows)
+    complete_laws : (Own : I → E → Type 0) (Grows : Type 0) → CaseLaws true w w (complete_case {P = P} Own Grows)
     complete_laws Own Grows = record {
       at_known = here_known w;
-      at_related = here_related w;
+      at_related = λ longer stays. here_related w longer;
       at_alike = here_alike w;
       keeps = λ only i a o b d. absurd (cc (only));
-      same = λ longer x y a o p kx ky r s k t. s ∙ sym t;
+      same = λ longer stays x y a o p kx ky r s k t. s ∙ sym t;
       alike = λ x y a o kx ky r b. b;
       place = λ i j a n t h e place b. accepted_place w i j a n e place (complete_accepts a n t b);
       never_fails = λ Part large i a g e. (g, complete_fails large a e);
