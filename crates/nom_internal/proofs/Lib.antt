@@ -1,3 +1,4 @@
+pub mod Bounded
 pub mod Cased
 pub mod Choices
 pub mod Consumed

@@ -1,5 +1,5 @@
 -- The laws of cases over one part's outcome.
-use Rattle.std.specs.Prelude.{◌≡◌, ℕ, Bool, true, false, not, refl}
+use Rattle.std.specs.Prelude.{◌≡◌, ℕ, Bool, true, false, not, [], refl}
 use Rattle.std.proofs.Common.{sym, ◌∙◌, ap, subst}
 use Rattle.nom_error.specs.Modes.{Modes}
 use Rattle.nom_traits.specs.Input.{Seen, IsPlace, IsSame, Related}
@@ -118,6 +118,10 @@ module _ {I A J B P T E F : Type 0} {stays : Bool} (w : Seen I A) (v : Seen J B)
 module _ {I A J B P T E F : Type 0} (w : Seen I A) (v : Seen J B) (m : Meaning J P E) (c : Case I J P T E F) (l : CaseLaws true w v c) where
   pub case_steady : Streams c.mode → IsSteady v m → IsSteady w (case_meaning c m)
   case_steady only p = case_agree w v c l true (λ _. only) (λ _. refl) (m.answers (mode_of c.mode true)) (m.answers (mode_of c.mode true)) (subst (λ s. Agree v true (m.answers s) (m.answers s)) (sym only) p)
+
+-- nothing is a front
+pub no_place : {I A : Type 0} (w : Seen I A) (i : I) → IsPlace w i 0
+no_place w i = record { front = []; rest = w.elements i; whole = refl; length_is = refl }
 
 -- the laws that cases at the same input have
 module _ {I A : Type 0} (w : Seen I A) where

@@ -1,3 +1,5 @@
+pub mod Bounded
+pub mod BoundedLaws
 pub mod ByteCuts
 pub mod CaseLaws
 pub mod Cases

@@ -2,6 +2,7 @@
 //! parsers in one mode, and inputs that grow.
 #![tactic(auto)]
 
+pub mod and_then;
 pub mod choice;
 pub mod fixed;
 pub mod growing;

@@ -5,6 +5,7 @@ ghost use Rattle.nom_internal.specs.Meaning.{Meaning, IsLawful, IsSteady, ShowsM
 ghost use Rattle.nom_internal.specs.Pinned.{IsPinned};
 ghost use Rattle.nom_internal.specs.Results.{IsFull, HoldsSame};
 
+use crate::and_then::AndThen;
 use crate::sequence::And;
 use nom_error::answer::{Err, IResult, PResult};
 use nom_error::mode::{Complete, Emit, IsStreaming, Mode, OutputM, OutputMode, Streaming};
@@ -80,6 +81,24 @@ pub trait Parser<I: Items>: Sized {
         And {
             first: self,
             second,
+        }
+    }
+
+    /// This parser, and another on its output alone: the other's output, and this one's rest.
+    #[inline(always)]
+    final fn and_then<G: Parser<Self::Output, Error = Self::Error>>(
+        self,
+        next: G,
+    ) -> AndThen<Self, G>
+    where
+        Self::Output: Items,
+        Self::Error: ParseError<Self::Output>,
+        ensures first { result.first ≡ self }
+        ensures second { result.second ≡ next }
+    {
+        AndThen {
+            first: self,
+            second: next,
         }
     }
 }
