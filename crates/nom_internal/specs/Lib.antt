@@ -6,6 +6,8 @@ pub mod Cases
 pub mod Choice
 pub mod ChoiceLaws
 pub mod Families
+pub mod FlatMap
+pub mod FlatMapLaws
 pub mod Growing
 pub mod Leaf
 pub mod Meaning

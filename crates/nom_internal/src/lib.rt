@@ -5,6 +5,7 @@
 pub mod and_then;
 pub mod choice;
 pub mod fixed;
+pub mod flat_map;
 pub mod growing;
 pub mod one_mode;
 pub mod parser;

@@ -6,6 +6,7 @@ ghost use Rattle.nom_internal.specs.Pinned.{IsPinned};
 ghost use Rattle.nom_internal.specs.Results.{IsFull, HoldsSame};
 
 use crate::and_then::AndThen;
+use crate::flat_map::FlatMap;
 use crate::sequence::And;
 use nom_error::answer::{Err, IResult, PResult};
 use nom_error::mode::{Complete, Emit, IsStreaming, Mode, OutputM, OutputMode, Streaming};
@@ -82,6 +83,18 @@ pub trait Parser<I: Items>: Sized {
             first: self,
             second,
         }
+    }
+
+    /// This parser, and on the rest the one that a closure gives for its output.
+    #[inline(always)]
+    final fn flat_map<H: Parser<I, Error = Self::Error>, G: Fn(Self::Output) -> H>(
+        self,
+        make: G,
+    ) -> FlatMap<Self, G>
+        ensures first { result.first ≡ self }
+        ensures make { result.make ≡ make }
+    {
+        FlatMap { first: self, make }
     }
 
     /// This parser, and another on its output alone: the other's output, and this one's rest.
