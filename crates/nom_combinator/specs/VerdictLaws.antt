@@ -1,5 +1,5 @@
 -- The laws of what becomes of a part's outcome.
-use Rattle.std.specs.Prelude.{◌≡◌, ℕ, Bool, true, false, [], Option, Some, None, ◌⊎◌, refl}
+use Rattle.std.specs.Prelude.{◌≡◌, ℕ, Bool, true, false, Option, Some, None, ◌⊎◌, refl}
 use Rattle.std.proofs.Common.{sym, ◌∙◌, ap, subst, inl, inr}
 use Rattle.nom_traits.specs.Slices.{Slice, first_place, first_related, same_length}
 use Rattle.nom_traits.specs.Input.{InputLaws, Related, Seen, IsPlace}
@@ -7,7 +7,7 @@ use Rattle.nom_traits.specs.View.{View, option_view, view_some}
 use Rattle.nom_internal.specs.Outcome.{Outcome, IsDecided, failure}
 use Rattle.nom_internal.specs.Outcome.Outcome.{Accept, Refuse, Fail, TooLarge, Undecided}
 use Rattle.nom_internal.specs.Meaning.{Meaning, IsLawful, IsSteady}
-use Rattle.nom_internal.specs.CaseLaws.{CaseLaws, here_known, here_related, here_alike, here_place, case_lawful, case_steady}
+use Rattle.nom_internal.specs.CaseLaws.{CaseLaws, here_known, here_related, here_alike, here_place, no_place, case_lawful, case_steady}
 use Rattle.nom_internal.specs.Cases.{Passes, plain_case}
 use Rattle.nom_internal.specs.RecognizedLaws.{AcceptLaws, plain_laws}
 use Rattle.nom_internal.specs.Pinned.{IsPinned}
@@ -22,11 +22,6 @@ record IsVerdict {P T : Type 0} (becomes : Outcome P → Outcome T) (Never : (Bo
   keeps : (a : Outcome P) → IsDecided (becomes a) → IsDecided a
   accepts : (a : Outcome P) (n : ℕ) (t : T) → Accept n t ≡ becomes a → IsAccepted n a
   never : (Part : Bool → Type 0) (large : Bool) (a : Outcome P) → Never Part large → failure large ≡ becomes a → Part large × (a ≡ failure large)
-
-module _ {I A : Type 0} (w : Seen I A) where
-  -- nothing is a front
-  no_place : (i : I) → IsPlace w i 0
-  no_place i = record { front = []; rest = w.elements i; whole = refl; length_is = refl }
 
 module _ {I A P : Type 0} (w : Seen I A) where
   accepted_place : (i j : I) (a : Outcome P) (n : ℕ) → i ≡ j → ((m : ℕ) (u : P) → a ≡ Accept m u → IsPlace w j m) → IsAccepted n a → IsPlace w i n

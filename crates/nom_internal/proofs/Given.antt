@@ -22,4 +22,4 @@ module _ {I A P O H S Q X E : Type 0} (w : Seen I A) (IsOutput : P → O → Typ
   given_shown x o h r b e k s =
       let given : GivesState IsOutput g u (g.state h) = record { output = o; is_output = built_fact true (IsOutput u) x o b e; parser = h; given = k; state_is = refl } in
       of_value_shown w (GivesState IsOutput g) (states_family IsOutput g m) (IsGiven IsOutput g IsResult) mode i u (g.state h) given r
-          (labelled_shown w (λ q. (g.state h, q)) (IsResult (g.state h)) (IsGiven IsOutput g IsResult) (λ q y p. record { key = u; given = given; is_output = p }) (m (g.state h)) mode i r s)
+      (labelled_shown w (λ q. (g.state h, q)) (IsResult (g.state h)) (IsGiven IsOutput g IsResult) (λ q y p. record { key = u; given = given; is_output = p }) (m (g.state h)) mode i r s)

@@ -6,6 +6,7 @@ ghost use Rattle.nom_internal.specs.Pinned.{IsPinned};
 ghost use Rattle.nom_internal.specs.Results.{IsFull, HoldsSame};
 
 use crate::and_then::AndThen;
+use crate::either::Or;
 use crate::flat_map::FlatMap;
 use crate::sequence::And;
 use nom_error::answer::{Err, IResult, PResult};
@@ -95,6 +96,21 @@ pub trait Parser<I: Items>: Sized {
         ensures make { result.make ≡ make }
     {
         FlatMap { first: self, make }
+    }
+
+    /// This parser, and where it refuses another one.
+    #[inline(always)]
+    final fn or<G: Parser<I, Output = Self::Output, Error = Self::Error>>(
+        self,
+        other: G,
+    ) -> Or<Self, G>
+        ensures first { result.first ≡ self }
+        ensures second { result.second ≡ other }
+    {
+        Or {
+            first: self,
+            second: other,
+        }
     }
 
     /// This parser, and another on its output alone: the other's output, and this one's rest.
