@@ -49,5 +49,5 @@ bounded_family v IsOutput m = record {
 
 -- A first part, whose outputs are built, and a parser on its output alone, whose rest is dropped: what the first consumes
 -- is consumed, and the second's tree is the tree.
-abbrev pub bounded_meaning : {I A J B P Q E : Type 0} → Seen I A → Seen J B → (P → J → Type 0) → Meaning I P E → Meaning J Q E → Meaning I Q E
-bounded_meaning w v IsOutput a m = then_meaning w (λ u t. t) (with_outputs true) (λ o. o) a (bounded_family v IsOutput m)
+abbrev pub and_then_meaning : {I A J B P Q E : Type 0} → Seen I A → Seen J B → (P → J → Type 0) → Meaning I P E → Meaning J Q E → Meaning I Q E
+and_then_meaning w v IsOutput a m = then_meaning w (λ u t. t) (with_outputs true) (λ o. o) a (bounded_family v IsOutput m)

@@ -10,7 +10,7 @@ use Rattle.nom_internal.specs.PartLaws.{keeps_mapped, failure_mapped}
 use Rattle.nom_internal.specs.Families.{IsLawfulFamily, AnyKey}
 use Rattle.nom_internal.specs.SequenceLaws.{then_lawful, then_steady}
 use Rattle.nom_internal.specs.CaseLaws.{CaseLaws, no_place, case_lawful}
-use Rattle.nom_internal.specs.Bounded.{IsBound, AreAlike, held, bounded_case, bounded_family, bounded_meaning}
+use Rattle.nom_internal.specs.Bounded.{IsBound, AreAlike, held, bounded_case, bounded_family, and_then_meaning}
 
 -- inputs that are seen alike are related, where no longer ones are asked for
 alike_related : {J B : Type 0} (v : Seen J B) (longer : Bool) → (longer ≡ true → false ≡ true) → (j k : J) → IsSame v j k → Related v longer j k
@@ -55,8 +55,8 @@ module _ {I A J B P Q E : Type 0} (w : Seen I A) (v : Seen J B) (IsOutput : P �
       a.fact ∙ (ap (λ z. held z) e ∙ sym b.fact)
 
   module _ (i : InputLaws w) (a : Meaning I P E) where
-    pub bounded_lawful : IsLawful w a → IsLawful w (bounded_meaning w v IsOutput a m)
-    bounded_lawful k = then_lawful w i (λ u t. t) (with_outputs true) (λ o. o) a (bounded_family v IsOutput m) k family_lawful
+    pub and_then_lawful : IsLawful w a → IsLawful w (and_then_meaning w v IsOutput a m)
+    and_then_lawful k = then_lawful w i (λ u t. t) (with_outputs true) (λ o. o) a (bounded_family v IsOutput m) k family_lawful
 
-    pub bounded_steady : IsSteady w a → IsSteady w (bounded_meaning w v IsOutput a m)
-    bounded_steady k = then_steady w i (λ u t. t) (with_outputs true) (λ o. o) a (bounded_family v IsOutput m) k family_steady
+    pub and_then_steady : IsSteady w a → IsSteady w (and_then_meaning w v IsOutput a m)
+    and_then_steady k = then_steady w i (λ u t. t) (with_outputs true) (λ o. o) a (bounded_family v IsOutput m) k family_steady

@@ -1,5 +1,5 @@
 //! One parser on what another one gives.
-ghost use Rattle.nom_internal.specs.Bounded.{bounded_meaning};
+ghost use Rattle.nom_internal.specs.Bounded.{and_then_meaning};
 ghost use Rattle.nom_internal.specs.Pinned.{IsPinned};
 
 use crate::parser::{Parser, StreamParser};
@@ -21,7 +21,7 @@ impl<
     F: Parser<I, Output: Items> + Drop,
     G: Parser<F::Output, Output: Viewed, Error = F::Error> + Drop,
 > Parser<I> for AndThen<F, G> {
-    ghost use Rattle.nom_internal.specs.BoundedLaws.{bounded_lawful};
+    ghost use Rattle.nom_internal.specs.BoundedLaws.{and_then_lawful};
 
     type Output = G::Output;
 
@@ -35,7 +35,7 @@ impl<
 
     ghost IsOutput = { λ s. G.IsOutput s.1 };
 
-    ghost meaning = { λ s. bounded_meaning I.seen F.Output.seen (F.IsOutput s.0) (F.meaning s.0) (G.meaning s.1) };
+    ghost meaning = { λ s. and_then_meaning I.seen F.Output.seen (F.IsOutput s.0) (F.meaning s.0) (G.meaning s.1) };
 
     // The second needn't be a stream parser, which alone has a law of what it pins.
     ghost Pins = { λ s. IsPinned G.Output.view (G.IsOutput s.1) };
@@ -54,7 +54,7 @@ impl<
         Ok((rest, output))
     }
 
-    ghost lawful = { λ s k. bounded_lawful I.seen F.Output.seen (F.IsOutput s.0) k.1.1 (G.meaning s.1) (G.lawful s.1 k.1.0) I.lawful (F.meaning s.0) (F.lawful s.0 k.0) };
+    ghost lawful = { λ s k. and_then_lawful I.seen F.Output.seen (F.IsOutput s.0) k.1.1 (G.meaning s.1) (G.lawful s.1 k.1.0) I.lawful (F.meaning s.0) (F.lawful s.0 k.0) };
 }
 
 impl<
@@ -62,9 +62,9 @@ impl<
     F: StreamParser<I, Output: Items> + Drop,
     G: Parser<F::Output, Output: Viewed, Error = F::Error> + Drop,
 > StreamParser<I> for AndThen<F, G> {
-    ghost use Rattle.nom_internal.specs.BoundedLaws.{bounded_steady};
+    ghost use Rattle.nom_internal.specs.BoundedLaws.{and_then_steady};
 
     ghost pinned = { λ s k p. p };
 
-    ghost steady = { λ s k. bounded_steady I.seen F.Output.seen (F.IsOutput s.0) k.1.1 (G.meaning s.1) (G.lawful s.1 k.1.0) I.lawful (F.meaning s.0) (F.steady s.0 k.0) };
+    ghost steady = { λ s k. and_then_steady I.seen F.Output.seen (F.IsOutput s.0) k.1.1 (G.meaning s.1) (G.lawful s.1 k.1.0) I.lawful (F.meaning s.0) (F.steady s.0 k.0) };
 }
