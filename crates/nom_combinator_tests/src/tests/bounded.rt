@@ -77,6 +77,18 @@ fn a_count_and_its_bytes(rt: HostRuntime) {
 }
 
 #[test]
+fn a_tag_behind_a_byte(rt: HostRuntime) {
+    let mut parser = be_u8::<_, At>().flat_map(|_byte: u8| tag(&b"x"[..]));
+    for (input, answer) in [
+        (&b"axy"[..], Ok((&b"y"[..], &b"x"[..]))),
+        (&b"xa"[..], refused(&b"a"[..], ErrorKind::Tag)),
+        (&b"x"[..], more(1)),
+    ] {
+        assert_eq!(rt; parser.parse(input), answer);
+    }
+}
+
+#[test]
 fn one_of_two(rt: HostRuntime) {
     let mut parser = tag::<_, _, Fail>("ab").or(tag("c"));
     for (input, streamed, completed) in [
