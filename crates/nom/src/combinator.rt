@@ -2,7 +2,7 @@
 
 pub use nom_combinator::{
     Cond, Consumed, Cut, MakeComplete, Not, Opt, Peek, Recognize, complete, cond, consumed, cut,
-    not, opt, peek, recognize,
+    flat_map, map_parser, not, opt, peek, recognize,
 };
 pub use nom_ends::{
     AllConsuming, Fail, Success, all_consuming, eof, fail, rest, rest_len, success,

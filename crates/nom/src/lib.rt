@@ -19,6 +19,9 @@ pub use nom_error::finish::{Finish, FinishError};
 pub use nom_error::mode::{
     Check, Complete, Emit, IsStreaming, Mode, OutputM, OutputMode, Streaming,
 };
+pub use nom_internal::and_then::AndThen;
+pub use nom_internal::either::Or;
+pub use nom_internal::flat_map::FlatMap;
 pub use nom_internal::growing::{Grown, parse_growing};
 pub use nom_internal::parser::{Parser, StreamParser};
 pub use nom_internal::sequence::And;

@@ -9,7 +9,8 @@ use Rattle.nom_internal.proofs.Cased.{labels_err, labels_ok}
 use Rattle.nom_internal.proofs.Shown.{accepted}
 use Rattle.nom_combinator.specs.Conditions.{state_of, cond_meaning, CondOutput}
 use Rattle.nom_combinator.specs.Verdicts.{OptOutput}
-use Rattle.nom_combinator.proofs.Judged.{rest_self, option_built}
+use Rattle.nom_internal.proofs.Consumed.{rest_self}
+use Rattle.nom_combinator.proofs.Judged.{option_built}
 
 module _ {I A F S P O E : Type 0} (w : Seen I A) (state : F → S) (IsOutput : S → P → O → Type 0) (meaning : S → Meaning I P E) (mode : Modes) (i : I) where
   abbrev CondShown : Option F → Result (I × Option (Option O)) (Answer.Err E (Option E) Needed) → Type 0

@@ -1,5 +1,5 @@
 -- What is shown of what becomes of a part's outcome.
-use Rattle.std.proofs.Common.{◌≡◌, ℕ, Bool, true, false, [], Result, Ok, Err, Option, Some, None, refl, sym, ◌∙◌, ap, subst, inl, inr}
+use Rattle.std.proofs.Common.{◌≡◌, ℕ, Bool, true, false, Result, Ok, Err, Option, Some, None, refl, sym, ◌∙◌, ap, subst, inl, inr}
 use Rattle.nom_error.specs.declared.answer.Needed.{Needed}
 use Rattle.nom_error.specs.declared.answer.Err as Answer
 use Rattle.nom_error.specs.declared.answer.Err.TheVariants.{Incomplete, Error, Failure}
@@ -8,7 +8,7 @@ use Rattle.nom_error.specs.Modes.{with_outputs, Built, Modes, modes}
 use Rattle.nom_traits.specs.Input.{Seen, InputLaws, IsRest}
 use Rattle.nom_traits.specs.Slices.{Slice, IsFirst, IsSeenAs}
 use Rattle.nom_internal.specs.Recognized.{recognized_meaning}
-use Rattle.nom_internal.proofs.Consumed.{slice_before, recognized_err}
+use Rattle.nom_internal.proofs.Consumed.{rest_self, slice_before, recognized_err}
 use Rattle.nom_internal.specs.Outcome.{Outcome, Shows}
 use Rattle.nom_internal.specs.Outcome.Outcome.{Accept, Refuse, Fail, TooLarge, Undecided}
 use Rattle.nom_internal.specs.Outcome.ShowsAnswer.{RanOut, Shown}
@@ -18,10 +18,6 @@ use Rattle.nom_internal.specs.Cases.CaseRunsOut.{RunsOutInPart, RunsOutBeside}
 use Rattle.nom_internal.proofs.Shown.{both_built, accepts, built_error}
 use Rattle.nom_internal.proofs.Cased.{here, plain_err}
 use Rattle.nom_combinator.specs.Verdicts.{complete_meaning, WithSlice, consumed_meaning, verdict_case, cut_outcome, NeverCut, cut_meaning, opt_outcome, opt_meaning, OptOutput, Looks, peek_meaning, not_meaning}
-
-module _ {I A : Type 0} (w : Seen I A) (l : InputLaws w) where
-  pub rest_self : (i : I) → w.IsKnown i → IsRest w i 0 i
-  rest_self i h = record { known = h; front = []; whole = refl; length_is = refl; mark_is = sym (l.mark_none (w.mark i)) }
 
 -- what neither accepts nor refuses passes
 module _ {I A P T O X E : Type 0} (w : Seen I A) (becomes : Outcome P → Outcome T) (errors : Bool → Bool) (Never : (Bool → Type 0) → Bool → Type 0) (fails : Fail ≡ becomes Fail) (larges : TooLarge ≡ becomes TooLarge) (waits : (k : Option ℕ) → Undecided k ≡ becomes (Undecided k)) (IsOutput : P → O → Type 0) (IsResult : T → X → Type 0) (m : Meaning I P E) (mode : Modes) (i : I) where

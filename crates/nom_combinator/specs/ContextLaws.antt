@@ -1,5 +1,5 @@
 -- The laws of a part whose errors are made into others.
-use Rattle.std.specs.Prelude.{refl}
+use Rattle.std.specs.Prelude.{refl, true}
 use Rattle.std.proofs.Common.{sym, ◌∙◌}
 use Rattle.nom_traits.specs.Input.{Seen}
 use Rattle.nom_internal.specs.Meaning.{Meaning, IsLawful, IsSteady}
@@ -7,13 +7,13 @@ use Rattle.nom_internal.specs.CaseLaws.{CaseLaws, here_known, here_related, here
 use Rattle.nom_combinator.specs.Contexts.{renamed_case, renamed_meaning}
 
 module _ {I A P E : Type 0} (w : Seen I A) (Makes : I → E → E → Type 0) (Grows : Type 0) where
-  renamed_laws : CaseLaws w w (renamed_case {P = P} Makes Grows)
+  renamed_laws : CaseLaws true w w (renamed_case {P = P} Makes Grows)
   renamed_laws = record {
     at_known = here_known w;
-    at_related = here_related w;
+    at_related = λ longer stays. here_related w longer;
     at_alike = here_alike w;
     keeps = λ only i a o. map_keeps w (λ a. a) passes_all a o;
-    same = λ longer x y a o p kx ky r s k t. s ∙ sym t;
+    same = λ longer stays x y a o p kx ky r s k t. s ∙ sym t;
     alike = λ x y a o kx ky r b. b;
     place = λ i j a n t h e place b. map_place w (λ a. a) passes_all i j a n t e place b;
     never_fails = λ Part large i a g e. (g, sym e);

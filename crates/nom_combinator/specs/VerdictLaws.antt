@@ -1,5 +1,5 @@
 -- The laws of what becomes of a part's outcome.
-use Rattle.std.specs.Prelude.{◌≡◌, ℕ, Bool, true, false, [], Option, Some, None, ◌⊎◌, refl}
+use Rattle.std.specs.Prelude.{◌≡◌, ℕ, Bool, true, false, Option, Some, None, ◌⊎◌, refl}
 use Rattle.std.proofs.Common.{sym, ◌∙◌, ap, subst, inl, inr}
 use Rattle.nom_traits.specs.Slices.{Slice, first_place, first_related, same_length}
 use Rattle.nom_traits.specs.Input.{InputLaws, Related, Seen, IsPlace}
@@ -7,7 +7,7 @@ use Rattle.nom_traits.specs.View.{View, option_view, view_some}
 use Rattle.nom_internal.specs.Outcome.{Outcome, IsDecided, failure}
 use Rattle.nom_internal.specs.Outcome.Outcome.{Accept, Refuse, Fail, TooLarge, Undecided}
 use Rattle.nom_internal.specs.Meaning.{Meaning, IsLawful, IsSteady}
-use Rattle.nom_internal.specs.CaseLaws.{CaseLaws, here_known, here_related, here_alike, here_place, case_lawful, case_steady}
+use Rattle.nom_internal.specs.CaseLaws.{CaseLaws, here_known, here_related, here_alike, here_place, no_place, case_lawful, case_steady}
 use Rattle.nom_internal.specs.Cases.{Passes, plain_case}
 use Rattle.nom_internal.specs.RecognizedLaws.{AcceptLaws, plain_laws}
 use Rattle.nom_internal.specs.Pinned.{IsPinned}
@@ -23,11 +23,6 @@ record IsVerdict {P T : Type 0} (becomes : Outcome P → Outcome T) (Never : (Bo
   accepts : (a : Outcome P) (n : ℕ) (t : T) → Accept n t ≡ becomes a → IsAccepted n a
   never : (Part : Bool → Type 0) (large : Bool) (a : Outcome P) → Never Part large → failure large ≡ becomes a → Part large × (a ≡ failure large)
 
-module _ {I A : Type 0} (w : Seen I A) where
-  -- nothing is a front
-  no_place : (i : I) → IsPlace w i 0
-  no_place i = record { front = []; rest = w.elements i; whole = refl; length_is = refl }
-
 module _ {I A P : Type 0} (w : Seen I A) where
   accepted_place : (i j : I) (a : Outcome P) (n : ℕ) → i ≡ j → ((m : ℕ) (u : P) → a ≡ Accept m u → IsPlace w j m) → IsAccepted n a → IsPlace w i n
   accepted_place i j a n e place (inl z) = subst (λ k. IsPlace w i k) (sym z) (no_place w i)
@@ -37,13 +32,13 @@ module _ {I A P T : Type 0} (w : Seen I A) (becomes : Outcome P → Outcome T) (
   verdict_keeps : (a : Outcome P) (o : Outcome T) → o ≡ becomes a → IsDecided o → IsDecided a
   verdict_keeps a o e d = is.keeps a (subst (λ z. IsDecided z) e d)
 
-  verdict_laws : {E : Type 0} (errors : Bool → Bool) → CaseLaws {E = E} w w (verdict_case becomes errors Never)
+  verdict_laws : {E : Type 0} (errors : Bool → Bool) → CaseLaws {E = E} true w w (verdict_case becomes errors Never)
   verdict_laws errors = record {
     at_known = here_known w;
-    at_related = here_related w;
+    at_related = λ longer stays. here_related w longer;
     at_alike = here_alike w;
     keeps = λ only i a o. verdict_keeps a o;
-    same = λ longer x y a o p kx ky r s k t. s ∙ sym t;
+    same = λ longer stays x y a o p kx ky r s k t. s ∙ sym t;
     alike = λ x y a o kx ky r b. b;
     place = λ i j a n t h e place b. accepted_place w i j a n e place (is.accepts a n t b);
     never_fails = λ Part large i a g e. is.never Part large a g e;
@@ -168,13 +163,13 @@ module _ {I A P : Type 0} (w : Seen I A) where
     blames_more Own TooLarge X Y e f h = f e h
     blames_more Own (Undecided k) X Y e f h = h
 
-    not_laws : (Own : I → E → Type 0) (Grows : Type 0) → CaseLaws w w (not_case {P = P} Own Grows)
+    not_laws : (Own : I → E → Type 0) (Grows : Type 0) → CaseLaws true w w (not_case {P = P} Own Grows)
     not_laws Own Grows = record {
       at_known = here_known w;
-      at_related = here_related w;
+      at_related = λ longer stays. here_related w longer;
       at_alike = here_alike w;
       keeps = λ only i a o. verdict_keeps w not_outcome (λ Part. Part) not_is a o;
-      same = λ longer x y a o p kx ky r s k t. s ∙ sym t;
+      same = λ longer stays x y a o p kx ky r s k t. s ∙ sym t;
       alike = λ x y a o kx ky r b. b;
       place = λ i j a n t h e place b. accepted_place w i j a n e place (not_is.accepts a n t b);
       never_fails = λ Part large i a g e. not_is.never Part large a g e;
@@ -218,13 +213,13 @@ module _ {I A P : Type 0} (w : Seen I A) where
     complete_more Own TooLarge X Y e f h = f e h
     complete_more Own (Undecided k) X Y e f h = h
 
-    complete_laws : (Own : I → E → Type 0) (Grows : Type 0) → CaseLaws w w (complete_case {P = P} Own Grows)
+    complete_laws : (Own : I → E → Type 0) (Grows : Type 0) → CaseLaws true w w (complete_case {P = P} Own Grows)
     complete_laws Own Grows = record {
       at_known = here_known w;
-      at_related = here_related w;
+      at_related = λ longer stays. here_related w longer;
       at_alike = here_alike w;
       keeps = λ only i a o b d. absurd (cc (only));
-      same = λ longer x y a o p kx ky r s k t. s ∙ sym t;
+      same = λ longer stays x y a o p kx ky r s k t. s ∙ sym t;
       alike = λ x y a o kx ky r b. b;
       place = λ i j a n t h e place b. accepted_place w i j a n e place (complete_accepts a n t b);
       never_fails = λ Part large i a g e. (g, complete_fails large a e);

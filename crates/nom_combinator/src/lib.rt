@@ -12,6 +12,11 @@ pub use crate::condition::Cond;
 pub use crate::named::Context;
 pub use crate::piece::{Consumed, Recognize};
 pub use crate::verdict::{Cut, MakeComplete, Not, Opt, Peek};
+use nom_error::value::ParseError;
+use nom_internal::and_then::AndThen;
+use nom_internal::flat_map::FlatMap;
+use nom_internal::parser::Parser;
+use nom_traits::input::Items;
 
 /// A parser whose refusals are failures, after which no other branch is tried.
 #[inline(always)]
@@ -93,4 +98,37 @@ pub fn context<F>(context: &'static str, parser: F) -> Context<F>
     ensures parser { result.parser ≡ parser }
 {
     Context { context, parser }
+}
+
+/// A parser, and another one on its output alone: the other's output, and the first's rest. What the other
+/// leaves is dropped.
+#[inline(always)]
+pub fn map_parser<I: Items, F: Parser<I, Output: Items>, G: Parser<F::Output, Error = F::Error>>(
+    parser: F,
+    applied_parser: G,
+) -> AndThen<F, G>
+where
+    F::Error: ParseError<F::Output>,
+    ensures first { result.first ≡ parser }
+    ensures second { result.second ≡ applied_parser }
+{
+    AndThen {
+        first: parser,
+        second: applied_parser,
+    }
+}
+
+/// A parser, and on the rest the one that a closure gives for its output.
+#[inline(always)]
+pub fn flat_map<I: Items, F: Parser<I>, H: Parser<I, Error = F::Error>, G: Fn(F::Output) -> H>(
+    parser: F,
+    applied_parser: G,
+) -> FlatMap<F, G>
+    ensures first { result.first ≡ parser }
+    ensures make { result.make ≡ applied_parser }
+{
+    FlatMap {
+        first: parser,
+        make: applied_parser,
+    }
 }

@@ -1,9 +1,9 @@
 -- How much of an input lies before a rest of it, and what is shown of the slice before it.
-use Rattle.std.proofs.Common.{◌≡◌, ℕ, ◌+◌, ◌-◌, ◌≤◌, false, Ok, Err, Option, refl, ap, arith}
+use Rattle.std.proofs.Common.{◌≡◌, ℕ, ◌+◌, ◌-◌, ◌≤◌, false, [], Ok, Err, Option, refl, sym, ap, arith}
 use Rattle.nom_error.specs.declared.answer.Needed.{Needed}
 use Rattle.nom_error.specs.declared.answer.Err as Answer
 use Rattle.nom_error.specs.Modes.{Built, Modes, with_outputs}
-use Rattle.nom_traits.specs.Input.{Seen, IsRest, input_len, span}
+use Rattle.nom_traits.specs.Input.{Seen, InputLaws, IsRest, input_len, span}
 use Rattle.nom_traits.specs.Rests.{span-append}
 use Rattle.nom_traits.specs.Slices.{Slice, IsFirst, IsSeenAs}
 use Rattle.nom_internal.specs.Outcome.Outcome.{Accept}
@@ -12,6 +12,11 @@ use Rattle.nom_internal.specs.Meaning.{Meaning, ShowsMeaning}
 use Rattle.nom_internal.specs.Recognized.{IsSliced, recognized_meaning}
 use Rattle.nom_internal.proofs.Cased.{here, plain_err}
 use Rattle.nom_internal.proofs.Shown.{accepts}
+
+-- an input is its own rest after nothing
+module _ {I A : Type 0} (w : Seen I A) (l : InputLaws w) where
+  pub rest_self : (i : I) → w.IsKnown i → IsRest w i 0 i
+  rest_self i h = record { known = h; front = []; whole = refl; length_is = refl; mark_is = sym (l.mark_none (w.mark i)) }
 
 module _ {I A : Type 0} {w : Seen I A} {i : I} {n : ℕ} {j : I} where
   pub rest_length : IsRest w i n j → input_len w i ≡ n + input_len w j

@@ -1,5 +1,5 @@
 -- The laws of cases over one part's outcome.
-use Rattle.std.specs.Prelude.{◌≡◌, ℕ, Bool, true, false, not, refl}
+use Rattle.std.specs.Prelude.{◌≡◌, ℕ, Bool, true, false, not, [], refl}
 use Rattle.std.proofs.Common.{sym, ◌∙◌, ap, subst}
 use Rattle.nom_error.specs.Modes.{Modes}
 use Rattle.nom_traits.specs.Input.{Seen, IsPlace, IsSame, Related}
@@ -16,16 +16,17 @@ use Rattle.nom_internal.specs.Cases.CaseRunsOut.{RunsOutInPart, RunsOutBeside}
 abbrev pub Streams : PartMode → Type 0
 Streams mode = mode_of mode true ≡ true
 
--- what cases must keep, where their premise holds
-pub record CaseLaws {I A J B P T E F : Type 0} (w : Seen I A) (v : Seen J B) (c : Case I J P T E F) : Type 1 where
+-- What cases must keep, where their premise holds. Do longer inputs keep it too (true), or, if that isn't asked, only those that
+-- are seen alike?
+pub record CaseLaws {I A J B P T E F : Type 0} (stays : Bool) (w : Seen I A) (v : Seen J B) (c : Case I J P T E F) : Type 1 where
   -- related inputs have related inputs of the part
   pub at_known : (i : I) (j : J) → w.IsKnown i → c.At i j → v.IsKnown j
-  pub at_related : (longer : Bool) (x y : I) (j k : J) → Related w longer x y → c.At x j → c.At y k → Related v longer j k
+  pub at_related : (longer : Bool) → (longer ≡ true → stays ≡ true) → (x y : I) (j k : J) → Related w longer x y → c.At x j → c.At y k → Related v longer j k
   pub at_alike : (x y : I) (j : J) → IsSame w x y → c.At x j → (k : J) × c.At y k
   -- where the whole is decided, so is a part that streams as the whole does
   pub keeps : Streams c.mode → (i : I) (a : Outcome P) (o : Outcome T) → c.Becomes i a o → IsDecided o → IsDecided a
   -- an outcome of the part becomes one outcome, on related inputs too
-  pub same : (longer : Bool) (x y : I) (a : Outcome P) (o p : Outcome T) → w.IsKnown x → w.IsKnown y → Related w longer x y → c.Becomes x a o → Keeps longer o → c.Becomes y a p → o ≡ p
+  pub same : (longer : Bool) → (longer ≡ true → stays ≡ true) → (x y : I) (a : Outcome P) (o p : Outcome T) → w.IsKnown x → w.IsKnown y → Related w longer x y → c.Becomes x a o → Keeps longer o → c.Becomes y a p → o ≡ p
   pub alike : (x y : I) (a : Outcome P) (o : Outcome T) → w.IsKnown x → w.IsKnown y → IsSame w x y → c.Becomes x a o → c.Becomes y a o
   -- what is accepted is a front, where what the part accepts is one
   pub place : (i : I) (j : J) (a : Outcome P) (n : ℕ) (t : T) → w.IsKnown i → c.At i j → ((m : ℕ) (u : P) → a ≡ Accept m u → IsPlace v j m) → c.Becomes i a (Accept n t) → IsPlace w i n
@@ -35,15 +36,15 @@ pub record CaseLaws {I A J B P T E F : Type 0} (w : Seen I A) (v : Seen J B) (c 
   pub part_frugal : (Part : Modes → Type 0) (mode : Modes) → c.IsFrugal Part mode → Part (c.part mode)
   pub asks_none : (Part : Modes → Type 0) (mode : Modes) (i : I) (a : Outcome P) → c.IsFrugal Part mode → c.Asks mode i a → ⊥
 
-module _ {I A J B P T E F : Type 0} (w : Seen I A) (v : Seen J B) (c : Case I J P T E F) (l : CaseLaws w v c) where
+module _ {I A J B P T E F : Type 0} {stays : Bool} (w : Seen I A) (v : Seen J B) (c : Case I J P T E F) (l : CaseLaws stays w v c) where
   keeps_part : (longer : Bool) → (longer ≡ true → Streams c.mode) → (i : I) (a : Outcome P) (o : Outcome T) → c.Becomes i a o → Keeps longer o → Keeps longer a
   keeps_part true only i a o b k = l.keeps (only refl) i a o b k
   keeps_part false only i a o b k = tt
 
-  pub case_agree : (longer : Bool) → (longer ≡ true → Streams c.mode) → (R S : J → Outcome P → Type 0) → Agree v longer R S → Agree w longer (λ i o. OnPart c.At R (λ _ a. c.Becomes i a o) i) (λ i o. OnPart c.At S (λ _ a. c.Becomes i a o) i)
-  case_agree longer only R S f x y o p kx ky r s k t =
-      let e = f s.at t.at s.outcome t.outcome (l.at_known x s.at kx s.at_is) (l.at_known y t.at ky t.at_is) (l.at_related longer x y s.at t.at r s.at_is t.at_is) s.answered (keeps_part longer only x s.outcome o s.fact k) t.answered in
-      l.same longer x y s.outcome o p kx ky r s.fact k (subst (λ z. c.Becomes y z p) (sym e) t.fact)
+  pub case_agree : (longer : Bool) → (longer ≡ true → Streams c.mode) → (longer ≡ true → stays ≡ true) → (R S : J → Outcome P → Type 0) → Agree v longer R S → Agree w longer (λ i o. OnPart c.At R (λ _ a. c.Becomes i a o) i) (λ i o. OnPart c.At S (λ _ a. c.Becomes i a o) i)
+  case_agree longer only keeps R S f x y o p kx ky r s k t =
+      let e = f s.at t.at s.outcome t.outcome (l.at_known x s.at kx s.at_is) (l.at_known y t.at ky t.at_is) (l.at_related longer keeps x y s.at t.at r s.at_is t.at_is) s.answered (keeps_part longer only x s.outcome o s.fact k) t.answered in
+      l.same longer keeps x y s.outcome o p kx ky r s.fact k (subst (λ z. c.Becomes y z p) (sym e) t.fact)
 
   pub case_carries : (decided : Bool) → (decided ≡ true → Streams c.mode) → (R S : J → Outcome P → Type 0) → Carries v decided R S → Carries w decided (λ i o. OnPart c.At R (λ _ a. c.Becomes i a o) i) (λ i o. OnPart c.At S (λ _ a. c.Becomes i a o) i)
   case_carries decided only R S f x y o kx ky r s k =
@@ -52,7 +53,7 @@ module _ {I A J B P T E F : Type 0} (w : Seen I A) (v : Seen J B) (c : Case I J 
         at = there.0;
         at_is = there.1;
         outcome = s.outcome;
-        answered = f s.at there.0 s.outcome (l.at_known x s.at kx s.at_is) (l.at_known y there.0 ky there.1) (l.at_related false x y s.at there.0 r s.at_is there.1) s.answered (keeps_part decided only x s.outcome o s.fact k);
+        answered = f s.at there.0 s.outcome (l.at_known x s.at kx s.at_is) (l.at_known y there.0 ky there.1) (l.at_related false (λ e. cc) x y s.at there.0 r s.at_is there.1) s.answered (keeps_part decided only x s.outcome o s.fact k);
         fact = l.alike x y s.outcome o kx ky r s.fact;
       }
 
@@ -60,7 +61,7 @@ module _ {I A J B P T E F : Type 0} (w : Seen I A) (v : Seen J B) (c : Case I J 
   case_within R f i n t h s = l.place i s.at s.outcome n t h s.at_is (λ m u e. f s.at m u (l.at_known i s.at h s.at_is) (subst (λ z. R s.at z) e s.answered)) s.fact
 
   same_at : (i : I) (j k : J) → c.At i j → c.At i k → IsSame v j k
-  same_at i j k p q = l.at_related false i i j k (same_self w i) p q
+  same_at i j k p q = l.at_related false (λ e. cc) i i j k (same_self w i) p q
 
   case_blames : Streams c.mode → (R S : J → Outcome P → Type 0) (X Y : J → E → Type 0) → Transfers v R S X Y → SameBlame w (λ i o. OnPart c.At R (λ _ a. c.Becomes i a o) i) (λ i o. OnPart c.At S (λ _ a. c.Becomes i a o) i) (λ i e. OnPart c.At R (λ j a. c.Blames i a (X j) e) i) (λ i e. OnPart c.At S (λ j a. c.Blames i a (Y j) e) i)
   case_blames only R S X Y f i o e h s t d b =
@@ -85,7 +86,7 @@ module _ {I A J B P T E F : Type 0} (w : Seen I A) (v : Seen J B) (c : Case I J 
         p.never_fails large n.0 (mode_of c.mode s) a.at (l.at_known i a.at h a.at_is) (subst (λ z. m.answers (mode_of c.mode s) a.at z) n.1 a.answered)
 
 -- how a whole settles, by the mode of its part
-module _ {I A J B P T E F : Type 0} (w : Seen I A) (v : Seen J B) (m : Meaning J P E) (p : IsLawful v m) (c : Case I J P T E F) (l : CaseLaws w v c) where
+module _ {I A J B P T E F : Type 0} {stays : Bool} (w : Seen I A) (v : Seen J B) (m : Meaning J P E) (p : IsLawful v m) (c : Case I J P T E F) (l : CaseLaws stays w v c) where
   abbrev Answers : Bool → I → Outcome T → Type 0
   Answers s i o = OnPart c.At (m.answers s) (λ _ a. c.Becomes i a o) i
 
@@ -106,7 +107,7 @@ module _ {I A J B P T E F : Type 0} (w : Seen I A) (v : Seen J B) (m : Meaning J
   pub case_lawful : IsLawful w (case_meaning c m)
   case_lawful = record {
     within = λ s. case_within w v c l (m.answers (mode_of c.mode s)) (p.within (mode_of c.mode s));
-    one_outcome = λ s. case_agree w v c l false (λ e. cc) (m.answers (mode_of c.mode s)) (m.answers (mode_of c.mode s)) (p.one_outcome (mode_of c.mode s));
+    one_outcome = λ s. case_agree w v c l false (λ e. cc) (λ e. cc) (m.answers (mode_of c.mode s)) (m.answers (mode_of c.mode s)) (p.one_outcome (mode_of c.mode s));
     alike = λ s. case_carries w v c l false (λ e. cc) (m.answers (mode_of c.mode s)) (m.answers (mode_of c.mode s)) (p.alike (mode_of c.mode s));
     frugal = case_frugal w v c l m p;
     settles = case_settles c.mode refl;
@@ -114,9 +115,13 @@ module _ {I A J B P T E F : Type 0} (w : Seen I A) (v : Seen J B) (m : Meaning J
     never_fails = case_never w v c l m p;
   }
 
-module _ {I A J B P T E F : Type 0} (w : Seen I A) (v : Seen J B) (m : Meaning J P E) (c : Case I J P T E F) (l : CaseLaws w v c) where
+module _ {I A J B P T E F : Type 0} (w : Seen I A) (v : Seen J B) (m : Meaning J P E) (c : Case I J P T E F) (l : CaseLaws true w v c) where
   pub case_steady : Streams c.mode → IsSteady v m → IsSteady w (case_meaning c m)
-  case_steady only p = case_agree w v c l true (λ _. only) (m.answers (mode_of c.mode true)) (m.answers (mode_of c.mode true)) (subst (λ s. Agree v true (m.answers s) (m.answers s)) (sym only) p)
+  case_steady only p = case_agree w v c l true (λ _. only) (λ _. refl) (m.answers (mode_of c.mode true)) (m.answers (mode_of c.mode true)) (subst (λ s. Agree v true (m.answers s) (m.answers s)) (sym only) p)
+
+-- nothing is a front
+pub no_place : {I A : Type 0} (w : Seen I A) (i : I) → IsPlace w i 0
+no_place w i = record { front = []; rest = w.elements i; whole = refl; length_is = refl }
 
 -- the laws that cases at the same input have
 module _ {I A : Type 0} (w : Seen I A) where
@@ -163,13 +168,13 @@ module _ {I A P T : Type 0} (w : Seen I A) (f : Outcome P → Outcome T) (is : I
   map_place i j a n t e place b = let k = is.accepts a n t b in here_place w i j n e (place n k.0 k.1)
 
 module _ {I A P : Type 0} (w : Seen I A) where
-  pub labelled_laws : {T E : Type 0} (label : P → T) → CaseLaws {E = E} w w (plain_case (λ b. b) (λ i a o. o ≡ labelled label a))
+  pub labelled_laws : {T E : Type 0} (label : P → T) → CaseLaws {E = E} true w w (plain_case (λ b. b) (λ i a o. o ≡ labelled label a))
   labelled_laws label = record {
     at_known = here_known w;
-    at_related = here_related w;
+    at_related = λ longer stays. here_related w longer;
     at_alike = here_alike w;
     keeps = λ only i a o. map_keeps w (labelled label) (labels label) a o;
-    same = λ longer x y a o p kx ky r s k t. s ∙ sym t;
+    same = λ longer stays x y a o p kx ky r s k t. s ∙ sym t;
     alike = λ x y a o kx ky r b. b;
     place = λ i j a n t h e place b. map_place w (labelled label) (labels label) i j a n t e place b;
     never_fails = λ Part large i a g e. (g, (labels label).fails large a e);
@@ -178,13 +183,13 @@ module _ {I A P : Type 0} (w : Seen I A) where
     asks_none = λ Part mode i a h g. g;
   }
 
-  pub fixed_laws : {E : Type 0} (mode : Bool) → CaseLaws {E = E} w w (fixed_case {P = P} mode)
+  pub fixed_laws : {E : Type 0} (mode : Bool) → CaseLaws {E = E} true w w (fixed_case {P = P} mode)
   fixed_laws mode = record {
     at_known = here_known w;
-    at_related = here_related w;
+    at_related = λ longer stays. here_related w longer;
     at_alike = here_alike w;
     keeps = λ only i a o. map_keeps w (λ a. a) passes_all a o;
-    same = λ longer x y a o p kx ky r s k t. s ∙ sym t;
+    same = λ longer stays x y a o p kx ky r s k t. s ∙ sym t;
     alike = λ x y a o kx ky r b. b;
     place = λ i j a n t h e place b. map_place w (λ a. a) passes_all i j a n t e place b;
     never_fails = λ Part large i a g e. (g, sym e);
@@ -207,13 +212,13 @@ module _ {I A P : Type 0} (w : Seen I A) where
   refused_only Fact TooLarge f h = h
   refused_only Fact (Undecided k) f h = h
 
-  pub closed_laws : {E : Type 0} (Closes : I → E → E → Type 0) (Grows : Type 0) → CaseLaws w w (closed_case {P = P} Closes Grows)
+  pub closed_laws : {E : Type 0} (Closes : I → E → E → Type 0) (Grows : Type 0) → CaseLaws true w w (closed_case {P = P} Closes Grows)
   closed_laws Closes Grows = record {
     at_known = here_known w;
-    at_related = here_related w;
+    at_related = λ longer stays. here_related w longer;
     at_alike = here_alike w;
     keeps = λ only i a o. map_keeps w (λ a. a) passes_all a o;
-    same = λ longer x y a o p kx ky r s k t. s ∙ sym t;
+    same = λ longer stays x y a o p kx ky r s k t. s ∙ sym t;
     alike = λ x y a o kx ky r b. b;
     place = λ i j a n t h e place b. map_place w (λ a. a) passes_all i j a n t e place b;
     never_fails = λ Part large i a g e. (g, sym e);

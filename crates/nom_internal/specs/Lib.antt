@@ -1,9 +1,13 @@
+pub mod Bounded
+pub mod BoundedLaws
 pub mod ByteCuts
 pub mod CaseLaws
 pub mod Cases
 pub mod Choice
 pub mod ChoiceLaws
 pub mod Families
+pub mod FlatMap
+pub mod FlatMapLaws
 pub mod Growing
 pub mod Leaf
 pub mod Meaning

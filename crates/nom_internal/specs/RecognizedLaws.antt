@@ -57,13 +57,13 @@ module _ {I A P T : Type 0} (w : Seen I A) (OnAccept : I → ℕ → P → Outco
   passes_fails false i TooLarge s = absurd (cc (s))
   passes_fails false i (Undecided d) s = absurd (cc (s))
 
-  pub plain_laws : {E : Type 0} (outputs : Bool → Bool) → CaseLaws {E = E} w w (plain_case outputs (λ i. Passes (OnAccept i)))
+  pub plain_laws : {E : Type 0} (outputs : Bool → Bool) → CaseLaws {E = E} true w w (plain_case outputs (λ i. Passes (OnAccept i)))
   plain_laws outputs = record {
     at_known = here_known w;
-    at_related = here_related w;
+    at_related = λ longer stays. here_related w longer;
     at_alike = here_alike w;
     keeps = λ only. passes_keeps;
-    same = passes_same;
+    same = λ longer stays. passes_same longer;
     alike = passes_alike;
     place = passes_place;
     never_fails = λ Part large i a g e. (g, passes_fails large i a e);

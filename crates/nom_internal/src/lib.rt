@@ -1,9 +1,12 @@
 //! Parsers: what they mean, their laws and promises, slices of their inputs, sequences of two, choices,
-//! parsers in one mode, and inputs that grow.
+//! parsers on what another one gives, parsers that closures give, parsers in one mode, and inputs that grow.
 #![tactic(auto)]
 
+pub mod and_then;
 pub mod choice;
+pub mod either;
 pub mod fixed;
+pub mod flat_map;
 pub mod growing;
 pub mod one_mode;
 pub mod parser;

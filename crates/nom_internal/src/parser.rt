@@ -5,6 +5,9 @@ ghost use Rattle.nom_internal.specs.Meaning.{Meaning, IsLawful, IsSteady, ShowsM
 ghost use Rattle.nom_internal.specs.Pinned.{IsPinned};
 ghost use Rattle.nom_internal.specs.Results.{IsFull, HoldsSame};
 
+use crate::and_then::AndThen;
+use crate::either::Or;
+use crate::flat_map::FlatMap;
 use crate::sequence::And;
 use nom_error::answer::{Err, IResult, PResult};
 use nom_error::mode::{Complete, Emit, IsStreaming, Mode, OutputM, OutputMode, Streaming};
@@ -80,6 +83,51 @@ pub trait Parser<I: Items>: Sized {
         And {
             first: self,
             second,
+        }
+    }
+
+    /// This parser, and on the rest the one that a closure gives for its output.
+    #[inline(always)]
+    final fn flat_map<H: Parser<I, Error = Self::Error>, G: Fn(Self::Output) -> H>(
+        self,
+        make: G,
+    ) -> FlatMap<Self, G>
+        ensures first { result.first ≡ self }
+        ensures make { result.make ≡ make }
+    {
+        FlatMap { first: self, make }
+    }
+
+    /// This parser, and where it refuses another one.
+    #[inline(always)]
+    final fn or<G: Parser<I, Output = Self::Output, Error = Self::Error>>(
+        self,
+        other: G,
+    ) -> Or<Self, G>
+        ensures first { result.first ≡ self }
+        ensures second { result.second ≡ other }
+    {
+        Or {
+            first: self,
+            second: other,
+        }
+    }
+
+    /// This parser, and another on its output alone: the other's output, and this one's rest.
+    #[inline(always)]
+    final fn and_then<G: Parser<Self::Output, Error = Self::Error>>(
+        self,
+        next: G,
+    ) -> AndThen<Self, G>
+    where
+        Self::Output: Items,
+        Self::Error: ParseError<Self::Output>,
+        ensures first { result.first ≡ self }
+        ensures second { result.second ≡ next }
+    {
+        AndThen {
+            first: self,
+            second: next,
         }
     }
 }

@@ -1,0 +1,3 @@
+//! Rows of inputs and what nom answers at them, each row through one call of its parser.
+
+mod bounded;

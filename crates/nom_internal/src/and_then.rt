@@ -1,0 +1,70 @@
+//! One parser on what another one gives.
+ghost use Rattle.nom_internal.specs.Bounded.{and_then_meaning};
+ghost use Rattle.nom_internal.specs.Pinned.{IsPinned};
+
+use crate::parser::{Parser, StreamParser};
+use nom_error::answer::PResult;
+use nom_error::mode::{Emit, OutputM, OutputMode};
+use nom_traits::input::Items;
+use nom_traits::view::Viewed;
+
+/// A parser, and another one on its output alone, whose rest is dropped. The second may be any parser: it
+/// sees all of its input, whatever follows.
+#[derive(Drop)]
+pub struct AndThen<F, G> {
+    pub first: F,
+    pub second: G,
+}
+
+impl<
+    I: Items,
+    F: Parser<I, Output: Items> + Drop,
+    G: Parser<F::Output, Output: Viewed, Error = F::Error> + Drop,
+> Parser<I> for AndThen<F, G> {
+    ghost use Rattle.nom_internal.specs.BoundedLaws.{and_then_lawful};
+
+    type Output = G::Output;
+
+    type Error = F::Error;
+
+    ghost State = { F.State × G.State };
+
+    ghost state = { λ p. (F.state p.first, G.state p.second) };
+
+    ghost Tree = { G.Tree };
+
+    ghost IsOutput = { λ s. G.IsOutput s.1 };
+
+    ghost meaning = { λ s. and_then_meaning I.seen F.Output.seen (F.IsOutput s.0) (F.meaning s.0) (G.meaning s.1) };
+
+    // The second needn't be a stream parser, which alone has a law of what it pins.
+    ghost Pins = { λ s. IsPinned G.Output.view (G.IsOutput s.1) };
+
+    #[inline(always)]
+    fn process<OM: OutputMode>(&mut self, input: I) -> PResult<I, G::Output, F::Error> {
+        let (rest, output) = self
+            .first
+            .process::<OutputM<Emit, OM::Error, OM::Incomplete>>(input)?;
+        let bound = match output {
+            Some(output) => output,
+            None => unreachable!(),
+        };
+        bound.known();
+        let (_, output) = self.second.process::<OM>(bound)?;
+        Ok((rest, output))
+    }
+
+    ghost lawful = { λ s k. and_then_lawful I.seen F.Output.seen (F.IsOutput s.0) k.1.1 (G.meaning s.1) (G.lawful s.1 k.1.0) I.lawful (F.meaning s.0) (F.lawful s.0 k.0) };
+}
+
+impl<
+    I: Items,
+    F: StreamParser<I, Output: Items> + Drop,
+    G: Parser<F::Output, Output: Viewed, Error = F::Error> + Drop,
+> StreamParser<I> for AndThen<F, G> {
+    ghost use Rattle.nom_internal.specs.BoundedLaws.{and_then_steady};
+
+    ghost pinned = { λ s k p. p };
+
+    ghost steady = { λ s k. and_then_steady I.seen F.Output.seen (F.IsOutput s.0) k.1.1 (G.meaning s.1) (G.lawful s.1 k.1.0) I.lawful (F.meaning s.0) (F.steady s.0 k.0) };
+}

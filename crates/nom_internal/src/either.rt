@@ -1,0 +1,62 @@
+//! One of two parsers.
+ghost use Rattle.std.specs.Prelude.{◌⊎◌};
+ghost use Rattle.nom_internal.specs.Choice.{either_meaning, EitherOutput};
+
+use crate::choice::next_branch;
+use crate::parser::{Parser, StreamParser};
+use nom_error::answer::PResult;
+use nom_error::mode::OutputMode;
+use nom_traits::input::Items;
+
+/// A parser, and where it refuses another one; where both refuse, their errors joined by `or`.
+#[derive(Drop)]
+pub struct Or<F, G> {
+    pub first: F,
+    pub second: G,
+}
+
+impl<
+    I: Items,
+    F: Parser<I> + Drop,
+    G: Parser<I, Output = F::Output, Error = F::Error> + Drop,
+> Parser<I> for Or<F, G> {
+    ghost use Rattle.nom_internal.specs.ChoiceLaws.{either_lawful};
+
+    type Output = F::Output;
+
+    type Error = F::Error;
+
+    ghost State = { F.State × G.State };
+
+    ghost state = { λ p. (F.state p.first, G.state p.second) };
+
+    // The parser that decides, and its tree.
+    ghost Tree = { F.Tree ⊎ G.Tree };
+
+    ghost IsOutput = { λ s. EitherOutput (F.IsOutput s.0) (G.IsOutput s.1) };
+
+    ghost meaning = { λ s. either_meaning F.Error.errors.joined F.Error.errors.grows (F.meaning s.0) (G.meaning s.1) };
+
+    ghost Pins = { λ s. F.Pins s.0 × G.Pins s.1 };
+
+    #[inline(always)]
+    fn process<OM: OutputMode>(&mut self, input: I) -> PResult<I, Self::Output, Self::Error> {
+        let answer = self.first.process::<OM>(input);
+        next_branch::<I, G, OM>(answer, &mut self.second, input)
+    }
+
+    ghost lawful = { λ s k. either_lawful I.seen F.Error.errors.joined F.Error.errors.grows (F.meaning s.0) (G.meaning s.1) (F.lawful s.0 k.0) (G.lawful s.1 k.1) };
+}
+
+impl<
+    I: Items,
+    F: StreamParser<I> + Drop,
+    G: StreamParser<I, Output = F::Output, Error = F::Error> + Drop,
+> StreamParser<I> for Or<F, G> {
+    ghost use Rattle.nom_internal.specs.ChoiceLaws.{either_steady};
+    ghost use Rattle.nom_internal.specs.Pinned.{either_pinned};
+
+    ghost pinned = { λ s k p. either_pinned F.Output.view (F.IsOutput s.0) (G.IsOutput s.1) (F.pinned s.0 k.0 p.0) (G.pinned s.1 k.1 p.1) };
+
+    ghost steady = { λ s k. either_steady I.seen F.Error.errors.joined F.Error.errors.grows (F.meaning s.0) (G.meaning s.1) (F.steady s.0 k.0) (G.steady s.1 k.1) };
+}

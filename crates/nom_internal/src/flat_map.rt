@@ -1,0 +1,68 @@
+//! Parsers that closures give.
+ghost use Rattle.nom_internal.specs.FlatMap.{maker, OfEach, IsGiven, flat_map_meaning};
+
+use crate::parser::{Parser, StreamParser};
+use nom_error::answer::PResult;
+use nom_error::mode::{Emit, OutputM, OutputMode};
+use nom_traits::input::Items;
+
+/// A parser, and on the rest the one that a closure gives for its output.
+#[derive(Drop)]
+pub struct FlatMap<F, G> {
+    pub first: F,
+    pub make: G,
+}
+
+impl<
+    I: Items,
+    F: Parser<I> + Drop,
+    H: Parser<I, Error = F::Error> + Drop,
+    G: Fn(F::Output) -> H + Drop,
+> Parser<I> for FlatMap<F, G> {
+    ghost use Rattle.nom_internal.specs.FlatMapLaws.{flat_map_lawful};
+
+    type Output = H::Output;
+
+    type Error = F::Error;
+
+    ghost State = { F.State × G };
+
+    ghost state = { λ p. (F.state p.first, p.make) };
+
+    // The state of the parser that is given, and its tree.
+    ghost Tree = { H.State × H.Tree };
+
+    ghost IsOutput = { λ s. IsGiven (F.IsOutput s.0) (maker (G.pre s.1) (G.post s.1) H.state) H.IsOutput };
+
+    ghost meaning = { λ s. flat_map_meaning I.seen (F.IsOutput s.0) (maker (G.pre s.1) (G.post s.1) H.state) (F.meaning s.0) H.meaning };
+
+    ghost Pins = { λ s. OfEach (F.IsOutput s.0) (maker (G.pre s.1) (G.post s.1) H.state) H.Pins };
+
+    #[inline(always)]
+    fn process<OM: OutputMode>(&mut self, input: I) -> PResult<I, H::Output, F::Error> {
+        let (rest, output) = self
+            .first
+            .process::<OutputM<Emit, OM::Error, OM::Incomplete>>(input)?;
+        let value = match output {
+            Some(output) => output,
+            None => unreachable!(),
+        };
+        let mut next = (self.make)(value);
+        next.process::<OM>(rest)
+    }
+
+    ghost lawful = { λ s k. flat_map_lawful I.seen (F.IsOutput s.0) (maker (G.pre s.1) (G.post s.1) H.state) H.meaning k.1 H.lawful I.lawful (F.meaning s.0) (F.lawful s.0 k.0) };
+}
+
+impl<
+    I: Items,
+    F: StreamParser<I> + Drop,
+    H: StreamParser<I, Error = F::Error> + Drop,
+    G: Fn(F::Output) -> H + Drop,
+> StreamParser<I> for FlatMap<F, G> {
+    ghost use Rattle.nom_internal.specs.FlatMapLaws.{flat_map_steady, given_pinned};
+
+    ghost pinned = { λ s k p. given_pinned (F.IsOutput s.0) (maker (G.pre s.1) (G.post s.1) H.state) (λ u. (H.meaning u).IsSound) H.Pins H.Output.view H.IsOutput k.1 p H.pinned };
+
+    ghost steady = { λ s k. flat_map_steady I.seen (F.IsOutput s.0) (maker (G.pre s.1) (G.post s.1) H.state) H.meaning k.1 H.steady I.lawful (F.meaning s.0) (F.steady s.0 k.0) };
+}
