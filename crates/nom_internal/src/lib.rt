@@ -1,10 +1,14 @@
 //! Parsers: what they mean, their laws and promises, slices of their inputs, sequences of two, choices,
-//! parsers in one mode, and inputs that grow.
+//! closures on their outputs, parsers in one mode, and inputs that grow.
 #![tactic(auto)]
 
+pub mod built;
 pub mod choice;
 pub mod fixed;
 pub mod growing;
+pub mod into;
+pub mod judged;
+pub mod map;
 pub mod one_mode;
 pub mod parser;
 pub mod promises;
