@@ -1,2 +1,4 @@
-pub mod Verdicts
+pub mod OutputLaws
+pub mod Outputs
 pub mod VerdictLaws
+pub mod Verdicts

@@ -3,6 +3,7 @@ pub mod CaseLaws
 pub mod Cases
 pub mod Choice
 pub mod ChoiceLaws
+pub mod Cloned
 pub mod Closures
 pub mod Families
 pub mod Growing
