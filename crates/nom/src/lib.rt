@@ -19,6 +19,9 @@ pub use nom_error::mode::{
     Check, Complete, Emit, IsStreaming, Mode, OutputM, OutputMode, Streaming,
 };
 pub use nom_internal::growing::{Grown, parse_growing};
+pub use nom_internal::into::Into;
+pub use nom_internal::judged::{MapOpt, MapRes};
+pub use nom_internal::map::Map;
 pub use nom_internal::parser::{Parser, StreamParser};
 pub use nom_internal::promises;
 pub use nom_internal::sequence::And;

@@ -1,0 +1,7 @@
+//! Rows of inputs and what nom answers at them, each row through one call of its parser.
+
+mod closures;
+mod converted;
+mod judged;
+mod modes;
+mod rows;
