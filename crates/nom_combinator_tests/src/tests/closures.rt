@@ -174,17 +174,15 @@ fn a_value_for_each_output(rt: HostRuntime) {
 
 #[test]
 fn a_map_that_grows(rt: HostRuntime) {
-    let input = &b"\x05ab"[..];
-    for (cuts, index) in [(&[0, 1][..], 1), (&[0][..], 1), (&[1, 3][..], 0)] {
-        let less = map_opt(be_u8::<_, At>(), |b: u8| b.checked_sub(4));
-        let grown = parse_growing(less.map(|b: u8| b as u32 + 1), input, cuts);
-        assert!(rt; grown.index == index, "at {cuts:?}");
-        match grown.result {
-            Ok((rest, sum)) => {
-                assert!(rt; rest == b"ab".as_slice());
-                assert!(rt; sum == 2);
-            }
-            _ => panic!(rt; "refused"),
+    let less = map_opt(be_u8::<_, At>(), |b: u8| b.checked_sub(4));
+    let sum = pinned(less.map(|b: u8| b as u32 + 1));
+    let grown = parse_growing(sum, &b"\x05ab"[..], &[0, 1]);
+    assert!(rt; grown.index == 1);
+    match grown.result {
+        Ok((rest, sum)) => {
+            assert!(rt; rest == b"ab".as_slice());
+            assert!(rt; sum == 2);
         }
+        _ => panic!(rt; "refused"),
     }
 }

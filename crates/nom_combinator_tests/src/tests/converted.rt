@@ -40,7 +40,7 @@ impl<'a> From<At<'a>> for Why {
     }
 }
 
-impl<'a> ParseError<&'a [u8]> for Why {
+impl<I: Drop> ParseError<I> for Why {
     ghost errors = { record {
       of_kind = λ _ k e. e.kind ≡ k;
       appended = λ _ _ other e. e ≡ other;
@@ -49,15 +49,15 @@ impl<'a> ParseError<&'a [u8]> for Why {
       grows = ⊥;
     } };
 
-    fn from_error_kind(_input: &'a [u8], kind: ErrorKind) -> Result<Self, OutOfMemory> {
+    fn from_error_kind(_input: I, kind: ErrorKind) -> Result<Self, OutOfMemory> {
         Ok(Why { kind })
     }
 
-    fn append(_input: &'a [u8], _kind: ErrorKind, other: Self) -> Result<Self, OutOfMemory> {
+    fn append(_input: I, _kind: ErrorKind, other: Self) -> Result<Self, OutOfMemory> {
         Ok(other)
     }
 
-    fn from_char(_input: &'a [u8], _wanted: char) -> Result<Self, OutOfMemory> {
+    fn from_char(_input: I, _wanted: char) -> Result<Self, OutOfMemory> {
         Ok(Why {
             kind: ErrorKind::Char,
         })

@@ -10,15 +10,6 @@ use nom::number::be_u8;
 
 type At<'a> = Error<&'a [u8]>;
 
-/// A decimal digit's value, or the byte that is none.
-fn digit(b: u8) -> Result<u8, u8> {
-    if b.is_ascii_digit() {
-        Ok(b - b'0')
-    } else {
-        Err(b)
-    }
-}
-
 #[test]
 fn a_test_of_a_slice(rt: HostRuntime) {
     for (way, input, answer) in [
@@ -73,7 +64,7 @@ fn an_option(rt: HostRuntime) {
 #[test]
 fn a_result(rt: HostRuntime) {
     for (way, input, answer) in [
-        (Way::Streaming, &b"7a"[..], Answer::Accepts(&b"a"[..], 7)),
+        (Way::Streaming, &b"7a"[..], Answer::Accepts(&b"a"[..], b'7')),
         (
             Way::Streaming,
             &b"ab"[..],
@@ -90,7 +81,10 @@ fn a_result(rt: HostRuntime) {
             Answer::Refuses(ErrorKind::Eof, &b""[..]),
         ),
     ] {
-        let value = map_res(be_u8::<_, At>(), digit);
+        let value = map_res(
+            be_u8::<_, At>(),
+            |b: u8| if b < 58 { Ok(b) } else { Err(b) },
+        );
         assert!(rt; answers(pinned(value), way, input, answer), "at {input:?}");
     }
 }
@@ -99,7 +93,7 @@ fn a_result(rt: HostRuntime) {
 #[test]
 fn after_another_part(rt: HostRuntime) {
     for (input, answer) in [
-        (&b"\x0A7"[..], Answer::Accepts(&b""[..], (6, 7))),
+        (&b"\x0A7"[..], Answer::Accepts(&b""[..], (6, b'7'))),
         (
             &b"\x0Aab"[..],
             Answer::Refuses(ErrorKind::MapRes, &b"ab"[..]),
@@ -110,7 +104,7 @@ fn after_another_part(rt: HostRuntime) {
         ),
     ] {
         let less = be_u8::<_, At>().map_opt(|b: u8| b.checked_sub(4));
-        let both = less.and(be_u8().map_res(|b: u8| digit(b)));
+        let both = less.and(be_u8().map_res(|b: u8| if b < 58 { Ok(b) } else { Err(b) }));
         assert!(rt;
             answers(pinned(both), Way::Streaming, input, answer),
             "at {input:?}"
