@@ -1,6 +1,8 @@
-pub mod Verdicts
-pub mod VerdictLaws
-pub mod Conditions
 pub mod ConditionLaws
-pub mod Contexts
+pub mod Conditions
 pub mod ContextLaws
+pub mod Contexts
+pub mod OutputLaws
+pub mod Outputs
+pub mod VerdictLaws
+pub mod Verdicts

@@ -3,9 +3,9 @@ ghost use Rattle.std.specs.Prelude.{Option};
 ghost use Rattle.nom_combinator.specs.Conditions.{state_of, cond_meaning, CondOutput, CondPins};
 ghost use Rattle.nom_combinator.specs.ConditionLaws.{cond_lawful, cond_steady, cond_pinned};
 
-use crate::verdict::built;
 use nom_error::answer::PResult;
 use nom_error::mode::OutputMode;
+use nom_internal::built::built;
 use nom_internal::parser::{Parser, StreamParser};
 use nom_traits::input::Items;
 

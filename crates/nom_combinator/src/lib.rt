@@ -1,22 +1,29 @@
-//! Parsers by what becomes of a part's outcome.
+//! Parsers by what becomes of a part's outcome, or of its output.
 #![tactic(auto)]
 
 ghost use Rattle.std.specs.Prelude.{◌≡◌, Some, None, true, false};
 
 mod condition;
 mod named;
+mod outputs;
 mod piece;
 mod verdict;
 
 pub use crate::condition::Cond;
 pub use crate::named::Context;
+pub use crate::outputs::{Value, Verify};
 pub use crate::piece::{Consumed, Recognize};
 pub use crate::verdict::{Cut, MakeComplete, Not, Opt, Peek};
+use nom_error::outside::FromExternalError;
 use nom_error::value::ParseError;
 use nom_internal::and_then::AndThen;
 use nom_internal::flat_map::FlatMap;
+use nom_internal::into::Into;
+use nom_internal::judged::{MapOpt, MapRes};
+use nom_internal::map::Map;
 use nom_internal::parser::Parser;
 use nom_traits::input::Items;
+use std::marker::PhantomData;
 
 /// A parser whose refusals are failures, after which no other branch is tried.
 #[inline(always)]
@@ -130,5 +137,83 @@ pub fn flat_map<I: Items, F: Parser<I>, H: Parser<I, Error = F::Error>, G: Fn(F:
     FlatMap {
         first: parser,
         make: applied_parser,
+    }
+}
+
+/// A parser with what a closure gives for its output. The closure is called only where outputs are built.
+#[inline(always)]
+pub fn map<I: Items, O: Drop, E: ParseError<I>, F: Parser<I, Error = E>, G: Fn(F::Output) -> O>(
+    parser: F,
+    map: G,
+) -> Map<F, G>
+    ensures parser { result.parser ≡ parser }
+    ensures map { result.map ≡ map }
+{
+    Map { parser, map }
+}
+
+/// A parser with what a closure gives for its output. Where that is `None`, the input is refused at its
+/// start, with `MapOpt`.
+#[inline(always)]
+pub fn map_opt<
+    I: Items,
+    O: Drop,
+    E: ParseError<I>,
+    F: Parser<I, Error = E>,
+    G: Fn(F::Output) -> Option<O>,
+>(parser: F, map: G) -> MapOpt<F, G>
+    ensures parser { result.parser ≡ parser }
+    ensures map { result.map ≡ map }
+{
+    MapOpt { parser, map }
+}
+
+/// A parser with what a closure gives for its output. Where that is an error, the input is refused at its
+/// start, with the error that `from_external_error` makes of it with `MapRes`.
+#[inline(always)]
+pub fn map_res<
+    I: Items,
+    O: Drop,
+    E: ParseError<I> + FromExternalError<I, X>,
+    X: Drop,
+    F: Parser<I, Error = E>,
+    G: Fn(F::Output) -> Result<O, X>,
+>(parser: F, map: G) -> MapRes<F, G>
+    ensures parser { result.parser ≡ parser }
+    ensures map { result.map ≡ map }
+{
+    MapRes { parser, map }
+}
+
+/// A parser whose outputs pass a test. Where one doesn't, the input is refused at its start, with
+/// `Verify`.
+#[inline(always)]
+pub fn verify<I: Items, E: ParseError<I>, F: Parser<I, Error = E>, G: Fn(&F::Output) -> bool>(
+    parser: F,
+    test: G,
+) -> Verify<F, G>
+    ensures parser { result.parser ≡ parser }
+    ensures test { result.test ≡ test }
+{
+    Verify { parser, test }
+}
+
+/// A clone of a value for each output of a parser.
+#[inline(always)]
+pub fn value<O, F>(value: O, parser: F) -> Value<O, F>
+    ensures value { result.value ≡ value }
+    ensures parser { result.parser ≡ parser }
+{
+    Value { value, parser }
+}
+
+/// A parser with its output and its error converted by `From`.
+#[inline(always)]
+pub fn into<F, O, E>(parser: F) -> Into<F, O, E>
+    ensures { result.parser ≡ parser }
+{
+    Into {
+        parser,
+        of: PhantomData,
     }
 }

@@ -1,14 +1,14 @@
 //! The parsers that tell something of a part's outcome.
 ghost use Rattle.std.specs.Prelude.{◌≡◌, Option};
-ghost use Rattle.nom_error.specs.Modes.{Built};
 ghost use Rattle.nom_error.specs.declared.kind.ErrorKind.TheVariants as Kind;
 ghost use Rattle.nom_combinator.specs.Verdicts.{complete_meaning, cut_meaning, OptOutput, opt_meaning, peek_meaning, not_meaning};
 ghost use Rattle.nom_combinator.specs.VerdictLaws.{complete_lawful, cut_lawful, cut_steady, opt_pinned, opt_lawful, opt_steady, peek_lawful, peek_steady, not_lawful, not_steady};
 
 use nom_error::answer::{Err, PResult};
 use nom_error::kind::ErrorKind;
-use nom_error::mode::{Check, Complete, Emit, Mode, OutputM, OutputMode};
+use nom_error::mode::{Check, Complete, Emit, OutputM, OutputMode};
 use nom_error::value::refusal;
+use nom_internal::built::built;
 use nom_internal::parser::{Parser, StreamParser};
 use nom_traits::input::Items;
 
@@ -57,14 +57,6 @@ impl<I: Items, F: StreamParser<I> + Drop> StreamParser<I> for Cut<F> {
     ghost pinned = { F.pinned };
 
     ghost steady = { λ s k. cut_steady I.seen (F.meaning s) (F.steady s k) };
-}
-
-/// A value, where values are built.
-#[inline(always)]
-pub(crate) fn built<M: Mode, T: Drop>(value: T) -> Option<T>
-    ensures { Built M.BUILDS (λ x. x ≡ value) result }
-{
-    if M::BUILDS { Some(value) } else { None }
 }
 
 /// A parser, or nothing where it refuses; made by `opt`.

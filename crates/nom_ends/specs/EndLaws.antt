@@ -8,11 +8,26 @@ use Rattle.nom_traits.specs.View.{View}
 use Rattle.nom_internal.specs.Meaning.{IsLawful, IsSteady}
 use Rattle.nom_internal.specs.Leaf.{LeafLaws, leaf_lawful, leaf_steady}
 use Rattle.nom_internal.specs.Pinned.{IsPinned}
-use Rattle.nom_ends.specs.Ends.{fail_leaf, fail_meaning}
+use Rattle.nom_internal.specs.Success.{success_lawful}
+use Rattle.nom_ends.specs.Ends.{clone_meaning, fail_leaf, fail_meaning}
 
 -- one value, by any view
 pub same_pinned : {O : Type 0} (view : View O) → IsPinned view (λ t o. o ≡ t)
 same_pinned view t a b p q = ap view.value (p ∙ sym q)
+
+-- a clone of a value
+pub clone_lawful : {I A V : Type 0} (E : Type 0) (w : Seen I A) (v : V) (IsSure : Type 0) → IsLawful w (clone_meaning {E = E} v IsSure)
+clone_lawful E w v IsSure =
+    let l = success_lawful E w v in
+    record {
+      within = l.within;
+      one_outcome = l.one_outcome;
+      alike = l.alike;
+      frugal = λ mode i h g r. r.1 (g r.0);
+      settles = l.settles;
+      blames_alike = l.blames_alike;
+      never_fails = l.never_fails;
+    }
 
 fail_laws : {I A V : Type 0} (w : Seen I A) → LeafLaws w (fail_leaf {I = I} {V = V})
 fail_laws w = record {

@@ -1,5 +1,5 @@
 -- Parsers that look at no item, and those of all that is left.
-use Rattle.std.specs.Prelude.{◌≡◌, ℕ, false, []}
+use Rattle.std.specs.Prelude.{◌≡◌, ℕ, true, false, []}
 use Rattle.nom_error.specs.Modes.{with_outputs}
 use Rattle.nom_error.specs.declared.kind.ErrorKind.TheVariants as Kind
 use Rattle.nom_error.specs.Errors.{Errors}
@@ -8,6 +8,15 @@ use Rattle.nom_traits.specs.Slices.{Slice}
 use Rattle.nom_internal.specs.Meaning.{Meaning}
 use Rattle.nom_internal.specs.Leaf.{Leaf, leaf_meaning}
 use Rattle.nom_internal.specs.Sequence.{sequence_meaning}
+use Rattle.nom_internal.specs.Success.{success_meaning}
+
+-- Nothing is consumed, and a value is given, of which a clone is made where outputs are built; that may take memory, where it
+-- isn't sure to be there.
+abbrev pub clone_meaning : {I V E : Type 0} → V → Type 0 → Meaning I V E
+clone_meaning v IsSure = record (success_meaning v) {
+  runs_out = λ mode i. (mode.outputs ≡ true) × ¬ IsSure;
+  IsFrugal = λ mode. mode.outputs ≡ true → IsSure;
+}
 
 -- every input is refused
 abbrev pub fail_leaf : {I V : Type 0} → Leaf I V

@@ -1,35 +1,28 @@
 //! Parsers whose answer is fixed, whatever the input.
 ghost use Rattle.std.specs.Prelude.{◌≡◌};
-ghost use Rattle.nom_error.specs.Modes.{Built};
-ghost use Rattle.nom_internal.specs.Success.{success_lawful, success_meaning, success_steady};
-ghost use Rattle.nom_ends.specs.Ends.{fail_meaning};
-ghost use Rattle.nom_ends.specs.EndLaws.{fail_lawful, fail_steady, same_pinned};
+ghost use Rattle.nom_internal.specs.Cloned.{ClonesEqual, clones_alike};
+ghost use Rattle.nom_internal.specs.Success.{success_steady};
+ghost use Rattle.nom_ends.specs.Ends.{clone_meaning, fail_meaning};
+ghost use Rattle.nom_ends.specs.EndLaws.{clone_lawful, fail_lawful, fail_steady, same_pinned};
 
-use nom_error::answer::PResult;
+use nom_error::answer::{Err, PResult};
 use nom_error::kind::ErrorKind;
-use nom_error::mode::{Mode, OutputMode};
+use nom_error::mode::OutputMode;
 use nom_error::value::{ParseError, refusal};
+use nom_internal::built::cloned;
 use nom_internal::parser::{Parser, StreamParser};
 use nom_traits::input::Items;
 use nom_traits::view::Viewed;
 use std::marker::PhantomData;
 
-/// A value, where values are built.
-#[inline(always)]
-pub(crate) fn given<M: Mode, O: Copy>(value: O) -> Option<O>
-    ensures { Built M.BUILDS (λ o. o ≡ value) result }
-{
-    if M::BUILDS { Some(value) } else { None }
-}
-
-/// A value that is given at once, made by `success`.
+/// A value of which a clone is given at once; made by `success`.
 #[derive(Drop)]
 pub struct Success<O, I, E> {
     pub value: O,
     pub of: PhantomData<(I, E)>,
 }
 
-impl<I: Items, O: Copy, E: ParseError<I>> Parser<I> for Success<O, I, E> {
+impl<I: Items, O: Clone, E: ParseError<I>> Parser<I> for Success<O, I, E> {
     type Output = O;
 
     type Error = E;
@@ -40,23 +33,27 @@ impl<I: Items, O: Copy, E: ParseError<I>> Parser<I> for Success<O, I, E> {
 
     ghost Tree = { O };
 
-    ghost IsOutput = { λ _ t o. o ≡ t };
+    // a clone of the value
+    ghost IsOutput = { λ value _. O.is_clone value };
 
-    ghost meaning = { λ value. success_meaning value };
+    ghost meaning = { λ value. clone_meaning value (O.is_infallible value) };
 
-    ghost Pins = { λ _. Unit {0} };
+    ghost Pins = { ClonesEqual O.is_clone };
 
     #[inline(always)]
     fn process<OM: OutputMode>(&mut self, input: I) -> PResult<I, O, E> {
         input.known();
-        Ok((input, given::<OM::Output, O>(self.value)))
+        match cloned::<OM::Output, O>(&self.value) {
+            Ok(output) => Ok((input, output)),
+            Err(_) => Err(Err::OutOfMemory),
+        }
     }
 
-    ghost lawful = { λ value k. success_lawful E I.seen value };
+    ghost lawful = { λ value k. clone_lawful E I.seen value (O.is_infallible value) };
 }
 
-impl<I: Items, O: Copy + Viewed, E: ParseError<I>> StreamParser<I> for Success<O, I, E> {
-    ghost pinned = { λ s k p. same_pinned O.view };
+impl<I: Items, O: Clone + Viewed, E: ParseError<I>> StreamParser<I> for Success<O, I, E> {
+    ghost pinned = { λ value k p t. clones_alike O.view O.is_clone value p };
 
     ghost steady = { λ value k. success_steady E I.seen value };
 }

@@ -4,11 +4,11 @@ ghost use Rattle.nom_traits.specs.Slices.{Slice, IsSeenAs};
 ghost use Rattle.nom_ends.specs.Ends.{eof_meaning, rest_meaning, rest_len_meaning};
 ghost use Rattle.nom_ends.specs.AllLaws.{eof_lawful, rest_lawful, rest_len_lawful};
 
-use crate::fixed::given;
 use nom_error::answer::PResult;
 use nom_error::kind::ErrorKind;
 use nom_error::mode::OutputMode;
 use nom_error::value::{ParseError, refusal};
+use nom_internal::built::built;
 use nom_internal::parser::Parser;
 use nom_traits::input::Input;
 use std::marker::PhantomData;
@@ -48,7 +48,7 @@ impl<I: Input, E: ParseError<I>> Parser<I> for Eof<I, E> {
     fn process<OM: OutputMode>(&mut self, input: I) -> PResult<I, I, E> {
         if input.input_len() == 0 {
             input.known();
-            Ok((input, given::<OM::Output, I>(input)))
+            Ok((input, built::<OM::Output, I>(input)))
         } else {
             Err(refusal::<OM::Error, I, E>(input, ErrorKind::Eof))
         }
@@ -92,7 +92,7 @@ impl<I: Input, E: ParseError<I>> Parser<I> for Rest<I, E> {
     fn process<OM: OutputMode>(&mut self, input: I) -> PResult<I, I, E> {
         Ok((
             input.take_from(input.input_len()),
-            given::<OM::Output, I>(input),
+            built::<OM::Output, I>(input),
         ))
     }
 
@@ -133,7 +133,7 @@ impl<I: Input, E: ParseError<I>> Parser<I> for RestLen<I, E> {
     #[inline(always)]
     fn process<OM: OutputMode>(&mut self, input: I) -> PResult<I, usize, E> {
         input.known();
-        Ok((input, given::<OM::Output, usize>(input.input_len())))
+        Ok((input, built::<OM::Output, usize>(input.input_len())))
     }
 
     ghost lawful = { λ _ k. rest_len_lawful I.seen E };

@@ -19,7 +19,7 @@ use nom_internal::parser::Parser;
 use nom_traits::input::Input;
 use std::marker::PhantomData;
 
-/// Accepts at once, consumes nothing, and gives the value.
+/// Accepts at once, consumes nothing, and gives a clone of the value.
 #[inline(always)]
 pub fn success<I, O, E>(value: O) -> Success<O, I, E>
     ensures { result.value ≡ value }

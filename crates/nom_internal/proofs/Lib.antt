@@ -4,4 +4,6 @@ pub mod Choices
 pub mod Consumed
 pub mod Given
 pub mod Grown
+pub mod Judges
+pub mod Maps
 pub mod Shown

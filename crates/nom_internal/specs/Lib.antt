@@ -5,11 +5,17 @@ pub mod CaseLaws
 pub mod Cases
 pub mod Choice
 pub mod ChoiceLaws
+pub mod Cloned
+pub mod Closures
 pub mod Families
 pub mod FlatMap
 pub mod FlatMapLaws
 pub mod Growing
+pub mod Judged
+pub mod JudgedLaws
 pub mod Leaf
+pub mod Mapped
+pub mod MappedLaws
 pub mod Meaning
 pub mod Outcome
 pub mod PartLaws

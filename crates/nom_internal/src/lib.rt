@@ -1,13 +1,18 @@
 //! Parsers: what they mean, their laws and promises, slices of their inputs, sequences of two, choices,
-//! parsers on what another one gives, parsers that closures give, parsers in one mode, and inputs that grow.
+//! closures on their outputs, parsers on what another one gives, parsers that closures give, parsers in one
+//! mode, and inputs that grow.
 #![tactic(auto)]
 
 pub mod and_then;
+pub mod built;
 pub mod choice;
 pub mod either;
 pub mod fixed;
 pub mod flat_map;
 pub mod growing;
+pub mod into;
+pub mod judged;
+pub mod map;
 pub mod one_mode;
 pub mod parser;
 pub mod promises;

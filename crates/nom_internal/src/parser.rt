@@ -8,12 +8,17 @@ ghost use Rattle.nom_internal.specs.Results.{IsFull, HoldsSame};
 use crate::and_then::AndThen;
 use crate::either::Or;
 use crate::flat_map::FlatMap;
+use crate::into::Into;
+use crate::judged::{MapOpt, MapRes};
+use crate::map::Map;
 use crate::sequence::And;
 use nom_error::answer::{Err, IResult, PResult};
 use nom_error::mode::{Complete, Emit, IsStreaming, Mode, OutputM, OutputMode, Streaming};
+use nom_error::outside::FromExternalError;
 use nom_error::value::ParseError;
 use nom_traits::input::Items;
 use nom_traits::view::Viewed;
+use std::marker::PhantomData;
 
 /// A parser over inputs of type `I`: it means one fixed function from a mode, streaming or complete,
 /// and an input to an outcome, and `process` shows that outcome.
@@ -128,6 +133,52 @@ pub trait Parser<I: Items>: Sized {
         AndThen {
             first: self,
             second: next,
+        }
+    }
+
+    /// This parser, with what a closure gives for its output. The closure is called only where outputs are
+    /// built.
+    #[inline(always)]
+    final fn map<O: Drop, G: Fn(Self::Output) -> O>(self, map: G) -> Map<Self, G>
+        ensures parser { result.parser ≡ self }
+        ensures map { result.map ≡ map }
+    {
+        Map { parser: self, map }
+    }
+
+    /// This parser, with what a closure gives for its output. Where that is `None`, the input is refused at
+    /// its start, with `MapOpt`.
+    #[inline(always)]
+    final fn map_opt<O: Drop, G: Fn(Self::Output) -> Option<O>>(self, map: G) -> MapOpt<Self, G>
+        ensures parser { result.parser ≡ self }
+        ensures map { result.map ≡ map }
+    {
+        MapOpt { parser: self, map }
+    }
+
+    /// This parser, with what a closure gives for its output. Where that is an error, the input is refused
+    /// at its start, with the error that `from_external_error` makes of it with `MapRes`.
+    #[inline(always)]
+    final fn map_res<O: Drop, X: Drop, G: Fn(Self::Output) -> Result<O, X>>(
+        self,
+        map: G,
+    ) -> MapRes<Self, G>
+    where
+        Self::Error: FromExternalError<I, X>,
+        ensures parser { result.parser ≡ self }
+        ensures map { result.map ≡ map }
+    {
+        MapRes { parser: self, map }
+    }
+
+    /// This parser, with its output and its error converted by `From`.
+    #[inline(always)]
+    final fn into<O: From<Self::Output>, E: From<Self::Error>>(self) -> Into<Self, O, E>
+        ensures { result.parser ≡ self }
+    {
+        Into {
+            parser: self,
+            of: PhantomData,
         }
     }
 }

@@ -1,0 +1,30 @@
+-- A value in the place of what a part accepts.
+use Rattle.std.specs.Prelude.{◌≡◌, ℕ, true}
+use Rattle.nom_internal.specs.Outcome.{Outcome}
+use Rattle.nom_internal.specs.Outcome.Outcome.{Accept}
+use Rattle.nom_internal.specs.Meaning.{Meaning}
+use Rattle.nom_internal.specs.Cases.{Case, case_meaning, Passes}
+use Rattle.nom_internal.specs.Cases.PartMode.{AsAsked}
+use Rattle.nom_combinator.specs.Verdicts.{OnAccepted}
+
+-- an acceptance, with the value in place of the part's tree
+abbrev pub GivesValue : {P T : Type 0} → T → ℕ → P → Outcome T → Type 0
+GivesValue v n u o = o ≡ Accept n v
+
+-- A part whose acceptances give a value, of which a clone is made where outputs are built; that may take memory, where it
+-- isn't sure to be there.
+abbrev pub value_case : {I P T E : Type 0} → T → Type 0 → Case I I P T E E
+value_case v IsSure = record {
+  At = λ i j. i ≡ j;
+  mode = AsAsked;
+  Becomes = λ i. Passes (GivesValue v);
+  Blames = λ i a Part. Part;
+  part = λ mode. mode;
+  Asks = λ mode i. OnAccepted ((mode.outputs ≡ true) × ¬ IsSure);
+  IsSound = λ Part. Part;
+  IsFrugal = λ Part mode. Part mode × (mode.outputs ≡ true → IsSure);
+  NeverFails = λ Part. Part;
+}
+
+abbrev pub value_meaning : {I P T E : Type 0} → T → Type 0 → Meaning I P E → Meaning I T E
+value_meaning v IsSure = case_meaning (value_case v IsSure)

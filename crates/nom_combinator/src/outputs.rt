@@ -1,0 +1,114 @@
+//! Parsers whose outputs are tested, or replaced.
+ghost use Rattle.std.specs.Prelude.{◌≡◌, true};
+ghost use Rattle.std.specs.Borrow.{Bor};
+ghost use Rattle.std.specs.Fn.{FnReturnsAt};
+ghost use Rattle.nom_error.specs.declared.kind.ErrorKind.TheVariants as Kind;
+ghost use Rattle.nom_internal.specs.Cloned.{ClonesEqual, clones_alike};
+ghost use Rattle.nom_internal.specs.Judged.{judged_meaning};
+ghost use Rattle.nom_internal.specs.JudgedLaws.{judged_lawful, judged_steady};
+ghost use Rattle.nom_combinator.specs.Outputs.{value_meaning};
+ghost use Rattle.nom_combinator.specs.OutputLaws.{value_lawful, value_steady};
+
+use nom_error::answer::{Err, PResult};
+use nom_error::kind::ErrorKind;
+use nom_error::mode::{Emit, OutputM, OutputMode};
+use nom_error::value::refusal;
+use nom_internal::built::{built, cloned};
+use nom_internal::parser::{Parser, StreamParser};
+use nom_traits::input::Items;
+use nom_traits::view::Viewed;
+
+/// A parser whose outputs pass a test; made by `verify`. Its outputs are always built, since the test
+/// judges them.
+#[derive(Drop)]
+pub struct Verify<F, G> {
+    pub parser: F,
+    pub test: G,
+}
+
+impl<I: Items, F: Parser<I> + Drop, G: Fn(&F::Output) -> bool> Parser<I> for Verify<F, G> {
+    type Output = F::Output;
+
+    type Error = F::Error;
+
+    ghost State = { F.State × G };
+
+    ghost state = { λ p. (F.state p.parser, p.test) };
+
+    ghost Tree = { F.Tree };
+
+    ghost IsOutput = { λ s t o. F.IsOutput s.0 t o × FnReturnsAt G.Fn s.1 o true };
+
+    ghost meaning = { λ s. judged_meaning (F.IsOutput s.0) (λ o. (p : Bor F.Output) → p.now ≡ o → G.pre s.1 p) (FnReturnsAt G.Fn s.1) (λ b. b) (λ i _. F.Error.errors.of_kind i Kind.Verify) F.Error.errors.grows (F.meaning s.0) };
+
+    ghost Pins = { λ s. F.Pins s.0 };
+
+    #[inline(always)]
+    fn process<OM: OutputMode>(&mut self, input: I) -> PResult<I, F::Output, F::Error> {
+        let (rest, output) = self
+            .parser
+            .process::<OutputM<Emit, OM::Error, OM::Incomplete>>(input)?;
+        let output = match output {
+            Some(output) => output,
+            None => unreachable!(),
+        };
+        if (self.test)(&output) {
+            Ok((rest, built::<OM::Output, F::Output>(output)))
+        } else {
+            Err(refusal::<OM::Error, I, F::Error>(input, ErrorKind::Verify))
+        }
+    }
+
+    ghost lawful = { λ s k. judged_lawful I.seen (F.IsOutput s.0) (λ o. (p : Bor F.Output) → p.now ≡ o → G.pre s.1 p) (FnReturnsAt G.Fn s.1) (λ b. b) (λ i _. F.Error.errors.of_kind i Kind.Verify) F.Error.errors.grows (F.meaning s.0) k.1 (F.lawful s.0 k.0) };
+}
+
+impl<I: Items, F: StreamParser<I> + Drop, G: Fn(&F::Output) -> bool> StreamParser<I>
+    for Verify<F, G> {
+    ghost pinned = { λ s k p t a b g h. F.pinned s.0 k.0 p t a b g.0 h.0 };
+
+    ghost steady = { λ s k. judged_steady I.seen (F.IsOutput s.0) (λ o. (p : Bor F.Output) → p.now ≡ o → G.pre s.1 p) (FnReturnsAt G.Fn s.1) (λ b. b) (λ i _. F.Error.errors.of_kind i Kind.Verify) F.Error.errors.grows (F.meaning s.0) k.1 (F.steady s.0 k.0) };
+}
+
+/// A value in the place of what a parser accepts; made by `value`. A clone of it is made where outputs
+/// are built; the parser's own are dropped.
+#[derive(Drop)]
+pub struct Value<O, F> {
+    pub value: O,
+    pub parser: F,
+}
+
+impl<I: Items, O: Clone, F: Parser<I> + Drop> Parser<I> for Value<O, F> {
+    type Output = O;
+
+    type Error = F::Error;
+
+    ghost State = { O × F.State };
+
+    ghost state = { λ p. (p.value, F.state p.parser) };
+
+    ghost Tree = { O };
+
+    // a clone of the value
+    ghost IsOutput = { λ s _. O.is_clone s.0 };
+
+    ghost meaning = { λ s. value_meaning s.0 (O.is_infallible s.0) (F.meaning s.1) };
+
+    ghost Pins = { λ s. ClonesEqual O.is_clone s.0 };
+
+    #[inline(always)]
+    fn process<OM: OutputMode>(&mut self, input: I) -> PResult<I, O, F::Error> {
+        let (rest, _) = self.parser.process::<OM>(input)?;
+        match cloned::<OM::Output, O>(&self.value) {
+            Ok(output) => Ok((rest, output)),
+            Err(_) => Err(Err::OutOfMemory),
+        }
+    }
+
+    ghost lawful = { λ s k. value_lawful I.seen s.0 (O.is_infallible s.0) (F.meaning s.1) (F.lawful s.1 k) };
+}
+
+impl<I: Items, O: Clone + Viewed, F: StreamParser<I> + Drop> StreamParser<I> for Value<O, F> {
+    ghost pinned = { λ s k p t. clones_alike O.view O.is_clone s.0 p };
+
+    ghost steady = { λ s k. value_steady I.seen s.0 (O.is_infallible s.0) (F.meaning s.1) (F.steady s.1 k) };
+}

@@ -1,0 +1,29 @@
+//! Values that are built only where a mode asks for them.
+ghost use Rattle.std.specs.Prelude.{◌≡◌, true, MatchResult};
+ghost use Rattle.nom_error.specs.Modes.{Built};
+
+use nom_error::answer::OutOfMemory;
+use nom_error::mode::Mode;
+
+/// A value, where values are built.
+#[inline(always)]
+pub fn built<M: Mode, T: Drop>(value: T) -> Option<T>
+    ensures { Built M.BUILDS (λ x. x ≡ value) result }
+{
+    if M::BUILDS { Some(value) } else { None }
+}
+
+/// A clone of a value, where values are built.
+#[inline(always)]
+pub fn cloned<M: Mode, T: Clone>(value: &T) -> Result<Option<T>, OutOfMemory>
+    ensures { MatchResult result (Built M.BUILDS (T.is_clone value.now)) (λ _. (M.BUILDS ≡ true) × ¬ (T.is_infallible value.now)) }
+{
+    if M::BUILDS {
+        match value.clone() {
+            Ok(clone) => Ok(Some(clone)),
+            Err(_) => Err(OutOfMemory),
+        }
+    } else {
+        Ok(None)
+    }
+}

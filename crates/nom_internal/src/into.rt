@@ -1,0 +1,94 @@
+//! A parser whose outputs and errors are converted.
+ghost use Rattle.nom_internal.specs.Closures.{GivesFor, SeesAlike};
+ghost use Rattle.nom_internal.specs.Mapped.{into_meaning, ConvertsSome, ConvertsResult};
+ghost use Rattle.nom_internal.specs.MappedLaws.{given_pinned, into_lawful, into_steady};
+
+use crate::parser::{Parser, StreamParser};
+use nom_error::answer::{Err, PResult};
+use nom_error::mode::OutputMode;
+use nom_error::value::ParseError;
+use nom_traits::input::Items;
+use nom_traits::view::Viewed;
+use std::marker::PhantomData;
+
+/// A parser whose outputs are converted to `O`, and whose errors to `E`, each by `From`; made by `into`.
+/// An output is converted only where outputs are built, and a refusal's error only where errors are.
+#[derive(Drop)]
+pub struct Into<F, O, E> {
+    pub parser: F,
+    pub of: PhantomData<(O, E)>,
+}
+
+/// A value, converted where it is there.
+#[inline(always)]
+fn converted<T: Drop, U: From<T>>(value: Option<T>) -> Option<U>
+    ensures { ConvertsSome U.from_gives value result }
+{
+    match value {
+        Some(value) => Some(U::from(value)),
+        None => None,
+    }
+}
+
+/// An answer, with its output and its error converted.
+#[inline(always)]
+fn converted_answer<I, T: Drop, U: From<T>, E: Drop, F: From<E>>(
+    answer: PResult<I, T, E>,
+) -> PResult<I, U, F>
+    ensures { ConvertsResult U.from_gives F.from_gives answer result }
+{
+    match answer {
+        Ok(accepted) => {
+            let (rest, output) = accepted;
+            Ok((rest, converted::<T, U>(output)))
+        }
+        Err(Err::Incomplete(needed)) => Err(Err::Incomplete(needed)),
+        Err(Err::Error(error)) => Err(Err::Error(converted::<E, F>(error))),
+        Err(Err::Failure(error)) => Err(Err::Failure(F::from(error))),
+        Err(Err::OutOfMemory) => Err(Err::OutOfMemory),
+    }
+}
+
+impl<
+    I: Items,
+    F: Parser<I> + Drop,
+    O: From<F::Output> + Viewed + Drop,
+    E: From<F::Error> + ParseError<I>,
+> Parser<I> for Into<F, O, E>
+where
+    F::Output: Viewed,
+{
+    type Output = O;
+
+    type Error = E;
+
+    ghost State = { F.State };
+
+    ghost state = { λ p. F.state p.parser };
+
+    ghost Tree = { F.Tree };
+
+    ghost IsOutput = { λ s. GivesFor (F.IsOutput s) O.from_gives };
+
+    ghost meaning = { λ s. into_meaning E.from_gives (F.meaning s) };
+
+    ghost Pins = { λ s. F.Pins s × SeesAlike F.Output.view O.view O.from_gives };
+
+    #[inline(always)]
+    fn process<OM: OutputMode>(&mut self, input: I) -> PResult<I, O, E> {
+        converted_answer(self.parser.process::<OM>(input))
+    }
+
+    ghost lawful = { λ s k. into_lawful I.seen E.from_gives (F.meaning s) (F.lawful s k) };
+}
+
+impl<
+    I: Items,
+    F: StreamParser<I> + Drop,
+    O: From<F::Output> + Viewed + Drop,
+    E: From<F::Error> + ParseError<I>,
+> StreamParser<I> for Into<F, O, E> {
+    ghost pinned = { λ s k p. given_pinned F.Output.view O.view (F.IsOutput s) O.from_gives (F.pinned s k p.0) p.1 };
+
+    ghost steady = { λ s k. into_steady I.seen E.from_gives (F.meaning s) (F.steady s k) };
+}

@@ -1,0 +1,167 @@
+//! Parsers whose acceptances a closure judges by what it makes of the output.
+ghost use Rattle.std.specs.Prelude.{Some, Ok, is_some, is_ok};
+ghost use Rattle.nom_error.specs.Answers.{Refuses};
+ghost use Rattle.nom_error.specs.declared.kind.ErrorKind.TheVariants as Kind;
+ghost use Rattle.nom_internal.specs.Closures.{GivesFor, SeesAlike};
+ghost use Rattle.nom_internal.specs.Judged.{judged_meaning, OfError};
+ghost use Rattle.nom_internal.specs.JudgedLaws.{judged_lawful, judged_steady};
+ghost use Rattle.nom_internal.specs.MappedLaws.{given_pinned};
+
+use crate::built::built;
+use crate::parser::{Parser, StreamParser};
+use nom_error::answer::{Err, PResult};
+use nom_error::kind::ErrorKind;
+use nom_error::mode::{Emit, Mode, OutputM, OutputMode};
+use nom_error::outside::FromExternalError;
+use nom_error::value::refusal;
+use nom_traits::input::Items;
+use nom_traits::view::Viewed;
+
+/// A parser whose outputs a closure maps, or refuses; made by `map_opt`. The parser's outputs are always
+/// built, since the closure judges them.
+#[derive(Drop)]
+pub struct MapOpt<F, G> {
+    pub parser: F,
+    pub map: G,
+}
+
+impl<I: Items, F: Parser<I> + Drop, O: Viewed + Drop, G: Fn(F::Output) -> Option<O>> Parser<I>
+    for MapOpt<F, G>
+where
+    F::Output: Viewed,
+{
+    type Output = O;
+
+    type Error = F::Error;
+
+    ghost State = { F.State × G };
+
+    ghost state = { λ p. (F.state p.parser, p.map) };
+
+    ghost Tree = { F.Tree };
+
+    ghost IsOutput = { λ s. GivesFor (F.IsOutput s.0) (λ a o. G.post s.1 a (Some o)) };
+
+    ghost meaning = { λ s. judged_meaning (F.IsOutput s.0) (G.pre s.1) (G.post s.1) is_some (λ i _. F.Error.errors.of_kind i Kind.MapOpt) F.Error.errors.grows (F.meaning s.0) };
+
+    ghost Pins = { λ s. F.Pins s.0 × SeesAlike F.Output.view O.view (λ a o. G.post s.1 a (Some o)) };
+
+    #[inline(always)]
+    fn process<OM: OutputMode>(&mut self, input: I) -> PResult<I, O, F::Error> {
+        let (rest, output) = self
+            .parser
+            .process::<OutputM<Emit, OM::Error, OM::Incomplete>>(input)?;
+        let output = match output {
+            Some(output) => output,
+            None => unreachable!(),
+        };
+        match (self.map)(output) {
+            Some(mapped) => Ok((rest, built::<OM::Output, O>(mapped))),
+            None => Err(refusal::<OM::Error, I, F::Error>(input, ErrorKind::MapOpt)),
+        }
+    }
+
+    ghost lawful = { λ s k. judged_lawful I.seen (F.IsOutput s.0) (G.pre s.1) (G.post s.1) is_some (λ i _. F.Error.errors.of_kind i Kind.MapOpt) F.Error.errors.grows (F.meaning s.0) k.1 (F.lawful s.0 k.0) };
+}
+
+impl<
+    I: Items,
+    F: StreamParser<I> + Drop,
+    O: Viewed + Drop,
+    G: Fn(F::Output) -> Option<O>,
+> StreamParser<I> for MapOpt<F, G> {
+    ghost pinned = { λ s k p. given_pinned F.Output.view O.view (F.IsOutput s.0) (λ a o. G.post s.1 a (Some o)) (F.pinned s.0 k.0 p.0) p.1 };
+
+    ghost steady = { λ s k. judged_steady I.seen (F.IsOutput s.0) (G.pre s.1) (G.post s.1) is_some (λ i _. F.Error.errors.of_kind i Kind.MapOpt) F.Error.errors.grows (F.meaning s.0) k.1 (F.steady s.0 k.0) };
+}
+
+/// A refusal with an error that is made of another, where errors are built.
+#[inline(always)]
+fn outside_refusal<M: Mode, I: Drop, X: Drop, E: FromExternalError<I, X> + Drop>(
+    input: I,
+    kind: ErrorKind,
+    error: X,
+) -> Err<E, Option<E>>
+    ensures { Refuses (E.externals.of_external input kind error) E.externals.grows M.BUILDS result }
+{
+    if M::BUILDS {
+        match E::from_external_error(input, kind, error) {
+            Ok(made) => Err::Error(Some(made)),
+            Err(_) => Err::OutOfMemory,
+        }
+    } else {
+        Err::Error(None)
+    }
+}
+
+/// A parser whose outputs a closure maps, or refuses with an error; made by `map_res`. The parser's
+/// outputs are always built, since the closure judges them.
+#[derive(Drop)]
+pub struct MapRes<F, G> {
+    pub parser: F,
+    pub map: G,
+}
+
+impl<
+    I: Items,
+    X: Drop,
+    F: Parser<I> + Drop,
+    O: Viewed + Drop,
+    G: Fn(F::Output) -> Result<O, X>,
+> Parser<I> for MapRes<F, G>
+where
+    F::Output: Viewed,
+    F::Error: FromExternalError<I, X>,
+{
+    type Output = O;
+
+    type Error = F::Error;
+
+    ghost State = { F.State × G };
+
+    ghost state = { λ p. (F.state p.parser, p.map) };
+
+    ghost Tree = { F.Tree };
+
+    ghost IsOutput = { λ s. GivesFor (F.IsOutput s.0) (λ a o. G.post s.1 a (Ok o)) };
+
+    ghost meaning = { λ s. judged_meaning (F.IsOutput s.0) (G.pre s.1) (G.post s.1) is_ok (λ i. OfError (F.Error.externals.of_external i Kind.MapRes)) F.Error.externals.grows (F.meaning s.0) };
+
+    ghost Pins = { λ s. F.Pins s.0 × SeesAlike F.Output.view O.view (λ a o. G.post s.1 a (Ok o)) };
+
+    #[inline(always)]
+    fn process<OM: OutputMode>(&mut self, input: I) -> PResult<I, O, F::Error> {
+        let (rest, output) = self
+            .parser
+            .process::<OutputM<Emit, OM::Error, OM::Incomplete>>(input)?;
+        let output = match output {
+            Some(output) => output,
+            None => unreachable!(),
+        };
+        match (self.map)(output) {
+            Ok(mapped) => Ok((rest, built::<OM::Output, O>(mapped))),
+            Err(error) => Err(outside_refusal::<OM::Error, I, X, F::Error>(
+                input,
+                ErrorKind::MapRes,
+                error,
+            )),
+        }
+    }
+
+    ghost lawful = { λ s k. judged_lawful I.seen (F.IsOutput s.0) (G.pre s.1) (G.post s.1) is_ok (λ i. OfError (F.Error.externals.of_external i Kind.MapRes)) F.Error.externals.grows (F.meaning s.0) k.1 (F.lawful s.0 k.0) };
+}
+
+impl<
+    I: Items,
+    X: Drop,
+    F: StreamParser<I> + Drop,
+    O: Viewed + Drop,
+    G: Fn(F::Output) -> Result<O, X>,
+> StreamParser<I> for MapRes<F, G>
+where
+    F::Error: FromExternalError<I, X>,
+{
+    ghost pinned = { λ s k p. given_pinned F.Output.view O.view (F.IsOutput s.0) (λ a o. G.post s.1 a (Ok o)) (F.pinned s.0 k.0 p.0) p.1 };
+
+    ghost steady = { λ s k. judged_steady I.seen (F.IsOutput s.0) (G.pre s.1) (G.post s.1) is_ok (λ i. OfError (F.Error.externals.of_external i Kind.MapRes)) F.Error.externals.grows (F.meaning s.0) k.1 (F.steady s.0 k.0) };
+}

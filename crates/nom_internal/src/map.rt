@@ -1,0 +1,57 @@
+//! A parser whose outputs a closure maps.
+ghost use Rattle.nom_internal.specs.Closures.{GivesFor, SeesAlike};
+ghost use Rattle.nom_internal.specs.Mapped.{map_meaning};
+ghost use Rattle.nom_internal.specs.MappedLaws.{given_pinned, map_lawful, map_steady};
+
+use crate::parser::{Parser, StreamParser};
+use nom_error::answer::PResult;
+use nom_error::mode::OutputMode;
+use nom_traits::input::Items;
+use nom_traits::view::Viewed;
+
+/// A parser whose outputs a closure maps; made by `map`. The closure is called only where outputs are
+/// built.
+#[derive(Drop)]
+pub struct Map<F, G> {
+    pub parser: F,
+    pub map: G,
+}
+
+impl<I: Items, F: Parser<I> + Drop, O: Viewed + Drop, G: Fn(F::Output) -> O> Parser<I> for Map<F, G>
+where
+    F::Output: Viewed,
+{
+    type Output = O;
+
+    type Error = F::Error;
+
+    ghost State = { F.State × G };
+
+    ghost state = { λ p. (F.state p.parser, p.map) };
+
+    ghost Tree = { F.Tree };
+
+    ghost IsOutput = { λ s. GivesFor (F.IsOutput s.0) (G.post s.1) };
+
+    ghost meaning = { λ s. map_meaning (F.IsOutput s.0) (G.pre s.1) (F.meaning s.0) };
+
+    ghost Pins = { λ s. F.Pins s.0 × SeesAlike F.Output.view O.view (G.post s.1) };
+
+    #[inline(always)]
+    fn process<OM: OutputMode>(&mut self, input: I) -> PResult<I, O, F::Error> {
+        let (rest, output) = self.parser.process::<OM>(input)?;
+        match output {
+            Some(output) => Ok((rest, Some((self.map)(output)))),
+            None => Ok((rest, None)),
+        }
+    }
+
+    ghost lawful = { λ s k. map_lawful I.seen (F.IsOutput s.0) (G.pre s.1) (F.meaning s.0) (F.lawful s.0 k.0) };
+}
+
+impl<I: Items, F: StreamParser<I> + Drop, O: Viewed + Drop, G: Fn(F::Output) -> O> StreamParser<I>
+    for Map<F, G> {
+    ghost pinned = { λ s k p. given_pinned F.Output.view O.view (F.IsOutput s.0) (G.post s.1) (F.pinned s.0 k.0 p.0) p.1 };
+
+    ghost steady = { λ s k. map_steady I.seen (F.IsOutput s.0) (G.pre s.1) (F.meaning s.0) (F.steady s.0 k.0) };
+}
