@@ -1,4 +1,4 @@
-//! Tests of parsers that are made of others by closures, and of parsers on what others give.
+//! Tests of the combinators of nom.
 #![tactic(auto)]
 
 #[cfg(test)]
