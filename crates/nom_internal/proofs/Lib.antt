@@ -1,5 +1,6 @@
 pub mod Cased
 pub mod Choices
 pub mod Consumed
+pub mod FuncShown
 pub mod Grown
 pub mod Shown

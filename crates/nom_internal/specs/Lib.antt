@@ -4,6 +4,8 @@ pub mod Cases
 pub mod Choice
 pub mod ChoiceLaws
 pub mod Families
+pub mod Func
+pub mod FuncLaws
 pub mod Growing
 pub mod Leaf
 pub mod Meaning

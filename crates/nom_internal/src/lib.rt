@@ -4,6 +4,8 @@
 
 pub mod choice;
 pub mod fixed;
+pub mod func;
+pub mod function;
 pub mod growing;
 pub mod one_mode;
 pub mod parser;
