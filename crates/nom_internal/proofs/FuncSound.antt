@@ -1,0 +1,106 @@
+-- Functions that answer as a meaning says are parsers.
+use Rattle.std.proofs.Common.{◌≡◌, ℕ, Bool, true, Result, Ok, arith, refl, sym, ◌∙◌, subst, ap}
+use Rattle.nom_error.specs.declared.answer.Needed.{Needed}
+use Rattle.nom_error.specs.declared.answer.Err as Answer
+use Rattle.nom_error.specs.Answers.{size_of}
+use Rattle.nom_error.specs.Modes.{modes}
+use Rattle.nom_traits.specs.Input.{Seen, IsRest, span}
+use Rattle.nom_traits.specs.Rests.{span-append}
+use Rattle.nom_traits.specs.View.{View}
+use Rattle.nom_internal.specs.Outcome.{Outcome, Parses, ParsesAnswer}
+use Rattle.nom_internal.specs.Outcome.ParsesAnswer.{ParseRanOut, Parsed}
+use Rattle.nom_internal.specs.Outcome.Outcome.{Accept, Refuse, Fail, TooLarge, Undecided}
+use Rattle.nom_internal.specs.Meaning.{Meaning, IsLawful, IsSteady, NeverTooLarge, Keeps, ParsesMeaning}
+use Rattle.nom_internal.specs.Pinned.{IsPinned}
+use Rattle.nom_internal.specs.Func.{Tells, FuncOutcome, IsParser, IsStreamParser}
+
+module _ {I A : Type 0} (w : Seen I A) where
+  -- a rest is left at one place
+  one_length : (i j : I) (n m : ℕ) → IsRest w i n j → IsRest w i m j → n ≡ m
+  one_length i j n m p q = omega (arith, ap (span w.weight) (sym p.whole ∙ q.whole), span-append w.weight p.front (w.elements j), span-append w.weight q.front (w.elements j), p.length_is, q.length_is)
+
+module _ {V O : Type 0} (view : View O) (IsOutput : V → O → Type 0) where
+  -- an outcome as a function's answer tells it: by the view of an output, and with a failure that is one of its own
+  abbrev Retold : Outcome V → Outcome view.Value → Type 0
+  Retold (Accept n t) o = (b : O) × IsOutput t b × (o ≡ Accept n (view.value b))
+  Retold Refuse o = o ≡ Refuse
+  Retold Fail o = o ≡ Fail
+  Retold TooLarge o = o ≡ Fail
+  Retold (Undecided k) o = o ≡ Undecided k
+
+  retold_once : IsPinned view IsOutput → (a : Outcome V) (o p : Outcome view.Value) → Retold a o → Retold a p → o ≡ p
+  retold_once one (Accept n t) o p h k = h.2 ∙ (ap (λ v. Accept n v) (one t h.0 k.0 h.1 k.1) ∙ sym k.2)
+  retold_once one Refuse o p h k = h ∙ sym k
+  retold_once one Fail o p h k = h ∙ sym k
+  retold_once one TooLarge o p h k = h ∙ sym k
+  retold_once one (Undecided d) o p h k = h ∙ sym k
+
+  retold_decided : (a : Outcome V) (o : Outcome view.Value) → (a ≡ TooLarge → ⊥) → Retold a o → Keeps true o → Keeps true a
+  retold_decided (Accept n t) o never h k = tt
+  retold_decided Refuse o never h k = tt
+  retold_decided Fail o never h k = tt
+  retold_decided TooLarge o never h k = absurd (never refl)
+  retold_decided (Undecided d) o never h k = subst (Keeps true) h k
+
+  module _ {I A E : Type 0} (w : Seen I A) (i : I) (IsError : E → Type 0) where
+    retold_of : (a : Outcome V) (r : Result (I × O) (Answer.Err E E Needed)) (o : Outcome view.Value) → Parses w IsOutput i IsError a r → Tells w view i r o → Retold a o
+    retold_of (Accept n t) r o p h =
+        let told = subst (λ x. Tells w view i x o) p.4 h in
+        (p.1, p.3, told.2 ∙ ap (λ m. Accept m (view.value p.1)) (one_length w i p.0 told.0 n told.1 p.2))
+    retold_of Refuse r o p h = subst (λ x. Tells w view i x o) p.2 h
+    retold_of Fail r o p h = subst (λ x. Tells w view i x o) p.2 h
+    retold_of TooLarge r o p h = subst (λ x. Tells w view i x o) p.2 h
+    retold_of (Undecided k) r o p h = (let told : o ≡ Undecided (size_of p.0) = subst (λ x. Tells w view i x o) p.2 h in told ∙ ap Undecided p.1)
+
+    rest_of : (a : Outcome V) (j : I) (v : O) → (let r : Result (I × O) (Answer.Err E E Needed) = Ok (j, v) in Parses w IsOutput i IsError a r → (n : ℕ) × IsRest w i n j)
+    rest_of (Accept n t) j v p =
+        let same : ◌≡◌ {A = I × O} (j, v) (p.0, p.1) = cc (p.4) in
+        (n, subst (λ k. IsRest w i n k) (sym (ap (λ q. q.0) same)) p.2)
+    rest_of Refuse j v p = cc (p.2)
+    rest_of Fail j v p = cc (p.2)
+    rest_of TooLarge j v p = cc (p.2)
+    rest_of (Undecided k) j v p = cc (p.2)
+
+-- the outcome of a meaning that an answer of the function retells
+record Meant {V O : Type 0} (view : View O) (IsOutput : V → O → Type 0) (Answers : Outcome V → Type 0) (o : Outcome view.Value) : Type 0 where
+  outcome : Outcome V
+  answered : Answers outcome
+  retold : Retold view IsOutput outcome o
+
+module _ {I A V O E : Type 0} (w : Seen I A) (view : View O) (IsOutput : V → O → Type 0) (i : I) (Answers : Outcome V → Type 0) (IsError : E → Type 0) (RunsOut : Type 0) where
+  meant_by : (r : Result (I × O) (Answer.Err E E Needed)) (o : Outcome view.Value) → ParsesAnswer w IsOutput i Answers IsError RunsOut r → Tells w view i r o → Meant view IsOutput Answers o
+  meant_by r o (ParseRanOut e h) t = absurd (subst (λ x. Tells w view i x o) e t)
+  meant_by r o (Parsed a h p) t = record { outcome = a; answered = h; retold = retold_of view IsOutput w i IsError a r o p t }
+
+  rest_by : (j : I) (v : O) → (let r : Result (I × O) (Answer.Err E E Needed) = Ok (j, v) in ParsesAnswer w IsOutput i Answers IsError RunsOut r → (n : ℕ) × IsRest w i n j)
+  rest_by j v (ParseRanOut e h) = cc (e)
+  rest_by j v (Parsed a h p) = rest_of view IsOutput w i IsError a j v p
+
+module _ {I A V O E : Type 0} {w : Seen I A} {view : View O} {IsOutput : V → O → Type 0} {m : Meaning I V E} {Gives : I → Result (I × O) (Answer.Err E E Needed) → Type 0} {Takes : I → Type 0} (s : Bool) (lawful : IsLawful w m) (pinned : IsPinned view IsOutput) (takes : (i : I) → w.IsKnown i → Takes i) (shows : (i : I) (r : Result (I × O) (Answer.Err E E Needed)) → w.IsKnown i → Gives i r → ParsesMeaning w IsOutput m s i r) where
+  meant : (i : I) (o : Outcome view.Value) → w.IsKnown i → FuncOutcome w view Gives i o → Meant view IsOutput (m.answers s i) o
+  meant i o h a = meant_by w view IsOutput i (m.answers s i) (m.blames s i) (m.runs_out (modes true true s) i) a.answer o (shows i a.answer h a.given) a.told
+
+  -- a function that answers as a lawful meaning says in one mode is a parser, where one tree stands for one output
+  pub func_sound : IsParser w view Gives Takes
+  func_sound = record {
+    takes = takes;
+    rests = λ i j v h g. rest_by w view IsOutput i (m.answers s i) (m.blames s i) (m.runs_out (modes true true s) i) j v (shows i (Ok (j, v)) h g);
+    one_outcome = λ x y o p kx ky r a k b.
+        let c = meant x o kx a in
+        let d = meant y p ky b in
+        let same = lawful.one_outcome s x y c.outcome d.outcome kx ky r c.answered tt d.answered in
+        retold_once view IsOutput pinned d.outcome o p (subst (λ z. Retold view IsOutput z o) same c.retold) d.retold;
+  }
+
+module _ {I A V O E : Type 0} {w : Seen I A} {view : View O} {IsOutput : V → O → Type 0} {m : Meaning I V E} {Gives : I → Result (I × O) (Answer.Err E E Needed) → Type 0} {Takes : I → Type 0} (lawful : IsLawful w m) (steady : IsSteady w m) (never : NeverTooLarge m) (pinned : IsPinned view IsOutput) (takes : (i : I) → w.IsKnown i → Takes i) (shows : (i : I) (r : Result (I × O) (Answer.Err E E Needed)) → w.IsKnown i → Gives i r → ParsesMeaning w IsOutput m true i r) where
+  -- and a stream parser where that mode is the streaming one and the meaning is steady, and what it lacks is never too large
+  pub stream_func_sound : IsStreamParser w view Gives Takes
+  stream_func_sound = record {
+    parser = func_sound true lawful pinned takes shows;
+    stays = λ x y o p kx ky r a k b.
+        let c = meant true lawful pinned takes shows x o kx a in
+        let d = meant true lawful pinned takes shows y p ky b in
+        let large : c.outcome ≡ TooLarge → ⊥ = λ e. lawful.never_fails true never true x kx (subst (λ z. m.answers true x z) e c.answered) in
+        let same = steady x y c.outcome d.outcome kx ky r c.answered (retold_decided view IsOutput c.outcome o large c.retold k) d.answered in
+        retold_once view IsOutput pinned d.outcome o p (subst (λ z. Retold view IsOutput z o) same c.retold) d.retold;
+  }
