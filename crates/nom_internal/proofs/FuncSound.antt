@@ -1,5 +1,5 @@
 -- Functions that answer as a meaning says are parsers.
-use Rattle.std.proofs.Common.{◌≡◌, ℕ, Bool, true, Result, Ok, arith, refl, sym, ◌∙◌, subst, ap}
+use Rattle.std.proofs.Common.{◌≡◌, ℕ, Bool, true, false, Result, Ok, arith, refl, sym, ◌∙◌, subst, ap}
 use Rattle.nom_error.specs.declared.answer.Needed.{Needed}
 use Rattle.nom_error.specs.declared.answer.Err as Answer
 use Rattle.nom_error.specs.Answers.{size_of}
@@ -10,7 +10,7 @@ use Rattle.nom_traits.specs.View.{View}
 use Rattle.nom_internal.specs.Outcome.{Outcome, Parses, ParsesAnswer}
 use Rattle.nom_internal.specs.Outcome.ParsesAnswer.{ParseRanOut, Parsed}
 use Rattle.nom_internal.specs.Outcome.Outcome.{Accept, Refuse, Fail, TooLarge, Undecided}
-use Rattle.nom_internal.specs.Meaning.{Meaning, IsLawful, IsSteady, NeverTooLarge, Keeps, ParsesMeaning}
+use Rattle.nom_internal.specs.Meaning.{Meaning, IsLawful, IsSteady, NeverTooLarge, Agree, Keeps, ParsesMeaning}
 use Rattle.nom_internal.specs.Pinned.{IsPinned}
 use Rattle.nom_internal.specs.Func.{Tells, FuncOutcome, IsParser, IsStreamParser}
 
@@ -76,31 +76,47 @@ module _ {I A V O E : Type 0} (w : Seen I A) (view : View O) (IsOutput : V → O
   rest_by j v (ParseRanOut e h) = cc (e)
   rest_by j v (Parsed a h p) = rest_of view IsOutput w i IsError a j v p
 
-module _ {I A V O E : Type 0} {w : Seen I A} {view : View O} {IsOutput : V → O → Type 0} {m : Meaning I V E} {Gives : I → Result (I × O) (Answer.Err E E Needed) → Type 0} {Takes : I → Type 0} (s : Bool) (lawful : IsLawful w m) (pinned : IsPinned view IsOutput) (takes : (i : I) → w.IsKnown i → Takes i) (shows : (i : I) (r : Result (I × O) (Answer.Err E E Needed)) → w.IsKnown i → Gives i r → ParsesMeaning w IsOutput m s i r) where
-  meant : (i : I) (o : Outcome view.Value) → w.IsKnown i → FuncOutcome w view Gives i o → Meant view IsOutput (m.answers s i) o
-  meant i o h a = meant_by w view IsOutput i (m.answers s i) (m.blames s i) (m.runs_out (modes true true s) i) a.answer o (shows i a.answer h a.given) a.told
+-- The function takes every input, and answers as a relation of inputs to outcomes says, under which inputs that are seen alike
+-- have one outcome; and one tree stands for one output.
+module _ {I A V O E : Type 0} {w : Seen I A} {view : View O} {IsOutput : V → O → Type 0} {Answers : I → Outcome V → Type 0} {IsError : I → E → Type 0} {RunsOut : I → Type 0} {Gives : I → Result (I × O) (Answer.Err E E Needed) → Type 0} {Takes : I → Type 0} (one : Agree w false Answers Answers) (pinned : IsPinned view IsOutput) (takes : (i : I) → w.IsKnown i → Takes i) (shows : (i : I) (r : Result (I × O) (Answer.Err E E Needed)) → w.IsKnown i → Gives i r → ParsesAnswer w IsOutput i (Answers i) (IsError i) (RunsOut i) r) where
+  meant : (i : I) (o : Outcome view.Value) → w.IsKnown i → FuncOutcome w view Gives i o → Meant view IsOutput (Answers i) o
+  meant i o h a = meant_by w view IsOutput i (Answers i) (IsError i) (RunsOut i) a.answer o (shows i a.answer h a.given) a.told
 
-  -- a function that answers as a lawful meaning says in one mode is a parser, where one tree stands for one output
-  pub func_sound : IsParser w view Gives Takes
-  func_sound = record {
+  parser_by : IsParser w view Gives Takes
+  parser_by = record {
     takes = takes;
-    rests = λ i j v h g. rest_by w view IsOutput i (m.answers s i) (m.blames s i) (m.runs_out (modes true true s) i) j v (shows i (Ok (j, v)) h g);
+    rests = λ i j v h g. rest_by w view IsOutput i (Answers i) (IsError i) (RunsOut i) j v (shows i (Ok (j, v)) h g);
     one_outcome = λ x y o p kx ky r a k b.
         let c = meant x o kx a in
         let d = meant y p ky b in
-        let same = lawful.one_outcome s x y c.outcome d.outcome kx ky r c.answered tt d.answered in
+        let same = one x y c.outcome d.outcome kx ky r c.answered tt d.answered in
         retold_once view IsOutput pinned d.outcome o p (subst (λ z. Retold view IsOutput z o) same c.retold) d.retold;
   }
 
-module _ {I A V O E : Type 0} {w : Seen I A} {view : View O} {IsOutput : V → O → Type 0} {m : Meaning I V E} {Gives : I → Result (I × O) (Answer.Err E E Needed) → Type 0} {Takes : I → Type 0} (lawful : IsLawful w m) (steady : IsSteady w m) (never : NeverTooLarge m) (pinned : IsPinned view IsOutput) (takes : (i : I) → w.IsKnown i → Takes i) (shows : (i : I) (r : Result (I × O) (Answer.Err E E Needed)) → w.IsKnown i → Gives i r → ParsesMeaning w IsOutput m true i r) where
-  -- and a stream parser where that mode is the streaming one and the meaning is steady, and what it lacks is never too large
-  pub stream_func_sound : IsStreamParser w view Gives Takes
-  stream_func_sound = record {
-    parser = func_sound true lawful pinned takes shows;
+  stream_parser_by : Agree w true Answers Answers → ((i : I) → w.IsKnown i → Answers i TooLarge → ⊥) → IsStreamParser w view Gives Takes
+  stream_parser_by steady never = record {
+    parser = parser_by;
     stays = λ x y o p kx ky r a k b.
-        let c = meant true lawful pinned takes shows x o kx a in
-        let d = meant true lawful pinned takes shows y p ky b in
-        let large : c.outcome ≡ TooLarge → ⊥ = λ e. lawful.never_fails true never true x kx (subst (λ z. m.answers true x z) e c.answered) in
+        let c = meant x o kx a in
+        let d = meant y p ky b in
+        let large : c.outcome ≡ TooLarge → ⊥ = λ e. never x kx (subst (λ z. Answers x z) e c.answered) in
         let same = steady x y c.outcome d.outcome kx ky r c.answered (retold_decided view IsOutput c.outcome o large c.retold k) d.answered in
         retold_once view IsOutput pinned d.outcome o p (subst (λ z. Retold view IsOutput z o) same c.retold) d.retold;
   }
+
+module _ {I A V O E : Type 0} {w : Seen I A} {view : View O} {IsOutput : V → O → Type 0} {m : Meaning I V E} {Gives : I → Result (I × O) (Answer.Err E E Needed) → Type 0} {Takes : I → Type 0} where
+  -- a function that answers as a lawful meaning says in one mode is a parser, where one tree stands for one output
+  pub func_sound : (s : Bool) → IsLawful w m → IsPinned view IsOutput → ((i : I) → w.IsKnown i → Takes i) → ((i : I) (r : Result (I × O) (Answer.Err E E Needed)) → w.IsKnown i → Gives i r → ParsesMeaning w IsOutput m s i r) → IsParser w view Gives Takes
+  func_sound s lawful pinned takes shows = parser_by {IsError = λ i. m.blames s i} {RunsOut = λ i. m.runs_out (modes true true s) i} (lawful.one_outcome s) pinned takes shows
+
+  -- and a stream parser where that mode is the streaming one, the meaning is steady, and what it lacks is never too large
+  pub stream_func_sound : IsLawful w m → IsSteady w m → NeverTooLarge m → IsPinned view IsOutput → ((i : I) → w.IsKnown i → Takes i) → ((i : I) (r : Result (I × O) (Answer.Err E E Needed)) → w.IsKnown i → Gives i r → ParsesMeaning w IsOutput m true i r) → IsStreamParser w view Gives Takes
+  stream_func_sound lawful steady never pinned takes shows = stream_parser_by {IsError = λ i. m.blames true i} {RunsOut = λ i. m.runs_out (modes true true true) i} (lawful.one_outcome true) pinned takes shows steady (λ i h a. lawful.never_fails true never true i h a)
+
+-- Of a function without a premise, whose contract says so itself: what it blames, and where it takes memory, doesn't matter.
+module _ {I A V O E : Type 0} {w : Seen I A} {view : View O} {IsOutput : V → O → Type 0} {Answers : I → Outcome V → Type 0} {IsError : I → E → Type 0} {RunsOut : I → Type 0} where
+  pub func_parses : Agree w false Answers Answers → IsPinned view IsOutput → IsParser w view (λ i r. ParsesAnswer w IsOutput i (Answers i) (IsError i) (RunsOut i) r) (λ i. Unit {0})
+  func_parses one pinned = parser_by {IsError = IsError} {RunsOut = RunsOut} one pinned (λ i h. tt) (λ i r h g. g)
+
+  pub stream_func_parses : Agree w false Answers Answers → Agree w true Answers Answers → ((i : I) → w.IsKnown i → Answers i TooLarge → ⊥) → IsPinned view IsOutput → IsStreamParser w view (λ i r. ParsesAnswer w IsOutput i (Answers i) (IsError i) (RunsOut i) r) (λ i. Unit {0})
+  stream_func_parses one steady never pinned = stream_parser_by {IsError = IsError} {RunsOut = RunsOut} one pinned (λ i h. tt) (λ i r h g. g) steady never
