@@ -11,6 +11,7 @@ use Rattle.nom_internal.specs.Outcome.{Outcome, Parses, ParsesAnswer}
 use Rattle.nom_internal.specs.Outcome.ParsesAnswer.{ParseRanOut, Parsed}
 use Rattle.nom_internal.specs.Outcome.Outcome.{Accept, Refuse, Fail, TooLarge, Undecided}
 use Rattle.nom_internal.specs.Meaning.{Meaning, IsLawful, IsSteady, NeverTooLarge, Agree, Keeps, ParsesMeaning}
+use Rattle.nom_internal.specs.Leaf.{Leaf, LeafLaws, LeafAnswers, leaf_lawful, leaf_steady}
 use Rattle.nom_internal.specs.Pinned.{IsPinned}
 use Rattle.nom_internal.specs.Func.{Tells, FuncOutcome, IsParser, IsStreamParser}
 
@@ -120,3 +121,11 @@ module _ {I A V O E : Type 0} {w : Seen I A} {view : View O} {IsOutput : V → O
 
   pub stream_func_parses : Agree w false Answers Answers → Agree w true Answers Answers → ((i : I) → w.IsKnown i → Answers i TooLarge → ⊥) → IsPinned view IsOutput → IsStreamParser w view (λ i r. ParsesAnswer w IsOutput i (Answers i) (IsError i) (RunsOut i) r) (λ i. Unit {0})
   stream_func_parses one steady never pinned = stream_parser_by {IsError = IsError} {RunsOut = RunsOut} one pinned (λ i h. tt) (λ i r h g. g) steady never
+
+-- of a leaf, in the mode s or streaming
+module _ {I A V O E : Type 0} {w : Seen I A} {view : View O} {IsOutput : V → O → Type 0} {leaf : Leaf I V} {IsError : I → E → Type 0} {RunsOut : I → Type 0} (l : LeafLaws w leaf) (pinned : IsPinned view IsOutput) where
+  pub leaf_func : (s : Bool) → IsParser w view (λ i r. ParsesAnswer w IsOutput i (LeafAnswers leaf s i) (IsError i) (RunsOut i) r) (λ i. Unit {0})
+  leaf_func s = func_parses {IsError = IsError} {RunsOut = RunsOut} ((leaf_lawful w leaf l {E = E} (Unit {0}) (λ i e. ⊥) ⊥).one_outcome s) pinned
+
+  pub leaf_stream_func : IsStreamParser w view (λ i r. ParsesAnswer w IsOutput i (LeafAnswers leaf true i) (IsError i) (RunsOut i) r) (λ i. Unit {0})
+  leaf_stream_func = stream_func_parses {IsError = IsError} {RunsOut = RunsOut} ((leaf_lawful w leaf l {E = E} (Unit {0}) (λ i e. ⊥) ⊥).one_outcome true) (leaf_steady w leaf l {E = E} (Unit {0}) (λ i e. ⊥) ⊥) (λ i h a. a) pinned
