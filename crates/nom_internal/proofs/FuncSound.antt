@@ -1,19 +1,20 @@
 -- Functions that answer as a meaning says are parsers.
-use Rattle.std.proofs.Common.{◌≡◌, ℕ, Bool, true, false, Result, Ok, arith, refl, sym, ◌∙◌, subst, ap}
+use Rattle.std.proofs.Common.{◌≡◌, ℕ, Bool, true, false, List, ◌++◌, Result, Ok, Err, arith, refl, sym, ◌∙◌, subst, ap}
 use Rattle.nom_error.specs.declared.answer.Needed.{Needed}
 use Rattle.nom_error.specs.declared.answer.Err as Answer
+use Rattle.nom_error.specs.declared.answer.Err.TheVariants.{Incomplete, Error, Failure, OutOfMemory}
 use Rattle.nom_error.specs.Answers.{size_of}
 use Rattle.nom_error.specs.Modes.{modes}
 use Rattle.nom_traits.specs.Input.{Seen, IsRest, span}
 use Rattle.nom_traits.specs.Rests.{span-append}
 use Rattle.nom_traits.specs.View.{View}
-use Rattle.nom_internal.specs.Outcome.{Outcome, Parses, ParsesAnswer}
+use Rattle.nom_internal.specs.Outcome.{Outcome, IsDecided, Parses, ParsesAnswer}
 use Rattle.nom_internal.specs.Outcome.ParsesAnswer.{ParseRanOut, Parsed}
 use Rattle.nom_internal.specs.Outcome.Outcome.{Accept, Refuse, Fail, TooLarge, Undecided}
 use Rattle.nom_internal.specs.Meaning.{Meaning, IsLawful, IsSteady, NeverTooLarge, Agree, Keeps, ParsesMeaning}
 use Rattle.nom_internal.specs.Leaf.{Leaf, LeafLaws, LeafAnswers, leaf_lawful, leaf_steady}
 use Rattle.nom_internal.specs.Pinned.{IsPinned}
-use Rattle.nom_internal.specs.Func.{Tells, FuncOutcome, IsParser, IsStreamParser}
+use Rattle.nom_internal.specs.Func.{Tells, TellsItems, FuncOutcome, IsParser, IsStreamParser}
 
 module _ {I A : Type 0} (w : Seen I A) where
   -- a rest is left at one place
@@ -129,3 +130,33 @@ module _ {I A V O E : Type 0} {w : Seen I A} {view : View O} {IsOutput : V → O
 
   pub leaf_stream_func : IsStreamParser w view (λ i r. ParsesAnswer w IsOutput i (LeafAnswers leaf true i) (IsError i) (RunsOut i) r) (λ i. Unit {0})
   leaf_stream_func = stream_func_parses {IsError = IsError} {RunsOut = RunsOut} ((leaf_lawful w leaf l {E = E} (Unit {0}) (λ i e. ⊥) ⊥).one_outcome true) (leaf_steady w leaf l {E = E} (Unit {0}) (λ i e. ⊥) ⊥) (λ i h a. a) pinned
+
+module _ {I A O E : Type 0} (w : Seen I A) (view : View O) where
+  -- an answer tells one outcome
+  tells_once : (i : I) (r : Result (I × O) (Answer.Err E E Needed)) (o p : Outcome view.Value) → Tells w view i r o → Tells w view i r p → o ≡ p
+  tells_once i (Ok (j, v)) o p h k = h.2 ∙ (ap (λ n. Accept n (view.value v)) (one_length w i j h.0 k.0 h.1 k.1) ∙ sym k.2)
+  tells_once i (Err (Incomplete d)) o p h k = h ∙ sym k
+  tells_once i (Err (Error e)) o p h k = h ∙ sym k
+  tells_once i (Err (Failure e)) o p h k = h ∙ sym k
+  tells_once i (Err OutOfMemory) o p h k = absurd h
+
+-- Of a function without a premise, whose contract says the outcome by the items.
+module _ {I A O E : Type 0} {w : Seen I A} {view : View O} (outcome : List A → Outcome view.Value) where
+  items_outcome : (i : I) (o : Outcome view.Value) → FuncOutcome {E = E} w view (TellsItems w view outcome) i o → o ≡ outcome (w.elements i)
+  items_outcome i o a = tells_once w view i a.answer o (outcome (w.elements i)) a.told a.given
+
+  pub items_func : IsParser {E = E} w view (TellsItems w view outcome) (λ i. Unit {0})
+  items_func = record {
+    takes = λ i h. tt;
+    rests = λ i j v h g. (g.0, g.1);
+    one_outcome = λ x y o p kx ky r a k b. items_outcome x o a ∙ (ap outcome r.elements_are ∙ sym (items_outcome y p b));
+  }
+
+  -- where what is decided stays as items are added
+  pub items_stream_func : ((xs more : List A) → IsDecided (outcome xs) → outcome (xs ++ more) ≡ outcome xs) → IsStreamParser {E = E} w view (TellsItems w view outcome) (λ i. Unit {0})
+  items_stream_func steady = record {
+    parser = items_func;
+    stays = λ x y o p kx ky r a k b.
+        let kept = steady (w.elements x) r.more (subst IsDecided (items_outcome x o a) k) in
+        items_outcome x o a ∙ (sym kept ∙ (ap outcome (sym r.whole) ∙ sym (items_outcome y p b)));
+  }

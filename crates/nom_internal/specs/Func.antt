@@ -1,5 +1,5 @@
 -- A function as a parser.
-use Rattle.std.specs.Prelude.{◌≡◌, ℕ, Bool, true, false, Result, Ok, Err}
+use Rattle.std.specs.Prelude.{◌≡◌, ℕ, Bool, true, false, List, Result, Ok, Err}
 use Rattle.std.proofs.Common.{sym, ◌∙◌}
 use Rattle.nom_error.specs.declared.answer.Needed.{Needed}
 use Rattle.nom_error.specs.declared.answer.Err as Answer
@@ -38,6 +38,10 @@ module _ {I A O E : Type 0} (w : Seen I A) (view : View O) where
   Tells i (Err (Error e)) o = o ≡ Refuse
   Tells i (Err (Failure e)) o = o ≡ Fail
   Tells i (Err OutOfMemory) o = ⊥
+
+  -- it tells the outcome that the input's items have
+  abbrev pub TellsItems : (List A → Outcome view.Value) → I → Result (I × O) (Answer.Err E E Needed) → Type 0
+  TellsItems outcome i r = Tells i r (outcome (w.elements i))
 
   module _ (Gives : I → Result (I × O) (Answer.Err E E Needed) → Type 0) where
     -- the function's outcome at i: what an answer of it tells
