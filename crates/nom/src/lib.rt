@@ -18,6 +18,8 @@ pub use nom_error::finish::{Finish, FinishError};
 pub use nom_error::mode::{
     Check, Complete, Emit, IsStreaming, Mode, OutputM, OutputMode, Streaming,
 };
+pub use nom_internal::func::{Func, StreamFunc};
+pub use nom_internal::function::{func, stream_func};
 pub use nom_internal::growing::{Grown, parse_growing};
 pub use nom_internal::parser::{Parser, StreamParser};
 pub use nom_internal::promises;
