@@ -1,3 +1,4 @@
+pub mod Functions
 pub mod Readings
 pub mod Shown
 pub mod Signs

@@ -48,7 +48,7 @@ module _ {I A V : Type 0} (w : Seen I A) (Accepts : I → ℕ → V → Type 0) 
   never_answers false s i a = a
 
   module _ {E : Type 0} (Blames : I → E → Type 0) (Grows : Type 0) where
-    plain_lawful : IsLawful w (leaf_meaning (Unit {0}) Blames Grows (plain_leaf Accepts Refuses))
+    pub plain_lawful : IsLawful w (leaf_meaning (Unit {0}) Blames Grows (plain_leaf Accepts Refuses))
     plain_lawful = record {
       within = λ s i n v h a. l.place i n v a;
       one_outcome = λ s x y o p kx ky r a d b. one_answer s y o p (answers_alike s s x y o r a) b;
@@ -75,7 +75,7 @@ module _ {I A : Type 0} (w : Seen I A) where
   pub place_all : (i : I) (n : ℕ) → n ≡ input_len w i → IsPlace w i n
   place_all i n e = record { front = w.elements i; rest = []; whole = sym (append-nil (w.elements i)); length_is = sym e }
 
-  end_laws : PlainLaws w (IsEnd w) (λ i. w.elements i ≡ [] → ⊥)
+  pub end_laws : PlainLaws w (IsEnd w) (λ i. w.elements i ≡ [] → ⊥)
   end_laws = record {
     place = λ i n v a. place_none i n a.1;
     one_accepted = λ i n m u v a b. (a.1 ∙ sym b.1, a.2 ∙ sym b.2);

@@ -10,6 +10,8 @@ pub mod Closures
 pub mod Families
 pub mod FlatMap
 pub mod FlatMapLaws
+pub mod Func
+pub mod FuncLaws
 pub mod Growing
 pub mod Judged
 pub mod JudgedLaws

@@ -1,6 +1,6 @@
 //! Parsers: what they mean, their laws and promises, slices of their inputs, sequences of two, choices,
-//! closures on their outputs, parsers on what another one gives, parsers that closures give, parsers in one
-//! mode, and inputs that grow.
+//! closures on their outputs, parsers on what another one gives, parsers that closures give, functions as
+//! parsers, parsers in one mode, and inputs that grow.
 #![tactic(auto)]
 
 pub mod and_then;
@@ -9,6 +9,8 @@ pub mod choice;
 pub mod either;
 pub mod fixed;
 pub mod flat_map;
+pub mod func;
+pub mod function;
 pub mod growing;
 pub mod into;
 pub mod judged;

@@ -1,0 +1,5 @@
+//! Tests of functions as parsers.
+#![tactic(auto)]
+
+#[cfg(test)]
+mod tests;

@@ -1,0 +1,82 @@
+-- A function as a parser.
+use Rattle.std.specs.Prelude.{◌≡◌, ℕ, Bool, true, false, List, Result, Ok, Err}
+use Rattle.std.proofs.Common.{sym, ◌∙◌}
+use Rattle.nom_error.specs.declared.answer.Needed.{Needed}
+use Rattle.nom_error.specs.declared.answer.Err as Answer
+use Rattle.nom_error.specs.declared.answer.Err.TheVariants.{Incomplete, Error, Failure, OutOfMemory}
+use Rattle.nom_error.specs.Answers.{size_of}
+use Rattle.nom_traits.specs.Input.{Seen, IsRest, IsSame}
+use Rattle.nom_traits.specs.View.{View}
+use Rattle.nom_internal.specs.Outcome.{Outcome}
+use Rattle.nom_internal.specs.Outcome.Outcome.{Accept, Refuse, Fail, Undecided}
+use Rattle.nom_internal.specs.Meaning.{Meaning, Agree}
+use Rattle.nom_internal.specs.Pinned.{IsPinned}
+
+-- an output stands for its view
+abbrev pub IsViewed : {O : Type 0} (view : View O) → view.Value → O → Type 0
+IsViewed view t o = view.value o ≡ t
+
+pub viewed_pinned : {O : Type 0} (view : View O) → IsPinned view (IsViewed view)
+viewed_pinned view t a b p q = p ∙ sym q
+
+-- the error that the function's refusal or failure holds
+pub data FuncBlames {I O E : Type 0} (Gives : I → Result (I × O) (Answer.Err E E Needed) → Type 0) (i : I) (e : E) : Type 0 where
+  OfRefusal : Gives i (Err (Error e)) → FuncBlames Gives i e
+  OfFailure : Gives i (Err (Failure e)) → FuncBlames Gives i e
+
+-- The function never answers a failure (false). That what it lacks is too large (true), its answers never tell.
+abbrev pub FuncNeverFails : {I A O E : Type 0} → Seen I A → (I → Result (I × O) (Answer.Err E E Needed) → Type 0) → Bool → Type 0
+FuncNeverFails {I} {E = E} w Gives false = (i : I) (e : E) → w.IsKnown i → Gives i (Err (Failure e)) → ⊥
+FuncNeverFails w Gives true = Unit {0}
+
+module _ {I A O E : Type 0} (w : Seen I A) (view : View O) where
+  -- The outcome that an answer at i tells: its tree is the view of the output, and a failure is one of the function's own. Want
+  -- of memory tells none.
+  abbrev pub Tells : I → Result (I × O) (Answer.Err E E Needed) → Outcome view.Value → Type 0
+  Tells i (Ok (j, v)) o = (n : ℕ) × IsRest w i n j × (o ≡ Accept n (view.value v))
+  Tells i (Err (Incomplete k)) o = o ≡ Undecided (size_of k)
+  Tells i (Err (Error e)) o = o ≡ Refuse
+  Tells i (Err (Failure e)) o = o ≡ Fail
+  Tells i (Err OutOfMemory) o = ⊥
+
+  -- it tells the outcome that the input's items have
+  abbrev pub TellsItems : (List A → Outcome view.Value) → I → Result (I × O) (Answer.Err E E Needed) → Type 0
+  TellsItems outcome i r = Tells i r (outcome (w.elements i))
+
+  module _ (Gives : I → Result (I × O) (Answer.Err E E Needed) → Type 0) where
+    -- the function's outcome at i: what an answer of it tells
+    pub record FuncOutcome (i : I) (o : Outcome view.Value) : Type 0 where
+      pub answer : Result (I × O) (Answer.Err E E Needed)
+      pub given : Gives i answer
+      pub told : Tells i answer o
+
+    -- What makes a function a parser: it takes every input; what it leaves of one is a rest of it; and at inputs that are seen
+    -- alike its outcomes are one.
+    pub record IsParser (Takes : I → Type 0) : Type 0 where
+      pub takes : (i : I) → w.IsKnown i → Takes i
+      pub rests : (i j : I) (v : O) → w.IsKnown i → Gives i (Ok (j, v)) → (n : ℕ) × IsRest w i n j
+      pub one_outcome : Agree w false FuncOutcome FuncOutcome
+
+    -- and a stream parser: an acceptance, a refusal or a failure stays on every longer input
+    pub record IsStreamParser (Takes : I → Type 0) : Type 0 where
+      pub parser : IsParser Takes
+      pub stays : Agree w true FuncOutcome FuncOutcome
+
+    -- the function's outcome at an input that is seen as i is
+    pub record FuncAnswers (i : I) (o : Outcome view.Value) : Type 0 where
+      pub at : I
+      pub known : w.IsKnown at
+      pub alike : IsSame w at i
+      pub outcome : FuncOutcome at o
+
+    -- What a function means, with its premise: alike in both modes.
+    abbrev pub func_meaning : Type 0 → Meaning I view.Value E
+    func_meaning IsSound = record {
+      IsSound = IsSound;
+      answers = λ s. FuncAnswers;
+      blames = λ s. FuncBlames Gives;
+      runs_out = λ mode i. Gives i (Err OutOfMemory);
+      IsFrugal = λ mode. (i : I) → w.IsKnown i → Gives i (Err OutOfMemory) → ⊥;
+      Settles = Unit {0};
+      NeverFails = FuncNeverFails w Gives;
+    }

@@ -1,0 +1,26 @@
+//! Parsers made of functions.
+ghost use Rattle.std.specs.Prelude.{◌≡◌};
+
+use crate::func::{Func, StreamFunc};
+use nom_error::answer::IResult;
+use std::marker::PhantomData;
+
+/// A function or closure as a parser, alike in both modes: its answer, with what isn't asked for dropped.
+///
+/// It takes every input, leaves rests of it alone, and answers inputs that are seen alike by one outcome, as
+/// outputs are compared; so do all functions of this library.
+#[inline(always)]
+pub fn func<I, O, E, F: Fn(I) -> IResult<I, O, E>>(f: F) -> Func<F, I, O, E>
+    ensures { result.f ≡ f }
+{
+    Func { f, of: PhantomData }
+}
+
+/// A function or closure as a stream parser: as `func`, and what it decides on an input, it decides on every
+/// longer one.
+#[inline(always)]
+pub fn stream_func<I, O, E, F: Fn(I) -> IResult<I, O, E>>(f: F) -> StreamFunc<F, I, O, E>
+    ensures { result.func.f ≡ f }
+{
+    StreamFunc { func: func(f) }
+}
