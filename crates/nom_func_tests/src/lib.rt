@@ -1,5 +1,6 @@
 //! Tests of functions as parsers.
 #![tactic(auto)]
 
+pub mod growing;
 #[cfg(test)]
 mod tests;

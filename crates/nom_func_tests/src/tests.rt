@@ -5,9 +5,10 @@ ghost use Rattle.nom_error.specs.declared.answer.Err.TheVariants as Answer;
 ghost use Rattle.nom_traits.specs.Bytes.{seen_bytes};
 ghost use Rattle.nom_traits.specs.View.{itself};
 ghost use Rattle.nom_internal.specs.Func.{TellsItems};
-ghost use Rattle.nom_func_tests.specs.Firsts.{first_outcome, small_outcome};
+ghost use Rattle.nom_func_tests.specs.Firsts.{small_outcome};
 
-use nom::character::{complete, streaming};
+use crate::growing::{first, grown_byte, grown_digits};
+use nom::character::complete;
 use nom::combinator::{eof, recognize, rest};
 use nom::error::{Error, ErrorKind};
 use nom::{
@@ -16,17 +17,6 @@ use nom::{
 };
 
 type Fail<'a> = Error<&'a [u8]>;
-
-/// The first byte; more is needed where there is none.
-fn first(input: &[u8]) -> IResult<&[u8], u8>
-    ensures { TellsItems seen_bytes itself first_outcome input.entry result }
-{
-    input.known();
-    match input.split_first() {
-        Some((byte, behind)) => Ok((behind, *byte)),
-        None => Err(Err::Incomplete(Needed::Unknown)),
-    }
-}
 
 /// The first byte, below 128; one from 128 on is a failure, and no byte is refused.
 fn small(input: &[u8]) -> IResult<&[u8], u8>
@@ -174,11 +164,7 @@ fn a_number(rt: HostRuntime) {
 
 #[test]
 fn digits_that_grow(rt: HostRuntime) {
-    let grown = parse_growing(
-        stream_func(streaming::digit1::<&[u8], Fail>),
-        &b"12a"[..],
-        &[1],
-    );
+    let grown = grown_digits(&b"12a"[..], &[1]);
     assert!(rt; grown.index == 1);
     match grown.result {
         Ok((behind, found)) => assert!(rt; behind.len() == 1 && found == b"12".as_slice()),
@@ -188,7 +174,7 @@ fn digits_that_grow(rt: HostRuntime) {
 
 #[test]
 fn a_byte_that_grows(rt: HostRuntime) {
-    let grown = parse_growing(stream_func(first), &b"ab"[..], &[0, 1]);
+    let grown = grown_byte(&b"ab"[..], &[0, 1]);
     assert!(rt; grown.index == 1);
     match grown.result {
         Ok((behind, found)) => assert!(rt; behind.len() == 1 && found == b'a'),

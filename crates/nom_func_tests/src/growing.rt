@@ -1,0 +1,37 @@
+//! Functions as stream parsers, on inputs that grow.
+ghost use Rattle.nom_traits.specs.Bytes.{seen_bytes};
+ghost use Rattle.nom_traits.specs.View.{itself};
+ghost use Rattle.nom_internal.specs.Func.{TellsItems};
+ghost use Rattle.nom_internal.specs.Growing.{AreCuts};
+ghost use Rattle.nom_func_tests.specs.Firsts.{first_outcome};
+
+use nom::character::streaming;
+use nom::error::Error;
+use nom::{Err, Grown, IResult, Items, Needed, parse_growing, stream_func};
+
+type Fail<'a> = Error<&'a [u8]>;
+
+/// The first byte; more is needed where there is none.
+pub fn first(input: &[u8]) -> IResult<&[u8], u8>
+    ensures { TellsItems seen_bytes itself first_outcome input.entry result }
+{
+    input.known();
+    match input.split_first() {
+        Some((byte, behind)) => Ok((behind, *byte)),
+        None => Err(Err::Incomplete(Needed::Unknown)),
+    }
+}
+
+/// The first byte of an input that grows.
+pub fn grown_byte<'a>(input: &'a [u8], cuts: &[usize]) -> Grown<&'a [u8], u8, Fail<'a>>
+    requires { AreCuts seen_bytes input cuts.now }
+{
+    parse_growing(stream_func(first), input, cuts)
+}
+
+/// The first digits of an input that grows.
+pub fn grown_digits<'a>(input: &'a [u8], cuts: &[usize]) -> Grown<&'a [u8], &'a [u8], Fail<'a>>
+    requires { AreCuts seen_bytes input cuts.now }
+{
+    parse_growing(stream_func(streaming::digit1::<&[u8], Fail>), input, cuts)
+}
