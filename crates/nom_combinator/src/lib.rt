@@ -98,10 +98,11 @@ pub fn cond<F: Drop>(b: bool, f: F) -> Cond<F>
 }
 
 /// A parser whose errors are told with a name, by `ContextError`: of its refusals and of its failures, at
-/// the start.
+/// the start. The name is a `&'static str`; its type is a parameter since the checker follows a call by
+/// borrowed types only where no `'static` stands in the signature.
 #[inline(always)]
-pub fn context<F>(context: &'static str, parser: F) -> Context<F>
-    ensures context { result.context ≡ context.entry }
+pub fn context<C, F>(context: C, parser: F) -> Context<F, C>
+    ensures context { result.context ≡ context }
     ensures parser { result.parser ≡ parser }
 {
     Context { context, parser }

@@ -35,8 +35,8 @@ fn named<I: Drop, E: ContextError<I> + Drop>(
 
 /// A parser whose errors are told with a name; made by `context`.
 #[derive(Drop)]
-pub struct Context<F> {
-    pub context: &'static str,
+pub struct Context<F, C = &'static str> {
+    pub context: C,
     pub parser: F,
 }
 

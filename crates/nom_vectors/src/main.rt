@@ -12,6 +12,7 @@ mod answers;
 mod branch;
 mod bytes;
 mod character;
+mod combinator;
 mod multi;
 mod traits;
 
@@ -49,10 +50,14 @@ fn run_row(alloc: Global, number: usize) -> Outcome {
         6 => Outcome::of(bytes::row_6()),
         11 => Outcome::of(character::row_11()),
         12 => Outcome::of(bytes::row_12()),
+        15 => Outcome::of(combinator::row_15(alloc)),
         17 => Outcome::of(character::row_17()),
         18 => Outcome::of(character::row_18(alloc)),
+        19 => Outcome::of(combinator::row_19()),
         21 => Outcome::of(traits::row_21()),
         23 => Outcome::of(bytes::row_23()),
+        27 => Outcome::of(combinator::row_27()),
+        28 => Outcome::of(combinator::row_28()),
         _ => Outcome::Absent,
     }
 }

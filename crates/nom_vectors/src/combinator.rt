@@ -1,0 +1,110 @@
+//! Rows of parsers on what others answer.
+ghost use Rattle.std.specs.Prelude.{◌≡◌};
+
+use crate::answers::{accepts, needs};
+use nom::bytes::{escaped_transform, tag};
+use nom::character::{char, complete};
+use nom::combinator::{cut, iterator, recognize};
+use nom::error::{ContextError, Error, ErrorKind, ParseError, context};
+use nom::{Err, IResult, OutOfMemory, Parser, func};
+use std::alloc::Global;
+
+/// The input, and the name that was added last.
+#[derive(Drop)]
+struct Named<'a> {
+    input: &'a str,
+    context: &'static str,
+}
+
+impl<'a> ParseError<&'a str> for Named<'a> {
+    ghost errors = { record {
+      of_kind = λ i _ e. e.input ≡ i;
+      appended = λ _ _ other e. e ≡ other;
+      of_char = λ i _ e. e.input ≡ i;
+      joined = λ _ other e. e ≡ other;
+      grows = ⊥;
+    } };
+
+    fn from_error_kind(input: &'a str, _kind: ErrorKind) -> Result<Self, OutOfMemory> {
+        Ok(Named { input, context: "" })
+    }
+
+    fn append(_input: &'a str, _kind: ErrorKind, other: Self) -> Result<Self, OutOfMemory> {
+        Ok(other)
+    }
+
+    fn from_char(input: &'a str, _wanted: char) -> Result<Self, OutOfMemory> {
+        Ok(Named { input, context: "" })
+    }
+
+    fn or(self, other: Self) -> Result<Self, OutOfMemory> {
+        Ok(other)
+    }
+}
+
+impl<'a> ContextError<&'a str> for Named<'a> {
+    ghost contexts = { record { named = λ i name other e. (e.input ≡ i) × (e.context.now ≡ name); grows = ⊥ } };
+
+    fn add_context(
+        input: &'a str,
+        context: &'static str,
+        _other: Self,
+    ) -> Result<Self, OutOfMemory> {
+        Ok(Named { input, context })
+    }
+}
+
+/// `escaped_transform(complete::alpha0, '\\', tag("n"))` complete on `ab7`: rest `7`, text `ab`.
+pub fn row_15(alloc: Global) -> bool {
+    let letters = func(complete::alpha0::<&str, Error<&str>>);
+    let mut text = escaped_transform(alloc, letters, '\\', tag("n"));
+    match text.parse_complete("ab7") {
+        Ok((rest, text)) => rest == "7" && text.as_str() == "ab",
+        Err(_) => false,
+    }
+}
+
+/// `recognize(func(complete::alpha0))` on `abc`: rest empty, output `abc`.
+pub fn row_19() -> bool {
+    let mut letters = recognize(func(complete::alpha0::<&str, Error<&str>>));
+    accepts(letters.parse_complete("abc"), b"", b"abc")
+}
+
+fn named_char<'a>(input: &'a str) -> IResult<&'a str, char, Named<'a>> {
+    let wanted = cut(char::<&'a str, Named<'a>>('a'));
+    let mut named = context("ctx", wanted);
+    named.parse(input)
+}
+
+/// `context("ctx", cut(char('a')))` on `bcd`, with an error that keeps the input and the last name:
+/// Failure, input `bcd`, context `ctx`.
+pub fn row_27() -> bool {
+    match named_char("bcd") {
+        Err(Err::Failure(error)) => error.input == "bcd" && error.context == "ctx",
+        _ => false,
+    }
+}
+
+/// `iterator("aab", char('a'))`: `a`, `a`, None, None; `finish` gives rest `b`.
+fn closed_items() -> bool {
+    let mut items = iterator("aab", char::<_, Error<&str>>('a'));
+    let given = items.next() == Some('a') && items.next() == Some('a');
+    let ended = items.next().is_none() && items.next().is_none();
+    match items.finish() {
+        Ok((rest, ())) => given && ended && rest == "b",
+        Err(_) => false,
+    }
+}
+
+/// On `aa`: `a`, `a`, None; `finish` gives Incomplete 1.
+fn open_items() -> bool {
+    let mut items = iterator("aa", char::<_, Error<&str>>('a'));
+    let given = items.next() == Some('a') && items.next() == Some('a');
+    let ended = items.next().is_none();
+    needs(items.finish(), Some(1)) && given && ended
+}
+
+/// `iterator` of `char('a')` on `aab` and on `aa`.
+pub fn row_28() -> bool {
+    closed_items() && open_items()
+}
