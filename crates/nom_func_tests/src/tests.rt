@@ -12,8 +12,7 @@ use nom::character::complete;
 use nom::combinator::{eof, recognize, rest};
 use nom::error::{Error, ErrorKind};
 use nom::{
-    Check, Emit, Err, IResult, Items, Needed, OutputM, OutputMode, PResult, Parser, Streaming,
-    func, parse_growing, stream_func,
+    Check, Emit, Err, IResult, Items, Needed, OutputM, OutputMode, PResult, Parser, Streaming, func,
 };
 
 type Fail<'a> = Error<&'a [u8]>;
