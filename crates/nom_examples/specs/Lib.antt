@@ -1,3 +1,4 @@
+pub mod Brackets
 pub mod Further
 pub mod Letters
 pub mod Tokens

@@ -1,6 +1,7 @@
 //! Examples that are proved: what a user of the library writes.
 #![tactic(auto)]
 
+mod brackets;
 mod letters;
 mod promises;
 mod refusal;
@@ -8,6 +9,7 @@ mod refusal;
 mod tests;
 mod tokens;
 
+pub use crate::brackets::{brackets_line, nested_brackets};
 pub use crate::letters::{Letter, one_letter};
 pub use crate::promises::promised;
 pub use crate::refusal::Refusal;

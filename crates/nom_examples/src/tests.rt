@@ -1,5 +1,5 @@
-//! Lists of words in brackets, letters, and a composed parser that keeps nom's promises.
-use crate::{Refusal, Token, Tokens, one_letter, promised};
+//! Lists of words in brackets, nested brackets, letters, and a composed parser that keeps nom's promises.
+use crate::{Refusal, Token, Tokens, brackets_line, one_letter, promised};
 use nom::branch::alt;
 use nom::bytes::{tag, take};
 use nom::error::{Error, ErrorKind};
@@ -114,5 +114,24 @@ fn letters(rt: HostRuntime) {
             is_letter(first.parse_complete(input), complete),
             "at {input:?}"
         );
+    }
+}
+
+// The refusal is at the place where a bracket should close.
+#[test]
+fn nested_brackets(rt: HostRuntime) {
+    for (input, depth) in [
+        (&b"(());"[..], Some(2)),
+        (&b";"[..], Some(0)),
+        (&b"(();"[..], None),
+    ] {
+        match brackets_line(input) {
+            Ok((rest, found)) => assert!(rt; rest.is_empty() && depth == Some(found)),
+            Err(Err::Error(error)) => {
+                assert!(rt; depth.is_none());
+                assert!(rt; error.code == ErrorKind::Char && error.input == b";".as_slice());
+            }
+            Err(_) => panic!(rt; "another answer"),
+        }
     }
 }

@@ -1,4 +1,5 @@
 //! Functions as stream parsers, on inputs that grow.
+ghost use Rattle.std.specs.Prelude.{◌≡◌, Ok, length};
 ghost use Rattle.nom_traits.specs.Bytes.{seen_bytes};
 ghost use Rattle.nom_traits.specs.View.{itself};
 ghost use Rattle.nom_internal.specs.Func.{TellsItems};
@@ -7,7 +8,7 @@ ghost use Rattle.nom_func_tests.specs.Firsts.{first_outcome};
 
 use nom::character::streaming;
 use nom::error::Error;
-use nom::{Err, Grown, IResult, Items, Needed, parse_growing, stream_func};
+use nom::{Err, Grown, IResult, Items, Needed, Parser, func, parse_growing, stream_func};
 
 type Fail<'a> = Error<&'a [u8]>;
 
@@ -20,6 +21,33 @@ pub fn first(input: &[u8]) -> IResult<&[u8], u8>
         Some((byte, behind)) => Ok((behind, *byte)),
         None => Err(Err::Incomplete(Needed::Unknown)),
     }
+}
+
+/// Nothing, with a 0.
+pub fn nothing(input: &[u8]) -> IResult<&[u8], usize>
+    ensures { result ≡ Ok (input.entry, 0) }
+{
+    Ok((input, 0))
+}
+
+/// Nothing, with the length of what is left: on a longer input that is more.
+pub fn length_left(input: &[u8]) -> IResult<&[u8], usize>
+    ensures { result ≡ Ok (input.entry, length input.entry.now) }
+{
+    Ok((input, input.len()))
+}
+
+/// Nothing of an input that grows.
+pub fn grown_nothing<'a>(input: &'a [u8], cuts: &[usize]) -> Grown<&'a [u8], usize, Fail<'a>>
+    requires { AreCuts seen_bytes input cuts.now }
+{
+    parse_growing(stream_func(nothing), input, cuts)
+}
+
+/// The length of what is left of an input that is complete.
+pub fn measured(input: &[u8]) -> IResult<&[u8], usize> {
+    let mut length = func(length_left);
+    length.parse_complete(input)
 }
 
 /// The first byte of an input that grows.

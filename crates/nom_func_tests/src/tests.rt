@@ -7,13 +7,12 @@ ghost use Rattle.nom_traits.specs.View.{itself};
 ghost use Rattle.nom_internal.specs.Func.{TellsItems};
 ghost use Rattle.nom_func_tests.specs.Firsts.{small_outcome};
 
-use crate::growing::{first, grown_byte, grown_digits};
+use crate::growing::{first, grown_byte, grown_digits, measured};
 use nom::character::complete;
 use nom::combinator::{eof, recognize, rest};
 use nom::error::{Error, ErrorKind};
 use nom::{
-    Check, Emit, Err, IResult, Items, Needed, OutputM, OutputMode, PResult, Parser, Streaming,
-    func, parse_growing, stream_func,
+    Check, Emit, Err, IResult, Items, Needed, OutputM, OutputMode, PResult, Parser, Streaming, func,
 };
 
 type Fail<'a> = Error<&'a [u8]>;
@@ -146,6 +145,10 @@ fn letters(rt: HostRuntime) {
 fn ends(rt: HostRuntime) {
     let mut end = func(eof::<&[u8], Fail>);
     assert!(rt; end.parse(b"".as_slice()).is_ok());
+    match measured(b"ab".as_slice()) {
+        Ok((behind, found)) => assert!(rt; behind.len() == 2 && found == 2),
+        _ => panic!(rt; "refused"),
+    }
     let mut all = func(rest::<&[u8], Fail>);
     match all.parse(b"ab".as_slice()) {
         Ok((behind, found)) => assert!(rt; behind.is_empty() && found == b"ab".as_slice()),
