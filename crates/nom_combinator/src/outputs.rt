@@ -52,7 +52,8 @@ impl<I: Items, F: Parser<I> + Drop, G: Fn(&F::Output) -> bool> Parser<I> for Ver
             Some(output) => output,
             None => unreachable!(),
         };
-        if (self.test)(&output) {
+        let passes = (self.test)(&output);
+        if passes {
             Ok((rest, built::<OM::Output, F::Output>(output)))
         } else {
             Err(refusal::<OM::Error, I, F::Error>(input, ErrorKind::Verify))

@@ -16,6 +16,32 @@ use Rattle.nom_internal.proofs.Shown.{accepts, built_error}
 pub here : {I P : Type 0} {Part : I → Outcome P → Type 0} {Fact : I → Outcome P → Type 0} {i : I} (a : Outcome P) → Part i a → Fact i a → OnPart (λ i j. i ≡ j) Part Fact i
 here {i = i} a p f = record { at = i; at_is = refl; outcome = a; answered = p; fact = f }
 
+-- what isn't an acceptance passes, with the part's errors
+pub record Passing {P T E : Type 0} (Becomes : Outcome P → Outcome T → Type 0) (Blames : Outcome P → E → Type 0) (IsError : E → Type 0) : Type 0 where
+  pub refuses : Becomes Refuse Refuse
+  pub fails : Becomes Fail Fail
+  pub too_large : Becomes TooLarge TooLarge
+  pub undecided : (k : Option ℕ) → Becomes (Undecided k) (Undecided k)
+  pub blames_refusal : (e : E) → IsError e → Blames Refuse e
+  pub blames_failure : (e : E) → IsError e → Blames Fail e
+  pub blames_large : (e : E) → IsError e → Blames TooLarge e
+
+module _ {I A P T O X E : Type 0} (w : Seen I A) (IsOutput : P → O → Type 0) (IsResult : T → X → Type 0) (outputs : Bool) (mode : Modes) (i : I) (Part : I → Outcome P → Type 0) (IsError : E → Type 0) (PartRunsOut : Type 0) (Becomes : Outcome P → Outcome T → Type 0) (Blames : E → I → Outcome P → Type 0) (RunsOut : Type 0) where
+  abbrev Passed : Result (I × Option X) (Answer.Err E (Option E) Needed) → Type 0
+  Passed = ShowsAnswer w IsResult mode i (λ o. OnPart (λ i j. i ≡ j) Part (λ _ a. Becomes a o) i) (λ e. OnPart (λ i j. i ≡ j) Part (Blames e) i) RunsOut
+
+  module _ (p : Passing Becomes (λ a e. Blames e i a) IsError) where
+    passing_of : (f : Answer.Err E (Option E) Needed) (o : Outcome P) → Part i o → Shows w IsOutput (with_outputs outputs mode) i IsError o (Err f) → Passed (Err f)
+    passing_of f (Accept n v) a h = absurd (cc (h.4))
+    passing_of f Refuse a h = Shown Refuse (here Refuse a p.refuses) (h.0, built_error mode.errors _ _ h.0 (λ e b. here Refuse a (p.blames_refusal e b)) h.1, cc (h.2))
+    passing_of f Fail a h = Shown Fail (here Fail a p.fails) (h.0, here Fail a (p.blames_failure h.0 h.1), cc (h.2))
+    passing_of f TooLarge a h = Shown TooLarge (here TooLarge a p.too_large) (h.0, here TooLarge a (p.blames_large h.0 h.1), cc (h.2))
+    passing_of f (Undecided k) a h = Shown (Undecided k) (here (Undecided k) a (p.undecided k)) (h.0, h.1, cc (h.2))
+
+    pub passing_err : (PartRunsOut → RunsOut) → (f : Answer.Err E (Option E) Needed) → ShowsAnswer w IsOutput (with_outputs outputs mode) i (Part i) IsError PartRunsOut (Err f) → Passed (Err f)
+    passing_err more f (RanOut e h) = RanOut (cc (e)) (more h)
+    passing_err more f (Shown o a h) = passing_of f o a h
+
 module _ {I A P T O X E : Type 0} (w : Seen I A) (IsOutput : P → O → Type 0) (IsResult : T → X → Type 0) (builds : Bool → Bool) (OnAccept : I → ℕ → P → Outcome T → Type 0) (m : Meaning I P E) (mode : Modes) (i : I) where
   err_passes : (f : Answer.Err E (Option E) Needed) (o : Outcome P) → m.answers mode.streaming i o → Shows w IsOutput (with_outputs (builds mode.outputs) mode) i (m.blames mode.streaming i) o (Err f) → ShowsMeaning w IsResult (case_meaning (plain_case builds (λ i. Passes (OnAccept i))) m) mode i (Err f)
   err_passes f (Accept n v) a h = absurd (cc (h.4))

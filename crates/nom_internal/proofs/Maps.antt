@@ -11,8 +11,8 @@ use Rattle.nom_internal.specs.Meaning.{Meaning, ShowsMeaning}
 use Rattle.nom_internal.specs.Cases.CaseRunsOut.{RunsOutInPart}
 use Rattle.nom_internal.specs.Closures.{GivesFor, IsCallable}
 use Rattle.nom_internal.specs.Mapped.{map_meaning, into_meaning, ConvertsSome, ConvertsResult}
-use Rattle.nom_internal.proofs.Shown.{accepts, built_error}
-use Rattle.nom_internal.proofs.Cased.{here}
+use Rattle.nom_internal.proofs.Shown.{accepts}
+use Rattle.nom_internal.proofs.Cased.{here, Passing, passing_err}
 
 -- an output that is built is given to a closure, and none elsewhere
 module _ {V P R : Type 0} (IsOutput : V → P → Type 0) (Gives : P → R → Type 0) (t : V) where
@@ -27,23 +27,14 @@ module _ {V P R : Type 0} (IsOutput : V → P → Type 0) (Gives : P → R → T
 abbrev MapShown : {I A V P R E : Type 0} (w : Seen I A) (IsOutput : V → P → Type 0) (Takes : P → Type 0) (Gives : P → R → Type 0) (m : Meaning I V E) (mode : Modes) (i : I) → Result (I × Option R) (Answer.Err E (Option E) Needed) → Type 0
 MapShown w IsOutput Takes Gives m mode i = ShowsMeaning w (GivesFor IsOutput Gives) (map_meaning IsOutput Takes m) mode i
 
-module _ {I A V P R E : Type 0} (w : Seen I A) (IsOutput : V → P → Type 0) (Takes : P → Type 0) (Gives : P → R → Type 0) (m : Meaning I V E) (mode : Modes) (i : I) where
-  err_of : (f : Answer.Err E (Option E) Needed) (o : Outcome V) → m.answers mode.streaming i o → Shows w IsOutput mode i (m.blames mode.streaming i) o (Err f) → MapShown w IsOutput Takes Gives m mode i (Err f)
-  err_of f (Accept n v) a h = absurd (cc (h.4))
-  err_of f Refuse a h = Shown Refuse (here Refuse a refl) (h.0, built_error mode.errors _ _ h.0 (λ e b. here Refuse a b) h.1, cc (h.2))
-  err_of f Fail a h = Shown Fail (here Fail a refl) (h.0, here Fail a h.1, cc (h.2))
-  err_of f TooLarge a h = Shown TooLarge (here TooLarge a refl) (h.0, here TooLarge a h.1, cc (h.2))
-  err_of f (Undecided k) a h = Shown (Undecided k) (here (Undecided k) a refl) (h.0, h.1, cc (h.2))
-
-  err_shown : (f : Answer.Err E (Option E) Needed) → ShowsMeaning w IsOutput m mode i (Err f) → MapShown w IsOutput Takes Gives m mode i (Err f)
-  err_shown f (RanOut e h) = RanOut (cc (e)) (RunsOutInPart i refl h)
-  err_shown f (Shown o a h) = err_of f o a h
+passing : {P E : Type 0} {IsError : E → Type 0} → Passing {P = P} (λ a o. o ≡ a) (λ a. IsError) IsError
+passing = record { refuses = refl; fails = refl; too_large = refl; undecided = λ k. refl; blames_refusal = λ e h. h; blames_failure = λ e h. h; blames_large = λ e h. h }
 
 -- The premise that a closure takes the outputs tells which closure it is.
 module _ {I A V P R E : Type 0} {w : Seen I A} {IsOutput : V → P → Type 0} {Takes : P → Type 0} {Gives : P → R → Type 0} (m : Meaning I V E) {mode : Modes} {i : I} where
   -- whatever isn't an acceptance passes
   pub map_err : {f : Answer.Err E (Option E) Needed} {r : Result (I × Option R) (Answer.Err E (Option E) Needed)} → IsCallable IsOutput Takes → ShowsMeaning w IsOutput m mode i (Err f) → r ≡ Err f → MapShown w IsOutput Takes Gives m mode i r
-  map_err {f = f} k h e = subst (λ z. MapShown w IsOutput Takes Gives m mode i z) (sym e) (err_shown w IsOutput Takes Gives m mode i f h)
+  map_err {f = f} k h e = subst (λ z. MapShown w IsOutput Takes Gives m mode i z) (sym e) (passing_err w IsOutput (GivesFor IsOutput Gives) mode.outputs mode i (m.answers mode.streaming) (m.blames mode.streaming i) (m.runs_out mode i) (λ a o. o ≡ a) (λ e j a. m.blames mode.streaming j e) ((map_meaning IsOutput Takes m).runs_out mode i) passing (RunsOutInPart i refl) f h)
 
   -- an output that was built is mapped, and none elsewhere
   pub map_some : {j : I} {x : Option P} {p : P} {r : R} → IsCallable IsOutput Takes → x ≡ Some p → Gives p r → ShowsMeaning w IsOutput m mode i (Ok (j, x)) → MapShown w IsOutput Takes Gives m mode i (Ok (j, Some r))

@@ -5,10 +5,11 @@ ghost use Rattle.std.specs.Prelude.{ℕ, List, Option};
 
 use super::rows::{Answer, Way, answers, pinned};
 use nom::bytes::take;
-use nom::combinator::{map, map_opt, value, verify};
+use nom::combinator::{map, map_opt, success, value, verify};
 use nom::error::{Error, ErrorKind};
 use nom::number::be_u8;
 use nom::{Parser, Viewed, parse_growing};
+use std::test::Fail;
 
 type At<'a> = Error<&'a [u8]>;
 
@@ -170,6 +171,24 @@ fn a_value_for_each_output(rt: HostRuntime) {
         let two = value("two", take::<_, _, At>(2usize));
         assert!(rt; answers(pinned(two), way, input, answer), "at {input:?}");
     }
+}
+
+// A clone of the list is made for each acceptance.
+#[test]
+fn a_list_for_each_output(rt: HostRuntime) -> Result<(), Fail> {
+    let list = vec![in rt.alloc(); 1u8, 2]?;
+    let mut lists = success::<_, _, At>(list.clone()?).and(value(list, be_u8()));
+    for input in [&b"a"[..], &b"b"[..]] {
+        match lists.parse(input) {
+            Ok((rest, (first, second))) => {
+                assert!(rt; rest.is_empty());
+                assert!(rt; first.as_slice() == [1, 2].as_slice());
+                assert!(rt; second.as_slice() == [1, 2].as_slice());
+            }
+            _ => panic!(rt; "refused"),
+        }
+    }
+    Ok(())
 }
 
 #[test]
