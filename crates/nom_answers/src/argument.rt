@@ -1,7 +1,7 @@
 //! Arguments of calls, as Rust writes them.
 
-use crate::literal::{Literal, between, char_of, literal_of};
-use crate::names::number_of;
+use nom_answer_lines::literal::{Literal, between, char_of, literal_of};
+use nom_answer_lines::names::number_of;
 use crate::test::Test;
 use std::alloc::Global;
 

@@ -1,10 +1,10 @@
 //! The parsers of nom's module `bytes`, by their names.
 ghost use Rattle.nom_bytes.specs.Predicates.{IsFixed};
 
-use crate::answer::Answer;
+use nom_answer_lines::answer::Answer;
 use crate::argument::Escapes;
-use crate::ask::{Module, Question};
-use crate::names::place_of;
+use nom_answer_lines::ask::{Module, Question};
+use nom_answer_lines::names::place_of;
 use crate::test::Test;
 use nom::bytes::{self, complete, streaming};
 use nom::error::Error;

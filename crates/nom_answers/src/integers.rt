@@ -1,8 +1,8 @@
 //! The decimal integers of nom's module `character`, by their names.
 
-use crate::answer::{Answer, answer_of};
-use crate::ask::{Module, Question};
-use crate::names::place_of;
+use nom_answer_lines::answer::{Answer, answer_of};
+use nom_answer_lines::ask::{Module, Question};
+use nom_answer_lines::names::place_of;
 use nom::character::{complete, streaming};
 use nom::{AsBytes, AsChar, Input};
 

@@ -1,22 +1,15 @@
 //! Lines of the files.
 
-use crate::answer::{Answer, read_answer};
+use nom_answer_lines::answer::{Answer, read_answer};
 use crate::argument::{Argument, argument_of};
-use crate::ask::{Module, Question, Way};
-use crate::literal::{Literal, literal_of};
-use crate::names::place_of;
+use nom_answer_lines::ask::{Module, Question, Way};
+use nom_answer_lines::literal::{Literal, literal_of};
+use nom_answer_lines::names::place_of;
+use nom_answer_lines::replay::Verdict;
 use crate::{bytes, characters, integers, methods};
 use nom::{AsBytes, AsChar, Compare, ExtendInto, FindSubstring, FindToken, Input};
 use std::alloc::Global;
 use std::fmt::Debug;
-
-/// What a line comes to.
-#[derive(Drop)]
-pub enum Verdict {
-    Agrees,
-    /// What was found.
-    Differs(Answer),
-}
 
 /// What a parser answers that takes a set of items or of characters.
 fn by_set<I, L>(question: Question<I>, name: &str, list: L) -> Option<Answer>
@@ -177,9 +170,5 @@ pub fn compared(alloc: Global, line: &str) -> Option<Verdict> {
     }
     let found = methods::answer(alloc, call, input)?;
     let wanted = read_answer(alloc, replied, &[])?;
-    Some(if found.is(&wanted) {
-        Verdict::Agrees
-    } else {
-        Verdict::Differs(found)
-    })
+    Some(Verdict::of(found, &wanted))
 }

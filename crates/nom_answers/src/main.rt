@@ -51,80 +51,20 @@
 //! fails; 3 where a file can't be read.
 #![tactic(auto)]
 
-ghost use Rattle.std.specs.Prelude.{◌≡◌, ◌==◌, if◌then◌else◌};
-
-mod answer;
 mod argument;
-mod ask;
 mod bytes;
 mod characters;
 mod integers;
 mod line;
-mod literal;
 mod methods;
-mod names;
 mod test;
 
-use crate::line::{Verdict, compared};
-use std::alloc::Global;
+use crate::line::compared;
+use nom_answer_lines::replay::replay_all;
 use std::process::ExitCode;
-use std::rt::{Env, Files};
-use std::{env, fs, io};
-
-/// Replays each line of a text; answers how many were wrong.
-fn replay(rt: &(impl Print + Alloc<A = Global>), text: &str) -> io::Result<u64> {
-    let mut lines = 0u64;
-    let mut wrong = 0u64;
-    for line in text.lines() {
-        lines = lines.saturating_add(1);
-        match compared(rt.alloc(), line) {
-            Some(Verdict::Agrees) => {}
-            Some(Verdict::Differs(found)) => {
-                wrong = wrong.saturating_add(1);
-                let said = found.said.as_str();
-                let left = found.left.len();
-                println!(rt; "differs {lines}, found {said}, {left} left")?;
-            }
-            None => {
-                wrong = wrong.saturating_add(1);
-                println!(rt; "unread {lines}")?;
-            }
-        }
-    }
-    println!(rt; "answers {lines}")?;
-    println!(rt; "wrong {wrong}")?;
-    Ok(wrong)
-}
-
-fn status_of(wrong: u64) -> u8
-    ensures { result ≡ (if wrong == 0 then 0 else 1) }
-{
-    if wrong == 0 { 0 } else { 1 }
-}
-
-/// Replays each file; answers the status.
-fn replay_all(rt: &(impl Env + Files + Print + Alloc<A = Global>)) -> io::Result<u8> {
-    let mut words = env::args(rt)?;
-    let _program = words.next();
-    let mut wrong = 0u64;
-    for file in words {
-        let name = file.as_str();
-        match fs::read_to_string(rt, name) {
-            Ok(text) => {
-                println!(rt; "{name}")?;
-                wrong = wrong.saturating_add(replay(rt, text.as_str())?);
-            }
-            Err(_) => {
-                println!(rt; "file fault")?;
-                return Ok(3);
-            }
-        }
-    }
-    Ok(status_of(wrong))
-}
 
 fn main(rt: HostRuntime) -> ExitCode {
-    match replay_all(&rt) {
+    match replay_all(&rt, compared) {
         Ok(status) => ExitCode::from(status),
         Err(_) => ExitCode::from(1),
     }

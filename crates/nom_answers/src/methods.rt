@@ -1,7 +1,7 @@
 //! What texts and characters are asked by their methods, answered as lines write it.
 
-use crate::answer::Answer;
-use crate::names::place_of;
+use nom_answer_lines::answer::Answer;
+use nom_answer_lines::names::place_of;
 use nom::error::ErrorKind;
 use nom::{
     AsChar, Compare, CompareResult, Err, FindSubstring, FindToken, IResult, Input, Needed, Offset,

@@ -2,7 +2,7 @@
 ghost use Rattle.std.specs.Prelude.{◌≡◌};
 ghost use Rattle.nom_answers.specs.Tests.{meets_code};
 
-use crate::names::place_of;
+use nom_answer_lines::names::place_of;
 use nom::AsChar;
 
 /// A test of items.

@@ -1,6 +1,6 @@
 //! Answers, as lines tell them.
 ghost use Rattle.std.specs.Prelude.{◌≡◌, ◌↔◌, IsTrue, IfSome, string_bytes};
-ghost use Rattle.nom_answers.specs.Answers.{IsKnownAs, IsSame, left_of, said_of};
+ghost use Rattle.nom_answer_lines.specs.Answers.{IsKnownAs, IsSame, left_of, said_of};
 
 use crate::literal::literal_of;
 use nom::{AsBytes, Err, IResult, Needed};

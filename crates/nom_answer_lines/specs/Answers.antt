@@ -7,7 +7,7 @@ use Rattle.nom_error.specs.declared.answer.Needed.{Needed}
 use Rattle.nom_error.specs.declared.answer.Err as Answer
 use Rattle.nom_error.specs.declared.answer.Err.TheVariants.{Incomplete, Error, Failure, OutOfMemory}
 use Rattle.nom_error.specs.declared.value.Error as Value
-use Rattle.nom_answers.specs.declared.answer.Answer as Told
+use Rattle.nom_answer_lines.specs.declared.answer.Answer as Told
 
 -- two answers are one
 abbrev pub IsSame : Told.Answer → Told.Answer → Type 0
