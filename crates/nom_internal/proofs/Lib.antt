@@ -9,3 +9,4 @@ pub mod Grown
 pub mod Judges
 pub mod Maps
 pub mod Shown
+pub mod Tuples

@@ -30,3 +30,5 @@ pub mod Sequence
 pub mod SequenceLaws
 pub mod Success
 pub mod TextCuts
+pub mod TupleLaws
+pub mod Tuples

@@ -1,6 +1,6 @@
-//! Parsers: what they mean, their laws and promises, slices of their inputs, sequences of two, choices,
-//! closures on their outputs, parsers on what another one gives, parsers that closures give, functions as
-//! parsers, parsers in one mode, and inputs that grow.
+//! Parsers: what they mean, their laws and promises, slices of their inputs, sequences of two, tuples,
+//! choices, closures on their outputs, parsers on what another one gives, parsers that closures give,
+//! functions as parsers, parsers in one mode, and inputs that grow.
 #![tactic(auto)]
 
 pub mod and_then;
@@ -20,3 +20,5 @@ pub mod parser;
 pub mod promises;
 pub mod sequence;
 pub mod slices;
+pub mod tuple;
+pub mod wide_tuple;

@@ -1,0 +1,304 @@
+//! Tuples of five to eight parsers.
+ghost use Rattle.nom_internal.specs.Tuples.{built_meaning, tuple_5, tuple_6, tuple_7, tuple_8, Outputs_5, Outputs_6, Outputs_7, Outputs_8, flat_5, flat_6, flat_7, flat_8};
+ghost use Rattle.nom_internal.specs.TupleLaws.{built_lawful, lawful_5, lawful_6, lawful_7, lawful_8, steady_5, steady_6, steady_7, steady_8, pinned_5, pinned_6, pinned_7, pinned_8};
+
+use crate::parser::{Parser, StreamParser};
+use crate::tuple::{Flat, formed, next_member};
+use nom_error::answer::PResult;
+use nom_error::mode::{Emit, OutputM, OutputMode};
+use nom_traits::input::Items;
+
+impl<A: Drop, B: Drop, C: Drop, D: Drop, E: Drop> Flat<((((A, B), C), D), E)> for (A, B, C, D, E) {
+    ghost flatten = { flat_5 };
+
+    #[inline(always)]
+    fn flat(nested: ((((A, B), C), D), E)) -> Self {
+        let ((((a, b), c), d), e) = nested;
+        (a, b, c, d, e)
+    }
+}
+
+impl<
+    I: Items,
+    A: Parser<I>,
+    B: Parser<I, Error = A::Error>,
+    C: Parser<I, Error = A::Error>,
+    D: Parser<I, Error = A::Error>,
+    E: Parser<I, Error = A::Error>,
+> Parser<I> for (A, B, C, D, E) {
+    type Output = (A::Output, B::Output, C::Output, D::Output, E::Output);
+
+    type Error = A::Error;
+
+    ghost State = { A.State × B.State × C.State × D.State × E.State };
+
+    ghost state = { λ p. (A.state p.0, B.state p.1, C.state p.2, D.state p.3, E.state p.4) };
+
+    ghost Tree = { A.Tree × B.Tree × C.Tree × D.Tree × E.Tree };
+
+    ghost IsOutput = { λ s. Outputs_5 (A.IsOutput s.0) (B.IsOutput s.1) (C.IsOutput s.2) (D.IsOutput s.3) (E.IsOutput s.4) };
+
+    ghost meaning = { λ s. built_meaning (tuple_5 I.seen (A.meaning s.0) (B.meaning s.1) (C.meaning s.2) (D.meaning s.3) (E.meaning s.4)) };
+
+    ghost Pins = { λ s. A.Pins s.0 × B.Pins s.1 × C.Pins s.2 × D.Pins s.3 × E.Pins s.4 };
+
+    #[inline(always)]
+    fn process<OM: OutputMode>(&mut self, input: I) -> PResult<I, Self::Output, Self::Error> {
+        let answer = self
+            .0
+            .process::<OutputM<Emit, OM::Error, OM::Incomplete>>(input);
+        let answer = next_member::<I, _, B, OM>(answer, &mut self.1);
+        let answer = next_member::<I, _, C, OM>(answer, &mut self.2);
+        let answer = next_member::<I, _, D, OM>(answer, &mut self.3);
+        let answer = next_member::<I, _, E, OM>(answer, &mut self.4);
+        formed::<I, _, Self::Output, A::Error, OM::Output>(answer)
+    }
+
+    ghost lawful = { λ s k. built_lawful (lawful_5 I.seen I.lawful (A.meaning s.0) (B.meaning s.1) (C.meaning s.2) (D.meaning s.3) (E.meaning s.4) (A.lawful s.0 k.0.0.0.0) (B.lawful s.1 k.0.0.0.1) (C.lawful s.2 k.0.0.1) (D.lawful s.3 k.0.1) (E.lawful s.4 k.1)) };
+}
+
+impl<
+    I: Items,
+    A: StreamParser<I>,
+    B: StreamParser<I, Error = A::Error>,
+    C: StreamParser<I, Error = A::Error>,
+    D: StreamParser<I, Error = A::Error>,
+    E: StreamParser<I, Error = A::Error>,
+> StreamParser<I> for (A, B, C, D, E) {
+    ghost pinned = { λ s k p. pinned_5 A.Output.view (A.IsOutput s.0) B.Output.view (B.IsOutput s.1) C.Output.view (C.IsOutput s.2) D.Output.view (D.IsOutput s.3) E.Output.view (E.IsOutput s.4) (A.pinned s.0 k.0.0.0.0 p.0) (B.pinned s.1 k.0.0.0.1 p.1) (C.pinned s.2 k.0.0.1 p.2) (D.pinned s.3 k.0.1 p.3) (E.pinned s.4 k.1 p.4) };
+
+    ghost steady = { λ s k. steady_5 I.seen I.lawful (A.meaning s.0) (B.meaning s.1) (C.meaning s.2) (D.meaning s.3) (E.meaning s.4) (A.steady s.0 k.0.0.0.0) (B.steady s.1 k.0.0.0.1) (C.steady s.2 k.0.0.1) (D.steady s.3 k.0.1) (E.steady s.4 k.1) };
+}
+
+impl<A: Drop, B: Drop, C: Drop, D: Drop, E: Drop, F: Drop> Flat<(((((A, B), C), D), E), F)>
+    for (A, B, C, D, E, F) {
+    ghost flatten = { flat_6 };
+
+    #[inline(always)]
+    fn flat(nested: (((((A, B), C), D), E), F)) -> Self {
+        let (((((a, b), c), d), e), f) = nested;
+        (a, b, c, d, e, f)
+    }
+}
+
+impl<
+    I: Items,
+    A: Parser<I>,
+    B: Parser<I, Error = A::Error>,
+    C: Parser<I, Error = A::Error>,
+    D: Parser<I, Error = A::Error>,
+    E: Parser<I, Error = A::Error>,
+    F: Parser<I, Error = A::Error>,
+> Parser<I> for (A, B, C, D, E, F) {
+    type Output = (
+        A::Output,
+        B::Output,
+        C::Output,
+        D::Output,
+        E::Output,
+        F::Output,
+    );
+
+    type Error = A::Error;
+
+    ghost State = { A.State × B.State × C.State × D.State × E.State × F.State };
+
+    ghost state = { λ p. (A.state p.0, B.state p.1, C.state p.2, D.state p.3, E.state p.4, F.state p.5) };
+
+    ghost Tree = { A.Tree × B.Tree × C.Tree × D.Tree × E.Tree × F.Tree };
+
+    ghost IsOutput = { λ s. Outputs_6 (A.IsOutput s.0) (B.IsOutput s.1) (C.IsOutput s.2) (D.IsOutput s.3) (E.IsOutput s.4) (F.IsOutput s.5) };
+
+    ghost meaning = { λ s. built_meaning (tuple_6 I.seen (A.meaning s.0) (B.meaning s.1) (C.meaning s.2) (D.meaning s.3) (E.meaning s.4) (F.meaning s.5)) };
+
+    ghost Pins = { λ s. A.Pins s.0 × B.Pins s.1 × C.Pins s.2 × D.Pins s.3 × E.Pins s.4 × F.Pins s.5 };
+
+    #[inline(always)]
+    fn process<OM: OutputMode>(&mut self, input: I) -> PResult<I, Self::Output, Self::Error> {
+        let answer = self
+            .0
+            .process::<OutputM<Emit, OM::Error, OM::Incomplete>>(input);
+        let answer = next_member::<I, _, B, OM>(answer, &mut self.1);
+        let answer = next_member::<I, _, C, OM>(answer, &mut self.2);
+        let answer = next_member::<I, _, D, OM>(answer, &mut self.3);
+        let answer = next_member::<I, _, E, OM>(answer, &mut self.4);
+        let answer = next_member::<I, _, F, OM>(answer, &mut self.5);
+        formed::<I, _, Self::Output, A::Error, OM::Output>(answer)
+    }
+
+    ghost lawful = { λ s k. built_lawful (lawful_6 I.seen I.lawful (A.meaning s.0) (B.meaning s.1) (C.meaning s.2) (D.meaning s.3) (E.meaning s.4) (F.meaning s.5) (A.lawful s.0 k.0.0.0.0.0) (B.lawful s.1 k.0.0.0.0.1) (C.lawful s.2 k.0.0.0.1) (D.lawful s.3 k.0.0.1) (E.lawful s.4 k.0.1) (F.lawful s.5 k.1)) };
+}
+
+impl<
+    I: Items,
+    A: StreamParser<I>,
+    B: StreamParser<I, Error = A::Error>,
+    C: StreamParser<I, Error = A::Error>,
+    D: StreamParser<I, Error = A::Error>,
+    E: StreamParser<I, Error = A::Error>,
+    F: StreamParser<I, Error = A::Error>,
+> StreamParser<I> for (A, B, C, D, E, F) {
+    ghost pinned = { λ s k p. pinned_6 A.Output.view (A.IsOutput s.0) B.Output.view (B.IsOutput s.1) C.Output.view (C.IsOutput s.2) D.Output.view (D.IsOutput s.3) E.Output.view (E.IsOutput s.4) F.Output.view (F.IsOutput s.5) (A.pinned s.0 k.0.0.0.0.0 p.0) (B.pinned s.1 k.0.0.0.0.1 p.1) (C.pinned s.2 k.0.0.0.1 p.2) (D.pinned s.3 k.0.0.1 p.3) (E.pinned s.4 k.0.1 p.4) (F.pinned s.5 k.1 p.5) };
+
+    ghost steady = { λ s k. steady_6 I.seen I.lawful (A.meaning s.0) (B.meaning s.1) (C.meaning s.2) (D.meaning s.3) (E.meaning s.4) (F.meaning s.5) (A.steady s.0 k.0.0.0.0.0) (B.steady s.1 k.0.0.0.0.1) (C.steady s.2 k.0.0.0.1) (D.steady s.3 k.0.0.1) (E.steady s.4 k.0.1) (F.steady s.5 k.1) };
+}
+
+impl<A: Drop, B: Drop, C: Drop, D: Drop, E: Drop, F: Drop, G: Drop> Flat<
+    ((((((A, B), C), D), E), F), G),
+> for (A, B, C, D, E, F, G) {
+    ghost flatten = { flat_7 };
+
+    #[inline(always)]
+    fn flat(nested: ((((((A, B), C), D), E), F), G)) -> Self {
+        let ((((((a, b), c), d), e), f), g) = nested;
+        (a, b, c, d, e, f, g)
+    }
+}
+
+impl<
+    I: Items,
+    A: Parser<I>,
+    B: Parser<I, Error = A::Error>,
+    C: Parser<I, Error = A::Error>,
+    D: Parser<I, Error = A::Error>,
+    E: Parser<I, Error = A::Error>,
+    F: Parser<I, Error = A::Error>,
+    G: Parser<I, Error = A::Error>,
+> Parser<I> for (A, B, C, D, E, F, G) {
+    type Output = (
+        A::Output,
+        B::Output,
+        C::Output,
+        D::Output,
+        E::Output,
+        F::Output,
+        G::Output,
+    );
+
+    type Error = A::Error;
+
+    ghost State = { A.State × B.State × C.State × D.State × E.State × F.State × G.State };
+
+    ghost state = { λ p. (A.state p.0, B.state p.1, C.state p.2, D.state p.3, E.state p.4, F.state p.5, G.state p.6) };
+
+    ghost Tree = { A.Tree × B.Tree × C.Tree × D.Tree × E.Tree × F.Tree × G.Tree };
+
+    ghost IsOutput = { λ s. Outputs_7 (A.IsOutput s.0) (B.IsOutput s.1) (C.IsOutput s.2) (D.IsOutput s.3) (E.IsOutput s.4) (F.IsOutput s.5) (G.IsOutput s.6) };
+
+    ghost meaning = { λ s. built_meaning (tuple_7 I.seen (A.meaning s.0) (B.meaning s.1) (C.meaning s.2) (D.meaning s.3) (E.meaning s.4) (F.meaning s.5) (G.meaning s.6)) };
+
+    ghost Pins = { λ s. A.Pins s.0 × B.Pins s.1 × C.Pins s.2 × D.Pins s.3 × E.Pins s.4 × F.Pins s.5 × G.Pins s.6 };
+
+    #[inline(always)]
+    fn process<OM: OutputMode>(&mut self, input: I) -> PResult<I, Self::Output, Self::Error> {
+        let answer = self
+            .0
+            .process::<OutputM<Emit, OM::Error, OM::Incomplete>>(input);
+        let answer = next_member::<I, _, B, OM>(answer, &mut self.1);
+        let answer = next_member::<I, _, C, OM>(answer, &mut self.2);
+        let answer = next_member::<I, _, D, OM>(answer, &mut self.3);
+        let answer = next_member::<I, _, E, OM>(answer, &mut self.4);
+        let answer = next_member::<I, _, F, OM>(answer, &mut self.5);
+        let answer = next_member::<I, _, G, OM>(answer, &mut self.6);
+        formed::<I, _, Self::Output, A::Error, OM::Output>(answer)
+    }
+
+    ghost lawful = { λ s k. built_lawful (lawful_7 I.seen I.lawful (A.meaning s.0) (B.meaning s.1) (C.meaning s.2) (D.meaning s.3) (E.meaning s.4) (F.meaning s.5) (G.meaning s.6) (A.lawful s.0 k.0.0.0.0.0.0) (B.lawful s.1 k.0.0.0.0.0.1) (C.lawful s.2 k.0.0.0.0.1) (D.lawful s.3 k.0.0.0.1) (E.lawful s.4 k.0.0.1) (F.lawful s.5 k.0.1) (G.lawful s.6 k.1)) };
+}
+
+impl<
+    I: Items,
+    A: StreamParser<I>,
+    B: StreamParser<I, Error = A::Error>,
+    C: StreamParser<I, Error = A::Error>,
+    D: StreamParser<I, Error = A::Error>,
+    E: StreamParser<I, Error = A::Error>,
+    F: StreamParser<I, Error = A::Error>,
+    G: StreamParser<I, Error = A::Error>,
+> StreamParser<I> for (A, B, C, D, E, F, G) {
+    ghost pinned = { λ s k p. pinned_7 A.Output.view (A.IsOutput s.0) B.Output.view (B.IsOutput s.1) C.Output.view (C.IsOutput s.2) D.Output.view (D.IsOutput s.3) E.Output.view (E.IsOutput s.4) F.Output.view (F.IsOutput s.5) G.Output.view (G.IsOutput s.6) (A.pinned s.0 k.0.0.0.0.0.0 p.0) (B.pinned s.1 k.0.0.0.0.0.1 p.1) (C.pinned s.2 k.0.0.0.0.1 p.2) (D.pinned s.3 k.0.0.0.1 p.3) (E.pinned s.4 k.0.0.1 p.4) (F.pinned s.5 k.0.1 p.5) (G.pinned s.6 k.1 p.6) };
+
+    ghost steady = { λ s k. steady_7 I.seen I.lawful (A.meaning s.0) (B.meaning s.1) (C.meaning s.2) (D.meaning s.3) (E.meaning s.4) (F.meaning s.5) (G.meaning s.6) (A.steady s.0 k.0.0.0.0.0.0) (B.steady s.1 k.0.0.0.0.0.1) (C.steady s.2 k.0.0.0.0.1) (D.steady s.3 k.0.0.0.1) (E.steady s.4 k.0.0.1) (F.steady s.5 k.0.1) (G.steady s.6 k.1) };
+}
+
+impl<A: Drop, B: Drop, C: Drop, D: Drop, E: Drop, F: Drop, G: Drop, H: Drop> Flat<
+    (((((((A, B), C), D), E), F), G), H),
+> for (A, B, C, D, E, F, G, H) {
+    ghost flatten = { flat_8 };
+
+    #[inline(always)]
+    fn flat(nested: (((((((A, B), C), D), E), F), G), H)) -> Self {
+        let (((((((a, b), c), d), e), f), g), h) = nested;
+        (a, b, c, d, e, f, g, h)
+    }
+}
+
+impl<
+    I: Items,
+    A: Parser<I>,
+    B: Parser<I, Error = A::Error>,
+    C: Parser<I, Error = A::Error>,
+    D: Parser<I, Error = A::Error>,
+    E: Parser<I, Error = A::Error>,
+    F: Parser<I, Error = A::Error>,
+    G: Parser<I, Error = A::Error>,
+    H: Parser<I, Error = A::Error>,
+> Parser<I> for (A, B, C, D, E, F, G, H) {
+    type Output = (
+        A::Output,
+        B::Output,
+        C::Output,
+        D::Output,
+        E::Output,
+        F::Output,
+        G::Output,
+        H::Output,
+    );
+
+    type Error = A::Error;
+
+    ghost State = { A.State × B.State × C.State × D.State × E.State × F.State × G.State × H.State };
+
+    ghost state = { λ p. (A.state p.0, B.state p.1, C.state p.2, D.state p.3, E.state p.4, F.state p.5, G.state p.6, H.state p.7) };
+
+    ghost Tree = { A.Tree × B.Tree × C.Tree × D.Tree × E.Tree × F.Tree × G.Tree × H.Tree };
+
+    ghost IsOutput = { λ s. Outputs_8 (A.IsOutput s.0) (B.IsOutput s.1) (C.IsOutput s.2) (D.IsOutput s.3) (E.IsOutput s.4) (F.IsOutput s.5) (G.IsOutput s.6) (H.IsOutput s.7) };
+
+    ghost meaning = { λ s. built_meaning (tuple_8 I.seen (A.meaning s.0) (B.meaning s.1) (C.meaning s.2) (D.meaning s.3) (E.meaning s.4) (F.meaning s.5) (G.meaning s.6) (H.meaning s.7)) };
+
+    ghost Pins = { λ s. A.Pins s.0 × B.Pins s.1 × C.Pins s.2 × D.Pins s.3 × E.Pins s.4 × F.Pins s.5 × G.Pins s.6 × H.Pins s.7 };
+
+    #[inline(always)]
+    fn process<OM: OutputMode>(&mut self, input: I) -> PResult<I, Self::Output, Self::Error> {
+        let answer = self
+            .0
+            .process::<OutputM<Emit, OM::Error, OM::Incomplete>>(input);
+        let answer = next_member::<I, _, B, OM>(answer, &mut self.1);
+        let answer = next_member::<I, _, C, OM>(answer, &mut self.2);
+        let answer = next_member::<I, _, D, OM>(answer, &mut self.3);
+        let answer = next_member::<I, _, E, OM>(answer, &mut self.4);
+        let answer = next_member::<I, _, F, OM>(answer, &mut self.5);
+        let answer = next_member::<I, _, G, OM>(answer, &mut self.6);
+        let answer = next_member::<I, _, H, OM>(answer, &mut self.7);
+        formed::<I, _, Self::Output, A::Error, OM::Output>(answer)
+    }
+
+    ghost lawful = { λ s k. built_lawful (lawful_8 I.seen I.lawful (A.meaning s.0) (B.meaning s.1) (C.meaning s.2) (D.meaning s.3) (E.meaning s.4) (F.meaning s.5) (G.meaning s.6) (H.meaning s.7) (A.lawful s.0 k.0.0.0.0.0.0.0) (B.lawful s.1 k.0.0.0.0.0.0.1) (C.lawful s.2 k.0.0.0.0.0.1) (D.lawful s.3 k.0.0.0.0.1) (E.lawful s.4 k.0.0.0.1) (F.lawful s.5 k.0.0.1) (G.lawful s.6 k.0.1) (H.lawful s.7 k.1)) };
+}
+
+impl<
+    I: Items,
+    A: StreamParser<I>,
+    B: StreamParser<I, Error = A::Error>,
+    C: StreamParser<I, Error = A::Error>,
+    D: StreamParser<I, Error = A::Error>,
+    E: StreamParser<I, Error = A::Error>,
+    F: StreamParser<I, Error = A::Error>,
+    G: StreamParser<I, Error = A::Error>,
+    H: StreamParser<I, Error = A::Error>,
+> StreamParser<I> for (A, B, C, D, E, F, G, H) {
+    ghost pinned = { λ s k p. pinned_8 A.Output.view (A.IsOutput s.0) B.Output.view (B.IsOutput s.1) C.Output.view (C.IsOutput s.2) D.Output.view (D.IsOutput s.3) E.Output.view (E.IsOutput s.4) F.Output.view (F.IsOutput s.5) G.Output.view (G.IsOutput s.6) H.Output.view (H.IsOutput s.7) (A.pinned s.0 k.0.0.0.0.0.0.0 p.0) (B.pinned s.1 k.0.0.0.0.0.0.1 p.1) (C.pinned s.2 k.0.0.0.0.0.1 p.2) (D.pinned s.3 k.0.0.0.0.1 p.3) (E.pinned s.4 k.0.0.0.1 p.4) (F.pinned s.5 k.0.0.1 p.5) (G.pinned s.6 k.0.1 p.6) (H.pinned s.7 k.1 p.7) };
+
+    ghost steady = { λ s k. steady_8 I.seen I.lawful (A.meaning s.0) (B.meaning s.1) (C.meaning s.2) (D.meaning s.3) (E.meaning s.4) (F.meaning s.5) (G.meaning s.6) (H.meaning s.7) (A.steady s.0 k.0.0.0.0.0.0.0) (B.steady s.1 k.0.0.0.0.0.0.1) (C.steady s.2 k.0.0.0.0.0.1) (D.steady s.3 k.0.0.0.0.1) (E.steady s.4 k.0.0.0.1) (F.steady s.5 k.0.0.1) (G.steady s.6 k.0.1) (H.steady s.7 k.1) };
+}
