@@ -4,6 +4,8 @@
 ghost use Rattle.std.specs.Prelude.{◌≡◌};
 
 mod branches;
+mod lists;
+mod widest;
 
 pub use crate::branches::Choice;
 

@@ -1,14 +1,13 @@
-use Rattle.nom_error.specs.declared.kind.ErrorKind.TheVariants.{Alt}
 use Rattle.nom_error.specs.Modes.{modes}
-use Rattle.nom_internal.specs.Choice.{either_meaning, EitherOutput}
-use Rattle.nom_internal.proofs.Choices.{either_shown, closed_shown}
+use Rattle.nom_internal.specs.Choice.{EitherOutput}
+use Rattle.nom_branch.specs.Alternatives.{next_meaning}
+use Rattle.nom_branch.proofs.Alternatives.{next_shown, choice_shown}
 use Rattle.nom_branch.proofs.branches.ChoiceTuple2Parser.process.Goals as goal
 
 pub returns-clause-shown : goal.returns-clause-shown
 returns-clause-shown g c =
     let w = g.I.Items.seen in
-    let joins = g.A.Error.ParseError.errors.joined in
-    let grows = g.A.Error.ParseError.errors.grows in
+    let e = g.A.Error.ParseError.errors in
     let mode = modes g.OM.Output.Mode.BUILDS g.OM.Error.Mode.BUILDS g.OM.Incomplete.IsStreaming.STREAMING in
     let i = c.args.input in
     let p = c.args.self.now.parser in
@@ -16,5 +15,7 @@ returns-clause-shown g c =
     let o0 = g.A.Parser.IsOutput (g.A.Parser.state p.0) in
     let m1 = g.B.Parser.meaning (g.B.Parser.state p.1) in
     let o1 = g.B.Parser.IsOutput (g.B.Parser.state p.1) in
-    let t1 = either_shown w o0 o1 joins grows m0 m1 mode i c.process-answer.result c.next_branch-answer.result c.process-answer.ensures.shown c.next_branch-answer.ensures.shown in
-    closed_shown w (EitherOutput o0 o1) mode i (either_meaning joins grows m0 m1) (λ i. g.A.Error.ParseError.errors.appended i Alt) grows c.next_branch-answer.result c.close.result t1 c.close.ensures
+    let t1 = next_shown w o0 o1 e m0 m1 mode i c.process-answer.result c.next_branch-answer.result c.process-answer.ensures.shown c.next_branch-answer.ensures.shown in
+    let a1 = next_meaning e m0 m1 in
+    let e1 = EitherOutput o0 o1 in
+    choice_shown w e1 e a1 mode i c.next_branch-answer.result c.close.result t1 c.close.ensures

@@ -1,0 +1,51 @@
+use Rattle.nom_error.specs.Modes.{modes}
+use Rattle.nom_internal.specs.Choice.{EitherOutput}
+use Rattle.nom_branch.specs.Alternatives.{next_meaning}
+use Rattle.nom_branch.proofs.Alternatives.{next_shown, choice_shown}
+use Rattle.nom_branch.proofs.widest.ChoiceTuple8Parser.process.Goals as goal
+
+pub returns-clause-shown : goal.returns-clause-shown
+returns-clause-shown g c =
+    let w = g.I.Items.seen in
+    let e = g.A.Error.ParseError.errors in
+    let mode = modes g.OM.Output.Mode.BUILDS g.OM.Error.Mode.BUILDS g.OM.Incomplete.IsStreaming.STREAMING in
+    let i = c.args.input in
+    let p = c.args.self.now.parser in
+    let m0 = g.A.Parser.meaning (g.A.Parser.state p.0) in
+    let o0 = g.A.Parser.IsOutput (g.A.Parser.state p.0) in
+    let m1 = g.B.Parser.meaning (g.B.Parser.state p.1) in
+    let o1 = g.B.Parser.IsOutput (g.B.Parser.state p.1) in
+    let m2 = g.C.Parser.meaning (g.C.Parser.state p.2) in
+    let o2 = g.C.Parser.IsOutput (g.C.Parser.state p.2) in
+    let m3 = g.D.Parser.meaning (g.D.Parser.state p.3) in
+    let o3 = g.D.Parser.IsOutput (g.D.Parser.state p.3) in
+    let m4 = g.E.Parser.meaning (g.E.Parser.state p.4) in
+    let o4 = g.E.Parser.IsOutput (g.E.Parser.state p.4) in
+    let m5 = g.F.Parser.meaning (g.F.Parser.state p.5) in
+    let o5 = g.F.Parser.IsOutput (g.F.Parser.state p.5) in
+    let m6 = g.G.Parser.meaning (g.G.Parser.state p.6) in
+    let o6 = g.G.Parser.IsOutput (g.G.Parser.state p.6) in
+    let m7 = g.H.Parser.meaning (g.H.Parser.state p.7) in
+    let o7 = g.H.Parser.IsOutput (g.H.Parser.state p.7) in
+    let t1 = next_shown w o0 o1 e m0 m1 mode i c.process-answer.result c.next_branch-answer.result c.process-answer.ensures.shown c.next_branch-answer.ensures.shown in
+    let a1 = next_meaning e m0 m1 in
+    let e1 = EitherOutput o0 o1 in
+    let t2 = next_shown w e1 o2 e a1 m2 mode i c.next_branch-answer.result c.next_branch-answer-2.result t1 c.next_branch-answer-2.ensures.shown in
+    let a2 = next_meaning e a1 m2 in
+    let e2 = EitherOutput e1 o2 in
+    let t3 = next_shown w e2 o3 e a2 m3 mode i c.next_branch-answer-2.result c.next_branch-answer-3.result t2 c.next_branch-answer-3.ensures.shown in
+    let a3 = next_meaning e a2 m3 in
+    let e3 = EitherOutput e2 o3 in
+    let t4 = next_shown w e3 o4 e a3 m4 mode i c.next_branch-answer-3.result c.next_branch-answer-4.result t3 c.next_branch-answer-4.ensures.shown in
+    let a4 = next_meaning e a3 m4 in
+    let e4 = EitherOutput e3 o4 in
+    let t5 = next_shown w e4 o5 e a4 m5 mode i c.next_branch-answer-4.result c.next_branch-answer-5.result t4 c.next_branch-answer-5.ensures.shown in
+    let a5 = next_meaning e a4 m5 in
+    let e5 = EitherOutput e4 o5 in
+    let t6 = next_shown w e5 o6 e a5 m6 mode i c.next_branch-answer-5.result c.next_branch-answer-6.result t5 c.next_branch-answer-6.ensures.shown in
+    let a6 = next_meaning e a5 m6 in
+    let e6 = EitherOutput e5 o6 in
+    let t7 = next_shown w e6 o7 e a6 m7 mode i c.next_branch-answer-6.result c.next_branch-answer-7.result t6 c.next_branch-answer-7.ensures.shown in
+    let a7 = next_meaning e a6 m7 in
+    let e7 = EitherOutput e6 o7 in
+    choice_shown w e7 e a7 mode i c.next_branch-answer-7.result c.close.result t7 c.close.ensures

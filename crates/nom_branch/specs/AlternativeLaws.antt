@@ -1,0 +1,42 @@
+-- The laws of choices among several parsers.
+use Rattle.nom_error.specs.Errors.{Errors}
+use Rattle.nom_error.specs.declared.kind.ErrorKind.TheVariants.{Alt}
+use Rattle.nom_traits.specs.Input.{Seen}
+use Rattle.nom_traits.specs.View.{View}
+use Rattle.nom_internal.specs.Meaning.{Meaning, IsLawful, IsSteady}
+use Rattle.nom_internal.specs.Pinned.{IsPinned, either_pinned}
+use Rattle.nom_internal.specs.Choice.{EitherOutput}
+use Rattle.nom_internal.specs.CaseLaws.{closed_lawful, closed_steady}
+use Rattle.nom_internal.specs.ChoiceLaws.{either_lawful, either_steady}
+use Rattle.nom_branch.specs.Alternatives.{next_meaning, choice_meaning}
+
+-- the law of a stream parser, as a fact that names its meaning
+pub record Stays {I A V E : Type 0} (w : Seen I A) (m : Meaning I V E) : Type 0 where
+  pub steady : IsSteady w m
+
+pub stays : {I A V E : Type 0} {w : Seen I A} (m : Meaning I V E) → IsSteady w m → Stays w m
+stays m h = record { steady = h }
+
+module _ {I A E : Type 0} {w : Seen I A} (e : Errors I E) where
+  pub next_lawful : {P Q : Type 0} {a : Meaning I P E} {b : Meaning I Q E} → IsLawful w a → IsLawful w b → IsLawful w (next_meaning e a b)
+  next_lawful {a = a} {b = b} p q = either_lawful w e.joined e.grows a b p q
+
+  pub choice_lawful : {V : Type 0} {m : Meaning I V E} → IsLawful w m → IsLawful w (choice_meaning e m)
+  choice_lawful {m = m} p = closed_lawful w m (λ i. e.appended i Alt) e.grows p
+
+  pub next_stays : {P Q : Type 0} {a : Meaning I P E} {b : Meaning I Q E} → Stays w a → Stays w b → Stays w (next_meaning e a b)
+  next_stays {a = a} {b = b} p q = record { steady = either_steady w e.joined e.grows a b p.steady q.steady }
+
+  pub choice_steady : {V : Type 0} {m : Meaning I V E} → Stays w m → IsSteady w (choice_meaning e m)
+  choice_steady {m = m} p = closed_steady w m (λ i. e.appended i Alt) e.grows p.steady
+
+-- outputs that one tree stands for are seen alike, as a fact that names which they are
+pub record Pinning {V O : Type 0} (view : View O) (IsOutput : V → O → Type 0) : Type 0 where
+  pub pinned : IsPinned view IsOutput
+
+module _ {O : Type 0} {view : View O} where
+  pub pins : {V : Type 0} (IsOutput : V → O → Type 0) → IsPinned view IsOutput → Pinning view IsOutput
+  pins IsOutput h = record { pinned = h }
+
+  pub next_pins : {V W : Type 0} {F : V → O → Type 0} {G : W → O → Type 0} → Pinning view F → Pinning view G → Pinning view (EitherOutput F G)
+  next_pins {F = F} {G = G} f g = record { pinned = either_pinned view F G f.pinned g.pinned }

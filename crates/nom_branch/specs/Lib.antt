@@ -1,0 +1,4 @@
+pub mod AlternativeLaws
+pub mod Alternatives
+pub mod ListLaws
+pub mod Lists
