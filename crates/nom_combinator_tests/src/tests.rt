@@ -6,3 +6,4 @@ mod converted;
 mod judged;
 mod modes;
 mod rows;
+mod verdicts;

@@ -6,30 +6,33 @@ use nom::error::{Error, ErrorKind};
 use nom::number::be_u8;
 use nom::{Check, Complete, Emit, Err, OutputM, PResult, Parser, Streaming};
 
-type At<'a> = Error<&'a [u8]>;
+pub type At<'a> = Error<&'a [u8]>;
 
 /// What of an answer is told: the rest and the output, or the kind and the input of a refusal.
 #[derive(Clone, Copy, PartialEq, Eq)]
-enum Told<'a> {
-    Accepts(&'a [u8], Option<u8>),
+pub enum Told<'a, O> {
+    Accepts(&'a [u8], Option<O>),
     Refuses(Option<(ErrorKind, &'a [u8])>),
+    /// With the kind and the input of a failure, which are always built.
+    Fails(ErrorKind, &'a [u8]),
     Other,
 }
 
-fn told_of<'a>(answer: PResult<&'a [u8], u8, At<'a>>) -> Told<'a> {
+fn told_of<'a, O: Drop>(answer: PResult<&'a [u8], O, At<'a>>) -> Told<'a, O> {
     match answer {
         Ok((rest, output)) => Told::Accepts(rest, output),
         Err(Err::Error(Some(error))) => Told::Refuses(Some((error.code, error.input))),
         Err(Err::Error(None)) => Told::Refuses(None),
+        Err(Err::Failure(error)) => Told::Fails(error.code, error.input),
         Err(_) => Told::Other,
     }
 }
 
 /// The answers at an input in the four modes of what is built: both, outputs, errors, nothing.
-fn in_modes<'a, P: Parser<&'a [u8], Output = u8, Error = At<'a>> + Drop>(
+pub fn in_modes<'a, O: Drop, P: Parser<&'a [u8], Output = O, Error = At<'a>> + Drop>(
     mut parser: P,
     input: &'a [u8],
-) -> [Told<'a>; 4]
+) -> [Told<'a, O>; 4]
     requires { (P.meaning (P.state parser)).IsSound }
 {
     [
@@ -41,14 +44,14 @@ fn in_modes<'a, P: Parser<&'a [u8], Output = u8, Error = At<'a>> + Drop>(
 }
 
 /// What is told in the four modes of an acceptance.
-fn accepts(rest: &[u8], output: u8) -> [Told<'_>; 4] {
+pub fn accepts<'a, O: Copy>(rest: &'a [u8], output: O) -> [Told<'a, O>; 4] {
     let built = Told::Accepts(rest, Some(output));
     let checked = Told::Accepts(rest, None);
     [built, built, checked, checked]
 }
 
 /// What is told in the four modes of a refusal at an input.
-fn refuses(kind: ErrorKind, input: &[u8]) -> [Told<'_>; 4] {
+pub fn refuses<'a, O: Copy>(kind: ErrorKind, input: &'a [u8]) -> [Told<'a, O>; 4] {
     let built = Told::Refuses(Some((kind, input)));
     let checked = Told::Refuses(None);
     [built, checked, built, checked]
