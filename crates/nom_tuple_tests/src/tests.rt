@@ -1,7 +1,7 @@
 //! Tuples of one, two, three and eight parsers, over bytes and texts: what is accepted, where each member
 //! refuses, and where more is needed; in each build mode, and on an input that grows.
 
-use nom_bytes::{tag, take};
+use nom_bytes::{Take, tag, take};
 use nom_error::answer::{Err, IResult, Needed, PResult};
 use nom_error::kind::ErrorKind;
 use nom_error::mode::{Check, Complete, Emit, OutputM, OutputMode, Streaming};
@@ -109,6 +109,24 @@ fn outputs_of_three(rt: HostRuntime) {
         }
         _ => panic!(rt; "refused"),
     }
+}
+
+/// One byte.
+fn byte<'a>() -> Take<&'a [u8], Fail<'a>> {
+    take(1usize)
+}
+
+#[test]
+fn widths_between(rt: HostRuntime) {
+    let input = &b"abcdefgh"[..];
+    let mut four = (byte(), byte(), byte(), byte());
+    assert!(rt; is_same(bytes_ended(four.parse(input)), Ended::Accepted(4)));
+    let mut five = (byte(), byte(), byte(), byte(), byte());
+    assert!(rt; is_same(bytes_ended(five.parse(input)), Ended::Accepted(3)));
+    let mut six = (byte(), byte(), byte(), byte(), byte(), byte());
+    assert!(rt; is_same(bytes_ended(six.parse(input)), Ended::Accepted(2)));
+    let mut seven = (byte(), byte(), byte(), byte(), byte(), byte(), byte());
+    assert!(rt; is_same(bytes_ended(seven.parse(input)), Ended::Accepted(1)));
 }
 
 type Eight<'a> = (
