@@ -1,0 +1,5 @@
+//! Tests of tuples of parsers.
+#![tactic(auto)]
+
+#[cfg(test)]
+mod tests;
