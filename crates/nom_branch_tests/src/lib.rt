@@ -1,0 +1,5 @@
+//! Tests of choices.
+#![tactic(auto)]
+
+#[cfg(test)]
+mod tests;
