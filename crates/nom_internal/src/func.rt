@@ -1,24 +1,15 @@
 //! Functions as parsers.
-ghost use Rattle.std.specs.Prelude.{◌≡◌};
-ghost use Rattle.nom_error.specs.Modes.{Built};
 ghost use Rattle.nom_internal.specs.Func.{IsViewed, viewed_pinned, IsParser, IsStreamParser, func_meaning};
 ghost use Rattle.nom_internal.specs.FuncLaws.{func_lawful, stream_func_lawful, stream_func_steady};
 
+use crate::built::built;
 use crate::parser::{Parser, StreamParser};
 use nom_error::answer::{Err, IResult, PResult};
-use nom_error::mode::{Mode, OutputMode};
+use nom_error::mode::OutputMode;
 use nom_error::value::ParseError;
 use nom_traits::input::Items;
 use nom_traits::view::Viewed;
 use std::marker::PhantomData;
-
-/// A value that a function gave, kept where values are built.
-#[inline(always)]
-fn kept<M: Mode, T: Drop>(value: T) -> Option<T>
-    ensures { Built M.BUILDS (λ v. v ≡ value) result }
-{
-    if M::BUILDS { Some(value) } else { None }
-}
 
 /// A function as a parser; made by `func`.
 #[derive(Drop)]
@@ -49,9 +40,9 @@ impl<I: Items, O: Viewed + Drop, E: ParseError<I>, F: Fn(I) -> IResult<I, O, E>>
     fn process<OM: OutputMode>(&mut self, input: I) -> PResult<I, O, E> {
         input.known();
         match (self.f)(input) {
-            Ok((rest, value)) => Ok((rest, kept::<OM::Output, O>(value))),
+            Ok((rest, value)) => Ok((rest, built::<OM::Output, O>(value))),
             Err(Err::Incomplete(needed)) => Err(Err::Incomplete(needed)),
-            Err(Err::Error(error)) => Err(Err::Error(kept::<OM::Error, E>(error))),
+            Err(Err::Error(error)) => Err(Err::Error(built::<OM::Error, E>(error))),
             Err(Err::Failure(error)) => Err(Err::Failure(error)),
             Err(Err::OutOfMemory) => Err(Err::OutOfMemory),
         }
