@@ -12,8 +12,12 @@ pub use crate::branches::Choice;
 /// The first of the parsers in `list` that doesn't refuse: its answer is the choice's, and no later one
 /// is tried.
 ///
+/// The list is a tuple of one to eight parsers, or parsers of one type in an array or a slice, as
+/// `alt(&mut parsers[..])`. Nest choices for more than eight types.
+///
 /// Where all refuse, so does the choice: their errors are joined by `or` from left to right, and the
-/// whole is closed by `append` with `Alt` at the start.
+/// whole is closed by `append` with `Alt` at the start. A tuple of one parser is that parser, whose errors
+/// aren't closed. An array or a slice without parsers refuses with `Alt`.
 #[inline(always)]
 pub fn alt<List>(list: List) -> Choice<List>
     ensures { result.parser ≡ list }
