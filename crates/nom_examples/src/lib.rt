@@ -2,14 +2,14 @@
 #![tactic(auto)]
 
 mod brackets;
+mod configuration;
 mod letters;
 mod promises;
 mod refusal;
-#[cfg(test)]
-mod tests;
 mod tokens;
 
 pub use crate::brackets::{brackets_line, nested_brackets};
+pub use crate::configuration::{Line, settings};
 pub use crate::letters::{Letter, one_letter};
 pub use crate::promises::promised;
 pub use crate::refusal::Refusal;

@@ -45,16 +45,22 @@ pub fn in_modes<'a, O: Drop, P: Parser<&'a [u8], Output = O, Error = At<'a>> + D
 
 /// What is told in the four modes of an acceptance.
 pub fn accepts<'a, O: Copy>(rest: &'a [u8], output: O) -> [Told<'a, O>; 4] {
-    let built = Told::Accepts(rest, Some(output));
-    let checked = Told::Accepts(rest, None);
-    [built, built, checked, checked]
+    [
+        Told::Accepts(rest, Some(output)),
+        Told::Accepts(rest, Some(output)),
+        Told::Accepts(rest, None),
+        Told::Accepts(rest, None),
+    ]
 }
 
 /// What is told in the four modes of a refusal at an input.
 pub fn refuses<'a, O: Copy>(kind: ErrorKind, input: &'a [u8]) -> [Told<'a, O>; 4] {
-    let built = Told::Refuses(Some((kind, input)));
-    let checked = Told::Refuses(None);
-    [built, checked, built, checked]
+    [
+        Told::Refuses(Some((kind, input))),
+        Told::Refuses(None),
+        Told::Refuses(Some((kind, input))),
+        Told::Refuses(None),
+    ]
 }
 
 #[test]

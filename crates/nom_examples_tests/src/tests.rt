@@ -1,5 +1,5 @@
-//! Lists of words in brackets, nested brackets, letters, and a composed parser that keeps nom's promises.
-use crate::{Refusal, Token, Tokens, brackets_line, one_letter, promised};
+//! Lists of words in brackets, nested brackets, letters, settings, and a composed parser that keeps nom's
+//! promises.
 use nom::branch::alt;
 use nom::bytes::{tag, take};
 use nom::error::{Error, ErrorKind};
@@ -7,6 +7,7 @@ use nom::multi::{length_data, many0};
 use nom::number::be_u8;
 use nom::sequence::{preceded, terminated};
 use nom::{Err, IResult, Needed, Parser};
+use nom_examples::{Line, Refusal, Token, Tokens, brackets_line, one_letter, promised, settings};
 
 type Fail<'a> = Error<&'a [u8]>;
 
@@ -133,5 +134,18 @@ fn nested_brackets(rt: HostRuntime) {
             }
             Err(_) => panic!(rt; "another answer"),
         }
+    }
+}
+
+#[test]
+fn lines_of_settings(rt: HostRuntime) {
+    match settings(rt.alloc(), "# of paint\nname=red\n#\nname=") {
+        Ok((rest, lines)) => {
+            assert!(rt; rest == "name=");
+            assert!(rt; lines.len() == 3);
+            assert!(rt; lines[0] == Line::Comment && lines[2] == Line::Comment);
+            assert!(rt; lines[1] == Line::Setting("name", "red"));
+        }
+        Err(_) => panic!(rt; "no lines"),
     }
 }

@@ -1,0 +1,41 @@
+//! A small language: lines of settings, as `name=value`, and of comments behind a `#`.
+
+use nom::branch::alt;
+use nom::bytes::{is_not, tag, take_while1};
+use nom::combinator::{map, opt, value};
+use nom::error::Error;
+use nom::multi::many0;
+use nom::sequence::{preceded, separated_pair, terminated};
+use nom::{IResult, Parser, Viewed};
+use std::alloc::Global;
+
+/// A line.
+#[derive(Clone, Copy, Debug, PartialEq, Eq)]
+pub enum Line<'a> {
+    Comment,
+    Setting(&'a str, &'a str),
+}
+
+impl<'a> Viewed for Line<'a> {}
+
+/// The lines of a text, each ended by a line feed. A comment may be empty; a name is of letters, and a
+/// value isn't empty.
+pub fn settings<'a>(
+    alloc: Global,
+    input: &'a str,
+) -> IResult<&'a str, Vec<Line<'a>>, Error<&'a str>> {
+    let comment = value(
+        Line::Comment,
+        preceded(tag::<&str, &'a str, Error<&'a str>>("#"), opt(is_not("\n"))),
+    );
+    let setting = map(
+        separated_pair(
+            take_while1(|c: char| c.is_alphabetic()),
+            tag("="),
+            is_not("\n"),
+        ),
+        |(name, value)| Line::Setting(name, value),
+    );
+    let line = terminated(alt((comment, setting)), tag("\n"));
+    many0(alloc, line).parse_complete(input)
+}
