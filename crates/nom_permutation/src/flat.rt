@@ -30,3 +30,58 @@ impl<A: Drop, B: Drop, C: Drop> Flat<((A, B), C)> for (A, B, C) {
         (a, b, c)
     }
 }
+
+impl<A: Drop, B: Drop, C: Drop, D: Drop> Flat<(((A, B), C), D)> for (A, B, C, D) {
+    ghost flatten = { λ p. (p.0.0.0, p.0.0.1, p.0.1, p.1) };
+
+    #[inline(always)]
+    fn flat(nested: (((A, B), C), D)) -> Self {
+        let (((a, b), c), d) = nested;
+        (a, b, c, d)
+    }
+}
+
+impl<A: Drop, B: Drop, C: Drop, D: Drop, E: Drop> Flat<((((A, B), C), D), E)> for (A, B, C, D, E) {
+    ghost flatten = { λ p. (p.0.0.0.0, p.0.0.0.1, p.0.0.1, p.0.1, p.1) };
+
+    #[inline(always)]
+    fn flat(nested: ((((A, B), C), D), E)) -> Self {
+        let ((((a, b), c), d), e) = nested;
+        (a, b, c, d, e)
+    }
+}
+
+impl<A: Drop, B: Drop, C: Drop, D: Drop, E: Drop, F: Drop> Flat<(((((A, B), C), D), E), F)>
+    for (A, B, C, D, E, F) {
+    ghost flatten = { λ p. (p.0.0.0.0.0, p.0.0.0.0.1, p.0.0.0.1, p.0.0.1, p.0.1, p.1) };
+
+    #[inline(always)]
+    fn flat(nested: (((((A, B), C), D), E), F)) -> Self {
+        let (((((a, b), c), d), e), f) = nested;
+        (a, b, c, d, e, f)
+    }
+}
+
+impl<A: Drop, B: Drop, C: Drop, D: Drop, E: Drop, F: Drop, G: Drop> Flat<
+    ((((((A, B), C), D), E), F), G),
+> for (A, B, C, D, E, F, G) {
+    ghost flatten = { λ p. (p.0.0.0.0.0.0, p.0.0.0.0.0.1, p.0.0.0.0.1, p.0.0.0.1, p.0.0.1, p.0.1, p.1) };
+
+    #[inline(always)]
+    fn flat(nested: ((((((A, B), C), D), E), F), G)) -> Self {
+        let ((((((a, b), c), d), e), f), g) = nested;
+        (a, b, c, d, e, f, g)
+    }
+}
+
+impl<A: Drop, B: Drop, C: Drop, D: Drop, E: Drop, F: Drop, G: Drop, H: Drop> Flat<
+    (((((((A, B), C), D), E), F), G), H),
+> for (A, B, C, D, E, F, G, H) {
+    ghost flatten = { λ p. (p.0.0.0.0.0.0.0, p.0.0.0.0.0.0.1, p.0.0.0.0.0.1, p.0.0.0.0.1, p.0.0.0.1, p.0.0.1, p.0.1, p.1) };
+
+    #[inline(always)]
+    fn flat(nested: (((((((A, B), C), D), E), F), G), H)) -> Self {
+        let (((((((a, b), c), d), e), f), g), h) = nested;
+        (a, b, c, d, e, f, g, h)
+    }
+}
