@@ -1,0 +1,4 @@
+pub mod Permutation
+pub mod PermutationLaws
+pub mod Rounds
+pub mod RoundLaws

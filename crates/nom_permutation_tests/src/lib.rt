@@ -1,0 +1,5 @@
+//! Tests of permutations.
+#![tactic(auto)]
+
+#[cfg(test)]
+mod tests;
