@@ -5,12 +5,12 @@ use Rattle.nom_traits.specs.Input.{Seen, IsRest}
 use Rattle.nom_internal.specs.Outcome.{Outcome}
 use Rattle.nom_internal.specs.Outcome.Outcome.{Accept, Refuse, Fail, TooLarge, Undecided}
 use Rattle.nom_internal.specs.Meaning.{Meaning}
-use Rattle.nom_internal.specs.Cases.{labelled, labelled_meaning, closed_meaning}
-use Rattle.nom_internal.specs.Choice.{GoesOnRefused, or_meaning}
+use Rattle.nom_internal.specs.Cases.{labelled, labelled_meaning}
+use Rattle.nom_internal.specs.Choice.{GoesOnRefused}
 use Rattle.nom_internal.specs.Sequence.{GoesOn, after}
 use Rattle.nom_permutation.specs.Permutation.{Member, Choice, IsOver, or_waiting, or_members, tried, round_meaning, rounds_meaning, permutation_meaning}
 use Rattle.nom_permutation.specs.Permutation.Choice.{NoChoice, Among}
-use Rattle.nom_permutation.specs.Order.{Accepts, IsAppliedOrRefuses, Turn, Turns, AllApplied, InOrder}
+use Rattle.nom_permutation.specs.Order.{Turn, AllApplied, InOrder}
 
 -- a choice accepts, or it refuses, as one of no members does
 abbrev ChoiceAccepts : {I T E : Type 0} → Bool → Choice I T E → I → ℕ → T → Type 0

@@ -1,6 +1,6 @@
 -- How a round of a permutation runs its members.
 use Rattle.std.specs.Prelude.{◌≡◌, ℕ, ◌+◌, Bool, true, false, List, [], Result, Ok, Err, Option, Some, None, refl}
-use Rattle.std.proofs.Common.{sym, ◌∙◌, ap, subst, inl, inr, zero, suc}
+use Rattle.std.proofs.Common.{sym, ◌∙◌, ap, subst, zero, suc}
 use Rattle.nom_error.specs.declared.answer.Needed.{Needed}
 use Rattle.nom_error.specs.declared.answer.Err as Answer
 use Rattle.nom_error.specs.declared.answer.Err.TheVariants.{Incomplete, Error, Failure, OutOfMemory}
@@ -13,7 +13,7 @@ use Rattle.nom_internal.specs.Outcome.Outcome.{Accept, Refuse, Fail, TooLarge, U
 use Rattle.nom_internal.specs.Outcome.ShowsAnswer.{RanOut, Shown}
 use Rattle.nom_internal.specs.Meaning.{Meaning, ShowsMeaning}
 use Rattle.nom_internal.specs.Cases.{labelled_meaning, closed_meaning}
-use Rattle.nom_internal.specs.Choice.{NextBlames, NextRunsOut, OrBlames, or_meaning, OnError, ClosesError, ClosesResult, ShowsNext}
+use Rattle.nom_internal.specs.Choice.{NextBlames, NextRunsOut, OrBlames, or_meaning, OnError, ClosesResult, ShowsNext}
 use Rattle.nom_internal.specs.Choice.OrBlames.{FirstFails, FirstRefuses}
 use Rattle.nom_internal.specs.Choice.NextBlames.{NextFails, NextRefuses}
 use Rattle.nom_permutation.specs.Permutation.{Member, Choice, IsOver, or_waiting, tried, round_meaning, rounds_meaning}

@@ -1,6 +1,6 @@
 -- What a permutation accepts, as an order of its members: each accepts at its turn, and every earlier member that isn't
 -- applied yet refuses there.
-use Rattle.std.specs.Prelude.{◌≡◌, ℕ, ◌+◌, Bool, List, [], ◌∷◌, length, Option, Some, None, ◌⊎◌}
+use Rattle.std.specs.Prelude.{◌≡◌, ℕ, ◌+◌, Bool, List, [], ◌∷◌, None, ◌⊎◌}
 use Rattle.std.proofs.Common.{zero, suc}
 use Rattle.nom_traits.specs.Input.{Seen, IsRest}
 use Rattle.nom_internal.specs.Outcome.Outcome.{Accept, Refuse}
