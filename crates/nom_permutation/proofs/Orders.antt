@@ -1,7 +1,7 @@
 -- What the rounds accept is what an order of the members accepts.
 use Rattle.std.specs.Prelude.{◌≡◌, ℕ, ◌+◌, Bool, List, [], ◌∷◌, length, Option, Some, None, ◌⊎◌, refl}
-use Rattle.std.proofs.Common.{arith, sym, subst, inl, inr, zero, suc}
-use Rattle.nom_traits.specs.Input.{Seen, IsRest}
+use Rattle.std.proofs.Common.{arith, sym, ap, subst, inl, inr, zero, suc}
+use Rattle.nom_traits.specs.Input.{Seen, InputLaws, IsRest}
 use Rattle.nom_internal.specs.Outcome.{Outcome}
 use Rattle.nom_internal.specs.Outcome.Outcome.{Accept, Refuse, Fail, TooLarge, Undecided}
 use Rattle.nom_internal.specs.Meaning.{Meaning}
@@ -10,6 +10,7 @@ use Rattle.nom_internal.specs.Choice.{GoesOnRefused}
 use Rattle.nom_internal.specs.Sequence.{GoesOn, after}
 use Rattle.nom_permutation.specs.Permutation.{Member, Choice, IsOver, or_waiting, or_members, tried, round_meaning, rounds_meaning, permutation_meaning}
 use Rattle.nom_permutation.specs.Permutation.Choice.{NoChoice, Among}
+use Rattle.nom_permutation.proofs.Turns.{over_answer}
 use Rattle.nom_permutation.specs.Order.{Turn, AllApplied, InOrder}
 
 -- a choice accepts, or it refuses, as one of no members does
@@ -160,3 +161,57 @@ module _ {I A T E : Type 0} (w : Seen I A) (Joins : E → E → E → Type 0) (C
   -- what a permutation accepts, an order of its members accepts
   pub permutation_in_order : (none : T) (i : I) (n : ℕ) (u : T) → (permutation_meaning w Joins Closes Grows ms none).answers s i (Accept n u) → InOrder w s ms u (length ms) none i n
   permutation_in_order none i n u h = rounds_in_order (length ms) none i n u h
+
+-- and the other way
+module _ {I T P E : Type 0} (s : Bool) (Joins : E → E → E → Type 0) (Grows : Type 0) (m : Meaning I P E) (put : P → T) (i : I) where
+  accept_to : (n : ℕ) (u : T) (v : P) → m.answers s i (Accept n v) → u ≡ put v → (labelled_meaning put m).answers s i (Accept n u)
+  accept_to n u v h e = record { at = i; at_is = refl; outcome = Accept n v; answered = h; fact = ap (λ z. Accept n z) e }
+
+  waiting_accepted : (o : Choice I T E) (x : Option P) (n : ℕ) (u : T) → ChoiceAccepts s o i n u ⊎ (ChoiceRefuses s o i × (x ≡ None) × (v : P) × m.answers s i (Accept n v) × (u ≡ put v)) → ChoiceAccepts s (or_waiting Joins Grows o m put x) i n u
+  waiting_accepted o (Some v) n u (inl a) = a
+  waiting_accepted o (Some v) n u (inr r) = absurd (cc (r.1))
+  waiting_accepted NoChoice None n u (inl a) = absurd a
+  waiting_accepted NoChoice None n u (inr r) = accept_to n u r.2 r.3 r.4
+  waiting_accepted (Among k) None n u (inl a) = record { first = Accept n u; answered = a; goes_on = refl }
+  waiting_accepted (Among k) None n u (inr r) = record { first = Refuse; answered = r.0; goes_on = accept_to n u r.2 r.3 r.4 }
+
+  waiting_refused : (o : Choice I T E) (x : Option P) → ChoiceRefuses s o i → (x ≡ None → m.answers s i Refuse) → ChoiceRefuses s (or_waiting Joins Grows o m put x) i
+  waiting_refused o (Some v) h f = h
+  waiting_refused NoChoice None h f = record { at = i; at_is = refl; outcome = Refuse; answered = f refl; fact = refl }
+  waiting_refused (Among k) None h f = record { first = Refuse; answered = h; goes_on = record { at = i; at_is = refl; outcome = Refuse; answered = f refl; fact = refl } }
+
+module _ {I T E : Type 0} (s : Bool) (Joins : E → E → E → Type 0) (Grows : Type 0) (t : T) (i : I) (n : ℕ) (u : T) where
+  turn_members : (o : Choice I T E) (ms : List (Member I T E)) → ChoiceAccepts s o i n u ⊎ (ChoiceRefuses s o i × Turn s ms t i n u) → ChoiceAccepts s (or_members Joins Grows t o ms) i n u
+  turn_members o [] (inl a) = a
+  turn_members o [] (inr r) = absurd r.1
+  turn_members o (m ∷ ms) (inl a) = turn_members (or_waiting Joins Grows o m.meaning (m.put t) (m.tree t)) ms (inl (waiting_accepted s Joins Grows m.meaning (m.put t) i o (m.tree t) n u (inl a)))
+  turn_members o (m ∷ ms) (inr (r, inl a)) = turn_members (or_waiting Joins Grows o m.meaning (m.put t) (m.tree t)) ms (inl (waiting_accepted s Joins Grows m.meaning (m.put t) i o (m.tree t) n u (inr (r, a.waits, a.tree, a.accepted, a.put))))
+  turn_members o (m ∷ ms) (inr (r, inr f)) = turn_members (or_waiting Joins Grows o m.meaning (m.put t) (m.tree t)) ms (inr (waiting_refused s Joins Grows m.meaning (m.put t) i o (m.tree t) r f.0, f.1))
+
+applied_waiting : {I T P E : Type 0} (Joins : E → E → E → Type 0) (Grows : Type 0) (m : Meaning I P E) (put : P → T) (o : Choice I T E) (x : Option P) → IsOver o → (x ≡ None → ⊥) → IsOver (or_waiting Joins Grows o m put x)
+applied_waiting Joins Grows m put o (Some v) h f = h
+applied_waiting Joins Grows m put o None h f = absurd (f refl)
+
+applied_over : {I T E : Type 0} (Joins : E → E → E → Type 0) (Grows : Type 0) (t : T) (o : Choice I T E) (ms : List (Member I T E)) → IsOver o → AllApplied ms t → IsOver (or_members Joins Grows t o ms)
+applied_over Joins Grows t o [] h a = h
+applied_over Joins Grows t o (m ∷ ms) h a = applied_over Joins Grows t (or_waiting Joins Grows o m.meaning (m.put t) (m.tree t)) ms (applied_waiting Joins Grows m.meaning (m.put t) o (m.tree t) h a.0) a.1
+
+round_accepted : {I T E : Type 0} (Closes : I → E → E → Type 0) (Grows : Type 0) (s : Bool) (t : T) (o : Choice I T E) (i : I) (n : ℕ) (u : T) → ChoiceAccepts s o i n u → (round_meaning Closes Grows t o).answers s i (Accept n u)
+round_accepted Closes Grows s t NoChoice i n u h = absurd h
+round_accepted Closes Grows s t (Among m) i n u h = record { at = i; at_is = refl; outcome = Accept n u; answered = h; fact = refl }
+
+module _ {I A T E : Type 0} (w : Seen I A) (l : InputLaws w) (Joins : E → E → E → Type 0) (Closes : I → E → E → Type 0) (Grows : Type 0) (ms : List (Member I T E)) (s : Bool) where
+  order_in_rounds : (k : ℕ) (t : T) (i : I) (n : ℕ) (u : T) → w.IsKnown i → InOrder w s ms u k t i n → (rounds_meaning w Joins Closes Grows ms k t).answers s i (Accept n u)
+  order_in_rounds zero t i n u h r = cc (r.0, r.1)
+  order_in_rounds (suc k) t i n u h (inl r) =
+      let done = over_answer w l Joins Closes Grows ms s (suc k) t i h (applied_over Joins Grows t NoChoice ms tt r.0) in
+      subst (λ z. (rounds_meaning w Joins Closes Grows ms (suc k) t).answers s i (Accept n z)) (sym r.2) (subst (λ z. (rounds_meaning w Joins Closes Grows ms (suc k) t).answers s i (Accept z t)) (sym r.1) done)
+  order_in_rounds (suc k) t i n u h (inr r) = record {
+    first = Accept r.length r.trees;
+    answered = round_accepted Closes Grows s t (tried Joins Grows ms t) i r.length r.trees (turn_members s Joins Grows t i r.length r.trees NoChoice ms (inr (tt, r.turn)));
+    goes_on = (r.rest, Accept r.more u, r.rest_is, order_in_rounds k r.trees r.rest r.more u r.rest_is.known r.others, ap (λ z. Accept z u) r.lengths);
+  }
+
+  -- what an order of the members accepts, a permutation accepts
+  pub order_in_permutation : (none : T) (i : I) (n : ℕ) (u : T) → w.IsKnown i → InOrder w s ms u (length ms) none i n → (permutation_meaning w Joins Closes Grows ms none).answers s i (Accept n u)
+  order_in_permutation none i n u h r = order_in_rounds (length ms) none i n u h r

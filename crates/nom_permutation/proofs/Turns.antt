@@ -235,7 +235,7 @@ module _ {I A T E : Type 0} (w : Seen I A) (l : InputLaws w) (Joins : E → E �
   over_round t NoChoice j h = refl
   over_round t (Among m) j h = absurd h
 
-  over_answer : (n : ℕ) (t : T) (j : I) → w.IsKnown j → IsOver (tried Joins Grows ms t) → (rounds_meaning w Joins Closes Grows ms n t).answers s j (Accept 0 t)
+  pub over_answer : (n : ℕ) (t : T) (j : I) → w.IsKnown j → IsOver (tried Joins Grows ms t) → (rounds_meaning w Joins Closes Grows ms n t).answers s j (Accept 0 t)
   over_answer zero t j k h = refl
   over_answer (suc n) t j k h = record { first = Accept 0 t; answered = over_round t (tried Joins Grows ms t) j h; goes_on = (j, Accept 0 t, rest_none w l j k, over_answer n t j k h, refl) }
 
