@@ -1,1 +1,2 @@
 mod Turns
+mod Orders

@@ -1,6 +1,6 @@
 -- How a round of a permutation runs its members.
 use Rattle.std.specs.Prelude.{◌≡◌, ℕ, ◌+◌, Bool, true, false, List, [], Result, Ok, Err, Option, Some, None, refl}
-use Rattle.std.proofs.Common.{sym, ◌∙◌, ap, subst, inl, inr, zero, suc}
+use Rattle.std.proofs.Common.{sym, ◌∙◌, ap, subst, zero, suc}
 use Rattle.nom_error.specs.declared.answer.Needed.{Needed}
 use Rattle.nom_error.specs.declared.answer.Err as Answer
 use Rattle.nom_error.specs.declared.answer.Err.TheVariants.{Incomplete, Error, Failure, OutOfMemory}
@@ -13,7 +13,7 @@ use Rattle.nom_internal.specs.Outcome.Outcome.{Accept, Refuse, Fail, TooLarge, U
 use Rattle.nom_internal.specs.Outcome.ShowsAnswer.{RanOut, Shown}
 use Rattle.nom_internal.specs.Meaning.{Meaning, ShowsMeaning}
 use Rattle.nom_internal.specs.Cases.{labelled_meaning, closed_meaning}
-use Rattle.nom_internal.specs.Choice.{NextBlames, NextRunsOut, OrBlames, or_meaning, OnError, ClosesError, ClosesResult, ShowsNext}
+use Rattle.nom_internal.specs.Choice.{NextBlames, NextRunsOut, OrBlames, or_meaning, OnError, ClosesResult, ShowsNext}
 use Rattle.nom_internal.specs.Choice.OrBlames.{FirstFails, FirstRefuses}
 use Rattle.nom_internal.specs.Choice.NextBlames.{NextFails, NextRefuses}
 use Rattle.nom_permutation.specs.Permutation.{Member, Choice, IsOver, or_waiting, tried, round_meaning, rounds_meaning}
@@ -235,7 +235,7 @@ module _ {I A T E : Type 0} (w : Seen I A) (l : InputLaws w) (Joins : E → E �
   over_round t NoChoice j h = refl
   over_round t (Among m) j h = absurd h
 
-  over_answer : (n : ℕ) (t : T) (j : I) → w.IsKnown j → IsOver (tried Joins Grows ms t) → (rounds_meaning w Joins Closes Grows ms n t).answers s j (Accept 0 t)
+  pub over_answer : (n : ℕ) (t : T) (j : I) → w.IsKnown j → IsOver (tried Joins Grows ms t) → (rounds_meaning w Joins Closes Grows ms n t).answers s j (Accept 0 t)
   over_answer zero t j k h = refl
   over_answer (suc n) t j k h = record { first = Accept 0 t; answered = over_round t (tried Joins Grows ms t) j h; goes_on = (j, Accept 0 t, rest_none w l j k, over_answer n t j k h, refl) }
 

@@ -1,4 +1,5 @@
 pub mod Permutation
+pub mod Order
 pub mod PermutationLaws
 pub mod Rounds
 pub mod RoundLaws

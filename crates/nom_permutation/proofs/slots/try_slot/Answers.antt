@@ -1,5 +1,4 @@
 use Rattle.std.proofs.Common.{rules}
-use Rattle.nom_error.specs.Modes.{modes}
 use Rattle.nom_permutation.proofs.Turns.{first_tried}
 use Rattle.nom_permutation.proofs.slots.try_slot.Goals as goal
 
