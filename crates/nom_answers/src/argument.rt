@@ -1,8 +1,8 @@
 //! Arguments of calls, as Rust writes them.
 
+use crate::test::Test;
 use nom_answer_lines::literal::{Literal, between, char_of, literal_of};
 use nom_answer_lines::names::number_of;
-use crate::test::Test;
 use std::alloc::Global;
 
 /// The parts of a text with escapes: the path of each, and the text of its tag.

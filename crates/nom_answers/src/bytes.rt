@@ -1,14 +1,14 @@
 //! The parsers of nom's module `bytes`, by their names.
 ghost use Rattle.nom_bytes.specs.Predicates.{IsFixed};
 
-use nom_answer_lines::answer::Answer;
 use crate::argument::Escapes;
-use nom_answer_lines::ask::{Module, Question};
-use nom_answer_lines::names::place_of;
 use crate::test::Test;
 use nom::bytes::{self, complete, streaming};
 use nom::error::Error;
 use nom::{AsBytes, AsChar, Compare, ExtendInto, FindSubstring, FindToken, Input, Parser};
+use nom_answer_lines::answer::Answer;
+use nom_answer_lines::ask::{Module, Question};
+use nom_answer_lines::names::place_of;
 use std::alloc::Global;
 use std::fmt::Debug;
 

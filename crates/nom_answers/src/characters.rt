@@ -1,11 +1,11 @@
 //! The parsers of nom's module `character`, by their names.
 
-use nom_answer_lines::answer::{Answer, answer_of};
-use nom_answer_lines::ask::{Module, Question};
-use nom_answer_lines::names::place_of;
 use crate::test::Test;
 use nom::character::{self, complete, streaming};
 use nom::{AsBytes, AsChar, FindToken, IResult, Input};
+use nom_answer_lines::answer::{Answer, answer_of};
+use nom_answer_lines::ask::{Module, Question};
+use nom_answer_lines::names::place_of;
 use std::fmt::Debug;
 
 /// Asks the parser of a name, as the module of the question has it.

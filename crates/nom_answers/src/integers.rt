@@ -1,10 +1,10 @@
 //! The decimal integers of nom's module `character`, by their names.
 
+use nom::character::{complete, streaming};
+use nom::{AsBytes, AsChar, Input};
 use nom_answer_lines::answer::{Answer, answer_of};
 use nom_answer_lines::ask::{Module, Question};
 use nom_answer_lines::names::place_of;
-use nom::character::{complete, streaming};
-use nom::{AsBytes, AsChar, Input};
 
 /// The integer of a type, as the module of the question has it.
 macro_rules! in_module {

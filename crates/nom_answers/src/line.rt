@@ -1,13 +1,13 @@
 //! Lines of the files.
 
-use nom_answer_lines::answer::{Answer, read_answer};
 use crate::argument::{Argument, argument_of};
+use crate::{bytes, characters, integers, methods};
+use nom::{AsBytes, AsChar, Compare, ExtendInto, FindSubstring, FindToken, Input};
+use nom_answer_lines::answer::{Answer, read_answer};
 use nom_answer_lines::ask::{Module, Question, Way};
 use nom_answer_lines::literal::{Literal, literal_of};
 use nom_answer_lines::names::place_of;
 use nom_answer_lines::replay::Verdict;
-use crate::{bytes, characters, integers, methods};
-use nom::{AsBytes, AsChar, Compare, ExtendInto, FindSubstring, FindToken, Input};
 use std::alloc::Global;
 use std::fmt::Debug;
 

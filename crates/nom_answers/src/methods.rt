@@ -1,11 +1,11 @@
 //! What texts and characters are asked by their methods, answered as lines write it.
 
-use nom_answer_lines::answer::Answer;
-use nom_answer_lines::names::place_of;
 use nom::error::ErrorKind;
 use nom::{
     AsChar, Compare, CompareResult, Err, FindSubstring, FindToken, IResult, Input, Needed, Offset,
 };
+use nom_answer_lines::answer::Answer;
+use nom_answer_lines::names::place_of;
 use std::alloc::Global;
 
 /// A text as it stands between quotes.

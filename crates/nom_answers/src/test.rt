@@ -2,8 +2,8 @@
 ghost use Rattle.std.specs.Prelude.{◌≡◌};
 ghost use Rattle.nom_answers.specs.Tests.{meets_code};
 
-use nom_answer_lines::names::place_of;
 use nom::AsChar;
+use nom_answer_lines::names::place_of;
 
 /// A test of items.
 #[derive(Clone, Copy)]
