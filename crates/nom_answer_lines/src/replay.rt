@@ -1,5 +1,6 @@
 //! The replay of files.
 ghost use Rattle.std.specs.Prelude.{◌≡◌, ◌==◌, if◌then◌else◌};
+ghost use Rattle.nom_answer_lines.specs.Verdicts.{IsVerdict};
 
 use crate::answer::Answer;
 use std::alloc::Global;
@@ -16,7 +17,9 @@ pub enum Verdict {
 
 impl Verdict {
     /// Whether what was found is what a line tells.
-    pub fn of(found: Answer, wanted: &Answer) -> Verdict {
+    pub fn of(found: Answer, wanted: &Answer) -> Verdict
+        ensures { IsVerdict found wanted.now result }
+    {
         if found.is(wanted) {
             Verdict::Agrees
         } else {
