@@ -1,2 +1,5 @@
+pub mod Counted
+pub mod ItemsShown
+pub mod Keeping
 pub mod Parts
 pub mod Repeated

@@ -4,7 +4,7 @@ use Rattle.nom_error.specs.declared.answer.Needed.{Needed}
 use Rattle.nom_error.specs.declared.answer.Err as Answer
 use Rattle.nom_error.specs.declared.answer.Err.TheVariants.{Incomplete, Error, Failure, OutOfMemory}
 use Rattle.nom_error.specs.Answers.{size_of}
-use Rattle.nom_error.specs.Modes.{Modes}
+use Rattle.nom_error.specs.Modes.{Built, Modes}
 use Rattle.nom_traits.specs.Input.{Seen}
 use Rattle.nom_internal.specs.Outcome.{Outcome, ShowsAnswer}
 use Rattle.nom_internal.specs.Outcome.Outcome.{Accept, Refuse, Fail, TooLarge, Undecided}
@@ -19,6 +19,15 @@ module _ {I A V O E : Type 0} {w : Seen I A} {IsOutput : V → O → Type 0} {mo
   part_refused is (Shown Fail a s) = absurd (cc (is, s.2))
   part_refused is (Shown TooLarge a s) = absurd (cc (is, s.2))
   part_refused is (Shown (Undecided k) a s) = absurd (cc (is, s.2))
+
+  -- a refusal, with its error where errors are built
+  pub part_refusal : {b : Option E} → f ≡ Error b → ShowsAnswer w IsOutput mode i Answers IsError RunsOut (Err f) → Answers Refuse × Built mode.errors IsError b
+  part_refusal is (RanOut e h) = absurd (cc (e, is))
+  part_refusal is (Shown (Accept n v) a s) = absurd (cc (s.4))
+  part_refusal {b = b} is (Shown Refuse a s) = let e : b ≡ s.0 = cc (is, s.2) in (a, subst (λ z. Built mode.errors IsError z) (sym e) s.1)
+  part_refusal is (Shown Fail a s) = absurd (cc (is, s.2))
+  part_refusal is (Shown TooLarge a s) = absurd (cc (is, s.2))
+  part_refusal is (Shown (Undecided k) a s) = absurd (cc (is, s.2))
 
   pub part_failed : {x : E} → f ≡ Failure x → ShowsAnswer w IsOutput mode i Answers IsError RunsOut (Err f) → (Answers Fail ⊎ Answers TooLarge) × IsError x
   part_failed is (RanOut e h) = absurd (cc (e, is))

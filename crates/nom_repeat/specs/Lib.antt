@@ -1,2 +1,5 @@
+pub mod Items
+pub mod ItemsLaws
+pub mod Kept
 pub mod Repeat
 pub mod RepeatLaws

@@ -1,3 +1,8 @@
 //! Repetition: items in turn, and what ends them. The definitions, laws and lemmas of all parsers that
-//! run a part again and again.
+//! run a part again and again, and the loop of those that keep what one part gives.
 #![tactic(auto)]
+
+ghost use Rattle.std.specs.Prelude.{◌≡◌};
+
+pub mod items;
+pub mod keep;

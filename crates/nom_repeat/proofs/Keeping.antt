@@ -1,0 +1,61 @@
+-- What is kept of items, as they come.
+use Rattle.std.proofs.Common.{◌≡◌, ◌++◌, ◌∷◌, [], List, Option, Some, None, Bool, true, false, refl, sym, subst}
+use Rattle.std.specs.Prelude.{IfSome}
+use Rattle.std.specs.List.{AllZip}
+use Rattle.nom_error.specs.Modes.{Built}
+use Rattle.nom_repeat.specs.Kept.{GainsBoth, Adds, Kept}
+
+none_some : {X : Type 0} (x : X) → None ≡ Some x → ⊥
+none_some x e = absurd (cc (e))
+
+pub zip_push : {V O : Type 0} (P : V → O → Type 0) (vs : List V) (os : List O) (v : V) (o : O) → AllZip P vs os → P v o → AllZip P (vs ++ v ∷ []) (os ++ o ∷ [])
+zip_push P [] [] v o h p = (p, tt)
+zip_push P [] (x ∷ os) v o h p = absurd h
+zip_push P (u ∷ vs) [] v o h p = absurd h
+zip_push P (u ∷ vs) (x ∷ os) v o h p = (h.0, zip_push P vs os v o h.1 p)
+
+module _ {V T K : Type 0} (Gains : K → T → K → Type 0) (CanKeep : K → Type 0) (P : V → T → Type 0) where
+  adds_more : (k : K) (xs : List T) (mid : K) (x : T) (new : K) → Adds Gains k xs mid → Gains mid x new → Adds Gains k (xs ++ x ∷ []) new
+  adds_more k [] mid x new a g = (new, subst (λ z. Gains z x new) a g, refl)
+  adds_more k (y ∷ xs) mid x new a g = (a.0, a.1, adds_more a.0 xs mid x new a.2 g)
+
+  -- nothing yet
+  pub kept_none : (builds : Bool) (before : Option K) → Built builds CanKeep before → Built builds (Kept Gains P before []) before
+  kept_none true before h = (h.0, h.1, record { first = h.0; first_is = h.1; outputs = []; are_outputs = tt; added = refl })
+  kept_none false before h = h
+
+  pub can_keep_first : (builds : Bool) (before : Option K) → Built builds CanKeep before → IfSome before CanKeep
+  can_keep_first true before h = subst (λ z. IfSome z CanKeep) (sym h.1) h.2
+  can_keep_first false before h = subst (λ z. IfSome z CanKeep) (sym h) tt
+
+  kept_more : (before : Option K) (vs : List V) (v : V) (k : K) (x : T) (new : K) → Kept Gains P before vs k → P v x → Gains k x new → Kept Gains P before (vs ++ v ∷ []) new
+  kept_more before vs v k x new h p g = record {
+    first = h.first;
+    first_is = h.first_is;
+    outputs = h.outputs ++ x ∷ [];
+    are_outputs = zip_push P vs h.outputs v x h.are_outputs p;
+    added = adds_more h.first h.outputs k x new h.added g;
+  }
+
+  -- one item more
+  pub gained : (before : Option K) (builds : Bool) (vs : List V) (v : V) (old new : Option K) (item : Option T) → GainsBoth Gains CanKeep old item new → Built builds (Kept Gains P before vs) old → Built builds (P v) item → Built builds (Kept Gains P before (vs ++ v ∷ [])) new
+  gained before true vs v (Some k) (Some n) (Some x) g b c =
+      let one : k ≡ b.0 = cc (b.1) in
+      let item : x ≡ c.0 = cc (c.1) in
+      (n, refl, kept_more before vs v k x n (subst (λ z. Kept Gains P before vs z) (sym one) b.2) (subst (λ z. P v z) (sym item) c.2) g.0)
+  gained before true vs v (Some k) None (Some x) g b c = absurd g
+  gained before true vs v (Some k) n None g b c = absurd (none_some c.0 c.1)
+  gained before true vs v None n x g b c = absurd (none_some b.0 b.1)
+  gained before false vs v (Some k) x n g b c = absurd (none_some k (sym b))
+  gained before false vs v None x n g b c = g
+
+  pub can_keep_next : (old new : Option K) (item : Option T) → GainsBoth Gains CanKeep old item new → IfSome old CanKeep → IfSome new CanKeep
+  can_keep_next (Some k) (Some n) (Some x) g h = g.1
+  can_keep_next (Some k) None (Some x) g h = absurd g
+  can_keep_next (Some k) n None g h = subst (λ z. IfSome z CanKeep) (sym g) h
+  can_keep_next None n x g h = subst (λ z. IfSome z CanKeep) (sym g) tt
+
+-- where something is kept, it is built
+pub kept_built : {K : Type 0} (P : K → Type 0) (builds : Bool) (x : Option K) → Built builds P x → (x ≡ None → ⊥) → builds ≡ true
+kept_built P true x b h = refl
+kept_built P false x b h = absurd (h b)

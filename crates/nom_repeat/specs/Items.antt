@@ -1,0 +1,119 @@
+-- Items of one part, one after another: at least so many and at most so many, until one is refused.
+use Rattle.std.specs.Prelude.{◌≡◌, ℕ, ◌+◌, ◌<◌, ◌≤◌, ◌⊎◌, Bool, true, false, ltb, if◌then◌else◌, Option, Some, None, List, zero, suc}
+use Rattle.nom_error.specs.Errors.{Errors}
+use Rattle.nom_error.specs.declared.kind.ErrorKind.{ErrorKind}
+use Rattle.nom_error.specs.Modes.{modes}
+use Rattle.nom_traits.specs.Input.{Seen}
+use Rattle.nom_internal.specs.Outcome.{Outcome}
+use Rattle.nom_internal.specs.Outcome.Outcome.{Accept, Refuse, Fail, TooLarge, Undecided}
+use Rattle.nom_internal.specs.Meaning.{Meaning}
+use Rattle.nom_internal.specs.Families.{always}
+use Rattle.nom_repeat.specs.Repeat.{Turn, Rule, repeat_meaning}
+use Rattle.nom_repeat.specs.Repeat.Turn.{Takes, Ends}
+use Rattle.nom_repeat.specs.declared.items.Limits.{Limits}
+
+-- an item that consumes nothing is refused, where there is a kind for it, and else taken
+abbrev pub empty_turn : {V : Type 0} → Option ErrorKind → V → Turn V (Unit {0})
+empty_turn (Some kind) v = Ends Refuse
+empty_turn None v = Takes 0 v
+
+-- a refusal ends with success, but where there are too few items
+abbrev pub refused_turn : {V : Type 0} → Bool → Turn V (Unit {0})
+refused_turn true = Ends Refuse
+refused_turn false = Ends (Accept 0 tt)
+
+-- An item is taken. A refusal ends with success, before what was refused, but where there are too few items. So does the
+-- bound. All else is passed on.
+abbrev pub item_turn : {V : Type 0} → Limits → ℕ → Option (Outcome V) → Turn V (Unit {0})
+item_turn b k (Some (Accept zero v)) = empty_turn b.empty v
+item_turn b k (Some (Accept (suc n) v)) = Takes (suc n) v
+item_turn b k (Some Refuse) = refused_turn (ltb k b.least)
+item_turn b k (Some Fail) = Ends Fail
+item_turn b k (Some TooLarge) = Ends TooLarge
+item_turn b k (Some (Undecided n)) = Ends (Undecided n)
+item_turn b k None = Ends (Accept 0 tt)
+
+-- the fact of a kind, where there is one
+abbrev pub OfKind : Option ErrorKind → (ErrorKind → Type 0) → Type 0
+OfKind (Some kind) Fact = Fact kind
+OfKind None Fact = ⊥
+
+-- the error of a refusal: of an empty item its own kind; of too few items the item's error, to which a kind is added, at the
+-- start or at the item
+abbrev pub ItemBlames : {I V E : Type 0} → Errors I E → Limits → I → I → Option (Outcome V) → (E → Type 0) → E → Type 0
+ItemBlames errs b i j (Some (Accept zero v)) P e = OfKind b.empty (λ kind. errs.of_kind j kind e)
+ItemBlames errs b i j (Some (Accept (suc n) v)) P e = ⊥
+ItemBlames {E = E} errs b i j (Some Refuse) P e = OfKind b.too_few (λ kind. (x : E) × P x × errs.appended (if b.at_start then i else j) kind x e)
+ItemBlames errs b i j (Some Fail) P e = P e
+ItemBlames errs b i j (Some TooLarge) P e = P e
+ItemBlames errs b i j (Some (Undecided n)) P e = ⊥
+ItemBlames errs b i j None P e = ⊥
+
+-- an empty item needs memory for its error, or is kept
+abbrev pub EmptyAsks : Option ErrorKind → Type 0 → Type 0 → Type 0
+EmptyAsks (Some kind) Refused Kept = Refused
+EmptyAsks None Refused Kept = Kept
+
+-- where memory is needed: for an error, or to keep an item
+abbrev pub ItemAsks : {V : Type 0} → Limits → Type 0 → Type 0 → ℕ → Option (Outcome V) → Type 0
+ItemAsks b Refused Kept k (Some (Accept zero v)) = EmptyAsks b.empty Refused Kept
+ItemAsks b Refused Kept k (Some (Accept (suc n) v)) = Kept
+ItemAsks b Refused Kept k (Some Refuse) = (ltb k b.least ≡ true) × Refused
+ItemAsks b Refused Kept k (Some Fail) = ⊥
+ItemAsks b Refused Kept k (Some TooLarge) = ⊥
+ItemAsks b Refused Kept k (Some (Undecided n)) = ⊥
+ItemAsks b Refused Kept k None = ⊥
+
+-- an item's error is built where it may be one too few, and errors are built at all
+abbrev pub item_errors : Option ErrorKind → Bool → Bool
+item_errors (Some kind) errors = errors
+item_errors None errors = false
+
+-- of what is kept: it may need memory
+abbrev pub items_rule : {I V E : Type 0} → Errors I E → Limits → Type 0 → Rule I V V (Unit {0}) E
+items_rule errs b Grows = record {
+  bound = b.most;
+  turn = item_turn b;
+  Blames = λ i _ j a P e. ItemBlames errs b i j a P e;
+  part = λ _ mode. modes mode.outputs (item_errors b.too_few mode.errors) mode.streaming;
+  Asks = λ mode k a. ItemAsks b ((mode.errors ≡ true) × errs.grows) ((mode.outputs ≡ true) × Grows) k a;
+  IsSound = λ Part. Part;
+  IsFrugal = λ PartIs mode. PartIs (modes mode.outputs (item_errors b.too_few mode.errors) mode.streaming) × (mode.outputs ≡ true → Grows → ⊥) × (mode.errors ≡ true → errs.grows → ⊥);
+  NeverFails = λ Part. Part;
+}
+
+-- the items, with the list of their trees
+abbrev pub items_meaning : {I A V E : Type 0} → Seen I A → Errors I E → Limits → Type 0 → Meaning I V E → Meaning I (List V) E
+items_meaning w errs b Grows m = repeat_meaning w (items_rule errs b Grows) (λ vs _. vs) (always m)
+
+-- a number of items is given as the most, where empty ones are taken
+abbrev pub IsBounded : Option ErrorKind → Option ℕ → Type 0
+IsBounded (Some kind) most = Unit {0}
+IsBounded None (Some most) = Unit {0}
+IsBounded None None = ⊥
+
+-- where there is none, none is needed
+abbrev pub NeedsNone : {T : Type 0} → Option T → ℕ → Type 0
+NeedsNone (Some x) least = Unit {0}
+NeedsNone None least = least ≡ 0
+
+-- The limits fit each other: the items end, there is a kind for too few, and where there is no bound none is needed.
+pub record AreLimits (b : Limits) : Type 0 where
+  pub ends : IsBounded b.empty b.most
+  pub has_kind : NeedsNone b.too_few b.least
+  pub has_bound : NeedsNone b.most b.least
+
+-- the kind of an item that consumed nothing, by the lengths of what is left before and behind it
+abbrev pub IsStuck : Option ErrorKind → ℕ → ℕ → Option ErrorKind → Type 0
+IsStuck empty before after (Some kind) = (empty ≡ Some kind) × (after ≡ before)
+IsStuck empty before after None = (empty ≡ None) ⊎ (after ≡ before → ⊥)
+
+-- the kind for too few items, or none
+abbrev pub IsMissing : Limits → ℕ → Option ErrorKind → Type 0
+IsMissing b count (Some kind) = (b.too_few ≡ Some kind) × (count < b.least)
+IsMissing b count None = (b.too_few ≡ None) ⊎ (b.least ≤ count)
+
+-- one item more, where there is a bound; else none is counted
+abbrev pub IsOneMore : Option ℕ → ℕ → ℕ → Type 0
+IsOneMore (Some most) count more = more ≡ count + 1
+IsOneMore None count more = Unit {0}

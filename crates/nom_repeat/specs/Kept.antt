@@ -1,0 +1,23 @@
+-- What is kept of items.
+use Rattle.std.specs.Prelude.{◌≡◌, List, [], ◌∷◌, Option, Some, None}
+use Rattle.std.specs.List.{AllZip}
+
+-- one item more, where both are built; and what is called for the next may be called
+abbrev pub GainsBoth : {T K : Type 0} → (K → T → K → Type 0) → (K → Type 0) → Option K → Option T → Option K → Type 0
+GainsBoth Gains CanKeep (Some k) (Some x) (Some new) = Gains k x new × CanKeep new
+GainsBoth Gains CanKeep (Some k) (Some x) None = ⊥
+GainsBoth Gains CanKeep (Some k) None new = new ≡ Some k
+GainsBoth Gains CanKeep None x new = new ≡ None
+
+-- so many items more, in their order
+abbrev pub Adds : {T K : Type 0} → (K → T → K → Type 0) → K → List T → K → Type 0
+Adds Gains k [] new = new ≡ k
+Adds {K = K} Gains k (x ∷ xs) new = (next : K) × Gains k x next × Adds Gains next xs new
+
+-- what is kept of the outputs of trees, beside what was kept before
+pub record Kept {V T K : Type 0} (Gains : K → T → K → Type 0) (IsOutput : V → T → Type 0) (before : Option K) (vs : List V) (k : K) : Type 0 where
+  pub first : K
+  pub first_is : before ≡ Some first
+  pub outputs : List T
+  pub are_outputs : AllZip IsOutput vs outputs
+  pub added : Adds Gains first outputs k

@@ -1,0 +1,140 @@
+//! The loop of all repetitions of one part.
+ghost use Rattle.std.specs.Prelude.{◌≡◌, if◌then◌else◌, IsTrue, false};
+ghost use Rattle.nom_error.specs.Modes.{Built, modes};
+ghost use Rattle.nom_internal.specs.Meaning.{ShowsMeaning};
+ghost use Rattle.nom_repeat.specs.Items.{items_meaning, item_errors, AreLimits, IsMissing, IsOneMore, IsStuck};
+ghost use Rattle.nom_repeat.specs.Kept.{Kept};
+ghost use Rattle.nom_repeat.specs.Repeat.{IsBelow};
+
+use crate::keep::{Keep, gain};
+use nom_error::answer::{Err, PResult};
+use nom_error::kind::ErrorKind;
+use nom_error::mode::{Mode, OutputM, OutputMode};
+use nom_error::value::{ParseError, refusal};
+use nom_internal::choice::close_error;
+use nom_internal::parser::Parser;
+use nom_traits::input::{Input, Items};
+
+/// How many items are taken, and what ends them with an error.
+#[derive(Clone, Copy)]
+pub struct Limits {
+    /// A refusal before so many items is a refusal of all.
+    pub least: usize,
+    /// After so many items none is tried.
+    pub most: Option<usize>,
+    /// The kind that a refusal of all adds to the item's error; where there is none, no item's error is
+    /// built.
+    pub too_few: Option<ErrorKind>,
+    /// It is added at the start, and not at the item.
+    pub at_start: bool,
+    /// The kind of the refusal at an item that consumes nothing; where there is none, such an item is
+    /// taken.
+    pub empty: Option<ErrorKind>,
+}
+
+/// Items of a parser, one after another, within the limits: what was kept before, and what is kept of
+/// each. `EM` says whether the items' errors are built.
+#[inline(always)]
+pub fn items<OM: OutputMode, EM: Mode, I: Input, F: Parser<I>, K: Keep<F::Output> + Drop>(
+    parser: &mut F,
+    input: I,
+    before: Option<K>,
+    limits: Limits,
+) -> PResult<I, K, F::Error>
+    requires sound { (F.meaning (F.state parser.old)).IsSound }
+    requires built { Built OM.Output.BUILDS K.CanKeep before }
+    requires errors { EM.BUILDS ≡ item_errors limits.too_few OM.Error.BUILDS }
+    requires limits { AreLimits limits }
+    ensures shown { ShowsMeaning I.seen (Kept K.Gains (F.IsOutput (F.state parser.old)) before) (items_meaning I.seen F.Error.errors limits K.Grows (F.meaning (F.state parser.old))) (modes OM.Output.BUILDS OM.Error.BUILDS OM.Incomplete.STREAMING) input result }
+    ensures kept { F.state parser.new ≡ F.state parser.old }
+{
+    input.known();
+    let mut rest = input;
+    let mut kept = before;
+    let mut count = 0usize;
+    loop {
+        if is_full(limits.most, count) {
+            return Ok((rest, kept));
+        }
+        match parser.process::<OutputM<OM::Output, EM, OM::Incomplete>>(rest) {
+            Ok((next, item)) => match stuck(limits.empty, rest.input_len(), next.input_len()) {
+                Some(kind) => return Err(refusal::<OM::Error, I, F::Error>(rest, kind)),
+                None => {
+                    if !gain(&mut kept, item) {
+                        return Err(Err::OutOfMemory);
+                    }
+                    rest = next;
+                    count = one_more(limits.most, count);
+                }
+            },
+            Err(Err::Error(error)) => match missing(limits, count) {
+                Some(kind) => return Err(close_error(error, place(limits, input, rest), kind)),
+                None => return Ok((rest, kept)),
+            },
+            Err(Err::Failure(error)) => return Err(Err::Failure(error)),
+            Err(Err::Incomplete(needed)) => return Err(Err::Incomplete(needed)),
+            Err(Err::OutOfMemory) => return Err(Err::OutOfMemory),
+        }
+    }
+}
+
+/// Whether there are as many items as there may be.
+#[inline(always)]
+fn is_full(most: Option<usize>, count: usize) -> bool
+    ensures full { IsTrue result → IsBelow most count → ⊥ }
+    ensures below { result ≡ false → IsBelow most count }
+{
+    match most {
+        Some(most) => most <= count,
+        None => false,
+    }
+}
+
+/// The kind of a refusal where an item consumed nothing, by the lengths before and behind it.
+#[inline(always)]
+fn stuck(empty: Option<ErrorKind>, before: usize, after: usize) -> Option<ErrorKind>
+    ensures { IsStuck empty before after result }
+{
+    match empty {
+        Some(kind) => {
+            if after == before {
+                Some(kind)
+            } else {
+                None
+            }
+        }
+        None => None,
+    }
+}
+
+/// The kind that a refusal adds where there are too few items.
+#[inline(always)]
+fn missing(limits: Limits, count: usize) -> Option<ErrorKind>
+    ensures { IsMissing limits count result }
+{
+    if count < limits.least {
+        limits.too_few
+    } else {
+        None
+    }
+}
+
+/// Where the kind for too few items is added.
+#[inline(always)]
+fn place<I: Drop>(limits: Limits, input: I, rest: I) -> I
+    ensures { result ≡ (if limits.at_start then input else rest) }
+{
+    if limits.at_start { input } else { rest }
+}
+
+/// One item more, where there is a bound; else none is counted.
+#[inline(always)]
+fn one_more(most: Option<usize>, count: usize) -> usize
+    requires { IsBelow most count }
+    ensures { IsOneMore most count result }
+{
+    match most {
+        Some(_) => count + 1,
+        None => count,
+    }
+}
