@@ -1,4 +1,2 @@
 pub mod LengthShown
-pub mod Longer
-pub mod ManyShown
 pub mod Promised

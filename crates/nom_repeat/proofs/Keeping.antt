@@ -3,7 +3,7 @@ use Rattle.std.proofs.Common.{◌≡◌, ◌++◌, ◌∷◌, [], List, Option, 
 use Rattle.std.specs.Prelude.{IfSome}
 use Rattle.std.specs.List.{AllZip}
 use Rattle.nom_error.specs.Modes.{Built}
-use Rattle.nom_repeat.specs.Kept.{GainsBoth, Adds, Kept}
+use Rattle.nom_repeat.specs.Kept.{GainsBoth, LacksRoom, Adds, Kept}
 
 none_some : {X : Type 0} (x : X) → None ≡ Some x → ⊥
 none_some x e = absurd (cc (e))
@@ -55,7 +55,11 @@ module _ {V T K : Type 0} (Gains : K → T → K → Type 0) (CanKeep : K → Ty
   can_keep_next (Some k) n None g h = subst (λ z. IfSome z CanKeep) (sym g) h
   can_keep_next None n x g h = subst (λ z. IfSome z CanKeep) (sym g) tt
 
--- where something is kept, it is built
-pub kept_built : {K : Type 0} (P : K → Type 0) (builds : Bool) (x : Option K) → Built builds P x → (x ≡ None → ⊥) → builds ≡ true
-kept_built P true x b h = refl
-kept_built P false x b h = absurd (h b)
+-- where there is no room, something is kept, so it is built
+pub room_built : {K : Type 0} (IsFull P : K → Type 0) (builds : Bool) (x : Option K) → Built builds P x → LacksRoom IsFull x → builds ≡ true
+room_built IsFull P true x b h = refl
+room_built IsFull P false x b h = absurd (subst (λ z. LacksRoom IsFull z) b h)
+
+pub room_grows : {K : Type 0} (IsFull : K → Type 0) (Grows : Type 0) → ((k : K) → IsFull k → Grows) → (x : Option K) → LacksRoom IsFull x → Grows
+room_grows IsFull Grows f (Some k) h = f k h
+room_grows IsFull Grows f None h = absurd h

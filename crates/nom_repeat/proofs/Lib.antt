@@ -1,5 +1,6 @@
 pub mod Counted
 pub mod ItemsShown
 pub mod Keeping
+pub mod ListKept
 pub mod Parts
 pub mod Repeated

@@ -9,6 +9,11 @@ GainsBoth Gains CanKeep (Some k) (Some x) None = ⊥
 GainsBoth Gains CanKeep (Some k) None new = new ≡ Some k
 GainsBoth Gains CanKeep None x new = new ≡ None
 
+-- there is no room for another item, in what is kept
+abbrev pub LacksRoom : {K : Type 0} → (K → Type 0) → Option K → Type 0
+LacksRoom IsFull (Some k) = IsFull k
+LacksRoom IsFull None = ⊥
+
 -- so many items more, in their order
 abbrev pub Adds : {T K : Type 0} → (K → T → K → Type 0) → K → List T → K → Type 0
 Adds Gains k [] new = new ≡ k

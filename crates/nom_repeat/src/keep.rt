@@ -1,6 +1,10 @@
 //! What is kept of items.
-ghost use Rattle.std.specs.Prelude.{◌≡◌, IsTrue, IfSome, None, false};
-ghost use Rattle.nom_repeat.specs.Kept.{GainsBoth};
+ghost use Rattle.std.specs.Prelude.{◌≡◌, ◌≤◌, ◌++◌, ◌∷◌, [], IsTrue, IfSome, false, vec_len, vec_capacity};
+ghost use Rattle.nom_error.specs.Modes.{Built};
+ghost use Rattle.nom_repeat.specs.Kept.{GainsBoth, LacksRoom};
+
+use nom_error::mode::Mode;
+use std::alloc::Allocator;
 
 /// What is kept of items of type `T`: a list, a number, the value of a fold.
 pub trait Keep<T> {
@@ -10,15 +14,39 @@ pub trait Keep<T> {
     /// The premise: what is called to keep an item may be called.
     ghost CanKeep: { Self → Type 0 };
 
-    /// Keeping an item may take memory.
+    /// There is no room for an item but by more memory.
+    ghost IsFull: { Self → Type 0 };
+
+    /// Keeping items may take memory.
     ghost Grows: { Type 0 };
 
-    /// Keeps an item, and tells whether there was memory for it.
+    ghost fills: { (k : Self) → IsFull k → Grows };
+
+    /// Keeps an item, and tells whether there was memory for it; there may be none only where there is no
+    /// room.
     fn keep(&mut self, item: T) -> bool
         requires { CanKeep self.old }
         ensures kept { IsTrue result → Gains self.old item self.new }
         ensures next { IsTrue result → CanKeep self.new }
-        ensures full { result ≡ false → Grows };
+        ensures full { result ≡ false → IsFull self.old };
+}
+
+/// A list of the items, in their order.
+impl<T: Drop, A: Allocator> Keep<T> for Vec<T, A> {
+    ghost Gains = { λ old x new. new.items ≡ old.items ++ x ∷ [] };
+
+    ghost CanKeep = { λ _. Unit {0} };
+
+    ghost IsFull = { λ list. vec_capacity list ≤ vec_len list };
+
+    ghost Grows = { Unit {0} };
+
+    ghost fills = { λ _ _. tt };
+
+    #[inline(always)]
+    fn keep(&mut self, item: T) -> bool {
+        self.push(item).is_ok()
+    }
 }
 
 /// Keeps an item, where outputs are built, and tells whether there was memory for it.
@@ -26,11 +54,23 @@ pub trait Keep<T> {
 pub fn gain<T: Drop, K: Keep<T>>(kept: &mut Option<K>, item: Option<T>) -> bool
     requires { IfSome kept.old K.CanKeep }
     ensures kept { IsTrue result → GainsBoth K.Gains K.CanKeep kept.old item kept.new }
-    ensures full { result ≡ false → K.Grows }
-    ensures built { result ≡ false → kept.old ≡ None → ⊥ }
+    ensures full { result ≡ false → LacksRoom K.IsFull kept.old }
 {
     match (kept, item) {
         (Some(kept), Some(item)) => kept.keep(item),
         _ => true,
+    }
+}
+
+/// A list of no items, where a list is built; it takes no memory.
+#[inline(always)]
+pub fn none_yet<M: Mode, T, A: Allocator>(alloc: A) -> Option<Vec<T, A>>
+    ensures empty { Built M.BUILDS (λ list. list.items ≡ []) result }
+    ensures ready { Built M.BUILDS (λ _. Unit {0}) result }
+{
+    if M::BUILDS {
+        Some(Vec::new(alloc))
+    } else {
+        None
     }
 }

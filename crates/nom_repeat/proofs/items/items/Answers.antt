@@ -2,7 +2,7 @@ use Rattle.std.proofs.Common.{rules, refl}
 use Rattle.nom_internal.proofs.Shown.{accepts}
 use Rattle.nom_repeat.proofs.Repeated.{collected_none, is_empty}
 use Rattle.nom_repeat.proofs.Counted.{counts_none, counts_more, below, at_bound, few_items, left_falls}
-use Rattle.nom_repeat.proofs.Keeping.{kept_none, can_keep_first, can_keep_next, gained, kept_built}
+use Rattle.nom_repeat.proofs.Keeping.{kept_none, can_keep_first, can_keep_next, gained, room_built, room_grows}
 use Rattle.nom_repeat.proofs.ItemsShown.{items_full, items_refused, items_too_few, items_failed, items_lack, items_part_ran_out, items_stuck, items_lack_room, items_more, moves, part_at, enough}
 use Rattle.nom_internal.proofs.Consumed.{rest_length}
 use Rattle.nom_repeat.proofs.items.items.Goals as goal
@@ -33,7 +33,7 @@ returns-then-not-gain-clause-shown g c =
     let part = part_at g.F.Parser.IsOutput g.F.Parser.meaning c.requires.errors i.state_kept c.in-Ok.ensures.shown in
     let is_below = below _ _ _ i.collected.held.1 (c.is_full.ensures.below c.if-is_full.false) in
     let item = accepts part in
-    items_lack_room g.F.Error.ParseError.errors c.args.limits g.K.Keep.Grows (g.F.Parser.meaning (g.F.Parser.state c.args.parser.now)) i.collected is_below item (moves item.rest_is c.input_len.ensures c.input_len-in-Ok.ensures c.in-None.ensures) (kept_built _ _ _ i.collected.held.0 (c.gain.ensures.built c.if-not-gain.true)) (c.gain.ensures.full c.if-not-gain.true)
+    items_lack_room g.F.Error.ParseError.errors c.args.limits g.K.Keep.Grows (g.F.Parser.meaning (g.F.Parser.state c.args.parser.now)) i.collected is_below item (moves item.rest_is c.input_len.ensures c.input_len-in-Ok.ensures c.in-None.ensures) (room_built g.K.Keep.IsFull _ _ _ i.collected.held.0 (c.gain.ensures.full c.if-not-gain.true)) (room_grows g.K.Keep.IsFull g.K.Keep.Grows g.K.Keep.fills _ (c.gain.ensures.full c.if-not-gain.true))
 
 pub loop-input-smaller : goal.loop-input-smaller
 loop-input-smaller g c =
