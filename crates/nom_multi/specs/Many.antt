@@ -6,10 +6,11 @@ use Rattle.nom_traits.specs.Input.{Seen}
 use Rattle.nom_internal.specs.Meaning.{Meaning}
 use Rattle.nom_repeat.specs.Items.{items_meaning}
 use Rattle.nom_repeat.specs.declared.items.Limits.{Limits}
+use Rattle.nom_repeat.specs.declared.items.TooFew.TheVariants.{Never}
 
 -- any number of items; one that consumes nothing is refused
 abbrev pub many0_limits : Limits
-many0_limits = record { least = 0; most = None; too_few = None; at_start = false; empty = Some Kind.Many0 }
+many0_limits = record { least = 0; most = None; too_few = Never; at_start = false; empty = Some Kind.Many0 }
 
 -- a list of the items, which grows by each where outputs are built
 abbrev pub many0_meaning : {I A V E : Type 0} → Seen I A → Errors I E → Meaning I V E → Meaning I (List V) E

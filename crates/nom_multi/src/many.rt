@@ -8,7 +8,7 @@ use nom_error::kind::ErrorKind;
 use nom_error::mode::{Check, OutputMode};
 use nom_error::value::ParseError;
 use nom_internal::parser::{Parser, StreamParser};
-use nom_repeat::items::{Limits, items};
+use nom_repeat::items::{Limits, TooFew, items};
 use nom_repeat::keep::none_yet;
 use nom_traits::input::{Input, Items};
 use std::alloc::Allocator;
@@ -45,7 +45,7 @@ impl<I: Input, A: Allocator + Copy, F: Parser<I> + Drop> Parser<I> for Many0<A, 
         let limits = Limits {
             least: 0,
             most: None,
-            too_few: None,
+            too_few: TooFew::Never,
             at_start: false,
             empty: Some(ErrorKind::Many0),
         };

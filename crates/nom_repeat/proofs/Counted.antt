@@ -58,13 +58,6 @@ module _ {V : Type 0} (most : Option ℕ) (count : ℕ) (vs : List V) where
       of (Some k) c n = le-ltb (length vs) least (subst (λ x. least ≤ x) c h)
       of None c n = le-ltb (length vs) least (omega (arith, n))
 
-pub none_needed : {V X : Type 0} (x : Option X) (least : ℕ) (vs : List V) → x ≡ None → NeedsNone x least → ltb (length vs) least ≡ false
-none_needed {X = X} x least vs e n = le-ltb (length vs) least (omega (arith, zero_of x e n))
-  where
-    zero_of : (y : Option X) → y ≡ None → NeedsNone y least → least ≡ 0
-    zero_of None e n = n
-    zero_of (Some z) e n = absurd (cc (e))
-
 -- it falls
 pub left_falls : (empty : Option ErrorKind) (most : Option ℕ) (count more before after n : ℕ) → IsBounded empty most → IsBelow most count → IsOneMore most count more → ((empty ≡ None) ⊎ (0 < n)) → before ≡ n + after → left empty most more after < left empty most count before
 left_falls (Some kind) most count more before after n b h o (inl e) r = absurd (cc (e))

@@ -1,5 +1,5 @@
 -- What items within limits show.
-use Rattle.std.proofs.Common.{◌≡◌, ℕ, ◌<◌, ◌≤◌, Bool, true, false, Result, Ok, Err, Option, Some, None, ◌⊎◌, List, ◌∷◌, [], ◌++◌, length, refl, zero, suc, arith, inl, inr, ap, subst, sym}
+use Rattle.std.proofs.Common.{◌≡◌, ℕ, ◌<◌, Bool, true, false, Result, Ok, Err, Option, Some, None, ◌⊎◌, List, ◌∷◌, [], ◌++◌, length, refl, zero, suc, arith, inl, inr, ap, subst, sym}
 use Rattle.std.specs.Prelude.{ltb, if◌then◌else◌}
 use Rattle.nom_error.specs.Errors.{Errors}
 use Rattle.nom_error.specs.declared.answer.Needed.{Needed}
@@ -18,9 +18,10 @@ use Rattle.nom_internal.proofs.Shown.{Accepts, built_error}
 use Rattle.nom_internal.proofs.Choices.{closes_built}
 use Rattle.nom_repeat.specs.Repeat.{IsBelow, TurnsBy}
 use Rattle.nom_repeat.specs.Repeat.Turn.{Takes, Ends}
-use Rattle.nom_repeat.specs.Items.{empty_turn, refused_turn, item_turn, item_errors, AreLimits, items_rule, items_meaning, OfKind, ItemBlames, EmptyAsks, ItemAsks}
+use Rattle.nom_repeat.specs.Items.{empty_turn, refused_turn, item_turn, item_errors, AreLimits, NeverFew, IsNever, items_rule, items_meaning, OfKind, FewBlames, MakesError, GivesFew, ItemBlames, EmptyAsks, ItemAsks}
 use Rattle.nom_repeat.specs.declared.items.Limits.{Limits}
-use Rattle.nom_repeat.proofs.Counted.{Counts, none_needed, enough_items}
+use Rattle.nom_repeat.specs.declared.items.TooFew.{TooFew}
+use Rattle.nom_repeat.specs.declared.items.TooFew.TheVariants.{Never, Passed, Added, Fresh}
 use Rattle.nom_repeat.proofs.Parts.{shown_at, part_refused, part_refusal, part_failed, part_lacks, part_ran_out}
 use Rattle.nom_repeat.proofs.Repeated.{Collected, collected_more, ended, refused, failed, too_large, lacking, ran_out, ran_out_within, consumes}
 
@@ -65,11 +66,11 @@ module _ {I A V E O : Type 0} {w : Seen I A} (errs : Errors I E) (b : Limits) (G
     stopped {x = x} (inl t) h = failed (items_rule errs b Grows) (λ vs _. vs) (always m) c (Some Fail) (below, t) refl x h
     stopped {x = x} (inr t) h = too_large (items_rule errs b Grows) (λ vs _. vs) (always m) c (Some TooLarge) (below, t) refl x h
 
-    too_few_shown : ltb (length c.trees) b.least ≡ true → (kind : ErrorKind) → b.too_few ≡ Some kind → m.answers mode.streaming j Refuse → {g : Answer.Err E (Option E) Needed} → Refuses (λ y. (a : E) × m.blames mode.streaming j a × errs.appended (if b.at_start then i else j) kind a y) errs.grows mode.errors g → ShowsItems w errs b Grows m IsOutput mode i (Err g)
-    too_few_shown z kind is a (inl r) =
-        subst (λ y. ShowsItems w errs b Grows m IsOutput mode i (Err y)) (sym r.0) (ran_out (items_rule errs b Grows) (λ vs _. vs) (always m) c (Some Refuse) (below, a) (z, (r.1, r.2)))
-    too_few_shown z kind is a (inr r) =
-        subst (λ y. ShowsItems w errs b Grows m IsOutput mode i (Err y)) (sym r.2) (refused (items_rule errs b Grows) (λ vs _. vs) (always m) c (Some Refuse) (below, a) (ap (λ n. refused_turn n) (sym z)) r.0 (built_error mode.errors _ _ r.0 (λ y k. subst (λ x. OfKind x (λ d. (e : E) × m.blames mode.streaming j e × errs.appended (if b.at_start then i else j) d e y)) (sym is) k) r.1))
+    too_few_shown : ltb (length c.trees) b.least ≡ true → m.answers mode.streaming j Refuse → (Gives : E → Type 0) → ((e : E) → Gives e → FewBlames errs b.too_few (if b.at_start then i else j) (m.blames mode.streaming j) e) → MakesError b.too_few → {g : Answer.Err E (Option E) Needed} → Refuses Gives errs.grows mode.errors g → ShowsItems w errs b Grows m IsOutput mode i (Err g)
+    too_few_shown z a Gives f k (inl r) =
+        subst (λ y. ShowsItems w errs b Grows m IsOutput mode i (Err y)) (sym r.0) (ran_out (items_rule errs b Grows) (λ vs _. vs) (always m) c (Some Refuse) (below, a) (z, k, (r.1, r.2)))
+    too_few_shown z a Gives f k (inr r) =
+        subst (λ y. ShowsItems w errs b Grows m IsOutput mode i (Err y)) (sym r.2) (refused (items_rule errs b Grows) (λ vs _. vs) (always m) c (Some Refuse) (below, a) (ap (λ n. refused_turn n) (sym z)) r.0 (built_error mode.errors _ _ r.0 f r.1))
 
     module _ {X : Type 0} {IsItem : V → X → Type 0} where
       -- a refusal ends the items, where there are enough
@@ -77,10 +78,17 @@ module _ {I A V E O : Type 0} {w : Seen I A} (errs : Errors I E) (b : Limits) (G
       items_refused z e h q = ended (items_rule errs b Grows) (λ vs _. vs) (always m) c (Some Refuse) (below, part_refused e h) tt (ap (λ n. refused_turn n) (sym z)) q
 
       -- and else refuses them all
-      pub items_too_few : ltb (length c.trees) b.least ≡ true → (kind : ErrorKind) → b.too_few ≡ Some kind → {f g : Answer.Err E (Option E) Needed} {x : Option E} → f ≡ Error x → ShowsItem w b m IsItem mode j (Err f) → {at : I} → at ≡ (if b.at_start then i else j) → ClosesError (errs.appended at kind) errs.grows x g → ShowsItems w errs b Grows m IsOutput mode i (Err g)
-      items_too_few z kind is {f} {g} {x} e h {at} here q =
+      pub items_too_few : ltb (length c.trees) b.least ≡ true → (few : TooFew) → b.too_few ≡ few → {f g : Answer.Err E (Option E) Needed} {x : Option E} → f ≡ Error x → ShowsItem w b m IsItem mode j (Err f) → {at : I} → at ≡ (if b.at_start then i else j) → GivesFew errs few at mode.errors x g → ShowsItems w errs b Grows m IsOutput mode i (Err g)
+      items_too_few z Never is e h here q = absurd q
+      items_too_few z Passed is {f} {g} {x} e h {at} here q =
           let p = part_refusal e h in
-          too_few_shown z kind is p.0 (closes_built errs.grows (errs.appended (if b.at_start then i else j) kind) (m.blames mode.streaming j) mode.errors x g (subst (λ y. Built (item_errors y mode.errors) (m.blames mode.streaming j) x) is p.1) (subst (λ y. ClosesError (errs.appended y kind) errs.grows x g) here q))
+          subst (λ y. ShowsItems w errs b Grows m IsOutput mode i (Err y)) (sym q) (refused (items_rule errs b Grows) (λ vs _. vs) (always m) c (Some Refuse) (below, p.0) (ap (λ n. refused_turn n) (sym z)) x (built_error mode.errors _ _ x (λ y k. subst (λ t. FewBlames errs t (if b.at_start then i else j) (m.blames mode.streaming j) y) (sym is) k) (subst (λ y. Built (item_errors y mode.errors) (m.blames mode.streaming j) x) is p.1)))
+      items_too_few z (Added kind) is {f} {g} {x} e h {at} here q =
+          let p = part_refusal e h in
+          too_few_shown z p.0 (λ y. (a : E) × m.blames mode.streaming j a × errs.appended (if b.at_start then i else j) kind a y) (λ y k. subst (λ t. FewBlames errs t (if b.at_start then i else j) (m.blames mode.streaming j) y) (sym is) k) (subst (λ t. MakesError t) (sym is) tt) (closes_built errs.grows (errs.appended (if b.at_start then i else j) kind) (m.blames mode.streaming j) mode.errors x g (subst (λ y. Built (item_errors y mode.errors) (m.blames mode.streaming j) x) is p.1) (subst (λ y. ClosesError (errs.appended y kind) errs.grows x g) here q))
+      items_too_few z (Fresh kind) is {f} {g} {x} e h {at} here q =
+          let p = part_refusal e h in
+          too_few_shown z p.0 (errs.of_kind (if b.at_start then i else j) kind) (λ y k. subst (λ t. FewBlames errs t (if b.at_start then i else j) (m.blames mode.streaming j) y) (sym is) k) (subst (λ t. MakesError t) (sym is) tt) (subst (λ y. Refuses (errs.of_kind y kind) errs.grows mode.errors g) here q)
 
       -- all else is passed on
       pub items_failed : {f : Answer.Err E (Option E) Needed} {x : E} → f ≡ Failure x → ShowsItem w b m IsItem mode j (Err f) → ShowsItems w errs b Grows m IsOutput mode i (Err (Failure x))
@@ -119,7 +127,12 @@ pub moves : {I A : Type 0} {w : Seen I A} {i j : I} {n a b : ℕ} {kind : Option
 moves r x y (inl e) = inl e
 moves r x y (inr h) = inr (consumes r y x h)
 
--- there are enough items, or none are needed
-pub enough : {V : Type 0} (b : Limits) (count : ℕ) (vs : List V) → AreLimits b → Counts b.most count vs → (b.too_few ≡ None) ⊎ (b.least ≤ count) → ltb (length vs) b.least ≡ false
-enough b count vs l c (inl e) = none_needed b.too_few b.least vs e l.has_kind
-enough b count vs l c (inr h) = enough_items b.most count vs b.least c l.has_bound h
+-- where there may be too few, there is an error for it
+pub some_few : (b : Limits) (count : ℕ) → AreLimits b → count < b.least → IsNever b.too_few → ⊥
+some_few b count l h n = by b.too_few l.has_error n
+  where
+    by : (few : TooFew) → NeverFew few b.least → IsNever few → ⊥
+    by Never z n = absurd (omega (arith, z, h))
+    by Passed z n = n
+    by (Added kind) z n = n
+    by (Fresh kind) z n = n

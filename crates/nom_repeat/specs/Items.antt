@@ -1,16 +1,23 @@
 -- Items of one part, one after another: at least so many and at most so many, until one is refused.
-use Rattle.std.specs.Prelude.{◌≡◌, ℕ, ◌+◌, ◌<◌, ◌≤◌, ◌⊎◌, Bool, true, false, ltb, if◌then◌else◌, Option, Some, None, List, zero, suc}
+use Rattle.std.specs.Prelude.{◌≡◌, ℕ, ◌+◌, ◌⊎◌, Bool, true, false, ltb, if◌then◌else◌, Option, Some, None, List, zero, suc}
 use Rattle.nom_error.specs.Errors.{Errors}
 use Rattle.nom_error.specs.declared.kind.ErrorKind.{ErrorKind}
+use Rattle.nom_error.specs.declared.answer.Needed.{Needed}
+use Rattle.nom_error.specs.declared.answer.Err as Answer
+use Rattle.nom_error.specs.declared.answer.Err.TheVariants.{Error}
+use Rattle.nom_error.specs.Answers.{Refuses}
 use Rattle.nom_error.specs.Modes.{modes}
 use Rattle.nom_traits.specs.Input.{Seen}
 use Rattle.nom_internal.specs.Outcome.{Outcome}
 use Rattle.nom_internal.specs.Outcome.Outcome.{Accept, Refuse, Fail, TooLarge, Undecided}
 use Rattle.nom_internal.specs.Meaning.{Meaning}
 use Rattle.nom_internal.specs.Families.{always}
+use Rattle.nom_internal.specs.Choice.{ClosesError}
 use Rattle.nom_repeat.specs.Repeat.{Turn, Rule, repeat_meaning}
 use Rattle.nom_repeat.specs.Repeat.Turn.{Takes, Ends}
 use Rattle.nom_repeat.specs.declared.items.Limits.{Limits}
+use Rattle.nom_repeat.specs.declared.items.TooFew.{TooFew}
+use Rattle.nom_repeat.specs.declared.items.TooFew.TheVariants.{Never, Passed, Added, Fresh}
 
 -- an item that consumes nothing is refused, where there is a kind for it, and else taken
 abbrev pub empty_turn : {V : Type 0} → Option ErrorKind → V → Turn V (Unit {0})
@@ -38,12 +45,18 @@ abbrev pub OfKind : Option ErrorKind → (ErrorKind → Type 0) → Type 0
 OfKind (Some kind) Fact = Fact kind
 OfKind None Fact = ⊥
 
--- the error of a refusal: of an empty item its own kind; of too few items the item's error, to which a kind is added, at the
--- start or at the item
+-- the error of too few items: the item's, to which a kind may be added at a place, or a new one of that kind
+abbrev pub FewBlames : {I E : Type 0} → Errors I E → TooFew → I → (E → Type 0) → E → Type 0
+FewBlames errs Never place P e = ⊥
+FewBlames errs Passed place P e = P e
+FewBlames {E = E} errs (Added kind) place P e = (x : E) × P x × errs.appended place kind x e
+FewBlames errs (Fresh kind) place P e = errs.of_kind place kind e
+
+-- the error of a refusal: of an empty item its own kind; of too few items theirs, at the start or at the item
 abbrev pub ItemBlames : {I V E : Type 0} → Errors I E → Limits → I → I → Option (Outcome V) → (E → Type 0) → E → Type 0
 ItemBlames errs b i j (Some (Accept zero v)) P e = OfKind b.empty (λ kind. errs.of_kind j kind e)
 ItemBlames errs b i j (Some (Accept (suc n) v)) P e = ⊥
-ItemBlames {E = E} errs b i j (Some Refuse) P e = OfKind b.too_few (λ kind. (x : E) × P x × errs.appended (if b.at_start then i else j) kind x e)
+ItemBlames errs b i j (Some Refuse) P e = FewBlames errs b.too_few (if b.at_start then i else j) P e
 ItemBlames errs b i j (Some Fail) P e = P e
 ItemBlames errs b i j (Some TooLarge) P e = P e
 ItemBlames errs b i j (Some (Undecided n)) P e = ⊥
@@ -54,20 +67,29 @@ abbrev pub EmptyAsks : Option ErrorKind → Type 0 → Type 0 → Type 0
 EmptyAsks (Some kind) Refused Kept = Refused
 EmptyAsks None Refused Kept = Kept
 
+-- an error is made where there are too few items
+abbrev pub MakesError : TooFew → Type 0
+MakesError Never = ⊥
+MakesError Passed = ⊥
+MakesError (Added kind) = Unit {0}
+MakesError (Fresh kind) = Unit {0}
+
 -- where memory is needed: for an error, or to keep an item
 abbrev pub ItemAsks : {V : Type 0} → Limits → Type 0 → Type 0 → ℕ → Option (Outcome V) → Type 0
 ItemAsks b Refused Kept k (Some (Accept zero v)) = EmptyAsks b.empty Refused Kept
 ItemAsks b Refused Kept k (Some (Accept (suc n) v)) = Kept
-ItemAsks b Refused Kept k (Some Refuse) = (ltb k b.least ≡ true) × Refused
+ItemAsks b Refused Kept k (Some Refuse) = (ltb k b.least ≡ true) × MakesError b.too_few × Refused
 ItemAsks b Refused Kept k (Some Fail) = ⊥
 ItemAsks b Refused Kept k (Some TooLarge) = ⊥
 ItemAsks b Refused Kept k (Some (Undecided n)) = ⊥
 ItemAsks b Refused Kept k None = ⊥
 
--- an item's error is built where it may be one too few, and errors are built at all
-abbrev pub item_errors : Option ErrorKind → Bool → Bool
-item_errors (Some kind) errors = errors
-item_errors None errors = false
+-- an item's error is built where that of too few is made of it, and errors are built at all
+abbrev pub item_errors : TooFew → Bool → Bool
+item_errors Never errors = false
+item_errors Passed errors = errors
+item_errors (Added kind) errors = errors
+item_errors (Fresh kind) errors = false
 
 -- of what is kept: it may need memory
 abbrev pub items_rule : {I V E : Type 0} → Errors I E → Limits → Type 0 → Rule I V V (Unit {0}) E
@@ -92,15 +114,22 @@ IsBounded (Some kind) most = Unit {0}
 IsBounded None (Some most) = Unit {0}
 IsBounded None None = ⊥
 
--- where there is none, none is needed
-abbrev pub NeedsNone : {T : Type 0} → Option T → ℕ → Type 0
-NeedsNone (Some x) least = Unit {0}
+-- where there is no bound, none is needed
+abbrev pub NeedsNone : Option ℕ → ℕ → Type 0
+NeedsNone (Some most) least = Unit {0}
 NeedsNone None least = least ≡ 0
 
--- The limits fit each other: the items end, there is a kind for too few, and where there is no bound none is needed.
+-- there are never too few
+abbrev pub NeverFew : TooFew → ℕ → Type 0
+NeverFew Never least = least ≡ 0
+NeverFew Passed least = Unit {0}
+NeverFew (Added kind) least = Unit {0}
+NeverFew (Fresh kind) least = Unit {0}
+
+-- The limits fit each other: the items end, there is an error for too few, and where there is no bound none is needed.
 pub record AreLimits (b : Limits) : Type 0 where
   pub ends : IsBounded b.empty b.most
-  pub has_kind : NeedsNone b.too_few b.least
+  pub has_error : NeverFew b.too_few b.least
   pub has_bound : NeedsNone b.most b.least
 
 -- the kind of an item that consumed nothing, by the lengths of what is left before and behind it
@@ -108,12 +137,20 @@ abbrev pub IsStuck : Option ErrorKind → ℕ → ℕ → Option ErrorKind → T
 IsStuck empty before after (Some kind) = (empty ≡ Some kind) × (after ≡ before)
 IsStuck empty before after None = (empty ≡ None) ⊎ (after ≡ before → ⊥)
 
--- the kind for too few items, or none
-abbrev pub IsMissing : Limits → ℕ → Option ErrorKind → Type 0
-IsMissing b count (Some kind) = (b.too_few ≡ Some kind) × (count < b.least)
-IsMissing b count None = (b.too_few ≡ None) ⊎ (b.least ≤ count)
-
 -- one item more, where there is a bound; else none is counted
 abbrev pub IsOneMore : Option ℕ → ℕ → ℕ → Type 0
 IsOneMore (Some most) count more = more ≡ count + 1
 IsOneMore None count more = Unit {0}
+
+-- what is answered for too few items: the item's error, that with a kind added at a place, or a new one of that kind
+abbrev pub GivesFew : {I E : Type 0} → Errors I E → TooFew → I → Bool → Option E → Answer.Err E (Option E) Needed → Type 0
+GivesFew errs Never place errors x r = ⊥
+GivesFew errs Passed place errors x r = r ≡ Error x
+GivesFew errs (Added kind) place errors x r = ClosesError (errs.appended place kind) errs.grows x r
+GivesFew errs (Fresh kind) place errors x r = Refuses (errs.of_kind place kind) errs.grows errors r
+
+abbrev pub IsNever : TooFew → Type 0
+IsNever Never = Unit {0}
+IsNever Passed = ⊥
+IsNever (Added kind) = ⊥
+IsNever (Fresh kind) = ⊥

@@ -10,8 +10,10 @@ use Rattle.nom_internal.specs.Families.{always, always_lawful}
 use Rattle.nom_repeat.specs.Repeat.{Ran}
 use Rattle.nom_repeat.specs.Repeat.Turn.{Ends}
 use Rattle.nom_repeat.specs.RepeatLaws.{KeepsTurn, KeepsReply, EndsAt, RuleLaws, repeat_lawful, repeat_steady}
-use Rattle.nom_repeat.specs.Items.{empty_turn, refused_turn, item_turn, OfKind, ItemBlames, EmptyAsks, ItemAsks, items_rule, items_meaning}
+use Rattle.nom_repeat.specs.Items.{empty_turn, refused_turn, item_turn, FewBlames, ItemBlames, EmptyAsks, ItemAsks, items_rule, items_meaning}
 use Rattle.nom_repeat.specs.declared.items.Limits.{Limits}
+use Rattle.nom_repeat.specs.declared.items.TooFew.{TooFew}
+use Rattle.nom_repeat.specs.declared.items.TooFew.TheVariants.{Never, Passed, Added, Fresh}
 
 item_decided : {V : Type 0} (b : Limits) (k : ℕ) (a : Option (Outcome V)) → KeepsTurn true (item_turn b k a) → KeepsReply true a
 item_decided b k (Some (Accept n v)) h = tt
@@ -38,14 +40,16 @@ item_ends b k (Some TooLarge) n t e = absurd (cc (e))
 item_ends b k (Some (Undecided m)) n t e = absurd (cc (e))
 item_ends b k None n t e = cc (e)
 
-kind_more : (kind : Option ErrorKind) (P Q : ErrorKind → Type 0) → ((k : ErrorKind) → P k → Q k) → OfKind kind P → OfKind kind Q
-kind_more (Some k) P Q f h = f k h
-kind_more None P Q f h = h
+few_more : {I E : Type 0} (errs : Errors I E) (few : TooFew) (place : I) (X Y : E → Type 0) (e : E) → ((f : E) → X f → Y f) → FewBlames errs few place X e → FewBlames errs few place Y e
+few_more errs Never place X Y e f h = h
+few_more errs Passed place X Y e f h = f e h
+few_more errs (Added kind) place X Y e f h = (h.0, f h.0 h.1, h.2)
+few_more errs (Fresh kind) place X Y e f h = h
 
 item_blames : {I V E : Type 0} (errs : Errors I E) (b : Limits) (i j : I) (a : Option (Outcome V)) (X Y : E → Type 0) (e : E) → (Ran a → (f : E) → X f → Y f) → ItemBlames errs b i j a X e → ItemBlames errs b i j a Y e
 item_blames errs b i j (Some (Accept zero v)) X Y e f h = h
 item_blames errs b i j (Some (Accept (suc n) v)) X Y e f h = h
-item_blames errs b i j (Some Refuse) X Y e f h = kind_more b.too_few _ _ (λ k z. (z.0, f tt z.0 z.1, z.2)) h
+item_blames errs b i j (Some Refuse) X Y e f h = few_more errs b.too_few _ X Y e (f tt) h
 item_blames errs b i j (Some Fail) X Y e f h = f tt e h
 item_blames errs b i j (Some TooLarge) X Y e f h = f tt e h
 item_blames errs b i j (Some (Undecided n)) X Y e f h = h
@@ -58,7 +62,7 @@ empty_asks_none None Refused Kept f g h = g h
 item_asks_none : {V : Type 0} (b : Limits) (Refused Kept : Type 0) (k : ℕ) (a : Option (Outcome V)) → (Refused → ⊥) → (Kept → ⊥) → ItemAsks b Refused Kept k a → ⊥
 item_asks_none b Refused Kept k (Some (Accept zero v)) f g h = empty_asks_none b.empty Refused Kept f g h
 item_asks_none b Refused Kept k (Some (Accept (suc n) v)) f g h = g h
-item_asks_none b Refused Kept k (Some Refuse) f g h = f h.1
+item_asks_none b Refused Kept k (Some Refuse) f g h = f h.2
 item_asks_none b Refused Kept k (Some Fail) f g h = h
 item_asks_none b Refused Kept k (Some TooLarge) f g h = h
 item_asks_none b Refused Kept k (Some (Undecided n)) f g h = h

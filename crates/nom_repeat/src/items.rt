@@ -2,7 +2,7 @@
 ghost use Rattle.std.specs.Prelude.{◌≡◌, if◌then◌else◌, IsTrue, false};
 ghost use Rattle.nom_error.specs.Modes.{Built, modes};
 ghost use Rattle.nom_internal.specs.Meaning.{ShowsMeaning};
-ghost use Rattle.nom_repeat.specs.Items.{items_meaning, item_errors, AreLimits, IsMissing, IsOneMore, IsStuck};
+ghost use Rattle.nom_repeat.specs.Items.{items_meaning, item_errors, AreLimits, GivesFew, IsNever, IsOneMore, IsStuck};
 ghost use Rattle.nom_repeat.specs.Kept.{Kept};
 ghost use Rattle.nom_repeat.specs.Repeat.{IsBelow};
 
@@ -15,6 +15,19 @@ use nom_internal::choice::close_error;
 use nom_internal::parser::Parser;
 use nom_traits::input::{Input, Items};
 
+/// The error of too few items.
+#[derive(Clone, Copy)]
+pub enum TooFew {
+    /// There are never too few.
+    Never,
+    /// The item's error.
+    Passed,
+    /// The item's error, to which a kind is added.
+    Added(ErrorKind),
+    /// A new error of a kind.
+    Fresh(ErrorKind),
+}
+
 /// How many items are taken, and what ends them with an error.
 #[derive(Clone, Copy)]
 pub struct Limits {
@@ -22,10 +35,9 @@ pub struct Limits {
     pub least: usize,
     /// After so many items none is tried.
     pub most: Option<usize>,
-    /// The kind that a refusal of all adds to the item's error; where there is none, no item's error is
-    /// built.
-    pub too_few: Option<ErrorKind>,
-    /// It is added at the start, and not at the item.
+    /// The error of that refusal.
+    pub too_few: TooFew,
+    /// Its place is the start, and not the item.
     pub at_start: bool,
     /// The kind of the refusal at an item that consumes nothing; where there is none, such an item is
     /// taken.
@@ -67,10 +79,13 @@ pub fn items<OM: OutputMode, EM: Mode, I: Input, F: Parser<I>, K: Keep<F::Output
                     count = one_more(limits.most, count);
                 }
             },
-            Err(Err::Error(error)) => match missing(limits, count) {
-                Some(kind) => return Err(close_error(error, place(limits, input, rest), kind)),
-                None => return Ok((rest, kept)),
-            },
+            Err(Err::Error(error)) => {
+                if count < limits.least {
+                    let at = place(limits, input, rest);
+                    return Err(few::<OM::Error, I, F::Error>(limits.too_few, at, error));
+                }
+                return Ok((rest, kept));
+            }
             Err(Err::Failure(error)) => return Err(Err::Failure(error)),
             Err(Err::Incomplete(needed)) => return Err(Err::Incomplete(needed)),
             Err(Err::OutOfMemory) => return Err(Err::OutOfMemory),
@@ -107,19 +122,25 @@ fn stuck(empty: Option<ErrorKind>, before: usize, after: usize) -> Option<ErrorK
     }
 }
 
-/// The kind that a refusal adds where there are too few items.
+/// The error of too few items, at a place, by the item's.
 #[inline(always)]
-fn missing(limits: Limits, count: usize) -> Option<ErrorKind>
-    ensures { IsMissing limits count result }
+fn few<M: Mode, I: Drop, E: ParseError<I>>(
+    too_few: TooFew,
+    at: I,
+    error: Option<E>,
+) -> Err<E, Option<E>>
+    requires { IsNever too_few → ⊥ }
+    ensures { GivesFew E.errors too_few at M.BUILDS error result }
 {
-    if count < limits.least {
-        limits.too_few
-    } else {
-        None
+    match too_few {
+        TooFew::Never => unreachable!(),
+        TooFew::Passed => Err::Error(error),
+        TooFew::Added(kind) => close_error(error, at, kind),
+        TooFew::Fresh(kind) => refusal::<M, I, E>(at, kind),
     }
 }
 
-/// Where the kind for too few items is added.
+/// Where the error of too few items is.
 #[inline(always)]
 fn place<I: Drop>(limits: Limits, input: I, rest: I) -> I
     ensures { result ≡ (if limits.at_start then input else rest) }

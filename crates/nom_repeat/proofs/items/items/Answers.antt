@@ -1,9 +1,9 @@
 use Rattle.std.proofs.Common.{rules, refl}
 use Rattle.nom_internal.proofs.Shown.{accepts}
 use Rattle.nom_repeat.proofs.Repeated.{collected_none, is_empty}
-use Rattle.nom_repeat.proofs.Counted.{counts_none, counts_more, below, at_bound, few_items, left_falls}
+use Rattle.nom_repeat.proofs.Counted.{counts_none, counts_more, below, at_bound, few_items, enough_items, left_falls}
 use Rattle.nom_repeat.proofs.Keeping.{kept_none, can_keep_first, can_keep_next, gained, room_built, room_grows}
-use Rattle.nom_repeat.proofs.ItemsShown.{items_full, items_refused, items_too_few, items_failed, items_lack, items_part_ran_out, items_stuck, items_lack_room, items_more, moves, part_at, enough}
+use Rattle.nom_repeat.proofs.ItemsShown.{items_full, items_refused, items_too_few, items_failed, items_lack, items_part_ran_out, items_stuck, items_lack_room, items_more, moves, part_at, some_few}
 use Rattle.nom_internal.proofs.Consumed.{rest_length}
 use Rattle.nom_repeat.proofs.items.items.Goals as goal
 
@@ -54,19 +54,22 @@ loop-input-preserved g c =
       can_keep = can_keep_next g.K.Keep.Gains g.K.Keep.CanKeep (g.F.Parser.IsOutput (g.F.Parser.state c.args.parser.now)) _ _ _ gains i.can_keep;
     }
 
-pub returns-in-Some-missing-clause-shown : goal.returns-in-Some-missing-clause-shown
-returns-in-Some-missing-clause-shown g c =
-    let i = c.loop-input.invariant in
-    let part = part_at g.F.Parser.IsOutput g.F.Parser.meaning c.requires.errors i.state_kept c.in-Err-Error.ensures.shown in
-    let is_below = below _ _ _ i.collected.held.1 (c.is_full.ensures.below c.if-is_full.false) in
-    items_too_few g.F.Error.ParseError.errors c.args.limits g.K.Keep.Grows (g.F.Parser.meaning (g.F.Parser.state c.args.parser.now)) i.collected is_below (few_items _ _ _ _ i.collected.held.1 c.requires.limits.has_bound c.in-Some-missing.ensures.1) c.in-Some-missing.kind c.in-Some-missing.ensures.0 c.in-Err-Error.field-0-is part c.place.ensures c.close_error.ensures
+pub few-requires : goal.few-requires
+few-requires g c = some_few c.args.limits c.loop-input.count c.requires.limits (search rules)
 
-pub returns-in-None-missing-clause-shown : goal.returns-in-None-missing-clause-shown
-returns-in-None-missing-clause-shown g c =
+pub returns-then-count-limits-clause-shown : goal.returns-then-count-limits-clause-shown
+returns-then-count-limits-clause-shown g c =
     let i = c.loop-input.invariant in
     let part = part_at g.F.Parser.IsOutput g.F.Parser.meaning c.requires.errors i.state_kept c.in-Err-Error.ensures.shown in
     let is_below = below _ _ _ i.collected.held.1 (c.is_full.ensures.below c.if-is_full.false) in
-    items_refused g.F.Error.ParseError.errors c.args.limits g.K.Keep.Grows (g.F.Parser.meaning (g.F.Parser.state c.args.parser.now)) i.collected is_below (enough c.args.limits _ _ c.requires.limits i.collected.held.1 c.in-None-missing.ensures) c.in-Err-Error.field-0-is part i.collected.held.0
+    items_too_few g.F.Error.ParseError.errors c.args.limits g.K.Keep.Grows (g.F.Parser.meaning (g.F.Parser.state c.args.parser.now)) i.collected is_below (few_items _ _ _ _ i.collected.held.1 c.requires.limits.has_bound (search rules)) c.args.limits.too_few refl c.in-Err-Error.field-0-is part c.place-at.ensures c.few.ensures
+
+pub returns-in-Err-Error-clause-shown : goal.returns-in-Err-Error-clause-shown
+returns-in-Err-Error-clause-shown g c =
+    let i = c.loop-input.invariant in
+    let part = part_at g.F.Parser.IsOutput g.F.Parser.meaning c.requires.errors i.state_kept c.in-Err-Error.ensures.shown in
+    let is_below = below _ _ _ i.collected.held.1 (c.is_full.ensures.below c.if-is_full.false) in
+    items_refused g.F.Error.ParseError.errors c.args.limits g.K.Keep.Grows (g.F.Parser.meaning (g.F.Parser.state c.args.parser.now)) i.collected is_below (enough_items _ _ _ _ i.collected.held.1 c.requires.limits.has_bound (search rules)) c.in-Err-Error.field-0-is part i.collected.held.0
 
 pub returns-in-Err-Failure-clause-shown : goal.returns-in-Err-Failure-clause-shown
 returns-in-Err-Failure-clause-shown g c =
