@@ -1,7 +1,7 @@
 //! Items until one is refused.
 ghost use Rattle.std.specs.Prelude.{List};
 ghost use Rattle.std.specs.List.{AllZip};
-ghost use Rattle.nom_multi.specs.Many.{many0_meaning};
+ghost use Rattle.nom_multi.specs.Many.{many0_meaning, many1_meaning};
 
 use nom_error::answer::PResult;
 use nom_error::kind::ErrorKind;
@@ -62,4 +62,64 @@ impl<I: Input, A: Allocator + Copy, F: StreamParser<I> + Drop> StreamParser<I> f
     ghost pinned = { λ s k p. list_pinned F.Output.view (F.IsOutput s) (F.pinned s k p) };
 
     ghost steady = { λ s k. many0_steady I.seen I.lawful F.Error.errors (F.meaning s) (F.steady s k) };
+}
+
+/// Items until one is refused, and one at least; made by `many1`.
+#[derive(Drop)]
+pub struct Many1<A, F> {
+    pub alloc: A,
+    pub parser: F,
+}
+
+impl<I: Input, A: Allocator + Copy, F: Parser<I> + Drop> Parser<I> for Many1<A, F> {
+    ghost use Rattle.nom_multi.specs.ManyLaws.{many1_lawful};
+
+    type Output = Vec<F::Output, A>;
+
+    type Error = F::Error;
+
+    ghost State = { F.State };
+
+    ghost state = { λ p. F.state p.parser };
+
+    ghost Tree = { List F.Tree };
+
+    ghost IsOutput = { λ s vs o. AllZip (F.IsOutput s) vs o.items };
+
+    ghost meaning = { λ s. many1_meaning I.seen F.Error.errors (F.meaning s) };
+
+    ghost Pins = { F.Pins };
+
+    #[inline]
+    fn process<OM: OutputMode>(&mut self, input: I) -> PResult<I, Self::Output, Self::Error> {
+        let none = none_yet::<OM::Output, F::Output, A>(self.alloc);
+        let one = Limits {
+            least: 1,
+            most: Some(1),
+            too_few: TooFew::Added(ErrorKind::Many1),
+            at_start: true,
+            empty: None,
+        };
+        let (rest, first) =
+            items::<OM, OM::Error, I, F, Vec<F::Output, A>>(&mut self.parser, input, none, one)?;
+        let any = Limits {
+            least: 0,
+            most: None,
+            too_few: TooFew::Never,
+            at_start: false,
+            empty: Some(ErrorKind::Many0),
+        };
+        items::<OM, Check, I, F, Vec<F::Output, A>>(&mut self.parser, rest, first, any)
+    }
+
+    ghost lawful = { λ s k. many1_lawful I.seen I.lawful F.Error.errors (F.meaning s) (F.lawful s k.0) };
+}
+
+impl<I: Input, A: Allocator + Copy, F: StreamParser<I> + Drop> StreamParser<I> for Many1<A, F> {
+    ghost use Rattle.nom_multi.specs.Lists.{list_pinned};
+    ghost use Rattle.nom_multi.specs.ManyLaws.{many1_steady};
+
+    ghost pinned = { λ s k p. list_pinned F.Output.view (F.IsOutput s) (F.pinned s k.0 p) };
+
+    ghost steady = { λ s k. many1_steady I.seen I.lawful F.Error.errors (F.meaning s) (F.steady s k.0) };
 }

@@ -1,8 +1,9 @@
 -- What is kept of items, as they come.
-use Rattle.std.proofs.Common.{◌≡◌, ◌++◌, ◌∷◌, [], List, Option, Some, None, Bool, true, false, refl, sym, subst}
+use Rattle.std.proofs.Common.{◌≡◌, ◌++◌, ◌∷◌, [], List, Option, Some, None, Bool, true, false, refl, sym, ◌∙◌, subst}
 use Rattle.std.specs.Prelude.{IfSome}
 use Rattle.std.specs.List.{AllZip}
 use Rattle.nom_error.specs.Modes.{Built}
+use Rattle.nom_internal.proofs.Shown.{built_error}
 use Rattle.nom_repeat.specs.Kept.{GainsBoth, LacksRoom, Adds, Kept}
 
 none_some : {X : Type 0} (x : X) → None ≡ Some x → ⊥
@@ -20,29 +21,30 @@ module _ {V T K : Type 0} (Gains : K → T → K → Type 0) (CanKeep : K → Ty
   adds_more k (y ∷ xs) mid x new a g = (a.0, a.1, adds_more a.0 xs mid x new a.2 g)
 
   -- nothing yet
-  pub kept_none : (builds : Bool) (before : Option K) → Built builds CanKeep before → Built builds (Kept Gains P before []) before
-  kept_none true before h = (h.0, h.1, record { first = h.0; first_is = h.1; outputs = []; are_outputs = tt; added = refl })
+  pub kept_none : (builds : Bool) (before : Option K) → Built builds CanKeep before → Built builds (Kept Gains CanKeep P before []) before
+  kept_none true before h = (h.0, h.1, record { first = h.0; first_is = h.1; outputs = []; are_outputs = tt; added = refl; ready = h.2 })
   kept_none false before h = h
 
   pub can_keep_first : (builds : Bool) (before : Option K) → Built builds CanKeep before → IfSome before CanKeep
   can_keep_first true before h = subst (λ z. IfSome z CanKeep) (sym h.1) h.2
   can_keep_first false before h = subst (λ z. IfSome z CanKeep) (sym h) tt
 
-  kept_more : (before : Option K) (vs : List V) (v : V) (k : K) (x : T) (new : K) → Kept Gains P before vs k → P v x → Gains k x new → Kept Gains P before (vs ++ v ∷ []) new
-  kept_more before vs v k x new h p g = record {
+  kept_more : (before : Option K) (vs : List V) (v : V) (k : K) (x : T) (new : K) → Kept Gains CanKeep P before vs k → P v x → Gains k x new → CanKeep new → Kept Gains CanKeep P before (vs ++ v ∷ []) new
+  kept_more before vs v k x new h p g r = record {
     first = h.first;
     first_is = h.first_is;
     outputs = h.outputs ++ x ∷ [];
     are_outputs = zip_push P vs h.outputs v x h.are_outputs p;
     added = adds_more h.first h.outputs k x new h.added g;
+    ready = r;
   }
 
   -- one item more
-  pub gained : (before : Option K) (builds : Bool) (vs : List V) (v : V) (old new : Option K) (item : Option T) → GainsBoth Gains CanKeep old item new → Built builds (Kept Gains P before vs) old → Built builds (P v) item → Built builds (Kept Gains P before (vs ++ v ∷ [])) new
+  pub gained : (before : Option K) (builds : Bool) (vs : List V) (v : V) (old new : Option K) (item : Option T) → GainsBoth Gains CanKeep old item new → Built builds (Kept Gains CanKeep P before vs) old → Built builds (P v) item → Built builds (Kept Gains CanKeep P before (vs ++ v ∷ [])) new
   gained before true vs v (Some k) (Some n) (Some x) g b c =
       let one : k ≡ b.0 = cc (b.1) in
       let item : x ≡ c.0 = cc (c.1) in
-      (n, refl, kept_more before vs v k x n (subst (λ z. Kept Gains P before vs z) (sym one) b.2) (subst (λ z. P v z) (sym item) c.2) g.0)
+      (n, refl, kept_more before vs v k x n (subst (λ z. Kept Gains CanKeep P before vs z) (sym one) b.2) (subst (λ z. P v z) (sym item) c.2) g.0 g.1)
   gained before true vs v (Some k) None (Some x) g b c = absurd g
   gained before true vs v (Some k) n None g b c = absurd (none_some c.0 c.1)
   gained before true vs v None n x g b c = absurd (none_some b.0 b.1)
@@ -54,6 +56,38 @@ module _ {V T K : Type 0} (Gains : K → T → K → Type 0) (CanKeep : K → Ty
   can_keep_next (Some k) None (Some x) g h = absurd g
   can_keep_next (Some k) n None g h = subst (λ z. IfSome z CanKeep) (sym g) h
   can_keep_next None n x g h = subst (λ z. IfSome z CanKeep) (sym g) tt
+
+module _ {V T K : Type 0} (Gains : K → T → K → Type 0) (CanKeep : K → Type 0) (P : V → T → Type 0) where
+  adds_both : (k : K) (xs : List T) (mid : K) (ys : List T) (new : K) → Adds Gains k xs mid → Adds Gains mid ys new → Adds Gains k (xs ++ ys) new
+  adds_both k [] mid ys new a b = subst (λ z. Adds Gains z ys new) a b
+  adds_both k (x ∷ xs) mid ys new a b = (a.0, a.1, adds_both a.0 xs mid ys new a.2 b)
+
+  zip_both : (vs us : List V) (xs ys : List T) → AllZip P vs xs → AllZip P us ys → AllZip P (vs ++ us) (xs ++ ys)
+  zip_both [] us [] ys h p = p
+  zip_both [] us (x ∷ xs) ys h p = absurd h
+  zip_both (v ∷ vs) us [] ys h p = absurd h
+  zip_both (v ∷ vs) us (x ∷ xs) ys h p = (h.0, zip_both vs us xs ys h.1 p)
+
+  kept_one : (before : Option K) (vs us : List V) (mid new : K) → Kept Gains CanKeep P before vs mid → (b : Kept Gains CanKeep P (Some mid) us new) → Kept Gains CanKeep P before (vs ++ us) new
+  kept_one before vs us mid new a b =
+      let same : mid ≡ b.first = cc (b.first_is) in
+      record {
+        first = a.first;
+        first_is = a.first_is;
+        outputs = a.outputs ++ b.outputs;
+        are_outputs = zip_both vs us a.outputs b.outputs a.are_outputs b.are_outputs;
+        added = adds_both a.first a.outputs mid b.outputs new a.added (subst (λ z. Adds Gains z b.outputs new) (sym same) b.added);
+        ready = b.ready;
+      }
+
+  -- items, and then more of them
+  pub kept_both : (builds : Bool) (before mid : Option K) (vs us : List V) (new : K) → Built builds (Kept Gains CanKeep P before vs) mid → Kept Gains CanKeep P mid us new → Kept Gains CanKeep P before (vs ++ us) new
+  kept_both true before mid vs us new a b = kept_one before vs us a.0 new a.2 (subst (λ z. Kept Gains CanKeep P z us new) a.1 b)
+  kept_both false before mid vs us new a b = absurd (none_some b.first (sym a ∙ b.first_is))
+
+  -- and one item more may be kept
+  pub kept_ready : (builds : Bool) (before kept : Option K) (vs : List V) → Built builds (Kept Gains CanKeep P before vs) kept → Built builds CanKeep kept
+  kept_ready builds before kept vs h = built_error builds _ CanKeep kept (λ k z. z.ready) h
 
 -- where there is no room, something is kept, so it is built
 pub room_built : {K : Type 0} (IsFull P : K → Type 0) (builds : Bool) (x : Option K) → Built builds P x → LacksRoom IsFull x → builds ≡ true
