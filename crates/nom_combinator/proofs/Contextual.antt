@@ -12,7 +12,8 @@ use Rattle.nom_internal.specs.Meaning.{Meaning, ShowsMeaning}
 use Rattle.nom_internal.specs.Cases.CaseRunsOut.{RunsOutInPart, RunsOutBeside}
 use Rattle.nom_internal.proofs.Cased.{here}
 use Rattle.nom_internal.proofs.Shown.{accepts}
-use Rattle.nom_combinator.specs.Contexts.{BuildsError, renamed_meaning, Makes, IsRenamed}
+use Rattle.nom_internal.specs.Mapped.{BuildsError, renamed_meaning}
+use Rattle.nom_combinator.specs.Contexts.{Makes, IsRenamed}
 
 module _ {I A P O E : Type 0} (w : Seen I A) (IsOutput : P → O → Type 0) (Named : I → E → E → Type 0) (Grows : Type 0) (m : Meaning I P E) (mode : Modes) (i : I) where
   abbrev RenamedShown : Result (I × Option O) (Answer.Err E (Option E) Needed) → Type 0

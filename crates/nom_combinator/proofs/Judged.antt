@@ -14,29 +14,15 @@ use Rattle.nom_internal.specs.Outcome.Outcome.{Accept, Refuse, Fail, TooLarge, U
 use Rattle.nom_internal.specs.Outcome.ShowsAnswer.{RanOut, Shown}
 use Rattle.nom_internal.specs.Meaning.{Meaning, ShowsMeaning}
 use Rattle.nom_internal.specs.Cases.{case_meaning}
-use Rattle.nom_internal.specs.Cases.CaseRunsOut.{RunsOutInPart, RunsOutBeside}
+use Rattle.nom_internal.specs.Cases.CaseRunsOut.{RunsOutBeside}
 use Rattle.nom_internal.proofs.Shown.{both_built, accepts, built_error}
-use Rattle.nom_internal.proofs.Cased.{here, plain_err}
-use Rattle.nom_combinator.specs.Verdicts.{complete_meaning, WithSlice, consumed_meaning, verdict_case, cut_outcome, NeverCut, cut_meaning, opt_outcome, opt_meaning, OptOutput, Looks, peek_meaning, not_meaning}
+use Rattle.nom_internal.proofs.Cased.{here, passing_err, plain_err}
+use Rattle.nom_combinator.specs.Verdicts.{complete_case, complete_meaning, WithSlice, consumed_meaning, verdict_case, cut_outcome, NeverCut, cut_meaning, opt_outcome, opt_meaning, OptOutput, Looks, peek_meaning, not_case, not_meaning}
 
 -- what neither accepts nor refuses passes
 module _ {I A P T O X E : Type 0} (w : Seen I A) (becomes : Outcome P → Outcome T) (errors : Bool → Bool) (Never : (Bool → Type 0) → Bool → Type 0) (fails : Fail ≡ becomes Fail) (larges : TooLarge ≡ becomes TooLarge) (waits : (k : Option ℕ) → Undecided k ≡ becomes (Undecided k)) (IsOutput : P → O → Type 0) (IsResult : T → X → Type 0) (m : Meaning I P E) (mode : Modes) (i : I) where
-  abbrev Goal : Result (I × Option X) (Answer.Err E (Option E) Needed) → Type 0
-  Goal = ShowsMeaning w IsResult (case_meaning (verdict_case becomes errors Never) m) mode i
-
-  passes_of : (k : Answer.Err E (Option E) Needed) → ((x : Option E) → k ≡ Error x → ⊥) → (o : Outcome P) → m.answers mode.streaming i o → Shows w IsOutput (modes mode.outputs (errors mode.errors) mode.streaming) i (m.blames mode.streaming i) o (Err k) → Goal (Err k)
-  passes_of k other (Accept n v) a h = absurd (cc (h.4))
-  passes_of k other Refuse a h = absurd (other h.0 (cc (h.2)))
-  passes_of k other Fail a h = Shown Fail (here Fail a fails) (h.0, here Fail a h.1, cc (h.2))
-  passes_of k other TooLarge a h = Shown TooLarge (here TooLarge a larges) (h.0, here TooLarge a h.1, cc (h.2))
-  passes_of k other (Undecided d) a h = Shown (Undecided d) (here (Undecided d) a (waits d)) (h.0, h.1, cc (h.2))
-
-  shown_passes : (k : Answer.Err E (Option E) Needed) → ((x : Option E) → k ≡ Error x → ⊥) → ShowsMeaning w IsOutput m (modes mode.outputs (errors mode.errors) mode.streaming) i (Err k) → Goal (Err k)
-  shown_passes k other (RanOut e h) = RanOut (cc (e)) (RunsOutInPart i refl h)
-  shown_passes k other (Shown o a h) = passes_of k other o a h
-
-  pub verdict_passes : (f k : Answer.Err E (Option E) Needed) → f ≡ k → ((x : Option E) → k ≡ Error x → ⊥) → ShowsMeaning w IsOutput m (modes mode.outputs (errors mode.errors) mode.streaming) i (Err f) → Goal (Err k)
-  verdict_passes f k q other h = shown_passes k other (subst (λ y. ShowsMeaning w IsOutput m (modes mode.outputs (errors mode.errors) mode.streaming) i (Err y)) q h)
+  pub verdict_passes : (f k : Answer.Err E (Option E) Needed) → f ≡ k → ((x : Option E) → k ≡ Error x → ⊥) → ShowsMeaning w IsOutput m (modes mode.outputs (errors mode.errors) mode.streaming) i (Err f) → ShowsMeaning w IsResult (case_meaning (verdict_case becomes errors Never) m) mode i (Err k)
+  verdict_passes f k q other h = passing_err w IsOutput IsResult (verdict_case becomes errors Never) m mode i (record { at_is = refl; refuses = λ b e. absurd (other b e); fails = fails; too_large = larges; undecided = λ n e. waits; blames_failure = λ e b. b; blames_large = λ e b. b }) q h
 
 -- a refusal that was shown, with its error where that is built
 pub record Refusal {E : Type 0} (Answered : Type 0) (IsError : E → Type 0) (errors : Bool) (b : Option E) : Type 0 where
@@ -126,19 +112,8 @@ module _ {I A P O E : Type 0} (w : Seen I A) (l : InputLaws w) (IsOutput : P →
   abbrev NotPart : Result (I × Option O) (Answer.Err E (Option E) Needed) → Type 0
   NotPart = ShowsMeaning w IsOutput m (modes false false mode.streaming) i
 
-  not_of : (k : Answer.Err E (Option E) Needed) → ((x : Option E) → k ≡ Error x → ⊥) → (o : Outcome P) → m.answers mode.streaming i o → Shows w IsOutput (modes false false mode.streaming) i (m.blames mode.streaming i) o (Err k) → NotShown (Err k)
-  not_of k other (Accept n v) a h = absurd (cc (h.4))
-  not_of k other Refuse a h = absurd (other h.0 (cc (h.2)))
-  not_of k other Fail a h = Shown Fail (here Fail a refl) (h.0, here Fail a h.1, cc (h.2))
-  not_of k other TooLarge a h = Shown TooLarge (here TooLarge a refl) (h.0, here TooLarge a h.1, cc (h.2))
-  not_of k other (Undecided d) a h = Shown (Undecided d) (here (Undecided d) a refl) (h.0, h.1, cc (h.2))
-
-  not_passed : (k : Answer.Err E (Option E) Needed) → ((x : Option E) → k ≡ Error x → ⊥) → NotPart (Err k) → NotShown (Err k)
-  not_passed k other (RanOut e h) = RanOut (cc (e)) (RunsOutInPart i refl h)
-  not_passed k other (Shown o a h) = not_of k other o a h
-
   pub not_passes : (f k : Answer.Err E (Option E) Needed) → f ≡ k → ((x : Option E) → k ≡ Error x → ⊥) → NotPart (Err f) → NotShown (Err k)
-  not_passes f k q other h = not_passed k other (subst (λ y. NotPart (Err y)) q h)
+  not_passes f k q other h = passing_err w IsOutput (λ t o. o ≡ t) (not_case Own Grows) m mode i (record { at_is = refl; refuses = λ b e. absurd (other b e); fails = refl; too_large = refl; undecided = λ n e d. refl; blames_failure = λ e b. inr (tt, b); blames_large = λ e b. inr (tt, b) }) q h
 
   pub not_refused : w.IsKnown i → (f : Answer.Err E (Option E) Needed) (b : Option E) (y : Option (Unit {0})) → f ≡ Error b → NotPart (Err f) → Built mode.outputs (λ z. z ≡ tt) y → NotShown (Ok (i, y))
   not_refused known f b y q h k =
@@ -146,8 +121,8 @@ module _ {I A P O E : Type 0} (w : Seen I A) (l : InputLaws w) (IsOutput : P →
       Shown (Accept 0 tt) (here Refuse r.answered refl) (i, y, rest_self w l i known, k, refl)
 
   accepted_refusal : (n : ℕ) (v : P) → m.answers mode.streaming i (Accept n v) → (f : Answer.Err E (Option E) Needed) → Refuses (Own i) Grows mode.errors f → NotShown (Err f)
-  accepted_refusal n v a f (inl h) = RanOut (ap Err h.0) (RunsOutBeside (here (Accept n v) a (h.1, h.2)))
-  accepted_refusal n v a f (inr h) = Shown Refuse (here (Accept n v) a refl) (h.0, built_error mode.errors _ _ h.0 (λ e g. here (Accept n v) a g) h.1, ap Err h.2)
+  accepted_refusal n v a f (inl h) = RanOut (ap Err h.0) (RunsOutBeside (here (Accept n v) a (tt, h.1, h.2)))
+  accepted_refusal n v a f (inr h) = Shown Refuse (here (Accept n v) a refl) (h.0, built_error mode.errors _ _ h.0 (λ e g. here (Accept n v) a (inl (tt, g))) h.1, ap Err h.2)
 
   pub not_accepted : (p : I × Option O) (f : Answer.Err E (Option E) Needed) → NotPart (Ok p) → Refuses (Own i) Grows mode.errors f → NotShown (Err f)
   not_accepted p f h k = let a = accepts h in accepted_refusal a.length a.tree a.answered f k
@@ -160,26 +135,15 @@ module _ {I A P O E : Type 0} (w : Seen I A) (IsOutput : P → O → Type 0) (Ow
   abbrev CompletePart : Result (I × Option O) (Answer.Err E (Option E) Needed) → Type 0
   CompletePart = ShowsMeaning w IsOutput m (modes mode.outputs mode.errors false) i
 
-  complete_of : (k : Answer.Err E (Option E) Needed) → ((x : Needed) → k ≡ Incomplete x → ⊥) → (o : Outcome P) → m.answers false i o → Shows w IsOutput (modes mode.outputs mode.errors false) i (m.blames false i) o (Err k) → CompleteShown (Err k)
-  complete_of k other (Accept n v) a h = absurd (cc (h.4))
-  complete_of k other Refuse a h = Shown Refuse (here Refuse a refl) (h.0, built_error mode.errors _ _ h.0 (λ e b. here Refuse a b) h.1, cc (h.2))
-  complete_of k other Fail a h = Shown Fail (here Fail a refl) (h.0, here Fail a h.1, cc (h.2))
-  complete_of k other TooLarge a h = Shown TooLarge (here TooLarge a refl) (h.0, here TooLarge a h.1, cc (h.2))
-  complete_of k other (Undecided d) a h = absurd (other h.0 (cc (h.2)))
-
-  complete_passed : (k : Answer.Err E (Option E) Needed) → ((x : Needed) → k ≡ Incomplete x → ⊥) → CompletePart (Err k) → CompleteShown (Err k)
-  complete_passed k other (RanOut e h) = RanOut (cc (e)) (RunsOutInPart i refl h)
-  complete_passed k other (Shown o a h) = complete_of k other o a h
-
   pub complete_passes : (f k : Answer.Err E (Option E) Needed) → f ≡ k → ((x : Needed) → k ≡ Incomplete x → ⊥) → CompletePart (Err f) → CompleteShown (Err k)
-  complete_passes f k q other h = complete_passed k other (subst (λ y. CompletePart (Err y)) q h)
+  complete_passes f k q other h = passing_err w IsOutput IsOutput (complete_case Own Grows) m mode i (record { at_is = refl; refuses = λ b e. (refl, refl, λ z g. inr (tt, g)); fails = refl; too_large = refl; undecided = λ n e. absurd (other n e); blames_failure = λ e b. inr (tt, b); blames_large = λ e b. inr (tt, b) }) q h
 
   pub complete_ok : (p : I × Option O) → CompletePart (Ok p) → CompleteShown (Ok p)
   complete_ok p h = let a = accepts h in Shown (Accept a.length a.tree) (here (Accept a.length a.tree) a.answered refl) (p.0, p.1, a.rest_is, a.built_is, refl)
 
   wanted_refusal : (d : Option ℕ) → m.answers false i (Undecided d) → (r : Answer.Err E (Option E) Needed) → Refuses (Own i) Grows mode.errors r → CompleteShown (Err r)
-  wanted_refusal d a r (inl h) = RanOut (ap Err h.0) (RunsOutBeside (here (Undecided d) a (h.1, h.2)))
-  wanted_refusal d a r (inr h) = Shown Refuse (here (Undecided d) a refl) (h.0, built_error mode.errors _ _ h.0 (λ e g. here (Undecided d) a g) h.1, ap Err h.2)
+  wanted_refusal d a r (inl h) = RanOut (ap Err h.0) (RunsOutBeside (here (Undecided d) a (tt, h.1, h.2)))
+  wanted_refusal d a r (inr h) = Shown Refuse (here (Undecided d) a refl) (h.0, built_error mode.errors _ _ h.0 (λ e g. here (Undecided d) a (inl (tt, g))) h.1, ap Err h.2)
 
   wanted_of : (x : Needed) (o : Outcome P) → m.answers false i o → Shows w IsOutput (modes mode.outputs mode.errors false) i (m.blames false i) o (Err (Incomplete x)) → (r : Answer.Err E (Option E) Needed) → Refuses (Own i) Grows mode.errors r → CompleteShown (Err r)
   wanted_of x (Accept n v) a h r g = absurd (cc (h.4))

@@ -1,6 +1,5 @@
 pub mod ConditionLaws
 pub mod Conditions
-pub mod ContextLaws
 pub mod Contexts
 pub mod OutputLaws
 pub mod Outputs

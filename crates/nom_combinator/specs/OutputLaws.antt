@@ -2,12 +2,11 @@
 use Rattle.std.specs.Prelude.{◌≡◌, ℕ, Bool, true, false, refl}
 use Rattle.std.proofs.Common.{sym, ◌∙◌, subst}
 use Rattle.nom_traits.specs.Input.{Seen, IsPlace}
-use Rattle.nom_internal.specs.Outcome.{Outcome, failure}
-use Rattle.nom_internal.specs.Outcome.Outcome.{Accept, Refuse, Fail, TooLarge, Undecided}
+use Rattle.nom_internal.specs.Outcome.{failure}
+use Rattle.nom_internal.specs.Outcome.Outcome.{Accept}
 use Rattle.nom_internal.specs.Meaning.{Meaning, IsLawful, IsSteady}
 use Rattle.nom_internal.specs.CaseLaws.{CaseLaws, case_lawful, case_steady}
 use Rattle.nom_internal.specs.RecognizedLaws.{AcceptLaws, plain_laws}
-use Rattle.nom_combinator.specs.Verdicts.{OnAccepted}
 use Rattle.nom_combinator.specs.Outputs.{GivesValue, value_case, value_meaning}
 
 never_given : {T : Type 0} (large : Bool) (n : ℕ) (v : T) → failure large ≡ Accept n v → ⊥
@@ -22,13 +21,6 @@ module _ {I A P T : Type 0} (w : Seen I A) (v : T) where
     place = λ i m n u t h p s. let same : m ≡ n = cc (s) in subst (λ k. IsPlace w i k) same p;
     never_fails = λ large i n u s. never_given large n v s;
   }
-
-accepted_only : {P : Type 0} (Fact : Type 0) (a : Outcome P) → (Fact → ⊥) → OnAccepted Fact a → ⊥
-accepted_only Fact (Accept n u) f h = f h
-accepted_only Fact Refuse f h = h
-accepted_only Fact Fail f h = h
-accepted_only Fact TooLarge f h = h
-accepted_only Fact (Undecided k) f h = h
 
 module _ {I A P T E : Type 0} (w : Seen I A) (v : T) (IsSure : Type 0) where
   value_laws : CaseLaws true w w (value_case {P = P} {E = E} v IsSure)
@@ -45,7 +37,7 @@ module _ {I A P T E : Type 0} (w : Seen I A) (v : T) (IsSure : Type 0) where
         never_fails = l.never_fails;
         blames = l.blames;
         part_frugal = λ Part mode h. h.0;
-        asks_none = λ Part mode i a h g. accepted_only ((mode.outputs ≡ true) × ¬ IsSure) a (λ z. z.1 (h.1 z.0)) g;
+        asks_none = λ Part mode i a h g. g.2 (h.1 g.1);
       }
 
   module _ (m : Meaning I P E) where

@@ -5,7 +5,7 @@ use Rattle.nom_internal.specs.Outcome.Outcome.{Accept}
 use Rattle.nom_internal.specs.Meaning.{Meaning}
 use Rattle.nom_internal.specs.Cases.{Case, case_meaning, Passes}
 use Rattle.nom_internal.specs.Cases.PartMode.{AsAsked}
-use Rattle.nom_combinator.specs.Verdicts.{OnAccepted}
+use Rattle.nom_combinator.specs.Verdicts.{IsAcceptance}
 
 -- an acceptance, with the value in place of the part's tree
 abbrev pub GivesValue : {P T : Type 0} → T → ℕ → P → Outcome T → Type 0
@@ -20,7 +20,7 @@ value_case v IsSure = record {
   Becomes = λ i. Passes (GivesValue v);
   Blames = λ i a Part. Part;
   part = λ mode. mode;
-  Asks = λ mode i. OnAccepted ((mode.outputs ≡ true) × ¬ IsSure);
+  Asks = λ mode i a. IsAcceptance a × (mode.outputs ≡ true) × ¬ IsSure;
   IsSound = λ Part. Part;
   IsFrugal = λ Part mode. Part mode × (mode.outputs ≡ true → IsSure);
   NeverFails = λ Part. Part;

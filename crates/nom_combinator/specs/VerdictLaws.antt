@@ -4,14 +4,14 @@ use Rattle.std.proofs.Common.{sym, ◌∙◌, ap, subst, inl, inr}
 use Rattle.nom_traits.specs.Slices.{Slice, first_place, first_related, same_length}
 use Rattle.nom_traits.specs.Input.{InputLaws, Related, Seen, IsPlace}
 use Rattle.nom_traits.specs.View.{View, option_view, view_some}
-use Rattle.nom_internal.specs.Outcome.{Outcome, IsDecided, failure}
+use Rattle.nom_internal.specs.Outcome.{Outcome, IsDecided, IsFault, IsFailure, failure}
 use Rattle.nom_internal.specs.Outcome.Outcome.{Accept, Refuse, Fail, TooLarge, Undecided}
 use Rattle.nom_internal.specs.Meaning.{Meaning, IsLawful, IsSteady}
 use Rattle.nom_internal.specs.CaseLaws.{CaseLaws, here_known, here_related, here_alike, here_place, no_place, case_lawful, case_steady}
 use Rattle.nom_internal.specs.Cases.{Passes, plain_case}
 use Rattle.nom_internal.specs.RecognizedLaws.{AcceptLaws, plain_laws}
 use Rattle.nom_internal.specs.Pinned.{IsPinned}
-use Rattle.nom_combinator.specs.Verdicts.{complete_outcome, CompleteBlames, OnUndecided, complete_case, complete_meaning, WithSlice, consumed_meaning, verdict_case, cut_outcome, NeverCut, cut_meaning, opt_outcome, opt_meaning, OptOutput, Looks, peek_meaning, not_outcome, NotBlames, OnAccepted, not_case, not_meaning}
+use Rattle.nom_combinator.specs.Verdicts.{complete_outcome, IsWant, complete_case, complete_meaning, WithSlice, consumed_meaning, verdict_case, cut_outcome, NeverCut, cut_meaning, opt_outcome, opt_meaning, OptOutput, Looks, peek_meaning, not_outcome, IsAcceptance, EitherBlames, not_case, not_meaning}
 
 -- an acceptance of nothing, or of what the part accepts
 abbrev IsAccepted : {P : Type 0} → ℕ → Outcome P → Type 0
@@ -135,6 +135,11 @@ module _ {P : Type 0} where
       fails false TooLarge e = cc
       fails false (Undecided k) e = cc
 
+-- the part's errors stand for themselves
+blames_more : {P E : Type 0} (HasOwn HasParts : Outcome P → Type 0) (Own : E → Type 0) (a : Outcome P) (X Y : E → Type 0) (e : E) → ((f : E) → X f → Y f) → EitherBlames HasOwn HasParts Own a X e → EitherBlames HasOwn HasParts Own a Y e
+blames_more HasOwn HasParts Own a X Y e f (inl h) = inl h
+blames_more HasOwn HasParts Own a X Y e f (inr h) = inr (h.0, f e h.1)
+
 module _ {I A P : Type 0} (w : Seen I A) where
   looks_laws : AcceptLaws {P = P} w (λ i. Looks)
   looks_laws = record {
@@ -148,21 +153,7 @@ module _ {I A P : Type 0} (w : Seen I A) where
       never true i n u e = cc
       never false i n u e = cc
 
-  accepted_only : (Fact : Type 0) (a : Outcome P) → (Fact → ⊥) → OnAccepted Fact a → ⊥
-  accepted_only Fact (Accept n v) f h = f h
-  accepted_only Fact Refuse f h = h
-  accepted_only Fact Fail f h = h
-  accepted_only Fact TooLarge f h = h
-  accepted_only Fact (Undecided k) f h = h
-
   module _ {E : Type 0} where
-    blames_more : (Own : E → Type 0) (a : Outcome P) (X Y : E → Type 0) (e : E) → ((f : E) → X f → Y f) → NotBlames Own a X e → NotBlames Own a Y e
-    blames_more Own (Accept n v) X Y e f h = h
-    blames_more Own Refuse X Y e f h = h
-    blames_more Own Fail X Y e f h = f e h
-    blames_more Own TooLarge X Y e f h = f e h
-    blames_more Own (Undecided k) X Y e f h = h
-
     not_laws : (Own : I → E → Type 0) (Grows : Type 0) → CaseLaws true w w (not_case {P = P} Own Grows)
     not_laws Own Grows = record {
       at_known = here_known w;
@@ -173,9 +164,9 @@ module _ {I A P : Type 0} (w : Seen I A) where
       alike = λ x y a o kx ky r b. b;
       place = λ i j a n t h e place b. accepted_place w i j a n e place (not_is.accepts a n t b);
       never_fails = λ Part large i a g e. not_is.never Part large a g e;
-      blames = λ i a X Y e f. blames_more (Own i) a X Y e f;
+      blames = λ i. blames_more IsAcceptance IsFailure (Own i);
       part_frugal = λ Part mode h. h.0;
-      asks_none = λ Part mode i a h g. accepted_only ((mode.errors ≡ true) × Grows) a (λ z. h.1 z.0 z.1) g;
+      asks_none = λ Part mode i a h g. h.1 g.1 g.2;
     }
 
 module _ {I A P : Type 0} (w : Seen I A) where
@@ -198,21 +189,7 @@ module _ {I A P : Type 0} (w : Seen I A) where
   complete_fails false TooLarge e = cc
   complete_fails false (Undecided k) e = cc
 
-  undecided_only : (Fact : Type 0) (a : Outcome P) → (Fact → ⊥) → OnUndecided Fact a → ⊥
-  undecided_only Fact (Accept n v) f h = h
-  undecided_only Fact Refuse f h = h
-  undecided_only Fact Fail f h = h
-  undecided_only Fact TooLarge f h = h
-  undecided_only Fact (Undecided k) f h = f h
-
   module _ {E : Type 0} where
-    complete_more : (Own : E → Type 0) (a : Outcome P) (X Y : E → Type 0) (e : E) → ((f : E) → X f → Y f) → CompleteBlames Own a X e → CompleteBlames Own a Y e
-    complete_more Own (Accept n v) X Y e f h = h
-    complete_more Own Refuse X Y e f h = f e h
-    complete_more Own Fail X Y e f h = f e h
-    complete_more Own TooLarge X Y e f h = f e h
-    complete_more Own (Undecided k) X Y e f h = h
-
     complete_laws : (Own : I → E → Type 0) (Grows : Type 0) → CaseLaws true w w (complete_case {P = P} Own Grows)
     complete_laws Own Grows = record {
       at_known = here_known w;
@@ -223,9 +200,9 @@ module _ {I A P : Type 0} (w : Seen I A) where
       alike = λ x y a o kx ky r b. b;
       place = λ i j a n t h e place b. accepted_place w i j a n e place (complete_accepts a n t b);
       never_fails = λ Part large i a g e. (g, complete_fails large a e);
-      blames = λ i a X Y e f. complete_more (Own i) a X Y e f;
+      blames = λ i. blames_more IsWant IsFault (Own i);
       part_frugal = λ Part mode h. h.0;
-      asks_none = λ Part mode i a h g. undecided_only ((mode.errors ≡ true) × Grows) a (λ z. h.1 z.0 z.1) g;
+      asks_none = λ Part mode i a h g. h.1 g.1 g.2;
     }
 
 module _ {I A P : Type 0} (w : Seen I A) (l : InputLaws w) where

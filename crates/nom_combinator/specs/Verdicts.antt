@@ -1,9 +1,9 @@
 -- What becomes of a part's outcome: a refusal that is final, an option, a look ahead, and a part that must refuse.
-use Rattle.std.specs.Prelude.{◌≡◌, ℕ, Bool, true, false, Option, Some, None}
+use Rattle.std.specs.Prelude.{◌≡◌, ◌⊎◌, ℕ, Bool, true, false, Option, Some, None}
 use Rattle.nom_error.specs.Modes.{with_streaming, modes}
 use Rattle.nom_traits.specs.Input.{Seen}
 use Rattle.nom_traits.specs.Slices.{Slice, IsFirst}
-use Rattle.nom_internal.specs.Outcome.{Outcome}
+use Rattle.nom_internal.specs.Outcome.{Outcome, IsFault, IsFailure}
 use Rattle.nom_internal.specs.Outcome.Outcome.{Accept, Refuse, Fail, TooLarge, Undecided}
 use Rattle.nom_internal.specs.Meaning.{Meaning}
 use Rattle.nom_internal.specs.Cases.{Case, case_meaning, Passes, plain_case}
@@ -74,32 +74,28 @@ not_outcome Fail = Fail
 not_outcome TooLarge = TooLarge
 not_outcome (Undecided k) = Undecided k
 
--- the error of what was accepted is its own; a failure's is the part's
-abbrev pub NotBlames : {P E : Type 0} → (E → Type 0) → Outcome P → (E → Type 0) → E → Type 0
-NotBlames Own (Accept n v) Part e = Own e
-NotBlames Own Refuse Part e = ⊥
-NotBlames Own Fail Part e = Part e
-NotBlames Own TooLarge Part e = Part e
-NotBlames Own (Undecided k) Part e = ⊥
+-- an acceptance
+abbrev pub IsAcceptance : {P : Type 0} → Outcome P → Type 0
+IsAcceptance (Accept n v) = Unit {0}
+IsAcceptance Refuse = ⊥
+IsAcceptance Fail = ⊥
+IsAcceptance TooLarge = ⊥
+IsAcceptance (Undecided k) = ⊥
 
--- of an acceptance alone
-abbrev pub OnAccepted : {P : Type 0} → Type 0 → Outcome P → Type 0
-OnAccepted Fact (Accept n v) = Fact
-OnAccepted Fact Refuse = ⊥
-OnAccepted Fact Fail = ⊥
-OnAccepted Fact TooLarge = ⊥
-OnAccepted Fact (Undecided k) = ⊥
+-- an error of its own for outcomes of one kind, and the part's for those of another
+abbrev pub EitherBlames : {P E : Type 0} → (Outcome P → Type 0) → (Outcome P → Type 0) → (E → Type 0) → Outcome P → (E → Type 0) → E → Type 0
+EitherBlames HasOwn HasParts Own a Part e = (HasOwn a × Own e) ⊎ (HasParts a × Part e)
 
 -- A part that must refuse: its outputs and the errors of its refusals aren't built. The error of what it accepts is made at
--- the start, which may take memory where errors are built.
+-- the start, which may take memory where errors are built; a failure's is the part's.
 abbrev pub not_case : {I P E : Type 0} → (I → E → Type 0) → Type 0 → Case I I P (Unit {0}) E E
 not_case Own Grows = record {
   At = λ i j. i ≡ j;
   mode = AsAsked;
   Becomes = λ i a o. o ≡ not_outcome a;
-  Blames = λ i. NotBlames (Own i);
+  Blames = λ i. EitherBlames IsAcceptance IsFailure (Own i);
   part = λ mode. modes false false mode.streaming;
-  Asks = λ mode i. OnAccepted ((mode.errors ≡ true) × Grows);
+  Asks = λ mode i a. IsAcceptance a × (mode.errors ≡ true) × Grows;
   IsSound = λ Part. Part;
   IsFrugal = λ Part mode. Part (modes false false mode.streaming) × (mode.errors ≡ true → Grows → ⊥);
   NeverFails = λ Part. Part;
@@ -116,32 +112,24 @@ complete_outcome Fail = Fail
 complete_outcome TooLarge = TooLarge
 complete_outcome (Undecided k) = Refuse
 
--- the error where more was wanted is its own; any other is the part's
-abbrev pub CompleteBlames : {P E : Type 0} → (E → Type 0) → Outcome P → (E → Type 0) → E → Type 0
-CompleteBlames Own (Accept n v) Part e = ⊥
-CompleteBlames Own Refuse Part e = Part e
-CompleteBlames Own Fail Part e = Part e
-CompleteBlames Own TooLarge Part e = Part e
-CompleteBlames Own (Undecided k) Part e = Own e
-
--- of want of more alone
-abbrev pub OnUndecided : {P : Type 0} → Type 0 → Outcome P → Type 0
-OnUndecided Fact (Accept n v) = ⊥
-OnUndecided Fact Refuse = ⊥
-OnUndecided Fact Fail = ⊥
-OnUndecided Fact TooLarge = ⊥
-OnUndecided Fact (Undecided k) = Fact
+-- want of more
+abbrev pub IsWant : {P : Type 0} → Outcome P → Type 0
+IsWant (Accept n v) = ⊥
+IsWant Refuse = ⊥
+IsWant Fail = ⊥
+IsWant TooLarge = ⊥
+IsWant (Undecided k) = Unit {0}
 
 -- A part that runs as on a complete input, where want of more is refused all the same. The error of that is made at the start,
--- which may take memory where errors are built.
+-- which may take memory where errors are built; any other is the part's.
 abbrev pub complete_case : {I P E : Type 0} → (I → E → Type 0) → Type 0 → Case I I P P E E
 complete_case Own Grows = record {
   At = λ i j. i ≡ j;
   mode = Always false;
   Becomes = λ i a o. o ≡ complete_outcome a;
-  Blames = λ i. CompleteBlames (Own i);
+  Blames = λ i. EitherBlames IsWant IsFault (Own i);
   part = with_streaming false;
-  Asks = λ mode i. OnUndecided ((mode.errors ≡ true) × Grows);
+  Asks = λ mode i a. IsWant a × (mode.errors ≡ true) × Grows;
   IsSound = λ Part. Part;
   IsFrugal = λ Part mode. Part (with_streaming false mode) × (mode.errors ≡ true → Grows → ⊥);
   NeverFails = λ Part. Part;

@@ -18,6 +18,15 @@ use nom_internal::parser::{Parser, StreamParser};
 use nom_traits::input::Items;
 use nom_traits::view::Viewed;
 
+/// Whether an output passes a test.
+#[inline(always)]
+fn passes<O, G: Fn(&O) -> bool>(test: &G, output: &O) -> bool
+    requires callable { (p : Bor O) → p.now ≡ output.now → G.pre test.now p }
+    ensures { FnReturnsAt G.Fn test.now output.now result }
+{
+    test(output)
+}
+
 /// A parser whose outputs pass a test; made by `verify`. Its outputs are always built, since the test
 /// judges them.
 #[derive(Drop)]
@@ -52,8 +61,8 @@ impl<I: Items, F: Parser<I> + Drop, G: Fn(&F::Output) -> bool> Parser<I> for Ver
             Some(output) => output,
             None => unreachable!(),
         };
-        let passes = (self.test)(&output);
-        if passes {
+        let fits = passes(&self.test, &output);
+        if fits {
             Ok((rest, built::<OM::Output, F::Output>(output)))
         } else {
             Err(refusal::<OM::Error, I, F::Error>(input, ErrorKind::Verify))

@@ -1,10 +1,7 @@
--- The rests of an input behind nothing and behind all of it.
+-- An input of which nothing is left.
 use Rattle.std.specs.Prelude.{◌≡◌, ℕ, ◌<◌, List, [], ◌∷◌, refl}
-use Rattle.std.proofs.Common.{arith, sym, ap}
-use Rattle.nom_traits.specs.Input.{Seen, InputLaws, IsRest, span, input_len}
-
-pub rest_self : {I A : Type 0} (w : Seen I A) → InputLaws w → (i : I) → w.IsKnown i → IsRest w i 0 i
-rest_self w l i h = record { known = h; front = []; whole = refl; length_is = refl; mark_is = sym (l.mark_none (w.mark i)) }
+use Rattle.std.proofs.Common.{arith, ap}
+use Rattle.nom_traits.specs.Input.{Seen, span, input_len}
 
 -- items of no length are none
 pub no_length : {A : Type 0} (weight : A → ℕ) → ((a : A) → 0 < weight a) → (xs : List A) → span weight xs ≡ 0 → xs ≡ []

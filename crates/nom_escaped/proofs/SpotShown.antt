@@ -16,6 +16,7 @@ use Rattle.nom_internal.specs.Cases.{labelled_meaning}
 use Rattle.nom_internal.proofs.Shown.{next_shown}
 use Rattle.nom_internal.proofs.Cased.{here, labels_err, labels_ok}
 use Rattle.nom_internal.proofs.Choices.{otherwise_first, otherwise_next}
+use Rattle.nom_internal.proofs.Consumed.{rest_self}
 use Rattle.nom_repeat.proofs.Parts.{part_refused}
 use Rattle.nom_escaped.specs.declared.spot.Control.{Control}
 use Rattle.nom_escaped.specs.declared.spot.Piece.{Piece}
@@ -24,10 +25,6 @@ use Rattle.nom_escaped.specs.declared.spot.Spot.{Spot}
 use Rattle.nom_escaped.specs.declared.spot.Spot.TheVariants.{Found, Other, Dangling, Done}
 use Rattle.nom_escaped.specs.Spots.{Lacks, left_leaf, IsLeft, BehindControl, StandsOther, StandsLast, TellsControl, control_leaf, by_control, escape_meaning, piece_meaning, by_left, IsSpot, ShowsSpot}
 use Rattle.nom_escaped.proofs.Controls.{no_items, some_items}
-
-module _ {I A : Type 0} (w : Seen I A) (l : InputLaws w) where
-  pub rest_self : (i : I) → w.IsKnown i → IsRest w i 0 i
-  rest_self i h = record { known = h; front = []; whole = refl; length_is = refl; mark_is = sym (l.mark_none (w.mark i)) }
 
 module _ {I A U W O X E : Type 0} (w : Seen I A) (l : InputLaws w) (IsNormal : U → O → Type 0) (IsEscapable : W → X → Type 0) (outputs errors : Bool) (IsControl : A → Type 0) (lack : Option ℕ) (m : Meaning I U E) (g : Meaning I W E) (i : I) (known : w.IsKnown i) where
   abbrev Told : Type 0

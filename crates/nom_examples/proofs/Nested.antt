@@ -17,8 +17,8 @@ use Rattle.nom_traits.specs.Rests.{rest_rest, span-ones}
 use Rattle.nom_internal.specs.Outcome.ParsesAnswer.{ParseRanOut, Parsed}
 use Rattle.nom_internal.specs.Outcome.Outcome.{Accept, Refuse, Fail, TooLarge, Undecided}
 use Rattle.nom_internal.specs.Meaning.{ParsesMeaning}
+use Rattle.nom_internal.proofs.Consumed.{rest_self}
 use Rattle.nom_internal.proofs.Shown.{err_from_residual}
-use Rattle.nom_ends.proofs.Rests.{rest_self}
 use Rattle.nom_character.specs.Heads.{IsHead, char_meaning}
 use Rattle.nom_examples.specs.Brackets.{run_of, opened, closed, IsNested, IsOpen, MissesBracket, brackets_meaning}
 

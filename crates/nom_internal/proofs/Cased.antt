@@ -1,14 +1,15 @@
 -- What cases over a part's outcome show, from what the part showed.
-use Rattle.std.proofs.Common.{◌≡◌, ℕ, Bool, Result, Ok, Err, Option, refl}
+use Rattle.std.proofs.Common.{◌≡◌, ℕ, Bool, Result, Ok, Err, Option, refl, subst}
 use Rattle.nom_error.specs.declared.answer.Needed.{Needed}
 use Rattle.nom_error.specs.declared.answer.Err as Answer
+use Rattle.nom_error.specs.declared.answer.Err.TheVariants.{Incomplete, Error}
 use Rattle.nom_error.specs.Modes.{Built, Modes, with_outputs, with_streaming}
 use Rattle.nom_traits.specs.Input.{Seen}
 use Rattle.nom_internal.specs.Outcome.{Outcome, Shows, ShowsAnswer}
 use Rattle.nom_internal.specs.Outcome.Outcome.{Accept, Refuse, Fail, TooLarge, Undecided}
 use Rattle.nom_internal.specs.Outcome.ShowsAnswer.{RanOut, Shown}
 use Rattle.nom_internal.specs.Meaning.{Meaning, ShowsMeaning}
-use Rattle.nom_internal.specs.Cases.{OnPart, case_meaning, Passes, plain_case, labelled, labelled_meaning, fixed_meaning}
+use Rattle.nom_internal.specs.Cases.{mode_of, Case, OnPart, case_meaning, Passes, plain_case, labelled, labelled_meaning, fixed_meaning}
 use Rattle.nom_internal.specs.Cases.CaseRunsOut.{RunsOutInPart}
 use Rattle.nom_internal.proofs.Shown.{accepts, built_error}
 
@@ -16,44 +17,45 @@ use Rattle.nom_internal.proofs.Shown.{accepts, built_error}
 pub here : {I P : Type 0} {Part : I → Outcome P → Type 0} {Fact : I → Outcome P → Type 0} {i : I} (a : Outcome P) → Part i a → Fact i a → OnPart (λ i j. i ≡ j) Part Fact i
 here {i = i} a p f = record { at = i; at_is = refl; outcome = a; answered = p; fact = f }
 
--- what isn't an acceptance passes, with the part's errors
-pub record Passing {P T E : Type 0} (Becomes : Outcome P → Outcome T → Type 0) (Blames : Outcome P → E → Type 0) (IsError : E → Type 0) : Type 0 where
-  pub refuses : Becomes Refuse Refuse
-  pub fails : Becomes Fail Fail
-  pub too_large : Becomes TooLarge TooLarge
-  pub undecided : (k : Option ℕ) → Becomes (Undecided k) (Undecided k)
-  pub blames_refusal : (e : E) → IsError e → Blames Refuse e
-  pub blames_failure : (e : E) → IsError e → Blames Fail e
-  pub blames_large : (e : E) → IsError e → Blames TooLarge e
+-- The part runs at the same input, and what it answers by k, which is no acceptance, passes with its error, where it has one.
+pub record Passing {I P T E : Type 0} (c : Case I I P T E E) (m : Meaning I P E) (mode : Modes) (i : I) (k : Answer.Err E (Option E) Needed) : Type 0 where
+  pub at_is : c.At i i
+  pub refuses : (b : Option E) → k ≡ Error b → ((c.part mode).errors ≡ mode.errors) × c.Becomes i Refuse Refuse × ((e : E) → m.blames (mode_of c.mode mode.streaming) i e → c.Blames i Refuse (m.blames (mode_of c.mode mode.streaming) i) e)
+  pub undecided : (n : Needed) → k ≡ Incomplete n → (d : Option ℕ) → c.Becomes i (Undecided d) (Undecided d)
+  pub fails : c.Becomes i Fail Fail
+  pub too_large : c.Becomes i TooLarge TooLarge
+  pub blames_failure : (e : E) → m.blames (mode_of c.mode mode.streaming) i e → c.Blames i Fail (m.blames (mode_of c.mode mode.streaming) i) e
+  pub blames_large : (e : E) → m.blames (mode_of c.mode mode.streaming) i e → c.Blames i TooLarge (m.blames (mode_of c.mode mode.streaming) i) e
 
-module _ {I A P T O X E : Type 0} (w : Seen I A) (IsOutput : P → O → Type 0) (IsResult : T → X → Type 0) (outputs : Bool) (mode : Modes) (i : I) (Part : I → Outcome P → Type 0) (IsError : E → Type 0) (PartRunsOut : Type 0) (Becomes : Outcome P → Outcome T → Type 0) (Blames : E → I → Outcome P → Type 0) (RunsOut : Type 0) where
-  abbrev Passed : Result (I × Option X) (Answer.Err E (Option E) Needed) → Type 0
-  Passed = ShowsAnswer w IsResult mode i (λ o. OnPart (λ i j. i ≡ j) Part (λ _ a. Becomes a o) i) (λ e. OnPart (λ i j. i ≡ j) Part (Blames e) i) RunsOut
+module _ {I A P T O X E : Type 0} (w : Seen I A) (IsOutput : P → O → Type 0) (IsResult : T → X → Type 0) (c : Case I I P T E E) (m : Meaning I P E) (mode : Modes) (i : I) where
+  abbrev InPart : Result (I × Option O) (Answer.Err E (Option E) Needed) → Type 0
+  InPart = ShowsAnswer w IsOutput (c.part mode) i (m.answers (mode_of c.mode mode.streaming) i) (m.blames (mode_of c.mode mode.streaming) i) (m.runs_out (c.part mode) i)
 
-  module _ (p : Passing Becomes (λ a e. Blames e i a) IsError) where
-    passing_of : (f : Answer.Err E (Option E) Needed) (o : Outcome P) → Part i o → Shows w IsOutput (with_outputs outputs mode) i IsError o (Err f) → Passed (Err f)
-    passing_of f (Accept n v) a h = absurd (cc (h.4))
-    passing_of f Refuse a h = Shown Refuse (here Refuse a p.refuses) (h.0, built_error mode.errors _ _ h.0 (λ e b. here Refuse a (p.blames_refusal e b)) h.1, cc (h.2))
-    passing_of f Fail a h = Shown Fail (here Fail a p.fails) (h.0, here Fail a (p.blames_failure h.0 h.1), cc (h.2))
-    passing_of f TooLarge a h = Shown TooLarge (here TooLarge a p.too_large) (h.0, here TooLarge a (p.blames_large h.0 h.1), cc (h.2))
-    passing_of f (Undecided k) a h = Shown (Undecided k) (here (Undecided k) a (p.undecided k)) (h.0, h.1, cc (h.2))
+  abbrev Whole : Result (I × Option X) (Answer.Err E (Option E) Needed) → Type 0
+  Whole = ShowsMeaning w IsResult (case_meaning c m) mode i
 
-    pub passing_err : (PartRunsOut → RunsOut) → (f : Answer.Err E (Option E) Needed) → ShowsAnswer w IsOutput (with_outputs outputs mode) i (Part i) IsError PartRunsOut (Err f) → Passed (Err f)
-    passing_err more f (RanOut e h) = RanOut (cc (e)) (more h)
-    passing_err more f (Shown o a h) = passing_of f o a h
+  module _ {k : Answer.Err E (Option E) Needed} (p : Passing c m mode i k) where
+    there : {Fact : I → Outcome P → Type 0} (o : Outcome P) → m.answers (mode_of c.mode mode.streaming) i o → Fact i o → OnPart c.At (m.answers (mode_of c.mode mode.streaming)) Fact i
+    there o a f = record { at = i; at_is = p.at_is; outcome = o; answered = a; fact = f }
+
+    passing_of : (o : Outcome P) → m.answers (mode_of c.mode mode.streaming) i o → Shows w IsOutput (c.part mode) i (m.blames (mode_of c.mode mode.streaming) i) o (Err k) → Whole (Err k)
+    passing_of (Accept n v) a h = absurd (cc (h.4))
+    passing_of Refuse a h = let r = p.refuses h.0 (cc (h.2)) in Shown Refuse (there Refuse a r.1) (h.0, built_error mode.errors _ _ h.0 (λ e b. there Refuse a (r.2 e b)) (subst (λ z. Built z (m.blames (mode_of c.mode mode.streaming) i) h.0) r.0 h.1), cc (h.2))
+    passing_of Fail a h = Shown Fail (there Fail a p.fails) (h.0, there Fail a (p.blames_failure h.0 h.1), cc (h.2))
+    passing_of TooLarge a h = Shown TooLarge (there TooLarge a p.too_large) (h.0, there TooLarge a (p.blames_large h.0 h.1), cc (h.2))
+    passing_of (Undecided d) a h = Shown (Undecided d) (there (Undecided d) a (p.undecided h.0 (cc (h.2)) d)) (h.0, h.1, cc (h.2))
+
+    passed : InPart (Err k) → Whole (Err k)
+    passed (RanOut e h) = RanOut (cc (e)) (RunsOutInPart i p.at_is h)
+    passed (Shown o a h) = passing_of o a h
+
+    pub passing_err : {f : Answer.Err E (Option E) Needed} → f ≡ k → InPart (Err f) → Whole (Err k)
+    passing_err q h = passed (subst (λ y. InPart (Err y)) q h)
 
 module _ {I A P T O X E : Type 0} (w : Seen I A) (IsOutput : P → O → Type 0) (IsResult : T → X → Type 0) (builds : Bool → Bool) (OnAccept : I → ℕ → P → Outcome T → Type 0) (m : Meaning I P E) (mode : Modes) (i : I) where
-  err_passes : (f : Answer.Err E (Option E) Needed) (o : Outcome P) → m.answers mode.streaming i o → Shows w IsOutput (with_outputs (builds mode.outputs) mode) i (m.blames mode.streaming i) o (Err f) → ShowsMeaning w IsResult (case_meaning (plain_case builds (λ i. Passes (OnAccept i))) m) mode i (Err f)
-  err_passes f (Accept n v) a h = absurd (cc (h.4))
-  err_passes f Refuse a h = Shown Refuse (here Refuse a refl) (h.0, built_error mode.errors _ _ h.0 (λ e b. here Refuse a b) h.1, cc (h.2))
-  err_passes f Fail a h = Shown Fail (here Fail a refl) (h.0, here Fail a h.1, cc (h.2))
-  err_passes f TooLarge a h = Shown TooLarge (here TooLarge a refl) (h.0, here TooLarge a h.1, cc (h.2))
-  err_passes f (Undecided k) a h = Shown (Undecided k) (here (Undecided k) a refl) (h.0, h.1, cc (h.2))
-
   -- whatever isn't an acceptance passes
   pub plain_err : (f : Answer.Err E (Option E) Needed) → ShowsMeaning w IsOutput m (with_outputs (builds mode.outputs) mode) i (Err f) → ShowsMeaning w IsResult (case_meaning (plain_case builds (λ i. Passes (OnAccept i))) m) mode i (Err f)
-  plain_err f (RanOut e h) = RanOut (cc (e)) (RunsOutInPart i refl h)
-  plain_err f (Shown o a h) = err_passes f o a h
+  plain_err f = passing_err w IsOutput IsResult (plain_case builds (λ i. Passes (OnAccept i))) m mode i (record { at_is = refl; refuses = λ b e. (refl, refl, λ z h. h); undecided = λ n e d. refl; fails = refl; too_large = refl; blames_failure = λ z h. h; blames_large = λ z h. h }) refl
 
 module _ {I A P T O E : Type 0} (w : Seen I A) (label : P → T) (IsOutput : P → O → Type 0) (IsLabelled : T → O → Type 0) (same : (t : P) (o : O) → IsOutput t o → IsLabelled (label t) o) (m : Meaning I P E) (mode : Modes) (i : I) where
   labelled_of : (o : Outcome P) (r : Result (I × Option O) (Answer.Err E (Option E) Needed)) → m.answers mode.streaming i o → Shows w IsOutput mode i (m.blames mode.streaming i) o r → Shows w IsLabelled mode i ((labelled_meaning label m).blames mode.streaming i) (labelled label o) r

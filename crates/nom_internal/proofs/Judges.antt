@@ -9,12 +9,11 @@ use Rattle.nom_internal.specs.Outcome.{Outcome}
 use Rattle.nom_internal.specs.Outcome.Outcome.{Accept, Refuse}
 use Rattle.nom_internal.specs.Outcome.ShowsAnswer.{RanOut, Shown}
 use Rattle.nom_internal.specs.Meaning.{Meaning, ShowsMeaning}
-use Rattle.nom_internal.specs.Cases.{Passes}
-use Rattle.nom_internal.specs.Cases.CaseRunsOut.{RunsOutInPart, RunsOutBeside}
+use Rattle.nom_internal.specs.Cases.CaseRunsOut.{RunsOutBeside}
 use Rattle.nom_internal.specs.Closures.{GivesFor, IsJudge}
-use Rattle.nom_internal.specs.Judged.{kept_if, Judged, JudgedBlames, judged_meaning}
+use Rattle.nom_internal.specs.Judged.{kept_if, judged_case, judged_meaning}
 use Rattle.nom_internal.proofs.Shown.{Accepts, accepts, built_error}
-use Rattle.nom_internal.proofs.Cased.{here, Passing, passing_err}
+use Rattle.nom_internal.proofs.Cased.{here, passing_err}
 
 abbrev JudgedShown : {I A V P R O E : Type 0} (w : Seen I A) (IsOutput : V → P → Type 0) (Takes : P → Type 0) (Gives : P → R → Type 0) (fits : R → Bool) (Makes : I → R → E → Type 0) (Grows : Type 0) (IsResult : V → O → Type 0) (m : Meaning I V E) (mode : Modes) (i : I) → Result (I × Option O) (Answer.Err E (Option E) Needed) → Type 0
 JudgedShown w IsOutput Takes Gives fits Makes Grows IsResult m mode i = ShowsMeaning w IsResult (judged_meaning IsOutput Takes Gives fits Makes Grows m) mode i
@@ -23,11 +22,8 @@ module _ {I A V P R O E : Type 0} (w : Seen I A) (IsOutput : V → P → Type 0)
   abbrev Goal : Result (I × Option O) (Answer.Err E (Option E) Needed) → Type 0
   Goal = JudgedShown w IsOutput Takes Gives fits Makes Grows IsResult m mode i
 
-  passing : Passing (λ a o. Passes (Judged (GivesFor IsOutput Gives) fits) a o) (λ a e. JudgedBlames (GivesFor IsOutput Gives) fits (Makes i) a (m.blames mode.streaming i) e) (m.blames mode.streaming i)
-  passing = record { refuses = refl; fails = refl; too_large = refl; undecided = λ k. refl; blames_refusal = λ e h. h; blames_failure = λ e h. h; blames_large = λ e h. h }
-
   err_shown : (f : Answer.Err E (Option E) Needed) → ShowsMeaning w IsOutput m (with_outputs true mode) i (Err f) → Goal (Err f)
-  err_shown = passing_err w IsOutput IsResult true mode i (m.answers mode.streaming) (m.blames mode.streaming i) (m.runs_out (with_outputs true mode) i) (Passes (Judged (GivesFor IsOutput Gives) fits)) (λ e j a. JudgedBlames (GivesFor IsOutput Gives) fits (Makes i) a (m.blames mode.streaming j) e) ((judged_meaning IsOutput Takes Gives fits Makes Grows m).runs_out mode i) passing (RunsOutInPart i refl)
+  err_shown f = passing_err w IsOutput IsResult (judged_case IsOutput Takes Gives fits Makes Grows) m mode i (record { at_is = refl; refuses = λ b e. (refl, refl, λ z h. h); undecided = λ n e d. refl; fails = refl; too_large = refl; blames_failure = λ z h. h; blames_large = λ z h. h }) refl
 
   refusal_shown : (n : ℕ) (t : V) (r : R) → m.answers mode.streaming i (Accept n t) → GivesFor IsOutput Gives t r → fits r ≡ false → (k : Answer.Err E (Option E) Needed) → Refuses (Makes i r) Grows mode.errors k → Goal (Err k)
   refusal_shown n t r a g f k (inl q) = RanOut (ap Err q.0) (RunsOutBeside (here (Accept n t) a (r, g, f, (q.1, q.2))))

@@ -4,15 +4,15 @@ use Rattle.nom_error.specs.declared.answer.Needed.{Needed}
 use Rattle.nom_error.specs.declared.answer.Err as Answer
 use Rattle.nom_error.specs.Modes.{Built, Modes}
 use Rattle.nom_traits.specs.Input.{Seen}
-use Rattle.nom_internal.specs.Outcome.{Outcome, Shows}
+use Rattle.nom_internal.specs.Outcome.{Outcome, IsFault, Shows}
 use Rattle.nom_internal.specs.Outcome.Outcome.{Accept, Refuse, Fail, TooLarge, Undecided}
 use Rattle.nom_internal.specs.Outcome.ShowsAnswer.{RanOut, Shown}
 use Rattle.nom_internal.specs.Meaning.{Meaning, ShowsMeaning}
 use Rattle.nom_internal.specs.Cases.CaseRunsOut.{RunsOutInPart}
 use Rattle.nom_internal.specs.Closures.{GivesFor, IsCallable}
-use Rattle.nom_internal.specs.Mapped.{map_meaning, into_meaning, ConvertsSome, ConvertsResult}
+use Rattle.nom_internal.specs.Mapped.{map_case, map_meaning, into_meaning, ConvertsSome, ConvertsResult}
 use Rattle.nom_internal.proofs.Shown.{accepts}
-use Rattle.nom_internal.proofs.Cased.{here, Passing, passing_err}
+use Rattle.nom_internal.proofs.Cased.{here, passing_err}
 
 -- an output that is built is given to a closure, and none elsewhere
 module _ {V P R : Type 0} (IsOutput : V → P → Type 0) (Gives : P → R → Type 0) (t : V) where
@@ -27,14 +27,11 @@ module _ {V P R : Type 0} (IsOutput : V → P → Type 0) (Gives : P → R → T
 abbrev MapShown : {I A V P R E : Type 0} (w : Seen I A) (IsOutput : V → P → Type 0) (Takes : P → Type 0) (Gives : P → R → Type 0) (m : Meaning I V E) (mode : Modes) (i : I) → Result (I × Option R) (Answer.Err E (Option E) Needed) → Type 0
 MapShown w IsOutput Takes Gives m mode i = ShowsMeaning w (GivesFor IsOutput Gives) (map_meaning IsOutput Takes m) mode i
 
-passing : {P E : Type 0} {IsError : E → Type 0} → Passing {P = P} (λ a o. o ≡ a) (λ a. IsError) IsError
-passing = record { refuses = refl; fails = refl; too_large = refl; undecided = λ k. refl; blames_refusal = λ e h. h; blames_failure = λ e h. h; blames_large = λ e h. h }
-
 -- The premise that a closure takes the outputs tells which closure it is.
 module _ {I A V P R E : Type 0} {w : Seen I A} {IsOutput : V → P → Type 0} {Takes : P → Type 0} {Gives : P → R → Type 0} (m : Meaning I V E) {mode : Modes} {i : I} where
   -- whatever isn't an acceptance passes
   pub map_err : {f : Answer.Err E (Option E) Needed} {r : Result (I × Option R) (Answer.Err E (Option E) Needed)} → IsCallable IsOutput Takes → ShowsMeaning w IsOutput m mode i (Err f) → r ≡ Err f → MapShown w IsOutput Takes Gives m mode i r
-  map_err {f = f} k h e = subst (λ z. MapShown w IsOutput Takes Gives m mode i z) (sym e) (passing_err w IsOutput (GivesFor IsOutput Gives) mode.outputs mode i (m.answers mode.streaming) (m.blames mode.streaming i) (m.runs_out mode i) (λ a o. o ≡ a) (λ e j a. m.blames mode.streaming j e) ((map_meaning IsOutput Takes m).runs_out mode i) passing (RunsOutInPart i refl) f h)
+  map_err k h e = subst (λ z. MapShown w IsOutput Takes Gives m mode i z) (sym e) (passing_err w IsOutput (GivesFor IsOutput Gives) (map_case IsOutput Takes) m mode i (record { at_is = refl; refuses = λ b q. (refl, refl, λ z h. h); undecided = λ n q d. refl; fails = refl; too_large = refl; blames_failure = λ z h. h; blames_large = λ z h. h }) refl h)
 
   -- an output that was built is mapped, and none elsewhere
   pub map_some : {j : I} {x : Option P} {p : P} {r : R} → IsCallable IsOutput Takes → x ≡ Some p → Gives p r → ShowsMeaning w IsOutput m mode i (Ok (j, x)) → MapShown w IsOutput Takes Gives m mode i (Ok (j, Some r))
@@ -57,8 +54,8 @@ module _ {I A V P R E F : Type 0} (w : Seen I A) (IsOutput : V → P → Type 0)
   IntoShown = ShowsMeaning w (GivesFor IsOutput Gives) (into_meaning Converts m) mode i
 
   -- the part's error, converted
-  blamed : (o : Outcome V) → m.answers mode.streaming i o → (e : E) (f : F) → m.blames mode.streaming i e → Converts e f → (into_meaning Converts m).blames mode.streaming i f
-  blamed o a e f b c = here o a (e, b, c)
+  blamed : (o : Outcome V) → m.answers mode.streaming i o → IsFault o → (e : E) (f : F) → m.blames mode.streaming i e → Converts e f → (into_meaning Converts m).blames mode.streaming i f
+  blamed o a fault e f b c = here o a (e, fault, b, c)
 
   into_of : (o : Outcome V) (r : Result (I × Option P) (Answer.Err E (Option E) Needed)) (s : Result (I × Option R) (Answer.Err F (Option F) Needed)) → m.answers mode.streaming i o → Shows w IsOutput mode i (m.blames mode.streaming i) o r → ConvertsResult Gives Converts r s → IntoShown s
   into_of (Accept n v) r s a h c =
@@ -66,13 +63,13 @@ module _ {I A V P R E F : Type 0} (w : Seen I A) (IsOutput : V → P → Type 0)
       Shown (Accept n v) (here (Accept n v) a refl) (h.0, d.0, h.2, converts_built mode.outputs Gives (IsOutput v) (GivesFor IsOutput Gives v) h.1 d.0 (λ p x k g. record { output = p; is_output = k; given = g }) d.1 h.3, d.2)
   into_of Refuse r s a h c =
       let d = subst (λ z. ConvertsResult Gives Converts z s) h.2 c in
-      Shown Refuse (here Refuse a refl) (d.0, converts_built mode.errors Converts (m.blames mode.streaming i) ((into_meaning Converts m).blames mode.streaming i) h.0 d.0 (blamed Refuse a) d.1 h.1, d.2)
+      Shown Refuse (here Refuse a refl) (d.0, converts_built mode.errors Converts (m.blames mode.streaming i) ((into_meaning Converts m).blames mode.streaming i) h.0 d.0 (blamed Refuse a tt) d.1 h.1, d.2)
   into_of Fail r s a h c =
       let d = subst (λ z. ConvertsResult Gives Converts z s) h.2 c in
-      Shown Fail (here Fail a refl) (d.0, blamed Fail a h.0 d.0 h.1 d.1, d.2)
+      Shown Fail (here Fail a refl) (d.0, blamed Fail a tt h.0 d.0 h.1 d.1, d.2)
   into_of TooLarge r s a h c =
       let d = subst (λ z. ConvertsResult Gives Converts z s) h.2 c in
-      Shown TooLarge (here TooLarge a refl) (d.0, blamed TooLarge a h.0 d.0 h.1 d.1, d.2)
+      Shown TooLarge (here TooLarge a refl) (d.0, blamed TooLarge a tt h.0 d.0 h.1 d.1, d.2)
   into_of (Undecided k) r s a h c = Shown (Undecided k) (here (Undecided k) a refl) (h.0, h.1, subst (λ z. ConvertsResult Gives Converts z s) h.2 c)
 
   pub into_shown : (r : Result (I × Option P) (Answer.Err E (Option E) Needed)) (s : Result (I × Option R) (Answer.Err F (Option F) Needed)) → ShowsMeaning w IsOutput m mode i r → ConvertsResult Gives Converts r s → IntoShown s

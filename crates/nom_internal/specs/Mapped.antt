@@ -1,8 +1,10 @@
 -- A part whose outputs, or whose errors too, become others.
-use Rattle.std.specs.Prelude.{◌≡◌, Option, Some, None, Result, Ok, Err}
+use Rattle.std.specs.Prelude.{◌≡◌, Bool, true, Option, Some, None, Result, Ok, Err}
 use Rattle.nom_error.specs.declared.answer.Needed.{Needed}
 use Rattle.nom_error.specs.declared.answer.Err as Answer
 use Rattle.nom_error.specs.declared.answer.Err.TheVariants.{Incomplete, Error, Failure, OutOfMemory}
+use Rattle.nom_internal.specs.Outcome.{Outcome, IsFault}
+use Rattle.nom_internal.specs.Outcome.Outcome.{Accept, Refuse, Fail, TooLarge, Undecided}
 use Rattle.nom_internal.specs.Meaning.{Meaning}
 use Rattle.nom_internal.specs.Cases.{Case, case_meaning}
 use Rattle.nom_internal.specs.Cases.PartMode.{AsAsked}
@@ -26,22 +28,34 @@ map_case IsOutput Takes = record {
 abbrev pub map_meaning : {I V P E : Type 0} → (V → P → Type 0) → (P → Type 0) → Meaning I V E → Meaning I V E
 map_meaning IsOutput Takes = case_meaning (map_case IsOutput Takes)
 
--- the outcome is the part's, with its tree; its errors are converted
-abbrev pub into_case : {I V E F : Type 0} → (E → F → Type 0) → Case I I V V E F
-into_case {E} Converts = record {
+-- the outcome holds an error that is built
+abbrev pub BuildsError : {P : Type 0} → Bool → Outcome P → Type 0
+BuildsError errors (Accept n v) = ⊥
+BuildsError errors Refuse = errors ≡ true
+BuildsError errors Fail = Unit {0}
+BuildsError errors TooLarge = Unit {0}
+BuildsError errors (Undecided k) = ⊥
+
+-- The outcome is the part's, with its tree: each error is made of the part's, which may take memory where the error is built.
+abbrev pub renamed_case : {I V E F : Type 0} → (I → E → F → Type 0) → Type 0 → Case I I V V E F
+renamed_case {E = E} Makes Grows = record {
   At = λ i j. i ≡ j;
   mode = AsAsked;
   Becomes = λ i a o. o ≡ a;
-  Blames = λ i a Part f. (e : E) × Part e × Converts e f;
+  Blames = λ i a Part f. (e : E) × IsFault a × Part e × Makes i e f;
   part = λ mode. mode;
-  Asks = λ mode i a. ⊥;
+  Asks = λ mode i a. BuildsError mode.errors a × Grows;
   IsSound = λ Part. Part;
-  IsFrugal = λ Part. Part;
+  IsFrugal = λ Part mode. Part mode × (Grows → ⊥);
   NeverFails = λ Part. Part;
 }
 
+abbrev pub renamed_meaning : {I V E F : Type 0} → (I → E → F → Type 0) → Type 0 → Meaning I V E → Meaning I V F
+renamed_meaning Makes Grows = case_meaning (renamed_case Makes Grows)
+
+-- a part whose errors are converted, which takes no memory
 abbrev pub into_meaning : {I V E F : Type 0} → (E → F → Type 0) → Meaning I V E → Meaning I V F
-into_meaning Converts = case_meaning (into_case Converts)
+into_meaning Converts = renamed_meaning (λ i. Converts) ⊥
 
 -- a value that is there is converted
 abbrev pub ConvertsSome : {T U : Type 0} → (T → U → Type 0) → Option T → Option U → Type 0

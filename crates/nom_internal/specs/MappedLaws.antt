@@ -5,7 +5,7 @@ use Rattle.nom_traits.specs.View.{View}
 use Rattle.nom_internal.specs.Meaning.{Meaning, IsLawful, IsSteady}
 use Rattle.nom_internal.specs.CaseLaws.{CaseLaws, fixed_laws, case_lawful, case_steady}
 use Rattle.nom_internal.specs.Closures.{GivesFor, SeesAlike}
-use Rattle.nom_internal.specs.Mapped.{map_case, map_meaning, into_case, into_meaning}
+use Rattle.nom_internal.specs.Mapped.{map_case, map_meaning, renamed_case, renamed_meaning}
 use Rattle.nom_internal.specs.Pinned.{IsPinned}
 
 -- what a closure gives for the outputs of one tree is seen alike, where they are
@@ -37,9 +37,9 @@ module _ {I A V P : Type 0} (w : Seen I A) (IsOutput : V → P → Type 0) (Take
     pub map_steady : IsSteady w m → IsSteady w (map_meaning IsOutput Takes m)
     map_steady l = case_steady w w m (map_case IsOutput Takes) map_laws refl l
 
-module _ {I A V E F : Type 0} (w : Seen I A) (Converts : E → F → Type 0) where
-  into_laws : CaseLaws true w w (into_case {V = V} Converts)
-  into_laws =
+module _ {I A V E F : Type 0} (w : Seen I A) (Makes : I → E → F → Type 0) (Grows : Type 0) where
+  renamed_laws : CaseLaws true w w (renamed_case {V = V} Makes Grows)
+  renamed_laws =
       let l = fixed_laws {P = V} w {E = E} true in
       record {
         at_known = l.at_known;
@@ -50,14 +50,14 @@ module _ {I A V E F : Type 0} (w : Seen I A) (Converts : E → F → Type 0) whe
         alike = l.alike;
         place = l.place;
         never_fails = l.never_fails;
-        blames = λ i a X Y e f b. (b.0, f b.0 b.1, b.2);
-        part_frugal = λ Part mode h. h;
-        asks_none = λ Part mode i a h g. g;
+        blames = λ i a X Y e f h. (h.0, h.1, f h.0 h.2, h.3);
+        part_frugal = λ Part mode h. h.0;
+        asks_none = λ Part mode i a h g. h.1 g.1;
       }
 
   module _ (m : Meaning I V E) where
-    pub into_lawful : IsLawful w m → IsLawful w (into_meaning Converts m)
-    into_lawful l = case_lawful w w m l (into_case Converts) into_laws
+    pub renamed_lawful : IsLawful w m → IsLawful w (renamed_meaning Makes Grows m)
+    renamed_lawful l = case_lawful w w m l (renamed_case Makes Grows) renamed_laws
 
-    pub into_steady : IsSteady w m → IsSteady w (into_meaning Converts m)
-    into_steady l = case_steady w w m (into_case Converts) into_laws refl l
+    pub renamed_steady : IsSteady w m → IsSteady w (renamed_meaning Makes Grows m)
+    renamed_steady l = case_steady w w m (renamed_case Makes Grows) renamed_laws refl l

@@ -1,7 +1,7 @@
 //! A parser whose outputs and errors are converted.
 ghost use Rattle.nom_internal.specs.Closures.{GivesFor, SeesAlike};
 ghost use Rattle.nom_internal.specs.Mapped.{into_meaning, ConvertsSome, ConvertsResult};
-ghost use Rattle.nom_internal.specs.MappedLaws.{given_pinned, into_lawful, into_steady};
+ghost use Rattle.nom_internal.specs.MappedLaws.{given_pinned, renamed_lawful, renamed_steady};
 
 use crate::parser::{Parser, StreamParser};
 use nom_error::answer::{Err, PResult};
@@ -79,7 +79,7 @@ where
         converted_answer(self.parser.process::<OM>(input))
     }
 
-    ghost lawful = { λ s k. into_lawful I.seen E.from_gives (F.meaning s) (F.lawful s k) };
+    ghost lawful = { λ s k. renamed_lawful I.seen (λ _. E.from_gives) ⊥ (F.meaning s) (F.lawful s k) };
 }
 
 impl<
@@ -90,5 +90,5 @@ impl<
 > StreamParser<I> for Into<F, O, E> {
     ghost pinned = { λ s k p. given_pinned F.Output.view O.view (F.IsOutput s) O.from_gives (F.pinned s k p.0) p.1 };
 
-    ghost steady = { λ s k. into_steady I.seen E.from_gives (F.meaning s) (F.steady s k) };
+    ghost steady = { λ s k. renamed_steady I.seen (λ _. E.from_gives) ⊥ (F.meaning s) (F.steady s k) };
 }

@@ -2,11 +2,11 @@
 use nom::branch::permutation;
 use nom::bytes::{tag, take};
 use nom::character::char;
-use nom::error::{Error, ErrorKind, ParseError};
+use nom::error::{Error, ErrorKind};
 use nom::{
-    Check, Complete, Emit, Err, IResult, Needed, OutOfMemory, OutputM, PResult, Parser, Streaming,
-    parse_growing,
+    Check, Complete, Emit, Err, IResult, Needed, OutputM, PResult, Parser, Streaming, parse_growing,
 };
+use nom_trail::trail::Trail;
 
 type At<'a> = Error<&'a [u8]>;
 
@@ -67,20 +67,6 @@ fn characters_in_any_order(rt: HostRuntime) {
     }
 }
 
-#[test]
-fn outputs_in_the_order_of_the_list(rt: HostRuntime) {
-    let mut parts = permutation((char::<_, At>('a'), char::<_, At>('b'), char::<_, At>('c')));
-    match parts.parse(&b"cab"[..]) {
-        Ok((_rest, found)) => {
-            let (a, b, c) = found;
-            assert!(rt; a == 'a');
-            assert!(rt; b == 'b');
-            assert!(rt; c == 'c');
-        }
-        _ => panic!(rt; "refused"),
-    }
-}
-
 // A member runs in the mode that is asked for.
 #[test]
 fn streaming_and_complete(rt: HostRuntime) {
@@ -121,80 +107,14 @@ fn eight_members(rt: HostRuntime) {
     }
 }
 
-/// An error that lists its first eight kinds.
-#[derive(Clone, Copy, Debug, PartialEq, Eq)]
-struct Trail {
-    kinds: [Option<ErrorKind>; 8],
-}
-
-/// A trail, followed by a kind.
-fn followed(trail: Trail, kind: ErrorKind) -> Trail {
-    let mut kinds = trail.kinds;
-    for place in kinds.iter_mut() {
-        if place.is_none() {
-            *place = Some(kind);
-            break;
-        }
-    }
-    Trail { kinds }
-}
-
-impl<I: Drop> ParseError<I> for Trail {
-    ghost errors = { record {
-      of_kind = λ _ _ _. Unit {0};
-      appended = λ _ _ _ _. Unit {0};
-      of_char = λ _ _ _. Unit {0};
-      joined = λ _ _ _. Unit {0};
-      grows = ⊥;
-    } };
-
-    fn from_error_kind(_input: I, kind: ErrorKind) -> Result<Self, OutOfMemory> {
-        Ok(followed(Trail { kinds: [None; 8] }, kind))
-    }
-
-    fn append(_input: I, kind: ErrorKind, other: Self) -> Result<Self, OutOfMemory> {
-        Ok(followed(other, kind))
-    }
-
-    fn from_char(_input: I, _wanted: char) -> Result<Self, OutOfMemory> {
-        Ok(followed(Trail { kinds: [None; 8] }, ErrorKind::Char))
-    }
-
-    fn or(self, other: Self) -> Result<Self, OutOfMemory> {
-        let mut both = self;
-        for kind in other.kinds {
-            if let Some(kind) = kind {
-                both = followed(both, kind);
-            }
-        }
-        Ok(both)
-    }
-}
-
 #[test]
 fn errors_are_joined_and_closed(rt: HostRuntime) {
-    for (input, wanted) in [
-        (
-            &b"ax"[..],
-            [Some(ErrorKind::Tag), Some(ErrorKind::Permutation), None],
-        ),
-        (
-            &b"xa"[..],
-            [
-                Some(ErrorKind::Tag),
-                Some(ErrorKind::Tag),
-                Some(ErrorKind::Permutation),
-            ],
-        ),
-    ] {
+    let tag_alone = [ErrorKind::Tag, ErrorKind::Permutation];
+    let both = [ErrorKind::Tag, ErrorKind::Tag, ErrorKind::Permutation];
+    for (input, steps) in [(&b"ax"[..], &tag_alone[..]), (&b"xa"[..], &both[..])] {
         let mut parts = permutation((tag::<_, _, Trail>(&b"a"[..]), tag::<_, _, Trail>(&b"b"[..])));
         match parts.parse(input) {
-            Err(Err::Error(trail)) => {
-                let [first, second, third, fourth, _, _, _, _] = trail.kinds;
-                let [one, two, three] = wanted;
-                assert!(rt; first == one && second == two && third == three);
-                assert!(rt; fourth.is_none());
-            }
+            Err(Err::Error(trail)) => assert!(rt; trail.steps() == steps, "at {input:?}"),
             _ => panic!(rt; "not refused"),
         }
     }

@@ -1,13 +1,12 @@
 //! Parsers on what another one gives, parsers that closures give, and one of two parsers.
 
+use super::modes::{accepts, in_modes, refuses};
 use nom::bytes::{tag, take};
+use nom::character::char;
 use nom::combinator::{flat_map, map_parser};
 use nom::error::{Error, ErrorKind, ParseError};
 use nom::number::be_u8;
-use nom::{
-    Check, Complete, Emit, Err, IResult, Needed, OutOfMemory, OutputM, Parser, Streaming,
-    parse_growing,
-};
+use nom::{Err, IResult, Needed, OutOfMemory, Parser, parse_growing};
 use nom_ends::left::Rest;
 
 type Fail<'a> = Error<&'a str>;
@@ -172,79 +171,36 @@ fn both_errors_in_order(rt: HostRuntime) {
 }
 
 #[test]
-fn what_is_built(rt: HostRuntime) {
-    let mut parser = map_parser(take::<_, _, Fail>(2usize), tag("a"));
-    for (output, found) in [
-        (
-            Some("a"),
-            parser.process::<OutputM<Emit, Emit, Streaming>>("abc"),
-        ),
-        (
-            Some("a"),
-            parser.process::<OutputM<Emit, Check, Complete>>("abc"),
-        ),
-        (
-            None,
-            parser.process::<OutputM<Check, Emit, Complete>>("abc"),
-        ),
-        (
-            None,
-            parser.process::<OutputM<Check, Check, Streaming>>("abc"),
-        ),
+fn a_slice_in_each_mode(rt: HostRuntime) {
+    for (input, answers) in [
+        (&b"abc"[..], accepts(&b"c"[..], &b"a"[..])),
+        (&b"xbc"[..], refuses(ErrorKind::Tag, &b"xb"[..])),
     ] {
-        assert_eq!(rt; found, Ok(("c", output)));
-    }
-    let error = Some(Error::new("xb", ErrorKind::Tag));
-    for (error, found) in [
-        (
-            error,
-            parser.process::<OutputM<Emit, Emit, Complete>>("xbc"),
-        ),
-        (
-            None,
-            parser.process::<OutputM<Emit, Check, Complete>>("xbc"),
-        ),
-        (
-            error,
-            parser.process::<OutputM<Check, Emit, Streaming>>("xbc"),
-        ),
-        (
-            None,
-            parser.process::<OutputM<Check, Check, Streaming>>("xbc"),
-        ),
-    ] {
-        assert_eq!(rt; found, Err(Err::Error(error)));
+        let slice = map_parser(take::<_, _, At>(2usize), tag(&b"a"[..]));
+        assert!(rt; in_modes(slice, input) == answers, "at {input:?}");
     }
 }
 
 #[test]
-fn what_is_built_of_a_parser_that_is_given(rt: HostRuntime) {
-    let mut parser = be_u8::<_, At>().flat_map(|count: u8| take(count));
-    let input = &b"\x01ab"[..];
-    for (output, found) in [
-        (
-            Some(&b"a"[..]),
-            parser.process::<OutputM<Emit, Check, Streaming>>(input),
-        ),
-        (
-            None,
-            parser.process::<OutputM<Check, Emit, Streaming>>(input),
-        ),
+fn a_parser_that_is_given_in_each_mode(rt: HostRuntime) {
+    for (input, answers) in [
+        (&b"xxy"[..], accepts(&b"y"[..], 'x')),
+        (&b"xyz"[..], refuses(ErrorKind::Char, &b"yz"[..])),
     ] {
-        assert_eq!(rt; found, Ok((&b"b"[..], output)));
+        let twice = flat_map(be_u8::<_, At>(), |first: u8| char(first as char));
+        assert!(rt; in_modes(twice, input) == answers, "at {input:?}");
     }
-    let error = Some(Error::new(&b"a"[..], ErrorKind::Eof));
-    for (error, found) in [
-        (
-            error,
-            parser.process::<OutputM<Check, Emit, Complete>>(&b"\x02a"[..]),
-        ),
-        (
-            None,
-            parser.process::<OutputM<Emit, Check, Complete>>(&b"\x02a"[..]),
-        ),
+}
+
+#[test]
+fn one_of_two_in_each_mode(rt: HostRuntime) {
+    for (input, answers) in [
+        (&b"ax"[..], accepts(&b"x"[..], &b"a"[..])),
+        (&b"bx"[..], accepts(&b"x"[..], &b"b"[..])),
+        (&b"xa"[..], refuses(ErrorKind::Tag, &b"xa"[..])),
     ] {
-        assert_eq!(rt; found, Err(Err::Error(error)));
+        let either = tag::<_, _, At>(&b"a"[..]).or(tag(&b"b"[..]));
+        assert!(rt; in_modes(either, input) == answers, "at {input:?}");
     }
 }
 

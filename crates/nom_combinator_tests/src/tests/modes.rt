@@ -28,24 +28,33 @@ fn told_of<'a, O: Drop>(answer: PResult<&'a [u8], O, At<'a>>) -> Told<'a, O> {
     }
 }
 
-/// The answers at an input in the four modes of what is built: both, outputs, errors, nothing.
+/// The answers at an input in the four modes of what is built (both, outputs, errors, nothing), in
+/// streaming and then in complete.
 pub fn in_modes<'a, O: Drop, P: Parser<&'a [u8], Output = O, Error = At<'a>> + Drop>(
     mut parser: P,
     input: &'a [u8],
-) -> [Told<'a, O>; 4]
+) -> [Told<'a, O>; 8]
     requires { (P.meaning (P.state parser)).IsSound }
 {
     [
         told_of(parser.process::<OutputM<Emit, Emit, Streaming>>(input)),
-        told_of(parser.process::<OutputM<Emit, Check, Complete>>(input)),
+        told_of(parser.process::<OutputM<Emit, Check, Streaming>>(input)),
         told_of(parser.process::<OutputM<Check, Emit, Streaming>>(input)),
+        told_of(parser.process::<OutputM<Check, Check, Streaming>>(input)),
+        told_of(parser.process::<OutputM<Emit, Emit, Complete>>(input)),
+        told_of(parser.process::<OutputM<Emit, Check, Complete>>(input)),
+        told_of(parser.process::<OutputM<Check, Emit, Complete>>(input)),
         told_of(parser.process::<OutputM<Check, Check, Complete>>(input)),
     ]
 }
 
-/// What is told in the four modes of an acceptance.
-pub fn accepts<'a, O: Copy>(rest: &'a [u8], output: O) -> [Told<'a, O>; 4] {
+/// What is told of an acceptance, in each of these modes.
+pub fn accepts<'a, O: Copy>(rest: &'a [u8], output: O) -> [Told<'a, O>; 8] {
     [
+        Told::Accepts(rest, Some(output)),
+        Told::Accepts(rest, Some(output)),
+        Told::Accepts(rest, None),
+        Told::Accepts(rest, None),
         Told::Accepts(rest, Some(output)),
         Told::Accepts(rest, Some(output)),
         Told::Accepts(rest, None),
@@ -53,9 +62,13 @@ pub fn accepts<'a, O: Copy>(rest: &'a [u8], output: O) -> [Told<'a, O>; 4] {
     ]
 }
 
-/// What is told in the four modes of a refusal at an input.
-pub fn refuses<'a, O: Copy>(kind: ErrorKind, input: &'a [u8]) -> [Told<'a, O>; 4] {
+/// What is told of a refusal at an input, in each of these modes.
+pub fn refuses<'a, O: Copy>(kind: ErrorKind, input: &'a [u8]) -> [Told<'a, O>; 8] {
     [
+        Told::Refuses(Some((kind, input))),
+        Told::Refuses(None),
+        Told::Refuses(Some((kind, input))),
+        Told::Refuses(None),
         Told::Refuses(Some((kind, input))),
         Told::Refuses(None),
         Told::Refuses(Some((kind, input))),

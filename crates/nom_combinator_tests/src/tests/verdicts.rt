@@ -1,4 +1,4 @@
-//! What becomes of a part's outcome, in the four modes of what is built, and items one after another.
+//! What becomes of a part's outcome, in each mode, and items one after another.
 
 use super::modes::{At, Told, accepts, in_modes, refuses};
 use nom::Err;
@@ -56,7 +56,7 @@ fn on_a_condition(rt: HostRuntime) {
 fn a_final_refusal(rt: HostRuntime) {
     for (input, answers) in [
         (&b"ab"[..], accepts(&b"b"[..], &b"a"[..])),
-        (&b"b"[..], [Told::Fails(ErrorKind::Tag, &b"b"[..]); 4]),
+        (&b"b"[..], [Told::Fails(ErrorKind::Tag, &b"b"[..]); 8]),
     ] {
         let letter = cut(tag::<_, _, At>(&b"a"[..]));
         assert!(rt; in_modes(letter, input) == answers, "at {input:?}");

@@ -1,8 +1,9 @@
 use Rattle.std.specs.Prelude.{refl}
 use Rattle.std.proofs.Common.{sym, ◌∙◌}
+use Rattle.nom_internal.proofs.Consumed.{rest_self}
 use Rattle.nom_internal.proofs.Shown.{accepted, refused}
 use Rattle.nom_ends.specs.Ends.{all_of}
-use Rattle.nom_ends.proofs.Rests.{no_items, no_length, rest_self}
+use Rattle.nom_ends.proofs.Rests.{no_items, no_length}
 use Rattle.nom_ends.proofs.Whole.{whole_built}
 use Rattle.nom_ends.proofs.left.EofParser.process.Goals as goal
 

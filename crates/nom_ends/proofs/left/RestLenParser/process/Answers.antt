@@ -1,6 +1,6 @@
 use Rattle.std.specs.Prelude.{refl}
+use Rattle.nom_internal.proofs.Consumed.{rest_self}
 use Rattle.nom_internal.proofs.Shown.{accepted}
-use Rattle.nom_ends.proofs.Rests.{rest_self}
 use Rattle.nom_ends.proofs.left.RestLenParser.process.Goals as goal
 
 pub returns-clause-shown : goal.returns-clause-shown
