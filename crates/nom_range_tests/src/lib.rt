@@ -1,0 +1,5 @@
+//! Tests of ranges of counts, and of collections.
+#![tactic(auto)]
+
+#[cfg(test)]
+mod tests;
