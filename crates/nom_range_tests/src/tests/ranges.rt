@@ -1,5 +1,6 @@
 //! The rows of the table of ranges: their ends, which are inverted, how few and how many items they
 //! allow, and what they contain.
+use crate::walks::counts_to;
 use nom_ranges::counts::{least, most};
 use nom_ranges::range::NomRange;
 use nom_ranges::saturating::SaturatingIterator;
@@ -108,7 +109,9 @@ fn ranges_with_an_open_end(rt: HostRuntime) {
 }
 
 #[test]
-fn counts_without_an_end(rt: HostRuntime) {
+fn counts_up_to_an_end_and_without_one(rt: HostRuntime) {
+    assert!(rt; counts_to(&(1..4), 2));
+    assert!(rt; !counts_to(&(1..4), 3));
     let mut counts = (3..).saturating_iter();
     assert!(rt; counts.next() == Some(0));
     assert!(rt; counts.next() == Some(1));
