@@ -1,16 +1,19 @@
-//! `nom_bench FILE [ROUNDS]`: how fast the grammar of nom_records, runs, a search and decimal numbers go
-//! over a file, held in memory.
+//! `nom_bench FILE [ROUNDS]`: how fast the grammar of nom_records, runs, a search, decimal numbers, a choice
+//! and a tuple go over a file, held in memory.
 //!
 //! The grammar runs by `parse`, by `parse_complete`, and by `process` where nothing is built. By
 //! `parse_complete` also run a `take_while1` of all bytes before the first `;`, a `take_until` of all before
-//! the first `;;`, an `alphanumeric1`, and a list of decimal numbers of 32 bits, each with a `,` behind it.
-//! Each runs ROUNDS times (7 where none are named), and a line for each tells the records or the numbers,
-//! the bytes consumed, and the MB (10^6 bytes) a second of the best round. A file that isn't accepted gets
-//! `no records`, `no run`, `no needle`, `no word` or `no numbers`: so a file for the grammar is one of
-//! records; a file for a run and a needle is long, with a `;;` at its end and no `;` before; one for a word
-//! is of letters and digits; and one for numbers as they are written. With no argument nothing is printed.
+//! the first `;;`, an `alphanumeric1`, a list of decimal numbers of 32 bits, each with a `,` behind it, a list
+//! of words, each of which an `alt` of eight tags finds, and a list of tuples of four, as `<ab>`.
+//! Each runs ROUNDS times (7 where none are named), and a line for each tells how many items a list has, the
+//! bytes consumed, and the MB (10^6 bytes) a second of the best round. A file that isn't accepted gets
+//! `no records`, `no run`, `no needle`, `no word`, `no numbers`, `no words` or `no tuples`: so a file for the
+//! grammar is one of records; a file for a run and a needle is long, with a `;;` at its end and no `;` before;
+//! one for a word is of letters and digits; and the others are as their items are written. With no argument
+//! nothing is printed.
 #![tactic(auto)]
 
+use nom::branch::alt;
 use nom::bytes::{tag, take_until, take_while1};
 use nom::character::{char, complete};
 use nom::error::Error;
@@ -133,6 +136,41 @@ fn by_numbers(alloc: Global, bytes: &[u8]) -> Option<Round> {
     }
 }
 
+#[inline(never)]
+fn by_words(alloc: Global, bytes: &[u8]) -> Option<Round> {
+    let word = alt((
+        tag::<_, _, Fail>(&b"GET "[..]),
+        tag::<_, _, Fail>(&b"PUT "[..]),
+        tag::<_, _, Fail>(&b"POST "[..]),
+        tag::<_, _, Fail>(&b"HEAD "[..]),
+        tag::<_, _, Fail>(&b"PATCH "[..]),
+        tag::<_, _, Fail>(&b"TRACE "[..]),
+        tag::<_, _, Fail>(&b"DELETE "[..]),
+        tag::<_, _, Fail>(&b"OPTIONS "[..]),
+    ));
+    let mut words = many0(alloc, word);
+    match words.parse_complete(bytes) {
+        Ok((rest, list)) if !list.is_empty() => Some(Round {
+            items: Some(list.len()),
+            bytes: bytes.len().saturating_sub(rest.len()),
+        }),
+        _ => None,
+    }
+}
+
+#[inline(never)]
+fn by_tuples(alloc: Global, bytes: &[u8]) -> Option<Round> {
+    let four = (char('<'), be_u8::<_, Fail>(), be_u8(), char('>'));
+    let mut tuples = many0(alloc, four);
+    match tuples.parse_complete(bytes) {
+        Ok((rest, list)) if !list.is_empty() => Some(Round {
+            items: Some(list.len()),
+            bytes: bytes.len().saturating_sub(rest.len()),
+        }),
+        _ => None,
+    }
+}
+
 /// The parsers, and the ways to run them.
 #[derive(Clone, Copy)]
 enum Way {
@@ -143,6 +181,8 @@ enum Way {
     TakeUntil,
     Alphanumeric1,
     Numbers,
+    Words,
+    Tuples,
 }
 
 impl Way {
@@ -155,6 +195,8 @@ impl Way {
             Way::TakeUntil => "take_until",
             Way::Alphanumeric1 => "alphanumeric1",
             Way::Numbers => "u32",
+            Way::Words => "alt",
+            Way::Tuples => "tuple",
         }
     }
 
@@ -162,6 +204,8 @@ impl Way {
     fn items(self) -> &'static str {
         match self {
             Way::Numbers => "numbers",
+            Way::Words => "words",
+            Way::Tuples => "tuples",
             _ => "records",
         }
     }
@@ -176,6 +220,8 @@ impl Way {
             Way::TakeUntil => "no needle",
             Way::Alphanumeric1 => "no word",
             Way::Numbers => "no numbers",
+            Way::Words => "no words",
+            Way::Tuples => "no tuples",
         }
     }
 
@@ -188,6 +234,8 @@ impl Way {
             Way::TakeUntil => by_take_until(bytes),
             Way::Alphanumeric1 => by_alphanumeric1(bytes),
             Way::Numbers => by_numbers(alloc, bytes),
+            Way::Words => by_words(alloc, bytes),
+            Way::Tuples => by_tuples(alloc, bytes),
         }
     }
 }
@@ -246,7 +294,9 @@ fn run(rt: &(impl Clock + Env + Files + Print + Alloc<A = Global>)) -> io::Resul
     bench(rt, Way::TakeWhile1, &bytes, rounds)?;
     bench(rt, Way::TakeUntil, &bytes, rounds)?;
     bench(rt, Way::Alphanumeric1, &bytes, rounds)?;
-    bench(rt, Way::Numbers, &bytes, rounds)
+    bench(rt, Way::Numbers, &bytes, rounds)?;
+    bench(rt, Way::Words, &bytes, rounds)?;
+    bench(rt, Way::Tuples, &bytes, rounds)
 }
 
 fn main(rt: HostRuntime) -> ExitCode {

@@ -1,4 +1,5 @@
 pub mod Brackets
+pub mod Colors
 pub mod Further
 pub mod Letters
 pub mod Tokens

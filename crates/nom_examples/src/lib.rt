@@ -3,6 +3,7 @@
 
 mod brackets;
 mod configuration;
+mod hex;
 mod letters;
 mod promises;
 mod refusal;
@@ -10,6 +11,7 @@ mod tokens;
 
 pub use crate::brackets::{brackets_line, nested_brackets};
 pub use crate::configuration::{Line, settings};
+pub use crate::hex::{Color, hex_color};
 pub use crate::letters::{Letter, one_letter};
 pub use crate::promises::promised;
 pub use crate::refusal::Refusal;

@@ -1,5 +1,5 @@
-//! Lists of words in brackets, nested brackets, letters, settings, and a composed parser that keeps nom's
-//! promises.
+//! Lists of words in brackets, nested brackets, letters, colours, settings, and a composed parser that keeps
+//! nom's promises.
 use nom::branch::alt;
 use nom::bytes::{tag, take};
 use nom::error::{Error, ErrorKind};
@@ -7,7 +7,9 @@ use nom::multi::{length_data, many0};
 use nom::number::be_u8;
 use nom::sequence::{preceded, terminated};
 use nom::{Err, IResult, Needed, Parser};
-use nom_examples::{Line, Refusal, Token, Tokens, brackets_line, one_letter, promised, settings};
+use nom_examples::{
+    Color, Line, Refusal, Token, Tokens, brackets_line, hex_color, one_letter, promised, settings,
+};
 
 type Fail<'a> = Error<&'a [u8]>;
 
@@ -147,5 +149,53 @@ fn lines_of_settings(rt: HostRuntime) {
             assert!(rt; lines[1] == Line::Setting("name", "red"));
         }
         Err(_) => panic!(rt; "no lines"),
+    }
+}
+
+#[test]
+fn colors(rt: HostRuntime) {
+    for (input, left, color) in [
+        (
+            "#2F14DF",
+            "",
+            Color {
+                red: 47,
+                green: 20,
+                blue: 223,
+            },
+        ),
+        (
+            "#00ff10é",
+            "é",
+            Color {
+                red: 0,
+                green: 255,
+                blue: 16,
+            },
+        ),
+    ] {
+        match hex_color(input) {
+            Ok((rest, found)) => assert!(rt; rest == left && found == color, "at {input}"),
+            Err(_) => panic!(rt; "no color"),
+        }
+    }
+}
+
+// The refusal is at the `#`, or at the pair that is missing.
+#[test]
+fn colors_that_are_cut(rt: HostRuntime) {
+    for (input, kind, place) in [
+        ("2F14DF", ErrorKind::Tag, "2F14DF"),
+        ("", ErrorKind::Tag, ""),
+        ("#", ErrorKind::TakeWhileMN, ""),
+        ("#2F1", ErrorKind::TakeWhileMN, "1"),
+        ("#2F14+F", ErrorKind::TakeWhileMN, "+F"),
+    ] {
+        match hex_color(input) {
+            Err(Err::Error(error)) => {
+                assert!(rt; error.code == kind && error.input == place, "at {input}");
+            }
+            _ => panic!(rt; "not refused"),
+        }
     }
 }

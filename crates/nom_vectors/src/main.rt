@@ -56,8 +56,10 @@ fn run_row(alloc: Global, number: usize) -> Outcome {
         19 => Outcome::of(combinator::row_19()),
         21 => Outcome::of(traits::row_21()),
         23 => Outcome::of(bytes::row_23()),
+        25 => Outcome::of(branch::row_25()),
         27 => Outcome::of(combinator::row_27()),
         28 => Outcome::of(combinator::row_28()),
+        29 => Outcome::of(branch::row_29()),
         _ => Outcome::Absent,
     }
 }

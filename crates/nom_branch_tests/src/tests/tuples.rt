@@ -1,5 +1,6 @@
 //! Choices among the parsers of a tuple.
 use super::rows::{Answer, Way, answers};
+use nom::Parser;
 use nom::branch::alt;
 use nom::bytes::tag;
 use nom::error::ErrorKind;
@@ -153,4 +154,11 @@ fn of_eight(rt: HostRuntime) {
         ));
         assert!(rt; answers(eight, way, input, answer), "at {input:?}");
     }
+}
+
+/// The errors of two branches of `or` are joined, and nothing is closed.
+#[test]
+fn of_or(rt: HostRuntime) {
+    let both = tag::<_, _, Trail>(&b"a"[..]).or(tag(&b"b"[..]));
+    assert!(rt; answers(both, Way::Complete, &b"c"[..], Answer::Refuses(&[TAG, TAG])));
 }
