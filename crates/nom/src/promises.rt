@@ -5,3 +5,4 @@ pub use nom_internal::promises::{
     stays_on_longer,
 };
 pub use nom_iterator::promises::{gives_items, items_are_one, items_fit, items_stay};
+pub use nom_permutation::promises::applies_each_once;

@@ -1,2 +1,3 @@
-mod Turns
+mod Applied
 mod Orders
+mod Turns

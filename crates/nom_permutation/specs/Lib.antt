@@ -1,5 +1,6 @@
-pub mod Permutation
+pub mod Once
 pub mod Order
+pub mod Permutation
 pub mod PermutationLaws
-pub mod Rounds
 pub mod RoundLaws
+pub mod Rounds

@@ -5,6 +5,7 @@ ghost use Rattle.std.specs.Prelude.{◌≡◌};
 
 mod flat;
 mod members;
+pub mod promises;
 mod rounds;
 mod slots;
 mod widths;

@@ -1,9 +1,10 @@
 //! The members of a permutation.
-ghost use Rattle.std.specs.Prelude.{◌≡◌, ◌+◌, ℕ, Bool, List, length};
+ghost use Rattle.std.specs.Prelude.{◌≡◌, ◌+◌, ℕ, Bool, List, None, length};
 ghost use Rattle.nom_error.specs.Modes.{Built, modes};
 ghost use Rattle.nom_internal.specs.Meaning.{IsLawful, IsSteady};
 ghost use Rattle.nom_internal.specs.Pinned.{IsPinned};
-ghost use Rattle.nom_permutation.specs.Permutation.{Member, AreSound, AreLawful, AreSteady, IsOver, tried};
+ghost use Rattle.nom_permutation.specs.Permutation.{Member, EachMember, AreSound, AreLawful, AreSteady, IsOver, tried};
+ghost use Rattle.nom_permutation.specs.Once.{LeavesOneFewer};
 ghost use Rattle.nom_permutation.specs.Rounds.{HasTried, applies};
 
 use crate::slots::Round;
@@ -68,6 +69,12 @@ pub trait Members<I: Items>: Sized {
     ghost over: { (outputs : Bool) (s : State) (t : Tree) (slots : Self.Slots) → AreHeld outputs s t slots → waiting slots ≡ 0 → IsOver (tried Self.Error.errors.joined Self.Error.errors.grows (members s) t) };
 
     ghost lawful: { (s : State) → AreSound (members s) → AreLawful I.seen (members s) };
+
+    /// Of `none` no member is applied.
+    ghost all_wait: { (s : State) → EachMember (λ m. m.tree none ≡ None) (members s) };
+
+    /// To apply one that isn't applied leaves one fewer of these.
+    ghost one_fewer: { (s : State) → EachMember (LeavesOneFewer (members s)) (members s) };
 }
 
 /// Members that are stream parsers.

@@ -1,5 +1,6 @@
 //! The widths of permutations.
-ghost use Rattle.std.specs.Prelude.{◌+◌, ◌∷◌, [], Some, None, Option};
+ghost use Rattle.std.specs.Prelude.{◌+◌, ◌∷◌, [], Some, None, Option, refl};
+ghost use Rattle.nom_permutation.specs.Once.{here, is_left, there};
 ghost use Rattle.nom_permutation.specs.Permutation.{member};
 ghost use Rattle.nom_permutation.specs.Rounds.{Holds, IsApplied, waits};
 
@@ -62,6 +63,10 @@ impl<I: Items, A: Parser<I>, B: Parser<I, Error = A::Error>> Members<I> for (A, 
     ghost over = { λ outputs s t slots h z. step_over A.Error.errors.joined A.Error.errors.grows (B.meaning s.1) (λ v. (t.0, Some v)) outputs (B.IsOutput s.1) (waits slots.0) _ t.1 slots.1 (first_over A.Error.errors.joined A.Error.errors.grows (A.meaning s.0) (λ v. (Some v, t.1)) outputs (A.IsOutput s.0) t.0 slots.0 h.0) h.1 z };
 
     ghost lawful = { λ s k. (A.lawful s.0 k.0, (B.lawful s.1 k.1.0, tt)) };
+
+    ghost all_wait = { λ s. (refl, (refl, tt)) };
+
+    ghost one_fewer = { λ s. (λ t v e. here t.0 _ e, (λ t v e. there (is_left t.0) _ _ (here t.1 _ e), tt)) };
 }
 
 impl<I: Items, A: StreamParser<I>, B: StreamParser<I, Error = A::Error>> StreamMembers<I>
@@ -132,6 +137,10 @@ impl<
     ghost over = { λ outputs s t slots h z. step_over A.Error.errors.joined A.Error.errors.grows (C.meaning s.2) (λ v. (t.0, t.1, Some v)) outputs (C.IsOutput s.2) (waits slots.0 + waits slots.1) _ t.2 slots.2 (step_over A.Error.errors.joined A.Error.errors.grows (B.meaning s.1) (λ v. (t.0, Some v, t.2)) outputs (B.IsOutput s.1) (waits slots.0) _ t.1 slots.1 (first_over A.Error.errors.joined A.Error.errors.grows (A.meaning s.0) (λ v. (Some v, t.1, t.2)) outputs (A.IsOutput s.0) t.0 slots.0 h.0) h.1) h.2 z };
 
     ghost lawful = { λ s k. (A.lawful s.0 k.0, (B.lawful s.1 k.1.0, (C.lawful s.2 k.1.1.0, tt))) };
+
+    ghost all_wait = { λ s. (refl, (refl, (refl, tt))) };
+
+    ghost one_fewer = { λ s. (λ t v e. here t.0 _ e, (λ t v e. there (is_left t.0) _ _ (here t.1 _ e), (λ t v e. there (is_left t.0) _ _ (there (is_left t.1) _ _ (here t.2 _ e)), tt))) };
 }
 
 impl<
@@ -214,6 +223,10 @@ impl<
     ghost over = { λ outputs s t slots h z. step_over A.Error.errors.joined A.Error.errors.grows (D.meaning s.3) (λ v. (t.0, t.1, t.2, Some v)) outputs (D.IsOutput s.3) (waits slots.0 + waits slots.1 + waits slots.2) _ t.3 slots.3 (step_over A.Error.errors.joined A.Error.errors.grows (C.meaning s.2) (λ v. (t.0, t.1, Some v, t.3)) outputs (C.IsOutput s.2) (waits slots.0 + waits slots.1) _ t.2 slots.2 (step_over A.Error.errors.joined A.Error.errors.grows (B.meaning s.1) (λ v. (t.0, Some v, t.2, t.3)) outputs (B.IsOutput s.1) (waits slots.0) _ t.1 slots.1 (first_over A.Error.errors.joined A.Error.errors.grows (A.meaning s.0) (λ v. (Some v, t.1, t.2, t.3)) outputs (A.IsOutput s.0) t.0 slots.0 h.0) h.1) h.2) h.3 z };
 
     ghost lawful = { λ s k. (A.lawful s.0 k.0, (B.lawful s.1 k.1.0, (C.lawful s.2 k.1.1.0, (D.lawful s.3 k.1.1.1.0, tt)))) };
+
+    ghost all_wait = { λ s. (refl, (refl, (refl, (refl, tt)))) };
+
+    ghost one_fewer = { λ s. (λ t v e. here t.0 _ e, (λ t v e. there (is_left t.0) _ _ (here t.1 _ e), (λ t v e. there (is_left t.0) _ _ (there (is_left t.1) _ _ (here t.2 _ e)), (λ t v e. there (is_left t.0) _ _ (there (is_left t.1) _ _ (there (is_left t.2) _ _ (here t.3 _ e))), tt)))) };
 }
 
 impl<
@@ -307,6 +320,10 @@ impl<
     ghost over = { λ outputs s t slots h z. step_over A.Error.errors.joined A.Error.errors.grows (E.meaning s.4) (λ v. (t.0, t.1, t.2, t.3, Some v)) outputs (E.IsOutput s.4) (waits slots.0 + waits slots.1 + waits slots.2 + waits slots.3) _ t.4 slots.4 (step_over A.Error.errors.joined A.Error.errors.grows (D.meaning s.3) (λ v. (t.0, t.1, t.2, Some v, t.4)) outputs (D.IsOutput s.3) (waits slots.0 + waits slots.1 + waits slots.2) _ t.3 slots.3 (step_over A.Error.errors.joined A.Error.errors.grows (C.meaning s.2) (λ v. (t.0, t.1, Some v, t.3, t.4)) outputs (C.IsOutput s.2) (waits slots.0 + waits slots.1) _ t.2 slots.2 (step_over A.Error.errors.joined A.Error.errors.grows (B.meaning s.1) (λ v. (t.0, Some v, t.2, t.3, t.4)) outputs (B.IsOutput s.1) (waits slots.0) _ t.1 slots.1 (first_over A.Error.errors.joined A.Error.errors.grows (A.meaning s.0) (λ v. (Some v, t.1, t.2, t.3, t.4)) outputs (A.IsOutput s.0) t.0 slots.0 h.0) h.1) h.2) h.3) h.4 z };
 
     ghost lawful = { λ s k. (A.lawful s.0 k.0, (B.lawful s.1 k.1.0, (C.lawful s.2 k.1.1.0, (D.lawful s.3 k.1.1.1.0, (E.lawful s.4 k.1.1.1.1.0, tt))))) };
+
+    ghost all_wait = { λ s. (refl, (refl, (refl, (refl, (refl, tt))))) };
+
+    ghost one_fewer = { λ s. (λ t v e. here t.0 _ e, (λ t v e. there (is_left t.0) _ _ (here t.1 _ e), (λ t v e. there (is_left t.0) _ _ (there (is_left t.1) _ _ (here t.2 _ e)), (λ t v e. there (is_left t.0) _ _ (there (is_left t.1) _ _ (there (is_left t.2) _ _ (here t.3 _ e))), (λ t v e. there (is_left t.0) _ _ (there (is_left t.1) _ _ (there (is_left t.2) _ _ (there (is_left t.3) _ _ (here t.4 _ e)))), tt))))) };
 }
 
 impl<
@@ -413,6 +430,10 @@ impl<
     ghost over = { λ outputs s t slots h z. step_over A.Error.errors.joined A.Error.errors.grows (F.meaning s.5) (λ v. (t.0, t.1, t.2, t.3, t.4, Some v)) outputs (F.IsOutput s.5) (waits slots.0 + waits slots.1 + waits slots.2 + waits slots.3 + waits slots.4) _ t.5 slots.5 (step_over A.Error.errors.joined A.Error.errors.grows (E.meaning s.4) (λ v. (t.0, t.1, t.2, t.3, Some v, t.5)) outputs (E.IsOutput s.4) (waits slots.0 + waits slots.1 + waits slots.2 + waits slots.3) _ t.4 slots.4 (step_over A.Error.errors.joined A.Error.errors.grows (D.meaning s.3) (λ v. (t.0, t.1, t.2, Some v, t.4, t.5)) outputs (D.IsOutput s.3) (waits slots.0 + waits slots.1 + waits slots.2) _ t.3 slots.3 (step_over A.Error.errors.joined A.Error.errors.grows (C.meaning s.2) (λ v. (t.0, t.1, Some v, t.3, t.4, t.5)) outputs (C.IsOutput s.2) (waits slots.0 + waits slots.1) _ t.2 slots.2 (step_over A.Error.errors.joined A.Error.errors.grows (B.meaning s.1) (λ v. (t.0, Some v, t.2, t.3, t.4, t.5)) outputs (B.IsOutput s.1) (waits slots.0) _ t.1 slots.1 (first_over A.Error.errors.joined A.Error.errors.grows (A.meaning s.0) (λ v. (Some v, t.1, t.2, t.3, t.4, t.5)) outputs (A.IsOutput s.0) t.0 slots.0 h.0) h.1) h.2) h.3) h.4) h.5 z };
 
     ghost lawful = { λ s k. (A.lawful s.0 k.0, (B.lawful s.1 k.1.0, (C.lawful s.2 k.1.1.0, (D.lawful s.3 k.1.1.1.0, (E.lawful s.4 k.1.1.1.1.0, (F.lawful s.5 k.1.1.1.1.1.0, tt)))))) };
+
+    ghost all_wait = { λ s. (refl, (refl, (refl, (refl, (refl, (refl, tt)))))) };
+
+    ghost one_fewer = { λ s. (λ t v e. here t.0 _ e, (λ t v e. there (is_left t.0) _ _ (here t.1 _ e), (λ t v e. there (is_left t.0) _ _ (there (is_left t.1) _ _ (here t.2 _ e)), (λ t v e. there (is_left t.0) _ _ (there (is_left t.1) _ _ (there (is_left t.2) _ _ (here t.3 _ e))), (λ t v e. there (is_left t.0) _ _ (there (is_left t.1) _ _ (there (is_left t.2) _ _ (there (is_left t.3) _ _ (here t.4 _ e)))), (λ t v e. there (is_left t.0) _ _ (there (is_left t.1) _ _ (there (is_left t.2) _ _ (there (is_left t.3) _ _ (there (is_left t.4) _ _ (here t.5 _ e))))), tt)))))) };
 }
 
 impl<
@@ -526,6 +547,10 @@ impl<
     ghost over = { λ outputs s t slots h z. step_over A.Error.errors.joined A.Error.errors.grows (G.meaning s.6) (λ v. (t.0, t.1, t.2, t.3, t.4, t.5, Some v)) outputs (G.IsOutput s.6) (waits slots.0 + waits slots.1 + waits slots.2 + waits slots.3 + waits slots.4 + waits slots.5) _ t.6 slots.6 (step_over A.Error.errors.joined A.Error.errors.grows (F.meaning s.5) (λ v. (t.0, t.1, t.2, t.3, t.4, Some v, t.6)) outputs (F.IsOutput s.5) (waits slots.0 + waits slots.1 + waits slots.2 + waits slots.3 + waits slots.4) _ t.5 slots.5 (step_over A.Error.errors.joined A.Error.errors.grows (E.meaning s.4) (λ v. (t.0, t.1, t.2, t.3, Some v, t.5, t.6)) outputs (E.IsOutput s.4) (waits slots.0 + waits slots.1 + waits slots.2 + waits slots.3) _ t.4 slots.4 (step_over A.Error.errors.joined A.Error.errors.grows (D.meaning s.3) (λ v. (t.0, t.1, t.2, Some v, t.4, t.5, t.6)) outputs (D.IsOutput s.3) (waits slots.0 + waits slots.1 + waits slots.2) _ t.3 slots.3 (step_over A.Error.errors.joined A.Error.errors.grows (C.meaning s.2) (λ v. (t.0, t.1, Some v, t.3, t.4, t.5, t.6)) outputs (C.IsOutput s.2) (waits slots.0 + waits slots.1) _ t.2 slots.2 (step_over A.Error.errors.joined A.Error.errors.grows (B.meaning s.1) (λ v. (t.0, Some v, t.2, t.3, t.4, t.5, t.6)) outputs (B.IsOutput s.1) (waits slots.0) _ t.1 slots.1 (first_over A.Error.errors.joined A.Error.errors.grows (A.meaning s.0) (λ v. (Some v, t.1, t.2, t.3, t.4, t.5, t.6)) outputs (A.IsOutput s.0) t.0 slots.0 h.0) h.1) h.2) h.3) h.4) h.5) h.6 z };
 
     ghost lawful = { λ s k. (A.lawful s.0 k.0, (B.lawful s.1 k.1.0, (C.lawful s.2 k.1.1.0, (D.lawful s.3 k.1.1.1.0, (E.lawful s.4 k.1.1.1.1.0, (F.lawful s.5 k.1.1.1.1.1.0, (G.lawful s.6 k.1.1.1.1.1.1.0, tt))))))) };
+
+    ghost all_wait = { λ s. (refl, (refl, (refl, (refl, (refl, (refl, (refl, tt))))))) };
+
+    ghost one_fewer = { λ s. (λ t v e. here t.0 _ e, (λ t v e. there (is_left t.0) _ _ (here t.1 _ e), (λ t v e. there (is_left t.0) _ _ (there (is_left t.1) _ _ (here t.2 _ e)), (λ t v e. there (is_left t.0) _ _ (there (is_left t.1) _ _ (there (is_left t.2) _ _ (here t.3 _ e))), (λ t v e. there (is_left t.0) _ _ (there (is_left t.1) _ _ (there (is_left t.2) _ _ (there (is_left t.3) _ _ (here t.4 _ e)))), (λ t v e. there (is_left t.0) _ _ (there (is_left t.1) _ _ (there (is_left t.2) _ _ (there (is_left t.3) _ _ (there (is_left t.4) _ _ (here t.5 _ e))))), (λ t v e. there (is_left t.0) _ _ (there (is_left t.1) _ _ (there (is_left t.2) _ _ (there (is_left t.3) _ _ (there (is_left t.4) _ _ (there (is_left t.5) _ _ (here t.6 _ e)))))), tt))))))) };
 }
 
 impl<
@@ -646,6 +671,10 @@ impl<
     ghost over = { λ outputs s t slots h z. step_over A.Error.errors.joined A.Error.errors.grows (H.meaning s.7) (λ v. (t.0, t.1, t.2, t.3, t.4, t.5, t.6, Some v)) outputs (H.IsOutput s.7) (waits slots.0 + waits slots.1 + waits slots.2 + waits slots.3 + waits slots.4 + waits slots.5 + waits slots.6) _ t.7 slots.7 (step_over A.Error.errors.joined A.Error.errors.grows (G.meaning s.6) (λ v. (t.0, t.1, t.2, t.3, t.4, t.5, Some v, t.7)) outputs (G.IsOutput s.6) (waits slots.0 + waits slots.1 + waits slots.2 + waits slots.3 + waits slots.4 + waits slots.5) _ t.6 slots.6 (step_over A.Error.errors.joined A.Error.errors.grows (F.meaning s.5) (λ v. (t.0, t.1, t.2, t.3, t.4, Some v, t.6, t.7)) outputs (F.IsOutput s.5) (waits slots.0 + waits slots.1 + waits slots.2 + waits slots.3 + waits slots.4) _ t.5 slots.5 (step_over A.Error.errors.joined A.Error.errors.grows (E.meaning s.4) (λ v. (t.0, t.1, t.2, t.3, Some v, t.5, t.6, t.7)) outputs (E.IsOutput s.4) (waits slots.0 + waits slots.1 + waits slots.2 + waits slots.3) _ t.4 slots.4 (step_over A.Error.errors.joined A.Error.errors.grows (D.meaning s.3) (λ v. (t.0, t.1, t.2, Some v, t.4, t.5, t.6, t.7)) outputs (D.IsOutput s.3) (waits slots.0 + waits slots.1 + waits slots.2) _ t.3 slots.3 (step_over A.Error.errors.joined A.Error.errors.grows (C.meaning s.2) (λ v. (t.0, t.1, Some v, t.3, t.4, t.5, t.6, t.7)) outputs (C.IsOutput s.2) (waits slots.0 + waits slots.1) _ t.2 slots.2 (step_over A.Error.errors.joined A.Error.errors.grows (B.meaning s.1) (λ v. (t.0, Some v, t.2, t.3, t.4, t.5, t.6, t.7)) outputs (B.IsOutput s.1) (waits slots.0) _ t.1 slots.1 (first_over A.Error.errors.joined A.Error.errors.grows (A.meaning s.0) (λ v. (Some v, t.1, t.2, t.3, t.4, t.5, t.6, t.7)) outputs (A.IsOutput s.0) t.0 slots.0 h.0) h.1) h.2) h.3) h.4) h.5) h.6) h.7 z };
 
     ghost lawful = { λ s k. (A.lawful s.0 k.0, (B.lawful s.1 k.1.0, (C.lawful s.2 k.1.1.0, (D.lawful s.3 k.1.1.1.0, (E.lawful s.4 k.1.1.1.1.0, (F.lawful s.5 k.1.1.1.1.1.0, (G.lawful s.6 k.1.1.1.1.1.1.0, (H.lawful s.7 k.1.1.1.1.1.1.1.0, tt)))))))) };
+
+    ghost all_wait = { λ s. (refl, (refl, (refl, (refl, (refl, (refl, (refl, (refl, tt)))))))) };
+
+    ghost one_fewer = { λ s. (λ t v e. here t.0 _ e, (λ t v e. there (is_left t.0) _ _ (here t.1 _ e), (λ t v e. there (is_left t.0) _ _ (there (is_left t.1) _ _ (here t.2 _ e)), (λ t v e. there (is_left t.0) _ _ (there (is_left t.1) _ _ (there (is_left t.2) _ _ (here t.3 _ e))), (λ t v e. there (is_left t.0) _ _ (there (is_left t.1) _ _ (there (is_left t.2) _ _ (there (is_left t.3) _ _ (here t.4 _ e)))), (λ t v e. there (is_left t.0) _ _ (there (is_left t.1) _ _ (there (is_left t.2) _ _ (there (is_left t.3) _ _ (there (is_left t.4) _ _ (here t.5 _ e))))), (λ t v e. there (is_left t.0) _ _ (there (is_left t.1) _ _ (there (is_left t.2) _ _ (there (is_left t.3) _ _ (there (is_left t.4) _ _ (there (is_left t.5) _ _ (here t.6 _ e)))))), (λ t v e. there (is_left t.0) _ _ (there (is_left t.1) _ _ (there (is_left t.2) _ _ (there (is_left t.3) _ _ (there (is_left t.4) _ _ (there (is_left t.5) _ _ (there (is_left t.6) _ _ (here t.7 _ e))))))), tt)))))))) };
 }
 
 impl<
