@@ -27,7 +27,7 @@ use Rattle.nom_internal.specs.Cases.{fixed_meaning}
 use Rattle.nom_internal.specs.Cases.CaseRunsOut.{RunsOutInPart, RunsOutBeside}
 use Rattle.nom_internal.proofs.Shown.{err_from_residual}
 use Rattle.nom_bytes.specs.Tags.{tags, tag_meaning}
-use Rattle.nom_ends.proofs.Rests.{rest_self}
+use Rattle.nom_internal.proofs.Consumed.{rest_self}
 use Rattle.nom_examples.specs.declared.hex.Color.{Color}
 use Rattle.nom_examples.specs.Colors.{Text, parts_of, color_of, color_fault, place_missing, AnswersColor}
 use Rattle.nom_examples.proofs.Primaries.{text_errors}

@@ -22,7 +22,7 @@ use Rattle.nom_internal.specs.Cases.{Passes, fixed_meaning}
 use Rattle.nom_internal.specs.Cases.CaseRunsOut.{RunsOutInPart, RunsOutBeside}
 use Rattle.nom_internal.specs.Judged.{judged_meaning, kept_if, Judged, OnUnfit, JudgedBlames, OfError}
 use Rattle.nom_bytes.specs.ParsedRuns.{runs, bounded_meaning}
-use Rattle.nom_ends.proofs.Rests.{rest_self}
+use Rattle.nom_internal.proofs.Consumed.{rest_self}
 use Rattle.nom_examples.specs.Colors.{Text, pair_of, AnswersPair}
 use Rattle.nom_examples.proofs.Pairs.{IsPair, on_pair_at}
 use Rattle.nom_examples.proofs.Digits.{IsTwo, ReadsText, pair_value, pair_fits, two_taken, two_missing}
