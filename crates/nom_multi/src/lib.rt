@@ -8,7 +8,7 @@ mod many;
 pub mod promises;
 
 pub use crate::length::LengthData;
-pub use crate::many::Many0;
+pub use crate::many::{Many0, Many1};
 use std::alloc::Allocator;
 
 /// A length, as `parser` reads it, and behind it so many items: bytes of a byte slice, characters of a
@@ -35,4 +35,18 @@ pub fn many0<A: Allocator + Copy, F>(alloc: A, parser: F) -> Many0<A, F>
     ensures parser { result.parser ≡ parser }
 {
     Many0 { alloc, parser }
+}
+
+/// Items until one is refused, and one at least: a list of their outputs, which takes its memory from
+/// `alloc`.
+///
+/// Where the first item is refused, so is all, with the item's error, to which `Many1` is added at the
+/// start. From the second item on it is as with `many0`: one that consumes nothing is refused with
+/// `Many0`.
+#[inline(always)]
+pub fn many1<A: Allocator + Copy, F>(alloc: A, parser: F) -> Many1<A, F>
+    ensures alloc { result.alloc ≡ alloc }
+    ensures parser { result.parser ≡ parser }
+{
+    Many1 { alloc, parser }
 }
