@@ -1,3 +1,5 @@
+pub mod Bounded
+pub mod BoundedLaws
 pub mod Lengths
 pub mod LengthLaws
 pub mod Lists

@@ -3,10 +3,12 @@
 
 ghost use Rattle.std.specs.Prelude.{◌≡◌};
 
+mod bounded;
 mod length;
 mod many;
 pub mod promises;
 
+pub use crate::bounded::Count;
 pub use crate::length::LengthData;
 pub use crate::many::{Many0, Many1};
 use std::alloc::Allocator;
@@ -49,4 +51,21 @@ pub fn many1<A: Allocator + Copy, F>(alloc: A, parser: F) -> Many1<A, F>
     ensures parser { result.parser ≡ parser }
 {
     Many1 { alloc, parser }
+}
+
+/// Just so many items: a list of their outputs, which takes its memory from `alloc`.
+///
+/// An item that is refused refuses all, with the item's error, to which `Count` is added at the start.
+/// Items may consume nothing. No memory is taken ahead.
+#[inline(always)]
+pub fn count<A: Allocator + Copy, F>(alloc: A, parser: F, count: usize) -> Count<A, F>
+    ensures alloc { result.alloc ≡ alloc }
+    ensures parser { result.parser ≡ parser }
+    ensures count { result.count ≡ count }
+{
+    Count {
+        alloc,
+        parser,
+        count,
+    }
 }
