@@ -1,3 +1,5 @@
 //! Repetition, and data behind a length.
 
-pub use nom_multi::{Count, LengthData, Many0, Many1, count, length_data, many0, many1};
+pub use nom_multi::{
+    Count, LengthData, Many0, Many1, ManyMN, count, length_data, many_m_n, many0, many1,
+};

@@ -8,7 +8,7 @@ mod length;
 mod many;
 pub mod promises;
 
-pub use crate::bounded::Count;
+pub use crate::bounded::{Count, ManyMN};
 pub use crate::length::LengthData;
 pub use crate::many::{Many0, Many1};
 use std::alloc::Allocator;
@@ -67,5 +67,26 @@ pub fn count<A: Allocator + Copy, F>(alloc: A, parser: F, count: usize) -> Count
         alloc,
         parser,
         count,
+    }
+}
+
+/// Items until one is refused, `min` at least and `max` at most: a list of their outputs, which takes
+/// its memory from `alloc`.
+///
+/// A refusal before `min` items refuses all, with the item's error, to which `ManyMN` is added at the
+/// item. An item that consumes nothing is refused with `ManyMN`. Behind `max` items none is tried. Where
+/// `min` is above `max`, the answer is a `Failure` with `ManyMN`.
+#[inline(always)]
+pub fn many_m_n<A: Allocator + Copy, F>(alloc: A, min: usize, max: usize, parser: F) -> ManyMN<A, F>
+    ensures alloc { result.alloc ≡ alloc }
+    ensures min { result.min ≡ min }
+    ensures max { result.max ≡ max }
+    ensures parser { result.parser ≡ parser }
+{
+    ManyMN {
+        alloc,
+        min,
+        max,
+        parser,
     }
 }
