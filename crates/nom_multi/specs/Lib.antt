@@ -6,3 +6,5 @@ pub mod Lists
 pub mod Many
 pub mod ManyLaws
 pub mod Promises
+pub mod Separated
+pub mod SeparatedLaws

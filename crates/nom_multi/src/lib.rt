@@ -7,10 +7,13 @@ mod bounded;
 mod length;
 mod many;
 pub mod promises;
+mod separated;
 
 pub use crate::bounded::{Count, ManyMN};
 pub use crate::length::LengthData;
 pub use crate::many::{Many0, Many1};
+pub use crate::separated::SeparatedList1;
+use nom_sequence::preceded;
 use std::alloc::Allocator;
 
 /// A length, as `parser` reads it, and behind it so many items: bytes of a byte slice, characters of a
@@ -88,5 +91,27 @@ pub fn many_m_n<A: Allocator + Copy, F>(alloc: A, min: usize, max: usize, parser
         min,
         max,
         parser,
+    }
+}
+
+/// Items with a separator between them, and one at least: a list of the items' outputs, which takes its
+/// memory from `alloc`. Of the separators nothing is built.
+///
+/// A refusal of the first item is passed on. Later on a refusal of a separator, or of the item behind
+/// it, ends the list with success, before that separator. Where a separator and its item together
+/// consume nothing, they are refused with `SeparatedList`, at the separator.
+#[inline(always)]
+pub fn separated_list1<A: Allocator + Copy, G, F>(
+    alloc: A,
+    separator: G,
+    parser: F,
+) -> SeparatedList1<A, G, F>
+    ensures alloc { result.alloc ≡ alloc }
+    ensures separator { result.next.first ≡ separator }
+    ensures parser { result.next.second ≡ parser }
+{
+    SeparatedList1 {
+        alloc,
+        next: preceded(separator, parser),
     }
 }
