@@ -1,2 +1,3 @@
 pub mod LengthShown
 pub mod Promised
+pub mod SeparatedShown

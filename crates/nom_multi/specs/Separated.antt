@@ -34,8 +34,8 @@ separated1_meaning w errs separator m = sequence_meaning w (λ vs us. vs ++ us) 
 abbrev pub optional_limits : Limits
 optional_limits = record { least = 0; most = Some 1; too_few = Never; at_start = false; empty = None }
 
-abbrev pub optional_meaning : {I A V E : Type 0} → Seen I A → Errors I E → Meaning I V E → Meaning I (List V) E
-optional_meaning w errs m = items_meaning w errs optional_limits (Unit {0}) m
+abbrev pub optional_meaning : {I A V E : Type 0} → Seen I A → Errors I E → Type 0 → Meaning I V E → Meaning I (List V) E
+optional_meaning w errs Grows m = items_meaning w errs optional_limits Grows m
 
 -- what follows a first item, or none: nothing where there is none, and else the further items
 abbrev pub follows : {I A P V E : Type 0} → Seen I A → Errors I E → Meaning I P E → Meaning I V E → List V → Meaning I (List V) E
@@ -53,7 +53,7 @@ following w errs separator m = record {
 
 -- any number of items, none too
 abbrev pub separated0_meaning : {I A P V E : Type 0} → Seen I A → Errors I E → Meaning I P E → Meaning I V E → Meaning I (List V) E
-separated0_meaning w errs separator m = then_meaning w (λ vs us. vs ++ us) (λ o. o) (λ o. o) (optional_meaning w errs m) (following w errs separator m)
+separated0_meaning w errs separator m = then_meaning w (λ vs us. vs ++ us) (λ o. o) (λ o. o) (optional_meaning w errs (Unit {0}) m) (following w errs separator m)
 
 -- whether there is a first item
 abbrev pub IsFound : {V : Type 0} → Bool → List V → Type 0

@@ -50,10 +50,10 @@ module _ {I A P V E : Type 0} (w : Seen I A) (l : InputLaws w) (errs : Errors I 
       never_at large h (v ∷ vs) = h
 
   pub separated0_lawful : IsLawful w separator → IsLawful w m → IsLawful w (separated0_meaning w errs separator m)
-  separated0_lawful q p = then_lawful w l (λ vs us. vs ++ us) (λ o. o) (λ o. o) (optional_meaning w errs m) (following w errs separator m) (items_lawful w l errs optional_limits (Unit {0}) m p) (following_lawful q p)
+  separated0_lawful q p = then_lawful w l (λ vs us. vs ++ us) (λ o. o) (λ o. o) (optional_meaning w errs (Unit {0}) m) (following w errs separator m) (items_lawful w l errs optional_limits (Unit {0}) m p) (following_lawful q p)
 
   pub separated0_steady : IsSteady w separator → IsSteady w m → IsSteady w (separated0_meaning w errs separator m)
-  separated0_steady q p = then_steady w l (λ vs us. vs ++ us) (λ o. o) (λ o. o) (optional_meaning w errs m) (following w errs separator m) (items_steady w l errs optional_limits (Unit {0}) m p) steady_at
+  separated0_steady q p = then_steady w l (λ vs us. vs ++ us) (λ o. o) (λ o. o) (optional_meaning w errs (Unit {0}) m) (following w errs separator m) (items_steady w l errs optional_limits (Unit {0}) m p) steady_at
     where
       steady_at : (vs : List V) → IsSteady w (follows w errs separator m vs)
       steady_at [] = success_steady E w []

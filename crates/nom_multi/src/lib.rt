@@ -12,7 +12,7 @@ mod separated;
 pub use crate::bounded::{Count, ManyMN};
 pub use crate::length::LengthData;
 pub use crate::many::{Many0, Many1};
-pub use crate::separated::SeparatedList1;
+pub use crate::separated::{SeparatedList0, SeparatedList1};
 use nom_sequence::preceded;
 use std::alloc::Allocator;
 
@@ -111,6 +111,27 @@ pub fn separated_list1<A: Allocator + Copy, G, F>(
     ensures parser { result.next.second ≡ parser }
 {
     SeparatedList1 {
+        alloc,
+        next: preceded(separator, parser),
+    }
+}
+
+/// Items with a separator between them, or none: a list of the items' outputs, which takes its memory
+/// from `alloc`. Of the separators nothing is built.
+///
+/// Where the first item is refused, the list is empty, and nothing is consumed. All else is as with
+/// `separated_list1`.
+#[inline(always)]
+pub fn separated_list0<A: Allocator + Copy, G, F>(
+    alloc: A,
+    separator: G,
+    parser: F,
+) -> SeparatedList0<A, G, F>
+    ensures alloc { result.alloc ≡ alloc }
+    ensures separator { result.next.first ≡ separator }
+    ensures parser { result.next.second ≡ parser }
+{
+    SeparatedList0 {
         alloc,
         next: preceded(separator, parser),
     }
