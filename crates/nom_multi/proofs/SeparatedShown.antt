@@ -10,7 +10,7 @@ use Rattle.nom_error.specs.Modes.{Built, Modes, modes}
 use Rattle.nom_traits.specs.Input.{Seen, InputLaws}
 use Rattle.nom_internal.specs.Outcome.{Outcome, ShowsAnswer}
 use Rattle.nom_internal.specs.Outcome.ShowsAnswer.{RanOut, Shown}
-use Rattle.nom_internal.specs.Outcome.Outcome.{Refuse}
+use Rattle.nom_internal.specs.Outcome.Outcome.{Accept, Refuse}
 use Rattle.nom_internal.specs.Meaning.{Meaning, ShowsMeaning}
 use Rattle.nom_internal.specs.Families.{always}
 use Rattle.nom_internal.proofs.Shown.{Accepts, output_err}
@@ -20,7 +20,7 @@ use Rattle.nom_repeat.specs.Kept.{Kept}
 use Rattle.nom_repeat.proofs.Parts.{part_refused}
 use Rattle.nom_repeat.proofs.Repeated.{Collected, collected_none, ended}
 use Rattle.nom_repeat.proofs.ItemsShown.{items_more, items_failed, items_lack, items_part_ran_out, items_lack_room}
-use Rattle.nom_multi.specs.Separated.{optional_limits, optional_meaning, Found}
+use Rattle.nom_multi.specs.Separated.{optional_limits, optional_meaning, Found, IsFound, follows, further_meaning}
 
 -- where something is accepted, memory didn't run out
 accepted_anyway : {I A V O E : Type 0} {w : Seen I A} {IsOutput : V → O → Type 0} {mode : Modes} {i j : I} {x : Option O} {Answers : Outcome V → Type 0} {IsError : E → Type 0} {RunsOut Other : Type 0} → ShowsAnswer w IsOutput mode i Answers IsError RunsOut (Ok (j, x)) → ShowsAnswer w IsOutput mode i Answers IsError Other (Ok (j, x))
@@ -72,3 +72,20 @@ module _ {I A V T K E : Type 0} {w : Seen I A} (l : InputLaws w) (errs : Errors 
 
   pub first_lacks_room : {j : I} {x : Option T} (a : Accepts w IsItem outputs i (m.answers streaming i) j x) → outputs ≡ true → Grows → First (Err OutOfMemory)
   first_lacks_room a o t = first_stopped {IsOutput = λ vs _. Unit {0}} (items_lack_room errs optional_limits Grows m c (one_may_come c.trees c.held) a (inl refl) o t)
+
+-- what was told of the first item
+pub told : {V T K : Type 0} (Gains : K → T → K → Type 0) (CanKeep : K → Type 0) (IsItem : V → T → Type 0) (builds : Bool) (before : Option K) (vs : List V) {first : Option (Bool × Option K)} {found : Bool} {list : Option K} → first ≡ Some (found, list) → Built true (Found Gains CanKeep IsItem builds before vs) first → Found Gains CanKeep IsItem builds before vs (found, list)
+told {K = K} Gains CanKeep IsItem builds before vs {first} {found} {list} is b =
+    let same : ◌≡◌ {A = Bool × Option K} (found, list) b.0 = cc (is, b.1) in
+    subst (λ x. Found Gains CanKeep IsItem builds before vs x) (sym same) b.2
+
+module _ {I A P V O E : Type 0} {w : Seen I A} (l : InputLaws w) (errs : Errors I E) (separator : Meaning I P E) (m : Meaning I V E) (IsResult : List V → O → Type 0) {mode : Modes} {j : I} where
+  -- behind no item nothing follows
+  pub nothing_follows : w.IsKnown j → (vs : List V) → vs ≡ [] → (list : Option O) → Built mode.outputs (IsResult vs) list → ShowsMeaning w (λ us. IsResult (vs ++ us)) (follows w errs separator m vs) mode j (Ok (j, list))
+  nothing_follows known [] h list built = Shown (Accept 0 []) (refl, refl) (j, list, record { known = known; front = []; whole = refl; length_is = refl; mark_is = sym (l.mark_none (w.mark j)) }, built, refl)
+  nothing_follows known (v ∷ vs) h list built = absurd (cc (h))
+
+  -- behind one item the further ones follow
+  pub items_follow : (vs : List V) → IsFound true vs → {r : Result (I × Option O) (Answer.Err E (Option E) Needed)} → ShowsMeaning w (λ us. IsResult (vs ++ us)) (further_meaning w errs separator m) mode j r → ShowsMeaning w (λ us. IsResult (vs ++ us)) (follows w errs separator m vs) mode j r
+  items_follow [] f h = absurd (cc (f.1))
+  items_follow (v ∷ vs) f h = h

@@ -99,9 +99,12 @@ pub struct SeparatedList0<A, G, F> {
     pub next: Preceded<G, F>,
 }
 
-impl<I: Input, A: Allocator + Copy, F: Parser<I> + Drop, G: Parser<I, Error = F::Error> + Drop> Parser<
-    I,
-> for SeparatedList0<A, G, F> {
+impl<
+    I: Input,
+    A: Allocator + Copy,
+    F: Parser<I> + Drop,
+    G: Parser<I, Error = F::Error> + Drop,
+> Parser<I> for SeparatedList0<A, G, F> {
     ghost use Rattle.nom_multi.specs.SeparatedLaws.{separated0_lawful};
 
     type Output = Vec<F::Output, A>;
@@ -123,8 +126,11 @@ impl<I: Input, A: Allocator + Copy, F: Parser<I> + Drop, G: Parser<I, Error = F:
     #[inline]
     fn process<OM: OutputMode>(&mut self, input: I) -> PResult<I, Self::Output, Self::Error> {
         let none = none_yet::<OM::Output, F::Output, A>(self.alloc);
-        let (rest, first) =
-            first_item::<OM, I, F, Vec<F::Output, A>>(&mut self.next.second, input, none)?;
+        let (rest, first) = first_item::<OM, I, F, Vec<F::Output, A>>(
+            &mut self.next.second,
+            input,
+            none,
+        )?;
         match first {
             Some((found, list)) => {
                 if !found {
@@ -151,9 +157,12 @@ impl<I: Input, A: Allocator + Copy, F: Parser<I> + Drop, G: Parser<I, Error = F:
     ghost lawful = { λ s k. separated0_lawful I.seen I.lawful F.Error.errors (G.meaning s.0) (F.meaning s.1) (G.lawful s.0 k.1.0) (F.lawful s.1 k.0) };
 }
 
-impl<I: Input, A: Allocator + Copy, F: StreamParser<I> + Drop, G: StreamParser<I, Error = F::Error> + Drop> StreamParser<
-    I,
-> for SeparatedList0<A, G, F> {
+impl<
+    I: Input,
+    A: Allocator + Copy,
+    F: StreamParser<I> + Drop,
+    G: StreamParser<I, Error = F::Error> + Drop,
+> StreamParser<I> for SeparatedList0<A, G, F> {
     ghost use Rattle.nom_multi.specs.Lists.{list_pinned};
     ghost use Rattle.nom_multi.specs.SeparatedLaws.{separated0_steady};
 
