@@ -8,3 +8,5 @@ pub mod ManyLaws
 pub mod Promises
 pub mod Separated
 pub mod SeparatedLaws
+pub mod Till
+pub mod TillLaws

@@ -8,11 +8,13 @@ mod length;
 mod many;
 pub mod promises;
 mod separated;
+mod till;
 
 pub use crate::bounded::{Count, ManyMN};
 pub use crate::length::LengthData;
 pub use crate::many::{Many0, Many1};
 pub use crate::separated::{SeparatedList0, SeparatedList1};
+pub use crate::till::ManyTill;
 use nom_sequence::preceded;
 use std::alloc::Allocator;
 
@@ -135,4 +137,19 @@ pub fn separated_list0<A: Allocator + Copy, G, F>(
         alloc,
         next: preceded(separator, parser),
     }
+}
+
+/// Items until an end is accepted: a list of their outputs, which takes its memory from `alloc`, and
+/// the end's output.
+///
+/// At each place the end is tried first, and an item only where it is refused. A refusal of an item
+/// refuses all, with the item's error, to which `ManyTill` is added at the item. An item that consumes
+/// nothing is refused with `Many0`.
+#[inline(always)]
+pub fn many_till<A: Allocator + Copy, F, G>(alloc: A, parser: F, end: G) -> ManyTill<A, F, G>
+    ensures alloc { result.alloc ≡ alloc }
+    ensures parser { result.parser ≡ parser }
+    ensures end { result.end ≡ end }
+{
+    ManyTill { alloc, parser, end }
 }
