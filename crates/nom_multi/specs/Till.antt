@@ -71,9 +71,13 @@ till_rule errs = record {
   NeverFails = λ Part. Part;
 }
 
+-- the list of the items' trees, with the end's
+abbrev pub with_end : {T V : Type 0} → List V → T → List V × T
+with_end vs t = (vs, t)
+
 -- items until an end, with the list of their trees and the end's tree
 abbrev pub many_till_meaning : {I A T V E : Type 0} → Seen I A → Errors I E → Meaning I V E → Meaning I T E → Meaning I (List V × T) E
-many_till_meaning w errs m end = repeat_meaning w (till_rule errs) (λ vs t. (vs, t)) (always (end_or_item end m))
+many_till_meaning w errs m end = repeat_meaning w (till_rule errs) with_end (always (end_or_item end m))
 
 -- what is told of an end or an item: what is built of it
 abbrev pub IsStep : {T V O P : Type 0} → Bool → (T → O → Type 0) → (V → P → Type 0) → T ⊎ V → Step (Option O) (Option P) → Type 0

@@ -13,7 +13,7 @@ use Rattle.nom_internal.specs.Families.{always, always_lawful}
 use Rattle.nom_repeat.specs.Repeat.{Ran}
 use Rattle.nom_repeat.specs.Repeat.Turn.{Takes, Ends}
 use Rattle.nom_repeat.specs.RepeatLaws.{KeepsTurn, KeepsReply, EndsAt, RuleLaws, repeat_lawful, repeat_steady}
-use Rattle.nom_multi.specs.Till.{end_or_item, step_turn, till_turn, OnItem, TillBlames, TillAsks, till_rule, many_till_meaning}
+use Rattle.nom_multi.specs.Till.{end_or_item, step_turn, till_turn, OnItem, TillBlames, TillAsks, till_rule, with_end, many_till_meaning}
 
 till_decided : {T V : Type 0} (a : Option (Outcome (T ⊎ V))) → KeepsTurn true (till_turn a) → KeepsReply true a
 till_decided (Some (Accept n u)) h = tt
@@ -92,9 +92,9 @@ module _ {I A T V E : Type 0} (w : Seen I A) (l : InputLaws w) (errs : Errors I 
   pub many_till_lawful : IsLawful w m → IsLawful w end → IsLawful w (many_till_meaning w errs m end)
   many_till_lawful p q =
       let part : IsLawful w (end_or_item end m) = otherwise_lawful w (labelled_meaning inl end) (labelled_meaning inr m) (labelled_lawful w end inl q) (labelled_lawful w m inr p) in
-      repeat_lawful w l (till_rule errs) (till_rule_laws errs) (λ vs t. (vs, t)) (always (end_or_item end m)) (always_lawful w (end_or_item end m) part)
+      repeat_lawful w l (till_rule errs) (till_rule_laws errs) with_end (always (end_or_item end m)) (always_lawful w (end_or_item end m) part)
 
   pub many_till_steady : IsSteady w m → IsSteady w end → IsSteady w (many_till_meaning w errs m end)
   many_till_steady p q =
       let part : IsSteady w (end_or_item end m) = otherwise_steady w (labelled_meaning inl end) (labelled_meaning inr m) (labelled_steady w end inl q) (labelled_steady w m inr p) in
-      repeat_steady w l (till_rule errs) (till_rule_laws errs) (λ vs t. (vs, t)) (always (end_or_item end m)) (λ _. part)
+      repeat_steady w l (till_rule errs) (till_rule_laws errs) with_end (always (end_or_item end m)) (λ _. part)
