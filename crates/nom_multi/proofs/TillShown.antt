@@ -154,3 +154,8 @@ list_gained P false vs v None n x g b c = g
 pub may_grow : {K : Type 0} (x : Option K) → IfSome x (λ _. Unit {0})
 may_grow (Some k) = tt
 may_grow None = tt
+
+-- what is told, at the states before
+pub stands_at : {S R I A T V O P E : Type 0} {w : Seen I A} (IsEnd : S → T → O → Type 0) (IsItem : R → V → P → Type 0) (end : S → Meaning I T E) (m : R → Meaning I V E) {outputs errors streaming : Bool} {i : I} {r : Result (I × Option (Step (Option O) (Option P))) (Answer.Err E (Option E) Needed)} {a b : S} {x y : R} → a ≡ b → x ≡ y → ShowsStep w (IsEnd a) (IsItem x) (end a) (m x) outputs errors streaming i r → ShowsStep w (IsEnd b) (IsItem y) (end b) (m y) outputs errors streaming i r
+stands_at {w = w} IsEnd IsItem end m {outputs} {errors} {streaming} {i} {r} {a} {b} {x} {y} e f h =
+    subst (λ z. ShowsStep w (IsEnd b) (IsItem z) (end b) (m z) outputs errors streaming i r) f (subst (λ z. ShowsStep w (IsEnd z) (IsItem x) (end z) (m x) outputs errors streaming i r) e h)

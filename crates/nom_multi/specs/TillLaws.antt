@@ -11,7 +11,7 @@ use Rattle.nom_internal.specs.CaseLaws.{labelled_lawful, labelled_steady}
 use Rattle.nom_internal.specs.ChoiceLaws.{otherwise_lawful, otherwise_steady}
 use Rattle.nom_internal.specs.Families.{always, always_lawful}
 use Rattle.nom_repeat.specs.Repeat.{Ran}
-use Rattle.nom_repeat.specs.Repeat.Turn.{Takes, Ends}
+use Rattle.nom_repeat.specs.Repeat.Turn.{Ends}
 use Rattle.nom_repeat.specs.RepeatLaws.{KeepsTurn, KeepsReply, EndsAt, RuleLaws, repeat_lawful, repeat_steady}
 use Rattle.nom_multi.specs.Till.{end_or_item, step_turn, till_turn, OnItem, TillBlames, TillAsks, till_rule, with_end, many_till_meaning}
 
