@@ -97,7 +97,6 @@ abbrev pub ShowsTill : {I A T V O E : Type 0} (w : Seen I A) (errs : Errors I E)
 ShowsTill w errs m end IsOutput mode i r = ShowsMeaning w IsOutput (many_till_meaning w errs m end) mode i r
 
 module _ {I A T V O E : Type 0} {w : Seen I A} (errs : Errors I E) (m : Meaning I V E) (end : Meaning I T E) (IsOutput : List V × T → O → Type 0) (mode : Modes) {Held : List V → Type 0} {i j : I} (c : Till w ((end_or_item end m).answers mode.streaming) Held i j) where
-
   pub till_ended : InputLaws w → {n : ℕ} {u : T ⊎ V} (t : T) → (end_or_item end m).answers mode.streaming j (Accept n u) → u ≡ inl t → {h : I} → IsRest w j n h → (x : Option O) → Built mode.outputs (IsOutput (c.trees, t)) x → ShowsTill w errs m end IsOutput mode i (Ok (h, x))
   till_ended l {n} {u} t a is q x z = ended_behind (till_rule errs) with_end (always (end_or_item end m)) c (Some (Accept n (inl t))) (tt, subst (λ y. (end_or_item end m).answers mode.streaming j (Accept n y)) is a) l n t q refl z
 

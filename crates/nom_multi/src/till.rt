@@ -33,9 +33,12 @@ pub struct ManyTill<A, F, G> {
     pub end: G,
 }
 
-impl<I: Input, A: Allocator + Copy, F: Parser<I> + Drop, G: Parser<I, Error = F::Error> + Drop> Parser<
-    I,
-> for ManyTill<A, F, G> {
+impl<
+    I: Input,
+    A: Allocator + Copy,
+    F: Parser<I> + Drop,
+    G: Parser<I, Error = F::Error> + Drop,
+> Parser<I> for ManyTill<A, F, G> {
     ghost use Rattle.nom_multi.specs.TillLaws.{many_till_lawful};
 
     type Output = (Vec<F::Output, A>, G::Output);
@@ -86,9 +89,12 @@ impl<I: Input, A: Allocator + Copy, F: Parser<I> + Drop, G: Parser<I, Error = F:
     ghost lawful = { λ s k. many_till_lawful I.seen I.lawful F.Error.errors (F.meaning s.0) (G.meaning s.1) (F.lawful s.0 k.1) (G.lawful s.1 k.0) };
 }
 
-impl<I: Input, A: Allocator + Copy, F: StreamParser<I> + Drop, G: StreamParser<I, Error = F::Error> + Drop> StreamParser<
-    I,
-> for ManyTill<A, F, G> {
+impl<
+    I: Input,
+    A: Allocator + Copy,
+    F: StreamParser<I> + Drop,
+    G: StreamParser<I, Error = F::Error> + Drop,
+> StreamParser<I> for ManyTill<A, F, G> {
     ghost use Rattle.nom_internal.specs.Pinned.{pair_pinned};
     ghost use Rattle.nom_traits.specs.View.{vec_view};
     ghost use Rattle.nom_multi.specs.Lists.{list_pinned};
