@@ -1,2 +1,4 @@
 pub mod LengthShown
 pub mod Promised
+pub mod SeparatedShown
+pub mod TillShown

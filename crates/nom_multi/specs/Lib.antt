@@ -1,6 +1,12 @@
+pub mod Bounded
+pub mod BoundedLaws
 pub mod Lengths
 pub mod LengthLaws
 pub mod Lists
 pub mod Many
 pub mod ManyLaws
 pub mod Promises
+pub mod Separated
+pub mod SeparatedLaws
+pub mod Till
+pub mod TillLaws

@@ -3,12 +3,19 @@
 
 ghost use Rattle.std.specs.Prelude.{◌≡◌};
 
+mod bounded;
 mod length;
 mod many;
 pub mod promises;
+mod separated;
+mod till;
 
+pub use crate::bounded::{Count, ManyMN};
 pub use crate::length::LengthData;
-pub use crate::many::Many0;
+pub use crate::many::{Many0, Many1};
+pub use crate::separated::{SeparatedList0, SeparatedList1};
+pub use crate::till::ManyTill;
+use nom_sequence::preceded;
 use std::alloc::Allocator;
 
 /// A length, as `parser` reads it, and behind it so many items: bytes of a byte slice, characters of a
@@ -35,4 +42,114 @@ pub fn many0<A: Allocator + Copy, F>(alloc: A, parser: F) -> Many0<A, F>
     ensures parser { result.parser ≡ parser }
 {
     Many0 { alloc, parser }
+}
+
+/// Items until one is refused, and one at least: a list of their outputs, which takes its memory from
+/// `alloc`.
+///
+/// Where the first item is refused, so is all, with the item's error, to which `Many1` is added at the
+/// start. From the second item on it is as with `many0`: one that consumes nothing is refused with
+/// `Many0`.
+#[inline(always)]
+pub fn many1<A: Allocator + Copy, F>(alloc: A, parser: F) -> Many1<A, F>
+    ensures alloc { result.alloc ≡ alloc }
+    ensures parser { result.parser ≡ parser }
+{
+    Many1 { alloc, parser }
+}
+
+/// Just so many items: a list of their outputs, which takes its memory from `alloc`.
+///
+/// An item that is refused refuses all, with the item's error, to which `Count` is added at the start.
+/// Items may consume nothing. No memory is taken ahead.
+#[inline(always)]
+pub fn count<A: Allocator + Copy, F>(alloc: A, parser: F, count: usize) -> Count<A, F>
+    ensures alloc { result.alloc ≡ alloc }
+    ensures parser { result.parser ≡ parser }
+    ensures count { result.count ≡ count }
+{
+    Count {
+        alloc,
+        parser,
+        count,
+    }
+}
+
+/// Items until one is refused, `min` at least and `max` at most: a list of their outputs, which takes
+/// its memory from `alloc`.
+///
+/// A refusal before `min` items refuses all, with the item's error, to which `ManyMN` is added at the
+/// item. An item that consumes nothing is refused with `ManyMN`. Behind `max` items none is tried. Where
+/// `min` is above `max`, the answer is a `Failure` with `ManyMN`.
+#[inline(always)]
+pub fn many_m_n<A: Allocator + Copy, F>(alloc: A, min: usize, max: usize, parser: F) -> ManyMN<A, F>
+    ensures alloc { result.alloc ≡ alloc }
+    ensures min { result.min ≡ min }
+    ensures max { result.max ≡ max }
+    ensures parser { result.parser ≡ parser }
+{
+    ManyMN {
+        alloc,
+        min,
+        max,
+        parser,
+    }
+}
+
+/// Items with a separator between them, and one at least: a list of the items' outputs, which takes its
+/// memory from `alloc`. Of the separators nothing is built.
+///
+/// A refusal of the first item is passed on. Later on a refusal of a separator, or of the item behind
+/// it, ends the list with success, before that separator. Where a separator and its item together
+/// consume nothing, they are refused with `SeparatedList`, at the separator.
+#[inline(always)]
+pub fn separated_list1<A: Allocator + Copy, G, F>(
+    alloc: A,
+    separator: G,
+    parser: F,
+) -> SeparatedList1<A, G, F>
+    ensures alloc { result.alloc ≡ alloc }
+    ensures separator { result.next.first ≡ separator }
+    ensures parser { result.next.second ≡ parser }
+{
+    SeparatedList1 {
+        alloc,
+        next: preceded(separator, parser),
+    }
+}
+
+/// Items with a separator between them, or none: a list of the items' outputs, which takes its memory
+/// from `alloc`. Of the separators nothing is built.
+///
+/// Where the first item is refused, the list is empty, and nothing is consumed. All else is as with
+/// `separated_list1`.
+#[inline(always)]
+pub fn separated_list0<A: Allocator + Copy, G, F>(
+    alloc: A,
+    separator: G,
+    parser: F,
+) -> SeparatedList0<A, G, F>
+    ensures alloc { result.alloc ≡ alloc }
+    ensures separator { result.next.first ≡ separator }
+    ensures parser { result.next.second ≡ parser }
+{
+    SeparatedList0 {
+        alloc,
+        next: preceded(separator, parser),
+    }
+}
+
+/// Items until an end is accepted: a list of their outputs, which takes its memory from `alloc`, and
+/// the end's output.
+///
+/// At each place the end is tried first, and an item only where it is refused. A refusal of an item
+/// refuses all, with the item's error, to which `ManyTill` is added at the item. An item that consumes
+/// nothing is refused with `Many0`.
+#[inline(always)]
+pub fn many_till<A: Allocator + Copy, F, G>(alloc: A, parser: F, end: G) -> ManyTill<A, F, G>
+    ensures alloc { result.alloc ≡ alloc }
+    ensures parser { result.parser ≡ parser }
+    ensures end { result.end ≡ end }
+{
+    ManyTill { alloc, parser, end }
 }

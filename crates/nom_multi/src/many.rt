@@ -100,8 +100,12 @@ impl<I: Input, A: Allocator + Copy, F: Parser<I> + Drop> Parser<I> for Many1<A, 
             at_start: true,
             empty: None,
         };
-        let (rest, first) =
-            items::<OM, OM::Error, I, F, Vec<F::Output, A>>(&mut self.parser, input, none, one)?;
+        let (rest, first) = items::<OM, OM::Error, I, F, Vec<F::Output, A>>(
+            &mut self.parser,
+            input,
+            none,
+            one,
+        )?;
         let any = Limits {
             least: 0,
             most: None,

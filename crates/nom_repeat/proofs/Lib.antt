@@ -1,4 +1,5 @@
 pub mod Counted
+pub mod InvertedShown
 pub mod ItemsShown
 pub mod Keeping
 pub mod ListKept

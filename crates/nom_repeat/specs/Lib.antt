@@ -1,3 +1,5 @@
+pub mod Inverted
+pub mod InvertedLaws
 pub mod Items
 pub mod ItemsLaws
 pub mod Kept

@@ -111,13 +111,7 @@ fn stuck(empty: Option<ErrorKind>, before: usize, after: usize) -> Option<ErrorK
     ensures { IsStuck empty before after result }
 {
     match empty {
-        Some(kind) => {
-            if after == before {
-                Some(kind)
-            } else {
-                None
-            }
-        }
+        Some(kind) => { if after == before { Some(kind) } else { None } }
         None => None,
     }
 }

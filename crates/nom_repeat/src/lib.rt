@@ -4,5 +4,6 @@
 
 ghost use Rattle.std.specs.Prelude.{◌≡◌};
 
+pub mod inverted;
 pub mod items;
 pub mod keep;

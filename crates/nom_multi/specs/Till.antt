@@ -1,0 +1,87 @@
+-- Items until an end.
+use Rattle.std.specs.Prelude.{◌≡◌, ℕ, ◌⊎◌, Bool, true, Option, Some, None, List, zero, suc}
+use Rattle.std.proofs.Common.{inl, inr}
+use Rattle.nom_error.specs.Errors.{Errors}
+use Rattle.nom_error.specs.Modes.{Built}
+use Rattle.nom_error.specs.declared.kind.ErrorKind.TheVariants as Kind
+use Rattle.nom_traits.specs.Input.{Seen}
+use Rattle.nom_internal.specs.Outcome.{Outcome}
+use Rattle.nom_internal.specs.Outcome.Outcome.{Accept, Refuse, Fail, TooLarge, Undecided}
+use Rattle.nom_internal.specs.Meaning.{Meaning}
+use Rattle.nom_internal.specs.Cases.{labelled_meaning}
+use Rattle.nom_internal.specs.Choice.{otherwise_meaning}
+use Rattle.nom_internal.specs.Families.{always}
+use Rattle.nom_repeat.specs.Repeat.{Turn, Rule, repeat_meaning}
+use Rattle.nom_repeat.specs.Repeat.Turn.{Takes, Ends}
+use Rattle.nom_multi.specs.declared.till.Step.{Step}
+use Rattle.nom_multi.specs.declared.till.Step.TheVariants.{End, Item}
+
+-- an end, which is tried first, or else an item
+abbrev pub end_or_item : {I T V E : Type 0} → Meaning I T E → Meaning I V E → Meaning I (T ⊎ V) E
+end_or_item end m = otherwise_meaning (labelled_meaning inl end) (labelled_meaning inr m)
+
+-- An end ends the list, with its tree. An item is taken; one that consumes nothing is refused.
+abbrev pub step_turn : {T V : Type 0} → T ⊎ V → ℕ → Turn V T
+step_turn (inl t) n = Ends (Accept n t)
+step_turn (inr v) zero = Ends Refuse
+step_turn (inr v) (suc n) = Takes (suc n) v
+
+-- all that isn't accepted is passed on
+abbrev pub till_turn : {T V : Type 0} → Option (Outcome (T ⊎ V)) → Turn V T
+till_turn (Some (Accept n u)) = step_turn u n
+till_turn (Some Refuse) = Ends Refuse
+till_turn (Some Fail) = Ends Fail
+till_turn (Some TooLarge) = Ends TooLarge
+till_turn (Some (Undecided n)) = Ends (Undecided n)
+till_turn None = Ends Refuse
+
+-- the first where it is an item that consumes nothing, and the second where it is another item
+abbrev pub OnItem : {T V : Type 0} → Type 0 → Type 0 → T ⊎ V → ℕ → Type 0
+OnItem Empty Taken (inl t) n = ⊥
+OnItem Empty Taken (inr v) zero = Empty
+OnItem Empty Taken (inr v) (suc n) = Taken
+
+-- the error: of an empty item a new one, of a refused item its own, to which a kind is added; both at its place
+abbrev pub TillBlames : {I T V E : Type 0} → Errors I E → I → Option (Outcome (T ⊎ V)) → (E → Type 0) → E → Type 0
+TillBlames errs j (Some (Accept n u)) P e = OnItem (errs.of_kind j Kind.Many0 e) ⊥ u n
+TillBlames {E = E} errs j (Some Refuse) P e = (x : E) × P x × errs.appended j Kind.ManyTill x e
+TillBlames errs j (Some Fail) P e = P e
+TillBlames errs j (Some TooLarge) P e = P e
+TillBlames errs j (Some (Undecided n)) P e = ⊥
+TillBlames errs j None P e = ⊥
+
+-- where memory is needed: for an error, or to keep an item
+abbrev pub TillAsks : {T V : Type 0} → Type 0 → Type 0 → Option (Outcome (T ⊎ V)) → Type 0
+TillAsks Refused Kept (Some (Accept n u)) = OnItem Refused Kept u n
+TillAsks Refused Kept (Some Refuse) = Refused
+TillAsks Refused Kept (Some Fail) = ⊥
+TillAsks Refused Kept (Some TooLarge) = ⊥
+TillAsks Refused Kept (Some (Undecided n)) = ⊥
+TillAsks Refused Kept None = ⊥
+
+abbrev pub till_rule : {I T V E : Type 0} → Errors I E → Rule I (T ⊎ V) V T E
+till_rule errs = record {
+  bound = None;
+  turn = λ _ a. till_turn a;
+  Blames = λ _ _ j a P e. TillBlames errs j a P e;
+  part = λ _ mode. mode;
+  Asks = λ mode _ a. TillAsks ((mode.errors ≡ true) × errs.grows) (mode.outputs ≡ true) a;
+  IsSound = λ Part. Part;
+  IsFrugal = λ PartIs mode. PartIs mode × (mode.outputs ≡ true → ⊥) × (mode.errors ≡ true → errs.grows → ⊥);
+  NeverFails = λ Part. Part;
+}
+
+-- the list of the items' trees, with the end's
+abbrev pub with_end : {T V : Type 0} → List V → T → List V × T
+with_end vs t = (vs, t)
+
+-- items until an end, with the list of their trees and the end's tree
+abbrev pub many_till_meaning : {I A T V E : Type 0} → Seen I A → Errors I E → Meaning I V E → Meaning I T E → Meaning I (List V × T) E
+many_till_meaning w errs m end = repeat_meaning w (till_rule errs) with_end (always (end_or_item end m))
+
+-- what is told of an end or an item: what is built of it
+abbrev pub IsStep : {T V O P : Type 0} → Bool → (T → O → Type 0) → (V → P → Type 0) → T ⊎ V → Step (Option O) (Option P) → Type 0
+IsStep builds IsEnd IsItem (inl t) (End x) = Built builds (IsEnd t) x
+IsStep builds IsEnd IsItem (inl t) (Item x) = ⊥
+IsStep builds IsEnd IsItem (inr v) (End x) = ⊥
+IsStep builds IsEnd IsItem (inr v) (Item x) = Built builds (IsItem v) x

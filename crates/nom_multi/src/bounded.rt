@@ -1,0 +1,123 @@
+//! So many items, or within bounds.
+ghost use Rattle.std.specs.Prelude.{ℕ, List};
+ghost use Rattle.std.specs.List.{AllZip};
+ghost use Rattle.nom_multi.specs.Bounded.{count_meaning, many_m_n_meaning};
+
+use nom_error::answer::PResult;
+use nom_error::kind::ErrorKind;
+use nom_error::mode::OutputMode;
+use nom_error::value::ParseError;
+use nom_internal::parser::{Parser, StreamParser};
+use nom_repeat::inverted::failure;
+use nom_repeat::items::{Limits, TooFew, items};
+use nom_repeat::keep::none_yet;
+use nom_traits::input::{Input, Items};
+use std::alloc::Allocator;
+
+/// So many items, made by `count`.
+#[derive(Drop)]
+pub struct Count<A, F> {
+    pub alloc: A,
+    pub parser: F,
+    pub count: usize,
+}
+
+impl<I: Input, A: Allocator + Copy, F: Parser<I> + Drop> Parser<I> for Count<A, F> {
+    ghost use Rattle.nom_multi.specs.BoundedLaws.{count_lawful};
+
+    type Output = Vec<F::Output, A>;
+
+    type Error = F::Error;
+
+    ghost State = { ℕ × F.State };
+
+    ghost state = { λ p. (p.count, F.state p.parser) };
+
+    ghost Tree = { List F.Tree };
+
+    ghost IsOutput = { λ s vs o. AllZip (F.IsOutput s.1) vs o.items };
+
+    ghost meaning = { λ s. count_meaning I.seen F.Error.errors s.0 (F.meaning s.1) };
+
+    ghost Pins = { λ s. F.Pins s.1 };
+
+    #[inline]
+    fn process<OM: OutputMode>(&mut self, input: I) -> PResult<I, Self::Output, Self::Error> {
+        let none = none_yet::<OM::Output, F::Output, A>(self.alloc);
+        let limits = Limits {
+            least: self.count,
+            most: Some(self.count),
+            too_few: TooFew::Added(ErrorKind::Count),
+            at_start: true,
+            empty: None,
+        };
+        items::<OM, OM::Error, I, F, Vec<F::Output, A>>(&mut self.parser, input, none, limits)
+    }
+
+    ghost lawful = { λ s k. count_lawful I.seen I.lawful F.Error.errors s.0 (F.meaning s.1) (F.lawful s.1 k) };
+}
+
+impl<I: Input, A: Allocator + Copy, F: StreamParser<I> + Drop> StreamParser<I> for Count<A, F> {
+    ghost use Rattle.nom_multi.specs.Lists.{list_pinned};
+    ghost use Rattle.nom_multi.specs.BoundedLaws.{count_steady};
+
+    ghost pinned = { λ s k p. list_pinned F.Output.view (F.IsOutput s.1) (F.pinned s.1 k p) };
+
+    ghost steady = { λ s k. count_steady I.seen I.lawful F.Error.errors s.0 (F.meaning s.1) (F.steady s.1 k) };
+}
+
+/// Items until one is refused, as many as the bounds say; made by `many_m_n`.
+#[derive(Drop)]
+pub struct ManyMN<A, F> {
+    pub alloc: A,
+    pub min: usize,
+    pub max: usize,
+    pub parser: F,
+}
+
+impl<I: Input, A: Allocator + Copy, F: Parser<I> + Drop> Parser<I> for ManyMN<A, F> {
+    ghost use Rattle.nom_multi.specs.BoundedLaws.{many_m_n_lawful};
+
+    type Output = Vec<F::Output, A>;
+
+    type Error = F::Error;
+
+    ghost State = { ℕ × ℕ × F.State };
+
+    ghost state = { λ p. (p.min, p.max, F.state p.parser) };
+
+    ghost Tree = { List F.Tree };
+
+    ghost IsOutput = { λ s vs o. AllZip (F.IsOutput s.2) vs o.items };
+
+    ghost meaning = { λ s. many_m_n_meaning I.seen F.Error.errors s.0 s.1 (F.meaning s.2) };
+
+    ghost Pins = { λ s. F.Pins s.2 };
+
+    #[inline]
+    fn process<OM: OutputMode>(&mut self, input: I) -> PResult<I, Self::Output, Self::Error> {
+        if self.max < self.min {
+            return Err(failure(input, ErrorKind::ManyMN));
+        }
+        let none = none_yet::<OM::Output, F::Output, A>(self.alloc);
+        let limits = Limits {
+            least: self.min,
+            most: Some(self.max),
+            too_few: TooFew::Added(ErrorKind::ManyMN),
+            at_start: false,
+            empty: Some(ErrorKind::ManyMN),
+        };
+        items::<OM, OM::Error, I, F, Vec<F::Output, A>>(&mut self.parser, input, none, limits)
+    }
+
+    ghost lawful = { λ s k. many_m_n_lawful I.seen I.lawful F.Error.errors s.0 s.1 (F.meaning s.2) (F.lawful s.2 k) };
+}
+
+impl<I: Input, A: Allocator + Copy, F: StreamParser<I> + Drop> StreamParser<I> for ManyMN<A, F> {
+    ghost use Rattle.nom_multi.specs.Lists.{list_pinned};
+    ghost use Rattle.nom_multi.specs.BoundedLaws.{many_m_n_steady};
+
+    ghost pinned = { λ s k p. list_pinned F.Output.view (F.IsOutput s.2) (F.pinned s.2 k p) };
+
+    ghost steady = { λ s k. many_m_n_steady I.seen I.lawful F.Error.errors s.0 s.1 (F.meaning s.2) (F.steady s.2 k) };
+}

@@ -1,0 +1,143 @@
+//! Items until an end.
+ghost use Rattle.std.specs.Prelude.{◌≡◌, true, IsSome, Some, List};
+ghost use Rattle.std.specs.List.{AllZip};
+ghost use Rattle.nom_error.specs.Modes.{modes};
+ghost use Rattle.nom_internal.specs.Outcome.{ShowsAnswer};
+ghost use Rattle.nom_multi.specs.Till.{IsStep, end_or_item, many_till_meaning};
+
+use nom_error::answer::{Err, PResult};
+use nom_error::kind::ErrorKind;
+use nom_error::mode::{Check, OutputM, OutputMode};
+use nom_error::value::{ParseError, refusal};
+use nom_internal::choice::close_error;
+use nom_internal::parser::{Parser, StreamParser};
+use nom_internal::sequence::combine;
+use nom_repeat::keep::{gain, none_yet};
+use nom_traits::input::{Input, Items};
+use std::alloc::Allocator;
+
+/// What stands at a place.
+#[derive(Drop)]
+pub enum Step<T, V> {
+    /// The end.
+    End(T),
+    /// An item.
+    Item(V),
+}
+
+/// Items until an end, made by `many_till`.
+#[derive(Drop)]
+pub struct ManyTill<A, F, G> {
+    pub alloc: A,
+    pub parser: F,
+    pub end: G,
+}
+
+impl<
+    I: Input,
+    A: Allocator + Copy,
+    F: Parser<I> + Drop,
+    G: Parser<I, Error = F::Error> + Drop,
+> Parser<I> for ManyTill<A, F, G> {
+    ghost use Rattle.nom_multi.specs.TillLaws.{many_till_lawful};
+
+    type Output = (Vec<F::Output, A>, G::Output);
+
+    type Error = F::Error;
+
+    ghost State = { F.State × G.State };
+
+    ghost state = { λ p. (F.state p.parser, G.state p.end) };
+
+    ghost Tree = { List F.Tree × G.Tree };
+
+    ghost IsOutput = { λ s t o. AllZip (F.IsOutput s.0) t.0 o.0.items × G.IsOutput s.1 t.1 o.1 };
+
+    ghost meaning = { λ s. many_till_meaning I.seen F.Error.errors (F.meaning s.0) (G.meaning s.1) };
+
+    ghost Pins = { λ s. F.Pins s.0 × G.Pins s.1 };
+
+    #[inline]
+    fn process<OM: OutputMode>(&mut self, input: I) -> PResult<I, Self::Output, Self::Error> {
+        input.known();
+        let mut kept = none_yet::<OM::Output, F::Output, A>(self.alloc);
+        let mut rest = input;
+        loop {
+            match what_stands::<OM, I, F, G>(&mut self.parser, &mut self.end, rest) {
+                Ok((next, stands)) => match told(stands) {
+                    Step::End(end) => return Ok((next, combine(kept, end))),
+                    Step::Item(item) => {
+                        if next.input_len() == rest.input_len() {
+                            return Err(refusal::<OM::Error, I, F::Error>(rest, ErrorKind::Many0));
+                        }
+                        if !gain(&mut kept, item) {
+                            return Err(Err::OutOfMemory);
+                        }
+                        rest = next;
+                    }
+                },
+                Err(Err::Error(error)) => {
+                    return Err(close_error(error, rest, ErrorKind::ManyTill));
+                }
+                Err(Err::Failure(error)) => return Err(Err::Failure(error)),
+                Err(Err::Incomplete(needed)) => return Err(Err::Incomplete(needed)),
+                Err(Err::OutOfMemory) => return Err(Err::OutOfMemory),
+            }
+        }
+    }
+
+    ghost lawful = { λ s k. many_till_lawful I.seen I.lawful F.Error.errors (F.meaning s.0) (G.meaning s.1) (F.lawful s.0 k.1) (G.lawful s.1 k.0) };
+}
+
+impl<
+    I: Input,
+    A: Allocator + Copy,
+    F: StreamParser<I> + Drop,
+    G: StreamParser<I, Error = F::Error> + Drop,
+> StreamParser<I> for ManyTill<A, F, G> {
+    ghost use Rattle.nom_internal.specs.Pinned.{pair_pinned};
+    ghost use Rattle.nom_traits.specs.View.{vec_view};
+    ghost use Rattle.nom_multi.specs.Lists.{list_pinned};
+    ghost use Rattle.nom_multi.specs.TillLaws.{many_till_steady};
+
+    ghost pinned = { λ s k p. pair_pinned (vec_view F.Output.view) G.Output.view (λ vs list. AllZip (F.IsOutput s.0) vs list.items) (G.IsOutput s.1) (list_pinned F.Output.view (F.IsOutput s.0) (F.pinned s.0 k.1 p.0)) (G.pinned s.1 k.0 p.1) };
+
+    ghost steady = { λ s k. many_till_steady I.seen I.lawful F.Error.errors (F.meaning s.0) (G.meaning s.1) (F.steady s.0 k.1) (G.steady s.1 k.0) };
+}
+
+/// The end, or else an item.
+#[inline(always)]
+fn what_stands<OM: OutputMode, I: Input, F: Parser<I>, G: Parser<I, Error = F::Error>>(
+    parser: &mut F,
+    end: &mut G,
+    input: I,
+) -> PResult<I, Step<Option<G::Output>, Option<F::Output>>, F::Error>
+    requires parser { (F.meaning (F.state parser.old)).IsSound }
+    requires end { (G.meaning (G.state end.old)).IsSound }
+    ensures shown { ShowsAnswer I.seen (IsStep OM.Output.BUILDS (G.IsOutput (G.state end.old)) (F.IsOutput (F.state parser.old))) (modes true OM.Error.BUILDS OM.Incomplete.STREAMING) input ((end_or_item (G.meaning (G.state end.old)) (F.meaning (F.state parser.old))).answers OM.Incomplete.STREAMING input) ((end_or_item (G.meaning (G.state end.old)) (F.meaning (F.state parser.old))).blames OM.Incomplete.STREAMING input) ((end_or_item (G.meaning (G.state end.old)) (F.meaning (F.state parser.old))).runs_out (modes OM.Output.BUILDS OM.Error.BUILDS OM.Incomplete.STREAMING) input) result }
+    ensures parser_kept { F.state parser.new ≡ F.state parser.old }
+    ensures end_kept { G.state end.new ≡ G.state end.old }
+{
+    match end.process::<OutputM<OM::Output, Check, OM::Incomplete>>(input) {
+        Ok((rest, end)) => Ok((rest, Some(Step::End(end)))),
+        Err(Err::Error(_)) => {
+            let (rest, item) = parser.process::<OM>(input)?;
+            Ok((rest, Some(Step::Item(item))))
+        }
+        Err(Err::Failure(error)) => Err(Err::Failure(error)),
+        Err(Err::Incomplete(needed)) => Err(Err::Incomplete(needed)),
+        Err(Err::OutOfMemory) => Err(Err::OutOfMemory),
+    }
+}
+
+/// What `what_stands` tells.
+#[inline(always)]
+fn told<T>(stands: Option<T>) -> T
+    requires { IsSome stands }
+    ensures { stands ≡ Some result }
+{
+    match stands {
+        Some(stands) => stands,
+        None => unreachable!(),
+    }
+}

@@ -1,0 +1,5 @@
+//! Tests of the lists of nom.
+#![tactic(auto)]
+
+#[cfg(test)]
+mod tests;

@@ -1,0 +1,5 @@
+//! Rows of inputs and what nom answers at them, each row through one call of its parser.
+
+mod lists;
+mod memory;
+mod told;

@@ -1,0 +1,38 @@
+-- The laws of bounds that don't fit each other.
+use Rattle.std.specs.Prelude.{◌≡◌, ℕ, Bool, true, false}
+use Rattle.std.proofs.Common.{sym, ◌∙◌}
+use Rattle.nom_error.specs.Errors.{Errors}
+use Rattle.nom_error.specs.declared.kind.ErrorKind.{ErrorKind}
+use Rattle.nom_traits.specs.Input.{Seen}
+use Rattle.nom_internal.specs.Outcome.Outcome.{Accept}
+use Rattle.nom_internal.specs.Meaning.{Meaning, IsLawful, IsSteady}
+use Rattle.nom_repeat.specs.Inverted.{error_outcome, error_if}
+
+no_accept : {V : Type 0} (fails : Bool) (n : ℕ) (v : V) → Accept n v ≡ error_outcome fails → ⊥
+no_accept true n v e = absurd (cc (e))
+no_accept false n v e = absurd (cc (e))
+
+module _ {I A V E : Type 0} (w : Seen I A) (errs : Errors I E) (kind : ErrorKind) (fails : Bool) (m : Meaning I V E) where
+  pub error_if_lawful : (test : Bool) → IsLawful w m → IsLawful w (error_if errs kind fails test m)
+  error_if_lawful true p = record {
+    within = λ s i n v h a. absurd (no_accept fails n v a);
+    one_outcome = λ s x y o q kx ky r a d b. a ∙ sym b;
+    alike = λ s x y o kx ky r a d. a;
+    frugal = λ mode i h f r. f r.0 r.1;
+    settles = λ t x y o kx ky r a d. a;
+    blames_alike = λ t s i o e h a b d z. z;
+    never_fails = λ large g s i h a. g (sym a);
+  }
+  error_if_lawful false p = record {
+    within = p.within;
+    one_outcome = p.one_outcome;
+    alike = p.alike;
+    frugal = p.frugal;
+    settles = p.settles;
+    blames_alike = p.blames_alike;
+    never_fails = p.never_fails;
+  }
+
+  pub error_if_steady : (test : Bool) → IsSteady w m → IsSteady w (error_if errs kind fails test m)
+  error_if_steady true p = λ x y o q kx ky r a d b. a ∙ sym b
+  error_if_steady false p = p
