@@ -13,6 +13,7 @@ pub mod number;
 pub mod promises;
 pub mod sequence;
 
+pub use nom_build::collection::{Collection, ViewedCollection};
 pub use nom_convert::parse::ParseTo;
 pub use nom_error::answer::{Err, IResult, Needed, OutOfMemory, PResult};
 pub use nom_error::finish::{Finish, FinishError};
@@ -30,6 +31,8 @@ pub use nom_internal::judged::{MapOpt, MapRes};
 pub use nom_internal::map::Map;
 pub use nom_internal::parser::{Parser, StreamParser};
 pub use nom_internal::sequence::And;
+pub use nom_ranges::range::NomRange;
+pub use nom_ranges::saturating::SaturatingIterator;
 pub use nom_search::bytes::AsBytes;
 pub use nom_search::extend::{Builder, ExtendInto};
 pub use nom_search::substring::FindSubstring;

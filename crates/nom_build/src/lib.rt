@@ -1,0 +1,4 @@
+//! What outputs are collected in.
+#![tactic(auto)]
+
+pub mod collection;

@@ -1,0 +1,2 @@
+mod collections;
+mod ranges;

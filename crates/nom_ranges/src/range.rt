@@ -1,0 +1,347 @@
+//! Ranges of counts.
+ghost use Rattle.std.specs.Prelude.{◌≡◌, ℕ, ◌+◌, ◌-◌, ◌^◌, ◌<◌, ◌≤◌, ◌⊎◌, ◌↔◌, IsTrue, true, false, Some};
+ghost use Rattle.std.specs.Iterator.{IsFinite};
+ghost use Rattle.std.specs.Range.{range_inclusive_start, range_inclusive_end, range_inclusive_exhausted};
+ghost use Rattle.std.specs.Range.Bound.{bound_map};
+ghost use Rattle.std.specs.declared.ops.Bound.{Bound};
+ghost use Rattle.std.specs.declared.ops.Bound.TheVariants.{Included, Excluded, Unbounded};
+ghost use Rattle.nom_ranges.specs.Ranges.{IsWithin, IsInverted, IsCount, fewest, most_items, limit};
+
+use crate::saturating::SaturatingIterator;
+use nom_traits::convert::ToUsize;
+use std::ops::{Bound, Range, RangeFrom, RangeFull, RangeInclusive, RangeTo, RangeToInclusive};
+
+/// How many items are wanted: a range of counts, or one count.
+pub trait NomRange<Idx: ToUsize> {
+    /// Counts up to the most items, and on without end where there is no bound.
+    type Saturating: Iterator<Item = Idx>;
+
+    /// Counts up to the most items, at most `usize::MAX`.
+    type Bounded: Iterator<Item = Idx>;
+
+    /// The first end.
+    ghost lower: { Self → Bound ℕ };
+
+    /// The second end.
+    ghost upper: { Self → Bound ℕ };
+
+    /// The range was iterated to its end, so that nothing is left of it.
+    ghost IsSpent: { Self → Type 0 } = { λ _. ⊥ };
+
+    /// The two ends. The fewest items fit a `usize`.
+    fn bounds(&self) -> (Bound<Idx>, Bound<Idx>)
+        ensures lower { bound_map Idx.size result.0 ≡ lower self.now }
+        ensures upper { bound_map Idx.size result.1 ≡ upper self.now }
+        ensures fits { fewest (lower self.now) < 2 ^ 64 };
+
+    /// Whether the range contains a count.
+    fn contains(&self, item: &Idx) -> bool
+        ensures { IsTrue result ↔ ((IsSpent self.now → ⊥) × IsWithin (lower self.now) (upper self.now) (Idx.size item.now)) };
+
+    /// Whether the range has two ends and nothing between them.
+    fn is_inverted(&self) -> bool
+        ensures { IsTrue result ↔ (IsSpent self.now ⊎ IsInverted (lower self.now) (upper self.now)) };
+
+    /// Counts from 0 up to, not including, the most items. Without a bound it stays at `usize::MAX`.
+    fn saturating_iter(&self) -> Self::Saturating
+        ensures ready { Self.Saturating.can_next result }
+        ensures counts { IsCount Self.Saturating.next_gives Idx.size (most_items (upper self.now)) result };
+
+    /// Counts from 0 up to, not including, the most items, `usize::MAX` without a bound.
+    fn bounded_iter(&self) -> Self::Bounded
+        ensures ready { Self.Bounded.can_next result }
+        ensures ends { IsFinite (Self.Bounded.remaining result) }
+        ensures counts { IsCount Self.Bounded.next_gives Idx.size (Some (limit (most_items (upper self.now)))) result };
+}
+
+impl NomRange<usize> for Range<usize> {
+    type Saturating = Range<usize>;
+
+    type Bounded = Range<usize>;
+
+    ghost lower = { λ r. Included r.start };
+
+    ghost upper = { λ r. Excluded r.end };
+
+    #[inline(always)]
+    fn bounds(&self) -> (Bound<usize>, Bound<usize>) {
+        (
+            Bound::Included(known(self.start)),
+            Bound::Excluded(self.end),
+        )
+    }
+
+    #[inline(always)]
+    fn contains(&self, item: &usize) -> bool {
+        self.start <= *item && *item < self.end
+    }
+
+    #[inline(always)]
+    fn is_inverted(&self) -> bool {
+        self.end <= self.start
+    }
+
+    #[inline(always)]
+    fn saturating_iter(&self) -> Range<usize> {
+        before(self.end)
+    }
+
+    #[inline(always)]
+    fn bounded_iter(&self) -> Range<usize> {
+        before(self.end)
+    }
+}
+
+impl NomRange<usize> for RangeInclusive<usize> {
+    type Saturating = Range<usize>;
+
+    type Bounded = Range<usize>;
+
+    ghost lower = { λ r. Included (range_inclusive_start r) };
+
+    ghost upper = { λ r. Included (range_inclusive_end r) };
+
+    ghost IsSpent = { λ r. range_inclusive_exhausted r ≡ true };
+
+    #[inline(always)]
+    fn bounds(&self) -> (Bound<usize>, Bound<usize>) {
+        (Bound::Included(*self.start()), Bound::Included(*self.end()))
+    }
+
+    #[inline(always)]
+    fn contains(&self, item: &usize) -> bool {
+        !self.is_empty() && *self.start() <= *item && *item <= *self.end()
+    }
+
+    #[inline(always)]
+    fn is_inverted(&self) -> bool {
+        self.is_empty()
+    }
+
+    #[inline(always)]
+    fn saturating_iter(&self) -> Range<usize> {
+        through(self)
+    }
+
+    #[inline(always)]
+    fn bounded_iter(&self) -> Range<usize> {
+        through(self)
+    }
+}
+
+impl NomRange<usize> for RangeFrom<usize> {
+    type Saturating = SaturatingIterator;
+
+    type Bounded = Range<usize>;
+
+    ghost lower = { λ r. Included r.start };
+
+    ghost upper = { λ _. Unbounded };
+
+    #[inline(always)]
+    fn bounds(&self) -> (Bound<usize>, Bound<usize>) {
+        (Bound::Included(known(self.start)), Bound::Unbounded)
+    }
+
+    #[inline(always)]
+    fn contains(&self, item: &usize) -> bool {
+        self.start <= *item
+    }
+
+    #[inline(always)]
+    fn is_inverted(&self) -> bool {
+        false
+    }
+
+    #[inline(always)]
+    fn saturating_iter(&self) -> SaturatingIterator {
+        endless()
+    }
+
+    #[inline(always)]
+    fn bounded_iter(&self) -> Range<usize> {
+        up_to(usize::MAX)
+    }
+}
+
+impl NomRange<usize> for RangeFull {
+    type Saturating = SaturatingIterator;
+
+    type Bounded = Range<usize>;
+
+    ghost lower = { λ _. Unbounded };
+
+    ghost upper = { λ _. Unbounded };
+
+    #[inline(always)]
+    fn bounds(&self) -> (Bound<usize>, Bound<usize>) {
+        (Bound::Unbounded, Bound::Unbounded)
+    }
+
+    #[inline(always)]
+    fn contains(&self, _item: &usize) -> bool {
+        true
+    }
+
+    #[inline(always)]
+    fn is_inverted(&self) -> bool {
+        false
+    }
+
+    #[inline(always)]
+    fn saturating_iter(&self) -> SaturatingIterator {
+        endless()
+    }
+
+    #[inline(always)]
+    fn bounded_iter(&self) -> Range<usize> {
+        up_to(usize::MAX)
+    }
+}
+
+impl NomRange<usize> for RangeTo<usize> {
+    type Saturating = Range<usize>;
+
+    type Bounded = Range<usize>;
+
+    ghost lower = { λ _. Unbounded };
+
+    ghost upper = { λ r. Excluded r.end };
+
+    #[inline(always)]
+    fn bounds(&self) -> (Bound<usize>, Bound<usize>) {
+        (Bound::Unbounded, Bound::Excluded(self.end))
+    }
+
+    #[inline(always)]
+    fn contains(&self, item: &usize) -> bool {
+        *item < self.end
+    }
+
+    #[inline(always)]
+    fn is_inverted(&self) -> bool {
+        false
+    }
+
+    #[inline(always)]
+    fn saturating_iter(&self) -> Range<usize> {
+        before(self.end)
+    }
+
+    #[inline(always)]
+    fn bounded_iter(&self) -> Range<usize> {
+        before(self.end)
+    }
+}
+
+impl NomRange<usize> for RangeToInclusive<usize> {
+    type Saturating = Range<usize>;
+
+    type Bounded = Range<usize>;
+
+    ghost lower = { λ _. Unbounded };
+
+    ghost upper = { λ r. Included r.end };
+
+    #[inline(always)]
+    fn bounds(&self) -> (Bound<usize>, Bound<usize>) {
+        (Bound::Unbounded, Bound::Included(self.end))
+    }
+
+    #[inline(always)]
+    fn contains(&self, item: &usize) -> bool {
+        *item <= self.end
+    }
+
+    #[inline(always)]
+    fn is_inverted(&self) -> bool {
+        false
+    }
+
+    #[inline(always)]
+    fn saturating_iter(&self) -> Range<usize> {
+        up_to(self.end)
+    }
+
+    #[inline(always)]
+    fn bounded_iter(&self) -> Range<usize> {
+        up_to(self.end)
+    }
+}
+
+/// One count, and no other.
+impl NomRange<usize> for usize {
+    type Saturating = Range<usize>;
+
+    type Bounded = Range<usize>;
+
+    ghost lower = { λ n. Included n };
+
+    ghost upper = { λ n. Included n };
+
+    #[inline(always)]
+    fn bounds(&self) -> (Bound<usize>, Bound<usize>) {
+        (Bound::Included(*self), Bound::Included(*self))
+    }
+
+    #[inline(always)]
+    fn contains(&self, item: &usize) -> bool {
+        *self == *item
+    }
+
+    #[inline(always)]
+    fn is_inverted(&self) -> bool {
+        false
+    }
+
+    #[inline(always)]
+    fn saturating_iter(&self) -> Range<usize> {
+        up_to(*self)
+    }
+
+    #[inline(always)]
+    fn bounded_iter(&self) -> Range<usize> {
+        up_to(*self)
+    }
+}
+
+/// The counts from 0 up to, not including, `most`.
+#[inline(always)]
+fn up_to(most: usize) -> Range<usize>
+    ensures { IsCount ⟦<Range<usize> as Iterator>⟧.next_gives (λ n. n) (Some most) result }
+{
+    0..most
+}
+
+/// The counts from 0 on.
+#[inline(always)]
+fn endless() -> SaturatingIterator
+    ensures { IsCount ⟦<SaturatingIterator as Iterator>⟧.next_gives (λ n. n) None result }
+{
+    SaturatingIterator { count: 0 }
+}
+
+/// The counts from 0 up to, not including, the last before `end`.
+#[inline(always)]
+fn before(end: usize) -> Range<usize>
+    ensures { IsCount ⟦<Range<usize> as Iterator>⟧.next_gives (λ n. n) (Some (end - 1)) result }
+{
+    up_to(end.saturating_sub(1))
+}
+
+/// The counts from 0 up to, not including, the last of the range.
+#[inline(always)]
+fn through(range: &RangeInclusive<usize>) -> Range<usize>
+    ensures { IsCount ⟦<Range<usize> as Iterator>⟧.next_gives (λ n. n) (Some (range_inclusive_end range.now)) result }
+{
+    up_to(*range.end())
+}
+
+/// The number as it is. A number behind a reference isn't known to fit.
+#[inline(always)]
+fn known(n: usize) -> usize
+    ensures same { result ≡ n }
+    ensures fits { n < 2 ^ 64 }
+{
+    n
+}
