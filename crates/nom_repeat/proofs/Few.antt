@@ -36,7 +36,7 @@ taken_accepted b k (Some (Undecided d)) n v e = absurd (cc (e))
 taken_accepted b k None n v e = absurd (cc (e))
 
 -- and consumes, where an empty item is refused
-taken_consumes : {V : Type 0} (b : Limits) (kind : ErrorKind) → b.empty ≡ Some kind → (k : ℕ) (a : Option (Outcome V)) (n : ℕ) (v : V) → Takes n v ≡ item_turn b k a → 0 < n
+pub taken_consumes : {V : Type 0} (b : Limits) (kind : ErrorKind) → b.empty ≡ Some kind → (k : ℕ) (a : Option (Outcome V)) (n : ℕ) (v : V) → Takes n v ≡ item_turn b k a → 0 < n
 taken_consumes b kind is k (Some (Accept zero u)) n v e =
     let none : b.empty ≡ None = (empty_takes b.empty n u v e).0 in absurd (cc (none, is))
 taken_consumes b kind is k (Some (Accept (suc m) u)) n v e =
@@ -48,12 +48,20 @@ taken_consumes b kind is k (Some TooLarge) n v e = absurd (cc (e))
 taken_consumes b kind is k (Some (Undecided d)) n v e = absurd (cc (e))
 taken_consumes b kind is k None n v e = absurd (cc (e))
 
-accepted_tree : {T R : Type 0} (n m : ℕ) (t v : R) (o : Outcome T) → Accept n v ≡ after m (λ _. t) o → v ≡ t
+pub accepted_tree : {T R : Type 0} (n m : ℕ) (t v : R) (o : Outcome T) → Accept n v ≡ after m (λ _. t) o → v ≡ t
 accepted_tree n m t v (Accept k u) e = cc (e)
 accepted_tree n m t v Refuse e = absurd (cc (e))
 accepted_tree n m t v Fail e = absurd (cc (e))
 accepted_tree n m t v TooLarge e = absurd (cc (e))
 accepted_tree n m t v (Undecided d) e = absurd (cc (e))
+
+-- the items before an end are no more than all that is accepted
+pub taken_within : {T R : Type 0} (n m : ℕ) (t v : R) (o : Outcome T) → Accept n v ≡ after m (λ _. t) o → m ≤ n
+taken_within n m t v (Accept k u) e = let sum : n ≡ m + k = cc (e) in omega (arith, sum)
+taken_within n m t v Refuse e = absurd (cc (e))
+taken_within n m t v Fail e = absurd (cc (e))
+taken_within n m t v TooLarge e = absurd (cc (e))
+taken_within n m t v (Undecided d) e = absurd (cc (e))
 
 module _ {I A V : Type 0} (w : Seen I A) (b : Limits) (kind : ErrorKind) (is : b.empty ≡ Some kind) (Item : I → Outcome V → Type 0) where
   -- no more than the input is long, where each consumes

@@ -1,0 +1,2 @@
+pub mod CountShown
+pub mod DroppedShown

@@ -1,0 +1,4 @@
+pub mod CountLaws
+pub mod Counts
+pub mod Dropped
+pub mod DroppedLaws
