@@ -1,2 +1,4 @@
 pub mod CountShown
 pub mod DroppedShown
+pub mod FoldShown
+pub mod UnfitShown

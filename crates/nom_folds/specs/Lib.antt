@@ -2,3 +2,9 @@ pub mod CountLaws
 pub mod Counts
 pub mod Dropped
 pub mod DroppedLaws
+pub mod FoldLaws
+pub mod Folded
+pub mod Folds
+pub mod Under
+pub mod Unfit
+pub mod UnfitLaws

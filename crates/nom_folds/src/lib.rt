@@ -5,9 +5,12 @@ ghost use Rattle.std.specs.Prelude.{◌≡◌};
 
 mod counts;
 mod dropped;
+mod folded;
+mod folds;
 
 pub use crate::counts::{Many0Count, Many1Count};
 pub use crate::dropped::Dropped;
+pub use crate::folds::{FoldMany0, FoldMany1, FoldManyMN};
 
 /// The number of items until one is refused.
 ///
@@ -34,5 +37,61 @@ pub fn many1_count<F>(parser: F) -> Many1Count<F>
 {
     Many1Count {
         item: Dropped { parser },
+    }
+}
+
+/// The fold of items until one is refused: `fold` takes the value of `init` and the output of the first item
+/// to the next value, and so on.
+///
+/// A refusal ends the fold with success, before the item. An item that is accepted without consuming anything
+/// is refused with `Many0`. All else that the item answers is passed on. The closures are called only where
+/// outputs are built.
+#[inline(always)]
+pub fn fold_many0<F, H, G>(parser: F, init: H, fold: G) -> FoldMany0<F, H, G>
+    ensures parser { result.parser ≡ parser }
+    ensures init { result.init ≡ init }
+    ensures fold { result.fold ≡ fold }
+{
+    FoldMany0 { parser, init, fold }
+}
+
+/// The fold of items until one is refused, one at least: as `fold_many0`.
+///
+/// A refusal of the first item is one with `Many1` at the start; a later one ends the fold with success. From
+/// the second item on, one that is accepted without consuming anything is refused with `Many1`.
+#[inline(always)]
+pub fn fold_many1<F, H, G>(parser: F, init: H, fold: G) -> FoldMany1<F, H, G>
+    ensures parser { result.parser ≡ parser }
+    ensures init { result.init ≡ init }
+    ensures fold { result.fold ≡ fold }
+{
+    FoldMany1 { parser, init, fold }
+}
+
+/// The fold of items until one is refused, `min` at least and `max` at most: as `fold_many0`.
+///
+/// A refusal before `min` items refuses all, with the item's error, to which `ManyMN` is added at the item. An
+/// item that consumes nothing is refused with `ManyMN`. Behind `max` items none is tried. Where `min` is above
+/// `max`, the answer is an `Error` with `ManyMN`.
+#[inline(always)]
+pub fn fold_many_m_n<F, H, G>(
+    min: usize,
+    max: usize,
+    parser: F,
+    init: H,
+    fold: G,
+) -> FoldManyMN<F, H, G>
+    ensures min { result.min ≡ min }
+    ensures max { result.max ≡ max }
+    ensures parser { result.parser ≡ parser }
+    ensures init { result.init ≡ init }
+    ensures fold { result.fold ≡ fold }
+{
+    FoldManyMN {
+        min,
+        max,
+        parser,
+        init,
+        fold,
     }
 }
