@@ -5,6 +5,8 @@ pub mod DroppedLaws
 pub mod FoldLaws
 pub mod Folded
 pub mod Folds
+pub mod RangeLaws
+pub mod Ranges
 pub mod Under
 pub mod Unfit
 pub mod UnfitLaws

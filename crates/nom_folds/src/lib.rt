@@ -5,12 +5,18 @@ ghost use Rattle.std.specs.Prelude.{◌≡◌};
 
 mod counts;
 mod dropped;
+mod failing;
 mod folded;
 mod folds;
+mod gathered;
+mod ranged;
 
 pub use crate::counts::{Many0Count, Many1Count};
 pub use crate::dropped::Dropped;
 pub use crate::folds::{FoldMany0, FoldMany1, FoldManyMN};
+pub use crate::ranged::{Fold, Many};
+use std::alloc::Allocator;
+use std::marker::PhantomData;
 
 /// The number of items until one is refused.
 ///
@@ -90,6 +96,46 @@ pub fn fold_many_m_n<F, H, G>(
     FoldManyMN {
         min,
         max,
+        parser,
+        init,
+        fold,
+    }
+}
+
+/// As many items as `range` says, in a collection, which takes its memory from `alloc`. The range is one of
+/// counts, or one count.
+///
+/// As many are taken as the range allows at most, `usize::MAX` where it has no second end; behind them none is
+/// tried. A refusal ends the list with success, before the item; but where the number of the items before it
+/// is outside the range, it refuses all, with the item's error, to which `Many` is added at the item. An item
+/// that consumes nothing is refused with `Many`. Where the range has two ends and nothing between them, the
+/// answer is a `Failure` with `Many`. No memory is taken ahead.
+#[inline(always)]
+pub fn many<A: Allocator + Copy, R, F, C>(alloc: A, range: R, parser: F) -> Many<A, R, F, C>
+    ensures alloc { result.alloc ≡ alloc }
+    ensures range { result.range ≡ range }
+    ensures parser { result.parser ≡ parser }
+{
+    Many {
+        alloc,
+        range,
+        parser,
+        collection: PhantomData,
+    }
+}
+
+/// The fold of as many items as `range` says: as `many`, with errors of the kind `Fold`, and from the value of
+/// `init` `fold` takes the items' outputs from left to right. The closures are called only where outputs are
+/// built.
+#[inline(always)]
+pub fn fold<R, F, H, G>(range: R, parser: F, init: H, fold: G) -> Fold<R, F, H, G>
+    ensures range { result.range ≡ range }
+    ensures parser { result.parser ≡ parser }
+    ensures init { result.init ≡ init }
+    ensures fold { result.fold ≡ fold }
+{
+    Fold {
+        range,
         parser,
         init,
         fold,
