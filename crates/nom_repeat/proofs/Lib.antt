@@ -1,4 +1,6 @@
+pub mod CountKept
 pub mod Counted
+pub mod Few
 pub mod InvertedShown
 pub mod ItemsShown
 pub mod Keeping

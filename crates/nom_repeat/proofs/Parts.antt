@@ -1,5 +1,5 @@
 -- What the answer of a part tells.
-use Rattle.std.proofs.Common.{◌≡◌, Result, Err, Option, ◌⊎◌, inl, inr, subst, sym}
+use Rattle.std.proofs.Common.{◌≡◌, ℕ, Result, Err, Option, ◌⊎◌, inl, inr, subst, sym}
 use Rattle.nom_error.specs.declared.answer.Needed.{Needed}
 use Rattle.nom_error.specs.declared.answer.Err as Answer
 use Rattle.nom_error.specs.declared.answer.Err.TheVariants.{Incomplete, Error, Failure, OutOfMemory}
@@ -73,3 +73,16 @@ module _ {I A V O E : Type 0} (w : Seen I A) (IsOutput IsResult : V → O → Ty
 pub shown_as : {I A V O E : Type 0} {w : Seen I A} {IsOutput IsResult : V → O → Type 0} {mode : Modes} {i : I} {Answers : Outcome V → Type 0} {IsError : E → Type 0} {RunsOut : Type 0} {r : Result (I × Option O) (Answer.Err E (Option E) Needed)} → ((v : V) (x : O) → IsOutput v x → IsResult v x) → ShowsAnswer w IsOutput mode i Answers IsError RunsOut r → ShowsAnswer w IsResult mode i Answers IsError RunsOut r
 shown_as f (RanOut e h) = RanOut e h
 shown_as {w = w} {IsOutput} {IsResult} {mode} {i} {Answers} {IsError} {RunsOut} {r} f (Shown o a s) = Shown o a (shows_as w IsOutput IsResult mode i IsError o r f s)
+
+-- the same, of what is accepted
+module _ {I A V O E : Type 0} (w : Seen I A) (IsOutput IsResult : V → O → Type 0) (mode : Modes) (i : I) (Answers : Outcome V → Type 0) (IsError : E → Type 0) where
+  shows_by : (o : Outcome V) (r : Result (I × Option O) (Answer.Err E (Option E) Needed)) → ((n : ℕ) (v : V) (x : O) → Answers (Accept n v) → IsOutput v x → IsResult v x) → Answers o → Shows w IsOutput mode i IsError o r → Shows w IsResult mode i IsError o r
+  shows_by (Accept n v) r f a s = (s.0, s.1, s.2, built_error mode.outputs _ _ s.1 (λ x. f n v x a) s.3, s.4)
+  shows_by Refuse r f a s = s
+  shows_by Fail r f a s = s
+  shows_by TooLarge r f a s = s
+  shows_by (Undecided k) r f a s = s
+
+pub shown_by : {I A V O E : Type 0} {w : Seen I A} {IsOutput IsResult : V → O → Type 0} {mode : Modes} {i : I} {Answers : Outcome V → Type 0} {IsError : E → Type 0} {RunsOut : Type 0} {r : Result (I × Option O) (Answer.Err E (Option E) Needed)} → ((n : ℕ) (v : V) (x : O) → Answers (Accept n v) → IsOutput v x → IsResult v x) → ShowsAnswer w IsOutput mode i Answers IsError RunsOut r → ShowsAnswer w IsResult mode i Answers IsError RunsOut r
+shown_by f (RanOut e h) = RanOut e h
+shown_by {w = w} {IsOutput} {IsResult} {mode} {i} {Answers} {IsError} {RunsOut} {r} f (Shown o a s) = Shown o a (shows_by w IsOutput IsResult mode i Answers IsError o r f a s)

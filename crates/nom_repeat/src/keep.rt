@@ -1,5 +1,5 @@
 //! What is kept of items.
-ghost use Rattle.std.specs.Prelude.{◌≡◌, ◌≤◌, ◌++◌, ◌∷◌, [], IsTrue, IfSome, false, vec_len, vec_capacity};
+ghost use Rattle.std.specs.Prelude.{◌≡◌, ◌+◌, ◌-◌, ◌^◌, ◌≤◌, ◌++◌, ◌∷◌, [], IsTrue, IfSome, false, min, vec_len, vec_capacity};
 ghost use Rattle.nom_error.specs.Modes.{Built};
 ghost use Rattle.nom_repeat.specs.Kept.{GainsBoth, LacksRoom};
 
@@ -46,6 +46,25 @@ impl<T: Drop, A: Allocator> Keep<T> for Vec<T, A> {
     #[inline(always)]
     fn keep(&mut self, item: T) -> bool {
         self.push(item).is_ok()
+    }
+}
+
+/// The number of the items, up to `usize::MAX`.
+impl<T: Drop> Keep<T> for usize {
+    ghost Gains = { λ old _ new. new ≡ min (old + 1) (2 ^ 64 - 1) };
+
+    ghost CanKeep = { λ _. Unit {0} };
+
+    ghost IsFull = { λ _. ⊥ };
+
+    ghost Grows = { ⊥ };
+
+    ghost fills = { λ _ h. h };
+
+    #[inline(always)]
+    fn keep(&mut self, _item: T) -> bool {
+        *self = self.saturating_add(1);
+        true
     }
 }
 

@@ -1,0 +1,6 @@
+pub mod CountShown
+pub mod DroppedShown
+pub mod FoldShown
+pub mod GatherShown
+pub mod RangeShown
+pub mod UnfitShown

@@ -1,0 +1,9 @@
+-- A part whose outputs are never built.
+use Rattle.std.specs.Prelude.{◌≡◌, false}
+use Rattle.nom_internal.specs.Outcome.Outcome.{Accept}
+use Rattle.nom_internal.specs.Meaning.{Meaning}
+use Rattle.nom_internal.specs.Cases.{Passes, plain_case, case_meaning}
+
+-- the part's outcome, with its tree, while nothing is built of it
+abbrev pub dropped_meaning : {I V E : Type 0} → Meaning I V E → Meaning I V E
+dropped_meaning = case_meaning (plain_case (λ _. false) (λ i. Passes (λ n v o. o ≡ Accept n v)))
