@@ -1,3 +1,4 @@
 //! Repetition, and data behind a length.
 
-pub use nom_multi::{LengthData, Many0, length_data, many0};
+pub use nom_lengths::{LengthData, length_data};
+pub use nom_multi::{Many0, many0};

@@ -1,2 +1,1 @@
-pub mod LengthShown
 pub mod Promised

@@ -1,5 +1,3 @@
-pub mod Lengths
-pub mod LengthLaws
 pub mod Lists
 pub mod Many
 pub mod ManyLaws

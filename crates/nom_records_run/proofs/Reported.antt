@@ -20,8 +20,8 @@ use Rattle.nom_traits.specs.CompareTags.{bytes_comparing}
 use Rattle.nom_bytes.specs.Takes.{take_meaning}
 use Rattle.nom_bytes.specs.TakeLaws.{take_lawful}
 use Rattle.nom_bytes.specs.TagLaws.{tag_lawful}
-use Rattle.nom_multi.specs.Lengths.{length_data_meaning}
-use Rattle.nom_multi.specs.LengthLaws.{length_data_lawful}
+use Rattle.nom_lengths.specs.Lengths.{length_data_meaning}
+use Rattle.nom_lengths.specs.LengthLaws.{length_data_lawful}
 use Rattle.nom_multi.specs.Many.{many0_meaning}
 use Rattle.nom_multi.specs.ManyLaws.{many0_lawful}
 use Rattle.nom_traits.specs.Digits.{value_of}

@@ -19,7 +19,7 @@ use Rattle.nom_internal.specs.Growing.{IsBeginning, Waits}
 use Rattle.nom_bytes.specs.Tags.{tag_meaning}
 use Rattle.nom_sequence.specs.Sequences.{preceded_meaning, terminated_meaning}
 use Rattle.nom_multi.specs.Many.{many0_meaning}
-use Rattle.nom_multi.specs.Lengths.{length_data_meaning}
+use Rattle.nom_lengths.specs.Lengths.{length_data_meaning}
 use Rattle.nom_traits.specs.Digits.{value_of}
 use Rattle.nom_number.specs.Numbers.{number_meaning}
 use Rattle.nom_records_run.specs.Texts.{decided_text, record_text, rest_text, error_text, failure_text, need_text}

@@ -7,7 +7,7 @@ use Rattle.nom_internal.specs.Meaning.{Meaning, IsLawful, IsSteady}
 use Rattle.nom_internal.specs.Families.{IsLawfulFamily, IsOne, of_value, of_value_lawful, of_value_steady}
 use Rattle.nom_internal.specs.SequenceLaws.{then_lawful, then_steady}
 use Rattle.nom_bytes.specs.TakeLaws.{take_lawful, take_steady}
-use Rattle.nom_multi.specs.Lengths.{takes_by_count, length_data_meaning}
+use Rattle.nom_lengths.specs.Lengths.{takes_by_count, length_data_meaning}
 
 module _ {I A P E : Type 0} (w : Seen I A) (l : InputLaws w) (errs : Errors I E) (lack : ℕ → List A → Option ℕ) (IsLength : P → ℕ → Type 0) (a : Meaning I P E) (one : IsOne IsLength) where
   pub length_data_lawful : IsLawful w a → IsLawful w (length_data_meaning w errs lack IsLength a)

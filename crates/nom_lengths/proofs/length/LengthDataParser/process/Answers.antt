@@ -1,5 +1,5 @@
-use Rattle.nom_multi.proofs.LengthShown.{length_err, length_ok}
-use Rattle.nom_multi.proofs.length.LengthDataParser.process.Goals as goal
+use Rattle.nom_lengths.proofs.LengthShown.{length_err, length_ok}
+use Rattle.nom_lengths.proofs.length.LengthDataParser.process.Goals as goal
 
 pub returns-in_err-rest-clause-shown : goal.returns-in_err-rest-clause-shown
 returns-in_err-rest-clause-shown g c =

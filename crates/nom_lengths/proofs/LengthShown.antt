@@ -14,7 +14,7 @@ use Rattle.nom_internal.specs.Meaning.{Meaning, ShowsMeaning}
 use Rattle.nom_internal.proofs.Shown.{then_err, then_ok, built_error}
 use Rattle.nom_bytes.specs.Takes.{take_meaning}
 use Rattle.nom_internal.specs.Families.{OfValue}
-use Rattle.nom_multi.specs.Lengths.{length_data_meaning}
+use Rattle.nom_lengths.specs.Lengths.{length_data_meaning}
 
 -- what is shown by the number that a length stands for
 module _ {I A V O E : Type 0} (w : Seen I A) (IsOutput : V → O → Type 0) (mode : Modes) (i : I) (IsLength : ℕ → Type 0) (n : ℕ) (h : IsLength n) where

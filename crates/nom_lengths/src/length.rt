@@ -1,7 +1,7 @@
 //! Data behind a length.
 ghost use Rattle.std.specs.Prelude.{◌≡◌};
 ghost use Rattle.nom_traits.specs.Slices.{Slice, IsSeenAs};
-ghost use Rattle.nom_multi.specs.Lengths.{length_data_meaning};
+ghost use Rattle.nom_lengths.specs.Lengths.{length_data_meaning};
 
 use nom_bytes::take;
 use nom_error::answer::PResult;
@@ -17,7 +17,7 @@ pub struct LengthData<F> {
 }
 
 impl<I: Input, F: Parser<I, Output = u8> + Drop> Parser<I> for LengthData<F> {
-    ghost use Rattle.nom_multi.specs.LengthLaws.{length_data_lawful};
+    ghost use Rattle.nom_lengths.specs.LengthLaws.{length_data_lawful};
 
     type Output = I;
 
@@ -55,7 +55,7 @@ impl<I: Input, F: Parser<I, Output = u8> + Drop> Parser<I> for LengthData<F> {
 
 impl<I: Input, F: StreamParser<I, Output = u8> + Drop> StreamParser<I> for LengthData<F> {
     ghost use Rattle.nom_internal.specs.Pinned.{slice_pinned};
-    ghost use Rattle.nom_multi.specs.LengthLaws.{length_data_steady};
+    ghost use Rattle.nom_lengths.specs.LengthLaws.{length_data_steady};
 
     ghost pinned = { λ s k p t a b x y. slice_pinned I.seen I.view I.views t.1 a b x y };
 
