@@ -1,4 +1,3 @@
-pub mod Lists
 pub mod Many
 pub mod ManyLaws
 pub mod Promises
