@@ -4,10 +4,13 @@
 ghost use Rattle.std.specs.Prelude.{◌≡◌};
 
 mod count;
+mod cut;
 mod length;
+mod value;
 
 pub use crate::count::LengthCount;
 pub use crate::length::LengthData;
+pub use crate::value::LengthValue;
 use std::alloc::Allocator;
 
 /// A length, as `parser` reads it, and behind it so many items: bytes of a byte slice, characters of a
@@ -30,7 +33,11 @@ pub fn length_data<F>(parser: F) -> LengthData<F>
 /// ahead: the list grows by the items that are accepted, and where it can't, the answer is
 /// `OutOfMemory`.
 #[inline(always)]
-pub fn length_count<A: Allocator + Copy, F, G>(alloc: A, length: F, parser: G) -> LengthCount<A, F, G>
+pub fn length_count<A: Allocator + Copy, F, G>(
+    alloc: A,
+    length: F,
+    parser: G,
+) -> LengthCount<A, F, G>
     ensures alloc { result.alloc ≡ alloc }
     ensures length { result.length ≡ length }
     ensures parser { result.parser ≡ parser }
@@ -40,4 +47,19 @@ pub fn length_count<A: Allocator + Copy, F, G>(alloc: A, length: F, parser: G) -
         length,
         parser,
     }
+}
+
+/// A length, as `length` reads it, and `parser` on exactly so much of the input behind it. The length is
+/// in the units of `input_len`: bytes, of a byte slice and of a text. The output is that of `parser`,
+/// whatever it leaves of those bytes, and the rest stands behind them.
+///
+/// Where there are fewer, more is needed, in both modes. Where the length ends inside a character, it is
+/// refused with `LengthValue` at the place behind the length. `parser` runs in the mode that is asked
+/// for; where it wants more than there is for it, it is refused with `Complete`.
+#[inline(always)]
+pub fn length_value<F, G>(length: F, parser: G) -> LengthValue<F, G>
+    ensures length { result.length ≡ length }
+    ensures parser { result.parser ≡ parser }
+{
+    LengthValue { length, parser }
 }
