@@ -1,6 +1,13 @@
-//! Repetition, and data behind a length.
+//! Repetition, folds, and what stands behind a length.
 
+pub use nom_folds::{
+    Fold, FoldMany0, FoldMany1, FoldManyMN, Many, Many0Count, Many1Count, fold, fold_many_m_n,
+    fold_many0, fold_many1, many, many0_count, many1_count,
+};
+pub use nom_lengths::{
+    LengthCount, LengthData, LengthValue, length_count, length_data, length_value,
+};
 pub use nom_multi::{
-    Count, LengthData, Many0, Many1, ManyMN, ManyTill, SeparatedList0, SeparatedList1, count,
-    length_data, many_m_n, many_till, many0, many1, separated_list0, separated_list1,
+    Count, Many0, Many1, ManyMN, ManyTill, SeparatedList0, SeparatedList1, count, many_m_n,
+    many_till, many0, many1, separated_list0, separated_list1,
 };

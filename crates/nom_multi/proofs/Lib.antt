@@ -1,4 +1,3 @@
-pub mod LengthShown
 pub mod Promised
 pub mod SeparatedShown
 pub mod TillShown

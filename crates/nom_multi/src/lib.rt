@@ -1,34 +1,20 @@
-//! Repetition: lists of items, and data behind a length.
+//! Repetition: lists of items.
 #![tactic(auto)]
 
 ghost use Rattle.std.specs.Prelude.{◌≡◌};
 
 mod bounded;
-mod length;
 mod many;
 pub mod promises;
 mod separated;
 mod till;
 
 pub use crate::bounded::{Count, ManyMN};
-pub use crate::length::LengthData;
 pub use crate::many::{Many0, Many1};
 pub use crate::separated::{SeparatedList0, SeparatedList1};
 pub use crate::till::ManyTill;
 use nom_sequence::preceded;
 use std::alloc::Allocator;
-
-/// A length, as `parser` reads it, and behind it so many items: bytes of a byte slice, characters of a
-/// text. Its output is those items.
-///
-/// Where there are fewer, streaming asks for the rest, and complete refuses with `Eof` behind the
-/// length, as `take` does.
-#[inline(always)]
-pub fn length_data<F>(parser: F) -> LengthData<F>
-    ensures { result.parser ≡ parser }
-{
-    LengthData { parser }
-}
 
 /// Items until one is refused: a list of their outputs, which takes its memory from `alloc`.
 ///

@@ -20,8 +20,8 @@ use Rattle.nom_traits.specs.CompareTags.{bytes_comparing}
 use Rattle.nom_bytes.specs.Takes.{take_meaning}
 use Rattle.nom_bytes.specs.TakeLaws.{take_lawful}
 use Rattle.nom_bytes.specs.TagLaws.{tag_lawful}
-use Rattle.nom_multi.specs.Lengths.{length_data_meaning}
-use Rattle.nom_multi.specs.LengthLaws.{length_data_lawful}
+use Rattle.nom_lengths.specs.Lengths.{HasSize, length_data_meaning}
+use Rattle.nom_lengths.specs.LengthLaws.{length_data_lawful}
 use Rattle.nom_multi.specs.Many.{many0_meaning}
 use Rattle.nom_multi.specs.ManyLaws.{many0_lawful}
 use Rattle.nom_traits.specs.Digits.{value_of}
@@ -106,8 +106,8 @@ contents_are (t ∷ ts) (o ∷ os) h = ap (λ x. x ∷ map (λ r. r.now) os) (h.
 grammar_lawful : (tag end : List ℕ) → IsLawful seen_bytes (grammar_of tag end)
 grammar_lawful tag end =
     let number = labelled_lawful seen_bytes (take_meaning seen_bytes errors_at (bytes_lack seen_bytes) 1) (λ t. value_of 256 t.items) (take_lawful seen_bytes errors_at (bytes_lack seen_bytes) 1) in
-    let length_data = length_data_lawful seen_bytes bytes_lawful errors_at bytes_lacking (λ t v. v ≡ t) (number_meaning seen_bytes errors_at (value_of 256) 1) (λ u m n a b. a ∙ sym b) number in
-    let item = sequence_lawful seen_bytes bytes_lawful (λ u v. v) (with_outputs false) (λ o. o) (tag_of tag) (length_data_meaning seen_bytes errors_at bytes_lacking (λ t v. v ≡ t) (number_meaning seen_bytes errors_at (value_of 256) 1)) (tag_lawful seen_bytes bytes_lawful errors_at length ComparesBytes bytes_comparing tag) length_data in
+    let length_data = length_data_lawful seen_bytes bytes_lawful errors_at bytes_lacking (HasSize (λ t v. v ≡ t) (λ n. n)) (number_meaning seen_bytes errors_at (value_of 256) 1) (λ u m n a b. sym a.size_is ∙ (a.is_output ∙ (sym b.is_output ∙ b.size_is))) number in
+    let item = sequence_lawful seen_bytes bytes_lawful (λ u v. v) (with_outputs false) (λ o. o) (tag_of tag) (length_data_meaning seen_bytes errors_at bytes_lacking (HasSize (λ t v. v ≡ t) (λ n. n)) (number_meaning seen_bytes errors_at (value_of 256) 1)) (tag_lawful seen_bytes bytes_lawful errors_at length ComparesBytes bytes_comparing tag) length_data in
     sequence_lawful seen_bytes bytes_lawful (λ u v. u) (λ o. o) (with_outputs false) (many0_meaning seen_bytes errors_at (record_of tag)) (tag_of end) (many0_lawful seen_bytes bytes_lawful errors_at (record_of tag) item) (tag_lawful seen_bytes bytes_lawful errors_at length ComparesBytes bytes_comparing end)
 
 grammar_never_fails : (large : Bool) (i : Bytes) → seen_bytes.IsKnown i → record_grammar.answers true i (failure large) → ⊥

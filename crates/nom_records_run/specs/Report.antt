@@ -19,7 +19,7 @@ use Rattle.nom_internal.specs.Growing.{IsBeginning, Waits}
 use Rattle.nom_bytes.specs.Tags.{tag_meaning}
 use Rattle.nom_sequence.specs.Sequences.{preceded_meaning, terminated_meaning}
 use Rattle.nom_multi.specs.Many.{many0_meaning}
-use Rattle.nom_multi.specs.Lengths.{length_data_meaning}
+use Rattle.nom_lengths.specs.Lengths.{HasSize, length_data_meaning}
 use Rattle.nom_traits.specs.Digits.{value_of}
 use Rattle.nom_number.specs.Numbers.{number_meaning}
 use Rattle.nom_records_run.specs.Texts.{decided_text, record_text, rest_text, error_text, failure_text, need_text}
@@ -84,7 +84,7 @@ tag_of = tag_meaning seen_bytes errors_at length ComparesBytes
 
 -- a record: a tag, a byte that says how many bytes follow, and these
 abbrev pub record_of : List ℕ → Meaning (Bor (List ℕ)) (ℕ × Slice seen_bytes) (Error (Bor (List ℕ)))
-record_of tag = preceded_meaning seen_bytes (tag_of tag) (length_data_meaning seen_bytes errors_at bytes_lacking (λ t v. v ≡ t) (number_meaning seen_bytes errors_at (value_of 256) 1))
+record_of tag = preceded_meaning seen_bytes (tag_of tag) (length_data_meaning seen_bytes errors_at bytes_lacking (HasSize (λ t v. v ≡ t) (λ n. n)) (number_meaning seen_bytes errors_at (value_of 256) 1))
 
 -- records, and then another tag
 abbrev pub grammar_of : (tag end : List ℕ) → Meaning (Bor (List ℕ)) (List (ℕ × Slice seen_bytes)) (Error (Bor (List ℕ)))

@@ -5,3 +5,4 @@ pub mod ItemsLaws
 pub mod Kept
 pub mod Repeat
 pub mod RepeatLaws
+pub mod Lists

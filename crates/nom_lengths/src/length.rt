@@ -1,13 +1,13 @@
 //! Data behind a length.
-ghost use Rattle.std.specs.Prelude.{◌≡◌};
 ghost use Rattle.nom_traits.specs.Slices.{Slice, IsSeenAs};
-ghost use Rattle.nom_multi.specs.Lengths.{length_data_meaning};
+ghost use Rattle.nom_lengths.specs.Lengths.{HasSize, length_data_meaning};
 
 use nom_bytes::take;
 use nom_error::answer::PResult;
 use nom_error::mode::{Emit, OutputM, OutputMode};
 use nom_error::value::ParseError;
 use nom_internal::parser::{Parser, StreamParser};
+use nom_traits::convert::ToUsize;
 use nom_traits::input::{Input, Items};
 
 /// A length and so many items behind it, made by `length_data`.
@@ -16,8 +16,8 @@ pub struct LengthData<F> {
     pub parser: F,
 }
 
-impl<I: Input, F: Parser<I, Output = u8> + Drop> Parser<I> for LengthData<F> {
-    ghost use Rattle.nom_multi.specs.LengthLaws.{length_data_lawful};
+impl<I: Input, F: Parser<I, Output: ToUsize> + Drop> Parser<I> for LengthData<F> {
+    ghost use Rattle.nom_lengths.specs.LengthLaws.{length_data_lawful};
 
     type Output = I;
 
@@ -32,7 +32,7 @@ impl<I: Input, F: Parser<I, Output = u8> + Drop> Parser<I> for LengthData<F> {
 
     ghost IsOutput = { λ s t o. IsSeenAs I.seen t.1 o };
 
-    ghost meaning = { λ s. length_data_meaning I.seen F.Error.errors I.lack (F.IsOutput s) (F.meaning s) };
+    ghost meaning = { λ s. length_data_meaning I.seen F.Error.errors I.lack (HasSize (F.IsOutput s) F.Output.size) (F.meaning s) };
 
     ghost Pins = { λ _. Unit {0} };
 
@@ -43,21 +43,21 @@ impl<I: Input, F: Parser<I, Output = u8> + Drop> Parser<I> for LengthData<F> {
             .process::<OutputM<Emit, OM::Error, OM::Incomplete>>(input)?;
         match length {
             Some(length) => {
-                let mut data = take::<usize, I, F::Error>(length as usize);
+                let mut data = take::<F::Output, I, F::Error>(length);
                 data.process::<OM>(rest)
             }
             None => unreachable!(),
         }
     }
 
-    ghost lawful = { λ s k. length_data_lawful I.seen I.lawful F.Error.errors I.lack (F.IsOutput s) (F.meaning s) k.1.1 (F.lawful s k.0) };
+    ghost lawful = { λ s k. length_data_lawful I.seen I.lawful F.Error.errors I.lack (HasSize (F.IsOutput s) F.Output.size) (F.meaning s) k.1.1 (F.lawful s k.0) };
 }
 
-impl<I: Input, F: StreamParser<I, Output = u8> + Drop> StreamParser<I> for LengthData<F> {
+impl<I: Input, F: StreamParser<I, Output: ToUsize> + Drop> StreamParser<I> for LengthData<F> {
     ghost use Rattle.nom_internal.specs.Pinned.{slice_pinned};
-    ghost use Rattle.nom_multi.specs.LengthLaws.{length_data_steady};
+    ghost use Rattle.nom_lengths.specs.LengthLaws.{length_data_steady};
 
     ghost pinned = { λ s k p t a b x y. slice_pinned I.seen I.view I.views t.1 a b x y };
 
-    ghost steady = { λ s k. length_data_steady I.seen I.lawful F.Error.errors I.lack (F.IsOutput s) (F.meaning s) k.1.1 (F.steady s k.0) };
+    ghost steady = { λ s k. length_data_steady I.seen I.lawful F.Error.errors I.lack (HasSize (F.IsOutput s) F.Output.size) (F.meaning s) k.1.1 (F.steady s k.0) };
 }

@@ -1,0 +1,5 @@
+//! Tests of what stands behind a length.
+#![tactic(auto)]
+
+#[cfg(test)]
+mod tests;

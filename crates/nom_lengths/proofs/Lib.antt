@@ -1,0 +1,3 @@
+pub mod LengthShown
+pub mod Reached
+pub mod ValueShown
