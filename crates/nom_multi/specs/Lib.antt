@@ -1,6 +1,5 @@
 pub mod Bounded
 pub mod BoundedLaws
-pub mod Lists
 pub mod Many
 pub mod ManyLaws
 pub mod Promises

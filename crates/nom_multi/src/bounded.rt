@@ -58,7 +58,7 @@ impl<I: Input, A: Allocator + Copy, F: Parser<I> + Drop> Parser<I> for Count<A, 
 }
 
 impl<I: Input, A: Allocator + Copy, F: StreamParser<I> + Drop> StreamParser<I> for Count<A, F> {
-    ghost use Rattle.nom_multi.specs.Lists.{list_pinned};
+    ghost use Rattle.nom_repeat.specs.Lists.{list_pinned};
     ghost use Rattle.nom_multi.specs.BoundedLaws.{count_steady};
 
     ghost pinned = { λ s k p. list_pinned F.Output.view (F.IsOutput s.1) (F.pinned s.1 k p) };
@@ -114,7 +114,7 @@ impl<I: Input, A: Allocator + Copy, F: Parser<I> + Drop> Parser<I> for ManyMN<A,
 }
 
 impl<I: Input, A: Allocator + Copy, F: StreamParser<I> + Drop> StreamParser<I> for ManyMN<A, F> {
-    ghost use Rattle.nom_multi.specs.Lists.{list_pinned};
+    ghost use Rattle.nom_repeat.specs.Lists.{list_pinned};
     ghost use Rattle.nom_multi.specs.BoundedLaws.{many_m_n_steady};
 
     ghost pinned = { λ s k p. list_pinned F.Output.view (F.IsOutput s.2) (F.pinned s.2 k p) };

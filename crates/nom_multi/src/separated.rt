@@ -83,7 +83,7 @@ impl<
     F: StreamParser<I> + Drop,
     G: StreamParser<I, Error = F::Error> + Drop,
 > StreamParser<I> for SeparatedList1<A, G, F> {
-    ghost use Rattle.nom_multi.specs.Lists.{list_pinned};
+    ghost use Rattle.nom_repeat.specs.Lists.{list_pinned};
     ghost use Rattle.nom_multi.specs.SeparatedLaws.{separated1_steady};
 
     ghost pinned = { λ s k p. list_pinned F.Output.view (F.IsOutput s.1) (F.pinned s.1 k.0 p) };
@@ -163,7 +163,7 @@ impl<
     F: StreamParser<I> + Drop,
     G: StreamParser<I, Error = F::Error> + Drop,
 > StreamParser<I> for SeparatedList0<A, G, F> {
-    ghost use Rattle.nom_multi.specs.Lists.{list_pinned};
+    ghost use Rattle.nom_repeat.specs.Lists.{list_pinned};
     ghost use Rattle.nom_multi.specs.SeparatedLaws.{separated0_steady};
 
     ghost pinned = { λ s k p. list_pinned F.Output.view (F.IsOutput s.1) (F.pinned s.1 k.0 p) };

@@ -2,7 +2,7 @@
 ghost use Rattle.std.specs.Prelude.{◌≡◌, ◌↔◌, IsTrue, MatchResult};
 ghost use Rattle.nom_error.specs.Answers.{size_of};
 ghost use Rattle.nom_error.specs.Kinds.{number_of};
-ghost use Rattle.nom_vectors.specs.Answers.{AsksFor, IsRefusal};
+ghost use Rattle.nom_vectors.specs.Answers.{AsksFor, IsFailure, IsRefusal};
 
 use nom::error::{ErrorKind, error_to_u32};
 use nom::{AsBytes, Err, IResult, Needed};
@@ -31,6 +31,24 @@ pub fn refuses<I: AsBytes + Drop, O: Drop>(
         Err(Err::Error(error)) => error_to_u32(&error.code) == error_to_u32(&kind)
             && error.input.as_bytes() == place,
         Err(Err::Failure(_)) => false,
+        Err(Err::OutOfMemory) => false,
+    }
+}
+
+/// Whether it is a Failure of this kind at this rest of the input.
+pub fn fails<I: AsBytes + Drop, O: Drop>(
+    answer: IResult<I, O>,
+    kind: ErrorKind,
+    place: &[u8],
+) -> bool
+    ensures { IsTrue result ↔ MatchResult answer (λ _. ⊥) (IsFailure (λ e. (number_of e.code ≡ number_of kind) × (I.bytes e.input ≡ place.now))) }
+{
+    match answer {
+        Ok(_) => false,
+        Err(Err::Incomplete(_)) => false,
+        Err(Err::Error(_)) => false,
+        Err(Err::Failure(error)) => error_to_u32(&error.code) == error_to_u32(&kind)
+            && error.input.as_bytes() == place,
         Err(Err::OutOfMemory) => false,
     }
 }
