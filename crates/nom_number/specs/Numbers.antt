@@ -1,5 +1,5 @@
 -- Numbers that are written as items of an input.
-use Rattle.std.specs.Prelude.{ℕ, ◌-◌, ◌^◌, nat_lt, Bool, true, false, cond, List, reverse, Option, Some, None, suc, zero, ℤ, pos, ◌-ℤ◌}
+use Rattle.std.specs.Prelude.{ℕ, ◌-◌, ◌*◌, ◌^◌, nat_lt, Bool, true, false, cond, List, reverse, Option, Some, None, suc, zero, ℤ, pos, ◌-ℤ◌}
 use Rattle.nom_error.specs.Errors.{Errors}
 use Rattle.nom_traits.specs.Digits.{value_of}
 use Rattle.nom_traits.specs.Input.{Seen, span}
@@ -28,3 +28,10 @@ number_of false bytes = value_of 256 (reverse bytes)
 -- the signed number of so many bits: less 2^bits, where the highest of them is set
 abbrev pub signed_of : (bits : ℕ) → ℕ → ℤ
 signed_of bits n = cond (nat_lt n (2 ^ (bits - 1))) (pos n) (pos n -ℤ pos (2 ^ bits))
+
+-- a number of so many bytes
+abbrev pub unsigned_meaning : {I E : Type 0} → Seen I ℕ → Errors I E → (big : Bool) → ℕ → Meaning I ℕ E
+unsigned_meaning w errs big count = number_meaning w errs (number_of big) count
+
+abbrev pub signed_meaning : {I E : Type 0} → Seen I ℕ → Errors I E → (big : Bool) → ℕ → Meaning I ℤ E
+signed_meaning w errs big count = number_meaning w errs (λ bytes. signed_of (8 * count) (number_of big bytes)) count

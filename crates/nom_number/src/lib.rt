@@ -2,13 +2,19 @@
 #![tactic(auto)]
 
 ghost use Rattle.std.specs.Prelude.{◌≡◌, true, false};
+ghost use Rattle.nom_number.specs.Orders.{is_big};
 
 mod binary;
+pub mod complete;
 pub mod layout;
+mod order;
+pub mod streaming;
 mod wide;
 
 pub use crate::binary::BeU8;
+pub use crate::order::Endianness;
 pub use crate::wide::Binary;
+pub use nom_internal::fixed::Fixed;
 use std::marker::PhantomData;
 
 /// One byte, as a number.
@@ -258,4 +264,118 @@ pub fn le_i128<I, E>() -> Binary<layout::I128, I, E>
     ensures { result.big ≡ false }
 {
     in_order(false)
+}
+
+/// `be_u8`: one byte has no order.
+#[inline(always)]
+pub fn u8<I, E>() -> BeU8<I, E> {
+    be_u8()
+}
+
+/// `be_i8`: one byte has no order.
+#[inline(always)]
+pub fn i8<I, E>() -> Binary<layout::I8, I, E>
+    ensures { result.big ≡ true }
+{
+    be_i8()
+}
+
+/// A number of two bytes, in the order that is given.
+///
+/// Where there are fewer bytes, streaming asks for the rest, and complete refuses with `Eof`.
+#[inline(always)]
+pub fn u16<I, E>(endian: Endianness) -> Binary<layout::U16, I, E>
+    ensures { result.big ≡ is_big endian }
+{
+    in_order(endian.is_big())
+}
+
+/// A number of three bytes, in the order that is given.
+///
+/// Where there are fewer bytes, streaming asks for the rest, and complete refuses with `Eof`.
+#[inline(always)]
+pub fn u24<I, E>(endian: Endianness) -> Binary<layout::U24, I, E>
+    ensures { result.big ≡ is_big endian }
+{
+    in_order(endian.is_big())
+}
+
+/// A number of four bytes, in the order that is given.
+///
+/// Where there are fewer bytes, streaming asks for the rest, and complete refuses with `Eof`.
+#[inline(always)]
+pub fn u32<I, E>(endian: Endianness) -> Binary<layout::U32, I, E>
+    ensures { result.big ≡ is_big endian }
+{
+    in_order(endian.is_big())
+}
+
+/// A number of eight bytes, in the order that is given.
+///
+/// Where there are fewer bytes, streaming asks for the rest, and complete refuses with `Eof`.
+#[inline(always)]
+pub fn u64<I, E>(endian: Endianness) -> Binary<layout::U64, I, E>
+    ensures { result.big ≡ is_big endian }
+{
+    in_order(endian.is_big())
+}
+
+/// A number of sixteen bytes, in the order that is given.
+///
+/// Where there are fewer bytes, streaming asks for the rest, and complete refuses with `Eof`.
+#[inline(always)]
+pub fn u128<I, E>(endian: Endianness) -> Binary<layout::U128, I, E>
+    ensures { result.big ≡ is_big endian }
+{
+    in_order(endian.is_big())
+}
+
+/// A signed number of two bytes, in the order that is given.
+///
+/// Where there are fewer bytes, streaming asks for the rest, and complete refuses with `Eof`.
+#[inline(always)]
+pub fn i16<I, E>(endian: Endianness) -> Binary<layout::I16, I, E>
+    ensures { result.big ≡ is_big endian }
+{
+    in_order(endian.is_big())
+}
+
+/// A signed number of three bytes, in the order that is given.
+///
+/// Where there are fewer bytes, streaming asks for the rest, and complete refuses with `Eof`.
+#[inline(always)]
+pub fn i24<I, E>(endian: Endianness) -> Binary<layout::I24, I, E>
+    ensures { result.big ≡ is_big endian }
+{
+    in_order(endian.is_big())
+}
+
+/// A signed number of four bytes, in the order that is given.
+///
+/// Where there are fewer bytes, streaming asks for the rest, and complete refuses with `Eof`.
+#[inline(always)]
+pub fn i32<I, E>(endian: Endianness) -> Binary<layout::I32, I, E>
+    ensures { result.big ≡ is_big endian }
+{
+    in_order(endian.is_big())
+}
+
+/// A signed number of eight bytes, in the order that is given.
+///
+/// Where there are fewer bytes, streaming asks for the rest, and complete refuses with `Eof`.
+#[inline(always)]
+pub fn i64<I, E>(endian: Endianness) -> Binary<layout::I64, I, E>
+    ensures { result.big ≡ is_big endian }
+{
+    in_order(endian.is_big())
+}
+
+/// A signed number of sixteen bytes, in the order that is given.
+///
+/// Where there are fewer bytes, streaming asks for the rest, and complete refuses with `Eof`.
+#[inline(always)]
+pub fn i128<I, E>(endian: Endianness) -> Binary<layout::I128, I, E>
+    ensures { result.big ≡ is_big endian }
+{
+    in_order(endian.is_big())
 }
