@@ -1,9 +1,14 @@
 -- The first byte of an input, and the number that it writes.
-use Rattle.std.proofs.Common.{◌≡◌, ℕ, ◌<◌, ◌-◌, Bool, true, false, List, [], ◌∷◌, ◌++◌, length, Option, Some, None, refl, sym, ◌∙◌, ap, arith, length-append}
+use Rattle.std.proofs.Common.{◌≡◌, ℕ, ◌<◌, ◌-◌, Bool, true, false, suc, zero, List, [], ◌∷◌, ◌++◌, length, Option, Some, None, refl, sym, ◌∙◌, ap, arith, length-append}
 use Rattle.std.specs.Iterator.{AlwaysYields}
+use Rattle.nom_error.specs.Answers.{size_of}
+use Rattle.nom_error.specs.declared.answer.Needed.{Needed}
+use Rattle.nom_error.specs.declared.answer.Needed.TheVariants.{Unknown}
 use Rattle.nom_error.specs.Modes.{Built}
-use Rattle.nom_traits.specs.Input.{span}
+use Rattle.nom_traits.specs.Input.{Seen, span, IsFront, InputLaws}
+use Rattle.nom_traits.specs.Slices.{IsCount, front_seen, place_slice, place_first}
 use Rattle.nom_traits.specs.Digits.{value_of}
+use Rattle.nom_number.specs.Numbers.{lacking}
 
 -- what the first call of an iterator over some items gives
 first_given : {S : Type 0} (steps : S → Option ℕ → S → Type 0) (s t : S) (xs : List ℕ) (r : Option ℕ) → 0 < length xs → AlwaysYields steps (λ x. x) s xs → steps s r t → (b : ℕ) × (r ≡ Some b) × ((rest : List ℕ) × (xs ≡ b ∷ rest))
@@ -28,6 +33,15 @@ pub some_more : (xs front rest : List ℕ) → xs ≡ front ++ rest → length f
 some_more xs front rest e h = omega (arith, ap length e, length-append front rest, h)
 
 -- of one byte that isn't there all lacks
-pub lacks_one : {A : Type 0} (weight : A → ℕ) (xs : List A) → length xs < 1 → Some 1 ≡ Some (1 - span weight xs)
+pub lacks_one : {A : Type 0} (weight : A → ℕ) (xs : List A) → length xs < 1 → Some 1 ≡ lacking (1 - span weight xs)
 lacks_one weight [] h = refl
 lacks_one weight (x ∷ xs) h = absurd (omega (arith, h))
+
+-- a size of 0 is unknown
+pub lacking_is : (k : Needed) (n : ℕ) → (n ≡ 0 → k ≡ Unknown) → (0 < n → size_of k ≡ Some n) → size_of k ≡ lacking n
+lacking_is k zero a b = ap size_of (a refl)
+lacking_is k (suc n) a b = b (omega arith)
+
+-- what is taken of a count of items has so many
+pub taken_count : {I A : Type 0} (w : Seen I A) → InputLaws w → (i : I) (count n : ℕ) (v : I) → IsCount w i count n → IsFront w i n v → length (w.elements v) ≡ count
+taken_count w l i count n v c f = ap length (front_seen w l i n v (place_slice w i n c.place) f (place_first w i n c.place)).elements_are ∙ c.count_is

@@ -1,0 +1,323 @@
+//! Binary integers, where no more input may come.
+//!
+//! Where there are fewer bytes, each refuses with `Eof` at the start of the input.
+ghost use Rattle.std.specs.Prelude.{◌≡◌, true, false};
+ghost use Rattle.nom_internal.specs.Meaning.{ParsesMeaning};
+ghost use Rattle.nom_number.specs.Numbers.{number_meaning, number_of, unsigned_meaning, signed_meaning};
+ghost use Rattle.nom_number.specs.Orders.{is_big};
+
+use crate::layout;
+use crate::layout::Layout;
+use crate::order::Endianness;
+use crate::wide::Binary;
+use nom_error::answer::IResult;
+use nom_error::mode::Complete;
+use nom_error::value::ParseError;
+use nom_internal::fixed::Fixed;
+use nom_internal::one_mode::fixed;
+use nom_internal::parser::Parser;
+use nom_traits::input::Input;
+use std::marker::PhantomData;
+
+/// The number of a layout.
+#[inline(always)]
+fn of_layout<F: Layout, I: Input<Item = u8>, E: ParseError<I>>(
+    input: I,
+    big: bool,
+) -> IResult<I, F::Number, E>
+    ensures { ParsesMeaning I.seen (λ t v. v ≡ t) (number_meaning I.seen E.errors (λ bytes. F.of_bits (number_of big bytes)) F.BYTES) false input result }
+{
+    let mut parser = Binary::<F, I, E> {
+        big,
+        types: PhantomData,
+    };
+    parser.parse_complete(input)
+}
+
+/// A number of one byte.
+#[inline(always)]
+pub fn be_u8<I: Input<Item = u8>, E: ParseError<I>>(input: I) -> IResult<I, u8, E>
+    ensures { ParsesMeaning I.seen (λ t v. v ≡ t) (unsigned_meaning I.seen E.errors true 1) false input result }
+{
+    of_layout::<layout::U8, I, E>(input, true)
+}
+
+/// A number of two bytes, the highest first.
+#[inline(always)]
+pub fn be_u16<I: Input<Item = u8>, E: ParseError<I>>(input: I) -> IResult<I, u16, E>
+    ensures { ParsesMeaning I.seen (λ t v. v ≡ t) (unsigned_meaning I.seen E.errors true 2) false input result }
+{
+    of_layout::<layout::U16, I, E>(input, true)
+}
+
+/// A number of three bytes, the highest first.
+#[inline(always)]
+pub fn be_u24<I: Input<Item = u8>, E: ParseError<I>>(input: I) -> IResult<I, u32, E>
+    ensures { ParsesMeaning I.seen (λ t v. v ≡ t) (unsigned_meaning I.seen E.errors true 3) false input result }
+{
+    of_layout::<layout::U24, I, E>(input, true)
+}
+
+/// A number of four bytes, the highest first.
+#[inline(always)]
+pub fn be_u32<I: Input<Item = u8>, E: ParseError<I>>(input: I) -> IResult<I, u32, E>
+    ensures { ParsesMeaning I.seen (λ t v. v ≡ t) (unsigned_meaning I.seen E.errors true 4) false input result }
+{
+    of_layout::<layout::U32, I, E>(input, true)
+}
+
+/// A number of eight bytes, the highest first.
+#[inline(always)]
+pub fn be_u64<I: Input<Item = u8>, E: ParseError<I>>(input: I) -> IResult<I, u64, E>
+    ensures { ParsesMeaning I.seen (λ t v. v ≡ t) (unsigned_meaning I.seen E.errors true 8) false input result }
+{
+    of_layout::<layout::U64, I, E>(input, true)
+}
+
+/// A number of sixteen bytes, the highest first.
+#[inline(always)]
+pub fn be_u128<I: Input<Item = u8>, E: ParseError<I>>(input: I) -> IResult<I, u128, E>
+    ensures { ParsesMeaning I.seen (λ t v. v ≡ t) (unsigned_meaning I.seen E.errors true 16) false input result }
+{
+    of_layout::<layout::U128, I, E>(input, true)
+}
+
+/// A signed number of one byte.
+#[inline(always)]
+pub fn be_i8<I: Input<Item = u8>, E: ParseError<I>>(input: I) -> IResult<I, i8, E>
+    ensures { ParsesMeaning I.seen (λ t v. v ≡ t) (signed_meaning I.seen E.errors true 1) false input result }
+{
+    of_layout::<layout::I8, I, E>(input, true)
+}
+
+/// A signed number of two bytes, the highest first.
+#[inline(always)]
+pub fn be_i16<I: Input<Item = u8>, E: ParseError<I>>(input: I) -> IResult<I, i16, E>
+    ensures { ParsesMeaning I.seen (λ t v. v ≡ t) (signed_meaning I.seen E.errors true 2) false input result }
+{
+    of_layout::<layout::I16, I, E>(input, true)
+}
+
+/// A signed number of three bytes, the highest first.
+#[inline(always)]
+pub fn be_i24<I: Input<Item = u8>, E: ParseError<I>>(input: I) -> IResult<I, i32, E>
+    ensures { ParsesMeaning I.seen (λ t v. v ≡ t) (signed_meaning I.seen E.errors true 3) false input result }
+{
+    of_layout::<layout::I24, I, E>(input, true)
+}
+
+/// A signed number of four bytes, the highest first.
+#[inline(always)]
+pub fn be_i32<I: Input<Item = u8>, E: ParseError<I>>(input: I) -> IResult<I, i32, E>
+    ensures { ParsesMeaning I.seen (λ t v. v ≡ t) (signed_meaning I.seen E.errors true 4) false input result }
+{
+    of_layout::<layout::I32, I, E>(input, true)
+}
+
+/// A signed number of eight bytes, the highest first.
+#[inline(always)]
+pub fn be_i64<I: Input<Item = u8>, E: ParseError<I>>(input: I) -> IResult<I, i64, E>
+    ensures { ParsesMeaning I.seen (λ t v. v ≡ t) (signed_meaning I.seen E.errors true 8) false input result }
+{
+    of_layout::<layout::I64, I, E>(input, true)
+}
+
+/// A signed number of sixteen bytes, the highest first.
+#[inline(always)]
+pub fn be_i128<I: Input<Item = u8>, E: ParseError<I>>(input: I) -> IResult<I, i128, E>
+    ensures { ParsesMeaning I.seen (λ t v. v ≡ t) (signed_meaning I.seen E.errors true 16) false input result }
+{
+    of_layout::<layout::I128, I, E>(input, true)
+}
+
+/// A number of one byte.
+#[inline(always)]
+pub fn le_u8<I: Input<Item = u8>, E: ParseError<I>>(input: I) -> IResult<I, u8, E>
+    ensures { ParsesMeaning I.seen (λ t v. v ≡ t) (unsigned_meaning I.seen E.errors false 1) false input result }
+{
+    of_layout::<layout::U8, I, E>(input, false)
+}
+
+/// A number of two bytes, the lowest first.
+#[inline(always)]
+pub fn le_u16<I: Input<Item = u8>, E: ParseError<I>>(input: I) -> IResult<I, u16, E>
+    ensures { ParsesMeaning I.seen (λ t v. v ≡ t) (unsigned_meaning I.seen E.errors false 2) false input result }
+{
+    of_layout::<layout::U16, I, E>(input, false)
+}
+
+/// A number of three bytes, the lowest first.
+#[inline(always)]
+pub fn le_u24<I: Input<Item = u8>, E: ParseError<I>>(input: I) -> IResult<I, u32, E>
+    ensures { ParsesMeaning I.seen (λ t v. v ≡ t) (unsigned_meaning I.seen E.errors false 3) false input result }
+{
+    of_layout::<layout::U24, I, E>(input, false)
+}
+
+/// A number of four bytes, the lowest first.
+#[inline(always)]
+pub fn le_u32<I: Input<Item = u8>, E: ParseError<I>>(input: I) -> IResult<I, u32, E>
+    ensures { ParsesMeaning I.seen (λ t v. v ≡ t) (unsigned_meaning I.seen E.errors false 4) false input result }
+{
+    of_layout::<layout::U32, I, E>(input, false)
+}
+
+/// A number of eight bytes, the lowest first.
+#[inline(always)]
+pub fn le_u64<I: Input<Item = u8>, E: ParseError<I>>(input: I) -> IResult<I, u64, E>
+    ensures { ParsesMeaning I.seen (λ t v. v ≡ t) (unsigned_meaning I.seen E.errors false 8) false input result }
+{
+    of_layout::<layout::U64, I, E>(input, false)
+}
+
+/// A number of sixteen bytes, the lowest first.
+#[inline(always)]
+pub fn le_u128<I: Input<Item = u8>, E: ParseError<I>>(input: I) -> IResult<I, u128, E>
+    ensures { ParsesMeaning I.seen (λ t v. v ≡ t) (unsigned_meaning I.seen E.errors false 16) false input result }
+{
+    of_layout::<layout::U128, I, E>(input, false)
+}
+
+/// A signed number of one byte.
+#[inline(always)]
+pub fn le_i8<I: Input<Item = u8>, E: ParseError<I>>(input: I) -> IResult<I, i8, E>
+    ensures { ParsesMeaning I.seen (λ t v. v ≡ t) (signed_meaning I.seen E.errors false 1) false input result }
+{
+    of_layout::<layout::I8, I, E>(input, false)
+}
+
+/// A signed number of two bytes, the lowest first.
+#[inline(always)]
+pub fn le_i16<I: Input<Item = u8>, E: ParseError<I>>(input: I) -> IResult<I, i16, E>
+    ensures { ParsesMeaning I.seen (λ t v. v ≡ t) (signed_meaning I.seen E.errors false 2) false input result }
+{
+    of_layout::<layout::I16, I, E>(input, false)
+}
+
+/// A signed number of three bytes, the lowest first.
+#[inline(always)]
+pub fn le_i24<I: Input<Item = u8>, E: ParseError<I>>(input: I) -> IResult<I, i32, E>
+    ensures { ParsesMeaning I.seen (λ t v. v ≡ t) (signed_meaning I.seen E.errors false 3) false input result }
+{
+    of_layout::<layout::I24, I, E>(input, false)
+}
+
+/// A signed number of four bytes, the lowest first.
+#[inline(always)]
+pub fn le_i32<I: Input<Item = u8>, E: ParseError<I>>(input: I) -> IResult<I, i32, E>
+    ensures { ParsesMeaning I.seen (λ t v. v ≡ t) (signed_meaning I.seen E.errors false 4) false input result }
+{
+    of_layout::<layout::I32, I, E>(input, false)
+}
+
+/// A signed number of eight bytes, the lowest first.
+#[inline(always)]
+pub fn le_i64<I: Input<Item = u8>, E: ParseError<I>>(input: I) -> IResult<I, i64, E>
+    ensures { ParsesMeaning I.seen (λ t v. v ≡ t) (signed_meaning I.seen E.errors false 8) false input result }
+{
+    of_layout::<layout::I64, I, E>(input, false)
+}
+
+/// A signed number of sixteen bytes, the lowest first.
+#[inline(always)]
+pub fn le_i128<I: Input<Item = u8>, E: ParseError<I>>(input: I) -> IResult<I, i128, E>
+    ensures { ParsesMeaning I.seen (λ t v. v ≡ t) (signed_meaning I.seen E.errors false 16) false input result }
+{
+    of_layout::<layout::I128, I, E>(input, false)
+}
+
+/// `be_u8`: one byte has no order.
+#[inline(always)]
+pub fn u8<I: Input<Item = u8>, E: ParseError<I>>(input: I) -> IResult<I, u8, E>
+    ensures { ParsesMeaning I.seen (λ t v. v ≡ t) (unsigned_meaning I.seen E.errors true 1) false input result }
+{
+    of_layout::<layout::U8, I, E>(input, true)
+}
+
+/// `be_i8`: one byte has no order.
+#[inline(always)]
+pub fn i8<I: Input<Item = u8>, E: ParseError<I>>(input: I) -> IResult<I, i8, E>
+    ensures { ParsesMeaning I.seen (λ t v. v ≡ t) (signed_meaning I.seen E.errors true 1) false input result }
+{
+    of_layout::<layout::I8, I, E>(input, true)
+}
+
+/// A number of two bytes, in the order that is given.
+#[inline(always)]
+pub fn u16<I, E>(endian: Endianness) -> Fixed<Binary<layout::U16, I, E>, Complete>
+    ensures { result.parser.big ≡ is_big endian }
+{
+    fixed(crate::u16(endian))
+}
+
+/// A number of three bytes, in the order that is given.
+#[inline(always)]
+pub fn u24<I, E>(endian: Endianness) -> Fixed<Binary<layout::U24, I, E>, Complete>
+    ensures { result.parser.big ≡ is_big endian }
+{
+    fixed(crate::u24(endian))
+}
+
+/// A number of four bytes, in the order that is given.
+#[inline(always)]
+pub fn u32<I, E>(endian: Endianness) -> Fixed<Binary<layout::U32, I, E>, Complete>
+    ensures { result.parser.big ≡ is_big endian }
+{
+    fixed(crate::u32(endian))
+}
+
+/// A number of eight bytes, in the order that is given.
+#[inline(always)]
+pub fn u64<I, E>(endian: Endianness) -> Fixed<Binary<layout::U64, I, E>, Complete>
+    ensures { result.parser.big ≡ is_big endian }
+{
+    fixed(crate::u64(endian))
+}
+
+/// A number of sixteen bytes, in the order that is given.
+#[inline(always)]
+pub fn u128<I, E>(endian: Endianness) -> Fixed<Binary<layout::U128, I, E>, Complete>
+    ensures { result.parser.big ≡ is_big endian }
+{
+    fixed(crate::u128(endian))
+}
+
+/// A signed number of two bytes, in the order that is given.
+#[inline(always)]
+pub fn i16<I, E>(endian: Endianness) -> Fixed<Binary<layout::I16, I, E>, Complete>
+    ensures { result.parser.big ≡ is_big endian }
+{
+    fixed(crate::i16(endian))
+}
+
+/// A signed number of three bytes, in the order that is given.
+#[inline(always)]
+pub fn i24<I, E>(endian: Endianness) -> Fixed<Binary<layout::I24, I, E>, Complete>
+    ensures { result.parser.big ≡ is_big endian }
+{
+    fixed(crate::i24(endian))
+}
+
+/// A signed number of four bytes, in the order that is given.
+#[inline(always)]
+pub fn i32<I, E>(endian: Endianness) -> Fixed<Binary<layout::I32, I, E>, Complete>
+    ensures { result.parser.big ≡ is_big endian }
+{
+    fixed(crate::i32(endian))
+}
+
+/// A signed number of eight bytes, in the order that is given.
+#[inline(always)]
+pub fn i64<I, E>(endian: Endianness) -> Fixed<Binary<layout::I64, I, E>, Complete>
+    ensures { result.parser.big ≡ is_big endian }
+{
+    fixed(crate::i64(endian))
+}
+
+/// A signed number of sixteen bytes, in the order that is given.
+#[inline(always)]
+pub fn i128<I, E>(endian: Endianness) -> Fixed<Binary<layout::I128, I, E>, Complete>
+    ensures { result.parser.big ≡ is_big endian }
+{
+    fixed(crate::i128(endian))
+}

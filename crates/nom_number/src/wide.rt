@@ -1,0 +1,149 @@
+//! Binary integers of any width.
+ghost use Rattle.std.specs.Prelude.{◌≡◌, ◌<◌, ◌*◌, ◌^◌, ℕ, Bool, true, false, length};
+ghost use Rattle.std.proofs.Common.{sym, ◌∙◌, ap};
+ghost use Rattle.nom_error.specs.Modes.{Built};
+ghost use Rattle.nom_traits.specs.Slices.{Slice, IsFirst, IsCount};
+ghost use Rattle.nom_internal.specs.CaseLaws.{labelled_lawful, labelled_steady};
+ghost use Rattle.nom_bytes.specs.Takes.{take_meaning};
+ghost use Rattle.nom_bytes.specs.TakeLaws.{take_lawful, take_steady};
+ghost use Rattle.nom_number.specs.Numbers.{bytes_lack, number_meaning, number_of};
+
+use crate::layout::Layout;
+use nom_error::answer::{Err, Needed, PResult};
+use nom_error::kind::ErrorKind;
+use nom_error::mode::{IsStreaming, Mode, OutputMode};
+use nom_error::value::{ParseError, refusal};
+use nom_internal::parser::{Parser, StreamParser};
+use nom_traits::input::Input;
+use std::marker::PhantomData;
+
+/// A byte as a wide number.
+#[inline(always)]
+fn widened(byte: u8) -> u128
+    ensures value { result ≡ byte }
+    ensures range { byte < 256 }
+{
+    byte as u128
+}
+
+/// The number that the bytes of an input write, the highest first.
+#[inline(always)]
+fn big_number<I: Input<Item = u8>>(bytes: I) -> u128
+    requires { length (I.seen.elements bytes) < 17 }
+    ensures value { result ≡ number_of true (I.seen.elements bytes) }
+    ensures bits { result < 2 ^ (8 * length (I.seen.elements bytes)) }
+{
+    let mut value = 0u128;
+    for byte in bytes.iter_elements() {
+        let low = widened(byte);
+        value = 256 * value + low;
+    }
+    value
+}
+
+/// A byte at a place of a number, the lowest at 0.
+#[inline(always)]
+fn at_place(byte: u8, place: usize) -> u128
+    requires { place < 16 }
+    ensures value { result ≡ byte * 2 ^ (8 * place) }
+    ensures range { byte < 256 }
+{
+    widened(byte) << (8 * place)
+}
+
+/// The number that the bytes of an input write, the highest last.
+#[inline(always)]
+fn little_number<I: Input<Item = u8>>(bytes: I) -> u128
+    requires { length (I.seen.elements bytes) < 17 }
+    ensures value { result ≡ number_of false (I.seen.elements bytes) }
+    ensures bits { result < 2 ^ (8 * length (I.seen.elements bytes)) }
+{
+    let mut value = 0u128;
+    let mut place = 0;
+    for byte in bytes.iter_elements() {
+        value = value + at_place(byte, place);
+        place = place + 1;
+    }
+    value
+}
+
+/// The number that the bytes of an input write, the highest first or last.
+#[inline(always)]
+fn number<I: Input<Item = u8>>(bytes: I, big: bool) -> u128
+    requires { length (I.seen.elements bytes) < 17 }
+    ensures value { result ≡ number_of big (I.seen.elements bytes) }
+    ensures bits { result < 2 ^ (8 * length (I.seen.elements bytes)) }
+{
+    if big {
+        big_number(bytes)
+    } else {
+        little_number(bytes)
+    }
+}
+
+/// The number of the first bytes, of length `n`, where outputs are built.
+#[inline(always)]
+fn first_number<M: Mode, F: Layout, I: Input<Item = u8>>(
+    input: I,
+    n: usize,
+    big: bool,
+) -> Option<F::Number>
+    requires { IsCount I.seen input F.BYTES n }
+    ensures { (t : Slice I.seen) → IsFirst I.seen input n t → Built M.BUILDS (λ v. v ≡ F.of_bits (number_of big t.items)) result }
+{
+    if M::BUILDS {
+        Some(F::from_bits(number(input.take(n), big)))
+    } else {
+        None
+    }
+}
+
+/// A number that so many bytes write, in one order.
+#[derive(Drop)]
+pub struct Binary<F, I, E> {
+    /// Whether the highest byte is the first one.
+    pub big: bool,
+    /// The layout of the number, and the types of the input and of the error.
+    pub types: PhantomData<(F, I, E)>,
+}
+
+impl<F: Layout, I: Input<Item = u8>, E: ParseError<I>> Parser<I> for Binary<F, I, E> {
+    type Output = F::Number;
+
+    type Error = E;
+
+    ghost State = { Bool };
+
+    ghost state = { λ p. p.big };
+
+    ghost Tree = { F.Number };
+
+    ghost IsOutput = { λ _ t v. v ≡ t };
+
+    ghost meaning = { λ big. number_meaning I.seen E.errors (λ bytes. F.of_bits (number_of big bytes)) F.BYTES };
+
+    ghost Pins = { λ _. Unit {0} };
+
+    #[inline(always)]
+    fn process<OM: OutputMode>(&mut self, input: I) -> PResult<I, F::Number, E> {
+        match input.slice_index(F::BYTES) {
+            Ok(n) => Ok((
+                input.take_from(n),
+                first_number::<OM::Output, F, I>(input, n, self.big),
+            )),
+            Err(_) if OM::Incomplete::STREAMING => {
+                let lack = F::BYTES.saturating_sub(input.input_len());
+                Err(Err::Incomplete(Needed::new(lack)))
+            }
+            Err(_) => Err(refusal::<OM::Error, I, E>(input, ErrorKind::Eof)),
+        }
+    }
+
+    ghost lawful = { λ big k. labelled_lawful I.seen (take_meaning I.seen E.errors (bytes_lack I.seen) F.BYTES) (λ t. F.of_bits (number_of big t.items)) (take_lawful I.seen E.errors (bytes_lack I.seen) F.BYTES) };
+}
+
+impl<F: Layout, I: Input<Item = u8>, E: ParseError<I>> StreamParser<I> for Binary<F, I, E> {
+    ghost pinned = { λ _ k p t x y a b. ap (F.Number.view.value) (a ∙ sym b) };
+
+    ghost steady = { λ big k. labelled_steady I.seen (take_meaning I.seen E.errors (bytes_lack I.seen) F.BYTES) (λ t. F.of_bits (number_of big t.items)) (take_steady I.seen E.errors (bytes_lack I.seen) F.BYTES) };
+}

@@ -1,0 +1,5 @@
+//! Tests of binary integers.
+#![tactic(auto)]
+
+#[cfg(test)]
+mod tests;
