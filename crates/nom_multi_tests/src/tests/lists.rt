@@ -38,7 +38,12 @@ fn within_bounds(rt: HostRuntime) {
         (1, 2, &b"aaa"[..], accepts(&b"a"[..], 2)),
         (1, 2, &b"ab"[..], accepts(&b"b"[..], 1)),
         (2, 3, &b"ab"[..], refuses(ErrorKind::Tag, &b"b"[..])),
-        (3, 2, &b"aa"[..], [Told::Fails(ErrorKind::ManyMN, &b"aa"[..]); 4]),
+        (
+            3,
+            2,
+            &b"aa"[..],
+            [Told::Fails(ErrorKind::ManyMN, &b"aa"[..]); 4],
+        ),
     ] {
         let list = many_m_n(rt.alloc(), min, max, tag::<_, _, At>(&b"a"[..]));
         assert!(rt; in_modes(list, input) == answers, "at {input:?}");
