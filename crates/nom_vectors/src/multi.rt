@@ -38,8 +38,7 @@ fn is_none<T: Drop, A: Allocator>(answer: IResult<&str, Vec<T, A>>, left: &str) 
 /// Incomplete 3.
 pub fn row_4(alloc: Global) -> bool {
     let mut list = separated_list0(alloc, tag::<_, _, Fail>(","), tag::<_, _, Fail>("abc"));
-    is_twice(list.parse_complete("abc,abc,"), ",", "abc")
-        && needs(list.parse("abc,abc,"), Some(3))
+    is_twice(list.parse_complete("abc,abc,"), ",", "abc") && needs(list.parse("abc,abc,"), Some(3))
 }
 
 /// `many0(tag(""))` on `x`: Error Many0 at `x`.
@@ -54,7 +53,11 @@ pub fn row_13() -> bool {
     let one = map(char::<_, Fail>('1'), |_c: char| 1usize);
     let mut value = length_value(one, func(rest::<_, Fail>));
     refuses(value.parse("1é"), ErrorKind::LengthValue, "é".as_bytes())
-        && refuses(value.parse_complete("1é"), ErrorKind::LengthValue, "é".as_bytes())
+        && refuses(
+            value.parse_complete("1é"),
+            ErrorKind::LengthValue,
+            "é".as_bytes(),
+        )
 }
 
 /// `length_value(be_u8, take_while(alpha))` on a byte 2, `a`, `b`: streaming Error Complete at `ab`; complete
