@@ -6,4 +6,5 @@ mod converted;
 mod judged;
 mod modes;
 mod rows;
+mod sequences;
 mod verdicts;

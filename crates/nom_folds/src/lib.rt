@@ -16,7 +16,6 @@ pub use crate::dropped::Dropped;
 pub use crate::folds::{FoldMany0, FoldMany1, FoldManyMN};
 pub use crate::ranged::{Fold, Many};
 use std::alloc::Allocator;
-use std::marker::PhantomData;
 
 /// The number of items until one is refused.
 ///
@@ -120,7 +119,7 @@ pub fn many<A: Allocator + Copy, R, F, C>(alloc: A, range: R, parser: F) -> Many
         alloc,
         range,
         parser,
-        collection: PhantomData,
+        collection: [],
     }
 }
 

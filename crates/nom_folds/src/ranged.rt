@@ -22,7 +22,6 @@ use nom_repeat::keep::Keep;
 use nom_traits::input::{Input, Items};
 use nom_traits::view::Viewed;
 use std::alloc::Allocator;
-use std::marker::PhantomData;
 
 /// As many items as a range says, in a collection of type `C`; made by `many`.
 #[derive(Drop)]
@@ -30,7 +29,8 @@ pub struct Many<A, R, F, C> {
     pub alloc: A,
     pub range: R,
     pub parser: F,
-    pub collection: PhantomData<C>,
+    /// Nothing: it shows the type of the collection, with its lifetimes.
+    pub collection: [C; 0],
 }
 
 impl<

@@ -46,7 +46,7 @@ fn items_of_a_range(rt: HostRuntime) {
         (&b"aaaa"[..], Told::Accepts(&b"a"[..])),
         (&b"a;"[..], Told::Refuses(ErrorKind::Tag, &b";"[..])),
     ] {
-        let mut listed = many::<_, _, _, Vec<u8>>(rt.alloc(), 2..4, value(1u8, text(&b"a"[..])));
+        let mut listed = many::<_, _, _, Vec<&[u8]>>(rt.alloc(), 2..4, text(&b"a"[..]));
         match listed.parse_complete(input) {
             Ok((rest, list)) => {
                 assert!(rt; told == Told::Accepts(rest));

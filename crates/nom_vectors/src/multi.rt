@@ -4,7 +4,7 @@ use crate::answers::{accepts, fails, needs, refuses};
 use nom::branch::alt;
 use nom::bytes::{tag, take_while};
 use nom::character::char;
-use nom::combinator::{map, value};
+use nom::combinator::map;
 use nom::error::{Error, ErrorKind};
 use nom::multi::{
     fold_many_m_n, fold_many1, length_value, many, many_m_n, many0, many1, separated_list0,
@@ -70,13 +70,11 @@ pub fn row_14() -> bool {
         && accepts(value.parse_complete(&b"\x02ab"[..]), b"", b"ab")
 }
 
-// The items of `many` are numbers here: the toolchain's borrow checker doesn't cover a collection of slices as its
-// output yet.
 /// On `aa`: `many(..0, tag("a"))` leaves `aa`, with no items; `many(0..0, tag("a"))` is Failure Many and
 /// `many_m_n(3, 2, tag("a"))` Failure ManyMN; `fold_many_m_n(3, 2, ..)` is Error ManyMN; each at `aa`.
 pub fn row_16(alloc: Global) -> bool {
-    let mut none = many::<_, _, _, Vec<u8>>(alloc, ..0, value(1u8, tag::<_, _, Fail>("a")));
-    let mut empty = many::<_, _, _, Vec<u8>>(alloc, 0..0, value(1u8, tag::<_, _, Fail>("a")));
+    let mut none = many::<_, _, _, Vec<&str>>(alloc, ..0, tag::<_, _, Fail>("a"));
+    let mut empty = many::<_, _, _, Vec<&str>>(alloc, 0..0, tag::<_, _, Fail>("a"));
     let mut list = many_m_n(alloc, 3, 2, tag::<_, _, Fail>("a"));
     let mut count = fold_many_m_n(
         3,
