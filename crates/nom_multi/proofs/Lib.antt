@@ -1,3 +1,4 @@
+pub mod FillShown
 pub mod Promised
 pub mod SeparatedShown
 pub mod TillShown

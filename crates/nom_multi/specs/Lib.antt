@@ -1,5 +1,7 @@
 pub mod Bounded
 pub mod BoundedLaws
+pub mod Fill
+pub mod FillLaws
 pub mod Many
 pub mod ManyLaws
 pub mod Promises

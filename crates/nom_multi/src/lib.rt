@@ -4,12 +4,14 @@
 ghost use Rattle.std.specs.Prelude.{◌≡◌};
 
 mod bounded;
+mod buffer;
 mod many;
 pub mod promises;
 mod separated;
 mod till;
 
 pub use crate::bounded::{Count, ManyMN};
+pub use crate::buffer::{Fill, fill_buffer};
 pub use crate::many::{Many0, Many1};
 pub use crate::separated::{SeparatedList0, SeparatedList1};
 pub use crate::till::ManyTill;
@@ -138,4 +140,19 @@ pub fn many_till<A: Allocator + Copy, F, G>(alloc: A, parser: F, end: G) -> Many
     ensures end { result.end ≡ end }
 {
     ManyTill { alloc, parser, end }
+}
+
+/// Items in a buffer, as many as it is long: nothing is told of them beside the buffer, and no memory is
+/// taken.
+///
+/// A refusal of an item refuses all, with its error, to which `Count` is added at the start. Items may be
+/// empty. All else that an item answers is passed on. Where outputs are built, those of the items that were
+/// accepted stand at the front of the buffer afterwards, whatever is answered; what stood behind them stays,
+/// and so does the whole buffer where none are built.
+#[inline(always)]
+pub fn fill<'a, F, T>(parser: F, buffer: &'a mut [T]) -> Fill<'a, F, T>
+    ensures parser { result.parser ≡ parser }
+    ensures buffer { result.buffer ≡ buffer.entry }
+{
+    Fill { parser, buffer }
 }

@@ -1,5 +1,6 @@
 //! Rows of inputs and what nom answers at them, each row through one call of its parser.
 
+mod buffers;
 mod lists;
 mod memory;
 mod told;

@@ -1,0 +1,110 @@
+//! Items in a buffer.
+ghost use Rattle.std.specs.Prelude.{◌≡◌, ◌<◌, ℕ, List, length};
+ghost use Rattle.nom_error.specs.Modes.{Built, modes};
+ghost use Rattle.nom_internal.specs.Meaning.{ShowsMeaning};
+ghost use Rattle.nom_multi.specs.Fill.{fill_meaning, IsDone, IsFilled, IsPut};
+
+use nom_error::answer::{Err, PResult};
+use nom_error::kind::ErrorKind;
+use nom_error::mode::{Mode, OutputM, OutputMode};
+use nom_error::value::ParseError;
+use nom_internal::choice::close_error;
+use nom_internal::parser::{Parser, StreamParser};
+use nom_traits::input::{Input, Items};
+use nom_traits::view::Viewed;
+
+/// Items in a buffer, as many as it is long; made by `fill`.
+#[derive(Drop)]
+pub struct Fill<'a, F, T> {
+    pub parser: F,
+    pub buffer: &'a mut [T],
+}
+
+impl<'a, I: Input, T: Drop, F: Parser<I, Output = T> + Drop> Parser<I> for Fill<'a, F, T> {
+    ghost use Rattle.nom_multi.specs.FillLaws.{fill_lawful};
+
+    type Output = ();
+
+    type Error = F::Error;
+
+    ghost State = { F.State × ℕ };
+
+    ghost state = { λ p. (F.state p.parser, length p.buffer.now) };
+
+    ghost Tree = { List F.Tree };
+
+    ghost IsOutput = { λ _. IsDone };
+
+    ghost meaning = { λ s. fill_meaning I.seen F.Error.errors s.1 (F.meaning s.0) };
+
+    ghost Pins = { λ _. Unit {0} };
+
+    #[inline]
+    fn process<OM: OutputMode>(&mut self, input: I) -> PResult<I, (), F::Error> {
+        fill_buffer::<OM, I, T, F>(&mut self.parser, self.buffer, input)
+    }
+
+    ghost lawful = { λ s k. fill_lawful I.seen I.lawful F.Error.errors s.1 (F.meaning s.0) (F.lawful s.0 k) };
+}
+
+impl<'a, I: Input, T: Viewed + Drop, F: StreamParser<I, Output = T> + Drop> StreamParser<I>
+    for Fill<'a, F, T> {
+    ghost use Rattle.nom_multi.specs.FillLaws.{done_pinned, fill_steady};
+
+    ghost pinned = { λ s k p. done_pinned };
+
+    ghost steady = { λ s k. fill_steady I.seen I.lawful F.Error.errors s.1 (F.meaning s.0) (F.steady s.0 k) };
+}
+
+/// Runs a parser as often as a buffer is long, and writes its outputs at the front of the buffer, one
+/// behind the other, where outputs are built. What was written stays, whatever is answered.
+#[inline(always)]
+pub fn fill_buffer<OM: OutputMode, I: Input, T: Drop, F: Parser<I, Output = T>>(
+    parser: &mut F,
+    buffer: &mut [T],
+    input: I,
+) -> PResult<I, (), F::Error>
+    requires { (F.meaning (F.state parser.old)).IsSound }
+    ensures shown { ShowsMeaning I.seen IsDone (fill_meaning I.seen F.Error.errors (length buffer.old) (F.meaning (F.state parser.old))) (modes OM.Output.BUILDS OM.Error.BUILDS OM.Incomplete.STREAMING) input result }
+    ensures kept { F.state parser.new ≡ F.state parser.old }
+    ensures long { length buffer.new ≡ length buffer.old }
+    ensures filled { IsFilled I.seen (F.IsOutput (F.state parser.old)) (F.meaning (F.state parser.old)) (modes OM.Output.BUILDS OM.Error.BUILDS OM.Incomplete.STREAMING) input buffer.old buffer.new }
+{
+    input.known();
+    let mut rest = input;
+    let mut count = 0usize;
+    while count < buffer.len() {
+        match parser.process::<OutputM<OM::Output, OM::Error, OM::Incomplete>>(rest) {
+            Ok((next, item)) => {
+                put(buffer, count, item);
+                rest = next;
+                count += 1;
+            }
+            Err(Err::Error(error)) => return Err(close_error(error, input, ErrorKind::Count)),
+            Err(Err::Failure(error)) => return Err(Err::Failure(error)),
+            Err(Err::Incomplete(needed)) => return Err(Err::Incomplete(needed)),
+            Err(Err::OutOfMemory) => return Err(Err::OutOfMemory),
+        }
+    }
+    Ok((rest, done::<OM::Output>()))
+}
+
+/// Writes an item, where it is built.
+#[inline(always)]
+fn put<T: Drop>(buffer: &mut [T], place: usize, item: Option<T>)
+    requires { place < length buffer.old }
+    ensures { IsPut buffer.old place item buffer.new }
+{
+    match item {
+        Some(item) => buffer[place] = item,
+        None => {}
+    }
+}
+
+/// That all is done, where outputs are built.
+#[inline(always)]
+fn done<M: Mode>() -> Option<()>
+    ensures { Built M.BUILDS (λ _. Unit {0}) result }
+{
+    if M::BUILDS { Some(()) } else { None }
+}
