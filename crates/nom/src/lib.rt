@@ -23,9 +23,9 @@ pub use nom_error::mode::{
 pub use nom_internal::and_then::AndThen;
 pub use nom_internal::either::Or;
 pub use nom_internal::flat_map::FlatMap;
-pub use nom_internal::func::{Func, StreamFunc};
-pub use nom_internal::function::{func, stream_func};
-pub use nom_internal::growing::{Grown, parse_growing};
+pub use nom_func::func::{Func, StreamFunc};
+pub use nom_func::function::{func, stream_func};
+pub use nom_growing::growing::{Grown, parse_growing};
 pub use nom_internal::into::Into;
 pub use nom_internal::judged::{MapOpt, MapRes};
 pub use nom_internal::map::Map;

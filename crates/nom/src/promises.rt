@@ -1,6 +1,6 @@
 //! What every parser promises.
 
-pub use nom_internal::promises::{
+pub use nom_growing::promises::{
     accepts_fronts, answers_stay, has_no_failure, has_one_outcome, is_complete_too, never_runs_out,
     stays_on_longer,
 };

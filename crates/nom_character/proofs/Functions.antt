@@ -8,9 +8,9 @@ use Rattle.nom_traits.specs.Slices.{IsSeenAs}
 use Rattle.nom_traits.specs.View.{View, itself}
 use Rattle.nom_internal.specs.Outcome.{ParsesAnswer}
 use Rattle.nom_internal.specs.Leaf.{LeafLaws, LeafAnswers}
-use Rattle.nom_internal.specs.Func.{IsParser, IsStreamParser}
+use Rattle.nom_func.specs.Func.{IsParser, IsStreamParser}
 use Rattle.nom_internal.specs.Pinned.{slice_pinned, value_pinned}
-use Rattle.nom_internal.proofs.FuncSound.{leaf_func, leaf_stream_func}
+use Rattle.nom_func.proofs.FuncSound.{leaf_func, leaf_stream_func}
 use Rattle.nom_bytes.specs.ParsedRuns.{runs}
 use Rattle.nom_bytes.specs.RunLaws.{run_laws}
 use Rattle.nom_character.specs.ClassRuns.{IsOf}

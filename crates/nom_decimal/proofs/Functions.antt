@@ -7,9 +7,9 @@ use Rattle.nom_traits.specs.Input.{Seen}
 use Rattle.nom_traits.specs.View.{itself}
 use Rattle.nom_internal.specs.Outcome.{ParsesAnswer}
 use Rattle.nom_internal.specs.Leaf.{LeafAnswers}
-use Rattle.nom_internal.specs.Func.{IsParser, IsStreamParser}
+use Rattle.nom_func.specs.Func.{IsParser, IsStreamParser}
 use Rattle.nom_internal.specs.Pinned.{IsPinned, value_pinned}
-use Rattle.nom_internal.proofs.FuncSound.{leaf_func, leaf_stream_func}
+use Rattle.nom_func.proofs.FuncSound.{leaf_func, leaf_stream_func}
 use Rattle.nom_decimal.specs.Integers.{integers}
 use Rattle.nom_decimal.specs.IntegerLaws.{integer_laws, unsigned_range, signed_range}
 

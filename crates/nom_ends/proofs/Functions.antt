@@ -5,9 +5,9 @@ use Rattle.nom_traits.specs.Slices.{IsSeenAs}
 use Rattle.nom_traits.specs.View.{View, itself}
 use Rattle.nom_internal.specs.Outcome.{ParsesAnswer}
 use Rattle.nom_internal.specs.Leaf.{LeafAnswers}
-use Rattle.nom_internal.specs.Func.{IsParser}
+use Rattle.nom_func.specs.Func.{IsParser}
 use Rattle.nom_internal.specs.Pinned.{slice_pinned, value_pinned}
-use Rattle.nom_internal.proofs.FuncSound.{func_parses}
+use Rattle.nom_func.proofs.FuncSound.{func_parses}
 use Rattle.nom_ends.specs.Ends.{plain_leaf, IsEnd, IsAll, IsLength}
 use Rattle.nom_ends.specs.AllLaws.{end_laws, plain_lawful, rest_lawful, rest_len_lawful}
 

@@ -16,9 +16,9 @@ use Rattle.nom_traits.specs.View.{itself}
 use Rattle.nom_internal.specs.Outcome.{Outcome}
 use Rattle.nom_internal.specs.Outcome.Outcome.{Accept, Refuse, Fail, TooLarge, Undecided}
 use Rattle.nom_internal.specs.Sequence.{after, GoesOn, Then}
-use Rattle.nom_internal.specs.Func.{TellsItems, FuncOutcome, IsParser, FuncAnswers, FuncBlames}
-use Rattle.nom_internal.specs.Func.FuncBlames.{OfRefusal, OfFailure}
-use Rattle.nom_internal.proofs.FuncSound.{items_func}
+use Rattle.nom_func.specs.Func.{TellsItems, FuncOutcome, IsParser, FuncAnswers, FuncBlames}
+use Rattle.nom_func.specs.Func.FuncBlames.{OfRefusal, OfFailure}
+use Rattle.nom_func.proofs.FuncSound.{items_func}
 use Rattle.nom_examples.specs.Colors.{Text, are_digits, on_pair, pair_of, place_missing, IsFault as IsFaultAt, AnswersPair}
 
 abbrev Fault : Type 0

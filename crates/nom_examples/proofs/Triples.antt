@@ -16,7 +16,7 @@ use Rattle.nom_internal.specs.Outcome.ParsesAnswer.{ParseRanOut, Parsed}
 use Rattle.nom_internal.specs.Sequence.{Then, ThenBlames, ThenRunsOut}
 use Rattle.nom_internal.specs.Sequence.ThenBlames.{BlamesFirst, BlamesNext}
 use Rattle.nom_internal.specs.Sequence.ThenRunsOut.{RunsOutFirst, RunsOutNext}
-use Rattle.nom_internal.specs.Func.{FuncAnswers, FuncBlames, IsViewed}
+use Rattle.nom_func.specs.Func.{FuncAnswers, FuncBlames, IsViewed}
 use Rattle.nom_internal.specs.Tuples.{add_3, Outputs_3}
 use Rattle.nom_examples.specs.Colors.{Text, on_pair, parts_of, place_missing, AnswersPair}
 use Rattle.nom_examples.proofs.Pairs.{IsPair, IsMissed, IsPlain, Both, both, sequence_plain, pair_accepted, on_pair_at, on_pair_none, missing_at, missing_none, behind_pair, text_between, pair_place, pair_answered, pair_missed, pair_plain}

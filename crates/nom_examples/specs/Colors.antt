@@ -12,7 +12,7 @@ use Rattle.nom_error.specs.declared.value.Error.{Error}
 use Rattle.nom_traits.specs.Input.{IsRest}
 use Rattle.nom_traits.specs.Text.{seen_text}
 use Rattle.nom_traits.specs.View.{itself}
-use Rattle.nom_internal.specs.Func.{TellsItems}
+use Rattle.nom_func.specs.Func.{TellsItems}
 use Rattle.nom_internal.specs.Outcome.{Outcome}
 use Rattle.nom_internal.specs.Outcome.Outcome.{Accept, Refuse}
 use Rattle.nom_examples.specs.declared.hex.Color.{Color}

@@ -2,8 +2,8 @@
 ghost use Rattle.std.specs.Prelude.{◌≡◌, Ok, length};
 ghost use Rattle.nom_traits.specs.Bytes.{seen_bytes};
 ghost use Rattle.nom_traits.specs.View.{itself};
-ghost use Rattle.nom_internal.specs.Func.{TellsItems};
-ghost use Rattle.nom_internal.specs.Growing.{AreCuts};
+ghost use Rattle.nom_func.specs.Func.{TellsItems};
+ghost use Rattle.nom_growing.specs.Growing.{AreCuts};
 ghost use Rattle.nom_func_tests.specs.Firsts.{first_outcome};
 
 use nom::character::streaming;

@@ -4,7 +4,7 @@ ghost use Rattle.std.specs.Prelude as Std;
 ghost use Rattle.nom_error.specs.declared.answer.Err.TheVariants as Answer;
 ghost use Rattle.nom_traits.specs.Bytes.{seen_bytes};
 ghost use Rattle.nom_traits.specs.View.{itself};
-ghost use Rattle.nom_internal.specs.Func.{TellsItems};
+ghost use Rattle.nom_func.specs.Func.{TellsItems};
 ghost use Rattle.nom_func_tests.specs.Firsts.{small_outcome};
 
 use crate::growing::{first, grown_byte, grown_digits, measured};

@@ -3,9 +3,6 @@ pub mod Cased
 pub mod Choices
 pub mod Consumed
 pub mod Given
-pub mod FuncShown
-pub mod FuncSound
-pub mod Grown
 pub mod Judges
 pub mod Maps
 pub mod Shown

@@ -1,6 +1,5 @@
 pub mod Bounded
 pub mod BoundedLaws
-pub mod ByteCuts
 pub mod CaseLaws
 pub mod Cases
 pub mod Choice
@@ -10,9 +9,6 @@ pub mod Closures
 pub mod Families
 pub mod FlatMap
 pub mod FlatMapLaws
-pub mod Func
-pub mod FuncLaws
-pub mod Growing
 pub mod Judged
 pub mod JudgedLaws
 pub mod Leaf
@@ -22,13 +18,11 @@ pub mod Meaning
 pub mod Outcome
 pub mod PartLaws
 pub mod Pinned
-pub mod Promises
 pub mod Recognized
 pub mod RecognizedLaws
 pub mod Results
 pub mod Sequence
 pub mod SequenceLaws
 pub mod Success
-pub mod TextCuts
 pub mod TupleLaws
 pub mod Tuples

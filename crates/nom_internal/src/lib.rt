@@ -1,6 +1,6 @@
 //! Parsers: what they mean, their laws and promises, slices of their inputs, sequences of two, tuples,
-//! choices, closures on their outputs, parsers on what another one gives, parsers that closures give,
-//! functions as parsers, parsers in one mode, and inputs that grow.
+//! choices, closures on their outputs, parsers on what another one gives, parsers that closures give, and
+//! parsers in one mode.
 #![tactic(auto)]
 
 pub mod and_then;
@@ -9,15 +9,11 @@ pub mod choice;
 pub mod either;
 pub mod fixed;
 pub mod flat_map;
-pub mod func;
-pub mod function;
-pub mod growing;
 pub mod into;
 pub mod judged;
 pub mod map;
 pub mod one_mode;
 pub mod parser;
-pub mod promises;
 pub mod sequence;
 pub mod slices;
 pub mod tuple;

@@ -26,9 +26,9 @@ use Rattle.nom_multi.specs.Many.{many0_meaning}
 use Rattle.nom_multi.specs.ManyLaws.{many0_lawful}
 use Rattle.nom_traits.specs.Digits.{value_of}
 use Rattle.nom_number.specs.Numbers.{bytes_lack, number_meaning}
-use Rattle.nom_internal.specs.Growing.{IsBeginning, AnswersOn, IsGrown}
-use Rattle.nom_internal.specs.Growing.IsBeginning.{AtCut, AtEnd}
-use Rattle.nom_internal.specs.Growing.AnswersOn.{RanOutOn, ShownOn}
+use Rattle.nom_growing.specs.Growing.{IsBeginning, AnswersOn, IsGrown}
+use Rattle.nom_growing.specs.Growing.IsBeginning.{AtCut, AtEnd}
+use Rattle.nom_growing.specs.Growing.AnswersOn.{RanOutOn, ShownOn}
 use Rattle.nom_records_run.specs.Texts.{decided_text, rest_text, error_text, need_text}
 use Rattle.nom_records_run.specs.Report.{records_text, Says, IsTold, IsReportBy, IsReport, errors_at, bytes_lacking, tag_of, record_of, grammar_of, record_grammar, records_of}
 

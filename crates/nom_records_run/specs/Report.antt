@@ -15,7 +15,7 @@ use Rattle.nom_traits.specs.Slices.{Slice}
 use Rattle.nom_internal.specs.Outcome.{Outcome}
 use Rattle.nom_internal.specs.Outcome.Outcome.{Accept, Refuse, Fail, TooLarge, Undecided}
 use Rattle.nom_internal.specs.Meaning.{Meaning}
-use Rattle.nom_internal.specs.Growing.{IsBeginning, Waits}
+use Rattle.nom_growing.specs.Growing.{IsBeginning, Waits}
 use Rattle.nom_bytes.specs.Tags.{tag_meaning}
 use Rattle.nom_sequence.specs.Sequences.{preceded_meaning, terminated_meaning}
 use Rattle.nom_multi.specs.Many.{many0_meaning}

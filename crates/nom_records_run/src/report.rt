@@ -8,7 +8,7 @@ use crate::text::{add_decided, add_error, add_failure, add_need, add_record, add
 use nom_bytes::tag;
 use nom_error::answer::{Err, IResult, OutOfMemory};
 use nom_error::value::Error;
-use nom_internal::growing::parse_growing;
+use nom_growing::growing::parse_growing;
 use nom_lengths::length_data;
 use nom_multi::many0;
 use nom_number::be_u8;

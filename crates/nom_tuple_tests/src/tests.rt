@@ -6,7 +6,7 @@ use nom_error::answer::{Err, IResult, Needed, PResult};
 use nom_error::kind::ErrorKind;
 use nom_error::mode::{Check, Complete, Emit, OutputM, OutputMode, Streaming};
 use nom_error::value::Error;
-use nom_internal::growing::parse_growing;
+use nom_growing::growing::parse_growing;
 use nom_internal::parser::Parser;
 
 type Fail<'a> = Error<&'a [u8]>;

@@ -1,7 +1,7 @@
 //! Rows of characters and decimal integers.
 
 ghost use Rattle.nom_traits.specs.Text.{seen_text};
-ghost use Rattle.nom_internal.specs.Growing.{AreCuts};
+ghost use Rattle.nom_growing.specs.Growing.{AreCuts};
 
 use crate::answers::{needs, refuses};
 use nom::character::{char, one_of, streaming};

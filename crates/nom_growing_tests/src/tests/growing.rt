@@ -1,6 +1,6 @@
 //! Records that come in pieces.
 ghost use Rattle.nom_traits.specs.Bytes.{seen_bytes};
-ghost use Rattle.nom_internal.specs.Growing.{AreCuts};
+ghost use Rattle.nom_growing.specs.Growing.{AreCuts};
 
 use nom::bytes::{tag, take};
 use nom::error::{Error, ErrorKind};

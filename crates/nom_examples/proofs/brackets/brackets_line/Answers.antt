@@ -1,6 +1,6 @@
 use Rattle.std.specs.Prelude.{false}
 use Rattle.nom_internal.specs.Pinned.{value_pinned}
-use Rattle.nom_internal.proofs.FuncSound.{func_sound}
+use Rattle.nom_func.proofs.FuncSound.{func_sound}
 use Rattle.nom_examples.specs.Brackets.{brackets_lawful}
 use Rattle.nom_examples.proofs.brackets.brackets_line.Goals as goal
 

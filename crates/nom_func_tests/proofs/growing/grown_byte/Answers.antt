@@ -1,6 +1,6 @@
 use Rattle.std.proofs.Common.{[], ◌∷◌, ◌≡◌, List, ℕ, ◌++◌, refl}
 use Rattle.nom_internal.specs.Outcome.{IsDecided}
-use Rattle.nom_internal.proofs.FuncSound.{items_stream_func}
+use Rattle.nom_func.proofs.FuncSound.{items_stream_func}
 use Rattle.nom_func_tests.specs.Firsts.{first_outcome}
 use Rattle.nom_func_tests.proofs.growing.grown_byte.Goals as goal
 

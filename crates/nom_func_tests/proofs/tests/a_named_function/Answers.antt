@@ -1,4 +1,4 @@
-use Rattle.nom_internal.proofs.FuncSound.{items_func}
+use Rattle.nom_func.proofs.FuncSound.{items_func}
 use Rattle.nom_func_tests.specs.Firsts.{first_outcome}
 use Rattle.nom_func_tests.proofs.tests.a_named_function.Goals as goal
 

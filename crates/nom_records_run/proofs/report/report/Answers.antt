@@ -1,5 +1,5 @@
 use Rattle.std.proofs.Common.{◌∙◌, ap}
-use Rattle.nom_internal.specs.ByteCuts.{byte_cuts_below}
+use Rattle.nom_growing.specs.ByteCuts.{byte_cuts_below}
 use Rattle.nom_records_run.proofs.Reported.{on_ok, reported_records}
 use Rattle.nom_records_run.proofs.report.report.Goals as goal
 

@@ -1,7 +1,7 @@
 use Rattle.std.proofs.Common.{[], ◌∷◌, refl}
 use Rattle.std.specs.Prelude.{codes}
 use Rattle.std.specs.Str.{chars}
-use Rattle.nom_internal.specs.TextCuts.{text_cuts}
+use Rattle.nom_growing.specs.TextCuts.{text_cuts}
 use Rattle.nom_vectors.proofs.character.row_18.Goals as goal
 
 pub grows-requires : goal.grows-requires

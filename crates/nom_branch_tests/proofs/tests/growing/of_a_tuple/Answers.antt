@@ -1,5 +1,5 @@
 use Rattle.std.proofs.Common.{◌∷◌, [], lit≤}
-use Rattle.nom_internal.specs.ByteCuts.{byte_cuts}
+use Rattle.nom_growing.specs.ByteCuts.{byte_cuts}
 use Rattle.nom_branch_tests.proofs.tests.growing.of_a_tuple.Goals as goal
 
 pub parse_growing-grown-requires-clause-cuts : goal.parse_growing-grown-requires-clause-cuts

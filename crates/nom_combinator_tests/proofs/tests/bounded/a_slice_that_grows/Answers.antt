@@ -1,5 +1,5 @@
 use Rattle.std.proofs.Common.{[], ◌∷◌, lit≤}
-use Rattle.nom_internal.specs.ByteCuts.{byte_cuts}
+use Rattle.nom_growing.specs.ByteCuts.{byte_cuts}
 use Rattle.nom_combinator_tests.proofs.tests.bounded.a_slice_that_grows.Goals as goal
 
 pub parse_growing-grown-requires-clause-cuts : goal.parse_growing-grown-requires-clause-cuts

@@ -1,5 +1,5 @@
 use Rattle.std.proofs.Common.{[], ◌∷◌, lit≤}
-use Rattle.nom_internal.specs.ByteCuts.{byte_cuts}
+use Rattle.nom_growing.specs.ByteCuts.{byte_cuts}
 use Rattle.nom_growing_tests.proofs.tests.growing.a_list_that_grows.Goals as goal
 
 pub grown_list-grown-requires : goal.grown_list-grown-requires

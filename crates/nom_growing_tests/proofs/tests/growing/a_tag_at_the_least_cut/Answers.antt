@@ -1,5 +1,5 @@
 use Rattle.std.proofs.Common.{[], ◌∷◌, lit≤}
-use Rattle.nom_internal.specs.ByteCuts.{byte_cuts}
+use Rattle.nom_growing.specs.ByteCuts.{byte_cuts}
 use Rattle.nom_growing_tests.proofs.tests.growing.a_tag_at_the_least_cut.Goals as goal
 
 pub parse_growing-grown-requires-clause-cuts : goal.parse_growing-grown-requires-clause-cuts

@@ -1,5 +1,5 @@
 use Rattle.std.proofs.Common.{[], ◌∷◌, lit≤}
-use Rattle.nom_internal.specs.ByteCuts.{byte_cuts}
+use Rattle.nom_growing.specs.ByteCuts.{byte_cuts}
 use Rattle.nom_growing_tests.proofs.tests.growing.records_of_four_bytes.Goals as goal
 
 pub grown_record-grown-requires-2 : goal.grown_record-grown-requires-2

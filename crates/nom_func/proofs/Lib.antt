@@ -1,0 +1,2 @@
+pub mod FuncShown
+pub mod FuncSound

@@ -1,0 +1,81 @@
+-- The laws of functions as parsers.
+use Rattle.std.specs.Prelude.{◌≡◌, ℕ, Bool, true, false, ◌++◌, Result, Ok, Err}
+use Rattle.std.proofs.Common.{sym, ◌∙◌, ap, subst}
+use Rattle.nom_error.specs.declared.answer.Needed.{Needed}
+use Rattle.nom_error.specs.declared.answer.Err as Answer
+use Rattle.nom_error.specs.declared.answer.Err.TheVariants.{Incomplete, Error, Failure, OutOfMemory}
+use Rattle.nom_traits.specs.Input.{Seen, IsPlace, IsSame, Related}
+use Rattle.nom_traits.specs.Rests.{rest_place, same_then, same_sym}
+use Rattle.nom_traits.specs.View.{View}
+use Rattle.nom_internal.specs.Outcome.{Outcome, failure}
+use Rattle.nom_internal.specs.Outcome.Outcome.{Accept}
+use Rattle.nom_internal.specs.Meaning.{IsLawful, IsSteady, Agree}
+use Rattle.nom_func.specs.Func.{Tells, FuncOutcome, FuncAnswers, FuncNeverFails, IsParser, IsStreamParser, func_meaning}
+
+module _ {I A : Type 0} (w : Seen I A) where
+  -- inputs that are seen as related ones are related alike
+  related_alike : (longer : Bool) (x y u v : I) → IsSame w u x → IsSame w v y → Related w longer x y → Related w longer u v
+  related_alike true x y u v p q r = record {
+    more = r.more;
+    added = r.added;
+    whole = q.elements_are ∙ (r.whole ∙ ap (λ xs. xs ++ r.more) (sym p.elements_are));
+    mark_is = q.mark_is ∙ (r.mark_is ∙ sym p.mark_is);
+  }
+  related_alike false x y u v p q r = same_then w u x v p (same_then w x y v r (same_sym w v y q))
+
+  place_alike : (x y : I) (n : ℕ) → IsSame w x y → IsPlace w x n → IsPlace w y n
+  place_alike x y n r p = record { front = p.front; rest = p.rest; whole = sym r.elements_are ∙ p.whole; length_is = p.length_is }
+
+  module _ {O E : Type 0} (view : View O) where
+    accepts_within : (i : I) (r : Result (I × O) (Answer.Err E E Needed)) (n : ℕ) (t : view.Value) → Tells w view i r (Accept n t) → IsPlace w i n
+    accepts_within i (Ok (j, v)) n t h = let same : h.0 ≡ n = cc (h.2) in subst (IsPlace w i) same (rest_place w i h.0 j h.1)
+    accepts_within i (Err (Incomplete k)) n t h = cc
+    accepts_within i (Err (Error e)) n t h = cc
+    accepts_within i (Err (Failure e)) n t h = cc
+    accepts_within i (Err OutOfMemory) n t h = absurd h
+
+    never_too_large : (i : I) (r : Result (I × O) (Answer.Err E E Needed)) → Tells w view i r (failure true) → ⊥
+    never_too_large i (Ok (j, v)) h = cc (h.2)
+    never_too_large i (Err (Incomplete k)) h = cc
+    never_too_large i (Err (Error e)) h = cc
+    never_too_large i (Err (Failure e)) h = cc
+    never_too_large i (Err OutOfMemory) h = h
+
+    module _ (Gives : I → Result (I × O) (Answer.Err E E Needed) → Type 0) where
+      fails_by_error : (i : I) (r : Result (I × O) (Answer.Err E E Needed)) → ((e : E) → Gives i (Err (Failure e)) → ⊥) → Gives i r → Tells w view i r (failure false) → ⊥
+      fails_by_error i (Ok (j, v)) f g h = cc (h.2)
+      fails_by_error i (Err (Incomplete k)) f g h = cc
+      fails_by_error i (Err (Error e)) f g h = cc
+      fails_by_error i (Err (Failure e)) f g h = f e g
+      fails_by_error i (Err OutOfMemory) f g h = h
+
+      never_fails : (large : Bool) → FuncNeverFails w Gives large → (i : I) → FuncAnswers w view Gives i (failure large) → ⊥
+      never_fails true h i a = never_too_large a.at a.outcome.answer a.outcome.told
+      never_fails false h i a = fails_by_error a.at a.outcome.answer (λ e. h a.at e a.known) a.outcome.given a.outcome.told
+
+      -- what the function's outcomes at an input keep, those at inputs that are seen as it is keep
+      agrees_alike : (longer : Bool) → Agree w longer (FuncOutcome w view Gives) (FuncOutcome w view Gives) → Agree w longer (FuncAnswers w view Gives) (FuncAnswers w view Gives)
+      agrees_alike longer f x y o p kx ky r a k b = f a.at b.at o p a.known b.known (related_alike longer x y a.at b.at a.alike b.alike r) a.outcome k b.outcome
+
+      alike : (x y : I) (o : Outcome view.Value) → IsSame w x y → FuncAnswers w view Gives x o → FuncAnswers w view Gives y o
+      alike x y o r a = record { at = a.at; known = a.known; alike = same_then w a.at x y a.alike r; outcome = a.outcome }
+
+      lawful_under : (IsSound : Type 0) → Agree w false (FuncOutcome w view Gives) (FuncOutcome w view Gives) → IsLawful w (func_meaning w view Gives IsSound)
+      lawful_under IsSound one = record {
+        within = λ s i n t h a. place_alike a.at i n a.alike (accepts_within a.at a.outcome.answer n t a.outcome.told);
+        one_outcome = λ s. agrees_alike false one;
+        alike = λ s x y o kx ky r a k. alike x y o r a;
+        frugal = λ mode i h f g. f i h g;
+        settles = λ t x y o kx ky r a k. alike x y o r a;
+        blames_alike = λ t s i o e h a b d z. z;
+        never_fails = λ large h s i k a. never_fails large h i a;
+      }
+
+      pub func_lawful : (Takes : I → Type 0) → (let IsSound : Type 0 = IsParser w view Gives Takes in IsSound → IsLawful w (func_meaning w view Gives IsSound))
+      func_lawful Takes p = lawful_under (IsParser w view Gives Takes) p.one_outcome
+
+      pub stream_func_lawful : (Takes : I → Type 0) → (let IsSound : Type 0 = IsStreamParser w view Gives Takes in IsSound → IsLawful w (func_meaning w view Gives IsSound))
+      stream_func_lawful Takes p = lawful_under (IsStreamParser w view Gives Takes) p.parser.one_outcome
+
+      pub stream_func_steady : (Takes : I → Type 0) → (let IsSound : Type 0 = IsStreamParser w view Gives Takes in IsSound → IsSteady w (func_meaning w view Gives IsSound))
+      stream_func_steady Takes p = agrees_alike true p.stays

@@ -1,0 +1,2 @@
+pub mod Func
+pub mod FuncLaws

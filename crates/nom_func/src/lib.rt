@@ -1,0 +1,5 @@
+//! Functions and closures as parsers.
+#![tactic(auto)]
+
+pub mod func;
+pub mod function;

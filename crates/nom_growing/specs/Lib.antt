@@ -1,0 +1,4 @@
+pub mod ByteCuts
+pub mod Growing
+pub mod Promises
+pub mod TextCuts

@@ -1,0 +1,74 @@
+//! Inputs that grow.
+ghost use Rattle.std.specs.Prelude.{ℕ, MatchBool};
+ghost use Rattle.nom_traits.specs.Input.{IsRest, IsFront};
+ghost use Rattle.nom_growing.specs.Growing.{AreCuts, IsGrown, AgreesWithWhole};
+ghost use Rattle.nom_internal.specs.Results.{AsksForMore, HasRests, WithRest};
+
+use nom_error::answer::{Err, IResult};
+use nom_internal::parser::StreamParser;
+use nom_traits::input::Input;
+
+/// What a parser answers on an input that grows, and where.
+#[derive(Drop)]
+pub struct Grown<I, O, E> {
+    /// The index of the cut whose beginning was decided; the number of cuts stands for the whole.
+    pub index: usize,
+    /// The answer there, an acceptance with the rest of the whole input.
+    pub result: IResult<I, O, E>,
+}
+
+/// Whether an answer asks for more input.
+#[inline(always)]
+fn waits<I, O, E>(answer: &IResult<I, O, E>) -> bool
+    ensures { MatchBool result (AsksForMore answer.now) (AsksForMore answer.now → ⊥) }
+{
+    match answer {
+        Err(Err::Incomplete(_)) => true,
+        _ => false,
+    }
+}
+
+/// The answer on a beginning, with the rest of the whole.
+#[inline(always)]
+fn in_whole<I: Input, O: Drop, E: Drop>(
+    beginning: I,
+    whole: I,
+    answer: IResult<I, O, E>,
+) -> IResult<I, O, E>
+    requires begins { (cut : ℕ) × IsFront I.seen whole cut beginning }
+    requires rests { HasRests (λ j. (n : ℕ) × IsRest I.seen beginning n j) answer }
+    ensures { WithRest (IsRest I.seen beginning) (IsRest I.seen whole) answer result }
+{
+    let (rest, output) = answer?;
+    let n = beginning.input_len() - rest.input_len();
+    Ok((whole.take_from(n), output))
+}
+
+/// Parses the beginnings of `whole` at `cuts` in turn, until the answer on one isn't that more is
+/// needed, and then the whole. The cuts are places of `whole`; no cuts at all are fine.
+pub fn parse_growing<I: Input, P: StreamParser<I> + Drop>(
+    mut parser: P,
+    whole: I,
+    cuts: &[usize],
+) -> Grown<I, P::Output, P::Error>
+    requires sound { (P.meaning (P.state parser)).IsSound }
+    requires cuts { AreCuts I.seen whole cuts.now }
+    ensures grown { IsGrown I.seen (P.IsOutput (P.state parser)) (P.meaning (P.state parser)) whole cuts.now result.index result.result }
+    // Where the parser pins, one parse of the whole answers the same.
+    ensures whole { AgreesWithWhole I.seen P.Output.view (P.Parser.Pins (P.state parser)) (P.IsOutput (P.state parser)) (P.meaning (P.state parser)) whole cuts.now result.index result.result }
+{
+    whole.known();
+    for (index, cut) in cuts.iter().enumerate() {
+        let beginning = whole.take(*cut);
+        let answer = parser.parse(beginning);
+        if !waits(&answer) {
+            let result = in_whole(beginning, whole, answer);
+            return Grown { index, result };
+        }
+    }
+    let result = parser.parse(whole);
+    Grown {
+        index: cuts.len(),
+        result,
+    }
+}

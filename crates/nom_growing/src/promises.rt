@@ -1,0 +1,52 @@
+//! What every parser promises. These functions do nothing: their contracts are the promises.
+ghost use Rattle.nom_growing.specs.Promises.{StaysOnLonger, HasOneOutcome, AcceptsFronts, IsCompleteToo, NeverRunsOut, HasNoFailure, AnswersStay};
+
+use nom_internal::parser::{Parser, StreamParser};
+use nom_traits::input::Items;
+
+/// A decided streaming outcome on an input is the outcome on every input that extends it.
+pub fn stays_on_longer<I: Items, P: StreamParser<I>>(_parser: &P)
+    requires { (P.meaning (P.state _parser.now)).IsSound }
+    ensures { StaysOnLonger I.seen (P.meaning (P.state _parser.now)) }
+{}
+
+/// Of two answers of `parse`, the second on an input that extends the first's: an acceptance stays one,
+/// of one length and, where the parser pins, with an output seen alike; a refusal stays one; and so does a
+/// failure, unless it is one that what is lacking is too large, as `has_no_failure` can rule out. Want of
+/// memory aside.
+pub fn answers_stay<I: Items, P: StreamParser<I>>(_parser: &P)
+    requires { (P.meaning (P.state _parser.now)).IsSound }
+    ensures { AnswersStay I.seen P.Output.view (P.Parser.Pins (P.state _parser.now)) (P.IsOutput (P.state _parser.now)) (P.meaning (P.state _parser.now)) }
+{}
+
+/// Inputs that are seen alike have one outcome in each mode, and the same.
+pub fn has_one_outcome<I: Items, P: Parser<I>>(_parser: &P)
+    requires { (P.meaning (P.state _parser.now)).IsSound }
+    ensures { HasOneOutcome I.seen (P.meaning (P.state _parser.now)) }
+{}
+
+/// What is accepted is a front of the input, so what is left is a rest of it.
+pub fn accepts_fronts<I: Items, P: Parser<I>>(_parser: &P)
+    requires { (P.meaning (P.state _parser.now)).IsSound }
+    ensures { AcceptsFronts I.seen (P.meaning (P.state _parser.now)) }
+{}
+
+/// Where a parser's condition for it holds, a decided streaming outcome is the complete one, and the
+/// errors of the one are those of the other.
+pub fn is_complete_too<I: Items, P: Parser<I>>(_parser: &P)
+    requires sound { (P.meaning (P.state _parser.now)).IsSound }
+    requires settles { (P.meaning (P.state _parser.now)).Settles }
+    ensures { IsCompleteToo I.seen (P.meaning (P.state _parser.now)) }
+{}
+
+/// Where a parser is frugal, memory never runs out.
+pub fn never_runs_out<I: Items, P: Parser<I>>(_parser: &P)
+    requires { (P.meaning (P.state _parser.now)).IsSound }
+    ensures { NeverRunsOut I.seen (P.meaning (P.state _parser.now)) }
+{}
+
+/// Where a parser never fails, by itself or since what is lacking is too large, it has no such outcome.
+pub fn has_no_failure<I: Items, P: Parser<I>>(_parser: &P)
+    requires { (P.meaning (P.state _parser.now)).IsSound }
+    ensures { HasNoFailure I.seen (P.meaning (P.state _parser.now)) }
+{}
