@@ -194,7 +194,11 @@ fn ends_of_classes(rt: HostRuntime) {
         ("\u{ff11}", AsciiClass::Digit, Some(0)),
         ("078", AsciiClass::OctDigit, Some(2)),
         (" \t\r\n", AsciiClass::MultiSpace, None),
-        ("0123456789012345678901234567890123456789é", AsciiClass::Digit, Some(40)),
+        (
+            "0123456789012345678901234567890123456789é",
+            AsciiClass::Digit,
+            Some(40),
+        ),
     ] {
         assert!(rt; outside(input, class) == place, "at {input}");
     }
@@ -247,7 +251,10 @@ fn ends_of_classes_at_each_byte_and_place(rt: HostRuntime) {
                 let mut bytes = [member; 33];
                 bytes[place] = byte;
                 let wanted = if is_inside { None } else { Some(place) };
-                assert!(rt; outside(bytes.as_slice(), class) == wanted, "{byte} at {place}");
+                assert!(rt;
+                    outside(bytes.as_slice(), class) == wanted,
+                    "{byte} at {place}"
+                );
             }
         }
     }
