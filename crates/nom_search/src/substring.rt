@@ -1,10 +1,11 @@
 //! Substrings that are looked for.
-ghost use Rattle.std.specs.Prelude.{ℕ, ◌≤◌, ◌↔◌, List, Option, IsTrue, length, chars};
+ghost use Rattle.std.specs.Prelude.{ℕ, List, Option, chars};
 ghost use Rattle.std.specs.Char.{len_utf8};
-ghost use Rattle.nom_search.specs.Substrings.{FindLaws, FindsBytes, FindsFirst, StandsAt};
+ghost use Rattle.memchr.specs.Find.{FindsNeedle};
+ghost use Rattle.nom_search.specs.Substrings.{FindLaws, FindsBytes, FindsFirst};
 ghost use Rattle.nom_search.specs.SubstringLaws.{bytes_finding, text_finding};
 
-use nom_traits::compare::{Compare, CompareResult};
+use memchr::memmem;
 use nom_traits::input::Items;
 
 /// An input in which needles of type `T` are looked for.
@@ -77,26 +78,15 @@ impl<'a, 'b> FindSubstring<&'b str> for &'a str {
 fn find_bytes(bytes: &[u8], needle: &[u8]) -> Option<usize>
     ensures { FindsBytes needle.now bytes.now result }
 {
-    for place in 0..bytes.len() + 1 {
-        if stands_at(bytes, place, needle) {
-            return Some(place);
-        }
-    }
-    None
+    first_match(bytes, needle)
 }
 
-/// Whether the bytes from a place on begin with some others.
+/// The same, in the words of the searcher.
 #[inline(always)]
-fn stands_at(bytes: &[u8], place: usize, needle: &[u8]) -> bool
-    requires { place ≤ length bytes.now }
-    ensures { IsTrue result ↔ StandsAt (λ _. 1) needle.now bytes.now place }
+fn first_match(bytes: &[u8], needle: &[u8]) -> Option<usize>
+    ensures { FindsNeedle bytes.now needle.now 0 result }
 {
-    let rest = &bytes[place..];
-    match rest.compare(needle) {
-        CompareResult::Ok => true,
-        CompareResult::Incomplete => false,
-        CompareResult::Error => false,
-    }
+    memmem::find(bytes, needle)
 }
 
 /// The first place of a text in a text: no text begins inside a character of another.

@@ -1,6 +1,9 @@
 //! Tokens that are looked for.
 ghost use Rattle.std.specs.Prelude.{◌≡◌, ◌==◌, ◌↔◌, IsTrue, chars};
 ghost use Rattle.std.specs.List.{Contains, list_any};
+ghost use Rattle.memchr.specs.Find.{IsFirstByte, is_byte};
+
+use memchr::memchr;
 
 /// A list in which tokens of type `T` are looked for.
 pub trait FindToken<T> {
@@ -108,7 +111,15 @@ impl<'a> FindToken<&'a char> for &[char] {
 fn has_byte(bytes: &[u8], token: u8) -> bool
     ensures { IsTrue result ↔ Contains bytes.now token }
 {
-    bytes.iter().any(|byte| *byte == token)
+    first_place(bytes, token).is_some()
+}
+
+/// The first place of a byte, in the words of the searcher.
+#[inline(always)]
+fn first_place(bytes: &[u8], token: u8) -> Option<usize>
+    ensures { IsFirstByte (is_byte token) bytes.now result }
+{
+    memchr(token, bytes)
 }
 
 #[inline(always)]

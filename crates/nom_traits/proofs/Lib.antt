@@ -1,9 +1,11 @@
 pub mod ByteCompared
 pub mod ByteCuts
+pub mod ByteLanes
 pub mod ByteRuns
 pub mod Splitting
 pub mod TextAfter
 pub mod TextCompared
 pub mod TextCuts
+pub mod TextRuns
 pub mod SliceItems
 pub mod Walks

@@ -7,6 +7,7 @@ pub mod CompareTags
 pub mod Compares
 pub mod Digits
 pub mod Input
+pub mod Lanes
 pub mod Rests
 pub mod Runs
 pub mod Slices

@@ -1,11 +1,10 @@
 //! Slices of bytes as inputs: the items are the bytes, each of length 1.
 ghost use Rattle.std.specs.Prelude.{◌≡◌, ◌-◌, length, Some, refl};
 ghost use Rattle.nom_traits.specs.Bytes.{seen_bytes, bytes_lawful};
-ghost use Rattle.nom_traits.specs.Classes.{IsInside, IsOutside};
-ghost use Rattle.nom_traits.specs.Runs.{IsPosition};
 
 use crate::character::AsciiClass;
 use crate::input::{Input, Items};
+use crate::lanes::bytes_outside;
 use nom_error::answer::Needed;
 use std::iter::{Copied, Enumerate};
 use std::slice::Iter;
@@ -85,18 +84,4 @@ impl<'a> Input for &'a [u8] {
     ghost views = { λ x y h. h.elements_are };
 
     ghost tells = { λ x y e. record { elements_are = e; mark_is = refl } };
-}
-
-/// The place of the first byte that isn't of the class; `None` where all are.
-// Inlined, since the class is known where it is called.
-#[inline(always)]
-fn bytes_outside(bytes: &[u8], class: AsciiClass) -> Option<usize>
-    ensures { IsPosition seen_bytes (IsInside class) (IsOutside class) bytes.entry result }
-{
-    for place in 0..bytes.len() {
-        if !class.has(bytes[place]) {
-            return Some(place);
-        }
-    }
-    None
 }

@@ -8,6 +8,7 @@ pub mod character;
 pub mod compare;
 pub mod convert;
 pub mod input;
+mod lanes;
 pub mod offset;
 mod split;
 pub mod text;

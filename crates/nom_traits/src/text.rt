@@ -1,10 +1,14 @@
 //! Texts as inputs: the items are the characters, each as long as its UTF-8 form.
 ghost use Rattle.std.specs.Prelude.{◌≡◌, ◌<◌, length, chars, None, MatchResult, refl};
 ghost use Rattle.nom_error.specs.Answers.{size_of};
+ghost use Rattle.nom_traits.specs.Classes.{IsInside, IsOutside};
+ghost use Rattle.nom_traits.specs.Runs.{IsPosition};
 ghost use Rattle.nom_traits.specs.Slices.{IsCount};
 ghost use Rattle.nom_traits.specs.Text.{seen_text, text_lawful, text_values};
 
+use crate::character::AsciiClass;
 use crate::input::{Input, Items};
+use crate::lanes::bytes_outside;
 use crate::offset::Offset;
 use nom_error::answer::Needed;
 use std::str::{CharIndices, Chars};
@@ -75,6 +79,11 @@ impl<'a> Input for &'a str {
         text.char_indices()
     }
 
+    #[inline(always)]
+    fn class_end(&self, class: AsciiClass) -> Option<Option<usize>> {
+        Some(text_outside(self, class))
+    }
+
     ghost more = { λ _. tt };
 
     ghost views = { λ x y h. h.elements_are };
@@ -89,6 +98,16 @@ impl Offset for &str {
         whole.known();
         whole.len() - second.len()
     }
+}
+
+/// The place of the first character that isn't of the class; `None` where all are.
+// The classes are ASCII, so the first byte outside one begins the first character outside it.
+#[inline(always)]
+fn text_outside(text: &str, class: AsciiClass) -> Option<usize>
+    ensures { IsPosition seen_text (IsInside class) (IsOutside class) text.entry result }
+{
+    text.known();
+    bytes_outside(text.as_bytes(), class)
 }
 
 /// The place after the first `count` characters.

@@ -194,8 +194,69 @@ fn ends_of_classes(rt: HostRuntime) {
         ("\u{ff11}", AsciiClass::Digit, Some(0)),
         ("078", AsciiClass::OctDigit, Some(2)),
         (" \t\r\n", AsciiClass::MultiSpace, None),
+        (
+            "0123456789012345678901234567890123456789é",
+            AsciiClass::Digit,
+            Some(40),
+        ),
     ] {
         assert!(rt; outside(input, class) == place, "at {input}");
+    }
+}
+
+#[test]
+fn ends_of_letters_of_each_length(rt: HostRuntime) {
+    for n in 0..66usize {
+        for byte in [0x40u8, 0x5B, 0x60, 0x7B, 0xC3, 0xFF] {
+            let mut bytes = [b'k'; 66];
+            bytes[n] = byte;
+            for (end, place) in [(n, None), (n + 1, Some(n)), (66, Some(n))] {
+                if let Some(input) = bytes.get(..end) {
+                    assert!(rt; outside(input, AsciiClass::Alpha) == place, "{n}, {end}");
+                }
+            }
+        }
+    }
+}
+
+/// Whether a byte is of a class, by std's tests, and a byte that is.
+fn belongs(class: AsciiClass, byte: u8) -> (bool, u8) {
+    match class {
+        AsciiClass::Alpha => (byte.is_ascii_alphabetic(), b'k'),
+        AsciiClass::Digit => (byte.is_ascii_digit(), b'7'),
+        AsciiClass::HexDigit => (byte.is_ascii_hexdigit(), b'C'),
+        AsciiClass::OctDigit => (byte.is_ascii_digit() && byte < b'8', b'7'),
+        AsciiClass::BinDigit => (byte == b'0' || byte == b'1', b'1'),
+        AsciiClass::Alphanumeric => (byte.is_ascii_alphanumeric(), b'Z'),
+        AsciiClass::Space => (byte == b' ' || byte == b'\t', b' '),
+        AsciiClass::MultiSpace => ([b' ', b'\t', b'\r', b'\n'].contains(&byte), b'\n'),
+    }
+}
+
+#[test]
+fn ends_of_classes_at_each_byte_and_place(rt: HostRuntime) {
+    for class in [
+        AsciiClass::Alpha,
+        AsciiClass::Digit,
+        AsciiClass::HexDigit,
+        AsciiClass::OctDigit,
+        AsciiClass::BinDigit,
+        AsciiClass::Alphanumeric,
+        AsciiClass::Space,
+        AsciiClass::MultiSpace,
+    ] {
+        for byte in 0..=255u8 {
+            let (is_inside, member) = belongs(class, byte);
+            for place in 0..33usize {
+                let mut bytes = [member; 33];
+                bytes[place] = byte;
+                let wanted = if is_inside { None } else { Some(place) };
+                assert!(rt;
+                    outside(bytes.as_slice(), class) == wanted,
+                    "{byte} at {place}"
+                );
+            }
+        }
     }
 }
 

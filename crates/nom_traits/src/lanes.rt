@@ -1,0 +1,100 @@
+//! Runs of a class of bytes, in blocks of 32.
+ghost use Rattle.std.specs.Prelude.{◌≡◌, ◌+◌, ◌≤◌, length, take, map, not};
+ghost use Rattle.std.specs.List.{All};
+ghost use Rattle.std.specs.Simd.Lanes.{mask_l};
+ghost use Rattle.nom_traits.specs.Bytes.{seen_bytes};
+ghost use Rattle.nom_traits.specs.Classes.{has_code, IsInside, IsOutside};
+ghost use Rattle.nom_traits.specs.Lanes.{behind, lower_case, IsRunWithin};
+ghost use Rattle.nom_traits.specs.Runs.{IsPosition};
+
+use crate::character::AsciiClass;
+use std::simd::prelude::*;
+
+/// How many bytes a block has.
+const BLOCK: usize = 32;
+
+/// The place of the first byte that isn't of the class; `None` where all are.
+// Inlined, since the class is known where it is called.
+#[inline(always)]
+pub(crate) fn bytes_outside(bytes: &[u8], class: AsciiClass) -> Option<usize>
+    ensures { IsPosition seen_bytes (IsInside class) (IsOutside class) bytes.entry result }
+{
+    let mut place = 0;
+    while bytes.len() - place >= BLOCK {
+        let run = run_in_block(bytes, place, class);
+        if run < BLOCK {
+            return Some(place + run);
+        }
+        place += BLOCK;
+    }
+    rest_outside(bytes, place, class)
+}
+
+/// The same, where all bytes before `start` are of the class.
+#[inline(always)]
+fn rest_outside(bytes: &[u8], start: usize, class: AsciiClass) -> Option<usize>
+    requires { All (IsInside class) (take start bytes.now) }
+    ensures { IsPosition seen_bytes (IsInside class) (IsOutside class) bytes.entry result }
+{
+    for place in start..bytes.len() {
+        if !class.has(bytes[place]) {
+            return Some(place);
+        }
+    }
+    None
+}
+
+/// How many bytes of the block at a place come before the first that isn't of the class.
+#[inline(always)]
+fn run_in_block(bytes: &[u8], place: usize, class: AsciiClass) -> usize
+    requires { place + BLOCK ≤ length bytes.now }
+    ensures { IsRunWithin (has_code class) bytes.now place BLOCK result }
+{
+    let marks = outside(u8x32::from_slice(&bytes[place..]), class);
+    if marks == 0 {
+        BLOCK
+    } else {
+        marks.trailing_zeros() as usize
+    }
+}
+
+/// Which bytes of a block aren't of the class: bit k stands for byte k.
+#[inline(always)]
+fn outside(block: u8x32, class: AsciiClass) -> u64
+    ensures { result ≡ mask_l (map (λ b. not (has_code class b)) block) }
+{
+    let digits = less(block, b'0');
+    let letters = less(in_lower_case(block), b'a');
+    match class {
+        AsciiClass::Alpha => letters.simd_ge(u8x32::splat(26)).to_bitmask(),
+        AsciiClass::Digit => digits.simd_ge(u8x32::splat(10)).to_bitmask(),
+        AsciiClass::HexDigit => (digits.simd_ge(u8x32::splat(10))
+            & letters.simd_ge(u8x32::splat(6))).to_bitmask(),
+        AsciiClass::OctDigit => digits.simd_ge(u8x32::splat(8)).to_bitmask(),
+        AsciiClass::BinDigit => digits.simd_ge(u8x32::splat(2)).to_bitmask(),
+        AsciiClass::Alphanumeric => (digits.simd_ge(u8x32::splat(10))
+            & letters.simd_ge(u8x32::splat(26))).to_bitmask(),
+        AsciiClass::Space => (block.simd_ne(u8x32::splat(b' '))
+            & block.simd_ne(u8x32::splat(b'\t'))).to_bitmask(),
+        AsciiClass::MultiSpace => (block.simd_ne(u8x32::splat(b' '))
+            & block.simd_ne(u8x32::splat(b'\t'))
+            & block.simd_ne(u8x32::splat(b'\r'))
+            & block.simd_ne(u8x32::splat(b'\n'))).to_bitmask(),
+    }
+}
+
+/// Letters in lower case. No other byte becomes a letter.
+#[inline(always)]
+fn in_lower_case(block: u8x32) -> u8x32
+    ensures { result ≡ map lower_case block }
+{
+    block | u8x32::splat(0x20)
+}
+
+/// How far each byte lies behind `low`; past 256 it starts again.
+#[inline(always)]
+fn less(block: u8x32, low: u8) -> u8x32
+    ensures { result ≡ map (behind low) block }
+{
+    block - u8x32::splat(low)
+}
