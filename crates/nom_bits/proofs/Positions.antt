@@ -1,12 +1,16 @@
 -- Positions among bits, and what follows them.
-use Rattle.std.proofs.Common.{◌≡◌, ℕ, ◌+◌, ◌-◌, ◌*◌, ◌/◌, ◌%◌, ◌<◌, ◌≤◌, zero, suc, List, [], ◌∷◌, ◌++◌, length, refl, sym, ◌∙◌, ap, subst, arith, lit<, length-append}
+use Rattle.std.proofs.Common.{◌≡◌, ℕ, ◌+◌, ◌-◌, ◌*◌, ◌/◌, ◌%◌, ◌<◌, ◌≤◌, zero, suc, List, [], ◌∷◌, ◌++◌, length, take, append-nil, refl, sym, ◌∙◌, ap, subst, arith, lit<, length-append}
+use Rattle.std.proofs.lemmas.List.{take-append-drop}
+use Rattle.std.proofs.Math.ListN.{drop_of_length-le}
 use Rattle.std.proofs.Math.Nat.{mod-lt}
+use Rattle.std.proofs.Math.Path.{fun_ext}
 use Rattle.nom_traits.specs.Input.{Seen, InputLaws, span, IsRest, input_len}
-use Rattle.nom_traits.specs.Rests.{rest_rest, span-ones}
+use Rattle.nom_traits.specs.Rests.{rest_rest, span-append}
 use Rattle.nom_traits.specs.Slices.{IsCount}
-use Rattle.nom_traits.specs.Bits.{AreBytes, seen_bits, bits_lawful}
-use Rattle.nom_traits.specs.BitPlaces.{passes_bits}
-use Rattle.nom_bits.specs.BitRests.{Skips, SplitsAt, bits_left, bits_place, skips_length}
+use Rattle.nom_traits.specs.Bits.{all_bits, AreBytes, past_bits, seen_bits, bits_lawful}
+use Rattle.nom_traits.specs.BitLists.{length-all_bits}
+use Rattle.nom_traits.specs.BitPlaces.{passes_bits, past_all_bits}
+use Rattle.nom_bits.specs.BitRests.{Skips, SplitsAt, bits_ahead, bits_left, bits_place, skips_length}
 
 -- items of no length are none
 pub no_length : {A : Type 0} (weight : A → ℕ) → ((a : A) → 0 < weight a) → (xs : List A) → span weight xs ≡ 0 → xs ≡ []
@@ -82,3 +86,38 @@ module _ {I : Type 0} (w : Seen I ℕ) (l : InputLaws w) where
       begins = λ some. absurd (omega (arith, some));
       rest_is = record { known = h; front = []; whole = refl; length_is = refl; mark_is = refl };
     }
+
+    -- the next whole byte is there
+    pub to_whole_byte : (x : I) (o : ℕ) (j : I) → w.IsKnown x → Skips w x (o / 8 + (o % 8 + 7) / 8) j → IsRest (seen_bits w) (x, o) (bits_ahead w (x, o)) (j, 0)
+    to_whole_byte x o j h s =
+        let c = o / 8 + (o % 8 + 7) / 8 in
+        let n = 8 * c - o in
+        let total = skips_length w l x c j s in
+        let left = bits_left w x o in
+        let count : (n + o) / 8 ≡ c = omega arith in
+        let none : (n + o) % 8 ≡ 0 = omega arith in
+        let ahead : n ≡ bits_ahead w (x, o) = omega (arith, total, left) in
+        let there = passed_within x o n j h (omega (arith, total, left)) (subst (λ m. Skips w x m j) (sym count) s) in
+        subst (λ m. IsRest (seen_bits w) (x, o) m (j, 0)) ahead (subst (λ m. IsRest (seen_bits w) (x, o) n (j, m)) none there)
+
+    -- and where it isn't, there are no bits
+    pub to_end : (x : I) (o : ℕ) (j : I) → w.IsKnown x → length (w.elements x) < o / 8 + (o % 8 + 7) / 8 → IsRest w x (input_len w x) j → IsRest (seen_bits w) (x, o) (bits_ahead w (x, o)) (j, 0)
+    to_end x o j h few r =
+        let xs = w.elements x in
+        let past : length (all_bits xs) ≤ o = omega (arith, few, length-all_bits xs) in
+        let none : (seen_bits w).elements (x, o) ≡ [] = drop_of_length-le (all_bits xs) past in
+        let spans : input_len w x ≡ span w.weight r.front + span w.weight (w.elements j) = ap (λ ys. span w.weight ys) r.whole ∙ span-append w.weight r.front (w.elements j) in
+        let end : w.elements j ≡ [] = no_length w.weight l.positive (w.elements j) (omega (arith, spans, r.length_is)) in
+        let all : xs ≡ r.front = r.whole ∙ (ap (λ ys. r.front ++ ys) end ∙ append-nil r.front) in
+        let taken : take o (all_bits xs) ≡ all_bits r.front = sym (append-nil (take o (all_bits xs))) ∙ (ap (λ ys. take o (all_bits xs) ++ ys) (sym none) ∙ (take-append-drop o (all_bits xs) ∙ ap all_bits all)) in
+        let here : IsRest (seen_bits w) (x, o) 0 (j, 0) = record {
+          known = r.known;
+          front = [];
+          whole = none ∙ sym (ap all_bits end);
+          length_is = refl;
+          mark_is = fun_ext (λ bs.
+              ap (λ m. past_bits w m bs) r.mark_is
+              ∙ sym (past_all_bits w l (w.mark x) r.front bs (subst AreBytes all (values x h)))
+              ∙ ap (λ ys. past_bits w (w.mark x) (ys ++ bs)) (sym taken));
+        } in
+        subst (λ m. IsRest (seen_bits w) (x, o) m (j, 0)) (omega (arith, ap length none)) here

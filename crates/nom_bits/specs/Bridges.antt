@@ -1,6 +1,10 @@
 -- Parsers of bits among parsers of bytes, and of bytes among parsers of bits.
 use Rattle.std.specs.Prelude.{◌≡◌, ℕ, ◌+◌, ◌*◌, ◌/◌, ◌^◌, ◌<◌, ◌≤◌, ◌⊎◌, true, false, Bool, Option, Some, None}
+use Rattle.nom_error.specs.declared.answer.Needed.{Needed}
+use Rattle.nom_error.specs.declared.answer.Err as Answer
+use Rattle.nom_error.specs.declared.answer.Err.TheVariants.{Incomplete, Error, Failure, OutOfMemory}
 use Rattle.nom_error.specs.declared.kind.ErrorKind.TheVariants as Kind
+use Rattle.nom_error.specs.Answers.{size_of}
 use Rattle.nom_error.specs.Errors.{Errors}
 use Rattle.nom_error.specs.Modes.{with_streaming}
 use Rattle.nom_traits.specs.Input.{Seen, IsRest}
@@ -11,6 +15,7 @@ use Rattle.nom_internal.specs.Outcome.Outcome.{Accept, Refuse, Fail, TooLarge, U
 use Rattle.nom_internal.specs.Meaning.{Meaning}
 use Rattle.nom_internal.specs.Cases.{Case, case_meaning}
 use Rattle.nom_internal.specs.Cases.PartMode.{Always}
+use Rattle.nom_internal.specs.Mapped.{ConvertsSome}
 use Rattle.nom_bits.specs.BitRests.{bits_ahead}
 
 -- a count of bits in bytes, rounded up
@@ -109,3 +114,28 @@ module _ {I T E F : Type 0} (w : Seen I ℕ) (errs : Errors (I × ℕ) F) (Conve
 
   abbrev pub bytes_meaning : Meaning I T E → Meaning (I × ℕ) T F
   bytes_meaning = case_meaning bytes_case
+
+-- what is needed in bits, or none where it is too large
+abbrev pub IsNeed : Needed → Option Needed → Type 0
+IsNeed k (Some j) = BitsNeeded (size_of k) (size_of j)
+IsNeed k None = IsTooLarge (size_of k)
+
+module _ {E F : Type 0} (Converts : E → F → Type 0) where
+  -- what is answered in place of an acceptance, in bytes
+  abbrev pub InBytes : Answer.Err E (Option E) Needed → Answer.Err F (Option F) Needed → Type 0
+  InBytes (Incomplete k) r = (j : Needed) × (size_of j ≡ bytes_needed (size_of k)) × (r ≡ Incomplete j)
+  InBytes (Error x) r = (y : Option F) × ConvertsSome Converts x y × (r ≡ Error y)
+  InBytes (Failure e) r = (f : F) × Converts e f × (r ≡ Failure f)
+  InBytes OutOfMemory r = r ≡ OutOfMemory
+
+-- a failure, since it is too large, or want of memory for its error
+abbrev pub IsTooLargeAt : {I F : Type 0} → Errors I F → I → Answer.Err F (Option F) Needed → Type 0
+IsTooLargeAt {F = F} errs i r = ((f : F) × errs.of_kind i Kind.TooLarge f × (r ≡ Failure f)) ⊎ (errs.grows × (r ≡ OutOfMemory))
+
+module _ {I E F : Type 0} (Converts : E → F → Type 0) (errs : Errors I F) (i : I) where
+  -- what is answered in place of an acceptance, in bits
+  abbrev pub InBits : Answer.Err E (Option E) Needed → Answer.Err F (Option F) Needed → Type 0
+  InBits (Incomplete k) r = (IsTooLarge (size_of k) × IsTooLargeAt errs i r) ⊎ ((j : Needed) × BitsNeeded (size_of k) (size_of j) × (r ≡ Incomplete j))
+  InBits (Error x) r = (y : Option F) × ConvertsSome Converts x y × (r ≡ Error y)
+  InBits (Failure e) r = (f : F) × Converts e f × (r ≡ Failure f)
+  InBits OutOfMemory r = r ≡ OutOfMemory

@@ -3,12 +3,19 @@
 
 ghost use Rattle.std.specs.Prelude.{◌≡◌, ◌≤◌};
 
+mod bridge;
+pub mod complete;
+pub mod convert;
 mod field;
 mod leaf;
 pub mod number;
+pub mod streaming;
 
+pub use crate::bridge::{Bits, Bytes};
+pub use crate::convert::ErrorConvert;
 pub use crate::leaf::{Bool, Tag, Take};
 pub use crate::number::BitUint;
+pub use nom_internal::fixed::Fixed;
 use nom_traits::convert::ToUsize;
 use std::marker::PhantomData;
 
@@ -50,4 +57,33 @@ pub fn tag<I, O: BitUint, C: ToUsize + Drop, E>(pattern: O, count: C) -> Tag<I, 
 #[inline(always)]
 pub fn bool<I, E>() -> Bool<I, E> {
     Bool { types: PhantomData }
+}
+
+/// A parser of bits among parsers of bytes: it runs from the first bit of the input on.
+///
+/// It runs as where more input may come, in either mode. A byte of which it consumed some bits is consumed.
+/// Where it needs `n` bits, `n / 8 + 1` bytes are needed. Its errors are converted.
+#[inline(always)]
+pub fn bits<P, E>(parser: P) -> Bits<P, E>
+    ensures { result.parser ≡ parser }
+{
+    Bits {
+        parser,
+        error: PhantomData,
+    }
+}
+
+/// A parser of bytes among parsers of bits: it runs from the next whole byte on, or at the end where there
+/// is none.
+///
+/// It runs as where more input may come, in either mode. Where it needs `n` bytes, `8 * n` bits are needed;
+/// where that doesn't fit a `usize`, it fails with `TooLarge`, at the start. Its errors are converted.
+#[inline(always)]
+pub fn bytes<P, E>(parser: P) -> Bytes<P, E>
+    ensures { result.parser ≡ parser }
+{
+    Bytes {
+        parser,
+        error: PhantomData,
+    }
 }
