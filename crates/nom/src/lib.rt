@@ -3,6 +3,7 @@
 //! The public names stand under the paths of nom 8.0.0.
 #![tactic(auto)]
 
+pub mod bits;
 pub mod branch;
 pub mod bytes;
 pub mod character;
@@ -13,6 +14,8 @@ pub mod number;
 pub mod promises;
 pub mod sequence;
 
+pub use nom_bits::convert::ErrorConvert;
+pub use nom_bits::number::BitUint;
 pub use nom_build::collection::{Collection, ViewedCollection};
 pub use nom_convert::parse::ParseTo;
 pub use nom_error::answer::{Err, IResult, Needed, OutOfMemory, PResult};

@@ -1,0 +1,4 @@
+pub mod Bridged
+pub mod Positions
+pub mod Shown
+pub mod Spellings

@@ -1,0 +1,26 @@
+use Rattle.std.proofs.Common.{refl, sym, ◌∙◌, inl, inr, arith}
+use Rattle.nom_internal.proofs.Shown.{accepted, undecided, refused}
+use Rattle.nom_bits.proofs.Shown.{fits_width, refuses_as, split_within, split_long, split_field}
+use Rattle.nom_bits.proofs.leaf.TagParserTuple2Usize.process.Goals as goal
+
+pub spelling-number-requires-clause-within : goal.spelling-number-requires-clause-within
+spelling-number-requires-clause-within g c = split_within g.I.Items.seen c.in-Some.ensures
+
+pub number_built-requires : goal.number_built-requires
+number_built-requires g c = fits_width _ _ _ c.spelling-number.ensures.range c.requires.sound
+
+pub returns-then-number-self-clause-shown : goal.returns-then-number-self-clause-shown
+returns-then-number-self-clause-shown g c =
+    accepted c.spelling-number.result c.in-Some.ensures.rest_is (refl, split_field g.I.Items.seen c.in-Some.ensures c.spelling-number.ensures.number, c.if-number-self.true) c.number_built.ensures
+
+pub returns-else-number-self-clause-shown : goal.returns-else-number-self-clause-shown
+returns-else-number-self-clause-shown g c =
+    refused (refuses_as (λ e h. inr (split_long g.I.Items.seen c.in-Some.ensures, h)) c.refusal.ensures) (inr (c.spelling-number.result, split_field g.I.Items.seen c.in-Some.ensures c.spelling-number.ensures.number, c.if-number-self.false))
+
+pub returns-in-None-clause-shown : goal.returns-in-None-clause-shown
+returns-in-None-clause-shown g c =
+    undecided (c.new.ensures.some (omega (arith, c.in-None.ensures))) (sym c.STREAMING.ensures ∙ c.if-STREAMING.true, (c.in-None.ensures, refl))
+
+pub returns-in-None-2-clause-shown : goal.returns-in-None-2-clause-shown
+returns-in-None-2-clause-shown g c =
+    refused (refuses_as (λ e h. inl (c.in-None-2.ensures, h)) c.refusal-in-None-2.ensures) (inl (sym c.STREAMING.ensures ∙ c.if-STREAMING.false, c.in-None-2.ensures))

@@ -1,0 +1,5 @@
+pub mod BitRests
+pub mod BridgeLaws
+pub mod Bridges
+pub mod FieldLaws
+pub mod Fields

@@ -1,0 +1,222 @@
+//! Parsers of bits among parsers of bytes, and of bytes among parsers of bits.
+ghost use Rattle.std.specs.Prelude.{◌≡◌, ℕ, Bool, Option};
+ghost use Rattle.nom_error.specs.Answers.{size_of};
+ghost use Rattle.nom_traits.specs.Bits.{seen_bits};
+ghost use Rattle.nom_traits.specs.Input.{IsRest};
+ghost use Rattle.nom_bits.specs.BitRests.{bits_ahead};
+ghost use Rattle.nom_bits.specs.Bridges.{bits_meaning, bytes_meaning, bytes_needed, InBytes, InBits, IsNeed, IsTooLargeAt};
+ghost use Rattle.nom_bits.specs.BridgeLaws.{bits_of_lawful, bits_of_steady, bytes_of_lawful, bytes_of_steady};
+ghost use Rattle.nom_internal.specs.Mapped.{ConvertsSome};
+
+use crate::convert::ErrorConvert;
+use crate::field::skipped;
+use nom_error::answer::{Err, Needed, PResult};
+use nom_error::kind::ErrorKind;
+use nom_error::mode::{OutputM, OutputMode, Streaming};
+use nom_error::value::ParseError;
+use nom_internal::parser::{Parser, StreamParser};
+use nom_traits::input::Input;
+use std::marker::PhantomData;
+
+/// The bytes from the next whole byte on, or the end where there is none.
+#[inline(always)]
+fn whole_byte<I: Input<Item = u8>>(input: (I, usize)) -> I
+    ensures { IsRest (seen_bits I.seen) input (bits_ahead I.seen input) (result, 0) }
+{
+    let (bytes, position) = input;
+    bytes.known();
+    match skipped(bytes, position / 8 + (position % 8 + 7) / 8) {
+        Some(rest) => rest,
+        None => bytes.take_from(bytes.input_len()),
+    }
+}
+
+/// A number of bits that is needed, in bytes.
+#[inline(always)]
+fn needed_bytes(needed: Needed) -> Needed
+    ensures { size_of result ≡ bytes_needed (size_of needed) }
+{
+    match needed {
+        Needed::Unknown => Needed::Unknown,
+        Needed::Size(bits) => Needed::new(bits.get() / 8 + 1),
+    }
+}
+
+/// A number of bytes that is needed, in bits; none where that doesn't fit.
+#[inline(always)]
+fn needed_bits(needed: Needed) -> Option<Needed>
+    ensures { IsNeed needed result }
+{
+    match needed {
+        Needed::Unknown => Some(Needed::Unknown),
+        Needed::Size(bytes) => match bytes.get().checked_mul(8) {
+            Some(bits) => Some(Needed::new(bits)),
+            None => None,
+        },
+    }
+}
+
+/// An error, converted where it is there.
+#[inline(always)]
+fn converted<F, E: ErrorConvert<F> + Drop>(error: Option<E>) -> Option<F>
+    ensures { ConvertsSome E.converts error result }
+{
+    match error {
+        Some(error) => Some(error.convert()),
+        None => None,
+    }
+}
+
+/// What a parser of bits answers in place of an acceptance, among parsers of bytes.
+#[inline(always)]
+fn in_bytes<F, E: ErrorConvert<F> + Drop>(answer: Err<E, Option<E>>) -> Err<F, Option<F>>
+    ensures { InBytes E.converts answer result }
+{
+    match answer {
+        Err::Incomplete(needed) => Err::Incomplete(needed_bytes(needed)),
+        Err::Error(error) => Err::Error(converted::<F, E>(error)),
+        Err::Failure(error) => Err::Failure(error.convert()),
+        Err::OutOfMemory => Err::OutOfMemory,
+    }
+}
+
+/// A failure, since what a parser of bytes needs is too many bits.
+#[inline(always)]
+fn too_large<I: Drop, F: ParseError<I>>(input: I) -> Err<F, Option<F>>
+    ensures { IsTooLargeAt F.errors input result }
+{
+    match F::from_error_kind(input, ErrorKind::TooLarge) {
+        Ok(error) => Err::Failure(error),
+        Err(_) => Err::OutOfMemory,
+    }
+}
+
+/// What a parser of bytes answers in place of an acceptance, among parsers of bits.
+#[inline(always)]
+fn in_bits<I: Drop, F: ParseError<I>, E: ErrorConvert<F> + Drop>(
+    input: I,
+    answer: Err<E, Option<E>>,
+) -> Err<F, Option<F>>
+    ensures { InBits E.converts F.errors input answer result }
+{
+    match answer {
+        Err::Incomplete(needed) => match needed_bits(needed) {
+            Some(bits) => Err::Incomplete(bits),
+            None => too_large::<I, F>(input),
+        },
+        Err::Error(error) => Err::Error(converted::<F, E>(error)),
+        Err::Failure(error) => Err::Failure(error.convert()),
+        Err::OutOfMemory => Err::OutOfMemory,
+    }
+}
+
+/// A parser of bits among parsers of bytes; made by `bits`. `E` is the type of its errors.
+#[derive(Drop)]
+pub struct Bits<P, E> {
+    pub parser: P,
+    pub error: PhantomData<E>,
+}
+
+impl<I: Input<Item = u8>, P: Parser<(I, usize)> + Drop, E: ParseError<I>> Parser<I> for Bits<P, E>
+where
+    P::Error: ErrorConvert<E>,
+{
+    type Output = P::Output;
+
+    type Error = E;
+
+    ghost State = { P.State };
+
+    ghost state = { λ p. P.state p.parser };
+
+    ghost Tree = { P.Tree };
+
+    ghost IsOutput = { P.IsOutput };
+
+    ghost meaning = { λ s. bits_meaning I.seen P.Error.converts (P.meaning s) };
+
+    ghost Pins = { P.Pins };
+
+    #[inline(always)]
+    fn process<OM: OutputMode>(&mut self, input: I) -> PResult<I, P::Output, E> {
+        input.known();
+        match self
+            .parser
+            .process::<OutputM<OM::Output, OM::Error, Streaming>>((input, 0))
+        {
+            Ok(accepted) => {
+                let (rest, output) = accepted;
+                Ok((whole_byte(rest), output))
+            }
+            Err(answer) => Err(in_bytes::<E, P::Error>(answer)),
+        }
+    }
+
+    ghost lawful = { λ s k. bits_of_lawful I.seen I.lawful P.Error.converts (P.meaning s) (P.lawful s k) };
+}
+
+impl<I: Input<Item = u8>, P: StreamParser<(I, usize)> + Drop, E: ParseError<I>> StreamParser<I>
+    for Bits<P, E>
+where
+    P::Error: ErrorConvert<E>,
+{
+    ghost pinned = { P.pinned };
+
+    ghost steady = { λ s k. bits_of_steady I.seen I.lawful P.Error.converts (P.meaning s) (P.steady s k) };
+}
+
+/// A parser of bytes among parsers of bits; made by `bytes`. `E` is the type of its errors.
+#[derive(Drop)]
+pub struct Bytes<P, E> {
+    pub parser: P,
+    pub error: PhantomData<E>,
+}
+
+impl<I: Input<Item = u8>, P: Parser<I> + Drop, E: ParseError<(I, usize)>> Parser<(I, usize)>
+    for Bytes<P, E>
+where
+    P::Error: ErrorConvert<E>,
+{
+    type Output = P::Output;
+
+    type Error = E;
+
+    ghost State = { P.State };
+
+    ghost state = { λ p. P.state p.parser };
+
+    ghost Tree = { P.Tree };
+
+    ghost IsOutput = { P.IsOutput };
+
+    ghost meaning = { λ s. bytes_meaning I.seen E.errors P.Error.converts (P.meaning s) };
+
+    ghost Pins = { P.Pins };
+
+    #[inline(always)]
+    fn process<OM: OutputMode>(&mut self, input: (I, usize)) -> PResult<(I, usize), P::Output, E> {
+        match self
+            .parser
+            .process::<OutputM<OM::Output, OM::Error, Streaming>>(whole_byte(input))
+        {
+            Ok(accepted) => {
+                let (rest, output) = accepted;
+                Ok(((rest, 0), output))
+            }
+            Err(answer) => Err(in_bits::<(I, usize), E, P::Error>(input, answer)),
+        }
+    }
+
+    ghost lawful = { λ s k. bytes_of_lawful I.seen I.lawful I.values E.errors P.Error.converts (P.meaning s) (P.lawful s k) };
+}
+
+impl<I: Input<Item = u8>, P: StreamParser<I> + Drop, E: ParseError<(I, usize)>> StreamParser<
+    (I, usize),
+> for Bytes<P, E>
+where
+    P::Error: ErrorConvert<E>,
+{
+    ghost pinned = { P.pinned };
+
+    ghost steady = { λ s k. bytes_of_steady I.seen I.lawful I.values E.errors P.Error.converts (P.meaning s) (P.steady s k) };
+}

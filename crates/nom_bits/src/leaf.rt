@@ -1,0 +1,162 @@
+//! The parsers of bit fields.
+ghost use Rattle.std.specs.Prelude.{◌≡◌, ℕ, Bool};
+ghost use Rattle.std.proofs.Common.{sym, ◌∙◌, ap};
+ghost use Rattle.nom_traits.specs.Bits.{seen_bits};
+ghost use Rattle.nom_internal.specs.Pinned.{value_pinned};
+ghost use Rattle.nom_bits.specs.Fields.{take_meaning, tag_meaning, bool_meaning};
+ghost use Rattle.nom_bits.specs.FieldLaws.{take_lawful, take_steady, tag_lawful, tag_steady, bool_lawful, bool_steady};
+
+use crate::field::{next_field, spelling};
+use crate::number::{BitUint, number_built};
+use nom_error::answer::{Err, Needed, PResult};
+use nom_error::kind::ErrorKind;
+use nom_error::mode::{IsStreaming, Mode, OutputMode};
+use nom_error::value::{ParseError, refusal};
+use nom_internal::built::built;
+use nom_internal::parser::{Parser, StreamParser};
+use nom_traits::input::Input;
+use std::marker::PhantomData;
+
+/// The number that so many bits spell; made by `take`.
+#[derive(Drop)]
+pub struct Take<I, O, E> {
+    pub count: usize,
+    pub types: PhantomData<(I, O, E)>,
+}
+
+impl<I: Input<Item = u8>, O: BitUint, E: ParseError<(I, usize)>> Parser<(I, usize)>
+    for Take<I, O, E> {
+    type Output = O;
+
+    type Error = E;
+
+    ghost State = { ℕ };
+
+    ghost state = { λ p. p.count };
+
+    ghost Tree = { ℕ };
+
+    ghost IsOutput = { λ _ t v. v ≡ O.of_bits t };
+
+    ghost meaning = { λ count. take_meaning I.seen E.errors O.WIDTH count };
+
+    ghost Pins = { λ _. Unit {0} };
+
+    #[inline(always)]
+    fn process<OM: OutputMode>(&mut self, input: (I, usize)) -> PResult<(I, usize), O, E> {
+        match next_field(input, self.count) {
+            Some(found) => {
+                let number = spelling(found.start, self.count);
+                Ok((found.rest, number_built::<OM::Output, O>(number)))
+            }
+            None if OM::Incomplete::STREAMING => Err(Err::Incomplete(Needed::new(self.count))),
+            None => Err(refusal::<OM::Error, (I, usize), E>(input, ErrorKind::Eof)),
+        }
+    }
+
+    ghost lawful = { λ count k. take_lawful I.seen E.errors O.WIDTH count };
+}
+
+impl<I: Input<Item = u8>, O: BitUint, E: ParseError<(I, usize)>> StreamParser<(I, usize)>
+    for Take<I, O, E> {
+    ghost pinned = { λ s k p t a b x y. ap O.view.value (x ∙ sym y) };
+
+    ghost steady = { λ count k. take_steady I.seen E.errors O.WIDTH count };
+}
+
+/// A number that is wanted, spelled by so many bits; made by `tag`.
+#[derive(Drop)]
+pub struct Tag<I, O, E> {
+    /// The number.
+    pub pattern: u128,
+    pub count: usize,
+    pub types: PhantomData<(I, O, E)>,
+}
+
+impl<I: Input<Item = u8>, O: BitUint, E: ParseError<(I, usize)>> Parser<(I, usize)>
+    for Tag<I, O, E> {
+    type Output = O;
+
+    type Error = E;
+
+    ghost State = { ℕ × ℕ };
+
+    ghost state = { λ p. (p.pattern, p.count) };
+
+    ghost Tree = { ℕ };
+
+    ghost IsOutput = { λ _ t v. v ≡ O.of_bits t };
+
+    ghost meaning = { λ s. tag_meaning I.seen E.errors O.WIDTH s.0 s.1 };
+
+    ghost Pins = { λ _. Unit {0} };
+
+    #[inline(always)]
+    fn process<OM: OutputMode>(&mut self, input: (I, usize)) -> PResult<(I, usize), O, E> {
+        match next_field(input, self.count) {
+            Some(found) => {
+                let number = spelling(found.start, self.count);
+                if number == self.pattern {
+                    Ok((found.rest, number_built::<OM::Output, O>(number)))
+                } else {
+                    Err(refusal::<OM::Error, (I, usize), E>(input, ErrorKind::TagBits))
+                }
+            }
+            None if OM::Incomplete::STREAMING => Err(Err::Incomplete(Needed::new(self.count))),
+            None => Err(refusal::<OM::Error, (I, usize), E>(input, ErrorKind::Eof)),
+        }
+    }
+
+    ghost lawful = { λ s k. tag_lawful I.seen E.errors O.WIDTH s.0 s.1 };
+}
+
+impl<I: Input<Item = u8>, O: BitUint, E: ParseError<(I, usize)>> StreamParser<(I, usize)>
+    for Tag<I, O, E> {
+    ghost pinned = { λ s k p t a b x y. ap O.view.value (x ∙ sym y) };
+
+    ghost steady = { λ s k. tag_steady I.seen E.errors O.WIDTH s.0 s.1 };
+}
+
+/// The next bit; made by `bool`.
+#[derive(Drop)]
+pub struct Bool<I, E> {
+    pub types: PhantomData<(I, E)>,
+}
+
+impl<I: Input<Item = u8>, E: ParseError<(I, usize)>> Parser<(I, usize)> for Bool<I, E> {
+    type Output = bool;
+
+    type Error = E;
+
+    ghost State = { Unit {0} };
+
+    ghost state = { λ _. tt };
+
+    ghost Tree = { Bool };
+
+    ghost IsOutput = { λ _ t v. v ≡ t };
+
+    ghost meaning = { λ _. bool_meaning I.seen E.errors };
+
+    ghost Pins = { λ _. Unit {0} };
+
+    #[inline(always)]
+    fn process<OM: OutputMode>(&mut self, input: (I, usize)) -> PResult<(I, usize), bool, E> {
+        match next_field(input, 1) {
+            Some(found) => {
+                let number = spelling(found.start, 1);
+                Ok((found.rest, built::<OM::Output, bool>(number == 1)))
+            }
+            None if OM::Incomplete::STREAMING => Err(Err::Incomplete(Needed::new(1))),
+            None => Err(refusal::<OM::Error, (I, usize), E>(input, ErrorKind::Eof)),
+        }
+    }
+
+    ghost lawful = { λ _ k. bool_lawful I.seen E.errors };
+}
+
+impl<I: Input<Item = u8>, E: ParseError<(I, usize)>> StreamParser<(I, usize)> for Bool<I, E> {
+    ghost pinned = { λ _ k p. value_pinned };
+
+    ghost steady = { λ _ k. bool_steady I.seen E.errors };
+}

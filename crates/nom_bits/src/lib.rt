@@ -1,0 +1,89 @@
+//! Bit fields, and parsers of bits among parsers of bytes, and the other way round.
+#![tactic(auto)]
+
+ghost use Rattle.std.specs.Prelude.{◌≡◌, ◌≤◌};
+
+mod bridge;
+pub mod complete;
+pub mod convert;
+mod field;
+mod leaf;
+pub mod number;
+pub mod streaming;
+
+pub use crate::bridge::{Bits, Bytes};
+pub use crate::convert::ErrorConvert;
+pub use crate::leaf::{Bool, Tag, Take};
+pub use crate::number::BitUint;
+pub use nom_internal::fixed::Fixed;
+use nom_traits::convert::ToUsize;
+use std::marker::PhantomData;
+
+/// The number that the next `count` bits spell, the highest first; `count` is at most the width of `O`.
+///
+/// Where there are fewer bits, streaming asks for `count`, and complete refuses with `Eof`, at the start.
+#[inline(always)]
+pub fn take<I, O: BitUint, C: ToUsize + Drop, E>(count: C) -> Take<I, O, E>
+    requires { C.size count ≤ O.WIDTH }
+    ensures { result.count ≡ C.size count }
+{
+    Take {
+        count: count.to_usize(),
+        types: PhantomData,
+    }
+}
+
+/// The number `pattern`, spelled by the next `count` bits, the highest first; `count` is at most the width
+/// of `O`.
+///
+/// Another number is refused with `TagBits`, at the start. Where there are fewer bits, it answers as `take`
+/// does.
+#[inline(always)]
+pub fn tag<I, O: BitUint, C: ToUsize + Drop, E>(pattern: O, count: C) -> Tag<I, O, E>
+    requires { C.size count ≤ O.WIDTH }
+    ensures pattern { result.pattern ≡ O.bits pattern }
+    ensures count { result.count ≡ C.size count }
+{
+    Tag {
+        pattern: pattern.to_bits(),
+        count: count.to_usize(),
+        types: PhantomData,
+    }
+}
+
+/// The next bit: whether it is 1.
+///
+/// Where there is none, streaming asks for it, and complete refuses with `Eof`.
+#[inline(always)]
+pub fn bool<I, E>() -> Bool<I, E> {
+    Bool { types: PhantomData }
+}
+
+/// A parser of bits among parsers of bytes: it runs from the first bit of the input on.
+///
+/// It runs as where more input may come, in either mode. A byte of which it consumed some bits is consumed.
+/// Where it needs `n` bits, `n / 8 + 1` bytes are needed. Its errors are converted.
+#[inline(always)]
+pub fn bits<P, E>(parser: P) -> Bits<P, E>
+    ensures { result.parser ≡ parser }
+{
+    Bits {
+        parser,
+        error: PhantomData,
+    }
+}
+
+/// A parser of bytes among parsers of bits: it runs from the next whole byte on, or at the end where there
+/// is none.
+///
+/// It runs as where more input may come, in either mode. Where it needs `n` bytes, `8 * n` bits are needed;
+/// where that doesn't fit a `usize`, it fails with `TooLarge`, at the start. Its errors are converted.
+#[inline(always)]
+pub fn bytes<P, E>(parser: P) -> Bytes<P, E>
+    ensures { result.parser ≡ parser }
+{
+    Bytes {
+        parser,
+        error: PhantomData,
+    }
+}

@@ -1,0 +1,53 @@
+//! Bit fields, where more input may come.
+//!
+//! Where there are fewer bits, each needs as many as it takes.
+ghost use Rattle.std.specs.Prelude.{◌≡◌, ◌≤◌, true};
+ghost use Rattle.nom_traits.specs.Bits.{seen_bits};
+ghost use Rattle.nom_internal.specs.Meaning.{ParsesMeaning};
+ghost use Rattle.nom_bits.specs.Fields.{bool_meaning};
+
+use crate::leaf::{Bool, Tag, Take};
+use crate::number::BitUint;
+use nom_error::answer::IResult;
+use nom_error::mode::Streaming;
+use nom_error::value::ParseError;
+use nom_internal::fixed::Fixed;
+use nom_internal::one_mode::fixed;
+use nom_internal::parser::Parser;
+use nom_traits::convert::ToUsize;
+use nom_traits::input::Input;
+use std::marker::PhantomData;
+
+/// The number that the next `count` bits spell; `count` is at most the width of `O`.
+#[inline(always)]
+pub fn take<I, O: BitUint, C: ToUsize + Drop, E>(count: C) -> Fixed<Take<I, O, E>, Streaming>
+    requires { C.size count ≤ O.WIDTH }
+    ensures { result.parser.count ≡ C.size count }
+{
+    fixed(crate::take(count))
+}
+
+/// The number `pattern`, spelled by the next `count` bits; `count` is at most the width of `O`. Another
+/// number is refused with `TagBits`, at the start.
+#[inline(always)]
+pub fn tag<I, O: BitUint, C: ToUsize + Drop, E>(
+    pattern: O,
+    count: C,
+) -> Fixed<Tag<I, O, E>, Streaming>
+    requires { C.size count ≤ O.WIDTH }
+    ensures pattern { result.parser.pattern ≡ O.bits pattern }
+    ensures count { result.parser.count ≡ C.size count }
+{
+    fixed(crate::tag(pattern, count))
+}
+
+/// The next bit: whether it is 1.
+#[inline(always)]
+pub fn bool<I: Input<Item = u8>, E: ParseError<(I, usize)>>(
+    input: (I, usize),
+) -> IResult<(I, usize), bool, E>
+    ensures { ParsesMeaning (seen_bits I.seen) (λ t v. v ≡ t) (bool_meaning I.seen E.errors) true input result }
+{
+    let mut parser = Bool::<I, E> { types: PhantomData };
+    parser.parse(input)
+}
