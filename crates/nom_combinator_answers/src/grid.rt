@@ -4,7 +4,7 @@ use nom::branch::alt;
 use nom::bytes::{is_a, streaming, tag, take};
 use nom::combinator::{complete, consumed, cut, not, opt, peek, recognize};
 use nom::error::Error;
-use nom::multi::many0;
+use nom::multi::{many0, many1_count, separated_list0, separated_list1};
 use nom::sequence::{pair, terminated};
 use nom::{AsBytes, Compare, FindToken, Input, Parser};
 use nom_answer_lines::answer::Answer;
@@ -25,11 +25,14 @@ pub struct Tags<T> {
 /// The outer parser of a call by its number, and the text of what it is made of.
 pub fn outer_of(call: &str) -> Option<(usize, &str)> {
     if let Some(inner) = between(call, "terminated(", ", tag(\"c\"))") {
-        return Some((7, inner));
+        return Some((9, inner));
+    }
+    if let Some(inner) = between(call, "separated_list0(tag(\"c\"), ", ")") {
+        return Some((10, inner));
     }
     let (name, open) = call.split_once("(")?;
     let inner = open.strip_suffix(")")?;
-    let number = place_of("recognize opt cut consumed complete not peek", name)?;
+    let number = place_of("recognize opt cut consumed complete not peek many0 many1_count", name)?;
     Some((number, inner))
 }
 
@@ -44,6 +47,7 @@ pub fn shape_of(text: &str) -> (usize, &str) {
         ("opt(", ")"),
         ("cut(", ")"),
         ("not(", ")"),
+        ("separated_list1(tag(\"b\"), ", ")"),
     ];
     let mut number = 0usize;
     for (front, back) in shapes {
@@ -72,7 +76,10 @@ where
         4 => question.ask(complete(inner)),
         5 => question.ask(not(inner)),
         6 => question.ask(peek(inner)),
-        _ => question.ask(terminated(inner, tag(tags.c))),
+        7 => question.ask(many0(question.alloc, inner)),
+        8 => question.ask(many1_count(inner)),
+        9 => question.ask(terminated(inner, tag(tags.c))),
+        _ => question.ask(separated_list0(question.alloc, tag(tags.c), inner)),
     }
 }
 
@@ -100,6 +107,7 @@ where
         5 => outer(question, tags, number, opt(part)),
         6 => outer(question, tags, number, cut(part)),
         7 => outer(question, tags, number, not(part)),
+        8 => outer(question, tags, number, separated_list1(alloc, tag(tags.b), part)),
         _ => outer(question, tags, number, part),
     }
 }

@@ -1,3 +1,5 @@
+pub mod AcceptedItems
+pub mod AcceptedMore
 pub mod CountKept
 pub mod Counted
 pub mod Few

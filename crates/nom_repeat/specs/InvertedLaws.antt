@@ -8,7 +8,7 @@ use Rattle.nom_internal.specs.Outcome.Outcome.{Accept}
 use Rattle.nom_internal.specs.Meaning.{Meaning, IsLawful, IsSteady}
 use Rattle.nom_repeat.specs.Inverted.{error_outcome, error_if}
 
-no_accept : {V : Type 0} (fails : Bool) (n : ℕ) (v : V) → Accept n v ≡ error_outcome fails → ⊥
+pub no_accept : {V : Type 0} (fails : Bool) (n : ℕ) (v : V) → Accept n v ≡ error_outcome fails → ⊥
 no_accept true n v e = absurd (cc (e))
 no_accept false n v e = absurd (cc (e))
 

@@ -23,7 +23,7 @@ item_decided b k (Some TooLarge) h = h
 item_decided b k (Some (Undecided n)) h = h
 item_decided b k None h = tt
 
-empty_never_ends : {V : Type 0} (kind : Option ErrorKind) (v : V) (n : ℕ) (t : Unit {0}) → Ends (Accept n t) ≡ empty_turn kind v → ⊥
+pub empty_never_ends : {V : Type 0} (kind : Option ErrorKind) (v : V) (n : ℕ) (t : Unit {0}) → Ends (Accept n t) ≡ empty_turn kind v → ⊥
 empty_never_ends (Some kind) v n t e = absurd (cc (e))
 empty_never_ends None v n t e = absurd (cc (e))
 

@@ -1,3 +1,4 @@
+pub mod Accepted
 pub mod Inverted
 pub mod InvertedLaws
 pub mod Items
