@@ -8,7 +8,7 @@ use nom_error::answer::{Err, IResult, Needed};
 use nom_error::kind::ErrorKind;
 use nom_error::mode::{Check, OutputM, Streaming};
 use nom_error::value::Error;
-use nom_internal::growing::parse_growing;
+use nom_growing::growing::parse_growing;
 use nom_internal::parser::Parser;
 
 type Bad<'a> = Error<&'a [u8]>;
