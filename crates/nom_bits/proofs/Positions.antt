@@ -4,13 +4,13 @@ use Rattle.std.proofs.lemmas.List.{take-append-drop}
 use Rattle.std.proofs.Math.ListN.{drop_of_length-le}
 use Rattle.std.proofs.Math.Nat.{mod-lt}
 use Rattle.std.proofs.Math.Path.{fun_ext}
-use Rattle.nom_traits.specs.Input.{Seen, InputLaws, span, IsRest, input_len}
+use Rattle.nom_traits.specs.Input.{Seen, InputLaws, span, IsPlace, IsRest, input_len}
 use Rattle.nom_traits.specs.Rests.{rest_rest, span-append}
 use Rattle.nom_traits.specs.Slices.{IsCount}
 use Rattle.nom_traits.specs.Bits.{all_bits, AreBytes, past_bits, seen_bits, bits_lawful}
 use Rattle.nom_traits.specs.BitLists.{length-all_bits}
 use Rattle.nom_traits.specs.BitPlaces.{passes_bits, past_all_bits}
-use Rattle.nom_bits.specs.BitRests.{Skips, SplitsAt, bits_ahead, bits_left, bits_place, skips_length}
+use Rattle.nom_bits.specs.BitRests.{Skips, StandsBehind, SplitsAt, bits_ahead, bits_left, bits_place, skips_length}
 
 -- items of no length are none
 pub no_length : {A : Type 0} (weight : A → ℕ) → ((a : A) → 0 < weight a) → (xs : List A) → span weight xs ≡ 0 → xs ≡ []
@@ -22,6 +22,14 @@ no_items w j [] e h = ap (λ ys. span w.weight ys) e
 no_items w j (x ∷ xs) e h = absurd (omega (arith, ap length e, h))
 
 module _ {I : Type 0} (w : Seen I ℕ) (l : InputLaws w) where
+  -- bytes that are skipped, and then others
+  skips_both : (x : I) (a : ℕ) (j : I) (b : ℕ) (k : I) → Skips w x a j → Skips w j b k → Skips w x (a + b) k
+  skips_both x a j b k s t =
+      let r = rest_rest w l x s.end j t.end k s.rest_is t.rest_is in
+      let count : length r.front ≡ a + b = omega (arith, ap length r.whole, length-append r.front (w.elements k), skips_length w l x a j s, skips_length w l j b k t) in
+      let place : IsPlace w x (s.end + t.end) = record { front = r.front; rest = w.elements k; whole = r.whole; length_is = r.length_is } in
+      record { end = s.end + t.end; counted = record { place = place; count_is = count }; rest_is = r }
+
   -- fewer bytes than are skipped
   pub too_few : (x : I) (o n : ℕ) → 0 < n → length (w.elements x) < (o + n) / 8 → length ((seen_bits w).elements (x, o)) < n
   too_few x o n h k = omega (arith, bits_left w x o, h, k)
@@ -65,11 +73,20 @@ module _ {I : Type 0} (w : Seen I ℕ) (l : InputLaws w) where
         let none : 0 + o ≡ o = omega arith in
         subst (λ m. IsRest (seen_bits w) (x, o) 0 (j, m % 8)) none (passed_within x o 0 j h (omega arith) (subst (λ m. Skips w x (m / 8) j) (sym none) s))
 
+    -- the pair behind a field that begins in its first byte, behind the position that begins there
+    stands_behind : (x : I) (o n : ℕ) (j : I) (rest : I × ℕ) → 0 < n → Skips w x (o / 8) j → StandsBehind w (j, o % 8) n rest → StandsBehind w (x, o) n rest
+    stands_behind x o n j rest some s b = record {
+      none = λ e. absurd (omega (arith, some, e));
+      bytes = λ h. subst (λ m. Skips w x m rest.0) (omega arith) (skips_both x (o / 8) j ((o % 8 + n) / 8) rest.0 s (b.bytes h));
+      bit = λ h. b.bit h ∙ omega arith;
+    }
+
     -- a field behind a position
-    pub splits : (x : I) (o n : ℕ) (j : I) (rest : I × ℕ) → w.IsKnown x → Skips w x (o / 8) j → IsRest (seen_bits w) (j, o % 8) n rest → SplitsAt w (x, o) n (j, o % 8) rest
-    splits x o n j rest h s r =
+    pub splits : (x : I) (o n : ℕ) (j : I) (rest : I × ℕ) → 0 < n → w.IsKnown x → Skips w x (o / 8) j → IsRest (seen_bits w) (j, o % 8) n rest → StandsBehind w (j, o % 8) n rest → SplitsAt w (x, o) n (j, o % 8) rest
+    splits x o n j rest some h s r b =
         let there = at_byte x o j h s in
         record {
+          stands = stands_behind x o n j rest some s b;
           bits_are = at_once (x, o) (j, o % 8) there;
           begins = λ some. mod-lt o {m = 8} (lit< tt);
           rest_is = subst (λ m. IsRest (seen_bits w) (x, o) m rest) (omega arith) (rest_rest (seen_bits w) (bits_lawful w) (x, o) 0 (j, o % 8) n rest there r);
@@ -84,6 +101,7 @@ module _ {I : Type 0} (w : Seen I ℕ) (l : InputLaws w) where
     no_field i h = record {
       bits_are = refl;
       begins = λ some. absurd (omega (arith, some));
+      stands = record { none = λ e. refl; bytes = λ some. absurd (omega (arith, some)); bit = λ some. absurd (omega (arith, some)) };
       rest_is = record { known = h; front = []; whole = refl; length_is = refl; mark_is = refl };
     }
 

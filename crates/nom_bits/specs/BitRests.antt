@@ -38,12 +38,20 @@ module _ {I : Type 0} (w : Seen I ℕ) where
     pub counted : IsCount w x count end
     pub rest_is : IsRest w x end j
 
+  -- The pair behind the next bits of i, as many as count: behind none i itself, and else so many bytes on, at the bit that is
+  -- next in its byte.
+  pub record StandsBehind (i : I × ℕ) (count : ℕ) (rest : I × ℕ) : Type 0 where
+    pub none : count ≡ 0 → rest ≡ i
+    pub bytes : 0 < count → Skips i.0 ((i.1 + count) / 8) rest.0
+    pub bit : 0 < count → rest.1 ≡ (i.1 + count) % 8
+
   -- The next bits of i, as many as count, are the first of start, which begins in its first byte if there are any; and rest
   -- follows them.
   pub record SplitsAt (i : I × ℕ) (count : ℕ) (start rest : I × ℕ) : Type 0 where
     pub bits_are : (seen_bits w).elements start ≡ (seen_bits w).elements i
     pub begins : 0 < count → start.1 < 8
     pub rest_is : IsRest (seen_bits w) i count rest
+    pub stands : StandsBehind i count rest
 
   pub bits_left : (x : I) (o : ℕ) → length ((seen_bits w).elements (x, o)) ≡ 8 * length (w.elements x) - o
   bits_left x o = length-drop o (all_bits (w.elements x)) ∙ ap (λ n. n - o) (length-all_bits (w.elements x))

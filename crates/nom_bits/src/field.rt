@@ -4,7 +4,7 @@ ghost use Rattle.std.proofs.Common.{take, drop};
 ghost use Rattle.nom_traits.specs.Bits.{seen_bits, byte_bits, spelled, spelled_after};
 ghost use Rattle.nom_traits.specs.Input.{IsRest};
 ghost use Rattle.nom_traits.specs.Slices.{IsCount};
-ghost use Rattle.nom_bits.specs.BitRests.{Skips, SplitsAt};
+ghost use Rattle.nom_bits.specs.BitRests.{Skips, StandsBehind, SplitsAt};
 
 use nom_traits::input::Input;
 
@@ -25,7 +25,7 @@ fn following<I: Input<Item = u8>>(start: (I, usize), count: usize) -> Option<(I,
     requires offset { start.1 < 8 }
     requires some { 0 < count }
     requires count { count ≤ 128 }
-    ensures { MatchOption result (length ((seen_bits I.seen).elements start) < count) (λ rest. IsRest (seen_bits I.seen) start count rest) }
+    ensures { MatchOption result (length ((seen_bits I.seen).elements start) < count) (λ rest. IsRest (seen_bits I.seen) start count rest × StandsBehind I.seen start count rest) }
 {
     let (bytes, offset) = start;
     bytes.known();

@@ -1,8 +1,12 @@
 //! The parsers of bit fields.
 ghost use Rattle.std.specs.Prelude.{◌≡◌, ℕ, Bool};
+ghost use Rattle.std.specs.Result.{IfOk};
 ghost use Rattle.std.proofs.Common.{sym, ◌∙◌, ap};
+ghost use Rattle.nom_error.specs.Modes.{modes};
 ghost use Rattle.nom_traits.specs.Bits.{seen_bits};
+ghost use Rattle.nom_internal.specs.Meaning.{ShowsMeaning};
 ghost use Rattle.nom_internal.specs.Pinned.{value_pinned};
+ghost use Rattle.nom_bits.specs.BitRests.{StandsBehind};
 ghost use Rattle.nom_bits.specs.Fields.{take_meaning, tag_meaning, bool_meaning};
 ghost use Rattle.nom_bits.specs.FieldLaws.{take_lawful, take_steady, tag_lawful, tag_steady, bool_lawful, bool_steady};
 
@@ -43,7 +47,13 @@ impl<I: Input<Item = u8>, O: BitUint, E: ParseError<(I, usize)>> Parser<(I, usiz
     ghost Pins = { λ _. Unit {0} };
 
     #[inline(always)]
-    fn process<OM: OutputMode>(&mut self, input: (I, usize)) -> PResult<(I, usize), O, E> {
+    fn process<OM: OutputMode>(&mut self, input: (I, usize)) -> PResult<(I, usize), O, E>
+        requires sound { (take_meaning I.seen E.errors O.WIDTH self.old.count).IsSound }
+        ensures shown { ShowsMeaning (seen_bits I.seen) (λ t v. v ≡ O.of_bits t) (take_meaning I.seen E.errors O.WIDTH self.old.count) (modes OM.Output.BUILDS OM.Error.BUILDS OM.Incomplete.STREAMING) input result }
+        ensures kept { self.new.count ≡ self.old.count }
+        // The pair that is left.
+        ensures pair { IfOk result (λ accepted. StandsBehind I.seen input self.old.count accepted.0) }
+    {
         match next_field(input, self.count) {
             Some(found) => {
                 let number = spelling(found.start, self.count);
@@ -92,7 +102,13 @@ impl<I: Input<Item = u8>, O: BitUint, E: ParseError<(I, usize)>> Parser<(I, usiz
     ghost Pins = { λ _. Unit {0} };
 
     #[inline(always)]
-    fn process<OM: OutputMode>(&mut self, input: (I, usize)) -> PResult<(I, usize), O, E> {
+    fn process<OM: OutputMode>(&mut self, input: (I, usize)) -> PResult<(I, usize), O, E>
+        requires sound { (tag_meaning I.seen E.errors O.WIDTH self.old.pattern self.old.count).IsSound }
+        ensures shown { ShowsMeaning (seen_bits I.seen) (λ t v. v ≡ O.of_bits t) (tag_meaning I.seen E.errors O.WIDTH self.old.pattern self.old.count) (modes OM.Output.BUILDS OM.Error.BUILDS OM.Incomplete.STREAMING) input result }
+        ensures kept { ◌≡◌ {A = ℕ × ℕ} (self.new.pattern, self.new.count) (self.old.pattern, self.old.count) }
+        // The pair that is left.
+        ensures pair { IfOk result (λ accepted. StandsBehind I.seen input self.old.count accepted.0) }
+    {
         match next_field(input, self.count) {
             Some(found) => {
                 let number = spelling(found.start, self.count);
@@ -141,7 +157,12 @@ impl<I: Input<Item = u8>, E: ParseError<(I, usize)>> Parser<(I, usize)> for Bool
     ghost Pins = { λ _. Unit {0} };
 
     #[inline(always)]
-    fn process<OM: OutputMode>(&mut self, input: (I, usize)) -> PResult<(I, usize), bool, E> {
+    fn process<OM: OutputMode>(&mut self, input: (I, usize)) -> PResult<(I, usize), bool, E>
+        requires sound { (bool_meaning I.seen E.errors).IsSound }
+        ensures shown { ShowsMeaning (seen_bits I.seen) (λ t v. v ≡ t) (bool_meaning I.seen E.errors) (modes OM.Output.BUILDS OM.Error.BUILDS OM.Incomplete.STREAMING) input result }
+        // The pair that is left.
+        ensures pair { IfOk result (λ accepted. StandsBehind I.seen input 1 accepted.0) }
+    {
         match next_field(input, 1) {
             Some(found) => {
                 let number = spelling(found.start, 1);
