@@ -2,18 +2,20 @@
 //!
 //! Where there are fewer bits, each needs as many as it takes.
 ghost use Rattle.std.specs.Prelude.{◌≡◌, ◌≤◌, true};
+ghost use Rattle.std.specs.Result.{IfOk};
 ghost use Rattle.nom_traits.specs.Bits.{seen_bits};
 ghost use Rattle.nom_internal.specs.Meaning.{ParsesMeaning};
+ghost use Rattle.nom_bits.specs.BitRests.{StandsBehind};
 ghost use Rattle.nom_bits.specs.Fields.{bool_meaning};
 
 use crate::leaf::{Bool, Tag, Take};
 use crate::number::BitUint;
 use nom_error::answer::IResult;
-use nom_error::mode::Streaming;
+use nom_error::mode::{Emit, OutputM, Streaming};
 use nom_error::value::ParseError;
 use nom_internal::fixed::Fixed;
 use nom_internal::one_mode::fixed;
-use nom_internal::parser::Parser;
+use nom_internal::parser::{Parser, full};
 use nom_traits::convert::ToUsize;
 use nom_traits::input::Input;
 use std::marker::PhantomData;
@@ -46,8 +48,10 @@ pub fn tag<I, O: BitUint, C: ToUsize + Drop, E>(
 pub fn bool<I: Input<Item = u8>, E: ParseError<(I, usize)>>(
     input: (I, usize),
 ) -> IResult<(I, usize), bool, E>
-    ensures { ParsesMeaning (seen_bits I.seen) (λ t v. v ≡ t) (bool_meaning I.seen E.errors) true input result }
+    ensures shown { ParsesMeaning (seen_bits I.seen) (λ t v. v ≡ t) (bool_meaning I.seen E.errors) true input result }
+    // The pair that is left.
+    ensures pair { IfOk result (λ accepted. StandsBehind I.seen input 1 accepted.0) }
 {
     let mut parser = Bool::<I, E> { types: PhantomData };
-    parser.parse(input)
+    full(parser.process::<OutputM<Emit, Emit, Streaming>>(input))
 }

@@ -199,7 +199,7 @@ pub trait StreamParser<I: Items>: Parser<I, Output: Viewed> {
 
 /// A result in which outputs and errors are built, without their options.
 #[inline(always)]
-fn full<I: Drop, O: Drop, E: Drop>(answer: PResult<I, O, E>) -> IResult<I, O, E>
+pub fn full<I: Drop, O: Drop, E: Drop>(answer: PResult<I, O, E>) -> IResult<I, O, E>
     requires { IsFull answer }
     ensures { HoldsSame answer result }
 {
