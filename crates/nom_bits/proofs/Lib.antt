@@ -1,4 +1,5 @@
 pub mod Bridged
+pub mod Functions
 pub mod Positions
 pub mod Shown
 pub mod Spellings

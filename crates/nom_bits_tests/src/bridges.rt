@@ -1,5 +1,8 @@
 //! Parsers of bits among parsers of bytes, and the other way round.
 
+ghost use Rattle.nom_traits.specs.Bytes.{seen_bytes};
+ghost use Rattle.nom_internal.specs.Growing.{AreCuts};
+
 use crate::ended::{Bits, Ended, Fail, how};
 use nom_bits::{ErrorConvert, bits, bytes, complete, take};
 use nom_branch::alt;
@@ -8,7 +11,8 @@ use nom_error::answer::{Err, IResult, Needed};
 use nom_error::kind::ErrorKind;
 use nom_error::mode::{Check, OutputM, Streaming};
 use nom_error::value::Error;
-use nom_growing::growing::parse_growing;
+use nom_internal::function::stream_func;
+use nom_internal::growing::{Grown, parse_growing};
 use nom_internal::parser::Parser;
 
 type Bad<'a> = Error<&'a [u8]>;
@@ -106,4 +110,21 @@ fn converted_errors(rt: HostRuntime) {
     assert!(rt; of_bytes == ((input, 0), ErrorKind::Tag));
     let nothing: () = ().convert();
     assert!(rt; nothing == ());
+}
+
+/// The first bit of an input of bytes that grows, by a function.
+fn grown_bit<'a>(input: &'a [u8], cuts: &[usize]) -> Grown<&'a [u8], bool, Bad<'a>>
+    requires { AreCuts seen_bytes input cuts.now }
+{
+    let bit = stream_func(nom_bits::streaming::bool::<&[u8], Fail<'_>>);
+    parse_growing(bits(bit), input, cuts)
+}
+
+#[test]
+fn a_bit_that_grows(rt: HostRuntime) {
+    let grown = grown_bit(b"\x80x", &[0]);
+    match grown.result {
+        Ok((rest, bit)) => assert!(rt; grown.index == 1 && rest == b"x".as_slice() && bit),
+        Err(_) => panic!(rt; "refused"),
+    }
 }

@@ -9,6 +9,7 @@ ghost use Rattle.std.specs.Prelude.{◌≡◌, ◌==◌, if◌then◌else◌, co
 ghost use Rattle.nom_vectors.specs.Rows.{is_wrong};
 
 mod answers;
+mod bits;
 mod branch;
 mod bytes;
 mod character;
@@ -49,6 +50,9 @@ fn run_row(alloc: Global, number: usize) -> Outcome {
         4 => Outcome::of(multi::row_4(alloc)),
         5 => Outcome::of(multi::row_5(alloc)),
         6 => Outcome::of(bytes::row_6()),
+        7 => Outcome::of(bits::row_7()),
+        8 => Outcome::of(bits::row_8(alloc)),
+        9 => Outcome::of(bits::row_9()),
         11 => Outcome::of(character::row_11()),
         12 => Outcome::of(bytes::row_12()),
         13 => Outcome::of(multi::row_13()),

@@ -1,0 +1,25 @@
+-- `bool` of the modules is a parser for `func`, and that of `streaming` for `stream_func`.
+use Rattle.std.specs.Prelude.{◌≡◌, ℕ, Bool, true}
+use Rattle.nom_error.specs.Errors.{Errors}
+use Rattle.nom_traits.specs.Bits.{seen_bits}
+use Rattle.nom_traits.specs.Input.{Seen}
+use Rattle.nom_traits.specs.View.{itself}
+use Rattle.nom_internal.specs.Outcome.{ParsesAnswer}
+use Rattle.nom_internal.specs.Func.{IsParser, IsStreamParser}
+use Rattle.nom_internal.specs.Pinned.{value_pinned}
+use Rattle.nom_internal.proofs.FuncSound.{func_parses, stream_func_parses}
+use Rattle.nom_bits.specs.Fields.{bool_meaning}
+use Rattle.nom_bits.specs.FieldLaws.{bool_lawful, bool_steady}
+
+-- What `bool` answers doesn't depend on its errors.
+abbrev no_errors : {I E : Type 0} → Errors I E
+no_errors = record { of_kind = λ _ _ _. ⊥; appended = λ _ _ _ _. ⊥; of_char = λ _ _ _. ⊥; joined = λ _ _ _. ⊥; grows = ⊥ }
+
+module _ {I E : Type 0} {w : Seen I ℕ} {IsError : I × ℕ → E → Type 0} {RunsOut : I × ℕ → Type 0} where
+  pub bool_func : (s : Bool) → IsParser (seen_bits w) itself (λ i r. ParsesAnswer (seen_bits w) (λ t v. v ≡ t) i ((bool_meaning w {E = E} no_errors).answers s i) (IsError i) (RunsOut i) r) (λ i. Unit {0})
+  bool_func s = func_parses {IsError = IsError} {RunsOut = RunsOut} ((bool_lawful w {E = E} no_errors).one_outcome s) value_pinned
+
+  pub bool_stream_func : IsStreamParser (seen_bits w) itself (λ i r. ParsesAnswer (seen_bits w) (λ t v. v ≡ t) i ((bool_meaning w {E = E} no_errors).answers true i) (IsError i) (RunsOut i) r) (λ i. Unit {0})
+  bool_stream_func =
+      let l = bool_lawful w {E = E} no_errors in
+      stream_func_parses {IsError = IsError} {RunsOut = RunsOut} (l.one_outcome true) (bool_steady w {E = E} no_errors) (λ i h a. l.never_fails true tt true i h a) value_pinned
