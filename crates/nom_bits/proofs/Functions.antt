@@ -5,9 +5,9 @@ use Rattle.nom_traits.specs.Bits.{seen_bits}
 use Rattle.nom_traits.specs.Input.{Seen}
 use Rattle.nom_traits.specs.View.{itself}
 use Rattle.nom_internal.specs.Outcome.{ParsesAnswer}
-use Rattle.nom_internal.specs.Func.{IsParser, IsStreamParser}
+use Rattle.nom_func.specs.Func.{IsParser, IsStreamParser}
 use Rattle.nom_internal.specs.Pinned.{value_pinned}
-use Rattle.nom_internal.proofs.FuncSound.{func_parses, stream_func_parses}
+use Rattle.nom_func.proofs.FuncSound.{func_parses, stream_func_parses}
 use Rattle.nom_bits.specs.Fields.{bool_meaning}
 use Rattle.nom_bits.specs.FieldLaws.{bool_lawful, bool_steady}
 

@@ -1,7 +1,7 @@
 //! Parsers of bits among parsers of bytes, and the other way round.
 
 ghost use Rattle.nom_traits.specs.Bytes.{seen_bytes};
-ghost use Rattle.nom_internal.specs.Growing.{AreCuts};
+ghost use Rattle.nom_growing.specs.Growing.{AreCuts};
 
 use crate::ended::{Bits, Ended, Fail, how};
 use nom_bits::{ErrorConvert, bits, bytes, complete, take};
@@ -11,8 +11,8 @@ use nom_error::answer::{Err, IResult, Needed};
 use nom_error::kind::ErrorKind;
 use nom_error::mode::{Check, OutputM, Streaming};
 use nom_error::value::Error;
-use nom_internal::function::stream_func;
-use nom_internal::growing::{Grown, parse_growing};
+use nom_func::function::stream_func;
+use nom_growing::growing::{Grown, parse_growing};
 use nom_internal::parser::Parser;
 
 type Bad<'a> = Error<&'a [u8]>;
