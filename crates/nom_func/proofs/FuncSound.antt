@@ -115,6 +115,14 @@ module _ {I A V O E : Type 0} {w : Seen I A} {view : View O} {IsOutput : V → O
   pub stream_func_sound : IsLawful w m → IsSteady w m → NeverTooLarge m → IsPinned view IsOutput → ((i : I) → w.IsKnown i → Takes i) → ((i : I) (r : Result (I × O) (Answer.Err E E Needed)) → w.IsKnown i → Gives i r → ParsesMeaning w IsOutput m true i r) → IsStreamParser w view Gives Takes
   stream_func_sound lawful steady never pinned takes shows = stream_parser_by {IsError = λ i. m.blames true i} {RunsOut = λ i. m.runs_out (modes true true true) i} (lawful.one_outcome true) pinned takes shows steady (λ i h a. lawful.never_fails true never true i h a)
 
+-- Of a function whose contract says so, and maybe more.
+module _ {I A V O E : Type 0} {w : Seen I A} {view : View O} {IsOutput : V → O → Type 0} {Answers : I → Outcome V → Type 0} {IsError : I → E → Type 0} {RunsOut : I → Type 0} {Gives : I → Result (I × O) (Answer.Err E E Needed) → Type 0} {Takes : I → Type 0} where
+  pub func_says : Agree w false Answers Answers → IsPinned view IsOutput → ((i : I) → w.IsKnown i → Takes i) → ((i : I) (r : Result (I × O) (Answer.Err E E Needed)) → w.IsKnown i → Gives i r → ParsesAnswer w IsOutput i (Answers i) (IsError i) (RunsOut i) r) → IsParser w view Gives Takes
+  func_says one pinned takes says = parser_by {IsError = IsError} {RunsOut = RunsOut} one pinned takes says
+
+  pub stream_func_says : Agree w false Answers Answers → Agree w true Answers Answers → ((i : I) → w.IsKnown i → Answers i TooLarge → ⊥) → IsPinned view IsOutput → ((i : I) → w.IsKnown i → Takes i) → ((i : I) (r : Result (I × O) (Answer.Err E E Needed)) → w.IsKnown i → Gives i r → ParsesAnswer w IsOutput i (Answers i) (IsError i) (RunsOut i) r) → IsStreamParser w view Gives Takes
+  stream_func_says one steady never pinned takes says = stream_parser_by {IsError = IsError} {RunsOut = RunsOut} one pinned takes says steady never
+
 -- Of a function without a premise, whose contract says so itself: what it blames, and where it takes memory, doesn't matter.
 module _ {I A V O E : Type 0} {w : Seen I A} {view : View O} {IsOutput : V → O → Type 0} {Answers : I → Outcome V → Type 0} {IsError : I → E → Type 0} {RunsOut : I → Type 0} where
   pub func_parses : Agree w false Answers Answers → IsPinned view IsOutput → IsParser w view (λ i r. ParsesAnswer w IsOutput i (Answers i) (IsError i) (RunsOut i) r) (λ i. Unit {0})
