@@ -5,7 +5,8 @@ use nom_error::answer::OutOfMemory;
 use nom_hex::hex::HexDisplay;
 use std::alloc::AllocError;
 
-const TWO_LINES: &str = "00000010\t61 62 63 64 65 66 67 68 \tabcdefgh\n00000018\t69                      \ti\n";
+const TWO_LINES: &str =
+    "00000010\t61 62 63 64 65 66 67 68 \tabcdefgh\n00000018\t69                      \ti\n";
 
 const ONE_LINE: &str = "00000000\t61 62 63                \tabc\n";
 
@@ -21,7 +22,9 @@ fn lines_of_a_chunk(rt: HostRuntime) -> Result<(), OutOfMemory> {
 
 #[test]
 fn the_last_offset(rt: HostRuntime) -> Result<(), OutOfMemory> {
-    let dump = b"a".as_slice().to_hex_from(rt.alloc(), 1, 18446744073709551615)?;
+    let dump = b"a"
+        .as_slice()
+        .to_hex_from(rt.alloc(), 1, 18446744073709551615)?;
     assert!(rt; dump.as_str() == "ffffffffffffffff\t61 \ta\n");
     Ok(())
 }
