@@ -53,6 +53,13 @@ module _ (bs t : List ℕ) where
               (m - start, same, occurs_back (m - start) (subst (OccursAt bs t) same h))
         ]
 
+    pub found_there : OccursAt (drop start bs) t 0 → FindsBytes t bs (Some start)
+    found_there h =
+        let same : start + 0 ≡ start = omega arith in (
+          stands start (subst (OccursAt bs t) same (occurs_on 0 h)),
+          λ m s. let b = behind m (occurs m s) in omega (arith, b.1),
+        )
+
     pub found_behind : (n : ℕ) → FindsNeedle (drop start bs) t 0 (Some n) → FindsBytes t bs (Some (start + n))
     found_behind n h = (
       stands (start + n) (occurs_on n h.1),

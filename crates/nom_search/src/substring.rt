@@ -5,6 +5,7 @@ ghost use Rattle.memchr.specs.Find.{FindsNeedle, Nowhere, OccursAt};
 ghost use Rattle.nom_search.specs.Substrings.{FindLaws, FindsBytes, FindsFirst};
 ghost use Rattle.nom_search.specs.SubstringLaws.{bytes_finding, text_finding};
 
+use memchr::arch::all::is_prefix;
 use memchr::{memchr, memmem};
 use nom_traits::input::Items;
 
@@ -74,7 +75,8 @@ impl<'a, 'b> FindSubstring<&'b str> for &'a str {
 }
 
 /// The first place of some bytes.
-// Bytes before the needle's first byte are passed over by `memchr`, which looks for one byte in place of two.
+// Bytes before the needle's first byte are passed over by `memchr`, which looks for one byte in place of
+// two. Often the needle stands there, and a searcher need not be made.
 #[inline]
 fn find_bytes(bytes: &[u8], needle: &[u8]) -> Option<usize>
     ensures { FindsBytes needle.now bytes.now result }
@@ -92,7 +94,11 @@ fn first_behind(bytes: &[u8], needle: &[u8], start: usize) -> Option<usize>
     requires none { Nowhere (OccursAt bytes.now needle.now) 0 start }
     ensures { FindsBytes needle.now bytes.now result }
 {
-    match first_match(&bytes[start..], needle) {
+    let rest = &bytes[start..];
+    if is_prefix(rest, needle) {
+        return Some(start);
+    }
+    match first_match(rest, needle) {
         Some(place) => Some(start + place),
         None => None,
     }
