@@ -23,6 +23,7 @@ pub use nom_error::finish::{Finish, FinishError};
 pub use nom_error::mode::{
     Check, Complete, Emit, IsStreaming, Mode, OutputM, OutputMode, Streaming,
 };
+pub use nom_hex::hex::HexDisplay;
 pub use nom_internal::and_then::AndThen;
 pub use nom_internal::either::Or;
 pub use nom_internal::flat_map::FlatMap;

@@ -1,13 +1,17 @@
 -- Where bytes stand in bytes.
-use Rattle.std.proofs.Common.{◌≡◌, ℕ, ◌+◌, ◌++◌, Option, List, length, take, drop, sym, ◌∙◌, ap, inl, inr, arith, length-append}
+use Rattle.std.proofs.Common.{◌≡◌, ℕ, ◌+◌, ◌-◌, ◌≤◌, ◌++◌, Option, List, length, take, drop, get_or, sym, ◌∙◌, ap, subst, inl, inr, arith, length-append, length-drop}
 use Rattle.std.specs.Prelude.{Some, None}
 use Rattle.std.proofs.lemmas.Bool.{cases_lt}
 use Rattle.std.proofs.Math.Seq.{take-append_seam, drop-append_seam}
-use Rattle.std.proofs.lemmas.List.{length-take-le, take-append-drop}
-use Rattle.memchr.specs.Find.{OccursAt, FindsNeedle}
+use Rattle.std.proofs.lemmas.List.{length-take-le, take-append-drop, take_all, get_or-drop}
+use Rattle.memchr.specs.Find.{Nowhere, OccursAt, FindsNeedle}
 use Rattle.memchr.proofs.lemmas.MatchLemmas.{OccursAt-split, OccursAt-from_part}
 use Rattle.nom_traits.specs.Rests.{span-ones}
 use Rattle.nom_search.specs.Substrings.{StandsAt, FindsBytes}
+
+-- the bytes from a place on, as a slice gives them
+pub rest_is : (bs : List ℕ) (n : ℕ) → take (length bs - n) (drop n bs) ≡ drop n bs
+rest_is bs n = take_all (length bs - n) (drop n bs) (omega (arith, length-drop n bs))
 
 module _ (bs t : List ℕ) where
   stands : (n : ℕ) → OccursAt bs t n → StandsAt (λ _. 1) t bs n
@@ -25,7 +29,50 @@ module _ (bs t : List ℕ) where
       OccursAt-from_part bs t n (omega (arith, size, ap length s.whole, length-append s.before (t ++ s.rest), length-append t s.rest))
       (ap (λ ys. take (length t) ys) dropped ∙ take-append_seam t s.rest)
 
-  -- the searcher's first match is the least place
-  pub first_stands : (r : Option ℕ) → FindsNeedle bs t 0 r → FindsBytes t bs r
-  first_stands None h = λ m s. let o = occurs m s in h m (omega arith) (omega (arith, o.fits)) o
-  first_stands (Some n) h = (stands n h.1, λ m s. elim (cases_lt m n) [ inl k ↦ absurd ((h.0).before m (omega arith) k (occurs m s)) | inr k ↦ k ])
+  -- what the searcher finds behind a place before which the needle stands nowhere
+  module _ (start : ℕ) (room : start ≤ length bs) (none : Nowhere (OccursAt bs t) 0 start) where
+    occurs_on : (n : ℕ) → OccursAt (drop start bs) t n → OccursAt bs t (start + n)
+    occurs_on n h = record {
+      fits = omega (arith, h.fits, length-drop start bs, room);
+      reads = λ j l. ap (λ k. get_or bs k 0) (omega arith) ∙ sym (get_or-drop start bs (n + j) 0) ∙ h.reads j l;
+    }
+
+    occurs_back : (n : ℕ) → OccursAt bs t (start + n) → OccursAt (drop start bs) t n
+    occurs_back n h = record {
+      fits = omega (arith, h.fits, length-drop start bs, room);
+      reads = λ j l. get_or-drop start bs (n + j) 0 ∙ ap (λ k. get_or bs k 0) (omega arith) ∙ h.reads j l;
+    }
+
+    -- a place where the needle stands is as far behind the start
+    behind : (m : ℕ) → OccursAt bs t m → (n : ℕ) × (m ≡ start + n) × OccursAt (drop start bs) t n
+    behind m h =
+        elim (cases_lt m start) [
+          | inl k ↦ absurd (none m (omega arith) k h)
+          | inr k ↦
+              let same : m ≡ start + (m - start) = omega arith in
+              (m - start, same, occurs_back (m - start) (subst (OccursAt bs t) same h))
+        ]
+
+    pub found_there : OccursAt (drop start bs) t 0 → FindsBytes t bs (Some start)
+    found_there h =
+        let same : start + 0 ≡ start = omega arith in (
+          stands start (subst (OccursAt bs t) same (occurs_on 0 h)),
+          λ m s. let b = behind m (occurs m s) in omega (arith, b.1),
+        )
+
+    pub found_behind : (n : ℕ) → FindsNeedle (drop start bs) t 0 (Some n) → FindsBytes t bs (Some (start + n))
+    found_behind n h = (
+      stands (start + n) (occurs_on n h.1),
+      λ m s.
+          let b = behind m (occurs m s) in
+          elim (cases_lt b.0 n) [ inl k ↦ absurd ((h.0).before b.0 (omega arith) k b.2) | inr k ↦ omega (arith, k, b.1) ],
+    )
+
+    pub none_behind : FindsNeedle (drop start bs) t 0 None → FindsBytes t bs None
+    none_behind h = λ m s.
+        let b = behind m (occurs m s) in
+        let o = b.2 in
+        h b.0 (omega arith) (omega (arith, o.fits)) o
+
+  pub nowhere : Nowhere (OccursAt bs t) 0 (length bs + 1) → FindsBytes t bs None
+  nowhere h = λ m s. let o = occurs m s in h m (omega arith) (omega (arith, o.fits)) o

@@ -1,11 +1,12 @@
 //! Substrings that are looked for.
-ghost use Rattle.std.specs.Prelude.{ℕ, List, Option, chars};
+ghost use Rattle.std.specs.Prelude.{ℕ, ◌+◌, ◌≤◌, List, Option, length, chars, MatchOption};
 ghost use Rattle.std.specs.Char.{len_utf8};
-ghost use Rattle.memchr.specs.Find.{FindsNeedle};
+ghost use Rattle.memchr.specs.Find.{FindsNeedle, Nowhere, OccursAt};
 ghost use Rattle.nom_search.specs.Substrings.{FindLaws, FindsBytes, FindsFirst};
 ghost use Rattle.nom_search.specs.SubstringLaws.{bytes_finding, text_finding};
 
-use memchr::memmem;
+use memchr::arch::all::is_prefix;
+use memchr::{memchr, memmem};
 use nom_traits::input::Items;
 
 /// An input in which needles of type `T` are looked for.
@@ -74,14 +75,49 @@ impl<'a, 'b> FindSubstring<&'b str> for &'a str {
 }
 
 /// The first place of some bytes.
+// Bytes before the needle's first byte are passed over by `memchr`, which looks for one byte in place of
+// two. Often the needle stands there, and a searcher need not be made.
 #[inline]
 fn find_bytes(bytes: &[u8], needle: &[u8]) -> Option<usize>
     ensures { FindsBytes needle.now bytes.now result }
 {
-    first_match(bytes, needle)
+    match first_candidate(bytes, needle) {
+        Some(start) => first_behind(bytes, needle, start),
+        None => None,
+    }
 }
 
-/// The same, in the words of the searcher.
+/// The same, where the needle stands nowhere before `start`.
+#[inline(always)]
+fn first_behind(bytes: &[u8], needle: &[u8], start: usize) -> Option<usize>
+    requires room { start ≤ length bytes.now }
+    requires none { Nowhere (OccursAt bytes.now needle.now) 0 start }
+    ensures { FindsBytes needle.now bytes.now result }
+{
+    let rest = &bytes[start..];
+    if is_prefix(rest, needle) {
+        return Some(start);
+    }
+    match first_match(rest, needle) {
+        Some(place) => Some(start + place),
+        None => None,
+    }
+}
+
+/// A place before which the needle stands nowhere; `None` where it stands nowhere at all.
+#[inline(always)]
+fn first_candidate(bytes: &[u8], needle: &[u8]) -> Option<usize>
+    ensures { MatchOption result
+        (Nowhere (OccursAt bytes.now needle.now) 0 (length bytes.now + 1))
+        (λ start. (start ≤ length bytes.now) × Nowhere (OccursAt bytes.now needle.now) 0 start) }
+{
+    match needle.first() {
+        Some(first) => memchr(*first, bytes),
+        None => Some(0),
+    }
+}
+
+/// The first place of some bytes, in the words of the searcher.
 #[inline(always)]
 fn first_match(bytes: &[u8], needle: &[u8]) -> Option<usize>
     ensures { FindsNeedle bytes.now needle.now 0 result }

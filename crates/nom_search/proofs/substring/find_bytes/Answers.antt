@@ -1,5 +1,5 @@
-use Rattle.nom_search.proofs.BytePlaces.{first_stands}
+use Rattle.nom_search.proofs.BytePlaces.{nowhere}
 use Rattle.nom_search.proofs.substring.find_bytes.Goals as goal
 
-pub returns : goal.returns
-returns c = first_stands c.args.bytes.now c.args.needle.now c.first_match.result c.first_match.ensures
+pub returns-in-None : goal.returns-in-None
+returns-in-None c = nowhere c.args.bytes.now c.args.needle.now c.in-None.ensures

@@ -1,0 +1,102 @@
+//! Values that are shown as hex dumps.
+ghost use Rattle.std.specs.Prelude.{◌≡◌, ◌<◌, ℕ, List, length, IfOk, OnErr, string_bytes, encode_utf8_all};
+ghost use Rattle.std.specs.Str.{IsAscii};
+ghost use Rattle.bstr.specs.Utf8.{lossy_chars};
+ghost use Rattle.nom_hex.specs.Dumps.{hex_dump, OffsetsFit};
+
+use crate::dump::{dump_bytes, lossy_text};
+use nom_error::answer::OutOfMemory;
+use std::alloc::Allocator;
+
+/// A value whose bytes are shown as a hex dump: a line for each `chunk_size` of them, with the offset of
+/// the first in at least eight hexadecimal digits, a tab, each byte as two digits and a space, three spaces
+/// for each that is missing, a tab, the bytes as characters, and the end of the line. A point stands for
+/// each control character, and the whole is made a text with U+FFFD for what isn't UTF-8.
+pub trait HexDisplay {
+    /// The bytes.
+    ghost bytes: { Self → List ℕ };
+
+    /// The dump, whose first offset is 0.
+    fn to_hex<A: Allocator + Copy>(
+        self,
+        alloc: A,
+        chunk_size: usize,
+    ) -> Result<String<A>, OutOfMemory>
+        requires { 0 < chunk_size }
+        ensures text { IfOk result (λ text. string_bytes text ≡ encode_utf8_all (lossy_chars (hex_dump chunk_size 0 (bytes self)))) }
+        ensures ascii { IsAscii (bytes self) → IfOk result (λ text. string_bytes text ≡ hex_dump chunk_size 0 (bytes self)) }
+        ensures memory { OnErr result (0 < length (bytes self)) };
+
+    /// The dump, whose first offset is `from`.
+    fn to_hex_from<A: Allocator + Copy>(
+        self,
+        alloc: A,
+        chunk_size: usize,
+        from: usize,
+    ) -> Result<String<A>, OutOfMemory>
+        requires chunk { 0 < chunk_size }
+        requires offsets { OffsetsFit chunk_size from (bytes self) }
+        ensures text { IfOk result (λ text. string_bytes text ≡ encode_utf8_all (lossy_chars (hex_dump chunk_size from (bytes self)))) }
+        ensures ascii { IsAscii (bytes self) → IfOk result (λ text. string_bytes text ≡ hex_dump chunk_size from (bytes self)) }
+        ensures memory { OnErr result (0 < length (bytes self)) };
+}
+
+impl HexDisplay for &[u8] {
+    ghost bytes = { λ s. s.now };
+
+    fn to_hex<A: Allocator + Copy>(
+        self,
+        alloc: A,
+        chunk_size: usize,
+    ) -> Result<String<A>, OutOfMemory> {
+        hex_text(alloc, self, chunk_size, 0)
+    }
+
+    fn to_hex_from<A: Allocator + Copy>(
+        self,
+        alloc: A,
+        chunk_size: usize,
+        from: usize,
+    ) -> Result<String<A>, OutOfMemory> {
+        hex_text(alloc, self, chunk_size, from)
+    }
+}
+
+/// A text is dumped as the bytes of its UTF-8 form.
+impl HexDisplay for &str {
+    ghost bytes = { λ s. s.now };
+
+    fn to_hex<A: Allocator + Copy>(
+        self,
+        alloc: A,
+        chunk_size: usize,
+    ) -> Result<String<A>, OutOfMemory> {
+        hex_text(alloc, self.as_bytes(), chunk_size, 0)
+    }
+
+    fn to_hex_from<A: Allocator + Copy>(
+        self,
+        alloc: A,
+        chunk_size: usize,
+        from: usize,
+    ) -> Result<String<A>, OutOfMemory> {
+        hex_text(alloc, self.as_bytes(), chunk_size, from)
+    }
+}
+
+/// The dump of some bytes, as a text.
+fn hex_text<A: Allocator + Copy>(
+    alloc: A,
+    bytes: &[u8],
+    chunk_size: usize,
+    from: usize,
+) -> Result<String<A>, OutOfMemory>
+    requires chunk { 0 < chunk_size }
+    requires offsets { OffsetsFit chunk_size from bytes.now }
+    ensures text { IfOk result (λ text. string_bytes text ≡ encode_utf8_all (lossy_chars (hex_dump chunk_size from bytes.now))) }
+    ensures ascii { IsAscii bytes.now → IfOk result (λ text. string_bytes text ≡ hex_dump chunk_size from bytes.now) }
+    ensures memory { OnErr result (0 < length bytes.now) }
+{
+    let dump = dump_bytes(alloc, bytes, chunk_size, from)?;
+    lossy_text(alloc, dump.as_slice())
+}

@@ -1,0 +1,5 @@
+//! Hex dumps of bytes and texts.
+#![tactic(auto)]
+
+mod dump;
+pub mod hex;

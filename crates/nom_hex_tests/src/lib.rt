@@ -1,0 +1,5 @@
+//! Tests of hex dumps.
+#![tactic(auto)]
+
+#[cfg(test)]
+mod tests;
