@@ -10,7 +10,7 @@ use Rattle.nom_internal.specs.Outcome.Outcome.{Accept}
 use Rattle.nom_internal.specs.Meaning.{Meaning, IsLawful, IsSteady, Agree, Carries, SameBlame}
 use Rattle.nom_folds.specs.Unfit.{Where, unfit_outcome, unfit}
 
-no_accept : {V : Type 0} (fails : Bool) (n : ℕ) (v : V) → Accept n v ≡ unfit_outcome fails → ⊥
+pub no_accept : {V : Type 0} (fails : Bool) (n : ℕ) (v : V) → Accept n v ≡ unfit_outcome fails → ⊥
 no_accept true n v e = absurd (cc (e))
 no_accept false n v e = absurd (cc (e))
 

@@ -9,6 +9,7 @@ mod failing;
 mod folded;
 mod folds;
 mod gathered;
+pub mod promises;
 mod ranged;
 
 pub use crate::counts::{Many0Count, Many1Count};
