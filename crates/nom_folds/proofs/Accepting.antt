@@ -1,7 +1,7 @@
 -- What counts, folds and lists over a range accept.
 use Rattle.std.specs.Prelude.{◌↔◌}
 use Rattle.std.specs.declared.ops.Bound.{Bound}
-use Rattle.std.proofs.Common.{◌≡◌, ◌∙◌, Bool, true, false, ℕ, ◌+◌, ◌<◌, ◌≤◌, ◌⊎◌, Option, Some, None, List, [], ◌∷◌, ◌++◌, refl, subst, sym, inl, inr}
+use Rattle.std.proofs.Common.{◌≡◌, Bool, true, false, ℕ, ◌+◌, ◌<◌, Option, Some, None, List, [], ◌∷◌, refl, subst, sym, inl, inr}
 use Rattle.nom_error.specs.Errors.{Errors}
 use Rattle.nom_error.specs.declared.kind.ErrorKind.{ErrorKind}
 use Rattle.nom_error.specs.declared.kind.ErrorKind.TheVariants as Kind
@@ -15,15 +15,16 @@ use Rattle.nom_repeat.specs.Repeat.{Pieces}
 use Rattle.nom_repeat.specs.Items.{items_meaning}
 use Rattle.nom_repeat.specs.Accepted.{MayTake, TakesItem, EndsItems, InTurn, OneAndMore, AcceptsItems, AcceptsOneAndMore}
 use Rattle.nom_repeat.specs.declared.items.Limits.{Limits}
-use Rattle.nom_repeat.specs.declared.items.TooFew.TheVariants.{Never, Fresh}
+use Rattle.nom_repeat.specs.declared.items.TooFew.TheVariants.{Fresh}
 use Rattle.nom_repeat.proofs.AcceptedItems.{items_accept, accepted_in_turn, in_turn_accepted}
 use Rattle.nom_repeat.proofs.AcceptedMore.{one_and_more_accept}
-use Rattle.nom_folds.specs.Counts.{count0_limits, many0_count_meaning, many1_count_meaning}
+use Rattle.nom_folds.specs.Counts.{many0_count_meaning, many1_count_meaning}
 use Rattle.nom_folds.specs.Dropped.{dropped_meaning}
-use Rattle.nom_folds.specs.Folds.{fold0_limits, fold_many0_meaning, fold_many1_meaning, fold_m_n_limits, fold_many_m_n_meaning}
+use Rattle.nom_folds.specs.Folds.{fold_many0_meaning, fold_many1_meaning, fold_many_m_n_meaning}
 use Rattle.nom_folds.specs.Ranges.{range_limits, IsEmpty, range_meaning}
-use Rattle.nom_folds.specs.Unfit.{unfit, unfit_outcome}
-use Rattle.nom_folds.specs.UnfitLaws.{no_accept}
+use Rattle.nom_repeat.specs.InvertedLaws.{no_accept}
+use Rattle.nom_folds.specs.Unfit.{unfit}
+use Rattle.nom_repeat.specs.Bounds.{any_limits, bounded_limits}
 
 module _ {I A V E : Type 0} (w : Seen I A) (errs : Errors I E) (kind : ErrorKind) (fails : Bool) (IsUnfit : Type 0) (b : Limits) (Grows : Type 0) (m : Meaning I V E) where
   -- bounds that fit each other
@@ -36,13 +37,13 @@ module _ {I A V E : Type 0} (w : Seen I A) (errs : Errors I E) (kind : ErrorKind
 
 module _ {I A V E : Type 0} (w : Seen I A) (errs : Errors I E) (m : Meaning I V E) where
   pub fold_many0_accepts_items : (Premise : Type 0) → AcceptsItems w (Unit {0}) (λ a. 0 < a) 0 None m (fold_many0_meaning w errs Premise m)
-  fold_many0_accepts_items Premise = items_accept w errs fold0_limits ⊥ m
+  fold_many0_accepts_items Premise = items_accept w errs (any_limits Kind.Many0) ⊥ m
 
   pub fold_many1_accepts_more : (Premise : Type 0) → AcceptsOneAndMore w m m (fold_many1_meaning w errs Premise m)
-  fold_many1_accepts_more Premise = one_and_more_accept w errs (Fresh Kind.Many1) Never true Kind.Many1 ⊥ ⊥ m m
+  fold_many1_accepts_more Premise = one_and_more_accept w errs (Fresh Kind.Many1) true Kind.Many1 ⊥ ⊥ m m
 
   pub fold_many_m_n_accepts_items : (least most : ℕ) (Premise : Type 0) → AcceptsItems w (most < least → ⊥) (λ a. 0 < a) least (Some most) m (fold_many_m_n_meaning w errs least most Premise m)
-  fold_many_m_n_accepts_items least most Premise = fit_accept w errs Kind.ManyMN false (most < least) (fold_m_n_limits least most) ⊥ m
+  fold_many_m_n_accepts_items least most Premise = fit_accept w errs Kind.ManyMN false (most < least) (bounded_limits Kind.ManyMN least most) ⊥ m
 
   pub range_accepts_items : (kind : ErrorKind) (IsSpent : Type 0) (lower upper : Bound ℕ) (Grows : Type 0) → AcceptsItems w (IsEmpty IsSpent lower upper → ⊥) (λ a. 0 < a) (fewest lower) (Some (limit (most_items upper))) m (range_meaning w errs kind IsSpent lower upper Grows m)
   range_accepts_items kind IsSpent lower upper Grows = fit_accept w errs kind true (IsEmpty IsSpent lower upper) (range_limits kind lower upper) Grows m
@@ -88,13 +89,13 @@ module _ {I A V E : Type 0} (w : Seen I A) (errs : Errors I E) (m : Meaning I V 
 module _ {I A V E : Type 0} (w : Seen I A) (errs : Errors I E) (m : Meaning I V E) where
   pub many0_count_accepts_items : AcceptsItems w (Unit {0}) (λ a. 0 < a) 0 None m (many0_count_meaning w errs m)
   many0_count_accepts_items s i n vs =
-      ((λ a. (tt, in_turn_by w errs m s i n vs (accepted_in_turn w errs count0_limits ⊥ (dropped_meaning m) s i n vs a))), (λ h. in_turn_accepted w errs count0_limits ⊥ (dropped_meaning m) s i n vs (in_turn_from w errs m s i n vs h.1)))
+      ((λ a. (tt, in_turn_by w errs m s i n vs (accepted_in_turn w errs (any_limits Kind.Many0Count) ⊥ (dropped_meaning m) s i n vs a))), (λ h. in_turn_accepted w errs (any_limits Kind.Many0Count) ⊥ (dropped_meaning m) s i n vs (in_turn_from w errs m s i n vs h.1)))
 
   pub many1_count_accepts_more : AcceptsOneAndMore w m m (many1_count_meaning w errs m)
   many1_count_accepts_more s i n vs = (forward, backward)
     where
       both : (many1_count_meaning w errs m).answers s i (Accept n vs) ↔ OneAndMore w ((dropped_meaning m).answers s) (InTurn w ((dropped_meaning m).answers s) (λ a. 0 < a) 0 None) i n vs
-      both = one_and_more_accept w errs (Fresh Kind.Many1Count) Never true Kind.Many1Count ⊥ ⊥ (dropped_meaning m) (dropped_meaning m) s i n vs
+      both = one_and_more_accept w errs (Fresh Kind.Many1Count) true Kind.Many1Count ⊥ ⊥ (dropped_meaning m) (dropped_meaning m) s i n vs
 
       forward : (many1_count_meaning w errs m).answers s i (Accept n vs) → OneAndMore w (m.answers s) (InTurn w (m.answers s) (λ a. 0 < a) 0 None) i n vs
       forward a =

@@ -5,7 +5,6 @@ ghost use Rattle.std.specs.Prelude.{◌≡◌};
 
 mod counts;
 mod dropped;
-mod failing;
 mod folded;
 mod folds;
 mod gathered;
