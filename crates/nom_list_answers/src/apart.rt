@@ -117,10 +117,20 @@ where
         (Item::Itself, Part::OneOf) => listed(question, call, one_of(text)),
         (Item::Itself, Part::Take) => listed(question, call, take(1usize)),
         (Item::Itself, Part::CompleteTag) => {
-            separated(question, false, complete::tag(call.other_text), complete::tag(text))
+            separated(
+                question,
+                false,
+                complete::tag(call.other_text),
+                complete::tag(text),
+            )
         }
         (Item::Itself, Part::StreamingTag) => {
-            separated(question, false, streaming::tag(call.other_text), streaming::tag(text))
+            separated(
+                question,
+                false,
+                streaming::tag(call.other_text),
+                streaming::tag(text),
+            )
         }
         _ => None,
     }

@@ -35,7 +35,12 @@ fn kinds_behind_those_of_items(rt: HostRuntime) {
     let mut apart = separated_list1(rt.alloc(), char(','), item());
     assert!(rt; refuses(apart.parse(input), &[ErrorKind::Tag]));
     let mut counted = length_count(rt.alloc(), be_u8::<_, Trail>(), item());
-    assert!(rt; refuses(counted.parse(&b"\x01;"[..]), &[ErrorKind::Tag, ErrorKind::Count]));
+    assert!(rt;
+        refuses(
+            counted.parse(&b"\x01;"[..]),
+            &[ErrorKind::Tag, ErrorKind::Count]
+        )
+    );
     let mut buffer = [&b"x"[..]];
     let mut filled = fill(item(), &mut buffer);
     assert!(rt; refuses(filled.parse(input), &[ErrorKind::Tag, ErrorKind::Count]));

@@ -54,16 +54,8 @@ fn within_bounds(rt: HostRuntime) {
 #[test]
 fn separated(rt: HostRuntime) {
     for (input, some, any) in [
-        (
-            &b"1,2;"[..],
-            accepts(&b";"[..], 12),
-            accepts(&b";"[..], 12),
-        ),
-        (
-            &b"2,;"[..],
-            accepts(&b",;"[..], 2),
-            accepts(&b",;"[..], 2),
-        ),
+        (&b"1,2;"[..], accepts(&b";"[..], 12), accepts(&b";"[..], 12)),
+        (&b"2,;"[..], accepts(&b",;"[..], 2), accepts(&b",;"[..], 2)),
         (
             &b";"[..],
             refuses(ErrorKind::OneOf, &b";"[..]),
@@ -119,10 +111,6 @@ fn until_an_end(rt: HostRuntime) {
         let list = many_till(rt.alloc(), one_of::<_, _, At>("12"), char('9'));
         assert!(rt; in_modes(list, input) == answers, "at {input:?}");
     }
-    let empty = many_till(
-        rt.alloc(),
-        value('7', tag::<_, _, At>(&b""[..])),
-        char('9'),
-    );
+    let empty = many_till(rt.alloc(), value('7', tag::<_, _, At>(&b""[..])), char('9'));
     assert!(rt; in_modes(empty, &b"x"[..]) == refuses(ErrorKind::Many0, &b"x"[..]));
 }
