@@ -3,21 +3,22 @@
 //!
 //! The grammar runs by `parse`, by `parse_complete`, and by `process` where nothing is built. By
 //! `parse_complete` also run a `take_while1` of all bytes before the first `;`, a `take_until` of all before
-//! the first `;;`, an `alphanumeric1`, a list of decimal numbers of 32 bits, each with a `,` behind it, a list
-//! of words, each of which an `alt` of eight tags finds, and a list of tuples of four, as `<ab>`.
+//! the first `;;`, an `alphanumeric1`, a list of decimal numbers of 32 bits, each with a `,` behind it, such a
+//! list with a `,` between two, a fold that counts bytes, a list of words, each of which an `alt` of eight tags
+//! finds, and a list of tuples of four, as `<ab>`.
 //! Each runs ROUNDS times (7 where none are named), and a line for each tells how many items a list has, the
 //! bytes consumed, and the MB (10^6 bytes) a second of the best round. A file that isn't accepted gets
-//! `no records`, `no run`, `no needle`, `no word`, `no numbers`, `no words` or `no tuples`: so a file for the
-//! grammar is one of records; a file for a run and a needle is long, with a `;;` at its end and no `;` before;
-//! one for a word is of letters and digits; and the others are as their items are written. With no argument
-//! nothing is printed.
+//! `no records`, `no run`, `no needle`, `no word`, `no numbers`, `no bytes`, `no words` or `no tuples`: so a file
+//! for the grammar is one of records; a file for a run and a needle is long, with a `;;` at its end and no `;`
+//! before; one for a word is of letters and digits; and the others are as their items are written. With no
+//! argument nothing is printed.
 #![tactic(auto)]
 
 use nom::branch::alt;
 use nom::bytes::{tag, take_until, take_while1};
 use nom::character::{char, complete};
 use nom::error::Error;
-use nom::multi::{length_data, many0};
+use nom::multi::{fold_many0, length_data, many0, separated_list0};
 use nom::number::be_u8;
 use nom::sequence::{preceded, terminated};
 use nom::{Check, Err, OutputM, Parser, Streaming};
@@ -137,6 +138,38 @@ fn by_numbers(alloc: Global, bytes: &[u8]) -> Option<Round> {
 }
 
 #[inline(never)]
+fn by_separated(alloc: Global, bytes: &[u8]) -> Option<Round> {
+    let number = Integer::<u32, _, Fail> {
+        signed: false,
+        types: PhantomData,
+    };
+    let mut numbers = separated_list0(alloc, char(','), number);
+    match numbers.parse_complete(bytes) {
+        Ok((rest, list)) if !list.is_empty() => Some(Round {
+            items: Some(list.len()),
+            bytes: bytes.len().saturating_sub(rest.len()),
+        }),
+        _ => None,
+    }
+}
+
+#[inline(never)]
+fn by_fold(bytes: &[u8]) -> Option<Round> {
+    let mut count = fold_many0(
+        be_u8::<_, Fail>(),
+        || 0usize,
+        |count: usize, _byte: u8| count.wrapping_add(1),
+    );
+    match count.parse_complete(bytes) {
+        Ok((rest, count)) if count > 0 => Some(Round {
+            items: Some(count),
+            bytes: bytes.len().saturating_sub(rest.len()),
+        }),
+        _ => None,
+    }
+}
+
+#[inline(never)]
 fn by_words(alloc: Global, bytes: &[u8]) -> Option<Round> {
     let word = alt((
         tag::<_, _, Fail>(&b"GET "[..]),
@@ -181,6 +214,8 @@ enum Way {
     TakeUntil,
     Alphanumeric1,
     Numbers,
+    Separated,
+    Fold,
     Words,
     Tuples,
 }
@@ -195,6 +230,8 @@ impl Way {
             Way::TakeUntil => "take_until",
             Way::Alphanumeric1 => "alphanumeric1",
             Way::Numbers => "u32",
+            Way::Separated => "separated_list0",
+            Way::Fold => "fold_many0",
             Way::Words => "alt",
             Way::Tuples => "tuple",
         }
@@ -203,7 +240,8 @@ impl Way {
     /// What a list holds.
     fn items(self) -> &'static str {
         match self {
-            Way::Numbers => "numbers",
+            Way::Numbers | Way::Separated => "numbers",
+            Way::Fold => "bytes counted",
             Way::Words => "words",
             Way::Tuples => "tuples",
             _ => "records",
@@ -219,7 +257,8 @@ impl Way {
             Way::TakeWhile1 => "no run",
             Way::TakeUntil => "no needle",
             Way::Alphanumeric1 => "no word",
-            Way::Numbers => "no numbers",
+            Way::Numbers | Way::Separated => "no numbers",
+            Way::Fold => "no bytes",
             Way::Words => "no words",
             Way::Tuples => "no tuples",
         }
@@ -234,6 +273,8 @@ impl Way {
             Way::TakeUntil => by_take_until(bytes),
             Way::Alphanumeric1 => by_alphanumeric1(bytes),
             Way::Numbers => by_numbers(alloc, bytes),
+            Way::Separated => by_separated(alloc, bytes),
+            Way::Fold => by_fold(bytes),
             Way::Words => by_words(alloc, bytes),
             Way::Tuples => by_tuples(alloc, bytes),
         }
@@ -295,6 +336,8 @@ fn run(rt: &(impl Clock + Env + Files + Print + Alloc<A = Global>)) -> io::Resul
     bench(rt, Way::TakeUntil, &bytes, rounds)?;
     bench(rt, Way::Alphanumeric1, &bytes, rounds)?;
     bench(rt, Way::Numbers, &bytes, rounds)?;
+    bench(rt, Way::Separated, &bytes, rounds)?;
+    bench(rt, Way::Fold, &bytes, rounds)?;
     bench(rt, Way::Words, &bytes, rounds)?;
     bench(rt, Way::Tuples, &bytes, rounds)
 }

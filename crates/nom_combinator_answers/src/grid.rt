@@ -32,7 +32,10 @@ pub fn outer_of(call: &str) -> Option<(usize, &str)> {
     }
     let (name, open) = call.split_once("(")?;
     let inner = open.strip_suffix(")")?;
-    let number = place_of("recognize opt cut consumed complete not peek many0 many1_count", name)?;
+    let number = place_of(
+        "recognize opt cut consumed complete not peek many0 many1_count",
+        name,
+    )?;
     Some((number, inner))
 }
 
@@ -107,7 +110,12 @@ where
         5 => outer(question, tags, number, opt(part)),
         6 => outer(question, tags, number, cut(part)),
         7 => outer(question, tags, number, not(part)),
-        8 => outer(question, tags, number, separated_list1(alloc, tag(tags.b), part)),
+        8 => outer(
+            question,
+            tags,
+            number,
+            separated_list1(alloc, tag(tags.b), part),
+        ),
         _ => outer(question, tags, number, part),
     }
 }

@@ -1,3 +1,4 @@
+pub mod Accepting
 pub mod CountShown
 pub mod DroppedShown
 pub mod FoldShown

@@ -11,8 +11,9 @@ use Rattle.nom_traits.specs.Input.{Seen}
 use Rattle.nom_internal.specs.Meaning.{Meaning, ShowsMeaning}
 use Rattle.nom_repeat.specs.Items.{items_meaning}
 use Rattle.nom_ranges.specs.Ranges.{fewest, most_items, limit}
-use Rattle.nom_folds.specs.Ranges.{bounded_limits, range_limits, IsEmpty, range_meaning}
+use Rattle.nom_folds.specs.Ranges.{range_limits, IsEmpty, range_meaning}
 use Rattle.nom_folds.proofs.UnfitShown.{fit_shown}
+use Rattle.nom_repeat.specs.Bounds.{bounded_limits}
 
 -- a test that doesn't hold tells that its fact doesn't
 pub not_so : {X : Type 0} (test : Bool) → test ≡ false → (X → IsTrue test) → X → ⊥

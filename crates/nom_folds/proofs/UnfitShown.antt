@@ -12,7 +12,8 @@ use Rattle.nom_internal.specs.Outcome.Outcome.{Accept, Refuse, Fail, TooLarge, U
 use Rattle.nom_internal.specs.Outcome.ShowsAnswer.{RanOut, Shown}
 use Rattle.nom_internal.specs.Meaning.{Meaning, ShowsMeaning}
 use Rattle.nom_internal.proofs.Shown.{built_error}
-use Rattle.nom_folds.specs.Unfit.{unfit, GivesFailure}
+use Rattle.nom_repeat.specs.Inverted.{GivesFailure}
+use Rattle.nom_folds.specs.Unfit.{unfit}
 
 module _ {I A V O E : Type 0} {w : Seen I A} {IsOutput : V → O → Type 0} {mode : Modes} {i : I} (errs : Errors I E) (kind : ErrorKind) (IsUnfit : Type 0) (m : Meaning I V E) where
   -- they fail

@@ -1,5 +1,5 @@
 -- The laws of folds.
-use Rattle.std.specs.Prelude.{◌≡◌, ℕ, ◌<◌, false, List, [], ◌∷◌, ◌++◌}
+use Rattle.std.specs.Prelude.{◌≡◌, ℕ, ◌<◌, true, false, List, [], ◌∷◌, ◌++◌}
 use Rattle.std.specs.List.{AllZip, FoldsTo}
 use Rattle.std.proofs.Common.{subst}
 use Rattle.nom_error.specs.Errors.{Errors}
@@ -15,7 +15,9 @@ use Rattle.nom_repeat.specs.ItemsLaws.{items_lawful, items_steady}
 use Rattle.nom_folds.specs.Under.{under_lawful, under_steady}
 use Rattle.nom_folds.specs.Unfit.{unfit}
 use Rattle.nom_folds.specs.UnfitLaws.{unfit_lawful, unfit_steady}
-use Rattle.nom_folds.specs.Folds.{Folds, FoldsAlike, fold0_limits, fold_many0_meaning, fold_first_limits, fold_later_limits, fold_many1_meaning, fold_m_n_limits, fold_many_m_n_meaning}
+use Rattle.nom_folds.specs.Folds.{Folds, FoldsAlike, fold_many0_meaning, fold_many1_meaning, fold_many_m_n_meaning}
+use Rattle.nom_repeat.specs.Bounds.{any_limits, one_limits, bounded_limits}
+use Rattle.nom_repeat.specs.declared.items.TooFew.TheVariants.{Fresh}
 
 -- folds of the outputs of one list of trees are seen alike
 module _ {V T R : Type 0} (item : View T) (value : View R) (IsOutput : V → T → Type 0) (Inits : R → Type 0) (Gives : R → T → R → Type 0) (pinned : IsPinned item IsOutput) (alike : FoldsAlike item value Inits Gives) where
@@ -32,23 +34,23 @@ module _ {V T R : Type 0} (item : View T) (value : View R) (IsOutput : V → T �
 
 module _ {I A V E : Type 0} (w : Seen I A) (l : InputLaws w) (errs : Errors I E) (Premise : Type 0) (m : Meaning I V E) where
   pub fold_many0_lawful : IsLawful w m → IsLawful w (fold_many0_meaning w errs Premise m)
-  fold_many0_lawful p = under_lawful w Premise (items_meaning w errs fold0_limits ⊥ m) (items_lawful w l errs fold0_limits ⊥ m p)
+  fold_many0_lawful p = under_lawful w Premise (items_meaning w errs (any_limits Kind.Many0) ⊥ m) (items_lawful w l errs (any_limits Kind.Many0) ⊥ m p)
 
   pub fold_many0_steady : IsSteady w m → IsSteady w (fold_many0_meaning w errs Premise m)
-  fold_many0_steady p = under_steady w Premise (items_meaning w errs fold0_limits ⊥ m) (items_steady w l errs fold0_limits ⊥ m p)
+  fold_many0_steady p = under_steady w Premise (items_meaning w errs (any_limits Kind.Many0) ⊥ m) (items_steady w l errs (any_limits Kind.Many0) ⊥ m p)
 
   pub fold_many1_lawful : IsLawful w m → IsLawful w (fold_many1_meaning w errs Premise m)
-  fold_many1_lawful p = under_lawful w Premise (sequence_meaning w (λ vs us. vs ++ us) (λ o. o) (λ o. o) (items_meaning w errs fold_first_limits ⊥ m) (items_meaning w errs fold_later_limits ⊥ m)) (sequence_lawful w l (λ vs us. vs ++ us) (λ o. o) (λ o. o) (items_meaning w errs fold_first_limits ⊥ m) (items_meaning w errs fold_later_limits ⊥ m) (items_lawful w l errs fold_first_limits ⊥ m p) (items_lawful w l errs fold_later_limits ⊥ m p))
+  fold_many1_lawful p = under_lawful w Premise (sequence_meaning w (λ vs us. vs ++ us) (λ o. o) (λ o. o) (items_meaning w errs (one_limits (Fresh Kind.Many1) true) ⊥ m) (items_meaning w errs (any_limits Kind.Many1) ⊥ m)) (sequence_lawful w l (λ vs us. vs ++ us) (λ o. o) (λ o. o) (items_meaning w errs (one_limits (Fresh Kind.Many1) true) ⊥ m) (items_meaning w errs (any_limits Kind.Many1) ⊥ m) (items_lawful w l errs (one_limits (Fresh Kind.Many1) true) ⊥ m p) (items_lawful w l errs (any_limits Kind.Many1) ⊥ m p))
 
   pub fold_many1_steady : IsSteady w m → IsSteady w (fold_many1_meaning w errs Premise m)
-  fold_many1_steady p = under_steady w Premise (sequence_meaning w (λ vs us. vs ++ us) (λ o. o) (λ o. o) (items_meaning w errs fold_first_limits ⊥ m) (items_meaning w errs fold_later_limits ⊥ m)) (sequence_steady w l (λ vs us. vs ++ us) (λ o. o) (λ o. o) (items_meaning w errs fold_first_limits ⊥ m) (items_meaning w errs fold_later_limits ⊥ m) (items_steady w l errs fold_first_limits ⊥ m p) (items_steady w l errs fold_later_limits ⊥ m p))
+  fold_many1_steady p = under_steady w Premise (sequence_meaning w (λ vs us. vs ++ us) (λ o. o) (λ o. o) (items_meaning w errs (one_limits (Fresh Kind.Many1) true) ⊥ m) (items_meaning w errs (any_limits Kind.Many1) ⊥ m)) (sequence_steady w l (λ vs us. vs ++ us) (λ o. o) (λ o. o) (items_meaning w errs (one_limits (Fresh Kind.Many1) true) ⊥ m) (items_meaning w errs (any_limits Kind.Many1) ⊥ m) (items_steady w l errs (one_limits (Fresh Kind.Many1) true) ⊥ m p) (items_steady w l errs (any_limits Kind.Many1) ⊥ m p))
 
   pub fold_many_m_n_lawful : (least most : ℕ) → IsLawful w m → IsLawful w (fold_many_m_n_meaning w errs least most Premise m)
   fold_many_m_n_lawful least most p =
-      let bounded = items_meaning w errs (fold_m_n_limits least most) ⊥ m in
-      under_lawful w Premise (unfit errs Kind.ManyMN false (most < least) bounded) (unfit_lawful w errs Kind.ManyMN false (most < least) bounded (items_lawful w l errs (fold_m_n_limits least most) ⊥ m p))
+      let bounded = items_meaning w errs (bounded_limits Kind.ManyMN least most) ⊥ m in
+      under_lawful w Premise (unfit errs Kind.ManyMN false (most < least) bounded) (unfit_lawful w errs Kind.ManyMN false (most < least) bounded (items_lawful w l errs (bounded_limits Kind.ManyMN least most) ⊥ m p))
 
   pub fold_many_m_n_steady : (least most : ℕ) → IsSteady w m → IsSteady w (fold_many_m_n_meaning w errs least most Premise m)
   fold_many_m_n_steady least most p =
-      let bounded = items_meaning w errs (fold_m_n_limits least most) ⊥ m in
-      under_steady w Premise (unfit errs Kind.ManyMN false (most < least) bounded) (unfit_steady w errs Kind.ManyMN false (most < least) bounded (items_steady w l errs (fold_m_n_limits least most) ⊥ m p))
+      let bounded = items_meaning w errs (bounded_limits Kind.ManyMN least most) ⊥ m in
+      under_steady w Premise (unfit errs Kind.ManyMN false (most < least) bounded) (unfit_steady w errs Kind.ManyMN false (most < least) bounded (items_steady w l errs (bounded_limits Kind.ManyMN least most) ⊥ m p))

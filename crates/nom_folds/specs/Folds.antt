@@ -1,5 +1,5 @@
 -- Folds of items.
-use Rattle.std.specs.Prelude.{◌≡◌, ℕ, ◌<◌, false, true, Some, None, List, ◌++◌}
+use Rattle.std.specs.Prelude.{◌≡◌, ℕ, ◌<◌, false, true, List, ◌++◌}
 use Rattle.std.specs.List.{AllZip, FoldsTo}
 use Rattle.nom_error.specs.Errors.{Errors}
 use Rattle.nom_error.specs.declared.kind.ErrorKind.TheVariants as Kind
@@ -8,10 +8,10 @@ use Rattle.nom_traits.specs.View.{View}
 use Rattle.nom_internal.specs.Meaning.{Meaning}
 use Rattle.nom_internal.specs.Sequence.{sequence_meaning}
 use Rattle.nom_repeat.specs.Items.{items_meaning}
-use Rattle.nom_repeat.specs.declared.items.Limits.{Limits}
-use Rattle.nom_repeat.specs.declared.items.TooFew.TheVariants.{Never, Added, Fresh}
+use Rattle.nom_repeat.specs.declared.items.TooFew.TheVariants.{Fresh}
 use Rattle.nom_folds.specs.Under.{under}
 use Rattle.nom_folds.specs.Unfit.{unfit}
+use Rattle.nom_repeat.specs.Bounds.{any_limits, one_limits, bounded_limits}
 
 -- From a first value, the outputs of the items take it from left to right, one after another, to the value of the fold.
 pub record Folds {V T R : Type 0} (IsOutput : V → T → Type 0) (Inits : R → Type 0) (Gives : R → T → R → Type 0) (vs : List V) (r : R) : Type 0 where
@@ -32,28 +32,15 @@ pub record FoldsAlike {T R : Type 0} (item : View T) (value : View R) (Inits : R
   pub first : (a b : R) → Inits a → Inits b → value.value a ≡ value.value b
   pub next : (a b : R) (x y : T) (c d : R) → value.value a ≡ value.value b → item.value x ≡ item.value y → Gives a x c → Gives b y d → value.value c ≡ value.value d
 
--- any number of items; one that consumes nothing is refused
-abbrev pub fold0_limits : Limits
-fold0_limits = record { least = 0; most = None; too_few = Never; at_start = false; empty = Some Kind.Many0 }
-
--- the items; carrying a value takes no memory
+-- Any number of items; one that consumes nothing is refused. Carrying a value takes no memory.
 abbrev pub fold_many0_meaning : {I A V E : Type 0} → Seen I A → Errors I E → Type 0 → Meaning I V E → Meaning I (List V) E
-fold_many0_meaning w errs Premise m = under Premise (items_meaning w errs fold0_limits ⊥ m)
+fold_many0_meaning w errs Premise m = under Premise (items_meaning w errs (any_limits Kind.Many0) ⊥ m)
 
 -- One item at least: a first one, whose refusal is one of the kind at the start, and which may be empty; and then any number.
-abbrev pub fold_first_limits : Limits
-fold_first_limits = record { least = 1; most = Some 1; too_few = Fresh Kind.Many1; at_start = true; empty = None }
-
-abbrev pub fold_later_limits : Limits
-fold_later_limits = record { least = 0; most = None; too_few = Never; at_start = false; empty = Some Kind.Many1 }
-
 abbrev pub fold_many1_meaning : {I A V E : Type 0} → Seen I A → Errors I E → Type 0 → Meaning I V E → Meaning I (List V) E
-fold_many1_meaning w errs Premise m = under Premise (sequence_meaning w (λ vs us. vs ++ us) (λ o. o) (λ o. o) (items_meaning w errs fold_first_limits ⊥ m) (items_meaning w errs fold_later_limits ⊥ m))
+fold_many1_meaning w errs Premise m = under Premise (sequence_meaning w (λ vs us. vs ++ us) (λ o. o) (λ o. o) (items_meaning w errs (one_limits (Fresh Kind.Many1) true) ⊥ m) (items_meaning w errs (any_limits Kind.Many1) ⊥ m))
 
 -- Items within two bounds, none of them empty. Where one is refused before the least number, the kind is added at its place.
-abbrev pub fold_m_n_limits : ℕ → ℕ → Limits
-fold_m_n_limits least most = record { least = least; most = Some most; too_few = Added Kind.ManyMN; at_start = false; empty = Some Kind.ManyMN }
-
--- bounds that are the wrong way round are a refusal
+-- Bounds that are the wrong way round are a refusal.
 abbrev pub fold_many_m_n_meaning : {I A V E : Type 0} → Seen I A → Errors I E → ℕ → ℕ → Type 0 → Meaning I V E → Meaning I (List V) E
-fold_many_m_n_meaning w errs least most Premise m = under Premise (unfit errs Kind.ManyMN false (most < least) (items_meaning w errs (fold_m_n_limits least most) ⊥ m))
+fold_many_m_n_meaning w errs least most Premise m = under Premise (unfit errs Kind.ManyMN false (most < least) (items_meaning w errs (bounded_limits Kind.ManyMN least most) ⊥ m))

@@ -1,5 +1,5 @@
 -- The laws of items by a range of counts.
-use Rattle.std.specs.Prelude.{◌≡◌, ℕ, true, [], ◌∷◌, List, map, refl}
+use Rattle.std.specs.Prelude.{◌≡◌, ℕ, true, List, map}
 use Rattle.std.specs.List.{AllZip}
 use Rattle.std.specs.declared.ops.Bound.{Bound}
 use Rattle.nom_error.specs.Errors.{Errors}
@@ -9,6 +9,7 @@ use Rattle.nom_traits.specs.View.{View}
 use Rattle.nom_internal.specs.Meaning.{Meaning, IsLawful, IsSteady}
 use Rattle.nom_internal.specs.Pinned.{IsPinned}
 use Rattle.nom_repeat.specs.Items.{items_meaning}
+use Rattle.nom_repeat.specs.Lists.{zip_pinned}
 use Rattle.nom_repeat.specs.ItemsLaws.{items_lawful, items_steady}
 use Rattle.nom_folds.specs.Ranges.{range_limits, IsEmpty, range_meaning}
 use Rattle.nom_folds.specs.Under.{under, under_lawful, under_steady}
@@ -29,13 +30,5 @@ module _ {I A V E : Type 0} (w : Seen I A) (l : InputLaws w) (errs : Errors I E)
 
 -- collections of outputs, each of its own tree
 module _ {V T C : Type 0} (item : View T) (collection : View C) (items : C → List T) (IsOutput : V → T → Type 0) (pinned : IsPinned item IsOutput) (views : (x y : C) → map item.value (items x) ≡ map item.value (items y) → collection.value x ≡ collection.value y) where
-  zip_pinned : (us : List V) (xs ys : List T) → AllZip IsOutput us xs → AllZip IsOutput us ys → map item.value xs ≡ map item.value ys
-  zip_pinned [] [] [] p q = refl
-  zip_pinned [] [] (y ∷ ys) p q = absurd q
-  zip_pinned [] (x ∷ xs) ys p q = absurd p
-  zip_pinned (u ∷ us) [] ys p q = absurd p
-  zip_pinned (u ∷ us) (x ∷ xs) [] p q = absurd q
-  zip_pinned (u ∷ us) (x ∷ xs) (y ∷ ys) p q = let heads = pinned u x y p.0 q.0 in let tails = zip_pinned us xs ys p.1 q.1 in cc (heads, tails)
-
   pub collection_pinned : IsPinned collection (λ vs c. AllZip IsOutput vs (items c))
-  collection_pinned vs a b p q = views a b (zip_pinned vs (items a) (items b) p q)
+  collection_pinned vs a b p q = views a b (zip_pinned item IsOutput pinned vs (items a) (items b) p q)

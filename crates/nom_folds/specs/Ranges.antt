@@ -1,5 +1,5 @@
 -- As many items as a range of counts says.
-use Rattle.std.specs.Prelude.{◌≡◌, ℕ, ◌++◌, ◌∷◌, [], false, true, Some, None, Option, List, ◌⊎◌}
+use Rattle.std.specs.Prelude.{◌≡◌, ℕ, ◌++◌, ◌∷◌, [], true, Some, None, Option, List, ◌⊎◌}
 use Rattle.std.specs.declared.ops.Bound.{Bound}
 use Rattle.nom_error.specs.Errors.{Errors}
 use Rattle.nom_error.specs.declared.kind.ErrorKind.{ErrorKind}
@@ -7,14 +7,9 @@ use Rattle.nom_traits.specs.Input.{Seen}
 use Rattle.nom_internal.specs.Meaning.{Meaning}
 use Rattle.nom_repeat.specs.Items.{items_meaning}
 use Rattle.nom_repeat.specs.declared.items.Limits.{Limits}
-use Rattle.nom_repeat.specs.declared.items.TooFew.TheVariants.{Added}
 use Rattle.nom_ranges.specs.Ranges.{IsInverted, fewest, most_items, limit}
 use Rattle.nom_folds.specs.Unfit.{unfit}
-
--- At least and at most so many items, none of them empty. Where one is refused before the least number, the kind is added at
--- its place.
-abbrev pub bounded_limits : ErrorKind → ℕ → ℕ → Limits
-bounded_limits kind least most = record { least = least; most = Some most; too_few = Added kind; at_start = false; empty = Some kind }
+use Rattle.nom_repeat.specs.Bounds.{bounded_limits}
 
 -- The items that a range with these two ends allows. Before as many as it allows at most, a count is outside the range just
 -- where it is below the fewest. With no second end, so many are taken as a `usize` can count.

@@ -1,42 +1,24 @@
 -- Bounds that don't fit each other: an error of a kind, at the input, before a part runs.
-use Rattle.std.specs.Prelude.{◌≡◌, Bool, true, false, ◌⊎◌, Option}
+use Rattle.std.specs.Prelude.{◌≡◌, Bool, ◌⊎◌}
 use Rattle.nom_error.specs.Errors.{Errors}
-use Rattle.nom_error.specs.Modes.{Modes}
 use Rattle.nom_error.specs.declared.kind.ErrorKind.{ErrorKind}
-use Rattle.nom_error.specs.declared.answer.Needed.{Needed}
-use Rattle.nom_error.specs.declared.answer.Err as Answer
-use Rattle.nom_error.specs.declared.answer.Err.TheVariants.{Failure, OutOfMemory}
-use Rattle.nom_internal.specs.Outcome.{Outcome, failure}
-use Rattle.nom_internal.specs.Outcome.Outcome.{Refuse, Fail}
+use Rattle.nom_internal.specs.Outcome.{failure}
 use Rattle.nom_internal.specs.Meaning.{Meaning}
+use Rattle.nom_repeat.specs.Inverted.{HasError, error_outcome}
 
 -- the first fact where the bounds don't fit, and else the second
 abbrev pub Where : Type 0 → Type 0 → Type 0 → Type 0
 Where IsUnfit P Q = (IsUnfit × P) ⊎ ((IsUnfit → ⊥) × Q)
-
--- a failure (true) or a refusal (false)
-abbrev pub unfit_outcome : {V : Type 0} → Bool → Outcome V
-unfit_outcome true = Fail
-unfit_outcome false = Refuse
-
--- its error is built: a failure's always
-abbrev pub HasError : Bool → Modes → Type 0
-HasError true mode = Unit {0}
-HasError false mode = mode.errors ≡ true
 
 -- Where the bounds don't fit, a failure (true) or a refusal, with an error of the kind at the input; and else what the part
 -- means.
 abbrev pub unfit : {I V E : Type 0} → Errors I E → ErrorKind → Bool → Type 0 → Meaning I V E → Meaning I V E
 unfit {V = V} errs kind fails IsUnfit m = record {
   IsSound = m.IsSound;
-  answers = λ s i o. Where IsUnfit (o ≡ unfit_outcome fails) (m.answers s i o);
+  answers = λ s i o. Where IsUnfit (o ≡ error_outcome fails) (m.answers s i o);
   blames = λ s i e. Where IsUnfit (errs.of_kind i kind e) (m.blames s i e);
   runs_out = λ mode i. Where IsUnfit (HasError fails mode × errs.grows) (m.runs_out mode i);
   IsFrugal = λ mode. (IsUnfit → HasError fails mode → errs.grows → ⊥) × ((IsUnfit → ⊥) → m.IsFrugal mode);
   Settles = m.Settles;
-  NeverFails = λ large. (IsUnfit → unfit_outcome {V = V} fails ≡ failure large → ⊥) × ((IsUnfit → ⊥) → m.NeverFails large);
+  NeverFails = λ large. (IsUnfit → error_outcome {V = V} fails ≡ failure large → ⊥) × ((IsUnfit → ⊥) → m.NeverFails large);
 }
-
--- a failure, with its error, or there is no memory for it
-abbrev pub GivesFailure : {E : Type 0} → (E → Type 0) → Type 0 → Answer.Err E (Option E) Needed → Type 0
-GivesFailure {E} Gives Grows r = ((r ≡ OutOfMemory) × Grows) ⊎ ((e : E) × Gives e × (r ≡ Failure e))

@@ -8,20 +8,18 @@ use Rattle.nom_traits.specs.Input.{Seen, IsPlace}
 use Rattle.nom_internal.specs.Outcome.{Outcome, failure}
 use Rattle.nom_internal.specs.Outcome.Outcome.{Accept}
 use Rattle.nom_internal.specs.Meaning.{Meaning, IsLawful, IsSteady, Agree, Carries, SameBlame}
-use Rattle.nom_folds.specs.Unfit.{Where, unfit_outcome, unfit}
-
-no_accept : {V : Type 0} (fails : Bool) (n : ℕ) (v : V) → Accept n v ≡ unfit_outcome fails → ⊥
-no_accept true n v e = absurd (cc (e))
-no_accept false n v e = absurd (cc (e))
+use Rattle.nom_repeat.specs.Inverted.{error_outcome}
+use Rattle.nom_repeat.specs.InvertedLaws.{no_accept}
+use Rattle.nom_folds.specs.Unfit.{Where, unfit}
 
 module _ {I A : Type 0} (w : Seen I A) {V : Type 0} (IsUnfit : Type 0) (fails : Bool) where
-  where_agree : (longer : Bool) (P : I → Outcome V → Type 0) → Agree w longer P P → Agree w longer (λ i o. Where IsUnfit (o ≡ unfit_outcome fails) (P i o)) (λ i o. Where IsUnfit (o ≡ unfit_outcome fails) (P i o))
+  where_agree : (longer : Bool) (P : I → Outcome V → Type 0) → Agree w longer P P → Agree w longer (λ i o. Where IsUnfit (o ≡ error_outcome fails) (P i o)) (λ i o. Where IsUnfit (o ≡ error_outcome fails) (P i o))
   where_agree longer P f x y o p kx ky r (inl a) k (inl b) = a.1 ∙ sym b.1
   where_agree longer P f x y o p kx ky r (inl a) k (inr b) = absurd (b.0 a.0)
   where_agree longer P f x y o p kx ky r (inr a) k (inl b) = absurd (a.0 b.0)
   where_agree longer P f x y o p kx ky r (inr a) k (inr b) = f x y o p kx ky r a.1 k b.1
 
-  where_carries : (decided : Bool) (P Q : I → Outcome V → Type 0) → Carries w decided P Q → Carries w decided (λ i o. Where IsUnfit (o ≡ unfit_outcome fails) (P i o)) (λ i o. Where IsUnfit (o ≡ unfit_outcome fails) (Q i o))
+  where_carries : (decided : Bool) (P Q : I → Outcome V → Type 0) → Carries w decided P Q → Carries w decided (λ i o. Where IsUnfit (o ≡ error_outcome fails) (P i o)) (λ i o. Where IsUnfit (o ≡ error_outcome fails) (Q i o))
   where_carries decided P Q f x y o kx ky r (inl a) k = inl a
   where_carries decided P Q f x y o kx ky r (inr a) k = inr (a.0, f x y o kx ky r a.1 k)
 

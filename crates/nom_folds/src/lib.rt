@@ -5,10 +5,10 @@ ghost use Rattle.std.specs.Prelude.{◌≡◌};
 
 mod counts;
 mod dropped;
-mod failing;
 mod folded;
 mod folds;
 mod gathered;
+pub mod promises;
 mod ranged;
 
 pub use crate::counts::{Many0Count, Many1Count};

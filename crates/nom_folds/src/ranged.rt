@@ -6,7 +6,6 @@ ghost use Rattle.nom_folds.specs.Folds.{Folds, AreCallable, FoldsAlike};
 ghost use Rattle.nom_folds.specs.Ranges.{range_meaning};
 ghost use Rattle.nom_folds.specs.Under.{under};
 
-use crate::failing::failure;
 use crate::folded::{Folded, carried, start};
 use crate::gathered::{Gathered, collected, gather};
 use nom_build::collection::{Collection, ViewedCollection};
@@ -17,6 +16,7 @@ use nom_error::value::ParseError;
 use nom_internal::parser::{Parser, StreamParser};
 use nom_ranges::counts::{least, most};
 use nom_ranges::range::NomRange;
+use nom_repeat::inverted::failure;
 use nom_repeat::items::{Limits, TooFew, items};
 use nom_repeat::keep::Keep;
 use nom_traits::input::{Input, Items};

@@ -6,6 +6,7 @@ use nom_bytes::{Tag, tag};
 use nom_combinator::value;
 use nom_error::answer::{Err, IResult};
 use nom_error::kind::ErrorKind;
+use nom_error::mode::{Check, Complete, Emit, OutputM};
 use nom_error::value::Error;
 use nom_folds::{fold, fold_many_m_n, fold_many0, fold_many1, many, many0_count, many1_count};
 use nom_internal::parser::Parser;
@@ -50,7 +51,7 @@ fn items_of_a_range(rt: HostRuntime) {
         match listed.parse_complete(input) {
             Ok((rest, list)) => {
                 assert!(rt; told == Told::Accepts(rest));
-                assert!(rt; list.len() == 3);
+                assert!(rt; list.len() == 3 && list[2] == b"a".as_slice());
             }
             answer => assert!(rt; told_of(answer) == told),
         }
@@ -205,6 +206,35 @@ fn collections_of_items(rt: HostRuntime) {
             assert!(rt; text.as_str() == "aa");
         }
         _ => panic!(rt; "no text"),
+    }
+}
+
+// Where no outputs are built, there is no value, and all else is as it was.
+#[test]
+fn folds_that_are_only_checked(rt: HostRuntime) {
+    for (input, any, some) in [
+        (&b"aab"[..], Some(&b"b"[..]), Some(&b"b"[..])),
+        (&b"b"[..], Some(&b"b"[..]), None),
+    ] {
+        let mut folded = fold_many0(
+            text(&b"a"[..]),
+            || 0usize,
+            |n: usize, _item: &[u8]| n.wrapping_add(1),
+        );
+        match folded.process::<OutputM<Check, Emit, Complete>>(input) {
+            Ok((rest, value)) => assert!(rt; any == Some(rest) && value.is_none()),
+            Err(_) => assert!(rt; any.is_none()),
+        }
+        let mut ranged = fold(
+            1..3,
+            text(&b"a"[..]),
+            || 0usize,
+            |n: usize, _item: &[u8]| n.wrapping_add(1),
+        );
+        match ranged.process::<OutputM<Check, Emit, Complete>>(input) {
+            Ok((rest, value)) => assert!(rt; some == Some(rest) && value.is_none()),
+            Err(_) => assert!(rt; some.is_none()),
+        }
     }
 }
 

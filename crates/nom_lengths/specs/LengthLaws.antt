@@ -8,7 +8,8 @@ use Rattle.nom_internal.specs.Families.{Family, IsLawfulFamily, IsOne, of_value,
 use Rattle.nom_internal.specs.SequenceLaws.{then_lawful, then_steady}
 use Rattle.nom_bytes.specs.TakeLaws.{take_lawful, take_steady}
 use Rattle.nom_repeat.specs.ItemsLaws.{items_lawful, items_steady}
-use Rattle.nom_lengths.specs.Lengths.{behind_length, takes_by_count, length_data_meaning, exact_limits, items_by_count, length_count_meaning}
+use Rattle.nom_lengths.specs.Lengths.{behind_length, takes_by_count, length_data_meaning, items_by_count, length_count_meaning}
+use Rattle.nom_repeat.specs.Bounds.{exact_limits}
 
 module _ {I A P Q T E : Type 0} (w : Seen I A) (l : InputLaws w) (tree : P → Q → T) (IsLength : P → ℕ → Type 0) (one : IsOne IsLength) (a : Meaning I P E) (f : Family ℕ I Q E) where
   pub behind_lawful : IsLawful w a → IsLawfulFamily w (λ n. (u : P) × IsLength u n) f → IsLawful w (behind_length w tree IsLength a f)

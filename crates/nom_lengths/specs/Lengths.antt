@@ -1,8 +1,7 @@
 -- What stands behind a length.
-use Rattle.std.specs.Prelude.{◌≡◌, ℕ, true, List, Option, Some, None}
+use Rattle.std.specs.Prelude.{◌≡◌, ℕ, true, List, Option}
 use Rattle.nom_error.specs.Errors.{Errors}
 use Rattle.nom_error.specs.Modes.{modes, with_outputs}
-use Rattle.nom_error.specs.declared.kind.ErrorKind.TheVariants as Kind
 use Rattle.nom_traits.specs.Input.{Seen}
 use Rattle.nom_traits.specs.Slices.{Slice}
 use Rattle.nom_internal.specs.Meaning.{Meaning}
@@ -10,8 +9,7 @@ use Rattle.nom_internal.specs.Families.{Family, of_value}
 use Rattle.nom_internal.specs.Sequence.{then_meaning}
 use Rattle.nom_bytes.specs.Takes.{take_meaning}
 use Rattle.nom_repeat.specs.Items.{items_meaning}
-use Rattle.nom_repeat.specs.declared.items.Limits.{Limits}
-use Rattle.nom_repeat.specs.declared.items.TooFew.TheVariants.{Added}
+use Rattle.nom_repeat.specs.Bounds.{exact_limits}
 
 -- a tree stands for a length: an output of it has that size
 pub record HasSize {P O : Type 0} (IsOutput : P → O → Type 0) (size : O → ℕ) (u : P) (n : ℕ) : Type 0 where
@@ -38,10 +36,6 @@ takes_by_count w errs lack = record {
 abbrev pub length_data_meaning : {I A P E : Type 0} → (w : Seen I A) → Errors I E → (ℕ → List A → Option ℕ) → (P → ℕ → Type 0) → Meaning I P E → Meaning I (P × Slice w) E
 length_data_meaning w errs lack IsLength a = behind_length w (λ u t. (u, t)) IsLength a (takes_by_count w errs lack)
 
--- exactly so many items, to whose refusal the kind is added at the start; empty ones are taken too
-abbrev pub exact_limits : ℕ → Limits
-exact_limits n = record { least = n; most = Some n; too_few = Added Kind.Count; at_start = true; empty = None }
-
 -- the items of a part, by their number: a list, which grows by each where outputs are built
 abbrev pub items_by_count : {I A V E : Type 0} → (w : Seen I A) → Errors I E → Meaning I V E → Family ℕ I (List V) E
 items_by_count w errs m = record {
@@ -52,6 +46,6 @@ items_by_count w errs m = record {
   NeverFails = m.NeverFails;
 }
 
--- a length, and behind it exactly so many items
+-- A length, and behind it exactly so many items, which may be empty. Where one is refused, the kind is added behind the length.
 abbrev pub length_count_meaning : {I A P V E : Type 0} → (w : Seen I A) → Errors I E → (P → ℕ → Type 0) → Meaning I P E → Meaning I V E → Meaning I (List V) E
 length_count_meaning w errs IsLength a m = behind_length w (λ u vs. vs) IsLength a (items_by_count w errs m)

@@ -50,7 +50,21 @@ where
     }
 }
 
-/// What a list with an end answers, by the name of the end.
+/// What a list with an end answers.
+fn ended<I, P, G>(question: Question<I>, end: G, item: P) -> Option<Answer>
+where
+    I: Input + AsBytes + Debug,
+    P: Parser<I, Error = Error<I>> + Drop,
+    P::Output: Debug,
+    G: Parser<I, Error = Error<I>> + Drop,
+    G::Output: Debug,
+    requires item { (P.meaning (P.state item)).IsSound }
+    requires end { (G.meaning (G.state end)).IsSound }
+{
+    question.ask(many_till(question.alloc, item, end))
+}
+
+/// The same, by the name of the end.
 fn until<I, T, P>(question: Question<I>, call: Call<T>, item: P) -> Option<Answer>
 where
     I: Input + AsBytes + Debug + Compare<T>,
@@ -59,12 +73,11 @@ where
     P::Output: Debug,
     requires { (P.meaning (P.state item)).IsSound }
 {
-    let alloc = question.alloc;
     let end = tag(call.other_text);
     match call.other {
-        Other::Tag => question.ask(many_till(alloc, item, end)),
-        Other::Cut => question.ask(many_till(alloc, item, cut(end))),
-        Other::Eof => question.ask(many_till(alloc, item, Eof::new())),
+        Other::Tag => ended(question, end, item),
+        Other::Cut => ended(question, cut(end), item),
+        Other::Eof => ended(question, Eof::new(), item),
         _ => None,
     }
 }
@@ -104,10 +117,20 @@ where
         (Item::Itself, Part::OneOf) => listed(question, call, one_of(text)),
         (Item::Itself, Part::Take) => listed(question, call, take(1usize)),
         (Item::Itself, Part::CompleteTag) => {
-            separated(question, false, complete::tag(call.other_text), complete::tag(text))
+            separated(
+                question,
+                false,
+                complete::tag(call.other_text),
+                complete::tag(text),
+            )
         }
         (Item::Itself, Part::StreamingTag) => {
-            separated(question, false, streaming::tag(call.other_text), streaming::tag(text))
+            separated(
+                question,
+                false,
+                streaming::tag(call.other_text),
+                streaming::tag(text),
+            )
         }
         _ => None,
     }

@@ -1,7 +1,7 @@
 //! Lines of the files.
 
 use crate::calls::call_of;
-use crate::items::asked;
+use crate::items::{asked, asked_of_text};
 use nom_answer_lines::answer::{Answer, read_answer};
 use nom_answer_lines::ask::{Module, Question, Way};
 use nom_answer_lines::literal::{Literal, literal_of};
@@ -22,7 +22,7 @@ fn found(alloc: Global, call: &str, way: Way, input: &Literal) -> Option<Answer>
                 way,
                 input,
             };
-            asked(question, call, "x")
+            asked_of_text(question, call)
         }
         Literal::Bytes(bytes) => {
             let input = bytes.as_slice();
@@ -32,7 +32,7 @@ fn found(alloc: Global, call: &str, way: Way, input: &Literal) -> Option<Answer>
                 way,
                 input,
             };
-            asked(question, call, b"x".as_slice())
+            asked(question, call)
         }
     }
 }

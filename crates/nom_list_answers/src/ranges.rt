@@ -10,61 +10,75 @@ use nom_answer_lines::answer::Answer;
 use nom_answer_lines::ask::Question;
 use std::fmt::Debug;
 
-/// What `many` and `fold` answer over a range.
-fn over<I, P, R>(question: Question<I>, folds: bool, range: R, item: P) -> Option<Answer>
+/// What a fold over a range answers.
+fn folded<I, P, R>(question: Question<I>, range: R, item: P) -> Option<Answer>
 where
     I: Input + AsBytes + Debug,
     P: Parser<I, Error = Error<I>> + Drop,
-    P::Output: Viewed + Debug,
+    P::Output: Viewed,
     R: NomRange<usize> + Drop,
     requires { (P.meaning (P.state item)).IsSound }
 {
-    if folds {
-        question.ask(fold(
-            range,
-            item,
-            || 0usize,
-            |n: usize, _item: P::Output| n.saturating_add(1),
-        ))
-    } else {
-        question.ask(many::<_, _, _, Vec<P::Output>>(question.alloc, range, item))
-    }
+    question.ask(fold(
+        range,
+        item,
+        || 0usize,
+        |n: usize, _item: P::Output| n.saturating_add(1),
+    ))
 }
 
 /// The same, over a range by its ends.
-fn in_range<I, P>(question: Question<I>, folds: bool, counts: Counts, item: P) -> Option<Answer>
+fn fold_in<I, P>(question: Question<I>, counts: Counts, item: P) -> Option<Answer>
 where
     I: Input + AsBytes + Debug,
     P: Parser<I, Error = Error<I>> + Drop,
-    P::Output: Viewed + Debug,
+    P::Output: Viewed,
     requires { (P.meaning (P.state item)).IsSound }
 {
     match counts {
-        Counts::Between(first, end) => over(question, folds, first..end, item),
-        Counts::Through(first, last) => over(question, folds, first..=last, item),
-        Counts::From(first) => over(question, folds, first.., item),
-        Counts::All => over(question, folds, .., item),
-        Counts::Before(end) => over(question, folds, ..end, item),
-        Counts::UpTo(last) => over(question, folds, ..=last, item),
-        Counts::Exactly(count) => over(question, folds, count, item),
+        Counts::Between(first, end) => folded(question, first..end, item),
+        Counts::Through(first, last) => folded(question, first..=last, item),
+        Counts::From(first) => folded(question, first.., item),
+        Counts::All => folded(question, .., item),
+        Counts::Before(end) => folded(question, ..end, item),
+        Counts::UpTo(last) => folded(question, ..=last, item),
+        Counts::Exactly(count) => folded(question, count, item),
     }
 }
 
-/// What the items of a call answer over a range: tags, cut or not.
-pub fn ranged<I, T>(
-    question: Question<I>,
-    folds: bool,
-    counts: Counts,
-    call: Call<T>,
-) -> Option<Answer>
+/// What a list of tags answers over a range, of texts: one call each, since the array in the list's type has to
+/// be of a known size.
+pub fn list_over(question: Question<&str>, counts: Counts, call: Call<&str>) -> Option<Answer> {
+    let alloc = question.alloc;
+    let item = tag(call.part_text);
+    if !matches!((call.item, call.part), (Item::Itself, Part::Tag)) {
+        return None;
+    }
+    match counts {
+        Counts::Between(first, end) => {
+            question.ask(many::<_, _, _, Vec<&str>>(alloc, first..end, item))
+        }
+        Counts::Through(first, last) => {
+            question.ask(many::<_, _, _, Vec<&str>>(alloc, first..=last, item))
+        }
+        Counts::From(first) => question.ask(many::<_, _, _, Vec<&str>>(alloc, first.., item)),
+        Counts::All => question.ask(many::<_, _, _, Vec<&str>>(alloc, .., item)),
+        Counts::Before(end) => question.ask(many::<_, _, _, Vec<&str>>(alloc, ..end, item)),
+        Counts::UpTo(last) => question.ask(many::<_, _, _, Vec<&str>>(alloc, ..=last, item)),
+        Counts::Exactly(count) => question.ask(many::<_, _, _, Vec<&str>>(alloc, count, item)),
+    }
+}
+
+/// What a fold of a call's items answers over a range: of tags, cut or not.
+pub fn fold_over<I, T>(question: Question<I>, counts: Counts, call: Call<T>) -> Option<Answer>
 where
     I: Input + AsBytes + Debug + Viewed + Compare<T>,
     T: Copy,
 {
     let item = tag(call.part_text);
     match (call.item, call.part) {
-        (Item::Itself, Part::Tag) => in_range(question, folds, counts, item),
-        (Item::Cut, Part::Tag) => in_range(question, folds, counts, cut(item)),
+        (Item::Itself, Part::Tag) => fold_in(question, counts, item),
+        (Item::Cut, Part::Tag) => fold_in(question, counts, cut(item)),
         _ => None,
     }
 }

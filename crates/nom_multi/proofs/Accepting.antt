@@ -1,53 +1,50 @@
 -- What lists accept.
-use Rattle.std.specs.Prelude.{ltb, ◌↔◌}
+use Rattle.std.specs.Prelude.{ltb}
 use Rattle.std.proofs.lemmas.Bool.{le-ltb, ltb-false}
-use Rattle.std.proofs.Common.{◌≡◌, ◌∙◌, Bool, true, false, ℕ, ◌+◌, ◌<◌, ◌≤◌, ◌⊎◌, Option, Some, None, List, [], ◌∷◌, ◌++◌, refl, arith, ap, subst, sym, inl, inr}
+use Rattle.std.proofs.Common.{◌≡◌, ◌∙◌, Bool, true, false, ℕ, ◌+◌, ◌<◌, ◌≤◌, ◌⊎◌, Some, None, List, [], ◌∷◌, ◌++◌, refl, arith, ap, subst, sym, inl, inr}
 use Rattle.nom_error.specs.Errors.{Errors}
-use Rattle.nom_error.specs.declared.kind.ErrorKind.{ErrorKind}
 use Rattle.nom_error.specs.declared.kind.ErrorKind.TheVariants as Kind
 use Rattle.nom_traits.specs.Input.{Seen, InputLaws, IsRest}
-use Rattle.nom_internal.specs.Outcome.{Outcome}
-use Rattle.nom_internal.specs.Outcome.Outcome.{Accept, Refuse, Fail, TooLarge, Undecided}
+use Rattle.nom_internal.specs.Outcome.Outcome.{Accept, Refuse}
 use Rattle.nom_internal.specs.Meaning.{Meaning}
-use Rattle.nom_internal.specs.Sequence.{Then}
-use Rattle.nom_repeat.specs.Inverted.{Either, error_outcome, error_if}
+use Rattle.nom_repeat.specs.Inverted.{Either, error_outcome}
 use Rattle.nom_repeat.specs.InvertedLaws.{no_accept}
 use Rattle.nom_repeat.specs.Items.{items_meaning}
 use Rattle.nom_repeat.specs.Accepted.{InTurn, AcceptsItems, AcceptsOneAndMore, OneAndMore}
-use Rattle.nom_repeat.specs.declared.items.Limits.{Limits}
-use Rattle.nom_repeat.specs.declared.items.TooFew.TheVariants.{Never, Passed, Added}
+use Rattle.nom_repeat.specs.declared.items.TooFew.TheVariants.{Passed, Added}
 use Rattle.nom_repeat.proofs.AcceptedItems.{items_accept, accepted_in_turn, in_turn_accepted}
 use Rattle.nom_repeat.proofs.AcceptedMore.{one_and_more_accept, first_accepts}
 use Rattle.nom_sequence.specs.Sequences.{preceded_meaning}
 use Rattle.nom_multi.specs.Promises.{AcceptsNoneOrMore}
-use Rattle.nom_multi.specs.Bounded.{count_limits, count_meaning, m_n_limits, many_m_n_meaning}
-use Rattle.nom_multi.specs.Many.{many0_limits, many0_meaning, many1_meaning}
-use Rattle.nom_multi.specs.Separated.{optional_limits, optional_meaning, further_limits, further_meaning, following, separated0_meaning, separated1_meaning}
+use Rattle.nom_multi.specs.Bounded.{count_meaning, many_m_n_meaning}
+use Rattle.nom_multi.specs.Many.{many0_meaning, many1_meaning}
+use Rattle.nom_multi.specs.Separated.{optional_limits, optional_meaning, following, separated0_meaning, separated1_meaning}
+use Rattle.nom_repeat.specs.Bounds.{any_limits, exact_limits, bounded_limits}
 
 module _ {I A V E : Type 0} (w : Seen I A) (errs : Errors I E) (m : Meaning I V E) where
   pub many0_accepts_items : AcceptsItems w (Unit {0}) (λ a. 0 < a) 0 None m (many0_meaning w errs m)
-  many0_accepts_items = items_accept w errs many0_limits (Unit {0}) m
+  many0_accepts_items = items_accept w errs (any_limits Kind.Many0) (Unit {0}) m
 
   pub many1_accepts_more : AcceptsOneAndMore w m m (many1_meaning w errs m)
-  many1_accepts_more = one_and_more_accept w errs (Added Kind.Many1) Never true Kind.Many0 (Unit {0}) (Unit {0}) m m
+  many1_accepts_more = one_and_more_accept w errs (Added Kind.Many1) true Kind.Many0 (Unit {0}) (Unit {0}) m m
 
   pub count_accepts_items : (n : ℕ) → AcceptsItems w (Unit {0}) (λ _. Unit {0}) n (Some n) m (count_meaning w errs n m)
-  count_accepts_items n = items_accept w errs (count_limits n) (Unit {0}) m
+  count_accepts_items n = items_accept w errs (exact_limits n) (Unit {0}) m
 
   pub many_m_n_accepts_items : (least most : ℕ) → AcceptsItems w (least ≤ most) (λ a. 0 < a) least (Some most) m (many_m_n_meaning w errs least most m)
   many_m_n_accepts_items least most s i n vs = ((λ a. forward (ltb most least) refl a), (λ h. backward (ltb most least) refl h))
     where
-      forward : (test : Bool) → ltb most least ≡ test → Either test (Accept n vs ≡ error_outcome true) ((items_meaning w errs (m_n_limits least most) (Unit {0}) m).answers s i (Accept n vs)) → (least ≤ most) × InTurn w (m.answers s) (λ a. 0 < a) least (Some most) i n vs
+      forward : (test : Bool) → ltb most least ≡ test → Either test (Accept n vs ≡ error_outcome true) ((items_meaning w errs (bounded_limits Kind.ManyMN least most) (Unit {0}) m).answers s i (Accept n vs)) → (least ≤ most) × InTurn w (m.answers s) (λ a. 0 < a) least (Some most) i n vs
       forward true e a = absurd (no_accept true n vs a)
-      forward false e a = (ltb-false most least e, accepted_in_turn w errs (m_n_limits least most) (Unit {0}) m s i n vs a)
+      forward false e a = (ltb-false most least e, accepted_in_turn w errs (bounded_limits Kind.ManyMN least most) (Unit {0}) m s i n vs a)
 
-      backward : (test : Bool) → ltb most least ≡ test → (least ≤ most) × InTurn w (m.answers s) (λ a. 0 < a) least (Some most) i n vs → Either test (Accept n vs ≡ error_outcome true) ((items_meaning w errs (m_n_limits least most) (Unit {0}) m).answers s i (Accept n vs))
+      backward : (test : Bool) → ltb most least ≡ test → (least ≤ most) × InTurn w (m.answers s) (λ a. 0 < a) least (Some most) i n vs → Either test (Accept n vs ≡ error_outcome true) ((items_meaning w errs (bounded_limits Kind.ManyMN least most) (Unit {0}) m).answers s i (Accept n vs))
       backward true e h = let z : ltb most least ≡ false = le-ltb most least h.0 in absurd (cc (e, z))
-      backward false e h = in_turn_accepted w errs (m_n_limits least most) (Unit {0}) m s i n vs h.1
+      backward false e h = in_turn_accepted w errs (bounded_limits Kind.ManyMN least most) (Unit {0}) m s i n vs h.1
 
 module _ {I A P V E : Type 0} (w : Seen I A) (errs : Errors I E) (separator : Meaning I P E) (m : Meaning I V E) where
   pub separated1_accepts_more : AcceptsOneAndMore w m (preceded_meaning w separator m) (separated1_meaning w errs separator m)
-  separated1_accepts_more = one_and_more_accept w errs Passed Never false Kind.SeparatedList (Unit {0}) (Unit {0}) m (preceded_meaning w separator m)
+  separated1_accepts_more = one_and_more_accept w errs Passed false Kind.SeparatedList (Unit {0}) (Unit {0}) m (preceded_meaning w separator m)
 
   -- none, or a first item and those behind it
   no_item : (i : I) (n : ℕ) (s : Bool) → InTurn w (m.answers s) (λ _. Unit {0}) 0 (Some 1) i n [] → m.answers s i Refuse × (n ≡ 0)
@@ -73,7 +70,7 @@ module _ {I A P V E : Type 0} (w : Seen I A) (errs : Errors I E) (separator : Me
         trees = xs;
         accepted = one.1;
         rest_is = r;
-        more = accepted_in_turn w errs further_limits (Unit {0}) (preceded_meaning w separator m) s j c xs f;
+        more = accepted_in_turn w errs (any_limits Kind.SeparatedList) (Unit {0}) (preceded_meaning w separator m) s j c xs f;
         length_is = e;
         trees_are = g ∙ ap (λ z. u ∷ z) behind;
       })
@@ -95,5 +92,5 @@ module _ {I A P V E : Type 0} (w : Seen I A) (errs : Errors I E) (separator : Me
       backward (inr h) k = record {
         first = Accept h.first_length (h.tree ∷ []);
         answered = in_turn_accepted w errs optional_limits (Unit {0}) m s i h.first_length (h.tree ∷ []) (h.first_length, 0, h.rest, (omega arith, h.accepted, tt), h.rest_is, (refl, inr (λ z. omega (arith, z))), omega arith);
-        goes_on = (h.rest, Accept h.more_length h.trees, h.rest_is, in_turn_accepted w errs further_limits (Unit {0}) (preceded_meaning w separator m) s h.rest h.more_length h.trees h.more, cc (h.length_is, h.trees_are));
+        goes_on = (h.rest, Accept h.more_length h.trees, h.rest_is, in_turn_accepted w errs (any_limits Kind.SeparatedList) (Unit {0}) (preceded_meaning w separator m) s h.rest h.more_length h.trees h.more, cc (h.length_is, h.trees_are));
       }

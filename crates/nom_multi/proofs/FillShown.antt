@@ -17,8 +17,8 @@ use Rattle.nom_repeat.specs.Items.{item_turn, refused_turn}
 use Rattle.nom_repeat.proofs.Keeping.{zip_push}
 use Rattle.nom_repeat.proofs.Parts.{part_refused, part_failed, part_lacks, part_ran_out}
 use Rattle.nom_repeat.proofs.Repeated.{Collected, pieces_end}
-use Rattle.nom_multi.specs.Bounded.{count_limits}
 use Rattle.nom_multi.specs.Fill.{Holds, Stops, IsFilled, IsPut}
+use Rattle.nom_repeat.specs.Bounds.{exact_limits}
 
 length_zip : {V T : Type 0} (P : V → T → Type 0) (vs : List V) (xs : List T) → AllZip P vs xs → length vs ≡ length xs
 length_zip P [] [] h = refl
@@ -72,7 +72,7 @@ module _ {V T : Type 0} (P : V → T → Type 0) where
   holds_more false old vs v mid new count (Some x) h c l b p = absurd (none_some x (sym b))
   holds_more false old vs v mid new count None h c l b p = p ∙ h
 
-module _ {I A V E : Type 0} {w : Seen I A} (m : Meaning I V E) (n : ℕ) (mode : Modes) {Held : List V → Type 0} {i j : I} (c : Collected w (TurnsBy (Some n) (item_turn (count_limits n)) (λ _. m.answers mode.streaming)) Held i j) where
+module _ {I A V E : Type 0} {w : Seen I A} (m : Meaning I V E) (n : ℕ) (mode : Modes) {Held : List V → Type 0} {i j : I} (c : Collected w (TurnsBy (Some n) (item_turn (exact_limits n)) (λ _. m.answers mode.streaming)) Held i j) where
   -- the buffer is full
   pub stops_full : (length c.trees < n → ⊥) → Stops m n mode (length c.trees) j
   stops_full h = inl (Accept 0 tt, record { reply = None; replied = h; fact = refl })
@@ -95,10 +95,10 @@ module _ {I A V E : Type 0} {w : Seen I A} (m : Meaning I V E) (n : ℕ) (mode :
     stops_without_memory e h = inr (part_ran_out e h)
 
 -- what the buffer holds where the items stop
-pub filled : {I A V T E : Type 0} {w : Seen I A} {P : V → T → Type 0} {m : Meaning I V E} {mode : Modes} {i j : I} {old new : List T} {Counted : List V → Type 0} (c : Collected w (TurnsBy (Some (length old)) (item_turn (count_limits (length old))) (λ _. m.answers mode.streaming)) (λ vs. Holds P mode.outputs old vs new × Counted vs) i j) → Stops m (length old) mode (length c.trees) j → IsFilled w P m mode i old new
+pub filled : {I A V T E : Type 0} {w : Seen I A} {P : V → T → Type 0} {m : Meaning I V E} {mode : Modes} {i j : I} {old new : List T} {Counted : List V → Type 0} (c : Collected w (TurnsBy (Some (length old)) (item_turn (exact_limits (length old))) (λ _. m.answers mode.streaming)) (λ vs. Holds P mode.outputs old vs new × Counted vs) i j) → Stops m (length old) mode (length c.trees) j → IsFilled w P m mode i old new
 filled {w = w} {m = m} {mode = mode} {i = i} {j = j} {old = old} c h = record {
   trees = c.trees;
   taken = c.taken;
-  pieces = pieces_end w (TurnsBy (Some (length old)) (item_turn (count_limits (length old))) (λ _. m.answers mode.streaming)) (Stops m (length old) mode) j (length c.trees) h 0 i c.trees c.taken (omega arith) c.pieces;
+  pieces = pieces_end w (TurnsBy (Some (length old)) (item_turn (exact_limits (length old))) (λ _. m.answers mode.streaming)) (Stops m (length old) mode) j (length c.trees) h 0 i c.trees c.taken (omega arith) c.pieces;
   holds = c.held.0;
 }

@@ -1,39 +1,25 @@
 -- What follows from the items of a repetition.
 use Rattle.std.specs.Prelude.{ltb}
 use Rattle.std.proofs.lemmas.Bool.{le-ltb}
-use Rattle.std.proofs.Common.{◌≡◌, Bool, true, false, ℕ, ◌+◌, ◌<◌, ◌≤◌, Option, Some, None, List, [], ◌∷◌, length, zero, suc, refl, arith, sym, ap, subst}
+use Rattle.std.proofs.Common.{◌≡◌, Bool, true, false, ℕ, ◌+◌, Option, Some, None, List, [], ◌∷◌, zero, suc, refl, arith, sym, subst}
 use Rattle.nom_error.specs.Errors.{Errors}
-use Rattle.nom_traits.specs.Input.{Seen, InputLaws, input_len}
+use Rattle.nom_traits.specs.Input.{Seen, InputLaws}
 use Rattle.nom_traits.specs.Rests.{rest_rest}
 use Rattle.nom_internal.specs.Outcome.{Outcome}
 use Rattle.nom_internal.specs.Outcome.Outcome.{Accept, Refuse, Fail, TooLarge, Undecided}
 use Rattle.nom_internal.specs.Meaning.{Meaning}
 use Rattle.nom_internal.specs.Sequence.{after}
 use Rattle.nom_repeat.specs.Repeat.{Pieces, Replies, TurnsBy}
-use Rattle.nom_repeat.specs.Repeat.Turn.{Takes, Ends}
+use Rattle.nom_repeat.specs.Repeat.Turn.{Ends}
 use Rattle.nom_repeat.specs.Items.{refused_turn, item_turn}
-use Rattle.nom_multi.specs.Many.{many0_limits, many0_meaning}
+use Rattle.nom_multi.specs.Many.{many0_meaning}
 use Rattle.nom_multi.specs.Promises.{HasEmptyItem, RefusesAtEmpty, HasFewItems}
-use Rattle.nom_internal.proofs.Consumed.{rest_length}
-
--- what is taken consumes
-taken_consumes : {V : Type 0} (k : ℕ) (a : Option (Outcome V)) (n : ℕ) (v : V) → Takes n v ≡ item_turn many0_limits k a → 0 < n
-taken_consumes k (Some (Accept zero u)) n v e = absurd (cc)
-taken_consumes k (Some (Accept (suc m) u)) n v e =
-    let same : n ≡ suc m = cc in
-    omega (arith, same)
-taken_consumes k (Some Refuse) n v e = absurd (never (ltb k 0) e)
-  where
-    never : {V : Type 0} {n : ℕ} {v : V} (few : Bool) → Takes n v ≡ refused_turn few → ⊥
-    never true e = absurd (cc (e))
-    never false e = absurd (cc (e))
-taken_consumes k (Some Fail) n v e = absurd (cc)
-taken_consumes k (Some TooLarge) n v e = absurd (cc)
-taken_consumes k (Some (Undecided d)) n v e = absurd (cc)
-taken_consumes k None n v e = absurd (cc)
+use Rattle.nom_repeat.proofs.Few.{few_accepted}
+use Rattle.nom_repeat.specs.Bounds.{any_limits}
+use Rattle.nom_error.specs.declared.kind.ErrorKind.TheVariants as Kind
 
 -- a refusal is that of an empty item
-refused_empty : {I V : Type 0} (Item : I → Outcome V → Type 0) (k : ℕ) (i : I) (a : Option (Outcome V)) → Replies None (λ _. Item) k i a → Ends Refuse ≡ item_turn many0_limits k a → (v : V) × Item i (Accept 0 v)
+refused_empty : {I V : Type 0} (Item : I → Outcome V → Type 0) (k : ℕ) (i : I) (a : Option (Outcome V)) → Replies None (λ _. Item) k i a → Ends Refuse ≡ item_turn (any_limits Kind.Many0) k a → (v : V) × Item i (Accept 0 v)
 refused_empty Item k i (Some (Accept zero u)) p e = (u, p.1)
 refused_empty Item k i (Some (Accept (suc m) u)) p e = absurd (cc)
 refused_empty Item k i (Some Refuse) p e = absurd (enough (ltb k 0) (le-ltb k 0 (omega arith)) e)
@@ -53,22 +39,10 @@ ends_refused n f Fail e = absurd (cc)
 ends_refused n f TooLarge e = absurd (cc)
 ends_refused n f (Undecided k) e = absurd (cc)
 
-accepted_tree : {T R : Type 0} (n m : ℕ) (t v : R) (o : Outcome T) → Accept n v ≡ after m (λ _. t) o → v ≡ t
-accepted_tree n m t v (Accept k u) e = cc
-accepted_tree n m t v Refuse e = absurd (cc)
-accepted_tree n m t v Fail e = absurd (cc)
-accepted_tree n m t v TooLarge e = absurd (cc)
-accepted_tree n m t v (Undecided d) e = absurd (cc)
-
 module _ {I A V : Type 0} (w : Seen I A) (Item : I → Outcome V → Type 0) where
-  pieces_few : (Fact : ℕ → I → Type 0) (k : ℕ) (i : I) (vs : List V) (n : ℕ) → Pieces w (TurnsBy None (item_turn many0_limits) (λ _. Item)) Fact k i vs n → length vs ≤ input_len w i
-  pieces_few Fact k i [] n p = omega arith
-  pieces_few Fact k i (v ∷ vs) n p =
-      omega (arith, pieces_few Fact (k + 1) p.2 vs p.1 p.5, rest_length p.4, taken_consumes k (p.3).reply p.0 v (p.3).fact)
-
-  pieces_empty : InputLaws w → (o : Outcome (Unit {0})) → o ≡ Refuse → (k : ℕ) (i : I) (vs : List V) (n : ℕ) → w.IsKnown i → Pieces w (TurnsBy None (item_turn many0_limits) (λ _. Item)) (λ h j. TurnsBy None (item_turn many0_limits) (λ _. Item) h j (Ends o)) k i vs n → HasEmptyItem w Item i
+  pieces_empty : InputLaws w → (o : Outcome (Unit {0})) → o ≡ Refuse → (k : ℕ) (i : I) (vs : List V) (n : ℕ) → w.IsKnown i → Pieces w (TurnsBy None (item_turn (any_limits Kind.Many0)) (λ _. Item)) (λ h j. TurnsBy None (item_turn (any_limits Kind.Many0)) (λ _. Item) h j (Ends o)) k i vs n → HasEmptyItem w Item i
   pieces_empty l o q k i [] n h p =
-      let e : Ends Refuse ≡ item_turn many0_limits k (p.1).reply = subst (λ z. Ends z ≡ item_turn many0_limits k (p.1).reply) q (p.1).fact in
+      let e : Ends Refuse ≡ item_turn (any_limits Kind.Many0) k (p.1).reply = subst (λ z. Ends z ≡ item_turn (any_limits Kind.Many0) k (p.1).reply) q (p.1).fact in
       let a = refused_empty Item k i (p.1).reply (p.1).replied e in
       record { taken = 0; place = i; rest_is = record { known = h; front = []; whole = refl; length_is = refl; mark_is = sym (l.mark_none (w.mark i)) }; tree = a.0; accepted = a.1 }
   pieces_empty l o q k i (v ∷ vs) n h p =
@@ -80,6 +54,4 @@ module _ {I A V E : Type 0} (w : Seen I A) (errs : Errors I E) (m : Meaning I V 
   many0_refuses_at_empty l s i h a = pieces_empty w (m.answers s) l a.ending (ends_refused a.taken (λ _. a.trees) a.ending a.outcome_is) 0 i a.trees a.taken h a.pieces
 
   pub many0_has_few_items : HasFewItems w (many0_meaning w errs m)
-  many0_has_few_items s i n vs h a =
-      let same : vs ≡ a.trees = accepted_tree n a.taken a.trees vs a.ending a.outcome_is in
-      omega (arith, ap length same, pieces_few w (m.answers s) _ 0 i a.trees a.taken a.pieces)
+  many0_has_few_items s i n vs h a = few_accepted w errs (any_limits Kind.Many0) (Unit {0}) m Kind.Many0 refl s i n vs a

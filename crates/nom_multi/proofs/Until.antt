@@ -1,13 +1,12 @@
 -- What lists until an end accept.
-use Rattle.std.specs.Prelude.{◌↔◌}
-use Rattle.std.proofs.Common.{◌≡◌, ◌∙◌, Bool, ℕ, ◌+◌, ◌<◌, ◌⊎◌, Option, Some, None, List, [], ◌∷◌, zero, suc, refl, arith, ap, subst, sym, inl, inr}
+use Rattle.std.proofs.Common.{◌≡◌, Bool, ℕ, ◌+◌, ◌<◌, ◌⊎◌, Option, Some, None, List, [], ◌∷◌, zero, suc, refl, arith, ap, subst, sym, inl, inr}
 use Rattle.nom_error.specs.Errors.{Errors}
 use Rattle.nom_traits.specs.Input.{Seen}
 use Rattle.nom_internal.specs.Outcome.{Outcome}
 use Rattle.nom_internal.specs.Outcome.Outcome.{Accept, Refuse, Fail, TooLarge, Undecided}
 use Rattle.nom_internal.specs.Meaning.{Meaning}
-use Rattle.nom_internal.specs.Cases.{OnPart, labelled, labelled_meaning}
-use Rattle.nom_internal.specs.Choice.{GoesOnRefused, OnRefusal}
+use Rattle.nom_internal.specs.Cases.{labelled, labelled_meaning}
+use Rattle.nom_internal.specs.Choice.{GoesOnRefused}
 use Rattle.nom_repeat.specs.Repeat.{Turn, Pieces, Replies, TurnsBy}
 use Rattle.nom_repeat.specs.Repeat.Turn.{Takes, Ends}
 use Rattle.nom_repeat.proofs.AcceptedMore.{after_accepts}

@@ -9,11 +9,11 @@ use Rattle.nom_internal.specs.Outcome.{Outcome}
 use Rattle.nom_repeat.specs.Repeat.{TurnsBy, Pieces}
 use Rattle.nom_repeat.specs.Repeat.Turn.{Ends}
 use Rattle.nom_repeat.specs.Items.{item_turn, items_meaning}
-use Rattle.nom_multi.specs.Bounded.{count_limits}
+use Rattle.nom_repeat.specs.Bounds.{exact_limits}
 
 -- just so many items, which takes no memory
 abbrev pub fill_meaning : {I A V E : Type 0} → Seen I A → Errors I E → ℕ → Meaning I V E → Meaning I (List V) E
-fill_meaning w errs n m = items_meaning w errs (count_limits n) ⊥ m
+fill_meaning w errs n m = items_meaning w errs (exact_limits n) ⊥ m
 
 -- nothing is told of the items beside the buffer
 abbrev pub IsDone : {V : Type 0} → List V → Unit {0} → Type 0
@@ -26,14 +26,14 @@ Holds IsOutput false old vs new = new ≡ old
 
 -- no further item is accepted: the buffer is full, or the part answers otherwise, or memory runs out in it
 abbrev pub Stops : {I V E : Type 0} → Meaning I V E → ℕ → Modes → ℕ → I → Type 0
-Stops {V = V} m n mode k j = ((o : Outcome (Unit {0})) × TurnsBy (Some n) (item_turn (count_limits n)) (λ _. m.answers mode.streaming) k j (Ends o)) ⊎ m.runs_out mode j
+Stops {V = V} m n mode k j = ((o : Outcome (Unit {0})) × TurnsBy (Some n) (item_turn (exact_limits n)) (λ _. m.answers mode.streaming) k j (Ends o)) ⊎ m.runs_out mode j
 
 -- What a buffer holds afterwards, whatever was answered: the outputs of all items that were accepted in turn, as many as it has
 -- room for.
 pub record IsFilled {I A V T E : Type 0} (w : Seen I A) (IsOutput : V → T → Type 0) (m : Meaning I V E) (mode : Modes) (i : I) (old new : List T) : Type 0 where
   pub trees : List V
   pub taken : ℕ
-  pub pieces : Pieces w (TurnsBy (Some (length old)) (item_turn (count_limits (length old))) (λ _. m.answers mode.streaming)) (Stops m (length old) mode) 0 i trees taken
+  pub pieces : Pieces w (TurnsBy (Some (length old)) (item_turn (exact_limits (length old))) (λ _. m.answers mode.streaming)) (Stops m (length old) mode) 0 i trees taken
   pub holds : Holds IsOutput mode.outputs old trees new
 
 -- an item is written at a place

@@ -1,25 +1,18 @@
 -- Items until one is refused.
-use Rattle.std.specs.Prelude.{false, true, Some, None, List, ◌++◌}
+use Rattle.std.specs.Prelude.{true, List, ◌++◌}
 use Rattle.nom_error.specs.Errors.{Errors}
 use Rattle.nom_error.specs.declared.kind.ErrorKind.TheVariants as Kind
 use Rattle.nom_traits.specs.Input.{Seen}
 use Rattle.nom_internal.specs.Meaning.{Meaning}
 use Rattle.nom_internal.specs.Sequence.{sequence_meaning}
 use Rattle.nom_repeat.specs.Items.{items_meaning}
-use Rattle.nom_repeat.specs.declared.items.Limits.{Limits}
-use Rattle.nom_repeat.specs.declared.items.TooFew.TheVariants.{Never, Added}
+use Rattle.nom_repeat.specs.declared.items.TooFew.TheVariants.{Added}
+use Rattle.nom_repeat.specs.Bounds.{any_limits, one_limits}
 
--- any number of items; one that consumes nothing is refused
-abbrev pub many0_limits : Limits
-many0_limits = record { least = 0; most = None; too_few = Never; at_start = false; empty = Some Kind.Many0 }
-
--- a list of the items, which grows by each where outputs are built
+-- Any number of items; one that consumes nothing is refused. A list of the items, which grows by each where outputs are built.
 abbrev pub many0_meaning : {I A V E : Type 0} → Seen I A → Errors I E → Meaning I V E → Meaning I (List V) E
-many0_meaning w errs m = items_meaning w errs many0_limits (Unit {0}) m
+many0_meaning w errs m = items_meaning w errs (any_limits Kind.Many0) (Unit {0}) m
 
 -- One item at least: a first one, to whose refusal the kind is added, and which may be empty; and then any number.
-abbrev pub one_limits : Limits
-one_limits = record { least = 1; most = Some 1; too_few = Added Kind.Many1; at_start = true; empty = None }
-
 abbrev pub many1_meaning : {I A V E : Type 0} → Seen I A → Errors I E → Meaning I V E → Meaning I (List V) E
-many1_meaning w errs m = sequence_meaning w (λ vs us. vs ++ us) (λ o. o) (λ o. o) (items_meaning w errs one_limits (Unit {0}) m) (many0_meaning w errs m)
+many1_meaning w errs m = sequence_meaning w (λ vs us. vs ++ us) (λ o. o) (λ o. o) (items_meaning w errs (one_limits (Added Kind.Many1) true) (Unit {0}) m) (many0_meaning w errs m)

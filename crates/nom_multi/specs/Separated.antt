@@ -13,22 +13,16 @@ use Rattle.nom_repeat.specs.Items.{items_meaning}
 use Rattle.nom_repeat.specs.declared.items.Limits.{Limits}
 use Rattle.nom_repeat.specs.declared.items.TooFew.TheVariants.{Never, Passed}
 use Rattle.nom_sequence.specs.Sequences.{preceded_meaning}
-
--- the first item, whose refusal is passed on, and which may be empty
-abbrev pub first_limits : Limits
-first_limits = record { least = 1; most = Some 1; too_few = Passed; at_start = false; empty = None }
+use Rattle.nom_repeat.specs.Bounds.{any_limits, one_limits}
 
 -- Any number of further items, each behind a separator. Where either is refused, the list ends before the separator. Both
 -- together may not be empty.
-abbrev pub further_limits : Limits
-further_limits = record { least = 0; most = None; too_few = Never; at_start = false; empty = Some Kind.SeparatedList }
-
 abbrev pub further_meaning : {I A P V E : Type 0} → Seen I A → Errors I E → Meaning I P E → Meaning I V E → Meaning I (List V) E
-further_meaning w errs separator m = items_meaning w errs further_limits (Unit {0}) (preceded_meaning w separator m)
+further_meaning w errs separator m = items_meaning w errs (any_limits Kind.SeparatedList) (Unit {0}) (preceded_meaning w separator m)
 
--- one item at least
+-- one item at least: a first one, whose refusal is passed on, and which may be empty; and then the further ones
 abbrev pub separated1_meaning : {I A P V E : Type 0} → Seen I A → Errors I E → Meaning I P E → Meaning I V E → Meaning I (List V) E
-separated1_meaning w errs separator m = sequence_meaning w (λ vs us. vs ++ us) (λ o. o) (λ o. o) (items_meaning w errs first_limits (Unit {0}) m) (further_meaning w errs separator m)
+separated1_meaning w errs separator m = sequence_meaning w (λ vs us. vs ++ us) (λ o. o) (λ o. o) (items_meaning w errs (one_limits Passed false) (Unit {0}) m) (further_meaning w errs separator m)
 
 -- the first item, if it isn't refused, and which may be empty
 abbrev pub optional_limits : Limits

@@ -42,9 +42,7 @@ pub fn count_accepts<I: Input, A: Allocator + Copy, F: Parser<I> + Drop>(_parser
 /// `many_m_n`, where its bounds fit each other, accepts just the items that its part accepts, one behind the
 /// other, none of them empty: up to where the part refuses, behind the least number at least, or up to the
 /// most.
-pub fn many_m_n_accepts<I: Input, A: Allocator + Copy, F: Parser<I> + Drop>(
-    _parser: &ManyMN<A, F>,
-)
+pub fn many_m_n_accepts<I: Input, A: Allocator + Copy, F: Parser<I> + Drop>(_parser: &ManyMN<A, F>)
     ensures { AcceptsItems I.seen (_parser.now.min ≤ _parser.now.max) (λ a. 0 < a) _parser.now.min (Some _parser.now.max) (F.meaning (F.state _parser.now.parser)) (⟦<ManyMN<A, F> as Parser<I>>⟧.meaning (_parser.now.min, _parser.now.max, F.state _parser.now.parser)) }
 {}
 

@@ -1,5 +1,5 @@
 -- What items within limits accept.
-use Rattle.std.specs.Prelude.{ltb, ◌↔◌}
+use Rattle.std.specs.Prelude.{ltb}
 use Rattle.std.proofs.lemmas.Bool.{le-ltb, ltb-false}
 use Rattle.std.proofs.Common.{◌≡◌, Bool, true, false, ℕ, ◌+◌, ◌<◌, ◌≤◌, ◌⊎◌, Option, Some, None, List, [], ◌∷◌, zero, suc, refl, arith, ap, subst, sym, inl, inr}
 use Rattle.nom_error.specs.Errors.{Errors}
@@ -9,9 +9,9 @@ use Rattle.nom_internal.specs.Outcome.{Outcome}
 use Rattle.nom_internal.specs.Outcome.Outcome.{Accept, Refuse, Fail, TooLarge, Undecided}
 use Rattle.nom_internal.specs.Meaning.{Meaning}
 use Rattle.nom_internal.specs.Sequence.{after}
-use Rattle.nom_repeat.specs.Repeat.{Turn, Pieces, IsBelow, Replies, TurnsBy}
+use Rattle.nom_repeat.specs.Repeat.{Pieces, Replies, TurnsBy}
 use Rattle.nom_repeat.specs.Repeat.Turn.{Takes, Ends}
-use Rattle.nom_repeat.specs.Items.{empty_turn, refused_turn, item_turn, items_meaning}
+use Rattle.nom_repeat.specs.Items.{refused_turn, item_turn, items_meaning}
 use Rattle.nom_repeat.specs.ItemsLaws.{empty_never_ends}
 use Rattle.nom_repeat.specs.Accepted.{MayTake, TakesItem, EndsItems, InTurn, AcceptsItems}
 use Rattle.nom_repeat.specs.declared.items.Limits.{Limits}

@@ -1,6 +1,5 @@
 -- What a first item and those behind it accept.
-use Rattle.std.specs.Prelude.{◌↔◌}
-use Rattle.std.proofs.Common.{◌≡◌, ◌∙◌, Bool, false, ℕ, ◌+◌, ◌<◌, ◌≤◌, ◌⊎◌, Option, Some, None, List, [], ◌∷◌, ◌++◌, refl, arith, ap, subst, sym, inl, inr}
+use Rattle.std.proofs.Common.{◌≡◌, ◌∙◌, Bool, ℕ, ◌+◌, ◌<◌, ◌≤◌, ◌⊎◌, Some, None, List, [], ◌∷◌, ◌++◌, refl, arith, ap, subst, inl, inr}
 use Rattle.nom_error.specs.Errors.{Errors}
 use Rattle.nom_error.specs.declared.kind.ErrorKind.{ErrorKind}
 use Rattle.nom_traits.specs.Input.{Seen, IsRest}
@@ -9,18 +8,10 @@ use Rattle.nom_internal.specs.Outcome.Outcome.{Accept, Refuse, Fail, TooLarge, U
 use Rattle.nom_internal.specs.Meaning.{Meaning}
 use Rattle.nom_internal.specs.Sequence.{after, GoesOn, Then, sequence_meaning}
 use Rattle.nom_repeat.specs.Items.{items_meaning}
+use Rattle.nom_repeat.specs.Bounds.{any_limits, one_limits}
 use Rattle.nom_repeat.specs.Accepted.{InTurn, OneAndMore, AcceptsOneAndMore}
-use Rattle.nom_repeat.specs.declared.items.Limits.{Limits}
 use Rattle.nom_repeat.specs.declared.items.TooFew.{TooFew}
 use Rattle.nom_repeat.proofs.AcceptedItems.{accepted_in_turn, in_turn_accepted}
-
--- one item, of any length
-abbrev pub one_item : TooFew → Bool → Limits
-one_item few start = record { least = 1; most = Some 1; too_few = few; at_start = start; empty = None }
-
--- any number of items, none of them empty
-abbrev pub any_items : TooFew → ErrorKind → Limits
-any_items few kind = record { least = 0; most = None; too_few = few; at_start = false; empty = Some kind }
 
 -- what is accepted behind something else
 pub after_accepts : {P T : Type 0} (a n : ℕ) (f : P → T) (v : T) (o : Outcome P) → Accept n v ≡ after a f o → (c : ℕ) × (u : P) × (o ≡ Accept c u) × (n ≡ a + c) × (v ≡ f u)
@@ -57,17 +48,17 @@ module _ {I A V : Type 0} (w : Seen I A) (Item : I → Outcome V → Type 0) whe
   pub is_only_item : (i j : I) (n : ℕ) (v : V) → Item i (Accept n v) → IsRest w i n j → InTurn w Item (λ _. Unit {0}) 1 (Some 1) i n (v ∷ [])
   is_only_item i j n v h r = (n, 0, j, (omega arith, h, tt), r, (refl, inr (λ z. omega (arith, z))), omega arith)
 
-module _ {I A V E : Type 0} (w : Seen I A) (errs : Errors I E) (few later : TooFew) (start : Bool) (kind : ErrorKind) (G H : Type 0) (m p : Meaning I V E) where
+module _ {I A V E : Type 0} (w : Seen I A) (errs : Errors I E) (few : TooFew) (start : Bool) (kind : ErrorKind) (G H : Type 0) (m p : Meaning I V E) where
   abbrev both : Meaning I (List V) E
-  both = sequence_meaning w (λ vs us. vs ++ us) (λ o. o) (λ o. o) (items_meaning w errs (one_item few start) G m) (items_meaning w errs (any_items later kind) H p)
+  both = sequence_meaning w (λ vs us. vs ++ us) (λ o. o) (λ o. o) (items_meaning w errs (one_limits few start) G m) (items_meaning w errs (any_limits kind) H p)
 
   pub one_and_more_accept : AcceptsOneAndMore w m p both
   one_and_more_accept s i n vs = (forward, backward)
     where
       forward : both.answers s i (Accept n vs) → OneAndMore w (m.answers s) (InTurn w (p.answers s) (λ a. 0 < a) 0 None) i n vs
       forward t =
-          let f = first_accepts w (λ us ws. us ++ ws) ((items_meaning w errs (one_item few start) G m).answers s) (λ _. (items_meaning w errs (any_items later kind) H p).answers s) i n vs t in
-          let one = only_item w (m.answers s) i f.0 f.2 (accepted_in_turn w errs (one_item few start) G m s i f.0 f.2 f.5) in
+          let f = first_accepts w (λ us ws. us ++ ws) ((items_meaning w errs (one_limits few start) G m).answers s) (λ _. (items_meaning w errs (any_limits kind) H p).answers s) i n vs t in
+          let one = only_item w (m.answers s) i f.0 f.2 (accepted_in_turn w errs (one_limits few start) G m s i f.0 f.2 f.5) in
           record {
             first_length = f.0;
             tree = one.0;
@@ -76,7 +67,7 @@ module _ {I A V E : Type 0} (w : Seen I A) (errs : Errors I E) (few later : TooF
             trees = f.4;
             accepted = one.2;
             rest_is = f.6;
-            more = accepted_in_turn w errs (any_items later kind) H p s f.3 f.1 f.4 f.7;
+            more = accepted_in_turn w errs (any_limits kind) H p s f.3 f.1 f.4 f.7;
             length_is = f.8;
             trees_are = let front : f.2 ≡ one.0 ∷ [] = one.1 in let whole : vs ≡ f.2 ++ f.4 = f.9 in whole ∙ ap (λ us. us ++ f.4) front;
           }
@@ -84,6 +75,6 @@ module _ {I A V E : Type 0} (w : Seen I A) (errs : Errors I E) (few later : TooF
       backward : OneAndMore w (m.answers s) (InTurn w (p.answers s) (λ a. 0 < a) 0 None) i n vs → both.answers s i (Accept n vs)
       backward h = record {
         first = Accept h.first_length (h.tree ∷ []);
-        answered = in_turn_accepted w errs (one_item few start) G m s i h.first_length (h.tree ∷ []) (is_only_item w (m.answers s) i h.rest h.first_length h.tree h.accepted h.rest_is);
-        goes_on = (h.rest, Accept h.more_length h.trees, h.rest_is, in_turn_accepted w errs (any_items later kind) H p s h.rest h.more_length h.trees h.more, cc (h.length_is, h.trees_are));
+        answered = in_turn_accepted w errs (one_limits few start) G m s i h.first_length (h.tree ∷ []) (is_only_item w (m.answers s) i h.rest h.first_length h.tree h.accepted h.rest_is);
+        goes_on = (h.rest, Accept h.more_length h.trees, h.rest_is, in_turn_accepted w errs (any_limits kind) H p s h.rest h.more_length h.trees h.more, cc (h.length_is, h.trees_are));
       }

@@ -1,4 +1,5 @@
 pub mod Accepted
+pub mod Bounds
 pub mod Inverted
 pub mod InvertedLaws
 pub mod Items

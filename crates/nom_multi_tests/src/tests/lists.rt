@@ -1,20 +1,21 @@
-//! Lists, in the four modes of what is built.
+//! Lists of digits, in the four modes of what is built.
 
 use super::told::{At, Told, accepts, in_modes, refuses};
 use nom::branch::alt;
 use nom::bytes::tag;
-use nom::character::char;
+use nom::character::{char, one_of};
+use nom::combinator::value;
 use nom::error::ErrorKind;
 use nom::multi::{count, many_m_n, many_till, many1, separated_list0, separated_list1};
-use nom::{Err, Needed, Parser};
+use nom::{Needed, Parser};
 
 #[test]
 fn one_at_least(rt: HostRuntime) {
     for (input, answers) in [
-        (&b"aab"[..], accepts(&b"b"[..], 2)),
-        (&b"b"[..], refuses(ErrorKind::Tag, &b"b"[..])),
+        (&b"12;"[..], accepts(&b";"[..], 12)),
+        (&b";"[..], refuses(ErrorKind::OneOf, &b";"[..])),
     ] {
-        let list = many1(rt.alloc(), tag::<_, _, At>(&b"a"[..]));
+        let list = many1(rt.alloc(), one_of::<_, _, At>("12"));
         assert!(rt; in_modes(list, input) == answers, "at {input:?}");
     }
 }
@@ -22,51 +23,49 @@ fn one_at_least(rt: HostRuntime) {
 #[test]
 fn just_so_many(rt: HostRuntime) {
     for (input, answers) in [
-        (&b"aa;"[..], accepts(&b";"[..], 2)),
-        (&b"a;"[..], refuses(ErrorKind::Tag, &b";"[..])),
+        (&b"21;"[..], accepts(&b";"[..], 21)),
+        (&b"2;"[..], refuses(ErrorKind::OneOf, &b";"[..])),
     ] {
-        let list = count(rt.alloc(), tag::<_, _, At>(&b"a"[..]), 2);
+        let list = count(rt.alloc(), one_of::<_, _, At>("12"), 2);
         assert!(rt; in_modes(list, input) == answers, "at {input:?}");
     }
-    let list = count(rt.alloc(), tag::<_, _, At>(&b""[..]), 3);
-    assert!(rt; in_modes(list, &b"x"[..]) == accepts(&b"x"[..], 3));
+    let list = count(rt.alloc(), value('7', tag::<_, _, At>(&b""[..])), 3);
+    assert!(rt; in_modes(list, &b"x"[..]) == accepts(&b"x"[..], 777));
 }
 
 #[test]
 fn within_bounds(rt: HostRuntime) {
     for (min, max, input, answers) in [
-        (1, 2, &b"aaa"[..], accepts(&b"a"[..], 2)),
-        (1, 2, &b"ab"[..], accepts(&b"b"[..], 1)),
-        (2, 3, &b"ab"[..], refuses(ErrorKind::Tag, &b"b"[..])),
+        (1, 2, &b"121"[..], accepts(&b"1"[..], 12)),
+        (1, 2, &b"1;"[..], accepts(&b";"[..], 1)),
+        (2, 3, &b"1;"[..], refuses(ErrorKind::OneOf, &b";"[..])),
         (
             3,
             2,
-            &b"aa"[..],
-            [Told::Fails(ErrorKind::ManyMN, &b"aa"[..]); 4],
+            &b"12"[..],
+            [Told::Fails(ErrorKind::ManyMN, &b"12"[..]); 4],
         ),
     ] {
-        let list = many_m_n(rt.alloc(), min, max, tag::<_, _, At>(&b"a"[..]));
+        let list = many_m_n(rt.alloc(), min, max, one_of::<_, _, At>("12"));
         assert!(rt; in_modes(list, input) == answers, "at {input:?}");
     }
 }
 
 #[test]
 fn separated(rt: HostRuntime) {
-    for (input, answers) in [
-        (&b"a,a;"[..], accepts(&b";"[..], 2)),
-        (&b"a,b"[..], accepts(&b",b"[..], 1)),
-        (&b"b"[..], refuses(ErrorKind::Tag, &b"b"[..])),
+    for (input, some, any) in [
+        (&b"1,2;"[..], accepts(&b";"[..], 12), accepts(&b";"[..], 12)),
+        (&b"2,;"[..], accepts(&b",;"[..], 2), accepts(&b",;"[..], 2)),
+        (
+            &b";"[..],
+            refuses(ErrorKind::OneOf, &b";"[..]),
+            accepts(&b";"[..], 0),
+        ),
     ] {
-        let list = separated_list1(rt.alloc(), char(','), tag::<_, _, At>(&b"a"[..]));
-        assert!(rt; in_modes(list, input) == answers, "at {input:?}");
-    }
-    for (input, answers) in [
-        (&b"a,a;"[..], accepts(&b";"[..], 2)),
-        (&b"a,b"[..], accepts(&b",b"[..], 1)),
-        (&b"b"[..], accepts(&b"b"[..], 0)),
-    ] {
-        let list = separated_list0(rt.alloc(), char(','), tag::<_, _, At>(&b"a"[..]));
-        assert!(rt; in_modes(list, input) == answers, "at {input:?}");
+        let list = separated_list1(rt.alloc(), char(','), one_of::<_, _, At>("12"));
+        assert!(rt; in_modes(list, input) == some, "at {input:?}");
+        let list = separated_list0(rt.alloc(), char(','), one_of::<_, _, At>("12"));
+        assert!(rt; in_modes(list, input) == any, "at {input:?}");
     }
 }
 
@@ -76,14 +75,14 @@ fn a_separator_at_the_end(rt: HostRuntime) {
     let list = separated_list0(
         rt.alloc(),
         tag::<_, _, At>(&b","[..]),
-        tag::<_, _, At>(&b"abc"[..]),
+        value('1', tag::<_, _, At>(&b"abc"[..])),
     );
     let lacks = Told::Needs(Needed::new(3));
     assert!(rt;
         in_modes(list, &b"abc,abc,"[..])
             == [
                 lacks,
-                Told::Accepts(&b","[..], Some(2)),
+                Told::Accepts(&b","[..], Some(11)),
                 lacks,
                 Told::Accepts(&b","[..], None)
             ]
@@ -93,47 +92,25 @@ fn a_separator_at_the_end(rt: HostRuntime) {
 /// An item, or a separator with its item, that consumes nothing.
 #[test]
 fn without_progress(rt: HostRuntime) {
-    let empty_later = many1(
-        rt.alloc(),
-        alt((tag::<_, _, At>(&b"a"[..]), tag::<_, _, At>(&b""[..]))),
-    );
-    assert!(rt; in_modes(empty_later, &b"ab"[..]) == refuses(ErrorKind::Many0, &b"b"[..]));
-    let one = many1(rt.alloc(), tag::<_, _, At>(&b""[..]));
-    assert!(rt; in_modes(one, &b"x"[..]) == refuses(ErrorKind::Many0, &b"x"[..]));
-    let bounded = many_m_n(rt.alloc(), 0, 2, tag::<_, _, At>(&b""[..]));
+    let empty = || value('7', tag::<_, _, At>(&b""[..]));
+    let empty_later = many1(rt.alloc(), alt((one_of::<_, _, At>("12"), empty())));
+    assert!(rt; in_modes(empty_later, &b"1x"[..]) == refuses(ErrorKind::Many0, &b"x"[..]));
+    let bounded = many_m_n(rt.alloc(), 0, 2, empty());
     assert!(rt; in_modes(bounded, &b"x"[..]) == refuses(ErrorKind::ManyMN, &b"x"[..]));
-    let apart = separated_list0(
-        rt.alloc(),
-        tag::<_, _, At>(&b""[..]),
-        tag::<_, _, At>(&b""[..]),
-    );
+    let apart = separated_list0(rt.alloc(), tag::<_, _, At>(&b""[..]), empty());
     assert!(rt; in_modes(apart, &b"x"[..]) == refuses(ErrorKind::SeparatedList, &b"x"[..]));
 }
 
 #[test]
 fn until_an_end(rt: HostRuntime) {
-    let mut list = many_till(rt.alloc(), tag::<_, _, At>(&b"a"[..]), char('b'));
-    match list.parse(&b"aab"[..]) {
-        Ok((rest, (items, end))) => {
-            assert!(rt; rest.is_empty() && items.len() == 2 && end == 'b');
-        }
-        Err(_) => panic!(rt; "refused"),
+    for (input, answers) in [
+        (&b"1290"[..], accepts(&b"0"[..], 129)),
+        (&b"90"[..], accepts(&b"0"[..], 9)),
+        (&b"1;9"[..], refuses(ErrorKind::OneOf, &b";9"[..])),
+    ] {
+        let list = many_till(rt.alloc(), one_of::<_, _, At>("12"), char('9'));
+        assert!(rt; in_modes(list, input) == answers, "at {input:?}");
     }
-    match list.parse(&b"ac"[..]) {
-        Err(Err::Error(error)) => {
-            assert!(rt; error.code == ErrorKind::Tag && error.input == b"c".as_slice());
-        }
-        _ => panic!(rt; "not refused"),
-    }
-    let mut empty = many_till(
-        rt.alloc(),
-        tag::<_, _, At>(&b""[..]),
-        tag::<_, _, At>(&b"y"[..]),
-    );
-    match empty.parse(&b"x"[..]) {
-        Err(Err::Error(error)) => {
-            assert!(rt; error.code == ErrorKind::Many0 && error.input == b"x".as_slice());
-        }
-        _ => panic!(rt; "not refused"),
-    }
+    let empty = many_till(rt.alloc(), value('7', tag::<_, _, At>(&b""[..])), char('9'));
+    assert!(rt; in_modes(empty, &b"x"[..]) == refuses(ErrorKind::Many0, &b"x"[..]));
 }

@@ -6,9 +6,10 @@ use std::alloc::Allocator;
 
 pub type At<'a> = Error<&'a [u8]>;
 
-/// What of an answer is told: the rest and how many items, or the kind and the input of a refusal.
+/// What of an answer is told: the rest and the items, or the kind and the input of a refusal.
 #[derive(Clone, Copy, PartialEq, Eq)]
 pub enum Told<'a> {
+    /// With the number that the items' digits write.
     Accepts(&'a [u8], Option<usize>),
     Refuses(Option<(ErrorKind, &'a [u8])>),
     /// With the kind and the input of a failure, which are always built.
@@ -17,11 +18,40 @@ pub enum Told<'a> {
     Other,
 }
 
-fn told_of<'a, T: Drop, A: Allocator + Drop>(
-    answer: PResult<&'a [u8], Vec<T, A>, At<'a>>,
-) -> Told<'a> {
+/// Items that are digits.
+pub trait Digits: Drop {
+    /// The number that they write, 0 where there are none.
+    fn number(&self) -> usize;
+}
+
+fn with_digit(number: usize, digit: char) -> usize {
+    let digit = match digit.to_digit(10) {
+        Some(digit) => digit as usize,
+        None => 0,
+    };
+    number.wrapping_mul(10).wrapping_add(digit)
+}
+
+impl<A: Allocator> Digits for Vec<char, A> {
+    fn number(&self) -> usize {
+        let mut number = 0usize;
+        for digit in self {
+            number = with_digit(number, *digit);
+        }
+        number
+    }
+}
+
+/// The digits of a list, and an end's behind them.
+impl<A: Allocator> Digits for (Vec<char, A>, char) {
+    fn number(&self) -> usize {
+        with_digit(self.0.number(), self.1)
+    }
+}
+
+fn told_of<'a, O: Digits>(answer: PResult<&'a [u8], O, At<'a>>) -> Told<'a> {
     match answer {
-        Ok((rest, Some(list))) => Told::Accepts(rest, Some(list.len())),
+        Ok((rest, Some(items))) => Told::Accepts(rest, Some(items.number())),
         Ok((rest, None)) => Told::Accepts(rest, None),
         Err(Err::Error(Some(error))) => Told::Refuses(Some((error.code, error.input))),
         Err(Err::Error(None)) => Told::Refuses(None),
@@ -32,12 +62,10 @@ fn told_of<'a, T: Drop, A: Allocator + Drop>(
 }
 
 /// The answers at an input in the four modes of what is built: both, outputs, errors, nothing.
-pub fn in_modes<
-    'a,
-    T: Drop,
-    A: Allocator + Drop,
-    P: Parser<&'a [u8], Output = Vec<T, A>, Error = At<'a>> + Drop,
->(mut parser: P, input: &'a [u8]) -> [Told<'a>; 4]
+pub fn in_modes<'a, O: Digits, P: Parser<&'a [u8], Output = O, Error = At<'a>> + Drop>(
+    mut parser: P,
+    input: &'a [u8],
+) -> [Told<'a>; 4]
     requires { (P.meaning (P.state parser)).IsSound }
 {
     [
@@ -48,11 +76,11 @@ pub fn in_modes<
     ]
 }
 
-/// What is told in the four modes of a list of so many items.
-pub fn accepts(rest: &[u8], count: usize) -> [Told<'_>; 4] {
+/// What is told in the four modes of the items that write a number.
+pub fn accepts(rest: &[u8], number: usize) -> [Told<'_>; 4] {
     [
-        Told::Accepts(rest, Some(count)),
-        Told::Accepts(rest, Some(count)),
+        Told::Accepts(rest, Some(number)),
+        Told::Accepts(rest, Some(number)),
         Told::Accepts(rest, None),
         Told::Accepts(rest, None),
     ]
