@@ -1,9 +1,9 @@
 -- What parsers of bits show among parsers of bytes, and parsers of bytes among parsers of bits.
-use Rattle.std.proofs.Common.{◌≡◌, ℕ, ◌+◌, ◌*◌, ◌/◌, ◌%◌, ◌<◌, Bool, true, false, ◌⊎◌, inl, inr, length, Result, Ok, Err, Option, Some, None, refl, sym, ◌∙◌, ap, subst, lit<, arith}
+use Rattle.std.proofs.Common.{◌≡◌, ℕ, ◌+◌, ◌*◌, Bool, true, false, inl, inr, length, Result, Ok, Err, Option, refl, ◌∙◌, ap, subst, lit<, arith}
 use Rattle.std.proofs.Math.Nat.{mod-lt}
 use Rattle.nom_error.specs.declared.answer.Needed.{Needed}
 use Rattle.nom_error.specs.declared.answer.Err as Answer
-use Rattle.nom_error.specs.declared.answer.Err.TheVariants.{Incomplete, Error, Failure, OutOfMemory}
+use Rattle.nom_error.specs.declared.answer.Err.TheVariants.{Incomplete}
 use Rattle.nom_error.specs.Answers.{size_of}
 use Rattle.nom_error.specs.Errors.{Errors}
 use Rattle.nom_error.specs.Modes.{Built, Modes, with_streaming}

@@ -1,12 +1,11 @@
 -- Positions among bits, and what follows them.
-use Rattle.std.proofs.Common.{◌≡◌, ℕ, ◌+◌, ◌-◌, ◌*◌, ◌/◌, ◌%◌, ◌<◌, ◌≤◌, zero, suc, List, [], ◌∷◌, ◌++◌, length, take, append-nil, refl, sym, ◌∙◌, ap, subst, arith, lit<, length-append}
+use Rattle.std.proofs.Common.{◌≡◌, ℕ, ◌+◌, ◌-◌, ◌*◌, ◌/◌, ◌%◌, ◌<◌, ◌≤◌, zero, suc, List, [], ◌∷◌, ◌++◌, length, take, append-nil, refl, sym, ◌∙◌, ap, subst, arith, lit<}
 use Rattle.std.proofs.lemmas.List.{take-append-drop}
 use Rattle.std.proofs.Math.ListN.{drop_of_length-le}
 use Rattle.std.proofs.Math.Nat.{mod-lt}
 use Rattle.std.proofs.Math.Path.{fun_ext}
 use Rattle.nom_traits.specs.Input.{Seen, InputLaws, span, IsPlace, IsRest, input_len}
 use Rattle.nom_traits.specs.Rests.{rest_rest, span-append}
-use Rattle.nom_traits.specs.Slices.{IsCount}
 use Rattle.nom_traits.specs.Bits.{all_bits, AreBytes, past_bits, seen_bits, bits_lawful}
 use Rattle.nom_traits.specs.BitLists.{length-all_bits}
 use Rattle.nom_traits.specs.BitPlaces.{passes_bits, past_all_bits}

@@ -1,10 +1,9 @@
 -- Numbers that bits spell, byte by byte.
-use Rattle.std.proofs.Common.{◌≡◌, ℕ, ◌+◌, ◌-◌, ◌*◌, ◌/◌, ◌%◌, ◌^◌, ◌<◌, ◌≤◌, ◌⊎◌, inl, inr, Bool, true, false, cond, nat_eq, zero, suc, List, [], ◌∷◌, ◌++◌, length, Option, Some, None, take, drop, append-nil, min, refl, sym, ◌∙◌, ap, subst, arith, length-append}
+use Rattle.std.proofs.Common.{◌≡◌, ℕ, ◌+◌, ◌-◌, ◌*◌, ◌/◌, ◌%◌, ◌^◌, ◌<◌, ◌≤◌, ◌⊎◌, inl, inr, Bool, true, false, cond, nat_eq, zero, suc, List, [], ◌∷◌, ◌++◌, length, Option, Some, None, take, drop, append-nil, min, refl, sym, ◌∙◌, ap, subst, arith}
 use Rattle.std.specs.Iterator.{AlwaysYields}
 use Rattle.std.proofs.lemmas.List.{drop-append-le, take-append-le, length-drop, length-take-le}
-use Rattle.std.proofs.lemmas.Nat.{pow-add, pow_pos, shl_whole, one_shl}
+use Rattle.std.proofs.lemmas.Nat.{pow-add, one_shl}
 use Rattle.std.proofs.Math.Nat.{pow-suc, mul-le-mul_left, div-div-eq-div-mul, mod-eq_of_lt}
-use Rattle.std.proofs.Math.Pow.{pow_mono}
 use Rattle.std.proofs.Math.Seq.{take-append-add, take-length}
 use Rattle.nom_traits.specs.Bits.{is_bit, low_bits, byte_bits, all_bits, spelled_after, spelled}
 use Rattle.nom_traits.specs.BitLists.{spelled-low_bits, length-byte_bits, length-all_bits}

@@ -1,13 +1,13 @@
 -- Rests of inputs of bits, and of the inputs of bytes under them.
-use Rattle.std.specs.Prelude.{◌≡◌, ℕ, ◌+◌, ◌-◌, ◌*◌, ◌/◌, ◌%◌, ◌<◌, ◌≤◌, ◌⊎◌, Bool, true, false, List, [], ◌∷◌, ◌++◌, length, refl}
-use Rattle.std.proofs.Common.{arith, sym, ◌∙◌, ap, subst, lit<, inl, inr, zero, suc, drop, take, append_assoc, append-nil, length-append}
+use Rattle.std.specs.Prelude.{◌≡◌, ℕ, ◌+◌, ◌-◌, ◌*◌, ◌/◌, ◌%◌, ◌<◌, ◌≤◌, Bool, true, false, List, [], ◌∷◌, ◌++◌, length, refl}
+use Rattle.std.proofs.Common.{arith, sym, ◌∙◌, ap, subst, lit<, drop, take, append-nil, length-append}
 use Rattle.std.proofs.lemmas.Grind.{flat_map-append}
 use Rattle.std.proofs.lemmas.List.{length-drop, length-take-le, take-append-drop}
-use Rattle.nom_traits.specs.Input.{Seen, span, IsPlace, IsFront, IsRest, IsSame, Extends, Related, InputLaws}
-use Rattle.nom_traits.specs.Rests.{same_cut, span-append, span-ones, rest_rest, rest_related}
+use Rattle.nom_traits.specs.Input.{Seen, span, IsPlace, IsRest, Related, InputLaws}
+use Rattle.nom_traits.specs.Rests.{same_cut, span-ones, rest_related}
 use Rattle.nom_traits.specs.Slices.{IsCount, place_slice, place_first, first_related, same_count, same_length}
 use Rattle.nom_traits.specs.Bits.{byte_bits, all_bits, whole_bytes, AreBytes, past_bits, seen_bits, bits_lawful}
-use Rattle.nom_traits.specs.BitLists.{length-all_bits, whole-all_bits, few_bits, bytes_taken}
+use Rattle.nom_traits.specs.BitLists.{length-all_bits, whole-all_bits, few_bits}
 use Rattle.nom_traits.specs.BitPlaces.{passes_bits}
 
 -- bits of bytes, and bytes of bits

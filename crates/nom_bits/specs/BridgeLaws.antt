@@ -1,18 +1,18 @@
 -- The laws of parsers of bits among parsers of bytes, and of bytes among parsers of bits.
-use Rattle.std.specs.Prelude.{◌≡◌, ℕ, ◌+◌, ◌*◌, ◌/◌, ◌<◌, ◌≤◌, Bool, true, false, ◌++◌, length, Option, Some, None, refl}
-use Rattle.std.proofs.Common.{arith, sym, ◌∙◌, ap, subst, inl, inr, append_assoc, length-append}
+use Rattle.std.specs.Prelude.{◌≡◌, ℕ, ◌+◌, ◌*◌, Bool, true, false, ◌++◌, Option, Some, None, refl}
+use Rattle.std.proofs.Common.{arith, sym, ◌∙◌, ap, subst, inl, inr, append_assoc}
 use Rattle.nom_error.specs.Errors.{Errors}
 use Rattle.nom_traits.specs.Input.{Seen, InputLaws, IsPlace, IsRest, IsSame, Related}
-use Rattle.nom_traits.specs.Rests.{rest_alike, same_sym, span-append, span-ones}
+use Rattle.nom_traits.specs.Rests.{rest_alike, span-append, span-ones}
 use Rattle.nom_traits.specs.Slices.{IsCount}
 use Rattle.nom_traits.specs.Bits.{all_bits, AreBytes, seen_bits}
 use Rattle.nom_traits.specs.BitLists.{length-all_bits}
 use Rattle.nom_internal.specs.Outcome.{Outcome, IsDecided, failure}
 use Rattle.nom_internal.specs.Outcome.Outcome.{Accept, Refuse, Fail, TooLarge, Undecided}
-use Rattle.nom_internal.specs.Meaning.{Meaning, IsLawful, IsSteady, Keeps}
+use Rattle.nom_internal.specs.Meaning.{Meaning, IsLawful, IsSteady}
 use Rattle.nom_internal.specs.CaseLaws.{CaseLaws, case_lawful, case_steady}
 use Rattle.nom_bits.specs.BitRests.{all_bits-append, bits_ahead, same_counts, same_lengths, as_bits, same_ahead, ahead_related}
-use Rattle.nom_bits.specs.Bridges.{ConvertedBlame, BitsBecome, BytesAccept, BytesBecome, IsTooLarge, BitsNeeded, OnTooLarge, bits_case, bits_meaning, BytesBlame, bytes_case, bytes_meaning}
+use Rattle.nom_bits.specs.Bridges.{BitsBecome, BytesAccept, BytesBecome, IsTooLarge, BitsNeeded, OnTooLarge, bits_case, bits_meaning, BytesBlame, bytes_case, bytes_meaning}
 
 -- what is asked only where it is too large
 not_asked : {T : Type 0} (Fact : Type 0) (a : Outcome T) → (Fact → ⊥) → OnTooLarge Fact a → ⊥

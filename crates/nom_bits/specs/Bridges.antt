@@ -1,5 +1,5 @@
 -- Parsers of bits among parsers of bytes, and of bytes among parsers of bits.
-use Rattle.std.specs.Prelude.{◌≡◌, ℕ, ◌+◌, ◌*◌, ◌/◌, ◌^◌, ◌<◌, ◌≤◌, ◌⊎◌, true, false, Bool, Option, Some, None}
+use Rattle.std.specs.Prelude.{◌≡◌, ℕ, ◌+◌, ◌*◌, ◌/◌, ◌^◌, ◌<◌, ◌≤◌, ◌⊎◌, true, false, Option, Some, None}
 use Rattle.nom_error.specs.declared.answer.Needed.{Needed}
 use Rattle.nom_error.specs.declared.answer.Err as Answer
 use Rattle.nom_error.specs.declared.answer.Err.TheVariants.{Incomplete, Error, Failure, OutOfMemory}
@@ -76,7 +76,8 @@ OnTooLarge Fact TooLarge = ⊥
 OnTooLarge Fact (Undecided k) = IsTooLarge k × Fact
 
 module _ {I T E F : Type 0} (w : Seen I ℕ) (Converts : E → F → Type 0) where
-  -- A parser of bits runs, streaming, at the first bit of an input of bytes; what it answers, in bytes.
+  -- A parser of bits runs, streaming, at the first bit of an input of bytes; what it answers, in bytes. That the items are
+  -- bytes holds of every known input; what a longer one adds is then the bits of bytes.
   abbrev pub bits_case : Case I (I × ℕ) T T E F
   bits_case = record {
     At = λ i j. (j ≡ (i, 0)) × AreBytes (w.elements i);

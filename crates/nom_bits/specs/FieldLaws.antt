@@ -1,9 +1,9 @@
 -- The laws of bit fields.
-use Rattle.std.specs.Prelude.{◌≡◌, ℕ, ◌+◌, ◌<◌, ◌≤◌, nat_eq, Bool, true, false, List, ◌++◌, length, refl}
+use Rattle.std.specs.Prelude.{◌≡◌, ℕ, ◌<◌, ◌≤◌, nat_eq, Bool, true, false, length, refl}
 use Rattle.std.proofs.Common.{sym, ◌∙◌, ap, subst, inl, inr, arith, length-append}
 use Rattle.nom_error.specs.declared.kind.ErrorKind.TheVariants as Kind
 use Rattle.nom_error.specs.Errors.{Errors}
-use Rattle.nom_traits.specs.Input.{Seen, IsPlace, IsSame, Related}
+use Rattle.nom_traits.specs.Input.{Seen, IsPlace, Related}
 use Rattle.nom_traits.specs.Rests.{same_cut, span-ones}
 use Rattle.nom_traits.specs.Slices.{Slice, IsFirst, first_related}
 use Rattle.nom_traits.specs.Bits.{seen_bits, spelled}

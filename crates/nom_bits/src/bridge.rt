@@ -1,5 +1,5 @@
 //! Parsers of bits among parsers of bytes, and of bytes among parsers of bits.
-ghost use Rattle.std.specs.Prelude.{◌≡◌, ℕ, Bool, Option};
+ghost use Rattle.std.specs.Prelude.{◌≡◌};
 ghost use Rattle.nom_error.specs.Answers.{size_of};
 ghost use Rattle.nom_traits.specs.Bits.{seen_bits};
 ghost use Rattle.nom_traits.specs.Input.{IsRest};

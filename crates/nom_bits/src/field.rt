@@ -1,9 +1,8 @@
 //! Bit fields of an input of bytes, from a position among its bits on.
-ghost use Rattle.std.specs.Prelude.{◌≡◌, ◌<◌, ◌≤◌, ◌+◌, ◌-◌, ◌*◌, ◌^◌, ◌/◌, ◌%◌, ℕ, length, MatchOption};
+ghost use Rattle.std.specs.Prelude.{◌≡◌, ◌<◌, ◌≤◌, ◌+◌, ◌^◌, length, MatchOption};
 ghost use Rattle.std.proofs.Common.{take, drop};
 ghost use Rattle.nom_traits.specs.Bits.{seen_bits, byte_bits, spelled, spelled_after};
 ghost use Rattle.nom_traits.specs.Input.{IsRest};
-ghost use Rattle.nom_traits.specs.Slices.{IsCount};
 ghost use Rattle.nom_bits.specs.BitRests.{Skips, StandsBehind, SplitsAt};
 
 use nom_traits::input::Input;

@@ -1,6 +1,5 @@
-use Rattle.std.proofs.Common.{arith, subst, sym}
-use Rattle.nom_bits.specs.BitRests.{SplitsAt}
-use Rattle.nom_bits.proofs.Positions.{past_all, splits, few_behind, no_field}
+use Rattle.std.proofs.Common.{arith}
+use Rattle.nom_bits.proofs.Positions.{past_all, splits, few_behind}
 use Rattle.nom_bits.proofs.field.next_field.Goals as goal
 
 pub returns-in-Some-following : goal.returns-in-Some-following

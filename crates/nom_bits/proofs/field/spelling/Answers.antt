@@ -1,8 +1,8 @@
-use Rattle.std.proofs.Common.{rules, arith, sym, subst, take, drop, ◌^◌, ◌<◌}
+use Rattle.std.proofs.Common.{rules, arith, sym, subst, drop, ◌^◌, ◌<◌}
 use Rattle.std.specs.Iterator.{AlwaysYields}
 use Rattle.std.proofs.Math.Pow.{pow_mono}
-use Rattle.nom_traits.specs.Bits.{seen_bits, spelled, all_bits}
-use Rattle.nom_bits.proofs.Spellings.{IsSpelling, begins, ends, all_read, part_below, goes_on, total_below}
+use Rattle.nom_traits.specs.Bits.{all_bits}
+use Rattle.nom_bits.proofs.Spellings.{begins, ends, all_read, part_below, goes_on, total_below}
 use Rattle.nom_bits.proofs.field.spelling.Goals as goal
 
 pub loop-byte-init : goal.loop-byte-init
