@@ -1,15 +1,15 @@
 -- Positions among bits, and what follows them.
-use Rattle.std.proofs.Common.{◌≡◌, ℕ, ◌+◌, ◌-◌, ◌*◌, ◌/◌, ◌%◌, ◌<◌, ◌≤◌, zero, suc, List, [], ◌∷◌, ◌++◌, length, take, append-nil, refl, sym, ◌∙◌, ap, subst, arith, lit<}
+use Rattle.std.proofs.Common.{◌≡◌, ℕ, ◌+◌, ◌-◌, ◌*◌, ◌/◌, ◌%◌, ◌<◌, ◌≤◌, zero, suc, List, [], ◌∷◌, ◌++◌, length, take, append-nil, append_assoc, length-append, refl, sym, ◌∙◌, ap, subst, arith, lit<}
 use Rattle.std.proofs.lemmas.List.{take-append-drop}
 use Rattle.std.proofs.Math.ListN.{drop_of_length-le}
 use Rattle.std.proofs.Math.Nat.{mod-lt}
 use Rattle.std.proofs.Math.Path.{fun_ext}
 use Rattle.nom_traits.specs.Input.{Seen, InputLaws, span, IsRest, input_len}
-use Rattle.nom_traits.specs.Rests.{rest_rest, span-append}
+use Rattle.nom_traits.specs.Rests.{rest_rest, same_cut, span-append}
 use Rattle.nom_traits.specs.Bits.{all_bits, AreBytes, past_bits, seen_bits, bits_lawful}
 use Rattle.nom_traits.specs.BitLists.{length-all_bits}
 use Rattle.nom_traits.specs.BitPlaces.{passes_bits, past_all_bits}
-use Rattle.nom_bits.specs.BitRests.{Skips, SplitsAt, bits_ahead, bits_left, bits_place, skips_length}
+use Rattle.nom_bits.specs.BitRests.{Skips, IsPairAfter, SplitsAt, bits_ahead, bits_left, bits_place, skips_length}
 
 -- items of no length are none
 pub no_length : {A : Type 0} (weight : A → ℕ) → ((a : A) → 0 < weight a) → (xs : List A) → span weight xs ≡ 0 → xs ≡ []
@@ -64,14 +64,39 @@ module _ {I : Type 0} (w : Seen I ℕ) (l : InputLaws w) where
         let none : 0 + o ≡ o = omega arith in
         subst (λ m. IsRest (seen_bits w) (x, o) 0 (j, m % 8)) none (passed_within x o 0 j h (omega arith) (subst (λ m. Skips w x (m / 8) j) (sym none) s))
 
+    -- bytes that are skipped after others
+    skips_then : (x : I) (a b : ℕ) (j k : I) → Skips w x a j → Skips w j b k → Skips w x (a + b) k
+    skips_then x a b j k s t =
+        let cut = same_cut w.weight l.positive s.rest_is.front (w.elements j) s.counted.place.front s.counted.place.rest (sym s.rest_is.whole ∙ s.counted.place.whole) (s.rest_is.length_is ∙ sym s.counted.place.length_is) in
+        record {
+          end = s.end + t.end;
+          counted = record {
+            place = record {
+              front = s.rest_is.front ++ t.counted.place.front;
+              rest = t.counted.place.rest;
+              whole = s.rest_is.whole ∙ (ap (λ xs. s.rest_is.front ++ xs) t.counted.place.whole ∙ sym (append_assoc s.rest_is.front t.counted.place.front t.counted.place.rest));
+              length_is = omega (arith, span-append w.weight s.rest_is.front t.counted.place.front, s.rest_is.length_is, t.counted.place.length_is);
+            };
+            count_is = omega (arith, length-append s.rest_is.front t.counted.place.front, ap length cut.0, s.counted.count_is, t.counted.count_is);
+          };
+          rest_is = rest_rest w l x s.end j t.end k s.rest_is t.rest_is;
+        }
+
+    pair_after : (i r : I × ℕ) (n : ℕ) → 0 < n → Skips w i.0 ((n + i.1) / 8) r.0 → r.1 ≡ (n + i.1) % 8 → IsPairAfter w i n r
+    pair_after i r zero some s e = absurd (omega (arith, some))
+    pair_after i r (suc n) some s e = (s, e)
+
     -- a field behind a position
-    pub splits : (x : I) (o n : ℕ) (j : I) (rest : I × ℕ) → w.IsKnown x → Skips w x (o / 8) j → IsRest (seen_bits w) (j, o % 8) n rest → SplitsAt w (x, o) n (j, o % 8) rest
-    splits x o n j rest h s r =
+    pub splits : (x : I) (o n : ℕ) (j : I) (rest : I × ℕ) → w.IsKnown x → 0 < n → Skips w x (o / 8) j → IsRest (seen_bits w) (j, o % 8) n rest → Skips w j ((o % 8 + n) / 8) rest.0 → rest.1 ≡ (o % 8 + n) % 8 → SplitsAt w (x, o) n (j, o % 8) rest
+    splits x o n j rest h some s r t e =
         let there = at_byte x o j h s in
+        let count : o / 8 + (o % 8 + n) / 8 ≡ (n + o) / 8 = omega arith in
+        let place : (o % 8 + n) % 8 ≡ (n + o) % 8 = omega arith in
         record {
           bits_are = at_once (x, o) (j, o % 8) there;
           begins = λ some. mod-lt o {m = 8} (lit< tt);
           rest_is = subst (λ m. IsRest (seen_bits w) (x, o) m rest) (omega arith) (rest_rest (seen_bits w) (bits_lawful w) (x, o) 0 (j, o % 8) n rest there r);
+          pair_is = pair_after (x, o) rest n some (subst (λ m. Skips w x m rest.0) count (skips_then x (o / 8) ((o % 8 + n) / 8) j rest.0 s t)) (e ∙ place);
         }
 
     -- fewer bits behind a position
@@ -84,6 +109,7 @@ module _ {I : Type 0} (w : Seen I ℕ) (l : InputLaws w) where
       bits_are = refl;
       begins = λ some. absurd (omega (arith, some));
       rest_is = record { known = h; front = []; whole = refl; length_is = refl; mark_is = refl };
+      pair_is = refl;
     }
 
     -- the next whole byte is there

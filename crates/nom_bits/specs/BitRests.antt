@@ -1,6 +1,6 @@
 -- Rests of inputs of bits, and of the inputs of bytes under them.
 use Rattle.std.specs.Prelude.{◌≡◌, ℕ, ◌+◌, ◌-◌, ◌*◌, ◌/◌, ◌%◌, ◌<◌, ◌≤◌, Bool, true, false, List, [], ◌∷◌, ◌++◌, length, refl}
-use Rattle.std.proofs.Common.{arith, sym, ◌∙◌, ap, subst, lit<, drop, take, append-nil, length-append}
+use Rattle.std.proofs.Common.{zero, suc, arith, sym, ◌∙◌, ap, subst, lit<, drop, take, append-nil, length-append}
 use Rattle.std.proofs.lemmas.Grind.{flat_map-append}
 use Rattle.std.proofs.lemmas.List.{length-drop, length-take-le, take-append-drop}
 use Rattle.nom_traits.specs.Input.{Seen, span, IsPlace, IsRest, Related, InputLaws}
@@ -38,12 +38,19 @@ module _ {I : Type 0} (w : Seen I ℕ) where
     pub counted : IsCount w x count end
     pub rest_is : IsRest w x end j
 
+  -- The pair that stands for what follows n bits of (x, o): x without its first (n + o) / 8 bytes, from the bit (n + o) % 8 of
+  -- the next one on; no bits leave the pair as it is.
+  abbrev pub IsPairAfter : I × ℕ → ℕ → I × ℕ → Type 0
+  IsPairAfter i zero r = r ≡ i
+  IsPairAfter i (suc n) r = Skips i.0 ((suc n + i.1) / 8) r.0 × (r.1 ≡ (suc n + i.1) % 8)
+
   -- The next bits of i, as many as count, are the first of start, which begins in its first byte if there are any; and rest
   -- follows them.
   pub record SplitsAt (i : I × ℕ) (count : ℕ) (start rest : I × ℕ) : Type 0 where
     pub bits_are : (seen_bits w).elements start ≡ (seen_bits w).elements i
     pub begins : 0 < count → start.1 < 8
     pub rest_is : IsRest (seen_bits w) i count rest
+    pub pair_is : IsPairAfter i count rest
 
   pub bits_left : (x : I) (o : ℕ) → length ((seen_bits w).elements (x, o)) ≡ 8 * length (w.elements x) - o
   bits_left x o = length-drop o (all_bits (w.elements x)) ∙ ap (λ n. n - o) (length-all_bits (w.elements x))

@@ -1,5 +1,5 @@
 //! Bit fields of an input of bytes, from a position among its bits on.
-ghost use Rattle.std.specs.Prelude.{◌≡◌, ◌<◌, ◌≤◌, ◌+◌, ◌^◌, length, MatchOption};
+ghost use Rattle.std.specs.Prelude.{◌≡◌, ◌<◌, ◌≤◌, ◌+◌, ◌/◌, ◌%◌, ◌^◌, length, MatchOption};
 ghost use Rattle.std.proofs.Common.{take, drop};
 ghost use Rattle.nom_traits.specs.Bits.{seen_bits, byte_bits, spelled, spelled_after};
 ghost use Rattle.nom_traits.specs.Input.{IsRest};
@@ -24,7 +24,7 @@ fn following<I: Input<Item = u8>>(start: (I, usize), count: usize) -> Option<(I,
     requires offset { start.1 < 8 }
     requires some { 0 < count }
     requires count { count ≤ 128 }
-    ensures { MatchOption result (length ((seen_bits I.seen).elements start) < count) (λ rest. IsRest (seen_bits I.seen) start count rest) }
+    ensures { MatchOption result (length ((seen_bits I.seen).elements start) < count) (λ rest. IsRest (seen_bits I.seen) start count rest × Skips I.seen start.0 ((start.1 + count) / 8) rest.0 × (rest.1 ≡ (start.1 + count) % 8)) }
 {
     let (bytes, offset) = start;
     bytes.known();

@@ -1,8 +1,11 @@
 //! The parsers of bit fields.
-ghost use Rattle.std.specs.Prelude.{◌≡◌, ℕ, Bool};
+ghost use Rattle.std.specs.Prelude.{◌≡◌, ◌≤◌, ℕ, Bool, MatchResult};
 ghost use Rattle.std.proofs.Common.{sym, ◌∙◌, ap};
+ghost use Rattle.nom_error.specs.Modes.{modes};
 ghost use Rattle.nom_traits.specs.Bits.{seen_bits};
+ghost use Rattle.nom_internal.specs.Meaning.{ShowsMeaning};
 ghost use Rattle.nom_internal.specs.Pinned.{value_pinned};
+ghost use Rattle.nom_bits.specs.BitRests.{IsPairAfter};
 ghost use Rattle.nom_bits.specs.Fields.{take_meaning, tag_meaning, bool_meaning};
 ghost use Rattle.nom_bits.specs.FieldLaws.{take_lawful, take_steady, tag_lawful, tag_steady, bool_lawful, bool_steady};
 
@@ -43,7 +46,13 @@ impl<I: Input<Item = u8>, O: BitUint, E: ParseError<(I, usize)>> Parser<(I, usiz
     ghost Pins = { λ _. Unit {0} };
 
     #[inline(always)]
-    fn process<OM: OutputMode>(&mut self, input: (I, usize)) -> PResult<(I, usize), O, E> {
+    fn process<OM: OutputMode>(&mut self, input: (I, usize)) -> PResult<(I, usize), O, E>
+        requires sound { self.old.count ≤ O.WIDTH }
+        ensures shown { ShowsMeaning (seen_bits I.seen) (λ t v. v ≡ O.of_bits t) (take_meaning I.seen E.errors O.WIDTH self.old.count) (modes OM.Output.BUILDS OM.Error.BUILDS OM.Incomplete.STREAMING) input result }
+        ensures kept { self.new.count ≡ self.old.count }
+        // The rest is the stated pair, where others would be seen alike.
+        ensures pair { MatchResult result (λ a. IsPairAfter I.seen input self.old.count a.0) (λ _. Unit {0}) }
+    {
         match next_field(input, self.count) {
             Some(found) => {
                 let number = spelling(found.start, self.count);
@@ -92,7 +101,13 @@ impl<I: Input<Item = u8>, O: BitUint, E: ParseError<(I, usize)>> Parser<(I, usiz
     ghost Pins = { λ _. Unit {0} };
 
     #[inline(always)]
-    fn process<OM: OutputMode>(&mut self, input: (I, usize)) -> PResult<(I, usize), O, E> {
+    fn process<OM: OutputMode>(&mut self, input: (I, usize)) -> PResult<(I, usize), O, E>
+        requires sound { self.old.count ≤ O.WIDTH }
+        ensures shown { ShowsMeaning (seen_bits I.seen) (λ t v. v ≡ O.of_bits t) (tag_meaning I.seen E.errors O.WIDTH self.old.pattern self.old.count) (modes OM.Output.BUILDS OM.Error.BUILDS OM.Incomplete.STREAMING) input result }
+        ensures kept { ◌≡◌ {A = ℕ × ℕ} (self.new.pattern, self.new.count) (self.old.pattern, self.old.count) }
+        // The rest is the stated pair, where others would be seen alike.
+        ensures pair { MatchResult result (λ a. IsPairAfter I.seen input self.old.count a.0) (λ _. Unit {0}) }
+    {
         match next_field(input, self.count) {
             Some(found) => {
                 let number = spelling(found.start, self.count);
