@@ -156,7 +156,13 @@ impl<I: Input<Item = u8>, E: ParseError<(I, usize)>> Parser<(I, usize)> for Bool
     ghost Pins = { λ _. Unit {0} };
 
     #[inline(always)]
-    fn process<OM: OutputMode>(&mut self, input: (I, usize)) -> PResult<(I, usize), bool, E> {
+    fn process<OM: OutputMode>(&mut self, input: (I, usize)) -> PResult<(I, usize), bool, E>
+        requires sound { Unit {0} }
+        ensures shown { ShowsMeaning (seen_bits I.seen) (λ t v. v ≡ t) (bool_meaning I.seen E.errors) (modes OM.Output.BUILDS OM.Error.BUILDS OM.Incomplete.STREAMING) input result }
+        ensures kept { ◌≡◌ {A = Unit {0}} tt tt }
+        // The rest is the stated pair, as of `take`.
+        ensures pair { MatchResult result (λ a. IsPairAfter I.seen input 1 a.0) (λ _. Unit {0}) }
+    {
         match next_field(input, 1) {
             Some(found) => {
                 let number = spelling(found.start, 1);
