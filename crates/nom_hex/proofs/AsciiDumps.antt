@@ -1,5 +1,5 @@
 -- Dumps of ASCII bytes are ASCII.
-use Rattle.std.proofs.Common.{◌≡◌, ℕ, zero, suc, ◌+◌, ◌-◌, ◌*◌, ◌/◌, ◌%◌, ◌<◌, ◌++◌, List, [], ◌∷◌, eqb, false, length, take, drop, map, replicate, ◌∙◌, ap, sym, arith}
+use Rattle.std.proofs.Common.{◌≡◌, ℕ, zero, suc, ◌+◌, ◌-◌, ◌*◌, ◌/◌, ◌%◌, ◌<◌, ◌++◌, List, [], ◌∷◌, eqb, false, length, take, drop, map, replicate, arith}
 use Rattle.std.specs.Prelude.{flat_map, nat_lt, nat_le, ◌||◌, encode_utf8_all}
 use Rattle.std.specs.Int.{is_in_range}
 use Rattle.std.specs.Str.{IsAscii}

@@ -1,5 +1,5 @@
-use Rattle.std.proofs.Common.{◌≡◌, ◌∙◌, ap, refl}
-use Rattle.std.specs.Prelude.{encode_utf8_all, string_bytes}
+use Rattle.std.proofs.Common.{◌∙◌, ap}
+use Rattle.std.specs.Prelude.{encode_utf8_all}
 use Rattle.std.proofs.lemmas.Result.{IfOk-weaker}
 use Rattle.bstr.specs.Utf8.{lossy_chars}
 use Rattle.nom_hex.proofs.AsciiDumps.{ascii_text}

@@ -1,4 +1,3 @@
-use Rattle.std.proofs.Common.{refl}
 use Rattle.nom_traits.proofs.TextRuns.{text_position}
 use Rattle.nom_traits.proofs.text.text_outside.Goals as goal
 
