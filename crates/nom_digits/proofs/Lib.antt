@@ -1,1 +1,4 @@
+pub mod HexDigits
+pub mod HexShown
 pub mod Shapes
+pub mod WordShown

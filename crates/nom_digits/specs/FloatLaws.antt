@@ -59,7 +59,7 @@ module _ {I A E : Type 0} (w : Seen I A) (l : InputLaws w) (IsValue : A → Type
   pub either_stream : (c d : ℕ) → IsStream w (either_meaning w code errs c d)
   either_stream c d = choice_stream w (char_meaning w code errs c) (char_stream c) (char_meaning w code errs d) (char_stream d) errs
 
-  digits_stream : IsStream w (digits_meaning w code errs)
+  pub digits_stream : IsStream w (digits_meaning w code errs)
   digits_stream = record {
     lawful = class_lawful w IsValue values code errs Class.Digit (Some Kind.Digit);
     steady = class_steady w IsValue values code errs Class.Digit (Some Kind.Digit);

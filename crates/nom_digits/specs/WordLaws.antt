@@ -53,5 +53,5 @@ module _ {I A E : Type 0} (w : Seen I A) (code : A → ℕ) (errs : Errors I E) 
         let inf = word_stream (codes "inf") in
         record {
           lawful = choice_lawful errs (next_lawful errs (next_lawful errs (next_lawful errs p.lawful nan.lawful) infinity.lawful) inf.lawful);
-          steady = choice_steady errs (next_stays errs (next_stays errs (next_stays errs (stays a p.steady) (stays _ nan.steady)) (stays _ infinity.steady)) (stays _ inf.steady));
+          steady = choice_steady errs (next_stays errs (next_stays errs (next_stays errs (stays a p.steady) (stays (word_meaning w code errs (codes "nan")) nan.steady)) (stays (word_meaning w code errs (codes "infinity")) infinity.steady)) (stays (word_meaning w code errs (codes "inf")) inf.steady));
         }

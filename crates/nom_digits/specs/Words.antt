@@ -1,5 +1,5 @@
 -- Words without the case of ASCII letters.
-use Rattle.std.specs.Prelude.{◌≡◌, ◌⊎◌, ℕ, ◌+◌, ◌==◌, Bool, cond, List, [], ◌∷◌, length, codes, Some}
+use Rattle.std.specs.Prelude.{◌≡◌, ◌⊎◌, ℕ, ◌+◌, ◌<◌, ◌==◌, Bool, cond, List, [], ◌∷◌, length, codes, Some}
 use Rattle.std.specs.Char.{to_ascii_lowercase}
 use Rattle.nom_error.specs.declared.kind.ErrorKind.TheVariants as Kind
 use Rattle.nom_error.specs.Errors.{Errors}
@@ -31,7 +31,7 @@ word_meaning w code errs word = sight_meaning w (word_in code word) errs Kind.Fl
 abbrev pub IsWordAt : {I A : Type 0} (w : Seen I A) → (code : A → ℕ) → List ℕ → I → WordAt I → Type 0
 IsWordAt w code word i (Found.Stands j) = (n : ℕ) × (r : IsRest w i n j) × ((s : Bool) → word_in code word s (w.elements i) ≡ Stands (length r.front))
 IsWordAt w code word i Found.Differs = (s : Bool) → word_in code word s (w.elements i) ≡ Absent
-IsWordAt w code word i (Found.Lacks k) = (s : Bool) → word_in code word s (w.elements i) ≡ at_end s (Some k) Absent
+IsWordAt w code word i (Found.Lacks k) = (0 < k) × ((s : Bool) → word_in code word s (w.elements i) ≡ at_end s (Some k) Absent)
 
 -- the letters of the words for what is no fraction
 abbrev pub letters_of : Exception → List ℕ
