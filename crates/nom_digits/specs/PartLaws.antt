@@ -11,6 +11,7 @@ use Rattle.nom_internal.specs.Pinned.{IsPinned, slice_pinned}
 use Rattle.nom_internal.specs.SequenceLaws.{sequence_lawful, sequence_steady}
 use Rattle.nom_error.specs.Modes.{with_outputs}
 use Rattle.nom_character.specs.ClassRuns.{class_lawful, class_steady}
+use Rattle.nom_character.specs.Heads.{char_meaning}
 use Rattle.nom_sequence.specs.Sequences.{preceded_meaning}
 use Rattle.nom_decimal.specs.Integers.{signed_meaning}
 use Rattle.nom_decimal.specs.IntegerLaws.{signed_lawful, signed_steady}
@@ -32,7 +33,7 @@ module _ {I A E : Type 0} (w : Seen I A) (l : InputLaws w) (IsValue : A → Type
     steady = class_steady w IsValue values code errs Class.Digit None;
   }
 
-  point : IsStream w _
+  point : IsStream w (char_meaning w code errs 46)
   point = char_stream w l IsValue values code errs 46
 
   behind_stream : IsStream w (behind_meaning w code errs)

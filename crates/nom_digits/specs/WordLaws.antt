@@ -4,9 +4,13 @@ use Rattle.std.proofs.Common.{ap}
 use Rattle.std.specs.Char.{to_ascii_lowercase}
 use Rattle.nom_error.specs.declared.kind.ErrorKind.TheVariants as Kind
 use Rattle.nom_error.specs.Errors.{Errors}
-use Rattle.nom_traits.specs.Input.{Seen}
+use Rattle.nom_traits.specs.Input.{Seen, IsSame}
 use Rattle.nom_internal.specs.MappedLaws.{renamed_lawful, renamed_steady}
-use Rattle.nom_internal.specs.Meaning.{Meaning}
+use Rattle.nom_traits.specs.Slices.{IsSeenAs}
+use Rattle.nom_traits.specs.View.{View}
+use Rattle.nom_internal.specs.Choice.{EitherOutput}
+use Rattle.nom_internal.specs.Pinned.{IsPinned, slice_pinned, either_pinned}
+use Rattle.nom_internal.specs.Meaning.{Meaning, IsLawful, IsSteady}
 use Rattle.nom_branch.specs.AlternativeLaws.{next_lawful, next_stays, choice_lawful, choice_steady, stays}
 use Rattle.nom_character.specs.Sights.{Sight, one_more}
 use Rattle.nom_character.specs.Sights.Sight.{Stands, Absent, Begins}
@@ -46,12 +50,15 @@ module _ {I A E : Type 0} (w : Seen I A) (code : A → ℕ) (errs : Errors I E) 
       steady = renamed_steady w (λ i _. errs.of_kind i Kind.Float) errs.grows a p.steady;
     }
 
-    pub exceptions_stream : IsStream w (exceptions_meaning w code errs a)
-    exceptions_stream =
-        let nan = word_stream (codes "nan") in
-        let infinity = word_stream (codes "infinity") in
-        let inf = word_stream (codes "inf") in
-        record {
-          lawful = choice_lawful errs (next_lawful errs (next_lawful errs (next_lawful errs p.lawful nan.lawful) infinity.lawful) inf.lawful);
-          steady = choice_steady errs (next_stays errs (next_stays errs (next_stays errs (stays a p.steady) (stays (word_meaning w code errs (codes "nan")) nan.steady)) (stays (word_meaning w code errs (codes "infinity")) infinity.steady)) (stays (word_meaning w code errs (codes "inf")) inf.steady));
-        }
+  -- a part, and the three words
+  module _ {P : Type 0} (a : Meaning I P E) where
+    pub exceptions_lawful : IsLawful w a → IsLawful w (exceptions_meaning w code errs a)
+    exceptions_lawful p = choice_lawful errs (next_lawful errs (next_lawful errs (next_lawful errs p (word_stream (codes "nan")).lawful) (word_stream (codes "infinity")).lawful) (word_stream (codes "inf")).lawful)
+
+    pub exceptions_steady : IsSteady w a → IsSteady w (exceptions_meaning w code errs a)
+    exceptions_steady p = choice_steady errs (next_stays errs (next_stays errs (next_stays errs (stays a p) (stays (word_meaning w code errs (codes "nan")) (word_stream (codes "nan")).steady)) (stays (word_meaning w code errs (codes "infinity")) (word_stream (codes "infinity")).steady)) (stays (word_meaning w code errs (codes "inf")) (word_stream (codes "inf")).steady))
+
+pub exceptions_pinned : {I A P : Type 0} (w : Seen I A) (view : View I) → ((x y : I) → IsSame w x y → view.value x ≡ view.value y) → (IsOutput : P → I → Type 0) → IsPinned view IsOutput → IsPinned view (EitherOutput (EitherOutput (EitherOutput IsOutput (IsSeenAs w)) (IsSeenAs w)) (IsSeenAs w))
+exceptions_pinned w view views IsOutput p =
+    let slice = slice_pinned w view views in
+    either_pinned view (EitherOutput (EitherOutput IsOutput (IsSeenAs w)) (IsSeenAs w)) (IsSeenAs w) (either_pinned view (EitherOutput IsOutput (IsSeenAs w)) (IsSeenAs w) (either_pinned view IsOutput (IsSeenAs w) p slice) slice) slice
