@@ -1,5 +1,5 @@
 -- What is shown of a number in base 16.
-use Rattle.std.proofs.Common.{◌≡◌, ℕ, ◌<◌, ◌≤◌, Bool, true, false, Option, Some, None, Result, Ok, Err, List, ◌++◌, take, length, refl, sym, ◌∙◌, ap, subst, arith}
+use Rattle.std.proofs.Common.{◌≡◌, ℕ, true, Option, Some, Result, Ok, Err, take, refl, sym, ◌∙◌, ap, subst, arith}
 use Rattle.std.proofs.lemmas.List.{take-append-le, take_all}
 use Rattle.nom_error.specs.declared.kind.ErrorKind.TheVariants as Kind
 use Rattle.nom_error.specs.declared.answer.Needed.{Needed}
@@ -9,7 +9,7 @@ use Rattle.nom_error.specs.Modes.{Built, Modes, with_outputs}
 use Rattle.nom_traits.specs.declared.character.AsciiClass.TheVariants as Class
 use Rattle.nom_traits.specs.Input.{Seen, InputLaws, IsFront, IsPlace, IsRest, input_len, span}
 use Rattle.nom_traits.specs.Rests.{same_cut}
-use Rattle.nom_traits.specs.Slices.{Slice, IsSeenAs, IsFirst, IsCount}
+use Rattle.nom_traits.specs.Slices.{Slice, IsSeenAs, IsCount}
 use Rattle.nom_internal.specs.Outcome.ShowsAnswer.{Shown}
 use Rattle.nom_internal.specs.Outcome.Outcome.{Accept}
 use Rattle.nom_internal.specs.Meaning.{ShowsMeaning}

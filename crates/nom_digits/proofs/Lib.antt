@@ -1,3 +1,4 @@
+pub mod Functions
 pub mod HexDigits
 pub mod HexShown
 pub mod PartDigits

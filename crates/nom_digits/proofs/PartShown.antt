@@ -1,5 +1,5 @@
 -- The parts that are shown for what was read.
-use Rattle.std.proofs.Common.{◌≡◌, ℕ, Bool, true, false, Option, Some, None, refl, sym, ◌∙◌, ap, subst, inl, inr}
+use Rattle.std.proofs.Common.{◌≡◌, ℕ, Bool, true, false, Option, Some, None, refl, ◌∙◌, ap, subst, inl, inr}
 use Rattle.std.specs.Prelude.{◌⊎◌, ℤ}
 use Rattle.nom_error.specs.Modes.{Built}
 use Rattle.nom_traits.specs.Input.{Seen}

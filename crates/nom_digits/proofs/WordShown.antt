@@ -1,5 +1,5 @@
 -- What was found of a word at the start of an input.
-use Rattle.std.proofs.Common.{◌≡◌, ℕ, ◌+◌, ◌-◌, ◌==◌, ◌<◌, ◌≤◌, Bool, true, false, cond, Option, Some, None, Result, Ok, Err, List, [], ◌∷◌, ◌++◌, drop, get_or, length, refl, sym, ◌∙◌, ap, subst, arith, length-append, append_assoc}
+use Rattle.std.proofs.Common.{◌≡◌, ℕ, ◌+◌, ◌-◌, ◌==◌, ◌<◌, ◌≤◌, Bool, true, false, cond, Option, Some, Result, Ok, Err, List, [], ◌∷◌, ◌++◌, drop, get_or, length, refl, sym, ◌∙◌, ap, subst, arith, length-append, append_assoc}
 use Rattle.std.specs.Char.{to_ascii_lowercase}
 use Rattle.std.proofs.lemmas.Bool.Decides.{nat_tests}
 use Rattle.std.proofs.lemmas.List.{drop_more, drop_all, length-drop}
@@ -13,10 +13,9 @@ use Rattle.nom_error.specs.Modes.{Built, Modes}
 use Rattle.nom_traits.specs.Slices.{Slice, IsFirst, IsSeenAs}
 use Rattle.nom_internal.specs.Meaning.{ShowsMeaning}
 use Rattle.nom_internal.proofs.Shown.{accepted, undecided, refused}
-use Rattle.nom_traits.specs.Input.{Seen, InputLaws, IsRest, IsPlace, span}
+use Rattle.nom_traits.specs.Input.{Seen, InputLaws, IsRest, span}
 use Rattle.nom_traits.specs.Rests.{rest_rest, span-append}
 use Rattle.nom_character.specs.Heads.{IsHead}
-use Rattle.nom_character.specs.HeadLaws.{head_place}
 use Rattle.nom_character.specs.Sights.{Sight, at_end, one_more}
 use Rattle.nom_character.specs.Sights.Sight.{Stands, Absent, Begins}
 use Rattle.nom_character.proofs.Lines.{behind_head, before_rest}

@@ -1,5 +1,5 @@
 -- The laws of the shapes of decimal fractions, by those of their parts.
-use Rattle.std.specs.Prelude.{◌≡◌, ℕ, ◌==◌, ◌⊎◌, Option, Some}
+use Rattle.std.specs.Prelude.{◌≡◌, ℕ, ◌==◌, Some}
 use Rattle.std.specs.Char.{len_utf8}
 use Rattle.nom_error.specs.declared.kind.ErrorKind.TheVariants as Kind
 use Rattle.nom_error.specs.Errors.{Errors}
@@ -13,7 +13,7 @@ use Rattle.nom_internal.specs.SequenceLaws.{sequence_lawful, sequence_steady}
 use Rattle.nom_branch.specs.Alternatives.{next_meaning, choice_meaning}
 use Rattle.nom_branch.specs.AlternativeLaws.{next_lawful, next_stays, choice_lawful, choice_steady, stays}
 use Rattle.nom_character.specs.declared.first.Blame.TheVariants.{OfChar}
-use Rattle.nom_character.specs.ClassRuns.{class_meaning, class_lawful, class_steady}
+use Rattle.nom_character.specs.ClassRuns.{class_lawful, class_steady}
 use Rattle.nom_character.specs.Heads.{char_meaning}
 use Rattle.nom_character.specs.HeadLaws.{told, head_lawful, head_steady}
 use Rattle.nom_combinator.specs.Verdicts.{cut_meaning, opt_meaning}

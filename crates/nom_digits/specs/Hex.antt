@@ -1,5 +1,5 @@
 -- Numbers in base 16.
-use Rattle.std.specs.Prelude.{◌≡◌, ℕ, ◌-◌, Bool, true, cond, List, map, take, Some}
+use Rattle.std.specs.Prelude.{◌≡◌, ℕ, ◌-◌, true, cond, List, map, take, Some}
 use Rattle.std.specs.Int.{is_in_range}
 use Rattle.nom_error.specs.declared.kind.ErrorKind.TheVariants as Kind
 use Rattle.nom_error.specs.Errors.{Errors}

@@ -1,5 +1,5 @@
 -- The laws of numbers in base 16.
-use Rattle.std.specs.Prelude.{◌≡◌, ℕ, Bool, true, false, List, ◌++◌, take, drop, Some, refl}
+use Rattle.std.specs.Prelude.{◌≡◌, ℕ, Bool, true, false, ◌++◌, take, drop, Some, refl}
 use Rattle.std.proofs.Common.{sym, ◌∙◌, ap, subst, append_assoc}
 use Rattle.std.proofs.lemmas.List.{take-append-drop}
 use Rattle.nom_error.specs.declared.kind.ErrorKind.TheVariants as Kind
@@ -7,14 +7,14 @@ use Rattle.nom_error.specs.Errors.{Errors}
 use Rattle.nom_traits.specs.declared.character.AsciiClass.TheVariants as Class
 use Rattle.nom_traits.specs.Input.{Seen, AreValues, IsPlace, span}
 use Rattle.nom_traits.specs.Slices.{Slice, IsFirst, first_related}
-use Rattle.nom_internal.specs.Outcome.{Outcome, failure}
+use Rattle.nom_internal.specs.Outcome.{failure}
 use Rattle.nom_internal.specs.Outcome.Outcome.{Accept}
 use Rattle.nom_internal.specs.Cases.{Passes, plain_case}
 use Rattle.nom_internal.specs.CaseLaws.{CaseLaws, case_lawful, case_steady}
 use Rattle.nom_internal.specs.RecognizedLaws.{AcceptLaws, plain_laws}
 use Rattle.nom_character.specs.ClassRuns.{class_meaning, class_lawful, class_steady}
 use Rattle.nom_digits.specs.FloatLaws.{IsStream}
-use Rattle.nom_digits.specs.Hex.{hex_number, FirstEight, hex_meaning}
+use Rattle.nom_digits.specs.Hex.{FirstEight, hex_meaning}
 
 module _ {I A : Type 0} (w : Seen I A) (code : A → ℕ) where
   -- the first eight of a front are a front

@@ -17,7 +17,7 @@ use Rattle.nom_decimal.specs.Integers.{signed_meaning}
 use Rattle.nom_decimal.specs.IntegerLaws.{signed_lawful, signed_steady}
 use Rattle.nom_digits.specs.FloatLaws.{IsStream, opt_stream, cut_stream, pair_stream, choice_stream, char_stream, either_stream, digits_stream}
 use Rattle.nom_digits.specs.WordLaws.{as_float_stream}
-use Rattle.nom_digits.specs.Parts.{Both, digits0_meaning, behind_meaning, both_meaning, mantissa_meaning, power_meaning, parts_meaning, IsParts, integer_slice, fraction_slice, before_of, behind_of}
+use Rattle.nom_digits.specs.Parts.{digits0_meaning, behind_meaning, both_meaning, mantissa_meaning, power_meaning, parts_meaning, IsParts, integer_slice, fraction_slice, before_of, behind_of}
 
 module _ {I A P Q E : Type 0} (w : Seen I A) (l : InputLaws w) (a : Meaning I P E) (p : IsStream w a) (b : Meaning I Q E) (q : IsStream w b) where
   preceded_stream : IsStream w (preceded_meaning w a b)

@@ -9,7 +9,7 @@ use Rattle.nom_internal.specs.Mapped.{renamed_meaning}
 use Rattle.nom_internal.specs.Meaning.{Meaning}
 use Rattle.nom_branch.specs.Alternatives.{next_meaning, choice_meaning}
 use Rattle.nom_character.specs.Sights.{Sight, at_end, one_more, sight_meaning}
-use Rattle.nom_character.specs.Sights.Sight.{Stands, Absent, Begins}
+use Rattle.nom_character.specs.Sights.Sight.{Stands, Absent}
 use Rattle.nom_digits.specs.declared.word.WordAt.{WordAt}
 use Rattle.nom_digits.specs.declared.word.WordAt.TheVariants as Found
 use Rattle.nom_digits.specs.declared.word.Exception.{Exception}

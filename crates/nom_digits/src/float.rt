@@ -60,10 +60,7 @@ where
         let decimal = alt((recognize(whole), recognize(pair(char('.'), digit1()))));
         let digits = pair(opt(either('+', '-')), cut(digit1()));
         let exponent = recognize(pair(either('e', 'E'), digits));
-        let mut shape = recognize(pair(
-            opt(either('+', '-')),
-            pair(decimal, opt(exponent)),
-        ));
+        let mut shape = recognize(pair(opt(either('+', '-')), pair(decimal, opt(exponent))));
         shape.process::<OM>(input)
     }
 

@@ -1,0 +1,5 @@
+use Rattle.nom_digits.proofs.Functions.{parts_stream_func}
+use Rattle.nom_func_tests.proofs.growing.grown_parts.Goals as goal
+
+pub parse_growing-requires-clause-sound : goal.parse_growing-requires-clause-sound
+parse_growing-requires-clause-sound c = ?
