@@ -9,17 +9,16 @@ use nom::{IResult, Parser};
 
 /// `terminated((be_u16(), take(3)), tag("fg"))`, streaming.
 fn number_and_slice(input: &[u8]) -> IResult<&[u8], (u16, &[u8])> {
-    let mut shape = terminated(
-        (be_u16::<_, Error<&[u8]>>(), take(3usize)),
-        tag(&b"fg"[..]),
-    );
+    let mut shape = terminated((be_u16::<_, Error<&[u8]>>(), take(3usize)), tag(&b"fg"[..]));
     shape.parse(input)
 }
 
 /// `terminated((be_u16(), take(3)), tag("fg"))` on `abcdefgh`: rest `h`, value (0x6162, `cde`).
 pub fn row_1() -> bool {
     match number_and_slice(b"abcdefgh") {
-        Ok((rest, (number, slice))) => rest == b"h" && number == 0x6162 && slice == b"cde",
+        Ok((rest, (number, slice))) => rest == b"h".as_slice()
+            && number == 0x6162
+            && slice == b"cde".as_slice(),
         Err(_) => false,
     }
 }
