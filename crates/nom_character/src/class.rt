@@ -101,7 +101,7 @@ where
 
 /// The first items of a class, one at least where a kind is given.
 #[derive(Drop)]
-pub(crate) struct ClassRun<I, E> {
+pub struct ClassRun<I, E> {
     pub class: AsciiClass,
     pub wanted: Option<ErrorKind>,
     pub error: PhantomData<(I, E)>,

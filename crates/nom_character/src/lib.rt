@@ -14,7 +14,7 @@ mod one;
 pub mod predicate;
 pub mod streaming;
 
-pub use crate::class::{Digit1, MultiSpace0};
+pub use crate::class::{ClassRun, Digit1, MultiSpace0};
 pub use crate::one::{AnyChar, Char, Satisfy};
 use crate::predicate::{CharOutside, CharWhere, CharWithin};
 use nom_error::answer::IResult;

@@ -8,6 +8,7 @@ ghost use Rattle.nom_func_tests.specs.Firsts.{first_outcome};
 
 use nom::character::streaming;
 use nom::error::Error;
+use nom::number::streaming as number;
 use nom::{Err, Grown, IResult, Items, Needed, Parser, func, parse_growing, stream_func};
 
 type Fail<'a> = Error<&'a [u8]>;
@@ -62,4 +63,18 @@ pub fn grown_digits<'a>(input: &'a [u8], cuts: &[usize]) -> Grown<&'a [u8], &'a 
     requires { AreCuts seen_bytes input cuts.now }
 {
     parse_growing(stream_func(streaming::digit1::<&[u8], Fail>), input, cuts)
+}
+
+/// The parts of a decimal fraction of an input that grows.
+pub fn grown_parts<'a>(
+    input: &'a [u8],
+    cuts: &[usize],
+) -> Grown<&'a [u8], (bool, &'a [u8], &'a [u8], i32), Fail<'a>>
+    requires { AreCuts seen_bytes input cuts.now }
+{
+    parse_growing(
+        stream_func(number::recognize_float_parts::<&[u8], Fail>),
+        input,
+        cuts,
+    )
 }

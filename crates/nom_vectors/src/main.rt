@@ -15,6 +15,7 @@ mod bytes;
 mod character;
 mod combinator;
 mod multi;
+mod number;
 mod traits;
 
 use std::alloc::Global;
@@ -46,6 +47,8 @@ impl Outcome {
 /// Runs the row of a number.
 fn run_row(alloc: Global, number: usize) -> Outcome {
     match number {
+        1 => Outcome::of(number::row_1()),
+        2 => Outcome::of(number::row_2()),
         3 => Outcome::of(branch::row_3()),
         4 => Outcome::of(multi::row_4(alloc)),
         5 => Outcome::of(multi::row_5(alloc)),
@@ -53,6 +56,7 @@ fn run_row(alloc: Global, number: usize) -> Outcome {
         7 => Outcome::of(bits::row_7()),
         8 => Outcome::of(bits::row_8(alloc)),
         9 => Outcome::of(bits::row_9()),
+        10 => Outcome::of(number::row_10()),
         11 => Outcome::of(character::row_11()),
         12 => Outcome::of(bytes::row_12()),
         13 => Outcome::of(multi::row_13()),
@@ -63,9 +67,11 @@ fn run_row(alloc: Global, number: usize) -> Outcome {
         18 => Outcome::of(character::row_18(alloc)),
         19 => Outcome::of(combinator::row_19()),
         21 => Outcome::of(traits::row_21()),
+        22 => Outcome::of(number::row_22()),
         23 => Outcome::of(bytes::row_23()),
         24 => Outcome::of(multi::row_24(alloc)),
         25 => Outcome::of(branch::row_25()),
+        26 => Outcome::of(number::row_26()),
         27 => Outcome::of(combinator::row_27()),
         28 => Outcome::of(combinator::row_28()),
         29 => Outcome::of(branch::row_29()),

@@ -1,0 +1,7 @@
+pub mod Functions
+pub mod HexDigits
+pub mod HexShown
+pub mod PartDigits
+pub mod PartShown
+pub mod Shapes
+pub mod WordShown
