@@ -7,11 +7,11 @@ use Rattle.nom_traits.specs.Input.{Seen, InputLaws, IsSame, AreValues}
 use Rattle.nom_traits.specs.Slices.{Slice, IsSeenAs}
 use Rattle.nom_traits.specs.View.{View, itself, view_4}
 use Rattle.nom_internal.specs.Choice.{EitherOutput}
-use Rattle.nom_internal.specs.Func.{IsParser, IsStreamParser}
+use Rattle.nom_func.specs.Func.{IsParser, IsStreamParser}
 use Rattle.nom_internal.specs.Meaning.{Meaning, NeverTooLarge}
 use Rattle.nom_internal.specs.Outcome.{ParsesAnswer}
 use Rattle.nom_internal.specs.Pinned.{IsPinned, slice_pinned, value_pinned}
-use Rattle.nom_internal.proofs.FuncSound.{func_parses, stream_func_parses}
+use Rattle.nom_func.proofs.FuncSound.{func_parses, stream_func_parses}
 use Rattle.nom_digits.specs.Floats.{float_meaning}
 use Rattle.nom_digits.specs.FloatLaws.{IsStream, float_stream}
 use Rattle.nom_digits.specs.Hex.{hex_meaning}
