@@ -23,13 +23,13 @@ pub use nom_error::finish::{Finish, FinishError};
 pub use nom_error::mode::{
     Check, Complete, Emit, IsStreaming, Mode, OutputM, OutputMode, Streaming,
 };
+pub use nom_func::func::{Func, StreamFunc};
+pub use nom_func::function::{func, stream_func};
+pub use nom_growing::growing::{Grown, parse_growing};
 pub use nom_hex::hex::HexDisplay;
 pub use nom_internal::and_then::AndThen;
 pub use nom_internal::either::Or;
 pub use nom_internal::flat_map::FlatMap;
-pub use nom_func::func::{Func, StreamFunc};
-pub use nom_func::function::{func, stream_func};
-pub use nom_growing::growing::{Grown, parse_growing};
 pub use nom_internal::into::Into;
 pub use nom_internal::judged::{MapOpt, MapRes};
 pub use nom_internal::map::Map;

@@ -66,6 +66,7 @@ fn run_row(alloc: Global, number: usize) -> Outcome {
         17 => Outcome::of(character::row_17()),
         18 => Outcome::of(character::row_18(alloc)),
         19 => Outcome::of(combinator::row_19()),
+        20 => Outcome::of(traits::row_20(alloc)),
         21 => Outcome::of(traits::row_21()),
         22 => Outcome::of(number::row_22()),
         23 => Outcome::of(bytes::row_23()),
