@@ -42,8 +42,8 @@
 //!    with `Alpha`, or `incomplete` and how much more is needed.
 //!
 //! The answers in which this library differs on purpose, and calls with which nom panics or runs for ever, are
-//! left out of the files in `data`: docs/DIFFERENCES.md lists them. But `data/wrong.txt` has answers that
-//! nobody gave, which have to be told.
+//! left out of the files in `data`: docs/DIFFERENCES.md lists them. But `data/rows.txt` has worked examples,
+//! those with other answers among them, and `data/wrong.txt` answers that nobody gave, which have to be told.
 //!
 //! For each file it prints its name; for each line to which the answer here is another `differs`, the number of
 //! the line, what was found and how many bytes it leaves, and for each that can't be read `unread` and its

@@ -3,7 +3,9 @@
 
 mod brackets;
 mod configuration;
+mod grammars;
 mod hex;
+mod key_value;
 mod letters;
 mod promises;
 mod refusal;
@@ -11,7 +13,9 @@ mod tokens;
 
 pub use crate::brackets::{brackets_line, nested_brackets};
 pub use crate::configuration::{Line, settings};
+pub use crate::grammars::{bracketed, digits_or_any, records, signs};
 pub use crate::hex::{Color, hex_color};
+pub use crate::key_value::setting;
 pub use crate::letters::{Letter, one_letter};
 pub use crate::promises::promised;
 pub use crate::refusal::Refusal;

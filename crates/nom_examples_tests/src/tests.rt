@@ -8,7 +8,8 @@ use nom::number::be_u8;
 use nom::sequence::{preceded, terminated};
 use nom::{Err, IResult, Needed, Parser};
 use nom_examples::{
-    Color, Line, Refusal, Token, Tokens, brackets_line, hex_color, one_letter, promised, settings,
+    Color, Line, Refusal, Token, Tokens, brackets_line, hex_color, one_letter, promised, setting,
+    settings,
 };
 
 type Fail<'a> = Error<&'a [u8]>;
@@ -196,6 +197,22 @@ fn colors_that_are_cut(rt: HostRuntime) {
                 assert!(rt; error.code == kind && error.input == place, "at {input}");
             }
             _ => panic!(rt; "not refused"),
+        }
+    }
+}
+
+#[test]
+fn a_name_and_its_value(rt: HostRuntime) {
+    for (line, wanted) in [
+        ("name=value\nmore", Some(("name", "value", "\nmore"))),
+        ("a=b=c", Some(("a", "b=c", ""))),
+        ("name=", None),
+        ("=value", None),
+        ("name", None),
+    ] {
+        match setting(line) {
+            Ok((rest, (name, value))) => assert!(rt; wanted == Some((name, value, rest))),
+            Err(_) => assert!(rt; wanted.is_none()),
         }
     }
 }

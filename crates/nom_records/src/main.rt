@@ -12,7 +12,7 @@ ghost use Rattle.nom_records_run.specs.Stream.{MatchRunError};
 
 use nom_records_run::counted::Counted;
 use nom_records_run::error::RunError;
-use nom_records_run::run::run;
+use nom_records_run::run::{run, write_all};
 use nom_records_run::words::read_cuts;
 use std::alloc::Global;
 use std::fs::File;
@@ -98,12 +98,17 @@ fn fault(error: RunError) -> &'static str
     }
 }
 
+// Writes the line of an error, in the way in which a report is written.
+fn tell(rt: &impl Print, error: RunError) {
+    let mut sink = Counted::new(io::writer(rt));
+    let _ = write_all(&mut sink, fault(error).as_bytes());
+}
+
 fn main(rt: HostRuntime) -> ExitCode {
     match answer(&rt) {
         Ok(status) => ExitCode::from(status),
         Err(error) => {
-            let text = fault(error);
-            let _ = print!(rt; "{text}");
+            tell(&rt, error);
             ExitCode::from(NO_REPORT)
         }
     }

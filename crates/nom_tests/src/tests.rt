@@ -1,13 +1,10 @@
-//! Rows of inputs and what nom answers at them, each row through one call of its parser.
+//! What a data file of answers can't hold: what is built, errors, and parsers of closures.
 
 mod answers;
 mod byte_sets;
-mod characters;
 mod ends;
 mod errors;
 mod escapes;
-mod integers;
-mod leaves;
 mod parse_to;
 mod runs;
 mod sets;

@@ -3,52 +3,12 @@ ghost use Rattle.std.specs.Prelude.{◌≡◌};
 
 use super::answers::{Answer, Way, answers};
 use nom::branch::alt;
-use nom::bytes::{tag, take};
-use nom::error::{Error, ErrorKind};
+use nom::bytes::tag;
+use nom::error::Error;
 use nom::multi::{length_data, many0};
 use nom::{Err, Items, Mode, Needed, OutputMode, PResult, Parser};
 
 type Fail<'a> = Error<&'a str>;
-
-#[test]
-fn tags_of_a_text(rt: HostRuntime) {
-    for (word, input, answer) in [
-        ("é", "éa", Answer::Accepts("a", "é")),
-        ("é€", "é", Answer::Needs(3)),
-    ] {
-        assert!(rt;
-            answers(tag::<_, _, Fail>(word), Way::Streaming, input, answer),
-            "at {input}"
-        );
-    }
-}
-
-// A tag of bytes that ends inside a character.
-#[test]
-fn a_part_of_a_character(rt: HostRuntime) {
-    let part = [0xC3];
-    for (input, answer) in [
-        ("é", Answer::Refuses(ErrorKind::Tag, "é")),
-        ("", Answer::Needs(1)),
-    ] {
-        let first = tag::<_, _, Fail>(part.as_slice());
-        assert!(rt; answers(first, Way::Streaming, input, answer), "at {input}");
-    }
-}
-
-#[test]
-fn characters_taken(rt: HostRuntime) {
-    for (way, input, answer) in [
-        (Way::Streaming, "a¡€💢€¡a", Answer::Accepts("€¡a", "a¡€💢")),
-        (Way::Streaming, "€¡a", Answer::Needs(0)),
-        (Way::Complete, "€¡a", Answer::Refuses(ErrorKind::Eof, "€¡a")),
-    ] {
-        assert!(rt;
-            answers(take::<_, _, Fail>(4usize), way, input, answer),
-            "at {input}"
-        );
-    }
-}
 
 /// The length 2.
 fn length_of_two() -> u8

@@ -1,0 +1,80 @@
+-- Grammars over slices of bytes, with `Error`: the words of `Grammar` and `Leaves` for `&[u8]`.
+use Rattle.std.specs.Prelude.{◌≡◌, ℕ, ◌-◌, Some, length, Bool, ◌⊎◌, List, Option, Result, Vec}
+use Rattle.std.specs.Borrow.{Bor}
+use Rattle.nom_error.specs.declared.answer.Needed.{Needed}
+use Rattle.nom_error.specs.declared.answer.Err as Answer
+use Rattle.nom_error.specs.declared.kind.ErrorKind.TheVariants.{Char}
+use Rattle.nom_error.specs.declared.value.Error.{Error}
+use Rattle.nom_error.specs.Errors.{Errors}
+use Rattle.nom_traits.specs.Bytes.{seen_bytes}
+use Rattle.nom_traits.specs.Compares.{ComparesBytes}
+use Rattle.nom_traits.specs.Slices.{Slice}
+use Rattle.nom.specs.Grammar as Grammars
+use Rattle.nom.specs.Grammar.{Grammar}
+use Rattle.nom.specs.Leaves as Leaves
+
+abbrev pub Bytes : Type 0
+Bytes = Bor (List ℕ)
+
+-- the errors of `Error`: the input where it refuses, and the kind
+abbrev pub kept : Errors Bytes (Error Bytes)
+kept = record {
+  of_kind = λ i kind e. e ≡ record { input = i; code = kind };
+  appended = λ _ _ other e. e ≡ other;
+  of_char = λ i _ e. e ≡ record { input = i; code = Char };
+  joined = λ _ other e. e ≡ other;
+  grows = ⊥;
+}
+
+abbrev pub BytesGrammar : (V O : Type 0) → Type 1
+BytesGrammar V O = Grammar Bytes V O (Error Bytes)
+
+-- what `parse` (true) and `parse_complete` (false) answer by the grammar
+abbrev pub Parses : {V O : Type 0} → BytesGrammar V O → Bool → Bytes → Result (Bytes × O) (Answer.Err (Error Bytes) (Error Bytes) Needed) → Type 0
+Parses = Grammars.Parses seen_bytes
+
+abbrev pub tag_of : List ℕ → BytesGrammar (Slice seen_bytes) Bytes
+tag_of = Leaves.tag_of seen_bytes kept ComparesBytes
+
+abbrev pub take_of : ℕ → BytesGrammar (Slice seen_bytes) Bytes
+take_of = Leaves.take_of seen_bytes kept (λ count xs. Some (count - length xs))
+
+abbrev pub is_a_of : List ℕ → BytesGrammar (Slice seen_bytes) Bytes
+is_a_of set = Leaves.is_a_of seen_bytes kept set
+
+abbrev pub is_not_of : List ℕ → BytesGrammar (Slice seen_bytes) Bytes
+is_not_of set = Leaves.is_not_of seen_bytes kept set
+
+abbrev pub char_of : ℕ → BytesGrammar ℕ ℕ
+char_of = Leaves.char_of seen_bytes kept
+
+abbrev pub digit1_of : BytesGrammar (Slice seen_bytes) Bytes
+digit1_of = Leaves.digit1_of seen_bytes kept
+
+abbrev pub pair_of : {V O U P : Type 0} → BytesGrammar V O → BytesGrammar U P → BytesGrammar (V × U) (O × P)
+pair_of = Grammars.pair_of seen_bytes
+
+abbrev pub preceded_of : {V O U P : Type 0} → BytesGrammar V O → BytesGrammar U P → BytesGrammar U P
+preceded_of = Grammars.preceded_of seen_bytes
+
+abbrev pub terminated_of : {V O U P : Type 0} → BytesGrammar V O → BytesGrammar U P → BytesGrammar V O
+terminated_of = Grammars.terminated_of seen_bytes
+
+abbrev pub separated_pair_of : {V O S Q U P : Type 0} → BytesGrammar V O → BytesGrammar S Q → BytesGrammar U P → BytesGrammar (V × U) (O × P)
+separated_pair_of = Grammars.separated_pair_of seen_bytes
+
+abbrev pub delimited_of : {V O U P S Q : Type 0} → BytesGrammar V O → BytesGrammar U P → BytesGrammar S Q → BytesGrammar U P
+delimited_of = Grammars.delimited_of seen_bytes
+
+abbrev pub opt_of : {V O : Type 0} → BytesGrammar V O → BytesGrammar (Option V) (Option O)
+opt_of = Grammars.opt_of
+
+-- `alt_of (or_of (or_of g h) k)` is `alt((g, h, k))`
+abbrev pub or_of : {V U O : Type 0} → BytesGrammar V O → BytesGrammar U O → BytesGrammar (V ⊎ U) O
+or_of = Grammars.or_of kept
+
+abbrev pub alt_of : {V O : Type 0} → BytesGrammar V O → BytesGrammar V O
+alt_of = Grammars.alt_of kept
+
+abbrev pub many0_of : {V O M : Type 0} → BytesGrammar V O → BytesGrammar (List V) (Vec O M)
+many0_of = Grammars.many0_of seen_bytes kept

@@ -1,0 +1,66 @@
+-- Grammars, for the contracts of functions that parse. A grammar is what a parser means, and which outputs its trees stand for. Each word
+-- mirrors the call of its name; those of leaves stand in `Leaves`, and all of them, at one input type, in `Bytes` and `Texts`.
+use Rattle.std.specs.Prelude.{ℕ, Bool, ◌⊎◌, List, Option, Result, Vec, ◌≡◌}
+use Rattle.std.specs.List.{AllZip}
+use Rattle.nom_error.specs.declared.answer.Needed.{Needed}
+use Rattle.nom_error.specs.declared.answer.Err as Answer
+use Rattle.nom_error.specs.Errors.{Errors}
+use Rattle.nom_traits.specs.Input.{Seen}
+use Rattle.nom_traits.specs.Slices.{Slice, IsSeenAs}
+use Rattle.nom_internal.specs.Meaning.{Meaning, ParsesMeaning}
+use Rattle.nom_internal.specs.Choice.{EitherOutput}
+use Rattle.nom_internal.specs.Sequence.{pair_meaning}
+use Rattle.nom_sequence.specs.Sequences.{preceded_meaning, terminated_meaning}
+use Rattle.nom_branch.specs.Alternatives.{next_meaning, choice_meaning}
+use Rattle.nom_combinator.specs.Verdicts.{opt_meaning, OptOutput}
+use Rattle.nom_multi.specs.Many.{many0_meaning}
+
+pub record Grammar (I V O E : Type 0) : Type 1 where
+  pub meaning : Meaning I V E
+  -- which outputs a parse tree stands for
+  pub IsOutput : V → O → Type 0
+
+module _ {I A E : Type 0} (w : Seen I A) where
+  -- what `parse` (true) and `parse_complete` (false) answer by the grammar
+  abbrev pub Parses : {V O : Type 0} → Grammar I V O E → Bool → I → Result (I × O) (Answer.Err E E Needed) → Type 0
+  Parses g streaming i r = ParsesMeaning w g.IsOutput g.meaning streaming i r
+
+  -- a leaf that accepts a slice of the input
+  abbrev pub sliced : Meaning I (Slice w) E → Grammar I (Slice w) I E
+  sliced m = record { meaning = m; IsOutput = IsSeenAs w }
+
+  abbrev pub pair_of : {V O U P : Type 0} → Grammar I V O E → Grammar I U P E → Grammar I (V × U) (O × P) E
+  pair_of g h = record {
+    meaning = pair_meaning w g.meaning h.meaning;
+    IsOutput = λ t o. g.IsOutput t.0 o.0 × h.IsOutput t.1 o.1;
+  }
+
+  abbrev pub preceded_of : {V O U P : Type 0} → Grammar I V O E → Grammar I U P E → Grammar I U P E
+  preceded_of g h = record { meaning = preceded_meaning w g.meaning h.meaning; IsOutput = h.IsOutput }
+
+  abbrev pub terminated_of : {V O U P : Type 0} → Grammar I V O E → Grammar I U P E → Grammar I V O E
+  terminated_of g h = record { meaning = terminated_meaning w g.meaning h.meaning; IsOutput = g.IsOutput }
+
+  abbrev pub separated_pair_of : {V O S Q U P : Type 0} → Grammar I V O E → Grammar I S Q E → Grammar I U P E → Grammar I (V × U) (O × P) E
+  separated_pair_of g sep h = pair_of g (preceded_of sep h)
+
+  abbrev pub delimited_of : {V O U P S Q : Type 0} → Grammar I V O E → Grammar I U P E → Grammar I S Q E → Grammar I U P E
+  delimited_of g h k = preceded_of g (terminated_of h k)
+
+-- a leaf whose tree is its output
+abbrev pub valued : {I V E : Type 0} → Meaning I V E → Grammar I V V E
+valued m = record { meaning = m; IsOutput = λ t o. o ≡ t }
+
+abbrev pub opt_of : {I V O E : Type 0} → Grammar I V O E → Grammar I (Option V) (Option O) E
+opt_of g = record { meaning = opt_meaning g.meaning; IsOutput = OptOutput g.IsOutput }
+
+module _ {I E : Type 0} (errs : Errors I E) where
+  -- one branch, and where it refuses another; all branches together are closed by `alt_of`
+  abbrev pub or_of : {V U O : Type 0} → Grammar I V O E → Grammar I U O E → Grammar I (V ⊎ U) O E
+  or_of g h = record { meaning = next_meaning errs g.meaning h.meaning; IsOutput = EitherOutput g.IsOutput h.IsOutput }
+
+  abbrev pub alt_of : {V O : Type 0} → Grammar I V O E → Grammar I V O E
+  alt_of g = record { meaning = choice_meaning errs g.meaning; IsOutput = g.IsOutput }
+
+abbrev pub many0_of : {I A V O M E : Type 0} → Seen I A → Errors I E → Grammar I V O E → Grammar I (List V) (Vec O M) E
+many0_of w errs g = record { meaning = many0_meaning w errs g.meaning; IsOutput = λ ts o. AllZip g.IsOutput ts o.items }

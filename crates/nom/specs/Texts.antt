@@ -1,0 +1,80 @@
+-- Grammars over texts, with `Error`: the words of `Grammar` and `Leaves` for `&str`.
+use Rattle.std.specs.Prelude.{◌≡◌, ℕ, None, Bool, ◌⊎◌, List, Option, Result, Vec, chars}
+use Rattle.std.specs.Borrow.{Bor}
+use Rattle.nom_error.specs.declared.answer.Needed.{Needed}
+use Rattle.nom_error.specs.declared.answer.Err as Answer
+use Rattle.nom_error.specs.declared.kind.ErrorKind.TheVariants.{Char}
+use Rattle.nom_error.specs.declared.value.Error.{Error}
+use Rattle.nom_error.specs.Errors.{Errors}
+use Rattle.nom_traits.specs.Text.{seen_text}
+use Rattle.nom_traits.specs.Compares.{ComparesText}
+use Rattle.nom_traits.specs.Slices.{Slice}
+use Rattle.nom.specs.Grammar as Grammars
+use Rattle.nom.specs.Grammar.{Grammar}
+use Rattle.nom.specs.Leaves as Leaves
+
+abbrev pub Text : Type 0
+Text = Bor (List ℕ)
+
+-- the errors of `Error`: the input where it refuses, and the kind
+abbrev pub kept : Errors Text (Error Text)
+kept = record {
+  of_kind = λ i kind e. e ≡ record { input = i; code = kind };
+  appended = λ _ _ other e. e ≡ other;
+  of_char = λ i _ e. e ≡ record { input = i; code = Char };
+  joined = λ _ other e. e ≡ other;
+  grows = ⊥;
+}
+
+abbrev pub TextGrammar : (V O : Type 0) → Type 1
+TextGrammar V O = Grammar Text V O (Error Text)
+
+-- what `parse` (true) and `parse_complete` (false) answer by the grammar
+abbrev pub Parses : {V O : Type 0} → TextGrammar V O → Bool → Text → Result (Text × O) (Answer.Err (Error Text) (Error Text) Needed) → Type 0
+Parses = Grammars.Parses seen_text
+
+abbrev pub tag_of : List ℕ → TextGrammar (Slice seen_text) Text
+tag_of = Leaves.tag_of seen_text kept ComparesText
+
+abbrev pub take_of : ℕ → TextGrammar (Slice seen_text) Text
+take_of = Leaves.take_of seen_text kept (λ _ _. None)
+
+abbrev pub is_a_of : List ℕ → TextGrammar (Slice seen_text) Text
+is_a_of set = Leaves.is_a_of seen_text kept (chars set)
+
+abbrev pub is_not_of : List ℕ → TextGrammar (Slice seen_text) Text
+is_not_of set = Leaves.is_not_of seen_text kept (chars set)
+
+abbrev pub char_of : ℕ → TextGrammar ℕ ℕ
+char_of = Leaves.char_of seen_text kept
+
+abbrev pub digit1_of : TextGrammar (Slice seen_text) Text
+digit1_of = Leaves.digit1_of seen_text kept
+
+abbrev pub pair_of : {V O U P : Type 0} → TextGrammar V O → TextGrammar U P → TextGrammar (V × U) (O × P)
+pair_of = Grammars.pair_of seen_text
+
+abbrev pub preceded_of : {V O U P : Type 0} → TextGrammar V O → TextGrammar U P → TextGrammar U P
+preceded_of = Grammars.preceded_of seen_text
+
+abbrev pub terminated_of : {V O U P : Type 0} → TextGrammar V O → TextGrammar U P → TextGrammar V O
+terminated_of = Grammars.terminated_of seen_text
+
+abbrev pub separated_pair_of : {V O S Q U P : Type 0} → TextGrammar V O → TextGrammar S Q → TextGrammar U P → TextGrammar (V × U) (O × P)
+separated_pair_of = Grammars.separated_pair_of seen_text
+
+abbrev pub delimited_of : {V O U P S Q : Type 0} → TextGrammar V O → TextGrammar U P → TextGrammar S Q → TextGrammar U P
+delimited_of = Grammars.delimited_of seen_text
+
+abbrev pub opt_of : {V O : Type 0} → TextGrammar V O → TextGrammar (Option V) (Option O)
+opt_of = Grammars.opt_of
+
+-- `alt_of (or_of (or_of g h) k)` is `alt((g, h, k))`
+abbrev pub or_of : {V U O : Type 0} → TextGrammar V O → TextGrammar U O → TextGrammar (V ⊎ U) O
+or_of = Grammars.or_of kept
+
+abbrev pub alt_of : {V O : Type 0} → TextGrammar V O → TextGrammar V O
+alt_of = Grammars.alt_of kept
+
+abbrev pub many0_of : {V O M : Type 0} → TextGrammar V O → TextGrammar (List V) (Vec O M)
+many0_of = Grammars.many0_of seen_text kept

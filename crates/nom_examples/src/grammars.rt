@@ -1,0 +1,43 @@
+//! Functions whose contracts are their grammars, in the words of `Rattle.nom.specs.Bytes`.
+ghost use Rattle.std.specs.Prelude.{codes, true};
+ghost use Rattle.nom.specs.Bytes.{Parses, alt_of, char_of, delimited_of, digit1_of, is_a_of, is_not_of, many0_of, opt_of, or_of, preceded_of, tag_of, take_of, terminated_of};
+
+use nom::branch::alt;
+use nom::bytes::{is_a, is_not, tag, take};
+use nom::character::{char, digit1};
+use nom::combinator::opt;
+use nom::multi::many0;
+use nom::sequence::{delimited, preceded, terminated};
+use nom::{IResult, Parser};
+use std::alloc::Global;
+
+/// A name in brackets, as `[name]`.
+pub fn bracketed(input: &[u8]) -> IResult<&[u8], &[u8]>
+    ensures { Parses (delimited_of (char_of 91) (is_not_of (codes "]")) (char_of 93)) true input.entry result }
+{
+    let mut name = delimited(char('['), is_not("]"), char(']'));
+    name.parse(input)
+}
+
+/// Decimal digits, or a `*` that stands for any.
+pub fn digits_or_any(input: &[u8]) -> IResult<&[u8], &[u8]>
+    ensures { Parses (alt_of (or_of digit1_of (tag_of (codes "*")))) true input.entry result }
+{
+    alt((digit1(), tag("*"))).parse(input)
+}
+
+/// Signs, where there are some, and a `;` behind them.
+pub fn signs(input: &[u8]) -> IResult<&[u8], Option<&[u8]>>
+    ensures { Parses (terminated_of (opt_of (is_a_of (codes "+-"))) (tag_of (codes ";"))) true input.entry result }
+{
+    let mut signs = terminated(opt(is_a("+-")), tag(";"));
+    signs.parse(input)
+}
+
+/// Records, each an `R` and four bytes, until one is refused.
+pub fn records(alloc: Global, input: &[u8]) -> IResult<&[u8], Vec<&[u8]>>
+    ensures { Parses (many0_of (preceded_of (tag_of (codes "R")) (take_of 4))) true input.entry result }
+{
+    let record = preceded(tag("R"), take(4usize));
+    many0(alloc, record).parse(input)
+}
