@@ -9,6 +9,7 @@ pub use nom_growing::promises::{
     stays_on_longer,
 };
 pub use nom_iterator::promises::{gives_items, items_are_one, items_fit, items_stay};
+pub use nom_lengths::promises::length_count_accepts;
 pub use nom_multi::promises::{
     count_accepts, has_few_items, many_m_n_accepts, many_till_accepts, many0_accepts,
     many1_accepts, refuses_at_empty, separated_list0_accepts, separated_list1_accepts,

@@ -1,3 +1,4 @@
 pub mod LengthShown
 pub mod Reached
 pub mod ValueShown
+pub mod Accepting

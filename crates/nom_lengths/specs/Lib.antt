@@ -2,3 +2,4 @@ pub mod Lengths
 pub mod LengthLaws
 pub mod Values
 pub mod ValueLaws
+pub mod Promises

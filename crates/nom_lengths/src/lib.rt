@@ -6,6 +6,7 @@ ghost use Rattle.std.specs.Prelude.{◌≡◌};
 mod count;
 mod cut;
 mod length;
+pub mod promises;
 mod value;
 
 pub use crate::count::LengthCount;

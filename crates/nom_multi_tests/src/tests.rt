@@ -1,7 +1,6 @@
-//! Rows of inputs and what nom answers at them, each row through one call of its parser.
+//! What no replay of answers can tell of lists: what they answer with less built, the kinds that they add to the
+//! error of an item, want of memory, and buffers where nothing is built.
 
 mod buffers;
-mod kinds;
-mod lists;
-mod memory;
+mod shapes;
 mod told;

@@ -1,36 +1,21 @@
 //! Items in a buffer.
 
-use super::told::At;
-use nom::bytes::tag;
-use nom::error::{Error, ErrorKind};
-use nom::multi::fill;
-use nom::{Check, Complete, Emit, Err, OutputM, Parser};
-
-#[test]
-fn a_buffer_of_two(rt: HostRuntime) {
-    for (input, answer, held) in [
-        (&b"aab"[..], Ok((&b"b"[..], ())), [&b"a"[..], &b"a"[..]]),
-        (
-            &b"ab"[..],
-            Err(Err::Error(Error::new(&b"b"[..], ErrorKind::Tag))),
-            [&b"a"[..], &b"x"[..]],
-        ),
-    ] {
-        let mut buffer = [&b"x"[..], &b"x"[..]];
-        let mut filled = fill(tag::<_, _, At>(&b"a"[..]), &mut buffer);
-        assert!(rt; filled.parse_complete(input) == answer);
-        assert!(rt; buffer == held);
-    }
-}
+use nom_bytes::tag;
+use nom_error::answer::Err;
+use nom_error::kind::ErrorKind;
+use nom_error::mode::{Check, Complete, Emit, OutputM};
+use nom_internal::parser::Parser;
+use nom_multi::fill;
+use nom_trail::trail::Trail;
 
 // Where no outputs are built, nothing is written.
 #[test]
 fn a_buffer_that_stays(rt: HostRuntime) {
     let mut buffer = [&b"x"[..], &b"x"[..]];
-    let mut filled = fill(tag::<_, _, At>(&b"a"[..]), &mut buffer);
+    let mut filled = fill(tag::<_, _, Trail>(&b"a"[..]), &mut buffer);
     match filled.process::<OutputM<Check, Emit, Complete>>(&b"ab"[..]) {
-        Err(Err::Error(Some(error))) => {
-            assert!(rt; error == Error::new(&b"b"[..], ErrorKind::Tag));
+        Err(Err::Error(Some(trail))) => {
+            assert!(rt; trail.steps() == [ErrorKind::Tag, ErrorKind::Count].as_slice());
         }
         _ => panic!(rt; "no refusal"),
     }

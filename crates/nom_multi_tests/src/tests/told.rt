@@ -1,97 +1,95 @@
 //! What a row of a test says of a list.
 
-use nom::error::{Error, ErrorKind};
-use nom::{Check, Complete, Emit, Err, Needed, OutputM, PResult, Parser, Streaming};
+use nom_error::answer::{Err, Needed, PResult};
+use nom_error::kind::ErrorKind;
+use nom_error::mode::{Check, Emit, OutputM, Streaming};
+use nom_internal::parser::Parser;
+use nom_trail::trail::Trail;
 use std::alloc::Allocator;
 
-pub type At<'a> = Error<&'a [u8]>;
-
-/// What of an answer is told: the rest and the items, or the kind and the input of a refusal.
+/// What of an answer is told.
 #[derive(Clone, Copy, PartialEq, Eq)]
-pub enum Told<'a> {
-    /// With the number that the items' digits write.
-    Accepts(&'a [u8], Option<usize>),
-    Refuses(Option<(ErrorKind, &'a [u8])>),
-    /// With the kind and the input of a failure, which are always built.
-    Fails(ErrorKind, &'a [u8]),
+pub enum Told {
+    /// A list of all but a last `;`, with the number of its items where outputs are built.
+    Accepts(Option<usize>),
+    /// With the kind of a refusal, and the one that was added to it, where errors are built.
+    Refuses(Option<(ErrorKind, Option<ErrorKind>)>),
+    Fails(ErrorKind),
     Needs(Needed),
+    OutOfMemory,
     Other,
 }
 
-/// Items that are digits.
-pub trait Digits: Drop {
-    /// The number that they write, 0 where there are none.
-    fn number(&self) -> usize;
-}
-
-fn with_digit(number: usize, digit: char) -> usize {
-    let digit = match digit.to_digit(10) {
-        Some(digit) => digit as usize,
-        None => 0,
-    };
-    number.wrapping_mul(10).wrapping_add(digit)
-}
-
-impl<A: Allocator> Digits for Vec<char, A> {
-    fn number(&self) -> usize {
-        let mut number = 0usize;
-        for digit in self {
-            number = with_digit(number, *digit);
+impl Told {
+    /// The same, with less built.
+    pub fn with_less(self, outputs: bool, errors: bool) -> Told {
+        match self {
+            Told::Accepts(_) if !outputs => Told::Accepts(None),
+            Told::Refuses(_) if !errors => Told::Refuses(None),
+            told => told,
         }
-        number
     }
 }
 
-/// The digits of a list, and an end's behind them.
-impl<A: Allocator> Digits for (Vec<char, A>, char) {
-    fn number(&self) -> usize {
-        with_digit(self.0.number(), self.1)
+/// Items that are counted.
+pub trait Counted: Drop {
+    fn count(&self) -> usize;
+}
+
+impl<T: Drop, A: Allocator> Counted for Vec<T, A> {
+    fn count(&self) -> usize {
+        self.len()
     }
 }
 
-fn told_of<'a, O: Digits>(answer: PResult<&'a [u8], O, At<'a>>) -> Told<'a> {
+/// The items before an end.
+impl<T: Drop, A: Allocator> Counted for (Vec<T, A>, T) {
+    fn count(&self) -> usize {
+        self.0.len()
+    }
+}
+
+/// A fold that counts.
+impl Counted for usize {
+    fn count(&self) -> usize {
+        *self
+    }
+}
+
+/// The kind of an error of one step or two, and the one that was added.
+fn kinds(trail: &Trail) -> (ErrorKind, Option<ErrorKind>) {
+    let added = if trail.count == 2 {
+        Some(trail.kinds[1])
+    } else {
+        None
+    };
+    (trail.kinds[0], added)
+}
+
+fn told_of<O: Counted>(answer: PResult<&[u8], O, Trail>) -> Told {
     match answer {
-        Ok((rest, Some(items))) => Told::Accepts(rest, Some(items.number())),
-        Ok((rest, None)) => Told::Accepts(rest, None),
-        Err(Err::Error(Some(error))) => Told::Refuses(Some((error.code, error.input))),
-        Err(Err::Error(None)) => Told::Refuses(None),
-        Err(Err::Failure(error)) => Told::Fails(error.code, error.input),
+        Ok((rest, items)) if rest == b";".as_slice() => {
+            Told::Accepts(items.as_ref().map(|items| items.count()))
+        }
+        Err(Err::Error(trail)) => Told::Refuses(trail.as_ref().map(kinds)),
+        Err(Err::Failure(trail)) => Told::Fails(trail.kinds[0]),
         Err(Err::Incomplete(needed)) => Told::Needs(needed),
-        Err(Err::OutOfMemory) => Told::Other,
+        Err(Err::OutOfMemory) => Told::OutOfMemory,
+        _ => Told::Other,
     }
 }
 
-/// The answers at an input in the four modes of what is built: both, outputs, errors, nothing.
-pub fn in_modes<'a, O: Digits, P: Parser<&'a [u8], Output = O, Error = At<'a>> + Drop>(
-    mut parser: P,
+/// What a list answers in the four modes of what is built: all, outputs, errors, nothing.
+pub fn in_modes<'a, O: Counted, P: Parser<&'a [u8], Output = O, Error = Trail> + Drop>(
+    mut list: P,
     input: &'a [u8],
-) -> [Told<'a>; 4]
-    requires { (P.meaning (P.state parser)).IsSound }
+) -> [Told; 4]
+    requires { (P.meaning (P.state list)).IsSound }
 {
     [
-        told_of(parser.process::<OutputM<Emit, Emit, Streaming>>(input)),
-        told_of(parser.process::<OutputM<Emit, Check, Complete>>(input)),
-        told_of(parser.process::<OutputM<Check, Emit, Streaming>>(input)),
-        told_of(parser.process::<OutputM<Check, Check, Complete>>(input)),
-    ]
-}
-
-/// What is told in the four modes of the items that write a number.
-pub fn accepts(rest: &[u8], number: usize) -> [Told<'_>; 4] {
-    [
-        Told::Accepts(rest, Some(number)),
-        Told::Accepts(rest, Some(number)),
-        Told::Accepts(rest, None),
-        Told::Accepts(rest, None),
-    ]
-}
-
-/// What is told in the four modes of a refusal at an input.
-pub fn refuses(kind: ErrorKind, input: &[u8]) -> [Told<'_>; 4] {
-    [
-        Told::Refuses(Some((kind, input))),
-        Told::Refuses(None),
-        Told::Refuses(Some((kind, input))),
-        Told::Refuses(None),
+        told_of(list.process::<OutputM<Emit, Emit, Streaming>>(input)),
+        told_of(list.process::<OutputM<Emit, Check, Streaming>>(input)),
+        told_of(list.process::<OutputM<Check, Emit, Streaming>>(input)),
+        told_of(list.process::<OutputM<Check, Check, Streaming>>(input)),
     ]
 }

@@ -1,0 +1,170 @@
+//! Lists of a tag: what they answer with less built, the kinds that they add, and want of memory.
+
+use super::told::{Told, in_modes};
+use linked_list_allocator::LocalHeap;
+use nom_bytes::tag;
+use nom_character::char;
+use nom_error::answer::Needed;
+use nom_error::kind::ErrorKind;
+use nom_folds::{fold_many_m_n, fold_many1, many};
+use nom_lengths::length_count;
+use nom_multi::{count, many_m_n, many_till, many1, separated_list0, separated_list1};
+use nom_number::be_u8;
+use nom_trail::trail::Trail;
+use std::alloc::{AllocError, Global};
+
+/// A list, of 20 items or up to 20 where no bounds are said.
+#[derive(Clone, Copy)]
+enum Shape {
+    Many1,
+    Count,
+    ManyMN(usize, usize),
+    Many,
+    FoldMany1,
+    FoldManyMN,
+    SeparatedList0,
+    SeparatedList1,
+    LengthCount,
+    ManyTill,
+}
+
+/// What a list that takes its memory from a heap answers in the four modes of what is built.
+fn of_shape<'a, 'h>(
+    heap: &'h LocalHeap,
+    shape: Shape,
+    text: &'a [u8],
+    input: &'a [u8],
+) -> [Told; 4] {
+    let item = tag::<_, _, Trail>(text);
+    let init = || 0usize;
+    let inc = |n: usize, _item: &[u8]| n.wrapping_add(1);
+    match shape {
+        Shape::Many1 => in_modes(many1(heap, item), input),
+        Shape::Count => in_modes(count(heap, item, 20), input),
+        Shape::ManyMN(min, max) => in_modes(many_m_n(heap, min, max, item), input),
+        Shape::Many => in_modes(
+            many::<_, _, _, Vec<&'a [u8], &'h LocalHeap>>(heap, 1..=20, item),
+            input,
+        ),
+        Shape::FoldMany1 => in_modes(fold_many1(item, init, inc), input),
+        Shape::FoldManyMN => in_modes(fold_many_m_n(1, 20, item, init, inc), input),
+        Shape::SeparatedList0 => in_modes(separated_list0(heap, char(','), item), input),
+        Shape::SeparatedList1 => in_modes(separated_list1(heap, char(','), item), input),
+        Shape::LengthCount => in_modes(length_count(heap, be_u8(), item), input),
+        Shape::ManyTill => in_modes(many_till(heap, item, tag(&b"b"[..])), input),
+    }
+}
+
+/// A refusal of an item, with the kind that a list adds to it.
+fn added(kind: ErrorKind) -> Told {
+    Told::Refuses(Some((ErrorKind::Tag, Some(kind))))
+}
+
+/// A refusal of a kind alone.
+fn only(kind: ErrorKind) -> Told {
+    Told::Refuses(Some((kind, None)))
+}
+
+#[test]
+fn lists_in_all_modes(rt: HostRuntime) -> Result<(), AllocError> {
+    let heap = LocalHeap::new(rt.alloc(), 4096)?;
+    let of_two = Told::Accepts(Some(2));
+    let a = &b"a"[..];
+    let nothing = &b""[..];
+    for (shape, text, input, told) in [
+        (Shape::Many1, a, &b"aa;"[..], of_two),
+        (Shape::ManyMN(1, 2), a, &b"aa;"[..], of_two),
+        (Shape::Many, a, &b"aa;"[..], of_two),
+        (Shape::FoldMany1, a, &b"aa;"[..], of_two),
+        (Shape::FoldManyMN, a, &b"aa;"[..], of_two),
+        (Shape::SeparatedList0, a, &b"a,a;"[..], of_two),
+        (Shape::SeparatedList1, a, &b"a,a;"[..], of_two),
+        (Shape::LengthCount, a, &b"\x02aa;"[..], of_two),
+        (Shape::ManyTill, a, &b"aab;"[..], of_two),
+        (Shape::SeparatedList0, a, &b";"[..], Told::Accepts(Some(0))),
+        (Shape::Count, nothing, &b";"[..], Told::Accepts(Some(20))),
+        (Shape::Many1, a, &b";"[..], added(ErrorKind::Many1)),
+        (Shape::Count, a, &b"aa;"[..], added(ErrorKind::Count)),
+        (Shape::ManyMN(1, 2), a, &b";"[..], added(ErrorKind::ManyMN)),
+        (Shape::Many, a, &b";"[..], added(ErrorKind::Many)),
+        (Shape::FoldManyMN, a, &b";"[..], added(ErrorKind::ManyMN)),
+        (
+            Shape::LengthCount,
+            a,
+            &b"\x01;"[..],
+            added(ErrorKind::Count),
+        ),
+        (Shape::ManyTill, a, &b";"[..], added(ErrorKind::ManyTill)),
+        (Shape::SeparatedList1, a, &b";"[..], only(ErrorKind::Tag)),
+        (Shape::FoldMany1, a, &b";"[..], only(ErrorKind::Many1)),
+        (
+            Shape::ManyMN(0, 2),
+            nothing,
+            &b";"[..],
+            only(ErrorKind::ManyMN),
+        ),
+        (Shape::Many, nothing, &b";"[..], only(ErrorKind::Many)),
+        (Shape::ManyTill, nothing, &b";"[..], only(ErrorKind::Many0)),
+        (
+            Shape::ManyMN(3, 2),
+            a,
+            &b"aa;"[..],
+            Told::Fails(ErrorKind::ManyMN),
+        ),
+        (
+            Shape::SeparatedList0,
+            &b"abc"[..],
+            &b"abc,"[..],
+            Told::Needs(Needed::new(3)),
+        ),
+    ] {
+        let wanted = [
+            told,
+            told.with_less(true, false),
+            told.with_less(false, true),
+            told.with_less(false, false),
+        ];
+        assert!(rt;
+            of_shape(&heap, shape, text, input) == wanted,
+            "at {input:?}"
+        );
+    }
+    Ok(())
+}
+
+/// How often memory ran out on heaps of each size up to one that suffices, on which the answer has to be a
+/// list of 20 items; none where any other answer came.
+fn times_refused(alloc: Global, shape: Shape, input: &[u8]) -> Result<Option<usize>, AllocError> {
+    let mut refused = 0usize;
+    let mut sufficed = false;
+    for units in 1..120 {
+        let heap = LocalHeap::new(alloc, units * 16)?;
+        match of_shape(&heap, shape, &b"a"[..], input)[0] {
+            Told::OutOfMemory if !sufficed => refused = refused.saturating_add(1),
+            Told::Accepts(Some(20)) => sufficed = true,
+            _ => return Ok(None),
+        }
+    }
+    Ok(if sufficed { Some(refused) } else { None })
+}
+
+// Each growth of a list is refused in turn, and each time the answer is want of memory, and no shorter list.
+#[test]
+fn each_growth_refused(rt: HostRuntime) -> Result<(), AllocError> {
+    let items = &b"aaaaaaaaaaaaaaaaaaaa;"[..];
+    let commas = &b"a,a,a,a,a,a,a,a,a,a,a,a,a,a,a,a,a,a,a,a;"[..];
+    for (shape, input) in [
+        (Shape::Many1, items),
+        (Shape::Count, items),
+        (Shape::ManyMN(1, 20), items),
+        (Shape::Many, items),
+        (Shape::SeparatedList0, commas),
+        (Shape::SeparatedList1, commas),
+        (Shape::LengthCount, &b"\x14aaaaaaaaaaaaaaaaaaaa;"[..]),
+        (Shape::ManyTill, &b"aaaaaaaaaaaaaaaaaaaab;"[..]),
+    ] {
+        let refused = times_refused(rt.alloc(), shape, input)?;
+        assert!(rt; refused > Some(2), "at {input:?}");
+    }
+    Ok(())
+}
