@@ -1,6 +1,6 @@
 -- Expressions that are read from left to right.
-use Rattle.std.proofs.Common.{◌≡◌, ℕ, ◌+◌, ◌-◌, ◌<◌, ◌≤◌, ◌⊎◌, List, [], ◌∷◌, ◌++◌, length, length-append, Ok, Result, refl, sym, ◌∙◌, ap, subst, arith, append_assoc, inl, inr, ℤ}
-use Rattle.std.specs.Prelude.{chars, encode_utf8_all, IsUtf8}
+use Rattle.std.proofs.Common.{◌≡◌, ℕ, ◌-◌, ◌<◌, ◌≤◌, List, [], ◌∷◌, ◌++◌, length, length-append, Ok, Result, sym, ◌∙◌, ap, subst, arith, append_assoc, ℤ}
+use Rattle.std.specs.Prelude.{chars, IsUtf8}
 use Rattle.std.specs.Borrow.{Bor}
 use Rattle.std.specs.Int.{w64}
 use Rattle.std.specs.Str.Parse.{ParsesSigned, signed_digits_value}
@@ -9,7 +9,7 @@ use Rattle.std.proofs.lemmas.Str.{encodes-chars}
 use mir.Val.{SFits, to_z, of_z}
 use Rattle.nom_traits.specs.declared.character.AsciiClass.TheVariants.{Digit}
 use Rattle.nom_character.specs.ClassRuns.{IsOf}
-use Rattle.nom_formats.specs.Arithmetic.{Expr, written, IsOperator, IsOfRank, Gives, HasValue, Reads}
+use Rattle.nom_formats.specs.Arithmetic.{Expr, written, IsOperator, IsOfRank, Gives, Reads}
 use Rattle.nom_formats.specs.Arithmetic.Expr.{Number, Brackets, Apply}
 use Rattle.nom_formats.proofs.Heads.{IsRunRead}
 

@@ -1,13 +1,13 @@
 -- What is known where a parser of one character, or of digits, accepts.
 use Rattle.std.proofs.Common.{◌≡◌, ℕ, ◌<◌, ◌≤◌, Bool, true, false, List, [], ◌∷◌, ◌++◌, length, Result, Ok, Bor, sym, ◌∙◌, ap, subst, arith, inl, inr, ◌⊎◌}
-use Rattle.std.specs.Prelude.{◌==◌, chars, Option, Some, None}
+use Rattle.std.specs.Prelude.{◌==◌, chars, Some, None}
 use Rattle.std.specs.Char.{len_utf8}
 use Rattle.std.specs.List.{All}
 use Rattle.std.proofs.lemmas.Bool.Decides.{nat_tests}
 use Rattle.nom_error.specs.declared.answer.Needed.{Needed}
 use Rattle.nom_error.specs.declared.answer.Err as Answer
 use Rattle.nom_traits.specs.declared.character.AsciiClass.TheVariants.{Digit}
-use Rattle.nom_traits.specs.Input.{IsRest, span}
+use Rattle.nom_traits.specs.Input.{IsRest}
 use Rattle.nom_traits.specs.Rests.{same_cut}
 use Rattle.nom_traits.specs.Runs.{Stops}
 use Rattle.nom_traits.specs.Slices.{Slice, IsSeenAs}

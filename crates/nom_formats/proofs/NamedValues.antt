@@ -1,11 +1,11 @@
 -- What the parser of a name and its value answers.
-use Rattle.std.proofs.Common.{◌≡◌, ℕ, ◌+◌, Bool, true, false, List, [], ◌∷◌, ◌++◌, Result, Ok, Err, Bor, sym, ◌∙◌, ap, subst, arith, append_assoc, refl, rules}
+use Rattle.std.proofs.Common.{◌≡◌, ℕ, ◌+◌, Bool, true, false, List, [], ◌∷◌, ◌++◌, Result, Bor, sym, ◌∙◌, ap, subst, arith, append_assoc, refl, rules}
 use Rattle.std.specs.Prelude.{◌==◌, chars, Some, None, IfOk}
 use Rattle.std.specs.Char.{len_utf8}
 use Rattle.std.specs.List.{All}
 use Rattle.nom_error.specs.declared.answer.Needed.{Needed}
 use Rattle.nom_error.specs.declared.answer.Err as Answer
-use Rattle.nom_traits.specs.Input.{IsRest, IsPlace, span}
+use Rattle.nom_traits.specs.Input.{IsRest, IsPlace}
 use Rattle.nom_traits.specs.Rests.{same_cut, span-append, rest_rest}
 use Rattle.nom_traits.specs.Runs.{Stops}
 use Rattle.nom_traits.specs.Slices.{Slice, IsSeenAs, first_place}
@@ -18,7 +18,7 @@ use Rattle.nom_internal.specs.Sequence.{Then}
 use Rattle.nom_bytes.specs.ParsedRuns.{runs}
 use Rattle.nom_character.specs.Heads.{heads}
 use Rattle.nom_formats.specs.Named.{IsNamed, in_name, in_value}
-use Rattle.nom_formats.proofs.Heads.{IsRunRead, run_read, behind_head}
+use Rattle.nom_formats.proofs.Heads.{run_read, behind_head}
 use Rattle.nom_formats.proofs.Sequences.{AreBoth, both}
 
 abbrev Text : Type 0
