@@ -1,0 +1,4 @@
+pub mod Expressions
+pub mod Heads
+pub mod NamedValues
+pub mod Sequences
