@@ -5,6 +5,7 @@ mod closures;
 mod converted;
 mod judged;
 mod modes;
+mod numbers;
 mod rows;
 mod sequences;
 mod verdicts;

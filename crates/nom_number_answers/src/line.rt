@@ -1,5 +1,6 @@
 //! Lines of the files.
 
+use crate::integers::integer;
 use nom::error::Error;
 use nom::number::{complete, recognize_float, recognize_float_or_exceptions, streaming};
 use nom::{AsBytes, AsChar, Input};
@@ -61,6 +62,9 @@ fn found(alloc: Global, call: &str, way: Way, input: &Literal) -> Option<Answer>
         }
         Literal::Bytes(bytes) => {
             let input = bytes.as_slice();
+            if let Some(answer) = integer(alloc, call, way, input) {
+                return Some(answer);
+            }
             let question = Question {
                 alloc,
                 module,

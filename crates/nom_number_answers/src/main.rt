@@ -18,6 +18,7 @@
 //! which have to be told.
 #![tactic(auto)]
 
+mod integers;
 mod line;
 
 use crate::line::compared;
