@@ -1,25 +1,27 @@
-//! `nom_bench FILE [ROUNDS]`: how fast the grammar of nom_records, runs, a search, decimal numbers, a choice
-//! and a tuple go over a file, held in memory.
+//! `nom_bench FILE [ROUNDS]`: how fast the grammar of nom_records, runs, a search, decimal and binary numbers, a
+//! choice, a tuple and bit fields go over a file, held in memory.
 //!
 //! The grammar runs by `parse`, by `parse_complete`, and by `process` where nothing is built. By
 //! `parse_complete` also run a `take_while1` of all bytes before the first `;`, a `take_until` of all before
 //! the first `;;`, an `alphanumeric1`, a list of decimal numbers of 32 bits, each with a `,` behind it, such a
 //! list with a `,` between two, a fold that counts bytes, a list of words, each of which an `alt` of eight tags
-//! finds, and a list of tuples of four, as `<ab>`.
+//! finds, a list of tuples of four, as `<ab>`, a list of binary numbers of 32 bits, the highest byte first, and
+//! a list of pairs of bit fields, of 4 and of 12 bits.
 //! Each runs ROUNDS times (7 where none are named), and a line for each tells how many items a list has, the
 //! bytes consumed, and the MB (10^6 bytes) a second of the best round. A file that isn't accepted gets
-//! `no records`, `no run`, `no needle`, `no word`, `no numbers`, `no bytes`, `no words` or `no tuples`: so a file
-//! for the grammar is one of records; a file for a run and a needle is long, with a `;;` at its end and no `;`
-//! before; one for a word is of letters and digits; and the others are as their items are written. With no
-//! argument nothing is printed.
+//! `no records`, `no run`, `no needle`, `no word`, `no numbers`, `no bytes`, `no words`, `no tuples` or
+//! `no fields`: so a file for the grammar is one of records; a file for a run and a needle is long, with a `;;`
+//! at its end and no `;` before; one for a word is of letters and digits; one for binary numbers or for fields
+//! is of any bytes; and the others are as their items are written. With no argument nothing is printed.
 #![tactic(auto)]
 
+use nom::bits::{bits, complete as complete_bits};
 use nom::branch::alt;
 use nom::bytes::{tag, take_until, take_while1};
 use nom::character::{char, complete};
 use nom::error::Error;
 use nom::multi::{fold_many0, length_data, many0, separated_list0};
-use nom::number::be_u8;
+use nom::number::{be_u8, be_u32};
 use nom::sequence::{preceded, terminated};
 use nom::{Check, Err, OutputM, Parser, Streaming};
 use nom_decimal::integer::Integer;
@@ -31,6 +33,9 @@ use std::time::Instant;
 use std::{env, fs, io};
 
 type Fail<'a> = Error<&'a [u8]>;
+
+/// The error of a parser of bits.
+type BitFail<'a> = Error<(&'a [u8], usize)>;
 
 /// What a round told.
 #[derive(Clone, Copy)]
@@ -204,6 +209,35 @@ fn by_tuples(alloc: Global, bytes: &[u8]) -> Option<Round> {
     }
 }
 
+#[inline(never)]
+fn by_binary(alloc: Global, bytes: &[u8]) -> Option<Round> {
+    let mut numbers = many0(alloc, be_u32::<_, Fail>());
+    match numbers.parse_complete(bytes) {
+        Ok((rest, list)) if !list.is_empty() => Some(Round {
+            items: Some(list.len()),
+            bytes: bytes.len().saturating_sub(rest.len()),
+        }),
+        _ => None,
+    }
+}
+
+// Fields of `complete`: within `bits` others would ask for more at the end.
+#[inline(never)]
+fn by_fields(alloc: Global, bytes: &[u8]) -> Option<Round> {
+    let pair = (
+        complete_bits::take::<_, u8, _, BitFail>(4usize),
+        complete_bits::take::<_, u16, _, BitFail>(12usize),
+    );
+    let mut fields = many0(alloc, bits::<_, Fail>(pair));
+    match fields.parse_complete(bytes) {
+        Ok((rest, list)) if !list.is_empty() => Some(Round {
+            items: Some(list.len()),
+            bytes: bytes.len().saturating_sub(rest.len()),
+        }),
+        _ => None,
+    }
+}
+
 /// The parsers, and the ways to run them.
 #[derive(Clone, Copy)]
 enum Way {
@@ -218,6 +252,8 @@ enum Way {
     Fold,
     Words,
     Tuples,
+    Binary,
+    Fields,
 }
 
 impl Way {
@@ -234,16 +270,19 @@ impl Way {
             Way::Fold => "fold_many0",
             Way::Words => "alt",
             Way::Tuples => "tuple",
+            Way::Binary => "be_u32",
+            Way::Fields => "bits",
         }
     }
 
     /// What a list holds.
     fn items(self) -> &'static str {
         match self {
-            Way::Numbers | Way::Separated => "numbers",
+            Way::Numbers | Way::Separated | Way::Binary => "numbers",
             Way::Fold => "bytes counted",
             Way::Words => "words",
             Way::Tuples => "tuples",
+            Way::Fields => "pairs of fields",
             _ => "records",
         }
     }
@@ -257,10 +296,11 @@ impl Way {
             Way::TakeWhile1 => "no run",
             Way::TakeUntil => "no needle",
             Way::Alphanumeric1 => "no word",
-            Way::Numbers | Way::Separated => "no numbers",
+            Way::Numbers | Way::Separated | Way::Binary => "no numbers",
             Way::Fold => "no bytes",
             Way::Words => "no words",
             Way::Tuples => "no tuples",
+            Way::Fields => "no fields",
         }
     }
 
@@ -277,6 +317,8 @@ impl Way {
             Way::Fold => by_fold(bytes),
             Way::Words => by_words(alloc, bytes),
             Way::Tuples => by_tuples(alloc, bytes),
+            Way::Binary => by_binary(alloc, bytes),
+            Way::Fields => by_fields(alloc, bytes),
         }
     }
 }
@@ -339,7 +381,9 @@ fn run(rt: &(impl Clock + Env + Files + Print + Alloc<A = Global>)) -> io::Resul
     bench(rt, Way::Separated, &bytes, rounds)?;
     bench(rt, Way::Fold, &bytes, rounds)?;
     bench(rt, Way::Words, &bytes, rounds)?;
-    bench(rt, Way::Tuples, &bytes, rounds)
+    bench(rt, Way::Tuples, &bytes, rounds)?;
+    bench(rt, Way::Binary, &bytes, rounds)?;
+    bench(rt, Way::Fields, &bytes, rounds)
 }
 
 fn main(rt: HostRuntime) -> ExitCode {
