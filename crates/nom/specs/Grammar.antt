@@ -1,6 +1,6 @@
 -- Grammars, for the contracts of functions that parse. A grammar is what a parser means, and which outputs its trees stand for. Each word
 -- mirrors the call of its name; those of leaves stand in `Leaves`, and all of them, at one input type, in `Bytes` and `Texts`.
-use Rattle.std.specs.Prelude.{ℕ, Bool, ◌⊎◌, List, Option, Result, Vec, ◌≡◌}
+use Rattle.std.specs.Prelude.{◌≡◌, Bool, ◌⊎◌, List, Option, Result, Vec}
 use Rattle.std.specs.List.{AllZip}
 use Rattle.nom_error.specs.declared.answer.Needed.{Needed}
 use Rattle.nom_error.specs.declared.answer.Err as Answer

@@ -1,5 +1,5 @@
 -- The leaves of grammars over inputs whose items are bytes or characters, as code points.
-use Rattle.std.specs.Prelude.{◌≡◌, ℕ, Bool, not, false, true, ◌↔◌, IsTrue, List, Option, Some, length, Contains}
+use Rattle.std.specs.Prelude.{ℕ, not, ◌↔◌, IsTrue, List, Option, Some, length, Contains}
 use Rattle.nom_error.specs.declared.kind.ErrorKind.TheVariants as Kind
 use Rattle.nom_error.specs.Errors.{Errors}
 use Rattle.nom_traits.specs.declared.character.AsciiClass.TheVariants as Class
