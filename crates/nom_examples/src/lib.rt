@@ -3,6 +3,7 @@
 
 mod brackets;
 mod configuration;
+pub mod functions;
 mod grammars;
 mod hex;
 mod key_value;

@@ -2,4 +2,6 @@
 #![tactic(auto)]
 
 #[cfg(test)]
+mod functions;
+#[cfg(test)]
 mod tests;

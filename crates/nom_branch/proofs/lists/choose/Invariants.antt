@@ -3,7 +3,7 @@ use Rattle.nom_error.specs.Modes.{modes}
 use Rattle.nom_branch.proofs.Listed.{ShowsBefore}
 use Rattle.nom_branch.proofs.lists.choose.Given as goal
 
--- the states are as at the start, and the branches before k answered
+-- The states are as at the start, and the branches before k answered
 abbrev pub invariant-loop-k : goal.invariant-loop-k
 invariant-loop-k g l = record {
   kept : map g.A.Parser.state l.branches ≡ map g.A.Parser.state l.fn.branches;

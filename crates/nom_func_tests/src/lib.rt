@@ -1,6 +1,0 @@
-//! Tests of functions as parsers.
-#![tactic(auto)]
-
-pub mod growing;
-#[cfg(test)]
-mod tests;
