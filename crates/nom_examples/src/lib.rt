@@ -4,7 +4,6 @@
 mod brackets;
 mod configuration;
 pub mod functions;
-mod grammars;
 mod hex;
 mod key_value;
 mod letters;
@@ -14,7 +13,6 @@ mod tokens;
 
 pub use crate::brackets::{brackets_line, nested_brackets};
 pub use crate::configuration::{Line, settings};
-pub use crate::grammars::{bracketed, digits_or_any, records, signs};
 pub use crate::hex::{Color, hex_color};
 pub use crate::key_value::setting;
 pub use crate::letters::{Letter, one_letter};

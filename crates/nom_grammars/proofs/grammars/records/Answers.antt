@@ -1,4 +1,4 @@
-use Rattle.nom_examples.proofs.grammars.records.Goals as goal
+use Rattle.nom_grammars.proofs.grammars.records.Goals as goal
 
 pub returns : goal.returns
 returns c =

@@ -1,0 +1,4 @@
+//! Grammars as contracts, by the words of `nom`'s own specs.
+#![tactic(auto)]
+
+pub mod grammars;
