@@ -2,7 +2,7 @@
 
 use nom_error::answer::{Err, Needed, PResult};
 use nom_error::kind::ErrorKind;
-use nom_error::mode::{Check, Emit, OutputM, Streaming};
+use nom_error::mode::{Check, Emit, IsStreaming, OutputM};
 use nom_internal::parser::Parser;
 use nom_trail::trail::Trail;
 use std::alloc::Allocator;
@@ -21,8 +21,18 @@ pub enum Told {
 }
 
 impl Told {
+    /// The same in the four modes of what is built.
+    pub fn in_modes(self) -> [Told; 4] {
+        [
+            self,
+            self.with_less(true, false),
+            self.with_less(false, true),
+            self.with_less(false, false),
+        ]
+    }
+
     /// The same, with less built.
-    pub fn with_less(self, outputs: bool, errors: bool) -> Told {
+    fn with_less(self, outputs: bool, errors: bool) -> Told {
         match self {
             Told::Accepts(_) if !outputs => Told::Accepts(None),
             Told::Refuses(_) if !errors => Told::Refuses(None),
@@ -80,16 +90,18 @@ fn told_of<O: Counted>(answer: PResult<&[u8], O, Trail>) -> Told {
 }
 
 /// What a list answers in the four modes of what is built: all, outputs, errors, nothing.
-pub fn in_modes<'a, O: Counted, P: Parser<&'a [u8], Output = O, Error = Trail> + Drop>(
-    mut list: P,
-    input: &'a [u8],
-) -> [Told; 4]
+pub fn in_modes<
+    'a,
+    S: IsStreaming,
+    O: Counted,
+    P: Parser<&'a [u8], Output = O, Error = Trail> + Drop,
+>(mut list: P, input: &'a [u8]) -> [Told; 4]
     requires { (P.meaning (P.state list)).IsSound }
 {
     [
-        told_of(list.process::<OutputM<Emit, Emit, Streaming>>(input)),
-        told_of(list.process::<OutputM<Emit, Check, Streaming>>(input)),
-        told_of(list.process::<OutputM<Check, Emit, Streaming>>(input)),
-        told_of(list.process::<OutputM<Check, Check, Streaming>>(input)),
+        told_of(list.process::<OutputM<Emit, Emit, S>>(input)),
+        told_of(list.process::<OutputM<Emit, Check, S>>(input)),
+        told_of(list.process::<OutputM<Check, Emit, S>>(input)),
+        told_of(list.process::<OutputM<Check, Check, S>>(input)),
     ]
 }
