@@ -10,14 +10,18 @@ use nom_error::mode::{Complete, IsStreaming, Streaming};
 use nom_folds::{fold, fold_many_m_n, fold_many0, fold_many1, many};
 use nom_internal::parser::Parser;
 use nom_lengths::length_count;
-use nom_multi::{count, many_m_n, many_till, many1, separated_list0, separated_list1};
+use nom_multi::{count, many_m_n, many_till, many0, many1, separated_list0, separated_list1};
 use nom_number::be_u8;
+use nom_search::bytes::AsBytes;
 use nom_trail::trail::Trail;
+use nom_traits::input::Input;
+use nom_traits::view::Viewed;
 use std::alloc::{AllocError, Global};
 
 /// A list, of 20 items or up to 20 where no bounds are said.
 #[derive(Clone, Copy)]
 enum Shape {
+    Many0,
     Many1,
     Count,
     ManyMN(usize, usize),
@@ -32,7 +36,8 @@ enum Shape {
     ManyTill,
 }
 
-/// What a list of an item, which takes its memory from a heap, answers in the four modes of what is built.
+/// What a list of an item, which takes its memory from a heap, answers in the four modes of what is built. A shape
+/// of another kind is a fold.
 fn of_shape<'a, 'h, S, P>(heap: &'h LocalHeap, shape: Shape, item: P, input: &'a [u8]) -> [Told; 4]
 where
     S: IsStreaming,
@@ -40,13 +45,10 @@ where
     requires { (P.meaning (P.state item)).IsSound }
 {
     match shape {
+        Shape::Many0 => in_modes::<S, _, _>(many0(heap, item), input),
         Shape::Many1 => in_modes::<S, _, _>(many1(heap, item), input),
         Shape::Count => in_modes::<S, _, _>(count(heap, item, 20), input),
         Shape::ManyMN(min, max) => { in_modes::<S, _, _>(many_m_n(heap, min, max, item), input) }
-        Shape::Many => in_modes::<S, _, _>(
-            many::<_, _, _, Vec<&'a [u8], &'h LocalHeap>>(heap, 1..=20, item),
-            input,
-        ),
         Shape::SeparatedList0 => {
             in_modes::<S, _, _>(separated_list0(heap, char(','), item), input)
         }
@@ -55,19 +57,20 @@ where
         }
         Shape::LengthCount => { in_modes::<S, _, _>(length_count(heap, be_u8(), item), input) }
         Shape::ManyTill => { in_modes::<S, _, _>(many_till(heap, item, tag(&b"b"[..])), input) }
-        fold => folded::<S, _>(fold, item, input),
+        fold => folded::<S, _, _>(fold, item, input),
     }
 }
 
 /// The same of a fold, which counts the items.
-fn folded<'a, S, P>(shape: Shape, item: P, input: &'a [u8]) -> [Told; 4]
+fn folded<S, I, P>(shape: Shape, item: P, input: I) -> [Told; 4]
 where
     S: IsStreaming,
-    P: Parser<&'a [u8], Output = &'a [u8], Error = Trail> + Drop,
+    I: Input + AsBytes,
+    P: Parser<I, Output: Viewed, Error = Trail> + Drop,
     requires { (P.meaning (P.state item)).IsSound }
 {
     let init = || 0usize;
-    let inc = |n: usize, _item: &[u8]| n.wrapping_add(1);
+    let inc = |n: usize, _item: P::Output| n.wrapping_add(1);
     match shape {
         Shape::FoldMany0 => in_modes::<S, _, _>(fold_many0(item, init, inc), input),
         Shape::FoldMany1 => in_modes::<S, _, _>(fold_many1(item, init, inc), input),
@@ -76,14 +79,25 @@ where
     }
 }
 
-/// What a list of a tag answers, where more may come.
-fn streamed(heap: &LocalHeap, shape: Shape, text: &[u8], input: &[u8]) -> [Told; 4] {
-    of_shape::<Streaming, _>(heap, shape, tag(text), input)
+/// What a list of a tag answers. The size of a `many` has to be known.
+fn of_tag<S: IsStreaming>(heap: &LocalHeap, shape: Shape, text: &[u8], input: &[u8]) -> [Told; 4] {
+    match shape {
+        Shape::Many => in_modes::<S, _, _>(
+            many::<_, _, _, Vec<&[u8], &LocalHeap>>(heap, 1..=20, tag(text)),
+            input,
+        ),
+        _ => of_shape::<S, _>(heap, shape, tag(text), input),
+    }
 }
 
-/// What a list of a tag answers, where no more may come.
+/// The same, where more may come.
+fn streamed(heap: &LocalHeap, shape: Shape, text: &[u8], input: &[u8]) -> [Told; 4] {
+    of_tag::<Streaming>(heap, shape, text, input)
+}
+
+/// The same, where no more may come.
 fn completed(heap: &LocalHeap, shape: Shape, text: &[u8], input: &[u8]) -> [Told; 4] {
-    of_shape::<Complete, _>(heap, shape, tag(text), input)
+    of_tag::<Complete>(heap, shape, text, input)
 }
 
 /// A refusal of an item, with the kind that a list adds to it.
@@ -104,6 +118,7 @@ fn lists_in_all_modes(rt: HostRuntime) -> Result<(), AllocError> {
     let a = &b"a"[..];
     let nothing = &b""[..];
     for (shape, text, input, told) in [
+        (Shape::Many0, a, &b"aa;"[..], of_two),
         (Shape::Many1, a, &b"aa;"[..], of_two),
         (Shape::ManyMN(1, 2), a, &b"aa;"[..], of_two),
         (Shape::Many, a, &b"aa;"[..], of_two),
@@ -115,6 +130,7 @@ fn lists_in_all_modes(rt: HostRuntime) -> Result<(), AllocError> {
         (Shape::SeparatedList1, a, &b"a,a;"[..], of_two),
         (Shape::LengthCount, a, &b"\x02aa;"[..], of_two),
         (Shape::ManyTill, a, &b"aab;"[..], of_two),
+        (Shape::Many0, a, &b";"[..], of_none),
         (Shape::FoldMany0, a, &b";"[..], of_none),
         (Shape::SeparatedList0, a, &b";"[..], of_none),
         (Shape::LengthCount, a, &b"\x00;"[..], of_none),
@@ -140,6 +156,7 @@ fn lists_in_all_modes(rt: HostRuntime) -> Result<(), AllocError> {
             &b";"[..],
             only(ErrorKind::ManyMN),
         ),
+        (Shape::Many0, nothing, &b";"[..], only(ErrorKind::Many0)),
         (Shape::Many, nothing, &b";"[..], only(ErrorKind::Many)),
         (Shape::ManyTill, nothing, &b";"[..], only(ErrorKind::Many0)),
         (
@@ -159,8 +176,16 @@ fn lists_in_all_modes(rt: HostRuntime) -> Result<(), AllocError> {
             "at {input:?}"
         );
     }
-    let told = streamed(&heap, Shape::SeparatedList0, &b"abc"[..], &b"abc,"[..]);
-    assert!(rt; told == [Told::Needs(Needed::new(3)); 4]);
+    for (shape, text, input, more) in [
+        (Shape::Many0, a, &b"aa"[..], 1),
+        (Shape::SeparatedList0, &b"abc"[..], &b"abc,"[..], 3),
+    ] {
+        let wanted = [Told::Needs(Needed::new(more)); 4];
+        assert!(rt;
+            streamed(&heap, shape, text, input) == wanted,
+            "at {input:?}"
+        );
+    }
     Ok(())
 }
 
@@ -186,6 +211,7 @@ fn each_growth_refused(rt: HostRuntime) -> Result<(), AllocError> {
     let items = &b"aaaaaaaaaaaaaaaaaaaa;"[..];
     let commas = &b"a,a,a,a,a,a,a,a,a,a,a,a,a,a,a,a,a,a,a,a;"[..];
     for (shape, input) in [
+        (Shape::Many0, items),
         (Shape::Many1, items),
         (Shape::Count, items),
         (Shape::ManyMN(1, 20), items),
@@ -197,6 +223,21 @@ fn each_growth_refused(rt: HostRuntime) -> Result<(), AllocError> {
     ] {
         let refused = times_refused(rt.alloc(), shape, input)?;
         assert!(rt; refused > Some(2), "at {input:?}");
+    }
+    Ok(())
+}
+
+// It takes none of what a heap has, be that too little for a list of an item.
+#[test]
+fn a_list_of_no_items_takes_no_memory(rt: HostRuntime) -> Result<(), AllocError> {
+    let heap = LocalHeap::new(rt.alloc(), 16)?;
+    for (input, told) in [
+        (&b";"[..], Told::Accepts(Some(0))),
+        (&b"a;"[..], Told::OutOfMemory),
+        (&b";"[..], Told::Accepts(Some(0))),
+    ] {
+        let found = streamed(&heap, Shape::Many0, &b"a"[..], input)[0];
+        assert!(rt; found == told, "at {input:?}");
     }
     Ok(())
 }

@@ -4,7 +4,9 @@ use nom_error::answer::{Err, Needed, PResult};
 use nom_error::kind::ErrorKind;
 use nom_error::mode::{Check, Emit, IsStreaming, OutputM};
 use nom_internal::parser::Parser;
+use nom_search::bytes::AsBytes;
 use nom_trail::trail::Trail;
+use nom_traits::input::Items;
 use std::alloc::Allocator;
 
 /// What of an answer is told.
@@ -76,9 +78,9 @@ fn kinds(trail: &Trail) -> (ErrorKind, Option<ErrorKind>) {
     (trail.kinds[0], added)
 }
 
-fn told_of<O: Counted>(answer: PResult<&[u8], O, Trail>) -> Told {
+fn told_of<I: AsBytes + Drop, O: Counted>(answer: PResult<I, O, Trail>) -> Told {
     match answer {
-        Ok((rest, items)) if rest == b";".as_slice() => {
+        Ok((rest, items)) if rest.as_bytes() == b";".as_slice() => {
             Told::Accepts(items.as_ref().map(|items| items.count()))
         }
         Err(Err::Error(trail)) => Told::Refuses(trail.as_ref().map(kinds)),
@@ -90,12 +92,11 @@ fn told_of<O: Counted>(answer: PResult<&[u8], O, Trail>) -> Told {
 }
 
 /// What a list answers in the four modes of what is built: all, outputs, errors, nothing.
-pub fn in_modes<
-    'a,
+pub fn in_modes<S, I, P>(mut list: P, input: I) -> [Told; 4]
+where
     S: IsStreaming,
-    O: Counted,
-    P: Parser<&'a [u8], Output = O, Error = Trail> + Drop,
->(mut list: P, input: &'a [u8]) -> [Told; 4]
+    I: Items + AsBytes,
+    P: Parser<I, Output: Counted, Error = Trail> + Drop,
     requires { (P.meaning (P.state list)).IsSound }
 {
     [
