@@ -1,4 +1,5 @@
-//! Tests of answers and error values, of inputs, and of what is searched for and built.
+//! Tests of what parsers stand on: answers and error values, inputs, what is searched for and built, ranges of
+//! counts, collections, and hex dumps.
 #![tactic(auto)]
 
 #[cfg(test)]

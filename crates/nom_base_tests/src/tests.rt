@@ -1,5 +1,9 @@
-//! What no clause says: printed texts, derives, and each public call once.
+//! What no clause says: printed texts, derives, want of memory, and each public call once.
 
+mod collections;
 mod errors;
+mod hex;
 mod inputs;
+mod ranges;
 mod searches;
+mod walks;

@@ -1,5 +1,4 @@
-//! Tests of parsers that are put together: inputs that grow, choices, lists, want of memory, and input and
-//! error types of a user's own.
+//! Tests of inputs that grow, of want of memory, and of inputs, errors and parsers of a user's own.
 #![tactic(auto)]
 
 #[cfg(test)]

@@ -1,8 +1,7 @@
-//! Parsers put together: lists over bytes, parsers over input and error types of a user's own, on inputs
-//! that grow, and where memory runs out.
+//! Parsers on inputs that grow, parsers over input and error types of a user's own, a parser of a user's own, and
+//! a text for which memory runs out.
 
 mod growing;
 mod lists;
 mod memory;
 mod own;
-mod parts;

@@ -1,6 +1,9 @@
 //! What no replay of answers can tell of lists: what they answer with less built, the kinds that they add to the
-//! error of an item, want of memory, and buffers where nothing is built.
+//! error of an item, want of memory, buffers where nothing is built, collections, the order of a fold, and errors
+//! at a part of the input.
 
 mod buffers;
+mod folds;
+mod lengths;
 mod shapes;
 mod told;

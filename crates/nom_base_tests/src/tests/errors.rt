@@ -1,4 +1,6 @@
 //! What no clause says: printed texts, derives, the members of a mode, and each call once.
+ghost use Rattle.nom_error.specs.Answers.{WantsMore};
+
 use nom_error::answer::{Err, IResult, Needed, OutOfMemory, PResult};
 use nom_error::finish::{Finish, FinishError};
 use nom_error::kind::{ErrorKind, error_to_u32};
@@ -7,55 +9,51 @@ use nom_error::laws::{
 };
 use nom_error::mode::{Check, Complete, Emit, IsStreaming, Mode, OutputM, OutputMode, Streaming};
 use nom_error::value::{Error, ParseError, refusal};
-use std::alloc::AllocError;
+use std::alloc::{AllocError, Global};
 use std::fmt;
+use std::fmt::Display;
 use std::hash::{DefaultHasher, Hash, Hasher};
 use std::test::Fail;
 
-#[test]
-fn texts_of_answers(rt: HostRuntime) -> Result<(), Fail> {
-    let error = Error::new("rest", ErrorKind::Tag);
-    let answers = [
-        (
-            Err::Incomplete(Needed::new(3)),
-            "Parsing requires 3 bytes/chars",
-        ),
-        (
-            Err::Incomplete(Needed::new(0)),
-            "Parsing requires more data",
-        ),
-        (
-            Err::Error(error),
-            "Parsing Error: Error { input: \"rest\", code: Tag }",
-        ),
-        (
-            Err::Failure(error),
-            "Parsing Failure: Error { input: \"rest\", code: Tag }",
-        ),
-        (Err::OutOfMemory, "Parsing ran out of memory"),
-    ];
-    for (answer, text) in answers {
-        let shown = format!(in rt.alloc(); "{answer}")?;
-        assert_eq!(rt; shown.as_str(), text);
+/// Whether a value is shown as a text.
+fn is_shown<T: Display + Drop>(alloc: Global, value: T, text: &str) -> bool {
+    match format!(in alloc; "{value}") {
+        Ok(shown) => shown.as_str() == text,
+        Err(_) => false,
     }
-    Ok(())
+}
+
+/// Whether an answer is shown as a text.
+fn is_answer(alloc: Global, answer: Err<Error<&str>>, text: &str) -> bool {
+    is_shown(alloc, answer, text)
 }
 
 #[test]
-fn text_of_an_error(rt: HostRuntime) -> Result<(), Fail> {
+fn texts_of_answers(rt: HostRuntime) {
+    let alloc = rt.alloc();
+    let error = Error::new("rest", ErrorKind::Tag);
+    let refused = "Parsing Error: Error { input: \"rest\", code: Tag }";
+    let failed = "Parsing Failure: Error { input: \"rest\", code: Tag }";
+    let known = "Parsing requires 3 bytes/chars";
+    let unknown = "Parsing requires more data";
+    assert!(rt; is_answer(alloc, Err::Incomplete(Needed::new(3)), known));
+    assert!(rt; is_answer(alloc, Err::Incomplete(Needed::new(0)), unknown));
+    assert!(rt; is_answer(alloc, Err::Error(error), refused));
+    assert!(rt; is_answer(alloc, Err::Failure(error), failed));
+    assert!(rt; is_answer(alloc, Err::OutOfMemory, "Parsing ran out of memory"));
+}
+
+#[test]
+fn text_of_an_error(rt: HostRuntime) {
     let error = Error::new("rest", ErrorKind::ManyMN);
-    let shown = format!(in rt.alloc(); "{error}")?;
-    assert_eq!(rt; shown.as_str(), "error ManyMN at: rest");
-    Ok(())
+    assert!(rt; is_shown(rt.alloc(), error, "error ManyMN at: rest"));
 }
 
 #[test]
 fn texts_for_debugging(rt: HostRuntime) -> Result<(), Fail> {
     let answer: Err<Error<&str>> = Err::Incomplete(Needed::new(2));
-    let shown = format!(in rt.alloc(); "{answer:?}")?;
-    assert!(rt; !shown.is_empty());
     let fault: FinishError<ErrorKind> = FinishError::Parse(ErrorKind::Alt);
-    let shown = format!(in rt.alloc(); "{fault:?} {:?}", OutOfMemory)?;
+    let shown = format!(in rt.alloc(); "{answer:?} {fault:?} {OutOfMemory:?}")?;
     assert!(rt; !shown.is_empty());
     Ok(())
 }
@@ -94,9 +92,13 @@ fn grown(number: Result<u8, AllocError>, text: fmt::Result) -> Result<u8, OutOfM
 
 #[test]
 fn want_of_memory_passed_on(rt: HostRuntime) {
-    assert_eq!(rt; grown(Ok(7), Ok(())), Ok(7));
-    assert_eq!(rt; grown(Err(AllocError), Ok(())), Err(OutOfMemory));
-    assert_eq!(rt; grown(Ok(7), Err(fmt::Error)), Err(OutOfMemory));
+    for (number, text, wanted) in [
+        (Ok(7), Ok(()), Ok(7)),
+        (Err(AllocError), Ok(()), Err(OutOfMemory)),
+        (Ok(7), Err(fmt::Error), Err(OutOfMemory)),
+    ] {
+        assert!(rt; grown(number, text) == wanted);
+    }
 }
 
 fn hash_of(kind: ErrorKind) -> u64 {
@@ -105,63 +107,86 @@ fn hash_of(kind: ErrorKind) -> u64 {
     state.finish()
 }
 
+/// A kind's number and text, and whether its clone feeds a hasher alike.
+fn told_of(kind: ErrorKind) -> Result<(u32, &'static str, bool), AllocError> {
+    let hash = hash_of(kind.clone()?);
+    Ok((
+        error_to_u32(&kind),
+        kind.description(),
+        hash == hash_of(kind),
+    ))
+}
+
 #[test]
-fn kinds(rt: HostRuntime) -> Result<(), Fail> {
-    let kinds = [
+fn kinds(rt: HostRuntime) {
+    for (kind, number, text) in [
         (ErrorKind::Tag, 1, "Tag"),
         (ErrorKind::Many0, 62, "Many0"),
         (ErrorKind::Many1, 9, "Many1"),
         (ErrorKind::ManyMN, 57, "Many(m, n)"),
         (ErrorKind::BinDigit, 78, "Binary digit"),
         (ErrorKind::Precedence, 79, "Precedence"),
-    ];
-    for (kind, number, text) in kinds {
-        assert_eq!(rt; error_to_u32(&kind), number);
-        assert_eq!(rt; kind.description(), text);
-        assert_eq!(rt; hash_of(kind), hash_of(kind.clone()?));
+    ] {
+        assert!(rt; told_of(kind) == Ok((number, text, true)), "{text}");
     }
     assert!(rt; hash_of(ErrorKind::Tag) != hash_of(ErrorKind::Char));
-    Ok(())
+}
+
+/// Sizes of bits as sizes of bytes.
+fn in_bytes(needed: Needed) -> Needed {
+    needed.map(|bits| bits.get() / 8)
 }
 
 #[test]
 fn sizes(rt: HostRuntime) {
     assert!(rt; Needed::new(1).is_known());
     assert!(rt; !Needed::new(0).is_known());
-    assert_eq!(rt;
-        Needed::new(16).map(|bits| bits.get() / 8 + 1),
-        Needed::new(3)
-    );
-    assert_eq!(rt; Needed::new(16).map(|_| 0), Needed::Unknown);
-    assert_eq!(rt; Needed::Unknown.map(|_| 5), Needed::Unknown);
+    for (bits, bytes) in [
+        (Needed::new(24), Needed::new(3)),
+        (Needed::new(7), Needed::Unknown),
+        (Needed::Unknown, Needed::Unknown),
+    ] {
+        assert!(rt; in_bytes(bits) == bytes);
+    }
+}
+
+/// Whether more is needed, and the answer with the number of its kind.
+fn numbered(answer: Err<ErrorKind>) -> (bool, Err<u32>) {
+    let is_incomplete = answer.is_incomplete();
+    (is_incomplete, answer.map(|kind| error_to_u32(&kind)))
 }
 
 #[test]
 fn mapped_answers(rt: HostRuntime) {
-    let refused: Err<ErrorKind> = Err::Error(ErrorKind::Digit);
-    assert!(rt; !refused.is_incomplete());
-    assert_eq!(rt; refused.map(|kind| error_to_u32(&kind)), Err::Error(18));
-    let failed: Err<ErrorKind> = Err::Failure(ErrorKind::Digit);
-    assert_eq!(rt; failed.map(|kind| error_to_u32(&kind)), Err::Failure(18));
-    let unsure: Err<ErrorKind> = Err::Incomplete(Needed::new(4));
-    assert!(rt; unsure.is_incomplete());
-    assert_eq!(rt;
-        unsure.map(|kind| error_to_u32(&kind)),
-        Err::Incomplete(Needed::new(4))
-    );
+    for (answer, wanted) in [
+        (Err::Error(ErrorKind::Digit), (false, Err::Error(18))),
+        (Err::Failure(ErrorKind::Digit), (false, Err::Failure(18))),
+        (
+            Err::Incomplete(Needed::new(4)),
+            (true, Err::Incomplete(Needed::new(4))),
+        ),
+    ] {
+        assert!(rt; numbered(answer) == wanted);
+    }
+}
+
+/// Whether a finished answer is so.
+fn is_finished(
+    answer: IResult<&str, u8>,
+    wanted: Result<(&str, u8), FinishError<Error<&str>>>,
+) -> bool
+    requires { WantsMore answer → ⊥ }
+{
+    answer.finish() == wanted
 }
 
 #[test]
 fn finished_answers(rt: HostRuntime) {
     let error = Error::new("rest", ErrorKind::Tag);
-    let accepted: IResult<&str, u8> = Ok(("rest", 7));
-    assert_eq!(rt; accepted.finish(), Ok(("rest", 7)));
-    let refused: IResult<&str, u8> = Err(Err::Error(error));
-    assert_eq!(rt; refused.finish(), Err(FinishError::Parse(error)));
-    let failed: IResult<&str, u8> = Err(Err::Failure(error));
-    assert_eq!(rt; failed.finish(), Err(FinishError::Parse(error)));
-    let starved: IResult<&str, u8> = Err(Err::OutOfMemory);
-    assert_eq!(rt; starved.finish(), Err(FinishError::OutOfMemory));
+    assert!(rt; is_finished(Ok(("rest", 7)), Ok(("rest", 7))));
+    assert!(rt; is_finished(Err(Err::Error(error)), Err(FinishError::Parse(error))));
+    assert!(rt; is_finished(Err(Err::Failure(error)), Err(FinishError::Parse(error))));
+    assert!(rt; is_finished(Err(Err::OutOfMemory), Err(FinishError::OutOfMemory)));
 }
 
 /// The error of two branches that were tried at `below`, closed at `start`.

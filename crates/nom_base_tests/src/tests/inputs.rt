@@ -3,155 +3,119 @@ ghost use Rattle.std.specs.Prelude.{◌≡◌};
 ghost use Rattle.nom_traits.specs.Classes.{IsInside, IsOutside};
 ghost use Rattle.nom_traits.specs.Runs.{IsPosition};
 
-use nom_error::answer::{Err, IResult, Needed};
+use nom_error::answer::{Err, Needed, PResult};
 use nom_error::kind::ErrorKind;
-use nom_error::mode::{Check, Complete, Emit, OutputM, Streaming};
+use nom_error::mode::{Check, Complete, Emit, OutputM, OutputMode, Streaming};
 use nom_error::value::Error;
 use nom_traits::bits::{bits_grow_by_bytes, bits_pass, bits_tell_marks};
 use nom_traits::character::{AsChar, AsciiClass};
 use nom_traits::compare::{Compare, CompareResult};
 use nom_traits::convert::ToUsize;
 use nom_traits::input::{Input, Items};
-use nom_traits::offset::Offset;
 
 // Characters of 1, 2, 3, 4, 3, 2 and 1 bytes.
 const MIXED: &str = "a¡€💢€¡a";
 
-#[test]
-fn places_of_a_text(rt: HostRuntime) {
-    let text = MIXED;
-    assert!(rt; text.input_len() == 16);
-    assert!(rt; text.slice_index(0) == Ok(0));
-    assert!(rt; text.slice_index(4) == Ok(10));
-    assert!(rt; text.slice_index(7) == Ok(16));
-    assert!(rt; text.slice_index(8) == Err(Needed::Unknown));
-    assert!(rt; "".slice_index(0) == Ok(0));
+/// The rest and the front of an input, of which the front has so many items.
+fn parts_of<I: Input>(input: I, count: usize) -> Result<(I, I), Needed> {
+    let place = input.slice_index(count)?;
+    Ok(input.take_split(place))
 }
 
 #[test]
-fn cuts_of_a_text(rt: HostRuntime) {
-    let text = MIXED;
-    match text.slice_index(4) {
-        Ok(place) => {
-            let (rest, front) = text.take_split(place);
-            assert!(rt; front == "a¡€💢");
-            assert!(rt; rest == "€¡a");
-            assert!(rt; text.offset(&rest) == 10);
-        }
-        Err(_) => panic!(rt; "no place"),
+fn parts_of_a_text(rt: HostRuntime) {
+    for (count, wanted) in [
+        (0, Ok((MIXED, ""))),
+        (4, Ok(("€¡a", "a¡€💢"))),
+        (7, Ok(("", MIXED))),
+        (8, Err(Needed::Unknown)),
+    ] {
+        assert!(rt; parts_of(MIXED, count) == wanted, "{count}");
     }
-    assert!(rt; text.iter_elements().count() == 7);
+}
+
+/// What a comparison with a tag finds.
+fn compared<I: Compare<T>, T>(input: I, tag: T) -> CompareResult {
+    input.compare(tag)
+}
+
+/// The same, where the case of letters doesn't matter.
+fn compared_no_case<I: Compare<T>, T>(input: I, tag: T) -> CompareResult {
+    input.compare_no_case(tag)
 }
 
 #[test]
 fn tags_of_bytes(rt: HostRuntime) {
     let input = b"abcde".as_slice();
-    assert!(rt; input.compare(*b"abcde") == CompareResult::Ok);
-    assert!(rt; input.compare(b"abcdef") == CompareResult::Incomplete);
-    for (input, tag, wanted) in [
-        (input, "abc", CompareResult::Ok),
-        (input, "abd", CompareResult::Error),
-        (input, "ABC", CompareResult::Error),
-        (input, "", CompareResult::Ok),
-        (b"".as_slice(), "a", CompareResult::Incomplete),
+    for (tag, wanted) in [
+        ("abc", CompareResult::Ok),
+        ("abd", CompareResult::Error),
+        ("ABC", CompareResult::Error),
+        ("", CompareResult::Ok),
+        ("abcdef", CompareResult::Incomplete),
     ] {
-        assert!(rt; input.compare(tag) == wanted, "at {tag}");
+        assert!(rt; compared(input, tag) == wanted, "at {tag}");
     }
+    assert!(rt; compared(input, *b"abcde") == CompareResult::Ok);
+    assert!(rt; compared(input, b"abcdef") == CompareResult::Incomplete);
+    assert!(rt; compared(b"".as_slice(), "a") == CompareResult::Incomplete);
 }
 
 // '@' and '`', '[' and '{', stand beside the letters and are no letters.
 #[test]
 fn tags_without_case(rt: HostRuntime) {
     let input = b"AzaZ@[".as_slice();
-    assert!(rt; input.compare_no_case("aZAz@[") == CompareResult::Ok);
-    assert!(rt; input.compare_no_case(*b"AZAZ`[") == CompareResult::Error);
-    assert!(rt; input.compare_no_case(b"azaz@{") == CompareResult::Error);
-    assert!(rt; input.compare_no_case("azaz@[a") == CompareResult::Incomplete);
-    assert!(rt; "É".compare_no_case("é") == CompareResult::Error);
-    assert!(rt; "aÉ".compare_no_case("AÉ") == CompareResult::Ok);
+    assert!(rt; compared_no_case(input, "aZAz@[") == CompareResult::Ok);
+    assert!(rt; compared_no_case(input, *b"AZAZ`[") == CompareResult::Error);
+    assert!(rt; compared_no_case(input, b"azaz@{") == CompareResult::Error);
+    assert!(rt; compared_no_case(input, "azaz@[a") == CompareResult::Incomplete);
 }
 
 #[test]
-fn tags_of_texts(rt: HostRuntime) {
-    assert!(rt; "éa".compare("é") == CompareResult::Ok);
-    assert!(rt; "é".compare("éa") == CompareResult::Incomplete);
+fn tags_of_texts_by_bytes(rt: HostRuntime) {
     for (input, tag, wanted) in [
         ("é", [0xC3].as_slice(), CompareResult::Error),
         ("é", [0xC3, 0xA9].as_slice(), CompareResult::Ok),
         ("é", [0xC3, 0xA8].as_slice(), CompareResult::Error),
         ("", [0xC3].as_slice(), CompareResult::Incomplete),
     ] {
-        assert!(rt; input.compare(tag) == wanted, "at {input}");
+        assert!(rt; compared(input, tag) == wanted, "at {input}");
     }
+}
+
+/// The place of a byte.
+fn place_of(bytes: &[u8], wanted: u8) -> Option<usize> {
+    bytes.position(|b| b == wanted)
 }
 
 #[test]
 fn positions(rt: HostRuntime) {
-    let text = MIXED;
-    assert!(rt; text.position(|c| c == '€') == Some(3));
-    assert!(rt; text.position(|c| c == 'b') == None);
     let bytes = b"ab,cd,".as_slice();
-    assert!(rt; bytes.position(|b| b == b',') == Some(2));
-    assert!(rt; bytes.position(|b| b == b'a') == Some(0));
-    assert!(rt; b"".as_slice().position(|_| true) == None);
-    match text.iter_indices().last() {
-        Some((place, c)) => {
-            assert!(rt; place == 15);
-            assert!(rt; c == 'a');
-        }
-        None => panic!(rt; "no characters"),
-    }
+    assert!(rt; place_of(bytes, b',') == Some(2));
+    assert!(rt; place_of(bytes, b'a') == Some(0));
+    assert!(rt; place_of(b"".as_slice(), b'a') == None);
+    assert!(rt; MIXED.iter_indices().last() == Some((15, 'a')));
 }
 
-/// The rest and the front, where a split was accepted.
-fn split_of<'a>(answer: IResult<&'a str, &'a str>) -> Option<(&'a str, &'a str)> {
-    answer.ok()
+/// A split before a byte, in a mode.
+fn split<OM: OutputMode>(bytes: &[u8], stop: u8) -> PResult<&[u8], &[u8], Error<&[u8]>> {
+    bytes.split_at_position_mode::<OM, _, _>(|b| b == stop)
 }
 
-#[test]
-fn splits(rt: HostRuntime) {
-    let text = "aé,b";
-    assert!(rt; split_of(text.split_at_position(|c| c == ',')) == Some((",b", "aé")));
-    assert!(rt; split_of(text.split_at_position_complete(|c| c == ';')) == Some(("", text)));
-    assert!(rt;
-        split_of(text.split_at_position1(|c| c == 'é', ErrorKind::Alpha)) == Some(("é,b", "a"))
-    );
-    match text.split_at_position::<_, Error<&str>>(|c| c == ';') {
-        Err(Err::Incomplete(needed)) => assert!(rt; needed == Needed::new(1)),
-        _ => panic!(rt; "not incomplete"),
-    }
-    match text.split_at_position1::<_, Error<&str>>(|c| c == 'a', ErrorKind::Alpha) {
-        Err(Err::Error(error)) => {
-            assert!(rt; error.input == text);
-            assert!(rt; error.code == ErrorKind::Alpha);
-        }
-        _ => panic!(rt; "no refusal"),
-    }
-    match "".split_at_position1_complete::<_, Error<&str>>(|c| c == 'a', ErrorKind::Digit) {
-        Err(Err::Error(error)) => assert!(rt; error.code == ErrorKind::Digit),
-        _ => panic!(rt; "no refusal"),
-    }
+/// The same, of a byte at least.
+fn split1<OM: OutputMode>(bytes: &[u8], stop: u8) -> PResult<&[u8], &[u8], Error<&[u8]>> {
+    bytes.split_at_position_mode1::<OM, _, _>(|b| b == stop, ErrorKind::Digit)
 }
 
 #[test]
 fn splits_in_modes(rt: HostRuntime) {
     let bytes = b"12".as_slice();
-    match bytes.split_at_position_mode::<OutputM<Check, Check, Complete>, _, Error<&[u8]>>(|b| b
-        == b'2')
-    {
-        Ok((rest, output)) => {
-            assert!(rt; rest == b"2".as_slice());
-            assert!(rt; output == None);
-        }
-        _ => panic!(rt; "no split"),
-    }
-    match bytes.split_at_position_mode1::<OutputM<Emit, Check, Streaming>, _, Error<&[u8]>>(
-        |b| b == b'1',
-        ErrorKind::Digit,
-    ) {
-        Err(Err::Error(error)) => assert!(rt; error == None),
-        _ => panic!(rt; "no refusal"),
-    }
+    let found = split::<OutputM<Check, Check, Complete>>(bytes, b'2');
+    assert!(rt; found == Ok((b"2".as_slice(), None)));
+    let found = split1::<OutputM<Emit, Check, Streaming>>(bytes, b'1');
+    assert!(rt; found == Err(Err::Error(None)));
+    let found = split1::<OutputM<Check, Emit, Complete>>(b"".as_slice(), b'1');
+    assert!(rt; found == Err(Err::Error(Some(Error::new(b"".as_slice(), ErrorKind::Digit)))));
 }
 
 fn known_twice<J: Items>(input: J) -> (J, J) {

@@ -77,18 +77,21 @@ fn borders_of_classes(rt: HostRuntime) {
     assert!(rt; classes(0xE9u8) == NONE);
 }
 
+/// A character, and its length.
+fn character<C: AsChar + Copy>(item: C) -> (char, usize) {
+    (item.as_char(), AsChar::len(item))
+}
+
 #[test]
 fn characters_and_lengths(rt: HostRuntime) {
-    assert!(rt; 0xE9u8.as_char() == 'é');
-    assert!(rt; AsChar::as_char(&0x41u8) == 'A');
-    assert!(rt; '€'.as_char() == '€');
-    assert!(rt; AsChar::len(0xE9u8) == 1);
-    assert!(rt; AsChar::len(&0xE9u8) == 1);
-    assert!(rt; AsChar::len('é') == 2);
-    assert!(rt; AsChar::len(&'€') == 3);
+    assert!(rt; character(0xE9u8) == ('é', 1));
+    assert!(rt; character(&0x41u8) == ('A', 1));
+    assert!(rt; character('é') == ('é', 2));
+    assert!(rt; character(&'€') == ('€', 3));
 }
 
 /// The bytes below a bound.
+#[derive(Drop)]
 struct Below(u8);
 
 impl FindToken<u8> for Below {
@@ -99,44 +102,51 @@ impl FindToken<u8> for Below {
     }
 }
 
+/// Whether a token stands in a list.
+fn has<T, S: FindToken<T> + Drop>(list: S, token: T) -> bool {
+    list.find_token(token)
+}
+
 #[test]
-fn tokens(rt: HostRuntime) {
+fn bytes_in_lists(rt: HostRuntime) {
     let bytes = b"abc".as_slice();
-    assert!(rt; bytes.find_token(b'c'));
-    assert!(rt; bytes.find_token(&b'a'));
-    assert!(rt; !bytes.find_token(b'd'));
-    assert!(rt; !b"".as_slice().find_token(b'a'));
-    assert!(rt; b"abc".find_token(b'b'));
-    assert!(rt; !b"abc".find_token(&b'd'));
+    for (token, is_found) in [(b'c', true), (b'a', true), (b'd', false)] {
+        assert!(rt; has(bytes, token) == is_found);
+        assert!(rt; has(bytes, &token) == is_found);
+        assert!(rt; has(*b"abc", token) == is_found);
+        assert!(rt; has(*b"abc", &token) == is_found);
+    }
+    assert!(rt; !has(b"".as_slice(), b'a'));
     // A byte of a character stands in a text's bytes.
-    assert!(rt; "é".find_token(0xA9u8));
-    assert!(rt; !"é".find_token(&0xE9u8));
-    assert!(rt; "aé".find_token('é'));
-    assert!(rt; !"é".find_token('©'));
-    let list = ['a', 'é'].as_slice();
-    assert!(rt; list.find_token('é'));
-    assert!(rt; !list.find_token(&'b'));
-    assert!(rt; Below(b'c').find_token(b'b'));
-    assert!(rt; !Below(b'c').find_token(b'c'));
+    assert!(rt; has("é", 0xA9u8));
+    assert!(rt; !has("é", &0xE9u8));
+    assert!(rt; has(Below(b'c'), b'b'));
+    assert!(rt; !has(Below(b'c'), b'c'));
 }
 
 #[test]
-fn characters_in_bytes(rt: HostRuntime) {
-    let bytes = [0x61u8, 0xE9].as_slice();
-    assert!(rt; bytes.find_token('a'));
-    assert!(rt; bytes.find_token('é'));
+fn characters_in_lists(rt: HostRuntime) {
+    assert!(rt; has(['a', 'é'].as_slice(), 'é'));
+    assert!(rt; !has(['a', 'é'].as_slice(), &'b'));
     // U+0161 and U+01E9 end in the bytes 0x61 and 0xE9.
-    assert!(rt; !bytes.find_token('š'));
-    assert!(rt; !bytes.find_token('ǩ'));
+    for (token, is_found) in [('a', true), ('é', true), ('š', false), ('ǩ', false)] {
+        assert!(rt; has([0x61u8, 0xE9].as_slice(), token) == is_found);
+    }
 }
 
-// 100 times 'a', and then 'b'.
-const HAY: &[u8; 101] =
-    b"aaaaaaaaaaaaaaaaaaaaaaaaaaaaaaaaaaaaaaaaaaaaaaaaaaaaaaaaaaaaaaaaaaaaaaaaaaaaaaaaaaaaaaaaaaaaaaaaaaaab";
+/// 100 times 'a', and then 'b'.
+fn hay() -> &'static [u8] {
+    b"aaaaaaaaaaaaaaaaaaaaaaaaaaaaaaaaaaaaaaaaaaaaaaaaaaaaaaaaaaaaaaaaaaaaaaaaaaaaaaaaaaaaaaaaaaaaaaaaaaaab"
+}
+
+/// The first place of a needle.
+fn place_of<I: FindSubstring<T>, T>(input: I, needle: T) -> Option<usize> {
+    input.find_substring(needle)
+}
 
 #[test]
 fn substrings_of_bytes(rt: HostRuntime) {
-    let hay = HAY.as_slice();
+    let hay = hay();
     for (input, needle, place) in [
         (hay, "aaab", Some(97)),
         (hay, "b", Some(100)),
@@ -147,14 +157,14 @@ fn substrings_of_bytes(rt: HostRuntime) {
         (b"".as_slice(), "", Some(0)),
         (b"".as_slice(), "a", None),
     ] {
-        assert!(rt; input.find_substring(needle) == place, "at {needle}");
+        assert!(rt; place_of(input, needle) == place, "at {needle}");
     }
     for (input, needle, place) in [
         (hay, hay, 0),
         (b"abab".as_slice(), b"ab".as_slice(), 0),
-        (AsBytes::as_bytes(&"é"), [0xA9u8].as_slice(), 1),
+        (b"\xC3\xA9".as_slice(), b"\xA9".as_slice(), 1),
     ] {
-        assert!(rt; input.find_substring(needle) == Some(place));
+        assert!(rt; place_of(input, needle) == Some(place));
     }
 }
 
@@ -169,37 +179,33 @@ fn before<I: Input + FindSubstring<T>, T: Drop>(input: I, needle: T) -> Option<I
     }
 }
 
-#[test]
-fn fronts_before_needles(rt: HostRuntime) {
-    assert!(rt; before("aé€b", "€") == Some("aé"));
-    assert!(rt; before(b"abcb".as_slice(), "b") == Some(b"a".as_slice()));
-    assert!(rt; before("aé", "©") == None);
+/// Whether this stands before the first place of a needle.
+fn is_before<I: Input + FindSubstring<T> + PartialEq, T: Drop>(
+    input: I,
+    needle: T,
+    wanted: Option<I>,
+) -> bool {
+    before(input, needle) == wanted
 }
 
 #[test]
-fn substrings_of_texts(rt: HostRuntime) {
-    for (input, needle, place) in [
-        ("é", "©", None),
-        ("éé", "é", Some(0)),
-        ("€éa", "éa", Some(3)),
-        ("éaéa", "a", Some(2)),
-        ("ab", "abc", None),
-        ("é", "", Some(0)),
-        ("", "", Some(0)),
-    ] {
-        assert!(rt;
-            input.find_substring(needle) == place,
-            "{needle} in {input}"
-        );
-    }
+fn fronts_before_needles(rt: HostRuntime) {
+    assert!(rt; is_before("aé€b", "€", Some("aé")));
+    assert!(rt; is_before(b"abcb".as_slice(), "b", Some(b"a".as_slice())));
+    assert!(rt; is_before("aé", "©", None));
+}
+
+/// Whether a value lends these bytes.
+fn lends<T: AsBytes>(value: &T, wanted: &[u8]) -> bool {
+    value.as_bytes() == wanted
 }
 
 #[test]
 fn bytes_of_values(rt: HostRuntime) {
-    assert!(rt; AsBytes::as_bytes(&"é") == [0xC3u8, 0xA9].as_slice());
-    assert!(rt; AsBytes::as_bytes(&b"ab".as_slice()) == b"ab".as_slice());
-    assert!(rt; AsBytes::as_bytes(b"ab") == b"ab".as_slice());
-    assert!(rt; AsBytes::as_bytes(&b"ab") == b"ab".as_slice());
+    assert!(rt; lends(&"é", &[0xC3, 0xA9]));
+    assert!(rt; lends(&b"ab".as_slice(), b"ab"));
+    assert!(rt; lends(b"ab", b"ab"));
+    assert!(rt; lends(&b"ab", b"ab"));
 }
 
 /// How many bytes an input lends: as many as its length.

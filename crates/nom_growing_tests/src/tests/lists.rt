@@ -1,14 +1,12 @@
-//! Lists of tags, and data behind a length of one byte.
+//! Data behind a length, by a parser of one byte of a user's own.
 ghost use Rattle.std.specs.Prelude.{ℕ, ◌<◌, length};
 ghost use Rattle.nom_error.specs.Modes.{Built};
 ghost use Rattle.nom_traits.specs.Bytes.{seen_bytes};
 ghost use Rattle.nom_traits.specs.Slices.{Slice};
 ghost use Rattle.nom_growing_tests.specs.FirstByte.{IsFirstByte, byte_meaning, byte_lawful};
 
-use super::parts::{acceptance, error_of, need};
-use nom::bytes::tag;
 use nom::error::{Error, ErrorKind};
-use nom::multi::{length_data, many0};
+use nom::multi::length_data;
 use nom::{
     Check, Complete, Emit, Err, Input, IsStreaming, Items, Mode, Needed, OutputM, OutputMode,
     PResult, Parser, Streaming,
@@ -60,56 +58,27 @@ fn first<M: Mode>(input: &[u8]) -> Option<u8>
     if M::BUILDS { Some(input[0]) } else { None }
 }
 
-#[test]
-fn items_until_one_is_refused(rt: HostRuntime) {
-    let mut list = many0(rt.alloc(), tag::<_, _, At>(&b"a"[..]));
-    for (input, count) in [
-        (&b"b"[..], 0),
-        (&b"aab"[..], 2),
-        (&b"aaaaaaaaaaaaaaaaaaab"[..], 19),
-    ] {
-        // Where memory runs out, that is the answer, and never a shorter list.
-        match list.parse_complete(input) {
-            Ok(accepted) => {
-                let (rest, items) = accepted;
-                assert!(rt; rest == b"b".as_slice());
-                assert!(rt; items.len() == count);
-            }
-            Err(Err::OutOfMemory) => println!(rt; "out of memory").expect(&rt, "print"),
-            Err(_) => panic!(rt; "refused"),
-        }
-    }
-    let checked = list.process::<OutputM<Check, Check, Complete>>(&b"aab"[..]);
-    let (rest, items) = acceptance(checked).expect(&rt, "refused");
-    assert!(rt; rest == b"b".as_slice());
-    assert!(rt; items.is_none());
-    let waiting = list.process::<OutputM<Check, Check, Streaming>>(&b"aa"[..]);
-    assert!(rt; need(waiting) == Some(Needed::new(1)));
-}
-
-#[test]
-fn an_empty_item_is_refused(rt: HostRuntime) {
-    let mut list = many0(rt.alloc(), tag::<_, _, At>(&b""[..]));
-    let error = error_of(list.parse_complete(&b"x"[..])).expect(&rt, "not refused");
-    assert!(rt; error.code == ErrorKind::Many0);
-    assert!(rt; error.input == b"x".as_slice());
-    let checked = list.process::<OutputM<Check, Check, Complete>>(&b"x"[..]);
-    assert!(rt; error_of(checked) == Some(None));
+/// What data behind a length of one byte answers in a mode.
+fn data<OM: OutputMode>(input: &[u8]) -> PResult<&[u8], &[u8], At> {
+    length_data(Byte).process::<OM>(input)
 }
 
 #[test]
 fn data_behind_a_length(rt: HostRuntime) {
-    let mut record = length_data(Byte);
-    let answer = record.parse_complete(&[2, b'a', b'b', b'c'][..]);
-    let (rest, data) = acceptance(answer).expect(&rt, "refused");
-    assert!(rt; data == b"ab".as_slice());
-    assert!(rt; rest == b"c".as_slice());
-    let checked = record.process::<OutputM<Check, Emit, Complete>>(&[2, b'a', b'b', b'c'][..]);
-    let (rest, data) = acceptance(checked).expect(&rt, "refused");
-    assert!(rt; data.is_none());
-    assert!(rt; rest == b"c".as_slice());
-    assert!(rt; need(record.parse(&[3, b'a'][..])) == Some(Needed::new(2)));
-    let error = error_of(record.parse_complete(&[3, b'a'][..])).expect(&rt, "not refused");
-    assert!(rt; error.code == ErrorKind::Eof);
-    assert!(rt; error.input == b"a".as_slice());
+    let input = &[2, b'a', b'b', b'c'][..];
+    let rest = &b"c"[..];
+    let built = data::<OutputM<Emit, Emit, Complete>>(input);
+    assert!(rt; built == Ok((rest, Some(&b"ab"[..]))));
+    let checked = data::<OutputM<Check, Emit, Complete>>(input);
+    assert!(rt; checked == Ok((rest, None)));
+}
+
+#[test]
+fn data_that_is_too_short(rt: HostRuntime) {
+    let input = &[3, b'a'][..];
+    let waiting = data::<OutputM<Emit, Emit, Streaming>>(input);
+    assert!(rt; waiting == Err(Err::Incomplete(Needed::new(2))));
+    let refused = data::<OutputM<Emit, Emit, Complete>>(input);
+    let error = Error::new(&b"a"[..], ErrorKind::Eof);
+    assert!(rt; refused == Err(Err::Error(Some(error))));
 }

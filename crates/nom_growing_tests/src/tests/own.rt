@@ -6,12 +6,15 @@ ghost use Rattle.nom_growing_tests.specs.Held.{seen_held, held_view, held_lawful
 
 use nom::bytes::{tag, take};
 use nom::error::{ErrorKind, ParseError};
-use nom::{Compare, CompareResult, Err, Input, Items, Needed, OutOfMemory, Parser, Viewed};
+use nom::{
+    Compare, CompareResult, Complete, Emit, Err, Input, Items, Needed, OutOfMemory, OutputM,
+    OutputMode, PResult, Parser, Streaming, Viewed,
+};
 use std::iter::{Copied, Enumerate};
 use std::slice::Iter;
 
 /// The bytes of a packet.
-#[derive(Clone, Copy)]
+#[derive(Clone, Copy, PartialEq, Eq)]
 struct Packet<'a> {
     bytes: &'a [u8],
 }
@@ -151,44 +154,33 @@ impl ParseError<Packet<'_>> for Refusal {
     }
 }
 
+/// What a record of a name and four bytes answers: its name and those bytes.
+fn record<OM: OutputMode>(bytes: &[u8]) -> PResult<Packet<'_>, (Packet<'_>, Packet<'_>), Refusal> {
+    let name = tag::<_, _, Refusal>(&b"ab"[..]);
+    name.and(take::<_, _, Refusal>(4usize))
+        .process::<OM>(Packet { bytes })
+}
+
 #[test]
 fn a_record_of_packets(rt: HostRuntime) {
-    let tag_of = &b"ab"[..];
-    let mut record = tag::<_, _, Refusal>(tag_of).and(take::<_, _, Refusal>(4usize));
-    match record.parse(Packet { bytes: b"abcdefg" }) {
-        Ok((rest, (name, value))) => {
-            assert!(rt; rest.bytes == b"g".as_slice());
-            assert!(rt; name.bytes == b"ab".as_slice());
-            assert!(rt; value.bytes == b"cdef".as_slice());
-        }
-        _ => panic!(rt; "no record"),
-    }
-    match record.parse(Packet { bytes: b"abc" }) {
-        Err(Err::Incomplete(needed)) => assert!(rt; needed == Needed::new(3)),
-        _ => panic!(rt; "not incomplete"),
-    }
-    match record.parse_complete(Packet { bytes: b"abc" }) {
-        Err(Err::Error(error)) => {
-            assert!(rt;
-                error
-                    == Refusal {
-                        left: 1,
-                        kind: ErrorKind::Eof
-                    }
-            );
-        }
-        _ => panic!(rt; "no refusal"),
-    }
-    match record.parse(Packet { bytes: b"axcd" }) {
-        Err(Err::Error(error)) => {
-            assert!(rt;
-                error
-                    == Refusal {
-                        left: 4,
-                        kind: ErrorKind::Tag
-                    }
-            );
-        }
-        _ => panic!(rt; "no refusal"),
-    }
+    let rest = Packet { bytes: b"g" };
+    let name = Packet { bytes: b"ab" };
+    let value = Packet { bytes: b"cdef" };
+    let read = record::<OutputM<Emit, Emit, Streaming>>(b"abcdefg");
+    assert!(rt; read == Ok((rest, Some((name, value)))));
+}
+
+/// A refusal, and how many bytes were left.
+fn refused<T: Drop>(left: usize, kind: ErrorKind) -> Result<T, Err<Refusal, Option<Refusal>>> {
+    Err(Err::Error(Some(Refusal { left, kind })))
+}
+
+#[test]
+fn packets_that_are_no_record(rt: HostRuntime) {
+    let waiting = record::<OutputM<Emit, Emit, Streaming>>(b"abc");
+    assert!(rt; waiting == Err(Err::Incomplete(Needed::new(3))));
+    let cut = record::<OutputM<Emit, Emit, Complete>>(b"abc");
+    assert!(rt; cut == refused(1, ErrorKind::Eof));
+    let other = record::<OutputM<Emit, Emit, Streaming>>(b"axcd");
+    assert!(rt; other == refused(4, ErrorKind::Tag));
 }

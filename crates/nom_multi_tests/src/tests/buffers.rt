@@ -8,16 +8,23 @@ use nom_internal::parser::Parser;
 use nom_multi::fill;
 use nom_trail::trail::Trail;
 
+/// Whether a buffer of items is refused with these steps, where no outputs are built.
+fn is_refused<'a, P>(item: P, buffer: &mut [&'a [u8]], input: &'a [u8], steps: &[ErrorKind]) -> bool
+where
+    P: Parser<&'a [u8], Output = &'a [u8], Error = Trail> + Drop,
+    requires { (P.meaning (P.state item)).IsSound }
+{
+    match fill(item, buffer).process::<OutputM<Check, Emit, Complete>>(input) {
+        Err(Err::Error(Some(trail))) => trail.steps() == steps,
+        _ => false,
+    }
+}
+
 // Where no outputs are built, nothing is written.
 #[test]
 fn a_buffer_that_stays(rt: HostRuntime) {
     let mut buffer = [&b"x"[..], &b"x"[..]];
-    let mut filled = fill(tag::<_, _, Trail>(&b"a"[..]), &mut buffer);
-    match filled.process::<OutputM<Check, Emit, Complete>>(&b"ab"[..]) {
-        Err(Err::Error(Some(trail))) => {
-            assert!(rt; trail.steps() == [ErrorKind::Tag, ErrorKind::Count].as_slice());
-        }
-        _ => panic!(rt; "no refusal"),
-    }
+    let steps = [ErrorKind::Tag, ErrorKind::Count];
+    assert!(rt; is_refused(tag(&b"a"[..]), &mut buffer, &b"ab"[..], &steps));
     assert!(rt; buffer == [&b"x"[..], &b"x"[..]]);
 }

@@ -6,53 +6,98 @@ use nom_bytes::tag;
 use nom_character::char;
 use nom_error::answer::Needed;
 use nom_error::kind::ErrorKind;
-use nom_folds::{fold_many_m_n, fold_many1, many};
+use nom_error::mode::{Complete, IsStreaming, Streaming};
+use nom_folds::{fold, fold_many_m_n, fold_many0, fold_many1, many};
+use nom_internal::parser::Parser;
 use nom_lengths::length_count;
-use nom_multi::{count, many_m_n, many_till, many1, separated_list0, separated_list1};
+use nom_multi::{count, many_m_n, many_till, many0, many1, separated_list0, separated_list1};
 use nom_number::be_u8;
+use nom_search::bytes::AsBytes;
 use nom_trail::trail::Trail;
+use nom_traits::input::Input;
+use nom_traits::view::Viewed;
 use std::alloc::{AllocError, Global};
 
 /// A list, of 20 items or up to 20 where no bounds are said.
 #[derive(Clone, Copy)]
 enum Shape {
+    Many0,
     Many1,
     Count,
     ManyMN(usize, usize),
     Many,
+    FoldMany0,
     FoldMany1,
     FoldManyMN,
+    Fold,
     SeparatedList0,
     SeparatedList1,
     LengthCount,
     ManyTill,
 }
 
-/// What a list that takes its memory from a heap answers in the four modes of what is built.
-fn of_shape<'a, 'h>(
-    heap: &'h LocalHeap,
-    shape: Shape,
-    text: &'a [u8],
-    input: &'a [u8],
-) -> [Told; 4] {
-    let item = tag::<_, _, Trail>(text);
-    let init = || 0usize;
-    let inc = |n: usize, _item: &[u8]| n.wrapping_add(1);
+/// What a list of an item, which takes its memory from a heap, answers in the four modes of what is built. A shape
+/// of another kind is a fold.
+fn of_shape<'a, 'h, S, P>(heap: &'h LocalHeap, shape: Shape, item: P, input: &'a [u8]) -> [Told; 4]
+where
+    S: IsStreaming,
+    P: Parser<&'a [u8], Output = &'a [u8], Error = Trail> + Drop,
+    requires { (P.meaning (P.state item)).IsSound }
+{
     match shape {
-        Shape::Many1 => in_modes(many1(heap, item), input),
-        Shape::Count => in_modes(count(heap, item, 20), input),
-        Shape::ManyMN(min, max) => in_modes(many_m_n(heap, min, max, item), input),
-        Shape::Many => in_modes(
-            many::<_, _, _, Vec<&'a [u8], &'h LocalHeap>>(heap, 1..=20, item),
+        Shape::Many0 => in_modes::<S, _, _>(many0(heap, item), input),
+        Shape::Many1 => in_modes::<S, _, _>(many1(heap, item), input),
+        Shape::Count => in_modes::<S, _, _>(count(heap, item, 20), input),
+        Shape::ManyMN(min, max) => { in_modes::<S, _, _>(many_m_n(heap, min, max, item), input) }
+        Shape::SeparatedList0 => {
+            in_modes::<S, _, _>(separated_list0(heap, char(','), item), input)
+        }
+        Shape::SeparatedList1 => {
+            in_modes::<S, _, _>(separated_list1(heap, char(','), item), input)
+        }
+        Shape::LengthCount => { in_modes::<S, _, _>(length_count(heap, be_u8(), item), input) }
+        Shape::ManyTill => { in_modes::<S, _, _>(many_till(heap, item, tag(&b"b"[..])), input) }
+        fold => folded::<S, _, _>(fold, item, input),
+    }
+}
+
+/// The same of a fold, which counts the items.
+fn folded<S, I, P>(shape: Shape, item: P, input: I) -> [Told; 4]
+where
+    S: IsStreaming,
+    I: Input + AsBytes,
+    P: Parser<I, Output: Viewed, Error = Trail> + Drop,
+    requires { (P.meaning (P.state item)).IsSound }
+{
+    let init = || 0usize;
+    let inc = |n: usize, _item: P::Output| n.wrapping_add(1);
+    match shape {
+        Shape::FoldMany0 => in_modes::<S, _, _>(fold_many0(item, init, inc), input),
+        Shape::FoldMany1 => in_modes::<S, _, _>(fold_many1(item, init, inc), input),
+        Shape::FoldManyMN => { in_modes::<S, _, _>(fold_many_m_n(1, 20, item, init, inc), input) }
+        _ => in_modes::<S, _, _>(fold(1..=20, item, init, inc), input),
+    }
+}
+
+/// What a list of a tag answers. The size of a `many` has to be known.
+fn of_tag<S: IsStreaming>(heap: &LocalHeap, shape: Shape, text: &[u8], input: &[u8]) -> [Told; 4] {
+    match shape {
+        Shape::Many => in_modes::<S, _, _>(
+            many::<_, _, _, Vec<&[u8], &LocalHeap>>(heap, 1..=20, tag(text)),
             input,
         ),
-        Shape::FoldMany1 => in_modes(fold_many1(item, init, inc), input),
-        Shape::FoldManyMN => in_modes(fold_many_m_n(1, 20, item, init, inc), input),
-        Shape::SeparatedList0 => in_modes(separated_list0(heap, char(','), item), input),
-        Shape::SeparatedList1 => in_modes(separated_list1(heap, char(','), item), input),
-        Shape::LengthCount => in_modes(length_count(heap, be_u8(), item), input),
-        Shape::ManyTill => in_modes(many_till(heap, item, tag(&b"b"[..])), input),
+        _ => of_shape::<S, _>(heap, shape, tag(text), input),
     }
+}
+
+/// The same, where more may come.
+fn streamed(heap: &LocalHeap, shape: Shape, text: &[u8], input: &[u8]) -> [Told; 4] {
+    of_tag::<Streaming>(heap, shape, text, input)
+}
+
+/// The same, where no more may come.
+fn completed(heap: &LocalHeap, shape: Shape, text: &[u8], input: &[u8]) -> [Told; 4] {
+    of_tag::<Complete>(heap, shape, text, input)
 }
 
 /// A refusal of an item, with the kind that a list adds to it.
@@ -69,25 +114,33 @@ fn only(kind: ErrorKind) -> Told {
 fn lists_in_all_modes(rt: HostRuntime) -> Result<(), AllocError> {
     let heap = LocalHeap::new(rt.alloc(), 4096)?;
     let of_two = Told::Accepts(Some(2));
+    let of_none = Told::Accepts(Some(0));
     let a = &b"a"[..];
     let nothing = &b""[..];
     for (shape, text, input, told) in [
+        (Shape::Many0, a, &b"aa;"[..], of_two),
         (Shape::Many1, a, &b"aa;"[..], of_two),
         (Shape::ManyMN(1, 2), a, &b"aa;"[..], of_two),
         (Shape::Many, a, &b"aa;"[..], of_two),
+        (Shape::FoldMany0, a, &b"aa;"[..], of_two),
         (Shape::FoldMany1, a, &b"aa;"[..], of_two),
         (Shape::FoldManyMN, a, &b"aa;"[..], of_two),
+        (Shape::Fold, a, &b"aa;"[..], of_two),
         (Shape::SeparatedList0, a, &b"a,a;"[..], of_two),
         (Shape::SeparatedList1, a, &b"a,a;"[..], of_two),
         (Shape::LengthCount, a, &b"\x02aa;"[..], of_two),
         (Shape::ManyTill, a, &b"aab;"[..], of_two),
-        (Shape::SeparatedList0, a, &b";"[..], Told::Accepts(Some(0))),
+        (Shape::Many0, a, &b";"[..], of_none),
+        (Shape::FoldMany0, a, &b";"[..], of_none),
+        (Shape::SeparatedList0, a, &b";"[..], of_none),
+        (Shape::LengthCount, a, &b"\x00;"[..], of_none),
         (Shape::Count, nothing, &b";"[..], Told::Accepts(Some(20))),
         (Shape::Many1, a, &b";"[..], added(ErrorKind::Many1)),
         (Shape::Count, a, &b"aa;"[..], added(ErrorKind::Count)),
         (Shape::ManyMN(1, 2), a, &b";"[..], added(ErrorKind::ManyMN)),
         (Shape::Many, a, &b";"[..], added(ErrorKind::Many)),
         (Shape::FoldManyMN, a, &b";"[..], added(ErrorKind::ManyMN)),
+        (Shape::Fold, a, &b";"[..], added(ErrorKind::Fold)),
         (
             Shape::LengthCount,
             a,
@@ -103,6 +156,7 @@ fn lists_in_all_modes(rt: HostRuntime) -> Result<(), AllocError> {
             &b";"[..],
             only(ErrorKind::ManyMN),
         ),
+        (Shape::Many0, nothing, &b";"[..], only(ErrorKind::Many0)),
         (Shape::Many, nothing, &b";"[..], only(ErrorKind::Many)),
         (Shape::ManyTill, nothing, &b";"[..], only(ErrorKind::Many0)),
         (
@@ -111,21 +165,24 @@ fn lists_in_all_modes(rt: HostRuntime) -> Result<(), AllocError> {
             &b"aa;"[..],
             Told::Fails(ErrorKind::ManyMN),
         ),
-        (
-            Shape::SeparatedList0,
-            &b"abc"[..],
-            &b"abc,"[..],
-            Told::Needs(Needed::new(3)),
-        ),
     ] {
-        let wanted = [
-            told,
-            told.with_less(true, false),
-            told.with_less(false, true),
-            told.with_less(false, false),
-        ];
+        let wanted = told.in_modes();
         assert!(rt;
-            of_shape(&heap, shape, text, input) == wanted,
+            streamed(&heap, shape, text, input) == wanted,
+            "at {input:?}"
+        );
+        assert!(rt;
+            completed(&heap, shape, text, input) == wanted,
+            "at {input:?}"
+        );
+    }
+    for (shape, text, input, more) in [
+        (Shape::Many0, a, &b"aa"[..], 1),
+        (Shape::SeparatedList0, &b"abc"[..], &b"abc,"[..], 3),
+    ] {
+        let wanted = [Told::Needs(Needed::new(more)); 4];
+        assert!(rt;
+            streamed(&heap, shape, text, input) == wanted,
             "at {input:?}"
         );
     }
@@ -139,7 +196,7 @@ fn times_refused(alloc: Global, shape: Shape, input: &[u8]) -> Result<Option<usi
     let mut sufficed = false;
     for units in 1..120 {
         let heap = LocalHeap::new(alloc, units * 16)?;
-        match of_shape(&heap, shape, &b"a"[..], input)[0] {
+        match streamed(&heap, shape, &b"a"[..], input)[0] {
             Told::OutOfMemory if !sufficed => refused = refused.saturating_add(1),
             Told::Accepts(Some(20)) => sufficed = true,
             _ => return Ok(None),
@@ -154,6 +211,7 @@ fn each_growth_refused(rt: HostRuntime) -> Result<(), AllocError> {
     let items = &b"aaaaaaaaaaaaaaaaaaaa;"[..];
     let commas = &b"a,a,a,a,a,a,a,a,a,a,a,a,a,a,a,a,a,a,a,a;"[..];
     for (shape, input) in [
+        (Shape::Many0, items),
         (Shape::Many1, items),
         (Shape::Count, items),
         (Shape::ManyMN(1, 20), items),
@@ -165,6 +223,21 @@ fn each_growth_refused(rt: HostRuntime) -> Result<(), AllocError> {
     ] {
         let refused = times_refused(rt.alloc(), shape, input)?;
         assert!(rt; refused > Some(2), "at {input:?}");
+    }
+    Ok(())
+}
+
+// It takes none of what a heap has, be that too little for a list of an item.
+#[test]
+fn a_list_of_no_items_takes_no_memory(rt: HostRuntime) -> Result<(), AllocError> {
+    let heap = LocalHeap::new(rt.alloc(), 16)?;
+    for (input, told) in [
+        (&b";"[..], Told::Accepts(Some(0))),
+        (&b"a;"[..], Told::OutOfMemory),
+        (&b";"[..], Told::Accepts(Some(0))),
+    ] {
+        let found = streamed(&heap, Shape::Many0, &b"a"[..], input)[0];
+        assert!(rt; found == told, "at {input:?}");
     }
     Ok(())
 }

@@ -2,9 +2,11 @@
 
 use nom_error::answer::{Err, Needed, PResult};
 use nom_error::kind::ErrorKind;
-use nom_error::mode::{Check, Emit, OutputM, Streaming};
+use nom_error::mode::{Check, Emit, IsStreaming, OutputM};
 use nom_internal::parser::Parser;
+use nom_search::bytes::AsBytes;
 use nom_trail::trail::Trail;
+use nom_traits::input::Items;
 use std::alloc::Allocator;
 
 /// What of an answer is told.
@@ -21,8 +23,18 @@ pub enum Told {
 }
 
 impl Told {
+    /// The same in the four modes of what is built.
+    pub fn in_modes(self) -> [Told; 4] {
+        [
+            self,
+            self.with_less(true, false),
+            self.with_less(false, true),
+            self.with_less(false, false),
+        ]
+    }
+
     /// The same, with less built.
-    pub fn with_less(self, outputs: bool, errors: bool) -> Told {
+    fn with_less(self, outputs: bool, errors: bool) -> Told {
         match self {
             Told::Accepts(_) if !outputs => Told::Accepts(None),
             Told::Refuses(_) if !errors => Told::Refuses(None),
@@ -66,9 +78,9 @@ fn kinds(trail: &Trail) -> (ErrorKind, Option<ErrorKind>) {
     (trail.kinds[0], added)
 }
 
-fn told_of<O: Counted>(answer: PResult<&[u8], O, Trail>) -> Told {
+fn told_of<I: AsBytes + Drop, O: Counted>(answer: PResult<I, O, Trail>) -> Told {
     match answer {
-        Ok((rest, items)) if rest == b";".as_slice() => {
+        Ok((rest, items)) if rest.as_bytes() == b";".as_slice() => {
             Told::Accepts(items.as_ref().map(|items| items.count()))
         }
         Err(Err::Error(trail)) => Told::Refuses(trail.as_ref().map(kinds)),
@@ -80,16 +92,17 @@ fn told_of<O: Counted>(answer: PResult<&[u8], O, Trail>) -> Told {
 }
 
 /// What a list answers in the four modes of what is built: all, outputs, errors, nothing.
-pub fn in_modes<'a, O: Counted, P: Parser<&'a [u8], Output = O, Error = Trail> + Drop>(
-    mut list: P,
-    input: &'a [u8],
-) -> [Told; 4]
+pub fn in_modes<S, I, P>(mut list: P, input: I) -> [Told; 4]
+where
+    S: IsStreaming,
+    I: Items + AsBytes,
+    P: Parser<I, Output: Counted, Error = Trail> + Drop,
     requires { (P.meaning (P.state list)).IsSound }
 {
     [
-        told_of(list.process::<OutputM<Emit, Emit, Streaming>>(input)),
-        told_of(list.process::<OutputM<Emit, Check, Streaming>>(input)),
-        told_of(list.process::<OutputM<Check, Emit, Streaming>>(input)),
-        told_of(list.process::<OutputM<Check, Check, Streaming>>(input)),
+        told_of(list.process::<OutputM<Emit, Emit, S>>(input)),
+        told_of(list.process::<OutputM<Emit, Check, S>>(input)),
+        told_of(list.process::<OutputM<Check, Emit, S>>(input)),
+        told_of(list.process::<OutputM<Check, Check, S>>(input)),
     ]
 }

@@ -1,16 +1,26 @@
 use super::fails::Fails;
-use nom_error::answer::Needed;
+use nom_error::answer::{Needed, OutOfMemory};
 use nom_error::kind::ErrorKind;
 use nom_records_run::counted::Counted;
 use nom_records_run::error::RunError;
 use nom_records_run::run::run;
+use nom_records_run::stream::{Sink, Source};
 use nom_records_run::text::{
     add_decided, add_error, add_failure, add_hex, add_need, add_record, add_rest,
 };
 use nom_records_run::words::read_cuts;
 use std::alloc::Global;
 use std::process::Abort;
-use std::test::Fail;
+
+/// What a run answers.
+fn ran<S: Source, W: Sink>(
+    alloc: Global,
+    source: &mut S,
+    cuts: &[usize],
+    sink: &mut W,
+) -> Result<u8, RunError> {
+    run(alloc, source, cuts, sink)
+}
 
 // The status and the text for bytes in memory.
 fn told(
@@ -22,8 +32,8 @@ fn told(
 ) {
     let mut source = Counted::new(bytes);
     let mut sink = Counted::new(Vec::new(rt.alloc()));
-    assert_eq!(rt; run(rt.alloc(), &mut source, cuts, &mut sink), Ok(status));
-    assert_eq!(rt; sink.inner.as_slice(), text.as_bytes());
+    assert!(rt; ran(rt.alloc(), &mut source, cuts, &mut sink) == Ok(status));
+    assert!(rt; sink.inner.as_slice() == text.as_bytes());
 }
 
 // Two records, and two bytes more.
@@ -64,50 +74,55 @@ fn reads_more_than_fits_one_call(rt: HostRuntime) {
 fn refuses_cuts(rt: HostRuntime) {
     let mut source = Counted::new(FILE.as_slice());
     let mut sink = Counted::new(Vec::new(rt.alloc()));
-    assert_eq!(rt;
-        run(rt.alloc(), &mut source, &[7, 3], &mut sink),
-        Err(RunError::Usage)
-    );
-    assert_eq!(rt; source.inner.len(), 9);
-    assert_eq!(rt;
-        run(rt.alloc(), &mut source, &[0, 10], &mut sink),
-        Err(RunError::Usage)
-    );
-    assert_eq!(rt; source.inner.len(), 0);
-    assert_eq!(rt; sink.inner.len(), 0);
+    for (cuts, left) in [([7, 3], 9), ([0, 10], 0)] {
+        let refused = ran(rt.alloc(), &mut source, &cuts, &mut sink);
+        assert!(rt; refused == Err(RunError::Usage) && source.inner.len() == left);
+    }
+    assert!(rt; sink.inner.is_empty());
+}
+
+/// What a sink has that fails at its last call of so many, and how often it failed.
+fn written(alloc: Global, calls: u64) -> (Result<u8, RunError>, Vec<u8>, u64) {
+    let mut source = Counted::new(FILE.as_slice());
+    let mut sink = Counted::new(Fails {
+        inner: Vec::new(alloc),
+        calls,
+    });
+    let status = ran(alloc, &mut source, &[3, 7], &mut sink);
+    (status, sink.inner.inner, sink.failed)
 }
 
 #[test]
 fn stops_at_each_write(rt: HostRuntime) {
     for calls in 0..43 {
-        let mut source = Counted::new(FILE.as_slice());
-        let mut sink = Counted::new(Fails {
-            inner: Vec::new(rt.alloc()),
-            calls,
-        });
-        let status = run(rt.alloc(), &mut source, &[3, 7], &mut sink);
-        assert_eq!(rt; status, Err(RunError::Write));
-        assert_eq!(rt; sink.failed, 1);
-        assert_eq!(rt;
-            sink.inner.inner.as_slice(),
-            &TEXT.as_bytes()[..calls as usize]
-        );
+        let (status, bytes, failed) = written(rt.alloc(), calls);
+        assert!(rt; status == Err(RunError::Write) && failed == 1);
+        assert!(rt; bytes.as_slice() == &TEXT.as_bytes()[..calls as usize]);
     }
+}
+
+/// How many bytes are left in a source that fails at its last call of so many, how often it failed, and how
+/// many bytes were written.
+fn unread(alloc: Global, calls: u64) -> (Result<u8, RunError>, usize, u64, usize) {
+    let mut source = Counted::new(Fails {
+        inner: FILE.as_slice(),
+        calls,
+    });
+    let mut sink = Counted::new(Vec::new(alloc));
+    let status = ran(alloc, &mut source, &[3, 7], &mut sink);
+    (
+        status,
+        source.inner.inner.len(),
+        source.failed,
+        sink.inner.len(),
+    )
 }
 
 #[test]
 fn stops_at_each_read(rt: HostRuntime) {
     for calls in 0..10 {
-        let mut source = Counted::new(Fails {
-            inner: FILE.as_slice(),
-            calls,
-        });
-        let mut sink = Counted::new(Vec::new(rt.alloc()));
-        let status = run(rt.alloc(), &mut source, &[3, 7], &mut sink);
-        assert_eq!(rt; status, Err(RunError::Read));
-        assert_eq!(rt; source.failed, 1);
-        assert_eq!(rt; source.inner.inner.len() as u64, 9 - calls);
-        assert_eq!(rt; sink.inner.len(), 0);
+        let left = 9 - calls as usize;
+        assert!(rt; unread(rt.alloc(), calls) == (Err(RunError::Read), left, 1, 0));
     }
 }
 
@@ -116,11 +131,10 @@ fn stops_where_no_byte_is_taken(rt: HostRuntime) {
     let mut source = Counted::new(b"".as_slice());
     let mut room = [0u8; 4];
     let mut sink = Counted::new(room.as_mut_slice());
-    let status = run(rt.alloc(), &mut source, &[], &mut sink);
-    assert_eq!(rt; status, Err(RunError::Write));
-    assert_eq!(rt; sink.stalled, 1);
-    assert_eq!(rt; sink.failed, 0);
-    assert_eq!(rt; room.as_slice(), b"need".as_slice());
+    let status = ran(rt.alloc(), &mut source, &[], &mut sink);
+    assert!(rt; status == Err(RunError::Write));
+    assert!(rt; sink.stalled == 1 && sink.failed == 0);
+    assert!(rt; room == *b"need");
 }
 
 // Holds whichever allocation is refused.
@@ -129,55 +143,57 @@ fn tells_want_of_memory(rt: HostRuntime) {
     let mut source = Counted::new(FILE.as_slice());
     let mut room = [0u8; 43];
     let mut sink = Counted::new(room.as_mut_slice());
-    match run(rt.alloc(), &mut source, &[3, 7], &mut sink) {
-        Ok(status) => {
-            assert_eq!(rt; status, 0);
-            assert_eq!(rt; room.as_slice(), TEXT.as_bytes());
-        }
-        Err(error) => {
-            assert_eq!(rt; error, RunError::OutOfMemory);
-            assert_eq!(rt; room.as_slice(), [0u8; 43].as_slice());
-        }
-    }
-    match read_cuts(rt.alloc(), &["1", "2"]) {
-        Ok(cuts) => assert_eq!(rt; cuts.as_slice(), [1, 2].as_slice()),
-        Err(error) => assert_eq!(rt; error, RunError::OutOfMemory),
+    let status = ran(rt.alloc(), &mut source, &[3, 7], &mut sink);
+    if status == Ok(0) {
+        assert!(rt; room.as_slice() == TEXT.as_bytes());
+    } else {
+        assert!(rt; status == Err(RunError::OutOfMemory) && room == [0u8; 43]);
     }
 }
 
+// This too.
 #[test]
-fn reads_words(rt: HostRuntime) -> Result<(), Fail> {
-    match read_cuts(rt.alloc(), &["0", "07", "7", "18446744073709551615"]) {
-        Ok(cuts) => assert_eq!(rt; cuts.as_slice(), [0, 7, 7, usize::MAX].as_slice()),
-        Err(_) => assert!(rt; false),
-    }
-    match read_cuts(rt.alloc(), &[]) {
-        Ok(cuts) => assert_eq!(rt; cuts.len(), 0),
-        Err(_) => assert!(rt; false),
-    }
+fn tells_want_of_memory_for_cuts(rt: HostRuntime) {
+    let cuts = are_cuts(rt.alloc(), &["1", "2"], &[1, 2]);
+    assert!(rt; cuts == Ok(true) || cuts == Err(RunError::OutOfMemory));
+}
+
+/// Whether words are read as these cuts.
+fn are_cuts(alloc: Global, words: &[&str], wanted: &[usize]) -> Result<bool, RunError> {
+    let cuts = read_cuts(alloc, words)?;
+    Ok(cuts.as_slice() == wanted)
+}
+
+#[test]
+fn reads_words(rt: HostRuntime) {
+    let words = ["0", "07", "7", "18446744073709551615"];
+    assert!(rt; are_cuts(rt.alloc(), &words, &[0, 7, 7, usize::MAX]) == Ok(true));
+    assert!(rt; are_cuts(rt.alloc(), &[], &[]) == Ok(true));
     for word in ["", "+7", "-1", "7 ", "0x7", "18446744073709551616", "6"] {
-        assert!(rt;
-            matches!(read_cuts(rt.alloc(), &["7", word]), Err(RunError::Usage)),
-            "{word}"
-        );
+        let cuts = are_cuts(rt.alloc(), &["7", word], &[]);
+        assert!(rt; cuts == Err(RunError::Usage), "{word}");
     }
-    Ok(())
+}
+
+/// One line of each form.
+fn lines(alloc: Global) -> Result<String, OutOfMemory> {
+    let mut text = String::new(alloc);
+    add_decided(&mut text, 12)?;
+    add_record(&mut text, b"")?;
+    add_record(&mut text, &[0x00, 0x0a, 0xb0, 0xff])?;
+    add_hex(&mut text, &[0x9c])?;
+    add_rest(&mut text, 0)?;
+    add_error(&mut text, ErrorKind::Tag, 3)?;
+    add_failure(&mut text, ErrorKind::TooLarge, 10)?;
+    add_need(&mut text, Needed::new(255))?;
+    add_need(&mut text, Needed::Unknown)?;
+    Ok(text)
 }
 
 #[test]
-fn writes_lines(rt: HostRuntime) -> Result<(), Fail> {
-    let mut text = String::new(rt.alloc());
-    assert_eq!(rt; add_decided(&mut text, 12), Ok(()));
-    assert_eq!(rt; add_record(&mut text, b""), Ok(()));
-    assert_eq!(rt; add_record(&mut text, &[0x00, 0x0a, 0xb0, 0xff]), Ok(()));
-    assert_eq!(rt; add_hex(&mut text, &[0x9c]), Ok(()));
-    assert_eq!(rt; add_rest(&mut text, 0), Ok(()));
-    assert_eq!(rt; add_error(&mut text, ErrorKind::Tag, 3), Ok(()));
-    assert_eq!(rt; add_failure(&mut text, ErrorKind::TooLarge, 10), Ok(()));
-    assert_eq!(rt; add_need(&mut text, Needed::new(255)), Ok(()));
-    assert_eq!(rt; add_need(&mut text, Needed::Unknown), Ok(()));
-    let expected =
+fn writes_lines(rt: HostRuntime) -> Result<(), OutOfMemory> {
+    let wanted =
         "decided at 12\nrecord 0\nrecord 4 000ab0ff\n9crest 0\nerror Tag at 3\nfailure Needed data size is too large at 10\nneed 255\nneed more\n";
-    assert_eq!(rt; text.as_str(), expected);
+    assert!(rt; lines(rt.alloc())?.as_str() == wanted);
     Ok(())
 }

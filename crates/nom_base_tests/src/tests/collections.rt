@@ -3,7 +3,6 @@ use nom_build::collection::Collection;
 use nom_error::answer::OutOfMemory;
 use std::alloc::Allocator;
 use std::collections::VecDeque;
-use std::test::Fail;
 
 /// A collection of two items.
 fn both<T: Drop, A: Allocator, C: Collection<T, A>>(
@@ -18,20 +17,24 @@ fn both<T: Drop, A: Allocator, C: Collection<T, A>>(
 }
 
 #[test]
-fn items_in_turn(rt: HostRuntime) -> Result<(), Fail> {
-    let Ok(list) = both::<u8, _, Vec<u8>>(rt.alloc(), 1, 2) else {
-        panic!(rt; "no list");
-    };
+fn items_in_a_list(rt: HostRuntime) -> Result<(), OutOfMemory> {
+    let list: Vec<u8> = both(rt.alloc(), 1, 2)?;
     assert!(rt; list.as_slice() == [1, 2].as_slice());
-    let Ok(mut queue) = both::<u8, _, VecDeque<u8>>(rt.alloc(), 1, 2) else {
-        panic!(rt; "no queue");
-    };
-    assert!(rt; queue.pop_front() == Some(1));
-    assert!(rt; queue.pop_front() == Some(2));
-    assert!(rt; queue.pop_front() == None);
-    let Ok(text) = both::<char, _, String>(rt.alloc(), 'a', 'é') else {
-        panic!(rt; "no text");
-    };
+    Ok(())
+}
+
+#[test]
+fn items_in_a_queue(rt: HostRuntime) -> Result<(), OutOfMemory> {
+    let mut queue: VecDeque<u8> = both(rt.alloc(), 1, 2)?;
+    for item in [Some(1), Some(2), None] {
+        assert!(rt; queue.pop_front() == item);
+    }
+    Ok(())
+}
+
+#[test]
+fn characters_in_a_text(rt: HostRuntime) -> Result<(), OutOfMemory> {
+    let text: String = both(rt.alloc(), 'a', 'é')?;
     assert!(rt; text.as_str() == "aé");
     Ok(())
 }

@@ -1,5 +1,0 @@
-//! Tests of hex dumps.
-#![tactic(auto)]
-
-#[cfg(test)]
-mod tests;

@@ -1,5 +1,0 @@
-//! Tests of what stands behind a length.
-#![tactic(auto)]
-
-#[cfg(test)]
-mod tests;

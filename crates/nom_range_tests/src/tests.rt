@@ -1,2 +1,0 @@
-mod collections;
-mod ranges;
