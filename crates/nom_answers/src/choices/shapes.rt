@@ -25,19 +25,6 @@ where
     }
 }
 
-/// What two parsers of one type answer as a choice in a slice.
-fn of_slice<I, P>(question: Question<I>, a: P, b: P) -> Option<Answer>
-where
-    I: Input + AsBytes + Debug,
-    P: Parser<I, Error = Error<I>> + Drop,
-    P::Output: Debug,
-    requires a { (P.meaning (P.state a)).IsSound }
-    requires b { (P.meaning (P.state b)).IsSound }
-{
-    let mut both = [a, b];
-    question.ask(alt(&mut both[..]))
-}
-
 /// What three parsers of one type answer in a shape.
 fn of_three<I, P>(question: Question<I>, shape: Shape, a: P, b: P, c: P) -> Option<Answer>
 where
@@ -50,7 +37,6 @@ where
 {
     match shape {
         Shape::Alt => question.ask(alt((a, b, c))),
-        Shape::Array => question.ask(alt([a, b, c])),
         Shape::Permutation => question.ask(permutation((a, b, c))),
         Shape::Tuple => question.ask((a, b, c)),
         _ => None,
@@ -98,7 +84,11 @@ where
 {
     let Members { count, a, b, c, d } = members;
     match (shape, count) {
-        (Shape::Slice, 2) => of_slice(question, char(a), char(b)),
+        (Shape::Slice, 2) => {
+            let mut both = [char(a), char(b)];
+            question.ask(alt(&mut both[..]))
+        }
+        (Shape::Array, 3) => question.ask(alt([char(a), char(b), char(c)])),
         (_, 3) => of_three(question, shape, char(a), char(b), char(c)),
         (_, 4) => of_four(question, shape, char(a), char(b), char(c), char(d)),
         _ => None,
