@@ -1,174 +1,83 @@
 //! Lines of the files.
 
-use crate::argument::{Argument, argument_of};
-use crate::{bytes, characters, integers, methods};
-use nom::{AsBytes, AsChar, Compare, ExtendInto, FindSubstring, FindToken, Input};
+use crate::{bits, calls, formats, methods, paths};
 use nom_answer_lines::answer::{Answer, read_answer};
-use nom_answer_lines::ask::{Module, Question, Way};
+use nom_answer_lines::ask::{Module, Way};
 use nom_answer_lines::literal::{Literal, literal_of};
 use nom_answer_lines::names::place_of;
 use nom_answer_lines::replay::Verdict;
 use std::alloc::Global;
-use std::fmt::Debug;
 
-/// What a parser answers that takes a set of items or of characters.
-fn by_set<I, L>(question: Question<I>, name: &str, list: L) -> Option<Answer>
-where
-    I: Input + AsBytes + Debug,
-    I::Item: AsChar,
-    L: FindToken<I::Item> + FindToken<char> + Copy,
-{
-    bytes::of_set(question, name, list).or(characters::of_set(question, name, list))
-}
-
-/// What a parser answers that takes a text or a slice of bytes: a tag, a needle or a set.
-fn by_list<I, T>(question: Question<I>, name: &str, list: T) -> Option<Answer>
-where
-    I: Input + AsBytes + Debug + Compare<T> + FindSubstring<T>,
-    I::Item: AsChar,
-    T: FindToken<I::Item> + FindToken<char> + Copy,
-{
-    bytes::tagged(question, name, list)
-        .or(bytes::before(question, name, list))
-        .or(by_set(question, name, list))
-}
-
-/// The same of an argument that is the same over any input.
-fn by_value<'a, C, I>(question: Question<I>, name: &str, argument: &'a Argument) -> Option<Answer>
-where
-    C: AsChar,
-    I: Input<Item = C> + AsBytes + Debug + Compare<&'a str> + ExtendInto<Global>,
-    I::Extender: Debug + Drop,
-{
-    match argument {
-        Argument::Nothing => {
-            characters::plain(question, name).or(integers::integer(question, name))
+/// The answer that a line tells, at an input, with what a buffer holds where it tells that.
+fn wanted(alloc: Global, text: &str, input: &[u8]) -> Option<Answer> {
+    match text.split_once(" buffer=") {
+        None => read_answer(alloc, text, input),
+        Some((told, held)) => {
+            let answer = read_answer(alloc, told, input)?;
+            let said = answer.said;
+            Some(Answer {
+                said: format!(in alloc; "{said} buffer={held}").ok()?,
+                left: answer.left,
+            })
         }
-        Argument::Char(c) => characters::one(question, name, *c),
-        Argument::Count(count) => bytes::counted(question, name, *count),
-        Argument::Test(test) => {
-            bytes::runs(question, name, *test).or(characters::tested(question, name, *test))
-        }
-        Argument::Bounds(m, n, test) => bytes::bounded(question, name, *m, *n, *test),
-        Argument::Escapes(escapes) => bytes::escapes(question, name, escapes),
-        _ => None,
     }
 }
 
-/// What a parser answers at a text; none where nom has no such parser over texts.
-fn over_text<'a>(
-    question: Question<&'a str>,
-    name: &str,
-    argument: &'a Argument,
-) -> Option<Answer> {
-    match argument {
-        Argument::Literal(Literal::Text(list)) => by_list(question, name, list.as_str()),
-        Argument::Literal(Literal::Bytes(list)) => {
-            let list = list.as_slice();
-            bytes::tagged(question, name, list).or(by_set(question, name, list))
-        }
-        Argument::Chars(list) => by_set(question, name, list.as_slice()),
-        Argument::Array(_) => None,
-        _ => by_value(question, name, argument),
-    }
-}
-
-/// The same at a slice of bytes.
-fn over_bytes<'a>(
-    question: Question<&'a [u8]>,
-    name: &str,
-    argument: &'a Argument,
-) -> Option<Answer> {
-    match argument {
-        Argument::Literal(Literal::Text(list)) => by_list(question, name, list.as_str()),
-        Argument::Literal(Literal::Bytes(list)) => by_list(question, name, list.as_slice()),
-        Argument::Chars(list) => characters::of_set(question, name, list.as_slice()),
-        Argument::Array(list) => bytes::of_set(question, name, *list),
-        _ => by_value(question, name, argument),
-    }
-}
-
-/// What a parser answers at an input.
-fn found(
+/// Whether the answer of a parser with a path is that of a line. One of a module for one mode answers so in
+/// both.
+fn by_path(
     alloc: Global,
-    module: Module,
+    call: &str,
     way: Way,
-    name: &str,
-    argument: &Argument,
     input: &Literal,
-) -> Option<Answer> {
-    match input {
-        Literal::Text(text) => {
-            let input = text.as_str();
-            let question = Question {
-                alloc,
-                module,
-                way,
-                input,
-            };
-            over_text(question, name, argument)
-        }
-        Literal::Bytes(bytes) => {
-            let input = bytes.as_slice();
-            let question = Question {
-                alloc,
-                module,
-                way,
-                input,
-            };
-            over_bytes(question, name, argument)
+    wanted: &Answer,
+) -> Option<Verdict> {
+    let path = paths::path_of(alloc, call)?;
+    if !matches!(path.module, Module::Top) {
+        let other = match way {
+            Way::Streaming => Way::Complete,
+            Way::Complete => Way::Streaming,
+        };
+        let found = paths::found(alloc, &path, other, input)?;
+        if !found.is(wanted) {
+            return Some(Verdict::Differs(found));
         }
     }
+    Some(Verdict::of(paths::found(alloc, &path, way, input)?, wanted))
 }
 
-/// The module of a path, and the name behind it.
-fn module_of(path: &str) -> Option<(Module, &str)> {
-    let (root, path) = path.split_once("::")?;
-    place_of("bytes character", root)?;
-    if let Some(name) = path.strip_prefix("complete::") {
-        return Some((Module::Complete, name));
-    }
-    match path.strip_prefix("streaming::") {
-        Some(name) => Some((Module::Streaming, name)),
-        None => Some((Module::Top, path)),
-    }
-}
-
-/// Whether a parser's answer is that of a line. One of a module for one mode answers so in both.
+/// What a line on a parser comes to, by its columns.
 fn parsed(alloc: Global, call: &str, input: &str, way: &str, answer: &str) -> Option<Verdict> {
-    let (path, argument) = match call.strip_suffix(")") {
-        Some(open) => open.split_once("(")?,
-        None => (call, ""),
+    let way = match place_of("streaming complete", way)? {
+        0 => Way::Streaming,
+        _ => Way::Complete,
     };
-    place_of("streaming complete", way)?;
-    let (module, name) = module_of(path)?;
-    let argument = argument_of(alloc, argument)?;
+    if call.starts_with("bits(") || call.contains("bits::") {
+        return bits::line::compared(alloc, call, input, way, answer);
+    }
     let input = literal_of(alloc, input)?;
-    let wanted = read_answer(alloc, answer, input.as_bytes())?;
-    let is_fixed = !matches!(module, Module::Top);
-    if is_fixed || way == "streaming" {
-        let streaming = found(alloc, module, Way::Streaming, name, &argument, &input)?;
-        if !streaming.is(&wanted) {
-            return Some(Verdict::Differs(streaming));
-        }
+    let wanted = wanted(alloc, answer, input.as_bytes())?;
+    if call.starts_with("bytes::") || call.starts_with("character::") {
+        return by_path(alloc, call, way, &input, &wanted);
     }
-    if is_fixed || way == "complete" {
-        let complete = found(alloc, module, Way::Complete, name, &argument, &input)?;
-        if !complete.is(&wanted) {
-            return Some(Verdict::Differs(complete));
-        }
-    }
-    Some(Verdict::Agrees)
+    Some(Verdict::of(calls::found(alloc, call, way, &input)?, &wanted))
+}
+
+/// What a line comes to that tells no mode: one on a method, or on a grammar.
+fn told(alloc: Global, call: &str, input: &str, answer: &str) -> Option<Verdict> {
+    let found = match methods::answer(alloc, call, input) {
+        Some(found) => found,
+        None => formats::answer(alloc, call, input)?,
+    };
+    Some(Verdict::of(found, &read_answer(alloc, answer, &[])?))
 }
 
 /// What a line comes to; none where it can't be read, or memory runs out.
 pub fn compared(alloc: Global, line: &str) -> Option<Verdict> {
     let (call, asked) = line.split_once(" | ")?;
     let (input, replied) = asked.split_once(" | ")?;
-    if let Some((way, answer)) = replied.split_once(" | ") {
-        return parsed(alloc, call, input, way, answer);
+    match replied.split_once(" | ") {
+        Some((way, answer)) => parsed(alloc, call, input, way, answer),
+        None => told(alloc, call, input, replied),
     }
-    let found = methods::answer(alloc, call, input)?;
-    let wanted = read_answer(alloc, replied, &[])?;
-    Some(Verdict::of(found, &wanted))
 }

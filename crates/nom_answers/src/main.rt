@@ -22,6 +22,36 @@
 //! 4. The answer: the rest and the output of an acceptance, as `{:?}` writes it; the kind of a refusal, and
 //!    the length of the front before the input that it holds; or how much more is needed.
 //!
+//! A parser that is made of others, a number, or a parser of bits is named by its call:
+//!
+//! ```text
+//! cut(terminated(is_a("a"), opt(tag("b")))) | b"ab" | streaming | rest=b"" value=[97]
+//! alt((tag("abc"), tag("ab"), tag("a"))) | b"ab" | streaming | incomplete 1
+//! permutation((tag("a"), cut(tag("b")))) | "bc" | complete | failure Tag at 1
+//! many(2..4, tag("a")) | "aaaa" | streaming | rest="a" value=["a", "a", "a"]
+//! separated_list0(tag("b"), opt(tag("a"))) | b"ab" | complete | rest=b"" value=[Some([97]), None]
+//! length_value(be_u8(), many0(tag("a"))) | b"\x01a" | complete | rest=b"" value=[[97]]
+//! number::recognize_float() | b"1.5;" | streaming | rest=b";" value=[49, 46, 53]
+//! bits::streaming::take::<u8>(3) | (b"\x12", 5) | streaming | rest=(b"", 0) value=2
+//! bits(bits::complete::take::<u16>(12usize)) | b"\x12\x12" | complete | rest=b"" value=289
+//! ```
+//!
+//! - One in layers has as its innermost part `tag("a")`, `tag("ab")`, `is_a("a")`, `take(2usize)` or
+//!   `bytes::streaming::tag("ab")`; around it stands nothing, or a parser of `grid::shape_of`; around that a
+//!   parser of `grid::outer_of`.
+//! - A choice, a permutation or a tuple is a shape of `choices::members::shape_of`, around one to four tags or
+//!   characters, or two members of `member_of`.
+//! - A list is one of `lists::calls::call_of`, of an item that is a part of `part_of` or made of one as `item_of`
+//!   says. A fold counts the items: `zero` is 0, and `inc` adds 1. What `fill` leaves in its buffer is told
+//!   behind the answer.
+//! - What stands behind a length is one of `lengths::calls::kind_of`, of a length of `length_of` and, but for
+//!   data, a part of `part_of`. `digit_value` is the number that a digit writes; `one` is 1, and `three` 3.
+//! - A field of bits has any count and pattern, alone or within `bits`, and is at most as wide as its type; other
+//!   parsers of bits are the calls in `bits::composed`. The input may have a position among its bits, and the
+//!   answer has one then too.
+//!
+//! The kind of a failure is told as that of a refusal is.
+//!
 //! Of a method of texts and characters there are three:
 //!
 //! ```text
@@ -41,22 +71,39 @@
 //!    `error` of a comparison; of a split `run` and the length of the run, `refused` at the start of the text
 //!    with `Alpha`, or `incomplete` and how much more is needed.
 //!
+//! And of a grammar of `nom_formats` there are three: its name, the text, and the answer as `{:?}` writes it:
+//!
+//! ```text
+//! expression | "1+2*3;" | Ok((";", 7))
+//! ```
+//!
 //! The answers in which this library differs on purpose, and calls with which nom panics or runs for ever, are
-//! left out of the files in `data`: docs/DIFFERENCES.md lists them. But `data/rows.txt` has worked examples,
-//! those with other answers among them, and `data/wrong.txt` answers that nobody gave, which have to be told.
+//! left out of the files in `data`: docs/DIFFERENCES.md lists them. But `data/rows.txt` and
+//! `data/number_rows.txt` have worked examples, those with other answers among them, and `data/wrong.txt` answers
+//! that nobody gave, which have to be told.
 //!
 //! For each file it prints its name; for each line to which the answer here is another `differs`, the number of
 //! the line, what was found and how many bytes it leaves, and for each that can't be read `unread` and its
-//! number; then how many lines there were, and how many of them were wrong. The status is 0 where none was; 1 where one was, or a write
-//! fails; 3 where a file can't be read.
+//! number; then how many lines there were, and how many of them were wrong. The status is 0 where none was; 1
+//! where one was, or a write fails; 3 where a file can't be read.
 #![tactic(auto)]
 
 mod argument;
+mod bits;
 mod bytes;
+mod calls;
 mod characters;
+mod choices;
+mod formats;
+mod forms;
+mod grid;
 mod integers;
+mod lengths;
 mod line;
+mod lists;
 mod methods;
+mod numbers;
+mod paths;
 mod test;
 
 use crate::line::compared;

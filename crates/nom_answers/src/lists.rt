@@ -1,0 +1,7 @@
+//! Lists, counts and folds.
+
+pub mod apart;
+pub mod calls;
+pub mod items;
+pub mod plain;
+pub mod ranges;

@@ -1,0 +1,151 @@
+//! The lists of calls.
+
+use crate::lists::apart::{between, separated, until};
+use crate::lists::calls::{Call, Item, Part, Shape};
+use crate::lists::plain::plain;
+use crate::lists::ranges::{fold_over, list_over};
+use nom::branch::alt;
+use nom::bytes::{complete, is_a, streaming, tag, take};
+use nom::character::one_of;
+use nom::combinator::{complete as in_complete, cut, not, opt};
+use nom::error::Error;
+use nom::multi::{fill, many0, many1};
+use nom::{AsBytes, AsChar, Compare, FindToken, Input, Parser, Viewed};
+use nom_answer_lines::answer::Answer;
+use nom_answer_lines::ask::Question;
+use nom_ends::left::{Eof, Rest};
+use std::fmt::Debug;
+
+/// What a list of an item answers, with a separator, an end, or neither.
+fn listed<I, T, P>(question: Question<I>, call: &Call<T>, item: P) -> Option<Answer>
+where
+    I: Input + AsBytes + Debug + Compare<T>,
+    T: Copy,
+    P: Parser<I, Error = Error<I>> + Drop,
+    P::Output: Viewed + Debug,
+    requires { (P.meaning (P.state item)).IsSound }
+{
+    match &call.shape {
+        Shape::SeparatedList0 | Shape::SeparatedList1 => between(question, call, item),
+        Shape::ManyTill => until(question, call, item),
+        shape => plain(question, shape, item),
+    }
+}
+
+/// The same, or a fold over a range.
+fn listed_in<I, T, P>(question: Question<I>, call: &Call<T>, item: P) -> Option<Answer>
+where
+    I: Input + AsBytes + Debug + Compare<T>,
+    T: Copy,
+    P: Parser<I, Error = Error<I>> + Drop,
+    P::Output: Viewed + Debug,
+    requires { (P.meaning (P.state item)).IsSound }
+{
+    match &call.shape {
+        Shape::Fold(counts) => fold_over(question, counts, item),
+        _ => listed(question, call, item),
+    }
+}
+
+/// What a list answers whose items are made of a part.
+fn made<I, T, P>(question: Question<I>, call: &Call<T>, part: P) -> Option<Answer>
+where
+    I: Input + AsBytes + Debug + Viewed + Compare<T>,
+    T: Copy,
+    P: Parser<I, Output = I, Error = Error<I>> + Drop,
+    requires { (P.meaning (P.state part)).IsSound }
+{
+    let alloc = question.alloc;
+    match call.item {
+        Item::Itself => listed_in(question, call, part),
+        Item::Many0 => listed(question, call, many0(alloc, part)),
+        Item::Many1 => plain(question, &call.shape, many1(alloc, part)),
+        Item::AltNothing => listed(question, call, alt((part, tag(call.nothing)))),
+        Item::Opt => listed(question, call, opt(part)),
+        Item::Cut => listed_in(question, call, cut(part)),
+        Item::Not => plain(question, &call.shape, not(part)),
+        Item::Complete => plain(question, &call.shape, in_complete(part)),
+    }
+}
+
+/// What a list of items of a module answers, alone or with a separator of the same.
+fn alike<I, P>(question: Question<I>, shape: &Shape, separator: P, item: P) -> Option<Answer>
+where
+    I: Input + AsBytes + Debug,
+    P: Parser<I, Error = Error<I>> + Drop,
+    P::Output: Viewed + Debug,
+    requires separator { (P.meaning (P.state separator)).IsSound }
+    requires item { (P.meaning (P.state item)).IsSound }
+{
+    match shape {
+        Shape::SeparatedList0 | Shape::SeparatedList1 => {
+            separated(question, shape, separator, item)
+        }
+        _ => plain(question, shape, item),
+    }
+}
+
+/// What a list of a call's items answers; none where an item is none of these.
+pub fn asked<I, T>(question: Question<I>, call: &Call<T>) -> Option<Answer>
+where
+    I: Input + AsBytes + Debug + Viewed + Compare<T>,
+    I::Item: AsChar,
+    T: FindToken<I::Item> + FindToken<char> + Copy,
+{
+    let shape = &call.shape;
+    let other = call.other_text;
+    let text = call.part_text;
+    match (&call.part, &call.item) {
+        (Part::Tag, _) => made(question, call, tag(text)),
+        (Part::CompleteTag, Item::Itself) => {
+            alike(question, shape, complete::tag(other), complete::tag(text))
+        }
+        (Part::StreamingTag, Item::Itself) => {
+            alike(question, shape, streaming::tag(other), streaming::tag(text))
+        }
+        (Part::OneOf, Item::Itself) => listed(question, call, one_of(text)),
+        (Part::Take, Item::Itself) => listed(question, call, take(1usize)),
+        (Part::IsA, Item::Itself) => plain(question, shape, is_a(text)),
+        (Part::Rest, Item::Itself) => plain(question, shape, Rest::new()),
+        (Part::Eof, Item::Itself) => plain(question, shape, Eof::new()),
+        _ => None,
+    }
+}
+
+/// What `fill` answers of a text and a buffer of up to three places, and what the buffer holds then.
+fn filled<'a, P>(question: Question<&'a str>, places: usize, item: P) -> Option<Answer>
+where
+    P: Parser<&'a str, Output = &'a str, Error = Error<&'a str>> + Drop,
+    requires { (P.meaning (P.state item)).IsSound }
+{
+    let mut buffer = ["x", "x", "x"];
+    let places = places.min(3);
+    let answer = question.ask(fill(item, &mut buffer[..places]))?;
+    let said = answer.said;
+    let held = &buffer[..places];
+    Some(Answer {
+        said: format!(in question.alloc; "{said} buffer={held:?}").ok()?,
+        left: answer.left,
+    })
+}
+
+/// What a call answers that fills a buffer of so many places.
+fn filled_by(question: Question<&str>, call: &Call<&str>, places: usize) -> Option<Answer> {
+    match (&call.item, &call.part) {
+        (Item::Itself, Part::Tag) => filled(question, places, tag(call.part_text)),
+        (Item::Cut, Part::Tag) => filled(question, places, cut(tag(call.part_text))),
+        (Item::Itself, Part::Take) => filled(question, places, take(1usize)),
+        _ => None,
+    }
+}
+
+/// What a call answers of a text that a slice of bytes isn't asked; none where it is no such call.
+pub fn asked_of_text(question: Question<&str>, call: &Call<&str>) -> Option<Answer> {
+    match (&call.shape, &call.item, &call.part) {
+        (Shape::Many(counts), Item::Itself, Part::Tag) => {
+            list_over(question, counts, call.part_text)
+        }
+        (Shape::Fill(places), _, _) => filled_by(question, call, *places),
+        _ => None,
+    }
+}

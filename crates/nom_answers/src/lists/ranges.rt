@@ -1,0 +1,66 @@
+//! Lists and folds over a range of counts.
+
+use crate::lists::calls::Counts;
+use nom::bytes::tag;
+use nom::error::Error;
+use nom::multi::{fold, many};
+use nom::{AsBytes, Input, NomRange, Parser, Viewed};
+use nom_answer_lines::answer::Answer;
+use nom_answer_lines::ask::Question;
+use std::fmt::Debug;
+
+/// What a fold over a range answers.
+fn folded<I, P, R>(question: Question<I>, range: R, item: P) -> Option<Answer>
+where
+    I: Input + AsBytes + Debug,
+    P: Parser<I, Error = Error<I>> + Drop,
+    P::Output: Viewed,
+    R: NomRange<usize> + Drop,
+    requires { (P.meaning (P.state item)).IsSound }
+{
+    question.ask(fold(
+        range,
+        item,
+        || 0usize,
+        |n: usize, _item: P::Output| n.saturating_add(1),
+    ))
+}
+
+/// The same, over a range by its ends.
+pub fn fold_over<I, P>(question: Question<I>, counts: &Counts, item: P) -> Option<Answer>
+where
+    I: Input + AsBytes + Debug,
+    P: Parser<I, Error = Error<I>> + Drop,
+    P::Output: Viewed,
+    requires { (P.meaning (P.state item)).IsSound }
+{
+    match counts {
+        Counts::Between(first, end) => folded(question, *first..*end, item),
+        Counts::Through(first, last) => folded(question, *first..=*last, item),
+        Counts::From(first) => folded(question, *first.., item),
+        Counts::All => folded(question, .., item),
+        Counts::Before(end) => folded(question, ..*end, item),
+        Counts::UpTo(last) => folded(question, ..=*last, item),
+        Counts::Exactly(count) => folded(question, *count, item),
+    }
+}
+
+/// What a list of tags answers over a range, of texts: one call each, since the size of the range in the list's
+/// type has to be known.
+pub fn list_over(question: Question<&str>, counts: &Counts, text: &str) -> Option<Answer> {
+    let alloc = question.alloc;
+    let item = tag(text);
+    match counts {
+        Counts::Between(first, end) => {
+            question.ask(many::<_, _, _, Vec<&str>>(alloc, *first..*end, item))
+        }
+        Counts::Through(first, last) => {
+            question.ask(many::<_, _, _, Vec<&str>>(alloc, *first..=*last, item))
+        }
+        Counts::From(first) => question.ask(many::<_, _, _, Vec<&str>>(alloc, *first.., item)),
+        Counts::All => question.ask(many::<_, _, _, Vec<&str>>(alloc, .., item)),
+        Counts::Before(end) => question.ask(many::<_, _, _, Vec<&str>>(alloc, ..*end, item)),
+        Counts::UpTo(last) => question.ask(many::<_, _, _, Vec<&str>>(alloc, ..=*last, item)),
+        Counts::Exactly(count) => question.ask(many::<_, _, _, Vec<&str>>(alloc, *count, item)),
+    }
+}

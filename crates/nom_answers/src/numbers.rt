@@ -1,0 +1,4 @@
+//! Numbers, binary and in digits.
+
+pub mod digits;
+pub mod integers;
