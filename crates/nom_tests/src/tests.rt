@@ -1,12 +1,11 @@
-//! What a data file of answers can't hold: what is built, errors, and parsers of closures.
+//! What a data file of answers can't hold: what is built, errors, parsers of closures and of a user's own
+//! types, and inputs that grow.
 
-mod answers;
-mod byte_sets;
-mod ends;
+mod bits;
+mod choice;
+mod combinator;
 mod errors;
-mod escapes;
+mod leaves;
 mod parse_to;
-mod runs;
-mod sets;
+mod rows;
 mod texts;
-mod verdicts;

@@ -1,14 +1,113 @@
-//! Tags, slices, lists and choices of texts.
+//! Texts with escapes, and lists and lengths of texts.
 ghost use Rattle.std.specs.Prelude.{◌≡◌};
 
-use super::answers::{Answer, Way, answers};
+use crate::tests::rows::{Answer, wrong_row};
 use nom::branch::alt;
-use nom::bytes::tag;
+use nom::bytes::{complete, escaped, escaped_transform, tag, take_while1};
 use nom::error::Error;
 use nom::multi::{length_data, many0};
-use nom::{Err, Items, Mode, Needed, OutputMode, PResult, Parser};
+use nom::{
+    AsChar, Check, Complete, Emit, Err, IResult, Items, Mode, Needed, OutputM, OutputMode, PResult,
+    Parser, Streaming,
+};
 
 type Fail<'a> = Error<&'a str>;
+
+/// The rest that a parser leaves in a mode, and whether it builds an output. It promises nothing.
+fn left_in<'a, OM: OutputMode, P: Parser<&'a str, Error = Fail<'a>> + Drop>(
+    mut parser: P,
+    input: &'a str,
+) -> Option<(&'a str, bool)>
+    requires { (P.meaning (P.state parser)).IsSound }
+{
+    match parser.process::<OM>(input) {
+        Ok((rest, output)) => Some((rest, output.is_some())),
+        Err(_) => None,
+    }
+}
+
+// A text with digits, a backslash, and behind it `n`.
+#[test]
+fn an_escaped_text_that_is_checked(rt: HostRuntime) {
+    let digits = take_while1::<_, _, Fail>(|c: char| c.is_ascii_digit());
+    let text = escaped(digits, '\\', tag::<_, _, Fail>("n"));
+    let left = left_in::<OutputM<Check, Check, Streaming>, _>(text, "12\\n34;");
+    assert!(rt; left == Some((";", false)));
+}
+
+#[test]
+fn a_transformed_text_that_is_checked(rt: HostRuntime) {
+    let digits = take_while1::<_, _, Fail>(|c: char| c.is_ascii_digit());
+    let text = escaped_transform(rt.alloc(), digits, '\\', tag::<_, _, Fail>("n"));
+    let left = left_in::<OutputM<Check, Emit, Complete>, _>(text, "12\\n34;");
+    assert!(rt; left == Some((";", false)));
+}
+
+/// Whether a parser leaves so much of an input and gives this text, in both modes. It promises nothing.
+fn gives<'a, P: Parser<&'a str, Output = String, Error = Fail<'a>> + Drop>(
+    mut parser: P,
+    input: &'a str,
+    left: &str,
+    text: &str,
+) -> bool
+    requires { (P.meaning (P.state parser)).IsSound }
+{
+    is_text(parser.parse(input), left, text) && is_text(parser.parse_complete(input), left, text)
+}
+
+fn is_text(found: IResult<&str, String>, left: &str, text: &str) -> bool {
+    match found {
+        Ok((rest, output)) => rest == left && output.as_str() == text,
+        Err(_) => false,
+    }
+}
+
+// A normal piece that consumes nothing ends the text, in both modes.
+#[test]
+fn an_empty_piece(rt: HostRuntime) {
+    let letters = complete::take_while::<_, _, Fail>(|c: char| c.is_alpha());
+    let text = escaped_transform(rt.alloc(), letters, '\\', tag::<_, _, Fail>("n"));
+    assert!(rt; gives(text, "ab7", "7", "ab"));
+}
+
+/// Whether what a list and its end answer is this many items before such a rest, with this one in the second
+/// place.
+fn are_items(found: IResult<&str, (Vec<&str>, &str)>, count: usize, left: &str) -> bool {
+    match found {
+        Ok((rest, (items, end))) => {
+            rest == left && items.len() == count && items.get(1) == Some(&"💢") && end == ";"
+        }
+        Err(_) => false,
+    }
+}
+
+/// Whether so many more are needed.
+fn needs(found: IResult<&str, (Vec<&str>, &str)>, size: usize) -> bool {
+    match found {
+        Err(Err::Incomplete(needed)) => needed == Needed::new(size),
+        _ => false,
+    }
+}
+
+/// What a parser of items answers at two inputs. It promises nothing.
+fn items_of<'a, P: Parser<&'a str, Error = Fail<'a>> + Drop>(
+    mut parser: P,
+    first: &'a str,
+    second: &'a str,
+) -> (IResult<&'a str, P::Output>, IResult<&'a str, P::Output>)
+    requires { (P.meaning (P.state parser)).IsSound }
+{
+    (parser.parse(first), parser.parse(second))
+}
+
+#[test]
+fn lists_and_choices_of_texts(rt: HostRuntime) {
+    let item = alt((tag::<_, _, Fail>("é"), tag::<_, _, Fail>("💢")));
+    let list = many0(rt.alloc(), item).and(tag::<_, _, Fail>(";"));
+    let (ended, unsure) = items_of(list, "é💢é;¡", "é💢");
+    assert!(rt; are_items(ended, 3, "¡"));
+    assert!(rt; needs(unsure, 2));
+}
 
 /// The length 2.
 fn length_of_two() -> u8
@@ -50,30 +149,14 @@ impl<'a> Parser<&'a str> for Two {
 }
 
 #[test]
-fn lists_and_choices_of_texts(rt: HostRuntime) {
-    let item = alt((tag::<_, _, Error<&str>>("é"), tag::<_, _, Error<&str>>("💢")));
-    let mut list = many0(rt.alloc(), item).and(tag::<_, _, Error<&str>>(";"));
-    match list.parse("é💢é;¡") {
-        Ok((rest, (items, end))) => {
-            assert!(rt; rest == "¡");
-            assert!(rt; items.len() == 3);
-            assert!(rt; items[1] == "💢");
-            assert!(rt; end == ";");
-        }
-        _ => panic!(rt; "no list"),
-    }
-    match list.parse("é💢") {
-        Err(Err::Incomplete(needed)) => assert!(rt; needed == Needed::new(2)),
-        _ => panic!(rt; "not incomplete"),
-    }
-}
-
-#[test]
 fn characters_behind_a_length(rt: HostRuntime) {
-    for (input, answer) in [("é💢¡", Answer::Accepts("¡", "é💢")), ("é", Answer::Needs(0))] {
-        assert!(rt;
-            answers(length_data(Two), Way::Streaming, input, answer),
-            "at {input}"
-        );
-    }
+    let rows = [
+        ("é💢¡", Answer::Accepts(2, "é💢"), None),
+        (
+            "é",
+            Answer::Needs(0),
+            Some(Answer::Refuses(nom::error::ErrorKind::Eof, 2)),
+        ),
+    ];
+    assert_eq!(rt; wrong_row(length_data(Two), &rows), None);
 }

@@ -1,5 +1,0 @@
-use Rattle.nom_bits.proofs.Functions.{bool_stream_func}
-use Rattle.nom_bits_tests.proofs.bridges.grown_bit.Goals as goal
-
-pub parse_growing-requires-clause-sound : goal.parse_growing-requires-clause-sound
-parse_growing-requires-clause-sound c = bool_stream_func (λ i h. tt) (λ i r h g. g.0)

@@ -1,5 +1,0 @@
-//! Tests of choices.
-#![tactic(auto)]
-
-#[cfg(test)]
-mod tests;

@@ -1,5 +1,0 @@
-//! Tests of permutations.
-#![tactic(auto)]
-
-#[cfg(test)]
-mod tests;

@@ -1,0 +1,41 @@
+//! How a call on bits ended.
+
+use nom_error::answer::{Err, IResult, Needed};
+use nom_error::kind::ErrorKind;
+use nom_error::value::Error;
+use nom_internal::parser::Parser;
+
+pub type Bits<'a> = (&'a [u8], usize);
+
+pub type Fail<'a> = Error<(&'a [u8], usize)>;
+
+/// With a value and a rest of so many bytes, from a position on; with a refusal before so many bytes, at a
+/// position; or for want of more. What is needed is a type argument, since the check covers an enum that holds
+/// both references and a `NonZeroUsize` only so.
+#[derive(Drop, PartialEq)]
+pub enum Ended<T, N = Needed> {
+    Read(T, usize, usize),
+    Refused(ErrorKind, usize, usize),
+    Lacked(N),
+    Otherwise,
+}
+
+/// How a call ended.
+pub fn how<T: Drop>(answer: IResult<Bits<'_>, T, Fail<'_>>) -> Ended<T> {
+    match answer {
+        Ok((rest, value)) => Ended::Read(value, rest.0.len(), rest.1),
+        Err(Err::Error(error)) => Ended::Refused(error.code, error.input.0.len(), error.input.1),
+        Err(Err::Incomplete(needed)) => Ended::Lacked(needed),
+        Err(_) => Ended::Otherwise,
+    }
+}
+
+/// How a parser ends where more may come, and where no more may. It promises nothing.
+pub fn ends<'a, T: Drop, P: Parser<Bits<'a>, Output = T, Error = Fail<'a>> + Drop>(
+    mut parser: P,
+    input: Bits<'a>,
+) -> (Ended<T>, Ended<T>)
+    requires { (P.meaning (P.state parser)).IsSound }
+{
+    (how(parser.parse(input)), how(parser.parse_complete(input)))
+}

@@ -1,0 +1,5 @@
+//! Choices and permutations.
+
+mod alternatives;
+mod permutations;
+mod steps;

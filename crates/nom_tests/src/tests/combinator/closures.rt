@@ -1,0 +1,222 @@
+//! Closures on outputs. Nothing is written for what they owe: that they take each output, that they judge
+//! the outputs of one tree alike, and that they give results that are seen alike for outputs that are.
+
+ghost use Rattle.std.specs.Prelude.{ℕ, List, Option};
+
+use crate::tests::rows::{Answer, bytes, is_grown, pinned, wrong_row};
+use nom::bytes::take;
+use nom::combinator::{map, map_opt, map_res, success, value, verify};
+use nom::error::{Error, ErrorKind};
+use nom::number::be_u8;
+use nom::{IResult, Parser, Viewed};
+use std::test::Fail;
+
+type At<'a> = Error<&'a [u8]>;
+
+const EOF: ErrorKind = ErrorKind::Eof;
+
+/// The bits that are set in a number below 4.
+const SET: [u8; 4] = [0, 1, 1, 2];
+
+/// A user's type, compared as it is.
+#[derive(Clone, Copy, PartialEq, Eq)]
+struct Color {
+    red: u8,
+    green: u8,
+}
+
+impl Viewed for Color {}
+
+/// A slice and one of its bytes, compared by what stands behind the reference.
+#[derive(Clone, Copy, PartialEq, Eq)]
+struct Piece<'a> {
+    bytes: &'a [u8],
+    last: Option<u8>,
+}
+
+impl<'a> Viewed for Piece<'a> {
+    ghost view = { record { Value = List ℕ × Option ℕ; value = λ p. (p.bytes.now, p.last) } };
+}
+
+fn sum() -> Option<usize> {
+    let rows = [
+        (bytes("\x01a"), Answer::Accepts(1, 2), None),
+        (&b"\xFF"[..], Answer::Accepts(0, 256), None),
+        (bytes(""), Answer::Needs(1), Some(Answer::Refuses(EOF, 0))),
+    ];
+    let sum = map(be_u8::<_, At>(), |b: u8| b as u32 + 1);
+    wrong_row(pinned(sum), &rows)
+}
+
+fn table() -> Option<usize> {
+    let rows = [
+        (bytes("\x03"), Answer::Accepts(0, 2), None),
+        (bytes("\x04"), Answer::Accepts(0, 0), None),
+    ];
+    let set = be_u8::<_, At>().map(|b: u8| SET[(b % 4) as usize]);
+    wrong_row(pinned(set), &rows)
+}
+
+fn of_color() -> Option<usize> {
+    let given = Color { red: 1, green: 2 };
+    let rows = [(bytes("\x01\x02c"), Answer::Accepts(1, given), None)];
+    let color = map(
+        be_u8::<_, At>().and(be_u8()),
+        |(red, green): (u8, u8)| Color { red, green },
+    );
+    wrong_row(pinned(color), &rows)
+}
+
+fn of_piece() -> Option<usize> {
+    let given = Piece {
+        bytes: bytes("ab"),
+        last: Some(b'b'),
+    };
+    let rows = [(bytes("abc"), Answer::Accepts(1, given), None)];
+    let piece = map(
+        take::<_, _, At>(2usize),
+        |s: &[u8]| Piece {
+            bytes: s,
+            last: s.last().copied(),
+        },
+    );
+    wrong_row(pinned(piece), &rows)
+}
+
+/// A captured number.
+fn capped(most: u8, given: u8) -> Option<usize> {
+    let rows = [(bytes("\x07"), Answer::Accepts(0, given), None)];
+    let capped = be_u8::<_, At>().map(move |b: u8| if b < most { b } else { most });
+    wrong_row(pinned(capped), &rows)
+}
+
+/// A function by its name.
+fn length() -> Option<usize> {
+    let rows = [
+        (bytes("abc"), Answer::Accepts(1, 2), None),
+        (bytes("a"), Answer::Needs(1), Some(Answer::Refuses(EOF, 1))),
+    ];
+    wrong_row(map(take::<_, _, At>(2usize), <[u8]>::len), &rows)
+}
+
+/// The first byte of a part of a slice.
+fn second_byte() -> Option<usize> {
+    let rows = [
+        (bytes("abcd"), Answer::Accepts(1, Some(b'b')), None),
+        (bytes("cba"), Answer::Accepts(0, Some(b'b')), None),
+    ];
+    let tail = take::<_, _, At>(3usize).map(|s: &[u8]| if s.len() > 1 { &s[1..] } else { s });
+    wrong_row(pinned(tail.map(|s: &[u8]| s.first().copied())), &rows)
+}
+
+#[test]
+fn maps(rt: HostRuntime) {
+    assert_eq!(rt; sum(), None);
+    assert_eq!(rt; table(), None);
+    assert_eq!(rt; of_color(), None);
+    assert_eq!(rt; of_piece(), None);
+    assert_eq!(rt; capped(5, 5), None);
+    assert_eq!(rt; capped(9, 7), None);
+    assert_eq!(rt; length(), None);
+    assert_eq!(rt; second_byte(), None);
+}
+
+/// A map of a test of a map.
+fn judged_map() -> Option<usize> {
+    let rows = [
+        (bytes("\x0E"), Answer::Accepts(0, 3), None),
+        (bytes("\x07a"), Answer::Refuses(ErrorKind::Verify, 2), None),
+    ];
+    let halved = be_u8::<_, At>().map(|b: u8| b / 2);
+    let less = verify(halved, |b: &u8| *b > 3).map(|b: u8| b - 4);
+    wrong_row(pinned(less), &rows)
+}
+
+/// A test of a slice.
+fn judged_slice() -> Option<usize> {
+    let rows = [
+        (bytes("aab"), Answer::Accepts(1, bytes("aa")), None),
+        (bytes("abb"), Answer::Refuses(ErrorKind::Verify, 3), None),
+        (bytes("a"), Answer::Needs(1), Some(Answer::Refuses(EOF, 1))),
+    ];
+    let same = verify(take::<_, _, At>(2usize), |s: &&[u8]| s.first() == s.last());
+    wrong_row(pinned(same), &rows)
+}
+
+// The second part refuses at its own start.
+fn judged_pair() -> Option<usize> {
+    let rows = [
+        (bytes("\x0A7a"), Answer::Accepts(1, (6, b'7')), None),
+        (bytes("\x0Aab"), Answer::Refuses(ErrorKind::MapRes, 2), None),
+        (bytes("\x017"), Answer::Refuses(ErrorKind::MapOpt, 2), None),
+        (
+            bytes("\x0A"),
+            Answer::Needs(1),
+            Some(Answer::Refuses(EOF, 0)),
+        ),
+    ];
+    let less = be_u8::<_, At>().map_opt(|b: u8| b.checked_sub(4));
+    let value = map_res(
+        be_u8::<_, At>(),
+        |b: u8| if b < 58 { Ok(b) } else { Err(b) },
+    );
+    wrong_row(pinned(less.and(value)), &rows)
+}
+
+/// A value for each output.
+fn words() -> Option<usize> {
+    let rows = [
+        (bytes("abc"), Answer::Accepts(1, "two"), None),
+        (bytes("a"), Answer::Needs(1), Some(Answer::Refuses(EOF, 1))),
+    ];
+    wrong_row(pinned(value("two", take::<_, _, At>(2usize))), &rows)
+}
+
+#[test]
+fn judged(rt: HostRuntime) {
+    assert_eq!(rt; judged_map(), None);
+    assert_eq!(rt; judged_slice(), None);
+    assert_eq!(rt; judged_pair(), None);
+    assert_eq!(rt; words(), None);
+}
+
+/// What a parser of two lists answers. It promises nothing.
+fn lists_of<'a, P: Parser<&'a [u8], Output = (Vec<u8>, Vec<u8>), Error = At<'a>>>(
+    parser: &mut P,
+    input: &'a [u8],
+) -> IResult<&'a [u8], (Vec<u8>, Vec<u8>)>
+    requires { (P.meaning (P.state parser.old)).IsSound }
+{
+    parser.parse(input)
+}
+
+/// Whether both lists are those of 1 and 2, with nothing behind.
+fn are_lists(found: IResult<&[u8], (Vec<u8>, Vec<u8>)>) -> bool {
+    match found {
+        Ok((rest, (first, second))) => {
+            let wanted = [1, 2];
+            rest.is_empty()
+                && first.as_slice() == wanted.as_slice()
+                && second.as_slice() == wanted.as_slice()
+        }
+        Err(_) => false,
+    }
+}
+
+// A clone of the list is made for each acceptance.
+#[test]
+fn a_list_for_each_output(rt: HostRuntime) -> Result<(), Fail> {
+    let list = vec![in rt.alloc(); 1u8, 2]?;
+    for input in [bytes("a"), bytes("b")] {
+        let mut lists = success::<_, _, At>(list.clone()?).and(value(list.clone()?, be_u8()));
+        assert!(rt; are_lists(lists_of(&mut lists, input)));
+    }
+    Ok(())
+}
+
+#[test]
+fn a_map_that_grows(rt: HostRuntime) {
+    let less = map_opt(be_u8::<_, At>(), |b: u8| b.checked_sub(4));
+    let sum = pinned(less.map(|b: u8| b as u32 + 1));
+    assert!(rt; is_grown(sum, bytes("\x05ab"), [0, 1, 3, 3], 1, (2, 2)));
+}

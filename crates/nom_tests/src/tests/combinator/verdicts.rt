@@ -1,0 +1,115 @@
+//! What becomes of a part's outcome, and items one after another.
+
+use crate::tests::rows::{Answer, Row, bytes, wrong_row};
+use nom::Err;
+use nom::bytes::{Tag, streaming, tag};
+use nom::combinator::{
+    all_consuming, complete, cond, consumed, cut, iterator, not, opt, peek, recognize,
+};
+use nom::error::{Error, ErrorKind, context};
+use nom::sequence::pair;
+
+type At<'a> = Error<&'a [u8]>;
+
+const TAG: ErrorKind = ErrorKind::Tag;
+
+/// An `a`.
+fn letter<'a>() -> Tag<&'a [u8], &'a [u8], At<'a>> {
+    tag(bytes("a"))
+}
+
+fn whole() -> Option<usize> {
+    let a = bytes("a");
+    let rows = [
+        (a, Answer::Accepts(0, a), None),
+        (bytes("ab"), Answer::Refuses(ErrorKind::Eof, 1), None),
+        (bytes("b"), Answer::Refuses(TAG, 1), None),
+        (bytes(""), Answer::Needs(1), Some(Answer::Refuses(TAG, 0))),
+    ];
+    wrong_row(all_consuming(context("letter", recognize(letter()))), &rows)
+}
+
+fn ahead() -> Option<usize> {
+    let a = bytes("a");
+    let rows = [
+        (bytes("ab"), Answer::Accepts(1, (a, (a, a))), None),
+        (bytes("b"), Answer::Refuses(TAG, 1), None),
+    ];
+    wrong_row(pair(peek(letter()), consumed(letter())), &rows)
+}
+
+// `not` consumes nothing, and where it refuses, it does so at its start.
+fn absent() -> Option<usize> {
+    let a = bytes("a");
+    let rows = [
+        (bytes("b"), Answer::Accepts(1, (None, ())), None),
+        (bytes("ab"), Answer::Accepts(1, (Some(a), ())), None),
+        (bytes("aab"), Answer::Refuses(ErrorKind::Not, 2), None),
+        (a, Answer::Needs(1), Some(Answer::Accepts(0, (Some(a), ())))),
+    ];
+    wrong_row(pair(opt(letter()), not(letter())), &rows)
+}
+
+fn final_refusal() -> Option<usize> {
+    let rows = [
+        (bytes("ab"), Answer::Accepts(1, Some(bytes("a"))), None),
+        (bytes("b"), Answer::Fails(TAG, 1), None),
+    ];
+    wrong_row(opt(cut(letter())), &rows)
+}
+
+fn on_condition<'a>(runs: bool, rows: &[Row<&'a [u8], Option<&'a [u8]>>]) -> Option<usize> {
+    wrong_row(cond(runs, letter()), rows)
+}
+
+// What is wanted all the same is refused.
+fn no_want_of_more() -> Option<usize> {
+    let rows = [
+        (bytes("abc"), Answer::Accepts(1, bytes("ab")), None),
+        (bytes("a"), Answer::Refuses(ErrorKind::Complete, 1), None),
+    ];
+    let letters = streaming::tag::<_, _, At>(bytes("ab"));
+    wrong_row(complete(letters), &rows)
+}
+
+#[test]
+fn outcomes(rt: HostRuntime) {
+    assert_eq!(rt; whole(), None);
+    assert_eq!(rt; ahead(), None);
+    assert_eq!(rt; absent(), None);
+    assert_eq!(rt; final_refusal(), None);
+    assert_eq!(rt; no_want_of_more(), None);
+    let taken = [(bytes("ab"), Answer::Accepts(1, Some(bytes("a"))), None)];
+    assert_eq!(rt; on_condition(true, &taken), None);
+    let left = [(bytes("ab"), Answer::Accepts(2, None), None)];
+    assert_eq!(rt; on_condition(false, &left), None);
+}
+
+// What ends the items is kept: a refusal leaves the rest, a failure stays one.
+#[test]
+fn items(rt: HostRuntime) {
+    let mut letters = iterator(bytes("ab"), letter());
+    assert!(rt; letters.next() == Some(bytes("a")));
+    assert!(rt; letters.next().is_none());
+    match letters.finish() {
+        Ok((rest, ())) => assert!(rt; rest == bytes("b")),
+        Err(_) => panic!(rt; "no rest"),
+    }
+}
+
+#[test]
+fn items_that_end_in_a_failure(rt: HostRuntime) {
+    let mut letters = iterator(bytes("b"), cut(letter()));
+    assert!(rt; letters.next().is_none());
+    match letters.finish() {
+        Err(Err::Failure(error)) => assert!(rt; error.code == TAG),
+        _ => panic!(rt; "no failure"),
+    }
+}
+
+#[test]
+fn a_part_in_the_complete_mode(rt: HostRuntime) {
+    let rows = [("a", Answer::Refuses(TAG, 1), None)];
+    let letters = tag::<_, _, Error<&str>>("ab");
+    assert_eq!(rt; wrong_row(complete(letters), &rows), None);
+}

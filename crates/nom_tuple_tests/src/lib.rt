@@ -1,5 +1,0 @@
-//! Tests of tuples of parsers.
-#![tactic(auto)]
-
-#[cfg(test)]
-mod tests;
