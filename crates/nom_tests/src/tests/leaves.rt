@@ -52,12 +52,12 @@ fn outside_bytes(codes: &[u8]) -> Option<usize> {
 
 #[test]
 fn sets(rt: HostRuntime) {
-    assert_eq!(rt; signs(), None);
-    assert_eq!(rt; others(), None);
-    assert_eq!(rt; of_a_text(), None);
+    assert!(rt; signs().is_none());
+    assert!(rt; others().is_none());
+    assert!(rt; of_a_text().is_none());
     let codes = [97u8, 233];
-    assert_eq!(rt; among_bytes(&codes), None);
-    assert_eq!(rt; outside_bytes(&codes), None);
+    assert!(rt; among_bytes(&codes).is_none());
+    assert!(rt; outside_bytes(&codes).is_none());
 }
 
 fn digits() -> Option<usize> {
@@ -82,8 +82,8 @@ fn words() -> Option<usize> {
 
 #[test]
 fn runs(rt: HostRuntime) {
-    assert_eq!(rt; digits(), None);
-    assert_eq!(rt; words(), None);
+    assert!(rt; digits().is_none());
+    assert!(rt; words().is_none());
 }
 
 fn given() -> Option<usize> {
@@ -112,9 +112,9 @@ fn at_end() -> Option<usize> {
 
 #[test]
 fn ends(rt: HostRuntime) {
-    assert_eq!(rt; given(), None);
-    assert_eq!(rt; refused(), None);
-    assert_eq!(rt; at_end(), None);
+    assert!(rt; given().is_none());
+    assert!(rt; refused().is_none());
+    assert!(rt; at_end().is_none());
 }
 
 // The length is that of the text's bytes.

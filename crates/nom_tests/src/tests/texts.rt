@@ -158,5 +158,5 @@ fn characters_behind_a_length(rt: HostRuntime) {
             Some(Answer::Refuses(nom::error::ErrorKind::Eof, 2)),
         ),
     ];
-    assert_eq!(rt; wrong_row(length_data(Two), &rows), None);
+    assert!(rt; wrong_row(length_data(Two), &rows).is_none());
 }

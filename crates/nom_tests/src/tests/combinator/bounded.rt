@@ -75,18 +75,18 @@ fn one_of_two() -> Option<usize> {
 
 #[test]
 fn parsers_on_outputs(rt: HostRuntime) {
-    assert_eq!(rt; all_of_a_slice(), None);
+    assert!(rt; all_of_a_slice().is_none());
     let rows = [
         ("abcd", Answer::Accepts(1, "ab"), None),
         ("xbcd", Answer::RefusesFront(TAG, 3), None),
         ("ab", Answer::Needs(0), Some(Answer::Refuses(EOF, 2))),
     ];
-    assert_eq!(rt; tag_in_a_slice(3, &rows), None);
+    assert!(rt; tag_in_a_slice(3, &rows).is_none());
     let rows = [("ab", Answer::Needs(1), Some(Answer::RefusesFront(TAG, 1)))];
-    assert_eq!(rt; tag_in_a_slice(1, &rows), None);
-    assert_eq!(rt; count_and_its_bytes(), None);
-    assert_eq!(rt; twice(), None);
-    assert_eq!(rt; one_of_two(), None);
+    assert!(rt; tag_in_a_slice(1, &rows).is_none());
+    assert!(rt; count_and_its_bytes().is_none());
+    assert!(rt; twice().is_none());
+    assert!(rt; one_of_two().is_none());
 }
 
 /// An error that keeps the kinds of both errors that it is joined of.

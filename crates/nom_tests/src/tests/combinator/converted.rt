@@ -132,5 +132,5 @@ fn an_output_and_an_error(rt: HostRuntime) {
 fn by_a_method(rt: HostRuntime) {
     let rows = [(bytes("\x07a"), Answer::Accepts(1, Wide { number: 7 }), None)];
     let wide = Parser::into::<Wide, At>(be_u8::<_, At>());
-    assert_eq!(rt; wrong_row(wide, &rows), None);
+    assert!(rt; wrong_row(wide, &rows).is_none());
 }

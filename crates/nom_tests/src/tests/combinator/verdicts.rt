@@ -74,15 +74,15 @@ fn no_want_of_more() -> Option<usize> {
 
 #[test]
 fn outcomes(rt: HostRuntime) {
-    assert_eq!(rt; whole(), None);
-    assert_eq!(rt; ahead(), None);
-    assert_eq!(rt; absent(), None);
-    assert_eq!(rt; final_refusal(), None);
-    assert_eq!(rt; no_want_of_more(), None);
+    assert!(rt; whole().is_none());
+    assert!(rt; ahead().is_none());
+    assert!(rt; absent().is_none());
+    assert!(rt; final_refusal().is_none());
+    assert!(rt; no_want_of_more().is_none());
     let taken = [(bytes("ab"), Answer::Accepts(1, Some(bytes("a"))), None)];
-    assert_eq!(rt; on_condition(true, &taken), None);
+    assert!(rt; on_condition(true, &taken).is_none());
     let left = [(bytes("ab"), Answer::Accepts(2, None), None)];
-    assert_eq!(rt; on_condition(false, &left), None);
+    assert!(rt; on_condition(false, &left).is_none());
 }
 
 // What ends the items is kept: a refusal leaves the rest, a failure stays one.
@@ -111,5 +111,5 @@ fn items_that_end_in_a_failure(rt: HostRuntime) {
 fn a_part_in_the_complete_mode(rt: HostRuntime) {
     let rows = [("a", Answer::Refuses(TAG, 1), None)];
     let letters = tag::<_, _, Error<&str>>("ab");
-    assert_eq!(rt; wrong_row(complete(letters), &rows), None);
+    assert!(rt; wrong_row(complete(letters), &rows).is_none());
 }
