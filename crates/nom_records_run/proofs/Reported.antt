@@ -30,7 +30,7 @@ use Rattle.nom_growing.specs.Growing.{IsBeginning, AnswersOn, IsGrown}
 use Rattle.nom_growing.specs.Growing.IsBeginning.{AtCut, AtEnd}
 use Rattle.nom_growing.specs.Growing.AnswersOn.{RanOutOn, ShownOn}
 use Rattle.nom_records_run.specs.Texts.{decided_text, rest_text, error_text, need_text}
-use Rattle.nom_records_run.specs.Report.{records_text, Says, IsTold, IsReportBy, IsReport, errors_at, bytes_lacking, tag_of, record_of, grammar_of, record_grammar, records_of}
+use Rattle.nom_records_run.specs.Report.{AreRecords, records_text, Says, IsTold, IsReportBy, IsReport, errors_at, bytes_lacking, tag_of, record_of, grammar_of, record_grammar, records_of}
 
 abbrev Bytes : Type 0
 Bytes = Bor (List ℕ)
@@ -92,10 +92,6 @@ module _ {V O : Type 0} (m : Meaning Bytes V (Error Bytes)) (records : V → Lis
   pub reported : (answer : Result (Bytes × O) AnswerErr) (text : List ℕ) (status : ℕ) → IsGrown seen_bytes IsOutput m whole cuts index answer → IsTold given index start answer text status → IsReportBy m records whole.now cuts text status
   reported answer text status g t = answered answer text status g g.answer t
 
--- the outputs of a tree: the slices of its records
-abbrev AreRecords : {A : Type 0} → List (ℕ × Slice seen_bytes) → Vec Bytes A → Type 0
-AreRecords ts v = AllZip (λ t o. IsSeenAs seen_bytes t.1 o) ts v.items
-
 contents_are : (ts : List (ℕ × Slice seen_bytes)) (os : List Bytes) → AllZip (λ t o. IsSeenAs seen_bytes t.1 o) ts os → map (λ r. r.now) os ≡ records_of ts
 contents_are [] [] h = refl
 contents_are [] (o ∷ os) h = absurd h
@@ -114,9 +110,12 @@ grammar_never_fails : (large : Bool) (i : Bytes) → seen_bytes.IsKnown i → re
 grammar_never_fails large i h = (grammar_lawful (codes "R") (codes ".")).never_fails large ((tt, (tt, tt)), tt) true i h
 
 -- the grammar of two tags is that of the report, where these are its own
-pub reported_records : {A : Type 0} (tag end : List ℕ) → tag ≡ codes "R" → end ≡ codes "." → (whole : Bytes) (cuts : List ℕ) (index start : ℕ) → (index < length cuts → start ≡ slice_index cuts index) → (length cuts ≤ index → start ≡ length whole.now) → seen_bytes.IsKnown whole → (answer : Result (Bytes × Vec Bytes A) AnswerErr) (text : List ℕ) (status : ℕ) → IsGrown seen_bytes AreRecords (grammar_of tag end) whole cuts index answer → IsTold (λ o. map (λ r. r.now) o.items) index start answer text status → IsReport whole.now cuts text status
-unfolding IsReport
-reported_records tag end e f whole cuts index start at_cut at_end known answer text status g t =
+pub by_its_tags : {A : Type 0} (tag end : List ℕ) → tag ≡ codes "R" → end ≡ codes "." → (whole : Bytes) (cuts : List ℕ) (index : ℕ) (answer : Result (Bytes × Vec Bytes A) AnswerErr) → IsGrown seen_bytes AreRecords (grammar_of tag end) whole cuts index answer → IsGrown seen_bytes AreRecords record_grammar whole cuts index answer
+by_its_tags tag end e f whole cuts index answer g =
     let tagged = subst (λ x. IsGrown seen_bytes AreRecords (grammar_of x end) whole cuts index answer) e g in
-    let ended = subst (λ x. IsGrown seen_bytes AreRecords (grammar_of (codes "R") x) whole cuts index answer) f tagged in
-    reported record_grammar records_of AreRecords (λ o. map (λ r. r.now) o.items) (λ v o h. contents_are v o.items h) whole cuts index start at_cut at_end known grammar_never_fails answer text status ended t
+    subst (λ x. IsGrown seen_bytes AreRecords (grammar_of (codes "R") x) whole cuts index answer) f tagged
+
+pub reported_records : {A : Type 0} (whole : Bytes) (cuts : List ℕ) (index start : ℕ) → (index < length cuts → start ≡ slice_index cuts index) → (length cuts ≤ index → start ≡ length whole.now) → seen_bytes.IsKnown whole → (answer : Result (Bytes × Vec Bytes A) AnswerErr) (text : List ℕ) (status : ℕ) → IsGrown seen_bytes AreRecords record_grammar whole cuts index answer → IsTold (λ o. map (λ r. r.now) o.items) index start answer text status → IsReport whole.now cuts text status
+unfolding IsReport
+reported_records whole cuts index start at_cut at_end known answer text status g t =
+    reported record_grammar records_of AreRecords (λ o. map (λ r. r.now) o.items) (λ v o h. contents_are v o.items h) whole cuts index start at_cut at_end known grammar_never_fails answer text status g t

@@ -1,6 +1,7 @@
 -- The report on the bytes of a file that comes in pieces.
-use Rattle.std.specs.Prelude.{◌≡◌, ℕ, ◌-◌, ◌<◌, ◌≤◌, true, List, [], ◌∷◌, ◌++◌, length, map, slice_index, codes, Result, Ok, Err, Option, Some}
+use Rattle.std.specs.Prelude.{◌≡◌, ℕ, ◌-◌, ◌<◌, ◌≤◌, true, List, [], ◌∷◌, ◌++◌, length, map, slice_index, codes, Result, Ok, Err, Option, Some, Vec}
 use Rattle.std.specs.Borrow.{Bor}
+use Rattle.std.specs.List.{AllZip}
 use Rattle.nom_error.specs.declared.kind.ErrorKind.{ErrorKind}
 use Rattle.nom_error.specs.declared.kind.ErrorKind.TheVariants.{Char}
 use Rattle.nom_error.specs.Errors.{Errors}
@@ -11,7 +12,7 @@ use Rattle.nom_error.specs.declared.answer.Err.TheVariants as Stop
 use Rattle.nom_error.specs.Answers.{size_of}
 use Rattle.nom_traits.specs.Bytes.{seen_bytes}
 use Rattle.nom_traits.specs.Compares.{ComparesBytes}
-use Rattle.nom_traits.specs.Slices.{Slice}
+use Rattle.nom_traits.specs.Slices.{Slice, IsSeenAs}
 use Rattle.nom_internal.specs.Outcome.{Outcome}
 use Rattle.nom_internal.specs.Outcome.Outcome.{Accept, Refuse, Fail, TooLarge, Undecided}
 use Rattle.nom_internal.specs.Meaning.{Meaning}
@@ -97,6 +98,10 @@ record_grammar = grammar_of (codes "R") (codes ".")
 -- the bytes of its records
 abbrev pub records_of : List (ℕ × Slice seen_bytes) → List (List ℕ)
 records_of ts = map (λ t. t.1.items) ts
+
+-- the outputs of a tree: the slices of its records
+abbrev pub AreRecords : {A : Type 0} → List (ℕ × Slice seen_bytes) → Vec (Bor (List ℕ)) A → Type 0
+AreRecords ts v = AllZip (λ t o. IsSeenAs seen_bytes t.1 o) ts v.items
 
 -- `text` and `status` are the report on `bytes`, given in the parts that `cuts` make of them
 unfoldable pub IsReport : (bytes cuts text : List ℕ) → (status : ℕ) → Type 0

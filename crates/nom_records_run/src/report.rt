@@ -1,6 +1,8 @@
 //! The report on bytes and cuts.
 ghost use Rattle.std.specs.Prelude.{◌≡◌, ◌++◌, ◌<◌, ◌≤◌, IfOk, length, map, slice_index, string_bytes};
-ghost use Rattle.nom_records_run.specs.Report.{IsReport, IsTold, records_text};
+ghost use Rattle.nom_traits.specs.Bytes.{seen_bytes};
+ghost use Rattle.nom_growing.specs.Growing.{IsGrown};
+ghost use Rattle.nom_records_run.specs.Report.{AreRecords, IsReport, IsTold, record_grammar, records_text};
 ghost use Rattle.nom_records_run.specs.Stream.{NoneAbove};
 ghost use Rattle.nom_records_run.specs.Texts.{decided_text, rest_text};
 
@@ -8,7 +10,7 @@ use crate::text::{add_decided, add_error, add_failure, add_need, add_record, add
 use nom_bytes::tag;
 use nom_error::answer::{Err, IResult, OutOfMemory};
 use nom_error::value::Error;
-use nom_growing::growing::parse_growing;
+use nom_growing::growing::{Grown, parse_growing};
 use nom_lengths::length_data;
 use nom_multi::many0;
 use nom_number::be_u8;
@@ -88,6 +90,23 @@ fn tell<'a, A: Allocator + Copy>(
     }
 }
 
+// What the grammar answers on bytes that come in the parts that `cuts` make of them.
+fn grown_records<'a, A: Allocator + Copy>(
+    alloc: A,
+    bytes: &'a [u8],
+    cuts: &[usize],
+) -> Grown<&'a [u8], Vec<&'a [u8], A>, Error<&'a [u8]>>
+    requires { NoneAbove cuts.now (length bytes.now) }
+    ensures { IsGrown seen_bytes AreRecords record_grammar bytes.entry cuts.now result.index result.result }
+{
+    let record = preceded(
+        tag::<_, _, Error<&[u8]>>(&b"R"[..]),
+        length_data(be_u8::<_, Error<&[u8]>>()),
+    );
+    let records = terminated(many0(alloc, record), tag::<_, _, Error<&[u8]>>(&b"."[..]));
+    parse_growing(records, bytes, cuts)
+}
+
 /// The text of the report on `bytes`, given in the parts that `cuts` (offsets in bytes) make of them,
 /// and the status.
 pub fn report<A: Allocator + Copy>(
@@ -99,12 +118,7 @@ pub fn report<A: Allocator + Copy>(
     ensures { IfOk result (λ r. IsReport bytes.now cuts.now (string_bytes r.0) r.1) }
 {
     bytes.known();
-    let record = preceded(
-        tag::<_, _, Error<&[u8]>>(&b"R"[..]),
-        length_data(be_u8::<_, Error<&[u8]>>()),
-    );
-    let records = terminated(many0(alloc, record), tag::<_, _, Error<&[u8]>>(&b"."[..]));
-    let grown = parse_growing(records, bytes, cuts);
+    let grown = grown_records(alloc, bytes, cuts);
     let beginning = beginning_len(bytes.len(), cuts, grown.index);
     tell(alloc, grown.index, beginning, grown.result)
 }
