@@ -1,10 +1,10 @@
 -- Where bytes stand in bytes.
-use Rattle.std.proofs.Common.{◌≡◌, ℕ, ◌+◌, ◌-◌, ◌≤◌, ◌++◌, List, length, take, drop, get_or, sym, ◌∙◌, ap, subst, inl, inr, arith, length-append, length-drop}
+use Rattle.std.proofs.Common.{◌≡◌, ℕ, ◌+◌, ◌-◌, ◌≤◌, ◌<◌, ◌++◌, Bool, true, List, length, take, drop, get_or, sym, ◌∙◌, ap, subst, inl, inr, arith, length-append, length-drop}
 use Rattle.std.specs.Prelude.{Some, None}
 use Rattle.std.proofs.lemmas.Bool.{cases_lt}
 use Rattle.std.proofs.Math.Seq.{take-append_seam, drop-append_seam}
-use Rattle.std.proofs.lemmas.List.{length-take-le, take-append-drop, take_all, get_or-drop}
-use Rattle.memchr.specs.Find.{Nowhere, OccursAt, FindsNeedle}
+use Rattle.std.proofs.lemmas.List.{length-take-le, take-append-drop, take_all, get_or-take, get_or-drop}
+use Rattle.memchr.specs.Find.{IsFirst, IsFirstByte, Nowhere, OccursAt, Passes, FindsNeedle}
 use Rattle.memchr.proofs.lemmas.MatchLemmas.{OccursAt-split, OccursAt-from_part}
 use Rattle.nom_traits.specs.Rests.{span-ones}
 use Rattle.nom_search.specs.Substrings.{StandsAt, FindsBytes}
@@ -76,3 +76,33 @@ module _ (bs t : List ℕ) where
 
   pub nowhere : Nowhere (OccursAt bs t) 0 (length bs + 1) → FindsBytes t bs None
   nowhere h = λ m s. let o = occurs m s in h m (omega arith) (omega (arith, o.fits)) o
+
+-- a search of the bytes from `start` up to `end`
+module _ (test : ℕ → Bool) (bs : List ℕ) (start end : ℕ) (ordered : start ≤ end) (room : end ≤ length bs) where
+  abbrev part : List ℕ
+  part = take (end - start) (drop start bs)
+
+  size : length part ≡ end - start
+  size = length-take-le (end - start) (drop start bs) (omega (arith, length-drop start bs, ordered, room))
+
+  at : (k : ℕ) → k < end - start → get_or part k 0 ≡ get_or bs (start + k) 0
+  at k l = get_or-take (end - start) (drop start bs) k 0 l ∙ get_or-drop start bs k 0
+
+  back : (m : ℕ) → start ≤ m → m < end → Passes test bs m → Passes test part (m - start)
+  back m low high p =
+      let same : m ≡ start + (m - start) = omega arith in
+      subst (λ x. test x ≡ true) (sym (at (m - start) (omega arith))) (subst (Passes test bs) same p)
+
+  pub found_in_part : (k : ℕ) → IsFirstByte test part (Some k) → IsFirst (Passes test bs) start end (Some (start + k))
+  found_in_part k h =
+      let short : k < end - start = omega (arith, h.0.high, size) in (
+        record {
+          low = omega arith;
+          high = omega (arith, short, ordered);
+          before = λ m low high p. h.0.before (m - start) (omega arith) (omega arith) (back m low (omega (arith, short)) p);
+        },
+        subst (λ x. test x ≡ true) (at k short) h.1,
+      )
+
+  pub none_in_part : IsFirstByte test part None → IsFirst (Passes test bs) start end None
+  none_in_part h = λ m low high p. h (m - start) (omega arith) (omega (arith, size)) (back m low high p)

@@ -3,5 +3,6 @@
 
 pub mod bytes;
 pub mod extend;
+mod pages;
 pub mod substring;
 pub mod token;

@@ -5,8 +5,9 @@ ghost use Rattle.memchr.specs.Find.{FindsNeedle, Nowhere, OccursAt};
 ghost use Rattle.nom_search.specs.Substrings.{FindLaws, FindsBytes, FindsFirst};
 ghost use Rattle.nom_search.specs.SubstringLaws.{bytes_finding, text_finding};
 
+use crate::pages::find_byte;
 use memchr::arch::all::is_prefix;
-use memchr::{memchr, memmem};
+use memchr::memmem;
 use nom_traits::input::Items;
 
 /// An input in which needles of type `T` are looked for.
@@ -75,9 +76,9 @@ impl<'a, 'b> FindSubstring<&'b str> for &'a str {
 }
 
 /// The first place of some bytes.
-// Bytes before the needle's first byte are passed over by `memchr`, which looks for one byte in place of
-// two. Often the needle stands there, and a searcher need not be made.
-#[inline]
+// Bytes before the needle's first byte are passed over by a search for one byte in place of two. Often the
+// needle stands there, and a searcher need not be made.
+#[inline(always)]
 fn find_bytes(bytes: &[u8], needle: &[u8]) -> Option<usize>
     ensures { FindsBytes needle.now bytes.now result }
 {
@@ -112,13 +113,14 @@ fn first_candidate(bytes: &[u8], needle: &[u8]) -> Option<usize>
         (λ start. (start ≤ length bytes.now) × Nowhere (OccursAt bytes.now needle.now) 0 start) }
 {
     match needle.first() {
-        Some(first) => memchr(*first, bytes),
+        Some(first) => find_byte(*first, bytes),
         None => Some(0),
     }
 }
 
 /// The first place of some bytes, in the words of the searcher.
-#[inline(always)]
+// A call of its own: most searches end before it, and are small where they are inlined.
+#[inline(never)]
 fn first_match(bytes: &[u8], needle: &[u8]) -> Option<usize>
     ensures { FindsNeedle bytes.now needle.now 0 result }
 {

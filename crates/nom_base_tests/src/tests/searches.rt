@@ -10,7 +10,7 @@ use nom_search::substring::FindSubstring;
 use nom_search::token::FindToken;
 use nom_traits::character::AsChar;
 use nom_traits::input::Input;
-use std::alloc::Allocator;
+use std::alloc::{AllocError, Allocator};
 
 /// Whether an item is a letter, a letter or digit, a decimal, hexadecimal, octal and binary digit, a
 /// space, and the end of a line.
@@ -166,6 +166,33 @@ fn substrings_of_bytes(rt: HostRuntime) {
     ] {
         assert!(rt; place_of(input, needle) == Some(place));
     }
+}
+
+/// The place of a `;` that stands alone at a place, among so many bytes.
+fn place_among<A: Allocator>(
+    alloc: A,
+    len: usize,
+    place: usize,
+) -> Result<Option<usize>, AllocError> {
+    let mut bytes = vec![in alloc; b'a'; len]?;
+    if let Some(byte) = bytes.get_mut(place) {
+        *byte = b';';
+    }
+    Ok(place_of(bytes.as_slice(), ";"))
+}
+
+#[test]
+fn bytes_that_are_far(rt: HostRuntime) -> Result<(), AllocError> {
+    // Both sides of the places from which on four pages are looked through side by side, of the borders of
+    // these pages, and behind the last of them.
+    for place in [
+        262143, 262144, 262207, 266239, 266240, 270335, 270336, 274431, 274432, 278527, 278528,
+        294912, 299999,
+    ] {
+        assert!(rt; place_among(rt.alloc(), 300000, place)? == Some(place));
+    }
+    assert!(rt; place_among(rt.alloc(), 300000, 300000)? == None);
+    Ok(())
 }
 
 /// What stands before the first place of a needle.
