@@ -2,3 +2,4 @@ pub mod Expressions
 pub mod Heads
 pub mod NamedValues
 pub mod Sequences
+pub mod Written

@@ -1,2 +1,3 @@
 pub mod Arithmetic
+pub mod Messages
 pub mod Named
