@@ -2,4 +2,5 @@ pub mod Expressions
 pub mod Heads
 pub mod NamedValues
 pub mod Sequences
-pub mod Written
+pub mod WrittenMessages
+pub mod WrittenSections

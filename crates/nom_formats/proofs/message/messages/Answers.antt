@@ -2,7 +2,7 @@ use Rattle.std.proofs.Common.{◌∙◌, ap}
 use Rattle.nom_traits.specs.Bytes.{seen_bytes}
 use Rattle.nom_growing.specs.Growing.{IsGrown}
 use Rattle.nom_growing.specs.Promises.{HasNoFailure}
-use Rattle.nom_formats.proofs.Written.{by_its_parts, of_whole}
+use Rattle.nom_formats.proofs.WrittenMessages.{by_its_parts, of_whole}
 use Rattle.nom_formats.proofs.message.messages.Goals as goal
 
 pub returns : goal.returns
