@@ -78,3 +78,22 @@ alt_of = Grammars.alt_of kept
 
 abbrev pub many0_of : {V O M : Type 0} → BytesGrammar V O → BytesGrammar (List V) (Vec O M)
 many0_of = Grammars.many0_of seen_bytes kept
+
+abbrev pub map_of : {V O P : Type 0} → (O → P) → BytesGrammar V O → BytesGrammar V P
+map_of = Grammars.map_of
+
+abbrev pub take_while1_of : (ℕ → Bool) → BytesGrammar (Slice seen_bytes) Bytes
+take_while1_of = Leaves.take_while1_of seen_bytes kept
+
+abbrev pub all_consuming_of : {V O : Type 0} → BytesGrammar V O → BytesGrammar V O
+all_consuming_of = Grammars.all_consuming_of seen_bytes kept
+
+-- a number of so many bytes, the highest first (true), or last
+abbrev pub number_of : (big : Bool) → ℕ → BytesGrammar ℕ ℕ
+number_of = Leaves.number_of seen_bytes kept
+
+abbrev pub length_data_of : {V : Type 0} → BytesGrammar V ℕ → BytesGrammar (V × Slice seen_bytes) Bytes
+length_data_of = Grammars.length_data_of seen_bytes kept (λ count xs. Some (count - length xs))
+
+abbrev pub length_value_of : {V U O : Type 0} → BytesGrammar V ℕ → BytesGrammar U O → BytesGrammar U O
+length_value_of = Grammars.length_value_of seen_bytes kept

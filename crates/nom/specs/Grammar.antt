@@ -1,6 +1,6 @@
 -- Grammars, for the contracts of functions that parse. A grammar is what a parser means, and which outputs its trees stand for. Each word
 -- mirrors the call of its name; those of leaves stand in `Leaves`, and all of them, at one input type, in `Bytes` and `Texts`.
-use Rattle.std.specs.Prelude.{◌≡◌, Bool, ◌⊎◌, List, Option, Result, Vec}
+use Rattle.std.specs.Prelude.{◌≡◌, ℕ, Bool, ◌⊎◌, List, Option, Result, Vec}
 use Rattle.std.specs.List.{AllZip}
 use Rattle.nom_error.specs.declared.answer.Needed.{Needed}
 use Rattle.nom_error.specs.declared.answer.Err as Answer
@@ -9,10 +9,15 @@ use Rattle.nom_traits.specs.Input.{Seen}
 use Rattle.nom_traits.specs.Slices.{Slice, IsSeenAs}
 use Rattle.nom_internal.specs.Meaning.{Meaning, ParsesMeaning}
 use Rattle.nom_internal.specs.Choice.{EitherOutput}
+use Rattle.nom_internal.specs.Closures.{GivesFor}
+use Rattle.nom_internal.specs.Mapped.{map_meaning}
 use Rattle.nom_internal.specs.Sequence.{pair_meaning}
 use Rattle.nom_sequence.specs.Sequences.{preceded_meaning, terminated_meaning}
 use Rattle.nom_branch.specs.Alternatives.{next_meaning, choice_meaning}
 use Rattle.nom_combinator.specs.Verdicts.{opt_meaning, OptOutput}
+use Rattle.nom_ends.specs.Ends.{all_consuming_meaning}
+use Rattle.nom_lengths.specs.Lengths.{HasSize, length_data_meaning}
+use Rattle.nom_lengths.specs.Values.{length_value_meaning}
 use Rattle.nom_multi.specs.Many.{many0_meaning}
 
 pub record Grammar (I V O E : Type 0) : Type 1 where
@@ -51,6 +56,13 @@ module _ {I A E : Type 0} (w : Seen I A) where
 abbrev pub valued : {I V E : Type 0} → Meaning I V E → Grammar I V V E
 valued m = record { meaning = m; IsOutput = λ t o. o ≡ t }
 
+-- what a function gives for each output
+abbrev pub map_of : {I V O P E : Type 0} → (O → P) → Grammar I V O E → Grammar I V P E
+map_of f g = record {
+  meaning = map_meaning g.IsOutput (λ _. Unit {0}) g.meaning;
+  IsOutput = GivesFor g.IsOutput (λ o p. p ≡ f o);
+}
+
 abbrev pub opt_of : {I V O E : Type 0} → Grammar I V O E → Grammar I (Option V) (Option O) E
 opt_of g = record { meaning = opt_meaning g.meaning; IsOutput = OptOutput g.IsOutput }
 
@@ -64,3 +76,21 @@ module _ {I E : Type 0} (errs : Errors I E) where
 
 abbrev pub many0_of : {I A V O M E : Type 0} → Seen I A → Errors I E → Grammar I V O E → Grammar I (List V) (Vec O M) E
 many0_of w errs g = record { meaning = many0_meaning w errs g.meaning; IsOutput = λ ts o. AllZip g.IsOutput ts o.items }
+
+module _ {I A E : Type 0} (w : Seen I A) (errs : Errors I E) where
+  -- a length, and so many items; `lack` is what is needed where there are fewer
+  abbrev pub length_data_of : {V : Type 0} → (lack : ℕ → List A → Option ℕ) → Grammar I V ℕ E → Grammar I (V × Slice w) I E
+  length_data_of lack g = record {
+    meaning = length_data_meaning w errs lack (HasSize g.IsOutput (λ n. n)) g.meaning;
+    IsOutput = λ t o. IsSeenAs w t.1 o;
+  }
+
+  -- a length, and a grammar on exactly so much
+  abbrev pub length_value_of : {V U O : Type 0} → Grammar I V ℕ E → Grammar I U O E → Grammar I U O E
+  length_value_of g h = record {
+    meaning = length_value_meaning w errs (HasSize g.IsOutput (λ n. n)) g.meaning h.meaning;
+    IsOutput = h.IsOutput;
+  }
+
+  abbrev pub all_consuming_of : {V O : Type 0} → Grammar I V O E → Grammar I V O E
+  all_consuming_of g = record { meaning = all_consuming_meaning w errs g.meaning; IsOutput = g.IsOutput }

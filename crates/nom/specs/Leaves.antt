@@ -1,5 +1,5 @@
 -- The leaves of grammars over inputs whose items are bytes or characters, as code points.
-use Rattle.std.specs.Prelude.{ℕ, not, ◌↔◌, IsTrue, List, Option, Some, length, Contains}
+use Rattle.std.specs.Prelude.{◌≡◌, ℕ, Bool, not, ◌↔◌, IsTrue, List, Option, Some, length, Contains}
 use Rattle.nom_error.specs.declared.kind.ErrorKind.TheVariants as Kind
 use Rattle.nom_error.specs.Errors.{Errors}
 use Rattle.nom_traits.specs.declared.character.AsciiClass.TheVariants as Class
@@ -11,6 +11,7 @@ use Rattle.nom_bytes.specs.Takes.{take_meaning}
 use Rattle.nom_bytes.specs.ParsedRuns.{run1_meaning}
 use Rattle.nom_character.specs.Heads.{char_meaning}
 use Rattle.nom_character.specs.ClassRuns.{class_meaning}
+use Rattle.nom_number.specs.Numbers.{unsigned_meaning}
 use Rattle.nom.specs.Grammar.{Grammar, sliced, valued}
 
 module _ {I E : Type 0} (w : Seen I ℕ) (errs : Errors I E) where
@@ -32,3 +33,11 @@ module _ {I E : Type 0} (w : Seen I ℕ) (errs : Errors I E) where
 
   abbrev pub digit1_of : Grammar I (Slice w) I E
   digit1_of = sliced w (class_meaning w (λ x. x) errs Class.Digit (Some Kind.Digit))
+
+  -- the items that pass a test, one at least
+  abbrev pub take_while1_of : (ℕ → Bool) → Grammar I (Slice w) I E
+  take_while1_of test = sliced w (run1_meaning w (λ item b. b ≡ test item) (Unit {0}) errs Kind.TakeWhile1)
+
+  -- a number of so many bytes, the highest first (true), or last
+  abbrev pub number_of : (big : Bool) → ℕ → Grammar I ℕ ℕ E
+  number_of big count = valued (unsigned_meaning w errs big count)

@@ -78,3 +78,12 @@ alt_of = Grammars.alt_of kept
 
 abbrev pub many0_of : {V O M : Type 0} → TextGrammar V O → TextGrammar (List V) (Vec O M)
 many0_of = Grammars.many0_of seen_text kept
+
+abbrev pub map_of : {V O P : Type 0} → (O → P) → TextGrammar V O → TextGrammar V P
+map_of = Grammars.map_of
+
+abbrev pub take_while1_of : (ℕ → Bool) → TextGrammar (Slice seen_text) Text
+take_while1_of = Leaves.take_while1_of seen_text kept
+
+abbrev pub all_consuming_of : {V O : Type 0} → TextGrammar V O → TextGrammar V O
+all_consuming_of = Grammars.all_consuming_of seen_text kept

@@ -2,3 +2,5 @@ pub mod Expressions
 pub mod Heads
 pub mod NamedValues
 pub mod Sequences
+pub mod WrittenMessages
+pub mod WrittenSections

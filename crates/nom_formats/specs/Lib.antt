@@ -1,2 +1,4 @@
 pub mod Arithmetic
+pub mod Messages
 pub mod Named
+pub mod Sections

@@ -1,8 +1,14 @@
 -- A name and its value.
 use Rattle.std.specs.Prelude.{◌≡◌, ℕ, ◌<◌, ◌==◌, ◌||◌, ◌&&◌, not, Bool, true, false, List, ◌∷◌, ◌++◌, length}
+use Rattle.std.specs.Borrow.{Bor}
 use Rattle.std.specs.Char.{is_ascii_alphanumeric}
 use Rattle.std.specs.List.{All}
+use Rattle.nom_error.specs.Errors.{Errors}
 use Rattle.nom_traits.specs.Runs.{Stops}
+use Rattle.nom_traits.specs.Slices.{Slice}
+use Rattle.nom_traits.specs.Text.{seen_text}
+use Rattle.nom.specs.Grammar.{Grammar, separated_pair_of}
+use Rattle.nom.specs.Leaves.{char_of, take_while1_of}
 
 -- a letter, a digit, or `_`
 abbrev pub in_name : ℕ → Bool
@@ -20,3 +26,10 @@ pub record IsNamed (cs name value rest : List ℕ) : Type 0 where
   pub some_value : 0 < length value
   pub is_value : All (λ c. in_value c ≡ true) value
   pub ends : Stops (λ c. in_value c ≡ false) rest
+
+abbrev Text : Type 0
+Text = Bor (List ℕ)
+
+-- the grammar of the line, with errors of any type
+abbrev pub line_of : {E : Type 0} → Errors Text E → Grammar Text (Slice seen_text × Slice seen_text) (Text × Text) E
+line_of errs = separated_pair_of seen_text (take_while1_of seen_text errs in_name) (char_of seen_text errs 61) (take_while1_of seen_text errs in_value)

@@ -1,6 +1,10 @@
 //! Sections of settings, as INI files have them.
+ghost use Rattle.std.specs.Prelude.{◌≡◌, false};
+ghost use Rattle.nom.specs.Texts.{Parses};
+ghost use Rattle.nom_formats.specs.Named.{in_value};
+ghost use Rattle.nom_formats.specs.Sections.{sections_of};
 
-use nom::bytes::{is_not, tag, take_while};
+use nom::bytes::{is_not, take_while};
 use nom::character::char;
 use nom::combinator::{map, opt};
 use nom::error::Error;
@@ -19,6 +23,20 @@ pub struct Section<'a> {
 // `map` asks it of what it gives: sections are compared as they are.
 impl<'a> Viewed for Section<'a> {}
 
+/// Whether a character may stand in a value.
+fn is_value(c: char) -> bool
+    ensures { result ≡ in_value c }
+{
+    c != '\r' && c != '\n'
+}
+
+fn section_of<'a>(parts: (&'a str, Vec<(&'a str, &'a str)>)) -> Section<'a>
+    ensures { result ≡ record { name = parts.entry.0; settings = parts.entry.1 } }
+{
+    let (name, settings) = parts;
+    Section { name, settings }
+}
+
 /// The sections of a text:
 ///
 /// ```text
@@ -32,15 +50,14 @@ impl<'a> Viewed for Section<'a> {}
 pub fn sections<'a>(
     alloc: Global,
     input: &'a str,
-) -> IResult<&'a str, Vec<Section<'a>>, Error<&'a str>> {
-    let end = pair(opt(tag::<&str, &'a str, Error<&'a str>>("\r")), tag("\n"));
-    let end_of_header = pair(opt(tag::<&str, &'a str, Error<&'a str>>("\r")), tag("\n"));
-    let header = delimited(char('['), is_not("]\r\n"), pair(char(']'), end_of_header));
-    let value = take_while(|c: char| c != '\r' && c != '\n');
-    let setting = terminated(separated_pair(is_not("[=\r\n"), char('='), value), end);
-    let section = map(
-        pair(header, many0(alloc, setting)),
-        |(name, settings)| Section { name, settings },
-    );
+) -> IResult<&'a str, Vec<Section<'a>>, Error<&'a str>>
+    ensures { Parses sections_of false input.entry result }
+{
+    let open = char::<&'a str, Error<&'a str>>('[');
+    let end_of_header = pair(opt(char('\r')), char('\n'));
+    let header = delimited(open, is_not("]\r\n"), pair(char(']'), end_of_header));
+    let line = separated_pair(is_not("[=\r\n"), char('='), take_while(is_value));
+    let setting = terminated(line, pair(opt(char('\r')), char('\n')));
+    let section = map(pair(header, many0(alloc, setting)), section_of);
     many0(alloc, section).parse_complete(input)
 }

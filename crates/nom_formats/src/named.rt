@@ -1,6 +1,8 @@
 //! A name and its value, as `color=dark red`.
-ghost use Rattle.std.specs.Prelude.{◌≡◌, chars, IfOk};
-ghost use Rattle.nom_formats.specs.Named.{IsNamed, in_name, in_value};
+ghost use Rattle.std.specs.Prelude.{◌≡◌, false, chars, IfOk};
+ghost use Rattle.nom_traits.specs.Text.{seen_text};
+ghost use Rattle.nom.specs.Grammar.{Parses};
+ghost use Rattle.nom_formats.specs.Named.{IsNamed, in_name, in_value, line_of};
 
 use nom::bytes::take_while1;
 use nom::character::char;
@@ -34,7 +36,8 @@ fn is_value(c: char) -> bool
 pub fn named_value<'a, E: ParseError<&'a str>>(
     input: &'a str,
 ) -> IResult<&'a str, (&'a str, &'a str), E>
-    ensures { IfOk result (λ a. IsNamed (chars input.now) (chars a.1.0.now) (chars a.1.1.now) (chars a.0.now)) }
+    ensures grammar { Parses seen_text (line_of E.errors) false input.entry result }
+    ensures named { IfOk result (λ a. IsNamed (chars input.now) (chars a.1.0.now) (chars a.1.1.now) (chars a.0.now)) }
 {
     let mut line = separated_pair(take_while1(is_named), char('='), take_while1(is_value));
     line.parse_complete(input)
