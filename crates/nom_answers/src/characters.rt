@@ -1,9 +1,10 @@
 //! The parsers of nom's module `character`, by their names.
 
+use crate::answered::answered;
 use crate::test::Test;
 use nom::character::{self, complete, streaming};
 use nom::{AsBytes, AsChar, FindToken, IResult, Input};
-use nom_answer_lines::answer::{Answer, answer_of};
+use nom_answer_lines::answer::Answer;
 use nom_answer_lines::ask::{Module, Question};
 use nom_answer_lines::names::place_of;
 use std::fmt::Debug;
@@ -158,15 +159,15 @@ where
         Module::Top => match place_of("digit1 multispace0 anychar", name)? {
             0 => question.ask(character::digit1()),
             1 => question.ask(character::multispace0()),
-            _ => answer_of(alloc, character::anychar(input)),
+            _ => answered(alloc, character::anychar(input)),
         },
         Module::Complete => match single_complete(input, name) {
-            Some(found) => answer_of(alloc, found),
-            None => answer_of(alloc, part_complete(input, name)?),
+            Some(found) => answered(alloc, found),
+            None => answered(alloc, part_complete(input, name)?),
         },
         Module::Streaming => match single_streaming(input, name) {
-            Some(found) => answer_of(alloc, found),
-            None => answer_of(alloc, part_streaming(input, name)?),
+            Some(found) => answered(alloc, found),
+            None => answered(alloc, part_streaming(input, name)?),
         },
     }
 }

@@ -1,8 +1,9 @@
 //! The decimal integers of nom's module `character`, by their names.
 
+use crate::answered::answered;
 use nom::character::{complete, streaming};
 use nom::{AsBytes, AsChar, Input};
-use nom_answer_lines::answer::{Answer, answer_of};
+use nom_answer_lines::answer::Answer;
 use nom_answer_lines::ask::{Module, Question};
 use nom_answer_lines::names::place_of;
 
@@ -11,8 +12,8 @@ macro_rules! in_module {
     ($question:ident, $name:ident) => {
         match $question.module {
             Module::Top => None,
-            Module::Complete => answer_of($question.alloc, complete::$name($question.input)),
-            Module::Streaming => answer_of($question.alloc, streaming::$name($question.input)),
+            Module::Complete => answered($question.alloc, complete::$name($question.input)),
+            Module::Streaming => answered($question.alloc, streaming::$name($question.input)),
         }
     };
 }

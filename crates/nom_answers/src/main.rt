@@ -88,6 +88,7 @@
 //! where one was, or a write fails; 3 where a file can't be read.
 #![tactic(auto)]
 
+mod answered;
 mod argument;
 mod bits;
 mod bytes;
