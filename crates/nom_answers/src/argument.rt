@@ -73,31 +73,35 @@ fn escapes_of(alloc: Global, text: &str) -> Option<Argument> {
     }))
 }
 
-/// The argument that a text writes; none where it can't be read.
-pub fn argument_of(alloc: Global, text: &str) -> Option<Argument> {
-    if text.is_empty() {
-        return Some(Argument::Nothing);
-    }
-    if let Some(literal) = literal_of(alloc, text) {
-        return Some(Argument::Literal(literal));
-    }
+/// A text, a slice or an array.
+fn list_of(alloc: Global, text: &str) -> Option<Argument> {
     if let Some(body) = between(text, "&[", "][..]") {
         return Some(Argument::Chars(chars_of(alloc, body)?));
     }
     if let Some(digits) = between(text, "[0x", "u8]") {
         return Some(Argument::Array([u8::from_str_radix(digits, 16).ok()?]));
     }
+    Some(Argument::Literal(literal_of(alloc, text)?))
+}
+
+/// A character, a number or a test.
+fn value_of(alloc: Global, text: &str) -> Option<Argument> {
     if let Some(c) = char_of(alloc, text) {
         return Some(Argument::Char(c));
     }
-    if let Some(count) = number_of(text) {
-        return Some(Argument::Count(count));
+    match number_of(text) {
+        Some(count) => Some(Argument::Count(count)),
+        None => Some(Argument::Test(Test::named(text)?)),
     }
-    if let Some(test) = Test::named(text) {
-        return Some(Argument::Test(test));
+}
+
+/// The argument that a text writes; none where it can't be read.
+pub fn argument_of(alloc: Global, text: &str) -> Option<Argument> {
+    if text.is_empty() {
+        return Some(Argument::Nothing);
     }
-    if let Some(bounds) = bounds_of(text) {
-        return Some(bounds);
+    match list_of(alloc, text).or(value_of(alloc, text)) {
+        Some(argument) => Some(argument),
+        None => bounds_of(text).or(escapes_of(alloc, text)),
     }
-    escapes_of(alloc, text)
 }

@@ -145,30 +145,92 @@ where
     requires normal { (F.meaning (F.state normal)).IsSound }
     requires escapable { (G.meaning (G.state escapable)).IsSound }
 {
+    question.ask(bytes::escaped_transform(question.alloc, normal, control_char, escapable))
+}
+
+/// The same, in a module for one mode.
+fn transformed_in<C, I, F, G>(
+    question: Question<I>,
+    normal: F,
+    control_char: char,
+    escapable: G,
+) -> Option<Answer>
+where
+    C: AsChar,
+    I: Input<Item = C> + AsBytes + Debug + ExtendInto<Global>,
+    I::Extender: Debug + Drop,
+    F: Parser<I, Output = I, Error = Error<I>> + Drop,
+    G: Parser<I, Output = I, Error = Error<I>> + Drop,
+    requires normal { (F.meaning (F.state normal)).IsSound }
+    requires escapable { (G.meaning (G.state escapable)).IsSound }
+{
     let alloc = question.alloc;
     match question.module {
-        Module::Top => question.ask(bytes::escaped_transform(
-            alloc,
-            normal,
-            control_char,
-            escapable,
-        )),
-        Module::Complete => question.ask(complete::escaped_transform(
-            alloc,
-            normal,
-            control_char,
-            escapable,
-        )),
         Module::Streaming => question.ask(streaming::escaped_transform(
             alloc,
             normal,
             control_char,
             escapable,
         )),
+        _ => question.ask(complete::escaped_transform(alloc, normal, control_char, escapable)),
     }
 }
 
-/// A text with escapes whose parts are tags, by its name and the module of its parts.
+/// The text that one with escapes means, where a tag is escapable.
+fn to_tag<C, I, F, T>(
+    question: Question<I>,
+    normal: F,
+    control_char: char,
+    escapable: T,
+) -> Option<Answer>
+where
+    C: AsChar,
+    I: Input<Item = C> + AsBytes + Debug + Compare<T> + ExtendInto<Global>,
+    I::Extender: Debug + Drop,
+    T: Copy,
+    F: Parser<I, Output = I, Error = Error<I>> + Drop,
+    requires { (F.meaning (F.state normal)).IsSound }
+{
+    transformed(question, normal, control_char, bytes::tag(escapable))
+}
+
+/// The same in a module for one mode, of a tag of `complete`.
+fn to_complete_tag<C, I, F, T>(
+    question: Question<I>,
+    normal: F,
+    control_char: char,
+    escapable: T,
+) -> Option<Answer>
+where
+    C: AsChar,
+    I: Input<Item = C> + AsBytes + Debug + Compare<T> + ExtendInto<Global>,
+    I::Extender: Debug + Drop,
+    T: Copy,
+    F: Parser<I, Output = I, Error = Error<I>> + Drop,
+    requires { (F.meaning (F.state normal)).IsSound }
+{
+    transformed_in(question, normal, control_char, complete::tag(escapable))
+}
+
+/// The same, of a tag of `streaming`.
+fn to_streaming_tag<C, I, F, T>(
+    question: Question<I>,
+    normal: F,
+    control_char: char,
+    escapable: T,
+) -> Option<Answer>
+where
+    C: AsChar,
+    I: Input<Item = C> + AsBytes + Debug + Compare<T> + ExtendInto<Global>,
+    I::Extender: Debug + Drop,
+    T: Copy,
+    F: Parser<I, Output = I, Error = Error<I>> + Drop,
+    requires { (F.meaning (F.state normal)).IsSound }
+{
+    transformed_in(question, normal, control_char, streaming::tag(escapable))
+}
+
+/// A text with escapes whose parts are tags, by its name and the paths of its parts.
 fn escapes_of_tags<'a, C, I>(
     question: Question<I>,
     key: &str,
@@ -184,25 +246,18 @@ where
     let names = "escaped/bytes::tag/bytes::tag \
         escaped_transform/bytes::tag/bytes::tag \
         escaped_transform/bytes::complete::tag/bytes::complete::tag";
-    match place_of(names, key)? {
-        0 => escaped(
+    match (place_of(names, key)?, question.module) {
+        (0, Module::Top) => escaped(
             question,
             bytes::tag(normal),
             control_char,
             bytes::tag(escapable),
         ),
-        1 => transformed(
-            question,
-            bytes::tag(normal),
-            control_char,
-            bytes::tag(escapable),
-        ),
-        _ => transformed(
-            question,
-            complete::tag(normal),
-            control_char,
-            complete::tag(escapable),
-        ),
+        (1, Module::Top) => to_tag(question, bytes::tag(normal), control_char, escapable),
+        (2, Module::Complete | Module::Streaming) => {
+            to_complete_tag(question, complete::tag(normal), control_char, escapable)
+        }
+        _ => None,
     }
 }
 
@@ -226,31 +281,22 @@ where
         escaped_transform/bytes::take_while1/bytes::tag \
         escaped_transform/bytes::complete::take_while1/bytes::complete::tag \
         escaped_transform/bytes::streaming::take_while1/bytes::streaming::tag";
-    match place_of(names, key)? {
-        0 => transformed(
-            question,
-            bytes::take_while(meets),
-            control_char,
-            bytes::tag(escapable),
-        ),
-        1 => transformed(
-            question,
-            bytes::take_while1(meets),
-            control_char,
-            bytes::tag(escapable),
-        ),
-        2 => transformed(
+    match (place_of(names, key)?, question.module) {
+        (0, Module::Top) => to_tag(question, bytes::take_while(meets), control_char, escapable),
+        (1, Module::Top) => to_tag(question, bytes::take_while1(meets), control_char, escapable),
+        (2, Module::Complete) => to_complete_tag(
             question,
             complete::take_while1(meets),
             control_char,
-            complete::tag(escapable),
+            escapable,
         ),
-        _ => transformed(
+        (3, Module::Streaming) => to_streaming_tag(
             question,
             streaming::take_while1(meets),
             control_char,
-            streaming::tag(escapable),
+            escapable,
         ),
+        _ => None,
     }
 }
 

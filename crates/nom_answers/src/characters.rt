@@ -1,9 +1,10 @@
 //! The parsers of nom's module `character`, by their names.
 
+use crate::answered::answered;
 use crate::test::Test;
 use nom::character::{self, complete, streaming};
 use nom::{AsBytes, AsChar, FindToken, IResult, Input};
-use nom_answer_lines::answer::{Answer, answer_of};
+use nom_answer_lines::answer::Answer;
 use nom_answer_lines::ask::{Module, Question};
 use nom_answer_lines::names::place_of;
 use std::fmt::Debug;
@@ -64,27 +65,27 @@ where
         "alpha0 alpha1 digit0 digit1 hex_digit0 hex_digit1 oct_digit0 oct_digit1 bin_digit0 \
         bin_digit1 alphanumeric0 alphanumeric1 space0 space1 multispace0 multispace1 crlf \
         line_ending not_line_ending";
-    match place_of(names, name)? {
-        0 => Some(complete::alpha0(input)),
-        1 => Some(complete::alpha1(input)),
-        2 => Some(complete::digit0(input)),
-        3 => Some(complete::digit1(input)),
-        4 => Some(complete::hex_digit0(input)),
-        5 => Some(complete::hex_digit1(input)),
-        6 => Some(complete::oct_digit0(input)),
-        7 => Some(complete::oct_digit1(input)),
-        8 => Some(complete::bin_digit0(input)),
-        9 => Some(complete::bin_digit1(input)),
-        10 => Some(complete::alphanumeric0(input)),
-        11 => Some(complete::alphanumeric1(input)),
-        12 => Some(complete::space0(input)),
-        13 => Some(complete::space1(input)),
-        14 => Some(complete::multispace0(input)),
-        15 => Some(complete::multispace1(input)),
-        16 => Some(complete::crlf(input)),
-        17 => Some(complete::line_ending(input)),
-        _ => Some(complete::not_line_ending(input)),
-    }
+    Some(match place_of(names, name)? {
+        0 => complete::alpha0(input),
+        1 => complete::alpha1(input),
+        2 => complete::digit0(input),
+        3 => complete::digit1(input),
+        4 => complete::hex_digit0(input),
+        5 => complete::hex_digit1(input),
+        6 => complete::oct_digit0(input),
+        7 => complete::oct_digit1(input),
+        8 => complete::bin_digit0(input),
+        9 => complete::bin_digit1(input),
+        10 => complete::alphanumeric0(input),
+        11 => complete::alphanumeric1(input),
+        12 => complete::space0(input),
+        13 => complete::space1(input),
+        14 => complete::multispace0(input),
+        15 => complete::multispace1(input),
+        16 => complete::crlf(input),
+        17 => complete::line_ending(input),
+        _ => complete::not_line_ending(input),
+    })
 }
 
 /// Classes and ends of lines, where more may come.
@@ -96,27 +97,27 @@ where
         "alpha0 alpha1 digit0 digit1 hex_digit0 hex_digit1 oct_digit0 oct_digit1 bin_digit0 \
         bin_digit1 alphanumeric0 alphanumeric1 space0 space1 multispace0 multispace1 crlf \
         line_ending not_line_ending";
-    match place_of(names, name)? {
-        0 => Some(streaming::alpha0(input)),
-        1 => Some(streaming::alpha1(input)),
-        2 => Some(streaming::digit0(input)),
-        3 => Some(streaming::digit1(input)),
-        4 => Some(streaming::hex_digit0(input)),
-        5 => Some(streaming::hex_digit1(input)),
-        6 => Some(streaming::oct_digit0(input)),
-        7 => Some(streaming::oct_digit1(input)),
-        8 => Some(streaming::bin_digit0(input)),
-        9 => Some(streaming::bin_digit1(input)),
-        10 => Some(streaming::alphanumeric0(input)),
-        11 => Some(streaming::alphanumeric1(input)),
-        12 => Some(streaming::space0(input)),
-        13 => Some(streaming::space1(input)),
-        14 => Some(streaming::multispace0(input)),
-        15 => Some(streaming::multispace1(input)),
-        16 => Some(streaming::crlf(input)),
-        17 => Some(streaming::line_ending(input)),
-        _ => Some(streaming::not_line_ending(input)),
-    }
+    Some(match place_of(names, name)? {
+        0 => streaming::alpha0(input),
+        1 => streaming::alpha1(input),
+        2 => streaming::digit0(input),
+        3 => streaming::digit1(input),
+        4 => streaming::hex_digit0(input),
+        5 => streaming::hex_digit1(input),
+        6 => streaming::oct_digit0(input),
+        7 => streaming::oct_digit1(input),
+        8 => streaming::bin_digit0(input),
+        9 => streaming::bin_digit1(input),
+        10 => streaming::alphanumeric0(input),
+        11 => streaming::alphanumeric1(input),
+        12 => streaming::space0(input),
+        13 => streaming::space1(input),
+        14 => streaming::multispace0(input),
+        15 => streaming::multispace1(input),
+        16 => streaming::crlf(input),
+        17 => streaming::line_ending(input),
+        _ => streaming::not_line_ending(input),
+    })
 }
 
 /// Single characters, where no more may come.
@@ -124,11 +125,11 @@ fn single_complete<I: Input>(input: I, name: &str) -> Option<IResult<I, char>>
 where
     I::Item: AsChar,
 {
-    match place_of("anychar newline tab", name)? {
-        0 => Some(complete::anychar(input)),
-        1 => Some(complete::newline(input)),
-        _ => Some(complete::tab(input)),
-    }
+    Some(match place_of("anychar newline tab", name)? {
+        0 => complete::anychar(input),
+        1 => complete::newline(input),
+        _ => complete::tab(input),
+    })
 }
 
 /// Single characters, where more may come.
@@ -136,11 +137,11 @@ fn single_streaming<I: Input>(input: I, name: &str) -> Option<IResult<I, char>>
 where
     I::Item: AsChar,
 {
-    match place_of("anychar newline tab", name)? {
-        0 => Some(streaming::anychar(input)),
-        1 => Some(streaming::newline(input)),
-        _ => Some(streaming::tab(input)),
-    }
+    Some(match place_of("anychar newline tab", name)? {
+        0 => streaming::anychar(input),
+        1 => streaming::newline(input),
+        _ => streaming::tab(input),
+    })
 }
 
 /// Parsers that are given nothing.
@@ -158,15 +159,15 @@ where
         Module::Top => match place_of("digit1 multispace0 anychar", name)? {
             0 => question.ask(character::digit1()),
             1 => question.ask(character::multispace0()),
-            _ => answer_of(alloc, character::anychar(input)),
+            _ => answered(alloc, character::anychar(input)),
         },
         Module::Complete => match single_complete(input, name) {
-            Some(found) => answer_of(alloc, found),
-            None => answer_of(alloc, part_complete(input, name)?),
+            Some(found) => answered(alloc, found),
+            None => answered(alloc, part_complete(input, name)?),
         },
         Module::Streaming => match single_streaming(input, name) {
-            Some(found) => answer_of(alloc, found),
-            None => answer_of(alloc, part_streaming(input, name)?),
+            Some(found) => answered(alloc, found),
+            None => answered(alloc, part_streaming(input, name)?),
         },
     }
 }

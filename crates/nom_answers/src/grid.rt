@@ -32,7 +32,7 @@ fn outer_of(call: &str) -> Option<(usize, &str)> {
 /// The parser in the middle by its number, and the text of its part.
 fn shape_of(text: &str) -> (usize, &str) {
     let forms = "many0(*)|terminated(*, opt(tag(\"b\")))|pair(tag(\"b\"), *)|alt((*, tag(\"b\")))|\
-        peek(*)|opt(*)|cut(*)|not(*)|separated_list1(tag(\"b\"), *)";
+        peek(*)|separated_list1(tag(\"b\"), *)|opt(*)|cut(*)|not(*)";
     form_of(forms, text).unwrap_or((9, text))
 }
 
@@ -81,16 +81,48 @@ where
         2 => outer(question, tags, number, pair(tag(tags.b), part)),
         3 => outer(question, tags, number, alt((part, tag(tags.b)))),
         4 => outer(question, tags, number, peek(part)),
-        5 => outer(question, tags, number, opt(part)),
-        6 => outer(question, tags, number, cut(part)),
-        7 => outer(question, tags, number, not(part)),
-        8 => outer(
+        5 => outer(
             question,
             tags,
             number,
             separated_list1(alloc, tag(tags.b), part),
         ),
         _ => outer(question, tags, number, part),
+    }
+}
+
+/// The same, of a part that other parsers stand around too.
+fn shaped_more<I, T, P>(
+    question: Question<I>,
+    tags: Tags<T>,
+    number: usize,
+    shape: usize,
+    part: P,
+) -> Option<Answer>
+where
+    I: Input + AsBytes + Debug + Compare<T>,
+    T: Copy,
+    P: Parser<I, Output = I, Error = Error<I>> + Drop,
+    requires part { (P.meaning (P.state part)).IsSound }
+{
+    match shape {
+        6 => outer(question, tags, number, opt(part)),
+        7 => outer(question, tags, number, cut(part)),
+        8 => outer(question, tags, number, not(part)),
+        _ => shaped(question, tags, number, shape, part),
+    }
+}
+
+/// What `complete` answers around a part, or around one that may be refused.
+fn completed<I, P>(question: Question<I>, shape: usize, part: P) -> Option<Answer>
+where
+    I: Input + AsBytes + Debug,
+    P: Parser<I, Output = I, Error = Error<I>> + Drop,
+    requires part { (P.meaning (P.state part)).IsSound }
+{
+    match shape {
+        6 => question.ask(complete(opt(part))),
+        _ => question.ask(complete(part)),
     }
 }
 
@@ -102,12 +134,14 @@ where
 {
     let (number, inner) = outer_of(call)?;
     let (shape, part) = shape_of(inner);
-    let parts = "tag(\"a\") tag(\"ab\") is_a(\"a\") take(2usize) bytes::streaming::tag(\"ab\")";
-    match place_of(parts, part)? {
-        0 => shaped(question, tags, number, shape, tag(tags.a)),
-        1 => shaped(question, tags, number, shape, tag(tags.ab)),
-        2 => shaped(question, tags, number, shape, is_a(tags.a)),
-        3 => shaped(question, tags, number, shape, take(2usize)),
-        _ => shaped(question, tags, number, shape, streaming::tag(tags.ab)),
+    let parts = "is_a(\"a\") take(2usize) tag(\"a\") tag(\"ab\") bytes::streaming::tag(\"ab\")";
+    match (place_of(parts, part)?, number, shape) {
+        (0 | 1, _, 6..=8) => None,
+        (0, _, _) => shaped(question, tags, number, shape, is_a(tags.a)),
+        (1, _, _) => shaped(question, tags, number, shape, take(2usize)),
+        (2, _, _) => shaped_more(question, tags, number, shape, tag(tags.a)),
+        (3, _, _) => shaped_more(question, tags, number, shape, tag(tags.ab)),
+        (_, 4, 6 | 9) => completed(question, shape, streaming::tag(tags.ab)),
+        _ => None,
     }
 }

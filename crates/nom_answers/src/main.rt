@@ -36,16 +36,17 @@
 //! bits(bits::complete::take::<u16>(12usize)) | b"\x12\x12" | complete | rest=b"" value=289
 //! ```
 //!
-//! - One in layers has as its innermost part `tag("a")`, `tag("ab")`, `is_a("a")`, `take(2usize)` or
-//!   `bytes::streaming::tag("ab")`; around it stands nothing, or a parser of `grid::shape_of`; around that a
-//!   parser of `grid::outer_of`.
+//! - One in layers has as its innermost part `tag("a")`, `tag("ab")`, `is_a("a")` or `take(2usize)`; around it
+//!   stands nothing, or a parser of `grid::shape_of`, but `opt`, `cut` and `not` around tags alone; around that a
+//!   parser of `grid::outer_of`. Around `bytes::streaming::tag("ab")` stands `complete`, or `complete(opt(..))`.
 //! - A choice, a permutation or a tuple is a shape of `choices::members::shape_of`, around one to four tags or
 //!   characters, or two members of `member_of`.
 //! - A list is one of `lists::calls::call_of`, of an item that is a part of `part_of` or made of one as `item_of`
-//!   says. A fold counts the items: `zero` is 0, and `inc` adds 1. What `fill` leaves in its buffer is told
-//!   behind the answer.
+//!   says; `lists::items` tells which lists are of which items. A fold counts the items: `zero` is 0, and `inc`
+//!   adds 1. What `fill` leaves in its buffer is told behind the answer.
 //! - What stands behind a length is one of `lengths::calls::kind_of`, of a length of `length_of` and, but for
-//!   data, a part of `part_of`. `digit_value` is the number that a digit writes; `one` is 1, and `three` 3.
+//!   data, a part of `part_of`, as `lengths::read` has them. `digit_value` is the number that a digit writes; `one`
+//!   is 1, and `three` 3.
 //! - A field of bits has any count and pattern, alone or within `bits`, and is at most as wide as its type; other
 //!   parsers of bits are the calls in `bits::composed`. The input may have a position among its bits, and the
 //!   answer has one then too.
@@ -88,6 +89,7 @@
 //! where one was, or a write fails; 3 where a file can't be read.
 #![tactic(auto)]
 
+mod answered;
 mod argument;
 mod bits;
 mod bytes;

@@ -77,23 +77,35 @@ fn split(alloc: Global, name: &str, text: &str, stop: char) -> Option<String> {
     split_text(alloc, text, found)
 }
 
-/// What a text answers.
-fn over_text(alloc: Global, name: &str, argument: &str, text: &str) -> Option<String> {
-    let names = "slice_index find_substring compare compare_no_case position find_token";
-    match place_of(names, name) {
-        Some(0) => place_text(alloc, index_of(text, argument.parse::<usize>().ok()?)),
-        Some(1) => place_text(alloc, text.find_substring(text_of(argument)?)),
-        Some(2) => comparison_text(alloc, text.compare(text_of(argument)?)),
-        Some(3) => comparison_text(alloc, text.compare_no_case(text_of(argument)?)),
-        Some(4) => {
-            let wanted = char_of(argument)?;
-            place_text(alloc, text.position(|c| c == wanted))
-        }
-        Some(5) => {
-            let is_found = text.find_token(char_of(argument)?);
+/// How a text compares with another, or where that stands in it.
+fn beside_text(alloc: Global, name: &str, other: &str, text: &str) -> Option<String> {
+    match place_of("find_substring compare compare_no_case", name)? {
+        0 => place_text(alloc, text.find_substring(other)),
+        1 => comparison_text(alloc, text.compare(other)),
+        _ => comparison_text(alloc, text.compare_no_case(other)),
+    }
+}
+
+/// What a text answers of a character.
+fn of_char(alloc: Global, name: &str, wanted: char, text: &str) -> Option<String> {
+    match place_of("position find_token", name) {
+        Some(0) => place_text(alloc, text.position(|c| c == wanted)),
+        Some(_) => {
+            let is_found = text.find_token(wanted);
             format!(in alloc; "{is_found}").ok()
         }
-        _ => split(alloc, name, text, char_of(argument)?),
+        None => split(alloc, name, text, wanted),
+    }
+}
+
+/// What a text answers.
+fn over_text(alloc: Global, name: &str, argument: &str, text: &str) -> Option<String> {
+    if name == "slice_index" {
+        return place_text(alloc, index_of(text, argument.parse::<usize>().ok()?));
+    }
+    match text_of(argument) {
+        Some(other) => beside_text(alloc, name, other, text),
+        None => of_char(alloc, name, char_of(argument)?, text),
     }
 }
 

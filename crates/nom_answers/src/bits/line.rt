@@ -71,23 +71,31 @@ fn found(question: Question<&[u8]>, call: &str, position: Option<usize>) -> Opti
     }
 }
 
+/// The acceptance that a line tells of bits, by what it tells behind `rest=(`.
+fn accepted_in_bits(alloc: Global, text: &str) -> Option<Answer> {
+    let (rest, value) = text.split_once(") value=")?;
+    let (literal, position) = rest.rsplit_once(", ")?;
+    let told = format!(in alloc; "rest={literal} value={value}").ok()?;
+    let answer = read_answer(alloc, told.as_str(), &[])?;
+    at_bit(alloc, answer, position.parse::<usize>().ok()?)
+}
+
+/// The refusal that a line tells of bits, with its place, at an input.
+fn refused_in_bits(alloc: Global, said: &str, place: &str, input: &[u8]) -> Option<Answer> {
+    let (start, position) = place.strip_suffix(")")?.split_once(", ")?;
+    let told = format!(in alloc; "{said} at {start}").ok()?;
+    let answer = read_answer(alloc, told.as_str(), input)?;
+    at_bit(alloc, answer, position.parse::<usize>().ok()?)
+}
+
 /// The answer that a line tells of bits, at an input.
 fn wanted_of_bits(alloc: Global, text: &str, input: &[u8]) -> Option<Answer> {
     if let Some(accepted) = text.strip_prefix("rest=(") {
-        let (rest, value) = accepted.split_once(") value=")?;
-        let (literal, position) = rest.rsplit_once(", ")?;
-        let told = format!(in alloc; "rest={literal} value={value}").ok()?;
-        let answer = read_answer(alloc, told.as_str(), input)?;
-        return at_bit(alloc, answer, position.parse::<usize>().ok()?);
+        return accepted_in_bits(alloc, accepted);
     }
     match text.split_once(" at (") {
+        Some((said, place)) => refused_in_bits(alloc, said, place, input),
         None => read_answer(alloc, text, input),
-        Some((said, place)) => {
-            let (start, position) = place.strip_suffix(")")?.split_once(", ")?;
-            let told = format!(in alloc; "{said} at {start}").ok()?;
-            let answer = read_answer(alloc, told.as_str(), input)?;
-            at_bit(alloc, answer, position.parse::<usize>().ok()?)
-        }
     }
 }
 

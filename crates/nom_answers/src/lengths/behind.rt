@@ -31,7 +31,19 @@ where
     }
 }
 
-/// The same, of a part that is made of another.
+/// What data behind a length answers.
+pub fn data<I, L>(question: Question<I>, length: L) -> Option<Answer>
+where
+    I: Input + AsBytes + Debug,
+    L: Parser<I, Error = Error<I>> + Drop,
+    L::Output: ToUsize,
+    requires length { (L.meaning (L.state length)).IsSound }
+    requires one { IsOne (HasSize (L.IsOutput (L.state length)) L.Output.size) }
+{
+    question.ask(length_data(length))
+}
+
+/// What a part answers behind a length that is made of another part.
 fn made<I, L, P>(
     question: Question<I>,
     kind: Kind,
@@ -70,7 +82,7 @@ where
     let kind = call.kind;
     let is_alpha = |c: I::Item| c.is_alpha();
     match (kind, call.part) {
-        (Kind::Data, _) => question.ask(length_data(length)),
+        (Kind::Data, _) => data(question, length),
         (Kind::DataMany0, _) => question.ask(many0(question.alloc, length_data(length))),
         (_, Part::Rest) => parsed(question, kind, length, Rest::new()),
         (_, Part::Eof) => parsed(question, kind, length, Eof::new()),

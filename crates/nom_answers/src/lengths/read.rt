@@ -1,7 +1,8 @@
 //! Lengths, as a call has them.
 
-use crate::lengths::behind::{behind, parsed};
+use crate::lengths::behind::{behind, data, parsed};
 use crate::lengths::calls::{Call, Kind, Length, Part};
+use nom::bytes::tag;
 use nom::character::{char, one_of};
 use nom::combinator::{cut, map};
 use nom::error::Error;
@@ -30,25 +31,31 @@ where
             call,
             map(char::<I, Error<I>>('1'), move |_c: char| n),
         ),
-        Length::CutChar => {
-            behind(
-                question,
-                call,
-                cut(map(char::<I, Error<I>>('1'), |_c: char| 1usize)),
-            )
-        }
+        Length::CutChar if matches!((call.kind, call.part), (Kind::Value, Part::CutTag)) => parsed(
+            question,
+            call.kind,
+            cut(map(char::<I, Error<I>>('1'), |_c: char| 1usize)),
+            cut(tag(call.text)),
+        ),
         _ => None,
     }
 }
 
-/// What a call answers of bytes alone; none where its length isn't one of bytes.
-pub fn asked_of_bytes(question: Question<&[u8]>, call: Call<&str>) -> Option<Answer> {
-    match (call.length, call.part) {
-        (Length::U8, Part::U8) => parsed(question, Kind::Count, be_u8(), be_u8()),
-        (Length::U8, _) => behind(question, call, be_u8()),
-        (Length::CutU8, _) => behind(question, call, cut(be_u8())),
-        (Length::U16, _) => behind(question, call, be_u16()),
-        (Length::U64, _) => behind(question, call, be_u64()),
+/// What a call answers of bytes alone; none where its length isn't one of bytes. Behind `be_u16` and within `cut`
+/// there is data alone.
+pub fn asked_of_bytes<I, T>(question: Question<I>, call: Call<T>) -> Option<Answer>
+where
+    I: Input<Item = u8> + AsBytes + Debug + Viewed + Compare<T>,
+    T: Copy,
+{
+    match (call.length, call.kind, call.part) {
+        (Length::U8, _, Part::U8) => {
+            parsed(question, call.kind, be_u8(), be_u8::<I, Error<I>>())
+        }
+        (Length::U8, _, _) => behind(question, call, be_u8::<I, Error<I>>()),
+        (Length::U64, _, _) => behind(question, call, be_u64::<I, Error<I>>()),
+        (Length::CutU8, Kind::Data, _) => data(question, cut(be_u8::<I, Error<I>>())),
+        (Length::U16, Kind::Data, _) => data(question, be_u16::<I, Error<I>>()),
         _ => None,
     }
 }

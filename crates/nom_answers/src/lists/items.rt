@@ -2,7 +2,7 @@
 
 use crate::lists::apart::{between, separated, until};
 use crate::lists::calls::{Call, Item, Part, Shape};
-use crate::lists::plain::plain;
+use crate::lists::plain::{list, plain};
 use crate::lists::ranges::{fold_over, list_over};
 use nom::branch::alt;
 use nom::bytes::{complete, is_a, streaming, tag, take};
@@ -59,12 +59,12 @@ where
     match call.item {
         Item::Itself => listed_in(question, call, part),
         Item::Many0 => listed(question, call, many0(alloc, part)),
-        Item::Many1 => plain(question, &call.shape, many1(alloc, part)),
+        Item::Many1 => list(question, &call.shape, many1(alloc, part)),
         Item::AltNothing => listed(question, call, alt((part, tag(call.nothing)))),
         Item::Opt => listed(question, call, opt(part)),
         Item::Cut => listed_in(question, call, cut(part)),
-        Item::Not => plain(question, &call.shape, not(part)),
-        Item::Complete => plain(question, &call.shape, in_complete(part)),
+        Item::Not => list(question, &call.shape, not(part)),
+        Item::Complete => list(question, &call.shape, in_complete(part)),
     }
 }
 
@@ -104,10 +104,12 @@ where
             alike(question, shape, streaming::tag(other), streaming::tag(text))
         }
         (Part::OneOf, Item::Itself) => listed(question, call, one_of(text)),
-        (Part::Take, Item::Itself) => listed(question, call, take(1usize)),
-        (Part::IsA, Item::Itself) => plain(question, shape, is_a(text)),
-        (Part::Rest, Item::Itself) => plain(question, shape, Rest::new()),
-        (Part::Eof, Item::Itself) => plain(question, shape, Eof::new()),
+        (Part::Take, Item::Itself) if matches!(shape, Shape::ManyTill) => {
+            until(question, call, take(1usize))
+        }
+        (Part::IsA, Item::Itself) => list(question, shape, is_a(text)),
+        (Part::Rest, Item::Itself) => list(question, shape, Rest::new()),
+        (Part::Eof, Item::Itself) => list(question, shape, Eof::new()),
         _ => None,
     }
 }

@@ -28,7 +28,24 @@ where
     }
 }
 
-/// What a list of an item answers; none where the shape is of another kind.
+/// What a list of all items, or of so many, answers; none where the shape is of another kind.
+pub fn list<I, P>(question: Question<I>, shape: &Shape, item: P) -> Option<Answer>
+where
+    I: Input + AsBytes + Debug,
+    P: Parser<I, Error = Error<I>> + Drop,
+    P::Output: Debug,
+    requires { (P.meaning (P.state item)).IsSound }
+{
+    let alloc = question.alloc;
+    match shape {
+        Shape::Many0 => question.ask(many0(alloc, item)),
+        Shape::Many1 => question.ask(many1(alloc, item)),
+        Shape::Count(times) => question.ask(count(alloc, item, *times)),
+        _ => None,
+    }
+}
+
+/// What any list, count or fold of an item answers; none where the shape is of another kind.
 pub fn plain<I, P>(question: Question<I>, shape: &Shape, item: P) -> Option<Answer>
 where
     I: Input + AsBytes + Debug,
@@ -36,14 +53,11 @@ where
     P::Output: Viewed + Debug,
     requires { (P.meaning (P.state item)).IsSound }
 {
-    let alloc = question.alloc;
     match shape {
-        Shape::Many0 => question.ask(many0(alloc, item)),
-        Shape::Many1 => question.ask(many1(alloc, item)),
         Shape::Many0Count => question.ask(many0_count(item)),
         Shape::Many1Count => question.ask(many1_count(item)),
-        Shape::Count(times) => question.ask(count(alloc, item, *times)),
-        Shape::ManyMN(min, max) => question.ask(many_m_n(alloc, *min, *max, item)),
+        Shape::ManyMN(min, max) => question.ask(many_m_n(question.alloc, *min, *max, item)),
+        Shape::Many0 | Shape::Many1 | Shape::Count(_) => list(question, shape, item),
         _ => folded(question, shape, item),
     }
 }

@@ -4,7 +4,7 @@ use crate::lists::calls::Counts;
 use nom::bytes::tag;
 use nom::error::Error;
 use nom::multi::{fold, many};
-use nom::{AsBytes, Input, NomRange, Parser, Viewed};
+use nom::{AsBytes, Compare, Input, NomRange, Parser, Viewed};
 use nom_answer_lines::answer::Answer;
 use nom_answer_lines::ask::Question;
 use std::fmt::Debug;
@@ -45,22 +45,25 @@ where
     }
 }
 
-/// What a list of tags answers over a range, of texts: one call each, since the size of the range in the list's
-/// type has to be known.
-pub fn list_over(question: Question<&str>, counts: &Counts, text: &str) -> Option<Answer> {
+/// What a list of tags answers over a range: one call each, since the size of the range and of the item in the
+/// list's type has to be known.
+pub fn list_over<'a, I>(question: Question<I>, counts: &Counts, text: &'a str) -> Option<Answer>
+where
+    I: Input + AsBytes + Debug + Compare<&'a str>,
+{
     let alloc = question.alloc;
     let item = tag(text);
     match counts {
         Counts::Between(first, end) => {
-            question.ask(many::<_, _, _, Vec<&str>>(alloc, *first..*end, item))
+            question.ask(many::<_, _, _, Vec<I>>(alloc, *first..*end, item))
         }
         Counts::Through(first, last) => {
-            question.ask(many::<_, _, _, Vec<&str>>(alloc, *first..=*last, item))
+            question.ask(many::<_, _, _, Vec<I>>(alloc, *first..=*last, item))
         }
-        Counts::From(first) => question.ask(many::<_, _, _, Vec<&str>>(alloc, *first.., item)),
-        Counts::All => question.ask(many::<_, _, _, Vec<&str>>(alloc, .., item)),
-        Counts::Before(end) => question.ask(many::<_, _, _, Vec<&str>>(alloc, ..*end, item)),
-        Counts::UpTo(last) => question.ask(many::<_, _, _, Vec<&str>>(alloc, ..=*last, item)),
-        Counts::Exactly(count) => question.ask(many::<_, _, _, Vec<&str>>(alloc, *count, item)),
+        Counts::From(first) => question.ask(many::<_, _, _, Vec<I>>(alloc, *first.., item)),
+        Counts::All => question.ask(many::<_, _, _, Vec<I>>(alloc, .., item)),
+        Counts::Before(end) => question.ask(many::<_, _, _, Vec<I>>(alloc, ..*end, item)),
+        Counts::UpTo(last) => question.ask(many::<_, _, _, Vec<I>>(alloc, ..=*last, item)),
+        Counts::Exactly(count) => question.ask(many::<_, _, _, Vec<I>>(alloc, *count, item)),
     }
 }

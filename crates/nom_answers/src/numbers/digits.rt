@@ -1,9 +1,10 @@
 //! Numbers and shapes that are written in digits.
 
+use crate::answered::answered;
 use nom::error::Error;
 use nom::number::{complete, recognize_float, recognize_float_or_exceptions, streaming};
 use nom::{AsBytes, AsChar, Input};
-use nom_answer_lines::answer::{Answer, answer_of};
+use nom_answer_lines::answer::Answer;
 use nom_answer_lines::ask::Question;
 use nom_answer_lines::names::place_of;
 use std::fmt::Debug;
@@ -23,13 +24,13 @@ where
     match place_of(names, call.strip_prefix("number::")?)? {
         0 => question.ask(recognize_float::<I, Error<I>>()),
         1 => question.ask(recognize_float_or_exceptions::<I, Error<I>>()),
-        2 => answer_of(alloc, complete::hex_u32(input)),
-        3 => answer_of(alloc, streaming::hex_u32(input)),
-        4 => answer_of(alloc, complete::recognize_float(input)),
-        5 => answer_of(alloc, streaming::recognize_float(input)),
-        6 => answer_of(alloc, complete::recognize_float_or_exceptions(input)),
-        7 => answer_of(alloc, streaming::recognize_float_or_exceptions(input)),
-        8 => answer_of(alloc, complete::recognize_float_parts(input)),
-        _ => answer_of(alloc, streaming::recognize_float_parts(input)),
+        2 => answered(alloc, complete::hex_u32(input)),
+        3 => answered(alloc, streaming::hex_u32(input)),
+        4 => answered(alloc, complete::recognize_float(input)),
+        5 => answered(alloc, streaming::recognize_float(input)),
+        6 => answered(alloc, complete::recognize_float_or_exceptions(input)),
+        7 => answered(alloc, streaming::recognize_float_or_exceptions(input)),
+        8 => answered(alloc, complete::recognize_float_parts(input)),
+        _ => answered(alloc, streaming::recognize_float_parts(input)),
     }
 }

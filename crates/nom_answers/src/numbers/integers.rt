@@ -1,10 +1,11 @@
 //! Binary integers.
 
+use crate::answered::answered;
 use nom::error::Error;
 use nom::number::layout::Layout;
 use nom::number::{self, Binary, Endianness, Fixed, complete, streaming};
 use nom::{AsBytes, Complete, Input, Streaming};
-use nom_answer_lines::answer::{Answer, answer_of};
+use nom_answer_lines::answer::Answer;
 use nom_answer_lines::ask::{Module, Question};
 use nom_answer_lines::names::place_of;
 use std::fmt::Debug;
@@ -98,18 +99,18 @@ fn big_complete<I: Input<Item = u8> + AsBytes>(
 ) -> Option<Answer> {
     let Question { alloc, input, .. } = question;
     match kind {
-        0 => answer_of(alloc, complete::be_u8(input)),
-        1 => answer_of(alloc, complete::be_u16(input)),
-        2 => answer_of(alloc, complete::be_u24(input)),
-        3 => answer_of(alloc, complete::be_u32(input)),
-        4 => answer_of(alloc, complete::be_u64(input)),
-        5 => answer_of(alloc, complete::be_u128(input)),
-        6 => answer_of(alloc, complete::be_i8(input)),
-        7 => answer_of(alloc, complete::be_i16(input)),
-        8 => answer_of(alloc, complete::be_i24(input)),
-        9 => answer_of(alloc, complete::be_i32(input)),
-        10 => answer_of(alloc, complete::be_i64(input)),
-        _ => answer_of(alloc, complete::be_i128(input)),
+        0 => answered(alloc, complete::be_u8(input)),
+        1 => answered(alloc, complete::be_u16(input)),
+        2 => answered(alloc, complete::be_u24(input)),
+        3 => answered(alloc, complete::be_u32(input)),
+        4 => answered(alloc, complete::be_u64(input)),
+        5 => answered(alloc, complete::be_u128(input)),
+        6 => answered(alloc, complete::be_i8(input)),
+        7 => answered(alloc, complete::be_i16(input)),
+        8 => answered(alloc, complete::be_i24(input)),
+        9 => answered(alloc, complete::be_i32(input)),
+        10 => answered(alloc, complete::be_i64(input)),
+        _ => answered(alloc, complete::be_i128(input)),
     }
 }
 
@@ -120,18 +121,18 @@ fn big_streaming<I: Input<Item = u8> + AsBytes>(
 ) -> Option<Answer> {
     let Question { alloc, input, .. } = question;
     match kind {
-        0 => answer_of(alloc, streaming::be_u8(input)),
-        1 => answer_of(alloc, streaming::be_u16(input)),
-        2 => answer_of(alloc, streaming::be_u24(input)),
-        3 => answer_of(alloc, streaming::be_u32(input)),
-        4 => answer_of(alloc, streaming::be_u64(input)),
-        5 => answer_of(alloc, streaming::be_u128(input)),
-        6 => answer_of(alloc, streaming::be_i8(input)),
-        7 => answer_of(alloc, streaming::be_i16(input)),
-        8 => answer_of(alloc, streaming::be_i24(input)),
-        9 => answer_of(alloc, streaming::be_i32(input)),
-        10 => answer_of(alloc, streaming::be_i64(input)),
-        _ => answer_of(alloc, streaming::be_i128(input)),
+        0 => answered(alloc, streaming::be_u8(input)),
+        1 => answered(alloc, streaming::be_u16(input)),
+        2 => answered(alloc, streaming::be_u24(input)),
+        3 => answered(alloc, streaming::be_u32(input)),
+        4 => answered(alloc, streaming::be_u64(input)),
+        5 => answered(alloc, streaming::be_u128(input)),
+        6 => answered(alloc, streaming::be_i8(input)),
+        7 => answered(alloc, streaming::be_i16(input)),
+        8 => answered(alloc, streaming::be_i24(input)),
+        9 => answered(alloc, streaming::be_i32(input)),
+        10 => answered(alloc, streaming::be_i64(input)),
+        _ => answered(alloc, streaming::be_i128(input)),
     }
 }
 
@@ -160,18 +161,18 @@ fn little_complete<I: Input<Item = u8> + AsBytes>(
 ) -> Option<Answer> {
     let Question { alloc, input, .. } = question;
     match kind {
-        0 => answer_of(alloc, complete::le_u8(input)),
-        1 => answer_of(alloc, complete::le_u16(input)),
-        2 => answer_of(alloc, complete::le_u24(input)),
-        3 => answer_of(alloc, complete::le_u32(input)),
-        4 => answer_of(alloc, complete::le_u64(input)),
-        5 => answer_of(alloc, complete::le_u128(input)),
-        6 => answer_of(alloc, complete::le_i8(input)),
-        7 => answer_of(alloc, complete::le_i16(input)),
-        8 => answer_of(alloc, complete::le_i24(input)),
-        9 => answer_of(alloc, complete::le_i32(input)),
-        10 => answer_of(alloc, complete::le_i64(input)),
-        _ => answer_of(alloc, complete::le_i128(input)),
+        0 => answered(alloc, complete::le_u8(input)),
+        1 => answered(alloc, complete::le_u16(input)),
+        2 => answered(alloc, complete::le_u24(input)),
+        3 => answered(alloc, complete::le_u32(input)),
+        4 => answered(alloc, complete::le_u64(input)),
+        5 => answered(alloc, complete::le_u128(input)),
+        6 => answered(alloc, complete::le_i8(input)),
+        7 => answered(alloc, complete::le_i16(input)),
+        8 => answered(alloc, complete::le_i24(input)),
+        9 => answered(alloc, complete::le_i32(input)),
+        10 => answered(alloc, complete::le_i64(input)),
+        _ => answered(alloc, complete::le_i128(input)),
     }
 }
 
@@ -182,18 +183,18 @@ fn little_streaming<I: Input<Item = u8> + AsBytes>(
 ) -> Option<Answer> {
     let Question { alloc, input, .. } = question;
     match kind {
-        0 => answer_of(alloc, streaming::le_u8(input)),
-        1 => answer_of(alloc, streaming::le_u16(input)),
-        2 => answer_of(alloc, streaming::le_u24(input)),
-        3 => answer_of(alloc, streaming::le_u32(input)),
-        4 => answer_of(alloc, streaming::le_u64(input)),
-        5 => answer_of(alloc, streaming::le_u128(input)),
-        6 => answer_of(alloc, streaming::le_i8(input)),
-        7 => answer_of(alloc, streaming::le_i16(input)),
-        8 => answer_of(alloc, streaming::le_i24(input)),
-        9 => answer_of(alloc, streaming::le_i32(input)),
-        10 => answer_of(alloc, streaming::le_i64(input)),
-        _ => answer_of(alloc, streaming::le_i128(input)),
+        0 => answered(alloc, streaming::le_u8(input)),
+        1 => answered(alloc, streaming::le_u16(input)),
+        2 => answered(alloc, streaming::le_u24(input)),
+        3 => answered(alloc, streaming::le_u32(input)),
+        4 => answered(alloc, streaming::le_u64(input)),
+        5 => answered(alloc, streaming::le_u128(input)),
+        6 => answered(alloc, streaming::le_i8(input)),
+        7 => answered(alloc, streaming::le_i16(input)),
+        8 => answered(alloc, streaming::le_i24(input)),
+        9 => answered(alloc, streaming::le_i32(input)),
+        10 => answered(alloc, streaming::le_i64(input)),
+        _ => answered(alloc, streaming::le_i128(input)),
     }
 }
 
@@ -243,10 +244,10 @@ fn untold<I: Input<Item = u8> + AsBytes>(question: Question<I>, kind: &str) -> O
     match (module, kind) {
         (Module::Top, "u8") => question.ask(number::u8::<I, Error<I>>()),
         (Module::Top, "i8") => question.ask(number::i8::<I, Error<I>>()),
-        (Module::Complete, "u8") => answer_of(alloc, complete::u8(input)),
-        (Module::Complete, "i8") => answer_of(alloc, complete::i8(input)),
-        (Module::Streaming, "u8") => answer_of(alloc, streaming::u8(input)),
-        (Module::Streaming, "i8") => answer_of(alloc, streaming::i8(input)),
+        (Module::Complete, "u8") => answered(alloc, complete::u8(input)),
+        (Module::Complete, "i8") => answered(alloc, complete::i8(input)),
+        (Module::Streaming, "u8") => answered(alloc, streaming::u8(input)),
+        (Module::Streaming, "i8") => answered(alloc, streaming::i8(input)),
         _ => None,
     }
 }
