@@ -9,9 +9,12 @@ ghost use Rattle.nom_growing.specs.Growing.{AreCuts};
 ghost use Rattle.nom_examples.specs.Firsts.{first_outcome, small_outcome};
 
 use nom::character::streaming;
-use nom::error::{Error, ErrorKind};
+use nom::error::{Error, ErrorKind, ParseError};
 use nom::number::streaming as number;
-use nom::{Err, Grown, IResult, Items, Needed, Parser, func, parse_growing, stream_func};
+use nom::{
+    Err, Func, Grown, IResult, Input, Items, Needed, Parser, StreamFunc, Viewed, func,
+    parse_growing, stream_func,
+};
 
 type Fail<'a> = Error<&'a [u8]>;
 
@@ -70,31 +73,54 @@ pub fn length_left(input: &[u8]) -> IResult<&[u8], usize>
     Ok((input, input.len()))
 }
 
+/// What a function parses of an input that grows. The functions below are handed to this one, so that each of
+/// their proofs is of the function alone.
+fn grown<I: Input, O: Viewed + Drop, E: ParseError<I>, F: Fn(I) -> IResult<I, O, E> + Drop>(
+    f: F,
+    input: I,
+    cuts: &[usize],
+) -> Grown<I, O, E>
+    requires sound { (⟦<StreamFunc<F, I, O, E> as Parser<I>>⟧.meaning f).IsSound }
+    requires cuts { AreCuts I.seen input cuts.now }
+{
+    parse_growing(stream_func(f), input, cuts)
+}
+
 /// Nothing of an input that grows.
 pub fn grown_nothing<'a>(input: &'a [u8], cuts: &[usize]) -> Grown<&'a [u8], usize, Fail<'a>>
     requires { AreCuts seen_bytes input cuts.now }
 {
-    parse_growing(stream_func(nothing), input, cuts)
+    grown(nothing, input, cuts)
+}
+
+/// What a function parses of an input that is complete.
+fn complete<I: Input, O: Viewed + Drop, E: ParseError<I>, F: Fn(I) -> IResult<I, O, E> + Drop>(
+    f: F,
+    input: I,
+) -> IResult<I, O, E>
+    requires { (⟦<Func<F, I, O, E> as Parser<I>>⟧.meaning f).IsSound }
+{
+    let mut parser = func(f);
+    parser.parse_complete(input)
 }
 
 /// The length of what is left of an input that is complete.
 pub fn measured(input: &[u8]) -> IResult<&[u8], usize> {
-    let mut length = func(length_left);
-    length.parse_complete(input)
+    complete(length_left, input)
 }
 
 /// The first byte of an input that grows.
 pub fn grown_byte<'a>(input: &'a [u8], cuts: &[usize]) -> Grown<&'a [u8], u8, Fail<'a>>
     requires { AreCuts seen_bytes input cuts.now }
 {
-    parse_growing(stream_func(first), input, cuts)
+    grown(first, input, cuts)
 }
 
 /// The first digits of an input that grows.
 pub fn grown_digits<'a>(input: &'a [u8], cuts: &[usize]) -> Grown<&'a [u8], &'a [u8], Fail<'a>>
     requires { AreCuts seen_bytes input cuts.now }
 {
-    parse_growing(stream_func(streaming::digit1::<&[u8], Fail>), input, cuts)
+    grown(streaming::digit1::<&[u8], Fail>, input, cuts)
 }
 
 /// The parts of a decimal fraction of an input that grows.
@@ -104,9 +130,5 @@ pub fn grown_parts<'a>(
 ) -> Grown<&'a [u8], (bool, &'a [u8], &'a [u8], i32), Fail<'a>>
     requires { AreCuts seen_bytes input cuts.now }
 {
-    parse_growing(
-        stream_func(number::recognize_float_parts::<&[u8], Fail>),
-        input,
-        cuts,
-    )
+    grown(number::recognize_float_parts::<&[u8], Fail>, input, cuts)
 }

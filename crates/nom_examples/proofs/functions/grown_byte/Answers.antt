@@ -8,5 +8,5 @@ first_stays : (xs more : List ℕ) → IsDecided (first_outcome xs) → first_ou
 first_stays [] more d = absurd d
 first_stays (x ∷ xs) more d = refl
 
-pub parse_growing-requires-clause-sound : goal.parse_growing-requires-clause-sound
-parse_growing-requires-clause-sound c = items_stream_func first_outcome first_stays
+pub grown-requires-clause-sound : goal.grown-requires-clause-sound
+grown-requires-clause-sound c = items_stream_func first_outcome first_stays
