@@ -1,0 +1,13 @@
+-- Settings of a file.
+use Rattle.std.specs.Prelude.{ℕ, List, codes, chars}
+use Rattle.nom_error.specs.Errors.{Errors}
+use Rattle.nom_traits.specs.Compares.{ComparesText}
+use Rattle.nom_traits.specs.Slices.{Slice}
+use Rattle.nom.specs.Grammar.{Grammar, separated_pair_of}
+use Rattle.nom.specs.Leaves.{is_not_of, tag_of}
+use Rattle.nom_source.specs.declared.source.Source.{Source}
+use Rattle.nom_source.specs.Sources.{seen_source}
+
+-- a name and a value with a `=` between them, neither of them empty; the value ends with its line
+abbrev pub setting_of : {E : Type 0} → Errors Source E → Grammar Source (Slice seen_source × Slice seen_source) (Source × Source) E
+setting_of errs = separated_pair_of seen_source (is_not_of seen_source errs (chars (codes "="))) (tag_of seen_source errs ComparesText (codes "=")) (is_not_of seen_source errs (chars (codes "\n")))
