@@ -2,19 +2,15 @@
 #![tactic(auto)]
 
 mod brackets;
-mod configuration;
 pub mod functions;
 mod hex;
-mod key_value;
 mod letters;
 mod promises;
 mod refusal;
 mod tokens;
 
 pub use crate::brackets::{brackets_line, nested_brackets};
-pub use crate::configuration::{Line, settings};
 pub use crate::hex::{Color, hex_color};
-pub use crate::key_value::setting;
 pub use crate::letters::{Letter, one_letter};
 pub use crate::promises::promised;
 pub use crate::refusal::Refusal;

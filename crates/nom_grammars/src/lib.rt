@@ -1,4 +1,9 @@
-//! Grammars as contracts, by the words of `nom`'s own specs.
+//! Grammars of lines and records: as contracts, by the words of `nom`'s own specs, and one with nothing to prove.
 #![tactic(auto)]
 
+mod configuration;
 pub mod grammars;
+mod key_value;
+
+pub use crate::configuration::{Line, settings};
+pub use crate::key_value::setting;

@@ -1,4 +1,4 @@
-use Rattle.nom_examples.proofs.key_value.setting.Goals as goal
+use Rattle.nom_grammars.proofs.key_value.setting.Goals as goal
 
 pub returns : goal.returns
 returns c =
