@@ -2,5 +2,4 @@ pub mod Expressions
 pub mod Heads
 pub mod NamedValues
 pub mod Sequences
-pub mod WrittenMessages
 pub mod WrittenSections

@@ -1,4 +1,3 @@
 pub mod Arithmetic
-pub mod Messages
 pub mod Named
 pub mod Sections

@@ -3,10 +3,8 @@
 
 mod arithmetic;
 mod ini;
-mod message;
 mod named;
 
 pub use crate::arithmetic::{Fault, expression};
 pub use crate::ini::{Section, sections};
-pub use crate::message::{Message, messages};
 pub use crate::named::named_value;

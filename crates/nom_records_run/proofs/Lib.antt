@@ -1,5 +1,1 @@
-pub mod Hex
-pub mod Known
 pub mod Reported
-pub mod Told
-pub mod WriteEnds

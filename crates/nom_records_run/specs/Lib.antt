@@ -1,4 +1,1 @@
 pub mod Report
-pub mod Stream
-pub mod Texts
-pub mod Words

@@ -1,14 +1,13 @@
 use super::fails::Fails;
 use nom_error::answer::{Needed, OutOfMemory};
 use nom_error::kind::ErrorKind;
-use nom_records_run::counted::Counted;
-use nom_records_run::error::RunError;
-use nom_records_run::run::run;
-use nom_records_run::stream::{Sink, Source};
-use nom_records_run::text::{
-    add_decided, add_error, add_failure, add_hex, add_need, add_record, add_rest,
-};
-use nom_records_run::words::read_cuts;
+use nom_records_run::report::Records;
+use nom_run::counted::Counted;
+use nom_run::error::RunError;
+use nom_run::run::run;
+use nom_run::stream::{Sink, Source};
+use nom_run::text::{add_bytes, add_decided, add_error, add_failure, add_hex, add_need, add_rest};
+use nom_run::words::read_cuts;
 use std::alloc::Global;
 use std::process::Abort;
 
@@ -19,7 +18,7 @@ fn ran<S: Source, W: Sink>(
     cuts: &[usize],
     sink: &mut W,
 ) -> Result<u8, RunError> {
-    run(alloc, source, cuts, sink)
+    run(alloc, &Records, source, cuts, sink)
 }
 
 // The status and the text for bytes in memory.
@@ -179,8 +178,8 @@ fn reads_words(rt: HostRuntime) {
 fn lines(alloc: Global) -> Result<String, OutOfMemory> {
     let mut text = String::new(alloc);
     add_decided(&mut text, 12)?;
-    add_record(&mut text, b"")?;
-    add_record(&mut text, &[0x00, 0x0a, 0xb0, 0xff])?;
+    add_bytes(&mut text, "record ", b"")?;
+    add_bytes(&mut text, "record ", &[0x00, 0x0a, 0xb0, 0xff])?;
     add_hex(&mut text, &[0x9c])?;
     add_rest(&mut text, 0)?;
     add_error(&mut text, ErrorKind::Tag, 3)?;

@@ -1,0 +1,38 @@
+-- The report, from the answer on messages that come in pieces.
+use Rattle.std.proofs.Common.{◌≡◌, ℕ, Bool, false, true, ◌<◌, ◌≤◌, List, [], ◌∷◌, length, slice_index, Vec, Result, ◌∙◌, ap, inl, inr, ◌⊎◌}
+use Rattle.nom_error.specs.declared.value.Error.{Error}
+use Rattle.nom_error.specs.declared.answer.Needed.{Needed}
+use Rattle.nom_error.specs.declared.answer.Err as Answer
+use Rattle.std.specs.List.{AllZip}
+use Rattle.std.specs.Prelude.{codes}
+use Rattle.nom_traits.specs.Bytes.{seen_bytes}
+use Rattle.nom_growing.specs.Growing.{IsGrown}
+use Rattle.nom_growing.specs.Promises.{HasNoFailure}
+use Rattle.nom.specs.Bytes.{Bytes}
+use Rattle.nom_protocol.specs.declared.message.Message.{Message}
+use Rattle.nom_protocol.specs.Messages.{Body, body_of, messages_of}
+use Rattle.nom_run.specs.Report.{IsTold}
+use Rattle.nom_run.specs.Texts.{bytes_text}
+use Rattle.nom_run.proofs.Reported.{reported}
+use Rattle.nom_run.proofs.Told.{lines-same}
+use Rattle.nom_messages.specs.Report.{ping_text, message_text, body_text, bodies_text, lines_of, message_grammar, IsReport}
+
+abbrev AreBodies : {A : Type 0} → List Body → Vec Message A → Type 0
+AreBodies {A} = (messages_of {M = A}).IsOutput
+
+abbrev IsBody : Body → Message → Type 0
+IsBody = (body_of (1 ∷ []) (2 ∷ []) (3 ∷ []) (0 ∷ 0 ∷ []) true true).IsOutput
+
+-- a message has the line of its tree
+same_line : (t : Body) (m : Message) → IsBody t m → message_text m ≡ body_text t
+same_line (inl (inl t)) m h = ap message_text h.given ∙ ap ping_text h.is_output.1
+same_line (inl (inr t)) m h = ap message_text h.given ∙ ap (bytes_text (codes "text ")) h.is_output.elements_are
+same_line (inr t) m h = ap message_text h.given
+
+never_fails : (large : Bool) → message_grammar.NeverFails large
+never_fails large = search
+
+pub reported_messages : {A : Type 0} (whole : Bytes) (cuts : List ℕ) (index start : ℕ) → (index < length cuts → start ≡ slice_index cuts index) → (length cuts ≤ index → start ≡ length whole.now) → seen_bytes.IsKnown whole → (answer : Result (Bytes × Vec Message A) (Answer.Err (Error Bytes) (Error Bytes) Needed)) (text : List ℕ) (status : ℕ) → IsGrown seen_bytes AreBodies message_grammar whole cuts index answer → HasNoFailure seen_bytes message_grammar → IsTold lines_of index start answer text status → IsReport whole.now cuts text status
+unfolding IsReport
+reported_messages whole cuts index start at_cut at_end known answer text status g none t =
+    reported message_grammar bodies_text AreBodies lines_of (λ ts v h. lines-same IsBody body_text message_text same_line ts v.items h) whole cuts index start at_cut at_end known (λ large i k a. none large true i k (never_fails large) a) answer text status g t

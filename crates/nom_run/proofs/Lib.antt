@@ -1,0 +1,5 @@
+pub mod Hex
+pub mod Known
+pub mod Reported
+pub mod Told
+pub mod WriteEnds

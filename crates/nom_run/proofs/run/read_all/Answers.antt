@@ -1,0 +1,15 @@
+use Rattle.std.proofs.Common.{arith, ◌≤◌, ◌<◌, ◌∙◌, length, take, length-append}
+use Rattle.nom_run.proofs.Known.{consumes-more}
+use Rattle.nom_run.proofs.run.read_all.Goals as goal
+
+pub loop-turn-preserved : goal.loop-turn-preserved
+loop-turn-preserved g c =
+    let kept = c.in-Ok-keep.ensures in
+    let some : 0 < c.in-Ok.count = omega (arith, c.if-count-eq0.false) in
+    let n-is = c.in-Ok.ensures.bound.1 in
+    let old : c.loop-turn._turn ≤ length c.loop-turn.bytes.items = c.loop-turn.invariant.turns in
+    record {
+      read = rw kept (consumes-more (g.S.Source.left c.args.source.now) (g.S.Source.left c.loop-turn.source) (g.S.Source.left c.read.new.self) c.loop-turn.bytes.items (take c.in-Ok.count c.read.new.room) c.loop-turn.invariant.read c.in-Ok.ensures.bytes.0);
+      failures = c.in-Ok.ensures.counts ∙ c.loop-turn.invariant.failures;
+      turns = rw (kept, length-append) (omega (arith, some, n-is, old));
+    }

@@ -1,0 +1,6 @@
+pub mod Asked
+pub mod Lines
+pub mod Report
+pub mod Stream
+pub mod Texts
+pub mod Words

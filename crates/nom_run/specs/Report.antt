@@ -1,0 +1,54 @@
+-- The report on the bytes of a file that comes in pieces.
+use Rattle.std.specs.Prelude.{◌≡◌, ℕ, ◌-◌, ◌<◌, ◌≤◌, true, List, ◌++◌, length, slice_index, Result, Ok, Err, Option}
+use Rattle.std.specs.Borrow.{Bor}
+use Rattle.nom_error.specs.declared.value.Error.{Error}
+use Rattle.nom_error.specs.declared.answer.Needed.{Needed}
+use Rattle.nom_error.specs.declared.answer.Err as Answer
+use Rattle.nom_error.specs.declared.answer.Err.TheVariants as Stop
+use Rattle.nom_error.specs.Answers.{size_of}
+use Rattle.nom_traits.specs.Bytes.{seen_bytes}
+use Rattle.nom_internal.specs.Outcome.{Outcome}
+use Rattle.nom_internal.specs.Outcome.Outcome.{Accept, Refuse, Fail, TooLarge, Undecided}
+use Rattle.nom_internal.specs.Meaning.{Meaning}
+use Rattle.nom_growing.specs.Growing.{IsBeginning, Waits}
+use Rattle.nom_run.specs.Texts.{decided_text, rest_text, error_text, failure_text, need_text}
+
+abbrev Bytes : Type 0
+Bytes = Bor (List ℕ)
+
+-- The text and the status for an outcome on a beginning of the whole: `index` is that of the cut where it begins, and
+-- offsets count from the beginning's first byte. Of an acceptance stand the lines of its tree. It is of a grammar that never
+-- fails, so there is nothing to be said of a failure.
+abbrev pub Says : {V : Type 0} → (V → List ℕ) → (Error Bytes → Type 0) → ℕ → (whole beginning : List ℕ) → Outcome V → List ℕ → ℕ → Type 0
+Says lines Blames index whole beginning (Accept n v) text status = (text ≡ decided_text index ++ lines v ++ rest_text (length whole - n)) × (status ≡ 0)
+Says lines Blames index whole beginning Refuse text status = (e : Error Bytes) × Blames e × (text ≡ error_text e.code (length beginning - length e.input.now)) × (status ≡ 1)
+Says lines Blames index whole beginning Fail text status = ⊥
+Says lines Blames index whole beginning TooLarge text status = ⊥
+Says lines Blames index whole beginning (Undecided k) text status = (text ≡ need_text k) × (status ≡ 2)
+
+-- The report by a grammar: the streaming outcome on the first of the beginnings at the cuts, and then of the whole, that
+-- does not wait for more, is told by the text and the status.
+pub record IsReportBy {V : Type 0} (m : Meaning Bytes V (Error Bytes)) (lines : V → List ℕ) (bytes cuts text : List ℕ) (status : ℕ) : Type 0 where
+  pub whole : Bytes
+  pub whole_is : whole.now ≡ bytes
+  pub index : ℕ
+  pub in_range : index ≤ length cuts
+  pub waited : (k : ℕ) → k < index → Waits seen_bytes m whole (slice_index cuts k)
+  pub beginning : Bytes
+  pub begins : IsBeginning seen_bytes whole cuts index beginning
+  pub outcome : Outcome V
+  pub answered : m.answers true beginning outcome
+  pub decided : index < length cuts → (k : Option ℕ) → outcome ≡ Undecided k → ⊥
+  pub says : Says lines (m.blames true beginning) index whole.now beginning.now outcome text status
+
+-- the text and the status where a beginning of a length isn't accepted
+abbrev pub IsToldStop : (beginning : ℕ) → Answer.Err (Error Bytes) (Error Bytes) Needed → List ℕ → ℕ → Type 0
+IsToldStop beginning (Stop.Incomplete k) text status = (text ≡ need_text (size_of k)) × (status ≡ 2)
+IsToldStop beginning (Stop.Error e) text status = (text ≡ error_text e.code (beginning - length e.input.now)) × (status ≡ 1)
+IsToldStop beginning (Stop.Failure e) text status = (text ≡ failure_text e.code (beginning - length e.input.now)) × (status ≡ 1)
+IsToldStop beginning Stop.OutOfMemory text status = ⊥
+
+-- the text and the status for an answer on a beginning of a length, by the lines of an output
+abbrev pub IsTold : {O : Type 0} → (O → List ℕ) → (index beginning : ℕ) → Result (Bytes × O) (Answer.Err (Error Bytes) (Error Bytes) Needed) → List ℕ → ℕ → Type 0
+IsTold lines index beginning (Ok (rest, o)) text status = (text ≡ decided_text index ++ lines o ++ rest_text (length rest.now)) × (status ≡ 0)
+IsTold lines index beginning (Err e) text status = IsToldStop beginning e text status

@@ -1,0 +1,24 @@
+-- What the words of a command line give as cuts.
+use Rattle.std.specs.Prelude.{◌≡◌, ℕ, ◌-◌, ◌^◌, ◌<◌, ◌⊎◌, List, [], length, slice_index_or, slice_index}
+use Rattle.nom_run.specs.Stream.{NeverFalls}
+use Rattle.std.specs.Str.Parse.{IsNumeral, digits_value}
+
+-- one or more decimal digits that fit a `usize`
+abbrev pub IsNumber : List ℕ → Type 0
+IsNumber w = IsNumeral 10 w × (digits_value 10 w < 2 ^ 64)
+
+-- the number that decimal digits write
+abbrev pub number_of : List ℕ → ℕ
+number_of w = digits_value 10 w
+
+-- the numbers are those of the words, in order, and none is below the one before
+pub record Numbers (words : List (List ℕ)) (ns : List ℕ) : Type 0 where
+  pub lengths : length ns ≡ length words
+  pub each : (k : ℕ) → k < length words → IsNumber (slice_index_or words k []) × (slice_index ns k ≡ number_of (slice_index_or words k []))
+  pub ordered : NeverFalls ns
+
+-- a word is no number, or its number is below the one before
+pub record BadWord (words : List (List ℕ)) : Type 0 where
+  pub place : ℕ
+  pub within : place < length words
+  pub bad : (¬ IsNumber (slice_index_or words place [])) ⊎ ((0 < place) × (number_of (slice_index_or words place []) < number_of (slice_index_or words (place - 1) [])))

@@ -1,0 +1,128 @@
+//! The whole run: read, report, write.
+ghost use Rattle.std.specs.Prelude.{◌≡◌, ◌++◌, ◌⊎◌, [], length, IfOk, IfErr, Err, MatchBool};
+ghost use Rattle.std.specs.Io.KnownBytes.{Appends};
+ghost use Rattle.nom_run.specs.Stream.{CutAbove, Falls, MatchRunError, NeverFalls, NoneAbove, SomeAbove, ReadWhole, Reported, Stopped, WriteFailed, WroteFront, one_more};
+
+use crate::error::RunError;
+use crate::report::Report;
+use crate::stream::{Sink, Source};
+use nom_error::answer::OutOfMemory;
+use std::alloc::Allocator;
+
+// Whether no cut is below the one before.
+fn never_fall(cuts: &[usize]) -> bool
+    ensures { MatchBool result (NeverFalls cuts.now) (Falls cuts.now) }
+{
+    cuts.is_sorted()
+}
+
+// Whether no cut is above `end`.
+fn none_above(cuts: &[usize], end: usize) -> bool
+    ensures { MatchBool result (NoneAbove cuts.now end) (SomeAbove cuts.now end) }
+{
+    for cut in cuts {
+        if *cut > end {
+            return false;
+        }
+    }
+    true
+}
+
+// Adds more bytes.
+fn keep<A: Allocator>(bytes: &mut Vec<u8, A>, more: &[u8]) -> Result<(), OutOfMemory>
+    ensures { IfOk result (λ _. bytes.new.items ≡ bytes.old.items ++ more.now) }
+{
+    match bytes.extend_from_slice(more) {
+        Ok(()) => Ok(()),
+        Err(_) => Err(OutOfMemory),
+    }
+}
+
+// Reads what is left, onto `bytes`.
+fn read_all<A: Allocator, S: Source>(source: &mut S, bytes: &mut Vec<u8, A>) -> Result<(), RunError>
+    requires { bytes.old.items ≡ [] }
+    ensures whole { IfOk result (λ _. ReadWhole (S.left source.old) (S.left source.new) bytes.new.items × (S.failures source.new ≡ S.failures source.old)) }
+    ensures error { IfErr result (λ e. MatchRunError e (S.failures source.new ≡ one_more (S.failures source.old)) ⊥ (S.failures source.new ≡ S.failures source.old) ⊥) }
+{
+    let mut room = [0u8; 256];
+    for _turn in 0..u64::MAX {
+        match source.read(&mut room) {
+            Ok(count) => {
+                if count == 0 {
+                    return Ok(());
+                }
+                match keep(bytes, &room[..count]) {
+                    Ok(()) => {}
+                    Err(_) => return Err(RunError::OutOfMemory),
+                }
+            }
+            Err(_) => return Err(RunError::Read),
+        }
+    }
+    unreachable!()
+}
+
+/// Writes the text, in as many calls as it takes.
+///
+/// A failed call is not tried again, and a write that takes no byte is a failure: both are `Write`.
+pub fn write_all<W: Sink>(sink: &mut W, text: &[u8]) -> Result<(), RunError>
+    ensures whole { IfOk result (λ _. Appends (W.held sink.old) (W.held sink.new) text.now × (W.failures sink.new ≡ W.failures sink.old)) }
+    ensures error { IfErr result (λ e. MatchRunError e ⊥ (WroteFront (W.held sink.old) (W.held sink.new) text.now × WriteFailed (W.failures sink.old) (W.failures sink.new) (W.stalls sink.old) (W.stalls sink.new)) ⊥ ⊥) }
+{
+    let mut at = 0;
+    while at < text.len() {
+        match sink.write(&text[at..]) {
+            Ok(count) => {
+                if count == 0 {
+                    return Err(RunError::Write);
+                }
+                at += count;
+            }
+            Err(_) => return Err(RunError::Write),
+        }
+    }
+    Ok(())
+}
+
+/// Reads the source to its end and writes the report on what it gave, in the parts that the cuts
+/// (offsets in bytes) make of it; answers the status.
+///
+/// `Usage` where a cut is below the one before, before anything is read, or above the length, after
+/// reading. A failed call is not tried again, and a write that takes no byte is a failure. The whole
+/// text is built before its first byte is written.
+pub fn run<A: Allocator + Copy, R: Report, S: Source, W: Sink>(
+    alloc: A,
+    report: &R,
+    source: &mut S,
+    cuts: &[usize],
+    sink: &mut W,
+) -> Result<u8, RunError>
+    ensures falls { Falls cuts.now → (result ≡ Err RunError.Usage) × (source.new ≡ source.old) × (sink.new ≡ sink.old) }
+    ensures status { IfOk result (λ status.
+        Reported R.is_report (S.left source.old) (S.left source.new) (W.held sink.old) (W.held sink.new) cuts.now status
+        × (S.failures source.new ≡ S.failures source.old) × (W.failures sink.new ≡ W.failures sink.old)) }
+    ensures error { IfErr result (λ e. MatchRunError e
+        ((sink.new ≡ sink.old) × (S.failures source.new ≡ one_more (S.failures source.old)))
+        (Stopped R.is_report (S.left source.old) (S.left source.new) (W.held sink.old) (W.held sink.new) cuts.now
+        × (S.failures source.new ≡ S.failures source.old)
+        × WriteFailed (W.failures sink.old) (W.failures sink.new) (W.stalls sink.old) (W.stalls sink.new))
+        ((sink.new ≡ sink.old) × (S.failures source.new ≡ S.failures source.old))
+        ((sink.new ≡ sink.old) × (S.failures source.new ≡ S.failures source.old)
+        × (((source.new ≡ source.old) × Falls cuts.now) ⊎ CutAbove (S.left source.old) (S.left source.new) cuts.now))) }
+{
+    if !never_fall(cuts) {
+        return Err(RunError::Usage);
+    }
+    let mut bytes = Vec::new(alloc);
+    read_all(source, &mut bytes)?;
+    if !none_above(cuts, bytes.len()) {
+        return Err(RunError::Usage);
+    }
+    let answer = match report.report(alloc, &bytes, cuts) {
+        Ok(answer) => answer,
+        Err(_) => return Err(RunError::OutOfMemory),
+    };
+    let (text, status) = answer;
+    write_all(sink, text.as_bytes())?;
+    Ok(status)
+}
