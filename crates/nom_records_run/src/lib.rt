@@ -2,3 +2,9 @@
 #![tactic(auto)]
 
 pub mod report;
+pub mod run;
+
+pub use nom_run::counted::Counted;
+pub use nom_run::error::RunError;
+pub use nom_run::stream::{Sink, Source};
+pub use nom_run::words::read_cuts;

@@ -1,10 +1,9 @@
 use super::fails::Fails;
 use nom_error::answer::{Needed, OutOfMemory};
 use nom_error::kind::ErrorKind;
-use nom_records_run::report::Records;
+use nom_records_run::run::run;
 use nom_run::counted::Counted;
 use nom_run::error::RunError;
-use nom_run::run::run;
 use nom_run::stream::{Sink, Source};
 use nom_run::text::{add_bytes, add_decided, add_error, add_failure, add_hex, add_need, add_rest};
 use nom_run::words::read_cuts;
@@ -18,7 +17,7 @@ fn ran<S: Source, W: Sink>(
     cuts: &[usize],
     sink: &mut W,
 ) -> Result<u8, RunError> {
-    run(alloc, &Records, source, cuts, sink)
+    run(alloc, source, cuts, sink)
 }
 
 // The status and the text for bytes in memory.
