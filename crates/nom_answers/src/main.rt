@@ -72,11 +72,15 @@
 //!    `error` of a comparison; of a split `run` and the length of the run, `refused` at the start of the text
 //!    with `Alpha`, or `incomplete` and how much more is needed.
 //!
-//! And of a grammar of `nom_formats` there are three: its name, the text, and the answer as `{:?}` writes it:
+//! And of a grammar of `nom_formats` or `nom_protocol` there are three: its name, the input, and the answer as
+//! `{:?}` writes it:
 //!
 //! ```text
 //! expression | "1+2*3;" | Ok((";", 7))
+//! messages | b"\x00\x01\x03\x00\x00" | Ok(([], [Close]))
 //! ```
+//!
+//! `messages` is asked for the whole, and then for each two pieces of it, and has to answer alike.
 //!
 //! The answers in which this library differs on purpose, and calls with which nom panics or runs for ever, are
 //! left out of the files in `data`: docs/DIFFERENCES.md lists them. But `data/rows.txt` and
