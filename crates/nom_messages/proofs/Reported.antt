@@ -1,9 +1,8 @@
 -- The report, from the answer on messages that come in pieces.
-use Rattle.std.proofs.Common.{◌≡◌, ℕ, Bool, false, true, ◌<◌, ◌≤◌, List, [], ◌∷◌, length, slice_index, Vec, Result, ◌∙◌, ap, inl, inr, ◌⊎◌}
+use Rattle.std.proofs.Common.{◌≡◌, ℕ, Bool, true, ◌<◌, ◌≤◌, List, [], ◌∷◌, length, slice_index, Vec, Result, ◌∙◌, ap, inl, inr}
 use Rattle.nom_error.specs.declared.value.Error.{Error}
 use Rattle.nom_error.specs.declared.answer.Needed.{Needed}
 use Rattle.nom_error.specs.declared.answer.Err as Answer
-use Rattle.std.specs.List.{AllZip}
 use Rattle.std.specs.Prelude.{codes}
 use Rattle.nom_traits.specs.Bytes.{seen_bytes}
 use Rattle.nom_growing.specs.Growing.{IsGrown}

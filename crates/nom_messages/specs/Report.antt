@@ -1,6 +1,6 @@
 -- The report on a file of messages.
 use Rattle.std.proofs.Common.{inl, inr}
-use Rattle.std.specs.Prelude.{ℕ, ◌⊎◌, List, ◌++◌, codes, Vec}
+use Rattle.std.specs.Prelude.{ℕ, List, ◌++◌, codes, Vec}
 use Rattle.std.specs.Fmt.{decimal}
 use Rattle.nom_error.specs.declared.value.Error.{Error}
 use Rattle.nom_internal.specs.Meaning.{Meaning}
