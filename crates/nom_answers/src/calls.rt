@@ -7,7 +7,9 @@ use crate::grid::{Tags, layered};
 use crate::lengths::calls::{Call as LengthCall, call_of as length_of};
 use crate::lengths::read::{asked as read, asked_of_bytes as read_of_bytes};
 use crate::lists::calls::{Call as ListCall, call_of as list_of};
+use crate::lists::gathered::{gathered, gathering_of};
 use crate::lists::items::{asked as listed, asked_of_text as listed_of_text};
+use crate::lists::ranges::asked_over;
 use crate::numbers::digits::digits;
 use crate::numbers::integers::integer;
 use nom::{AsBytes, AsChar, Compare, FindToken, Input, Viewed};
@@ -21,6 +23,8 @@ use std::fmt::Debug;
 #[derive(Drop)]
 enum Call<T> {
     List(ListCall<T>),
+    /// Characters in a text or a queue, by the number of the call.
+    Gathering(usize),
     Length(LengthCall<T>),
     /// A choice or a permutation of two members.
     Pair(Shape, Pair<T>),
@@ -70,6 +74,9 @@ fn call_of(text: &str) -> Call<&str> {
     if let Some(list) = list_of(text) {
         return Call::List(list);
     }
+    if let Some(number) = gathering_of(text) {
+        return Call::Gathering(number);
+    }
     if let Some(length) = length_of(text) {
         return Call::Length(length);
     }
@@ -93,6 +100,7 @@ where
 {
     match call {
         Call::List(list) => listed(question, list),
+        Call::Gathering(number) => gathered(question, *number),
         Call::Length(length) => read(question, *length),
         Call::Pair(shape, pair) => of_pair(question, *shape, *pair),
         Call::Tags(shape, members) => of_tags(question, *shape, *members),
@@ -102,7 +110,7 @@ where
     }
 }
 
-/// What a call answers of a text alone; none where any input may be asked.
+/// What a call answers that is asked of a text for itself; none where it is asked of any input.
 fn asked_of_text(question: Question<&str>, call: &Call<&str>) -> Option<Answer> {
     match call {
         Call::List(list) => listed_of_text(question, list),
@@ -110,9 +118,10 @@ fn asked_of_text(question: Question<&str>, call: &Call<&str>) -> Option<Answer> 
     }
 }
 
-/// What a call answers of bytes alone; none where any input may be asked.
+/// The same of bytes.
 fn asked_of_bytes(question: Question<&[u8]>, call: &Call<&str>, text: &str) -> Option<Answer> {
     match call {
+        Call::List(list) => asked_over(question, list),
         Call::Length(length) => read_of_bytes(question, *length),
         Call::Number => integer(question, text),
         _ => None,

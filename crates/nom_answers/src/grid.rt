@@ -32,8 +32,8 @@ fn outer_of(call: &str) -> Option<(usize, &str)> {
 /// The parser in the middle by its number, and the text of its part.
 fn shape_of(text: &str) -> (usize, &str) {
     let forms = "many0(*)|terminated(*, opt(tag(\"b\")))|pair(tag(\"b\"), *)|alt((*, tag(\"b\")))|\
-        peek(*)|separated_list1(tag(\"b\"), *)|opt(*)|cut(*)|not(*)";
-    form_of(forms, text).unwrap_or((9, text))
+        peek(*)|separated_list1(tag(\"b\"), *)|opt(*)|cut(*)|not(*)|terminated(*, tag(\"b\"))";
+    form_of(forms, text).unwrap_or((10, text))
 }
 
 /// What the outer parser answers, made of any other.
@@ -109,6 +109,7 @@ where
         6 => outer(question, tags, number, opt(part)),
         7 => outer(question, tags, number, cut(part)),
         8 => outer(question, tags, number, not(part)),
+        9 => outer(question, tags, number, terminated(part, tag(tags.b))),
         _ => shaped(question, tags, number, shape, part),
     }
 }
@@ -136,12 +137,12 @@ where
     let (shape, part) = shape_of(inner);
     let parts = "is_a(\"a\") take(2usize) tag(\"a\") tag(\"ab\") bytes::streaming::tag(\"ab\")";
     match (place_of(parts, part)?, number, shape) {
-        (0 | 1, _, 6..=8) => None,
+        (0 | 1, _, 6..=9) => None,
         (0, _, _) => shaped(question, tags, number, shape, is_a(tags.a)),
         (1, _, _) => shaped(question, tags, number, shape, take(2usize)),
         (2, _, _) => shaped_more(question, tags, number, shape, tag(tags.a)),
         (3, _, _) => shaped_more(question, tags, number, shape, tag(tags.ab)),
-        (_, 4, 6 | 9) => completed(question, shape, streaming::tag(tags.ab)),
+        (_, 4, 6 | 10) => completed(question, shape, streaming::tag(tags.ab)),
         _ => None,
     }
 }

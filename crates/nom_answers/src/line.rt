@@ -1,6 +1,6 @@
 //! Lines of the files.
 
-use crate::{bits, calls, formats, methods, paths};
+use crate::{bits, calls, formats, methods, paths, ranges};
 use nom_answer_lines::answer::{Answer, read_answer};
 use nom_answer_lines::ask::{Module, Way};
 use nom_answer_lines::literal::{Literal, literal_of};
@@ -72,11 +72,18 @@ fn told(alloc: Global, call: &str, input: &str, answer: &str) -> Option<Verdict>
     Some(Verdict::of(found, &read_answer(alloc, answer, &[])?))
 }
 
+/// What a line on a range of counts comes to; it has no input and no mode.
+fn of_range(alloc: Global, call: &str, answer: &str) -> Option<Verdict> {
+    let found = ranges::answer(alloc, call.strip_prefix("NomRange ")?)?;
+    Some(Verdict::of(found, &read_answer(alloc, answer, &[])?))
+}
+
 /// What a line comes to; none where it can't be read, or memory runs out.
 pub fn compared(alloc: Global, line: &str) -> Option<Verdict> {
     let (call, asked) = line.split_once(" | ")?;
     let (input, replied) = asked.split_once(" | ")?;
     match replied.split_once(" | ") {
+        Some(("-", answer)) => of_range(alloc, call, answer),
         Some((way, answer)) => parsed(alloc, call, input, way, answer),
         None => told(alloc, call, input, replied),
     }

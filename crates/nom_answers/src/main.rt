@@ -43,10 +43,13 @@
 //!   characters, or two members of `member_of`.
 //! - A list is one of `lists::calls::call_of`, of an item that is a part of `part_of` or made of one as `item_of`
 //!   says; `lists::items` tells which lists are of which items. A fold counts the items: `zero` is 0, and `inc`
-//!   adds 1. What `fill` leaves in its buffer is told behind the answer.
+//!   adds 1. What `fill` leaves in its buffer is told behind the answer; `in Check` it builds no output.
+//! - A list of characters that a text or a queue gathers is one of `lists::gathered::gathering_of`. A fold does so
+//!   from the text `empty`, and `push` adds a character. `into String` and `into VecDeque` name the type of what
+//!   `many` answers.
 //! - What stands behind a length is one of `lengths::calls::kind_of`, of a length of `length_of` and, but for
-//!   data, a part of `part_of`, as `lengths::read` has them. `digit_value` is the number that a digit writes; `one`
-//!   is 1, and `three` 3.
+//!   data and records, a part of `part_of`, as `lengths::read` has them. `digit_value` is the number that a digit
+//!   writes; `one` is 1, and `three` 3.
 //! - A field of bits has any count and pattern, alone or within `bits`, and is at most as wide as its type; other
 //!   parsers of bits are the calls in `bits::composed`. The input may have a position among its bits, and the
 //!   answer has one then too.
@@ -71,6 +74,15 @@
 //! 3. The answer: a number, `none` where there is none, `true` or `false`, a character; `ok`, `incomplete` or
 //!    `error` of a comparison; of a split `run` and the length of the run, `refused` at the start of the text
 //!    with `Alpha`, or `incomplete` and how much more is needed.
+//!
+//! Of a range of counts there are four, of which two are empty: what its methods answer, of `contains` those of
+//! the counts from 0 to 5 and of an iterator the first eight counts.
+//!
+//! ```text
+//! NomRange bounds of 1..3usize | - | - | value=(Included(1), Excluded(3))
+//! NomRange contains 0..=5 of 3.. | - | - | value=[false, false, false, true, true, true]
+//! NomRange bounded_iter().take(8) of ..=3usize | - | - | value=[0, 1, 2]
+//! ```
 //!
 //! And of a grammar of `nom_formats` or `nom_protocol` there are three: its name, the input, and the answer as
 //! `{:?}` writes it:
@@ -110,6 +122,7 @@ mod lists;
 mod methods;
 mod numbers;
 mod paths;
+mod ranges;
 mod test;
 
 use crate::line::compared;

@@ -12,6 +12,10 @@ pub enum Kind {
     Count,
     /// Any number of lengths with their data.
     DataMany0,
+    /// The same, each behind an `R`.
+    RecordsMany0,
+    /// One of these at least.
+    RecordsMany1,
 }
 
 /// How a length is read.
@@ -27,6 +31,8 @@ pub enum Length {
     CutU8,
     U16,
     U64,
+    /// A tag `a`, which stands for 1.
+    Tag,
 }
 
 /// What is parsed behind a length.
@@ -44,7 +50,7 @@ pub enum Part {
     Many0Tag,
 }
 
-/// A call, with the text of its tag.
+/// A call, with the text of its tag, which stands in the part, in the length or before it.
 #[derive(Clone, Copy)]
 pub struct Call<T> {
     pub kind: Kind,
@@ -55,13 +61,16 @@ pub struct Call<T> {
 
 /// What stands behind a length, and the text of the length and its part.
 fn kind_of(call: &str) -> Option<(Kind, &str)> {
-    let forms = "length_data(*)|length_value(*)|length_count(*)|many0(length_data(*))";
+    let forms = "length_data(*)|length_value(*)|length_count(*)|many0(length_data(*))|\
+        many0(preceded(tag(\"R\"), length_data(*)))|many1(preceded(tag(\"R\"), length_data(*)))";
     let (number, inner) = form_of(forms, call)?;
     let kind = match number {
         0 => Kind::Data,
         1 => Kind::Value,
         2 => Kind::Count,
-        _ => Kind::DataMany0,
+        3 => Kind::DataMany0,
+        4 => Kind::RecordsMany0,
+        _ => Kind::RecordsMany1,
     };
     Some((kind, inner))
 }
@@ -69,7 +78,7 @@ fn kind_of(call: &str) -> Option<(Kind, &str)> {
 /// A length, and the text behind it.
 fn length_of(text: &str) -> Option<(Length, &str)> {
     let forms = "map(one_of(\"0123\"), digit_value)*|map(char('1'), one)*|map(char('1'), three)*|\
-        cut(map(char('1'), one))*|be_u8()*|cut(be_u8())*|be_u16()*|be_u64()*";
+        cut(map(char('1'), one))*|be_u8()*|cut(be_u8())*|be_u16()*|be_u64()*|tag(\"a\").map(one)*";
     let (number, behind) = form_of(forms, text)?;
     let length = match number {
         0 => Length::Digit,
@@ -79,7 +88,8 @@ fn length_of(text: &str) -> Option<(Length, &str)> {
         4 => Length::U8,
         5 => Length::CutU8,
         6 => Length::U16,
-        _ => Length::U64,
+        7 => Length::U64,
+        _ => Length::Tag,
     };
     Some((length, behind))
 }
@@ -113,8 +123,13 @@ fn part_of(text: &str) -> Option<(Part, &str)> {
 pub fn call_of(text: &str) -> Option<Call<&str>> {
     let (kind, inner) = kind_of(text)?;
     let (length, behind) = length_of(inner)?;
-    let (part, text) = match kind {
-        Kind::Data | Kind::DataMany0 if behind.is_empty() => (Part::Rest, ""),
+    let (part, text) = match (kind, length) {
+        (Kind::Data, Length::Tag) if behind.is_empty() => (Part::Rest, "a"),
+        (Kind::Data | Kind::DataMany0, _) if behind.is_empty() => (Part::Rest, ""),
+        (Kind::RecordsMany0 | Kind::RecordsMany1, Length::U8) if behind.is_empty() => {
+            (Part::Rest, "R")
+        }
+        (Kind::RecordsMany0 | Kind::RecordsMany1, _) => return None,
         _ => part_of(behind.strip_prefix(", ")?)?,
     };
     Some(Call {

@@ -2,12 +2,16 @@
 
 use crate::lengths::behind::{behind, data, parsed};
 use crate::lengths::calls::{Call, Kind, Length, Part};
+use crate::lists::calls::Shape;
+use crate::lists::plain::list;
 use nom::bytes::tag;
 use nom::character::{char, one_of};
 use nom::combinator::{cut, map};
 use nom::error::Error;
+use nom::multi::length_data;
 use nom::number::{be_u8, be_u16, be_u64};
-use nom::{AsBytes, AsChar, Compare, Input, Viewed};
+use nom::sequence::preceded;
+use nom::{AsBytes, AsChar, Compare, Input, Parser, Viewed};
 use nom_answer_lines::answer::Answer;
 use nom_answer_lines::ask::Question;
 use std::fmt::Debug;
@@ -41,6 +45,16 @@ where
     }
 }
 
+/// What records answer, any number or one at least: each a tag, a byte of length and its data.
+fn records<I, T>(question: Question<I>, call: Call<T>, shape: &Shape) -> Option<Answer>
+where
+    I: Input<Item = u8> + AsBytes + Debug + Compare<T>,
+    T: Copy,
+{
+    let record = preceded(tag(call.text), length_data(be_u8::<I, Error<I>>()));
+    list(question, shape, record)
+}
+
 /// What a call answers of bytes alone; none where its length isn't one of bytes. Behind `be_u16` and within `cut`
 /// there is data alone.
 pub fn asked_of_bytes<I, T>(question: Question<I>, call: Call<T>) -> Option<Answer>
@@ -49,6 +63,8 @@ where
     T: Copy,
 {
     match (call.length, call.kind, call.part) {
+        (Length::U8, Kind::RecordsMany0, _) => records(question, call, &Shape::Many0),
+        (Length::U8, Kind::RecordsMany1, _) => records(question, call, &Shape::Many1),
         (Length::U8, _, Part::U8) => {
             parsed(question, call.kind, be_u8(), be_u8::<I, Error<I>>())
         }
@@ -56,6 +72,9 @@ where
         (Length::U64, _, _) => behind(question, call, be_u64::<I, Error<I>>()),
         (Length::CutU8, Kind::Data, _) => data(question, cut(be_u8::<I, Error<I>>())),
         (Length::U16, Kind::Data, _) => data(question, be_u16::<I, Error<I>>()),
+        (Length::Tag, Kind::Data, _) => {
+            data(question, Parser::<I>::map(tag(call.text), |_tag: I| 1usize))
+        }
         _ => None,
     }
 }

@@ -34,6 +34,8 @@ pub enum Shape {
     ManyTill,
     /// A buffer of so many places, filled.
     Fill(usize),
+    /// The same where no output is built.
+    FillInCheck(usize),
 }
 
 /// What a separator or an end is made of.
@@ -73,6 +75,7 @@ pub enum Part {
     OneOf,
     Rest,
     Eof,
+    Fail,
 }
 
 /// A call: the list, the parser beside its item, the item and its part, and the texts that they name.
@@ -87,7 +90,8 @@ pub struct Call<T> {
     pub nothing: T,
 }
 
-fn counts_of(text: &str) -> Option<Counts> {
+/// A range by its text.
+pub fn counts_of(text: &str) -> Option<Counts> {
     if let Some((first, last)) = text.split_once("..=") {
         let last = number_of(last)?;
         return Some(if first.is_empty() {
@@ -144,6 +148,10 @@ fn filled_of(number: usize, inner: &str) -> Option<(Shape, &str)> {
             let (item, count) = inner.rsplit_once(", [\"x\"; ")?;
             Some((Shape::Fill(number_of(count)?), item))
         }
+        3 => {
+            let (item, count) = inner.rsplit_once(", [\"x\"; ")?;
+            Some((Shape::FillInCheck(number_of(count)?), item))
+        }
         _ => {
             let (item, count) = inner.rsplit_once(", ")?;
             Some((Shape::Count(number_of(count)?), item))
@@ -162,7 +170,7 @@ fn bounded_of(call: &str) -> Option<(Shape, &str)> {
             _ => Some((Shape::Many(counts), item)),
         };
     }
-    let filled = "fold_many_m_n(*, zero, inc)|many_m_n(*)|fill(*])|count(*)";
+    let filled = "fold_many_m_n(*, zero, inc)|many_m_n(*)|fill(*])|fill(*]) in Check|count(*)";
     let (number, inner) = form_of(filled, call)?;
     filled_of(number, inner)
 }
@@ -220,7 +228,7 @@ fn item_of(text: &str) -> (Item, &str) {
 /// A part, and the text that it names; none where it isn't known.
 fn part_of(text: &str) -> Option<(Part, &str)> {
     let forms = "tag(\"*\")|bytes::complete::tag(\"*\")|bytes::streaming::tag(\"*\")|is_a(\"*\")|\
-        one_of(\"*\")|take(1usize*)|rest*|eof*";
+        one_of(\"*\")|take(1usize*)|rest*|eof*|fail::<_, (), _>()*";
     let (number, named) = form_of(forms, text)?;
     let part = match number {
         0 => Part::Tag,
@@ -230,7 +238,8 @@ fn part_of(text: &str) -> Option<(Part, &str)> {
         4 => Part::OneOf,
         5 => Part::Take,
         6 => Part::Rest,
-        _ => Part::Eof,
+        7 => Part::Eof,
+        _ => Part::Fail,
     };
     Some((part, named))
 }

@@ -1,19 +1,24 @@
 //! The lists of calls.
 
+use crate::answered::answered;
 use crate::lists::apart::{between, separated, until};
 use crate::lists::calls::{Call, Item, Part, Shape};
 use crate::lists::plain::{list, plain};
-use crate::lists::ranges::{fold_over, list_over};
+use crate::lists::ranges::{asked_over, fold_over};
 use nom::branch::alt;
 use nom::bytes::{complete, is_a, streaming, tag, take};
 use nom::character::one_of;
-use nom::combinator::{complete as in_complete, cut, not, opt};
+use nom::combinator::{complete as in_complete, cut, fail, not, opt};
 use nom::error::Error;
 use nom::multi::{fill, many0, many1};
-use nom::{AsBytes, AsChar, Compare, FindToken, Input, Parser, Viewed};
+use nom::{
+    AsBytes, AsChar, Check, Compare, Complete, Emit, Err, FindToken, IResult, Input, OutputM,
+    PResult, Parser, Streaming, Viewed,
+};
 use nom_answer_lines::answer::Answer;
-use nom_answer_lines::ask::Question;
+use nom_answer_lines::ask::{Question, Way};
 use nom_ends::left::{Eof, Rest};
+use std::alloc::Global;
 use std::fmt::Debug;
 
 /// What a list of an item answers, with a separator, an end, or neither.
@@ -110,8 +115,18 @@ where
         (Part::IsA, Item::Itself) => list(question, shape, is_a(text)),
         (Part::Rest, Item::Itself) => list(question, shape, Rest::new()),
         (Part::Eof, Item::Itself) => list(question, shape, Eof::new()),
+        (Part::Fail, Item::Itself) => list(question, shape, fail::<I, (), Error<I>>()),
         _ => None,
     }
+}
+
+/// An answer, with what a buffer holds then.
+fn with_buffer(alloc: Global, answer: Answer, held: &[&str]) -> Option<Answer> {
+    let said = answer.said;
+    Some(Answer {
+        said: format!(in alloc; "{said} buffer={held:?}").ok()?,
+        left: answer.left,
+    })
 }
 
 /// What `fill` answers of a text and a buffer of up to three places, and what the buffer holds then.
@@ -123,12 +138,31 @@ where
     let mut buffer = ["x", "x", "x"];
     let places = places.min(3);
     let answer = question.ask(fill(item, &mut buffer[..places]))?;
-    let said = answer.said;
-    let held = &buffer[..places];
-    Some(Answer {
-        said: format!(in question.alloc; "{said} buffer={held:?}").ok()?,
-        left: answer.left,
-    })
+    with_buffer(question.alloc, answer, &buffer[..places])
+}
+
+/// An answer in which no output was built, as of an output of nothing; none where one was built.
+fn unbuilt<I: Drop>(found: PResult<I, (), Error<I>>) -> Option<IResult<I, ()>> {
+    match found {
+        Ok((rest, None)) => Some(Ok((rest, ()))),
+        Err(Err::Error(Some(error))) => Some(Err(Err::Error(error))),
+        Err(Err::Failure(error)) => Some(Err(Err::Failure(error))),
+        Err(Err::Incomplete(needed)) => Some(Err(Err::Incomplete(needed))),
+        _ => None,
+    }
+}
+
+/// What `fill` answers of a text where no output is built, and what the buffer holds then.
+fn filled_in_check<'a>(question: Question<&'a str>, places: usize, text: &str) -> Option<Answer> {
+    let mut buffer = ["x", "x", "x"];
+    let places = places.min(3);
+    let mut parser = fill(tag(text), &mut buffer[..places]);
+    let found: PResult<&'a str, (), Error<&'a str>> = match question.way {
+        Way::Streaming => parser.process::<OutputM<Check, Emit, Streaming>>(question.input),
+        Way::Complete => parser.process::<OutputM<Check, Emit, Complete>>(question.input),
+    };
+    let answer = answered(question.alloc, unbuilt(found)?)?;
+    with_buffer(question.alloc, answer, &buffer[..places])
 }
 
 /// What a call answers that fills a buffer of so many places.
@@ -141,13 +175,13 @@ fn filled_by(question: Question<&str>, call: &Call<&str>, places: usize) -> Opti
     }
 }
 
-/// What a call answers of a text that a slice of bytes isn't asked; none where it is no such call.
+/// What a call answers that is asked of a text for itself; none where it is asked of any input.
 pub fn asked_of_text(question: Question<&str>, call: &Call<&str>) -> Option<Answer> {
     match (&call.shape, &call.item, &call.part) {
-        (Shape::Many(counts), Item::Itself, Part::Tag) => {
-            list_over(question, counts, call.part_text)
-        }
         (Shape::Fill(places), _, _) => filled_by(question, call, *places),
-        _ => None,
+        (Shape::FillInCheck(places), Item::Itself, Part::Tag) => {
+            filled_in_check(question, *places, call.part_text)
+        }
+        _ => asked_over(question, call),
     }
 }

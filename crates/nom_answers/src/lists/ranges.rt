@@ -1,7 +1,8 @@
 //! Lists and folds over a range of counts.
 
-use crate::lists::calls::Counts;
+use crate::lists::calls::{Call, Counts, Item, Part, Shape};
 use nom::bytes::tag;
+use nom::combinator::cut;
 use nom::error::Error;
 use nom::multi::{fold, many};
 use nom::{AsBytes, Compare, Input, NomRange, Parser, Viewed};
@@ -47,7 +48,7 @@ where
 
 /// What a list of tags answers over a range: one call each, since the size of the range and of the item in the
 /// list's type has to be known.
-pub fn list_over<'a, I>(question: Question<I>, counts: &Counts, text: &'a str) -> Option<Answer>
+fn list_over<'a, I>(question: Question<I>, counts: &Counts, text: &'a str) -> Option<Answer>
 where
     I: Input + AsBytes + Debug + Compare<&'a str>,
 {
@@ -65,5 +66,43 @@ where
         Counts::Before(end) => question.ask(many::<_, _, _, Vec<I>>(alloc, ..*end, item)),
         Counts::UpTo(last) => question.ask(many::<_, _, _, Vec<I>>(alloc, ..=*last, item)),
         Counts::Exactly(count) => question.ask(many::<_, _, _, Vec<I>>(alloc, *count, item)),
+    }
+}
+
+/// The same of a list of tags with a final refusal.
+fn list_of_cut_over<'a, I>(question: Question<I>, counts: &Counts, text: &'a str) -> Option<Answer>
+where
+    I: Input + AsBytes + Debug + Compare<&'a str>,
+{
+    let alloc = question.alloc;
+    let item = cut(tag(text));
+    match counts {
+        Counts::Between(first, end) => {
+            question.ask(many::<_, _, _, Vec<I>>(alloc, *first..*end, item))
+        }
+        Counts::Through(first, last) => {
+            question.ask(many::<_, _, _, Vec<I>>(alloc, *first..=*last, item))
+        }
+        Counts::From(first) => question.ask(many::<_, _, _, Vec<I>>(alloc, *first.., item)),
+        Counts::All => question.ask(many::<_, _, _, Vec<I>>(alloc, .., item)),
+        Counts::Before(end) => question.ask(many::<_, _, _, Vec<I>>(alloc, ..*end, item)),
+        Counts::UpTo(last) => question.ask(many::<_, _, _, Vec<I>>(alloc, ..=*last, item)),
+        Counts::Exactly(count) => question.ask(many::<_, _, _, Vec<I>>(alloc, *count, item)),
+    }
+}
+
+/// What a call answers that lists tags over a range; none where it is no such call.
+pub fn asked_over<'a, I>(question: Question<I>, call: &Call<&'a str>) -> Option<Answer>
+where
+    I: Input + AsBytes + Debug + Compare<&'a str>,
+{
+    match (&call.shape, &call.item, &call.part) {
+        (Shape::Many(counts), Item::Itself, Part::Tag) => {
+            list_over(question, counts, call.part_text)
+        }
+        (Shape::Many(counts), Item::Cut, Part::Tag) => {
+            list_of_cut_over(question, counts, call.part_text)
+        }
+        _ => None,
     }
 }
