@@ -1,4 +1,4 @@
-//! The grammars of `nom_formats` and `nom_protocol`, by their names.
+//! The grammars of `nom_formats`, `nom_json` and `nom_protocol`, by their names.
 ghost use Rattle.nom_traits.specs.Bytes.{seen_bytes};
 ghost use Rattle.nom_growing.specs.Growing.{AreCuts};
 
@@ -7,6 +7,7 @@ use nom::{Err, IResult};
 use nom_answer_lines::answer::Answer;
 use nom_answer_lines::literal::{Literal, literal_of};
 use nom_formats::{expression, named_value, sections};
+use nom_json::json;
 use nom_protocol::{Message, messages};
 use std::alloc::Global;
 use std::fmt::Debug;
@@ -22,6 +23,7 @@ fn found_in_text(alloc: Global, grammar: &str, input: &str) -> Option<String> {
         "named_value" => told(alloc, &named_value::<Error<&str>>(input)),
         "expression" => told(alloc, &expression(input)),
         "sections" => told(alloc, &sections(alloc, input)),
+        "json" => told(alloc, &json(alloc, 3, input)),
         _ => None,
     }
 }

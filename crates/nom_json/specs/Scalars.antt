@@ -1,0 +1,95 @@
+-- What has no value in it, by the grammar of JSON: words, numbers, texts, and the white space between them.
+use Rattle.std.specs.Prelude.{◌≡◌, ℕ, ◌↔◌, ◌⊎◌, Bool, true, false, not, ltb, ◌==◌, ◌&&◌, IsTrue, None, List, Contains, chars, codes}
+use Rattle.std.specs.Char.{IsScalar}
+use Rattle.nom_error.specs.declared.kind.ErrorKind.{ErrorKind}
+use Rattle.nom_error.specs.declared.kind.ErrorKind.TheVariants as Kind
+use Rattle.nom_traits.specs.declared.character.AsciiClass.TheVariants.{MultiSpace}
+use Rattle.nom_traits.specs.Slices.{Slice}
+use Rattle.nom_traits.specs.Text.{seen_text}
+use Rattle.nom_internal.specs.Recognized.{recognized_meaning}
+use Rattle.nom_bytes.specs.ParsedRuns.{run1_meaning}
+use Rattle.nom_bytes.specs.Predicates.{IsFixed}
+use Rattle.nom_character.specs.ClassRuns.{class_meaning}
+use Rattle.nom_character.specs.Heads.{satisfy_meaning}
+use Rattle.nom_combinator.specs.Verdicts.{cut_meaning, peek_meaning}
+use Rattle.nom_ends.specs.Ends.{fail_meaning}
+use Rattle.nom_escaped.specs.Escapes.{escaped_meaning}
+use Rattle.nom.specs.Grammar.{sliced, valued}
+use Rattle.nom.specs.Texts.{Text, TextGrammar, alt_of, char_of, delimited_of, digit1_of, kept, map_of, opt_of, or_of, pair_of, preceded_of, tag_of, terminated_of}
+use Rattle.nom_json.specs.declared.tree.Json.{Json}
+use Rattle.nom_json.specs.declared.tree.Json.TheVariants as Value
+
+-- a part of a text
+abbrev pub Part : Type 0
+Part = Slice seen_text
+
+abbrev pub spaces_of : TextGrammar Part Text
+spaces_of = sliced seen_text (class_meaning seen_text (λ x. x) kept MultiSpace None)
+
+-- a character, and white space behind it
+abbrev pub token_of : ℕ → TextGrammar ℕ ℕ
+token_of c = terminated_of (char_of c) spaces_of
+
+-- one of some characters; a refusal is of a kind
+abbrev one_by : List ℕ → ErrorKind → TextGrammar ℕ ℕ
+one_by set kind = valued (satisfy_meaning seen_text (λ x. x) (λ x b. IsTrue b ↔ Contains (chars set) x) (Unit {0}) kept kind)
+
+-- what a grammar consumes
+abbrev recognize_of : {V O : Type 0} → TextGrammar V O → TextGrammar Part Text
+recognize_of g = sliced seen_text (recognized_meaning seen_text g.meaning)
+
+abbrev pub WordTree : Type 0
+WordTree = (Part ⊎ Part) ⊎ Part
+
+abbrev pub word_by : (nothing truth untruth : List ℕ) → TextGrammar WordTree Json
+word_by nothing truth untruth = terminated_of (alt_of (or_of (or_of (map_of (λ _. Value.Null) (tag_of nothing)) (map_of (λ _. Value.Bool true) (tag_of truth))) (map_of (λ _. Value.Bool false) (tag_of untruth)))) spaces_of
+
+abbrev pub word_of : TextGrammar WordTree Json
+word_of = word_by (codes "null") (codes "true") (codes "false")
+
+-- A sign, a whole part without leading zeros, a fraction and an exponent: by their characters, and the kinds of their refusals.
+abbrev pub number_by : (minus : ℕ) (zero : List ℕ) (dot : ℕ) (marks signs : List ℕ) (mark_kind sign_kind : ErrorKind) → TextGrammar Part Json
+number_by minus zero dot marks signs mark_kind sign_kind =
+    terminated_of (map_of Value.Number (recognize_of (pair_of
+    (pair_of (opt_of (char_of minus)) (alt_of (or_of (tag_of zero) digit1_of)))
+    (pair_of (opt_of (pair_of (char_of dot) digit1_of)) (opt_of (pair_of (pair_of (one_by marks mark_kind) (opt_of (one_by signs sign_kind))) digit1_of)))))) spaces_of
+
+abbrev pub number_of : TextGrammar Part Json
+number_of = number_by 45 (codes "0") 46 (codes "eE") (codes "+-") Kind.OneOf Kind.OneOf
+
+-- a character that stands for itself: no quote, no backslash, and none below a space
+abbrev pub in_text : ℕ → Bool
+in_text c = (not (ltb c 32)) && ((not (c == 34)) && (not (c == 92)))
+
+-- such characters, one at least; a refusal is of a kind
+abbrev plain_by : ErrorKind → TextGrammar Part Text
+plain_by kind = sliced seen_text (run1_meaning seen_text (λ c b. b ≡ in_text c) (((c : ℕ) → Unit {0}) × IsFixed IsScalar (λ c b. b ≡ in_text c)) kept kind)
+
+-- characters, and escapes behind a control character
+abbrev escaped_by : (control : ℕ) → TextGrammar Part Text → TextGrammar ℕ ℕ → TextGrammar Part Text
+escaped_by control plain escape = sliced seen_text (escaped_meaning seen_text kept (λ x. x ≡ control) plain.meaning escape.meaning)
+
+-- What stands between quotes. What follows the `u` of an escape isn't looked at.
+abbrev pub characters_by : (control : ℕ) (escapes : List ℕ) (plain_kind escape_kind : ErrorKind) → TextGrammar Part Text
+characters_by control escapes plain_kind escape_kind = recognize_of (opt_of (escaped_by control (plain_by plain_kind) (one_by escapes escape_kind)))
+
+abbrev pub characters_of : TextGrammar Part Text
+characters_of = characters_by 92 (codes "\"\\/bfnrtu") Kind.TakeWhile1 Kind.OneOf
+
+-- a text between quotes, and white space behind it
+abbrev pub text_of : TextGrammar Part Text
+text_of = delimited_of (char_of 34) characters_of (token_of 34)
+
+-- what fails by itself, as a grammar
+abbrev fail_of : TextGrammar Json Json
+fail_of = valued (fail_meaning kept)
+
+-- a failure where a bracket opens; all else is refused
+abbrev pub deep_by : List ℕ → ErrorKind → TextGrammar Json Json
+deep_by brackets kind = record {
+  meaning = (preceded_of (record { meaning = peek_meaning (one_by brackets kind).meaning; IsOutput = (one_by brackets kind).IsOutput }) (record { meaning = cut_meaning fail_of.meaning; IsOutput = fail_of.IsOutput })).meaning;
+  IsOutput = fail_of.IsOutput;
+}
+
+abbrev pub deep_of : TextGrammar Json Json
+deep_of = deep_by (codes "[{") Kind.OneOf
