@@ -7,11 +7,12 @@ use Rattle.nom_traits.specs.declared.character.AsciiClass.TheVariants.{MultiSpac
 use Rattle.nom_traits.specs.Slices.{Slice}
 use Rattle.nom_traits.specs.Text.{seen_text}
 use Rattle.nom_internal.specs.Recognized.{recognized_meaning}
+use Rattle.nom_internal.specs.Tuples.{tuple_3, tuple_4}
 use Rattle.nom_bytes.specs.ParsedRuns.{run1_meaning}
 use Rattle.nom_bytes.specs.Predicates.{IsFixed}
 use Rattle.nom_character.specs.ClassRuns.{class_meaning}
 use Rattle.nom_character.specs.Heads.{satisfy_meaning}
-use Rattle.nom_combinator.specs.Verdicts.{cut_meaning, peek_meaning}
+use Rattle.nom_combinator.specs.Verdicts.{cut_meaning, opt_meaning, peek_meaning}
 use Rattle.nom_ends.specs.Ends.{fail_meaning}
 use Rattle.nom_escaped.specs.Escapes.{escaped_meaning}
 use Rattle.nom.specs.Grammar.{sliced, valued}
@@ -49,10 +50,11 @@ word_of = word_by (codes "null") (codes "true") (codes "false")
 
 -- A sign, a whole part without leading zeros, a fraction and an exponent: by their characters, and the kinds of their refusals.
 abbrev pub number_by : (minus : ℕ) (zero : List ℕ) (dot : ℕ) (marks signs : List ℕ) (mark_kind sign_kind : ErrorKind) → TextGrammar Part Json
-number_by minus zero dot marks signs mark_kind sign_kind =
-    terminated_of (map_of Value.Number (recognize_of (pair_of
-    (pair_of (opt_of (char_of minus)) (alt_of (or_of (tag_of zero) digit1_of)))
-    (pair_of (opt_of (pair_of (char_of dot) digit1_of)) (opt_of (pair_of (pair_of (one_by marks mark_kind) (opt_of (one_by signs sign_kind))) digit1_of)))))) spaces_of
+number_by minus zero dot marks signs mark_kind sign_kind = terminated_of (map_of Value.Number (sliced seen_text (recognized_meaning seen_text (tuple_4 seen_text
+    (opt_of (char_of minus)).meaning
+    (alt_of (or_of (tag_of zero) digit1_of)).meaning
+    (opt_of (pair_of (char_of dot) digit1_of)).meaning
+    (opt_meaning (tuple_3 seen_text (one_by marks mark_kind).meaning (opt_of (one_by signs sign_kind)).meaning digit1_of.meaning)))))) spaces_of
 
 abbrev pub number_of : TextGrammar Part Json
 number_of = number_by 45 (codes "0") 46 (codes "eE") (codes "+-") Kind.OneOf Kind.OneOf

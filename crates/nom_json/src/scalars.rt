@@ -46,8 +46,8 @@ pub fn number<'a>(input: &'a str) -> Answer<'a, Json<'a>>
     let minus = opt(char::<&'a str, Error<&'a str>>('-'));
     let whole = alt((tag("0"), digit1()));
     let fraction = opt(pair(char('.'), digit1()));
-    let exponent = opt(pair(pair(one_of("eE"), opt(one_of("+-"))), digit1()));
-    let digits = recognize(pair(pair(minus, whole), pair(fraction, exponent)));
+    let exponent = opt((one_of("eE"), opt(one_of("+-")), digit1()));
+    let digits = recognize((minus, whole, fraction, exponent));
     terminated(map(digits, as_number), multispace0()).parse_complete(input)
 }
 

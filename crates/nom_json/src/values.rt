@@ -191,7 +191,7 @@ fn member<'a>(alloc: Global, depth: usize, input: &'a str) -> Answer<'a, (&'a st
 ///
 /// A plain character is any but the quote, the backslash and those below a space. The four digits behind `\u` aren't
 /// looked at. What follows the value is left. A text that isn't one is refused; where more than `depth` brackets lie in
-/// each other, that is a failure with `Fail` at the bracket.
+/// each other, that is a failure with `Fail` at the bracket: so `depth` bounds the stack that a hostile text can take.
 pub fn json<'a>(alloc: Global, depth: usize, input: &'a str) -> Answer<'a, Json<'a>>
     ensures { Parses (json_of depth) false input.entry result }
 {
