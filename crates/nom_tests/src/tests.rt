@@ -1,11 +1,8 @@
 //! What a data file of answers can't hold: what is built, errors, parsers of closures and of a user's own
 //! types, and inputs that grow.
 
-mod bits;
 mod choice;
-mod combinator;
 mod errors;
 mod leaves;
 mod parse_to;
-mod rows;
 mod texts;

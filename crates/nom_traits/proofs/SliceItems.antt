@@ -1,11 +1,14 @@
 -- The items of a slice, one by one.
-use Rattle.std.proofs.Common.{◌≡◌, List, Iter, ◌∙◌, ap, subst}
-use Rattle.std.specs.Iterator.{AlwaysYields}
-use Rattle.std.proofs.lemmas.Fn.{fronts, slice_gives}
-use Rattle.std.proofs.lemmas.Iterator.{YieldsList}
+use Rattle.std.proofs.Common.{◌≡◌, List, [], ◌∷◌, length, ap, arith}
+use Rattle.std.specs.Iterator.{AlwaysYields, YieldsFirst}
 
--- a slice's iterator gives what is left of it
-pub items_given : {A : Type 0} (s t : Iter A) (xs : List A) → s ≡ t → t.rest.now ≡ xs → YieldsList fronts (λ y. y.now) s xs
-items_given s t xs e f =
-    let left : s.rest.now ≡ xs = ap (λ u. u.rest.now) e ∙ f in
-    record { runs = subst (λ ys. AlwaysYields fronts (λ y. y.now) s ys) left (slice_gives s) }
+-- an iterator whose state shows what is left gives just that
+pub shown_given : {S A : Type 0} (rest : S → List A) (s : S) (xs : List A) → rest s ≡ xs → AlwaysYields (YieldsFirst rest) (λ x. x) s xs
+shown_given rest s [] e = λ x t p. omega (arith, ap length e, ap length p)
+shown_given rest s (y ∷ ys) e = (
+  λ t p. omega (arith, ap length e, ap length p.0),
+  λ x t p.
+      let heads : x ≡ y = cc in
+      let tails : rest t ≡ ys = cc in
+      (heads, shown_given rest t ys tails),
+)

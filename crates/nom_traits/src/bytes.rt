@@ -3,11 +3,10 @@ ghost use Rattle.std.specs.Prelude.{◌≡◌, ◌-◌, length, Some, refl};
 ghost use Rattle.nom_traits.specs.Bytes.{seen_bytes, bytes_lawful};
 
 use crate::character::AsciiClass;
+use crate::elements::{ByteIndices, Bytes};
 use crate::input::{Input, Items};
 use crate::lanes::bytes_outside;
 use nom_error::answer::Needed;
-use std::iter::{Copied, Enumerate};
-use std::slice::Iter;
 
 impl Items for &[u8] {
     type Item = u8;
@@ -27,9 +26,9 @@ impl Items for &[u8] {
 impl<'a> Input for &'a [u8] {
     ghost lack = { λ count xs. Some (count - length xs) };
 
-    type Iter = Copied<Iter<'a, u8>>;
+    type Iter = Bytes<'a>;
 
-    type IterIndices = Enumerate<Copied<Iter<'a, u8>>>;
+    type IterIndices = ByteIndices<'a>;
 
     #[inline(always)]
     fn input_len(&self) -> usize {
@@ -65,13 +64,13 @@ impl<'a> Input for &'a [u8] {
     }
 
     #[inline(always)]
-    fn iter_elements(&self) -> Copied<Iter<'a, u8>> {
-        self.iter().copied()
+    fn iter_elements(&self) -> Bytes<'a> {
+        Bytes::new(self)
     }
 
     #[inline(always)]
-    fn iter_indices(&self) -> Enumerate<Copied<Iter<'a, u8>>> {
-        self.iter_elements().enumerate()
+    fn iter_indices(&self) -> ByteIndices<'a> {
+        ByteIndices::new(self)
     }
 
     #[inline(always)]

@@ -74,10 +74,10 @@ pub trait Input: Items + Viewed {
     ghost lack: { ℕ → List Self.Item → Option ℕ };
 
     /// Gives the items one by one.
-    type Iter: Iterator<Item = Self::Item> + Drop;
+    type Iter: Iterator<Item = Self::Item>;
 
     /// Gives the items one by one, each with its place.
-    type IterIndices: Iterator<Item = (usize, Self::Item)> + Drop;
+    type IterIndices: Iterator<Item = (usize, Self::Item)>;
 
     /// The length: the sum of the items' lengths.
     fn input_len(&self) -> usize

@@ -7,6 +7,7 @@ pub mod bytes;
 pub mod character;
 pub mod compare;
 pub mod convert;
+pub mod elements;
 pub mod input;
 mod lanes;
 pub mod offset;

@@ -12,8 +12,6 @@ use nom::{
     Compare, CompareResult, Complete, Emit, Err, Input, Items, Needed, OutOfMemory, OutputM,
     OutputMode, PResult, Parser, Streaming, Viewed,
 };
-use std::iter::{Copied, Enumerate};
-use std::slice::Iter;
 
 /// The bytes of a packet.
 #[derive(Clone, Copy, PartialEq, Eq)]
@@ -42,9 +40,9 @@ impl Items for Packet<'_> {
 impl<'a> Input for Packet<'a> {
     ghost lack = { λ count xs. Some (count - length xs) };
 
-    type Iter = Copied<Iter<'a, u8>>;
+    type Iter = <&'a [u8] as Input>::Iter;
 
-    type IterIndices = Enumerate<Copied<Iter<'a, u8>>>;
+    type IterIndices = <&'a [u8] as Input>::IterIndices;
 
     fn input_len(&self) -> usize {
         self.bytes.input_len()
@@ -70,11 +68,11 @@ impl<'a> Input for Packet<'a> {
         1
     }
 
-    fn iter_elements(&self) -> Copied<Iter<'a, u8>> {
+    fn iter_elements(&self) -> <&'a [u8] as Input>::Iter {
         self.bytes.iter_elements()
     }
 
-    fn iter_indices(&self) -> Enumerate<Copied<Iter<'a, u8>>> {
+    fn iter_indices(&self) -> <&'a [u8] as Input>::IterIndices {
         self.bytes.iter_indices()
     }
 

@@ -1,11 +1,11 @@
 //! Parsers of runs, of sets and of ends over bytes and texts: what is built of them, closures, and sets that
 //! no line of a data file writes.
 
-use crate::tests::rows::{Answer, bytes, wrong_row};
 use nom::bytes::{is_a, is_not, take_till, take_while};
 use nom::error::{Error, ErrorKind};
 use nom_ends::left::Eof;
 use nom_ends::{eof, fail, rest, rest_len, success};
+use nom_rows::rows::{Answer, bytes, wrong_row};
 
 type At<'a> = Error<&'a [u8]>;
 

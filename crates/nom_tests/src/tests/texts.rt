@@ -1,7 +1,6 @@
 //! Texts with escapes, and lists and lengths of texts.
 ghost use Rattle.std.specs.Prelude.{◌≡◌};
 
-use crate::tests::rows::{Answer, wrong_row};
 use nom::branch::alt;
 use nom::bytes::{complete, escaped, escaped_transform, tag, take_while1};
 use nom::error::Error;
@@ -10,6 +9,7 @@ use nom::{
     AsChar, Check, Complete, Emit, Err, IResult, Items, Mode, Needed, OutputM, OutputMode, PResult,
     Parser, Streaming,
 };
+use nom_rows::rows::{Answer, wrong_row};
 
 type Fail<'a> = Error<&'a str>;
 

@@ -1,12 +1,12 @@
 //! Choices among the parsers of a tuple, of an array and of a slice.
 
 use crate::tests::choice::steps::{Answer, Row, are_steps, wrong_row};
-use crate::tests::rows::{bytes, grown, is_grown, pinned};
 use nom::branch::alt;
 use nom::bytes::{Tag, tag};
 use nom::combinator::cut;
 use nom::error::ErrorKind;
 use nom::{Err, Parser};
+use nom_rows::rows::{bytes, grown, is_grown};
 use nom_trail::trail::Trail;
 
 const ALT: Option<ErrorKind> = Some(ErrorKind::Alt);
@@ -197,20 +197,20 @@ fn an_array_with_a_failure(rt: HostRuntime) {
 // The first cut at which no branch waits decides.
 #[test]
 fn a_tuple_that_grows(rt: HostRuntime) {
-    let three = pinned(alt((word("abc"), word("abd"), word("b"))));
+    let three = alt((word("abc"), word("abd"), word("b")));
     assert!(rt; is_grown(three, bytes("abde"), [1, 2, 3, 4], 2, (1, bytes("abd"))));
 }
 
 #[test]
 fn an_array_that_grows(rt: HostRuntime) {
-    let two = pinned(alt([word("abc"), word("ab")]));
+    let two = alt([word("abc"), word("ab")]);
     assert!(rt; is_grown(two, bytes("abd"), [2, 3, 3, 3], 1, (1, bytes("ab"))));
 }
 
 #[test]
 fn a_slice_that_grows(rt: HostRuntime) {
     let mut tags = [word("abc"), word("ab")];
-    match grown(pinned(alt(&mut tags[..])), bytes("acd"), [1, 2, 3, 3]) {
+    match grown(alt(&mut tags[..]), bytes("acd"), [1, 2, 3, 3]) {
         Some(grown) => {
             assert!(rt; grown.index == 1);
             match grown.result {

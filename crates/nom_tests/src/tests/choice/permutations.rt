@@ -1,12 +1,12 @@
-//! Permutations of tags and of characters: the answers of those of two to four members stand among those of
-//! `nom_choice_answers`.
+//! Permutations of tags and of characters: the answers of those of two to four members stand among
+//! those that `nom_answers` replays.
 
 use crate::tests::choice::steps::{are_steps, refusal_of};
-use crate::tests::rows::{Answer, bytes, is_grown, wrong_row};
 use nom::branch::permutation;
 use nom::bytes::{Tag, tag, take};
 use nom::character::char;
 use nom::error::{Error, ErrorKind};
+use nom_rows::rows::{Answer, bytes, is_grown, wrong_row};
 use nom_trail::trail::Trail;
 
 type At<'a> = Error<&'a [u8]>;

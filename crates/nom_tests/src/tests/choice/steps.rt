@@ -1,11 +1,11 @@
 //! What the rows of a test say of a choice among tags, whose errors list their steps.
 ghost use Rattle.std.specs.Prelude.{◌≡◌};
 
-use crate::tests::rows::is_rest;
 use nom::error::ErrorKind;
 use nom::{
     Check, Complete, Emit, Err, Mode, Needed, OutputM, OutputMode, PResult, Parser, Streaming,
 };
+use nom_rows::rows::is_rest;
 use nom_trail::trail::Trail;
 
 /// What is answered.

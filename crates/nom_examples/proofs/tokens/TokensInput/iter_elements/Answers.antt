@@ -1,5 +1,5 @@
 use Rattle.std.proofs.lemmas.Iterator.Consumers.{YieldsList-from_copied}
-use Rattle.nom_traits.proofs.SliceItems.{items_given}
+use Rattle.nom_examples.proofs.TokenItems.{items_given}
 use Rattle.nom_examples.proofs.tokens.TokensInput.iter_elements.Goals as goal
 
 pub returns-clause-gives : goal.returns-clause-gives

@@ -1,6 +1,6 @@
-use Rattle.std.proofs.lemmas.Iterator.Consumers.{YieldsList-from_copied}
-use Rattle.nom_traits.proofs.SliceItems.{items_given}
+use Rattle.std.proofs.Common.{ap}
+use Rattle.nom_traits.proofs.SliceItems.{shown_given}
 use Rattle.nom_traits.proofs.bytes.RefSliceU8Input.iter_elements.Goals as goal
 
 pub returns-clause-gives : goal.returns-clause-gives
-returns-clause-gives c = (YieldsList-from_copied (items_given _ _ c.args.self.now.now c.copied.ensures.source c.iter.ensures.rest)).runs
+returns-clause-gives c = shown_given (λ s. s.rest.now) _ _ (ap (λ r. r.now) c.new.ensures)

@@ -1,6 +1,5 @@
 //! What becomes of a part's outcome, and items one after another.
 
-use crate::tests::rows::{Answer, Row, bytes, wrong_row};
 use nom::Err;
 use nom::bytes::{Tag, streaming, tag};
 use nom::combinator::{
@@ -8,6 +7,7 @@ use nom::combinator::{
 };
 use nom::error::{Error, ErrorKind, context};
 use nom::sequence::pair;
+use nom_rows::rows::{Answer, Row, bytes, wrong_row};
 
 type At<'a> = Error<&'a [u8]>;
 

@@ -1,6 +1,6 @@
 use Rattle.std.proofs.Common.{[], ◌∷◌}
 use Rattle.nom_growing.specs.ByteCuts.{byte_cuts}
-use Rattle.nom_tests.proofs.tests.rows.grown.Goals as goal
+use Rattle.nom_rows.proofs.rows.grown.Goals as goal
 
 pub parse_growing-requires-clause-cuts : goal.parse_growing-requires-clause-cuts
 parse_growing-requires-clause-cuts g c =

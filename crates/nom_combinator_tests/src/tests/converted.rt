@@ -2,13 +2,13 @@
 ghost use Rattle.std.specs.Prelude.{◌≡◌};
 ghost use Rattle.nom_error.specs.declared.kind.ErrorKind.TheVariants as Kind;
 
-use crate::tests::rows::{Answer, bytes, pinned, wrong_row};
 use nom::combinator::{into, map_opt};
 use nom::error::{Error, ErrorKind, ParseError};
 use nom::number::be_u8;
 use nom::{
     Check, Complete, Emit, Err, OutOfMemory, OutputM, OutputMode, Parser, Streaming, Viewed,
 };
+use nom_rows::rows::{Answer, bytes, wrong_row};
 
 type At<'a> = Error<&'a [u8]>;
 
@@ -93,13 +93,15 @@ fn told_of<'a, OM: OutputMode, P: Parser<&'a [u8], Output = Wide, Error = Why>>(
     }
 }
 
-/// Whether it is this number, or this kind, where it is built.
+/// Whether it is this number, or this kind, where it is built, of a parser whose outputs are the same on
+/// longer inputs.
 fn is_told<'a, P: Parser<&'a [u8], Output = Wide, Error = Why> + Drop>(
     mut parser: P,
     input: &'a [u8],
     wanted: Result<Wide, Why>,
 ) -> bool
-    requires { (P.meaning (P.state parser)).IsSound }
+    requires sound { (P.meaning (P.state parser)).IsSound }
+    requires pins { P.Pins (P.state parser) }
 {
     let (full, checked) = match wanted {
         Ok(wide) => (Told::Accepts(Some(wide)), Told::Accepts(None)),
@@ -118,7 +120,7 @@ fn is_told<'a, P: Parser<&'a [u8], Output = Wide, Error = Why> + Drop>(
 /// What is converted of an option.
 fn both(input: &[u8], wanted: Result<Wide, Why>) -> bool {
     let less = map_opt(be_u8::<_, At>(), |b: u8| b.checked_sub(4));
-    is_told(pinned(into::<_, Wide, Why>(less)), input, wanted)
+    is_told(into::<_, Wide, Why>(less), input, wanted)
 }
 
 #[test]

@@ -1,5 +1,5 @@
 use Rattle.std.proofs.Common.{◌≡◌}
-use Rattle.nom_tests.proofs.tests.rows.wrong_row.Given as goal
+use Rattle.nom_rows.proofs.rows.wrong_row.Given as goal
 
 -- each call leaves the parser as it was
 abbrev pub invariant-loop-index : goal.invariant-loop-index

@@ -1,11 +1,11 @@
-//! Parts in sequence, and tuples: the answers of tuples of one and of four parsers stand among those of
-//! `nom_choice_answers`.
+//! Parts in sequence, and tuples: the answers of tuples of one and of four parsers stand among
+//! those that `nom_answers` replays.
 
-use crate::tests::rows::{Answer, bytes, is_grown, wrong_row};
 use nom::bytes::{Tag, Take, tag, take};
 use nom::error::{Error, ErrorKind};
 use nom::number::{be_u8, be_u16};
 use nom::sequence::{delimited, pair, separated_pair, terminated};
+use nom_rows::rows::{Answer, bytes, is_grown, wrong_row};
 
 type At<'a> = Error<&'a [u8]>;
 

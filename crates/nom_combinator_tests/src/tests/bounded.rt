@@ -1,6 +1,5 @@
 //! Parsers on what another one gives, parsers that closures give, and one of two parsers.
 
-use crate::tests::rows::{Answer, Row, bytes, is_grown, wrong_row};
 use nom::bytes::{tag, take};
 use nom::character::char;
 use nom::combinator::{flat_map, map_parser};
@@ -8,6 +7,7 @@ use nom::error::{Error, ErrorKind, ParseError};
 use nom::number::be_u8;
 use nom::{Err, OutOfMemory, Parser};
 use nom_ends::left::Rest;
+use nom_rows::rows::{Answer, Row, bytes, is_grown, wrong_row};
 
 type Fail<'a> = Error<&'a str>;
 

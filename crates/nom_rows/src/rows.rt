@@ -163,12 +163,16 @@ pub fn wrong_row<
     None
 }
 
-/// The parser itself, whose outputs are the same on longer inputs, as they are compared.
-pub fn pinned<'a, P: StreamParser<&'a [u8]>>(parser: P) -> P
-    requires { P.Parser.Pins (P.state parser) }
-    ensures { result ≡ parser }
+/// The same, of a parser whose outputs are the same on longer inputs, as they are compared.
+pub fn wrong_pinned_row<
+    I: Input + Content,
+    O: PartialEq + Drop,
+    P: Parser<I, Output = O, Error = Error<I>> + Drop,
+>(parser: P, rows: &[Row<I, O>]) -> Option<usize>
+    requires sound { (P.meaning (P.state parser)).IsSound }
+    requires pins { P.Pins (P.state parser) }
 {
-    parser
+    wrong_row(parser, rows)
 }
 
 /// What a parser answers on bytes that come in pieces, which end at these lengths; none where one of them is
@@ -190,7 +194,7 @@ pub fn grown<'a, P: StreamParser<&'a [u8]> + Drop>(
 }
 
 /// Whether an input that comes in such pieces is decided at this cut, with an acceptance that leaves so many
-/// bytes.
+/// bytes. The outputs are the same on longer inputs.
 pub fn is_grown<'a, P: StreamParser<&'a [u8]> + Drop>(
     parser: P,
     whole: &'a [u8],
@@ -200,7 +204,8 @@ pub fn is_grown<'a, P: StreamParser<&'a [u8]> + Drop>(
 ) -> bool
 where
     P::Output: PartialEq,
-    requires { (P.Parser.meaning (P.Parser.state parser)).IsSound }
+    requires sound { (P.Parser.meaning (P.Parser.state parser)).IsSound }
+    requires pins { P.Parser.Pins (P.Parser.state parser) }
 {
     let Some(grown) = grown(parser, whole, cuts) else {
         return false;

@@ -1,6 +1,6 @@
 //! Bit fields: numbers of each width, at each position of a byte, past its end and past the input's.
 
-use crate::tests::bits::ended::{Bits, Ended, Fail, ends, how};
+use crate::tests::ended::{Bits, Ended, Fail, ends, how};
 use nom_bits::{BitUint, bool, complete, streaming, tag, take};
 use nom_error::answer::Needed;
 use nom_error::kind::ErrorKind;

@@ -3,7 +3,7 @@
 //! The parsers are called by functions that promise nothing, so that what a parser means isn't unfolded where
 //! its answers are compared.
 
-use crate::tests::bits::ended::{Bits, Ended, Fail, how};
+use crate::tests::ended::{Bits, Ended, Fail, how};
 use nom_bits::{ErrorConvert, bits, bytes, complete, take};
 use nom_branch::alt;
 use nom_bytes::{streaming, tag};
@@ -149,7 +149,7 @@ fn converted_errors(rt: HostRuntime) {
     assert!(rt; nothing == ());
 }
 
-/// The first bit of an input of bytes that grows from nothing, by a function.
+/// The first bit of an input that grows from nothing, by a function.
 fn grown_bit<'a>(input: &'a [u8]) -> Grown<&'a [u8], bool, Bad<'a>> {
     let bit = stream_func(nom_bits::streaming::bool::<&[u8], Fail<'_>>);
     parse_growing(bits(bit), input, &[0])

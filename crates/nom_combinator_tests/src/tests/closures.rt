@@ -3,12 +3,12 @@
 
 ghost use Rattle.std.specs.Prelude.{ℕ, List, Option};
 
-use crate::tests::rows::{Answer, bytes, is_grown, pinned, wrong_row};
 use nom::bytes::take;
 use nom::combinator::{map, map_opt, map_res, success, value, verify};
 use nom::error::{Error, ErrorKind};
 use nom::number::be_u8;
 use nom::{IResult, Parser, Viewed};
+use nom_rows::rows::{Answer, bytes, is_grown, wrong_pinned_row, wrong_row};
 use std::test::Fail;
 
 type At<'a> = Error<&'a [u8]>;
@@ -45,7 +45,7 @@ fn sum() -> Option<usize> {
         (bytes(""), Answer::Needs(1), Some(Answer::Refuses(EOF, 0))),
     ];
     let sum = map(be_u8::<_, At>(), |b: u8| b as u32 + 1);
-    wrong_row(pinned(sum), &rows)
+    wrong_pinned_row(sum, &rows)
 }
 
 fn table() -> Option<usize> {
@@ -54,7 +54,7 @@ fn table() -> Option<usize> {
         (bytes("\x04"), Answer::Accepts(0, 0), None),
     ];
     let set = be_u8::<_, At>().map(|b: u8| SET[(b % 4) as usize]);
-    wrong_row(pinned(set), &rows)
+    wrong_pinned_row(set, &rows)
 }
 
 fn of_color() -> Option<usize> {
@@ -64,7 +64,7 @@ fn of_color() -> Option<usize> {
         be_u8::<_, At>().and(be_u8()),
         |(red, green): (u8, u8)| Color { red, green },
     );
-    wrong_row(pinned(color), &rows)
+    wrong_pinned_row(color, &rows)
 }
 
 fn of_piece() -> Option<usize> {
@@ -80,14 +80,14 @@ fn of_piece() -> Option<usize> {
             last: s.last().copied(),
         },
     );
-    wrong_row(pinned(piece), &rows)
+    wrong_pinned_row(piece, &rows)
 }
 
 /// A captured number.
 fn capped(most: u8, given: u8) -> Option<usize> {
     let rows = [(bytes("\x07"), Answer::Accepts(0, given), None)];
     let capped = be_u8::<_, At>().map(move |b: u8| if b < most { b } else { most });
-    wrong_row(pinned(capped), &rows)
+    wrong_pinned_row(capped, &rows)
 }
 
 /// A function by its name.
@@ -106,7 +106,7 @@ fn second_byte() -> Option<usize> {
         (bytes("cba"), Answer::Accepts(0, Some(b'b')), None),
     ];
     let tail = take::<_, _, At>(3usize).map(|s: &[u8]| if s.len() > 1 { &s[1..] } else { s });
-    wrong_row(pinned(tail.map(|s: &[u8]| s.first().copied())), &rows)
+    wrong_pinned_row(tail.map(|s: &[u8]| s.first().copied()), &rows)
 }
 
 #[test]
@@ -129,7 +129,7 @@ fn judged_map() -> Option<usize> {
     ];
     let halved = be_u8::<_, At>().map(|b: u8| b / 2);
     let less = verify(halved, |b: &u8| *b > 3).map(|b: u8| b - 4);
-    wrong_row(pinned(less), &rows)
+    wrong_pinned_row(less, &rows)
 }
 
 /// A test of a slice.
@@ -140,7 +140,7 @@ fn judged_slice() -> Option<usize> {
         (bytes("a"), Answer::Needs(1), Some(Answer::Refuses(EOF, 1))),
     ];
     let same = verify(take::<_, _, At>(2usize), |s: &&[u8]| s.first() == s.last());
-    wrong_row(pinned(same), &rows)
+    wrong_pinned_row(same, &rows)
 }
 
 // The second part refuses at its own start.
@@ -160,7 +160,7 @@ fn judged_pair() -> Option<usize> {
         be_u8::<_, At>(),
         |b: u8| if b < 58 { Ok(b) } else { Err(b) },
     );
-    wrong_row(pinned(less.and(value)), &rows)
+    wrong_pinned_row(less.and(value), &rows)
 }
 
 /// A value for each output.
@@ -169,7 +169,7 @@ fn words() -> Option<usize> {
         (bytes("abc"), Answer::Accepts(1, "two"), None),
         (bytes("a"), Answer::Needs(1), Some(Answer::Refuses(EOF, 1))),
     ];
-    wrong_row(pinned(value("two", take::<_, _, At>(2usize))), &rows)
+    wrong_pinned_row(value("two", take::<_, _, At>(2usize)), &rows)
 }
 
 #[test]
@@ -217,6 +217,6 @@ fn a_list_for_each_output(rt: HostRuntime) -> Result<(), Fail> {
 #[test]
 fn a_map_that_grows(rt: HostRuntime) {
     let less = map_opt(be_u8::<_, At>(), |b: u8| b.checked_sub(4));
-    let sum = pinned(less.map(|b: u8| b as u32 + 1));
+    let sum = less.map(|b: u8| b as u32 + 1);
     assert!(rt; is_grown(sum, bytes("\x05ab"), [0, 1, 3, 3], 1, (2, 2)));
 }

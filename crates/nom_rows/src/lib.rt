@@ -1,0 +1,4 @@
+//! What the rows of tests say of a parser.
+#![tactic(auto)]
+
+pub mod rows;
