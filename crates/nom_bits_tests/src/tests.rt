@@ -2,4 +2,3 @@
 
 mod bridges;
 mod ended;
-mod fields;

@@ -1,7 +1,7 @@
 //! Bit fields by their names.
 
 use crate::bits::ask::BitQuestion;
-use nom::bits::{complete, streaming};
+use nom::bits::{complete, streaming, tag, take};
 use nom::error::Error;
 use nom::{AsBytes, BitUint, Input};
 use nom_answer_lines::answer::Answer;
@@ -19,8 +19,9 @@ fn taken<I: Input<Item = u8> + AsBytes, O: BitUint + Debug>(
         return None;
     }
     match question.bytes.module {
+        Module::Top => question.ask(take::<I, O, usize, Error<(I, usize)>>(count)),
         Module::Complete => question.ask(complete::take::<I, O, usize, Error<(I, usize)>>(count)),
-        _ => question.ask(streaming::take::<I, O, usize, Error<(I, usize)>>(count)),
+        Module::Streaming => question.ask(streaming::take::<I, O, usize, Error<(I, usize)>>(count)),
     }
 }
 
@@ -34,10 +35,13 @@ fn tagged<I: Input<Item = u8> + AsBytes, O: BitUint + Debug>(
         return None;
     }
     match question.bytes.module {
+        Module::Top => question.ask(tag::<I, O, usize, Error<(I, usize)>>(pattern, count)),
         Module::Complete => question.ask(complete::tag::<I, O, usize, Error<(I, usize)>>(
             pattern, count,
         )),
-        _ => question.ask(streaming::tag::<I, O, usize, Error<(I, usize)>>(pattern, count)),
+        Module::Streaming => question.ask(streaming::tag::<I, O, usize, Error<(I, usize)>>(
+            pattern, count,
+        )),
     }
 }
 
@@ -78,9 +82,12 @@ fn tagged_as<I: Input<Item = u8> + AsBytes>(
 /// The module that a name begins with, and what follows of it.
 pub fn module_of(call: &str) -> Option<(Module, &str)> {
     let name = call.strip_prefix("bits::")?;
-    match name.strip_prefix("complete::") {
-        Some(name) => Some((Module::Complete, name)),
-        None => Some((Module::Streaming, name.strip_prefix("streaming::")?)),
+    if let Some(name) = name.strip_prefix("complete::") {
+        return Some((Module::Complete, name));
+    }
+    match name.strip_prefix("streaming::") {
+        Some(name) => Some((Module::Streaming, name)),
+        None => Some((Module::Top, name)),
     }
 }
 

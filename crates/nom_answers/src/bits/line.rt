@@ -3,10 +3,12 @@
 use crate::bits::ask::{BitQuestion, answer_of_bits, at_bit};
 use crate::bits::composed::{Slices, around_bits, composed};
 use crate::bits::fields::{field, module_of};
-use nom::bits::complete;
+use nom::bits::{bool as one_bit, complete, streaming};
+use nom::error::Error;
 use nom_answer_lines::answer::{Answer, read_answer};
 use nom_answer_lines::ask::{Module, Question, Way};
 use nom_answer_lines::literal::{between, literal_of};
+use nom_answer_lines::names::place_of;
 use nom_answer_lines::replay::Verdict;
 use std::alloc::Global;
 
@@ -51,6 +53,25 @@ fn found_in_bits(
     }
 }
 
+/// What a single bit is at a position; none where a call is on none.
+fn single(question: Question<&[u8]>, call: &str, position: usize) -> Option<Answer> {
+    let input = (question.input, position);
+    match place_of(
+        "bits::complete::bool bits::streaming::bool bits::bool",
+        call,
+    )? {
+        0 => answer_of_bits(question.alloc, complete::bool(input)),
+        1 => answer_of_bits(question.alloc, streaming::bool(input)),
+        _ => {
+            let question = BitQuestion {
+                bytes: question,
+                position: Some(position),
+            };
+            question.ask(one_bit::<&[u8], Error<(&[u8], usize)>>())
+        }
+    }
+}
+
 /// What a call answers; none where it isn't known.
 fn found(question: Question<&[u8]>, call: &str, position: Option<usize>) -> Option<Answer> {
     let slices = Slices {
@@ -59,10 +80,7 @@ fn found(question: Question<&[u8]>, call: &str, position: Option<usize>) -> Opti
         xa5: &b"\xa5"[..],
     };
     match position {
-        Some(position) if call == "bits::complete::bool" => {
-            let input = (question.input, position);
-            answer_of_bits(question.alloc, complete::bool(input))
-        }
+        Some(position) if call.ends_with("::bool") => single(question, call, position),
         Some(_) => found_in_bits(question, call, position, slices),
         None => match between(call, "bits(", ")") {
             Some(inner) => found_in_bits(question, inner, None, slices),

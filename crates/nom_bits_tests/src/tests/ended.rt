@@ -3,7 +3,6 @@
 use nom_error::answer::{Err, IResult, Needed};
 use nom_error::kind::ErrorKind;
 use nom_error::value::Error;
-use nom_internal::parser::Parser;
 
 pub type Bits<'a> = (&'a [u8], usize);
 
@@ -28,14 +27,4 @@ pub fn how<T: Drop>(answer: IResult<Bits<'_>, T, Fail<'_>>) -> Ended<T> {
         Err(Err::Incomplete(needed)) => Ended::Lacked(needed),
         Err(_) => Ended::Otherwise,
     }
-}
-
-/// How a parser ends where more may come, and where no more may. It promises nothing.
-pub fn ends<'a, T: Drop, P: Parser<Bits<'a>, Output = T, Error = Fail<'a>> + Drop>(
-    mut parser: P,
-    input: Bits<'a>,
-) -> (Ended<T>, Ended<T>)
-    requires { (P.meaning (P.state parser)).IsSound }
-{
-    (how(parser.parse(input)), how(parser.parse_complete(input)))
 }
