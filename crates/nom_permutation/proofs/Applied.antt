@@ -2,9 +2,11 @@
 use Rattle.std.specs.Prelude.{◌≡◌, ℕ, ◌+◌, ◌≤◌, Bool, List, [], ◌∷◌, length, Option, None}
 use Rattle.std.proofs.Common.{arith, sym, ap, subst, inl, inr, zero, suc}
 use Rattle.nom_traits.specs.Input.{Seen, InputLaws}
-use Rattle.nom_permutation.specs.Permutation.{Member, EachMember, permutation_meaning}
+use Rattle.nom_members.specs.Members.{Member, EachMember}
+use Rattle.nom_members.specs.Left.{is_left, left, LeavesOneFewer}
+use Rattle.nom_permutation.specs.Permutation.{permutation_meaning}
 use Rattle.nom_permutation.specs.Order.{Turn, AllApplied, InOrder}
-use Rattle.nom_permutation.specs.Once.{is_left, left, LeavesOneFewer, AppliesEachOnce, AcceptsEachOrder}
+use Rattle.nom_permutation.specs.Once.{AppliesEachOnce, AcceptsEachOrder}
 use Rattle.nom_permutation.proofs.Orders.{permutation_in_order, order_in_permutation}
 
 not_left : {P : Type 0} (x : Option P) (n : ℕ) → is_left x + n ≡ 0 → x ≡ None → ⊥

@@ -2,5 +2,3 @@ pub mod Once
 pub mod Order
 pub mod Permutation
 pub mod PermutationLaws
-pub mod RoundLaws
-pub mod Rounds

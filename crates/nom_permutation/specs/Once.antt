@@ -1,24 +1,10 @@
--- Each member of a permutation is applied once: how many are left, and what applying one does to that.
-use Rattle.std.specs.Prelude.{◌≡◌, ℕ, ◌+◌, Bool, List, [], ◌∷◌, length, Option, Some, None}
-use Rattle.std.proofs.Common.{arith, ap, suc}
+-- Each member of a permutation is applied once.
+use Rattle.std.specs.Prelude.{ℕ, Bool, List, length}
 use Rattle.nom_traits.specs.Input.{Seen}
 use Rattle.nom_internal.specs.Outcome.Outcome.{Accept}
 use Rattle.nom_internal.specs.Meaning.{Meaning}
-use Rattle.nom_permutation.specs.Permutation.{Member}
+use Rattle.nom_members.specs.Members.{Member}
 use Rattle.nom_permutation.specs.Order.{AllApplied, InOrder}
-
-abbrev pub is_left : {P : Type 0} → Option P → ℕ
-is_left (Some v) = 0
-is_left None = 1
-
--- how many of the members aren't applied
-abbrev pub left : {I T E : Type 0} → List (Member I T E) → T → ℕ
-left [] t = 0
-left (m ∷ ms) t = is_left (m.tree t) + left ms t
-
--- to apply the member, of all of them, leaves one fewer
-abbrev pub LeavesOneFewer : {I T E : Type 0} → List (Member I T E) → Member I T E → Type 0
-LeavesOneFewer {T = T} all m = (t : T) (v : m.Tree) → m.tree t ≡ None → left all t ≡ suc (left all (m.put t v))
 
 -- What a permutation accepts, its members accept in turn, each of them one that isn't applied yet; and at the end all are applied.
 abbrev pub AppliesEachOnce : {I A T E : Type 0} → Seen I A → List (Member I T E) → T → Meaning I T E → Type 0
@@ -27,10 +13,3 @@ AppliesEachOnce {I} {T = T} w ms none whole = (s : Bool) (i : I) (n : ℕ) (u : 
 -- and what they so accept, it accepts
 abbrev pub AcceptsEachOrder : {I A T E : Type 0} → Seen I A → List (Member I T E) → T → Meaning I T E → Type 0
 AcceptsEachOrder {I} {T = T} w ms none whole = (s : Bool) (i : I) (n : ℕ) (u : T) → w.IsKnown i → InOrder w s ms u (length ms) none i n → whole.answers s i (Accept n u)
-
--- of the members of a tuple: the one that is applied, and those before it
-pub here : {P : Type 0} (x : Option P) (n : ℕ) → x ≡ None → is_left x + n ≡ suc (0 + n)
-here x n e = omega (arith, ap is_left e)
-
-pub there : (k m n : ℕ) → m ≡ suc n → k + m ≡ suc (k + n)
-there k m n e = omega (arith, e)

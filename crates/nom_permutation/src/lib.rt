@@ -3,16 +3,12 @@
 
 ghost use Rattle.std.specs.Prelude.{◌≡◌};
 
-mod flat;
-mod members;
 pub mod promises;
 mod rounds;
-mod slots;
-mod widths;
 
-pub use crate::members::{Members, StreamMembers};
 pub use crate::rounds::Permutation;
-pub use crate::slots::{Round, Slot};
+pub use nom_members::{Members, StreamMembers};
+pub use nom_slots::{Round, Slot};
 
 /// Each of the parsers in `list` once, in any order, with their outputs in the order of the list.
 ///

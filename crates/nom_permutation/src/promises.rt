@@ -2,9 +2,9 @@
 //! the promise.
 ghost use Rattle.nom_permutation.specs.Once.{AcceptsEachOrder, AppliesEachOnce};
 
-use crate::members::Members;
 use crate::rounds::Permutation;
 use nom_internal::parser::Parser;
+use nom_members::Members;
 use nom_traits::input::Items;
 
 /// What a permutation accepts, its members accept in turn, each once: at each turn the first that isn't

@@ -2,12 +2,12 @@
 ghost use Rattle.nom_error.specs.declared.kind.ErrorKind.TheVariants as Kind;
 ghost use Rattle.nom_permutation.specs.Permutation.{permutation_meaning};
 
-use crate::members::{Members, StreamMembers};
 use nom_error::answer::PResult;
 use nom_error::kind::ErrorKind;
 use nom_error::mode::OutputMode;
 use nom_internal::choice::close;
 use nom_internal::parser::{Parser, StreamParser};
+use nom_members::{Members, StreamMembers};
 use nom_traits::input::Items;
 
 /// Parsers that are applied once each, in any order; made by `permutation`.

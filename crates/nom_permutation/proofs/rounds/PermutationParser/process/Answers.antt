@@ -3,8 +3,9 @@ use Rattle.std.proofs.Common.{arith, sym, ◌∙◌, ap, subst, suc}
 use Rattle.nom_error.specs.Modes.{modes}
 use Rattle.nom_error.specs.declared.kind.ErrorKind.TheVariants as Kind
 use Rattle.nom_internal.specs.Choice.{ClosesError}
-use Rattle.nom_permutation.specs.Permutation.{AreSound, tried, round_meaning}
-use Rattle.nom_permutation.specs.Rounds.{applies, HasTried, ShowsRound}
+use Rattle.nom_members.specs.Members.{AreSound, tried}
+use Rattle.nom_permutation.specs.Permutation.{round_meaning}
+use Rattle.nom_members.specs.Rounds.{applies, HasTried, ShowsRound}
 use Rattle.nom_permutation.proofs.Turns.{ShowsRounds, closed_applies, round_shown, round_over, rounds_over, rounds_more, rounds_end}
 use Rattle.nom_permutation.proofs.rounds.PermutationParser.process.Goals as goal
 
