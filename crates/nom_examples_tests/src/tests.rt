@@ -7,8 +7,9 @@ use nom::multi::{length_data, many0};
 use nom::number::be_u8;
 use nom::sequence::{preceded, terminated};
 use nom::{Err, IResult, Needed, Parser};
-use nom_examples::{Color, Refusal, Token, Tokens, brackets_line, hex_color, one_letter, promised};
+use nom_examples::{Color, brackets_line, hex_color, promised};
 use nom_grammars::{Line, setting, settings};
+use nom_own_parts::{Refusal, Token, Tokens, one_letter};
 
 type Fail<'a> = Error<&'a [u8]>;
 

@@ -1,0 +1,4 @@
+pub mod Firsts
+pub mod Further
+pub mod Letters
+pub mod Tokens

@@ -1,0 +1,11 @@
+//! What a user of the library adds to it, proved: an input, an error, a leaf parser, and functions as parsers.
+#![tactic(auto)]
+
+pub mod functions;
+mod letters;
+mod refusal;
+mod tokens;
+
+pub use crate::letters::{Letter, one_letter};
+pub use crate::refusal::Refusal;
+pub use crate::tokens::{Token, Tokens};
