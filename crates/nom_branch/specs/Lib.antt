@@ -1,4 +1,3 @@
 pub mod AlternativeLaws
 pub mod Alternatives
 pub mod ListLaws
-pub mod Lists

@@ -5,9 +5,8 @@ use Rattle.nom_error.specs.declared.kind.ErrorKind.TheVariants.{Alt}
 use Rattle.nom_error.specs.Errors.{Errors}
 use Rattle.nom_internal.specs.Meaning.{Meaning}
 use Rattle.nom_internal.specs.Leaf.{Leaf, leaf_meaning}
-use Rattle.nom_internal.specs.Cases.{labelled_meaning}
+use Rattle.nom_internal.specs.Cases.{labelled_meaning, closed_meaning}
 use Rattle.nom_internal.specs.Choice.{or_meaning}
-use Rattle.nom_branch.specs.Alternatives.{choice_meaning}
 
 -- what always refuses
 abbrev pub no_branch : {I V : Type 0} → Leaf I V
@@ -39,7 +38,7 @@ module _ {S I V E : Type 0} (e : Errors I E) (part : S → Meaning I V E) where
   -- the same, with the error of a refusal closed by `Alt` at the start
   abbrev pub list_meaning : List S → Meaning I (ℕ × V) E
   list_meaning [] = none_meaning e
-  list_meaning (s ∷ ss) = choice_meaning e (any_meaning (s ∷ ss))
+  list_meaning (s ∷ ss) = closed_meaning (λ i. e.appended i Alt) e.grows (any_meaning (s ∷ ss))
 
 -- what stands at place k of a list
 abbrev pub StandsAt : {S : Type 0} → List S → ℕ → S → Type 0
