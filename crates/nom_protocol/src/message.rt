@@ -14,7 +14,7 @@ use nom::multi::{length_data, length_value, many0};
 use nom::number::{be_u8, be_u16, be_u32};
 use nom::promises::has_no_failure;
 use nom::sequence::{pair, preceded, terminated};
-use nom::{Grown, Items, Viewed, parse_growing};
+use nom::{Grown, Input, Items, StreamParser, Viewed, parse_growing};
 use std::alloc::Allocator;
 
 /// A message.
@@ -48,6 +48,22 @@ fn close<'a>(_kind: &'a [u8]) -> Message<'a>
     Message::Close
 }
 
+/// What a parser answers of an input that grows, and that it never fails: by one call, since each call with a
+/// concrete parser spells out all that the parser is made of.
+fn unfailing<I: Input, P: StreamParser<I> + Drop>(
+    parser: P,
+    input: I,
+    cuts: &[usize],
+) -> Grown<I, P::Output, P::Error>
+    requires sound { (P.meaning (P.state parser)).IsSound }
+    requires cuts { AreCuts I.seen input cuts.now }
+    ensures grown { IsGrown I.seen (P.IsOutput (P.state parser)) (P.meaning (P.state parser)) input cuts.now result.index result.result }
+    ensures failures { HasNoFailure I.seen (P.meaning (P.state parser)) }
+{
+    has_no_failure(&parser);
+    parse_growing(parser, input, cuts)
+}
+
 /// The messages of a source, of which each number of `cuts` tells how many bytes were there when it gave the
 /// next piece:
 ///
@@ -78,6 +94,5 @@ pub fn messages<'a, A: Allocator + Copy>(
     let message = length_value(be_u16(), body);
     let end = tag::<_, _, Error<&[u8]>>(&b"\0\0"[..]);
     let stream = terminated(many0(alloc, message), end);
-    has_no_failure(&stream);
-    parse_growing(stream, bytes, cuts)
+    unfailing(stream, bytes, cuts)
 }

@@ -16,7 +16,7 @@ returns g c =
     let end = ap (λ p. p.tag.now) c.terminated-stream.ensures.second ∙ ap (λ t. t.now) c.tag-end.ensures in
     let bytes = c.args.bytes in
     let cuts = c.args.cuts.now in
-    let index = c.parse_growing.result.index in
-    let answer = c.parse_growing.result.result in
-    let both = by_its_parts (λ h. IsGrown seen_bytes h.IsOutput h.meaning bytes cuts index answer × HasNoFailure seen_bytes h.meaning) _ _ _ _ _ _ ping text close end length number (c.parse_growing.ensures.grown, c.has_no_failure.ensures) in
+    let index = c.unfailing.result.index in
+    let answer = c.unfailing.result.result in
+    let both = by_its_parts (λ h. IsGrown seen_bytes h.IsOutput h.meaning bytes cuts index answer × HasNoFailure seen_bytes h.meaning) _ _ _ _ _ _ ping text close end length number (c.unfailing.ensures.grown, c.unfailing.ensures.failures) in
     (of_whole _ _ bytes cuts index c.known.ensures answer both (search), both.0, both.1)
