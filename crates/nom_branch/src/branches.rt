@@ -6,7 +6,6 @@ ghost use Rattle.std.specs.Prelude.{◌⊎◌};
 ghost use Rattle.nom_branch.specs.Alternatives.{next_meaning, choice_meaning};
 ghost use Rattle.nom_internal.specs.Choice.{EitherOutput};
 
-use nom_choose::only;
 use nom_error::answer::PResult;
 use nom_error::kind::ErrorKind;
 use nom_error::mode::OutputMode;
@@ -40,7 +39,8 @@ impl<I: Items, A: Parser<I>> Parser<I> for Choice<(A,)> {
 
     #[inline(always)]
     fn process<OM: OutputMode>(&mut self, input: I) -> PResult<I, Self::Output, Self::Error> {
-        only::<I, A, OM>(&mut self.parser.0, input)
+        let only = &mut self.parser.0;
+        only.process::<OM>(input)
     }
 
     ghost lawful = { A.lawful };

@@ -1,8 +1,6 @@
-//! Choices among branches of one type: those of a list, in turn, and a single one.
+//! The choice among branches of one type: those of a list, in turn.
 #![tactic(auto)]
 
 mod lists;
-mod single;
 
 pub use crate::lists::choose;
-pub use crate::single::only;
