@@ -46,116 +46,118 @@ struct Round {
     bytes: usize,
 }
 
-fn by_parse(alloc: Global, bytes: &[u8]) -> Option<Round> {
-    let record = preceded(
-        tag::<_, _, Fail>(&b"R"[..]),
-        length_data(be_u8::<_, Fail>()),
-    );
-    let mut records = terminated(many0(alloc, record), tag::<_, _, Fail>(&b"."[..]));
-    match records.parse(bytes) {
-        Ok((rest, list)) => Some(Round {
-            items: Some(list.len()),
-            bytes: bytes.len().saturating_sub(rest.len()),
-        }),
-        Err(_) => None,
-    }
+/// How many bytes of the whole were consumed.
+fn consumed(whole: &[u8], rest: &[u8]) -> usize {
+    whole.len().saturating_sub(rest.len())
 }
 
-fn by_parse_complete(alloc: Global, bytes: &[u8]) -> Option<Round> {
-    let record = preceded(
-        tag::<_, _, Fail>(&b"R"[..]),
-        length_data(be_u8::<_, Fail>()),
-    );
-    let mut records = terminated(many0(alloc, record), tag::<_, _, Fail>(&b"."[..]));
-    match records.parse_complete(bytes) {
-        Ok((rest, list)) => Some(Round {
-            items: Some(list.len()),
-            bytes: bytes.len().saturating_sub(rest.len()),
-        }),
-        Err(_) => None,
-    }
+/// What a parser of records consumes, run in one of the three ways.
+#[inline(always)]
+fn records<'a, T: Drop, P: Parser<&'a [u8], Output = Vec<T>> + Drop>(
+    mut parser: P,
+    bytes: &'a [u8],
+    way: Way,
+) -> Option<Round>
+    requires { (P.meaning (P.state parser)).IsSound }
+{
+    let (rest, items) = match way {
+        Way::Parse => {
+            let (rest, list) = parser.parse(bytes).ok()?;
+            (rest, list.len())
+        }
+        Way::ParseComplete => {
+            let (rest, list) = parser.parse_complete(bytes).ok()?;
+            (rest, list.len())
+        }
+        _ => {
+            let found = parser.process::<OutputM<Check, Check, Streaming>>(bytes);
+            (found.ok()?.0, 0)
+        }
+    };
+    Some(Round {
+        items: Some(items),
+        bytes: consumed(bytes, rest),
+    })
 }
 
-fn by_check(alloc: Global, bytes: &[u8]) -> Option<Round> {
+/// What a parser of one slice consumes.
+#[inline(always)]
+fn slice<'a, P: Parser<&'a [u8], Output = &'a [u8]> + Drop>(
+    mut parser: P,
+    bytes: &'a [u8],
+) -> Option<Round>
+    requires { (P.meaning (P.state parser)).IsSound }
+{
+    let (rest, _slice) = parser.parse_complete(bytes).ok()?;
+    Some(Round {
+        items: None,
+        bytes: consumed(bytes, rest),
+    })
+}
+
+/// How many items a list has, of a parser that gives one; none where it has none.
+#[inline(always)]
+fn list<'a, T: Drop, P: Parser<&'a [u8], Output = Vec<T>> + Drop>(
+    mut parser: P,
+    bytes: &'a [u8],
+) -> Option<Round>
+    requires { (P.meaning (P.state parser)).IsSound }
+{
+    let (rest, items) = parser.parse_complete(bytes).ok()?;
+    if items.is_empty() {
+        return None;
+    }
+    Some(Round {
+        items: Some(items.len()),
+        bytes: consumed(bytes, rest),
+    })
+}
+
+#[inline(never)]
+fn by_records(alloc: Global, bytes: &[u8], way: Way) -> Option<Round> {
     let record = preceded(
         tag::<_, _, Fail>(&b"R"[..]),
         length_data(be_u8::<_, Fail>()),
     );
-    let mut records = terminated(many0(alloc, record), tag::<_, _, Fail>(&b"."[..]));
-    match records.process::<OutputM<Check, Check, Streaming>>(bytes) {
-        Ok((rest, _none)) => Some(Round {
-            items: Some(0),
-            bytes: bytes.len().saturating_sub(rest.len()),
-        }),
-        Err(_) => None,
-    }
+    let end = tag::<_, _, Fail>(&b"."[..]);
+    records(terminated(many0(alloc, record), end), bytes, way)
 }
 
 #[inline(never)]
 fn by_take_while1(bytes: &[u8]) -> Option<Round> {
-    let mut run = take_while1::<_, _, Fail>(|byte: u8| byte != b';');
-    match run.parse_complete(bytes) {
-        Ok((rest, _run)) => Some(Round {
-            items: None,
-            bytes: bytes.len().saturating_sub(rest.len()),
-        }),
-        Err(_) => None,
-    }
+    slice(take_while1::<_, _, Fail>(|byte: u8| byte != b';'), bytes)
 }
 
 #[inline(never)]
 fn by_take_until(bytes: &[u8]) -> Option<Round> {
-    let mut front = take_until::<_, _, Fail>(&b";;"[..]);
-    match front.parse_complete(bytes) {
-        Ok((rest, _front)) => Some(Round {
-            items: None,
-            bytes: bytes.len().saturating_sub(rest.len()),
-        }),
-        Err(_) => None,
-    }
+    slice(take_until::<_, _, Fail>(&b";;"[..]), bytes)
 }
 
 #[inline(never)]
 fn by_alphanumeric1(bytes: &[u8]) -> Option<Round> {
-    match complete::alphanumeric1::<_, Fail>(bytes) {
-        Ok((rest, _word)) => Some(Round {
-            items: None,
-            bytes: bytes.len().saturating_sub(rest.len()),
-        }),
-        Err(_) => None,
+    let (rest, _word) = complete::alphanumeric1::<_, Fail>(bytes).ok()?;
+    Some(Round {
+        items: None,
+        bytes: consumed(bytes, rest),
+    })
+}
+
+/// A decimal number.
+fn number<'a>() -> Integer<u32, &'a [u8], Fail<'a>> {
+    Integer {
+        signed: false,
+        types: PhantomData,
     }
 }
 
 #[inline(never)]
 fn by_numbers(alloc: Global, bytes: &[u8]) -> Option<Round> {
-    let number = Integer::<u32, _, Fail> {
-        signed: false,
-        types: PhantomData,
-    };
-    let mut numbers = many0(alloc, terminated(number, char(',')));
-    match numbers.parse_complete(bytes) {
-        Ok((rest, list)) if !list.is_empty() => Some(Round {
-            items: Some(list.len()),
-            bytes: bytes.len().saturating_sub(rest.len()),
-        }),
-        _ => None,
-    }
+    list(many0(alloc, terminated(number(), char(','))), bytes)
 }
 
 #[inline(never)]
 fn by_separated(alloc: Global, bytes: &[u8]) -> Option<Round> {
-    let number = Integer::<u32, _, Fail> {
-        signed: false,
-        types: PhantomData,
-    };
-    let mut numbers = separated_list0(alloc, char(','), number);
-    match numbers.parse_complete(bytes) {
-        Ok((rest, list)) if !list.is_empty() => Some(Round {
-            items: Some(list.len()),
-            bytes: bytes.len().saturating_sub(rest.len()),
-        }),
-        _ => None,
-    }
+    list(separated_list0(alloc, char(','), number()), bytes)
 }
 
 #[inline(never)]
@@ -168,7 +170,7 @@ fn by_fold(bytes: &[u8]) -> Option<Round> {
     match count.parse_complete(bytes) {
         Ok((rest, count)) if count > 0 => Some(Round {
             items: Some(count),
-            bytes: bytes.len().saturating_sub(rest.len()),
+            bytes: consumed(bytes, rest),
         }),
         _ => None,
     }
@@ -186,39 +188,18 @@ fn by_words(alloc: Global, bytes: &[u8]) -> Option<Round> {
         tag::<_, _, Fail>(&b"DELETE "[..]),
         tag::<_, _, Fail>(&b"OPTIONS "[..]),
     ));
-    let mut words = many0(alloc, word);
-    match words.parse_complete(bytes) {
-        Ok((rest, list)) if !list.is_empty() => Some(Round {
-            items: Some(list.len()),
-            bytes: bytes.len().saturating_sub(rest.len()),
-        }),
-        _ => None,
-    }
+    list(many0(alloc, word), bytes)
 }
 
 #[inline(never)]
 fn by_tuples(alloc: Global, bytes: &[u8]) -> Option<Round> {
     let four = (char('<'), be_u8::<_, Fail>(), be_u8(), char('>'));
-    let mut tuples = many0(alloc, four);
-    match tuples.parse_complete(bytes) {
-        Ok((rest, list)) if !list.is_empty() => Some(Round {
-            items: Some(list.len()),
-            bytes: bytes.len().saturating_sub(rest.len()),
-        }),
-        _ => None,
-    }
+    list(many0(alloc, four), bytes)
 }
 
 #[inline(never)]
 fn by_binary(alloc: Global, bytes: &[u8]) -> Option<Round> {
-    let mut numbers = many0(alloc, be_u32::<_, Fail>());
-    match numbers.parse_complete(bytes) {
-        Ok((rest, list)) if !list.is_empty() => Some(Round {
-            items: Some(list.len()),
-            bytes: bytes.len().saturating_sub(rest.len()),
-        }),
-        _ => None,
-    }
+    list(many0(alloc, be_u32::<_, Fail>()), bytes)
 }
 
 // Fields of `complete`: within `bits` others would ask for more at the end.
@@ -228,14 +209,7 @@ fn by_fields(alloc: Global, bytes: &[u8]) -> Option<Round> {
         complete_bits::take::<_, u8, _, BitFail>(4usize),
         complete_bits::take::<_, u16, _, BitFail>(12usize),
     );
-    let mut fields = many0(alloc, bits::<_, Fail>(pair));
-    match fields.parse_complete(bytes) {
-        Ok((rest, list)) if !list.is_empty() => Some(Round {
-            items: Some(list.len()),
-            bytes: bytes.len().saturating_sub(rest.len()),
-        }),
-        _ => None,
-    }
+    list(many0(alloc, bits::<_, Fail>(pair)), bytes)
 }
 
 /// The parsers, and the ways to run them.
@@ -290,9 +264,7 @@ impl Way {
     /// What a file has not, that isn't accepted.
     fn lacking(self) -> &'static str {
         match self {
-            Way::Parse => "no records",
-            Way::ParseComplete => "no records",
-            Way::Check => "no records",
+            Way::Parse | Way::ParseComplete | Way::Check => "no records",
             Way::TakeWhile1 => "no run",
             Way::TakeUntil => "no needle",
             Way::Alphanumeric1 => "no word",
@@ -306,9 +278,7 @@ impl Way {
 
     fn run(self, alloc: Global, bytes: &[u8]) -> Option<Round> {
         match self {
-            Way::Parse => by_parse(alloc, bytes),
-            Way::ParseComplete => by_parse_complete(alloc, bytes),
-            Way::Check => by_check(alloc, bytes),
+            Way::Parse | Way::ParseComplete | Way::Check => by_records(alloc, bytes, self),
             Way::TakeWhile1 => by_take_while1(bytes),
             Way::TakeUntil => by_take_until(bytes),
             Way::Alphanumeric1 => by_alphanumeric1(bytes),
@@ -371,19 +341,24 @@ fn run(rt: &(impl Clock + Env + Files + Print + Alloc<A = Global>)) -> io::Resul
         None => 7,
     };
     let bytes = fs::read(rt, file.as_str())?;
-    bench(rt, Way::Parse, &bytes, rounds)?;
-    bench(rt, Way::ParseComplete, &bytes, rounds)?;
-    bench(rt, Way::Check, &bytes, rounds)?;
-    bench(rt, Way::TakeWhile1, &bytes, rounds)?;
-    bench(rt, Way::TakeUntil, &bytes, rounds)?;
-    bench(rt, Way::Alphanumeric1, &bytes, rounds)?;
-    bench(rt, Way::Numbers, &bytes, rounds)?;
-    bench(rt, Way::Separated, &bytes, rounds)?;
-    bench(rt, Way::Fold, &bytes, rounds)?;
-    bench(rt, Way::Words, &bytes, rounds)?;
-    bench(rt, Way::Tuples, &bytes, rounds)?;
-    bench(rt, Way::Binary, &bytes, rounds)?;
-    bench(rt, Way::Fields, &bytes, rounds)
+    for way in [
+        Way::Parse,
+        Way::ParseComplete,
+        Way::Check,
+        Way::TakeWhile1,
+        Way::TakeUntil,
+        Way::Alphanumeric1,
+        Way::Numbers,
+        Way::Separated,
+        Way::Fold,
+        Way::Words,
+        Way::Tuples,
+        Way::Binary,
+        Way::Fields,
+    ] {
+        bench(rt, way, &bytes, rounds)?;
+    }
+    Ok(())
 }
 
 fn main(rt: HostRuntime) -> ExitCode {
