@@ -6,7 +6,7 @@ use nom::error::{Error, ErrorKind};
 use nom::multi::{length_data, many0};
 use nom::number::be_u8;
 use nom::sequence::{preceded, terminated};
-use nom::{Err, IResult, Needed, Parser};
+use nom::{Err, IResult, Needed, Parser, StreamParser};
 use nom_examples::{Color, brackets_line, hex_color, promised};
 use nom_grammars::{Line, setting, settings};
 use nom_own_parts::{Refusal, Token, Tokens, one_letter};
@@ -77,12 +77,24 @@ fn the_further_refusal(rt: HostRuntime) {
     }
 }
 
+/// What a parser answers that keeps nom's promises. It is named by this one call, so that its type is looked
+/// through once.
+fn promised_answer<'a, P: StreamParser<&'a [u8]> + Drop>(
+    mut parser: P,
+    input: &'a [u8],
+) -> IResult<&'a [u8], P::Output, P::Error>
+    requires sound { (P.Parser.meaning (P.Parser.state parser)).IsSound }
+    requires settles { (P.Parser.meaning (P.Parser.state parser)).Settles }
+{
+    promised(&parser);
+    parser.parse(input)
+}
+
 #[test]
 fn records_and_their_promises(rt: HostRuntime) {
     let record = preceded(tag::<_, _, Fail>("R"), length_data(be_u8::<_, Fail>()));
-    let mut records = terminated(many0(rt.alloc(), record), tag::<_, _, Fail>("."));
-    promised(&records);
-    match records.parse(&b"R\x02abR\x00.z"[..]) {
+    let records = terminated(many0(rt.alloc(), record), tag::<_, _, Fail>("."));
+    match promised_answer(records, b"R\x02abR\x00.z") {
         Ok((rest, items)) => {
             assert!(rt; rest == b"z".as_slice());
             assert!(rt; items.len() == 2);

@@ -5,7 +5,23 @@ ghost use Rattle.nom_error.specs.Kinds.{number_of};
 ghost use Rattle.nom_vectors.specs.Answers.{AsksFor, IsFailure, IsRefusal};
 
 use nom::error::{ErrorKind, error_to_u32};
-use nom::{AsBytes, Err, IResult, Needed};
+use nom::{AsBytes, Err, IResult, Items, Needed, Parser};
+
+/// What a parser answers where more may come, and where no more may. A row names its parser by this one call, so
+/// that the type is looked through once.
+pub fn both<I: Items, P: Parser<I>>(
+    parser: &mut P,
+    input: I,
+) -> (
+    IResult<I, P::Output, P::Error>,
+    IResult<I, P::Output, P::Error>,
+)
+    requires { (P.meaning (P.state parser.old)).IsSound }
+    ensures { P.state parser.new ≡ P.state parser.old }
+{
+    let streaming = parser.parse(input);
+    (streaming, parser.parse_complete(input))
+}
 
 /// Whether a slice of the input was accepted, with this rest.
 pub fn accepts<I: AsBytes + Drop>(answer: IResult<I, I>, rest: &[u8], output: &[u8]) -> bool

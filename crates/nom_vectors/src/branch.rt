@@ -1,6 +1,6 @@
 //! Rows of choice, permutations and tuples.
 
-use crate::answers::{accepts, needs, refuses};
+use crate::answers::{accepts, both, needs, refuses};
 use nom::branch::{alt, permutation};
 use nom::bytes::tag;
 use nom::character::char;
@@ -13,7 +13,8 @@ type Fail<'a> = Error<&'a str>;
 /// `alt((tag("abc"), tag("ab")))` on `ab`: streaming Incomplete 1; complete rest empty, `ab`.
 pub fn row_3() -> bool {
     let mut choice = alt((tag::<_, _, Fail>("abc"), tag::<_, _, Fail>("ab")));
-    needs(choice.parse("ab"), Some(1)) && accepts(choice.parse_complete("ab"), b"", b"ab")
+    let (streaming, complete) = both(&mut choice, "ab");
+    needs(streaming, Some(1)) && accepts(complete, b"", b"ab")
 }
 
 /// Whether nothing is left, and the outputs are `a`, `b`, `c`.

@@ -85,26 +85,22 @@ pub fn row_27() -> bool {
     }
 }
 
-/// `iterator("aab", char('a'))`: `a`, `a`, None, None; `finish` gives rest `b`.
-fn closed_items() -> bool {
-    let mut items = iterator("aab", char::<_, Error<&str>>('a'));
+/// Whether an iterator gives two `a` and then none, twice asked; and what its `finish` answers.
+fn items(input: &str) -> (bool, IResult<&str, ()>) {
+    let mut items = iterator(input, char::<_, Error<&str>>('a'));
     let given = items.next() == Some('a') && items.next() == Some('a');
     let ended = items.next().is_none() && items.next().is_none();
-    match items.finish() {
-        Ok((rest, ())) => given && ended && rest == "b",
-        Err(_) => false,
-    }
+    (given && ended, items.finish())
 }
 
-/// On `aa`: `a`, `a`, None; `finish` gives Incomplete 1.
-fn open_items() -> bool {
-    let mut items = iterator("aa", char::<_, Error<&str>>('a'));
-    let given = items.next() == Some('a') && items.next() == Some('a');
-    let ended = items.next().is_none();
-    needs(items.finish(), Some(1)) && given && ended
-}
-
-/// `iterator` of `char('a')` on `aab` and on `aa`.
+/// `iterator("aab", char('a'))`: `a`, `a`, None, None; `finish` gives rest `b`. On `aa`: `a`, `a`, None, None;
+/// `finish` gives Incomplete 1.
 pub fn row_28() -> bool {
-    closed_items() && open_items()
+    let (closed, finished) = items("aab");
+    let (open, unfinished) = items("aa");
+    let is_left = match finished {
+        Ok((rest, ())) => rest == "b",
+        Err(_) => false,
+    };
+    closed && is_left && open && needs(unfinished, Some(1))
 }

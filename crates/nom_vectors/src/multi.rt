@@ -1,6 +1,6 @@
 //! Rows of repetition, folds and lengths.
 
-use crate::answers::{accepts, fails, needs, refuses};
+use crate::answers::{accepts, both, fails, needs, refuses};
 use nom::branch::alt;
 use nom::bytes::{tag, take_while};
 use nom::character::char;
@@ -39,26 +39,26 @@ fn is_none<T: Drop, A: Allocator>(answer: IResult<&str, Vec<T, A>>, left: &str) 
 /// Incomplete 3.
 pub fn row_4(alloc: Global) -> bool {
     let mut list = separated_list0(alloc, tag::<_, _, Fail>(","), tag::<_, _, Fail>("abc"));
-    is_twice(list.parse_complete("abc,abc,"), ",", "abc") && needs(list.parse("abc,abc,"), Some(3))
+    let (streaming, complete) = both(&mut list, "abc,abc,");
+    let wants_more = needs(streaming, Some(3));
+    is_twice(complete, ",", "abc") && wants_more
 }
 
 /// `many0(tag(""))` on `x`: Error Many0 at `x`.
 pub fn row_5(alloc: Global) -> bool {
     let mut items = many0(alloc, tag::<_, _, Fail>(""));
-    refuses(items.parse("x"), ErrorKind::Many0, b"x")
-        && refuses(items.parse_complete("x"), ErrorKind::Many0, b"x")
+    let (streaming, complete) = both(&mut items, "x");
+    let is_refused = refuses(streaming, ErrorKind::Many0, b"x");
+    refuses(complete, ErrorKind::Many0, b"x") && is_refused
 }
 
 /// `length_value(map(char('1'), one), rest)`, where `one` answers 1, on `1é`: Error LengthValue at `é`.
 pub fn row_13() -> bool {
     let one = map(char::<_, Fail>('1'), |_c: char| 1usize);
     let mut value = length_value(one, Rest::new());
-    refuses(value.parse("1é"), ErrorKind::LengthValue, "é".as_bytes())
-        && refuses(
-            value.parse_complete("1é"),
-            ErrorKind::LengthValue,
-            "é".as_bytes(),
-        )
+    let (streaming, complete) = both(&mut value, "1é");
+    refuses(streaming, ErrorKind::LengthValue, "é".as_bytes())
+        && refuses(complete, ErrorKind::LengthValue, "é".as_bytes())
 }
 
 /// `length_value(be_u8, take_while(alpha))` on a byte 2, `a`, `b`: streaming Error Complete at `ab`; complete
@@ -66,8 +66,8 @@ pub fn row_13() -> bool {
 pub fn row_14() -> bool {
     let letters = take_while::<_, _, Error<&[u8]>>(|b: u8| b.is_ascii_alphabetic());
     let mut value = length_value(be_u8::<_, Error<&[u8]>>(), letters);
-    refuses(value.parse(&b"\x02ab"[..]), ErrorKind::Complete, b"ab")
-        && accepts(value.parse_complete(&b"\x02ab"[..]), b"", b"ab")
+    let (streaming, complete) = both(&mut value, &b"\x02ab"[..]);
+    refuses(streaming, ErrorKind::Complete, b"ab") && accepts(complete, b"", b"ab")
 }
 
 /// On `aa`: `many(..0, tag("a"))` leaves `aa`, with no items; `many(0..0, tag("a"))` is Failure Many and
