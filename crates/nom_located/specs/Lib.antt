@@ -1,0 +1,4 @@
+pub mod Located
+pub mod LocatedLaws
+pub mod Moving
+pub mod MovingLaws

@@ -1,0 +1,324 @@
+//! An input that knows its line and column.
+ghost use Rattle.std.specs.Prelude.{IfOk, Some, ◌≡◌, ◌+◌, ◌++◌, ◌≤◌, codes, length};
+ghost use Rattle.std.specs.Fmt.{decimal};
+ghost use Rattle.std.proofs.Common.{ap};
+ghost use Rattle.memchr.specs.Find.{IsFirst, Passes, is_byte};
+ghost use Rattle.nom_traits.specs.Input.{input_len};
+ghost use Rattle.nom_located.specs.Moving.{moving_view};
+ghost use Rattle.nom_located.specs.MovingLaws.{moving_comparing, moving_finding, moving_lawful, moving_reads, moving_tells, moving_views};
+ghost use Rattle.nom_located.specs.Located.{Fits, located, place, past_bytes, seen_located};
+
+use memchr::memchr;
+use nom_convert::parse::ParseTo;
+use nom_error::answer::{Needed, OutOfMemory};
+use nom_search::bytes::{AsBytes, ByteItems};
+use nom_search::extend::ExtendInto;
+use nom_search::substring::FindSubstring;
+use nom_traits::character::AsciiClass;
+use nom_traits::compare::{Compare, CompareResult};
+use nom_traits::input::{Input, Items};
+use nom_traits::offset::Offset;
+use nom_traits::view::Viewed;
+use std::alloc::{AllocError, Allocator};
+use std::fmt;
+
+/// An input, with its offset, line and column: how many bytes stand before it in the whole, and its line and its place in
+/// that line, both from 1 on, in bytes. The byte 10 ends a line. Each rest of it knows where it stands, and so does the
+/// input that an error keeps; a front stands where the whole does. Two are equal where all four parts are.
+#[derive(Debug, PartialEq, Eq)]
+pub struct Located<I: Items> {
+    fragment: I,
+    offset: usize,
+    line: usize,
+    column: usize,
+    ghost fits: { Fits (place offset line column) (input_len I.seen fragment) },
+}
+
+impl<I: Items> Copy for Located<I> {}
+
+/// Where it stands, as `LINE:COLUMN`.
+impl<I: Items> fmt::Display for Located<I> {
+    ghost output = { λ x. Some (decimal x.line ++ codes ":" ++ decimal x.column) };
+
+    fn fmt<W: fmt::Write>(&self, f: &mut fmt::Formatter<W>) -> fmt::Result {
+        write!(f, "{}:{}", self.line, self.column)
+    }
+}
+
+impl<I: Items> Clone for Located<I> {
+    fn clone(&self) -> Result<Self, AllocError>
+        ensures { IfOk result (λ x. (x.fragment ≡ self.now.fragment) × (x.offset ≡ self.now.offset) × (x.line ≡ self.now.line) × (x.column ≡ self.now.column)) }
+    {
+        Ok(Located {
+            fragment: self.fragment,
+            offset: self.offset,
+            line: self.line,
+            column: self.column,
+        })
+    }
+}
+
+impl<I: Input + ByteItems> Viewed for Located<I> {
+    ghost view = { moving_view (located (λ x. x.fragment) (λ x. place x.offset x.line x.column) I.read) I.view };
+}
+
+impl<I: Input + ByteItems> Items for Located<I> {
+    type Item = I::Item;
+
+    ghost seen = { seen_located (λ x. x.fragment) (λ x. place x.offset x.line x.column) I.read I.seen };
+
+    fn known(self) {
+        self.fragment.known();
+    }
+
+    ghost lawful = { moving_lawful (located (λ x. x.fragment) (λ x. place x.offset x.line x.column) I.read) I.seen I.lawful };
+
+    ghost values = { λ x h. I.values x.fragment h.0 };
+}
+
+impl<I: Input + ByteItems> Input for Located<I> {
+    ghost lack = { I.lack };
+
+    type Iter = I::Iter;
+
+    type IterIndices = I::IterIndices;
+
+    #[inline(always)]
+    fn input_len(&self) -> usize {
+        self.fragment.input_len()
+    }
+
+    #[inline(always)]
+    fn take(&self, index: usize) -> Self {
+        self.fragment.known();
+        let fragment = self.fragment.take(index);
+        Located {
+            fragment,
+            offset: self.offset,
+            line: self.line,
+            column: self.column,
+        }
+    }
+
+    #[inline]
+    fn take_from(&self, index: usize) -> Self {
+        self.fragment.known();
+        let front = self.fragment.take(index);
+        let fragment = self.fragment.take_from(index);
+        let (line, column) = line_after(front.as_bytes(), self.offset, self.line, self.column);
+        Located {
+            fragment,
+            offset: self.offset + index,
+            line,
+            column,
+        }
+    }
+
+    fn slice_index(&self, count: usize) -> Result<usize, Needed> {
+        self.fragment.slice_index(count)
+    }
+
+    #[inline(always)]
+    fn item_len(&self, item: &Self::Item) -> usize {
+        self.fragment.item_len(item)
+    }
+
+    #[inline(always)]
+    fn iter_elements(&self) -> Self::Iter {
+        self.fragment.iter_elements()
+    }
+
+    #[inline(always)]
+    fn iter_indices(&self) -> Self::IterIndices {
+        self.fragment.iter_indices()
+    }
+
+    #[inline(always)]
+    fn class_end(&self, class: AsciiClass) -> Option<Option<usize>> {
+        self.fragment.class_end(class)
+    }
+
+    ghost more = { I.more };
+
+    ghost views = { moving_views (located (λ x. x.fragment) (λ x. place x.offset x.line x.column) I.read) I.seen I.view I.views };
+
+    ghost tells = { moving_tells (located (λ x. x.fragment) (λ x. place x.offset x.line x.column) I.read) I.seen I.view I.tells };
+}
+
+/// Line and column after bytes, from those before them.
+// Each byte is read once, and where none of them ends a line there is one search.
+#[inline]
+fn line_after(bytes: &[u8], offset: usize, line: usize, column: usize) -> (usize, usize)
+    requires { Fits (place offset line column) (length bytes.now) }
+    ensures { place (offset + length bytes.now) result.0 result.1 ≡ past_bytes (place offset line column) bytes.now }
+{
+    let mut at = 0;
+    let mut line = line;
+    let mut column = column;
+    while let Some(end) = next_end(bytes, at) {
+        at = end + 1;
+        line += 1;
+        column = 1;
+    }
+    (line, column + (bytes.len() - at))
+}
+
+/// The first place from `start` on where a line ends.
+#[inline(always)]
+fn next_end(bytes: &[u8], start: usize) -> Option<usize>
+    requires { start ≤ length bytes.now }
+    ensures { IsFirst (Passes (is_byte 10) bytes.now) start (length bytes.now) result }
+{
+    match memchr(b'\n', &bytes[start..]) {
+        Some(place) => Some(start + place),
+        None => None,
+    }
+}
+
+impl<I: Input + ByteItems> Located<I> {
+    /// An input at its start: offset 0, line 1, column 1.
+    #[inline(always)]
+    pub fn new(fragment: I) -> Located<I>
+        ensures { (result.fragment ≡ fragment) × (result.offset ≡ 0) × (result.line ≡ 1) × (result.column ≡ 1) }
+    {
+        fragment.known();
+        let _length = fragment.as_bytes().len();
+        Located {
+            fragment,
+            offset: 0,
+            line: 1,
+            column: 1,
+        }
+    }
+
+    /// What is left of the input.
+    #[inline(always)]
+    pub fn fragment(&self) -> I
+        ensures { result ≡ self.now.fragment }
+    {
+        self.fragment
+    }
+
+    /// How many bytes stand before it.
+    #[inline(always)]
+    pub fn offset(&self) -> usize
+        ensures { result ≡ self.now.offset }
+    {
+        self.offset
+    }
+
+    /// Its line; the first is 1.
+    #[inline(always)]
+    pub fn line(&self) -> usize
+        ensures { result ≡ self.now.line }
+    {
+        self.line
+    }
+
+    /// Its place in its line, in bytes; the first is 1.
+    #[inline(always)]
+    pub fn column(&self) -> usize
+        ensures { result ≡ self.now.column }
+    {
+        self.column
+    }
+}
+
+impl<I: Input + ByteItems> AsBytes for Located<I> {
+    ghost bytes = { λ x. I.bytes x.fragment };
+
+    #[inline(always)]
+    fn as_bytes(&self) -> &[u8] {
+        self.fragment.as_bytes()
+    }
+}
+
+impl<I: Input + ByteItems> ByteItems for Located<I> {
+    ghost read = { I.read };
+
+    ghost reading = { moving_reads (located (λ x. x.fragment) (λ x. place x.offset x.line x.column) I.read) I.seen I.reading };
+}
+
+impl<I: Input + ByteItems> Offset for Located<I> {
+    #[inline(always)]
+    fn offset(&self, second: &Self) -> usize {
+        second.offset - self.offset
+    }
+}
+
+impl<T, I: Input + ByteItems + Compare<T>> Compare<T> for Located<I> {
+    ghost Tag = { I.Tag };
+
+    ghost tag_seen = { I.tag_seen };
+
+    ghost tag_size = { I.tag_size };
+
+    ghost compares = { I.compares };
+
+    ghost compares_no_case = { I.compares_no_case };
+
+    #[inline(always)]
+    fn tag_len(tag: T) -> usize {
+        I::tag_len(tag)
+    }
+
+    #[inline(always)]
+    fn compare(&self, tag: T) -> CompareResult {
+        self.fragment.compare(tag)
+    }
+
+    #[inline(always)]
+    fn compare_no_case(&self, tag: T) -> CompareResult {
+        self.fragment.compare_no_case(tag)
+    }
+
+    ghost comparing = { moving_comparing (located (λ x. x.fragment) (λ x. place x.offset x.line x.column) I.read) I.seen I.comparing };
+
+    ghost comparing_no_case = { moving_comparing (located (λ x. x.fragment) (λ x. place x.offset x.line x.column) I.read) I.seen I.comparing_no_case };
+}
+
+impl<T, I: Input + ByteItems + FindSubstring<T>> FindSubstring<T> for Located<I> {
+    ghost Needle = { I.Needle };
+
+    ghost needle_seen = { I.needle_seen };
+
+    ghost finds = { I.finds };
+
+    #[inline(always)]
+    fn find_substring(&self, substr: T) -> Option<usize> {
+        self.fragment.find_substring(substr)
+    }
+
+    ghost finding = { moving_finding (located (λ x. x.fragment) (λ x. place x.offset x.line x.column) I.read) I.seen I.finding };
+}
+
+impl<R, I: Input + ByteItems + ParseTo<R>> ParseTo<R> for Located<I> {
+    ghost parses = { λ x. I.parses x.fragment };
+
+    #[inline(always)]
+    fn parse_to(&self) -> Option<R> {
+        self.fragment.parse_to()
+    }
+}
+
+impl<A: Allocator + Copy, I: Input + ByteItems + ExtendInto<A>> ExtendInto<A> for Located<I> {
+    type Item = <I as ExtendInto<A>>::Item;
+
+    type Extender = <I as ExtendInto<A>>::Extender;
+
+    ghost added = { λ x. I.added x.fragment };
+
+    ghost grows = { λ x. I.grows x.fragment };
+
+    #[inline(always)]
+    fn new_builder(&self, alloc: A) -> Self::Extender {
+        self.fragment.new_builder(alloc)
+    }
+
+    #[inline(always)]
+    fn extend_into(&self, acc: &mut Self::Extender) -> Result<(), OutOfMemory> {
+        self.fragment.extend_into(acc)
+    }
+
+    ghost views = { λ x y h. I.ExtendInto.views x.fragment y.fragment (ap (λ p. p.1) h) };
+}

@@ -1,0 +1,24 @@
+//! What the place of an input promises. These functions do nothing: their contracts are the promises.
+ghost use Rattle.std.specs.Prelude.{◌≡◌, take};
+ghost use Rattle.nom_traits.specs.Input.{IsFront, IsRest};
+ghost use Rattle.nom_located.specs.Located.{IsAfter, place, seen_located};
+
+use crate::located::Located;
+use nom_search::bytes::ByteItems;
+use nom_traits::input::{Input, Items};
+
+/// A rest stands after the bytes before it: their number is added to the offset, and to the line the number of
+/// them that are 10. Its column is 1 and the number of bytes after the last such; where there is none, it is the
+/// column before and the number of all.
+pub fn stands_after<I: Input + ByteItems>(input: Located<I>, _length: usize, _rest: Located<I>)
+    requires { IsRest (seen_located (λ x. x.fragment) (λ x. place x.offset x.line x.column) I.read I.seen) input _length _rest }
+    ensures { IsAfter (place input.offset input.line input.column) (take _length (I.bytes input.fragment)) (place _rest.offset _rest.line _rest.column) }
+{
+    input.known();
+}
+
+/// A front stands where the whole does.
+pub fn stands_there<I: Input + ByteItems>(_input: Located<I>, _length: usize, _front: Located<I>)
+    requires { IsFront (seen_located (λ x. x.fragment) (λ x. place x.offset x.line x.column) I.read I.seen) _input _length _front }
+    ensures { place _front.offset _front.line _front.column ≡ place _input.offset _input.line _input.column }
+{}
