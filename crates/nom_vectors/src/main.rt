@@ -16,6 +16,7 @@ mod character;
 mod combinator;
 mod multi;
 mod number;
+mod precedence;
 mod traits;
 
 use std::alloc::Global;
@@ -76,6 +77,7 @@ fn run_row(alloc: Global, number: usize) -> Outcome {
         27 => Outcome::of(combinator::row_27()),
         28 => Outcome::of(combinator::row_28()),
         29 => Outcome::of(branch::row_29()),
+        33 => Outcome::of(precedence::row_33(alloc)),
         _ => Outcome::Absent,
     }
 }

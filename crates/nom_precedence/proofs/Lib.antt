@@ -1,0 +1,9 @@
+pub mod ChainShown
+pub mod OneTree
+pub mod OperatorShown
+pub mod ReadShown
+pub mod Runs
+pub mod Spine
+pub mod StepsShown
+pub mod TermShown
+pub mod ValueShown

@@ -1,0 +1,70 @@
+-- What is built of a term.
+use Rattle.std.proofs.Common.{◌≡◌, Bool, true, false, Option, Some, None, MatchOption, List, [], ◌∷◌, refl, sym, ◌∙◌, ap, subst}
+use Rattle.std.specs.List.{AllZip}
+use Rattle.nom_error.specs.Modes.{Built, BuiltFrom}
+use Rattle.nom_repeat.specs.Kept.{Adds, Kept}
+use Rattle.nom_precedence.specs.Expressions.{Tail, term_of}
+use Rattle.nom_precedence.specs.Steps.{AppliedGains, Before}
+use Rattle.nom_precedence.specs.Told.{Behind, IsHeld, IsTail, IsTerm}
+
+module _ {K L O G : Type 0} (value : K → Option O) (fold : K → L) (Gives : L → O → G → O → Type 0) where
+  -- the value under all postfixes
+  pub record HasApplied (x : O) (cs : List G) (f : L) (k : K) : Type 0 where
+    pub behind : O
+    pub value_is : value k ≡ Some behind
+    pub given : Behind (Gives f) x cs behind
+
+  pub adds_behind : (k : K) (cs : List G) (new : K) (x : O) → value k ≡ Some x → Adds (AppliedGains value fold Gives) k cs new → HasApplied x cs (fold k) new
+  adds_behind k [] new x e a = record { behind = x; value_is = ap value a ∙ e; given = refl }
+  adds_behind k (c ∷ cs) new x e a =
+      let next = a.0 in
+      let g = a.1 in
+      let r = adds_behind next cs new g.behind g.behind_is a.2 in
+      let same : g.before ≡ x = cc (g.before_is, e) in
+      record {
+        behind = r.behind;
+        value_is = r.value_is;
+        given = (g.behind, subst (λ z. Gives (fold k) z c g.behind) same g.given, subst (λ z. Behind (Gives z) g.behind cs r.behind) g.fold_is r.given);
+      }
+
+  module _ {V Q : Type 0} (CanKeep : K → Type 0) (IsOperand : V → O → Type 0) (IsPostfix : Q → G → Type 0) (f : L) where
+    -- an operand that is built, and what is kept of the postfixes behind it
+    pub tail_built : (outputs : Bool) (v : V) (qs : List Q) (x : Option O) (first k : Option K) (z : Option O) → BuiltFrom true (IsHeld value fold f) x first → MatchOption k (z ≡ None) (λ m. z ≡ value m) → Built outputs (IsOperand v) x → Built outputs (Kept (AppliedGains value fold Gives) CanKeep IsPostfix first qs) k → Built outputs (IsTail IsOperand IsPostfix (Gives f) (v, qs)) z
+    tail_built true v qs (Some a) first (Some m) z c e b d =
+        let is : a ≡ b.0 = cc (b.1) in
+        let one : m ≡ d.0 = cc (d.1) in
+        let kept = d.2 in
+        let start : kept.first ≡ c.0 = cc (kept.first_is, c.1) in
+        let held = c.2 in
+        let r = adds_behind kept.first kept.outputs d.0 a (ap value start ∙ held.value_is) kept.added in (
+          r.behind,
+          e ∙ (ap value one ∙ r.value_is),
+          record {
+            operand = a;
+            is_operand = subst (λ q. IsOperand v q) (sym is) b.2;
+            postfixes = kept.outputs;
+            are_postfixes = kept.are_outputs;
+            given = subst (λ h. Behind (Gives h) a kept.outputs r.behind) (ap fold start ∙ held.fold_is) r.given;
+          },
+        )
+    tail_built true v qs (Some a) first None z c e b d = absurd (cc (d.1))
+    tail_built true v qs None first k z c e b d = absurd (cc (b.1))
+    tail_built false v qs x first (Some m) z c e b d = absurd (cc (d))
+    tail_built false v qs x first None z c e b d = e
+
+-- where it is built, postfixes may be applied to it
+pub held_ready : {K L O : Type 0} (value : K → Option O) (fold : K → L) (CanKeep : K → Type 0) (f : L) (outputs : Bool) (P : O → Type 0) (x : Option O) (first : Option K) → ((k : K) (a : O) → value k ≡ Some a → fold k ≡ f → CanKeep k) → Built outputs P x → BuiltFrom true (IsHeld value fold f) x first → Built outputs CanKeep first
+held_ready value fold CanKeep f true P (Some a) first g b c = (c.0, c.1, g c.0 a c.2.value_is c.2.fold_is)
+held_ready value fold CanKeep f true P None first g b c = absurd (cc (b.1))
+held_ready value fold CanKeep f false P (Some a) first g b c = absurd (cc (b))
+held_ready value fold CanKeep f false P None first g b c = c
+
+-- a term's value, from the value behind its prefixes
+pub term_built : {P V Q F O G : Type 0} (IsPrefix : P → F → Type 0) (OnPrefix : F → O → O → Type 0) (IsOperand : V → O → Type 0) (IsPostfix : Q → G → Type 0) (OnPostfix : O → G → O → Type 0) (ps : List P) (t : Tail V Q) (cs : List F) (x y : O) → AllZip IsPrefix ps cs → IsTail IsOperand IsPostfix OnPostfix t x → Before OnPrefix cs x y → IsTerm IsPrefix OnPrefix IsOperand IsPostfix OnPostfix (term_of ps t) y
+term_built IsPrefix OnPrefix IsOperand IsPostfix OnPostfix ps t cs x y k h b = record {
+  behind = x;
+  is_tail = record { operand = h.operand; is_operand = h.is_operand; postfixes = h.postfixes; are_postfixes = h.are_postfixes; given = h.given };
+  prefixes = cs;
+  are_prefixes = k;
+  given = b;
+}

@@ -1,0 +1,58 @@
+use Rattle.std.proofs.Common.{◌≡◌, ℕ, length, reverse}
+use Rattle.std.specs.Prelude.{IsSome}
+use Rattle.nom_error.specs.Modes.{Built}
+use Rattle.nom_traits.specs.Input.{input_len}
+use Rattle.nom_internal.specs.Meaning.{Meaning}
+use Rattle.nom_repeat.specs.Kept.{Kept}
+use Rattle.nom_precedence.specs.Stuck.{Read}
+use Rattle.nom_precedence.specs.Expressions.{Pair, Term, pair_meaning, term_meaning}
+use Rattle.nom_precedence.specs.Operators.{HasLevel, operator_meaning}
+use Rattle.nom_precedence.specs.Steps.{MachineGains}
+use Rattle.nom_precedence.specs.Told.{IsPairOf, IsTerm}
+use Rattle.nom_precedence.specs.Values.{groups_left}
+use Rattle.nom_precedence.specs.declared.operation.Operation.{Operation}
+use Rattle.nom_precedence.specs.declared.operation.Operation.TheVariants.{Binary, Postfix, Prefix}
+use Rattle.nom_precedence.proofs.ChainShown.{Chain}
+use Rattle.nom_precedence.proofs.pairs.pairs.Given as goal
+
+-- what a pair means, by the states of the four parts and the number of levels
+abbrev pub part : (g : goal.Over) → g.P.Parser.State → g.F.Parser.State → g.Q.Parser.State → g.C.Parser.State → ℕ → Meaning g.row.I.Denot (Read (Pair g.C.Parser.Tree (Term g.P.Parser.Tree g.F.Parser.Tree g.Q.Parser.Tree))) g.row.F-Error.Denot
+part g p f q b n =
+    pair_meaning g.I.Items.seen
+    (operator_meaning g.F.Error.ParseError.errors (HasLevel (g.C.Parser.IsOutput b) (λ o. o.0)) n (g.C.Parser.meaning b))
+    (term_meaning g.I.Items.seen (g.P.Parser.meaning p) (g.F.Parser.meaning f) (g.Q.Parser.meaning q))
+
+-- an output of it, by the fold
+abbrev pub is_pair : (g : goal.Over) → g.P.Parser.State → g.F.Parser.State → g.Q.Parser.State → g.C.Parser.State → g.row.G.Denot → Pair g.C.Parser.Tree (Term g.P.Parser.Tree g.F.Parser.Tree g.Q.Parser.Tree) → (ℕ × g.row.B.Denot) × g.row.F-Output.Denot → Type 0
+is_pair g p f q b fold =
+    IsPairOf (g.C.Parser.IsOutput b)
+    (IsTerm (g.P.Parser.IsOutput p) (λ c x y. g.G.Fn.post fold (Prefix c x, tt) y) (g.F.Parser.IsOutput f) (g.Q.Parser.IsOutput q) (λ x c y. g.G.Fn.post fold (Postfix x c, tt) y))
+
+abbrev pub invariant-loop-next : goal.invariant-loop-next
+invariant-loop-next g l =
+    let p = g.P.Parser.state l.fn.prefix in
+    let f = g.F.Parser.state l.fn.operand in
+    let q = g.Q.Parser.state l.fn.postfix in
+    let b = g.C.Parser.state l.fn.binary in
+    record {
+      prefix_kept : g.P.Parser.state l.prefix ≡ p;
+      operand_kept : g.F.Parser.state l.operand ≡ f;
+      postfix_kept : g.Q.Parser.state l.postfix ≡ q;
+      binary_kept : g.C.Parser.state l.binary ≡ b;
+      collected : Chain g.I.Items.seen ((part g p f q b (length l.fn.levels)).answers g.OM.Incomplete.IsStreaming.STREAMING)
+          (λ vs. Built g.OM.Output.Mode.BUILDS
+          (Kept
+          (λ old item new.
+          MachineGains (groups_left old.levels.now) (λ d. d.0) (λ x d y z. g.G.Fn.post old.fold.now (Binary x d.1 y, tt) z) (λ m. reverse m.stack.items) (λ m. m.value) old item new
+          × (new.levels ≡ old.levels)
+          × (new.fold ≡ old.fold))
+          (λ m. IsSome m.value × ((x : Operation g.row.P-Output.Denot g.row.Q-Output.Denot g.row.B.Denot g.row.F-Output.Denot) → g.G.Fn.pre m.fold.now (x, tt)))
+          (is_pair g p f q b l.fn.fold)
+          l.fn.before
+          vs)
+          l.kept)
+          l.fn.input l.rest;
+    }
+
+abbrev pub decreases-loop-next : goal.decreases-loop-next
+decreases-loop-next g l = input_len g.I.Items.seen l.rest

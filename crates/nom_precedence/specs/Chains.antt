@@ -1,0 +1,72 @@
+-- Items of one part in turn, until one is refused. The items are read whole, with the list of their trees; or one is stuck: it
+-- consumes nothing, or is stuck itself.
+use Rattle.std.specs.Prelude.{◌≡◌, ℕ, true, false, Option, Some, None, List, zero, suc}
+use Rattle.nom_error.specs.Modes.{with_errors}
+use Rattle.nom_traits.specs.Input.{Seen}
+use Rattle.nom_internal.specs.Outcome.{Outcome}
+use Rattle.nom_internal.specs.Outcome.Outcome.{Accept, Refuse, Fail, TooLarge, Undecided}
+use Rattle.nom_internal.specs.Meaning.{Meaning}
+use Rattle.nom_internal.specs.Families.{always}
+use Rattle.nom_repeat.specs.Repeat.{Turn, Rule, repeat_meaning}
+use Rattle.nom_repeat.specs.Repeat.Turn.{Takes, Ends}
+use Rattle.nom_precedence.specs.Stuck.{Read}
+use Rattle.nom_precedence.specs.Stuck.Read.{Whole, Stuck}
+
+-- an item is taken; a stuck one, and one that consumes nothing, is the end
+abbrev pub read_turn : {V : Type 0} → Read V → ℕ → Turn V (Read (Unit {0}))
+read_turn Stuck n = Ends (Accept n Stuck)
+read_turn (Whole v) zero = Ends (Accept 0 Stuck)
+read_turn (Whole v) (suc n) = Takes (suc n) v
+
+-- a refusal ends the items with success, and all else is passed on
+abbrev pub chain_turn : {V : Type 0} → Option (Outcome (Read V)) → Turn V (Read (Unit {0}))
+chain_turn (Some (Accept n u)) = read_turn u n
+chain_turn (Some Refuse) = Ends (Accept 0 (Whole tt))
+chain_turn (Some Fail) = Ends Fail
+chain_turn (Some TooLarge) = Ends TooLarge
+chain_turn (Some (Undecided d)) = Ends (Undecided d)
+chain_turn None = Ends (Accept 0 (Whole tt))
+
+-- the errors are the part's
+abbrev pub ChainBlames : {V E : Type 0} → Option (Outcome V) → (E → Type 0) → E → Type 0
+ChainBlames (Some (Accept n u)) P e = ⊥
+ChainBlames (Some Refuse) P e = ⊥
+ChainBlames (Some Fail) P e = P e
+ChainBlames (Some TooLarge) P e = P e
+ChainBlames (Some (Undecided d)) P e = ⊥
+ChainBlames None P e = ⊥
+
+abbrev pub IfTaken : {V : Type 0} → Type 0 → Read V → ℕ → Type 0
+IfTaken Fact Stuck n = ⊥
+IfTaken Fact (Whole v) zero = ⊥
+IfTaken Fact (Whole v) (suc n) = Fact
+
+-- memory is asked for to keep an item
+abbrev pub ChainAsks : {V : Type 0} → Type 0 → Option (Outcome (Read V)) → Type 0
+ChainAsks Fact (Some (Accept n u)) = IfTaken Fact u n
+ChainAsks Fact (Some Refuse) = ⊥
+ChainAsks Fact (Some Fail) = ⊥
+ChainAsks Fact (Some TooLarge) = ⊥
+ChainAsks Fact (Some (Undecided d)) = ⊥
+ChainAsks Fact None = ⊥
+
+-- The errors of the part's refusals aren't built. Keeping an item may take memory where outputs are built.
+abbrev pub chain_rule : {I V E : Type 0} → Type 0 → Rule I (Read V) V (Read (Unit {0})) E
+chain_rule Grows = record {
+  bound = None;
+  turn = λ _ a. chain_turn a;
+  Blames = λ _ _ _ a P e. ChainBlames a P e;
+  part = λ _ mode. with_errors false mode;
+  Asks = λ mode _ a. ChainAsks ((mode.outputs ≡ true) × Grows) a;
+  IsSound = λ Part. Part;
+  IsFrugal = λ PartIs mode. PartIs (with_errors false mode) × (mode.outputs ≡ true → Grows → ⊥);
+  NeverFails = λ Part. Part;
+}
+
+-- the list of the trees, or that one is stuck
+abbrev pub chained : {V : Type 0} → List V → Read (Unit {0}) → Read (List V)
+chained vs (Whole u) = Whole vs
+chained vs Stuck = Stuck
+
+abbrev pub chain_meaning : {I A V E : Type 0} → Seen I A → Type 0 → Meaning I (Read V) E → Meaning I (Read (List V)) E
+chain_meaning w Grows m = repeat_meaning w (chain_rule Grows) chained (always m)

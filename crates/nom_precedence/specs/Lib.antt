@@ -1,0 +1,16 @@
+pub mod ChainLaws
+pub mod Chains
+pub mod Closes
+pub mod ExpressionLaws
+pub mod Expressions
+pub mod OperatorLaws
+pub mod Operators
+pub mod Premises
+pub mod Steps
+pub mod Stuck
+pub mod StuckLaws
+pub mod Told
+pub mod TreeLaws
+pub mod Trees
+pub mod ValueLaws
+pub mod Values

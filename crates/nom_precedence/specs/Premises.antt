@@ -1,0 +1,45 @@
+-- A meaning whose premises are told at once, in place of those that its definition gathers.
+use Rattle.std.specs.Prelude.{Bool}
+use Rattle.nom_error.specs.Modes.{Modes}
+use Rattle.nom_traits.specs.Input.{Seen}
+use Rattle.nom_internal.specs.Meaning.{Meaning, IsLawful, IsSteady}
+
+-- when a parser is sound, frugal, settles, and never fails
+pub record Premises : Type 1 where
+  pub IsSound : Type 0
+  pub IsFrugal : Modes → Type 0
+  pub Settles : Type 0
+  pub NeverFails : Bool → Type 0
+
+-- the same answers, errors and want of memory
+abbrev pub with_premises : {I V E : Type 0} → Premises → Meaning I V E → Meaning I V E
+with_premises p m = record {
+  IsSound = p.IsSound;
+  answers = m.answers;
+  blames = m.blames;
+  runs_out = m.runs_out;
+  IsFrugal = p.IsFrugal;
+  Settles = p.Settles;
+  NeverFails = p.NeverFails;
+}
+
+-- what is told gives what the definition gathers
+pub record Gives {I V E : Type 0} (p : Premises) (m : Meaning I V E) : Type 0 where
+  pub frugal : (mode : Modes) → p.IsFrugal mode → m.IsFrugal mode
+  pub settles : p.Settles → m.Settles
+  pub never_fails : (large : Bool) → p.NeverFails large → m.NeverFails large
+
+module _ {I A V E : Type 0} (w : Seen I A) (p : Premises) (m : Meaning I V E) where
+  pub told_lawful : Gives p m → IsLawful w m → IsLawful w (with_premises p m)
+  told_lawful g l = record {
+    within = l.within;
+    one_outcome = l.one_outcome;
+    alike = l.alike;
+    frugal = λ mode i k h. l.frugal mode i k (g.frugal mode h);
+    settles = λ h. l.settles (g.settles h);
+    blames_alike = λ h. l.blames_alike (g.settles h);
+    never_fails = λ large h. l.never_fails large (g.never_fails large h);
+  }
+
+  pub told_steady : IsSteady w m → IsSteady w (with_premises p m)
+  told_steady l = l

@@ -1,0 +1,73 @@
+-- What is told of what was read.
+use Rattle.std.specs.Prelude.{◌≡◌, ℕ, Bool, true, List, [], ◌∷◌, Option, Some, Result}
+use Rattle.std.specs.List.{AllZip}
+use Rattle.nom_error.specs.Modes.{Built, modes}
+use Rattle.nom_error.specs.declared.answer.Needed.{Needed}
+use Rattle.nom_error.specs.declared.answer.Err as Answer
+use Rattle.nom_traits.specs.Input.{Seen}
+use Rattle.nom_internal.specs.Outcome.{ShowsAnswer}
+use Rattle.nom_internal.specs.Meaning.{Meaning}
+use Rattle.nom_precedence.specs.Stuck.{Read}
+use Rattle.nom_precedence.specs.Stuck.Read.{Whole, Stuck}
+use Rattle.nom_precedence.specs.Expressions.{Term}
+use Rattle.nom_precedence.specs.Steps.{Before, Joined}
+use Rattle.nom_precedence.specs.declared.read.Read as Told
+use Rattle.nom_precedence.specs.declared.read.Read.TheVariants as Is
+
+-- what was read whole, with what is built of it; or that it is stuck
+abbrev pub IsRead : {V X : Type 0} → Bool → (V → X → Type 0) → Read V → Told.Read (Option X) → Type 0
+IsRead builds IsOutput (Whole v) (Is.Whole x) = Built builds (IsOutput v) x
+IsRead builds IsOutput (Whole v) Is.Stuck = ⊥
+IsRead builds IsOutput Stuck (Is.Whole x) = ⊥
+IsRead builds IsOutput Stuck Is.Stuck = Unit {0}
+
+-- what a part answers that may be stuck: that is told in every mode
+abbrev pub ShowsRead : {I A V X E : Type 0} → Seen I A → (V → X → Type 0) → Meaning I (Read V) E → (outputs errors streaming : Bool) → I → Result (I × Option (Told.Read (Option X))) (Answer.Err E (Option E) Needed) → Type 0
+ShowsRead w IsOutput m outputs errors streaming i r = ShowsAnswer w (IsRead outputs IsOutput) (modes true errors streaming) i (m.answers streaming i) (m.blames streaming i) (m.runs_out (modes outputs errors streaming) i) r
+
+-- postfixes are applied to a value, from left to right
+abbrev pub Behind : {X Q : Type 0} → (X → Q → X → Type 0) → X → List Q → X → Type 0
+Behind Gives x [] y = y ≡ x
+Behind {X = X} Gives x (c ∷ cs) y = (z : X) × Gives x c z × Behind Gives z cs y
+
+-- the value of an operand under the postfixes behind it
+pub record IsTail {V Q O G : Type 0} (IsOperand : V → O → Type 0) (IsPostfix : Q → G → Type 0) (OnPostfix : O → G → O → Type 0) (t : V × List Q) (y : O) : Type 0 where
+  pub operand : O
+  pub is_operand : IsOperand t.0 operand
+  pub postfixes : List G
+  pub are_postfixes : AllZip IsPostfix t.1 postfixes
+  pub given : Behind OnPostfix operand postfixes y
+
+-- and that of a term: the prefixes are applied to it, the last first
+pub record IsTerm {P V Q F O G : Type 0} (IsPrefix : P → F → Type 0) (OnPrefix : F → O → O → Type 0) (IsOperand : V → O → Type 0) (IsPostfix : Q → G → Type 0) (OnPostfix : O → G → O → Type 0) (t : Term P V Q) (y : O) : Type 0 where
+  pub behind : O
+  pub is_tail : IsTail IsOperand IsPostfix OnPostfix (t.operand, t.postfixes) behind
+  pub prefixes : List F
+  pub are_prefixes : AllZip IsPrefix t.prefixes prefixes
+  pub given : Before OnPrefix prefixes behind y
+
+-- an operator with its level
+abbrev pub IsOwn : {B H : Type 0} → (B → ℕ × H → Type 0) → ℕ × B → ℕ × H → Type 0
+IsOwn IsBinary o c = IsBinary o.1 c × (c.0 ≡ o.0)
+
+-- a value that postfixes are to be applied to, by a fold
+pub record IsHeld {K L O : Type 0} (value : K → Option O) (fold : K → L) (f : L) (x : O) (k : K) : Type 0 where
+  pub value_is : value k ≡ Some x
+  pub fold_is : fold k ≡ f
+
+-- a machine with a value and no operators, by a fold and the groupings of levels
+pub record IsStarted {K L M X C : Type 0} (stack : K → List (X × C)) (value : K → Option X) (levels : K → M) (fold : K → L) (g : M) (f : L) (x : X) (k : K) : Type 0 where
+  pub stack_is : stack k ≡ []
+  pub value_is : value k ≡ Some x
+  pub levels_is : levels k ≡ g
+  pub fold_is : fold k ≡ f
+
+-- the value that a machine has where all its operators are joined
+pub record IsMade {K L X C : Type 0} (stack : K → List (X × C)) (value : K → Option X) (fold : K → L) (Gives : L → X → C → X → X → Type 0) (k : K) (y : X) : Type 0 where
+  pub carried : X
+  pub carried_is : value k ≡ Some carried
+  pub joined : Joined (Gives (fold k)) (λ _. Unit {0}) (stack k) carried [] y
+
+-- an operator with its level, and the value of the term behind it
+abbrev pub IsPairOf : {B H T O : Type 0} → (B → ℕ × H → Type 0) → (T → O → Type 0) → (ℕ × B) × T → (ℕ × H) × O → Type 0
+IsPairOf IsBinary IsValue t o = IsOwn IsBinary t.0 o.0 × IsValue t.1 o.1

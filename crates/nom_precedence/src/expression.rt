@@ -1,0 +1,164 @@
+//! Expressions.
+ghost use Rattle.std.specs.Prelude.{◌≡◌, ℕ, List, length};
+ghost use Rattle.nom_precedence.specs.Expressions.{read_meaning, term_meaning};
+ghost use Rattle.nom_precedence.specs.Operators.{HasLevel, operator_meaning};
+ghost use Rattle.nom_precedence.specs.Told.{ShowsRead};
+ghost use Rattle.nom_precedence.specs.Values.{Stands, folding, groups_left};
+ghost use Rattle.nom_precedence.specs.declared.operation.Operation.{Operation};
+ghost use Rattle.nom_precedence.specs.declared.operation.Assoc.{Assoc};
+
+use crate::machine::{made, started};
+use crate::operation::{Assoc, Operation};
+use crate::pairs::pairs;
+use crate::read::{Read, told};
+use crate::term::term;
+use nom_error::answer::{Err, PResult};
+use nom_error::kind::ErrorKind;
+use nom_error::mode::OutputMode;
+use nom_error::value::{ParseError, refusal};
+use nom_internal::choice::close;
+use nom_internal::parser::{Parser, StreamParser};
+use nom_traits::input::{Input, Items};
+use nom_traits::view::Viewed;
+use std::alloc::Allocator;
+use std::marker::PhantomData;
+
+/// Terms with operators between them, made by `precedence`.
+#[derive(Drop)]
+pub struct Precedence<'l, A, P, F, Q, C, B, G> {
+    pub alloc: A,
+    pub levels: &'l [Assoc],
+    pub prefix: P,
+    pub operand: F,
+    pub postfix: Q,
+    pub binary: C,
+    pub fold: G,
+    pub of: PhantomData<B>,
+}
+
+impl<
+    'l,
+    I: Input,
+    A: Allocator + Copy,
+    P: Parser<I, Error = F::Error> + Drop,
+    F: Parser<I> + Drop,
+    Q: Parser<I, Error = F::Error> + Drop,
+    C: Parser<I, Output = (usize, B), Error = F::Error> + Drop,
+    B: Viewed + Drop,
+    G: Fn(Operation<P::Output, Q::Output, B, F::Output>) -> F::Output,
+> Parser<I> for Precedence<'l, A, P, F, Q, C, B, G>
+where
+    P::Output: Viewed,
+    F::Output: Viewed,
+    Q::Output: Viewed,
+{
+    ghost use Rattle.nom_precedence.specs.Expressions.{Term, Pair, precedence_meaning};
+    ghost use Rattle.nom_precedence.specs.ExpressionLaws.{precedence_lawful};
+    ghost use Rattle.nom_precedence.specs.ValueLaws.{GivesAlike};
+
+    type Output = F::Output;
+
+    type Error = F::Error;
+
+    ghost State = { P.State × F.State × Q.State × C.State × List Assoc × G };
+
+    ghost state = { λ p. (P.state p.prefix, F.state p.operand, Q.state p.postfix, C.state p.binary, p.levels.now, p.fold) };
+
+    ghost Tree = { Term P.Tree F.Tree Q.Tree × List (Pair C.Tree (Term P.Tree F.Tree Q.Tree)) };
+
+    ghost IsOutput = { λ s e y. Stands (folding (P.IsOutput s.0) (F.IsOutput s.1) (Q.IsOutput s.2) (C.IsOutput s.3) (G.post s.5)) (groups_left s.4) e.0 e.1 y };
+
+    ghost meaning = { λ s. precedence_meaning I.seen F.Error.errors ((x : Operation P.Output Q.Output B F.Output) → G.pre s.5 x) (HasLevel (C.IsOutput s.3) (λ o. o.0)) (length s.4) (P.meaning s.0) (F.meaning s.1) (Q.meaning s.2) (C.meaning s.3) };
+
+    ghost Pins = { λ s. P.Pins s.0 × F.Pins s.1 × Q.Pins s.2 × C.Pins s.3 × GivesAlike (folding (P.IsOutput s.0) (F.IsOutput s.1) (Q.IsOutput s.2) (C.IsOutput s.3) (G.post s.5)) P.Output.view Q.Output.view B.view F.Output.view };
+
+    fn process<OM: OutputMode>(&mut self, input: I) -> PResult<I, F::Output, F::Error> {
+        let (end, whole) = read::<OM, I, A, P, F, Q, B, C, G>(
+            self.alloc,
+            self.levels,
+            &mut self.prefix,
+            &mut self.operand,
+            &mut self.postfix,
+            &mut self.binary,
+            &self.fold,
+            input,
+        )?;
+        match told(whole) {
+            Read::Whole(value) => Ok((end, value)),
+            Read::Stuck => Err(refusal::<OM::Error, I, F::Error>(end, ErrorKind::Precedence)),
+        }
+    }
+
+    ghost lawful = { λ s k. precedence_lawful I.seen I.lawful F.Error.errors ((x : Operation P.Output Q.Output B F.Output) → G.pre s.5 x) (HasLevel (C.IsOutput s.3) (λ o. o.0)) (length s.4) (P.meaning s.0) (F.meaning s.1) (Q.meaning s.2) (C.meaning s.3) k.4 (P.lawful s.0 k.0) (F.lawful s.1 k.1) (Q.lawful s.2 k.2) (C.lawful s.3 k.3) };
+}
+
+impl<
+    'l,
+    I: Input,
+    A: Allocator + Copy,
+    P: StreamParser<I, Error = F::Error> + Drop,
+    F: StreamParser<I> + Drop,
+    Q: StreamParser<I, Error = F::Error> + Drop,
+    C: StreamParser<I, Output = (usize, B), Error = F::Error> + Drop,
+    B: Viewed + Drop,
+    G: Fn(Operation<P::Output, Q::Output, B, F::Output>) -> F::Output,
+> StreamParser<I> for Precedence<'l, A, P, F, Q, C, B, G> {
+    ghost use Rattle.nom_precedence.specs.ExpressionLaws.{precedence_steady};
+    ghost use Rattle.nom_precedence.specs.ValueLaws.{folding_pinned};
+
+    ghost pinned = { λ s k p. folding_pinned (P.IsOutput s.0) (F.IsOutput s.1) (Q.IsOutput s.2) (C.IsOutput s.3) (G.post s.5) P.Output.view Q.Output.view B.view F.Output.view p.4 (P.pinned s.0 k.0 p.0) (F.pinned s.1 k.1 p.1) (Q.pinned s.2 k.2 p.2) (C.pinned s.3 k.3 p.3) (groups_left s.4) };
+
+    ghost steady = { λ s k. precedence_steady I.seen I.lawful F.Error.errors ((x : Operation P.Output Q.Output B F.Output) → G.pre s.5 x) (HasLevel (C.IsOutput s.3) (λ o. o.0)) (length s.4) (P.meaning s.0) (F.meaning s.1) (Q.meaning s.2) (C.meaning s.3) k.4 (P.steady s.0 k.0) (F.steady s.1 k.1) (Q.steady s.2 k.2) (C.steady s.3 k.3) };
+}
+
+/// A first term, to whose refusal `Precedence` is added at the start, and then pairs, with the value of
+/// them all; or one is stuck.
+fn read<
+    OM: OutputMode,
+    I: Input,
+    A: Allocator + Copy,
+    P: Parser<I, Error = F::Error>,
+    F: Parser<I>,
+    Q: Parser<I, Error = F::Error>,
+    B: Drop,
+    C: Parser<I, Output = (usize, B), Error = F::Error>,
+    G: Fn(Operation<P::Output, Q::Output, B, F::Output>) -> F::Output,
+>(
+    alloc: A,
+    levels: &[Assoc],
+    prefix: &mut P,
+    operand: &mut F,
+    postfix: &mut Q,
+    binary: &mut C,
+    fold: &G,
+    input: I,
+) -> PResult<I, Read<Option<F::Output>>, F::Error>
+    requires prefix { (P.meaning (P.state prefix.old)).IsSound }
+    requires operand { (F.meaning (F.state operand.old)).IsSound }
+    requires postfix { (Q.meaning (Q.state postfix.old)).IsSound }
+    requires binary { (C.meaning (C.state binary.old)).IsSound }
+    requires fold { (x : Operation P.Output Q.Output B F.Output) → G.pre fold.now x }
+    ensures shown { ShowsRead I.seen (λ e y. Stands (folding (P.IsOutput (P.state prefix.old)) (F.IsOutput (F.state operand.old)) (Q.IsOutput (Q.state postfix.old)) (C.IsOutput (C.state binary.old)) (G.post fold.now)) (groups_left levels.now) e.0 e.1 y) (read_meaning I.seen F.Error.errors (operator_meaning F.Error.errors (HasLevel (C.IsOutput (C.state binary.old)) (λ o. o.0)) (length levels.now) (C.meaning (C.state binary.old))) (term_meaning I.seen (P.meaning (P.state prefix.old)) (F.meaning (F.state operand.old)) (Q.meaning (Q.state postfix.old)))) OM.Output.BUILDS OM.Error.BUILDS OM.Incomplete.STREAMING input result }
+    ensures prefix_kept { P.state prefix.new ≡ P.state prefix.old }
+    ensures operand_kept { F.state operand.new ≡ F.state operand.old }
+    ensures postfix_kept { Q.state postfix.new ≡ Q.state postfix.old }
+    ensures binary_kept { C.state binary.new ≡ C.state binary.old }
+{
+    let first = term::<OM, I, A, P, F, Q, B, G>(alloc, prefix, operand, postfix, fold, input);
+    let (rest, before) = close(first, input, ErrorKind::Precedence)?;
+    match told(before) {
+        Read::Stuck => Ok((rest, Some(Read::Stuck))),
+        Read::Whole(value) => {
+            let machine = started::<P::Output, Q::Output, B, F::Output, A, G>(
+                alloc, value, levels, fold,
+            );
+            let (end, after) = pairs::<OM, I, A, P, F, Q, B, C, G>(
+                alloc, levels, prefix, operand, postfix, binary, fold, rest, machine,
+            )?;
+            match told(after) {
+                Read::Stuck => Ok((end, Some(Read::Stuck))),
+                Read::Whole(machine) => Ok((end, Some(Read::Whole(made(machine))))),
+            }
+        }
+    }
+}

@@ -1,0 +1,160 @@
+//! Pairs of an operator and a term, in turn.
+ghost use Rattle.std.specs.Prelude.{◌≡◌, ℕ, true, length};
+ghost use Rattle.nom_error.specs.Modes.{Built, BuiltFrom, modes};
+ghost use Rattle.nom_internal.specs.Outcome.{ShowsAnswer};
+ghost use Rattle.nom_repeat.specs.Kept.{Kept};
+ghost use Rattle.nom_precedence.specs.Chains.{chain_meaning};
+ghost use Rattle.nom_precedence.specs.Expressions.{pair_meaning, term_meaning};
+ghost use Rattle.nom_precedence.specs.Operators.{HasLevel, operator_meaning};
+ghost use Rattle.nom_precedence.specs.Told.{ShowsRead, IsOwn, IsPairOf, IsTerm};
+ghost use Rattle.nom_precedence.specs.declared.operation.Operation.{Operation};
+ghost use Rattle.nom_precedence.specs.declared.operation.Operation.TheVariants.{Postfix, Prefix};
+
+use crate::machine::Machine;
+use crate::operation::{Assoc, Operation};
+use crate::read::{Read, told};
+use crate::term::term;
+use nom_error::answer::{Err, PResult};
+use nom_error::kind::ErrorKind;
+use nom_error::mode::{Check, Emit, OutputM, OutputMode};
+use nom_internal::parser::Parser;
+use nom_repeat::inverted::failure;
+use nom_repeat::keep::{Keep, gain};
+use nom_traits::input::{Input, Items};
+use std::alloc::Allocator;
+
+/// An operator with its level, which is built in every mode; a level that isn't there is a failure.
+fn operator<OM: OutputMode, I: Input, B: Drop, C: Parser<I, Output = (usize, B)>>(
+    binary: &mut C,
+    levels: &[Assoc],
+    input: I,
+) -> PResult<I, (usize, B), C::Error>
+    requires { (C.meaning (C.state binary.old)).IsSound }
+    ensures shown { ShowsAnswer I.seen (IsOwn (C.IsOutput (C.state binary.old))) (modes true OM.Error.BUILDS OM.Incomplete.STREAMING) input ((operator_meaning C.Error.errors (HasLevel (C.IsOutput (C.state binary.old)) (λ o. o.0)) (length levels.now) (C.meaning (C.state binary.old))).answers OM.Incomplete.STREAMING input) ((operator_meaning C.Error.errors (HasLevel (C.IsOutput (C.state binary.old)) (λ o. o.0)) (length levels.now) (C.meaning (C.state binary.old))).blames OM.Incomplete.STREAMING input) ((operator_meaning C.Error.errors (HasLevel (C.IsOutput (C.state binary.old)) (λ o. o.0)) (length levels.now) (C.meaning (C.state binary.old))).runs_out (modes OM.Output.BUILDS OM.Error.BUILDS OM.Incomplete.STREAMING) input) result }
+    ensures kept { C.state binary.new ≡ C.state binary.old }
+{
+    let (rest, read) = binary.process::<OutputM<Emit, OM::Error, OM::Incomplete>>(input)?;
+    let own = told(read);
+    if own.0 < levels.len() {
+        Ok((rest, Some(own)))
+    } else {
+        Err(failure::<I, C::Error>(input, ErrorKind::Precedence))
+    }
+}
+
+/// An operator's output with that of its term, where both are built.
+#[inline(always)]
+fn both<B: Drop, O: Drop>(operator: (usize, B), value: Option<O>) -> Option<((usize, B), O)>
+    ensures { BuiltFrom true (λ x o. o ≡ (operator, x)) value result }
+{
+    match value {
+        Some(value) => Some((operator, value)),
+        None => None,
+    }
+}
+
+/// An operator and a term.
+fn pair<
+    OM: OutputMode,
+    I: Input,
+    A: Allocator + Copy,
+    P: Parser<I, Error = F::Error>,
+    F: Parser<I>,
+    Q: Parser<I, Error = F::Error>,
+    B: Drop,
+    C: Parser<I, Output = (usize, B), Error = F::Error>,
+    G: Fn(Operation<P::Output, Q::Output, B, F::Output>) -> F::Output,
+>(
+    alloc: A,
+    levels: &[Assoc],
+    prefix: &mut P,
+    operand: &mut F,
+    postfix: &mut Q,
+    binary: &mut C,
+    fold: &G,
+    input: I,
+) -> PResult<I, Read<Option<((usize, B), F::Output)>>, F::Error>
+    requires prefix { (P.meaning (P.state prefix.old)).IsSound }
+    requires operand { (F.meaning (F.state operand.old)).IsSound }
+    requires postfix { (Q.meaning (Q.state postfix.old)).IsSound }
+    requires binary { (C.meaning (C.state binary.old)).IsSound }
+    requires fold { (x : Operation P.Output Q.Output B F.Output) → G.pre fold.now x }
+    ensures shown { ShowsRead I.seen (IsPairOf (C.IsOutput (C.state binary.old)) (IsTerm (P.IsOutput (P.state prefix.old)) (λ p x y. G.post fold.now (Prefix p x) y) (F.IsOutput (F.state operand.old)) (Q.IsOutput (Q.state postfix.old)) (λ x c y. G.post fold.now (Postfix x c) y))) (pair_meaning I.seen (operator_meaning F.Error.errors (HasLevel (C.IsOutput (C.state binary.old)) (λ o. o.0)) (length levels.now) (C.meaning (C.state binary.old))) (term_meaning I.seen (P.meaning (P.state prefix.old)) (F.meaning (F.state operand.old)) (Q.meaning (Q.state postfix.old)))) OM.Output.BUILDS OM.Error.BUILDS OM.Incomplete.STREAMING input result }
+    ensures prefix_kept { P.state prefix.new ≡ P.state prefix.old }
+    ensures operand_kept { F.state operand.new ≡ F.state operand.old }
+    ensures postfix_kept { Q.state postfix.new ≡ Q.state postfix.old }
+    ensures binary_kept { C.state binary.new ≡ C.state binary.old }
+{
+    let (behind, read) = operator::<OM, I, B, C>(binary, levels, input)?;
+    let own = told(read);
+    let (end, after) = term::<OM, I, A, P, F, Q, B, G>(
+        alloc, prefix, operand, postfix, fold, behind,
+    )?;
+    match told(after) {
+        Read::Stuck => Ok((end, Some(Read::Stuck))),
+        Read::Whole(value) => Ok((end, Some(Read::Whole(both(own, value))))),
+    }
+}
+
+/// Pairs, one after another, until the operator or the term of one is refused, with what the machine makes of
+/// them; or one is stuck.
+pub fn pairs<
+    'l,
+    OM: OutputMode,
+    I: Input,
+    A: Allocator + Copy,
+    P: Parser<I, Error = F::Error>,
+    F: Parser<I>,
+    Q: Parser<I, Error = F::Error>,
+    B: Drop,
+    C: Parser<I, Output = (usize, B), Error = F::Error>,
+    G: Fn(Operation<P::Output, Q::Output, B, F::Output>) -> F::Output,
+>(
+    alloc: A,
+    levels: &[Assoc],
+    prefix: &mut P,
+    operand: &mut F,
+    postfix: &mut Q,
+    binary: &mut C,
+    fold: &G,
+    input: I,
+    before: Option<Machine<'l, P::Output, Q::Output, B, F::Output, A, G>>,
+) -> PResult<I, Read<Option<Machine<'l, P::Output, Q::Output, B, F::Output, A, G>>>, F::Error>
+    requires prefix { (P.meaning (P.state prefix.old)).IsSound }
+    requires operand { (F.meaning (F.state operand.old)).IsSound }
+    requires postfix { (Q.meaning (Q.state postfix.old)).IsSound }
+    requires binary { (C.meaning (C.state binary.old)).IsSound }
+    requires fold { (x : Operation P.Output Q.Output B F.Output) → G.pre fold.now x }
+    requires before { Built OM.Output.BUILDS ⟦<Machine<'l, P::Output, Q::Output, B, F::Output, A, G> as Keep<((usize, B), F::Output)>>⟧.CanKeep before }
+    ensures shown { ShowsRead I.seen (Kept ⟦<Machine<'l, P::Output, Q::Output, B, F::Output, A, G> as Keep<((usize, B), F::Output)>>⟧.Gains ⟦<Machine<'l, P::Output, Q::Output, B, F::Output, A, G> as Keep<((usize, B), F::Output)>>⟧.CanKeep (IsPairOf (C.IsOutput (C.state binary.old)) (IsTerm (P.IsOutput (P.state prefix.old)) (λ p x y. G.post fold.now (Prefix p x) y) (F.IsOutput (F.state operand.old)) (Q.IsOutput (Q.state postfix.old)) (λ x c y. G.post fold.now (Postfix x c) y))) before.entry) (chain_meaning I.seen (Unit {0}) (pair_meaning I.seen (operator_meaning F.Error.errors (HasLevel (C.IsOutput (C.state binary.old)) (λ o. o.0)) (length levels.now) (C.meaning (C.state binary.old))) (term_meaning I.seen (P.meaning (P.state prefix.old)) (F.meaning (F.state operand.old)) (Q.meaning (Q.state postfix.old))))) OM.Output.BUILDS OM.Error.BUILDS OM.Incomplete.STREAMING input result }
+    ensures prefix_kept { P.state prefix.new ≡ P.state prefix.old }
+    ensures operand_kept { F.state operand.new ≡ F.state operand.old }
+    ensures postfix_kept { Q.state postfix.new ≡ Q.state postfix.old }
+    ensures binary_kept { C.state binary.new ≡ C.state binary.old }
+{
+    input.known();
+    let mut rest = input;
+    let mut kept = before;
+    loop {
+        match pair::<OutputM<OM::Output, Check, OM::Incomplete>, I, A, P, F, Q, B, C, G>(
+            alloc, levels, prefix, operand, postfix, binary, fold, rest,
+        ) {
+            Ok((next, read)) => match told(read) {
+                Read::Stuck => return Ok((next, Some(Read::Stuck))),
+                Read::Whole(item) => {
+                    if next.input_len() == rest.input_len() {
+                        return Ok((next, Some(Read::Stuck)));
+                    }
+                    if !gain(&mut kept, item) {
+                        return Err(Err::OutOfMemory);
+                    }
+                    rest = next;
+                }
+            },
+            Err(Err::Error(_)) => return Ok((rest, Some(Read::Whole(kept)))),
+            Err(Err::Failure(error)) => return Err(Err::Failure(error)),
+            Err(Err::Incomplete(needed)) => return Err(Err::Incomplete(needed)),
+            Err(Err::OutOfMemory) => return Err(Err::OutOfMemory),
+        }
+    }
+}

@@ -1,0 +1,181 @@
+//! Terms: prefixes, an operand, postfixes.
+ghost use Rattle.std.specs.Prelude.{◌≡◌, IsSome, None, true, MatchOption};
+ghost use Rattle.nom_error.specs.Modes.{BuiltFrom, BuiltFromBoth};
+ghost use Rattle.nom_precedence.specs.Expressions.{tail_meaning, term_meaning};
+ghost use Rattle.nom_precedence.specs.Steps.{AppliedGains, Before};
+ghost use Rattle.nom_precedence.specs.Told.{ShowsRead, IsHeld, IsTail, IsTerm};
+ghost use Rattle.nom_precedence.specs.declared.operation.Operation.{Operation};
+ghost use Rattle.nom_precedence.specs.declared.operation.Operation.TheVariants.{Postfix, Prefix};
+
+use crate::operation::Operation;
+use crate::read::{Read, affixes, told};
+use nom_error::answer::PResult;
+use nom_error::mode::OutputMode;
+use nom_internal::parser::Parser;
+use nom_repeat::keep::{Keep, none_yet};
+use nom_traits::input::{Input, Items};
+use std::alloc::Allocator;
+use std::marker::PhantomData;
+
+/// A value under postfixes: each is applied to it in turn.
+#[derive(Drop)]
+pub struct Applied<'a, P, B, O, G> {
+    pub value: Option<O>,
+    pub fold: &'a G,
+    pub of: PhantomData<(P, B)>,
+}
+
+impl<'a, P: Drop, Q: Drop, B: Drop, O: Drop, G: Fn(Operation<P, Q, B, O>) -> O> Keep<Q>
+    for Applied<'a, P, B, O, G> {
+    ghost Gains = { λ old x new. AppliedGains (λ k. k.value) (λ k. k.fold.now) (λ f r c y. G.post f (Postfix r c) y) old x new };
+
+    ghost CanKeep = { λ k. IsSome k.value × ((x : Operation P Q B O) → G.pre k.fold.now x) };
+
+    ghost IsFull = { λ _. ⊥ };
+
+    ghost Grows = { ⊥ };
+
+    ghost fills = { λ _ h. h };
+
+    #[inline(always)]
+    fn keep(&mut self, item: Q) -> bool {
+        match self.value.take() {
+            Some(value) => {
+                self.value = Some((self.fold)(Operation::Postfix(value, item)));
+                true
+            }
+            None => unreachable!(),
+        }
+    }
+}
+
+/// The operand's value under postfixes to come, where it is built.
+#[inline(always)]
+fn held<'a, P, B, O, G>(operand: Option<O>, fold: &'a G) -> Option<Applied<'a, P, B, O, G>>
+    ensures { BuiltFrom true (IsHeld (λ k. k.value) (λ k. k.fold.now) fold.now) operand result }
+{
+    match operand {
+        Some(value) => Some(Applied {
+            value: Some(value),
+            fold,
+            of: PhantomData,
+        }),
+        None => None,
+    }
+}
+
+/// The value under the postfixes, where it is built.
+#[inline(always)]
+fn value_of<'a, P: Drop, B: Drop, O: Drop, G>(applied: Option<Applied<'a, P, B, O, G>>) -> Option<O>
+    ensures { MatchOption applied.entry (result ≡ None) (λ k. result ≡ k.value) }
+{
+    match applied {
+        Some(applied) => applied.value,
+        None => None,
+    }
+}
+
+/// The value under prefixes, the last of them first.
+fn under<P: Drop, Q: Drop, B: Drop, O: Drop, A: Allocator, G: Fn(Operation<P, Q, B, O>) -> O>(
+    mut prefixes: Vec<P, A>,
+    value: O,
+    fold: &G,
+) -> O
+    requires { (x : Operation P Q B O) → G.pre fold.now x }
+    ensures { Before (λ p x y. G.post fold.now (Prefix p x) y) prefixes.items value result }
+{
+    let mut value = value;
+    while let Some(prefix) = prefixes.pop() {
+        value = fold(Operation::Prefix(prefix, value));
+    }
+    value
+}
+
+/// The value of a term, where it is built.
+fn finished<P: Drop, Q: Drop, B: Drop, O: Drop, A: Allocator, G: Fn(Operation<P, Q, B, O>) -> O>(
+    prefixes: Option<Vec<P, A>>,
+    value: Option<O>,
+    fold: &G,
+) -> Option<O>
+    requires { (x : Operation P Q B O) → G.pre fold.now x }
+    ensures { BuiltFromBoth true (λ ps x y. Before (λ p a b. G.post fold.now (Prefix p a) b) ps.items x y) prefixes value result }
+{
+    match (prefixes, value) {
+        (Some(prefixes), Some(value)) => Some(under(prefixes, value, fold)),
+        _ => None,
+    }
+}
+
+/// An operand, and postfixes.
+fn tail<
+    OM: OutputMode,
+    I: Input,
+    P: Drop,
+    F: Parser<I>,
+    Q: Parser<I, Error = F::Error>,
+    B: Drop,
+    G: Fn(Operation<P, Q::Output, B, F::Output>) -> F::Output,
+>(
+    operand: &mut F,
+    postfix: &mut Q,
+    fold: &G,
+    input: I,
+) -> PResult<I, Read<Option<F::Output>>, F::Error>
+    requires operand { (F.meaning (F.state operand.old)).IsSound }
+    requires postfix { (Q.meaning (Q.state postfix.old)).IsSound }
+    requires fold { (x : Operation P Q.Output B F.Output) → G.pre fold.now x }
+    ensures shown { ShowsRead I.seen (IsTail (F.IsOutput (F.state operand.old)) (Q.IsOutput (Q.state postfix.old)) (λ x c y. G.post fold.now (Postfix x c) y)) (tail_meaning I.seen (F.meaning (F.state operand.old)) (Q.meaning (Q.state postfix.old))) OM.Output.BUILDS OM.Error.BUILDS OM.Incomplete.STREAMING input result }
+    ensures operand_kept { F.state operand.new ≡ F.state operand.old }
+    ensures postfix_kept { Q.state postfix.new ≡ Q.state postfix.old }
+{
+    let (behind, value) = operand.process::<OM>(input)?;
+    let first = held::<P, B, F::Output, G>(value, fold);
+    let (end, after) = affixes::<OM, I, Q, Applied<'_, P, B, F::Output, G>>(
+        postfix, behind, first,
+    )?;
+    match told(after) {
+        Read::Stuck => Ok((end, Some(Read::Stuck))),
+        Read::Whole(applied) => Ok((end, Some(Read::Whole(value_of(applied))))),
+    }
+}
+
+/// A term: prefixes, an operand, postfixes.
+pub fn term<
+    OM: OutputMode,
+    I: Input,
+    A: Allocator + Copy,
+    P: Parser<I, Error = F::Error>,
+    F: Parser<I>,
+    Q: Parser<I, Error = F::Error>,
+    B: Drop,
+    G: Fn(Operation<P::Output, Q::Output, B, F::Output>) -> F::Output,
+>(
+    alloc: A,
+    prefix: &mut P,
+    operand: &mut F,
+    postfix: &mut Q,
+    fold: &G,
+    input: I,
+) -> PResult<I, Read<Option<F::Output>>, F::Error>
+    requires prefix { (P.meaning (P.state prefix.old)).IsSound }
+    requires operand { (F.meaning (F.state operand.old)).IsSound }
+    requires postfix { (Q.meaning (Q.state postfix.old)).IsSound }
+    requires fold { (x : Operation P.Output Q.Output B F.Output) → G.pre fold.now x }
+    ensures shown { ShowsRead I.seen (IsTerm (P.IsOutput (P.state prefix.old)) (λ p x y. G.post fold.now (Prefix p x) y) (F.IsOutput (F.state operand.old)) (Q.IsOutput (Q.state postfix.old)) (λ x c y. G.post fold.now (Postfix x c) y)) (term_meaning I.seen (P.meaning (P.state prefix.old)) (F.meaning (F.state operand.old)) (Q.meaning (Q.state postfix.old))) OM.Output.BUILDS OM.Error.BUILDS OM.Incomplete.STREAMING input result }
+    ensures prefix_kept { P.state prefix.new ≡ P.state prefix.old }
+    ensures operand_kept { F.state operand.new ≡ F.state operand.old }
+    ensures postfix_kept { Q.state postfix.new ≡ Q.state postfix.old }
+{
+    let none = none_yet::<OM::Output, P::Output, A>(alloc);
+    let (rest, before) = affixes::<OM, I, P, Vec<P::Output, A>>(prefix, input, none)?;
+    match told(before) {
+        Read::Stuck => Ok((rest, Some(Read::Stuck))),
+        Read::Whole(prefixes) => {
+            let (end, after) = tail::<OM, I, P::Output, F, Q, B, G>(operand, postfix, fold, rest)?;
+            match told(after) {
+                Read::Stuck => Ok((end, Some(Read::Stuck))),
+                Read::Whole(value) => Ok((end, Some(Read::Whole(finished(prefixes, value, fold))))),
+            }
+        }
+    }
+}

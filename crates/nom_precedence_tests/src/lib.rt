@@ -1,0 +1,5 @@
+//! Tests of operator precedence.
+#![tactic(auto)]
+
+#[cfg(test)]
+mod tests;
