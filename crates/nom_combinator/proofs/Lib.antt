@@ -2,3 +2,4 @@ pub mod Given
 pub mod Judged
 pub mod Conditional
 pub mod Contextual
+pub mod Promised

@@ -7,6 +7,7 @@ mod condition;
 mod named;
 mod outputs;
 mod piece;
+pub mod promises;
 mod verdict;
 
 pub use crate::condition::Cond;

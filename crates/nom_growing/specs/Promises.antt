@@ -57,3 +57,20 @@ module _ {I A V O E : Type 0} (w : Seen I A) (view : View O) (Pins : Type 0) (Is
   IsOfWhole beginning (Err (Error e)) s = (f : E) × (s ≡ Err (Error f))
   IsOfWhole beginning (Err (Failure e)) s = m.answers true beginning TooLarge ⊎ ((f : E) × (s ≡ Err (Failure f)))
   IsOfWhole beginning (Err OutOfMemory) s = Unit {0}
+
+  -- an error that the parser blames in either mode
+  abbrev pub IsBlamed : I → E → Type 0
+  IsBlamed x e = m.blames true x e × m.blames false x e
+
+  -- What `parse_complete` answers on x, by what `parse` answered on it: an acceptance with a rest and, where the parser pins, an output
+  -- that are seen alike; a refusal; a failure, unless it is one that what is lacking is too large; each error blamed in either mode.
+  abbrev pub Completes : I → Result (I × O) (Answer.Err E E Needed) → Result (I × O) (Answer.Err E E Needed) → Type 0
+  Completes x (Ok (j, a)) s = (k : I) × (b : O) × IsSame w j k × (Pins → view.value a ≡ view.value b) × (s ≡ Ok (k, b))
+  Completes x (Err (Incomplete k)) s = Unit {0}
+  Completes x (Err (Error e)) s = (f : E) × (s ≡ Err (Error f)) × IsBlamed x e × IsBlamed x f
+  Completes x (Err (Failure e)) s = m.answers true x TooLarge ⊎ ((f : E) × (s ≡ Err (Failure f)) × IsBlamed x e × IsBlamed x f)
+  Completes x (Err OutOfMemory) s = Unit {0}
+
+  -- of the answers of `parse` and of `parse_complete` on one input, that memory runs out aside
+  abbrev pub AnswersComplete : Type 0
+  AnswersComplete = (x : I) (r s : Result (I × O) (Answer.Err E E Needed)) → w.IsKnown x → ParsesMeaning w IsOutput m true x r → ParsesMeaning w IsOutput m false x s → (s ≡ Err OutOfMemory) ⊎ Completes x r s

@@ -1,5 +1,5 @@
 //! What every parser promises. These functions do nothing: their contracts are the promises.
-ghost use Rattle.nom_growing.specs.Promises.{StaysOnLonger, HasOneOutcome, AcceptsFronts, IsCompleteToo, NeverRunsOut, HasNoFailure, AnswersStay};
+ghost use Rattle.nom_growing.specs.Promises.{StaysOnLonger, HasOneOutcome, AcceptsFronts, IsCompleteToo, NeverRunsOut, HasNoFailure, AnswersStay, AnswersComplete};
 
 use nom_internal::parser::{Parser, StreamParser};
 use nom_traits::input::Items;
@@ -37,6 +37,15 @@ pub fn is_complete_too<I: Items, P: Parser<I>>(_parser: &P)
     requires sound { (P.meaning (P.state _parser.now)).IsSound }
     requires settles { (P.meaning (P.state _parser.now)).Settles }
     ensures { IsCompleteToo I.seen (P.meaning (P.state _parser.now)) }
+{}
+
+/// Of what `parse` and `parse_complete` answer on one input, where the parser's condition for it holds and the first is decided:
+/// both accept, with rests and, where the parser pins, outputs seen alike; both refuse; or both fail, unless the failure is one
+/// that what is lacking is too large. The error of either is one that the parser blames in both modes. That memory runs out aside.
+pub fn answers_complete<I: Items, P: StreamParser<I>>(_parser: &P)
+    requires sound { (P.meaning (P.state _parser.now)).IsSound }
+    requires settles { (P.meaning (P.state _parser.now)).Settles }
+    ensures { AnswersComplete I.seen P.Output.view (P.Parser.Pins (P.state _parser.now)) (P.IsOutput (P.state _parser.now)) (P.meaning (P.state _parser.now)) }
 {}
 
 /// Where a parser is frugal, memory never runs out.

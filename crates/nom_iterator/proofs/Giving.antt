@@ -1,18 +1,17 @@
 -- What calls of `next` give, one after another.
-use Rattle.std.proofs.Common.{◌≡◌, ℕ, true, ◌⊎◌, List, [], ◌∷◌, length, Result, Ok, Err, Option, Some, None, refl, sym, ◌∙◌, ap, subst, inl, inr}
+use Rattle.std.proofs.Common.{◌≡◌, ℕ, true, List, [], ◌∷◌, length, Result, Ok, Err, Option, Some, None, refl, sym, ◌∙◌, ap, subst, inl, inr}
 use Rattle.std.specs.Iterator.{Yields}
 use Rattle.std.specs.List.{AllZip}
 use Rattle.nom_error.specs.declared.answer.Needed.{Needed}
 use Rattle.nom_error.specs.declared.answer.Err as Answer
 use Rattle.nom_error.specs.declared.answer.Err.TheVariants as Variant
-use Rattle.nom_error.specs.Modes.{modes}
 use Rattle.nom_traits.specs.Input.{Seen, IsRest}
 use Rattle.nom_internal.specs.Outcome.{Outcome, Parses}
 use Rattle.nom_internal.specs.Outcome.Outcome.{Accept, Refuse, Fail, TooLarge, Undecided}
 use Rattle.nom_internal.specs.Outcome.ParsesAnswer.{ParseRanOut, Parsed}
 use Rattle.nom_internal.specs.Meaning.{Meaning, ParsesMeaning}
-use Rattle.nom_iterator.specs.Iterated.{Ends, AreItems}
-use Rattle.nom_iterator.specs.Steps.{Moves, Gives, Next, GivesItems, EndsThere, StaysEnded}
+use Rattle.nom_iterator.specs.Iterated.{AreItems, CanGive}
+use Rattle.nom_iterator.specs.Steps.{Moves, Gives, Next, GivesItems, EndsThere, StaysEnded, FinishesSo, IsFinish, has_ended, HoldsEnd, EndsHolding, Finishes, FinishesThere}
 use Rattle.nom_iterator.specs.declared.items.State.{State}
 use Rattle.nom_iterator.specs.declared.items.State.TheVariants.{Running, Done, Failure, Incomplete, OutOfMemory}
 
@@ -53,21 +52,18 @@ module _ {I A V O E : Type 0} (w : Seen I A) (IsOutput : V → O → Type 0) (m 
   given_item (Incomplete k) v j s e g = absurd (cc (e))
   given_item OutOfMemory v j s e g = absurd (cc (e))
 
-  abbrev EndsAt : Type 0
-  EndsAt = ((o : Outcome V) × m.answers true i o × Ends o) ⊎ m.runs_out (modes true true true) i
-
-  end_of_answer : (q : Result (I × O) (Answer.Err E E Needed)) (j : I) (s : State E) → Moves i q None j s → (o : Outcome V) → m.answers true i o → Parses w IsOutput i (m.blames true i) o q → EndsAt
+  end_of_answer : (q : Result (I × O) (Answer.Err E E Needed)) (j : I) (s : State E) → Moves i q None j s → (o : Outcome V) → m.answers true i o → Parses w IsOutput i (m.blames true i) o q → EndsHolding m i s × (j ≡ i)
   end_of_answer q j s g (Accept n t) a h = absurd (cc ((subst (λ z. Moves i z None j s) h.4 g).0))
-  end_of_answer q j s g Refuse a h = inl (Refuse, a, tt)
-  end_of_answer q j s g Fail a h = inl (Fail, a, tt)
-  end_of_answer q j s g TooLarge a h = inl (TooLarge, a, tt)
-  end_of_answer q j s g (Undecided k) a h = inl (Undecided k, a, tt)
+  end_of_answer q j s g Refuse a h = let k = subst (λ z. Moves i z None j s) h.2 g in (inl (Refuse, a, k.2), k.1)
+  end_of_answer q j s g Fail a h = let k = subst (λ z. Moves i z None j s) h.2 g in (inl (Fail, a, (h.0, h.1, k.2)), k.1)
+  end_of_answer q j s g TooLarge a h = let k = subst (λ z. Moves i z None j s) h.2 g in (inl (TooLarge, a, (h.0, h.1, k.2)), k.1)
+  end_of_answer q j s g (Undecided n) a h = let k = subst (λ z. Moves i z None j s) h.2 g in (inl (Undecided n, a, (h.0, h.1, k.2)), k.1)
 
-  end_of : (q : Result (I × O) (Answer.Err E E Needed)) (j : I) (s : State E) → Moves i q None j s → ParsesMeaning w IsOutput m true i q → EndsAt
-  end_of q j s g (ParseRanOut e h) = inr h
+  end_of : (q : Result (I × O) (Answer.Err E E Needed)) (j : I) (s : State E) → Moves i q None j s → ParsesMeaning w IsOutput m true i q → EndsHolding m i s × (j ≡ i)
+  end_of q j s g (ParseRanOut e h) = let k = subst (λ z. Moves i z None j s) e g in (inr (h, k.2), k.1)
   end_of q j s g (Parsed o a h) = end_of_answer q j s g o a h
 
-  given_end : (p : State E) (j : I) (s : State E) → p ≡ Running → Gives w IsOutput m i p None j s → EndsAt
+  given_end : (p : State E) (j : I) (s : State E) → p ≡ Running → Gives w IsOutput m i p None j s → EndsHolding m i s × (j ≡ i)
   given_end Running j s e g = end_of g.0 j s g.2 g.1
   given_end Done j s e g = absurd (cc (e))
   given_end (Failure x) j s e g = absurd (cc (e))
@@ -89,12 +85,25 @@ module _ {I A V O E : Type 0} (w : Seen I A) (IsOutput : V → O → Type 0) (m 
   ended_holds (Incomplete k) j s g e = cc (e, g.2)
   ended_holds OutOfMemory j s g e = cc (e, g.2)
 
-  ended_gives : (p : State E) (r : Option O) (j : I) (s : State E) → (p ≡ Running → ⊥) → Gives w IsOutput m i p r j s → r ≡ None
+  ended_gives : (p : State E) (r : Option O) (j : I) (s : State E) → (p ≡ Running → ⊥) → Gives w IsOutput m i p r j s → (r ≡ None) × (j ≡ i) × (s ≡ p)
   ended_gives Running r j s e g = absurd (e refl)
-  ended_gives Done r j s e g = g.0
-  ended_gives (Failure x) r j s e g = g.0
-  ended_gives (Incomplete k) r j s e g = g.0
-  ended_gives OutOfMemory r j s e g = g.0
+  ended_gives Done r j s e g = g
+  ended_gives (Failure x) r j s e g = g
+  ended_gives (Incomplete k) r j s e g = g
+  ended_gives OutOfMemory r j s e g = g
+
+-- what `finish` answers of what is held
+module _ {I V E : Type 0} (m : Meaning I V E) (i : I) where
+  ended_finishes : (o : Outcome V) (s : State E) (r : Result (I × Unit {0}) (Answer.Err E E Needed)) → HoldsEnd m i o s → IsFinish i s r → Finishes m i o r
+  ended_finishes (Accept n v) s r h f = absurd h
+  ended_finishes Refuse s r h f = subst (λ z. IsFinish i z r) h f
+  ended_finishes Fail s r h f = (h.0, h.1, subst (λ z. IsFinish i z r) h.2 f)
+  ended_finishes TooLarge s r h f = (h.0, h.1, subst (λ z. IsFinish i z r) h.2 f)
+  ended_finishes (Undecided k) s r h f = (h.0, h.1, subst (λ z. IsFinish i z r) h.2 f)
+
+  finishes_there : (s : State E) (r : Result (I × Unit {0}) (Answer.Err E E Needed)) → EndsHolding m i s → IsFinish i s r → FinishesThere m i r
+  finishes_there s r (inl h) f = inl (h.0, h.1, ended_finishes h.0 s r h.2 f)
+  finishes_there s r (inr h) f = inr (h.0, subst (λ z. IsFinish i z r) h.1 f)
 
 module _ {X S I A V O E : Type 0} (w : Seen I A) (IsOutput : S → V → O → Type 0) (m : S → Meaning I V E) (state : X → S) (place : X → I) (held : X → State E) where
   abbrev Steps : X → Option O → X → Type 0
@@ -109,18 +118,44 @@ module _ {X S I A V O E : Type 0} (w : Seen I A) (IsOutput : S → V → O → T
       let others = still_runs vs y.0 t item.runs y.2 in
       (others.0, others.1 ∙ step.kept)
 
-  pub gives_items : (s : X) → held s ≡ Running → GivesItems w IsOutput m state place held s
-  gives_items s e [] t y = ([], tt, refl)
-  gives_items s e (v ∷ vs) t y =
+  gives_running : (s : X) (vs : List O) (t : X) → held s ≡ Running → Yields Steps s vs t → (ts : List V) × AllZip (IsOutput (state s)) ts vs × AreItems w ((m (state s)).answers true) (length vs) (place s) ts
+  gives_running s [] t e y = ([], tt, refl)
+  gives_running s (v ∷ vs) t e y =
       let step : Steps s (Some v) y.0 = y.1 in
       let item = given_item w (IsOutput (state s)) (m (state s)) (place s) (held s) v (place y.0) (held y.0) e step.gives in
-      let others = gives_items y.0 item.runs vs t y.2 in
+      let others = gives_running y.0 vs t item.runs y.2 in
       (item.tree ∷ others.0, (item.output_is, subst (λ z. AllZip (IsOutput z) others.0 vs) step.kept others.1), (item.size, place y.0, item.accepted, item.rest_is, subst (λ z. AreItems w ((m z).answers true) (length vs) (place y.0) others.0) step.kept others.2))
 
-  pub ends_there : (s : X) → held s ≡ Running → EndsThere w IsOutput m state place held s
+  -- one that ended gives no items
+  gives_none : (s : X) (vs : List O) (t : X) → (held s ≡ Running → ⊥) → Yields Steps s vs t → vs ≡ []
+  gives_none s [] t e y = refl
+  gives_none s (v ∷ vs) t e y =
+      let step : Steps s (Some v) y.0 = y.1 in
+      absurd (cc ((ended_gives w (IsOutput (state s)) (m (state s)) (place s) (held s) (Some v) (place y.0) (held y.0) e step.gives).0))
+
+  gives_by : (s : X) (h : State E) → held s ≡ h → (vs : List O) (t : X) → Yields Steps s vs t → (ts : List V) × AllZip (IsOutput (state s)) ts vs × CanGive w ((m (state s)).answers true) (has_ended h) (length vs) (place s) ts
+  gives_by s Running e vs t y = gives_running s vs t e y
+  gives_by s Done e vs t y = ([], subst (λ z. AllZip (IsOutput (state s)) [] z) (sym (gives_none s vs t (λ r. cc (e, r)) y)) tt, refl)
+  gives_by s (Failure x) e vs t y = ([], subst (λ z. AllZip (IsOutput (state s)) [] z) (sym (gives_none s vs t (λ r. cc (e, r)) y)) tt, refl)
+  gives_by s (Incomplete k) e vs t y = ([], subst (λ z. AllZip (IsOutput (state s)) [] z) (sym (gives_none s vs t (λ r. cc (e, r)) y)) tt, refl)
+  gives_by s OutOfMemory e vs t y = ([], subst (λ z. AllZip (IsOutput (state s)) [] z) (sym (gives_none s vs t (λ r. cc (e, r)) y)) tt, refl)
+
+  pub gives_items : (s : X) → GivesItems w IsOutput m state place held s
+  gives_items s vs t y = gives_by s (held s) refl vs t y
+
+  pub ends_there : (s : X) → EndsThere w IsOutput m state place held s
   ends_there s e vs t u y n =
       let runs = still_runs vs s t e y in
-      subst (λ z. ((o : Outcome V) × (m z).answers true (place t) o × Ends o) ⊎ (m z).runs_out (modes true true true) (place t)) runs.1 (given_end w (IsOutput (state t)) (m (state t)) (place t) (held t) (place u) (held u) runs.0 n.gives)
+      let ends = given_end w (IsOutput (state t)) (m (state t)) (place t) (held t) (place u) (held u) runs.0 n.gives in
+      (subst (λ z. EndsHolding (m z) (place t) (held u)) runs.1 ends.0, ends.1)
 
   pub stays_ended : (s : X) → StaysEnded w IsOutput m state place held s
   stays_ended s vs t u v r y n o = ended_gives w (IsOutput (state u)) (m (state u)) (place u) (held u) r (place v) (held v) (ended_holds w (IsOutput (state t)) (m (state t)) (place t) (held t) (place u) (held u) n.gives) o.gives
+
+  pub finishes_so : (s : X) → FinishesSo w IsOutput m state place held s
+  finishes_so s e vs t y = (
+    (λ r f. subst (λ z. IsFinish (place t) z r) (still_runs vs s t e y).0 f),
+    (λ u r n f.
+        let ends = ends_there s e vs t u y n in
+        finishes_there (m (state s)) (place t) (held u) r ends.0 (subst (λ z. IsFinish z (held u) r) ends.1 f)),
+  )

@@ -1,6 +1,8 @@
 -- The items that a parser accepts one after another.
-use Rattle.std.specs.Prelude.{◌≡◌, ℕ, suc, zero, ◌<◌, ◌≤◌, true, List, [], ◌∷◌, ◌++◌, length}
+use Rattle.std.specs.Prelude.{◌≡◌, ℕ, suc, zero, ◌<◌, ◌≤◌, Bool, true, false, List, [], ◌∷◌, ◌++◌, length, map}
+use Rattle.std.specs.List.{AllZip}
 use Rattle.nom_traits.specs.Input.{Seen, IsRest, Extends, IsSame, input_len}
+use Rattle.nom_traits.specs.View.{View}
 use Rattle.nom_internal.specs.Outcome.{Outcome}
 use Rattle.nom_internal.specs.Outcome.Outcome.{Accept, Refuse, Fail, TooLarge, Undecided}
 use Rattle.nom_internal.specs.Meaning.{Meaning}
@@ -21,15 +23,33 @@ module _ {I A V : Type 0} (w : Seen I A) (Answers : I → Outcome V → Type 0) 
   AreItems (suc n) i [] = (o : Outcome V) × Answers i o × Ends o
   AreItems (suc n) i (t ∷ ts) = (k : ℕ) × (j : I) × Answers i (Accept k t) × IsRest w i k j × AreItems n j ts
 
+  -- the trees of the items that can still be given, by whether they have ended
+  abbrev pub CanGive : Bool → ℕ → I → List V → Type 0
+  CanGive true limit i ts = ts ≡ []
+  CanGive false limit i ts = AreItems limit i ts
+
 module _ {I A V E : Type 0} (w : Seen I A) (m : Meaning I V E) where
-  -- the items on an input are a beginning of those on every input that extends it
+  -- the items that can be given on an input are a beginning of those on every input that extends it
   abbrev pub ItemsStay : Type 0
-  ItemsStay = (limit : ℕ) (x y : I) (ts us : List V) → w.IsKnown x → w.IsKnown y → Extends w x y → AreItems w (m.answers true) limit x ts → AreItems w (m.answers true) limit y us → (more : List V) × (us ≡ ts ++ more)
+  ItemsStay =
+      (ended : Bool) (limit : ℕ) (x y : I) (ts us : List V) → w.IsKnown x → w.IsKnown y → Extends w x y →
+      CanGive w (m.answers true) ended limit x ts → CanGive w (m.answers true) ended limit y us → (more : List V) × (us ≡ ts ++ more)
 
   -- inputs that are seen alike have the same items, and no others
   abbrev pub ItemsAreOne : Type 0
-  ItemsAreOne = (limit : ℕ) (x y : I) (ts us : List V) → w.IsKnown x → w.IsKnown y → IsSame w x y → AreItems w (m.answers true) limit x ts → AreItems w (m.answers true) limit y us → ts ≡ us
+  ItemsAreOne =
+      (ended : Bool) (limit : ℕ) (x y : I) (ts us : List V) → w.IsKnown x → w.IsKnown y → IsSame w x y →
+      CanGive w (m.answers true) ended limit x ts → CanGive w (m.answers true) ended limit y us → ts ≡ us
 
   -- where each acceptance consumes something, there are no more items than the input is long
   abbrev pub ItemsFit : Type 0
-  ItemsFit = ((i : I) (k : ℕ) (t : V) → m.answers true i (Accept k t) → 0 < k) → (limit : ℕ) (x : I) (ts : List V) → AreItems w (m.answers true) limit x ts → length ts ≤ input_len w x
+  ItemsFit =
+      ((i : I) (k : ℕ) (t : V) → m.answers true i (Accept k t) → 0 < k) → (ended : Bool) (limit : ℕ) (x : I) (ts : List V) →
+      CanGive w (m.answers true) ended limit x ts → length ts ≤ input_len w x
+
+  -- Of the outputs that are given for the items on an input and on one that extends it, the first are seen alike, where the parser pins.
+  abbrev pub OutputsStay : {O : Type 0} → View O → (Pins : Type 0) → (V → O → Type 0) → Type 0
+  OutputsStay {O} view Pins IsOutput =
+      (ended : Bool) (limit : ℕ) (x y : I) (ts us : List V) (vs vs' : List O) → w.IsKnown x → w.IsKnown y → Extends w x y →
+      CanGive w (m.answers true) ended limit x ts → CanGive w (m.answers true) ended limit y us →
+      AllZip IsOutput ts vs → AllZip IsOutput us vs' → Pins → (more : List view.Value) × (map view.value vs' ≡ map view.value vs ++ more)

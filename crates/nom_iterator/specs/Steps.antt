@@ -1,15 +1,17 @@
 -- What `next` and `finish` answer, by the place that is reached and by what is held.
-use Rattle.std.specs.Prelude.{◌≡◌, true, ◌⊎◌, List, length, Result, Ok, Err, Option, Some, None}
+use Rattle.std.specs.Prelude.{◌≡◌, Bool, true, false, ◌⊎◌, List, length, Result, Ok, Err, Option, Some, None}
 use Rattle.std.specs.Iterator.{Yields}
 use Rattle.std.specs.List.{AllZip}
+use Rattle.nom_error.specs.Answers.{size_of}
 use Rattle.nom_error.specs.Modes.{modes}
 use Rattle.nom_error.specs.declared.answer.Needed.{Needed}
 use Rattle.nom_error.specs.declared.answer.Err as Answer
 use Rattle.nom_error.specs.declared.answer.Err.TheVariants as Variant
 use Rattle.nom_traits.specs.Input.{Seen}
 use Rattle.nom_internal.specs.Outcome.{Outcome}
+use Rattle.nom_internal.specs.Outcome.Outcome.{Accept, Refuse, Fail, TooLarge, Undecided}
 use Rattle.nom_internal.specs.Meaning.{Meaning, ParsesMeaning}
-use Rattle.nom_iterator.specs.Iterated.{Ends, AreItems}
+use Rattle.nom_iterator.specs.Iterated.{CanGive}
 use Rattle.nom_iterator.specs.declared.items.State.{State}
 use Rattle.nom_iterator.specs.declared.items.State.TheVariants as Held
 
@@ -47,19 +49,64 @@ IsFinish i (Held.Failure e) r = r ≡ Err (Variant.Failure e)
 IsFinish i (Held.Incomplete k) r = r ≡ Err (Variant.Incomplete k)
 IsFinish i Held.OutOfMemory r = r ≡ Err Variant.OutOfMemory
 
+-- the items have ended
+abbrev pub has_ended : {E : Type 0} → State E → Bool
+has_ended Held.Running = false
+has_ended Held.Done = true
+has_ended (Held.Failure e) = true
+has_ended (Held.Incomplete k) = true
+has_ended Held.OutOfMemory = true
+
+module _ {I V E : Type 0} (m : Meaning I V E) (i : I) where
+  -- what is held where the items end at i with an outcome
+  abbrev pub HoldsEnd : Outcome V → State E → Type 0
+  HoldsEnd (Accept n v) s = ⊥
+  HoldsEnd Refuse s = s ≡ Held.Done
+  HoldsEnd Fail s = (e : E) × m.blames true i e × (s ≡ Held.Failure e)
+  HoldsEnd TooLarge s = (e : E) × m.blames true i e × (s ≡ Held.Failure e)
+  HoldsEnd (Undecided k) s = (needed : Needed) × (size_of needed ≡ k) × (s ≡ Held.Incomplete needed)
+
+  -- the items end at i, since something else than an acceptance is answered there, or since memory runs out: then that is held
+  abbrev pub EndsHolding : State E → Type 0
+  EndsHolding s = ((o : Outcome V) × m.answers true i o × HoldsEnd o s) ⊎ (m.runs_out (modes true true true) i × (s ≡ Held.OutOfMemory))
+
+  -- what `finish` answers where the items ended at i with an outcome
+  abbrev pub Finishes : Outcome V → Result (I × Unit {0}) (Answer.Err E E Needed) → Type 0
+  Finishes (Accept n v) r = ⊥
+  Finishes Refuse r = r ≡ Ok (i, tt)
+  Finishes Fail r = (e : E) × m.blames true i e × (r ≡ Err (Variant.Failure e))
+  Finishes TooLarge r = (e : E) × m.blames true i e × (r ≡ Err (Variant.Failure e))
+  Finishes (Undecided k) r = (needed : Needed) × (size_of needed ≡ k) × (r ≡ Err (Variant.Incomplete needed))
+
+  -- and where they ended there
+  abbrev pub FinishesThere : Result (I × Unit {0}) (Answer.Err E E Needed) → Type 0
+  FinishesThere r = ((o : Outcome V) × m.answers true i o × Finishes o r) ⊎ (m.runs_out (modes true true true) i × (r ≡ Err Variant.OutOfMemory))
+
 -- iterators X, by the parser's state, the place reached and what is held
 module _ {X S I A V O E : Type 0} (w : Seen I A) (IsOutput : S → V → O → Type 0) (m : S → Meaning I V E) (state : X → S) (place : X → I) (held : X → State E) where
   abbrev pub Next : X → Option O → X → Type 0
   Next s r t = IsStep w (IsOutput (state s)) (m (state s)) (state s) (state t) (place s) (held s) r (place t) (held t)
 
-  -- What calls of `next` give, from one that runs: the outputs of items, each begun where the one before ended.
+  -- What calls of `next` give: the outputs of items, each begun where the one before ended, and none after they ended.
   abbrev pub GivesItems : X → Type 0
-  GivesItems s = (vs : List O) (t : X) → Yields Next s vs t → (ts : List V) × AllZip (IsOutput (state s)) ts vs × AreItems w ((m (state s)).answers true) (length vs) (place s) ts
+  GivesItems s =
+      (vs : List O) (t : X) → Yields Next s vs t →
+      (ts : List V) × AllZip (IsOutput (state s)) ts vs × CanGive w ((m (state s)).answers true) (has_ended (held s)) (length vs) (place s) ts
 
-  -- A call that gives nothing stands at a place where something else than an acceptance is answered, or where memory runs out.
+  -- A call that gives nothing, of one that ran, stands at a place where something else than an acceptance is answered, or where memory
+  -- runs out; that is held then, at this place.
   abbrev pub EndsThere : X → Type 0
-  EndsThere s = (vs : List O) (t u : X) → Yields Next s vs t → Next t None u → ((o : Outcome V) × (m (state s)).answers true (place t) o × Ends o) ⊎ (m (state s)).runs_out (modes true true true) (place t)
+  EndsThere s =
+      held s ≡ Held.Running → (vs : List O) (t u : X) → Yields Next s vs t → Next t None u → EndsHolding (m (state s)) (place t) (held u) × (place u ≡ place t)
 
-  -- and from then on nothing is given
+  -- and from then on nothing is given, and all stays
   abbrev pub StaysEnded : X → Type 0
-  StaysEnded s = (vs : List O) (t u v : X) (r : Option O) → Yields Next s vs t → Next t None u → Next u r v → r ≡ None
+  StaysEnded s =
+      (vs : List O) (t u v : X) (r : Option O) → Yields Next s vs t → Next t None u → Next u r v → (r ≡ None) × (place v ≡ place u) × (held v ≡ held u)
+
+  -- What `finish` answers: as long as items are given, the place that is reached; and after a call that gave nothing, by what ended them.
+  abbrev pub FinishesSo : X → Type 0
+  FinishesSo s =
+      held s ≡ Held.Running → (vs : List O) (t : X) → Yields Next s vs t →
+      ((r : Result (I × Unit {0}) (Answer.Err E E Needed)) → IsFinish (place t) (held t) r → r ≡ Ok (place t, tt))
+      × ((u : X) (r : Result (I × Unit {0}) (Answer.Err E E Needed)) → Next t None u → IsFinish (place u) (held u) r → FinishesThere (m (state s)) (place t) r)

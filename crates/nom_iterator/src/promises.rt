@@ -1,8 +1,6 @@
 //! What the items of every parser promise. These functions do nothing: their contracts are the promises.
-ghost use Rattle.std.specs.Prelude.{◌≡◌};
-ghost use Rattle.nom_iterator.specs.declared.items.State.TheVariants.{Running};
-ghost use Rattle.nom_iterator.specs.Iterated.{ItemsAreOne, ItemsFit, ItemsStay};
-ghost use Rattle.nom_iterator.specs.Steps.{GivesItems, EndsThere, StaysEnded};
+ghost use Rattle.nom_iterator.specs.Iterated.{ItemsAreOne, ItemsFit, ItemsStay, OutputsStay};
+ghost use Rattle.nom_iterator.specs.Steps.{GivesItems, EndsThere, FinishesSo, StaysEnded};
 
 use crate::items::ParserIterator;
 use nom_error::value::ParseError;
@@ -10,10 +8,11 @@ use nom_internal::parser::{Parser, StreamParser};
 use nom_traits::input::Items;
 
 /// The items that can be given on an input, up to any limit, are a beginning of those on every input that
-/// extends it.
+/// extends it, and where the parser pins, so are their outputs, as they are seen.
 pub fn items_stay<I: Items, P: StreamParser<I>>(_parser: &P)
     requires { (P.meaning (P.state _parser.now)).IsSound }
-    ensures { ItemsStay I.seen (P.meaning (P.state _parser.now)) }
+    ensures items { ItemsStay I.seen (P.meaning (P.state _parser.now)) }
+    ensures outputs { OutputsStay I.seen (P.meaning (P.state _parser.now)) P.Output.view (P.Parser.Pins (P.state _parser.now)) (P.IsOutput (P.state _parser.now)) }
 {}
 
 /// The items that can be given on an input, up to any limit, are those on every input that is seen alike.
@@ -28,15 +27,24 @@ pub fn items_fit<I: Items, P: Parser<I>>(_parser: &P)
     ensures { ItemsFit I.seen (P.meaning (P.state _parser.now)) }
 {}
 
-/// What calls of `next` give are the outputs of items, each begun where the one before ended. A call gives
-/// nothing only where the parser answers something else than an acceptance, or where memory runs out; and
-/// from then on nothing is given.
+/// What calls of `next` give are the outputs of items, each begun where the one before ended. Of an iterator that
+/// ran, a call gives nothing only where the parser answers something else than an acceptance, or where memory runs
+/// out, and that is held; from then on nothing is given, and all stays.
 pub fn gives_items<I: Items, E: ParseError<I>, F: Parser<I, Error = E> + Drop>(
     _iterator: &ParserIterator<I, E, F>,
 )
-    requires sound { (F.meaning (F.state _iterator.now.parser)).IsSound }
-    requires runs { _iterator.now.state ≡ Running }
+    requires { (F.meaning (F.state _iterator.now.parser)).IsSound }
     ensures items { GivesItems I.seen F.IsOutput F.meaning (λ s. F.state s.parser) (λ s. s.input) (λ s. s.state) _iterator.now }
     ensures ends { EndsThere I.seen F.IsOutput F.meaning (λ s. F.state s.parser) (λ s. s.input) (λ s. s.state) _iterator.now }
     ensures stays { StaysEnded I.seen F.IsOutput F.meaning (λ s. F.state s.parser) (λ s. s.input) (λ s. s.state) _iterator.now }
+{}
+
+/// Of an iterator that runs: as long as items are given, `finish` answers the place that is reached. After a call that
+/// gave nothing it answers the same place where the parser refuses there, and else the parser's failure, what it
+/// needs, or that memory ran out.
+pub fn finishes_so<I: Items, E: ParseError<I>, F: Parser<I, Error = E> + Drop>(
+    _iterator: &ParserIterator<I, E, F>,
+)
+    requires { (F.meaning (F.state _iterator.now.parser)).IsSound }
+    ensures { FinishesSo I.seen F.IsOutput F.meaning (λ s. F.state s.parser) (λ s. s.input) (λ s. s.state) _iterator.now }
 {}

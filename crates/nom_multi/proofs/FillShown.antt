@@ -72,33 +72,33 @@ module _ {V T : Type 0} (P : V → T → Type 0) where
   holds_more false old vs v mid new count (Some x) h c l b p = absurd (none_some x (sym b))
   holds_more false old vs v mid new count None h c l b p = p ∙ h
 
-module _ {I A V E : Type 0} {w : Seen I A} (m : Meaning I V E) (n : ℕ) (mode : Modes) {Held : List V → Type 0} {i j : I} (c : Collected w (TurnsBy (Some n) (item_turn (exact_limits n)) (λ _. m.answers mode.streaming)) Held i j) where
+module _ {I A V E : Type 0} {w : Seen I A} (m : Meaning I V E) (n : ℕ) (mode : Modes) {RanOut : Type 0} {Held : List V → Type 0} {i j : I} (c : Collected w (TurnsBy (Some n) (item_turn (exact_limits n)) (λ _. m.answers mode.streaming)) Held i j) where
   -- the buffer is full
-  pub stops_full : (length c.trees < n → ⊥) → Stops m n mode (length c.trees) j
+  pub stops_full : (length c.trees < n → ⊥) → Stops m n mode RanOut (length c.trees) j
   stops_full h = inl (Accept 0 tt, record { reply = None; replied = h; fact = refl })
 
   module _ (below : length c.trees < n) {X : Type 0} {IsItem : V → X → Type 0} {f : Answer.Err E (Option E) Needed} where
-    pub stops_refused : {x : Option E} → f ≡ Error x → ShowsMeaning w IsItem m mode j (Err f) → Stops m n mode (length c.trees) j
+    pub stops_refused : {x : Option E} → f ≡ Error x → ShowsMeaning w IsItem m mode j (Err f) → Stops m n mode RanOut (length c.trees) j
     stops_refused e h = inl (Refuse, record { reply = Some Refuse; replied = (below, part_refused e h); fact = ap (λ z. refused_turn z) (sym (lt-ltb (length c.trees) n below)) })
 
-    pub stops_failed : {x : E} → f ≡ Failure x → ShowsMeaning w IsItem m mode j (Err f) → Stops m n mode (length c.trees) j
+    pub stops_failed : {x : E} → f ≡ Failure x → ShowsMeaning w IsItem m mode j (Err f) → Stops m n mode RanOut (length c.trees) j
     stops_failed e h = by (part_failed e h).0
       where
-        by : m.answers mode.streaming j Fail ⊎ m.answers mode.streaming j TooLarge → Stops m n mode (length c.trees) j
+        by : m.answers mode.streaming j Fail ⊎ m.answers mode.streaming j TooLarge → Stops m n mode RanOut (length c.trees) j
         by (inl a) = inl (Fail, record { reply = Some Fail; replied = (below, a); fact = refl })
         by (inr a) = inl (TooLarge, record { reply = Some TooLarge; replied = (below, a); fact = refl })
 
-    pub stops_undecided : {k : Needed} → f ≡ Incomplete k → ShowsMeaning w IsItem m mode j (Err f) → Stops m n mode (length c.trees) j
+    pub stops_undecided : {k : Needed} → f ≡ Incomplete k → ShowsMeaning w IsItem m mode j (Err f) → Stops m n mode RanOut (length c.trees) j
     stops_undecided {k = k} e h = inl (Undecided (size_of k), record { reply = Some (Undecided (size_of k)); replied = (below, part_lacks e h); fact = refl })
 
-    pub stops_without_memory : f ≡ OutOfMemory → ShowsMeaning w IsItem m mode j (Err f) → Stops m n mode (length c.trees) j
-    stops_without_memory e h = inr (part_ran_out e h)
+    pub stops_without_memory : f ≡ OutOfMemory → ShowsMeaning w IsItem m mode j (Err f) → RanOut → Stops m n mode RanOut (length c.trees) j
+    stops_without_memory e h r = inr (part_ran_out e h, r)
 
 -- what the buffer holds where the items stop
-pub filled : {I A V T E : Type 0} {w : Seen I A} {P : V → T → Type 0} {m : Meaning I V E} {mode : Modes} {i j : I} {old new : List T} {Counted : List V → Type 0} (c : Collected w (TurnsBy (Some (length old)) (item_turn (exact_limits (length old))) (λ _. m.answers mode.streaming)) (λ vs. Holds P mode.outputs old vs new × Counted vs) i j) → Stops m (length old) mode (length c.trees) j → IsFilled w P m mode i old new
-filled {w = w} {m = m} {mode = mode} {i = i} {j = j} {old = old} c h = record {
+pub filled : {I A V T E : Type 0} {w : Seen I A} {P : V → T → Type 0} {m : Meaning I V E} {mode : Modes} {i j : I} {old new : List T} {Counted : List V → Type 0} {RanOut : Type 0} (c : Collected w (TurnsBy (Some (length old)) (item_turn (exact_limits (length old))) (λ _. m.answers mode.streaming)) (λ vs. Holds P mode.outputs old vs new × Counted vs) i j) → Stops m (length old) mode RanOut (length c.trees) j → IsFilled w P m mode i old new RanOut
+filled {w = w} {m = m} {mode = mode} {i = i} {j = j} {old = old} {RanOut = RanOut} c h = record {
   trees = c.trees;
   taken = c.taken;
-  pieces = pieces_end w (TurnsBy (Some (length old)) (item_turn (exact_limits (length old))) (λ _. m.answers mode.streaming)) (Stops m (length old) mode) j (length c.trees) h 0 i c.trees c.taken (omega arith) c.pieces;
+  pieces = pieces_end w (TurnsBy (Some (length old)) (item_turn (exact_limits (length old))) (λ _. m.answers mode.streaming)) (Stops m (length old) mode RanOut) j (length c.trees) h 0 i c.trees c.taken (omega arith) c.pieces;
   holds = c.held.0;
 }

@@ -1,6 +1,9 @@
 -- Items in a buffer.
-use Rattle.std.specs.Prelude.{◌≡◌, ℕ, Bool, true, false, Option, Some, None, List, ◌++◌, ◌⊎◌, drop, length, set}
+use Rattle.std.specs.Prelude.{◌≡◌, ℕ, Bool, true, false, Option, Some, None, Result, Err, List, ◌++◌, ◌⊎◌, drop, length, set}
 use Rattle.std.specs.List.{AllZip}
+use Rattle.nom_error.specs.declared.answer.Needed.{Needed}
+use Rattle.nom_error.specs.declared.answer.Err as Answer
+use Rattle.nom_error.specs.declared.answer.Err.TheVariants.{OutOfMemory}
 use Rattle.nom_error.specs.Errors.{Errors}
 use Rattle.nom_traits.specs.Input.{Seen}
 use Rattle.nom_internal.specs.Meaning.{Meaning}
@@ -24,16 +27,23 @@ abbrev pub Holds : {V T : Type 0} → (V → T → Type 0) → Bool → List T �
 Holds {T = T} IsOutput true old vs new = (xs : List T) × AllZip IsOutput vs xs × (new ≡ xs ++ drop (length xs) old)
 Holds IsOutput false old vs new = new ≡ old
 
--- no further item is accepted: the buffer is full, or the part answers otherwise, or memory runs out in it
-abbrev pub Stops : {I V E : Type 0} → Meaning I V E → ℕ → Modes → ℕ → I → Type 0
-Stops {V = V} m n mode k j = ((o : Outcome (Unit {0})) × TurnsBy (Some n) (item_turn (exact_limits n)) (λ _. m.answers mode.streaming) k j (Ends o)) ⊎ m.runs_out mode j
+-- No further item is accepted: the buffer is full, or the part answers otherwise, or memory runs out in it, which is then the answer
+-- of the whole.
+abbrev pub Stops : {I V E : Type 0} → Meaning I V E → ℕ → Modes → (RanOut : Type 0) → ℕ → I → Type 0
+Stops {V = V} m n mode RanOut k j =
+    ((o : Outcome (Unit {0})) × TurnsBy (Some n) (item_turn (exact_limits n)) (λ _. m.answers mode.streaming) k j (Ends o))
+    ⊎ (m.runs_out mode j × RanOut)
 
--- What a buffer holds afterwards, whatever was answered: the outputs of all items that were accepted in turn, as many as it has
--- room for.
-pub record IsFilled {I A V T E : Type 0} (w : Seen I A) (IsOutput : V → T → Type 0) (m : Meaning I V E) (mode : Modes) (i : I) (old new : List T) : Type 0 where
+-- that memory ran out is answered
+abbrev pub IsRanOut : {I O E : Type 0} → Result (I × Option O) (Answer.Err E (Option E) Needed) → Type 0
+IsRanOut r = r ≡ Err OutOfMemory
+
+-- What a buffer holds afterwards, by whether it was answered that memory ran out: the outputs of all items that were accepted in turn,
+-- as many as it has room for.
+pub record IsFilled {I A V T E : Type 0} (w : Seen I A) (IsOutput : V → T → Type 0) (m : Meaning I V E) (mode : Modes) (i : I) (old new : List T) (RanOut : Type 0) : Type 0 where
   pub trees : List V
   pub taken : ℕ
-  pub pieces : Pieces w (TurnsBy (Some (length old)) (item_turn (exact_limits (length old))) (λ _. m.answers mode.streaming)) (Stops m (length old) mode) 0 i trees taken
+  pub pieces : Pieces w (TurnsBy (Some (length old)) (item_turn (exact_limits (length old))) (λ _. m.answers mode.streaming)) (Stops m (length old) mode RanOut) 0 i trees taken
   pub holds : Holds IsOutput mode.outputs old trees new
 
 -- an item is written at a place

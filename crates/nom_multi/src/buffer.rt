@@ -2,7 +2,7 @@
 ghost use Rattle.std.specs.Prelude.{◌≡◌, ◌<◌, ℕ, List, length};
 ghost use Rattle.nom_error.specs.Modes.{Built, modes};
 ghost use Rattle.nom_internal.specs.Meaning.{ShowsMeaning};
-ghost use Rattle.nom_multi.specs.Fill.{fill_meaning, IsDone, IsFilled, IsPut};
+ghost use Rattle.nom_multi.specs.Fill.{fill_meaning, IsDone, IsFilled, IsPut, IsRanOut};
 
 use nom_error::answer::{Err, PResult};
 use nom_error::kind::ErrorKind;
@@ -10,7 +10,7 @@ use nom_error::mode::{Mode, OutputM, OutputMode};
 use nom_error::value::ParseError;
 use nom_internal::choice::close_error;
 use nom_internal::parser::{Parser, StreamParser};
-use nom_traits::input::{Input, Items};
+use nom_traits::input::Items;
 use nom_traits::view::Viewed;
 
 /// Items in a buffer, as many as it is long; made by `fill`.
@@ -20,7 +20,7 @@ pub struct Fill<'a, F, T> {
     pub buffer: &'a mut [T],
 }
 
-impl<'a, I: Input, T: Drop, F: Parser<I, Output = T> + Drop> Parser<I> for Fill<'a, F, T> {
+impl<'a, I: Items, T: Drop, F: Parser<I, Output = T> + Drop> Parser<I> for Fill<'a, F, T> {
     ghost use Rattle.nom_multi.specs.FillLaws.{fill_lawful};
 
     type Output = ();
@@ -47,7 +47,7 @@ impl<'a, I: Input, T: Drop, F: Parser<I, Output = T> + Drop> Parser<I> for Fill<
     ghost lawful = { λ s k. fill_lawful I.seen I.lawful F.Error.errors s.1 (F.meaning s.0) (F.lawful s.0 k) };
 }
 
-impl<'a, I: Input, T: Viewed + Drop, F: StreamParser<I, Output = T> + Drop> StreamParser<I>
+impl<'a, I: Items, T: Viewed + Drop, F: StreamParser<I, Output = T> + Drop> StreamParser<I>
     for Fill<'a, F, T> {
     ghost use Rattle.nom_multi.specs.FillLaws.{done_pinned, fill_steady};
 
@@ -59,7 +59,7 @@ impl<'a, I: Input, T: Viewed + Drop, F: StreamParser<I, Output = T> + Drop> Stre
 /// Runs a parser as often as a buffer is long, and writes its outputs at the front of the buffer, one
 /// behind the other, where outputs are built. What was written stays, whatever is answered.
 #[inline(always)]
-pub fn fill_buffer<OM: OutputMode, I: Input, T: Drop, F: Parser<I, Output = T>>(
+pub fn fill_buffer<OM: OutputMode, I: Items, T: Drop, F: Parser<I, Output = T>>(
     parser: &mut F,
     buffer: &mut [T],
     input: I,
@@ -68,7 +68,7 @@ pub fn fill_buffer<OM: OutputMode, I: Input, T: Drop, F: Parser<I, Output = T>>(
     ensures shown { ShowsMeaning I.seen IsDone (fill_meaning I.seen F.Error.errors (length buffer.old) (F.meaning (F.state parser.old))) (modes OM.Output.BUILDS OM.Error.BUILDS OM.Incomplete.STREAMING) input result }
     ensures kept { F.state parser.new ≡ F.state parser.old }
     ensures long { length buffer.new ≡ length buffer.old }
-    ensures filled { IsFilled I.seen (F.IsOutput (F.state parser.old)) (F.meaning (F.state parser.old)) (modes OM.Output.BUILDS OM.Error.BUILDS OM.Incomplete.STREAMING) input buffer.old buffer.new }
+    ensures filled { IsFilled I.seen (F.IsOutput (F.state parser.old)) (F.meaning (F.state parser.old)) (modes OM.Output.BUILDS OM.Error.BUILDS OM.Incomplete.STREAMING) input buffer.old buffer.new (IsRanOut result) }
 {
     input.known();
     let mut rest = input;

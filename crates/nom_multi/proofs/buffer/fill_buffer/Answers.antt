@@ -84,7 +84,7 @@ returns-in-Err-OutOfMemory-clause-filled g c =
     let i = c.loop-count.invariant in
     let part = shown_at g.F.Parser.IsOutput g.F.Parser.meaning i.state_kept c.in-Err-OutOfMemory.ensures.shown in
     let below = fits c.loop-count-test.true i.length_kept i.collected.held.1 in
-    filled i.collected (stops_without_memory (g.F.Parser.meaning (g.F.Parser.state c.args.parser.now)) _ _ i.collected below c.in-Err-OutOfMemory.field-0-is part)
+    filled i.collected (stops_without_memory (g.F.Parser.meaning (g.F.Parser.state c.args.parser.now)) _ _ i.collected below c.in-Err-OutOfMemory.field-0-is part refl)
 
 pub returns-clause-shown : goal.returns-clause-shown
 returns-clause-shown g c =
