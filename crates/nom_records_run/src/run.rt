@@ -1,6 +1,6 @@
 //! The whole run over a file of records.
 ghost use Rattle.std.specs.Prelude.{◌≡◌, ◌⊎◌, IfOk, IfErr, Err};
-ghost use Rattle.nom_run.specs.Stream.{CutAbove, Falls, MatchRunError, Reported, Stopped, WriteFailed, one_more};
+ghost use Rattle.nom_run.specs.Stream.{CanGrow, CutAbove, Falls, MatchRunError, Reported, Stopped, WriteFailed, one_more};
 ghost use Rattle.nom_records_run.specs.Report.{IsReport};
 
 use crate::report::Records;
@@ -14,7 +14,8 @@ use std::alloc::Allocator;
 ///
 /// `Usage` where a cut is below the one before, before anything is read, or above the length, after
 /// reading. A failed call is not tried again, and a write that takes no byte is a failure. The whole
-/// text is built before its first byte is written.
+/// text is built before its first byte is written. `OutOfMemory` only where something could grow: some
+/// bytes were read, or the source came to its end and there is a report to build.
 pub fn run<A: Allocator + Copy, S: Source, W: Sink>(
     alloc: A,
     source: &mut S,
@@ -30,7 +31,8 @@ pub fn run<A: Allocator + Copy, S: Source, W: Sink>(
         (Stopped IsReport (S.left source.old) (S.left source.new) (W.held sink.old) (W.held sink.new) cuts.now
         × (S.failures source.new ≡ S.failures source.old)
         × WriteFailed (W.failures sink.old) (W.failures sink.new) (W.stalls sink.old) (W.stalls sink.new))
-        ((sink.new ≡ sink.old) × (S.failures source.new ≡ S.failures source.old))
+        ((sink.new ≡ sink.old) × (S.failures source.new ≡ S.failures source.old)
+        × CanGrow (S.left source.old) (S.left source.new) cuts.now)
         ((sink.new ≡ sink.old) × (S.failures source.new ≡ S.failures source.old)
         × (((source.new ≡ source.old) × Falls cuts.now) ⊎ CutAbove (S.left source.old) (S.left source.new) cuts.now))) }
 {

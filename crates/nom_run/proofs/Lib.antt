@@ -3,3 +3,4 @@ pub mod Known
 pub mod Reported
 pub mod Told
 pub mod WriteEnds
+pub mod Numbers

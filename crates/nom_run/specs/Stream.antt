@@ -74,6 +74,17 @@ pub record CutAbove (left left' : Option (List ℕ)) (cuts : List ℕ) : Type 0 
   pub whole : ReadWhole left left' bytes
   pub above : SomeAbove cuts (length bytes)
 
+-- the source gave some bytes
+pub record ReadSome (left left' : Option (List ℕ)) : Type 0 where
+  pub bytes : List ℕ
+  pub read : Consumes left left' bytes
+  pub some : 0 < length bytes
+
+-- Where memory can run out: some bytes were read, or the source was read to its end and no cut lies above what was read, so
+-- that there is a report to build.
+abbrev pub CanGrow : (left left' : Option (List ℕ)) → (cuts : List ℕ) → Type 0
+CanGrow left left' cuts = ReadSome left left' ⊎ ((bytes : List ℕ) × ReadWhole left left' bytes × NoneAbove cuts (length bytes))
+
 -- one fact for each error
 abbrev pub MatchRunError : RunError → (read write memory usage : Type 0) → Type 0
 MatchRunError Read r w m u = r

@@ -1,5 +1,5 @@
 -- What the words of a command line give as cuts.
-use Rattle.std.specs.Prelude.{◌≡◌, ℕ, ◌-◌, ◌^◌, ◌<◌, ◌⊎◌, List, [], length, slice_index_or, slice_index}
+use Rattle.std.specs.Prelude.{◌≡◌, ℕ, ◌+◌, ◌-◌, ◌^◌, ◌<◌, ◌≤◌, ◌⊎◌, List, [], length, slice_index_or, slice_index}
 use Rattle.nom_run.specs.Stream.{NeverFalls}
 use Rattle.std.specs.Str.Parse.{IsNumeral, digits_value}
 
@@ -16,6 +16,13 @@ pub record Numbers (words : List (List ℕ)) (ns : List ℕ) : Type 0 where
   pub lengths : length ns ≡ length words
   pub each : (k : ℕ) → k < length words → IsNumber (slice_index_or words k []) × (slice_index ns k ≡ number_of (slice_index_or words k []))
   pub ordered : NeverFalls ns
+
+-- The words up to a place are numbers, none below the one before: memory can run out for the number there.
+pub record StartsWithNumbers (words : List (List ℕ)) : Type 0 where
+  pub place : ℕ
+  pub within : place < length words
+  pub each : (k : ℕ) → k ≤ place → IsNumber (slice_index_or words k [])
+  pub ordered : (k : ℕ) → k < place → number_of (slice_index_or words k []) ≤ number_of (slice_index_or words (k + 1) [])
 
 -- a word is no number, or its number is below the one before
 pub record BadWord (words : List (List ℕ)) : Type 0 where

@@ -1,15 +1,16 @@
 //! Readers and writers of std that count their failed calls.
 ghost use Rattle.std.specs.Prelude.{◌≡◌};
 
+use crate::called::Called;
 use crate::error::Fault;
 use crate::stream::{Sink, Source};
 use std::io::{Read, Write};
 
-/// A reader or a writer of std, with the counts of its failed calls. An interrupted call is one that
-/// failed. The counts stay at the greatest `u64`.
+/// A reader or a writer of std, with the counts of its calls and of those that failed. Each call of `read` or `write` is
+/// one of the reader or the writer, and an interrupted one has failed. The counts stay at the greatest `u64`.
 #[derive(Drop)]
 pub struct Counted<T> {
-    pub inner: T,
+    pub called: Called<T>,
     /// How many calls gave an error.
     pub failed: u64,
     /// How many calls took none of the bytes that they were offered.
@@ -19,12 +20,13 @@ pub struct Counted<T> {
 impl<T> Counted<T> {
     /// Counts from 0.
     pub fn new(inner: T) -> Self
-        ensures held { result.inner ≡ inner }
+        ensures held { result.called.inner ≡ inner }
+        ensures none_called { result.called.calls ≡ 0 }
         ensures none_failed { result.failed ≡ 0 }
         ensures none_stalled { result.stalled ≡ 0 }
     {
         Counted {
-            inner,
+            called: Called::new(inner),
             failed: 0,
             stalled: 0,
         }
@@ -34,10 +36,12 @@ impl<T> Counted<T> {
 impl<T: Read> Source for Counted<T> {
     ghost failures = { λ s. s.failed };
 
-    ghost left = { λ s. T.remaining s.inner };
+    ghost calls = { λ s. s.called.calls };
+
+    ghost left = { λ s. T.remaining s.called.inner };
 
     fn read(&mut self, room: &mut [u8]) -> Result<usize, Fault> {
-        match self.inner.read(room) {
+        match self.called.read_once(room) {
             Ok(count) => Ok(count),
             Err(_) => {
                 self.failed = self.failed.saturating_add(1);
@@ -52,10 +56,12 @@ impl<T: Write> Sink for Counted<T> {
 
     ghost stalls = { λ s. s.stalled };
 
-    ghost held = { λ s. T.contents s.inner };
+    ghost calls = { λ s. s.called.calls };
+
+    ghost held = { λ s. T.contents s.called.inner };
 
     fn write(&mut self, bytes: &[u8]) -> Result<usize, Fault> {
-        match self.inner.write(bytes) {
+        match self.called.write_once(bytes) {
             Ok(count) => {
                 if count == 0 && !bytes.is_empty() {
                     self.stalled = self.stalled.saturating_add(1);

@@ -2,6 +2,7 @@
 //! make of it, and the text of the report is written to a sink.
 #![tactic(auto)]
 
+pub mod called;
 pub mod counted;
 pub mod error;
 pub mod program;

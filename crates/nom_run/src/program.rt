@@ -3,7 +3,7 @@
 //!
 //! All is written to standard output. Where there is no report one line tells why, and the status
 //! is 3; after a write that failed nothing more is written.
-ghost use Rattle.std.specs.Prelude.{◌≡◌, map, IfOk, IfErr, string_bytes};
+ghost use Rattle.std.specs.Prelude.{◌≡◌, ◌<◌, length, map, IfOk, IfErr, string_bytes};
 ghost use Rattle.nom_run.specs.Lines.{fault_text};
 ghost use Rattle.nom_run.specs.Asked.{Asks, IsWrong};
 ghost use Rattle.nom_run.specs.Stream.{MatchRunError};
@@ -62,7 +62,7 @@ fn texts_of(alloc: Global, words: &[String]) -> Result<Vec<&str>, RunError>
 // or their cuts are wrong.
 fn read_task(alloc: Global, words: &[String]) -> Result<Task, RunError>
     ensures task { IfOk result (λ t. Asks (map string_bytes words.now) (string_bytes t.file) t.cuts.items) }
-    ensures error { IfErr result (λ e. MatchRunError e ⊥ ⊥ (Unit {0}) (IsWrong (map string_bytes words.now))) }
+    ensures error { IfErr result (λ e. MatchRunError e ⊥ ⊥ (1 < length words.now) (IsWrong (map string_bytes words.now))) }
 {
     if words.len() < 2 {
         return Err(RunError::Usage);

@@ -1,7 +1,7 @@
 //! The whole run: read, report, write.
 ghost use Rattle.std.specs.Prelude.{◌≡◌, ◌++◌, ◌⊎◌, [], length, IfOk, IfErr, Err, MatchBool};
 ghost use Rattle.std.specs.Io.KnownBytes.{Appends};
-ghost use Rattle.nom_run.specs.Stream.{CutAbove, Falls, MatchRunError, NeverFalls, NoneAbove, SomeAbove, ReadWhole, Reported, Stopped, WriteFailed, WroteFront, one_more};
+ghost use Rattle.nom_run.specs.Stream.{CanGrow, CutAbove, Falls, MatchRunError, NeverFalls, NoneAbove, SomeAbove, ReadSome, ReadWhole, Reported, Stopped, WriteFailed, WroteFront, one_more};
 
 use crate::error::RunError;
 use crate::report::Report;
@@ -42,7 +42,11 @@ fn keep<A: Allocator>(bytes: &mut Vec<u8, A>, more: &[u8]) -> Result<(), OutOfMe
 fn read_all<A: Allocator, S: Source>(source: &mut S, bytes: &mut Vec<u8, A>) -> Result<(), RunError>
     requires { bytes.old.items ≡ [] }
     ensures whole { IfOk result (λ _. ReadWhole (S.left source.old) (S.left source.new) bytes.new.items × (S.failures source.new ≡ S.failures source.old)) }
-    ensures error { IfErr result (λ e. MatchRunError e (S.failures source.new ≡ one_more (S.failures source.old)) ⊥ (S.failures source.new ≡ S.failures source.old) ⊥) }
+    ensures error { IfErr result (λ e. MatchRunError e
+        (S.failures source.new ≡ one_more (S.failures source.old))
+        ⊥
+        ((S.failures source.new ≡ S.failures source.old) × ReadSome (S.left source.old) (S.left source.new))
+        ⊥) }
 {
     let mut room = [0u8; 256];
     for _turn in 0..u64::MAX {
@@ -89,7 +93,8 @@ pub fn write_all<W: Sink>(sink: &mut W, text: &[u8]) -> Result<(), RunError>
 ///
 /// `Usage` where a cut is below the one before, before anything is read, or above the length, after
 /// reading. A failed call is not tried again, and a write that takes no byte is a failure. The whole
-/// text is built before its first byte is written.
+/// text is built before its first byte is written. `OutOfMemory` only where something could grow: some
+/// bytes were read, or the source came to its end and there is a report to build.
 pub fn run<A: Allocator + Copy, R: Report, S: Source, W: Sink>(
     alloc: A,
     report: &R,
@@ -106,7 +111,8 @@ pub fn run<A: Allocator + Copy, R: Report, S: Source, W: Sink>(
         (Stopped R.is_report (S.left source.old) (S.left source.new) (W.held sink.old) (W.held sink.new) cuts.now
         × (S.failures source.new ≡ S.failures source.old)
         × WriteFailed (W.failures sink.old) (W.failures sink.new) (W.stalls sink.old) (W.stalls sink.new))
-        ((sink.new ≡ sink.old) × (S.failures source.new ≡ S.failures source.old))
+        ((sink.new ≡ sink.old) × (S.failures source.new ≡ S.failures source.old)
+        × CanGrow (S.left source.old) (S.left source.new) cuts.now)
         ((sink.new ≡ sink.old) × (S.failures source.new ≡ S.failures source.old)
         × (((source.new ≡ source.old) × Falls cuts.now) ⊎ CutAbove (S.left source.old) (S.left source.new) cuts.now))) }
 {

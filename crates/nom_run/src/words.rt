@@ -1,7 +1,7 @@
 //! Cuts, as words write them.
 ghost use Rattle.std.specs.Prelude.{◌≡◌, ◌++◌, [], ◌∷◌, map, IfOk, IfErr, MatchOption};
 ghost use Rattle.nom_run.specs.Stream.{MatchRunError};
-ghost use Rattle.nom_run.specs.Words.{IsNumber, number_of, Numbers, BadWord};
+ghost use Rattle.nom_run.specs.Words.{IsNumber, number_of, Numbers, BadWord, StartsWithNumbers};
 
 use crate::error::RunError;
 use nom_error::answer::OutOfMemory;
@@ -27,10 +27,10 @@ fn add_cut<A: Allocator>(cuts: &mut Vec<usize, A>, cut: usize) -> Result<(), Out
 }
 
 /// The numbers that the words write. `Usage` where one isn't one or more decimal digits, doesn't fit,
-/// or writes a number below the one before.
+/// or writes a number below the one before. `OutOfMemory` only after a word whose number could be added.
 pub fn read_cuts<A: Allocator + Copy>(alloc: A, words: &[&str]) -> Result<Vec<usize, A>, RunError>
     ensures numbers { IfOk result (λ v. Numbers (map (λ w. w.now) words.now) v.items) }
-    ensures error { IfErr result (λ e. MatchRunError e ⊥ ⊥ (Unit {0}) (BadWord (map (λ w. w.now) words.now))) }
+    ensures error { IfErr result (λ e. MatchRunError e ⊥ ⊥ (StartsWithNumbers (map (λ w. w.now) words.now)) (BadWord (map (λ w. w.now) words.now))) }
 {
     let mut cuts = Vec::new(alloc);
     let mut floor = 0usize;

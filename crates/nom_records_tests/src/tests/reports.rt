@@ -31,7 +31,7 @@ fn told(
     let mut source = Counted::new(bytes);
     let mut sink = Counted::new(Vec::new(rt.alloc()));
     assert!(rt; ran(rt.alloc(), &mut source, cuts, &mut sink) == Ok(status));
-    assert!(rt; sink.inner.as_slice() == text.as_bytes());
+    assert!(rt; sink.called.inner().as_slice() == text.as_bytes());
 }
 
 // Two records, and two bytes more.
@@ -74,9 +74,9 @@ fn refuses_cuts(rt: HostRuntime) {
     let mut sink = Counted::new(Vec::new(rt.alloc()));
     for (cuts, left) in [([7, 3], 9), ([0, 10], 0)] {
         let refused = ran(rt.alloc(), &mut source, &cuts, &mut sink);
-        assert!(rt; refused == Err(RunError::Usage) && source.inner.len() == left);
+        assert!(rt; refused == Err(RunError::Usage) && source.called.inner().len() == left);
     }
-    assert!(rt; sink.inner.is_empty());
+    assert!(rt; sink.called.inner().is_empty());
 }
 
 /// What a sink has that fails at its last call of so many, and how often it failed.
@@ -87,7 +87,9 @@ fn written(alloc: Global, calls: u64) -> (Result<u8, RunError>, Vec<u8>, u64) {
         calls,
     });
     let status = ran(alloc, &mut source, &[3, 7], &mut sink);
-    (status, sink.inner.inner, sink.failed)
+    let failed = sink.failed;
+    let fails = sink.called.into_inner();
+    (status, fails.inner, failed)
 }
 
 #[test]
@@ -110,9 +112,9 @@ fn unread(alloc: Global, calls: u64) -> (Result<u8, RunError>, usize, u64, usize
     let status = ran(alloc, &mut source, &[3, 7], &mut sink);
     (
         status,
-        source.inner.inner.len(),
+        source.called.inner().inner.len(),
         source.failed,
-        sink.inner.len(),
+        sink.called.inner().len(),
     )
 }
 

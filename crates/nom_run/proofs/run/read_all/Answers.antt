@@ -1,4 +1,4 @@
-use Rattle.std.proofs.Common.{arith, ◌≤◌, ◌<◌, ◌∙◌, length, take, length-append}
+use Rattle.std.proofs.Common.{arith, ◌≤◌, ◌<◌, ◌∙◌, ◌++◌, length, take, length-append}
 use Rattle.nom_run.proofs.Known.{consumes-more}
 use Rattle.nom_run.proofs.run.read_all.Goals as goal
 
@@ -13,3 +13,16 @@ loop-turn-preserved g c =
       failures = c.in-Ok.ensures.counts ∙ c.loop-turn.invariant.failures;
       turns = rw (kept, length-append) (omega (arith, some, n-is, old));
     }
+
+pub returns-in-Err-keep-clause-error : goal.returns-in-Err-keep-clause-error
+returns-in-Err-keep-clause-error g c =
+    let some : 0 < c.in-Ok.count = omega (arith, c.if-count-eq0.false) in
+    let n-is = c.in-Ok.ensures.bound.1 in
+    let more = take c.in-Ok.count c.read.new.room in (
+      c.in-Ok.ensures.counts ∙ c.loop-turn.invariant.failures,
+      record {
+        bytes = c.loop-turn.bytes.items ++ more;
+        read = consumes-more (g.S.Source.left c.args.source.now) (g.S.Source.left c.loop-turn.source) (g.S.Source.left c.read.new.self) c.loop-turn.bytes.items more c.loop-turn.invariant.read c.in-Ok.ensures.bytes.0;
+        some = rw length-append (omega (arith, some, n-is));
+      },
+    )

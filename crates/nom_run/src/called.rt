@@ -1,0 +1,72 @@
+//! Readers and writers of std, whose calls are counted.
+ghost use Rattle.std.specs.Prelude.{◌≡◌};
+ghost use Rattle.std.specs.Io.{ReadsAtMost, WritesAtMost};
+ghost use Rattle.std.specs.Io.KnownBytes.{ReadConsumes, WriteAppends};
+ghost use Rattle.nom_run.specs.Stream.{one_more};
+
+use std::io;
+use std::io::{Read, Write};
+
+/// A reader or a writer of std that is reached by `read_once` and `write_once` alone, which count their calls.
+///
+/// A trait of std says nothing of how often it is called, so that each of the two calls the reader or the writer just
+/// once is read in its one line, and not proved.
+#[derive(Drop)]
+pub struct Called<T> {
+    inner: T,
+    calls: u64,
+}
+
+impl<T> Called<T> {
+    /// Counts from 0.
+    pub fn new(inner: T) -> Self
+        ensures held { result.inner ≡ inner }
+        ensures none { result.calls ≡ 0 }
+    {
+        Called { inner, calls: 0 }
+    }
+
+    /// How many calls were made; the count stays at the greatest `u64`.
+    pub fn calls(&self) -> u64
+        ensures { result ≡ self.now.calls }
+    {
+        self.calls
+    }
+
+    pub fn inner(&self) -> &T
+        ensures { result.now ≡ self.now.inner }
+    {
+        &self.inner
+    }
+
+    pub fn into_inner(self) -> T
+        ensures { result ≡ self.inner }
+    {
+        let Called { inner, calls: _ } = self;
+        inner
+    }
+}
+
+impl<T: Read> Called<T> {
+    /// One call of `read`.
+    pub fn read_once(&mut self, room: &mut [u8]) -> io::Result<usize>
+        ensures bound { ReadsAtMost result room.new }
+        ensures bytes { ReadConsumes (T.remaining self.old.inner) (T.remaining self.new.inner) result room.new }
+        ensures called { self.new.calls ≡ one_more self.old.calls }
+    {
+        self.calls = self.calls.saturating_add(1);
+        self.inner.read(room)
+    }
+}
+
+impl<T: Write> Called<T> {
+    /// One call of `write`.
+    pub fn write_once(&mut self, bytes: &[u8]) -> io::Result<usize>
+        ensures bound { WritesAtMost result bytes.now }
+        ensures bytes { WriteAppends (T.contents self.old.inner) (T.contents self.new.inner) result bytes.now }
+        ensures called { self.new.calls ≡ one_more self.old.calls }
+    {
+        self.calls = self.calls.saturating_add(1);
+        self.inner.write(bytes)
+    }
+}
