@@ -2,7 +2,6 @@
 #![tactic(auto)]
 
 mod brackets;
-pub mod functions;
 mod hex;
 mod promises;
 

@@ -5,8 +5,8 @@ use nom::error::{Error, ErrorKind};
 use nom::{
     Check, Emit, Err, IResult, Needed, OutputM, OutputMode, PResult, Parser, Streaming, func,
 };
-use nom_examples::functions::grown_digits;
 use nom_own_parts::functions::{first, grown_byte, measured, small, starved};
+use nom_own_parts::streaming::grown_digits;
 
 type Fail<'a> = Error<&'a [u8]>;
 

@@ -8,7 +8,9 @@ ghost use Rattle.nom_func.specs.Func.{TellsItems};
 ghost use Rattle.nom_growing.specs.Growing.{AreCuts};
 ghost use Rattle.nom_own_parts.specs.Firsts.{first_outcome, small_outcome};
 
+use nom::combinator::verify;
 use nom::error::{Error, ErrorKind, ParseError};
+use nom::number::be_u8;
 use nom::{
     Err, Func, Grown, IResult, Input, Items, Needed, Parser, StreamFunc, Viewed, func,
     parse_growing, stream_func,
@@ -112,4 +114,10 @@ pub fn grown_byte<'a>(input: &'a [u8], cuts: &[usize]) -> Grown<&'a [u8], u8, Fa
     requires { AreCuts seen_bytes input cuts.now }
 {
     grown(first, input, cuts)
+}
+
+/// The first byte, where it is even; an odd one is refused, with `Verify`.
+pub fn even(input: &[u8]) -> IResult<&[u8], u8> {
+    let mut even = verify(be_u8::<_, Fail>(), |byte: &u8| *byte % 2 == 0);
+    even.parse(input)
 }

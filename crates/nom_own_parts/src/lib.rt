@@ -4,6 +4,7 @@
 pub mod functions;
 mod letters;
 mod refusal;
+pub mod streaming;
 mod tokens;
 
 pub use crate::letters::{Letter, one_letter};

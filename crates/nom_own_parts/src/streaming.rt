@@ -2,11 +2,11 @@
 ghost use Rattle.nom_traits.specs.Bytes.{seen_bytes};
 ghost use Rattle.nom_growing.specs.Growing.{AreCuts};
 
+use crate::functions::grown;
 use nom::Grown;
 use nom::character::streaming;
 use nom::error::Error;
 use nom::number::streaming as number;
-use nom_own_parts::functions::grown;
 
 type Fail<'a> = Error<&'a [u8]>;
 
