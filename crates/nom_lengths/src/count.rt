@@ -1,20 +1,19 @@
-//! A list behind its length.
+//! A list after its length.
 ghost use Rattle.std.specs.Prelude.{List};
 ghost use Rattle.std.specs.List.{AllZip};
 ghost use Rattle.nom_lengths.specs.Lengths.{HasSize, length_count_meaning};
 
+use nom_counted::exact::items_exactly;
 use nom_error::answer::PResult;
-use nom_error::kind::ErrorKind;
 use nom_error::mode::{Emit, OutputM, OutputMode};
 use nom_error::value::ParseError;
 use nom_internal::parser::{Parser, StreamParser};
-use nom_repeat::items::{Limits, TooFew, items};
 use nom_repeat::keep::none_yet;
 use nom_traits::convert::ToUsize;
-use nom_traits::input::{Input, Items};
+use nom_traits::input::Items;
 use std::alloc::Allocator;
 
-/// A length and so many outputs of a parser behind it, made by `length_count`.
+/// A length n and n outputs of a parser after it, made by `length_count`.
 #[derive(Drop)]
 pub struct LengthCount<A, F, G> {
     pub alloc: A,
@@ -23,7 +22,7 @@ pub struct LengthCount<A, F, G> {
 }
 
 impl<
-    I: Input,
+    I: Items,
     A: Allocator + Copy,
     F: Parser<I, Output: ToUsize> + Drop,
     G: Parser<I, Error = F::Error> + Drop,
@@ -56,21 +55,14 @@ impl<
             None => unreachable!(),
         };
         let none = none_yet::<OM::Output, G::Output, A>(self.alloc);
-        let limits = Limits {
-            least: count,
-            most: Some(count),
-            too_few: TooFew::Added(ErrorKind::Count),
-            at_start: true,
-            empty: None,
-        };
-        items::<OM, OM::Error, I, G, Vec<G::Output, A>>(&mut self.parser, rest, none, limits)
+        items_exactly::<OM, I, G, Vec<G::Output, A>>(&mut self.parser, rest, none, count)
     }
 
     ghost lawful = { λ s k. length_count_lawful I.seen I.lawful F.Error.errors (HasSize (F.IsOutput s.0) F.Output.size) (F.meaning s.0) (G.meaning s.1) k.1.1 (F.lawful s.0 k.0) (G.lawful s.1 k.1.0) };
 }
 
 impl<
-    I: Input,
+    I: Items,
     A: Allocator + Copy,
     F: StreamParser<I, Output: ToUsize> + Drop,
     G: StreamParser<I, Error = F::Error> + Drop,

@@ -6,13 +6,13 @@ ghost use Rattle.nom_lengths.specs.Promises.{AcceptsCounted};
 use crate::count::LengthCount;
 use nom_internal::parser::Parser;
 use nom_traits::convert::ToUsize;
-use nom_traits::input::{Input, Items};
+use nom_traits::input::Items;
 use std::alloc::Allocator;
 
 /// `length_count` accepts a length that its first part accepts, and behind it just so many items that its second
 /// part accepts, one behind the other, of any length.
 pub fn length_count_accepts<
-    I: Input,
+    I: Items,
     A: Allocator + Copy,
     F: Parser<I, Output: ToUsize> + Drop,
     G: Parser<I, Error = F::Error> + Drop,

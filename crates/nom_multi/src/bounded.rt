@@ -1,8 +1,9 @@
-//! So many items, or within bounds.
+//! Exactly n items, or as many as bounds say.
 ghost use Rattle.std.specs.Prelude.{ℕ, List};
 ghost use Rattle.std.specs.List.{AllZip};
 ghost use Rattle.nom_multi.specs.Bounded.{count_meaning, many_m_n_meaning};
 
+use nom_counted::exact::items_exactly;
 use nom_error::answer::PResult;
 use nom_error::kind::ErrorKind;
 use nom_error::mode::OutputMode;
@@ -14,7 +15,7 @@ use nom_repeat::keep::none_yet;
 use nom_traits::input::{Input, Items};
 use std::alloc::Allocator;
 
-/// So many items, made by `count`.
+/// Exactly n items, made by `count`.
 #[derive(Drop)]
 pub struct Count<A, F> {
     pub alloc: A,
@@ -22,7 +23,7 @@ pub struct Count<A, F> {
     pub count: usize,
 }
 
-impl<I: Input, A: Allocator + Copy, F: Parser<I> + Drop> Parser<I> for Count<A, F> {
+impl<I: Items, A: Allocator + Copy, F: Parser<I> + Drop> Parser<I> for Count<A, F> {
     ghost use Rattle.nom_multi.specs.BoundedLaws.{count_lawful};
 
     type Output = Vec<F::Output, A>;
@@ -44,20 +45,13 @@ impl<I: Input, A: Allocator + Copy, F: Parser<I> + Drop> Parser<I> for Count<A, 
     #[inline]
     fn process<OM: OutputMode>(&mut self, input: I) -> PResult<I, Self::Output, Self::Error> {
         let none = none_yet::<OM::Output, F::Output, A>(self.alloc);
-        let limits = Limits {
-            least: self.count,
-            most: Some(self.count),
-            too_few: TooFew::Added(ErrorKind::Count),
-            at_start: true,
-            empty: None,
-        };
-        items::<OM, OM::Error, I, F, Vec<F::Output, A>>(&mut self.parser, input, none, limits)
+        items_exactly::<OM, I, F, Vec<F::Output, A>>(&mut self.parser, input, none, self.count)
     }
 
     ghost lawful = { λ s k. count_lawful I.seen I.lawful F.Error.errors s.0 (F.meaning s.1) (F.lawful s.1 k) };
 }
 
-impl<I: Input, A: Allocator + Copy, F: StreamParser<I> + Drop> StreamParser<I> for Count<A, F> {
+impl<I: Items, A: Allocator + Copy, F: StreamParser<I> + Drop> StreamParser<I> for Count<A, F> {
     ghost use Rattle.nom_repeat.specs.Lists.{list_pinned};
     ghost use Rattle.nom_multi.specs.BoundedLaws.{count_steady};
 

@@ -35,7 +35,7 @@ pub fn many1_accepts<I: Input, A: Allocator + Copy, F: Parser<I> + Drop>(_parser
 {}
 
 /// `count` accepts just so many items that its part accepts, one behind the other, of any length.
-pub fn count_accepts<I: Input, A: Allocator + Copy, F: Parser<I> + Drop>(_parser: &Count<A, F>)
+pub fn count_accepts<I: Items, A: Allocator + Copy, F: Parser<I> + Drop>(_parser: &Count<A, F>)
     ensures { AcceptsItems I.seen (Unit {0}) (λ _. Unit {0}) _parser.now.count (Some _parser.now.count) (F.meaning (F.state _parser.now.parser)) (⟦<Count<A, F> as Parser<I>>⟧.meaning (_parser.now.count, F.state _parser.now.parser)) }
 {}
 

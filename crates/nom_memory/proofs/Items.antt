@@ -1,0 +1,71 @@
+-- Where items within limits run out of memory, and what is accepted where they are.
+use Rattle.std.proofs.Common.{◌≡◌, ℕ, ◌+◌, ◌<◌, Bool, true, false, Option, Some, None, ◌⊎◌, inl, inr, List, [], ◌∷◌, zero, suc, refl, lit<, length}
+use Rattle.std.specs.Prelude.{ltb}
+use Rattle.nom_error.specs.Errors.{Errors}
+use Rattle.nom_error.specs.Modes.{Modes, modes}
+use Rattle.nom_error.specs.declared.kind.ErrorKind.{ErrorKind}
+use Rattle.nom_traits.specs.Input.{Seen}
+use Rattle.nom_internal.specs.Outcome.{Outcome}
+use Rattle.nom_internal.specs.Outcome.Outcome.{Accept, Refuse, Fail, TooLarge, Undecided}
+use Rattle.nom_internal.specs.Meaning.{Meaning, IsLawful}
+use Rattle.nom_internal.specs.Families.{always}
+use Rattle.nom_internal.specs.Sequence.{after}
+use Rattle.nom_repeat.specs.Repeat.{Turn, IsBelow, OnReply, Pieces, Reaches, Repeats, Replies, TurnsBy}
+use Rattle.nom_repeat.specs.Repeat.Turn.{Takes, Ends}
+use Rattle.nom_repeat.specs.Items.{empty_turn, item_turn, refused_turn, item_errors, EmptyAsks, ItemAsks, items_meaning}
+use Rattle.nom_repeat.specs.declared.items.Limits.{Limits}
+use Rattle.nom_repeat.specs.declared.items.TooFew.{TooFew}
+use Rattle.nom_repeat.specs.Bounds.{one_limits}
+use Rattle.nom_memory.specs.Growths.{AlwaysFrugal, IsAccepted}
+
+refused_takes_none : {V : Type 0} (few : Bool) (a : ℕ) (v : V) → Takes a v ≡ refused_turn few → ⊥
+refused_takes_none true a v e = absurd (cc (e))
+refused_takes_none false a v e = absurd (cc (e))
+
+module _ {I V : Type 0} (b : Limits) (Item : I → Outcome V → Type 0) where
+  -- an item that is taken is accepted
+  taken_by : (k : ℕ) (i : I) (a : ℕ) (v : V) (reply : Option (Outcome V)) → Replies b.most (λ _. Item) k i reply → Takes a v ≡ item_turn b k reply → IsAccepted Item i
+  taken_by k i a v (Some (Accept n u)) h e = (n, u, h.1)
+  taken_by k i a v (Some Refuse) h e = absurd (refused_takes_none (ltb k b.least) a v e)
+  taken_by k i a v (Some Fail) h e = absurd (cc (e))
+  taken_by k i a v (Some TooLarge) h e = absurd (cc (e))
+  taken_by k i a v (Some (Undecided d)) h e = absurd (cc (e))
+  taken_by k i a v None h e = absurd (cc (e))
+
+  pub taken_accepted : (k : ℕ) (i : I) (a : ℕ) (v : V) → TurnsBy b.most (item_turn b) (λ _. Item) k i (Takes a v) → IsAccepted Item i
+  taken_accepted k i a v t = taken_by k i a v t.reply t.replied t.fact
+
+module _ {I A V E : Type 0} (w : Seen I A) (errs : Errors I E) (b : Limits) (Grows : Type 0) (m : Meaning I V E) (lawful : IsLawful w m) (frugal : AlwaysFrugal m) (no : errs.grows → ⊥) (mode : Modes) where
+  abbrev Refused : Type 0
+  Refused = (mode.errors ≡ true) × errs.grows
+
+  abbrev Kept : Type 0
+  Kept = (mode.outputs ≡ true) × Grows
+
+  abbrev Asked : ℕ → I → Type 0
+  Asked k j = OnReply b.most (λ _. m.answers mode.streaming) (ItemAsks b Refused Kept k) k j ⊎ (IsBelow b.most k × m.runs_out (modes mode.outputs (item_errors b.too_few mode.errors) mode.streaming) j)
+
+  empty_kept : (kind : Option ErrorKind) → EmptyAsks kind Refused Kept → Kept
+  empty_kept (Some k) h = absurd (no h.1)
+  empty_kept None h = h
+
+  asked_by : (k : ℕ) (j : I) (reply : Option (Outcome V)) → Replies b.most (λ _. m.answers mode.streaming) k j reply → ItemAsks b Refused Kept k reply → Kept × IsAccepted (m.answers mode.streaming) j
+  asked_by k j (Some (Accept zero v)) h q = (empty_kept b.empty q, (0, v, h.1))
+  asked_by k j (Some (Accept (suc n) v)) h q = (q, (suc n, v, h.1))
+  asked_by k j (Some Refuse) h q = absurd (no q.2.1)
+  asked_by k j (Some Fail) h q = absurd q
+  asked_by k j (Some TooLarge) h q = absurd q
+  asked_by k j (Some (Undecided d)) h q = absurd q
+  asked_by k j None h q = absurd q
+
+  asked : (k : ℕ) (j : I) → w.IsKnown j → Asked k j → Kept × IsAccepted (m.answers mode.streaming) j
+  asked k j h (inl r) = asked_by k j r.reply r.replied r.fact
+  asked k j h (inr r) = absurd (lawful.frugal (modes mode.outputs (item_errors b.too_few mode.errors) mode.streaming) j h (frugal (modes mode.outputs (item_errors b.too_few mode.errors) mode.streaming)) r.1)
+
+  walked : (k : ℕ) (i : I) (vs : List V) (n : ℕ) → w.IsKnown i → Pieces w (TurnsBy b.most (item_turn b) (λ _. m.answers mode.streaming)) Asked k i vs n → Kept × IsAccepted (m.answers mode.streaming) i
+  walked k i [] n h p = asked k i h p.1
+  walked k i (v ∷ vs) n h p = ((walked (k + 1) p.2 vs p.1 p.4.known p.5).0, taken_accepted b (m.answers mode.streaming) k i p.0 v p.3)
+
+  -- items run out of memory only to keep one, and then the first is accepted
+  pub items_grow : (i : I) → w.IsKnown i → (items_meaning w errs b Grows m).runs_out mode i → Kept × IsAccepted (m.answers mode.streaming) i
+  items_grow i h r = walked 0 i r.trees r.taken h r.pieces

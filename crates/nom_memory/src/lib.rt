@@ -1,0 +1,4 @@
+//! Where lists and texts may run out of memory, as promises.
+#![tactic(auto)]
+
+pub mod promises;
