@@ -1,5 +1,5 @@
 -- Where items within limits run out of memory, and what is accepted where they are.
-use Rattle.std.proofs.Common.{◌≡◌, ℕ, ◌+◌, ◌<◌, Bool, true, false, Option, Some, None, ◌⊎◌, inl, inr, List, [], ◌∷◌, zero, suc, refl, lit<, length}
+use Rattle.std.proofs.Common.{◌≡◌, ℕ, ◌+◌, ◌<◌, Bool, true, false, Option, Some, None, ◌⊎◌, inl, inr, List, [], ◌∷◌, zero, suc, lit<, subst}
 use Rattle.std.specs.Prelude.{ltb}
 use Rattle.nom_error.specs.Errors.{Errors}
 use Rattle.nom_error.specs.Modes.{Modes, modes}
@@ -69,3 +69,46 @@ module _ {I A V E : Type 0} (w : Seen I A) (errs : Errors I E) (b : Limits) (Gro
   -- items run out of memory only to keep one, and then the first is accepted
   pub items_grow : (i : I) → w.IsKnown i → (items_meaning w errs b Grows m).runs_out mode i → Kept × IsAccepted (m.answers mode.streaming) i
   items_grow i h r = walked 0 i r.trees r.taken h r.pieces
+
+-- What is accepted where items are.
+module _ {I A V E : Type 0} (w : Seen I A) (errs : Errors I E) (b : Limits) (Grows : Type 0) (m : Meaning I V E) (s : Bool) (i : I) where
+  no_items : (n : ℕ) (v : V) (us : List V) (taken : ℕ) (ending : Outcome (Unit {0})) → Accept n (v ∷ us) ≡ after taken (λ _. []) ending → ⊥
+  no_items n v us taken (Accept k t) e = absurd (cc (e))
+  no_items n v us taken Refuse e = absurd (cc (e))
+  no_items n v us taken Fail e = absurd (cc (e))
+  no_items n v us taken TooLarge e = absurd (cc (e))
+  no_items n v us taken (Undecided k) e = absurd (cc (e))
+
+  some_by : (n : ℕ) (v : V) (us trees : List V) (taken : ℕ) (ending : Outcome (Unit {0})) →
+      Pieces w (TurnsBy b.most (item_turn b) (λ _. m.answers s)) (λ k j. TurnsBy b.most (item_turn b) (λ _. m.answers s) k j (Ends ending)) 0 i trees taken →
+      Accept n (v ∷ us) ≡ after taken (λ _. trees) ending → IsAccepted (m.answers s) i
+  some_by n v us [] taken ending p e = absurd (no_items n v us taken ending e)
+  some_by n v us (t ∷ ts) taken ending p e = taken_accepted b (m.answers s) 0 i p.0 t p.3
+
+  -- where some are, the first is accepted
+  pub some_accepted : (n : ℕ) (v : V) (us : List V) → (items_meaning w errs b Grows m).answers s i (Accept n (v ∷ us)) → IsAccepted (m.answers s) i
+  some_accepted n v us r = some_by n v us r.trees r.taken r.ending r.pieces r.outcome_is
+
+module _ {I A V E : Type 0} (w : Seen I A) (errs : Errors I E) (few : TooFew) (at_start : Bool) (Grows : Type 0) (m : Meaning I V E) (s : Bool) (i : I) where
+  not_ended : {T : Type 0} (n : ℕ) (vs : T) (taken : ℕ) (tree : Unit {0} → T) (ending other : Outcome (Unit {0})) → ending ≡ other → (Accept n vs ≡ after taken tree other → ⊥) → Accept n vs ≡ after taken tree ending → ⊥
+  not_ended {T} n vs taken tree ending other same never e = never (subst (λ z. ◌≡◌ {A = Outcome T} (Accept n vs) (after taken tree z)) same e)
+
+  unended : (n : ℕ) (vs : List V) (taken : ℕ) (ending : Outcome (Unit {0})) (reply : Option (Outcome V)) → Replies (Some 1) (λ _. m.answers s) 0 i reply →
+      Ends ending ≡ item_turn (one_limits few at_start) 0 reply → Accept n vs ≡ after taken (λ _. []) ending → ⊥
+  unended n vs taken ending (Some (Accept zero v)) h e q = absurd (cc (e))
+  unended n vs taken ending (Some (Accept (suc k) v)) h e q = absurd (cc (e))
+  unended n vs taken ending (Some Refuse) h e q = not_ended n vs taken (λ _. []) ending Refuse (cc (e)) (λ z. absurd (cc (z))) q
+  unended n vs taken ending (Some Fail) h e q = not_ended n vs taken (λ _. []) ending Fail (cc (e)) (λ z. absurd (cc (z))) q
+  unended n vs taken ending (Some TooLarge) h e q = not_ended n vs taken (λ _. []) ending TooLarge (cc (e)) (λ z. absurd (cc (z))) q
+  unended n vs taken ending (Some (Undecided d)) h e q = not_ended n vs taken (λ _. []) ending (Undecided d) (cc (e)) (λ z. absurd (cc (z))) q
+  unended n vs taken ending None h e q = h (lit< tt)
+
+  one_by : (n : ℕ) (vs trees : List V) (taken : ℕ) (ending : Outcome (Unit {0})) →
+      Pieces w (TurnsBy (Some 1) (item_turn (one_limits few at_start)) (λ _. m.answers s)) (λ k j. TurnsBy (Some 1) (item_turn (one_limits few at_start)) (λ _. m.answers s) k j (Ends ending)) 0 i trees taken →
+      Accept n vs ≡ after taken (λ _. trees) ending → IsAccepted (m.answers s) i
+  one_by n vs [] taken ending p e = absurd (unended n vs taken ending p.1.reply p.1.replied p.1.fact e)
+  one_by n vs (t ∷ ts) taken ending p e = taken_accepted (one_limits few at_start) (m.answers s) 0 i p.0 t p.3
+
+  -- where just one is wanted, it is accepted
+  pub one_accepted : (n : ℕ) (vs : List V) → (items_meaning w errs (one_limits few at_start) Grows m).answers s i (Accept n vs) → IsAccepted (m.answers s) i
+  one_accepted n vs r = one_by n vs r.trees r.taken r.ending r.pieces r.outcome_is

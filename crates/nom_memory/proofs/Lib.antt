@@ -1,2 +1,4 @@
 pub mod Items
 pub mod Lists
+pub mod Pieces
+pub mod Until

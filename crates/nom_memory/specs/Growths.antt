@@ -47,4 +47,4 @@ GrowsByCounted w errs length m whole =
 abbrev pub GrowsByPieces : {I A P V T E : Type 0} → Seen I A → (A → Type 0) → Errors I E → Meaning I P E → Meaning I V E → Meaning I T E → Type 0
 GrowsByPieces w IsControl errs m g whole =
     GrowsWhere w errs (AlwaysFrugal m × AlwaysFrugal g)
-      (λ s i. IsAccepted (m.answers s) i ⊎ (m.answers s i Refuse × BehindControl w IsControl (IsAccepted (g.answers s)) i)) whole
+    (λ s i. IsAccepted (m.answers s) i ⊎ (m.answers s i Refuse × BehindControl w IsControl (IsAccepted (g.answers s)) i)) whole

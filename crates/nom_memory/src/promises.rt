@@ -1,1 +1,130 @@
 //! Where lists and texts may run out of memory. These functions do nothing: their contracts are the promises.
+//!
+//! All say the same: where the parts are frugal and the error type takes no memory, memory runs out only where
+//! outputs are built, and a first item was accepted. So nothing is reserved ahead, and a call that gives up
+//! although there was nothing to keep is wrong.
+ghost use Rattle.std.specs.Prelude.{◌≡◌};
+ghost use Rattle.nom_memory.specs.Growths.{GrowsByCounted, GrowsByItems, GrowsByPieces, GrowsBySeparated, GrowsUntil};
+
+use nom_build::collection::Collection;
+use nom_escaped::EscapedTransform;
+use nom_folds::Many;
+use nom_internal::parser::Parser;
+use nom_lengths::LengthCount;
+use nom_multi::{Count, Many0, Many1, ManyMN, ManyTill, SeparatedList0, SeparatedList1};
+use nom_ranges::range::NomRange;
+use nom_search::extend::{Builder, ExtendInto};
+use nom_traits::character::AsChar;
+use nom_traits::convert::ToUsize;
+use nom_traits::input::{Input, Items, Value};
+use std::alloc::Allocator;
+
+/// `many0` runs out of memory only for an item: its first is accepted.
+pub fn many0_grows_by_items<I: Input, A: Allocator + Copy, F: Parser<I> + Drop>(
+    _parser: &Many0<A, F>,
+)
+    requires { (F.meaning (F.state _parser.now.parser)).IsSound }
+    ensures { GrowsByItems I.seen F.Error.errors (F.meaning (F.state _parser.now.parser)) (⟦<Many0<A, F> as Parser<I>>⟧.meaning (F.state _parser.now.parser)) }
+{}
+
+/// `many1` runs out of memory only for an item: its first is accepted.
+pub fn many1_grows_by_items<I: Input, A: Allocator + Copy, F: Parser<I> + Drop>(
+    _parser: &Many1<A, F>,
+)
+    requires { (F.meaning (F.state _parser.now.parser)).IsSound }
+    ensures { GrowsByItems I.seen F.Error.errors (F.meaning (F.state _parser.now.parser)) (⟦<Many1<A, F> as Parser<I>>⟧.meaning (F.state _parser.now.parser)) }
+{}
+
+/// `count` runs out of memory only for an item: its first is accepted.
+pub fn count_grows_by_items<I: Items, A: Allocator + Copy, F: Parser<I> + Drop>(
+    _parser: &Count<A, F>,
+)
+    requires { (F.meaning (F.state _parser.now.parser)).IsSound }
+    ensures { GrowsByItems I.seen F.Error.errors (F.meaning (F.state _parser.now.parser)) (⟦<Count<A, F> as Parser<I>>⟧.meaning (_parser.now.count, F.state _parser.now.parser)) }
+{}
+
+/// `many_m_n` runs out of memory only for an item: its first is accepted.
+pub fn many_m_n_grows_by_items<I: Input, A: Allocator + Copy, F: Parser<I> + Drop>(
+    _parser: &ManyMN<A, F>,
+)
+    requires { (F.meaning (F.state _parser.now.parser)).IsSound }
+    ensures { GrowsByItems I.seen F.Error.errors (F.meaning (F.state _parser.now.parser)) (⟦<ManyMN<A, F> as Parser<I>>⟧.meaning (_parser.now.min, _parser.now.max, F.state _parser.now.parser)) }
+{}
+
+/// `many` runs out of memory only for an item: its first is accepted.
+pub fn many_grows_by_items<
+    I: Input,
+    A: Allocator + Copy,
+    R: NomRange<usize> + Drop,
+    F: Parser<I> + Drop,
+    C: Collection<F::Output, A>,
+>(_parser: &Many<A, R, F, C>)
+    requires { (F.meaning (F.state _parser.now.parser)).IsSound }
+    ensures { GrowsByItems I.seen F.Error.errors (F.meaning (F.state _parser.now.parser)) (⟦<Many<A, R, F, C> as Parser<I>>⟧.meaning (F.state _parser.now.parser, _parser.now.range)) }
+{}
+
+/// `separated_list1` runs out of memory only for an item: its first is accepted.
+pub fn separated_list1_grows_by_items<
+    I: Input,
+    A: Allocator + Copy,
+    F: Parser<I> + Drop,
+    G: Parser<I, Error = F::Error> + Drop,
+>(_parser: &SeparatedList1<A, G, F>)
+    requires separator { (G.meaning (G.state _parser.now.next.first)).IsSound }
+    requires item { (F.meaning (F.state _parser.now.next.second)).IsSound }
+    ensures { GrowsBySeparated I.seen F.Error.errors (G.meaning (G.state _parser.now.next.first)) (F.meaning (F.state _parser.now.next.second)) (⟦<SeparatedList1<A, G, F> as Parser<I>>⟧.meaning (G.state _parser.now.next.first, F.state _parser.now.next.second)) }
+{}
+
+/// `separated_list0` runs out of memory only for an item: its first is accepted.
+pub fn separated_list0_grows_by_items<
+    I: Input,
+    A: Allocator + Copy,
+    F: Parser<I> + Drop,
+    G: Parser<I, Error = F::Error> + Drop,
+>(_parser: &SeparatedList0<A, G, F>)
+    requires separator { (G.meaning (G.state _parser.now.next.first)).IsSound }
+    requires item { (F.meaning (F.state _parser.now.next.second)).IsSound }
+    ensures { GrowsBySeparated I.seen F.Error.errors (G.meaning (G.state _parser.now.next.first)) (F.meaning (F.state _parser.now.next.second)) (⟦<SeparatedList0<A, G, F> as Parser<I>>⟧.meaning (G.state _parser.now.next.first, F.state _parser.now.next.second)) }
+{}
+
+/// `many_till` runs out of memory only for an item: its end refuses at the start, and its first item is accepted.
+pub fn many_till_grows_by_items<
+    I: Input,
+    A: Allocator + Copy,
+    F: Parser<I> + Drop,
+    G: Parser<I, Error = F::Error> + Drop,
+>(_parser: &ManyTill<A, F, G>)
+    requires item { (F.meaning (F.state _parser.now.parser)).IsSound }
+    requires end { (G.meaning (G.state _parser.now.end)).IsSound }
+    ensures { GrowsUntil I.seen F.Error.errors (F.meaning (F.state _parser.now.parser)) (G.meaning (G.state _parser.now.end)) (⟦<ManyTill<A, F, G> as Parser<I>>⟧.meaning (F.state _parser.now.parser, G.state _parser.now.end)) }
+{}
+
+/// `length_count` runs out of memory only for an item: its length is accepted, and on the rest its first item.
+pub fn length_count_grows_by_items<
+    I: Items,
+    A: Allocator + Copy,
+    F: Parser<I, Output: ToUsize> + Drop,
+    G: Parser<I, Error = F::Error> + Drop,
+>(_parser: &LengthCount<A, F, G>)
+    requires length { (F.meaning (F.state _parser.now.length)).IsSound }
+    requires item { (G.meaning (G.state _parser.now.parser)).IsSound }
+    ensures { GrowsByCounted I.seen F.Error.errors (F.meaning (F.state _parser.now.length)) (G.meaning (G.state _parser.now.parser)) (⟦<LengthCount<A, F, G> as Parser<I>>⟧.meaning (F.state _parser.now.length, G.state _parser.now.parser)) }
+{}
+
+/// `escaped_transform` runs out of memory only for a piece: its normal part accepts at the start, or, where that
+/// refuses, the control character stands there, and on the rest the other part accepts.
+pub fn escaped_transform_grows_by_pieces<
+    A: Allocator + Copy,
+    X: Builder + Drop,
+    C: AsChar + Value,
+    I: Input<Item = C> + ExtendInto<A, Extender = X>,
+    F: Parser<I> + Drop,
+    G: Parser<I, Error = F::Error> + Drop,
+>(_parser: &EscapedTransform<A, F, G>)
+where
+    F::Output: ExtendInto<A, Extender = X>,
+    G::Output: ExtendInto<A, Extender = X>,
+    requires normal { (F.meaning (F.state _parser.now.normal)).IsSound }
+    requires transform { (G.meaning (G.state _parser.now.transform)).IsSound }
+    ensures { GrowsByPieces I.seen (λ x. C.code x ≡ _parser.now.control_char) F.Error.errors (F.meaning (F.state _parser.now.normal)) (G.meaning (G.state _parser.now.transform)) (⟦<EscapedTransform<A, F, G> as Parser<I>>⟧.meaning (F.state _parser.now.normal, _parser.now.control_char, G.state _parser.now.transform)) }
+{}
