@@ -8,4 +8,4 @@ pub use nom_combinator::{
 pub use nom_ends::{
     AllConsuming, Fail, Success, all_consuming, eof, fail, rest, rest_len, success,
 };
-pub use nom_iterator::{ParserIterator, iterator};
+pub use nom_iterator::{ParserIterator, State, iterator};

@@ -1,5 +1,5 @@
-//! What every parser promises, what combinators, the items of an iterator, a permutation, lists, counts and folds do, and
-//! where fronts and rests stand.
+//! What every parser promises, what combinators, the items of an iterator, a permutation, lists, counts and folds do,
+//! where lists and texts may run out of memory, and where fronts and rests stand.
 
 pub use nom_combinator::promises::{
     complete_never_waits, consumed_gives_front, cut_never_refuses, not_consumes_nothing,
@@ -16,8 +16,14 @@ pub use nom_growing::promises::{
 pub use nom_iterator::promises::{finishes_so, gives_items, items_are_one, items_fit, items_stay};
 pub use nom_lengths::promises::length_count_accepts;
 pub use nom_located::promises::{stands_after, stands_there};
+pub use nom_memory::promises::{
+    count_grows_by_items, escaped_transform_grows_by_pieces, length_count_grows_by_items,
+    many_grows_by_items, many_m_n_grows_by_items, many_till_grows_by_items, many0_grows_by_items,
+    many1_grows_by_items, separated_list0_grows_by_items, separated_list1_grows_by_items,
+};
 pub use nom_multi::promises::{
     count_accepts, has_few_items, many_m_n_accepts, many_till_accepts, many0_accepts,
     many1_accepts, refuses_at_empty, separated_list0_accepts, separated_list1_accepts,
 };
 pub use nom_permutation::promises::applies_each_once;
+pub use nom_stream_functions as stream_functions;

@@ -22,11 +22,11 @@ where
 #[test]
 fn errors_that_hold_an_input(rt: HostRuntime) -> Result<(), Fail> {
     let error: Error<&str> = closed("start", "below")?;
-    assert_eq!(rt; error, Error::new("below", ErrorKind::Digit));
+    assert!(rt; error == Error::new("below", ErrorKind::Digit));
     let error: (&str, ErrorKind) = closed("start", "below")?;
-    assert_eq!(rt; error, ("below", ErrorKind::Digit));
+    assert!(rt; error == ("below", ErrorKind::Digit));
     let error: (&str, ErrorKind) = ParseError::from_char("below", 'x')?;
-    assert_eq!(rt; error, ("below", ErrorKind::Char));
+    assert!(rt; error == ("below", ErrorKind::Char));
     let _nothing: () = closed("start", "below")?;
     Ok(())
 }
@@ -34,8 +34,8 @@ fn errors_that_hold_an_input(rt: HostRuntime) -> Result<(), Fail> {
 #[test]
 fn errors_made_of_parts(rt: HostRuntime) -> Result<(), Fail> {
     let error: Error<&str> = make_error("below", ErrorKind::Eof)?;
-    assert_eq!(rt; error, Error::new("below", ErrorKind::Eof));
-    assert_eq!(rt; append_error("start", ErrorKind::Alt, error), Ok(error));
+    assert!(rt; error == Error::new("below", ErrorKind::Eof));
+    assert!(rt; append_error("start", ErrorKind::Alt, error) == Ok(error));
     Ok(())
 }
 
@@ -46,40 +46,34 @@ fn owned_inputs(rt: HostRuntime) -> Result<(), Fail> {
     let error = Error::new("ab", ErrorKind::Tag).cloned(rt.alloc())?;
     assert!(rt; error.input.as_str() == "ab" && error.code == ErrorKind::Tag);
     let mut place = 7;
-    assert_eq!(rt;
-        Error::new(&place, ErrorKind::Tag).copied(),
-        Error::new(7, ErrorKind::Tag)
-    );
-    assert_eq!(rt;
-        Error::new(&mut place, ErrorKind::Tag).copied(),
-        Error::new(7, ErrorKind::Tag)
-    );
+    assert!(rt; Error::new(&place, ErrorKind::Tag).copied() == Error::new(7, ErrorKind::Tag));
+    assert!(rt; Error::new(&mut place, ErrorKind::Tag).copied() == Error::new(7, ErrorKind::Tag));
     Ok(())
 }
 
 #[test]
 fn owned_answers(rt: HostRuntime) -> Result<(), Fail> {
     let refused = Err::Error(Error::new(&b"ab"[..], ErrorKind::Tag)).to_owned(rt.alloc())?;
-    assert_eq!(rt;
-        refused.map_input(|bytes| bytes.as_slice() == b"ab".as_slice()),
-        Err::Error(Error::new(true, ErrorKind::Tag))
+    assert!(rt;
+        refused.map_input(|bytes| bytes.as_slice() == b"ab".as_slice())
+            == Err::Error(Error::new(true, ErrorKind::Tag))
     );
     let failed = Err::Failure(Error::new("ab", ErrorKind::Tag)).to_owned(rt.alloc())?;
-    assert_eq!(rt;
-        failed.map_input(|text| text.as_str() == "ab"),
-        Err::Failure(Error::new(true, ErrorKind::Tag))
+    assert!(rt;
+        failed.map_input(|text| text.as_str() == "ab")
+            == Err::Failure(Error::new(true, ErrorKind::Tag))
     );
     let refused = Err::Error((&b"ab"[..], ErrorKind::Tag)).to_owned(rt.alloc())?;
-    assert_eq!(rt;
-        refused.map_input(|bytes| bytes.as_slice() == b"ab".as_slice()),
-        Err::Error((true, ErrorKind::Tag))
+    assert!(rt;
+        refused.map_input(|bytes| bytes.as_slice() == b"ab".as_slice())
+            == Err::Error((true, ErrorKind::Tag))
     );
     let unsure: Err<(&str, ErrorKind)> = Err::Incomplete(Needed::new(2));
-    assert_eq!(rt;
+    assert!(rt;
         unsure
             .to_owned(rt.alloc())?
-            .map_input(|text| text.as_str() == "ab"),
-        Err::Incomplete(Needed::new(2))
+            .map_input(|text| text.as_str() == "ab")
+            == Err::Incomplete(Needed::new(2))
     );
     Ok(())
 }
@@ -87,21 +81,15 @@ fn owned_answers(rt: HostRuntime) -> Result<(), Fail> {
 #[test]
 fn mapped_inputs(rt: HostRuntime) {
     let refused = Err::Error(Error::new("ab", ErrorKind::Tag));
-    assert_eq!(rt;
-        refused.map_input(|text| text.len()),
-        Err::Error(Error::new(2, ErrorKind::Tag))
-    );
+    assert!(rt; refused.map_input(|text| text.len()) == Err::Error(Error::new(2, ErrorKind::Tag)));
     let failed = Err::Failure(("ab", ErrorKind::Tag));
-    assert_eq!(rt;
-        failed.map_input(|text| text.len()),
-        Err::Failure((2, ErrorKind::Tag))
-    );
+    assert!(rt; failed.map_input(|text| text.len()) == Err::Failure((2, ErrorKind::Tag)));
     let starved: Err<(&str, ErrorKind)> = Err::OutOfMemory;
-    assert_eq!(rt; starved.map_input(|text| text.len()), Err::OutOfMemory);
+    assert!(rt; starved.map_input(|text| text.len()) == Err::OutOfMemory);
 }
 
 #[test]
 fn converted_errors(rt: HostRuntime) {
     let failed: Err<u8> = Err::Failure(7);
-    assert_eq!(rt; Err::<u16>::convert(failed), Err::Failure(7));
+    assert!(rt; Err::<u16>::convert(failed) == Err::Failure(7));
 }
