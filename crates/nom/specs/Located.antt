@@ -1,6 +1,6 @@
 -- Inputs with line and column: their words, and the cuts of those that hold bytes.
 pub use Rattle.nom_located.specs.Located.{IsAfter, Place, line_ends, located, past_bytes, place, seen_located}
-use Rattle.std.specs.Prelude.{ℕ, List, [], ◌∷◌, length}
+use Rattle.std.specs.Prelude.{ℕ, List, length}
 use Rattle.std.specs.Borrow.{Bor}
 use Rattle.nom_traits.specs.Bytes.{seen_bytes}
 use Rattle.nom_growing.specs.ByteCuts.{AllWithin, byte_cuts}

@@ -1,5 +1,5 @@
 -- Where items within limits run out of memory, and what is accepted where they are.
-use Rattle.std.proofs.Common.{◌≡◌, ℕ, ◌+◌, ◌<◌, Bool, true, false, Option, Some, None, ◌⊎◌, inl, inr, List, [], ◌∷◌, zero, suc, lit<, subst}
+use Rattle.std.proofs.Common.{◌≡◌, ℕ, ◌+◌, Bool, true, false, Option, Some, None, ◌⊎◌, inl, inr, List, [], ◌∷◌, zero, suc, lit<, subst}
 use Rattle.std.specs.Prelude.{ltb}
 use Rattle.nom_error.specs.Errors.{Errors}
 use Rattle.nom_error.specs.Modes.{Modes, modes}
@@ -8,11 +8,10 @@ use Rattle.nom_traits.specs.Input.{Seen}
 use Rattle.nom_internal.specs.Outcome.{Outcome}
 use Rattle.nom_internal.specs.Outcome.Outcome.{Accept, Refuse, Fail, TooLarge, Undecided}
 use Rattle.nom_internal.specs.Meaning.{Meaning, IsLawful}
-use Rattle.nom_internal.specs.Families.{always}
 use Rattle.nom_internal.specs.Sequence.{after}
-use Rattle.nom_repeat.specs.Repeat.{Turn, IsBelow, OnReply, Pieces, Reaches, Repeats, Replies, TurnsBy}
+use Rattle.nom_repeat.specs.Repeat.{IsBelow, OnReply, Pieces, Replies, TurnsBy}
 use Rattle.nom_repeat.specs.Repeat.Turn.{Takes, Ends}
-use Rattle.nom_repeat.specs.Items.{empty_turn, item_turn, refused_turn, item_errors, EmptyAsks, ItemAsks, items_meaning}
+use Rattle.nom_repeat.specs.Items.{item_turn, refused_turn, item_errors, EmptyAsks, ItemAsks, items_meaning}
 use Rattle.nom_repeat.specs.declared.items.Limits.{Limits}
 use Rattle.nom_repeat.specs.declared.items.TooFew.{TooFew}
 use Rattle.nom_repeat.specs.Bounds.{one_limits}

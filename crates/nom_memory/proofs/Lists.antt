@@ -1,13 +1,11 @@
 -- Where lists run out of memory.
-use Rattle.std.proofs.Common.{◌≡◌, ℕ, Bool, true, false, ◌⊎◌, inl, inr, List, [], ◌∷◌, ◌++◌}
+use Rattle.std.proofs.Common.{◌≡◌, ℕ, Bool, true, false, inl, inr, List, [], ◌∷◌}
 use Rattle.nom_error.specs.Errors.{Errors}
 use Rattle.nom_error.specs.Modes.{Modes, with_outputs}
 use Rattle.nom_error.specs.declared.kind.ErrorKind.{ErrorKind}
 use Rattle.nom_error.specs.declared.kind.ErrorKind.TheVariants as Kind
 use Rattle.nom_traits.specs.Input.{Seen, InputLaws}
 use Rattle.nom_internal.specs.Meaning.{Meaning, IsLawful}
-use Rattle.nom_internal.specs.Families.{Family}
-use Rattle.nom_internal.specs.Sequence.{OnRest, ThenRunsOut}
 use Rattle.nom_internal.specs.Sequence.ThenRunsOut.{RunsOutFirst, RunsOutNext}
 use Rattle.nom_internal.specs.SequenceLaws.{sequence_lawful}
 use Rattle.nom_repeat.specs.Bounds.{any_limits, one_limits, exact_limits, bounded_limits}
@@ -20,7 +18,6 @@ use Rattle.nom_multi.specs.Bounded.{count_meaning, many_m_n_meaning}
 use Rattle.nom_multi.specs.Many.{many0_meaning, many1_meaning}
 use Rattle.nom_multi.specs.Separated.{further_meaning, optional_limits, follows, separated0_meaning, separated1_meaning}
 use Rattle.nom_folds.specs.Ranges.{range_limits, range_meaning}
-use Rattle.nom_folds.specs.Unfit.{Where}
 use Rattle.nom_lengths.specs.Lengths.{length_count_meaning}
 use Rattle.std.specs.Prelude.{ltb}
 use Rattle.std.specs.declared.ops.Bound.{Bound}

@@ -11,7 +11,7 @@ use Rattle.nom_internal.specs.CaseLaws.{labelled_lawful}
 use Rattle.nom_internal.specs.Choice.{GoesOnRefused}
 use Rattle.nom_internal.specs.ChoiceLaws.{otherwise_lawful}
 use Rattle.nom_repeat.specs.Repeat.{IsBelow, OnReply, Pieces, Replies, TurnsBy}
-use Rattle.nom_repeat.specs.Repeat.Turn.{Takes, Ends}
+use Rattle.nom_repeat.specs.Repeat.Turn.{Takes}
 use Rattle.nom_multi.specs.Till.{end_or_item, step_turn, till_turn, TillAsks, OnItem, many_till_meaning}
 use Rattle.nom_memory.specs.Growths.{AlwaysFrugal, IsAccepted, GrowsUntil}
 

@@ -5,7 +5,7 @@
 use Rattle.std.specs.Prelude.{◌≡◌, ℕ, Bool, true, ◌⊎◌}
 use Rattle.nom_error.specs.Errors.{Errors}
 use Rattle.nom_error.specs.Modes.{Modes}
-use Rattle.nom_traits.specs.Input.{Seen, IsRest}
+use Rattle.nom_traits.specs.Input.{Seen}
 use Rattle.nom_internal.specs.Outcome.{Outcome}
 use Rattle.nom_internal.specs.Outcome.Outcome.{Accept, Refuse}
 use Rattle.nom_internal.specs.Meaning.{Meaning}

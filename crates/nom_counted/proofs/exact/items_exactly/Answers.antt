@@ -1,4 +1,4 @@
-use Rattle.std.proofs.Common.{◌≡◌, ◌++◌, ◌∷◌, [], length, refl, inl, rules}
+use Rattle.std.proofs.Common.{refl, inl, rules}
 use Rattle.std.proofs.lemmas.Bool.{lt-ltb}
 use Rattle.nom_error.specs.declared.kind.ErrorKind.TheVariants as Kind
 use Rattle.nom_internal.proofs.Shown.{accepts}
@@ -15,7 +15,7 @@ pub loop-done-init : goal.loop-done-init
 loop-done-init g c = record {
   state_kept = refl;
   collected = collected_none g.met.I.Items.lawful c.known.ensures
-    (kept_none g.K.Keep.Gains g.K.Keep.CanKeep (g.F.Parser.IsOutput (g.F.Parser.state c.args.parser.now)) _ _ c.requires.built, refl);
+      (kept_none g.K.Keep.Gains g.K.Keep.CanKeep (g.F.Parser.IsOutput (g.F.Parser.state c.args.parser.now)) _ _ c.requires.built, refl);
   can_keep = can_keep_first g.K.Keep.Gains g.K.Keep.CanKeep (g.F.Parser.IsOutput (g.F.Parser.state c.args.parser.now)) _ _ c.requires.built;
 }
 
@@ -28,7 +28,7 @@ loop-done-preserved g c =
     record {
       state_kept = cc;
       collected = items_more g.met.I.Items.lawful (exact_limits c.args.count) i.collected (is_below c.loop-done-test.true i.collected.held.1) item (inl refl)
-        (gained g.K.Keep.Gains g.K.Keep.CanKeep (g.F.Parser.IsOutput (g.F.Parser.state c.args.parser.now)) _ _ _ _ _ _ _ gains i.collected.held.0 item.built_is, one_longer _ _ i.collected.held.1);
+          (gained g.K.Keep.Gains g.K.Keep.CanKeep (g.F.Parser.IsOutput (g.F.Parser.state c.args.parser.now)) _ _ _ _ _ _ _ gains i.collected.held.0 item.built_is, one_longer _ _ i.collected.held.1);
       can_keep = can_keep_next g.K.Keep.Gains g.K.Keep.CanKeep (g.F.Parser.IsOutput (g.F.Parser.state c.args.parser.now)) _ _ _ gains i.can_keep;
     }
 
@@ -37,9 +37,9 @@ returns-then-not-gain-clause-shown g c =
     let i = c.loop-done.invariant in
     let part = shown_at g.F.Parser.IsOutput g.F.Parser.meaning i.state_kept c.in-Ok.ensures.shown in
     items_lack_room g.F.Error.ParseError.errors (exact_limits c.args.count) g.K.Keep.Grows (g.F.Parser.meaning (g.F.Parser.state c.args.parser.now)) i.collected
-      (is_below c.loop-done-test.true i.collected.held.1) (accepts part) (inl refl)
-      (room_built g.K.Keep.IsFull _ _ _ i.collected.held.0 (c.gain.ensures.full c.if-not-gain.true))
-      (room_grows g.K.Keep.IsFull g.K.Keep.Grows g.K.Keep.fills _ (c.gain.ensures.full c.if-not-gain.true))
+    (is_below c.loop-done-test.true i.collected.held.1) (accepts part) (inl refl)
+    (room_built g.K.Keep.IsFull _ _ _ i.collected.held.0 (c.gain.ensures.full c.if-not-gain.true))
+    (room_grows g.K.Keep.IsFull g.K.Keep.Grows g.K.Keep.fills _ (c.gain.ensures.full c.if-not-gain.true))
 
 pub returns-in-Err-Error-clause-shown : goal.returns-in-Err-Error-clause-shown
 returns-in-Err-Error-clause-shown g c =
@@ -47,31 +47,31 @@ returns-in-Err-Error-clause-shown g c =
     let part = shown_at g.F.Parser.IsOutput g.F.Parser.meaning i.state_kept c.in-Err-Error.ensures.shown in
     let below = is_below c.loop-done-test.true i.collected.held.1 in
     items_too_few g.F.Error.ParseError.errors (exact_limits c.args.count) g.K.Keep.Grows (g.F.Parser.meaning (g.F.Parser.state c.args.parser.now)) i.collected
-      below (lt-ltb _ _ below) (Added Kind.Count) refl c.in-Err-Error.field-0-is part refl c.close_error.ensures
+    below (lt-ltb _ _ below) (Added Kind.Count) refl c.in-Err-Error.field-0-is part refl c.close_error.ensures
 
 pub returns-in-Err-Failure-clause-shown : goal.returns-in-Err-Failure-clause-shown
 returns-in-Err-Failure-clause-shown g c =
     let i = c.loop-done.invariant in
     let part = shown_at g.F.Parser.IsOutput g.F.Parser.meaning i.state_kept c.in-Err-Failure.ensures.shown in
     items_failed g.F.Error.ParseError.errors (exact_limits c.args.count) g.K.Keep.Grows (g.F.Parser.meaning (g.F.Parser.state c.args.parser.now)) i.collected
-      (is_below c.loop-done-test.true i.collected.held.1) c.in-Err-Failure.field-0-is part
+    (is_below c.loop-done-test.true i.collected.held.1) c.in-Err-Failure.field-0-is part
 
 pub returns-in-Err-Incomplete-clause-shown : goal.returns-in-Err-Incomplete-clause-shown
 returns-in-Err-Incomplete-clause-shown g c =
     let i = c.loop-done.invariant in
     let part = shown_at g.F.Parser.IsOutput g.F.Parser.meaning i.state_kept c.in-Err-Incomplete.ensures.shown in
     items_lack g.F.Error.ParseError.errors (exact_limits c.args.count) g.K.Keep.Grows (g.F.Parser.meaning (g.F.Parser.state c.args.parser.now)) i.collected
-      (is_below c.loop-done-test.true i.collected.held.1) c.in-Err-Incomplete.field-0-is part
+    (is_below c.loop-done-test.true i.collected.held.1) c.in-Err-Incomplete.field-0-is part
 
 pub returns-in-Err-OutOfMemory-clause-shown : goal.returns-in-Err-OutOfMemory-clause-shown
 returns-in-Err-OutOfMemory-clause-shown g c =
     let i = c.loop-done.invariant in
     let part = shown_at g.F.Parser.IsOutput g.F.Parser.meaning i.state_kept c.in-Err-OutOfMemory.ensures.shown in
     items_part_ran_out g.F.Error.ParseError.errors (exact_limits c.args.count) g.K.Keep.Grows (g.F.Parser.meaning (g.F.Parser.state c.args.parser.now)) i.collected
-      (is_below c.loop-done-test.true i.collected.held.1) c.in-Err-OutOfMemory.field-0-is part
+    (is_below c.loop-done-test.true i.collected.held.1) c.in-Err-OutOfMemory.field-0-is part
 
 pub returns-clause-shown : goal.returns-clause-shown
 returns-clause-shown g c =
     let i = c.loop-done.invariant in
     items_full g.F.Error.ParseError.errors (exact_limits c.args.count) g.K.Keep.Grows (g.F.Parser.meaning (g.F.Parser.state c.args.parser.now)) i.collected
-      (is_over c.loop-done-test.false i.collected.held.1) i.collected.held.0
+    (is_over c.loop-done-test.false i.collected.held.1) i.collected.held.0
