@@ -26,7 +26,9 @@ pub fn items_exactly<OM: OutputMode, I: Items, F: Parser<I>, K: Keep<F::Output> 
 ) -> PResult<I, K, F::Error>
     requires sound { (F.meaning (F.state parser.old)).IsSound }
     requires built { Built OM.Output.BUILDS K.CanKeep before }
-    ensures shown { ShowsMeaning I.seen (Kept K.Gains K.CanKeep (F.IsOutput (F.state parser.old)) before) (items_meaning I.seen F.Error.errors (exact_limits count) K.Grows (F.meaning (F.state parser.old))) (modes OM.Output.BUILDS OM.Error.BUILDS OM.Incomplete.STREAMING) input result }
+    ensures shown { ShowsMeaning I.seen (Kept K.Gains K.CanKeep (F.IsOutput (F.state parser.old)) before)
+        (items_meaning I.seen F.Error.errors (exact_limits count) K.Grows (F.meaning (F.state parser.old)))
+        (modes OM.Output.BUILDS OM.Error.BUILDS OM.Incomplete.STREAMING) input result }
     ensures kept { F.state parser.new ≡ F.state parser.old }
 {
     input.known();

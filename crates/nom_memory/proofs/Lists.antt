@@ -38,33 +38,43 @@ module _ {I A V E : Type 0} (w : Seen I A) (errs : Errors I E) (m : Meaning I V 
 
   pub many1_grow : GrowsByItems w errs m (many1_meaning w errs m)
   many1_grow frugal none mode i h (RunsOutFirst r) = limited_grow (one_limits (Added Kind.Many1) true) frugal none mode i h r
-  many1_grow frugal none mode i h (RunsOutNext r) =
-      ((many0_grow frugal none mode r.rest r.rest_is.known r.fact).0, one_accepted w errs (Added Kind.Many1) true (Unit {0}) m mode.streaming i r.length r.tree r.accepted)
+  many1_grow frugal none mode i h (RunsOutNext r) = (
+    (many0_grow frugal none mode r.rest r.rest_is.known r.fact).0,
+    one_accepted w errs (Added Kind.Many1) true (Unit {0}) m mode.streaming i r.length
+        r.tree r.accepted,
+  )
 
   -- bounds that are the wrong way round take memory for an error alone
   pub many_m_n_grow : (least most : ℕ) → GrowsByItems w errs m (many_m_n_meaning w errs least most m)
   many_m_n_grow least most frugal none mode i h r = by (ltb most least) r
     where
-      by : (test : Bool) → Either test (Unit {0} × errs.grows) ((items_meaning w errs (bounded_limits Kind.ManyMN least most) (Unit {0}) m).runs_out mode i) → (mode.outputs ≡ true) × IsAccepted (m.answers mode.streaming) i
+      by : (test : Bool) → Either test (Unit {0} × errs.grows) ((items_meaning w errs (bounded_limits Kind.ManyMN least most) (Unit {0}) m).runs_out
+          mode i) → (mode.outputs ≡ true) × IsAccepted (m.answers mode.streaming) i
       by true q = absurd (none q.1)
       by false q = limited_grow (bounded_limits Kind.ManyMN least most) frugal none mode i h q
 
   -- a range with nothing between its ends takes memory for an error alone
-  pub range_grow : (kind : ErrorKind) (IsSpent : Type 0) (lower upper : Bound ℕ) → GrowsByItems w errs m (range_meaning w errs kind IsSpent lower upper (Unit {0}) m)
+  pub range_grow : (kind : ErrorKind) (IsSpent : Type 0) (lower upper : Bound ℕ) →
+      GrowsByItems w errs m (range_meaning w errs kind IsSpent lower upper (Unit {0}) m)
   range_grow kind IsSpent lower upper frugal none mode i h (inl r) = absurd (none r.1.1)
   range_grow kind IsSpent lower upper frugal none mode i h (inr r) = limited_grow (range_limits kind lower upper) frugal none mode i h r.1
 
-  pub length_count_grow : {P : Type 0} (IsLength : P → ℕ → Type 0) (length : Meaning I P E) → IsLawful w length → GrowsByCounted w errs length m (length_count_meaning w errs IsLength length m)
-  length_count_grow IsLength length p frugal none mode i h (RunsOutFirst r) = absurd (p.frugal (with_outputs true mode) i h (frugal.0 (with_outputs true mode)) r)
+  pub length_count_grow : {P : Type 0} (IsLength : P → ℕ → Type 0) (length : Meaning I P E) → IsLawful w length →
+      GrowsByCounted w errs length m (length_count_meaning w errs IsLength length m)
+  length_count_grow IsLength length p frugal none mode i h (RunsOutFirst r) =
+      absurd (p.frugal (with_outputs true mode) i h (frugal.0 (with_outputs true mode)) r)
   length_count_grow IsLength length p frugal none mode i h (RunsOutNext r) =
       let k = limited_grow (exact_limits r.fact.value) frugal.1 none mode r.rest r.rest_is.known r.fact.fact in
       (k.0, record { length = r.length; tree = r.tree; rest = r.rest; accepted = r.accepted; rest_is = r.rest_is; fact = k.1 })
 
-module _ {I A P V E : Type 0} (w : Seen I A) (l : InputLaws w) (errs : Errors I E) (separator : Meaning I P E) (m : Meaning I V E) (separates : IsLawful w separator) (lawful : IsLawful w m) where
-  further_grow : AlwaysFrugal separator × AlwaysFrugal m → (errs.grows → ⊥) → (mode : Modes) (j : I) → w.IsKnown j → (further_meaning w errs separator m).runs_out mode j → mode.outputs ≡ true
+module _ {I A P V E : Type 0} (w : Seen I A) (l : InputLaws w) (errs : Errors I E) (separator : Meaning I P E) (m : Meaning I V E)
+    (separates : IsLawful w separator) (lawful : IsLawful w m) where
+  further_grow : AlwaysFrugal separator × AlwaysFrugal m → (errs.grows → ⊥) → (mode : Modes) (j : I) → w.IsKnown j →
+      (further_meaning w errs separator m).runs_out mode j → mode.outputs ≡ true
   further_grow frugal none mode j h r =
       let part = sequence_lawful w l (λ u v. v) (with_outputs false) (λ o. o) separator m separates lawful in
-      (items_grow w errs (any_limits Kind.SeparatedList) (Unit {0}) (preceded_meaning w separator m) part (λ z. (frugal.0 (with_outputs false z), frugal.1 z)) none mode j h r).0.0
+      (items_grow w errs (any_limits Kind.SeparatedList) (Unit {0}) (preceded_meaning w separator m) part
+      (λ z. (frugal.0 (with_outputs false z), frugal.1 z)) none mode j h r).0.0
 
   pub separated1_grow : GrowsBySeparated w errs separator m (separated1_meaning w errs separator m)
   separated1_grow frugal none mode i h (RunsOutFirst r) =
@@ -77,6 +87,10 @@ module _ {I A P V E : Type 0} (w : Seen I A) (l : InputLaws w) (errs : Errors I 
       let k = items_grow w errs optional_limits (Unit {0}) m lawful frugal.1 none mode i h r in (k.0.0, k.1)
   separated0_grow frugal none mode i h (RunsOutNext r) = by r.tree r.accepted r.fact
     where
-      by : (vs : List V) → (items_meaning w errs optional_limits (Unit {0}) m).answers mode.streaming i (Accept r.length vs) → (follows w errs separator m vs).runs_out mode r.rest → (mode.outputs ≡ true) × IsAccepted (m.answers mode.streaming) i
+      by : (vs : List V) → (items_meaning w errs optional_limits (Unit {0}) m).answers mode.streaming i (Accept r.length vs) →
+          (follows w errs separator m vs).runs_out mode r.rest → (mode.outputs ≡ true) × IsAccepted (m.answers mode.streaming) i
       by [] a q = absurd q.0
-      by (v ∷ vs) a q = (further_grow frugal none mode r.rest r.rest_is.known q, some_accepted w errs optional_limits (Unit {0}) m mode.streaming i r.length v vs a)
+      by (v ∷ vs) a q = (
+        further_grow frugal none mode r.rest r.rest_is.known q,
+        some_accepted w errs optional_limits (Unit {0}) m mode.streaming i r.length v vs a,
+      )

@@ -1,5 +1,6 @@
 -- Where texts of pieces run out of memory.
-use Rattle.std.proofs.Common.{◌≡◌, ℕ, ◌+◌, Bool, true, false, Option, Some, None, ◌⊎◌, inl, inr, List, [], ◌∷◌, ◌++◌, zero, suc, refl, sym, ◌∙◌, subst, ap, arith}
+use Rattle.std.proofs.Common.{◌≡◌, ℕ, ◌+◌, Bool, true, false, Option, Some, None, ◌⊎◌, inl, inr, List, [], ◌∷◌, ◌++◌, zero, suc, refl, sym, ◌∙◌, subst}
+use Rattle.std.proofs.Common.{ap, arith}
 use Rattle.nom_error.specs.Errors.{Errors}
 use Rattle.nom_error.specs.Modes.{Modes, with_errors, with_outputs}
 use Rattle.nom_traits.specs.Input.{Seen, InputLaws, IsRest, IsSame, span}
@@ -23,7 +24,8 @@ use Rattle.nom_escaped.specs.Escapes.{by_spot, escape_turn, OnReplied, OnSpot, e
 use Rattle.nom_memory.specs.Growths.{AlwaysFrugal, IsAccepted, GrowsByPieces}
 
 -- an acceptance after n items comes of one
-after_accept : {P Q : Type 0} (n k : ℕ) (t : Q) (tree : P → Q) (o : Outcome P) → Accept k t ≡ after n tree o → (m : ℕ) × (u : P) × (o ≡ Accept m u) × (t ≡ tree u)
+after_accept : {P Q : Type 0} (n k : ℕ) (t : Q) (tree : P → Q) (o : Outcome P) → Accept k t ≡ after n tree o →
+    (m : ℕ) × (u : P) × (o ≡ Accept m u) × (t ≡ tree u)
 after_accept n k t tree (Accept m u) e = (m, u, refl, cc (e))
 after_accept n k t tree Refuse e = absurd (cc (e))
 after_accept n k t tree Fail e = absurd (cc (e))
@@ -37,7 +39,8 @@ refuse_of label Fail e = absurd (cc (e))
 refuse_of label TooLarge e = absurd (cc (e))
 refuse_of label (Undecided d) e = absurd (cc (e))
 
-accept_of : {P Q : Type 0} (n : ℕ) (u : Q) (label : P → Q) (a : Outcome P) → Accept n u ≡ labelled label a → (k : ℕ) × (t : P) × (a ≡ Accept k t) × (u ≡ label t)
+accept_of : {P Q : Type 0} (n : ℕ) (u : Q) (label : P → Q) (a : Outcome P) → Accept n u ≡ labelled label a →
+    (k : ℕ) × (t : P) × (a ≡ Accept k t) × (u ≡ label t)
 accept_of n u label (Accept k t) e = (k, t, refl, cc (e))
 accept_of n u label Refuse e = absurd (cc (e))
 accept_of n u label Fail e = absurd (cc (e))
@@ -52,7 +55,8 @@ same_rest w l i j n e r = by r.front r.whole r.length_is r.mark_is
     by [] whole is mark = record { elements_are = sym whole; mark_is = mark ∙ l.mark_none (w.mark i) }
     by (x ∷ xs) whole is mark = absurd (omega (arith, l.positive x, is, e))
 
-module _ {I A U W E : Type 0} (w : Seen I A) (l : InputLaws w) (IsControl : A → Type 0) (lack : Option ℕ) (m : Meaning I U E) (g : Meaning I W E) (p : IsLawful w m) (s : Bool) where
+module _ {I A U W E : Type 0} (w : Seen I A) (l : InputLaws w) (IsControl : A → Type 0) (lack : Option ℕ) (m : Meaning I U E) (g : Meaning I W E)
+    (p : IsLawful w m) (s : Bool) where
   -- a piece stands at i
   abbrev pub HasPiece : I → Type 0
   HasPiece i = IsAccepted (m.answers s) i ⊎ (m.answers s i Refuse × BehindControl w IsControl (IsAccepted (g.answers s)) i)
@@ -67,10 +71,13 @@ module _ {I A U W E : Type 0} (w : Seen I A) (l : InputLaws w) (IsControl : A �
   found_done v e = absurd (cc (e))
 
   -- after the control character
-  escaped_at : (i : I) (n : ℕ) (v : Piece U W) → (escape_meaning {U = U} w IsControl lack g).answers s i (Accept n (Found v)) → BehindControl w IsControl (IsAccepted (g.answers s)) i
+  escaped_at : (i : I) (n : ℕ) (v : Piece U W) → (escape_meaning {U = U} w IsControl lack g).answers s i (Accept n (Found v)) →
+      BehindControl w IsControl (IsAccepted (g.answers s)) i
   escaped_at i n v a = by a.first a.answered a.goes_on
     where
-      behind : (k : ℕ) (c : Control (Unit {0})) → (look {E = E} (control_leaf w IsControl lack)).answers s i (Accept k c) → (j : I) → IsRest w i k j → (o : Outcome (Spot (Piece U W))) → (by_control {U = U} g c).answers s j o → Accept n (Found v) ≡ after k (λ t. t) o → BehindControl w IsControl (IsAccepted (g.answers s)) i
+      behind : (k : ℕ) (c : Control (Unit {0})) → (look {E = E} (control_leaf w IsControl lack)).answers s i (Accept k c) → (j : I) → IsRest w i k j →
+          (o : Outcome (Spot (Piece U W))) → (by_control {U = U} g c).answers s j o → Accept n (Found v) ≡ after k (λ t. t) o →
+          BehindControl w IsControl (IsAccepted (g.answers s)) i
       behind k Control.None b j r o x e =
           let f = after_accept k n (Found v) (λ t. t) o e in
           let y = subst (λ z. (by_control {U = U} g Control.None).answers s j z) f.2 x in
@@ -93,7 +100,9 @@ module _ {I A U W E : Type 0} (w : Seen I A) (l : InputLaws w) (IsControl : A �
             fact = (c.0, c.1, subst (λ z. g.answers s z (Accept c.0 c.1)) (sym x.at_is) (subst (g.answers s x.at) c.2 x.answered));
           }
 
-      by : (first : Outcome (Control (Unit {0}))) → (look {E = E} (control_leaf w IsControl lack)).answers s i first → GoesOn w (λ _ t. t) (λ c. (by_control {U = U} g c).answers s) i first (Accept n (Found v)) → BehindControl w IsControl (IsAccepted (g.answers s)) i
+      by : (first : Outcome (Control (Unit {0}))) → (look {E = E} (control_leaf w IsControl lack)).answers s i first →
+          GoesOn w (λ _ t. t) (λ c. (by_control {U = U} g c).answers s) i first (Accept n (Found v)) →
+          BehindControl w IsControl (IsAccepted (g.answers s)) i
       by (Accept k c) b x = behind k c b x.0 x.2 x.1 x.3 x.4
       by Refuse b x = absurd (cc (x))
       by Fail b x = absurd (cc (x))
@@ -103,12 +112,17 @@ module _ {I A U W E : Type 0} (w : Seen I A) (l : InputLaws w) (IsControl : A �
   piece_at : (i : I) (n : ℕ) (v : Piece U W) → (piece_meaning w IsControl lack m g).answers s i (Accept n (Found v)) → HasPiece i
   piece_at i n v a = by a.first a.answered a.goes_on
     where
-      by : (first : Outcome (Spot (Piece U W))) → (labelled_meaning (λ u. Found (Normal u)) m).answers s i first → GoesOnRefused ((escape_meaning {U = U} w IsControl lack g).answers s i) first (Accept n (Found v)) → HasPiece i
+      by : (first : Outcome (Spot (Piece U W))) → (labelled_meaning (λ u. Found (Normal u)) m).answers s i first →
+          GoesOnRefused ((escape_meaning {U = U} w IsControl lack g).answers s i) first (Accept n (Found v)) → HasPiece i
       by (Accept k u) b e =
           let c = accept_of k u (λ z. Found (Normal z)) b.outcome b.fact in
           inl (c.0, c.1, subst (λ z. m.answers s z (Accept c.0 c.1)) (sym b.at_is) (subst (m.answers s b.at) c.2 b.answered))
       by Refuse b e =
-          inr (subst (λ z. m.answers s z Refuse) (sym b.at_is) (subst (m.answers s b.at) (refuse_of (λ z. Found (Normal z)) b.outcome b.fact) b.answered), escaped_at i n v e)
+          inr (
+            subst (λ z. m.answers s z Refuse) (sym b.at_is) (subst (m.answers s b.at) (refuse_of (λ z. Found (Normal z)) b.outcome b.fact)
+                b.answered),
+            escaped_at i n v e,
+          )
       by Fail b e = absurd (cc (e))
       by TooLarge b e = absurd (cc (e))
       by (Undecided d) b e = absurd (cc (e))
@@ -134,7 +148,8 @@ module _ {I A U W E : Type 0} (w : Seen I A) (l : InputLaws w) (IsControl : A �
   spot_at : (i : I) (n : ℕ) (v : Piece U W) → w.IsKnown i → (spot_meaning w IsControl lack m g).answers s i (Accept n (Found v)) → HasPiece i
   spot_at i n v h a = by a.first a.answered a.goes_on
     where
-      on_left : (k : ℕ) (left : Bool) → (k ≡ 0) → (j : I) → IsRest w i k j → (o : Outcome (Spot (Piece U W))) → (by_left Done (piece_meaning w IsControl lack m g) left).answers s j o → Accept n (Found v) ≡ after k (λ t. t) o → HasPiece i
+      on_left : (k : ℕ) (left : Bool) → (k ≡ 0) → (j : I) → IsRest w i k j → (o : Outcome (Spot (Piece U W))) →
+          (by_left Done (piece_meaning w IsControl lack m g) left).answers s j o → Accept n (Found v) ≡ after k (λ t. t) o → HasPiece i
       on_left k true z j r o x e =
           let f = after_accept k n (Found v) (λ t. t) o e in
           let found = subst (λ y. (piece_meaning w IsControl lack m g).answers s j y) (f.2 ∙ ap (λ y. Accept f.0 y) (sym f.3)) x in
@@ -144,7 +159,8 @@ module _ {I A U W E : Type 0} (w : Seen I A) (l : InputLaws w) (IsControl : A �
           let y = subst (λ z. (by_left Done (piece_meaning w IsControl lack m g) false).answers s j z) f.2 x in
           absurd (found_done v (f.3 ∙ y.1))
 
-      by : (first : Outcome Bool) → (look {E = E} (left_leaf w)).answers s i first → GoesOn w (λ _ t. t) (λ b. (by_left Done (piece_meaning w IsControl lack m g) b).answers s) i first (Accept n (Found v)) → HasPiece i
+      by : (first : Outcome Bool) → (look {E = E} (left_leaf w)).answers s i first →
+          GoesOn w (λ _ t. t) (λ b. (by_left Done (piece_meaning w IsControl lack m g) b).answers s) i first (Accept n (Found v)) → HasPiece i
       by (Accept k b) c x = on_left k b c.0 x.0 x.2 x.1 x.3 x.4
       by Refuse c x = absurd (cc (x))
       by Fail c x = absurd (cc (x))
@@ -158,7 +174,8 @@ module _ {I A U W E : Type 0} (w : Seen I A) (l : InputLaws w) (IsControl : A �
   spot_taken i Dangling n k a v e = absurd (cc (e))
   spot_taken i Done n k a v e = absurd (cc (e))
 
-  taken_by : (k : ℕ) (i : I) (a : ℕ) (v : Piece U W) (reply : Option (Outcome (Spot (Piece U W)))) → w.IsKnown i → Replies None (λ _. (spot_meaning w IsControl lack m g).answers s) k i reply → Takes a v ≡ escape_turn k reply → HasPiece i
+  taken_by : (k : ℕ) (i : I) (a : ℕ) (v : Piece U W) (reply : Option (Outcome (Spot (Piece U W)))) → w.IsKnown i →
+      Replies None (λ _. (spot_meaning w IsControl lack m g).answers s) k i reply → Takes a v ≡ escape_turn k reply → HasPiece i
   taken_by k i a v (Some (Accept n u)) h r e =
       let x = spot_taken i u n k a v e in spot_at i n x.0 h (subst (λ z. (spot_meaning w IsControl lack m g).answers s i (Accept n z)) x.1 r.1)
   taken_by k i a v (Some Refuse) h r e = absurd (cc (e))
@@ -167,22 +184,28 @@ module _ {I A U W E : Type 0} (w : Seen I A) (l : InputLaws w) (IsControl : A �
   taken_by k i a v (Some (Undecided d)) h r e = absurd (cc (e))
   taken_by k i a v None h r e = absurd (cc (e))
 
-module _ {I A U W E : Type 0} (w : Seen I A) (l : InputLaws w) (IsControl : A → Type 0) (errs : Errors I E) (m : Meaning I U E) (g : Meaning I W E) (p : IsLawful w m) (q : IsLawful w g) (frugal : AlwaysFrugal m × AlwaysFrugal g) (none : errs.grows → ⊥) (mode : Modes) where
+module _ {I A U W E : Type 0} (w : Seen I A) (l : InputLaws w) (IsControl : A → Type 0) (errs : Errors I E) (m : Meaning I U E) (g : Meaning I W E)
+    (p : IsLawful w m) (q : IsLawful w g) (frugal : AlwaysFrugal m × AlwaysFrugal g) (none : errs.grows → ⊥) (mode : Modes) where
   abbrev Piece_at : I → Type 0
   Piece_at i = HasPiece w l IsControl None m g p mode.streaming i
 
   abbrev Asked : ℕ → I → Type 0
   Asked k j =
-      OnReply None (λ _. (spot_meaning w IsControl None m g).answers mode.streaming) (OnReplied (mode.outputs ≡ true) ((k ≡ 0) × (mode.errors ≡ true) × errs.grows) ((mode.errors ≡ true) × errs.grows) ⊥) k j
+      OnReply None (λ _. (spot_meaning w IsControl None m g).answers mode.streaming)
+      (OnReplied (mode.outputs ≡ true) ((k ≡ 0) × (mode.errors ≡ true) × errs.grows) ((mode.errors ≡ true) × errs.grows) ⊥) k j
       ⊎ (IsBelow None k × (spot_meaning w IsControl None m g).runs_out mode j)
 
-  on_spot : (k : ℕ) (j : I) (n : ℕ) (u : Spot (Piece U W)) → w.IsKnown j → (spot_meaning w IsControl None m g).answers mode.streaming j (Accept n u) → OnSpot (mode.outputs ≡ true) ((k ≡ 0) × (mode.errors ≡ true) × errs.grows) ((mode.errors ≡ true) × errs.grows) u → (mode.outputs ≡ true) × Piece_at j
+  on_spot : (k : ℕ) (j : I) (n : ℕ) (u : Spot (Piece U W)) → w.IsKnown j → (spot_meaning w IsControl None m g).answers mode.streaming j (Accept n u) →
+      OnSpot (mode.outputs ≡ true) ((k ≡ 0) × (mode.errors ≡ true) × errs.grows) ((mode.errors ≡ true) × errs.grows) u → (mode.outputs ≡ true) × Piece_at j
   on_spot k j n (Found v) h a z = (z, spot_at w l IsControl None m g p mode.streaming j n v h a)
   on_spot k j n Other h a z = absurd (none z.2)
   on_spot k j n Dangling h a z = absurd (none z.1)
   on_spot k j n Done h a z = absurd z
 
-  asked_by : (k : ℕ) (j : I) (reply : Option (Outcome (Spot (Piece U W)))) → w.IsKnown j → Replies None (λ _. (spot_meaning w IsControl None m g).answers mode.streaming) k j reply → OnReplied (mode.outputs ≡ true) ((k ≡ 0) × (mode.errors ≡ true) × errs.grows) ((mode.errors ≡ true) × errs.grows) ⊥ reply → (mode.outputs ≡ true) × Piece_at j
+  asked_by : (k : ℕ) (j : I) (reply : Option (Outcome (Spot (Piece U W)))) → w.IsKnown j →
+      Replies None (λ _. (spot_meaning w IsControl None m g).answers mode.streaming) k j reply →
+      OnReplied (mode.outputs ≡ true) ((k ≡ 0) × (mode.errors ≡ true) × errs.grows) ((mode.errors ≡ true) × errs.grows) ⊥ reply →
+      (mode.outputs ≡ true) × Piece_at j
   asked_by k j (Some (Accept n u)) h r z = on_spot k j n u h r.1 z
   asked_by k j (Some Refuse) h r z = absurd z
   asked_by k j (Some Fail) h r z = absurd z
@@ -192,14 +215,22 @@ module _ {I A U W E : Type 0} (w : Seen I A) (l : InputLaws w) (IsControl : A �
 
   asked : (k : ℕ) (j : I) → w.IsKnown j → Asked k j → (mode.outputs ≡ true) × Piece_at j
   asked k j h (inl r) = asked_by k j r.reply h r.replied r.fact
-  asked k j h (inr r) = absurd ((spot_lawful w l IsControl None m g p q).frugal mode j h (λ _ x. x, (frugal.0 (with_outputs mode.outputs (with_errors false mode)), (λ _ x. x, frugal.1 mode))) r.1)
+  asked k j h (inr r) = absurd ((spot_lawful w l IsControl None m g p q).frugal mode j h
+      (λ _ x. x, (frugal.0 (with_outputs mode.outputs (with_errors false mode)), (λ _ x. x, frugal.1 mode))) r.1)
 
-  walked : (k : ℕ) (i : I) (vs : List (Piece U W)) (n : ℕ) → w.IsKnown i → Pieces w (TurnsBy None escape_turn (λ _. (spot_meaning w IsControl None m g).answers mode.streaming)) Asked k i vs n → (mode.outputs ≡ true) × Piece_at i
+  walked : (k : ℕ) (i : I) (vs : List (Piece U W)) (n : ℕ) → w.IsKnown i →
+      Pieces w (TurnsBy None escape_turn (λ _. (spot_meaning w IsControl None m g).answers mode.streaming)) Asked k i vs n →
+      (mode.outputs ≡ true) × Piece_at i
   walked k i [] n h z = asked k i h z.1
-  walked k i (v ∷ vs) n h z = ((walked (k + 1) z.2 vs z.1 z.4.known z.5).0, taken_by w l IsControl None m g p mode.streaming k i z.0 v z.3.reply h z.3.replied z.3.fact)
+  walked k i (v ∷ vs) n h z = (
+    (walked (k + 1) z.2 vs z.1 z.4.known z.5).0,
+    taken_by w l IsControl None m g p mode.streaming k i z.0 v z.3.reply h z.3.replied z.3.fact,
+  )
 
   pub pieces_grow : (i : I) → w.IsKnown i → (escaped_transform_meaning w errs IsControl m g).runs_out mode i → (mode.outputs ≡ true) × Piece_at i
   pieces_grow i h r = walked 0 i r.trees r.taken h r.pieces
 
-pub escaped_transform_grow : {I A U W E : Type 0} (w : Seen I A) → InputLaws w → (IsControl : A → Type 0) (errs : Errors I E) (m : Meaning I U E) (g : Meaning I W E) → IsLawful w m → IsLawful w g → GrowsByPieces w IsControl errs m g (escaped_transform_meaning w errs IsControl m g)
+pub escaped_transform_grow : {I A U W E : Type 0} (w : Seen I A) → InputLaws w →
+    (IsControl : A → Type 0) (errs : Errors I E) (m : Meaning I U E) (g : Meaning I W E) → IsLawful w m → IsLawful w g →
+    GrowsByPieces w IsControl errs m g (escaped_transform_meaning w errs IsControl m g)
 escaped_transform_grow w l IsControl errs m g p q frugal none mode i h r = pieces_grow w l IsControl errs m g p q frugal none mode i h r

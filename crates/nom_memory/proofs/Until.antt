@@ -20,7 +20,8 @@ module _ {I V T E : Type 0} (m : Meaning I V E) (end : Meaning I T E) (s : Bool)
   abbrev pub IsItem : I → Type 0
   IsItem i = end.answers s i Refuse × IsAccepted (m.answers s) i
 
-  label_of : {P : Type 0} (n : ℕ) (u : T ⊎ V) (label : P → T ⊎ V) (a : Outcome P) → Accept n u ≡ labelled label a → (k : ℕ) × (t : P) × (a ≡ Accept k t) × (u ≡ label t)
+  label_of : {P : Type 0} (n : ℕ) (u : T ⊎ V) (label : P → T ⊎ V) (a : Outcome P) → Accept n u ≡ labelled label a →
+      (k : ℕ) × (t : P) × (a ≡ Accept k t) × (u ≡ label t)
   label_of n u label (Accept k t) e = (k, t, refl, cc (e))
   label_of n u label Refuse e = absurd (cc (e))
   label_of n u label Fail e = absurd (cc (e))
@@ -41,7 +42,8 @@ module _ {I V T E : Type 0} (m : Meaning I V E) (end : Meaning I T E) (s : Bool)
   item_of : (i : I) (n : ℕ) (v : V) → (end_or_item end m).answers s i (Accept n (inr v)) → IsItem i
   item_of i n v a = by a.first a.answered a.goes_on
     where
-      by : (first : Outcome (T ⊎ V)) → (labelled_meaning inl end).answers s i first → GoesOnRefused ((labelled_meaning inr m).answers s i) first (Accept n (inr v)) → IsItem i
+      by : (first : Outcome (T ⊎ V)) → (labelled_meaning inl end).answers s i first →
+          GoesOnRefused ((labelled_meaning inr m).answers s i) first (Accept n (inr v)) → IsItem i
       by (Accept k u) b e =
           let c = label_of k u inl b.outcome b.fact in
           let same : u ≡ inr v = cc (e) in
@@ -59,7 +61,8 @@ module _ {I V T E : Type 0} (m : Meaning I V E) (end : Meaning I T E) (s : Bool)
   step_taken (inl t) n a v e = absurd (cc (e))
   step_taken (inr x) n a v e = (x, refl)
 
-  taken_by : (i : I) (a : ℕ) (v : V) (reply : Option (Outcome (T ⊎ V))) → Replies None (λ _. (end_or_item end m).answers s) 0 i reply → Takes a v ≡ till_turn reply → IsItem i
+  taken_by : (i : I) (a : ℕ) (v : V) (reply : Option (Outcome (T ⊎ V))) → Replies None (λ _. (end_or_item end m).answers s) 0 i reply →
+      Takes a v ≡ till_turn reply → IsItem i
   taken_by i a v (Some (Accept n u)) h e =
       let x = step_taken u n a v e in item_of i n x.0 (subst (λ z. (end_or_item end m).answers s i (Accept n z)) x.1 h.1)
   taken_by i a v (Some Refuse) h e = absurd (cc (e))
@@ -68,18 +71,21 @@ module _ {I V T E : Type 0} (m : Meaning I V E) (end : Meaning I T E) (s : Bool)
   taken_by i a v (Some (Undecided d)) h e = absurd (cc (e))
   taken_by i a v None h e = absurd (cc (e))
 
-module _ {I A V T E : Type 0} (w : Seen I A) (errs : Errors I E) (m : Meaning I V E) (end : Meaning I T E) (p : IsLawful w m) (q : IsLawful w end) (none : errs.grows → ⊥) (mode : Modes) where
+module _ {I A V T E : Type 0} (w : Seen I A) (errs : Errors I E) (m : Meaning I V E) (end : Meaning I T E) (p : IsLawful w m) (q : IsLawful w end)
+    (none : errs.grows → ⊥) (mode : Modes) where
   abbrev Asked : ℕ → I → Type 0
   Asked k j =
       OnReply None (λ _. (end_or_item end m).answers mode.streaming) (TillAsks ((mode.errors ≡ true) × errs.grows) (mode.outputs ≡ true)) k j
       ⊎ (IsBelow None k × (end_or_item end m).runs_out mode j)
 
-  item_asks : (j : I) (u : T ⊎ V) (n : ℕ) → (end_or_item end m).answers mode.streaming j (Accept n u) → OnItem ((mode.errors ≡ true) × errs.grows) (mode.outputs ≡ true) u n → (mode.outputs ≡ true) × IsItem m end mode.streaming j
+  item_asks : (j : I) (u : T ⊎ V) (n : ℕ) → (end_or_item end m).answers mode.streaming j (Accept n u) →
+      OnItem ((mode.errors ≡ true) × errs.grows) (mode.outputs ≡ true) u n → (mode.outputs ≡ true) × IsItem m end mode.streaming j
   item_asks j (inl t) n a h = absurd h
   item_asks j (inr v) zero a h = absurd (none h.1)
   item_asks j (inr v) (suc n) a h = (h, item_of m end mode.streaming j (suc n) v a)
 
-  asked_by : (k : ℕ) (j : I) (reply : Option (Outcome (T ⊎ V))) → Replies None (λ _. (end_or_item end m).answers mode.streaming) k j reply → TillAsks ((mode.errors ≡ true) × errs.grows) (mode.outputs ≡ true) reply → (mode.outputs ≡ true) × IsItem m end mode.streaming j
+  asked_by : (k : ℕ) (j : I) (reply : Option (Outcome (T ⊎ V))) → Replies None (λ _. (end_or_item end m).answers mode.streaming) k j reply →
+      TillAsks ((mode.errors ≡ true) × errs.grows) (mode.outputs ≡ true) reply → (mode.outputs ≡ true) × IsItem m end mode.streaming j
   asked_by k j (Some (Accept n u)) h z = item_asks j u n h.1 z
   asked_by k j (Some Refuse) h z = absurd (none z.1)
   asked_by k j (Some Fail) h z = absurd z
@@ -93,14 +99,18 @@ module _ {I A V T E : Type 0} (w : Seen I A) (errs : Errors I E) (m : Meaning I 
       let part = otherwise_lawful w (labelled_meaning inl end) (labelled_meaning inr m) (labelled_lawful w end inl q) (labelled_lawful w m inr p) in
       absurd (part.frugal mode j h (frugal.1 (with_errors false mode), frugal.0 mode) r.1)
 
-  walked : AlwaysFrugal m × AlwaysFrugal end → (k : ℕ) (i : I) (vs : List V) (n : ℕ) → w.IsKnown i → Pieces w (TurnsBy None (λ _ a. till_turn a) (λ _. (end_or_item end m).answers mode.streaming)) Asked k i vs n → (mode.outputs ≡ true) × IsItem m end mode.streaming i
+  walked : AlwaysFrugal m × AlwaysFrugal end → (k : ℕ) (i : I) (vs : List V) (n : ℕ) → w.IsKnown i →
+      Pieces w (TurnsBy None (λ _ a. till_turn a) (λ _. (end_or_item end m).answers mode.streaming)) Asked k i vs n →
+      (mode.outputs ≡ true) × IsItem m end mode.streaming i
   walked frugal k i [] n h z = asked frugal k i h z.1
   walked frugal k i (v ∷ vs) n h z =
       ((walked frugal (k + 1) z.2 vs z.1 z.4.known z.5).0, taken_by m end mode.streaming i z.0 v z.3.reply (below z.3.reply z.3.replied) z.3.fact)
     where
-      below : (reply : Option (Outcome (T ⊎ V))) → Replies None (λ _. (end_or_item end m).answers mode.streaming) k i reply → Replies None (λ _. (end_or_item end m).answers mode.streaming) 0 i reply
+      below : (reply : Option (Outcome (T ⊎ V))) → Replies None (λ _. (end_or_item end m).answers mode.streaming) k i reply →
+          Replies None (λ _. (end_or_item end m).answers mode.streaming) 0 i reply
       below (Some o) y = y
       below None y = y
 
-pub many_till_grow : {I A V T E : Type 0} (w : Seen I A) (errs : Errors I E) (m : Meaning I V E) (end : Meaning I T E) → IsLawful w m → IsLawful w end → GrowsUntil w errs m end (many_till_meaning w errs m end)
+pub many_till_grow : {I A V T E : Type 0} (w : Seen I A) (errs : Errors I E) (m : Meaning I V E) (end : Meaning I T E) → IsLawful w m → IsLawful w end →
+    GrowsUntil w errs m end (many_till_meaning w errs m end)
 many_till_grow w errs m end p q frugal none mode i h r = walked w errs m end p q none mode frugal 0 i r.trees r.taken h r.pieces

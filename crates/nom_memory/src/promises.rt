@@ -40,7 +40,8 @@ pub fn count_grows_by_items<I: Items, A: Allocator + Copy, F: Parser<I> + Drop>(
     _parser: &Count<A, F>,
 )
     requires { (F.meaning (F.state _parser.now.parser)).IsSound }
-    ensures { GrowsByItems I.seen F.Error.errors (F.meaning (F.state _parser.now.parser)) (⟦<Count<A, F> as Parser<I>>⟧.meaning (_parser.now.count, F.state _parser.now.parser)) }
+    ensures { GrowsByItems I.seen F.Error.errors (F.meaning (F.state _parser.now.parser))
+        (⟦<Count<A, F> as Parser<I>>⟧.meaning (_parser.now.count, F.state _parser.now.parser)) }
 {}
 
 /// `many_m_n` runs out of memory only for an item: its first is accepted.
@@ -48,7 +49,8 @@ pub fn many_m_n_grows_by_items<I: Input, A: Allocator + Copy, F: Parser<I> + Dro
     _parser: &ManyMN<A, F>,
 )
     requires { (F.meaning (F.state _parser.now.parser)).IsSound }
-    ensures { GrowsByItems I.seen F.Error.errors (F.meaning (F.state _parser.now.parser)) (⟦<ManyMN<A, F> as Parser<I>>⟧.meaning (_parser.now.min, _parser.now.max, F.state _parser.now.parser)) }
+    ensures { GrowsByItems I.seen F.Error.errors (F.meaning (F.state _parser.now.parser))
+        (⟦<ManyMN<A, F> as Parser<I>>⟧.meaning (_parser.now.min, _parser.now.max, F.state _parser.now.parser)) }
 {}
 
 /// `many` runs out of memory only for an item: its first is accepted.
@@ -60,7 +62,8 @@ pub fn many_grows_by_items<
     C: Collection<F::Output, A>,
 >(_parser: &Many<A, R, F, C>)
     requires { (F.meaning (F.state _parser.now.parser)).IsSound }
-    ensures { GrowsByItems I.seen F.Error.errors (F.meaning (F.state _parser.now.parser)) (⟦<Many<A, R, F, C> as Parser<I>>⟧.meaning (F.state _parser.now.parser, _parser.now.range)) }
+    ensures { GrowsByItems I.seen F.Error.errors (F.meaning (F.state _parser.now.parser))
+        (⟦<Many<A, R, F, C> as Parser<I>>⟧.meaning (F.state _parser.now.parser, _parser.now.range)) }
 {}
 
 /// `separated_list1` runs out of memory only for an item: its first is accepted.
@@ -72,7 +75,8 @@ pub fn separated_list1_grows_by_items<
 >(_parser: &SeparatedList1<A, G, F>)
     requires separator { (G.meaning (G.state _parser.now.next.first)).IsSound }
     requires item { (F.meaning (F.state _parser.now.next.second)).IsSound }
-    ensures { GrowsBySeparated I.seen F.Error.errors (G.meaning (G.state _parser.now.next.first)) (F.meaning (F.state _parser.now.next.second)) (⟦<SeparatedList1<A, G, F> as Parser<I>>⟧.meaning (G.state _parser.now.next.first, F.state _parser.now.next.second)) }
+    ensures { GrowsBySeparated I.seen F.Error.errors (G.meaning (G.state _parser.now.next.first)) (F.meaning (F.state _parser.now.next.second))
+        (⟦<SeparatedList1<A, G, F> as Parser<I>>⟧.meaning (G.state _parser.now.next.first, F.state _parser.now.next.second)) }
 {}
 
 /// `separated_list0` runs out of memory only for an item: its first is accepted.
@@ -84,7 +88,8 @@ pub fn separated_list0_grows_by_items<
 >(_parser: &SeparatedList0<A, G, F>)
     requires separator { (G.meaning (G.state _parser.now.next.first)).IsSound }
     requires item { (F.meaning (F.state _parser.now.next.second)).IsSound }
-    ensures { GrowsBySeparated I.seen F.Error.errors (G.meaning (G.state _parser.now.next.first)) (F.meaning (F.state _parser.now.next.second)) (⟦<SeparatedList0<A, G, F> as Parser<I>>⟧.meaning (G.state _parser.now.next.first, F.state _parser.now.next.second)) }
+    ensures { GrowsBySeparated I.seen F.Error.errors (G.meaning (G.state _parser.now.next.first)) (F.meaning (F.state _parser.now.next.second))
+        (⟦<SeparatedList0<A, G, F> as Parser<I>>⟧.meaning (G.state _parser.now.next.first, F.state _parser.now.next.second)) }
 {}
 
 /// `many_till` runs out of memory only for an item: its end refuses at the start, and its first item is accepted.
@@ -96,7 +101,8 @@ pub fn many_till_grows_by_items<
 >(_parser: &ManyTill<A, F, G>)
     requires item { (F.meaning (F.state _parser.now.parser)).IsSound }
     requires end { (G.meaning (G.state _parser.now.end)).IsSound }
-    ensures { GrowsUntil I.seen F.Error.errors (F.meaning (F.state _parser.now.parser)) (G.meaning (G.state _parser.now.end)) (⟦<ManyTill<A, F, G> as Parser<I>>⟧.meaning (F.state _parser.now.parser, G.state _parser.now.end)) }
+    ensures { GrowsUntil I.seen F.Error.errors (F.meaning (F.state _parser.now.parser)) (G.meaning (G.state _parser.now.end))
+        (⟦<ManyTill<A, F, G> as Parser<I>>⟧.meaning (F.state _parser.now.parser, G.state _parser.now.end)) }
 {}
 
 /// `length_count` runs out of memory only for an item: its length is accepted, and on the rest its first item.
@@ -108,7 +114,8 @@ pub fn length_count_grows_by_items<
 >(_parser: &LengthCount<A, F, G>)
     requires length { (F.meaning (F.state _parser.now.length)).IsSound }
     requires item { (G.meaning (G.state _parser.now.parser)).IsSound }
-    ensures { GrowsByCounted I.seen F.Error.errors (F.meaning (F.state _parser.now.length)) (G.meaning (G.state _parser.now.parser)) (⟦<LengthCount<A, F, G> as Parser<I>>⟧.meaning (F.state _parser.now.length, G.state _parser.now.parser)) }
+    ensures { GrowsByCounted I.seen F.Error.errors (F.meaning (F.state _parser.now.length)) (G.meaning (G.state _parser.now.parser))
+        (⟦<LengthCount<A, F, G> as Parser<I>>⟧.meaning (F.state _parser.now.length, G.state _parser.now.parser)) }
 {}
 
 /// `escaped_transform` runs out of memory only for a piece: its normal part accepts at the start, or, where that
@@ -126,5 +133,7 @@ where
     G::Output: ExtendInto<A, Extender = X>,
     requires normal { (F.meaning (F.state _parser.now.normal)).IsSound }
     requires transform { (G.meaning (G.state _parser.now.transform)).IsSound }
-    ensures { GrowsByPieces I.seen (λ x. C.code x ≡ _parser.now.control_char) F.Error.errors (F.meaning (F.state _parser.now.normal)) (G.meaning (G.state _parser.now.transform)) (⟦<EscapedTransform<A, F, G> as Parser<I>>⟧.meaning (F.state _parser.now.normal, _parser.now.control_char, G.state _parser.now.transform)) }
+    ensures { GrowsByPieces I.seen (λ x. C.code x ≡ _parser.now.control_char) F.Error.errors (F.meaning (F.state _parser.now.normal))
+        (G.meaning (G.state _parser.now.transform)) (⟦<EscapedTransform<A, F, G> as Parser<I>>⟧.meaning
+        (F.state _parser.now.normal, _parser.now.control_char, G.state _parser.now.transform)) }
 {}

@@ -11,5 +11,6 @@ use nom_traits::input::Input;
 
 /// `bool`.
 pub fn bool_streams<I: Input<Item = u8>, E: ParseError<(I, usize)>>()
-    ensures { IsStreamParser (seen_bits I.seen) itself (λ i r. ParsesMeaning (seen_bits I.seen) (λ t v. v ≡ t) (bool_meaning I.seen E.errors) true i r) (λ i. Unit {0}) }
+    ensures { IsStreamParser (seen_bits I.seen) itself (λ i r. ParsesMeaning (seen_bits I.seen) (λ t v. v ≡ t) (bool_meaning I.seen E.errors) true i r)
+        (λ i. Unit {0}) }
 {}

@@ -19,7 +19,8 @@ use nom_traits::input::Input;
 pub fn class_runs_stream<I: Input, E: ParseError<I>>(_class: AsciiClass, _wanted: Option<ErrorKind>)
 where
     I::Item: AsChar,
-    ensures { IsStreamParser I.seen I.view (λ i r. ParsesMeaning I.seen (IsSeenAs I.seen) (class_meaning I.seen I.Item.code E.errors _class _wanted) true i r) (λ i. Unit {0}) }
+    ensures { IsStreamParser I.seen I.view (λ i r. ParsesMeaning I.seen (IsSeenAs I.seen) (class_meaning I.seen I.Item.code E.errors _class _wanted)
+        true i r) (λ i. Unit {0}) }
 {}
 
 /// `anychar`.
@@ -33,7 +34,8 @@ where
 pub fn chars_stream<I: Input, E: ParseError<I>>(_wanted: char)
 where
     I::Item: AsChar,
-    ensures { IsStreamParser I.seen itself (λ i r. ParsesMeaning I.seen (λ t c. c ≡ t) (char_meaning I.seen I.Item.code E.errors _wanted) true i r) (λ i. Unit {0}) }
+    ensures { IsStreamParser I.seen itself (λ i r. ParsesMeaning I.seen (λ t c. c ≡ t) (char_meaning I.seen I.Item.code E.errors _wanted) true i r)
+        (λ i. Unit {0}) }
 {}
 
 /// `crlf`.
@@ -47,7 +49,8 @@ where
 pub fn line_ending_streams<I: Input, E: ParseError<I>>()
 where
     I::Item: AsChar,
-    ensures { IsStreamParser I.seen I.view (λ i r. ParsesMeaning I.seen (IsSeenAs I.seen) (line_ending_meaning I.seen I.Item.code E.errors) true i r) (λ i. Unit {0}) }
+    ensures { IsStreamParser I.seen I.view (λ i r. ParsesMeaning I.seen (IsSeenAs I.seen) (line_ending_meaning I.seen I.Item.code E.errors) true i r)
+        (λ i. Unit {0}) }
 {}
 
 /// `not_line_ending`.
@@ -61,12 +64,14 @@ where
 pub fn unsigned_integers_stream<I: Input, E: ParseError<I>>()
 where
     I::Item: AsChar,
-    ensures { (bits : ℕ) → IsStreamParser I.seen itself (λ i r. ParsesMeaning I.seen (λ z x. pos x ≡ z) (unsigned_meaning I.seen I.Item.code bits E.errors) true i r) (λ i. Unit {0}) }
+    ensures { (bits : ℕ) → IsStreamParser I.seen itself (λ i r. ParsesMeaning I.seen (λ z x. pos x ≡ z)
+        (unsigned_meaning I.seen I.Item.code bits E.errors) true i r) (λ i. Unit {0}) }
 {}
 
 /// `i8` to `i128`, and `isize`, by their width.
 pub fn signed_integers_stream<I: Input, E: ParseError<I>>()
 where
     I::Item: AsChar,
-    ensures { (width : Width) → IsStreamParser I.seen itself (λ i r. ParsesMeaning I.seen (λ z x. x ≡ z) (signed_meaning I.seen I.Item.code width E.errors) true i r) (λ i. Unit {0}) }
+    ensures { (width : Width) → IsStreamParser I.seen itself (λ i r. ParsesMeaning I.seen (λ z x. x ≡ z)
+        (signed_meaning I.seen I.Item.code width E.errors) true i r) (λ i. Unit {0}) }
 {}

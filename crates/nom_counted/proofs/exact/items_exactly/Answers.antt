@@ -27,8 +27,11 @@ loop-done-preserved g c =
     let gains = c.gain.ensures.kept (search rules) in
     record {
       state_kept = cc;
-      collected = items_more g.met.I.Items.lawful (exact_limits c.args.count) i.collected (is_below c.loop-done-test.true i.collected.held.1) item (inl refl)
-          (gained g.K.Keep.Gains g.K.Keep.CanKeep (g.F.Parser.IsOutput (g.F.Parser.state c.args.parser.now)) _ _ _ _ _ _ _ gains i.collected.held.0 item.built_is, one_longer _ _ i.collected.held.1);
+      collected = items_more g.met.I.Items.lawful (exact_limits c.args.count) i.collected (is_below c.loop-done-test.true i.collected.held.1) item (inl refl) (
+        gained g.K.Keep.Gains g.K.Keep.CanKeep (g.F.Parser.IsOutput (g.F.Parser.state c.args.parser.now)) _ _ _ _ _ _ _ gains i.collected.held.0
+            item.built_is,
+        one_longer _ _ i.collected.held.1,
+      );
       can_keep = can_keep_next g.K.Keep.Gains g.K.Keep.CanKeep (g.F.Parser.IsOutput (g.F.Parser.state c.args.parser.now)) _ _ _ gains i.can_keep;
     }
 
@@ -67,7 +70,8 @@ pub returns-in-Err-OutOfMemory-clause-shown : goal.returns-in-Err-OutOfMemory-cl
 returns-in-Err-OutOfMemory-clause-shown g c =
     let i = c.loop-done.invariant in
     let part = shown_at g.F.Parser.IsOutput g.F.Parser.meaning i.state_kept c.in-Err-OutOfMemory.ensures.shown in
-    items_part_ran_out g.F.Error.ParseError.errors (exact_limits c.args.count) g.K.Keep.Grows (g.F.Parser.meaning (g.F.Parser.state c.args.parser.now)) i.collected
+    items_part_ran_out g.F.Error.ParseError.errors (exact_limits c.args.count) g.K.Keep.Grows (g.F.Parser.meaning (g.F.Parser.state c.args.parser.now))
+    i.collected
     (is_below c.loop-done-test.true i.collected.held.1) c.in-Err-OutOfMemory.field-0-is part
 
 pub returns-clause-shown : goal.returns-clause-shown

@@ -12,8 +12,10 @@ abbrev pub invariant-loop-done : goal.invariant-loop-done
 invariant-loop-done g l = record {
   state_kept : g.F.Parser.state l.parser ≡ g.F.Parser.state l.fn.parser;
   collected : Collected g.I.Items.seen
-      (TurnsBy (Some l.fn.count) (item_turn (exact_limits l.fn.count)) (λ _. (g.F.Parser.meaning (g.F.Parser.state l.fn.parser)).answers g.OM.Incomplete.IsStreaming.STREAMING))
-      (λ vs. Built g.OM.Output.Mode.BUILDS (Kept g.K.Keep.Gains g.K.Keep.CanKeep (g.F.Parser.IsOutput (g.F.Parser.state l.fn.parser)) l.fn.before vs) l.kept × (l.done ≡ length vs))
+      (TurnsBy (Some l.fn.count) (item_turn (exact_limits l.fn.count)) (λ _. (g.F.Parser.meaning (g.F.Parser.state l.fn.parser)).answers
+      g.OM.Incomplete.IsStreaming.STREAMING))
+      (λ vs. Built g.OM.Output.Mode.BUILDS (Kept g.K.Keep.Gains g.K.Keep.CanKeep (g.F.Parser.IsOutput (g.F.Parser.state l.fn.parser)) l.fn.before vs)
+      l.kept × (l.done ≡ length vs))
       l.fn.input l.rest;
   can_keep : IfSome l.kept g.K.Keep.CanKeep;
 }
