@@ -6,6 +6,7 @@ use nom::branch::alt;
 use nom::bytes::{self as whole, tag, take, take_until};
 use nom::combinator::opt;
 use nom::error::Error;
+use nom::multi::{count, length_count};
 use nom::sequence::{pair, preceded, terminated};
 use nom::{AsBytes, Compare, FindSubstring, Input, Parser};
 use nom_answer_lines::answer::Answer;
@@ -181,6 +182,26 @@ where
     }
 }
 
+/// What n fields answer within `bits`, by the place of their call.
+fn counted_fields<I: Input<Item = u8> + AsBytes>(
+    question: Question<I>,
+    place: usize,
+) -> Option<Answer> {
+    let alloc = question.alloc;
+    let three = streaming::take::<I, u8, usize, Fail<I>>(3);
+    match place {
+        17 => within(question, count(alloc, three, 2)),
+        18 => within(
+            question,
+            length_count(alloc, streaming::take::<I, u8, usize, Fail<I>>(2), three),
+        ),
+        _ => within(
+            question,
+            count(alloc, complete::take::<I, u8, usize, Fail<I>>(3), 4),
+        ),
+    }
+}
+
 /// What a call within `bits` answers; none where it is no such call.
 pub fn composed<I, T>(question: Question<I>, call: &str, slices: Slices<T>) -> Option<Answer>
 where
@@ -203,7 +224,10 @@ where
         preceded(bits::streaming::take::<u8>(4usize), bytes(bytes::tag(&b\"\\x12\"[..])))|\
         preceded(bits::streaming::take::<u8>(4usize), bytes(bytes::take(2305843009213693952usize)))|\
         (bits::streaming::take::<u8>(4usize), bytes(bytes::take(1usize)), bits::streaming::take::<u8>(4usize))|\
-        terminated(bytes(bytes::take(1usize)), bits::streaming::take::<u8>(3usize))";
+        terminated(bytes(bytes::take(1usize)), bits::streaming::take::<u8>(3usize))|\
+        count(bits::streaming::take::<u8>(3usize), 2)|\
+        length_count(bits::streaming::take::<u8>(2usize), bits::streaming::take::<u8>(3usize))|\
+        count(bits::complete::take::<u8>(3usize), 4)";
     let place = place_in(calls, call)?;
     if place < 4 {
         fields(question, place)
@@ -211,8 +235,10 @@ where
         other_fields(question, place - 4)
     } else if place < 13 {
         among_bits(question, place - 7, slices)
-    } else {
+    } else if place < 17 {
         beside_fields(question, place - 13, slices)
+    } else {
+        counted_fields(question, place)
     }
 }
 
