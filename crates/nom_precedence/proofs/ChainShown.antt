@@ -39,7 +39,8 @@ if_taken Fact v zero e h = absurd (omega (arith, e))
 if_taken Fact v (suc n) e h = h
 
 -- a part that is never stuck
-pub accepts_whole : {I V E : Type 0} (m : Meaning I V E) {s : Bool} {j : I} {n : ℕ} {v : V} → m.answers s j (Accept n v) → (labelled_meaning {T = Read V} Whole m).answers s j (Accept n (Whole v))
+pub accepts_whole : {I V E : Type 0} (m : Meaning I V E) {s : Bool} {j : I} {n : ℕ} {v : V} → m.answers s j (Accept n v) →
+    (labelled_meaning {T = Read V} Whole m).answers s j (Accept n (Whole v))
 accepts_whole m {n = n} {v = v} a = here (Accept n v) a refl
 
 pub refuses_whole : {I V E : Type 0} (m : Meaning I V E) {s : Bool} {j : I} → m.answers s j Refuse → (labelled_meaning {T = Read V} Whole m).answers s j Refuse
@@ -49,40 +50,54 @@ refuses_whole m a = here Refuse a refl
 abbrev pub Chain : {I A V : Type 0} (w : Seen I A) (Part : I → Outcome (Read V) → Type 0) (Held : List V → Type 0) (i j : I) → Type 0
 Chain w Part Held i j = Collected w (TurnsBy None (λ _ a. chain_turn a) (λ _. Part)) Held i j
 
-module _ {I A V X E : Type 0} {w : Seen I A} (Grows : Type 0) (m : Meaning I (Read V) E) (IsOutput : List V → X → Type 0) (outputs errors streaming : Bool) {Held : List V → Type 0} {i j : I} (c : Chain w (m.answers streaming) Held i j) where
+module _ {I A V X E : Type 0} {w : Seen I A} (Grows : Type 0) (m : Meaning I (Read V) E) (IsOutput : List V → X → Type 0)
+    (outputs errors streaming : Bool) {Held : List V → Type 0} {i j : I} (c : Chain w (m.answers streaming) Held i j) where
   abbrev ShowsIt : Result (I × Option (Told.Read (Option X))) (Answer.Err E (Option E) Needed) → Type 0
   ShowsIt = ShowsRead w IsOutput (chain_meaning w Grows m) outputs errors streaming i
 
   -- the next one is refused
   pub chain_ended : m.answers streaming j Refuse → (x : Option X) → Built outputs (IsOutput c.trees) x → ShowsIt (Ok (j, Some (Is.Whole x)))
-  chain_ended a x h = not_ran_out _ (λ e. cc (e)) (ended (chain_rule Grows) chained (always m) {IsOutput = IsRead outputs IsOutput} {mode = modes true errors streaming} c (Some Refuse) (tt, a) (Whole tt) refl {b = Some (Is.Whole x)} (Is.Whole x, refl, h))
+  chain_ended a x h = not_ran_out _ (λ e. cc (e)) (ended (chain_rule Grows) chained (always m) {IsOutput = IsRead outputs IsOutput}
+      {mode = modes true errors streaming} c (Some Refuse) (tt, a) (Whole tt) refl {b = Some (Is.Whole x)} (Is.Whole x, refl, h))
 
   -- it consumes nothing
-  pub chain_stuck : InputLaws w → {n : ℕ} (v : V) → m.answers streaming j (Accept n (Whole v)) → n ≡ 0 → {h : I} → IsRest w j n h → ShowsIt (Ok (h, Some Is.Stuck))
-  chain_stuck l {n} v a z q = not_ran_out _ (λ e. cc (e)) (ended_behind (chain_rule Grows) chained (always m) {IsOutput = IsRead outputs IsOutput} {mode = modes true errors streaming} c (Some (Accept n (Whole v))) (tt, a) l n Stuck q (stuck_turn v n z) {b = Some Is.Stuck} (Is.Stuck, refl, tt))
+  pub chain_stuck : InputLaws w → {n : ℕ} (v : V) → m.answers streaming j (Accept n (Whole v)) → n ≡ 0 → {h : I} → IsRest w j n h →
+      ShowsIt (Ok (h, Some Is.Stuck))
+  chain_stuck l {n} v a z q = not_ran_out _ (λ e. cc (e)) (ended_behind (chain_rule Grows) chained (always m) {IsOutput = IsRead outputs IsOutput}
+      {mode = modes true errors streaming} c (Some (Accept n (Whole v))) (tt, a) l n Stuck q (stuck_turn v n z) {b = Some Is.Stuck} (Is.Stuck, refl, tt))
 
   -- it is stuck itself
   pub chain_stuck_within : InputLaws w → {n : ℕ} → m.answers streaming j (Accept n Stuck) → {h : I} → IsRest w j n h → ShowsIt (Ok (h, Some Is.Stuck))
-  chain_stuck_within l {n} a q = not_ran_out _ (λ e. cc (e)) (ended_behind (chain_rule Grows) chained (always m) {IsOutput = IsRead outputs IsOutput} {mode = modes true errors streaming} c (Some (Accept n Stuck)) (tt, a) l n Stuck q refl {b = Some Is.Stuck} (Is.Stuck, refl, tt))
+  chain_stuck_within l {n} a q = not_ran_out _ (λ e. cc (e)) (ended_behind (chain_rule Grows) chained (always m) {IsOutput = IsRead outputs IsOutput}
+      {mode = modes true errors streaming} c (Some (Accept n Stuck)) (tt, a) l n Stuck q refl {b = Some Is.Stuck} (Is.Stuck, refl, tt))
 
   -- there is no memory to keep it
   pub chain_lacks_room : {n : ℕ} (v : V) → m.answers streaming j (Accept n (Whole v)) → 0 < n → outputs ≡ true → Grows → ShowsIt (Err OutOfMemory)
-  chain_lacks_room {n} v a z o g = RanOut refl (part_ran_out refl (ran_out (chain_rule Grows) chained (always m) {IsOutput = IsRead outputs IsOutput} {mode = modes outputs errors streaming} c (Some (Accept n (Whole v))) (tt, a) (if_taken ((outputs ≡ true) × Grows) v n z (o, g))))
+  chain_lacks_room {n} v a z o g = RanOut refl (part_ran_out refl (ran_out (chain_rule Grows) chained (always m) {IsOutput = IsRead outputs IsOutput}
+      {mode = modes outputs errors streaming} c (Some (Accept n (Whole v))) (tt, a) (if_taken ((outputs ≡ true) × Grows) v n z (o, g))))
 
-  module _ {Y : Type 0} {IsTold : Read V → Y → Type 0} {b : Bool} {f : Answer.Err E (Option E) Needed} (h : ShowsAnswer w IsTold (modes b false streaming) j (m.answers streaming j) (m.blames streaming j) (m.runs_out (modes outputs false streaming) j) (Err f)) where
+  module _ {Y : Type 0} {IsTold : Read V → Y → Type 0} {b : Bool} {f : Answer.Err E (Option E) Needed}
+      (h : ShowsAnswer w IsTold (modes b false streaming) j (m.answers streaming j) (m.blames streaming j)
+      (m.runs_out (modes outputs false streaming) j) (Err f)) where
     pub chain_failed : {x : E} → f ≡ Failure x → ShowsIt (Err (Failure x))
     chain_failed {x} e = let p = part_failed e h in by p.0 p.1
       where
         by : m.answers streaming j Fail ⊎ m.answers streaming j TooLarge → m.blames streaming j x → ShowsIt (Err (Failure x))
-        by (inl a) q = not_ran_out _ (λ y. cc (y)) (failed (chain_rule Grows) chained (always m) {IsOutput = IsRead outputs IsOutput} {mode = modes true errors streaming} c (Some Fail) (tt, a) refl x q)
-        by (inr a) q = not_ran_out _ (λ y. cc (y)) (too_large (chain_rule Grows) chained (always m) {IsOutput = IsRead outputs IsOutput} {mode = modes true errors streaming} c (Some TooLarge) (tt, a) refl x q)
+        by (inl a) q = not_ran_out _ (λ y. cc (y)) (failed (chain_rule Grows) chained (always m) {IsOutput = IsRead outputs IsOutput}
+            {mode = modes true errors streaming} c (Some Fail) (tt, a) refl x q)
+        by (inr a) q = not_ran_out _ (λ y. cc (y)) (too_large (chain_rule Grows) chained (always m) {IsOutput = IsRead outputs IsOutput}
+            {mode = modes true errors streaming} c (Some TooLarge) (tt, a) refl x q)
 
     pub chain_lacks : {k : Needed} → f ≡ Incomplete k → ShowsIt (Err (Incomplete k))
-    chain_lacks {k} e = not_ran_out _ (λ y. cc (y)) (lacking (chain_rule Grows) chained (always m) {IsOutput = IsRead outputs IsOutput} {mode = modes true errors streaming} c (Some (Undecided (size_of k))) (tt, part_lacks e h) refl)
+    chain_lacks {k} e = not_ran_out _ (λ y. cc (y)) (lacking (chain_rule Grows) chained (always m) {IsOutput = IsRead outputs IsOutput}
+        {mode = modes true errors streaming} c (Some (Undecided (size_of k))) (tt, part_lacks e h) refl)
 
     pub chain_ran_out : f ≡ OutOfMemory → ShowsIt (Err OutOfMemory)
-    chain_ran_out e = RanOut refl (part_ran_out refl (ran_out_within (chain_rule Grows) chained (always m) {IsOutput = IsRead outputs IsOutput} {mode = modes outputs errors streaming} c tt (part_ran_out e h)))
+    chain_ran_out e = RanOut refl (part_ran_out refl (ran_out_within (chain_rule Grows) chained (always m) {IsOutput = IsRead outputs IsOutput}
+        {mode = modes outputs errors streaming} c tt (part_ran_out e h)))
 
 -- one item more
-pub chain_more : {I A V : Type 0} {w : Seen I A} (l : InputLaws w) (Part : I → Outcome (Read V) → Type 0) {Held More : List V → Type 0} {i j h : I} (c : Chain w Part Held i j) {n : ℕ} (v : V) → Part j (Accept n (Whole v)) → 0 < n → IsRest w j n h → More (c.trees ++ v ∷ []) → Chain w Part More i h
-chain_more l Part c {n} v a p q z = collected_more l (TurnsBy None (λ _ x. chain_turn x) (λ _. Part)) v c (record { reply = Some (Accept n (Whole v)); replied = (tt, a); fact = taken_turn v n p }) q z
+pub chain_more : {I A V : Type 0} {w : Seen I A} (l : InputLaws w) (Part : I → Outcome (Read V) → Type 0) {Held More : List V → Type 0} {i j h : I}
+    (c : Chain w Part Held i j) {n : ℕ} (v : V) → Part j (Accept n (Whole v)) → 0 < n → IsRest w j n h → More (c.trees ++ v ∷ []) → Chain w Part More i h
+chain_more l Part c {n} v a p q z = collected_more l (TurnsBy None (λ _ x. chain_turn x) (λ _. Part)) v c
+    (record { reply = Some (Accept n (Whole v)); replied = (tt, a); fact = taken_turn v n p }) q z

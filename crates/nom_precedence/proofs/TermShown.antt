@@ -29,7 +29,9 @@ module _ {K L O G : Type 0} (value : K → Option O) (fold : K → L) (Gives : L
 
   module _ {V Q : Type 0} (CanKeep : K → Type 0) (IsOperand : V → O → Type 0) (IsPostfix : Q → G → Type 0) (f : L) where
     -- an operand that is built, and what is kept of the postfixes behind it
-    pub tail_built : (outputs : Bool) (v : V) (qs : List Q) (x : Option O) (first k : Option K) (z : Option O) → BuiltFrom true (IsHeld value fold f) x first → MatchOption k (z ≡ None) (λ m. z ≡ value m) → Built outputs (IsOperand v) x → Built outputs (Kept (AppliedGains value fold Gives) CanKeep IsPostfix first qs) k → Built outputs (IsTail IsOperand IsPostfix (Gives f) (v, qs)) z
+    pub tail_built : (outputs : Bool) (v : V) (qs : List Q) (x : Option O) (first k : Option K) (z : Option O) →
+        BuiltFrom true (IsHeld value fold f) x first → MatchOption k (z ≡ None) (λ m. z ≡ value m) → Built outputs (IsOperand v) x →
+        Built outputs (Kept (AppliedGains value fold Gives) CanKeep IsPostfix first qs) k → Built outputs (IsTail IsOperand IsPostfix (Gives f) (v, qs)) z
     tail_built true v qs (Some a) first (Some m) z c e b d =
         let is : a ≡ b.0 = cc (b.1) in
         let one : m ≡ d.0 = cc (d.1) in
@@ -53,14 +55,18 @@ module _ {K L O G : Type 0} (value : K → Option O) (fold : K → L) (Gives : L
     tail_built false v qs x first None z c e b d = e
 
 -- where it is built, postfixes may be applied to it
-pub held_ready : {K L O : Type 0} (value : K → Option O) (fold : K → L) (CanKeep : K → Type 0) (f : L) (outputs : Bool) (P : O → Type 0) (x : Option O) (first : Option K) → ((k : K) (a : O) → value k ≡ Some a → fold k ≡ f → CanKeep k) → Built outputs P x → BuiltFrom true (IsHeld value fold f) x first → Built outputs CanKeep first
+pub held_ready : {K L O : Type 0} (value : K → Option O) (fold : K → L) (CanKeep : K → Type 0) (f : L) (outputs : Bool) (P : O → Type 0) (x : Option O)
+    (first : Option K) → ((k : K) (a : O) → value k ≡ Some a → fold k ≡ f → CanKeep k) → Built outputs P x →
+    BuiltFrom true (IsHeld value fold f) x first → Built outputs CanKeep first
 held_ready value fold CanKeep f true P (Some a) first g b c = (c.0, c.1, g c.0 a c.2.value_is c.2.fold_is)
 held_ready value fold CanKeep f true P None first g b c = absurd (cc (b.1))
 held_ready value fold CanKeep f false P (Some a) first g b c = absurd (cc (b))
 held_ready value fold CanKeep f false P None first g b c = c
 
 -- a term's value, from the value behind its prefixes
-pub term_built : {P V Q F O G : Type 0} (IsPrefix : P → F → Type 0) (OnPrefix : F → O → O → Type 0) (IsOperand : V → O → Type 0) (IsPostfix : Q → G → Type 0) (OnPostfix : O → G → O → Type 0) (ps : List P) (t : Tail V Q) (cs : List F) (x y : O) → AllZip IsPrefix ps cs → IsTail IsOperand IsPostfix OnPostfix t x → Before OnPrefix cs x y → IsTerm IsPrefix OnPrefix IsOperand IsPostfix OnPostfix (term_of ps t) y
+pub term_built : {P V Q F O G : Type 0} (IsPrefix : P → F → Type 0) (OnPrefix : F → O → O → Type 0) (IsOperand : V → O → Type 0)
+    (IsPostfix : Q → G → Type 0) (OnPostfix : O → G → O → Type 0) (ps : List P) (t : Tail V Q) (cs : List F) (x y : O) → AllZip IsPrefix ps cs →
+    IsTail IsOperand IsPostfix OnPostfix t x → Before OnPrefix cs x y → IsTerm IsPrefix OnPrefix IsOperand IsPostfix OnPostfix (term_of ps t) y
 term_built IsPrefix OnPrefix IsOperand IsPostfix OnPostfix ps t cs x y k h b = record {
   behind = x;
   is_tail = record { operand = h.operand; is_operand = h.is_operand; postfixes = h.postfixes; are_postfixes = h.are_postfixes; given = h.given };

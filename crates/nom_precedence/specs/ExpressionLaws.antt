@@ -24,7 +24,10 @@ module _ {I A P V Q E : Type 0} (w : Seen I A) (l : InputLaws w) (prefix : Meani
       let before = chain_meaning w (Unit {0}) (labelled_meaning Whole prefix) in
       let one = labelled_meaning Whole operand in
       let behind = chain_meaning w ⊥ (labelled_meaning Whole postfix) in
-      both_lawful w l term_of before (read_both w (λ v qs. (v, qs)) one behind) (chain_lawful w l (Unit {0}) (labelled_meaning Whole prefix) (labelled_lawful w prefix Whole p)) (both_lawful w l (λ v qs. (v, qs)) one behind (labelled_lawful w operand Whole q) (chain_lawful w l ⊥ (labelled_meaning Whole postfix) (labelled_lawful w postfix Whole r)))
+      both_lawful w l term_of before (read_both w (λ v qs. (v, qs)) one behind)
+      (chain_lawful w l (Unit {0}) (labelled_meaning Whole prefix) (labelled_lawful w prefix Whole p))
+      (both_lawful w l (λ v qs. (v, qs)) one behind (labelled_lawful w operand Whole q)
+      (chain_lawful w l ⊥ (labelled_meaning Whole postfix) (labelled_lawful w postfix Whole r)))
 
   pub term_steady : IsSteady w prefix → IsSteady w operand → IsSteady w postfix → IsSteady w (term_meaning w prefix operand postfix)
   unfolding term_meaning
@@ -32,7 +35,10 @@ module _ {I A P V Q E : Type 0} (w : Seen I A) (l : InputLaws w) (prefix : Meani
       let before = chain_meaning w (Unit {0}) (labelled_meaning Whole prefix) in
       let one = labelled_meaning Whole operand in
       let behind = chain_meaning w ⊥ (labelled_meaning Whole postfix) in
-      both_steady w l term_of before (read_both w (λ v qs. (v, qs)) one behind) (chain_steady w l (Unit {0}) (labelled_meaning Whole prefix) (labelled_steady w prefix Whole p)) (both_steady w l (λ v qs. (v, qs)) one behind (labelled_steady w operand Whole q) (chain_steady w l ⊥ (labelled_meaning Whole postfix) (labelled_steady w postfix Whole r)))
+      both_steady w l term_of before (read_both w (λ v qs. (v, qs)) one behind)
+      (chain_steady w l (Unit {0}) (labelled_meaning Whole prefix) (labelled_steady w prefix Whole p))
+      (both_steady w l (λ v qs. (v, qs)) one behind (labelled_steady w operand Whole q)
+      (chain_steady w l ⊥ (labelled_meaning Whole postfix) (labelled_steady w postfix Whole r)))
 
 module _ {I A T B E : Type 0} (w : Seen I A) (l : InputLaws w) (errs : Errors I E) (operator : Meaning I (ℕ × B) E) (term : Meaning I (Read T) E) where
   pub expression_lawful : IsLawful w operator → IsLawful w term → IsLawful w (expression_meaning w errs operator term)
@@ -41,7 +47,10 @@ module _ {I A T B E : Type 0} (w : Seen I A) (l : InputLaws w) (errs : Errors I 
       let first = closed_meaning (λ i. errs.appended i Kind.Precedence) errs.grows term in
       let pair = pair_meaning w operator term in
       let pairs = chain_meaning w (Unit {0}) pair in
-      freed_lawful w errs (read_both w (λ t ps. (t, ps)) first pairs) (both_lawful w l (λ t ps. (t, ps)) first pairs (closed_lawful w term (λ i. errs.appended i Kind.Precedence) errs.grows q) (chain_lawful w l (Unit {0}) pair (both_lawful w l (λ o t. (o, t)) (labelled_meaning Whole operator) term (labelled_lawful w operator Whole p) q)))
+      freed_lawful w errs (read_both w (λ t ps. (t, ps)) first pairs) (both_lawful w l (λ t ps. (t, ps)) first pairs
+      (closed_lawful w term (λ i. errs.appended i Kind.Precedence) errs.grows q)
+      (chain_lawful w l (Unit {0}) pair (both_lawful w l (λ o t. (o, t)) (labelled_meaning Whole operator) term (labelled_lawful w operator Whole p)
+      q)))
 
   pub expression_steady : IsSteady w operator → IsSteady w term → IsSteady w (expression_meaning w errs operator term)
   unfolding pair_meaning
@@ -49,11 +58,16 @@ module _ {I A T B E : Type 0} (w : Seen I A) (l : InputLaws w) (errs : Errors I 
       let first = closed_meaning (λ i. errs.appended i Kind.Precedence) errs.grows term in
       let pair = pair_meaning w operator term in
       let pairs = chain_meaning w (Unit {0}) pair in
-      freed_steady w errs (read_both w (λ t ps. (t, ps)) first pairs) (both_steady w l (λ t ps. (t, ps)) first pairs (closed_steady w term (λ i. errs.appended i Kind.Precedence) errs.grows q) (chain_steady w l (Unit {0}) pair (both_steady w l (λ o t. (o, t)) (labelled_meaning Whole operator) term (labelled_steady w operator Whole p) q)))
+      freed_steady w errs (read_both w (λ t ps. (t, ps)) first pairs) (both_steady w l (λ t ps. (t, ps)) first pairs
+      (closed_steady w term (λ i. errs.appended i Kind.Precedence) errs.grows q)
+      (chain_steady w l (Unit {0}) pair (both_steady w l (λ o t. (o, t)) (labelled_meaning Whole operator) term (labelled_steady w operator Whole p)
+      q)))
 
-module _ {I A P V Q B E : Type 0} (w : Seen I A) (l : InputLaws w) (errs : Errors I E) (CanFold : Type 0) (IsLevel : B → ℕ → Type 0) (levels : ℕ) (prefix : Meaning I P E) (operand : Meaning I V E) (postfix : Meaning I Q E) (binary : Meaning I B E) where
+module _ {I A P V Q B E : Type 0} (w : Seen I A) (l : InputLaws w) (errs : Errors I E) (CanFold : Type 0) (IsLevel : B → ℕ → Type 0) (levels : ℕ)
+    (prefix : Meaning I P E) (operand : Meaning I V E) (postfix : Meaning I Q E) (binary : Meaning I B E) where
   -- the premises that are told give those that are gathered
-  told : Gives (premises errs CanFold IsLevel prefix operand postfix binary) (expression_meaning w errs (operator_meaning errs IsLevel levels binary) (term_meaning w prefix operand postfix))
+  told : Gives (premises errs CanFold IsLevel prefix operand postfix binary)
+      (expression_meaning w errs (operator_meaning errs IsLevel levels binary) (term_meaning w prefix operand postfix))
   unfolding term_meaning pair_meaning
   told = record {
     frugal = λ mode h.
@@ -65,14 +79,16 @@ module _ {I A P V Q B E : Type 0} (w : Seen I A) (l : InputLaws w) (errs : Error
     never_fails = λ large h. ((h.0, (h.1, h.2)), ((h.3, h.4), (h.0, (h.1, h.2))));
   }
 
-  pub precedence_lawful : IsOne IsLevel → IsLawful w prefix → IsLawful w operand → IsLawful w postfix → IsLawful w binary → IsLawful w (precedence_meaning w errs CanFold IsLevel levels prefix operand postfix binary)
+  pub precedence_lawful : IsOne IsLevel → IsLawful w prefix → IsLawful w operand → IsLawful w postfix → IsLawful w binary →
+      IsLawful w (precedence_meaning w errs CanFold IsLevel levels prefix operand postfix binary)
   precedence_lawful one p q r s =
       let operator = operator_meaning errs IsLevel levels binary in
       let term = term_meaning w prefix operand postfix in
       told_lawful w (premises errs CanFold IsLevel prefix operand postfix binary) (expression_meaning w errs operator term) told
       (expression_lawful w l errs operator term (operator_lawful w errs IsLevel levels one binary s) (term_lawful w l prefix operand postfix p q r))
 
-  pub precedence_steady : IsOne IsLevel → IsSteady w prefix → IsSteady w operand → IsSteady w postfix → IsSteady w binary → IsSteady w (precedence_meaning w errs CanFold IsLevel levels prefix operand postfix binary)
+  pub precedence_steady : IsOne IsLevel → IsSteady w prefix → IsSteady w operand → IsSteady w postfix → IsSteady w binary →
+      IsSteady w (precedence_meaning w errs CanFold IsLevel levels prefix operand postfix binary)
   precedence_steady one p q r s =
       let operator = operator_meaning errs IsLevel levels binary in
       let term = term_meaning w prefix operand postfix in

@@ -49,7 +49,8 @@ pair_meaning w operator term = read_both w (λ o t. (o, t)) (labelled_meaning Wh
 -- A first term, to whose refusal `Precedence` is added at the start; and then pairs of an operator and a term, as many as are accepted.
 -- Where an operator or its term is refused, the pairs end before that operator. All is read whole, or an item is stuck.
 abbrev pub read_meaning : {I A T B E : Type 0} → Seen I A → Errors I E → Meaning I (ℕ × B) E → Meaning I (Read T) E → Meaning I (Read (T × List (Pair B T))) E
-read_meaning w errs operator term = read_both w (λ t ps. (t, ps)) (closed_meaning (λ i. errs.appended i Kind.Precedence) errs.grows term) (chain_meaning w (Unit {0}) (pair_meaning w operator term))
+read_meaning w errs operator term = read_both w (λ t ps. (t, ps)) (closed_meaning (λ i. errs.appended i Kind.Precedence) errs.grows term)
+    (chain_meaning w (Unit {0}) (pair_meaning w operator term))
 
 -- What is read whole is accepted. Where an item is stuck, the expression is refused there.
 abbrev pub expression_meaning : {I A T B E : Type 0} → Seen I A → Errors I E → Meaning I (ℕ × B) E → Meaning I (Read T) E → Meaning I (T × List (Pair B T)) E
@@ -73,7 +74,8 @@ premises errs CanFold IsLevel prefix operand postfix binary = record {
 }
 
 -- What `precedence` means, of so many levels.
-abbrev pub precedence_meaning : {I A P V Q B E : Type 0} → Seen I A → Errors I E → Type 0 → (B → ℕ → Type 0) → ℕ → Meaning I P E → Meaning I V E → Meaning I Q E → Meaning I B E → Meaning I (Term P V Q × List (Pair B (Term P V Q))) E
+abbrev pub precedence_meaning : {I A P V Q B E : Type 0} → Seen I A → Errors I E → Type 0 → (B → ℕ → Type 0) → ℕ → Meaning I P E → Meaning I V E →
+    Meaning I Q E → Meaning I B E → Meaning I (Term P V Q × List (Pair B (Term P V Q))) E
 precedence_meaning w errs CanFold IsLevel levels prefix operand postfix binary =
     with_premises (premises errs CanFold IsLevel prefix operand postfix binary)
     (expression_meaning w errs (operator_meaning errs IsLevel levels binary) (term_meaning w prefix operand postfix))

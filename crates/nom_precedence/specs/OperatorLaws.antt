@@ -40,8 +40,10 @@ module _ {P : Type 0} (IsLevel : P → ℕ → Type 0) (levels : ℕ) where
   same one TooLarge o p s t = s ∙ sym t
   same one (Undecided k) o p s t = s ∙ sym t
 
-  place : {I A : Type 0} (w : Seen I A) (i j : I) (a : Outcome P) (n : ℕ) (t : ℕ × P) → i ≡ j → ((m : ℕ) (u : P) → a ≡ Accept m u → IsPlace w j m) → Becomes a (Accept n t) → IsPlace w i n
-  place w i j (Accept m u) n t e f b = subst (λ z. IsPlace w i z) (level_accepts (ltb b.value levels) n m b.value t u b.fact) (here_place w i j m e (f m u refl))
+  place : {I A : Type 0} (w : Seen I A) (i j : I) (a : Outcome P) (n : ℕ) (t : ℕ × P) → i ≡ j → ((m : ℕ) (u : P) → a ≡ Accept m u → IsPlace w j m) →
+      Becomes a (Accept n t) → IsPlace w i n
+  place w i j (Accept m u) n t e f b = subst (λ z. IsPlace w i z) (level_accepts (ltb b.value levels) n m b.value t u b.fact)
+      (here_place w i j m e (f m u refl))
   place w i j Refuse n t e f b = absurd (cc (b))
   place w i j Fail n t e f b = absurd (cc (b))
   place w i j TooLarge n t e f b = absurd (cc (b))
@@ -55,7 +57,8 @@ module _ {P : Type 0} (IsLevel : P → ℕ → Type 0) (levels : ℕ) where
   fails true (Undecided k) e b = absurd (cc (b))
   fails false a e b = absurd (cc)
 
-  operator_blames : {E : Type 0} (Makes : E → Type 0) (a : Outcome P) (X Y : E → Type 0) (e : E) → ((f : E) → X f → Y f) → OperatorBlames IsLevel levels Makes a X e → OperatorBlames IsLevel levels Makes a Y e
+  operator_blames : {E : Type 0} (Makes : E → Type 0) (a : Outcome P) (X Y : E → Type 0) (e : E) → ((f : E) → X f → Y f) →
+      OperatorBlames IsLevel levels Makes a X e → OperatorBlames IsLevel levels Makes a Y e
   operator_blames Makes (Accept n u) X Y e f h = h
   operator_blames Makes Refuse X Y e f h = f e h
   operator_blames Makes Fail X Y e f h = f e h

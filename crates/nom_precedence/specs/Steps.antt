@@ -11,7 +11,8 @@ module _ {X C : Type 0} (Gives : X → C → X → X → Type 0) (Fact : C → T
 
 -- An operator and a term more: it closes what ends before it, and what is left goes on behind it; then it is the innermost, with what was
 -- joined on its left, and the value is that of the term.
-pub record Pushed {X C : Type 0} (left : ℕ → Bool) (of : C → ℕ) (Gives : X → C → X → X → Type 0) (s : List (X × C)) (x : X) (c : C) (y : X) (r : List (X × C)) (z : X) : Type 0 where
+pub record Pushed {X C : Type 0} (left : ℕ → Bool) (of : C → ℕ) (Gives : X → C → X → X → Type 0) (s : List (X × C)) (x : X) (c : C) (y : X)
+    (r : List (X × C)) (z : X) : Type 0 where
   pub below : List (X × C)
   pub joined : X
   pub joins : Joined Gives (λ d. Closes left (of c) (of d)) s x below joined
@@ -20,7 +21,8 @@ pub record Pushed {X C : Type 0} (left : ℕ → Bool) (of : C → ℕ) (Gives :
   pub value_is : z ≡ y
 
 -- What a machine gains by an operator and a term: it had a value, and has one; stack and value are those behind the step.
-pub record MachineGains {K X C : Type 0} (left : ℕ → Bool) (of : C → ℕ) (Gives : X → C → X → X → Type 0) (stack : K → List (X × C)) (value : K → Option X) (old : K) (item : C × X) (new : K) : Type 0 where
+pub record MachineGains {K X C : Type 0} (left : ℕ → Bool) (of : C → ℕ) (Gives : X → C → X → X → Type 0) (stack : K → List (X × C))
+    (value : K → Option X) (old : K) (item : C × X) (new : K) : Type 0 where
   pub before : X
   pub behind : X
   pub before_is : value old ≡ Some before

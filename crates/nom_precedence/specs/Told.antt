@@ -22,8 +22,10 @@ IsRead builds IsOutput Stuck (Is.Whole x) = ⊥
 IsRead builds IsOutput Stuck Is.Stuck = Unit {0}
 
 -- what a part answers that may be stuck: that is told in every mode
-abbrev pub ShowsRead : {I A V X E : Type 0} → Seen I A → (V → X → Type 0) → Meaning I (Read V) E → (outputs errors streaming : Bool) → I → Result (I × Option (Told.Read (Option X))) (Answer.Err E (Option E) Needed) → Type 0
-ShowsRead w IsOutput m outputs errors streaming i r = ShowsAnswer w (IsRead outputs IsOutput) (modes true errors streaming) i (m.answers streaming i) (m.blames streaming i) (m.runs_out (modes outputs errors streaming) i) r
+abbrev pub ShowsRead : {I A V X E : Type 0} → Seen I A → (V → X → Type 0) → Meaning I (Read V) E → (outputs errors streaming : Bool) → I →
+    Result (I × Option (Told.Read (Option X))) (Answer.Err E (Option E) Needed) → Type 0
+ShowsRead w IsOutput m outputs errors streaming i r = ShowsAnswer w (IsRead outputs IsOutput) (modes true errors streaming) i (m.answers streaming i)
+    (m.blames streaming i) (m.runs_out (modes outputs errors streaming) i) r
 
 -- postfixes are applied to a value, from left to right
 abbrev pub Behind : {X Q : Type 0} → (X → Q → X → Type 0) → X → List Q → X → Type 0
@@ -31,7 +33,8 @@ Behind Gives x [] y = y ≡ x
 Behind {X = X} Gives x (c ∷ cs) y = (z : X) × Gives x c z × Behind Gives z cs y
 
 -- the value of an operand under the postfixes behind it
-pub record IsTail {V Q O G : Type 0} (IsOperand : V → O → Type 0) (IsPostfix : Q → G → Type 0) (OnPostfix : O → G → O → Type 0) (t : V × List Q) (y : O) : Type 0 where
+pub record IsTail {V Q O G : Type 0} (IsOperand : V → O → Type 0) (IsPostfix : Q → G → Type 0) (OnPostfix : O → G → O → Type 0) (t : V × List Q) (y : O)
+    : Type 0 where
   pub operand : O
   pub is_operand : IsOperand t.0 operand
   pub postfixes : List G
@@ -39,7 +42,8 @@ pub record IsTail {V Q O G : Type 0} (IsOperand : V → O → Type 0) (IsPostfix
   pub given : Behind OnPostfix operand postfixes y
 
 -- and that of a term: the prefixes are applied to it, the last first
-pub record IsTerm {P V Q F O G : Type 0} (IsPrefix : P → F → Type 0) (OnPrefix : F → O → O → Type 0) (IsOperand : V → O → Type 0) (IsPostfix : Q → G → Type 0) (OnPostfix : O → G → O → Type 0) (t : Term P V Q) (y : O) : Type 0 where
+pub record IsTerm {P V Q F O G : Type 0} (IsPrefix : P → F → Type 0) (OnPrefix : F → O → O → Type 0) (IsOperand : V → O → Type 0)
+    (IsPostfix : Q → G → Type 0) (OnPostfix : O → G → O → Type 0) (t : Term P V Q) (y : O) : Type 0 where
   pub behind : O
   pub is_tail : IsTail IsOperand IsPostfix OnPostfix (t.operand, t.postfixes) behind
   pub prefixes : List F
@@ -56,14 +60,16 @@ pub record IsHeld {K L O : Type 0} (value : K → Option O) (fold : K → L) (f 
   pub fold_is : fold k ≡ f
 
 -- a machine with a value and no operators, by a fold and the groupings of levels
-pub record IsStarted {K L M X C : Type 0} (stack : K → List (X × C)) (value : K → Option X) (levels : K → M) (fold : K → L) (g : M) (f : L) (x : X) (k : K) : Type 0 where
+pub record IsStarted {K L M X C : Type 0} (stack : K → List (X × C)) (value : K → Option X) (levels : K → M) (fold : K → L) (g : M) (f : L) (x : X)
+    (k : K) : Type 0 where
   pub stack_is : stack k ≡ []
   pub value_is : value k ≡ Some x
   pub levels_is : levels k ≡ g
   pub fold_is : fold k ≡ f
 
 -- the value that a machine has where all its operators are joined
-pub record IsMade {K L X C : Type 0} (stack : K → List (X × C)) (value : K → Option X) (fold : K → L) (Gives : L → X → C → X → X → Type 0) (k : K) (y : X) : Type 0 where
+pub record IsMade {K L X C : Type 0} (stack : K → List (X × C)) (value : K → Option X) (fold : K → L) (Gives : L → X → C → X → X → Type 0) (k : K)
+    (y : X) : Type 0 where
   pub carried : X
   pub carried_is : value k ≡ Some carried
   pub joined : Joined (Gives (fold k)) (λ _. Unit {0}) (stack k) carried [] y

@@ -39,7 +39,8 @@ module _ {T B : Type 0} (level : B → ℕ) where
   levels_map Fact Said f (x ∷ b) h = (f (level x.0) h.0, levels_map Fact Said f b h.1)
 
   -- of two roots, the second behind the first: there are none
-  clash : (x y : Bool) (j k : ℕ) (b m d : List (B × T)) (o q : B × T) → level o.0 ≡ j → level q.0 ≡ k → (j ≡ k → x ≡ y) → Parts level x j b (m ++ q ∷ d) → Parts level y k (b ++ o ∷ m) d → ⊥
+  clash : (x y : Bool) (j k : ℕ) (b m d : List (B × T)) (o q : B × T) → level o.0 ≡ j → level q.0 ≡ k → (j ≡ k → x ≡ y) →
+      Parts level x j b (m ++ q ∷ d) → Parts level y k (b ++ o ∷ m) d → ⊥
   clash true true j k b m d o q e f s g h = omega (arith, e, f, level_of (λ i. i < j) m q d g.1, level_of (λ i. i ≤ k) b o m h.0)
   clash true false j k b m d o q e f s g h = omega (arith, e, f, level_of (λ i. i < j) m q d g.1, level_of (λ i. i < k) b o m h.0)
   clash false false j k b m d o q e f s g h = omega (arith, e, f, level_of (λ i. i ≤ j) m q d g.1, level_of (λ i. i < k) b o m h.0)
@@ -52,7 +53,8 @@ module _ {T B : Type 0} (level : B → ℕ) (left : ℕ → Bool) where
   root_clash b m d o q g h = clash level (left (level o.0)) (left (level q.0)) (level o.0) (level q.0) b m d o q refl refl (λ e. ap left e) g h
 
   -- two roots of one list of pairs stand at one place
-  pub one_root : (b c : List (B × T)) (x y : B × T) (a d : List (B × T)) → b ++ x ∷ a ≡ c ++ y ∷ d → IsRoot level left b x.0 a → IsRoot level left c y.0 d → (b ≡ c) × (x ≡ y) × (a ≡ d)
+  pub one_root : (b c : List (B × T)) (x y : B × T) (a d : List (B × T)) → b ++ x ∷ a ≡ c ++ y ∷ d → IsRoot level left b x.0 a →
+      IsRoot level left c y.0 d → (b ≡ c) × (x ≡ y) × (a ≡ d)
   one_root b c x y a d e g h = by (two_places b c x y a d e)
     where
       by : TwoPlaces b c x y a d → (b ≡ c) × (x ≡ y) × (a ≡ d)

@@ -28,9 +28,11 @@ module _ {T B : Type 0} (level : B → ℕ) (left : ℕ → Bool) where
   -- stands behind it.
   abbrev pub IsTree : T → List (B × T) → Tree T B → Type 0
   IsTree t ps (Leaf u) = (ps ≡ []) × (u ≡ t)
-  IsTree t ps (Node l o r) = (before : List (B × T)) × (u : T) × (behind : List (B × T)) × (ps ≡ before ++ (o, u) ∷ behind) × IsRoot before o behind × IsTree t before l × IsTree u behind r
+  IsTree t ps (Node l o r) = (before : List (B × T)) × (u : T) × (behind : List (B × T)) × (ps ≡ before ++ (o, u) ∷ behind) × IsRoot before o behind ×
+      IsTree t before l × IsTree u behind r
 
 -- there is a tree of each term and pairs of operators with their levels, and no other
 abbrev pub HasOneTree : (T B : Type 0) → (ℕ → Bool) → Type 0
 HasOneTree T B left =
-    (t : T) (ps : List ((ℕ × B) × T)) → (x : Tree T (ℕ × B)) × IsTree (λ (o : ℕ × B). o.0) left t ps x × ((y : Tree T (ℕ × B)) → IsTree (λ (o : ℕ × B). o.0) left t ps y → y ≡ x)
+    (t : T) (ps : List ((ℕ × B) × T)) → (x : Tree T (ℕ × B)) × IsTree (λ (o : ℕ × B). o.0) left t ps x ×
+    ((y : Tree T (ℕ × B)) → IsTree (λ (o : ℕ × B). o.0) left t ps y → y ≡ x)

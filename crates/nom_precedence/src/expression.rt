@@ -68,9 +68,11 @@ where
 
     ghost IsOutput = { λ s e y. Stands (folding (P.IsOutput s.0) (F.IsOutput s.1) (Q.IsOutput s.2) (C.IsOutput s.3) (G.post s.5)) (groups_left s.4) e.0 e.1 y };
 
-    ghost meaning = { λ s. precedence_meaning I.seen F.Error.errors ((x : Operation P.Output Q.Output B F.Output) → G.pre s.5 x) (HasLevel (C.IsOutput s.3) (λ o. o.0)) (length s.4) (P.meaning s.0) (F.meaning s.1) (Q.meaning s.2) (C.meaning s.3) };
+    ghost meaning = { λ s. precedence_meaning I.seen F.Error.errors ((x : Operation P.Output Q.Output B F.Output) → G.pre s.5 x)
+        (HasLevel (C.IsOutput s.3) (λ o. o.0)) (length s.4) (P.meaning s.0) (F.meaning s.1) (Q.meaning s.2) (C.meaning s.3) };
 
-    ghost Pins = { λ s. P.Pins s.0 × F.Pins s.1 × Q.Pins s.2 × C.Pins s.3 × GivesAlike (folding (P.IsOutput s.0) (F.IsOutput s.1) (Q.IsOutput s.2) (C.IsOutput s.3) (G.post s.5)) P.Output.view Q.Output.view B.view F.Output.view };
+    ghost Pins = { λ s. P.Pins s.0 × F.Pins s.1 × Q.Pins s.2 × C.Pins s.3 × GivesAlike
+        (folding (P.IsOutput s.0) (F.IsOutput s.1) (Q.IsOutput s.2) (C.IsOutput s.3) (G.post s.5)) P.Output.view Q.Output.view B.view F.Output.view };
 
     fn process<OM: OutputMode>(&mut self, input: I) -> PResult<I, F::Output, F::Error> {
         let (end, whole) = read::<OM, I, A, P, F, Q, B, C, G>(
@@ -89,7 +91,9 @@ where
         }
     }
 
-    ghost lawful = { λ s k. precedence_lawful I.seen I.lawful F.Error.errors ((x : Operation P.Output Q.Output B F.Output) → G.pre s.5 x) (HasLevel (C.IsOutput s.3) (λ o. o.0)) (length s.4) (P.meaning s.0) (F.meaning s.1) (Q.meaning s.2) (C.meaning s.3) k.4 (P.lawful s.0 k.0) (F.lawful s.1 k.1) (Q.lawful s.2 k.2) (C.lawful s.3 k.3) };
+    ghost lawful = { λ s k. precedence_lawful I.seen I.lawful F.Error.errors ((x : Operation P.Output Q.Output B F.Output) → G.pre s.5 x)
+        (HasLevel (C.IsOutput s.3) (λ o. o.0)) (length s.4) (P.meaning s.0) (F.meaning s.1) (Q.meaning s.2) (C.meaning s.3) k.4 (P.lawful s.0 k.0)
+        (F.lawful s.1 k.1) (Q.lawful s.2 k.2) (C.lawful s.3 k.3) };
 }
 
 impl<
@@ -106,9 +110,13 @@ impl<
     ghost use Rattle.nom_precedence.specs.ExpressionLaws.{precedence_steady};
     ghost use Rattle.nom_precedence.specs.ValueLaws.{folding_pinned};
 
-    ghost pinned = { λ s k p. folding_pinned (P.IsOutput s.0) (F.IsOutput s.1) (Q.IsOutput s.2) (C.IsOutput s.3) (G.post s.5) P.Output.view Q.Output.view B.view F.Output.view p.4 (P.pinned s.0 k.0 p.0) (F.pinned s.1 k.1 p.1) (Q.pinned s.2 k.2 p.2) (C.pinned s.3 k.3 p.3) (groups_left s.4) };
+    ghost pinned = { λ s k p. folding_pinned (P.IsOutput s.0) (F.IsOutput s.1) (Q.IsOutput s.2) (C.IsOutput s.3) (G.post s.5) P.Output.view
+        Q.Output.view B.view F.Output.view p.4 (P.pinned s.0 k.0 p.0) (F.pinned s.1 k.1 p.1) (Q.pinned s.2 k.2 p.2) (C.pinned s.3 k.3 p.3)
+        (groups_left s.4) };
 
-    ghost steady = { λ s k. precedence_steady I.seen I.lawful F.Error.errors ((x : Operation P.Output Q.Output B F.Output) → G.pre s.5 x) (HasLevel (C.IsOutput s.3) (λ o. o.0)) (length s.4) (P.meaning s.0) (F.meaning s.1) (Q.meaning s.2) (C.meaning s.3) k.4 (P.steady s.0 k.0) (F.steady s.1 k.1) (Q.steady s.2 k.2) (C.steady s.3 k.3) };
+    ghost steady = { λ s k. precedence_steady I.seen I.lawful F.Error.errors ((x : Operation P.Output Q.Output B F.Output) → G.pre s.5 x)
+        (HasLevel (C.IsOutput s.3) (λ o. o.0)) (length s.4) (P.meaning s.0) (F.meaning s.1) (Q.meaning s.2) (C.meaning s.3) k.4 (P.steady s.0 k.0)
+        (F.steady s.1 k.1) (Q.steady s.2 k.2) (C.steady s.3 k.3) };
 }
 
 /// A first term, to whose refusal `Precedence` is added at the start, and then pairs, with the value of
@@ -138,7 +146,11 @@ fn read<
     requires postfix { (Q.meaning (Q.state postfix.old)).IsSound }
     requires binary { (C.meaning (C.state binary.old)).IsSound }
     requires fold { (x : Operation P.Output Q.Output B F.Output) → G.pre fold.now x }
-    ensures shown { ShowsRead I.seen (λ e y. Stands (folding (P.IsOutput (P.state prefix.old)) (F.IsOutput (F.state operand.old)) (Q.IsOutput (Q.state postfix.old)) (C.IsOutput (C.state binary.old)) (G.post fold.now)) (groups_left levels.now) e.0 e.1 y) (read_meaning I.seen F.Error.errors (operator_meaning F.Error.errors (HasLevel (C.IsOutput (C.state binary.old)) (λ o. o.0)) (length levels.now) (C.meaning (C.state binary.old))) (term_meaning I.seen (P.meaning (P.state prefix.old)) (F.meaning (F.state operand.old)) (Q.meaning (Q.state postfix.old)))) OM.Output.BUILDS OM.Error.BUILDS OM.Incomplete.STREAMING input result }
+    ensures shown { ShowsRead I.seen (λ e y. Stands (folding (P.IsOutput (P.state prefix.old)) (F.IsOutput (F.state operand.old))
+        (Q.IsOutput (Q.state postfix.old)) (C.IsOutput (C.state binary.old)) (G.post fold.now)) (groups_left levels.now) e.0 e.1 y)
+        (read_meaning I.seen F.Error.errors (operator_meaning F.Error.errors (HasLevel (C.IsOutput (C.state binary.old)) (λ o. o.0))
+        (length levels.now) (C.meaning (C.state binary.old))) (term_meaning I.seen (P.meaning (P.state prefix.old))
+        (F.meaning (F.state operand.old)) (Q.meaning (Q.state postfix.old)))) OM.Output.BUILDS OM.Error.BUILDS OM.Incomplete.STREAMING input result }
     ensures prefix_kept { P.state prefix.new ≡ P.state prefix.old }
     ensures operand_kept { F.state operand.new ≡ F.state operand.old }
     ensures postfix_kept { Q.state postfix.new ≡ Q.state postfix.old }

@@ -31,7 +31,8 @@ pub struct Machine<'a, P, Q, B, O, A: Allocator, G> {
 impl<'a, P: Drop, Q: Drop, B: Drop, O: Drop, A: Allocator, G: Fn(Operation<P, Q, B, O>) -> O> Keep<
     ((usize, B), O),
 > for Machine<'a, P, Q, B, O, A, G> {
-    ghost Gains = { λ old item new. MachineGains (groups_left old.levels.now) (λ c. c.0) (λ x c y z. G.post old.fold.now (Binary x c.1 y) z) (λ m. reverse m.stack.items) (λ m. m.value) old item new × (new.levels ≡ old.levels) × (new.fold ≡ old.fold) };
+    ghost Gains = { λ old item new. MachineGains (groups_left old.levels.now) (λ c. c.0) (λ x c y z. G.post old.fold.now (Binary x c.1 y) z)
+        (λ m. reverse m.stack.items) (λ m. m.value) old item new × (new.levels ≡ old.levels) × (new.fold ≡ old.fold) };
 
     ghost CanKeep = { λ m. IsSome m.value × ((x : Operation P Q B O) → G.pre m.fold.now x) };
 
@@ -82,7 +83,8 @@ pub fn made<P: Drop, Q: Drop, B: Drop, O: Drop, A: Allocator, G: Fn(Operation<P,
     machine: Option<Machine<'_, P, Q, B, O, A, G>>,
 ) -> Option<O>
     requires { IfSome machine (λ m. IsSome m.value × ((x : Operation P Q B O) → G.pre m.fold.now x)) }
-    ensures { BuiltFrom true (IsMade (λ m. reverse m.stack.items) (λ m. m.value) (λ m. m.fold.now) (λ f x c y z. G.post f (Binary x c.1 y) z)) machine.entry result }
+    ensures { BuiltFrom true (IsMade (λ m. reverse m.stack.items) (λ m. m.value) (λ m. m.fold.now) (λ f x c y z. G.post f (Binary x c.1 y) z))
+        machine.entry result }
 {
     match machine {
         Some(machine) => {
@@ -129,7 +131,8 @@ fn close<P: Drop, Q: Drop, B: Drop, O: Drop, A: Allocator, G: Fn(Operation<P, Q,
     fold: &G,
 ) -> O
     requires { (x : Operation P Q B O) → G.pre fold.now x }
-    ensures joined { Joined (λ x c y z. G.post fold.now (Binary x c.1 y) z) (λ c. Closes (groups_left levels.now) level c.0) (reverse stack.old.items) value (reverse stack.new.items) result }
+    ensures joined { Joined (λ x c y z. G.post fold.now (Binary x c.1 y) z) (λ c. Closes (groups_left levels.now) level c.0) (reverse stack.old.items)
+        value (reverse stack.new.items) result }
     ensures under { UnderInnermost (groups_left levels.now) (λ c. c.0) level (reverse stack.new.items) }
     ensures room { (vec_capacity stack.new ≡ vec_capacity stack.old) × (vec_len stack.new ≤ vec_len stack.old) }
 {

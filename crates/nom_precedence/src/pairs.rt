@@ -30,7 +30,13 @@ fn operator<OM: OutputMode, I: Input, B: Drop, C: Parser<I, Output = (usize, B)>
     input: I,
 ) -> PResult<I, (usize, B), C::Error>
     requires { (C.meaning (C.state binary.old)).IsSound }
-    ensures shown { ShowsAnswer I.seen (IsOwn (C.IsOutput (C.state binary.old))) (modes true OM.Error.BUILDS OM.Incomplete.STREAMING) input ((operator_meaning C.Error.errors (HasLevel (C.IsOutput (C.state binary.old)) (λ o. o.0)) (length levels.now) (C.meaning (C.state binary.old))).answers OM.Incomplete.STREAMING input) ((operator_meaning C.Error.errors (HasLevel (C.IsOutput (C.state binary.old)) (λ o. o.0)) (length levels.now) (C.meaning (C.state binary.old))).blames OM.Incomplete.STREAMING input) ((operator_meaning C.Error.errors (HasLevel (C.IsOutput (C.state binary.old)) (λ o. o.0)) (length levels.now) (C.meaning (C.state binary.old))).runs_out (modes OM.Output.BUILDS OM.Error.BUILDS OM.Incomplete.STREAMING) input) result }
+    ensures shown { ShowsAnswer I.seen (IsOwn (C.IsOutput (C.state binary.old))) (modes true OM.Error.BUILDS OM.Incomplete.STREAMING) input
+        ((operator_meaning C.Error.errors (HasLevel (C.IsOutput (C.state binary.old)) (λ o. o.0)) (length levels.now)
+        (C.meaning (C.state binary.old))).answers OM.Incomplete.STREAMING input)
+        ((operator_meaning C.Error.errors (HasLevel (C.IsOutput (C.state binary.old)) (λ o. o.0)) (length levels.now)
+        (C.meaning (C.state binary.old))).blames OM.Incomplete.STREAMING input)
+        ((operator_meaning C.Error.errors (HasLevel (C.IsOutput (C.state binary.old)) (λ o. o.0)) (length levels.now)
+        (C.meaning (C.state binary.old))).runs_out (modes OM.Output.BUILDS OM.Error.BUILDS OM.Incomplete.STREAMING) input) result }
     ensures kept { C.state binary.new ≡ C.state binary.old }
 {
     let (rest, read) = binary.process::<OutputM<Emit, OM::Error, OM::Incomplete>>(input)?;
@@ -79,7 +85,12 @@ fn pair<
     requires postfix { (Q.meaning (Q.state postfix.old)).IsSound }
     requires binary { (C.meaning (C.state binary.old)).IsSound }
     requires fold { (x : Operation P.Output Q.Output B F.Output) → G.pre fold.now x }
-    ensures shown { ShowsRead I.seen (IsPairOf (C.IsOutput (C.state binary.old)) (IsTerm (P.IsOutput (P.state prefix.old)) (λ p x y. G.post fold.now (Prefix p x) y) (F.IsOutput (F.state operand.old)) (Q.IsOutput (Q.state postfix.old)) (λ x c y. G.post fold.now (Postfix x c) y))) (pair_meaning I.seen (operator_meaning F.Error.errors (HasLevel (C.IsOutput (C.state binary.old)) (λ o. o.0)) (length levels.now) (C.meaning (C.state binary.old))) (term_meaning I.seen (P.meaning (P.state prefix.old)) (F.meaning (F.state operand.old)) (Q.meaning (Q.state postfix.old)))) OM.Output.BUILDS OM.Error.BUILDS OM.Incomplete.STREAMING input result }
+    ensures shown { ShowsRead I.seen (IsPairOf (C.IsOutput (C.state binary.old))
+        (IsTerm (P.IsOutput (P.state prefix.old)) (λ p x y. G.post fold.now (Prefix p x) y) (F.IsOutput (F.state operand.old))
+        (Q.IsOutput (Q.state postfix.old)) (λ x c y. G.post fold.now (Postfix x c) y)))
+        (pair_meaning I.seen (operator_meaning F.Error.errors (HasLevel (C.IsOutput (C.state binary.old)) (λ o. o.0)) (length levels.now)
+        (C.meaning (C.state binary.old))) (term_meaning I.seen (P.meaning (P.state prefix.old)) (F.meaning (F.state operand.old))
+        (Q.meaning (Q.state postfix.old)))) OM.Output.BUILDS OM.Error.BUILDS OM.Incomplete.STREAMING input result }
     ensures prefix_kept { P.state prefix.new ≡ P.state prefix.old }
     ensures operand_kept { F.state operand.new ≡ F.state operand.old }
     ensures postfix_kept { Q.state postfix.new ≡ Q.state postfix.old }
@@ -126,7 +137,14 @@ pub fn pairs<
     requires binary { (C.meaning (C.state binary.old)).IsSound }
     requires fold { (x : Operation P.Output Q.Output B F.Output) → G.pre fold.now x }
     requires before { Built OM.Output.BUILDS ⟦<Machine<'l, P::Output, Q::Output, B, F::Output, A, G> as Keep<((usize, B), F::Output)>>⟧.CanKeep before }
-    ensures shown { ShowsRead I.seen (Kept ⟦<Machine<'l, P::Output, Q::Output, B, F::Output, A, G> as Keep<((usize, B), F::Output)>>⟧.Gains ⟦<Machine<'l, P::Output, Q::Output, B, F::Output, A, G> as Keep<((usize, B), F::Output)>>⟧.CanKeep (IsPairOf (C.IsOutput (C.state binary.old)) (IsTerm (P.IsOutput (P.state prefix.old)) (λ p x y. G.post fold.now (Prefix p x) y) (F.IsOutput (F.state operand.old)) (Q.IsOutput (Q.state postfix.old)) (λ x c y. G.post fold.now (Postfix x c) y))) before.entry) (chain_meaning I.seen (Unit {0}) (pair_meaning I.seen (operator_meaning F.Error.errors (HasLevel (C.IsOutput (C.state binary.old)) (λ o. o.0)) (length levels.now) (C.meaning (C.state binary.old))) (term_meaning I.seen (P.meaning (P.state prefix.old)) (F.meaning (F.state operand.old)) (Q.meaning (Q.state postfix.old))))) OM.Output.BUILDS OM.Error.BUILDS OM.Incomplete.STREAMING input result }
+    ensures shown { ShowsRead I.seen (Kept ⟦<Machine<'l, P::Output, Q::Output, B, F::Output, A, G> as Keep<((usize, B), F::Output)>>⟧.Gains
+        ⟦<Machine<'l, P::Output, Q::Output, B, F::Output, A, G> as Keep<((usize, B), F::Output)>>⟧.CanKeep
+        (IsPairOf (C.IsOutput (C.state binary.old)) (IsTerm (P.IsOutput (P.state prefix.old)) (λ p x y. G.post fold.now (Prefix p x) y)
+        (F.IsOutput (F.state operand.old)) (Q.IsOutput (Q.state postfix.old)) (λ x c y. G.post fold.now (Postfix x c) y))) before.entry)
+        (chain_meaning I.seen (Unit {0}) (pair_meaning I.seen (operator_meaning F.Error.errors
+        (HasLevel (C.IsOutput (C.state binary.old)) (λ o. o.0)) (length levels.now) (C.meaning (C.state binary.old)))
+        (term_meaning I.seen (P.meaning (P.state prefix.old)) (F.meaning (F.state operand.old)) (Q.meaning (Q.state postfix.old)))))
+        OM.Output.BUILDS OM.Error.BUILDS OM.Incomplete.STREAMING input result }
     ensures prefix_kept { P.state prefix.new ≡ P.state prefix.old }
     ensures operand_kept { F.state operand.new ≡ F.state operand.old }
     ensures postfix_kept { Q.state postfix.new ≡ Q.state postfix.old }

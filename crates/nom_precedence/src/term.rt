@@ -124,7 +124,9 @@ fn tail<
     requires operand { (F.meaning (F.state operand.old)).IsSound }
     requires postfix { (Q.meaning (Q.state postfix.old)).IsSound }
     requires fold { (x : Operation P Q.Output B F.Output) → G.pre fold.now x }
-    ensures shown { ShowsRead I.seen (IsTail (F.IsOutput (F.state operand.old)) (Q.IsOutput (Q.state postfix.old)) (λ x c y. G.post fold.now (Postfix x c) y)) (tail_meaning I.seen (F.meaning (F.state operand.old)) (Q.meaning (Q.state postfix.old))) OM.Output.BUILDS OM.Error.BUILDS OM.Incomplete.STREAMING input result }
+    ensures shown { ShowsRead I.seen (IsTail (F.IsOutput (F.state operand.old)) (Q.IsOutput (Q.state postfix.old))
+        (λ x c y. G.post fold.now (Postfix x c) y)) (tail_meaning I.seen (F.meaning (F.state operand.old)) (Q.meaning (Q.state postfix.old)))
+        OM.Output.BUILDS OM.Error.BUILDS OM.Incomplete.STREAMING input result }
     ensures operand_kept { F.state operand.new ≡ F.state operand.old }
     ensures postfix_kept { Q.state postfix.new ≡ Q.state postfix.old }
 {
@@ -161,7 +163,10 @@ pub fn term<
     requires operand { (F.meaning (F.state operand.old)).IsSound }
     requires postfix { (Q.meaning (Q.state postfix.old)).IsSound }
     requires fold { (x : Operation P.Output Q.Output B F.Output) → G.pre fold.now x }
-    ensures shown { ShowsRead I.seen (IsTerm (P.IsOutput (P.state prefix.old)) (λ p x y. G.post fold.now (Prefix p x) y) (F.IsOutput (F.state operand.old)) (Q.IsOutput (Q.state postfix.old)) (λ x c y. G.post fold.now (Postfix x c) y)) (term_meaning I.seen (P.meaning (P.state prefix.old)) (F.meaning (F.state operand.old)) (Q.meaning (Q.state postfix.old))) OM.Output.BUILDS OM.Error.BUILDS OM.Incomplete.STREAMING input result }
+    ensures shown { ShowsRead I.seen (IsTerm (P.IsOutput (P.state prefix.old)) (λ p x y. G.post fold.now (Prefix p x) y)
+        (F.IsOutput (F.state operand.old)) (Q.IsOutput (Q.state postfix.old)) (λ x c y. G.post fold.now (Postfix x c) y))
+        (term_meaning I.seen (P.meaning (P.state prefix.old)) (F.meaning (F.state operand.old)) (Q.meaning (Q.state postfix.old))) OM.Output.BUILDS
+        OM.Error.BUILDS OM.Incomplete.STREAMING input result }
     ensures prefix_kept { P.state prefix.new ≡ P.state prefix.old }
     ensures operand_kept { F.state operand.new ≡ F.state operand.old }
     ensures postfix_kept { Q.state postfix.new ≡ Q.state postfix.old }

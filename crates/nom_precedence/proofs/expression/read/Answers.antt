@@ -24,26 +24,35 @@ use Rattle.nom_precedence.proofs.expression.read.Goals as goal
 abbrev operator : (g : given.Over) → g.C.Parser.State → ℕ → Meaning g.row.I.Denot (ℕ × g.C.Parser.Tree) g.row.F-Error.Denot
 operator g b n = operator_meaning g.F.Error.ParseError.errors (HasLevel (g.C.Parser.IsOutput b) (λ o. o.0)) n (g.C.Parser.meaning b)
 
-abbrev term : (g : given.Over) → g.P.Parser.State → g.F.Parser.State → g.Q.Parser.State → Meaning g.row.I.Denot (Read (Term g.P.Parser.Tree g.F.Parser.Tree g.Q.Parser.Tree)) g.row.F-Error.Denot
+abbrev term : (g : given.Over) → g.P.Parser.State → g.F.Parser.State → g.Q.Parser.State →
+    Meaning g.row.I.Denot (Read (Term g.P.Parser.Tree g.F.Parser.Tree g.Q.Parser.Tree)) g.row.F-Error.Denot
 term g p f q = term_meaning g.I.Items.seen (g.P.Parser.meaning p) (g.F.Parser.meaning f) (g.Q.Parser.meaning q)
 
-abbrev first : (g : given.Over) → g.P.Parser.State → g.F.Parser.State → g.Q.Parser.State → Meaning g.row.I.Denot (Read (Term g.P.Parser.Tree g.F.Parser.Tree g.Q.Parser.Tree)) g.row.F-Error.Denot
+abbrev first : (g : given.Over) → g.P.Parser.State → g.F.Parser.State → g.Q.Parser.State →
+    Meaning g.row.I.Denot (Read (Term g.P.Parser.Tree g.F.Parser.Tree g.Q.Parser.Tree)) g.row.F-Error.Denot
 first g p f q = closed_meaning (λ i. g.F.Error.ParseError.errors.appended i Kind.Precedence) g.F.Error.ParseError.errors.grows (term g p f q)
 
-abbrev behind : (g : given.Over) → g.P.Parser.State → g.F.Parser.State → g.Q.Parser.State → g.C.Parser.State → ℕ → Meaning g.row.I.Denot (Read (List (Pair g.C.Parser.Tree (Term g.P.Parser.Tree g.F.Parser.Tree g.Q.Parser.Tree)))) g.row.F-Error.Denot
+abbrev behind : (g : given.Over) → g.P.Parser.State → g.F.Parser.State → g.Q.Parser.State → g.C.Parser.State → ℕ →
+    Meaning g.row.I.Denot (Read (List (Pair g.C.Parser.Tree (Term g.P.Parser.Tree g.F.Parser.Tree g.Q.Parser.Tree)))) g.row.F-Error.Denot
 behind g p f q b n = chain_meaning g.I.Items.seen (Unit {0}) (pair_meaning g.I.Items.seen (operator g b n) (term g p f q))
 
 -- and their outputs, by the fold
-abbrev is_term : (g : given.Over) → g.P.Parser.State → g.F.Parser.State → g.Q.Parser.State → g.row.G.Denot → Term g.P.Parser.Tree g.F.Parser.Tree g.Q.Parser.Tree → g.row.F-Output.Denot → Type 0
+abbrev is_term : (g : given.Over) → g.P.Parser.State → g.F.Parser.State → g.Q.Parser.State → g.row.G.Denot →
+    Term g.P.Parser.Tree g.F.Parser.Tree g.Q.Parser.Tree → g.row.F-Output.Denot → Type 0
 is_term g p f q fold =
-    IsTerm (g.P.Parser.IsOutput p) (λ c x y. g.G.Fn.post fold (Prefix c x, tt) y) (g.F.Parser.IsOutput f) (g.Q.Parser.IsOutput q) (λ x c y. g.G.Fn.post fold (Postfix x c, tt) y)
+    IsTerm (g.P.Parser.IsOutput p) (λ c x y. g.G.Fn.post fold (Prefix c x, tt) y) (g.F.Parser.IsOutput f) (g.Q.Parser.IsOutput q)
+    (λ x c y. g.G.Fn.post fold (Postfix x c, tt) y)
 
-abbrev is_pair : (g : given.Over) → g.P.Parser.State → g.F.Parser.State → g.Q.Parser.State → g.C.Parser.State → g.row.G.Denot → Pair g.C.Parser.Tree (Term g.P.Parser.Tree g.F.Parser.Tree g.Q.Parser.Tree) → (ℕ × g.row.B.Denot) × g.row.F-Output.Denot → Type 0
+abbrev is_pair : (g : given.Over) → g.P.Parser.State → g.F.Parser.State → g.Q.Parser.State → g.C.Parser.State → g.row.G.Denot →
+    Pair g.C.Parser.Tree (Term g.P.Parser.Tree g.F.Parser.Tree g.Q.Parser.Tree) → (ℕ × g.row.B.Denot) × g.row.F-Output.Denot → Type 0
 is_pair g p f q b fold = IsPairOf (g.C.Parser.IsOutput b) (is_term g p f q fold)
 
-abbrev Whole : (g : given.Over) → g.P.Parser.State → g.F.Parser.State → g.Q.Parser.State → g.C.Parser.State → g.row.G.Denot → List Assoc → Term g.P.Parser.Tree g.F.Parser.Tree g.Q.Parser.Tree × List (Pair g.C.Parser.Tree (Term g.P.Parser.Tree g.F.Parser.Tree g.Q.Parser.Tree)) → g.row.F-Output.Denot → Type 0
+abbrev Whole : (g : given.Over) → g.P.Parser.State → g.F.Parser.State → g.Q.Parser.State → g.C.Parser.State → g.row.G.Denot → List Assoc →
+    Term g.P.Parser.Tree g.F.Parser.Tree g.Q.Parser.Tree × List (Pair g.C.Parser.Tree (Term g.P.Parser.Tree g.F.Parser.Tree g.Q.Parser.Tree)) →
+    g.row.F-Output.Denot → Type 0
 Whole g p f q b fold levels e y =
-    Stands (folding (g.P.Parser.IsOutput p) (g.F.Parser.IsOutput f) (g.Q.Parser.IsOutput q) (g.C.Parser.IsOutput b) (λ o. g.G.Fn.post fold (o, tt))) (groups_left levels) e.0 e.1 y
+    Stands (folding (g.P.Parser.IsOutput p) (g.F.Parser.IsOutput f) (g.Q.Parser.IsOutput q) (g.C.Parser.IsOutput b) (λ o. g.G.Fn.post fold (o, tt)))
+    (groups_left levels) e.0 e.1 y
 
 pub returns-in_err-rest-clause-shown : goal.returns-in_err-rest-clause-shown
 returns-in_err-rest-clause-shown g c =
@@ -54,8 +63,11 @@ returns-in_err-rest-clause-shown g c =
     let n = length c.args.levels.now in
     let fold = c.args.fold.now in
     let errs = g.F.Error.ParseError.errors in
-    let closed = closed_read (is_term g p f q fold) (term g p f q) (λ i. errs.appended i Kind.Precedence) errs.grows g.OM.Output.Mode.BUILDS g.OM.Error.Mode.BUILDS g.OM.Incomplete.IsStreaming.STREAMING c.term-first.ensures.shown c.in_err-rest.ensures in
-    first_err g.met.I.Items.lawful (λ t ps. (t, ps)) (first g p f q) (behind g p f q b n) (is_term g p f q fold) (Whole g p f q b fold c.args.levels.now) g.OM.Output.Mode.BUILDS g.OM.Error.Mode.BUILDS g.OM.Incomplete.IsStreaming.STREAMING closed c.from_residual.ensures
+    let closed = closed_read (is_term g p f q fold) (term g p f q) (λ i. errs.appended i Kind.Precedence) errs.grows g.OM.Output.Mode.BUILDS
+    g.OM.Error.Mode.BUILDS g.OM.Incomplete.IsStreaming.STREAMING c.term-first.ensures.shown c.in_err-rest.ensures in
+    first_err g.met.I.Items.lawful (λ t ps. (t, ps)) (first g p f q) (behind g p f q b n) (is_term g p f q fold)
+    (Whole g p f q b fold c.args.levels.now) g.OM.Output.Mode.BUILDS g.OM.Error.Mode.BUILDS g.OM.Incomplete.IsStreaming.STREAMING closed
+    c.from_residual.ensures
 
 pub returns-in-Stuck-clause-shown : goal.returns-in-Stuck-clause-shown
 returns-in-Stuck-clause-shown g c =
@@ -66,8 +78,11 @@ returns-in-Stuck-clause-shown g c =
     let n = length c.args.levels.now in
     let fold = c.args.fold.now in
     let errs = g.F.Error.ParseError.errors in
-    let closed = closed_read (is_term g p f q fold) (term g p f q) (λ i. errs.appended i Kind.Precedence) errs.grows g.OM.Output.Mode.BUILDS g.OM.Error.Mode.BUILDS g.OM.Incomplete.IsStreaming.STREAMING c.term-first.ensures.shown c.in_ok-rest.ensures in
-    first_stuck g.met.I.Items.lawful (λ t ps. (t, ps)) (first g p f q) (behind g p f q b n) (is_term g p f q fold) (Whole g p f q b fold c.args.levels.now) g.OM.Output.Mode.BUILDS g.OM.Error.Mode.BUILDS g.OM.Incomplete.IsStreaming.STREAMING (told_ok c.told.ensures c.in-Stuck.is closed)
+    let closed = closed_read (is_term g p f q fold) (term g p f q) (λ i. errs.appended i Kind.Precedence) errs.grows g.OM.Output.Mode.BUILDS
+    g.OM.Error.Mode.BUILDS g.OM.Incomplete.IsStreaming.STREAMING c.term-first.ensures.shown c.in_ok-rest.ensures in
+    first_stuck g.met.I.Items.lawful (λ t ps. (t, ps)) (first g p f q) (behind g p f q b n) (is_term g p f q fold)
+    (Whole g p f q b fold c.args.levels.now) g.OM.Output.Mode.BUILDS g.OM.Error.Mode.BUILDS g.OM.Incomplete.IsStreaming.STREAMING
+    (told_ok c.told.ensures c.in-Stuck.is closed)
 
 pub pairs-requires-clause-before : goal.pairs-requires-clause-before
 pairs-requires-clause-before g c =
@@ -76,10 +91,13 @@ pairs-requires-clause-before g c =
     let q = g.Q.Parser.state c.args.postfix.now in
     let fold = c.args.fold.now in
     let errs = g.F.Error.ParseError.errors in
-    let closed = closed_read (is_term g p f q fold) (term g p f q) (λ i. errs.appended i Kind.Precedence) errs.grows g.OM.Output.Mode.BUILDS g.OM.Error.Mode.BUILDS g.OM.Incomplete.IsStreaming.STREAMING c.term-first.ensures.shown c.in_ok-rest.ensures in
+    let closed = closed_read (is_term g p f q fold) (term g p f q) (λ i. errs.appended i Kind.Precedence) errs.grows g.OM.Output.Mode.BUILDS
+    g.OM.Error.Mode.BUILDS g.OM.Incomplete.IsStreaming.STREAMING c.term-first.ensures.shown c.in_ok-rest.ensures in
     let item = accepts (told_ok c.told.ensures c.in-Whole.is closed) in
     let t = is_whole g.OM.Output.Mode.BUILDS (is_term g p f q fold) item.tree item.built_is in
-    started_ready (λ m. reverse m.stack.items) (λ m. m.value) (λ m. m.levels.now) (λ m. m.fold.now) _ c.args.levels.now fold g.OM.Output.Mode.BUILDS _ _ _ (λ k x e h. (subst (λ z. IsSome z) (sym e) refl, λ o. subst (λ z. g.G.Fn.pre z (o, tt)) (sym h) (c.requires.fold o))) t.2 c.started-machine.ensures
+    started_ready (λ m. reverse m.stack.items) (λ m. m.value) (λ m. m.levels.now) (λ m. m.fold.now) _ c.args.levels.now fold g.OM.Output.Mode.BUILDS _ _
+    _ (λ k x e h. (subst (λ z. IsSome z) (sym e) refl, λ o. subst (λ z. g.G.Fn.pre z (o, tt)) (sym h) (c.requires.fold o))) t.2
+    c.started-machine.ensures
 
 pub returns-in_err-end-in-Whole-clause-shown : goal.returns-in_err-end-in-Whole-clause-shown
 returns-in_err-end-in-Whole-clause-shown g c =
@@ -90,15 +108,21 @@ returns-in_err-end-in-Whole-clause-shown g c =
     let n = length c.args.levels.now in
     let fold = c.args.fold.now in
     let errs = g.F.Error.ParseError.errors in
-    let closed = closed_read (is_term g p f q fold) (term g p f q) (λ i. errs.appended i Kind.Precedence) errs.grows g.OM.Output.Mode.BUILDS g.OM.Error.Mode.BUILDS g.OM.Incomplete.IsStreaming.STREAMING c.term-first.ensures.shown c.in_ok-rest.ensures in
+    let closed = closed_read (is_term g p f q fold) (term g p f q) (λ i. errs.appended i Kind.Precedence) errs.grows g.OM.Output.Mode.BUILDS
+    g.OM.Error.Mode.BUILDS g.OM.Incomplete.IsStreaming.STREAMING c.term-first.ensures.shown c.in_ok-rest.ensures in
     let others = at_states (λ x y z d r. ShowsRead g.I.Items.seen (KeptFrom c.started-machine.result
     (λ old item new.
-    MachineGains (groups_left old.levels.now) (λ o. o.0) (λ l o h k. g.G.Fn.post old.fold.now (Binary l o.1 h, tt) k) (λ m. reverse m.stack.items) (λ m. m.value) old item new
+    MachineGains (groups_left old.levels.now) (λ o. o.0) (λ l o h k. g.G.Fn.post old.fold.now (Binary l o.1 h, tt) k) (λ m. reverse m.stack.items)
+    (λ m. m.value) old item new
     × (new.levels ≡ old.levels)
     × (new.fold ≡ old.fold))
     (λ m. IsSome m.value × ((o : Operation g.row.P-Output.Denot g.row.Q-Output.Denot g.row.B.Denot g.row.F-Output.Denot) → g.G.Fn.pre m.fold.now (o, tt)))
-    (is_pair g x y z d fold)) (behind g x y z d n) g.OM.Output.Mode.BUILDS g.OM.Error.Mode.BUILDS g.OM.Incomplete.IsStreaming.STREAMING c.in_ok-rest.rest r) c.term-first.ensures.prefix_kept c.term-first.ensures.operand_kept c.term-first.ensures.postfix_kept refl c.in_err-end-in-Whole.ensures.shown in
-    second_err g.met.I.Items.lawful (λ t ps. (t, ps)) (first g p f q) (behind g p f q b n) (is_term g p f q fold) (Whole g p f q b fold c.args.levels.now) g.OM.Output.Mode.BUILDS g.OM.Error.Mode.BUILDS g.OM.Incomplete.IsStreaming.STREAMING _ (told_ok c.told.ensures c.in-Whole.is closed) others c.from_residual-in_err-end-in-Whole.ensures
+    (is_pair g x y z d fold)) (behind g x y z d n) g.OM.Output.Mode.BUILDS g.OM.Error.Mode.BUILDS g.OM.Incomplete.IsStreaming.STREAMING
+    c.in_ok-rest.rest r) c.term-first.ensures.prefix_kept c.term-first.ensures.operand_kept c.term-first.ensures.postfix_kept refl
+    c.in_err-end-in-Whole.ensures.shown in
+    second_err g.met.I.Items.lawful (λ t ps. (t, ps)) (first g p f q) (behind g p f q b n) (is_term g p f q fold)
+    (Whole g p f q b fold c.args.levels.now) g.OM.Output.Mode.BUILDS g.OM.Error.Mode.BUILDS g.OM.Incomplete.IsStreaming.STREAMING _
+    (told_ok c.told.ensures c.in-Whole.is closed) others c.from_residual-in_err-end-in-Whole.ensures
 
 pub returns-in-Stuck-told-clause-shown : goal.returns-in-Stuck-told-clause-shown
 returns-in-Stuck-told-clause-shown g c =
@@ -109,15 +133,21 @@ returns-in-Stuck-told-clause-shown g c =
     let n = length c.args.levels.now in
     let fold = c.args.fold.now in
     let errs = g.F.Error.ParseError.errors in
-    let closed = closed_read (is_term g p f q fold) (term g p f q) (λ i. errs.appended i Kind.Precedence) errs.grows g.OM.Output.Mode.BUILDS g.OM.Error.Mode.BUILDS g.OM.Incomplete.IsStreaming.STREAMING c.term-first.ensures.shown c.in_ok-rest.ensures in
+    let closed = closed_read (is_term g p f q fold) (term g p f q) (λ i. errs.appended i Kind.Precedence) errs.grows g.OM.Output.Mode.BUILDS
+    g.OM.Error.Mode.BUILDS g.OM.Incomplete.IsStreaming.STREAMING c.term-first.ensures.shown c.in_ok-rest.ensures in
     let others = at_states (λ x y z d r. ShowsRead g.I.Items.seen (KeptFrom c.started-machine.result
     (λ old item new.
-    MachineGains (groups_left old.levels.now) (λ o. o.0) (λ l o h k. g.G.Fn.post old.fold.now (Binary l o.1 h, tt) k) (λ m. reverse m.stack.items) (λ m. m.value) old item new
+    MachineGains (groups_left old.levels.now) (λ o. o.0) (λ l o h k. g.G.Fn.post old.fold.now (Binary l o.1 h, tt) k) (λ m. reverse m.stack.items)
+    (λ m. m.value) old item new
     × (new.levels ≡ old.levels)
     × (new.fold ≡ old.fold))
     (λ m. IsSome m.value × ((o : Operation g.row.P-Output.Denot g.row.Q-Output.Denot g.row.B.Denot g.row.F-Output.Denot) → g.G.Fn.pre m.fold.now (o, tt)))
-    (is_pair g x y z d fold)) (behind g x y z d n) g.OM.Output.Mode.BUILDS g.OM.Error.Mode.BUILDS g.OM.Incomplete.IsStreaming.STREAMING c.in_ok-rest.rest r) c.term-first.ensures.prefix_kept c.term-first.ensures.operand_kept c.term-first.ensures.postfix_kept refl c.in_ok-end-in-Whole.ensures.shown in
-    second_stuck g.met.I.Items.lawful (λ t ps. (t, ps)) (first g p f q) (behind g p f q b n) (is_term g p f q fold) (Whole g p f q b fold c.args.levels.now) g.OM.Output.Mode.BUILDS g.OM.Error.Mode.BUILDS g.OM.Incomplete.IsStreaming.STREAMING _ (told_ok c.told.ensures c.in-Whole.is closed) (told_ok c.told-in-Whole.ensures c.in-Stuck-told.is others)
+    (is_pair g x y z d fold)) (behind g x y z d n) g.OM.Output.Mode.BUILDS g.OM.Error.Mode.BUILDS g.OM.Incomplete.IsStreaming.STREAMING
+    c.in_ok-rest.rest r) c.term-first.ensures.prefix_kept c.term-first.ensures.operand_kept c.term-first.ensures.postfix_kept refl
+    c.in_ok-end-in-Whole.ensures.shown in
+    second_stuck g.met.I.Items.lawful (λ t ps. (t, ps)) (first g p f q) (behind g p f q b n) (is_term g p f q fold)
+    (Whole g p f q b fold c.args.levels.now) g.OM.Output.Mode.BUILDS g.OM.Error.Mode.BUILDS g.OM.Incomplete.IsStreaming.STREAMING _
+    (told_ok c.told.ensures c.in-Whole.is closed) (told_ok c.told-in-Whole.ensures c.in-Stuck-told.is others)
 
 pub made-requires : goal.made-requires
 made-requires g c =
@@ -129,12 +159,16 @@ made-requires g c =
     let fold = c.args.fold.now in
     let others = at_states (λ x y z d r. ShowsRead g.I.Items.seen (KeptFrom c.started-machine.result
     (λ old item new.
-    MachineGains (groups_left old.levels.now) (λ o. o.0) (λ l o h k. g.G.Fn.post old.fold.now (Binary l o.1 h, tt) k) (λ m. reverse m.stack.items) (λ m. m.value) old item new
+    MachineGains (groups_left old.levels.now) (λ o. o.0) (λ l o h k. g.G.Fn.post old.fold.now (Binary l o.1 h, tt) k) (λ m. reverse m.stack.items)
+    (λ m. m.value) old item new
     × (new.levels ≡ old.levels)
     × (new.fold ≡ old.fold))
     (λ m. IsSome m.value × ((o : Operation g.row.P-Output.Denot g.row.Q-Output.Denot g.row.B.Denot g.row.F-Output.Denot) → g.G.Fn.pre m.fold.now (o, tt)))
-    (is_pair g x y z d fold)) (behind g x y z d n) g.OM.Output.Mode.BUILDS g.OM.Error.Mode.BUILDS g.OM.Incomplete.IsStreaming.STREAMING c.in_ok-rest.rest r) c.term-first.ensures.prefix_kept c.term-first.ensures.operand_kept c.term-first.ensures.postfix_kept refl c.in_ok-end-in-Whole.ensures.shown in
-    may_end _ _ (is_pair g p f q b fold) _ (behind g p f q b n) g.OM.Output.Mode.BUILDS g.OM.Error.Mode.BUILDS g.OM.Incomplete.IsStreaming.STREAMING (told_ok c.told-in-Whole.ensures c.in-Whole-told.is others)
+    (is_pair g x y z d fold)) (behind g x y z d n) g.OM.Output.Mode.BUILDS g.OM.Error.Mode.BUILDS g.OM.Incomplete.IsStreaming.STREAMING
+    c.in_ok-rest.rest r) c.term-first.ensures.prefix_kept c.term-first.ensures.operand_kept c.term-first.ensures.postfix_kept refl
+    c.in_ok-end-in-Whole.ensures.shown in
+    may_end _ _ (is_pair g p f q b fold) _ (behind g p f q b n) g.OM.Output.Mode.BUILDS g.OM.Error.Mode.BUILDS g.OM.Incomplete.IsStreaming.STREAMING
+    (told_ok c.told-in-Whole.ensures c.in-Whole-told.is others)
 
 pub returns-in-Whole-told-clause-shown : goal.returns-in-Whole-told-clause-shown
 returns-in-Whole-told-clause-shown g c =
@@ -145,16 +179,23 @@ returns-in-Whole-told-clause-shown g c =
     let n = length c.args.levels.now in
     let fold = c.args.fold.now in
     let errs = g.F.Error.ParseError.errors in
-    let closed = closed_read (is_term g p f q fold) (term g p f q) (λ i. errs.appended i Kind.Precedence) errs.grows g.OM.Output.Mode.BUILDS g.OM.Error.Mode.BUILDS g.OM.Incomplete.IsStreaming.STREAMING c.term-first.ensures.shown c.in_ok-rest.ensures in
+    let closed = closed_read (is_term g p f q fold) (term g p f q) (λ i. errs.appended i Kind.Precedence) errs.grows g.OM.Output.Mode.BUILDS
+    g.OM.Error.Mode.BUILDS g.OM.Incomplete.IsStreaming.STREAMING c.term-first.ensures.shown c.in_ok-rest.ensures in
     let others = at_states (λ x y z d r. ShowsRead g.I.Items.seen (KeptFrom c.started-machine.result
     (λ old item new.
-    MachineGains (groups_left old.levels.now) (λ o. o.0) (λ l o h k. g.G.Fn.post old.fold.now (Binary l o.1 h, tt) k) (λ m. reverse m.stack.items) (λ m. m.value) old item new
+    MachineGains (groups_left old.levels.now) (λ o. o.0) (λ l o h k. g.G.Fn.post old.fold.now (Binary l o.1 h, tt) k) (λ m. reverse m.stack.items)
+    (λ m. m.value) old item new
     × (new.levels ≡ old.levels)
     × (new.fold ≡ old.fold))
     (λ m. IsSome m.value × ((o : Operation g.row.P-Output.Denot g.row.Q-Output.Denot g.row.B.Denot g.row.F-Output.Denot) → g.G.Fn.pre m.fold.now (o, tt)))
-    (is_pair g x y z d fold)) (behind g x y z d n) g.OM.Output.Mode.BUILDS g.OM.Error.Mode.BUILDS g.OM.Incomplete.IsStreaming.STREAMING c.in_ok-rest.rest r) c.term-first.ensures.prefix_kept c.term-first.ensures.operand_kept c.term-first.ensures.postfix_kept refl c.in_ok-end-in-Whole.ensures.shown in
-    both_whole g.met.I.Items.lawful (λ t ps. (t, ps)) (first g p f q) (behind g p f q b n) (is_term g p f q fold) (Whole g p f q b fold c.args.levels.now) g.OM.Output.Mode.BUILDS g.OM.Error.Mode.BUILDS g.OM.Incomplete.IsStreaming.STREAMING _ _
-    (λ t ps v k. expression_built (g.P.Parser.IsOutput p) (g.F.Parser.IsOutput f) (g.Q.Parser.IsOutput q) (g.C.Parser.IsOutput b) (λ h o. g.G.Fn.post h (o, tt)) groups_left (λ m. reverse m.stack.items) (λ m. m.value) (λ m. m.levels.now) (λ m. m.fold.now) _ c.args.levels.now fold _
+    (is_pair g x y z d fold)) (behind g x y z d n) g.OM.Output.Mode.BUILDS g.OM.Error.Mode.BUILDS g.OM.Incomplete.IsStreaming.STREAMING
+    c.in_ok-rest.rest r) c.term-first.ensures.prefix_kept c.term-first.ensures.operand_kept c.term-first.ensures.postfix_kept refl
+    c.in_ok-end-in-Whole.ensures.shown in
+    both_whole g.met.I.Items.lawful (λ t ps. (t, ps)) (first g p f q) (behind g p f q b n) (is_term g p f q fold)
+    (Whole g p f q b fold c.args.levels.now) g.OM.Output.Mode.BUILDS g.OM.Error.Mode.BUILDS g.OM.Incomplete.IsStreaming.STREAMING _ _
+    (λ t ps v k. expression_built (g.P.Parser.IsOutput p) (g.F.Parser.IsOutput f) (g.Q.Parser.IsOutput q) (g.C.Parser.IsOutput b)
+    (λ h o. g.G.Fn.post h (o, tt)) groups_left (λ m. reverse m.stack.items) (λ m. m.value) (λ m. m.levels.now) (λ m. m.fold.now) _ c.args.levels.now
+    fold _
     (λ old item new h. record { gains = h.0; levels_is = ap (λ r. r.now) h.1; fold_is = ap (λ r. r.now) h.2 })
     g.OM.Output.Mode.BUILDS t ps _ _ _ _ c.started-machine.ensures c.made.ensures v k)
     (told_ok c.told.ensures c.in-Whole.is closed) (told_ok c.told-in-Whole.ensures c.in-Whole-told.is others)

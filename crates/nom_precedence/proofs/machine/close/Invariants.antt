@@ -7,7 +7,8 @@ use Rattle.nom_precedence.proofs.machine.close.Given as goal
 
 abbrev pub invariant-loop-stack : goal.invariant-loop-stack
 invariant-loop-stack g l = record {
-  joined : Joined (λ x c y z. g.G.Fn.post l.fold (Binary x c.1 y, tt) z) (λ c. Closes (groups_left l.levels) l.level c.0) (reverse l.fn.stack.items) l.fn.value (reverse l.stack.items) l.value;
+  joined : Joined (λ x c y z. g.G.Fn.post l.fold (Binary x c.1 y, tt) z) (λ c. Closes (groups_left l.levels) l.level c.0) (reverse l.fn.stack.items)
+      l.fn.value (reverse l.stack.items) l.value;
   capacity : vec_capacity l.stack ≡ vec_capacity l.fn.stack;
   fewer : vec_len l.stack ≤ vec_len l.fn.stack;
 }

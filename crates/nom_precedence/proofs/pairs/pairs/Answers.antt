@@ -9,13 +9,16 @@ use Rattle.nom_repeat.proofs.Repeated.{collected_none, is_empty, consumes, is_sh
 use Rattle.nom_precedence.specs.Told.{ShowsRead}
 use Rattle.nom_precedence.specs.declared.read.Read as Told
 use Rattle.nom_precedence.proofs.ReadShown.{told_ok, is_whole, is_stuck, at_states}
-use Rattle.nom_precedence.proofs.ChainShown.{chain_ended, chain_stuck, chain_stuck_within, chain_lacks_room, chain_failed, chain_lacks, chain_ran_out, chain_more}
+use Rattle.nom_precedence.proofs.ChainShown.{chain_ended, chain_stuck, chain_stuck_within, chain_lacks_room, chain_failed, chain_lacks, chain_ran_out}
+use Rattle.nom_precedence.proofs.ChainShown.{chain_more}
 use Rattle.nom_precedence.proofs.pairs.pairs.Given as given
 use Rattle.nom_precedence.proofs.pairs.pairs.Invariants.{part, is_pair}
 use Rattle.nom_precedence.proofs.pairs.pairs.Goals as goal
 
 -- what a pair shows, by the states of the parts
-abbrev Shows : (g : given.Over) → g.row.G.Denot → ℕ → g.row.I.Denot → g.P.Parser.State → g.F.Parser.State → g.Q.Parser.State → g.C.Parser.State → Result (g.row.I.Denot × Option (Told.Read (Option ((ℕ × g.row.B.Denot) × g.row.F-Output.Denot)))) (Answer.Err g.row.F-Error.Denot (Option g.row.F-Error.Denot) Needed) → Type 0
+abbrev Shows : (g : given.Over) → g.row.G.Denot → ℕ → g.row.I.Denot → g.P.Parser.State → g.F.Parser.State → g.Q.Parser.State → g.C.Parser.State →
+    Result (g.row.I.Denot × Option (Told.Read (Option ((ℕ × g.row.B.Denot) × g.row.F-Output.Denot))))
+    (Answer.Err g.row.F-Error.Denot (Option g.row.F-Error.Denot) Needed) → Type 0
 Shows g fold n i p f q b r =
     ShowsRead g.I.Items.seen (is_pair g p f q b fold) (part g p f q b n) g.OM.Output.Mode.BUILDS false g.OM.Incomplete.IsStreaming.STREAMING i r
 
@@ -140,7 +143,8 @@ returns-in-Err-Failure-clause-shown g c =
     let q = g.Q.Parser.state c.args.postfix.now in
     let b = g.C.Parser.state c.args.binary.now in
     let n = length c.args.levels.now in
-    let shown = at_states (Shows g c.args.fold.now n c.loop-next.rest) i.prefix_kept i.operand_kept i.postfix_kept i.binary_kept c.in-Err-Failure.ensures.shown in
+    let shown = at_states (Shows g c.args.fold.now n c.loop-next.rest) i.prefix_kept i.operand_kept i.postfix_kept i.binary_kept
+    c.in-Err-Failure.ensures.shown in
     rw c.in-Err-Failure.field-0-is
     (chain_failed (Unit {0}) (part g p f q b n) _ g.OM.Output.Mode.BUILDS g.OM.Error.Mode.BUILDS g.OM.Incomplete.IsStreaming.STREAMING i.collected
     shown c.in-Err-Failure.field-0-is)
@@ -153,7 +157,8 @@ returns-in-Err-Incomplete-clause-shown g c =
     let q = g.Q.Parser.state c.args.postfix.now in
     let b = g.C.Parser.state c.args.binary.now in
     let n = length c.args.levels.now in
-    let shown = at_states (Shows g c.args.fold.now n c.loop-next.rest) i.prefix_kept i.operand_kept i.postfix_kept i.binary_kept c.in-Err-Incomplete.ensures.shown in
+    let shown = at_states (Shows g c.args.fold.now n c.loop-next.rest) i.prefix_kept i.operand_kept i.postfix_kept i.binary_kept
+    c.in-Err-Incomplete.ensures.shown in
     rw c.in-Err-Incomplete.field-0-is
     (chain_lacks (Unit {0}) (part g p f q b n) _ g.OM.Output.Mode.BUILDS g.OM.Error.Mode.BUILDS g.OM.Incomplete.IsStreaming.STREAMING i.collected
     shown c.in-Err-Incomplete.field-0-is)
@@ -166,7 +171,8 @@ returns-in-Err-OutOfMemory-clause-shown g c =
     let q = g.Q.Parser.state c.args.postfix.now in
     let b = g.C.Parser.state c.args.binary.now in
     let n = length c.args.levels.now in
-    let shown = at_states (Shows g c.args.fold.now n c.loop-next.rest) i.prefix_kept i.operand_kept i.postfix_kept i.binary_kept c.in-Err-OutOfMemory.ensures.shown in
+    let shown = at_states (Shows g c.args.fold.now n c.loop-next.rest) i.prefix_kept i.operand_kept i.postfix_kept i.binary_kept
+    c.in-Err-OutOfMemory.ensures.shown in
     chain_ran_out (Unit {0}) (part g p f q b n) _ g.OM.Output.Mode.BUILDS g.OM.Error.Mode.BUILDS g.OM.Incomplete.IsStreaming.STREAMING i.collected
     shown
     c.in-Err-OutOfMemory.field-0-is

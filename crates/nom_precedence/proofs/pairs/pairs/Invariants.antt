@@ -16,17 +16,20 @@ use Rattle.nom_precedence.proofs.ChainShown.{Chain}
 use Rattle.nom_precedence.proofs.pairs.pairs.Given as goal
 
 -- what a pair means, by the states of the four parts and the number of levels
-abbrev pub part : (g : goal.Over) → g.P.Parser.State → g.F.Parser.State → g.Q.Parser.State → g.C.Parser.State → ℕ → Meaning g.row.I.Denot (Read (Pair g.C.Parser.Tree (Term g.P.Parser.Tree g.F.Parser.Tree g.Q.Parser.Tree))) g.row.F-Error.Denot
+abbrev pub part : (g : goal.Over) → g.P.Parser.State → g.F.Parser.State → g.Q.Parser.State → g.C.Parser.State → ℕ →
+    Meaning g.row.I.Denot (Read (Pair g.C.Parser.Tree (Term g.P.Parser.Tree g.F.Parser.Tree g.Q.Parser.Tree))) g.row.F-Error.Denot
 part g p f q b n =
     pair_meaning g.I.Items.seen
     (operator_meaning g.F.Error.ParseError.errors (HasLevel (g.C.Parser.IsOutput b) (λ o. o.0)) n (g.C.Parser.meaning b))
     (term_meaning g.I.Items.seen (g.P.Parser.meaning p) (g.F.Parser.meaning f) (g.Q.Parser.meaning q))
 
 -- an output of it, by the fold
-abbrev pub is_pair : (g : goal.Over) → g.P.Parser.State → g.F.Parser.State → g.Q.Parser.State → g.C.Parser.State → g.row.G.Denot → Pair g.C.Parser.Tree (Term g.P.Parser.Tree g.F.Parser.Tree g.Q.Parser.Tree) → (ℕ × g.row.B.Denot) × g.row.F-Output.Denot → Type 0
+abbrev pub is_pair : (g : goal.Over) → g.P.Parser.State → g.F.Parser.State → g.Q.Parser.State → g.C.Parser.State → g.row.G.Denot →
+    Pair g.C.Parser.Tree (Term g.P.Parser.Tree g.F.Parser.Tree g.Q.Parser.Tree) → (ℕ × g.row.B.Denot) × g.row.F-Output.Denot → Type 0
 is_pair g p f q b fold =
     IsPairOf (g.C.Parser.IsOutput b)
-    (IsTerm (g.P.Parser.IsOutput p) (λ c x y. g.G.Fn.post fold (Prefix c x, tt) y) (g.F.Parser.IsOutput f) (g.Q.Parser.IsOutput q) (λ x c y. g.G.Fn.post fold (Postfix x c, tt) y))
+    (IsTerm (g.P.Parser.IsOutput p) (λ c x y. g.G.Fn.post fold (Prefix c x, tt) y) (g.F.Parser.IsOutput f) (g.Q.Parser.IsOutput q)
+    (λ x c y. g.G.Fn.post fold (Postfix x c, tt) y))
 
 abbrev pub invariant-loop-next : goal.invariant-loop-next
 invariant-loop-next g l =
@@ -43,7 +46,8 @@ invariant-loop-next g l =
           (λ vs. Built g.OM.Output.Mode.BUILDS
           (Kept
           (λ old item new.
-          MachineGains (groups_left old.levels.now) (λ d. d.0) (λ x d y z. g.G.Fn.post old.fold.now (Binary x d.1 y, tt) z) (λ m. reverse m.stack.items) (λ m. m.value) old item new
+          MachineGains (groups_left old.levels.now) (λ d. d.0) (λ x d y z. g.G.Fn.post old.fold.now (Binary x d.1 y, tt) z) (λ m. reverse m.stack.items)
+          (λ m. m.value) old item new
           × (new.levels ≡ old.levels)
           × (new.fold ≡ old.fold))
           (λ m. IsSome m.value × ((x : Operation g.row.P-Output.Denot g.row.Q-Output.Denot g.row.B.Denot g.row.F-Output.Denot) → g.G.Fn.pre m.fold.now (x, tt)))

@@ -7,31 +7,44 @@ use Rattle.nom_repeat.proofs.Parts.{part_refused, shown_at}
 use Rattle.nom_repeat.proofs.Repeated.{collected_none, is_empty, consumes, is_shorter}
 use Rattle.nom_precedence.specs.Stuck.Read.{Whole}
 use Rattle.nom_precedence.proofs.ReadShown.{whole_err}
-use Rattle.nom_precedence.proofs.ChainShown.{accepts_whole, refuses_whole, chain_ended, chain_stuck, chain_lacks_room, chain_failed, chain_lacks, chain_ran_out, chain_more}
+use Rattle.nom_precedence.proofs.ChainShown.{accepts_whole, refuses_whole, chain_ended, chain_stuck, chain_lacks_room, chain_failed, chain_lacks}
+use Rattle.nom_precedence.proofs.ChainShown.{chain_ran_out, chain_more}
 use Rattle.nom_precedence.proofs.read.affixes.Goals as goal
 
 pub loop-next-init : goal.loop-next-init
 loop-next-init g c = record {
   state_kept = refl;
-  collected = collected_none g.met.I.Items.lawful c.known.ensures (kept_none g.K.Keep.Gains g.K.Keep.CanKeep (g.F.Parser.IsOutput (g.F.Parser.state c.args.parser.now)) _ _ c.requires.before);
+  collected = collected_none g.met.I.Items.lawful c.known.ensures (kept_none g.K.Keep.Gains g.K.Keep.CanKeep
+      (g.F.Parser.IsOutput (g.F.Parser.state c.args.parser.now)) _ _ c.requires.before);
 }
 
 pub gain-requires : goal.gain-requires
 gain-requires g c =
     let i = c.loop-next.invariant in
-    can_keep_first g.K.Keep.Gains g.K.Keep.CanKeep (g.F.Parser.IsOutput (g.F.Parser.state c.args.parser.now)) _ _ (kept_ready g.K.Keep.Gains g.K.Keep.CanKeep (g.F.Parser.IsOutput (g.F.Parser.state c.args.parser.now)) _ _ _ i.collected.trees i.collected.held)
+    can_keep_first g.K.Keep.Gains g.K.Keep.CanKeep (g.F.Parser.IsOutput (g.F.Parser.state c.args.parser.now)) _ _
+    (kept_ready g.K.Keep.Gains g.K.Keep.CanKeep (g.F.Parser.IsOutput (g.F.Parser.state c.args.parser.now)) _ _ _ i.collected.trees i.collected.held)
 
 pub returns-then-input_len-clause-shown : goal.returns-then-input_len-clause-shown
 returns-then-input_len-clause-shown g c =
     let i = c.loop-next.invariant in
     let item = accepts (shown_at g.F.Parser.IsOutput g.F.Parser.meaning i.state_kept c.in-Ok.ensures.shown) in
-    chain_stuck g.K.Keep.Grows (labelled_meaning Whole (g.F.Parser.meaning (g.F.Parser.state c.args.parser.now))) (Kept g.K.Keep.Gains g.K.Keep.CanKeep (g.F.Parser.IsOutput (g.F.Parser.state c.args.parser.now)) c.args.before) g.OM.Output.Mode.BUILDS g.OM.Error.Mode.BUILDS g.OM.Incomplete.IsStreaming.STREAMING i.collected g.met.I.Items.lawful item.tree (accepts_whole (g.F.Parser.meaning (g.F.Parser.state c.args.parser.now)) item.answered) (is_empty item.rest_is c.input_len.ensures c.input_len-in-Ok.ensures c.if-input_len.true) item.rest_is
+    chain_stuck g.K.Keep.Grows (labelled_meaning Whole (g.F.Parser.meaning (g.F.Parser.state c.args.parser.now)))
+    (Kept g.K.Keep.Gains g.K.Keep.CanKeep (g.F.Parser.IsOutput (g.F.Parser.state c.args.parser.now)) c.args.before) g.OM.Output.Mode.BUILDS
+    g.OM.Error.Mode.BUILDS g.OM.Incomplete.IsStreaming.STREAMING i.collected g.met.I.Items.lawful item.tree
+    (accepts_whole (g.F.Parser.meaning (g.F.Parser.state c.args.parser.now)) item.answered)
+    (is_empty item.rest_is c.input_len.ensures c.input_len-in-Ok.ensures c.if-input_len.true) item.rest_is
 
 pub returns-then-not-gain-clause-shown : goal.returns-then-not-gain-clause-shown
 returns-then-not-gain-clause-shown g c =
     let i = c.loop-next.invariant in
     let item = accepts (shown_at g.F.Parser.IsOutput g.F.Parser.meaning i.state_kept c.in-Ok.ensures.shown) in
-    chain_lacks_room g.K.Keep.Grows (labelled_meaning Whole (g.F.Parser.meaning (g.F.Parser.state c.args.parser.now))) (Kept g.K.Keep.Gains g.K.Keep.CanKeep (g.F.Parser.IsOutput (g.F.Parser.state c.args.parser.now)) c.args.before) g.OM.Output.Mode.BUILDS g.OM.Error.Mode.BUILDS g.OM.Incomplete.IsStreaming.STREAMING i.collected item.tree (accepts_whole (g.F.Parser.meaning (g.F.Parser.state c.args.parser.now)) item.answered) (consumes item.rest_is c.input_len.ensures c.input_len-in-Ok.ensures c.if-input_len.false) (room_built g.K.Keep.IsFull _ _ _ i.collected.held (c.gain.ensures.full c.if-not-gain.true)) (room_grows g.K.Keep.IsFull g.K.Keep.Grows g.K.Keep.fills _ (c.gain.ensures.full c.if-not-gain.true))
+    chain_lacks_room g.K.Keep.Grows (labelled_meaning Whole (g.F.Parser.meaning (g.F.Parser.state c.args.parser.now)))
+    (Kept g.K.Keep.Gains g.K.Keep.CanKeep (g.F.Parser.IsOutput (g.F.Parser.state c.args.parser.now)) c.args.before) g.OM.Output.Mode.BUILDS
+    g.OM.Error.Mode.BUILDS g.OM.Incomplete.IsStreaming.STREAMING i.collected item.tree
+    (accepts_whole (g.F.Parser.meaning (g.F.Parser.state c.args.parser.now)) item.answered)
+    (consumes item.rest_is c.input_len.ensures c.input_len-in-Ok.ensures c.if-input_len.false)
+    (room_built g.K.Keep.IsFull _ _ _ i.collected.held (c.gain.ensures.full c.if-not-gain.true))
+    (room_grows g.K.Keep.IsFull g.K.Keep.Grows g.K.Keep.fills _ (c.gain.ensures.full c.if-not-gain.true))
 
 pub loop-next-smaller : goal.loop-next-smaller
 loop-next-smaller g c =
@@ -44,25 +57,49 @@ loop-next-preserved g c =
     let item = accepts (shown_at g.F.Parser.IsOutput g.F.Parser.meaning i.state_kept c.in-Ok.ensures.shown) in
     record {
       state_kept = c.in-Ok.ensures.kept ∙ i.state_kept;
-      collected = chain_more g.met.I.Items.lawful ((labelled_meaning Whole (g.F.Parser.meaning (g.F.Parser.state c.args.parser.now))).answers g.OM.Incomplete.IsStreaming.STREAMING) i.collected item.tree (accepts_whole (g.F.Parser.meaning (g.F.Parser.state c.args.parser.now)) item.answered) (consumes item.rest_is c.input_len.ensures c.input_len-in-Ok.ensures c.if-input_len.false) item.rest_is (gained g.K.Keep.Gains g.K.Keep.CanKeep (g.F.Parser.IsOutput (g.F.Parser.state c.args.parser.now)) _ _ _ _ _ _ _ (c.gain.ensures.kept (search rules)) i.collected.held item.built_is);
+      collected = chain_more g.met.I.Items.lawful ((labelled_meaning Whole (g.F.Parser.meaning (g.F.Parser.state c.args.parser.now))).answers
+          g.OM.Incomplete.IsStreaming.STREAMING) i.collected item.tree (accepts_whole (g.F.Parser.meaning (g.F.Parser.state c.args.parser.now))
+          item.answered) (consumes item.rest_is c.input_len.ensures c.input_len-in-Ok.ensures c.if-input_len.false) item.rest_is
+          (gained g.K.Keep.Gains g.K.Keep.CanKeep (g.F.Parser.IsOutput (g.F.Parser.state c.args.parser.now)) _ _ _ _ _ _ _
+          (c.gain.ensures.kept (search rules)) i.collected.held item.built_is);
     }
 
 pub returns-in-Err-Error-clause-shown : goal.returns-in-Err-Error-clause-shown
 returns-in-Err-Error-clause-shown g c =
     let i = c.loop-next.invariant in
-    chain_ended g.K.Keep.Grows (labelled_meaning Whole (g.F.Parser.meaning (g.F.Parser.state c.args.parser.now))) (Kept g.K.Keep.Gains g.K.Keep.CanKeep (g.F.Parser.IsOutput (g.F.Parser.state c.args.parser.now)) c.args.before) g.OM.Output.Mode.BUILDS g.OM.Error.Mode.BUILDS g.OM.Incomplete.IsStreaming.STREAMING i.collected (refuses_whole (g.F.Parser.meaning (g.F.Parser.state c.args.parser.now)) (part_refused c.in-Err-Error.field-0-is (shown_at g.F.Parser.IsOutput g.F.Parser.meaning i.state_kept c.in-Err-Error.ensures.shown))) _ i.collected.held
+    chain_ended g.K.Keep.Grows (labelled_meaning Whole (g.F.Parser.meaning (g.F.Parser.state c.args.parser.now)))
+    (Kept g.K.Keep.Gains g.K.Keep.CanKeep (g.F.Parser.IsOutput (g.F.Parser.state c.args.parser.now)) c.args.before) g.OM.Output.Mode.BUILDS
+    g.OM.Error.Mode.BUILDS g.OM.Incomplete.IsStreaming.STREAMING i.collected
+    (refuses_whole (g.F.Parser.meaning (g.F.Parser.state c.args.parser.now))
+    (part_refused c.in-Err-Error.field-0-is (shown_at g.F.Parser.IsOutput g.F.Parser.meaning i.state_kept c.in-Err-Error.ensures.shown))) _
+    i.collected.held
 
 pub returns-in-Err-Failure-clause-shown : goal.returns-in-Err-Failure-clause-shown
 returns-in-Err-Failure-clause-shown g c =
     let i = c.loop-next.invariant in
-    chain_failed g.K.Keep.Grows (labelled_meaning Whole (g.F.Parser.meaning (g.F.Parser.state c.args.parser.now))) (Kept g.K.Keep.Gains g.K.Keep.CanKeep (g.F.Parser.IsOutput (g.F.Parser.state c.args.parser.now)) c.args.before) g.OM.Output.Mode.BUILDS g.OM.Error.Mode.BUILDS g.OM.Incomplete.IsStreaming.STREAMING i.collected (whole_err (g.F.Parser.IsOutput (g.F.Parser.state c.args.parser.now)) (g.F.Parser.meaning (g.F.Parser.state c.args.parser.now)) g.OM.Output.Mode.BUILDS false g.OM.Incomplete.IsStreaming.STREAMING (shown_at g.F.Parser.IsOutput g.F.Parser.meaning i.state_kept c.in-Err-Failure.ensures.shown)) c.in-Err-Failure.field-0-is
+    chain_failed g.K.Keep.Grows (labelled_meaning Whole (g.F.Parser.meaning (g.F.Parser.state c.args.parser.now)))
+    (Kept g.K.Keep.Gains g.K.Keep.CanKeep (g.F.Parser.IsOutput (g.F.Parser.state c.args.parser.now)) c.args.before) g.OM.Output.Mode.BUILDS
+    g.OM.Error.Mode.BUILDS g.OM.Incomplete.IsStreaming.STREAMING i.collected
+    (whole_err (g.F.Parser.IsOutput (g.F.Parser.state c.args.parser.now)) (g.F.Parser.meaning (g.F.Parser.state c.args.parser.now))
+    g.OM.Output.Mode.BUILDS false g.OM.Incomplete.IsStreaming.STREAMING
+    (shown_at g.F.Parser.IsOutput g.F.Parser.meaning i.state_kept c.in-Err-Failure.ensures.shown)) c.in-Err-Failure.field-0-is
 
 pub returns-in-Err-Incomplete-clause-shown : goal.returns-in-Err-Incomplete-clause-shown
 returns-in-Err-Incomplete-clause-shown g c =
     let i = c.loop-next.invariant in
-    chain_lacks g.K.Keep.Grows (labelled_meaning Whole (g.F.Parser.meaning (g.F.Parser.state c.args.parser.now))) (Kept g.K.Keep.Gains g.K.Keep.CanKeep (g.F.Parser.IsOutput (g.F.Parser.state c.args.parser.now)) c.args.before) g.OM.Output.Mode.BUILDS g.OM.Error.Mode.BUILDS g.OM.Incomplete.IsStreaming.STREAMING i.collected (whole_err (g.F.Parser.IsOutput (g.F.Parser.state c.args.parser.now)) (g.F.Parser.meaning (g.F.Parser.state c.args.parser.now)) g.OM.Output.Mode.BUILDS false g.OM.Incomplete.IsStreaming.STREAMING (shown_at g.F.Parser.IsOutput g.F.Parser.meaning i.state_kept c.in-Err-Incomplete.ensures.shown)) c.in-Err-Incomplete.field-0-is
+    chain_lacks g.K.Keep.Grows (labelled_meaning Whole (g.F.Parser.meaning (g.F.Parser.state c.args.parser.now)))
+    (Kept g.K.Keep.Gains g.K.Keep.CanKeep (g.F.Parser.IsOutput (g.F.Parser.state c.args.parser.now)) c.args.before) g.OM.Output.Mode.BUILDS
+    g.OM.Error.Mode.BUILDS g.OM.Incomplete.IsStreaming.STREAMING i.collected
+    (whole_err (g.F.Parser.IsOutput (g.F.Parser.state c.args.parser.now)) (g.F.Parser.meaning (g.F.Parser.state c.args.parser.now))
+    g.OM.Output.Mode.BUILDS false g.OM.Incomplete.IsStreaming.STREAMING
+    (shown_at g.F.Parser.IsOutput g.F.Parser.meaning i.state_kept c.in-Err-Incomplete.ensures.shown)) c.in-Err-Incomplete.field-0-is
 
 pub returns-in-Err-OutOfMemory-clause-shown : goal.returns-in-Err-OutOfMemory-clause-shown
 returns-in-Err-OutOfMemory-clause-shown g c =
     let i = c.loop-next.invariant in
-    chain_ran_out g.K.Keep.Grows (labelled_meaning Whole (g.F.Parser.meaning (g.F.Parser.state c.args.parser.now))) (Kept g.K.Keep.Gains g.K.Keep.CanKeep (g.F.Parser.IsOutput (g.F.Parser.state c.args.parser.now)) c.args.before) g.OM.Output.Mode.BUILDS g.OM.Error.Mode.BUILDS g.OM.Incomplete.IsStreaming.STREAMING i.collected (whole_err (g.F.Parser.IsOutput (g.F.Parser.state c.args.parser.now)) (g.F.Parser.meaning (g.F.Parser.state c.args.parser.now)) g.OM.Output.Mode.BUILDS false g.OM.Incomplete.IsStreaming.STREAMING (shown_at g.F.Parser.IsOutput g.F.Parser.meaning i.state_kept c.in-Err-OutOfMemory.ensures.shown)) c.in-Err-OutOfMemory.field-0-is
+    chain_ran_out g.K.Keep.Grows (labelled_meaning Whole (g.F.Parser.meaning (g.F.Parser.state c.args.parser.now)))
+    (Kept g.K.Keep.Gains g.K.Keep.CanKeep (g.F.Parser.IsOutput (g.F.Parser.state c.args.parser.now)) c.args.before) g.OM.Output.Mode.BUILDS
+    g.OM.Error.Mode.BUILDS g.OM.Incomplete.IsStreaming.STREAMING i.collected
+    (whole_err (g.F.Parser.IsOutput (g.F.Parser.state c.args.parser.now)) (g.F.Parser.meaning (g.F.Parser.state c.args.parser.now))
+    g.OM.Output.Mode.BUILDS false g.OM.Incomplete.IsStreaming.STREAMING
+    (shown_at g.F.Parser.IsOutput g.F.Parser.meaning i.state_kept c.in-Err-OutOfMemory.ensures.shown)) c.in-Err-OutOfMemory.field-0-is

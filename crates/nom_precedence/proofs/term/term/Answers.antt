@@ -11,20 +11,63 @@ use Rattle.nom_precedence.proofs.term.term.Goals as goal
 
 pub returns-in_err-rest-clause-shown : goal.returns-in_err-rest-clause-shown
 unfolding term_meaning
-returns-in_err-rest-clause-shown g c = first_err g.met.I.Items.lawful term_of (affixes_meaning g.I.Items.seen (Unit {0}) (g.P.Parser.meaning (g.P.Parser.state c.args.prefix.now))) (tail_meaning g.I.Items.seen (g.F.Parser.meaning (g.F.Parser.state c.args.operand.now)) (g.Q.Parser.meaning (g.Q.Parser.state c.args.postfix.now))) _ (IsTerm (g.P.Parser.IsOutput (g.P.Parser.state c.args.prefix.now)) (λ p x y. g.G.Fn.post c.args.fold.now (Prefix p x, tt) y) (g.F.Parser.IsOutput (g.F.Parser.state c.args.operand.now)) (g.Q.Parser.IsOutput (g.Q.Parser.state c.args.postfix.now)) (λ x q y. g.G.Fn.post c.args.fold.now (Postfix x q, tt) y)) g.OM.Output.Mode.BUILDS g.OM.Error.Mode.BUILDS g.OM.Incomplete.IsStreaming.STREAMING c.in_err-rest.ensures.shown c.from_residual.ensures
+returns-in_err-rest-clause-shown g c = first_err g.met.I.Items.lawful term_of
+    (affixes_meaning g.I.Items.seen (Unit {0}) (g.P.Parser.meaning (g.P.Parser.state c.args.prefix.now)))
+    (tail_meaning g.I.Items.seen (g.F.Parser.meaning (g.F.Parser.state c.args.operand.now)) (g.Q.Parser.meaning (g.Q.Parser.state c.args.postfix.now)))
+    _ (IsTerm (g.P.Parser.IsOutput (g.P.Parser.state c.args.prefix.now)) (λ p x y. g.G.Fn.post c.args.fold.now (Prefix p x, tt) y)
+    (g.F.Parser.IsOutput (g.F.Parser.state c.args.operand.now)) (g.Q.Parser.IsOutput (g.Q.Parser.state c.args.postfix.now))
+    (λ x q y. g.G.Fn.post c.args.fold.now (Postfix x q, tt) y)) g.OM.Output.Mode.BUILDS g.OM.Error.Mode.BUILDS g.OM.Incomplete.IsStreaming.STREAMING
+    c.in_err-rest.ensures.shown c.from_residual.ensures
 
 pub returns-in-Stuck-clause-shown : goal.returns-in-Stuck-clause-shown
 unfolding term_meaning
-returns-in-Stuck-clause-shown g c = first_stuck g.met.I.Items.lawful term_of (affixes_meaning g.I.Items.seen (Unit {0}) (g.P.Parser.meaning (g.P.Parser.state c.args.prefix.now))) (tail_meaning g.I.Items.seen (g.F.Parser.meaning (g.F.Parser.state c.args.operand.now)) (g.Q.Parser.meaning (g.Q.Parser.state c.args.postfix.now))) _ (IsTerm (g.P.Parser.IsOutput (g.P.Parser.state c.args.prefix.now)) (λ p x y. g.G.Fn.post c.args.fold.now (Prefix p x, tt) y) (g.F.Parser.IsOutput (g.F.Parser.state c.args.operand.now)) (g.Q.Parser.IsOutput (g.Q.Parser.state c.args.postfix.now)) (λ x q y. g.G.Fn.post c.args.fold.now (Postfix x q, tt) y)) g.OM.Output.Mode.BUILDS g.OM.Error.Mode.BUILDS g.OM.Incomplete.IsStreaming.STREAMING (told_ok c.told.ensures c.in-Stuck.is c.in_ok-rest.ensures.shown)
+returns-in-Stuck-clause-shown g c = first_stuck g.met.I.Items.lawful term_of
+    (affixes_meaning g.I.Items.seen (Unit {0}) (g.P.Parser.meaning (g.P.Parser.state c.args.prefix.now)))
+    (tail_meaning g.I.Items.seen (g.F.Parser.meaning (g.F.Parser.state c.args.operand.now)) (g.Q.Parser.meaning (g.Q.Parser.state c.args.postfix.now)))
+    _ (IsTerm (g.P.Parser.IsOutput (g.P.Parser.state c.args.prefix.now)) (λ p x y. g.G.Fn.post c.args.fold.now (Prefix p x, tt) y)
+    (g.F.Parser.IsOutput (g.F.Parser.state c.args.operand.now)) (g.Q.Parser.IsOutput (g.Q.Parser.state c.args.postfix.now))
+    (λ x q y. g.G.Fn.post c.args.fold.now (Postfix x q, tt) y)) g.OM.Output.Mode.BUILDS g.OM.Error.Mode.BUILDS g.OM.Incomplete.IsStreaming.STREAMING
+    (told_ok c.told.ensures c.in-Stuck.is c.in_ok-rest.ensures.shown)
 
 pub returns-in_err-end-in-Whole-clause-shown : goal.returns-in_err-end-in-Whole-clause-shown
 unfolding term_meaning
-returns-in_err-end-in-Whole-clause-shown g c = second_err g.met.I.Items.lawful term_of (affixes_meaning g.I.Items.seen (Unit {0}) (g.P.Parser.meaning (g.P.Parser.state c.args.prefix.now))) (tail_meaning g.I.Items.seen (g.F.Parser.meaning (g.F.Parser.state c.args.operand.now)) (g.Q.Parser.meaning (g.Q.Parser.state c.args.postfix.now))) _ (IsTerm (g.P.Parser.IsOutput (g.P.Parser.state c.args.prefix.now)) (λ p x y. g.G.Fn.post c.args.fold.now (Prefix p x, tt) y) (g.F.Parser.IsOutput (g.F.Parser.state c.args.operand.now)) (g.Q.Parser.IsOutput (g.Q.Parser.state c.args.postfix.now)) (λ x q y. g.G.Fn.post c.args.fold.now (Postfix x q, tt) y)) g.OM.Output.Mode.BUILDS g.OM.Error.Mode.BUILDS g.OM.Incomplete.IsStreaming.STREAMING _ (told_ok c.told.ensures c.in-Whole.is c.in_ok-rest.ensures.shown) c.in_err-end-in-Whole.ensures.shown c.from_residual-in_err-end-in-Whole.ensures
+returns-in_err-end-in-Whole-clause-shown g c = second_err g.met.I.Items.lawful term_of
+    (affixes_meaning g.I.Items.seen (Unit {0}) (g.P.Parser.meaning (g.P.Parser.state c.args.prefix.now)))
+    (tail_meaning g.I.Items.seen (g.F.Parser.meaning (g.F.Parser.state c.args.operand.now)) (g.Q.Parser.meaning (g.Q.Parser.state c.args.postfix.now)))
+    _ (IsTerm (g.P.Parser.IsOutput (g.P.Parser.state c.args.prefix.now)) (λ p x y. g.G.Fn.post c.args.fold.now (Prefix p x, tt) y)
+    (g.F.Parser.IsOutput (g.F.Parser.state c.args.operand.now)) (g.Q.Parser.IsOutput (g.Q.Parser.state c.args.postfix.now))
+    (λ x q y. g.G.Fn.post c.args.fold.now (Postfix x q, tt) y)) g.OM.Output.Mode.BUILDS g.OM.Error.Mode.BUILDS g.OM.Incomplete.IsStreaming.STREAMING _
+    (told_ok c.told.ensures c.in-Whole.is c.in_ok-rest.ensures.shown) c.in_err-end-in-Whole.ensures.shown c.from_residual-in_err-end-in-Whole.ensures
 
 pub returns-in-Stuck-told-clause-shown : goal.returns-in-Stuck-told-clause-shown
 unfolding term_meaning
-returns-in-Stuck-told-clause-shown g c = second_stuck g.met.I.Items.lawful term_of (affixes_meaning g.I.Items.seen (Unit {0}) (g.P.Parser.meaning (g.P.Parser.state c.args.prefix.now))) (tail_meaning g.I.Items.seen (g.F.Parser.meaning (g.F.Parser.state c.args.operand.now)) (g.Q.Parser.meaning (g.Q.Parser.state c.args.postfix.now))) _ (IsTerm (g.P.Parser.IsOutput (g.P.Parser.state c.args.prefix.now)) (λ p x y. g.G.Fn.post c.args.fold.now (Prefix p x, tt) y) (g.F.Parser.IsOutput (g.F.Parser.state c.args.operand.now)) (g.Q.Parser.IsOutput (g.Q.Parser.state c.args.postfix.now)) (λ x q y. g.G.Fn.post c.args.fold.now (Postfix x q, tt) y)) g.OM.Output.Mode.BUILDS g.OM.Error.Mode.BUILDS g.OM.Incomplete.IsStreaming.STREAMING _ (told_ok c.told.ensures c.in-Whole.is c.in_ok-rest.ensures.shown) (told_ok c.told-in-Whole.ensures c.in-Stuck-told.is c.in_ok-end-in-Whole.ensures.shown)
+returns-in-Stuck-told-clause-shown g c = second_stuck g.met.I.Items.lawful term_of
+    (affixes_meaning g.I.Items.seen (Unit {0}) (g.P.Parser.meaning (g.P.Parser.state c.args.prefix.now)))
+    (tail_meaning g.I.Items.seen (g.F.Parser.meaning (g.F.Parser.state c.args.operand.now)) (g.Q.Parser.meaning (g.Q.Parser.state c.args.postfix.now)))
+    _ (IsTerm (g.P.Parser.IsOutput (g.P.Parser.state c.args.prefix.now)) (λ p x y. g.G.Fn.post c.args.fold.now (Prefix p x, tt) y)
+    (g.F.Parser.IsOutput (g.F.Parser.state c.args.operand.now)) (g.Q.Parser.IsOutput (g.Q.Parser.state c.args.postfix.now))
+    (λ x q y. g.G.Fn.post c.args.fold.now (Postfix x q, tt) y)) g.OM.Output.Mode.BUILDS g.OM.Error.Mode.BUILDS g.OM.Incomplete.IsStreaming.STREAMING _
+    (told_ok c.told.ensures c.in-Whole.is c.in_ok-rest.ensures.shown) (told_ok c.told-in-Whole.ensures c.in-Stuck-told.is
+    c.in_ok-end-in-Whole.ensures.shown)
 
 pub returns-in-Whole-told-clause-shown : goal.returns-in-Whole-told-clause-shown
 unfolding term_meaning
-returns-in-Whole-told-clause-shown g c = both_whole g.met.I.Items.lawful term_of (affixes_meaning g.I.Items.seen (Unit {0}) (g.P.Parser.meaning (g.P.Parser.state c.args.prefix.now))) (tail_meaning g.I.Items.seen (g.F.Parser.meaning (g.F.Parser.state c.args.operand.now)) (g.Q.Parser.meaning (g.Q.Parser.state c.args.postfix.now))) _ (IsTerm (g.P.Parser.IsOutput (g.P.Parser.state c.args.prefix.now)) (λ p x y. g.G.Fn.post c.args.fold.now (Prefix p x, tt) y) (g.F.Parser.IsOutput (g.F.Parser.state c.args.operand.now)) (g.Q.Parser.IsOutput (g.Q.Parser.state c.args.postfix.now)) (λ x q y. g.G.Fn.post c.args.fold.now (Postfix x q, tt) y)) g.OM.Output.Mode.BUILDS g.OM.Error.Mode.BUILDS g.OM.Incomplete.IsStreaming.STREAMING _ _ (λ ps t p q. built_from_both g.OM.Output.Mode.BUILDS (λ list. AllZip (g.P.Parser.IsOutput (g.P.Parser.state c.args.prefix.now)) ps list.items) (IsTail (g.F.Parser.IsOutput (g.F.Parser.state c.args.operand.now)) (g.Q.Parser.IsOutput (g.Q.Parser.state c.args.postfix.now)) (λ x q y. g.G.Fn.post c.args.fold.now (Postfix x q, tt) y) t) ((IsTerm (g.P.Parser.IsOutput (g.P.Parser.state c.args.prefix.now)) (λ p x y. g.G.Fn.post c.args.fold.now (Prefix p x, tt) y) (g.F.Parser.IsOutput (g.F.Parser.state c.args.operand.now)) (g.Q.Parser.IsOutput (g.Q.Parser.state c.args.postfix.now)) (λ x q y. g.G.Fn.post c.args.fold.now (Postfix x q, tt) y)) (term_of ps t)) (λ list x y. Before (λ p x y. g.G.Fn.post c.args.fold.now (Prefix p x, tt) y) list.items x y) _ _ _ (λ list x y k h b. term_built (g.P.Parser.IsOutput (g.P.Parser.state c.args.prefix.now)) (λ p x y. g.G.Fn.post c.args.fold.now (Prefix p x, tt) y) (g.F.Parser.IsOutput (g.F.Parser.state c.args.operand.now)) (g.Q.Parser.IsOutput (g.Q.Parser.state c.args.postfix.now)) (λ x q y. g.G.Fn.post c.args.fold.now (Postfix x q, tt) y) ps t list.items x y k h b) (built_error g.OM.Output.Mode.BUILDS _ _ _ (λ list k. list_of_none (g.P.Parser.IsOutput (g.P.Parser.state c.args.prefix.now)) g.OM.Output.Mode.BUILDS c.none_yet-none.ensures.empty ps list k) p) q c.finished.ensures) (told_ok c.told.ensures c.in-Whole.is c.in_ok-rest.ensures.shown) (told_ok c.told-in-Whole.ensures c.in-Whole-told.is c.in_ok-end-in-Whole.ensures.shown)
+returns-in-Whole-told-clause-shown g c = both_whole g.met.I.Items.lawful term_of
+    (affixes_meaning g.I.Items.seen (Unit {0}) (g.P.Parser.meaning (g.P.Parser.state c.args.prefix.now)))
+    (tail_meaning g.I.Items.seen (g.F.Parser.meaning (g.F.Parser.state c.args.operand.now)) (g.Q.Parser.meaning (g.Q.Parser.state c.args.postfix.now)))
+    _ (IsTerm (g.P.Parser.IsOutput (g.P.Parser.state c.args.prefix.now)) (λ p x y. g.G.Fn.post c.args.fold.now (Prefix p x, tt) y)
+    (g.F.Parser.IsOutput (g.F.Parser.state c.args.operand.now)) (g.Q.Parser.IsOutput (g.Q.Parser.state c.args.postfix.now))
+    (λ x q y. g.G.Fn.post c.args.fold.now (Postfix x q, tt) y)) g.OM.Output.Mode.BUILDS g.OM.Error.Mode.BUILDS g.OM.Incomplete.IsStreaming.STREAMING _ _
+    (λ ps t p q. built_from_both g.OM.Output.Mode.BUILDS (λ list. AllZip (g.P.Parser.IsOutput (g.P.Parser.state c.args.prefix.now)) ps list.items)
+    (IsTail (g.F.Parser.IsOutput (g.F.Parser.state c.args.operand.now)) (g.Q.Parser.IsOutput (g.Q.Parser.state c.args.postfix.now))
+    (λ x q y. g.G.Fn.post c.args.fold.now (Postfix x q, tt) y) t) ((IsTerm (g.P.Parser.IsOutput (g.P.Parser.state c.args.prefix.now))
+    (λ p x y. g.G.Fn.post c.args.fold.now (Prefix p x, tt) y) (g.F.Parser.IsOutput (g.F.Parser.state c.args.operand.now))
+    (g.Q.Parser.IsOutput (g.Q.Parser.state c.args.postfix.now)) (λ x q y. g.G.Fn.post c.args.fold.now (Postfix x q, tt) y)) (term_of ps t))
+    (λ list x y. Before (λ p x y. g.G.Fn.post c.args.fold.now (Prefix p x, tt) y) list.items x y) _ _ _
+    (λ list x y k h b. term_built (g.P.Parser.IsOutput (g.P.Parser.state c.args.prefix.now)) (λ p x y. g.G.Fn.post c.args.fold.now (Prefix p x, tt) y)
+    (g.F.Parser.IsOutput (g.F.Parser.state c.args.operand.now)) (g.Q.Parser.IsOutput (g.Q.Parser.state c.args.postfix.now))
+    (λ x q y. g.G.Fn.post c.args.fold.now (Postfix x q, tt) y) ps t list.items x y k h b)
+    (built_error g.OM.Output.Mode.BUILDS _ _ _ (λ list k. list_of_none (g.P.Parser.IsOutput (g.P.Parser.state c.args.prefix.now))
+    g.OM.Output.Mode.BUILDS c.none_yet-none.ensures.empty ps list k) p) q c.finished.ensures)
+    (told_ok c.told.ensures c.in-Whole.is c.in_ok-rest.ensures.shown) (told_ok c.told-in-Whole.ensures c.in-Whole-told.is
+    c.in_ok-end-in-Whole.ensures.shown)
