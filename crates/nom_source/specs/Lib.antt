@@ -1,2 +1,3 @@
+pub mod Nestings
 pub mod Settings
 pub mod Sources

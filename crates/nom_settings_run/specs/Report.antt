@@ -1,0 +1,124 @@
+-- The report on a file of settings.
+use Rattle.std.specs.Prelude.{◌≡◌, ℕ, ◌⊎◌, false, List, ◌++◌, take, Result, Ok, Err, Vec, chars, codes, encode_utf8, encode_utf8_all, IsUtf8}
+use Rattle.std.specs.Borrow.{Bor}
+use Rattle.std.specs.Fmt.{decimal}
+use Rattle.std.specs.Str.{IsValidUpTo}
+use Rattle.nom_error.specs.Kinds.{description_of}
+use Rattle.nom_error.specs.declared.answer.Needed.{Needed}
+use Rattle.nom_error.specs.declared.answer.Err as Answer
+use Rattle.nom_error.specs.declared.answer.Err.TheVariants as Stop
+use Rattle.nom_error.specs.declared.kind.ErrorKind.{ErrorKind}
+use Rattle.nom_error.specs.declared.kind.ErrorKind.TheVariants as Kind
+use Rattle.nom_error.specs.declared.value.Error.{Error}
+use Rattle.nom_traits.specs.Input.{Seen}
+use Rattle.nom_traits.specs.Slices.{Slice}
+use Rattle.nom_traits.specs.Text.{seen_text}
+use Rattle.nom_traits.specs.contracts.text.RefStrItems.TheImpl as TextItems
+use Rattle.nom_traits.specs.contracts.input.CharValue.TheImpl as CharValue
+use Rattle.nom_located.specs.declared.located.Located.{Located}
+use Rattle.nom_located.specs.Located.{IsAfter, Place, place, seen_located}
+use Rattle.nom_internal.specs.Outcome.{Outcome}
+use Rattle.nom_internal.specs.Outcome.Outcome.{Accept, Refuse, Fail, TooLarge, Undecided}
+use Rattle.nom_run.specs.Texts.{lines_text}
+use Rattle.nom_settings_run.specs.Settings.{SectionTree, SettingTree, settings_grammar}
+
+-- a text that knows its line and column, and how it is seen
+abbrev pub Text : Type 0
+Text = Located (Bor (List ℕ)) ℕ TextItems.ghosts CharValue.ghosts
+
+abbrev pub place_of : Text → Place
+place_of x = place x.offset x.line x.column
+
+abbrev pub seen_there : Seen Text ℕ
+seen_there = seen_located (λ x. x.fragment) place_of encode_utf8 seen_text
+
+-- the line of a setting: where its name stands, the name of its section, and its name and value
+abbrev pub line_text : (line column : ℕ) (section name value : List ℕ) → List ℕ
+line_text line column section name value =
+    decimal line ++ (codes ":" ++ (decimal column ++ (codes " [" ++ (section ++ (codes "] " ++ (name ++ (codes "=" ++ (value ++ codes "\n"))))))))
+
+-- the line of a fault: where it stands, and its kind
+abbrev pub fault_text : (line column : ℕ) → ErrorKind → List ℕ
+fault_text line column kind = decimal line ++ codes ":" ++ decimal column ++ codes ": " ++ description_of kind ++ codes "\n"
+
+-- the bytes of a tree's characters
+abbrev pub bytes_of : Slice seen_there → List ℕ
+bytes_of t = encode_utf8_all t.items
+
+-- the lines of settings, by their trees
+abbrev pub setting_tree_text : Slice seen_there → SettingTree seen_there → List ℕ
+setting_tree_text section t = line_text t.0.mark.0.line t.0.mark.0.column (bytes_of section) (bytes_of t.0) (bytes_of t.1)
+
+abbrev pub section_tree_text : SectionTree seen_there → List ℕ
+section_tree_text t = lines_text (setting_tree_text t.0) t.1
+
+abbrev pub trees_text : List (SectionTree seen_there) → List ℕ
+trees_text ts = lines_text section_tree_text ts
+
+-- the line of a fault that holds of an error
+abbrev pub Tells : (Error Text → Type 0) → List ℕ → ℕ → Type 0
+Tells Blames text status = (e : Error Text) × Blames e × (text ≡ fault_text e.input.line e.input.column e.code) × (status ≡ 1)
+
+-- The text and the status for an outcome on a whole text: the lines of its settings, or the fault. It is of a grammar that never
+-- asks for more.
+abbrev pub Says : (Error Text → Type 0) → Outcome (List (SectionTree seen_there)) → List ℕ → ℕ → Type 0
+Says Blames (Accept n ts) text status = (text ≡ trees_text ts) × (status ≡ 0)
+Says Blames Refuse text status = Tells Blames text status
+Says Blames Fail text status = Tells Blames text status
+Says Blames TooLarge text status = Tells Blames text status
+Says Blames (Undecided k) text status = ⊥
+
+-- of bytes that are text: the grammar's outcome on them, from line 1 and column 1 on, is told
+pub record OfText (bytes text : List ℕ) (status : ℕ) : Type 0 where
+  pub utf8 : IsUtf8 bytes
+  pub whole : Text
+  pub whole_is : whole.fragment.now ≡ bytes
+  pub begins : place_of whole ≡ place 0 1 1
+  pub outcome : Outcome (List (SectionTree seen_there))
+  pub answered : (settings_grammar seen_there).answers false whole outcome
+  pub says : Says ((settings_grammar seen_there).blames false whole) outcome text status
+
+-- the fault `Char` after the bytes that are text
+pub record IsToldBytes (before text : List ℕ) (status : ℕ) : Type 0 where
+  pub at : Place
+  pub stands : IsAfter (place 0 1 1) before at
+  pub text_is : text ≡ fault_text at.line at.column Kind.Char
+  pub status_is : status ≡ 1
+
+-- of other bytes: the first that begins no character is a fault
+pub record OfBytes (bytes text : List ℕ) (status : ℕ) : Type 0 where
+  pub count : ℕ
+  pub longest : IsValidUpTo bytes count
+  pub told : IsToldBytes (take count bytes) text status
+
+-- `text` and `status` are the report on `bytes`, in whichever parts they come
+unfoldable pub IsReport : (bytes cuts text : List ℕ) → (status : ℕ) → Type 0
+IsReport bytes cuts text status = OfText bytes text status ⊎ OfBytes bytes text status
+
+-- the lines of settings, by their outputs
+abbrev pub spelled : Text → List ℕ
+spelled x = encode_utf8_all (chars x.fragment.now)
+
+abbrev pub setting_text : Text → (Text × Text) → List ℕ
+setting_text section o = line_text o.0.line o.0.column (spelled section) (spelled o.0) (spelled o.1)
+
+abbrev pub section_text : Text → List (Text × Text) → List ℕ
+section_text section os = lines_text (setting_text section) os
+
+abbrev pub sections_text : {A : Type 0} → List (Text × Vec (Text × Text) A) → List ℕ
+sections_text os = lines_text (λ o. section_text o.0 o.1.items) os
+
+abbrev AnswerErr : Type 0
+AnswerErr = Answer.Err (Error Text) (Error Text) Needed
+
+-- the text and the status where a text isn't accepted
+abbrev pub IsToldStop : AnswerErr → List ℕ → ℕ → Type 0
+IsToldStop (Stop.Incomplete k) text status = Unit {0}
+IsToldStop (Stop.Error e) text status = (text ≡ fault_text e.input.line e.input.column e.code) × (status ≡ 1)
+IsToldStop (Stop.Failure e) text status = (text ≡ fault_text e.input.line e.input.column e.code) × (status ≡ 1)
+IsToldStop Stop.OutOfMemory text status = ⊥
+
+-- the text and the status for an answer
+abbrev pub IsTold : {A : Type 0} → Result (Text × Vec (Text × Vec (Text × Text) A) A) AnswerErr → List ℕ → ℕ → Type 0
+IsTold (Ok a) text status = (text ≡ sections_text a.1.items) × (status ≡ 0)
+IsTold (Err e) text status = IsToldStop e text status

@@ -1,0 +1,6 @@
+//! The engine of the program `nom_settings`: the settings of a file, each with its line and column.
+#![tactic(auto)]
+
+pub mod report;
+pub mod run;
+pub mod settings;

@@ -1,0 +1,54 @@
+//! Settings in sections, as INI files have them.
+ghost use Rattle.std.specs.Prelude.{◌≡◌, false};
+ghost use Rattle.nom_internal.specs.Meaning.{ParsesMeaning};
+ghost use Rattle.nom_settings_run.specs.Settings.{AreSections, in_value, settings_grammar};
+
+use nom_bytes::{is_not, take_while};
+use nom_character::char;
+use nom_combinator::{complete, cut, opt};
+use nom_ends::all_consuming;
+use nom_error::answer::IResult;
+use nom_error::value::Error;
+use nom_internal::parser::Parser;
+use nom_multi::many0;
+use nom_sequence::{pair, preceded, terminated};
+use nom_traits::input::Input;
+use std::alloc::Allocator;
+
+/// A section: its name, and its settings in their order, each a name and a value. All are slices of the input.
+pub type Section<I, A> = (I, Vec<(I, I), A>);
+
+/// Whether a character may stand in a value.
+fn is_value(c: char) -> bool
+    ensures { result ≡ in_value c }
+{
+    c != '\r' && c != '\n'
+}
+
+/// The sections of a whole text:
+///
+/// ```text
+/// settings = section*
+/// section  = '[' (any character but ']' and the end of a line)+ ']' end setting*
+/// setting  = (any character but '[', '=' and the end of a line)+ '=' (any but the end of a line)* end
+/// end      = '\r'? '\n'
+/// ```
+///
+/// After a `[`, or the name of a setting, what doesn't follow the grammar fails where it stands; what begins neither is
+/// refused with `Eof` where it begins.
+pub fn settings<A: Allocator + Copy, I: Input<Item = char>>(
+    alloc: A,
+    input: I,
+) -> IResult<I, Vec<Section<I, A>, A>, Error<I>>
+    ensures { ParsesMeaning I.seen (AreSections I.seen) (settings_grammar I.seen) false input result }
+{
+    let end_of_header = pair(opt(char('\r')), char('\n'));
+    let title = terminated(is_not("]\r\n"), pair(char(']'), end_of_header));
+    let open = char::<I, Error<I>>('[');
+    let header = preceded(open, cut(title));
+    let value = terminated(take_while(is_value), pair(opt(char('\r')), char('\n')));
+    let setting = pair(is_not("[=\r\n"), cut(preceded(char('='), value)));
+    let section = pair(header, many0(alloc, setting));
+    let mut whole = complete(all_consuming(many0(alloc, section)));
+    whole.parse_complete(input)
+}
