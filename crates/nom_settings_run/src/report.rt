@@ -138,7 +138,7 @@ fn tell_stop<'a, A: Allocator + Copy>(
         Err::Failure(error) => {
             tell_fault(alloc, error.input.line(), error.input.column(), error.code)
         }
-        // A whole text never asks for more: see `reported`.
+        // A whole text never asks for more: see `never_waits`.
         Err::Incomplete(_) => Ok((String::new(alloc), 1)),
         Err::OutOfMemory => Err(OutOfMemory),
     }

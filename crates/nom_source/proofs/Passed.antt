@@ -1,5 +1,5 @@
 -- The mark after the items that a rest lies after.
-use Rattle.std.proofs.Common.{◌≡◌, ℕ, List, [], ◌∷◌, ◌++◌, Option, Some, None, refl, sym, ◌∙◌, ap}
+use Rattle.std.proofs.Common.{◌≡◌, ℕ, sym, ◌∙◌}
 use Rattle.nom_traits.specs.Input.{Seen, InputLaws, IsFront, IsRest}
 use Rattle.nom_traits.specs.Rests.{same_cut}
 

@@ -1,5 +1,5 @@
 -- Settings of a file.
-use Rattle.std.specs.Prelude.{ℕ, List, codes, chars}
+use Rattle.std.specs.Prelude.{codes, chars}
 use Rattle.nom_error.specs.Errors.{Errors}
 use Rattle.nom_traits.specs.Compares.{ComparesText}
 use Rattle.nom_traits.specs.Slices.{Slice}

@@ -1,4 +1,4 @@
-use Rattle.std.proofs.Common.{rules, arith, sym, ap, ◌∙◌, subst, refl}
+use Rattle.std.proofs.Common.{rules, sym, ap, ◌∙◌, subst, refl}
 use Rattle.nom_source.proofs.Depths.{IsOnWay, arrives, goes_on}
 use Rattle.nom_source.proofs.nested.depth_past.Goals as goal
 
