@@ -250,8 +250,9 @@ fn sum<'a>(alloc: Global, depth: usize, input: &'a str) -> Answer<'a, Worth<'a>>
 ///
 /// A text that isn't one is refused with `Syntax`. The others are failures: `Syntax` where a bracket doesn't hold a sum, or
 /// isn't closed; `TooDeep` where more than `depth` brackets lie in each other, so that `depth` bounds the stack that a
-/// hostile text can take; and where the sum has no value `Overflow`, `DivisionByZero` or `Exponent` at the first operator
-/// or number, from the left side of an operator to the right and then to itself, of which there is none.
+/// hostile text can take; and where the sum has no value, `Overflow`, `DivisionByZero` or `Exponent` at the number or the
+/// operator that has none. Of several the first counts: the left side of an operator is valued before the right side, and
+/// both before the operator.
 pub fn expression<'a>(alloc: Global, depth: usize, input: &'a str) -> Answer<'a, i64>
     ensures { Answers depth input.entry result }
 {
