@@ -21,7 +21,7 @@ fn told<T: Debug>(alloc: Global, answer: &T) -> Option<String> {
 fn found_in_text(alloc: Global, grammar: &str, input: &str) -> Option<String> {
     match grammar {
         "named_value" => told(alloc, &named_value::<Error<&str>>(input)),
-        "expression" => told(alloc, &expression(input)),
+        "expression" => told(alloc, &expression(alloc, 8, input)),
         "sections" => told(alloc, &sections(alloc, input)),
         "json" => told(alloc, &json(alloc, 3, input)),
         _ => None,

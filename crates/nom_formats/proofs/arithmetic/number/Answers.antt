@@ -1,14 +1,10 @@
-use Rattle.std.proofs.Common.{rules}
-use Rattle.std.specs.Prelude.{IsUtf8}
-use Rattle.std.specs.Int.{w64}
-use mir.Val.{SFits}
-use Rattle.std.specs.declared.num.ParseIntError.{ParseIntError}
-use Rattle.nom_formats.proofs.Heads.{digits_taken}
-use Rattle.nom_formats.proofs.Expressions.{reads_number, reads_fit}
+use Rattle.nom_internal.proofs.Shown.{err_from_residual}
+use Rattle.nom_formats.specs.Arithmetic.{IsNumber, digits_of}
+use Rattle.nom_formats.proofs.Functions.{given_stops, given_takes}
 use Rattle.nom_formats.proofs.arithmetic.number.Goals as goal
 
-pub returns-in-Ok : goal.returns-in-Ok
-returns-in-Ok c =
-    let fits : SFits w64 c.in-Ok.value = search rules in
-    let text : IsUtf8 c.in_ok-rest.digits.now = search rules in
-    reads_fit fits (reads_number ParseIntError text (digits_taken c.in_ok-rest.ensures.shown) c.in-Ok.ensures.value)
+pub returns-in_err-rest : goal.returns-in_err-rest
+returns-in_err-rest c = given_stops digits_of IsNumber c.in_err-rest.was (err_from_residual c.from_residual.ensures) c.parse_complete.ensures.shown
+
+pub returns : goal.returns
+returns c = given_takes digits_of IsNumber c.in_ok-rest.was c.told.ensures c.parse_complete.ensures.shown
