@@ -41,7 +41,8 @@ IsSeen seen Holds Fail o = o ≡ Fail
 IsSeen seen Holds TooLarge o = o ≡ Fail
 IsSeen seen Holds (Undecided k) o = o ≡ Undecided k
 
-same_seen : {V P : Type 0} (seen : View P) (F G : V → P → Type 0) → ((t : V) (x y : P) → F t x → G t y → seen.value x ≡ seen.value y) → (a : Outcome V) (o p : Outcome seen.Value) → IsSeen seen F a o → IsSeen seen G a p → o ≡ p
+same_seen : {V P : Type 0} (seen : View P) (F G : V → P → Type 0) → ((t : V) (x y : P) → F t x → G t y → seen.value x ≡ seen.value y) →
+    (a : Outcome V) (o p : Outcome seen.Value) → IsSeen seen F a o → IsSeen seen G a p → o ≡ p
 same_seen seen F G f (Accept n t) o p x y = x.2 ∙ (ap (Accept n) (f t x.0 y.0 x.1 y.1) ∙ sym y.2)
 same_seen seen F G f Refuse o p x y = x ∙ sym y
 same_seen seen F G f Fail o p x y = x ∙ sym y
@@ -59,13 +60,22 @@ module _ {V O P : Type 0} (g : Grammar V O) (seen : View P) (Gives : Text → O 
     answered : g.meaning.answers false i outcome
     seen_so : IsSeen seen (Holds i) outcome o
 
-  accepted : (i j : Text) (x : O) (y : P) (o : Outcome seen.Value) → Gives i x y → (n : ℕ) × IsRest seen_text i n j × (o ≡ Accept n (seen.value y)) → Parses g i (Ok (j, x)) → Seen i o
+  accepted : (i j : Text) (x : O) (y : P) (o : Outcome seen.Value) → Gives i x y → (n : ℕ) × IsRest seen_text i n j × (o ≡ Accept n (seen.value y)) →
+      Parses g i (Ok (j, x)) → Seen i o
   accepted i j x y o k t (ParseRanOut e h) = cc (e)
   accepted i j x y o k t (Parsed (Accept n u) a p) =
       let same : ◌≡◌ {A = Text × O} (j, x) (p.0, p.1) = cc (p.4) in
       let rest : IsRest seen_text i n j = subst (λ z. IsRest seen_text i n z) (sym (ap (λ q. q.0) same)) p.2 in
       let length_is : t.0 ≡ n = omega (arith, rest_length t.1, rest_length rest) in
-      record { outcome = Accept n u; answered = a; seen_so = (y, (x, subst (λ z. g.IsOutput u z) (sym (ap (λ q. q.1) same)) p.3, k), subst (λ m. o ≡ Accept m (seen.value y)) length_is t.2) }
+      record {
+        outcome = Accept n u;
+        answered = a;
+        seen_so = (
+          y,
+          (x, subst (λ z. g.IsOutput u z) (sym (ap (λ q. q.1) same)) p.3, k),
+          subst (λ m. o ≡ Accept m (seen.value y)) length_is t.2,
+        );
+      }
   accepted i j x y o k t (Parsed Refuse a p) = cc (p.2)
   accepted i j x y o k t (Parsed Fail a p) = cc (p.2)
   accepted i j x y o k t (Parsed TooLarge a p) = cc (p.2)
@@ -74,15 +84,19 @@ module _ {V O P : Type 0} (g : Grammar V O) (seen : View P) (Gives : Text → O 
   stopped : (i : Text) (e : Answer.Err Fault Fault Needed) (o : Outcome seen.Value) → Tells seen_text seen i (Err e) o → Parses g i (Err e) → Seen i o
   stopped i e o t (ParseRanOut q h) = let same : e ≡ Answered.OutOfMemory = cc (q) in absurd (subst (λ z. Tells seen_text seen i (Err z) o) same t)
   stopped i e o t (Parsed (Accept n u) a p) = cc (p.4)
-  stopped i e o t (Parsed Refuse a p) = let same : e ≡ Answered.Error p.0 = cc (p.2) in record { outcome = Refuse; answered = a; seen_so = subst (λ z. Tells seen_text seen i (Err z) o) same t }
-  stopped i e o t (Parsed Fail a p) = let same : e ≡ Answered.Failure p.0 = cc (p.2) in record { outcome = Fail; answered = a; seen_so = subst (λ z. Tells seen_text seen i (Err z) o) same t }
-  stopped i e o t (Parsed TooLarge a p) = let same : e ≡ Answered.Failure p.0 = cc (p.2) in record { outcome = TooLarge; answered = a; seen_so = subst (λ z. Tells seen_text seen i (Err z) o) same t }
+  stopped i e o t (Parsed Refuse a p) = let same : e ≡ Answered.Error p.0 = cc (p.2) in
+      record { outcome = Refuse; answered = a; seen_so = subst (λ z. Tells seen_text seen i (Err z) o) same t }
+  stopped i e o t (Parsed Fail a p) = let same : e ≡ Answered.Failure p.0 = cc (p.2) in
+      record { outcome = Fail; answered = a; seen_so = subst (λ z. Tells seen_text seen i (Err z) o) same t }
+  stopped i e o t (Parsed TooLarge a p) = let same : e ≡ Answered.Failure p.0 = cc (p.2) in
+      record { outcome = TooLarge; answered = a; seen_so = subst (λ z. Tells seen_text seen i (Err z) o) same t }
   stopped i e o t (Parsed (Undecided d) a p) =
       let same : e ≡ Answered.Incomplete p.0 = cc (p.2) in
       let told : o ≡ Undecided (size_of p.0) = subst (λ z. Tells seen_text seen i (Err z) o) same t in
       record { outcome = Undecided d; answered = a; seen_so = told ∙ ap Undecided p.1 }
 
-  given_seen : (i : Text) (found : Told O) (r : Told P) (o : Outcome seen.Value) → Parses g i found → IsGiven Gives i found r → Tells seen_text seen i r o → Seen i o
+  given_seen : (i : Text) (found : Told O) (r : Told P) (o : Outcome seen.Value) → Parses g i found → IsGiven Gives i found r →
+      Tells seen_text seen i r o → Seen i o
   given_seen i (Ok (j, x)) r o h k t = accepted i j x k.0 o k.1 (subst (λ z. Tells seen_text seen i z o) k.2 t) h
   given_seen i (Err e) r o h k t = stopped i e o (subst (λ z. Tells seen_text seen i z o) k t) h
 
@@ -105,7 +119,10 @@ module _ {V O P : Type 0} (g : Grammar V O) (seen : View P) (Gives : Text → O 
 
   -- A function whose answers are such is a part: its grammar is lawful, and what it gives at inputs that are seen alike for outputs of
   -- one tree is seen alike.
-  pub is_parser : (Answers : Text → Told P → Type 0) (Takes : Text → Type 0) → ((i : Text) → Takes i) → ((i : Text) (r : Told P) → Answers i r → Given Gives g i r) → IsLawful seen_text g.meaning → ((i k : Text) (t : V) (u v : O) (x y : P) → IsSame seen_text i k → g.IsOutput t u → g.IsOutput t v → Gives i u x → Gives k v y → seen.value x ≡ seen.value y) → IsParser seen_text seen Answers Takes
+  pub is_parser : (Answers : Text → Told P → Type 0) (Takes : Text → Type 0) → ((i : Text) → Takes i) →
+      ((i : Text) (r : Told P) → Answers i r → Given Gives g i r) → IsLawful seen_text g.meaning →
+      ((i k : Text) (t : V) (u v : O) (x y : P) → IsSame seen_text i k → g.IsOutput t u → g.IsOutput t v → Gives i u x → Gives k v y →
+      seen.value x ≡ seen.value y) → IsParser seen_text seen Answers Takes
   is_parser Answers Takes all by law alike = record {
     takes = λ i known. all i;
     rests = λ i j v known a. let h = by i (Ok (j, v)) a in given_rest i j v h.found h.parsed h.given;
@@ -115,11 +132,14 @@ module _ {V O P : Type 0} (g : Grammar V O) (seen : View P) (Gives : Text → O 
         let f = given_seen x h.found a.answer o h.parsed h.given a.told in
         let e = given_seen y k.found b.answer p k.parsed k.given b.told in
         let one = law.one_outcome false x y f.outcome e.outcome kx ky same f.answered tt e.answered in
-        same_seen seen (Holds x) (Holds y) (λ t v w m n. alike x y t m.0 n.0 v w same m.1 n.1 m.2 n.2) e.outcome o p (subst (λ z. IsSeen seen (Holds x) z o) one f.seen_so) e.seen_so;
+        same_seen seen (Holds x) (Holds y) (λ t v w m n. alike x y t m.0 n.0 v w same m.1 n.1 m.2 n.2) e.outcome o p
+        (subst (λ z. IsSeen seen (Holds x) z o) one f.seen_so) e.seen_so;
   }
 
 -- what is answered by one meaning is by a grammar, where its outcomes, errors and outputs are the grammar's
-pub parses_by : {V O : Type 0} (g : Grammar V O) {F : V → O → Type 0} {A : Outcome V → Type 0} {X : Fault → Type 0} {R : Type 0} {i : Text} {r : Told O} → ParsesAnswer seen_text F i A X R r → ((t : V) (o : O) → F t o → g.IsOutput t o) → ((o : Outcome V) → A o → g.meaning.answers false i o) → ((e : Fault) → X e → g.meaning.blames false i e) → (R → g.meaning.runs_out (modes true true false) i) → Parses g i r
+pub parses_by : {V O : Type 0} (g : Grammar V O) {F : V → O → Type 0} {A : Outcome V → Type 0} {X : Fault → Type 0} {R : Type 0} {i : Text} {r : Told O}
+    → ParsesAnswer seen_text F i A X R r → ((t : V) (o : O) → F t o → g.IsOutput t o) → ((o : Outcome V) → A o → g.meaning.answers false i o) →
+    ((e : Fault) → X e → g.meaning.blames false i e) → (R → g.meaning.runs_out (modes true true false) i) → Parses g i r
 parses_by g (ParseRanOut e h) f a x s = ParseRanOut e (s h)
 parses_by g (Parsed (Accept n t) h p) f a x s = Parsed (Accept n t) (a (Accept n t) h) (p.0, p.1, p.2, f t p.1 p.3, p.4)
 parses_by g (Parsed Refuse h p) f a x s = Parsed Refuse (a Refuse h) (p.0, x p.0 p.1, p.2)

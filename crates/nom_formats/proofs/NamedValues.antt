@@ -27,8 +27,10 @@ Text = Bor (List ℕ)
 -- a rest that lies behind another one
 rest_between : (i b j : Text) (n k m : ℕ) → IsRest seen_text i k b → IsRest seen_text i n j → n ≡ k + m → IsPlace seen_text b m → IsRest seen_text b m j
 rest_between i b j n k m p q e at =
-    let whole : (p.front ++ at.front) ++ at.rest ≡ q.front ++ chars j.now = append_assoc p.front at.front at.rest ∙ (ap (λ xs. p.front ++ xs) (sym at.whole) ∙ (sym p.whole ∙ q.whole)) in
-    let cut = same_cut len_utf8 text_lawful.positive (p.front ++ at.front) at.rest q.front (chars j.now) whole (omega (arith, span-append len_utf8 p.front at.front, p.length_is, at.length_is, q.length_is, e)) in
+    let whole : (p.front ++ at.front) ++ at.rest ≡ q.front ++ chars j.now =
+    append_assoc p.front at.front at.rest ∙ (ap (λ xs. p.front ++ xs) (sym at.whole) ∙ (sym p.whole ∙ q.whole)) in
+    let cut = same_cut len_utf8 text_lawful.positive (p.front ++ at.front) at.rest q.front (chars j.now) whole
+    (omega (arith, span-append len_utf8 p.front at.front, p.length_is, at.length_is, q.length_is, e)) in
     record {
       known = q.known;
       front = at.front;
@@ -44,7 +46,8 @@ stops_as : {P Q : ℕ → Type 0} (xs : List ℕ) → ((c : ℕ) → P c → Q c
 stops_as [] f h = tt
 stops_as (x ∷ xs) f h = f x h
 
-module _ (Names Values : ℕ → Bool → Type 0) (sign : ℕ) (is_sign : sign ≡ 61) (names : (c : ℕ) (b : Bool) → Names c b → b ≡ in_name c) (values : (c : ℕ) (b : Bool) → Values c b → b ≡ in_value c) where
+module _ (Names Values : ℕ → Bool → Type 0) (sign : ℕ) (is_sign : sign ≡ 61) (names : (c : ℕ) (b : Bool) → Names c b → b ≡ in_name c)
+    (values : (c : ℕ) (b : Bool) → Values c b → b ≡ in_value c) where
   abbrev NameAnswers : Text → Outcome (Slice seen_text) → Type 0
   NameAnswers = LeafAnswers (runs seen_text Names None 1) false
 
@@ -60,15 +63,21 @@ module _ (Names Values : ℕ → Bool → Type 0) (sign : ℕ) (is_sign : sign �
   abbrev LineAnswers : Text → Outcome (Slice seen_text × Slice seen_text) → Type 0
   LineAnswers = Then seen_text (λ u v. (u, v)) NameAnswers (λ _. BehindName)
 
-  named_by : (i j d v : Text) (n : ℕ) (t : Slice seen_text × Slice seen_text) → (line : AreBoth seen_text (λ u v. (u, v)) NameAnswers (λ _. BehindName) i n t) → AreBoth seen_text (λ u v. v) SignAnswers (λ _. ValueAnswers) line.between line.second_length line.second → IsRest seen_text i n j → IsSeenAs seen_text t.0 d → IsSeenAs seen_text t.1 v → IsNamed (chars i.now) (chars d.now) (chars v.now) (chars j.now)
+  named_by : (i j d v : Text) (n : ℕ) (t : Slice seen_text × Slice seen_text) →
+      (line : AreBoth seen_text (λ u v. (u, v)) NameAnswers (λ _. BehindName) i n t) →
+      AreBoth seen_text (λ u v. v) SignAnswers (λ _. ValueAnswers) line.between line.second_length line.second → IsRest seen_text i n j →
+      IsSeenAs seen_text t.0 d → IsSeenAs seen_text t.1 v → IsNamed (chars i.now) (chars d.now) (chars v.now) (chars j.now)
   named_by i j d v n t line behind r sd sv =
-      let name = run_read Names i d line.between line.first_length line.first line.first_accepts line.behind (subst (λ s. IsSeenAs seen_text s d) (ap (λ x. x.0) line.tree_is) sd) in
+      let name = run_read Names i d line.between line.first_length line.first line.first_accepts line.behind
+      (subst (λ s. IsSeenAs seen_text s d) (ap (λ x. x.0) line.tree_is) sd) in
       let at = behind.first_accepts in
       let equals = behind_head sign at.0 behind.first_length at.1.rest line.between behind.between at.1.whole at.2 at.3 behind.behind in
       let place = first_place seen_text behind.between behind.second_length behind.second behind.second_accepts.0.first in
       let before = rest_rest seen_text text_lawful i line.first_length line.between behind.first_length behind.between line.behind behind.behind in
-      let rest = rest_between i behind.between j n (line.first_length + behind.first_length) behind.second_length before r (omega (arith, line.length_is, behind.length_is)) place in
-      let value = run_read Values behind.between v j behind.second_length behind.second behind.second_accepts rest (subst (λ s. IsSeenAs seen_text s v) (ap (λ x. x.1) line.tree_is ∙ behind.tree_is) sv) in
+      let rest = rest_between i behind.between j n (line.first_length + behind.first_length) behind.second_length before r
+      (omega (arith, line.length_is, behind.length_is)) place in
+      let value = run_read Values behind.between v j behind.second_length behind.second behind.second_accepts rest
+      (subst (λ s. IsSeenAs seen_text s v) (ap (λ x. x.1) line.tree_is ∙ behind.tree_is) sv) in
       record {
         whole = name.whole ∙ ap (λ xs. chars d.now ++ xs) (equals ∙ (ap (λ c. c ∷ chars behind.between.now) is_sign ∙ ap (λ xs. 61 ∷ xs) value.whole));
         some_name = name.some;
@@ -81,7 +90,8 @@ module _ (Names Values : ℕ → Bool → Type 0) (sign : ℕ) (is_sign : sign �
   abbrev IsLine : Text → (Text × (Text × Text)) → Type 0
   IsLine i a = IsNamed (chars i.now) (chars (a.1.0).now) (chars (a.1.1).now) (chars (a.0).now)
 
-  pub named_answer : {E : Type 0} {IsError : E → Type 0} {RunsOut : Type 0} (i : Text) (r : Result (Text × (Text × Text)) (Answer.Err E E Needed)) → ParsesAnswer seen_text (λ t o. IsSeenAs seen_text t.0 o.0 × IsSeenAs seen_text t.1 o.1) i (LineAnswers i) IsError RunsOut r → IfOk r (IsLine i)
+  pub named_answer : {E : Type 0} {IsError : E → Type 0} {RunsOut : Type 0} (i : Text) (r : Result (Text × (Text × Text)) (Answer.Err E E Needed)) →
+      ParsesAnswer seen_text (λ t o. IsSeenAs seen_text t.0 o.0 × IsSeenAs seen_text t.1 o.1) i (LineAnswers i) IsError RunsOut r → IfOk r (IsLine i)
   named_answer i r (ParseRanOut e h) = subst (λ x. IfOk x (IsLine i)) (sym e) tt
   named_answer i r (Parsed (Accept n t) a p) =
       let line = both seen_text (λ u v. (u, v)) NameAnswers (λ _. BehindName) i n t a in

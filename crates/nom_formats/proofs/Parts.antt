@@ -37,15 +37,19 @@ use Rattle.nom_precedence.specs.ValueLaws.{GivesAlike, folding_pinned}
 use Rattle.nom_precedence.specs.Values.{folding, groups_left}
 use Rattle.nom_formats.specs.declared.arithmetic.Fault.{Fault}
 use Rattle.nom_formats.specs.declared.arithmetic.Fault.TheVariants.{TooDeep}
-use Rattle.nom_formats.specs.Arithmetic.{Any, Applies, Given, Grammar, Inside, IsLeveled, IsNumber, IsPlace, Parses, Sign, Text, Told, Worth, char_of, digits_of, faults, func_of, level_of, levels, minus_of, none_of, number_of, one_of_by, operand_by, operator_of, sign_view, Sum, sum_by, sum_in, sum_of, view}
+use Rattle.nom_formats.specs.Arithmetic.{Any, Applies, Given, Grammar, Inside, IsLeveled, IsNumber, IsPlace, Parses, Sign, Text, Told, Worth, char_of}
+use Rattle.nom_formats.specs.Arithmetic.{digits_of, faults, func_of, level_of, levels, minus_of, none_of, number_of, one_of_by, operand_by, operator_of}
+use Rattle.nom_formats.specs.Arithmetic.{sign_view, Sum, sum_by, sum_in, sum_of, view}
 use Rattle.nom_formats.proofs.Alike.{joins_alike, negates_alike, number_alike}
 use Rattle.nom_formats.proofs.Functions.{given_itself, is_parser}
 
 char_lawful : (c : ℕ) → IsLawful seen_text (char_of c).meaning
-char_lawful c = head_lawful seen_text IsScalar text_values (λ x. x) (λ x b. b ≡ (x == c)) (told IsScalar (λ x. x == c)) (Some (len_utf8 c)) (Unit {0}) faults (OfChar c)
+char_lawful c = head_lawful seen_text IsScalar text_values (λ x. x) (λ x b. b ≡ (x == c)) (told IsScalar (λ x. x == c)) (Some (len_utf8 c)) (Unit {0})
+    faults (OfChar c)
 
 set_lawful : (set : List ℕ) (kind : ErrorKind) → IsLawful seen_text (one_of_by set kind).meaning
-set_lawful set kind = head_lawful seen_text IsScalar text_values (λ x. x) (λ x b. IsTrue b ↔ Contains (chars set) x) (λ x v meets fails. one_answer meets fails) None (Unit {0}) faults (OfKind kind)
+set_lawful set kind = head_lawful seen_text IsScalar text_values (λ x. x) (λ x b. IsTrue b ↔ Contains (chars set) x)
+    (λ x v meets fails. one_answer meets fails) None (Unit {0}) faults (OfKind kind)
 
 digits_lawful : IsLawful seen_text digits_of.meaning
 digits_lawful = class_lawful seen_text IsScalar text_values (λ x. x) faults Digit (Some Kind.Digit)
@@ -55,14 +59,17 @@ IsRead cs v = ParsesSigned w64 10 (encode_utf8_all cs) v
 
 module _ (Takes : Text → Type 0) (all : (i : Text) → Takes i) where
   pub minus_part : IsParser seen_text text_view (Given IsPlace (char_of 45)) Takes
-  minus_part = is_parser (char_of 45) text_view IsPlace (Given IsPlace (char_of 45)) Takes all (λ i r h. h) (char_lawful 45) (λ i k t u v x y s p q f g. ap (λ z. chars z.now) f ∙ (s.elements_are ∙ sym (ap (λ z. chars z.now) g)))
+  minus_part = is_parser (char_of 45) text_view IsPlace (Given IsPlace (char_of 45)) Takes all (λ i r h. h) (char_lawful 45)
+      (λ i k t u v x y s p q f g. ap (λ z. chars z.now) f ∙ (s.elements_are ∙ sym (ap (λ z. chars z.now) g)))
 
   pub number_part : IsParser seen_text view (Given IsNumber digits_of) Takes
   number_part = is_parser digits_of view IsNumber (Given IsNumber digits_of) Takes all (λ i r h. h) digits_lawful (λ i k t u v x y s p q f g.
-      number_alike (encode_utf8_all t.items) i k x y s.elements_are (subst (λ cs. IsRead cs x) p.elements_are f.0) f.1 (subst (λ cs. IsRead cs y) q.elements_are g.0) g.1)
+      number_alike (encode_utf8_all t.items) i k x y s.elements_are (subst (λ cs. IsRead cs x) p.elements_are f.0) f.1
+      (subst (λ cs. IsRead cs y) q.elements_are g.0) g.1)
 
   pub operator_part : IsParser seen_text sign_view (Given IsLeveled (one_of_by (codes "^*/+-") Kind.OneOf)) Takes
-  operator_part = is_parser (one_of_by (codes "^*/+-") Kind.OneOf) sign_view IsLeveled (Given IsLeveled (one_of_by (codes "^*/+-") Kind.OneOf)) Takes all (λ i r h. h) (set_lawful (codes "^*/+-") Kind.OneOf) (λ i k t u v x y s p q f g.
+  operator_part = is_parser (one_of_by (codes "^*/+-") Kind.OneOf) sign_view IsLeveled (Given IsLeveled (one_of_by (codes "^*/+-") Kind.OneOf)) Takes
+      all (λ i r h. h) (set_lawful (codes "^*/+-") Kind.OneOf) (λ i k t u v x y s p q f g.
       let make : List ℕ → ℕ → sign_view.Value = λ cs c. (level_of c, (cs, c)) in
       ap sign_view.value f ∙ ((ap (λ cs. make cs u) s.elements_are ∙ ap (λ c. make (chars k.now) c) (p ∙ sym q)) ∙ sym (ap sign_view.value g)))
 
@@ -74,18 +81,23 @@ module _ (Gives : Text → Told Worth → Type 0) where
   operand_lawful p =
       let inner = cut_meaning (func_of view Any Gives).meaning in
       let closes = cut_meaning (char_of 41).meaning in
-      let behind = sequence_lawful seen_text text_lawful (λ u v. u) (λ o. o) (with_outputs false) inner closes (cut_lawful seen_text (func_of view Any Gives).meaning (func_lawful seen_text view Gives Any p)) (cut_lawful seen_text (char_of 41).meaning (char_lawful 41)) in
-      let brackets = sequence_lawful seen_text text_lawful (λ u v. v) (with_outputs false) (λ o. o) (char_of 40).meaning (terminated_meaning seen_text inner closes) (char_lawful 40) behind in
+      let behind = sequence_lawful seen_text text_lawful (λ u v. u) (λ o. o) (with_outputs false) inner closes
+      (cut_lawful seen_text (func_of view Any Gives).meaning (func_lawful seen_text view Gives Any p))
+      (cut_lawful seen_text (char_of 41).meaning (char_lawful 41)) in
+      let brackets = sequence_lawful seen_text text_lawful (λ u v. v) (with_outputs false) (λ o. o) (char_of 40).meaning
+      (terminated_meaning seen_text inner closes) (char_lawful 40) behind in
       choice_lawful faults (next_lawful faults brackets (func_lawful seen_text view (Given IsNumber digits_of) Any (number_part Any (λ i. tt))))
 
   sum_lawful : IsParser seen_text view Gives Any → IsLawful seen_text (sum_in Any Gives).meaning
-  sum_lawful p = precedence_lawful seen_text text_lawful faults (Unit {0}) (HasLevel operator_of.IsOutput (λ (o : ℕ × Sign). o.0)) (length levels) minus_of.meaning (operand_by 40 41 (func_of view Any Gives)).meaning none_of.meaning operator_of.meaning one_level
+  sum_lawful p = precedence_lawful seen_text text_lawful faults (Unit {0}) (HasLevel operator_of.IsOutput (λ (o : ℕ × Sign). o.0)) (length levels)
+      minus_of.meaning (operand_by 40 41 (func_of view Any Gives)).meaning none_of.meaning operator_of.meaning one_level
       (func_lawful seen_text text_view (Given IsPlace (char_of 45)) Any (minus_part Any (λ i. tt)))
       (operand_lawful p)
       (fail_lawful (Unit {0}) seen_text faults)
       (func_lawful seen_text sign_view (Given IsLeveled (one_of_by (codes "^*/+-") Kind.OneOf)) Any (operator_part Any (λ i. tt)))
 
-  applies_alike : GivesAlike (folding minus_of.IsOutput (operand_by 40 41 (func_of view Any Gives)).IsOutput none_of.IsOutput operator_of.IsOutput Applies) text_view itself (pair_view text_view itself) view
+  applies_alike : GivesAlike (folding minus_of.IsOutput (operand_by 40 41 (func_of view Any Gives)).IsOutput none_of.IsOutput operator_of.IsOutput
+      Applies) text_view itself (pair_view text_view itself) view
   applies_alike = record {
     on_prefix = λ a b x y u v e f g h. negates_alike a b x y u v e f g h;
     on_postfix = λ a b x y u v e f g h. ap view.value g ∙ (f ∙ sym (ap view.value h));
@@ -93,7 +105,10 @@ module _ (Gives : Text → Told Worth → Type 0) where
   }
 
   sum_pinned : IsPinned view (sum_in Any Gives).IsOutput
-  sum_pinned = folding_pinned minus_of.IsOutput (operand_by 40 41 (func_of view Any Gives)).IsOutput none_of.IsOutput operator_of.IsOutput Applies text_view itself (pair_view text_view itself) view applies_alike (viewed_pinned text_view) (either_pinned view (func_of view Any Gives).IsOutput number_of.IsOutput (viewed_pinned view) (viewed_pinned view)) value_pinned (viewed_pinned sign_view) (groups_left levels)
+  sum_pinned = folding_pinned minus_of.IsOutput (operand_by 40 41 (func_of view Any Gives)).IsOutput none_of.IsOutput operator_of.IsOutput Applies
+      text_view itself (pair_view text_view itself) view applies_alike (viewed_pinned text_view)
+      (either_pinned view (func_of view Any Gives).IsOutput number_of.IsOutput (viewed_pinned view) (viewed_pinned view)) value_pinned
+      (viewed_pinned sign_view) (groups_left levels)
 
 fails : (i : Text) (e : Fault) (r : Told Worth) (o : Outcome view.Value) → r ≡ Err (Answered.Failure e) → Tells seen_text view i r o → o ≡ Fail
 fails i e r o q t = subst (λ z. Tells seen_text view i z o) q t
@@ -104,7 +119,8 @@ inside_part zero = record {
   rests = λ i j v k a. cc (a);
   one_outcome = λ x y o p kx ky s a keeps b. fails x (TooDeep x) a.answer o a.given a.told ∙ sym (fails y (TooDeep y) b.answer p b.given b.told);
 }
-inside_part (suc d) = is_parser (sum_of d) view (λ _ x y. y ≡ x) (Inside (suc d)) Any (λ i. tt) (λ i r h. given_itself (sum_of d) i r h) (sum_lawful (Inside d) (inside_part d)) (λ i k t u v x y s p q f g. ap view.value f ∙ (sum_pinned (Inside d) t u v p q ∙ sym (ap view.value g)))
+inside_part (suc d) = is_parser (sum_of d) view (λ _ x y. y ≡ x) (Inside (suc d)) Any (λ i. tt) (λ i r h. given_itself (sum_of d) i r h)
+    (sum_lawful (Inside d) (inside_part d)) (λ i k t u v x y s p q f g. ap view.value f ∙ (sum_pinned (Inside d) t u v p q ∙ sym (ap view.value g)))
 
 pub inside_none : (d : ℕ) (i : Text) → d ≡ 0 → Inside d i (Err (Answered.Failure (TooDeep i)))
 inside_none zero i e = refl
@@ -115,7 +131,9 @@ inside_more zero i r n h = absurd (n refl)
 inside_more (suc d) i r n h = let e : suc d - 1 ≡ d = omega arith in subst (λ k. Parses (sum_of k) i r) e h
 
 -- what holds of a sum by its parts holds of it
-pub sum_by_parts : {F : Type 0} (pre : F → Text → Type 0) (post : F → Text → Told Worth → Type 0) (P : Grammar Sum Worth → Type 0) {groups : List Assoc} {opens closes : ℕ} {f inside : F} → groups ≡ levels → opens ≡ 40 → closes ≡ 41 → f ≡ inside → P (sum_by groups opens closes (func_of view (pre f) (post f))) → P (sum_in (pre inside) (post inside))
+pub sum_by_parts : {F : Type 0} (pre : F → Text → Type 0) (post : F → Text → Told Worth → Type 0) (P : Grammar Sum Worth → Type 0) {groups : List Assoc}
+    {opens closes : ℕ} {f inside : F} → groups ≡ levels → opens ≡ 40 → closes ≡ 41 → f ≡ inside →
+    P (sum_by groups opens closes (func_of view (pre f) (post f))) → P (sum_in (pre inside) (post inside))
 sum_by_parts pre post P {groups} {opens} {closes} {f} {inside} l o c e h =
     subst (λ k. P (sum_by k 40 41 (func_of view (pre inside) (post inside)))) l (
     subst (λ k. P (sum_by groups k 41 (func_of view (pre inside) (post inside)))) o (
@@ -123,12 +141,14 @@ sum_by_parts pre post P {groups} {opens} {closes} {f} {inside} l o c e h =
     subst (λ k. P (sum_by groups opens closes (func_of view (pre k) (post k)))) e h)))
 
 -- a part that takes some texts and takes all takes any
-pub part_takes : {Gives : Text → Told Worth → Type 0} {Takes : Text → Type 0} → IsParser seen_text view Gives Any → ((i : Text) → Takes i) → IsParser seen_text view Gives Takes
+pub part_takes : {Gives : Text → Told Worth → Type 0} {Takes : Text → Type 0} → IsParser seen_text view Gives Any → ((i : Text) → Takes i) →
+    IsParser seen_text view Gives Takes
 part_takes p all = record { takes = λ i known. all i; rests = p.rests; one_outcome = p.one_outcome }
 
 takes_any : (Takes : Text → Type 0) → ((i : Text) → IsProp (Takes i)) → ((i : Text) → Takes i) → ◌≡◌ {A = Text → Type 0} Takes Any
 takes_any Takes one all = fun_ext (λ i. h_prop_ext (one i) (λ x y. refl) (λ x. tt) (λ x. all i))
 
 -- what is read as a sum, by what stands in its brackets, with a function that takes some texts, and takes all
-pub sum_of_any : (d : ℕ) (Takes : Text → Type 0) (i : Text) (r : Told Worth) → Parses (sum_in Takes (Inside d)) i r → ((i : Text) → IsProp (Takes i)) → ((i : Text) → Takes i) → Parses (sum_of d) i r
+pub sum_of_any : (d : ℕ) (Takes : Text → Type 0) (i : Text) (r : Told Worth) → Parses (sum_in Takes (Inside d)) i r → ((i : Text) → IsProp (Takes i)) →
+    ((i : Text) → Takes i) → Parses (sum_of d) i r
 sum_of_any d Takes i r h one all = let P : (Text → Type 0) → Type 0 = λ T. Parses (sum_in T (Inside d)) i r in subst P (takes_any Takes one all) h

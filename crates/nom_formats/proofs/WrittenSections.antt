@@ -7,7 +7,9 @@ use Rattle.nom_formats.specs.declared.ini.Section.{Section}
 use Rattle.nom_formats.specs.Sections.{Parts, sections_of, written_of}
 
 -- what holds of the grammar by its parts holds of the grammar
-pub by_its_parts : {M : Type 0} (P : TextGrammar (List Parts) (Vec Section M) → Type 0) (opens closes sign cr lf cr₂ lf₂ : ℕ) (header name : List ℕ) (k l : ErrorKind) → opens ≡ 91 → closes ≡ 93 → sign ≡ 61 → cr ≡ 13 → lf ≡ 10 → cr₂ ≡ 13 → lf₂ ≡ 10 → header ≡ codes "]\r\n" → name ≡ codes "[=\r\n" → k ≡ IsNot → l ≡ IsNot → P (written_of opens closes sign cr lf cr₂ lf₂ header name k l) → P sections_of
+pub by_its_parts : {M : Type 0} (P : TextGrammar (List Parts) (Vec Section M) → Type 0) (opens closes sign cr lf cr₂ lf₂ : ℕ) (header name : List ℕ)
+    (k l : ErrorKind) → opens ≡ 91 → closes ≡ 93 → sign ≡ 61 → cr ≡ 13 → lf ≡ 10 → cr₂ ≡ 13 → lf₂ ≡ 10 → header ≡ codes "]\r\n" →
+    name ≡ codes "[=\r\n" → k ≡ IsNot → l ≡ IsNot → P (written_of opens closes sign cr lf cr₂ lf₂ header name k l) → P sections_of
 by_its_parts P opens closes sign cr lf cr₂ lf₂ header name k l o c s e f e₂ f₂ h n a b g =
     subst (λ x. P (written_of x 93 61 13 10 13 10 (codes "]\r\n") (codes "[=\r\n") IsNot IsNot)) o (
     subst (λ x. P (written_of opens x 61 13 10 13 10 (codes "]\r\n") (codes "[=\r\n") IsNot IsNot)) c (

@@ -1,5 +1,6 @@
 -- Whole numbers with operators between them, and brackets: their grammar, and the values that it gives.
-use Rattle.std.specs.Prelude.{◌^◌, length, ◌≡◌, ℕ, zero, suc, ◌==◌, ◌<◌, cond, false, ◌⊎◌, IsTrue, ◌↔◌, Contains, Option, Some, None, List, [], ◌∷◌, chars, codes, ℤ, pos, neg_ℤ, ◌+ℤ◌, ◌-ℤ◌, ◌*ℤ◌, encode_utf8_all, int_div, Result, Ok, Err, IfErr, FitsSigned}
+use Rattle.std.specs.Prelude.{◌^◌, length, ◌≡◌, ℕ, zero, suc, ◌==◌, ◌<◌, cond, false, ◌⊎◌, IsTrue, ◌↔◌, Contains, Option, Some, None, List, [], ◌∷◌}
+use Rattle.std.specs.Prelude.{chars, codes, ℤ, pos, neg_ℤ, ◌+ℤ◌, ◌-ℤ◌, ◌*ℤ◌, encode_utf8_all, int_div, Result, Ok, Err, IfErr, FitsSigned}
 use Rattle.std.specs.Borrow.{Bor}
 use Rattle.std.specs.Int.{w64, int_pow, IsNonZero}
 use Rattle.std.specs.Str.Parse.{ParsesSigned}
@@ -68,7 +69,8 @@ IsNumber place digits v = ParsesSigned w64 10 (encode_utf8_all (chars digits.now
 
 -- a power, whose exponent is a `u32`
 abbrev pub Powers : ℤ → ℤ → Text → Worth → Type 0
-Powers x y place v = ((k : ℕ) × (y ≡ pos k) × (k < 2 ^ 32) × Fits (int_pow x k) place v) ⊎ (((k : ℕ) → y ≡ pos k → k < 2 ^ 32 → ⊥) × (v ≡ Err (Exponent, place)))
+Powers x y place v = ((k : ℕ) × (y ≡ pos k) × (k < 2 ^ 32) × Fits (int_pow x k) place v) ⊎
+    (((k : ℕ) → y ≡ pos k → k < 2 ^ 32 → ⊥) × (v ≡ Err (Exponent, place)))
 
 -- a quotient, rounded towards 0
 abbrev pub Divides : ℤ → ℤ → Text → Worth → Type 0
@@ -148,7 +150,11 @@ abbrev pub char_of : ℕ → Grammar ℕ ℕ
 char_of c = record { meaning = char_meaning seen_text (λ x. x) faults c; IsOutput = λ t o. o ≡ t }
 
 abbrev pub one_of_by : List ℕ → ErrorKind → Grammar ℕ ℕ
-one_of_by set kind = record { meaning = satisfy_meaning seen_text (λ x. x) (λ x b. IsTrue b ↔ Contains (chars set) x) (Unit {0}) faults kind; IsOutput = λ t o. o ≡ t }
+one_of_by set kind = record {
+  meaning = satisfy_meaning seen_text (λ x. x) (λ x b. IsTrue b ↔ Contains (chars set) x) (Unit {0}) faults kind;
+  IsOutput =
+      λ t o. o ≡ t;
+}
 
 abbrev pub digits_of : Grammar (Slice seen_text) Text
 digits_of = record { meaning = class_meaning seen_text (λ x. x) faults Digit (Some Kind.Digit); IsOutput = IsSeenAs seen_text }
@@ -199,8 +205,10 @@ Sum = Part × List (Pair sign_view.Value Part)
 -- operands with operators between them, and `-` before them
 abbrev pub sum_by : (groups : List Assoc) (opens closes : ℕ) → Grammar view.Value Worth → Grammar Sum Worth
 sum_by groups opens closes inside = record {
-  meaning = precedence_meaning seen_text faults (Unit {0}) (HasLevel operator_of.IsOutput (λ o. o.0)) (length groups) minus_of.meaning (operand_by opens closes inside).meaning none_of.meaning operator_of.meaning;
-  IsOutput = λ e v. Stands (folding minus_of.IsOutput (operand_by opens closes inside).IsOutput none_of.IsOutput operator_of.IsOutput Applies) (groups_left groups) e.0 e.1 v;
+  meaning = precedence_meaning seen_text faults (Unit {0}) (HasLevel operator_of.IsOutput (λ o. o.0)) (length groups) minus_of.meaning
+      (operand_by opens closes inside).meaning none_of.meaning operator_of.meaning;
+  IsOutput = λ e v. Stands (folding minus_of.IsOutput (operand_by opens closes inside).IsOutput none_of.IsOutput operator_of.IsOutput Applies)
+      (groups_left groups) e.0 e.1 v;
 }
 
 -- a sum, by what stands in its brackets

@@ -2,7 +2,29 @@
 ghost use Rattle.std.specs.Prelude.{◌≡◌, codes};
 ghost use Rattle.nom_traits.specs.Text.{seen_text};
 ghost use Rattle.nom_func.specs.Func.{IsParser};
-ghost use Rattle.nom_formats.specs.Arithmetic.{Answers, Applies, Divides, Given, Inside, IsFitting, IsLeveled, IsNumber, IsPlace, Joins, Negates, Operates, Parses, Powers, char_of, digits_of, level_of, one_of_by, sum_in, sum_of, view};
+ghost use Rattle.nom_formats.specs.Arithmetic.{
+  Answers,
+  Applies,
+  Divides,
+  Given,
+  Inside,
+  IsFitting,
+  IsLeveled,
+  IsNumber,
+  IsPlace,
+  Joins,
+  Negates,
+  Operates,
+  Parses,
+  Powers,
+  char_of,
+  digits_of,
+  level_of,
+  one_of_by,
+  sum_in,
+  sum_of,
+  view,
+};
 ghost use Rattle.nom_error.specs.declared.kind.ErrorKind.TheVariants.{Char, OneOf};
 
 use nom::branch::alt;

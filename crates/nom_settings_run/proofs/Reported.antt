@@ -14,7 +14,8 @@ use Rattle.nom_combinator.specs.Verdicts.{complete_outcome}
 use Rattle.nom_run.proofs.Told.{lines-same}
 use Rattle.nom_settings_run.specs.Settings.{AreSections, IsSection, IsSetting, SectionTree, SettingTree, settings_grammar}
 use Rattle.nom_located.specs.Located.{place}
-use Rattle.nom_settings_run.specs.Report.{IsReport, IsTold, IsToldBytes, OfText, place_of, Says, Text, bytes_of, line_text, seen_there, section_text, section_tree_text, sections_text, setting_text, setting_tree_text, spelled, trees_text}
+use Rattle.nom_settings_run.specs.Report.{IsReport, IsTold, IsToldBytes, OfText, place_of, Says, Text, bytes_of, line_text, seen_there, section_text}
+use Rattle.nom_settings_run.specs.Report.{section_tree_text, sections_text, setting_text, setting_tree_text, spelled, trees_text}
 
 same_bytes : (t : Slice seen_there) (o : Text) → IsSeenAs seen_there t o → spelled o ≡ bytes_of t
 same_bytes t o h = ap encode_utf8_all h.elements_are

@@ -10,4 +10,5 @@ use Rattle.nom_source.specs.Sources.{seen_source}
 
 -- a name and a value with a `=` between them, neither of them empty; the value ends with its line
 abbrev pub setting_of : {E : Type 0} → Errors Source E → Grammar Source (Slice seen_source × Slice seen_source) (Source × Source) E
-setting_of errs = separated_pair_of seen_source (is_not_of seen_source errs (chars (codes "="))) (tag_of seen_source errs ComparesText (codes "=")) (is_not_of seen_source errs (chars (codes "\n")))
+setting_of errs = separated_pair_of seen_source (is_not_of seen_source errs (chars (codes "="))) (tag_of seen_source errs ComparesText (codes "="))
+    (is_not_of seen_source errs (chars (codes "\n")))

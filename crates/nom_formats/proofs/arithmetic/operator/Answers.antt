@@ -7,7 +7,9 @@ use Rattle.nom_formats.proofs.arithmetic.operator.Goals as goal
 pub returns-in_err-rest : goal.returns-in_err-rest
 returns-in_err-rest c =
     let list = c.one_of.result.predicate.list.now in
-    by_set (λ set kind. Given IsLeveled (one_of_by set kind) c.args.input c.from_residual.result) (ap (λ l. l.now) c.one_of.ensures.predicate) c.one_of.ensures.kind (given_stops (one_of_by list c.one_of.result.kind) IsLeveled c.in_err-rest.was (err_from_residual c.from_residual.ensures) c.parse_complete.ensures.shown)
+    by_set (λ set kind. Given IsLeveled (one_of_by set kind) c.args.input c.from_residual.result) (ap (λ l. l.now) c.one_of.ensures.predicate)
+    c.one_of.ensures.kind (given_stops (one_of_by list c.one_of.result.kind) IsLeveled c.in_err-rest.was (err_from_residual c.from_residual.ensures)
+    c.parse_complete.ensures.shown)
 
 pub returns : goal.returns
 returns c =
