@@ -4,6 +4,7 @@ mod collections;
 mod errors;
 mod hex;
 mod inputs;
+mod memory;
 mod ranges;
 mod searches;
 mod walks;
