@@ -35,9 +35,9 @@ fn told(
 }
 
 // Two records, and two bytes more.
-const FILE: [u8; 9] = *b"R\x02abR\x00.xy";
+pub const FILE: [u8; 9] = *b"R\x02abR\x00.xy";
 
-const TEXT: &str = "decided at 1\nrecord 2 6162\nrecord 0\nrest 2\n";
+pub const TEXT: &str = "decided at 1\nrecord 2 6162\nrecord 0\nrest 2\n";
 
 #[test]
 fn reports(rt: HostRuntime) {
