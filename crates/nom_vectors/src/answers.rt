@@ -4,23 +4,66 @@ ghost use Rattle.nom_error.specs.Answers.{size_of};
 ghost use Rattle.nom_error.specs.Kinds.{number_of};
 ghost use Rattle.nom_vectors.specs.Answers.{AsksFor, IsFailure, IsRefusal};
 
-use nom::error::{ErrorKind, error_to_u32};
-use nom::{AsBytes, Err, IResult, Items, Needed, Parser};
+use crate::grown::grows;
+use nom::error::{Error, ErrorKind, ParseError, error_to_u32};
+use nom::{
+    AsBytes, Err, IResult, Input, Needed, Parser, StreamFunc, StreamParser, Viewed, stream_func,
+};
+use std::alloc::Global;
 
-/// What a parser answers where more may come, and where no more may. A row names its parser by this one call, so
-/// that the type is looked through once.
-pub fn both<I: Items, P: Parser<I>>(
-    parser: &mut P,
-    input: I,
-) -> (
-    IResult<I, P::Output, P::Error>,
-    IResult<I, P::Output, P::Error>,
-)
-    requires { (P.meaning (P.state parser.old)).IsSound }
-    ensures { P.state parser.new ≡ P.state parser.old }
+/// What a parser answers of an input.
+#[derive(Drop)]
+pub struct Answers<I, O, E = Error<I>> {
+    /// Where more may come.
+    pub streaming: IResult<I, O, E>,
+    /// Where no more may.
+    pub complete: IResult<I, O, E>,
+    /// Whether the input, where it comes item by item, is answered as where more may come.
+    pub grows: bool,
+}
+
+/// An error that tells how much of the input is left at its place.
+pub trait Fault {
+    /// Whether it is of the same kind as another, and at the same place of an input of which so much more is there.
+    fn is_as(&self, other: &Self, lack: usize) -> bool;
+}
+
+impl<I: AsBytes> Fault for Error<I> {
+    fn is_as(&self, other: &Error<I>, lack: usize) -> bool {
+        let left = self.input.as_bytes().len().saturating_add(lack);
+        self.code == other.code && left == other.input.as_bytes().len()
+    }
+}
+
+/// What a parser answers. A row names its parser by this one call, so that the type is looked through once.
+pub fn answers_of<I, P>(alloc: Global, mut parser: P, input: I) -> Answers<I, P::Output, P::Error>
+where
+    I: Input + AsBytes,
+    P: StreamParser<I> + Drop,
+    P::Output: PartialEq,
+    P::Error: Fault,
+    requires { (P.Parser.meaning (P.Parser.state parser)).IsSound }
 {
     let streaming = parser.parse(input);
-    (streaming, parser.parse_complete(input))
+    let complete = parser.parse_complete(input);
+    let grows = grows(alloc, parser, input, &streaming);
+    Answers {
+        streaming,
+        complete,
+        grows,
+    }
+}
+
+/// What a function answers as a stream parser.
+pub fn of_function<I, O, E, F>(alloc: Global, f: F, input: I) -> Answers<I, O, E>
+where
+    I: Input + AsBytes,
+    O: Viewed + PartialEq + Drop,
+    E: ParseError<I> + Fault,
+    F: Fn(I) -> IResult<I, O, E> + Drop,
+    requires { (⟦<StreamFunc<F, I, O, E> as Parser<I>>⟧.meaning f).IsSound }
+{
+    answers_of(alloc, stream_func(f), input)
 }
 
 /// Whether a slice of the input was accepted, with this rest.

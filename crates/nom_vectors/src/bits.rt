@@ -1,6 +1,6 @@
 //! Rows of bits.
 
-use crate::answers::{fails, needs};
+use crate::answers::{Answers, answers_of, fails, needs};
 use nom::bits::{bits, bytes, complete, take};
 use nom::bytes::streaming;
 use nom::error::{Error, ErrorKind};
@@ -22,15 +22,15 @@ pub fn row_7() -> bool {
     }
 }
 
-/// `bits((take(4), take(8)))` streaming.
-fn two_fields(input: &[u8]) -> IResult<&[u8], (u8, u8), Bad<'_>> {
-    let mut fields = bits((take::<&[u8], _, u8, BadBits<'_>>(4), take(8u8)));
-    fields.parse(input)
+/// `bits((take(4), take(8)))`.
+fn two_fields(alloc: Global, input: &[u8]) -> Answers<&[u8], (u8, u8)> {
+    let fields = bits((take::<&[u8], _, u8, BadBits<'_>>(4), take(8u8)));
+    answers_of(alloc, fields, input)
 }
 
-/// On [0x12] Incomplete 2, with its text.
-fn asks_for_two(alloc: Global) -> bool {
-    match two_fields(&[0x12]) {
+/// Whether an answer is Incomplete 2, with its text.
+fn asks_for_two(alloc: Global, answer: IResult<&[u8], (u8, u8), Bad<'_>>) -> bool {
+    match answer {
         Err(error) => match format!(in alloc; "{error}") {
             Ok(text) => text.as_str() == "Parsing requires 2 bytes/chars",
             Err(_) => false,
@@ -39,13 +39,17 @@ fn asks_for_two(alloc: Global) -> bool {
     }
 }
 
-/// `bits((take(4), take(8)))` on [0x12], and on [0x12, 0x34, 0x56, 0x78]: rest [0x56, 0x78], values 0x01,
-/// 0x23.
+/// `bits((take(4), take(8)))` streaming on [0x12]: Incomplete 2, with its text; on [0x12, 0x34, 0x56, 0x78]: rest
+/// [0x56, 0x78], values 0x01, 0x23.
 pub fn row_8(alloc: Global) -> bool {
-    match two_fields(&[0x12, 0x34, 0x56, 0x78]) {
-        Ok((rest, values)) => {
-            rest == [0x56, 0x78].as_slice() && values == (0x01, 0x23) && asks_for_two(alloc)
-        }
+    let open = two_fields(alloc, &[0x12]);
+    let found = two_fields(alloc, &[0x12, 0x34, 0x56, 0x78]);
+    match found.streaming {
+        Ok((rest, values)) => rest == [0x56, 0x78].as_slice()
+            && values == (0x01, 0x23)
+            && found.grows
+            && open.grows
+            && asks_for_two(alloc, open.streaming),
         Err(_) => false,
     }
 }

@@ -3,41 +3,47 @@
 ghost use Rattle.nom_traits.specs.Text.{seen_text};
 ghost use Rattle.nom_growing.specs.Growing.{AreCuts};
 
-use crate::answers::{needs, refuses};
+use crate::answers::{Answers, answers_of, needs, of_function, refuses};
 use nom::character::{char, one_of, streaming};
 use nom::error::{Error, ErrorKind};
 use nom::multi::many0;
 use nom::sequence::terminated;
-use nom::{IResult, Parser, parse_growing};
+use nom::{IResult, parse_growing};
 use std::alloc::Global;
 
 /// `char('é')` on the bytes `[0xE9, 0x41]`: rest `[0x41]`, value `é`; `one_of(&b"a"[..])` on the text `š`:
 /// Error OneOf at `š`.
-pub fn row_11() -> bool {
+pub fn row_11(alloc: Global) -> bool {
     let bytes = [0xE9, 0x41];
-    let mut one = char::<_, Error<&[u8]>>('é');
-    let is_read = match one.parse(bytes.as_slice()) {
-        Ok((rest, c)) => c == 'é' && rest == &[0x41][..],
+    let one = answers_of(alloc, char::<_, Error<&[u8]>>('é'), bytes.as_slice());
+    let is_read = match one.streaming {
+        Ok((rest, c)) => c == 'é' && rest == &[0x41][..] && one.grows,
         Err(_) => false,
     };
-    let mut set = one_of::<_, _, Error<&str>>(&b"a"[..]);
-    is_read && refuses(set.parse("š"), ErrorKind::OneOf, "š".as_bytes())
+    let set = answers_of(alloc, one_of::<_, _, Error<&str>>(&b"a"[..]), "š");
+    is_read && refuses(set.streaming, ErrorKind::OneOf, "š".as_bytes()) && set.grows
+}
+
+/// `character::streaming::i8`.
+fn small(alloc: Global, input: &str) -> Answers<&str, i8> {
+    of_function(alloc, streaming::i8::<&str, Error<&str>>, input)
 }
 
 /// `character::streaming::i8`: on `-128;` rest `;`, -128; on `-129;` Error Digit at `-129;`; on `-12`
 /// Incomplete 1.
-pub fn row_17() -> bool {
-    let is_read = match streaming::i8::<_, Error<&str>>("-128;") {
-        Ok((rest, number)) => rest == ";" && number == -128,
+pub fn row_17(alloc: Global) -> bool {
+    let found = small(alloc, "-128;");
+    let refused = small(alloc, "-129;");
+    let open = small(alloc, "-12");
+    let is_read = match found.streaming {
+        Ok((rest, number)) => rest == ";" && number == -128 && found.grows,
         Err(_) => false,
     };
     is_read
-        && refuses(
-            streaming::i8::<_, Error<&str>>("-129;"),
-            ErrorKind::Digit,
-            b"-129;",
-        )
-        && needs(streaming::i8::<_, Error<&str>>("-12"), Some(1))
+        && refuses(refused.streaming, ErrorKind::Digit, b"-129;")
+        && refused.grows
+        && needs(open.streaming, Some(1))
+        && open.grows
 }
 
 /// Whether the rest is `X` and the items are `a`, `a`.

@@ -1,7 +1,7 @@
 //! Rows of parsers on what others answer.
 ghost use Rattle.std.specs.Prelude.{◌≡◌};
 
-use crate::answers::{accepts, needs};
+use crate::answers::{Answers, Fault, accepts, answers_of, needs};
 use nom::bytes::{escaped_transform, tag};
 use nom::character::{char, complete};
 use nom::combinator::{cut, iterator, recognize};
@@ -70,17 +70,26 @@ pub fn row_19() -> bool {
     accepts(letters.parse_complete("abc"), b"", b"abc")
 }
 
-fn named_char<'a>(input: &'a str) -> IResult<&'a str, char, Named<'a>> {
+impl Fault for Named<'_> {
+    fn is_as(&self, other: &Self, lack: usize) -> bool {
+        let left = self.input.len().saturating_add(lack);
+        self.context == other.context && left == other.input.len()
+    }
+}
+
+fn named_char<'a>(alloc: Global, input: &'a str) -> Answers<&'a str, char, Named<'a>> {
     let wanted = cut(char::<&'a str, Named<'a>>('a'));
-    let mut named = context("ctx", wanted);
-    named.parse(input)
+    answers_of(alloc, context("ctx", wanted), input)
 }
 
 /// `context("ctx", cut(char('a')))` on `bcd`, with an error that keeps the input and the last name:
 /// Failure, input `bcd`, context `ctx`.
-pub fn row_27() -> bool {
-    match named_char("bcd") {
-        Err(Err::Failure(error)) => error.input == "bcd" && error.context == "ctx",
+pub fn row_27(alloc: Global) -> bool {
+    let found = named_char(alloc, "bcd");
+    match found.streaming {
+        Err(Err::Failure(error)) => {
+            error.input == "bcd" && error.context == "ctx" && found.grows
+        }
         _ => false,
     }
 }

@@ -14,6 +14,7 @@ mod branch;
 mod bytes;
 mod character;
 mod combinator;
+mod grown;
 mod multi;
 mod number;
 mod precedence;
@@ -48,33 +49,33 @@ impl Outcome {
 /// Runs the row of a number.
 fn run_row(alloc: Global, number: usize) -> Outcome {
     match number {
-        1 => Outcome::of(number::row_1()),
-        2 => Outcome::of(number::row_2()),
-        3 => Outcome::of(branch::row_3()),
+        1 => Outcome::of(number::row_1(alloc)),
+        2 => Outcome::of(number::row_2(alloc)),
+        3 => Outcome::of(branch::row_3(alloc)),
         4 => Outcome::of(multi::row_4(alloc)),
         5 => Outcome::of(multi::row_5(alloc)),
-        6 => Outcome::of(bytes::row_6()),
+        6 => Outcome::of(bytes::row_6(alloc)),
         7 => Outcome::of(bits::row_7()),
         8 => Outcome::of(bits::row_8(alloc)),
         9 => Outcome::of(bits::row_9()),
-        10 => Outcome::of(number::row_10()),
-        11 => Outcome::of(character::row_11()),
-        12 => Outcome::of(bytes::row_12()),
-        13 => Outcome::of(multi::row_13()),
-        14 => Outcome::of(multi::row_14()),
+        10 => Outcome::of(number::row_10(alloc)),
+        11 => Outcome::of(character::row_11(alloc)),
+        12 => Outcome::of(bytes::row_12(alloc)),
+        13 => Outcome::of(multi::row_13(alloc)),
+        14 => Outcome::of(multi::row_14(alloc)),
         15 => Outcome::of(combinator::row_15(alloc)),
         16 => Outcome::of(multi::row_16(alloc)),
-        17 => Outcome::of(character::row_17()),
+        17 => Outcome::of(character::row_17(alloc)),
         18 => Outcome::of(character::row_18(alloc)),
         19 => Outcome::of(combinator::row_19()),
         20 => Outcome::of(traits::row_20(alloc)),
         21 => Outcome::of(traits::row_21()),
-        22 => Outcome::of(number::row_22()),
-        23 => Outcome::of(bytes::row_23()),
+        22 => Outcome::of(number::row_22(alloc)),
+        23 => Outcome::of(bytes::row_23(alloc)),
         24 => Outcome::of(multi::row_24(alloc)),
-        25 => Outcome::of(branch::row_25()),
+        25 => Outcome::of(branch::row_25(alloc)),
         26 => Outcome::of(number::row_26()),
-        27 => Outcome::of(combinator::row_27()),
+        27 => Outcome::of(combinator::row_27(alloc)),
         28 => Outcome::of(combinator::row_28()),
         29 => Outcome::of(branch::row_29()),
         33 => Outcome::of(precedence::row_33(alloc)),

@@ -2,10 +2,11 @@
 ghost use Rattle.std.specs.Prelude.{◌≡◌};
 ghost use Rattle.nom_vectors.specs.Levels.{level_of};
 
+use crate::answers::{Answers, answers_of};
 use nom::character::{char, one_of};
 use nom::combinator::fail;
 use nom::error::{Error, ErrorKind};
-use nom::{Err, IResult, Parser};
+use nom::{Err, Parser};
 use nom_precedence::{Assoc, Operation, precedence};
 use std::alloc::Global;
 
@@ -53,12 +54,12 @@ fn value(operation: Operation<char, (), char, i64>) -> i64 {
 
 /// `precedence` over one-digit operands, with levels grouped from the right, the left and the left, and `~` as
 /// prefix.
-fn expression(alloc: Global, input: &str) -> IResult<&str, i64, Bad<'_>> {
+fn expression(alloc: Global, input: &str) -> Answers<&str, i64, Bad<'_>> {
     let levels = [Assoc::Right, Assoc::Left, Assoc::Left];
     let operand = one_of("0123456789").map(digit);
     let operator = one_of("^*-?").map(leveled);
     let none = fail::<_, (), _>();
-    precedence(
+    let expression = precedence(
         alloc,
         &levels[..],
         char('~'),
@@ -66,14 +67,15 @@ fn expression(alloc: Global, input: &str) -> IResult<&str, i64, Bad<'_>> {
         none,
         operator,
         value,
-    )
-    .parse(input)
+    );
+    answers_of(alloc, expression, input)
 }
 
 /// Whether an input gives a value with a rest.
 fn gives(alloc: Global, input: &str, wanted: i64, left: &str) -> bool {
-    match expression(alloc, input) {
-        Ok((rest, value)) => rest == left && value == wanted,
+    let found = expression(alloc, input);
+    match found.streaming {
+        Ok((rest, value)) => rest == left && value == wanted && found.grows,
         Err(_) => false,
     }
 }
@@ -81,8 +83,11 @@ fn gives(alloc: Global, input: &str, wanted: i64, left: &str) -> bool {
 /// `precedence` streaming: `1-2-3*4;` gives -13, `2^3^2;` 512, `~2^2;` 4, each with rest `;`; `1-;` gives 1 with
 /// rest `-;`; `1?2;` is Failure Precedence at `?2;`.
 pub fn row_33(alloc: Global) -> bool {
-    let fails = match expression(alloc, "1?2;") {
-        Err(Err::Failure(error)) => error.code == ErrorKind::Precedence && error.input == "?2;",
+    let found = expression(alloc, "1?2;");
+    let fails = match found.streaming {
+        Err(Err::Failure(error)) => {
+            error.code == ErrorKind::Precedence && error.input == "?2;" && found.grows
+        }
         _ => false,
     };
     let mut holds = fails;
