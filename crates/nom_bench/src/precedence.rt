@@ -1,4 +1,5 @@
 //! Sums of products of decimal numbers, as `12*3-4*5+6`, to their value modulo 2^64.
+ghost use Rattle.std.specs.Prelude.{◌≡◌, ◌==◌, if◌then◌else◌};
 
 use crate::{Fail, Made, Round, consumed, number};
 use nom::Parser;
@@ -26,7 +27,9 @@ fn value<'a, P: Parser<&'a [u8], Output = i64> + Drop>(
 
 /// An operator with its level: the greater, the looser.
 #[inline(always)]
-fn leveled(operator: char) -> (usize, char) {
+fn leveled(operator: char) -> (usize, char)
+    ensures { result.0 ≡ (if operator == 42 then 0 else 1) }
+{
     match operator {
         '*' => (0, operator),
         _ => (1, operator),
