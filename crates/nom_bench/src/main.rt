@@ -1,19 +1,25 @@
 //! `nom_bench FILE [ROUNDS]`: how fast the grammar of nom_records, runs, a search, decimal and binary numbers, a
-//! choice, a tuple and bit fields go over a file, held in memory.
+//! choice, a tuple, bit fields, settings and expressions go over a file, held in memory.
 //!
 //! The grammar runs by `parse`, by `parse_complete`, and by `process` where nothing is built. By
 //! `parse_complete` also run a `take_while1` of all bytes before the first `;`, a `take_until` of all before
 //! the first `;;`, an `alphanumeric1`, a list of decimal numbers of 32 bits, each with a `,` behind it, such a
 //! list with a `,` between two, a fold that counts bytes, a list of words, each of which an `alt` of eight tags
 //! finds, a list of tuples of four, as `<ab>`, a list of binary numbers of 32 bits, the highest byte first, and
-//! a list of pairs of bit fields, of 4 and of 12 bits.
-//! Each runs ROUNDS times (7 where none are named), and a line for each tells how many items a list has, the
-//! bytes consumed, and the MB (10^6 bytes) a second of the best round. A file that isn't accepted gets
-//! `no records`, `no run`, `no needle`, `no word`, `no numbers`, `no bytes`, `no words`, `no tuples` or
-//! `no fields`: so a file for the grammar is one of records; a file for a run and a needle is long, with a `;;`
-//! at its end and no `;` before; one for a word is of letters and digits; one for binary numbers or for fields
-//! is of any bytes; and the others are as their items are written. With no argument nothing is printed.
+//! a list of pairs of bit fields, of 4 and of 12 bits. The grammar of nom_settings runs over the file as a text,
+//! and over that text with line and column; and sums of products of decimal numbers run by `precedence`, and
+//! by a fold of each level.
+//! Each runs ROUNDS times (7 where none are named), and a line for each tells how many items a list has, or
+//! the value of an expression, the bytes consumed, and the MB (10^6 bytes) a second of the best round. A file
+//! that isn't accepted gets `no records`, `no run`, `no needle`, `no word`, `no numbers`, `no bytes`, `no words`,
+//! `no tuples`, `no fields`, `no sections` or `no expression`: so a file for the grammar is one of records; a file
+//! for a run and a needle is long, with a `;;` at its end and no `;` before; one for a word is of letters and
+//! digits; one for binary numbers or for fields is of any bytes; and the others are as their items are written.
+//! With no argument nothing is printed.
 #![tactic(auto)]
+
+mod located;
+mod precedence;
 
 use nom::bits::{bits, complete as complete_bits};
 use nom::branch::alt;
@@ -30,24 +36,41 @@ use std::marker::PhantomData;
 use std::process::ExitCode;
 use std::rt::{Clock, Env, Files};
 use std::time::Instant;
-use std::{env, fs, io};
+use std::{env, fs, io, str};
 
-type Fail<'a> = Error<&'a [u8]>;
+pub type Fail<'a> = Error<&'a [u8]>;
 
 /// The error of a parser of bits.
 type BitFail<'a> = Error<(&'a [u8], usize)>;
 
+/// What a parser made.
+#[derive(Clone, Copy)]
+pub enum Made {
+    /// One slice.
+    Slice,
+    /// A list with so many items: 0 where none is built.
+    Items(usize),
+    /// The value of an expression.
+    Value(i64),
+}
+
 /// What a round told.
 #[derive(Clone, Copy)]
-struct Round {
-    /// How many items a list has, where the parser makes lists: 0 where none is built.
-    items: Option<usize>,
+pub struct Round {
+    pub made: Made,
     /// The bytes that were consumed.
-    bytes: usize,
+    pub bytes: usize,
+}
+
+/// A file: its bytes, and the text that they are; an empty text where they are none.
+#[derive(Clone, Copy)]
+struct Contents<'a> {
+    bytes: &'a [u8],
+    text: &'a str,
 }
 
 /// How many bytes of the whole were consumed.
-fn consumed(whole: &[u8], rest: &[u8]) -> usize {
+pub fn consumed(whole: &[u8], rest: &[u8]) -> usize {
     whole.len().saturating_sub(rest.len())
 }
 
@@ -75,7 +98,7 @@ fn records<'a, T: Drop, P: Parser<&'a [u8], Output = Vec<T>> + Drop>(
         }
     };
     Some(Round {
-        items: Some(items),
+        made: Made::Items(items),
         bytes: consumed(bytes, rest),
     })
 }
@@ -90,7 +113,7 @@ fn slice<'a, P: Parser<&'a [u8], Output = &'a [u8]> + Drop>(
 {
     let (rest, _slice) = parser.parse_complete(bytes).ok()?;
     Some(Round {
-        items: None,
+        made: Made::Slice,
         bytes: consumed(bytes, rest),
     })
 }
@@ -108,7 +131,7 @@ fn list<'a, T: Drop, P: Parser<&'a [u8], Output = Vec<T>> + Drop>(
         return None;
     }
     Some(Round {
-        items: Some(items.len()),
+        made: Made::Items(items.len()),
         bytes: consumed(bytes, rest),
     })
 }
@@ -137,13 +160,13 @@ fn by_take_until(bytes: &[u8]) -> Option<Round> {
 fn by_alphanumeric1(bytes: &[u8]) -> Option<Round> {
     let (rest, _word) = complete::alphanumeric1::<_, Fail>(bytes).ok()?;
     Some(Round {
-        items: None,
+        made: Made::Slice,
         bytes: consumed(bytes, rest),
     })
 }
 
 /// A decimal number.
-fn number<'a>() -> Integer<u32, &'a [u8], Fail<'a>> {
+pub fn number<'a>() -> Integer<u32, &'a [u8], Fail<'a>> {
     Integer {
         signed: false,
         types: PhantomData,
@@ -169,7 +192,7 @@ fn by_fold(bytes: &[u8]) -> Option<Round> {
     );
     match count.parse_complete(bytes) {
         Ok((rest, count)) if count > 0 => Some(Round {
-            items: Some(count),
+            made: Made::Items(count),
             bytes: consumed(bytes, rest),
         }),
         _ => None,
@@ -228,6 +251,10 @@ enum Way {
     Tuples,
     Binary,
     Fields,
+    Text,
+    Located,
+    Precedence,
+    Folds,
 }
 
 impl Way {
@@ -246,6 +273,10 @@ impl Way {
             Way::Tuples => "tuple",
             Way::Binary => "be_u32",
             Way::Fields => "bits",
+            Way::Text => "settings",
+            Way::Located => "settings, located",
+            Way::Precedence => "precedence",
+            Way::Folds => "precedence by folds",
         }
     }
 
@@ -257,6 +288,7 @@ impl Way {
             Way::Words => "words",
             Way::Tuples => "tuples",
             Way::Fields => "pairs of fields",
+            Way::Text | Way::Located => "sections",
             _ => "records",
         }
     }
@@ -273,10 +305,13 @@ impl Way {
             Way::Words => "no words",
             Way::Tuples => "no tuples",
             Way::Fields => "no fields",
+            Way::Text | Way::Located => "no sections",
+            Way::Precedence | Way::Folds => "no expression",
         }
     }
 
-    fn run(self, alloc: Global, bytes: &[u8]) -> Option<Round> {
+    fn run(self, alloc: Global, contents: Contents<'_>) -> Option<Round> {
+        let Contents { bytes, text } = contents;
         match self {
             Way::Parse | Way::ParseComplete | Way::Check => by_records(alloc, bytes, self),
             Way::TakeWhile1 => by_take_while1(bytes),
@@ -289,6 +324,10 @@ impl Way {
             Way::Tuples => by_tuples(alloc, bytes),
             Way::Binary => by_binary(alloc, bytes),
             Way::Fields => by_fields(alloc, bytes),
+            Way::Text => located::by_text(alloc, text),
+            Way::Located => located::by_located(alloc, text),
+            Way::Precedence => precedence::by_precedence(alloc, bytes),
+            Way::Folds => precedence::by_folds(bytes),
         }
     }
 }
@@ -297,14 +336,14 @@ impl Way {
 fn bench(
     rt: &(impl Clock + Print + Alloc<A = Global>),
     way: Way,
-    bytes: &[u8],
+    contents: Contents<'_>,
     rounds: u32,
 ) -> io::Result<()> {
     let mut best = u128::MAX;
     let mut told = None;
     for _round in 0..rounds {
         let start = Instant::now(rt)?;
-        told = way.run(rt.alloc(), bytes);
+        told = way.run(rt.alloc(), contents);
         best = best.min(start.elapsed(rt)?.as_nanos());
     }
     let name = way.name();
@@ -315,12 +354,15 @@ fn bench(
                 .checked_div(best)
                 .unwrap_or(0);
             let consumed = round.bytes;
-            match round.items {
-                Some(count) => {
+            match round.made {
+                Made::Items(count) => {
                     let items = way.items();
                     println!(rt; "{name}: {count} {items}, {consumed} bytes, {speed} MB/s")
                 }
-                None => println!(rt; "{name}: {consumed} bytes, {speed} MB/s"),
+                Made::Value(value) => {
+                    println!(rt; "{name}: value {value}, {consumed} bytes, {speed} MB/s")
+                }
+                Made::Slice => println!(rt; "{name}: {consumed} bytes, {speed} MB/s"),
             }
         }
         None => {
@@ -341,6 +383,10 @@ fn run(rt: &(impl Clock + Env + Files + Print + Alloc<A = Global>)) -> io::Resul
         None => 7,
     };
     let bytes = fs::read(rt, file.as_str())?;
+    let contents = Contents {
+        bytes: &bytes,
+        text: str::from_utf8(&bytes).unwrap_or(""),
+    };
     for way in [
         Way::Parse,
         Way::ParseComplete,
@@ -355,8 +401,12 @@ fn run(rt: &(impl Clock + Env + Files + Print + Alloc<A = Global>)) -> io::Resul
         Way::Tuples,
         Way::Binary,
         Way::Fields,
+        Way::Text,
+        Way::Located,
+        Way::Precedence,
+        Way::Folds,
     ] {
-        bench(rt, way, &bytes, rounds)?;
+        bench(rt, way, contents, rounds)?;
     }
     Ok(())
 }
