@@ -5,7 +5,7 @@ ghost use Rattle.nom_error.specs.Inputs.{IsInputMapped, IsFirstMapped};
 
 use crate::kind::ErrorKind;
 use crate::value::Error;
-use std::alloc::AllocError;
+use std::alloc::{AllocError, AllocFailed};
 use std::fmt;
 use std::num::NonZeroUsize;
 
@@ -18,6 +18,15 @@ impl From<AllocError> for OutOfMemory {
     ghost from_gives = { λ _ e. e ≡ record {} };
 
     fn from(_error: AllocError) -> OutOfMemory {
+        OutOfMemory
+    }
+}
+
+/// So that `?` passes on that a value could not be put on the heap; the value is let go.
+impl<T: Drop> From<AllocFailed<T>> for OutOfMemory {
+    ghost from_gives = { λ _ e. e ≡ record {} };
+
+    fn from(_error: AllocFailed<T>) -> OutOfMemory {
         OutOfMemory
     }
 }
@@ -164,6 +173,39 @@ impl<T> Err<(T, ErrorKind)> {
             Err::Failure((input, kind)) => Err::Failure((f(input), kind)),
             Err::OutOfMemory => Err::OutOfMemory,
         }
+    }
+}
+
+/// So that `?` passes a refused growth on in a function that answers `IResult`.
+impl<F, E, N> From<AllocError> for Err<F, E, N> {
+    ghost use Rattle.nom_error.specs.declared.answer.Err.{Err};
+
+    ghost from_gives = { λ _ e. e ≡ Err.OutOfMemory };
+
+    fn from(_error: AllocError) -> Err<F, E, N> {
+        Err::OutOfMemory
+    }
+}
+
+/// So that `v.push(x)?` serves in a function that answers `IResult`; the value is let go.
+impl<T: Drop, F, E, N> From<AllocFailed<T>> for Err<F, E, N> {
+    ghost use Rattle.nom_error.specs.declared.answer.Err.{Err};
+
+    ghost from_gives = { λ _ e. e ≡ Err.OutOfMemory };
+
+    fn from(_error: AllocFailed<T>) -> Err<F, E, N> {
+        Err::OutOfMemory
+    }
+}
+
+/// So that `?` passes on that memory ran out in a function that answers `IResult`.
+impl<F, E, N> From<OutOfMemory> for Err<F, E, N> {
+    ghost use Rattle.nom_error.specs.declared.answer.Err.{Err};
+
+    ghost from_gives = { λ _ e. e ≡ Err.OutOfMemory };
+
+    fn from(_error: OutOfMemory) -> Err<F, E, N> {
+        Err::OutOfMemory
     }
 }
 
