@@ -1,5 +1,5 @@
 -- What values are compared by.
-use Rattle.std.specs.Prelude.{ℕ, List, map, Option, Some, None, Result, Ok, Err, Vec, String, string_bytes, chars}
+use Rattle.std.specs.Prelude.{ℕ, List, map, Option, Some, None, Result, Ok, Err, Vec, Box, box_value, String, string_bytes, chars}
 use Rattle.std.specs.Borrow.{Bor}
 use Rattle.std.specs.VecDeque.{deque_items}
 use Rattle.std.specs.declared.collections.VecDeque.{VecDeque}
@@ -64,6 +64,10 @@ vec_view t = record { Value = List t.Value; value = λ v. map t.value v.items }
 
 abbrev pub deque_view : {T A : Type 0} → View T → View (VecDeque T A)
 deque_view t = record { Value = List t.Value; value = λ v. map t.value (deque_items v) }
+
+-- the value on the heap
+abbrev pub box_view : {T A : Type 0} → View T → View (Box T A)
+box_view t = record { Value = t.Value; value = λ b. t.value (box_value b) }
 
 -- the characters of a text that owns its bytes
 abbrev pub string_view : {A : Type 0} → View (String A)

@@ -1,11 +1,14 @@
 //! What outputs are compared by.
-ghost use Rattle.nom_traits.specs.View.{View, itself, single_view, pair_view, view_3, view_4, view_5, view_6, view_7, view_8, option_view, result_view, list_view, vec_view, deque_view, string_view, behind_view, text_view};
+ghost use Rattle.nom_traits.specs.View.{View, itself, single_view, pair_view, view_3, view_4, view_5, view_6, view_7, view_8, option_view, result_view, list_view, vec_view, deque_view, box_view, string_view, behind_view, text_view};
 
 use std::alloc::Allocator;
+use std::cmp::Ordering;
 use std::collections::VecDeque;
+use std::net::{IpAddr, Ipv4Addr, Ipv6Addr, SocketAddr};
+use std::time::Duration;
 
-/// A type whose values are compared by a view of them: references by what they point to, lists by
-/// their items and texts by their characters. With no member given, a value is compared as it is, so
+/// A type whose values are compared by a view of them: references and boxes by what they hold, lists
+/// by their items and texts by their characters. With no member given, a value is compared as it is, so
 /// `impl Viewed for Color {}` serves most types.
 pub trait Viewed {
     ghost view: { View Self } = { itself };
@@ -40,6 +43,22 @@ impl Viewed for bool {}
 impl Viewed for char {}
 
 impl Viewed for () {}
+
+impl Viewed for f32 {}
+
+impl Viewed for f64 {}
+
+impl Viewed for Ordering {}
+
+impl Viewed for Duration {}
+
+impl Viewed for Ipv4Addr {}
+
+impl Viewed for Ipv6Addr {}
+
+impl Viewed for IpAddr {}
+
+impl Viewed for SocketAddr {}
 
 impl<A: Viewed> Viewed for (A,) {
     ghost view = { single_view A.view };
@@ -94,6 +113,10 @@ impl<T: Viewed, A: Allocator> Viewed for Vec<T, A> {
 
 impl<T: Viewed, A: Allocator> Viewed for VecDeque<T, A> {
     ghost view = { deque_view T.view };
+}
+
+impl<T: Viewed, A: Allocator> Viewed for Box<T, A> {
+    ghost view = { box_view T.view };
 }
 
 impl<A: Allocator> Viewed for String<A> {
