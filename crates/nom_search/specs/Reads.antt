@@ -48,7 +48,8 @@ each_char : (cs : List ℕ) → encode_utf8_all cs ≡ read_all encode_utf8 cs
 each_char [] = refl
 each_char (c ∷ cs) = ap (λ ys. encode_utf8 c ++ ys) (each_char cs)
 
-char_alone : (c k : ℕ) → k < length (encode_utf8 c) → slice_index (encode_utf8 c) k < 128 → encode_utf8 c ≡ slice_index (encode_utf8 c) k ∷ []
+-- a byte of ASCII is a character of its own
+pub char_alone : (c k : ℕ) → k < length (encode_utf8 c) → slice_index (encode_utf8 c) k < 128 → encode_utf8 c ≡ slice_index (encode_utf8 c) k ∷ []
 char_alone c k h a =
     let same = inside_one c [] (encode_utf8 c) k (sym (append-nil (encode_utf8 c))) h a in
     encode_ascii c (omega (arith, same, a)) ∙ ap (λ b. b ∷ []) same

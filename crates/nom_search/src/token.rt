@@ -136,11 +136,24 @@ fn has_char(list: &[char], token: char) -> bool
     list.iter().any(|c| *c == token)
 }
 
+/// A character of ASCII is a byte of its own, so it is sought in the bytes, with no decoding.
 #[inline(always)]
 fn has_char_in_text(text: &str, token: char) -> bool
     ensures { IsTrue result ↔ Contains (chars text.now) token }
 {
-    any_char_is(text, token)
+    if token.is_ascii() {
+        any_byte_is(text.as_bytes(), token as u8)
+    } else {
+        any_char_is(text, token)
+    }
+}
+
+// Lists of tokens are short: a loop in place is quicker than a call of the searcher.
+#[inline(always)]
+fn any_byte_is(bytes: &[u8], token: u8) -> bool
+    ensures { result ≡ list_any (λ b. b == token) bytes.now }
+{
+    bytes.iter().any(|b| *b == token)
 }
 
 #[inline(always)]
