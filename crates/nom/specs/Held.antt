@@ -72,7 +72,8 @@ module _ {S J A L : Type 0} (held : S → J) (label : S → L) (w : Seen J A) wh
   extends_held : (x y : S) → Extends seen_held x y → Extends w (held x) (held y)
   extends_held x y e = record { more = e.more; added = e.added; whole = e.whole; mark_is = ap (λ m. m.0) e.mark_is }
 
-  pub held_comparing : {T : Type 0} {size : T → ℕ} {Compares : T → List A → CompareResult → Type 0} → CompareLaws w size Compares → CompareLaws seen_held size Compares
+  pub held_comparing : {T : Type 0} {size : T → ℕ} {Compares : T → List A → CompareResult → Type 0} → CompareLaws w size Compares →
+      CompareLaws seen_held size Compares
   held_comparing {size = size} c = record {
     one = λ t x r s. c.one t (held x) r s;
     place = λ t x k h. place_held x (size t) (c.place t (held x) k h);
@@ -81,12 +82,16 @@ module _ {S J A L : Type 0} (held : S → J) (label : S → L) (w : Seen J A) wh
     error_stays = λ t x y h k e r. c.error_stays t (held x) (held y) h k (extends_held x y e) r;
   }
 
-  pub counts_held : (x : S) (count : ℕ) (lack : ℕ → List A → Option ℕ) (r : Result ℕ Needed) → MatchResult r (IsCount w (held x) count) (λ k. (length (w.elements (held x)) < count) × (size_of k ≡ lack count (w.elements (held x)))) → MatchResult r (IsCount seen_held x count) (λ k. (length (w.elements (held x)) < count) × (size_of k ≡ lack count (w.elements (held x))))
+  pub counts_held : (x : S) (count : ℕ) (lack : ℕ → List A → Option ℕ) (r : Result ℕ Needed) →
+      MatchResult r (IsCount w (held x) count) (λ k. (length (w.elements (held x)) < count) × (size_of k ≡ lack count (w.elements (held x)))) →
+      MatchResult r (IsCount seen_held x count) (λ k. (length (w.elements (held x)) < count) × (size_of k ≡ lack count (w.elements (held x))))
   counts_held x count lack (Ok n) h = count_held x count n h
   counts_held x count lack (Err k) h = h
 
-  pub held_views : (v : View J) → ((i j : J) → IsSame w i j → v.value i ≡ v.value j) → (x y : S) → IsSame seen_held x y → (held_view held label v).value x ≡ (held_view held label v).value y
+  pub held_views : (v : View J) → ((i j : J) → IsSame w i j → v.value i ≡ v.value j) → (x y : S) → IsSame seen_held x y →
+      (held_view held label v).value x ≡ (held_view held label v).value y
   held_views v views x y h = both_are (views (held x) (held y) (held_same x y h)) (ap (λ m. m.1) h.mark_is)
 
-  pub held_tells : (v : View J) → ((i j : J) → v.value i ≡ v.value j → IsSame w i j) → (x y : S) → (held_view held label v).value x ≡ (held_view held label v).value y → IsSame seen_held x y
+  pub held_tells : (v : View J) → ((i j : J) → v.value i ≡ v.value j → IsSame w i j) → (x y : S) →
+      (held_view held label v).value x ≡ (held_view held label v).value y → IsSame seen_held x y
   held_tells v tells x y e = same_held x y (tells (held x) (held y) (ap (λ p. p.0) e)) (ap (λ p. p.1) e)

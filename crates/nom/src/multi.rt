@@ -1,5 +1,6 @@
 //! Repetition, folds, and what stands behind a length.
 
+pub use nom_alloc::{FoldMany0Alloc, fold_many0_alloc};
 pub use nom_folds::{
     Fold, FoldMany0, FoldMany1, FoldManyMN, Many, Many0Count, Many1Count, fold, fold_many_m_n,
     fold_many0, fold_many1, many, many0_count, many1_count,

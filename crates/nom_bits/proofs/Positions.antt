@@ -1,5 +1,6 @@
 -- Positions among bits, and what follows them.
-use Rattle.std.proofs.Common.{◌≡◌, ℕ, ◌+◌, ◌-◌, ◌*◌, ◌/◌, ◌%◌, ◌<◌, ◌≤◌, zero, suc, List, [], ◌∷◌, ◌++◌, length, take, append-nil, refl, sym, ◌∙◌, ap, subst, arith, lit<, length-append}
+use Rattle.std.proofs.Common.{◌≡◌, ℕ, ◌+◌, ◌-◌, ◌*◌, ◌/◌, ◌%◌, ◌<◌, ◌≤◌, zero, suc, List, [], ◌∷◌, ◌++◌, length, take, append-nil, refl, sym, ◌∙◌, ap}
+use Rattle.std.proofs.Common.{subst, arith, lit<, length-append}
 use Rattle.std.proofs.lemmas.List.{take-append-drop}
 use Rattle.std.proofs.Math.ListN.{drop_of_length-le}
 use Rattle.std.proofs.Math.Nat.{mod-lt}
@@ -25,7 +26,8 @@ module _ {I : Type 0} (w : Seen I ℕ) (l : InputLaws w) where
   skips_both : (x : I) (a : ℕ) (j : I) (b : ℕ) (k : I) → Skips w x a j → Skips w j b k → Skips w x (a + b) k
   skips_both x a j b k s t =
       let r = rest_rest w l x s.end j t.end k s.rest_is t.rest_is in
-      let count : length r.front ≡ a + b = omega (arith, ap length r.whole, length-append r.front (w.elements k), skips_length w l x a j s, skips_length w l j b k t) in
+      let count : length r.front ≡ a + b =
+      omega (arith, ap length r.whole, length-append r.front (w.elements k), skips_length w l x a j s, skips_length w l j b k t) in
       let place : IsPlace w x (s.end + t.end) = record { front = r.front; rest = w.elements k; whole = r.whole; length_is = r.length_is } in
       record { end = s.end + t.end; counted = record { place = place; count_is = count }; rest_is = r }
 
@@ -34,8 +36,16 @@ module _ {I : Type 0} (w : Seen I ℕ) (l : InputLaws w) where
   too_few x o n h k = omega (arith, bits_left w x o, h, k)
 
   -- bytes that are skipped, and no more, where bits of one more are wanted
-  pub none_more : (x : I) (o n : ℕ) (j : I) → 0 < n → Skips w x ((o + n) / 8) j → 0 < (o + n) % 8 → input_len w j ≡ 0 → length ((seen_bits w).elements (x, o)) < n
-  none_more x o n j h s r e = omega (arith, bits_left w x o, skips_length w l x ((o + n) / 8) j s, ap length (no_length w.weight l.positive (w.elements j) e), h, r)
+  pub none_more : (x : I) (o n : ℕ) (j : I) → 0 < n → Skips w x ((o + n) / 8) j → 0 < (o + n) % 8 → input_len w j ≡ 0 →
+      length ((seen_bits w).elements (x, o)) < n
+  none_more x o n j h s r e = omega (
+    arith,
+    bits_left w x o,
+    skips_length w l x ((o + n) / 8) j s,
+    ap length (no_length w.weight l.positive (w.elements j) e),
+    h,
+    r,
+  )
 
   -- a position, at its byte
   pub past_all : (x : I) (o n : ℕ) → 0 < n → length (w.elements x) < o / 8 → length ((seen_bits w).elements (x, o)) < n
@@ -45,24 +55,29 @@ module _ {I : Type 0} (w : Seen I ℕ) (l : InputLaws w) where
   none_long : (j : I) → length (w.elements j) ≡ 0 → input_len w j ≡ 0
   none_long j h = no_items w j (w.elements j) refl h
 
-  enough_of : (x : I) (o n : ℕ) (j : I) (r m : ℕ) → (o + n) % 8 ≡ r → length (w.elements j) ≡ m → length (w.elements x) ≡ (o + n) / 8 + length (w.elements j) → (0 < (o + n) % 8 → input_len w j ≡ 0 → ⊥) → n ≤ length ((seen_bits w).elements (x, o))
+  enough_of : (x : I) (o n : ℕ) (j : I) (r m : ℕ) → (o + n) % 8 ≡ r → length (w.elements j) ≡ m →
+      length (w.elements x) ≡ (o + n) / 8 + length (w.elements j) → (0 < (o + n) % 8 → input_len w j ≡ 0 → ⊥) → n ≤ length ((seen_bits w).elements (x, o))
   enough_of x o n j zero m a b e f = omega (arith, a, e, bits_left w x o)
   enough_of x o n j (suc r) zero a b e f = absurd (f (omega (arith, a)) (none_long j b))
   enough_of x o n j (suc r) (suc m) a b e f = omega (arith, b, e, bits_left w x o)
 
-  enough : (x : I) (o n : ℕ) (j : I) → length (w.elements x) ≡ (o + n) / 8 + length (w.elements j) → (0 < (o + n) % 8 → input_len w j ≡ 0 → ⊥) → n ≤ length ((seen_bits w).elements (x, o))
+  enough : (x : I) (o n : ℕ) (j : I) → length (w.elements x) ≡ (o + n) / 8 + length (w.elements j) → (0 < (o + n) % 8 → input_len w j ≡ 0 → ⊥) →
+      n ≤ length ((seen_bits w).elements (x, o))
   enough x o n j e f = enough_of x o n j ((o + n) % 8) (length (w.elements j)) refl refl e f
 
   module _ (values : (i : I) → w.IsKnown i → AreBytes (w.elements i)) where
-    passed_within : (x : I) (o n : ℕ) (j : I) → w.IsKnown x → n ≤ length ((seen_bits w).elements (x, o)) → Skips w x ((n + o) / 8) j → IsRest (seen_bits w) (x, o) n (j, (n + o) % 8)
+    passed_within : (x : I) (o n : ℕ) (j : I) → w.IsKnown x → n ≤ length ((seen_bits w).elements (x, o)) → Skips w x ((n + o) / 8) j →
+        IsRest (seen_bits w) (x, o) n (j, (n + o) % 8)
     passed_within x o n j h f s = passes_bits w l values x j o n s.end h (bits_place w (x, o) n f) s.counted s.rest_is
 
     -- bits that end at a byte's end, or in a byte that is there
-    pub passed : (x : I) (o n : ℕ) (j : I) → w.IsKnown x → Skips w x ((o + n) / 8) j → (0 < (o + n) % 8 → input_len w j ≡ 0 → ⊥) → IsRest (seen_bits w) (x, o) n (j, (o + n) % 8)
+    pub passed : (x : I) (o n : ℕ) (j : I) → w.IsKnown x → Skips w x ((o + n) / 8) j → (0 < (o + n) % 8 → input_len w j ≡ 0 → ⊥) →
+        IsRest (seen_bits w) (x, o) n (j, (o + n) % 8)
     passed x o n j h s f =
         let turned : n + o ≡ o + n = omega arith in
         let total = skips_length w l x ((o + n) / 8) j s in
-        subst (λ m. IsRest (seen_bits w) (x, o) n (j, m % 8)) turned (passed_within x o n j h (enough x o n j total f) (subst (λ m. Skips w x (m / 8) j) (sym turned) s))
+        subst (λ m. IsRest (seen_bits w) (x, o) n (j, m % 8)) turned
+        (passed_within x o n j h (enough x o n j total f) (subst (λ m. Skips w x (m / 8) j) (sym turned) s))
 
     at_once : (i j : I × ℕ) → IsRest (seen_bits w) i 0 j → (seen_bits w).elements j ≡ (seen_bits w).elements i
     at_once i j r = sym (r.whole ∙ ap (λ bs. bs ++ (seen_bits w).elements j) (no_length (λ _. 1) (λ _. lit< tt) r.front r.length_is))
@@ -81,7 +96,8 @@ module _ {I : Type 0} (w : Seen I ℕ) (l : InputLaws w) where
     }
 
     -- a field behind a position
-    pub splits : (x : I) (o n : ℕ) (j : I) (rest : I × ℕ) → 0 < n → w.IsKnown x → Skips w x (o / 8) j → IsRest (seen_bits w) (j, o % 8) n rest → StandsBehind w (j, o % 8) n rest → SplitsAt w (x, o) n (j, o % 8) rest
+    pub splits : (x : I) (o n : ℕ) (j : I) (rest : I × ℕ) → 0 < n → w.IsKnown x → Skips w x (o / 8) j → IsRest (seen_bits w) (j, o % 8) n rest →
+        StandsBehind w (j, o % 8) n rest → SplitsAt w (x, o) n (j, o % 8) rest
     splits x o n j rest some h s r b =
         let there = at_byte x o j h s in
         record {
@@ -92,7 +108,8 @@ module _ {I : Type 0} (w : Seen I ℕ) (l : InputLaws w) where
         }
 
     -- fewer bits behind a position
-    pub few_behind : (x : I) (o n : ℕ) (j : I) → w.IsKnown x → Skips w x (o / 8) j → length ((seen_bits w).elements (j, o % 8)) < n → length ((seen_bits w).elements (x, o)) < n
+    pub few_behind : (x : I) (o n : ℕ) (j : I) → w.IsKnown x → Skips w x (o / 8) j → length ((seen_bits w).elements (j, o % 8)) < n →
+        length ((seen_bits w).elements (x, o)) < n
     few_behind x o n j h s k = subst (λ bs. length bs < n) (at_once (x, o) (j, o % 8) (at_byte x o j h s)) k
 
     -- no bits are a field, wherever the position is
@@ -118,15 +135,18 @@ module _ {I : Type 0} (w : Seen I ℕ) (l : InputLaws w) where
         subst (λ m. IsRest (seen_bits w) (x, o) m (j, 0)) ahead (subst (λ m. IsRest (seen_bits w) (x, o) n (j, m)) none there)
 
     -- and where it isn't, there are no bits
-    pub to_end : (x : I) (o : ℕ) (j : I) → w.IsKnown x → length (w.elements x) < o / 8 + (o % 8 + 7) / 8 → IsRest w x (input_len w x) j → IsRest (seen_bits w) (x, o) (bits_ahead w (x, o)) (j, 0)
+    pub to_end : (x : I) (o : ℕ) (j : I) → w.IsKnown x → length (w.elements x) < o / 8 + (o % 8 + 7) / 8 → IsRest w x (input_len w x) j →
+        IsRest (seen_bits w) (x, o) (bits_ahead w (x, o)) (j, 0)
     to_end x o j h few r =
         let xs = w.elements x in
         let past : length (all_bits xs) ≤ o = omega (arith, few, length-all_bits xs) in
         let none : (seen_bits w).elements (x, o) ≡ [] = drop_of_length-le (all_bits xs) past in
-        let spans : input_len w x ≡ span w.weight r.front + span w.weight (w.elements j) = ap (λ ys. span w.weight ys) r.whole ∙ span-append w.weight r.front (w.elements j) in
+        let spans : input_len w x ≡ span w.weight r.front + span w.weight (w.elements j) =
+        ap (λ ys. span w.weight ys) r.whole ∙ span-append w.weight r.front (w.elements j) in
         let end : w.elements j ≡ [] = no_length w.weight l.positive (w.elements j) (omega (arith, spans, r.length_is)) in
         let all : xs ≡ r.front = r.whole ∙ (ap (λ ys. r.front ++ ys) end ∙ append-nil r.front) in
-        let taken : take o (all_bits xs) ≡ all_bits r.front = sym (append-nil (take o (all_bits xs))) ∙ (ap (λ ys. take o (all_bits xs) ++ ys) (sym none) ∙ (take-append-drop o (all_bits xs) ∙ ap all_bits all)) in
+        let taken : take o (all_bits xs) ≡ all_bits r.front = sym (append-nil (take o (all_bits xs))) ∙
+        (ap (λ ys. take o (all_bits xs) ++ ys) (sym none) ∙ (take-append-drop o (all_bits xs) ∙ ap all_bits all)) in
         let here : IsRest (seen_bits w) (x, o) 0 (j, 0) = record {
           known = r.known;
           front = [];

@@ -13,7 +13,8 @@ use Rattle.nom_bits.specs.BitRests.{SplitsAt}
 use Rattle.nom_bits.specs.Fields.{IsField}
 
 -- an error of which a further fact follows
-pub refuses_as : {E : Type 0} {P Q : E → Type 0} {Grows : Type 0} {errors : Bool} {r : Answer.Err E (Option E) Needed} → ((e : E) → P e → Q e) → Refuses P Grows errors r → Refuses Q Grows errors r
+pub refuses_as : {E : Type 0} {P Q : E → Type 0} {Grows : Type 0} {errors : Bool} {r : Answer.Err E (Option E) Needed} → ((e : E) → P e → Q e) →
+    Refuses P Grows errors r → Refuses Q Grows errors r
 refuses_as f (inl h) = inl h
 refuses_as {P = P} {Q = Q} {errors = errors} f (inr h) = inr (h.0, built_error errors P Q h.0 f h.1, h.2)
 
@@ -24,7 +25,14 @@ fits_width number count width h k = omega (arith, h, pow_mono {i = count} {j = w
 module _ {I : Type 0} (w : Seen I ℕ) {i start rest : I × ℕ} {count : ℕ} (s : SplitsAt w i count start rest) where
   -- there are as many bits
   pub split_within : count ≤ length ((seen_bits w).elements start)
-  split_within = omega (arith, ap length s.bits_are, ap length s.rest_is.whole, length-append s.rest_is.front ((seen_bits w).elements rest), span-ones s.rest_is.front, s.rest_is.length_is)
+  split_within = omega (
+    arith,
+    ap length s.bits_are,
+    ap length s.rest_is.whole,
+    length-append s.rest_is.front ((seen_bits w).elements rest),
+    span-ones s.rest_is.front,
+    s.rest_is.length_is,
+  )
 
   pub split_long : count ≤ length ((seen_bits w).elements i)
   split_long = omega (arith, split_within, ap length s.bits_are)
@@ -32,4 +40,11 @@ module _ {I : Type 0} (w : Seen I ℕ) {i start rest : I × ℕ} {count : ℕ} (
   pub split_field : {number : ℕ} → number ≡ spelled (take count ((seen_bits w).elements start)) → IsField w i count number
   split_field e =
       let bs = (seen_bits w).elements start in
-      record { field = take count bs; rest = drop count bs; whole = sym s.bits_are ∙ sym (take-append-drop count bs); count_is = length-take-le count bs split_within; number_is = sym e }
+      record {
+        field = take count bs;
+        rest = drop count bs;
+        whole = sym s.bits_are ∙ sym (take-append-drop count bs);
+        count_is =
+            length-take-le count bs split_within;
+        number_is = sym e;
+      }

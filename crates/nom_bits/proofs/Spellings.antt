@@ -1,5 +1,6 @@
 -- Numbers that bits spell, byte by byte.
-use Rattle.std.proofs.Common.{◌≡◌, ℕ, ◌+◌, ◌-◌, ◌*◌, ◌/◌, ◌%◌, ◌^◌, ◌<◌, ◌≤◌, ◌⊎◌, inl, inr, Bool, true, false, cond, nat_eq, zero, suc, List, [], ◌∷◌, ◌++◌, length, Option, Some, None, take, drop, append-nil, min, refl, sym, ◌∙◌, ap, subst, arith}
+use Rattle.std.proofs.Common.{◌≡◌, ℕ, ◌+◌, ◌-◌, ◌*◌, ◌/◌, ◌%◌, ◌^◌, ◌<◌, ◌≤◌, ◌⊎◌, inl, inr, Bool, true, false, cond, nat_eq, zero, suc, List, []}
+use Rattle.std.proofs.Common.{◌∷◌, ◌++◌, length, Option, Some, None, take, drop, append-nil, min, refl, sym, ◌∙◌, ap, subst, arith}
 use Rattle.std.specs.Iterator.{AlwaysYields}
 use Rattle.std.proofs.lemmas.List.{drop-append-le, take-append-le, length-drop, length-take-le}
 use Rattle.std.proofs.lemmas.Nat.{pow-add, one_shl}
@@ -34,7 +35,8 @@ power_step a c p q x h e k = subst (λ m. x < (a + 1) * m) (sym e) (omega (arith
 -- and so many bits spell a number below their power of 2
 pub spelled_below : (a : ℕ) (bs : List Bool) → spelled_after a bs < (a + 1) * 2 ^ length bs
 spelled_below a [] = omega arith
-spelled_below a (b ∷ bs) = power_step a (cond b 1 0) (2 ^ length bs) (2 ^ suc (length bs)) _ (bit_small b) (pow-suc 2 (length bs)) (spelled_below (2 * a + cond b 1 0) bs)
+spelled_below a (b ∷ bs) = power_step a (cond b 1 0) (2 ^ length bs) (2 ^ suc (length bs)) _ (bit_small b) (pow-suc 2 (length bs))
+    (spelled_below (2 * a + cond b 1 0) bs)
 
 -- the bits of a byte without the first
 low-dropped : (p m b : ℕ) → drop p (low_bits (p + m) b) ≡ low_bits m b
@@ -65,7 +67,8 @@ spelled-part value b p n h =
     ∙ spelled-low_bits n value (b / 2 ^ k)
 
 -- a number with a part of a byte after it, as it is computed
-pub extends_to : (value b p n : ℕ) → p + n ≤ 8 → spelled_after value (take n (drop p (byte_bits b))) < 2 ^ 128 → value * 2 ^ n % 2 ^ 128 + b / 2 ^ (8 - p - n) % (1 * 2 ^ n % 2 ^ 16) ≡ spelled_after value (take n (drop p (byte_bits b)))
+pub extends_to : (value b p n : ℕ) → p + n ≤ 8 → spelled_after value (take n (drop p (byte_bits b))) < 2 ^ 128 →
+    value * 2 ^ n % 2 ^ 128 + b / 2 ^ (8 - p - n) % (1 * 2 ^ n % 2 ^ 16) ≡ spelled_after value (take n (drop p (byte_bits b)))
 extends_to value b p n h f =
     let part = spelled-part value b p n h in
     let below : value * 2 ^ n < 2 ^ 128 = omega (arith, part, f) in
@@ -82,7 +85,9 @@ pub record IsSpelling {S : Type 0} (steps : S → Option ℕ → S → Type 0) (
   pub enough : 0 < left → passed + left ≤ 8 * length rest
 
 -- so many bits of a byte are read: those that are left, or all of the byte's
-pub reads_byte : (value left p n b : ℕ) (xs : List ℕ) → p < 8 → n ≡ left ⊎ p + n ≡ 8 → n ≤ left → p + n ≤ 8 → spelled_after value (take left (drop p (all_bits (b ∷ xs)))) ≡ spelled_after (spelled_after value (take n (drop p (byte_bits b)))) (take (left - n) (all_bits xs))
+pub reads_byte : (value left p n b : ℕ) (xs : List ℕ) → p < 8 → n ≡ left ⊎ p + n ≡ 8 → n ≤ left → p + n ≤ 8 →
+    spelled_after value (take left (drop p (all_bits (b ∷ xs)))) ≡ spelled_after (spelled_after value (take n (drop p (byte_bits b))))
+    (take (left - n) (all_bits xs))
 reads_byte value left p n b xs h which most within =
     let bits = drop p (byte_bits b) in
     let room : length bits ≡ 8 - p = length-drop p (byte_bits b) ∙ ap (λ m. m - p) (length-byte_bits b) in
@@ -109,7 +114,8 @@ reads_byte value left p n b xs h which most within =
         ∙ ap (λ bs. bs ++ take (left - n) zs) (sym (take-length ys) ∙ ap (λ m. take m ys) e)
 
 -- what an iterator that has some items left gives next
-next_given : {S : Type 0} (steps : S → Option ℕ → S → Type 0) (s t : S) (x : ℕ) (xs : List ℕ) → AlwaysYields steps (λ x. x) s xs → steps s (Some x) t → (ys : List ℕ) × (xs ≡ x ∷ ys) × AlwaysYields steps (λ x. x) t ys
+next_given : {S : Type 0} (steps : S → Option ℕ → S → Type 0) (s t : S) (x : ℕ) (xs : List ℕ) → AlwaysYields steps (λ x. x) s xs → steps s (Some x) t →
+    (ys : List ℕ) × (xs ≡ x ∷ ys) × AlwaysYields steps (λ x. x) t ys
 next_given steps s t x [] h k = absurd (h x t k)
 next_given steps s t x (y ∷ ys) h k = (ys, ap (λ z. z ∷ ys) (sym (h.1 x t k).0), (h.1 x t k).1)
 
@@ -130,8 +136,16 @@ pub some_or_all : (left p n : ℕ) → p < 8 → n ≡ min left (8 - p) → n �
 some_or_all left p n h e = some_of left p n (left - (8 - p)) refl h e
 
 module _ {S : Type 0} (steps : S → Option ℕ → S → Type 0) where
-  pub begins : (xs : List ℕ) (o count : ℕ) (s : S) → AlwaysYields steps (λ x. x) s xs → (0 < count → o < 8) → count ≤ length (drop o (all_bits xs)) → IsSpelling steps (spelled (take count (drop o (all_bits xs)))) count o 0 s
-  begins xs o count s g h f = record { rest = xs; gives = g; to_come = refl; offset = h; enough = λ some. omega (arith, f, some, length-drop o (all_bits xs), length-all_bits xs) }
+  pub begins : (xs : List ℕ) (o count : ℕ) (s : S) → AlwaysYields steps (λ x. x) s xs → (0 < count → o < 8) → count ≤ length (drop o (all_bits xs)) →
+      IsSpelling steps (spelled (take count (drop o (all_bits xs)))) count o 0 s
+  begins xs o count s g h f = record {
+    rest = xs;
+    gives = g;
+    to_come = refl;
+    offset = h;
+    enough =
+        λ some. omega (arith, f, some, length-drop o (all_bits xs), length-all_bits xs);
+  }
 
   module _ (total left p value : ℕ) (s t : S) (r : IsSpelling steps total left p value s) where
     -- no bits are left

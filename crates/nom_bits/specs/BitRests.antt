@@ -83,7 +83,8 @@ module _ {I : Type 0} (w : Seen I ℕ) where
     -- how many bytes follow those that are skipped
     pub skips_length : (x : I) (count : ℕ) (j : I) → Skips x count j → length (w.elements x) ≡ count + length (w.elements j)
     skips_length x count j s =
-        let cut = same_cut w.weight l.positive s.rest_is.front (w.elements j) s.counted.place.front s.counted.place.rest (sym s.rest_is.whole ∙ s.counted.place.whole) (s.rest_is.length_is ∙ sym s.counted.place.length_is) in
+        let cut = same_cut w.weight l.positive s.rest_is.front (w.elements j) s.counted.place.front s.counted.place.rest
+        (sym s.rest_is.whole ∙ s.counted.place.whole) (s.rest_is.length_is ∙ sym s.counted.place.length_is) in
         omega (arith, ap length s.rest_is.whole, length-append s.rest_is.front (w.elements j), ap length cut.0, s.counted.count_is)
 
     -- the mark of bits from the first on, with no bits after them
@@ -101,14 +102,17 @@ module _ {I : Type 0} (w : Seen I ℕ) where
     as_bits false x y h r = record { elements_are = ap all_bits r.elements_are; mark_is = ap (λ m bs. past_bits w m bs) r.mark_is }
 
     -- bits that are related, as bytes
-    pub as_bytes : (longer : Bool) (x y : I) → AreBytes (w.elements x) → AreBytes (w.elements y) → Related (seen_bits w) longer (x, 0) (y, 0) → Related w longer x y
+    pub as_bytes : (longer : Bool) (x y : I) → AreBytes (w.elements x) → AreBytes (w.elements y) → Related (seen_bits w) longer (x, 0) (y, 0) →
+        Related w longer x y
     as_bytes true x y h k e =
         let bytes = e.added.bytes in
         let bits : all_bits (w.elements y) ≡ all_bits (w.elements x) ++ all_bits bytes = e.whole ∙ ap (λ bs. all_bits (w.elements x) ++ bs) e.added.bits_are in
         record {
           more = bytes;
           added = e.added.more;
-          whole = sym (bytes_of_bits (w.elements y) k) ∙ (ap whole_bytes bits ∙ (whole-all_bits (w.elements x) (all_bits bytes) h ∙ ap (λ bs. w.elements x ++ bs) (bytes_of_bits bytes e.added.are_bytes)));
+          whole = sym (bytes_of_bits (w.elements y) k) ∙
+              (ap whole_bytes bits ∙ (whole-all_bits (w.elements x) (all_bits bytes) h ∙
+              ap (λ bs. w.elements x ++ bs) (bytes_of_bits bytes e.added.are_bytes)));
           mark_is = sym (start_mark y) ∙ (ap (λ m. (m []).0) e.mark_is ∙ start_mark x);
         }
     as_bytes false x y h k r = record {
@@ -118,15 +122,23 @@ module _ {I : Type 0} (w : Seen I ℕ) where
 
     -- related bits begin before one place of their bytes
     pub same_ahead : (longer : Bool) (x y : I × ℕ) → Related (seen_bits w) longer x y → bits_ahead x ≡ bits_ahead y
-    same_ahead true x y e = omega (arith, ap length e.whole, length-append ((seen_bits w).elements x) e.more, ap length e.added.bits_are, length-all_bits e.added.bytes)
+    same_ahead true x y e = omega (
+      arith,
+      ap length e.whole,
+      length-append ((seen_bits w).elements x) e.more,
+      ap length e.added.bits_are,
+      length-all_bits e.added.bytes,
+    )
     same_ahead false x y r = ap (λ bs. length bs % 8) r.elements_are
 
     module _ (values : (i : I) → w.IsKnown i → AreBytes (w.elements i)) where
       -- the inputs of bytes at which related bits reach the next whole byte are related
-      pub ahead_related : (longer : Bool) (x y : I × ℕ) (j k : I) → Related (seen_bits w) longer x y → IsRest (seen_bits w) x (bits_ahead x) (j, 0) → IsRest (seen_bits w) y (bits_ahead y) (k, 0) → Related w longer j k
+      pub ahead_related : (longer : Bool) (x y : I × ℕ) (j k : I) → Related (seen_bits w) longer x y → IsRest (seen_bits w) x (bits_ahead x) (j, 0) →
+          IsRest (seen_bits w) y (bits_ahead y) (k, 0) → Related w longer j k
       ahead_related longer x y j k r p q =
           let there : IsRest (seen_bits w) y (bits_ahead x) (k, 0) = subst (λ n. IsRest (seen_bits w) y n (k, 0)) (sym (same_ahead longer x y r)) q in
-          as_bytes longer j k (values j p.known) (values k q.known) (rest_related (seen_bits w) (bits_lawful w) longer x y (bits_ahead x) (j, 0) (k, 0) r p there)
+          as_bytes longer j k (values j p.known) (values k q.known)
+          (rest_related (seen_bits w) (bits_lawful w) longer x y (bits_ahead x) (j, 0) (k, 0) r p there)
 
       -- bytes that are passed, as bits
       pub bytes_passed : (x : I) (n : ℕ) (j : I) → w.IsKnown x → (r : IsRest w x n j) → IsRest (seen_bits w) (x, 0) (8 * length r.front) (j, 0)
@@ -140,20 +152,31 @@ module _ {I : Type 0} (w : Seen I ℕ) where
           subst (λ o. IsRest (seen_bits w) (x, 0) (8 * c) (j, o)) none (passes_bits w l values x j 0 (8 * c) n h (bits_place (x, 0) (8 * c) within) counted r)
 
       -- bits that are passed to a whole byte, as bytes
-      pub bits_passed : (x : I) (m : ℕ) (j : I) → w.IsKnown x → IsRest (seen_bits w) (x, 0) m (j, 0) → (n : ℕ) × (c : ℕ) × IsCount w x c n × IsRest w x n j × (m ≡ 8 * c)
+      pub bits_passed : (x : I) (m : ℕ) (j : I) → w.IsKnown x → IsRest (seen_bits w) (x, 0) m (j, 0) → (n : ℕ) × (c : ℕ) × IsCount w x c n ×
+          IsRest w x n j × (m ≡ 8 * c)
       bits_passed x m j h r =
           let xs = w.elements x in
           let js = w.elements j in
           let c = length xs - length js in
-          let total : 8 * length xs ≡ m + 8 * length js = omega (arith, length-all_bits xs, ap length r.whole, length-append r.front (all_bits js), span-ones r.front, r.length_is, length-all_bits js) in
+          let total : 8 * length xs ≡ m + 8 * length js =
+          omega (arith, length-all_bits xs, ap length r.whole, length-append r.front (all_bits js), span-ones r.front, r.length_is, length-all_bits js) in
           let eight : m ≡ 8 * c = omega (arith, total) in
           let within : c ≤ length xs = omega arith in
-          let parts : all_bits xs ≡ all_bits (take c xs) ++ all_bits (drop c xs) = ap all_bits (sym (take-append-drop c xs)) ∙ all_bits-append (take c xs) (drop c xs) in
+          let parts : all_bits xs ≡ all_bits (take c xs) ++ all_bits (drop c xs) =
+          ap all_bits (sym (take-append-drop c xs)) ∙ all_bits-append (take c xs) (drop c xs) in
           let counted : length (take c xs) ≡ c = length-take-le c xs within in
-          let cut = same_cut (λ _. 1) (λ _. omega arith) r.front (all_bits js) (all_bits (take c xs)) (all_bits (drop c xs)) (sym r.whole ∙ parts) (r.length_is ∙ (eight ∙ (omega (arith, length-all_bits (take c xs), counted, span-ones (all_bits (take c xs)))))) in
+          let cut = same_cut (λ _. 1) (λ _. omega arith) r.front (all_bits js) (all_bits (take c xs)) (all_bits (drop c xs)) (sym r.whole ∙ parts)
+          (r.length_is ∙ (eight ∙ (omega (arith, length-all_bits (take c xs), counted, span-ones (all_bits (take c xs)))))) in
           let known : AreBytes (take c xs ++ drop c xs) = subst AreBytes (sym (take-append-drop c xs)) (values x h) in
           let rest : js ≡ drop c xs = same_bytes js (drop c xs) (values j r.known) (bytes_behind (take c xs) (drop c xs) known) cut.1 in
           let whole : xs ≡ take c xs ++ js = sym (take-append-drop c xs) ∙ ap (λ ys. take c xs ++ ys) (sym rest) in
-          let bytes : whole_bytes (r.front ++ []) ≡ take c xs = ap whole_bytes (append-nil r.front ∙ cut.0) ∙ bytes_of_bits (take c xs) (bytes_before (take c xs) (drop c xs) known) in
-          let mark : w.mark j ≡ w.mark_after (w.mark x) (take c xs) = sym (start_mark j) ∙ (ap (λ m. (m []).0) r.mark_is ∙ ap (λ bs. w.mark_after (w.mark x) bs) bytes) in
-          (span w.weight (take c xs), c, record { place = record { front = take c xs; rest = js; whole = whole; length_is = refl }; count_is = counted }, record { known = r.known; front = take c xs; whole = whole; length_is = refl; mark_is = mark }, eight)
+          let bytes : whole_bytes (r.front ++ []) ≡ take c xs =
+          ap whole_bytes (append-nil r.front ∙ cut.0) ∙ bytes_of_bits (take c xs) (bytes_before (take c xs) (drop c xs) known) in
+          let mark : w.mark j ≡ w.mark_after (w.mark x) (take c xs) =
+          sym (start_mark j) ∙ (ap (λ m. (m []).0) r.mark_is ∙ ap (λ bs. w.mark_after (w.mark x) bs) bytes) in (
+            span w.weight (take c xs),
+            c,
+            record { place = record { front = take c xs; rest = js; whole = whole; length_is = refl }; count_is = counted },
+            record { known = r.known; front = take c xs; whole = whole; length_is = refl; mark_is = mark },
+            eight,
+          )

@@ -12,7 +12,8 @@ use Rattle.nom_internal.specs.Outcome.Outcome.{Accept, Refuse, Fail, TooLarge, U
 use Rattle.nom_internal.specs.Meaning.{Meaning, IsLawful, IsSteady}
 use Rattle.nom_internal.specs.CaseLaws.{CaseLaws, case_lawful, case_steady}
 use Rattle.nom_bits.specs.BitRests.{all_bits-append, bits_ahead, same_counts, same_lengths, as_bits, same_ahead, ahead_related}
-use Rattle.nom_bits.specs.Bridges.{BitsBecome, BytesAccept, BytesBecome, IsTooLarge, BitsNeeded, OnTooLarge, bits_case, bits_meaning, BytesBlame, bytes_case, bytes_meaning}
+use Rattle.nom_bits.specs.Bridges.{BitsBecome, BytesAccept, BytesBecome, IsTooLarge, BitsNeeded, OnTooLarge, bits_case, bits_meaning, BytesBlame}
+use Rattle.nom_bits.specs.Bridges.{bytes_case, bytes_meaning}
 
 -- what is asked only where it is too large
 not_asked : {T : Type 0} (Fact : Type 0) (a : Outcome T) → (Fact → ⊥) → OnTooLarge Fact a → ⊥
@@ -33,7 +34,10 @@ too_many None i a b = a
 
 module _ {I : Type 0} (w : Seen I ℕ) where
   count_alike : (x y : I) (c n : ℕ) → IsSame w x y → IsCount w x c n → IsCount w y c n
-  count_alike x y c n r q = record { place = record { front = q.place.front; rest = q.place.rest; whole = sym r.elements_are ∙ q.place.whole; length_is = q.place.length_is }; count_is = q.count_is }
+  count_alike x y c n r q = record {
+    place = record { front = q.place.front; rest = q.place.rest; whole = sym r.elements_are ∙ q.place.whole; length_is = q.place.length_is };
+    count_is = q.count_is;
+  }
 
 module _ {I : Type 0} (w : Seen I ℕ) (l : InputLaws w) {T : Type 0} where
   -- of `bits`
@@ -81,7 +85,8 @@ module _ {I : Type 0} (w : Seen I ℕ) (l : InputLaws w) {T : Type 0} where
     bits_laws : CaseLaws true w (seen_bits w) (bits_case {T = T} w Converts)
     bits_laws = record {
       at_known = λ i j h a. subst (λ z. w.IsKnown z.0) (sym a.0) h;
-      at_related = λ longer stays x y j k r a b. subst (λ z. Related (seen_bits w) longer j z) (sym b.0) (subst (λ z. Related (seen_bits w) longer z (y, 0)) (sym a.0) (as_bits w l longer x y b.1 r));
+      at_related = λ longer stays x y j k r a b. subst (λ z. Related (seen_bits w) longer j z) (sym b.0)
+          (subst (λ z. Related (seen_bits w) longer z (y, 0)) (sym a.0) (as_bits w l longer x y b.1 r));
       at_alike = λ x y j r a. ((y, 0), (refl, subst AreBytes r.elements_are a.1));
       keeps = λ only. bits_keeps;
       same = λ longer stays x y a o p kx ky r s k u. bits_same longer x y a o p r s u;
@@ -110,10 +115,12 @@ module _ {I : Type 0} (w : Seen I ℕ) (l : InputLaws w) {T : Type 0} where
     bytes_keeps i (Undecided k) o (inl b) d = subst (λ z. IsDecided z) b.1 d
     bytes_keeps i (Undecided k) o (inr b) d = subst (λ z. IsDecided z) b.2 d
 
-    accept_same : (longer : Bool) (x y : I × ℕ) (n : ℕ) (t : T) (o p : Outcome T) → Related (seen_bits w) longer x y → BytesAccept w x n t o → BytesAccept w y n t p → o ≡ p
+    accept_same : (longer : Bool) (x y : I × ℕ) (n : ℕ) (t : T) (o p : Outcome T) → Related (seen_bits w) longer x y → BytesAccept w x n t o →
+        BytesAccept w y n t p → o ≡ p
     accept_same longer x y n t o p r s u =
         let counts = same_counts w l longer s.at u.at s.count u.count n (ahead_related w l values longer x y s.at u.at r s.at_is u.at_is) s.counted u.counted in
-        s.outcome_is ∙ (ap (λ m. Accept (m + 8 * s.count) t) (same_ahead w l longer x y r) ∙ (ap (λ c. Accept (bits_ahead w y + 8 * c) t) counts ∙ sym u.outcome_is))
+        s.outcome_is ∙ (ap (λ m. Accept (m + 8 * s.count) t) (same_ahead w l longer x y r) ∙
+        (ap (λ c. Accept (bits_ahead w y + 8 * c) t) counts ∙ sym u.outcome_is))
 
     bytes_same : (longer : Bool) (x y : I × ℕ) (a o p : Outcome T) → Related (seen_bits w) longer x y → BytesBecome w x a o → BytesBecome w y a p → o ≡ p
     bytes_same longer x y (Accept n t) o p r s u = accept_same longer x y n t o p r s u
@@ -151,8 +158,17 @@ module _ {I : Type 0} (w : Seen I ℕ) (l : InputLaws w) {T : Type 0} where
         record {
           front = s.at_is.front ++ all_bits f;
           rest = all_bits r;
-          whole = s.at_is.whole ∙ (ap (λ xs. s.at_is.front ++ all_bits xs) s.counted.place.whole ∙ (ap (λ bs. s.at_is.front ++ bs) (all_bits-append f r) ∙ sym (append_assoc s.at_is.front (all_bits f) (all_bits r))));
-          length_is = omega (arith, span-append (λ _. 1) s.at_is.front (all_bits f), s.at_is.length_is, span-ones (all_bits f), length-all_bits f, s.counted.count_is, same);
+          whole = s.at_is.whole ∙ (ap (λ xs. s.at_is.front ++ all_bits xs) s.counted.place.whole ∙
+              (ap (λ bs. s.at_is.front ++ bs) (all_bits-append f r) ∙ sym (append_assoc s.at_is.front (all_bits f) (all_bits r))));
+          length_is = omega (
+            arith,
+            span-append (λ _. 1) s.at_is.front (all_bits f),
+            s.at_is.length_is,
+            span-ones (all_bits f),
+            length-all_bits f,
+            s.counted.count_is,
+            same,
+          );
         }
 
     bytes_place : (i : I × ℕ) (a : Outcome T) (n : ℕ) (t : T) → BytesBecome w i a (Accept n t) → IsPlace (seen_bits w) i n
@@ -171,12 +187,14 @@ module _ {I : Type 0} (w : Seen I ℕ) (l : InputLaws w) {T : Type 0} where
     bytes_fails i (Undecided k) (inl s) = absurd (cc (s.1))
     bytes_fails i (Undecided k) (inr s) = absurd (cc (s.2))
 
-    only_fails : (Part : Bool → Type 0) (large : Bool) (i : I × ℕ) (a : Outcome T) → Part large × (large ≡ false) → BytesBecome w i a (failure large) → Part large × (a ≡ failure large)
+    only_fails : (Part : Bool → Type 0) (large : Bool) (i : I × ℕ) (a : Outcome T) → Part large × (large ≡ false) → BytesBecome w i a (failure large) →
+        Part large × (a ≡ failure large)
     only_fails Part true i a g s = absurd (cc (g.1))
     only_fails Part false i a g s = (g.0, bytes_fails i a s)
 
     module _ {E F : Type 0} (errs : Errors (I × ℕ) F) (Converts : E → F → Type 0) where
-      blames_more : (i : I × ℕ) (a : Outcome T) (X Y : E → Type 0) (f : F) → ((e : E) → X e → Y e) → BytesBlame w errs Converts i a X f → BytesBlame w errs Converts i a Y f
+      blames_more : (i : I × ℕ) (a : Outcome T) (X Y : E → Type 0) (f : F) → ((e : E) → X e → Y e) → BytesBlame w errs Converts i a X f →
+          BytesBlame w errs Converts i a Y f
       blames_more i a X Y f h (inl b) = inl (b.0, b.1, h b.0 b.2, b.3)
       blames_more i a X Y f h (inr b) = inr b
 
@@ -184,7 +202,11 @@ module _ {I : Type 0} (w : Seen I ℕ) (l : InputLaws w) {T : Type 0} where
       bytes_laws = record {
         at_known = λ i j h a. a.known;
         at_related = λ longer stays x y j k r a b. ahead_related w l values longer x y j k r a b;
-        at_alike = λ x y j r a. (j, subst (λ m. IsRest (seen_bits w) y m (j, 0)) (same_ahead w l false x y r) (rest_alike (seen_bits w) x y (bits_ahead w x) (j, 0) r a));
+        at_alike = λ x y j r a. (
+          j,
+          subst (λ m. IsRest (seen_bits w) y m (j, 0)) (same_ahead w l false x y r)
+              (rest_alike (seen_bits w) x y (bits_ahead w x) (j, 0) r a),
+        );
         keeps = λ only. bytes_keeps;
         same = λ longer stays x y a o p kx ky r s k u. bytes_same longer x y a o p r s u;
         alike = λ x y a o kx ky r s. bytes_alike x y a o r s;

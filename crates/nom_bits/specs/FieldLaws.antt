@@ -19,7 +19,8 @@ module _ {I : Type 0} (w : Seen I ℕ) where
   one_number : (i : I × ℕ) (count m n : ℕ) → IsField w i count m → IsField w i count n → m ≡ n
   one_number i count m n f g =
       let ones : length f.field ≡ length g.field = f.count_is ∙ sym g.count_is in
-      let cut = same_cut (λ _. 1) (λ _. omega arith) f.field f.rest g.field g.rest (sym f.whole ∙ g.whole) (span-ones f.field ∙ (ones ∙ sym (span-ones g.field))) in
+      let cut = same_cut (λ _. 1) (λ _. omega arith) f.field f.rest g.field g.rest (sym f.whole ∙ g.whole)
+      (span-ones f.field ∙ (ones ∙ sym (span-ones g.field))) in
       sym f.number_is ∙ (ap spelled cut.0 ∙ g.number_is)
 
   field_fits : (i : I × ℕ) (count number : ℕ) → IsField w i count number → IsShort w i count → ⊥
@@ -33,7 +34,8 @@ module _ {I : Type 0} (w : Seen I ℕ) where
       record { field = f.field; rest = there.rest; whole = there.whole; count_is = f.count_is; number_is = f.number_is }
 
   -- bits that lack in the complete mode lack on inputs that are seen alike
-  short_alike : (longer s : Bool) → (longer ≡ true → s ≡ true) → (x y : I × ℕ) (count : ℕ) → Related (seen_bits w) longer x y → s ≡ false → IsShort w x count → IsShort w y count
+  short_alike : (longer s : Bool) → (longer ≡ true → s ≡ true) → (x y : I × ℕ) (count : ℕ) → Related (seen_bits w) longer x y → s ≡ false →
+      IsShort w x count → IsShort w y count
   short_alike true true only x y count r e h = absurd (cc (e))
   short_alike true false only x y count r e h = let no : false ≡ true = only cc in absurd (cc (no))
   short_alike false s only x y count r e h = subst (λ bs. length bs < count) r.elements_are h
@@ -63,7 +65,8 @@ module _ {I : Type 0} (w : Seen I ℕ) where
     tag_short i (inl a) b = absurd (cc (a.0))
     tag_short i (inr a) b = field_fits i count a.0 a.1 b
 
-    tag_stays : (longer s : Bool) → (longer ≡ true → s ≡ true) → (x y : I × ℕ) → Related (seen_bits w) longer x y → (tagged_fields w wanted count).Refuses s x → (tagged_fields w wanted count).Refuses s y
+    tag_stays : (longer s : Bool) → (longer ≡ true → s ≡ true) → (x y : I × ℕ) → Related (seen_bits w) longer x y →
+        (tagged_fields w wanted count).Refuses s x → (tagged_fields w wanted count).Refuses s y
     tag_stays longer s only x y r (inl a) = inl (a.0, short_alike longer s only x y count r a.0 a.1)
     tag_stays longer s only x y r (inr a) = inr (a.0, field_stays longer x y count a.0 r a.1, a.2)
 
@@ -94,13 +97,17 @@ module _ {I : Type 0} (w : Seen I ℕ) where
     take_steady width count = leaf_steady (seen_bits w) (fields w count) (field_laws count) (count ≤ width) (λ i. errs.of_kind i Kind.Eof) errs.grows
 
     pub tag_lawful : (width wanted count : ℕ) → IsLawful (seen_bits w) (tag_meaning w errs width wanted count)
-    tag_lawful width wanted count = leaf_lawful (seen_bits w) (tagged_fields w wanted count) (tag_laws wanted count) (count ≤ width) (TagBlames w errs count) errs.grows
+    tag_lawful width wanted count =
+        leaf_lawful (seen_bits w) (tagged_fields w wanted count) (tag_laws wanted count) (count ≤ width) (TagBlames w errs count) errs.grows
 
     pub tag_steady : (width wanted count : ℕ) → IsSteady (seen_bits w) (tag_meaning w errs width wanted count)
-    tag_steady width wanted count = leaf_steady (seen_bits w) (tagged_fields w wanted count) (tag_laws wanted count) (count ≤ width) (TagBlames w errs count) errs.grows
+    tag_steady width wanted count =
+        leaf_steady (seen_bits w) (tagged_fields w wanted count) (tag_laws wanted count) (count ≤ width) (TagBlames w errs count) errs.grows
 
     pub bool_lawful : IsLawful (seen_bits w) (bool_meaning w errs)
-    bool_lawful = labelled_lawful (seen_bits w) (leaf_meaning (Unit {0}) (λ i. errs.of_kind i Kind.Eof) errs.grows (fields w 1)) (λ number. nat_eq number 1) (leaf_lawful (seen_bits w) (fields w 1) (field_laws 1) (Unit {0}) (λ i. errs.of_kind i Kind.Eof) errs.grows)
+    bool_lawful = labelled_lawful (seen_bits w) (leaf_meaning (Unit {0}) (λ i. errs.of_kind i Kind.Eof) errs.grows (fields w 1))
+        (λ number. nat_eq number 1) (leaf_lawful (seen_bits w) (fields w 1) (field_laws 1) (Unit {0}) (λ i. errs.of_kind i Kind.Eof) errs.grows)
 
     pub bool_steady : IsSteady (seen_bits w) (bool_meaning w errs)
-    bool_steady = labelled_steady (seen_bits w) (leaf_meaning (Unit {0}) (λ i. errs.of_kind i Kind.Eof) errs.grows (fields w 1)) (λ number. nat_eq number 1) (leaf_steady (seen_bits w) (fields w 1) (field_laws 1) (Unit {0}) (λ i. errs.of_kind i Kind.Eof) errs.grows)
+    bool_steady = labelled_steady (seen_bits w) (leaf_meaning (Unit {0}) (λ i. errs.of_kind i Kind.Eof) errs.grows (fields w 1))
+        (λ number. nat_eq number 1) (leaf_steady (seen_bits w) (fields w 1) (field_laws 1) (Unit {0}) (λ i. errs.of_kind i Kind.Eof) errs.grows)

@@ -24,7 +24,8 @@ fn following<I: Input<Item = u8>>(start: (I, usize), count: usize) -> Option<(I,
     requires offset { start.1 < 8 }
     requires some { 0 < count }
     requires count { count ≤ 128 }
-    ensures { MatchOption result (length ((seen_bits I.seen).elements start) < count) (λ rest. IsRest (seen_bits I.seen) start count rest × StandsBehind I.seen start count rest) }
+    ensures { MatchOption result (length ((seen_bits I.seen).elements start) < count)
+        (λ rest. IsRest (seen_bits I.seen) start count rest × StandsBehind I.seen start count rest) }
 {
     let (bytes, offset) = start;
     bytes.known();

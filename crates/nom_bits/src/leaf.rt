@@ -49,7 +49,8 @@ impl<I: Input<Item = u8>, O: BitUint, E: ParseError<(I, usize)>> Parser<(I, usiz
     #[inline(always)]
     fn process<OM: OutputMode>(&mut self, input: (I, usize)) -> PResult<(I, usize), O, E>
         requires sound { (take_meaning I.seen E.errors O.WIDTH self.old.count).IsSound }
-        ensures shown { ShowsMeaning (seen_bits I.seen) (λ t v. v ≡ O.of_bits t) (take_meaning I.seen E.errors O.WIDTH self.old.count) (modes OM.Output.BUILDS OM.Error.BUILDS OM.Incomplete.STREAMING) input result }
+        ensures shown { ShowsMeaning (seen_bits I.seen) (λ t v. v ≡ O.of_bits t) (take_meaning I.seen E.errors O.WIDTH self.old.count)
+            (modes OM.Output.BUILDS OM.Error.BUILDS OM.Incomplete.STREAMING) input result }
         ensures kept { self.new.count ≡ self.old.count }
         // The pair that is left.
         ensures pair { IfOk result (λ accepted. StandsBehind I.seen input self.old.count accepted.0) }
@@ -104,7 +105,8 @@ impl<I: Input<Item = u8>, O: BitUint, E: ParseError<(I, usize)>> Parser<(I, usiz
     #[inline(always)]
     fn process<OM: OutputMode>(&mut self, input: (I, usize)) -> PResult<(I, usize), O, E>
         requires sound { (tag_meaning I.seen E.errors O.WIDTH self.old.pattern self.old.count).IsSound }
-        ensures shown { ShowsMeaning (seen_bits I.seen) (λ t v. v ≡ O.of_bits t) (tag_meaning I.seen E.errors O.WIDTH self.old.pattern self.old.count) (modes OM.Output.BUILDS OM.Error.BUILDS OM.Incomplete.STREAMING) input result }
+        ensures shown { ShowsMeaning (seen_bits I.seen) (λ t v. v ≡ O.of_bits t) (tag_meaning I.seen E.errors O.WIDTH self.old.pattern self.old.count)
+            (modes OM.Output.BUILDS OM.Error.BUILDS OM.Incomplete.STREAMING) input result }
         ensures kept { ◌≡◌ {A = ℕ × ℕ} (self.new.pattern, self.new.count) (self.old.pattern, self.old.count) }
         // The pair that is left.
         ensures pair { IfOk result (λ accepted. StandsBehind I.seen input self.old.count accepted.0) }
@@ -159,7 +161,8 @@ impl<I: Input<Item = u8>, E: ParseError<(I, usize)>> Parser<(I, usize)> for Bool
     #[inline(always)]
     fn process<OM: OutputMode>(&mut self, input: (I, usize)) -> PResult<(I, usize), bool, E>
         requires sound { (bool_meaning I.seen E.errors).IsSound }
-        ensures shown { ShowsMeaning (seen_bits I.seen) (λ t v. v ≡ t) (bool_meaning I.seen E.errors) (modes OM.Output.BUILDS OM.Error.BUILDS OM.Incomplete.STREAMING) input result }
+        ensures shown { ShowsMeaning (seen_bits I.seen) (λ t v. v ≡ t) (bool_meaning I.seen E.errors)
+            (modes OM.Output.BUILDS OM.Error.BUILDS OM.Incomplete.STREAMING) input result }
         // The pair that is left.
         ensures pair { IfOk result (λ accepted. StandsBehind I.seen input 1 accepted.0) }
     {

@@ -30,7 +30,8 @@ no_branch_laws w = record {
 }
 
 module _ {S I A V E : Type 0} (w : Seen I A) (e : Errors I E) (part : S → Meaning I V E) where
-  others_lawful : ((s : S) → (part s).IsSound → IsLawful w (part s)) → (m : Meaning I (ℕ × V) E) (k : ℕ) (ss : List S) → (others_meaning e part m k ss).IsSound → IsLawful w m → IsLawful w (others_meaning e part m k ss)
+  others_lawful : ((s : S) → (part s).IsSound → IsLawful w (part s)) → (m : Meaning I (ℕ × V) E) (k : ℕ) (ss : List S) →
+      (others_meaning e part m k ss).IsSound → IsLawful w m → IsLawful w (others_meaning e part m k ss)
   others_lawful p m k [] h l = l
   others_lawful p m k (s ∷ ss) h l =
       let b = branch_meaning k (part s) in
@@ -43,9 +44,11 @@ module _ {S I A V E : Type 0} (w : Seen I A) (e : Errors I E) (part : S → Mean
   list_lawful p (s ∷ ss) h =
       let a = branch_meaning 0 (part s) in
       let sound = sound_before e part a 1 ss h in
-      closed_lawful w (others_meaning e part a 1 ss) (λ i. e.appended i Alt) e.grows (others_lawful p a 1 ss h (labelled_lawful w (part s) (λ t. (0, t)) (p s sound)))
+      closed_lawful w (others_meaning e part a 1 ss)
+      (λ i. e.appended i Alt) e.grows (others_lawful p a 1 ss h (labelled_lawful w (part s) (λ t. (0, t)) (p s sound)))
 
-  others_steady : ((s : S) → (part s).IsSound → IsSteady w (part s)) → (m : Meaning I (ℕ × V) E) (k : ℕ) (ss : List S) → (others_meaning e part m k ss).IsSound → IsSteady w m → IsSteady w (others_meaning e part m k ss)
+  others_steady : ((s : S) → (part s).IsSound → IsSteady w (part s)) → (m : Meaning I (ℕ × V) E) (k : ℕ) (ss : List S) →
+      (others_meaning e part m k ss).IsSound → IsSteady w m → IsSteady w (others_meaning e part m k ss)
   others_steady p m k [] h l = l
   others_steady p m k (s ∷ ss) h l =
       let b = branch_meaning k (part s) in
@@ -58,7 +61,8 @@ module _ {S I A V E : Type 0} (w : Seen I A) (e : Errors I E) (part : S → Mean
   list_steady p (s ∷ ss) h =
       let a = branch_meaning 0 (part s) in
       let sound = sound_before e part a 1 ss h in
-      closed_steady w (others_meaning e part a 1 ss) (λ i. e.appended i Alt) e.grows (others_steady p a 1 ss h (labelled_steady w (part s) (λ t. (0, t)) (p s sound)))
+      closed_steady w (others_meaning e part a 1 ss)
+      (λ i. e.appended i Alt) e.grows (others_steady p a 1 ss h (labelled_steady w (part s) (λ t. (0, t)) (p s sound)))
 
 -- one element stands at a place, and the fact of each is its own
 stands_once : {S : Type 0} (ss : List S) (k : ℕ) (x y : S) → StandsAt ss k x → StandsAt ss k y → x ≡ y
@@ -73,7 +77,8 @@ each_at P (x ∷ xs) (suc k) s h l = each_at P xs k s h.1 l
 
 module _ {S I V O E : Type 0} (e : Errors I E) (part : S → Meaning I V E) (view : View O) (IsOutput : S → V → O → Type 0) (Pins : S → Type 0) where
   -- two outputs of one tree are seen alike, where each parser pins
-  pub list_pinned : ((s : S) → (part s).IsSound → Pins s → IsPinned view (IsOutput s)) → (ss : List S) → (list_meaning e part ss).IsSound → Each Pins ss → IsPinned view (ListOutput IsOutput ss)
+  pub list_pinned : ((s : S) → (part s).IsSound → Pins s → IsPinned view (IsOutput s)) → (ss : List S) → (list_meaning e part ss).IsSound →
+      Each Pins ss → IsPinned view (ListOutput IsOutput ss)
   list_pinned f ss h p t a b x y =
       let one = stands_once ss t.0 y.0 x.0 y.1 x.1 in
       f x.0 (sound_at e part ss t.0 x.0 x.1 h) (each_at Pins ss t.0 x.0 p x.1) t.1 a b x.2 (subst (λ z. IsOutput z t.1 b) one y.2)

@@ -92,7 +92,8 @@ impl<
 
     ghost pinned = { λ s k p. (next_pins (pins (A.IsOutput s.0) (A.pinned s.0 k.0 p.0)) (pins (B.IsOutput s.1) (B.pinned s.1 k.1 p.1))).pinned };
 
-    ghost steady = { λ s k. choice_steady A.Error.errors (next_stays A.Error.errors (stays (A.meaning s.0) (A.steady s.0 k.0)) (stays (B.meaning s.1) (B.steady s.1 k.1))) };
+    ghost steady = { λ s k. choice_steady A.Error.errors
+        (next_stays A.Error.errors (stays (A.meaning s.0) (A.steady s.0 k.0)) (stays (B.meaning s.1) (B.steady s.1 k.1))) };
 }
 
 impl<
@@ -116,7 +117,8 @@ impl<
 
     ghost IsOutput = { λ s. EitherOutput (EitherOutput (A.IsOutput s.0) (B.IsOutput s.1)) (C.IsOutput s.2) };
 
-    ghost meaning = { λ s. choice_meaning A.Error.errors (next_meaning A.Error.errors (next_meaning A.Error.errors (A.meaning s.0) (B.meaning s.1)) (C.meaning s.2)) };
+    ghost meaning = { λ s. choice_meaning A.Error.errors
+        (next_meaning A.Error.errors (next_meaning A.Error.errors (A.meaning s.0) (B.meaning s.1)) (C.meaning s.2)) };
 
     ghost Pins = { λ s. A.Pins s.0 × B.Pins s.1 × C.Pins s.2 };
 
@@ -128,7 +130,8 @@ impl<
         close(answer, input, ErrorKind::Alt)
     }
 
-    ghost lawful = { λ s k. choice_lawful A.Error.errors (next_lawful A.Error.errors (next_lawful A.Error.errors (A.lawful s.0 k.0.0) (B.lawful s.1 k.0.1)) (C.lawful s.2 k.1)) };
+    ghost lawful = { λ s k. choice_lawful A.Error.errors
+        (next_lawful A.Error.errors (next_lawful A.Error.errors (A.lawful s.0 k.0.0) (B.lawful s.1 k.0.1)) (C.lawful s.2 k.1)) };
 }
 
 impl<
@@ -139,9 +142,12 @@ impl<
 > StreamParser<I> for Choice<(A, B, C)> {
     ghost use Rattle.nom_branch.specs.AlternativeLaws.{stays, next_stays, choice_steady, pins, next_pins};
 
-    ghost pinned = { λ s k p. (next_pins (next_pins (pins (A.IsOutput s.0) (A.pinned s.0 k.0.0 p.0)) (pins (B.IsOutput s.1) (B.pinned s.1 k.0.1 p.1))) (pins (C.IsOutput s.2) (C.pinned s.2 k.1 p.2))).pinned };
+    ghost pinned = { λ s k p. (next_pins (next_pins (pins (A.IsOutput s.0) (A.pinned s.0 k.0.0 p.0)) (pins (B.IsOutput s.1) (B.pinned s.1 k.0.1 p.1)))
+        (pins (C.IsOutput s.2) (C.pinned s.2 k.1 p.2))).pinned };
 
-    ghost steady = { λ s k. choice_steady A.Error.errors (next_stays A.Error.errors (next_stays A.Error.errors (stays (A.meaning s.0) (A.steady s.0 k.0.0)) (stays (B.meaning s.1) (B.steady s.1 k.0.1))) (stays (C.meaning s.2) (C.steady s.2 k.1))) };
+    ghost steady = { λ s k. choice_steady A.Error.errors
+        (next_stays A.Error.errors (next_stays A.Error.errors (stays (A.meaning s.0) (A.steady s.0 k.0.0)) (stays (B.meaning s.1) (B.steady s.1 k.0.1)))
+        (stays (C.meaning s.2) (C.steady s.2 k.1))) };
 }
 
 impl<
@@ -166,7 +172,9 @@ impl<
 
     ghost IsOutput = { λ s. EitherOutput (EitherOutput (EitherOutput (A.IsOutput s.0) (B.IsOutput s.1)) (C.IsOutput s.2)) (D.IsOutput s.3) };
 
-    ghost meaning = { λ s. choice_meaning A.Error.errors (next_meaning A.Error.errors (next_meaning A.Error.errors (next_meaning A.Error.errors (A.meaning s.0) (B.meaning s.1)) (C.meaning s.2)) (D.meaning s.3)) };
+    ghost meaning = { λ s. choice_meaning A.Error.errors
+        (next_meaning A.Error.errors (next_meaning A.Error.errors (next_meaning A.Error.errors (A.meaning s.0) (B.meaning s.1)) (C.meaning s.2))
+        (D.meaning s.3)) };
 
     ghost Pins = { λ s. A.Pins s.0 × B.Pins s.1 × C.Pins s.2 × D.Pins s.3 };
 
@@ -179,7 +187,9 @@ impl<
         close(answer, input, ErrorKind::Alt)
     }
 
-    ghost lawful = { λ s k. choice_lawful A.Error.errors (next_lawful A.Error.errors (next_lawful A.Error.errors (next_lawful A.Error.errors (A.lawful s.0 k.0.0.0) (B.lawful s.1 k.0.0.1)) (C.lawful s.2 k.0.1)) (D.lawful s.3 k.1)) };
+    ghost lawful = { λ s k. choice_lawful A.Error.errors
+        (next_lawful A.Error.errors (next_lawful A.Error.errors (next_lawful A.Error.errors (A.lawful s.0 k.0.0.0) (B.lawful s.1 k.0.0.1))
+        (C.lawful s.2 k.0.1)) (D.lawful s.3 k.1)) };
 }
 
 impl<
@@ -191,9 +201,14 @@ impl<
 > StreamParser<I> for Choice<(A, B, C, D)> {
     ghost use Rattle.nom_branch.specs.AlternativeLaws.{stays, next_stays, choice_steady, pins, next_pins};
 
-    ghost pinned = { λ s k p. (next_pins (next_pins (next_pins (pins (A.IsOutput s.0) (A.pinned s.0 k.0.0.0 p.0)) (pins (B.IsOutput s.1) (B.pinned s.1 k.0.0.1 p.1))) (pins (C.IsOutput s.2) (C.pinned s.2 k.0.1 p.2))) (pins (D.IsOutput s.3) (D.pinned s.3 k.1 p.3))).pinned };
+    ghost pinned = { λ s k p. (next_pins
+        (next_pins (next_pins (pins (A.IsOutput s.0) (A.pinned s.0 k.0.0.0 p.0)) (pins (B.IsOutput s.1) (B.pinned s.1 k.0.0.1 p.1)))
+        (pins (C.IsOutput s.2) (C.pinned s.2 k.0.1 p.2))) (pins (D.IsOutput s.3) (D.pinned s.3 k.1 p.3))).pinned };
 
-    ghost steady = { λ s k. choice_steady A.Error.errors (next_stays A.Error.errors (next_stays A.Error.errors (next_stays A.Error.errors (stays (A.meaning s.0) (A.steady s.0 k.0.0.0)) (stays (B.meaning s.1) (B.steady s.1 k.0.0.1))) (stays (C.meaning s.2) (C.steady s.2 k.0.1))) (stays (D.meaning s.3) (D.steady s.3 k.1))) };
+    ghost steady = { λ s k. choice_steady A.Error.errors
+        (next_stays A.Error.errors (next_stays A.Error.errors
+        (next_stays A.Error.errors (stays (A.meaning s.0) (A.steady s.0 k.0.0.0)) (stays (B.meaning s.1) (B.steady s.1 k.0.0.1)))
+        (stays (C.meaning s.2) (C.steady s.2 k.0.1))) (stays (D.meaning s.3) (D.steady s.3 k.1))) };
 }
 
 impl<
@@ -217,9 +232,12 @@ impl<
     // The branch that is taken, and its tree.
     ghost Tree = { (((A.Tree ⊎ B.Tree) ⊎ C.Tree) ⊎ D.Tree) ⊎ E.Tree };
 
-    ghost IsOutput = { λ s. EitherOutput (EitherOutput (EitherOutput (EitherOutput (A.IsOutput s.0) (B.IsOutput s.1)) (C.IsOutput s.2)) (D.IsOutput s.3)) (E.IsOutput s.4) };
+    ghost IsOutput = { λ s. EitherOutput
+        (EitherOutput (EitherOutput (EitherOutput (A.IsOutput s.0) (B.IsOutput s.1)) (C.IsOutput s.2)) (D.IsOutput s.3)) (E.IsOutput s.4) };
 
-    ghost meaning = { λ s. choice_meaning A.Error.errors (next_meaning A.Error.errors (next_meaning A.Error.errors (next_meaning A.Error.errors (next_meaning A.Error.errors (A.meaning s.0) (B.meaning s.1)) (C.meaning s.2)) (D.meaning s.3)) (E.meaning s.4)) };
+    ghost meaning = { λ s. choice_meaning A.Error.errors
+        (next_meaning A.Error.errors (next_meaning A.Error.errors
+        (next_meaning A.Error.errors (next_meaning A.Error.errors (A.meaning s.0) (B.meaning s.1)) (C.meaning s.2)) (D.meaning s.3)) (E.meaning s.4)) };
 
     ghost Pins = { λ s. A.Pins s.0 × B.Pins s.1 × C.Pins s.2 × D.Pins s.3 × E.Pins s.4 };
 
@@ -233,7 +251,10 @@ impl<
         close(answer, input, ErrorKind::Alt)
     }
 
-    ghost lawful = { λ s k. choice_lawful A.Error.errors (next_lawful A.Error.errors (next_lawful A.Error.errors (next_lawful A.Error.errors (next_lawful A.Error.errors (A.lawful s.0 k.0.0.0.0) (B.lawful s.1 k.0.0.0.1)) (C.lawful s.2 k.0.0.1)) (D.lawful s.3 k.0.1)) (E.lawful s.4 k.1)) };
+    ghost lawful = { λ s k. choice_lawful A.Error.errors
+        (next_lawful A.Error.errors (next_lawful A.Error.errors
+        (next_lawful A.Error.errors (next_lawful A.Error.errors (A.lawful s.0 k.0.0.0.0) (B.lawful s.1 k.0.0.0.1)) (C.lawful s.2 k.0.0.1))
+        (D.lawful s.3 k.0.1)) (E.lawful s.4 k.1)) };
 }
 
 impl<
@@ -246,9 +267,16 @@ impl<
 > StreamParser<I> for Choice<(A, B, C, D, E)> {
     ghost use Rattle.nom_branch.specs.AlternativeLaws.{stays, next_stays, choice_steady, pins, next_pins};
 
-    ghost pinned = { λ s k p. (next_pins (next_pins (next_pins (next_pins (pins (A.IsOutput s.0) (A.pinned s.0 k.0.0.0.0 p.0)) (pins (B.IsOutput s.1) (B.pinned s.1 k.0.0.0.1 p.1))) (pins (C.IsOutput s.2) (C.pinned s.2 k.0.0.1 p.2))) (pins (D.IsOutput s.3) (D.pinned s.3 k.0.1 p.3))) (pins (E.IsOutput s.4) (E.pinned s.4 k.1 p.4))).pinned };
+    ghost pinned = { λ s k p. (next_pins
+        (next_pins (next_pins (next_pins (pins (A.IsOutput s.0) (A.pinned s.0 k.0.0.0.0 p.0)) (pins (B.IsOutput s.1) (B.pinned s.1 k.0.0.0.1 p.1)))
+        (pins (C.IsOutput s.2) (C.pinned s.2 k.0.0.1 p.2))) (pins (D.IsOutput s.3) (D.pinned s.3 k.0.1 p.3)))
+        (pins (E.IsOutput s.4) (E.pinned s.4 k.1 p.4))).pinned };
 
-    ghost steady = { λ s k. choice_steady A.Error.errors (next_stays A.Error.errors (next_stays A.Error.errors (next_stays A.Error.errors (next_stays A.Error.errors (stays (A.meaning s.0) (A.steady s.0 k.0.0.0.0)) (stays (B.meaning s.1) (B.steady s.1 k.0.0.0.1))) (stays (C.meaning s.2) (C.steady s.2 k.0.0.1))) (stays (D.meaning s.3) (D.steady s.3 k.0.1))) (stays (E.meaning s.4) (E.steady s.4 k.1))) };
+    ghost steady = { λ s k. choice_steady A.Error.errors
+        (next_stays A.Error.errors (next_stays A.Error.errors
+        (next_stays A.Error.errors (next_stays A.Error.errors (stays (A.meaning s.0) (A.steady s.0 k.0.0.0.0))
+        (stays (B.meaning s.1) (B.steady s.1 k.0.0.0.1))) (stays (C.meaning s.2) (C.steady s.2 k.0.0.1))) (stays (D.meaning s.3) (D.steady s.3 k.0.1)))
+        (stays (E.meaning s.4) (E.steady s.4 k.1))) };
 }
 
 impl<
@@ -273,9 +301,14 @@ impl<
     // The branch that is taken, and its tree.
     ghost Tree = { ((((A.Tree ⊎ B.Tree) ⊎ C.Tree) ⊎ D.Tree) ⊎ E.Tree) ⊎ F.Tree };
 
-    ghost IsOutput = { λ s. EitherOutput (EitherOutput (EitherOutput (EitherOutput (EitherOutput (A.IsOutput s.0) (B.IsOutput s.1)) (C.IsOutput s.2)) (D.IsOutput s.3)) (E.IsOutput s.4)) (F.IsOutput s.5) };
+    ghost IsOutput = { λ s. EitherOutput
+        (EitherOutput (EitherOutput (EitherOutput (EitherOutput (A.IsOutput s.0) (B.IsOutput s.1)) (C.IsOutput s.2)) (D.IsOutput s.3)) (E.IsOutput s.4))
+        (F.IsOutput s.5) };
 
-    ghost meaning = { λ s. choice_meaning A.Error.errors (next_meaning A.Error.errors (next_meaning A.Error.errors (next_meaning A.Error.errors (next_meaning A.Error.errors (next_meaning A.Error.errors (A.meaning s.0) (B.meaning s.1)) (C.meaning s.2)) (D.meaning s.3)) (E.meaning s.4)) (F.meaning s.5)) };
+    ghost meaning = { λ s. choice_meaning A.Error.errors
+        (next_meaning A.Error.errors (next_meaning A.Error.errors
+        (next_meaning A.Error.errors (next_meaning A.Error.errors (next_meaning A.Error.errors (A.meaning s.0) (B.meaning s.1)) (C.meaning s.2))
+        (D.meaning s.3)) (E.meaning s.4)) (F.meaning s.5)) };
 
     ghost Pins = { λ s. A.Pins s.0 × B.Pins s.1 × C.Pins s.2 × D.Pins s.3 × E.Pins s.4 × F.Pins s.5 };
 
@@ -290,7 +323,10 @@ impl<
         close(answer, input, ErrorKind::Alt)
     }
 
-    ghost lawful = { λ s k. choice_lawful A.Error.errors (next_lawful A.Error.errors (next_lawful A.Error.errors (next_lawful A.Error.errors (next_lawful A.Error.errors (next_lawful A.Error.errors (A.lawful s.0 k.0.0.0.0.0) (B.lawful s.1 k.0.0.0.0.1)) (C.lawful s.2 k.0.0.0.1)) (D.lawful s.3 k.0.0.1)) (E.lawful s.4 k.0.1)) (F.lawful s.5 k.1)) };
+    ghost lawful = { λ s k. choice_lawful A.Error.errors
+        (next_lawful A.Error.errors (next_lawful A.Error.errors
+        (next_lawful A.Error.errors (next_lawful A.Error.errors (next_lawful A.Error.errors (A.lawful s.0 k.0.0.0.0.0) (B.lawful s.1 k.0.0.0.0.1))
+        (C.lawful s.2 k.0.0.0.1)) (D.lawful s.3 k.0.0.1)) (E.lawful s.4 k.0.1)) (F.lawful s.5 k.1)) };
 }
 
 impl<
@@ -304,9 +340,18 @@ impl<
 > StreamParser<I> for Choice<(A, B, C, D, E, F)> {
     ghost use Rattle.nom_branch.specs.AlternativeLaws.{stays, next_stays, choice_steady, pins, next_pins};
 
-    ghost pinned = { λ s k p. (next_pins (next_pins (next_pins (next_pins (next_pins (pins (A.IsOutput s.0) (A.pinned s.0 k.0.0.0.0.0 p.0)) (pins (B.IsOutput s.1) (B.pinned s.1 k.0.0.0.0.1 p.1))) (pins (C.IsOutput s.2) (C.pinned s.2 k.0.0.0.1 p.2))) (pins (D.IsOutput s.3) (D.pinned s.3 k.0.0.1 p.3))) (pins (E.IsOutput s.4) (E.pinned s.4 k.0.1 p.4))) (pins (F.IsOutput s.5) (F.pinned s.5 k.1 p.5))).pinned };
+    ghost pinned = { λ s k p. (next_pins
+        (next_pins (next_pins (next_pins
+        (next_pins (pins (A.IsOutput s.0) (A.pinned s.0 k.0.0.0.0.0 p.0)) (pins (B.IsOutput s.1) (B.pinned s.1 k.0.0.0.0.1 p.1)))
+        (pins (C.IsOutput s.2) (C.pinned s.2 k.0.0.0.1 p.2))) (pins (D.IsOutput s.3) (D.pinned s.3 k.0.0.1 p.3)))
+        (pins (E.IsOutput s.4) (E.pinned s.4 k.0.1 p.4))) (pins (F.IsOutput s.5) (F.pinned s.5 k.1 p.5))).pinned };
 
-    ghost steady = { λ s k. choice_steady A.Error.errors (next_stays A.Error.errors (next_stays A.Error.errors (next_stays A.Error.errors (next_stays A.Error.errors (next_stays A.Error.errors (stays (A.meaning s.0) (A.steady s.0 k.0.0.0.0.0)) (stays (B.meaning s.1) (B.steady s.1 k.0.0.0.0.1))) (stays (C.meaning s.2) (C.steady s.2 k.0.0.0.1))) (stays (D.meaning s.3) (D.steady s.3 k.0.0.1))) (stays (E.meaning s.4) (E.steady s.4 k.0.1))) (stays (F.meaning s.5) (F.steady s.5 k.1))) };
+    ghost steady = { λ s k. choice_steady A.Error.errors
+        (next_stays A.Error.errors (next_stays A.Error.errors
+        (next_stays A.Error.errors (next_stays A.Error.errors
+        (next_stays A.Error.errors (stays (A.meaning s.0) (A.steady s.0 k.0.0.0.0.0)) (stays (B.meaning s.1) (B.steady s.1 k.0.0.0.0.1)))
+        (stays (C.meaning s.2) (C.steady s.2 k.0.0.0.1))) (stays (D.meaning s.3) (D.steady s.3 k.0.0.1))) (stays (E.meaning s.4) (E.steady s.4 k.0.1)))
+        (stays (F.meaning s.5) (F.steady s.5 k.1))) };
 }
 
 impl<
@@ -327,14 +372,28 @@ impl<
 
     ghost State = { A.State × B.State × C.State × D.State × E.State × F.State × G.State };
 
-    ghost state = { λ p. (A.state p.parser.0, B.state p.parser.1, C.state p.parser.2, D.state p.parser.3, E.state p.parser.4, F.state p.parser.5, G.state p.parser.6) };
+    ghost state = { λ p. (
+      A.state p.parser.0,
+      B.state p.parser.1,
+      C.state p.parser.2,
+      D.state p.parser.3,
+      E.state p.parser.4,
+      F.state p.parser.5,
+      G.state p.parser.6,
+    ) };
 
     // The branch that is taken, and its tree.
     ghost Tree = { (((((A.Tree ⊎ B.Tree) ⊎ C.Tree) ⊎ D.Tree) ⊎ E.Tree) ⊎ F.Tree) ⊎ G.Tree };
 
-    ghost IsOutput = { λ s. EitherOutput (EitherOutput (EitherOutput (EitherOutput (EitherOutput (EitherOutput (A.IsOutput s.0) (B.IsOutput s.1)) (C.IsOutput s.2)) (D.IsOutput s.3)) (E.IsOutput s.4)) (F.IsOutput s.5)) (G.IsOutput s.6) };
+    ghost IsOutput = { λ s. EitherOutput
+        (EitherOutput (EitherOutput (EitherOutput (EitherOutput (EitherOutput (A.IsOutput s.0) (B.IsOutput s.1)) (C.IsOutput s.2)) (D.IsOutput s.3))
+        (E.IsOutput s.4)) (F.IsOutput s.5)) (G.IsOutput s.6) };
 
-    ghost meaning = { λ s. choice_meaning A.Error.errors (next_meaning A.Error.errors (next_meaning A.Error.errors (next_meaning A.Error.errors (next_meaning A.Error.errors (next_meaning A.Error.errors (next_meaning A.Error.errors (A.meaning s.0) (B.meaning s.1)) (C.meaning s.2)) (D.meaning s.3)) (E.meaning s.4)) (F.meaning s.5)) (G.meaning s.6)) };
+    ghost meaning = { λ s. choice_meaning A.Error.errors
+        (next_meaning A.Error.errors (next_meaning A.Error.errors
+        (next_meaning A.Error.errors (next_meaning A.Error.errors
+        (next_meaning A.Error.errors (next_meaning A.Error.errors (A.meaning s.0) (B.meaning s.1)) (C.meaning s.2)) (D.meaning s.3)) (E.meaning s.4))
+        (F.meaning s.5)) (G.meaning s.6)) };
 
     ghost Pins = { λ s. A.Pins s.0 × B.Pins s.1 × C.Pins s.2 × D.Pins s.3 × E.Pins s.4 × F.Pins s.5 × G.Pins s.6 };
 
@@ -350,7 +409,11 @@ impl<
         close(answer, input, ErrorKind::Alt)
     }
 
-    ghost lawful = { λ s k. choice_lawful A.Error.errors (next_lawful A.Error.errors (next_lawful A.Error.errors (next_lawful A.Error.errors (next_lawful A.Error.errors (next_lawful A.Error.errors (next_lawful A.Error.errors (A.lawful s.0 k.0.0.0.0.0.0) (B.lawful s.1 k.0.0.0.0.0.1)) (C.lawful s.2 k.0.0.0.0.1)) (D.lawful s.3 k.0.0.0.1)) (E.lawful s.4 k.0.0.1)) (F.lawful s.5 k.0.1)) (G.lawful s.6 k.1)) };
+    ghost lawful = { λ s k. choice_lawful A.Error.errors
+        (next_lawful A.Error.errors (next_lawful A.Error.errors
+        (next_lawful A.Error.errors (next_lawful A.Error.errors
+        (next_lawful A.Error.errors (next_lawful A.Error.errors (A.lawful s.0 k.0.0.0.0.0.0) (B.lawful s.1 k.0.0.0.0.0.1)) (C.lawful s.2 k.0.0.0.0.1))
+        (D.lawful s.3 k.0.0.0.1)) (E.lawful s.4 k.0.0.1)) (F.lawful s.5 k.0.1)) (G.lawful s.6 k.1)) };
 }
 
 impl<
@@ -365,7 +428,18 @@ impl<
 > StreamParser<I> for Choice<(A, B, C, D, E, F, G)> {
     ghost use Rattle.nom_branch.specs.AlternativeLaws.{stays, next_stays, choice_steady, pins, next_pins};
 
-    ghost pinned = { λ s k p. (next_pins (next_pins (next_pins (next_pins (next_pins (next_pins (pins (A.IsOutput s.0) (A.pinned s.0 k.0.0.0.0.0.0 p.0)) (pins (B.IsOutput s.1) (B.pinned s.1 k.0.0.0.0.0.1 p.1))) (pins (C.IsOutput s.2) (C.pinned s.2 k.0.0.0.0.1 p.2))) (pins (D.IsOutput s.3) (D.pinned s.3 k.0.0.0.1 p.3))) (pins (E.IsOutput s.4) (E.pinned s.4 k.0.0.1 p.4))) (pins (F.IsOutput s.5) (F.pinned s.5 k.0.1 p.5))) (pins (G.IsOutput s.6) (G.pinned s.6 k.1 p.6))).pinned };
+    ghost pinned = { λ s k p. (next_pins
+        (next_pins (next_pins (next_pins
+        (next_pins (next_pins (pins (A.IsOutput s.0) (A.pinned s.0 k.0.0.0.0.0.0 p.0)) (pins (B.IsOutput s.1) (B.pinned s.1 k.0.0.0.0.0.1 p.1)))
+        (pins (C.IsOutput s.2) (C.pinned s.2 k.0.0.0.0.1 p.2))) (pins (D.IsOutput s.3) (D.pinned s.3 k.0.0.0.1 p.3)))
+        (pins (E.IsOutput s.4) (E.pinned s.4 k.0.0.1 p.4))) (pins (F.IsOutput s.5) (F.pinned s.5 k.0.1 p.5)))
+        (pins (G.IsOutput s.6) (G.pinned s.6 k.1 p.6))).pinned };
 
-    ghost steady = { λ s k. choice_steady A.Error.errors (next_stays A.Error.errors (next_stays A.Error.errors (next_stays A.Error.errors (next_stays A.Error.errors (next_stays A.Error.errors (next_stays A.Error.errors (stays (A.meaning s.0) (A.steady s.0 k.0.0.0.0.0.0)) (stays (B.meaning s.1) (B.steady s.1 k.0.0.0.0.0.1))) (stays (C.meaning s.2) (C.steady s.2 k.0.0.0.0.1))) (stays (D.meaning s.3) (D.steady s.3 k.0.0.0.1))) (stays (E.meaning s.4) (E.steady s.4 k.0.0.1))) (stays (F.meaning s.5) (F.steady s.5 k.0.1))) (stays (G.meaning s.6) (G.steady s.6 k.1))) };
+    ghost steady = { λ s k. choice_steady A.Error.errors
+        (next_stays A.Error.errors (next_stays A.Error.errors
+        (next_stays A.Error.errors (next_stays A.Error.errors
+        (next_stays A.Error.errors (next_stays A.Error.errors (stays (A.meaning s.0) (A.steady s.0 k.0.0.0.0.0.0))
+        (stays (B.meaning s.1) (B.steady s.1 k.0.0.0.0.0.1))) (stays (C.meaning s.2) (C.steady s.2 k.0.0.0.0.1)))
+        (stays (D.meaning s.3) (D.steady s.3 k.0.0.0.1))) (stays (E.meaning s.4) (E.steady s.4 k.0.0.1))) (stays (F.meaning s.5) (F.steady s.5 k.0.1)))
+        (stays (G.meaning s.6) (G.steady s.6 k.1))) };
 }

@@ -1,5 +1,6 @@
 //! Collections of items that come one after another.
-ghost use Rattle.std.specs.Prelude.{◌≡◌, ℕ, ◌+◌, ◌<◌, ◌≤◌, List, [], ◌∷◌, ◌++◌, length, map, chars, encode_utf8, is_ok, OnErr, if◌then◌else◌, string_bytes, string_capacity, string_len, vec_capacity, vec_len};
+ghost use Rattle.std.specs.Prelude.{◌≡◌, ℕ, ◌+◌, ◌<◌, ◌≤◌, List, [], ◌∷◌, ◌++◌, length, map, chars, encode_utf8, is_ok, OnErr, if◌then◌else◌};
+ghost use Rattle.std.specs.Prelude.{string_bytes, string_capacity, string_len, vec_capacity, vec_len};
 ghost use Rattle.std.specs.VecDeque.{deque_items, deque_len, deque_capacity};
 
 use nom_error::answer::OutOfMemory;

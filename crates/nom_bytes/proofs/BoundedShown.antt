@@ -1,5 +1,6 @@
 -- What is shown of a run with a bound.
-use Rattle.std.proofs.Common.{◌≡◌, ℕ, ◌-◌, ◌<◌, ◌≤◌, min, max, ◌⊎◌, Option, Some, None, Bool, true, false, [], length, refl, sym, ◌∙◌, ap, subst, arith, append-nil, inl, inr}
+use Rattle.std.proofs.Common.{◌≡◌, ℕ, ◌-◌, ◌<◌, ◌≤◌, min, max, ◌⊎◌, Option, Some, None, Bool, true, false, [], length, refl, sym, ◌∙◌, ap, subst}
+use Rattle.std.proofs.Common.{arith, append-nil, inl, inr}
 use Rattle.std.proofs.lemmas.Bool.{cases_lt}
 use Rattle.nom_traits.specs.Input.{Seen, input_len}
 use Rattle.nom_traits.specs.Slices.{Slice}
@@ -14,7 +15,8 @@ closed k = absurd (cc (k))
 
 module _ {I A : Type 0} (w : Seen I A) (Test : A → Bool → Type 0) (most : ℕ) where
   -- the run is all of the input
-  abbrev all_run : (i : I) (n count : ℕ) → n ≡ input_len w i → Reaches w Test most i None count → IsRunSlice w Test (Some most) false i n (record { items = w.elements i; mark = w.mark i })
+  abbrev all_run : (i : I) (n count : ℕ) → n ≡ input_len w i → Reaches w Test most i None count →
+      IsRunSlice w Test (Some most) false i n (record { items = w.elements i; mark = w.mark i })
   all_run i n count e h = record {
     first = record { rest = []; whole = sym (append-nil (w.elements i)); length_is = sym e; mark_is = refl };
     meets = h.0;
@@ -48,11 +50,13 @@ module _ {I A : Type 0} (w : Seen I A) (Test : A → Bool → Type 0) (most leas
   abbrev all_items : I → Slice w
   all_items i = record { items = w.elements i; mark = w.mark i }
 
-  with_item : (s : Bool) (i : I) (n count : ℕ) (t : Slice w) → IsRunSlice w Test (Some most) true i n t → length t.items ≡ count → (least ≤ count) ⊎ (count ≡ most) → Answers s i (Accept n t)
+  with_item : (s : Bool) (i : I) (n count : ℕ) (t : Slice w) → IsRunSlice w Test (Some most) true i n t → length t.items ≡ count → (least ≤ count) ⊎
+      (count ≡ most) → Answers s i (Accept n t)
   with_item s i n count t r e (inl h) = (run_closed w Test (Some most) s i n t r, inl (omega (arith, e, h)))
   with_item s i n count t r e (inr h) = (run_closed w Test (Some most) s i n t r, inr (e ∙ h, r.followed refl))
 
-  pub item_follows : (s : Bool) (i : I) (o : Option ℕ) (n count : ℕ) → o ≡ Some n → Reaches w Test most i o count → min least most ≤ count → (t : Slice w) × Answers s i (Accept n t)
+  pub item_follows : (s : Bool) (i : I) (o : Option ℕ) (n count : ℕ) → o ≡ Some n → Reaches w Test most i o count → min least most ≤ count →
+      (t : Slice w) × Answers s i (Accept n t)
   item_follows s i o n count q a h =
       let r = subst (λ z. Reaches w Test most i z count) q a in
       let bounded : count ≤ most = omega (arith, r.1.bounded, r.2) in
@@ -63,7 +67,8 @@ module _ {I A : Type 0} (w : Seen I A) (Test : A → Bool → Type 0) (most leas
       let r = subst (λ z. Reaches w Test most i z count) q a in
       (n, r.0, run_closed w Test (Some most) s i n r.0 r.1, none_enough least most (length r.0.items) (length r.1.first.rest) (omega (arith, r.2, h)))
 
-  pub all_enough : (s : Bool) (i : I) (o : Option ℕ) (n count : ℕ) → s ≡ false → o ≡ None → n ≡ input_len w i → Reaches w Test most i o count → least ≤ count → (t : Slice w) × Answers s i (Accept n t)
+  pub all_enough : (s : Bool) (i : I) (o : Option ℕ) (n count : ℕ) → s ≡ false → o ≡ None → n ≡ input_len w i → Reaches w Test most i o count →
+      least ≤ count → (t : Slice w) × Answers s i (Accept n t)
   all_enough s i o n count e q f a k =
       let h = subst (λ z. Reaches w Test most i z count) q a in
       (all_items i, subst (λ b. Answers b i (Accept n (all_items i))) (sym e) (all_run w Test most i n count f h, inl (omega (arith, h.1, k))))
@@ -71,9 +76,11 @@ module _ {I A : Type 0} (w : Seen I A) (Test : A → Bool → Type 0) (most leas
   pub all_short : (s : Bool) (i : I) (o : Option ℕ) (count : ℕ) → s ≡ false → o ≡ None → Reaches w Test most i o count → count < least → Answers s i Refuse
   all_short s i o count e q a k =
       let h = subst (λ z. Reaches w Test most i z count) q a in
-      subst (λ b. Answers b i Refuse) (sym e) (input_len w i, all_items i, all_run w Test most i (input_len w i) count refl h, all_few least most (length (w.elements i)) (omega (arith, h.1, k)))
+      subst (λ b. Answers b i Refuse) (sym e)
+      (input_len w i, all_items i, all_run w Test most i (input_len w i) count refl h, all_few least most (length (w.elements i)) (omega (arith, h.1, k)))
 
-  pub more_needed : (s : Bool) (i : I) (o : Option ℕ) (count n size : ℕ) → s ≡ true → o ≡ None → n ≡ input_len w i → size ≡ max 1 (least - n) → Reaches w Test most i o count → Answers s i (Undecided (Some size))
+  pub more_needed : (s : Bool) (i : I) (o : Option ℕ) (count n size : ℕ) → s ≡ true → o ≡ None → n ≡ input_len w i → size ≡ max 1 (least - n) →
+      Reaches w Test most i o count → Answers s i (Undecided (Some size))
   more_needed s i o count n size e q f g a =
       let h = subst (λ z. Reaches w Test most i z count) q a in
       (e, (h.0, omega (arith, h.1, h.2), ap Some (g ∙ ap (λ m. max 1 (least - m)) f)))

@@ -1,5 +1,6 @@
 -- The items of an input, one by one, each with its place, and how many were passed.
-use Rattle.std.proofs.Common.{◌≡◌, ℕ, ◌+◌, ◌≤◌, Bool, true, false, Option, Some, None, List, [], ◌∷◌, ◌++◌, length, sym, ◌∙◌, ap, subst, refl, arith, append_assoc, append-nil, length-append, ◌⊎◌, inl, inr}
+use Rattle.std.proofs.Common.{◌≡◌, ℕ, ◌+◌, ◌≤◌, Bool, true, false, Option, Some, None, List, [], ◌∷◌, ◌++◌, length, sym, ◌∙◌, ap, subst, refl, arith}
+use Rattle.std.proofs.Common.{append_assoc, append-nil, length-append, ◌⊎◌, inl, inr}
 use Rattle.std.specs.Iterator.{AlwaysYields}
 use Rattle.std.specs.List.{All}
 use Rattle.std.proofs.lemmas.List.Elements.{All-nil, All-cons, All-append}
@@ -36,13 +37,15 @@ module _ {I A S : Type 0} (w : Seen I A) (Test : A → Bool → Type 0) (steps :
     place : n ≡ span w.weight passed
     gives : AlwaysYields steps (λ p. p) t (placed w.weight (n + w.weight x) rest)
 
-  next_of : (i : I) (s t : S) (count n : ℕ) (x : A) (passed rest : List A) → w.elements i ≡ passed ++ rest → All (λ z. Test z true) passed → length passed ≡ count → AlwaysYields steps (λ p. p) s (placed w.weight (span w.weight passed) rest) → steps s (Some (n, x)) t → IsNext i count n x t
+  next_of : (i : I) (s t : S) (count n : ℕ) (x : A) (passed rest : List A) → w.elements i ≡ passed ++ rest → All (λ z. Test z true) passed →
+      length passed ≡ count → AlwaysYields steps (λ p. p) s (placed w.weight (span w.weight passed) rest) → steps s (Some (n, x)) t → IsNext i count n x t
   next_of i s t count n x passed [] e h c g k = absurd (g (n, x) t k)
   next_of i s t count n x passed (y ∷ rest) e h c g k =
       let r = g.1 (n, x) t k in
       let place : n ≡ span w.weight passed = ap (λ p. p.0) r.0 in
       let item : x ≡ y = ap (λ p. p.1) r.0 in
-      let gives : AlwaysYields steps (λ p. p) t (placed w.weight (n + w.weight y) rest) = subst (λ m. AlwaysYields steps (λ p. p) t (placed w.weight (m + w.weight y) rest)) (sym place) r.1 in
+      let gives : AlwaysYields steps (λ p. p) t (placed w.weight (n + w.weight y) rest) =
+      subst (λ m. AlwaysYields steps (λ p. p) t (placed w.weight (m + w.weight y) rest)) (sym place) r.1 in
       record {
         passed = passed;
         rest = rest;
@@ -69,7 +72,8 @@ module _ {I A S : Type 0} (w : Seen I A) (Test : A → Bool → Type 0) (steps :
         gives = subst (λ m. AlwaysYields steps (λ p. p) t (placed w.weight m r.rest)) place r.gives;
       }
 
-  pub count_stops : (i : I) (s t : S) (most count n : ℕ) (x : A) → IsCounting i count s → steps s (Some (n, x)) t → count ≤ most → (count ≡ most) ⊎ Test x false → (b : Slice w) × IsRunSlice w Test (Some most) true i n b × (length b.items ≡ count)
+  pub count_stops : (i : I) (s t : S) (most count n : ℕ) (x : A) → IsCounting i count s → steps s (Some (n, x)) t → count ≤ most → (count ≡ most) ⊎
+      Test x false → (b : Slice w) × IsRunSlice w Test (Some most) true i n b × (length b.items ≡ count)
   count_stops i s t most count n x h k b e =
       let r = next_in i s t count n x h k in
       let same : count ≡ length r.passed = sym r.counted in (
@@ -84,11 +88,13 @@ module _ {I A S : Type 0} (w : Seen I A) (Test : A → Bool → Type 0) (steps :
         r.counted,
       )
 
-  ends_of : (i : I) (s t : S) (n : ℕ) (passed rest : List A) → w.elements i ≡ passed ++ rest → AlwaysYields steps (λ p. p) s (placed w.weight n rest) → steps s None t → w.elements i ≡ passed
+  ends_of : (i : I) (s t : S) (n : ℕ) (passed rest : List A) → w.elements i ≡ passed ++ rest → AlwaysYields steps (λ p. p) s (placed w.weight n rest) →
+      steps s None t → w.elements i ≡ passed
   ends_of i s t n passed [] e g k = e ∙ append-nil passed
   ends_of i s t n passed (y ∷ rest) e g k = absurd (g.0 t k)
 
-  pub count_ends : (i : I) (s t : S) (most count : ℕ) → IsCounting i count s → steps s None t → count ≤ most → All (λ x. Test x true) (w.elements i) × (length (w.elements i) ≡ count) × (count ≤ most)
+  pub count_ends : (i : I) (s t : S) (most count : ℕ) → IsCounting i count s → steps s None t → count ≤ most → All (λ x. Test x true) (w.elements i) ×
+      (length (w.elements i) ≡ count) × (count ≤ most)
   count_ends i s t most count h k b =
       let all : w.elements i ≡ h.passed = ends_of i s t (span w.weight h.passed) h.passed h.rest h.whole h.gives k in
       (subst (All (λ x. Test x true)) (sym all) h.meets, ap length all ∙ h.counted, b)

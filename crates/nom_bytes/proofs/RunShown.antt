@@ -1,5 +1,6 @@
 -- What a split of an input after its run shows.
-use Rattle.std.proofs.Common.{◌≡◌, ℕ, ◌-◌, ◌<◌, ◌≤◌, max, cond, ◌⊎◌, Bool, true, false, Result, Ok, Option, Some, None, List, [], ◌∷◌, length, refl, sym, ap, subst, arith, inl, inr}
+use Rattle.std.proofs.Common.{◌≡◌, ℕ, ◌-◌, ◌<◌, ◌≤◌, max, cond, ◌⊎◌, Bool, true, false, Result, Ok, Option, Some, None, List, [], ◌∷◌, length, refl}
+use Rattle.std.proofs.Common.{sym, ap, subst, arith, inl, inr}
 use Rattle.std.specs.Prelude as Std
 use Rattle.std.specs.List.{All}
 use Rattle.std.proofs.lemmas.List.Elements.{All-nil}
@@ -35,7 +36,8 @@ one_lacks : (wanted : Bool) (n : ℕ) → Some 1 ≡ Some (max 1 (cond wanted 1 
 one_lacks true n = let one : 1 ≡ max 1 (1 - n) = omega arith in ap Some one
 one_lacks false n = let one : 1 ≡ max 1 (0 - n) = omega arith in ap Some one
 
-module _ {I A : Type 0} (w : Seen I A) (l : InputLaws w) (Meets Ends : A → Type 0) (Test : A → Bool → Type 0) (meets : (x : A) → Meets x → Test x true) (ends : (x : A) → Ends x → Test x false) where
+module _ {I A : Type 0} (w : Seen I A) (l : InputLaws w) (Meets Ends : A → Type 0) (Test : A → Bool → Type 0) (meets : (x : A) → Meets x → Test x true)
+    (ends : (x : A) → Ends x → Test x false) where
   abbrev items_of : (s : Bool) (i : I) (n : ℕ) → IsRunLength w Meets Ends s i n → Slice w
   items_of s i n r = record { items = r.run; mark = w.mark i }
 
@@ -62,7 +64,10 @@ module _ {I A : Type 0} (w : Seen I A) (l : InputLaws w) (Meets Ends : A → Typ
     Shows r = ShowsMeaning w (IsSeenAs w) (leaf_meaning (Unit {0}) Blames Grows (runs w Test None (cond wanted 1 0))) mode i r
 
     -- a split after the run, where one item is wanted at least or none, shows the run's meaning, whatever its premise
-    pub split_shown : (IsRefusal : Answer.Err E (Option E) Needed → Type 0) → ((e : Answer.Err E (Option E) Needed) → IsRefusal e → Refuses (Blames i) Grows mode.errors e) → (r : Result (I × Option I) (Answer.Err E (Option E) Needed)) → Splits w Meets Ends mode.streaming i wanted (FrontBuilt w mode.outputs) IsRefusal r → Shows r
+    pub split_shown : (IsRefusal : Answer.Err E (Option E) Needed → Type 0) →
+        ((e : Answer.Err E (Option E) Needed) → IsRefusal e → Refuses (Blames i) Grows mode.errors e) →
+        (r : Result (I × Option I) (Answer.Err E (Option E) Needed)) →
+        Splits w Meets Ends mode.streaming i wanted (FrontBuilt w mode.outputs) IsRefusal r → Shows r
     split_shown IsRefusal refuses (Ok p) h =
         let run = run_of mode.streaming i h.0 h.1 in
         let built = built_error mode.outputs _ _ p.1 (λ v f. front_seen w l i h.0 v (items_of mode.streaming i h.0 h.1) f run.first) h.4 in

@@ -15,17 +15,20 @@ use Rattle.nom_internal.specs.Meaning.{ShowsMeaning}
 use Rattle.nom_internal.proofs.Shown.{accepted, undecided}
 use Rattle.nom_bytes.specs.Tags.{tag_meaning}
 
-module _ {I A T E : Type 0} (w : Seen I A) (errs : Errors I E) (size : T → ℕ) (Compares : T → List A → CompareResult → Type 0) (c : CompareLaws w size Compares) (tag : T) (mode : Modes) (i : I) (known : w.IsKnown i) where
+module _ {I A T E : Type 0} (w : Seen I A) (errs : Errors I E) (size : T → ℕ) (Compares : T → List A → CompareResult → Type 0)
+    (c : CompareLaws w size Compares) (tag : T) (mode : Modes) (i : I) (known : w.IsKnown i) where
   abbrev Shows : Result (I × Option I) (Answer.Err E (Option E) Needed) → Type 0
   Shows r = ShowsMeaning w (IsSeenAs w) (tag_meaning w errs size Compares tag) mode i r
 
-  pub tag_found : (n : ℕ) (j : I) (x : Option I) → n ≡ size tag → Compares tag (w.elements i) Compared.Ok → IsRest w i n j → ((t : Slice w) → IsFirst w i n t → Built mode.outputs (IsSeenAs w t) x) → Shows (Ok (j, x))
+  pub tag_found : (n : ℕ) (j : I) (x : Option I) → n ≡ size tag → Compares tag (w.elements i) Compared.Ok → IsRest w i n j →
+      ((t : Slice w) → IsFirst w i n t → Built mode.outputs (IsSeenAs w t) x) → Shows (Ok (j, x))
   tag_found n j x e a r built =
       let first = place_first w i n (subst (λ m. IsPlace w i m) (sym e) (c.place tag i known a)) in
       accepted _ r (e, first, a) (built _ first)
 
   -- what is lacking of the tag, of length n, is needed
-  pub tag_begun : (n m : ℕ) (k : Needed) → mode.streaming ≡ true → n ≡ size tag → m ≡ input_len w i → Compares tag (w.elements i) Compared.Incomplete → (0 < n - m → size_of k ≡ Some (n - m)) → Shows (Err (Incomplete k))
+  pub tag_begun : (n m : ℕ) (k : Needed) → mode.streaming ≡ true → n ≡ size tag → m ≡ input_len w i → Compares tag (w.elements i) Compared.Incomplete →
+      (0 < n - m → size_of k ≡ Some (n - m)) → Shows (Err (Incomplete k))
   tag_begun n m k more e f a asks =
       let lack : n - m ≡ size tag - input_len w i = omega (arith, e, f) in
       let some : 0 < n - m = omega (arith, e, f, c.shorter tag i known a) in

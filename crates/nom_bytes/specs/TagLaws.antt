@@ -53,14 +53,19 @@ module _ {I A T : Type 0} (w : Seen I A) (size : T → ℕ) (Compares : T → Li
     accepted_refused = λ s i n t h a b. found_refused s i h a.2 b;
     accepted_lacks = λ i n t k h a b. ok_or_incomplete i h a.2 b.0;
     refused_lacks = λ i k h a b. refused_lacks i h a b.0;
-    accepted_stays = λ longer s only x y n t kx ky r a. (a.0, first_related w longer x y n t r a.1, open_stays w (λ xs. Compares tag xs Compared.Ok) (c.ok_stays tag) longer x y kx ky r a.2);
+    accepted_stays = λ longer s only x y n t kx ky r a. (
+      a.0,
+      first_related w longer x y n t r a.1,
+      open_stays w (λ xs. Compares tag xs Compared.Ok) (c.ok_stays tag) longer x y kx ky r a.2,
+    );
     refused_stays = refused_stays;
     lack_alike = λ x y k kx ky r a. subst (λ xs. Compares tag xs Compared.Incomplete × (k ≡ Some (size tag - span w.weight xs))) r.elements_are a;
     accepted_settles = λ i n t h a. a;
     refused_settles = λ i h a. refused_settles i a;
   }
 
-module _ {I A T E : Type 0} (w : Seen I A) (l : InputLaws w) (errs : Errors I E) (size : T → ℕ) (Compares : T → List A → CompareResult → Type 0) (c : CompareLaws w size Compares) (tag : T) where
+module _ {I A T E : Type 0} (w : Seen I A) (l : InputLaws w) (errs : Errors I E) (size : T → ℕ) (Compares : T → List A → CompareResult → Type 0)
+    (c : CompareLaws w size Compares) (tag : T) where
   pub tag_lawful : IsLawful w (tag_meaning w errs size Compares tag)
   tag_lawful = leaf_lawful w (tags w size Compares tag) (tag_laws w size Compares c tag l) (Unit {0}) (λ i. errs.of_kind i Kind.Tag) errs.grows
 

@@ -23,10 +23,12 @@ module _ {I A T : Type 0} (w : Seen I A) (Finds : T → List A → Option ℕ �
       cc (same)
 
   -- a place that is found is found in what is longer, or seen alike
-  found_stays : (longer : Bool) (x y : I) (n : ℕ) → w.IsKnown x → w.IsKnown y → Related w longer x y → Finds needle (w.elements x) (Some n) → Finds needle (w.elements y) (Some n)
+  found_stays : (longer : Bool) (x y : I) (n : ℕ) → w.IsKnown x → w.IsKnown y → Related w longer x y → Finds needle (w.elements x) (Some n) →
+      Finds needle (w.elements y) (Some n)
   found_stays longer x y n = open_stays w (λ xs. Finds needle xs (Some n)) (λ x y. f.found_stays needle x y n) longer x y
 
-  one_found : InputLaws w → (i : I) (n m : ℕ) (t u : Slice w) → w.IsKnown i → IsFirst w i n t → IsFirst w i m u → Finds needle (w.elements i) (Some n) → Finds needle (w.elements i) (Some m) → (n ≡ m) × (t ≡ u)
+  one_found : InputLaws w → (i : I) (n m : ℕ) (t u : Slice w) → w.IsKnown i → IsFirst w i n t → IsFirst w i m u → Finds needle (w.elements i) (Some n) →
+      Finds needle (w.elements i) (Some m) → (n ≡ m) × (t ≡ u)
   one_found l i n m t u h p q a b = let e = same_place i n m h a b in (e, same_length w l i n m t u p q e)
 
   module _ (one : Bool) where
@@ -64,7 +66,8 @@ module _ {I A T : Type 0} (w : Seen I A) (Finds : T → List A → Option ℕ �
       refused_settles = λ i h a. refused_settles i a;
     }
 
-module _ {I A T E : Type 0} (w : Seen I A) (l : InputLaws w) (errs : Errors I E) (Finds : T → List A → Option ℕ → Type 0) (f : FindLaws w Finds) (one : Bool) (needle : T) where
+module _ {I A T E : Type 0} (w : Seen I A) (l : InputLaws w) (errs : Errors I E) (Finds : T → List A → Option ℕ → Type 0) (f : FindLaws w Finds)
+    (one : Bool) (needle : T) where
   pub until_lawful : IsLawful w (until_meaning w errs Finds one needle)
   until_lawful = leaf_lawful w (untils w Finds one needle) (until_laws w Finds f needle one l) (Unit {0}) (λ i. errs.of_kind i Kind.TakeUntil) errs.grows
 

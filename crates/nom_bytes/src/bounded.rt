@@ -95,13 +95,15 @@ impl<I: Input, P: Predicate<I::Item>, E: ParseError<I>> Parser<I> for TakeWhileM
         }
     }
 
-    ghost lawful = { λ s k. run_lawful I.seen I.Item.IsValue I.values (P.answers s.0) (P.fixed s.0 k) (Some s.2) s.1 (P.IsSound s.0) (λ i. E.errors.of_kind i Kind.TakeWhileMN) E.errors.grows };
+    ghost lawful = { λ s k. run_lawful I.seen I.Item.IsValue I.values (P.answers s.0) (P.fixed s.0 k) (Some s.2) s.1 (P.IsSound s.0)
+        (λ i. E.errors.of_kind i Kind.TakeWhileMN) E.errors.grows };
 }
 
 impl<I: Input, P: Predicate<I::Item>, E: ParseError<I>> StreamParser<I> for TakeWhileMN<P, I, E> {
     ghost pinned = { λ s k p. slice_pinned I.seen I.view I.views };
 
-    ghost steady = { λ s k. run_steady I.seen I.Item.IsValue I.values (P.answers s.0) (P.fixed s.0 k) (Some s.2) s.1 (P.IsSound s.0) (λ i. E.errors.of_kind i Kind.TakeWhileMN) E.errors.grows };
+    ghost steady = { λ s k. run_steady I.seen I.Item.IsValue I.values (P.answers s.0) (P.fixed s.0 k) (Some s.2) s.1 (P.IsSound s.0)
+        (λ i. E.errors.of_kind i Kind.TakeWhileMN) E.errors.grows };
 }
 
 /// The first items that meet the test, `m` at least and `n` at most.

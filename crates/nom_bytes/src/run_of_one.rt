@@ -46,14 +46,16 @@ impl<I: Input, P: Predicate<I::Item>, E: ParseError<I>> Parser<I> for SplitPosit
         input.split_at_position_mode1::<OM, _, E>(|item| !predicate.meets(item), self.kind)
     }
 
-    ghost lawful = { λ s k. run_lawful I.seen I.Item.IsValue I.values (P.answers s.0) (P.fixed s.0 k) None 1 (P.IsSound s.0) (λ i. E.errors.of_kind i s.1) E.errors.grows };
+    ghost lawful = { λ s k. run_lawful I.seen I.Item.IsValue I.values (P.answers s.0) (P.fixed s.0 k) None 1 (P.IsSound s.0)
+        (λ i. E.errors.of_kind i s.1) E.errors.grows };
 }
 
 impl<I: Input, P: Predicate<I::Item>, E: ParseError<I>> StreamParser<I>
     for SplitPosition1<P, I, E> {
     ghost pinned = { λ s k p. slice_pinned I.seen I.view I.views };
 
-    ghost steady = { λ s k. run_steady I.seen I.Item.IsValue I.values (P.answers s.0) (P.fixed s.0 k) None 1 (P.IsSound s.0) (λ i. E.errors.of_kind i s.1) E.errors.grows };
+    ghost steady = { λ s k. run_steady I.seen I.Item.IsValue I.values (P.answers s.0) (P.fixed s.0 k) None 1 (P.IsSound s.0)
+        (λ i. E.errors.of_kind i s.1) E.errors.grows };
 }
 
 /// `take_while`, one item at least: where the first doesn't meet the test, it refuses with

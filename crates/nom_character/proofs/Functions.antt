@@ -34,31 +34,44 @@ module _ {I A : Type 0} (w : Seen I A) (code : A → ℕ) where
   test_laws test lack = head_laws w AnyValue (λ i h. any_values (w.elements i)) code (λ x b. b ≡ test x) (told AnyValue test) lack
 
 -- runs of a class: of none at least, as `alpha0`, or of one, as `alpha1`
-module _ {I A E : Type 0} {w : Seen I A} {view : View I} {IsError : I → E → Type 0} {RunsOut : I → Type 0} (code : A → ℕ) (class : AsciiClass) (least : ℕ) (views : (x y : I) → IsSame w x y → view.value x ≡ view.value y) where
-  pub class_func : (s : Bool) → IsParser w view (λ i r. ParsesAnswer w (IsSeenAs w) i (LeafAnswers (runs w (IsOf code class) None least) s i) (IsError i) (RunsOut i) r) (λ i. Unit {0})
+module _ {I A E : Type 0} {w : Seen I A} {view : View I} {IsError : I → E → Type 0} {RunsOut : I → Type 0} (code : A → ℕ) (class : AsciiClass)
+    (least : ℕ) (views : (x y : I) → IsSame w x y → view.value x ≡ view.value y) where
+  pub class_func : (s : Bool) → IsParser w view
+      (λ i r. ParsesAnswer w (IsSeenAs w) i (LeafAnswers (runs w (IsOf code class) None least) s i) (IsError i) (RunsOut i) r) (λ i. Unit {0})
   class_func s = leaf_func {IsError = IsError} {RunsOut = RunsOut} (class_laws w code class least) (slice_pinned w view views) s
 
-  pub class_stream_func : IsStreamParser w view (λ i r. ParsesAnswer w (IsSeenAs w) i (LeafAnswers (runs w (IsOf code class) None least) true i) (IsError i) (RunsOut i) r) (λ i. Unit {0})
+  pub class_stream_func : IsStreamParser w view
+      (λ i r. ParsesAnswer w (IsSeenAs w) i (LeafAnswers (runs w (IsOf code class) None least) true i) (IsError i) (RunsOut i) r) (λ i. Unit {0})
   class_stream_func = leaf_stream_func {IsError = IsError} {RunsOut = RunsOut} (class_laws w code class least) (slice_pinned w view views)
 
 -- ends of lines, and what stands before them, each by its laws, as `crlf_laws (λ c. c)`
-module _ {I A E : Type 0} {w : Seen I A} {view : View I} {IsError : I → E → Type 0} {RunsOut : I → Type 0} {sight : Bool → List A → Sight} (l : SightLaws sight) (views : (x y : I) → IsSame w x y → view.value x ≡ view.value y) where
-  pub sight_func : (s : Bool) → IsParser w view (λ i r. ParsesAnswer w (IsSeenAs w) i (LeafAnswers (sights w sight) s i) (IsError i) (RunsOut i) r) (λ i. Unit {0})
+module _ {I A E : Type 0} {w : Seen I A} {view : View I} {IsError : I → E → Type 0} {RunsOut : I → Type 0} {sight : Bool → List A → Sight}
+    (l : SightLaws sight) (views : (x y : I) → IsSame w x y → view.value x ≡ view.value y) where
+  pub sight_func : (s : Bool) → IsParser w view (λ i r. ParsesAnswer w (IsSeenAs w) i (LeafAnswers (sights w sight) s i) (IsError i) (RunsOut i) r)
+      (λ i. Unit {0})
   sight_func s = leaf_func {IsError = IsError} {RunsOut = RunsOut} (sight_laws w sight l) (slice_pinned w view views) s
 
-  pub sight_stream_func : IsStreamParser w view (λ i r. ParsesAnswer w (IsSeenAs w) i (LeafAnswers (sights w sight) true i) (IsError i) (RunsOut i) r) (λ i. Unit {0})
+  pub sight_stream_func : IsStreamParser w view (λ i r. ParsesAnswer w (IsSeenAs w) i (LeafAnswers (sights w sight) true i) (IsError i) (RunsOut i) r)
+      (λ i. Unit {0})
   sight_stream_func = leaf_stream_func {IsError = IsError} {RunsOut = RunsOut} (sight_laws w sight l) (slice_pinned w view views)
 
 -- `anychar`; and one character, as `newline`
 module _ {I A E : Type 0} {w : Seen I A} {IsError : I → E → Type 0} {RunsOut : I → Type 0} (code : A → ℕ) where
-  pub any_func : (s : Bool) → IsParser w itself (λ i r. ParsesAnswer w (λ t c. c ≡ t) i (LeafAnswers (heads w code (λ x b. b ≡ true) (Some 1)) s i) (IsError i) (RunsOut i) r) (λ i. Unit {0})
+  pub any_func : (s : Bool) → IsParser w itself
+      (λ i r. ParsesAnswer w (λ t c. c ≡ t) i (LeafAnswers (heads w code (λ x b. b ≡ true) (Some 1)) s i) (IsError i) (RunsOut i) r) (λ i. Unit {0})
   any_func s = leaf_func {IsError = IsError} {RunsOut = RunsOut} (test_laws w code (λ x. true) (Some 1)) value_pinned s
 
-  pub any_stream_func : IsStreamParser w itself (λ i r. ParsesAnswer w (λ t c. c ≡ t) i (LeafAnswers (heads w code (λ x b. b ≡ true) (Some 1)) true i) (IsError i) (RunsOut i) r) (λ i. Unit {0})
+  pub any_stream_func : IsStreamParser w itself
+      (λ i r. ParsesAnswer w (λ t c. c ≡ t) i (LeafAnswers (heads w code (λ x b. b ≡ true) (Some 1)) true i) (IsError i) (RunsOut i) r) (λ i. Unit {0})
   any_stream_func = leaf_stream_func {IsError = IsError} {RunsOut = RunsOut} (test_laws w code (λ x. true) (Some 1)) value_pinned
 
-  pub char_func : (wanted : ℕ) (s : Bool) → IsParser w itself (λ i r. ParsesAnswer w (λ t c. c ≡ t) i (LeafAnswers (heads w code (λ x b. b ≡ (code x == wanted)) (Some (len_utf8 wanted))) s i) (IsError i) (RunsOut i) r) (λ i. Unit {0})
+  pub char_func : (wanted : ℕ) (s : Bool) →
+      IsParser w itself (λ i r. ParsesAnswer w (λ t c. c ≡ t) i (LeafAnswers (heads w code (λ x b. b ≡ (code x == wanted)) (Some (len_utf8 wanted))) s i)
+      (IsError i) (RunsOut i) r) (λ i. Unit {0})
   char_func wanted s = leaf_func {IsError = IsError} {RunsOut = RunsOut} (test_laws w code (λ x. code x == wanted) (Some (len_utf8 wanted))) value_pinned s
 
-  pub char_stream_func : (wanted : ℕ) → IsStreamParser w itself (λ i r. ParsesAnswer w (λ t c. c ≡ t) i (LeafAnswers (heads w code (λ x b. b ≡ (code x == wanted)) (Some (len_utf8 wanted))) true i) (IsError i) (RunsOut i) r) (λ i. Unit {0})
-  char_stream_func wanted = leaf_stream_func {IsError = IsError} {RunsOut = RunsOut} (test_laws w code (λ x. code x == wanted) (Some (len_utf8 wanted))) value_pinned
+  pub char_stream_func : (wanted : ℕ) →
+      IsStreamParser w itself (λ i r. ParsesAnswer w (λ t c. c ≡ t) i
+      (LeafAnswers (heads w code (λ x b. b ≡ (code x == wanted)) (Some (len_utf8 wanted))) true i) (IsError i) (RunsOut i) r) (λ i. Unit {0})
+  char_stream_func wanted = leaf_stream_func {IsError = IsError} {RunsOut = RunsOut}
+      (test_laws w code (λ x. code x == wanted) (Some (len_utf8 wanted))) value_pinned

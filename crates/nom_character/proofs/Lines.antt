@@ -1,5 +1,6 @@
 -- What was found at the start of an input.
-use Rattle.std.proofs.Common.{◌≡◌, ℕ, ◌+◌, ◌==◌, Bool, true, false, cond, ◌||◌, suc, Option, Some, None, List, [], ◌∷◌, ◌++◌, length, refl, sym, ◌∙◌, ap, subst, arith, append-nil}
+use Rattle.std.proofs.Common.{◌≡◌, ℕ, ◌+◌, ◌==◌, Bool, true, false, cond, ◌||◌, suc, Option, Some, None, List, [], ◌∷◌, ◌++◌, length, refl, sym, ◌∙◌}
+use Rattle.std.proofs.Common.{ap, subst, arith, append-nil}
 use Rattle.std.specs.List.{All}
 use Rattle.std.proofs.lemmas.List.Elements.{All-head, All-tail}
 use Rattle.nom_error.specs.declared.answer.Needed.{Needed}
@@ -74,7 +75,8 @@ module _ {I A : Type 0} (w : Seen I A) (l : InputLaws w) where
         (w.weight x, r, e ∙ ap Stands (sym (ap length front)))
 
     -- the first item, with an `\n` wanted behind it
-    pub return_shown : (lack : Option ℕ) → sight s (w.elements i) ≡ after_return code s (Stands 2) lack (w.elements j) → (found : Sighted I) → IsNewline w code s lack j found → IsSighted w sight s i found
+    pub return_shown : (lack : Option ℕ) → sight s (w.elements i) ≡ after_return code s (Stands 2) lack (w.elements j) → (found : Sighted I) →
+        IsNewline w code s lack j found → IsSighted w sight s i found
     return_shown lack e (Found.Stands k) h =
         let whole = behind_head i j x p r in
         let behind = behind_head j k h.0 h.1 h.2 in
@@ -85,7 +87,8 @@ module _ {I A : Type 0} (w : Seen I A) (l : InputLaws w) where
     return_shown lack e Found.Absent h = e ∙ h (Stands 2)
     return_shown lack e (Found.Begins k) h = (h.0, subst (λ b. sight b (w.elements i) ≡ Begins (size_of k)) h.0 (e ∙ h.1 (Stands 2)))
 
-  module _ (code : A → ℕ) (s : Bool) (i j : I) (x : A) (p : IsHead w i x) (r : IsRest w i (w.weight x) j) (lack : Option ℕ) (two : lack ≡ Some 2) (found : Sighted I) (h : IsNewline w code s lack j found) where
+  module _ (code : A → ℕ) (s : Bool) (i j : I) (x : A) (p : IsHead w i x) (r : IsRest w i (w.weight x) j) (lack : Option ℕ) (two : lack ≡ Some 2)
+      (found : Sighted I) (h : IsNewline w code s lack j found) where
     pub crlf_shown : (code x == 13) ≡ true → IsSighted w (crlf_in code) s i found
     crlf_shown t =
         let e = ap (crlf_in code s) (behind_head i j x p r) ∙ by_true (code x == 13) (after_return code s (Stands 2) (Some 2) (w.elements j)) Absent t in
@@ -94,12 +97,15 @@ module _ {I A : Type 0} (w : Seen I A) (l : InputLaws w) where
     pub line_ending_shown : (code x == 10) ≡ false → (code x == 13) ≡ true → IsSighted w (line_ending_in code) s i found
     line_ending_shown f t =
         let after = after_return code s (Stands 2) (Some 2) (w.elements j) in
-        let e = ap (line_ending_in code s) (behind_head i j x p r) ∙ (by_false (code x == 10) (Stands 1) (cond (code x == 13) after Absent) f ∙ by_true (code x == 13) after Absent t) in
+        let e = ap (line_ending_in code s) (behind_head i j x p r) ∙
+        (by_false (code x == 10) (Stands 1) (cond (code x == 13) after Absent) f ∙ by_true (code x == 13) after Absent t) in
         return_shown code s (line_ending_in code) i j x p r (Some 2) e found (subst (λ z. IsNewline w code s z j found) two h)
 
-  pub newline_first : (code : A → ℕ) (s : Bool) (i j : I) (x : A) → (p : IsHead w i x) → (r : IsRest w i (w.weight x) j) → (code x == 10) ≡ true → IsSighted w (line_ending_in code) s i (Found.Stands j)
+  pub newline_first : (code : A → ℕ) (s : Bool) (i j : I) (x : A) → (p : IsHead w i x) → (r : IsRest w i (w.weight x) j) → (code x == 10) ≡ true →
+      IsSighted w (line_ending_in code) s i (Found.Stands j)
   newline_first code s i j x p r t =
-      let e = ap (line_ending_in code s) (behind_head i j x p r) ∙ by_true (code x == 10) (Stands 1) (cond (code x == 13) (after_return code s (Stands 2) (Some 2) (w.elements j)) Absent) t in
+      let e = ap (line_ending_in code s) (behind_head i j x p r) ∙
+      by_true (code x == 10) (Stands 1) (cond (code x == 13) (after_return code s (Stands 2) (Some 2) (w.elements j)) Absent) t in
       one_stands code s (line_ending_in code) i j x p r e
 
 -- so many items before
@@ -146,12 +152,18 @@ module _ {A : Type 0} (code : A → ℕ) (s : Bool) where
       let none = neither (code x) (All-head Passes x xs h) in
       let after = after_return code s (Stands 0) None (xs ++ ys) in
       let line = line_in code s (xs ++ ys) in
-      by_false (code x == 10) (Stands 0) (cond (code x == 13) after (one_more line)) none.0 ∙ (by_false (code x == 13) after (one_more line) none.1 ∙ (ap one_more (past xs ys (All-tail Passes x xs h)) ∙ later_more (line_in code s ys) (length xs)))
+      by_false (code x == 10) (Stands 0) (cond (code x == 13) after (one_more line)) none.0 ∙
+      (by_false (code x == 13) after (one_more line) none.1 ∙
+      (ap one_more (past xs ys (All-tail Passes x xs h)) ∙ later_more (line_in code s ys) (length xs)))
 
 module _ {I A : Type 0} (w : Seen I A) (l : InputLaws w) (code : A → ℕ) (s : Bool) where
   module _ (i : I) (x : A) (p : IsHead w i x) where
     pub line_ends : (code x == 10) ≡ true → IsLineEnd w code s i (Found.Stands i)
-    line_ends t = (refl, ap (line_in code s) p.whole ∙ by_true (code x == 10) (Stands 0) (cond (code x == 13) (after_return code s (Stands 0) None p.rest) (one_more (line_in code s p.rest))) t)
+    line_ends t = (
+      refl,
+      ap (line_in code s) p.whole ∙
+          by_true (code x == 10) (Stands 0) (cond (code x == 13) (after_return code s (Stands 0) None p.rest) (one_more (line_in code s p.rest))) t,
+    )
 
     module _ (y : A) (q : IsHead w i y) (t : is_line_code (code y) ≡ true) (f : (code x == 10) ≡ false) (j : I) (r : IsRest w i (w.weight x) j) where
       returns : line_in code s (w.elements i) ≡ after_return code s (Stands 0) None (w.elements j)
@@ -160,7 +172,8 @@ module _ {I A : Type 0} (w : Seen I A) (l : InputLaws w) (code : A → ℕ) (s :
           let is = other_one (code x) (subst (λ z. is_line_code (code z) ≡ true) (sym same) t) f in
           let after = after_return code s (Stands 0) None (w.elements j) in
           let line = one_more (line_in code s (w.elements j)) in
-          ap (line_in code s) (behind_head w l i j x p r) ∙ (by_false (code x == 10) (Stands 0) (cond (code x == 13) after line) f ∙ by_true (code x == 13) after line is)
+          ap (line_in code s) (behind_head w l i j x p r) ∙
+          (by_false (code x == 10) (Stands 0) (cond (code x == 13) after line) f ∙ by_true (code x == 13) after line is)
 
       pub return_stands : (found : Sighted I) (k : I) → found ≡ Found.Stands k → IsNewline w code s None j found → IsLineEnd w code s i (Found.Stands i)
       return_stands found k e h = let n = subst (IsNewline w code s None j) e h in (refl, returns ∙ n.3 (Stands 0))
@@ -181,7 +194,8 @@ module _ {I A : Type 0} (w : Seen I A) (l : InputLaws w) (code : A → ℕ) (s :
         let cut = same_cut w.weight l.positive r.front (w.elements j) e.run (e.item ∷ e.rest) (sym r.whole ∙ e.is_run.whole) (r.length_is ∙ sym e.length_is) in
         record { rest = e.rest; whole = cut.1 }
 
-    pub line_shown : (i j : I) (n : ℕ) → EndsAt w Meets Ends i n → IsRest w i n j → (found : Sighted I) → IsLineEnd w code s j found → IsSighted w (line_in code) s i found
+    pub line_shown : (i j : I) (n : ℕ) → EndsAt w Meets Ends i n → IsRest w i n j → (found : Sighted I) → IsLineEnd w code s j found →
+        IsSighted w (line_in code) s i found
     line_shown i j n e r found h = shown found h
       where
         cut : (r.front ≡ e.run) × (w.elements j ≡ e.item ∷ e.rest)
@@ -208,4 +222,8 @@ module _ {I A : Type 0} (w : Seen I A) (l : InputLaws w) (code : A → ℕ) (s :
           (input_len w i, r, stands ∙ ap Stands (sym (ap length cut.0)))
 
       pub all_begins : s ≡ true → IsSighted w (line_in code) s i (Found.Begins Unknown)
-      all_begins t = (t, subst (λ b. line_in code b (w.elements i) ≡ Begins None) t (no_end ∙ ap (λ a. later a (length (w.elements i))) (ended_open s None (Stands 0) t)))
+      all_begins t = (
+        t,
+        subst (λ b. line_in code b (w.elements i) ≡ Begins None) t
+            (no_end ∙ ap (λ a. later a (length (w.elements i))) (ended_open s None (Stands 0) t)),
+      )

@@ -30,7 +30,8 @@ module _ {I A : Type 0} (w : Seen I A) where
   pub head_place : (i : I) (x : A) (n : ℕ) → IsHead w i x → n ≡ w.weight x → IsPlace w i n
   head_place i x n p e = record { front = x ∷ []; rest = p.rest; whole = p.whole; length_is = omega (arith, e) }
 
-module _ {I A : Type 0} (w : Seen I A) (IsValue : A → Type 0) (values : (i : I) → w.IsKnown i → AreValues IsValue (w.elements i)) (code : A → ℕ) (Test : A → Bool → Type 0) (fixed : IsFixed IsValue Test) (lack : Option ℕ) where
+module _ {I A : Type 0} (w : Seen I A) (IsValue : A → Type 0) (values : (i : I) → w.IsKnown i → AreValues IsValue (w.elements i)) (code : A → ℕ)
+    (Test : A → Bool → Type 0) (fixed : IsFixed IsValue Test) (lack : Option ℕ) where
   abbrev Refused : Bool → I → Type 0
   Refused = (heads w code Test lack).Refuses
 

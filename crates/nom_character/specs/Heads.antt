@@ -31,7 +31,8 @@ module _ {I A : Type 0} (w : Seen I A) where
   }
 
   -- IsSound is the test's premise.
-  abbrev pub head_meaning : {E : Type 0} → (code : A → ℕ) → (Test : A → Bool → Type 0) → (IsSound : Type 0) → Errors I E → Blame → (lack : Option ℕ) → Meaning I ℕ E
+  abbrev pub head_meaning : {E : Type 0} → (code : A → ℕ) → (Test : A → Bool → Type 0) → (IsSound : Type 0) → Errors I E → Blame → (lack : Option ℕ) →
+      Meaning I ℕ E
   head_meaning code Test IsSound errs blame lack = leaf_meaning IsSound (blamed errs blame) errs.grows (heads code Test lack)
 
   -- a character; its length in UTF-8 lacks where there is no item

@@ -22,7 +22,8 @@ pub record SightLaws {A : Type 0} (sight : Bool → List A → Sight) : Type 0 w
 
 module _ {I A : Type 0} (w : Seen I A) (sight : Bool → List A → Sight) (l : SightLaws sight) where
   -- a settled answer stays
-  answer_stays : (longer s : Bool) → (longer ≡ true → s ≡ true) → (x y : I) (a : Sight) → IsSettled a → Related w longer x y → sight s (w.elements x) ≡ a → sight s (w.elements y) ≡ a
+  answer_stays : (longer s : Bool) → (longer ≡ true → s ≡ true) → (x y : I) (a : Sight) → IsSettled a → Related w longer x y →
+      sight s (w.elements x) ≡ a → sight s (w.elements y) ≡ a
   answer_stays true s only x y a d r e =
       let before : sight true (w.elements x) ≡ a = subst (λ z. sight z (w.elements x) ≡ a) (only refl) e in
       ap (sight s) r.whole ∙ (l.stays s (w.elements x) r.more (subst IsSettled (sym before) d) ∙ before)
@@ -42,7 +43,10 @@ module _ {I A : Type 0} (w : Seen I A) (sight : Bool → List A → Sight) (l : 
     accepted_refused = λ s i n t h a b. let e : ◌≡◌ {A = Sight} (Stands (length t.items)) Absent = sym a.1 ∙ b in cc (e);
     accepted_lacks = λ i n t k h a b. let e : ◌≡◌ {A = Sight} (Stands (length t.items)) (Begins k) = sym a.1 ∙ b in cc (e);
     refused_lacks = λ i k h a b. let e : ◌≡◌ {A = Sight} Absent (Begins k) = sym a ∙ b in cc (e);
-    accepted_stays = λ longer s only x y n t kx ky r a. (first_related w longer x y n t r a.0, answer_stays longer s only x y (Stands (length t.items)) tt r a.1);
+    accepted_stays = λ longer s only x y n t kx ky r a. (
+      first_related w longer x y n t r a.0,
+      answer_stays longer s only x y (Stands (length t.items)) tt r a.1,
+    );
     refused_stays = λ longer s only x y kx ky r a. answer_stays longer s only x y Absent tt r a;
     lack_alike = λ x y k kx ky r a. ap (sight true) (sym r.elements_are) ∙ a;
     accepted_settles = λ i n t h a. (a.0, settles i (Stands (length t.items)) tt a.1);
@@ -57,7 +61,8 @@ module _ {I A : Type 0} (w : Seen I A) (sight : Bool → List A → Sight) (l : 
     sight_steady = leaf_steady w (sights w sight) sight_laws (Unit {0}) (λ i. errs.of_kind i kind) errs.grows
 
 module _ {A : Type 0} (code : A → ℕ) where
-  return_stays : (s : Bool) (found : Sight) (lack : Option ℕ) (xs more : List A) → IsSettled (after_return code true found lack xs) → after_return code s found lack (xs ++ more) ≡ after_return code true found lack xs
+  return_stays : (s : Bool) (found : Sight) (lack : Option ℕ) (xs more : List A) → IsSettled (after_return code true found lack xs) →
+      after_return code s found lack (xs ++ more) ≡ after_return code true found lack xs
   return_stays s found lack [] more h = absurd h
   return_stays s found lack (x ∷ xs) more h = refl
 
@@ -78,7 +83,8 @@ module _ {A : Type 0} (code : A → ℕ) where
     where
       stays : (s : Bool) (xs more : List A) → IsSettled (line_ending_in code true xs) → line_ending_in code s (xs ++ more) ≡ line_ending_in code true xs
       stays s [] more h = absurd h
-      stays s (x ∷ xs) more h = by_test (code x == 10) _ _ _ _ (λ k. refl) (by_test (code x == 13) _ _ _ _ (return_stays s (Stands 2) (Some 2) xs more) (λ k. refl)) h
+      stays s (x ∷ xs) more h = by_test (code x == 10) _ _ _ _ (λ k. refl)
+          (by_test (code x == 13) _ _ _ _ (return_stays s (Stands 2) (Some 2) xs more) (λ k. refl)) h
 
   settled_less : (a : Sight) → IsSettled (one_more a) → IsSettled a
   settled_less (Stands n) h = tt
@@ -87,7 +93,10 @@ module _ {A : Type 0} (code : A → ℕ) where
 
   line_stays : (s : Bool) (xs more : List A) → IsSettled (line_in code true xs) → line_in code s (xs ++ more) ≡ line_in code true xs
   line_stays s [] more h = absurd h
-  line_stays s (x ∷ xs) more h = by_test (code x == 10) _ _ _ _ (λ k. refl) (by_test (code x == 13) _ _ _ _ (return_stays s (Stands 0) None xs more) (λ k. ap one_more (line_stays s xs more (settled_less (line_in code true xs) k)))) h
+  line_stays s (x ∷ xs) more h =
+      by_test (code x == 10) _ _ _ _ (λ k. refl)
+      (by_test (code x == 13) _ _ _ _ (return_stays s (Stands 0) None xs more)
+      (λ k. ap one_more (line_stays s xs more (settled_less (line_in code true xs) k)))) h
 
   pub line_laws : SightLaws (line_in code)
   line_laws = record { stays = line_stays }

@@ -81,7 +81,8 @@ IsSighted w sight s i (Found.Begins k) = (s ≡ true) × (sight true (w.elements
 
 -- what was found where an `\n` is wanted
 abbrev pub IsNewline : {I A : Type 0} → Seen I A → (code : A → ℕ) → Bool → Option ℕ → I → Sighted I → Type 0
-IsNewline {A = A} w code s lack i (Found.Stands j) = (x : A) × IsHead w i x × IsRest w i (w.weight x) j × ((found : Sight) → after_return code s found lack (w.elements i) ≡ found)
+IsNewline {A = A} w code s lack i (Found.Stands j) =
+    (x : A) × IsHead w i x × IsRest w i (w.weight x) j × ((found : Sight) → after_return code s found lack (w.elements i) ≡ found)
 IsNewline w code s lack i Found.Absent = (found : Sight) → after_return code s found lack (w.elements i) ≡ Absent
 IsNewline w code s lack i (Found.Begins k) = (s ≡ true) × ((found : Sight) → after_return code s found lack (w.elements i) ≡ Begins (size_of k))
 

@@ -56,7 +56,8 @@ fn class_split<OM: OutputMode, I: Input, E: ParseError<I>>(
 ) -> PResult<I, I, E>
 where
     I::Item: AsChar,
-    ensures { Splits I.seen (λ x. IsInside class (I.Item.code x)) (λ x. IsOutside class (I.Item.code x)) OM.Incomplete.STREAMING input false (FrontBuilt I.seen OM.Output.BUILDS) Never result }
+    ensures { Splits I.seen (λ x. IsInside class (I.Item.code x)) (λ x. IsOutside class (I.Item.code x)) OM.Incomplete.STREAMING input false
+        (FrontBuilt I.seen OM.Output.BUILDS) Never result }
 {
     match class_len::<I, OM::Incomplete>(input, class) {
         Some(n) => Ok((input.take_from(n), first_items::<OM::Output, I>(input, n))),
@@ -73,7 +74,9 @@ fn class_split1<OM: OutputMode, I: Input, E: ParseError<I>>(
 ) -> PResult<I, I, E>
 where
     I::Item: AsChar,
-    ensures { Splits I.seen (λ x. IsInside class (I.Item.code x)) (λ x. IsOutside class (I.Item.code x)) OM.Incomplete.STREAMING input true (FrontBuilt I.seen OM.Output.BUILDS) (Refuses (E.errors.of_kind input kind) E.errors.grows OM.Error.BUILDS) result }
+    ensures { Splits I.seen (λ x. IsInside class (I.Item.code x))
+        (λ x. IsOutside class (I.Item.code x)) OM.Incomplete.STREAMING input true (FrontBuilt I.seen OM.Output.BUILDS)
+        (Refuses (E.errors.of_kind input kind) E.errors.grows OM.Error.BUILDS) result }
 {
     match class_len::<I, OM::Incomplete>(input, class) {
         Some(n) if n == 0 => Err(refusal::<OM::Error, I, E>(input, kind)),
@@ -91,7 +94,8 @@ pub(crate) fn class_run<OM: OutputMode, I: Input, E: ParseError<I>>(
 ) -> PResult<I, I, E>
 where
     I::Item: AsChar,
-    ensures { ShowsMeaning I.seen (IsSeenAs I.seen) (class_meaning I.seen I.Item.code E.errors class wanted) (modes OM.Output.BUILDS OM.Error.BUILDS OM.Incomplete.STREAMING) input result }
+    ensures { ShowsMeaning I.seen (IsSeenAs I.seen) (class_meaning I.seen I.Item.code E.errors class wanted)
+        (modes OM.Output.BUILDS OM.Error.BUILDS OM.Incomplete.STREAMING) input result }
 {
     match wanted {
         None => class_split::<OM, I, E>(input, class),
@@ -133,6 +137,15 @@ where
     }
 
     ghost lawful = { λ s k. class_lawful I.seen I.Item.IsValue I.values I.Item.code E.errors s.0 s.1 };
+}
+
+impl<I: Input, E: ParseError<I>> StreamParser<I> for ClassRun<I, E>
+where
+    I::Item: AsChar,
+{
+    ghost pinned = { λ s k p. slice_pinned I.seen I.view I.views };
+
+    ghost steady = { λ s k. class_steady I.seen I.Item.IsValue I.values I.Item.code E.errors s.0 s.1 };
 }
 
 /// Decimal digits, one at least, made by `digit1`.

@@ -132,7 +132,8 @@ where
 pub fn hex_digit1<T: Input, E: ParseError<T>>(input: T) -> IResult<T, T, E>
 where
     T::Item: AsChar,
-    ensures { ParsesMeaning T.seen (IsSeenAs T.seen) (class_meaning T.seen T.Item.code E.errors AsciiClass.HexDigit (Some ErrorKind.HexDigit)) false input result }
+    ensures { ParsesMeaning T.seen (IsSeenAs T.seen) (class_meaning T.seen T.Item.code E.errors AsciiClass.HexDigit (Some ErrorKind.HexDigit)) false
+        input result }
 {
     of_class(input, AsciiClass::HexDigit, Some(ErrorKind::HexDigit))
 }
@@ -153,7 +154,8 @@ where
 pub fn oct_digit1<T: Input, E: ParseError<T>>(input: T) -> IResult<T, T, E>
 where
     T::Item: AsChar,
-    ensures { ParsesMeaning T.seen (IsSeenAs T.seen) (class_meaning T.seen T.Item.code E.errors AsciiClass.OctDigit (Some ErrorKind.OctDigit)) false input result }
+    ensures { ParsesMeaning T.seen (IsSeenAs T.seen) (class_meaning T.seen T.Item.code E.errors AsciiClass.OctDigit (Some ErrorKind.OctDigit)) false
+        input result }
 {
     of_class(input, AsciiClass::OctDigit, Some(ErrorKind::OctDigit))
 }
@@ -174,7 +176,8 @@ where
 pub fn bin_digit1<T: Input, E: ParseError<T>>(input: T) -> IResult<T, T, E>
 where
     T::Item: AsChar,
-    ensures { ParsesMeaning T.seen (IsSeenAs T.seen) (class_meaning T.seen T.Item.code E.errors AsciiClass.BinDigit (Some ErrorKind.BinDigit)) false input result }
+    ensures { ParsesMeaning T.seen (IsSeenAs T.seen) (class_meaning T.seen T.Item.code E.errors AsciiClass.BinDigit (Some ErrorKind.BinDigit)) false
+        input result }
 {
     of_class(input, AsciiClass::BinDigit, Some(ErrorKind::BinDigit))
 }
@@ -195,7 +198,8 @@ where
 pub fn alphanumeric1<T: Input, E: ParseError<T>>(input: T) -> IResult<T, T, E>
 where
     T::Item: AsChar,
-    ensures { ParsesMeaning T.seen (IsSeenAs T.seen) (class_meaning T.seen T.Item.code E.errors AsciiClass.Alphanumeric (Some ErrorKind.AlphaNumeric)) false input result }
+    ensures { ParsesMeaning T.seen (IsSeenAs T.seen) (class_meaning T.seen T.Item.code E.errors AsciiClass.Alphanumeric (Some ErrorKind.AlphaNumeric))
+        false input result }
 {
     of_class(
         input,
@@ -241,7 +245,8 @@ where
 pub fn multispace1<T: Input, E: ParseError<T>>(input: T) -> IResult<T, T, E>
 where
     T::Item: AsChar,
-    ensures { ParsesMeaning T.seen (IsSeenAs T.seen) (class_meaning T.seen T.Item.code E.errors AsciiClass.MultiSpace (Some ErrorKind.MultiSpace)) false input result }
+    ensures { ParsesMeaning T.seen (IsSeenAs T.seen) (class_meaning T.seen T.Item.code E.errors AsciiClass.MultiSpace (Some ErrorKind.MultiSpace)) false
+        input result }
 {
     of_class(input, AsciiClass::MultiSpace, Some(ErrorKind::MultiSpace))
 }

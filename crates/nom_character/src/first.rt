@@ -91,7 +91,9 @@ pub(crate) fn first_where<OM: OutputMode, I: Input, P: Predicate<I::Item>, E: Pa
 where
     I::Item: AsChar,
     requires { P.IsSound (P.state test.now) }
-    ensures { ShowsMeaning I.seen (λ t c. c ≡ t) (head_meaning I.seen I.Item.code (P.answers (P.state test.now)) (P.IsSound (P.state test.now)) E.errors blame (size_of lack)) (modes OM.Output.BUILDS OM.Error.BUILDS OM.Incomplete.STREAMING) input result }
+    ensures { ShowsMeaning I.seen (λ t c. c ≡ t)
+        (head_meaning I.seen I.Item.code (P.answers (P.state test.now)) (P.IsSound (P.state test.now)) E.errors blame (size_of lack))
+        (modes OM.Output.BUILDS OM.Error.BUILDS OM.Incomplete.STREAMING) input result }
 {
     match first(input) {
         Some(item) if test.meets(item) => Ok((

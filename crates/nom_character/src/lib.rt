@@ -2,7 +2,8 @@
 #![tactic(auto)]
 
 ghost use Rattle.std.specs.Prelude.{◌≡◌, false};
-ghost use Rattle.nom_traits.specs.Classes.{is_alpha_code, is_alphanum_code, is_bin_digit_code, is_dec_digit_code, is_hex_digit_code, is_newline_code, is_oct_digit_code, is_space_code};
+ghost use Rattle.nom_traits.specs.Classes.{is_alpha_code, is_alphanum_code, is_bin_digit_code, is_dec_digit_code, is_hex_digit_code, is_newline_code};
+ghost use Rattle.nom_traits.specs.Classes.{is_oct_digit_code, is_space_code};
 ghost use Rattle.nom_internal.specs.Meaning.{ParsesMeaning};
 ghost use Rattle.nom_character.specs.Heads.{any_meaning};
 
@@ -10,13 +11,21 @@ mod class;
 pub mod complete;
 pub mod first;
 mod line;
+mod line_ends;
 mod one;
 pub mod predicate;
+mod runs;
 pub mod streaming;
 
 pub use crate::class::{ClassRun, Digit1, MultiSpace0};
+pub use crate::line::{Crlf, LineEnding, NotLineEnding};
+pub use crate::line_ends::{crlf, line_ending, newline, not_line_ending, tab};
 pub use crate::one::{AnyChar, Char, Satisfy};
 use crate::predicate::{CharOutside, CharWhere, CharWithin};
+pub use crate::runs::{
+    alpha0, alpha1, alphanumeric0, alphanumeric1, bin_digit0, bin_digit1, digit0, hex_digit0,
+    hex_digit1, multispace1, oct_digit0, oct_digit1, space0, space1,
+};
 use nom_error::answer::IResult;
 use nom_error::kind::ErrorKind;
 use nom_error::value::ParseError;

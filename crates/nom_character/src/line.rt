@@ -5,16 +5,18 @@ ghost use Rattle.nom_error.specs.Answers.{size_of};
 ghost use Rattle.nom_error.specs.declared.kind.ErrorKind.TheVariants as Kind;
 ghost use Rattle.nom_traits.specs.Slices.{Slice, IsSeenAs};
 ghost use Rattle.nom_internal.specs.Meaning.{ShowsMeaning};
+ghost use Rattle.nom_internal.specs.Pinned.{slice_pinned};
 ghost use Rattle.nom_character.specs.Heads.{IsHead};
-ghost use Rattle.nom_character.specs.Sights.{Sight, IsSighted, IsNewline, IsLineEnd, is_line_code, sight_meaning, crlf_in, crlf_meaning, line_ending_in, line_ending_meaning, line_in, line_meaning};
-ghost use Rattle.nom_character.specs.SightLaws.{sight_lawful, crlf_laws, line_ending_laws, line_laws};
+ghost use Rattle.nom_character.specs.Sights.{Sight, IsSighted, IsNewline, IsLineEnd, is_line_code, sight_meaning, crlf_in, crlf_meaning};
+ghost use Rattle.nom_character.specs.Sights.{line_ending_in, line_ending_meaning, line_in, line_meaning};
+ghost use Rattle.nom_character.specs.SightLaws.{sight_lawful, sight_steady, crlf_laws, line_ending_laws, line_laws};
 
 use crate::first::{behind, first};
 use nom_error::answer::{Err, Needed, PResult};
 use nom_error::kind::ErrorKind;
 use nom_error::mode::{IsStreaming, OutputMode};
 use nom_error::value::{ParseError, refusal};
-use nom_internal::parser::Parser;
+use nom_internal::parser::{Parser, StreamParser};
 use nom_internal::slices::before;
 use nom_traits::character::AsChar;
 use nom_traits::input::Input;
@@ -39,7 +41,9 @@ fn answer<OM: OutputMode, I: Input, E: ParseError<I>>(
     kind: ErrorKind,
 ) -> PResult<I, I, E>
     requires { (sight : Bool → List I.Item → Sight) × IsSighted I.seen sight OM.Incomplete.STREAMING input found }
-    ensures { (sight : Bool → List I.Item → Sight) → IsSighted I.seen sight OM.Incomplete.STREAMING input found → ShowsMeaning I.seen (IsSeenAs I.seen) (sight_meaning I.seen sight E.errors kind) (modes OM.Output.BUILDS OM.Error.BUILDS OM.Incomplete.STREAMING) input result }
+    ensures { (sight : Bool → List I.Item → Sight) → IsSighted I.seen sight OM.Incomplete.STREAMING input found →
+        ShowsMeaning I.seen (IsSeenAs I.seen) (sight_meaning I.seen sight E.errors kind)
+        (modes OM.Output.BUILDS OM.Error.BUILDS OM.Incomplete.STREAMING) input result }
 {
     match found {
         Sighted::Stands(rest) => Ok((rest, before::<OM::Output, I>(input, rest))),
@@ -138,9 +142,9 @@ where
     }
 }
 
-/// `\r\n`.
+/// `\r\n`, made by `crlf`.
 #[derive(Drop)]
-pub(crate) struct Crlf<I, E> {
+pub struct Crlf<I, E> {
     pub error: PhantomData<(I, E)>,
 }
 
@@ -173,9 +177,18 @@ where
     ghost lawful = { λ _ k. sight_lawful I.seen (crlf_in I.Item.code) (crlf_laws I.Item.code) E.errors Kind.CrLf };
 }
 
-/// `\n` or `\r\n`.
+impl<I: Input, E: ParseError<I>> StreamParser<I> for Crlf<I, E>
+where
+    I::Item: AsChar,
+{
+    ghost pinned = { λ s k p. slice_pinned I.seen I.view I.views };
+
+    ghost steady = { λ _ k. sight_steady I.seen (crlf_in I.Item.code) (crlf_laws I.Item.code) E.errors Kind.CrLf };
+}
+
+/// `\n` or `\r\n`, made by `line_ending`.
 #[derive(Drop)]
-pub(crate) struct LineEnding<I, E> {
+pub struct LineEnding<I, E> {
     pub error: PhantomData<(I, E)>,
 }
 
@@ -208,9 +221,18 @@ where
     ghost lawful = { λ _ k. sight_lawful I.seen (line_ending_in I.Item.code) (line_ending_laws I.Item.code) E.errors Kind.CrLf };
 }
 
-/// The items before the first end of a line.
+impl<I: Input, E: ParseError<I>> StreamParser<I> for LineEnding<I, E>
+where
+    I::Item: AsChar,
+{
+    ghost pinned = { λ s k p. slice_pinned I.seen I.view I.views };
+
+    ghost steady = { λ _ k. sight_steady I.seen (line_ending_in I.Item.code) (line_ending_laws I.Item.code) E.errors Kind.CrLf };
+}
+
+/// The items before the first end of a line, made by `not_line_ending`.
 #[derive(Drop)]
-pub(crate) struct NotLineEnding<I, E> {
+pub struct NotLineEnding<I, E> {
     pub error: PhantomData<(I, E)>,
 }
 
@@ -241,4 +263,13 @@ where
     }
 
     ghost lawful = { λ _ k. sight_lawful I.seen (line_in I.Item.code) (line_laws I.Item.code) E.errors Kind.Tag };
+}
+
+impl<I: Input, E: ParseError<I>> StreamParser<I> for NotLineEnding<I, E>
+where
+    I::Item: AsChar,
+{
+    ghost pinned = { λ s k p. slice_pinned I.seen I.view I.views };
+
+    ghost steady = { λ _ k. sight_steady I.seen (line_in I.Item.code) (line_laws I.Item.code) E.errors Kind.Tag };
 }

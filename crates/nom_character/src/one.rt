@@ -56,7 +56,8 @@ where
         first_where::<OM, I, Is, E>(input, &test, Blame::OfChar(self.wanted), lack)
     }
 
-    ghost lawful = { λ wanted k. head_lawful I.seen I.Item.IsValue I.values I.Item.code (λ x b. b ≡ (I.Item.code x == wanted)) (told I.Item.IsValue (λ x. I.Item.code x == wanted)) (Some (len_utf8 wanted)) (Unit {0}) E.errors (OfChar wanted) };
+    ghost lawful = { λ wanted k. head_lawful I.seen I.Item.IsValue I.values I.Item.code (λ x b. b ≡ (I.Item.code x == wanted))
+        (told I.Item.IsValue (λ x. I.Item.code x == wanted)) (Some (len_utf8 wanted)) (Unit {0}) E.errors (OfChar wanted) };
 }
 
 impl<I: Input, E: ParseError<I>> StreamParser<I> for Char<I, E>
@@ -65,7 +66,8 @@ where
 {
     ghost pinned = { λ s k p. value_pinned };
 
-    ghost steady = { λ wanted k. head_steady I.seen I.Item.IsValue I.values I.Item.code (λ x b. b ≡ (I.Item.code x == wanted)) (told I.Item.IsValue (λ x. I.Item.code x == wanted)) (Some (len_utf8 wanted)) (Unit {0}) E.errors (OfChar wanted) };
+    ghost steady = { λ wanted k. head_steady I.seen I.Item.IsValue I.values I.Item.code (λ x b. b ≡ (I.Item.code x == wanted))
+        (told I.Item.IsValue (λ x. I.Item.code x == wanted)) (Some (len_utf8 wanted)) (Unit {0}) E.errors (OfChar wanted) };
 }
 
 /// A character that passes a test, made by `satisfy`, `one_of` and `none_of`.
@@ -160,7 +162,8 @@ where
         first_where::<OM, I, Any, E>(input, &Any, Blame::OfKind(ErrorKind::Eof), lack)
     }
 
-    ghost lawful = { λ _ k. head_lawful I.seen I.Item.IsValue I.values I.Item.code (λ x b. b ≡ true) (told I.Item.IsValue (λ x. true)) (Some 1) (Unit {0}) E.errors (OfKind Kind.Eof) };
+    ghost lawful = { λ _ k. head_lawful I.seen I.Item.IsValue I.values I.Item.code (λ x b. b ≡ true) (told I.Item.IsValue (λ x. true)) (Some 1)
+        (Unit {0}) E.errors (OfKind Kind.Eof) };
 }
 
 impl<I: Input, E: ParseError<I>> StreamParser<I> for AnyChar<I, E>
@@ -169,5 +172,6 @@ where
 {
     ghost pinned = { λ s k p. value_pinned };
 
-    ghost steady = { λ _ k. head_steady I.seen I.Item.IsValue I.values I.Item.code (λ x b. b ≡ true) (told I.Item.IsValue (λ x. true)) (Some 1) (Unit {0}) E.errors (OfKind Kind.Eof) };
+    ghost steady = { λ _ k. head_steady I.seen I.Item.IsValue I.values I.Item.code (λ x b. b ≡ true) (told I.Item.IsValue (λ x. true)) (Some 1)
+        (Unit {0}) E.errors (OfKind Kind.Eof) };
 }

@@ -14,7 +14,8 @@ module _ {S I V E : Type 0} (e : Errors I E) (part : S → Meaning I V E) where
 
   sound_after : (m : Meaning I (ℕ × V) E) (k : ℕ) (ss : List S) (j : ℕ) (s : S) → StandsAt ss j s → (others_meaning e part m k ss).IsSound → (part s).IsSound
   sound_after m k [] j s l h = absurd l
-  sound_after m k (x ∷ xs) zero s l h = subst (λ z. (part z).IsSound) l (sound_before (or_meaning e.joined e.grows m (branch_meaning k (part x))) (k + 1) xs h).1
+  sound_after m k (x ∷ xs) zero s l h =
+      subst (λ z. (part z).IsSound) l (sound_before (or_meaning e.joined e.grows m (branch_meaning k (part x))) (k + 1) xs h).1
   sound_after m k (x ∷ xs) (suc j) s l h = sound_after (or_meaning e.joined e.grows m (branch_meaning k (part x))) (k + 1) xs j s l h
 
   -- and so is each of its parsers

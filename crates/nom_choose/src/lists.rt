@@ -19,7 +19,8 @@ pub fn choose<I: Items, A: Parser<I>, OM: OutputMode>(
     input: I,
 ) -> PResult<I, A::Output, A::Error>
     requires { (list_meaning A.Error.errors A.meaning (map A.state branches.old)).IsSound }
-    ensures shown { ShowsMeaning I.seen (ListOutput A.IsOutput (map A.state branches.old)) (list_meaning A.Error.errors A.meaning (map A.state branches.old)) (modes OM.Output.BUILDS OM.Error.BUILDS OM.Incomplete.STREAMING) input result }
+    ensures shown { ShowsMeaning I.seen (ListOutput A.IsOutput (map A.state branches.old))
+        (list_meaning A.Error.errors A.meaning (map A.state branches.old)) (modes OM.Output.BUILDS OM.Error.BUILDS OM.Incomplete.STREAMING) input result }
     ensures kept { map A.state branches.new ≡ map A.state branches.old }
 {
     if branches.is_empty() {

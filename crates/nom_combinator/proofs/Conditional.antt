@@ -19,14 +19,19 @@ module _ {I A F S P O E : Type 0} (w : Seen I A) (state : F → S) (IsOutput : S
   abbrev PartShown : F → Result (I × Option O) (Answer.Err E (Option E) Needed) → Type 0
   PartShown f = ShowsMeaning w (IsOutput (state f)) (meaning (state f)) mode i
 
-  pub cond_err : (p : Option F) (f : F) → p ≡ Some f → (e : Answer.Err E (Option E) Needed) (r : Result (I × Option (Option O)) (Answer.Err E (Option E) Needed)) → PartShown f (Err e) → r ≡ Err e → CondShown p r
+  pub cond_err : (p : Option F) (f : F) → p ≡ Some f →
+      (e : Answer.Err E (Option E) Needed) (r : Result (I × Option (Option O)) (Answer.Err E (Option E) Needed)) → PartShown f (Err e) → r ≡ Err e → CondShown p r
   cond_err p f q e r h is =
       let shown = labels_err w (λ t. Some t) (IsOutput (state f)) (OptOutput (IsOutput (state f))) (meaning (state f)) mode.outputs mode i e h in
       subst (λ z. CondShown z r) (sym q) (subst (λ z. CondShown (Some f) z) (sym is) shown)
 
-  pub cond_ok : (p : Option F) (f : F) → p ≡ Some f → (j : I) (x : Option O) (y : Option (Option O)) → PartShown f (Ok (j, x)) → Built mode.outputs (λ z. z ≡ x) y → CondShown p (Ok (j, y))
+  pub cond_ok : (p : Option F) (f : F) → p ≡ Some f → (j : I) (x : Option O) (y : Option (Option O)) → PartShown f (Ok (j, x)) →
+      Built mode.outputs (λ z. z ≡ x) y → CondShown p (Ok (j, y))
   cond_ok p f q j x y h k =
-      subst (λ z. CondShown z (Ok (j, y))) (sym q) (labels_ok w (λ t. Some t) (IsOutput (state f)) (OptOutput (IsOutput (state f))) (meaning (state f)) mode.outputs mode i j x y h (λ u b. option_built (IsOutput (state f)) mode.outputs u x y b k))
+      subst (λ z. CondShown z (Ok (j, y))) (sym q)
+      (labels_ok w (λ t. Some t) (IsOutput (state f)) (OptOutput (IsOutput (state f)))
+      (meaning (state f)) mode.outputs mode i j x y h (λ u b. option_built (IsOutput (state f)) mode.outputs u x y b k))
 
-  pub cond_none : InputLaws w → w.IsKnown i → (p : Option F) → p ≡ None → (y : Option (Option O)) → Built mode.outputs (λ z. z ≡ None) y → CondShown p (Ok (i, y))
+  pub cond_none : InputLaws w → w.IsKnown i → (p : Option F) → p ≡ None → (y : Option (Option O)) → Built mode.outputs (λ z. z ≡ None) y →
+      CondShown p (Ok (i, y))
   cond_none l known p q y k = subst (λ z. CondShown z (Ok (i, y))) (sym q) (accepted None (rest_self w l i known) (refl, refl) k)

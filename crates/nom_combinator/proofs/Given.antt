@@ -11,13 +11,27 @@ use Rattle.nom_internal.proofs.Shown.{accepts}
 use Rattle.nom_internal.proofs.Cased.{here, passing_err}
 use Rattle.nom_combinator.specs.Outputs.{value_case, value_meaning}
 
-module _ {I A P O T E : Type 0} (w : Seen I A) (IsOutput : P → O → Type 0) (IsClone : T → Type 0) (v : T) (IsSure : Type 0) (m : Meaning I P E) (mode : Modes) (i : I) where
+module _ {I A P O T E : Type 0} (w : Seen I A) (IsOutput : P → O → Type 0) (IsClone : T → Type 0) (v : T) (IsSure : Type 0) (m : Meaning I P E)
+    (mode : Modes) (i : I) where
   abbrev ValueShown : Result (I × Option T) (Answer.Err E (Option E) Needed) → Type 0
   ValueShown = ShowsMeaning w (λ _. IsClone) (value_meaning v IsSure m) mode i
 
   -- whatever isn't an acceptance passes
-  pub value_err : (f : Answer.Err E (Option E) Needed) (r : Result (I × Option T) (Answer.Err E (Option E) Needed)) → ShowsMeaning w IsOutput m mode i (Err f) → r ≡ Err f → ValueShown r
-  value_err f r h e = subst (λ z. ValueShown z) (sym e) (passing_err w IsOutput (λ _. IsClone) (value_case v IsSure) m mode i (record { at_is = refl; refuses = λ b e. (refl, refl, λ z h. h); fails = refl; too_large = refl; undecided = λ n e k. refl; blames_failure = λ z h. h; blames_large = λ z h. h }) refl h)
+  pub value_err : (f : Answer.Err E (Option E) Needed) (r : Result (I × Option T) (Answer.Err E (Option E) Needed)) →
+      ShowsMeaning w IsOutput m mode i (Err f) → r ≡ Err f → ValueShown r
+  value_err f r h e = subst (λ z. ValueShown z) (sym e)
+      (passing_err w IsOutput (λ _. IsClone)
+      (value_case v IsSure) m mode i
+      (record {
+        at_is = refl;
+        refuses = λ b e. (refl, refl, λ z h. h);
+        fails = refl;
+        too_large = refl;
+        undecided = λ n e k. refl;
+        blames_failure =
+            λ z h. h;
+        blames_large = λ z h. h;
+      }) refl h)
 
   -- an acceptance gives a clone
   pub value_ok : (j : I) (x : Option O) (b : Option T) → ShowsMeaning w IsOutput m mode i (Ok (j, x)) → Built mode.outputs IsClone b → ValueShown (Ok (j, b))

@@ -71,7 +71,9 @@ module _ {I A V E : Type 0} (w : Seen I A) (l : InputLaws w) (m : Meaning I V E)
   recognize_gives s i j o h p = recognizes s i j o p
 
 module _ {I A V O E : Type 0} (w : Seen I A) (l : InputLaws w) (IsOutput : V → O → Type 0) (m : Meaning I V E) where
-  consumes : (s : Bool) (i j o : I) (v : O) → ParsesMeaning {O = I × O} w (λ t p. IsSeenAs w t.0 p.0 × IsOutput t.1 p.1) (consumed_meaning w m) s i (Ok (j, (o, v))) → AreParts w i o j × ParsesMeaning w IsOutput m s i (Ok (j, v))
+  consumes : (s : Bool) (i j o : I) (v : O) →
+      ParsesMeaning {O = I × O} w (λ t p. IsSeenAs w t.0 p.0 × IsOutput t.1 p.1) (consumed_meaning w m) s i (Ok (j, (o, v))) → AreParts w i o j ×
+      ParsesMeaning w IsOutput m s i (Ok (j, v))
   consumes s i j o v (ParseRanOut e h) = absurd (cc)
   consumes s i j o v (Parsed a b p) =
       let k = accepted_by {O = I × O} w (λ t q. IsSeenAs w t.0 q.0 × IsOutput t.1 q.1) i j _ (o, v) a p in

@@ -11,7 +11,9 @@ use Rattle.nom_internal.specs.CaseLaws.{CaseLaws, here_known, here_related, here
 use Rattle.nom_internal.specs.Cases.{Passes, plain_case}
 use Rattle.nom_internal.specs.RecognizedLaws.{AcceptLaws, plain_laws}
 use Rattle.nom_internal.specs.Pinned.{IsPinned}
-use Rattle.nom_combinator.specs.Verdicts.{complete_outcome, IsWant, complete_case, complete_meaning, WithSlice, consumed_meaning, verdict_case, cut_outcome, NeverCut, cut_meaning, opt_outcome, opt_meaning, OptOutput, Looks, peek_meaning, not_outcome, IsAcceptance, EitherBlames, not_case, not_meaning}
+use Rattle.nom_combinator.specs.Verdicts.{complete_outcome, IsWant, complete_case, complete_meaning, WithSlice, consumed_meaning, verdict_case}
+use Rattle.nom_combinator.specs.Verdicts.{cut_outcome, NeverCut, cut_meaning, opt_outcome, opt_meaning, OptOutput, Looks, peek_meaning, not_outcome}
+use Rattle.nom_combinator.specs.Verdicts.{IsAcceptance, EitherBlames, not_case, not_meaning}
 
 -- an acceptance of nothing, or of what the part accepts
 abbrev IsAccepted : {P : Type 0} → ℕ → Outcome P → Type 0
@@ -72,7 +74,8 @@ module _ {P : Type 0} where
       large TooLarge e = refl
       large (Undecided k) e = cc
 
-      never : (Part : Bool → Type 0) (is_large : Bool) (a : Outcome P) → NeverCut Part is_large → failure is_large ≡ cut_outcome a → Part is_large × (a ≡ failure is_large)
+      never : (Part : Bool → Type 0) (is_large : Bool) (a : Outcome P) → NeverCut Part is_large → failure is_large ≡ cut_outcome a → Part is_large ×
+          (a ≡ failure is_large)
       never Part true a g e = (g, large a e)
       never Part false a g e = absurd g
 
@@ -136,7 +139,8 @@ module _ {P : Type 0} where
       fails false (Undecided k) e = cc
 
 -- the part's errors stand for themselves
-blames_more : {P E : Type 0} (HasOwn HasParts : Outcome P → Type 0) (Own : E → Type 0) (a : Outcome P) (X Y : E → Type 0) (e : E) → ((f : E) → X f → Y f) → EitherBlames HasOwn HasParts Own a X e → EitherBlames HasOwn HasParts Own a Y e
+blames_more : {P E : Type 0} (HasOwn HasParts : Outcome P → Type 0) (Own : E → Type 0) (a : Outcome P) (X Y : E → Type 0) (e : E) →
+    ((f : E) → X f → Y f) → EitherBlames HasOwn HasParts Own a X e → EitherBlames HasOwn HasParts Own a Y e
 blames_more HasOwn HasParts Own a X Y e f (inl h) = inl h
 blames_more HasOwn HasParts Own a X Y e f (inr h) = inr (h.0, f e h.1)
 
@@ -264,4 +268,5 @@ module _ {I A P E : Type 0} (w : Seen I A) (m : Meaning I P E) where
   consumed_lawful k l = case_lawful w w m l (plain_case (λ b. b) (λ i. Passes (WithSlice w i))) (plain_laws w (λ i. WithSlice w i) (kept_laws w k) (λ b. b))
 
   pub consumed_steady : InputLaws w → IsSteady w m → IsSteady w (consumed_meaning w m)
-  consumed_steady k l = case_steady w w m (plain_case (λ b. b) (λ i. Passes (WithSlice w i))) (plain_laws w (λ i. WithSlice w i) (kept_laws w k) (λ b. b)) refl l
+  consumed_steady k l = case_steady w w m (plain_case (λ b. b) (λ i. Passes (WithSlice w i)))
+      (plain_laws w (λ i. WithSlice w i) (kept_laws w k) (λ b. b)) refl l

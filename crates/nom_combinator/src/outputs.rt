@@ -48,7 +48,8 @@ impl<I: Items, F: Parser<I> + Drop, G: Fn(&F::Output) -> bool> Parser<I> for Ver
 
     ghost IsOutput = { λ s t o. F.IsOutput s.0 t o × FnReturnsAt G.Fn s.1 o true };
 
-    ghost meaning = { λ s. judged_meaning (F.IsOutput s.0) (λ o. (p : Bor F.Output) → p.now ≡ o → G.pre s.1 p) (FnReturnsAt G.Fn s.1) (λ b. b) (λ i _. F.Error.errors.of_kind i Kind.Verify) F.Error.errors.grows (F.meaning s.0) };
+    ghost meaning = { λ s. judged_meaning (F.IsOutput s.0) (λ o. (p : Bor F.Output) → p.now ≡ o → G.pre s.1 p) (FnReturnsAt G.Fn s.1) (λ b. b)
+        (λ i _. F.Error.errors.of_kind i Kind.Verify) F.Error.errors.grows (F.meaning s.0) };
 
     ghost Pins = { λ s. F.Pins s.0 };
 
@@ -69,14 +70,16 @@ impl<I: Items, F: Parser<I> + Drop, G: Fn(&F::Output) -> bool> Parser<I> for Ver
         }
     }
 
-    ghost lawful = { λ s k. judged_lawful I.seen (F.IsOutput s.0) (λ o. (p : Bor F.Output) → p.now ≡ o → G.pre s.1 p) (FnReturnsAt G.Fn s.1) (λ b. b) (λ i _. F.Error.errors.of_kind i Kind.Verify) F.Error.errors.grows (F.meaning s.0) k.1 (F.lawful s.0 k.0) };
+    ghost lawful = { λ s k. judged_lawful I.seen (F.IsOutput s.0) (λ o. (p : Bor F.Output) → p.now ≡ o → G.pre s.1 p) (FnReturnsAt G.Fn s.1) (λ b. b)
+        (λ i _. F.Error.errors.of_kind i Kind.Verify) F.Error.errors.grows (F.meaning s.0) k.1 (F.lawful s.0 k.0) };
 }
 
 impl<I: Items, F: StreamParser<I> + Drop, G: Fn(&F::Output) -> bool> StreamParser<I>
     for Verify<F, G> {
     ghost pinned = { λ s k p t a b g h. F.pinned s.0 k.0 p t a b g.0 h.0 };
 
-    ghost steady = { λ s k. judged_steady I.seen (F.IsOutput s.0) (λ o. (p : Bor F.Output) → p.now ≡ o → G.pre s.1 p) (FnReturnsAt G.Fn s.1) (λ b. b) (λ i _. F.Error.errors.of_kind i Kind.Verify) F.Error.errors.grows (F.meaning s.0) k.1 (F.steady s.0 k.0) };
+    ghost steady = { λ s k. judged_steady I.seen (F.IsOutput s.0) (λ o. (p : Bor F.Output) → p.now ≡ o → G.pre s.1 p) (FnReturnsAt G.Fn s.1) (λ b. b)
+        (λ i _. F.Error.errors.of_kind i Kind.Verify) F.Error.errors.grows (F.meaning s.0) k.1 (F.steady s.0 k.0) };
 }
 
 /// A value in the place of what a parser accepts; made by `value`. A clone of it is made where outputs

@@ -39,5 +39,6 @@ pub fn recognize_gives_front<I: Input, F: Parser<I> + Drop>(_parser: &Recognize<
 /// The slice that `consumed` gives, followed by the rest, is the input, and its other output is one that the part answers
 /// with the same rest.
 pub fn consumed_gives_front<I: Input, F: Parser<I> + Drop>(_parser: &Consumed<F>)
-    ensures { GivesFrontAndOutput I.seen (F.IsOutput (F.state _parser.now.parser)) (F.meaning (F.state _parser.now.parser)) (⟦<Consumed<F> as Parser<I>>⟧.meaning (F.state _parser.now.parser)) }
+    ensures { GivesFrontAndOutput I.seen (F.IsOutput (F.state _parser.now.parser)) (F.meaning (F.state _parser.now.parser))
+        (⟦<Consumed<F> as Parser<I>>⟧.meaning (F.state _parser.now.parser)) }
 {}

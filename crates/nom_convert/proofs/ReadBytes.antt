@@ -43,21 +43,25 @@ false_is_utf8 : IsUtf8 (codes "false")
 unfolding encode_utf8
 false_is_utf8 = (codes "false", (refl, refl))
 
-pub bytes_read_unsigned : {E : Type 0} (Gives : List ℕ → Result ℕ E → Type 0) (k : ℕ) (bs : List ℕ) (o : Option ℕ) → ParsesBytes Gives bs o → ((r : Result ℕ E) → Gives bs r → ParsesUnsigned k 10 bs r) → ReadsUnsigned k bs o
+pub bytes_read_unsigned : {E : Type 0} (Gives : List ℕ → Result ℕ E → Type 0) (k : ℕ) (bs : List ℕ) (o : Option ℕ) → ParsesBytes Gives bs o →
+    ((r : Result ℕ E) → Gives bs r → ParsesUnsigned k 10 bs r) → ReadsUnsigned k bs o
 bytes_read_unsigned Gives k bs (Some n) h tells = tells (Ok n) h.1
 bytes_read_unsigned Gives k bs None h tells = λ p. let e = h (IsUtf8-from_ascii bs (plus_is_ascii bs p.0.1)) in tells (Err e.0) e.1 p
 
-pub bytes_read_signed : {E : Type 0} (Gives : List ℕ → Result ℤ E → Type 0) (w : Width) (bs : List ℕ) (o : Option ℤ) → ParsesBytes Gives bs o → ((r : Result ℤ E) → Gives bs r → ParsesSigned w 10 bs r) → ReadsSigned w bs o
+pub bytes_read_signed : {E : Type 0} (Gives : List ℕ → Result ℤ E → Type 0) (w : Width) (bs : List ℕ) (o : Option ℤ) → ParsesBytes Gives bs o →
+    ((r : Result ℤ E) → Gives bs r → ParsesSigned w 10 bs r) → ReadsSigned w bs o
 bytes_read_signed Gives w bs (Some n) h tells = tells (Ok n) h.1
 bytes_read_signed Gives w bs None h tells = λ p. let e = h (IsUtf8-from_ascii bs (either_is_ascii bs p.0.1)) in tells (Err e.0) e.1 p
 
-pub bytes_read_bool : {E : Type 0} (Gives : List ℕ → Result Bool E → Type 0) (bs : List ℕ) (o : Option Bool) → ParsesBytes Gives bs o → ((r : Result Bool E) → Gives bs r → ParsesBool bs r) → ReadsBool bs o
+pub bytes_read_bool : {E : Type 0} (Gives : List ℕ → Result Bool E → Type 0) (bs : List ℕ) (o : Option Bool) → ParsesBytes Gives bs o →
+    ((r : Result Bool E) → Gives bs r → ParsesBool bs r) → ReadsBool bs o
 bytes_read_bool Gives bs (Some b) h tells = tells (Ok b) h.1
 bytes_read_bool Gives bs None h tells = (
   λ e. let none = h (subst IsUtf8 (sym e) true_is_utf8) in (tells (Err none.0) none.1).0 e,
   λ e. let none = h (subst IsUtf8 (sym e) false_is_utf8) in (tells (Err none.0) none.1).1 e,
 )
 
-pub bytes_read_char : {E : Type 0} (Gives : List ℕ → Result ℕ E → Type 0) (bs : List ℕ) (o : Option ℕ) → ParsesBytes Gives bs o → ((r : Result ℕ E) → Gives bs r → ParsesChar bs r) → ReadsChar bs o
+pub bytes_read_char : {E : Type 0} (Gives : List ℕ → Result ℕ E → Type 0) (bs : List ℕ) (o : Option ℕ) → ParsesBytes Gives bs o →
+    ((r : Result ℕ E) → Gives bs r → ParsesChar bs r) → ReadsChar bs o
 bytes_read_char Gives bs (Some c) h tells = tells (Ok c) h.1
 bytes_read_char Gives bs None h tells = λ c s e. let none = h (subst IsUtf8 (sym e) (IsUtf8-encode c s)) in tells (Err none.0) none.1 c s e

@@ -1,13 +1,13 @@
 -- Signs, and digits one by one.
-use Rattle.std.proofs.Common.{◌≡◌, ℕ, ◌+◌, ◌-◌, ◌*◌, ◌≤◌, ◌==◌, ◌||◌, ◌&&◌, Bool, true, false, cond, Option, Some, None, List, [], ◌∷◌, ◌++◌, map, length, refl, sym, ◌∙◌, ap, subst, arith, append_assoc, append-nil}
+use Rattle.std.proofs.Common.{◌≡◌, ℕ, ◌+◌, ◌-◌, ◌*◌, ◌==◌, ◌||◌, ◌&&◌, Bool, true, false, cond, Option, Some, None, List, [], ◌∷◌, ◌++◌, map}
+use Rattle.std.proofs.Common.{length, refl, sym, ◌∙◌, ap, subst, arith, append_assoc, append-nil}
 use Rattle.std.specs.Prelude.{ℤ, pos}
 use Rattle.std.specs.Iterator.{AlwaysYields}
 use Rattle.std.proofs.lemmas.List.{map-append}
 use Rattle.nom_traits.specs.Classes.{is_dec_digit_code}
 use Rattle.nom_traits.specs.Digits.{value_of, value_more}
-use Rattle.nom_traits.specs.Input.{Seen, span, IsPlace, IsRest, InputLaws}
+use Rattle.nom_traits.specs.Input.{Seen, span, placed, input_len, IsPlace, IsRest, InputLaws}
 use Rattle.nom_traits.specs.Rests.{span-append, same_cut}
-use Rattle.nom_character.proofs.Firsts.{some_given, none_given}
 use Rattle.nom_decimal.specs.Integers.{digits_of, after_digits, number_of, with_sign, sign_of, after_sign, is_negative, IsRange}
 use Rattle.nom_decimal.specs.IntegerLaws.{number_grows, nearer, sign_whole}
 use Rattle.nom_decimal.specs.Read.{BehindSign, IsRead, IsUnfit}
@@ -45,103 +45,136 @@ module _ {I A : Type 0} (w : Seen I A) (code : A → ℕ) (signed : Bool) (i : I
     pub sign_place : (n : ℕ) → n ≡ w.weight x → IsPlace w i n
     sign_place n h = record { front = x ∷ []; rest = after_sign code signed (w.elements i); whole = whole; length_is = one ∙ sym h }
 
-    pub behind_a_sign : (n : ℕ) (j : I) → n ≡ w.weight x → (r : IsRest w i n j) → InputLaws w → BehindSign w code signed i (record { negative = code x == 45; digits = j })
+    pub behind_a_sign : (n : ℕ) (j : I) → n ≡ w.weight x → (r : IsRest w i n j) → InputLaws w →
+        BehindSign w code signed i (record { negative = code x == 45; digits = j })
     behind_a_sign n j h r l =
-        let cut = same_cut w.weight l.positive r.front (w.elements j) (x ∷ []) (after_sign code signed (w.elements i)) (sym r.whole ∙ whole) (r.length_is ∙ (h ∙ sym one)) in
+        let cut = same_cut w.weight l.positive r.front (w.elements j) (x ∷ []) (after_sign code signed (w.elements i)) (sym r.whole ∙ whole)
+        (r.length_is ∙ (h ∙ sym one)) in
         record {
           rest_is = subst (λ m. IsRest w i m j) (h ∙ (sym one ∙ sym (ap (span w.weight) e))) r;
           elements_are = cut.1;
           negative_is = sym (a_sign code signed x (w.elements i) e);
         }
 
-  pub behind_no_sign : sign_of code signed (w.elements i) ≡ [] → w.IsKnown i → InputLaws w → BehindSign w code signed i (record { negative = false; digits = i })
+  pub behind_no_sign : sign_of code signed (w.elements i) ≡ [] → w.IsKnown i → InputLaws w →
+      BehindSign w code signed i (record { negative = false; digits = i })
   behind_no_sign e k l = record {
-    rest_is = subst (λ ys. IsRest w i (span w.weight ys) i) (sym e) (record { known = k; front = []; whole = refl; length_is = refl; mark_is = sym (l.mark_none (w.mark i)) });
+    rest_is = subst (λ ys. IsRest w i (span w.weight ys) i) (sym e)
+        (record { known = k; front = []; whole = refl; length_is = refl; mark_is = sym (l.mark_none (w.mark i)) });
     elements_are = sign_whole code signed (w.elements i) ∙ ap (λ ys. ys ++ after_sign code signed (w.elements i)) e;
     negative_is = sym (no_minus code signed (w.elements i) e);
   }
 
+-- Items that are given with their places.
+module _ {A S : Type 0} (weight : A → ℕ) (steps : S → Option (ℕ × A) → S → Type 0) (s t : S) where
+  placed_given : (p n : ℕ) (x : A) (xs : List A) → AlwaysYields steps (λ q. q) s (placed weight p xs) → steps s (Some (n, x)) t →
+      (ys : List A) × (xs ≡ x ∷ ys) × (n ≡ p) × AlwaysYields steps (λ q. q) t (placed weight (p + weight x) ys)
+  placed_given p n x [] g k = absurd (g (n, x) t k)
+  placed_given p n x (y ∷ ys) g k =
+      let r = g.1 (n, x) t k in
+      let same : y ≡ x = sym (ap (λ q. q.1) r.0) in
+      (ys, ap (λ z. z ∷ ys) same, ap (λ q. q.0) r.0, subst (λ z. AlwaysYields steps (λ q. q) t (placed weight (p + weight z) ys)) same r.1)
+
+  placed_ended : (p : ℕ) (xs : List A) → AlwaysYields steps (λ q. q) s (placed weight p xs) → steps s None t → xs ≡ []
+  placed_ended p [] g k = refl
+  placed_ended p (y ∷ ys) g k = absurd (g.0 t k)
+
 -- Digits that are read one by one.
-module _ {I A S T : Type 0} (w : Seen I A) (code : A → ℕ) (value : T → ℤ) (fits : ℤ → Type 0) (negative : Bool) (steps : S → Option A → S → Type 0) where
-  -- the digits that were passed, with their length and number; s gives the other items
-  pub record IsReading (i : I) (length : ℕ) (number : T) (s : S) : Type 0 where
+module _ {I A S T : Type 0} (w : Seen I A) (code : A → ℕ) (value : T → ℤ) (fits : ℤ → Type 0) (negative : Bool) (steps : S → Option (ℕ × A) → S → Type 0) where
+  -- the digits that were passed, with their number; s gives the other items, each with its place
+  pub record IsReading (i : I) (number : T) (s : S) : Type 0 where
     pub passed : List A
     pub rest : List A
     pub whole : w.elements i ≡ passed ++ rest
     pub digits_are : digits_of code (w.elements i) ≡ passed ++ digits_of code rest
     pub after_is : after_digits code (w.elements i) ≡ after_digits code rest
-    pub length_is : length ≡ span w.weight passed
     pub value_is : value number ≡ with_sign negative (number_of code passed)
     pub fitting : fits (value number)
-    pub gives : AlwaysYields steps (λ x. x) s rest
+    pub gives : AlwaysYields steps (λ x. x) s (placed w.weight (span w.weight passed) rest)
 
-  pub reading_begins : (i : I) (number : T) (s : S) → value number ≡ pos 0 → fits (pos 0) → AlwaysYields steps (λ x. x) s (w.elements i) → IsReading i 0 number s
-  reading_begins i number s e f h = record { passed = []; rest = w.elements i; whole = refl; digits_are = refl; after_is = refl; length_is = refl; value_is = e ∙ zero negative; fitting = subst fits (sym e) f; gives = h }
+  pub reading_begins : (i : I) (number : T) (s : S) → value number ≡ pos 0 → fits (pos 0) → AlwaysYields steps (λ x. x) s (placed w.weight 0 (w.elements i)) →
+      IsReading i number s
+  reading_begins i number s e f h = record {
+    passed = [];
+    rest = w.elements i;
+    whole = refl;
+    digits_are = refl;
+    after_is = refl;
+    value_is = e ∙ zero negative;
+    fitting = subst fits (sym e) f;
+    gives = h;
+  }
     where
       zero : (b : Bool) → pos 0 ≡ with_sign b 0
       zero true = refl
       zero false = refl
 
-  module _ (i : I) (n : ℕ) (number : T) (s t : S) (r : IsReading i n number s) where
+  module _ (i : I) (number : T) (s t : S) (r : IsReading i number s) where
     -- nothing is left
-    pub reading_ends : steps s None t → IsRead w code value fits negative i (record { value = number; length = n; followed = false })
-    reading_ends k =
-        let none = none_given steps s t r.rest r.gives k in
+    pub reading_ends : (n : ℕ) → n ≡ input_len w i → steps s None t →
+        IsRead w code value fits negative i (record { value = number; length = n; followed = false })
+    reading_ends n e k =
+        let none = placed_ended w.weight steps s t (span w.weight r.passed) r.rest r.gives k in
         let digits : digits_of code (w.elements i) ≡ r.passed = r.digits_are ∙ (ap (λ xs. r.passed ++ digits_of code xs) none ∙ append-nil r.passed) in
+        let all : w.elements i ≡ r.passed = r.whole ∙ (ap (λ xs. r.passed ++ xs) none ∙ append-nil r.passed) in
         record {
           value_is = r.value_is ∙ ap (λ xs. with_sign negative (number_of code xs)) (sym digits);
           fitting = r.fitting;
-          length_is = r.length_is ∙ ap (span w.weight) (sym digits);
+          length_is = e ∙ ap (span w.weight) (all ∙ sym digits);
           followed_is = (λ e. absurd (cc (e)), λ h. absurd (omega (arith, h, ap length (r.after_is ∙ ap (after_digits code) none))));
         }
 
-    module _ (x : A) (k : steps s (Some x) t) where
-      next : (xs : List A) × (r.rest ≡ x ∷ xs) × AlwaysYields steps (λ p. p) t xs
-      next = some_given steps s t x r.rest r.gives k
-
-      whole_next : w.elements i ≡ r.passed ++ (x ∷ next.0)
-      whole_next = r.whole ∙ ap (λ xs. r.passed ++ xs) next.1
-
-      -- the place behind the next item is within the input
-      pub reading_fits : (m : ℕ) → m ≡ w.weight x → n + m ≤ span w.weight (w.elements i)
-      reading_fits m e = omega (arith, r.length_is, e, ap (span w.weight) whole_next, span-append w.weight r.passed (x ∷ next.0))
+    module _ (n : ℕ) (x : A) (k : steps s (Some (n, x)) t) where
+      next : (xs : List A) × (r.rest ≡ x ∷ xs) × (n ≡ span w.weight r.passed) ×
+          AlwaysYields steps (λ q. q) t (placed w.weight (span w.weight r.passed + w.weight x) xs)
+      next = placed_given w.weight steps s t (span w.weight r.passed) n x r.rest r.gives k
 
       -- the next item is no digit
       pub reading_stops : is_dec_digit_code (code x) ≡ false → IsRead w code value fits negative i (record { value = number; length = n; followed = true })
       reading_stops h =
           let none : digits_of code (x ∷ next.0) ≡ [] = ap (λ b. cond b (x ∷ digits_of code next.0) []) h in
           let left : after_digits code (x ∷ next.0) ≡ x ∷ next.0 = ap (λ b. cond b (after_digits code next.0) (x ∷ next.0)) h in
-          let digits : digits_of code (w.elements i) ≡ r.passed = r.digits_are ∙ (ap (λ xs. r.passed ++ digits_of code xs) next.1 ∙ (ap (λ xs. r.passed ++ xs) none ∙ append-nil r.passed)) in
+          let digits : digits_of code (w.elements i) ≡ r.passed =
+          r.digits_are ∙ (ap (λ xs. r.passed ++ digits_of code xs) next.1 ∙ (ap (λ xs. r.passed ++ xs) none ∙ append-nil r.passed)) in
           record {
             value_is = r.value_is ∙ ap (λ xs. with_sign negative (number_of code xs)) (sym digits);
             fitting = r.fitting;
-            length_is = r.length_is ∙ ap (span w.weight) (sym digits);
+            length_is = next.2 ∙ ap (span w.weight) (sym digits);
             followed_is = (λ e. omega (arith, ap length (r.after_is ∙ (ap (after_digits code) next.1 ∙ left))), λ e. refl);
           }
 
       module _ (h : is_dec_digit_code (code x) ≡ true) where
         passes : digits_of code (w.elements i) ≡ (r.passed ++ (x ∷ [])) ++ digits_of code next.0
-        passes = r.digits_are ∙ (ap (λ xs. r.passed ++ digits_of code xs) next.1 ∙ (ap (λ b. r.passed ++ cond b (x ∷ digits_of code next.0) []) h ∙ sym (append_assoc r.passed (x ∷ []) (digits_of code next.0))))
+        passes =
+            r.digits_are ∙ (
+            ap (λ xs. r.passed ++ digits_of code xs) next.1 ∙ (
+            ap (λ b. r.passed ++ cond b (x ∷ digits_of code next.0) []) h ∙ sym (append_assoc r.passed (x ∷ []) (digits_of code next.0))
+            )
+            )
 
         more : number_of code (r.passed ++ (x ∷ [])) ≡ 10 * number_of code r.passed + (code x - 48)
         more = ap (value_of 10) (map-append (λ y. code y - 48) r.passed (x ∷ [])) ∙ value_more 10 0 (code x - 48) (map (λ y. code y - 48) r.passed)
 
         -- the number with the next digit fits not, so that of all digits doesn't
-        pub reading_unfit : IsRange fits → (d : ℕ) → d ≡ code x - 48 → ¬ (fits (with_sign negative (10 * number_of code r.passed + d))) → IsUnfit w code fits negative i
+        pub reading_unfit : IsRange fits → (d : ℕ) → d ≡ code x - 48 → ¬ (fits (with_sign negative (10 * number_of code r.passed + d))) →
+            IsUnfit w code fits negative i
         reading_unfit l d e u f =
             let grows = number_grows code (r.passed ++ (x ∷ [])) (digits_of code next.0) in
-            let all : fits (with_sign negative (number_of code ((r.passed ++ (x ∷ [])) ++ digits_of code next.0))) = subst (λ xs. fits (with_sign negative (number_of code xs))) passes f in
+            let all : fits (with_sign negative (number_of code ((r.passed ++ (x ∷ [])) ++ digits_of code next.0))) =
+            subst (λ xs. fits (with_sign negative (number_of code xs))) passes f in
             u (subst (λ m. fits (with_sign negative m)) (more ∙ ap (λ m. 10 * number_of code r.passed + m) (sym e)) (nearer fits l negative _ _ grows all))
 
-        pub reading_goes_on : (m d : ℕ) (longer : T) → m ≡ w.weight x → d ≡ code x - 48 → value longer ≡ with_sign negative (10 * number_of code r.passed + d) → fits (with_sign negative (10 * number_of code r.passed + d)) → IsReading i (n + m) longer t
-        reading_goes_on m d longer e f is fit = record {
-          passed = r.passed ++ (x ∷ []);
-          rest = next.0;
-          whole = whole_next ∙ sym (append_assoc r.passed (x ∷ []) next.0);
-          digits_are = passes;
-          after_is = r.after_is ∙ (ap (after_digits code) next.1 ∙ ap (λ b. cond b (after_digits code next.0) (x ∷ next.0)) h);
-          length_is = omega (arith, r.length_is, e, span-append w.weight r.passed (x ∷ []));
-          value_is = is ∙ ap (with_sign negative) (ap (λ k. 10 * number_of code r.passed + k) f ∙ sym more);
-          fitting = subst fits (sym is) fit;
-          gives = next.2;
-        }
+        pub reading_goes_on : (d : ℕ) (longer : T) → d ≡ code x - 48 → value longer ≡ with_sign negative (10 * number_of code r.passed + d) →
+            fits (with_sign negative (10 * number_of code r.passed + d)) → IsReading i longer t
+        reading_goes_on d longer f is fit =
+            let place : span w.weight r.passed + w.weight x ≡ span w.weight (r.passed ++ (x ∷ [])) = omega (arith, span-append w.weight r.passed (x ∷ [])) in
+            record {
+              passed = r.passed ++ (x ∷ []);
+              rest = next.0;
+              whole = r.whole ∙ (ap (λ xs. r.passed ++ xs) next.1 ∙ sym (append_assoc r.passed (x ∷ []) next.0));
+              digits_are = passes;
+              after_is = r.after_is ∙ (ap (after_digits code) next.1 ∙ ap (λ b. cond b (after_digits code next.0) (x ∷ next.0)) h);
+              value_is = is ∙ ap (with_sign negative) (ap (λ k. 10 * number_of code r.passed + k) f ∙ sym more);
+              fitting = subst fits (sym is) fit;
+              gives = subst (λ m. AlwaysYields steps (λ q. q) t (placed w.weight m next.0)) place next.3;
+            }

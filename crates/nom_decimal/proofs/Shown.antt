@@ -9,14 +9,17 @@ use Rattle.nom_internal.specs.Meaning.{ShowsMeaning}
 use Rattle.nom_internal.proofs.Shown.{accepted}
 use Rattle.nom_decimal.specs.declared.integer.Unsigned.{Unsigned}
 use Rattle.nom_decimal.specs.declared.integer.Number.{Number}
-use Rattle.nom_decimal.specs.Integers.{digits_of, after_digits, number_of, with_sign, sign_of, is_negative, integer_of, integer_digits, after_integer, IsEnded, integer_meaning}
+use Rattle.nom_decimal.specs.Integers.{digits_of, after_digits, number_of, with_sign, sign_of, is_negative, integer_of, integer_digits, after_integer}
+use Rattle.nom_decimal.specs.Integers.{IsEnded, integer_meaning}
 use Rattle.nom_decimal.specs.IntegerLaws.{digits_whole}
 use Rattle.nom_decimal.specs.Read.{BehindSign, IsRead, IsUnfit}
 
-module _ {I A T : Type 0} (w : Seen I A) (l : InputLaws w) (code : A → ℕ) (signed : Bool) (value : T → ℤ) (fits : ℤ → Type 0) (i : I) (u : Unsigned I) (b : BehindSign w code signed i u) where
+module _ {I A T : Type 0} (w : Seen I A) (l : InputLaws w) (code : A → ℕ) (signed : Bool) (value : T → ℤ) (fits : ℤ → Type 0) (i : I) (u : Unsigned I)
+    (b : BehindSign w code signed i u) where
   -- what is said of the list behind the sign is said of the input
   same_integer : with_sign u.negative (number_of code (digits_of code (w.elements u.digits))) ≡ integer_of code signed (w.elements i)
-  same_integer = ap (λ s. with_sign s (number_of code (digits_of code (w.elements u.digits)))) b.negative_is ∙ ap (λ xs. with_sign (is_negative code signed (w.elements i)) (number_of code (digits_of code xs))) b.elements_are
+  same_integer = ap (λ s. with_sign s (number_of code (digits_of code (w.elements u.digits)))) b.negative_is ∙
+      ap (λ xs. with_sign (is_negative code signed (w.elements i)) (number_of code (digits_of code xs))) b.elements_are
 
   same_digits : digits_of code (w.elements u.digits) ≡ integer_digits code signed (w.elements i)
   same_digits = ap (digits_of code) b.elements_are
@@ -35,7 +38,13 @@ module _ {I A T : Type 0} (w : Seen I A) (l : InputLaws w) (code : A → ℕ) (s
     integer_fits = subst fits integer_is r.fitting
 
     pub digits_place : IsPlace w u.digits n.length
-    digits_place = record { front = digits_of code (w.elements u.digits); rest = after_digits code (w.elements u.digits); whole = digits_whole code (w.elements u.digits); length_is = sym r.length_is }
+    digits_place = record {
+      front = digits_of code (w.elements u.digits);
+      rest = after_digits code (w.elements u.digits);
+      whole =
+          digits_whole code (w.elements u.digits);
+      length_is = sym r.length_is;
+    }
 
     none_after : (xs : List A) → (0 < length xs → ⊥) → length xs ≡ 0
     none_after [] h = refl
@@ -76,12 +85,19 @@ module _ {I A T : Type 0} (w : Seen I A) (l : InputLaws w) (code : A → ℕ) (s
       rest_is = rest_rest w l i (span w.weight (sign_of code signed (w.elements i))) u.digits n.length j b.rest_is rest
 
       place_is : place ≡ span w.weight (sign_of code signed (w.elements i) ++ integer_digits code signed (w.elements i))
-      place_is = omega (arith, r.length_is, ap (span w.weight) same_digits, span-append w.weight (sign_of code signed (w.elements i)) (integer_digits code signed (w.elements i)))
+      place_is = omega (
+        arith,
+        r.length_is,
+        ap (span w.weight) same_digits,
+        span-append w.weight (sign_of code signed (w.elements i)) (integer_digits code signed (w.elements i)),
+      )
 
       -- a number that was read is accepted
-      pub integer_shown : {E : Type 0} (errs : Errors I E) (x : Option T) → (n.followed ≡ false → mode.streaming ≡ false) → (n.length ≡ 0 → ⊥) → Built mode.outputs (λ y. y ≡ n.value) x → ShowsMeaning w (λ z y. value y ≡ z) (integer_meaning w code signed fits errs) mode i (Ok (j, x))
+      pub integer_shown : {E : Type 0} (errs : Errors I E) (x : Option T) → (n.followed ≡ false → mode.streaming ≡ false) → (n.length ≡ 0 → ⊥) →
+          Built mode.outputs (λ y. y ≡ n.value) x → ShowsMeaning w (λ z y. value y ≡ z) (integer_meaning w code signed fits errs) mode i (Ok (j, x))
       integer_shown errs x h k built =
-          accepted (integer_of code signed (w.elements i)) rest_is (place_is, refl, integer_fits, some_digits k, ended mode.streaming h) (of_value mode.outputs x built)
+          accepted (integer_of code signed (w.elements i)) rest_is (place_is, refl, integer_fits, some_digits k, ended mode.streaming h)
+          (of_value mode.outputs x built)
         where
           of_value : (o : Bool) (x : Option T) → Built o (λ y. y ≡ n.value) x → Built o (λ y. value y ≡ integer_of code signed (w.elements i)) x
           of_value true x b = (b.0, b.1, ap value b.2 ∙ integer_is)

@@ -17,7 +17,8 @@ less n d = omega (arith, ints)
 more : (n d : ℕ) → with_sign false n +ℤ pos d ≡ with_sign false (n + d)
 more n d = omega (arith, ints)
 
-module _ {T : Type 0} (value : T → ℤ) (fits : ℤ → Type 0) (l : IsRange fits) (negative : Bool) (number ten : T) (n d : ℕ) (is : value number ≡ with_sign negative n) (ten_is : value ten ≡ pos 10) where
+module _ {T : Type 0} (value : T → ℤ) (fits : ℤ → Type 0) (l : IsRange fits) (negative : Bool) (number ten : T) (n d : ℕ)
+    (is : value number ≡ with_sign negative n) (ten_is : value ten ≡ pos 10) where
   tens_are : value number *ℤ value ten ≡ with_sign negative (10 * n)
   tens_are = ap (λ z. z *ℤ value ten) is ∙ (ap (λ z. with_sign negative n *ℤ z) ten_is ∙ ten_times negative n)
 

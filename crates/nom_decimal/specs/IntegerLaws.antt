@@ -15,10 +15,12 @@ use Rattle.nom_traits.specs.Digits.{digits_after}
 use Rattle.nom_traits.specs.Input.{Seen, span, IsPlace, Related}
 use Rattle.nom_internal.specs.Meaning.{IsLawful, IsSteady}
 use Rattle.nom_internal.specs.Leaf.{LeafLaws, leaf_lawful, leaf_steady}
-use Rattle.nom_decimal.specs.Integers.{digits_of, after_digits, number_of, with_sign, is_sign, sign_of, after_sign, is_negative, integer_digits, after_integer, integer_of, IsRange, IsEnded, integers, integer_meaning, unsigned_meaning, signed_meaning}
+use Rattle.nom_decimal.specs.Integers.{digits_of, after_digits, number_of, with_sign, is_sign, sign_of, after_sign, is_negative, integer_digits}
+use Rattle.nom_decimal.specs.Integers.{after_integer, integer_of, IsRange, IsEnded, integers, integer_meaning, unsigned_meaning, signed_meaning}
 
 -- what a type has of the integers
-pub range_of : (fits : ℤ → Type 0) (exact : Type 0) → exact → ((n : ℕ) → n < 128 → fits (pos n)) → ((x y z : ℤ) → exact → fits x → fits z → x ≤ℤ y → y ≤ℤ z → fits y) → IsRange fits
+pub range_of : (fits : ℤ → Type 0) (exact : Type 0) → exact → ((n : ℕ) → n < 128 → fits (pos n)) →
+    ((x y z : ℤ) → exact → fits x → fits z → x ≤ℤ y → y ≤ℤ z → fits y) → IsRange fits
 range_of fits exact e small between = record { zero = small 0 (omega arith); between = λ x y z. between x y z e }
 
 -- a number is no further from 0 than one of more digits
@@ -55,13 +57,19 @@ module _ {A : Type 0} (code : A → ℕ) where
 
   kept : (xs more : List A) → 0 < length (after_digits code xs) → IsKept xs more
   kept [] more h = absurd (omega (arith, h))
-  kept (x ∷ xs) more h = record { digits_are = digits (is_dec_digit_code (code x)) h (λ k. kept xs more k); after_is = after (is_dec_digit_code (code x)) h (λ k. kept xs more k) }
+  kept (x ∷ xs) more h = record {
+    digits_are = digits (is_dec_digit_code (code x)) h (λ k. kept xs more k);
+    after_is =
+        after (is_dec_digit_code (code x)) h (λ k. kept xs more k);
+  }
     where
-      digits : (b : Bool) → 0 < length (cond b (after_digits code xs) (x ∷ xs)) → (0 < length (after_digits code xs) → IsKept xs more) → cond b (x ∷ digits_of code (xs ++ more)) [] ≡ cond b (x ∷ digits_of code xs) []
+      digits : (b : Bool) → 0 < length (cond b (after_digits code xs) (x ∷ xs)) → (0 < length (after_digits code xs) → IsKept xs more) →
+          cond b (x ∷ digits_of code (xs ++ more)) [] ≡ cond b (x ∷ digits_of code xs) []
       digits true h k = ap (λ ys. x ∷ ys) (k h).digits_are
       digits false h k = refl
 
-      after : (b : Bool) → 0 < length (cond b (after_digits code xs) (x ∷ xs)) → (0 < length (after_digits code xs) → IsKept xs more) → cond b (after_digits code (xs ++ more)) (x ∷ (xs ++ more)) ≡ cond b (after_digits code xs) (x ∷ xs) ++ more
+      after : (b : Bool) → 0 < length (cond b (after_digits code xs) (x ∷ xs)) → (0 < length (after_digits code xs) → IsKept xs more) →
+          cond b (after_digits code (xs ++ more)) (x ∷ (xs ++ more)) ≡ cond b (after_digits code xs) (x ∷ xs) ++ more
       after true h k = (k h).after_is
       after false h k = refl
 
@@ -70,7 +78,9 @@ module _ {A : Type 0} (code : A → ℕ) where
   grown [] more h = refl
   grown (x ∷ xs) more h = by (is_dec_digit_code (code x)) h (λ k. grown xs more k)
     where
-      by : (b : Bool) → length (cond b (after_digits code xs) (x ∷ xs)) ≡ 0 → (length (after_digits code xs) ≡ 0 → digits_of code (xs ++ more) ≡ digits_of code xs ++ digits_of code more) → cond b (x ∷ digits_of code (xs ++ more)) [] ≡ cond b (x ∷ digits_of code xs) [] ++ digits_of code more
+      by : (b : Bool) → length (cond b (after_digits code xs) (x ∷ xs)) ≡ 0 →
+          (length (after_digits code xs) ≡ 0 → digits_of code (xs ++ more) ≡ digits_of code xs ++ digits_of code more) →
+          cond b (x ∷ digits_of code (xs ++ more)) [] ≡ cond b (x ∷ digits_of code xs) [] ++ digits_of code more
       by true h k = ap (λ ys. x ∷ ys) (k h)
       by false h k = absurd (omega (arith, h))
 
@@ -93,7 +103,8 @@ module _ {A : Type 0} (code : A → ℕ) (signed : Bool) where
   pub integer_whole : (xs : List A) → xs ≡ (sign_of code signed xs ++ integer_digits code signed xs) ++ after_integer code signed xs
   integer_whole xs =
       let ys = after_sign code signed xs in
-      sign_whole xs ∙ (ap (λ zs. sign_of code signed xs ++ zs) (digits_whole code ys) ∙ sym (append_assoc (sign_of code signed xs) (digits_of code ys) (after_digits code ys)))
+      sign_whole xs ∙ (ap (λ zs. sign_of code signed xs ++ zs) (digits_whole code ys) ∙
+      sym (append_assoc (sign_of code signed xs) (digits_of code ys) (after_digits code ys)))
 
   -- an integer that is followed stays, as a list grows
   record IsKeptInteger (xs more : List A) : Type 0 where
@@ -123,7 +134,8 @@ module _ {A : Type 0} (code : A → ℕ) (signed : Bool) where
         let ys = after_sign code signed (x ∷ xs) in
         let digits = ap (digits_of code) (after_sign_more x xs more) ∙ grown code ys more h in
         let negative = is_negative code signed (x ∷ xs) in
-        nearer fits l negative (number_of code (digits_of code ys)) (number_of code (digits_of code ys ++ digits_of code more)) (number_grows code (digits_of code ys) (digits_of code more)) (subst (λ ds. fits (with_sign negative (number_of code ds))) digits f)
+        nearer fits l negative (number_of code (digits_of code ys)) (number_of code (digits_of code ys ++ digits_of code more))
+        (number_grows code (digits_of code ys) (digits_of code more)) (subst (λ ds. fits (with_sign negative (number_of code ds))) digits f)
 
     followed_or_not : (xs : List A) → (0 < length xs) ⊎ (length xs ≡ 0)
     followed_or_not [] = inr refl
@@ -139,7 +151,8 @@ module _ {A : Type 0} (code : A → ℕ) (signed : Bool) where
 
 module _ {I A : Type 0} (w : Seen I A) (code : A → ℕ) (signed : Bool) (fits : ℤ → Type 0) (l : IsRange fits) where
   abbrev Accepted : Bool → List A → ℕ → ℤ → Type 0
-  Accepted s xs n z = (n ≡ span w.weight (sign_of code signed xs ++ integer_digits code signed xs)) × (z ≡ integer_of code signed xs) × fits z × (0 < length (integer_digits code signed xs)) × IsEnded w code signed fits s xs
+  Accepted s xs n z = (n ≡ span w.weight (sign_of code signed xs ++ integer_digits code signed xs)) × (z ≡ integer_of code signed xs) × fits z ×
+      (0 < length (integer_digits code signed xs)) × IsEnded w code signed fits s xs
 
   abbrev Refused : Bool → List A → Type 0
   Refused s xs = (¬ (fits (integer_of code signed xs))) ⊎ ((length (integer_digits code signed xs) ≡ 0) × IsEnded w code signed fits s xs)
@@ -147,8 +160,13 @@ module _ {I A : Type 0} (w : Seen I A) (code : A → ℕ) (signed : Bool) (fits 
   accepted_more : (xs more : List A) (n : ℕ) (z : ℤ) → Accepted true xs n z → Accepted true (xs ++ more) n z
   accepted_more xs more n z a =
       let k = kept_integer code signed xs more (a.4 refl) in
-      let same = ap (λ zs. zs ++ integer_digits code signed (xs ++ more)) k.sign_is ∙ ap (λ zs. sign_of code signed xs ++ zs) k.digits_are in
-      (a.0 ∙ sym (ap (span w.weight) same), a.1 ∙ sym k.integer_is, a.2, subst (λ ds. 0 < length ds) (sym k.digits_are) a.3, λ _. omega (arith, a.4 refl, ap length k.after_is, length-append (after_integer code signed xs) more))
+      let same = ap (λ zs. zs ++ integer_digits code signed (xs ++ more)) k.sign_is ∙ ap (λ zs. sign_of code signed xs ++ zs) k.digits_are in (
+        a.0 ∙ sym (ap (span w.weight) same),
+        a.1 ∙ sym k.integer_is,
+        a.2,
+        subst (λ ds. 0 < length ds) (sym k.digits_are) a.3,
+        λ _. omega (arith, a.4 refl, ap length k.after_is, length-append (after_integer code signed xs) more),
+      )
 
   refused_more : (xs more : List A) → Refused true xs → Refused true (xs ++ more)
   refused_more xs more (inl h) = inl (unfit_stays code signed fits l xs more h)
@@ -156,12 +174,17 @@ module _ {I A : Type 0} (w : Seen I A) (code : A → ℕ) (signed : Bool) (fits 
       let k = kept_integer code signed xs more (h.1 refl) in
       inr (ap length k.digits_are ∙ h.0, λ _. omega (arith, h.1 refl, ap length k.after_is, length-append (after_integer code signed xs) more))
 
-  accepted_stays : (longer s : Bool) → (longer ≡ true → s ≡ true) → (x y : I) (n : ℕ) (z : ℤ) → Related w longer x y → Accepted s (w.elements x) n z → Accepted s (w.elements y) n z
-  accepted_stays true s only x y n z r a = subst (λ b. Accepted b (w.elements y) n z) (sym (only refl)) (subst (λ xs. Accepted true xs n z) (sym r.whole) (accepted_more (w.elements x) r.more n z (subst (λ b. Accepted b (w.elements x) n z) (only refl) a)))
+  accepted_stays : (longer s : Bool) → (longer ≡ true → s ≡ true) → (x y : I) (n : ℕ) (z : ℤ) → Related w longer x y → Accepted s (w.elements x) n z →
+      Accepted s (w.elements y) n z
+  accepted_stays true s only x y n z r a =
+      subst (λ b. Accepted b (w.elements y) n z) (sym (only refl))
+      (subst (λ xs. Accepted true xs n z) (sym r.whole) (accepted_more (w.elements x) r.more n z (subst (λ b. Accepted b (w.elements x) n z) (only refl) a)))
   accepted_stays false s only x y n z r a = subst (λ xs. Accepted s xs n z) r.elements_are a
 
   refused_stays : (longer s : Bool) → (longer ≡ true → s ≡ true) → (x y : I) → Related w longer x y → Refused s (w.elements x) → Refused s (w.elements y)
-  refused_stays true s only x y r a = subst (λ b. Refused b (w.elements y)) (sym (only refl)) (subst (λ xs. Refused true xs) (sym r.whole) (refused_more (w.elements x) r.more (subst (λ b. Refused b (w.elements x)) (only refl) a)))
+  refused_stays true s only x y r a =
+      subst (λ b. Refused b (w.elements y)) (sym (only refl))
+      (subst (λ xs. Refused true xs) (sym r.whole) (refused_more (w.elements x) r.more (subst (λ b. Refused b (w.elements x)) (only refl) a)))
   refused_stays false s only x y r a = subst (λ xs. Refused s xs) r.elements_are a
 
   apart : (s : Bool) (xs : List A) (n : ℕ) (z : ℤ) → Accepted s xs n z → Refused s xs → ⊥
@@ -177,7 +200,13 @@ module _ {I A : Type 0} (w : Seen I A) (code : A → ℕ) (signed : Bool) (fits 
   never_open xs f e (inr h) = omega (arith, h.1 refl, e)
 
   integer_place : (i : I) (n : ℕ) → n ≡ span w.weight (sign_of code signed (w.elements i) ++ integer_digits code signed (w.elements i)) → IsPlace w i n
-  integer_place i n e = record { front = sign_of code signed (w.elements i) ++ integer_digits code signed (w.elements i); rest = after_integer code signed (w.elements i); whole = integer_whole code signed (w.elements i); length_is = sym e }
+  integer_place i n e = record {
+    front = sign_of code signed (w.elements i) ++ integer_digits code signed (w.elements i);
+    rest =
+        after_integer code signed (w.elements i);
+    whole = integer_whole code signed (w.elements i);
+    length_is = sym e;
+  }
 
   pub integer_laws : LeafLaws w (integers w code signed fits)
   integer_laws = record {
@@ -189,7 +218,8 @@ module _ {I A : Type 0} (w : Seen I A) (code : A → ℕ) (signed : Bool) (fits 
     refused_lacks = λ i k h a b. never_open (w.elements i) b.0 b.1 a;
     accepted_stays = λ longer s only x y n z kx ky r a. accepted_stays longer s only x y n z r a;
     refused_stays = λ longer s only x y kx ky r a. refused_stays longer s only x y r a;
-    lack_alike = λ x y k kx ky r a. subst (λ xs. fits (integer_of code signed xs) × (length (after_integer code signed xs) ≡ 0) × (k ≡ Some 1)) r.elements_are a;
+    lack_alike = λ x y k kx ky r a. subst (λ xs. fits (integer_of code signed xs) × (length (after_integer code signed xs) ≡ 0) × (k ≡ Some 1))
+        r.elements_are a;
     accepted_settles = λ i n z h a. (a.0, a.1, a.2, a.3, λ e. absurd (cc (e)));
     refused_settles = λ i h a. settled (w.elements i) a;
   }

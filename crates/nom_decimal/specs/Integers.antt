@@ -1,5 +1,6 @@
 -- Whole numbers that are written in decimal digits.
-use Rattle.std.specs.Prelude.{◌≡◌, ℕ, ◌-◌, ◌<◌, ◌==◌, ◌||◌, ◌&&◌, Bool, true, false, cond, ◌⊎◌, List, [], ◌∷◌, ◌++◌, map, length, Some, ℤ, pos, neg_ℤ, ◌≤ℤ◌, FitsSigned}
+use Rattle.std.specs.Prelude.{◌≡◌, ℕ, ◌-◌, ◌<◌, ◌==◌, ◌||◌, ◌&&◌, Bool, true, false, cond, ◌⊎◌, List, [], ◌∷◌, ◌++◌, map, length, Some, ℤ, pos, neg_ℤ}
+use Rattle.std.specs.Prelude.{◌≤ℤ◌, FitsSigned}
 use Rattle.std.specs.Int.{Width, FitsUnsignedBits}
 use Rattle.nom_error.specs.declared.kind.ErrorKind.TheVariants as Kind
 use Rattle.nom_error.specs.Errors.{Errors}
@@ -74,7 +75,8 @@ module _ {I A : Type 0} (w : Seen I A) (code : A → ℕ) (signed : Bool) (fits 
   abbrev pub integers : Leaf I ℤ
   integers = record {
     Accepts = λ s i n z. let xs = w.elements i in
-        (n ≡ span w.weight (sign_of code signed xs ++ integer_digits code signed xs)) × (z ≡ integer_of code signed xs) × fits z × (0 < length (integer_digits code signed xs)) × IsEnded s xs;
+        (n ≡ span w.weight (sign_of code signed xs ++ integer_digits code signed xs)) × (z ≡ integer_of code signed xs) × fits z ×
+        (0 < length (integer_digits code signed xs)) × IsEnded s xs;
     Refuses = λ s i. let xs = w.elements i in
         (¬ (fits (integer_of code signed xs))) ⊎ ((length (integer_digits code signed xs) ≡ 0) × IsEnded s xs);
     Lacks = λ i k. let xs = w.elements i in

@@ -13,12 +13,16 @@ use nom_error::value::ParseError;
 use nom_internal::parser::Parser;
 use nom_traits::character::AsChar;
 use nom_traits::input::Input;
+use nom_traits::view::Viewed;
 use num_traits::PrimInt;
 use std::marker::PhantomData;
 
 /// A whole number of a type of numbers; `signed` says whether a sign may stand first.
 #[inline(always)]
-fn of_type<N: PrimInt, T: Input, E: ParseError<T>>(input: T, signed: bool) -> IResult<T, N, E>
+fn of_type<N: PrimInt + Viewed, T: Input, E: ParseError<T>>(
+    input: T,
+    signed: bool,
+) -> IResult<T, N, E>
 where
     T::Item: AsChar,
     ensures { ParsesMeaning T.seen (λ z x. N.value x ≡ z) (integer_meaning T.seen T.Item.code signed N.fits E.errors) false input result }

@@ -1,10 +1,11 @@
 //! Whole numbers in decimal digits.
 ghost use Rattle.std.specs.Prelude.{◌≡◌, ◌<◌, ◌+◌, ◌-◌, ◌*◌, ℕ, Bool, ℤ, true, false, [], ◌∷◌, MatchOption};
+ghost use Rattle.std.proofs.Common.{sym, ◌∙◌};
 ghost use Rattle.nom_traits.specs.Classes.{is_dec_digit_code};
 ghost use Rattle.nom_error.specs.Modes.{Built};
 ghost use Rattle.num_traits.specs.Laws.{Checks};
 ghost use Rattle.nom_decimal.specs.Integers.{with_sign, sign_of, integer_meaning};
-ghost use Rattle.nom_decimal.specs.IntegerLaws.{integer_lawful, range_of};
+ghost use Rattle.nom_decimal.specs.IntegerLaws.{integer_lawful, integer_steady, range_of};
 ghost use Rattle.nom_decimal.specs.Read.{BehindSign, IsRead, IsUnfit};
 
 use nom_character::first::first;
@@ -12,9 +13,10 @@ use nom_error::answer::{Err, Needed, PResult};
 use nom_error::kind::ErrorKind;
 use nom_error::mode::{IsStreaming, Mode, OutputMode};
 use nom_error::value::{ParseError, refusal};
-use nom_internal::parser::Parser;
+use nom_internal::parser::{Parser, StreamParser};
 use nom_traits::character::AsChar;
 use nom_traits::input::Input;
+use nom_traits::view::Viewed;
 use num_traits::{NumCast, PrimInt, Zero};
 use std::marker::PhantomData;
 
@@ -109,12 +111,8 @@ where
     I::Item: AsChar,
     ensures { MatchOption result (IsUnfit I.seen I.Item.code T.fits negative input) (IsRead I.seen I.Item.code T.value T.fits negative input) }
 {
-    // The length is the bound of each place; it is read and not used.
-    let _length = input.input_len();
     let mut value = T::zero();
-    let mut length = 0;
-    for item in input.iter_elements() {
-        let behind = length + input.item_len(&item);
+    for (length, item) in input.iter_indices() {
         match digit_of(item) {
             None => {
                 return Some(Number {
@@ -128,11 +126,10 @@ where
                 Some(more) => value = more,
             },
         }
-        length = behind;
     }
     Some(Number {
         value,
-        length,
+        length: input.input_len(),
         followed: false,
     })
 }
@@ -145,7 +142,7 @@ fn built<M: Mode, T: Drop>(value: T) -> Option<T>
     if M::BUILDS { Some(value) } else { None }
 }
 
-/// A whole number in decimal digits, of a type of numbers.
+/// A whole number in decimal digits, of a type of numbers, made by `u8` and its like.
 #[derive(Drop)]
 pub struct Integer<T, I, E> {
     /// Whether a sign may stand first.
@@ -154,7 +151,7 @@ pub struct Integer<T, I, E> {
     pub types: PhantomData<(T, I, E)>,
 }
 
-impl<I: Input, T: PrimInt, E: ParseError<I>> Parser<I> for Integer<T, I, E>
+impl<I: Input, T: PrimInt + Viewed, E: ParseError<I>> Parser<I> for Integer<T, I, E>
 where
     I::Item: AsChar,
 {
@@ -172,7 +169,7 @@ where
 
     ghost meaning = { λ signed. integer_meaning I.seen I.Item.code signed T.fits E.errors };
 
-    ghost Pins = { λ _. ⊥ };
+    ghost Pins = { λ _. (x y : T) → T.value x ≡ T.value y → T.view.value x ≡ T.view.value y };
 
     #[inline(always)]
     fn process<OM: OutputMode>(&mut self, input: I) -> PResult<I, T, E> {
@@ -192,5 +189,16 @@ where
         }
     }
 
-    ghost lawful = { λ signed k. integer_lawful I.seen I.Item.code signed T.fits (range_of T.fits T.exact T.exact_law T.small_fits_law T.between_law) E.errors };
+    ghost lawful = { λ signed k. integer_lawful I.seen I.Item.code signed T.fits (range_of T.fits T.exact T.exact_law T.small_fits_law T.between_law)
+        E.errors };
+}
+
+impl<I: Input, T: PrimInt + Viewed, E: ParseError<I>> StreamParser<I> for Integer<T, I, E>
+where
+    I::Item: AsChar,
+{
+    ghost pinned = { λ s k p t x y f g. p x y (f ∙ sym g) };
+
+    ghost steady = { λ signed k. integer_steady I.seen I.Item.code signed T.fits (range_of T.fits T.exact T.exact_law T.small_fits_law T.between_law)
+        E.errors };
 }

@@ -1,5 +1,6 @@
 -- Digits in base 16, one by one.
-use Rattle.std.proofs.Common.{◌≡◌, ℕ, ◌+◌, ◌-◌, ◌*◌, ◌<◌, ◌≤◌, suc, zero, Option, Some, None, List, [], ◌∷◌, ◌++◌, map, length, refl, sym, ◌∙◌, ap, arith, append_assoc, append-nil, length-append}
+use Rattle.std.proofs.Common.{◌≡◌, ℕ, ◌+◌, ◌-◌, ◌*◌, ◌<◌, ◌≤◌, suc, zero, Option, Some, None, List, [], ◌∷◌, ◌++◌, map, length, refl, sym, ◌∙◌, ap}
+use Rattle.std.proofs.Common.{arith, append_assoc, append-nil, length-append}
 use Rattle.std.specs.Iterator.{AlwaysYields}
 use Rattle.std.proofs.lemmas.Bool.Decides.{nat_tests}
 use Rattle.std.proofs.lemmas.List.{map-append}
@@ -68,10 +69,16 @@ module _ {A : Type 0} (code : A → ℕ) where
         whole_next = r.whole ∙ (ap (λ ys. r.passed ++ ys) next.1 ∙ sym (append_assoc r.passed (x ∷ []) next.0))
 
         number_next : 16 * number + hex_value (code x) ≡ hex_number code (r.passed ++ x ∷ [])
-        number_next = ap (λ n. 16 * n + hex_value (code x)) r.number_is ∙ sym (ap (value_of 16) (map-append (λ y. hex_value (code y)) r.passed (x ∷ [])) ∙ value_more 16 0 (hex_value (code x)) (map (λ y. hex_value (code y)) r.passed))
+        number_next = ap (λ n. 16 * n + hex_value (code x)) r.number_is ∙
+            sym (ap (value_of 16) (map-append (λ y. hex_value (code y)) r.passed (x ∷ [])) ∙
+            value_more 16 0 (hex_value (code x)) (map (λ y. hex_value (code y)) r.passed))
 
         pub hex_fits : length xs ≤ 8 → 16 * number + hex_value (code x) < 4294967296
-        hex_fits h = omega (arith, number_next, eight_fit (r.passed ++ x ∷ []) (omega (arith, h, ap length whole_next, length-append (r.passed ++ x ∷ []) next.0)))
+        hex_fits h = omega (
+          arith,
+          number_next,
+          eight_fit (r.passed ++ x ∷ []) (omega (arith, h, ap length whole_next, length-append (r.passed ++ x ∷ []) next.0)),
+        )
 
         pub hex_goes_on : IsHexRead xs (16 * number + hex_value (code x)) t
         hex_goes_on = record { passed = r.passed ++ x ∷ []; rest = next.0; whole = whole_next; gives = next.2; number_is = number_next }

@@ -23,7 +23,8 @@ module _ {I A : Type 0} (w : Seen I A) (l : InputLaws w) where
   -- a front of so many items
   pub count_front : (count : ℕ) (i : I) (n : ℕ) (j : I) → IsCount w i count n → IsFront w i n j → w.elements j ≡ take count (w.elements i)
   count_front count i n j c f =
-      let cut = same_cut w.weight l.positive (w.elements j) f.rest c.place.front c.place.rest (sym f.whole ∙ c.place.whole) (f.length_is ∙ sym c.place.length_is) in
+      let cut = same_cut w.weight l.positive (w.elements j) f.rest c.place.front c.place.rest (sym f.whole ∙ c.place.whole)
+      (f.length_is ∙ sym c.place.length_is) in
       let all : take count c.place.front ≡ c.place.front = take_all count c.place.front (omega (arith, c.count_is)) in
       cut.0 ∙ (sym all ∙ (sym (take-append-le count c.place.front c.place.rest (omega (arith, c.count_is))) ∙ ap (take count) (sym c.place.whole)))
 
@@ -35,7 +36,8 @@ module _ {I A E : Type 0} (w : Seen I A) (code : A → ℕ) (errs : Errors I E) 
   HexShown = ShowsMeaning w (λ t v. v ≡ t) (hex_meaning w code errs) mode i
 
   pub hex_err : (f : Answer.Err E (Option E) Needed) (r : Result (I × Option ℕ) (Answer.Err E (Option E) Needed)) → RunShown (Err f) → r ≡ Err f → HexShown r
-  hex_err f r h e = subst HexShown (sym e) (plain_err w (IsSeenAs w) (λ t v. v ≡ t) (λ _. true) (FirstEight w code) (class_meaning w code errs Class.HexDigit (Some Kind.IsA)) mode i f h)
+  hex_err f r h e = subst HexShown (sym e)
+      (plain_err w (IsSeenAs w) (λ t v. v ≡ t) (λ _. true) (FirstEight w code) (class_meaning w code errs Class.HexDigit (Some Kind.IsA)) mode i f h)
 
   -- the first eight digits of the run
   module _ (j : I) (x : Option I) (run digits : I) (h : RunShown (Ok (j, x))) (e : x ≡ Some run) (d : w.elements digits ≡ take 8 (w.elements run)) where
@@ -51,8 +53,15 @@ module _ {I A E : Type 0} (w : Seen I A) (code : A → ℕ) (errs : Errors I E) 
     pub hex_place : (n : ℕ) → n ≡ input_len w digits → IsPlace w i n
     hex_place n p = subst (IsPlace w i) (sym (p ∙ ap (span w.weight) digits_are)) (eight_place w code i (accepts h).length tree (accepts h).answered.0.first)
 
-    pub hex_ok : (n : ℕ) (k : I) (b : Option ℕ) → n ≡ input_len w digits → IsRest w i n k → Built mode.outputs (λ v. v ≡ hex_number code (w.elements digits)) b → HexShown (Ok (k, b))
+    pub hex_ok : (n : ℕ) (k : I) (b : Option ℕ) → n ≡ input_len w digits → IsRest w i n k →
+        Built mode.outputs (λ v. v ≡ hex_number code (w.elements digits)) b → HexShown (Ok (k, b))
     hex_ok n k b p r built =
         let number = hex_number code (take 8 tree.items) in
         let length = span w.weight (take 8 tree.items) in
-        Shown (Accept length number) (here (Accept (accepts h).length tree) (accepts h).answered ((accepts h).answered.0.first, refl)) (k, b, subst (λ m. IsRest w i m k) (p ∙ ap (span w.weight) digits_are) r, subst (λ xs. Built mode.outputs (λ v. v ≡ hex_number code xs) b) digits_are built, refl)
+        Shown (Accept length number) (here (Accept (accepts h).length tree) (accepts h).answered ((accepts h).answered.0.first, refl)) (
+          k,
+          b,
+          subst (λ m. IsRest w i m k) (p ∙ ap (span w.weight) digits_are) r,
+          subst (λ xs. Built mode.outputs (λ v. v ≡ hex_number code xs) b) digits_are built,
+          refl,
+        )

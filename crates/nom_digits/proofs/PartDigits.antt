@@ -1,5 +1,6 @@
 -- Zeros before and behind digits, one by one.
-use Rattle.std.proofs.Common.{◌≡◌, ℕ, ◌+◌, ◌<◌, ◌≤◌, ◌==◌, Bool, true, false, cond, Option, Some, None, List, [], ◌∷◌, ◌++◌, length, refl, sym, ◌∙◌, ap, arith, append_assoc, append-nil, length-append}
+use Rattle.std.proofs.Common.{◌≡◌, ℕ, ◌+◌, ◌<◌, ◌≤◌, ◌==◌, Bool, true, false, cond, Option, Some, None, List, [], ◌∷◌, ◌++◌, length, refl, sym, ◌∙◌}
+use Rattle.std.proofs.Common.{ap, arith, append_assoc, append-nil, length-append}
 use Rattle.std.specs.Iterator.{AlwaysYields}
 use Rattle.std.proofs.lemmas.Bool.Decides.{nat_tests}
 use Rattle.nom_traits.specs.Input.{Seen, InputLaws, IsFront, IsPlace, IsRest, span}
@@ -36,7 +37,8 @@ module _ {A : Type 0} (code : A → ℕ) where
   integer_whole (x ∷ []) = refl
   integer_whole (x ∷ (y ∷ xs)) = by (code x == 48) (integer_whole (y ∷ xs))
     where
-      by : (b : Bool) → y ∷ xs ≡ zeros_of code (y ∷ xs) ++ integer_of code (y ∷ xs) → x ∷ (y ∷ xs) ≡ cond b (x ∷ zeros_of code (y ∷ xs)) [] ++ cond b (integer_of code (y ∷ xs)) (x ∷ (y ∷ xs))
+      by : (b : Bool) → y ∷ xs ≡ zeros_of code (y ∷ xs) ++ integer_of code (y ∷ xs) → x ∷ (y ∷ xs) ≡ cond b (x ∷ zeros_of code (y ∷ xs)) [] ++
+          cond b (integer_of code (y ∷ xs)) (x ∷ (y ∷ xs))
       by true e = ap (λ ys. x ∷ ys) e
       by false e = refl
 
@@ -121,7 +123,14 @@ module _ {A S : Type 0} (weight : A → ℕ) (positive : (a : A) → 0 < weight 
       whole_next = p.whole ∙ (ap (λ ys. p.passed ++ ys) next.1 ∙ sym (append_assoc p.passed (x ∷ []) next.0))
 
       length_next : (m : ℕ) → m ≡ weight x → place + m + span weight next.0 ≡ span weight xs
-      length_next m e = omega (arith, p.place_is, e, ap (span weight) whole_next, span-append weight (p.passed ++ x ∷ []) next.0, span-append weight p.passed (x ∷ []))
+      length_next m e = omega (
+        arith,
+        p.place_is,
+        e,
+        ap (span weight) whole_next,
+        span-append weight (p.passed ++ x ∷ []) next.0,
+        span-append weight p.passed (x ∷ []),
+      )
 
       pub passed_fits : (m : ℕ) → m ≡ weight x → place + m ≤ span weight xs
       passed_fits m e = omega (arith, length_next m e)
@@ -149,7 +158,8 @@ module _ {A S : Type 0} (weight : A → ℕ) (positive : (a : A) → 0 < weight 
         zeros_here : zeros_of code (x ∷ (next place s t z.before x k).0) ≡ [] → place ≡ span weight (zeros_of code xs)
         zeros_here e =
             let rest = (next place s t z.before x k).1 in
-            z.before.place_is ∙ ap (span weight) (sym (z.zeros_are ∙ (ap (λ ys. z.before.passed ++ zeros_of code ys) rest ∙ (ap (λ ys. z.before.passed ++ ys) e ∙ append-nil z.before.passed))))
+            z.before.place_is ∙ ap (span weight)
+            (sym (z.zeros_are ∙ (ap (λ ys. z.before.passed ++ zeros_of code ys) rest ∙ (ap (λ ys. z.before.passed ++ ys) e ∙ append-nil z.before.passed))))
 
         pub zeros_stopped : (code x ≡ 48 → ⊥) → place ≡ span weight (zeros_of code xs)
         zeros_stopped h = zeros_here (zeros_stop code x (next place s t z.before x k).0 (no_zero (code x) h))
@@ -173,7 +183,9 @@ module _ {A S : Type 0} (weight : A → ℕ) (positive : (a : A) → 0 < weight 
             let more = some_there ys (λ none. h (omega (arith, none, length_next place s t z.before x k m e))) in
             record {
               before = one_passed place s t z.before x k m e;
-              zeros_are = z.zeros_are ∙ (ap (λ zs. z.before.passed ++ zeros_of code zs) (next place s t z.before x k).1 ∙ (ap (λ zs. z.before.passed ++ zs) (zeros_go code x ys more (is_zero (code x) zero)) ∙ sym (append_assoc z.before.passed (x ∷ []) (zeros_of code ys))));
+              zeros_are = z.zeros_are ∙ (ap (λ zs. z.before.passed ++ zeros_of code zs) (next place s t z.before x k).1 ∙
+                  (ap (λ zs. z.before.passed ++ zs) (zeros_go code x ys more (is_zero (code x) zero)) ∙
+                  sym (append_assoc z.before.passed (x ∷ []) (zeros_of code ys))));
             }
 
     pub kept_begin : (s : S) → AlwaysYields steps (λ x. x) s xs → IsKept weight code steps xs 0 0 s
@@ -209,25 +221,35 @@ module _ {A S : Type 0} (weight : A → ℕ) (positive : (a : A) → 0 < weight 
         pub kept_less : (kept ≡ 0 → ⊥) → code x ≡ 48 → IsKept weight code steps xs (place + m) kept t
         kept_less h zero = record {
           before = one_passed place s t z.before x k m e;
-          kept_is = z.kept_is ∙ ap (span weight) (sym (fraction_zero code z.before.passed x (some_passed z.before.passed (λ none. h (z.kept_is ∙ none))) (is_zero (code x) zero)));
+          kept_is = z.kept_is ∙ ap (span weight)
+              (sym (fraction_zero code z.before.passed x (some_passed z.before.passed (λ none. h (z.kept_is ∙ none))) (is_zero (code x) zero)));
         }
 
 module _ {I A : Type 0} (w : Seen I A) (l : InputLaws w) (code : A → ℕ) (i : I) (n : ℕ) where
   pub integer_place : n ≡ span w.weight (zeros_of code (w.elements i)) → IsPlace w i n
-  integer_place e = record { front = zeros_of code (w.elements i); rest = integer_of code (w.elements i); whole = integer_whole code (w.elements i); length_is = sym e }
+  integer_place e = record {
+    front = zeros_of code (w.elements i);
+    rest = integer_of code (w.elements i);
+    whole = integer_whole code (w.elements i);
+    length_is = sym e;
+  }
 
-  pub integer_seen : (j : I) (t : Slice w) → n ≡ span w.weight (zeros_of code (w.elements i)) → IsRest w i n j → IsSeenAs w t i → IsSeenAs w (integer_slice w code t) j
+  pub integer_seen : (j : I) (t : Slice w) → n ≡ span w.weight (zeros_of code (w.elements i)) → IsRest w i n j → IsSeenAs w t i →
+      IsSeenAs w (integer_slice w code t) j
   integer_seen j t e r s =
-      let cut = same_cut w.weight l.positive r.front (w.elements j) (zeros_of code (w.elements i)) (integer_of code (w.elements i)) (sym r.whole ∙ integer_whole code (w.elements i)) (r.length_is ∙ e) in
+      let cut = same_cut w.weight l.positive r.front (w.elements j) (zeros_of code (w.elements i)) (integer_of code (w.elements i))
+      (sym r.whole ∙ integer_whole code (w.elements i)) (r.length_is ∙ e) in
       record {
         elements_are = cut.1 ∙ ap (integer_of code) s.elements_are;
         mark_is = r.mark_is ∙ (ap (λ m. w.mark_after m r.front) s.mark_is ∙ ap (w.mark_after t.mark) (cut.0 ∙ ap (zeros_of code) s.elements_are));
       }
 
   pub fraction_place : n ≡ span w.weight (fraction_of code (w.elements i)) → IsPlace w i n
-  fraction_place e = let whole = fraction_whole code (w.elements i) in record { front = fraction_of code (w.elements i); rest = whole.0; whole = whole.1; length_is = sym e }
+  fraction_place e = let whole =
+      fraction_whole code (w.elements i) in record { front = fraction_of code (w.elements i); rest = whole.0; whole = whole.1; length_is = sym e }
 
-  pub fraction_seen : (j : I) (t : Slice w) → n ≡ span w.weight (fraction_of code (w.elements i)) → IsFront w i n j → IsSeenAs w t i → IsSeenAs w (fraction_slice w code t) j
+  pub fraction_seen : (j : I) (t : Slice w) → n ≡ span w.weight (fraction_of code (w.elements i)) → IsFront w i n j → IsSeenAs w t i →
+      IsSeenAs w (fraction_slice w code t) j
   fraction_seen j t e f s =
       let whole = fraction_whole code (w.elements i) in
       let cut = same_cut w.weight l.positive (w.elements j) f.rest (fraction_of code (w.elements i)) whole.0 (sym f.whole ∙ whole.1) (f.length_is ∙ e) in

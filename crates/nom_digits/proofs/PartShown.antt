@@ -22,21 +22,27 @@ module _ {I A : Type 0} (w : Seen I A) where
   either_seen (inl t) x h = h
   either_seen (inr t) x h = h
 
-  both_seen : (t : Both w) (x : I × I) → EitherOutput (λ u x. IsSeenAs w u.0 x.0 × EitherOutput (IsSeenAs w) (IsSeenAs w) u.1 x.1) (λ u x. IsSeenAs w u.0 x.0 × IsSeenAs w u.1 x.1) t x → IsSeenAs w (before_of w t) x.0 × IsSeenAs w (behind_of w t) x.1
+  both_seen : (t : Both w) (x : I × I) → EitherOutput (λ u x. IsSeenAs w u.0 x.0 × EitherOutput (IsSeenAs w) (IsSeenAs w) u.1 x.1)
+      (λ u x. IsSeenAs w u.0 x.0 × IsSeenAs w u.1 x.1) t x → IsSeenAs w (before_of w t) x.0 × IsSeenAs w (behind_of w t) x.1
   both_seen (inl t) x h = (h.0, either_seen t.1 x.1 h.1)
   both_seen (inr t) x h = h
 
   -- each part by its digits
-  pub parts_made : (code : A → ℕ) (o : (Option ℕ × (I × I)) × Option ℤ) (plus : Bool) (integer fraction : I) (number : ℤ) → plus ≡ is_plus o.0.0 → ((t : Slice w) → IsSeenAs w t o.0.1.0 → IsSeenAs w (integer_slice w code t) integer) → ((t : Slice w) → IsSeenAs w t o.0.1.1 → IsSeenAs w (fraction_slice w code t) fraction) → number ≡ power_read o.1 → (t : (Option (ℕ ⊎ ℕ) × Both w) × Option ℤ) → IsRaw w t o → IsParts w code t (plus, integer, fraction, number)
+  pub parts_made : (code : A → ℕ) (o : (Option ℕ × (I × I)) × Option ℤ) (plus : Bool) (integer fraction : I) (number : ℤ) → plus ≡ is_plus o.0.0 →
+      ((t : Slice w) → IsSeenAs w t o.0.1.0 → IsSeenAs w (integer_slice w code t) integer) →
+      ((t : Slice w) → IsSeenAs w t o.0.1.1 → IsSeenAs w (fraction_slice w code t) fraction) → number ≡ power_read o.1 →
+      (t : (Option (ℕ ⊎ ℕ) × Both w) × Option ℤ) → IsRaw w t o → IsParts w code t (plus, integer, fraction, number)
   parts_made code o plus integer fraction number p f g n t r =
       let both = both_seen t.0.1 o.0.1 r.0.1 in
       (p ∙ sign_same t.0.0 o.0.0 r.0.0, f (before_of w t.0.1) both.0, g (behind_of w t.0.1) both.1, n ∙ power_same t.1 o.1 r.1)
 
 -- an output in another form, where outputs are built
-pub some_built : {O X : Type 0} (IsRead : O → Type 0) (IsMade : X → Type 0) (built : Bool) (x : Option O) (o : O) (y : X) → x ≡ Some o → (IsRead o → IsMade y) → Built built IsRead x → Built built IsMade (Some y)
+pub some_built : {O X : Type 0} (IsRead : O → Type 0) (IsMade : X → Type 0) (built : Bool) (x : Option O) (o : O) (y : X) → x ≡ Some o →
+    (IsRead o → IsMade y) → Built built IsRead x → Built built IsMade (Some y)
 some_built IsRead IsMade true x o y e f b = let same : b.0 ≡ o = cc (b.1, e) in (y, refl, f (subst IsRead same b.2))
 some_built IsRead IsMade false x o y e f b = absurd (cc (b, e))
 
-pub none_built : {O X : Type 0} (IsRead : O → Type 0) (IsMade : X → Type 0) (built : Bool) (x : Option O) → x ≡ None → Built built IsRead x → Built built IsMade None
+pub none_built : {O X : Type 0} (IsRead : O → Type 0) (IsMade : X → Type 0) (built : Bool) (x : Option O) → x ≡ None → Built built IsRead x →
+    Built built IsMade None
 none_built IsRead IsMade true x e b = absurd (cc (b.1, e))
 none_built IsRead IsMade false x e b = refl

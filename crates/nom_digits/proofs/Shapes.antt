@@ -49,9 +49,11 @@ module _ {I A E : Type 0} (w : Seen I A) (code : A → ℕ) (errs : Errors I E) 
       let part = recognized_meaning w (pair_meaning w (char_meaning w code errs s.first_point) digits) in
       let behind = pair_meaning w (opt_meaning (either_meaning w code errs s.exponent_plus s.exponent_minus)) (cut_meaning digits) in
       let exponent = recognized_meaning w (pair_meaning w (either_meaning w code errs s.small s.large) behind) in
-      recognized_meaning w (pair_meaning w (opt_meaning (either_meaning w code errs s.plus s.minus)) (pair_meaning w (choice_meaning errs (next_meaning errs whole part)) (opt_meaning exponent)))
+      recognized_meaning w (pair_meaning w (opt_meaning (either_meaning w code errs s.plus s.minus))
+      (pair_meaning w (choice_meaning errs (next_meaning errs whole part)) (opt_meaning exponent)))
 
-  pub shape_shown : (s : Wants) (mode : Modes) (i : I) (r : Result (I × Option I) (Answer.Err E (Option E) Needed)) → s ≡ fraction_wants → ShowsMeaning w (IsSeenAs w) (shape_of s) mode i r → ShowsMeaning w (IsSeenAs w) (float_meaning w code errs) mode i r
+  pub shape_shown : (s : Wants) (mode : Modes) (i : I) (r : Result (I × Option I) (Answer.Err E (Option E) Needed)) → s ≡ fraction_wants →
+      ShowsMeaning w (IsSeenAs w) (shape_of s) mode i r → ShowsMeaning w (IsSeenAs w) (float_meaning w code errs) mode i r
   shape_shown s mode i r e = subst (λ z. ShowsMeaning w (IsSeenAs w) (shape_of z) mode i r) e
 
 -- what the parsers of the parts want
@@ -71,7 +73,23 @@ pub record PartWants : Type 0 where
   pub signed : Bool
 
 abbrev pub part_wants : ℕ → ℕ → ℕ → ℕ → ℕ → ℕ → AsciiClass → Option ErrorKind → AsciiClass → Option ErrorKind → AsciiClass → Option ErrorKind → Bool → PartWants
-part_wants a b c d e f g h k l m n o = record { plus = a; minus = b; point = c; first_point = d; small = e; large = f; behind_class = g; behind_wanted = h; none_class = k; none_wanted = l; alone_class = m; alone_wanted = n; signed = o }
+part_wants a b c d e f g h k l m n o =
+    record {
+      plus = a;
+      minus = b;
+      point = c;
+      first_point = d;
+      small = e;
+      large = f;
+      behind_class = g;
+      behind_wanted = h;
+      none_class = k;
+      none_wanted =
+          l;
+      alone_class = m;
+      alone_wanted = n;
+      signed = o;
+    }
 
 abbrev pub parts_want : PartWants
 parts_want = part_wants 43 45 46 46 101 69 Class.Digit None Class.Digit None Class.Digit None true
@@ -80,11 +98,17 @@ module _ {I A E : Type 0} (w : Seen I A) (code : A → ℕ) (errs : Errors I E) 
   abbrev parts_of : PartWants → Meaning I ((Option (ℕ ⊎ ℕ) × Both w) × Option ℤ) E
   parts_of s =
       let digits = digits_meaning w code errs in
-      let behind = choice_meaning errs (next_meaning errs (preceded_meaning w (char_meaning w code errs s.point) (class_meaning w code errs s.behind_class s.behind_wanted)) (class_meaning w code errs s.none_class s.none_wanted)) in
-      let alone = pair_meaning w (class_meaning w code errs s.alone_class s.alone_wanted) (preceded_meaning w (char_meaning w code errs s.first_point) digits) in
+      let behind = choice_meaning errs
+      (next_meaning errs (preceded_meaning w (char_meaning w code errs s.point) (class_meaning w code errs s.behind_class s.behind_wanted))
+      (class_meaning w code errs s.none_class s.none_wanted)) in
+      let alone = pair_meaning w (class_meaning w code errs s.alone_class s.alone_wanted)
+      (preceded_meaning w (char_meaning w code errs s.first_point) digits) in
       let both = choice_meaning errs (next_meaning errs (pair_meaning w digits behind) alone) in
       let mantissa = as_float_meaning errs (pair_meaning w (opt_meaning (either_meaning w code errs s.plus s.minus)) both) in
-      pair_meaning w mantissa (opt_meaning (preceded_meaning w (either_meaning w code errs s.small s.large) (cut_meaning (integer_meaning w code s.signed (λ z. FitsSigned w32 z) errs))))
+      pair_meaning w mantissa (opt_meaning
+      (preceded_meaning w (either_meaning w code errs s.small s.large) (cut_meaning (integer_meaning w code s.signed (λ z. FitsSigned w32 z) errs))))
 
-  pub parts_shown : (s : PartWants) (mode : Modes) (i : I) (r : Result (I × Option ((Option ℕ × (I × I)) × Option ℤ)) (Answer.Err E (Option E) Needed)) → s ≡ parts_want → ShowsMeaning w (IsRaw w) (parts_of s) mode i r → ShowsMeaning w (IsRaw w) (parts_meaning w code errs) mode i r
+  pub parts_shown : (s : PartWants) (mode : Modes) (i : I)
+      (r : Result (I × Option ((Option ℕ × (I × I)) × Option ℤ)) (Answer.Err E (Option E) Needed)) → s ≡ parts_want →
+      ShowsMeaning w (IsRaw w) (parts_of s) mode i r → ShowsMeaning w (IsRaw w) (parts_meaning w code errs) mode i r
   parts_shown s mode i r e = subst (λ z. ShowsMeaning w (IsRaw w) (parts_of z) mode i r) e

@@ -1,5 +1,6 @@
 -- What was found of a word at the start of an input.
-use Rattle.std.proofs.Common.{◌≡◌, ℕ, ◌+◌, ◌-◌, ◌==◌, ◌<◌, ◌≤◌, Bool, true, false, cond, Option, Some, Result, Ok, Err, List, [], ◌∷◌, ◌++◌, drop, get_or, length, refl, sym, ◌∙◌, ap, subst, arith, length-append, append_assoc}
+use Rattle.std.proofs.Common.{◌≡◌, ℕ, ◌+◌, ◌-◌, ◌==◌, ◌<◌, ◌≤◌, Bool, true, false, cond, Option, Some, Result, Ok, Err, List, [], ◌∷◌, ◌++◌, drop}
+use Rattle.std.proofs.Common.{get_or, length, refl, sym, ◌∙◌, ap, subst, arith, length-append, append_assoc}
 use Rattle.std.specs.Char.{to_ascii_lowercase}
 use Rattle.std.proofs.lemmas.Bool.Decides.{nat_tests}
 use Rattle.std.proofs.lemmas.List.{drop_more, drop_all, length-drop}
@@ -75,7 +76,12 @@ module _ {I A : Type 0} (w : Seen I A) (code : A → ℕ) (word : List ℕ) (i :
   module _ (k : ℕ) (j : I) (f : IsFound k j) where
     -- all letters
     pub found_all : length word ≤ k → IsWordAt w code word i (Found.Stands j)
-    found_all h = (f.place, f.rest_is, λ s. f.word_is s ∙ (ap (λ cs. later k (word_in code cs s (w.elements j))) (drop_all k word h) ∙ ap Stands (behind f.count_is)))
+    found_all h = (
+      f.place,
+      f.rest_is,
+      λ s. f.word_is s ∙
+          (ap (λ cs. later k (word_in code cs s (w.elements j))) (drop_all k word h) ∙ ap Stands (behind f.count_is)),
+    )
       where
         behind : length f.rest_is.front ≡ k → 0 + k ≡ length f.rest_is.front
         behind e = omega (arith, e)
@@ -89,14 +95,19 @@ module _ {I A : Type 0} (w : Seen I A) (code : A → ℕ) (word : List ℕ) (i :
 
       pub found_lacks : (n : ℕ) → n ≡ length word - k → w.elements j ≡ [] → IsWordAt w code word i (Found.Lacks n)
       found_lacks n e none =
-          let left : length (drop (k + 1) word) + 1 ≡ n = omega (arith, e, within, length-drop (k + 1) word) in
-          (omega (arith, e, within), λ s. next_is s ∙ (ap (λ xs. later k (word_in code (c ∷ drop (k + 1) word) s xs)) none ∙ (later_end k s (Some (length (drop (k + 1) word) + 1)) ∙ ap (λ m. at_end s (Some m) Absent) left)))
+          let left : length (drop (k + 1) word) + 1 ≡ n = omega (arith, e, within, length-drop (k + 1) word) in (
+            omega (arith, e, within),
+            λ s. next_is s ∙
+                (ap (λ xs. later k (word_in code (c ∷ drop (k + 1) word) s xs)) none ∙
+                (later_end k s (Some (length (drop (k + 1) word) + 1)) ∙ ap (λ m. at_end s (Some m) Absent) left)),
+          )
 
       module _ (x : A) (p : IsHead w j x) where
         pub found_differs : (to_ascii_lowercase (code x) ≡ c → ⊥) → IsWordAt w code word i Found.Differs
         found_differs h =
             let differs = another_letter (to_ascii_lowercase (code x)) c h in
-            λ s. next_is s ∙ (ap (λ xs. later k (word_in code (c ∷ drop (k + 1) word) s xs)) p.whole ∙ ap (later k) (by_another (to_ascii_lowercase (code x) == c) (one_more (word_in code (drop (k + 1) word) s p.rest)) differs))
+            λ s. next_is s ∙ (ap (λ xs. later k (word_in code (c ∷ drop (k + 1) word) s xs)) p.whole ∙
+            ap (later k) (by_another (to_ascii_lowercase (code x) == c) (one_more (word_in code (drop (k + 1) word) s p.rest)) differs))
 
         pub found_more : InputLaws w → (n : ℕ) (m : I) → n ≡ w.weight x → IsRest w j n m → to_ascii_lowercase (code x) ≡ c → IsFound (k + 1) m
         found_more l n m e rest same =
@@ -105,27 +116,33 @@ module _ {I A : Type 0} (w : Seen I A) (code : A → ℕ) (word : List ℕ) (i :
             let items = behind_head w l j m x p r in
             let one : span w.weight (x ∷ []) ≡ w.weight x = omega arith in
             let letters = f.rest_is.front ++ x ∷ [] in
-            let whole : w.elements i ≡ letters ++ w.elements m = f.rest_is.whole ∙ (ap (λ xs. f.rest_is.front ++ xs) items ∙ sym (append_assoc f.rest_is.front (x ∷ []) (w.elements m))) in
+            let whole : w.elements i ≡ letters ++ w.elements m =
+            f.rest_is.whole ∙ (ap (λ xs. f.rest_is.front ++ xs) items ∙ sym (append_assoc f.rest_is.front (x ∷ []) (w.elements m))) in
             let long : span w.weight letters ≡ f.place + w.weight x = omega (arith, one, f.rest_is.length_is, span-append w.weight f.rest_is.front (x ∷ [])) in
             let front : both.front ≡ letters = before_rest w l i m (f.place + w.weight x) letters both whole long in
             record {
               place = f.place + w.weight x;
               rest_is = both;
               count_is = omega (arith, f.count_is, ap length front, length-append f.rest_is.front (x ∷ []));
-              word_is = λ s. next_is s ∙ (ap (λ xs. later k (word_in code (c ∷ drop (k + 1) word) s xs)) items ∙ (ap (later k) (by_letter (to_ascii_lowercase (code x) == c) (one_more (word_in code (drop (k + 1) word) s (w.elements m))) (is_letter (to_ascii_lowercase (code x)) c same)) ∙ later_more k (word_in code (drop (k + 1) word) s (w.elements m))));
+              word_is = λ s. next_is s ∙ (ap (λ xs. later k (word_in code (c ∷ drop (k + 1) word) s xs)) items ∙
+                  (ap (later k) (by_letter (to_ascii_lowercase (code x) == c) (one_more (word_in code (drop (k + 1) word) s (w.elements m)))
+                  (is_letter (to_ascii_lowercase (code x)) c same)) ∙ later_more k (word_in code (drop (k + 1) word) s (w.elements m))));
             }
 
 module _ {I A E : Type 0} (w : Seen I A) (code : A → ℕ) (errs : Errors I E) (mode : Modes) (i : I) (word letters : List ℕ) (same : letters ≡ word) where
   abbrev WordShown : Result (I × Option I) (Answer.Err E (Option E) Needed) → Type 0
   WordShown = ShowsMeaning w (IsSeenAs w) (word_meaning w code errs word) mode i
 
-  pub word_stands : (j : I) (x : Option I) → (f : IsWordAt w code letters i (Found.Stands j)) → ((n : ℕ) (t : Slice w) → IsRest w i n j → IsFirst w i n t → Built mode.outputs (IsSeenAs w t) x) → WordShown (Ok (j, x))
+  pub word_stands : (j : I) (x : Option I) → (f : IsWordAt w code letters i (Found.Stands j)) →
+      ((n : ℕ) (t : Slice w) → IsRest w i n j → IsFirst w i n t → Built mode.outputs (IsSeenAs w t) x) → WordShown (Ok (j, x))
   word_stands j x f built =
       let slice : Slice w = record { items = f.1.front; mark = w.mark i } in
       let first : IsFirst w i f.0 slice = record { rest = w.elements j; whole = f.1.whole; length_is = f.1.length_is; mark_is = refl } in
-      accepted slice f.1 (first, subst (λ cs. word_in code cs mode.streaming (w.elements i) ≡ Stands (length f.1.front)) same (f.2 mode.streaming)) (built f.0 slice f.1 first)
+      accepted slice f.1 (first, subst (λ cs. word_in code cs mode.streaming (w.elements i) ≡ Stands (length f.1.front)) same (f.2 mode.streaming))
+      (built f.0 slice f.1 first)
 
-  pub word_absent : (f : Answer.Err E (Option E) Needed) → IsWordAt w code letters i Found.Differs → Refuses (errs.of_kind i Kind.Float) errs.grows mode.errors f → WordShown (Err f)
+  pub word_absent : (f : Answer.Err E (Option E) Needed) → IsWordAt w code letters i Found.Differs →
+      Refuses (errs.of_kind i Kind.Float) errs.grows mode.errors f → WordShown (Err f)
   word_absent f h r = refused r (subst (λ cs. word_in code cs mode.streaming (w.elements i) ≡ Absent) same (h mode.streaming))
 
   module _ (k : ℕ) (h : IsWordAt w code letters i (Found.Lacks k)) where
@@ -135,5 +152,6 @@ module _ {I A E : Type 0} (w : Seen I A) (code : A → ℕ) (errs : Errors I E) 
     pub word_lacks : (n : Needed) → mode.streaming ≡ true → size_of n ≡ Some k → WordShown (Err (Incomplete n))
     word_lacks n s e = undecided refl (s, lacks true ∙ ap Begins (sym e))
 
-    pub word_ends : (f : Answer.Err E (Option E) Needed) → mode.streaming ≡ false → Refuses (errs.of_kind i Kind.Float) errs.grows mode.errors f → WordShown (Err f)
+    pub word_ends : (f : Answer.Err E (Option E) Needed) → mode.streaming ≡ false → Refuses (errs.of_kind i Kind.Float) errs.grows mode.errors f →
+        WordShown (Err f)
     word_ends f s r = refused r (subst (λ b. word_in code word b (w.elements i) ≡ Absent) (sym s) (lacks false))

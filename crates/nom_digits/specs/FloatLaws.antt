@@ -49,7 +49,8 @@ module _ {I A E : Type 0} (w : Seen I A) where
         steady = choice_steady errs (next_stays errs (stays a p.steady) (stays b q.steady));
       }
 
-module _ {I A E : Type 0} (w : Seen I A) (l : InputLaws w) (IsValue : A → Type 0) (values : (i : I) → w.IsKnown i → AreValues IsValue (w.elements i)) (code : A → ℕ) (errs : Errors I E) where
+module _ {I A E : Type 0} (w : Seen I A) (l : InputLaws w) (IsValue : A → Type 0) (values : (i : I) → w.IsKnown i → AreValues IsValue (w.elements i))
+    (code : A → ℕ) (errs : Errors I E) where
   pub char_stream : (c : ℕ) → IsStream w (char_meaning w code errs c)
   char_stream c = record {
     lawful = head_lawful w IsValue values code (λ x b. b ≡ (code x == c)) (told IsValue (λ x. code x == c)) (Some (len_utf8 c)) (Unit {0}) errs (OfChar c);

@@ -35,7 +35,8 @@ module _ {I A E : Type 0} (w : Seen I A) (code : A → ℕ) (errs : Errors I E) 
 
   -- `e` or `E`, an optional sign, and digits, which must be there
   abbrev pub exponent_meaning : Meaning I (Slice w) E
-  exponent_meaning = recognized_meaning w (pair_meaning w (either_meaning 101 69) (pair_meaning w (opt_meaning (either_meaning 43 45)) (cut_meaning digits_meaning)))
+  exponent_meaning = recognized_meaning w
+      (pair_meaning w (either_meaning 101 69) (pair_meaning w (opt_meaning (either_meaning 43 45)) (cut_meaning digits_meaning)))
 
   -- an optional sign, one of the two, and an optional exponent: what they consume
   abbrev pub float_meaning : Meaning I (Slice w) E

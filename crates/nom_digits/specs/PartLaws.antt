@@ -17,7 +17,8 @@ use Rattle.nom_decimal.specs.Integers.{signed_meaning}
 use Rattle.nom_decimal.specs.IntegerLaws.{signed_lawful, signed_steady}
 use Rattle.nom_digits.specs.FloatLaws.{IsStream, opt_stream, cut_stream, pair_stream, choice_stream, char_stream, either_stream, digits_stream}
 use Rattle.nom_digits.specs.WordLaws.{as_float_stream}
-use Rattle.nom_digits.specs.Parts.{digits0_meaning, behind_meaning, both_meaning, mantissa_meaning, power_meaning, parts_meaning, IsParts, integer_slice, fraction_slice, before_of, behind_of}
+use Rattle.nom_digits.specs.Parts.{digits0_meaning, behind_meaning, both_meaning, mantissa_meaning, power_meaning, parts_meaning, IsParts}
+use Rattle.nom_digits.specs.Parts.{integer_slice, fraction_slice, before_of, behind_of}
 
 module _ {I A P Q E : Type 0} (w : Seen I A) (l : InputLaws w) (a : Meaning I P E) (p : IsStream w a) (b : Meaning I Q E) (q : IsStream w b) where
   preceded_stream : IsStream w (preceded_meaning w a b)
@@ -26,7 +27,8 @@ module _ {I A P Q E : Type 0} (w : Seen I A) (l : InputLaws w) (a : Meaning I P 
     steady = sequence_steady w l (λ u v. v) (with_outputs false) (λ o. o) a b p.steady q.steady;
   }
 
-module _ {I A E : Type 0} (w : Seen I A) (l : InputLaws w) (IsValue : A → Type 0) (values : (i : I) → w.IsKnown i → AreValues IsValue (w.elements i)) (code : A → ℕ) (errs : Errors I E) where
+module _ {I A E : Type 0} (w : Seen I A) (l : InputLaws w) (IsValue : A → Type 0) (values : (i : I) → w.IsKnown i → AreValues IsValue (w.elements i))
+    (code : A → ℕ) (errs : Errors I E) where
   digits0_stream : IsStream w (digits0_meaning w code errs)
   digits0_stream = record {
     lawful = class_lawful w IsValue values code errs Class.Digit None;
@@ -56,7 +58,13 @@ module _ {I A E : Type 0} (w : Seen I A) (l : InputLaws w) (IsValue : A → Type
   parts_stream = pair_stream w _ mantissa_stream _ power_stream l
 
 -- the parts of one tree are one
-pub parts_pinned : {I A : Type 0} (w : Seen I A) (view : View I) → ((x y : I) → IsSame w x y → view.value x ≡ view.value y) → (code : A → ℕ) → IsPinned (view_4 itself view view itself) (IsParts w code)
+pub parts_pinned : {I A : Type 0} (w : Seen I A) (view : View I) → ((x y : I) → IsSame w x y → view.value x ≡ view.value y) → (code : A → ℕ) →
+    IsPinned (view_4 itself view view itself) (IsParts w code)
 parts_pinned w view views code t o n p q =
     let slice = slice_pinned w view views in
-    cc (p.0 ∙ sym q.0, slice (integer_slice w code (before_of w t.0.1)) o.1 n.1 p.1 q.1, slice (fraction_slice w code (behind_of w t.0.1)) o.2 n.2 p.2 q.2, p.3 ∙ sym q.3)
+    cc (
+      p.0 ∙ sym q.0,
+      slice (integer_slice w code (before_of w t.0.1)) o.1 n.1 p.1 q.1,
+      slice (fraction_slice w code (behind_of w t.0.1)) o.2 n.2 p.2 q.2,
+      p.3 ∙ sym q.3,
+    )

@@ -82,7 +82,9 @@ module _ {I A E : Type 0} (w : Seen I A) (code : A → ℕ) (errs : Errors I E) 
 
   -- digits before the point and behind it: one at least before it, or else behind it
   abbrev pub both_meaning : Meaning I (Both w) E
-  both_meaning = choice_meaning errs (next_meaning errs (pair_meaning w (digits_meaning w code errs) behind_meaning) (pair_meaning w digits0_meaning (preceded_meaning w (char_meaning w code errs 46) (digits_meaning w code errs))))
+  both_meaning = choice_meaning errs
+      (next_meaning errs (pair_meaning w (digits_meaning w code errs) behind_meaning)
+      (pair_meaning w digits0_meaning (preceded_meaning w (char_meaning w code errs 46) (digits_meaning w code errs))))
 
   -- an optional sign, and the digits; each refusal is one of `Float` at the start
   abbrev pub mantissa_meaning : Meaning I (Option (ℕ ⊎ ℕ) × Both w) E
@@ -113,8 +115,11 @@ power_read (Some z) = z
 
 -- What a tree stands for: the sign, the integer, the fraction and the power of ten.
 abbrev pub IsParts : {I A : Type 0} (w : Seen I A) → (code : A → ℕ) → (Option (ℕ ⊎ ℕ) × Both w) × Option ℤ → Bool × I × I × ℤ → Type 0
-IsParts w code t o = (o.0 ≡ is_plus (sign_read t.0.0)) × IsSeenAs w (integer_slice w code (before_of w t.0.1)) o.1 × IsSeenAs w (fraction_slice w code (behind_of w t.0.1)) o.2 × (o.3 ≡ power_read t.1)
+IsParts w code t o = (o.0 ≡ is_plus (sign_read t.0.0)) × IsSeenAs w (integer_slice w code (before_of w t.0.1)) o.1 ×
+    IsSeenAs w (fraction_slice w code (behind_of w t.0.1)) o.2 × (o.3 ≡ power_read t.1)
 
 -- the digits and signs that were read, before zeros are left out
 abbrev pub IsRaw : {I A : Type 0} (w : Seen I A) → (Option (ℕ ⊎ ℕ) × Both w) × Option ℤ → (Option ℕ × (I × I)) × Option ℤ → Type 0
-IsRaw w t o = (OptOutput (EitherOutput (λ c x. x ≡ c) (λ c x. x ≡ c)) t.0.0 o.0.0 × EitherOutput (λ u x. IsSeenAs w u.0 x.0 × EitherOutput (IsSeenAs w) (IsSeenAs w) u.1 x.1) (λ u x. IsSeenAs w u.0 x.0 × IsSeenAs w u.1 x.1) t.0.1 o.0.1) × OptOutput (λ z x. x ≡ z) t.1 o.1
+IsRaw w t o = (OptOutput (EitherOutput (λ c x. x ≡ c) (λ c x. x ≡ c)) t.0.0 o.0.0 ×
+    EitherOutput (λ u x. IsSeenAs w u.0 x.0 × EitherOutput (IsSeenAs w) (IsSeenAs w) u.1 x.1)
+    (λ u x. IsSeenAs w u.0 x.0 × IsSeenAs w u.1 x.1) t.0.1 o.0.1) × OptOutput (λ z x. x ≡ z) t.1 o.1

@@ -24,11 +24,13 @@ settled_less Absent h = tt
 settled_less (Begins lack) h = h
 
 module _ {A : Type 0} (code : A → ℕ) where
-  by_letter : (b : Bool) (p q : Sight) → (IsSettled p → q ≡ p) → IsSettled (cond b (one_more p) Absent) → cond b (one_more q) Absent ≡ cond b (one_more p) Absent
+  by_letter : (b : Bool) (p q : Sight) → (IsSettled p → q ≡ p) → IsSettled (cond b (one_more p) Absent) →
+      cond b (one_more q) Absent ≡ cond b (one_more p) Absent
   by_letter true p q f h = ap one_more (f (settled_less p h))
   by_letter false p q f h = refl
 
-  word_stays : (word : List ℕ) (s : Bool) (xs more : List A) → IsSettled (word_in code word true xs) → word_in code word s (xs ++ more) ≡ word_in code word true xs
+  word_stays : (word : List ℕ) (s : Bool) (xs more : List A) → IsSettled (word_in code word true xs) →
+      word_in code word s (xs ++ more) ≡ word_in code word true xs
   word_stays [] s xs more h = refl
   word_stays (c ∷ cs) s [] more h = absurd h
   word_stays (c ∷ cs) s (x ∷ xs) more h = by_letter (to_ascii_lowercase (code x) == c) _ _ (word_stays cs s xs more) h
@@ -53,12 +55,21 @@ module _ {I A E : Type 0} (w : Seen I A) (code : A → ℕ) (errs : Errors I E) 
   -- a part, and the three words
   module _ {P : Type 0} (a : Meaning I P E) where
     pub exceptions_lawful : IsLawful w a → IsLawful w (exceptions_meaning w code errs a)
-    exceptions_lawful p = choice_lawful errs (next_lawful errs (next_lawful errs (next_lawful errs p (word_stream (codes "nan")).lawful) (word_stream (codes "infinity")).lawful) (word_stream (codes "inf")).lawful)
+    exceptions_lawful p = choice_lawful errs
+        (next_lawful errs (next_lawful errs (next_lawful errs p (word_stream (codes "nan")).lawful) (word_stream (codes "infinity")).lawful)
+        (word_stream (codes "inf")).lawful)
 
     pub exceptions_steady : IsSteady w a → IsSteady w (exceptions_meaning w code errs a)
-    exceptions_steady p = choice_steady errs (next_stays errs (next_stays errs (next_stays errs (stays a p) (stays (word_meaning w code errs (codes "nan")) (word_stream (codes "nan")).steady)) (stays (word_meaning w code errs (codes "infinity")) (word_stream (codes "infinity")).steady)) (stays (word_meaning w code errs (codes "inf")) (word_stream (codes "inf")).steady))
+    exceptions_steady p = choice_steady errs
+        (next_stays errs (next_stays errs
+        (next_stays errs (stays a p) (stays (word_meaning w code errs (codes "nan")) (word_stream (codes "nan")).steady))
+        (stays (word_meaning w code errs (codes "infinity")) (word_stream (codes "infinity")).steady))
+        (stays (word_meaning w code errs (codes "inf")) (word_stream (codes "inf")).steady))
 
-pub exceptions_pinned : {I A P : Type 0} (w : Seen I A) (view : View I) → ((x y : I) → IsSame w x y → view.value x ≡ view.value y) → (IsOutput : P → I → Type 0) → IsPinned view IsOutput → IsPinned view (EitherOutput (EitherOutput (EitherOutput IsOutput (IsSeenAs w)) (IsSeenAs w)) (IsSeenAs w))
+pub exceptions_pinned : {I A P : Type 0} (w : Seen I A) (view : View I) → ((x y : I) → IsSame w x y → view.value x ≡ view.value y) →
+    (IsOutput : P → I → Type 0) → IsPinned view IsOutput →
+    IsPinned view (EitherOutput (EitherOutput (EitherOutput IsOutput (IsSeenAs w)) (IsSeenAs w)) (IsSeenAs w))
 exceptions_pinned w view views IsOutput p =
     let slice = slice_pinned w view views in
-    either_pinned view (EitherOutput (EitherOutput IsOutput (IsSeenAs w)) (IsSeenAs w)) (IsSeenAs w) (either_pinned view (EitherOutput IsOutput (IsSeenAs w)) (IsSeenAs w) (either_pinned view IsOutput (IsSeenAs w) p slice) slice) slice
+    either_pinned view (EitherOutput (EitherOutput IsOutput (IsSeenAs w)) (IsSeenAs w)) (IsSeenAs w)
+    (either_pinned view (EitherOutput IsOutput (IsSeenAs w)) (IsSeenAs w) (either_pinned view IsOutput (IsSeenAs w) p slice) slice) slice

@@ -40,9 +40,12 @@ letters_of Named.Infinity = codes "infinity"
 letters_of Named.Inf = codes "inf"
 
 -- a part, and where it refuses `nan`, `infinity` or `inf`, the first that isn't refused
-abbrev pub exceptions_meaning : {I A P E : Type 0} (w : Seen I A) → (code : A → ℕ) → Errors I E → Meaning I P E → Meaning I (((P ⊎ Slice w) ⊎ Slice w) ⊎ Slice w) E
+abbrev pub exceptions_meaning : {I A P E : Type 0} (w : Seen I A) → (code : A → ℕ) → Errors I E → Meaning I P E →
+    Meaning I (((P ⊎ Slice w) ⊎ Slice w) ⊎ Slice w) E
 exceptions_meaning w code errs first =
-    choice_meaning errs (next_meaning errs (next_meaning errs (next_meaning errs first (word_meaning w code errs (codes "nan"))) (word_meaning w code errs (codes "infinity"))) (word_meaning w code errs (codes "inf")))
+    choice_meaning errs (next_meaning errs
+    (next_meaning errs (next_meaning errs first (word_meaning w code errs (codes "nan"))) (word_meaning w code errs (codes "infinity")))
+    (word_meaning w code errs (codes "inf")))
 
 -- a part whose errors become those of `Float` at the start
 abbrev pub as_float_meaning : {I P E : Type 0} → Errors I E → Meaning I P E → Meaning I P E

@@ -52,7 +52,8 @@ where
 pub fn recognize_float_or_exceptions<T: Input, E: ParseError<T>>(input: T) -> IResult<T, T, E>
 where
     T::Item: AsChar,
-    ensures { ParsesMeaning T.seen (EitherOutput (EitherOutput (EitherOutput (IsSeenAs T.seen) (IsSeenAs T.seen)) (IsSeenAs T.seen)) (IsSeenAs T.seen)) (exceptions_meaning T.seen T.Item.code E.errors (as_float_meaning E.errors (float_meaning T.seen T.Item.code E.errors))) false input result }
+    ensures { ParsesMeaning T.seen (EitherOutput (EitherOutput (EitherOutput (IsSeenAs T.seen) (IsSeenAs T.seen)) (IsSeenAs T.seen)) (IsSeenAs T.seen))
+        (exceptions_meaning T.seen T.Item.code E.errors (as_float_meaning E.errors (float_meaning T.seen T.Item.code E.errors))) false input result }
 {
     let mut parser = OrExceptions {
         parser: AsFloat {

@@ -139,7 +139,8 @@ fn read<OM: OutputMode, I: Input, E: ParseError<I>>(
 ) -> PResult<I, ((Option<char>, (I, I)), Option<i32>), E>
 where
     I::Item: AsChar,
-    ensures { ShowsMeaning I.seen (IsRaw I.seen) (parts_meaning I.seen I.Item.code E.errors) (modes OM.Output.BUILDS OM.Error.BUILDS OM.Incomplete.STREAMING) input result }
+    ensures { ShowsMeaning I.seen (IsRaw I.seen) (parts_meaning I.seen I.Item.code E.errors)
+        (modes OM.Output.BUILDS OM.Error.BUILDS OM.Incomplete.STREAMING) input result }
 {
     let behind = alt((preceded(char('.'), digit0()), digit0()));
     let alone = pair(digit0(), preceded(char('.'), digit1()));

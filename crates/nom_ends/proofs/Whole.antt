@@ -8,4 +8,5 @@ use Rattle.nom_internal.proofs.Shown.{built_error}
 use Rattle.nom_ends.specs.Ends.{all_of}
 
 pub whole_built : {I A : Type 0} (w : Seen I A) (built : Bool) (i : I) (b : Option I) → Built built (λ o. o ≡ i) b → Built built (IsSeenAs w (all_of w i)) b
-whole_built w built i b h = built_error built (λ o. o ≡ i) (IsSeenAs w (all_of w i)) b (λ o p. record { elements_are = ap w.elements p; mark_is = ap w.mark p }) h
+whole_built w built i b h = built_error built (λ o. o ≡ i)
+    (IsSeenAs w (all_of w i)) b (λ o p. record { elements_are = ap w.elements p; mark_is = ap w.mark p }) h

@@ -21,7 +21,8 @@ pub record PlainLaws {I A V : Type 0} (w : Seen I A) (Accepts : I → ℕ → V 
 
 module _ {I A V : Type 0} (w : Seen I A) (Accepts : I → ℕ → V → Type 0) (Refuses : I → Type 0) (l : PlainLaws w Accepts Refuses) where
   -- in either mode, at inputs that are seen alike
-  answers_alike : (s t : Bool) (x y : I) (o : Outcome V) → IsSame w x y → LeafAnswers (plain_leaf Accepts Refuses) s x o → LeafAnswers (plain_leaf Accepts Refuses) t y o
+  answers_alike : (s t : Bool) (x y : I) (o : Outcome V) → IsSame w x y → LeafAnswers (plain_leaf Accepts Refuses) s x o →
+      LeafAnswers (plain_leaf Accepts Refuses) t y o
   answers_alike s t x y (Accept n v) r a = l.accepted_alike x y n v r a
   answers_alike s t x y Refuse r a = l.refused_alike x y r a
   answers_alike s t x y Fail r a = a

@@ -30,9 +30,11 @@ abbrev pub IsCloned : {T : Type 0} → (T → List ℕ) → Value.Error (Bor (Li
 IsCloned bytes d r = MatchResult r (Owns bytes d) (λ _. 0 < length d.input.now)
 
 -- the answer with an owned error, or want of memory, which comes only where an input is held that isn't empty
-abbrev pub IsOwned : {T : Type 0} → (T → List ℕ) → Answer.Err (Value.Error (Bor (List ℕ))) (Value.Error (Bor (List ℕ))) Needed → Result (Answer.Err (Value.Error T) (Value.Error T) Needed) OutOfMemory → Type 0
+abbrev pub IsOwned : {T : Type 0} → (T → List ℕ) → Answer.Err (Value.Error (Bor (List ℕ))) (Value.Error (Bor (List ℕ))) Needed →
+    Result (Answer.Err (Value.Error T) (Value.Error T) Needed) OutOfMemory → Type 0
 IsOwned bytes d r = MatchResult r (IsMapped (Owns bytes) d) (λ _. HoldsError (λ e. 0 < length e.input.now) d)
 
 -- the same of an input beside a kind
-abbrev pub IsOwnedPair : {T : Type 0} → (T → List ℕ) → Answer.Err (Bor (List ℕ) × ErrorKind) (Bor (List ℕ) × ErrorKind) Needed → Result (Answer.Err (T × ErrorKind) (T × ErrorKind) Needed) OutOfMemory → Type 0
+abbrev pub IsOwnedPair : {T : Type 0} → (T → List ℕ) → Answer.Err (Bor (List ℕ) × ErrorKind) (Bor (List ℕ) × ErrorKind) Needed →
+    Result (Answer.Err (T × ErrorKind) (T × ErrorKind) Needed) OutOfMemory → Type 0
 IsOwnedPair bytes d r = MatchResult r (IsMapped (OwnsPair bytes) d) (λ _. HoldsError (λ e. 0 < length e.0.now) d)

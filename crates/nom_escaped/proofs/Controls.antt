@@ -40,7 +40,8 @@ module _ {I A : Type 0} (w : Seen I A) (l : InputLaws w) where
       let cut = same_cut w.weight l.positive r.front (w.elements j) (x ∷ []) xs (sym r.whole ∙ e) (omega (arith, r.length_is, weight)) in
       (weight, cut.1)
 
-  module _ (IsControl : A → Type 0) {i j : I} {x : A} {xs : List A} {n m : ℕ} (e : w.elements i ≡ x ∷ xs) (is : IsControl x) (c : IsCount w i 1 n) (r : IsRest w i n j) (h : m ≡ input_len w j) where
+  module _ (IsControl : A → Type 0) {i j : I} {x : A} {xs : List A} {n m : ℕ} (e : w.elements i ≡ x ∷ xs) (is : IsControl x) (c : IsCount w i 1 n)
+      (r : IsRest w i n j) (h : m ≡ input_len w j) where
     pub stands_last : m ≡ 0 → StandsLast w IsControl i
     stands_last z =
         let none = no_items w.weight l.positive (w.elements j) (sym h ∙ z) in

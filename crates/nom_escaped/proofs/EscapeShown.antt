@@ -1,5 +1,6 @@
 -- What a list of pieces shows.
-use Rattle.std.proofs.Common.{◌≡◌, ℕ, ◌<◌, Bool, true, Result, Ok, Err, Option, Some, None, List, [], ◌∷◌, ◌++◌, length, refl, sym, ap, subst, zero, suc, arith, inl, inr}
+use Rattle.std.proofs.Common.{◌≡◌, ℕ, ◌<◌, Bool, true, Result, Ok, Err, Option, Some, None, List, [], ◌∷◌, ◌++◌, length, refl, sym, ap, subst, zero}
+use Rattle.std.proofs.Common.{suc, arith, inl, inr}
 use Rattle.std.specs.Prelude.{IsSome}
 use Rattle.nom_error.specs.declared.answer.Needed.{Needed}
 use Rattle.nom_error.specs.declared.answer.Err as Answer
@@ -63,11 +64,14 @@ module _ {I A V : Type 0} (w : Seen I A) (Part : I → Outcome (Spot V) → Type
   none_taken j k i [] n p e = refl
   none_taken j k i (v ∷ vs) n p e = absurd (omega (arith, turn_some k p.0 v (p.3).reply (p.3).fact, p.6, e))
 
-  some_taken : (j : I) (k : ℕ) (i : I) (vs : List V) (n : ℕ) → Pieces w (TurnsBy None escape_turn (λ _. Part)) (λ _ x. x ≡ j) k i vs n → (n ≡ 0 → ⊥) → length vs ≡ 0 → ⊥
+  some_taken : (j : I) (k : ℕ) (i : I) (vs : List V) (n : ℕ) → Pieces w (TurnsBy None escape_turn (λ _. Part)) (λ _ x. x ≡ j) k i vs n → (n ≡ 0 → ⊥) →
+      length vs ≡ 0 → ⊥
   some_taken j k i [] n p h e = h p.0
   some_taken j k i (v ∷ vs) n p h e = omega (arith, e)
 
-module _ {I A V O E : Type 0} (w : Seen I A) (l : InputLaws w) (Gives : I → E → Type 0) (Grows : Type 0) (at : I → I → I) (m : Meaning I (Spot V) E) (IsOutput : List V → O → Type 0) (mode : Modes) {Held : List V → Type 0} (i j : I) (c : Collected w (TurnsBy None escape_turn (λ _. m.answers mode.streaming)) Held i j) where
+module _ {I A V O E : Type 0} (w : Seen I A) (l : InputLaws w) (Gives : I → E → Type 0) (Grows : Type 0) (at : I → I → I) (m : Meaning I (Spot V) E)
+    (IsOutput : List V → O → Type 0) (mode : Modes) {Held : List V → Type 0} (i j : I)
+    (c : Collected w (TurnsBy None escape_turn (λ _. m.answers mode.streaming)) Held i j) where
   abbrev Goal : Result (I × Option O) (Answer.Err E (Option E) Needed) → Type 0
   Goal = ShowsMeaning w IsOutput (repeat_meaning w (escape_rule Gives Grows at) all_pieces (always m)) mode i
 
@@ -76,48 +80,69 @@ module _ {I A V O E : Type 0} (w : Seen I A) (l : InputLaws w) (Gives : I → E 
   done_shown n a b h = ended (escape_rule Gives Grows at) all_pieces (always m) c (Some (Accept n Done)) (tt, a) None refl h
 
   -- an item that begins no piece ends the list
-  pub other_shown : (n : ℕ) → m.answers mode.streaming j (Accept n Other) → (c.taken ≡ 0 → ⊥) → (b : Option O) → Built mode.outputs (IsOutput c.trees) b → Goal (Ok (j, b))
-  other_shown n a h b g = ended (escape_rule Gives Grows at) all_pieces (always m) c (Some (Accept n Other)) (tt, a) None (other_turn (length c.trees) n (some_taken w (m.answers mode.streaming) j 0 i c.trees c.taken c.pieces h)) g
+  pub other_shown : (n : ℕ) → m.answers mode.streaming j (Accept n Other) → (c.taken ≡ 0 → ⊥) → (b : Option O) →
+      Built mode.outputs (IsOutput c.trees) b → Goal (Ok (j, b))
+  other_shown n a h b g = ended (escape_rule Gives Grows at) all_pieces (always m) c (Some (Accept n Other))
+      (tt, a) None (other_turn (length c.trees) n (some_taken w (m.answers mode.streaming) j 0 i c.trees c.taken c.pieces h)) g
 
   -- a refusal with an error of its own
   module _ (n : ℕ) (x : Spot V) (a : m.answers mode.streaming j (Accept n x)) (place : I) (e : Ends Refuse ≡ by_spot x (length c.trees) n) where
-    own_refused : ((y : E) → Gives place y → (escape_rule Gives Grows at).Blames i (length c.trees) j (Some (Accept n x)) (m.blames mode.streaming j) y) → ((mode.errors ≡ true) × Grows → (escape_rule Gives Grows at).Asks mode (length c.trees) (Some (Accept n x))) → (f : Answer.Err E (Option E) Needed) → Refuses (Gives place) Grows mode.errors f → Goal (Err f)
-    own_refused blames asks f (inl h) = subst (λ y. Goal (Err y)) (sym h.0) (ran_out (escape_rule Gives Grows at) all_pieces (always m) c (Some (Accept n x)) (tt, a) (asks (h.1, h.2)))
-    own_refused blames asks f (inr h) = subst (λ y. Goal (Err y)) (sym h.2) (refused (escape_rule Gives Grows at) all_pieces (always m) c (Some (Accept n x)) (tt, a) e h.0 (built_error mode.errors (Gives place) _ h.0 blames h.1))
+    own_refused : ((y : E) → Gives place y → (escape_rule Gives Grows at).Blames i (length c.trees) j (Some (Accept n x))
+        (m.blames mode.streaming j) y) → ((mode.errors ≡ true) × Grows → (escape_rule Gives Grows at).Asks mode (length c.trees) (Some (Accept n x))) →
+        (f : Answer.Err E (Option E) Needed) → Refuses (Gives place) Grows mode.errors f → Goal (Err f)
+    own_refused blames asks f (inl h) =
+        subst (λ y. Goal (Err y)) (sym h.0) (ran_out (escape_rule Gives Grows at) all_pieces (always m) c (Some (Accept n x)) (tt, a) (asks (h.1, h.2)))
+    own_refused blames asks f (inr h) =
+        subst (λ y. Goal (Err y)) (sym h.2)
+        (refused (escape_rule Gives Grows at) all_pieces (always m) c (Some (Accept n x))
+        (tt, a) e h.0 (built_error mode.errors (Gives place) _ h.0 blames h.1))
 
-  pub start_refused : (n : ℕ) → m.answers mode.streaming j (Accept n Other) → c.taken ≡ 0 → (f : Answer.Err E (Option E) Needed) → Refuses (Gives i) Grows mode.errors f → Goal (Err f)
-  start_refused n a h f r = own_refused n Other a i (refused_turn (length c.trees) n (none_taken w (m.answers mode.streaming) j 0 i c.trees c.taken c.pieces h)) (λ y g. g) (λ g. (none_taken w (m.answers mode.streaming) j 0 i c.trees c.taken c.pieces h, g.0, g.1)) f r
+  pub start_refused : (n : ℕ) → m.answers mode.streaming j (Accept n Other) → c.taken ≡ 0 → (f : Answer.Err E (Option E) Needed) →
+      Refuses (Gives i) Grows mode.errors f → Goal (Err f)
+  start_refused n a h f r = own_refused n Other a i
+      (refused_turn (length c.trees) n (none_taken w (m.answers mode.streaming) j 0 i c.trees c.taken c.pieces h)) (λ y g. g)
+      (λ g. (none_taken w (m.answers mode.streaming) j 0 i c.trees c.taken c.pieces h, g.0, g.1)) f r
 
-  pub dangling_refused : (n : ℕ) → m.answers mode.streaming j (Accept n Dangling) → (f : Answer.Err E (Option E) Needed) → Refuses (Gives (at i j)) Grows mode.errors f → Goal (Err f)
+  pub dangling_refused : (n : ℕ) → m.answers mode.streaming j (Accept n Dangling) → (f : Answer.Err E (Option E) Needed) →
+      Refuses (Gives (at i j)) Grows mode.errors f → Goal (Err f)
   dangling_refused n a f r = own_refused n Dangling a (at i j) refl (λ y g. g) (λ g. g) f r
 
   -- a piece that consumes nothing is the last one
-  pub empty_shown : (n : ℕ) (v : V) → m.answers mode.streaming j (Accept n (Found v)) → n ≡ 0 → (b : Option O) → Built mode.outputs (IsOutput (c.trees ++ v ∷ [])) b → Goal (Ok (j, b))
-  empty_shown n v a e b h = ended (escape_rule Gives Grows at) all_pieces (always m) c (Some (Accept n (Found v))) (tt, a) (Some v) (empty_turn (length c.trees) n v e) h
+  pub empty_shown : (n : ℕ) (v : V) → m.answers mode.streaming j (Accept n (Found v)) → n ≡ 0 → (b : Option O) →
+      Built mode.outputs (IsOutput (c.trees ++ v ∷ [])) b → Goal (Ok (j, b))
+  empty_shown n v a e b h = ended (escape_rule Gives Grows at) all_pieces (always m) c (Some (Accept n (Found v))) (tt, a) (Some v)
+      (empty_turn (length c.trees) n v e) h
 
   -- there is no memory for a piece
   pub full_shown : (n : ℕ) (v : V) → m.answers mode.streaming j (Accept n (Found v)) → mode.outputs ≡ true → Goal (Err OutOfMemory)
   full_shown n v a h = ran_out (escape_rule Gives Grows at) all_pieces (always m) c (Some (Accept n (Found v))) (tt, a) h
 
   -- a piece that consumes is taken
-  pub piece_taken : {More : List V → Type 0} (n : ℕ) (v : V) (h : I) → m.answers mode.streaming j (Accept n (Found v)) → 0 < n → IsRest w j n h → More (c.trees ++ v ∷ []) → Collected w (TurnsBy None escape_turn (λ _. m.answers mode.streaming)) More i h
-  piece_taken n v h a p r g = collected_more l (TurnsBy None escape_turn (λ _. m.answers mode.streaming)) v c (record { reply = Some (Accept n (Found v)); replied = (tt, a); fact = taken_turn (length c.trees) n v p }) r g
+  pub piece_taken : {More : List V → Type 0} (n : ℕ) (v : V) (h : I) → m.answers mode.streaming j (Accept n (Found v)) → 0 < n → IsRest w j n h →
+      More (c.trees ++ v ∷ []) → Collected w (TurnsBy None escape_turn (λ _. m.answers mode.streaming)) More i h
+  piece_taken n v h a p r g = collected_more l (TurnsBy None escape_turn (λ _. m.answers mode.streaming)) v c
+      (record { reply = Some (Accept n (Found v)); replied = (tt, a); fact = taken_turn (length c.trees) n v p }) r g
 
   -- all else is passed on
   module _ {X : Type 0} (IsX : Spot V → X → Type 0) where
-    passed : (f : Answer.Err E (Option E) Needed) (o : Outcome (Spot V)) → m.answers mode.streaming j o → Shows w IsX (with_outputs true mode) j (m.blames mode.streaming j) o (Err f) → Goal (Err f)
+    passed : (f : Answer.Err E (Option E) Needed) (o : Outcome (Spot V)) → m.answers mode.streaming j o →
+        Shows w IsX (with_outputs true mode) j (m.blames mode.streaming j) o (Err f) → Goal (Err f)
     passed f (Accept n v) a h = absurd (cc (h.4))
     passed f Refuse a h = subst (λ y. Goal (Err y)) (cc (h.2)) (refused (escape_rule Gives Grows at) all_pieces (always m) c (Some Refuse) (tt, a) refl h.0 h.1)
     passed f Fail a h = subst (λ y. Goal (Err y)) (cc (h.2)) (failed (escape_rule Gives Grows at) all_pieces (always m) c (Some Fail) (tt, a) refl h.0 h.1)
-    passed f TooLarge a h = subst (λ y. Goal (Err y)) (cc (h.2)) (too_large (escape_rule Gives Grows at) all_pieces (always m) c (Some TooLarge) (tt, a) refl h.0 h.1)
-    passed f (Undecided k) a h = subst (λ y. Goal (Err y)) (cc (h.2)) (lacking (escape_rule Gives Grows at) all_pieces (always m) c (Some (Undecided k)) (tt, a) (ap (λ z. Ends (Undecided z)) h.1))
+    passed f TooLarge a h = subst (λ y. Goal (Err y)) (cc (h.2))
+        (too_large (escape_rule Gives Grows at) all_pieces (always m) c (Some TooLarge) (tt, a) refl h.0 h.1)
+    passed f (Undecided k) a h = subst (λ y. Goal (Err y)) (cc (h.2))
+        (lacking (escape_rule Gives Grows at) all_pieces (always m) c (Some (Undecided k)) (tt, a) (ap (λ z. Ends (Undecided z)) h.1))
 
-    pub passed_on : (f : Answer.Err E (Option E) Needed) → ShowsAnswer w IsX (with_outputs true mode) j (m.answers mode.streaming j) (m.blames mode.streaming j) (m.runs_out mode j) (Err f) → Goal (Err f)
+    pub passed_on : (f : Answer.Err E (Option E) Needed) → ShowsAnswer w IsX (with_outputs true mode) j (m.answers mode.streaming j)
+        (m.blames mode.streaming j) (m.runs_out mode j) (Err f) → Goal (Err f)
     passed_on f (RanOut e h) = subst (λ y. Goal (Err y)) (cc (e)) (ran_out_within (escape_rule Gives Grows at) all_pieces (always m) c tt h)
     passed_on f (Shown o a h) = passed f o a h
 
 -- what stands at a place, by the value that is told
-module _ {I A U W O X : Type 0} (w : Seen I A) (outputs : Bool) (IsNormal : U → O → Type 0) (IsEscapable : W → X → Type 0) (i : I) (Answers : Outcome (Spot (Piece U W)) → Type 0) where
+module _ {I A U W O X : Type 0} (w : Seen I A) (outputs : Bool) (IsNormal : U → O → Type 0) (IsEscapable : W → X → Type 0) (i : I)
+    (Answers : Outcome (Spot (Piece U W)) → Type 0) where
   pub record FoundPiece (j : I) (x : Piece (Option O) (Option X)) : Type 0 where
     pub length : ℕ
     pub tree : Piece U W
@@ -133,12 +158,21 @@ module _ {I A U W O X : Type 0} (w : Seen I A) (outputs : Bool) (IsNormal : U �
     pub rest_is : IsRest w i length j
     pub is_spot : IsSpot outputs IsNormal IsEscapable tree y
 
-  pub spot_told : (j : I) (b : Option (Spot (Piece (Option O) (Option X)))) (y : Spot (Piece (Option O) (Option X))) → b ≡ Some y → Accepts w (IsSpot outputs IsNormal IsEscapable) true i Answers j b → Told j y
+  pub spot_told : (j : I) (b : Option (Spot (Piece (Option O) (Option X)))) (y : Spot (Piece (Option O) (Option X))) → b ≡ Some y →
+      Accepts w (IsSpot outputs IsNormal IsEscapable) true i Answers j b → Told j y
   spot_told j b y e a =
       let same : (a.built_is).0 ≡ y = cc (e, (a.built_is).1) in
-      record { length = a.length; tree = a.tree; answered = a.answered; rest_is = a.rest_is; is_spot = subst (λ z. IsSpot outputs IsNormal IsEscapable a.tree z) same (a.built_is).2 }
+      record {
+        length = a.length;
+        tree = a.tree;
+        answered = a.answered;
+        rest_is = a.rest_is;
+        is_spot =
+            subst (λ z. IsSpot outputs IsNormal IsEscapable a.tree z) same (a.built_is).2;
+      }
 
-  found_of : (j : I) (x : Piece (Option O) (Option X)) (n : ℕ) (t : Spot (Piece U W)) → Answers (Accept n t) → IsRest w i n j → IsSpot outputs IsNormal IsEscapable t (Found x) → FoundPiece j x
+  found_of : (j : I) (x : Piece (Option O) (Option X)) (n : ℕ) (t : Spot (Piece U W)) → Answers (Accept n t) → IsRest w i n j →
+      IsSpot outputs IsNormal IsEscapable t (Found x) → FoundPiece j x
   found_of j x n (Found v) a r h = record { length = n; tree = v; answered = a; rest_is = r; is_piece = h }
   found_of j x n Other a r h = absurd (cc (h))
   found_of j x n Dangling a r h = absurd (cc (h))
@@ -178,7 +212,11 @@ module _ {I A U W O X : Type 0} (w : Seen I A) (outputs : Bool) (IsNormal : U �
   spot_there j b a = subst (λ z. IsSome z) (sym (a.built_is).1) refl
 
 -- the same at equal states of the parts, an equal control character and an equal size that lacks
-pub same_spot : {S T I A U W O X E : Type 0} (w : Seen I A) (IsNormal : S → U → O → Type 0) (IsEscapable : T → W → X → Type 0) (mode : Modes) (IsControl : ℕ → A → Type 0) (m : S → Meaning I U E) (g : T → Meaning I W E) (i : I) (r : Result (I × Option (Spot (Piece (Option O) (Option X)))) (Answer.Err E (Option E) Needed)) (a b : S) (x y : ℕ) (c d : T) (e f : Option ℕ) → a ≡ b → x ≡ y → c ≡ d → e ≡ f → ShowsSpot w (IsNormal a) (IsEscapable c) mode (IsControl x) e (m a) (g c) i r → ShowsSpot w (IsNormal b) (IsEscapable d) mode (IsControl y) f (m b) (g d) i r
+pub same_spot : {S T I A U W O X E : Type 0} (w : Seen I A) (IsNormal : S → U → O → Type 0) (IsEscapable : T → W → X → Type 0) (mode : Modes)
+    (IsControl : ℕ → A → Type 0) (m : S → Meaning I U E) (g : T → Meaning I W E) (i : I)
+    (r : Result (I × Option (Spot (Piece (Option O) (Option X)))) (Answer.Err E (Option E) Needed)) (a b : S) (x y : ℕ) (c d : T) (e f : Option ℕ) →
+    a ≡ b → x ≡ y → c ≡ d → e ≡ f → ShowsSpot w (IsNormal a) (IsEscapable c) mode (IsControl x) e (m a) (g c) i r →
+    ShowsSpot w (IsNormal b) (IsEscapable d) mode (IsControl y) f (m b) (g d) i r
 same_spot w IsNormal IsEscapable mode IsControl m g i r a b x y c d e f p q t u h =
     let first = subst (λ z. ShowsSpot w (IsNormal z) (IsEscapable c) mode (IsControl x) e (m z) (g c) i r) p h in
     let second = subst (λ z. ShowsSpot w (IsNormal b) (IsEscapable c) mode (IsControl z) e (m b) (g c) i r) q first in
@@ -194,5 +232,6 @@ abbrev pub NoValue : {V : Type 0} → List V → Unit {0} → Type 0
 NoValue vs o = Unit {0}
 
 -- a rest that is shorter was not reached by nothing
-pub taken_some : {I A : Type 0} (w : Seen I A) (i : I) (n : ℕ) (j : I) (a b : ℕ) → IsRest w i n j → b ≡ input_len w j → a ≡ input_len w i → (b ≡ a → ⊥) → n ≡ 0 → ⊥
+pub taken_some : {I A : Type 0} (w : Seen I A) (i : I) (n : ℕ) (j : I) (a b : ℕ) → IsRest w i n j → b ≡ input_len w j → a ≡ input_len w i →
+    (b ≡ a → ⊥) → n ≡ 0 → ⊥
 taken_some w i n j a b r x y h e = h (omega (arith, rest_length r, x, y, e))

@@ -19,9 +19,12 @@ use Rattle.nom_escaped.specs.declared.spot.Spot.{Spot}
 use Rattle.nom_escaped.specs.declared.spot.Spot.TheVariants.{Found, Other, Dangling, Done}
 use Rattle.nom_escaped.specs.Spots.{spot_meaning, ShowsSpot}
 use Rattle.nom_escaped.specs.Escapes.{escape_turn, escape_rule, all_pieces, escaped_meaning}
-use Rattle.nom_escaped.proofs.EscapeShown.{AnyPieces, NoValue, Told, spot_told, done_shown, other_shown, start_refused, dangling_refused, empty_shown, piece_taken, passed_on, piece_found, other_found, dangling_found, done_found, taken_some}
+use Rattle.nom_escaped.proofs.EscapeShown.{AnyPieces, NoValue, Told, spot_told, done_shown, other_shown, start_refused, dangling_refused, empty_shown}
+use Rattle.nom_escaped.proofs.EscapeShown.{piece_taken, passed_on, piece_found, other_found, dangling_found, done_found, taken_some}
 
-module _ {I A U W O X E : Type 0} (w : Seen I A) (l : InputLaws w) (errs : Errors I E) (IsControl : A → Type 0) (m : Meaning I U E) (g : Meaning I W E) (IsNormal : U → O → Type 0) (IsEscapable : W → X → Type 0) (mode : Modes) (i j : I) (c : Collected w (TurnsBy None escape_turn (λ _. (spot_meaning w IsControl (Some 1) m g).answers mode.streaming)) AnyPieces i j) where
+module _ {I A U W O X E : Type 0} (w : Seen I A) (l : InputLaws w) (errs : Errors I E) (IsControl : A → Type 0) (m : Meaning I U E) (g : Meaning I W E)
+    (IsNormal : U → O → Type 0) (IsEscapable : W → X → Type 0) (mode : Modes) (i j : I)
+    (c : Collected w (TurnsBy None escape_turn (λ _. (spot_meaning w IsControl (Some 1) m g).answers mode.streaming)) AnyPieces i j) where
   abbrev Goal : Result (I × Option I) (Answer.Err E (Option E) Needed) → Type 0
   Goal = ShowsMeaning w (IsSeenAs w) (escaped_meaning w errs IsControl m g) mode i
 
@@ -33,39 +36,68 @@ module _ {I A U W O X E : Type 0} (w : Seen I A) (l : InputLaws w) (errs : Error
   Stood = Told w false IsNormal IsEscapable j ((spot_meaning w IsControl (Some 1) m g).answers mode.streaming j)
 
   abbrev Inner : Result (I × Option (Unit {0})) (Answer.Err E (Option E) Needed) → Type 0
-  Inner = ShowsMeaning w NoValue (repeat_meaning w (escape_rule (λ k. errs.of_kind k Kind.Escaped) errs.grows (λ x y. x)) all_pieces (always (spot_meaning w IsControl (Some 1) m g))) (with_outputs false mode) i
+  Inner = ShowsMeaning w NoValue
+      (repeat_meaning w (escape_rule (λ k. errs.of_kind k Kind.Escaped) errs.grows (λ x y. x)) all_pieces
+      (always (spot_meaning w IsControl (Some 1) m g))) (with_outputs false mode) i
 
   given : (z : Option I) → Inner (Ok (j, None)) → SliceBefore j z → Goal (Ok (j, z))
-  given z h f = recognized_ok w NoValue (repeat_meaning w (escape_rule (λ k. errs.of_kind k Kind.Escaped) errs.grows (λ x y. x)) all_pieces (always (spot_meaning w IsControl (Some 1) m g))) mode i j None z h f
+  given z h f = recognized_ok w NoValue
+      (repeat_meaning w (escape_rule (λ k. errs.of_kind k Kind.Escaped) errs.grows (λ x y. x)) all_pieces
+      (always (spot_meaning w IsControl (Some 1) m g))) mode i j None z h f
 
   fault : (f : Answer.Err E (Option E) Needed) → Inner (Err f) → Goal (Err f)
-  fault f h = recognized_err w NoValue (repeat_meaning w (escape_rule (λ k. errs.of_kind k Kind.Escaped) errs.grows (λ x y. x)) all_pieces (always (spot_meaning w IsControl (Some 1) m g))) mode i f h
+  fault f h = recognized_err w NoValue
+      (repeat_meaning w (escape_rule (λ k. errs.of_kind k Kind.Escaped) errs.grows (λ x y. x)) all_pieces
+      (always (spot_meaning w IsControl (Some 1) m g))) mode i f h
 
-  pub escaped_passed : (f : Answer.Err E (Option E) Needed) (r : Result (I × Option I) (Answer.Err E (Option E) Needed)) → ShowsSpot w IsNormal IsEscapable (with_outputs false mode) IsControl (Some 1) m g j (Err f) → r ≡ Err f → Goal r
-  escaped_passed f r h e = subst (λ z. Goal z) (sym e) (fault f (passed_on w l (λ k. errs.of_kind k Kind.Escaped) errs.grows (λ x y. x) (spot_meaning w IsControl (Some 1) m g) NoValue (with_outputs false mode) i j c _ f h))
+  pub escaped_passed : (f : Answer.Err E (Option E) Needed) (r : Result (I × Option I) (Answer.Err E (Option E) Needed)) →
+      ShowsSpot w IsNormal IsEscapable (with_outputs false mode) IsControl (Some 1) m g j (Err f) → r ≡ Err f → Goal r
+  escaped_passed f r h e = subst (λ z. Goal z) (sym e)
+      (fault f (passed_on w l (λ k. errs.of_kind k Kind.Escaped) errs.grows (λ x y. x)
+      (spot_meaning w IsControl (Some 1) m g) NoValue (with_outputs false mode) i j c _ f h))
 
-  module _ (h : I) (o : Option (Spot (Piece (Option O) (Option X)))) (y : Spot (Piece (Option O) (Option X))) (is : o ≡ Some y) (part : ShowsSpot w IsNormal IsEscapable (with_outputs false mode) IsControl (Some 1) m g j (Ok (h, o))) where
+  module _ (h : I) (o : Option (Spot (Piece (Option O) (Option X)))) (y : Spot (Piece (Option O) (Option X))) (is : o ≡ Some y)
+      (part : ShowsSpot w IsNormal IsEscapable (with_outputs false mode) IsControl (Some 1) m g j (Ok (h, o))) where
     t : Stood h y
     t = spot_told w false IsNormal IsEscapable j ((spot_meaning w IsControl (Some 1) m g).answers mode.streaming j) h o y is (accepts part)
 
-    pub escaped_empty : (x : Piece (Option O) (Option X)) → y ≡ Found x → (b a : ℕ) → b ≡ input_len w h → a ≡ input_len w j → b ≡ a → (z : Option I) → SliceBefore j z → Goal (Ok (j, z))
+    pub escaped_empty : (x : Piece (Option O) (Option X)) → y ≡ Found x → (b a : ℕ) → b ≡ input_len w h → a ≡ input_len w j → b ≡ a → (z : Option I) →
+        SliceBefore j z → Goal (Ok (j, z))
     escaped_empty x e b a p q k z f =
         let item = piece_found w false IsNormal IsEscapable j ((spot_meaning w IsControl (Some 1) m g).answers mode.streaming j) h y x e t in
-        given z (empty_shown w l (λ k. errs.of_kind k Kind.Escaped) errs.grows (λ x y. x) (spot_meaning w IsControl (Some 1) m g) NoValue (with_outputs false mode) i j c item.length item.tree item.answered (is_empty item.rest_is p q k) None refl) f
+        given z (empty_shown w l (λ k. errs.of_kind k Kind.Escaped) errs.grows (λ x y. x)
+        (spot_meaning w IsControl (Some 1) m g) NoValue (with_outputs false mode) i j c item.length item.tree item.answered
+        (is_empty item.rest_is p q k) None refl) f
 
-    pub escaped_none : y ≡ Other → (b a : ℕ) → b ≡ input_len w j → a ≡ input_len w i → b ≡ a → (f : Answer.Err E (Option E) Needed) → Refuses (errs.of_kind i Kind.Escaped) errs.grows mode.errors f → Goal (Err f)
-    escaped_none e b a p q k f r = fault f (start_refused w l (λ k. errs.of_kind k Kind.Escaped) errs.grows (λ x y. x) (spot_meaning w IsControl (Some 1) m g) NoValue (with_outputs false mode) i j c (t).length (other_found w false IsNormal IsEscapable j ((spot_meaning w IsControl (Some 1) m g).answers mode.streaming j) h y e t) (is_empty c.rest_is p q k) f r)
+    pub escaped_none : y ≡ Other → (b a : ℕ) → b ≡ input_len w j → a ≡ input_len w i → b ≡ a → (f : Answer.Err E (Option E) Needed) →
+        Refuses (errs.of_kind i Kind.Escaped) errs.grows mode.errors f → Goal (Err f)
+    escaped_none e b a p q k f r =
+        fault f (start_refused w l (λ k. errs.of_kind k Kind.Escaped) errs.grows (λ x y. x)
+        (spot_meaning w IsControl (Some 1) m g) NoValue (with_outputs false mode) i j c (t).length
+        (other_found w false IsNormal IsEscapable j ((spot_meaning w IsControl (Some 1) m g).answers mode.streaming j) h y e t) (is_empty c.rest_is p q k) f r)
 
     pub escaped_other : y ≡ Other → (b a : ℕ) → b ≡ input_len w j → a ≡ input_len w i → (b ≡ a → ⊥) → (z : Option I) → SliceBefore j z → Goal (Ok (j, z))
-    escaped_other e b a p q k z f = given z (other_shown w l (λ k. errs.of_kind k Kind.Escaped) errs.grows (λ x y. x) (spot_meaning w IsControl (Some 1) m g) NoValue (with_outputs false mode) i j c (t).length (other_found w false IsNormal IsEscapable j ((spot_meaning w IsControl (Some 1) m g).answers mode.streaming j) h y e t) (taken_some w i c.taken j a b c.rest_is p q k) None refl) f
+    escaped_other e b a p q k z f =
+        given z (other_shown w l (λ k. errs.of_kind k Kind.Escaped) errs.grows (λ x y. x)
+        (spot_meaning w IsControl (Some 1) m g) NoValue (with_outputs false mode) i j c (t).length
+        (other_found w false IsNormal IsEscapable j ((spot_meaning w IsControl (Some 1) m g).answers mode.streaming j) h y e t)
+        (taken_some w i c.taken j a b c.rest_is p q k) None refl) f
 
     pub escaped_dangling : y ≡ Dangling → (f : Answer.Err E (Option E) Needed) → Refuses (errs.of_kind i Kind.Escaped) errs.grows mode.errors f → Goal (Err f)
-    escaped_dangling e f r = fault f (dangling_refused w l (λ k. errs.of_kind k Kind.Escaped) errs.grows (λ x y. x) (spot_meaning w IsControl (Some 1) m g) NoValue (with_outputs false mode) i j c (t).length (dangling_found w false IsNormal IsEscapable j ((spot_meaning w IsControl (Some 1) m g).answers mode.streaming j) h y e t) f r)
+    escaped_dangling e f r = fault f
+        (dangling_refused w l (λ k. errs.of_kind k Kind.Escaped) errs.grows (λ x y. x)
+        (spot_meaning w IsControl (Some 1) m g) NoValue (with_outputs false mode) i j c (t).length
+        (dangling_found w false IsNormal IsEscapable j ((spot_meaning w IsControl (Some 1) m g).answers mode.streaming j) h y e t) f r)
 
     pub escaped_done : y ≡ Done → (z : Option I) → SliceBefore j z → Goal (Ok (j, z))
-    escaped_done e z f = given z (done_shown w l (λ k. errs.of_kind k Kind.Escaped) errs.grows (λ x y. x) (spot_meaning w IsControl (Some 1) m g) NoValue (with_outputs false mode) i j c (t).length (done_found w false IsNormal IsEscapable j ((spot_meaning w IsControl (Some 1) m g).answers mode.streaming j) h y e t) None refl) f
+    escaped_done e z f = given z (done_shown w l (λ k. errs.of_kind k Kind.Escaped) errs.grows (λ x y. x)
+        (spot_meaning w IsControl (Some 1) m g) NoValue (with_outputs false mode) i j c (t).length
+        (done_found w false IsNormal IsEscapable j ((spot_meaning w IsControl (Some 1) m g).answers mode.streaming j) h y e t) None refl) f
 
-    pub escaped_more : (x : Piece (Option O) (Option X)) → y ≡ Found x → (b a : ℕ) → b ≡ input_len w h → a ≡ input_len w j → (b ≡ a → ⊥) → Collected w (TurnsBy None escape_turn (λ _. (spot_meaning w IsControl (Some 1) m g).answers mode.streaming)) AnyPieces i h
+    pub escaped_more : (x : Piece (Option O) (Option X)) → y ≡ Found x → (b a : ℕ) → b ≡ input_len w h → a ≡ input_len w j → (b ≡ a → ⊥) →
+        Collected w (TurnsBy None escape_turn (λ _. (spot_meaning w IsControl (Some 1) m g).answers mode.streaming)) AnyPieces i h
     escaped_more x e b a p q k =
         let item = piece_found w false IsNormal IsEscapable j ((spot_meaning w IsControl (Some 1) m g).answers mode.streaming j) h y x e t in
-        piece_taken w l (λ k. errs.of_kind k Kind.Escaped) errs.grows (λ x y. x) (spot_meaning w IsControl (Some 1) m g) NoValue (with_outputs false mode) i j c item.length item.tree h item.answered (consumes item.rest_is p q k) item.rest_is tt
+        piece_taken w l (λ k. errs.of_kind k Kind.Escaped) errs.grows (λ x y. x)
+        (spot_meaning w IsControl (Some 1) m g) NoValue (with_outputs false mode) i j c item.length item.tree h item.answered
+        (consumes item.rest_is p q k) item.rest_is tt

@@ -42,7 +42,8 @@ escape_ends k (Some TooLarge) n t e = absurd (cc)
 escape_ends k (Some (Undecided d)) n t e = absurd (cc)
 escape_ends k None n t e = cc
 
-on_fault : {V : Type 0} (Taken Unknown Last : Type 0) {P Q : Type 0} (a : Option (Outcome (Spot V))) → (Ran a → P → Q) → OnReplied Taken Unknown Last P a → OnReplied Taken Unknown Last Q a
+on_fault : {V : Type 0} (Taken Unknown Last : Type 0) {P Q : Type 0} (a : Option (Outcome (Spot V))) → (Ran a → P → Q) →
+    OnReplied Taken Unknown Last P a → OnReplied Taken Unknown Last Q a
 on_fault Taken Unknown Last (Some (Accept n v)) f h = h
 on_fault Taken Unknown Last (Some Refuse) f h = f tt h
 on_fault Taken Unknown Last (Some Fail) f h = f tt h
@@ -50,7 +51,8 @@ on_fault Taken Unknown Last (Some TooLarge) f h = f tt h
 on_fault Taken Unknown Last (Some (Undecided d)) f h = h
 on_fault Taken Unknown Last None f h = h
 
-on_none : {V : Type 0} (Taken Unknown Last : Type 0) (a : Option (Outcome (Spot V))) → (Taken → ⊥) → (Unknown → ⊥) → (Last → ⊥) → OnReplied Taken Unknown Last ⊥ a → ⊥
+on_none : {V : Type 0} (Taken Unknown Last : Type 0) (a : Option (Outcome (Spot V))) → (Taken → ⊥) → (Unknown → ⊥) → (Last → ⊥) →
+    OnReplied Taken Unknown Last ⊥ a → ⊥
 on_none Taken Unknown Last (Some (Accept n (Found v))) f g k h = f h
 on_none Taken Unknown Last (Some (Accept n Other)) f g k h = g h
 on_none Taken Unknown Last (Some (Accept n Dangling)) f g k h = k h
@@ -94,19 +96,34 @@ escape_rule_laws Gives Grows at = record {
   ends = escape_ends;
   blames = λ i k j a P Q e f. on_fault ⊥ (Gives i e) (Gives (at i j) e) a (λ r. f r e);
   part_frugal = λ Part mode k h. h.0;
-  asks_none = λ Part mode k a h. on_none (mode.outputs ≡ true) ((k ≡ 0) × (mode.errors ≡ true) × Grows) ((mode.errors ≡ true) × Grows) a h.1 (λ p. h.2 p.1 p.2) (λ p. h.2 p.0 p.1);
+  asks_none = λ Part mode k a h. on_none (mode.outputs ≡ true) ((k ≡ 0) × (mode.errors ≡ true) × Grows)
+      ((mode.errors ≡ true) × Grows) a h.1 (λ p. h.2 p.1 p.2) (λ p. h.2 p.0 p.1);
   never_fails = λ Part large k a h e. (h, escape_fails large k a e);
 }
 
 module _ {I A U W E : Type 0} (w : Seen I A) (l : InputLaws w) (errs : Errors I E) (IsControl : A → Type 0) (m : Meaning I U E) (g : Meaning I W E) where
   pub escaped_lawful : IsLawful w m → IsLawful w g → IsLawful w (escaped_meaning w errs IsControl m g)
-  escaped_lawful p q = recognized_lawful w l (repeat_meaning w (escape_rule (λ i. errs.of_kind i Kind.Escaped) errs.grows (λ i j. i)) all_pieces (always (spot_meaning w IsControl (Some 1) m g))) (repeat_lawful w l (escape_rule (λ i. errs.of_kind i Kind.Escaped) errs.grows (λ i j. i)) (escape_rule_laws _ _ _) all_pieces (always (spot_meaning w IsControl (Some 1) m g)) (always_lawful w (spot_meaning w IsControl (Some 1) m g) (spot_lawful w l IsControl (Some 1) m g p q)))
+  escaped_lawful p q = recognized_lawful w l
+      (repeat_meaning w (escape_rule (λ i. errs.of_kind i Kind.Escaped) errs.grows (λ i j. i)) all_pieces
+      (always (spot_meaning w IsControl (Some 1) m g)))
+      (repeat_lawful w l (escape_rule (λ i. errs.of_kind i Kind.Escaped) errs.grows (λ i j. i))
+      (escape_rule_laws _ _ _) all_pieces (always (spot_meaning w IsControl (Some 1) m g))
+      (always_lawful w (spot_meaning w IsControl (Some 1) m g) (spot_lawful w l IsControl (Some 1) m g p q)))
 
   pub escaped_steady : IsSteady w m → IsSteady w g → IsSteady w (escaped_meaning w errs IsControl m g)
-  escaped_steady p q = recognized_steady w l (repeat_meaning w (escape_rule (λ i. errs.of_kind i Kind.Escaped) errs.grows (λ i j. i)) all_pieces (always (spot_meaning w IsControl (Some 1) m g))) (repeat_steady w l (escape_rule (λ i. errs.of_kind i Kind.Escaped) errs.grows (λ i j. i)) (escape_rule_laws _ _ _) all_pieces (always (spot_meaning w IsControl (Some 1) m g)) (λ _. spot_steady w l IsControl (Some 1) m g p q))
+  escaped_steady p q = recognized_steady w l
+      (repeat_meaning w (escape_rule (λ i. errs.of_kind i Kind.Escaped) errs.grows (λ i j. i)) all_pieces
+      (always (spot_meaning w IsControl (Some 1) m g)))
+      (repeat_steady w l (escape_rule (λ i. errs.of_kind i Kind.Escaped) errs.grows (λ i j. i))
+      (escape_rule_laws _ _ _) all_pieces (always (spot_meaning w IsControl (Some 1) m g)) (λ _. spot_steady w l IsControl (Some 1) m g p q))
 
   pub escaped_transform_lawful : IsLawful w m → IsLawful w g → IsLawful w (escaped_transform_meaning w errs IsControl m g)
-  escaped_transform_lawful p q = repeat_lawful w l (escape_rule (λ i. errs.of_kind i Kind.EscapedTransform) errs.grows (λ i j. j)) (escape_rule_laws _ _ _) all_pieces (always (spot_meaning w IsControl None m g)) (always_lawful w (spot_meaning w IsControl None m g) (spot_lawful w l IsControl None m g p q))
+  escaped_transform_lawful p q =
+      repeat_lawful w l (escape_rule (λ i. errs.of_kind i Kind.EscapedTransform) errs.grows (λ i j. j))
+      (escape_rule_laws _ _ _) all_pieces (always (spot_meaning w IsControl None m g))
+      (always_lawful w (spot_meaning w IsControl None m g) (spot_lawful w l IsControl None m g p q))
 
   pub escaped_transform_steady : IsSteady w m → IsSteady w g → IsSteady w (escaped_transform_meaning w errs IsControl m g)
-  escaped_transform_steady p q = repeat_steady w l (escape_rule (λ i. errs.of_kind i Kind.EscapedTransform) errs.grows (λ i j. j)) (escape_rule_laws _ _ _) all_pieces (always (spot_meaning w IsControl None m g)) (λ _. spot_steady w l IsControl None m g p q)
+  escaped_transform_steady p q =
+      repeat_steady w l (escape_rule (λ i. errs.of_kind i Kind.EscapedTransform) errs.grows (λ i j. j))
+      (escape_rule_laws _ _ _) all_pieces (always (spot_meaning w IsControl None m g)) (λ _. spot_steady w l IsControl None m g p q)

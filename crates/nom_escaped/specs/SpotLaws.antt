@@ -14,7 +14,8 @@ use Rattle.nom_internal.specs.CaseLaws.{labelled_lawful, labelled_steady}
 use Rattle.nom_escaped.specs.declared.spot.Control.{Control}
 use Rattle.nom_escaped.specs.declared.spot.Piece.TheVariants.{Normal, Escapable}
 use Rattle.nom_escaped.specs.declared.spot.Spot.TheVariants.{Found, Other, Dangling, Done}
-use Rattle.nom_escaped.specs.Spots.{look, IsLeft, left_leaf, StandsOther, StandsLast, StandsBefore, TellsControl, control_leaf, by_control, behind_control, escape_meaning, piece_meaning, by_left, where_left, spot_meaning}
+use Rattle.nom_escaped.specs.Spots.{look, IsLeft, left_leaf, StandsOther, StandsLast, StandsBefore, TellsControl, control_leaf, by_control}
+use Rattle.nom_escaped.specs.Spots.{behind_control, escape_meaning, piece_meaning, by_left, where_left, spot_meaning}
 
 -- the items of the second of related inputs begin with the first's
 module _ {I A : Type 0} (w : Seen I A) where
@@ -34,7 +35,8 @@ module _ {I A : Type 0} (w : Seen I A) where
   one_left s xs false true a b = absurd (omega (arith, b, a.1))
   one_left s xs false false a b = refl
 
-  left_stays : (longer s : Bool) → (longer ≡ true → s ≡ true) → (x y : I) (v : Bool) → Related w longer x y → IsLeft s (w.elements x) v → IsLeft s (w.elements y) v
+  left_stays : (longer s : Bool) → (longer ≡ true → s ≡ true) → (x y : I) (v : Bool) → Related w longer x y → IsLeft s (w.elements x) v →
+      IsLeft s (w.elements y) v
   left_stays longer s only x y true r a = let k = items_stay w longer x y r in omega (arith, a, ap length k.1, length-append (w.elements x) k.0)
   left_stays true s only x y false r a = absurd (cc (only refl, a.0))
   left_stays false s only x y false r a = (a.0, ap length (sym r.elements_are) ∙ a.1)
@@ -100,12 +102,14 @@ module _ {I A : Type 0} (w : Seen I A) (IsControl : A → Type 0) (lack : Option
   told_place s i n Control.Last a = place_zero w i n a.0
   told_place s i n (Control.Before v) a = record { front = a.item ∷ []; rest = a.items; whole = a.elements_are; length_is = omega (arith, a.length_is) }
 
-  told_stays : (longer s : Bool) → (longer ≡ true → s ≡ true) → (x y : I) (n : ℕ) (v : Control (Unit {0})) → Related w longer x y → TellsControl w IsControl s x n v → TellsControl w IsControl s y n v
+  told_stays : (longer s : Bool) → (longer ≡ true → s ≡ true) → (x y : I) (n : ℕ) (v : Control (Unit {0})) → Related w longer x y →
+      TellsControl w IsControl s x n v → TellsControl w IsControl s y n v
   told_stays longer s only x y n Control.None r a =
       let k = items_stay w longer x y r in
       (a.0, record { item = a.1.item; items = a.1.items ++ k.0; elements_are = k.1 ∙ ap (λ z. z ++ k.0) a.1.elements_are; is_other = a.1.is_other })
   told_stays true s only x y n Control.Last r a = absurd (cc (only refl, a.1))
-  told_stays false s only x y n Control.Last r a = (a.0, a.1, record { item = a.2.item; elements_are = sym r.elements_are ∙ a.2.elements_are; is_control = a.2.is_control })
+  told_stays false s only x y n Control.Last r a =
+      (a.0, a.1, record { item = a.2.item; elements_are = sym r.elements_are ∙ a.2.elements_are; is_control = a.2.is_control })
   told_stays longer s only x y n (Control.Before v) r a =
       let k = items_stay w longer x y r in
       record {
@@ -203,19 +207,25 @@ module _ {I A V E : Type 0} (w : Seen I A) (done : V) (m : Meaning I V E) where
 
 module _ {I A U W E : Type 0} (w : Seen I A) (l : InputLaws w) (IsControl : A → Type 0) (lack : Option ℕ) (m : Meaning I U E) (g : Meaning I W E) where
   escape_lawful : IsLawful w g → IsLawful w (escape_meaning {U = U} w IsControl lack g)
-  escape_lawful q = then_lawful w l (λ _ t. t) (λ b. b) (λ b. b) (look (control_leaf w IsControl lack)) (behind_control g) (leaf_lawful w (control_leaf w IsControl lack) (control_laws w IsControl lack) (Unit {0}) (λ i e. ⊥) ⊥) (behind_lawful U w g q)
+  escape_lawful q = then_lawful w l (λ _ t. t) (λ b. b) (λ b. b) (look (control_leaf w IsControl lack)) (behind_control g)
+      (leaf_lawful w (control_leaf w IsControl lack) (control_laws w IsControl lack) (Unit {0}) (λ i e. ⊥) ⊥) (behind_lawful U w g q)
 
   escape_steady : IsSteady w g → IsSteady w (escape_meaning {U = U} w IsControl lack g)
-  escape_steady q = then_steady w l (λ _ t. t) (λ b. b) (λ b. b) (look (control_leaf w IsControl lack)) (behind_control g) (leaf_steady w (control_leaf w IsControl lack) (control_laws w IsControl lack) {E = E} (Unit {0}) (λ i e. ⊥) ⊥) (control_steady U w g q)
+  escape_steady q = then_steady w l (λ _ t. t) (λ b. b) (λ b. b) (look (control_leaf w IsControl lack)) (behind_control g)
+      (leaf_steady w (control_leaf w IsControl lack) (control_laws w IsControl lack) {E = E} (Unit {0}) (λ i e. ⊥) ⊥) (control_steady U w g q)
 
   piece_lawful : IsLawful w m → IsLawful w g → IsLawful w (piece_meaning w IsControl lack m g)
-  piece_lawful p q = otherwise_lawful w (labelled_meaning (λ u. Found (Normal u)) m) (escape_meaning w IsControl lack g) (labelled_lawful w m (λ u. Found (Normal u)) p) (escape_lawful q)
+  piece_lawful p q = otherwise_lawful w (labelled_meaning (λ u. Found (Normal u)) m) (escape_meaning w IsControl lack g)
+      (labelled_lawful w m (λ u. Found (Normal u)) p) (escape_lawful q)
 
   piece_steady : IsSteady w m → IsSteady w g → IsSteady w (piece_meaning w IsControl lack m g)
-  piece_steady p q = otherwise_steady w (labelled_meaning (λ u. Found (Normal u)) m) (escape_meaning w IsControl lack g) (labelled_steady w m (λ u. Found (Normal u)) p) (escape_steady q)
+  piece_steady p q = otherwise_steady w (labelled_meaning (λ u. Found (Normal u)) m) (escape_meaning w IsControl lack g)
+      (labelled_steady w m (λ u. Found (Normal u)) p) (escape_steady q)
 
   pub spot_lawful : IsLawful w m → IsLawful w g → IsLawful w (spot_meaning w IsControl lack m g)
-  spot_lawful p q = then_lawful w l (λ _ t. t) (λ b. b) (λ b. b) (look (left_leaf w)) (where_left Done (piece_meaning w IsControl lack m g)) (leaf_lawful w (left_leaf w) (left_laws w) (Unit {0}) (λ i e. ⊥) ⊥) (where_left_lawful w Done (piece_meaning w IsControl lack m g) (piece_lawful p q))
+  spot_lawful p q = then_lawful w l (λ _ t. t) (λ b. b) (λ b. b) (look (left_leaf w)) (where_left Done (piece_meaning w IsControl lack m g))
+      (leaf_lawful w (left_leaf w) (left_laws w) (Unit {0}) (λ i e. ⊥) ⊥) (where_left_lawful w Done (piece_meaning w IsControl lack m g) (piece_lawful p q))
 
   pub spot_steady : IsSteady w m → IsSteady w g → IsSteady w (spot_meaning w IsControl lack m g)
-  spot_steady p q = then_steady w l (λ _ t. t) (λ b. b) (λ b. b) (look (left_leaf w)) (where_left Done (piece_meaning w IsControl lack m g)) (leaf_steady w (left_leaf w) (left_laws w) {E = E} (Unit {0}) (λ i e. ⊥) ⊥) (left_steady w Done (piece_meaning w IsControl lack m g) (piece_steady p q))
+  spot_steady p q = then_steady w l (λ _ t. t) (λ b. b) (λ b. b) (look (left_leaf w)) (where_left Done (piece_meaning w IsControl lack m g))
+      (leaf_steady w (left_leaf w) (left_laws w) {E = E} (Unit {0}) (λ i e. ⊥) ⊥) (left_steady w Done (piece_meaning w IsControl lack m g) (piece_steady p q))

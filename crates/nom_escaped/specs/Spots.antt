@@ -138,9 +138,11 @@ module _ {U W O X : Type 0} (outputs : Bool) (IsNormal : U → O → Type 0) (Is
   IsSpot Done b = b ≡ Done
 
 -- what is returned for what stands at i: a spot is there always, and its values where outputs are built
-abbrev pub ShowsSpot : {I A U W O X E : Type 0} → Seen I A → (U → O → Type 0) → (W → X → Type 0) → Modes → (A → Type 0) → Option ℕ → Meaning I U E → Meaning I W E → I → Result (I × Option (Spot (Piece (Option O) (Option X)))) (Answer.Err E (Option E) Needed) → Type 0
+abbrev pub ShowsSpot : {I A U W O X E : Type 0} → Seen I A → (U → O → Type 0) → (W → X → Type 0) → Modes → (A → Type 0) → Option ℕ → Meaning I U E →
+    Meaning I W E → I → Result (I × Option (Spot (Piece (Option O) (Option X)))) (Answer.Err E (Option E) Needed) → Type 0
 ShowsSpot w IsNormal IsEscapable mode IsControl lack m g i r =
-    ShowsAnswer w (IsSpot mode.outputs IsNormal IsEscapable) (with_outputs true mode) i ((spot_meaning w IsControl lack m g).answers mode.streaming i) ((spot_meaning w IsControl lack m g).blames mode.streaming i) ((spot_meaning w IsControl lack m g).runs_out mode i) r
+    ShowsAnswer w (IsSpot mode.outputs IsNormal IsEscapable) (with_outputs true mode) i ((spot_meaning w IsControl lack m g).answers mode.streaming i)
+    ((spot_meaning w IsControl lack m g).blames mode.streaming i) ((spot_meaning w IsControl lack m g).runs_out mode i) r
 
 -- what is returned where an input ends at i
 abbrev pub Lacks : {I T E : Type 0} → Bool → Needed → I → T → Result (I × Option T) (Answer.Err E (Option E) Needed) → Type 0

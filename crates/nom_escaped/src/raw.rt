@@ -78,7 +78,8 @@ where
         }
     }
 
-    ghost lawful = { λ s k. escaped_lawful I.seen I.lawful F.Error.errors (λ x. I.Item.code x ≡ s.1) (F.meaning s.0) (G.meaning s.2) (F.lawful s.0 k.1.0) (G.lawful s.2 k.1.1.1) };
+    ghost lawful = { λ s k. escaped_lawful I.seen I.lawful F.Error.errors (λ x. I.Item.code x ≡ s.1) (F.meaning s.0) (G.meaning s.2)
+        (F.lawful s.0 k.1.0) (G.lawful s.2 k.1.1.1) };
 }
 
 impl<I: Input, F: StreamParser<I> + Drop, G: StreamParser<I, Error = F::Error> + Drop> StreamParser<
@@ -92,5 +93,6 @@ where
 
     ghost pinned = { λ s k p. slice_pinned I.seen I.view I.views };
 
-    ghost steady = { λ s k. escaped_steady I.seen I.lawful F.Error.errors (λ x. I.Item.code x ≡ s.1) (F.meaning s.0) (G.meaning s.2) (F.steady s.0 k.1.0) (G.steady s.2 k.1.1.1) };
+    ghost steady = { λ s k. escaped_steady I.seen I.lawful F.Error.errors (λ x. I.Item.code x ≡ s.1) (F.meaning s.0) (G.meaning s.2)
+        (F.steady s.0 k.1.0) (G.steady s.2 k.1.1.1) };
 }

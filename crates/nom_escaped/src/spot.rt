@@ -93,7 +93,9 @@ where
     I::Item: AsChar,
     requires normal { (F.meaning (F.state normal.old)).IsSound }
     requires escapable { (G.meaning (G.state escapable.old)).IsSound }
-    ensures shown { ShowsSpot I.seen (F.IsOutput (F.state normal.old)) (G.IsOutput (G.state escapable.old)) (modes OM.Output.BUILDS OM.Error.BUILDS OM.Incomplete.STREAMING) (λ x. I.Item.code x ≡ control_char) (size_of lack) (F.meaning (F.state normal.old)) (G.meaning (G.state escapable.old)) input result }
+    ensures shown { ShowsSpot I.seen (F.IsOutput (F.state normal.old)) (G.IsOutput (G.state escapable.old))
+        (modes OM.Output.BUILDS OM.Error.BUILDS OM.Incomplete.STREAMING) (λ x. I.Item.code x ≡ control_char) (size_of lack)
+        (F.meaning (F.state normal.old)) (G.meaning (G.state escapable.old)) input result }
     ensures normal_kept { F.state normal.new ≡ F.state normal.old }
     ensures escapable_kept { G.state escapable.new ≡ G.state escapable.old }
 {

@@ -145,7 +145,8 @@ where
         }
     }
 
-    ghost lawful = { λ s k. escaped_transform_lawful I.seen I.lawful F.Error.errors (λ x. C.code x ≡ s.1) (F.meaning s.0) (G.meaning s.2) (F.lawful s.0 k.1.0) (G.lawful s.2 k.1.1.1) };
+    ghost lawful = { λ s k. escaped_transform_lawful I.seen I.lawful F.Error.errors (λ x. C.code x ≡ s.1) (F.meaning s.0) (G.meaning s.2)
+        (F.lawful s.0 k.1.0) (G.lawful s.2 k.1.1.1) };
 }
 
 impl<
@@ -163,7 +164,9 @@ where
     ghost use Rattle.nom_escaped.specs.EscapeLaws.{escaped_transform_steady};
     ghost use Rattle.nom_escaped.specs.Texts.{texts_pinned};
 
-    ghost pinned = { λ s k p. texts_pinned X.view X.parts X.views F.Output.view G.Output.view (F.IsOutput s.0) (G.IsOutput s.2) F.Output.added G.Output.added F.Output.views G.Output.views (F.pinned s.0 k.1.0 p.0) (G.pinned s.2 k.1.1.1 p.1) };
+    ghost pinned = { λ s k p. texts_pinned X.view X.parts X.views F.Output.view G.Output.view (F.IsOutput s.0)
+        (G.IsOutput s.2) F.Output.added G.Output.added F.Output.views G.Output.views (F.pinned s.0 k.1.0 p.0) (G.pinned s.2 k.1.1.1 p.1) };
 
-    ghost steady = { λ s k. escaped_transform_steady I.seen I.lawful F.Error.errors (λ x. C.code x ≡ s.1) (F.meaning s.0) (G.meaning s.2) (F.steady s.0 k.1.0) (G.steady s.2 k.1.1.1) };
+    ghost steady = { λ s k. escaped_transform_steady I.seen I.lawful F.Error.errors (λ x. C.code x ≡ s.1) (F.meaning s.0) (G.meaning s.2)
+        (F.steady s.0 k.1.0) (G.steady s.2 k.1.1.1) };
 }

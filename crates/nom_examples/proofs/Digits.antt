@@ -1,5 +1,6 @@
 -- Two digits in base 16, as a run that is mapped.
-use Rattle.std.proofs.Common.{◌≡◌, ℕ, ◌+◌, ◌*◌, ◌<◌, ◌≤◌, Bool, true, false, List, [], ◌∷◌, ◌++◌, drop, length, Result, Ok, Err, refl, sym, ◌∙◌, ap, subst, arith, inl, inr}
+use Rattle.std.proofs.Common.{◌≡◌, ℕ, ◌+◌, ◌*◌, ◌<◌, ◌≤◌, Bool, true, false, List, [], ◌∷◌, ◌++◌, drop, length, Result, Ok, Err, refl, sym, ◌∙◌, ap}
+use Rattle.std.proofs.Common.{subst, arith, inl, inr}
 use Rattle.std.specs.Prelude.{cond, chars, encode_utf8_all, ◌^◌, Some, ◌⊎◌, is_ok}
 use Rattle.std.specs.Char.{digit_value, is_digit, len_utf8}
 use Rattle.std.specs.List.{All}
@@ -36,16 +37,19 @@ module _ (a b : ℕ) (h : are_digits a b ≡ true) where
   pub pair_value : digits_value 16 (without_leading_plus (encode_utf8_all (a ∷ (b ∷ [])))) ≡ 16 * digit_value a + digit_value b
   pair_value = omega (arith, ap (digits_value 16) (pair_digits a b h))
 
-  pub pair_fits : IsNumeral 16 (without_leading_plus (encode_utf8_all (a ∷ (b ∷ [])))) × (digits_value 16 (without_leading_plus (encode_utf8_all (a ∷ (b ∷ [])))) < 2 ^ 8)
+  pub pair_fits : IsNumeral 16 (without_leading_plus (encode_utf8_all (a ∷ (b ∷ [])))) ×
+      (digits_value 16 (without_leading_plus (encode_utf8_all (a ∷ (b ∷ [])))) < 2 ^ 8)
   pair_fits =
       let d = and_parts (is_digit a 16) (is_digit b 16) h in
       let first = ltb-true (digit_value a) 16 d.0 in
       let second = ltb-true (digit_value b) 16 d.1 in
-      let fits : IsNumeral 16 (a ∷ (b ∷ [])) × (digits_value 16 (a ∷ (b ∷ [])) < 2 ^ 8) = ((omega arith, (first, (second, tt))), omega (arith, first, second)) in
+      let fits : IsNumeral 16 (a ∷ (b ∷ [])) × (digits_value 16 (a ∷ (b ∷ [])) < 2 ^ 8) =
+      ((omega arith, (first, (second, tt))), omega (arith, first, second)) in
       subst (λ ds. IsNumeral 16 ds × (digits_value 16 ds < 2 ^ 8)) (sym (pair_digits a b h)) fits
 
 -- texts that are seen alike are read alike
-same_verdict : {E : Type 0} (cs : List ℕ) (r x : Result ℕ E) → ParsesUnsigned 8 16 (encode_utf8_all cs) r → ParsesUnsigned 8 16 (encode_utf8_all cs) x → is_ok r ≡ is_ok x
+same_verdict : {E : Type 0} (cs : List ℕ) (r x : Result ℕ E) → ParsesUnsigned 8 16 (encode_utf8_all cs) r → ParsesUnsigned 8 16 (encode_utf8_all cs) x →
+    is_ok r ≡ is_ok x
 same_verdict cs (Ok v) (Ok w) g h = refl
 same_verdict cs (Ok v) (Err e) g h = absurd (h g.0)
 same_verdict cs (Err e) (Ok w) g h = absurd (g h.0)
@@ -54,10 +58,12 @@ same_verdict cs (Err e) (Err f) g h = refl
 abbrev pub ReadsText : {E : Type 0} → Text → Result ℕ E → Type 0
 ReadsText p r = ParsesUnsigned 8 16 (encode_utf8_all (chars p.now)) r
 
-pub read_judge : {E : Type 0} {Takes : Text → Type 0} {Gives : Text → Result ℕ E → Type 0} → ((p : Text) → Takes p) → ((p : Text) (r : Result ℕ E) → Gives p r → ReadsText p r) → IsJudge (IsSeenAs seen_text) Takes Gives is_ok
+pub read_judge : {E : Type 0} {Takes : Text → Type 0} {Gives : Text → Result ℕ E → Type 0} → ((p : Text) → Takes p) →
+    ((p : Text) (r : Result ℕ E) → Gives p r → ReadsText p r) → IsJudge (IsSeenAs seen_text) Takes Gives is_ok
 read_judge takes gives = record {
   takes = λ t p s. takes p;
-  fixed = λ t p q r x a b g h. same_verdict t.items r x (subst (λ cs. ParsesUnsigned 8 16 (encode_utf8_all cs) r) a.elements_are (gives p r g)) (subst (λ cs. ParsesUnsigned 8 16 (encode_utf8_all cs) x) b.elements_are (gives q x h));
+  fixed = λ t p q r x a b g h. same_verdict t.items r x (subst (λ cs. ParsesUnsigned 8 16 (encode_utf8_all cs) r) a.elements_are (gives p r g))
+      (subst (λ cs. ParsesUnsigned 8 16 (encode_utf8_all cs) x) b.elements_are (gives q x h));
 }
 
 -- two digits, and all that is behind them
@@ -82,7 +88,8 @@ few count behind h = elim (cases_lt count 2) [ inl k ↦ k | inr k ↦ absurd (h
 
 -- The run of two at most, in the complete mode.
 module _ (Test : ℕ → Bool → Type 0) (tests : (c : ℕ) (b : Bool) → Test c b → b ≡ is_digit c 16) where
-  two_by : (i : Text) (n : ℕ) (items rest : List ℕ) → length items ≡ 2 → All (λ c. Test c true) items → chars i.now ≡ items ++ rest → span len_utf8 items ≡ n → IsTwo i n items
+  two_by : (i : Text) (n : ℕ) (items rest : List ℕ) → length items ≡ 2 → All (λ c. Test c true) items → chars i.now ≡ items ++ rest →
+      span len_utf8 items ≡ n → IsTwo i n items
   two_by i n [] rest e h w s = absurd (omega (arith, e))
   two_by i n (a ∷ []) rest e h w s = absurd (omega (arith, e))
   two_by i n (a ∷ (b ∷ [])) rest e h w s =
@@ -92,7 +99,8 @@ module _ (Test : ℕ → Bool → Type 0) (tests : (c : ℕ) (b : Bool) → Test
       record { first = a; second = b; rest = rest; items_are = refl; digits = both; whole = w; length_is = sym s ∙ pair_span a b both }
   two_by i n (a ∷ (b ∷ (c ∷ cs))) rest e h w s = absurd (omega (arith, e))
 
-  pub two_taken : (i : Text) (n : ℕ) (t : Slice seen_text) (r : IsRunSlice seen_text Test (Some 2) false i n t) → IsEnough 2 (Some 2) (length t.items) (length r.first.rest) → IsTwo i n t.items
+  pub two_taken : (i : Text) (n : ℕ) (t : Slice seen_text) (r : IsRunSlice seen_text Test (Some 2) false i n t) →
+      IsEnough 2 (Some 2) (length t.items) (length r.first.rest) → IsTwo i n t.items
   two_taken i n t r e = two_by i n t.items r.first.rest (enough_two (length t.items) (length r.first.rest) r.bounded e) r.meets r.first.whole r.first.length_is
 
   unlike : (c : ℕ) → Test c false → is_digit c 16 ≡ false
@@ -114,5 +122,6 @@ module _ (Test : ℕ → Bool → Type 0) (tests : (c : ℕ) (b : Bool) → Test
   missing_by (a ∷ []) rest l s = missing_second a rest s
   missing_by (a ∷ (b ∷ cs)) rest l s = absurd (omega (arith, l))
 
-  pub two_missing : (i : Text) (n : ℕ) (t : Slice seen_text) (r : IsRunSlice seen_text Test (Some 2) false i n t) → (IsEnough 2 (Some 2) (length t.items) (length r.first.rest) → ⊥) → pair_of (chars i.now) ≡ Refuse
+  pub two_missing : (i : Text) (n : ℕ) (t : Slice seen_text) (r : IsRunSlice seen_text Test (Some 2) false i n t) →
+      (IsEnough 2 (Some 2) (length t.items) (length r.first.rest) → ⊥) → pair_of (chars i.now) ≡ Refuse
   two_missing i n t r h = ap pair_of r.first.whole ∙ missing_by t.items r.first.rest (few (length t.items) (length r.first.rest) h) r.stops

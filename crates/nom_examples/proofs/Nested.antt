@@ -1,5 +1,6 @@
 -- What a function of nested brackets answers, from what its parts answered.
-use Rattle.std.proofs.Common.{◌≡◌, ℕ, ◌+◌, ◌≤◌, zero, suc, Bool, true, false, List, [], ◌∷◌, ◌++◌, drop, length, Result, Ok, Err, Bor, refl, sym, ◌∙◌, ap, subst, arith, inl, inr}
+use Rattle.std.proofs.Common.{◌≡◌, ℕ, ◌+◌, ◌≤◌, zero, suc, Bool, true, false, List, [], ◌∷◌, ◌++◌, drop, length, Result, Ok, Err, Bor, refl, sym, ◌∙◌}
+use Rattle.std.proofs.Common.{ap, subst, arith, inl, inr}
 use Rattle.std.specs.Prelude.{◌==◌, cond}
 use Rattle.std.specs.Result.{IsErrAnd, IsErr}
 use Rattle.std.proofs.lemmas.Bool.Decides.{nat_tests}
@@ -88,7 +89,8 @@ pub record IsMissed (c : ℕ) (i : Bytes) (e : Answer.Err (Error Bytes) (Error B
 other_first : (c x : ℕ) (xs rest : List ℕ) → xs ≡ x ∷ rest → false ≡ (x == c) → run_of c xs ≡ 0
 other_first c x xs rest e f = ap (run_of c) e ∙ ap (λ b. cond b (1 + run_of c rest) 0) (sym f)
 
-error_by : {i : Bytes} {e : Answer.Err (Error Bytes) (Error Bytes) Needed} {x : Error Bytes} → (let r : Result_of ℕ = Err e in r ≡ Err (Answered.Error x)) → x ≡ record { input = i; code = Char } → e ≡ Answered.Error (record { input = i; code = Char })
+error_by : {i : Bytes} {e : Answer.Err (Error Bytes) (Error Bytes) Needed} {x : Error Bytes} →
+    (let r : Result_of ℕ = Err e in r ≡ Err (Answered.Error x)) → x ≡ record { input = i; code = Char } → e ≡ Answered.Error (record { input = i; code = Char })
 error_by p q = cc (p, q)
 
 missed : {c : ℕ} {i : Bytes} {e : Answer.Err (Error Bytes) (Error Bytes) Needed} → (let r : Result_of ℕ = Err e in CharAnswer c i r) → IsMissed c i e
@@ -100,7 +102,8 @@ missed (Parsed Fail a p) = absurd a
 missed (Parsed TooLarge a p) = absurd a
 missed (Parsed (Undecided k) a p) = cc (a.0)
 
-pub char_missed : (c k : ℕ) {i : Bytes} {e : Answer.Err (Error Bytes) (Error Bytes) Needed} → c ≡ k → (let r : Result_of ℕ = Err e in CharAnswer c i r) → IsMissed k i e
+pub char_missed : (c k : ℕ) {i : Bytes} {e : Answer.Err (Error Bytes) (Error Bytes) Needed} → c ≡ k →
+    (let r : Result_of ℕ = Err e in CharAnswer c i r) → IsMissed k i e
 char_missed c k {i} {e} q h = subst (λ z. IsMissed z i e) q (missed {c = c} h)
 
 -- what a recursive call answered, accepting
@@ -161,7 +164,8 @@ run_past byte (suc k) (z ∷ zs) h = past_head (z == byte) k (run_of byte zs) (r
 -- how many close, where so many did and the others are behind
 closed_past : (ys front bs : List ℕ) (d : ℕ) → d ≡ opened ys → d ≤ closed ys → ys ≡ front ++ bs → span (λ _. 1) front ≡ d + d → closed ys ≡ d + run_of 41 bs
 closed_past ys front bs d e h f l =
-    let behind : drop d (drop d ys) ≡ bs = drop-drop d d ys ∙ (ap (λ n. drop n ys) (sym l ∙ span-ones front) ∙ (ap (drop (length front)) f ∙ drop-append_seam front bs)) in
+    let behind : drop d (drop d ys) ≡ bs =
+    drop-drop d d ys ∙ (ap (λ n. drop n ys) (sym l ∙ span-ones front) ∙ (ap (drop (length front)) f ∙ drop-append_seam front bs)) in
     run_past 41 d (drop (opened ys) ys) h ∙ ap (λ zs. d + run_of 41 zs) (ap (λ n. drop d (drop n ys)) (sym e) ∙ behind)
 
 -- nothing opens
@@ -169,32 +173,42 @@ pub nested_none : {i : Bytes} {e : Answer.Err (Error Bytes) (Error Bytes) Needed
 nested_none {i} h m = Parsed (Accept 0 0) (sym m.none, omega arith, refl) (i, 0, rest_self seen_bytes bytes_lawful i h, refl, refl)
 
 -- as many close as opened
-pub nested_taken : {i inside behind rest : Bytes} {d : ℕ} → IsTaken 40 i inside → IsInner inside behind d → IsTaken 41 behind rest → NestedAnswer i (Ok (rest, d + 1))
+pub nested_taken : {i inside behind rest : Bytes} {d : ℕ} → IsTaken 40 i inside → IsInner inside behind d → IsTaken 41 behind rest →
+    NestedAnswer i (Ok (rest, d + 1))
 nested_taken {i} {inside} {behind} {rest} {d} o n c =
     let past = closed_past inside.now n.rest.front behind.now d n.deep n.closes n.rest.whole n.rest.length_is in
     let one : run_of 41 behind.now ≡ 1 + run_of 41 rest.now = ap (run_of 41) c.whole in
     let deep : d + 1 ≡ opened i.now = omega (arith, n.deep, opened_more i.now inside.now o.whole) in
     let closes : d + 1 ≤ closed i.now = omega (arith, past, one, closed_more i.now inside.now o.whole) in
-    let behind_all = rest_rest seen_bytes bytes_lawful i 1 inside (d + d + 1) rest o.rest (rest_rest seen_bytes bytes_lawful inside (d + d) behind 1 rest n.rest c.rest) in
+    let behind_all = rest_rest seen_bytes bytes_lawful i 1 inside (d + d + 1) rest o.rest
+    (rest_rest seen_bytes bytes_lawful inside (d + d) behind 1 rest n.rest c.rest) in
     Parsed (Accept (1 + (d + d + 1)) (d + 1)) (deep, closes, omega arith) (rest, d + 1, behind_all, refl, refl)
 
 -- an error at a rest, of what opened and closed before it
-refused_at : {i : Bytes} {e : Answer.Err (Error Bytes) (Error Bytes) Needed} {r : Result_of ℕ} (x : Error Bytes) → IsOpen i → MissesBracket i x → e ≡ Answered.Error x → IsErr r × IsErrAnd r (λ y. y ≡ e) → NestedAnswer i r
+refused_at : {i : Bytes} {e : Answer.Err (Error Bytes) (Error Bytes) Needed} {r : Result_of ℕ} (x : Error Bytes) → IsOpen i → MissesBracket i x →
+    e ≡ Answered.Error x → IsErr r × IsErrAnd r (λ y. y ≡ e) → NestedAnswer i r
 refused_at x o m e q = Parsed Refuse o (x, m, err_from_residual q ∙ ap Err e)
 
 -- one is missing inside
-pub nested_inner : {i inside : Bytes} {e : Answer.Err (Error Bytes) (Error Bytes) Needed} {r : Result_of ℕ} → IsTaken 40 i inside → IsInnerOpen inside e → IsErr r × IsErrAnd r (λ y. y ≡ e) → NestedAnswer i r
+pub nested_inner : {i inside : Bytes} {e : Answer.Err (Error Bytes) (Error Bytes) Needed} {r : Result_of ℕ} → IsTaken 40 i inside →
+    IsInnerOpen inside e → IsErr r × IsErrAnd r (λ y. y ≡ e) → NestedAnswer i r
 nested_inner {i} {inside} o n q =
     let more = opened_more i.now inside.now o.whole in
     let same = closed_more i.now inside.now o.whole in
     let count : 1 + (opened inside.now + closed inside.now) ≡ opened i.now + closed i.now = omega (arith, more, same) in
-    refused_at n.held (omega (arith, more, same, n.unclosed)) (subst (λ m. IsRest seen_bytes i m n.held.input) count (rest_rest seen_bytes bytes_lawful i 1 inside (opened inside.now + closed inside.now) n.held.input o.rest n.misses.0), n.misses.1) n.error q
+    refused_at n.held (omega (arith, more, same, n.unclosed)) (
+      subst (λ m. IsRest seen_bytes i m n.held.input) count
+          (rest_rest seen_bytes bytes_lawful i 1 inside (opened inside.now + closed inside.now) n.held.input o.rest n.misses.0),
+      n.misses.1,
+    ) n.error q
 
 -- the last one is missing
-pub nested_missed : {i inside behind : Bytes} {d : ℕ} {e : Answer.Err (Error Bytes) (Error Bytes) Needed} {r : Result_of ℕ} → IsTaken 40 i inside → IsInner inside behind d → IsMissed 41 behind e → IsErr r × IsErrAnd r (λ y. y ≡ e) → NestedAnswer i r
+pub nested_missed : {i inside behind : Bytes} {d : ℕ} {e : Answer.Err (Error Bytes) (Error Bytes) Needed} {r : Result_of ℕ} → IsTaken 40 i inside →
+    IsInner inside behind d → IsMissed 41 behind e → IsErr r × IsErrAnd r (λ y. y ≡ e) → NestedAnswer i r
 nested_missed {i} {inside} {behind} {d} o n m q =
     let more = opened_more i.now inside.now o.whole in
     let same = closed_more i.now inside.now o.whole in
     let past = closed_past inside.now n.rest.front behind.now d n.deep n.closes n.rest.whole n.rest.length_is in
     let count : 1 + (d + d) ≡ opened i.now + closed i.now = omega (arith, more, same, past, n.deep, m.none) in
-    refused_at (record { input = behind; code = Char }) (omega (arith, more, same, past, n.deep, m.none)) (subst (λ k. IsRest seen_bytes i k behind) count (rest_rest seen_bytes bytes_lawful i 1 inside (d + d) behind o.rest n.rest), refl) m.error q
+    refused_at (record { input = behind; code = Char }) (omega (arith, more, same, past, n.deep, m.none))
+    (subst (λ k. IsRest seen_bytes i k behind) count (rest_rest seen_bytes bytes_lawful i 1 inside (d + d) behind o.rest n.rest), refl) m.error q

@@ -81,9 +81,11 @@ unmarked_by (c ∷ cs) h =
 
 module _ (t : List ℕ) (is_mark : t ≡ 35 ∷ []) where
   tag_answered : (i : Text) (a : Outcome (Slice seen_text)) → (mark_meaning t).answers true i a → LeafAnswers (tags seen_text length ComparesText t) false i a
-  tag_answered i a h = subst (λ x. LeafAnswers (tags seen_text length ComparesText t) false x a) (sym h.at_is) (subst (λ b. LeafAnswers (tags seen_text length ComparesText t) false h.at b) (sym h.fact) h.answered)
+  tag_answered i a h = subst (λ x. LeafAnswers (tags seen_text length ComparesText t) false x a) (sym h.at_is)
+      (subst (λ b. LeafAnswers (tags seen_text length ComparesText t) false h.at b) (sym h.fact) h.answered)
 
-  tag_taken : (i j : Text) (n : ℕ) (u : Slice seen_text) → LeafAnswers (tags seen_text length ComparesText t) false i (Accept n u) → IsRest seen_text i n j → IsMarked i j
+  tag_taken : (i j : Text) (n : ℕ) (u : Slice seen_text) → LeafAnswers (tags seen_text length ComparesText t) false i (Accept n u) →
+      IsRest seen_text i n j → IsMarked i j
   tag_taken i j n u a r =
       let found = found_by a.2.front a.2.rest (chars i.now) a.2.whole (a.2.tag_is ∙ is_mark) in
       marked_by i j found.0 found.1 (subst (λ k. IsRest seen_text i k j) (a.0 ∙ ap length is_mark) r)
@@ -93,7 +95,8 @@ module _ (t : List ℕ) (is_mark : t ≡ 35 ∷ []) where
 
   tag_missing : (i : Text) → LeafAnswers (tags seen_text length ComparesText t) false i Refuse → (ys : List ℕ) → chars i.now ≡ 35 ∷ ys → ⊥
   tag_missing i (inl h) ys e = h.0 (mark_found (chars i.now) ys e)
-  tag_missing i (inr h) ys e = found_not_begun seen_text text_lawful encode_utf8_all text_is_bytes (λ x. x) itself_form t (chars i.now) (mark_found (chars i.now) ys e) h.1
+  tag_missing i (inr h) ys e = found_not_begun seen_text text_lawful encode_utf8_all text_is_bytes (λ x. x) itself_form t (chars i.now)
+      (mark_found (chars i.now) ys e) h.1
 
   pub mark_taken : {i j u : Text} → MarkAnswer t i (Ok (j, u)) → IsMarked i j
   mark_taken (ParseRanOut e h) = cc (e)
@@ -105,7 +108,8 @@ module _ (t : List ℕ) (is_mark : t ≡ 35 ∷ []) where
   mark_taken (Parsed TooLarge a p) = cc (p.2)
   mark_taken (Parsed (Undecided k) a p) = cc (p.2)
 
-  unmarked : (i : Text) (e : Fault) (x : Error Text) → LeafAnswers (tags seen_text length ComparesText t) false i Refuse → x ≡ record { input = i; code = Tag } → (let r : Result (Text × Text) Fault = Err e in r ≡ Err (Answered.Error x)) → IsUnmarked i e
+  unmarked : (i : Text) (e : Fault) (x : Error Text) → LeafAnswers (tags seen_text length ComparesText t) false i Refuse →
+      x ≡ record { input = i; code = Tag } → (let r : Result (Text × Text) Fault = Err e in r ≡ Err (Answered.Error x)) → IsUnmarked i e
   unmarked i e x a f p =
       let both = unmarked_by (chars i.now) (tag_missing i a) in
       record { none = both.0; fault = both.1; error = cc (p, f) }
@@ -117,7 +121,8 @@ module _ (t : List ℕ) (is_mark : t ≡ 35 ∷ []) where
   pub mark_missed : {i : Text} {e : Fault} → (let r : Result (Text × Text) Fault = Err e in MarkAnswer t i r) → IsUnmarked i e
   mark_missed {i} (ParseRanOut e h) = mark_grows i h
   mark_missed (Parsed (Accept n v) a p) = cc (p.4)
-  mark_missed {i} {e} (Parsed Refuse a p) = unmarked i e p.0 (tag_answered i Refuse a) (p.1.fact ∙ ap (λ j. record { input = j; code = Tag }) (sym p.1.at_is)) p.2
+  mark_missed {i} {e} (Parsed Refuse a p) =
+      unmarked i e p.0 (tag_answered i Refuse a) (p.1.fact ∙ ap (λ j. record { input = j; code = Tag }) (sym p.1.at_is)) p.2
   mark_missed {i} (Parsed Fail a p) = absurd (tag_answered i Fail a)
   mark_missed {i} (Parsed TooLarge a p) = absurd (tag_answered i TooLarge a)
   mark_missed {i} (Parsed (Undecided k) a p) = let none = tag_answered i (Undecided k) a in cc (none.0)
@@ -132,18 +137,25 @@ color_answer {i} {j} {k} m t = record {
   fault_is = tt;
 }
 
-fault_answer : {i : Text} {e : Fault} {r : Result (Text × Color) Fault} (x : Error Text) → color_of (chars i.now) ≡ Refuse → e ≡ Answered.Error x → IsRest seen_text i (color_fault (chars i.now)).0 x.input → x.code ≡ (color_fault (chars i.now)).1 → IsErr r × IsErrAnd r (λ y. y ≡ e) → AnswersColor i r
+fault_answer : {i : Text} {e : Fault} {r : Result (Text × Color) Fault} (x : Error Text) → color_of (chars i.now) ≡ Refuse → e ≡ Answered.Error x →
+    IsRest seen_text i (color_fault (chars i.now)).0 x.input → x.code ≡ (color_fault (chars i.now)).1 → IsErr r × IsErrAnd r (λ y. y ≡ e) → AnswersColor i r
 fault_answer {i} x none error place kind q =
     let is : _ = err_from_residual q ∙ ap Err error in
     subst (AnswersColor i) (sym is) (record { outcome_is = none; fault_is = (x, refl, place, kind) })
 
 -- a pair is missing
-pub color_missing : {i j : Text} {e : Fault} {r : Result (Text × Color) Fault} → IsMarked i j → IsTripleFault j e → IsErr r × IsErrAnd r (λ y. y ≡ e) → AnswersColor i r
+pub color_missing : {i j : Text} {e : Fault} {r : Result (Text × Color) Fault} → IsMarked i j → IsTripleFault j e → IsErr r × IsErrAnd r (λ y. y ≡ e) →
+    AnswersColor i r
 color_missing {i} {j} m f q =
     let fault : color_fault (chars i.now) ≡ (place_missing 1 (chars j.now), TakeWhileMN) = ap color_fault m.whole in
     let place : 1 + f.missing.place ≡ (color_fault (chars i.now)).0 = sym (ap (λ x. x.0) fault ∙ f.missing.missing 1) in
-    fault_answer f.held (color_marked m ∙ f.missing.none) f.error (subst (λ n. IsRest seen_text i n f.held.input) place (rest_rest seen_text text_lawful i 1 j f.missing.place f.held.input m.rest f.missing.rest)) (f.missing.kind ∙ sym (ap (λ x. x.1) fault)) q
+    fault_answer f.held (color_marked m ∙ f.missing.none) f.error
+    (subst (λ n. IsRest seen_text i n f.held.input) place (rest_rest seen_text text_lawful i 1 j f.missing.place f.held.input m.rest f.missing.rest))
+    (f.missing.kind ∙ sym (ap (λ x. x.1) fault)) q
 
 -- the `#` is missing
-pub color_unmarked : {i : Text} {e : Fault} {r : Result (Text × Color) Fault} → seen_text.IsKnown i → IsUnmarked i e → IsErr r × IsErrAnd r (λ y. y ≡ e) → AnswersColor i r
-color_unmarked {i} known m q = fault_answer (record { input = i; code = Tag }) m.none m.error (subst (λ n. IsRest seen_text i n i) (sym (ap (λ x. x.0) m.fault)) (rest_self seen_text text_lawful i known)) (sym (ap (λ x. x.1) m.fault)) q
+pub color_unmarked : {i : Text} {e : Fault} {r : Result (Text × Color) Fault} → seen_text.IsKnown i → IsUnmarked i e → IsErr r ×
+    IsErrAnd r (λ y. y ≡ e) → AnswersColor i r
+color_unmarked {i} known m q =
+    fault_answer (record { input = i; code = Tag }) m.none m.error
+    (subst (λ n. IsRest seen_text i n i) (sym (ap (λ x. x.0) m.fault)) (rest_self seen_text text_lawful i known)) (sym (ap (λ x. x.1) m.fault)) q

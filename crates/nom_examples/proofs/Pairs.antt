@@ -33,7 +33,8 @@ pub record IsPair (cs : List ℕ) (v : ℕ) : Type 0 where
   pub digits : are_digits first second ≡ true
   pub number : v ≡ 16 * digit_value first + digit_value second
 
-pair_by : (a b v n x : ℕ) (cs : List ℕ) (d : Bool) → are_digits a b ≡ d → x ≡ 16 * digit_value a + digit_value b → cond d (Accept 2 x) Refuse ≡ Accept n v → IsPair (a ∷ (b ∷ cs)) v × (n ≡ 2)
+pair_by : (a b v n x : ℕ) (cs : List ℕ) (d : Bool) → are_digits a b ≡ d → x ≡ 16 * digit_value a + digit_value b →
+    cond d (Accept 2 x) Refuse ≡ Accept n v → IsPair (a ∷ (b ∷ cs)) v × (n ≡ 2)
 pair_by a b v n x cs true e f h =
     let value : x ≡ v = cc (h) in
     let size : 2 ≡ n = cc (h) in
@@ -46,7 +47,8 @@ pair_accepted (a ∷ []) n v h = cc (h)
 pair_accepted (a ∷ (b ∷ cs)) n v h = pair_by a b v n (16 * digit_value a + digit_value b) cs (are_digits a b) refl refl h
 
 pub on_pair_at : {V : Type 0} {cs : List ℕ} {v : ℕ} (p : IsPair cs v) (next : ℕ → List ℕ → Outcome V) → on_pair cs next ≡ next v p.rest
-on_pair_at p next = ap (λ zs. on_pair zs next) p.whole ∙ (ap (λ d. cond d (next (16 * digit_value p.first + digit_value p.second) p.rest) Refuse) p.digits ∙ ap (λ n. next n p.rest) (sym p.number))
+on_pair_at p next = ap (λ zs. on_pair zs next) p.whole ∙
+    (ap (λ d. cond d (next (16 * digit_value p.first + digit_value p.second) p.rest) Refuse) p.digits ∙ ap (λ n. next n p.rest) (sym p.number))
 
 pub missing_at : {cs : List ℕ} {v : ℕ} (p : IsPair cs v) (n : ℕ) → place_missing n cs ≡ place_missing (n + 2) p.rest
 missing_at p n = ap (place_missing n) p.whole ∙ ap (λ d. cond d (place_missing (n + 2) p.rest) n) p.digits
@@ -76,12 +78,15 @@ pub pair_span : (a b : ℕ) → are_digits a b ≡ true → span len_utf8 (a ∷
 pair_span a b h = let d = and_parts (is_digit a 16) (is_digit b 16) h in omega (arith, one_byte a d.0, one_byte b d.1)
 
 pub behind_pair : {i j : Text} {v : ℕ} (p : IsPair (chars i.now) v) → IsRest seen_text i 2 j → chars j.now ≡ p.rest
-behind_pair {i} {j} p q = (same_cut len_utf8 text_lawful.positive q.front (chars j.now) (p.first ∷ (p.second ∷ [])) p.rest (sym q.whole ∙ p.whole) (q.length_is ∙ sym (pair_span p.first p.second p.digits))).1
+behind_pair {i} {j} p q = (same_cut len_utf8 text_lawful.positive q.front (chars j.now) (p.first ∷ (p.second ∷ [])) p.rest (sym q.whole ∙ p.whole)
+    (q.length_is ∙ sym (pair_span p.first p.second p.digits))).1
 
 -- of a rest, and of a rest further on, the second is one of the first
 pub text_between : (i j k : Text) (n m : ℕ) → IsRest seen_text i n j → IsRest seen_text i (n + m) k → IsPlace seen_text j m → IsRest seen_text j m k
 text_between i j k n m p q r =
-    let cut = same_cut len_utf8 text_lawful.positive (p.front ++ r.front) r.rest q.front (chars k.now) (append_assoc p.front r.front r.rest ∙ (ap (λ zs. p.front ++ zs) (sym r.whole) ∙ (sym p.whole ∙ q.whole))) (span-append len_utf8 p.front r.front ∙ (omega (arith, p.length_is, r.length_is, q.length_is))) in
+    let cut = same_cut len_utf8 text_lawful.positive (p.front ++ r.front) r.rest q.front (chars k.now)
+    (append_assoc p.front r.front r.rest ∙ (ap (λ zs. p.front ++ zs) (sym r.whole) ∙ (sym p.whole ∙ q.whole)))
+    (span-append len_utf8 p.front r.front ∙ (omega (arith, p.length_is, r.length_is, q.length_is))) in
     record { known = q.known; front = r.front; whole = r.whole ∙ ap (λ zs. r.front ++ zs) cut.1; length_is = r.length_is; mark_is = refl }
 
 pub pair_place : (i : Text) (v : ℕ) → IsPair (chars i.now) v → IsPlace seen_text i 2
@@ -91,7 +96,8 @@ pair_place i v p = record { front = p.first ∷ (p.second ∷ []); rest = p.rest
 abbrev items_parser : IsParser {E = Error Text} seen_text itself (TellsItems seen_text itself pair_of) (λ i. Unit {0})
 items_parser = items_func {E = Error Text} {w = seen_text} {view = itself} pair_of
 
-told : (i : Text) (o : Outcome ℕ) → FuncOutcome {E = Error Text} seen_text itself AnswersPair i o → FuncOutcome {E = Error Text} seen_text itself (TellsItems seen_text itself pair_of) i o
+told : (i : Text) (o : Outcome ℕ) → FuncOutcome {E = Error Text} seen_text itself AnswersPair i o →
+    FuncOutcome {E = Error Text} seen_text itself (TellsItems seen_text itself pair_of) i o
 told i o a = record { answer = a.answer; given = a.given.outcome_is; told = a.told }
 
 pub pair_parser : IsParser seen_text itself AnswersPair (λ i. Unit {0})
@@ -104,8 +110,10 @@ pair_parser = record {
 -- its outcome is that of the characters
 pub pair_answered : (i : Text) (o : Outcome ℕ) → FuncAnswers seen_text itself AnswersPair i o → pair_of (chars i.now) ≡ o
 pair_answered i o a =
-    let of_items : FuncOutcome {E = Error Text} seen_text itself (TellsItems seen_text itself pair_of) a.at (pair_of (chars a.at.now)) = record { answer = a.outcome.answer; given = a.outcome.given.outcome_is; told = a.outcome.given.outcome_is } in
-    ap pair_of (sym a.alike.elements_are) ∙ items_parser.one_outcome a.at a.at (pair_of (chars a.at.now)) o a.known a.known (same_self seen_text a.at) of_items tt (told a.at o a.outcome)
+    let of_items : FuncOutcome {E = Error Text} seen_text itself (TellsItems seen_text itself pair_of) a.at (pair_of (chars a.at.now)) =
+    record { answer = a.outcome.answer; given = a.outcome.given.outcome_is; told = a.outcome.given.outcome_is } in
+    ap pair_of (sym a.alike.elements_are) ∙
+    items_parser.one_outcome a.at a.at (pair_of (chars a.at.now)) o a.known a.known (same_self seen_text a.at) of_items tt (told a.at o a.outcome)
 
 -- a refusal, with its error at the start
 pub record IsMissed (i : Text) (e : Error Text) : Type 0 where
@@ -159,7 +167,8 @@ module _ {I A P Q T : Type 0} (w : Seen I A) (tree : P → Q → T) (First : I �
     pub tree_is : t ≡ tree left right
     pub length_is : n ≡ size + more
 
-  both_next : (n m : ℕ) (t : T) (u : P) (j : I) (p : Outcome Q) → First i (Accept m u) → IsRest w i m j → Next u j p → Accept n t ≡ after m (tree u) p → Both n t
+  both_next : (n m : ℕ) (t : T) (u : P) (j : I) (p : Outcome Q) → First i (Accept m u) → IsRest w i m j → Next u j p → Accept n t ≡ after m (tree u) p →
+      Both n t
   both_next n m t u j (Accept k v) h r g e =
       let length : n ≡ m + k = cc (e) in
       let trees : t ≡ tree u v = cc (e) in

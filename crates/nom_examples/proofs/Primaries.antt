@@ -37,7 +37,8 @@ text_errors = record {
   grows = ⊥;
 }
 
-module _ {X : Type 0} (Test : ℕ → Bool → Type 0) (IsSound : Type 0) (Takes : Text → Type 0) (Gives : Text → Result ℕ X → Type 0) (Makes : Text → X → Error Text → Type 0) where
+module _ {X : Type 0} (Test : ℕ → Bool → Type 0) (IsSound : Type 0) (Takes : Text → Type 0) (Gives : Text → Result ℕ X → Type 0)
+    (Makes : Text → X → Error Text → Type 0) where
   abbrev run_leaf : Leaf Text (Slice seen_text)
   run_leaf = runs seen_text Test (Some 2) 2
 
@@ -58,7 +59,8 @@ module _ {X : Type 0} (Test : ℕ → Bool → Type 0) (IsSound : Type 0) (Takes
   kept true n k t u e = e
   kept false n k t u e = cc (e)
 
-  passed : (i : Text) (n : ℕ) (t : Slice seen_text) (a : Outcome (Slice seen_text)) → LeafAnswers run_leaf false i a → Passes (Judged (GivesFor (IsSeenAs seen_text) Gives) is_ok) a (Accept n t) → run_leaf.Accepts false i n t
+  passed : (i : Text) (n : ℕ) (t : Slice seen_text) (a : Outcome (Slice seen_text)) → LeafAnswers run_leaf false i a →
+      Passes (Judged (GivesFor (IsSeenAs seen_text) Gives) is_ok) a (Accept n t) → run_leaf.Accepts false i n t
   passed i n t (Accept k u) h f = subst (λ o. LeafAnswers run_leaf false i o) (sym (kept (is_ok f.0) n k t u f.2)) h
   passed i n t Refuse h f = cc (f)
   passed i n t Fail h f = absurd h
@@ -66,38 +68,47 @@ module _ {X : Type 0} (Test : ℕ → Bool → Type 0) (IsSound : Type 0) (Takes
   passed i n t (Undecided k) h f = cc (f)
 
   mapped_accepts : (i : Text) (n : ℕ) (t : Slice seen_text) → (mapped_meaning 2 2).answers true i (Accept n t) → run_leaf.Accepts false i n t
-  mapped_accepts i n t h = passed i n t h.outcome (run_answered i h.outcome (subst (λ x. (run_meaning 2 2).answers true x h.outcome) (sym h.at_is) h.answered)) h.fact
+  mapped_accepts i n t h = passed i n t h.outcome
+      (run_answered i h.outcome (subst (λ x. (run_meaning 2 2).answers true x h.outcome) (sym h.at_is) h.answered)) h.fact
 
-  not_kept : {O : Type 0} (b : Bool) (o : Outcome (Slice seen_text)) (n : ℕ) (t : Slice seen_text) → (o ≡ Accept n t → O) → (o ≡ Refuse → O) → o ≡ kept_if b (Accept n t) → O
+  not_kept : {O : Type 0} (b : Bool) (o : Outcome (Slice seen_text)) (n : ℕ) (t : Slice seen_text) → (o ≡ Accept n t → O) → (o ≡ Refuse → O) →
+      o ≡ kept_if b (Accept n t) → O
   not_kept true o n t f g e = f e
   not_kept false o n t f g e = g e
 
   -- an outcome that is no acceptance is a refusal
-  refused_by : (i : Text) (o a : Outcome (Slice seen_text)) → LeafAnswers run_leaf false i a → Passes (Judged (GivesFor (IsSeenAs seen_text) Gives) is_ok) a o → ((n : ℕ) (t : Slice seen_text) → o ≡ Accept n t → ⊥) → o ≡ Refuse
+  refused_by : (i : Text) (o a : Outcome (Slice seen_text)) → LeafAnswers run_leaf false i a →
+      Passes (Judged (GivesFor (IsSeenAs seen_text) Gives) is_ok) a o → ((n : ℕ) (t : Slice seen_text) → o ≡ Accept n t → ⊥) → o ≡ Refuse
   refused_by i o (Accept n t) h f never = not_kept (is_ok f.0) o n t (λ e. absurd (never n t e)) (λ e. e) f.2
   refused_by i o Refuse h f never = f
   refused_by i o Fail h f never = absurd h
   refused_by i o TooLarge h f never = absurd h
   refused_by i o (Undecided k) h f never = cc (h.0)
 
-  mapped_refuses : (i : Text) (o : Outcome (Slice seen_text)) → (mapped_meaning 2 2).answers true i o → ((n : ℕ) (t : Slice seen_text) → o ≡ Accept n t → ⊥) → o ≡ Refuse
-  mapped_refuses i o h never = refused_by i o h.outcome (run_answered i h.outcome (subst (λ x. (run_meaning 2 2).answers true x h.outcome) (sym h.at_is) h.answered)) h.fact never
+  mapped_refuses : (i : Text) (o : Outcome (Slice seen_text)) → (mapped_meaning 2 2).answers true i o →
+      ((n : ℕ) (t : Slice seen_text) → o ≡ Accept n t → ⊥) → o ≡ Refuse
+  mapped_refuses i o h never = refused_by i o h.outcome
+      (run_answered i h.outcome (subst (λ x. (run_meaning 2 2).answers true x h.outcome) (sym h.at_is) h.answered)) h.fact never
 
   module _ (tests : (c : ℕ) (b : Bool) → Test c b → b ≡ is_digit c 16) (reads : (p : Text) (r : Result ℕ X) → Gives p r → ReadsText p r) where
     two_at : (i : Text) (n : ℕ) (t : Slice seen_text) → run_leaf.Accepts false i n t → IsTwo i n t.items
     two_at i n t h = two_taken Test tests i n t h.0 h.1
 
     -- what is read of two digits
-    number_read : (i : Text) (n v : ℕ) (t : Slice seen_text) → IsTwo i n t.items → GivesFor (IsSeenAs seen_text) (λ p w. Gives p (Ok w)) t v → pair_of (chars i.now) ≡ Accept n v
+    number_read : (i : Text) (n v : ℕ) (t : Slice seen_text) → IsTwo i n t.items → GivesFor (IsSeenAs seen_text) (λ p w. Gives p (Ok w)) t v →
+        pair_of (chars i.now) ≡ Accept n v
     number_read i n v t two g =
         let same : chars g.output.now ≡ two.first ∷ (two.second ∷ []) = g.is_output.elements_are ∙ two.items_are in
         let read = reads g.output (Ok v) g.given in
-        let number : v ≡ 16 * digit_value two.first + digit_value two.second = read.1 ∙ (ap (λ cs. digits_value 16 (without_leading_plus (encode_utf8_all cs))) same ∙ pair_value two.first two.second two.digits) in
-        let pair : IsPair (chars i.now) v = record { first = two.first; second = two.second; rest = two.rest; whole = two.whole; digits = two.digits; number = number } in
+        let number : v ≡ 16 * digit_value two.first + digit_value two.second =
+        read.1 ∙ (ap (λ cs. digits_value 16 (without_leading_plus (encode_utf8_all cs))) same ∙ pair_value two.first two.second two.digits) in
+        let pair : IsPair (chars i.now) v =
+        record { first = two.first; second = two.second; rest = two.rest; whole = two.whole; digits = two.digits; number = number } in
         on_pair_at pair (λ k _. Accept 2 k) ∙ ap (λ m. Accept m v) (sym two.length_is)
 
     -- never an error
-    always_read : {O : Type 0} (i : Text) (n : ℕ) (t : Slice seen_text) → IsTwo i n t.items → (r : Result ℕ X) → GivesFor (IsSeenAs seen_text) Gives t r → is_ok r ≡ false → O
+    always_read : {O : Type 0} (i : Text) (n : ℕ) (t : Slice seen_text) → IsTwo i n t.items → (r : Result ℕ X) →
+        GivesFor (IsSeenAs seen_text) Gives t r → is_ok r ≡ false → O
     always_read i n t two (Ok v) g e = cc (e)
     always_read i n t two (Err x) g e =
         let same : chars g.output.now ≡ two.first ∷ (two.second ∷ []) = g.is_output.elements_are ∙ two.items_are in
@@ -108,9 +119,14 @@ module _ {X : Type 0} (Test : ℕ → Bool → Type 0) (IsSound : Type 0) (Takes
       none : pair_of (chars i.now) ≡ Refuse
       error : e ≡ record { input = i; code = TakeWhileMN }
 
-    blamed_by : (i : Text) (e : Error Text) (a : Outcome (Slice seen_text)) → LeafAnswers run_leaf false i a → JudgedBlames (GivesFor (IsSeenAs seen_text) Gives) is_ok (OfError (Makes i)) a ((run_meaning 2 2).blames true i) e → IsMissing i e
+    blamed_by : (i : Text) (e : Error Text) (a : Outcome (Slice seen_text)) → LeafAnswers run_leaf false i a →
+        JudgedBlames (GivesFor (IsSeenAs seen_text) Gives) is_ok (OfError (Makes i)) a ((run_meaning 2 2).blames true i) e → IsMissing i e
     blamed_by i e (Accept n t) h f = always_read i n t (two_at i n t h) f.0 f.1 f.2
-    blamed_by i e Refuse h f = record { none = two_missing Test tests i h.0 h.1 h.2 h.3; error = f.fact ∙ ap (λ j. record { input = j; code = TakeWhileMN }) (sym f.at_is) }
+    blamed_by i e Refuse h f = record {
+      none = two_missing Test tests i h.0 h.1 h.2 h.3;
+      error = f.fact ∙
+          ap (λ j. record { input = j; code = TakeWhileMN }) (sym f.at_is);
+    }
     blamed_by i e Fail h f = absurd h
     blamed_by i e TooLarge h f = absurd h
     blamed_by i e (Undecided k) h f = absurd f
@@ -118,10 +134,12 @@ module _ {X : Type 0} (Test : ℕ → Bool → Type 0) (IsSound : Type 0) (Takes
     mapped_blames : (i : Text) (e : Error Text) → (mapped_meaning 2 2).blames true i e → IsMissing i e
     mapped_blames i e h =
         let answered = subst (λ x. (run_meaning 2 2).answers true x h.outcome) (sym h.at_is) h.answered in
-        let fact = subst (λ x. JudgedBlames (GivesFor (IsSeenAs seen_text) Gives) is_ok (OfError (Makes i)) h.outcome ((run_meaning 2 2).blames true x) e) (sym h.at_is) h.fact in
+        let fact = subst (λ x. JudgedBlames (GivesFor (IsSeenAs seen_text) Gives) is_ok (OfError (Makes i)) h.outcome ((run_meaning 2 2).blames true x)
+        e) (sym h.at_is) h.fact in
         blamed_by i e h.outcome (run_answered i h.outcome answered) fact
 
-    unfit_grows : {O : Type 0} (mode : Modes) (i : Text) (a : Outcome (Slice seen_text)) → OnUnfit (GivesFor (IsSeenAs seen_text) Gives) is_ok (λ _. (mode.errors ≡ true) × ⊥) a → O
+    unfit_grows : {O : Type 0} (mode : Modes) (i : Text) (a : Outcome (Slice seen_text)) →
+        OnUnfit (GivesFor (IsSeenAs seen_text) Gives) is_ok (λ _. (mode.errors ≡ true) × ⊥) a → O
     unfit_grows mode i (Accept n t) f = absurd f.3.1
     unfit_grows mode i Refuse f = absurd f
     unfit_grows mode i Fail f = absurd f
@@ -145,11 +163,17 @@ module _ {X : Type 0} (Test : ℕ → Bool → Type 0) (IsSound : Type 0) (Takes
         let missing = mapped_blames i p.0 p.1 in
         subst (AnswersPair i) (sym p.2) (record {
           outcome_is = missing.none;
-          fault_is = (p.0, refl, subst (λ e. IsRest seen_text i 0 e.input) (sym missing.error) (rest_self seen_text text_lawful i known), ap (λ e. e.code) missing.error);
+          fault_is = (
+            p.0,
+            refl,
+            subst (λ e. IsRest seen_text i 0 e.input) (sym missing.error) (rest_self seen_text text_lawful i known),
+            ap (λ e. e.code) missing.error,
+          );
         })
     two_answer i r known (Parsed Fail a p) = cc (mapped_refuses i Fail a (λ n t e. cc (e)))
     two_answer i r known (Parsed TooLarge a p) = cc (mapped_refuses i TooLarge a (λ n t e. cc (e)))
     two_answer i r known (Parsed (Undecided k) a p) = cc (mapped_refuses i (Undecided k) a (λ n t e. cc (e)))
 
-    pub mapped_answer : {m n : ℕ} {i : Text} {r : Result (Text × ℕ) (Answer.Err (Error Text) (Error Text) Needed)} → m ≡ 2 → n ≡ 2 → seen_text.IsKnown i → MappedAnswer m n i r → AnswersPair i r
+    pub mapped_answer : {m n : ℕ} {i : Text} {r : Result (Text × ℕ) (Answer.Err (Error Text) (Error Text) Needed)} → m ≡ 2 → n ≡ 2 →
+        seen_text.IsKnown i → MappedAnswer m n i r → AnswersPair i r
     mapped_answer {m} {n} {i} {r} e f known h = two_answer i r known (subst (λ k. MappedAnswer k 2 i r) e (subst (λ k. MappedAnswer m k i r) f h))

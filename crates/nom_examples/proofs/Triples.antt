@@ -19,7 +19,8 @@ use Rattle.nom_internal.specs.Sequence.ThenRunsOut.{RunsOutFirst, RunsOutNext}
 use Rattle.nom_func.specs.Func.{FuncAnswers, FuncBlames, IsViewed}
 use Rattle.nom_internal.specs.Tuples.{add_3, Outputs_3}
 use Rattle.nom_examples.specs.Colors.{Text, on_pair, parts_of, place_missing, AnswersPair}
-use Rattle.nom_examples.proofs.Pairs.{IsPair, IsMissed, IsPlain, Both, both, sequence_plain, pair_accepted, on_pair_at, on_pair_none, missing_at, missing_none, behind_pair, text_between, pair_place, pair_answered, pair_missed, pair_plain}
+use Rattle.nom_examples.proofs.Pairs.{IsPair, IsMissed, IsPlain, Both, both, sequence_plain, pair_accepted, on_pair_at, on_pair_none, missing_at}
+use Rattle.nom_examples.proofs.Pairs.{missing_none, behind_pair, text_between, pair_place, pair_answered, pair_missed, pair_plain}
 
 abbrev Pair : Text → Outcome ℕ → Type 0
 Pair = FuncAnswers seen_text itself AnswersPair
@@ -126,7 +127,8 @@ pub record IsNoTriple (i : Text) (e : Error Text) : Type 0 where
 
 none_first : (i : Text) (e : Error Text) → IsMissed i e → IsNoTriple i e
 none_first i e m = record {
-  none = on_pair_none (chars i.now) m.none (λ red ys. on_pair ys (λ green zs. on_pair zs (λ blue _. Accept 7 (record { red = red; green = green; blue = blue }))));
+  none = on_pair_none (chars i.now) m.none
+      (λ red ys. on_pair ys (λ green zs. on_pair zs (λ blue _. Accept 7 (record { red = red; green = green; blue = blue }))));
   place = 0;
   missing = λ n. omega (arith, missing_none (chars i.now) m.none n);
   rest = m.place;
@@ -135,7 +137,8 @@ none_first i e m = record {
 
 none_second : (i j : Text) (v : ℕ) (e : Error Text) → IsRead i j v → IsMissed j e → IsNoTriple i e
 none_second i j v e r m = record {
-  none = after_read r (λ red ys. on_pair ys (λ green zs. on_pair zs (λ blue _. Accept 7 (record { red = red; green = green; blue = blue })))) ∙ on_pair_none (chars j.now) m.none (λ green zs. on_pair zs (λ blue _. Accept 7 (record { red = v; green = green; blue = blue })));
+  none = after_read r (λ red ys. on_pair ys (λ green zs. on_pair zs (λ blue _. Accept 7 (record { red = red; green = green; blue = blue })))) ∙
+      on_pair_none (chars j.now) m.none (λ green zs. on_pair zs (λ blue _. Accept 7 (record { red = v; green = green; blue = blue })));
   place = 2;
   missing = λ n. omega (arith, missing_after r n, missing_none (chars j.now) m.none (n + 2));
   rest = rest_rest seen_text text_lawful i 2 j 0 e.input r.rest m.place;
@@ -144,7 +147,9 @@ none_second i j v e r m = record {
 
 none_third : (i j k : Text) (u v : ℕ) (e : Error Text) → IsRead i j u → IsRead j k v → IsMissed k e → IsNoTriple i e
 none_third i j k u v e r q m = record {
-  none = after_read r (λ red ys. on_pair ys (λ green zs. on_pair zs (λ blue _. Accept 7 (record { red = red; green = green; blue = blue })))) ∙ (after_read q (λ green zs. on_pair zs (λ blue _. Accept 7 (record { red = u; green = green; blue = blue }))) ∙ on_pair_none (chars k.now) m.none (λ blue _. Accept 7 (record { red = u; green = v; blue = blue })));
+  none = after_read r (λ red ys. on_pair ys (λ green zs. on_pair zs (λ blue _. Accept 7 (record { red = red; green = green; blue = blue })))) ∙
+      (after_read q (λ green zs. on_pair zs (λ blue _. Accept 7 (record { red = u; green = green; blue = blue }))) ∙
+      on_pair_none (chars k.now) m.none (λ blue _. Accept 7 (record { red = u; green = v; blue = blue })));
   place = 4;
   missing = λ n. omega (arith, missing_after r n, missing_after q (n + 2), missing_none (chars k.now) m.none (n + 2 + 2));
   rest = rest_rest seen_text text_lawful i 2 j 2 e.input r.rest (rest_rest seen_text text_lawful j 2 k 0 e.input q.rest m.place);
@@ -160,11 +165,13 @@ third_none i j n t e r m = none_third i r.middle j t.0 t.1 e r.first r.second m
 
 three_none : (i : Text) (e : Error Text) → ThreeBlames i e → IsNoTriple i e
 three_none i e (BlamesFirst x) = two_none i e x.fact
-three_none i e (BlamesNext x) = third_none i x.rest x.length x.tree e (two_read i x.rest x.length x.tree x.accepted x.rest_is) (pair_missed x.rest e x.fact.fact)
+three_none i e (BlamesNext x) =
+    third_none i x.rest x.length x.tree e (two_read i x.rest x.length x.tree x.accepted x.rest_is) (pair_missed x.rest e x.fact.fact)
 
 -- the tuple is plain, and takes no memory
 three_plain : (i : Text) (o : Outcome (ℕ × ℕ × ℕ)) → Three i o → IsPlain o
-three_plain i o a = sequence_plain seen_text add_3 Two (λ _. Pair) i (sequence_plain seen_text (λ u v. (u, v)) Pair (λ _. Pair) i (pair_plain i) (λ u j. pair_plain j)) (λ u j. pair_plain j) o a
+three_plain i o a = sequence_plain seen_text add_3 Two (λ _. Pair) i
+    (sequence_plain seen_text (λ u v. (u, v)) Pair (λ _. Pair) i (pair_plain i) (λ u j. pair_plain j)) (λ u j. pair_plain j) o a
 
 two_frugal : (i : Text) → TwoRunsOut i → ⊥
 two_frugal i (RunsOutFirst x) = x.outcome_is
@@ -175,7 +182,8 @@ three_frugal i (RunsOutFirst x) = two_frugal i x
 three_frugal i (RunsOutNext x) = x.fact.outcome_is
 
 tuple_is : (t u : ℕ × ℕ × ℕ) → Outputs_3 (IsViewed itself) (IsViewed itself) (IsViewed itself) u t → t ≡ u
-tuple_is t u h = let make : ℕ → ℕ → ℕ → ℕ × ℕ × ℕ = λ x y z. (x, y, z) in ap (λ x. make x t.1 t.2) h.0 ∙ (ap (λ y. make u.0 y t.2) h.1 ∙ ap (λ z. make u.0 u.1 z) h.2)
+tuple_is t u h = let make : ℕ → ℕ → ℕ → ℕ × ℕ × ℕ =
+    λ x y z. (x, y, z) in ap (λ x. make x t.1 t.2) h.0 ∙ (ap (λ y. make u.0 y t.2) h.1 ∙ ap (λ z. make u.0 u.1 z) h.2)
 
 -- what the tuple accepts
 pub triple_read : {i j : Text} {t : ℕ × ℕ × ℕ} → TripleAnswer i (Ok (j, t)) → IsTriple i j t
@@ -183,7 +191,8 @@ triple_read (ParseRanOut e h) = cc (e)
 triple_read {i} {j} {t} (Parsed (Accept n u) a p) =
     let same : ◌≡◌ {A = Text × (ℕ × ℕ × ℕ)} (j, t) (p.0, p.1) = cc (p.4) in
     let outputs : p.1 ≡ u = tuple_is p.1 u p.3 in
-    three_read i j n t (subst (λ x. Three i (Accept n x)) (sym (ap (λ q. q.1) same ∙ outputs)) a) (subst (λ k. IsRest seen_text i n k) (sym (ap (λ q. q.0) same)) p.2)
+    three_read i j n t (subst (λ x. Three i (Accept n x)) (sym (ap (λ q. q.1) same ∙ outputs)) a)
+    (subst (λ k. IsRest seen_text i n k) (sym (ap (λ q. q.0) same)) p.2)
 triple_read (Parsed Refuse a p) = cc (p.2)
 triple_read (Parsed Fail a p) = cc (p.2)
 triple_read (Parsed TooLarge a p) = cc (p.2)
@@ -195,7 +204,8 @@ pub record IsTripleFault (i : Text) (e : Answer.Err (Error Text) (Error Text) Ne
   pub missing : IsNoTriple i held
   pub error : e ≡ Answered.Error held
 
-pub triple_fault : {i : Text} {e : Answer.Err (Error Text) (Error Text) Needed} → (let r : Result (Text × (ℕ × ℕ × ℕ)) (Answer.Err (Error Text) (Error Text) Needed) = Err e in TripleAnswer i r) → IsTripleFault i e
+pub triple_fault : {i : Text} {e : Answer.Err (Error Text) (Error Text) Needed} →
+    (let r : Result (Text × (ℕ × ℕ × ℕ)) (Answer.Err (Error Text) (Error Text) Needed) = Err e in TripleAnswer i r) → IsTripleFault i e
 triple_fault {i} (ParseRanOut e h) = absurd (three_frugal i h)
 triple_fault (Parsed (Accept n t) a p) = cc (p.4)
 triple_fault {i} (Parsed Refuse a p) = record { held = p.0; missing = three_none i p.0 p.1; error = cc (p.2) }

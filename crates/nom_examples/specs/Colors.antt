@@ -63,7 +63,8 @@ color_fault [] = (0, Tag)
 abbrev pub IsFault : Text → ℕ × ErrorKind → Answer.Err (Error Text) (Error Text) Needed → Type 0
 IsFault i fault e = (x : Error Text) × (e ≡ Answered.Error x) × IsRest seen_text i fault.0 x.input × (x.code ≡ fault.1)
 
-module _ {O : Type 0} (outcome : List ℕ → Outcome O) (fault : List ℕ → ℕ × ErrorKind) (i : Text) (r : Result (Text × O) (Answer.Err (Error Text) (Error Text) Needed)) where
+module _ {O : Type 0} (outcome : List ℕ → Outcome O) (fault : List ℕ → ℕ × ErrorKind) (i : Text)
+    (r : Result (Text × O) (Answer.Err (Error Text) (Error Text) Needed)) where
   -- what is answered is the outcome that the characters have, and its error stands where something is missing
   pub record Answers : Type 0 where
     pub outcome_is : TellsItems seen_text itself outcome i r

@@ -22,7 +22,8 @@ some_same : {X : Type 0} (x y : X) → Some x ≡ Some y → x ≡ y
 some_same x y e = cc (e)
 
 module _ {K B R T : Type 0} (value : K → Option R) (fold : K → B) (Gives : B → R → T → R → Type 0) (f : B) where
-  folds_added : (k : K) (xs : List T) (new : K) (a b : R) → value k ≡ Some a → value new ≡ Some b → fold k ≡ f → Adds (FoldGains value fold Gives) k xs new → FoldsTo (Gives f) a xs b
+  folds_added : (k : K) (xs : List T) (new : K) (a b : R) → value k ≡ Some a → value new ≡ Some b → fold k ≡ f →
+      Adds (FoldGains value fold Gives) k xs new → FoldsTo (Gives f) a xs b
   folds_added k [] new a b p q e h = some_same a b (sym p ∙ (ap value (sym h) ∙ q))
   folds_added k (x ∷ xs) new a b p q e h =
       let g = h.1 in
@@ -30,7 +31,8 @@ module _ {K B R T : Type 0} (value : K → Option R) (fold : K → B) (Gives : B
       (g.1, subst (λ c. Gives c a x g.1) e from, folds_added h.0 xs new g.1 b g.3 q (g.5 ∙ e) h.2)
 
   module _ {V : Type 0} (Takes : B → R → T → Type 0) (IsOutput : V → T → Type 0) (Inits : R → Type 0) (before : Option K) where
-    folds_kept : (builds : Bool) → Built builds (IsStart value fold Inits f) before → (vs : List V) (k : K) (r : R) → value k ≡ Some r → Kept (FoldGains value fold Gives) (CanFold value fold Takes) IsOutput before vs k → Folds IsOutput Inits (Gives f) vs r
+    folds_kept : (builds : Bool) → Built builds (IsStart value fold Inits f) before → (vs : List V) (k : K) (r : R) → value k ≡ Some r →
+        Kept (FoldGains value fold Gives) (CanFold value fold Takes) IsOutput before vs k → Folds IsOutput Inits (Gives f) vs r
     folds_kept true b vs k r e h =
         let same : h.first ≡ b.0 = some_same h.first b.0 (sym h.first_is ∙ b.1) in
         let start = subst (λ z. IsStart value fold Inits f z) (sym same) b.2 in
@@ -44,7 +46,9 @@ module _ {K B R T : Type 0} (value : K → Option R) (fold : K → B) (Gives : B
     folds_kept false b vs k r e h = absurd (none_some h.first (sym b ∙ h.first_is))
 
     -- the value that is carried at the end is the fold's
-    pub carried_built : (builds : Bool) → Built builds (IsStart value fold Inits f) before → (vs : List V) (x : Option K) (y : Option R) → IsCarried value x y → Built builds (Kept (FoldGains value fold Gives) (CanFold value fold Takes) IsOutput before vs) x → Built builds (Folds IsOutput Inits (Gives f) vs) y
+    pub carried_built : (builds : Bool) → Built builds (IsStart value fold Inits f) before → (vs : List V) (x : Option K) (y : Option R) →
+        IsCarried value x y → Built builds (Kept (FoldGains value fold Gives) (CanFold value fold Takes) IsOutput before vs) x →
+        Built builds (Folds IsOutput Inits (Gives f) vs) y
     carried_built true b vs x y c h =
         let is : y ≡ value h.0 = subst (λ z. IsCarried value z y) h.1 c in
         let ready = (h.2).ready in
@@ -53,9 +57,19 @@ module _ {K B R T : Type 0} (value : K → Option R) (fold : K → B) (Gives : B
 
   -- and so of items in two runs
   module _ {V : Type 0} (Takes : B → R → T → Type 0) (IsOutput : V → T → Type 0) (Inits : R → Type 0) (before mid : Option K) where
-    pub carried_both : (builds : Bool) → Built builds (IsStart value fold Inits f) before → (vs us : List V) → Built builds (Kept (FoldGains value fold Gives) (CanFold value fold Takes) IsOutput before vs) mid → (x : Option K) (y : Option R) → IsCarried value x y → Built builds (Kept (FoldGains value fold Gives) (CanFold value fold Takes) IsOutput mid us) x → Built builds (Folds IsOutput Inits (Gives f) (vs ++ us)) y
-    carried_both builds b vs us a x y c h = carried_built Takes IsOutput Inits before builds b (vs ++ us) x y c (built_error builds _ _ x (λ k z. kept_both (FoldGains value fold Gives) (CanFold value fold Takes) IsOutput builds before mid vs us k a z) h)
+    pub carried_both : (builds : Bool) → Built builds (IsStart value fold Inits f) before → (vs us : List V) →
+        Built builds (Kept (FoldGains value fold Gives) (CanFold value fold Takes) IsOutput before vs) mid → (x : Option K) (y : Option R) →
+        IsCarried value x y → Built builds (Kept (FoldGains value fold Gives) (CanFold value fold Takes) IsOutput mid us) x →
+        Built builds (Folds IsOutput Inits (Gives f) (vs ++ us)) y
+    carried_both builds b vs us a x y c h =
+        carried_built Takes IsOutput Inits before builds b (vs ++ us) x y c
+        (built_error builds _ _ x (λ k z. kept_both (FoldGains value fold Gives) (CanFold value fold Takes) IsOutput builds before mid vs us k a z) h)
 
 -- what items show, at an equal state of their part
-pub items_at : {S I A V T K E : Type 0} {w : Seen I A} {Gains : K → T → K → Type 0} {CanKeep : K → Type 0} {before : Option K} (IsOutput : S → V → T → Type 0) (meaning : S → Meaning I V E) (errs : Errors I E) (limits : Limits) {mode : Modes} {i : I} {r : Result (I × Option K) (Answer.Err E (Option E) Needed)} {a b : S} → a ≡ b → ShowsMeaning w (Kept Gains CanKeep (IsOutput a) before) (items_meaning w errs limits ⊥ (meaning a)) mode i r → ShowsMeaning w (Kept Gains CanKeep (IsOutput b) before) (items_meaning w errs limits ⊥ (meaning b)) mode i r
-items_at {w = w} {Gains} {CanKeep} {before} IsOutput meaning errs limits {mode} {i} {r} e h = subst (λ z. ShowsMeaning w (Kept Gains CanKeep (IsOutput z) before) (items_meaning w errs limits ⊥ (meaning z)) mode i r) e h
+pub items_at : {S I A V T K E : Type 0} {w : Seen I A} {Gains : K → T → K → Type 0} {CanKeep : K → Type 0} {before : Option K}
+    (IsOutput : S → V → T → Type 0) (meaning : S → Meaning I V E) (errs : Errors I E) (limits : Limits) {mode : Modes} {i : I}
+    {r : Result (I × Option K) (Answer.Err E (Option E) Needed)} {a b : S} → a ≡ b →
+    ShowsMeaning w (Kept Gains CanKeep (IsOutput a) before) (items_meaning w errs limits ⊥ (meaning a)) mode i r →
+    ShowsMeaning w (Kept Gains CanKeep (IsOutput b) before) (items_meaning w errs limits ⊥ (meaning b)) mode i r
+items_at {w = w} {Gains} {CanKeep} {before} IsOutput meaning errs limits {mode} {i} {r} e h =
+    subst (λ z. ShowsMeaning w (Kept Gains CanKeep (IsOutput z) before) (items_meaning w errs limits ⊥ (meaning z)) mode i r) e h

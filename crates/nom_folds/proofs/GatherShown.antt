@@ -25,7 +25,8 @@ module _ {K T : Type 0} (items : K → List T) where
   gathers_added k (x ∷ xs) new a = gathers_added a.0 xs new a.2 ∙ (ap (λ zs. zs ++ xs) a.1 ∙ append_one (items k) x xs)
 
   module _ {V : Type 0} (P : V → T → Type 0) (before : Option K) where
-    all_gathered : (builds : Bool) → Built builds (λ k. items k ≡ []) before → (vs : List V) (k : K) → Kept (Gathers items) (λ _. Unit {0}) P before vs k → AllZip P vs (items k)
+    all_gathered : (builds : Bool) → Built builds (λ k. items k ≡ []) before → (vs : List V) (k : K) →
+        Kept (Gathers items) (λ _. Unit {0}) P before vs k → AllZip P vs (items k)
     all_gathered true b vs k h =
         let same : h.first ≡ b.0 = some_same h.first b.0 (sym h.first_is ∙ b.1) in
         let none : items h.first ≡ [] = ap items same ∙ b.2 in
@@ -33,6 +34,9 @@ module _ {K T : Type 0} (items : K → List T) where
     all_gathered false b vs k h = absurd (none_some h.first (sym b ∙ h.first_is))
 
 -- of an empty collection, that of the outputs of the trees
-pub collected_built : {K C V T : Type 0} (collection : K → C) (items : C → List T) (P : V → T → Type 0) (before : Option K) (builds : Bool) → Built builds (λ k. items (collection k) ≡ []) before → (vs : List V) (x : Option K) (y : Option C) → IsGathered collection x y → Built builds (Kept (Gathers (λ k. items (collection k))) (λ _. Unit {0}) P before vs) x → Built builds (λ o. AllZip P vs (items o)) y
-collected_built collection items P before true b vs x y c h = (collection h.0, subst (λ z. IsGathered collection z y) h.1 c, all_gathered (λ k. items (collection k)) P before true b vs h.0 h.2)
+pub collected_built : {K C V T : Type 0} (collection : K → C) (items : C → List T) (P : V → T → Type 0) (before : Option K) (builds : Bool) →
+    Built builds (λ k. items (collection k) ≡ []) before → (vs : List V) (x : Option K) (y : Option C) → IsGathered collection x y →
+    Built builds (Kept (Gathers (λ k. items (collection k))) (λ _. Unit {0}) P before vs) x → Built builds (λ o. AllZip P vs (items o)) y
+collected_built collection items P before true b vs x y c h =
+    (collection h.0, subst (λ z. IsGathered collection z y) h.1 c, all_gathered (λ k. items (collection k)) P before true b vs h.0 h.2)
 collected_built collection items P before false b vs x y c h = subst (λ z. IsGathered collection z y) h c

@@ -21,7 +21,13 @@ not_so true e f x = absurd (cc (e))
 not_so false e f x = let t = f x in absurd (cc (t))
 
 -- the items that were asked for, by the numbers of the range
-pub range_shown : {I A V O E : Type 0} {w : Seen I A} {IsOutput : List V → O → Type 0} {mode : Modes} {i : I} (errs : Errors I E) (kind : ErrorKind) (IsSpent : Type 0) (lower upper : Bound ℕ) (Grows : Type 0) (m : Meaning I V E) {a b : ℕ} → a ≡ fewest lower → b ≡ limit (most_items upper) → (IsEmpty IsSpent lower upper → ⊥) → {r : Result (I × Option O) (Answer.Err E (Option E) Needed)} → ShowsMeaning w IsOutput (items_meaning w errs (bounded_limits kind a b) Grows m) mode i r → ShowsMeaning w IsOutput (range_meaning w errs kind IsSpent lower upper Grows m) mode i r
+pub range_shown : {I A V O E : Type 0} {w : Seen I A} {IsOutput : List V → O → Type 0} {mode : Modes} {i : I} (errs : Errors I E) (kind : ErrorKind)
+    (IsSpent : Type 0) (lower upper : Bound ℕ) (Grows : Type 0) (m : Meaning I V E) {a b : ℕ} → a ≡ fewest lower → b ≡ limit (most_items upper) →
+    (IsEmpty IsSpent lower upper → ⊥) → {r : Result (I × Option O) (Answer.Err E (Option E) Needed)} →
+    ShowsMeaning w IsOutput (items_meaning w errs (bounded_limits kind a b) Grows m) mode i r →
+    ShowsMeaning w IsOutput (range_meaning w errs kind IsSpent lower upper Grows m) mode i r
 range_shown {w = w} {IsOutput} {mode} {i} errs kind IsSpent lower upper Grows m {a} {b} least most fit {r} h =
     let bounded = subst (λ z. ShowsMeaning w IsOutput (items_meaning w errs (bounded_limits kind z b) Grows m) mode i r) least h in
-    fit_shown errs kind true (IsEmpty IsSpent lower upper) (items_meaning w errs (range_limits kind lower upper) Grows m) fit (subst (λ z. ShowsMeaning w IsOutput (items_meaning w errs (bounded_limits kind (fewest lower) z) Grows m) mode i r) most bounded)
+    fit_shown errs kind true (IsEmpty IsSpent lower upper)
+    (items_meaning w errs (range_limits kind lower upper) Grows m) fit
+    (subst (λ z. ShowsMeaning w IsOutput (items_meaning w errs (bounded_limits kind (fewest lower) z) Grows m) mode i r) most bounded)

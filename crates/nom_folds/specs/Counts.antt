@@ -20,4 +20,6 @@ many0_count_meaning w errs m = items_meaning w errs (any_limits Kind.Many0Count)
 
 -- One item at least: a first one, whose refusal is one of the kind at the start, and which may be empty; and then any number.
 abbrev pub many1_count_meaning : {I A V E : Type 0} → Seen I A → Errors I E → Meaning I V E → Meaning I (List V) E
-many1_count_meaning w errs m = sequence_meaning w (λ vs us. vs ++ us) (λ o. o) (λ o. o) (items_meaning w errs (one_limits (Fresh Kind.Many1Count) true) ⊥ (dropped_meaning m)) (items_meaning w errs (any_limits Kind.Many1Count) ⊥ (dropped_meaning m))
+many1_count_meaning w errs m =
+    sequence_meaning w (λ vs us. vs ++ us) (λ o. o) (λ o. o) (items_meaning w errs (one_limits (Fresh Kind.Many1Count) true) ⊥ (dropped_meaning m))
+    (items_meaning w errs (any_limits Kind.Many1Count) ⊥ (dropped_meaning m))

@@ -25,7 +25,9 @@ module _ {I A V : Type 0} (w : Seen I A) where
 
   module _ {E : Type 0} (m : Meaning I V E) where
     pub dropped_lawful : IsLawful w m → IsLawful w (dropped_meaning m)
-    dropped_lawful p = case_lawful w w m p (plain_case (λ _. false) (λ i. Passes (λ n v o. o ≡ Accept n v))) (plain_laws w (λ (i : I) n (v : V) o. o ≡ Accept n v) accept_laws (λ _. false))
+    dropped_lawful p = case_lawful w w m p (plain_case (λ _. false) (λ i. Passes (λ n v o. o ≡ Accept n v)))
+        (plain_laws w (λ (i : I) n (v : V) o. o ≡ Accept n v) accept_laws (λ _. false))
 
     pub dropped_steady : IsSteady w m → IsSteady w (dropped_meaning m)
-    dropped_steady p = case_steady w w m (plain_case (λ _. false) (λ i. Passes (λ n v o. o ≡ Accept n v))) (plain_laws w (λ (i : I) n (v : V) o. o ≡ Accept n v) accept_laws (λ _. false)) refl p
+    dropped_steady p = case_steady w w m (plain_case (λ _. false) (λ i. Passes (λ n v o. o ≡ Accept n v)))
+        (plain_laws w (λ (i : I) n (v : V) o. o ≡ Accept n v) accept_laws (λ _. false)) refl p

@@ -20,17 +20,21 @@ use Rattle.nom_repeat.specs.Bounds.{any_limits, one_limits, bounded_limits}
 use Rattle.nom_repeat.specs.declared.items.TooFew.TheVariants.{Fresh}
 
 -- folds of the outputs of one list of trees are seen alike
-module _ {V T R : Type 0} (item : View T) (value : View R) (IsOutput : V → T → Type 0) (Inits : R → Type 0) (Gives : R → T → R → Type 0) (pinned : IsPinned item IsOutput) (alike : FoldsAlike item value Inits Gives) where
-  folds_alike : (vs : List V) (xs ys : List T) (a b c d : R) → value.value a ≡ value.value b → AllZip IsOutput vs xs → AllZip IsOutput vs ys → FoldsTo Gives a xs c → FoldsTo Gives b ys d → value.value c ≡ value.value d
+module _ {V T R : Type 0} (item : View T) (value : View R) (IsOutput : V → T → Type 0) (Inits : R → Type 0) (Gives : R → T → R → Type 0)
+    (pinned : IsPinned item IsOutput) (alike : FoldsAlike item value Inits Gives) where
+  folds_alike : (vs : List V) (xs ys : List T) (a b c d : R) → value.value a ≡ value.value b → AllZip IsOutput vs xs → AllZip IsOutput vs ys →
+      FoldsTo Gives a xs c → FoldsTo Gives b ys d → value.value c ≡ value.value d
   folds_alike [] [] [] a b c d e p q f g = subst (λ z. value.value z ≡ value.value d) f (subst (λ z. value.value a ≡ value.value z) g e)
   folds_alike [] [] (y ∷ ys) a b c d e p q f g = absurd q
   folds_alike [] (x ∷ xs) ys a b c d e p q f g = absurd p
   folds_alike (v ∷ vs) [] ys a b c d e p q f g = absurd p
   folds_alike (v ∷ vs) (x ∷ xs) [] a b c d e p q f g = absurd q
-  folds_alike (v ∷ vs) (x ∷ xs) (y ∷ ys) a b c d e p q f g = folds_alike vs xs ys f.0 g.0 c d (alike.next a b x y f.0 g.0 e (pinned v x y p.0 q.0) f.1 g.1) p.1 q.1 f.2 g.2
+  folds_alike (v ∷ vs) (x ∷ xs) (y ∷ ys) a b c d e p q f g =
+      folds_alike vs xs ys f.0 g.0 c d (alike.next a b x y f.0 g.0 e (pinned v x y p.0 q.0) f.1 g.1) p.1 q.1 f.2 g.2
 
   pub folds_pinned : IsPinned value (Folds IsOutput Inits Gives)
-  folds_pinned vs c d p q = folds_alike vs p.outputs q.outputs p.first q.first c d (alike.first p.first q.first p.is_first q.is_first) p.are_outputs q.are_outputs p.folded q.folded
+  folds_pinned vs c d p q = folds_alike vs p.outputs q.outputs p.first q.first c d (alike.first p.first q.first p.is_first q.is_first) p.are_outputs
+      q.are_outputs p.folded q.folded
 
 module _ {I A V E : Type 0} (w : Seen I A) (l : InputLaws w) (errs : Errors I E) (Premise : Type 0) (m : Meaning I V E) where
   pub fold_many0_lawful : IsLawful w m → IsLawful w (fold_many0_meaning w errs Premise m)
@@ -40,17 +44,29 @@ module _ {I A V E : Type 0} (w : Seen I A) (l : InputLaws w) (errs : Errors I E)
   fold_many0_steady p = under_steady w Premise (items_meaning w errs (any_limits Kind.Many0) ⊥ m) (items_steady w l errs (any_limits Kind.Many0) ⊥ m p)
 
   pub fold_many1_lawful : IsLawful w m → IsLawful w (fold_many1_meaning w errs Premise m)
-  fold_many1_lawful p = under_lawful w Premise (sequence_meaning w (λ vs us. vs ++ us) (λ o. o) (λ o. o) (items_meaning w errs (one_limits (Fresh Kind.Many1) true) ⊥ m) (items_meaning w errs (any_limits Kind.Many1) ⊥ m)) (sequence_lawful w l (λ vs us. vs ++ us) (λ o. o) (λ o. o) (items_meaning w errs (one_limits (Fresh Kind.Many1) true) ⊥ m) (items_meaning w errs (any_limits Kind.Many1) ⊥ m) (items_lawful w l errs (one_limits (Fresh Kind.Many1) true) ⊥ m p) (items_lawful w l errs (any_limits Kind.Many1) ⊥ m p))
+  fold_many1_lawful p = under_lawful w Premise
+      (sequence_meaning w (λ vs us. vs ++ us) (λ o. o) (λ o. o) (items_meaning w errs (one_limits (Fresh Kind.Many1) true) ⊥ m)
+      (items_meaning w errs (any_limits Kind.Many1) ⊥ m))
+      (sequence_lawful w l (λ vs us. vs ++ us) (λ o. o) (λ o. o) (items_meaning w errs (one_limits (Fresh Kind.Many1) true) ⊥ m)
+      (items_meaning w errs (any_limits Kind.Many1) ⊥ m) (items_lawful w l errs (one_limits (Fresh Kind.Many1) true) ⊥ m p)
+      (items_lawful w l errs (any_limits Kind.Many1) ⊥ m p))
 
   pub fold_many1_steady : IsSteady w m → IsSteady w (fold_many1_meaning w errs Premise m)
-  fold_many1_steady p = under_steady w Premise (sequence_meaning w (λ vs us. vs ++ us) (λ o. o) (λ o. o) (items_meaning w errs (one_limits (Fresh Kind.Many1) true) ⊥ m) (items_meaning w errs (any_limits Kind.Many1) ⊥ m)) (sequence_steady w l (λ vs us. vs ++ us) (λ o. o) (λ o. o) (items_meaning w errs (one_limits (Fresh Kind.Many1) true) ⊥ m) (items_meaning w errs (any_limits Kind.Many1) ⊥ m) (items_steady w l errs (one_limits (Fresh Kind.Many1) true) ⊥ m p) (items_steady w l errs (any_limits Kind.Many1) ⊥ m p))
+  fold_many1_steady p = under_steady w Premise
+      (sequence_meaning w (λ vs us. vs ++ us) (λ o. o) (λ o. o) (items_meaning w errs (one_limits (Fresh Kind.Many1) true) ⊥ m)
+      (items_meaning w errs (any_limits Kind.Many1) ⊥ m))
+      (sequence_steady w l (λ vs us. vs ++ us) (λ o. o) (λ o. o) (items_meaning w errs (one_limits (Fresh Kind.Many1) true) ⊥ m)
+      (items_meaning w errs (any_limits Kind.Many1) ⊥ m) (items_steady w l errs (one_limits (Fresh Kind.Many1) true) ⊥ m p)
+      (items_steady w l errs (any_limits Kind.Many1) ⊥ m p))
 
   pub fold_many_m_n_lawful : (least most : ℕ) → IsLawful w m → IsLawful w (fold_many_m_n_meaning w errs least most Premise m)
   fold_many_m_n_lawful least most p =
       let bounded = items_meaning w errs (bounded_limits Kind.ManyMN least most) ⊥ m in
-      under_lawful w Premise (unfit errs Kind.ManyMN false (most < least) bounded) (unfit_lawful w errs Kind.ManyMN false (most < least) bounded (items_lawful w l errs (bounded_limits Kind.ManyMN least most) ⊥ m p))
+      under_lawful w Premise (unfit errs Kind.ManyMN false (most < least) bounded)
+      (unfit_lawful w errs Kind.ManyMN false (most < least) bounded (items_lawful w l errs (bounded_limits Kind.ManyMN least most) ⊥ m p))
 
   pub fold_many_m_n_steady : (least most : ℕ) → IsSteady w m → IsSteady w (fold_many_m_n_meaning w errs least most Premise m)
   fold_many_m_n_steady least most p =
       let bounded = items_meaning w errs (bounded_limits Kind.ManyMN least most) ⊥ m in
-      under_steady w Premise (unfit errs Kind.ManyMN false (most < least) bounded) (unfit_steady w errs Kind.ManyMN false (most < least) bounded (items_steady w l errs (bounded_limits Kind.ManyMN least most) ⊥ m p))
+      under_steady w Premise (unfit errs Kind.ManyMN false (most < least) bounded)
+      (unfit_steady w errs Kind.ManyMN false (most < least) bounded (items_steady w l errs (bounded_limits Kind.ManyMN least most) ⊥ m p))

@@ -30,7 +30,8 @@ pub record AreCallable {T R : Type 0} (CanInit : Type 0) (Takes : R → T → Ty
 -- where outputs are compared.
 pub record FoldsAlike {T R : Type 0} (item : View T) (value : View R) (Inits : R → Type 0) (Gives : R → T → R → Type 0) : Type 0 where
   pub first : (a b : R) → Inits a → Inits b → value.value a ≡ value.value b
-  pub next : (a b : R) (x y : T) (c d : R) → value.value a ≡ value.value b → item.value x ≡ item.value y → Gives a x c → Gives b y d → value.value c ≡ value.value d
+  pub next : (a b : R) (x y : T) (c d : R) → value.value a ≡ value.value b → item.value x ≡ item.value y → Gives a x c → Gives b y d →
+      value.value c ≡ value.value d
 
 -- Any number of items; one that consumes nothing is refused. Carrying a value takes no memory.
 abbrev pub fold_many0_meaning : {I A V E : Type 0} → Seen I A → Errors I E → Type 0 → Meaning I V E → Meaning I (List V) E
@@ -38,9 +39,12 @@ fold_many0_meaning w errs Premise m = under Premise (items_meaning w errs (any_l
 
 -- One item at least: a first one, whose refusal is one of the kind at the start, and which may be empty; and then any number.
 abbrev pub fold_many1_meaning : {I A V E : Type 0} → Seen I A → Errors I E → Type 0 → Meaning I V E → Meaning I (List V) E
-fold_many1_meaning w errs Premise m = under Premise (sequence_meaning w (λ vs us. vs ++ us) (λ o. o) (λ o. o) (items_meaning w errs (one_limits (Fresh Kind.Many1) true) ⊥ m) (items_meaning w errs (any_limits Kind.Many1) ⊥ m))
+fold_many1_meaning w errs Premise m =
+    under Premise (sequence_meaning w (λ vs us. vs ++ us) (λ o. o) (λ o. o) (items_meaning w errs (one_limits (Fresh Kind.Many1) true) ⊥ m)
+    (items_meaning w errs (any_limits Kind.Many1) ⊥ m))
 
 -- Items within two bounds, none of them empty. Where one is refused before the least number, the kind is added at its place.
 -- Bounds that are the wrong way round are a refusal.
 abbrev pub fold_many_m_n_meaning : {I A V E : Type 0} → Seen I A → Errors I E → ℕ → ℕ → Type 0 → Meaning I V E → Meaning I (List V) E
-fold_many_m_n_meaning w errs least most Premise m = under Premise (unfit errs Kind.ManyMN false (most < least) (items_meaning w errs (bounded_limits Kind.ManyMN least most) ⊥ m))
+fold_many_m_n_meaning w errs least most Premise m =
+    under Premise (unfit errs Kind.ManyMN false (most < least) (items_meaning w errs (bounded_limits Kind.ManyMN least most) ⊥ m))

@@ -22,7 +22,8 @@ IsEmpty IsSpent lower upper = IsSpent ⊎ IsInverted lower upper
 
 -- a range with nothing between its two ends is a failure
 abbrev pub range_meaning : {I A V E : Type 0} → Seen I A → Errors I E → ErrorKind → Type 0 → Bound ℕ → Bound ℕ → Type 0 → Meaning I V E → Meaning I (List V) E
-range_meaning w errs kind IsSpent lower upper Grows m = unfit errs kind true (IsEmpty IsSpent lower upper) (items_meaning w errs (range_limits kind lower upper) Grows m)
+range_meaning w errs kind IsSpent lower upper Grows m =
+    unfit errs kind true (IsEmpty IsSpent lower upper) (items_meaning w errs (range_limits kind lower upper) Grows m)
 
 -- a collection gained an item at its end
 abbrev pub Gathers : {K T : Type 0} → (K → List T) → K → T → K → Type 0

@@ -13,13 +13,15 @@ use Rattle.nom_repeat.specs.InvertedLaws.{no_accept}
 use Rattle.nom_folds.specs.Unfit.{Where, unfit}
 
 module _ {I A : Type 0} (w : Seen I A) {V : Type 0} (IsUnfit : Type 0) (fails : Bool) where
-  where_agree : (longer : Bool) (P : I → Outcome V → Type 0) → Agree w longer P P → Agree w longer (λ i o. Where IsUnfit (o ≡ error_outcome fails) (P i o)) (λ i o. Where IsUnfit (o ≡ error_outcome fails) (P i o))
+  where_agree : (longer : Bool) (P : I → Outcome V → Type 0) → Agree w longer P P →
+      Agree w longer (λ i o. Where IsUnfit (o ≡ error_outcome fails) (P i o)) (λ i o. Where IsUnfit (o ≡ error_outcome fails) (P i o))
   where_agree longer P f x y o p kx ky r (inl a) k (inl b) = a.1 ∙ sym b.1
   where_agree longer P f x y o p kx ky r (inl a) k (inr b) = absurd (b.0 a.0)
   where_agree longer P f x y o p kx ky r (inr a) k (inl b) = absurd (a.0 b.0)
   where_agree longer P f x y o p kx ky r (inr a) k (inr b) = f x y o p kx ky r a.1 k b.1
 
-  where_carries : (decided : Bool) (P Q : I → Outcome V → Type 0) → Carries w decided P Q → Carries w decided (λ i o. Where IsUnfit (o ≡ error_outcome fails) (P i o)) (λ i o. Where IsUnfit (o ≡ error_outcome fails) (Q i o))
+  where_carries : (decided : Bool) (P Q : I → Outcome V → Type 0) → Carries w decided P Q →
+      Carries w decided (λ i o. Where IsUnfit (o ≡ error_outcome fails) (P i o)) (λ i o. Where IsUnfit (o ≡ error_outcome fails) (Q i o))
   where_carries decided P Q f x y o kx ky r (inl a) k = inl a
   where_carries decided P Q f x y o kx ky r (inr a) k = inr (a.0, f x y o kx ky r a.1 k)
 
@@ -43,13 +45,15 @@ module _ {I A V E : Type 0} (w : Seen I A) (errs : Errors I E) (kind : ErrorKind
       frugal mode i h f (inl a) = f.0 a.0 (a.1).0 (a.1).1
       frugal mode i h f (inr a) = p.frugal mode i h (f.1 a.0) a.1
 
-      blames : m.Settles → (s : Bool) → SameBlame w ((unfit errs kind fails IsUnfit m).answers s) ((unfit errs kind fails IsUnfit m).answers (not s)) ((unfit errs kind fails IsUnfit m).blames s) ((unfit errs kind fails IsUnfit m).blames (not s))
+      blames : m.Settles → (s : Bool) → SameBlame w ((unfit errs kind fails IsUnfit m).answers s) ((unfit errs kind fails IsUnfit m).answers (not s))
+          ((unfit errs kind fails IsUnfit m).blames s) ((unfit errs kind fails IsUnfit m).blames (not s))
       blames t s i o e h a b d (inl z) = inl z
       blames t s i o e h (inl a) b d (inr z) = absurd (z.0 a.0)
       blames t s i o e h (inr a) (inl b) d (inr z) = absurd (z.0 b.0)
       blames t s i o e h (inr a) (inr b) d (inr z) = inr (z.0, p.blames_alike t s i o e h a.1 b.1 d z.1)
 
-      never : (large : Bool) → (unfit errs kind fails IsUnfit m).NeverFails large → (s : Bool) (i : I) → w.IsKnown i → (unfit errs kind fails IsUnfit m).answers s i (failure large) → ⊥
+      never : (large : Bool) → (unfit errs kind fails IsUnfit m).NeverFails large → (s : Bool) (i : I) → w.IsKnown i →
+          (unfit errs kind fails IsUnfit m).answers s i (failure large) → ⊥
       never large g s i h (inl a) = g.0 a.0 (sym a.1)
       never large g s i h (inr a) = p.never_fails large (g.1 a.0) s i h a.1
 

@@ -233,7 +233,8 @@ where
         Ok((rest, carried(last)))
     }
 
-    ghost lawful = { λ s k. fold_many_m_n_lawful I.seen I.lawful F.Error.errors (AreCallable (H.pre s.1) (G.pre s.2)) (F.meaning s.0) s.3 s.4 (F.lawful s.0 k.0) };
+    ghost lawful = { λ s k. fold_many_m_n_lawful I.seen I.lawful F.Error.errors (AreCallable (H.pre s.1) (G.pre s.2))
+        (F.meaning s.0) s.3 s.4 (F.lawful s.0 k.0) };
 }
 
 impl<
@@ -247,5 +248,6 @@ impl<
 
     ghost pinned = { λ s k p. folds_pinned F.Output.view R.view (F.IsOutput s.0) (H.post s.1) (G.post s.2) (F.pinned s.0 k.0 p.0) p.1 };
 
-    ghost steady = { λ s k. fold_many_m_n_steady I.seen I.lawful F.Error.errors (AreCallable (H.pre s.1) (G.pre s.2)) (F.meaning s.0) s.3 s.4 (F.steady s.0 k.0) };
+    ghost steady = { λ s k. fold_many_m_n_steady I.seen I.lawful F.Error.errors (AreCallable (H.pre s.1) (G.pre s.2))
+        (F.meaning s.0) s.3 s.4 (F.steady s.0 k.0) };
 }

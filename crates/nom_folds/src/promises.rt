@@ -19,12 +19,14 @@ use std::alloc::Allocator;
 /// `many0_count` accepts just the items that its part accepts, one behind the other, none of them empty, up to
 /// where the part refuses.
 pub fn many0_count_accepts<I: Input, F: Parser<I> + Drop>(_parser: &Many0Count<F>)
-    ensures { AcceptsItems I.seen (Unit {0}) (λ a. 0 < a) 0 None (F.meaning (F.state _parser.now.item.parser)) (⟦<Many0Count<F> as Parser<I>>⟧.meaning (F.state _parser.now.item.parser)) }
+    ensures { AcceptsItems I.seen (Unit {0}) (λ a. 0 < a) 0 None (F.meaning (F.state _parser.now.item.parser))
+        (⟦<Many0Count<F> as Parser<I>>⟧.meaning (F.state _parser.now.item.parser)) }
 {}
 
 /// `many1_count` accepts a first item, and behind it just what `many0_count` accepts.
 pub fn many1_count_accepts<I: Input, F: Parser<I> + Drop>(_parser: &Many1Count<F>)
-    ensures { AcceptsOneAndMore I.seen (F.meaning (F.state _parser.now.item.parser)) (F.meaning (F.state _parser.now.item.parser)) (⟦<Many1Count<F> as Parser<I>>⟧.meaning (F.state _parser.now.item.parser)) }
+    ensures { AcceptsOneAndMore I.seen (F.meaning (F.state _parser.now.item.parser)) (F.meaning (F.state _parser.now.item.parser))
+        (⟦<Many1Count<F> as Parser<I>>⟧.meaning (F.state _parser.now.item.parser)) }
 {}
 
 /// `fold_many0` accepts just the items that its part accepts, one behind the other, none of them empty, up to
@@ -36,7 +38,8 @@ pub fn fold_many0_accepts<
     H: Fn() -> R,
     G: Fn(R, F::Output) -> R,
 >(_parser: &FoldMany0<F, H, G>)
-    ensures { AcceptsItems I.seen (Unit {0}) (λ a. 0 < a) 0 None (F.meaning (F.state _parser.now.parser)) (⟦<FoldMany0<F, H, G> as Parser<I>>⟧.meaning (F.state _parser.now.parser, _parser.now.init, _parser.now.fold)) }
+    ensures { AcceptsItems I.seen (Unit {0}) (λ a. 0 < a) 0 None (F.meaning (F.state _parser.now.parser))
+        (⟦<FoldMany0<F, H, G> as Parser<I>>⟧.meaning (F.state _parser.now.parser, _parser.now.init, _parser.now.fold)) }
 {}
 
 /// `fold_many1` accepts a first item, and behind it just what `fold_many0` accepts.
@@ -47,7 +50,8 @@ pub fn fold_many1_accepts<
     H: Fn() -> R,
     G: Fn(R, F::Output) -> R,
 >(_parser: &FoldMany1<F, H, G>)
-    ensures { AcceptsOneAndMore I.seen (F.meaning (F.state _parser.now.parser)) (F.meaning (F.state _parser.now.parser)) (⟦<FoldMany1<F, H, G> as Parser<I>>⟧.meaning (F.state _parser.now.parser, _parser.now.init, _parser.now.fold)) }
+    ensures { AcceptsOneAndMore I.seen (F.meaning (F.state _parser.now.parser)) (F.meaning (F.state _parser.now.parser))
+        (⟦<FoldMany1<F, H, G> as Parser<I>>⟧.meaning (F.state _parser.now.parser, _parser.now.init, _parser.now.fold)) }
 {}
 
 /// `fold_many_m_n`, where its bounds fit each other, accepts just the items that its part accepts, one behind
@@ -60,7 +64,9 @@ pub fn fold_many_m_n_accepts<
     H: Fn() -> R,
     G: Fn(R, F::Output) -> R,
 >(_parser: &FoldManyMN<F, H, G>)
-    ensures { AcceptsItems I.seen (_parser.now.max < _parser.now.min → ⊥) (λ a. 0 < a) _parser.now.min (Some _parser.now.max) (F.meaning (F.state _parser.now.parser)) (⟦<FoldManyMN<F, H, G> as Parser<I>>⟧.meaning (F.state _parser.now.parser, _parser.now.init, _parser.now.fold, _parser.now.min, _parser.now.max)) }
+    ensures { AcceptsItems I.seen (_parser.now.max < _parser.now.min → ⊥) (λ a. 0 < a) _parser.now.min (Some _parser.now.max)
+        (F.meaning (F.state _parser.now.parser))
+        (⟦<FoldManyMN<F, H, G> as Parser<I>>⟧.meaning (F.state _parser.now.parser, _parser.now.init, _parser.now.fold, _parser.now.min, _parser.now.max)) }
 {}
 
 /// `many`, where its range isn't empty, accepts just the items that its part accepts, one behind the other,
@@ -73,7 +79,9 @@ pub fn many_accepts<
     F: Parser<I> + Drop,
     C: Collection<F::Output, A>,
 >(_parser: &Many<A, R, F, C>)
-    ensures { AcceptsItems I.seen (IsEmpty (R.IsSpent _parser.now.range) (R.lower _parser.now.range) (R.upper _parser.now.range) → ⊥) (λ a. 0 < a) (fewest (R.lower _parser.now.range)) (Some (limit (most_items (R.upper _parser.now.range)))) (F.meaning (F.state _parser.now.parser)) (⟦<Many<A, R, F, C> as Parser<I>>⟧.meaning (F.state _parser.now.parser, _parser.now.range)) }
+    ensures { AcceptsItems I.seen (IsEmpty (R.IsSpent _parser.now.range) (R.lower _parser.now.range) (R.upper _parser.now.range) → ⊥) (λ a. 0 < a)
+        (fewest (R.lower _parser.now.range)) (Some (limit (most_items (R.upper _parser.now.range)))) (F.meaning (F.state _parser.now.parser))
+        (⟦<Many<A, R, F, C> as Parser<I>>⟧.meaning (F.state _parser.now.parser, _parser.now.range)) }
 {}
 
 /// `fold` accepts just what `many` accepts.
@@ -85,5 +93,7 @@ pub fn fold_accepts<
     H: Fn() -> T,
     G: Fn(T, F::Output) -> T,
 >(_parser: &Fold<R, F, H, G>)
-    ensures { AcceptsItems I.seen (IsEmpty (R.IsSpent _parser.now.range) (R.lower _parser.now.range) (R.upper _parser.now.range) → ⊥) (λ a. 0 < a) (fewest (R.lower _parser.now.range)) (Some (limit (most_items (R.upper _parser.now.range)))) (F.meaning (F.state _parser.now.parser)) (⟦<Fold<R, F, H, G> as Parser<I>>⟧.meaning (F.state _parser.now.parser, _parser.now.init, _parser.now.fold, _parser.now.range)) }
+    ensures { AcceptsItems I.seen (IsEmpty (R.IsSpent _parser.now.range) (R.lower _parser.now.range) (R.upper _parser.now.range) → ⊥) (λ a. 0 < a)
+        (fewest (R.lower _parser.now.range)) (Some (limit (most_items (R.upper _parser.now.range)))) (F.meaning (F.state _parser.now.parser))
+        (⟦<Fold<R, F, H, G> as Parser<I>>⟧.meaning (F.state _parser.now.parser, _parser.now.init, _parser.now.fold, _parser.now.range)) }
 {}

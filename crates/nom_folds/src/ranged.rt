@@ -80,7 +80,8 @@ impl<
         Ok((rest, collected(all)))
     }
 
-    ghost lawful = { λ s k. range_lawful I.seen I.lawful F.Error.errors Kind.Many (R.IsSpent s.1) (R.lower s.1) (R.upper s.1) (Unit {0}) (F.meaning s.0) (F.lawful s.0 k) };
+    ghost lawful = { λ s k. range_lawful I.seen I.lawful F.Error.errors Kind.Many (R.IsSpent s.1) (R.lower s.1) (R.upper s.1) (Unit {0}) (F.meaning s.0)
+        (F.lawful s.0 k) };
 }
 
 impl<
@@ -94,7 +95,8 @@ impl<
 
     ghost pinned = { λ s k p. collection_pinned F.Output.view C.view C.items (F.IsOutput s.0) (F.pinned s.0 k p) C.views };
 
-    ghost steady = { λ s k. range_steady I.seen I.lawful F.Error.errors Kind.Many (R.IsSpent s.1) (R.lower s.1) (R.upper s.1) (Unit {0}) (F.meaning s.0) (F.steady s.0 k) };
+    ghost steady = { λ s k. range_steady I.seen I.lawful F.Error.errors Kind.Many (R.IsSpent s.1) (R.lower s.1) (R.upper s.1) (Unit {0}) (F.meaning s.0)
+        (F.steady s.0 k) };
 }
 
 /// The fold of as many items as a range says, made by `fold`. The closures are called only where outputs are
@@ -132,7 +134,8 @@ where
 
     ghost IsOutput = { λ s. Folds (F.IsOutput s.0) (H.post s.1) (G.post s.2) };
 
-    ghost meaning = { λ s. under (AreCallable (H.pre s.1) (G.pre s.2)) (range_meaning I.seen F.Error.errors Kind.Fold (R.IsSpent s.3) (R.lower s.3) (R.upper s.3) ⊥ (F.meaning s.0)) };
+    ghost meaning = { λ s. under (AreCallable (H.pre s.1) (G.pre s.2))
+        (range_meaning I.seen F.Error.errors Kind.Fold (R.IsSpent s.3) (R.lower s.3) (R.upper s.3) ⊥ (F.meaning s.0)) };
 
     ghost Pins = { λ s. F.Pins s.0 × FoldsAlike F.Output.view T.view (H.post s.1) (G.post s.2) };
 
@@ -158,7 +161,8 @@ where
         Ok((rest, carried(last)))
     }
 
-    ghost lawful = { λ s k. range_fold_lawful I.seen I.lawful F.Error.errors Kind.Fold (R.IsSpent s.3) (R.lower s.3) (R.upper s.3) ⊥ (F.meaning s.0) (AreCallable (H.pre s.1) (G.pre s.2)) (F.lawful s.0 k.0) };
+    ghost lawful = { λ s k. range_fold_lawful I.seen I.lawful F.Error.errors Kind.Fold (R.IsSpent s.3) (R.lower s.3) (R.upper s.3) ⊥ (F.meaning s.0)
+        (AreCallable (H.pre s.1) (G.pre s.2)) (F.lawful s.0 k.0) };
 }
 
 impl<
@@ -174,5 +178,6 @@ impl<
 
     ghost pinned = { λ s k p. folds_pinned F.Output.view T.view (F.IsOutput s.0) (H.post s.1) (G.post s.2) (F.pinned s.0 k.0 p.0) p.1 };
 
-    ghost steady = { λ s k. range_fold_steady I.seen I.lawful F.Error.errors Kind.Fold (R.IsSpent s.3) (R.lower s.3) (R.upper s.3) ⊥ (F.meaning s.0) (AreCallable (H.pre s.1) (G.pre s.2)) (F.steady s.0 k.0) };
+    ghost steady = { λ s k. range_fold_steady I.seen I.lawful F.Error.errors Kind.Fold (R.IsSpent s.3) (R.lower s.3) (R.upper s.3) ⊥ (F.meaning s.0)
+        (AreCallable (H.pre s.1) (G.pre s.2)) (F.steady s.0 k.0) };
 }

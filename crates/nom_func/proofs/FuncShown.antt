@@ -20,21 +20,29 @@ module _ {I A O E : Type 0} {w : Seen I A} {view : View O} {Gives : I → Result
   answered : (o : Outcome view.Value) (r : Result (I × O) (Answer.Err E E Needed)) → w.IsKnown i → Gives i r → Tells w view i r o → FuncAnswers w view Gives i o
   answered o r h g t = record { at = i; known = h; alike = same_self w i; outcome = record { answer = r; given = g; told = t } }
 
-module _ {I A O E : Type 0} {w : Seen I A} {view : View O} {Gives : I → Result (I × O) (Answer.Err E E Needed) → Type 0} {mode : Modes} {RunsOut : Type 0} {i : I} where
-  pub func_ok : {Takes : I → Type 0} {j : I} {v : O} {b : Option O} → IsParser w view Gives Takes → w.IsKnown i → Gives i (Ok (j, v)) → Built mode.outputs (λ u. u ≡ v) b → ShowsAnswer w (IsViewed view) mode i (FuncAnswers w view Gives i) (FuncBlames Gives i) RunsOut (Ok (j, b))
+module _ {I A O E : Type 0} {w : Seen I A} {view : View O} {Gives : I → Result (I × O) (Answer.Err E E Needed) → Type 0} {mode : Modes}
+    {RunsOut : Type 0} {i : I} where
+  pub func_ok : {Takes : I → Type 0} {j : I} {v : O} {b : Option O} → IsParser w view Gives Takes → w.IsKnown i → Gives i (Ok (j, v)) →
+      Built mode.outputs (λ u. u ≡ v) b → ShowsAnswer w (IsViewed view) mode i (FuncAnswers w view Gives i) (FuncBlames Gives i) RunsOut (Ok (j, b))
   func_ok {j = j} {v = v} {b = b} p h g k =
       let r = p.rests i j v h g in
-      Shown (Accept r.0 (view.value v)) (answered (Accept r.0 (view.value v)) (Ok (j, v)) h g (r.0, r.1, refl)) (j, b, r.1, built_error mode.outputs _ _ b (λ u e. ap view.value e) k, refl)
+      Shown (Accept r.0 (view.value v)) (answered (Accept r.0 (view.value v)) (Ok (j, v)) h g (r.0, r.1, refl))
+      (j, b, r.1, built_error mode.outputs _ _ b (λ u e. ap view.value e) k, refl)
 
-  pub func_incomplete : {k : Needed} {f : Answer.Err E E Needed} → w.IsKnown i → Gives i (Err f) → f ≡ Incomplete k → ShowsAnswer w (IsViewed view) mode i (FuncAnswers w view Gives i) (FuncBlames Gives i) RunsOut (Err (Incomplete k))
-  func_incomplete {k = k} h g is = Shown (Undecided (size_of k)) (answered (Undecided (size_of k)) (Err (Incomplete k)) h (subst (λ x. Gives i (Err x)) is g) refl) (k, refl, refl)
+  pub func_incomplete : {k : Needed} {f : Answer.Err E E Needed} → w.IsKnown i → Gives i (Err f) → f ≡ Incomplete k →
+      ShowsAnswer w (IsViewed view) mode i (FuncAnswers w view Gives i) (FuncBlames Gives i) RunsOut (Err (Incomplete k))
+  func_incomplete {k = k} h g is =
+      Shown (Undecided (size_of k)) (answered (Undecided (size_of k)) (Err (Incomplete k)) h (subst (λ x. Gives i (Err x)) is g) refl) (k, refl, refl)
 
-  pub func_error : {e : E} {f : Answer.Err E E Needed} {b : Option E} → w.IsKnown i → Gives i (Err f) → f ≡ Error e → Built mode.errors (λ x. x ≡ e) b → ShowsAnswer w (IsViewed view) mode i (FuncAnswers w view Gives i) (FuncBlames Gives i) RunsOut (Err (Error b))
+  pub func_error : {e : E} {f : Answer.Err E E Needed} {b : Option E} → w.IsKnown i → Gives i (Err f) → f ≡ Error e → Built mode.errors (λ x. x ≡ e) b →
+      ShowsAnswer w (IsViewed view) mode i (FuncAnswers w view Gives i) (FuncBlames Gives i) RunsOut (Err (Error b))
   func_error {e = e} {b = b} h g is k =
       let given = subst (λ x. Gives i (Err x)) is g in
-      Shown Refuse (answered Refuse (Err (Error e)) h given refl) (b, built_error mode.errors _ _ b (λ x y. OfRefusal (subst (λ z. Gives i (Err (Error z))) (sym y) given)) k, refl)
+      Shown Refuse (answered Refuse (Err (Error e)) h given refl)
+      (b, built_error mode.errors _ _ b (λ x y. OfRefusal (subst (λ z. Gives i (Err (Error z))) (sym y) given)) k, refl)
 
-  pub func_failure : {e : E} {f : Answer.Err E E Needed} → w.IsKnown i → Gives i (Err f) → f ≡ Failure e → ShowsAnswer w (IsViewed view) mode i (FuncAnswers w view Gives i) (FuncBlames Gives i) RunsOut (Err (Failure e))
+  pub func_failure : {e : E} {f : Answer.Err E E Needed} → w.IsKnown i → Gives i (Err f) → f ≡ Failure e →
+      ShowsAnswer w (IsViewed view) mode i (FuncAnswers w view Gives i) (FuncBlames Gives i) RunsOut (Err (Failure e))
   func_failure {e = e} h g is =
       let given = subst (λ x. Gives i (Err x)) is g in
       Shown Fail (answered Fail (Err (Failure e)) h given refl) (e, OfFailure given, refl)

@@ -19,7 +19,14 @@ use Rattle.nom_func.specs.Func.{Tells, TellsItems, FuncOutcome, IsParser, IsStre
 module _ {I A : Type 0} (w : Seen I A) where
   -- a rest is left at one place
   one_length : (i j : I) (n m : ℕ) → IsRest w i n j → IsRest w i m j → n ≡ m
-  one_length i j n m p q = omega (arith, ap (span w.weight) (sym p.whole ∙ q.whole), span-append w.weight p.front (w.elements j), span-append w.weight q.front (w.elements j), p.length_is, q.length_is)
+  one_length i j n m p q = omega (
+    arith,
+    ap (span w.weight) (sym p.whole ∙ q.whole),
+    span-append w.weight p.front (w.elements j),
+    span-append w.weight q.front (w.elements j),
+    p.length_is,
+    q.length_is,
+  )
 
 module _ {V O : Type 0} (view : View O) (IsOutput : V → O → Type 0) where
   -- an outcome as a function's answer tells it: by the view of an output, and with a failure that is one of its own
@@ -45,7 +52,8 @@ module _ {V O : Type 0} (view : View O) (IsOutput : V → O → Type 0) where
   retold_decided (Undecided d) o never h k = subst (Keeps true) h k
 
   module _ {I A E : Type 0} (w : Seen I A) (i : I) (IsError : E → Type 0) where
-    retold_of : (a : Outcome V) (r : Result (I × O) (Answer.Err E E Needed)) (o : Outcome view.Value) → Parses w IsOutput i IsError a r → Tells w view i r o → Retold a o
+    retold_of : (a : Outcome V) (r : Result (I × O) (Answer.Err E E Needed)) (o : Outcome view.Value) → Parses w IsOutput i IsError a r →
+        Tells w view i r o → Retold a o
     retold_of (Accept n t) r o p h =
         let told = subst (λ x. Tells w view i x o) p.4 h in
         (p.1, p.3, told.2 ∙ ap (λ m. Accept m (view.value p.1)) (one_length w i p.0 told.0 n told.1 p.2))
@@ -54,7 +62,8 @@ module _ {V O : Type 0} (view : View O) (IsOutput : V → O → Type 0) where
     retold_of TooLarge r o p h = subst (λ x. Tells w view i x o) p.2 h
     retold_of (Undecided k) r o p h = (let told : o ≡ Undecided (size_of p.0) = subst (λ x. Tells w view i x o) p.2 h in told ∙ ap Undecided p.1)
 
-    rest_of : (a : Outcome V) (j : I) (v : O) → (let r : Result (I × O) (Answer.Err E E Needed) = Ok (j, v) in Parses w IsOutput i IsError a r → (n : ℕ) × IsRest w i n j)
+    rest_of : (a : Outcome V) (j : I) (v : O) →
+        (let r : Result (I × O) (Answer.Err E E Needed) = Ok (j, v) in Parses w IsOutput i IsError a r → (n : ℕ) × IsRest w i n j)
     rest_of (Accept n t) j v p =
         let same : ◌≡◌ {A = I × O} (j, v) (p.0, p.1) = cc (p.4) in
         (n, subst (λ k. IsRest w i n k) (sym (ap (λ q. q.0) same)) p.2)
@@ -69,18 +78,25 @@ record Meant {V O : Type 0} (view : View O) (IsOutput : V → O → Type 0) (Ans
   answered : Answers outcome
   retold : Retold view IsOutput outcome o
 
-module _ {I A V O E : Type 0} (w : Seen I A) (view : View O) (IsOutput : V → O → Type 0) (i : I) (Answers : Outcome V → Type 0) (IsError : E → Type 0) (RunsOut : Type 0) where
-  meant_by : (r : Result (I × O) (Answer.Err E E Needed)) (o : Outcome view.Value) → ParsesAnswer w IsOutput i Answers IsError RunsOut r → Tells w view i r o → Meant view IsOutput Answers o
+module _ {I A V O E : Type 0} (w : Seen I A) (view : View O) (IsOutput : V → O → Type 0) (i : I) (Answers : Outcome V → Type 0) (IsError : E → Type 0)
+    (RunsOut : Type 0) where
+  meant_by : (r : Result (I × O) (Answer.Err E E Needed)) (o : Outcome view.Value) → ParsesAnswer w IsOutput i Answers IsError RunsOut r →
+      Tells w view i r o → Meant view IsOutput Answers o
   meant_by r o (ParseRanOut e h) t = absurd (subst (λ x. Tells w view i x o) e t)
   meant_by r o (Parsed a h p) t = record { outcome = a; answered = h; retold = retold_of view IsOutput w i IsError a r o p t }
 
-  rest_by : (j : I) (v : O) → (let r : Result (I × O) (Answer.Err E E Needed) = Ok (j, v) in ParsesAnswer w IsOutput i Answers IsError RunsOut r → (n : ℕ) × IsRest w i n j)
+  rest_by : (j : I) (v : O) → (let r : Result (I × O) (Answer.Err E E Needed) = Ok (j, v) in ParsesAnswer w IsOutput i Answers IsError RunsOut r →
+      (n : ℕ) × IsRest w i n j)
   rest_by j v (ParseRanOut e h) = cc (e)
   rest_by j v (Parsed a h p) = rest_of view IsOutput w i IsError a j v p
 
 -- The function takes every input, and answers as a relation of inputs to outcomes says, under which inputs that are seen alike
 -- have one outcome; and one tree stands for one output.
-module _ {I A V O E : Type 0} {w : Seen I A} {view : View O} {IsOutput : V → O → Type 0} {Answers : I → Outcome V → Type 0} {IsError : I → E → Type 0} {RunsOut : I → Type 0} {Gives : I → Result (I × O) (Answer.Err E E Needed) → Type 0} {Takes : I → Type 0} (one : Agree w false Answers Answers) (pinned : IsPinned view IsOutput) (takes : (i : I) → w.IsKnown i → Takes i) (shows : (i : I) (r : Result (I × O) (Answer.Err E E Needed)) → w.IsKnown i → Gives i r → ParsesAnswer w IsOutput i (Answers i) (IsError i) (RunsOut i) r) where
+module _ {I A V O E : Type 0} {w : Seen I A} {view : View O} {IsOutput : V → O → Type 0} {Answers : I → Outcome V → Type 0} {IsError : I → E → Type 0}
+    {RunsOut : I → Type 0} {Gives : I → Result (I × O) (Answer.Err E E Needed) → Type 0} {Takes : I → Type 0} (one : Agree w false Answers Answers)
+    (pinned : IsPinned view IsOutput) (takes : (i : I) → w.IsKnown i → Takes i)
+    (shows : (i : I) (r : Result (I × O) (Answer.Err E E Needed)) → w.IsKnown i → Gives i r →
+    ParsesAnswer w IsOutput i (Answers i) (IsError i) (RunsOut i) r) where
   meant : (i : I) (o : Outcome view.Value) → w.IsKnown i → FuncOutcome w view Gives i o → Meant view IsOutput (Answers i) o
   meant i o h a = meant_by w view IsOutput i (Answers i) (IsError i) (RunsOut i) a.answer o (shows i a.answer h a.given) a.told
 
@@ -106,38 +122,55 @@ module _ {I A V O E : Type 0} {w : Seen I A} {view : View O} {IsOutput : V → O
         retold_once view IsOutput pinned d.outcome o p (subst (λ z. Retold view IsOutput z o) same c.retold) d.retold;
   }
 
-module _ {I A V O E : Type 0} {w : Seen I A} {view : View O} {IsOutput : V → O → Type 0} {m : Meaning I V E} {Gives : I → Result (I × O) (Answer.Err E E Needed) → Type 0} {Takes : I → Type 0} where
+module _ {I A V O E : Type 0} {w : Seen I A} {view : View O} {IsOutput : V → O → Type 0} {m : Meaning I V E}
+    {Gives : I → Result (I × O) (Answer.Err E E Needed) → Type 0} {Takes : I → Type 0} where
   -- a function that answers as a lawful meaning says in one mode is a parser, where one tree stands for one output
-  pub func_sound : (s : Bool) → IsLawful w m → IsPinned view IsOutput → ((i : I) → w.IsKnown i → Takes i) → ((i : I) (r : Result (I × O) (Answer.Err E E Needed)) → w.IsKnown i → Gives i r → ParsesMeaning w IsOutput m s i r) → IsParser w view Gives Takes
-  func_sound s lawful pinned takes shows = parser_by {IsError = λ i. m.blames s i} {RunsOut = λ i. m.runs_out (modes true true s) i} (lawful.one_outcome s) pinned takes shows
+  pub func_sound : (s : Bool) → IsLawful w m → IsPinned view IsOutput → ((i : I) → w.IsKnown i → Takes i) →
+      ((i : I) (r : Result (I × O) (Answer.Err E E Needed)) → w.IsKnown i → Gives i r → ParsesMeaning w IsOutput m s i r) → IsParser w view Gives Takes
+  func_sound s lawful pinned takes shows =
+      parser_by {IsError = λ i. m.blames s i} {RunsOut = λ i. m.runs_out (modes true true s) i} (lawful.one_outcome s) pinned takes shows
 
   -- and a stream parser where that mode is the streaming one, the meaning is steady, and what it lacks is never too large
-  pub stream_func_sound : IsLawful w m → IsSteady w m → NeverTooLarge m → IsPinned view IsOutput → ((i : I) → w.IsKnown i → Takes i) → ((i : I) (r : Result (I × O) (Answer.Err E E Needed)) → w.IsKnown i → Gives i r → ParsesMeaning w IsOutput m true i r) → IsStreamParser w view Gives Takes
-  stream_func_sound lawful steady never pinned takes shows = stream_parser_by {IsError = λ i. m.blames true i} {RunsOut = λ i. m.runs_out (modes true true true) i} (lawful.one_outcome true) pinned takes shows steady (λ i h a. lawful.never_fails true never true i h a)
+  pub stream_func_sound : IsLawful w m → IsSteady w m → NeverTooLarge m → IsPinned view IsOutput → ((i : I) → w.IsKnown i → Takes i) →
+      ((i : I) (r : Result (I × O) (Answer.Err E E Needed)) → w.IsKnown i → Gives i r → ParsesMeaning w IsOutput m true i r) → IsStreamParser w view Gives Takes
+  stream_func_sound lawful steady never pinned takes shows =
+      stream_parser_by {IsError = λ i. m.blames true i} {RunsOut = λ i. m.runs_out (modes true true true) i}
+      (lawful.one_outcome true) pinned takes shows steady (λ i h a. lawful.never_fails true never true i h a)
 
 -- Of a function whose contract says so, and maybe more.
-module _ {I A V O E : Type 0} {w : Seen I A} {view : View O} {IsOutput : V → O → Type 0} {Answers : I → Outcome V → Type 0} {IsError : I → E → Type 0} {RunsOut : I → Type 0} {Gives : I → Result (I × O) (Answer.Err E E Needed) → Type 0} {Takes : I → Type 0} where
-  pub func_says : Agree w false Answers Answers → IsPinned view IsOutput → ((i : I) → w.IsKnown i → Takes i) → ((i : I) (r : Result (I × O) (Answer.Err E E Needed)) → w.IsKnown i → Gives i r → ParsesAnswer w IsOutput i (Answers i) (IsError i) (RunsOut i) r) → IsParser w view Gives Takes
+module _ {I A V O E : Type 0} {w : Seen I A} {view : View O} {IsOutput : V → O → Type 0} {Answers : I → Outcome V → Type 0} {IsError : I → E → Type 0}
+    {RunsOut : I → Type 0} {Gives : I → Result (I × O) (Answer.Err E E Needed) → Type 0} {Takes : I → Type 0} where
+  pub func_says : Agree w false Answers Answers → IsPinned view IsOutput → ((i : I) → w.IsKnown i → Takes i) →
+      ((i : I) (r : Result (I × O) (Answer.Err E E Needed)) → w.IsKnown i → Gives i r → ParsesAnswer w IsOutput i (Answers i) (IsError i) (RunsOut i) r) →
+      IsParser w view Gives Takes
   func_says one pinned takes says = parser_by {IsError = IsError} {RunsOut = RunsOut} one pinned takes says
 
-  pub stream_func_says : Agree w false Answers Answers → Agree w true Answers Answers → ((i : I) → w.IsKnown i → Answers i TooLarge → ⊥) → IsPinned view IsOutput → ((i : I) → w.IsKnown i → Takes i) → ((i : I) (r : Result (I × O) (Answer.Err E E Needed)) → w.IsKnown i → Gives i r → ParsesAnswer w IsOutput i (Answers i) (IsError i) (RunsOut i) r) → IsStreamParser w view Gives Takes
+  pub stream_func_says : Agree w false Answers Answers → Agree w true Answers Answers → ((i : I) → w.IsKnown i → Answers i TooLarge → ⊥) →
+      IsPinned view IsOutput → ((i : I) → w.IsKnown i → Takes i) →
+      ((i : I) (r : Result (I × O) (Answer.Err E E Needed)) → w.IsKnown i → Gives i r → ParsesAnswer w IsOutput i (Answers i) (IsError i) (RunsOut i) r) →
+      IsStreamParser w view Gives Takes
   stream_func_says one steady never pinned takes says = stream_parser_by {IsError = IsError} {RunsOut = RunsOut} one pinned takes says steady never
 
 -- Of a function without a premise, whose contract says so itself: what it blames, and where it takes memory, doesn't matter.
-module _ {I A V O E : Type 0} {w : Seen I A} {view : View O} {IsOutput : V → O → Type 0} {Answers : I → Outcome V → Type 0} {IsError : I → E → Type 0} {RunsOut : I → Type 0} where
-  pub func_parses : Agree w false Answers Answers → IsPinned view IsOutput → IsParser w view (λ i r. ParsesAnswer w IsOutput i (Answers i) (IsError i) (RunsOut i) r) (λ i. Unit {0})
+module _ {I A V O E : Type 0} {w : Seen I A} {view : View O} {IsOutput : V → O → Type 0} {Answers : I → Outcome V → Type 0} {IsError : I → E → Type 0}
+    {RunsOut : I → Type 0} where
+  pub func_parses : Agree w false Answers Answers → IsPinned view IsOutput →
+      IsParser w view (λ i r. ParsesAnswer w IsOutput i (Answers i) (IsError i) (RunsOut i) r) (λ i. Unit {0})
   func_parses one pinned = parser_by {IsError = IsError} {RunsOut = RunsOut} one pinned (λ i h. tt) (λ i r h g. g)
 
-  pub stream_func_parses : Agree w false Answers Answers → Agree w true Answers Answers → ((i : I) → w.IsKnown i → Answers i TooLarge → ⊥) → IsPinned view IsOutput → IsStreamParser w view (λ i r. ParsesAnswer w IsOutput i (Answers i) (IsError i) (RunsOut i) r) (λ i. Unit {0})
+  pub stream_func_parses : Agree w false Answers Answers → Agree w true Answers Answers → ((i : I) → w.IsKnown i → Answers i TooLarge → ⊥) →
+      IsPinned view IsOutput → IsStreamParser w view (λ i r. ParsesAnswer w IsOutput i (Answers i) (IsError i) (RunsOut i) r) (λ i. Unit {0})
   stream_func_parses one steady never pinned = stream_parser_by {IsError = IsError} {RunsOut = RunsOut} one pinned (λ i h. tt) (λ i r h g. g) steady never
 
 -- of a leaf, in the mode s or streaming
-module _ {I A V O E : Type 0} {w : Seen I A} {view : View O} {IsOutput : V → O → Type 0} {leaf : Leaf I V} {IsError : I → E → Type 0} {RunsOut : I → Type 0} (l : LeafLaws w leaf) (pinned : IsPinned view IsOutput) where
+module _ {I A V O E : Type 0} {w : Seen I A} {view : View O} {IsOutput : V → O → Type 0} {leaf : Leaf I V} {IsError : I → E → Type 0}
+    {RunsOut : I → Type 0} (l : LeafLaws w leaf) (pinned : IsPinned view IsOutput) where
   pub leaf_func : (s : Bool) → IsParser w view (λ i r. ParsesAnswer w IsOutput i (LeafAnswers leaf s i) (IsError i) (RunsOut i) r) (λ i. Unit {0})
   leaf_func s = func_parses {IsError = IsError} {RunsOut = RunsOut} ((leaf_lawful w leaf l {E = E} (Unit {0}) (λ i e. ⊥) ⊥).one_outcome s) pinned
 
   pub leaf_stream_func : IsStreamParser w view (λ i r. ParsesAnswer w IsOutput i (LeafAnswers leaf true i) (IsError i) (RunsOut i) r) (λ i. Unit {0})
-  leaf_stream_func = stream_func_parses {IsError = IsError} {RunsOut = RunsOut} ((leaf_lawful w leaf l {E = E} (Unit {0}) (λ i e. ⊥) ⊥).one_outcome true) (leaf_steady w leaf l {E = E} (Unit {0}) (λ i e. ⊥) ⊥) (λ i h a. a) pinned
+  leaf_stream_func = stream_func_parses {IsError = IsError} {RunsOut = RunsOut}
+      ((leaf_lawful w leaf l {E = E} (Unit {0}) (λ i e. ⊥) ⊥).one_outcome true) (leaf_steady w leaf l {E = E} (Unit {0}) (λ i e. ⊥) ⊥) (λ i h a. a) pinned
 
 module _ {I A O E : Type 0} (w : Seen I A) (view : View O) where
   -- an answer tells one outcome
@@ -161,7 +194,8 @@ module _ {I A O E : Type 0} {w : Seen I A} {view : View O} (outcome : List A →
   }
 
   -- where what is decided stays as items are added
-  pub items_stream_func : ((xs more : List A) → IsDecided (outcome xs) → outcome (xs ++ more) ≡ outcome xs) → IsStreamParser {E = E} w view (TellsItems w view outcome) (λ i. Unit {0})
+  pub items_stream_func : ((xs more : List A) → IsDecided (outcome xs) → outcome (xs ++ more) ≡ outcome xs) →
+      IsStreamParser {E = E} w view (TellsItems w view outcome) (λ i. Unit {0})
   items_stream_func steady = record {
     parser = items_func;
     stays = λ x y o p kx ky r a k b.

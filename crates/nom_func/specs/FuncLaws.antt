@@ -42,7 +42,8 @@ module _ {I A : Type 0} (w : Seen I A) where
     never_too_large i (Err OutOfMemory) h = h
 
     module _ (Gives : I → Result (I × O) (Answer.Err E E Needed) → Type 0) where
-      fails_by_error : (i : I) (r : Result (I × O) (Answer.Err E E Needed)) → ((e : E) → Gives i (Err (Failure e)) → ⊥) → Gives i r → Tells w view i r (failure false) → ⊥
+      fails_by_error : (i : I) (r : Result (I × O) (Answer.Err E E Needed)) → ((e : E) → Gives i (Err (Failure e)) → ⊥) → Gives i r →
+          Tells w view i r (failure false) → ⊥
       fails_by_error i (Ok (j, v)) f g h = cc (h.2)
       fails_by_error i (Err (Incomplete k)) f g h = cc
       fails_by_error i (Err (Error e)) f g h = cc
@@ -54,7 +55,8 @@ module _ {I A : Type 0} (w : Seen I A) where
       never_fails false h i a = fails_by_error a.at a.outcome.answer (λ e. h a.at e a.known) a.outcome.given a.outcome.told
 
       -- what the function's outcomes at an input keep, those at inputs that are seen as it is keep
-      agrees_alike : (longer : Bool) → Agree w longer (FuncOutcome w view Gives) (FuncOutcome w view Gives) → Agree w longer (FuncAnswers w view Gives) (FuncAnswers w view Gives)
+      agrees_alike : (longer : Bool) → Agree w longer (FuncOutcome w view Gives) (FuncOutcome w view Gives) →
+          Agree w longer (FuncAnswers w view Gives) (FuncAnswers w view Gives)
       agrees_alike longer f x y o p kx ky r a k b = f a.at b.at o p a.known b.known (related_alike longer x y a.at b.at a.alike b.alike r) a.outcome k b.outcome
 
       alike : (x y : I) (o : Outcome view.Value) → IsSame w x y → FuncAnswers w view Gives x o → FuncAnswers w view Gives y o
@@ -74,8 +76,10 @@ module _ {I A : Type 0} (w : Seen I A) where
       pub func_lawful : (Takes : I → Type 0) → (let IsSound : Type 0 = IsParser w view Gives Takes in IsSound → IsLawful w (func_meaning w view Gives IsSound))
       func_lawful Takes p = lawful_under (IsParser w view Gives Takes) p.one_outcome
 
-      pub stream_func_lawful : (Takes : I → Type 0) → (let IsSound : Type 0 = IsStreamParser w view Gives Takes in IsSound → IsLawful w (func_meaning w view Gives IsSound))
+      pub stream_func_lawful : (Takes : I → Type 0) →
+          (let IsSound : Type 0 = IsStreamParser w view Gives Takes in IsSound → IsLawful w (func_meaning w view Gives IsSound))
       stream_func_lawful Takes p = lawful_under (IsStreamParser w view Gives Takes) p.parser.one_outcome
 
-      pub stream_func_steady : (Takes : I → Type 0) → (let IsSound : Type 0 = IsStreamParser w view Gives Takes in IsSound → IsSteady w (func_meaning w view Gives IsSound))
+      pub stream_func_steady : (Takes : I → Type 0) →
+          (let IsSound : Type 0 = IsStreamParser w view Gives Takes in IsSound → IsSteady w (func_meaning w view Gives IsSound))
       stream_func_steady Takes p = agrees_alike true p.stays

@@ -18,7 +18,8 @@ module _ {I A V E : Type 0} (w : Seen I A) (m : Meaning I V E) where
 
   -- an outcome on an input is the one outcome on every input that is seen alike
   abbrev pub HasOneOutcome : Type 0
-  HasOneOutcome = (s : Bool) (x y : I) (o : Outcome V) → w.IsKnown x → w.IsKnown y → IsSame w x y → m.answers s x o → m.answers s y o × ((p : Outcome V) → m.answers s y p → o ≡ p)
+  HasOneOutcome = (s : Bool) (x y : I) (o : Outcome V) → w.IsKnown x → w.IsKnown y → IsSame w x y → m.answers s x o → m.answers s y o ×
+      ((p : Outcome V) → m.answers s y p → o ≡ p)
 
   -- what is accepted is a front of the input
   abbrev pub AcceptsFronts : Type 0
@@ -26,7 +27,8 @@ module _ {I A V E : Type 0} (w : Seen I A) (m : Meaning I V E) where
 
   -- a decided streaming outcome is the complete one, and the errors of the one are those of the other
   abbrev pub IsCompleteToo : Type 0
-  IsCompleteToo = (i : I) (o : Outcome V) → w.IsKnown i → m.answers true i o → IsDecided o → m.answers false i o × ((e : E) → m.blames true i e → m.blames false i e) × ((e : E) → m.blames false i e → m.blames true i e)
+  IsCompleteToo = (i : I) (o : Outcome V) → w.IsKnown i → m.answers true i o → IsDecided o → m.answers false i o ×
+      ((e : E) → m.blames true i e → m.blames false i e) × ((e : E) → m.blames false i e → m.blames true i e)
 
   -- where a parser is frugal, memory never runs out
   abbrev pub NeverRunsOut : Type 0
@@ -48,7 +50,8 @@ module _ {I A V O E : Type 0} (w : Seen I A) (view : View O) (Pins : Type 0) (Is
 
   -- of two answers of `parse`, on an input and on one that extends it, want of memory aside
   abbrev pub AnswersStay : Type 0
-  AnswersStay = (x y : I) (r s : Result (I × O) (Answer.Err E E Needed)) → w.IsKnown x → w.IsKnown y → Extends w x y → ParsesMeaning w IsOutput m true x r → ParsesMeaning w IsOutput m true y s → (s ≡ Err OutOfMemory) ⊎ Stays x y r s
+  AnswersStay = (x y : I) (r s : Result (I × O) (Answer.Err E E Needed)) → w.IsKnown x → w.IsKnown y → Extends w x y →
+      ParsesMeaning w IsOutput m true x r → ParsesMeaning w IsOutput m true y s → (s ≡ Err OutOfMemory) ⊎ Stays x y r s
 
   -- what one `parse` of the whole answers, by what was answered on a beginning with the rest of the whole
   abbrev pub IsOfWhole : I → Result (I × O) (Answer.Err E E Needed) → Result (I × O) (Answer.Err E E Needed) → Type 0
@@ -73,4 +76,5 @@ module _ {I A V O E : Type 0} (w : Seen I A) (view : View O) (Pins : Type 0) (Is
 
   -- of the answers of `parse` and of `parse_complete` on one input, that memory runs out aside
   abbrev pub AnswersComplete : Type 0
-  AnswersComplete = (x : I) (r s : Result (I × O) (Answer.Err E E Needed)) → w.IsKnown x → ParsesMeaning w IsOutput m true x r → ParsesMeaning w IsOutput m false x s → (s ≡ Err OutOfMemory) ⊎ Completes x r s
+  AnswersComplete = (x : I) (r s : Result (I × O) (Answer.Err E E Needed)) → w.IsKnown x → ParsesMeaning w IsOutput m true x r →
+      ParsesMeaning w IsOutput m false x s → (s ≡ Err OutOfMemory) ⊎ Completes x r s

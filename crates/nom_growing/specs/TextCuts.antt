@@ -14,7 +14,12 @@ AreLengths cs [] = Unit {0}
 AreLengths cs (x ∷ xs) = ((count : ℕ) × (span len_utf8 (take count cs) ≡ x)) × AreLengths cs xs
 
 place_of : (i : Bor (List ℕ)) (count x : ℕ) → span len_utf8 (take count (chars i.now)) ≡ x → IsPlace seen_text i x
-place_of i count x e = record { front = take count (chars i.now); rest = drop count (chars i.now); whole = sym (take-append-drop count (chars i.now)); length_is = e }
+place_of i count x e = record {
+  front = take count (chars i.now);
+  rest = drop count (chars i.now);
+  whole = sym (take-append-drop count (chars i.now));
+  length_is = e;
+}
 
 -- the cuts of a list that is written out, in a text of known bytes
 pub text_cuts : (bytes : List ℕ) (i : Bor (List ℕ)) (cuts : List ℕ) → i.now ≡ bytes → AreLengths (chars bytes) cuts → AreCuts seen_text i cuts

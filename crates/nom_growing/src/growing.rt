@@ -55,7 +55,8 @@ pub fn parse_growing<I: Input, P: StreamParser<I> + Drop>(
     requires cuts { AreCuts I.seen whole cuts.now }
     ensures grown { IsGrown I.seen (P.IsOutput (P.state parser)) (P.meaning (P.state parser)) whole cuts.now result.index result.result }
     // Where the parser pins, one parse of the whole answers the same.
-    ensures whole { AgreesWithWhole I.seen P.Output.view (P.Parser.Pins (P.state parser)) (P.IsOutput (P.state parser)) (P.meaning (P.state parser)) whole cuts.now result.index result.result }
+    ensures whole { AgreesWithWhole I.seen P.Output.view (P.Parser.Pins (P.state parser)) (P.IsOutput (P.state parser))
+        (P.meaning (P.state parser)) whole cuts.now result.index result.result }
 {
     whole.known();
     for (index, cut) in cuts.iter().enumerate() {

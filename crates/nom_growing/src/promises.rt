@@ -1,5 +1,6 @@
 //! What every parser promises. These functions do nothing: their contracts are the promises.
-ghost use Rattle.nom_growing.specs.Promises.{StaysOnLonger, HasOneOutcome, AcceptsFronts, IsCompleteToo, NeverRunsOut, HasNoFailure, AnswersStay, AnswersComplete};
+ghost use Rattle.nom_growing.specs.Promises.{StaysOnLonger, HasOneOutcome, AcceptsFronts, IsCompleteToo, NeverRunsOut, HasNoFailure, AnswersStay};
+ghost use Rattle.nom_growing.specs.Promises.{AnswersComplete};
 
 use nom_internal::parser::{Parser, StreamParser};
 use nom_traits::input::Items;

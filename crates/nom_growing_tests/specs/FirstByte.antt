@@ -23,4 +23,5 @@ abbrev pub byte_meaning : Meaning (Bor (List ℕ)) (Slice seen_bytes) (Error (Bo
 byte_meaning = leaf_meaning (Unit {0}) (λ i e. e ≡ record { input = i; code = Eof }) ⊥ (takes seen_bytes bytes_missing 1)
 
 pub byte_lawful : IsLawful seen_bytes byte_meaning
-byte_lawful = leaf_lawful seen_bytes (takes seen_bytes bytes_missing 1) (take_laws seen_bytes bytes_missing 1) (Unit {0}) (λ i e. e ≡ record { input = i; code = Eof }) ⊥
+byte_lawful = leaf_lawful seen_bytes (takes seen_bytes bytes_missing 1) (take_laws seen_bytes bytes_missing 1) (Unit {0})
+    (λ i e. e ≡ record { input = i; code = Eof }) ⊥

@@ -42,14 +42,16 @@ ascii_hex (b ∷ bs) h =
     let low = digit_glyph false (b % 16) in
     let blank : List ℕ = 32 ∷ [] in
     IsAscii-append (hex_byte b) (flat_map hex_byte bs)
-    (ascii_cons (digit_glyph false (b / 16)) (low ∷ blank) (small_glyph (b / 16) (omega (arith, small))) (ascii_cons low blank (small_glyph (b % 16) (omega arith)) (ascii_cons 32 [] (omega arith) ascii_nil)))
+    (ascii_cons (digit_glyph false (b / 16)) (low ∷ blank) (small_glyph (b / 16) (omega (arith, small)))
+    (ascii_cons low blank (small_glyph (b % 16) (omega arith)) (ascii_cons 32 [] (omega arith) ascii_nil)))
     (ascii_hex bs (λ i. h (suc i)))
 
 ascii_shown : (bs : List ℕ) → IsAscii bs → IsAscii (map shown_byte bs)
 ascii_shown [] h = ascii_nil
 ascii_shown (b ∷ bs) h =
     let small : b < 128 = h 0 in
-    ascii_cons (shown_byte b) (map shown_byte bs) (cond_both (is_in_range 32 126 b || nat_le 128 b) b 46 (λ x. x < 128) (λ _. small) (λ _. omega arith)) (ascii_shown bs (λ i. h (suc i)))
+    ascii_cons (shown_byte b) (map shown_byte bs) (cond_both (is_in_range 32 126 b || nat_le 128 b) b 46 (λ x. x < 128) (λ _. small) (λ _. omega arith))
+    (ascii_shown bs (λ i. h (suc i)))
 
 ascii_line : (chunk offset : ℕ) (bs : List ℕ) → IsAscii bs → IsAscii (dump_line chunk offset bs)
 ascii_line chunk offset bs h =
@@ -58,9 +60,11 @@ ascii_line chunk offset bs h =
     let tail : List ℕ = 9 ∷ (map shown_byte bs ++ end) in
     let spaces : List ℕ = replicate (3 * (chunk - length bs)) 32 in
     let middle : List ℕ = 9 ∷ (flat_map hex_byte bs ++ (spaces ++ tail)) in
-    let shown : IsAscii tail = ascii_cons 9 (map shown_byte bs ++ end) (omega arith) (IsAscii-append (map shown_byte bs) end (ascii_shown bs h) (ascii_cons 10 [] (omega arith) ascii_nil)) in
+    let shown : IsAscii tail = ascii_cons 9 (map shown_byte bs ++ end) (omega arith)
+    (IsAscii-append (map shown_byte bs) end (ascii_shown bs h) (ascii_cons 10 [] (omega arith) ascii_nil)) in
     let blanks : IsAscii (spaces ++ tail) = IsAscii-append spaces tail (ascii_replicate (3 * (chunk - length bs)) 32 (omega arith)) shown in
-    IsAscii-append (offset_digits offset) middle (IsAscii-append (replicate (8 - length ds) 48) ds (ascii_replicate (8 - length ds) 48 (omega arith)) (ascii_digits offset))
+    IsAscii-append (offset_digits offset) middle
+    (IsAscii-append (replicate (8 - length ds) 48) ds (ascii_replicate (8 - length ds) 48 (omega arith)) (ascii_digits offset))
     (ascii_cons 9 (flat_map hex_byte bs ++ (spaces ++ tail)) (omega arith) (IsAscii-append (flat_map hex_byte bs) (spaces ++ tail) (ascii_hex bs h) blanks))
 
 ascii_lines : (n chunk offset : ℕ) (bs : List ℕ) → IsAscii bs → IsAscii (dump_lines n chunk offset bs)
@@ -68,7 +72,8 @@ ascii_lines zero chunk offset bs h = ascii_nil
 ascii_lines (suc n) chunk offset [] h = ascii_nil
 ascii_lines (suc n) chunk offset (b ∷ bs) h =
     IsAscii-append (dump_line chunk offset (take chunk (b ∷ bs))) (dump_lines n chunk (offset + chunk) (drop chunk (b ∷ bs)))
-    (ascii_line chunk offset (take chunk (b ∷ bs)) (IsAscii-take (b ∷ bs) chunk h)) (ascii_lines n chunk (offset + chunk) (drop chunk (b ∷ bs)) (IsAscii-drop (b ∷ bs) chunk h))
+    (ascii_line chunk offset (take chunk (b ∷ bs)) (IsAscii-take (b ∷ bs) chunk h))
+    (ascii_lines n chunk (offset + chunk) (drop chunk (b ∷ bs)) (IsAscii-drop (b ∷ bs) chunk h))
 
 -- so they are texts as they are
 pub ascii_text : (chunk from : ℕ) (bs : List ℕ) → IsAscii bs → encode_utf8_all (lossy_chars (hex_dump chunk from bs)) ≡ hex_dump chunk from bs

@@ -1,5 +1,6 @@
 -- Lines of dumps.
-use Rattle.std.proofs.Common.{◌≡◌, ℕ, zero, suc, ◌+◌, ◌-◌, ◌*◌, ◌^◌, ◌<◌, ◌≤◌, ◌++◌, List, [], ◌∷◌, false, length, take, drop, refl, sym, ◌∙◌, ap, subst, arith, append_assoc, append-nil, length-drop, inl, inr}
+use Rattle.std.proofs.Common.{◌≡◌, ℕ, zero, suc, ◌+◌, ◌-◌, ◌*◌, ◌^◌, ◌<◌, ◌≤◌, ◌++◌, List, [], ◌∷◌, false, length, take, drop, refl, sym, ◌∙◌, ap}
+use Rattle.std.proofs.Common.{subst, arith, append_assoc, append-nil, length-drop, inl, inr}
 use Rattle.std.specs.Prelude.{replicate, min, Option, Some, IfSome, option_map}
 use Rattle.std.specs.Fmt.{digits, padded_integral, format_spec, char_count}
 use Rattle.std.proofs.lemmas.List.{replicate-append-replicate, drop_all, drop-drop, take_all}
@@ -26,19 +27,24 @@ after : (old f g : List ℕ) {e e' : List ℕ} → e ≡ old ++ f → e' ≡ e +
 after old f g p q = q ∙ ap (λ l. l ++ g) p ∙ append_assoc old f g
 
 -- the parts of a line, one after another
-pub line_joined : (old d x b m : List ℕ) {e1 e2 e3 e4 e5 e6 e7 : List ℕ} → e1 ≡ old ++ d → e2 ≡ e1 ++ (9 ∷ []) → e3 ≡ e2 ++ x → e4 ≡ e3 ++ b → e5 ≡ e4 ++ (9 ∷ []) → e6 ≡ e5 ++ m → e7 ≡ e6 ++ (10 ∷ [])
+pub line_joined : (old d x b m : List ℕ) {e1 e2 e3 e4 e5 e6 e7 : List ℕ} → e1 ≡ old ++ d → e2 ≡ e1 ++ (9 ∷ []) → e3 ≡ e2 ++ x → e4 ≡ e3 ++ b →
+    e5 ≡ e4 ++ (9 ∷ []) → e6 ≡ e5 ++ m → e7 ≡ e6 ++ (10 ∷ [])
     → e7 ≡ old ++ (d ++ (9 ∷ (x ++ (b ++ (9 ∷ (m ++ (10 ∷ [])))))))
 line_joined old d x b m h1 h2 h3 h4 h5 h6 h7 =
     let t : List ℕ = 9 ∷ [] in
     let n : List ℕ = 10 ∷ [] in
-    after old (((((d ++ t) ++ x) ++ b) ++ t) ++ m) n (after old ((((d ++ t) ++ x) ++ b) ++ t) m (after old (((d ++ t) ++ x) ++ b) t (after old ((d ++ t) ++ x) b (after old (d ++ t) x (after old d t h1 h2) h3) h4) h5) h6) h7
-    ∙ ap (λ l. old ++ l) (append_assoc ((((d ++ t) ++ x) ++ b) ++ t) m n ∙ append_assoc (((d ++ t) ++ x) ++ b) t (m ++ n) ∙ append_assoc ((d ++ t) ++ x) b (t ++ (m ++ n)) ∙ append_assoc (d ++ t) x (b ++ (t ++ (m ++ n))) ∙ append_assoc d t (x ++ (b ++ (t ++ (m ++ n)))))
+    after old (((((d ++ t) ++ x) ++ b) ++ t) ++ m) n
+    (after old ((((d ++ t) ++ x) ++ b) ++ t) m
+    (after old (((d ++ t) ++ x) ++ b) t (after old ((d ++ t) ++ x) b (after old (d ++ t) x (after old d t h1 h2) h3) h4) h5) h6) h7
+    ∙ ap (λ l. old ++ l) (append_assoc ((((d ++ t) ++ x) ++ b) ++ t) m n ∙ append_assoc (((d ++ t) ++ x) ++ b) t (m ++ n) ∙
+    append_assoc ((d ++ t) ++ x) b (t ++ (m ++ n)) ∙ append_assoc (d ++ t) x (b ++ (t ++ (m ++ n))) ∙ append_assoc d t (x ++ (b ++ (t ++ (m ++ n)))))
 
 lines_none : (n chunk offset : ℕ) → dump_lines n chunk offset [] ≡ []
 lines_none zero chunk offset = refl
 lines_none (suc n) chunk offset = refl
 
-lines_some : (n chunk offset : ℕ) (bs : List ℕ) → 0 < length bs → dump_lines (suc n) chunk offset bs ≡ dump_line chunk offset (take chunk bs) ++ dump_lines n chunk (offset + chunk) (drop chunk bs)
+lines_some : (n chunk offset : ℕ) (bs : List ℕ) → 0 < length bs → dump_lines (suc n) chunk offset bs ≡ dump_line chunk offset (take chunk bs) ++
+    dump_lines n chunk (offset + chunk) (drop chunk bs)
 lines_some n chunk offset [] h = absurd (omega (arith, h))
 lines_some n chunk offset (b ∷ bs) h = refl
 
@@ -52,7 +58,8 @@ module _ (chunk from : ℕ) (bs : List ℕ) where
   lines_past : (n offset passed : ℕ) → length bs ≤ passed → dump_lines n chunk offset (drop passed bs) ≡ []
   lines_past n offset passed h = ap (λ l. dump_lines n chunk offset l) (drop_all passed bs h) ∙ lines_none n chunk offset
 
-  pub lines_end : (n passed : ℕ) (items whole : List ℕ) → length bs ≤ passed → items ++ dump_lines n chunk (from + passed) (drop passed bs) ≡ whole → items ≡ whole
+  pub lines_end : (n passed : ℕ) (items whole : List ℕ) → length bs ≤ passed → items ++ dump_lines n chunk (from + passed) (drop passed bs) ≡ whole →
+      items ≡ whole
   lines_end n passed items whole h e = sym (append-nil items) ∙ ap (λ l. items ++ l) (sym (lines_past n (from + passed) passed h)) ∙ e
 
   -- behind the next line stand the same lines, whether or not it is full
@@ -62,7 +69,8 @@ module _ (chunk from : ℕ) (bs : List ℕ) where
       elim (cases_lt (length bs - passed) chunk) [
         | inl short ↦
             lines_past n (from + (passed + m)) (passed + m) (omega (arith, e, short))
-            ∙ sym (ap (λ l. dump_lines n chunk (from + passed + chunk) l) (drop-drop chunk passed bs) ∙ lines_past n (from + passed + chunk) (passed + chunk) (omega (arith, short)))
+            ∙ sym (ap (λ l. dump_lines n chunk (from + passed + chunk) l) (drop-drop chunk passed bs) ∙
+            lines_past n (from + passed + chunk) (passed + chunk) (omega (arith, short)))
         | inr full ↦
             let same : m ≡ chunk = omega (arith, e, full) in
             let offset : from + (passed + m) ≡ from + passed + chunk = omega (arith, same) in
@@ -71,7 +79,8 @@ module _ (chunk from : ℕ) (bs : List ℕ) where
             ∙ ap (λ l. dump_lines n chunk (from + passed + chunk) l) (sym (drop-drop chunk passed bs))
       ]
 
-  pub line_step : (n passed m : ℕ) (items new part whole : List ℕ) → passed < length bs → m ≡ min chunk (length bs - passed) → part ≡ take chunk (drop passed bs)
+  pub line_step : (n passed m : ℕ) (items new part whole : List ℕ) → passed < length bs → m ≡ min chunk (length bs - passed) →
+      part ≡ take chunk (drop passed bs)
       → new ≡ items ++ dump_line chunk (from + passed) part → items ++ dump_lines (suc n) chunk (from + passed) (drop passed bs) ≡ whole
       → new ++ dump_lines n chunk (from + (passed + m)) (drop (passed + m) bs) ≡ whole
   line_step n passed m items new part whole h e p q w =
@@ -87,6 +96,7 @@ module _ (chunk from : ℕ) (bs : List ℕ) where
   pub part_is : (passed m k : ℕ) → passed < length bs → m ≡ min chunk (length bs - passed) → k ≡ m → take k (drop passed bs) ≡ take chunk (drop passed bs)
   part_is passed m k h e f =
       elim (cases_lt (length bs - passed) chunk) [
-        | inl short ↦ take_all k (drop passed bs) (omega (arith, e, f, short, length-drop passed bs)) ∙ sym (take_all chunk (drop passed bs) (omega (arith, short, length-drop passed bs)))
+        | inl short ↦ take_all k (drop passed bs) (omega (arith, e, f, short, length-drop passed bs)) ∙
+            sym (take_all chunk (drop passed bs) (omega (arith, short, length-drop passed bs)))
         | inr full ↦ ap (λ j. take j (drop passed bs)) (omega (arith, e, f, full))
       ]

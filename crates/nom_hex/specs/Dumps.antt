@@ -1,5 +1,6 @@
 -- Hex dumps: 9 is the tab, 10 the end of a line, 32 the space, 46 the point and 48 the digit 0.
-use Rattle.std.specs.Prelude.{ℕ, zero, suc, ◌+◌, ◌-◌, ◌*◌, ◌/◌, ◌%◌, ◌^◌, ◌<◌, nat_le, false, ◌||◌, List, [], ◌∷◌, ◌++◌, length, take, drop, map, replicate, flat_map, if◌then◌else◌}
+use Rattle.std.specs.Prelude.{ℕ, zero, suc, ◌+◌, ◌-◌, ◌*◌, ◌/◌, ◌%◌, ◌^◌, ◌<◌, nat_le, false, ◌||◌, List, [], ◌∷◌, ◌++◌, length, take, drop, map}
+use Rattle.std.specs.Prelude.{replicate, flat_map, if◌then◌else◌}
 use Rattle.std.specs.Int.{is_in_range}
 use Rattle.std.specs.Fmt.{digits, digit_glyph}
 

@@ -1,5 +1,6 @@
 //! The bytes of a dump, line by line.
-ghost use Rattle.std.specs.Prelude.{◌≡◌, ◌*◌, ◌-◌, ◌<◌, ◌≤◌, ◌∷◌, ◌++◌, [], false, length, map, replicate, flat_map, OnErr, OnOk, IfOk, string_bytes, encode_utf8_all};
+ghost use Rattle.std.specs.Prelude.{◌≡◌, ◌*◌, ◌-◌, ◌<◌, ◌≤◌, ◌∷◌, ◌++◌, [], false, length, map, replicate, flat_map, OnErr, OnOk, IfOk, string_bytes};
+ghost use Rattle.std.specs.Prelude.{encode_utf8_all};
 ghost use Rattle.std.specs.Fmt.{digit_glyph};
 ghost use Rattle.bstr.specs.Utf8.{lossy_chars};
 ghost use Rattle.nom_hex.specs.Dumps.{hex_byte, shown_byte, offset_digits, dump_line, hex_dump, OffsetsFit};

@@ -15,10 +15,12 @@ use Rattle.nom_multi.specs.ManyLaws.{many0_lawful}
 use Rattle.nom_hostile_tests.specs.Listed.{AreListed, IsNumber, kept, letters, numbered}
 
 letters_lawful : IsLawful seen_text letters
-letters_lawful = head_lawful seen_text IsScalar text_values (λ x. x) (λ x b. b ≡ (x == 97)) (told IsScalar (λ x. x == 97)) (Some (len_utf8 97)) (Unit {0}) kept (OfChar 97)
+letters_lawful = head_lawful seen_text IsScalar text_values (λ x. x) (λ x b. b ≡ (x == 97)) (told IsScalar (λ x. x == 97)) (Some (len_utf8 97))
+    (Unit {0}) kept (OfChar 97)
 
 pub numbered_lawful : (M : Type 0) → IsLawful seen_text (numbered M)
-numbered_lawful M = map_lawful seen_text (AreListed {M = M}) (λ _. Unit {0}) (many0_meaning seen_text kept letters) (many0_lawful seen_text text_lawful kept letters letters_lawful)
+numbered_lawful M = map_lawful seen_text (AreListed {M = M}) (λ _. Unit {0}) (many0_meaning seen_text kept letters)
+    (many0_lawful seen_text text_lawful kept letters letters_lawful)
 
 pub number_pinned : (M : Type 0) → IsPinned itself (IsNumber M)
 number_pinned M t a b p q =

@@ -34,10 +34,13 @@ module _ {I A : Type 0} {w : Seen I A} {i : I} {n : ℕ} {j : I} where
 
 -- what a part shows whose outputs aren't built, as the slice that it consumed
 module _ {I A V O E : Type 0} (w : Seen I A) (IsOutput : V → O → Type 0) (m : Meaning I V E) (mode : Modes) (i : I) where
-  pub recognized_err : (f : Answer.Err E (Option E) Needed) → ShowsMeaning w IsOutput m (with_outputs false mode) i (Err f) → ShowsMeaning w (IsSeenAs w) (recognized_meaning w m) mode i (Err f)
+  pub recognized_err : (f : Answer.Err E (Option E) Needed) → ShowsMeaning w IsOutput m (with_outputs false mode) i (Err f) →
+      ShowsMeaning w (IsSeenAs w) (recognized_meaning w m) mode i (Err f)
   recognized_err f h = plain_err w IsOutput (IsSeenAs w) (λ _. false) (λ i n u. IsSliced w i n) m mode i f h
 
-  pub recognized_ok : (j : I) (x : Option O) (b : Option I) → ShowsMeaning w IsOutput m (with_outputs false mode) i (Ok (j, x)) → ((n : ℕ) (t : Slice w) → IsRest w i n j → IsFirst w i n t → Built mode.outputs (IsSeenAs w t) b) → ShowsMeaning w (IsSeenAs w) (recognized_meaning w m) mode i (Ok (j, b))
+  pub recognized_ok : (j : I) (x : Option O) (b : Option I) → ShowsMeaning w IsOutput m (with_outputs false mode) i (Ok (j, x)) →
+      ((n : ℕ) (t : Slice w) → IsRest w i n j → IsFirst w i n t → Built mode.outputs (IsSeenAs w t) b) →
+      ShowsMeaning w (IsSeenAs w) (recognized_meaning w m) mode i (Ok (j, b))
   recognized_ok j x b h f =
       let a = accepts h in
       let t = slice_before a.rest_is in

@@ -30,7 +30,8 @@ built_error true P Q b f h = (h.0, h.1, f h.0 h.2)
 built_error false P Q b f h = h
 
 -- an acceptance that was shown, with what was built
-pub record Accepts {I A V O : Type 0} (w : Seen I A) (IsOutput : V → O → Type 0) (built : Bool) (i : I) (Answers : Outcome V → Type 0) (j : I) (x : Option O) : Type 0 where
+pub record Accepts {I A V O : Type 0} (w : Seen I A) (IsOutput : V → O → Type 0) (built : Bool) (i : I) (Answers : Outcome V → Type 0) (j : I)
+    (x : Option O) : Type 0 where
   pub length : ℕ
   pub tree : V
   pub answered : Answers (Accept length tree)
@@ -38,7 +39,8 @@ pub record Accepts {I A V O : Type 0} (w : Seen I A) (IsOutput : V → O → Typ
   pub built_is : Built built (IsOutput tree) x
 
 module _ {I A V O E : Type 0} (w : Seen I A) (IsOutput : V → O → Type 0) (mode : Modes) (i : I) (Answers : Outcome V → Type 0) (IsError : E → Type 0) where
-  some_accepts : (j : I) (x : Option O) (o : Outcome V) → Answers o → Shows w IsOutput mode i IsError o (Ok (j, x)) → Accepts w IsOutput mode.outputs i Answers j x
+  some_accepts : (j : I) (x : Option O) (o : Outcome V) → Answers o → Shows w IsOutput mode i IsError o (Ok (j, x)) →
+      Accepts w IsOutput mode.outputs i Answers j x
   some_accepts j x (Accept n v) a s =
       let same : ◌≡◌ {A = I × Option O} (j, x) (s.0, s.1) = cc (s.4) in
       record {
@@ -53,40 +55,59 @@ module _ {I A V O E : Type 0} (w : Seen I A) (IsOutput : V → O → Type 0) (mo
   some_accepts j x TooLarge a s = cc (s.2)
   some_accepts j x (Undecided k) a s = cc (s.2)
 
-pub accepts : {I A V O E : Type 0} {w : Seen I A} {IsOutput : V → O → Type 0} {mode : Modes} {i : I} {Answers : Outcome V → Type 0} {IsError : E → Type 0} {RunsOut : Type 0} {j : I} {x : Option O} → ShowsAnswer w IsOutput mode i Answers IsError RunsOut (Ok (j, x)) → Accepts w IsOutput mode.outputs i Answers j x
+pub accepts : {I A V O E : Type 0} {w : Seen I A} {IsOutput : V → O → Type 0} {mode : Modes} {i : I} {Answers : Outcome V → Type 0}
+    {IsError : E → Type 0} {RunsOut : Type 0} {j : I} {x : Option O} → ShowsAnswer w IsOutput mode i Answers IsError RunsOut (Ok (j, x)) →
+    Accepts w IsOutput mode.outputs i Answers j x
 accepts (RanOut e h) = cc
-accepts {w = w} {IsOutput = IsOutput} {mode = mode} {i = i} {Answers = Answers} {IsError = IsError} {j = j} {x = x} (Shown o a s) = some_accepts w IsOutput mode i Answers IsError j x o a s
+accepts {w = w} {IsOutput = IsOutput} {mode = mode} {i = i} {Answers = Answers} {IsError = IsError} {j = j} {x = x} (Shown o a s) =
+    some_accepts w IsOutput mode i Answers IsError j x o a s
 
-module _ {I A V O P E : Type 0} (w : Seen I A) (IsOutput : V → O → Type 0) (IsResult : V → P → Type 0) (built : Bool) (mode : Modes) (i : I) (IsError : E → Type 0) where
-  err_shown : (e : Answer.Err E (Option E) Needed) (o : Outcome V) → Shows w IsOutput (with_outputs built mode) i IsError o (Err e) → Shows w IsResult mode i IsError o (Err e)
+module _ {I A V O P E : Type 0} (w : Seen I A) (IsOutput : V → O → Type 0) (IsResult : V → P → Type 0) (built : Bool) (mode : Modes) (i : I)
+    (IsError : E → Type 0) where
+  err_shown : (e : Answer.Err E (Option E) Needed) (o : Outcome V) → Shows w IsOutput (with_outputs built mode) i IsError o (Err e) →
+      Shows w IsResult mode i IsError o (Err e)
   err_shown e (Accept n v) s = cc (s.4)
   err_shown e Refuse s = (s.0, s.1, cc (s.2))
   err_shown e Fail s = (s.0, s.1, cc (s.2))
   err_shown e TooLarge s = (s.0, s.1, cc (s.2))
   err_shown e (Undecided k) s = (s.0, s.1, cc (s.2))
 
-module _ {I A V O P E : Type 0} {w : Seen I A} {IsOutput : V → O → Type 0} {IsResult : V → P → Type 0} {built : Bool} {mode : Modes} {i : I} {Answers : Outcome V → Type 0} {IsError : E → Type 0} {RunsOut : Type 0} where
+module _ {I A V O P E : Type 0} {w : Seen I A} {IsOutput : V → O → Type 0} {IsResult : V → P → Type 0} {built : Bool} {mode : Modes} {i : I}
+    {Answers : Outcome V → Type 0} {IsError : E → Type 0} {RunsOut : Type 0} where
   -- no acceptance, and a `?` returns what was answered: whatever an acceptance would have built
-  pub output_err : {e : Answer.Err E (Option E) Needed} {r : Result (I × Option P) (Answer.Err E (Option E) Needed)} → ShowsAnswer w IsOutput (with_outputs built mode) i Answers IsError RunsOut (Err e) → IsErr r × IsErrAnd r (λ y. y ≡ e) → ShowsAnswer w IsResult mode i Answers IsError RunsOut r
+  pub output_err : {e : Answer.Err E (Option E) Needed} {r : Result (I × Option P) (Answer.Err E (Option E) Needed)} →
+      ShowsAnswer w IsOutput (with_outputs built mode) i Answers IsError RunsOut (Err e) → IsErr r × IsErrAnd r (λ y. y ≡ e) →
+      ShowsAnswer w IsResult mode i Answers IsError RunsOut r
   output_err (RanOut f h) q = let is = err_from_residual q in RanOut (cc (is, f)) h
-  output_err {e = e} (Shown o a s) q = Shown o a (subst (λ x. Shows w IsResult mode i IsError o x) (sym (err_from_residual q)) (err_shown w IsOutput IsResult built mode i IsError e o s))
+  output_err {e = e} (Shown o a s) q =
+      Shown o a (subst (λ x. Shows w IsResult mode i IsError o x) (sym (err_from_residual q)) (err_shown w IsOutput IsResult built mode i IsError e o s))
 
   -- an acceptance, with something else built of its tree
-  pub output_ok : {j : I} {x : Option O} {y : Option P} → ShowsAnswer w IsOutput (with_outputs built mode) i Answers IsError RunsOut (Ok (j, x)) → ((v : V) → Built built (IsOutput v) x → Built mode.outputs (IsResult v) y) → ShowsAnswer w IsResult mode i Answers IsError RunsOut (Ok (j, y))
+  pub output_ok : {j : I} {x : Option O} {y : Option P} → ShowsAnswer w IsOutput (with_outputs built mode) i Answers IsError RunsOut (Ok (j, x)) →
+      ((v : V) → Built built (IsOutput v) x → Built mode.outputs (IsResult v) y) → ShowsAnswer w IsResult mode i Answers IsError RunsOut (Ok (j, y))
   output_ok {j = j} {y = y} h k =
       let a = accepts h in
       Shown (Accept a.length a.tree) a.answered (j, y, a.rest_is, k a.tree a.built_is, refl)
 
 -- what two parts in sequence show
-abbrev pub ShowsThen : {I A P Q T Y E : Type 0} (w : Seen I A) (tree : P → Q → T) (First : I → Outcome P → Type 0) (FirstBlames : I → E → Type 0) (FirstRunsOut : I → Type 0) (Next : P → I → Outcome Q → Type 0) (NextBlames : P → I → E → Type 0) (NextRunsOut : P → I → Type 0) (IsResult : T → Y → Type 0) (mode : Modes) (i : I) → Result (I × Option Y) (Answer.Err E (Option E) Needed) → Type 0
-ShowsThen w tree First FirstBlames FirstRunsOut Next NextBlames NextRunsOut IsResult mode i r = ShowsAnswer w IsResult mode i (Then w tree First Next i) (ThenBlames w First FirstBlames Next NextBlames i) (ThenRunsOut w First FirstRunsOut NextRunsOut i) r
+abbrev pub ShowsThen : {I A P Q T Y E : Type 0} (w : Seen I A) (tree : P → Q → T) (First : I → Outcome P → Type 0) (FirstBlames : I → E → Type 0)
+    (FirstRunsOut : I → Type 0) (Next : P → I → Outcome Q → Type 0) (NextBlames : P → I → E → Type 0) (NextRunsOut : P → I → Type 0)
+    (IsResult : T → Y → Type 0) (mode : Modes) (i : I) → Result (I × Option Y) (Answer.Err E (Option E) Needed) → Type 0
+ShowsThen w tree First FirstBlames FirstRunsOut Next NextBlames NextRunsOut IsResult mode i r =
+    ShowsAnswer w IsResult mode i (Then w tree First Next i) (ThenBlames w First FirstBlames Next NextBlames i)
+    (ThenRunsOut w First FirstRunsOut NextRunsOut i) r
 
-module _ {I A P Q T Y E : Type 0} (w : Seen I A) (l : InputLaws w) (tree : P → Q → T) (First : I → Outcome P → Type 0) (FirstBlames : I → E → Type 0) (FirstRunsOut : I → Type 0) (Next : P → I → Outcome Q → Type 0) (NextBlames : P → I → E → Type 0) (NextRunsOut : P → I → Type 0) (IsResult : T → Y → Type 0) (mode : Modes) (i : I) where
+module _ {I A P Q T Y E : Type 0} (w : Seen I A) (l : InputLaws w) (tree : P → Q → T) (First : I → Outcome P → Type 0) (FirstBlames : I → E → Type 0)
+    (FirstRunsOut : I → Type 0) (Next : P → I → Outcome Q → Type 0) (NextBlames : P → I → E → Type 0) (NextRunsOut : P → I → Type 0)
+    (IsResult : T → Y → Type 0) (mode : Modes) (i : I) where
   module _ (j : I) (n : ℕ) (u : P) (a : First i (Accept n u)) (p : IsRest w i n j) where
     next_fact : (o : Outcome Q) → Next u j o → IsFault o → (e : E) → NextBlames u j e → ThenBlames w First FirstBlames Next NextBlames i e
-    next_fact o b f e h = BlamesNext (record { length = n; tree = u; rest = j; accepted = a; rest_is = p; fact = record { outcome = o; answered = b; kind_is = f; fact = h } })
+    next_fact o b f e h = BlamesNext
+        (record { length = n; tree = u; rest = j; accepted = a; rest_is = p; fact = record { outcome = o; answered = b; kind_is = f; fact = h } })
 
-    shows_after : (o : Outcome Q) (r : Result (I × Option Y) (Answer.Err E (Option E) Needed)) → Next u j o → Shows w (λ v. IsResult (tree u v)) mode j (NextBlames u j) o r → Shows w IsResult mode i (ThenBlames w First FirstBlames Next NextBlames i) (after n (tree u) o) r
+    shows_after : (o : Outcome Q) (r : Result (I × Option Y) (Answer.Err E (Option E) Needed)) → Next u j o →
+        Shows w (λ v. IsResult (tree u v)) mode j (NextBlames u j) o r → Shows w IsResult mode i (ThenBlames w First FirstBlames Next NextBlames i)
+        (after n (tree u) o) r
     shows_after (Accept m v) r b s = (s.0, s.1, rest_rest w l i n j m s.0 p s.2, s.3, s.4)
     shows_after Refuse r b s = (s.0, built_error mode.errors _ _ s.0 (next_fact Refuse b tt) s.1, s.2)
     shows_after Fail r b s = (s.0, next_fact Fail b tt s.0 s.1, s.2)
@@ -94,35 +115,53 @@ module _ {I A P Q T Y E : Type 0} (w : Seen I A) (l : InputLaws w) (tree : P →
     shows_after (Undecided k) r b s = s
 
     -- where a first part accepts, what follows answers for both
-    pub next_shown : (r : Result (I × Option Y) (Answer.Err E (Option E) Needed)) → ShowsAnswer w (λ v. IsResult (tree u v)) mode j (Next u j) (NextBlames u j) (NextRunsOut u j) r → ShowsThen w tree First FirstBlames FirstRunsOut Next NextBlames NextRunsOut IsResult mode i r
+    pub next_shown : (r : Result (I × Option Y) (Answer.Err E (Option E) Needed)) →
+        ShowsAnswer w (λ v. IsResult (tree u v)) mode j (Next u j) (NextBlames u j) (NextRunsOut u j) r →
+        ShowsThen w tree First FirstBlames FirstRunsOut Next NextBlames NextRunsOut IsResult mode i r
     next_shown r (RanOut f h) = RanOut f (RunsOutNext (record { length = n; tree = u; rest = j; accepted = a; rest_is = p; fact = h }))
     next_shown r (Shown o b s) = Shown (after n (tree u) o) (record { first = Accept n u; answered = a; goes_on = (j, o, p, b, refl) }) (shows_after o r b s)
 
-module _ {I A P Q T X Y E : Type 0} (w : Seen I A) (tree : P → Q → T) (First : I → Outcome P → Type 0) (FirstBlames : I → E → Type 0) (FirstRunsOut : I → Type 0) (Next : P → I → Outcome Q → Type 0) (NextBlames : P → I → E → Type 0) (NextRunsOut : P → I → Type 0) (IsFirst : P → X → Type 0) (IsResult : T → Y → Type 0) (built : Bool) (mode : Modes) (i : I) where
+module _ {I A P Q T X Y E : Type 0} (w : Seen I A) (tree : P → Q → T) (First : I → Outcome P → Type 0) (FirstBlames : I → E → Type 0)
+    (FirstRunsOut : I → Type 0) (Next : P → I → Outcome Q → Type 0) (NextBlames : P → I → E → Type 0) (NextRunsOut : P → I → Type 0)
+    (IsFirst : P → X → Type 0) (IsResult : T → Y → Type 0) (built : Bool) (mode : Modes) (i : I) where
   first_fact : (o : Outcome P) → First i o → IsFault o → (e : E) → FirstBlames i e → ThenBlames w First FirstBlames Next NextBlames i e
   first_fact o a f e h = BlamesFirst (record { outcome = o; answered = a; kind_is = f; fact = h })
 
-  first_err : (e : Answer.Err E (Option E) Needed) (o : Outcome P) → First i o → Shows w IsFirst (with_outputs built mode) i (FirstBlames i) o (Err e) → ShowsThen w tree First FirstBlames FirstRunsOut Next NextBlames NextRunsOut IsResult mode i (Err e)
+  first_err : (e : Answer.Err E (Option E) Needed) (o : Outcome P) → First i o → Shows w IsFirst (with_outputs built mode) i (FirstBlames i) o (Err e) →
+      ShowsThen w tree First FirstBlames FirstRunsOut Next NextBlames NextRunsOut IsResult mode i (Err e)
   first_err e (Accept n v) a s = cc (s.4)
-  first_err e Refuse a s = Shown Refuse (record { first = Refuse; answered = a; goes_on = refl }) (s.0, built_error mode.errors _ _ s.0 (first_fact Refuse a tt) s.1, cc (s.2))
+  first_err e Refuse a s = Shown Refuse (record { first = Refuse; answered = a; goes_on = refl })
+      (s.0, built_error mode.errors _ _ s.0 (first_fact Refuse a tt) s.1, cc (s.2))
   first_err e Fail a s = Shown Fail (record { first = Fail; answered = a; goes_on = refl }) (s.0, first_fact Fail a tt s.0 s.1, cc (s.2))
   first_err e TooLarge a s = Shown TooLarge (record { first = TooLarge; answered = a; goes_on = refl }) (s.0, first_fact TooLarge a tt s.0 s.1, cc (s.2))
   first_err e (Undecided k) a s = Shown (Undecided k) (record { first = Undecided k; answered = a; goes_on = refl }) (s.0, s.1, cc (s.2))
 
-module _ {I A P Q T X Y E : Type 0} {w : Seen I A} (l : InputLaws w) {tree : P → Q → T} {First : I → Outcome P → Type 0} {FirstBlames : I → E → Type 0} {FirstRunsOut : I → Type 0} {Next : P → I → Outcome Q → Type 0} {NextBlames : P → I → E → Type 0} {NextRunsOut : P → I → Type 0} {IsFirst : P → X → Type 0} {IsResult : T → Y → Type 0} {built : Bool} {mode : Modes} {i : I} where
+module _ {I A P Q T X Y E : Type 0} {w : Seen I A} (l : InputLaws w) {tree : P → Q → T} {First : I → Outcome P → Type 0} {FirstBlames : I → E → Type 0}
+    {FirstRunsOut : I → Type 0} {Next : P → I → Outcome Q → Type 0} {NextBlames : P → I → E → Type 0} {NextRunsOut : P → I → Type 0}
+    {IsFirst : P → X → Type 0} {IsResult : T → Y → Type 0} {built : Bool} {mode : Modes} {i : I} where
   -- a first part that does not accept, and a `?` returns what it answered
-  pub then_err : {e : Answer.Err E (Option E) Needed} {r : Result (I × Option Y) (Answer.Err E (Option E) Needed)} → ShowsAnswer w IsFirst (with_outputs built mode) i (First i) (FirstBlames i) (FirstRunsOut i) (Err e) → IsErr r × IsErrAnd r (λ y. y ≡ e) → ShowsThen w tree First FirstBlames FirstRunsOut Next NextBlames NextRunsOut IsResult mode i r
+  pub then_err : {e : Answer.Err E (Option E) Needed} {r : Result (I × Option Y) (Answer.Err E (Option E) Needed)} →
+      ShowsAnswer w IsFirst (with_outputs built mode) i (First i) (FirstBlames i) (FirstRunsOut i) (Err e) → IsErr r × IsErrAnd r (λ y. y ≡ e) →
+      ShowsThen w tree First FirstBlames FirstRunsOut Next NextBlames NextRunsOut IsResult mode i r
   then_err (RanOut f h) q = let is = err_from_residual q in RanOut (cc (is, f)) (RunsOutFirst h)
-  then_err {e = e} (Shown o a s) q = subst (ShowsThen w tree First FirstBlames FirstRunsOut Next NextBlames NextRunsOut IsResult mode i) (sym (err_from_residual q)) (first_err w tree First FirstBlames FirstRunsOut Next NextBlames NextRunsOut IsFirst IsResult built mode i e o a s)
+  then_err {e = e} (Shown o a s) q =
+      subst (ShowsThen w tree First FirstBlames FirstRunsOut Next NextBlames NextRunsOut IsResult mode i) (sym (err_from_residual q))
+      (first_err w tree First FirstBlames FirstRunsOut Next NextBlames NextRunsOut IsFirst IsResult built mode i e o a s)
 
   -- a first part accepts, and what follows answers for both
-  pub then_ok : {j : I} {x : Option X} {r : Result (I × Option Y) (Answer.Err E (Option E) Needed)} → ShowsAnswer w IsFirst (with_outputs built mode) i (First i) (FirstBlames i) (FirstRunsOut i) (Ok (j, x)) → ((u : P) → Built built (IsFirst u) x → ShowsAnswer w (λ v. IsResult (tree u v)) mode j (Next u j) (NextBlames u j) (NextRunsOut u j) r) → ShowsThen w tree First FirstBlames FirstRunsOut Next NextBlames NextRunsOut IsResult mode i r
+  pub then_ok : {j : I} {x : Option X} {r : Result (I × Option Y) (Answer.Err E (Option E) Needed)} →
+      ShowsAnswer w IsFirst (with_outputs built mode) i (First i) (FirstBlames i) (FirstRunsOut i) (Ok (j, x)) →
+      ((u : P) → Built built (IsFirst u) x → ShowsAnswer w (λ v. IsResult (tree u v)) mode j (Next u j) (NextBlames u j) (NextRunsOut u j) r) →
+      ShowsThen w tree First FirstBlames FirstRunsOut Next NextBlames NextRunsOut IsResult mode i r
   then_ok {j = j} {r = r} h k =
       let a = accepts h in
-      next_shown w l tree First FirstBlames FirstRunsOut Next NextBlames NextRunsOut IsResult mode i j a.length a.tree a.answered a.rest_is r (k a.tree a.built_is)
+      next_shown w l tree First FirstBlames FirstRunsOut Next NextBlames NextRunsOut IsResult mode i j a.length a.tree a.answered a.rest_is r
+      (k a.tree a.built_is)
 
 -- two outputs that are built alike
-pub both_built : {X Y : Type 0} (IsFirst : X → Type 0) (IsSecond : Y → Type 0) (built : Bool) (x : Option X) (y : Option Y) (z : Option (X × Y)) → Built built IsFirst x → Built built IsSecond y → ((a : X) (b : Y) → x ≡ Some a → y ≡ Some b → z ≡ Some (a, b)) → (x ≡ None → z ≡ None) → Built built (λ o. IsFirst o.0 × IsSecond o.1) z
+pub both_built : {X Y : Type 0} (IsFirst : X → Type 0) (IsSecond : Y → Type 0) (built : Bool) (x : Option X) (y : Option Y) (z : Option (X × Y)) →
+    Built built IsFirst x → Built built IsSecond y → ((a : X) (b : Y) → x ≡ Some a → y ≡ Some b → z ≡ Some (a, b)) → (x ≡ None → z ≡ None) →
+    Built built (λ o. IsFirst o.0 × IsSecond o.1) z
 both_built IsFirst IsSecond true x y z p q both none = ((p.0, q.0), both p.0 q.0 p.1 q.1, (p.2, q.2))
 both_built IsFirst IsSecond false x y z p q both none = none p
 
@@ -135,7 +174,8 @@ module _ {I A V O E : Type 0} (w : Seen I A) (IsOutput : V → O → Type 0) (st
   full_of TooLarge r s = subst (λ x. IsFull x) (sym s.2) tt
   full_of (Undecided k) r s = subst (λ x. IsFull x) (sym s.2) tt
 
-  parses_of : (o : Outcome V) (p : Result (I × Option O) (Answer.Err E (Option E) Needed)) (r : Result (I × O) (Answer.Err E E Needed)) → HoldsSame p r → Shows w IsOutput (modes true true streaming) i IsError o p → Parses w IsOutput i IsError o r
+  parses_of : (o : Outcome V) (p : Result (I × Option O) (Answer.Err E (Option E) Needed)) (r : Result (I × O) (Answer.Err E E Needed)) →
+      HoldsSame p r → Shows w IsOutput (modes true true streaming) i IsError o p → Parses w IsOutput i IsError o r
   parses_of (Accept n v) p r h s = (s.0, s.3.0, s.2, s.3.2, subst (λ x. HoldsSame x r) (s.4 ∙ ap (λ b. Ok (s.0, b)) s.3.1) h)
   parses_of Refuse p r h s = (s.1.0, s.1.2, subst (λ x. HoldsSame x r) (s.2 ∙ ap (λ b. Err (Error b)) s.1.1) h)
   parses_of Fail p r h s = (s.0, s.1, subst (λ x. HoldsSame x r) s.2 h)
@@ -143,16 +183,20 @@ module _ {I A V O E : Type 0} (w : Seen I A) (IsOutput : V → O → Type 0) (st
   parses_of (Undecided k) p r h s = (s.0, s.1, subst (λ x. HoldsSame x r) s.2 h)
 
 module _ {I A V O E : Type 0} {w : Seen I A} {IsOutput : V → O → Type 0} {streaming : Bool} {i : I} {Answers : Outcome V → Type 0} {IsError : E → Type 0} where
-  pub answer_full : {RunsOut : Type 0} {r : Result (I × Option O) (Answer.Err E (Option E) Needed)} → ShowsAnswer w IsOutput (modes true true streaming) i Answers IsError RunsOut r → IsFull r
+  pub answer_full : {RunsOut : Type 0} {r : Result (I × Option O) (Answer.Err E (Option E) Needed)} →
+      ShowsAnswer w IsOutput (modes true true streaming) i Answers IsError RunsOut r → IsFull r
   answer_full (RanOut e h) = subst (λ x. IsFull x) (sym e) tt
   answer_full {r = r} (Shown o a s) = full_of w IsOutput streaming i IsError o r s
 
-  pub parsed : {RunsOut : Type 0} {p : Result (I × Option O) (Answer.Err E (Option E) Needed)} {r : Result (I × O) (Answer.Err E E Needed)} → HoldsSame p r → ShowsAnswer w IsOutput (modes true true streaming) i Answers IsError RunsOut p → ParsesAnswer w IsOutput i Answers IsError RunsOut r
+  pub parsed : {RunsOut : Type 0} {p : Result (I × Option O) (Answer.Err E (Option E) Needed)} {r : Result (I × O) (Answer.Err E E Needed)} →
+      HoldsSame p r → ShowsAnswer w IsOutput (modes true true streaming) i Answers IsError RunsOut p → ParsesAnswer w IsOutput i Answers IsError RunsOut r
   parsed {r = r} h (RanOut e k) = ParseRanOut (subst (λ x. HoldsSame x r) e h) k
   parsed {p = p} {r = r} h (Shown o a s) = Parsed o a (parses_of w IsOutput streaming i IsError o p r h s)
 
 -- what a refusal at a leaf shows
-pub refused : {I A V O E : Type 0} {w : Seen I A} {IsOutput : V → O → Type 0} {mode : Modes} {i : I} {Answers : Outcome V → Type 0} {IsError : E → Type 0} {Grows : Type 0} {r : Answer.Err E (Option E) Needed} → Refuses IsError Grows mode.errors r → Answers Refuse → ShowsAnswer w IsOutput mode i Answers IsError (Answers Refuse × (mode.errors ≡ true) × Grows) (Err r)
+pub refused : {I A V O E : Type 0} {w : Seen I A} {IsOutput : V → O → Type 0} {mode : Modes} {i : I} {Answers : Outcome V → Type 0}
+    {IsError : E → Type 0} {Grows : Type 0} {r : Answer.Err E (Option E) Needed} → Refuses IsError Grows mode.errors r → Answers Refuse →
+    ShowsAnswer w IsOutput mode i Answers IsError (Answers Refuse × (mode.errors ≡ true) × Grows) (Err r)
 refused (inl h) a = RanOut (ap Err h.0) (a, h.1, h.2)
 refused (inr h) a = Shown Refuse a (h.0, h.1, ap Err h.2)
 
@@ -161,9 +205,12 @@ some_built true P v h p = (v, refl, p)
 some_built false P v h p = absurd (cc (h))
 
 -- what a leaf shows of an acceptance, and where more is needed
-module _ {I A V O E : Type 0} {w : Seen I A} {IsOutput : V → O → Type 0} {mode : Modes} {i : I} {Answers : Outcome V → Type 0} {IsError : E → Type 0} {RunsOut : Type 0} where
-  pub accepted : {n : ℕ} (v : V) {j : I} {x : Option O} → IsRest w i n j → Answers (Accept n v) → Built mode.outputs (IsOutput v) x → ShowsAnswer w IsOutput mode i Answers IsError RunsOut (Ok (j, x))
+module _ {I A V O E : Type 0} {w : Seen I A} {IsOutput : V → O → Type 0} {mode : Modes} {i : I} {Answers : Outcome V → Type 0} {IsError : E → Type 0}
+    {RunsOut : Type 0} where
+  pub accepted : {n : ℕ} (v : V) {j : I} {x : Option O} → IsRest w i n j → Answers (Accept n v) → Built mode.outputs (IsOutput v) x →
+      ShowsAnswer w IsOutput mode i Answers IsError RunsOut (Ok (j, x))
   accepted {n = n} v {j = j} {x = x} p a b = Shown (Accept n v) a (j, x, p, b, refl)
 
-  pub undecided : {k : Option ℕ} {n : Needed} → size_of n ≡ k → Answers (Undecided k) → ShowsAnswer w IsOutput mode i Answers IsError RunsOut (Err (Incomplete n))
+  pub undecided : {k : Option ℕ} {n : Needed} → size_of n ≡ k → Answers (Undecided k) →
+      ShowsAnswer w IsOutput mode i Answers IsError RunsOut (Err (Incomplete n))
   undecided {k = k} {n = n} e a = Shown (Undecided k) a (n, e, refl)

@@ -24,7 +24,8 @@ held_place w i Fail n t e = cc
 held_place w i TooLarge n t e = cc
 held_place w i (Undecided k) n t e = cc
 
-module _ {I A J B P Q E : Type 0} (w : Seen I A) (v : Seen J B) (IsOutput : P → J → Type 0) (same : AreAlike v IsOutput) (m : Meaning J Q E) (l : IsLawful v m) where
+module _ {I A J B P Q E : Type 0} (w : Seen I A) (v : Seen J B) (IsOutput : P → J → Type 0) (same : AreAlike v IsOutput) (m : Meaning J Q E)
+    (l : IsLawful v m) where
   bounded_laws : (u : P) → CaseLaws {I = I} {P = Q} {E = E} false w v (bounded_case (IsBound v IsOutput u))
   bounded_laws u = record {
     at_known = λ i j h b. b.known;
@@ -51,7 +52,8 @@ module _ {I A J B P Q E : Type 0} (w : Seen I A) (v : Seen J B) (IsOutput : P �
   -- whether or not the parser is steady itself: what it answers doesn't depend on the rest
   family_steady : (u : P) → IsSteady w ((bounded_family v IsOutput m).at u)
   family_steady u x y o p kx ky r a k b =
-      let e = l.one_outcome true a.at b.at a.outcome b.outcome a.at_is.known b.at_is.known (same u a.at b.at a.at_is.is_output b.at_is.is_output) a.answered tt b.answered in
+      let e = l.one_outcome true a.at b.at a.outcome b.outcome a.at_is.known b.at_is.known (same u a.at b.at a.at_is.is_output b.at_is.is_output)
+      a.answered tt b.answered in
       a.fact ∙ (ap (λ z. held z) e ∙ sym b.fact)
 
   module _ (i : InputLaws w) (a : Meaning I P E) where

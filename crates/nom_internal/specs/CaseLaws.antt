@@ -8,7 +8,8 @@ use Rattle.nom_internal.specs.Outcome.{Outcome, IsDecided, failure}
 use Rattle.nom_internal.specs.Outcome.Outcome.{Accept, Refuse, Fail, TooLarge, Undecided}
 use Rattle.nom_internal.specs.Meaning.{Meaning, IsLawful, IsSteady, Keeps, Agree, Carries, Within, SameBlame}
 use Rattle.nom_internal.specs.PartLaws.{keeps_mapped, failure_mapped, Transfers, transfers, transferred}
-use Rattle.nom_internal.specs.Cases.{PartMode, mode_of, SettlesIn, Case, OnPart, case_meaning, plain_case, labelled, labelled_meaning, fixed_case, fixed_meaning, Closed, OnRefused, closed_case, closed_meaning}
+use Rattle.nom_internal.specs.Cases.{PartMode, mode_of, SettlesIn, Case, OnPart, case_meaning, plain_case, labelled, labelled_meaning, fixed_case}
+use Rattle.nom_internal.specs.Cases.{fixed_meaning, Closed, OnRefused, closed_case, closed_meaning}
 use Rattle.nom_internal.specs.Cases.PartMode.{AsAsked, Always}
 use Rattle.nom_internal.specs.Cases.CaseRunsOut.{RunsOutInPart, RunsOutBeside}
 
@@ -26,11 +27,14 @@ pub record CaseLaws {I A J B P T E F : Type 0} (stays : Bool) (w : Seen I A) (v 
   -- where the whole is decided, so is a part that streams as the whole does
   pub keeps : Streams c.mode → (i : I) (a : Outcome P) (o : Outcome T) → c.Becomes i a o → IsDecided o → IsDecided a
   -- an outcome of the part becomes one outcome, on related inputs too
-  pub same : (longer : Bool) → (longer ≡ true → stays ≡ true) → (x y : I) (a : Outcome P) (o p : Outcome T) → w.IsKnown x → w.IsKnown y → Related w longer x y → c.Becomes x a o → Keeps longer o → c.Becomes y a p → o ≡ p
+  pub same : (longer : Bool) → (longer ≡ true → stays ≡ true) → (x y : I) (a : Outcome P) (o p : Outcome T) → w.IsKnown x → w.IsKnown y →
+      Related w longer x y → c.Becomes x a o → Keeps longer o → c.Becomes y a p → o ≡ p
   pub alike : (x y : I) (a : Outcome P) (o : Outcome T) → w.IsKnown x → w.IsKnown y → IsSame w x y → c.Becomes x a o → c.Becomes y a o
   -- what is accepted is a front, where what the part accepts is one
-  pub place : (i : I) (j : J) (a : Outcome P) (n : ℕ) (t : T) → w.IsKnown i → c.At i j → ((m : ℕ) (u : P) → a ≡ Accept m u → IsPlace v j m) → c.Becomes i a (Accept n t) → IsPlace w i n
-  pub never_fails : (Part : Bool → Type 0) (large : Bool) (i : I) (a : Outcome P) → c.NeverFails Part large → c.Becomes i a (failure large) → Part large × (a ≡ failure large)
+  pub place : (i : I) (j : J) (a : Outcome P) (n : ℕ) (t : T) → w.IsKnown i → c.At i j → ((m : ℕ) (u : P) → a ≡ Accept m u → IsPlace v j m) →
+      c.Becomes i a (Accept n t) → IsPlace w i n
+  pub never_fails : (Part : Bool → Type 0) (large : Bool) (i : I) (a : Outcome P) → c.NeverFails Part large → c.Becomes i a (failure large) →
+      Part large × (a ≡ failure large)
   -- the part's errors stand for themselves
   pub blames : (i : I) (a : Outcome P) (X Y : E → Type 0) (e : F) → ((f : E) → X f → Y f) → c.Blames i a X e → c.Blames i a Y e
   pub part_frugal : (Part : Modes → Type 0) (mode : Modes) → c.IsFrugal Part mode → Part (c.part mode)
@@ -41,32 +45,41 @@ module _ {I A J B P T E F : Type 0} {stays : Bool} (w : Seen I A) (v : Seen J B)
   keeps_part true only i a o b k = l.keeps (only refl) i a o b k
   keeps_part false only i a o b k = tt
 
-  pub case_agree : (longer : Bool) → (longer ≡ true → Streams c.mode) → (longer ≡ true → stays ≡ true) → (R S : J → Outcome P → Type 0) → Agree v longer R S → Agree w longer (λ i o. OnPart c.At R (λ _ a. c.Becomes i a o) i) (λ i o. OnPart c.At S (λ _ a. c.Becomes i a o) i)
+  pub case_agree : (longer : Bool) → (longer ≡ true → Streams c.mode) → (longer ≡ true → stays ≡ true) → (R S : J → Outcome P → Type 0) →
+      Agree v longer R S → Agree w longer (λ i o. OnPart c.At R (λ _ a. c.Becomes i a o) i) (λ i o. OnPart c.At S (λ _ a. c.Becomes i a o) i)
   case_agree longer only keeps R S f x y o p kx ky r s k t =
-      let e = f s.at t.at s.outcome t.outcome (l.at_known x s.at kx s.at_is) (l.at_known y t.at ky t.at_is) (l.at_related longer keeps x y s.at t.at r s.at_is t.at_is) s.answered (keeps_part longer only x s.outcome o s.fact k) t.answered in
+      let e = f s.at t.at s.outcome t.outcome (l.at_known x s.at kx s.at_is) (l.at_known y t.at ky t.at_is)
+      (l.at_related longer keeps x y s.at t.at r s.at_is t.at_is) s.answered (keeps_part longer only x s.outcome o s.fact k) t.answered in
       l.same longer keeps x y s.outcome o p kx ky r s.fact k (subst (λ z. c.Becomes y z p) (sym e) t.fact)
 
-  pub case_carries : (decided : Bool) → (decided ≡ true → Streams c.mode) → (R S : J → Outcome P → Type 0) → Carries v decided R S → Carries w decided (λ i o. OnPart c.At R (λ _ a. c.Becomes i a o) i) (λ i o. OnPart c.At S (λ _ a. c.Becomes i a o) i)
+  pub case_carries : (decided : Bool) → (decided ≡ true → Streams c.mode) → (R S : J → Outcome P → Type 0) → Carries v decided R S →
+      Carries w decided (λ i o. OnPart c.At R (λ _ a. c.Becomes i a o) i) (λ i o. OnPart c.At S (λ _ a. c.Becomes i a o) i)
   case_carries decided only R S f x y o kx ky r s k =
       let there = l.at_alike x y s.at r s.at_is in
       record {
         at = there.0;
         at_is = there.1;
         outcome = s.outcome;
-        answered = f s.at there.0 s.outcome (l.at_known x s.at kx s.at_is) (l.at_known y there.0 ky there.1) (l.at_related false (λ e. cc) x y s.at there.0 r s.at_is there.1) s.answered (keeps_part decided only x s.outcome o s.fact k);
+        answered = f s.at there.0 s.outcome (l.at_known x s.at kx s.at_is) (l.at_known y there.0 ky there.1)
+            (l.at_related false (λ e. cc) x y s.at there.0 r s.at_is there.1) s.answered (keeps_part decided only x s.outcome o s.fact k);
         fact = l.alike x y s.outcome o kx ky r s.fact;
       }
 
   case_within : (R : J → Outcome P → Type 0) → Within v R → Within w (λ i o. OnPart c.At R (λ _ a. c.Becomes i a o) i)
-  case_within R f i n t h s = l.place i s.at s.outcome n t h s.at_is (λ m u e. f s.at m u (l.at_known i s.at h s.at_is) (subst (λ z. R s.at z) e s.answered)) s.fact
+  case_within R f i n t h s = l.place i s.at s.outcome n t h s.at_is
+      (λ m u e. f s.at m u (l.at_known i s.at h s.at_is) (subst (λ z. R s.at z) e s.answered)) s.fact
 
   same_at : (i : I) (j k : J) → c.At i j → c.At i k → IsSame v j k
   same_at i j k p q = l.at_related false (λ e. cc) i i j k (same_self w i) p q
 
-  case_blames : Streams c.mode → (R S : J → Outcome P → Type 0) (X Y : J → E → Type 0) → Transfers v R S X Y → SameBlame w (λ i o. OnPart c.At R (λ _ a. c.Becomes i a o) i) (λ i o. OnPart c.At S (λ _ a. c.Becomes i a o) i) (λ i e. OnPart c.At R (λ j a. c.Blames i a (X j) e) i) (λ i e. OnPart c.At S (λ j a. c.Blames i a (Y j) e) i)
+  case_blames : Streams c.mode → (R S : J → Outcome P → Type 0) (X Y : J → E → Type 0) → Transfers v R S X Y →
+      SameBlame w (λ i o. OnPart c.At R (λ _ a. c.Becomes i a o) i) (λ i o. OnPart c.At S (λ _ a. c.Becomes i a o) i)
+      (λ i e. OnPart c.At R (λ j a. c.Blames i a (X j) e) i) (λ i e. OnPart c.At S (λ j a. c.Blames i a (Y j) e) i)
   case_blames only R S X Y f i o e h s t d b =
       let kb = l.at_known i b.at h b.at_is in
-      let moved = transferred v R S X Y f b.at s.at t.at b.outcome s.outcome t.outcome kb (l.at_known i s.at h s.at_is) (l.at_known i t.at h t.at_is) (same_at i b.at s.at b.at_is s.at_is) (same_at i t.at b.at t.at_is b.at_is) b.answered s.answered t.answered (l.keeps only i s.outcome o s.fact d) (l.keeps only i t.outcome o t.fact d) in
+      let moved = transferred v R S X Y f b.at s.at t.at b.outcome s.outcome t.outcome kb (l.at_known i s.at h s.at_is) (l.at_known i t.at h t.at_is)
+      (same_at i b.at s.at b.at_is s.at_is) (same_at i t.at b.at t.at_is b.at_is) b.answered s.answered t.answered
+      (l.keeps only i s.outcome o s.fact d) (l.keeps only i t.outcome o t.fact d) in
       record {
         at = b.at;
         at_is = b.at_is;
@@ -86,7 +99,8 @@ module _ {I A J B P T E F : Type 0} {stays : Bool} (w : Seen I A) (v : Seen J B)
         p.never_fails large n.0 (mode_of c.mode s) a.at (l.at_known i a.at h a.at_is) (subst (λ z. m.answers (mode_of c.mode s) a.at z) n.1 a.answered)
 
 -- how a whole settles, by the mode of its part
-module _ {I A J B P T E F : Type 0} {stays : Bool} (w : Seen I A) (v : Seen J B) (m : Meaning J P E) (p : IsLawful v m) (c : Case I J P T E F) (l : CaseLaws stays w v c) where
+module _ {I A J B P T E F : Type 0} {stays : Bool} (w : Seen I A) (v : Seen J B) (m : Meaning J P E) (p : IsLawful v m) (c : Case I J P T E F)
+    (l : CaseLaws stays w v c) where
   abbrev Answers : Bool → I → Outcome T → Type 0
   Answers s i o = OnPart c.At (m.answers s) (λ _ a. c.Becomes i a o) i
 
@@ -100,14 +114,17 @@ module _ {I A J B P T E F : Type 0} {stays : Bool} (w : Seen I A) (v : Seen J B)
   case_settles AsAsked e t = case_carries w v c l true (λ _. ap (λ z. mode_of z true) e) (m.answers true) (m.answers false) (p.settles t)
   case_settles (Always b) e t = decided_alike b
 
-  case_blames_alike : (mode : PartMode) → c.mode ≡ mode → SettlesIn mode m.Settles → (s : Bool) → SameBlame w (Answers (mode_of mode s)) (Answers (mode_of mode (not s))) (Errors (mode_of mode s)) (Errors (mode_of mode (not s)))
-  case_blames_alike AsAsked e t s = case_blames w v c l (ap (λ z. mode_of z true) e) (m.answers s) (m.answers (not s)) (m.blames s) (m.blames (not s)) (transfers v m p t s)
+  case_blames_alike : (mode : PartMode) → c.mode ≡ mode → SettlesIn mode m.Settles → (s : Bool) →
+      SameBlame w (Answers (mode_of mode s)) (Answers (mode_of mode (not s))) (Errors (mode_of mode s)) (Errors (mode_of mode (not s)))
+  case_blames_alike AsAsked e t s =
+      case_blames w v c l (ap (λ z. mode_of z true) e) (m.answers s) (m.answers (not s)) (m.blames s) (m.blames (not s)) (transfers v m p t s)
   case_blames_alike (Always b) e t s = λ i o f h a z d x. x
 
   pub case_lawful : IsLawful w (case_meaning c m)
   case_lawful = record {
     within = λ s. case_within w v c l (m.answers (mode_of c.mode s)) (p.within (mode_of c.mode s));
-    one_outcome = λ s. case_agree w v c l false (λ e. cc) (λ e. cc) (m.answers (mode_of c.mode s)) (m.answers (mode_of c.mode s)) (p.one_outcome (mode_of c.mode s));
+    one_outcome = λ s. case_agree w v c l false (λ e. cc) (λ e. cc) (m.answers (mode_of c.mode s)) (m.answers (mode_of c.mode s))
+        (p.one_outcome (mode_of c.mode s));
     alike = λ s. case_carries w v c l false (λ e. cc) (m.answers (mode_of c.mode s)) (m.answers (mode_of c.mode s)) (p.alike (mode_of c.mode s));
     frugal = case_frugal w v c l m p;
     settles = case_settles c.mode refl;
@@ -117,7 +134,8 @@ module _ {I A J B P T E F : Type 0} {stays : Bool} (w : Seen I A) (v : Seen J B)
 
 module _ {I A J B P T E F : Type 0} (w : Seen I A) (v : Seen J B) (m : Meaning J P E) (c : Case I J P T E F) (l : CaseLaws true w v c) where
   pub case_steady : Streams c.mode → IsSteady v m → IsSteady w (case_meaning c m)
-  case_steady only p = case_agree w v c l true (λ _. only) (λ _. refl) (m.answers (mode_of c.mode true)) (m.answers (mode_of c.mode true)) (subst (λ s. Agree v true (m.answers s) (m.answers s)) (sym only) p)
+  case_steady only p = case_agree w v c l true (λ _. only) (λ _. refl) (m.answers (mode_of c.mode true)) (m.answers (mode_of c.mode true))
+      (subst (λ s. Agree v true (m.answers s) (m.answers s)) (sym only) p)
 
 -- nothing is a front
 pub no_place : {I A : Type 0} (w : Seen I A) (i : I) → IsPlace w i 0
@@ -198,7 +216,8 @@ module _ {I A P : Type 0} (w : Seen I A) where
     asks_none = λ Part mode i a h g. g;
   }
 
-  closed_more : {E : Type 0} (Closes : E → E → Type 0) (a : Outcome P) (X Y : E → Type 0) (e : E) → ((f : E) → X f → Y f) → Closed Closes a X e → Closed Closes a Y e
+  closed_more : {E : Type 0} (Closes : E → E → Type 0) (a : Outcome P) (X Y : E → Type 0) (e : E) → ((f : E) → X f → Y f) → Closed Closes a X e →
+      Closed Closes a Y e
   closed_more Closes (Accept n v) X Y e f h = h
   closed_more Closes Refuse X Y e f h = (h.0, f h.0 h.1, h.2)
   closed_more Closes Fail X Y e f h = f e h

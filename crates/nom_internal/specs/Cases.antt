@@ -46,7 +46,8 @@ pub record OnPart {I J P : Type 0} (At : I → J → Type 0) (Part : J → Outco
   pub fact : Fact at outcome
 
 -- memory runs out in the part, at its input, or beside it
-pub data CaseRunsOut {I J P : Type 0} (At : I → J → Type 0) (Part : J → Outcome P → Type 0) (PartRunsOut : J → Type 0) (Asks : I → Outcome P → Type 0) (i : I) : Type 0 where
+pub data CaseRunsOut {I J P : Type 0} (At : I → J → Type 0) (Part : J → Outcome P → Type 0) (PartRunsOut : J → Type 0) (Asks : I → Outcome P → Type 0)
+    (i : I) : Type 0 where
   RunsOutInPart : (j : J) → At i j → PartRunsOut j → CaseRunsOut At Part PartRunsOut Asks i
   RunsOutBeside : OnPart At Part (λ _ a. Asks i a) i → CaseRunsOut At Part PartRunsOut Asks i
 

@@ -89,7 +89,8 @@ EitherOutput First Second (inl t) o = First t o
 EitherOutput First Second (inr t) o = Second t o
 
 -- what becomes of a result: of a refusal what is said of its error, and else itself
-abbrev pub OnError : {T E : Type 0} → (Option E → Result T (Answer.Err E (Option E) Needed) → Type 0) → Result T (Answer.Err E (Option E) Needed) → Result T (Answer.Err E (Option E) Needed) → Type 0
+abbrev pub OnError : {T E : Type 0} → (Option E → Result T (Answer.Err E (Option E) Needed) → Type 0) → Result T (Answer.Err E (Option E) Needed) →
+    Result T (Answer.Err E (Option E) Needed) → Type 0
 OnError Then (Ok x) r = r ≡ Ok x
 OnError Then (Err (Incomplete k)) r = r ≡ Err (Incomplete k)
 OnError Then (Err (Error x)) r = Then x r
@@ -108,13 +109,17 @@ ClosesError Closes Grows (Some a) f = Refuses (Closes a) Grows true f
 ClosesError Closes Grows None f = f ≡ Error None
 
 -- a result, where a refusal's error is joined to one before it
-abbrev pub JoinsResult : {T E : Type 0} → (E → E → E → Type 0) → Type 0 → Option E → Result T (Answer.Err E (Option E) Needed) → Result T (Answer.Err E (Option E) Needed) → Type 0
+abbrev pub JoinsResult : {T E : Type 0} → (E → E → E → Type 0) → Type 0 → Option E → Result T (Answer.Err E (Option E) Needed) →
+    Result T (Answer.Err E (Option E) Needed) → Type 0
 JoinsResult {E = E} Joins Grows x = OnError (λ y r. (f : Answer.Err E (Option E) Needed) × JoinsErrors Joins Grows x y f × (r ≡ Err f))
 
 -- a result, where a refusal's error is closed
-abbrev pub ClosesResult : {T E : Type 0} → (E → E → Type 0) → Type 0 → Result T (Answer.Err E (Option E) Needed) → Result T (Answer.Err E (Option E) Needed) → Type 0
+abbrev pub ClosesResult : {T E : Type 0} → (E → E → Type 0) → Type 0 → Result T (Answer.Err E (Option E) Needed) →
+    Result T (Answer.Err E (Option E) Needed) → Type 0
 ClosesResult {E = E} Closes Grows = OnError (λ x r. (f : Answer.Err E (Option E) Needed) × ClosesError Closes Grows x f × (r ≡ Err f))
 
 -- what a part shows after a refusal with an error, where errors are built
-abbrev pub ShowsNext : {I A V O E : Type 0} → Seen I A → (V → O → Type 0) → (E → E → E → Type 0) → Type 0 → Meaning I V E → Modes → I → Option E → Result (I × Option O) (Answer.Err E (Option E) Needed) → Type 0
-ShowsNext w IsOutput Joins Grows m mode i x r = Built mode.errors (λ _. Unit {0}) x → ShowsAnswer w IsOutput mode i (m.answers mode.streaming i) (NextBlames Joins m mode.streaming i (λ a. x ≡ Some a)) (NextRunsOut Grows m mode i) r
+abbrev pub ShowsNext : {I A V O E : Type 0} → Seen I A → (V → O → Type 0) → (E → E → E → Type 0) → Type 0 → Meaning I V E → Modes → I → Option E →
+    Result (I × Option O) (Answer.Err E (Option E) Needed) → Type 0
+ShowsNext w IsOutput Joins Grows m mode i x r = Built mode.errors (λ _. Unit {0}) x →
+    ShowsAnswer w IsOutput mode i (m.answers mode.streaming i) (NextBlames Joins m mode.streaming i (λ a. x ≡ Some a)) (NextRunsOut Grows m mode i) r

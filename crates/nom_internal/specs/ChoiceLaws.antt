@@ -10,7 +10,8 @@ use Rattle.nom_internal.specs.Meaning.{Meaning, IsLawful, IsSteady, Keeps, Agree
 use Rattle.nom_internal.specs.PartLaws.{one_at, transfers, transferred, blame_transferred}
 use Rattle.nom_internal.specs.Cases.{labelled_meaning}
 use Rattle.nom_internal.specs.CaseLaws.{labelled_lawful, labelled_steady}
-use Rattle.nom_internal.specs.Choice.{GoesOnRefused, OnRefusal, NextBlames, or_meaning, either_meaning, otherwise_meaning, NextRunsOut, OrBlames, OtherwiseBlames}
+use Rattle.nom_internal.specs.Choice.{GoesOnRefused, OnRefusal, NextBlames, or_meaning, either_meaning, otherwise_meaning, NextRunsOut, OrBlames}
+use Rattle.nom_internal.specs.Choice.{OtherwiseBlames}
 use Rattle.nom_internal.specs.Choice.NextBlames.{NextFails, NextRefuses}
 use Rattle.nom_internal.specs.Choice.OrBlames.{FirstFails, FirstRefuses}
 use Rattle.nom_internal.specs.Choice.OtherwiseBlames.{FirstFaults, NextFaults}
@@ -67,7 +68,8 @@ module _ {I A V : Type 0} (w : Seen I A) (F N : I → Outcome V → Type 0) wher
     | inr m ↦ g i n v h m
   ]
 
-  or_never : (large : Bool) → ((i : I) → w.IsKnown i → F i (failure large) → ⊥) → ((i : I) → w.IsKnown i → N i (failure large) → ⊥) → (i : I) → w.IsKnown i → OnRefusal F N i (failure large) → ⊥
+  or_never : (large : Bool) → ((i : I) → w.IsKnown i → F i (failure large) → ⊥) → ((i : I) → w.IsKnown i → N i (failure large) → ⊥) → (i : I) →
+      w.IsKnown i → OnRefusal F N i (failure large) → ⊥
   or_never large f g i h t = elim (goes_by (N i) t.first (failure large) t.goes_on) as (λ _. ⊥) [
     | inl e ↦ f i h (subst (λ o. F i o) e t.answered)
     | inr m ↦ g i h m
@@ -78,21 +80,34 @@ module _ {I A V E : Type 0} (w : Seen I A) (a b : Meaning I V E) (p : IsLawful w
   goes_on_refused : (s : Bool) (i : I) (o : Outcome V) → w.IsKnown i → OnRefusal (a.answers s) (b.answers s) i o → a.answers s i Refuse → b.answers s i o
   goes_on_refused s i o h c r = subst (λ z. GoesOnRefused (b.answers s i) z o) (one_at w a p s i c.first Refuse h c.answered r) c.goes_on
 
-  module _ (t : a.Settles × b.Settles) (s : Bool) (i : I) (o : Outcome V) (h : w.IsKnown i) (c : OnRefusal (a.answers s) (b.answers s) i o) (c' : OnRefusal (a.answers (not s)) (b.answers (not s)) i o) (d : IsDecided o) where
+  module _ (t : a.Settles × b.Settles) (s : Bool) (i : I) (o : Outcome V) (h : w.IsKnown i) (c : OnRefusal (a.answers s) (b.answers s) i o)
+      (c' : OnRefusal (a.answers (not s)) (b.answers (not s)) i o) (d : IsDecided o) where
     -- a refusal of the first part in one mode is one in the other
     refused_too : a.answers s i Refuse → a.answers (not s) i Refuse
-    refused_too r = (transferred w (a.answers s) (a.answers (not s)) (a.blames s) (a.blames (not s)) (transfers w a p t.0 s) i i i Refuse c.first c'.first h h h (same_self w i) (same_self w i) r c.answered c'.answered (keeps_refused (b.answers s i) true c.first o d c.goes_on) (keeps_refused (b.answers (not s) i) true c'.first o d c'.goes_on)).0
+    refused_too r = (transferred w (a.answers s) (a.answers (not s)) (a.blames s) (a.blames (not s))
+        (transfers w a p t.0 s) i i i Refuse c.first c'.first h h h (same_self w i)
+        (same_self w i) r c.answered c'.answered (keeps_refused (b.answers s i) true c.first o d c.goes_on)
+        (keeps_refused (b.answers (not s) i) true c'.first o d c'.goes_on)).0
 
     first_too : (e : E) → OnOutcome IsFailure (a.answers s) (a.blames s i e) i → OnOutcome IsFailure (a.answers (not s)) (a.blames (not s) i e) i
-    first_too e f = blame_transferred w (a.answers s) (a.answers (not s)) (a.blames s) (a.blames (not s)) (transfers w a p t.0 s) i i i c.first c'.first e h h h (same_self w i) (same_self w i) c.answered c'.answered (keeps_refused (b.answers s i) true c.first o d c.goes_on) (keeps_refused (b.answers (not s) i) true c'.first o d c'.goes_on) IsFailure f
+    first_too e f = blame_transferred w (a.answers s) (a.answers (not s)) (a.blames s) (a.blames (not s))
+        (transfers w a p t.0 s) i i i c.first c'.first e h h h (same_self w i)
+        (same_self w i) c.answered c'.answered (keeps_refused (b.answers s i) true c.first o d c.goes_on)
+        (keeps_refused (b.answers (not s) i) true c'.first o d c'.goes_on) IsFailure f
 
-    next_too : (IsKind : Outcome V → Type 0) (e : E) → a.answers s i Refuse → OnOutcome IsKind (b.answers s) (b.blames s i e) i → OnOutcome IsKind (b.answers (not s)) (b.blames (not s) i e) i
-    next_too IsKind e r f = blame_transferred w (b.answers s) (b.answers (not s)) (b.blames s) (b.blames (not s)) (transfers w b q t.1 s) i i i o o e h h h (same_self w i) (same_self w i) (goes_on_refused s i o h c r) (goes_on_refused (not s) i o h c' (refused_too r)) d d IsKind f
+    next_too : (IsKind : Outcome V → Type 0) (e : E) → a.answers s i Refuse → OnOutcome IsKind (b.answers s) (b.blames s i e) i →
+        OnOutcome IsKind (b.answers (not s)) (b.blames (not s) i e) i
+    next_too IsKind e r f = blame_transferred w (b.answers s) (b.answers (not s)) (b.blames s) (b.blames (not s))
+        (transfers w b q t.1 s) i i i o o e h h h (same_self w i) (same_self w i) (goes_on_refused s i o h c r)
+        (goes_on_refused (not s) i o h c' (refused_too r)) d d IsKind f
 
     next_refused_too : a.answers s i Refuse → b.answers s i Refuse → b.answers (not s) i Refuse
-    next_refused_too r f = (transferred w (b.answers s) (b.answers (not s)) (b.blames s) (b.blames (not s)) (transfers w b q t.1 s) i i i Refuse o o h h h (same_self w i) (same_self w i) f (goes_on_refused s i o h c r) (goes_on_refused (not s) i o h c' (refused_too r)) d d).0
+    next_refused_too r f = (transferred w (b.answers s) (b.answers (not s)) (b.blames s) (b.blames (not s))
+        (transfers w b q t.1 s) i i i Refuse o o h h h (same_self w i) (same_self w i) f (goes_on_refused s i o h c r)
+        (goes_on_refused (not s) i o h c' (refused_too r)) d d).0
 
-    next_blames_too : (Joins : E → E → E → Type 0) (e : E) → a.answers s i Refuse → NextBlames Joins b s i (a.blames s i) e → NextBlames Joins b (not s) i (a.blames (not s) i) e
+    next_blames_too : (Joins : E → E → E → Type 0) (e : E) → a.answers s i Refuse → NextBlames Joins b s i (a.blames s i) e →
+        NextBlames Joins b (not s) i (a.blames (not s) i) e
     next_blames_too Joins e r (NextFails f) = NextFails (next_too IsFailure e r f)
     next_blames_too Joins e r (NextRefuses f j) = NextRefuses (next_refused_too r f) (record {
       first = j.first;
@@ -114,7 +129,8 @@ module _ {I A V E : Type 0} (w : Seen I A) (a b : Meaning I V E) (p : IsLawful w
   next_frugal Grows mode i h f g (inl r) = q.frugal mode i h f r
   next_frugal Grows mode i h f g (inr r) = g r.1 r.2
 
-  or_frugal : (Joins : E → E → E → Type 0) (Grows : Type 0) (mode : Modes) (i : I) → w.IsKnown i → a.IsFrugal mode × b.IsFrugal mode × (mode.errors ≡ true → Grows → ⊥) → (or_meaning Joins Grows a b).runs_out mode i → ⊥
+  or_frugal : (Joins : E → E → E → Type 0) (Grows : Type 0) (mode : Modes) (i : I) → w.IsKnown i → a.IsFrugal mode × b.IsFrugal mode ×
+      (mode.errors ≡ true → Grows → ⊥) → (or_meaning Joins Grows a b).runs_out mode i → ⊥
   or_frugal Joins Grows mode i h f (inl r) = p.frugal mode i h f.0 r
   or_frugal Joins Grows mode i h f (inr r) = next_frugal Grows mode i h f.1 f.2 r.1
 

@@ -64,8 +64,10 @@ of_value IsValue f = record {
   NeverFails = f.NeverFails;
 }
 
-module _ {P V I A Q E : Type 0} (w : Seen I A) (IsValue : P → V → Type 0) (f : Family V I Q E) (one : IsOne IsValue) (l : IsLawfulFamily w (λ v. (u : P) × IsValue u v) f) where
-  same_blame : (u : P) → f.Settles → (s : Bool) → SameBlame w (((of_value IsValue f).at u).answers s) (((of_value IsValue f).at u).answers (not s)) (((of_value IsValue f).at u).blames s) (((of_value IsValue f).at u).blames (not s))
+module _ {P V I A Q E : Type 0} (w : Seen I A) (IsValue : P → V → Type 0) (f : Family V I Q E) (one : IsOne IsValue)
+    (l : IsLawfulFamily w (λ v. (u : P) × IsValue u v) f) where
+  same_blame : (u : P) → f.Settles → (s : Bool) → SameBlame w (((of_value IsValue f).at u).answers s) (((of_value IsValue f).at u).answers (not s))
+      (((of_value IsValue f).at u).blames s) (((of_value IsValue f).at u).blames (not s))
   same_blame u t s i o e h a b d z =
       let v = z.value in
       let key : (x : P) × IsValue x v = (u, z.is_value) in
@@ -78,10 +80,16 @@ module _ {P V I A Q E : Type 0} (w : Seen I A) (IsValue : P → V → Type 0) (f
     within = λ s i n v h a. (l.lawful a.value (u, a.is_value)).within s i n v h a.fact;
     one_outcome = λ s x y o p kx ky r a k b.
         let v = a.value in
-        (l.lawful v (u, a.is_value)).one_outcome s x y o p kx ky r a.fact k (subst (λ n. (f.at n).answers s y p) (one u b.value v b.is_value a.is_value) b.fact);
+        (l.lawful v (u, a.is_value)).one_outcome s x y o p kx ky r a.fact k
+        (subst (λ n. (f.at n).answers s y p) (one u b.value v b.is_value a.is_value) b.fact);
     alike = λ s x y o kx ky r a k. record { value = a.value; is_value = a.is_value; fact = (l.lawful a.value (u, a.is_value)).alike s x y o kx ky r a.fact k };
     frugal = λ mode i h g a. (l.lawful a.value (u, a.is_value)).frugal mode i h (l.frugal mode g a.value (u, a.is_value)) a.fact;
-    settles = λ t x y o kx ky r a k. record { value = a.value; is_value = a.is_value; fact = (l.lawful a.value (u, a.is_value)).settles (l.settles t a.value (u, a.is_value)) x y o kx ky r a.fact k };
+    settles = λ t x y o kx ky r a k. record {
+      value = a.value;
+      is_value = a.is_value;
+      fact =
+          (l.lawful a.value (u, a.is_value)).settles (l.settles t a.value (u, a.is_value)) x y o kx ky r a.fact k;
+    };
     blames_alike = same_blame u;
     never_fails = λ large g s i h a. (l.lawful a.value (u, a.is_value)).never_fails large (l.never_fails large g a.value (u, a.is_value)) s i h a.fact;
   }
@@ -96,4 +104,5 @@ module _ {P V I A Q E : Type 0} (w : Seen I A) (IsValue : P → V → Type 0) (f
 
 module _ {P V I A Q E : Type 0} (w : Seen I A) (IsValue : P → V → Type 0) (f : Family V I Q E) (one : IsOne IsValue) where
   pub of_value_steady : ((v : V) → ((u : P) × IsValue u v) → IsSteady w (f.at v)) → (u : P) → IsSteady w ((of_value IsValue f).at u)
-  of_value_steady l u x y o p kx ky r a k b = l a.value (u, a.is_value) x y o p kx ky r a.fact k (subst (λ n. (f.at n).answers true y p) (one u b.value a.value b.is_value a.is_value) b.fact)
+  of_value_steady l u x y o p kx ky r a k b =
+      l a.value (u, a.is_value) x y o p kx ky r a.fact k (subst (λ n. (f.at n).answers true y p) (one u b.value a.value b.is_value a.is_value) b.fact)

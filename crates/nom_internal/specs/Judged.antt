@@ -36,7 +36,8 @@ module _ {V R : Type 0} (Says : V → R → Type 0) (fits : R → Bool) where
 
 -- A part whose outputs are always built, since a closure judges them by what it gives for them. The error where that doesn't
 -- fit is made at the start, which may take memory where errors are built.
-abbrev pub judged_case : {I V P R E : Type 0} → (V → P → Type 0) → (P → Type 0) → (P → R → Type 0) → (R → Bool) → (I → R → E → Type 0) → Type 0 → Case I I V V E E
+abbrev pub judged_case : {I V P R E : Type 0} → (V → P → Type 0) → (P → Type 0) → (P → R → Type 0) → (R → Bool) → (I → R → E → Type 0) → Type 0 →
+    Case I I V V E E
 judged_case IsOutput Takes Gives fits Makes Grows = record {
   At = λ i j. i ≡ j;
   mode = AsAsked;
@@ -49,7 +50,8 @@ judged_case IsOutput Takes Gives fits Makes Grows = record {
   NeverFails = λ Part. Part;
 }
 
-abbrev pub judged_meaning : {I V P R E : Type 0} → (V → P → Type 0) → (P → Type 0) → (P → R → Type 0) → (R → Bool) → (I → R → E → Type 0) → Type 0 → Meaning I V E → Meaning I V E
+abbrev pub judged_meaning : {I V P R E : Type 0} → (V → P → Type 0) → (P → Type 0) → (P → R → Type 0) → (R → Bool) → (I → R → E → Type 0) → Type 0 →
+    Meaning I V E → Meaning I V E
 judged_meaning IsOutput Takes Gives fits Makes Grows = case_meaning (judged_case IsOutput Takes Gives fits Makes Grows)
 
 -- an error is made of the one that a result holds

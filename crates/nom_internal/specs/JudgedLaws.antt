@@ -30,7 +30,8 @@ module _ {V R : Type 0} (Says : V → R → Type 0) (fits : R → Bool) where
     never_fails = λ large i n u s. never_kept large (fits s.0) n u s.2;
   }
 
-  blames_more : {E : Type 0} (Makes : R → E → Type 0) (a : Outcome V) (X Y : E → Type 0) (e : E) → ((f : E) → X f → Y f) → JudgedBlames Says fits Makes a X e → JudgedBlames Says fits Makes a Y e
+  blames_more : {E : Type 0} (Makes : R → E → Type 0) (a : Outcome V) (X Y : E → Type 0) (e : E) → ((f : E) → X f → Y f) →
+      JudgedBlames Says fits Makes a X e → JudgedBlames Says fits Makes a Y e
   blames_more Makes (Accept n t) X Y e f h = h
   blames_more Makes Refuse X Y e f h = f e h
   blames_more Makes Fail X Y e f h = f e h
@@ -44,10 +45,12 @@ module _ {V R : Type 0} (Says : V → R → Type 0) (fits : R → Bool) where
   unfit_only Fact TooLarge f h = h
   unfit_only Fact (Undecided k) f h = h
 
-module _ {I A V P R E : Type 0} (w : Seen I A) (IsOutput : V → P → Type 0) (Takes : P → Type 0) (Gives : P → R → Type 0) (fits : R → Bool) (Makes : I → R → E → Type 0) (Grows : Type 0) where
+module _ {I A V P R E : Type 0} (w : Seen I A) (IsOutput : V → P → Type 0) (Takes : P → Type 0) (Gives : P → R → Type 0) (fits : R → Bool)
+    (Makes : I → R → E → Type 0) (Grows : Type 0) where
   judged_laws : IsJudge IsOutput Takes Gives fits → CaseLaws true w w (judged_case IsOutput Takes Gives fits Makes Grows)
   judged_laws j =
-      let one : (t : V) (r x : R) → GivesFor IsOutput Gives t r → GivesFor IsOutput Gives t x → fits r ≡ fits x = λ t r x g h. j.fixed t g.output h.output r x g.is_output h.is_output g.given h.given in
+      let one : (t : V) (r x : R) → GivesFor IsOutput Gives t r → GivesFor IsOutput Gives t x → fits r ≡ fits x =
+      λ t r x g h. j.fixed t g.output h.output r x g.is_output h.is_output g.given h.given in
       let l = plain_laws w (λ i. Judged (GivesFor IsOutput Gives) fits) (judged_accepts (GivesFor IsOutput Gives) fits w one) {E = E} (λ _. true) in
       record {
         at_known = l.at_known;

@@ -43,15 +43,18 @@ pub record LeafLaws {I A V : Type 0} (w : Seen I A) (leaf : Leaf I V) : Type 0 w
   pub accepted_lacks : (i : I) (n : ℕ) (v : V) (k : Option ℕ) → w.IsKnown i → leaf.Accepts true i n v → leaf.Lacks i k → ⊥
   pub refused_lacks : (i : I) (k : Option ℕ) → w.IsKnown i → leaf.Refuses true i → leaf.Lacks i k → ⊥
   -- an answer stays
-  pub accepted_stays : (longer s : Bool) → (longer ≡ true → s ≡ true) → (x y : I) (n : ℕ) (v : V) → w.IsKnown x → w.IsKnown y → Related w longer x y → leaf.Accepts s x n v → leaf.Accepts s y n v
-  pub refused_stays : (longer s : Bool) → (longer ≡ true → s ≡ true) → (x y : I) → w.IsKnown x → w.IsKnown y → Related w longer x y → leaf.Refuses s x → leaf.Refuses s y
+  pub accepted_stays : (longer s : Bool) → (longer ≡ true → s ≡ true) → (x y : I) (n : ℕ) (v : V) → w.IsKnown x → w.IsKnown y → Related w longer x y →
+      leaf.Accepts s x n v → leaf.Accepts s y n v
+  pub refused_stays : (longer s : Bool) → (longer ≡ true → s ≡ true) → (x y : I) → w.IsKnown x → w.IsKnown y → Related w longer x y → leaf.Refuses s x →
+      leaf.Refuses s y
   pub lack_alike : (x y : I) (k : Option ℕ) → w.IsKnown x → w.IsKnown y → IsSame w x y → leaf.Lacks x k → leaf.Lacks y k
   -- a streaming answer is the complete one
   pub accepted_settles : (i : I) (n : ℕ) (v : V) → w.IsKnown i → leaf.Accepts true i n v → leaf.Accepts false i n v
   pub refused_settles : (i : I) → w.IsKnown i → leaf.Refuses true i → leaf.Refuses false i
 
 module _ {I A V : Type 0} (w : Seen I A) (leaf : Leaf I V) (l : LeafLaws w leaf) where
-  answers_carry : (longer s : Bool) → (longer ≡ true → s ≡ true) → (x y : I) (o : Outcome V) → w.IsKnown x → w.IsKnown y → Related w longer x y → LeafAnswers leaf s x o → Keeps longer o → LeafAnswers leaf s y o
+  answers_carry : (longer s : Bool) → (longer ≡ true → s ≡ true) → (x y : I) (o : Outcome V) → w.IsKnown x → w.IsKnown y → Related w longer x y →
+      LeafAnswers leaf s x o → Keeps longer o → LeafAnswers leaf s y o
   answers_carry longer s only x y (Accept n v) kx ky r a d = l.accepted_stays longer s only x y n v kx ky r a
   answers_carry longer s only x y Refuse kx ky r a d = l.refused_stays longer s only x y kx ky r a
   answers_carry longer s only x y Fail kx ky r a d = absurd a

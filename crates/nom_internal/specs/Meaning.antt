@@ -68,7 +68,8 @@ module _ {I A V E : Type 0} (w : Seen I A) (m : Meaning I V E) where
   IsSteady = Agree w true (m.answers true) (m.answers true)
 
 -- what `process` returns of a parser that means m, at i: what is built of outputs and errors, and the mode
-abbrev pub ShowsMeaning : {I A V O E : Type 0} → Seen I A → (V → O → Type 0) → Meaning I V E → Modes → I → Result (I × Option O) (Answer.Err E (Option E) Needed) → Type 0
+abbrev pub ShowsMeaning : {I A V O E : Type 0} → Seen I A → (V → O → Type 0) → Meaning I V E → Modes → I →
+    Result (I × Option O) (Answer.Err E (Option E) Needed) → Type 0
 ShowsMeaning w IsOutput m mode i r = ShowsAnswer w IsOutput mode i (m.answers mode.streaming i) (m.blames mode.streaming i) (m.runs_out mode i) r
 
 -- what `parse` (true) and `parse_complete` (false) return of it

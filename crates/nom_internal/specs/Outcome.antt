@@ -70,7 +70,8 @@ module _ {I A V O E : Type 0} (w : Seen I A) (IsOutput : V → O → Type 0) (mo
   Shows IsError (Undecided k) r = (n : Needed) × (size_of n ≡ k) × (r ≡ Err (Incomplete n))
 
   -- memory ran out, where it may, or an outcome is shown
-  pub data ShowsAnswer (Answers : Outcome V → Type 0) (IsError : E → Type 0) (RunsOut : Type 0) (r : Result (I × Option O) (Answer.Err E (Option E) Needed)) : Type 0 where
+  pub data ShowsAnswer (Answers : Outcome V → Type 0) (IsError : E → Type 0) (RunsOut : Type 0)
+      (r : Result (I × Option O) (Answer.Err E (Option E) Needed)) : Type 0 where
     RanOut : r ≡ Err OutOfMemory → RunsOut → ShowsAnswer Answers IsError RunsOut r
     Shown : (o : Outcome V) → Answers o → Shows IsError o r → ShowsAnswer Answers IsError RunsOut r
 

@@ -41,7 +41,8 @@ module _ {I A V E : Type 0} (w : Seen I A) (m : Meaning I V E) (l : IsLawful w m
   pub one_at : (s : Bool) (i : I) (o p : Outcome V) → w.IsKnown i → m.answers s i o → m.answers s i p → o ≡ p
   one_at s i o p h a b = l.one_outcome s i i o p h h (same_self w i) a tt b
 
-  modes_meet : m.Settles → (s : Bool) (x y : I) (o p : Outcome V) → w.IsKnown x → w.IsKnown y → IsSame w x y → m.answers s x o → m.answers (not s) y p → IsDecided o → IsDecided p → o ≡ p
+  modes_meet : m.Settles → (s : Bool) (x y : I) (o p : Outcome V) → w.IsKnown x → w.IsKnown y → IsSame w x y → m.answers s x o → m.answers (not s) y p →
+      IsDecided o → IsDecided p → o ≡ p
   modes_meet t true x y o p kx ky r a b d e = l.one_outcome false y y o p ky ky (same_self w y) (l.settles t x y o kx ky r a d) tt b
   modes_meet t false x y o p kx ky r a b d e = l.one_outcome false x x o p kx kx (same_self w x) a tt (l.settles t y x p ky kx (same_sym w x y r) b e)
 
@@ -55,7 +56,8 @@ module _ {I A V E : Type 0} (w : Seen I A) (m : Meaning I V E) (l : IsLawful w m
 
 module _ {I A V E : Type 0} (w : Seen I A) (P Q : I → Outcome V → Type 0) (B C : I → E → Type 0) (t : Transfers w P Q B C) where
   -- the first mode's outcome at i, where both modes decide on inputs seen so, is the second's there
-  pub transferred : (i x y : I) (b a c : Outcome V) → w.IsKnown i → w.IsKnown x → w.IsKnown y → IsSame w i x → IsSame w y i → P i b → P x a → Q y c → IsDecided a → IsDecided c → Q i b × IsDecided b
+  pub transferred : (i x y : I) (b a c : Outcome V) → w.IsKnown i → w.IsKnown x → w.IsKnown y → IsSame w i x → IsSame w y i → P i b → P x a → Q y c →
+      IsDecided a → IsDecided c → Q i b × IsDecided b
   transferred i x y b a c ki kx ky r s p f q d e =
       let same : b ≡ a = t.one i x b a ki kx r p tt f in
       let decided : IsDecided b = subst (λ o. IsDecided o) (sym same) d in
@@ -64,7 +66,8 @@ module _ {I A V E : Type 0} (w : Seen I A) (P Q : I → Outcome V → Type 0) (B
       (subst (λ o. Q i o) (sym equal) moved, decided)
 
   -- a blame of the first mode at i, where both modes decide on inputs seen so, is the second's
-  pub blame_transferred : (i x y : I) (a c : Outcome V) (e : E) → w.IsKnown i → w.IsKnown x → w.IsKnown y → IsSame w i x → IsSame w y i → P x a → Q y c → IsDecided a → IsDecided c → (IsKind : Outcome V → Type 0) → OnOutcome IsKind P (B i e) i → OnOutcome IsKind Q (C i e) i
+  pub blame_transferred : (i x y : I) (a c : Outcome V) (e : E) → w.IsKnown i → w.IsKnown x → w.IsKnown y → IsSame w i x → IsSame w y i → P x a →
+      Q y c → IsDecided a → IsDecided c → (IsKind : Outcome V → Type 0) → OnOutcome IsKind P (B i e) i → OnOutcome IsKind Q (C i e) i
   blame_transferred i x y a c e ki kx ky r s f q d z IsKind b =
       let moved = transferred i x y b.outcome a c ki kx ky r s b.answered f q d z in
       record {

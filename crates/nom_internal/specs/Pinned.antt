@@ -18,12 +18,14 @@ pub slice_pinned : {I A : Type 0} (w : Seen I A) (view : View I) → ((x y : I) 
 slice_pinned w view views t a b p q = views a b (record { elements_are = p.elements_are ∙ sym q.elements_are; mark_is = p.mark_is ∙ sym q.mark_is })
 
 -- a pair, by its parts
-pub pair_pinned : {V W O P : Type 0} (a : View O) (b : View P) (F : V → O → Type 0) (G : W → P → Type 0) → IsPinned a F → IsPinned b G → IsPinned (pair_view a b) (λ (t : V × W) (o : O × P). F t.0 o.0 × G t.1 o.1)
+pub pair_pinned : {V W O P : Type 0} (a : View O) (b : View P) (F : V → O → Type 0) (G : W → P → Type 0) → IsPinned a F → IsPinned b G →
+    IsPinned (pair_view a b) (λ (t : V × W) (o : O × P). F t.0 o.0 × G t.1 o.1)
 pair_pinned a b F G f g t o p h k =
     let pair : a.Value → b.Value → a.Value × b.Value = λ x y. (x, y) in
     ap (λ x. pair x (b.value o.1)) (f t.0 o.0 p.0 h.0 k.0) ∙ ap (λ y. pair (a.value p.0) y) (g t.1 o.1 p.1 h.1 k.1)
 
 -- one of two, by the branch that the tree names
-pub either_pinned : {V W O : Type 0} (view : View O) (F : V → O → Type 0) (G : W → O → Type 0) → IsPinned view F → IsPinned view G → IsPinned view (EitherOutput F G)
+pub either_pinned : {V W O : Type 0} (view : View O) (F : V → O → Type 0) (G : W → O → Type 0) → IsPinned view F → IsPinned view G →
+    IsPinned view (EitherOutput F G)
 either_pinned view F G f g (inl t) a b p q = f t a b p q
 either_pinned view F G f g (inr t) a b p q = g t a b p q

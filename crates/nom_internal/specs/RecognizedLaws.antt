@@ -12,7 +12,8 @@ use Rattle.nom_internal.specs.Recognized.{IsSliced, recognized_meaning}
 
 -- what cases on an acceptance alone must keep
 pub record AcceptLaws {I A P T : Type 0} (w : Seen I A) (OnAccept : I → ℕ → P → Outcome T → Type 0) : Type 0 where
-  pub same : (longer : Bool) (x y : I) (n : ℕ) (u : P) (o p : Outcome T) → w.IsKnown x → w.IsKnown y → Related w longer x y → OnAccept x n u o → Keeps longer o → OnAccept y n u p → o ≡ p
+  pub same : (longer : Bool) (x y : I) (n : ℕ) (u : P) (o p : Outcome T) → w.IsKnown x → w.IsKnown y → Related w longer x y → OnAccept x n u o →
+      Keeps longer o → OnAccept y n u p → o ≡ p
   pub alike : (x y : I) (n : ℕ) (u : P) (o : Outcome T) → w.IsKnown x → w.IsKnown y → IsSame w x y → OnAccept x n u o → OnAccept y n u o
   pub place : (i : I) (m n : ℕ) (u : P) (t : T) → w.IsKnown i → IsPlace w i m → OnAccept i m u (Accept n t) → IsPlace w i n
   pub never_fails : (large : Bool) (i : I) (n : ℕ) (u : P) → OnAccept i n u (failure large) → ⊥
@@ -25,7 +26,8 @@ module _ {I A P T : Type 0} (w : Seen I A) (OnAccept : I → ℕ → P → Outco
   passes_keeps i TooLarge o e k = subst (λ z. IsDecided z) e k
   passes_keeps i (Undecided d) o e k = subst (λ z. IsDecided z) e k
 
-  passes_same : (longer : Bool) (x y : I) (a : Outcome P) (o p : Outcome T) → w.IsKnown x → w.IsKnown y → Related w longer x y → Passes (OnAccept x) a o → Keeps longer o → Passes (OnAccept y) a p → o ≡ p
+  passes_same : (longer : Bool) (x y : I) (a : Outcome P) (o p : Outcome T) → w.IsKnown x → w.IsKnown y → Related w longer x y →
+      Passes (OnAccept x) a o → Keeps longer o → Passes (OnAccept y) a p → o ≡ p
   passes_same longer x y (Accept n u) o p kx ky r s k t = l.same longer x y n u o p kx ky r s k t
   passes_same longer x y Refuse o p kx ky r s k t = s ∙ sym t
   passes_same longer x y Fail o p kx ky r s k t = s ∙ sym t
@@ -39,7 +41,8 @@ module _ {I A P T : Type 0} (w : Seen I A) (OnAccept : I → ℕ → P → Outco
   passes_alike x y TooLarge o kx ky r s = s
   passes_alike x y (Undecided d) o kx ky r s = s
 
-  passes_place : (i j : I) (a : Outcome P) (n : ℕ) (t : T) → w.IsKnown i → i ≡ j → ((m : ℕ) (u : P) → a ≡ Accept m u → IsPlace w j m) → Passes (OnAccept i) a (Accept n t) → IsPlace w i n
+  passes_place : (i j : I) (a : Outcome P) (n : ℕ) (t : T) → w.IsKnown i → i ≡ j → ((m : ℕ) (u : P) → a ≡ Accept m u → IsPlace w j m) →
+      Passes (OnAccept i) a (Accept n t) → IsPlace w i n
   passes_place i j (Accept m u) n t h e place s = l.place i m n u t h (here_place w i j m e (place m u refl)) s
   passes_place i j Refuse n t h e place s = absurd (cc (s))
   passes_place i j Fail n t h e place s = absurd (cc (s))
@@ -97,7 +100,9 @@ module _ {I A V : Type 0} (w : Seen I A) (l : InputLaws w) where
 
 module _ {I A V E : Type 0} (w : Seen I A) (l : InputLaws w) (m : Meaning I V E) where
   pub recognized_lawful : IsLawful w m → IsLawful w (recognized_meaning w m)
-  recognized_lawful p = case_lawful w w m p (plain_case (λ _. false) (λ i. Passes (λ n (u : V) o. IsSliced w i n o))) (plain_laws w (λ i n (u : V). IsSliced w i n) (sliced_laws w l) (λ _. false))
+  recognized_lawful p = case_lawful w w m p (plain_case (λ _. false) (λ i. Passes (λ n (u : V) o. IsSliced w i n o)))
+      (plain_laws w (λ i n (u : V). IsSliced w i n) (sliced_laws w l) (λ _. false))
 
   pub recognized_steady : IsSteady w m → IsSteady w (recognized_meaning w m)
-  recognized_steady p = case_steady w w m (plain_case (λ _. false) (λ i. Passes (λ n (u : V) o. IsSliced w i n o))) (plain_laws w (λ i n (u : V). IsSliced w i n) (sliced_laws w l) (λ _. false)) refl p
+  recognized_steady p = case_steady w w m (plain_case (λ _. false) (λ i. Passes (λ n (u : V) o. IsSliced w i n o)))
+      (plain_laws w (λ i n (u : V). IsSliced w i n) (sliced_laws w l) (λ _. false)) refl p

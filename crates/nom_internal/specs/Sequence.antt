@@ -36,7 +36,8 @@ module _ {I A P : Type 0} (w : Seen I A) where
     pub rest_is : IsRest w i length rest
     pub fact : Fact tree rest
 
-module _ {I A P Q E : Type 0} (w : Seen I A) (First : I → Outcome P → Type 0) (FirstBlames : I → E → Type 0) (Next : P → I → Outcome Q → Type 0) (NextBlames : P → I → E → Type 0) where
+module _ {I A P Q E : Type 0} (w : Seen I A) (First : I → Outcome P → Type 0) (FirstBlames : I → E → Type 0) (Next : P → I → Outcome Q → Type 0)
+    (NextBlames : P → I → E → Type 0) where
   -- the error that a first part holds, or what follows it
   pub data ThenBlames (i : I) (e : E) : Type 0 where
     BlamesFirst : OnOutcome IsFault First (FirstBlames i e) i → ThenBlames i e
@@ -61,7 +62,8 @@ then_meaning w tree first_mode next_mode a f = record {
 }
 
 -- two parts in sequence: whatever the first's tree, the second follows
-abbrev pub sequence_meaning : {I A P Q T E : Type 0} → Seen I A → (P → Q → T) → (Modes → Modes) → (Modes → Modes) → Meaning I P E → Meaning I Q E → Meaning I T E
+abbrev pub sequence_meaning : {I A P Q T E : Type 0} → Seen I A → (P → Q → T) → (Modes → Modes) → (Modes → Modes) → Meaning I P E → Meaning I Q E →
+    Meaning I T E
 sequence_meaning w tree first_mode second_mode a b = then_meaning w tree first_mode second_mode a (always b)
 
 -- two parts in sequence, with the pair of their trees

@@ -6,7 +6,8 @@ use Rattle.nom_traits.specs.View.{View, single_view, view_3, view_4, view_5, vie
 use Rattle.nom_internal.specs.Meaning.{Meaning, IsLawful, IsSteady}
 use Rattle.nom_internal.specs.SequenceLaws.{sequence_lawful, sequence_steady}
 use Rattle.nom_internal.specs.Pinned.{IsPinned}
-use Rattle.nom_internal.specs.Tuples.{built_meaning, add_3, add_4, add_5, add_6, add_7, add_8, tuple_2, tuple_3, tuple_4, tuple_5, tuple_6, tuple_7, tuple_8, Outputs_3, Outputs_4, Outputs_5, Outputs_6, Outputs_7, Outputs_8}
+use Rattle.nom_internal.specs.Tuples.{built_meaning, add_3, add_4, add_5, add_6, add_7, add_8, tuple_2, tuple_3, tuple_4, tuple_5, tuple_6, tuple_7}
+use Rattle.nom_internal.specs.Tuples.{tuple_8, Outputs_3, Outputs_4, Outputs_5, Outputs_6, Outputs_7, Outputs_8}
 
 -- what is built changes no outcome
 module _ {I A V E : Type 0} {w : Seen I A} {m : Meaning I V E} where
@@ -59,17 +60,21 @@ module _ {I Z X P : Type 0} (w : Seen I Z) (l : InputLaws w) (a : Meaning I P X)
             steady_6 p q r s u v = sequence_steady w l add_6 (λ o. o) (λ o. o) (tuple_5 w a b c d e) f (steady_5 p q r s u) v
 
             module _ {V : Type 0} (g : Meaning I V X) where
-              pub lawful_7 : IsLawful w a → IsLawful w b → IsLawful w c → IsLawful w d → IsLawful w e → IsLawful w f → IsLawful w g → IsLawful w (tuple_7 w a b c d e f g)
+              pub lawful_7 : IsLawful w a → IsLawful w b → IsLawful w c → IsLawful w d → IsLawful w e → IsLawful w f → IsLawful w g →
+                  IsLawful w (tuple_7 w a b c d e f g)
               lawful_7 p q r s u v y = sequence_lawful w l add_7 (λ o. o) (λ o. o) (tuple_6 w a b c d e f) g (lawful_6 p q r s u v) y
 
-              pub steady_7 : IsSteady w a → IsSteady w b → IsSteady w c → IsSteady w d → IsSteady w e → IsSteady w f → IsSteady w g → IsSteady w (tuple_7 w a b c d e f g)
+              pub steady_7 : IsSteady w a → IsSteady w b → IsSteady w c → IsSteady w d → IsSteady w e → IsSteady w f → IsSteady w g →
+                  IsSteady w (tuple_7 w a b c d e f g)
               steady_7 p q r s u v y = sequence_steady w l add_7 (λ o. o) (λ o. o) (tuple_6 w a b c d e f) g (steady_6 p q r s u v) y
 
               module _ {W : Type 0} (h : Meaning I W X) where
-                pub lawful_8 : IsLawful w a → IsLawful w b → IsLawful w c → IsLawful w d → IsLawful w e → IsLawful w f → IsLawful w g → IsLawful w h → IsLawful w (tuple_8 w a b c d e f g h)
+                pub lawful_8 : IsLawful w a → IsLawful w b → IsLawful w c → IsLawful w d → IsLawful w e → IsLawful w f → IsLawful w g → IsLawful w h →
+                    IsLawful w (tuple_8 w a b c d e f g h)
                 lawful_8 p q r s u v y z = sequence_lawful w l add_8 (λ o. o) (λ o. o) (tuple_7 w a b c d e f g) h (lawful_7 p q r s u v y) z
 
-                pub steady_8 : IsSteady w a → IsSteady w b → IsSteady w c → IsSteady w d → IsSteady w e → IsSteady w f → IsSteady w g → IsSteady w h → IsSteady w (tuple_8 w a b c d e f g h)
+                pub steady_8 : IsSteady w a → IsSteady w b → IsSteady w c → IsSteady w d → IsSteady w e → IsSteady w f → IsSteady w g → IsSteady w h →
+                    IsSteady w (tuple_8 w a b c d e f g h)
                 steady_8 p q r s u v y z = sequence_steady w l add_8 (λ o. o) (λ o. o) (tuple_7 w a b c d e f g) h (steady_7 p q r s u v y) z
 
 -- two outputs of one tuple of trees are seen alike, member by member
@@ -87,17 +92,41 @@ module _ {P A : Type 0} (a : View A) (IsA : P → A → Type 0) where
         pinned_4 p q r s t o n i k = cc (p t.0 o.0 n.0 i.0 k.0, q t.1 o.1 n.1 i.1 k.1, r t.2 o.2 n.2 i.2 k.2, s t.3 o.3 n.3 i.3 k.3)
 
         module _ {T E : Type 0} (e : View E) (IsE : T → E → Type 0) where
-          pub pinned_5 : IsPinned a IsA → IsPinned b IsB → IsPinned c IsC → IsPinned d IsD → IsPinned e IsE → IsPinned (view_5 a b c d e) (Outputs_5 IsA IsB IsC IsD IsE)
+          pub pinned_5 : IsPinned a IsA → IsPinned b IsB → IsPinned c IsC → IsPinned d IsD → IsPinned e IsE →
+              IsPinned (view_5 a b c d e) (Outputs_5 IsA IsB IsC IsD IsE)
           pinned_5 p q r s u t o n i k = cc (p t.0 o.0 n.0 i.0 k.0, q t.1 o.1 n.1 i.1 k.1, r t.2 o.2 n.2 i.2 k.2, s t.3 o.3 n.3 i.3 k.3, u t.4 o.4 n.4 i.4 k.4)
 
           module _ {U F : Type 0} (f : View F) (IsF : U → F → Type 0) where
-            pub pinned_6 : IsPinned a IsA → IsPinned b IsB → IsPinned c IsC → IsPinned d IsD → IsPinned e IsE → IsPinned f IsF → IsPinned (view_6 a b c d e f) (Outputs_6 IsA IsB IsC IsD IsE IsF)
-            pinned_6 p q r s u v t o n i k = cc (p t.0 o.0 n.0 i.0 k.0, q t.1 o.1 n.1 i.1 k.1, r t.2 o.2 n.2 i.2 k.2, s t.3 o.3 n.3 i.3 k.3, u t.4 o.4 n.4 i.4 k.4, v t.5 o.5 n.5 i.5 k.5)
+            pub pinned_6 : IsPinned a IsA → IsPinned b IsB → IsPinned c IsC → IsPinned d IsD → IsPinned e IsE → IsPinned f IsF →
+                IsPinned (view_6 a b c d e f) (Outputs_6 IsA IsB IsC IsD IsE IsF)
+            pinned_6 p q r s u v t o n i k =
+                cc (p t.0 o.0 n.0 i.0 k.0, q t.1 o.1 n.1 i.1 k.1, r t.2 o.2 n.2 i.2 k.2, s t.3 o.3 n.3 i.3 k.3, u t.4 o.4 n.4 i.4 k.4, v t.5 o.5 n.5 i.5 k.5)
 
             module _ {V G : Type 0} (g : View G) (IsG : V → G → Type 0) where
-              pub pinned_7 : IsPinned a IsA → IsPinned b IsB → IsPinned c IsC → IsPinned d IsD → IsPinned e IsE → IsPinned f IsF → IsPinned g IsG → IsPinned (view_7 a b c d e f g) (Outputs_7 IsA IsB IsC IsD IsE IsF IsG)
-              pinned_7 p q r s u v y t o n i k = cc (p t.0 o.0 n.0 i.0 k.0, q t.1 o.1 n.1 i.1 k.1, r t.2 o.2 n.2 i.2 k.2, s t.3 o.3 n.3 i.3 k.3, u t.4 o.4 n.4 i.4 k.4, v t.5 o.5 n.5 i.5 k.5, y t.6 o.6 n.6 i.6 k.6)
+              pub pinned_7 : IsPinned a IsA → IsPinned b IsB → IsPinned c IsC → IsPinned d IsD → IsPinned e IsE → IsPinned f IsF → IsPinned g IsG →
+                  IsPinned (view_7 a b c d e f g) (Outputs_7 IsA IsB IsC IsD IsE IsF IsG)
+              pinned_7 p q r s u v y t o n i k =
+                  cc (
+                    p t.0 o.0 n.0 i.0 k.0,
+                    q t.1 o.1 n.1 i.1 k.1,
+                    r t.2 o.2 n.2 i.2 k.2,
+                    s t.3 o.3 n.3 i.3 k.3,
+                    u t.4 o.4 n.4 i.4 k.4,
+                    v t.5 o.5 n.5 i.5 k.5,
+                    y t.6 o.6 n.6 i.6 k.6,
+                  )
 
               module _ {W H : Type 0} (h : View H) (IsH : W → H → Type 0) where
-                pub pinned_8 : IsPinned a IsA → IsPinned b IsB → IsPinned c IsC → IsPinned d IsD → IsPinned e IsE → IsPinned f IsF → IsPinned g IsG → IsPinned h IsH → IsPinned (view_8 a b c d e f g h) (Outputs_8 IsA IsB IsC IsD IsE IsF IsG IsH)
-                pinned_8 p q r s u v y z t o n i k = cc (p t.0 o.0 n.0 i.0 k.0, q t.1 o.1 n.1 i.1 k.1, r t.2 o.2 n.2 i.2 k.2, s t.3 o.3 n.3 i.3 k.3, u t.4 o.4 n.4 i.4 k.4, v t.5 o.5 n.5 i.5 k.5, y t.6 o.6 n.6 i.6 k.6, z t.7 o.7 n.7 i.7 k.7)
+                pub pinned_8 : IsPinned a IsA → IsPinned b IsB → IsPinned c IsC → IsPinned d IsD → IsPinned e IsE → IsPinned f IsF → IsPinned g IsG →
+                    IsPinned h IsH → IsPinned (view_8 a b c d e f g h) (Outputs_8 IsA IsB IsC IsD IsE IsF IsG IsH)
+                pinned_8 p q r s u v y z t o n i k =
+                    cc (
+                      p t.0 o.0 n.0 i.0 k.0,
+                      q t.1 o.1 n.1 i.1 k.1,
+                      r t.2 o.2 n.2 i.2 k.2,
+                      s t.3 o.3 n.3 i.3 k.3,
+                      u t.4 o.4 n.4 i.4 k.4,
+                      v t.5 o.5 n.5 i.5 k.5,
+                      y t.6 o.6 n.6 i.6 k.6,
+                      z t.7 o.7 n.7 i.7 k.7,
+                    )

@@ -43,16 +43,20 @@ tuple_3 w a b c = sequence_meaning w add_3 (λ o. o) (λ o. o) (tuple_2 w a b) c
 abbrev pub tuple_4 : {I Z P Q R S X : Type 0} → Seen I Z → Meaning I P X → Meaning I Q X → Meaning I R X → Meaning I S X → Meaning I (P × Q × R × S) X
 tuple_4 w a b c d = sequence_meaning w add_4 (λ o. o) (λ o. o) (tuple_3 w a b c) d
 
-abbrev pub tuple_5 : {I Z P Q R S T X : Type 0} → Seen I Z → Meaning I P X → Meaning I Q X → Meaning I R X → Meaning I S X → Meaning I T X → Meaning I (P × Q × R × S × T) X
+abbrev pub tuple_5 : {I Z P Q R S T X : Type 0} → Seen I Z → Meaning I P X → Meaning I Q X → Meaning I R X → Meaning I S X → Meaning I T X →
+    Meaning I (P × Q × R × S × T) X
 tuple_5 w a b c d e = sequence_meaning w add_5 (λ o. o) (λ o. o) (tuple_4 w a b c d) e
 
-abbrev pub tuple_6 : {I Z P Q R S T U X : Type 0} → Seen I Z → Meaning I P X → Meaning I Q X → Meaning I R X → Meaning I S X → Meaning I T X → Meaning I U X → Meaning I (P × Q × R × S × T × U) X
+abbrev pub tuple_6 : {I Z P Q R S T U X : Type 0} → Seen I Z → Meaning I P X → Meaning I Q X → Meaning I R X → Meaning I S X → Meaning I T X →
+    Meaning I U X → Meaning I (P × Q × R × S × T × U) X
 tuple_6 w a b c d e f = sequence_meaning w add_6 (λ o. o) (λ o. o) (tuple_5 w a b c d e) f
 
-abbrev pub tuple_7 : {I Z P Q R S T U V X : Type 0} → Seen I Z → Meaning I P X → Meaning I Q X → Meaning I R X → Meaning I S X → Meaning I T X → Meaning I U X → Meaning I V X → Meaning I (P × Q × R × S × T × U × V) X
+abbrev pub tuple_7 : {I Z P Q R S T U V X : Type 0} → Seen I Z → Meaning I P X → Meaning I Q X → Meaning I R X → Meaning I S X → Meaning I T X →
+    Meaning I U X → Meaning I V X → Meaning I (P × Q × R × S × T × U × V) X
 tuple_7 w a b c d e f g = sequence_meaning w add_7 (λ o. o) (λ o. o) (tuple_6 w a b c d e f) g
 
-abbrev pub tuple_8 : {I Z P Q R S T U V W X : Type 0} → Seen I Z → Meaning I P X → Meaning I Q X → Meaning I R X → Meaning I S X → Meaning I T X → Meaning I U X → Meaning I V X → Meaning I W X → Meaning I (P × Q × R × S × T × U × V × W) X
+abbrev pub tuple_8 : {I Z P Q R S T U V W X : Type 0} → Seen I Z → Meaning I P X → Meaning I Q X → Meaning I R X → Meaning I S X → Meaning I T X →
+    Meaning I U X → Meaning I V X → Meaning I W X → Meaning I (P × Q × R × S × T × U × V × W) X
 tuple_8 w a b c d e f g h = sequence_meaning w add_8 (λ o. o) (λ o. o) (tuple_7 w a b c d e f g) h
 
 -- which outputs a tuple of trees stands for, member by member
@@ -62,19 +66,24 @@ Outputs_2 IsA IsB t o = IsA t.0 o.0 × IsB t.1 o.1
 abbrev pub Outputs_3 : {P Q R A B C : Type 0} → (P → A → Type 0) → (Q → B → Type 0) → (R → C → Type 0) → P × Q × R → A × B × C → Type 0
 Outputs_3 IsA IsB IsC t o = IsA t.0 o.0 × IsB t.1 o.1 × IsC t.2 o.2
 
-abbrev pub Outputs_4 : {P Q R S A B C D : Type 0} → (P → A → Type 0) → (Q → B → Type 0) → (R → C → Type 0) → (S → D → Type 0) → P × Q × R × S → A × B × C × D → Type 0
+abbrev pub Outputs_4 : {P Q R S A B C D : Type 0} → (P → A → Type 0) → (Q → B → Type 0) → (R → C → Type 0) → (S → D → Type 0) → P × Q × R × S → A × B ×
+    C × D → Type 0
 Outputs_4 IsA IsB IsC IsD t o = IsA t.0 o.0 × IsB t.1 o.1 × IsC t.2 o.2 × IsD t.3 o.3
 
-abbrev pub Outputs_5 : {P Q R S T A B C D E : Type 0} → (P → A → Type 0) → (Q → B → Type 0) → (R → C → Type 0) → (S → D → Type 0) → (T → E → Type 0) → P × Q × R × S × T → A × B × C × D × E → Type 0
+abbrev pub Outputs_5 : {P Q R S T A B C D E : Type 0} → (P → A → Type 0) → (Q → B → Type 0) → (R → C → Type 0) → (S → D → Type 0) → (T → E → Type 0) →
+    P × Q × R × S × T → A × B × C × D × E → Type 0
 Outputs_5 IsA IsB IsC IsD IsE t o = IsA t.0 o.0 × IsB t.1 o.1 × IsC t.2 o.2 × IsD t.3 o.3 × IsE t.4 o.4
 
-abbrev pub Outputs_6 : {P Q R S T U A B C D E F : Type 0} → (P → A → Type 0) → (Q → B → Type 0) → (R → C → Type 0) → (S → D → Type 0) → (T → E → Type 0) → (U → F → Type 0) → P × Q × R × S × T × U → A × B × C × D × E × F → Type 0
+abbrev pub Outputs_6 : {P Q R S T U A B C D E F : Type 0} → (P → A → Type 0) → (Q → B → Type 0) → (R → C → Type 0) → (S → D → Type 0) →
+    (T → E → Type 0) → (U → F → Type 0) → P × Q × R × S × T × U → A × B × C × D × E × F → Type 0
 Outputs_6 IsA IsB IsC IsD IsE IsF t o = IsA t.0 o.0 × IsB t.1 o.1 × IsC t.2 o.2 × IsD t.3 o.3 × IsE t.4 o.4 × IsF t.5 o.5
 
-abbrev pub Outputs_7 : {P Q R S T U V A B C D E F G : Type 0} → (P → A → Type 0) → (Q → B → Type 0) → (R → C → Type 0) → (S → D → Type 0) → (T → E → Type 0) → (U → F → Type 0) → (V → G → Type 0) → P × Q × R × S × T × U × V → A × B × C × D × E × F × G → Type 0
+abbrev pub Outputs_7 : {P Q R S T U V A B C D E F G : Type 0} → (P → A → Type 0) → (Q → B → Type 0) → (R → C → Type 0) → (S → D → Type 0) →
+    (T → E → Type 0) → (U → F → Type 0) → (V → G → Type 0) → P × Q × R × S × T × U × V → A × B × C × D × E × F × G → Type 0
 Outputs_7 IsA IsB IsC IsD IsE IsF IsG t o = IsA t.0 o.0 × IsB t.1 o.1 × IsC t.2 o.2 × IsD t.3 o.3 × IsE t.4 o.4 × IsF t.5 o.5 × IsG t.6 o.6
 
-abbrev pub Outputs_8 : {P Q R S T U V W A B C D E F G H : Type 0} → (P → A → Type 0) → (Q → B → Type 0) → (R → C → Type 0) → (S → D → Type 0) → (T → E → Type 0) → (U → F → Type 0) → (V → G → Type 0) → (W → H → Type 0) → P × Q × R × S × T × U × V × W → A × B × C × D × E × F × G × H → Type 0
+abbrev pub Outputs_8 : {P Q R S T U V W A B C D E F G H : Type 0} → (P → A → Type 0) → (Q → B → Type 0) → (R → C → Type 0) → (S → D → Type 0) →
+    (T → E → Type 0) → (U → F → Type 0) → (V → G → Type 0) → (W → H → Type 0) → P × Q × R × S × T × U × V × W → A × B × C × D × E × F × G × H → Type 0
 Outputs_8 IsA IsB IsC IsD IsE IsF IsG IsH t o = IsA t.0 o.0 × IsB t.1 o.1 × IsC t.2 o.2 × IsD t.3 o.3 × IsE t.4 o.4 × IsF t.5 o.5 × IsG t.6 o.6 × IsH t.7 o.7
 
 -- nested pairs, as outputs are gathered, and their tuple
@@ -97,7 +106,8 @@ abbrev pub flat_8 : {A B C D E F G H : Type 0} → ((((((A × B) × C) × D) × 
 flat_8 p = (p.0.0.0.0.0.0.0, p.0.0.0.0.0.0.1, p.0.0.0.0.0.1, p.0.0.0.0.1, p.0.0.0.1, p.0.0.1, p.0.1, p.1)
 
 -- what becomes of an answer: of an acceptance what is said of its rest and its value, and else the answer itself
-abbrev pub OnAccepted : {I T U E : Type 0} → (I → Option T → Result (I × Option U) (Answer.Err E (Option E) Needed) → Type 0) → Result (I × Option T) (Answer.Err E (Option E) Needed) → Result (I × Option U) (Answer.Err E (Option E) Needed) → Type 0
+abbrev pub OnAccepted : {I T U E : Type 0} → (I → Option T → Result (I × Option U) (Answer.Err E (Option E) Needed) → Type 0) →
+    Result (I × Option T) (Answer.Err E (Option E) Needed) → Result (I × Option U) (Answer.Err E (Option E) Needed) → Type 0
 OnAccepted Next (Ok a) r = Next a.0 a.1 r
 OnAccepted Next (Err f) r = r ≡ Err f
 
@@ -106,8 +116,11 @@ abbrev pub IsPaired : {I T U E : Type 0} → T → I → Option U → Result (I 
 IsPaired {U = U} t j x r = (u : U) → x ≡ Some u → r ≡ Ok (j, Some (t, u))
 
 -- what one more member shows at j, behind members whose outputs were built
-abbrev pub ShowsMember : {I A V T O E : Type 0} → Seen I A → (V → O → Type 0) → Meaning I V E → Modes → I → Option T → Result (I × Option (T × O)) (Answer.Err E (Option E) Needed) → Type 0
-ShowsMember {T = T} w IsOutput m mode j x r = (t : T) → x ≡ Some t → ShowsAnswer w (λ v o. (o.0 ≡ t) × IsOutput v o.1) (with_outputs true mode) j (m.answers mode.streaming j) (m.blames mode.streaming j) (m.runs_out (with_outputs true mode) j) r
+abbrev pub ShowsMember : {I A V T O E : Type 0} → Seen I A → (V → O → Type 0) → Meaning I V E → Modes → I → Option T →
+    Result (I × Option (T × O)) (Answer.Err E (Option E) Needed) → Type 0
+ShowsMember {T = T} w IsOutput m mode j x r =
+    (t : T) → x ≡ Some t → ShowsAnswer w (λ v o. (o.0 ≡ t) × IsOutput v o.1) (with_outputs true mode) j (m.answers mode.streaming j)
+    (m.blames mode.streaming j) (m.runs_out (with_outputs true mode) j) r
 
 -- an acceptance with its value in another form, where outputs are asked for
 abbrev pub IsFormed : {I T U E : Type 0} → Bool → (T → U) → I → Option T → Result (I × Option U) (Answer.Err E (Option E) Needed) → Type 0

@@ -54,7 +54,8 @@ impl<
         Ok((rest, output))
     }
 
-    ghost lawful = { λ s k. and_then_lawful I.seen F.Output.seen (F.IsOutput s.0) k.1.1 (G.meaning s.1) (G.lawful s.1 k.1.0) I.lawful (F.meaning s.0) (F.lawful s.0 k.0) };
+    ghost lawful = { λ s k. and_then_lawful I.seen F.Output.seen (F.IsOutput s.0) k.1.1 (G.meaning s.1) (G.lawful s.1 k.1.0) I.lawful (F.meaning s.0)
+        (F.lawful s.0 k.0) };
 }
 
 impl<
@@ -66,5 +67,6 @@ impl<
 
     ghost pinned = { λ s k p. p };
 
-    ghost steady = { λ s k. and_then_steady I.seen F.Output.seen (F.IsOutput s.0) k.1.1 (G.meaning s.1) (G.lawful s.1 k.1.0) I.lawful (F.meaning s.0) (F.steady s.0 k.0) };
+    ghost steady = { λ s k. and_then_steady I.seen F.Output.seen (F.IsOutput s.0) k.1.1 (G.meaning s.1) (G.lawful s.1 k.1.0) I.lawful (F.meaning s.0)
+        (F.steady s.0 k.0) };
 }

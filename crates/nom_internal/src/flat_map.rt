@@ -51,7 +51,8 @@ impl<
         next.process::<OM>(rest)
     }
 
-    ghost lawful = { λ s k. flat_map_lawful I.seen (F.IsOutput s.0) (maker (G.pre s.1) (G.post s.1) H.state) H.meaning k.1 H.lawful I.lawful (F.meaning s.0) (F.lawful s.0 k.0) };
+    ghost lawful = { λ s k. flat_map_lawful I.seen (F.IsOutput s.0)
+        (maker (G.pre s.1) (G.post s.1) H.state) H.meaning k.1 H.lawful I.lawful (F.meaning s.0) (F.lawful s.0 k.0) };
 }
 
 impl<
@@ -62,7 +63,9 @@ impl<
 > StreamParser<I> for FlatMap<F, G> {
     ghost use Rattle.nom_internal.specs.FlatMapLaws.{flat_map_steady, given_pinned};
 
-    ghost pinned = { λ s k p. given_pinned (F.IsOutput s.0) (maker (G.pre s.1) (G.post s.1) H.state) (λ u. (H.meaning u).IsSound) H.Pins H.Output.view H.IsOutput k.1 p H.pinned };
+    ghost pinned = { λ s k p. given_pinned (F.IsOutput s.0) (maker (G.pre s.1) (G.post s.1) H.state)
+        (λ u. (H.meaning u).IsSound) H.Pins H.Output.view H.IsOutput k.1 p H.pinned };
 
-    ghost steady = { λ s k. flat_map_steady I.seen (F.IsOutput s.0) (maker (G.pre s.1) (G.post s.1) H.state) H.meaning k.1 H.steady I.lawful (F.meaning s.0) (F.steady s.0 k.0) };
+    ghost steady = { λ s k. flat_map_steady I.seen (F.IsOutput s.0)
+        (maker (G.pre s.1) (G.post s.1) H.state) H.meaning k.1 H.steady I.lawful (F.meaning s.0) (F.steady s.0 k.0) };
 }

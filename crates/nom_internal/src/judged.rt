@@ -42,7 +42,8 @@ where
 
     ghost IsOutput = { λ s. GivesFor (F.IsOutput s.0) (λ a o. G.post s.1 a (Some o)) };
 
-    ghost meaning = { λ s. judged_meaning (F.IsOutput s.0) (G.pre s.1) (G.post s.1) is_some (λ i _. F.Error.errors.of_kind i Kind.MapOpt) F.Error.errors.grows (F.meaning s.0) };
+    ghost meaning = { λ s. judged_meaning (F.IsOutput s.0) (G.pre s.1)
+        (G.post s.1) is_some (λ i _. F.Error.errors.of_kind i Kind.MapOpt) F.Error.errors.grows (F.meaning s.0) };
 
     ghost Pins = { λ s. F.Pins s.0 × SeesAlike F.Output.view O.view (λ a o. G.post s.1 a (Some o)) };
 
@@ -61,7 +62,8 @@ where
         }
     }
 
-    ghost lawful = { λ s k. judged_lawful I.seen (F.IsOutput s.0) (G.pre s.1) (G.post s.1) is_some (λ i _. F.Error.errors.of_kind i Kind.MapOpt) F.Error.errors.grows (F.meaning s.0) k.1 (F.lawful s.0 k.0) };
+    ghost lawful = { λ s k. judged_lawful I.seen (F.IsOutput s.0) (G.pre s.1)
+        (G.post s.1) is_some (λ i _. F.Error.errors.of_kind i Kind.MapOpt) F.Error.errors.grows (F.meaning s.0) k.1 (F.lawful s.0 k.0) };
 }
 
 impl<
@@ -72,7 +74,8 @@ impl<
 > StreamParser<I> for MapOpt<F, G> {
     ghost pinned = { λ s k p. given_pinned F.Output.view O.view (F.IsOutput s.0) (λ a o. G.post s.1 a (Some o)) (F.pinned s.0 k.0 p.0) p.1 };
 
-    ghost steady = { λ s k. judged_steady I.seen (F.IsOutput s.0) (G.pre s.1) (G.post s.1) is_some (λ i _. F.Error.errors.of_kind i Kind.MapOpt) F.Error.errors.grows (F.meaning s.0) k.1 (F.steady s.0 k.0) };
+    ghost steady = { λ s k. judged_steady I.seen (F.IsOutput s.0) (G.pre s.1)
+        (G.post s.1) is_some (λ i _. F.Error.errors.of_kind i Kind.MapOpt) F.Error.errors.grows (F.meaning s.0) k.1 (F.steady s.0 k.0) };
 }
 
 /// A refusal with an error that is made of another, where errors are built.
@@ -125,7 +128,8 @@ where
 
     ghost IsOutput = { λ s. GivesFor (F.IsOutput s.0) (λ a o. G.post s.1 a (Ok o)) };
 
-    ghost meaning = { λ s. judged_meaning (F.IsOutput s.0) (G.pre s.1) (G.post s.1) is_ok (λ i. OfError (F.Error.externals.of_external i Kind.MapRes)) F.Error.externals.grows (F.meaning s.0) };
+    ghost meaning = { λ s. judged_meaning (F.IsOutput s.0) (G.pre s.1) (G.post s.1) is_ok (λ i. OfError (F.Error.externals.of_external i Kind.MapRes))
+        F.Error.externals.grows (F.meaning s.0) };
 
     ghost Pins = { λ s. F.Pins s.0 × SeesAlike F.Output.view O.view (λ a o. G.post s.1 a (Ok o)) };
 
@@ -148,7 +152,8 @@ where
         }
     }
 
-    ghost lawful = { λ s k. judged_lawful I.seen (F.IsOutput s.0) (G.pre s.1) (G.post s.1) is_ok (λ i. OfError (F.Error.externals.of_external i Kind.MapRes)) F.Error.externals.grows (F.meaning s.0) k.1 (F.lawful s.0 k.0) };
+    ghost lawful = { λ s k. judged_lawful I.seen (F.IsOutput s.0) (G.pre s.1)
+        (G.post s.1) is_ok (λ i. OfError (F.Error.externals.of_external i Kind.MapRes)) F.Error.externals.grows (F.meaning s.0) k.1 (F.lawful s.0 k.0) };
 }
 
 impl<
@@ -163,5 +168,6 @@ where
 {
     ghost pinned = { λ s k p. given_pinned F.Output.view O.view (F.IsOutput s.0) (λ a o. G.post s.1 a (Ok o)) (F.pinned s.0 k.0 p.0) p.1 };
 
-    ghost steady = { λ s k. judged_steady I.seen (F.IsOutput s.0) (G.pre s.1) (G.post s.1) is_ok (λ i. OfError (F.Error.externals.of_external i Kind.MapRes)) F.Error.externals.grows (F.meaning s.0) k.1 (F.steady s.0 k.0) };
+    ghost steady = { λ s k. judged_steady I.seen (F.IsOutput s.0) (G.pre s.1)
+        (G.post s.1) is_ok (λ i. OfError (F.Error.externals.of_external i Kind.MapRes)) F.Error.externals.grows (F.meaning s.0) k.1 (F.steady s.0 k.0) };
 }

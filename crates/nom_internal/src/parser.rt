@@ -51,7 +51,8 @@ pub trait Parser<I: Items>: Sized {
     /// and answers as it says whether more input may come.
     fn process<OM: OutputMode>(&mut self, input: I) -> PResult<I, Self::Output, Self::Error>
         requires sound { (meaning (state self.old)).IsSound }
-        ensures shown { ShowsMeaning I.seen (IsOutput (state self.old)) (meaning (state self.old)) (modes OM.Output.BUILDS OM.Error.BUILDS OM.Incomplete.STREAMING) input result }
+        ensures shown { ShowsMeaning I.seen (IsOutput (state self.old)) (meaning (state self.old))
+            (modes OM.Output.BUILDS OM.Error.BUILDS OM.Incomplete.STREAMING) input result }
         // A call keeps the meaning.
         ensures kept { state self.new ≡ state self.old };
 

@@ -4,7 +4,8 @@
 ghost use Rattle.std.specs.Prelude.{◌≡◌, Some, None, cond};
 ghost use Rattle.nom_error.specs.Modes.{modes};
 ghost use Rattle.nom_internal.specs.Pinned.{pair_pinned};
-ghost use Rattle.nom_internal.specs.Tuples.{built_meaning, tuple_2, tuple_3, tuple_4, Outputs_2, Outputs_3, Outputs_4, flat_3, flat_4, OnAccepted, ShowsMember, IsPaired, IsFormed};
+ghost use Rattle.nom_internal.specs.Tuples.{built_meaning, tuple_2, tuple_3, tuple_4, Outputs_2, Outputs_3, Outputs_4, flat_3, flat_4, OnAccepted};
+ghost use Rattle.nom_internal.specs.Tuples.{ShowsMember, IsPaired, IsFormed};
 ghost use Rattle.nom_internal.specs.TupleLaws.{built_lawful, lawful_2, lawful_3, lawful_4, steady_2, steady_3, steady_4, pinned_3, pinned_4, single_pinned};
 
 use crate::parser::{Parser, StreamParser};
@@ -37,7 +38,8 @@ pub fn next_member<I: Items, T: Drop, P: Parser<I>, OM: OutputMode>(
     next: &mut P,
 ) -> PResult<I, (T, P::Output), P::Error>
     requires { (P.meaning (P.state next.old)).IsSound }
-    ensures shown { OnAccepted (ShowsMember I.seen (P.IsOutput (P.state next.old)) (P.meaning (P.state next.old)) (modes OM.Output.BUILDS OM.Error.BUILDS OM.Incomplete.STREAMING)) before result }
+    ensures shown { OnAccepted (ShowsMember I.seen (P.IsOutput (P.state next.old)) (P.meaning (P.state next.old))
+        (modes OM.Output.BUILDS OM.Error.BUILDS OM.Incomplete.STREAMING)) before result }
     ensures kept { P.state next.new ≡ P.state next.old }
 {
     match before {
@@ -214,7 +216,8 @@ impl<I: Items, A: Parser<I>, B: Parser<I, Error = A::Error>, C: Parser<I, Error 
         formed::<I, _, Self::Output, A::Error, OM::Output>(answer)
     }
 
-    ghost lawful = { λ s k. built_lawful (lawful_3 I.seen I.lawful (A.meaning s.0) (B.meaning s.1) (C.meaning s.2) (A.lawful s.0 k.0.0) (B.lawful s.1 k.0.1) (C.lawful s.2 k.1)) };
+    ghost lawful = { λ s k. built_lawful
+        (lawful_3 I.seen I.lawful (A.meaning s.0) (B.meaning s.1) (C.meaning s.2) (A.lawful s.0 k.0.0) (B.lawful s.1 k.0.1) (C.lawful s.2 k.1)) };
 }
 
 impl<
@@ -223,9 +226,11 @@ impl<
     B: StreamParser<I, Error = A::Error>,
     C: StreamParser<I, Error = A::Error>,
 > StreamParser<I> for (A, B, C) {
-    ghost pinned = { λ s k p. pinned_3 A.Output.view (A.IsOutput s.0) B.Output.view (B.IsOutput s.1) C.Output.view (C.IsOutput s.2) (A.pinned s.0 k.0.0 p.0) (B.pinned s.1 k.0.1 p.1) (C.pinned s.2 k.1 p.2) };
+    ghost pinned = { λ s k p. pinned_3 A.Output.view (A.IsOutput s.0) B.Output.view (B.IsOutput s.1) C.Output.view (C.IsOutput s.2)
+        (A.pinned s.0 k.0.0 p.0) (B.pinned s.1 k.0.1 p.1) (C.pinned s.2 k.1 p.2) };
 
-    ghost steady = { λ s k. steady_3 I.seen I.lawful (A.meaning s.0) (B.meaning s.1) (C.meaning s.2) (A.steady s.0 k.0.0) (B.steady s.1 k.0.1) (C.steady s.2 k.1) };
+    ghost steady = { λ s k. steady_3 I.seen I.lawful (A.meaning s.0) (B.meaning s.1) (C.meaning s.2) (A.steady s.0 k.0.0) (B.steady s.1 k.0.1)
+        (C.steady s.2 k.1) };
 }
 
 impl<A: Drop, B: Drop, C: Drop, D: Drop> Flat<(((A, B), C), D)> for (A, B, C, D) {
@@ -272,7 +277,9 @@ impl<
         formed::<I, _, Self::Output, A::Error, OM::Output>(answer)
     }
 
-    ghost lawful = { λ s k. built_lawful (lawful_4 I.seen I.lawful (A.meaning s.0) (B.meaning s.1) (C.meaning s.2) (D.meaning s.3) (A.lawful s.0 k.0.0.0) (B.lawful s.1 k.0.0.1) (C.lawful s.2 k.0.1) (D.lawful s.3 k.1)) };
+    ghost lawful = { λ s k. built_lawful
+        (lawful_4 I.seen I.lawful (A.meaning s.0) (B.meaning s.1) (C.meaning s.2) (D.meaning s.3) (A.lawful s.0 k.0.0.0) (B.lawful s.1 k.0.0.1)
+        (C.lawful s.2 k.0.1) (D.lawful s.3 k.1)) };
 }
 
 impl<
@@ -282,7 +289,9 @@ impl<
     C: StreamParser<I, Error = A::Error>,
     D: StreamParser<I, Error = A::Error>,
 > StreamParser<I> for (A, B, C, D) {
-    ghost pinned = { λ s k p. pinned_4 A.Output.view (A.IsOutput s.0) B.Output.view (B.IsOutput s.1) C.Output.view (C.IsOutput s.2) D.Output.view (D.IsOutput s.3) (A.pinned s.0 k.0.0.0 p.0) (B.pinned s.1 k.0.0.1 p.1) (C.pinned s.2 k.0.1 p.2) (D.pinned s.3 k.1 p.3) };
+    ghost pinned = { λ s k p. pinned_4 A.Output.view (A.IsOutput s.0) B.Output.view (B.IsOutput s.1) C.Output.view (C.IsOutput s.2) D.Output.view
+        (D.IsOutput s.3) (A.pinned s.0 k.0.0.0 p.0) (B.pinned s.1 k.0.0.1 p.1) (C.pinned s.2 k.0.1 p.2) (D.pinned s.3 k.1 p.3) };
 
-    ghost steady = { λ s k. steady_4 I.seen I.lawful (A.meaning s.0) (B.meaning s.1) (C.meaning s.2) (D.meaning s.3) (A.steady s.0 k.0.0.0) (B.steady s.1 k.0.0.1) (C.steady s.2 k.0.1) (D.steady s.3 k.1) };
+    ghost steady = { λ s k. steady_4 I.seen I.lawful (A.meaning s.0) (B.meaning s.1) (C.meaning s.2) (D.meaning s.3) (A.steady s.0 k.0.0.0)
+        (B.steady s.1 k.0.0.1) (C.steady s.2 k.0.1) (D.steady s.3 k.1) };
 }

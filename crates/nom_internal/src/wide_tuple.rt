@@ -1,6 +1,8 @@
 //! Tuples of five to eight parsers.
-ghost use Rattle.nom_internal.specs.Tuples.{built_meaning, tuple_5, tuple_6, tuple_7, tuple_8, Outputs_5, Outputs_6, Outputs_7, Outputs_8, flat_5, flat_6, flat_7, flat_8};
-ghost use Rattle.nom_internal.specs.TupleLaws.{built_lawful, lawful_5, lawful_6, lawful_7, lawful_8, steady_5, steady_6, steady_7, steady_8, pinned_5, pinned_6, pinned_7, pinned_8};
+ghost use Rattle.nom_internal.specs.Tuples.{built_meaning, tuple_5, tuple_6, tuple_7, tuple_8, Outputs_5, Outputs_6, Outputs_7, Outputs_8, flat_5};
+ghost use Rattle.nom_internal.specs.Tuples.{flat_6, flat_7, flat_8};
+ghost use Rattle.nom_internal.specs.TupleLaws.{built_lawful, lawful_5, lawful_6, lawful_7, lawful_8, steady_5, steady_6, steady_7, steady_8};
+ghost use Rattle.nom_internal.specs.TupleLaws.{pinned_5, pinned_6, pinned_7, pinned_8};
 
 use crate::parser::{Parser, StreamParser};
 use crate::tuple::{Flat, formed, next_member};
@@ -54,7 +56,9 @@ impl<
         formed::<I, _, Self::Output, A::Error, OM::Output>(answer)
     }
 
-    ghost lawful = { λ s k. built_lawful (lawful_5 I.seen I.lawful (A.meaning s.0) (B.meaning s.1) (C.meaning s.2) (D.meaning s.3) (E.meaning s.4) (A.lawful s.0 k.0.0.0.0) (B.lawful s.1 k.0.0.0.1) (C.lawful s.2 k.0.0.1) (D.lawful s.3 k.0.1) (E.lawful s.4 k.1)) };
+    ghost lawful = { λ s k. built_lawful
+        (lawful_5 I.seen I.lawful (A.meaning s.0) (B.meaning s.1) (C.meaning s.2) (D.meaning s.3) (E.meaning s.4) (A.lawful s.0 k.0.0.0.0)
+        (B.lawful s.1 k.0.0.0.1) (C.lawful s.2 k.0.0.1) (D.lawful s.3 k.0.1) (E.lawful s.4 k.1)) };
 }
 
 impl<
@@ -65,9 +69,12 @@ impl<
     D: StreamParser<I, Error = A::Error>,
     E: StreamParser<I, Error = A::Error>,
 > StreamParser<I> for (A, B, C, D, E) {
-    ghost pinned = { λ s k p. pinned_5 A.Output.view (A.IsOutput s.0) B.Output.view (B.IsOutput s.1) C.Output.view (C.IsOutput s.2) D.Output.view (D.IsOutput s.3) E.Output.view (E.IsOutput s.4) (A.pinned s.0 k.0.0.0.0 p.0) (B.pinned s.1 k.0.0.0.1 p.1) (C.pinned s.2 k.0.0.1 p.2) (D.pinned s.3 k.0.1 p.3) (E.pinned s.4 k.1 p.4) };
+    ghost pinned = { λ s k p. pinned_5 A.Output.view (A.IsOutput s.0) B.Output.view (B.IsOutput s.1) C.Output.view (C.IsOutput s.2) D.Output.view
+        (D.IsOutput s.3) E.Output.view (E.IsOutput s.4) (A.pinned s.0 k.0.0.0.0 p.0) (B.pinned s.1 k.0.0.0.1 p.1) (C.pinned s.2 k.0.0.1 p.2)
+        (D.pinned s.3 k.0.1 p.3) (E.pinned s.4 k.1 p.4) };
 
-    ghost steady = { λ s k. steady_5 I.seen I.lawful (A.meaning s.0) (B.meaning s.1) (C.meaning s.2) (D.meaning s.3) (E.meaning s.4) (A.steady s.0 k.0.0.0.0) (B.steady s.1 k.0.0.0.1) (C.steady s.2 k.0.0.1) (D.steady s.3 k.0.1) (E.steady s.4 k.1) };
+    ghost steady = { λ s k. steady_5 I.seen I.lawful (A.meaning s.0) (B.meaning s.1) (C.meaning s.2) (D.meaning s.3) (E.meaning s.4)
+        (A.steady s.0 k.0.0.0.0) (B.steady s.1 k.0.0.0.1) (C.steady s.2 k.0.0.1) (D.steady s.3 k.0.1) (E.steady s.4 k.1) };
 }
 
 impl<A: Drop, B: Drop, C: Drop, D: Drop, E: Drop, F: Drop> Flat<(((((A, B), C), D), E), F)>
@@ -126,7 +133,9 @@ impl<
         formed::<I, _, Self::Output, A::Error, OM::Output>(answer)
     }
 
-    ghost lawful = { λ s k. built_lawful (lawful_6 I.seen I.lawful (A.meaning s.0) (B.meaning s.1) (C.meaning s.2) (D.meaning s.3) (E.meaning s.4) (F.meaning s.5) (A.lawful s.0 k.0.0.0.0.0) (B.lawful s.1 k.0.0.0.0.1) (C.lawful s.2 k.0.0.0.1) (D.lawful s.3 k.0.0.1) (E.lawful s.4 k.0.1) (F.lawful s.5 k.1)) };
+    ghost lawful = { λ s k. built_lawful
+        (lawful_6 I.seen I.lawful (A.meaning s.0) (B.meaning s.1) (C.meaning s.2) (D.meaning s.3) (E.meaning s.4) (F.meaning s.5)
+        (A.lawful s.0 k.0.0.0.0.0) (B.lawful s.1 k.0.0.0.0.1) (C.lawful s.2 k.0.0.0.1) (D.lawful s.3 k.0.0.1) (E.lawful s.4 k.0.1) (F.lawful s.5 k.1)) };
 }
 
 impl<
@@ -138,9 +147,12 @@ impl<
     E: StreamParser<I, Error = A::Error>,
     F: StreamParser<I, Error = A::Error>,
 > StreamParser<I> for (A, B, C, D, E, F) {
-    ghost pinned = { λ s k p. pinned_6 A.Output.view (A.IsOutput s.0) B.Output.view (B.IsOutput s.1) C.Output.view (C.IsOutput s.2) D.Output.view (D.IsOutput s.3) E.Output.view (E.IsOutput s.4) F.Output.view (F.IsOutput s.5) (A.pinned s.0 k.0.0.0.0.0 p.0) (B.pinned s.1 k.0.0.0.0.1 p.1) (C.pinned s.2 k.0.0.0.1 p.2) (D.pinned s.3 k.0.0.1 p.3) (E.pinned s.4 k.0.1 p.4) (F.pinned s.5 k.1 p.5) };
+    ghost pinned = { λ s k p. pinned_6 A.Output.view (A.IsOutput s.0) B.Output.view (B.IsOutput s.1) C.Output.view (C.IsOutput s.2) D.Output.view
+        (D.IsOutput s.3) E.Output.view (E.IsOutput s.4) F.Output.view (F.IsOutput s.5) (A.pinned s.0 k.0.0.0.0.0 p.0) (B.pinned s.1 k.0.0.0.0.1 p.1)
+        (C.pinned s.2 k.0.0.0.1 p.2) (D.pinned s.3 k.0.0.1 p.3) (E.pinned s.4 k.0.1 p.4) (F.pinned s.5 k.1 p.5) };
 
-    ghost steady = { λ s k. steady_6 I.seen I.lawful (A.meaning s.0) (B.meaning s.1) (C.meaning s.2) (D.meaning s.3) (E.meaning s.4) (F.meaning s.5) (A.steady s.0 k.0.0.0.0.0) (B.steady s.1 k.0.0.0.0.1) (C.steady s.2 k.0.0.0.1) (D.steady s.3 k.0.0.1) (E.steady s.4 k.0.1) (F.steady s.5 k.1) };
+    ghost steady = { λ s k. steady_6 I.seen I.lawful (A.meaning s.0) (B.meaning s.1) (C.meaning s.2) (D.meaning s.3) (E.meaning s.4) (F.meaning s.5)
+        (A.steady s.0 k.0.0.0.0.0) (B.steady s.1 k.0.0.0.0.1) (C.steady s.2 k.0.0.0.1) (D.steady s.3 k.0.0.1) (E.steady s.4 k.0.1) (F.steady s.5 k.1) };
 }
 
 impl<A: Drop, B: Drop, C: Drop, D: Drop, E: Drop, F: Drop, G: Drop> Flat<
@@ -185,7 +197,8 @@ impl<
 
     ghost IsOutput = { λ s. Outputs_7 (A.IsOutput s.0) (B.IsOutput s.1) (C.IsOutput s.2) (D.IsOutput s.3) (E.IsOutput s.4) (F.IsOutput s.5) (G.IsOutput s.6) };
 
-    ghost meaning = { λ s. built_meaning (tuple_7 I.seen (A.meaning s.0) (B.meaning s.1) (C.meaning s.2) (D.meaning s.3) (E.meaning s.4) (F.meaning s.5) (G.meaning s.6)) };
+    ghost meaning = { λ s. built_meaning (tuple_7 I.seen (A.meaning s.0) (B.meaning s.1) (C.meaning s.2) (D.meaning s.3) (E.meaning s.4) (F.meaning s.5)
+        (G.meaning s.6)) };
 
     ghost Pins = { λ s. A.Pins s.0 × B.Pins s.1 × C.Pins s.2 × D.Pins s.3 × E.Pins s.4 × F.Pins s.5 × G.Pins s.6 };
 
@@ -203,7 +216,10 @@ impl<
         formed::<I, _, Self::Output, A::Error, OM::Output>(answer)
     }
 
-    ghost lawful = { λ s k. built_lawful (lawful_7 I.seen I.lawful (A.meaning s.0) (B.meaning s.1) (C.meaning s.2) (D.meaning s.3) (E.meaning s.4) (F.meaning s.5) (G.meaning s.6) (A.lawful s.0 k.0.0.0.0.0.0) (B.lawful s.1 k.0.0.0.0.0.1) (C.lawful s.2 k.0.0.0.0.1) (D.lawful s.3 k.0.0.0.1) (E.lawful s.4 k.0.0.1) (F.lawful s.5 k.0.1) (G.lawful s.6 k.1)) };
+    ghost lawful = { λ s k. built_lawful
+        (lawful_7 I.seen I.lawful (A.meaning s.0) (B.meaning s.1) (C.meaning s.2) (D.meaning s.3) (E.meaning s.4) (F.meaning s.5) (G.meaning s.6)
+        (A.lawful s.0 k.0.0.0.0.0.0) (B.lawful s.1 k.0.0.0.0.0.1) (C.lawful s.2 k.0.0.0.0.1) (D.lawful s.3 k.0.0.0.1) (E.lawful s.4 k.0.0.1)
+        (F.lawful s.5 k.0.1) (G.lawful s.6 k.1)) };
 }
 
 impl<
@@ -216,9 +232,14 @@ impl<
     F: StreamParser<I, Error = A::Error>,
     G: StreamParser<I, Error = A::Error>,
 > StreamParser<I> for (A, B, C, D, E, F, G) {
-    ghost pinned = { λ s k p. pinned_7 A.Output.view (A.IsOutput s.0) B.Output.view (B.IsOutput s.1) C.Output.view (C.IsOutput s.2) D.Output.view (D.IsOutput s.3) E.Output.view (E.IsOutput s.4) F.Output.view (F.IsOutput s.5) G.Output.view (G.IsOutput s.6) (A.pinned s.0 k.0.0.0.0.0.0 p.0) (B.pinned s.1 k.0.0.0.0.0.1 p.1) (C.pinned s.2 k.0.0.0.0.1 p.2) (D.pinned s.3 k.0.0.0.1 p.3) (E.pinned s.4 k.0.0.1 p.4) (F.pinned s.5 k.0.1 p.5) (G.pinned s.6 k.1 p.6) };
+    ghost pinned = { λ s k p. pinned_7 A.Output.view (A.IsOutput s.0) B.Output.view (B.IsOutput s.1) C.Output.view (C.IsOutput s.2) D.Output.view
+        (D.IsOutput s.3) E.Output.view (E.IsOutput s.4) F.Output.view (F.IsOutput s.5) G.Output.view (G.IsOutput s.6) (A.pinned s.0 k.0.0.0.0.0.0 p.0)
+        (B.pinned s.1 k.0.0.0.0.0.1 p.1) (C.pinned s.2 k.0.0.0.0.1 p.2) (D.pinned s.3 k.0.0.0.1 p.3) (E.pinned s.4 k.0.0.1 p.4) (F.pinned s.5 k.0.1 p.5)
+        (G.pinned s.6 k.1 p.6) };
 
-    ghost steady = { λ s k. steady_7 I.seen I.lawful (A.meaning s.0) (B.meaning s.1) (C.meaning s.2) (D.meaning s.3) (E.meaning s.4) (F.meaning s.5) (G.meaning s.6) (A.steady s.0 k.0.0.0.0.0.0) (B.steady s.1 k.0.0.0.0.0.1) (C.steady s.2 k.0.0.0.0.1) (D.steady s.3 k.0.0.0.1) (E.steady s.4 k.0.0.1) (F.steady s.5 k.0.1) (G.steady s.6 k.1) };
+    ghost steady = { λ s k. steady_7 I.seen I.lawful (A.meaning s.0) (B.meaning s.1) (C.meaning s.2) (D.meaning s.3) (E.meaning s.4) (F.meaning s.5)
+        (G.meaning s.6) (A.steady s.0 k.0.0.0.0.0.0) (B.steady s.1 k.0.0.0.0.0.1) (C.steady s.2 k.0.0.0.0.1) (D.steady s.3 k.0.0.0.1)
+        (E.steady s.4 k.0.0.1) (F.steady s.5 k.0.1) (G.steady s.6 k.1) };
 }
 
 impl<A: Drop, B: Drop, C: Drop, D: Drop, E: Drop, F: Drop, G: Drop, H: Drop> Flat<
@@ -263,9 +284,11 @@ impl<
 
     ghost Tree = { A.Tree × B.Tree × C.Tree × D.Tree × E.Tree × F.Tree × G.Tree × H.Tree };
 
-    ghost IsOutput = { λ s. Outputs_8 (A.IsOutput s.0) (B.IsOutput s.1) (C.IsOutput s.2) (D.IsOutput s.3) (E.IsOutput s.4) (F.IsOutput s.5) (G.IsOutput s.6) (H.IsOutput s.7) };
+    ghost IsOutput = { λ s. Outputs_8 (A.IsOutput s.0) (B.IsOutput s.1) (C.IsOutput s.2) (D.IsOutput s.3) (E.IsOutput s.4) (F.IsOutput s.5)
+        (G.IsOutput s.6) (H.IsOutput s.7) };
 
-    ghost meaning = { λ s. built_meaning (tuple_8 I.seen (A.meaning s.0) (B.meaning s.1) (C.meaning s.2) (D.meaning s.3) (E.meaning s.4) (F.meaning s.5) (G.meaning s.6) (H.meaning s.7)) };
+    ghost meaning = { λ s. built_meaning (tuple_8 I.seen (A.meaning s.0) (B.meaning s.1) (C.meaning s.2) (D.meaning s.3) (E.meaning s.4) (F.meaning s.5)
+        (G.meaning s.6) (H.meaning s.7)) };
 
     ghost Pins = { λ s. A.Pins s.0 × B.Pins s.1 × C.Pins s.2 × D.Pins s.3 × E.Pins s.4 × F.Pins s.5 × G.Pins s.6 × H.Pins s.7 };
 
@@ -284,7 +307,10 @@ impl<
         formed::<I, _, Self::Output, A::Error, OM::Output>(answer)
     }
 
-    ghost lawful = { λ s k. built_lawful (lawful_8 I.seen I.lawful (A.meaning s.0) (B.meaning s.1) (C.meaning s.2) (D.meaning s.3) (E.meaning s.4) (F.meaning s.5) (G.meaning s.6) (H.meaning s.7) (A.lawful s.0 k.0.0.0.0.0.0.0) (B.lawful s.1 k.0.0.0.0.0.0.1) (C.lawful s.2 k.0.0.0.0.0.1) (D.lawful s.3 k.0.0.0.0.1) (E.lawful s.4 k.0.0.0.1) (F.lawful s.5 k.0.0.1) (G.lawful s.6 k.0.1) (H.lawful s.7 k.1)) };
+    ghost lawful = { λ s k. built_lawful
+        (lawful_8 I.seen I.lawful (A.meaning s.0) (B.meaning s.1) (C.meaning s.2) (D.meaning s.3) (E.meaning s.4) (F.meaning s.5) (G.meaning s.6)
+        (H.meaning s.7) (A.lawful s.0 k.0.0.0.0.0.0.0) (B.lawful s.1 k.0.0.0.0.0.0.1) (C.lawful s.2 k.0.0.0.0.0.1) (D.lawful s.3 k.0.0.0.0.1)
+        (E.lawful s.4 k.0.0.0.1) (F.lawful s.5 k.0.0.1) (G.lawful s.6 k.0.1) (H.lawful s.7 k.1)) };
 }
 
 impl<
@@ -298,7 +324,12 @@ impl<
     G: StreamParser<I, Error = A::Error>,
     H: StreamParser<I, Error = A::Error>,
 > StreamParser<I> for (A, B, C, D, E, F, G, H) {
-    ghost pinned = { λ s k p. pinned_8 A.Output.view (A.IsOutput s.0) B.Output.view (B.IsOutput s.1) C.Output.view (C.IsOutput s.2) D.Output.view (D.IsOutput s.3) E.Output.view (E.IsOutput s.4) F.Output.view (F.IsOutput s.5) G.Output.view (G.IsOutput s.6) H.Output.view (H.IsOutput s.7) (A.pinned s.0 k.0.0.0.0.0.0.0 p.0) (B.pinned s.1 k.0.0.0.0.0.0.1 p.1) (C.pinned s.2 k.0.0.0.0.0.1 p.2) (D.pinned s.3 k.0.0.0.0.1 p.3) (E.pinned s.4 k.0.0.0.1 p.4) (F.pinned s.5 k.0.0.1 p.5) (G.pinned s.6 k.0.1 p.6) (H.pinned s.7 k.1 p.7) };
+    ghost pinned = { λ s k p. pinned_8 A.Output.view (A.IsOutput s.0) B.Output.view (B.IsOutput s.1) C.Output.view (C.IsOutput s.2) D.Output.view
+        (D.IsOutput s.3) E.Output.view (E.IsOutput s.4) F.Output.view (F.IsOutput s.5) G.Output.view (G.IsOutput s.6) H.Output.view (H.IsOutput s.7)
+        (A.pinned s.0 k.0.0.0.0.0.0.0 p.0) (B.pinned s.1 k.0.0.0.0.0.0.1 p.1) (C.pinned s.2 k.0.0.0.0.0.1 p.2) (D.pinned s.3 k.0.0.0.0.1 p.3)
+        (E.pinned s.4 k.0.0.0.1 p.4) (F.pinned s.5 k.0.0.1 p.5) (G.pinned s.6 k.0.1 p.6) (H.pinned s.7 k.1 p.7) };
 
-    ghost steady = { λ s k. steady_8 I.seen I.lawful (A.meaning s.0) (B.meaning s.1) (C.meaning s.2) (D.meaning s.3) (E.meaning s.4) (F.meaning s.5) (G.meaning s.6) (H.meaning s.7) (A.steady s.0 k.0.0.0.0.0.0.0) (B.steady s.1 k.0.0.0.0.0.0.1) (C.steady s.2 k.0.0.0.0.0.1) (D.steady s.3 k.0.0.0.0.1) (E.steady s.4 k.0.0.0.1) (F.steady s.5 k.0.0.1) (G.steady s.6 k.0.1) (H.steady s.7 k.1) };
+    ghost steady = { λ s k. steady_8 I.seen I.lawful (A.meaning s.0) (B.meaning s.1) (C.meaning s.2) (D.meaning s.3) (E.meaning s.4) (F.meaning s.5)
+        (G.meaning s.6) (H.meaning s.7) (A.steady s.0 k.0.0.0.0.0.0.0) (B.steady s.1 k.0.0.0.0.0.0.1) (C.steady s.2 k.0.0.0.0.0.1)
+        (D.steady s.3 k.0.0.0.0.1) (E.steady s.4 k.0.0.0.1) (F.steady s.5 k.0.0.1) (G.steady s.6 k.0.1) (H.steady s.7 k.1) };
 }

@@ -11,7 +11,8 @@ use Rattle.nom_internal.specs.Outcome.Outcome.{Accept, Refuse, Fail, TooLarge, U
 use Rattle.nom_internal.specs.Outcome.ParsesAnswer.{ParseRanOut, Parsed}
 use Rattle.nom_internal.specs.Meaning.{Meaning, ParsesMeaning}
 use Rattle.nom_iterator.specs.Iterated.{AreItems, CanGive}
-use Rattle.nom_iterator.specs.Steps.{Moves, Gives, Next, GivesItems, EndsThere, StaysEnded, FinishesSo, IsFinish, has_ended, HoldsEnd, EndsHolding, Finishes, FinishesThere}
+use Rattle.nom_iterator.specs.Steps.{Moves, Gives, Next, GivesItems, EndsThere, StaysEnded, FinishesSo, IsFinish, has_ended, HoldsEnd, EndsHolding}
+use Rattle.nom_iterator.specs.Steps.{Finishes, FinishesThere}
 use Rattle.nom_iterator.specs.declared.items.State.{State}
 use Rattle.nom_iterator.specs.declared.items.State.TheVariants.{Running, Done, Failure, Incomplete, OutOfMemory}
 
@@ -26,7 +27,8 @@ record IsItem {I A V O E : Type 0} (w : Seen I A) (IsOutput : V → O → Type 0
 
 module _ {I A V O E : Type 0} (w : Seen I A) (IsOutput : V → O → Type 0) (m : Meaning I V E) (i : I) where
   -- what an answer is, by what was given for it
-  item_of_answer : (q : Result (I × O) (Answer.Err E E Needed)) (v : O) (j : I) (s : State E) → Moves i q (Some v) j s → (o : Outcome V) → m.answers true i o → Parses w IsOutput i (m.blames true i) o q → IsItem w IsOutput m i v j s
+  item_of_answer : (q : Result (I × O) (Answer.Err E E Needed)) (v : O) (j : I) (s : State E) → Moves i q (Some v) j s → (o : Outcome V) →
+      m.answers true i o → Parses w IsOutput i (m.blames true i) o q → IsItem w IsOutput m i v j s
   item_of_answer (Ok (k, u)) v j s g (Accept n t) a h =
       let both : ◌≡◌ {A = I × O} (h.0, h.1) (k, u) = cc (h.4) in
       let value : h.1 ≡ v = ap (λ (z : I × O). z.1) both ∙ cc (g.0) in
@@ -41,7 +43,8 @@ module _ {I A V O E : Type 0} (w : Seen I A) (IsOutput : V → O → Type 0) (m 
   item_of_answer (Err (Variant.Incomplete k)) v j s g o a h = absurd (cc (g.0))
   item_of_answer (Err Variant.OutOfMemory) v j s g o a h = absurd (cc (g.0))
 
-  item_of : (q : Result (I × O) (Answer.Err E E Needed)) (v : O) (j : I) (s : State E) → Moves i q (Some v) j s → ParsesMeaning w IsOutput m true i q → IsItem w IsOutput m i v j s
+  item_of : (q : Result (I × O) (Answer.Err E E Needed)) (v : O) (j : I) (s : State E) → Moves i q (Some v) j s → ParsesMeaning w IsOutput m true i q →
+      IsItem w IsOutput m i v j s
   item_of q v j s g (ParseRanOut e h) = absurd (cc ((subst (λ z. Moves i z (Some v) j s) e g).0))
   item_of q v j s g (Parsed o a h) = item_of_answer q v j s g o a h
 
@@ -52,14 +55,16 @@ module _ {I A V O E : Type 0} (w : Seen I A) (IsOutput : V → O → Type 0) (m 
   given_item (Incomplete k) v j s e g = absurd (cc (e))
   given_item OutOfMemory v j s e g = absurd (cc (e))
 
-  end_of_answer : (q : Result (I × O) (Answer.Err E E Needed)) (j : I) (s : State E) → Moves i q None j s → (o : Outcome V) → m.answers true i o → Parses w IsOutput i (m.blames true i) o q → EndsHolding m i s × (j ≡ i)
+  end_of_answer : (q : Result (I × O) (Answer.Err E E Needed)) (j : I) (s : State E) → Moves i q None j s → (o : Outcome V) → m.answers true i o →
+      Parses w IsOutput i (m.blames true i) o q → EndsHolding m i s × (j ≡ i)
   end_of_answer q j s g (Accept n t) a h = absurd (cc ((subst (λ z. Moves i z None j s) h.4 g).0))
   end_of_answer q j s g Refuse a h = let k = subst (λ z. Moves i z None j s) h.2 g in (inl (Refuse, a, k.2), k.1)
   end_of_answer q j s g Fail a h = let k = subst (λ z. Moves i z None j s) h.2 g in (inl (Fail, a, (h.0, h.1, k.2)), k.1)
   end_of_answer q j s g TooLarge a h = let k = subst (λ z. Moves i z None j s) h.2 g in (inl (TooLarge, a, (h.0, h.1, k.2)), k.1)
   end_of_answer q j s g (Undecided n) a h = let k = subst (λ z. Moves i z None j s) h.2 g in (inl (Undecided n, a, (h.0, h.1, k.2)), k.1)
 
-  end_of : (q : Result (I × O) (Answer.Err E E Needed)) (j : I) (s : State E) → Moves i q None j s → ParsesMeaning w IsOutput m true i q → EndsHolding m i s × (j ≡ i)
+  end_of : (q : Result (I × O) (Answer.Err E E Needed)) (j : I) (s : State E) → Moves i q None j s → ParsesMeaning w IsOutput m true i q →
+      EndsHolding m i s × (j ≡ i)
   end_of q j s g (ParseRanOut e h) = let k = subst (λ z. Moves i z None j s) e g in (inr (h, k.2), k.1)
   end_of q j s g (Parsed o a h) = end_of_answer q j s g o a h
 
@@ -105,7 +110,8 @@ module _ {I V E : Type 0} (m : Meaning I V E) (i : I) where
   finishes_there s r (inl h) f = inl (h.0, h.1, ended_finishes h.0 s r h.2 f)
   finishes_there s r (inr h) f = inr (h.0, subst (λ z. IsFinish i z r) h.1 f)
 
-module _ {X S I A V O E : Type 0} (w : Seen I A) (IsOutput : S → V → O → Type 0) (m : S → Meaning I V E) (state : X → S) (place : X → I) (held : X → State E) where
+module _ {X S I A V O E : Type 0} (w : Seen I A) (IsOutput : S → V → O → Type 0) (m : S → Meaning I V E) (state : X → S) (place : X → I)
+    (held : X → State E) where
   abbrev Steps : X → Option O → X → Type 0
   Steps = Next w IsOutput m state place held
 
@@ -118,13 +124,17 @@ module _ {X S I A V O E : Type 0} (w : Seen I A) (IsOutput : S → V → O → T
       let others = still_runs vs y.0 t item.runs y.2 in
       (others.0, others.1 ∙ step.kept)
 
-  gives_running : (s : X) (vs : List O) (t : X) → held s ≡ Running → Yields Steps s vs t → (ts : List V) × AllZip (IsOutput (state s)) ts vs × AreItems w ((m (state s)).answers true) (length vs) (place s) ts
+  gives_running : (s : X) (vs : List O) (t : X) → held s ≡ Running → Yields Steps s vs t → (ts : List V) × AllZip (IsOutput (state s)) ts vs ×
+      AreItems w ((m (state s)).answers true) (length vs) (place s) ts
   gives_running s [] t e y = ([], tt, refl)
   gives_running s (v ∷ vs) t e y =
       let step : Steps s (Some v) y.0 = y.1 in
       let item = given_item w (IsOutput (state s)) (m (state s)) (place s) (held s) v (place y.0) (held y.0) e step.gives in
-      let others = gives_running y.0 vs t item.runs y.2 in
-      (item.tree ∷ others.0, (item.output_is, subst (λ z. AllZip (IsOutput z) others.0 vs) step.kept others.1), (item.size, place y.0, item.accepted, item.rest_is, subst (λ z. AreItems w ((m z).answers true) (length vs) (place y.0) others.0) step.kept others.2))
+      let others = gives_running y.0 vs t item.runs y.2 in (
+        item.tree ∷ others.0,
+        (item.output_is, subst (λ z. AllZip (IsOutput z) others.0 vs) step.kept others.1),
+        (item.size, place y.0, item.accepted, item.rest_is, subst (λ z. AreItems w ((m z).answers true) (length vs) (place y.0) others.0) step.kept others.2),
+      )
 
   -- one that ended gives no items
   gives_none : (s : X) (vs : List O) (t : X) → (held s ≡ Running → ⊥) → Yields Steps s vs t → vs ≡ []
@@ -133,7 +143,8 @@ module _ {X S I A V O E : Type 0} (w : Seen I A) (IsOutput : S → V → O → T
       let step : Steps s (Some v) y.0 = y.1 in
       absurd (cc ((ended_gives w (IsOutput (state s)) (m (state s)) (place s) (held s) (Some v) (place y.0) (held y.0) e step.gives).0))
 
-  gives_by : (s : X) (h : State E) → held s ≡ h → (vs : List O) (t : X) → Yields Steps s vs t → (ts : List V) × AllZip (IsOutput (state s)) ts vs × CanGive w ((m (state s)).answers true) (has_ended h) (length vs) (place s) ts
+  gives_by : (s : X) (h : State E) → held s ≡ h → (vs : List O) (t : X) → Yields Steps s vs t → (ts : List V) × AllZip (IsOutput (state s)) ts vs ×
+      CanGive w ((m (state s)).answers true) (has_ended h) (length vs) (place s) ts
   gives_by s Running e vs t y = gives_running s vs t e y
   gives_by s Done e vs t y = ([], subst (λ z. AllZip (IsOutput (state s)) [] z) (sym (gives_none s vs t (λ r. cc (e, r)) y)) tt, refl)
   gives_by s (Failure x) e vs t y = ([], subst (λ z. AllZip (IsOutput (state s)) [] z) (sym (gives_none s vs t (λ r. cc (e, r)) y)) tt, refl)
@@ -150,7 +161,9 @@ module _ {X S I A V O E : Type 0} (w : Seen I A) (IsOutput : S → V → O → T
       (subst (λ z. EndsHolding (m z) (place t) (held u)) runs.1 ends.0, ends.1)
 
   pub stays_ended : (s : X) → StaysEnded w IsOutput m state place held s
-  stays_ended s vs t u v r y n o = ended_gives w (IsOutput (state u)) (m (state u)) (place u) (held u) r (place v) (held v) (ended_holds w (IsOutput (state t)) (m (state t)) (place t) (held t) (place u) (held u) n.gives) o.gives
+  stays_ended s vs t u v r y n o =
+      ended_gives w (IsOutput (state u)) (m (state u)) (place u) (held u) r (place v) (held v)
+      (ended_holds w (IsOutput (state t)) (m (state t)) (place t) (held t) (place u) (held u) n.gives) o.gives
 
   pub finishes_so : (s : X) → FinishesSo w IsOutput m state place held s
   finishes_so s e vs t y = (

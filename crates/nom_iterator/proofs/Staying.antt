@@ -20,7 +20,8 @@ module _ {V : Type 0} where
 
 -- the first acceptance, and then the items on its rest, on related inputs
 module _ {I A V : Type 0} (w : Seen I A) (l : InputLaws w) (Answers : I → Outcome V → Type 0) (longer : Bool) (agree : Agree w longer Answers Answers) where
-  module _ (x y : I) (t : V) (k : ℕ) (j : I) (kx : w.IsKnown x) (ky : w.IsKnown y) (r : Related w longer x y) (a : Answers x (Accept k t)) (p : IsRest w x k j) where
+  module _ (x y : I) (t : V) (k : ℕ) (j : I) (kx : w.IsKnown x) (ky : w.IsKnown y) (r : Related w longer x y) (a : Answers x (Accept k t))
+      (p : IsRest w x k j) where
     first_kept : (u : V) (n : ℕ) (i : I) → Answers y (Accept n u) → IsRest w y n i → (t ≡ u) × Related w longer j i
     first_kept u n i b q =
         let same : Accept k t ≡ Accept n u = agree x y (Accept k t) (Accept n u) kx ky r a (accept_kept longer k t) b in
@@ -32,7 +33,8 @@ module _ {I A V : Type 0} (w : Seen I A) (l : InputLaws w) (Answers : I → Outc
     first_ends o b e = never_ends o k t (agree x y (Accept k t) o kx ky r a (accept_kept longer k t) b) e
 
 module _ {I A V E : Type 0} (w : Seen I A) (l : InputLaws w) (m : Meaning I V E) where
-  running_stay : IsSteady w m → (limit : ℕ) (x y : I) (ts us : List V) → w.IsKnown x → w.IsKnown y → Extends w x y → AreItems w (m.answers true) limit x ts → AreItems w (m.answers true) limit y us → (more : List V) × (us ≡ ts ++ more)
+  running_stay : IsSteady w m → (limit : ℕ) (x y : I) (ts us : List V) → w.IsKnown x → w.IsKnown y → Extends w x y →
+      AreItems w (m.answers true) limit x ts → AreItems w (m.answers true) limit y us → (more : List V) × (us ≡ ts ++ more)
   running_stay k zero x y ts us kx ky r a b = ([], b ∙ ap (λ z. z ++ []) (sym a))
   running_stay k (suc n) x y [] us kx ky r a b = (us, refl)
   running_stay k (suc n) x y (t ∷ ts) [] kx ky r a b = absurd (first_ends w l (m.answers true) true k x y t a.0 a.1 kx ky r a.2 a.3 b.0 b.1 b.2)
@@ -45,11 +47,15 @@ module _ {I A V E : Type 0} (w : Seen I A) (l : InputLaws w) (m : Meaning I V E)
   items_stay k true limit x y ts us kx ky r a b = ([], b ∙ ap (λ z. z ++ []) (sym a))
   items_stay k false limit x y ts us kx ky r a b = running_stay k limit x y ts us kx ky r a b
 
-  running_are_one : IsLawful w m → (limit : ℕ) (x y : I) (ts us : List V) → w.IsKnown x → w.IsKnown y → IsSame w x y → AreItems w (m.answers true) limit x ts → AreItems w (m.answers true) limit y us → ts ≡ us
+  running_are_one : IsLawful w m → (limit : ℕ) (x y : I) (ts us : List V) → w.IsKnown x → w.IsKnown y → IsSame w x y →
+      AreItems w (m.answers true) limit x ts → AreItems w (m.answers true) limit y us → ts ≡ us
   running_are_one k zero x y ts us kx ky r a b = a ∙ sym b
   running_are_one k (suc n) x y [] [] kx ky r a b = refl
-  running_are_one k (suc n) x y [] (u ∷ us) kx ky r a b = absurd (first_ends w l (m.answers true) false (k.one_outcome true) y x u b.0 b.1 ky kx (record { elements_are = sym r.elements_are; mark_is = sym r.mark_is }) b.2 b.3 a.0 a.1 a.2)
-  running_are_one k (suc n) x y (t ∷ ts) [] kx ky r a b = absurd (first_ends w l (m.answers true) false (k.one_outcome true) x y t a.0 a.1 kx ky r a.2 a.3 b.0 b.1 b.2)
+  running_are_one k (suc n) x y [] (u ∷ us) kx ky r a b =
+      absurd (first_ends w l (m.answers true) false (k.one_outcome true) y x u b.0 b.1 ky kx
+      (record { elements_are = sym r.elements_are; mark_is = sym r.mark_is }) b.2 b.3 a.0 a.1 a.2)
+  running_are_one k (suc n) x y (t ∷ ts) [] kx ky r a b =
+      absurd (first_ends w l (m.answers true) false (k.one_outcome true) x y t a.0 a.1 kx ky r a.2 a.3 b.0 b.1 b.2)
   running_are_one k (suc n) x y (t ∷ ts) (u ∷ us) kx ky r a b =
       let first = first_kept w l (m.answers true) false (k.one_outcome true) x y t a.0 a.1 kx ky r a.2 a.3 u b.0 b.1 b.2 b.3 in
       let others = running_are_one k n a.1 b.1 ts us (a.3).known (b.3).known first.1 a.4 b.4 in
@@ -60,7 +66,8 @@ module _ {I A V E : Type 0} (w : Seen I A) (l : InputLaws w) (m : Meaning I V E)
   items_are_one k false limit x y ts us kx ky r a b = running_are_one k limit x y ts us kx ky r a b
 
 module _ {I A V E : Type 0} (w : Seen I A) (m : Meaning I V E) where
-  running_fit : ((i : I) (k : ℕ) (t : V) → m.answers true i (Accept k t) → 0 < k) → (limit : ℕ) (x : I) (ts : List V) → AreItems w (m.answers true) limit x ts → length ts ≤ input_len w x
+  running_fit : ((i : I) (k : ℕ) (t : V) → m.answers true i (Accept k t) → 0 < k) → (limit : ℕ) (x : I) (ts : List V) →
+      AreItems w (m.answers true) limit x ts → length ts ≤ input_len w x
   running_fit f zero x ts a = omega (arith, ap length a)
   running_fit f (suc n) x [] a = omega arith
   running_fit f (suc n) x (t ∷ ts) a =
@@ -73,7 +80,8 @@ module _ {I A V E : Type 0} (w : Seen I A) (m : Meaning I V E) where
 
 -- the outputs of a beginning of some trees are seen as the first of the outputs of all
 module _ {V O : Type 0} (view : View O) (IsOutput : V → O → Type 0) (pinned : IsPinned view IsOutput) where
-  first_alike : (ts more : List V) (vs vs' : List O) → AllZip IsOutput ts vs → AllZip IsOutput (ts ++ more) vs' → (rest : List view.Value) × (map view.value vs' ≡ map view.value vs ++ rest)
+  first_alike : (ts more : List V) (vs vs' : List O) → AllZip IsOutput ts vs → AllZip IsOutput (ts ++ more) vs' → (rest : List view.Value) ×
+      (map view.value vs' ≡ map view.value vs ++ rest)
   first_alike [] more [] vs' h k = (map view.value vs', refl)
   first_alike [] more (v ∷ vs) vs' h k = absurd h
   first_alike (t ∷ ts) more [] vs' h k = absurd h

@@ -83,7 +83,8 @@ module _ {I V E : Type 0} (m : Meaning I V E) (i : I) where
   FinishesThere r = ((o : Outcome V) × m.answers true i o × Finishes o r) ⊎ (m.runs_out (modes true true true) i × (r ≡ Err Variant.OutOfMemory))
 
 -- iterators X, by the parser's state, the place reached and what is held
-module _ {X S I A V O E : Type 0} (w : Seen I A) (IsOutput : S → V → O → Type 0) (m : S → Meaning I V E) (state : X → S) (place : X → I) (held : X → State E) where
+module _ {X S I A V O E : Type 0} (w : Seen I A) (IsOutput : S → V → O → Type 0) (m : S → Meaning I V E) (state : X → S) (place : X → I)
+    (held : X → State E) where
   abbrev pub Next : X → Option O → X → Type 0
   Next s r t = IsStep w (IsOutput (state s)) (m (state s)) (state s) (state t) (place s) (held s) r (place t) (held t)
 

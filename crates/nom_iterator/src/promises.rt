@@ -12,7 +12,8 @@ use nom_traits::input::Items;
 pub fn items_stay<I: Items, P: StreamParser<I>>(_parser: &P)
     requires { (P.meaning (P.state _parser.now)).IsSound }
     ensures items { ItemsStay I.seen (P.meaning (P.state _parser.now)) }
-    ensures outputs { OutputsStay I.seen (P.meaning (P.state _parser.now)) P.Output.view (P.Parser.Pins (P.state _parser.now)) (P.IsOutput (P.state _parser.now)) }
+    ensures outputs { OutputsStay I.seen (P.meaning (P.state _parser.now)) P.Output.view (P.Parser.Pins (P.state _parser.now))
+        (P.IsOutput (P.state _parser.now)) }
 {}
 
 /// The items that can be given on an input, up to any limit, are those on every input that is seen alike.

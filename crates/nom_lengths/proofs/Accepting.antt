@@ -29,7 +29,8 @@ module _ {I A P V E : Type 0} (w : Seen I A) (errs : Errors I E) (IsCount : P 鈫
             accepted = f.5;
             count_is = behind.is_value;
             rest_is = f.6;
-            items = subst (位 us. InTurn w (m.answers s) (位 _. Unit {0}) behind.value (Some behind.value) f.3 f.1 us) (sym f.9) (accepted_in_turn w errs (exact_limits behind.value) (Unit {0}) m s f.3 f.1 f.4 behind.fact);
+            items = subst (位 us. InTurn w (m.answers s) (位 _. Unit {0}) behind.value (Some behind.value) f.3 f.1 us) (sym f.9)
+                (accepted_in_turn w errs (exact_limits behind.value) (Unit {0}) m s f.3 f.1 f.4 behind.fact);
             length_is = f.8;
           }
 
@@ -37,5 +38,16 @@ module _ {I A P V E : Type 0} (w : Seen I A) (errs : Errors I E) (IsCount : P 鈫
       backward h = record {
         first = Accept h.first_length h.tree;
         answered = h.accepted;
-        goes_on = (h.rest, Accept h.items_length vs, h.rest_is, record { value = h.count; is_value = h.count_is; fact = in_turn_accepted w errs (exact_limits h.count) (Unit {0}) m s h.rest h.items_length vs h.items }, ap (位 k. Accept k vs) h.length_is);
+        goes_on = (
+          h.rest,
+          Accept h.items_length vs,
+          h.rest_is,
+          record {
+            value = h.count;
+            is_value = h.count_is;
+            fact =
+                in_turn_accepted w errs (exact_limits h.count) (Unit {0}) m s h.rest h.items_length vs h.items;
+          },
+          ap (位 k. Accept k vs) h.length_is,
+        );
       }

@@ -65,7 +65,8 @@ module _ {I A : Type 0} {w : Seen I A} (l : InputLaws w) {i j : I} {n m : ℕ} (
   inside_first k c a b p =
       let q = h.forth p in
       let f = c.place in
-      none_inside w.weight l.positive f.front f.rest q.front q.rest c.count_is (sym f.whole ∙ q.whole) (omega (arith, q.length_is, a)) (omega (arith, q.length_is, f.length_is, b))
+      none_inside w.weight l.positive f.front f.rest q.front q.rest c.count_is (sym f.whole ∙ q.whole) (omega (arith, q.length_is, a))
+      (omega (arith, q.length_is, f.length_is, b))
 
   pub past_last : length (w.elements j) < 1 → 0 < m → IsPlace w i n → ⊥
   past_last e a p =

@@ -34,12 +34,14 @@ module _ {I A E : Type 0} (w : Seen I A) (errs : Errors I E) (n : ℕ) (mode : M
       let shown : CutLeaf (Err (Incomplete k)) = undecided (g (omega (arith, b, f)) ∙ ap Some lack) (refl, (omega (arith, e, b), refl)) in
       fixed_shown w (IsSeenAs w) true leaf mode i (Err (Incomplete k)) shown
 
-  pub cut_refused : (whole : ℕ) (f : Answer.Err E (Option E) Needed) → whole ≡ input_len w i → n ≤ whole → (IsPlace w i n → ⊥) → Refuses (errs.of_kind i Kind.LengthValue) errs.grows mode.errors f → Cut (Err f)
+  pub cut_refused : (whole : ℕ) (f : Answer.Err E (Option E) Needed) → whole ≡ input_len w i → n ≤ whole → (IsPlace w i n → ⊥) →
+      Refuses (errs.of_kind i Kind.LengthValue) errs.grows mode.errors f → Cut (Err f)
   cut_refused whole f e b p r =
       let shown : CutLeaf (Err f) = refused r (omega (arith, e, b), p) in
       fixed_shown w (IsSeenAs w) true leaf mode i (Err f) shown
 
-  pub cut_accepted : (p : IsPlace w i n) (j : I) (x : Option I) → IsRest w i n j → ((t : Slice w) → IsFirst w i n t → Built mode.outputs (IsSeenAs w t) x) → Cut (Ok (j, x))
+  pub cut_accepted : (p : IsPlace w i n) (j : I) (x : Option I) → IsRest w i n j →
+      ((t : Slice w) → IsFirst w i n t → Built mode.outputs (IsSeenAs w t) x) → Cut (Ok (j, x))
   cut_accepted p j x r f =
       let first = place_first w i n p in
       let shown : CutLeaf (Ok (j, x)) = accepted _ r (first, refl) (f _ first) in
@@ -52,13 +54,16 @@ module _ {I A V O E : Type 0} (w : Seen I A) (IsOutput : V → O → Type 0) (er
   abbrev Settled : Result (I × Option O) (Answer.Err E (Option E) Needed) → Type 0
   Settled = ShowsMeaning w IsOutput (settled_meaning errs m) mode i
 
-  wanting : (k : Option ℕ) (r : Result (I × Option O) (Answer.Err E (Option E) Needed)) (f : Answer.Err E (Option E) Needed) → m.answers mode.streaming i (Undecided k) → Refuses (errs.of_kind i Kind.Complete) errs.grows mode.errors f → r ≡ Err f → Settled r
+  wanting : (k : Option ℕ) (r : Result (I × Option O) (Answer.Err E (Option E) Needed)) (f : Answer.Err E (Option E) Needed) →
+      m.answers mode.streaming i (Undecided k) → Refuses (errs.of_kind i Kind.Complete) errs.grows mode.errors f → r ≡ Err f → Settled r
   wanting k r f a (inl h) e = RanOut (e ∙ ap Err h.0) (inr (k, a, h.1, h.2))
   wanting k r f a (inr h) e = Shown Refuse (Undecided k, a, refl) (h.0, built_error mode.errors _ _ h.0 (λ y b. (Undecided k, a, b)) h.1, e ∙ ap Err h.2)
 
-  settled_of : (p r : Result (I × Option O) (Answer.Err E (Option E) Needed)) (o : Outcome V) → Settles p r → m.answers mode.streaming i o → Shows w IsOutput mode i (m.blames mode.streaming i) o p → Settled r
+  settled_of : (p r : Result (I × Option O) (Answer.Err E (Option E) Needed)) (o : Outcome V) → Settles p r → m.answers mode.streaming i o →
+      Shows w IsOutput mode i (m.blames mode.streaming i) o p → Settled r
   settled_of p r (Accept n v) q a s = Shown (Accept n v) (Accept n v, a, refl) (s.0, s.1, s.2, s.3, subst (λ z. Settles z r) s.4 q)
-  settled_of p r Refuse q a s = Shown Refuse (Refuse, a, refl) (s.0, built_error mode.errors _ _ s.0 (λ y b. (Refuse, a, b)) s.1, subst (λ z. Settles z r) s.2 q)
+  settled_of p r Refuse q a s = Shown Refuse (Refuse, a, refl)
+      (s.0, built_error mode.errors _ _ s.0 (λ y b. (Refuse, a, b)) s.1, subst (λ z. Settles z r) s.2 q)
   settled_of p r Fail q a s = Shown Fail (Fail, a, refl) (s.0, (Fail, a, s.1), subst (λ z. Settles z r) s.2 q)
   settled_of p r TooLarge q a s = Shown TooLarge (TooLarge, a, refl) (s.0, (TooLarge, a, s.1), subst (λ z. Settles z r) s.2 q)
   settled_of p r (Undecided k) q a s = let t = subst (λ z. Settles z r) s.2 q in wanting k r t.0 a t.1 t.2

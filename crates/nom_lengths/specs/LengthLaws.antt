@@ -11,14 +11,16 @@ use Rattle.nom_repeat.specs.ItemsLaws.{items_lawful, items_steady}
 use Rattle.nom_lengths.specs.Lengths.{behind_length, takes_by_count, length_data_meaning, items_by_count, length_count_meaning}
 use Rattle.nom_repeat.specs.Bounds.{exact_limits}
 
-module _ {I A P Q T E : Type 0} (w : Seen I A) (l : InputLaws w) (tree : P → Q → T) (IsLength : P → ℕ → Type 0) (one : IsOne IsLength) (a : Meaning I P E) (f : Family ℕ I Q E) where
+module _ {I A P Q T E : Type 0} (w : Seen I A) (l : InputLaws w) (tree : P → Q → T) (IsLength : P → ℕ → Type 0) (one : IsOne IsLength)
+    (a : Meaning I P E) (f : Family ℕ I Q E) where
   pub behind_lawful : IsLawful w a → IsLawfulFamily w (λ n. (u : P) × IsLength u n) f → IsLawful w (behind_length w tree IsLength a f)
   behind_lawful p q = then_lawful w l tree (with_outputs true) (λ o. o) a (of_value IsLength f) p (of_value_lawful w IsLength f one q)
 
   pub behind_steady : IsSteady w a → ((n : ℕ) → IsSteady w (f.at n)) → IsSteady w (behind_length w tree IsLength a f)
   behind_steady p q = then_steady w l tree (with_outputs true) (λ o. o) a (of_value IsLength f) p (of_value_steady w IsLength f one (λ n _. q n))
 
-module _ {I A P E : Type 0} (w : Seen I A) (l : InputLaws w) (errs : Errors I E) (lack : ℕ → List A → Option ℕ) (IsLength : P → ℕ → Type 0) (a : Meaning I P E) (one : IsOne IsLength) where
+module _ {I A P E : Type 0} (w : Seen I A) (l : InputLaws w) (errs : Errors I E) (lack : ℕ → List A → Option ℕ) (IsLength : P → ℕ → Type 0)
+    (a : Meaning I P E) (one : IsOne IsLength) where
   pub length_data_lawful : IsLawful w a → IsLawful w (length_data_meaning w errs lack IsLength a)
   length_data_lawful p =
       let takes : IsLawfulFamily w (λ n. (u : P) × IsLength u n) (takes_by_count w errs lack) = record {
@@ -32,7 +34,8 @@ module _ {I A P E : Type 0} (w : Seen I A) (l : InputLaws w) (errs : Errors I E)
   pub length_data_steady : IsSteady w a → IsSteady w (length_data_meaning w errs lack IsLength a)
   length_data_steady p = behind_steady w l (λ u t. (u, t)) IsLength one a (takes_by_count w errs lack) p (take_steady w errs lack)
 
-module _ {I A P V E : Type 0} (w : Seen I A) (l : InputLaws w) (errs : Errors I E) (IsLength : P → ℕ → Type 0) (a : Meaning I P E) (m : Meaning I V E) (one : IsOne IsLength) where
+module _ {I A P V E : Type 0} (w : Seen I A) (l : InputLaws w) (errs : Errors I E) (IsLength : P → ℕ → Type 0) (a : Meaning I P E) (m : Meaning I V E)
+    (one : IsOne IsLength) where
   pub length_count_lawful : IsLawful w a → IsLawful w m → IsLawful w (length_count_meaning w errs IsLength a m)
   length_count_lawful p q =
       let items : IsLawfulFamily w (λ n. (u : P) × IsLength u n) (items_by_count w errs m) = record {
@@ -44,4 +47,5 @@ module _ {I A P V E : Type 0} (w : Seen I A) (l : InputLaws w) (errs : Errors I 
       behind_lawful w l (λ u vs. vs) IsLength one a (items_by_count w errs m) p items
 
   pub length_count_steady : IsSteady w a → IsSteady w m → IsSteady w (length_count_meaning w errs IsLength a m)
-  length_count_steady p q = behind_steady w l (λ u vs. vs) IsLength one a (items_by_count w errs m) p (λ n. items_steady w l errs (exact_limits n) (Unit {0}) m q)
+  length_count_steady p q = behind_steady w l (λ u vs. vs) IsLength one a (items_by_count w errs m) p
+      (λ n. items_steady w l errs (exact_limits n) (Unit {0}) m q)

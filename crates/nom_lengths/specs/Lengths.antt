@@ -33,7 +33,8 @@ takes_by_count w errs lack = record {
 }
 
 -- a length, and behind it so many items, as `take` takes them
-abbrev pub length_data_meaning : {I A P E : Type 0} → (w : Seen I A) → Errors I E → (ℕ → List A → Option ℕ) → (P → ℕ → Type 0) → Meaning I P E → Meaning I (P × Slice w) E
+abbrev pub length_data_meaning : {I A P E : Type 0} → (w : Seen I A) → Errors I E → (ℕ → List A → Option ℕ) → (P → ℕ → Type 0) → Meaning I P E →
+    Meaning I (P × Slice w) E
 length_data_meaning w errs lack IsLength a = behind_length w (λ u t. (u, t)) IsLength a (takes_by_count w errs lack)
 
 -- the items of a part, by their number: a list, which grows by each where outputs are built

@@ -7,7 +7,8 @@ use Rattle.nom_internal.specs.Meaning.{Meaning}
 use Rattle.nom_repeat.specs.Accepted.{InTurn}
 
 -- a length, and behind it just so many items in turn, of any length
-pub record CountedItems {I A P V : Type 0} (w : Seen I A) (Length : I → Outcome P → Type 0) (IsCount : P → ℕ → Type 0) (Item : I → Outcome V → Type 0) (i : I) (n : ℕ) (vs : List V) : Type 0 where
+pub record CountedItems {I A P V : Type 0} (w : Seen I A) (Length : I → Outcome P → Type 0) (IsCount : P → ℕ → Type 0) (Item : I → Outcome V → Type 0)
+    (i : I) (n : ℕ) (vs : List V) : Type 0 where
   pub first_length : ℕ
   pub tree : P
   pub count : ℕ
@@ -21,4 +22,5 @@ pub record CountedItems {I A P V : Type 0} (w : Seen I A) (Length : I → Outcom
 
 -- What a list of the part m behind a length accepts: a length of the part a, and just so many items as its tree stands for.
 abbrev pub AcceptsCounted : {I A P V E : Type 0} → Seen I A → (P → ℕ → Type 0) → Meaning I P E → Meaning I V E → Meaning I (List V) E → Type 0
-AcceptsCounted {I} {V = V} w IsCount a m whole = (s : Bool) (i : I) (n : ℕ) (vs : List V) → whole.answers s i (Accept n vs) ↔ CountedItems w (a.answers s) IsCount (m.answers s) i n vs
+AcceptsCounted {I} {V = V} w IsCount a m whole =
+    (s : Bool) (i : I) (n : ℕ) (vs : List V) → whole.answers s i (Accept n vs) ↔ CountedItems w (a.answers s) IsCount (m.answers s) i n vs

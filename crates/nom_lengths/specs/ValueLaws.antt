@@ -19,7 +19,8 @@ use Rattle.nom_lengths.specs.LengthLaws.{behind_lawful, behind_steady}
 use Rattle.nom_lengths.specs.Values.{cuts, cut_meaning, settled, settled_meaning, values_by_length, length_value_meaning}
 
 -- a front of a longer list that isn't longer than a list is a front of that
-front_of : {A : Type 0} (weight : A → ℕ) → ((a : A) → 0 < weight a) → (xs more front rest : List A) → xs ++ more ≡ front ++ rest → span weight front ≤ span weight xs → (k : List A) × (xs ≡ front ++ k)
+front_of : {A : Type 0} (weight : A → ℕ) → ((a : A) → 0 < weight a) → (xs more front rest : List A) → xs ++ more ≡ front ++ rest →
+    span weight front ≤ span weight xs → (k : List A) × (xs ≡ front ++ k)
 front_of weight pos xs more [] rest e h = (xs, refl)
 front_of weight pos [] more (y ∷ front) rest e h = absurd (omega (arith, h, pos y))
 front_of weight pos (x ∷ xs) more (y ∷ front) rest e h =
@@ -107,11 +108,13 @@ module _ {I A V E : Type 0} (w : Seen I A) (errs : Errors I E) (m : Meaning I V 
 slices_alike : {I A : Type 0} (w : Seen I A) → AreAlike w (IsSeenAs w)
 slices_alike w u j k a b = record { elements_are = a.elements_are ∙ sym b.elements_are; mark_is = a.mark_is ∙ sym b.mark_is }
 
-module _ {I A P V E : Type 0} (w : Seen I A) (i : InputLaws w) (errs : Errors I E) (IsLength : P → ℕ → Type 0) (a : Meaning I P E) (m : Meaning I V E) (l : IsLawful w m) (one : IsOne IsLength) where
+module _ {I A P V E : Type 0} (w : Seen I A) (i : InputLaws w) (errs : Errors I E) (IsLength : P → ℕ → Type 0) (a : Meaning I P E) (m : Meaning I V E)
+    (l : IsLawful w m) (one : IsOne IsLength) where
   pub length_value_lawful : IsLawful w a → IsLawful w (length_value_meaning w errs IsLength a m)
   length_value_lawful p =
       let values : IsLawfulFamily w (λ n. (u : P) × IsLength u n) (values_by_length w errs m) = record {
-        lawful = λ n _. and_then_lawful w w (IsSeenAs w) (slices_alike w) (settled_meaning errs m) (settled_lawful w errs m l) i (cut_meaning w errs n) (cut_lawful w i errs n);
+        lawful = λ n _. and_then_lawful w w (IsSeenAs w) (slices_alike w) (settled_meaning errs m) (settled_lawful w errs m l) i (cut_meaning w errs n)
+            (cut_lawful w i errs n);
         frugal = λ mode h n _. (h.1, h);
         settles = λ h n _. absurd h;
         never_fails = λ large h n _. (tt, h);
@@ -119,4 +122,6 @@ module _ {I A P V E : Type 0} (w : Seen I A) (i : InputLaws w) (errs : Errors I 
       behind_lawful w i (λ u t. t) IsLength one a (values_by_length w errs m) p values
 
   pub length_value_steady : IsSteady w a → IsSteady w (length_value_meaning w errs IsLength a m)
-  length_value_steady p = behind_steady w i (λ u t. t) IsLength one a (values_by_length w errs m) p (λ n. and_then_steady w w (IsSeenAs w) (slices_alike w) (settled_meaning errs m) (settled_lawful w errs m l) i (cut_meaning w errs n) (cut_steady w i errs n))
+  length_value_steady p = behind_steady w i (λ u t. t) IsLength one a (values_by_length w errs m) p
+      (λ n. and_then_steady w w (IsSeenAs w) (slices_alike w) (settled_meaning errs m) (settled_lawful w errs m l) i (cut_meaning w errs n)
+      (cut_steady w i errs n))

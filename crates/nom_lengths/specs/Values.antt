@@ -59,7 +59,8 @@ settled_meaning {V = V} errs m = record {
 }
 
 -- what is returned on all that there is, by what a part returned
-abbrev pub SettlesResult : {T E : Type 0} → (E → Type 0) → Type 0 → Bool → Result T (Answer.Err E (Option E) Needed) → Result T (Answer.Err E (Option E) Needed) → Type 0
+abbrev pub SettlesResult : {T E : Type 0} → (E → Type 0) → Type 0 → Bool → Result T (Answer.Err E (Option E) Needed) →
+    Result T (Answer.Err E (Option E) Needed) → Type 0
 SettlesResult Own Grows errors (Ok v) r = r ≡ Ok v
 SettlesResult {E = E} Own Grows errors (Err (Incomplete k)) r = (f : Answer.Err E (Option E) Needed) × Refuses Own Grows errors f × (r ≡ Err f)
 SettlesResult Own Grows errors (Err (Error e)) r = r ≡ Err (Error e)

@@ -58,7 +58,8 @@ impl<
         items_exactly::<OM, I, G, Vec<G::Output, A>>(&mut self.parser, rest, none, count)
     }
 
-    ghost lawful = { λ s k. length_count_lawful I.seen I.lawful F.Error.errors (HasSize (F.IsOutput s.0) F.Output.size) (F.meaning s.0) (G.meaning s.1) k.1.1 (F.lawful s.0 k.0) (G.lawful s.1 k.1.0) };
+    ghost lawful = { λ s k. length_count_lawful I.seen I.lawful F.Error.errors (HasSize (F.IsOutput s.0) F.Output.size) (F.meaning s.0)
+        (G.meaning s.1) k.1.1 (F.lawful s.0 k.0) (G.lawful s.1 k.1.0) };
 }
 
 impl<
@@ -72,5 +73,6 @@ impl<
 
     ghost pinned = { λ s k p. list_pinned G.Output.view (G.IsOutput s.1) (G.pinned s.1 k.1.0 p) };
 
-    ghost steady = { λ s k. length_count_steady I.seen I.lawful F.Error.errors (HasSize (F.IsOutput s.0) F.Output.size) (F.meaning s.0) (G.meaning s.1) k.1.1 (F.steady s.0 k.0) (G.steady s.1 k.1.0) };
+    ghost steady = { λ s k. length_count_steady I.seen I.lawful F.Error.errors (HasSize (F.IsOutput s.0) F.Output.size) (F.meaning s.0)
+        (G.meaning s.1) k.1.1 (F.steady s.0 k.0) (G.steady s.1 k.1.0) };
 }

@@ -20,7 +20,8 @@ pub(crate) fn cut<OM: OutputMode, I: Input, E: ParseError<I>>(
     input: I,
     length: usize,
 ) -> PResult<I, I, E>
-    ensures { ShowsMeaning I.seen (IsSeenAs I.seen) (cut_meaning I.seen E.errors length) (modes OM.Output.BUILDS OM.Error.BUILDS OM.Incomplete.STREAMING) input result }
+    ensures { ShowsMeaning I.seen (IsSeenAs I.seen) (cut_meaning I.seen E.errors length)
+        (modes OM.Output.BUILDS OM.Error.BUILDS OM.Incomplete.STREAMING) input result }
 {
     let whole = input.input_len();
     if whole < length {

@@ -50,7 +50,8 @@ impl<I: Input, F: Parser<I, Output: ToUsize> + Drop> Parser<I> for LengthData<F>
         }
     }
 
-    ghost lawful = { λ s k. length_data_lawful I.seen I.lawful F.Error.errors I.lack (HasSize (F.IsOutput s) F.Output.size) (F.meaning s) k.1.1 (F.lawful s k.0) };
+    ghost lawful = { λ s k. length_data_lawful I.seen I.lawful F.Error.errors I.lack (HasSize (F.IsOutput s) F.Output.size)
+        (F.meaning s) k.1.1 (F.lawful s k.0) };
 }
 
 impl<I: Input, F: StreamParser<I, Output: ToUsize> + Drop> StreamParser<I> for LengthData<F> {
@@ -59,5 +60,6 @@ impl<I: Input, F: StreamParser<I, Output: ToUsize> + Drop> StreamParser<I> for L
 
     ghost pinned = { λ s k p t a b x y. slice_pinned I.seen I.view I.views t.1 a b x y };
 
-    ghost steady = { λ s k. length_data_steady I.seen I.lawful F.Error.errors I.lack (HasSize (F.IsOutput s) F.Output.size) (F.meaning s) k.1.1 (F.steady s k.0) };
+    ghost steady = { λ s k. length_data_steady I.seen I.lawful F.Error.errors I.lack (HasSize (F.IsOutput s) F.Output.size)
+        (F.meaning s) k.1.1 (F.steady s k.0) };
 }

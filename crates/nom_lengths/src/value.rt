@@ -48,7 +48,8 @@ fn settled<OM: OutputMode, I: Input, G: Parser<I>>(
     input: I,
 ) -> PResult<I, G::Output, G::Error>
     requires sound { (G.meaning (G.state parser.old)).IsSound }
-    ensures shown { ShowsMeaning I.seen (G.IsOutput (G.state parser.old)) (settled_meaning G.Error.errors (G.meaning (G.state parser.old))) (modes OM.Output.BUILDS OM.Error.BUILDS OM.Incomplete.STREAMING) input result }
+    ensures shown { ShowsMeaning I.seen (G.IsOutput (G.state parser.old)) (settled_meaning G.Error.errors (G.meaning (G.state parser.old)))
+        (modes OM.Output.BUILDS OM.Error.BUILDS OM.Incomplete.STREAMING) input result }
     ensures kept { G.state parser.new ≡ G.state parser.old }
 {
     settle::<OM::Error, I, (I, Option<G::Output>), G::Error>(parser.process::<OM>(input), input)
@@ -62,7 +63,9 @@ fn within<OM: OutputMode, I: Input, G: Parser<I>>(
     length: usize,
 ) -> PResult<I, G::Output, G::Error>
     requires sound { (G.meaning (G.state parser.old)).IsSound }
-    ensures shown { ShowsMeaning I.seen (G.IsOutput (G.state parser.old)) ((values_by_length I.seen G.Error.errors (G.meaning (G.state parser.old))).at length) (modes OM.Output.BUILDS OM.Error.BUILDS OM.Incomplete.STREAMING) input result }
+    ensures shown { ShowsMeaning I.seen (G.IsOutput (G.state parser.old))
+        ((values_by_length I.seen G.Error.errors (G.meaning (G.state parser.old))).at length)
+        (modes OM.Output.BUILDS OM.Error.BUILDS OM.Incomplete.STREAMING) input result }
     ensures kept { G.state parser.new ≡ G.state parser.old }
 {
     let (rest, slice) = cut::<OutputM<Emit, OM::Error, OM::Incomplete>, I, G::Error>(
@@ -112,7 +115,8 @@ impl<
         }
     }
 
-    ghost lawful = { λ s k. length_value_lawful I.seen I.lawful F.Error.errors (HasSize (F.IsOutput s.0) F.Output.size) (F.meaning s.0) (G.meaning s.1) (G.lawful s.1 k.1.0) k.1.1 (F.lawful s.0 k.0) };
+    ghost lawful = { λ s k. length_value_lawful I.seen I.lawful F.Error.errors (HasSize (F.IsOutput s.0) F.Output.size) (F.meaning s.0) (G.meaning s.1)
+        (G.lawful s.1 k.1.0) k.1.1 (F.lawful s.0 k.0) };
 }
 
 impl<
@@ -124,5 +128,6 @@ impl<
 
     ghost pinned = { λ s k p. p };
 
-    ghost steady = { λ s k. length_value_steady I.seen I.lawful F.Error.errors (HasSize (F.IsOutput s.0) F.Output.size) (F.meaning s.0) (G.meaning s.1) (G.lawful s.1 k.1.0) k.1.1 (F.steady s.0 k.0) };
+    ghost steady = { λ s k. length_value_steady I.seen I.lawful F.Error.errors (HasSize (F.IsOutput s.0) F.Output.size) (F.meaning s.0) (G.meaning s.1)
+        (G.lawful s.1 k.1.0) k.1.1 (F.steady s.0 k.0) };
 }

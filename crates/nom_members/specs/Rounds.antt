@@ -49,7 +49,8 @@ WhereRefused Fact (Err OutOfMemory) = Unit {0}
 module _ {I A T E : Type 0} (w : Seen I A) (mode : Modes) (i : I) (AreHeld : T → Type 0) where
   -- what a round shows of a choice among members, with places that hold the outputs of the trees
   abbrev pub ShowsRound : Meaning I T E → Result I (Answer.Err E (Option E) Needed) → Type 0
-  ShowsRound m r = ShowsAnswer w (λ t _. AreHeld t) (with_outputs true mode) i (m.answers mode.streaming i) (m.blames mode.streaming i) (m.runs_out mode i) (as_answer r)
+  ShowsRound m r = ShowsAnswer w (λ t _. AreHeld t) (with_outputs true mode) i (m.answers mode.streaming i) (m.blames mode.streaming i)
+      (m.runs_out mode i) (as_answer r)
 
   -- what a round answers after the trees t, so far: nothing, as it tried none, or what the choice shows
   abbrev pub HasTried : T → Choice I T E → Option (Result I (Answer.Err E (Option E) Needed)) → Type 0

@@ -57,16 +57,21 @@ pub trait Members<I: Items>: Sized {
         input: I,
     ) -> Option<Round<I, Self::Error>>
         requires { AreSound (members (state self.old)) }
-        ensures shown { (t : Tree) → AreHeld OM.Output.BUILDS (state self.old) t slots.old → HasTried I.seen (modes OM.Output.BUILDS OM.Error.BUILDS OM.Incomplete.STREAMING) input (λ u. AreHeld OM.Output.BUILDS (state self.old) u slots.new) t (tried Self.Error.errors.joined Self.Error.errors.grows (members (state self.old)) t) result }
+        ensures shown { (t : Tree) → AreHeld OM.Output.BUILDS (state self.old) t slots.old →
+            HasTried I.seen (modes OM.Output.BUILDS OM.Error.BUILDS OM.Incomplete.STREAMING) input
+            (λ u. AreHeld OM.Output.BUILDS (state self.old) u slots.new) t
+            (tried Self.Error.errors.joined Self.Error.errors.grows (members (state self.old)) t) result }
         ensures counted { waiting slots.new + applies result ≡ waiting slots.old }
         ensures kept { state self.new ≡ state self.old };
 
     /// The outputs, put together.
     fn outputs(slots: Self::Slots) -> Option<Self::Output>
-        ensures { (outputs : Bool) (s : State) (t : Tree) → AreHeld outputs s t slots → IsOver (tried Self.Error.errors.joined Self.Error.errors.grows (members s) t) → Built outputs (IsOutput s t) result };
+        ensures { (outputs : Bool) (s : State) (t : Tree) → AreHeld outputs s t slots →
+            IsOver (tried Self.Error.errors.joined Self.Error.errors.grows (members s) t) → Built outputs (IsOutput s t) result };
 
     /// Where no place waits, no member is tried.
-    ghost over: { (outputs : Bool) (s : State) (t : Tree) (slots : Self.Slots) → AreHeld outputs s t slots → waiting slots ≡ 0 → IsOver (tried Self.Error.errors.joined Self.Error.errors.grows (members s) t) };
+    ghost over: { (outputs : Bool) (s : State) (t : Tree) (slots : Self.Slots) → AreHeld outputs s t slots → waiting slots ≡ 0 →
+        IsOver (tried Self.Error.errors.joined Self.Error.errors.grows (members s) t) };
 
     ghost lawful: { (s : State) → AreSound (members s) → AreLawful I.seen (members s) };
 

@@ -60,7 +60,10 @@ impl<I: Items, A: Parser<I>, B: Parser<I, Error = A::Error>> Members<I> for (A, 
         combine(taken(a), taken(b))
     }
 
-    ghost over = { λ outputs s t slots h z. step_over A.Error.errors.joined A.Error.errors.grows (B.meaning s.1) (λ v. (t.0, Some v)) outputs (B.IsOutput s.1) (waits slots.0) _ t.1 slots.1 (first_over A.Error.errors.joined A.Error.errors.grows (A.meaning s.0) (λ v. (Some v, t.1)) outputs (A.IsOutput s.0) t.0 slots.0 h.0) h.1 z };
+    ghost over = { λ outputs s t slots h z. step_over A.Error.errors.joined A.Error.errors.grows (B.meaning s.1)
+        (λ v. (t.0, Some v)) outputs (B.IsOutput s.1)
+        (waits slots.0) _ t.1 slots.1 (first_over A.Error.errors.joined A.Error.errors.grows (A.meaning s.0)
+        (λ v. (Some v, t.1)) outputs (A.IsOutput s.0) t.0 slots.0 h.0) h.1 z };
 
     ghost lawful = { λ s k. (A.lawful s.0 k.0, (B.lawful s.1 k.1.0, tt)) };
 
@@ -73,7 +76,8 @@ impl<I: Items, A: StreamParser<I>, B: StreamParser<I, Error = A::Error>> StreamM
     for (A, B) {
     ghost use Rattle.nom_members.specs.MemberLaws.{applied_pinned, same_2};
 
-    ghost pinned = { λ s k p t o q h g. same_2 (applied_pinned A.Output.view (A.IsOutput s.0) (A.pinned s.0 k.0 p.0) t.0 o.0 q.0 h.0 g.0) (applied_pinned B.Output.view (B.IsOutput s.1) (B.pinned s.1 k.1.0 p.1) t.1 o.1 q.1 h.1 g.1) };
+    ghost pinned = { λ s k p t o q h g. same_2 (applied_pinned A.Output.view (A.IsOutput s.0) (A.pinned s.0 k.0 p.0) t.0 o.0 q.0 h.0 g.0)
+        (applied_pinned B.Output.view (B.IsOutput s.1) (B.pinned s.1 k.1.0 p.1) t.1 o.1 q.1 h.1 g.1) };
 
     ghost steady = { λ s k. (A.steady s.0 k.0, (B.steady s.1 k.1.0, tt)) };
 }
@@ -100,9 +104,11 @@ impl<
 
     ghost none = { (None, None, None) };
 
-    ghost members = { λ s. member (A.meaning s.0) (λ t. t.0) (λ t v. (Some v, t.1, t.2)) ∷ member (B.meaning s.1) (λ t. t.1) (λ t v. (t.0, Some v, t.2)) ∷ member (C.meaning s.2) (λ t. t.2) (λ t v. (t.0, t.1, Some v)) ∷ [] };
+    ghost members = { λ s. member (A.meaning s.0) (λ t. t.0) (λ t v. (Some v, t.1, t.2)) ∷
+        member (B.meaning s.1) (λ t. t.1) (λ t v. (t.0, Some v, t.2)) ∷ member (C.meaning s.2) (λ t. t.2) (λ t v. (t.0, t.1, Some v)) ∷ [] };
 
-    ghost AreHeld = { λ outputs s t slots. Holds outputs (A.IsOutput s.0) t.0 slots.0 × Holds outputs (B.IsOutput s.1) t.1 slots.1 × Holds outputs (C.IsOutput s.2) t.2 slots.2 };
+    ghost AreHeld = { λ outputs s t slots. Holds outputs (A.IsOutput s.0) t.0 slots.0 × Holds outputs (B.IsOutput s.1) t.1 slots.1 ×
+        Holds outputs (C.IsOutput s.2) t.2 slots.2 };
 
     ghost waiting = { λ slots. waits slots.0 + waits slots.1 + waits slots.2 };
 
@@ -134,13 +140,21 @@ impl<
         made_flat(outputs)
     }
 
-    ghost over = { λ outputs s t slots h z. step_over A.Error.errors.joined A.Error.errors.grows (C.meaning s.2) (λ v. (t.0, t.1, Some v)) outputs (C.IsOutput s.2) (waits slots.0 + waits slots.1) _ t.2 slots.2 (step_over A.Error.errors.joined A.Error.errors.grows (B.meaning s.1) (λ v. (t.0, Some v, t.2)) outputs (B.IsOutput s.1) (waits slots.0) _ t.1 slots.1 (first_over A.Error.errors.joined A.Error.errors.grows (A.meaning s.0) (λ v. (Some v, t.1, t.2)) outputs (A.IsOutput s.0) t.0 slots.0 h.0) h.1) h.2 z };
+    ghost over = { λ outputs s t slots h z. step_over A.Error.errors.joined A.Error.errors.grows (C.meaning s.2)
+        (λ v. (t.0, t.1, Some v)) outputs (C.IsOutput s.2)
+        (waits slots.0 + waits slots.1) _ t.2 slots.2
+        (step_over A.Error.errors.joined A.Error.errors.grows (B.meaning s.1) (λ v. (t.0, Some v, t.2)) outputs (B.IsOutput s.1)
+        (waits slots.0) _ t.1 slots.1 (first_over A.Error.errors.joined A.Error.errors.grows (A.meaning s.0)
+        (λ v. (Some v, t.1, t.2)) outputs (A.IsOutput s.0) t.0 slots.0 h.0) h.1) h.2 z };
 
     ghost lawful = { λ s k. (A.lawful s.0 k.0, (B.lawful s.1 k.1.0, (C.lawful s.2 k.1.1.0, tt))) };
 
     ghost all_wait = { λ s. (refl, (refl, (refl, tt))) };
 
-    ghost one_fewer = { λ s. (λ t v e. here t.0 _ e, (λ t v e. there (is_left t.0) _ _ (here t.1 _ e), (λ t v e. there (is_left t.0) _ _ (there (is_left t.1) _ _ (here t.2 _ e)), tt))) };
+    ghost one_fewer = { λ s. (
+      λ t v e. here t.0 _ e,
+      (λ t v e. there (is_left t.0) _ _ (here t.1 _ e), (λ t v e. there (is_left t.0) _ _ (there (is_left t.1) _ _ (here t.2 _ e)), tt)),
+    ) };
 }
 
 impl<
@@ -151,7 +165,9 @@ impl<
 > StreamMembers<I> for (A, B, C) {
     ghost use Rattle.nom_members.specs.MemberLaws.{applied_pinned, same_3};
 
-    ghost pinned = { λ s k p t o q h g. same_3 (applied_pinned A.Output.view (A.IsOutput s.0) (A.pinned s.0 k.0 p.0) t.0 o.0 q.0 h.0 g.0) (applied_pinned B.Output.view (B.IsOutput s.1) (B.pinned s.1 k.1.0 p.1) t.1 o.1 q.1 h.1 g.1) (applied_pinned C.Output.view (C.IsOutput s.2) (C.pinned s.2 k.1.1.0 p.2) t.2 o.2 q.2 h.2 g.2) };
+    ghost pinned = { λ s k p t o q h g. same_3 (applied_pinned A.Output.view (A.IsOutput s.0) (A.pinned s.0 k.0 p.0) t.0 o.0 q.0 h.0 g.0)
+        (applied_pinned B.Output.view (B.IsOutput s.1) (B.pinned s.1 k.1.0 p.1) t.1 o.1 q.1 h.1 g.1)
+        (applied_pinned C.Output.view (C.IsOutput s.2) (C.pinned s.2 k.1.1.0 p.2) t.2 o.2 q.2 h.2 g.2) };
 
     ghost steady = { λ s k. (A.steady s.0 k.0, (B.steady s.1 k.1.0, (C.steady s.2 k.1.1.0, tt))) };
 }
@@ -184,13 +200,17 @@ impl<
 
     ghost none = { (None, None, None, None) };
 
-    ghost members = { λ s. member (A.meaning s.0) (λ t. t.0) (λ t v. (Some v, t.1, t.2, t.3)) ∷ member (B.meaning s.1) (λ t. t.1) (λ t v. (t.0, Some v, t.2, t.3)) ∷ member (C.meaning s.2) (λ t. t.2) (λ t v. (t.0, t.1, Some v, t.3)) ∷ member (D.meaning s.3) (λ t. t.3) (λ t v. (t.0, t.1, t.2, Some v)) ∷ [] };
+    ghost members = { λ s. member (A.meaning s.0) (λ t. t.0) (λ t v. (Some v, t.1, t.2, t.3)) ∷
+        member (B.meaning s.1) (λ t. t.1) (λ t v. (t.0, Some v, t.2, t.3)) ∷ member (C.meaning s.2) (λ t. t.2) (λ t v. (t.0, t.1, Some v, t.3)) ∷
+        member (D.meaning s.3) (λ t. t.3) (λ t v. (t.0, t.1, t.2, Some v)) ∷ [] };
 
-    ghost AreHeld = { λ outputs s t slots. Holds outputs (A.IsOutput s.0) t.0 slots.0 × Holds outputs (B.IsOutput s.1) t.1 slots.1 × Holds outputs (C.IsOutput s.2) t.2 slots.2 × Holds outputs (D.IsOutput s.3) t.3 slots.3 };
+    ghost AreHeld = { λ outputs s t slots. Holds outputs (A.IsOutput s.0) t.0 slots.0 × Holds outputs (B.IsOutput s.1) t.1 slots.1 ×
+        Holds outputs (C.IsOutput s.2) t.2 slots.2 × Holds outputs (D.IsOutput s.3) t.3 slots.3 };
 
     ghost waiting = { λ slots. waits slots.0 + waits slots.1 + waits slots.2 + waits slots.3 };
 
-    ghost IsOutput = { λ s t o. IsApplied (A.IsOutput s.0) t.0 o.0 × IsApplied (B.IsOutput s.1) t.1 o.1 × IsApplied (C.IsOutput s.2) t.2 o.2 × IsApplied (D.IsOutput s.3) t.3 o.3 };
+    ghost IsOutput = { λ s t o. IsApplied (A.IsOutput s.0) t.0 o.0 × IsApplied (B.IsOutput s.1) t.1 o.1 × IsApplied (C.IsOutput s.2) t.2 o.2 ×
+        IsApplied (D.IsOutput s.3) t.3 o.3 };
 
     ghost Pins = { λ s. A.Pins s.0 × B.Pins s.1 × C.Pins s.2 × D.Pins s.3 };
 
@@ -220,13 +240,29 @@ impl<
         made_flat(outputs)
     }
 
-    ghost over = { λ outputs s t slots h z. step_over A.Error.errors.joined A.Error.errors.grows (D.meaning s.3) (λ v. (t.0, t.1, t.2, Some v)) outputs (D.IsOutput s.3) (waits slots.0 + waits slots.1 + waits slots.2) _ t.3 slots.3 (step_over A.Error.errors.joined A.Error.errors.grows (C.meaning s.2) (λ v. (t.0, t.1, Some v, t.3)) outputs (C.IsOutput s.2) (waits slots.0 + waits slots.1) _ t.2 slots.2 (step_over A.Error.errors.joined A.Error.errors.grows (B.meaning s.1) (λ v. (t.0, Some v, t.2, t.3)) outputs (B.IsOutput s.1) (waits slots.0) _ t.1 slots.1 (first_over A.Error.errors.joined A.Error.errors.grows (A.meaning s.0) (λ v. (Some v, t.1, t.2, t.3)) outputs (A.IsOutput s.0) t.0 slots.0 h.0) h.1) h.2) h.3 z };
+    ghost over = { λ outputs s t slots h z. step_over A.Error.errors.joined A.Error.errors.grows (D.meaning s.3)
+        (λ v. (t.0, t.1, t.2, Some v)) outputs (D.IsOutput s.3)
+        (waits slots.0 + waits slots.1 + waits slots.2) _ t.3 slots.3
+        (step_over A.Error.errors.joined A.Error.errors.grows (C.meaning s.2) (λ v. (t.0, t.1, Some v, t.3)) outputs (C.IsOutput s.2)
+        (waits slots.0 + waits slots.1) _ t.2 slots.2
+        (step_over A.Error.errors.joined A.Error.errors.grows (B.meaning s.1) (λ v. (t.0, Some v, t.2, t.3)) outputs (B.IsOutput s.1)
+        (waits slots.0) _ t.1 slots.1 (first_over A.Error.errors.joined A.Error.errors.grows (A.meaning s.0)
+        (λ v. (Some v, t.1, t.2, t.3)) outputs (A.IsOutput s.0) t.0 slots.0 h.0) h.1) h.2) h.3 z };
 
     ghost lawful = { λ s k. (A.lawful s.0 k.0, (B.lawful s.1 k.1.0, (C.lawful s.2 k.1.1.0, (D.lawful s.3 k.1.1.1.0, tt)))) };
 
     ghost all_wait = { λ s. (refl, (refl, (refl, (refl, tt)))) };
 
-    ghost one_fewer = { λ s. (λ t v e. here t.0 _ e, (λ t v e. there (is_left t.0) _ _ (here t.1 _ e), (λ t v e. there (is_left t.0) _ _ (there (is_left t.1) _ _ (here t.2 _ e)), (λ t v e. there (is_left t.0) _ _ (there (is_left t.1) _ _ (there (is_left t.2) _ _ (here t.3 _ e))), tt)))) };
+    ghost one_fewer = { λ s. (
+      λ t v e. here t.0 _ e,
+      (
+        λ t v e. there (is_left t.0) _ _ (here t.1 _ e),
+        (
+          λ t v e. there (is_left t.0) _ _ (there (is_left t.1) _ _ (here t.2 _ e)),
+          (λ t v e. there (is_left t.0) _ _ (there (is_left t.1) _ _ (there (is_left t.2) _ _ (here t.3 _ e))), tt),
+        ),
+      ),
+    ) };
 }
 
 impl<
@@ -238,7 +274,10 @@ impl<
 > StreamMembers<I> for (A, B, C, D) {
     ghost use Rattle.nom_members.specs.MemberLaws.{applied_pinned, same_4};
 
-    ghost pinned = { λ s k p t o q h g. same_4 (applied_pinned A.Output.view (A.IsOutput s.0) (A.pinned s.0 k.0 p.0) t.0 o.0 q.0 h.0 g.0) (applied_pinned B.Output.view (B.IsOutput s.1) (B.pinned s.1 k.1.0 p.1) t.1 o.1 q.1 h.1 g.1) (applied_pinned C.Output.view (C.IsOutput s.2) (C.pinned s.2 k.1.1.0 p.2) t.2 o.2 q.2 h.2 g.2) (applied_pinned D.Output.view (D.IsOutput s.3) (D.pinned s.3 k.1.1.1.0 p.3) t.3 o.3 q.3 h.3 g.3) };
+    ghost pinned = { λ s k p t o q h g. same_4 (applied_pinned A.Output.view (A.IsOutput s.0) (A.pinned s.0 k.0 p.0) t.0 o.0 q.0 h.0 g.0)
+        (applied_pinned B.Output.view (B.IsOutput s.1) (B.pinned s.1 k.1.0 p.1) t.1 o.1 q.1 h.1 g.1)
+        (applied_pinned C.Output.view (C.IsOutput s.2) (C.pinned s.2 k.1.1.0 p.2) t.2 o.2 q.2 h.2 g.2)
+        (applied_pinned D.Output.view (D.IsOutput s.3) (D.pinned s.3 k.1.1.1.0 p.3) t.3 o.3 q.3 h.3 g.3) };
 
     ghost steady = { λ s k. (A.steady s.0 k.0, (B.steady s.1 k.1.0, (C.steady s.2 k.1.1.0, (D.steady s.3 k.1.1.1.0, tt)))) };
 }
@@ -273,13 +312,19 @@ impl<
 
     ghost none = { (None, None, None, None, None) };
 
-    ghost members = { λ s. member (A.meaning s.0) (λ t. t.0) (λ t v. (Some v, t.1, t.2, t.3, t.4)) ∷ member (B.meaning s.1) (λ t. t.1) (λ t v. (t.0, Some v, t.2, t.3, t.4)) ∷ member (C.meaning s.2) (λ t. t.2) (λ t v. (t.0, t.1, Some v, t.3, t.4)) ∷ member (D.meaning s.3) (λ t. t.3) (λ t v. (t.0, t.1, t.2, Some v, t.4)) ∷ member (E.meaning s.4) (λ t. t.4) (λ t v. (t.0, t.1, t.2, t.3, Some v)) ∷ [] };
+    ghost members = { λ s. member (A.meaning s.0) (λ t. t.0) (λ t v. (Some v, t.1, t.2, t.3, t.4)) ∷
+        member (B.meaning s.1) (λ t. t.1) (λ t v. (t.0, Some v, t.2, t.3, t.4)) ∷
+        member (C.meaning s.2) (λ t. t.2) (λ t v. (t.0, t.1, Some v, t.3, t.4)) ∷
+        member (D.meaning s.3) (λ t. t.3) (λ t v. (t.0, t.1, t.2, Some v, t.4)) ∷
+        member (E.meaning s.4) (λ t. t.4) (λ t v. (t.0, t.1, t.2, t.3, Some v)) ∷ [] };
 
-    ghost AreHeld = { λ outputs s t slots. Holds outputs (A.IsOutput s.0) t.0 slots.0 × Holds outputs (B.IsOutput s.1) t.1 slots.1 × Holds outputs (C.IsOutput s.2) t.2 slots.2 × Holds outputs (D.IsOutput s.3) t.3 slots.3 × Holds outputs (E.IsOutput s.4) t.4 slots.4 };
+    ghost AreHeld = { λ outputs s t slots. Holds outputs (A.IsOutput s.0) t.0 slots.0 × Holds outputs (B.IsOutput s.1) t.1 slots.1 ×
+        Holds outputs (C.IsOutput s.2) t.2 slots.2 × Holds outputs (D.IsOutput s.3) t.3 slots.3 × Holds outputs (E.IsOutput s.4) t.4 slots.4 };
 
     ghost waiting = { λ slots. waits slots.0 + waits slots.1 + waits slots.2 + waits slots.3 + waits slots.4 };
 
-    ghost IsOutput = { λ s t o. IsApplied (A.IsOutput s.0) t.0 o.0 × IsApplied (B.IsOutput s.1) t.1 o.1 × IsApplied (C.IsOutput s.2) t.2 o.2 × IsApplied (D.IsOutput s.3) t.3 o.3 × IsApplied (E.IsOutput s.4) t.4 o.4 };
+    ghost IsOutput = { λ s t o. IsApplied (A.IsOutput s.0) t.0 o.0 × IsApplied (B.IsOutput s.1) t.1 o.1 × IsApplied (C.IsOutput s.2) t.2 o.2 ×
+        IsApplied (D.IsOutput s.3) t.3 o.3 × IsApplied (E.IsOutput s.4) t.4 o.4 };
 
     ghost Pins = { λ s. A.Pins s.0 × B.Pins s.1 × C.Pins s.2 × D.Pins s.3 × E.Pins s.4 };
 
@@ -317,13 +362,33 @@ impl<
         made_flat(outputs)
     }
 
-    ghost over = { λ outputs s t slots h z. step_over A.Error.errors.joined A.Error.errors.grows (E.meaning s.4) (λ v. (t.0, t.1, t.2, t.3, Some v)) outputs (E.IsOutput s.4) (waits slots.0 + waits slots.1 + waits slots.2 + waits slots.3) _ t.4 slots.4 (step_over A.Error.errors.joined A.Error.errors.grows (D.meaning s.3) (λ v. (t.0, t.1, t.2, Some v, t.4)) outputs (D.IsOutput s.3) (waits slots.0 + waits slots.1 + waits slots.2) _ t.3 slots.3 (step_over A.Error.errors.joined A.Error.errors.grows (C.meaning s.2) (λ v. (t.0, t.1, Some v, t.3, t.4)) outputs (C.IsOutput s.2) (waits slots.0 + waits slots.1) _ t.2 slots.2 (step_over A.Error.errors.joined A.Error.errors.grows (B.meaning s.1) (λ v. (t.0, Some v, t.2, t.3, t.4)) outputs (B.IsOutput s.1) (waits slots.0) _ t.1 slots.1 (first_over A.Error.errors.joined A.Error.errors.grows (A.meaning s.0) (λ v. (Some v, t.1, t.2, t.3, t.4)) outputs (A.IsOutput s.0) t.0 slots.0 h.0) h.1) h.2) h.3) h.4 z };
+    ghost over = { λ outputs s t slots h z. step_over A.Error.errors.joined A.Error.errors.grows (E.meaning s.4)
+        (λ v. (t.0, t.1, t.2, t.3, Some v)) outputs (E.IsOutput s.4) (waits slots.0 + waits slots.1 + waits slots.2 + waits slots.3) _ t.4 slots.4
+        (step_over A.Error.errors.joined A.Error.errors.grows (D.meaning s.3) (λ v. (t.0, t.1, t.2, Some v, t.4)) outputs (D.IsOutput s.3)
+        (waits slots.0 + waits slots.1 + waits slots.2) _ t.3 slots.3
+        (step_over A.Error.errors.joined A.Error.errors.grows (C.meaning s.2) (λ v. (t.0, t.1, Some v, t.3, t.4)) outputs (C.IsOutput s.2)
+        (waits slots.0 + waits slots.1) _ t.2 slots.2
+        (step_over A.Error.errors.joined A.Error.errors.grows (B.meaning s.1) (λ v. (t.0, Some v, t.2, t.3, t.4)) outputs (B.IsOutput s.1)
+        (waits slots.0) _ t.1 slots.1 (first_over A.Error.errors.joined A.Error.errors.grows (A.meaning s.0)
+        (λ v. (Some v, t.1, t.2, t.3, t.4)) outputs (A.IsOutput s.0) t.0 slots.0 h.0) h.1) h.2) h.3) h.4 z };
 
     ghost lawful = { λ s k. (A.lawful s.0 k.0, (B.lawful s.1 k.1.0, (C.lawful s.2 k.1.1.0, (D.lawful s.3 k.1.1.1.0, (E.lawful s.4 k.1.1.1.1.0, tt))))) };
 
     ghost all_wait = { λ s. (refl, (refl, (refl, (refl, (refl, tt))))) };
 
-    ghost one_fewer = { λ s. (λ t v e. here t.0 _ e, (λ t v e. there (is_left t.0) _ _ (here t.1 _ e), (λ t v e. there (is_left t.0) _ _ (there (is_left t.1) _ _ (here t.2 _ e)), (λ t v e. there (is_left t.0) _ _ (there (is_left t.1) _ _ (there (is_left t.2) _ _ (here t.3 _ e))), (λ t v e. there (is_left t.0) _ _ (there (is_left t.1) _ _ (there (is_left t.2) _ _ (there (is_left t.3) _ _ (here t.4 _ e)))), tt))))) };
+    ghost one_fewer = { λ s. (
+      λ t v e. here t.0 _ e,
+      (
+        λ t v e. there (is_left t.0) _ _ (here t.1 _ e),
+        (
+          λ t v e. there (is_left t.0) _ _ (there (is_left t.1) _ _ (here t.2 _ e)),
+          (
+            λ t v e. there (is_left t.0) _ _ (there (is_left t.1) _ _ (there (is_left t.2) _ _ (here t.3 _ e))),
+            (λ t v e. there (is_left t.0) _ _ (there (is_left t.1) _ _ (there (is_left t.2) _ _ (there (is_left t.3) _ _ (here t.4 _ e)))), tt),
+          ),
+        ),
+      ),
+    ) };
 }
 
 impl<
@@ -336,7 +401,11 @@ impl<
 > StreamMembers<I> for (A, B, C, D, E) {
     ghost use Rattle.nom_members.specs.MemberLaws.{applied_pinned, same_5};
 
-    ghost pinned = { λ s k p t o q h g. same_5 (applied_pinned A.Output.view (A.IsOutput s.0) (A.pinned s.0 k.0 p.0) t.0 o.0 q.0 h.0 g.0) (applied_pinned B.Output.view (B.IsOutput s.1) (B.pinned s.1 k.1.0 p.1) t.1 o.1 q.1 h.1 g.1) (applied_pinned C.Output.view (C.IsOutput s.2) (C.pinned s.2 k.1.1.0 p.2) t.2 o.2 q.2 h.2 g.2) (applied_pinned D.Output.view (D.IsOutput s.3) (D.pinned s.3 k.1.1.1.0 p.3) t.3 o.3 q.3 h.3 g.3) (applied_pinned E.Output.view (E.IsOutput s.4) (E.pinned s.4 k.1.1.1.1.0 p.4) t.4 o.4 q.4 h.4 g.4) };
+    ghost pinned = { λ s k p t o q h g. same_5 (applied_pinned A.Output.view (A.IsOutput s.0) (A.pinned s.0 k.0 p.0) t.0 o.0 q.0 h.0 g.0)
+        (applied_pinned B.Output.view (B.IsOutput s.1) (B.pinned s.1 k.1.0 p.1) t.1 o.1 q.1 h.1 g.1)
+        (applied_pinned C.Output.view (C.IsOutput s.2) (C.pinned s.2 k.1.1.0 p.2) t.2 o.2 q.2 h.2 g.2)
+        (applied_pinned D.Output.view (D.IsOutput s.3) (D.pinned s.3 k.1.1.1.0 p.3) t.3 o.3 q.3 h.3 g.3)
+        (applied_pinned E.Output.view (E.IsOutput s.4) (E.pinned s.4 k.1.1.1.1.0 p.4) t.4 o.4 q.4 h.4 g.4) };
 
     ghost steady = { λ s k. (A.steady s.0 k.0, (B.steady s.1 k.1.0, (C.steady s.2 k.1.1.0, (D.steady s.3 k.1.1.1.0, (E.steady s.4 k.1.1.1.1.0, tt))))) };
 }
@@ -380,13 +449,21 @@ impl<
 
     ghost none = { (None, None, None, None, None, None) };
 
-    ghost members = { λ s. member (A.meaning s.0) (λ t. t.0) (λ t v. (Some v, t.1, t.2, t.3, t.4, t.5)) ∷ member (B.meaning s.1) (λ t. t.1) (λ t v. (t.0, Some v, t.2, t.3, t.4, t.5)) ∷ member (C.meaning s.2) (λ t. t.2) (λ t v. (t.0, t.1, Some v, t.3, t.4, t.5)) ∷ member (D.meaning s.3) (λ t. t.3) (λ t v. (t.0, t.1, t.2, Some v, t.4, t.5)) ∷ member (E.meaning s.4) (λ t. t.4) (λ t v. (t.0, t.1, t.2, t.3, Some v, t.5)) ∷ member (F.meaning s.5) (λ t. t.5) (λ t v. (t.0, t.1, t.2, t.3, t.4, Some v)) ∷ [] };
+    ghost members = { λ s. member (A.meaning s.0) (λ t. t.0) (λ t v. (Some v, t.1, t.2, t.3, t.4, t.5)) ∷
+        member (B.meaning s.1) (λ t. t.1) (λ t v. (t.0, Some v, t.2, t.3, t.4, t.5)) ∷
+        member (C.meaning s.2) (λ t. t.2) (λ t v. (t.0, t.1, Some v, t.3, t.4, t.5)) ∷
+        member (D.meaning s.3) (λ t. t.3) (λ t v. (t.0, t.1, t.2, Some v, t.4, t.5)) ∷
+        member (E.meaning s.4) (λ t. t.4) (λ t v. (t.0, t.1, t.2, t.3, Some v, t.5)) ∷
+        member (F.meaning s.5) (λ t. t.5) (λ t v. (t.0, t.1, t.2, t.3, t.4, Some v)) ∷ [] };
 
-    ghost AreHeld = { λ outputs s t slots. Holds outputs (A.IsOutput s.0) t.0 slots.0 × Holds outputs (B.IsOutput s.1) t.1 slots.1 × Holds outputs (C.IsOutput s.2) t.2 slots.2 × Holds outputs (D.IsOutput s.3) t.3 slots.3 × Holds outputs (E.IsOutput s.4) t.4 slots.4 × Holds outputs (F.IsOutput s.5) t.5 slots.5 };
+    ghost AreHeld = { λ outputs s t slots. Holds outputs (A.IsOutput s.0) t.0 slots.0 × Holds outputs (B.IsOutput s.1) t.1 slots.1 ×
+        Holds outputs (C.IsOutput s.2) t.2 slots.2 × Holds outputs (D.IsOutput s.3) t.3 slots.3 × Holds outputs (E.IsOutput s.4) t.4 slots.4 ×
+        Holds outputs (F.IsOutput s.5) t.5 slots.5 };
 
     ghost waiting = { λ slots. waits slots.0 + waits slots.1 + waits slots.2 + waits slots.3 + waits slots.4 + waits slots.5 };
 
-    ghost IsOutput = { λ s t o. IsApplied (A.IsOutput s.0) t.0 o.0 × IsApplied (B.IsOutput s.1) t.1 o.1 × IsApplied (C.IsOutput s.2) t.2 o.2 × IsApplied (D.IsOutput s.3) t.3 o.3 × IsApplied (E.IsOutput s.4) t.4 o.4 × IsApplied (F.IsOutput s.5) t.5 o.5 };
+    ghost IsOutput = { λ s t o. IsApplied (A.IsOutput s.0) t.0 o.0 × IsApplied (B.IsOutput s.1) t.1 o.1 × IsApplied (C.IsOutput s.2) t.2 o.2 ×
+        IsApplied (D.IsOutput s.3) t.3 o.3 × IsApplied (E.IsOutput s.4) t.4 o.4 × IsApplied (F.IsOutput s.5) t.5 o.5 };
 
     ghost Pins = { λ s. A.Pins s.0 × B.Pins s.1 × C.Pins s.2 × D.Pins s.3 × E.Pins s.4 × F.Pins s.5 };
 
@@ -427,13 +504,46 @@ impl<
         made_flat(outputs)
     }
 
-    ghost over = { λ outputs s t slots h z. step_over A.Error.errors.joined A.Error.errors.grows (F.meaning s.5) (λ v. (t.0, t.1, t.2, t.3, t.4, Some v)) outputs (F.IsOutput s.5) (waits slots.0 + waits slots.1 + waits slots.2 + waits slots.3 + waits slots.4) _ t.5 slots.5 (step_over A.Error.errors.joined A.Error.errors.grows (E.meaning s.4) (λ v. (t.0, t.1, t.2, t.3, Some v, t.5)) outputs (E.IsOutput s.4) (waits slots.0 + waits slots.1 + waits slots.2 + waits slots.3) _ t.4 slots.4 (step_over A.Error.errors.joined A.Error.errors.grows (D.meaning s.3) (λ v. (t.0, t.1, t.2, Some v, t.4, t.5)) outputs (D.IsOutput s.3) (waits slots.0 + waits slots.1 + waits slots.2) _ t.3 slots.3 (step_over A.Error.errors.joined A.Error.errors.grows (C.meaning s.2) (λ v. (t.0, t.1, Some v, t.3, t.4, t.5)) outputs (C.IsOutput s.2) (waits slots.0 + waits slots.1) _ t.2 slots.2 (step_over A.Error.errors.joined A.Error.errors.grows (B.meaning s.1) (λ v. (t.0, Some v, t.2, t.3, t.4, t.5)) outputs (B.IsOutput s.1) (waits slots.0) _ t.1 slots.1 (first_over A.Error.errors.joined A.Error.errors.grows (A.meaning s.0) (λ v. (Some v, t.1, t.2, t.3, t.4, t.5)) outputs (A.IsOutput s.0) t.0 slots.0 h.0) h.1) h.2) h.3) h.4) h.5 z };
+    ghost over = { λ outputs s t slots h z. step_over A.Error.errors.joined A.Error.errors.grows (F.meaning s.5)
+        (λ v. (t.0, t.1, t.2, t.3, t.4, Some v)) outputs (F.IsOutput s.5)
+        (waits slots.0 + waits slots.1 + waits slots.2 + waits slots.3 + waits slots.4) _ t.5 slots.5
+        (step_over A.Error.errors.joined A.Error.errors.grows (E.meaning s.4) (λ v. (t.0, t.1, t.2, t.3, Some v, t.5)) outputs (E.IsOutput s.4)
+        (waits slots.0 + waits slots.1 + waits slots.2 + waits slots.3) _ t.4 slots.4
+        (step_over A.Error.errors.joined A.Error.errors.grows (D.meaning s.3) (λ v. (t.0, t.1, t.2, Some v, t.4, t.5)) outputs (D.IsOutput s.3)
+        (waits slots.0 + waits slots.1 + waits slots.2) _ t.3 slots.3
+        (step_over A.Error.errors.joined A.Error.errors.grows (C.meaning s.2) (λ v. (t.0, t.1, Some v, t.3, t.4, t.5)) outputs (C.IsOutput s.2)
+        (waits slots.0 + waits slots.1) _ t.2 slots.2
+        (step_over A.Error.errors.joined A.Error.errors.grows (B.meaning s.1) (λ v. (t.0, Some v, t.2, t.3, t.4, t.5)) outputs (B.IsOutput s.1)
+        (waits slots.0) _ t.1 slots.1 (first_over A.Error.errors.joined A.Error.errors.grows (A.meaning s.0)
+        (λ v. (Some v, t.1, t.2, t.3, t.4, t.5)) outputs (A.IsOutput s.0) t.0 slots.0 h.0) h.1) h.2) h.3) h.4) h.5 z };
 
-    ghost lawful = { λ s k. (A.lawful s.0 k.0, (B.lawful s.1 k.1.0, (C.lawful s.2 k.1.1.0, (D.lawful s.3 k.1.1.1.0, (E.lawful s.4 k.1.1.1.1.0, (F.lawful s.5 k.1.1.1.1.1.0, tt)))))) };
+    ghost lawful = { λ s k. (
+      A.lawful s.0 k.0,
+      (B.lawful s.1 k.1.0, (C.lawful s.2 k.1.1.0, (D.lawful s.3 k.1.1.1.0, (E.lawful s.4 k.1.1.1.1.0, (F.lawful s.5 k.1.1.1.1.1.0, tt))))),
+    ) };
 
     ghost all_wait = { λ s. (refl, (refl, (refl, (refl, (refl, (refl, tt)))))) };
 
-    ghost one_fewer = { λ s. (λ t v e. here t.0 _ e, (λ t v e. there (is_left t.0) _ _ (here t.1 _ e), (λ t v e. there (is_left t.0) _ _ (there (is_left t.1) _ _ (here t.2 _ e)), (λ t v e. there (is_left t.0) _ _ (there (is_left t.1) _ _ (there (is_left t.2) _ _ (here t.3 _ e))), (λ t v e. there (is_left t.0) _ _ (there (is_left t.1) _ _ (there (is_left t.2) _ _ (there (is_left t.3) _ _ (here t.4 _ e)))), (λ t v e. there (is_left t.0) _ _ (there (is_left t.1) _ _ (there (is_left t.2) _ _ (there (is_left t.3) _ _ (there (is_left t.4) _ _ (here t.5 _ e))))), tt)))))) };
+    ghost one_fewer = { λ s. (
+      λ t v e. here t.0 _ e,
+      (
+        λ t v e. there (is_left t.0) _ _ (here t.1 _ e),
+        (
+          λ t v e. there (is_left t.0) _ _ (there (is_left t.1) _ _ (here t.2 _ e)),
+          (
+            λ t v e. there (is_left t.0) _ _ (there (is_left t.1) _ _ (there (is_left t.2) _ _ (here t.3 _ e))),
+            (
+              λ t v e. there (is_left t.0) _ _ (there (is_left t.1) _ _ (there (is_left t.2) _ _ (there (is_left t.3) _ _ (here t.4 _ e)))),
+              (
+                λ t v e. there (is_left t.0) _ _
+                    (there (is_left t.1) _ _ (there (is_left t.2) _ _ (there (is_left t.3) _ _ (there (is_left t.4) _ _ (here t.5 _ e))))),
+                tt,
+              ),
+            ),
+          ),
+        ),
+      ),
+    ) };
 }
 
 impl<
@@ -447,9 +557,17 @@ impl<
 > StreamMembers<I> for (A, B, C, D, E, F) {
     ghost use Rattle.nom_members.specs.MemberLaws.{applied_pinned, same_6};
 
-    ghost pinned = { λ s k p t o q h g. same_6 (applied_pinned A.Output.view (A.IsOutput s.0) (A.pinned s.0 k.0 p.0) t.0 o.0 q.0 h.0 g.0) (applied_pinned B.Output.view (B.IsOutput s.1) (B.pinned s.1 k.1.0 p.1) t.1 o.1 q.1 h.1 g.1) (applied_pinned C.Output.view (C.IsOutput s.2) (C.pinned s.2 k.1.1.0 p.2) t.2 o.2 q.2 h.2 g.2) (applied_pinned D.Output.view (D.IsOutput s.3) (D.pinned s.3 k.1.1.1.0 p.3) t.3 o.3 q.3 h.3 g.3) (applied_pinned E.Output.view (E.IsOutput s.4) (E.pinned s.4 k.1.1.1.1.0 p.4) t.4 o.4 q.4 h.4 g.4) (applied_pinned F.Output.view (F.IsOutput s.5) (F.pinned s.5 k.1.1.1.1.1.0 p.5) t.5 o.5 q.5 h.5 g.5) };
+    ghost pinned = { λ s k p t o q h g. same_6 (applied_pinned A.Output.view (A.IsOutput s.0) (A.pinned s.0 k.0 p.0) t.0 o.0 q.0 h.0 g.0)
+        (applied_pinned B.Output.view (B.IsOutput s.1) (B.pinned s.1 k.1.0 p.1) t.1 o.1 q.1 h.1 g.1)
+        (applied_pinned C.Output.view (C.IsOutput s.2) (C.pinned s.2 k.1.1.0 p.2) t.2 o.2 q.2 h.2 g.2)
+        (applied_pinned D.Output.view (D.IsOutput s.3) (D.pinned s.3 k.1.1.1.0 p.3) t.3 o.3 q.3 h.3 g.3)
+        (applied_pinned E.Output.view (E.IsOutput s.4) (E.pinned s.4 k.1.1.1.1.0 p.4) t.4 o.4 q.4 h.4 g.4)
+        (applied_pinned F.Output.view (F.IsOutput s.5) (F.pinned s.5 k.1.1.1.1.1.0 p.5) t.5 o.5 q.5 h.5 g.5) };
 
-    ghost steady = { λ s k. (A.steady s.0 k.0, (B.steady s.1 k.1.0, (C.steady s.2 k.1.1.0, (D.steady s.3 k.1.1.1.0, (E.steady s.4 k.1.1.1.1.0, (F.steady s.5 k.1.1.1.1.1.0, tt)))))) };
+    ghost steady = { λ s k. (
+      A.steady s.0 k.0,
+      (B.steady s.1 k.1.0, (C.steady s.2 k.1.1.0, (D.steady s.3 k.1.1.1.0, (E.steady s.4 k.1.1.1.1.0, (F.steady s.5 k.1.1.1.1.1.0, tt))))),
+    ) };
 }
 
 impl<
@@ -494,13 +612,22 @@ impl<
 
     ghost none = { (None, None, None, None, None, None, None) };
 
-    ghost members = { λ s. member (A.meaning s.0) (λ t. t.0) (λ t v. (Some v, t.1, t.2, t.3, t.4, t.5, t.6)) ∷ member (B.meaning s.1) (λ t. t.1) (λ t v. (t.0, Some v, t.2, t.3, t.4, t.5, t.6)) ∷ member (C.meaning s.2) (λ t. t.2) (λ t v. (t.0, t.1, Some v, t.3, t.4, t.5, t.6)) ∷ member (D.meaning s.3) (λ t. t.3) (λ t v. (t.0, t.1, t.2, Some v, t.4, t.5, t.6)) ∷ member (E.meaning s.4) (λ t. t.4) (λ t v. (t.0, t.1, t.2, t.3, Some v, t.5, t.6)) ∷ member (F.meaning s.5) (λ t. t.5) (λ t v. (t.0, t.1, t.2, t.3, t.4, Some v, t.6)) ∷ member (G.meaning s.6) (λ t. t.6) (λ t v. (t.0, t.1, t.2, t.3, t.4, t.5, Some v)) ∷ [] };
+    ghost members = { λ s. member (A.meaning s.0) (λ t. t.0) (λ t v. (Some v, t.1, t.2, t.3, t.4, t.5, t.6)) ∷
+        member (B.meaning s.1) (λ t. t.1) (λ t v. (t.0, Some v, t.2, t.3, t.4, t.5, t.6)) ∷
+        member (C.meaning s.2) (λ t. t.2) (λ t v. (t.0, t.1, Some v, t.3, t.4, t.5, t.6)) ∷
+        member (D.meaning s.3) (λ t. t.3) (λ t v. (t.0, t.1, t.2, Some v, t.4, t.5, t.6)) ∷
+        member (E.meaning s.4) (λ t. t.4) (λ t v. (t.0, t.1, t.2, t.3, Some v, t.5, t.6)) ∷
+        member (F.meaning s.5) (λ t. t.5) (λ t v. (t.0, t.1, t.2, t.3, t.4, Some v, t.6)) ∷
+        member (G.meaning s.6) (λ t. t.6) (λ t v. (t.0, t.1, t.2, t.3, t.4, t.5, Some v)) ∷ [] };
 
-    ghost AreHeld = { λ outputs s t slots. Holds outputs (A.IsOutput s.0) t.0 slots.0 × Holds outputs (B.IsOutput s.1) t.1 slots.1 × Holds outputs (C.IsOutput s.2) t.2 slots.2 × Holds outputs (D.IsOutput s.3) t.3 slots.3 × Holds outputs (E.IsOutput s.4) t.4 slots.4 × Holds outputs (F.IsOutput s.5) t.5 slots.5 × Holds outputs (G.IsOutput s.6) t.6 slots.6 };
+    ghost AreHeld = { λ outputs s t slots. Holds outputs (A.IsOutput s.0) t.0 slots.0 × Holds outputs (B.IsOutput s.1) t.1 slots.1 ×
+        Holds outputs (C.IsOutput s.2) t.2 slots.2 × Holds outputs (D.IsOutput s.3) t.3 slots.3 × Holds outputs (E.IsOutput s.4) t.4 slots.4 ×
+        Holds outputs (F.IsOutput s.5) t.5 slots.5 × Holds outputs (G.IsOutput s.6) t.6 slots.6 };
 
     ghost waiting = { λ slots. waits slots.0 + waits slots.1 + waits slots.2 + waits slots.3 + waits slots.4 + waits slots.5 + waits slots.6 };
 
-    ghost IsOutput = { λ s t o. IsApplied (A.IsOutput s.0) t.0 o.0 × IsApplied (B.IsOutput s.1) t.1 o.1 × IsApplied (C.IsOutput s.2) t.2 o.2 × IsApplied (D.IsOutput s.3) t.3 o.3 × IsApplied (E.IsOutput s.4) t.4 o.4 × IsApplied (F.IsOutput s.5) t.5 o.5 × IsApplied (G.IsOutput s.6) t.6 o.6 };
+    ghost IsOutput = { λ s t o. IsApplied (A.IsOutput s.0) t.0 o.0 × IsApplied (B.IsOutput s.1) t.1 o.1 × IsApplied (C.IsOutput s.2) t.2 o.2 ×
+        IsApplied (D.IsOutput s.3) t.3 o.3 × IsApplied (E.IsOutput s.4) t.4 o.4 × IsApplied (F.IsOutput s.5) t.5 o.5 × IsApplied (G.IsOutput s.6) t.6 o.6 };
 
     ghost Pins = { λ s. A.Pins s.0 × B.Pins s.1 × C.Pins s.2 × D.Pins s.3 × E.Pins s.4 × F.Pins s.5 × G.Pins s.6 };
 
@@ -544,13 +671,59 @@ impl<
         made_flat(outputs)
     }
 
-    ghost over = { λ outputs s t slots h z. step_over A.Error.errors.joined A.Error.errors.grows (G.meaning s.6) (λ v. (t.0, t.1, t.2, t.3, t.4, t.5, Some v)) outputs (G.IsOutput s.6) (waits slots.0 + waits slots.1 + waits slots.2 + waits slots.3 + waits slots.4 + waits slots.5) _ t.6 slots.6 (step_over A.Error.errors.joined A.Error.errors.grows (F.meaning s.5) (λ v. (t.0, t.1, t.2, t.3, t.4, Some v, t.6)) outputs (F.IsOutput s.5) (waits slots.0 + waits slots.1 + waits slots.2 + waits slots.3 + waits slots.4) _ t.5 slots.5 (step_over A.Error.errors.joined A.Error.errors.grows (E.meaning s.4) (λ v. (t.0, t.1, t.2, t.3, Some v, t.5, t.6)) outputs (E.IsOutput s.4) (waits slots.0 + waits slots.1 + waits slots.2 + waits slots.3) _ t.4 slots.4 (step_over A.Error.errors.joined A.Error.errors.grows (D.meaning s.3) (λ v. (t.0, t.1, t.2, Some v, t.4, t.5, t.6)) outputs (D.IsOutput s.3) (waits slots.0 + waits slots.1 + waits slots.2) _ t.3 slots.3 (step_over A.Error.errors.joined A.Error.errors.grows (C.meaning s.2) (λ v. (t.0, t.1, Some v, t.3, t.4, t.5, t.6)) outputs (C.IsOutput s.2) (waits slots.0 + waits slots.1) _ t.2 slots.2 (step_over A.Error.errors.joined A.Error.errors.grows (B.meaning s.1) (λ v. (t.0, Some v, t.2, t.3, t.4, t.5, t.6)) outputs (B.IsOutput s.1) (waits slots.0) _ t.1 slots.1 (first_over A.Error.errors.joined A.Error.errors.grows (A.meaning s.0) (λ v. (Some v, t.1, t.2, t.3, t.4, t.5, t.6)) outputs (A.IsOutput s.0) t.0 slots.0 h.0) h.1) h.2) h.3) h.4) h.5) h.6 z };
+    ghost over = { λ outputs s t slots h z. step_over A.Error.errors.joined A.Error.errors.grows (G.meaning s.6)
+        (λ v. (t.0, t.1, t.2, t.3, t.4, t.5, Some v)) outputs (G.IsOutput s.6)
+        (waits slots.0 + waits slots.1 + waits slots.2 + waits slots.3 + waits slots.4 + waits slots.5) _ t.6 slots.6
+        (step_over A.Error.errors.joined A.Error.errors.grows (F.meaning s.5) (λ v. (t.0, t.1, t.2, t.3, t.4, Some v, t.6)) outputs (F.IsOutput s.5)
+        (waits slots.0 + waits slots.1 + waits slots.2 + waits slots.3 + waits slots.4) _ t.5 slots.5
+        (step_over A.Error.errors.joined A.Error.errors.grows (E.meaning s.4) (λ v. (t.0, t.1, t.2, t.3, Some v, t.5, t.6)) outputs (E.IsOutput s.4)
+        (waits slots.0 + waits slots.1 + waits slots.2 + waits slots.3) _ t.4 slots.4
+        (step_over A.Error.errors.joined A.Error.errors.grows (D.meaning s.3) (λ v. (t.0, t.1, t.2, Some v, t.4, t.5, t.6)) outputs (D.IsOutput s.3)
+        (waits slots.0 + waits slots.1 + waits slots.2) _ t.3 slots.3
+        (step_over A.Error.errors.joined A.Error.errors.grows (C.meaning s.2) (λ v. (t.0, t.1, Some v, t.3, t.4, t.5, t.6)) outputs (C.IsOutput s.2)
+        (waits slots.0 + waits slots.1) _ t.2 slots.2
+        (step_over A.Error.errors.joined A.Error.errors.grows (B.meaning s.1) (λ v. (t.0, Some v, t.2, t.3, t.4, t.5, t.6)) outputs (B.IsOutput s.1)
+        (waits slots.0) _ t.1 slots.1 (first_over A.Error.errors.joined A.Error.errors.grows (A.meaning s.0)
+        (λ v. (Some v, t.1, t.2, t.3, t.4, t.5, t.6)) outputs (A.IsOutput s.0) t.0 slots.0 h.0) h.1) h.2) h.3) h.4) h.5) h.6 z };
 
-    ghost lawful = { λ s k. (A.lawful s.0 k.0, (B.lawful s.1 k.1.0, (C.lawful s.2 k.1.1.0, (D.lawful s.3 k.1.1.1.0, (E.lawful s.4 k.1.1.1.1.0, (F.lawful s.5 k.1.1.1.1.1.0, (G.lawful s.6 k.1.1.1.1.1.1.0, tt))))))) };
+    ghost lawful = { λ s k. (
+      A.lawful s.0 k.0,
+      (
+        B.lawful s.1 k.1.0,
+        (
+          C.lawful s.2 k.1.1.0,
+          (D.lawful s.3 k.1.1.1.0, (E.lawful s.4 k.1.1.1.1.0, (F.lawful s.5 k.1.1.1.1.1.0, (G.lawful s.6 k.1.1.1.1.1.1.0, tt)))),
+        ),
+      ),
+    ) };
 
     ghost all_wait = { λ s. (refl, (refl, (refl, (refl, (refl, (refl, (refl, tt))))))) };
 
-    ghost one_fewer = { λ s. (λ t v e. here t.0 _ e, (λ t v e. there (is_left t.0) _ _ (here t.1 _ e), (λ t v e. there (is_left t.0) _ _ (there (is_left t.1) _ _ (here t.2 _ e)), (λ t v e. there (is_left t.0) _ _ (there (is_left t.1) _ _ (there (is_left t.2) _ _ (here t.3 _ e))), (λ t v e. there (is_left t.0) _ _ (there (is_left t.1) _ _ (there (is_left t.2) _ _ (there (is_left t.3) _ _ (here t.4 _ e)))), (λ t v e. there (is_left t.0) _ _ (there (is_left t.1) _ _ (there (is_left t.2) _ _ (there (is_left t.3) _ _ (there (is_left t.4) _ _ (here t.5 _ e))))), (λ t v e. there (is_left t.0) _ _ (there (is_left t.1) _ _ (there (is_left t.2) _ _ (there (is_left t.3) _ _ (there (is_left t.4) _ _ (there (is_left t.5) _ _ (here t.6 _ e)))))), tt))))))) };
+    ghost one_fewer = { λ s. (
+      λ t v e. here t.0 _ e,
+      (
+        λ t v e. there (is_left t.0) _ _ (here t.1 _ e),
+        (
+          λ t v e. there (is_left t.0) _ _ (there (is_left t.1) _ _ (here t.2 _ e)),
+          (
+            λ t v e. there (is_left t.0) _ _ (there (is_left t.1) _ _ (there (is_left t.2) _ _ (here t.3 _ e))),
+            (
+              λ t v e. there (is_left t.0) _ _ (there (is_left t.1) _ _ (there (is_left t.2) _ _ (there (is_left t.3) _ _ (here t.4 _ e)))),
+              (
+                λ t v e. there (is_left t.0) _ _
+                    (there (is_left t.1) _ _ (there (is_left t.2) _ _ (there (is_left t.3) _ _ (there (is_left t.4) _ _ (here t.5 _ e))))),
+                (
+                  λ t v e. there (is_left t.0) _ _
+                      (there (is_left t.1) _ _ (there (is_left t.2) _ _
+                      (there (is_left t.3) _ _ (there (is_left t.4) _ _ (there (is_left t.5) _ _ (here t.6 _ e)))))),
+                  tt,
+                ),
+              ),
+            ),
+          ),
+        ),
+      ),
+    ) };
 }
 
 impl<
@@ -565,9 +738,24 @@ impl<
 > StreamMembers<I> for (A, B, C, D, E, F, G) {
     ghost use Rattle.nom_members.specs.MemberLaws.{applied_pinned, same_7};
 
-    ghost pinned = { λ s k p t o q h g. same_7 (applied_pinned A.Output.view (A.IsOutput s.0) (A.pinned s.0 k.0 p.0) t.0 o.0 q.0 h.0 g.0) (applied_pinned B.Output.view (B.IsOutput s.1) (B.pinned s.1 k.1.0 p.1) t.1 o.1 q.1 h.1 g.1) (applied_pinned C.Output.view (C.IsOutput s.2) (C.pinned s.2 k.1.1.0 p.2) t.2 o.2 q.2 h.2 g.2) (applied_pinned D.Output.view (D.IsOutput s.3) (D.pinned s.3 k.1.1.1.0 p.3) t.3 o.3 q.3 h.3 g.3) (applied_pinned E.Output.view (E.IsOutput s.4) (E.pinned s.4 k.1.1.1.1.0 p.4) t.4 o.4 q.4 h.4 g.4) (applied_pinned F.Output.view (F.IsOutput s.5) (F.pinned s.5 k.1.1.1.1.1.0 p.5) t.5 o.5 q.5 h.5 g.5) (applied_pinned G.Output.view (G.IsOutput s.6) (G.pinned s.6 k.1.1.1.1.1.1.0 p.6) t.6 o.6 q.6 h.6 g.6) };
+    ghost pinned = { λ s k p t o q h g. same_7 (applied_pinned A.Output.view (A.IsOutput s.0) (A.pinned s.0 k.0 p.0) t.0 o.0 q.0 h.0 g.0)
+        (applied_pinned B.Output.view (B.IsOutput s.1) (B.pinned s.1 k.1.0 p.1) t.1 o.1 q.1 h.1 g.1)
+        (applied_pinned C.Output.view (C.IsOutput s.2) (C.pinned s.2 k.1.1.0 p.2) t.2 o.2 q.2 h.2 g.2)
+        (applied_pinned D.Output.view (D.IsOutput s.3) (D.pinned s.3 k.1.1.1.0 p.3) t.3 o.3 q.3 h.3 g.3)
+        (applied_pinned E.Output.view (E.IsOutput s.4) (E.pinned s.4 k.1.1.1.1.0 p.4) t.4 o.4 q.4 h.4 g.4)
+        (applied_pinned F.Output.view (F.IsOutput s.5) (F.pinned s.5 k.1.1.1.1.1.0 p.5) t.5 o.5 q.5 h.5 g.5)
+        (applied_pinned G.Output.view (G.IsOutput s.6) (G.pinned s.6 k.1.1.1.1.1.1.0 p.6) t.6 o.6 q.6 h.6 g.6) };
 
-    ghost steady = { λ s k. (A.steady s.0 k.0, (B.steady s.1 k.1.0, (C.steady s.2 k.1.1.0, (D.steady s.3 k.1.1.1.0, (E.steady s.4 k.1.1.1.1.0, (F.steady s.5 k.1.1.1.1.1.0, (G.steady s.6 k.1.1.1.1.1.1.0, tt))))))) };
+    ghost steady = { λ s k. (
+      A.steady s.0 k.0,
+      (
+        B.steady s.1 k.1.0,
+        (
+          C.steady s.2 k.1.1.0,
+          (D.steady s.3 k.1.1.1.0, (E.steady s.4 k.1.1.1.1.0, (F.steady s.5 k.1.1.1.1.1.0, (G.steady s.6 k.1.1.1.1.1.1.0, tt)))),
+        ),
+      ),
+    ) };
 }
 
 impl<
@@ -615,13 +803,24 @@ impl<
 
     ghost none = { (None, None, None, None, None, None, None, None) };
 
-    ghost members = { λ s. member (A.meaning s.0) (λ t. t.0) (λ t v. (Some v, t.1, t.2, t.3, t.4, t.5, t.6, t.7)) ∷ member (B.meaning s.1) (λ t. t.1) (λ t v. (t.0, Some v, t.2, t.3, t.4, t.5, t.6, t.7)) ∷ member (C.meaning s.2) (λ t. t.2) (λ t v. (t.0, t.1, Some v, t.3, t.4, t.5, t.6, t.7)) ∷ member (D.meaning s.3) (λ t. t.3) (λ t v. (t.0, t.1, t.2, Some v, t.4, t.5, t.6, t.7)) ∷ member (E.meaning s.4) (λ t. t.4) (λ t v. (t.0, t.1, t.2, t.3, Some v, t.5, t.6, t.7)) ∷ member (F.meaning s.5) (λ t. t.5) (λ t v. (t.0, t.1, t.2, t.3, t.4, Some v, t.6, t.7)) ∷ member (G.meaning s.6) (λ t. t.6) (λ t v. (t.0, t.1, t.2, t.3, t.4, t.5, Some v, t.7)) ∷ member (H.meaning s.7) (λ t. t.7) (λ t v. (t.0, t.1, t.2, t.3, t.4, t.5, t.6, Some v)) ∷ [] };
+    ghost members = { λ s. member (A.meaning s.0) (λ t. t.0) (λ t v. (Some v, t.1, t.2, t.3, t.4, t.5, t.6, t.7)) ∷
+        member (B.meaning s.1) (λ t. t.1) (λ t v. (t.0, Some v, t.2, t.3, t.4, t.5, t.6, t.7)) ∷
+        member (C.meaning s.2) (λ t. t.2) (λ t v. (t.0, t.1, Some v, t.3, t.4, t.5, t.6, t.7)) ∷
+        member (D.meaning s.3) (λ t. t.3) (λ t v. (t.0, t.1, t.2, Some v, t.4, t.5, t.6, t.7)) ∷
+        member (E.meaning s.4) (λ t. t.4) (λ t v. (t.0, t.1, t.2, t.3, Some v, t.5, t.6, t.7)) ∷
+        member (F.meaning s.5) (λ t. t.5) (λ t v. (t.0, t.1, t.2, t.3, t.4, Some v, t.6, t.7)) ∷
+        member (G.meaning s.6) (λ t. t.6) (λ t v. (t.0, t.1, t.2, t.3, t.4, t.5, Some v, t.7)) ∷
+        member (H.meaning s.7) (λ t. t.7) (λ t v. (t.0, t.1, t.2, t.3, t.4, t.5, t.6, Some v)) ∷ [] };
 
-    ghost AreHeld = { λ outputs s t slots. Holds outputs (A.IsOutput s.0) t.0 slots.0 × Holds outputs (B.IsOutput s.1) t.1 slots.1 × Holds outputs (C.IsOutput s.2) t.2 slots.2 × Holds outputs (D.IsOutput s.3) t.3 slots.3 × Holds outputs (E.IsOutput s.4) t.4 slots.4 × Holds outputs (F.IsOutput s.5) t.5 slots.5 × Holds outputs (G.IsOutput s.6) t.6 slots.6 × Holds outputs (H.IsOutput s.7) t.7 slots.7 };
+    ghost AreHeld = { λ outputs s t slots. Holds outputs (A.IsOutput s.0) t.0 slots.0 × Holds outputs (B.IsOutput s.1) t.1 slots.1 ×
+        Holds outputs (C.IsOutput s.2) t.2 slots.2 × Holds outputs (D.IsOutput s.3) t.3 slots.3 × Holds outputs (E.IsOutput s.4) t.4 slots.4 ×
+        Holds outputs (F.IsOutput s.5) t.5 slots.5 × Holds outputs (G.IsOutput s.6) t.6 slots.6 × Holds outputs (H.IsOutput s.7) t.7 slots.7 };
 
     ghost waiting = { λ slots. waits slots.0 + waits slots.1 + waits slots.2 + waits slots.3 + waits slots.4 + waits slots.5 + waits slots.6 + waits slots.7 };
 
-    ghost IsOutput = { λ s t o. IsApplied (A.IsOutput s.0) t.0 o.0 × IsApplied (B.IsOutput s.1) t.1 o.1 × IsApplied (C.IsOutput s.2) t.2 o.2 × IsApplied (D.IsOutput s.3) t.3 o.3 × IsApplied (E.IsOutput s.4) t.4 o.4 × IsApplied (F.IsOutput s.5) t.5 o.5 × IsApplied (G.IsOutput s.6) t.6 o.6 × IsApplied (H.IsOutput s.7) t.7 o.7 };
+    ghost IsOutput = { λ s t o. IsApplied (A.IsOutput s.0) t.0 o.0 × IsApplied (B.IsOutput s.1) t.1 o.1 × IsApplied (C.IsOutput s.2) t.2 o.2 ×
+        IsApplied (D.IsOutput s.3) t.3 o.3 × IsApplied (E.IsOutput s.4) t.4 o.4 × IsApplied (F.IsOutput s.5) t.5 o.5 ×
+        IsApplied (G.IsOutput s.6) t.6 o.6 × IsApplied (H.IsOutput s.7) t.7 o.7 };
 
     ghost Pins = { λ s. A.Pins s.0 × B.Pins s.1 × C.Pins s.2 × D.Pins s.3 × E.Pins s.4 × F.Pins s.5 × G.Pins s.6 × H.Pins s.7 };
 
@@ -668,13 +867,78 @@ impl<
         made_flat(outputs)
     }
 
-    ghost over = { λ outputs s t slots h z. step_over A.Error.errors.joined A.Error.errors.grows (H.meaning s.7) (λ v. (t.0, t.1, t.2, t.3, t.4, t.5, t.6, Some v)) outputs (H.IsOutput s.7) (waits slots.0 + waits slots.1 + waits slots.2 + waits slots.3 + waits slots.4 + waits slots.5 + waits slots.6) _ t.7 slots.7 (step_over A.Error.errors.joined A.Error.errors.grows (G.meaning s.6) (λ v. (t.0, t.1, t.2, t.3, t.4, t.5, Some v, t.7)) outputs (G.IsOutput s.6) (waits slots.0 + waits slots.1 + waits slots.2 + waits slots.3 + waits slots.4 + waits slots.5) _ t.6 slots.6 (step_over A.Error.errors.joined A.Error.errors.grows (F.meaning s.5) (λ v. (t.0, t.1, t.2, t.3, t.4, Some v, t.6, t.7)) outputs (F.IsOutput s.5) (waits slots.0 + waits slots.1 + waits slots.2 + waits slots.3 + waits slots.4) _ t.5 slots.5 (step_over A.Error.errors.joined A.Error.errors.grows (E.meaning s.4) (λ v. (t.0, t.1, t.2, t.3, Some v, t.5, t.6, t.7)) outputs (E.IsOutput s.4) (waits slots.0 + waits slots.1 + waits slots.2 + waits slots.3) _ t.4 slots.4 (step_over A.Error.errors.joined A.Error.errors.grows (D.meaning s.3) (λ v. (t.0, t.1, t.2, Some v, t.4, t.5, t.6, t.7)) outputs (D.IsOutput s.3) (waits slots.0 + waits slots.1 + waits slots.2) _ t.3 slots.3 (step_over A.Error.errors.joined A.Error.errors.grows (C.meaning s.2) (λ v. (t.0, t.1, Some v, t.3, t.4, t.5, t.6, t.7)) outputs (C.IsOutput s.2) (waits slots.0 + waits slots.1) _ t.2 slots.2 (step_over A.Error.errors.joined A.Error.errors.grows (B.meaning s.1) (λ v. (t.0, Some v, t.2, t.3, t.4, t.5, t.6, t.7)) outputs (B.IsOutput s.1) (waits slots.0) _ t.1 slots.1 (first_over A.Error.errors.joined A.Error.errors.grows (A.meaning s.0) (λ v. (Some v, t.1, t.2, t.3, t.4, t.5, t.6, t.7)) outputs (A.IsOutput s.0) t.0 slots.0 h.0) h.1) h.2) h.3) h.4) h.5) h.6) h.7 z };
+    ghost over = { λ outputs s t slots h z. step_over A.Error.errors.joined A.Error.errors.grows (H.meaning s.7)
+        (λ v. (t.0, t.1, t.2, t.3, t.4, t.5, t.6, Some v)) outputs (H.IsOutput s.7)
+        (waits slots.0 + waits slots.1 + waits slots.2 + waits slots.3 + waits slots.4 + waits slots.5 + waits slots.6) _ t.7 slots.7
+        (step_over A.Error.errors.joined A.Error.errors.grows (G.meaning s.6)
+        (λ v. (t.0, t.1, t.2, t.3, t.4, t.5, Some v, t.7)) outputs (G.IsOutput s.6)
+        (waits slots.0 + waits slots.1 + waits slots.2 + waits slots.3 + waits slots.4 + waits slots.5) _ t.6 slots.6
+        (step_over A.Error.errors.joined A.Error.errors.grows (F.meaning s.5)
+        (λ v. (t.0, t.1, t.2, t.3, t.4, Some v, t.6, t.7)) outputs (F.IsOutput s.5)
+        (waits slots.0 + waits slots.1 + waits slots.2 + waits slots.3 + waits slots.4) _ t.5 slots.5
+        (step_over A.Error.errors.joined A.Error.errors.grows (E.meaning s.4)
+        (λ v. (t.0, t.1, t.2, t.3, Some v, t.5, t.6, t.7)) outputs (E.IsOutput s.4)
+        (waits slots.0 + waits slots.1 + waits slots.2 + waits slots.3) _ t.4 slots.4
+        (step_over A.Error.errors.joined A.Error.errors.grows (D.meaning s.3)
+        (λ v. (t.0, t.1, t.2, Some v, t.4, t.5, t.6, t.7)) outputs (D.IsOutput s.3)
+        (waits slots.0 + waits slots.1 + waits slots.2) _ t.3 slots.3
+        (step_over A.Error.errors.joined A.Error.errors.grows (C.meaning s.2)
+        (λ v. (t.0, t.1, Some v, t.3, t.4, t.5, t.6, t.7)) outputs (C.IsOutput s.2)
+        (waits slots.0 + waits slots.1) _ t.2 slots.2
+        (step_over A.Error.errors.joined A.Error.errors.grows (B.meaning s.1)
+        (λ v. (t.0, Some v, t.2, t.3, t.4, t.5, t.6, t.7)) outputs (B.IsOutput s.1)
+        (waits slots.0) _ t.1 slots.1 (first_over A.Error.errors.joined A.Error.errors.grows (A.meaning s.0)
+        (λ v. (Some v, t.1, t.2, t.3, t.4, t.5, t.6, t.7)) outputs (A.IsOutput s.0) t.0 slots.0 h.0) h.1) h.2) h.3) h.4) h.5) h.6) h.7 z };
 
-    ghost lawful = { λ s k. (A.lawful s.0 k.0, (B.lawful s.1 k.1.0, (C.lawful s.2 k.1.1.0, (D.lawful s.3 k.1.1.1.0, (E.lawful s.4 k.1.1.1.1.0, (F.lawful s.5 k.1.1.1.1.1.0, (G.lawful s.6 k.1.1.1.1.1.1.0, (H.lawful s.7 k.1.1.1.1.1.1.1.0, tt)))))))) };
+    ghost lawful = { λ s k. (
+      A.lawful s.0 k.0,
+      (
+        B.lawful s.1 k.1.0,
+        (
+          C.lawful s.2 k.1.1.0,
+          (
+            D.lawful s.3 k.1.1.1.0,
+            (
+              E.lawful s.4 k.1.1.1.1.0,
+              (F.lawful s.5 k.1.1.1.1.1.0, (G.lawful s.6 k.1.1.1.1.1.1.0, (H.lawful s.7 k.1.1.1.1.1.1.1.0, tt))),
+            ),
+          ),
+        ),
+      ),
+    ) };
 
     ghost all_wait = { λ s. (refl, (refl, (refl, (refl, (refl, (refl, (refl, (refl, tt)))))))) };
 
-    ghost one_fewer = { λ s. (λ t v e. here t.0 _ e, (λ t v e. there (is_left t.0) _ _ (here t.1 _ e), (λ t v e. there (is_left t.0) _ _ (there (is_left t.1) _ _ (here t.2 _ e)), (λ t v e. there (is_left t.0) _ _ (there (is_left t.1) _ _ (there (is_left t.2) _ _ (here t.3 _ e))), (λ t v e. there (is_left t.0) _ _ (there (is_left t.1) _ _ (there (is_left t.2) _ _ (there (is_left t.3) _ _ (here t.4 _ e)))), (λ t v e. there (is_left t.0) _ _ (there (is_left t.1) _ _ (there (is_left t.2) _ _ (there (is_left t.3) _ _ (there (is_left t.4) _ _ (here t.5 _ e))))), (λ t v e. there (is_left t.0) _ _ (there (is_left t.1) _ _ (there (is_left t.2) _ _ (there (is_left t.3) _ _ (there (is_left t.4) _ _ (there (is_left t.5) _ _ (here t.6 _ e)))))), (λ t v e. there (is_left t.0) _ _ (there (is_left t.1) _ _ (there (is_left t.2) _ _ (there (is_left t.3) _ _ (there (is_left t.4) _ _ (there (is_left t.5) _ _ (there (is_left t.6) _ _ (here t.7 _ e))))))), tt)))))))) };
+    ghost one_fewer = { λ s. (
+      λ t v e. here t.0 _ e,
+      (
+        λ t v e. there (is_left t.0) _ _ (here t.1 _ e),
+        (
+          λ t v e. there (is_left t.0) _ _ (there (is_left t.1) _ _ (here t.2 _ e)),
+          (
+            λ t v e. there (is_left t.0) _ _ (there (is_left t.1) _ _ (there (is_left t.2) _ _ (here t.3 _ e))),
+            (
+              λ t v e. there (is_left t.0) _ _ (there (is_left t.1) _ _ (there (is_left t.2) _ _ (there (is_left t.3) _ _ (here t.4 _ e)))),
+              (
+                λ t v e. there (is_left t.0) _ _
+                    (there (is_left t.1) _ _ (there (is_left t.2) _ _ (there (is_left t.3) _ _ (there (is_left t.4) _ _ (here t.5 _ e))))),
+                (
+                  λ t v e. there (is_left t.0) _ _
+                      (there (is_left t.1) _ _ (there (is_left t.2) _ _
+                      (there (is_left t.3) _ _ (there (is_left t.4) _ _ (there (is_left t.5) _ _ (here t.6 _ e)))))),
+                  (
+                    λ t v e. there (is_left t.0) _ _
+                        (there (is_left t.1) _ _ (there (is_left t.2) _ _
+                        (there (is_left t.3) _ _ (there (is_left t.4) _ _ (there (is_left t.5) _ _ (there (is_left t.6) _ _ (here t.7 _ e))))))),
+                    tt,
+                  ),
+                ),
+              ),
+            ),
+          ),
+        ),
+      ),
+    ) };
 }
 
 impl<
@@ -690,7 +954,29 @@ impl<
 > StreamMembers<I> for (A, B, C, D, E, F, G, H) {
     ghost use Rattle.nom_members.specs.MemberLaws.{applied_pinned, same_8};
 
-    ghost pinned = { λ s k p t o q h g. same_8 (applied_pinned A.Output.view (A.IsOutput s.0) (A.pinned s.0 k.0 p.0) t.0 o.0 q.0 h.0 g.0) (applied_pinned B.Output.view (B.IsOutput s.1) (B.pinned s.1 k.1.0 p.1) t.1 o.1 q.1 h.1 g.1) (applied_pinned C.Output.view (C.IsOutput s.2) (C.pinned s.2 k.1.1.0 p.2) t.2 o.2 q.2 h.2 g.2) (applied_pinned D.Output.view (D.IsOutput s.3) (D.pinned s.3 k.1.1.1.0 p.3) t.3 o.3 q.3 h.3 g.3) (applied_pinned E.Output.view (E.IsOutput s.4) (E.pinned s.4 k.1.1.1.1.0 p.4) t.4 o.4 q.4 h.4 g.4) (applied_pinned F.Output.view (F.IsOutput s.5) (F.pinned s.5 k.1.1.1.1.1.0 p.5) t.5 o.5 q.5 h.5 g.5) (applied_pinned G.Output.view (G.IsOutput s.6) (G.pinned s.6 k.1.1.1.1.1.1.0 p.6) t.6 o.6 q.6 h.6 g.6) (applied_pinned H.Output.view (H.IsOutput s.7) (H.pinned s.7 k.1.1.1.1.1.1.1.0 p.7) t.7 o.7 q.7 h.7 g.7) };
+    ghost pinned = { λ s k p t o q h g. same_8 (applied_pinned A.Output.view (A.IsOutput s.0) (A.pinned s.0 k.0 p.0) t.0 o.0 q.0 h.0 g.0)
+        (applied_pinned B.Output.view (B.IsOutput s.1) (B.pinned s.1 k.1.0 p.1) t.1 o.1 q.1 h.1 g.1)
+        (applied_pinned C.Output.view (C.IsOutput s.2) (C.pinned s.2 k.1.1.0 p.2) t.2 o.2 q.2 h.2 g.2)
+        (applied_pinned D.Output.view (D.IsOutput s.3) (D.pinned s.3 k.1.1.1.0 p.3) t.3 o.3 q.3 h.3 g.3)
+        (applied_pinned E.Output.view (E.IsOutput s.4) (E.pinned s.4 k.1.1.1.1.0 p.4) t.4 o.4 q.4 h.4 g.4)
+        (applied_pinned F.Output.view (F.IsOutput s.5) (F.pinned s.5 k.1.1.1.1.1.0 p.5) t.5 o.5 q.5 h.5 g.5)
+        (applied_pinned G.Output.view (G.IsOutput s.6) (G.pinned s.6 k.1.1.1.1.1.1.0 p.6) t.6 o.6 q.6 h.6 g.6)
+        (applied_pinned H.Output.view (H.IsOutput s.7) (H.pinned s.7 k.1.1.1.1.1.1.1.0 p.7) t.7 o.7 q.7 h.7 g.7) };
 
-    ghost steady = { λ s k. (A.steady s.0 k.0, (B.steady s.1 k.1.0, (C.steady s.2 k.1.1.0, (D.steady s.3 k.1.1.1.0, (E.steady s.4 k.1.1.1.1.0, (F.steady s.5 k.1.1.1.1.1.0, (G.steady s.6 k.1.1.1.1.1.1.0, (H.steady s.7 k.1.1.1.1.1.1.1.0, tt)))))))) };
+    ghost steady = { λ s k. (
+      A.steady s.0 k.0,
+      (
+        B.steady s.1 k.1.0,
+        (
+          C.steady s.2 k.1.1.0,
+          (
+            D.steady s.3 k.1.1.1.0,
+            (
+              E.steady s.4 k.1.1.1.1.0,
+              (F.steady s.5 k.1.1.1.1.1.0, (G.steady s.6 k.1.1.1.1.1.1.0, (H.steady s.7 k.1.1.1.1.1.1.1.0, tt))),
+            ),
+          ),
+        ),
+      ),
+    ) };
 }

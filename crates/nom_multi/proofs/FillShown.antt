@@ -1,5 +1,6 @@
 -- What stands in a buffer, and what is shown of it.
-use Rattle.std.proofs.Common.{◌≡◌, ℕ, ◌+◌, ◌<◌, ◌≤◌, Bool, true, false, Err, Option, Some, None, ◌⊎◌, List, ◌∷◌, [], ◌++◌, length, refl, suc, arith, inl, inr, ap, subst, sym, ◌∙◌}
+use Rattle.std.proofs.Common.{◌≡◌, ℕ, ◌+◌, ◌<◌, ◌≤◌, Bool, true, false, Err, Option, Some, None, ◌⊎◌, List, ◌∷◌, [], ◌++◌, length, refl, suc, arith}
+use Rattle.std.proofs.Common.{inl, inr, ap, subst, sym, ◌∙◌}
 use Rattle.std.specs.Prelude.{drop, set}
 use Rattle.std.specs.List.{AllZip}
 use Rattle.std.proofs.lemmas.Bool.{lt-ltb}
@@ -27,7 +28,8 @@ length_zip P (v ∷ vs) [] h = absurd h
 length_zip P (v ∷ vs) (x ∷ xs) h = ap suc (length_zip P vs xs h.1)
 
 -- the next place after a front is written
-set_next : {T : Type 0} (xs old : List T) (x : T) → length xs < length old → set (xs ++ drop (length xs) old) (length xs) x ≡ (xs ++ x ∷ []) ++ drop (length (xs ++ x ∷ [])) old
+set_next : {T : Type 0} (xs old : List T) (x : T) → length xs < length old → set (xs ++ drop (length xs) old) (length xs) x ≡ (xs ++ x ∷ []) ++
+    drop (length (xs ++ x ∷ [])) old
 set_next [] [] x h = absurd (omega (arith, h))
 set_next [] (y ∷ ys) x h = refl
 set_next (z ∷ zs) [] x h = absurd (omega (arith, h))
@@ -63,23 +65,32 @@ module _ {V T : Type 0} (P : V → T → Type 0) where
   none_some x e = absurd (cc (e))
 
   -- one output more
-  pub holds_more : (builds : Bool) (old : List T) (vs : List V) (v : V) (mid new : List T) (count : ℕ) (item : Option T) → Holds P builds old vs mid → count ≡ length vs → count < length old → Built builds (P v) item → IsPut mid count item new → Holds P builds old (vs ++ v ∷ []) new
+  pub holds_more : (builds : Bool) (old : List T) (vs : List V) (v : V) (mid new : List T) (count : ℕ) (item : Option T) → Holds P builds old vs mid →
+      count ≡ length vs → count < length old → Built builds (P v) item → IsPut mid count item new → Holds P builds old (vs ++ v ∷ []) new
   holds_more true old vs v mid new count (Some x) h c l b p =
       let one : x ≡ b.0 = cc (b.1) in
-      let here : count ≡ length h.0 = c ∙ length_zip P vs h.0 h.1 in
-      (h.0 ++ x ∷ [], zip_push P vs h.0 v x h.1 (subst (λ z. P v z) (sym one) b.2), p ∙ (ap (λ z. set z count x) h.2 ∙ (ap (λ z. set (h.0 ++ drop (length h.0) old) z x) here ∙ set_next h.0 old x (subst (λ z. z < length old) here l))))
+      let here : count ≡ length h.0 = c ∙ length_zip P vs h.0 h.1 in (
+        h.0 ++ x ∷ [],
+        zip_push P vs h.0 v x h.1 (subst (λ z. P v z) (sym one) b.2),
+        p ∙
+            (ap (λ z. set z count x) h.2 ∙ (ap (λ z. set (h.0 ++ drop (length h.0) old) z x) here ∙ set_next h.0 old x (subst (λ z. z < length old) here l))),
+      )
   holds_more true old vs v mid new count None h c l b p = absurd (none_some b.0 b.1)
   holds_more false old vs v mid new count (Some x) h c l b p = absurd (none_some x (sym b))
   holds_more false old vs v mid new count None h c l b p = p ∙ h
 
-module _ {I A V E : Type 0} {w : Seen I A} (m : Meaning I V E) (n : ℕ) (mode : Modes) {RanOut : Type 0} {Held : List V → Type 0} {i j : I} (c : Collected w (TurnsBy (Some n) (item_turn (exact_limits n)) (λ _. m.answers mode.streaming)) Held i j) where
+module _ {I A V E : Type 0} {w : Seen I A} (m : Meaning I V E) (n : ℕ) (mode : Modes) {RanOut : Type 0} {Held : List V → Type 0} {i j : I}
+    (c : Collected w (TurnsBy (Some n) (item_turn (exact_limits n)) (λ _. m.answers mode.streaming)) Held i j) where
   -- the buffer is full
   pub stops_full : (length c.trees < n → ⊥) → Stops m n mode RanOut (length c.trees) j
   stops_full h = inl (Accept 0 tt, record { reply = None; replied = h; fact = refl })
 
   module _ (below : length c.trees < n) {X : Type 0} {IsItem : V → X → Type 0} {f : Answer.Err E (Option E) Needed} where
     pub stops_refused : {x : Option E} → f ≡ Error x → ShowsMeaning w IsItem m mode j (Err f) → Stops m n mode RanOut (length c.trees) j
-    stops_refused e h = inl (Refuse, record { reply = Some Refuse; replied = (below, part_refused e h); fact = ap (λ z. refused_turn z) (sym (lt-ltb (length c.trees) n below)) })
+    stops_refused e h = inl (
+      Refuse,
+      record { reply = Some Refuse; replied = (below, part_refused e h); fact = ap (λ z. refused_turn z) (sym (lt-ltb (length c.trees) n below)) },
+    )
 
     pub stops_failed : {x : E} → f ≡ Failure x → ShowsMeaning w IsItem m mode j (Err f) → Stops m n mode RanOut (length c.trees) j
     stops_failed e h = by (part_failed e h).0
@@ -95,10 +106,14 @@ module _ {I A V E : Type 0} {w : Seen I A} (m : Meaning I V E) (n : ℕ) (mode :
     stops_without_memory e h r = inr (part_ran_out e h, r)
 
 -- what the buffer holds where the items stop
-pub filled : {I A V T E : Type 0} {w : Seen I A} {P : V → T → Type 0} {m : Meaning I V E} {mode : Modes} {i j : I} {old new : List T} {Counted : List V → Type 0} {RanOut : Type 0} (c : Collected w (TurnsBy (Some (length old)) (item_turn (exact_limits (length old))) (λ _. m.answers mode.streaming)) (λ vs. Holds P mode.outputs old vs new × Counted vs) i j) → Stops m (length old) mode RanOut (length c.trees) j → IsFilled w P m mode i old new RanOut
+pub filled : {I A V T E : Type 0} {w : Seen I A} {P : V → T → Type 0} {m : Meaning I V E} {mode : Modes} {i j : I} {old new : List T}
+    {Counted : List V → Type 0} {RanOut : Type 0}
+    (c : Collected w (TurnsBy (Some (length old)) (item_turn (exact_limits (length old))) (λ _. m.answers mode.streaming))
+    (λ vs. Holds P mode.outputs old vs new × Counted vs) i j) → Stops m (length old) mode RanOut (length c.trees) j → IsFilled w P m mode i old new RanOut
 filled {w = w} {m = m} {mode = mode} {i = i} {j = j} {old = old} {RanOut = RanOut} c h = record {
   trees = c.trees;
   taken = c.taken;
-  pieces = pieces_end w (TurnsBy (Some (length old)) (item_turn (exact_limits (length old))) (λ _. m.answers mode.streaming)) (Stops m (length old) mode RanOut) j (length c.trees) h 0 i c.trees c.taken (omega arith) c.pieces;
+  pieces = pieces_end w (TurnsBy (Some (length old)) (item_turn (exact_limits (length old))) (λ _. m.answers mode.streaming))
+      (Stops m (length old) mode RanOut) j (length c.trees) h 0 i c.trees c.taken (omega arith) c.pieces;
   holds = c.held.0;
 }

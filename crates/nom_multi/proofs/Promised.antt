@@ -19,7 +19,8 @@ use Rattle.nom_repeat.specs.Bounds.{any_limits}
 use Rattle.nom_error.specs.declared.kind.ErrorKind.TheVariants as Kind
 
 -- a refusal is that of an empty item
-refused_empty : {I V : Type 0} (Item : I → Outcome V → Type 0) (k : ℕ) (i : I) (a : Option (Outcome V)) → Replies None (λ _. Item) k i a → Ends Refuse ≡ item_turn (any_limits Kind.Many0) k a → (v : V) × Item i (Accept 0 v)
+refused_empty : {I V : Type 0} (Item : I → Outcome V → Type 0) (k : ℕ) (i : I) (a : Option (Outcome V)) → Replies None (λ _. Item) k i a →
+    Ends Refuse ≡ item_turn (any_limits Kind.Many0) k a → (v : V) × Item i (Accept 0 v)
 refused_empty Item k i (Some (Accept zero u)) p e = (u, p.1)
 refused_empty Item k i (Some (Accept (suc m) u)) p e = absurd (cc)
 refused_empty Item k i (Some Refuse) p e = absurd (enough (ltb k 0) (le-ltb k 0 (omega arith)) e)
@@ -40,18 +41,28 @@ ends_refused n f TooLarge e = absurd (cc)
 ends_refused n f (Undecided k) e = absurd (cc)
 
 module _ {I A V : Type 0} (w : Seen I A) (Item : I → Outcome V → Type 0) where
-  pieces_empty : InputLaws w → (o : Outcome (Unit {0})) → o ≡ Refuse → (k : ℕ) (i : I) (vs : List V) (n : ℕ) → w.IsKnown i → Pieces w (TurnsBy None (item_turn (any_limits Kind.Many0)) (λ _. Item)) (λ h j. TurnsBy None (item_turn (any_limits Kind.Many0)) (λ _. Item) h j (Ends o)) k i vs n → HasEmptyItem w Item i
+  pieces_empty : InputLaws w → (o : Outcome (Unit {0})) → o ≡ Refuse → (k : ℕ) (i : I) (vs : List V) (n : ℕ) → w.IsKnown i →
+      Pieces w (TurnsBy None (item_turn (any_limits Kind.Many0)) (λ _. Item))
+      (λ h j. TurnsBy None (item_turn (any_limits Kind.Many0)) (λ _. Item) h j (Ends o)) k i vs n → HasEmptyItem w Item i
   pieces_empty l o q k i [] n h p =
-      let e : Ends Refuse ≡ item_turn (any_limits Kind.Many0) k (p.1).reply = subst (λ z. Ends z ≡ item_turn (any_limits Kind.Many0) k (p.1).reply) q (p.1).fact in
+      let e : Ends Refuse ≡ item_turn (any_limits Kind.Many0) k (p.1).reply =
+      subst (λ z. Ends z ≡ item_turn (any_limits Kind.Many0) k (p.1).reply) q (p.1).fact in
       let a = refused_empty Item k i (p.1).reply (p.1).replied e in
-      record { taken = 0; place = i; rest_is = record { known = h; front = []; whole = refl; length_is = refl; mark_is = sym (l.mark_none (w.mark i)) }; tree = a.0; accepted = a.1 }
+      record {
+        taken = 0;
+        place = i;
+        rest_is = record { known = h; front = []; whole = refl; length_is = refl; mark_is = sym (l.mark_none (w.mark i)) };
+        tree = a.0;
+        accepted = a.1;
+      }
   pieces_empty l o q k i (v ∷ vs) n h p =
       let b = pieces_empty l o q (k + 1) p.2 vs p.1 (p.4).known p.5 in
       record { taken = p.0 + b.taken; place = b.place; rest_is = rest_rest w l i p.0 p.2 b.taken b.place p.4 b.rest_is; tree = b.tree; accepted = b.accepted }
 
 module _ {I A V E : Type 0} (w : Seen I A) (errs : Errors I E) (m : Meaning I V E) where
   pub many0_refuses_at_empty : InputLaws w → RefusesAtEmpty w m (many0_meaning w errs m)
-  many0_refuses_at_empty l s i h a = pieces_empty w (m.answers s) l a.ending (ends_refused a.taken (λ _. a.trees) a.ending a.outcome_is) 0 i a.trees a.taken h a.pieces
+  many0_refuses_at_empty l s i h a =
+      pieces_empty w (m.answers s) l a.ending (ends_refused a.taken (λ _. a.trees) a.ending a.outcome_is) 0 i a.trees a.taken h a.pieces
 
   pub many0_has_few_items : HasFewItems w (many0_meaning w errs m)
   many0_has_few_items s i n vs h a = few_accepted w errs (any_limits Kind.Many0) (Unit {0}) m Kind.Many0 refl s i n vs a

@@ -15,4 +15,5 @@ count_meaning w errs n m = items_meaning w errs (exact_limits n) (Unit {0}) m
 -- Items within two bounds, none of them empty. Where one is refused before the least number, the kind is added at its place.
 -- Bounds that are the wrong way round are a failure.
 abbrev pub many_m_n_meaning : {I A V E : Type 0} → Seen I A → Errors I E → ℕ → ℕ → Meaning I V E → Meaning I (List V) E
-many_m_n_meaning w errs least most m = error_if errs Kind.ManyMN true (ltb most least) (items_meaning w errs (bounded_limits Kind.ManyMN least most) (Unit {0}) m)
+many_m_n_meaning w errs least most m =
+    error_if errs Kind.ManyMN true (ltb most least) (items_meaning w errs (bounded_limits Kind.ManyMN least most) (Unit {0}) m)

@@ -19,7 +19,9 @@ module _ {I A V E : Type 0} (w : Seen I A) (l : InputLaws w) (errs : Errors I E)
 
 module _ {I A V E : Type 0} (w : Seen I A) (l : InputLaws w) (errs : Errors I E) (least most : ℕ) (m : Meaning I V E) where
   pub many_m_n_lawful : IsLawful w m → IsLawful w (many_m_n_meaning w errs least most m)
-  many_m_n_lawful p = error_if_lawful w errs Kind.ManyMN true (items_meaning w errs (bounded_limits Kind.ManyMN least most) (Unit {0}) m) (ltb most least) (items_lawful w l errs (bounded_limits Kind.ManyMN least most) (Unit {0}) m p)
+  many_m_n_lawful p = error_if_lawful w errs Kind.ManyMN true (items_meaning w errs (bounded_limits Kind.ManyMN least most) (Unit {0}) m)
+      (ltb most least) (items_lawful w l errs (bounded_limits Kind.ManyMN least most) (Unit {0}) m p)
 
   pub many_m_n_steady : IsSteady w m → IsSteady w (many_m_n_meaning w errs least most m)
-  many_m_n_steady p = error_if_steady w errs Kind.ManyMN true (items_meaning w errs (bounded_limits Kind.ManyMN least most) (Unit {0}) m) (ltb most least) (items_steady w l errs (bounded_limits Kind.ManyMN least most) (Unit {0}) m p)
+  many_m_n_steady p = error_if_steady w errs Kind.ManyMN true (items_meaning w errs (bounded_limits Kind.ManyMN least most) (Unit {0}) m)
+      (ltb most least) (items_steady w l errs (bounded_limits Kind.ManyMN least most) (Unit {0}) m p)

@@ -40,10 +40,12 @@ IsRanOut r = r ≡ Err OutOfMemory
 
 -- What a buffer holds afterwards, by whether it was answered that memory ran out: the outputs of all items that were accepted in turn,
 -- as many as it has room for.
-pub record IsFilled {I A V T E : Type 0} (w : Seen I A) (IsOutput : V → T → Type 0) (m : Meaning I V E) (mode : Modes) (i : I) (old new : List T) (RanOut : Type 0) : Type 0 where
+pub record IsFilled {I A V T E : Type 0} (w : Seen I A) (IsOutput : V → T → Type 0) (m : Meaning I V E) (mode : Modes) (i : I) (old new : List T)
+    (RanOut : Type 0) : Type 0 where
   pub trees : List V
   pub taken : ℕ
-  pub pieces : Pieces w (TurnsBy (Some (length old)) (item_turn (exact_limits (length old))) (λ _. m.answers mode.streaming)) (Stops m (length old) mode RanOut) 0 i trees taken
+  pub pieces : Pieces w (TurnsBy (Some (length old)) (item_turn (exact_limits (length old))) (λ _. m.answers mode.streaming))
+      (Stops m (length old) mode RanOut) 0 i trees taken
   pub holds : Holds IsOutput mode.outputs old trees new
 
 -- an item is written at a place

@@ -15,4 +15,5 @@ many0_meaning w errs m = items_meaning w errs (any_limits Kind.Many0) (Unit {0})
 
 -- One item at least: a first one, to whose refusal the kind is added, and which may be empty; and then any number.
 abbrev pub many1_meaning : {I A V E : Type 0} → Seen I A → Errors I E → Meaning I V E → Meaning I (List V) E
-many1_meaning w errs m = sequence_meaning w (λ vs us. vs ++ us) (λ o. o) (λ o. o) (items_meaning w errs (one_limits (Added Kind.Many1) true) (Unit {0}) m) (many0_meaning w errs m)
+many1_meaning w errs m = sequence_meaning w (λ vs us. vs ++ us) (λ o. o) (λ o. o)
+    (items_meaning w errs (one_limits (Added Kind.Many1) true) (Unit {0}) m) (many0_meaning w errs m)

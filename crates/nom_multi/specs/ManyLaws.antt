@@ -19,7 +19,9 @@ module _ {I A V E : Type 0} (w : Seen I A) (l : InputLaws w) (errs : Errors I E)
   many0_steady p = items_steady w l errs (any_limits Kind.Many0) (Unit {0}) m p
 
   pub many1_lawful : IsLawful w m → IsLawful w (many1_meaning w errs m)
-  many1_lawful p = sequence_lawful w l (λ vs us. vs ++ us) (λ o. o) (λ o. o) (items_meaning w errs (one_limits (Added Kind.Many1) true) (Unit {0}) m) (many0_meaning w errs m) (items_lawful w l errs (one_limits (Added Kind.Many1) true) (Unit {0}) m p) (many0_lawful p)
+  many1_lawful p = sequence_lawful w l (λ vs us. vs ++ us) (λ o. o) (λ o. o) (items_meaning w errs (one_limits (Added Kind.Many1) true) (Unit {0}) m)
+      (many0_meaning w errs m) (items_lawful w l errs (one_limits (Added Kind.Many1) true) (Unit {0}) m p) (many0_lawful p)
 
   pub many1_steady : IsSteady w m → IsSteady w (many1_meaning w errs m)
-  many1_steady p = sequence_steady w l (λ vs us. vs ++ us) (λ o. o) (λ o. o) (items_meaning w errs (one_limits (Added Kind.Many1) true) (Unit {0}) m) (many0_meaning w errs m) (items_steady w l errs (one_limits (Added Kind.Many1) true) (Unit {0}) m p) (many0_steady p)
+  many1_steady p = sequence_steady w l (λ vs us. vs ++ us) (λ o. o) (λ o. o) (items_meaning w errs (one_limits (Added Kind.Many1) true) (Unit {0}) m)
+      (many0_meaning w errs m) (items_steady w l errs (one_limits (Added Kind.Many1) true) (Unit {0}) m p) (many0_steady p)

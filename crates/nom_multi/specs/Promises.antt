@@ -27,7 +27,8 @@ HasFewItems {I} {V = V} w whole = (s : Bool) (i : I) (n : ℕ) (vs : List V) →
 -- What a list of the part m accepts that may be empty: none, where the part refuses; or a first item, and behind it just the items
 -- that the part p accepts in turn, none of them empty.
 abbrev pub AcceptsNoneOrMore : {I A V E : Type 0} → Seen I A → Meaning I V E → Meaning I V E → Meaning I (List V) E → Type 0
-AcceptsNoneOrMore {I} {V = V} w m p whole = (s : Bool) (i : I) (n : ℕ) (vs : List V) → w.IsKnown i → whole.answers s i (Accept n vs) ↔ ((m.answers s i Refuse × (n ≡ 0) × (vs ≡ [])) ⊎ OneAndMore w (m.answers s) (InTurn w (p.answers s) (λ a. 0 < a) 0 None) i n vs)
+AcceptsNoneOrMore {I} {V = V} w m p whole = (s : Bool) (i : I) (n : ℕ) (vs : List V) → w.IsKnown i → whole.answers s i (Accept n vs) ↔
+    ((m.answers s i Refuse × (n ≡ 0) × (vs ≡ [])) ⊎ OneAndMore w (m.answers s) (InTurn w (p.answers s) (λ a. 0 < a) 0 None) i n vs)
 
 -- an item is taken where the end refuses and the part accepts, and consumes
 abbrev pub TakesBefore : {I T V : Type 0} → (I → Outcome T → Type 0) → (I → Outcome V → Type 0) → ℕ → I → Turn V (Unit {0}) → Type 0
@@ -35,7 +36,8 @@ TakesBefore End Item k i (Takes n v) = End i Refuse × Item i (Accept n v) × (0
 TakesBefore End Item k i (Ends o) = ⊥
 
 -- items in turn, where the end refuses, and then the end
-pub record ItemsAndEnd {I A T V : Type 0} (w : Seen I A) (End : I → Outcome T → Type 0) (Item : I → Outcome V → Type 0) (i : I) (n : ℕ) (vs : List V) (t : T) : Type 0 where
+pub record ItemsAndEnd {I A T V : Type 0} (w : Seen I A) (End : I → Outcome T → Type 0) (Item : I → Outcome V → Type 0) (i : I) (n : ℕ) (vs : List V)
+    (t : T) : Type 0 where
   pub taken : ℕ
   pub end_length : ℕ
   pub items : Pieces w (TakesBefore End Item) (λ _ j. End j (Accept end_length t)) 0 i vs taken
@@ -43,4 +45,5 @@ pub record ItemsAndEnd {I A T V : Type 0} (w : Seen I A) (End : I → Outcome T 
 
 -- What a list of the part m until an end accepts: just the items and the end.
 abbrev pub AcceptsUntil : {I A T V E : Type 0} → Seen I A → Meaning I V E → Meaning I T E → Meaning I (List V × T) E → Type 0
-AcceptsUntil {I} {T = T} {V = V} w m end whole = (s : Bool) (i : I) (n : ℕ) (vs : List V) (t : T) → whole.answers s i (Accept n (vs, t)) ↔ ItemsAndEnd w (end.answers s) (m.answers s) i n vs t
+AcceptsUntil {I} {T = T} {V = V} w m end whole =
+    (s : Bool) (i : I) (n : ℕ) (vs : List V) (t : T) → whole.answers s i (Accept n (vs, t)) ↔ ItemsAndEnd w (end.answers s) (m.answers s) i n vs t

@@ -22,7 +22,8 @@ further_meaning w errs separator m = items_meaning w errs (any_limits Kind.Separ
 
 -- one item at least: a first one, whose refusal is passed on, and which may be empty; and then the further ones
 abbrev pub separated1_meaning : {I A P V E : Type 0} → Seen I A → Errors I E → Meaning I P E → Meaning I V E → Meaning I (List V) E
-separated1_meaning w errs separator m = sequence_meaning w (λ vs us. vs ++ us) (λ o. o) (λ o. o) (items_meaning w errs (one_limits Passed false) (Unit {0}) m) (further_meaning w errs separator m)
+separated1_meaning w errs separator m =
+    sequence_meaning w (λ vs us. vs ++ us) (λ o. o) (λ o. o) (items_meaning w errs (one_limits Passed false) (Unit {0}) m) (further_meaning w errs separator m)
 
 -- the first item, if it isn't refused, and which may be empty
 abbrev pub optional_limits : Limits
@@ -47,7 +48,8 @@ following w errs separator m = record {
 
 -- any number of items, none too
 abbrev pub separated0_meaning : {I A P V E : Type 0} → Seen I A → Errors I E → Meaning I P E → Meaning I V E → Meaning I (List V) E
-separated0_meaning w errs separator m = then_meaning w (λ vs us. vs ++ us) (λ o. o) (λ o. o) (optional_meaning w errs (Unit {0}) m) (following w errs separator m)
+separated0_meaning w errs separator m =
+    then_meaning w (λ vs us. vs ++ us) (λ o. o) (λ o. o) (optional_meaning w errs (Unit {0}) m) (following w errs separator m)
 
 -- whether there is a first item
 abbrev pub IsFound : {V : Type 0} → Bool → List V → Type 0

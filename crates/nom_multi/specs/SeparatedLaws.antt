@@ -17,16 +17,20 @@ use Rattle.nom_repeat.specs.declared.items.TooFew.TheVariants.{Passed}
 
 module _ {I A P V E : Type 0} (w : Seen I A) (l : InputLaws w) (errs : Errors I E) (separator : Meaning I P E) (m : Meaning I V E) where
   pub further_lawful : IsLawful w separator → IsLawful w m → IsLawful w (further_meaning w errs separator m)
-  further_lawful q p = items_lawful w l errs (any_limits Kind.SeparatedList) (Unit {0}) (preceded_meaning w separator m) (sequence_lawful w l (λ u v. v) (with_outputs false) (λ o. o) separator m q p)
+  further_lawful q p = items_lawful w l errs (any_limits Kind.SeparatedList) (Unit {0}) (preceded_meaning w separator m)
+      (sequence_lawful w l (λ u v. v) (with_outputs false) (λ o. o) separator m q p)
 
   pub further_steady : IsSteady w separator → IsSteady w m → IsSteady w (further_meaning w errs separator m)
-  further_steady q p = items_steady w l errs (any_limits Kind.SeparatedList) (Unit {0}) (preceded_meaning w separator m) (sequence_steady w l (λ u v. v) (with_outputs false) (λ o. o) separator m q p)
+  further_steady q p = items_steady w l errs (any_limits Kind.SeparatedList) (Unit {0}) (preceded_meaning w separator m)
+      (sequence_steady w l (λ u v. v) (with_outputs false) (λ o. o) separator m q p)
 
   pub separated1_lawful : IsLawful w separator → IsLawful w m → IsLawful w (separated1_meaning w errs separator m)
-  separated1_lawful q p = sequence_lawful w l (λ vs us. vs ++ us) (λ o. o) (λ o. o) (items_meaning w errs (one_limits Passed false) (Unit {0}) m) (further_meaning w errs separator m) (items_lawful w l errs (one_limits Passed false) (Unit {0}) m p) (further_lawful q p)
+  separated1_lawful q p = sequence_lawful w l (λ vs us. vs ++ us) (λ o. o) (λ o. o) (items_meaning w errs (one_limits Passed false) (Unit {0}) m)
+      (further_meaning w errs separator m) (items_lawful w l errs (one_limits Passed false) (Unit {0}) m p) (further_lawful q p)
 
   pub separated1_steady : IsSteady w separator → IsSteady w m → IsSteady w (separated1_meaning w errs separator m)
-  separated1_steady q p = sequence_steady w l (λ vs us. vs ++ us) (λ o. o) (λ o. o) (items_meaning w errs (one_limits Passed false) (Unit {0}) m) (further_meaning w errs separator m) (items_steady w l errs (one_limits Passed false) (Unit {0}) m p) (further_steady q p)
+  separated1_steady q p = sequence_steady w l (λ vs us. vs ++ us) (λ o. o) (λ o. o) (items_meaning w errs (one_limits Passed false) (Unit {0}) m)
+      (further_meaning w errs separator m) (items_steady w l errs (one_limits Passed false) (Unit {0}) m p) (further_steady q p)
 
   following_lawful : IsLawful w separator → IsLawful w m → IsLawfulFamily w AnyKey (following w errs separator m)
   following_lawful q p = record {
@@ -53,10 +57,12 @@ module _ {I A P V E : Type 0} (w : Seen I A) (l : InputLaws w) (errs : Errors I 
       never_at large h (v ∷ vs) = h
 
   pub separated0_lawful : IsLawful w separator → IsLawful w m → IsLawful w (separated0_meaning w errs separator m)
-  separated0_lawful q p = then_lawful w l (λ vs us. vs ++ us) (λ o. o) (λ o. o) (optional_meaning w errs (Unit {0}) m) (following w errs separator m) (items_lawful w l errs optional_limits (Unit {0}) m p) (following_lawful q p)
+  separated0_lawful q p = then_lawful w l (λ vs us. vs ++ us) (λ o. o) (λ o. o) (optional_meaning w errs (Unit {0}) m) (following w errs separator m)
+      (items_lawful w l errs optional_limits (Unit {0}) m p) (following_lawful q p)
 
   pub separated0_steady : IsSteady w separator → IsSteady w m → IsSteady w (separated0_meaning w errs separator m)
-  separated0_steady q p = then_steady w l (λ vs us. vs ++ us) (λ o. o) (λ o. o) (optional_meaning w errs (Unit {0}) m) (following w errs separator m) (items_steady w l errs optional_limits (Unit {0}) m p) steady_at
+  separated0_steady q p = then_steady w l (λ vs us. vs ++ us) (λ o. o) (λ o. o) (optional_meaning w errs (Unit {0}) m) (following w errs separator m)
+      (items_steady w l errs optional_limits (Unit {0}) m p) steady_at
     where
       steady_at : (vs : List V) → IsSteady w (follows w errs separator m vs)
       steady_at [] = success_steady E w []

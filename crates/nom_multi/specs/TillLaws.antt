@@ -36,7 +36,8 @@ till_ends (Some TooLarge) n t e = absurd (cc (e))
 till_ends (Some (Undecided m)) n t e = absurd (cc (e))
 till_ends None n t e = absurd (cc (e))
 
-till_blames : {I T V E : Type 0} (errs : Errors I E) (j : I) (a : Option (Outcome (T ⊎ V))) (X Y : E → Type 0) (e : E) → (Ran a → (f : E) → X f → Y f) → TillBlames errs j a X e → TillBlames errs j a Y e
+till_blames : {I T V E : Type 0} (errs : Errors I E) (j : I) (a : Option (Outcome (T ⊎ V))) (X Y : E → Type 0) (e : E) → (Ran a → (f : E) → X f → Y f) →
+    TillBlames errs j a X e → TillBlames errs j a Y e
 till_blames errs j (Some (Accept n u)) X Y e f h = h
 till_blames errs j (Some Refuse) X Y e f h = (h.0, f tt h.0 h.1, h.2)
 till_blames errs j (Some Fail) X Y e f h = f tt e h
@@ -91,10 +92,12 @@ till_rule_laws errs = record {
 module _ {I A T V E : Type 0} (w : Seen I A) (l : InputLaws w) (errs : Errors I E) (m : Meaning I V E) (end : Meaning I T E) where
   pub many_till_lawful : IsLawful w m → IsLawful w end → IsLawful w (many_till_meaning w errs m end)
   many_till_lawful p q =
-      let part : IsLawful w (end_or_item end m) = otherwise_lawful w (labelled_meaning inl end) (labelled_meaning inr m) (labelled_lawful w end inl q) (labelled_lawful w m inr p) in
+      let part : IsLawful w (end_or_item end m) =
+      otherwise_lawful w (labelled_meaning inl end) (labelled_meaning inr m) (labelled_lawful w end inl q) (labelled_lawful w m inr p) in
       repeat_lawful w l (till_rule errs) (till_rule_laws errs) with_end (always (end_or_item end m)) (always_lawful w (end_or_item end m) part)
 
   pub many_till_steady : IsSteady w m → IsSteady w end → IsSteady w (many_till_meaning w errs m end)
   many_till_steady p q =
-      let part : IsSteady w (end_or_item end m) = otherwise_steady w (labelled_meaning inl end) (labelled_meaning inr m) (labelled_steady w end inl q) (labelled_steady w m inr p) in
+      let part : IsSteady w (end_or_item end m) =
+      otherwise_steady w (labelled_meaning inl end) (labelled_meaning inr m) (labelled_steady w end inl q) (labelled_steady w m inr p) in
       repeat_steady w l (till_rule errs) (till_rule_laws errs) with_end (always (end_or_item end m)) (λ _. part)

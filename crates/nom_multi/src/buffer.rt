@@ -65,10 +65,12 @@ pub fn fill_buffer<OM: OutputMode, I: Items, T: Drop, F: Parser<I, Output = T>>(
     input: I,
 ) -> PResult<I, (), F::Error>
     requires { (F.meaning (F.state parser.old)).IsSound }
-    ensures shown { ShowsMeaning I.seen IsDone (fill_meaning I.seen F.Error.errors (length buffer.old) (F.meaning (F.state parser.old))) (modes OM.Output.BUILDS OM.Error.BUILDS OM.Incomplete.STREAMING) input result }
+    ensures shown { ShowsMeaning I.seen IsDone (fill_meaning I.seen F.Error.errors (length buffer.old) (F.meaning (F.state parser.old)))
+        (modes OM.Output.BUILDS OM.Error.BUILDS OM.Incomplete.STREAMING) input result }
     ensures kept { F.state parser.new ≡ F.state parser.old }
     ensures long { length buffer.new ≡ length buffer.old }
-    ensures filled { IsFilled I.seen (F.IsOutput (F.state parser.old)) (F.meaning (F.state parser.old)) (modes OM.Output.BUILDS OM.Error.BUILDS OM.Incomplete.STREAMING) input buffer.old buffer.new (IsRanOut result) }
+    ensures filled { IsFilled I.seen (F.IsOutput (F.state parser.old)) (F.meaning (F.state parser.old))
+        (modes OM.Output.BUILDS OM.Error.BUILDS OM.Incomplete.STREAMING) input buffer.old buffer.new (IsRanOut result) }
 {
     input.known();
     let mut rest = input;

@@ -26,24 +26,28 @@ pub fn has_few_items<I: Input, A: Allocator + Copy, F: Parser<I> + Drop>(_parser
 /// `many0` accepts just the items that its part accepts, one behind the other, none of them empty, up to
 /// where the part refuses.
 pub fn many0_accepts<I: Input, A: Allocator + Copy, F: Parser<I> + Drop>(_parser: &Many0<A, F>)
-    ensures { AcceptsItems I.seen (Unit {0}) (λ a. 0 < a) 0 None (F.meaning (F.state _parser.now.parser)) (⟦<Many0<A, F> as Parser<I>>⟧.meaning (F.state _parser.now.parser)) }
+    ensures { AcceptsItems I.seen (Unit {0}) (λ a. 0 < a) 0 None (F.meaning (F.state _parser.now.parser))
+        (⟦<Many0<A, F> as Parser<I>>⟧.meaning (F.state _parser.now.parser)) }
 {}
 
 /// `many1` accepts a first item, and behind it just what `many0` accepts.
 pub fn many1_accepts<I: Input, A: Allocator + Copy, F: Parser<I> + Drop>(_parser: &Many1<A, F>)
-    ensures { AcceptsOneAndMore I.seen (F.meaning (F.state _parser.now.parser)) (F.meaning (F.state _parser.now.parser)) (⟦<Many1<A, F> as Parser<I>>⟧.meaning (F.state _parser.now.parser)) }
+    ensures { AcceptsOneAndMore I.seen (F.meaning (F.state _parser.now.parser)) (F.meaning (F.state _parser.now.parser))
+        (⟦<Many1<A, F> as Parser<I>>⟧.meaning (F.state _parser.now.parser)) }
 {}
 
 /// `count` accepts just so many items that its part accepts, one behind the other, of any length.
 pub fn count_accepts<I: Items, A: Allocator + Copy, F: Parser<I> + Drop>(_parser: &Count<A, F>)
-    ensures { AcceptsItems I.seen (Unit {0}) (λ _. Unit {0}) _parser.now.count (Some _parser.now.count) (F.meaning (F.state _parser.now.parser)) (⟦<Count<A, F> as Parser<I>>⟧.meaning (_parser.now.count, F.state _parser.now.parser)) }
+    ensures { AcceptsItems I.seen (Unit {0}) (λ _. Unit {0}) _parser.now.count (Some _parser.now.count) (F.meaning (F.state _parser.now.parser))
+        (⟦<Count<A, F> as Parser<I>>⟧.meaning (_parser.now.count, F.state _parser.now.parser)) }
 {}
 
 /// `many_m_n`, where its bounds fit each other, accepts just the items that its part accepts, one behind the
 /// other, none of them empty: up to where the part refuses, behind the least number at least, or up to the
 /// most.
 pub fn many_m_n_accepts<I: Input, A: Allocator + Copy, F: Parser<I> + Drop>(_parser: &ManyMN<A, F>)
-    ensures { AcceptsItems I.seen (_parser.now.min ≤ _parser.now.max) (λ a. 0 < a) _parser.now.min (Some _parser.now.max) (F.meaning (F.state _parser.now.parser)) (⟦<ManyMN<A, F> as Parser<I>>⟧.meaning (_parser.now.min, _parser.now.max, F.state _parser.now.parser)) }
+    ensures { AcceptsItems I.seen (_parser.now.min ≤ _parser.now.max) (λ a. 0 < a) _parser.now.min (Some _parser.now.max)
+        (F.meaning (F.state _parser.now.parser)) (⟦<ManyMN<A, F> as Parser<I>>⟧.meaning (_parser.now.min, _parser.now.max, F.state _parser.now.parser)) }
 {}
 
 /// `separated_list1` accepts a first item, and behind it just the pairs of a separator and an item that they
@@ -54,7 +58,9 @@ pub fn separated_list1_accepts<
     F: Parser<I> + Drop,
     G: Parser<I, Error = F::Error> + Drop,
 >(_parser: &SeparatedList1<A, G, F>)
-    ensures { AcceptsOneAndMore I.seen (F.meaning (F.state _parser.now.next.second)) (preceded_meaning I.seen (G.meaning (G.state _parser.now.next.first)) (F.meaning (F.state _parser.now.next.second))) (⟦<SeparatedList1<A, G, F> as Parser<I>>⟧.meaning (G.state _parser.now.next.first, F.state _parser.now.next.second)) }
+    ensures { AcceptsOneAndMore I.seen (F.meaning (F.state _parser.now.next.second))
+        (preceded_meaning I.seen (G.meaning (G.state _parser.now.next.first)) (F.meaning (F.state _parser.now.next.second)))
+        (⟦<SeparatedList1<A, G, F> as Parser<I>>⟧.meaning (G.state _parser.now.next.first, F.state _parser.now.next.second)) }
 {}
 
 /// `separated_list0` accepts nothing, with no items, where the first item is refused; and else just what
@@ -65,7 +71,9 @@ pub fn separated_list0_accepts<
     F: Parser<I> + Drop,
     G: Parser<I, Error = F::Error> + Drop,
 >(_parser: &SeparatedList0<A, G, F>)
-    ensures { AcceptsNoneOrMore I.seen (F.meaning (F.state _parser.now.next.second)) (preceded_meaning I.seen (G.meaning (G.state _parser.now.next.first)) (F.meaning (F.state _parser.now.next.second))) (⟦<SeparatedList0<A, G, F> as Parser<I>>⟧.meaning (G.state _parser.now.next.first, F.state _parser.now.next.second)) }
+    ensures { AcceptsNoneOrMore I.seen (F.meaning (F.state _parser.now.next.second))
+        (preceded_meaning I.seen (G.meaning (G.state _parser.now.next.first)) (F.meaning (F.state _parser.now.next.second)))
+        (⟦<SeparatedList0<A, G, F> as Parser<I>>⟧.meaning (G.state _parser.now.next.first, F.state _parser.now.next.second)) }
 {}
 
 /// `many_till` accepts just the items that its part accepts, one behind the other, none of them empty, each
@@ -76,5 +84,6 @@ pub fn many_till_accepts<
     F: Parser<I> + Drop,
     G: Parser<I, Error = F::Error> + Drop,
 >(_parser: &ManyTill<A, F, G>)
-    ensures { AcceptsUntil I.seen (F.meaning (F.state _parser.now.parser)) (G.meaning (G.state _parser.now.end)) (⟦<ManyTill<A, F, G> as Parser<I>>⟧.meaning (F.state _parser.now.parser, G.state _parser.now.end)) }
+    ensures { AcceptsUntil I.seen (F.meaning (F.state _parser.now.parser)) (G.meaning (G.state _parser.now.end))
+        (⟦<ManyTill<A, F, G> as Parser<I>>⟧.meaning (F.state _parser.now.parser, G.state _parser.now.end)) }
 {}

@@ -180,7 +180,12 @@ fn first_item<OM: OutputMode, I: Input, F: Parser<I>, K: Keep<F::Output> + Drop>
 ) -> PResult<I, (bool, Option<K>), F::Error>
     requires sound { (F.meaning (F.state parser.old)).IsSound }
     requires built { Built OM.Output.BUILDS K.CanKeep before }
-    ensures shown { ShowsAnswer I.seen (Found K.Gains K.CanKeep (F.IsOutput (F.state parser.old)) OM.Output.BUILDS before) (modes true OM.Error.BUILDS OM.Incomplete.STREAMING) input ((optional_meaning I.seen F.Error.errors K.Grows (F.meaning (F.state parser.old))).answers OM.Incomplete.STREAMING input) ((optional_meaning I.seen F.Error.errors K.Grows (F.meaning (F.state parser.old))).blames OM.Incomplete.STREAMING input) ((optional_meaning I.seen F.Error.errors K.Grows (F.meaning (F.state parser.old))).runs_out (modes OM.Output.BUILDS OM.Error.BUILDS OM.Incomplete.STREAMING) input) result }
+    ensures shown { ShowsAnswer I.seen (Found K.Gains K.CanKeep (F.IsOutput (F.state parser.old)) OM.Output.BUILDS before)
+        (modes true OM.Error.BUILDS OM.Incomplete.STREAMING) input
+        ((optional_meaning I.seen F.Error.errors K.Grows (F.meaning (F.state parser.old))).answers OM.Incomplete.STREAMING input)
+        ((optional_meaning I.seen F.Error.errors K.Grows (F.meaning (F.state parser.old))).blames OM.Incomplete.STREAMING input)
+        ((optional_meaning I.seen F.Error.errors K.Grows (F.meaning (F.state parser.old))).runs_out
+        (modes OM.Output.BUILDS OM.Error.BUILDS OM.Incomplete.STREAMING) input) result }
     ensures kept { F.state parser.new ≡ F.state parser.old }
 {
     input.known();

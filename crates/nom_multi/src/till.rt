@@ -100,7 +100,8 @@ impl<
     ghost use Rattle.nom_repeat.specs.Lists.{list_pinned};
     ghost use Rattle.nom_multi.specs.TillLaws.{many_till_steady};
 
-    ghost pinned = { λ s k p. pair_pinned (vec_view F.Output.view) G.Output.view (λ vs list. AllZip (F.IsOutput s.0) vs list.items) (G.IsOutput s.1) (list_pinned F.Output.view (F.IsOutput s.0) (F.pinned s.0 k.1 p.0)) (G.pinned s.1 k.0 p.1) };
+    ghost pinned = { λ s k p. pair_pinned (vec_view F.Output.view) G.Output.view (λ vs list. AllZip (F.IsOutput s.0) vs list.items) (G.IsOutput s.1)
+        (list_pinned F.Output.view (F.IsOutput s.0) (F.pinned s.0 k.1 p.0)) (G.pinned s.1 k.0 p.1) };
 
     ghost steady = { λ s k. many_till_steady I.seen I.lawful F.Error.errors (F.meaning s.0) (G.meaning s.1) (F.steady s.0 k.1) (G.steady s.1 k.0) };
 }
@@ -114,7 +115,12 @@ fn what_stands<OM: OutputMode, I: Input, F: Parser<I>, G: Parser<I, Error = F::E
 ) -> PResult<I, Step<Option<G::Output>, Option<F::Output>>, F::Error>
     requires parser { (F.meaning (F.state parser.old)).IsSound }
     requires end { (G.meaning (G.state end.old)).IsSound }
-    ensures shown { ShowsAnswer I.seen (IsStep OM.Output.BUILDS (G.IsOutput (G.state end.old)) (F.IsOutput (F.state parser.old))) (modes true OM.Error.BUILDS OM.Incomplete.STREAMING) input ((end_or_item (G.meaning (G.state end.old)) (F.meaning (F.state parser.old))).answers OM.Incomplete.STREAMING input) ((end_or_item (G.meaning (G.state end.old)) (F.meaning (F.state parser.old))).blames OM.Incomplete.STREAMING input) ((end_or_item (G.meaning (G.state end.old)) (F.meaning (F.state parser.old))).runs_out (modes OM.Output.BUILDS OM.Error.BUILDS OM.Incomplete.STREAMING) input) result }
+    ensures shown { ShowsAnswer I.seen (IsStep OM.Output.BUILDS (G.IsOutput (G.state end.old)) (F.IsOutput (F.state parser.old)))
+        (modes true OM.Error.BUILDS OM.Incomplete.STREAMING) input
+        ((end_or_item (G.meaning (G.state end.old)) (F.meaning (F.state parser.old))).answers OM.Incomplete.STREAMING input)
+        ((end_or_item (G.meaning (G.state end.old)) (F.meaning (F.state parser.old))).blames OM.Incomplete.STREAMING input)
+        ((end_or_item (G.meaning (G.state end.old)) (F.meaning (F.state parser.old))).runs_out
+        (modes OM.Output.BUILDS OM.Error.BUILDS OM.Incomplete.STREAMING) input) result }
     ensures parser_kept { F.state parser.new ≡ F.state parser.old }
     ensures end_kept { G.state end.new ≡ G.state end.old }
 {

@@ -2,6 +2,7 @@
 //! error of an item, want of memory, buffers where nothing is built, collections, the order of a fold, and errors
 //! at a part of the input.
 
+mod alloc;
 mod buffers;
 mod folds;
 mod lengths;

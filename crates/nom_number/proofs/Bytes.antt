@@ -1,5 +1,6 @@
 -- The first byte of an input, and the number that it writes.
-use Rattle.std.proofs.Common.{◌≡◌, ℕ, ◌<◌, ◌-◌, Bool, true, false, suc, zero, List, [], ◌∷◌, ◌++◌, length, Option, Some, None, refl, sym, ◌∙◌, ap, arith, length-append}
+use Rattle.std.proofs.Common.{◌≡◌, ℕ, ◌<◌, ◌-◌, Bool, true, false, suc, zero, List, [], ◌∷◌, ◌++◌, length, Option, Some, None, refl, sym, ◌∙◌, ap}
+use Rattle.std.proofs.Common.{arith, length-append}
 use Rattle.std.specs.Iterator.{AlwaysYields}
 use Rattle.nom_error.specs.Answers.{size_of}
 use Rattle.nom_error.specs.declared.answer.Needed.{Needed}
@@ -11,12 +12,14 @@ use Rattle.nom_traits.specs.Digits.{value_of}
 use Rattle.nom_number.specs.Numbers.{lacking}
 
 -- what the first call of an iterator over some items gives
-first_given : {S : Type 0} (steps : S → Option ℕ → S → Type 0) (s t : S) (xs : List ℕ) (r : Option ℕ) → 0 < length xs → AlwaysYields steps (λ x. x) s xs → steps s r t → (b : ℕ) × (r ≡ Some b) × ((rest : List ℕ) × (xs ≡ b ∷ rest))
+first_given : {S : Type 0} (steps : S → Option ℕ → S → Type 0) (s t : S) (xs : List ℕ) (r : Option ℕ) → 0 < length xs →
+    AlwaysYields steps (λ x. x) s xs → steps s r t → (b : ℕ) × (r ≡ Some b) × ((rest : List ℕ) × (xs ≡ b ∷ rest))
 first_given steps s t [] r h g p = absurd (omega arith)
 first_given steps s t (y ∷ ys) None h g p = absurd (g.0 t p)
 first_given steps s t (y ∷ ys) (Some x) h g p = (x, refl, (ys, ap (λ z. z ∷ ys) (sym (g.1 x t p).0)))
 
-pub first_built : {S : Type 0} (built : Bool) (steps : S → Option ℕ → S → Type 0) (s t : S) (xs : List ℕ) (r : Option ℕ) → built ≡ true → 0 < length xs → AlwaysYields steps (λ x. x) s xs → steps s r t → Built built (λ b. (rest : List ℕ) × (xs ≡ b ∷ rest)) r
+pub first_built : {S : Type 0} (built : Bool) (steps : S → Option ℕ → S → Type 0) (s t : S) (xs : List ℕ) (r : Option ℕ) → built ≡ true →
+    0 < length xs → AlwaysYields steps (λ x. x) s xs → steps s r t → Built built (λ b. (rest : List ℕ) × (xs ≡ b ∷ rest)) r
 first_built true steps s t xs r e h g p = first_given steps s t xs r h g p
 first_built false steps s t xs r e h g p = absurd (cc (e))
 
@@ -43,5 +46,6 @@ lacking_is k zero a b = ap size_of (a refl)
 lacking_is k (suc n) a b = b (omega arith)
 
 -- what is taken of a count of items has so many
-pub taken_count : {I A : Type 0} (w : Seen I A) → InputLaws w → (i : I) (count n : ℕ) (v : I) → IsCount w i count n → IsFront w i n v → length (w.elements v) ≡ count
+pub taken_count : {I A : Type 0} (w : Seen I A) → InputLaws w → (i : I) (count n : ℕ) (v : I) → IsCount w i count n → IsFront w i n v →
+    length (w.elements v) ≡ count
 taken_count w l i count n v c f = ap length (front_seen w l i n v (place_slice w i n c.place) f (place_first w i n c.place)).elements_are ∙ c.count_is

@@ -19,10 +19,14 @@ no_errors = record { of_kind = λ i k e. ⊥; appended = λ i k d e. ⊥; of_cha
 
 module _ {I A N E : Type 0} {w : Seen I A} {IsError : I → E → Type 0} {RunsOut : I → Type 0} (value : List A → N) (count : ℕ) where
   -- a number in any layout
-  number_func : (s : Bool) → IsParser w itself (λ i r. ParsesAnswer w (λ t v. v ≡ t) i ((number_meaning w no_errors value count).answers s i) (IsError i) (RunsOut i) r) (λ i. Unit {0})
-  number_func s = func_parses {IsError = IsError} {RunsOut = RunsOut} ((labelled_lawful w (take_meaning w no_errors (bytes_lack w) count) (λ t. value t.items) (take_lawful w no_errors (bytes_lack w) count)).one_outcome s) value_pinned
+  number_func : (s : Bool) → IsParser w itself
+      (λ i r. ParsesAnswer w (λ t v. v ≡ t) i ((number_meaning w no_errors value count).answers s i) (IsError i) (RunsOut i) r) (λ i. Unit {0})
+  number_func s = func_parses {IsError = IsError} {RunsOut = RunsOut}
+      ((labelled_lawful w (take_meaning w no_errors (bytes_lack w) count) (λ t. value t.items)
+      (take_lawful w no_errors (bytes_lack w) count)).one_outcome s) value_pinned
 
-  number_stream_func : IsStreamParser w itself (λ i r. ParsesAnswer w (λ t v. v ≡ t) i ((number_meaning w no_errors value count).answers true i) (IsError i) (RunsOut i) r) (λ i. Unit {0})
+  number_stream_func : IsStreamParser w itself
+      (λ i r. ParsesAnswer w (λ t v. v ≡ t) i ((number_meaning w no_errors value count).answers true i) (IsError i) (RunsOut i) r) (λ i. Unit {0})
   number_stream_func =
       let lawful = labelled_lawful w (take_meaning w no_errors (bytes_lack w) count) (λ t. value t.items) (take_lawful w no_errors (bytes_lack w) count) in
       let steady = labelled_steady w (take_meaning w no_errors (bytes_lack w) count) (λ t. value t.items) (take_steady w no_errors (bytes_lack w) count) in
@@ -30,15 +34,19 @@ module _ {I A N E : Type 0} {w : Seen I A} {IsError : I → E → Type 0} {RunsO
 
 module _ {I E : Type 0} {w : Seen I ℕ} {IsError : I → E → Type 0} {RunsOut : I → Type 0} (big : Bool) (count : ℕ) where
   -- `u8` to `u128`
-  pub unsigned_func : (s : Bool) → IsParser w itself (λ i r. ParsesAnswer w (λ t v. v ≡ t) i ((unsigned_meaning w no_errors big count).answers s i) (IsError i) (RunsOut i) r) (λ i. Unit {0})
+  pub unsigned_func : (s : Bool) →
+      IsParser w itself (λ i r. ParsesAnswer w (λ t v. v ≡ t) i ((unsigned_meaning w no_errors big count).answers s i) (IsError i) (RunsOut i) r) (λ i. Unit {0})
   unsigned_func = number_func {IsError = IsError} {RunsOut = RunsOut} (number_of big) count
 
-  pub unsigned_stream_func : IsStreamParser w itself (λ i r. ParsesAnswer w (λ t v. v ≡ t) i ((unsigned_meaning w no_errors big count).answers true i) (IsError i) (RunsOut i) r) (λ i. Unit {0})
+  pub unsigned_stream_func : IsStreamParser w itself
+      (λ i r. ParsesAnswer w (λ t v. v ≡ t) i ((unsigned_meaning w no_errors big count).answers true i) (IsError i) (RunsOut i) r) (λ i. Unit {0})
   unsigned_stream_func = number_stream_func {IsError = IsError} {RunsOut = RunsOut} (number_of big) count
 
   -- `i8` to `i128`
-  pub signed_func : (s : Bool) → IsParser w itself (λ i r. ParsesAnswer w (λ t v. v ≡ t) i ((signed_meaning w no_errors big count).answers s i) (IsError i) (RunsOut i) r) (λ i. Unit {0})
+  pub signed_func : (s : Bool) →
+      IsParser w itself (λ i r. ParsesAnswer w (λ t v. v ≡ t) i ((signed_meaning w no_errors big count).answers s i) (IsError i) (RunsOut i) r) (λ i. Unit {0})
   signed_func = number_func {IsError = IsError} {RunsOut = RunsOut} (λ bytes. signed_of (8 * count) (number_of big bytes)) count
 
-  pub signed_stream_func : IsStreamParser w itself (λ i r. ParsesAnswer w (λ t v. v ≡ t) i ((signed_meaning w no_errors big count).answers true i) (IsError i) (RunsOut i) r) (λ i. Unit {0})
+  pub signed_stream_func : IsStreamParser w itself
+      (λ i r. ParsesAnswer w (λ t v. v ≡ t) i ((signed_meaning w no_errors big count).answers true i) (IsError i) (RunsOut i) r) (λ i. Unit {0})
   signed_stream_func = number_stream_func {IsError = IsError} {RunsOut = RunsOut} (λ bytes. signed_of (8 * count) (number_of big bytes)) count

@@ -1,5 +1,6 @@
 -- The number that bytes write, byte by byte.
-use Rattle.std.proofs.Common.{◌≡◌, ℕ, ◌<◌, ◌≤◌, ◌+◌, ◌*◌, ◌^◌, Bool, true, false, suc, zero, List, [], ◌∷◌, ◌++◌, length, reverse, Option, Some, None, refl, sym, ◌∙◌, ap, subst, arith, append_assoc, append-nil, length-append}
+use Rattle.std.proofs.Common.{◌≡◌, ℕ, ◌<◌, ◌≤◌, ◌+◌, ◌*◌, ◌^◌, Bool, true, false, suc, zero, List, [], ◌∷◌, ◌++◌, length, reverse, Option, Some, None}
+use Rattle.std.proofs.Common.{refl, sym, ◌∙◌, ap, subst, arith, append_assoc, append-nil, length-append}
 use Rattle.std.specs.Iterator.{AlwaysYields}
 use Rattle.std.proofs.lemmas.List.{reverse-append, length-reverse}
 use Rattle.std.proofs.lemmas.Nat.{pow-add}
@@ -44,7 +45,8 @@ after_step v d p q x y z h k e = omega (arith, h, k, spread v d p, ap (λ m. v *
 -- the digits behind a number add theirs
 after : (v : ℕ) (ds : List ℕ) → digits_after 256 v ds ≡ v * 256 ^ length ds + value_of 256 ds
 after v [] = omega arith
-after v (d ∷ ds) = after_step v d (256 ^ length ds) (256 ^ suc (length ds)) _ _ (value_of 256 ds) (after (256 * v + d) ds) (after (256 * 0 + d) ds) (pow-suc 256 (length ds))
+after v (d ∷ ds) = after_step v d (256 ^ length ds) (256 ^ suc (length ds)) _ _ (value_of 256 ds) (after (256 * v + d) ds) (after (256 * 0 + d) ds)
+    (pow-suc 256 (length ds))
 
 -- bytes, and one more that is lower than all: it is their number's lowest digit
 big_more : (passed : List ℕ) (x : ℕ) → number_of true (passed ++ x ∷ []) ≡ 256 * number_of true passed + x
@@ -58,7 +60,8 @@ little_more passed x = ap (value_of 256) (reverse-append passed (x ∷ [])) ∙ 
     width = ap (λ k. x * 256 ^ k) (length-reverse passed) ∙ ap (λ p. x * p) (as_power (length passed))
 
 -- what an iterator that has some items left gives next
-next_given : {S : Type 0} (steps : S → Option ℕ → S → Type 0) (s t : S) (x : ℕ) (xs : List ℕ) → AlwaysYields steps (λ x. x) s xs → steps s (Some x) t → (ys : List ℕ) × (xs ≡ x ∷ ys) × AlwaysYields steps (λ x. x) t ys
+next_given : {S : Type 0} (steps : S → Option ℕ → S → Type 0) (s t : S) (x : ℕ) (xs : List ℕ) → AlwaysYields steps (λ x. x) s xs → steps s (Some x) t →
+    (ys : List ℕ) × (xs ≡ x ∷ ys) × AlwaysYields steps (λ x. x) t ys
 next_given steps s t x [] h k = absurd (h x t k)
 next_given steps s t x (y ∷ ys) h k = (ys, ap (λ z. z ∷ ys) (sym (h.1 x t k).0), (h.1 x t k).1)
 
@@ -104,7 +107,8 @@ module _ {S : Type 0} (big : Bool) (steps : S → Option ℕ → S → Type 0) (
       }
 
 -- the highest byte first
-module _ {S : Type 0} (steps : S → Option ℕ → S → Type 0) (xs : List ℕ) (n number : ℕ) (s t : S) (r : IsSummed true steps xs n number s) (x : ℕ) (byte : x < 256) (k : steps s (Some x) t) where
+module _ {S : Type 0} (steps : S → Option ℕ → S → Type 0) (xs : List ℕ) (n number : ℕ) (s t : S) (r : IsSummed true steps xs n number s) (x : ℕ)
+    (byte : x < 256) (k : steps s (Some x) t) where
   big_below : 256 * number + x < 2 ^ (8 * (n + 1))
   big_below = omega (arith, byte, r.below, one_byte n)
 
@@ -122,7 +126,8 @@ within v x p h b = omega (arith, h, most)
     most = mul-le-mul {n₁ = x} {m₁ = p} {n₂ = 255} {m₂ = p} (omega (arith, b)) (omega arith)
 
 -- the highest byte last
-module _ {S : Type 0} (steps : S → Option ℕ → S → Type 0) (xs : List ℕ) (n number : ℕ) (s t : S) (r : IsSummed false steps xs n number s) (x : ℕ) (byte : x < 256) (k : steps s (Some x) t) where
+module _ {S : Type 0} (steps : S → Option ℕ → S → Type 0) (xs : List ℕ) (n number : ℕ) (s t : S) (r : IsSummed false steps xs n number s) (x : ℕ)
+    (byte : x < 256) (k : steps s (Some x) t) where
   little_below : number + x * 2 ^ (8 * n) < 2 ^ (8 * (n + 1))
   little_below = subst (λ p. number + x * 2 ^ (8 * n) < p) (sym (one_byte n)) (within number x (2 ^ (8 * n)) r.below byte)
 
@@ -130,4 +135,6 @@ module _ {S : Type 0} (steps : S → Option ℕ → S → Type 0) (xs : List ℕ
   little_fits h = omega (arith, little_below, sixteen n (omega (arith, h, one_left false steps xs n number s t r x k)))
 
   pub little_goes_on : IsSummed false steps xs (n + 1) (number + x * 2 ^ (8 * n)) t
-  little_goes_on = goes_on false steps xs n number s t r x k (number + x * 2 ^ (8 * n)) (ap (λ m. m + x * 2 ^ (8 * n)) r.number_is ∙ (ap (λ m. number_of false r.passed + x * 2 ^ (8 * m)) (sym r.count_is) ∙ sym (little_more r.passed x))) little_below
+  little_goes_on = goes_on false steps xs n number s t r x k (number + x * 2 ^ (8 * n))
+      (ap (λ m. m + x * 2 ^ (8 * n)) r.number_is ∙
+      (ap (λ m. number_of false r.passed + x * 2 ^ (8 * m)) (sym r.count_is) ∙ sym (little_more r.passed x))) little_below

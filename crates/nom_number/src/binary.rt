@@ -61,11 +61,13 @@ impl<I: Input<Item = u8>, E: ParseError<I>> Parser<I> for BeU8<I, E> {
         }
     }
 
-    ghost lawful = { λ _ k. labelled_lawful I.seen (take_meaning I.seen E.errors (bytes_lack I.seen) 1) (λ t. value_of 256 t.items) (take_lawful I.seen E.errors (bytes_lack I.seen) 1) };
+    ghost lawful = { λ _ k. labelled_lawful I.seen (take_meaning I.seen E.errors (bytes_lack I.seen) 1) (λ t. value_of 256 t.items)
+        (take_lawful I.seen E.errors (bytes_lack I.seen) 1) };
 }
 
 impl<I: Input<Item = u8>, E: ParseError<I>> StreamParser<I> for BeU8<I, E> {
     ghost pinned = { λ _ k p. value_pinned };
 
-    ghost steady = { λ _ k. labelled_steady I.seen (take_meaning I.seen E.errors (bytes_lack I.seen) 1) (λ t. value_of 256 t.items) (take_steady I.seen E.errors (bytes_lack I.seen) 1) };
+    ghost steady = { λ _ k. labelled_steady I.seen (take_meaning I.seen E.errors (bytes_lack I.seen) 1) (λ t. value_of 256 t.items)
+        (take_steady I.seen E.errors (bytes_lack I.seen) 1) };
 }

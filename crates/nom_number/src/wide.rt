@@ -139,11 +139,13 @@ impl<F: Layout, I: Input<Item = u8>, E: ParseError<I>> Parser<I> for Binary<F, I
         }
     }
 
-    ghost lawful = { λ big k. labelled_lawful I.seen (take_meaning I.seen E.errors (bytes_lack I.seen) F.BYTES) (λ t. F.of_bits (number_of big t.items)) (take_lawful I.seen E.errors (bytes_lack I.seen) F.BYTES) };
+    ghost lawful = { λ big k. labelled_lawful I.seen (take_meaning I.seen E.errors (bytes_lack I.seen) F.BYTES) (λ t. F.of_bits (number_of big t.items))
+        (take_lawful I.seen E.errors (bytes_lack I.seen) F.BYTES) };
 }
 
 impl<F: Layout, I: Input<Item = u8>, E: ParseError<I>> StreamParser<I> for Binary<F, I, E> {
     ghost pinned = { λ _ k p t x y a b. ap (F.Number.view.value) (a ∙ sym b) };
 
-    ghost steady = { λ big k. labelled_steady I.seen (take_meaning I.seen E.errors (bytes_lack I.seen) F.BYTES) (λ t. F.of_bits (number_of big t.items)) (take_steady I.seen E.errors (bytes_lack I.seen) F.BYTES) };
+    ghost steady = { λ big k. labelled_steady I.seen (take_meaning I.seen E.errors (bytes_lack I.seen) F.BYTES) (λ t. F.of_bits (number_of big t.items))
+        (take_steady I.seen E.errors (bytes_lack I.seen) F.BYTES) };
 }

@@ -65,7 +65,9 @@ module _ {I : Type 0} (w : Seen I ℕ) where
   refused_lacks i (inr q) e = cc (q.0)
 
   refused_stays : (longer s : Bool) → (longer ≡ true → s ≡ true) → (x y : I) → w.IsKnown x → w.IsKnown y → Related w longer x y → Refused s x → Refused s y
-  refused_stays longer s only x y kx ky r (inl q) = inl (open_stays w BeginsOther (λ x y kx ky e q. record { byte = q.byte; begins = begins_more (w.elements x) (w.elements y) e.more q.byte e.whole q.begins; is_other = q.is_other }) longer x y kx ky r q)
+  refused_stays longer s only x y kx ky r (inl q) =
+      inl (open_stays w BeginsOther (λ x y kx ky e q. record
+      { byte = q.byte; begins = begins_more (w.elements x) (w.elements y) e.more q.byte e.whole q.begins; is_other = q.is_other }) longer x y kx ky r q)
   refused_stays longer s only x y kx ky r (inr q) = inr (q.0, closed_stays w (λ xs. xs ≡ []) longer s only x y r q.0 q.1)
 
   refused_settles : (i : I) → Refused true i → Refused false i
@@ -80,7 +82,8 @@ module _ {I : Type 0} (w : Seen I ℕ) where
     accepted_refused = λ s i n b h a r. letter_refused s i b a.1 a.2 r;
     accepted_lacks = λ i n b k h a l. none_first (w.elements i) b a.2 l.0;
     refused_lacks = λ i k h r l. refused_lacks i r l.0;
-    accepted_stays = λ longer s only x y n b kx ky r a. (a.0, a.1, open_stays w (λ xs. BeginsWith xs b) (λ x y kx ky e p. begins_more (w.elements x) (w.elements y) e.more b e.whole p) longer x y kx ky r a.2);
+    accepted_stays = λ longer s only x y n b kx ky r a.
+        (a.0, a.1, open_stays w (λ xs. BeginsWith xs b) (λ x y kx ky e p. begins_more (w.elements x) (w.elements y) e.more b e.whole p) longer x y kx ky r a.2);
     refused_stays = refused_stays;
     lack_alike = λ x y k kx ky r a. subst (λ xs. (xs ≡ []) × (k ≡ Some 1)) r.elements_are a;
     accepted_settles = λ i n b h a. a;

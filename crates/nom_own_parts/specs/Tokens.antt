@@ -75,9 +75,11 @@ module _ {S A : Type 0} (tokens : S → Bor (List A)) (offset : S → ℕ) where
   pub place_within : (x : S) (n : ℕ) → IsPlace seen_tokens x n → n ≤ length (tokens x).now
   place_within x n p = omega (arith, front_length x n p, ap length p.whole, length-append p.front p.rest)
 
-  pub tokens_front : (x y : S) (n : ℕ) → IsPlace seen_tokens x n → offset x < 2 ^ 64 → (tokens y).now ≡ take n (tokens x).now → offset y ≡ offset x → IsFront seen_tokens x n y
+  pub tokens_front : (x y : S) (n : ℕ) → IsPlace seen_tokens x n → offset x < 2 ^ 64 → (tokens y).now ≡ take n (tokens x).now → offset y ≡ offset x →
+      IsFront seen_tokens x n y
   tokens_front x y n p h e f =
-      let taken : take n (tokens x).now ≡ p.front = ap (λ xs. take n xs) p.whole ∙ (ap (λ k. take k (p.front ++ p.rest)) (sym (front_length x n p)) ∙ take-append_seam p.front p.rest) in
+      let taken : take n (tokens x).now ≡ p.front =
+      ap (λ xs. take n xs) p.whole ∙ (ap (λ k. take k (p.front ++ p.rest)) (sym (front_length x n p)) ∙ take-append_seam p.front p.rest) in
       let same : p.front ≡ (tokens y).now = sym taken ∙ sym e in
       record {
         known = subst (λ m. m < 2 ^ 64) (sym f) h;
@@ -87,9 +89,11 @@ module _ {S A : Type 0} (tokens : S → Bor (List A)) (offset : S → ℕ) where
         mark_is = f;
       }
 
-  pub tokens_rest : (x y : S) (n : ℕ) → IsPlace seen_tokens x n → offset x < 2 ^ 64 → (tokens y).now ≡ drop n (tokens x).now → offset y ≡ min (offset x + n) (2 ^ 64 - 1) → IsRest seen_tokens x n y
+  pub tokens_rest : (x y : S) (n : ℕ) → IsPlace seen_tokens x n → offset x < 2 ^ 64 → (tokens y).now ≡ drop n (tokens x).now →
+      offset y ≡ min (offset x + n) (2 ^ 64 - 1) → IsRest seen_tokens x n y
   tokens_rest x y n p h e f =
-      let dropped : drop n (tokens x).now ≡ p.rest = ap (λ xs. drop n xs) p.whole ∙ (ap (λ k. drop k (p.front ++ p.rest)) (sym (front_length x n p)) ∙ drop-append_seam p.front p.rest) in
+      let dropped : drop n (tokens x).now ≡ p.rest =
+      ap (λ xs. drop n xs) p.whole ∙ (ap (λ k. drop k (p.front ++ p.rest)) (sym (front_length x n p)) ∙ drop-append_seam p.front p.rest) in
       let same : p.rest ≡ (tokens y).now = sym dropped ∙ sym e in
       record {
         known = omega (arith, f);

@@ -1,6 +1,7 @@
 //! An input type of a user's own: the tokens of a text, as a lexer gave them.
 ghost use Rattle.std.specs.Prelude.{◌≡◌};
-ghost use Rattle.nom_own_parts.specs.Tokens.{Begins, all_values, same_views, told_by_views, seen_tokens, tokens_comparing, tokens_lacking, tokens_lawful, tokens_view};
+ghost use Rattle.nom_own_parts.specs.Tokens.{Begins, all_values, same_views, told_by_views, seen_tokens, tokens_comparing, tokens_lacking};
+ghost use Rattle.nom_own_parts.specs.Tokens.{tokens_lawful, tokens_view};
 
 use nom::{Compare, CompareResult, Input, Items, Needed, Value, Viewed};
 use std::iter::{Copied, Enumerate};

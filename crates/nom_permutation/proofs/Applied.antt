@@ -21,7 +21,8 @@ all_left [] t h = omega arith
 all_left (m ∷ ms) t h = omega (arith, ap is_left h.0, all_left ms t h.1)
 
 module _ {I T E : Type 0} (s : Bool) (all : List (Member I T E)) where
-  turn_left : (ms : List (Member I T E)) → EachMember (LeavesOneFewer all) ms → (t : T) (i : I) (n : ℕ) (u : T) → Turn s ms t i n u → left all t ≡ suc (left all u)
+  turn_left : (ms : List (Member I T E)) → EachMember (LeavesOneFewer all) ms → (t : T) (i : I) (n : ℕ) (u : T) → Turn s ms t i n u →
+      left all t ≡ suc (left all u)
   turn_left [] f t i n u h = absurd h
   turn_left (m ∷ ms) f t i n u (inl h) = subst (λ x. left all t ≡ suc (left all x)) (sym h.put) (f.0 t h.tree h.waits)
   turn_left (m ∷ ms) f t i n u (inr h) = turn_left ms f.1 t i n u h.1
@@ -32,8 +33,10 @@ module _ {I A T E : Type 0} (w : Seen I A) (s : Bool) (ms : List (Member I T E))
   order_applies (suc k) t i n h (inl o) = subst (AllApplied ms) (sym o.2) o.0
   order_applies (suc k) t i n h (inr o) = order_applies k o.trees o.rest o.more (omega (arith, h, turn_left s ms ms f t i o.length o.trees o.turn)) o.others
 
-module _ {I A T E : Type 0} (w : Seen I A) (l : InputLaws w) (Joins : E → E → E → Type 0) (Closes : I → E → E → Type 0) (Grows : Type 0) (ms : List (Member I T E)) (none : T) where
-  pub applies_once : EachMember (λ m. m.tree none ≡ None) ms → EachMember (LeavesOneFewer ms) ms → AppliesEachOnce w ms none (permutation_meaning w Joins Closes Grows ms none)
+module _ {I A T E : Type 0} (w : Seen I A) (l : InputLaws w) (Joins : E → E → E → Type 0) (Closes : I → E → E → Type 0) (Grows : Type 0)
+    (ms : List (Member I T E)) (none : T) where
+  pub applies_once : EachMember (λ m. m.tree none ≡ None) ms → EachMember (LeavesOneFewer ms) ms →
+      AppliesEachOnce w ms none (permutation_meaning w Joins Closes Grows ms none)
   applies_once g f s i n u h a =
       let order = permutation_in_order w Joins Closes Grows ms s none i n u a in
       (order, order_applies w s ms f u (length ms) none i n (omega (arith, all_left ms none g)) order)

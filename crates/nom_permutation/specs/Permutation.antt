@@ -58,7 +58,8 @@ module _ {I A T E : Type 0} (w : Seen I A) (Joins : E → E → E → Type 0) (C
   -- n more rounds after the trees t, each on the rest of the one before
   abbrev pub rounds_meaning : ℕ → T → Meaning I T E
   rounds_meaning zero t = promised Grows ms (done_meaning t)
-  rounds_meaning (suc n) t = promised Grows ms (then_meaning w (λ _ u. u) (λ o. o) (λ o. o) (round_meaning Closes Grows t (tried Joins Grows ms t)) (promised_family Grows ms (rounds_meaning n)))
+  rounds_meaning (suc n) t = promised Grows ms
+      (then_meaning w (λ _ u. u) (λ o. o) (λ o. o) (round_meaning Closes Grows t (tried Joins Grows ms t)) (promised_family Grows ms (rounds_meaning n)))
 
   -- as many rounds as there are members
   abbrev pub permutation_meaning : T → Meaning I T E

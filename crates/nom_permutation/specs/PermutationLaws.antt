@@ -14,7 +14,8 @@ use Rattle.nom_internal.specs.Sequence.{then_meaning}
 use Rattle.nom_internal.specs.SequenceLaws.{then_lawful, then_steady}
 use Rattle.nom_members.specs.Members.Choice.{NoChoice, Among}
 use Rattle.nom_members.specs.Members.{Member, EachMember, AreLawful, AreSteady, Choice, or_waiting, or_members}
-use Rattle.nom_permutation.specs.Permutation.{AreFrugal, AllSettle, NoneFails, done_meaning, promised, promised_family, round_meaning, rounds_meaning, permutation_meaning}
+use Rattle.nom_permutation.specs.Permutation.{AreFrugal, AllSettle, NoneFails, done_meaning, promised, promised_family, round_meaning, rounds_meaning}
+use Rattle.nom_permutation.specs.Permutation.{permutation_meaning}
 
 -- the fact holds of a choice, if there is one
 abbrev pub OfChoice : {I V E : Type 0} → (Meaning I V E → Type 0) → Choice I V E → Type 0
@@ -66,10 +67,15 @@ module _ {I A V : Type 0} (w : Seen I A) (t : V) where
 
 module _ {I A T P E : Type 0} (w : Seen I A) (Joins : E → E → E → Type 0) (Grows : Type 0) (all : List (Member I T E)) (m : Meaning I P E) (put : P → T) where
   labelled_good : IsGood w Grows all m → IsGood w Grows all (labelled_meaning put m)
-  labelled_good k = record { lawful = labelled_lawful w m put k.lawful; promises = record { frugal = k.promises.frugal; settles = k.promises.settles; never_fails = k.promises.never_fails } }
+  labelled_good k = record {
+    lawful = labelled_lawful w m put k.lawful;
+    promises =
+        record { frugal = k.promises.frugal; settles = k.promises.settles; never_fails = k.promises.never_fails };
+  }
 
   -- one more member
-  waiting_good : (o : Choice I T E) (x : Option P) → OfChoice (λ n. IsGood w Grows all n) o → IsGood w Grows all m → OfChoice (λ n. IsGood w Grows all n) (or_waiting Joins Grows o m put x)
+  waiting_good : (o : Choice I T E) (x : Option P) → OfChoice (λ n. IsGood w Grows all n) o → IsGood w Grows all m →
+      OfChoice (λ n. IsGood w Grows all n) (or_waiting Joins Grows o m put x)
   waiting_good o (Some v) h k = h
   waiting_good NoChoice None h k = labelled_good k
   waiting_good (Among n) None h k = record {
@@ -82,25 +88,32 @@ module _ {I A T P E : Type 0} (w : Seen I A) (Joins : E → E → E → Type 0) 
   }
 
 module _ {I A T P E : Type 0} (w : Seen I A) (Joins : E → E → E → Type 0) (Grows : Type 0) (m : Meaning I P E) (put : P → T) where
-  waiting_steady : (o : Choice I T E) (x : Option P) → OfChoice (λ n. IsSteady w n) o → IsSteady w m → OfChoice (λ n. IsSteady w n) (or_waiting Joins Grows o m put x)
+  waiting_steady : (o : Choice I T E) (x : Option P) → OfChoice (λ n. IsSteady w n) o → IsSteady w m →
+      OfChoice (λ n. IsSteady w n) (or_waiting Joins Grows o m put x)
   waiting_steady o (Some v) h k = h
   waiting_steady NoChoice None h k = labelled_steady w m put k
   waiting_steady (Among n) None h k = or_steady w n (labelled_meaning put m) Joins Grows h (labelled_steady w m put k)
 
 module _ {I A T E : Type 0} (w : Seen I A) (Joins : E → E → E → Type 0) (Grows : Type 0) (all : List (Member I T E)) where
   -- the choice among members that aren't applied
-  members_good : (t : T) (o : Choice I T E) (ms : List (Member I T E)) → OfChoice (λ n. IsGood w Grows all n) o → EachMember (λ a. IsGood w Grows all a.meaning) ms → OfChoice (λ n. IsGood w Grows all n) (or_members Joins Grows t o ms)
+  members_good : (t : T) (o : Choice I T E) (ms : List (Member I T E)) → OfChoice (λ n. IsGood w Grows all n) o →
+      EachMember (λ a. IsGood w Grows all a.meaning) ms → OfChoice (λ n. IsGood w Grows all n) (or_members Joins Grows t o ms)
   members_good t o [] h k = h
-  members_good t o (m ∷ ms) h k = members_good t (or_waiting Joins Grows o m.meaning (m.put t) (m.tree t)) ms (waiting_good w Joins Grows all m.meaning (m.put t) o (m.tree t) h k.0) k.1
+  members_good t o (m ∷ ms) h k =
+      members_good t (or_waiting Joins Grows o m.meaning (m.put t) (m.tree t)) ms (waiting_good w Joins Grows all m.meaning (m.put t) o (m.tree t) h k.0) k.1
 
 module _ {I A T E : Type 0} (w : Seen I A) (Joins : E → E → E → Type 0) (Grows : Type 0) where
-  members_steady : (t : T) (o : Choice I T E) (ms : List (Member I T E)) → OfChoice (λ n. IsSteady w n) o → EachMember (λ a. IsSteady w a.meaning) ms → OfChoice (λ n. IsSteady w n) (or_members Joins Grows t o ms)
+  members_steady : (t : T) (o : Choice I T E) (ms : List (Member I T E)) → OfChoice (λ n. IsSteady w n) o → EachMember (λ a. IsSteady w a.meaning) ms →
+      OfChoice (λ n. IsSteady w n) (or_members Joins Grows t o ms)
   members_steady t o [] h k = h
-  members_steady t o (m ∷ ms) h k = members_steady t (or_waiting Joins Grows o m.meaning (m.put t) (m.tree t)) ms (waiting_steady w Joins Grows m.meaning (m.put t) o (m.tree t) h k.0) k.1
+  members_steady t o (m ∷ ms) h k =
+      members_steady t (or_waiting Joins Grows o m.meaning (m.put t) (m.tree t)) ms (waiting_steady w Joins Grows m.meaning (m.put t) o (m.tree t) h k.0) k.1
 
 -- what all members promise, each promises
 module _ {I A T E : Type 0} (w : Seen I A) (Grows : Type 0) (all : List (Member I T E)) where
-  each_good : (ms : List (Member I T E)) → EachMember (λ a. IsLawful w a.meaning) ms → ((mode : Modes) → AreFrugal Grows all mode → EachMember (λ a. a.meaning.IsFrugal mode) ms) → (AllSettle all → AllSettle ms) → ((large : Bool) → NoneFails all large → NoneFails ms large) → EachMember (λ a. IsGood w Grows all a.meaning) ms
+  each_good : (ms : List (Member I T E)) → EachMember (λ a. IsLawful w a.meaning) ms →
+      ((mode : Modes) → AreFrugal Grows all mode → EachMember (λ a. a.meaning.IsFrugal mode) ms) → (AllSettle all → AllSettle ms) →
+      ((large : Bool) → NoneFails all large → NoneFails ms large) → EachMember (λ a. IsGood w Grows all a.meaning) ms
   each_good [] h f g k = tt
   each_good (m ∷ ms) h f g k = (
     record { lawful = h.0; promises = record { frugal = λ mode x. (f mode x).0; settles = λ x. (g x).0; never_fails = λ large x. (k large x).0 } },
@@ -136,20 +149,35 @@ module _ {I A T E : Type 0} (w : Seen I A) (Joins : E → E → E → Type 0) (C
         let good = members_good w Joins Grows ms t NoChoice ms tt (each_good w Grows ms ms h (λ mode f. f.0) (λ f. f) (λ large f. f)) in
         let round = round_good w Closes Grows ms t tried good in
         let next = promised_family Grows ms (rounds_meaning w Joins Closes Grows ms n) in
-        let family : IsLawfulFamily w AnyKey next = record { lawful = λ u _. rounds_lawful h n u; frugal = λ mode f u _. (rounds_promise n u).frugal mode f; settles = λ f u _. (rounds_promise n u).settles f; never_fails = λ large f u _. (rounds_promise n u).never_fails large f } in
+        let family : IsLawfulFamily w AnyKey next =
+        record {
+          lawful = λ u _. rounds_lawful h n u;
+          frugal = λ mode f u _. (rounds_promise n u).frugal mode f;
+          settles =
+              λ f u _. (rounds_promise n u).settles f;
+          never_fails = λ large f u _. (rounds_promise n u).never_fails large f;
+        } in
         good_lawful w Grows ms (then_meaning w (λ _ u. u) (λ o. o) (λ o. o) (round_meaning Closes Grows t tried) next) (record {
           lawful = then_lawful w l (λ _ u. u) (λ o. o) (λ o. o) (round_meaning Closes Grows t tried) next round.lawful family;
-          promises = record { frugal = λ mode f. (round.promises.frugal mode f, f); settles = λ f. (round.promises.settles f, f); never_fails = λ large f. (round.promises.never_fails large f, f) };
+          promises = record {
+            frugal = λ mode f. (round.promises.frugal mode f, f);
+            settles = λ f. (round.promises.settles f, f);
+            never_fails =
+                λ large f. (round.promises.never_fails large f, f);
+          };
         })
 
     rounds_steady : AreSteady w ms → (n : ℕ) (t : T) → IsSteady w (rounds_meaning w Joins Closes Grows ms n t)
     rounds_steady h zero t = done_steady w t E
     rounds_steady h (suc n) t =
         let tried = or_members Joins Grows t NoChoice ms in
-        then_steady w l (λ _ u. u) (λ o. o) (λ o. o) (round_meaning Closes Grows t tried) (promised_family Grows ms (rounds_meaning w Joins Closes Grows ms n)) (round_steady w Closes Grows t tried (members_steady w Joins Grows t NoChoice ms tt h)) (λ u. rounds_steady h n u)
+        then_steady w l (λ _ u. u) (λ o. o) (λ o. o) (round_meaning Closes Grows t tried)
+        (promised_family Grows ms (rounds_meaning w Joins Closes Grows ms n))
+        (round_steady w Closes Grows t tried (members_steady w Joins Grows t NoChoice ms tt h)) (λ u. rounds_steady h n u)
 
     pub permutation_lawful : AreLawful w ms → (none : T) → IsLawful w (permutation_meaning w Joins Closes Grows ms none)
-    permutation_lawful h none = good_lawful w Grows ms (rounds_meaning w Joins Closes Grows ms (length ms) none) (record { lawful = rounds_lawful h (length ms) none; promises = rounds_promise (length ms) none })
+    permutation_lawful h none = good_lawful w Grows ms (rounds_meaning w Joins Closes Grows ms (length ms) none)
+        (record { lawful = rounds_lawful h (length ms) none; promises = rounds_promise (length ms) none })
 
     pub permutation_steady : AreSteady w ms → (none : T) → IsSteady w (permutation_meaning w Joins Closes Grows ms none)
     permutation_steady h none = rounds_steady h (length ms) none

@@ -32,7 +32,8 @@ impl<I: Items, L: Members<I>> Parser<I> for Permutation<L> {
 
     ghost IsOutput = { L.IsOutput };
 
-    ghost meaning = { λ s. permutation_meaning I.seen L.Error.errors.joined (λ i. L.Error.errors.appended i Kind.Permutation) L.Error.errors.grows (L.members s) L.none };
+    ghost meaning = { λ s. permutation_meaning I.seen L.Error.errors.joined (λ i. L.Error.errors.appended i Kind.Permutation) L.Error.errors.grows
+        (L.members s) L.none };
 
     ghost Pins = { L.Pins };
 
@@ -52,7 +53,8 @@ impl<I: Items, L: Members<I>> Parser<I> for Permutation<L> {
         }
     }
 
-    ghost lawful = { λ s k. permutation_lawful I.seen L.Error.errors.joined (λ i. L.Error.errors.appended i Kind.Permutation) L.Error.errors.grows (L.members s) I.lawful (L.lawful s k) L.none };
+    ghost lawful = { λ s k. permutation_lawful I.seen L.Error.errors.joined (λ i. L.Error.errors.appended i Kind.Permutation) L.Error.errors.grows
+        (L.members s) I.lawful (L.lawful s k) L.none };
 }
 
 impl<I: Items, L: StreamMembers<I>> StreamParser<I> for Permutation<L> {
@@ -60,5 +62,6 @@ impl<I: Items, L: StreamMembers<I>> StreamParser<I> for Permutation<L> {
 
     ghost pinned = { L.pinned };
 
-    ghost steady = { λ s k. permutation_steady I.seen L.Error.errors.joined (λ i. L.Error.errors.appended i Kind.Permutation) L.Error.errors.grows (L.members s) I.lawful (L.steady s k) L.none };
+    ghost steady = { λ s k. permutation_steady I.seen L.Error.errors.joined (λ i. L.Error.errors.appended i Kind.Permutation) L.Error.errors.grows
+        (L.members s) I.lawful (L.steady s k) L.none };
 }

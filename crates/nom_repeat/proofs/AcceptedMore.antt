@@ -14,7 +14,8 @@ use Rattle.nom_repeat.specs.declared.items.TooFew.{TooFew}
 use Rattle.nom_repeat.proofs.AcceptedItems.{accepted_in_turn, in_turn_accepted}
 
 -- what is accepted behind something else
-pub after_accepts : {P T : Type 0} (a n : ℕ) (f : P → T) (v : T) (o : Outcome P) → Accept n v ≡ after a f o → (c : ℕ) × (u : P) × (o ≡ Accept c u) × (n ≡ a + c) × (v ≡ f u)
+pub after_accepts : {P T : Type 0} (a n : ℕ) (f : P → T) (v : T) (o : Outcome P) → Accept n v ≡ after a f o → (c : ℕ) × (u : P) × (o ≡ Accept c u) ×
+    (n ≡ a + c) × (v ≡ f u)
 after_accepts a n f v (Accept c u) e = (c, u, refl, cc (e), cc (e))
 after_accepts a n f v Refuse e = absurd (cc (e))
 after_accepts a n f v Fail e = absurd (cc (e))
@@ -22,10 +23,13 @@ after_accepts a n f v TooLarge e = absurd (cc (e))
 after_accepts a n f v (Undecided k) e = absurd (cc (e))
 
 -- a sequence accepts what its first part accepts, and then what follows
-pub first_accepts : {I A P Q T : Type 0} (w : Seen I A) (tree : P → Q → T) (First : I → Outcome P → Type 0) (Next : P → I → Outcome Q → Type 0) (i : I) (n : ℕ) (v : T) → Then w tree First Next i (Accept n v) → (a c : ℕ) × (u : P) × (j : I) × (x : Q) × First i (Accept a u) × IsRest w i a j × Next u j (Accept c x) × (n ≡ a + c) × (v ≡ tree u x)
+pub first_accepts : {I A P Q T : Type 0} (w : Seen I A) (tree : P → Q → T) (First : I → Outcome P → Type 0) (Next : P → I → Outcome Q → Type 0) (i : I)
+    (n : ℕ) (v : T) → Then w tree First Next i (Accept n v) → (a c : ℕ) × (u : P) × (j : I) × (x : Q) × First i (Accept a u) × IsRest w i a j ×
+    Next u j (Accept c x) × (n ≡ a + c) × (v ≡ tree u x)
 first_accepts {I} {P = P} {Q = Q} {T = T} w tree First Next i n v t = of t.first t.answered t.goes_on
   where
-    of : (o : Outcome P) → First i o → GoesOn w tree Next i o (Accept n v) → (a c : ℕ) × (u : P) × (j : I) × (x : Q) × First i (Accept a u) × IsRest w i a j × Next u j (Accept c x) × (n ≡ a + c) × (v ≡ tree u x)
+    of : (o : Outcome P) → First i o → GoesOn w tree Next i o (Accept n v) → (a c : ℕ) × (u : P) × (j : I) × (x : Q) × First i (Accept a u) ×
+        IsRest w i a j × Next u j (Accept c x) × (n ≡ a + c) × (v ≡ tree u x)
     of (Accept a u) h g =
         let e = after_accepts a n (tree u) v g.1 g.4 in
         (a, e.0, u, g.0, e.1, h, g.2, subst (λ o. Next u g.0 o) e.2 g.3, e.3, e.4)
@@ -57,7 +61,8 @@ module _ {I A V E : Type 0} (w : Seen I A) (errs : Errors I E) (few : TooFew) (s
     where
       forward : both.answers s i (Accept n vs) → OneAndMore w (m.answers s) (InTurn w (p.answers s) (λ a. 0 < a) 0 None) i n vs
       forward t =
-          let f = first_accepts w (λ us ws. us ++ ws) ((items_meaning w errs (one_limits few start) G m).answers s) (λ _. (items_meaning w errs (any_limits kind) H p).answers s) i n vs t in
+          let f = first_accepts w (λ us ws. us ++ ws) ((items_meaning w errs (one_limits few start) G m).answers s)
+          (λ _. (items_meaning w errs (any_limits kind) H p).answers s) i n vs t in
           let one = only_item w (m.answers s) i f.0 f.2 (accepted_in_turn w errs (one_limits few start) G m s i f.0 f.2 f.5) in
           record {
             first_length = f.0;
@@ -75,6 +80,13 @@ module _ {I A V E : Type 0} (w : Seen I A) (errs : Errors I E) (few : TooFew) (s
       backward : OneAndMore w (m.answers s) (InTurn w (p.answers s) (λ a. 0 < a) 0 None) i n vs → both.answers s i (Accept n vs)
       backward h = record {
         first = Accept h.first_length (h.tree ∷ []);
-        answered = in_turn_accepted w errs (one_limits few start) G m s i h.first_length (h.tree ∷ []) (is_only_item w (m.answers s) i h.rest h.first_length h.tree h.accepted h.rest_is);
-        goes_on = (h.rest, Accept h.more_length h.trees, h.rest_is, in_turn_accepted w errs (any_limits kind) H p s h.rest h.more_length h.trees h.more, cc (h.length_is, h.trees_are));
+        answered = in_turn_accepted w errs (one_limits few start) G m s i h.first_length (h.tree ∷ [])
+            (is_only_item w (m.answers s) i h.rest h.first_length h.tree h.accepted h.rest_is);
+        goes_on = (
+          h.rest,
+          Accept h.more_length h.trees,
+          h.rest_is,
+          in_turn_accepted w errs (any_limits kind) H p s h.rest h.more_length h.trees h.more,
+          cc (h.length_is, h.trees_are),
+        );
       }

@@ -23,7 +23,8 @@ count_adds n (x ∷ xs) new h a =
 
 module _ {V T : Type 0} (P : V → T → Type 0) where
   -- of none at first, the number of the trees, where it fits
-  pub count_of_none : (builds : Bool) {before : Option ℕ} → Built builds (λ (n : ℕ). n ≡ 0) before → (vs : List V) (k : ℕ) → length vs ≤ 2 ^ 64 - 1 → Kept CountGains (λ _. Unit {0}) P before vs k → k ≡ length vs
+  pub count_of_none : (builds : Bool) {before : Option ℕ} → Built builds (λ (n : ℕ). n ≡ 0) before → (vs : List V) (k : ℕ) → length vs ≤ 2 ^ 64 - 1 →
+      Kept CountGains (λ _. Unit {0}) P before vs k → k ≡ length vs
   count_of_none builds {before} b vs k fits h =
       let none : h.first ≡ 0 = first_none builds b in
       let zip : length h.outputs ≡ length vs = zip_length P vs h.outputs h.are_outputs in

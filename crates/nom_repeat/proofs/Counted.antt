@@ -25,7 +25,8 @@ length_more : {V : Type 0} (vs : List V) (v : V) → length (vs ++ v ∷ []) ≡
 length_more [] v = refl
 length_more (u ∷ vs) v = omega (arith, length_more vs v)
 
-pub counts_more : {V : Type 0} (most : Option ℕ) (count more : ℕ) (vs : List V) (v : V) → Counts most count vs → IsOneMore most count more → Counts most more (vs ++ v ∷ [])
+pub counts_more : {V : Type 0} (most : Option ℕ) (count more : ℕ) (vs : List V) (v : V) → Counts most count vs → IsOneMore most count more →
+    Counts most more (vs ++ v ∷ [])
 counts_more (Some n) count more vs v c h = omega (arith, c, h, length_more vs v)
 counts_more None count more vs v c h = tt
 
@@ -59,7 +60,8 @@ module _ {V : Type 0} (most : Option ℕ) (count : ℕ) (vs : List V) where
       of None c n = le-ltb (length vs) least (omega (arith, n))
 
 -- it falls
-pub left_falls : (empty : Option ErrorKind) (most : Option ℕ) (count more before after n : ℕ) → IsBounded empty most → IsBelow most count → IsOneMore most count more → ((empty ≡ None) ⊎ (0 < n)) → before ≡ n + after → left empty most more after < left empty most count before
+pub left_falls : (empty : Option ErrorKind) (most : Option ℕ) (count more before after n : ℕ) → IsBounded empty most → IsBelow most count →
+    IsOneMore most count more → ((empty ≡ None) ⊎ (0 < n)) → before ≡ n + after → left empty most more after < left empty most count before
 left_falls (Some kind) most count more before after n b h o (inl e) r = absurd (cc (e))
 left_falls (Some kind) most count more before after n b h o (inr p) r = omega (arith, p, r)
 left_falls None (Some m) count more before after n b h o p r = omega (arith, h, o)

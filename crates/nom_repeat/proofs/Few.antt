@@ -36,7 +36,8 @@ taken_accepted b k (Some (Undecided d)) n v e = absurd (cc (e))
 taken_accepted b k None n v e = absurd (cc (e))
 
 -- and consumes, where an empty item is refused
-pub taken_consumes : {V : Type 0} (b : Limits) (kind : ErrorKind) → b.empty ≡ Some kind → (k : ℕ) (a : Option (Outcome V)) (n : ℕ) (v : V) → Takes n v ≡ item_turn b k a → 0 < n
+pub taken_consumes : {V : Type 0} (b : Limits) (kind : ErrorKind) → b.empty ≡ Some kind → (k : ℕ) (a : Option (Outcome V)) (n : ℕ) (v : V) →
+    Takes n v ≡ item_turn b k a → 0 < n
 taken_consumes b kind is k (Some (Accept zero u)) n v e =
     let none : b.empty ≡ None = (empty_takes b.empty n u v e).0 in absurd (cc (none, is))
 taken_consumes b kind is k (Some (Accept (suc m) u)) n v e =
@@ -65,14 +66,16 @@ taken_within n m t v (Undecided d) e = absurd (cc (e))
 
 module _ {I A V : Type 0} (w : Seen I A) (b : Limits) (kind : ErrorKind) (is : b.empty ≡ Some kind) (Item : I → Outcome V → Type 0) where
   -- no more than the input is long, where each consumes
-  pub pieces_few : (Fact : ℕ → I → Type 0) (k : ℕ) (i : I) (vs : List V) (n : ℕ) → Pieces w (TurnsBy b.most (item_turn b) (λ _. Item)) Fact k i vs n → length vs ≤ input_len w i
+  pub pieces_few : (Fact : ℕ → I → Type 0) (k : ℕ) (i : I) (vs : List V) (n : ℕ) → Pieces w (TurnsBy b.most (item_turn b) (λ _. Item)) Fact k i vs n →
+      length vs ≤ input_len w i
   pieces_few Fact k i [] n p = omega arith
   pieces_few Fact k i (v ∷ vs) n p =
       omega (arith, pieces_few Fact (k + 1) p.2 vs p.1 p.5, rest_length p.4, taken_consumes b kind is k (p.3).reply p.0 v (p.3).fact)
 
 module _ {I A V E : Type 0} (w : Seen I A) (errs : Errors I E) (b : Limits) (Grows : Type 0) (m : Meaning I V E) where
   -- so many items are accepted at most
-  pub few_accepted : (kind : ErrorKind) → b.empty ≡ Some kind → (s : Bool) (i : I) (n : ℕ) (vs : List V) → (items_meaning w errs b Grows m).answers s i (Accept n vs) → length vs ≤ input_len w i
+  pub few_accepted : (kind : ErrorKind) → b.empty ≡ Some kind → (s : Bool) (i : I) (n : ℕ) (vs : List V) →
+      (items_meaning w errs b Grows m).answers s i (Accept n vs) → length vs ≤ input_len w i
   few_accepted kind is s i n vs a =
       let same : vs ≡ a.trees = accepted_tree n a.taken a.trees vs a.ending a.outcome_is in
       omega (arith, ap length same, pieces_few w b kind is (m.answers s) _ 0 i a.trees a.taken a.pieces)

@@ -29,7 +29,8 @@ module _ {V T K : Type 0} (Gains : K → T → K → Type 0) (CanKeep : K → Ty
   can_keep_first true before h = subst (λ z. IfSome z CanKeep) (sym h.1) h.2
   can_keep_first false before h = subst (λ z. IfSome z CanKeep) (sym h) tt
 
-  kept_more : (before : Option K) (vs : List V) (v : V) (k : K) (x : T) (new : K) → Kept Gains CanKeep P before vs k → P v x → Gains k x new → CanKeep new → Kept Gains CanKeep P before (vs ++ v ∷ []) new
+  kept_more : (before : Option K) (vs : List V) (v : V) (k : K) (x : T) (new : K) → Kept Gains CanKeep P before vs k → P v x → Gains k x new →
+      CanKeep new → Kept Gains CanKeep P before (vs ++ v ∷ []) new
   kept_more before vs v k x new h p g r = record {
     first = h.first;
     first_is = h.first_is;
@@ -40,7 +41,8 @@ module _ {V T K : Type 0} (Gains : K → T → K → Type 0) (CanKeep : K → Ty
   }
 
   -- one item more
-  pub gained : (before : Option K) (builds : Bool) (vs : List V) (v : V) (old new : Option K) (item : Option T) → GainsBoth Gains CanKeep old item new → Built builds (Kept Gains CanKeep P before vs) old → Built builds (P v) item → Built builds (Kept Gains CanKeep P before (vs ++ v ∷ [])) new
+  pub gained : (before : Option K) (builds : Bool) (vs : List V) (v : V) (old new : Option K) (item : Option T) → GainsBoth Gains CanKeep old item new →
+      Built builds (Kept Gains CanKeep P before vs) old → Built builds (P v) item → Built builds (Kept Gains CanKeep P before (vs ++ v ∷ [])) new
   gained before true vs v (Some k) (Some n) (Some x) g b c =
       let one : k ≡ b.0 = cc (b.1) in
       let item : x ≡ c.0 = cc (c.1) in
@@ -68,7 +70,8 @@ module _ {V T K : Type 0} (Gains : K → T → K → Type 0) (CanKeep : K → Ty
   zip_both (v ∷ vs) us [] ys h p = absurd h
   zip_both (v ∷ vs) us (x ∷ xs) ys h p = (h.0, zip_both vs us xs ys h.1 p)
 
-  kept_one : (before : Option K) (vs us : List V) (mid new : K) → Kept Gains CanKeep P before vs mid → (b : Kept Gains CanKeep P (Some mid) us new) → Kept Gains CanKeep P before (vs ++ us) new
+  kept_one : (before : Option K) (vs us : List V) (mid new : K) → Kept Gains CanKeep P before vs mid → (b : Kept Gains CanKeep P (Some mid) us new) →
+      Kept Gains CanKeep P before (vs ++ us) new
   kept_one before vs us mid new a b =
       let same : mid ≡ b.first = cc (b.first_is) in
       record {
@@ -81,7 +84,8 @@ module _ {V T K : Type 0} (Gains : K → T → K → Type 0) (CanKeep : K → Ty
       }
 
   -- items, and then more of them
-  pub kept_both : (builds : Bool) (before mid : Option K) (vs us : List V) (new : K) → Built builds (Kept Gains CanKeep P before vs) mid → Kept Gains CanKeep P mid us new → Kept Gains CanKeep P before (vs ++ us) new
+  pub kept_both : (builds : Bool) (before mid : Option K) (vs us : List V) (new : K) → Built builds (Kept Gains CanKeep P before vs) mid →
+      Kept Gains CanKeep P mid us new → Kept Gains CanKeep P before (vs ++ us) new
   kept_both true before mid vs us new a b = kept_one before vs us a.0 new a.2 (subst (λ z. Kept Gains CanKeep P z us new) a.1 b)
   kept_both false before mid vs us new a b = absurd (none_some b.first (sym a ∙ b.first_is))
 

@@ -22,7 +22,8 @@ module _ {V T A : Type 0} (P : V → T → Type 0) where
   list_adds list (x ∷ xs) new a = list_adds a.0 xs new a.2 ∙ (ap (λ zs. zs ++ xs) a.1 ∙ append_one list.items x xs)
 
   -- of an empty list, the list of the outputs of the trees
-  pub list_of_none : (builds : Bool) {before : Option (Vec T A)} → Built builds (λ (l : Vec T A). l.items ≡ []) before → (vs : List V) (list : Vec T A) → Kept ListGains (λ _. Unit {0}) P before vs list → AllZip P vs list.items
+  pub list_of_none : (builds : Bool) {before : Option (Vec T A)} → Built builds (λ (l : Vec T A). l.items ≡ []) before →
+      (vs : List V) (list : Vec T A) → Kept ListGains (λ _. Unit {0}) P before vs list → AllZip P vs list.items
   list_of_none builds {before} b vs list k =
       let none : k.first.items ≡ [] = first_none builds b in
       subst (λ z. AllZip P vs z) (sym (list_adds k.first k.outputs list k.added ∙ ap (λ z. z ++ k.outputs) none)) k.are_outputs

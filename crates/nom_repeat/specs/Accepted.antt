@@ -29,10 +29,12 @@ InTurn w Item May least most i n vs = Pieces w (TakesItem Item May most) (EndsIt
 
 -- What a repetition of the part m accepts: where it is allowed, just the items that the part accepts in turn.
 abbrev pub AcceptsItems : {I A V E F : Type 0} → Seen I A → Type 0 → (ℕ → Type 0) → ℕ → Option ℕ → Meaning I V E → Meaning I (List V) F → Type 0
-AcceptsItems {I} {V = V} w Allowed May least most m whole = (s : Bool) (i : I) (n : ℕ) (vs : List V) → whole.answers s i (Accept n vs) ↔ (Allowed × InTurn w (m.answers s) May least most i n vs)
+AcceptsItems {I} {V = V} w Allowed May least most m whole =
+    (s : Bool) (i : I) (n : ℕ) (vs : List V) → whole.answers s i (Accept n vs) ↔ (Allowed × InTurn w (m.answers s) May least most i n vs)
 
 -- an item of any length, and behind it such others
-pub record OneAndMore {I A V : Type 0} (w : Seen I A) (Item : I → Outcome V → Type 0) (More : I → ℕ → List V → Type 0) (i : I) (n : ℕ) (vs : List V) : Type 0 where
+pub record OneAndMore {I A V : Type 0} (w : Seen I A) (Item : I → Outcome V → Type 0) (More : I → ℕ → List V → Type 0) (i : I) (n : ℕ)
+    (vs : List V) : Type 0 where
   pub first_length : ℕ
   pub tree : V
   pub rest : I
@@ -47,4 +49,5 @@ pub record OneAndMore {I A V : Type 0} (w : Seen I A) (Item : I → Outcome V �
 -- What a repetition accepts that has one item at least: a first item of the part m, of any length, and behind it just the items
 -- that the part p accepts in turn, none of them empty.
 abbrev pub AcceptsOneAndMore : {I A V E F : Type 0} → Seen I A → Meaning I V E → Meaning I V E → Meaning I (List V) F → Type 0
-AcceptsOneAndMore {I} {V = V} w m p whole = (s : Bool) (i : I) (n : ℕ) (vs : List V) → whole.answers s i (Accept n vs) ↔ OneAndMore w (m.answers s) (InTurn w (p.answers s) (λ a. 0 < a) 0 None) i n vs
+AcceptsOneAndMore {I} {V = V} w m p whole =
+    (s : Bool) (i : I) (n : ℕ) (vs : List V) → whole.answers s i (Accept n vs) ↔ OneAndMore w (m.answers s) (InTurn w (p.answers s) (λ a. 0 < a) 0 None) i n vs

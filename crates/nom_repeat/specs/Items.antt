@@ -100,7 +100,8 @@ items_rule errs b Grows = record {
   part = λ _ mode. modes mode.outputs (item_errors b.too_few mode.errors) mode.streaming;
   Asks = λ mode k a. ItemAsks b ((mode.errors ≡ true) × errs.grows) ((mode.outputs ≡ true) × Grows) k a;
   IsSound = λ Part. Part;
-  IsFrugal = λ PartIs mode. PartIs (modes mode.outputs (item_errors b.too_few mode.errors) mode.streaming) × (mode.outputs ≡ true → Grows → ⊥) × (mode.errors ≡ true → errs.grows → ⊥);
+  IsFrugal = λ PartIs mode. PartIs (modes mode.outputs (item_errors b.too_few mode.errors) mode.streaming) × (mode.outputs ≡ true → Grows → ⊥) ×
+      (mode.errors ≡ true → errs.grows → ⊥);
   NeverFails = λ Part. Part;
 }
 

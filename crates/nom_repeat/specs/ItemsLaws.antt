@@ -40,13 +40,15 @@ item_ends b k (Some TooLarge) n t e = absurd (cc (e))
 item_ends b k (Some (Undecided m)) n t e = absurd (cc (e))
 item_ends b k None n t e = cc (e)
 
-few_more : {I E : Type 0} (errs : Errors I E) (few : TooFew) (place : I) (X Y : E → Type 0) (e : E) → ((f : E) → X f → Y f) → FewBlames errs few place X e → FewBlames errs few place Y e
+few_more : {I E : Type 0} (errs : Errors I E) (few : TooFew) (place : I) (X Y : E → Type 0) (e : E) → ((f : E) → X f → Y f) →
+    FewBlames errs few place X e → FewBlames errs few place Y e
 few_more errs Never place X Y e f h = h
 few_more errs Passed place X Y e f h = f e h
 few_more errs (Added kind) place X Y e f h = (h.0, f h.0 h.1, h.2)
 few_more errs (Fresh kind) place X Y e f h = h
 
-item_blames : {I V E : Type 0} (errs : Errors I E) (b : Limits) (i j : I) (a : Option (Outcome V)) (X Y : E → Type 0) (e : E) → (Ran a → (f : E) → X f → Y f) → ItemBlames errs b i j a X e → ItemBlames errs b i j a Y e
+item_blames : {I V E : Type 0} (errs : Errors I E) (b : Limits) (i j : I) (a : Option (Outcome V)) (X Y : E → Type 0) (e : E) →
+    (Ran a → (f : E) → X f → Y f) → ItemBlames errs b i j a X e → ItemBlames errs b i j a Y e
 item_blames errs b i j (Some (Accept zero v)) X Y e f h = h
 item_blames errs b i j (Some (Accept (suc n) v)) X Y e f h = h
 item_blames errs b i j (Some Refuse) X Y e f h = few_more errs b.too_few _ X Y e (f tt) h
@@ -59,7 +61,8 @@ empty_asks_none : (kind : Option ErrorKind) (Refused Kept : Type 0) → (Refused
 empty_asks_none (Some kind) Refused Kept f g h = f h
 empty_asks_none None Refused Kept f g h = g h
 
-item_asks_none : {V : Type 0} (b : Limits) (Refused Kept : Type 0) (k : ℕ) (a : Option (Outcome V)) → (Refused → ⊥) → (Kept → ⊥) → ItemAsks b Refused Kept k a → ⊥
+item_asks_none : {V : Type 0} (b : Limits) (Refused Kept : Type 0) (k : ℕ) (a : Option (Outcome V)) → (Refused → ⊥) → (Kept → ⊥) →
+    ItemAsks b Refused Kept k a → ⊥
 item_asks_none b Refused Kept k (Some (Accept zero v)) f g h = empty_asks_none b.empty Refused Kept f g h
 item_asks_none b Refused Kept k (Some (Accept (suc n) v)) f g h = g h
 item_asks_none b Refused Kept k (Some Refuse) f g h = f h.2

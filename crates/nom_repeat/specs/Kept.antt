@@ -20,7 +20,8 @@ Adds Gains k [] new = new ≡ k
 Adds {K = K} Gains k (x ∷ xs) new = (next : K) × Gains k x next × Adds Gains next xs new
 
 -- what is kept of the outputs of trees, beside what was kept before
-pub record Kept {V T K : Type 0} (Gains : K → T → K → Type 0) (CanKeep : K → Type 0) (IsOutput : V → T → Type 0) (before : Option K) (vs : List V) (k : K) : Type 0 where
+pub record Kept {V T K : Type 0} (Gains : K → T → K → Type 0) (CanKeep : K → Type 0) (IsOutput : V → T → Type 0) (before : Option K) (vs : List V)
+    (k : K) : Type 0 where
   pub first : K
   pub first_is : before ≡ Some first
   pub outputs : List T

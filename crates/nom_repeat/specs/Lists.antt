@@ -16,5 +16,6 @@ module _ {V O : Type 0} (view : View O) (IsOutput : V → O → Type 0) (pinned 
   zip_pinned (u ∷ us) (x ∷ xs) (y ∷ ys) p q = let heads = pinned u x y p.0 q.0 in let tails = zip_pinned us xs ys p.1 q.1 in cc (heads, tails)
 
 -- lists of them
-pub list_pinned : {V O A : Type 0} (view : View O) (IsOutput : V → O → Type 0) → IsPinned view IsOutput → IsPinned (vec_view {A = A} view) (λ vs (list : Vec O A). AllZip IsOutput vs list.items)
+pub list_pinned : {V O A : Type 0} (view : View O) (IsOutput : V → O → Type 0) → IsPinned view IsOutput →
+    IsPinned (vec_view {A = A} view) (λ vs (list : Vec O A). AllZip IsOutput vs list.items)
 list_pinned view IsOutput pinned vs a b p q = zip_pinned view IsOutput pinned vs a.items b.items p q

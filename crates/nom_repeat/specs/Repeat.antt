@@ -91,8 +91,10 @@ abbrev pub repeat_meaning : {I A P V T R E : Type 0} → Seen I A → Rule I P V
 repeat_meaning w r tree f = record {
   IsSound = r.IsSound f.IsSound;
   answers = λ s. Repeats w (TurnsBy r.bound r.turn (λ k. (f.at k).answers s)) tree;
-  blames = λ s i e. Reaches w (TurnsBy r.bound r.turn (λ k. (f.at k).answers s)) (λ k j. OnReply r.bound (λ k. (f.at k).answers s) (λ a. r.Blames i k j a ((f.at k).blames s j) e) k j) i;
-  runs_out = λ mode. Reaches w (TurnsBy r.bound r.turn (λ k. (f.at k).answers mode.streaming)) (λ k j. OnReply r.bound (λ k. (f.at k).answers mode.streaming) (r.Asks mode k) k j ⊎ (IsBelow r.bound k × (f.at k).runs_out (r.part k mode) j));
+  blames = λ s i e. Reaches w (TurnsBy r.bound r.turn (λ k. (f.at k).answers s))
+      (λ k j. OnReply r.bound (λ k. (f.at k).answers s) (λ a. r.Blames i k j a ((f.at k).blames s j) e) k j) i;
+  runs_out = λ mode. Reaches w (TurnsBy r.bound r.turn (λ k. (f.at k).answers mode.streaming))
+      (λ k j. OnReply r.bound (λ k. (f.at k).answers mode.streaming) (r.Asks mode k) k j ⊎ (IsBelow r.bound k × (f.at k).runs_out (r.part k mode) j));
   IsFrugal = r.IsFrugal f.IsFrugal;
   Settles = f.Settles;
   NeverFails = r.NeverFails f.NeverFails;

@@ -57,7 +57,9 @@ pub fn items<OM: OutputMode, EM: Mode, I: Input, F: Parser<I>, K: Keep<F::Output
     requires built { Built OM.Output.BUILDS K.CanKeep before }
     requires errors { EM.BUILDS ≡ item_errors limits.too_few OM.Error.BUILDS }
     requires limits { AreLimits limits }
-    ensures shown { ShowsMeaning I.seen (Kept K.Gains K.CanKeep (F.IsOutput (F.state parser.old)) before) (items_meaning I.seen F.Error.errors limits K.Grows (F.meaning (F.state parser.old))) (modes OM.Output.BUILDS OM.Error.BUILDS OM.Incomplete.STREAMING) input result }
+    ensures shown { ShowsMeaning I.seen (Kept K.Gains K.CanKeep (F.IsOutput (F.state parser.old)) before)
+        (items_meaning I.seen F.Error.errors limits K.Grows (F.meaning (F.state parser.old)))
+        (modes OM.Output.BUILDS OM.Error.BUILDS OM.Incomplete.STREAMING) input result }
     ensures kept { F.state parser.new ≡ F.state parser.old }
 {
     input.known();

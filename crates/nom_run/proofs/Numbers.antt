@@ -4,7 +4,10 @@ use Rattle.nom_run.specs.Stream.{NeverFalls}
 use Rattle.nom_run.specs.Words.{IsNumber, number_of, StartsWithNumbers}
 
 -- those before a place, and the one there
-module _ (ws : List (List ℕ)) (cuts : List ℕ) (i floor cut : ℕ) (lengths : length cuts ≡ i) (each : (k : ℕ) → k < i → IsNumber (slice_index_or ws k []) × (slice_index cuts k ≡ number_of (slice_index_or ws k []))) (ordered : NeverFalls cuts) (last : 0 < i → slice_index cuts (i - 1) ≡ floor) (here : IsNumber (slice_index_or ws i []) × (cut ≡ number_of (slice_index_or ws i []))) (above : floor ≤ cut) where
+module _ (ws : List (List ℕ)) (cuts : List ℕ) (i floor cut : ℕ) (lengths : length cuts ≡ i)
+    (each : (k : ℕ) → k < i → IsNumber (slice_index_or ws k []) × (slice_index cuts k ≡ number_of (slice_index_or ws k []))) (ordered : NeverFalls cuts)
+    (last : 0 < i → slice_index cuts (i - 1) ≡ floor) (here : IsNumber (slice_index_or ws i []) × (cut ≡ number_of (slice_index_or ws i [])))
+    (above : floor ≤ cut) where
   abbrev Rises : ℕ → Type 0
   Rises k = number_of (slice_index_or ws k []) ≤ number_of (slice_index_or ws (k + 1) [])
 

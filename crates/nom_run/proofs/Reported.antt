@@ -1,5 +1,6 @@
 -- The report, from the answer on an input that grows.
-use Rattle.std.proofs.Common.{◌≡◌, ℕ, Bool, true, false, ◌-◌, ◌<◌, ◌≤◌, List, ◌++◌, length, slice_index, Result, Ok, Err, Bor, IfOk, refl, sym, ◌∙◌, ap, subst, arith, length-append}
+use Rattle.std.proofs.Common.{◌≡◌, ℕ, Bool, true, false, ◌-◌, ◌<◌, ◌≤◌, List, ◌++◌, length, slice_index, Result, Ok, Err, Bor, IfOk, refl, sym, ◌∙◌}
+use Rattle.std.proofs.Common.{ap, subst, arith, length-append}
 use Rattle.nom_error.specs.declared.value.Error.{Error}
 use Rattle.nom_error.specs.declared.answer.Needed.{Needed}
 use Rattle.nom_error.specs.declared.answer.Err as Answer
@@ -26,7 +27,8 @@ on_ok P Q (Ok x) f h = f x h
 on_ok P Q (Err e) f h = tt
 
 -- the length of a beginning
-start_is : (whole : Bytes) (cuts : List ℕ) (index start : ℕ) (x : Bytes) → (index < length cuts → start ≡ slice_index cuts index) → (length cuts ≤ index → start ≡ length whole.now) → IsBeginning seen_bytes whole cuts index x → start ≡ length x.now
+start_is : (whole : Bytes) (cuts : List ℕ) (index start : ℕ) (x : Bytes) → (index < length cuts → start ≡ slice_index cuts index) →
+    (length cuts ≤ index → start ≡ length whole.now) → IsBeginning seen_bytes whole cuts index x → start ≡ length x.now
 start_is whole cuts index start x f g (AtCut h p) = f h ∙ sym p.length_is ∙ span-ones x.now
 start_is whole cuts index start x f g (AtEnd h p) =
     let past : length cuts ≤ index = omega (arith, h) in
@@ -35,12 +37,16 @@ start_is whole cuts index start x f g (AtEnd h p) =
 rest_len : (whole j : Bytes) (n : ℕ) → IsRest seen_bytes whole n j → length j.now ≡ length whole.now - n
 rest_len whole j n p = omega (arith, ap length p.whole, length-append p.front j.now, span-ones p.front, p.length_is)
 
-module _ {V O : Type 0} (lines : V → List ℕ) (IsOutput : V → O → Type 0) (given : O → List ℕ) (same : (v : V) (o : O) → IsOutput v o → given o ≡ lines v) (Blames : Error Bytes → Type 0) (index start : ℕ) (whole x : Bytes) (begins : start ≡ length x.now) where
-  says : (o : Outcome V) → ((large : Bool) → o ≡ failure large → ⊥) → (answer : Result (Bytes × O) AnswerErr) (text : List ℕ) (status : ℕ) → Parses seen_bytes IsOutput whole Blames o answer → IsTold given index start answer text status → Says lines Blames index whole.now x.now o text status
+module _ {V O : Type 0} (lines : V → List ℕ) (IsOutput : V → O → Type 0) (given : O → List ℕ)
+    (same : (v : V) (o : O) → IsOutput v o → given o ≡ lines v) (Blames : Error Bytes → Type 0) (index start : ℕ) (whole x : Bytes)
+    (begins : start ≡ length x.now) where
+  says : (o : Outcome V) → ((large : Bool) → o ≡ failure large → ⊥) → (answer : Result (Bytes × O) AnswerErr) (text : List ℕ) (status : ℕ) →
+      Parses seen_bytes IsOutput whole Blames o answer → IsTold given index start answer text status → Says lines Blames index whole.now x.now o text status
   says (Accept n v) never answer text status p t =
       let told = subst (λ a. IsTold given index start a text status) p.4 t in
       let parts : decided_text index ++ given p.1 ++ rest_text (length (p.0).now) ≡ decided_text index ++ lines v ++ rest_text (length whole.now - n) =
-      ap (λ rs. decided_text index ++ rs ++ rest_text (length (p.0).now)) (same v p.1 p.3) ∙ ap (λ k. decided_text index ++ lines v ++ rest_text k) (rest_len whole p.0 n p.2) in
+      ap (λ rs. decided_text index ++ rs ++ rest_text (length (p.0).now)) (same v p.1 p.3) ∙
+      ap (λ k. decided_text index ++ lines v ++ rest_text k) (rest_len whole p.0 n p.2) in
       (told.0 ∙ parts, told.1)
   says Refuse never answer text status p t =
       let told = subst (λ a. IsTold given index start a text status) p.2 t in
@@ -51,12 +57,17 @@ module _ {V O : Type 0} (lines : V → List ℕ) (IsOutput : V → O → Type 0)
       let told = subst (λ a. IsTold given index start a text status) p.2 t in
       (told.0 ∙ ap need_text p.1, told.1)
 
-module _ {V O : Type 0} (m : Meaning Bytes V (Error Bytes)) (lines : V → List ℕ) (IsOutput : V → O → Type 0) (given : O → List ℕ) (same : (v : V) (o : O) → IsOutput v o → given o ≡ lines v) (whole : Bytes) (cuts : List ℕ) (index start : ℕ) (at_cut : index < length cuts → start ≡ slice_index cuts index) (at_end : length cuts ≤ index → start ≡ length whole.now) (known : seen_bytes.IsKnown whole) (never : (large : Bool) (i : Bytes) → seen_bytes.IsKnown i → m.answers true i (failure large) → ⊥) where
+module _ {V O : Type 0} (m : Meaning Bytes V (Error Bytes)) (lines : V → List ℕ) (IsOutput : V → O → Type 0) (given : O → List ℕ)
+    (same : (v : V) (o : O) → IsOutput v o → given o ≡ lines v) (whole : Bytes) (cuts : List ℕ) (index start : ℕ)
+    (at_cut : index < length cuts → start ≡ slice_index cuts index) (at_end : length cuts ≤ index → start ≡ length whole.now)
+    (known : seen_bytes.IsKnown whole) (never : (large : Bool) (i : Bytes) → seen_bytes.IsKnown i → m.answers true i (failure large) → ⊥) where
   begins_known : (x : Bytes) → IsBeginning seen_bytes whole cuts index x → seen_bytes.IsKnown x
   begins_known x (AtCut h p) = p.known
   begins_known x (AtEnd h e) = subst seen_bytes.IsKnown (sym e) known
 
-  answered : (answer : Result (Bytes × O) AnswerErr) (text : List ℕ) (status : ℕ) (g : IsGrown seen_bytes IsOutput m whole cuts index answer) → AnswersOn seen_bytes IsOutput m whole cuts index g.beginning answer → IsTold given index start answer text status → IsReportBy m lines whole.now cuts text status
+  answered : (answer : Result (Bytes × O) AnswerErr) (text : List ℕ) (status : ℕ) (g : IsGrown seen_bytes IsOutput m whole cuts index answer) →
+      AnswersOn seen_bytes IsOutput m whole cuts index g.beginning answer → IsTold given index start answer text status →
+      IsReportBy m lines whole.now cuts text status
   answered answer text status g (RanOutOn e h) t = absurd (subst (λ a. IsTold given index start a text status) e t)
   answered answer text status g (ShownOn b) t = record {
     whole = whole;
@@ -69,8 +80,12 @@ module _ {V O : Type 0} (m : Meaning Bytes V (Error Bytes)) (lines : V → List 
     outcome = b.outcome;
     answered = b.answered;
     decided = b.decided;
-    says = says lines IsOutput given same (m.blames true g.beginning) index start whole g.beginning (start_is whole cuts index start g.beginning at_cut at_end g.begins) b.outcome (λ large e. never large g.beginning (begins_known g.beginning g.begins) (subst (λ o. m.answers true g.beginning o) e b.answered)) answer text status b.shown t;
+    says = says lines IsOutput given same (m.blames true g.beginning) index start whole g.beginning
+        (start_is whole cuts index start g.beginning at_cut at_end g.begins) b.outcome
+        (λ large e. never large g.beginning (begins_known g.beginning g.begins) (subst (λ o. m.answers true g.beginning o) e b.answered)) answer text
+        status b.shown t;
   }
 
-  pub reported : (answer : Result (Bytes × O) AnswerErr) (text : List ℕ) (status : ℕ) → IsGrown seen_bytes IsOutput m whole cuts index answer → IsTold given index start answer text status → IsReportBy m lines whole.now cuts text status
+  pub reported : (answer : Result (Bytes × O) AnswerErr) (text : List ℕ) (status : ℕ) → IsGrown seen_bytes IsOutput m whole cuts index answer →
+      IsTold given index start answer text status → IsReportBy m lines whole.now cuts text status
   reported answer text status g t = answered answer text status g g.answer t

@@ -12,6 +12,7 @@ only_write OutOfMemory P W V M U h f = absurd h
 only_write Usage P W V M U h f = absurd h
 
 -- a failed write, passed on by `?`
-pub write_ends : {T : Type 0} (r : Result T RunError) (e : RunError) (P W V M U : Type 0) → IsErr r × IsErrAnd r (λ y. y ≡ e) → MatchRunError e ⊥ W ⊥ ⊥ → (W → V) → IfErr r (λ y. MatchRunError y P V M U)
+pub write_ends : {T : Type 0} (r : Result T RunError) (e : RunError) (P W V M U : Type 0) → IsErr r × IsErrAnd r (λ y. y ≡ e) →
+    MatchRunError e ⊥ W ⊥ ⊥ → (W → V) → IfErr r (λ y. MatchRunError y P V M U)
 write_ends (Ok x) e P W V M U k h f = absurd k.1
 write_ends (Err y) e P W V M U k h f = subst (λ z. MatchRunError z P V M U) (sym k.1) (only_write e P W V M U h f)

@@ -21,7 +21,8 @@ Bytes = Bor (List ℕ)
 -- fails, so there is nothing to be said of a failure.
 abbrev pub Says : {V : Type 0} → (V → List ℕ) → (Error Bytes → Type 0) → ℕ → (whole beginning : List ℕ) → Outcome V → List ℕ → ℕ → Type 0
 Says lines Blames index whole beginning (Accept n v) text status = (text ≡ decided_text index ++ lines v ++ rest_text (length whole - n)) × (status ≡ 0)
-Says lines Blames index whole beginning Refuse text status = (e : Error Bytes) × Blames e × (text ≡ error_text e.code (length beginning - length e.input.now)) × (status ≡ 1)
+Says lines Blames index whole beginning Refuse text status =
+    (e : Error Bytes) × Blames e × (text ≡ error_text e.code (length beginning - length e.input.now)) × (status ≡ 1)
 Says lines Blames index whole beginning Fail text status = ⊥
 Says lines Blames index whole beginning TooLarge text status = ⊥
 Says lines Blames index whole beginning (Undecided k) text status = (text ≡ need_text k) × (status ≡ 2)
@@ -49,6 +50,7 @@ IsToldStop beginning (Stop.Failure e) text status = (text ≡ failure_text e.cod
 IsToldStop beginning Stop.OutOfMemory text status = ⊥
 
 -- the text and the status for an answer on a beginning of a length, by the lines of an output
-abbrev pub IsTold : {O : Type 0} → (O → List ℕ) → (index beginning : ℕ) → Result (Bytes × O) (Answer.Err (Error Bytes) (Error Bytes) Needed) → List ℕ → ℕ → Type 0
+abbrev pub IsTold : {O : Type 0} → (O → List ℕ) → (index beginning : ℕ) → Result (Bytes × O) (Answer.Err (Error Bytes) (Error Bytes) Needed) → List ℕ →
+    ℕ → Type 0
 IsTold lines index beginning (Ok (rest, o)) text status = (text ≡ decided_text index ++ lines o ++ rest_text (length rest.now)) × (status ≡ 0)
 IsTold lines index beginning (Err e) text status = IsToldStop beginning e text status

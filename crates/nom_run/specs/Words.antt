@@ -28,4 +28,5 @@ pub record StartsWithNumbers (words : List (List ℕ)) : Type 0 where
 pub record BadWord (words : List (List ℕ)) : Type 0 where
   pub place : ℕ
   pub within : place < length words
-  pub bad : (¬ IsNumber (slice_index_or words place [])) ⊎ ((0 < place) × (number_of (slice_index_or words place []) < number_of (slice_index_or words (place - 1) [])))
+  pub bad : (¬ IsNumber (slice_index_or words place [])) ⊎
+      ((0 < place) × (number_of (slice_index_or words place []) < number_of (slice_index_or words (place - 1) [])))

@@ -1,7 +1,8 @@
 //! The whole run: read, report, write.
 ghost use Rattle.std.specs.Prelude.{◌≡◌, ◌++◌, ◌⊎◌, [], length, IfOk, IfErr, Err, MatchBool};
 ghost use Rattle.std.specs.Io.KnownBytes.{Appends};
-ghost use Rattle.nom_run.specs.Stream.{CanGrow, CutAbove, Falls, MatchRunError, NeverFalls, NoneAbove, SomeAbove, ReadSome, ReadWhole, Reported, Stopped, WriteFailed, WroteFront, one_more};
+ghost use Rattle.nom_run.specs.Stream.{CanGrow, CutAbove, Falls, MatchRunError, NeverFalls, NoneAbove, SomeAbove, ReadSome, ReadWhole, Reported};
+ghost use Rattle.nom_run.specs.Stream.{Stopped, WriteFailed, WroteFront, one_more};
 
 use crate::error::RunError;
 use crate::report::Report;
@@ -71,7 +72,8 @@ fn read_all<A: Allocator, S: Source>(source: &mut S, bytes: &mut Vec<u8, A>) -> 
 /// A failed call is not tried again, and a write that takes no byte is a failure: both are `Write`.
 pub fn write_all<W: Sink>(sink: &mut W, text: &[u8]) -> Result<(), RunError>
     ensures whole { IfOk result (λ _. Appends (W.held sink.old) (W.held sink.new) text.now × (W.failures sink.new ≡ W.failures sink.old)) }
-    ensures error { IfErr result (λ e. MatchRunError e ⊥ (WroteFront (W.held sink.old) (W.held sink.new) text.now × WriteFailed (W.failures sink.old) (W.failures sink.new) (W.stalls sink.old) (W.stalls sink.new)) ⊥ ⊥) }
+    ensures error { IfErr result (λ e. MatchRunError e ⊥ (WroteFront (W.held sink.old) (W.held sink.new) text.now ×
+        WriteFailed (W.failures sink.old) (W.failures sink.new) (W.stalls sink.old) (W.stalls sink.new)) ⊥ ⊥) }
 {
     let mut at = 0;
     while at < text.len() {

@@ -1,5 +1,6 @@
 -- Where bytes stand in bytes.
-use Rattle.std.proofs.Common.{◌≡◌, ℕ, ◌+◌, ◌-◌, ◌≤◌, ◌<◌, ◌++◌, Bool, true, List, length, take, drop, get_or, sym, ◌∙◌, ap, subst, inl, inr, arith, length-append, length-drop}
+use Rattle.std.proofs.Common.{◌≡◌, ℕ, ◌+◌, ◌-◌, ◌≤◌, ◌<◌, ◌++◌, Bool, true, List, length, take, drop, get_or, sym, ◌∙◌, ap, subst, inl, inr, arith}
+use Rattle.std.proofs.Common.{length-append, length-drop}
 use Rattle.std.specs.Prelude.{Some, None}
 use Rattle.std.proofs.lemmas.Bool.{cases_lt}
 use Rattle.std.proofs.Math.Seq.{take-append_seam, drop-append_seam}
@@ -25,7 +26,8 @@ module _ (bs t : List ℕ) where
   occurs : (n : ℕ) → StandsAt (λ _. 1) t bs n → OccursAt bs t n
   occurs n s =
       let size : n ≡ length s.before = sym s.length_is ∙ span-ones s.before in
-      let dropped : drop n bs ≡ t ++ s.rest = ap (λ ys. drop n ys) s.whole ∙ (ap (λ k. drop k (s.before ++ (t ++ s.rest))) size ∙ drop-append_seam s.before (t ++ s.rest)) in
+      let dropped : drop n bs ≡ t ++ s.rest =
+      ap (λ ys. drop n ys) s.whole ∙ (ap (λ k. drop k (s.before ++ (t ++ s.rest))) size ∙ drop-append_seam s.before (t ++ s.rest)) in
       OccursAt-from_part bs t n (omega (arith, size, ap length s.whole, length-append s.before (t ++ s.rest), length-append t s.rest))
       (ap (λ ys. take (length t) ys) dropped ∙ take-append_seam t s.rest)
 

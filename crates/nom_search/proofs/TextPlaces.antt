@@ -40,7 +40,9 @@ module _ (bs t : List ℕ) (u : IsUtf8 bs) (v : IsUtf8 t) where
   text_stands n s = record {
     before = encode_utf8_all s.before;
     rest = encode_utf8_all s.rest;
-    whole = sym (encodes-chars bs u) ∙ (ap encode_utf8_all s.whole ∙ (encodes-append s.before (chars t ++ s.rest) ∙ ap (λ ys. encode_utf8_all s.before ++ ys) (encodes-append (chars t) s.rest ∙ ap (λ ys. ys ++ encode_utf8_all s.rest) (encodes-chars t v))));
+    whole = sym (encodes-chars bs u) ∙
+        (ap encode_utf8_all s.whole ∙ (encodes-append s.before (chars t ++ s.rest) ∙
+        ap (λ ys. encode_utf8_all s.before ++ ys) (encodes-append (chars t) s.rest ∙ ap (λ ys. ys ++ encode_utf8_all s.rest) (encodes-chars t v))));
     length_is = span-ones (encode_utf8_all s.before) ∙ (sym (span-text s.before) ∙ s.length_is);
   }
 

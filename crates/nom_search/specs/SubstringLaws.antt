@@ -10,7 +10,8 @@ use Rattle.nom_traits.specs.Text.{seen_text}
 use Rattle.nom_search.specs.Substrings.{FindLaws, StandsAt, FindsFirst, FindsBytes}
 
 -- of two lists in front of one, one is a front of the other
-one_longer : {A : Type 0} (t xs ys more : List A) → t ++ ys ≡ xs ++ more → ((rest : List A) × (xs ≡ t ++ rest)) ⊎ ((x : A) × (rest : List A) × (t ≡ xs ++ (x ∷ rest)))
+one_longer : {A : Type 0} (t xs ys more : List A) → t ++ ys ≡ xs ++ more → ((rest : List A) × (xs ≡ t ++ rest)) ⊎
+    ((x : A) × (rest : List A) × (t ≡ xs ++ (x ∷ rest)))
 one_longer [] xs ys more e = inl (xs, refl)
 one_longer (a ∷ t) [] ys more e = inr (a, t, refl)
 one_longer (a ∷ t) (b ∷ xs) ys more e =
@@ -40,7 +41,17 @@ module _ {A : Type 0} (weight : A → ℕ) (t : List A) where
         | inl j ↦ h.1 m (record { before = k.before; rest = j.0; whole = j.1 ∙ append_assoc k.before t j.0; length_is = k.length_is })
         | inr j ↦
             let s = h.0 in
-            omega (arith, s.length_is, k.length_is, ap (span weight) s.whole, ap (span weight) j.2, span-append weight k.before t, span-append weight xs (j.0 ∷ j.1), span-append weight s.before (t ++ s.rest), span-append weight t s.rest)
+            omega (
+              arith,
+              s.length_is,
+              k.length_is,
+              ap (span weight) s.whole,
+              ap (span weight) j.2,
+              span-append weight k.before t,
+              span-append weight xs (j.0 ∷ j.1),
+              span-append weight s.before (t ++ s.rest),
+              span-append weight t s.rest,
+            )
       ]
 
   found_more : (xs more : List A) (n : ℕ) → FindsFirst weight t xs (Some n) → FindsFirst weight t (xs ++ more) (Some n)

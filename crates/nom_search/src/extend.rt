@@ -1,5 +1,6 @@
 //! Values that are appended to builders.
-ghost use Rattle.std.specs.Prelude.{◌≡◌, ℕ, ◌+◌, ◌<◌, ◌++◌, List, [], length, chars, encode_utf8, encode_utf8_all, is_ok, map, OnErr, string_bytes, string_capacity, string_len, vec_capacity, vec_len, if◌then◌else◌};
+ghost use Rattle.std.specs.Prelude.{◌≡◌, ℕ, ◌+◌, ◌<◌, ◌++◌, List, [], length, chars, encode_utf8, encode_utf8_all, is_ok, map, OnErr, string_bytes};
+ghost use Rattle.std.specs.Prelude.{string_capacity, string_len, vec_capacity, vec_len, if◌then◌else◌};
 ghost use Rattle.std.proofs.Common.{ap};
 
 use nom_error::answer::OutOfMemory;

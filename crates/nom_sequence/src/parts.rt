@@ -42,7 +42,8 @@ impl<I: Items, F: Parser<I> + Drop, G: Parser<I, Error = F::Error> + Drop> Parse
         self.second.process::<OM>(rest)
     }
 
-    ghost lawful = { λ s k. sequence_lawful I.seen I.lawful (λ u v. v) (with_outputs false) (λ o. o) (F.meaning s.0) (G.meaning s.1) (F.lawful s.0 k.0) (G.lawful s.1 k.1) };
+    ghost lawful = { λ s k. sequence_lawful I.seen I.lawful (λ u v. v) (with_outputs false) (λ o. o) (F.meaning s.0) (G.meaning s.1) (F.lawful s.0 k.0)
+        (G.lawful s.1 k.1) };
 }
 
 impl<I: Items, F: StreamParser<I> + Drop, G: StreamParser<I, Error = F::Error> + Drop> StreamParser<
@@ -50,7 +51,8 @@ impl<I: Items, F: StreamParser<I> + Drop, G: StreamParser<I, Error = F::Error> +
 > for Preceded<F, G> {
     ghost pinned = { λ s k p. G.pinned s.1 k.1 p };
 
-    ghost steady = { λ s k. sequence_steady I.seen I.lawful (λ u v. v) (with_outputs false) (λ o. o) (F.meaning s.0) (G.meaning s.1) (F.steady s.0 k.0) (G.steady s.1 k.1) };
+    ghost steady = { λ s k. sequence_steady I.seen I.lawful (λ u v. v) (with_outputs false) (λ o. o) (F.meaning s.0) (G.meaning s.1) (F.steady s.0 k.0)
+        (G.steady s.1 k.1) };
 }
 
 /// One parser after another, with the first's output; made by `terminated`.
@@ -87,7 +89,8 @@ impl<I: Items, F: Parser<I> + Drop, G: Parser<I, Error = F::Error> + Drop> Parse
         Ok((rest, first))
     }
 
-    ghost lawful = { λ s k. sequence_lawful I.seen I.lawful (λ u v. u) (λ o. o) (with_outputs false) (F.meaning s.0) (G.meaning s.1) (F.lawful s.0 k.0) (G.lawful s.1 k.1) };
+    ghost lawful = { λ s k. sequence_lawful I.seen I.lawful (λ u v. u) (λ o. o) (with_outputs false) (F.meaning s.0) (G.meaning s.1) (F.lawful s.0 k.0)
+        (G.lawful s.1 k.1) };
 }
 
 impl<I: Items, F: StreamParser<I> + Drop, G: StreamParser<I, Error = F::Error> + Drop> StreamParser<
@@ -95,5 +98,6 @@ impl<I: Items, F: StreamParser<I> + Drop, G: StreamParser<I, Error = F::Error> +
 > for Terminated<F, G> {
     ghost pinned = { λ s k p. F.pinned s.0 k.0 p };
 
-    ghost steady = { λ s k. sequence_steady I.seen I.lawful (λ u v. u) (λ o. o) (with_outputs false) (F.meaning s.0) (G.meaning s.1) (F.steady s.0 k.0) (G.steady s.1 k.1) };
+    ghost steady = { λ s k. sequence_steady I.seen I.lawful (λ u v. u) (λ o. o) (with_outputs false) (F.meaning s.0) (G.meaning s.1) (F.steady s.0 k.0)
+        (G.steady s.1 k.1) };
 }

@@ -11,5 +11,9 @@ use Rattle.nom_internal.specs.Meaning.{Meaning}
 use Rattle.nom_slots.specs.Tries.{TriesFirst, Tries}
 
 -- a waiting member is the first that a round tries
-pub first_tried : {I A V O E : Type 0} (w : Seen I A) (IsOutput : V → O → Type 0) (Joins : E → E → E → Type 0) (Grows : Type 0) (m : Meaning I V E) (outputs errors s : Bool) (i : I) (before after : Slot O) (round : Option (Result I (Answer.Err E (Option E) Needed))) (r : Result I (Answer.Err E (Option E) Needed)) → before ≡ Waiting → round ≡ None → TriesFirst w IsOutput m (modes outputs errors s) i before after r → Tries w IsOutput Joins Grows m (modes outputs errors s) i before round after (Some r)
-first_tried w IsOutput Joins Grows m outputs errors s i before after round r h k t = rw (h, k) (r, subst (λ z. TriesFirst w IsOutput m (modes outputs errors s) i z after r) h t, refl)
+pub first_tried : {I A V O E : Type 0} (w : Seen I A) (IsOutput : V → O → Type 0) (Joins : E → E → E → Type 0) (Grows : Type 0) (m : Meaning I V E)
+    (outputs errors s : Bool) (i : I) (before after : Slot O) (round : Option (Result I (Answer.Err E (Option E) Needed)))
+    (r : Result I (Answer.Err E (Option E) Needed)) → before ≡ Waiting → round ≡ None →
+    TriesFirst w IsOutput m (modes outputs errors s) i before after r → Tries w IsOutput Joins Grows m (modes outputs errors s) i before round after (Some r)
+first_tried w IsOutput Joins Grows m outputs errors s i before after round r h k t =
+    rw (h, k) (r, subst (λ z. TriesFirst w IsOutput m (modes outputs errors s) i z after r) h t, refl)

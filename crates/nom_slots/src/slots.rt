@@ -42,7 +42,8 @@ fn try_first<I: Items, P: Parser<I>, OM: OutputMode>(
     input: I,
 ) -> Round<I, P::Error>
     requires { (P.meaning (P.state member.old)).IsSound }
-    ensures shown { TriesFirst I.seen (P.IsOutput (P.state member.old)) (P.meaning (P.state member.old)) (modes OM.Output.BUILDS OM.Error.BUILDS OM.Incomplete.STREAMING) input slot.old slot.new result }
+    ensures shown { TriesFirst I.seen (P.IsOutput (P.state member.old)) (P.meaning (P.state member.old))
+        (modes OM.Output.BUILDS OM.Error.BUILDS OM.Incomplete.STREAMING) input slot.old slot.new result }
     ensures kept { P.state member.new ≡ P.state member.old }
 {
     let answer = member.process::<OM>(input);
@@ -58,7 +59,8 @@ fn try_next<I: Items, P: Parser<I>, OM: OutputMode>(
     input: I,
 ) -> Round<I, P::Error>
     requires { (P.meaning (P.state member.old)).IsSound }
-    ensures shown { TriesNext I.seen (P.IsOutput (P.state member.old)) P.Error.errors.joined P.Error.errors.grows (P.meaning (P.state member.old)) (modes OM.Output.BUILDS OM.Error.BUILDS OM.Incomplete.STREAMING) input error slot.old slot.new result }
+    ensures shown { TriesNext I.seen (P.IsOutput (P.state member.old)) P.Error.errors.joined P.Error.errors.grows (P.meaning (P.state member.old))
+        (modes OM.Output.BUILDS OM.Error.BUILDS OM.Incomplete.STREAMING) input error slot.old slot.new result }
     ensures kept { P.state member.new ≡ P.state member.old }
 {
     let answer = join(error, member.process::<OM>(input));
@@ -74,7 +76,8 @@ fn try_after<I: Items, P: Parser<I>, OM: OutputMode>(
     input: I,
 ) -> Round<I, P::Error>
     requires { (P.meaning (P.state member.old)).IsSound }
-    ensures shown { TriesAfter I.seen (P.IsOutput (P.state member.old)) P.Error.errors.joined P.Error.errors.grows (P.meaning (P.state member.old)) (modes OM.Output.BUILDS OM.Error.BUILDS OM.Incomplete.STREAMING) input round slot.old slot.new result }
+    ensures shown { TriesAfter I.seen (P.IsOutput (P.state member.old)) P.Error.errors.joined P.Error.errors.grows (P.meaning (P.state member.old))
+        (modes OM.Output.BUILDS OM.Error.BUILDS OM.Incomplete.STREAMING) input round slot.old slot.new result }
     ensures kept { P.state member.new ≡ P.state member.old }
 {
     match round {
@@ -107,7 +110,8 @@ pub fn try_slot<I: Items, P: Parser<I>, OM: OutputMode>(
     input: I,
 ) -> Option<Round<I, P::Error>>
     requires { (P.meaning (P.state member.old)).IsSound }
-    ensures shown { Tries I.seen (P.IsOutput (P.state member.old)) P.Error.errors.joined P.Error.errors.grows (P.meaning (P.state member.old)) (modes OM.Output.BUILDS OM.Error.BUILDS OM.Incomplete.STREAMING) input slot.old round slot.new result }
+    ensures shown { Tries I.seen (P.IsOutput (P.state member.old)) P.Error.errors.joined P.Error.errors.grows (P.meaning (P.state member.old))
+        (modes OM.Output.BUILDS OM.Error.BUILDS OM.Incomplete.STREAMING) input slot.old round slot.new result }
     ensures kept { P.state member.new ≡ P.state member.old }
 {
     if !is_waiting(slot) {

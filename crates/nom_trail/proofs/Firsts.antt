@@ -24,8 +24,10 @@ take_none m n xs l =
     sym (take_all m (take n xs ++ []) (rw (append-nil (take n xs)) few) ∙ append-nil (take n xs))
 
 -- one more element of the list that follows
-pub take_next : {X : Type 0} {now later : List X} (m k : ℕ) (before after : List X) (d : X) → k < length after → now ≡ take m (before ++ take k after) → later ≡ take m (now ++ (get_or after k d ∷ [])) → later ≡ take m (before ++ take (k + 1) after)
+pub take_next : {X : Type 0} {now later : List X} (m k : ℕ) (before after : List X) (d : X) → k < length after → now ≡ take m (before ++ take k after) →
+    later ≡ take m (now ++ (get_or after k d ∷ [])) → later ≡ take m (before ++ take (k + 1) after)
 take_next {now = now} m k before after d h is more =
     let one = get_or after k d ∷ [] in
     let next : take (k + 1) after ≡ take k after ++ one = rw (add-one, take-suc after k d h) refl in
-    more ∙ (ap (λ z. take m (z ++ one)) is ∙ (take_again m (before ++ take k after) one ∙ ap (λ z. take m z) (append_assoc before (take k after) one ∙ ap (λ z. before ++ z) (sym next))))
+    more ∙ (ap (λ z. take m (z ++ one)) is ∙
+    (take_again m (before ++ take k after) one ∙ ap (λ z. take m z) (append_assoc before (take k after) one ∙ ap (λ z. before ++ z) (sym next))))

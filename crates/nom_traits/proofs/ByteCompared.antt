@@ -12,7 +12,8 @@ use Rattle.nom_traits.specs.CompareTags.{IsForm, begun_with}
 pub fronts_differ : (xs t : List ℕ) (i n : ℕ) → i < n → (get_or xs i 0 ≡ get_or t i 0 → ⊥) → take n xs ≡ take n t → ⊥
 fronts_differ xs t i n h k e = k (sym (get_or-take n xs i 0 h) ∙ (ap (λ ys. get_or ys i 0) e ∙ get_or-take n t i 0 h))
 
-pub fronts_more : (xs t : List ℕ) (i n : ℕ) → n ≡ min (length xs) (length t) → i < n → take i xs ≡ take i t → get_or xs i 0 ≡ get_or t i 0 → take (i + 1) xs ≡ take (i + 1) t
+pub fronts_more : (xs t : List ℕ) (i n : ℕ) → n ≡ min (length xs) (length t) → i < n → take i xs ≡ take i t → get_or xs i 0 ≡ get_or t i 0 →
+    take (i + 1) xs ≡ take (i + 1) t
 fronts_more xs t i n m h e f = take_more_same xs t i 0 (omega (arith, m, h)) (omega (arith, m, h)) e f
 
 pub fronts_are : (xs t : List ℕ) (i n : ℕ) → i ≤ n → n ≤ i → take i xs ≡ take i t → take n xs ≡ take n t
@@ -27,15 +28,18 @@ module _ (form : List ℕ → List ℕ) (f : IsForm form) (xs t : List ℕ) wher
       let size : n ≡ length (form (take n xs)) = sym (f.size (take n xs) ∙ length-take-le n xs h) in
       ap (λ ys. take n ys) parts ∙ (ap (λ k. take k (form (take n xs) ++ form (drop n xs))) size ∙ take-append_seam (form (take n xs)) (form (drop n xs)))
 
-  pub compared_ok : (n : ℕ) → n ≡ min (length xs) (length t) → take n (form xs) ≡ take n (form t) → length t ≤ length xs → ComparesAs (λ ys. ys) form t xs Compared.Ok
+  pub compared_ok : (n : ℕ) → n ≡ min (length xs) (length t) → take n (form xs) ≡ take n (form t) → length t ≤ length xs →
+      ComparesAs (λ ys. ys) form t xs Compared.Ok
   compared_ok n h e k =
       let whole : take n (form t) ≡ form t = take_all n (form t) (omega (arith, h, f.size t)) in
       record { front = take n xs; rest = drop n xs; whole = sym (take-append-drop n xs); tag_is = sym (form_take n (omega (arith, h))) ∙ (e ∙ whole) }
 
-  pub compared_incomplete : (n : ℕ) → n ≡ min (length xs) (length t) → take n (form xs) ≡ take n (form t) → length xs < length t → ComparesAs (λ ys. ys) form t xs Compared.Incomplete
+  pub compared_incomplete : (n : ℕ) → n ≡ min (length xs) (length t) → take n (form xs) ≡ take n (form t) → length xs < length t →
+      ComparesAs (λ ys. ys) form t xs Compared.Incomplete
   compared_incomplete n h e k =
       let whole : take n (form xs) ≡ form xs = take_all n (form xs) (omega (arith, h, f.size xs)) in
-      begun_with (λ ys. ys) form t xs (drop n (form t)) (omega (arith, h, f.size t, length-drop n (form t))) (sym (take-append-drop n (form t)) ∙ ap (λ ys. ys ++ drop n (form t)) (sym e ∙ whole))
+      begun_with (λ ys. ys) form t xs (drop n (form t)) (omega (arith, h, f.size t, length-drop n (form t)))
+      (sym (take-append-drop n (form t)) ∙ ap (λ ys. ys ++ drop n (form t)) (sym e ∙ whole))
 
   pub compared_error : (n : ℕ) → n ≡ min (length xs) (length t) → (take n (form xs) ≡ take n (form t) → ⊥) → ComparesAs (λ ys. ys) form t xs Compared.Error
   compared_error n h differ = (
@@ -56,8 +60,10 @@ pub folded_min : (xs t : List ℕ) (n : ℕ) → n ≡ min (length xs) (length t
 folded_min xs t n h = omega (arith, h, length-map xs to_ascii_lowercase, length-map t to_ascii_lowercase)
 
 -- what is found at a place of both, with letters folded
-pub folded_same : (xs t : List ℕ) (i n x y : ℕ) → n ≡ min (length xs) (length t) → i < n → x ≡ to_ascii_lowercase (get_or xs i 0) → y ≡ to_ascii_lowercase (get_or t i 0) → x ≡ y → get_or (str_to_ascii_lowercase xs) i 0 ≡ get_or (str_to_ascii_lowercase t) i 0
+pub folded_same : (xs t : List ℕ) (i n x y : ℕ) → n ≡ min (length xs) (length t) → i < n → x ≡ to_ascii_lowercase (get_or xs i 0) →
+    y ≡ to_ascii_lowercase (get_or t i 0) → x ≡ y → get_or (str_to_ascii_lowercase xs) i 0 ≡ get_or (str_to_ascii_lowercase t) i 0
 folded_same xs t i n x y m h e f g = folded_at xs i (omega (arith, m, h)) ∙ (sym e ∙ (g ∙ (f ∙ sym (folded_at t i (omega (arith, m, h))))))
 
-pub folded_other : (xs t : List ℕ) (i n x y : ℕ) → n ≡ min (length xs) (length t) → i < n → x ≡ to_ascii_lowercase (get_or xs i 0) → y ≡ to_ascii_lowercase (get_or t i 0) → (x ≡ y → ⊥) → get_or (str_to_ascii_lowercase xs) i 0 ≡ get_or (str_to_ascii_lowercase t) i 0 → ⊥
+pub folded_other : (xs t : List ℕ) (i n x y : ℕ) → n ≡ min (length xs) (length t) → i < n → x ≡ to_ascii_lowercase (get_or xs i 0) →
+    y ≡ to_ascii_lowercase (get_or t i 0) → (x ≡ y → ⊥) → get_or (str_to_ascii_lowercase xs) i 0 ≡ get_or (str_to_ascii_lowercase t) i 0 → ⊥
 folded_other xs t i n x y m h e f g k = g (e ∙ (sym (folded_at xs i (omega (arith, m, h))) ∙ (k ∙ (folded_at t i (omega (arith, m, h)) ∙ sym f))))

@@ -25,7 +25,8 @@ cut_known i f r h e =
 
 pub bytes_front : (i j : Bor (List ℕ)) (n : ℕ) → seen_bytes.IsKnown i → IsPlace seen_bytes i n → j.now ≡ take n i.now → IsFront seen_bytes i n j
 bytes_front i j n h p e =
-    let taken : take n i.now ≡ p.front = ap (λ xs. take n xs) p.whole ∙ (ap (λ k. take k (p.front ++ p.rest)) (sym (length_front i n p)) ∙ take-append_seam p.front p.rest) in
+    let taken : take n i.now ≡ p.front =
+    ap (λ xs. take n xs) p.whole ∙ (ap (λ k. take k (p.front ++ p.rest)) (sym (length_front i n p)) ∙ take-append_seam p.front p.rest) in
     let same : p.front ≡ j.now = sym taken ∙ sym e in
     let whole = p.whole ∙ ap (λ xs. xs ++ p.rest) same in
     record {
@@ -38,7 +39,8 @@ bytes_front i j n h p e =
 
 pub bytes_rest : (i j : Bor (List ℕ)) (n : ℕ) → seen_bytes.IsKnown i → IsPlace seen_bytes i n → j.now ≡ drop n i.now → IsRest seen_bytes i n j
 bytes_rest i j n h p e =
-    let dropped : drop n i.now ≡ p.rest = ap (λ xs. drop n xs) p.whole ∙ (ap (λ k. drop k (p.front ++ p.rest)) (sym (length_front i n p)) ∙ drop-append_seam p.front p.rest) in
+    let dropped : drop n i.now ≡ p.rest =
+    ap (λ xs. drop n xs) p.whole ∙ (ap (λ k. drop k (p.front ++ p.rest)) (sym (length_front i n p)) ∙ drop-append_seam p.front p.rest) in
     let same : p.rest ≡ j.now = sym dropped ∙ sym e in
     let whole = p.whole ∙ ap (λ xs. p.front ++ xs) same in
     record {

@@ -16,7 +16,8 @@ module _ (Meets Ends : ℕ → Type 0) (i : Bor (List ℕ)) (n : ℕ) where
     item = get_or i.now n 0;
     rest = drop (n + 1) i.now;
     is_run = record {
-      whole = sym (take-append-drop n i.now) ∙ ap (λ ys. take n i.now ++ ys) (drop-cons i.now n 0 h ∙ ap (λ k. get_or i.now n 0 ∷ drop k i.now) (sym (add-one n)));
+      whole = sym (take-append-drop n i.now) ∙
+          ap (λ ys. take n i.now ++ ys) (drop-cons i.now n 0 h ∙ ap (λ k. get_or i.now n 0 ∷ drop k i.now) (sym (add-one n)));
       meets = m;
       stops = e;
     };

@@ -19,7 +19,8 @@ pub record IsAfter (bs rest passed : List ℕ) (index left count : ℕ) : Type 0
 pub after_start : (bs : List ℕ) (count : ℕ) → IsUtf8 bs → IsAfter bs bs [] 0 count count
 after_start bs count u = record { whole = refl; utf8 = u; index_is = refl; left_is = omega arith; room = omega arith }
 
-pub after_next : {bs from rest passed : List ℕ} (c : ℕ) {index left count k : ℕ} → IsAfter bs from passed index left count → from ≡ encode_utf8 c ++ rest → k ≡ len_utf8 c → 0 < left → IsAfter bs rest (passed ++ (c ∷ [])) (index + k) (left - 1) count
+pub after_next : {bs from rest passed : List ℕ} (c : ℕ) {index left count k : ℕ} → IsAfter bs from passed index left count → from ≡ encode_utf8 c ++
+    rest → k ≡ len_utf8 c → 0 < left → IsAfter bs rest (passed ++ (c ∷ [])) (index + k) (left - 1) count
 after_next {from = from} {rest = rest} {passed = passed} c a e d h = record {
   whole = a.whole ∙ ap (λ z. passed ++ z) (chars_past_char from rest c a.utf8 e) ∙ sym (append_assoc passed (c ∷ []) (chars rest));
   utf8 = IsUtf8-past_char from rest c a.utf8 e;
@@ -28,13 +29,15 @@ after_next {from = from} {rest = rest} {passed = passed} c a e d h = record {
   room = omega (arith, a.room, ap length e, length-append (encode_utf8 c) rest, length-encode c);
 }
 
-pub after_found : {i : Bor (List ℕ)} {rest passed : List ℕ} {index left count : ℕ} → IsAfter i.now rest passed index left count → left ≡ 0 → IsCount seen_text i count index
+pub after_found : {i : Bor (List ℕ)} {rest passed : List ℕ} {index left count : ℕ} → IsAfter i.now rest passed index left count → left ≡ 0 →
+    IsCount seen_text i count index
 after_found {rest = rest} {passed = passed} a h = record {
   place = record { front = passed; rest = chars rest; whole = a.whole; length_is = sym a.index_is };
   count_is = omega (arith, a.left_is);
 }
 
-pub after_end : {bs rest passed : List ℕ} {index left count : ℕ} → IsAfter bs rest passed index left count → length rest ≡ 0 → 0 < left → length (chars bs) < count
+pub after_end : {bs rest passed : List ℕ} {index left count : ℕ} → IsAfter bs rest passed index left count → length rest ≡ 0 → 0 < left →
+    length (chars bs) < count
 after_end {rest = rest} {passed = passed} a e h =
     let l : length (chars rest) ≤ length (encode_utf8_all (chars rest)) = length-le-encodes (chars rest) in
     omega (arith, a.left_is, ap length a.whole, length-append passed (chars rest), ap length (encodes-chars rest a.utf8))

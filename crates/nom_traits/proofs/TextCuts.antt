@@ -1,5 +1,6 @@
 -- The cuts of texts.
-use Rattle.std.proofs.Common.{◌≡◌, ℕ, ◌+◌, ◌-◌, ◌<◌, ◌≤◌, ◌^◌, ◌++◌, List, [], ◌∷◌, Bor, true, length, take, drop, sym, ◌∙◌, ap, subst, refl, arith, length-append}
+use Rattle.std.proofs.Common.{◌≡◌, ℕ, ◌+◌, ◌-◌, ◌<◌, ◌≤◌, ◌^◌, ◌++◌, List, [], ◌∷◌, Bor, true, length, take, drop, sym, ◌∙◌, ap, subst, refl, arith}
+use Rattle.std.proofs.Common.{length-append}
 use Rattle.std.specs.Prelude.{chars, encode_utf8_all, IsUtf8, IsCharBoundary}
 use Rattle.std.specs.Char.{len_utf8}
 use Rattle.std.specs.Str.{all_scalars}
@@ -46,7 +47,8 @@ is_cut i n u p =
 pub place_boundary : (i : Bor (List ℕ)) (n : ℕ) → seen_text.IsKnown i → IsPlace seen_text i n → IsCharBoundary i.now n
 place_boundary i n u p =
     let c = is_cut i n u.0 p in
-    subst (λ k. IsCharBoundary i.now k) (sym c.length_is) (IsCharBoundary-at_seam i.now (encode_utf8_all c.front) (encode_utf8_all c.rest) c.bytes_are (c.rest, (c.rest_is, refl)))
+    subst (λ k. IsCharBoundary i.now k) (sym c.length_is)
+    (IsCharBoundary-at_seam i.now (encode_utf8_all c.front) (encode_utf8_all c.rest) c.bytes_are (c.rest, (c.rest_is, refl)))
 
 taken : (xs ys zs : List ℕ) (n : ℕ) → xs ≡ ys ++ zs → n ≡ length ys → take n xs ≡ ys
 taken xs ys zs n e f = rw (e, f) (take-append_seam ys zs)
@@ -64,7 +66,8 @@ text_front i j n u p e =
     let b : j.now ≡ encode_utf8_all c.front = e ∙ taken i.now (encode_utf8_all c.front) (encode_utf8_all c.rest) n c.bytes_are c.length_is in
     let f : chars j.now ≡ c.front = ap chars b ∙ chars-encodes c.front c.front_is in
     record {
-      known = part_known j.now c.front c.front_is b (omega (arith, u.1, ap length b, ap length c.bytes_are, length-append (encode_utf8_all c.front) (encode_utf8_all c.rest)));
+      known = part_known j.now c.front c.front_is b
+          (omega (arith, u.1, ap length b, ap length c.bytes_are, length-append (encode_utf8_all c.front) (encode_utf8_all c.rest)));
       rest = c.rest;
       whole = c.whole ∙ ap (λ l. l ++ c.rest) (sym f);
       length_is = ap (span len_utf8) f ∙ span-text c.front ∙ sym c.length_is;
@@ -77,7 +80,8 @@ text_rest i j n u p e =
     let b : j.now ≡ encode_utf8_all c.rest = e ∙ dropped i.now (encode_utf8_all c.front) (encode_utf8_all c.rest) n c.bytes_are c.length_is in
     let f : chars j.now ≡ c.rest = ap chars b ∙ chars-encodes c.rest c.rest_is in
     record {
-      known = part_known j.now c.rest c.rest_is b (omega (arith, u.1, ap length b, ap length c.bytes_are, length-append (encode_utf8_all c.front) (encode_utf8_all c.rest)));
+      known = part_known j.now c.rest c.rest_is b
+          (omega (arith, u.1, ap length b, ap length c.bytes_are, length-append (encode_utf8_all c.front) (encode_utf8_all c.rest)));
       front = c.front;
       whole = c.whole ∙ ap (λ l. c.front ++ l) (sym f);
       length_is = span-text c.front ∙ sym c.length_is;
@@ -87,7 +91,8 @@ text_rest i j n u p e =
 -- what stands before a rest, in bytes
 rest_bytes : (i j : Bor (List ℕ)) (n : ℕ) → seen_text.IsKnown i → IsRest seen_text i n j → length i.now ≡ n + length j.now
 rest_bytes i j n u p =
-    let bytes : i.now ≡ encode_utf8_all p.front ++ j.now = sym (encodes-chars i.now u.0) ∙ (ap encode_utf8_all p.whole ∙ (encodes-append p.front (chars j.now) ∙ ap (λ l. encode_utf8_all p.front ++ l) (encodes-chars j.now p.known.0))) in
+    let bytes : i.now ≡ encode_utf8_all p.front ++ j.now = sym (encodes-chars i.now u.0) ∙
+    (ap encode_utf8_all p.whole ∙ (encodes-append p.front (chars j.now) ∙ ap (λ l. encode_utf8_all p.front ++ l) (encodes-chars j.now p.known.0))) in
     omega (arith, ap length bytes, length-append (encode_utf8_all p.front) j.now, span-text p.front, p.length_is)
 
 pub rest_within : (i j : Bor (List ℕ)) (n : ℕ) → seen_text.IsKnown i → IsRest seen_text i n j → length j.now ≤ length i.now

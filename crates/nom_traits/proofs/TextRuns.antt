@@ -12,7 +12,8 @@ use Rattle.nom_traits.specs.Bytes.{seen_bytes}
 use Rattle.nom_traits.specs.Text.{seen_text, span-text}
 use Rattle.nom_traits.specs.Rests.{span-ones}
 use Rattle.nom_traits.specs.Runs.{EndsAt, IsPosition}
-use Rattle.nom_traits.specs.Classes.{is_alpha_code, is_dec_digit_code, is_hex_digit_code, is_space_code, is_newline_code, is_multispace_code, has_code, IsInside, IsOutside}
+use Rattle.nom_traits.specs.Classes.{is_alpha_code, is_dec_digit_code, is_hex_digit_code, is_space_code, is_newline_code, is_multispace_code}
+use Rattle.nom_traits.specs.Classes.{has_code, IsInside, IsOutside}
 use Rattle.nom_traits.specs.declared.character.AsciiClass.{AsciiClass}
 use Rattle.nom_traits.specs.declared.character.AsciiClass.TheVariants as Class
 
@@ -75,15 +76,19 @@ module _ (class : AsciiClass) where
   pub all_inside : (bs : List ℕ) → All (IsInside class) bs → All (IsInside class) (chars bs)
   all_inside bs h = All-same (IsInside class) (chars bs) bs (chars-IsAscii bs (run_ascii bs h)) h
 
-  pub text_ends : (i j : Bor (List ℕ)) (n : ℕ) → j.now ≡ i.now → IsUtf8 i.now → EndsAt seen_bytes (IsInside class) (IsOutside class) j n → EndsAt seen_text (IsInside class) (IsOutside class) i n
+  pub text_ends : (i j : Bor (List ℕ)) (n : ℕ) → j.now ≡ i.now → IsUtf8 i.now → EndsAt seen_bytes (IsInside class) (IsOutside class) j n →
+      EndsAt seen_text (IsInside class) (IsOutside class) i n
   text_ends i j n same u e =
       let run = e.run in
       let r = e.is_run in
       let ascii = run_ascii run r.meets in
       let whole : i.now ≡ run ++ (e.item ∷ e.rest) = sym same ∙ r.whole in
-      let parts : chars i.now ≡ run ++ chars (e.item ∷ e.rest) = ap chars whole ∙ (chars-append run (e.item ∷ e.rest) (IsUtf8-from_ascii run ascii) ∙ ap (λ z. z ++ chars (e.item ∷ e.rest)) (chars-IsAscii run ascii)) in
+      let parts : chars i.now ≡ run ++ chars (e.item ∷ e.rest) =
+      ap chars whole ∙ (chars-append run (e.item ∷ e.rest) (IsUtf8-from_ascii run ascii) ∙
+      ap (λ z. z ++ chars (e.item ∷ e.rest)) (chars-IsAscii run ascii)) in
       let bytes : run ++ encode_utf8_all (chars (e.item ∷ e.rest)) ≡ run ++ (e.item ∷ e.rest) =
-      sym (encodes-append run (chars (e.item ∷ e.rest)) ∙ ap (λ z. z ++ encode_utf8_all (chars (e.item ∷ e.rest))) (encodes-IsAscii run ascii)) ∙ (sym (ap encode_utf8_all parts) ∙ (encodes-chars i.now u ∙ whole)) in
+      sym (encodes-append run (chars (e.item ∷ e.rest)) ∙ ap (λ z. z ++ encode_utf8_all (chars (e.item ∷ e.rest))) (encodes-IsAscii run ascii)) ∙
+      (sym (ap encode_utf8_all parts) ∙ (encodes-chars i.now u ∙ whole)) in
       let next = begins_outside e.item e.rest (chars (e.item ∷ e.rest)) (append_cancel_left run _ _ bytes) r.stops in
       record {
         run = run;
@@ -93,6 +98,7 @@ module _ (class : AsciiClass) where
         length_is = span-text run ∙ (ap length (encodes-IsAscii run ascii) ∙ (sym (span-ones run) ∙ e.length_is));
       }
 
-  pub text_position : (i j : Bor (List ℕ)) (r : Option ℕ) → j.now ≡ i.now → IsUtf8 i.now → IsPosition seen_bytes (IsInside class) (IsOutside class) j r → IsPosition seen_text (IsInside class) (IsOutside class) i r
+  pub text_position : (i j : Bor (List ℕ)) (r : Option ℕ) → j.now ≡ i.now → IsUtf8 i.now →
+      IsPosition seen_bytes (IsInside class) (IsOutside class) j r → IsPosition seen_text (IsInside class) (IsOutside class) i r
   text_position i j (Some n) same u h = text_ends i j n same u h
   text_position i j None same u h = all_inside i.now (All-same (IsInside class) i.now j.now (sym same) h)

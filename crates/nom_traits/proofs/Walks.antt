@@ -1,5 +1,6 @@
 -- The items of inputs, one by one, each with its place.
-use Rattle.std.proofs.Common.{◌≡◌, ℕ, ◌+◌, ◌≤◌, ◌++◌, Option, Iter, Some, None, List, [], ◌∷◌, length, sym, ◌∙◌, ap, subst, refl, arith, append_assoc, append-nil, length-append}
+use Rattle.std.proofs.Common.{◌≡◌, ℕ, ◌+◌, ◌≤◌, ◌++◌, Option, Iter, Some, None, List, [], ◌∷◌, length, sym, ◌∙◌, ap, subst, refl, arith, append_assoc}
+use Rattle.std.proofs.Common.{append-nil, length-append}
 use Rattle.std.specs.Prelude.{encode_utf8, encode_utf8_all}
 use Rattle.std.specs.Char.{len_utf8}
 use Rattle.std.specs.Iterator.{AlwaysYields}
@@ -24,9 +25,11 @@ pub placed_ones : {A : Type 0} (n : ℕ) (xs : List A) → enumerate_from n xs �
 placed_ones n [] = refl
 placed_ones n (x ∷ xs) = ap (λ ys. (n, x) ∷ ys) (placed_ones (n + 1) xs)
 
-pub slice_walk : {A : Type 0} (e : Enumerate (Copied (Iter A))) (s : Copied (Iter A)) (xs : List A) → enumerate_source e ≡ s → enumerate_count e ≡ 0 → AlwaysYields (copies fronts) (λ x. x) s xs → AlwaysYields (enumerate_steps (copies fronts)) (λ p. p) e (placed (λ _. 1) 0 xs)
+pub slice_walk : {A : Type 0} (e : Enumerate (Copied (Iter A))) (s : Copied (Iter A)) (xs : List A) → enumerate_source e ≡ s → enumerate_count e ≡ 0 →
+    AlwaysYields (copies fronts) (λ x. x) s xs → AlwaysYields (enumerate_steps (copies fronts)) (λ p. p) e (placed (λ _. 1) 0 xs)
 slice_walk e s xs f n h =
-    let source : YieldsList (copies fronts) (λ x. x) (enumerate_source e) xs = record { runs = subst (λ z. AlwaysYields (copies fronts) (λ x. x) z xs) (sym f) h } in
+    let source : YieldsList (copies fronts) (λ x. x) (enumerate_source e) xs =
+    record { runs = subst (λ z. AlwaysYields (copies fronts) (λ x. x) z xs) (sym f) h } in
     subst (λ ys. AlwaysYields (enumerate_steps (copies fronts)) (λ p. p) e ys) (placed_ones 0 xs) (YieldsList-from_enumerate source n).runs
 
 pair_same : {A : Type 0} (p : ℕ × A) (n : ℕ) (x : A) → p.0 ≡ n → p.1 ≡ x → p ≡ (n, x)
@@ -35,8 +38,16 @@ pair_same {A} p n x e f =
     ap (λ a. pair a p.1) e ∙ ap (λ b. pair n b) f
 
 -- characters are at their places
-pub text_placed : (cs : List ℕ) (n : ℕ) (s : CharIndices) → encode_utf8_all cs ≡ char_indices_rest s → n ≡ char_indices_offset s → AlwaysYields char_indices_steps (λ p. p) s (placed len_utf8 n cs)
-text_placed [] n s e f = λ x j p. omega (arith, ap length e, ap length p.1, length-append (encode_utf8 x.1) (char_indices_rest j), length-encode x.1, (len_utf8_bounds x.1).0)
+pub text_placed : (cs : List ℕ) (n : ℕ) (s : CharIndices) → encode_utf8_all cs ≡ char_indices_rest s → n ≡ char_indices_offset s →
+    AlwaysYields char_indices_steps (λ p. p) s (placed len_utf8 n cs)
+text_placed [] n s e f = λ x j p. omega (
+  arith,
+  ap length e,
+  ap length p.1,
+  length-append (encode_utf8 x.1) (char_indices_rest j),
+  length-encode x.1,
+  (len_utf8_bounds x.1).0,
+)
 text_placed (c ∷ cs) n s e f = (
   λ j p. omega (arith, ap length e, p.0, length-append (encode_utf8 c) (encode_utf8_all cs), length-encode c, (len_utf8_bounds c).0),
   λ x j p.
@@ -63,7 +74,8 @@ module _ {I A S : Type 0} (w : Seen I A) (Meets Ends : A → Type 0) (steps : S 
     place : n ≡ span w.weight passed
     gives : AlwaysYields steps (λ x. x) t rest
 
-  next_of : (i : I) (s t : S) (n : ℕ) (x : A) (passed rest : List A) → w.elements i ≡ passed ++ rest → All Meets passed → n ≡ span w.weight passed → AlwaysYields steps (λ x. x) s rest → steps s (Some x) t → IsNext i n x t
+  next_of : (i : I) (s t : S) (n : ℕ) (x : A) (passed rest : List A) → w.elements i ≡ passed ++ rest → All Meets passed → n ≡ span w.weight passed →
+      AlwaysYields steps (λ x. x) s rest → steps s (Some x) t → IsNext i n x t
   next_of i s t n x passed [] e h p g k = absurd (g x t k)
   next_of i s t n x passed (y ∷ rest) e h p g k =
       let r = g.1 x t k in
@@ -79,7 +91,8 @@ module _ {I A S : Type 0} (w : Seen I A) (Meets Ends : A → Type 0) (steps : S 
   next_in : (i : I) (s t : S) (n : ℕ) (x : A) → IsWalking i n s → steps s (Some x) t → IsNext i n x t
   next_in i s t n x h k = next_of i s t n x h.passed h.rest h.whole h.meets h.place_is h.gives k
 
-  ends_of : (i : I) (s t : S) (passed rest : List A) → w.elements i ≡ passed ++ rest → All Meets passed → AlwaysYields steps (λ x. x) s rest → steps s None t → All Meets (w.elements i)
+  ends_of : (i : I) (s t : S) (passed rest : List A) → w.elements i ≡ passed ++ rest → All Meets passed → AlwaysYields steps (λ x. x) s rest →
+      steps s None t → All Meets (w.elements i)
   ends_of i s t passed [] e h g k = subst (All Meets) (sym (e ∙ append-nil passed)) h
   ends_of i s t passed (y ∷ rest) e h g k = absurd (g.0 t k)
 
@@ -88,12 +101,14 @@ module _ {I A S : Type 0} {w : Seen I A} {Meets Ends : A → Type 0} {steps : S 
   walk_begins {i = i} h = record { passed = []; rest = w.elements i; whole = refl; meets = All-nil Meets; place_is = refl; gives = h }
 
   -- the place behind the next item is within the input
-  pub walk_fits : {i : I} {s : S} (t : S) {n m : ℕ} (x : A) → IsWalking w Meets Ends steps i n s → steps s (Some x) t → m ≡ w.weight x → n + m ≤ span w.weight (w.elements i)
+  pub walk_fits : {i : I} {s : S} (t : S) {n m : ℕ} (x : A) → IsWalking w Meets Ends steps i n s → steps s (Some x) t → m ≡ w.weight x →
+      n + m ≤ span w.weight (w.elements i)
   walk_fits {i = i} {s = s} t {n = n} x h k e =
       let r = next_in w Meets Ends steps i s t n x h k in
       omega (arith, r.place, e, ap (λ ys. span w.weight ys) r.whole, span-append w.weight r.passed (x ∷ r.rest))
 
-  pub walk_goes_on : {i : I} {s : S} (t : S) {n m : ℕ} (x : A) → IsWalking w Meets Ends steps i n s → steps s (Some x) t → m ≡ w.weight x → Meets x → IsWalking w Meets Ends steps i (n + m) t
+  pub walk_goes_on : {i : I} {s : S} (t : S) {n m : ℕ} (x : A) → IsWalking w Meets Ends steps i n s → steps s (Some x) t → m ≡ w.weight x → Meets x →
+      IsWalking w Meets Ends steps i (n + m) t
   walk_goes_on {i = i} {s = s} t {n = n} x h k e meets =
       let r = next_in w Meets Ends steps i s t n x h k in
       record {
@@ -105,7 +120,8 @@ module _ {I A S : Type 0} {w : Seen I A} {Meets Ends : A → Type 0} {steps : S 
         gives = r.gives;
       }
 
-  pub walk_stops : {i : I} {s : S} (t : S) {n : ℕ} (x : A) → IsWalking w Meets Ends steps i n s → steps s (Some x) t → Ends x → IsPosition w Meets Ends i (Some n)
+  pub walk_stops : {i : I} {s : S} (t : S) {n : ℕ} (x : A) → IsWalking w Meets Ends steps i n s → steps s (Some x) t → Ends x →
+      IsPosition w Meets Ends i (Some n)
   walk_stops {i = i} {s = s} t {n = n} x h k m =
       let r = next_in w Meets Ends steps i s t n x h k in
       record {

@@ -24,8 +24,10 @@ module _ {I : Type 0} (w : Seen I ℕ) where
   -- their marks, the passed bits of the next.
   pub record TellsMarks : Type 0 where
     pub bytes_told : (x y : I) (o p : ℕ) → w.IsKnown x → w.IsKnown y → (seen_bits w).mark (x, o) ≡ (seen_bits w).mark (y, p) → byte_mark x o ≡ byte_mark y p
-    pub bits_told : (x y : I) (o p : ℕ) → w.IsKnown x → w.IsKnown y → (seen_bits w).mark (x, o) ≡ (seen_bits w).mark (y, p) → HasMarks w → passed_bits x o ≡ passed_bits y p
-    pub no_more_told : (x y : I) (o p : ℕ) → w.IsKnown x → w.IsKnown y → byte_mark x o ≡ byte_mark y p → passed_bits x o ≡ passed_bits y p → (seen_bits w).mark (x, o) ≡ (seen_bits w).mark (y, p)
+    pub bits_told : (x y : I) (o p : ℕ) → w.IsKnown x → w.IsKnown y → (seen_bits w).mark (x, o) ≡ (seen_bits w).mark (y, p) → HasMarks w →
+        passed_bits x o ≡ passed_bits y p
+    pub no_more_told : (x y : I) (o p : ℕ) → w.IsKnown x → w.IsKnown y → byte_mark x o ≡ byte_mark y p → passed_bits x o ≡ passed_bits y p →
+        (seen_bits w).mark (x, o) ≡ (seen_bits w).mark (y, p)
 
   -- bits are seen alike where their lists are equal
   abbrev pub AreBitsAlone : Type 0
@@ -33,11 +35,13 @@ module _ {I : Type 0} (w : Seen I ℕ) where
 
   -- a longer input of bits is longer by whole bytes
   abbrev pub GrowsByBytes : Type 0
-  GrowsByBytes = (x y : I) (o p : ℕ) → Extends (seen_bits w) (x, o) (y, p) → (bytes : List ℕ) × w.IsMore bytes × AreBytes bytes × ((seen_bits w).elements (y, p) ≡ (seen_bits w).elements (x, o) ++ all_bits bytes)
+  GrowsByBytes = (x y : I) (o p : ℕ) → Extends (seen_bits w) (x, o) (y, p) → (bytes : List ℕ) × w.IsMore bytes × AreBytes bytes ×
+      ((seen_bits w).elements (y, p) ≡ (seen_bits w).elements (x, o) ++ all_bits bytes)
 
   -- past n bits of (x, o) stands what is (n + o) / 8 bytes on in x, from its bit (n + o) % 8 on
   abbrev pub PassesBits : Type 0
-  PassesBits = (x j : I) (o n k : ℕ) → w.IsKnown x → IsPlace (seen_bits w) (x, o) n → IsCount w x ((n + o) / 8) k → IsRest w x k j → IsRest (seen_bits w) (x, o) n (j, (n + o) % 8)
+  PassesBits = (x j : I) (o n k : ℕ) → w.IsKnown x → IsPlace (seen_bits w) (x, o) n → IsCount w x ((n + o) / 8) k → IsRest w x k j →
+      IsRest (seen_bits w) (x, o) n (j, (n + o) % 8)
 
   pub grows_by_bytes : GrowsByBytes
   grows_by_bytes x y o p e = (e.added.bytes, e.added.more, e.added.are_bytes, e.whole ∙ ap (λ bs. (seen_bits w).elements (x, o) ++ bs) e.added.bits_are)
@@ -73,7 +77,8 @@ module _ {I : Type 0} (w : Seen I ℕ) where
     mark_from x o bs h =
         let f = take (o / 8) (w.elements x) in
         let parts : o ≡ 8 * (o / 8) + o % 8 = omega arith in
-        let bits : take o (all_bits (w.elements x)) ≡ all_bits f ++ passed_bits x o = ap (λ n. take n (all_bits (w.elements x))) parts ∙ take-all_bits (o / 8) (o % 8) (w.elements x) in
+        let bits : take o (all_bits (w.elements x)) ≡ all_bits f ++ passed_bits x o =
+        ap (λ n. take n (all_bits (w.elements x))) parts ∙ take-all_bits (o / 8) (o % 8) (w.elements x) in
         ap (λ ys. past_bits w (w.mark x) (ys ++ bs)) bits
         ∙ ap (past_bits w (w.mark x)) (append_assoc (all_bits f) (passed_bits x o) bs)
         ∙ past_all_bits (w.mark x) f (passed_bits x o ++ bs) (bytes_taken (o / 8) (w.elements x) h)
@@ -93,12 +98,14 @@ module _ {I : Type 0} (w : Seen I ℕ) where
     module _ (values : (i : I) → w.IsKnown i → AreBytes (w.elements i)) where
       pub tells_marks : TellsMarks
       tells_marks =
-          let same : (x y : I) (o p : ℕ) → w.IsKnown x → w.IsKnown y → (seen_bits w).mark (x, o) ≡ (seen_bits w).mark (y, p) → ◌≡◌ {A = BitPlace w} (byte_mark x o, λ _. passed_bits x o) (byte_mark y p, λ _. passed_bits y p) =
+          let same : (x y : I) (o p : ℕ) → w.IsKnown x → w.IsKnown y → (seen_bits w).mark (x, o) ≡ (seen_bits w).mark (y, p) →
+          ◌≡◌ {A = BitPlace w} (byte_mark x o, λ _. passed_bits x o) (byte_mark y p, λ _. passed_bits y p) =
           λ x y o p h k e. sym (mark_there x o (values x h)) ∙ ap (λ m. m []) e ∙ mark_there y p (values y k) in
           record {
             bytes_told = λ x y o p h k e. ap (λ m. m.0) (same x y o p h k e);
             bits_told = λ x y o p h k e marks. ap (λ m. m.1 marks) (same x y o p h k e);
-            no_more_told = λ x y o p h k e f. fun_ext (λ bs. mark_from x o bs (values x h) ∙ ap (λ m. past_bits w m (passed_bits x o ++ bs)) e ∙ ap (λ ps. past_bits w (byte_mark y p) (ps ++ bs)) f ∙ sym (mark_from y p bs (values y k)));
+            no_more_told = λ x y o p h k e f. fun_ext (λ bs. mark_from x o bs (values x h) ∙ ap (λ m. past_bits w m (passed_bits x o ++ bs)) e ∙
+                ap (λ ps. past_bits w (byte_mark y p) (ps ++ bs)) f ∙ sym (mark_from y p bs (values y k)));
           }
 
       pub passes_bits : PassesBits
@@ -113,8 +120,11 @@ module _ {I : Type 0} (w : Seen I ℕ) where
           let front : take b xs ≡ q.front = ap (take b) q.whole ∙ ap (λ m. take m (q.front ++ js)) (sym count) ∙ take-append_seam q.front js in
           let rest : drop b xs ≡ js = ap (drop b) q.whole ∙ drop_at q.front js b count in
           let parts : o + n ≡ 8 * b + r = omega arith in
-          let dropped : drop n (drop o bits) ≡ drop r (all_bits js) = drop-drop n o bits ∙ ap (λ m. drop m bits) parts ∙ drop-all_bits b r xs ∙ ap (λ ys. drop r (all_bits ys)) rest in
-          let taken : take o bits ++ take n (drop o bits) ≡ all_bits q.front ++ take r (all_bits js) = sym (take-add o n bits) ∙ ap (λ m. take m bits) parts ∙ take-all_bits b r xs ∙ ap (λ ys. all_bits ys ++ take r (all_bits (drop b xs))) front ∙ ap (λ ys. all_bits q.front ++ take r (all_bits ys)) rest in
+          let dropped : drop n (drop o bits) ≡ drop r (all_bits js) =
+          drop-drop n o bits ∙ ap (λ m. drop m bits) parts ∙ drop-all_bits b r xs ∙ ap (λ ys. drop r (all_bits ys)) rest in
+          let taken : take o bits ++ take n (drop o bits) ≡ all_bits q.front ++ take r (all_bits js) = sym (take-add o n bits) ∙
+          ap (λ m. take m bits) parts ∙ take-all_bits b r xs ∙ ap (λ ys. all_bits ys ++ take r (all_bits (drop b xs))) front ∙
+          ap (λ ys. all_bits q.front ++ take r (all_bits ys)) rest in
           let within : n ≤ length (drop o bits) = omega (arith, ap length p.whole, length-append p.front p.rest, span-ones p.front, p.length_is) in
           let known : AreBytes q.front = subst AreBytes front (bytes_taken b xs (values x h)) in
           record {
@@ -125,5 +135,7 @@ module _ {I : Type 0} (w : Seen I ℕ) where
             mark_is = fun_ext (λ bs.
                 ap (λ m. past_bits w m (take r (all_bits js) ++ bs)) q.mark_is
                 ∙ sym (past_all_bits (w.mark x) q.front (take r (all_bits js) ++ bs) known)
-                ∙ sym (ap (past_bits w (w.mark x)) (sym (append_assoc (take o bits) (take n (drop o bits)) bs) ∙ ap (λ ys. ys ++ bs) taken ∙ append_assoc (all_bits q.front) (take r (all_bits js)) bs)));
+                ∙ sym (ap (past_bits w (w.mark x))
+                (sym (append_assoc (take o bits) (take n (drop o bits)) bs) ∙ ap (λ ys. ys ++ bs) taken ∙
+                append_assoc (all_bits q.front) (take r (all_bits js)) bs)));
           }

@@ -37,7 +37,8 @@ pub text_is_bytes : AreBytes seen_text encode_utf8_all
 text_is_bytes = record { append = encodes-append; size = span-text }
 
 -- of two lists in front of one, one is a front of the other
-one_longer : {A : Type 0} (t xs ys more : List A) → t ++ ys ≡ xs ++ more → ((rest : List A) × (xs ≡ t ++ rest)) ⊎ ((x : A) × (rest : List A) × (t ≡ xs ++ (x ∷ rest)))
+one_longer : {A : Type 0} (t xs ys more : List A) → t ++ ys ≡ xs ++ more → ((rest : List A) × (xs ≡ t ++ rest)) ⊎
+    ((x : A) × (rest : List A) × (t ≡ xs ++ (x ∷ rest)))
 one_longer [] xs ys more e = inl (xs, refl)
 one_longer (a ∷ t) [] ys more e = inr (a, t, refl)
 one_longer (a ∷ t) (b ∷ xs) ys more e =
@@ -53,7 +54,8 @@ module _ {A : Type 0} (bytes : List A → List ℕ) (form : List ℕ → List �
   pub begun_with : (ys : List ℕ) → 0 < length ys → form t ≡ form (bytes xs) ++ ys → IsBegun bytes form t xs
   begun_with ys h e = let k = one_more ys h in record { byte = k.0; more = k.1; tag_is = e ∙ ap (λ zs. form (bytes xs) ++ zs) k.2 }
 
-module _ {I A : Type 0} (w : Seen I A) (l : InputLaws w) (bytes : List A → List ℕ) (b : AreBytes w bytes) (form : List ℕ → List ℕ) (f : IsForm form) (t : List ℕ) where
+module _ {I A : Type 0} (w : Seen I A) (l : InputLaws w) (bytes : List A → List ℕ) (b : AreBytes w bytes) (form : List ℕ → List ℕ) (f : IsForm form)
+    (t : List ℕ) where
   found_size : (xs : List A) (k : IsFound bytes form t xs) → length (bytes k.front) ≡ length t
   found_size xs k = sym (f.size (bytes k.front)) ∙ (ap length k.tag_is ∙ f.size t)
 
@@ -61,7 +63,14 @@ module _ {I A : Type 0} (w : Seen I A) (l : InputLaws w) (bytes : List A → Lis
   begun_size xs k = omega (arith, ap length k.tag_is, length-append (form (bytes xs)) (k.byte ∷ k.more), f.size t, f.size (bytes xs))
 
   pub found_not_begun : (xs : List A) → IsFound bytes form t xs → IsBegun bytes form t xs → ⊥
-  found_not_begun xs h k = omega (arith, found_size xs h, begun_size xs k, ap (λ ys. length (bytes ys)) h.whole, ap length (b.append h.front h.rest), length-append (bytes h.front) (bytes h.rest))
+  found_not_begun xs h k = omega (
+    arith,
+    found_size xs h,
+    begun_size xs k,
+    ap (λ ys. length (bytes ys)) h.whole,
+    ap length (b.append h.front h.rest),
+    length-append (bytes h.front) (bytes h.rest),
+  )
 
   one_result : (xs : List A) (r s : CompareResult) → ComparesAs bytes form t xs r → ComparesAs bytes form t xs s → r ≡ s
   one_result xs Compared.Ok Compared.Ok h k = refl
@@ -82,18 +91,36 @@ module _ {I A : Type 0} (w : Seen I A) (l : InputLaws w) (bytes : List A → Lis
 
   error_kept : (xs more : List A) → ComparesAs bytes form t xs Compared.Error → ComparesAs bytes form t (xs ++ more) Compared.Error
   error_kept xs more h = (
-    λ k. elim (one_longer k.front xs k.rest more (sym k.whole)) [ inl j ↦ h.0 (record { front = k.front; rest = j.0; whole = j.1; tag_is = k.tag_is }) | inr j ↦ h.1 (begun_with bytes form t xs (form (bytes (j.0 ∷ j.1))) (some_bytes j.0 j.1) (sym k.tag_is ∙ (ap (λ ys. form (bytes ys)) j.2 ∙ form_parts xs (j.0 ∷ j.1)))) ],
-    λ k. h.1 (begun_with bytes form t xs (form (bytes more) ++ (k.byte ∷ k.more)) (omega (arith, length-append (form (bytes more)) (k.byte ∷ k.more))) (k.tag_is ∙ (ap (λ ys. ys ++ (k.byte ∷ k.more)) (form_parts xs more) ∙ append_assoc (form (bytes xs)) (form (bytes more)) (k.byte ∷ k.more)))),
+    λ k. elim (one_longer k.front xs k.rest more (sym k.whole)) [
+      | inl j ↦ h.0 (record { front = k.front; rest = j.0; whole = j.1; tag_is = k.tag_is })
+      | inr j ↦ h.1 (begun_with bytes form t xs (form (bytes (j.0 ∷ j.1))) (some_bytes j.0 j.1)
+          (sym k.tag_is ∙ (ap (λ ys. form (bytes ys)) j.2 ∙ form_parts xs (j.0 ∷ j.1))))
+    ],
+    λ k. h.1 (begun_with bytes form t xs (form (bytes more) ++ (k.byte ∷ k.more)) (omega (arith, length-append (form (bytes more)) (k.byte ∷ k.more)))
+        (k.tag_is ∙ (ap (λ ys. ys ++ (k.byte ∷ k.more)) (form_parts xs more) ∙ append_assoc (form (bytes xs)) (form (bytes more)) (k.byte ∷ k.more)))),
   )
 
 module _ {I A : Type 0} (w : Seen I A) (l : InputLaws w) (bytes : List A → List ℕ) (b : AreBytes w bytes) (form : List ℕ → List ℕ) (f : IsForm form) where
   comparing : CompareLaws {T = List ℕ} w length (ComparesAs bytes form)
   comparing = record {
     one = λ t i r s h j k. one_result w l bytes b form f t (w.elements i) r s j k;
-    place = λ t i h k. record { front = k.front; rest = k.rest; whole = k.whole; length_is = b.size k.front ∙ found_size w l bytes b form f t (w.elements i) k };
+    place = λ t i h k. record {
+      front = k.front;
+      rest = k.rest;
+      whole = k.whole;
+      length_is = b.size k.front ∙
+          found_size w l bytes b form f t (w.elements i) k;
+    };
     shorter = λ t i h k. omega (arith, b.size (w.elements i), begun_size w l bytes b form f t (w.elements i) k);
-    ok_stays = λ t x y h k e r. record { front = r.front; rest = r.rest ++ e.more; whole = e.whole ∙ (ap (λ xs. xs ++ e.more) r.whole ∙ append_assoc r.front r.rest e.more); tag_is = r.tag_is };
-    error_stays = λ t x y h k e r. subst (λ xs. ComparesAs bytes form t xs Compared.Error) (sym e.whole) (error_kept w l bytes b form f t (w.elements x) e.more r);
+    ok_stays = λ t x y h k e r. record {
+      front = r.front;
+      rest = r.rest ++ e.more;
+      whole = e.whole ∙
+          (ap (λ xs. xs ++ e.more) r.whole ∙ append_assoc r.front r.rest e.more);
+      tag_is = r.tag_is;
+    };
+    error_stays = λ t x y h k e r. subst (λ xs. ComparesAs bytes form t xs Compared.Error) (sym e.whole)
+        (error_kept w l bytes b form f t (w.elements x) e.more r);
   }
 
 pub bytes_comparing : CompareLaws {I = Bor (List ℕ)} {T = List ℕ} seen_bytes length ComparesBytes

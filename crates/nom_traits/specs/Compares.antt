@@ -14,7 +14,8 @@ pub record CompareLaws {I A T : Type 0} (w : Seen I A) (size : T → ℕ) (Compa
   pub shorter : (t : T) (i : I) → w.IsKnown i → Compares t (w.elements i) Compared.Incomplete → input_len w i < size t
   -- what is decided stays
   pub ok_stays : (t : T) (x y : I) → w.IsKnown x → w.IsKnown y → Extends w x y → Compares t (w.elements x) Compared.Ok → Compares t (w.elements y) Compared.Ok
-  pub error_stays : (t : T) (x y : I) → w.IsKnown x → w.IsKnown y → Extends w x y → Compares t (w.elements x) Compared.Error → Compares t (w.elements y) Compared.Error
+  pub error_stays : (t : T) (x y : I) → w.IsKnown x → w.IsKnown y → Extends w x y → Compares t (w.elements x) Compared.Error →
+      Compares t (w.elements y) Compared.Error
 
 -- items that are read as bytes, against a tag of bytes: bytes of one form are alike
 module _ {A : Type 0} (bytes : List A → List ℕ) (form : List ℕ → List ℕ) (t : List ℕ) (xs : List A) where

@@ -12,7 +12,8 @@ span-ones [] = refl
 span-ones (x ∷ xs) = omega (arith, span-ones xs)
 
 -- two cuts of a list at one length are one
-pub same_cut : {A : Type 0} (weight : A → ℕ) → ((a : A) → 0 < weight a) → (xs ys xs' ys' : List A) → xs ++ ys ≡ xs' ++ ys' → span weight xs ≡ span weight xs' → (xs ≡ xs') × (ys ≡ ys')
+pub same_cut : {A : Type 0} (weight : A → ℕ) → ((a : A) → 0 < weight a) → (xs ys xs' ys' : List A) → xs ++ ys ≡ xs' ++ ys' →
+    span weight xs ≡ span weight xs' → (xs ≡ xs') × (ys ≡ ys')
 same_cut weight pos [] ys [] ys' e h = (refl, e)
 same_cut weight pos [] ys (x ∷ xs') ys' e h = absurd (omega (arith, pos x))
 same_cut weight pos (x ∷ xs) ys [] ys' e h = absurd (omega (arith, pos x))
@@ -73,7 +74,8 @@ module _ {I A : Type 0} (w : Seen I A) (l : InputLaws w) where
   -- rests of related inputs at one place are related alike
   pub rest_related : (longer : Bool) (x y : I) (n : ℕ) (j k : I) → Related w longer x y → IsRest w x n j → IsRest w y n k → Related w longer j k
   rest_related true x y n j k e p q =
-      let whole : q.front ++ w.elements k ≡ p.front ++ (w.elements j ++ e.more) = sym q.whole ∙ (e.whole ∙ (ap (λ xs. xs ++ e.more) p.whole ∙ append_assoc p.front (w.elements j) e.more)) in
+      let whole : q.front ++ w.elements k ≡ p.front ++ (w.elements j ++ e.more) =
+      sym q.whole ∙ (e.whole ∙ (ap (λ xs. xs ++ e.more) p.whole ∙ append_assoc p.front (w.elements j) e.more)) in
       let u = same_cut w.weight l.positive q.front (w.elements k) p.front (w.elements j ++ e.more) whole (q.length_is ∙ sym p.length_is) in
       record {
         more = e.more;
@@ -82,7 +84,8 @@ module _ {I A : Type 0} (w : Seen I A) (l : InputLaws w) where
         mark_is = q.mark_is ∙ (ap (λ xs. w.mark_after (w.mark y) xs) u.0 ∙ (ap (λ m. w.mark_after m p.front) e.mark_is ∙ sym p.mark_is));
       }
   rest_related false x y n j k s p q =
-      let u = same_cut w.weight l.positive p.front (w.elements j) q.front (w.elements k) (sym p.whole ∙ (s.elements_are ∙ q.whole)) (p.length_is ∙ sym q.length_is) in
+      let u = same_cut w.weight l.positive p.front (w.elements j) q.front (w.elements k) (sym p.whole ∙ (s.elements_are ∙ q.whole))
+      (p.length_is ∙ sym q.length_is) in
       record {
         elements_are = u.1;
         mark_is = p.mark_is ∙ (ap (λ m. w.mark_after m p.front) s.mark_is ∙ (ap (λ xs. w.mark_after (w.mark y) xs) u.0 ∙ sym q.mark_is));

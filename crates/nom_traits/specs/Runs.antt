@@ -67,7 +67,8 @@ module _ {A : Type 0} (Meets Ends : A → Type 0) (apart : (x : A) → Meets x �
   one_run xs run rest run' rest' r r' = same_parts run rest run' rest' (sym r.whole ∙ r'.whole) r.meets r'.meets r.stops r'.stops
 
   -- the run of a longer list is that of the list, where that ends before the list does
-  pub run_kept : (xs run : List A) (x : A) (rest more run' rest' : List A) → IsRun Meets Ends xs run (x ∷ rest) → IsRun Meets Ends (xs ++ more) run' rest' → (run ≡ run') × ((x ∷ rest) ++ more ≡ rest')
+  pub run_kept : (xs run : List A) (x : A) (rest more run' rest' : List A) → IsRun Meets Ends xs run (x ∷ rest) →
+      IsRun Meets Ends (xs ++ more) run' rest' → (run ≡ run') × ((x ∷ rest) ++ more ≡ rest')
   run_kept xs run x rest more run' rest' r r' = one_run (xs ++ more) run ((x ∷ rest) ++ more) run' rest' (run_stays Meets Ends xs run x rest more r) r'
 
 -- the run under a test: the items that it passes
@@ -75,8 +76,13 @@ abbrev pub IsRunOf : {A : Type 0} → (A → Bool) → List A → List A → Lis
 IsRunOf test = IsRun (λ x. test x ≡ true) (λ x. test x ≡ false)
 
 module _ {A : Type 0} (test : A → Bool) where
-  run_after : (x : A) (xs : List A) (b : Bool) → test x ≡ b → ((run : List A) × (rest : List A) × IsRunOf test xs run rest) → (run : List A) × (rest : List A) × IsRunOf test (x ∷ xs) run rest
-  run_after x xs true e r = (x ∷ r.0, r.1, record { whole = ap (λ ys. x ∷ ys) r.2.whole; meets = All-cons (λ y. test y ≡ true) x r.0 e r.2.meets; stops = r.2.stops })
+  run_after : (x : A) (xs : List A) (b : Bool) → test x ≡ b → ((run : List A) × (rest : List A) × IsRunOf test xs run rest) → (run : List A) ×
+      (rest : List A) × IsRunOf test (x ∷ xs) run rest
+  run_after x xs true e r = (
+    x ∷ r.0,
+    r.1,
+    record { whole = ap (λ ys. x ∷ ys) r.2.whole; meets = All-cons (λ y. test y ≡ true) x r.0 e r.2.meets; stops = r.2.stops },
+  )
   run_after x xs false e r = ([], x ∷ xs, record { whole = refl; meets = All-nil (λ y. test y ≡ true); stops = e })
 
   -- each list has a run under a test

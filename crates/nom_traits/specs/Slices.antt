@@ -62,7 +62,8 @@ module _ {I A : Type 0} (w : Seen I A) where
       }
 
   -- first items of one measure are one slice
-  same_measure : (measure : A → ℕ) → ((a : A) → 0 < measure a) → (i : I) (n m : ℕ) (t u : Slice w) → IsFirst i n t → IsFirst i m u → span measure t.items ≡ span measure u.items → t ≡ u
+  same_measure : (measure : A → ℕ) → ((a : A) → 0 < measure a) → (i : I) (n m : ℕ) (t u : Slice w) → IsFirst i n t → IsFirst i m u →
+      span measure t.items ≡ span measure u.items → t ≡ u
   same_measure measure positive i n m t u p q e =
       let c = same_cut measure positive t.items p.rest u.items q.rest (sym p.whole ∙ q.whole) e in
       slice_equal t u c.0 (p.mark_is ∙ sym q.mark_is)

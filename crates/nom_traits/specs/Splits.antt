@@ -44,4 +44,5 @@ module _ {I A : Type 0} (w : Seen I A) (Meets Ends : A → Type 0) (streaming : 
   -- where one item is wanted at least, an empty run is refused.
   abbrev pub Splits : {O E F : Type 0} → Bool → (I → ℕ → O → Type 0) → (Answer.Err E F Needed → Type 0) → Result (I × O) (Answer.Err E F Needed) → Type 0
   Splits wanted IsShown IsRefusal (Ok p) = (n : ℕ) × IsRunLength n × (wanted ≡ true → 0 < n) × IsRest w i n p.0 × IsShown i n p.1
-  Splits wanted IsShown IsRefusal (Std.Err e) = (IsRunOpen × ((k : Needed) × (size_of k ≡ Some 1) × (e ≡ Incomplete k))) ⊎ ((wanted ≡ true) × IsRunEmpty × IsRefusal e)
+  Splits wanted IsShown IsRefusal (Std.Err e) =
+      (IsRunOpen × ((k : Needed) × (size_of k ≡ Some 1) × (e ≡ Incomplete k))) ⊎ ((wanted ≡ true) × IsRunEmpty × IsRefusal e)

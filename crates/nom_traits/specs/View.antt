@@ -30,16 +30,32 @@ abbrev pub view_4 : {A B C D : Type 0} → View A → View B → View C → View
 view_4 a b c d = record { Value = a.Value × b.Value × c.Value × d.Value; value = λ p. (a.value p.0, b.value p.1, c.value p.2, d.value p.3) }
 
 abbrev pub view_5 : {A B C D E : Type 0} → View A → View B → View C → View D → View E → View (A × B × C × D × E)
-view_5 a b c d e = record { Value = a.Value × b.Value × c.Value × d.Value × e.Value; value = λ p. (a.value p.0, b.value p.1, c.value p.2, d.value p.3, e.value p.4) }
+view_5 a b c d e = record {
+  Value = a.Value × b.Value × c.Value × d.Value × e.Value;
+  value =
+      λ p. (a.value p.0, b.value p.1, c.value p.2, d.value p.3, e.value p.4);
+}
 
 abbrev pub view_6 : {A B C D E F : Type 0} → View A → View B → View C → View D → View E → View F → View (A × B × C × D × E × F)
-view_6 a b c d e f = record { Value = a.Value × b.Value × c.Value × d.Value × e.Value × f.Value; value = λ p. (a.value p.0, b.value p.1, c.value p.2, d.value p.3, e.value p.4, f.value p.5) }
+view_6 a b c d e f = record {
+  Value = a.Value × b.Value × c.Value × d.Value × e.Value × f.Value;
+  value =
+      λ p. (a.value p.0, b.value p.1, c.value p.2, d.value p.3, e.value p.4, f.value p.5);
+}
 
 abbrev pub view_7 : {A B C D E F G : Type 0} → View A → View B → View C → View D → View E → View F → View G → View (A × B × C × D × E × F × G)
-view_7 a b c d e f g = record { Value = a.Value × b.Value × c.Value × d.Value × e.Value × f.Value × g.Value; value = λ p. (a.value p.0, b.value p.1, c.value p.2, d.value p.3, e.value p.4, f.value p.5, g.value p.6) }
+view_7 a b c d e f g = record {
+  Value = a.Value × b.Value × c.Value × d.Value × e.Value × f.Value × g.Value;
+  value =
+      λ p. (a.value p.0, b.value p.1, c.value p.2, d.value p.3, e.value p.4, f.value p.5, g.value p.6);
+}
 
 abbrev pub view_8 : {A B C D E F G H : Type 0} → View A → View B → View C → View D → View E → View F → View G → View H → View (A × B × C × D × E × F × G × H)
-view_8 a b c d e f g h = record { Value = a.Value × b.Value × c.Value × d.Value × e.Value × f.Value × g.Value × h.Value; value = λ p. (a.value p.0, b.value p.1, c.value p.2, d.value p.3, e.value p.4, f.value p.5, g.value p.6, h.value p.7) }
+view_8 a b c d e f g h = record {
+  Value = a.Value × b.Value × c.Value × d.Value × e.Value × f.Value × g.Value × h.Value;
+  value =
+      λ p. (a.value p.0, b.value p.1, c.value p.2, d.value p.3, e.value p.4, f.value p.5, g.value p.6, h.value p.7);
+}
 
 abbrev pub view_some : {A : Type 0} (a : View A) → Option A → Option a.Value
 view_some a (Some x) = Some (a.value x)

@@ -311,7 +311,8 @@ fn compare_text_no_case(text: &str, tag: &[u8]) -> CompareResult
 /// characters.
 #[inline(always)]
 fn between_characters(text: &str, tag: &[u8], found: CompareResult) -> CompareResult
-    ensures { (form : List ℕ → List ℕ) → IsForm form → ComparesAs (λ xs. xs) form tag.now text.now found → ComparesAs encode_utf8_all form tag.now (chars text.now) result }
+    ensures { (form : List ℕ → List ℕ) → IsForm form → ComparesAs (λ xs. xs) form tag.now text.now found →
+        ComparesAs encode_utf8_all form tag.now (chars text.now) result }
 {
     text.known();
     match found {

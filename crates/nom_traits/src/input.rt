@@ -117,7 +117,8 @@ pub trait Input: Items + Viewed {
 
     /// What `position_outside` answers, where the input knows a quicker way than item by item.
     fn class_end(&self, class: AsciiClass) -> Option<Option<usize>>
-        ensures { MatchOption result (Unit {0}) (λ place. IsPosition Self.seen (λ x. IsInside class (Self.Item.code x)) (λ x. IsOutside class (Self.Item.code x)) self.now place) }
+        ensures { MatchOption result (Unit {0})
+            (λ place. IsPosition Self.seen (λ x. IsInside class (Self.Item.code x)) (λ x. IsOutside class (Self.Item.code x)) self.now place) }
     {
         None
     }
@@ -203,7 +204,8 @@ pub trait Input: Items + Viewed {
         kind: ErrorKind,
     ) -> IResult<Self, Self, E>
         requires { P.IsAlwaysCallable predicate }
-        ensures { Splits Self.seen (λ x. P.post predicate x false) (λ x. P.post predicate x true) true self.now true (IsFront Self.seen) (RefusesWith (E.errors.of_kind self.now kind) E.errors.grows) result }
+        ensures { Splits Self.seen (λ x. P.post predicate x false) (λ x. P.post predicate x true) true self.now true (IsFront Self.seen)
+            (RefusesWith (E.errors.of_kind self.now kind) E.errors.grows) result }
     {
         match run_len::<Self, Streaming, P>(*self, predicate) {
             Some(n) if n == 0 => Err(refused(*self, kind)),
@@ -236,7 +238,8 @@ pub trait Input: Items + Viewed {
         kind: ErrorKind,
     ) -> IResult<Self, Self, E>
         requires { P.IsAlwaysCallable predicate }
-        ensures { Splits Self.seen (λ x. P.post predicate x false) (λ x. P.post predicate x true) false self.now true (IsFront Self.seen) (RefusesWith (E.errors.of_kind self.now kind) E.errors.grows) result }
+        ensures { Splits Self.seen (λ x. P.post predicate x false) (λ x. P.post predicate x true) false self.now true (IsFront Self.seen)
+            (RefusesWith (E.errors.of_kind self.now kind) E.errors.grows) result }
     {
         match run_len::<Self, Complete, P>(*self, predicate) {
             Some(n) if n == 0 => Err(refused(*self, kind)),
@@ -253,7 +256,8 @@ pub trait Input: Items + Viewed {
         predicate: P,
     ) -> PResult<Self, Self, E>
         requires { P.IsAlwaysCallable predicate }
-        ensures { Splits Self.seen (λ x. P.post predicate x false) (λ x. P.post predicate x true) OM.Incomplete.STREAMING self.now false (FrontBuilt Self.seen OM.Output.BUILDS) Never result }
+        ensures { Splits Self.seen (λ x. P.post predicate x false)
+            (λ x. P.post predicate x true) OM.Incomplete.STREAMING self.now false (FrontBuilt Self.seen OM.Output.BUILDS) Never result }
     {
         match run_len::<Self, OM::Incomplete, P>(*self, predicate) {
             Some(n) => Ok((self.take_from(n), front_built::<OM::Output, Self>(*self, n))),
@@ -270,7 +274,9 @@ pub trait Input: Items + Viewed {
         E: ParseError<Self>,
     >(&self, predicate: P, kind: ErrorKind) -> PResult<Self, Self, E>
         requires { P.IsAlwaysCallable predicate }
-        ensures { Splits Self.seen (λ x. P.post predicate x false) (λ x. P.post predicate x true) OM.Incomplete.STREAMING self.now true (FrontBuilt Self.seen OM.Output.BUILDS) (Refuses (E.errors.of_kind self.now kind) E.errors.grows OM.Error.BUILDS) result }
+        ensures { Splits Self.seen (λ x. P.post predicate x false)
+            (λ x. P.post predicate x true) OM.Incomplete.STREAMING self.now true (FrontBuilt Self.seen OM.Output.BUILDS)
+            (Refuses (E.errors.of_kind self.now kind) E.errors.grows OM.Error.BUILDS) result }
     {
         match run_len::<Self, OM::Incomplete, P>(*self, predicate) {
             Some(n) if n == 0 => Err(refusal::<OM::Error, Self, E>(*self, kind)),

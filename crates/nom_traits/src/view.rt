@@ -1,5 +1,6 @@
 //! What outputs are compared by.
-ghost use Rattle.nom_traits.specs.View.{View, itself, single_view, pair_view, view_3, view_4, view_5, view_6, view_7, view_8, option_view, result_view, list_view, vec_view, deque_view, box_view, string_view, behind_view, text_view};
+ghost use Rattle.nom_traits.specs.View.{View, itself, single_view, pair_view, view_3, view_4, view_5, view_6, view_7, view_8, option_view};
+ghost use Rattle.nom_traits.specs.View.{result_view, list_view, vec_view, deque_view, box_view, string_view, behind_view, text_view};
 
 use std::alloc::Allocator;
 use std::cmp::Ordering;

@@ -1,7 +1,8 @@
 //! Classes, tokens, searches, bytes and builders.
 ghost use Rattle.std.specs.Prelude.{◌≡◌, ℕ, ◌<◌, ◌∷◌, ◌++◌, [], Some, IfOk, IfSome};
 ghost use Rattle.nom_traits.specs.Input.{IsFront, input_len};
-ghost use Rattle.nom_traits.specs.Classes.{is_alpha_code, is_alphanum_code, is_bin_digit_code, is_dec_digit_code, is_hex_digit_code, is_newline_code, is_oct_digit_code, is_space_code};
+ghost use Rattle.nom_traits.specs.Classes.{is_alpha_code, is_alphanum_code, is_bin_digit_code, is_dec_digit_code, is_hex_digit_code, is_newline_code};
+ghost use Rattle.nom_traits.specs.Classes.{is_oct_digit_code, is_space_code};
 
 use nom_error::answer::OutOfMemory;
 use nom_search::bytes::{AsBytes, ByteItems};
@@ -15,7 +16,8 @@ use std::alloc::{AllocError, Allocator};
 /// Whether an item is a letter, a letter or digit, a decimal, hexadecimal, octal and binary digit, a
 /// space, and the end of a line.
 fn classes<C: AsChar>(item: C) -> [bool; 8]
-    ensures { let c = C.code item in result ≡ is_alpha_code c ∷ is_alphanum_code c ∷ is_dec_digit_code c ∷ is_hex_digit_code c ∷ is_oct_digit_code c ∷ is_bin_digit_code c ∷ is_space_code c ∷ is_newline_code c ∷ [] }
+    ensures { let c = C.code item in result ≡ is_alpha_code c ∷ is_alphanum_code c ∷ is_dec_digit_code c ∷ is_hex_digit_code c ∷ is_oct_digit_code c ∷
+        is_bin_digit_code c ∷ is_space_code c ∷ is_newline_code c ∷ [] }
 {
     [
         item.is_alpha(),

@@ -7,4 +7,5 @@ abbrev pub invariant-loop-byte : goal.invariant-loop-byte
 invariant-loop-byte g l =
     (goal.iterator-loop-byte g).can_next l.byte-iterator
     × (goal.iterator-loop-byte g).is_finite l.byte-iterator
-    × IsSpelling (goal.iterator-loop-byte g).next_gives (spelled (take l.fn.count ((seen_bits g.I.Items.seen).elements l.fn.start))) l.left l.passed l.value l.byte-iterator
+    × IsSpelling (goal.iterator-loop-byte g).next_gives (spelled (take l.fn.count ((seen_bits g.I.Items.seen).elements l.fn.start))) l.left l.passed
+    l.value l.byte-iterator

@@ -5,5 +5,6 @@ use Rattle.nom_digits.proofs.part.parts.Goals as goal
 
 pub returns : goal.returns
 returns g c t r =
-    let made = parts_made g.I.Items.seen g.I.Item.Value.code c.args.read c.no_minus.result c.integer_part.result c.fraction_part.result c.power_of.result c.no_minus.ensures c.integer_part.ensures c.fraction_part.ensures c.power_of.ensures t r in
+    let made = parts_made g.I.Items.seen g.I.Item.Value.code c.args.read c.no_minus.result c.integer_part.result c.fraction_part.result
+    c.power_of.result c.no_minus.ensures c.integer_part.ensures c.fraction_part.ensures c.power_of.ensures t r in
     (made.0, made.1, made.2, to_z-of_z w32 c.power_of.result (record { sfits = c.power_of.type_inv }) ∙ made.3)

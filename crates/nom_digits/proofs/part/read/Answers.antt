@@ -10,6 +10,39 @@ returns g c =
     let behind = both.0.second.parser in
     let alone = both.1 in
     let power = c.pair-shape.result.second.parser in
-    let found = part_wants sign.0.wanted sign.1.wanted behind.0.first.wanted alone.second.first.wanted power.first.parser.0.wanted power.first.parser.1.wanted behind.0.second.class behind.0.second.wanted behind.1.class behind.1.wanted alone.first.class alone.first.wanted power.second.parser.signed in
-    let same : found ≡ parts_want = rw (c.pair-shape.ensures.first, c.pair-shape.ensures.second, c.pair-2.ensures.first, c.pair-2.ensures.second, c.opt.ensures, c.either.ensures.first, c.either.ensures.second, c.alt-both.ensures, c.pair.ensures.second, c.pair-alone.ensures.first, c.pair-alone.ensures.second, c.preceded-2.ensures.first, c.char-2.ensures, c.digit0-3.ensures.class, c.digit0-3.ensures.wanted, c.alt-behind.ensures, c.preceded.ensures.first, c.preceded.ensures.second, c.char.ensures, c.digit0.ensures.class, c.digit0.ensures.wanted, c.digit0-2.ensures.class, c.digit0-2.ensures.wanted, c.opt-power.ensures, c.preceded-3.ensures.first, c.preceded-3.ensures.second, c.either-2.ensures.first, c.either-2.ensures.second, c.cut.ensures) refl in
+    let found = part_wants sign.0.wanted sign.1.wanted behind.0.first.wanted alone.second.first.wanted power.first.parser.0.wanted
+    power.first.parser.1.wanted behind.0.second.class behind.0.second.wanted behind.1.class behind.1.wanted alone.first.class alone.first.wanted
+    power.second.parser.signed in
+    let same : found ≡ parts_want =
+    rw (
+      c.pair-shape.ensures.first,
+      c.pair-shape.ensures.second,
+      c.pair-2.ensures.first,
+      c.pair-2.ensures.second,
+      c.opt.ensures,
+      c.either.ensures.first,
+      c.either.ensures.second,
+      c.alt-both.ensures,
+      c.pair.ensures.second,
+      c.pair-alone.ensures.first,
+      c.pair-alone.ensures.second,
+      c.preceded-2.ensures.first,
+      c.char-2.ensures,
+      c.digit0-3.ensures.class,
+      c.digit0-3.ensures.wanted,
+      c.alt-behind.ensures,
+      c.preceded.ensures.first,
+      c.preceded.ensures.second,
+      c.char.ensures,
+      c.digit0.ensures.class,
+      c.digit0.ensures.wanted,
+      c.digit0-2.ensures.class,
+      c.digit0-2.ensures.wanted,
+      c.opt-power.ensures,
+      c.preceded-3.ensures.first,
+      c.preceded-3.ensures.second,
+      c.either-2.ensures.first,
+      c.either-2.ensures.second,
+      c.cut.ensures,
+    ) refl in
     parts_shown g.I.Items.seen g.I.Item.Value.code g.E.ParseError.errors found _ c.args.input _ same c.process.ensures.shown

@@ -11,7 +11,9 @@ use Rattle.nom_error.proofs.laws.answers_are_equal.Given as given
 use Rattle.nom_error.proofs.laws.answers_are_equal.Goals as goal
 
 module _ (g : given.Over) where
-  same_answers : (x y : Answer.Err g.row.F.Denot g.row.E.Denot Needed) → let same = (Same.ghosts g.row.F g.row.E the_row g.F.PartialEq g.F.PartialEq-dict g.E.PartialEq g.E.PartialEq-dict Need.ghosts Need.dict).eq x y in (IsTrue same → AreSame g.F.PartialEq.eq g.E.PartialEq.eq x y) × (AreSame g.F.PartialEq.eq g.E.PartialEq.eq x y → IsTrue same)
+  same_answers : (x y : Answer.Err g.row.F.Denot g.row.E.Denot Needed) → let same =
+      (Same.ghosts g.row.F g.row.E the_row g.F.PartialEq g.F.PartialEq-dict g.E.PartialEq g.E.PartialEq-dict Need.ghosts Need.dict).eq x y in
+      (IsTrue same → AreSame g.F.PartialEq.eq g.E.PartialEq.eq x y) × (AreSame g.F.PartialEq.eq g.E.PartialEq.eq x y → IsTrue same)
   same_answers (Incomplete k) (Incomplete l) = same_needs k l
   same_answers (Incomplete k) (Error e) = search rules
   same_answers (Incomplete k) (Failure e) = search rules
@@ -31,6 +33,7 @@ module _ (g : given.Over) where
 
 pub returns : goal.returns
 returns g c =
-    let e : c.eq.result ≡ (Same.ghosts g.row.F g.row.E the_row g.F.PartialEq g.F.PartialEq-dict g.E.PartialEq g.E.PartialEq-dict Need.ghosts Need.dict).eq c.args.answer.now c.args.other.now = c.eq.ensures in
+    let e : c.eq.result ≡ (Same.ghosts g.row.F g.row.E the_row g.F.PartialEq g.F.PartialEq-dict g.E.PartialEq g.E.PartialEq-dict Need.ghosts
+    Need.dict).eq c.args.answer.now c.args.other.now = c.eq.ensures in
     let law = same_answers g c.args.answer.now c.args.other.now in
     (λ t. law.0 (sym e ∙ t), λ s. e ∙ law.1 s)

@@ -11,7 +11,8 @@ pub parse-requires-2 : goal.parse-requires-2
 parse-requires-2 c = record { sound = ((pair_parser, pair_parser), pair_parser) }
 
 pub returns-in_err-input-2 : goal.returns-in_err-input-2
-returns-in_err-input-2 c = color_missing (mark_taken _ (ap (λ x. x.now) c.tag.ensures) c.in_ok-input.ensures.shown) (triple_fault c.in_err-input-2.ensures.shown) c.from_residual-in_err-input-2.ensures
+returns-in_err-input-2 c = color_missing (mark_taken _ (ap (λ x. x.now) c.tag.ensures) c.in_ok-input.ensures.shown)
+    (triple_fault c.in_err-input-2.ensures.shown) c.from_residual-in_err-input-2.ensures
 
 pub returns : goal.returns
 returns c = color_answer (mark_taken _ (ap (λ x. x.now) c.tag.ensures) c.in_ok-input.ensures.shown) (triple_read c.in_ok-input-2.ensures.shown)

@@ -2,9 +2,11 @@ use Rattle.nom_iterator.proofs.Staying.{items_stay, outputs_stay}
 use Rattle.nom_iterator.proofs.promises.items_stay.Goals as goal
 
 pub returns-clause-items : goal.returns-clause-items
-returns-clause-items g c = items_stay _ g.met.I.Items.lawful (g.P.Parser.meaning (g.P.Parser.state c.args._parser.now)) (g.met.P.StreamParser.steady _ c.requires)
+returns-clause-items g c = items_stay _ g.met.I.Items.lawful (g.P.Parser.meaning (g.P.Parser.state c.args._parser.now))
+    (g.met.P.StreamParser.steady _ c.requires)
 
 pub returns-clause-outputs : goal.returns-clause-outputs
 returns-clause-outputs g c =
     let p = g.P.Parser.state c.args._parser.now in
-    outputs_stay _ g.met.I.Items.lawful (g.P.Parser.meaning p) g.P.Output.Viewed.view (g.P.Parser.Pins p) (g.P.Parser.IsOutput p) (g.met.P.StreamParser.steady _ c.requires) (g.met.P.StreamParser.pinned _ c.requires)
+    outputs_stay _ g.met.I.Items.lawful (g.P.Parser.meaning p) g.P.Output.Viewed.view (g.P.Parser.Pins p) (g.P.Parser.IsOutput p)
+    (g.met.P.StreamParser.steady _ c.requires) (g.met.P.StreamParser.pinned _ c.requires)

@@ -9,4 +9,5 @@ pub loop-left-smaller : goal.loop-left-smaller
 loop-left-smaller g c = omega (arith, first_positive g.met.I.Items.lawful c.in-Ok.ensures, c.loop-left-test.true)
 
 pub loop-left-preserved : goal.loop-left-preserved
-loop-left-preserved g c = reaching_goes_on g.met.I.Items.lawful c.loop-left.invariant c.in-Ok.first _ _ c.take_from-rest.ensures (omega (arith, c.if-first-left.false))
+loop-left-preserved g c = reaching_goes_on g.met.I.Items.lawful c.loop-left.invariant c.in-Ok.first _ _ c.take_from-rest.ensures
+    (omega (arith, c.if-first-left.false))

@@ -7,7 +7,8 @@ use Rattle.std.proofs.Common.{inl}
 use Rattle.nom_repeat.proofs.Parts.{shown_at}
 use Rattle.nom_repeat.proofs.Repeated.{collected_none}
 use Rattle.nom_repeat.proofs.ItemsShown.{items_full, items_too_few, items_failed, items_lack, items_part_ran_out, items_more}
-use Rattle.nom_multi.proofs.FillShown.{one_longer, holds_none, holds_more, still_long, fits, is_over, stops_full, stops_refused, stops_failed, stops_undecided, stops_without_memory, filled}
+use Rattle.nom_multi.proofs.FillShown.{one_longer, holds_none, holds_more, still_long, fits, is_over, stops_full, stops_refused, stops_failed}
+use Rattle.nom_multi.proofs.FillShown.{stops_undecided, stops_without_memory, filled}
 use Rattle.nom_multi.proofs.buffer.fill_buffer.Goals as goal
 use Rattle.nom_repeat.specs.Bounds.{exact_limits}
 
@@ -27,7 +28,11 @@ loop-count-preserved g c =
     record {
       state_kept = cc;
       length_kept = still_long _ _ _ _ i.length_kept c.put.ensures;
-      collected = items_more g.met.I.Items.lawful (exact_limits (length c.args.buffer.now)) i.collected below item (inl refl) (holds_more (g.F.Parser.IsOutput (g.F.Parser.state c.args.parser.now)) _ _ _ _ _ _ _ _ i.collected.held.0 i.collected.held.1 (fits c.loop-count-test.true i.length_kept refl) item.built_is c.put.ensures, one_longer _ _ i.collected.held.1);
+      collected = items_more g.met.I.Items.lawful (exact_limits (length c.args.buffer.now)) i.collected below item (inl refl) (
+        holds_more (g.F.Parser.IsOutput (g.F.Parser.state c.args.parser.now)) _ _ _ _ _ _ _ _ i.collected.held.0 i.collected.held.1
+            (fits c.loop-count-test.true i.length_kept refl) item.built_is c.put.ensures,
+        one_longer _ _ i.collected.held.1,
+      );
     }
 
 pub returns-in-Err-Error-clause-shown : goal.returns-in-Err-Error-clause-shown
@@ -35,7 +40,8 @@ returns-in-Err-Error-clause-shown g c =
     let i = c.loop-count.invariant in
     let part = shown_at g.F.Parser.IsOutput g.F.Parser.meaning i.state_kept c.in-Err-Error.ensures.shown in
     let below = fits c.loop-count-test.true i.length_kept i.collected.held.1 in
-    items_too_few g.F.Error.ParseError.errors (exact_limits (length c.args.buffer.now)) ⊥ (g.F.Parser.meaning (g.F.Parser.state c.args.parser.now)) i.collected below (lt-ltb _ _ below) (Added Kind.Count) refl c.in-Err-Error.field-0-is part refl c.close_error.ensures
+    items_too_few g.F.Error.ParseError.errors (exact_limits (length c.args.buffer.now)) ⊥ (g.F.Parser.meaning (g.F.Parser.state c.args.parser.now))
+    i.collected below (lt-ltb _ _ below) (Added Kind.Count) refl c.in-Err-Error.field-0-is part refl c.close_error.ensures
 
 pub returns-in-Err-Error-clause-filled : goal.returns-in-Err-Error-clause-filled
 returns-in-Err-Error-clause-filled g c =
@@ -49,7 +55,8 @@ returns-in-Err-Failure-clause-shown g c =
     let i = c.loop-count.invariant in
     let part = shown_at g.F.Parser.IsOutput g.F.Parser.meaning i.state_kept c.in-Err-Failure.ensures.shown in
     let below = fits c.loop-count-test.true i.length_kept i.collected.held.1 in
-    items_failed g.F.Error.ParseError.errors (exact_limits (length c.args.buffer.now)) ⊥ (g.F.Parser.meaning (g.F.Parser.state c.args.parser.now)) i.collected below c.in-Err-Failure.field-0-is part
+    items_failed g.F.Error.ParseError.errors (exact_limits (length c.args.buffer.now)) ⊥ (g.F.Parser.meaning (g.F.Parser.state c.args.parser.now))
+    i.collected below c.in-Err-Failure.field-0-is part
 
 pub returns-in-Err-Failure-clause-filled : goal.returns-in-Err-Failure-clause-filled
 returns-in-Err-Failure-clause-filled g c =
@@ -63,7 +70,8 @@ returns-in-Err-Incomplete-clause-shown g c =
     let i = c.loop-count.invariant in
     let part = shown_at g.F.Parser.IsOutput g.F.Parser.meaning i.state_kept c.in-Err-Incomplete.ensures.shown in
     let below = fits c.loop-count-test.true i.length_kept i.collected.held.1 in
-    items_lack g.F.Error.ParseError.errors (exact_limits (length c.args.buffer.now)) ⊥ (g.F.Parser.meaning (g.F.Parser.state c.args.parser.now)) i.collected below c.in-Err-Incomplete.field-0-is part
+    items_lack g.F.Error.ParseError.errors (exact_limits (length c.args.buffer.now)) ⊥ (g.F.Parser.meaning (g.F.Parser.state c.args.parser.now))
+    i.collected below c.in-Err-Incomplete.field-0-is part
 
 pub returns-in-Err-Incomplete-clause-filled : goal.returns-in-Err-Incomplete-clause-filled
 returns-in-Err-Incomplete-clause-filled g c =
@@ -77,21 +85,25 @@ returns-in-Err-OutOfMemory-clause-shown g c =
     let i = c.loop-count.invariant in
     let part = shown_at g.F.Parser.IsOutput g.F.Parser.meaning i.state_kept c.in-Err-OutOfMemory.ensures.shown in
     let below = fits c.loop-count-test.true i.length_kept i.collected.held.1 in
-    items_part_ran_out g.F.Error.ParseError.errors (exact_limits (length c.args.buffer.now)) ⊥ (g.F.Parser.meaning (g.F.Parser.state c.args.parser.now)) i.collected below c.in-Err-OutOfMemory.field-0-is part
+    items_part_ran_out g.F.Error.ParseError.errors (exact_limits (length c.args.buffer.now)) ⊥ (g.F.Parser.meaning (g.F.Parser.state c.args.parser.now))
+    i.collected below c.in-Err-OutOfMemory.field-0-is part
 
 pub returns-in-Err-OutOfMemory-clause-filled : goal.returns-in-Err-OutOfMemory-clause-filled
 returns-in-Err-OutOfMemory-clause-filled g c =
     let i = c.loop-count.invariant in
     let part = shown_at g.F.Parser.IsOutput g.F.Parser.meaning i.state_kept c.in-Err-OutOfMemory.ensures.shown in
     let below = fits c.loop-count-test.true i.length_kept i.collected.held.1 in
-    filled i.collected (stops_without_memory (g.F.Parser.meaning (g.F.Parser.state c.args.parser.now)) _ _ i.collected below c.in-Err-OutOfMemory.field-0-is part refl)
+    filled i.collected (stops_without_memory (g.F.Parser.meaning (g.F.Parser.state c.args.parser.now)) _ _ i.collected below
+    c.in-Err-OutOfMemory.field-0-is part refl)
 
 pub returns-clause-shown : goal.returns-clause-shown
 returns-clause-shown g c =
     let i = c.loop-count.invariant in
-    items_full g.F.Error.ParseError.errors (exact_limits (length c.args.buffer.now)) ⊥ (g.F.Parser.meaning (g.F.Parser.state c.args.parser.now)) i.collected (is_over c.loop-count-test.false i.length_kept i.collected.held.1) c.done.ensures
+    items_full g.F.Error.ParseError.errors (exact_limits (length c.args.buffer.now)) ⊥ (g.F.Parser.meaning (g.F.Parser.state c.args.parser.now))
+    i.collected (is_over c.loop-count-test.false i.length_kept i.collected.held.1) c.done.ensures
 
 pub returns-clause-filled : goal.returns-clause-filled
 returns-clause-filled g c =
     let i = c.loop-count.invariant in
-    filled i.collected (stops_full (g.F.Parser.meaning (g.F.Parser.state c.args.parser.now)) _ _ i.collected (is_over c.loop-count-test.false i.length_kept i.collected.held.1))
+    filled i.collected (stops_full (g.F.Parser.meaning (g.F.Parser.state c.args.parser.now)) _ _ i.collected
+    (is_over c.loop-count-test.false i.length_kept i.collected.held.1))

@@ -10,7 +10,11 @@ abbrev pub invariant-loop-count : goal.invariant-loop-count
 invariant-loop-count g l = record {
   state_kept : g.F.Parser.state l.parser ≡ g.F.Parser.state l.fn.parser;
   length_kept : length l.buffer ≡ length l.fn.buffer;
-  collected : Collected g.I.Items.seen (TurnsBy (Some (length l.fn.buffer)) (item_turn (exact_limits (length l.fn.buffer))) (λ _. (g.F.Parser.meaning (g.F.Parser.state l.fn.parser)).answers g.OM.Incomplete.IsStreaming.STREAMING)) (λ vs. Holds (g.F.Parser.IsOutput (g.F.Parser.state l.fn.parser)) g.OM.Output.Mode.BUILDS l.fn.buffer vs l.buffer × (l.count ≡ length vs)) l.fn.input l.rest;
+  collected : Collected g.I.Items.seen
+      (TurnsBy (Some (length l.fn.buffer)) (item_turn (exact_limits (length l.fn.buffer)))
+      (λ _. (g.F.Parser.meaning (g.F.Parser.state l.fn.parser)).answers g.OM.Incomplete.IsStreaming.STREAMING))
+      (λ vs. Holds (g.F.Parser.IsOutput (g.F.Parser.state l.fn.parser)) g.OM.Output.Mode.BUILDS l.fn.buffer vs l.buffer × (l.count ≡ length vs))
+      l.fn.input l.rest;
 }
 
 abbrev pub decreases-loop-count : goal.decreases-loop-count

@@ -10,9 +10,11 @@ number-requires g c = omega (arith, taken_count g.I.Items.seen g.met.I.Items.law
 
 pub from_bits-requires : goal.from_bits-requires
 from_bits-requires g c =
-    subst (λ m. c.number.result < 2 ^ (8 * m)) (taken_count g.I.Items.seen g.met.I.Items.lawful _ _ _ c.take.result c.requires c.take.ensures) c.number.ensures.bits
+    subst (λ m. c.number.result < 2 ^ (8 * m)) (taken_count g.I.Items.seen g.met.I.Items.lawful _ _ _ c.take.result c.requires c.take.ensures)
+    c.number.ensures.bits
 
 pub returns-then-BUILDS : goal.returns-then-BUILDS
 returns-then-BUILDS g c = λ t h.
     let items = (front_seen g.I.Items.seen g.met.I.Items.lawful _ _ c.take.result t c.take.ensures h).elements_are in
-    some_built _ _ _ (sym c.BUILDS.ensures ∙ c.if-BUILDS.true) (c.from_bits.ensures ∙ ap g.F.Layout.of_bits (c.number.ensures.value ∙ ap (number_of c.args.big) items))
+    some_built _ _ _ (sym c.BUILDS.ensures ∙ c.if-BUILDS.true)
+    (c.from_bits.ensures ∙ ap g.F.Layout.of_bits (c.number.ensures.value ∙ ap (number_of c.args.big) items))

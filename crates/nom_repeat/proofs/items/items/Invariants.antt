@@ -12,7 +12,11 @@ use Rattle.nom_repeat.proofs.items.items.Given as goal
 abbrev pub invariant-loop-input : goal.invariant-loop-input
 invariant-loop-input g l = record {
   state_kept : g.F.Parser.state l.parser ≡ g.F.Parser.state l.fn.parser;
-  collected : Collected g.I.Items.seen (TurnsBy l.fn.limits.most (item_turn l.fn.limits) (λ _. (g.F.Parser.meaning (g.F.Parser.state l.fn.parser)).answers g.OM.Incomplete.IsStreaming.STREAMING)) (λ vs. Built g.OM.Output.Mode.BUILDS (Kept g.K.Keep.Gains g.K.Keep.CanKeep (g.F.Parser.IsOutput (g.F.Parser.state l.fn.parser)) l.fn.before vs) l.kept × Counts l.fn.limits.most l.count vs) l.fn.input l.rest;
+  collected : Collected g.I.Items.seen
+      (TurnsBy l.fn.limits.most (item_turn l.fn.limits)
+      (λ _. (g.F.Parser.meaning (g.F.Parser.state l.fn.parser)).answers g.OM.Incomplete.IsStreaming.STREAMING))
+      (λ vs. Built g.OM.Output.Mode.BUILDS (Kept g.K.Keep.Gains g.K.Keep.CanKeep (g.F.Parser.IsOutput (g.F.Parser.state l.fn.parser)) l.fn.before vs)
+      l.kept × Counts l.fn.limits.most l.count vs) l.fn.input l.rest;
   can_keep : IfSome l.kept g.K.Keep.CanKeep;
 }
 

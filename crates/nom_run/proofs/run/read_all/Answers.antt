@@ -9,7 +9,8 @@ loop-turn-preserved g c =
     let n-is = c.in-Ok.ensures.bound.1 in
     let old : c.loop-turn._turn ≤ length c.loop-turn.bytes.items = c.loop-turn.invariant.turns in
     record {
-      read = rw kept (consumes-more (g.S.Source.left c.args.source.now) (g.S.Source.left c.loop-turn.source) (g.S.Source.left c.read.new.self) c.loop-turn.bytes.items (take c.in-Ok.count c.read.new.room) c.loop-turn.invariant.read c.in-Ok.ensures.bytes.0);
+      read = rw kept (consumes-more (g.S.Source.left c.args.source.now) (g.S.Source.left c.loop-turn.source)
+          (g.S.Source.left c.read.new.self) c.loop-turn.bytes.items (take c.in-Ok.count c.read.new.room) c.loop-turn.invariant.read c.in-Ok.ensures.bytes.0);
       failures = c.in-Ok.ensures.counts ∙ c.loop-turn.invariant.failures;
       turns = rw (kept, length-append) (omega (arith, some, n-is, old));
     }
@@ -22,7 +23,8 @@ returns-in-Err-keep-clause-error g c =
       c.in-Ok.ensures.counts ∙ c.loop-turn.invariant.failures,
       record {
         bytes = c.loop-turn.bytes.items ++ more;
-        read = consumes-more (g.S.Source.left c.args.source.now) (g.S.Source.left c.loop-turn.source) (g.S.Source.left c.read.new.self) c.loop-turn.bytes.items more c.loop-turn.invariant.read c.in-Ok.ensures.bytes.0;
+        read = consumes-more (g.S.Source.left c.args.source.now) (g.S.Source.left c.loop-turn.source)
+            (g.S.Source.left c.read.new.self) c.loop-turn.bytes.items more c.loop-turn.invariant.read c.in-Ok.ensures.bytes.0;
         some = rw length-append (omega (arith, some, n-is));
       },
     )

@@ -11,7 +11,9 @@ loop-at-preserved g c =
     let some : 0 < c.in-Ok.count = omega (arith, c.if-count-eq0.false) in
     record {
       within = omega arith;
-      wrote = rw (take-on c.args.text.now c.loop-at.at c.in-Ok.count low high) (appends-more (g.W.Sink.held c.args.sink.now) (g.W.Sink.held c.loop-at.sink) (g.W.Sink.held c.write.new.self) _ _ c.loop-at.invariant.wrote c.in-Ok.ensures.bytes);
+      wrote = rw (take-on c.args.text.now c.loop-at.at c.in-Ok.count low high)
+          (appends-more (g.W.Sink.held c.args.sink.now) (g.W.Sink.held c.loop-at.sink)
+          (g.W.Sink.held c.write.new.self) _ _ c.loop-at.invariant.wrote c.in-Ok.ensures.bytes);
       failures = c.in-Ok.ensures.counts ∙ c.loop-at.invariant.failures;
       stalls = c.in-Ok.ensures.stalled.0 some ∙ c.loop-at.invariant.stalls;
     }

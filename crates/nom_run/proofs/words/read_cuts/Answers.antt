@@ -19,4 +19,5 @@ returns-in-Err-clause-error g c =
     let ws = map (λ (w : Bor (List ℕ)). w.now) c.args.words.now in
     let here : IsNumber (slice_index_or ws i []) × (c.in-Some.cut ≡ number_of (slice_index_or ws i [])) =
     rw (word-is c.args.words.now i (record { ref_ptr = (0, 0); now = [] })) c.in-Some.ensures in
-    starts_with_numbers ws c.loop-word.cuts.items i c.loop-word.floor c.in-Some.cut n.lengths n.each n.ordered n.last here c.if-cut-floor.false (search (common_steps))
+    starts_with_numbers ws c.loop-word.cuts.items i c.loop-word.floor c.in-Some.cut n.lengths n.each n.ordered n.last here c.if-cut-floor.false
+    (search (common_steps))

@@ -7,7 +7,8 @@ pub returns-then-is_prefix : goal.returns-then-is_prefix
 returns-then-is_prefix c =
     let bs = c.args.bytes.now in
     let t = c.args.needle.now in
-    found_there bs t c.args.start c.requires.room c.requires.none (subst (λ rest. OccursAt rest t 0) (rest_is bs c.args.start) (c.is_prefix.ensures.0 c.if-is_prefix.true))
+    found_there bs t c.args.start c.requires.room c.requires.none
+    (subst (λ rest. OccursAt rest t 0) (rest_is bs c.args.start) (c.is_prefix.ensures.0 c.if-is_prefix.true))
 
 pub returns-in-Some : goal.returns-in-Some
 returns-in-Some c =

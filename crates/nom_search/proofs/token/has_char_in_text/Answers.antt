@@ -9,7 +9,8 @@ pub returns-then-is_ascii : goal.returns-then-is_ascii
 returns-then-is_ascii c =
     let token = c.args.token in
     let same : c.any_byte_is.result ≡ list_any (λ x. x == token) (chars c.args.text.now) =
-    c.any_byte_is.ensures ∙ (ap (list_any (λ x. x == token)) c.as_bytes.ensures.value ∙ ascii_in_text token (ltb-true token 128 (sym c.is_ascii.ensures ∙ c.if-is_ascii.true)) c.args.text.now c.utf8.text) in (
+    c.any_byte_is.ensures ∙ (ap (list_any (λ x. x == token)) c.as_bytes.ensures.value ∙
+    ascii_in_text token (ltb-true token 128 (sym c.is_ascii.ensures ∙ c.if-is_ascii.true)) c.args.text.now c.utf8.text) in (
       λ h. contained (chars c.args.text.now) token (sym same ∙ h),
       λ h. same ∙ containing (chars c.args.text.now) token h,
     )

@@ -11,8 +11,10 @@ loop-i-preserved c = fronts_more _ _ c.loop-i.i _ c.min-n.ensures c.loop-i-test.
 
 pub returns-then-bytes-tag : goal.returns-then-bytes-tag
 returns-then-bytes-tag c =
-    compared_ok (λ t. t) itself_form _ _ _ c.min-n.ensures (fronts_are _ _ c.loop-i.i _ c.loop-i.auto.i-end c.loop-i-test.false c.loop-i.invariant) c.if-bytes-tag.true
+    compared_ok (λ t. t) itself_form _ _ _ c.min-n.ensures (fronts_are _ _ c.loop-i.i _ c.loop-i.auto.i-end c.loop-i-test.false c.loop-i.invariant)
+    c.if-bytes-tag.true
 
 pub returns-else-bytes-tag : goal.returns-else-bytes-tag
 returns-else-bytes-tag c =
-    compared_incomplete (λ t. t) itself_form _ _ _ c.min-n.ensures (fronts_are _ _ c.loop-i.i _ c.loop-i.auto.i-end c.loop-i-test.false c.loop-i.invariant) c.if-bytes-tag.false
+    compared_incomplete (λ t. t) itself_form _ _ _ c.min-n.ensures
+    (fronts_are _ _ c.loop-i.i _ c.loop-i.auto.i-end c.loop-i-test.false c.loop-i.invariant) c.if-bytes-tag.false

@@ -18,5 +18,8 @@ loop-place-preserved c =
     let run = c.run_in_block-run.ensures in
     let all = c.if-run-lt-BLOCK.false in
     let test = c.loop-place-test.true in
-    let room : c.loop-place.place + 32 ≤ length c.args.bytes.now = omega arith in
-    (room, passed_more (IsInside c.args.class) c.args.bytes.now c.loop-place.place 32 room c.loop-place.invariant.1 (λ k from to. run.passes k from (omega arith)))
+    let room : c.loop-place.place + 32 ≤ length c.args.bytes.now = omega arith in (
+      room,
+      passed_more (IsInside c.args.class) c.args.bytes.now c.loop-place.place 32 room c.loop-place.invariant.1
+          (λ k from to. run.passes k from (omega arith)),
+    )

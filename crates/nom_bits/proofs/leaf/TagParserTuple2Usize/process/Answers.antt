@@ -11,11 +11,16 @@ number_built-requires g c = fits_width _ _ _ c.spelling-number.ensures.range c.r
 
 pub returns-then-number-self-clause-shown : goal.returns-then-number-self-clause-shown
 returns-then-number-self-clause-shown g c =
-    accepted c.spelling-number.result c.in-Some.ensures.rest_is (refl, split_field g.I.Items.seen c.in-Some.ensures c.spelling-number.ensures.number, c.if-number-self.true) c.number_built.ensures
+    accepted c.spelling-number.result c.in-Some.ensures.rest_is (
+      refl,
+      split_field g.I.Items.seen c.in-Some.ensures c.spelling-number.ensures.number,
+      c.if-number-self.true,
+    ) c.number_built.ensures
 
 pub returns-else-number-self-clause-shown : goal.returns-else-number-self-clause-shown
 returns-else-number-self-clause-shown g c =
-    refused (refuses_as (λ e h. inr (split_long g.I.Items.seen c.in-Some.ensures, h)) c.refusal.ensures) (inr (c.spelling-number.result, split_field g.I.Items.seen c.in-Some.ensures c.spelling-number.ensures.number, c.if-number-self.false))
+    refused (refuses_as (λ e h. inr (split_long g.I.Items.seen c.in-Some.ensures, h)) c.refusal.ensures)
+    (inr (c.spelling-number.result, split_field g.I.Items.seen c.in-Some.ensures c.spelling-number.ensures.number, c.if-number-self.false))
 
 pub returns-in-None-clause-shown : goal.returns-in-None-clause-shown
 returns-in-None-clause-shown g c =
@@ -23,4 +28,5 @@ returns-in-None-clause-shown g c =
 
 pub returns-in-None-2-clause-shown : goal.returns-in-None-2-clause-shown
 returns-in-None-2-clause-shown g c =
-    refused (refuses_as (λ e h. inl (c.in-None-2.ensures, h)) c.refusal-in-None-2.ensures) (inl (sym c.STREAMING.ensures ∙ c.if-STREAMING.false, c.in-None-2.ensures))
+    refused (refuses_as (λ e h. inl (c.in-None-2.ensures, h)) c.refusal-in-None-2.ensures)
+    (inl (sym c.STREAMING.ensures ∙ c.if-STREAMING.false, c.in-None-2.ensures))

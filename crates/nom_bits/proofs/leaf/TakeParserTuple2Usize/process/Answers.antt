@@ -11,7 +11,8 @@ number_built-requires g c = fits_width _ _ _ c.spelling-number.ensures.range c.r
 
 pub returns-in-Some-clause-shown : goal.returns-in-Some-clause-shown
 returns-in-Some-clause-shown g c =
-    accepted c.spelling-number.result c.in-Some.ensures.rest_is (refl, split_field g.I.Items.seen c.in-Some.ensures c.spelling-number.ensures.number) c.number_built.ensures
+    accepted c.spelling-number.result c.in-Some.ensures.rest_is (refl, split_field g.I.Items.seen c.in-Some.ensures c.spelling-number.ensures.number)
+    c.number_built.ensures
 
 pub returns-in-None-clause-shown : goal.returns-in-None-clause-shown
 returns-in-None-clause-shown g c =

@@ -15,7 +15,8 @@ returns-clause-shown g c =
     let o0 = g.A.Parser.IsOutput (g.A.Parser.state p.0) in
     let m1 = g.B.Parser.meaning (g.B.Parser.state p.1) in
     let o1 = g.B.Parser.IsOutput (g.B.Parser.state p.1) in
-    let t1 = next_shown w o0 o1 e m0 m1 mode i c.process-answer.result c.next_branch-answer.result c.process-answer.ensures.shown c.next_branch-answer.ensures.shown in
+    let t1 = next_shown w o0 o1 e m0 m1 mode i c.process-answer.result c.next_branch-answer.result c.process-answer.ensures.shown
+    c.next_branch-answer.ensures.shown in
     let a1 = next_meaning e m0 m1 in
     let e1 = EitherOutput o0 o1 in
     choice_shown w e1 e a1 mode i c.next_branch-answer.result c.close.result t1 c.close.ensures

@@ -23,7 +23,8 @@ returns-clause-shown g c =
     let o4 = g.E.Parser.IsOutput (g.E.Parser.state p.4) in
     let m5 = g.F.Parser.meaning (g.F.Parser.state p.5) in
     let o5 = g.F.Parser.IsOutput (g.F.Parser.state p.5) in
-    let t1 = next_shown w o0 o1 e m0 m1 mode i c.process-answer.result c.next_branch-answer.result c.process-answer.ensures.shown c.next_branch-answer.ensures.shown in
+    let t1 = next_shown w o0 o1 e m0 m1 mode i c.process-answer.result c.next_branch-answer.result c.process-answer.ensures.shown
+    c.next_branch-answer.ensures.shown in
     let a1 = next_meaning e m0 m1 in
     let e1 = EitherOutput o0 o1 in
     let t2 = next_shown w e1 o2 e a1 m2 mode i c.next_branch-answer.result c.next_branch-answer-2.result t1 c.next_branch-answer-2.ensures.shown in

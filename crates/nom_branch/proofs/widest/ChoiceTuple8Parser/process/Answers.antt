@@ -27,7 +27,8 @@ returns-clause-shown g c =
     let o6 = g.G.Parser.IsOutput (g.G.Parser.state p.6) in
     let m7 = g.H.Parser.meaning (g.H.Parser.state p.7) in
     let o7 = g.H.Parser.IsOutput (g.H.Parser.state p.7) in
-    let t1 = next_shown w o0 o1 e m0 m1 mode i c.process-answer.result c.next_branch-answer.result c.process-answer.ensures.shown c.next_branch-answer.ensures.shown in
+    let t1 = next_shown w o0 o1 e m0 m1 mode i c.process-answer.result c.next_branch-answer.result c.process-answer.ensures.shown
+    c.next_branch-answer.ensures.shown in
     let a1 = next_meaning e m0 m1 in
     let e1 = EitherOutput o0 o1 in
     let t2 = next_shown w e1 o2 e a1 m2 mode i c.next_branch-answer.result c.next_branch-answer-2.result t1 c.next_branch-answer-2.ensures.shown in

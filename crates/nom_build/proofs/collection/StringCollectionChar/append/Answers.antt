@@ -5,4 +5,5 @@ use Rattle.nom_build.proofs.Text.{character_appended}
 use Rattle.nom_build.proofs.collection.StringCollectionChar.append.Goals as goal
 
 pub returns-in-Ok-clause-items : goal.returns-in-Ok-clause-items
-returns-in-Ok-clause-items g c = ap chars c.in-Ok.ensures.bytes ∙ character_appended (string_bytes c.args.self.now) c.args.character (IsUtf8-string_bytes c.args.self.now) c.ranges.character.0
+returns-in-Ok-clause-items g c = ap chars c.in-Ok.ensures.bytes ∙
+    character_appended (string_bytes c.args.self.now) c.args.character (IsUtf8-string_bytes c.args.self.now) c.ranges.character.0

@@ -10,10 +10,12 @@ returns-in-Some-eq0-clause-shown g c =
 
 pub returns-in-Some-clause-shown : goal.returns-in-Some-clause-shown
 returns-in-Some-clause-shown g c =
-    until_found g.E.ParseError.errors g.met.I.FindSubstring.finding c.known.ensures c.in-Some.ensures (λ e. not_none _ c.in-Some.n-test.1) c.take_from.ensures c.front.ensures
+    until_found g.E.ParseError.errors g.met.I.FindSubstring.finding c.known.ensures c.in-Some.ensures (λ e. not_none _ c.in-Some.n-test.1)
+    c.take_from.ensures c.front.ensures
 
 pub returns-in-None-clause-shown : goal.returns-in-None-clause-shown
-returns-in-None-clause-shown g c = until_open g.E.ParseError.errors g.I.FindSubstring.finds true (g.I.FindSubstring.needle_seen c.args.self.now.tag) (sym c.STREAMING.ensures ∙ c.if-STREAMING.true) c.in-None.ensures
+returns-in-None-clause-shown g c = until_open g.E.ParseError.errors g.I.FindSubstring.finds true (g.I.FindSubstring.needle_seen c.args.self.now.tag)
+    (sym c.STREAMING.ensures ∙ c.if-STREAMING.true) c.in-None.ensures
 
 pub returns-in-None-2-clause-shown : goal.returns-in-None-2-clause-shown
 returns-in-None-2-clause-shown g c =

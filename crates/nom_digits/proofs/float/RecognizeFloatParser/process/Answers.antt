@@ -10,6 +10,36 @@ returns-clause-shown g c =
     let part = shape.second.first.parser.1.parser in
     let exponent = shape.second.second.parser.parser in
     let behind = exponent.second.first.parser.parser in
-    let found = wants sign.0.wanted sign.1.wanted whole.second.parser.first.wanted part.first.wanted exponent.first.parser.0.wanted exponent.first.parser.1.wanted behind.0.wanted behind.1.wanted in
-    let same : found ≡ fraction_wants = rw (c.recognize-shape.ensures, c.pair-5.ensures.first, c.pair-5.ensures.second, c.pair-4.ensures.first, c.pair-4.ensures.second, c.opt-4.ensures, c.either-3.ensures.first, c.either-3.ensures.second, c.alt-decimal.ensures, c.recognize.ensures, c.recognize-2.ensures, c.pair-whole.ensures.second, c.opt-2.ensures, c.pair.ensures.first, c.char.ensures, c.pair-2.ensures.first, c.char-2.ensures, c.opt-5.ensures, c.recognize-exponent.ensures, c.pair-3.ensures.first, c.pair-3.ensures.second, c.either-2.ensures.first, c.either-2.ensures.second, c.pair-digits.ensures.first, c.opt-3.ensures, c.either.ensures.first, c.either.ensures.second) refl in
+    let found = wants sign.0.wanted sign.1.wanted whole.second.parser.first.wanted part.first.wanted exponent.first.parser.0.wanted
+    exponent.first.parser.1.wanted behind.0.wanted behind.1.wanted in
+    let same : found ≡ fraction_wants =
+    rw (
+      c.recognize-shape.ensures,
+      c.pair-5.ensures.first,
+      c.pair-5.ensures.second,
+      c.pair-4.ensures.first,
+      c.pair-4.ensures.second,
+      c.opt-4.ensures,
+      c.either-3.ensures.first,
+      c.either-3.ensures.second,
+      c.alt-decimal.ensures,
+      c.recognize.ensures,
+      c.recognize-2.ensures,
+      c.pair-whole.ensures.second,
+      c.opt-2.ensures,
+      c.pair.ensures.first,
+      c.char.ensures,
+      c.pair-2.ensures.first,
+      c.char-2.ensures,
+      c.opt-5.ensures,
+      c.recognize-exponent.ensures,
+      c.pair-3.ensures.first,
+      c.pair-3.ensures.second,
+      c.either-2.ensures.first,
+      c.either-2.ensures.second,
+      c.pair-digits.ensures.first,
+      c.opt-3.ensures,
+      c.either.ensures.first,
+      c.either.ensures.second,
+    ) refl in
     shape_shown g.I.Items.seen g.I.Item.Value.code g.E.ParseError.errors found _ c.args.input _ same c.process.ensures.shown

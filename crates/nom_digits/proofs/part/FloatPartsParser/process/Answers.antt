@@ -7,7 +7,10 @@ pub returns-in_err-rest-clause-shown : goal.returns-in_err-rest-clause-shown
 returns-in_err-rest-clause-shown g c = output_err c.in_err-rest.ensures c.from_residual.ensures
 
 pub returns-in-Some-clause-shown : goal.returns-in-Some-clause-shown
-returns-in-Some-clause-shown g c = output_ok c.in_ok-rest.ensures (λ t. some_built (IsRaw g.I.Items.seen t) (IsParts g.I.Items.seen g.I.Item.Value.code t) _ _ _ _ c.in-Some.is (c.parts.ensures t))
+returns-in-Some-clause-shown g c =
+    output_ok c.in_ok-rest.ensures
+    (λ t. some_built (IsRaw g.I.Items.seen t) (IsParts g.I.Items.seen g.I.Item.Value.code t) _ _ _ _ c.in-Some.is (c.parts.ensures t))
 
 pub returns-in-None-clause-shown : goal.returns-in-None-clause-shown
-returns-in-None-clause-shown g c = output_ok c.in_ok-rest.ensures (λ t. none_built (IsRaw g.I.Items.seen t) (IsParts g.I.Items.seen g.I.Item.Value.code t) _ _ c.in-None.is)
+returns-in-None-clause-shown g c =
+    output_ok c.in_ok-rest.ensures (λ t. none_built (IsRaw g.I.Items.seen t) (IsParts g.I.Items.seen g.I.Item.Value.code t) _ _ c.in-None.is)

@@ -4,4 +4,5 @@ use Rattle.nom_internal.proofs.Shown.{accepted}
 use Rattle.nom_ends.proofs.fixed.SuccessParser.process.Goals as goal
 
 pub returns-in-Ok-clause-shown : goal.returns-in-Ok-clause-shown
-returns-in-Ok-clause-shown g c = accepted c.args.self.now.value (rest_self g.I.Items.seen g.met.I.Items.lawful c.args.input c.known.ensures) (refl, refl) c.in-Ok.ensures
+returns-in-Ok-clause-shown g c =
+    accepted c.args.self.now.value (rest_self g.I.Items.seen g.met.I.Items.lawful c.args.input c.known.ensures) (refl, refl) c.in-Ok.ensures

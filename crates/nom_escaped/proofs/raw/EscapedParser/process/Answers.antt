@@ -20,48 +20,69 @@ returns-in_err-next-clause-shown g c =
     let inv = c.loop-next.invariant in
     let normal = g.F.Parser.state c.args.self.now.normal in
     let escapable = g.G.Parser.state c.args.self.now.escapable in
-    let part = same_spot _ g.F.Parser.IsOutput g.G.Parser.IsOutput _ (λ y x. g.I.Item.Value.code x ≡ y) g.F.Parser.meaning g.G.Parser.meaning _ _ _ normal _ _ _ escapable _ _ inv.normal_kept inv.control_kept inv.escapable_kept inv.lack_is c.in_err-next.ensures.shown in
-    escaped_passed _ g.met.I.Items.lawful g.F.Error.ParseError.errors (λ x. g.I.Item.Value.code x ≡ c.args.self.now.control_char) (g.F.Parser.meaning normal) (g.G.Parser.meaning escapable) (g.F.Parser.IsOutput normal) (g.G.Parser.IsOutput escapable) (modes g.OM.Output.Mode.BUILDS _ _) _ _ inv.collected _ _ part (err_from_residual c.from_residual.ensures)
+    let part = same_spot _ g.F.Parser.IsOutput g.G.Parser.IsOutput _ (λ y x. g.I.Item.Value.code x ≡ y) g.F.Parser.meaning g.G.Parser.meaning _ _ _
+    normal _ _ _ escapable _ _ inv.normal_kept inv.control_kept inv.escapable_kept inv.lack_is c.in_err-next.ensures.shown in
+    escaped_passed _ g.met.I.Items.lawful g.F.Error.ParseError.errors (λ x. g.I.Item.Value.code x ≡ c.args.self.now.control_char)
+    (g.F.Parser.meaning normal) (g.G.Parser.meaning escapable) (g.F.Parser.IsOutput normal) (g.G.Parser.IsOutput escapable)
+    (modes g.OM.Output.Mode.BUILDS _ _) _ _ inv.collected _ _ part (err_from_residual c.from_residual.ensures)
 
 pub returns-then-input_len-clause-shown : goal.returns-then-input_len-clause-shown
 returns-then-input_len-clause-shown g c =
     let inv = c.loop-next.invariant in
     let normal = g.F.Parser.state c.args.self.now.normal in
     let escapable = g.G.Parser.state c.args.self.now.escapable in
-    let part = same_spot _ g.F.Parser.IsOutput g.G.Parser.IsOutput _ (λ y x. g.I.Item.Value.code x ≡ y) g.F.Parser.meaning g.G.Parser.meaning _ _ _ normal _ _ _ escapable _ _ inv.normal_kept inv.control_kept inv.escapable_kept inv.lack_is c.in_ok-next.ensures.shown in
-    escaped_empty _ g.met.I.Items.lawful g.F.Error.ParseError.errors (λ x. g.I.Item.Value.code x ≡ c.args.self.now.control_char) (g.F.Parser.meaning normal) (g.G.Parser.meaning escapable) (g.F.Parser.IsOutput normal) (g.G.Parser.IsOutput escapable) (modes g.OM.Output.Mode.BUILDS _ _) _ _ inv.collected _ _ _ c.told.ensures part _ c.in-Found.is _ _ c.input_len.ensures c.input_len-in-Found.ensures c.if-input_len.true _ c.before-then-input_len.ensures
+    let part = same_spot _ g.F.Parser.IsOutput g.G.Parser.IsOutput _ (λ y x. g.I.Item.Value.code x ≡ y) g.F.Parser.meaning g.G.Parser.meaning _ _ _
+    normal _ _ _ escapable _ _ inv.normal_kept inv.control_kept inv.escapable_kept inv.lack_is c.in_ok-next.ensures.shown in
+    escaped_empty _ g.met.I.Items.lawful g.F.Error.ParseError.errors (λ x. g.I.Item.Value.code x ≡ c.args.self.now.control_char)
+    (g.F.Parser.meaning normal) (g.G.Parser.meaning escapable) (g.F.Parser.IsOutput normal) (g.G.Parser.IsOutput escapable)
+    (modes g.OM.Output.Mode.BUILDS _ _) _ _ inv.collected _ _ _ c.told.ensures part _ c.in-Found.is _ _ c.input_len.ensures
+    c.input_len-in-Found.ensures c.if-input_len.true _ c.before-then-input_len.ensures
 
 pub returns-then-input_len-2-clause-shown : goal.returns-then-input_len-2-clause-shown
 returns-then-input_len-2-clause-shown g c =
     let inv = c.loop-next.invariant in
     let normal = g.F.Parser.state c.args.self.now.normal in
     let escapable = g.G.Parser.state c.args.self.now.escapable in
-    let part = same_spot _ g.F.Parser.IsOutput g.G.Parser.IsOutput _ (λ y x. g.I.Item.Value.code x ≡ y) g.F.Parser.meaning g.G.Parser.meaning _ _ _ normal _ _ _ escapable _ _ inv.normal_kept inv.control_kept inv.escapable_kept inv.lack_is c.in_ok-next.ensures.shown in
-    escaped_none _ g.met.I.Items.lawful g.F.Error.ParseError.errors (λ x. g.I.Item.Value.code x ≡ c.args.self.now.control_char) (g.F.Parser.meaning normal) (g.G.Parser.meaning escapable) (g.F.Parser.IsOutput normal) (g.G.Parser.IsOutput escapable) (modes g.OM.Output.Mode.BUILDS _ _) _ _ inv.collected _ _ _ c.told.ensures part c.in-Other.is _ _ c.input_len-in-Other.ensures c.input_len-in-Other-2.ensures c.if-input_len-2.true _ c.refusal.ensures
+    let part = same_spot _ g.F.Parser.IsOutput g.G.Parser.IsOutput _ (λ y x. g.I.Item.Value.code x ≡ y) g.F.Parser.meaning g.G.Parser.meaning _ _ _
+    normal _ _ _ escapable _ _ inv.normal_kept inv.control_kept inv.escapable_kept inv.lack_is c.in_ok-next.ensures.shown in
+    escaped_none _ g.met.I.Items.lawful g.F.Error.ParseError.errors (λ x. g.I.Item.Value.code x ≡ c.args.self.now.control_char)
+    (g.F.Parser.meaning normal) (g.G.Parser.meaning escapable) (g.F.Parser.IsOutput normal) (g.G.Parser.IsOutput escapable)
+    (modes g.OM.Output.Mode.BUILDS _ _) _ _ inv.collected _ _ _ c.told.ensures part c.in-Other.is _ _ c.input_len-in-Other.ensures
+    c.input_len-in-Other-2.ensures c.if-input_len-2.true _ c.refusal.ensures
 
 pub returns-in-Other-clause-shown : goal.returns-in-Other-clause-shown
 returns-in-Other-clause-shown g c =
     let inv = c.loop-next.invariant in
     let normal = g.F.Parser.state c.args.self.now.normal in
     let escapable = g.G.Parser.state c.args.self.now.escapable in
-    let part = same_spot _ g.F.Parser.IsOutput g.G.Parser.IsOutput _ (λ y x. g.I.Item.Value.code x ≡ y) g.F.Parser.meaning g.G.Parser.meaning _ _ _ normal _ _ _ escapable _ _ inv.normal_kept inv.control_kept inv.escapable_kept inv.lack_is c.in_ok-next.ensures.shown in
-    escaped_other _ g.met.I.Items.lawful g.F.Error.ParseError.errors (λ x. g.I.Item.Value.code x ≡ c.args.self.now.control_char) (g.F.Parser.meaning normal) (g.G.Parser.meaning escapable) (g.F.Parser.IsOutput normal) (g.G.Parser.IsOutput escapable) (modes g.OM.Output.Mode.BUILDS _ _) _ _ inv.collected _ _ _ c.told.ensures part c.in-Other.is _ _ c.input_len-in-Other.ensures c.input_len-in-Other-2.ensures c.if-input_len-2.false _ c.before-in-Other.ensures
+    let part = same_spot _ g.F.Parser.IsOutput g.G.Parser.IsOutput _ (λ y x. g.I.Item.Value.code x ≡ y) g.F.Parser.meaning g.G.Parser.meaning _ _ _
+    normal _ _ _ escapable _ _ inv.normal_kept inv.control_kept inv.escapable_kept inv.lack_is c.in_ok-next.ensures.shown in
+    escaped_other _ g.met.I.Items.lawful g.F.Error.ParseError.errors (λ x. g.I.Item.Value.code x ≡ c.args.self.now.control_char)
+    (g.F.Parser.meaning normal) (g.G.Parser.meaning escapable) (g.F.Parser.IsOutput normal) (g.G.Parser.IsOutput escapable)
+    (modes g.OM.Output.Mode.BUILDS _ _) _ _ inv.collected _ _ _ c.told.ensures part c.in-Other.is _ _ c.input_len-in-Other.ensures
+    c.input_len-in-Other-2.ensures c.if-input_len-2.false _ c.before-in-Other.ensures
 
 pub returns-in-Dangling-clause-shown : goal.returns-in-Dangling-clause-shown
 returns-in-Dangling-clause-shown g c =
     let inv = c.loop-next.invariant in
     let normal = g.F.Parser.state c.args.self.now.normal in
     let escapable = g.G.Parser.state c.args.self.now.escapable in
-    let part = same_spot _ g.F.Parser.IsOutput g.G.Parser.IsOutput _ (λ y x. g.I.Item.Value.code x ≡ y) g.F.Parser.meaning g.G.Parser.meaning _ _ _ normal _ _ _ escapable _ _ inv.normal_kept inv.control_kept inv.escapable_kept inv.lack_is c.in_ok-next.ensures.shown in
-    escaped_dangling _ g.met.I.Items.lawful g.F.Error.ParseError.errors (λ x. g.I.Item.Value.code x ≡ c.args.self.now.control_char) (g.F.Parser.meaning normal) (g.G.Parser.meaning escapable) (g.F.Parser.IsOutput normal) (g.G.Parser.IsOutput escapable) (modes g.OM.Output.Mode.BUILDS _ _) _ _ inv.collected _ _ _ c.told.ensures part c.in-Dangling.is _ c.refusal-in-Dangling.ensures
+    let part = same_spot _ g.F.Parser.IsOutput g.G.Parser.IsOutput _ (λ y x. g.I.Item.Value.code x ≡ y) g.F.Parser.meaning g.G.Parser.meaning _ _ _
+    normal _ _ _ escapable _ _ inv.normal_kept inv.control_kept inv.escapable_kept inv.lack_is c.in_ok-next.ensures.shown in
+    escaped_dangling _ g.met.I.Items.lawful g.F.Error.ParseError.errors (λ x. g.I.Item.Value.code x ≡ c.args.self.now.control_char)
+    (g.F.Parser.meaning normal) (g.G.Parser.meaning escapable) (g.F.Parser.IsOutput normal) (g.G.Parser.IsOutput escapable)
+    (modes g.OM.Output.Mode.BUILDS _ _) _ _ inv.collected _ _ _ c.told.ensures part c.in-Dangling.is _ c.refusal-in-Dangling.ensures
 
 pub returns-in-Done-clause-shown : goal.returns-in-Done-clause-shown
 returns-in-Done-clause-shown g c =
     let inv = c.loop-next.invariant in
     let normal = g.F.Parser.state c.args.self.now.normal in
     let escapable = g.G.Parser.state c.args.self.now.escapable in
-    let part = same_spot _ g.F.Parser.IsOutput g.G.Parser.IsOutput _ (λ y x. g.I.Item.Value.code x ≡ y) g.F.Parser.meaning g.G.Parser.meaning _ _ _ normal _ _ _ escapable _ _ inv.normal_kept inv.control_kept inv.escapable_kept inv.lack_is c.in_ok-next.ensures.shown in
-    escaped_done _ g.met.I.Items.lawful g.F.Error.ParseError.errors (λ x. g.I.Item.Value.code x ≡ c.args.self.now.control_char) (g.F.Parser.meaning normal) (g.G.Parser.meaning escapable) (g.F.Parser.IsOutput normal) (g.G.Parser.IsOutput escapable) (modes g.OM.Output.Mode.BUILDS _ _) _ _ inv.collected _ _ _ c.told.ensures part c.in-Done.is _ c.before-in-Done.ensures
+    let part = same_spot _ g.F.Parser.IsOutput g.G.Parser.IsOutput _ (λ y x. g.I.Item.Value.code x ≡ y) g.F.Parser.meaning g.G.Parser.meaning _ _ _
+    normal _ _ _ escapable _ _ inv.normal_kept inv.control_kept inv.escapable_kept inv.lack_is c.in_ok-next.ensures.shown in
+    escaped_done _ g.met.I.Items.lawful g.F.Error.ParseError.errors (λ x. g.I.Item.Value.code x ≡ c.args.self.now.control_char)
+    (g.F.Parser.meaning normal) (g.G.Parser.meaning escapable) (g.F.Parser.IsOutput normal) (g.G.Parser.IsOutput escapable)
+    (modes g.OM.Output.Mode.BUILDS _ _) _ _ inv.collected _ _ _ c.told.ensures part c.in-Done.is _ c.before-in-Done.ensures
 
 pub loop-next-smaller-else-input_len-2 : goal.loop-next-smaller-else-input_len-2
 loop-next-smaller-else-input_len-2 g c =
@@ -73,13 +94,17 @@ loop-next-preserved-else-input_len-2 g c =
     let inv = c.loop-next.invariant in
     let normal = g.F.Parser.state c.args.self.now.normal in
     let escapable = g.G.Parser.state c.args.self.now.escapable in
-    let part = same_spot _ g.F.Parser.IsOutput g.G.Parser.IsOutput _ (λ y x. g.I.Item.Value.code x ≡ y) g.F.Parser.meaning g.G.Parser.meaning _ _ _ normal _ _ _ escapable _ _ inv.normal_kept inv.control_kept inv.escapable_kept inv.lack_is c.in_ok-next.ensures.shown in
+    let part = same_spot _ g.F.Parser.IsOutput g.G.Parser.IsOutput _ (λ y x. g.I.Item.Value.code x ≡ y) g.F.Parser.meaning g.G.Parser.meaning _ _ _
+    normal _ _ _ escapable _ _ inv.normal_kept inv.control_kept inv.escapable_kept inv.lack_is c.in_ok-next.ensures.shown in
     record {
       normal_kept = c.in_ok-next.ensures.normal_kept ∙ inv.normal_kept;
       control_kept = inv.control_kept;
       escapable_kept = c.in_ok-next.ensures.escapable_kept ∙ inv.escapable_kept;
       lack_is = inv.lack_is;
-      collected = escaped_more _ g.met.I.Items.lawful g.F.Error.ParseError.errors (λ x. g.I.Item.Value.code x ≡ c.args.self.now.control_char) (g.F.Parser.meaning normal) (g.G.Parser.meaning escapable) (g.F.Parser.IsOutput normal) (g.G.Parser.IsOutput escapable) (modes g.OM.Output.Mode.BUILDS _ _) _ _ inv.collected _ _ _ c.told.ensures part _ c.in-Found.is _ _ c.input_len.ensures c.input_len-in-Found.ensures c.if-input_len.false;
+      collected = escaped_more _ g.met.I.Items.lawful g.F.Error.ParseError.errors (λ x. g.I.Item.Value.code x ≡ c.args.self.now.control_char)
+          (g.F.Parser.meaning normal) (g.G.Parser.meaning escapable) (g.F.Parser.IsOutput normal) (g.G.Parser.IsOutput escapable)
+          (modes g.OM.Output.Mode.BUILDS _ _) _ _ inv.collected _ _ _ c.told.ensures part _ c.in-Found.is _ _ c.input_len.ensures
+          c.input_len-in-Found.ensures c.if-input_len.false;
     }
 
 pub loop-next-smaller-else-input_len-4 : goal.loop-next-smaller-else-input_len-4
@@ -92,11 +117,15 @@ loop-next-preserved-else-input_len-4 g c =
     let inv = c.loop-next.invariant in
     let normal = g.F.Parser.state c.args.self.now.normal in
     let escapable = g.G.Parser.state c.args.self.now.escapable in
-    let part = same_spot _ g.F.Parser.IsOutput g.G.Parser.IsOutput _ (λ y x. g.I.Item.Value.code x ≡ y) g.F.Parser.meaning g.G.Parser.meaning _ _ _ normal _ _ _ escapable _ _ inv.normal_kept inv.control_kept inv.escapable_kept inv.lack_is c.in_ok-next.ensures.shown in
+    let part = same_spot _ g.F.Parser.IsOutput g.G.Parser.IsOutput _ (λ y x. g.I.Item.Value.code x ≡ y) g.F.Parser.meaning g.G.Parser.meaning _ _ _
+    normal _ _ _ escapable _ _ inv.normal_kept inv.control_kept inv.escapable_kept inv.lack_is c.in_ok-next.ensures.shown in
     record {
       normal_kept = c.in_ok-next.ensures.normal_kept ∙ inv.normal_kept;
       control_kept = inv.control_kept;
       escapable_kept = c.in_ok-next.ensures.escapable_kept ∙ inv.escapable_kept;
       lack_is = inv.lack_is;
-      collected = escaped_more _ g.met.I.Items.lawful g.F.Error.ParseError.errors (λ x. g.I.Item.Value.code x ≡ c.args.self.now.control_char) (g.F.Parser.meaning normal) (g.G.Parser.meaning escapable) (g.F.Parser.IsOutput normal) (g.G.Parser.IsOutput escapable) (modes g.OM.Output.Mode.BUILDS _ _) _ _ inv.collected _ _ _ c.told.ensures part _ c.in-Found.is _ _ c.input_len.ensures c.input_len-in-Found.ensures c.if-input_len.false;
+      collected = escaped_more _ g.met.I.Items.lawful g.F.Error.ParseError.errors (λ x. g.I.Item.Value.code x ≡ c.args.self.now.control_char)
+          (g.F.Parser.meaning normal) (g.G.Parser.meaning escapable) (g.F.Parser.IsOutput normal) (g.G.Parser.IsOutput escapable)
+          (modes g.OM.Output.Mode.BUILDS _ _) _ _ inv.collected _ _ _ c.told.ensures part _ c.in-Found.is _ _ c.input_len.ensures
+          c.input_len-in-Found.ensures c.if-input_len.false;
     }

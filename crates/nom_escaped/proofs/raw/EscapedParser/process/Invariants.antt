@@ -14,7 +14,10 @@ invariant-loop-next g l = record {
   control_kept : l.self.control_char ≡ l.fn.self.control_char;
   escapable_kept : g.G.Parser.state l.self.escapable ≡ g.G.Parser.state l.fn.self.escapable;
   lack_is : size_of l.lack ≡ Some 1;
-  collected : Collected g.I.Items.seen (TurnsBy None escape_turn (λ _. (spot_meaning g.I.Items.seen (λ x. g.I.Item.Value.code x ≡ l.fn.self.control_char) (Some 1) (g.F.Parser.meaning (g.F.Parser.state l.fn.self.normal)) (g.G.Parser.meaning (g.G.Parser.state l.fn.self.escapable))).answers g.OM.Incomplete.IsStreaming.STREAMING)) AnyPieces l.fn.input l.rest;
+  collected : Collected g.I.Items.seen
+      (TurnsBy None escape_turn (λ _.
+      (spot_meaning g.I.Items.seen (λ x. g.I.Item.Value.code x ≡ l.fn.self.control_char) (Some 1) (g.F.Parser.meaning (g.F.Parser.state l.fn.self.normal))
+      (g.G.Parser.meaning (g.G.Parser.state l.fn.self.escapable))).answers g.OM.Incomplete.IsStreaming.STREAMING)) AnyPieces l.fn.input l.rest;
 }
 
 abbrev pub decreases-loop-next : goal.decreases-loop-next

@@ -20,5 +20,8 @@ items-requires-2-clause-built g c =
 pub returns-clause-shown : goal.returns-clause-shown
 returns-clause-shown g c =
     let s = g.F.Parser.state c.args.self.now.item.parser in
-    let more = shown_at (λ _. CountKept c.in_ok-rest.first) (λ z. items_meaning g.I.Items.seen g.F.Error.ParseError.errors (any_limits Kind.Many1Count) ⊥ (dropped_meaning (g.F.Parser.meaning z))) c.in_ok-rest.ensures.kept c.items-2.ensures.shown in
-    count1_shown g.met.I.Items.lawful g.F.Error.ParseError.errors (g.F.Parser.meaning s) (g.met.F.Parser.lawful s c.requires.sound.0) c.fits.ensures.known c.fits.ensures.fits c.built-none.ensures c.in_ok-rest.ensures.shown more
+    let more = shown_at (λ _. CountKept c.in_ok-rest.first)
+    (λ z. items_meaning g.I.Items.seen g.F.Error.ParseError.errors (any_limits Kind.Many1Count) ⊥ (dropped_meaning (g.F.Parser.meaning z)))
+    c.in_ok-rest.ensures.kept c.items-2.ensures.shown in
+    count1_shown g.met.I.Items.lawful g.F.Error.ParseError.errors (g.F.Parser.meaning s)
+    (g.met.F.Parser.lawful s c.requires.sound.0) c.fits.ensures.known c.fits.ensures.fits c.built-none.ensures c.in_ok-rest.ensures.shown more

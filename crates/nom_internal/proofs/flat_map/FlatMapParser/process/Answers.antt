@@ -6,4 +6,6 @@ pub returns-in_err-rest-clause-shown : goal.returns-in_err-rest-clause-shown
 returns-in_err-rest-clause-shown g c = then_err g.met.I.Items.lawful c.in_err-rest.ensures.shown c.from_residual.ensures
 
 pub returns-clause-shown : goal.returns-clause-shown
-returns-clause-shown g c = then_ok g.met.I.Items.lawful c.in_ok-rest.ensures.shown (λ u b. given_shown _ (g.F.Parser.IsOutput (g.F.Parser.state c.args.self.now.first)) _ g.H.Parser.IsOutput g.H.Parser.meaning _ _ u _ _ c.make-next.result _ b c.in-Some.is c.make-next.ensures c.process-2.ensures.shown)
+returns-clause-shown g c = then_ok g.met.I.Items.lawful c.in_ok-rest.ensures.shown
+    (λ u b. given_shown _ (g.F.Parser.IsOutput (g.F.Parser.state c.args.self.now.first)) _ g.H.Parser.IsOutput g.H.Parser.meaning _ _ u _ _
+    c.make-next.result _ b c.in-Some.is c.make-next.ensures c.process-2.ensures.shown)

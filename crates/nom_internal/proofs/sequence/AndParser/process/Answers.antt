@@ -5,7 +5,10 @@ pub returns-in_err-rest-clause-shown : goal.returns-in_err-rest-clause-shown
 returns-in_err-rest-clause-shown g c = then_err g.met.I.Items.lawful c.in_err-rest.ensures.shown c.from_residual.ensures
 
 pub returns-in_err-rest-2-clause-shown : goal.returns-in_err-rest-2-clause-shown
-returns-in_err-rest-2-clause-shown g c = then_ok g.met.I.Items.lawful c.in_ok-rest.ensures.shown (λ u b. output_err c.in_err-rest-2.ensures.shown c.from_residual-in_err-rest-2.ensures)
+returns-in_err-rest-2-clause-shown g c =
+    then_ok g.met.I.Items.lawful c.in_ok-rest.ensures.shown (λ u b. output_err c.in_err-rest-2.ensures.shown c.from_residual-in_err-rest-2.ensures)
 
 pub returns-clause-shown : goal.returns-clause-shown
-returns-clause-shown g c = then_ok g.met.I.Items.lawful c.in_ok-rest.ensures.shown (λ u b. output_ok c.in_ok-rest-2.ensures.shown (λ v d. both_built (g.F.Parser.IsOutput _ u) (g.G.Parser.IsOutput _ v) _ _ _ _ b d c.combine.ensures.both c.combine.ensures.none))
+returns-clause-shown g c = then_ok g.met.I.Items.lawful c.in_ok-rest.ensures.shown
+    (λ u b. output_ok c.in_ok-rest-2.ensures.shown
+    (λ v d. both_built (g.F.Parser.IsOutput _ u) (g.G.Parser.IsOutput _ v) _ _ _ _ b d c.combine.ensures.both c.combine.ensures.none))

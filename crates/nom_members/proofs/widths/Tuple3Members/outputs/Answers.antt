@@ -24,6 +24,9 @@ returns g c outputs s t h k =
     let b0 = taken_built outputs (g.A.Parser.IsOutput s.0) t.0 k0.1 c.args.slots.0 c.taken.result k0.2 h.0 c.taken.ensures in
     let b1 = taken_built outputs (g.B.Parser.IsOutput s.1) t.1 k1.1 c.args.slots.1 c.taken-2.result k1.2 h.1 c.taken-2.ensures in
     let b2 = taken_built outputs (g.C.Parser.IsOutput s.2) t.2 k2.1 c.args.slots.2 c.taken-3.result k2.2 h.2 c.taken-3.ensures in
-    let p1 = both_built o0 o1 outputs c.taken.result c.taken-2.result c.combine-outputs.result b0 b1 c.combine-outputs.ensures.both c.combine-outputs.ensures.none in
-    let p2 = both_built (BothHold o0 o1) o2 outputs c.combine-outputs.result c.taken-3.result c.combine-outputs-2.result p1 b2 c.combine-outputs-2.ensures.both c.combine-outputs-2.ensures.none in
-    flat_built outputs (BothHold (BothHold o0 o1) o2) (λ o. o0 o.0 × o1 o.1 × o2 o.2) (λ p. (p.0.0, p.0.1, p.1)) c.combine-outputs-2.result c.made_flat.result (λ v h. (h.0.0, h.0.1, h.1)) p2 c.made_flat.ensures.some c.made_flat.ensures.none
+    let p1 = both_built o0 o1 outputs c.taken.result c.taken-2.result c.combine-outputs.result b0 b1 c.combine-outputs.ensures.both
+    c.combine-outputs.ensures.none in
+    let p2 = both_built (BothHold o0 o1) o2 outputs c.combine-outputs.result c.taken-3.result c.combine-outputs-2.result p1 b2
+    c.combine-outputs-2.ensures.both c.combine-outputs-2.ensures.none in
+    flat_built outputs (BothHold (BothHold o0 o1) o2) (λ o. o0 o.0 × o1 o.1 × o2 o.2)
+    (λ p. (p.0.0, p.0.1, p.1)) c.combine-outputs-2.result c.made_flat.result (λ v h. (h.0.0, h.0.1, h.1)) p2 c.made_flat.ensures.some c.made_flat.ensures.none

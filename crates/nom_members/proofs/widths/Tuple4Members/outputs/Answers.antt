@@ -29,7 +29,12 @@ returns g c outputs s t h k =
     let b1 = taken_built outputs (g.B.Parser.IsOutput s.1) t.1 k1.1 c.args.slots.1 c.taken-2.result k1.2 h.1 c.taken-2.ensures in
     let b2 = taken_built outputs (g.C.Parser.IsOutput s.2) t.2 k2.1 c.args.slots.2 c.taken-3.result k2.2 h.2 c.taken-3.ensures in
     let b3 = taken_built outputs (g.D.Parser.IsOutput s.3) t.3 k3.1 c.args.slots.3 c.taken-4.result k3.2 h.3 c.taken-4.ensures in
-    let p1 = both_built o0 o1 outputs c.taken.result c.taken-2.result c.combine-outputs.result b0 b1 c.combine-outputs.ensures.both c.combine-outputs.ensures.none in
-    let p2 = both_built (BothHold o0 o1) o2 outputs c.combine-outputs.result c.taken-3.result c.combine-outputs-2.result p1 b2 c.combine-outputs-2.ensures.both c.combine-outputs-2.ensures.none in
-    let p3 = both_built (BothHold (BothHold o0 o1) o2) o3 outputs c.combine-outputs-2.result c.taken-4.result c.combine-outputs-3.result p2 b3 c.combine-outputs-3.ensures.both c.combine-outputs-3.ensures.none in
-    flat_built outputs (BothHold (BothHold (BothHold o0 o1) o2) o3) (λ o. o0 o.0 × o1 o.1 × o2 o.2 × o3 o.3) (λ p. (p.0.0.0, p.0.0.1, p.0.1, p.1)) c.combine-outputs-3.result c.made_flat.result (λ v h. (h.0.0.0, h.0.0.1, h.0.1, h.1)) p3 c.made_flat.ensures.some c.made_flat.ensures.none
+    let p1 = both_built o0 o1 outputs c.taken.result c.taken-2.result c.combine-outputs.result b0 b1 c.combine-outputs.ensures.both
+    c.combine-outputs.ensures.none in
+    let p2 = both_built (BothHold o0 o1) o2 outputs c.combine-outputs.result c.taken-3.result c.combine-outputs-2.result p1 b2
+    c.combine-outputs-2.ensures.both c.combine-outputs-2.ensures.none in
+    let p3 = both_built (BothHold (BothHold o0 o1) o2) o3 outputs c.combine-outputs-2.result c.taken-4.result c.combine-outputs-3.result p2 b3
+    c.combine-outputs-3.ensures.both c.combine-outputs-3.ensures.none in
+    flat_built outputs (BothHold (BothHold (BothHold o0 o1) o2) o3) (λ o. o0 o.0 × o1 o.1 × o2 o.2 × o3 o.3)
+    (λ p. (p.0.0.0, p.0.0.1, p.0.1, p.1)) c.combine-outputs-3.result c.made_flat.result (λ v h. (h.0.0.0, h.0.0.1, h.0.1, h.1)) p3
+    c.made_flat.ensures.some c.made_flat.ensures.none

@@ -34,8 +34,14 @@ returns g c outputs s t h k =
     let b2 = taken_built outputs (g.C.Parser.IsOutput s.2) t.2 k2.1 c.args.slots.2 c.taken-3.result k2.2 h.2 c.taken-3.ensures in
     let b3 = taken_built outputs (g.D.Parser.IsOutput s.3) t.3 k3.1 c.args.slots.3 c.taken-4.result k3.2 h.3 c.taken-4.ensures in
     let b4 = taken_built outputs (g.E.Parser.IsOutput s.4) t.4 k4.1 c.args.slots.4 c.taken-5.result k4.2 h.4 c.taken-5.ensures in
-    let p1 = both_built o0 o1 outputs c.taken.result c.taken-2.result c.combine-outputs.result b0 b1 c.combine-outputs.ensures.both c.combine-outputs.ensures.none in
-    let p2 = both_built (BothHold o0 o1) o2 outputs c.combine-outputs.result c.taken-3.result c.combine-outputs-2.result p1 b2 c.combine-outputs-2.ensures.both c.combine-outputs-2.ensures.none in
-    let p3 = both_built (BothHold (BothHold o0 o1) o2) o3 outputs c.combine-outputs-2.result c.taken-4.result c.combine-outputs-3.result p2 b3 c.combine-outputs-3.ensures.both c.combine-outputs-3.ensures.none in
-    let p4 = both_built (BothHold (BothHold (BothHold o0 o1) o2) o3) o4 outputs c.combine-outputs-3.result c.taken-5.result c.combine-outputs-4.result p3 b4 c.combine-outputs-4.ensures.both c.combine-outputs-4.ensures.none in
-    flat_built outputs (BothHold (BothHold (BothHold (BothHold o0 o1) o2) o3) o4) (λ o. o0 o.0 × o1 o.1 × o2 o.2 × o3 o.3 × o4 o.4) (λ p. (p.0.0.0.0, p.0.0.0.1, p.0.0.1, p.0.1, p.1)) c.combine-outputs-4.result c.made_flat.result (λ v h. (h.0.0.0.0, h.0.0.0.1, h.0.0.1, h.0.1, h.1)) p4 c.made_flat.ensures.some c.made_flat.ensures.none
+    let p1 = both_built o0 o1 outputs c.taken.result c.taken-2.result c.combine-outputs.result b0 b1 c.combine-outputs.ensures.both
+    c.combine-outputs.ensures.none in
+    let p2 = both_built (BothHold o0 o1) o2 outputs c.combine-outputs.result c.taken-3.result c.combine-outputs-2.result p1 b2
+    c.combine-outputs-2.ensures.both c.combine-outputs-2.ensures.none in
+    let p3 = both_built (BothHold (BothHold o0 o1) o2) o3 outputs c.combine-outputs-2.result c.taken-4.result c.combine-outputs-3.result p2 b3
+    c.combine-outputs-3.ensures.both c.combine-outputs-3.ensures.none in
+    let p4 = both_built (BothHold (BothHold (BothHold o0 o1) o2) o3) o4 outputs c.combine-outputs-3.result c.taken-5.result c.combine-outputs-4.result
+    p3 b4 c.combine-outputs-4.ensures.both c.combine-outputs-4.ensures.none in
+    flat_built outputs (BothHold (BothHold (BothHold (BothHold o0 o1) o2) o3) o4) (λ o. o0 o.0 × o1 o.1 × o2 o.2 × o3 o.3 × o4 o.4)
+    (λ p. (p.0.0.0.0, p.0.0.0.1, p.0.0.1, p.0.1, p.1)) c.combine-outputs-4.result c.made_flat.result
+    (λ v h. (h.0.0.0.0, h.0.0.0.1, h.0.0.1, h.0.1, h.1)) p4 c.made_flat.ensures.some c.made_flat.ensures.none

@@ -44,10 +44,19 @@ returns g c outputs s t h k =
     let b4 = taken_built outputs (g.E.Parser.IsOutput s.4) t.4 k4.1 c.args.slots.4 c.taken-5.result k4.2 h.4 c.taken-5.ensures in
     let b5 = taken_built outputs (g.F.Parser.IsOutput s.5) t.5 k5.1 c.args.slots.5 c.taken-6.result k5.2 h.5 c.taken-6.ensures in
     let b6 = taken_built outputs (g.G.Parser.IsOutput s.6) t.6 k6.1 c.args.slots.6 c.taken-7.result k6.2 h.6 c.taken-7.ensures in
-    let p1 = both_built o0 o1 outputs c.taken.result c.taken-2.result c.combine-outputs.result b0 b1 c.combine-outputs.ensures.both c.combine-outputs.ensures.none in
-    let p2 = both_built (BothHold o0 o1) o2 outputs c.combine-outputs.result c.taken-3.result c.combine-outputs-2.result p1 b2 c.combine-outputs-2.ensures.both c.combine-outputs-2.ensures.none in
-    let p3 = both_built (BothHold (BothHold o0 o1) o2) o3 outputs c.combine-outputs-2.result c.taken-4.result c.combine-outputs-3.result p2 b3 c.combine-outputs-3.ensures.both c.combine-outputs-3.ensures.none in
-    let p4 = both_built (BothHold (BothHold (BothHold o0 o1) o2) o3) o4 outputs c.combine-outputs-3.result c.taken-5.result c.combine-outputs-4.result p3 b4 c.combine-outputs-4.ensures.both c.combine-outputs-4.ensures.none in
-    let p5 = both_built (BothHold (BothHold (BothHold (BothHold o0 o1) o2) o3) o4) o5 outputs c.combine-outputs-4.result c.taken-6.result c.combine-outputs-5.result p4 b5 c.combine-outputs-5.ensures.both c.combine-outputs-5.ensures.none in
-    let p6 = both_built (BothHold (BothHold (BothHold (BothHold (BothHold o0 o1) o2) o3) o4) o5) o6 outputs c.combine-outputs-5.result c.taken-7.result c.combine-outputs-6.result p5 b6 c.combine-outputs-6.ensures.both c.combine-outputs-6.ensures.none in
-    flat_built outputs (BothHold (BothHold (BothHold (BothHold (BothHold (BothHold o0 o1) o2) o3) o4) o5) o6) (λ o. o0 o.0 × o1 o.1 × o2 o.2 × o3 o.3 × o4 o.4 × o5 o.5 × o6 o.6) (λ p. (p.0.0.0.0.0.0, p.0.0.0.0.0.1, p.0.0.0.0.1, p.0.0.0.1, p.0.0.1, p.0.1, p.1)) c.combine-outputs-6.result c.made_flat.result (λ v h. (h.0.0.0.0.0.0, h.0.0.0.0.0.1, h.0.0.0.0.1, h.0.0.0.1, h.0.0.1, h.0.1, h.1)) p6 c.made_flat.ensures.some c.made_flat.ensures.none
+    let p1 = both_built o0 o1 outputs c.taken.result c.taken-2.result c.combine-outputs.result b0 b1 c.combine-outputs.ensures.both
+    c.combine-outputs.ensures.none in
+    let p2 = both_built (BothHold o0 o1) o2 outputs c.combine-outputs.result c.taken-3.result c.combine-outputs-2.result p1 b2
+    c.combine-outputs-2.ensures.both c.combine-outputs-2.ensures.none in
+    let p3 = both_built (BothHold (BothHold o0 o1) o2) o3 outputs c.combine-outputs-2.result c.taken-4.result c.combine-outputs-3.result p2 b3
+    c.combine-outputs-3.ensures.both c.combine-outputs-3.ensures.none in
+    let p4 = both_built (BothHold (BothHold (BothHold o0 o1) o2) o3) o4 outputs c.combine-outputs-3.result c.taken-5.result c.combine-outputs-4.result
+    p3 b4 c.combine-outputs-4.ensures.both c.combine-outputs-4.ensures.none in
+    let p5 = both_built (BothHold (BothHold (BothHold (BothHold o0 o1) o2) o3) o4) o5 outputs c.combine-outputs-4.result c.taken-6.result
+    c.combine-outputs-5.result p4 b5 c.combine-outputs-5.ensures.both c.combine-outputs-5.ensures.none in
+    let p6 = both_built (BothHold (BothHold (BothHold (BothHold (BothHold o0 o1) o2) o3) o4) o5) o6 outputs c.combine-outputs-5.result c.taken-7.result
+    c.combine-outputs-6.result p5 b6 c.combine-outputs-6.ensures.both c.combine-outputs-6.ensures.none in
+    flat_built outputs (BothHold (BothHold (BothHold (BothHold (BothHold (BothHold o0 o1) o2) o3) o4) o5) o6)
+    (λ o. o0 o.0 × o1 o.1 × o2 o.2 × o3 o.3 × o4 o.4 × o5 o.5 × o6 o.6)
+    (λ p. (p.0.0.0.0.0.0, p.0.0.0.0.0.1, p.0.0.0.0.1, p.0.0.0.1, p.0.0.1, p.0.1, p.1)) c.combine-outputs-6.result c.made_flat.result
+    (λ v h. (h.0.0.0.0.0.0, h.0.0.0.0.0.1, h.0.0.0.0.1, h.0.0.0.1, h.0.0.1, h.0.1, h.1)) p6 c.made_flat.ensures.some c.made_flat.ensures.none

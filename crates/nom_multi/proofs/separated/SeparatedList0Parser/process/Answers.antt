@@ -18,7 +18,10 @@ returns-then-not-found-clause-shown g c =
     let known = (accepts c.in_ok-rest.ensures.shown).rest_is.known in
     then_ok g.met.I.Items.lawful c.in_ok-rest.ensures.shown (λ vs first.
     let it = told ListGains (λ _. Unit {0}) is_output _ _ vs c.in-Some.is first in
-    nothing_follows g.met.I.Items.lawful g.F.Error.ParseError.errors (g.G.Parser.meaning (g.G.Parser.state c.args.self.now.next.first)) (g.F.Parser.meaning (g.F.Parser.state c.args.self.now.next.second)) (λ us list. AllZip is_output us list.items) known vs (subst (λ b. IsFound b vs) c.if-not-found.true it.0) _ (built_error _ _ _ _ (list_of_none is_output _ c.none_yet-none.ensures.empty vs) it.1))
+    nothing_follows g.met.I.Items.lawful g.F.Error.ParseError.errors (g.G.Parser.meaning (g.G.Parser.state c.args.self.now.next.first))
+    (g.F.Parser.meaning (g.F.Parser.state c.args.self.now.next.second))
+    (λ us list. AllZip is_output us list.items) known vs (subst (λ b. IsFound b vs) c.if-not-found.true it.0) _
+    (built_error _ _ _ _ (list_of_none is_output _ c.none_yet-none.ensures.empty vs) it.1))
 
 pub items-requires-clause-built : goal.items-requires-clause-built
 items-requires-clause-built g c =
@@ -29,7 +32,13 @@ items-requires-clause-built g c =
 pub returns-clause-shown : goal.returns-clause-shown
 returns-clause-shown g c =
     let is_output = g.F.Parser.IsOutput (g.F.Parser.state c.args.self.now.next.second) in
-    let more = shown_at (λ s. Kept ListGains (λ _. Unit {0}) (g.F.Parser.IsOutput s) c.in-Some.list) (λ s. further_meaning g.I.Items.seen g.F.Error.ParseError.errors (g.G.Parser.meaning (g.G.Parser.state c.args.self.now.next.first)) (g.F.Parser.meaning s)) c.in_ok-rest.ensures.kept c.items.ensures.shown in
+    let more = shown_at (λ s. Kept ListGains (λ _. Unit {0}) (g.F.Parser.IsOutput s) c.in-Some.list)
+    (λ s. further_meaning g.I.Items.seen g.F.Error.ParseError.errors (g.G.Parser.meaning (g.G.Parser.state c.args.self.now.next.first))
+    (g.F.Parser.meaning s)) c.in_ok-rest.ensures.kept c.items.ensures.shown in
     then_ok g.met.I.Items.lawful c.in_ok-rest.ensures.shown (λ vs first.
     let it = told ListGains (λ _. Unit {0}) is_output _ _ vs c.in-Some.is first in
-    items_follow g.met.I.Items.lawful g.F.Error.ParseError.errors (g.G.Parser.meaning (g.G.Parser.state c.args.self.now.next.first)) (g.F.Parser.meaning (g.F.Parser.state c.args.self.now.next.second)) (λ us list. AllZip is_output us list.items) vs (subst (λ b. IsFound b vs) c.if-not-found.false it.0) (shown_as (λ us list kept. list_of_none is_output _ c.none_yet-none.ensures.empty _ list (kept_both ListGains (λ _. Unit {0}) is_output _ _ _ vs us list it.1 kept)) more))
+    items_follow g.met.I.Items.lawful g.F.Error.ParseError.errors (g.G.Parser.meaning (g.G.Parser.state c.args.self.now.next.first))
+    (g.F.Parser.meaning (g.F.Parser.state c.args.self.now.next.second))
+    (λ us list. AllZip is_output us list.items) vs (subst (λ b. IsFound b vs) c.if-not-found.false it.0)
+    (shown_as (λ us list kept. list_of_none is_output _ c.none_yet-none.ensures.empty _ list
+    (kept_both ListGains (λ _. Unit {0}) is_output _ _ _ vs us list it.1 kept)) more))

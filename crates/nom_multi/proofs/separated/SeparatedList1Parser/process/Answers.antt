@@ -17,5 +17,9 @@ items-requires-2-clause-built g c =
 pub returns-clause-shown : goal.returns-clause-shown
 returns-clause-shown g c =
     let is_output = g.F.Parser.IsOutput (g.F.Parser.state c.args.self.now.next.second) in
-    let more = shown_at (λ s. Kept ListGains (λ _. Unit {0}) (g.F.Parser.IsOutput s) c.in_ok-rest.first) (λ s. further_meaning g.I.Items.seen g.F.Error.ParseError.errors (g.G.Parser.meaning (g.G.Parser.state c.args.self.now.next.first)) (g.F.Parser.meaning s)) c.in_ok-rest.ensures.kept c.items-2.ensures.shown in
-    then_ok g.met.I.Items.lawful c.in_ok-rest.ensures.shown (λ vs first. shown_as (λ us list kept. list_of_none is_output _ c.none_yet-none.ensures.empty _ list (kept_both ListGains (λ _. Unit {0}) is_output _ _ _ vs us list first kept)) more)
+    let more = shown_at (λ s. Kept ListGains (λ _. Unit {0}) (g.F.Parser.IsOutput s) c.in_ok-rest.first)
+    (λ s. further_meaning g.I.Items.seen g.F.Error.ParseError.errors (g.G.Parser.meaning (g.G.Parser.state c.args.self.now.next.first))
+    (g.F.Parser.meaning s)) c.in_ok-rest.ensures.kept c.items-2.ensures.shown in
+    then_ok g.met.I.Items.lawful c.in_ok-rest.ensures.shown
+    (λ vs first. shown_as (λ us list kept. list_of_none is_output _ c.none_yet-none.ensures.empty _ list
+    (kept_both ListGains (λ _. Unit {0}) is_output _ _ _ vs us list first kept)) more)

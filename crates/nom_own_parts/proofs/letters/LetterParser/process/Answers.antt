@@ -12,7 +12,8 @@ take_from-rest-requires g c = letter_place g.I.Items.seen _ _ _ c.item_len.ensur
 
 pub returns-else-not-is_alpha-clause-shown : goal.returns-else-not-is_alpha-clause-shown
 returns-else-not-is_alpha-clause-shown g c =
-    accepted c.in-Some.byte c.take_from-rest.ensures (c.item_len.ensures, sym c.is_alpha.ensures ∙ c.if-not-is_alpha.false, c.in-Some.ensures) (built_error _ _ _ _ (λ v h. search rules) c.bind.ensures)
+    accepted c.in-Some.byte c.take_from-rest.ensures (c.item_len.ensures, sym c.is_alpha.ensures ∙ c.if-not-is_alpha.false, c.in-Some.ensures)
+    (built_error _ _ _ _ (λ v h. search rules) c.bind.ensures)
 
 pub returns-in-None-clause-shown : goal.returns-in-None-clause-shown
 returns-in-None-clause-shown g c =

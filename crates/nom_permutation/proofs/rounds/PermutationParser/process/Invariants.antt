@@ -9,7 +9,16 @@ abbrev pub invariant-loop-slots : goal.invariant-loop-slots
 invariant-loop-slots g l = record {
   kept : g.L.Members.state l.self.parser ≡ g.L.Members.state l.fn.self.parser;
   known : g.I.Items.seen.IsKnown l.rest;
-  reached : (t : g.L.Members.Tree) × g.L.Members.AreHeld g.OM.Output.Mode.BUILDS (g.L.Members.state l.fn.self.parser) t l.slots × ((r : Result _ (Answer.Err _ (Option _) Needed)) → ShowsRounds g.I.Items.seen g.L.Error.ParseError.errors.joined (λ i. g.L.Error.ParseError.errors.appended i Kind.Permutation) g.L.Error.ParseError.errors.grows (g.L.Members.members (g.L.Members.state l.fn.self.parser)) (g.L.Members.IsOutput (g.L.Members.state l.fn.self.parser)) g.OM.Output.Mode.BUILDS g.OM.Error.Mode.BUILDS g.OM.Incomplete.IsStreaming.STREAMING (g.L.Members.waiting l.slots) t l.rest r → ShowsRounds g.I.Items.seen g.L.Error.ParseError.errors.joined (λ i. g.L.Error.ParseError.errors.appended i Kind.Permutation) g.L.Error.ParseError.errors.grows (g.L.Members.members (g.L.Members.state l.fn.self.parser)) (g.L.Members.IsOutput (g.L.Members.state l.fn.self.parser)) g.OM.Output.Mode.BUILDS g.OM.Error.Mode.BUILDS g.OM.Incomplete.IsStreaming.STREAMING (length (g.L.Members.members (g.L.Members.state l.fn.self.parser))) g.L.Members.none l.fn.input r);
+  reached : (t : g.L.Members.Tree) × g.L.Members.AreHeld g.OM.Output.Mode.BUILDS (g.L.Members.state l.fn.self.parser) t l.slots ×
+      ((r : Result _ (Answer.Err _ (Option _) Needed)) →
+      ShowsRounds g.I.Items.seen g.L.Error.ParseError.errors.joined (λ i. g.L.Error.ParseError.errors.appended i Kind.Permutation)
+      g.L.Error.ParseError.errors.grows (g.L.Members.members (g.L.Members.state l.fn.self.parser))
+      (g.L.Members.IsOutput (g.L.Members.state l.fn.self.parser)) g.OM.Output.Mode.BUILDS g.OM.Error.Mode.BUILDS g.OM.Incomplete.IsStreaming.STREAMING
+      (g.L.Members.waiting l.slots) t l.rest r →
+      ShowsRounds g.I.Items.seen g.L.Error.ParseError.errors.joined (λ i. g.L.Error.ParseError.errors.appended i Kind.Permutation)
+      g.L.Error.ParseError.errors.grows (g.L.Members.members (g.L.Members.state l.fn.self.parser))
+      (g.L.Members.IsOutput (g.L.Members.state l.fn.self.parser)) g.OM.Output.Mode.BUILDS g.OM.Error.Mode.BUILDS g.OM.Incomplete.IsStreaming.STREAMING
+      (length (g.L.Members.members (g.L.Members.state l.fn.self.parser))) g.L.Members.none l.fn.input r);
 }
 
 abbrev pub decreases-loop-slots : goal.decreases-loop-slots

@@ -5,7 +5,8 @@ use Rattle.nom_traits.proofs.input.Input.position.Goals as goal
 
 pub loop-item-init : goal.loop-item-init
 loop-item-init g c =
-    let gives = subst (λ s. AlwaysYields g.Self.Iter.Iterator.next_gives (λ x. x) s (g.Self.Items.seen.elements c.args.self.now)) (sym c.into_iter-item-iterator.ensures.into_iter_gives) c.iter_elements-item-items.ensures.gives in
+    let gives = subst (λ s. AlwaysYields g.Self.Iter.Iterator.next_gives (λ x. x) s (g.Self.Items.seen.elements c.args.self.now))
+    (sym c.into_iter-item-iterator.ensures.into_iter_gives) c.iter_elements-item-items.ensures.gives in
     (search rules, search rules, walk_begins gives)
 
 pub overflow_add-behind : goal.overflow_add-behind
@@ -17,7 +18,11 @@ pub returns-then-predicate : goal.returns-then-predicate
 returns-then-predicate g c = walk_stops c.next.new.self c.in-Some.item c.loop-item.invariant.2 c.in-Some.ensures.steps c.if-predicate.ensures
 
 pub loop-item-preserved : goal.loop-item-preserved
-loop-item-preserved g c = (search rules, search rules, walk_goes_on c.next.new.self c.in-Some.item c.loop-item.invariant.2 c.in-Some.ensures.steps c.item_len.ensures c.if-predicate.ensures)
+loop-item-preserved g c = (
+  search rules,
+  search rules,
+  walk_goes_on c.next.new.self c.in-Some.item c.loop-item.invariant.2 c.in-Some.ensures.steps c.item_len.ensures c.if-predicate.ensures,
+)
 
 pub returns : goal.returns
 returns g c = walk_ends c.next.new.self c.loop-item.invariant.2 c.in-None.ensures.steps

@@ -16,7 +16,9 @@ returns-in-Ok-clause-shown g c =
     let n = c.in-Ok.ensures in
     let place = n.place in
     let first = place_first seen_bytes c.args.input _ place in
-    accepted _ c.take_from.ensures (first, n.count_is) (built_error _ (IsFirstByte c.args.input.now) (IsFirstByte place.front) _ (λ b. byte_of c.args.input.now place.front place.rest b place.whole n.count_is) c.first.ensures)
+    accepted _ c.take_from.ensures (first, n.count_is)
+    (built_error _ (IsFirstByte c.args.input.now)
+    (IsFirstByte place.front) _ (λ b. byte_of c.args.input.now place.front place.rest b place.whole n.count_is) c.first.ensures)
 
 pub returns-in-Err-clause-shown : goal.returns-in-Err-clause-shown
 returns-in-Err-clause-shown g c =

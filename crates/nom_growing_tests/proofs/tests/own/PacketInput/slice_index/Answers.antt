@@ -4,4 +4,5 @@ use Rattle.nom.specs.Held.{counts_held, no_label}
 use Rattle.nom_growing_tests.proofs.tests.own.PacketInput.slice_index.Goals as goal
 
 pub returns : goal.returns
-returns c = counts_held (λ p. p.bytes) no_label seen_bytes c.args.self.now c.args.count (λ count xs. Some (count - length xs)) c.slice_index.result c.slice_index.ensures
+returns c = counts_held (λ p. p.bytes) no_label seen_bytes c.args.self.now c.args.count (λ count xs. Some (count - length xs)) c.slice_index.result
+    c.slice_index.ensures
