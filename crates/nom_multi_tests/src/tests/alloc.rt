@@ -12,7 +12,10 @@ use nom_internal::parser::Parser;
 /// The number of items of a list that a fold makes on a heap of 16 bytes, which holds four characters.
 /// `None`: memory ran out.
 fn folded(heap: &LocalHeap, input: &str) -> Option<usize> {
-    let push = |list: Vec<char, &LocalHeap>, c: char| -> Result<Vec<char, &LocalHeap>, OutOfMemory> {
+    let push = |list: Vec<char, &LocalHeap>, c: char| -> Result<
+        Vec<char, &LocalHeap>,
+        OutOfMemory,
+    > {
         let mut list = list;
         list.push(c)?;
         Ok(list)
