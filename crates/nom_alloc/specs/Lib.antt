@@ -1,0 +1,3 @@
+pub mod FoldAlloc
+pub mod MapAlloc
+pub mod MapAllocLaws

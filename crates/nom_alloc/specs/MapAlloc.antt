@@ -1,0 +1,39 @@
+-- A part whose outputs a closure maps, which may take memory.
+use Rattle.std.specs.Prelude.{◌≡◌, true, Result, Err}
+use Rattle.nom_error.specs.declared.answer.OutOfMemory.{OutOfMemory}
+use Rattle.nom_internal.specs.Outcome.{Outcome}
+use Rattle.nom_internal.specs.Outcome.Outcome.{Accept, Refuse, Fail, TooLarge, Undecided}
+use Rattle.nom_internal.specs.Meaning.{Meaning}
+use Rattle.nom_internal.specs.Cases.{Case, case_meaning}
+use Rattle.nom_internal.specs.Cases.PartMode.{AsAsked}
+use Rattle.nom_internal.specs.Closures.{IsCallable}
+
+-- the part accepts, and the closure finds no memory for an output
+abbrev pub LacksMemory : {V P R : Type 0} → (V → P → Type 0) → (P → Result R OutOfMemory → Type 0) → Outcome V → Type 0
+LacksMemory {P = P} IsOutput Gives (Accept n v) = (p : P) × (e : OutOfMemory) × IsOutput v p × Gives p (Err e)
+LacksMemory IsOutput Gives Refuse = ⊥
+LacksMemory IsOutput Gives Fail = ⊥
+LacksMemory IsOutput Gives TooLarge = ⊥
+LacksMemory IsOutput Gives (Undecided k) = ⊥
+
+-- the closure takes no memory, so it never lacks any
+abbrev pub TakesNoMemory : {P R : Type 0} → (P → Result R OutOfMemory → Type 0) → Type 0
+TakesNoMemory {P} Gives = (p : P) (e : OutOfMemory) → Gives p (Err e) → ⊥
+
+-- The outcome is the part's, with its tree, as of `map`. Where outputs are built, memory runs out too where the closure finds
+-- none for the output of an acceptance.
+abbrev pub map_alloc_case : {I V P R E : Type 0} → (V → P → Type 0) → (P → Type 0) → (P → Result R OutOfMemory → Type 0) → Case I I V V E E
+map_alloc_case IsOutput Takes Gives = record {
+  At = λ i j. i ≡ j;
+  mode = AsAsked;
+  Becomes = λ i a o. o ≡ a;
+  Blames = λ i a Part. Part;
+  part = λ mode. mode;
+  Asks = λ mode i a. (mode.outputs ≡ true) × LacksMemory IsOutput Gives a;
+  IsSound = λ Part. Part × IsCallable IsOutput Takes;
+  IsFrugal = λ Part mode. Part mode × (mode.outputs ≡ true → TakesNoMemory Gives);
+  NeverFails = λ Part. Part;
+}
+
+abbrev pub map_alloc_meaning : {I V P R E : Type 0} → (V → P → Type 0) → (P → Type 0) → (P → Result R OutOfMemory → Type 0) → Meaning I V E → Meaning I V E
+map_alloc_meaning IsOutput Takes Gives = case_meaning (map_alloc_case IsOutput Takes Gives)

@@ -1,0 +1,156 @@
+//! Folds of items by a closure that may take memory.
+ghost use Rattle.std.specs.Prelude.{◌≡◌, List, ℕ, Ok};
+ghost use Rattle.nom_error.specs.Modes.{Built};
+ghost use Rattle.nom_folds.specs.Folded.{FoldGains, CanFold, IsStart, IsCarried};
+ghost use Rattle.nom_folds.specs.Folds.{Folds, AreCallable, FoldsAlike};
+ghost use Rattle.nom_alloc.specs.FoldAlloc.{fold_many0_alloc_meaning};
+
+use nom_error::answer::{OutOfMemory, PResult};
+use nom_error::kind::ErrorKind;
+use nom_error::mode::{Check, Mode, OutputMode};
+use nom_internal::parser::{Parser, StreamParser};
+use nom_repeat::items::{Limits, TooFew, items};
+use nom_repeat::keep::Keep;
+use nom_traits::input::Input;
+use nom_traits::view::Viewed;
+
+/// The value that a fold carries, and the closure that takes an item to the next value. Between two items
+/// there is a value, until the closure finds no memory.
+#[derive(Drop)]
+pub struct Folded<'a, R, G> {
+    pub value: Option<R>,
+    pub fold: &'a G,
+}
+
+impl<'a, T: Drop, R: Drop, G: Fn(R, T) -> Result<R, OutOfMemory>> Keep<T> for Folded<'a, R, G> {
+    ghost Gains = { FoldGains (λ k. k.value) (λ k. k.fold.now) (λ f r x y. G.post f r x (Ok y)) };
+
+    ghost CanKeep = { CanFold (λ k. k.value) (λ k. k.fold.now) G.pre };
+
+    // The closure alone knows where there is no memory.
+    ghost IsFull = { λ _. Unit {0} };
+
+    ghost Grows = { Unit {0} };
+
+    ghost fills = { λ _ _. tt };
+
+    #[inline(always)]
+    fn keep(&mut self, item: T) -> bool {
+        match self.value.take() {
+            Some(value) => match (self.fold)(value, item) {
+                Ok(next) => {
+                    self.value = Some(next);
+                    true
+                }
+                Err(_) => false,
+            },
+            None => unreachable!(),
+        }
+    }
+}
+
+/// The first value, where outputs are built.
+#[inline(always)]
+fn start<'a, M: Mode, T, R, H: Fn() -> R, G: Fn(R, T) -> Result<R, OutOfMemory>>(
+    init: &H,
+    fold: &'a G,
+) -> Option<Folded<'a, R, G>>
+    requires init { H.pre init.now }
+    requires takes { (r : R) (x : T) → G.pre fold.now r x }
+    ensures starts { Built M.BUILDS (IsStart (λ k. k.value) (λ k. k.fold.now) (H.post init.now) fold.now) result }
+    ensures ready { Built M.BUILDS (CanFold (λ k. k.value) (λ k. k.fold.now) G.pre) result }
+{
+    if M::BUILDS {
+        Some(Folded {
+            value: Some(init()),
+            fold,
+        })
+    } else {
+        None
+    }
+}
+
+/// The value that a fold carries, where outputs are built.
+#[inline(always)]
+fn carried<'a, R: Drop, G>(kept: Option<Folded<'a, R, G>>) -> Option<R>
+    ensures { IsCarried (λ k. k.value) kept.entry result }
+{
+    match kept {
+        Some(kept) => kept.value,
+        None => None,
+    }
+}
+
+/// The fold of items until one is refused, by a closure that may take memory; made by `fold_many0_alloc`.
+/// The closures are called only where outputs are built.
+#[derive(Drop)]
+pub struct FoldMany0Alloc<F, H, G> {
+    pub parser: F,
+    pub init: H,
+    pub fold: G,
+}
+
+impl<
+    I: Input,
+    F: Parser<I> + Drop,
+    R: Viewed + Drop,
+    H: Fn() -> R,
+    G: Fn(R, F::Output) -> Result<R, OutOfMemory>,
+> Parser<I> for FoldMany0Alloc<F, H, G>
+where
+    F::Output: Viewed,
+{
+    ghost use Rattle.nom_alloc.specs.FoldAlloc.{fold_many0_alloc_lawful};
+
+    type Output = R;
+
+    type Error = F::Error;
+
+    ghost State = { F.State × H × G };
+
+    ghost state = { λ p. (F.state p.parser, p.init, p.fold) };
+
+    ghost Tree = { List F.Tree };
+
+    ghost IsOutput = { λ s. Folds (F.IsOutput s.0) (H.post s.1) (λ r x y. G.post s.2 r x (Ok y)) };
+
+    ghost meaning = { λ s. fold_many0_alloc_meaning I.seen F.Error.errors (AreCallable (H.pre s.1) (G.pre s.2)) (F.meaning s.0) };
+
+    ghost Pins = { λ s. F.Pins s.0 × FoldsAlike F.Output.view R.view (H.post s.1) (λ r x y. G.post s.2 r x (Ok y)) };
+
+    #[inline]
+    fn process<OM: OutputMode>(&mut self, input: I) -> PResult<I, R, F::Error> {
+        let first = start::<OM::Output, F::Output, R, H, G>(&self.init, &self.fold);
+        let limits = Limits {
+            least: 0,
+            most: None,
+            too_few: TooFew::Never,
+            at_start: false,
+            empty: Some(ErrorKind::Many0),
+        };
+        let (rest, last) = items::<OM, Check, I, F, Folded<R, G>>(
+            &mut self.parser,
+            input,
+            first,
+            limits,
+        )?;
+        Ok((rest, carried(last)))
+    }
+
+    ghost lawful = { λ s k. fold_many0_alloc_lawful I.seen I.lawful F.Error.errors (AreCallable (H.pre s.1) (G.pre s.2)) (F.meaning s.0) (F.lawful s.0 k.0) };
+}
+
+impl<
+    I: Input,
+    F: StreamParser<I> + Drop,
+    R: Viewed + Drop,
+    H: Fn() -> R,
+    G: Fn(R, F::Output) -> Result<R, OutOfMemory>,
+> StreamParser<I> for FoldMany0Alloc<F, H, G> {
+    ghost use Rattle.nom_folds.specs.FoldLaws.{folds_pinned};
+    ghost use Rattle.nom_alloc.specs.FoldAlloc.{fold_many0_alloc_steady};
+
+    ghost pinned = { λ s k p. folds_pinned F.Output.view R.view (F.IsOutput s.0) (H.post s.1) (λ r x y. G.post s.2 r x (Ok y)) (F.pinned s.0 k.0 p.0) p.1 };
+
+    ghost steady = { λ s k. fold_many0_alloc_steady I.seen I.lawful F.Error.errors (AreCallable (H.pre s.1) (G.pre s.2)) (F.meaning s.0) (F.steady s.0 k.0) };
+}

@@ -1,0 +1,71 @@
+//! A parser whose outputs a closure maps, which may take memory.
+ghost use Rattle.std.specs.Prelude.{Ok};
+ghost use Rattle.nom_internal.specs.Closures.{GivesFor, SeesAlike};
+ghost use Rattle.nom_internal.specs.MappedLaws.{given_pinned};
+ghost use Rattle.nom_alloc.specs.MapAlloc.{map_alloc_meaning};
+ghost use Rattle.nom_alloc.specs.MapAllocLaws.{map_alloc_lawful, map_alloc_steady};
+
+use nom_error::answer::{Err, OutOfMemory, PResult};
+use nom_error::mode::OutputMode;
+use nom_internal::parser::{Parser, StreamParser};
+use nom_traits::input::Items;
+use nom_traits::view::Viewed;
+
+/// A parser whose outputs a closure maps, which may take memory; made by `map_alloc`. The closure is
+/// called only where outputs are built.
+#[derive(Drop)]
+pub struct MapAlloc<F, G> {
+    pub parser: F,
+    pub map: G,
+}
+
+impl<
+    I: Items,
+    F: Parser<I> + Drop,
+    O: Viewed + Drop,
+    G: Fn(F::Output) -> Result<O, OutOfMemory>,
+> Parser<I> for MapAlloc<F, G>
+where
+    F::Output: Viewed,
+{
+    type Output = O;
+
+    type Error = F::Error;
+
+    ghost State = { F.State × G };
+
+    ghost state = { λ p. (F.state p.parser, p.map) };
+
+    ghost Tree = { F.Tree };
+
+    ghost IsOutput = { λ s. GivesFor (F.IsOutput s.0) (λ a o. G.post s.1 a (Ok o)) };
+
+    ghost meaning = { λ s. map_alloc_meaning (F.IsOutput s.0) (G.pre s.1) (G.post s.1) (F.meaning s.0) };
+
+    ghost Pins = { λ s. F.Pins s.0 × SeesAlike F.Output.view O.view (λ a o. G.post s.1 a (Ok o)) };
+
+    #[inline(always)]
+    fn process<OM: OutputMode>(&mut self, input: I) -> PResult<I, O, F::Error> {
+        let (rest, output) = self.parser.process::<OM>(input)?;
+        match output {
+            Some(output) => match (self.map)(output) {
+                Ok(mapped) => Ok((rest, Some(mapped))),
+                Err(_) => Err(Err::OutOfMemory),
+            },
+            None => Ok((rest, None)),
+        }
+    }
+
+    ghost lawful = { λ s k. map_alloc_lawful I.seen (F.IsOutput s.0) (G.pre s.1) (G.post s.1) (F.meaning s.0) (F.lawful s.0 k.0) };
+}
+
+impl<
+    I: Items,
+    F: StreamParser<I> + Drop,
+    O: Viewed + Drop,
+    G: Fn(F::Output) -> Result<O, OutOfMemory>,
+> StreamParser<I> for MapAlloc<F, G> {
+    ghost pinned = { λ s k p. given_pinned F.Output.view O.view (F.IsOutput s.0) (λ a o. G.post s.1 a (Ok o)) (F.pinned s.0 k.0 p.0) p.1 };
+
+    ghost steady = { λ s k. map_alloc_steady I.seen (F.IsOutput s.0) (G.pre s.1) (G.post s.1) (F.meaning s.0) (F.steady s.0 k.0) };
+}
