@@ -72,9 +72,17 @@ module _ {I A V P R E : Type 0} {w : Seen I A} {IsOutput : V → P → Type 0} {
       (j, None, a.rest_is, none_given IsOutput (λ p r. Gives p (Ok r)) a.tree mode.outputs x e a.built_is, refl)
 
   -- the closure found no memory for an output
-  pub map_ran_out : {j : I} {x : Option P} {p : P} {q : Result R OutOfMemory} {e : OutOfMemory} → IsCallable IsOutput Takes → x ≡ Some p → q ≡ Err e → Gives p q →
+  pub map_ran_out : {j : I} {x : Option P} {p : P} {q : Result R OutOfMemory} {e : OutOfMemory} → IsCallable IsOutput Takes → x ≡ Some p →
+      q ≡ Err e → Gives p q →
       ShowsMeaning w IsOutput m mode i (Ok (j, x)) → MapAllocShown w IsOutput Takes Gives m mode i (Err Answer.Err.OutOfMemory)
   map_ran_out {x = x} {p = p} {e = e} k s q g h =
       let a = accepts h in
       let b = was_built IsOutput a.tree mode.outputs x p s a.built_is in
-      RanOut refl (RunsOutBeside (record { at = i; at_is = refl; outcome = Accept a.length a.tree; answered = a.answered; fact = (b.0, (p, e, b.1, subst (Gives p) q g)) }))
+      RanOut refl (RunsOutBeside (record {
+        at = i;
+        at_is = refl;
+        outcome = Accept a.length a.tree;
+        answered = a.answered;
+        fact =
+            (b.0, (p, e, b.1, subst (Gives p) q g));
+      }))

@@ -20,7 +20,8 @@ module _ {I A F S P O E : Type 0} (w : Seen I A) (state : F → S) (IsOutput : S
   PartShown f = ShowsMeaning w (IsOutput (state f)) (meaning (state f)) mode i
 
   pub cond_err : (p : Option F) (f : F) → p ≡ Some f →
-      (e : Answer.Err E (Option E) Needed) (r : Result (I × Option (Option O)) (Answer.Err E (Option E) Needed)) → PartShown f (Err e) → r ≡ Err e → CondShown p r
+      (e : Answer.Err E (Option E) Needed) (r : Result (I × Option (Option O)) (Answer.Err E (Option E) Needed)) → PartShown f (Err e) →
+      r ≡ Err e → CondShown p r
   cond_err p f q e r h is =
       let shown = labels_err w (λ t. Some t) (IsOutput (state f)) (OptOutput (IsOutput (state f))) (meaning (state f)) mode.outputs mode i e h in
       subst (λ z. CondShown z r) (sym q) (subst (λ z. CondShown (Some f) z) (sym is) shown)

@@ -127,7 +127,8 @@ module _ {I Z X P A : Type 0} (w : Seen I Z) (l : InputLaws w) (mode : Modes) (i
               (λ u v o r p q. (p.0, p.1, p.2, p.3, q)) (tuple_4 w a b c d) e mode i after_d after_e members_4 shows_e
 
           pub shown_5 : (r : Result (I × Option (A × B × C × D × E)) (Answer.Err X (Option X) Needed)) →
-              OnAccepted (IsFormed mode.outputs flat_5) after_e r → ShowsMeaning w (Outputs_5 IsA IsB IsC IsD IsE) (built_meaning (tuple_5 w a b c d e)) mode i r
+              OnAccepted (IsFormed mode.outputs flat_5) after_e r →
+              ShowsMeaning w (Outputs_5 IsA IsB IsC IsD IsE) (built_meaning (tuple_5 w a b c d e)) mode i r
           shown_5 r x = formed_shown w (λ t o. Outputs_5 IsA IsB IsC IsD IsE t (flat_5 o)) (Outputs_5 IsA IsB IsC IsD IsE) flat_5 (λ t o h. h)
               (tuple_5 w a b c d e) mode i after_e r members_5 x
 

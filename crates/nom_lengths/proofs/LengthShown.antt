@@ -34,7 +34,8 @@ module _ {I A P Q T X Y E : Type 0} (w : Seen I A) (l : InputLaws w) (tree : P �
     (IsResult : T → Y → Type 0) (a : Meaning I P E) (f : Family ℕ I Q E) (mode : Modes) (i : I) where
   pub behind_ok : (j : I) (x : Option X) (o : X) (n : ℕ) (r : Result (I × Option Y) (Answer.Err E (Option E) Needed)) →
       ShowsMeaning w IsFirst a (with_outputs true mode) i (Ok (j, x)) → x ≡ Some o → n ≡ size o →
-      ((u : P) → ShowsMeaning w (λ q. IsResult (tree u q)) (f.at n) mode j r) → ShowsMeaning w IsResult (behind_length w tree (HasSize IsFirst size) a f) mode i r
+      ((u : P) → ShowsMeaning w (λ q. IsResult (tree u q)) (f.at n) mode j r) →
+      ShowsMeaning w IsResult (behind_length w tree (HasSize IsFirst size) a f) mode i r
   behind_ok j x o n r h q e t =
       then_ok l h (λ u b.
       length_shown w (λ v. IsResult (tree u v)) mode j (HasSize IsFirst size u) n

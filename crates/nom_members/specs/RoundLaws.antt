@@ -16,6 +16,7 @@ step_over Joins Grows m put outputs IsOutput n o None slot f h z = absurd (omega
 
 -- a first place
 pub first_over : {I T V O E : Type 0} (Joins : E → E → E → Type 0) (Grows : Type 0) (m : Meaning I V E) (put : V → T) (outputs : Bool)
-    (IsOutput : V → O → Type 0) (x : Option V) (slot : Slot O) → Holds outputs IsOutput x slot → waits slot ≡ 0 → IsOver (or_waiting Joins Grows NoChoice m put x)
+    (IsOutput : V → O → Type 0) (x : Option V) (slot : Slot O) → Holds outputs IsOutput x slot → waits slot ≡ 0 →
+    IsOver (or_waiting Joins Grows NoChoice m put x)
 first_over Joins Grows m put outputs IsOutput (Some v) slot h z = tt
 first_over Joins Grows m put outputs IsOutput None slot h z = absurd (omega (arith, z, ap waits h))

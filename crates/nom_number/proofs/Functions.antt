@@ -35,7 +35,8 @@ module _ {I A N E : Type 0} {w : Seen I A} {IsError : I → E → Type 0} {RunsO
 module _ {I E : Type 0} {w : Seen I ℕ} {IsError : I → E → Type 0} {RunsOut : I → Type 0} (big : Bool) (count : ℕ) where
   -- `u8` to `u128`
   pub unsigned_func : (s : Bool) →
-      IsParser w itself (λ i r. ParsesAnswer w (λ t v. v ≡ t) i ((unsigned_meaning w no_errors big count).answers s i) (IsError i) (RunsOut i) r) (λ i. Unit {0})
+      IsParser w itself (λ i r. ParsesAnswer w (λ t v. v ≡ t) i ((unsigned_meaning w no_errors big count).answers s i) (IsError i)
+      (RunsOut i) r) (λ i. Unit {0})
   unsigned_func = number_func {IsError = IsError} {RunsOut = RunsOut} (number_of big) count
 
   pub unsigned_stream_func : IsStreamParser w itself

@@ -203,7 +203,8 @@ module _ {I A P : Type 0} (w : Seen I A) (bound : Option ℕ) where
   reply_agree longer F G f k x y None None kx ky r h d g = refl
 
   reply_carries : (decided : Bool) (F G : ℕ → I → Outcome P → Type 0) → ((k : ℕ) → Carries w decided (F k) (G k)) →
-      (k : ℕ) (x y : I) (a : Option (Outcome P)) → w.IsKnown x → w.IsKnown y → IsSame w x y → Replies bound F k x a → KeepsReply decided a → Replies bound G k y a
+      (k : ℕ) (x y : I) (a : Option (Outcome P)) → w.IsKnown x → w.IsKnown y → IsSame w x y → Replies bound F k x a → KeepsReply decided a →
+      Replies bound G k y a
   reply_carries decided F G f k x y (Some o) kx ky r h d = (h.0, f k x y o kx ky r h.1 d)
   reply_carries decided F G f k x y None kx ky r h d = h
 
