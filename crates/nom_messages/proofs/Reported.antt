@@ -31,7 +31,12 @@ same_line (inr t) m h = ap message_text h.given
 never_fails : (large : Bool) → message_grammar.NeverFails large
 never_fails large = search
 
-pub reported_messages : {A : Type 0} (whole : Bytes) (cuts : List ℕ) (index start : ℕ) → (index < length cuts → start ≡ slice_index cuts index) → (length cuts ≤ index → start ≡ length whole.now) → seen_bytes.IsKnown whole → (answer : Result (Bytes × Vec Message A) (Answer.Err (Error Bytes) (Error Bytes) Needed)) (text : List ℕ) (status : ℕ) → IsGrown seen_bytes AreBodies message_grammar whole cuts index answer → HasNoFailure seen_bytes message_grammar → IsTold lines_of index start answer text status → IsReport whole.now cuts text status
+pub reported_messages : {A : Type 0} (whole : Bytes) (cuts : List ℕ) (index start : ℕ) →
+    (index < length cuts → start ≡ slice_index cuts index) → (length cuts ≤ index → start ≡ length whole.now) → seen_bytes.IsKnown whole →
+    (answer : Result (Bytes × Vec Message A) (Answer.Err (Error Bytes) (Error Bytes) Needed)) (text : List ℕ) (status : ℕ) →
+    IsGrown seen_bytes AreBodies message_grammar whole cuts index answer → HasNoFailure seen_bytes message_grammar →
+    IsTold lines_of index start answer text status → IsReport whole.now cuts text status
 unfolding IsReport
 reported_messages whole cuts index start at_cut at_end known answer text status g none t =
-    reported message_grammar bodies_text AreBodies lines_of (λ ts v h. lines-same IsBody body_text message_text same_line ts v.items h) whole cuts index start at_cut at_end known (λ large i k a. none large true i k (never_fails large) a) answer text status g t
+    reported message_grammar bodies_text AreBodies lines_of (λ ts v h. lines-same IsBody body_text message_text same_line ts v.items h) whole
+    cuts index start at_cut at_end known (λ large i k a. none large true i k (never_fails large) a) answer text status g t

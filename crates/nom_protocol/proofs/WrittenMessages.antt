@@ -16,7 +16,8 @@ use Rattle.nom_protocol.specs.declared.message.Message.{Message}
 use Rattle.nom_protocol.specs.Messages.{Body, messages_of, written_of}
 
 -- what holds of the grammar by its parts holds of the grammar
-pub by_its_parts : {M : Type 0} (P : BytesGrammar (List Body) (Vec Message M) → Type 0) (ping text close end : List ℕ) (l n : Bool) → ping ≡ 1 ∷ [] → text ≡ 2 ∷ [] → close ≡ 3 ∷ [] → end ≡ 0 ∷ 0 ∷ [] → l ≡ true → n ≡ true → P (written_of ping text close end l n) → P messages_of
+pub by_its_parts : {M : Type 0} (P : BytesGrammar (List Body) (Vec Message M) → Type 0) (ping text close end : List ℕ) (l n : Bool) →
+    ping ≡ 1 ∷ [] → text ≡ 2 ∷ [] → close ≡ 3 ∷ [] → end ≡ 0 ∷ 0 ∷ [] → l ≡ true → n ≡ true → P (written_of ping text close end l n) → P messages_of
 by_its_parts P ping text close end l n p t c e f g h =
     subst (λ x. P (written_of x (2 ∷ []) (3 ∷ []) (0 ∷ 0 ∷ []) true true)) p (
     subst (λ x. P (written_of ping x (3 ∷ []) (0 ∷ 0 ∷ []) true true)) t (
@@ -25,7 +26,8 @@ by_its_parts P ping text close end l n p t c e f g h =
     subst (λ x. P (written_of ping text close end x true)) f (
     subst (λ x. P (written_of ping text close end l x)) g h)))))
 
-module _ {V O : Type 0} (m : Meaning Bytes V (Error Bytes)) (IsOutput : V → O → Type 0) (whole : Bytes) (cuts : List ℕ) (index : ℕ) (known : seen_bytes.IsKnown whole) where
+module _ {V O : Type 0} (m : Meaning Bytes V (Error Bytes)) (IsOutput : V → O → Type 0) (whole : Bytes) (cuts : List ℕ) (index : ℕ)
+    (known : seen_bytes.IsKnown whole) where
   begins_known : (x : Bytes) → IsBeginning seen_bytes whole cuts index x → seen_bytes.IsKnown x
   begins_known x (AtCut h p) = p.known
   begins_known x (AtEnd h e) = subst seen_bytes.IsKnown (sym e) known
@@ -33,11 +35,14 @@ module _ {V O : Type 0} (m : Meaning Bytes V (Error Bytes)) (IsOutput : V → O 
   abbrev Tells : Result (Bytes × O) (Answer.Err (Error Bytes) (Error Bytes) Needed) → Outcome V → Type 0
   Tells r o = (r ≡ Err OutOfMemory) ⊎ ((beginning : Bytes) × Parses seen_bytes IsOutput whole (m.blames true beginning) o r)
 
-  answered : (none : HasNoFailure seen_bytes m) (never : m.NeverFails true) (x : Bytes) (r : Result (Bytes × O) (Answer.Err (Error Bytes) (Error Bytes) Needed)) → IsBeginning seen_bytes whole cuts index x → AnswersOn seen_bytes IsOutput m whole cuts index x r → (o : Outcome V) → m.answers true whole o → Tells r o
+  answered : (none : HasNoFailure seen_bytes m) (never : m.NeverFails true) (x : Bytes)
+      (r : Result (Bytes × O) (Answer.Err (Error Bytes) (Error Bytes) Needed)) → IsBeginning seen_bytes whole cuts index x →
+      AnswersOn seen_bytes IsOutput m whole cuts index x r → (o : Outcome V) → m.answers true whole o → Tells r o
   answered none never x r begins (RanOutOn e h) o a = inl e
   answered none never x r begins (ShownOn b) o a =
       let same = b.stays (λ e. none true true x (begins_known x begins) never (subst (λ p. m.answers true x p) e b.answered)) o a in
       inr (x, subst (λ p. Parses seen_bytes IsOutput whole (m.blames true x) p r) same b.shown)
 
-  pub of_whole : (r : Result (Bytes × O) (Answer.Err (Error Bytes) (Error Bytes) Needed)) → IsGrown seen_bytes IsOutput m whole cuts index r × HasNoFailure seen_bytes m → m.NeverFails true → (o : Outcome V) → m.answers true whole o → Tells r o
+  pub of_whole : (r : Result (Bytes × O) (Answer.Err (Error Bytes) (Error Bytes) Needed)) → IsGrown seen_bytes IsOutput m whole cuts index r ×
+      HasNoFailure seen_bytes m → m.NeverFails true → (o : Outcome V) → m.answers true whole o → Tells r o
   of_whole r g never = answered g.1 never g.0.beginning r g.0.begins g.0.answer

@@ -7,7 +7,8 @@ use Rattle.nom_error.specs.declared.value.Error.{Error}
 use Rattle.nom_traits.specs.Bytes.{seen_bytes}
 use Rattle.nom_traits.specs.Slices.{Slice}
 use Rattle.nom_internal.specs.Outcome.{Outcome, Parses}
-use Rattle.nom.specs.Bytes.{Bytes, BytesGrammar, all_consuming_of, alt_of, length_data_of, length_value_of, many0_of, map_of, number_of, or_of, pair_of, preceded_of, tag_of, terminated_of}
+use Rattle.nom.specs.Bytes.{Bytes, BytesGrammar, all_consuming_of, alt_of, length_data_of, length_value_of, many0_of, map_of, number_of, or_of}
+use Rattle.nom.specs.Bytes.{pair_of, preceded_of, tag_of, terminated_of}
 use Rattle.nom_protocol.specs.declared.message.Message.{Message}
 use Rattle.nom_protocol.specs.declared.message.Message.TheVariants.{Ping, Text, Close}
 
@@ -33,4 +34,5 @@ messages_of = written_of (1 ∷ []) (2 ∷ []) (3 ∷ []) (0 ∷ 0 ∷ []) true 
 -- What is answered is what the grammar makes of the whole, want of memory aside: nothing tells where the cuts were, but an error, which
 -- holds the input as it was on a beginning.
 abbrev pub TellsWhole : {M : Type 0} → Bytes → Result (Bytes × Vec Message M) (Answer.Err (Error Bytes) (Error Bytes) Needed) → Type 0
-TellsWhole {M} whole r = (o : Outcome (List Body)) → (messages_of {M = M}).meaning.answers true whole o → (r ≡ Err OutOfMemory) ⊎ ((beginning : Bytes) × Parses seen_bytes (messages_of {M = M}).IsOutput whole ((messages_of {M = M}).meaning.blames true beginning) o r)
+TellsWhole {M} whole r = (o : Outcome (List Body)) → (messages_of {M = M}).meaning.answers true whole o → (r ≡ Err OutOfMemory) ⊎
+    ((beginning : Bytes) × Parses seen_bytes (messages_of {M = M}).IsOutput whole ((messages_of {M = M}).meaning.blames true beginning) o r)

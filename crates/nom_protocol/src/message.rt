@@ -81,7 +81,9 @@ pub fn messages<'a, A: Allocator + Copy>(
     cuts: &[usize],
 ) -> Grown<&'a [u8], Vec<Message<'a>, A>, Error<&'a [u8]>>
     requires { AreCuts seen_bytes bytes cuts.now }
-    ensures { TellsWhole bytes.entry result.result × IsGrown seen_bytes (messages_of {M = A}).IsOutput (messages_of {M = A}).meaning bytes.entry cuts.now result.index result.result × HasNoFailure seen_bytes (messages_of {M = A}).meaning }
+    ensures { TellsWhole bytes.entry result.result ×
+        IsGrown seen_bytes (messages_of {M = A}).IsOutput (messages_of {M = A}).meaning bytes.entry cuts.now result.index result.result ×
+        HasNoFailure seen_bytes (messages_of {M = A}).meaning }
 {
     bytes.known();
     let number = pair(tag::<_, _, Error<&[u8]>>(&b"\x01"[..]), be_u32());

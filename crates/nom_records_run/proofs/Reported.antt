@@ -25,7 +25,8 @@ use Rattle.nom_growing.specs.Growing.{IsGrown}
 use Rattle.nom_run.specs.Report.{IsTold}
 use Rattle.nom_run.proofs.Reported.{reported}
 use Rattle.nom_run.proofs.Told.{lines-same}
-use Rattle.nom_records_run.specs.Report.{AreRecords, record_text, records_text, lines_of, IsReport, errors_at, bytes_lacking, tag_of, record_of, grammar_of, record_grammar}
+use Rattle.nom_records_run.specs.Report.{AreRecords, record_text, records_text, lines_of, IsReport, errors_at, bytes_lacking, tag_of, record_of}
+use Rattle.nom_records_run.specs.Report.{grammar_of, record_grammar}
 
 abbrev Bytes : Type 0
 Bytes = Bor (List ℕ)
@@ -36,21 +37,36 @@ AnswerErr = Answer.Err (Error Bytes) (Error Bytes) Needed
 -- the grammar never fails
 grammar_lawful : (tag end : List ℕ) → IsLawful seen_bytes (grammar_of tag end)
 grammar_lawful tag end =
-    let number = labelled_lawful seen_bytes (take_meaning seen_bytes errors_at (bytes_lack seen_bytes) 1) (λ t. value_of 256 t.items) (take_lawful seen_bytes errors_at (bytes_lack seen_bytes) 1) in
-    let length_data = length_data_lawful seen_bytes bytes_lawful errors_at bytes_lacking (HasSize (λ t v. v ≡ t) (λ n. n)) (number_meaning seen_bytes errors_at (value_of 256) 1) (λ u m n a b. sym a.size_is ∙ (a.is_output ∙ (sym b.is_output ∙ b.size_is))) number in
-    let item = sequence_lawful seen_bytes bytes_lawful (λ u v. v) (with_outputs false) (λ o. o) (tag_of tag) (length_data_meaning seen_bytes errors_at bytes_lacking (HasSize (λ t v. v ≡ t) (λ n. n)) (number_meaning seen_bytes errors_at (value_of 256) 1)) (tag_lawful seen_bytes bytes_lawful errors_at length ComparesBytes bytes_comparing tag) length_data in
-    sequence_lawful seen_bytes bytes_lawful (λ u v. u) (λ o. o) (with_outputs false) (many0_meaning seen_bytes errors_at (record_of tag)) (tag_of end) (many0_lawful seen_bytes bytes_lawful errors_at (record_of tag) item) (tag_lawful seen_bytes bytes_lawful errors_at length ComparesBytes bytes_comparing end)
+    let number = labelled_lawful seen_bytes (take_meaning seen_bytes errors_at (bytes_lack seen_bytes) 1) (λ t. value_of 256 t.items)
+    (take_lawful seen_bytes errors_at (bytes_lack seen_bytes) 1) in
+    let length_data = length_data_lawful seen_bytes bytes_lawful errors_at bytes_lacking (HasSize (λ t v. v ≡ t) (λ n. n))
+    (number_meaning seen_bytes errors_at (value_of 256) 1) (λ u m n a b. sym a.size_is ∙ (a.is_output ∙ (sym b.is_output ∙ b.size_is))) number in
+    let item = sequence_lawful seen_bytes bytes_lawful (λ u v. v) (with_outputs false) (λ o. o) (tag_of tag)
+    (length_data_meaning seen_bytes errors_at bytes_lacking (HasSize (λ t v. v ≡ t) (λ n. n))
+    (number_meaning seen_bytes errors_at (value_of 256) 1))
+    (tag_lawful seen_bytes bytes_lawful errors_at length ComparesBytes bytes_comparing tag) length_data in
+    sequence_lawful seen_bytes bytes_lawful (λ u v. u) (λ o. o) (with_outputs false) (many0_meaning seen_bytes errors_at (record_of tag))
+    (tag_of end) (many0_lawful seen_bytes bytes_lawful errors_at (record_of tag) item)
+    (tag_lawful seen_bytes bytes_lawful errors_at length ComparesBytes bytes_comparing end)
 
 grammar_never_fails : (large : Bool) (i : Bytes) → seen_bytes.IsKnown i → record_grammar.answers true i (failure large) → ⊥
 grammar_never_fails large i h = (grammar_lawful (codes "R") (codes ".")).never_fails large ((tt, (tt, tt)), tt) true i h
 
 -- the grammar of two tags is that of the report, where these are its own
-pub by_its_tags : {A : Type 0} (tag end : List ℕ) → tag ≡ codes "R" → end ≡ codes "." → (whole : Bytes) (cuts : List ℕ) (index : ℕ) (answer : Result (Bytes × Vec Bytes A) AnswerErr) → IsGrown seen_bytes AreRecords (grammar_of tag end) whole cuts index answer → IsGrown seen_bytes AreRecords record_grammar whole cuts index answer
+pub by_its_tags : {A : Type 0} (tag end : List ℕ) → tag ≡ codes "R" → end ≡ codes "." →
+    (whole : Bytes) (cuts : List ℕ) (index : ℕ) (answer : Result (Bytes × Vec Bytes A) AnswerErr) →
+    IsGrown seen_bytes AreRecords (grammar_of tag end) whole cuts index answer → IsGrown seen_bytes AreRecords record_grammar whole cuts index answer
 by_its_tags tag end e f whole cuts index answer g =
     let tagged = subst (λ x. IsGrown seen_bytes AreRecords (grammar_of x end) whole cuts index answer) e g in
     subst (λ x. IsGrown seen_bytes AreRecords (grammar_of (codes "R") x) whole cuts index answer) f tagged
 
-pub reported_records : {A : Type 0} (whole : Bytes) (cuts : List ℕ) (index start : ℕ) → (index < length cuts → start ≡ slice_index cuts index) → (length cuts ≤ index → start ≡ length whole.now) → seen_bytes.IsKnown whole → (answer : Result (Bytes × Vec Bytes A) AnswerErr) (text : List ℕ) (status : ℕ) → IsGrown seen_bytes AreRecords record_grammar whole cuts index answer → IsTold lines_of index start answer text status → IsReport whole.now cuts text status
+pub reported_records : {A : Type 0} (whole : Bytes) (cuts : List ℕ) (index start : ℕ) →
+    (index < length cuts → start ≡ slice_index cuts index) → (length cuts ≤ index → start ≡ length whole.now) → seen_bytes.IsKnown whole →
+    (answer : Result (Bytes × Vec Bytes A) AnswerErr) (text : List ℕ) (status : ℕ) →
+    IsGrown seen_bytes AreRecords record_grammar whole cuts index answer → IsTold lines_of index start answer text status →
+    IsReport whole.now cuts text status
 unfolding IsReport
 reported_records whole cuts index start at_cut at_end known answer text status g t =
-    reported record_grammar records_text AreRecords lines_of (λ ts v h. lines-same (λ t o. IsSeenAs seen_bytes t.1 o) (λ t. record_text t.1.items) (λ r. record_text r.now) (λ t o e. ap record_text e.elements_are) ts v.items h) whole cuts index start at_cut at_end known grammar_never_fails answer text status g t
+    reported record_grammar records_text AreRecords lines_of
+    (λ ts v h. lines-same (λ t o. IsSeenAs seen_bytes t.1 o) (λ t. record_text t.1.items) (λ r. record_text r.now)
+    (λ t o e. ap record_text e.elements_are) ts v.items h) whole cuts index start at_cut at_end known grammar_never_fails answer text status g t

@@ -50,7 +50,8 @@ tag_of = tag_meaning seen_bytes errors_at length ComparesBytes
 
 -- a record: a tag, a byte that says how many bytes follow, and these
 abbrev pub record_of : List ℕ → Meaning (Bor (List ℕ)) (ℕ × Slice seen_bytes) (Error (Bor (List ℕ)))
-record_of tag = preceded_meaning seen_bytes (tag_of tag) (length_data_meaning seen_bytes errors_at bytes_lacking (HasSize (λ t v. v ≡ t) (λ n. n)) (number_meaning seen_bytes errors_at (value_of 256) 1))
+record_of tag = preceded_meaning seen_bytes (tag_of tag)
+    (length_data_meaning seen_bytes errors_at bytes_lacking (HasSize (λ t v. v ≡ t) (λ n. n)) (number_meaning seen_bytes errors_at (value_of 256) 1))
 
 -- records, and then another tag
 abbrev pub grammar_of : (tag end : List ℕ) → Meaning (Bor (List ℕ)) (List (ℕ × Slice seen_bytes)) (Error (Bor (List ℕ)))

@@ -40,7 +40,8 @@ fn add_accepted<A: Allocator + Copy>(
     records: &[&[u8]],
     rest: usize,
 ) -> Result<(), OutOfMemory>
-    ensures { IfOk result (λ _. string_bytes text.new ≡ string_bytes text.old ++ (decided_text index ++ lines_text (λ r. record_text r.now) records.now ++ rest_text rest)) }
+    ensures { IfOk result (λ _. string_bytes text.new ≡ string_bytes text.old ++
+        (decided_text index ++ lines_text (λ r. record_text r.now) records.now ++ rest_text rest)) }
 {
     add_decided(text, index)?;
     add_records(text, records)?;

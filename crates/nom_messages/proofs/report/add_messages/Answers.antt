@@ -3,7 +3,8 @@ use Rattle.nom_messages.specs.Report.{message_text}
 use Rattle.nom_messages.proofs.report.add_messages.Goals as goal
 
 pub loop-message-preserved : goal.loop-message-preserved
-loop-message-preserved g c = lines-step message_text _ _ _ c.args.found.now c.loop-message.message-index _ c.loop-message-test.true c.loop-message.invariant c.in_ok-add_message.ensures
+loop-message-preserved g c = lines-step message_text _ _ _ c.args.found.now c.loop-message.message-index _ c.loop-message-test.true
+    c.loop-message.invariant c.in_ok-add_message.ensures
 
 pub returns : goal.returns
 returns g c = lines-all message_text _ _ c.args.found.now c.loop-message.message-index c.loop-message-test.false c.loop-message.invariant

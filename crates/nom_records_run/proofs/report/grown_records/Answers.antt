@@ -8,6 +8,7 @@ parse_growing-requires-clause-cuts g c = byte_cuts_below c.args.bytes c.args.cut
 
 pub returns : goal.returns
 returns g c =
-    let begins = ap (λ p. p.parser.first.tag.now) c.terminated-records.ensures.first ∙ (ap (λ p. p.first.tag.now) c.many0.ensures.parser ∙ (ap (λ p. p.tag.now) c.preceded-record.ensures.first ∙ ap (λ t. t.now) c.tag.ensures)) in
+    let begins = ap (λ p. p.parser.first.tag.now) c.terminated-records.ensures.first ∙
+    (ap (λ p. p.first.tag.now) c.many0.ensures.parser ∙ (ap (λ p. p.tag.now) c.preceded-record.ensures.first ∙ ap (λ t. t.now) c.tag.ensures)) in
     let ends = ap (λ p. p.tag.now) c.terminated-records.ensures.second ∙ ap (λ t. t.now) c.tag-2.ensures in
     by_its_tags _ _ begins ends c.args.bytes c.args.cuts.now c.parse_growing.result.index c.parse_growing.result.result c.parse_growing.ensures.grown
