@@ -8,12 +8,13 @@ use nom_error::answer::{Err, OutOfMemory};
 use nom_error::mode::{Check, Complete, OutputM};
 use nom_error::value::Error;
 use nom_internal::parser::Parser;
+use std::alloc::AllocError;
 
 /// The number of items of a list that a fold makes on a heap of 16 bytes, which holds four characters.
 /// `None`: memory ran out.
-fn folded(heap: &LocalHeap, input: &str) -> Option<usize> {
-    let push = |list: Vec<char, &LocalHeap>, c: char| -> Result<
-        Vec<char, &LocalHeap>,
+fn folded<'h>(heap: &'h LocalHeap, input: &str) -> Option<usize> {
+    let push = |list: Vec<char, &'h LocalHeap>, c: char| -> Result<
+        Vec<char, &'h LocalHeap>,
         OutOfMemory,
     > {
         let mut list = list;
@@ -28,15 +29,16 @@ fn folded(heap: &LocalHeap, input: &str) -> Option<usize> {
 }
 
 #[test]
-fn a_fold_on_a_small_heap(rt: HostRuntime) {
+fn a_fold_on_a_small_heap(rt: HostRuntime) -> Result<(), AllocError> {
     let heap = LocalHeap::new(rt.alloc(), 16)?;
     assert!(rt; folded(&heap, "aaaa;") == Some(4));
     assert!(rt; folded(&heap, "aaaaa;") == None);
     assert!(rt; folded(&heap, "aa;") == Some(2));
+    Ok(())
 }
 
 #[test]
-fn a_copy_on_a_small_heap(rt: HostRuntime) {
+fn a_copy_on_a_small_heap(rt: HostRuntime) -> Result<(), AllocError> {
     let heap = LocalHeap::new(rt.alloc(), 16)?;
     let own = |text: &str| -> Result<String<&LocalHeap>, OutOfMemory> {
         Ok(String::from_str(&heap, text)?)
@@ -56,4 +58,5 @@ fn a_copy_on_a_small_heap(rt: HostRuntime) {
         Ok((rest, None)) => assert!(rt; rest == "!"),
         _ => panic!(rt; "memory was taken"),
     }
+    Ok(())
 }

@@ -1,0 +1,256 @@
+//! Headers of network packets: Ethernet II, IPv4 (RFC 791), TCP (RFC 9293) and UDP (RFC 768).
+//!
+//! Each reads where more bytes may come, so a beginning of a header is `Incomplete`. A header whose own length is
+//! below the least is refused with `Verify`, at its start. No checksum is verified.
+
+use nom::bits::{bits, take as take_bits};
+use nom::bytes::take;
+use nom::combinator::map;
+use nom::error::{Error, ErrorKind};
+use nom::number::{be_u8, be_u16, be_u32};
+use nom::{Err, IResult, Parser, Viewed};
+use std::net::Ipv4Addr;
+
+type Bytes<'a> = &'a [u8];
+
+/// Errors of parsers over bits.
+type BitError<'a> = Error<(&'a [u8], usize)>;
+
+/// Six bytes that name a network card.
+#[derive(Clone, Copy, Debug, PartialEq, Eq)]
+pub struct MacAddress(pub u8, pub u8, pub u8, pub u8, pub u8, pub u8);
+
+impl Viewed for MacAddress {}
+
+/// The head of an Ethernet frame.
+#[derive(Clone, Copy, Debug, PartialEq, Eq)]
+pub struct EthernetHeader {
+    pub destination: MacAddress,
+    pub source: MacAddress,
+    /// What the frame carries: 0x0800 is IPv4.
+    pub kind: u16,
+}
+
+/// The head of an IPv4 datagram. Lengths are in bytes.
+#[derive(Clone, Copy, Debug, PartialEq, Eq)]
+pub struct Ipv4Header<'a> {
+    pub header_length: usize,
+    pub service: u8,
+    pub total_length: u16,
+    pub identification: u16,
+    pub do_not_fragment: bool,
+    pub more_fragments: bool,
+    /// In units of eight bytes.
+    pub fragment_offset: u16,
+    pub time_to_live: u8,
+    pub protocol: u8,
+    pub checksum: u16,
+    pub source: Ipv4Addr,
+    pub destination: Ipv4Addr,
+    pub options: &'a [u8],
+}
+
+/// The head of a TCP segment. Its length is in bytes.
+#[derive(Clone, Copy, Debug, PartialEq, Eq)]
+pub struct TcpHeader<'a> {
+    pub source: u16,
+    pub destination: u16,
+    pub sequence: u32,
+    pub acknowledgment: u32,
+    pub header_length: usize,
+    /// CWR, ECE, URG, ACK, PSH, RST, SYN, FIN, from the highest bit on.
+    pub flags: u8,
+    pub window: u16,
+    pub checksum: u16,
+    pub urgent: u16,
+    pub options: &'a [u8],
+}
+
+/// An option of a TCP segment.
+#[derive(Clone, Copy, Debug, PartialEq, Eq)]
+pub enum TcpOption<'a> {
+    End,
+    NoOperation,
+    MaximumSegmentSize(u16),
+    WindowScale(u8),
+    SelectiveAcknowledgmentPermitted,
+    Timestamps(u32, u32),
+    /// Another kind, with its bytes.
+    Other(u8, &'a [u8]),
+}
+
+/// The head of a UDP datagram.
+#[derive(Clone, Copy, Debug, PartialEq, Eq)]
+pub struct UdpHeader {
+    pub source: u16,
+    pub destination: u16,
+    pub length: u16,
+    pub checksum: u16,
+}
+
+fn mac_address(input: Bytes<'_>) -> IResult<Bytes<'_>, MacAddress> {
+    let bytes = (be_u8(), be_u8(), be_u8(), be_u8(), be_u8(), be_u8());
+    map(bytes, |(a, b, c, d, e, f)| MacAddress(a, b, c, d, e, f)).parse(input)
+}
+
+/// The head of an Ethernet frame.
+pub fn ethernet(input: Bytes<'_>) -> IResult<Bytes<'_>, EthernetHeader> {
+    let (input, destination) = mac_address(input)?;
+    let (input, source) = mac_address(input)?;
+    let (input, kind) = be_u16().parse(input)?;
+    let head = EthernetHeader {
+        destination,
+        source,
+        kind,
+    };
+    Ok((input, head))
+}
+
+fn address(input: Bytes<'_>) -> IResult<Bytes<'_>, Ipv4Addr> {
+    let bytes = (be_u8(), be_u8(), be_u8(), be_u8());
+    map(bytes, |(a, b, c, d)| Ipv4Addr::new(a, b, c, d)).parse(input)
+}
+
+/// Two numbers of four bits.
+fn nibbles(input: Bytes<'_>) -> IResult<Bytes<'_>, (u8, u8)> {
+    let pair = (take_bits::<_, _, u8, BitError<'_>>(4u8), take_bits(4u8));
+    bits(pair).parse(input)
+}
+
+/// Whether a datagram may not be fragmented, whether more fragments follow, and the offset of this one.
+fn fragment(input: Bytes<'_>) -> IResult<Bytes<'_>, (u8, u8, u8, u16)> {
+    let fields = (
+        take_bits::<_, _, u8, BitError<'_>>(1u8),
+        take_bits(1u8),
+        take_bits(1u8),
+        take_bits(13u8),
+    );
+    bits(fields).parse(input)
+}
+
+/// The head of an IPv4 datagram, with its options. One of another version is refused with `Verify`.
+pub fn ipv4(start: Bytes<'_>) -> IResult<Bytes<'_>, Ipv4Header<'_>> {
+    let (input, (version, words)) = nibbles(start)?;
+    if version != 4 || words < 5 {
+        return Err(Err::Error(Error::new(start, ErrorKind::Verify)));
+    }
+    let (input, service) = be_u8().parse(input)?;
+    let (input, total_length) = be_u16().parse(input)?;
+    let (input, identification) = be_u16().parse(input)?;
+    let (input, (_reserved, whole, more, fragment_offset)) = fragment(input)?;
+    let (input, time_to_live) = be_u8().parse(input)?;
+    let (input, protocol) = be_u8().parse(input)?;
+    let (input, checksum) = be_u16().parse(input)?;
+    let (input, source) = address(input)?;
+    let (input, destination) = address(input)?;
+    let header_length = 4 * words as usize;
+    let (input, options) = take(header_length - 20).parse(input)?;
+    let head = Ipv4Header {
+        header_length,
+        service,
+        total_length,
+        identification,
+        do_not_fragment: whole == 1,
+        more_fragments: more == 1,
+        fragment_offset,
+        time_to_live,
+        protocol,
+        checksum,
+        source,
+        destination,
+        options,
+    };
+    Ok((input, head))
+}
+
+/// The head of a TCP segment, with the bytes of its options.
+pub fn tcp(start: Bytes<'_>) -> IResult<Bytes<'_>, TcpHeader<'_>> {
+    let (input, source) = be_u16().parse(start)?;
+    let (input, destination) = be_u16().parse(input)?;
+    let (input, sequence) = be_u32().parse(input)?;
+    let (input, acknowledgment) = be_u32().parse(input)?;
+    let (input, (words, _reserved)) = nibbles(input)?;
+    if words < 5 {
+        return Err(Err::Error(Error::new(start, ErrorKind::Verify)));
+    }
+    let (input, flags) = be_u8().parse(input)?;
+    let (input, window) = be_u16().parse(input)?;
+    let (input, checksum) = be_u16().parse(input)?;
+    let (input, urgent) = be_u16().parse(input)?;
+    let header_length = 4 * words as usize;
+    let (input, options) = take(header_length - 20).parse(input)?;
+    let head = TcpHeader {
+        source,
+        destination,
+        sequence,
+        acknowledgment,
+        header_length,
+        flags,
+        window,
+        checksum,
+        urgent,
+        options,
+    };
+    Ok((input, head))
+}
+
+/// The first of the options of a TCP segment, which are all there is: complete.
+///
+/// Each but `End` and `NoOperation` has a length, of its two first bytes too; one below 2 is refused with `Verify`.
+pub fn tcp_option(start: Bytes<'_>) -> IResult<Bytes<'_>, TcpOption<'_>> {
+    let (input, kind) = be_u8().parse_complete(start)?;
+    if kind == 0 {
+        return Ok((input, TcpOption::End));
+    }
+    if kind == 1 {
+        return Ok((input, TcpOption::NoOperation));
+    }
+    let (input, length) = be_u8().parse_complete(input)?;
+    if length < 2 {
+        return Err(Err::Error(Error::new(start, ErrorKind::Verify)));
+    }
+    let (rest, body) = take(length - 2).parse_complete(input)?;
+    Ok((rest, option_of(kind, body)?))
+}
+
+/// An option of a kind that has a length, by its bytes.
+fn option_of(kind: u8, body: Bytes<'_>) -> Result<TcpOption<'_>, Err<Error<Bytes<'_>>>> {
+    match (kind, body.len()) {
+        (2, 2) => {
+            let (_, size) = be_u16().parse_complete(body)?;
+            Ok(TcpOption::MaximumSegmentSize(size))
+        }
+        (3, 1) => {
+            let (_, shift) = be_u8().parse_complete(body)?;
+            Ok(TcpOption::WindowScale(shift))
+        }
+        (4, 0) => Ok(TcpOption::SelectiveAcknowledgmentPermitted),
+        (8, 8) => {
+            let (_, (value, echo)) = (be_u32(), be_u32()).parse_complete(body)?;
+            Ok(TcpOption::Timestamps(value, echo))
+        }
+        _ => Ok(TcpOption::Other(kind, body)),
+    }
+}
+
+/// The head of a UDP datagram, whose length is 8 bytes at least.
+pub fn udp(start: Bytes<'_>) -> IResult<Bytes<'_>, UdpHeader> {
+    let fields = (be_u16(), be_u16(), be_u16(), be_u16());
+    let head = map(
+        fields,
+        |(source, destination, length, checksum)| UdpHeader {
+            source,
+            destination,
+            length,
+            checksum,
+        },
+    );
+    let mut head = head;
+    let (input, udp) = head.parse(start)?;
+    if udp.length < 8 {
+        return Err(Err::Error(Error::new(start, ErrorKind::Verify)));
+    }
+    Ok((input, udp))
+}
+
+impl Viewed for UdpHeader {}
