@@ -10,18 +10,26 @@ use nom_error::value::Error;
 use nom_internal::parser::Parser;
 use std::alloc::AllocError;
 
+/// The list with one item more.
+fn with<'h>(
+    list: Vec<char, &'h LocalHeap>,
+    c: char,
+) -> Result<Vec<char, &'h LocalHeap>, OutOfMemory> {
+    let mut list = list;
+    list.push(c)?;
+    Ok(list)
+}
+
+/// A copy of a text.
+fn owned<'h>(heap: &'h LocalHeap, text: &str) -> Result<String<&'h LocalHeap>, OutOfMemory> {
+    Ok(String::from_str(heap, text)?)
+}
+
 /// The number of items of a list that a fold makes on a heap of 16 bytes, which holds four characters.
 /// `None`: memory ran out.
-fn folded<'h>(heap: &'h LocalHeap, input: &str) -> Option<usize> {
-    let push = |list: Vec<char, &'h LocalHeap>, c: char| -> Result<
-        Vec<char, &'h LocalHeap>,
-        OutOfMemory,
-    > {
-        let mut list = list;
-        list.push(c)?;
-        Ok(list)
-    };
-    let mut all = fold_many0_alloc(char::<&str, Error<&str>>('a'), || Vec::new(heap), push);
+fn folded(heap: &LocalHeap, input: &str) -> Option<usize> {
+    let item = char::<&str, Error<&str>>('a');
+    let mut all = fold_many0_alloc(item, || Vec::new(heap), |list, c| with(list, c));
     match all.parse_complete(input) {
         Ok((_, list)) => Some(list.len()),
         Err(_) => None,
@@ -40,12 +48,9 @@ fn a_fold_on_a_small_heap(rt: HostRuntime) -> Result<(), AllocError> {
 #[test]
 fn a_copy_on_a_small_heap(rt: HostRuntime) -> Result<(), AllocError> {
     let heap = LocalHeap::new(rt.alloc(), 16)?;
-    let own = |text: &str| -> Result<String<&LocalHeap>, OutOfMemory> {
-        Ok(String::from_str(&heap, text)?)
-    };
     let long = tag::<_, &str, Error<&str>>("a text that is too long");
     let short = tag::<_, &str, Error<&str>>("a text");
-    let mut copy = map_alloc(long.or(short), own);
+    let mut copy = map_alloc(long.or(short), |text| owned(&heap, text));
     match copy.parse_complete("a text!") {
         Ok((rest, text)) => assert!(rt; rest == "!" && text.as_str() == "a text"),
         Err(_) => panic!(rt; "no copy"),
