@@ -1,9 +1,6 @@
 pub mod ChainShown
-pub mod OneTree
+pub mod HeldShown
 pub mod OperatorShown
 pub mod ReadShown
-pub mod Runs
-pub mod Spine
-pub mod StepsShown
 pub mod TermShown
 pub mod ValueShown

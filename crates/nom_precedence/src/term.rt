@@ -4,14 +4,14 @@ ghost use Rattle.nom_error.specs.Modes.{BuiltFrom, BuiltFromBoth};
 ghost use Rattle.nom_precedence.specs.Expressions.{tail_meaning, term_meaning};
 ghost use Rattle.nom_precedence.specs.Steps.{AppliedGains, Before};
 ghost use Rattle.nom_precedence.specs.Told.{ShowsRead, IsHeld, IsTail, IsTerm};
-ghost use Rattle.nom_precedence.specs.declared.operation.Operation.{Operation};
-ghost use Rattle.nom_precedence.specs.declared.operation.Operation.TheVariants.{Postfix, Prefix};
+ghost use Rattle.nom_operators.specs.declared.operation.Operation.{Operation};
+ghost use Rattle.nom_operators.specs.declared.operation.Operation.TheVariants.{Postfix, Prefix};
 
-use crate::operation::Operation;
 use crate::read::{Read, affixes, told};
 use nom_error::answer::PResult;
 use nom_error::mode::OutputMode;
 use nom_internal::parser::Parser;
+use nom_operators::operation::Operation;
 use nom_repeat::keep::{Keep, none_yet};
 use nom_traits::input::{Input, Items};
 use std::alloc::Allocator;

@@ -4,7 +4,7 @@ use Rattle.nom_repeat.proofs.ListKept.{list_of_none}
 use Rattle.nom_precedence.specs.Expressions.{affixes_meaning, tail_meaning, term_meaning, term_of}
 use Rattle.nom_precedence.specs.Steps.{Before}
 use Rattle.nom_precedence.specs.Told.{IsTail, IsTerm}
-use Rattle.nom_precedence.specs.declared.operation.Operation.TheVariants.{Prefix, Postfix}
+use Rattle.nom_operators.specs.declared.operation.Operation.TheVariants.{Prefix, Postfix}
 use Rattle.nom_precedence.proofs.ReadShown.{told_ok, first_err, first_stuck, second_err, second_stuck, both_whole, built_from_both}
 use Rattle.nom_precedence.proofs.TermShown.{term_built}
 use Rattle.nom_precedence.proofs.term.term.Goals as goal
