@@ -1,5 +1,6 @@
 pub mod ChainShown
 pub mod HeldShown
+pub mod ListShown
 pub mod OperatorShown
 pub mod ReadShown
 pub mod TermShown
