@@ -1,9 +1,7 @@
 pub mod ChainShown
-pub mod OneTree
+pub mod HeldShown
+pub mod ListShown
 pub mod OperatorShown
 pub mod ReadShown
-pub mod Runs
-pub mod Spine
-pub mod StepsShown
 pub mod TermShown
 pub mod ValueShown

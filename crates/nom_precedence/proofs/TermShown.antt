@@ -1,11 +1,12 @@
 -- What is built of a term.
-use Rattle.std.proofs.Common.{◌≡◌, Bool, true, false, Option, Some, None, MatchOption, List, [], ◌∷◌, refl, sym, ◌∙◌, ap, subst}
+use Rattle.std.proofs.Common.{◌≡◌, ◌++◌, Bool, true, false, Option, Some, None, MatchOption, List, [], ◌∷◌, refl, sym, ◌∙◌, ap, subst}
 use Rattle.std.specs.List.{AllZip}
 use Rattle.nom_error.specs.Modes.{Built, BuiltFrom}
 use Rattle.nom_repeat.specs.Kept.{Adds, Kept}
 use Rattle.nom_precedence.specs.Expressions.{Tail, term_of}
 use Rattle.nom_precedence.specs.Steps.{AppliedGains, Before}
 use Rattle.nom_precedence.specs.Told.{Behind, IsHeld, IsTail, IsTerm}
+use Rattle.nom_precedence.proofs.ReadShown.{built_from}
 
 module _ {K L O G : Type 0} (value : K → Option O) (fold : K → L) (Gives : L → O → G → O → Type 0) where
   -- the value under all postfixes
@@ -74,3 +75,25 @@ term_built IsPrefix OnPrefix IsOperand IsPostfix OnPostfix ps t cs x y k h b = r
   are_prefixes = k;
   given = b;
 }
+
+-- the same where it is built
+pub term_finished : {P V Q F O G Y : Type 0} (IsPrefix : P → F → Type 0) (OnPrefix : F → O → O → Type 0) (IsOperand : V → O → Type 0)
+    (IsPostfix : Q → G → Type 0) (OnPostfix : O → G → O → Type 0) (outputs : Bool) (ps : List P) (t : Tail V Q) (cs : List F) (told : Option Y)
+    (x y : Option O) → Built outputs (λ _. AllZip IsPrefix ps cs) told → Built outputs (IsTail IsOperand IsPostfix OnPostfix t) x →
+    BuiltFrom true (λ a b. Before OnPrefix cs a b) x y →
+    Built outputs (IsTerm IsPrefix OnPrefix IsOperand IsPostfix OnPostfix (term_of ps t)) y
+term_finished IsPrefix OnPrefix IsOperand IsPostfix OnPostfix true ps t cs told x y h q b =
+    built_from true (IsTail IsOperand IsPostfix OnPostfix t) (IsTerm IsPrefix OnPrefix IsOperand IsPostfix OnPostfix (term_of ps t))
+    (λ a d. Before OnPrefix cs a d) x y
+    (λ a d k s. term_built IsPrefix OnPrefix IsOperand IsPostfix OnPostfix ps t cs a d h.2 k s) q b
+term_finished IsPrefix OnPrefix IsOperand IsPostfix OnPostfix false ps t cs told (Some a) y h q b = absurd (cc (q))
+term_finished IsPrefix OnPrefix IsOperand IsPostfix OnPostfix false ps t cs told None y h q b = b
+
+-- prefixes, the last of which is applied first
+pub before_last : {P X : Type 0} (Gives : P → X → X → Type 0) (items rest : List P) (p : P) (x y z : X) → items ≡ rest ++ p ∷ [] → Gives p x y →
+    Before Gives rest y z → Before Gives items x z
+before_last {P} {X} Gives items rest p x y z e g h = subst (λ ps. Before Gives ps x z) (sym e) (all rest z h)
+  where
+    all : (ps : List P) (u : X) → Before Gives ps y u → Before Gives (ps ++ p ∷ []) x u
+    all [] u k = (x, refl, subst (λ v. Gives p x v) (sym k) g)
+    all (q ∷ ps) u k = (k.0, all ps k.0 k.1, k.2)

@@ -1,6 +1,5 @@
 pub mod ChainLaws
 pub mod Chains
-pub mod Closes
 pub mod ExpressionLaws
 pub mod Expressions
 pub mod OperatorLaws
@@ -10,7 +9,5 @@ pub mod Steps
 pub mod Stuck
 pub mod StuckLaws
 pub mod Told
-pub mod TreeLaws
-pub mod Trees
 pub mod ValueLaws
 pub mod Values

@@ -3,13 +3,16 @@ use Rattle.std.specs.Prelude.{◌≡◌, ℕ, Bool, true, false, ltb, refl}
 use Rattle.std.proofs.Common.{sym, ◌∙◌, ap, subst}
 use Rattle.nom_error.specs.Errors.{Errors}
 use Rattle.nom_traits.specs.Input.{Seen, IsPlace}
+use Rattle.nom_traits.specs.View.{itself}
 use Rattle.nom_internal.specs.Outcome.{Outcome, failure, IsDecided}
 use Rattle.nom_internal.specs.Outcome.Outcome.{Accept, Refuse, Fail, TooLarge, Undecided}
 use Rattle.nom_internal.specs.Meaning.{Meaning, IsLawful, IsSteady}
 use Rattle.nom_internal.specs.Families.{OfValue, IsOne}
 use Rattle.nom_internal.specs.Cases.{Passes}
+use Rattle.nom_internal.specs.Closures.{GivesFor}
+use Rattle.nom_internal.specs.Pinned.{IsPinned}
 use Rattle.nom_internal.specs.CaseLaws.{CaseLaws, here_known, here_related, here_alike, here_place, case_lawful, case_steady}
-use Rattle.nom_precedence.specs.Operators.{if_level, OperatorBlames, OperatorAsks, operator_case, operator_meaning}
+use Rattle.nom_precedence.specs.Operators.{HasLevel, if_level, OperatorBlames, OperatorAsks, operator_case, operator_meaning}
 
 level_accepts : {P : Type 0} (b : Bool) (n m k : ℕ) (t : ℕ × P) (u : P) → Accept n t ≡ if_level b m k u → m ≡ n
 level_accepts true n m k t u e = cc
@@ -94,3 +97,11 @@ module _ {I A P E : Type 0} (w : Seen I A) (errs : Errors I E) (IsLevel : P → 
 
     pub operator_steady : IsSteady w m → IsSteady w (operator_meaning errs IsLevel levels m)
     operator_steady p = case_steady w w m (operator_case errs IsLevel levels) operator_laws refl p
+
+-- Where what a part gives tells the level, and a tree of the part stands for one output, a tree stands for one level.
+pub one_level : {P X B : Type 0} (IsOutput : P → X → Type 0) (Gives : X → ℕ × B → Type 0) (level_of : X → ℕ) → IsPinned itself IsOutput →
+    ((x : X) (o : ℕ × B) → Gives x o → o.0 ≡ level_of x) → IsOne (HasLevel (GivesFor IsOutput Gives) (λ o. o.0))
+one_level IsOutput Gives level_of pinned tells u m n g h =
+    let one : level_of g.is_output.output ≡ level_of h.is_output.output = ap level_of (pinned u g.is_output.output h.is_output.output g.is_output.is_output
+    h.is_output.is_output) in
+    sym g.level_is ∙ (tells g.is_output.output g.output g.is_output.given ∙ (one ∙ (sym (tells h.is_output.output h.output h.is_output.given) ∙ h.level_is)))

@@ -10,7 +10,8 @@ use Rattle.nom_internal.specs.Meaning.{Meaning}
 use Rattle.nom_precedence.specs.Stuck.{Read}
 use Rattle.nom_precedence.specs.Stuck.Read.{Whole, Stuck}
 use Rattle.nom_precedence.specs.Expressions.{Term}
-use Rattle.nom_precedence.specs.Steps.{Before, Joined}
+use Rattle.nom_operators.specs.Steps.{Made}
+use Rattle.nom_precedence.specs.Steps.{Before}
 use Rattle.nom_precedence.specs.declared.read.Read as Told
 use Rattle.nom_precedence.specs.declared.read.Read.TheVariants as Is
 
@@ -59,21 +60,15 @@ pub record IsHeld {K L O : Type 0} (value : K → Option O) (fold : K → L) (f 
   pub value_is : value k ≡ Some x
   pub fold_is : fold k ≡ f
 
--- a machine with a value and no operators, by a fold and the groupings of levels
-pub record IsStarted {K L M X C : Type 0} (stack : K → List (X × C)) (value : K → Option X) (levels : K → M) (fold : K → L) (g : M) (f : L) (x : X)
-    (k : K) : Type 0 where
-  pub stack_is : stack k ≡ []
-  pub value_is : value k ≡ Some x
-  pub levels_is : levels k ≡ g
-  pub fold_is : fold k ≡ f
-
--- the value that a machine has where all its operators are joined
-pub record IsMade {K L X C : Type 0} (stack : K → List (X × C)) (value : K → Option X) (fold : K → L) (Gives : L → X → C → X → X → Type 0) (k : K)
-    (y : X) : Type 0 where
-  pub carried : X
-  pub carried_is : value k ≡ Some carried
-  pub joined : Joined (Gives (fold k)) (λ _. Unit {0}) (stack k) carried [] y
-
 -- an operator with its level, and the value of the term behind it
 abbrev pub IsPairOf : {B H T O : Type 0} → (B → ℕ × H → Type 0) → (T → O → Type 0) → (ℕ × B) × T → (ℕ × H) × O → Type 0
 IsPairOf IsBinary IsValue t o = IsOwn IsBinary t.0 o.0 × IsValue t.1 o.1
+
+-- the value of a first term's value and of the outputs of pairs behind it
+pub record IsMade {X C V : Type 0} (left : ℕ → Bool) (of : C → ℕ) (Gives : X → C → X → X → Type 0) (IsPair : V → C × X → Type 0) (before : Option X)
+    (vs : List V) (y : X) : Type 0 where
+  pub first : X
+  pub first_is : before ≡ Some first
+  pub outputs : List (C × X)
+  pub are_outputs : AllZip IsPair vs outputs
+  pub made : Made left of Gives first outputs y

@@ -3,11 +3,11 @@ use Rattle.std.specs.Prelude.{◌≡◌, ℕ, Bool, List, [], ◌∷◌}
 use Rattle.std.proofs.Common.{sym, ◌∙◌, ap, subst}
 use Rattle.nom_traits.specs.View.{View, pair_view, itself}
 use Rattle.nom_internal.specs.Pinned.{IsPinned}
-use Rattle.nom_precedence.specs.declared.operation.Operation.{Operation}
-use Rattle.nom_precedence.specs.declared.operation.Operation.TheVariants.{Prefix, Postfix, Binary}
-use Rattle.nom_precedence.specs.Trees.{Tree}
-use Rattle.nom_precedence.specs.Trees.Tree.{Leaf, Node}
-use Rattle.nom_precedence.specs.TreeLaws.{one_tree}
+use Rattle.nom_operators.specs.declared.operation.Operation.{Operation}
+use Rattle.nom_operators.specs.declared.operation.Operation.TheVariants.{Prefix, Postfix, Binary}
+use Rattle.nom_operators.specs.Trees.{Tree}
+use Rattle.nom_operators.specs.Trees.Tree.{Leaf, Node}
+use Rattle.nom_operators.specs.TreeLaws.{one_tree}
 use Rattle.nom_precedence.specs.Expressions.{Term, Pair}
 use Rattle.nom_precedence.specs.Values.{Folding, folding, PostfixesGive, PrefixesGive, TermGives, TreeGives, Stands}
 

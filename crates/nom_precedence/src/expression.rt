@@ -3,12 +3,11 @@ ghost use Rattle.std.specs.Prelude.{◌≡◌, ℕ, List, length};
 ghost use Rattle.nom_precedence.specs.Expressions.{read_meaning, term_meaning};
 ghost use Rattle.nom_precedence.specs.Operators.{HasLevel, operator_meaning};
 ghost use Rattle.nom_precedence.specs.Told.{ShowsRead};
-ghost use Rattle.nom_precedence.specs.Values.{Stands, folding, groups_left};
-ghost use Rattle.nom_precedence.specs.declared.operation.Operation.{Operation};
-ghost use Rattle.nom_precedence.specs.declared.operation.Assoc.{Assoc};
+ghost use Rattle.nom_precedence.specs.Values.{Stands, folding};
+ghost use Rattle.nom_operators.specs.Groups.{groups_left};
+ghost use Rattle.nom_operators.specs.declared.operation.Operation.{Operation};
+ghost use Rattle.nom_operators.specs.declared.operation.Assoc.{Assoc};
 
-use crate::machine::{made, started};
-use crate::operation::{Assoc, Operation};
 use crate::pairs::pairs;
 use crate::read::{Read, told};
 use crate::term::term;
@@ -18,6 +17,7 @@ use nom_error::mode::OutputMode;
 use nom_error::value::{ParseError, refusal};
 use nom_internal::choice::close;
 use nom_internal::parser::{Parser, StreamParser};
+use nom_operators::operation::{Assoc, Operation};
 use nom_traits::input::{Input, Items};
 use nom_traits::view::Viewed;
 use std::alloc::Allocator;
@@ -161,15 +161,12 @@ fn read<
     match told(before) {
         Read::Stuck => Ok((rest, Some(Read::Stuck))),
         Read::Whole(value) => {
-            let machine = started::<P::Output, Q::Output, B, F::Output, A, G>(
-                alloc, value, levels, fold,
-            );
             let (end, after) = pairs::<OM, I, A, P, F, Q, B, C, G>(
-                alloc, levels, prefix, operand, postfix, binary, fold, rest, machine,
+                alloc, levels, prefix, operand, postfix, binary, fold, rest, value,
             )?;
             match told(after) {
                 Read::Stuck => Ok((end, Some(Read::Stuck))),
-                Read::Whole(machine) => Ok((end, Some(Read::Whole(made(machine))))),
+                Read::Whole(value) => Ok((end, Some(Read::Whole(value)))),
             }
         }
     }

@@ -5,15 +5,13 @@
 ghost use Rattle.std.specs.Prelude.{◌≡◌};
 
 pub mod expression;
-pub mod machine;
-pub mod operation;
 pub mod pairs;
-pub mod promises;
 pub mod read;
 pub mod term;
 
 pub use crate::expression::Precedence;
-pub use crate::operation::{Assoc, Operation};
+pub use nom_operators::operation::{Assoc, Operation};
+pub use nom_operators::{operation, promises};
 use std::marker::PhantomData;
 
 /// An expression: a term, and then pairs of a binary operator and a term, with the value that `fold` makes of

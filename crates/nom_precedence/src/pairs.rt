@@ -1,25 +1,25 @@
 //! Pairs of an operator and a term, in turn.
-ghost use Rattle.std.specs.Prelude.{◌≡◌, ℕ, true, length};
-ghost use Rattle.nom_error.specs.Modes.{Built, BuiltFrom, modes};
+ghost use Rattle.std.specs.Prelude.{◌≡◌, ◌≤◌, ℕ, [], IfSome, IsSome, None, true, length, vec_capacity, vec_len};
+ghost use Rattle.nom_error.specs.Modes.{Built, BuiltFrom, BuiltFromBoth, modes};
 ghost use Rattle.nom_internal.specs.Outcome.{ShowsAnswer};
-ghost use Rattle.nom_repeat.specs.Kept.{Kept};
+ghost use Rattle.nom_operators.specs.Groups.{groups_left};
+ghost use Rattle.nom_operators.specs.Steps.{IsNested, Joined, Pushed, waiting};
 ghost use Rattle.nom_precedence.specs.Chains.{chain_meaning};
 ghost use Rattle.nom_precedence.specs.Expressions.{pair_meaning, term_meaning};
 ghost use Rattle.nom_precedence.specs.Operators.{HasLevel, operator_meaning};
-ghost use Rattle.nom_precedence.specs.Told.{ShowsRead, IsOwn, IsPairOf, IsTerm};
-ghost use Rattle.nom_precedence.specs.declared.operation.Operation.{Operation};
-ghost use Rattle.nom_precedence.specs.declared.operation.Operation.TheVariants.{Postfix, Prefix};
+ghost use Rattle.nom_precedence.specs.Told.{ShowsRead, IsMade, IsOwn, IsPairOf, IsTerm};
+ghost use Rattle.nom_operators.specs.declared.operation.Operation.{Operation};
+ghost use Rattle.nom_operators.specs.declared.operation.Operation.TheVariants.{Binary, Postfix, Prefix};
 
-use crate::machine::Machine;
-use crate::operation::{Assoc, Operation};
 use crate::read::{Read, told};
 use crate::term::term;
 use nom_error::answer::{Err, PResult};
 use nom_error::kind::ErrorKind;
 use nom_error::mode::{Check, Emit, OutputM, OutputMode};
 use nom_internal::parser::Parser;
+use nom_operators::operation::{Assoc, Operation};
+use nom_operators::waiting::{Held, close_all, put};
 use nom_repeat::inverted::failure;
-use nom_repeat::keep::{Keep, gain};
 use nom_traits::input::{Input, Items};
 use std::alloc::Allocator;
 
@@ -107,10 +107,70 @@ fn pair<
     }
 }
 
-/// Pairs, one after another, until the operator or the term of one is refused, with what the machine makes of
-/// them; or one is stuck.
+/// What is held of the value of a first term, where it is built.
+#[inline(always)]
+fn begun<O, B>(first: Option<O>) -> Option<Held<O, B>>
+    ensures { BuiltFrom true (λ x k. (k.value ≡ x) × (k.innermost ≡ None)) first result }
+{
+    match first {
+        Some(value) => Some(Held {
+            value,
+            innermost: None,
+        }),
+        None => None,
+    }
+}
+
+/// What is held after an operator and the value of its term, where they are built. None where there is no memory for
+/// an operator that waits.
+#[inline(always)]
+fn grown<P: Drop, Q: Drop, B: Drop, O: Drop, A: Allocator, G: Fn(Operation<P, Q, B, O>) -> O>(
+    held: Option<Held<O, B>>,
+    outer: &mut Vec<(O, (usize, B)), A>,
+    levels: &[Assoc],
+    pair: Option<((usize, B), O)>,
+    fold: &G,
+) -> Option<Option<Held<O, B>>>
+    requires fold { (x : Operation P Q B O) → G.pre fold.now x }
+    requires nested { IfSome held (λ k. IsNested k.innermost outer.old.items) }
+    ensures grown { IfSome result (λ new. BuiltFromBoth true (λ k p n. Pushed (groups_left levels.now) (λ c. c.0)
+        (λ x c y z. G.post fold.now (Binary x c.1 y) z) (waiting k.innermost outer.old.items) k.value p.0 p.1 (waiting n.innermost outer.new.items) n.value
+        × IsNested n.innermost outer.new.items) held pair new) }
+    ensures full { result ≡ None → IsSome held × (vec_capacity outer.old ≤ vec_len outer.old) }
+{
+    match (held, pair) {
+        (Some(held), Some(pair)) => {
+            let (operator, right) = pair;
+            match put(held, outer, levels, operator, right, fold) {
+                Some(new) => Some(Some(new)),
+                None => None,
+            }
+        }
+        _ => Some(None),
+    }
+}
+
+/// The value where all operators that wait are joined, where it is built.
+#[inline(always)]
+fn finished<P: Drop, Q: Drop, B: Drop, O: Drop, A: Allocator, G: Fn(Operation<P, Q, B, O>) -> O>(
+    held: Option<Held<O, B>>,
+    outer: Vec<(O, (usize, B)), A>,
+    fold: &G,
+) -> Option<O>
+    requires fold { (x : Operation P Q B O) → G.pre fold.now x }
+    requires nested { IfSome held (λ k. IsNested k.innermost outer.items) }
+    ensures { BuiltFrom true (λ k y. Joined (λ x c y z. G.post fold.now (Binary x c.1 y) z) (λ _. Unit {0}) (waiting k.innermost outer.items) k.value [] y)
+        held result }
+{
+    match held {
+        Some(held) => Some(close_all(held, outer, fold)),
+        None => None,
+    }
+}
+
+/// Pairs, one after another, until the operator or the term of one is refused, with the value of a first term and
+/// of them; or one is stuck.
 pub fn pairs<
-    'l,
     OM: OutputMode,
     I: Input,
     A: Allocator + Copy,
@@ -129,18 +189,17 @@ pub fn pairs<
     binary: &mut C,
     fold: &G,
     input: I,
-    before: Option<Machine<'l, P::Output, Q::Output, B, F::Output, A, G>>,
-) -> PResult<I, Read<Option<Machine<'l, P::Output, Q::Output, B, F::Output, A, G>>>, F::Error>
+    before: Option<F::Output>,
+) -> PResult<I, Read<Option<F::Output>>, F::Error>
     requires prefix { (P.meaning (P.state prefix.old)).IsSound }
     requires operand { (F.meaning (F.state operand.old)).IsSound }
     requires postfix { (Q.meaning (Q.state postfix.old)).IsSound }
     requires binary { (C.meaning (C.state binary.old)).IsSound }
     requires fold { (x : Operation P.Output Q.Output B F.Output) → G.pre fold.now x }
-    requires before { Built OM.Output.BUILDS ⟦<Machine<'l, P::Output, Q::Output, B, F::Output, A, G> as Keep<((usize, B), F::Output)>>⟧.CanKeep before }
-    ensures shown { ShowsRead I.seen (Kept ⟦<Machine<'l, P::Output, Q::Output, B, F::Output, A, G> as Keep<((usize, B), F::Output)>>⟧.Gains
-        ⟦<Machine<'l, P::Output, Q::Output, B, F::Output, A, G> as Keep<((usize, B), F::Output)>>⟧.CanKeep
+    requires before { Built OM.Output.BUILDS (λ _. Unit {0}) before }
+    ensures shown { ShowsRead I.seen (IsMade (groups_left levels.now) (λ c. c.0) (λ x c y z. G.post fold.now (Binary x c.1 y) z)
         (IsPairOf (C.IsOutput (C.state binary.old)) (IsTerm (P.IsOutput (P.state prefix.old)) (λ p x y. G.post fold.now (Prefix p x) y)
-        (F.IsOutput (F.state operand.old)) (Q.IsOutput (Q.state postfix.old)) (λ x c y. G.post fold.now (Postfix x c) y))) before.entry)
+        (F.IsOutput (F.state operand.old)) (Q.IsOutput (Q.state postfix.old)) (λ x c y. G.post fold.now (Postfix x c) y))) before)
         (chain_meaning I.seen (Unit {0}) (pair_meaning I.seen (operator_meaning F.Error.errors
         (HasLevel (C.IsOutput (C.state binary.old)) (λ o. o.0)) (length levels.now) (C.meaning (C.state binary.old)))
         (term_meaning I.seen (P.meaning (P.state prefix.old)) (F.meaning (F.state operand.old)) (Q.meaning (Q.state postfix.old)))))
@@ -152,7 +211,9 @@ pub fn pairs<
 {
     input.known();
     let mut rest = input;
-    let mut kept = before;
+    // The list stands apart from what is held, so that this stays in registers.
+    let mut outer: Vec<(F::Output, (usize, B)), A> = Vec::new(alloc);
+    let mut held = begun::<F::Output, B>(before);
     loop {
         match pair::<OutputM<OM::Output, Check, OM::Incomplete>, I, A, P, F, Q, B, C, G>(
             alloc, levels, prefix, operand, postfix, binary, fold, rest,
@@ -163,13 +224,16 @@ pub fn pairs<
                     if next.input_len() == rest.input_len() {
                         return Ok((next, Some(Read::Stuck)));
                     }
-                    if !gain(&mut kept, item) {
-                        return Err(Err::OutOfMemory);
+                    match grown(held, &mut outer, levels, item, fold) {
+                        Some(new) => held = new,
+                        None => return Err(Err::OutOfMemory),
                     }
                     rest = next;
                 }
             },
-            Err(Err::Error(_)) => return Ok((rest, Some(Read::Whole(kept)))),
+            Err(Err::Error(_)) => {
+                return Ok((rest, Some(Read::Whole(finished(held, outer, fold)))));
+            }
             Err(Err::Failure(error)) => return Err(Err::Failure(error)),
             Err(Err::Incomplete(needed)) => return Err(Err::Incomplete(needed)),
             Err(Err::OutOfMemory) => return Err(Err::OutOfMemory),

@@ -1,18 +1,18 @@
 //! Terms: prefixes, an operand, postfixes.
 ghost use Rattle.std.specs.Prelude.{◌≡◌, IsSome, None, true, MatchOption};
-ghost use Rattle.nom_error.specs.Modes.{BuiltFrom, BuiltFromBoth};
+ghost use Rattle.nom_error.specs.Modes.{BuiltFrom};
 ghost use Rattle.nom_precedence.specs.Expressions.{tail_meaning, term_meaning};
 ghost use Rattle.nom_precedence.specs.Steps.{AppliedGains, Before};
 ghost use Rattle.nom_precedence.specs.Told.{ShowsRead, IsHeld, IsTail, IsTerm};
-ghost use Rattle.nom_precedence.specs.declared.operation.Operation.{Operation};
-ghost use Rattle.nom_precedence.specs.declared.operation.Operation.TheVariants.{Postfix, Prefix};
+ghost use Rattle.nom_operators.specs.declared.operation.Operation.{Operation};
+ghost use Rattle.nom_operators.specs.declared.operation.Operation.TheVariants.{Postfix, Prefix};
 
-use crate::operation::Operation;
-use crate::read::{Read, affixes, told};
+use crate::read::{Read, affixes, prefixes, told};
 use nom_error::answer::PResult;
 use nom_error::mode::OutputMode;
 use nom_internal::parser::Parser;
-use nom_repeat::keep::{Keep, none_yet};
+use nom_operators::operation::Operation;
+use nom_repeat::keep::Keep;
 use nom_traits::input::{Input, Items};
 use std::alloc::Allocator;
 use std::marker::PhantomData;
@@ -92,17 +92,18 @@ fn under<P: Drop, Q: Drop, B: Drop, O: Drop, A: Allocator, G: Fn(Operation<P, Q,
 }
 
 /// The value of a term, where it is built.
+#[inline(always)]
 fn finished<P: Drop, Q: Drop, B: Drop, O: Drop, A: Allocator, G: Fn(Operation<P, Q, B, O>) -> O>(
-    prefixes: Option<Vec<P, A>>,
+    prefixes: Vec<P, A>,
     value: Option<O>,
     fold: &G,
 ) -> Option<O>
     requires { (x : Operation P Q B O) → G.pre fold.now x }
-    ensures { BuiltFromBoth true (λ ps x y. Before (λ p a b. G.post fold.now (Prefix p a) b) ps.items x y) prefixes value result }
+    ensures { BuiltFrom true (λ x y. Before (λ p a b. G.post fold.now (Prefix p a) b) prefixes.items x y) value result }
 {
-    match (prefixes, value) {
-        (Some(prefixes), Some(value)) => Some(under(prefixes, value, fold)),
-        _ => None,
+    match value {
+        Some(value) => Some(under(prefixes, value, fold)),
+        None => None,
     }
 }
 
@@ -171,15 +172,15 @@ pub fn term<
     ensures operand_kept { F.state operand.new ≡ F.state operand.old }
     ensures postfix_kept { Q.state postfix.new ≡ Q.state postfix.old }
 {
-    let none = none_yet::<OM::Output, P::Output, A>(alloc);
-    let (rest, before) = affixes::<OM, I, P, Vec<P::Output, A>>(prefix, input, none)?;
+    let mut list: Vec<P::Output, A> = Vec::new(alloc);
+    let (rest, before) = prefixes::<OM, I, P, A>(prefix, input, &mut list)?;
     match told(before) {
         Read::Stuck => Ok((rest, Some(Read::Stuck))),
-        Read::Whole(prefixes) => {
+        Read::Whole(_built) => {
             let (end, after) = tail::<OM, I, P::Output, F, Q, B, G>(operand, postfix, fold, rest)?;
             match told(after) {
                 Read::Stuck => Ok((end, Some(Read::Stuck))),
-                Read::Whole(value) => Ok((end, Some(Read::Whole(finished(prefixes, value, fold))))),
+                Read::Whole(value) => Ok((end, Some(Read::Whole(finished(list, value, fold))))),
             }
         }
     }

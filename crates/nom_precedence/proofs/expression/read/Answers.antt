@@ -1,22 +1,20 @@
-use Rattle.std.proofs.Common.{◌≡◌, ℕ, refl, reverse, length, subst, sym, ap, List}
-use Rattle.std.specs.Prelude.{IsSome}
+use Rattle.std.proofs.Common.{ℕ, refl, length, List, Option}
 use Rattle.nom_error.specs.declared.kind.ErrorKind.TheVariants as Kind
 use Rattle.nom_internal.specs.Meaning.{Meaning}
 use Rattle.nom_internal.specs.Cases.{closed_meaning}
-use Rattle.nom_internal.proofs.Shown.{accepts}
+use Rattle.nom_internal.proofs.Shown.{accepts, built_error}
 use Rattle.nom_precedence.specs.Stuck.{Read}
 use Rattle.nom_precedence.specs.Chains.{chain_meaning}
 use Rattle.nom_precedence.specs.Expressions.{Pair, Term, pair_meaning, term_meaning}
 use Rattle.nom_precedence.specs.Operators.{HasLevel, operator_meaning}
-use Rattle.nom_precedence.specs.Steps.{MachineGains}
-use Rattle.nom_precedence.specs.Told.{IsPairOf, IsTerm, ShowsRead}
-use Rattle.nom_precedence.specs.Values.{Stands, folding, groups_left}
-use Rattle.nom_precedence.specs.declared.operation.Assoc.{Assoc}
-use Rattle.nom_precedence.specs.declared.operation.Operation.{Operation}
-use Rattle.nom_precedence.specs.declared.operation.Operation.TheVariants.{Binary, Postfix, Prefix}
+use Rattle.nom_precedence.specs.Told.{IsMade, IsPairOf, IsTerm, ShowsRead}
+use Rattle.nom_precedence.specs.Values.{Stands, folding}
+use Rattle.nom_operators.specs.Groups.{groups_left}
+use Rattle.nom_operators.specs.declared.operation.Assoc.{Assoc}
+use Rattle.nom_operators.specs.declared.operation.Operation.TheVariants.{Binary, Postfix, Prefix}
 use Rattle.nom_precedence.proofs.OperatorShown.{closed_read}
 use Rattle.nom_precedence.proofs.ReadShown.{told_ok, is_whole, at_states, first_err, first_stuck, second_err, second_stuck, both_whole}
-use Rattle.nom_precedence.proofs.ValueShown.{KeptFrom, started_ready, may_end, expression_built}
+use Rattle.nom_precedence.proofs.ValueShown.{expression_built}
 use Rattle.nom_precedence.proofs.expression.read.Given as given
 use Rattle.nom_precedence.proofs.expression.read.Goals as goal
 
@@ -46,6 +44,11 @@ is_term g p f q fold =
 abbrev is_pair : (g : given.Over) → g.P.Parser.State → g.F.Parser.State → g.Q.Parser.State → g.C.Parser.State → g.row.G.Denot →
     Pair g.C.Parser.Tree (Term g.P.Parser.Tree g.F.Parser.Tree g.Q.Parser.Tree) → (ℕ × g.row.B.Denot) × g.row.F-Output.Denot → Type 0
 is_pair g p f q b fold = IsPairOf (g.C.Parser.IsOutput b) (is_term g p f q fold)
+
+-- and what is made of pairs behind a first value
+abbrev Pairs : (g : given.Over) → g.P.Parser.State → g.F.Parser.State → g.Q.Parser.State → g.C.Parser.State → g.row.G.Denot → List Assoc →
+    Option g.row.F-Output.Denot → List (Pair g.C.Parser.Tree (Term g.P.Parser.Tree g.F.Parser.Tree g.Q.Parser.Tree)) → g.row.F-Output.Denot → Type 0
+Pairs g p f q b fold levels before = IsMade (groups_left levels) (λ c. c.0) (λ x c y z. g.G.Fn.post fold (Binary x c.1 y, tt) z) (is_pair g p f q b fold) before
 
 abbrev Whole : (g : given.Over) → g.P.Parser.State → g.F.Parser.State → g.Q.Parser.State → g.C.Parser.State → g.row.G.Denot → List Assoc →
     Term g.P.Parser.Tree g.F.Parser.Tree g.Q.Parser.Tree × List (Pair g.C.Parser.Tree (Term g.P.Parser.Tree g.F.Parser.Tree g.Q.Parser.Tree)) →
@@ -95,9 +98,7 @@ pairs-requires-clause-before g c =
     g.OM.Error.Mode.BUILDS g.OM.Incomplete.IsStreaming.STREAMING c.term-first.ensures.shown c.in_ok-rest.ensures in
     let item = accepts (told_ok c.told.ensures c.in-Whole.is closed) in
     let t = is_whole g.OM.Output.Mode.BUILDS (is_term g p f q fold) item.tree item.built_is in
-    started_ready (λ m. reverse m.stack.items) (λ m. m.value) (λ m. m.levels.now) (λ m. m.fold.now) _ c.args.levels.now fold g.OM.Output.Mode.BUILDS _ _
-    _ (λ k x e h. (subst (λ z. IsSome z) (sym e) refl, λ o. subst (λ z. g.G.Fn.pre z (o, tt)) (sym h) (c.requires.fold o))) t.2
-    c.started-machine.ensures
+    built_error g.OM.Output.Mode.BUILDS _ _ c.in-Whole.value (λ _ _. tt) t.2
 
 pub returns-in_err-end-in-Whole-clause-shown : goal.returns-in_err-end-in-Whole-clause-shown
 returns-in_err-end-in-Whole-clause-shown g c =
@@ -110,16 +111,9 @@ returns-in_err-end-in-Whole-clause-shown g c =
     let errs = g.F.Error.ParseError.errors in
     let closed = closed_read (is_term g p f q fold) (term g p f q) (λ i. errs.appended i Kind.Precedence) errs.grows g.OM.Output.Mode.BUILDS
     g.OM.Error.Mode.BUILDS g.OM.Incomplete.IsStreaming.STREAMING c.term-first.ensures.shown c.in_ok-rest.ensures in
-    let others = at_states (λ x y z d r. ShowsRead g.I.Items.seen (KeptFrom c.started-machine.result
-    (λ old item new.
-    MachineGains (groups_left old.levels.now) (λ o. o.0) (λ l o h k. g.G.Fn.post old.fold.now (Binary l o.1 h, tt) k) (λ m. reverse m.stack.items)
-    (λ m. m.value) old item new
-    × (new.levels ≡ old.levels)
-    × (new.fold ≡ old.fold))
-    (λ m. IsSome m.value × ((o : Operation g.row.P-Output.Denot g.row.Q-Output.Denot g.row.B.Denot g.row.F-Output.Denot) → g.G.Fn.pre m.fold.now (o, tt)))
-    (is_pair g x y z d fold)) (behind g x y z d n) g.OM.Output.Mode.BUILDS g.OM.Error.Mode.BUILDS g.OM.Incomplete.IsStreaming.STREAMING
-    c.in_ok-rest.rest r) c.term-first.ensures.prefix_kept c.term-first.ensures.operand_kept c.term-first.ensures.postfix_kept refl
-    c.in_err-end-in-Whole.ensures.shown in
+    let others = at_states (λ x y z d r. ShowsRead g.I.Items.seen (Pairs g x y z d fold c.args.levels.now c.in-Whole.value) (behind g x y z d n)
+    g.OM.Output.Mode.BUILDS g.OM.Error.Mode.BUILDS g.OM.Incomplete.IsStreaming.STREAMING c.in_ok-rest.rest r) c.term-first.ensures.prefix_kept
+    c.term-first.ensures.operand_kept c.term-first.ensures.postfix_kept refl c.in_err-end-in-Whole.ensures.shown in
     second_err g.met.I.Items.lawful (λ t ps. (t, ps)) (first g p f q) (behind g p f q b n) (is_term g p f q fold)
     (Whole g p f q b fold c.args.levels.now) g.OM.Output.Mode.BUILDS g.OM.Error.Mode.BUILDS g.OM.Incomplete.IsStreaming.STREAMING _
     (told_ok c.told.ensures c.in-Whole.is closed) others c.from_residual-in_err-end-in-Whole.ensures
@@ -135,40 +129,12 @@ returns-in-Stuck-told-clause-shown g c =
     let errs = g.F.Error.ParseError.errors in
     let closed = closed_read (is_term g p f q fold) (term g p f q) (λ i. errs.appended i Kind.Precedence) errs.grows g.OM.Output.Mode.BUILDS
     g.OM.Error.Mode.BUILDS g.OM.Incomplete.IsStreaming.STREAMING c.term-first.ensures.shown c.in_ok-rest.ensures in
-    let others = at_states (λ x y z d r. ShowsRead g.I.Items.seen (KeptFrom c.started-machine.result
-    (λ old item new.
-    MachineGains (groups_left old.levels.now) (λ o. o.0) (λ l o h k. g.G.Fn.post old.fold.now (Binary l o.1 h, tt) k) (λ m. reverse m.stack.items)
-    (λ m. m.value) old item new
-    × (new.levels ≡ old.levels)
-    × (new.fold ≡ old.fold))
-    (λ m. IsSome m.value × ((o : Operation g.row.P-Output.Denot g.row.Q-Output.Denot g.row.B.Denot g.row.F-Output.Denot) → g.G.Fn.pre m.fold.now (o, tt)))
-    (is_pair g x y z d fold)) (behind g x y z d n) g.OM.Output.Mode.BUILDS g.OM.Error.Mode.BUILDS g.OM.Incomplete.IsStreaming.STREAMING
-    c.in_ok-rest.rest r) c.term-first.ensures.prefix_kept c.term-first.ensures.operand_kept c.term-first.ensures.postfix_kept refl
-    c.in_ok-end-in-Whole.ensures.shown in
+    let others = at_states (λ x y z d r. ShowsRead g.I.Items.seen (Pairs g x y z d fold c.args.levels.now c.in-Whole.value) (behind g x y z d n)
+    g.OM.Output.Mode.BUILDS g.OM.Error.Mode.BUILDS g.OM.Incomplete.IsStreaming.STREAMING c.in_ok-rest.rest r) c.term-first.ensures.prefix_kept
+    c.term-first.ensures.operand_kept c.term-first.ensures.postfix_kept refl c.in_ok-end-in-Whole.ensures.shown in
     second_stuck g.met.I.Items.lawful (λ t ps. (t, ps)) (first g p f q) (behind g p f q b n) (is_term g p f q fold)
     (Whole g p f q b fold c.args.levels.now) g.OM.Output.Mode.BUILDS g.OM.Error.Mode.BUILDS g.OM.Incomplete.IsStreaming.STREAMING _
     (told_ok c.told.ensures c.in-Whole.is closed) (told_ok c.told-in-Whole.ensures c.in-Stuck-told.is others)
-
-pub made-requires : goal.made-requires
-made-requires g c =
-    let p = g.P.Parser.state c.args.prefix.now in
-    let f = g.F.Parser.state c.args.operand.now in
-    let q = g.Q.Parser.state c.args.postfix.now in
-    let b = g.C.Parser.state c.args.binary.now in
-    let n = length c.args.levels.now in
-    let fold = c.args.fold.now in
-    let others = at_states (λ x y z d r. ShowsRead g.I.Items.seen (KeptFrom c.started-machine.result
-    (λ old item new.
-    MachineGains (groups_left old.levels.now) (λ o. o.0) (λ l o h k. g.G.Fn.post old.fold.now (Binary l o.1 h, tt) k) (λ m. reverse m.stack.items)
-    (λ m. m.value) old item new
-    × (new.levels ≡ old.levels)
-    × (new.fold ≡ old.fold))
-    (λ m. IsSome m.value × ((o : Operation g.row.P-Output.Denot g.row.Q-Output.Denot g.row.B.Denot g.row.F-Output.Denot) → g.G.Fn.pre m.fold.now (o, tt)))
-    (is_pair g x y z d fold)) (behind g x y z d n) g.OM.Output.Mode.BUILDS g.OM.Error.Mode.BUILDS g.OM.Incomplete.IsStreaming.STREAMING
-    c.in_ok-rest.rest r) c.term-first.ensures.prefix_kept c.term-first.ensures.operand_kept c.term-first.ensures.postfix_kept refl
-    c.in_ok-end-in-Whole.ensures.shown in
-    may_end _ _ (is_pair g p f q b fold) _ (behind g p f q b n) g.OM.Output.Mode.BUILDS g.OM.Error.Mode.BUILDS g.OM.Incomplete.IsStreaming.STREAMING
-    (told_ok c.told-in-Whole.ensures c.in-Whole-told.is others)
 
 pub returns-in-Whole-told-clause-shown : goal.returns-in-Whole-told-clause-shown
 returns-in-Whole-told-clause-shown g c =
@@ -181,21 +147,11 @@ returns-in-Whole-told-clause-shown g c =
     let errs = g.F.Error.ParseError.errors in
     let closed = closed_read (is_term g p f q fold) (term g p f q) (λ i. errs.appended i Kind.Precedence) errs.grows g.OM.Output.Mode.BUILDS
     g.OM.Error.Mode.BUILDS g.OM.Incomplete.IsStreaming.STREAMING c.term-first.ensures.shown c.in_ok-rest.ensures in
-    let others = at_states (λ x y z d r. ShowsRead g.I.Items.seen (KeptFrom c.started-machine.result
-    (λ old item new.
-    MachineGains (groups_left old.levels.now) (λ o. o.0) (λ l o h k. g.G.Fn.post old.fold.now (Binary l o.1 h, tt) k) (λ m. reverse m.stack.items)
-    (λ m. m.value) old item new
-    × (new.levels ≡ old.levels)
-    × (new.fold ≡ old.fold))
-    (λ m. IsSome m.value × ((o : Operation g.row.P-Output.Denot g.row.Q-Output.Denot g.row.B.Denot g.row.F-Output.Denot) → g.G.Fn.pre m.fold.now (o, tt)))
-    (is_pair g x y z d fold)) (behind g x y z d n) g.OM.Output.Mode.BUILDS g.OM.Error.Mode.BUILDS g.OM.Incomplete.IsStreaming.STREAMING
-    c.in_ok-rest.rest r) c.term-first.ensures.prefix_kept c.term-first.ensures.operand_kept c.term-first.ensures.postfix_kept refl
-    c.in_ok-end-in-Whole.ensures.shown in
+    let others = at_states (λ x y z d r. ShowsRead g.I.Items.seen (Pairs g x y z d fold c.args.levels.now c.in-Whole.value) (behind g x y z d n)
+    g.OM.Output.Mode.BUILDS g.OM.Error.Mode.BUILDS g.OM.Incomplete.IsStreaming.STREAMING c.in_ok-rest.rest r) c.term-first.ensures.prefix_kept
+    c.term-first.ensures.operand_kept c.term-first.ensures.postfix_kept refl c.in_ok-end-in-Whole.ensures.shown in
     both_whole g.met.I.Items.lawful (λ t ps. (t, ps)) (first g p f q) (behind g p f q b n) (is_term g p f q fold)
     (Whole g p f q b fold c.args.levels.now) g.OM.Output.Mode.BUILDS g.OM.Error.Mode.BUILDS g.OM.Incomplete.IsStreaming.STREAMING _ _
     (λ t ps v k. expression_built (g.P.Parser.IsOutput p) (g.F.Parser.IsOutput f) (g.Q.Parser.IsOutput q) (g.C.Parser.IsOutput b)
-    (λ h o. g.G.Fn.post h (o, tt)) groups_left (λ m. reverse m.stack.items) (λ m. m.value) (λ m. m.levels.now) (λ m. m.fold.now) _ c.args.levels.now
-    fold _
-    (λ old item new h. record { gains = h.0; levels_is = ap (λ r. r.now) h.1; fold_is = ap (λ r. r.now) h.2 })
-    g.OM.Output.Mode.BUILDS t ps _ _ _ _ c.started-machine.ensures c.made.ensures v k)
+    (λ o. g.G.Fn.post fold (o, tt)) (groups_left c.args.levels.now) g.OM.Output.Mode.BUILDS t ps _ _ v k)
     (told_ok c.told.ensures c.in-Whole.is closed) (told_ok c.told-in-Whole.ensures c.in-Whole-told.is others)

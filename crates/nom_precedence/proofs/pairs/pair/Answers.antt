@@ -2,7 +2,7 @@ use Rattle.std.proofs.Common.{subst, sym, ◌≡◌, length}
 use Rattle.nom_precedence.specs.Expressions.{pair_meaning, term_meaning}
 use Rattle.nom_precedence.specs.Operators.{HasLevel, operator_meaning}
 use Rattle.nom_precedence.specs.Told.{IsOwn, IsPairOf, IsTerm}
-use Rattle.nom_precedence.specs.declared.operation.Operation.TheVariants.{Prefix, Postfix}
+use Rattle.nom_operators.specs.declared.operation.Operation.TheVariants.{Prefix, Postfix}
 use Rattle.nom_precedence.proofs.ReadShown.{told_ok, built_from}
 use Rattle.nom_precedence.proofs.OperatorShown.{own_first_err, own_second_err, own_second_stuck, own_both, own_is}
 use Rattle.nom_precedence.proofs.pairs.pair.Goals as goal

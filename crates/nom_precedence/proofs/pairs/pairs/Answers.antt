@@ -1,14 +1,14 @@
-use Rattle.std.proofs.Common.{ℕ, rules, refl, ◌∙◌, false, length, subst, Option, Result}
+use Rattle.std.proofs.Common.{ℕ, refl, ◌∙◌, false, length, subst, Option, Result}
 use Rattle.nom_error.specs.declared.answer.Needed.{Needed}
 use Rattle.nom_error.specs.declared.answer.Err as Answer
 use Rattle.nom_internal.specs.Outcome.Outcome.{Accept}
 use Rattle.nom_internal.proofs.Shown.{accepts}
-use Rattle.nom_repeat.proofs.Keeping.{kept_none, kept_ready, can_keep_first, gained, room_built}
 use Rattle.nom_repeat.proofs.Parts.{part_refused}
 use Rattle.nom_repeat.proofs.Repeated.{collected_none, is_empty, consumes, is_shorter}
 use Rattle.nom_precedence.specs.Told.{ShowsRead}
 use Rattle.nom_precedence.specs.declared.read.Read as Told
 use Rattle.nom_precedence.proofs.ReadShown.{told_ok, is_whole, is_stuck, at_states}
+use Rattle.nom_precedence.proofs.HeldShown.{held_built, run_none, run_nested, run_more, run_made}
 use Rattle.nom_precedence.proofs.ChainShown.{chain_ended, chain_stuck, chain_stuck_within, chain_lacks_room, chain_failed, chain_lacks, chain_ran_out}
 use Rattle.nom_precedence.proofs.ChainShown.{chain_more}
 use Rattle.nom_precedence.proofs.pairs.pairs.Given as given
@@ -28,13 +28,12 @@ loop-next-init g c = record {
   operand_kept = refl;
   postfix_kept = refl;
   binary_kept = refl;
-  collected = collected_none g.met.I.Items.lawful c.known.ensures (kept_none _ _ _ _ _ c.requires.before);
+  collected = collected_none g.met.I.Items.lawful c.known.ensures
+      (run_none _ _ _ _ _ _ _ _ _ _ c.new-outer.ensures.items c.requires.before c.begun-held.ensures);
 }
 
-pub gain-requires : goal.gain-requires
-gain-requires g c =
-    let i = c.loop-next.invariant in
-    can_keep_first {V = ℕ} {T = ℕ} (λ _ _ _. Unit {0}) _ (λ _ _. Unit {0}) _ _ (kept_ready _ _ _ _ _ _ i.collected.trees i.collected.held)
+pub grown-requires-clause-nested : goal.grown-requires-clause-nested
+grown-requires-clause-nested g c = run_nested _ _ _ _ _ _ _ _ _ _ _ c.loop-next.invariant.collected.held
 
 pub returns-in-Stuck-clause-shown : goal.returns-in-Stuck-clause-shown
 returns-in-Stuck-clause-shown g c =
@@ -72,8 +71,8 @@ returns-then-input_len-clause-shown g c =
     (is_empty item.rest_is c.input_len.ensures c.input_len-in-Whole.ensures c.if-input_len.true)
     item.rest_is
 
-pub returns-then-not-gain-clause-shown : goal.returns-then-not-gain-clause-shown
-returns-then-not-gain-clause-shown g c =
+pub returns-in-None-clause-shown : goal.returns-in-None-clause-shown
+returns-in-None-clause-shown g c =
     let i = c.loop-next.invariant in
     let p = g.P.Parser.state c.args.prefix.now in
     let f = g.F.Parser.state c.args.operand.now in
@@ -88,7 +87,7 @@ returns-then-not-gain-clause-shown g c =
     t.0
     (subst (λ u. m.answers g.OM.Incomplete.IsStreaming.STREAMING c.loop-next.rest (Accept item.length u)) t.1 item.answered)
     (consumes item.rest_is c.input_len.ensures c.input_len-in-Whole.ensures c.if-input_len.false)
-    (room_built _ _ _ _ i.collected.held (c.gain.ensures.full c.if-not-gain.true))
+    (held_built _ _ _ i.collected.held (c.grown.ensures.full c.in-None.is).0)
     tt
 
 pub loop-next-smaller : goal.loop-next-smaller
@@ -118,7 +117,7 @@ loop-next-preserved g c =
           (subst (λ u. m.answers g.OM.Incomplete.IsStreaming.STREAMING c.loop-next.rest (Accept item.length u)) t.1 item.answered)
           (consumes item.rest_is c.input_len.ensures c.input_len-in-Whole.ensures c.if-input_len.false)
           item.rest_is
-          (gained _ _ _ _ _ _ _ _ _ _ (c.gain.ensures.kept (search rules)) i.collected.held t.2);
+          (run_more _ _ _ _ _ _ _ _ _ _ _ _ _ _ _ c.in-Some.ensures.grown i.collected.held t.2);
     }
 
 pub returns-in-Err-Error-clause-shown : goal.returns-in-Err-Error-clause-shown
@@ -133,7 +132,7 @@ returns-in-Err-Error-clause-shown g c =
     chain_ended (Unit {0}) (part g p f q b n) _ g.OM.Output.Mode.BUILDS g.OM.Error.Mode.BUILDS g.OM.Incomplete.IsStreaming.STREAMING i.collected
     (part_refused c.in-Err-Error.field-0-is shown)
     _
-    i.collected.held
+    (run_made _ _ _ _ _ _ _ _ _ _ _ _ c.finished.ensures i.collected.held)
 
 pub returns-in-Err-Failure-clause-shown : goal.returns-in-Err-Failure-clause-shown
 returns-in-Err-Failure-clause-shown g c =

@@ -1,18 +1,15 @@
-use Rattle.std.proofs.Common.{◌≡◌, ℕ, length, reverse}
-use Rattle.std.specs.Prelude.{IsSome}
+use Rattle.std.proofs.Common.{◌≡◌, ℕ, length}
 use Rattle.nom_error.specs.Modes.{Built}
 use Rattle.nom_traits.specs.Input.{input_len}
 use Rattle.nom_internal.specs.Meaning.{Meaning}
-use Rattle.nom_repeat.specs.Kept.{Kept}
 use Rattle.nom_precedence.specs.Stuck.{Read}
 use Rattle.nom_precedence.specs.Expressions.{Pair, Term, pair_meaning, term_meaning}
 use Rattle.nom_precedence.specs.Operators.{HasLevel, operator_meaning}
-use Rattle.nom_precedence.specs.Steps.{MachineGains}
 use Rattle.nom_precedence.specs.Told.{IsPairOf, IsTerm}
-use Rattle.nom_precedence.specs.Values.{groups_left}
-use Rattle.nom_precedence.specs.declared.operation.Operation.{Operation}
-use Rattle.nom_precedence.specs.declared.operation.Operation.TheVariants.{Binary, Postfix, Prefix}
+use Rattle.nom_operators.specs.Groups.{groups_left}
+use Rattle.nom_operators.specs.declared.operation.Operation.TheVariants.{Binary, Postfix, Prefix}
 use Rattle.nom_precedence.proofs.ChainShown.{Chain}
+use Rattle.nom_precedence.proofs.HeldShown.{HasRun}
 use Rattle.nom_precedence.proofs.pairs.pairs.Given as goal
 
 -- what a pair means, by the states of the four parts and the number of levels
@@ -43,18 +40,8 @@ invariant-loop-next g l =
       postfix_kept : g.Q.Parser.state l.postfix ≡ q;
       binary_kept : g.C.Parser.state l.binary ≡ b;
       collected : Chain g.I.Items.seen ((part g p f q b (length l.fn.levels)).answers g.OM.Incomplete.IsStreaming.STREAMING)
-          (λ vs. Built g.OM.Output.Mode.BUILDS
-          (Kept
-          (λ old item new.
-          MachineGains (groups_left old.levels.now) (λ d. d.0) (λ x d y z. g.G.Fn.post old.fold.now (Binary x d.1 y, tt) z) (λ m. reverse m.stack.items)
-          (λ m. m.value) old item new
-          × (new.levels ≡ old.levels)
-          × (new.fold ≡ old.fold))
-          (λ m. IsSome m.value × ((x : Operation g.row.P-Output.Denot g.row.Q-Output.Denot g.row.B.Denot g.row.F-Output.Denot) → g.G.Fn.pre m.fold.now (x, tt)))
-          (is_pair g p f q b l.fn.fold)
-          l.fn.before
-          vs)
-          l.kept)
+          (λ vs. Built g.OM.Output.Mode.BUILDS (HasRun (groups_left l.fn.levels) (λ d. d.0) (λ x d y z. g.G.Fn.post l.fn.fold (Binary x d.1 y, tt) z)
+          (is_pair g p f q b l.fn.fold) (λ k. k.innermost) (λ k. k.value) l.outer.items l.fn.before vs) l.held)
           l.fn.input l.rest;
     }
 

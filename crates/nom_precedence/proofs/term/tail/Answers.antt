@@ -5,7 +5,7 @@ use Rattle.nom_internal.proofs.Shown.{accepts}
 use Rattle.nom_precedence.specs.Expressions.{affixes_meaning}
 use Rattle.nom_precedence.specs.Stuck.Read.{Whole}
 use Rattle.nom_precedence.specs.Told.{IsTail}
-use Rattle.nom_precedence.specs.declared.operation.Operation.TheVariants.{Postfix}
+use Rattle.nom_operators.specs.declared.operation.Operation.TheVariants.{Postfix}
 use Rattle.nom_precedence.proofs.ReadShown.{whole_ok, whole_err, told_ok, first_err, second_err, second_stuck, both_whole}
 use Rattle.nom_precedence.proofs.TermShown.{tail_built, held_ready}
 use Rattle.nom_precedence.proofs.term.tail.Goals as goal

@@ -1,12 +1,8 @@
-use Rattle.std.specs.List.{AllZip}
-use Rattle.nom_internal.proofs.Shown.{built_error}
-use Rattle.nom_repeat.proofs.ListKept.{list_of_none}
 use Rattle.nom_precedence.specs.Expressions.{affixes_meaning, tail_meaning, term_meaning, term_of}
-use Rattle.nom_precedence.specs.Steps.{Before}
-use Rattle.nom_precedence.specs.Told.{IsTail, IsTerm}
-use Rattle.nom_precedence.specs.declared.operation.Operation.TheVariants.{Prefix, Postfix}
-use Rattle.nom_precedence.proofs.ReadShown.{told_ok, first_err, first_stuck, second_err, second_stuck, both_whole, built_from_both}
-use Rattle.nom_precedence.proofs.TermShown.{term_built}
+use Rattle.nom_precedence.specs.Told.{IsTerm}
+use Rattle.nom_operators.specs.declared.operation.Operation.TheVariants.{Prefix, Postfix}
+use Rattle.nom_precedence.proofs.ReadShown.{told_ok, first_err, first_stuck, second_err, second_stuck, both_whole}
+use Rattle.nom_precedence.proofs.TermShown.{term_finished}
 use Rattle.nom_precedence.proofs.term.term.Goals as goal
 
 pub returns-in_err-rest-clause-shown : goal.returns-in_err-rest-clause-shown
@@ -58,16 +54,8 @@ returns-in-Whole-told-clause-shown g c = both_whole g.met.I.Items.lawful term_of
     _ (IsTerm (g.P.Parser.IsOutput (g.P.Parser.state c.args.prefix.now)) (λ p x y. g.G.Fn.post c.args.fold.now (Prefix p x, tt) y)
     (g.F.Parser.IsOutput (g.F.Parser.state c.args.operand.now)) (g.Q.Parser.IsOutput (g.Q.Parser.state c.args.postfix.now))
     (λ x q y. g.G.Fn.post c.args.fold.now (Postfix x q, tt) y)) g.OM.Output.Mode.BUILDS g.OM.Error.Mode.BUILDS g.OM.Incomplete.IsStreaming.STREAMING _ _
-    (λ ps t p q. built_from_both g.OM.Output.Mode.BUILDS (λ list. AllZip (g.P.Parser.IsOutput (g.P.Parser.state c.args.prefix.now)) ps list.items)
-    (IsTail (g.F.Parser.IsOutput (g.F.Parser.state c.args.operand.now)) (g.Q.Parser.IsOutput (g.Q.Parser.state c.args.postfix.now))
-    (λ x q y. g.G.Fn.post c.args.fold.now (Postfix x q, tt) y) t) ((IsTerm (g.P.Parser.IsOutput (g.P.Parser.state c.args.prefix.now))
-    (λ p x y. g.G.Fn.post c.args.fold.now (Prefix p x, tt) y) (g.F.Parser.IsOutput (g.F.Parser.state c.args.operand.now))
-    (g.Q.Parser.IsOutput (g.Q.Parser.state c.args.postfix.now)) (λ x q y. g.G.Fn.post c.args.fold.now (Postfix x q, tt) y)) (term_of ps t))
-    (λ list x y. Before (λ p x y. g.G.Fn.post c.args.fold.now (Prefix p x, tt) y) list.items x y) _ _ _
-    (λ list x y k h b. term_built (g.P.Parser.IsOutput (g.P.Parser.state c.args.prefix.now)) (λ p x y. g.G.Fn.post c.args.fold.now (Prefix p x, tt) y)
+    (λ ps t p q. term_finished (g.P.Parser.IsOutput (g.P.Parser.state c.args.prefix.now)) (λ p x y. g.G.Fn.post c.args.fold.now (Prefix p x, tt) y)
     (g.F.Parser.IsOutput (g.F.Parser.state c.args.operand.now)) (g.Q.Parser.IsOutput (g.Q.Parser.state c.args.postfix.now))
-    (λ x q y. g.G.Fn.post c.args.fold.now (Postfix x q, tt) y) ps t list.items x y k h b)
-    (built_error g.OM.Output.Mode.BUILDS _ _ _ (λ list k. list_of_none (g.P.Parser.IsOutput (g.P.Parser.state c.args.prefix.now))
-    g.OM.Output.Mode.BUILDS c.none_yet-none.ensures.empty ps list k) p) q c.finished.ensures)
+    (λ x q y. g.G.Fn.post c.args.fold.now (Postfix x q, tt) y) g.OM.Output.Mode.BUILDS ps t _ _ _ _ p q c.finished.ensures)
     (told_ok c.told.ensures c.in-Whole.is c.in_ok-rest.ensures.shown) (told_ok c.told-in-Whole.ensures c.in-Whole-told.is
     c.in_ok-end-in-Whole.ensures.shown)

@@ -1,5 +1,5 @@
-use Rattle.nom_precedence.proofs.StepsShown.{before_last}
-use Rattle.nom_precedence.specs.declared.operation.Operation.TheVariants.{Prefix}
+use Rattle.nom_precedence.proofs.TermShown.{before_last}
+use Rattle.nom_operators.specs.declared.operation.Operation.TheVariants.{Prefix}
 use Rattle.nom_precedence.proofs.term.under.Goals as goal
 
 pub loop-prefix-preserved : goal.loop-prefix-preserved

@@ -1,0 +1,4 @@
+pub mod OneTree
+pub mod Runs
+pub mod Spine
+pub mod StepsShown
