@@ -1,5 +1,5 @@
 -- One item from what is held.
-use Rattle.std.specs.Prelude.{◌≡◌, ℕ, zero, suc, ◌+◌, ◌-◌, ◌≤◌, Bool, List, length, take, Result, Ok, Err}
+use Rattle.std.specs.Prelude.{◌≡◌, ℕ, zero, suc, ◌+◌, ◌≤◌, Bool, List, length, take, Result, Ok, Err}
 use Rattle.std.specs.Borrow.{Bor}
 use Rattle.nom_error.specs.declared.answer.Needed.{Needed}
 use Rattle.nom_error.specs.declared.answer.Err as Answer
@@ -26,12 +26,12 @@ pub record ParsesItem {V O : Type 0} (IsItem : V → O → Type 0) (m : Meaning 
   pub lawful : IsLawful seen_bytes m
   pub steady : IsSteady seen_bytes m
 
--- What is told where nothing is accepted, of an input of a length: with an error how far behind the input's start it stands.
-abbrev pub IsStopped : {O : Type 0} → ℕ → Answer.Err (Error Bytes) (Error Bytes) Needed → Taken O → Type 0
-IsStopped len (Stop.Incomplete k) r = r ≡ Undecided k
-IsStopped len (Stop.Error e) r = r ≡ Refused e.code (len - length e.input.now)
-IsStopped len (Stop.Failure e) r = r ≡ Failed e.code (len - length e.input.now)
-IsStopped len Stop.OutOfMemory r = r ≡ OutOfMemory
+-- what is told where nothing is accepted: of an error its kind, and the length of the input that it holds
+abbrev pub IsStopped : {O : Type 0} → Answer.Err (Error Bytes) (Error Bytes) Needed → Taken O → Type 0
+IsStopped (Stop.Incomplete k) r = r ≡ Undecided k
+IsStopped (Stop.Error e) r = r ≡ Refused e.code (length e.input.now)
+IsStopped (Stop.Failure e) r = r ≡ Failed e.code (length e.input.now)
+IsStopped Stop.OutOfMemory r = r ≡ OutOfMemory
 
 -- an item of a length, or that it has none
 abbrev pub taken_of : {O : Type 0} → ℕ → O → Taken O
@@ -41,7 +41,7 @@ taken_of (suc n) o = Item (suc n) o
 -- what is taken for an answer at the input x, and what is held then
 abbrev pub Took : {O : Type 0} → Bytes → List ℕ → Answered O → Taken O → Type 0
 Took x new (Ok (j, o)) r = (n : ℕ) × (n + length j.now ≡ length x.now) × (new ≡ j.now) × (r ≡ taken_of n o)
-Took x new (Err e) r = (new ≡ x.now) × IsStopped (length x.now) e r
+Took x new (Err e) r = (new ≡ x.now) × IsStopped e r
 
 -- What is held is parsed once, by whether more may come: an accepted item is taken off its front, and else it stays.
 pub record Takes {V O : Type 0} (IsItem : V → O → Type 0) (m : Meaning Bytes V (Error Bytes)) (more : Bool) (old new : List ℕ) (r : Taken O) : Type 0 where

@@ -1,5 +1,5 @@
 //! One item from what is held.
-ghost use Rattle.std.specs.Prelude.{◌≡◌, ℕ, ◌-◌, List, length, MatchOption};
+ghost use Rattle.std.specs.Prelude.{◌≡◌, MatchOption};
 ghost use Rattle.nom_stream.specs.Held.{held_of, IsWithin};
 ghost use Rattle.nom_stream.specs.Items.{IsStopped, HoldsLast, IsUndecided, Takes, taken_of};
 ghost use Rattle.nom_stream.specs.declared.step.Taken.TheVariants.{Undecided};
@@ -21,22 +21,22 @@ pub enum Taken<T> {
     Nothing,
     /// The bytes don't decide.
     Undecided(Needed),
-    /// A refusal, with its kind, so many bytes behind the start of what is held.
+    /// A refusal, with the kind of its error, and the length of the input that the error holds.
     Refused(ErrorKind, usize),
-    /// A failure.
+    /// A failure, likewise.
     Failed(ErrorKind, usize),
     /// Memory ran out in the parser.
     OutOfMemory,
 }
 
-// What is told of an answer at an input of so many bytes where nothing is accepted.
-fn stopped<T>(len: usize, stop: Err<Error<&[u8]>>) -> Taken<T>
-    ensures { IsStopped len stop.entry result }
+// What is told of an answer where nothing is accepted.
+fn stopped<T>(stop: Err<Error<&[u8]>>) -> Taken<T>
+    ensures { IsStopped stop.entry result }
 {
     match stop {
         Err::Incomplete(needed) => Taken::Undecided(needed),
-        Err::Error(error) => Taken::Refused(error.code, len.saturating_sub(error.input.len())),
-        Err::Failure(error) => Taken::Failed(error.code, len.saturating_sub(error.input.len())),
+        Err::Error(error) => Taken::Refused(error.code, error.input.len()),
+        Err::Failure(error) => Taken::Failed(error.code, error.input.len()),
         Err::OutOfMemory => Taken::OutOfMemory,
     }
 }
@@ -67,7 +67,7 @@ pub fn take<A: Allocator, G: Grammar>(
             held.consume(used);
             Taken::Item(used, item)
         }
-        Err(stop) => stopped(len, stop),
+        Err(stop) => stopped(stop),
     }
 }
 

@@ -26,12 +26,13 @@ pub enum Unread {
     OutOfMemory,
 }
 
-/// Why there is no item. Nothing that was read is lost: it is held.
+/// Why there is no item. Nothing that was read is lost: it is held, and the item begins at the stream's offset.
 #[derive(Clone, Copy, Debug)]
 pub enum Stop {
-    /// The item was refused, with the kind of the error, so many bytes behind the item's start.
+    /// The item was refused, with the kind of the error, and the length of the input that the error holds: of what was
+    /// held, or of a part of it that a parser cut off, as `length_value` does.
     Refused(ErrorKind, usize),
-    /// The item failed.
+    /// The item failed, likewise.
     Failed(ErrorKind, usize),
     /// The item has no bytes, so that there would be no end of such items.
     Nothing,
@@ -119,7 +120,9 @@ impl<R: Read, A: Allocator + Copy> Stream<R, A> {
         requires most { count ≤ self.old.settings.most }
         ensures open { IsOpen R.remaining self.new }
         ensures room { IsOk result → vec_len self.new.room ≡ count }
-        ensures others { (self.new.source ≡ self.old.source) × (self.new.held ≡ self.old.held) × (self.new.settings ≡ self.old.settings) × (self.new.offset ≡ self.old.offset) × (self.new.ended ≡ self.old.ended) }
+        ensures others { (self.new.source ≡ self.old.source) × (self.new.held ≡ self.old.held)
+            × (self.new.settings ≡ self.old.settings) × (self.new.offset ≡ self.old.offset)
+            × (self.new.ended ≡ self.old.ended) }
     {
         match self.room.resize(count, 0) {
             Ok(()) => Ok(()),
@@ -135,7 +138,8 @@ impl<R: Read, A: Allocator + Copy> Stream<R, A> {
         requires most { vec_len self.old.held.bytes + count ≤ self.old.settings.most }
         ensures open { IsOpen R.remaining self.new }
         ensures reads { ReadsOnce R.remaining self.old self.new result }
-        ensures others { (self.new.held.start ≡ self.old.held.start) × (self.new.settings ≡ self.old.settings) × (self.new.offset ≡ self.old.offset) × (self.new.ended ≡ false) }
+        ensures others { (self.new.held.start ≡ self.old.held.start) × (self.new.settings ≡ self.old.settings)
+            × (self.new.offset ≡ self.old.offset) × (self.new.ended ≡ false) }
     {
         self.make_room(count)?;
         match self.held.reserve(count) {
@@ -183,7 +187,9 @@ impl<R: Read, A: Allocator + Copy> Stream<R, A> {
     fn tell<T>(&mut self, taken: Taken<T>) -> Result<Option<(usize, T)>, Stop>
         ensures tells { Tells taken result }
         ensures offset { self.new.offset ≡ counted self.old.offset result }
-        ensures others { (self.new.source ≡ self.old.source) × (self.new.held ≡ self.old.held) × (self.new.room ≡ self.old.room) × (self.new.settings ≡ self.old.settings) × (self.new.ended ≡ self.old.ended) }
+        ensures others { (self.new.source ≡ self.old.source) × (self.new.held ≡ self.old.held)
+            × (self.new.room ≡ self.old.room) × (self.new.settings ≡ self.old.settings)
+            × (self.new.ended ≡ self.old.ended) }
     {
         match taken {
             Taken::Item(used, item) => {
@@ -192,8 +198,8 @@ impl<R: Read, A: Allocator + Copy> Stream<R, A> {
             }
             Taken::Nothing => Err(Stop::Nothing),
             Taken::Undecided(needed) => Err(Stop::Incomplete(needed)),
-            Taken::Refused(kind, at) => Err(Stop::Refused(kind, at)),
-            Taken::Failed(kind, at) => Err(Stop::Failed(kind, at)),
+            Taken::Refused(kind, len) => Err(Stop::Refused(kind, len)),
+            Taken::Failed(kind, len) => Err(Stop::Failed(kind, len)),
             Taken::OutOfMemory => Err(Stop::OutOfMemory),
         }
     }
