@@ -106,7 +106,7 @@ module _ {R A State V O : Type 0} (left : R → Option (List ℕ)) (IsItem : Sta
       filled = t;
       reads = reads_further t f;
       open_then = opened';
-      answers = Unfilled why refl refl;
+      answers = Unfilled why refl (held_of w.held) f.given f.gives.added (k, undecided) refl;
       source = refl;
       settings = (set' ∙ set ∙ settings, set' ∙ set ∙ settings);
       offset = count' ∙ count ∙ offset;

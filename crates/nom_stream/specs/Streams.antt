@@ -72,7 +72,7 @@ abbrev pub Waits : {V O : Type 0} → (V → O → Type 0) → Meaning Bytes V (
 Waits IsItem m xs = (k : Needed) × Takes IsItem m true xs xs (Took.Undecided k)
 
 module _ {R A V O : Type 0} (IsItem : V → O → Type 0) (m : Meaning Bytes V (Error Bytes)) (s t : Stream R A) where
-  -- Bytes were read for an item only where all that were held and read before leave it undecided.
+  -- Nothing was read, or what was held before the last filling leaves the item undecided; so do all beginnings of that.
   pub data ReadAsNeeded (given : List ℕ) : Type 0 where
     NoneRead : given ≡ [] → t.source ≡ s.source → ReadAsNeeded given
     MoreRead : (earlier last : List ℕ) → given ≡ earlier ++ last → Waits IsItem m (held_of s.held ++ earlier) → ReadAsNeeded given
@@ -94,8 +94,8 @@ module _ {R A V O : Type 0} (IsItem : V → O → Type 0) (m : Meaning Bytes V (
     AtEnd : s.ended ≡ true → (k : Needed) → Takes IsItem m true (held_of s.held) (held_of s.held) (Took.Undecided k) → Ends k r → Answers r
     -- as many bytes are held as may be, and don't decide
     Full : s.settings.most ≤ length (held_of s.held) → held_of t.held ≡ held_of s.held → Waits IsItem m (held_of s.held) → r ≡ Err Stop.TooLong → Answers r
-    -- more couldn't be read
-    Unfilled : (why : Unread) → held_of t.held ≡ held_of s.held → r ≡ Err (stop_of why) → Answers r
+    -- it wasn't decided by the bytes before the last ones, and more couldn't be read
+    Unfilled : (why : Unread) → held_of t.held ≡ held_of s.held → (before last : List ℕ) → held_of s.held ≡ before ++ last → Waits IsItem m before → r ≡ Err (stop_of why) → Answers r
 
 module _ {R A V O : Type 0} (left : R → Option (List ℕ)) (IsItem : V → O → Type 0) (m : Meaning Bytes V (Error Bytes)) (s t : Stream R A) where
   -- bytes were read as they were needed
