@@ -47,6 +47,26 @@ module _ {R A V O : Type 0} (left : R → Option (List ℕ)) (IsItem : V → O �
       (whole : Bytes) → seen_bytes.IsKnown whole → HasLeft left s whole.now → s.offset ≤ 2 ^ 64 - 1 →
       (limit : ℕ) (trees : List V) → AllItems m s.settings.complete (length (items_of rs) + limit) whole trees → AreOfWhole left IsItem m s t rs whole limit trees
 
+  -- an item before those that follow
+  prepend : (s u t : Stream R A) (n : ℕ) (o : O) (rs : List (Told O)) (whole next : Bytes) (size limit : ℕ) (v : V) (vs : List V) →
+      Decides left IsItem m s u (Ok (Some (n, o))) → n ≡ size → IsItem v o → IsRest seen_bytes whole size next →
+      AreOfWhole left IsItem m u t rs next limit vs → AreOfWhole left IsItem m s t (Ok (Some (n, o)) ∷ rs) whole limit (v ∷ vs)
+  prepend s u t n o rs whole next size limit v vs d count item rest k =
+      let counts : u.offset ≡ min (s.offset + n) (2 ^ 64 - 1) = d.offset in
+      let all : size + used_by rs ≡ used_by (Ok (Some (n, o)) ∷ rs) = omega (arith, count) in
+      record {
+        first = v ∷ k.first;
+        others = k.others;
+        trees_are = ap (λ z. v ∷ z) k.trees_are;
+        items = (item, k.items);
+        place = k.place;
+        begins = subst (λ z. IsRest seen_bytes whole z k.place) all (rest_rest seen_bytes bytes_lawful whole size next (used_by rs) k.place rest k.begins);
+        left_then = k.left_then;
+        go_on = subst (λ z. AllItems m z.complete limit k.place k.others) d.settings.1 k.go_on;
+        offset = omega (arith, k.offset, counts);
+        settings = k.settings ∙ d.settings.1;
+      }
+
   item_first : (s u t : Stream R A) (n : ℕ) (o : O) (rs : List (Told O)) → Decides left IsItem m s u (Ok (Some (n, o))) → AreSo u t rs → (whole : Bytes) → seen_bytes.IsKnown whole → HasLeft left s whole.now → s.offset ≤ 2 ^ 64 - 1 →
       (limit : ℕ) (trees : List V) → AllItems m s.settings.complete (suc (length (items_of rs) + limit)) whole trees → AreOfWhole left IsItem m s t (Ok (Some (n, o)) ∷ rs) whole limit trees
   item_first s u t n o rs d others whole known has low limit [] a =
@@ -63,20 +83,8 @@ module _ {R A V O : Type 0} (left : R → Option (List ℕ)) (IsItem : V → O �
       let cut = same_cut (λ (b : ℕ). 1) (λ b. omega arith) l.0 l.2.0 rest.front next.now (sym l.2.2 ∙ rest.whole) (span-ones l.0 ∙ l.1 ∙ count ∙ sym rest.length_is) in
       let then : HasLeft left u next.now = subst (HasLeft left u) cut.1 l.2.1 in
       let counts : u.offset ≡ min (s.offset + n) (2 ^ 64 - 1) = d.offset in
-      let k = others next rest.known then (omega (arith, counts)) limit vs (subst (λ z. AllItems m z.complete (length (items_of rs) + limit) next vs) (sym d.settings.1) a.4) in
-      let all : size + used_by rs ≡ used_by (Ok (Some (n, o)) ∷ rs) = omega (arith, count) in
-      record {
-        first = v ∷ k.first;
-        others = k.others;
-        trees_are = ap (λ z. v ∷ z) k.trees_are;
-        items = (subst (λ z. IsItem z o) tree told.1, k.items);
-        place = k.place;
-        begins = subst (λ z. IsRest seen_bytes whole z k.place) all (rest_rest seen_bytes bytes_lawful whole size next (used_by rs) k.place rest k.begins);
-        left_then = k.left_then;
-        go_on = subst (λ z. AllItems m z.complete limit k.place k.others) d.settings.1 k.go_on;
-        offset = omega (arith, k.offset, counts);
-        settings = k.settings ∙ d.settings.1;
-      }
+      prepend s u t n o rs whole next size limit v vs d count (subst (λ z. IsItem z o) tree told.1) rest
+      (others next rest.known then (omega (arith, counts)) limit vs (subst (λ z. AllItems m z.complete (length (items_of rs) + limit) next vs) (sym d.settings.1) a.4))
 
   are_so : (rs : List (Told O)) (s t : Stream R A) → Calls left IsItem m rs s t → AreSo s t rs
   are_so [] s t e whole known has low limit trees a =
