@@ -1,0 +1,5 @@
+mod Calls
+mod Outcomes
+mod Reading
+mod Telling
+mod Wholes

@@ -1,0 +1,68 @@
+-- What is read over several reads.
+use Rattle.std.proofs.Common.{arith, ◌≡◌, ℕ, ◌<◌, Bool, true, false, List, [], ◌++◌, Option, Some, None, Result, Ok, Err, refl, sym, ◌∙◌, ap, subst, append_assoc, append-nil, ◌⊎◌, inl, inr, take}
+use Rattle.std.specs.Io.KnownBytes.{Consumes, Keeps, ReadConsumes}
+use Rattle.nom_stream.specs.declared.stream.Stream.{Stream}
+use Rattle.nom_stream.specs.Held.{held_of}
+use Rattle.nom_stream.specs.Streams.{Gives, turns_left}
+
+consumes_more : (a b c : Option (List ℕ)) (xs ys : List ℕ) → Consumes a b xs → Consumes b c ys → Consumes a c (xs ++ ys)
+consumes_more None b c xs ys p q = tt
+consumes_more (Some a) None c xs ys p q = absurd p
+consumes_more (Some a) (Some b) None xs ys p q = absurd q
+consumes_more (Some a) (Some b) (Some c) xs ys p q = p ∙ ap (λ t. xs ++ t) q ∙ sym (append_assoc xs ys c)
+
+pub keeps_self : (a : Option (List ℕ)) → Keeps a a
+keeps_self None = tt
+keeps_self (Some a) = refl
+
+pub keeps_then : (a b c : Option (List ℕ)) → Keeps a b → Keeps b c → Keeps a c
+keeps_then None b c p q = tt
+keeps_then (Some a) None c p q = absurd p
+keeps_then (Some a) (Some b) None p q = absurd q
+keeps_then (Some a) (Some b) (Some c) p q = q ∙ p
+
+consumes_then : (a b c : Option (List ℕ)) (xs : List ℕ) → Keeps a b → Consumes b c xs → Consumes a c xs
+consumes_then None b c xs p q = tt
+consumes_then (Some a) None c xs p q = absurd p
+consumes_then (Some a) (Some b) None xs p q = absurd q
+consumes_then (Some a) (Some b) (Some c) xs p q = sym p ∙ q
+
+-- an interrupted read, and then another
+pub reads_then : {E : Type 0} (a b c : Option (List ℕ)) (r : Result ℕ E) (room : List ℕ) → Keeps a b → ReadConsumes b c r room → ReadConsumes a c r room
+reads_then a b c (Ok n) room p q = (consumes_then a b c (take n room) p q.0, q.1)
+reads_then a b c (Err e) room p q = keeps_then a b c p q
+
+pub keeps_at_err : {E : Type 0} (a b : Option (List ℕ)) (r : Result ℕ E) (room : List ℕ) → ((e : E) × (r ≡ Err e)) → ReadConsumes a b r room → Keeps a b
+keeps_at_err a b (Ok n) room p q = absurd (cc (p.1))
+keeps_at_err a b (Err e) room p q = q
+
+-- what is kept gives nothing
+pub keeps_none : (a b : Option (List ℕ)) → Keeps a b → Consumes a b []
+keeps_none None b p = tt
+keeps_none (Some a) None p = absurd p
+keeps_none (Some a) (Some b) p = sym p
+
+pub consumes_none : (a : Option (List ℕ)) → Consumes a a []
+consumes_none None = tt
+consumes_none (Some a) = refl
+
+module _ {R A : Type 0} (left : R → Option (List ℕ)) where
+  -- nothing is read where all stays as it is
+  pub gives_none : (s t : Stream R A) → t.source ≡ s.source → held_of t.held ≡ held_of s.held → Gives left s t []
+  gives_none s t e h = record {
+    consumed = subst (λ z. Consumes (left s.source) (left z) []) (sym e) (consumes_none (left s.source));
+    added = h ∙ sym (append-nil (held_of s.held));
+  }
+
+  -- more was read
+  pub gives_more : (s u w t : Stream R A) (xs ys : List ℕ) → Gives left s u xs → w.source ≡ u.source → held_of w.held ≡ held_of u.held → Gives left w t ys → Gives left s t (xs ++ ys)
+  gives_more s u w t xs ys f e h g = record {
+    consumed = consumes_more (left s.source) (left u.source) (left t.source) xs ys f.consumed (subst (λ z. Consumes (left z) (left t.source) ys) e g.consumed);
+    added = g.added ∙ ap (λ z. z ++ ys) (h ∙ f.added) ∙ append_assoc (held_of s.held) xs ys;
+  }
+
+-- at the end there is no further turn, and where more is held there is one less
+pub fewer_turns : (ended : Bool) (most before after : ℕ) → before < most → (ended ≡ true) ⊎ (before < after) → turns_left ended most after < turns_left false most before
+fewer_turns true most before after b p = omega arith
+fewer_turns false most before after b (inl e) = absurd (cc (e))
+fewer_turns false most before after b (inr h) = omega (arith, b, h)

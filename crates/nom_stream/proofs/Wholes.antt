@@ -1,0 +1,174 @@
+-- One answer is that of the whole.
+use Rattle.std.proofs.Common.{◌≡◌, ℕ, ◌≤◌, Bool, true, false, List, [], ◌++◌, length, Option, Some, None, Err, refl, sym, ◌∙◌, ap, subst, append_assoc, append-nil, ◌⊎◌, inl, inr}
+use Rattle.std.specs.Io.KnownBytes.{Consumes, IsAtEnd}
+use Rattle.nom_error.specs.Answers.{size_of}
+use Rattle.nom_error.specs.declared.answer.Needed.{Needed}
+use Rattle.nom_error.specs.declared.value.Error.{Error}
+use Rattle.nom_traits.specs.Bytes.{seen_bytes}
+use Rattle.nom_internal.specs.Outcome.{Outcome, IsDecided}
+use Rattle.nom_internal.specs.Outcome.Outcome.{Accept, Refuse, Fail, TooLarge, Undecided}
+use Rattle.nom_internal.specs.Meaning.{Meaning, IsLawful, IsSteady}
+use Rattle.nom_stream.specs.declared.step.Taken.{Taken}
+use Rattle.nom_stream.specs.declared.step.Taken.TheVariants as Took
+use Rattle.nom_stream.specs.declared.stream.Stream.{Stream}
+use Rattle.nom_stream.specs.declared.stream.Unread.{Unread}
+use Rattle.nom_stream.specs.Held.{held_of}
+use Rattle.nom_stream.specs.Items.{Bytes, IsUndecided, Takes}
+use Rattle.nom_stream.specs.Streams.{Answers, Decides, Ends, Gives, IsOpen, Tells, Told, stop_of}
+use Rattle.nom_stream.specs.Streams.Answers.{Decided, AtEnd, Full, Unfilled}
+use Rattle.nom_stream.specs.Streams.Ends.{Clean, Within, Completed}
+use Rattle.nom_stream.specs.Wholes.{AtWhole, Fails, HasLeft, IsLacking, TellsWhole, AnswersWhole, used_of}
+use Rattle.nom_stream.proofs.Outcomes.{Means, meant}
+
+consumes_known : (a b : Option (List ℕ)) (xs given : List ℕ) → a ≡ Some xs → Consumes a b given → (ys : List ℕ) × (b ≡ Some ys) × (xs ≡ given ++ ys)
+consumes_known None b xs given e h = absurd (cc (e))
+consumes_known (Some a) None xs given e h = absurd h
+consumes_known (Some a) (Some b) xs given e h = let same : a ≡ xs = cc (e) in (b, refl, sym same ∙ h)
+
+end_known : (a : Option (List ℕ)) (xs : List ℕ) → a ≡ Some xs → IsAtEnd a → xs ≡ []
+end_known None xs e h = absurd (cc (e))
+end_known (Some a) xs e h = let same : a ≡ xs = cc (e) in sym same ∙ h
+
+module _ {R A : Type 0} (left : R → Option (List ℕ)) where
+  -- what was read is among the bytes that no item had, before and after
+  pub left_read : (s u : Stream R A) (given xs : List ℕ) → Gives left s u given → HasLeft left s xs → HasLeft left u xs
+  left_read s u given xs g h =
+      let c = consumes_known (left s.source) (left u.source) h.0 given h.1 g.consumed in
+      (c.0, c.1, h.2 ∙ ap (λ z. held_of s.held ++ z) c.2 ∙ sym (append_assoc (held_of s.held) given c.0) ∙ ap (λ z. z ++ c.0) (sym g.added))
+
+module _ {V : Type 0} (m : Meaning Bytes V (Error Bytes)) (lawful : IsLawful seen_bytes m) (x i : Bytes) (kx : seen_bytes.IsKnown x) (ki : seen_bytes.IsKnown i) where
+  abbrev Steady : Type 0
+  Steady = IsSteady seen_bytes m
+
+  -- what is decided on a beginning is the outcome at the whole
+  decided : (steady : Steady) (more : List ℕ) → i.now ≡ x.now ++ more → (complete : Bool) (o p : Outcome V) → m.answers true x o → IsDecided o → AtWhole m complete i p → o ≡ p
+  decided steady more e false o p a d b = steady x i o p kx ki (record { more = more; added = tt; whole = e; mark_is = refl }) a d b
+  decided steady more e true o p a d (inl b) = steady x i o p kx ki (record { more = more; added = tt; whole = e; mark_is = refl }) a d b.0
+  decided steady more e true o p a d (inr b) =
+      let same : o ≡ Undecided b.0 = steady x i o (Undecided b.0) kx ki (record { more = more; added = tt; whole = e; mark_is = refl }) a d b.1 in
+      absurd (subst IsDecided same d)
+
+  -- where all of the whole leaves more needed, that is its outcome, unless it is asked for as a complete input
+  lacking : i.now ≡ x.now → (complete : Bool) → complete ≡ false → (k : Option ℕ) (p : Outcome V) → m.answers true x (Undecided k) → AtWhole m complete i p → Undecided k ≡ p
+  lacking e false f k p a b = lawful.one_outcome true x i (Undecided k) p kx ki (record { elements_are = sym e; mark_is = refl }) a tt b
+  lacking e true f k p a b = absurd (cc (f))
+
+  -- and then it is the complete one
+  completed : i.now ≡ x.now → (complete : Bool) → complete ≡ true → (y : Bytes) → seen_bytes.IsKnown y → i.now ≡ y.now → (k : Option ℕ) (o p : Outcome V) → m.answers true x (Undecided k) → m.answers false y o → AtWhole m complete i p → o ≡ p
+  completed e false f y ky d k o p a c b = absurd (cc (f))
+  completed e true f y ky d k o p a c (inl b) =
+      let same : Undecided k ≡ p = lawful.one_outcome true x i (Undecided k) p kx ki (record { elements_are = sym e; mark_is = refl }) a tt b.0 in
+      absurd (b.1 (subst IsLacking same tt))
+  completed e true f y ky d k o p a c (inr b) = lawful.one_outcome false y i o p ky ki (record { elements_are = sym d; mark_is = refl }) c tt b.2
+
+  -- what is needed at an input is needed at each that is seen alike
+  lacking_alike : i.now ≡ x.now → (k : Option ℕ) → m.answers true x (Undecided k) → m.answers true i (Undecided k)
+  lacking_alike e k a = lawful.alike true x i (Undecided k) kx ki (record { elements_are = sym e; mark_is = refl }) a tt
+
+module _ {R A V O : Type 0} (IsItem : V → O → Type 0) (m : Meaning Bytes V (Error Bytes)) (t : Stream R A) (i : Bytes) (p : Outcome V) where
+  abbrev Tellings : Told O → Type 0
+  Tellings r = TellsWhole IsItem m t r i p
+
+  -- of a parse that decides: its outcome is that of the whole
+  module _ (more : Bool) (x : Bytes) (same : (o : Outcome V) → m.answers more x o → (more ≡ true → IsDecided o) → o ≡ p) (large : m.answers more x TooLarge → Fails m i p) where
+    tells_failure : (m.answers more x Fail ⊎ m.answers more x TooLarge) → Fails m i p
+    tells_failure (inl a) = inl (sym (same Fail a (λ _. tt)))
+    tells_failure (inr a) = large a
+
+    tells : (held : (more ≡ true → ⊥) → held_of t.held ≡ x.now → held_of t.held ≡ i.now) (taken : Taken O) → (more ≡ true → IsUndecided taken → ⊥) → Means IsItem m more x (held_of t.held) taken → (r : Told O) → Tells taken r → Tellings r
+    tells held (Took.Item n o) d h r e = subst Tellings (sym e) (h.0, h.1, same (Accept n h.0) h.2 (λ _. tt))
+    tells held Took.Nothing d h r e = subst Tellings (sym e) ((h.0).0, same (Accept 0 (h.0).0) (h.0).1 (λ _. tt))
+    tells held (Took.Undecided k) d h r e = subst Tellings (sym e) (held (λ f. d f tt) h.1, same (Undecided (size_of k)) h.0 (λ f. absurd (d f tt)))
+    tells held (Took.Refused k at) d h r e = subst Tellings (sym e) (sym (same Refuse h.0 (λ _. tt)))
+    tells held (Took.Failed k at) d h r e = subst Tellings (sym e) (tells_failure h.0)
+    tells held Took.OutOfMemory d h r e = subst Tellings (sym e) tt
+
+-- how many bytes an item had: they are no longer among those that no item had
+module _ {R A V O : Type 0} (IsItem : V → O → Type 0) (m : Meaning Bytes V (Error Bytes)) (t : Stream R A) where
+  abbrev Moves : List ℕ → Told O → Type 0
+  Moves old r = (front : List ℕ) × (length front ≡ used_of r) × (old ≡ front ++ held_of t.held)
+
+  stays : (old : List ℕ) (r : Told O) → used_of r ≡ 0 → held_of t.held ≡ old → Moves old r
+  stays old r e h = ([], sym e, sym h)
+
+  pub moves : (more : Bool) (x : Bytes) (taken : Taken O) → Means IsItem m more x (held_of t.held) taken → (r : Told O) → Tells taken r → Moves x.now r
+  moves more x (Took.Item n o) h r e = subst (Moves x.now) (sym e) (h.3)
+  moves more x Took.Nothing h r e = stays x.now r (ap used_of e) h.1
+  moves more x (Took.Undecided k) h r e = stays x.now r (ap used_of e) h.1
+  moves more x (Took.Refused k at) h r e = stays x.now r (ap used_of e) h.1
+  moves more x (Took.Failed k at) h r e = stays x.now r (ap used_of e) h.1
+  moves more x Took.OutOfMemory h r e = stays x.now r (ap used_of e) h
+
+  unread_used : (why : Unread) → used_of {O = O} (Err (stop_of why)) ≡ 0
+  unread_used (Unread.Fault e) = refl
+  unread_used Unread.OutOfMemory = refl
+
+  moves_taken : (more : Bool) (old : List ℕ) (taken : Taken O) (r : Told O) → Takes IsItem m more old (held_of t.held) taken → Tells taken r → Moves old r
+  moves_taken more old taken r k e = subst (λ z. Moves z r) k.is_held (moves more k.input taken (meant IsItem m more old (held_of t.held) taken k) r e)
+
+  moves_ends : (u : Stream R A) (k : Needed) (r : Told O) → Ends IsItem m u t k r → Moves (held_of u.held) r
+  moves_ends u k r (Clean a b e) = stays (held_of u.held) r (ap used_of e) (b ∙ sym a)
+  moves_ends u k r (Within s a b e) = stays (held_of u.held) r (ap used_of e) b
+  moves_ends u k r (Completed s a taken g l e) = moves_taken false (held_of u.held) taken r g e
+
+  pub moves_answer : (u : Stream R A) (r : Told O) → Answers IsItem m u t r → Moves (held_of u.held) r
+  moves_answer u r (Decided taken d g l e) = moves_taken true (held_of u.held) taken r g e
+  moves_answer u r (AtEnd e k g h) = moves_ends u k r h
+  moves_answer u r (Full a b w e) = stays (held_of u.held) r (ap used_of e) b
+  moves_answer u r (Unfilled why b before last d w e) = stays (held_of u.held) r (ap used_of e ∙ unread_used why) b
+
+module _ {R A V O : Type 0} (left : R → Option (List ℕ)) (IsItem : V → O → Type 0) (m : Meaning Bytes V (Error Bytes)) (u t : Stream R A) (opened : IsOpen left u) (same_source : t.source ≡ u.source) (same_settings : t.settings ≡ u.settings) (i : Bytes) (ki : seen_bytes.IsKnown i) (has : HasLeft left u i.now) (p : Outcome V) (b : AtWhole m u.settings.complete i p) where
+  at_end : u.ended ≡ true → i.now ≡ held_of u.held
+  at_end e = has.2 ∙ ap (λ z. held_of u.held ++ z) (end_known (left u.source) has.0 has.1 (opened.at_end e)) ∙ append-nil (held_of u.held)
+
+  of_decided : (taken : Taken O) (r : Told O) → (IsUndecided taken → ⊥) → Takes IsItem m true (held_of u.held) (held_of t.held) taken → Tells taken r → TellsWhole IsItem m t r i p
+  of_decided taken r d g e =
+      let x = g.input in
+      let longer : i.now ≡ x.now ++ has.0 = has.2 ∙ ap (λ z. z ++ has.0) (sym g.is_held) in
+      tells IsItem m t i p true x (λ o a f. decided m g.parses.lawful x i g.known ki g.parses.steady has.0 longer u.settings.complete o p a (f refl) b) (λ a. inr (inr (x, has.0, longer, a)))
+      (λ f. absurd (f refl)) taken (λ _. d) (meant IsItem m true (held_of u.held) (held_of t.held) taken g) r e
+
+  of_ends : u.ended ≡ true → (k : Needed) (r : Told O) → Takes IsItem m true (held_of u.held) (held_of u.held) (Took.Undecided k) → Ends IsItem m u t k r → TellsWhole IsItem m t r i p
+  of_ends ended k r g (Clean a c e) =
+      let x = g.input in
+      let h = meant IsItem m true (held_of u.held) (held_of u.held) (Took.Undecided k) g in
+      let all : i.now ≡ x.now = at_end ended ∙ sym g.is_held in
+      subst (λ z. TellsWhole IsItem m t z i p) (sym e) (at_end ended ∙ a, size_of k, lacking_alike m g.parses.lawful x i g.known ki all (size_of k) h.0)
+  of_ends ended k r g (Within s a c e) =
+      let x = g.input in
+      let h = meant IsItem m true (held_of u.held) (held_of u.held) (Took.Undecided k) g in
+      let all : i.now ≡ x.now = at_end ended ∙ sym g.is_held in
+      subst (λ z. TellsWhole IsItem m t z i p) (sym e) (c ∙ sym (at_end ended), lacking m g.parses.lawful x i g.known ki all u.settings.complete a (size_of k) p h.0 b)
+  of_ends ended k r g (Completed s a taken q l e) =
+      let x = g.input in
+      let y = q.input in
+      let h = meant IsItem m true (held_of u.held) (held_of u.held) (Took.Undecided k) g in
+      let all : i.now ≡ x.now = at_end ended ∙ sym g.is_held in
+      let all_too : i.now ≡ y.now = at_end ended ∙ sym q.is_held in
+      let one : (o : Outcome V) → m.answers false y o → o ≡ p = λ o c. completed m g.parses.lawful x i g.known ki all u.settings.complete a y q.known all_too (size_of k) o p h.0 c b in
+      tells IsItem m t i p false y (λ o c f. one o c) (λ c. inr (inl (sym (one TooLarge c)))) (λ f c. c ∙ sym all_too) taken (λ f. absurd (cc (f))) (meant IsItem m false (held_of u.held) (held_of t.held) taken q) r e
+
+  of_unread : (why : Unread) → TellsWhole {O = O} IsItem m t (Err (stop_of why)) i p
+  of_unread (Unread.Fault e) = tt
+  of_unread Unread.OutOfMemory = tt
+
+  pub of_answer : (r : Told O) → Answers IsItem m u t r → TellsWhole IsItem m t r i p
+  of_answer r (Decided taken d g l e) = of_decided taken r d g e
+  of_answer r (AtEnd e k g h) = of_ends e k r g h
+  of_answer r (Full a c w e) = subst (λ z. TellsWhole IsItem m t z i p) (sym e) (subst (λ z. z ≤ length (held_of t.held)) (ap (λ z. z.most) (sym same_settings)) (subst (λ z. u.settings.most ≤ length z) (sym c) a))
+  of_answer r (Unfilled why c before last d w e) = subst (λ z. TellsWhole IsItem m t z i p) (sym e) (of_unread why)
+
+module _ {R A V O : Type 0} (left : R → Option (List ℕ)) (IsItem : V → O → Type 0) (m : Meaning Bytes V (Error Bytes)) where
+  pub answers_whole : AnswersWhole A left IsItem m
+  answers_whole s t r d whole known has p b =
+      let u = d.filled in
+      let then = left_read left s u d.reads.given whole.now d.reads.gives has in
+      of_answer left IsItem m u t d.open_then d.source (d.settings.1 ∙ sym d.settings.0) whole known then p (subst (λ z. AtWhole m z.complete whole p) (sym d.settings.0) b) r d.answers
+
+  -- and the bytes that no item had are a rest of the whole
+  pub left_after : (s t : Stream R A) (r : Told O) (xs : List ℕ) → Decides left IsItem m s t r → HasLeft left s xs → (front : List ℕ) × (length front ≡ used_of r) × ((rest : List ℕ) × HasLeft left t rest × (xs ≡ front ++ rest))
+  left_after s t r xs d has =
+      let u = d.filled in
+      let then = left_read left s u d.reads.given xs d.reads.gives has in
+      let f = moves_answer IsItem m t u r d.answers in
+      (f.0, f.1, (held_of t.held ++ then.0, (then.0, ap left d.source ∙ then.1, refl), then.2 ∙ ap (λ z. z ++ then.0) f.2 ∙ append_assoc f.0 (held_of t.held) then.0))

@@ -1,0 +1,18 @@
+use Rattle.std.proofs.Common.{◌≡◌, ◌≤◌, ◌+◌, length, false}
+use Rattle.nom_stream.specs.Held.{held_of}
+use Rattle.nom_stream.specs.Streams.{Fills, IsOpen}
+use Rattle.nom_stream.proofs.stream.Stream.fill.Given as goal
+
+abbrev pub invariant-loop-wanted : goal.invariant-loop-wanted
+invariant-loop-wanted g l = record {
+  opened : IsOpen g.R.Read.remaining l.self;
+  fills : Fills g.R.Read.remaining l.fn.self l.self;
+  goes_on : l.self.ended ≡ false;
+  front : l.self.held.start ≡ 0;
+  settings : l.self.settings ≡ l.fn.self.settings;
+  offset : l.self.offset ≡ l.fn.self.offset;
+  counts : l.fn.wants + length (held_of l.fn.self.held) ≤ l.wanted + length (held_of l.self.held);
+}
+
+abbrev pub decreases-loop-wanted : goal.decreases-loop-wanted
+decreases-loop-wanted g l = l.wanted

@@ -1,0 +1,16 @@
+use Rattle.std.proofs.Common.{◌≡◌, length}
+use Rattle.nom_stream.specs.Held.{held_of}
+use Rattle.nom_stream.specs.Streams.{Reads, IsOpen, turns_left}
+use Rattle.nom_stream.proofs.stream.Stream.next_item.Given as goal
+
+abbrev pub invariant-parses : goal.invariant-parses
+invariant-parses g l = record {
+  kept : g.G.Grammar.state l.grammar ≡ g.G.Grammar.state l.fn.grammar;
+  opened : IsOpen g.R.Read.remaining l.self;
+  reads : Reads g.R.Read.remaining (g.G.Grammar.IsItem (g.G.Grammar.state l.fn.grammar)) (g.G.Grammar.meaning (g.G.Grammar.state l.fn.grammar)) l.fn.self l.self;
+  settings : l.self.settings ≡ l.fn.self.settings;
+  offset : l.self.offset ≡ l.fn.self.offset;
+}
+
+abbrev pub decreases-parses : goal.decreases-parses
+decreases-parses g l = turns_left l.self.ended l.self.settings.most (length (held_of l.self.held))

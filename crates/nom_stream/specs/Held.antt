@@ -1,0 +1,15 @@
+-- The bytes that were read and aren't used yet.
+use Rattle.std.specs.Prelude.{ℕ, ◌≤◌, ◌-◌, List, drop, take, vec_len}
+use Rattle.nom_stream.specs.declared.held.Held.{Held}
+
+-- the used bytes are some of those that were read
+abbrev pub IsWithin : {A : Type 0} → Held A → Type 0
+IsWithin h = h.start ≤ vec_len h.bytes
+
+-- the bytes that aren't used yet
+abbrev pub held_of : {A : Type 0} → Held A → List ℕ
+held_of h = drop h.start h.bytes.items
+
+-- the last so many bytes that were used
+abbrev pub last_of : {A : Type 0} → ℕ → Held A → List ℕ
+last_of count h = take count (drop (h.start - count) h.bytes.items)

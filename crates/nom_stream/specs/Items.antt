@@ -1,0 +1,71 @@
+-- One item from what is held.
+use Rattle.std.specs.Prelude.{◌≡◌, ℕ, zero, suc, ◌+◌, ◌≤◌, Bool, List, length, take, Result, Ok, Err}
+use Rattle.std.specs.Borrow.{Bor}
+use Rattle.nom_error.specs.declared.answer.Needed.{Needed}
+use Rattle.nom_error.specs.declared.answer.Err as Answer
+use Rattle.nom_error.specs.declared.answer.Err.TheVariants as Stop
+use Rattle.nom_error.specs.declared.value.Error.{Error}
+use Rattle.nom_traits.specs.Bytes.{seen_bytes}
+use Rattle.nom_internal.specs.Meaning.{Meaning, IsLawful, IsSteady, ParsesMeaning}
+use Rattle.nom_stream.specs.declared.held.Held.{Held}
+use Rattle.nom_stream.specs.declared.step.Taken.{Taken}
+use Rattle.nom_stream.specs.declared.step.Taken.TheVariants.{Item, Nothing, Undecided, Refused, Failed, OutOfMemory}
+use Rattle.nom_stream.specs.Held.{last_of}
+
+abbrev pub Bytes : Type 0
+Bytes = Bor (List ℕ)
+
+-- an answer of a parser over bytes
+abbrev pub Answered : Type 0 → Type 0
+Answered O = Result (Bytes × O) (Answer.Err (Error Bytes) (Error Bytes) Needed)
+
+-- What is answered at an input, by whether more may come, is what the grammar means there; and the laws of its meaning: one outcome
+-- for each input, and what is decided stays on every longer one.
+pub record ParsesItem {V O : Type 0} (IsItem : V → O → Type 0) (m : Meaning Bytes V (Error Bytes)) (more : Bool) (x : Bytes) (r : Answered O) : Type 0 where
+  pub shown : ParsesMeaning seen_bytes IsItem m more x r
+  pub lawful : IsLawful seen_bytes m
+  pub steady : IsSteady seen_bytes m
+
+-- what is told where nothing is accepted: of an error its kind, and the length of the input that it holds
+abbrev pub IsStopped : {O : Type 0} → Answer.Err (Error Bytes) (Error Bytes) Needed → Taken O → Type 0
+IsStopped (Stop.Incomplete k) r = r ≡ Undecided k
+IsStopped (Stop.Error e) r = r ≡ Refused e.code (length e.input.now)
+IsStopped (Stop.Failure e) r = r ≡ Failed e.code (length e.input.now)
+IsStopped Stop.OutOfMemory r = r ≡ OutOfMemory
+
+-- an item of a length, or that it has none
+abbrev pub taken_of : {O : Type 0} → ℕ → O → Taken O
+taken_of zero o = Nothing
+taken_of (suc n) o = Item (suc n) o
+
+-- what is taken for an answer at the input x, and what is held then
+abbrev pub Took : {O : Type 0} → Bytes → List ℕ → Answered O → Taken O → Type 0
+Took x new (Ok (j, o)) r = (n : ℕ) × (n + length j.now ≡ length x.now) × (new ≡ j.now) × (r ≡ taken_of n o)
+Took x new (Err e) r = (new ≡ x.now) × IsStopped e r
+
+-- What is held is parsed once, by whether more may come: an accepted item is taken off its front, and else it stays.
+pub record Takes {V O : Type 0} (IsItem : V → O → Type 0) (m : Meaning Bytes V (Error Bytes)) (more : Bool) (old new : List ℕ) (r : Taken O) : Type 0 where
+  pub input : Bytes
+  pub known : seen_bytes.IsKnown input
+  pub is_held : input.now ≡ old
+  pub answer : Answered O
+  pub parses : ParsesItem IsItem m more input answer
+  pub took : Took input new answer r
+
+-- an item's bytes, of those that were held, are the last that were used
+abbrev pub HoldsLast : {A O : Type 0} → List ℕ → Held A → Taken O → Type 0
+HoldsLast old h (Item n o) = (n ≤ h.start) × (last_of n h ≡ take n old)
+HoldsLast old h Nothing = Unit {0}
+HoldsLast old h (Undecided k) = Unit {0}
+HoldsLast old h (Refused e n) = Unit {0}
+HoldsLast old h (Failed e n) = Unit {0}
+HoldsLast old h OutOfMemory = Unit {0}
+
+-- the bytes don't decide
+abbrev pub IsUndecided : {O : Type 0} → Taken O → Type 0
+IsUndecided (Item n o) = ⊥
+IsUndecided Nothing = ⊥
+IsUndecided (Undecided k) = Unit {0}
+IsUndecided (Refused e n) = ⊥
+IsUndecided (Failed e n) = ⊥
+IsUndecided OutOfMemory = ⊥

@@ -1,0 +1,116 @@
+-- Items of a reader.
+use Rattle.std.specs.Prelude.{◌≡◌, ℕ, zero, suc, ◌+◌, ◌-◌, ◌^◌, ◌<◌, ◌≤◌, min, Bool, true, false, List, [], ◌++◌, length, Option, Some, None, Result, Ok, Err, vec_len}
+use Rattle.std.specs.Io.KnownBytes.{Consumes, IsAtEnd}
+use Rattle.nom_error.specs.declared.answer.Needed.{Needed}
+use Rattle.nom_error.specs.declared.value.Error.{Error}
+use Rattle.nom_internal.specs.Meaning.{Meaning}
+use Rattle.nom_stream.specs.declared.stream.Stop as Why
+use Rattle.nom_stream.specs.declared.stream.Stop.TheVariants as Stop
+use Rattle.nom_stream.specs.declared.stream.Unread.{Unread}
+use Rattle.nom_stream.specs.declared.stream.Stream.{Stream}
+use Rattle.nom_stream.specs.declared.step.Taken.{Taken}
+use Rattle.nom_stream.specs.declared.step.Taken.TheVariants as Took
+use Rattle.nom_stream.specs.Held.{held_of, IsWithin}
+use Rattle.nom_stream.specs.Items.{Bytes, HoldsLast, IsUndecided, Takes}
+
+-- an item with how many bytes it has, none at the end, or why there is none
+abbrev pub Told : Type 0 → Type 0
+Told O = Result (Option (ℕ × O)) Why.Stop
+
+-- what is told of what was taken
+abbrev pub Tells : {O : Type 0} → Taken O → Told O → Type 0
+Tells (Took.Item n o) r = r ≡ Ok (Some (n, o))
+Tells Took.Nothing r = r ≡ Err Stop.Nothing
+Tells (Took.Undecided k) r = r ≡ Err (Stop.Incomplete k)
+Tells (Took.Refused e n) r = r ≡ Err (Stop.Refused e n)
+Tells (Took.Failed e n) r = r ≡ Err (Stop.Failed e n)
+Tells Took.OutOfMemory r = r ≡ Err Stop.OutOfMemory
+
+-- what is told where bytes couldn't be read
+abbrev pub stop_of : Unread → Why.Stop
+stop_of (Unread.Fault e) = Stop.Fault e
+stop_of Unread.OutOfMemory = Stop.OutOfMemory
+
+-- the offset after an answer: an item's bytes are counted, up to the greatest `u64`
+abbrev pub counted : {O : Type 0} → ℕ → Told O → ℕ
+counted offset (Ok (Some (n, o))) = min (offset + n) (2 ^ 64 - 1)
+counted offset (Ok None) = offset
+counted offset (Err e) = offset
+
+-- how many more parses there can be: none at the end, and else one for each byte that may be held, and one
+abbrev pub turns_left : (ended : Bool) (most held : ℕ) → ℕ
+turns_left true most held = zero
+turns_left false most held = suc (most - held)
+
+module _ {R A : Type 0} (left : R → Option (List ℕ)) where
+  -- The buffer, with the bytes that are used, and the room of a read are never longer than the most bytes that may be held; and
+  -- the stream's end is the reader's.
+  pub record IsOpen (s : Stream R A) : Type 0 where
+    pub within : IsWithin s.held
+    pub bounded : vec_len s.held.bytes ≤ s.settings.most
+    pub room : vec_len s.room ≤ s.settings.most
+    pub at_end : s.ended ≡ true → IsAtEnd (left s.source)
+
+  module _ (s t : Stream R A) where
+    -- these bytes were read, and are held behind the others
+    pub record Gives (given : List ℕ) : Type 0 where
+      pub consumed : Consumes (left s.source) (left t.source) given
+      pub added : held_of t.held ≡ held_of s.held ++ given
+
+    -- some bytes were read, or none: nothing is lost
+    pub record Fills : Type 0 where
+      pub given : List ℕ
+      pub gives : Gives given
+
+    -- one read: at the end alone are none given
+    abbrev pub ReadsOnce : Result ℕ Unread → Type 0
+    ReadsOnce (Ok n) = (given : List ℕ) × Gives given × (length given ≡ n) × (n ≡ 0 → IsAtEnd (left t.source))
+    ReadsOnce (Err e) = Gives []
+
+-- these bytes leave the item undecided
+abbrev pub Waits : {V O : Type 0} → (V → O → Type 0) → Meaning Bytes V (Error Bytes) → List ℕ → Type 0
+Waits IsItem m xs = (k : Needed) × Takes IsItem m true xs xs (Took.Undecided k)
+
+module _ {R A V O : Type 0} (IsItem : V → O → Type 0) (m : Meaning Bytes V (Error Bytes)) (s t : Stream R A) where
+  -- Nothing was read, or what was held before the last filling leaves the item undecided; so do all beginnings of that.
+  pub data ReadAsNeeded (given : List ℕ) : Type 0 where
+    NoneRead : given ≡ [] → t.source ≡ s.source → ReadAsNeeded given
+    MoreRead : (earlier last : List ℕ) → given ≡ earlier ++ last → Waits IsItem m (held_of s.held ++ earlier) → ReadAsNeeded given
+
+  -- what is told at the end of the reader, where what is held isn't decided
+  pub data Ends (k : Needed) (r : Told O) : Type 0 where
+    -- nothing is held
+    Clean : held_of s.held ≡ [] → held_of t.held ≡ [] → r ≡ Ok None → Ends k r
+    -- the data ended within an item
+    Within : 0 < length (held_of s.held) → s.settings.complete ≡ false → held_of t.held ≡ held_of s.held → r ≡ Err (Stop.Incomplete k) → Ends k r
+    -- or what is held is parsed as a complete input
+    Completed : 0 < length (held_of s.held) → s.settings.complete ≡ true → (taken : Taken O) → Takes IsItem m false (held_of s.held) (held_of t.held) taken → HoldsLast (held_of s.held) t.held taken → Tells taken r → Ends k r
+
+  -- what is told of what is held
+  pub data Answers (r : Told O) : Type 0 where
+    -- it is decided
+    Decided : (taken : Taken O) → (IsUndecided taken → ⊥) → Takes IsItem m true (held_of s.held) (held_of t.held) taken → HoldsLast (held_of s.held) t.held taken → Tells taken r → Answers r
+    -- the reader is at its end
+    AtEnd : s.ended ≡ true → (k : Needed) → Takes IsItem m true (held_of s.held) (held_of s.held) (Took.Undecided k) → Ends k r → Answers r
+    -- as many bytes are held as may be, and don't decide
+    Full : s.settings.most ≤ length (held_of s.held) → held_of t.held ≡ held_of s.held → Waits IsItem m (held_of s.held) → r ≡ Err Stop.TooLong → Answers r
+    -- it wasn't decided by the bytes before the last ones, and more couldn't be read
+    Unfilled : (why : Unread) → held_of t.held ≡ held_of s.held → (before last : List ℕ) → held_of s.held ≡ before ++ last → Waits IsItem m before → r ≡ Err (stop_of why) → Answers r
+
+module _ {R A V O : Type 0} (left : R → Option (List ℕ)) (IsItem : V → O → Type 0) (m : Meaning Bytes V (Error Bytes)) (s t : Stream R A) where
+  -- bytes were read as they were needed
+  pub record Reads : Type 0 where
+    pub given : List ℕ
+    pub gives : Gives left s t given
+    pub as_needed : ReadAsNeeded IsItem m s t given
+
+-- One answer: some bytes were read, as they were needed, and of what is held then an answer is told.
+pub record Decides {R A V O : Type 0} (left : R → Option (List ℕ)) (IsItem : V → O → Type 0) (m : Meaning Bytes V (Error Bytes)) (s t : Stream R A) (r : Told O) : Type 0 where
+  -- the stream as it stood then
+  pub filled : Stream R A
+  pub reads : Reads left IsItem m s filled
+  pub open_then : IsOpen left filled
+  pub answers : Answers IsItem m filled t r
+  pub source : t.source ≡ filled.source
+  pub settings : (filled.settings ≡ s.settings) × (t.settings ≡ s.settings)
+  pub offset : t.offset ≡ counted s.offset r

@@ -1,0 +1,100 @@
+-- What the items of a stream are of the whole of its data.
+use Rattle.std.specs.Prelude.{◌≡◌, ℕ, ◌+◌, ◌-◌, ◌^◌, ◌≤◌, min, ◌⊎◌, Bool, true, false, List, [], ◌∷◌, ◌++◌, length, Option, Some, None, Ok, Err}
+use Rattle.std.specs.List.{AllZip}
+use Rattle.nom_error.specs.Answers.{size_of}
+use Rattle.nom_error.specs.declared.value.Error.{Error}
+use Rattle.nom_traits.specs.Bytes.{seen_bytes}
+use Rattle.nom_traits.specs.Input.{IsRest}
+use Rattle.nom_internal.specs.Outcome.{Outcome}
+use Rattle.nom_internal.specs.Outcome.Outcome.{Accept, Refuse, Fail, TooLarge, Undecided}
+use Rattle.nom_internal.specs.Meaning.{Meaning}
+use Rattle.nom_iterator.specs.Iterated.{AreItems}
+use Rattle.nom_stream.specs.declared.stream.Stop.TheVariants as Stop
+use Rattle.nom_stream.specs.declared.stream.Stream.{Stream}
+use Rattle.nom_stream.specs.Held.{held_of}
+use Rattle.nom_stream.specs.Items.{Bytes}
+use Rattle.nom_stream.specs.Streams.{Decides, Told}
+
+-- these are the bytes that no item had yet: those that are held, and those that the reader has left, where they are known
+abbrev pub HasLeft : {R A : Type 0} → (R → Option (List ℕ)) → Stream R A → List ℕ → Type 0
+HasLeft left s xs = (behind : List ℕ) × (left s.source ≡ Some behind) × (xs ≡ held_of s.held ++ behind)
+
+-- the items that were told, and how many bytes they have
+abbrev pub items_of : {O : Type 0} → List (Told O) → List O
+items_of [] = []
+items_of (Ok (Some (n, o)) ∷ rs) = o ∷ items_of rs
+items_of (Ok None ∷ rs) = items_of rs
+items_of (Err e ∷ rs) = items_of rs
+
+abbrev pub used_of : {O : Type 0} → Told O → ℕ
+used_of (Ok (Some (n, o))) = n
+used_of (Ok None) = 0
+used_of (Err e) = 0
+
+abbrev pub used_by : {O : Type 0} → List (Told O) → ℕ
+used_by [] = 0
+used_by (r ∷ rs) = used_of r + used_by rs
+
+-- more is needed
+abbrev pub IsLacking : {V : Type 0} → Outcome V → Type 0
+IsLacking (Accept n v) = ⊥
+IsLacking Refuse = ⊥
+IsLacking Fail = ⊥
+IsLacking TooLarge = ⊥
+IsLacking (Undecided k) = Unit {0}
+
+module _ {V : Type 0} (m : Meaning Bytes V (Error Bytes)) where
+  -- The outcome at an input behind which nothing comes: the streaming one, as `iterator` has it; or (true) where more is needed, the
+  -- complete one.
+  abbrev pub AtWhole : (complete : Bool) → Bytes → Outcome V → Type 0
+  AtWhole false i p = m.answers true i p
+  AtWhole true i p = (m.answers true i p × (IsLacking p → ⊥)) ⊎ ((k : Option ℕ) × m.answers true i (Undecided k) × m.answers false i p)
+
+  -- a failure: of the whole, or since what is lacking of a beginning is too large
+  abbrev pub Fails : Bytes → Outcome V → Type 0
+  Fails i p = (p ≡ Fail) ⊎ (p ≡ TooLarge) ⊎ ((x : Bytes) × (more : List ℕ) × (i.now ≡ x.now ++ more) × m.answers true x TooLarge)
+
+-- What an answer tells of the outcome p at i, the bytes that no item had before; t is the stream after it.
+abbrev pub TellsWhole : {R A V O : Type 0} → (V → O → Type 0) → Meaning Bytes V (Error Bytes) → Stream R A → Told O → Bytes → Outcome V → Type 0
+TellsWhole {V = V} IsItem m t (Ok (Some (n, o))) i p = (v : V) × IsItem v o × (Accept n v ≡ p)
+TellsWhole IsItem m t (Ok None) i p = (i.now ≡ []) × (k : Option ℕ) × m.answers true i (Undecided k)
+TellsWhole IsItem m t (Err (Stop.Refused e at)) i p = p ≡ Refuse
+TellsWhole IsItem m t (Err (Stop.Failed e at)) i p = Fails m i p
+TellsWhole {V = V} IsItem m t (Err Stop.Nothing) i p = (v : V) × (Accept 0 v ≡ p)
+TellsWhole IsItem m t (Err (Stop.Incomplete k)) i p = (held_of t.held ≡ i.now) × (Undecided (size_of k) ≡ p)
+TellsWhole IsItem m t (Err Stop.TooLong) i p = t.settings.most ≤ length (held_of t.held)
+TellsWhole IsItem m t (Err (Stop.Fault e)) i p = Unit {0}
+TellsWhole IsItem m t (Err Stop.OutOfMemory) i p = Unit {0}
+
+module _ {R A V O : Type 0} (left : R → Option (List ℕ)) (IsItem : V → O → Type 0) (m : Meaning Bytes V (Error Bytes)) where
+  -- calls of `next_item`, one after another, and what each answered
+  abbrev pub Calls : List (Told O) → Stream R A → Stream R A → Type 0
+  Calls [] s t = t ≡ s
+  Calls (r ∷ rs) s t = (u : Stream R A) × Decides left IsItem m s u r × Calls rs u t
+
+  -- The answers rs, of which the items are the first of those that the whole has; place is where the next one begins.
+  pub record AreOfWhole (s t : Stream R A) (rs : List (Told O)) (whole : Bytes) (limit : ℕ) (trees : List V) : Type 0 where
+    pub first : List V
+    pub others : List V
+    pub trees_are : trees ≡ first ++ others
+    pub items : AllZip IsItem first (items_of rs)
+    pub place : Bytes
+    pub begins : IsRest seen_bytes whole (used_by rs) place
+    pub left_then : HasLeft left t place.now
+    pub go_on : AreItems seen_bytes (AtWhole m s.settings.complete) limit place others
+    pub offset : t.offset ≡ min (s.offset + used_by rs) (2 ^ 64 - 1)
+    pub settings : t.settings ≡ s.settings
+
+module _ (A : Type 0) {R V O : Type 0} (left : R → Option (List ℕ)) (IsItem : V → O → Type 0) (m : Meaning Bytes V (Error Bytes)) where
+  -- One answer is that of the whole, however its bytes came.
+  abbrev pub AnswersWhole : Type 0
+  AnswersWhole =
+      (s t : Stream R A) (r : Told O) → Decides left IsItem m s t r → (whole : Bytes) → seen_bytes.IsKnown whole → HasLeft left s whole.now →
+      (p : Outcome V) → AtWhole m s.settings.complete whole p → TellsWhole IsItem m t r whole p
+
+  -- The items that calls give are those of the whole, in order, each where the one before ended, however its bytes came, and also
+  -- where calls between them gave none.
+  abbrev pub ItemsOfWhole : Type 0
+  ItemsOfWhole =
+      (s t : Stream R A) (rs : List (Told O)) → Calls left IsItem m rs s t → (whole : Bytes) → seen_bytes.IsKnown whole → HasLeft left s whole.now → s.offset ≤ 2 ^ 64 - 1 →
+      (limit : ℕ) (trees : List V) → AreItems seen_bytes (AtWhole m s.settings.complete) (length (items_of rs) + limit) whole trees → AreOfWhole left IsItem m s t rs whole limit trees

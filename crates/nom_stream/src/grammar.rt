@@ -1,0 +1,65 @@
+//! What an item is.
+ghost use Rattle.std.specs.Prelude.{◌≡◌, ℕ, List};
+ghost use Rattle.std.specs.Borrow.{Bor};
+ghost use Rattle.nom_error.specs.declared.value.Error.{Error};
+ghost use Rattle.nom_internal.specs.Meaning.{Meaning, IsLawful, IsSteady};
+ghost use Rattle.nom_stream.specs.Items.{ParsesItem};
+
+use nom_error::answer::IResult;
+use nom_error::value::Error;
+use nom_internal::parser::StreamParser;
+use nom_traits::input::Items;
+
+/// A parser of items, and what is made of each. An item owns what it holds, or holds lengths and offsets of its bytes:
+/// what borrows from the input is used within `item`.
+pub trait Grammar {
+    /// What is made of an item.
+    type Item: Drop;
+
+    /// What of the grammar its meaning depends on.
+    ghost State: { Type 0 };
+
+    ghost state: { Self → State };
+
+    /// The parse trees of items.
+    ghost Tree: { Type 0 };
+
+    /// Which item a tree stands for.
+    ghost IsItem: { State → Tree → Self.Item → Type 0 };
+
+    /// What the grammar means, as a parser over bytes does.
+    ghost meaning: { State → Meaning (Bor (List ℕ)) Tree (Error (Bor (List ℕ))) };
+
+    /// Parses one item at the start of the input, by whether more input may come. The laws of the meaning come with the
+    /// answer: `parse_item` gives them for every stream parser.
+    fn item<'a>(&mut self, input: &'a [u8], more: bool) -> IResult<&'a [u8], Self::Item>
+        requires sound { (meaning (state self.old)).IsSound }
+        ensures parses { ParsesItem (IsItem (state self.old)) (meaning (state self.old)) more input.entry result }
+        ensures kept { state self.new ≡ state self.old };
+}
+
+// The laws of a sound stream parser.
+fn laws_of<I: Items, P: StreamParser<I>>(_parser: &P)
+    requires { (P.meaning (P.state _parser.now)).IsSound }
+    ensures lawful { IsLawful I.seen (P.meaning (P.state _parser.now)) }
+    ensures steady { IsSteady I.seen (P.meaning (P.state _parser.now)) }
+{}
+
+/// What a stream parser answers at an input, by whether more may come: the body of `Grammar::item` for any parser of this
+/// library.
+#[inline(always)]
+pub fn parse_item<'a, P: StreamParser<&'a [u8], Error = Error<&'a [u8]>> + Drop>(
+    mut parser: P,
+    input: &'a [u8],
+    more: bool,
+) -> IResult<&'a [u8], P::Output>
+    requires sound { (P.meaning (P.state parser)).IsSound }
+    ensures parses { ParsesItem (P.IsOutput (P.state parser)) (P.meaning (P.state parser)) more input.entry result }
+{
+    laws_of(&parser);
+    if more {
+        parser.parse(input)
+    } else {
+        parser.parse_complete(input)
+    }
+}

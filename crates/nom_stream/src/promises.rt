@@ -1,0 +1,29 @@
+//! What the items of every stream promise. These functions do nothing: their contracts are the promises.
+ghost use Rattle.nom_stream.specs.Wholes.{AnswersWhole, ItemsOfWhole};
+
+use crate::grammar::Grammar;
+use crate::stream::Stream;
+use std::alloc::Allocator;
+use std::io::Read;
+
+/// For every way in which a reader gives its bytes: an answer of `next_item` tells the outcome of the grammar at all
+/// the bytes that no item had, which are those that are held and those that the reader has left. An item is the
+/// one that is accepted there, with as many bytes; a refusal is one, and so is a failure, unless it is that what is
+/// lacking of a beginning is too large; `Incomplete` is told where all is held and more is needed; and `None` where
+/// nothing is left.
+pub fn answers_of_whole<R: Read, A: Allocator + Copy, G: Grammar>(
+    _stream: &Stream<R, A>,
+    _grammar: &G,
+)
+    ensures { AnswersWhole A R.remaining (G.IsItem (G.state _grammar.now)) (G.meaning (G.state _grammar.now)) }
+{}
+
+/// For every way in which a reader gives its bytes: the items that calls of `next_item` give, one after another, are
+/// those that `iterator` gives of the whole (`AreItems`), in order, each where the one before ended. The offset counts
+/// their bytes. Calls that gave no item, as where a read failed or memory ran out, change nothing.
+pub fn items_of_whole<R: Read, A: Allocator + Copy, G: Grammar>(
+    _stream: &Stream<R, A>,
+    _grammar: &G,
+)
+    ensures { ItemsOfWhole A R.remaining (G.IsItem (G.state _grammar.now)) (G.meaning (G.state _grammar.now)) }
+{}

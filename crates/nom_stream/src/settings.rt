@@ -1,0 +1,31 @@
+//! How a stream reads.
+ghost use Rattle.std.specs.Prelude.{◌<◌};
+
+use nom_error::answer::Needed;
+
+/// How a stream reads.
+#[derive(Clone, Copy, Debug, PartialEq, Eq)]
+pub struct Settings {
+    /// How many bytes a read asks for at the most; for 0 it asks for 1.
+    pub read: usize,
+    /// The most bytes that are held. An item that these don't decide is too long.
+    pub most: usize,
+    /// Whether an item of unknown length is parsed again only once twice as much of it is held, so that all its parses
+    /// together are of at most some four times its bytes; otherwise after each read, as a peer that waits for an answer
+    /// needs it.
+    pub patient: bool,
+    /// Whether an item that the end of the data leaves undecided is answered as a complete input.
+    pub complete: bool,
+}
+
+impl Settings {
+    /// How many bytes are waited for where some are held and don't decide.
+    pub fn wanted(&self, needed: Needed, held: usize) -> usize
+        ensures { 0 < result }
+    {
+        match needed {
+            Needed::Unknown => { if self.patient { held.max(1) } else { 1 } }
+            Needed::Size(size) => size.get(),
+        }
+    }
+}

@@ -1,0 +1,86 @@
+//! One item from what is held.
+ghost use Rattle.std.specs.Prelude.{◌≡◌, MatchOption};
+ghost use Rattle.nom_stream.specs.Held.{held_of, IsWithin};
+ghost use Rattle.nom_stream.specs.Items.{IsStopped, HoldsLast, IsUndecided, Takes, taken_of};
+ghost use Rattle.nom_stream.specs.declared.step.Taken.TheVariants.{Undecided};
+
+use crate::grammar::Grammar;
+use crate::held::Held;
+use nom_error::answer::{Err, Needed};
+use nom_error::kind::ErrorKind;
+use nom_error::value::Error;
+use nom_traits::input::Items;
+use std::alloc::Allocator;
+
+/// What one parse of what is held gives.
+#[derive(Drop)]
+pub enum Taken<T> {
+    /// An item of some bytes, which aren't held any more.
+    Item(usize, T),
+    /// An item of no bytes.
+    Nothing,
+    /// The bytes don't decide.
+    Undecided(Needed),
+    /// A refusal, with the kind of its error, and the length of the input that the error holds.
+    Refused(ErrorKind, usize),
+    /// A failure, likewise.
+    Failed(ErrorKind, usize),
+    /// Memory ran out in the parser.
+    OutOfMemory,
+}
+
+// What is told of an answer where nothing is accepted.
+fn stopped<T>(stop: Err<Error<&[u8]>>) -> Taken<T>
+    ensures { IsStopped stop.entry result }
+{
+    match stop {
+        Err::Incomplete(needed) => Taken::Undecided(needed),
+        Err::Error(error) => Taken::Refused(error.code, error.input.len()),
+        Err::Failure(error) => Taken::Failed(error.code, error.input.len()),
+        Err::OutOfMemory => Taken::OutOfMemory,
+    }
+}
+
+/// Parses what is held, by whether more may come, and takes the bytes of an accepted item; nothing else is taken.
+pub fn take<A: Allocator, G: Grammar>(
+    held: &mut Held<A>,
+    grammar: &mut G,
+    more: bool,
+) -> Taken<G::Item>
+    requires sound { (G.meaning (G.state grammar.old)).IsSound }
+    requires within { IsWithin held.old }
+    ensures kept { G.state grammar.new ≡ G.state grammar.old }
+    ensures within { IsWithin held.new }
+    ensures takes { Takes (G.IsItem (G.state grammar.old)) (G.meaning (G.state grammar.old)) more (held_of held.old) (held_of held.new) result }
+    ensures last { HoldsLast (held_of held.old) held.new result }
+    ensures bytes { held.new.bytes ≡ held.old.bytes }
+{
+    let input = held.as_slice();
+    input.known();
+    let len = input.len();
+    match grammar.item(input, more) {
+        Ok((rest, item)) => {
+            let used = len - rest.len();
+            if used == 0 {
+                return Taken::Nothing;
+            }
+            held.consume(used);
+            Taken::Item(used, item)
+        }
+        Err(stop) => stopped(stop),
+    }
+}
+
+/// What is needed where the bytes don't decide.
+pub fn needed_of<T>(taken: &Taken<T>) -> Option<Needed>
+    ensures { MatchOption result (IsUndecided taken.now → ⊥) (λ k. taken.now ≡ Undecided k) }
+{
+    match taken {
+        Taken::Undecided(needed) => Some(*needed),
+        Taken::Item(_, _) => None,
+        Taken::Nothing => None,
+        Taken::Refused(_, _) => None,
+        Taken::Failed(_, _) => None,
+        Taken::OutOfMemory => None,
+    }
+}

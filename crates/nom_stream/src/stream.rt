@@ -1,0 +1,296 @@
+//! The items of a reader.
+ghost use Rattle.std.specs.Prelude.{◌≡◌, true, false, ◌<◌, ◌≤◌, ◌+◌, IfOk, IfSome, IsOk, OnOk, [], length, vec_len, ◌⊎◌};
+ghost use Rattle.std.specs.Io.{ReadsAtMost};
+ghost use Rattle.std.specs.Io.KnownBytes.{IsAtEnd, ReadConsumes};
+ghost use Rattle.nom_stream.specs.Held.{held_of, last_of, IsWithin};
+ghost use Rattle.nom_stream.specs.Items.{IsUndecided, Takes};
+ghost use Rattle.nom_stream.specs.Streams.{Decides, Ends, Fills, IsOpen, ReadsOnce, Tells, counted, stop_of, turns_left};
+ghost use Rattle.nom_stream.specs.declared.step.Taken.TheVariants.{Undecided};
+
+use crate::grammar::Grammar;
+use crate::held::Held;
+use crate::settings::Settings;
+use crate::step::{Taken, needed_of, take};
+use nom_error::answer::Needed;
+use nom_error::kind::ErrorKind;
+use std::alloc::Allocator;
+use std::io;
+use std::io::Read;
+
+/// Why bytes couldn't be read.
+#[derive(Clone, Copy, Debug)]
+pub enum Unread {
+    /// A read failed.
+    Fault(io::Error),
+    /// Memory ran out.
+    OutOfMemory,
+}
+
+/// Why there is no item. Nothing that was read is lost: it is held, and the item begins at the stream's offset.
+#[derive(Clone, Copy, Debug)]
+pub enum Stop {
+    /// The item was refused, with the kind of the error, and the length of the input that the error holds: of what was
+    /// held, or of a part of it that a parser cut off, as `length_value` does.
+    Refused(ErrorKind, usize),
+    /// The item failed, likewise.
+    Failed(ErrorKind, usize),
+    /// The item has no bytes, so that there would be no end of such items.
+    Nothing,
+    /// The data ended within the item.
+    Incomplete(Needed),
+    /// As many bytes are held as may be, and the item isn't decided by them.
+    TooLong,
+    /// A read failed, other than by an interruption. The call can be made again.
+    Fault(io::Error),
+    /// Memory ran out. The call can be made again.
+    OutOfMemory,
+}
+
+/// The items of a reader, one for each `next_item`.
+#[derive(Drop)]
+pub struct Stream<R, A: Allocator> {
+    pub source: R,
+    pub held: Held<A>,
+    /// The room of a read.
+    pub room: Vec<u8, A>,
+    pub settings: Settings,
+    /// How many bytes the items had so far; it stays at the greatest `u64`.
+    pub offset: u64,
+    /// Whether the reader has come to its end.
+    pub ended: bool,
+}
+
+// What is told where bytes couldn't be read.
+fn unfilled<T>(why: Unread) -> Result<T, Stop>
+    ensures { result ≡ Err (stop_of why) }
+{
+    Err(match why {
+        Unread::Fault(error) => Stop::Fault(error),
+        Unread::OutOfMemory => Stop::OutOfMemory,
+    })
+}
+
+// Whether a read was interrupted.
+fn is_interrupted(answer: &io::Result<usize>) -> bool
+    ensures { result ≡ true → (e : _) × (answer.now ≡ Err e) }
+{
+    match answer {
+        Ok(_) => false,
+        Err(error) => error.kind() == io::ErrorKind::Interrupted,
+    }
+}
+
+// One read, made again where it is interrupted.
+fn read_again<R: Read>(source: &mut R, room: &mut [u8]) -> io::Result<usize>
+    ensures bound { ReadsAtMost result room.new }
+    ensures bytes { ReadConsumes (R.remaining source.old) (R.remaining source.new) result room.new }
+    ensures len { length room.new ≡ length room.old }
+{
+    for _turn in 0..u64::MAX {
+        let answer = source.read(room);
+        if !is_interrupted(&answer) {
+            return answer;
+        }
+    }
+    source.read(room)
+}
+
+impl<R: Read, A: Allocator + Copy> Stream<R, A> {
+    /// A stream from where a reader stands.
+    pub fn new(alloc: A, source: R, settings: Settings) -> Self
+        ensures open { IsOpen R.remaining result }
+        ensures source { result.source ≡ source }
+        ensures none { held_of result.held ≡ [] }
+        ensures offset { result.offset ≡ 0 }
+        ensures settings { result.settings ≡ settings }
+    {
+        Stream {
+            source,
+            held: Held::new(alloc),
+            room: Vec::new(alloc),
+            settings,
+            offset: 0,
+            ended: false,
+        }
+    }
+
+    // Makes the room of a read.
+    fn make_room(&mut self, count: usize) -> Result<(), Unread>
+        requires open { IsOpen R.remaining self.old }
+        requires most { count ≤ self.old.settings.most }
+        ensures open { IsOpen R.remaining self.new }
+        ensures room { IsOk result → vec_len self.new.room ≡ count }
+        ensures others { (self.new.source ≡ self.old.source) × (self.new.held ≡ self.old.held)
+            × (self.new.settings ≡ self.old.settings) × (self.new.offset ≡ self.old.offset)
+            × (self.new.ended ≡ self.old.ended) }
+    {
+        match self.room.resize(count, 0) {
+            Ok(()) => Ok(()),
+            Err(_) => Err(Unread::OutOfMemory),
+        }
+    }
+
+    // One read of so many bytes at the most, which the limit leaves room for; none are read at the end.
+    fn read_once(&mut self, count: usize) -> Result<usize, Unread>
+        requires open { IsOpen R.remaining self.old }
+        requires goes_on { self.old.ended ≡ false }
+        requires some { 0 < count }
+        requires most { vec_len self.old.held.bytes + count ≤ self.old.settings.most }
+        ensures open { IsOpen R.remaining self.new }
+        ensures reads { ReadsOnce R.remaining self.old self.new result }
+        ensures others { (self.new.held.start ≡ self.old.held.start) × (self.new.settings ≡ self.old.settings)
+            × (self.new.offset ≡ self.old.offset) × (self.new.ended ≡ false) }
+    {
+        self.make_room(count)?;
+        match self.held.reserve(count) {
+            Ok(()) => {}
+            Err(_) => return Err(Unread::OutOfMemory),
+        }
+        let given = match read_again(&mut self.source, &mut self.room) {
+            Ok(given) => given,
+            Err(error) => return Err(Unread::Fault(error)),
+        };
+        match self.held.add(&self.room[..given]) {
+            Ok(()) => Ok(given),
+            Err(_) => unreachable!(),
+        }
+    }
+
+    // Reads so many bytes, unless the reader comes to its end, or the limit is reached; some at least.
+    fn fill(&mut self, wants: usize) -> Result<(), Unread>
+        requires open { IsOpen R.remaining self.old }
+        requires some { 0 < wants }
+        requires goes_on { self.old.ended ≡ false }
+        requires most { length (held_of self.old.held) < self.old.settings.most }
+        ensures open { IsOpen R.remaining self.new }
+        ensures fills { Fills R.remaining self.old self.new }
+        ensures some { IsOk result → (self.new.ended ≡ true) ⊎ (length (held_of self.old.held) < length (held_of self.new.held)) }
+        ensures settings { self.new.settings ≡ self.old.settings }
+        ensures offset { self.new.offset ≡ self.old.offset }
+    {
+        self.held.settle();
+        let mut wanted = wants;
+        while wanted > 0 && self.held.len() < self.settings.most {
+            let spare = self.settings.most - self.held.len();
+            let count = self.settings.read.max(1).min(spare);
+            let given = self.read_once(count)?;
+            if given == 0 {
+                self.ended = true;
+                return Ok(());
+            }
+            wanted = wanted.saturating_sub(given);
+        }
+        Ok(())
+    }
+
+    // What is told of what was taken; the bytes of an item are counted.
+    fn tell<T>(&mut self, taken: Taken<T>) -> Result<Option<(usize, T)>, Stop>
+        ensures tells { Tells taken result }
+        ensures offset { self.new.offset ≡ counted self.old.offset result }
+        ensures others { (self.new.source ≡ self.old.source) × (self.new.held ≡ self.old.held)
+            × (self.new.room ≡ self.old.room) × (self.new.settings ≡ self.old.settings)
+            × (self.new.ended ≡ self.old.ended) }
+    {
+        match taken {
+            Taken::Item(used, item) => {
+                self.offset = self.offset.saturating_add(used as u64);
+                Ok(Some((used, item)))
+            }
+            Taken::Nothing => Err(Stop::Nothing),
+            Taken::Undecided(needed) => Err(Stop::Incomplete(needed)),
+            Taken::Refused(kind, len) => Err(Stop::Refused(kind, len)),
+            Taken::Failed(kind, len) => Err(Stop::Failed(kind, len)),
+            Taken::OutOfMemory => Err(Stop::OutOfMemory),
+        }
+    }
+
+    // What is told at the end of the reader, where what is held isn't decided.
+    fn finish<G: Grammar>(
+        &mut self,
+        needed: Needed,
+        grammar: &mut G,
+    ) -> Result<Option<(usize, G::Item)>, Stop>
+        requires sound { (G.meaning (G.state grammar.old)).IsSound }
+        requires open { IsOpen R.remaining self.old }
+        ensures kept { G.state grammar.new ≡ G.state grammar.old }
+        ensures open { IsOpen R.remaining self.new }
+        ensures ends { Ends (G.IsItem (G.state grammar.old)) (G.meaning (G.state grammar.old)) self.old self.new needed result }
+        ensures offset { self.new.offset ≡ counted self.old.offset result }
+        ensures last { IfOk result (λ r. IfSome r (λ p. p.0 ≤ self.new.held.start)) }
+        ensures others { (self.new.source ≡ self.old.source) × (self.new.settings ≡ self.old.settings) }
+    {
+        if self.held.len() == 0 {
+            return Ok(None);
+        }
+        if !self.settings.complete {
+            return Err(Stop::Incomplete(needed));
+        }
+        let taken = take(&mut self.held, grammar, false);
+        self.tell(taken)
+    }
+
+    /// The next item, with how many bytes it has; none at the end of the data.
+    ///
+    /// What is held is parsed. Where it isn't decided more is read, and it is parsed again. An item's bytes aren't held
+    /// any more, but `last` lends them until the next call. After a `Stop` all is held, and the call can be made again.
+    pub fn next_item<G: Grammar>(
+        &mut self,
+        grammar: &mut G,
+    ) -> Result<Option<(usize, G::Item)>, Stop>
+        requires sound { (G.meaning (G.state grammar.old)).IsSound }
+        requires open { IsOpen R.remaining self.old }
+        ensures kept { G.state grammar.new ≡ G.state grammar.old }
+        ensures open { IsOpen R.remaining self.new }
+        ensures decides { Decides R.remaining (G.IsItem (G.state grammar.old)) (G.meaning (G.state grammar.old)) self.old self.new result }
+        ensures offset { self.new.offset ≡ counted self.old.offset result }
+        ensures last { IfOk result (λ r. IfSome r (λ p. p.0 ≤ self.new.held.start)) }
+        ensures settings { self.new.settings ≡ self.old.settings }
+    {
+        'parses: loop {
+            let taken = take(&mut self.held, grammar, true);
+            let needed = match needed_of(&taken) {
+                Some(needed) => needed,
+                None => return self.tell(taken),
+            };
+            if self.ended {
+                return self.finish(needed, grammar);
+            }
+            let held = self.held.len();
+            if self.settings.most <= held {
+                return Err(Stop::TooLong);
+            }
+            let wanted = self.settings.wanted(needed, held);
+            match self.fill(wanted) {
+                Ok(()) => {}
+                Err(why) => return unfilled(why),
+            }
+        }
+    }
+
+    /// The bytes of the last item, by how many they are.
+    pub fn last(&self, used: usize) -> &[u8]
+        requires open { IsOpen R.remaining self.now }
+        requires used { used ≤ self.now.held.start }
+        ensures { result.now ≡ last_of used self.now.held }
+    {
+        self.held.last(used)
+    }
+
+    /// The bytes that were read and that no item had.
+    pub fn held(&self) -> &[u8]
+        requires { IsOpen R.remaining self.now }
+        ensures { result.now ≡ held_of self.now.held }
+    {
+        self.held.as_slice()
+    }
+
+    /// The reader, and the bytes that were read and that no item had.
+    pub fn into_parts(self) -> (R, Vec<u8, A>)
+        requires { IsOpen R.remaining self }
+        ensures source { result.0 ≡ self.source }
+        ensures held { result.1.items ≡ held_of self.held }
+    {
+        let Stream { source, held, .. } = self;
+        (source, held.into_vec())
+    }
+}
