@@ -1,6 +1,10 @@
 pub mod Between
 pub mod Branches
+pub mod Ended
 pub mod Lists
+pub mod Meant
+pub mod Plain
 pub mod Told
 pub mod Tokens
+pub mod Whole
 pub mod Written

@@ -12,7 +12,9 @@ use Rattle.nom_internal.specs.Meaning.{Meaning}
 use Rattle.nom_internal.specs.Families.{Family}
 use Rattle.nom_repeat.specs.Repeat.{Turn, Rule, repeat_meaning}
 use Rattle.nom_repeat.specs.Repeat.Turn.{Takes, Ends}
-use Rattle.nom.specs.Texts.{Text, TextGrammar, delimited_of, or_of, preceded_of, separated_pair_of}
+use Rattle.nom_ends.specs.Ends.{eof_meaning}
+use Rattle.nom.specs.Grammar.{sliced}
+use Rattle.nom.specs.Texts.{Text, TextGrammar, delimited_of, kept, or_of, preceded_of, separated_pair_of, terminated_of}
 use Rattle.nom_json.specs.declared.tree.Json.{Json}
 use Rattle.nom_json.specs.declared.tree.Json.TheVariants as Value
 use Rattle.nom_json.specs.Scalars.{Part, WordTree, deep_of, number_of, spaces_of, text_of, token_of, word_of}
@@ -111,3 +113,11 @@ value_of (suc d) = or_of (or_of scalar_of (array_of (value_of d))) (object_of (v
 
 abbrev pub json_of : (d : ℕ) → TextGrammar (Tree d) Json
 json_of d = preceded_of spaces_of (value_of d)
+
+-- the end of the input
+abbrev pub eof_of : TextGrammar Part Text
+eof_of = sliced seen_text (eof_meaning seen_text kept)
+
+-- a whole text, with nothing behind it
+abbrev pub json_text_of : (d : ℕ) → TextGrammar (Tree d) Json
+json_text_of d = terminated_of (json_of d) eof_of

@@ -1,2 +1,4 @@
 pub mod Json
+pub mod Numbers
 pub mod Scalars
+pub mod Strings

@@ -1,6 +1,6 @@
 -- What has no value in it, by the grammar of JSON: words, numbers, texts, and the white space between them.
 use Rattle.std.specs.Prelude.{◌≡◌, ℕ, ◌↔◌, ◌⊎◌, Bool, true, false, not, ltb, ◌==◌, ◌&&◌, IsTrue, None, List, Contains, chars, codes}
-use Rattle.std.specs.Char.{IsScalar}
+use Rattle.std.specs.Char.{IsScalar, is_digit}
 use Rattle.nom_error.specs.declared.kind.ErrorKind.{ErrorKind}
 use Rattle.nom_error.specs.declared.kind.ErrorKind.TheVariants as Kind
 use Rattle.nom_traits.specs.declared.character.AsciiClass.TheVariants.{MultiSpace}
@@ -8,7 +8,7 @@ use Rattle.nom_traits.specs.Slices.{Slice}
 use Rattle.nom_traits.specs.Text.{seen_text}
 use Rattle.nom_internal.specs.Recognized.{recognized_meaning}
 use Rattle.nom_internal.specs.Tuples.{tuple_3, tuple_4}
-use Rattle.nom_bytes.specs.ParsedRuns.{run1_meaning}
+use Rattle.nom_bytes.specs.ParsedRuns.{bounded_meaning, run1_meaning}
 use Rattle.nom_bytes.specs.Predicates.{IsFixed}
 use Rattle.nom_character.specs.ClassRuns.{class_meaning}
 use Rattle.nom_character.specs.Heads.{satisfy_meaning}
@@ -32,7 +32,7 @@ abbrev pub token_of : ℕ → TextGrammar ℕ ℕ
 token_of c = terminated_of (char_of c) spaces_of
 
 -- one of some characters; a refusal is of a kind
-abbrev one_by : List ℕ → ErrorKind → TextGrammar ℕ ℕ
+abbrev pub one_by : List ℕ → ErrorKind → TextGrammar ℕ ℕ
 one_by set kind = valued (satisfy_meaning seen_text (λ x. x) (λ x b. IsTrue b ↔ Contains (chars set) x) (Unit {0}) kept kind)
 
 -- what a grammar consumes
@@ -64,19 +64,29 @@ abbrev pub in_text : ℕ → Bool
 in_text c = (not (ltb c 32)) && ((not (c == 34)) && (not (c == 92)))
 
 -- such characters, one at least; a refusal is of a kind
-abbrev plain_by : ErrorKind → TextGrammar Part Text
+abbrev pub plain_by : ErrorKind → TextGrammar Part Text
 plain_by kind = sliced seen_text (run1_meaning seen_text (λ c b. b ≡ in_text c) (((c : ℕ) → Unit {0}) × IsFixed IsScalar (λ c b. b ≡ in_text c)) kept kind)
 
+-- digits in base 16, so many at least and at most
+abbrev pub hexes_by : (least most : ℕ) → TextGrammar Part Text
+hexes_by least most =
+    sliced seen_text (bounded_meaning seen_text (λ c b. b ≡ is_digit c 16) (((c : ℕ) → Unit {0}) × IsFixed IsScalar (λ c b. b ≡ is_digit c 16)) kept least most)
+
+-- what stands behind a backslash: a letter, or a `u` and digits
+abbrev pub escape_by : (letters : List ℕ) (mark least most : ℕ) (kind : ErrorKind) → TextGrammar (ℕ ⊎ ℕ) ℕ
+escape_by letters mark least most kind = alt_of (or_of (one_by letters kind) (terminated_of (char_of mark) (hexes_by least most)))
+
 -- characters, and escapes behind a control character
-abbrev escaped_by : (control : ℕ) → TextGrammar Part Text → TextGrammar ℕ ℕ → TextGrammar Part Text
+abbrev pub escaped_by : {V O : Type 0} → (control : ℕ) → TextGrammar Part Text → TextGrammar V O → TextGrammar Part Text
 escaped_by control plain escape = sliced seen_text (escaped_meaning seen_text kept (λ x. x ≡ control) plain.meaning escape.meaning)
 
--- What stands between quotes. What follows the `u` of an escape isn't looked at.
-abbrev pub characters_by : (control : ℕ) (escapes : List ℕ) (plain_kind escape_kind : ErrorKind) → TextGrammar Part Text
-characters_by control escapes plain_kind escape_kind = recognize_of (opt_of (escaped_by control (plain_by plain_kind) (one_by escapes escape_kind)))
+-- what stands between quotes
+abbrev pub characters_by : (control : ℕ) (letters : List ℕ) (mark least most : ℕ) (plain_kind letter_kind : ErrorKind) → TextGrammar Part Text
+characters_by control letters mark least most plain_kind letter_kind =
+    recognize_of (opt_of (escaped_by control (plain_by plain_kind) (escape_by letters mark least most letter_kind)))
 
 abbrev pub characters_of : TextGrammar Part Text
-characters_of = characters_by 92 (codes "\"\\/bfnrtu") Kind.TakeWhile1 Kind.OneOf
+characters_of = characters_by 92 (codes "\"\\/bfnrt") 117 4 4 Kind.TakeWhile1 Kind.OneOf
 
 -- a text between quotes, and white space behind it
 abbrev pub text_of : TextGrammar Part Text

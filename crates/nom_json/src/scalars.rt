@@ -1,12 +1,13 @@
 //! What has no value in it: words, numbers, texts, white space and the characters between values. White space behind
 //! each is taken with it.
 ghost use Rattle.std.specs.Prelude.{◌≡◌, false};
+ghost use Rattle.std.specs.Char.{is_digit};
 ghost use Rattle.nom.specs.Texts.{Parses};
 ghost use Rattle.nom_json.specs.Scalars.{characters_of, deep_of, in_text, number_of, spaces_of, text_of, token_of, word_of};
 
 use crate::tree::{Json, as_number, no, null, yes};
 use nom::branch::alt;
-use nom::bytes::{escaped, tag, take_while1};
+use nom::bytes::{escaped, tag, take_while_m_n, take_while1};
 use nom::character::{char, digit1, multispace0, one_of};
 use nom::combinator::{cut, fail, map, opt, peek, recognize};
 use nom::error::Error;
@@ -52,17 +53,26 @@ pub fn number<'a>(input: &'a str) -> Answer<'a, Json<'a>>
 }
 
 /// Whether a character may stand in a text as itself.
-fn is_plain(c: char) -> bool
+pub fn is_plain(c: char) -> bool
     ensures { result ≡ in_text c }
 {
     c >= ' ' && c != '"' && c != '\\'
+}
+
+/// Whether a character is a digit in base 16.
+pub fn is_hex(c: char) -> bool
+    ensures { result ≡ is_digit c 16 }
+{
+    c.is_digit(16)
 }
 
 /// What stands between quotes, with its escapes as they are.
 fn characters<'a>(input: &'a str) -> Answer<'a, &'a str>
     ensures { Parses characters_of false input.entry result }
 {
-    let piece = escaped(take_while1(is_plain), '\\', one_of("\"\\/bfnrtu"));
+    let digits = take_while_m_n(4, 4, is_hex);
+    let escape = alt((one_of("\"\\/bfnrt"), terminated(char('u'), digits)));
+    let piece = escaped(take_while1(is_plain), '\\', escape);
     recognize(opt(piece)).parse_complete(input)
 }
 

@@ -3,10 +3,11 @@ ghost use Rattle.std.specs.Prelude.{◌≡◌, ◌+◌, ◌<◌, false, IfOk};
 ghost use Rattle.nom_traits.specs.Input.{input_len};
 ghost use Rattle.nom_traits.specs.Text.{seen_text};
 ghost use Rattle.nom.specs.Texts.{Parses};
-ghost use Rattle.nom_json.specs.Json.{array_of, behind_comma, json_of, list_of, member_of, object_of, refuses, scalar_of, value_of};
+ghost use Rattle.nom_json.specs.Json.{array_of, behind_comma, json_of, json_text_of, list_of, member_of, object_of, refuses, scalar_of, value_of};
 
 use crate::scalars::{Answer, number, spaces, text, token, too_deep, word};
 use crate::tree::Json;
+use nom::combinator::eof;
 use nom::{Err, Items};
 use std::alloc::Global;
 
@@ -176,25 +177,39 @@ fn member<'a>(alloc: Global, depth: usize, input: &'a str) -> Answer<'a, (&'a st
     Ok((rest, (name, item)))
 }
 
-/// A JSON text to its tree:
+/// A value of JSON to its tree, by the grammar of RFC 8259:
 ///
 /// ```text
 /// json   = space* value
 /// value  = word | number | text | array | object
 /// word   = ('null' | 'true' | 'false') space*
 /// number = '-'? ('0' | digit+) ('.' digit+)? (('e' | 'E') ('+' | '-')? digit+)? space*
-/// text   = '"' (plain | '\' one of '"\/bfnrtu')* '"' space*
+/// text   = '"' (plain | '\' escape)* '"' space*
+/// escape = one of '"\/bfnrt' | 'u' hex hex hex hex
 /// array  = '[' space* (value (',' space* value)*)? ']' space*
 /// object = '{' space* (member (',' space* member)*)? '}' space*
 /// member = text ':' space* value
 /// ```
 ///
-/// A plain character is any but the quote, the backslash and those below a space. The four digits behind `\u` aren't
-/// looked at. What follows the value is left. A text that isn't one is refused; where more than `depth` brackets lie in
-/// each other, that is a failure with `Fail` at the bracket: so `depth` bounds the stack that a hostile text can take.
+/// A plain character is any but the quote, the backslash and those below a space; a space is a space, a tab, a line feed or
+/// a carriage return. Half a pair of surrogates may be written alone, as the RFC has it: `decoded` refuses it. What follows
+/// the value is left, so that `01` is the number `0` with `1` behind it: `json_text` refuses what is left.
+///
+/// A text that isn't one is refused. Where more than `depth` brackets lie in each other, that is a failure with `Fail` at the
+/// bracket: so `depth` bounds the stack that a hostile text can take.
 pub fn json<'a>(alloc: Global, depth: usize, input: &'a str) -> Answer<'a, Json<'a>>
     ensures { Parses (json_of depth) false input.entry result }
 {
     let (inside, _) = spaces(input)?;
     value(alloc, depth, inside)
+}
+
+/// A whole JSON text to its tree: what `json` reads, with nothing behind it. What is left is refused with `Eof`, where it
+/// begins.
+pub fn json_text<'a>(alloc: Global, depth: usize, input: &'a str) -> Answer<'a, Json<'a>>
+    ensures { Parses (json_text_of depth) false input.entry result }
+{
+    let (behind, value) = json(alloc, depth, input)?;
+    let (rest, _) = eof(behind)?;
+    Ok((rest, value))
 }
