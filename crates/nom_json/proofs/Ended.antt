@@ -12,8 +12,10 @@ module _ {V O : Type 0} (g : TextGrammar V O) {e : Answer.Err (Error Text) (Erro
   pub value_stops : {s : Told O} → s ≡ Err e → r ≡ Err e → Parses g false i s → Parses (terminated_of g eof_of) false i r
   value_stops is q h = first_stops (λ z. z) is q h
 
-  pub end_stops : {j : Text} {x : O} → TakenBy g i j x → {s : Told Text} → s ≡ Err e → r ≡ Err e → Parses eof_of false j s → Parses (terminated_of g eof_of) false i r
+  pub end_stops : {j : Text} {x : O} → TakenBy g i j x → {s : Told Text} → s ≡ Err e → r ≡ Err e → Parses eof_of false j s →
+      Parses (terminated_of g eof_of) false i r
   end_stops t is q h = next_stops t (λ z. absurd z.2) is q h
 
-pub ended : {V O : Type 0} (g : TextGrammar V O) {i j k : Text} {x : O} {y : Text} → TakenBy g i j x → TakenBy eof_of j k y → TakenBy (terminated_of g eof_of) i k x
+pub ended : {V O : Type 0} (g : TextGrammar V O) {i j k : Text} {x : O} {y : Text} → TakenBy g i j x → TakenBy eof_of j k y →
+    TakenBy (terminated_of g eof_of) i k x
 ended g {x = x} t u = both_taken {IsResult = g.IsOutput} {z = x} t u t.output_is

@@ -1,5 +1,6 @@
 -- What the loops of lists answer, by what each item answered.
-use Rattle.std.proofs.Common.{◌≡◌, ℕ, ◌+◌, ◌<◌, zero, suc, ◌⊎◌, true, false, List, [], ◌∷◌, ◌++◌, length, length-append, Result, Ok, Err, Some, None, Vec, refl, sym, ◌∙◌, ap, subst, inl, inr, arith}
+use Rattle.std.proofs.Common.{◌≡◌, ℕ, ◌+◌, ◌<◌, zero, suc, ◌⊎◌, true, false, List, [], ◌∷◌, ◌++◌, length, length-append, Result, Ok, Err, Some, None}
+use Rattle.std.proofs.Common.{Vec, refl, sym, ◌∙◌, ap, subst, inl, inr, arith}
 use Rattle.std.specs.Prelude.{if◌then◌else◌, is_err, is_ok}
 use Rattle.std.specs.List.{AllZip}
 use Rattle.nom_error.specs.declared.answer.Needed.{Needed}
@@ -41,24 +42,49 @@ further_at first further zero h = absurd (omega (arith, h))
 further_at first further (suc k) h = refl
 
 -- A place is reached, and what the part for it replies ends the list.
-module _ {V O : Type 0} (g : TextGrammar V O) {Held : List V → Type 0} {i j : Text} (c : Collected seen_text (Turns g.meaning (behind_comma g).meaning) Held i j) where
+module _ {V O : Type 0} (g : TextGrammar V O) {Held : List V → Type 0} {i j : Text}
+    (c : Collected seen_text (Turns g.meaning (behind_comma g).meaning) Held i j) where
   reaches : (Fact : ℕ → Text → Type 0) → Fact (length c.trees) j → Reaches seen_text (Turns g.meaning (behind_comma g).meaning) Fact i
-  reaches Fact h = record { trees = c.trees; taken = c.taken; pieces = pieces_end seen_text (Turns g.meaning (behind_comma g).meaning) Fact j (length c.trees) h 0 i c.trees c.taken (omega arith) c.pieces }
+  reaches Fact h = record {
+    trees = c.trees;
+    taken = c.taken;
+    pieces =
+        pieces_end seen_text (Turns g.meaning (behind_comma g).meaning) Fact j (length c.trees) h 0 i c.trees c.taken (omega arith) c.pieces;
+  }
 
-  ends : (a : Outcome V) → (PartAt g (length c.trees)).answers false j a → (o : Outcome (Unit {0})) → Ends o ≡ list_turn (length c.trees) (Some a) → Repeats seen_text (Turns g.meaning (behind_comma g).meaning) (λ vs _. vs) i (after c.taken (λ _. c.trees) o)
-  ends a p o t = record { trees = c.trees; taken = c.taken; ending = o; pieces = pieces_end seen_text (Turns g.meaning (behind_comma g).meaning) (λ k x. Turns g.meaning (behind_comma g).meaning k x (Ends o)) j (length c.trees) (record { reply = Some a; replied = (tt, p); fact = t }) 0 i c.trees c.taken (omega arith) c.pieces; outcome_is = refl }
+  ends : (a : Outcome V) → (PartAt g (length c.trees)).answers false j a → (o : Outcome (Unit {0})) →
+      Ends o ≡ list_turn (length c.trees) (Some a) →
+      Repeats seen_text (Turns g.meaning (behind_comma g).meaning) (λ vs _. vs) i (after c.taken (λ _. c.trees) o)
+  ends a p o t = record {
+    trees = c.trees;
+    taken = c.taken;
+    ending = o;
+    pieces =
+        pieces_end seen_text (Turns g.meaning (behind_comma g).meaning)
+        (λ k x. Turns g.meaning (behind_comma g).meaning k x (Ends o)) j (length c.trees)
+        (record { reply = Some a; replied = (tt, p); fact = t }) 0 i c.trees c.taken (omega arith) c.pieces;
+    outcome_is = refl;
+  }
 
-  blames : (a : Outcome V) → (PartAt g (length c.trees)).answers false j a → (e : Error Text) → (PartAt g (length c.trees)).blames false j e → Reaches seen_text (Turns g.meaning (behind_comma g).meaning) (λ k x. OnReply None (λ k. (PartAt g k).answers false) (λ _. (PartAt g k).blames false x e) k x) i
-  blames a p e h = reaches (λ k x. OnReply None (λ k. (PartAt g k).answers false) (λ _. (PartAt g k).blames false x e) k x) (record { reply = Some a; replied = (tt, p); fact = h })
+  blames : (a : Outcome V) → (PartAt g (length c.trees)).answers false j a → (e : Error Text) → (PartAt g (length c.trees)).blames false j e →
+      Reaches seen_text (Turns g.meaning (behind_comma g).meaning)
+      (λ k x. OnReply None (λ k. (PartAt g k).answers false) (λ _. (PartAt g k).blames false x e) k x) i
+  blames a p e h = reaches (λ k x. OnReply None (λ k. (PartAt g k).answers false) (λ _. (PartAt g k).blames false x e) k x)
+      (record { reply = Some a; replied = (tt, p); fact = h })
 
   module _ {M : Type 0} {r : Told (Vec O M)} where
     -- the part refuses: all that was taken is the list
-    list_ends : {list : Vec O M} → AllZip g.IsOutput c.trees list.items → (PartAt g (length c.trees)).answers false j Refuse → r ≡ Ok (j, list) → Parses (list_of g) false i r
-    list_ends {list} h p q = Parsed (Accept (c.taken + 0) c.trees) (ends Refuse p (Accept 0 tt) refl) (j, list, subst (λ n. IsRest seen_text i n j) (omega arith) c.rest_is, h, q)
+    list_ends : {list : Vec O M} → AllZip g.IsOutput c.trees list.items → (PartAt g (length c.trees)).answers false j Refuse →
+        r ≡ Ok (j, list) → Parses (list_of g) false i r
+    list_ends {list} h p q = Parsed (Accept (c.taken + 0) c.trees) (ends Refuse p (Accept 0 tt) refl)
+        (j, list, subst (λ n. IsRest seen_text i n j) (omega arith) c.rest_is, h, q)
 
     -- it stops
-    list_stops : {IsItem : V → O → Type 0} {s : Told O} {e : Answer.Err (Error Text) (Error Text) Needed} → s ≡ Err e → r ≡ Err e → false ≡ refuses s → ParsesMeaning seen_text IsItem (PartAt g (length c.trees)) false j s → Parses (list_of g) false i r
-    list_stops is q stays (ParseRanOut e h) = ParseRanOut (cc (is, q, e)) (reaches (λ k x. OnReply None (λ k. (PartAt g k).answers false) (λ a. IsTaken a) k x ⊎ (Unit {0} × (PartAt g k).runs_out (modes true true false) x)) (inr (tt, h)))
+    list_stops : {IsItem : V → O → Type 0} {s : Told O} {e : Answer.Err (Error Text) (Error Text) Needed} → s ≡ Err e → r ≡ Err e →
+        false ≡ refuses s → ParsesMeaning seen_text IsItem (PartAt g (length c.trees)) false j s → Parses (list_of g) false i r
+    list_stops is q stays (ParseRanOut e h) =
+        ParseRanOut (cc (is, q, e)) (reaches (λ k x. OnReply None (λ k. (PartAt g k).answers false) (λ a. IsTaken a) k x ⊎
+        (Unit {0} × (PartAt g k).runs_out (modes true true false) x)) (inr (tt, h)))
     list_stops is q stays (Parsed (Accept n v) a p) = absurd (cc (is, p.4))
     list_stops is q stays (Parsed Refuse a p) = let never : false ≡ true = stays ∙ ap refuses p.2 in absurd (cc (never))
     list_stops is q stays (Parsed Fail a p) = Parsed Fail (ends Fail a Fail refl) (p.0, blames Fail a p.0 p.1, cc (is, q, p.2))
@@ -67,7 +93,9 @@ module _ {V O : Type 0} (g : TextGrammar V O) {Held : List V → Type 0} {i j : 
 
     -- there is no memory to keep an item
     list_lacks : (n : ℕ) (v : V) → (PartAt g (length c.trees)).answers false j (Accept n v) → r ≡ Err Answered.OutOfMemory → Parses (list_of g) false i r
-    list_lacks n v p q = ParseRanOut q (reaches (λ k x. OnReply None (λ k. (PartAt g k).answers false) (λ a. IsTaken a) k x ⊎ (Unit {0} × (PartAt g k).runs_out (modes true true false) x)) (inl (record { reply = Some (Accept n v); replied = (tt, p); fact = tt })))
+    list_lacks n v p q = ParseRanOut q
+        (reaches (λ k x. OnReply None (λ k. (PartAt g k).answers false) (λ a. IsTaken a) k x ⊎
+        (Unit {0} × (PartAt g k).runs_out (modes true true false) x)) (inl (record { reply = Some (Accept n v); replied = (tt, p); fact = tt })))
 
 -- no item yet
 module _ {V O : Type 0} (g : TextGrammar V O) {i : Text} (known : seen_text.IsKnown i) where
@@ -79,7 +107,8 @@ module _ {V O : Type 0} (g : TextGrammar V O) {i : Text} (known : seen_text.IsKn
     pub first_refused : true ≡ refuses s → Parses g false i s → {list : Vec O M} → list.items ≡ [] → r ≡ Ok (i, list) → Parses (list_of g) false i r
     first_refused is h e q = list_ends g none_yet (subst (λ xs. AllZip g.IsOutput [] xs) (sym e) tt) (refused g h is).answered q
 
-    pub first_stopped : {e : Answer.Err (Error Text) (Error Text) Needed} → s ≡ Err e → r ≡ Err e → false ≡ refuses s → Parses g false i s → Parses (list_of g) false i r
+    pub first_stopped : {e : Answer.Err (Error Text) (Error Text) Needed} → s ≡ Err e → r ≡ Err e → false ≡ refuses s → Parses g false i s →
+        Parses (list_of g) false i r
     first_stopped is q stays h = list_stops g none_yet {IsItem = g.IsOutput} is q stays h
 
     pub first_lacks : {j : Text} {x : O} → s ≡ Ok (j, x) → Parses g false i s → r ≡ Err Answered.OutOfMemory → Parses (list_of g) false i r
@@ -88,7 +117,9 @@ module _ {V O : Type 0} (g : TextGrammar V O) {i : Text} (known : seen_text.IsKn
   pub first_kept : {j : Text} {x : O} {s : Told O} → s ≡ Ok (j, x) → Parses g false i s → {outputs : List O} → outputs ≡ x ∷ [] → Listed g i j outputs
   first_kept {j} {x} is h e =
       let t = taken is h in
-      collected_more text_lawful (Turns g.meaning (behind_comma g).meaning) t.tree none_yet (record { reply = Some (Accept t.length t.tree); replied = (tt, t.answered); fact = refl }) t.rest_is (subst (λ xs. AllZip g.IsOutput (t.tree ∷ []) xs) (sym e) (t.output_is, tt), omega arith)
+      collected_more text_lawful (Turns g.meaning (behind_comma g).meaning) t.tree none_yet
+      (record { reply = Some (Accept t.length t.tree); replied = (tt, t.answered); fact = refl }) t.rest_is
+      (subst (λ xs. AllZip g.IsOutput (t.tree ∷ []) xs) (sym e) (t.output_is, tt), omega arith)
 
 -- some items
 module _ {V O : Type 0} (g : TextGrammar V O) {i j : Text} {outputs : List O} (c : Listed g i j outputs) where
@@ -97,20 +128,29 @@ module _ {V O : Type 0} (g : TextGrammar V O) {i j : Text} {outputs : List O} (c
 
   module _ {M : Type 0} {r : Told (Vec O M)} {s : Told O} where
     -- a further item is refused
-    pub further_refused : true ≡ refuses s → Parses (behind_comma g) false j s → {list : Vec O M} → list.items ≡ outputs → r ≡ Ok (j, list) → Parses (list_of g) false i r
-    further_refused is h e q = list_ends g c (subst (λ xs. AllZip g.IsOutput c.trees xs) (sym e) c.held.0) (subst (λ m. m.answers false j Refuse) here (refused (behind_comma g) h is).answered) q
+    pub further_refused : true ≡ refuses s → Parses (behind_comma g) false j s → {list : Vec O M} → list.items ≡ outputs → r ≡ Ok (j, list) →
+        Parses (list_of g) false i r
+    further_refused is h e q = list_ends g c (subst (λ xs. AllZip g.IsOutput c.trees xs) (sym e) c.held.0)
+        (subst (λ m. m.answers false j Refuse) here (refused (behind_comma g) h is).answered) q
 
-    pub further_stopped : {e : Answer.Err (Error Text) (Error Text) Needed} → s ≡ Err e → r ≡ Err e → false ≡ refuses s → Parses (behind_comma g) false j s → Parses (list_of g) false i r
+    pub further_stopped : {e : Answer.Err (Error Text) (Error Text) Needed} → s ≡ Err e → r ≡ Err e → false ≡ refuses s →
+        Parses (behind_comma g) false j s → Parses (list_of g) false i r
     further_stopped is q stays h = list_stops g c {IsItem = g.IsOutput} is q stays (subst (λ m. ParsesMeaning seen_text g.IsOutput m false j s) here h)
 
     pub further_lacks : {k : Text} {x : O} → s ≡ Ok (k, x) → Parses (behind_comma g) false j s → r ≡ Err Answered.OutOfMemory → Parses (list_of g) false i r
     further_lacks is h q = let t = taken is h in list_lacks g c t.length t.tree (subst (λ m. m.answers false j (Accept t.length t.tree)) here t.answered) q
 
-  pub further_kept : {k : Text} {x : O} {s : Told O} → s ≡ Ok (k, x) → Parses (behind_comma g) false j s → {more : List O} → more ≡ outputs ++ x ∷ [] → Listed g i k more
+  pub further_kept : {k : Text} {x : O} {s : Told O} → s ≡ Ok (k, x) → Parses (behind_comma g) false j s → {more : List O} → more ≡ outputs ++
+      x ∷ [] → Listed g i k more
   further_kept {k} {x} is h e =
       let t = taken is h in
       let reply = subst (λ m. m.answers false j (Accept t.length t.tree)) here t.answered in
-      collected_more text_lawful (Turns g.meaning (behind_comma g).meaning) t.tree c (record { reply = Some (Accept t.length t.tree); replied = (tt, reply); fact = refl }) t.rest_is (subst (λ xs. AllZip g.IsOutput (c.trees ++ t.tree ∷ []) xs) (sym e) (zip_push g.IsOutput c.trees outputs t.tree x c.held.0 t.output_is), omega (arith, length-append c.trees (t.tree ∷ []), c.held.1))
+      collected_more text_lawful (Turns g.meaning (behind_comma g).meaning) t.tree c
+      (record { reply = Some (Accept t.length t.tree); replied = (tt, reply); fact = refl }) t.rest_is (
+        subst (λ xs. AllZip g.IsOutput (c.trees ++ t.tree ∷ []) xs) (sym e)
+            (zip_push g.IsOutput c.trees outputs t.tree x c.held.0 t.output_is),
+        omega (arith, length-append c.trees (t.tree ∷ []), c.held.1),
+      )
 
 -- the items behind a growth that succeeded
 pub grown : {T E X : Type 0} (r : Result T E) (items more old : List X) → items ≡ (if is_ok r then more else old) → is_err r ≡ false → items ≡ more

@@ -40,12 +40,14 @@ pair_in cs ds = 65536 + 1024 * (number_in cs - 55296) + (number_in ds - 56320)
 abbrev IsPair : List ℕ → List ℕ → Type 0
 IsPair cs ds = IsHigh (number_in cs) × IsLow (number_in ds)
 
-joined_seen : (t : Part × Part) (p : Text × Text) (r : Option ℕ) → IsSeenAs seen_text t.0 p.0 × IsSeenAs seen_text t.1 p.1 → IsJoined p r → SomeIff r (IsPair t.0.items t.1.items) (pair_in t.0.items t.1.items)
+joined_seen : (t : Part × Part) (p : Text × Text) (r : Option ℕ) → IsSeenAs seen_text t.0 p.0 × IsSeenAs seen_text t.1 p.1 → IsJoined p r →
+    SomeIff r (IsPair t.0.items t.1.items) (pair_in t.0.items t.1.items)
 joined_seen t p r a g =
     subst (λ ds. SomeIff r (IsPair t.0.items ds) (pair_in t.0.items ds)) a.1.elements_are (
     subst (λ cs. SomeIff r (IsPair cs (chars p.1.now)) (pair_in cs (chars p.1.now))) a.0.elements_are g)
 
-pub joined_judge : {Takes : Text × Text → Type 0} → ((p : Text × Text) → Takes p) → IsJudge (λ (t : Part × Part) (p : Text × Text). IsSeenAs seen_text t.0 p.0 × IsSeenAs seen_text t.1 p.1) Takes IsJoined is_some
+pub joined_judge : {Takes : Text × Text → Type 0} → ((p : Text × Text) → Takes p) →
+    IsJudge (λ (t : Part × Part) (p : Text × Text). IsSeenAs seen_text t.0 p.0 × IsSeenAs seen_text t.1 p.1) Takes IsJoined is_some
 joined_judge takes = record {
   takes = λ t p s. takes p;
   fixed = λ t p q r x a b g h. same_some _ _ r x (joined_seen t p r a g) (joined_seen t q x b h);

@@ -1,5 +1,6 @@
 -- A text of plain characters alone means itself.
-use Rattle.std.proofs.Common.{◌≡◌, ℕ, zero, suc, ◌+◌, ◌<◌, false, true, List, [], ◌∷◌, ◌++◌, length, append-nil, Err, Some, None, refl, sym, ◌∙◌, ap, subst, inl, arith}
+use Rattle.std.proofs.Common.{◌≡◌, ℕ, zero, suc, ◌+◌, ◌<◌, false, true, List, [], ◌∷◌, ◌++◌, length, append-nil, Err, Some, None, refl, sym, ◌∙◌, ap}
+use Rattle.std.proofs.Common.{subst, inl, arith}
 use Rattle.std.specs.Prelude.{Bool, ◌==◌, String, chars, encode_utf8_all, IsUtf8}
 use Rattle.std.proofs.lemmas.Bool.{ne_eqb}
 use Rattle.std.proofs.lemmas.Str.{chars-nil, encodes-chars}
@@ -53,7 +54,12 @@ pieces = escaped_transform_meaning seen_text kept (λ x. x ≡ 92) (plain_by Tak
 
 -- nothing stands at the end
 done_at : (j : Text) → seen_text.IsKnown j → chars j.now ≡ [] → spots.answers false j (Accept 0 Done)
-done_at j known e = record { first = Accept 0 false; answered = (refl, (refl, ap length e)); goes_on = (j, Accept 0 Done, rest_self seen_text text_lawful j known, (refl, refl), refl) }
+done_at j known e = record {
+  first = Accept 0 false;
+  answered = (refl, (refl, ap length e));
+  goes_on =
+      (j, Accept 0 Done, rest_self seen_text text_lawful j known, (refl, refl), refl);
+}
 
 abbrev Runs : Text → ℕ → Part → Type 0
 Runs i n u = IsRunSlice seen_text (λ c b. b ≡ in_text c) None false i n u
@@ -63,7 +69,18 @@ found_at : (i : Text) → seen_text.IsKnown i → (n : ℕ) (u : Part) → Runs 
 found_at i known n u r h = record {
   first = Accept 0 true;
   answered = (refl, some_left (chars i.now) u.items r.first.rest r.first.whole h);
-  goes_on = (i, Accept n (Found (Normal u)), rest_self seen_text text_lawful i known, record { first = Accept n (Found (Normal u)); answered = record { at = i; at_is = refl; outcome = Accept n u; answered = (r, inl (omega (arith, h))); fact = refl }; goes_on = refl }, ap (λ m. Accept m (Found (Normal u))) (omega arith));
+  goes_on = (
+    i,
+    Accept n (Found (Normal u)),
+    rest_self seen_text text_lawful i known,
+    record {
+      first = Accept n (Found (Normal u));
+      answered =
+          record { at = i; at_is = refl; outcome = Accept n u; answered = (r, inl (omega (arith, h))); fact = refl };
+      goes_on = refl;
+    },
+    ap (λ m. Accept m (Found (Normal u))) (omega arith),
+  );
 }
   where
     some_left : (xs ys zs : List ℕ) → xs ≡ ys ++ zs → 0 < length ys → 0 < length xs
@@ -79,40 +96,84 @@ record IsItself (i : Text) (n : ℕ) (u : Part) : Type 0 where
 module _ (i j : Text) (known : seen_text.IsKnown i) (u : Part) (at_end : chars j.now ≡ []) where
   itself : (n : ℕ) (items : List ℕ) → u.items ≡ items → Runs i n u → IsRest seen_text i n j → IsItself i n u
   itself n [] e r q =
-      let c = same_cut seen_text.weight text_lawful.positive q.front (chars j.now) u.items r.first.rest (sym q.whole ∙ r.first.whole) (q.length_is ∙ sym r.first.length_is) in
+      let c = same_cut seen_text.weight text_lawful.positive q.front (chars j.now) u.items r.first.rest (sym q.whole ∙ r.first.whole)
+      (q.length_is ∙ sym r.first.length_is) in
       let none : chars i.now ≡ [] = q.whole ∙ (ap (λ xs. xs ++ chars j.now) (c.0 ∙ e) ∙ at_end) in
       let nothing : n ≡ 0 = sym r.first.length_is ∙ ap (λ xs. span seen_text.weight xs) e in
       record {
         trees = [];
-        answered = subst (λ m. pieces.answers false i (Accept m [])) (sym nothing) (record { trees = []; taken = 0; ending = Accept 0 None; pieces = (refl, record { reply = Some (Accept 0 Done); replied = (tt, done_at i known none); fact = refl }); outcome_is = refl });
+        answered = subst (λ m. pieces.answers false i (Accept m [])) (sym nothing)
+            (record {
+              trees = [];
+              taken = 0;
+              ending = Accept 0 None;
+              pieces =
+                  (refl, record { reply = Some (Accept 0 Done); replied = (tt, done_at i known none); fact = refl });
+              outcome_is = refl;
+            });
         means = λ x s k. sym (encodes-chars x.now k) ∙ ap encode_utf8_all (s.elements_are ∙ e);
       }
   itself zero (d ∷ items) e r q = absurd (omega (arith, r.first.length_is, ap (λ xs. span seen_text.weight xs) e, text_lawful.positive d))
   itself (suc n) (d ∷ items) e r q =
       record {
         trees = Normal u ∷ [];
-        answered = record { trees = Normal u ∷ []; taken = suc n; ending = Accept 0 None; pieces = (suc n, 0, j, record { reply = Some (Accept (suc n) (Found (Normal u))); replied = (tt, found_at i known (suc n) u r (omega (arith, ap length e))); fact = refl }, q, (refl, record { reply = Some (Accept 0 Done); replied = (tt, done_at j q.known at_end); fact = refl }), omega arith); outcome_is = ap (λ m. Accept m (Normal u ∷ [])) (omega arith) };
-        means = λ x s k. (encode_utf8_all (chars x.now), [], (x, s, refl), refl, sym (encodes-chars x.now k) ∙ sym (append-nil (encode_utf8_all (chars x.now))));
+        answered = record {
+          trees = Normal u ∷ [];
+          taken = suc n;
+          ending = Accept 0 None;
+          pieces = (
+            suc n,
+            0,
+            j,
+            record {
+              reply = Some (Accept (suc n) (Found (Normal u)));
+              replied =
+                  (tt, found_at i known (suc n) u r (omega (arith, ap length e)));
+              fact = refl;
+            },
+            q,
+            (refl, record { reply = Some (Accept 0 Done); replied = (tt, done_at j q.known at_end); fact = refl }),
+            omega arith,
+          );
+          outcome_is =
+              ap (λ m. Accept m (Normal u ∷ [])) (omega arith);
+        };
+        means = λ x s k. (
+          encode_utf8_all (chars x.now),
+          [],
+          (x, s, refl),
+          refl,
+          sym (encodes-chars x.now k) ∙
+              sym (append-nil (encode_utf8_all (chars x.now))),
+        );
       }
 
-pub borrowed : {M : Type 0} {i j x : Text} → seen_text.IsKnown i → seen_text.IsKnown x → chars j.now ≡ [] → Taken plain_run.IsOutput (plain_run.meaning.answers false i) i j x →
+pub borrowed : {M : Type 0} {i j x : Text} → seen_text.IsKnown i → seen_text.IsKnown x → chars j.now ≡ [] →
+    Taken plain_run.IsOutput (plain_run.meaning.answers false i) i j x →
     Taken (decoded_of {M = M}).IsOutput ((decoded_of {M = M}).meaning.answers false i) i j (Borrowed x)
 borrowed {i = i} {j = j} {x = x} known seen at_end t =
     let p = itself i j known t.tree at_end t.length t.tree.items refl t.answered.0 t.rest_is in
     record {
       length = t.length + 0;
       tree = p.trees;
-      answered = record { first = Accept t.length p.trees; answered = p.answered; goes_on = (j, Accept 0 (record { items = chars j.now; mark = tt }), t.rest_is, (at_end, refl, refl), refl) };
+      answered = record {
+        first = Accept t.length p.trees;
+        answered = p.answered;
+        goes_on =
+            (j, Accept 0 (record { items = chars j.now; mark = tt }), t.rest_is, (at_end, refl, refl), refl);
+      };
       rest_is = subst (λ n. IsRest seen_text i n j) (omega arith) t.rest_is;
       output_is = p.means x t.output_is seen.0;
     }
 
 -- a text that was put together
 module _ {M : Type 0} {i : Text} where
-  pub owned : {j : Text} {x : String M} → Taken (unescaped_of {M = M}).IsOutput ((unescaped_of {M = M}).meaning.answers false i) i j x → Taken (decoded_of {M = M}).IsOutput ((decoded_of {M = M}).meaning.answers false i) i j (Owned x)
+  pub owned : {j : Text} {x : String M} → Taken (unescaped_of {M = M}).IsOutput ((unescaped_of {M = M}).meaning.answers false i) i j x →
+      Taken (decoded_of {M = M}).IsOutput ((decoded_of {M = M}).meaning.answers false i) i j (Owned x)
   owned t = record { length = t.length; tree = t.tree; answered = t.answered; rest_is = t.rest_is; output_is = t.output_is }
 
-  pub owned_stops : {e : Answer.Err (Error Text) (Error Text) Needed} {r : Told (CowStr M)} {s : Told (String M)} → s ≡ Err e → r ≡ Err e → Parses (unescaped_of {M = M}) false i s → Parses (decoded_of {M = M}) false i r
+  pub owned_stops : {e : Answer.Err (Error Text) (Error Text) Needed} {r : Told (CowStr M)} {s : Told (String M)} → s ≡ Err e → r ≡ Err e →
+      Parses (unescaped_of {M = M}) false i s → Parses (decoded_of {M = M}) false i r
   owned_stops is q (ParseRanOut e z) = ParseRanOut (cc (is, q, e)) z
   owned_stops is q (Parsed (Accept n v) a p) = absurd (cc (is, p.4))
   owned_stops is q (Parsed Refuse a p) = Parsed Refuse a (p.0, p.1, cc (is, q, p.2))

@@ -30,7 +30,8 @@ behind_more n m t u Fail h e = cc (e)
 behind_more n m t u TooLarge h e = cc (e)
 behind_more n m t u (Undecided k) h e = cc (e)
 
-token_length : (c : ℕ) (i : Text) (n t : ℕ) (o : Outcome ℕ) → (char_of c).meaning.answers false i o → GoesOn seen_text (λ u v. u) (λ _. spaces_of.meaning.answers false) i o (Accept n t) → 0 < n
+token_length : (c : ℕ) (i : Text) (n t : ℕ) (o : Outcome ℕ) → (char_of c).meaning.answers false i o →
+    GoesOn seen_text (λ u v. u) (λ _. spaces_of.meaning.answers false) i o (Accept n t) → 0 < n
 token_length c i n t (Accept k u) a g = behind_more k n t u g.1 (subst (λ m. 0 < m) (sym a.3) (text_lawful.positive a.0)) g.4
 token_length c i n t Refuse a g = cc (g)
 token_length c i n t Fail a g = cc (g)
@@ -38,5 +39,11 @@ token_length c i n t TooLarge a g = cc (g)
 token_length c i n t (Undecided k) a g = cc (g)
 
 -- what is left behind a character, and behind what follows it, is shorter
-pub token_moves : (c : ℕ) {i j k : Text} {x n : ℕ} → (t : Taken (token_of c).IsOutput ((token_of c).meaning.answers false i) i j x) → IsRest seen_text j n k → input_len seen_text k < input_len seen_text i
-token_moves c {i} t r = omega (arith, token_length c i t.length t.tree t.answered.first t.answered.answered t.answered.goes_on, rest_length t.rest_is, rest_length r)
+pub token_moves : (c : ℕ) {i j k : Text} {x n : ℕ} → (t : Taken (token_of c).IsOutput ((token_of c).meaning.answers false i) i j x) →
+    IsRest seen_text j n k → input_len seen_text k < input_len seen_text i
+token_moves c {i} t r = omega (
+  arith,
+  token_length c i t.length t.tree t.answered.first t.answered.answered t.answered.goes_on,
+  rest_length t.rest_is,
+  rest_length r,
+)

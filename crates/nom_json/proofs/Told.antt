@@ -50,31 +50,96 @@ module _ {V O : Type 0} {IsOutput : V → O → Type 0} {Answers : Outcome V →
   told is t = Parsed (Accept t.length t.tree) t.answered (j, x, t.rest_is, t.output_is, is)
 
 -- what a first part and what follows on its rest tell
-abbrev TellsThen : {P Q T Z : Type 0} (tree : P → Q → T) (First : Text → Outcome P → Type 0) (FirstBlames : Text → Error Text → Type 0) (FirstRunsOut : Text → Type 0) (Next : P → Text → Outcome Q → Type 0) (NextBlames : P → Text → Error Text → Type 0) (NextRunsOut : P → Text → Type 0) (IsResult : T → Z → Type 0) (i : Text) → Told Z → Type 0
-TellsThen tree First FirstBlames FirstRunsOut Next NextBlames NextRunsOut IsResult i r = ParsesAnswer seen_text IsResult i (Then seen_text tree First Next i) (ThenBlames seen_text First FirstBlames Next NextBlames i) (ThenRunsOut seen_text First FirstRunsOut NextRunsOut i) r
+abbrev TellsThen : {P Q T Z : Type 0} (tree : P → Q → T) (First : Text → Outcome P → Type 0) (FirstBlames : Text → Error Text → Type 0)
+    (FirstRunsOut : Text → Type 0) (Next : P → Text → Outcome Q → Type 0) (NextBlames : P → Text → Error Text → Type 0)
+    (NextRunsOut : P → Text → Type 0) (IsResult : T → Z → Type 0) (i : Text) → Told Z → Type 0
+TellsThen tree First FirstBlames FirstRunsOut Next NextBlames NextRunsOut IsResult i r =
+    ParsesAnswer seen_text IsResult i (Then seen_text tree First Next i) (ThenBlames seen_text First FirstBlames Next NextBlames i)
+    (ThenRunsOut seen_text First FirstRunsOut NextRunsOut i) r
 
-module _ {P Q T X Z : Type 0} {tree : P → Q → T} {First : Text → Outcome P → Type 0} {FirstBlames : Text → Error Text → Type 0} {FirstRunsOut : Text → Type 0} {Next : P → Text → Outcome Q → Type 0} {NextBlames : P → Text → Error Text → Type 0} {NextRunsOut : P → Text → Type 0} {IsFirst : P → X → Type 0} {IsResult : T → Z → Type 0} {i : Text} where
+module _ {P Q T X Z : Type 0} {tree : P → Q → T} {First : Text → Outcome P → Type 0} {FirstBlames : Text → Error Text → Type 0}
+    {FirstRunsOut : Text → Type 0} {Next : P → Text → Outcome Q → Type 0} {NextBlames : P → Text → Error Text → Type 0}
+    {NextRunsOut : P → Text → Type 0} {IsFirst : P → X → Type 0} {IsResult : T → Z → Type 0} {i : Text} where
   -- the first part stops
-  pub first_stops : {RunsOut : Type 0} → (RunsOut → FirstRunsOut i) → {e : Answer.Err (Error Text) (Error Text) Needed} {r : Told Z} {s : Told X} → s ≡ Err e → r ≡ Err e → ParsesAnswer seen_text IsFirst i (First i) (FirstBlames i) RunsOut s → TellsThen tree First FirstBlames FirstRunsOut Next NextBlames NextRunsOut IsResult i r
+  pub first_stops : {RunsOut : Type 0} → (RunsOut → FirstRunsOut i) →
+      {e : Answer.Err (Error Text) (Error Text) Needed} {r : Told Z} {s : Told X} → s ≡ Err e → r ≡ Err e →
+      ParsesAnswer seen_text IsFirst i (First i) (FirstBlames i) RunsOut s →
+      TellsThen tree First FirstBlames FirstRunsOut Next NextBlames NextRunsOut IsResult i r
   first_stops f is q (ParseRanOut e h) = ParseRanOut (cc (is, q, e)) (RunsOutFirst (f h))
   first_stops f is q (Parsed (Accept n v) a p) = absurd (cc (is, p.4))
-  first_stops f is q (Parsed Refuse a p) = Parsed Refuse (record { first = Refuse; answered = a; goes_on = refl }) (p.0, BlamesFirst (record { outcome = Refuse; answered = a; kind_is = tt; fact = p.1 }), cc (is, q, p.2))
-  first_stops f is q (Parsed Fail a p) = Parsed Fail (record { first = Fail; answered = a; goes_on = refl }) (p.0, BlamesFirst (record { outcome = Fail; answered = a; kind_is = tt; fact = p.1 }), cc (is, q, p.2))
-  first_stops f is q (Parsed TooLarge a p) = Parsed TooLarge (record { first = TooLarge; answered = a; goes_on = refl }) (p.0, BlamesFirst (record { outcome = TooLarge; answered = a; kind_is = tt; fact = p.1 }), cc (is, q, p.2))
-  first_stops f is q (Parsed (Undecided k) a p) = Parsed (Undecided k) (record { first = Undecided k; answered = a; goes_on = refl }) (p.0, p.1, cc (is, q, p.2))
+  first_stops f is q (Parsed Refuse a p) =
+      Parsed Refuse (record { first = Refuse; answered = a; goes_on = refl })
+      (p.0, BlamesFirst (record { outcome = Refuse; answered = a; kind_is = tt; fact = p.1 }), cc (is, q, p.2))
+  first_stops f is q (Parsed Fail a p) =
+      Parsed Fail (record { first = Fail; answered = a; goes_on = refl })
+      (p.0, BlamesFirst (record { outcome = Fail; answered = a; kind_is = tt; fact = p.1 }), cc (is, q, p.2))
+  first_stops f is q (Parsed TooLarge a p) =
+      Parsed TooLarge (record { first = TooLarge; answered = a; goes_on = refl })
+      (p.0, BlamesFirst (record { outcome = TooLarge; answered = a; kind_is = tt; fact = p.1 }), cc (is, q, p.2))
+  first_stops f is q (Parsed (Undecided k) a p) =
+      Parsed (Undecided k) (record { first = Undecided k; answered = a; goes_on = refl }) (p.0, p.1, cc (is, q, p.2))
 
   module _ {j : Text} {x : X} (t : Taken IsFirst (First i) i j x) where
     -- the first accepts, and what follows it stops
-    pub next_stops : {Y : Type 0} {IsNext : Q → Y → Type 0} {RunsOut : Type 0} → (RunsOut → NextRunsOut t.tree j) → {e : Answer.Err (Error Text) (Error Text) Needed} {r : Told Z} {s : Told Y} → s ≡ Err e → r ≡ Err e → ParsesAnswer seen_text IsNext j (Next t.tree j) (NextBlames t.tree j) RunsOut s → TellsThen tree First FirstBlames FirstRunsOut Next NextBlames NextRunsOut IsResult i r
-    next_stops f is q (ParseRanOut e h) = ParseRanOut (cc (is, q, e)) (RunsOutNext (record { length = t.length; tree = t.tree; rest = j; accepted = t.answered; rest_is = t.rest_is; fact = f h }))
+    pub next_stops : {Y : Type 0} {IsNext : Q → Y → Type 0} {RunsOut : Type 0} → (RunsOut → NextRunsOut t.tree j) →
+        {e : Answer.Err (Error Text) (Error Text) Needed} {r : Told Z} {s : Told Y} → s ≡ Err e → r ≡ Err e →
+        ParsesAnswer seen_text IsNext j (Next t.tree j) (NextBlames t.tree j) RunsOut s →
+        TellsThen tree First FirstBlames FirstRunsOut Next NextBlames NextRunsOut IsResult i r
+    next_stops f is q (ParseRanOut e h) =
+        ParseRanOut (cc (is, q, e)) (RunsOutNext
+        (record { length = t.length; tree = t.tree; rest = j; accepted = t.answered; rest_is = t.rest_is; fact = f h }))
     next_stops f is q (Parsed (Accept n v) a p) = absurd (cc (is, p.4))
-    next_stops f is q (Parsed Refuse a p) = Parsed Refuse (record { first = Accept t.length t.tree; answered = t.answered; goes_on = (j, Refuse, t.rest_is, a, refl) }) (p.0, BlamesNext (record { length = t.length; tree = t.tree; rest = j; accepted = t.answered; rest_is = t.rest_is; fact = record { outcome = Refuse; answered = a; kind_is = tt; fact = p.1 } }), cc (is, q, p.2))
-    next_stops f is q (Parsed Fail a p) = Parsed Fail (record { first = Accept t.length t.tree; answered = t.answered; goes_on = (j, Fail, t.rest_is, a, refl) }) (p.0, BlamesNext (record { length = t.length; tree = t.tree; rest = j; accepted = t.answered; rest_is = t.rest_is; fact = record { outcome = Fail; answered = a; kind_is = tt; fact = p.1 } }), cc (is, q, p.2))
-    next_stops f is q (Parsed TooLarge a p) = Parsed TooLarge (record { first = Accept t.length t.tree; answered = t.answered; goes_on = (j, TooLarge, t.rest_is, a, refl) }) (p.0, BlamesNext (record { length = t.length; tree = t.tree; rest = j; accepted = t.answered; rest_is = t.rest_is; fact = record { outcome = TooLarge; answered = a; kind_is = tt; fact = p.1 } }), cc (is, q, p.2))
-    next_stops f is q (Parsed (Undecided k) a p) = Parsed (Undecided k) (record { first = Accept t.length t.tree; answered = t.answered; goes_on = (j, Undecided k, t.rest_is, a, refl) }) (p.0, p.1, cc (is, q, p.2))
+    next_stops f is q (Parsed Refuse a p) =
+        Parsed Refuse (record { first = Accept t.length t.tree; answered = t.answered; goes_on = (j, Refuse, t.rest_is, a, refl) }) (
+          p.0,
+          BlamesNext (record {
+            length = t.length;
+            tree = t.tree;
+            rest = j;
+            accepted = t.answered;
+            rest_is = t.rest_is;
+            fact =
+                record { outcome = Refuse; answered = a; kind_is = tt; fact = p.1 };
+          }),
+          cc (is, q, p.2),
+        )
+    next_stops f is q (Parsed Fail a p) =
+        Parsed Fail (record { first = Accept t.length t.tree; answered = t.answered; goes_on = (j, Fail, t.rest_is, a, refl) }) (
+          p.0,
+          BlamesNext (record {
+            length = t.length;
+            tree = t.tree;
+            rest = j;
+            accepted = t.answered;
+            rest_is = t.rest_is;
+            fact =
+                record { outcome = Fail; answered = a; kind_is = tt; fact = p.1 };
+          }),
+          cc (is, q, p.2),
+        )
+    next_stops f is q (Parsed TooLarge a p) =
+        Parsed TooLarge (record { first = Accept t.length t.tree; answered = t.answered; goes_on = (j, TooLarge, t.rest_is, a, refl) }) (
+          p.0,
+          BlamesNext (record {
+            length = t.length;
+            tree = t.tree;
+            rest = j;
+            accepted = t.answered;
+            rest_is = t.rest_is;
+            fact =
+                record { outcome = TooLarge; answered = a; kind_is = tt; fact = p.1 };
+          }),
+          cc (is, q, p.2),
+        )
+    next_stops f is q (Parsed (Undecided k) a p) =
+        Parsed (Undecided k) (record { first = Accept t.length t.tree; answered = t.answered; goes_on = (j, Undecided k, t.rest_is, a, refl) })
+        (p.0, p.1, cc (is, q, p.2))
 
 -- both accept
-abbrev pub both_taken : {P Q T X Y Z : Type 0} {tree : P → Q → T} {First : Text → Outcome P → Type 0} {Next : P → Text → Outcome Q → Type 0} {IsFirst : P → X → Type 0} {IsNext : Q → Y → Type 0} {IsResult : T → Z → Type 0} {i j k : Text} {x : X} {y : Y} {z : Z} → (t : Taken IsFirst (First i) i j x) → (u : Taken IsNext (Next t.tree j) j k y) → IsResult (tree t.tree u.tree) z → Taken IsResult (Then seen_text tree First Next i) i k z
+abbrev pub both_taken : {P Q T X Y Z : Type 0} {tree : P → Q → T} {First : Text → Outcome P → Type 0} {Next : P → Text → Outcome Q → Type 0}
+    {IsFirst : P → X → Type 0} {IsNext : Q → Y → Type 0} {IsResult : T → Z → Type 0} {i j k : Text} {x : X} {y : Y} {z : Z} →
+    (t : Taken IsFirst (First i) i j x) → (u : Taken IsNext (Next t.tree j) j k y) → IsResult (tree t.tree u.tree) z →
+    Taken IsResult (Then seen_text tree First Next i) i k z
 both_taken {tree = tree} {i = i} {j = j} {k = k} t u h = record {
   length = t.length + u.length;
   tree = tree t.tree u.tree;
@@ -84,10 +149,18 @@ both_taken {tree = tree} {i = i} {j = j} {k = k} t u h = record {
 }
 
 -- The first accepts, and what follows it answers for both, with its own output.
-module _ {P Q T X Y : Type 0} {tree : P → Q → T} {First : Text → Outcome P → Type 0} {FirstBlames : Text → Error Text → Type 0} {FirstRunsOut : Text → Type 0} {Next : P → Text → Outcome Q → Type 0} {NextBlames : P → Text → Error Text → Type 0} {NextRunsOut : P → Text → Type 0} {IsFirst : P → X → Type 0} {IsNext : Q → Y → Type 0} {IsResult : T → Y → Type 0} {i j : Text} {x : X} where
-  pub follows : (t : Taken IsFirst (First i) i j x) → ((v : Q) (y : Y) → IsNext v y → IsResult (tree t.tree v) y) → {r : Told Y} → ParsesAnswer seen_text IsNext j (Next t.tree j) (NextBlames t.tree j) (NextRunsOut t.tree j) r → TellsThen tree First FirstBlames FirstRunsOut Next NextBlames NextRunsOut IsResult i r
-  follows t f (ParseRanOut e h) = ParseRanOut e (RunsOutNext (record { length = t.length; tree = t.tree; rest = j; accepted = t.answered; rest_is = t.rest_is; fact = h }))
-  follows t f (Parsed (Accept n v) a p) = Parsed (Accept (t.length + n) (tree t.tree v)) (record { first = Accept t.length t.tree; answered = t.answered; goes_on = (j, Accept n v, t.rest_is, a, refl) }) (p.0, p.1, rest_rest seen_text text_lawful i t.length j n p.0 t.rest_is p.2, f v p.1 p.3, p.4)
+module _ {P Q T X Y : Type 0} {tree : P → Q → T} {First : Text → Outcome P → Type 0} {FirstBlames : Text → Error Text → Type 0}
+    {FirstRunsOut : Text → Type 0} {Next : P → Text → Outcome Q → Type 0} {NextBlames : P → Text → Error Text → Type 0}
+    {NextRunsOut : P → Text → Type 0} {IsFirst : P → X → Type 0} {IsNext : Q → Y → Type 0} {IsResult : T → Y → Type 0} {i j : Text} {x : X} where
+  pub follows : (t : Taken IsFirst (First i) i j x) → ((v : Q) (y : Y) → IsNext v y → IsResult (tree t.tree v) y) → {r : Told Y} →
+      ParsesAnswer seen_text IsNext j (Next t.tree j) (NextBlames t.tree j) (NextRunsOut t.tree j) r →
+      TellsThen tree First FirstBlames FirstRunsOut Next NextBlames NextRunsOut IsResult i r
+  follows t f (ParseRanOut e h) =
+      ParseRanOut e (RunsOutNext (record { length = t.length; tree = t.tree; rest = j; accepted = t.answered; rest_is = t.rest_is; fact = h }))
+  follows t f (Parsed (Accept n v) a p) =
+      Parsed (Accept (t.length + n) (tree t.tree v))
+      (record { first = Accept t.length t.tree; answered = t.answered; goes_on = (j, Accept n v, t.rest_is, a, refl) })
+      (p.0, p.1, rest_rest seen_text text_lawful i t.length j n p.0 t.rest_is p.2, f v p.1 p.3, p.4)
   follows t f (Parsed Refuse a p) = next_stops t {IsNext = IsNext} (λ z. z) p.2 p.2 (Parsed Refuse a p)
   follows t f (Parsed Fail a p) = next_stops t {IsNext = IsNext} (λ z. z) p.2 p.2 (Parsed Fail a p)
   follows t f (Parsed TooLarge a p) = next_stops t {IsNext = IsNext} (λ z. z) p.2 p.2 (Parsed TooLarge a p)
@@ -98,11 +171,53 @@ module _ {V U O : Type 0} (g : TextGrammar V O) (h : TextGrammar U O) {i : Text}
   -- the first, where it doesn't refuse
   pub first_tells : Parses g false i r → false ≡ refuses r → Parses (or_of g h) false i r
   first_tells (ParseRanOut e z) q = ParseRanOut e (inl (RunsOutInPart i refl z))
-  first_tells (Parsed (Accept n v) a p) q = Parsed (Accept n (inl v)) (record { first = Accept n (inl v); answered = record { at = i; at_is = refl; outcome = Accept n v; answered = a; fact = refl }; goes_on = refl }) p
+  first_tells (Parsed (Accept n v) a p) q =
+      Parsed (Accept n (inl v)) (record {
+        first = Accept n (inl v);
+        answered =
+            record { at = i; at_is = refl; outcome = Accept n v; answered = a; fact = refl };
+        goes_on = refl;
+      }) p
   first_tells (Parsed Refuse a p) q = let no : false ≡ true = q ∙ ap refuses p.2 in absurd (cc (no))
-  first_tells (Parsed Fail a p) q = Parsed Fail (record { first = Fail; answered = record { at = i; at_is = refl; outcome = Fail; answered = a; fact = refl }; goes_on = refl }) (p.0, FirstFails (record { outcome = Fail; answered = record { at = i; at_is = refl; outcome = Fail; answered = a; fact = refl }; kind_is = tt; fact = record { at = i; at_is = refl; outcome = Fail; answered = a; fact = p.1 } }), p.2)
-  first_tells (Parsed TooLarge a p) q = Parsed TooLarge (record { first = TooLarge; answered = record { at = i; at_is = refl; outcome = TooLarge; answered = a; fact = refl }; goes_on = refl }) (p.0, FirstFails (record { outcome = TooLarge; answered = record { at = i; at_is = refl; outcome = TooLarge; answered = a; fact = refl }; kind_is = tt; fact = record { at = i; at_is = refl; outcome = TooLarge; answered = a; fact = p.1 } }), p.2)
-  first_tells (Parsed (Undecided k) a p) q = Parsed (Undecided k) (record { first = Undecided k; answered = record { at = i; at_is = refl; outcome = Undecided k; answered = a; fact = refl }; goes_on = refl }) p
+  first_tells (Parsed Fail a p) q =
+      Parsed Fail (record {
+        first = Fail;
+        answered = record { at = i; at_is = refl; outcome = Fail; answered = a; fact = refl };
+        goes_on =
+            refl;
+      }) (
+        p.0,
+        FirstFails (record {
+          outcome = Fail;
+          answered = record { at = i; at_is = refl; outcome = Fail; answered = a; fact = refl };
+          kind_is = tt;
+          fact = record { at = i; at_is = refl; outcome = Fail; answered = a; fact = p.1 };
+        }),
+        p.2,
+      )
+  first_tells (Parsed TooLarge a p) q =
+      Parsed TooLarge (record {
+        first = TooLarge;
+        answered = record { at = i; at_is = refl; outcome = TooLarge; answered = a; fact = refl };
+        goes_on = refl;
+      }) (
+        p.0,
+        FirstFails
+            (record {
+              outcome = TooLarge;
+              answered = record { at = i; at_is = refl; outcome = TooLarge; answered = a; fact = refl };
+              kind_is = tt;
+              fact = record { at = i; at_is = refl; outcome = TooLarge; answered = a; fact = p.1 };
+            }),
+        p.2,
+      )
+  first_tells (Parsed (Undecided k) a p) q =
+      Parsed (Undecided k) (record {
+        first = Undecided k;
+        answered =
+            record { at = i; at_is = refl; outcome = Undecided k; answered = a; fact = refl };
+        goes_on = refl;
+      }) p
 
 -- a grammar refused, with an error
 pub record HasRefused {V O : Type 0} (g : TextGrammar V O) (i : Text) : Type 0 where
@@ -121,27 +236,108 @@ refused g (Parsed (Undecided k) a p) q = let no : true ≡ false = q ∙ ap refu
 -- the second, where the first refused
 module _ {V U O : Type 0} (g : TextGrammar V O) (h : TextGrammar U O) {i : Text} {r : Told O} (f : HasRefused g i) where
   pub next_tells : Parses h false i r → Parses (or_of g h) false i r
-  next_tells (ParseRanOut e z) = ParseRanOut e (inr (record { at = i; at_is = refl; outcome = Refuse; answered = f.answered; fact = refl }, inl (RunsOutInPart i refl z)))
-  next_tells (Parsed (Accept n v) a p) = Parsed (Accept n (inr v)) (record { first = Refuse; answered = record { at = i; at_is = refl; outcome = Refuse; answered = f.answered; fact = refl }; goes_on = record { at = i; at_is = refl; outcome = Accept n v; answered = a; fact = refl } }) p
-  next_tells (Parsed Refuse a p) = Parsed Refuse (record { first = Refuse; answered = record { at = i; at_is = refl; outcome = Refuse; answered = f.answered; fact = refl }; goes_on = record { at = i; at_is = refl; outcome = Refuse; answered = a; fact = refl } }) (p.0, FirstRefuses (record { at = i; at_is = refl; outcome = Refuse; answered = f.answered; fact = refl }) (NextRefuses (record { at = i; at_is = refl; outcome = Refuse; answered = a; fact = refl }) (record { first = f.error; second = p.0; first_is = record { at = i; at_is = refl; outcome = Refuse; answered = f.answered; fact = f.blamed }; second_is = record { at = i; at_is = refl; outcome = Refuse; answered = a; fact = p.1 }; joined = refl })), p.2)
-  next_tells (Parsed Fail a p) = Parsed Fail (record { first = Refuse; answered = record { at = i; at_is = refl; outcome = Refuse; answered = f.answered; fact = refl }; goes_on = record { at = i; at_is = refl; outcome = Fail; answered = a; fact = refl } }) (p.0, FirstRefuses (record { at = i; at_is = refl; outcome = Refuse; answered = f.answered; fact = refl }) (NextFails (record { outcome = Fail; answered = record { at = i; at_is = refl; outcome = Fail; answered = a; fact = refl }; kind_is = tt; fact = record { at = i; at_is = refl; outcome = Fail; answered = a; fact = p.1 } })), p.2)
-  next_tells (Parsed TooLarge a p) = Parsed TooLarge (record { first = Refuse; answered = record { at = i; at_is = refl; outcome = Refuse; answered = f.answered; fact = refl }; goes_on = record { at = i; at_is = refl; outcome = TooLarge; answered = a; fact = refl } }) (p.0, FirstRefuses (record { at = i; at_is = refl; outcome = Refuse; answered = f.answered; fact = refl }) (NextFails (record { outcome = TooLarge; answered = record { at = i; at_is = refl; outcome = TooLarge; answered = a; fact = refl }; kind_is = tt; fact = record { at = i; at_is = refl; outcome = TooLarge; answered = a; fact = p.1 } })), p.2)
-  next_tells (Parsed (Undecided k) a p) = Parsed (Undecided k) (record { first = Refuse; answered = record { at = i; at_is = refl; outcome = Refuse; answered = f.answered; fact = refl }; goes_on = record { at = i; at_is = refl; outcome = Undecided k; answered = a; fact = refl } }) p
+  next_tells (ParseRanOut e z) =
+      ParseRanOut e (inr (record { at = i; at_is = refl; outcome = Refuse; answered = f.answered; fact = refl }, inl (RunsOutInPart i refl z)))
+  next_tells (Parsed (Accept n v) a p) =
+      Parsed (Accept n (inr v)) (record {
+        first = Refuse;
+        answered = record { at = i; at_is = refl; outcome = Refuse; answered = f.answered; fact = refl };
+        goes_on =
+            record { at = i; at_is = refl; outcome = Accept n v; answered = a; fact = refl };
+      }) p
+  next_tells (Parsed Refuse a p) =
+      Parsed Refuse (record {
+        first = Refuse;
+        answered = record { at = i; at_is = refl; outcome = Refuse; answered = f.answered; fact = refl };
+        goes_on = record { at = i; at_is = refl; outcome = Refuse; answered = a; fact = refl };
+      }) (
+        p.0,
+        FirstRefuses (record { at = i; at_is = refl; outcome = Refuse; answered = f.answered; fact = refl })
+            (NextRefuses (record { at = i; at_is = refl; outcome = Refuse; answered = a; fact = refl })
+            (record {
+              first = f.error;
+              second = p.0;
+              first_is =
+                  record { at = i; at_is = refl; outcome = Refuse; answered = f.answered; fact = f.blamed };
+              second_is =
+                  record { at = i; at_is = refl; outcome = Refuse; answered = a; fact = p.1 };
+              joined = refl;
+            })),
+        p.2,
+      )
+  next_tells (Parsed Fail a p) =
+      Parsed Fail (record {
+        first = Refuse;
+        answered = record { at = i; at_is = refl; outcome = Refuse; answered = f.answered; fact = refl };
+        goes_on = record { at = i; at_is = refl; outcome = Fail; answered = a; fact = refl };
+      }) (
+        p.0,
+        FirstRefuses (record { at = i; at_is = refl; outcome = Refuse; answered = f.answered; fact = refl })
+            (NextFails (record {
+              outcome = Fail;
+              answered = record { at = i; at_is = refl; outcome = Fail; answered = a; fact = refl };
+              kind_is = tt;
+              fact = record { at = i; at_is = refl; outcome = Fail; answered = a; fact = p.1 };
+            })),
+        p.2,
+      )
+  next_tells (Parsed TooLarge a p) =
+      Parsed TooLarge (record {
+        first = Refuse;
+        answered =
+            record { at = i; at_is = refl; outcome = Refuse; answered = f.answered; fact = refl };
+        goes_on =
+            record { at = i; at_is = refl; outcome = TooLarge; answered = a; fact = refl };
+      }) (
+        p.0,
+        FirstRefuses (record { at = i; at_is = refl; outcome = Refuse; answered = f.answered; fact = refl })
+            (NextFails (record {
+              outcome = TooLarge;
+              answered = record { at = i; at_is = refl; outcome = TooLarge; answered = a; fact = refl };
+              kind_is = tt;
+              fact = record { at = i; at_is = refl; outcome = TooLarge; answered = a; fact = p.1 };
+            })),
+        p.2,
+      )
+  next_tells (Parsed (Undecided k) a p) =
+      Parsed (Undecided k) (record {
+        first = Refuse;
+        answered =
+            record { at = i; at_is = refl; outcome = Refuse; answered = f.answered; fact = refl };
+        goes_on =
+            record { at = i; at_is = refl; outcome = Undecided k; answered = a; fact = refl };
+      }) p
 
 -- both refused, with the second's error
 pub either_refused : {V U O : Type 0} (g : TextGrammar V O) (h : TextGrammar U O) {i : Text} → HasRefused g i → HasRefused h i → HasRefused (or_of g h) i
 either_refused g h {i} f k = record {
-  answered = record { first = Refuse; answered = record { at = i; at_is = refl; outcome = Refuse; answered = f.answered; fact = refl }; goes_on = record { at = i; at_is = refl; outcome = Refuse; answered = k.answered; fact = refl } };
+  answered = record {
+    first = Refuse;
+    answered = record { at = i; at_is = refl; outcome = Refuse; answered = f.answered; fact = refl };
+    goes_on = record { at = i; at_is = refl; outcome = Refuse; answered = k.answered; fact = refl };
+  };
   error = k.error;
-  blamed = FirstRefuses (record { at = i; at_is = refl; outcome = Refuse; answered = f.answered; fact = refl }) (NextRefuses (record { at = i; at_is = refl; outcome = Refuse; answered = k.answered; fact = refl }) (record { first = f.error; second = k.error; first_is = record { at = i; at_is = refl; outcome = Refuse; answered = f.answered; fact = f.blamed }; second_is = record { at = i; at_is = refl; outcome = Refuse; answered = k.answered; fact = k.blamed }; joined = refl }));
+  blamed = FirstRefuses (record { at = i; at_is = refl; outcome = Refuse; answered = f.answered; fact = refl })
+      (NextRefuses (record { at = i; at_is = refl; outcome = Refuse; answered = k.answered; fact = refl })
+      (record {
+        first = f.error;
+        second = k.error;
+        first_is =
+            record { at = i; at_is = refl; outcome = Refuse; answered = f.answered; fact = f.blamed };
+        second_is =
+            record { at = i; at_is = refl; outcome = Refuse; answered = k.answered; fact = k.blamed };
+        joined = refl;
+      }));
 }
 
 -- what is made of an output
 module _ {V O P : Type 0} {Makes : O → P → Type 0} (g : TextGrammar V O) {i : Text} where
-  pub as_told : {j : Text} {x : O} {y : P} {Answers : Outcome V → Type 0} → Taken g.IsOutput Answers i j x → Makes x y → Taken (as_of Makes g).IsOutput Answers i j y
+  pub as_told : {j : Text} {x : O} {y : P} {Answers : Outcome V → Type 0} → Taken g.IsOutput Answers i j x → Makes x y →
+      Taken (as_of Makes g).IsOutput Answers i j y
   as_told {x = x} t m = record { length = t.length; tree = t.tree; answered = t.answered; rest_is = t.rest_is; output_is = (x, t.output_is, m) }
 
-  pub as_stops : {e : Answer.Err (Error Text) (Error Text) Needed} {r : Told P} {s : Told O} → s ≡ Err e → r ≡ Err e → Parses g false i s → Parses (as_of Makes g) false i r
+  pub as_stops : {e : Answer.Err (Error Text) (Error Text) Needed} {r : Told P} {s : Told O} → s ≡ Err e → r ≡ Err e → Parses g false i s →
+      Parses (as_of Makes g) false i r
   as_stops is q (ParseRanOut e z) = ParseRanOut (cc (is, q, e)) z
   as_stops is q (Parsed (Accept n v) a p) = absurd (cc (is, p.4))
   as_stops is q (Parsed Refuse a p) = Parsed Refuse a (p.0, p.1, cc (is, q, p.2))

@@ -7,13 +7,16 @@ use Rattle.nom_json.specs.declared.tree.Json.{Json}
 use Rattle.nom_json.specs.Strings.{Signs, signs}
 use Rattle.nom_json.specs.Scalars.{Part, WordTree, characters_by, characters_of, deep_by, deep_of, number_by, number_of, word_by, word_of}
 
-pub word_by_parts : (P : TextGrammar WordTree Json → Type 0) (a b c : List ℕ) → a ≡ codes "null" → b ≡ codes "true" → c ≡ codes "false" → P (word_by a b c) → P word_of
+pub word_by_parts : (P : TextGrammar WordTree Json → Type 0) (a b c : List ℕ) → a ≡ codes "null" → b ≡ codes "true" → c ≡ codes "false" →
+    P (word_by a b c) → P word_of
 word_by_parts P a b c x y z h =
     subst (λ k. P (word_by k (codes "true") (codes "false"))) x (
     subst (λ k. P (word_by a k (codes "false"))) y (
     subst (λ k. P (word_by a b k)) z h))
 
-pub number_by_parts : (P : TextGrammar Part Json → Type 0) (minus : ℕ) (first : List ℕ) (dot : ℕ) (marks signs : List ℕ) (k l : ErrorKind) → minus ≡ 45 → first ≡ codes "0" → dot ≡ 46 → marks ≡ codes "eE" → signs ≡ codes "+-" → k ≡ OneOf → l ≡ OneOf → P (number_by minus first dot marks signs k l) → P number_of
+pub number_by_parts : (P : TextGrammar Part Json → Type 0) (minus : ℕ) (first : List ℕ) (dot : ℕ) (marks signs : List ℕ) (k l : ErrorKind) →
+    minus ≡ 45 → first ≡ codes "0" → dot ≡ 46 → marks ≡ codes "eE" → signs ≡ codes "+-" → k ≡ OneOf → l ≡ OneOf →
+    P (number_by minus first dot marks signs k l) → P number_of
 number_by_parts P minus first dot marks signs k l m f d a b x y h =
     subst (λ z. P (number_by z (codes "0") 46 (codes "eE") (codes "+-") OneOf OneOf)) m (
     subst (λ z. P (number_by minus z 46 (codes "eE") (codes "+-") OneOf OneOf)) f (
@@ -36,7 +39,8 @@ characters_by_parts P control letters mark least most k l b e m n o x y h =
     subst (λ z. P (characters_by control letters mark least most k z)) y h))))))
 
 -- the signs of strings, each as it is told
-abbrev pub signs_by : (control : ℕ) (letters : List ℕ) (mark alone_least alone_most high_least high_most : ℕ) (sign : List ℕ) (low_least low_most : ℕ) (plain_kind letter_kind : ErrorKind) → Signs
+abbrev pub signs_by : (control : ℕ) (letters : List ℕ) (mark alone_least alone_most high_least high_most : ℕ) (sign : List ℕ)
+    (low_least low_most : ℕ) (plain_kind letter_kind : ErrorKind) → Signs
 signs_by control letters mark alone_least alone_most high_least high_most sign low_least low_most plain_kind letter_kind = record {
   control = control;
   letters = letters;
@@ -52,11 +56,13 @@ signs_by control letters mark alone_least alone_most high_least high_most sign l
   letter_kind = letter_kind;
 }
 
-pub signs_told : (a : ℕ) (b : List ℕ) (d e f g h : ℕ) (i : List ℕ) (j k : ℕ) (l m : ErrorKind) → a ≡ 92 → b ≡ codes "\"\\/bfnrt" → d ≡ 117 → e ≡ 4 → f ≡ 4 → g ≡ 4 → h ≡ 4 → i ≡ codes "\\u" → j ≡ 4 → k ≡ 4 → l ≡ TakeWhile1 → m ≡ OneOf →
+pub signs_told : (a : ℕ) (b : List ℕ) (d e f g h : ℕ) (i : List ℕ) (j k : ℕ) (l m : ErrorKind) → a ≡ 92 →
+    b ≡ codes "\"\\/bfnrt" → d ≡ 117 → e ≡ 4 → f ≡ 4 → g ≡ 4 → h ≡ 4 → i ≡ codes "\\u" → j ≡ 4 → k ≡ 4 → l ≡ TakeWhile1 → m ≡ OneOf →
     signs_by a b d e f g h i j k l m ≡ signs
 signs_told a b d e f g h i j k l m p q r s t u v w x y z o = cc (p, q, r, s, t, u, v, w, x, y, z, o)
 
-pub deep_by_parts : (P : TextGrammar Json Json → Type 0) (brackets : List ℕ) (k : ErrorKind) → brackets ≡ codes "[{" → k ≡ OneOf → P (deep_by brackets k) → P deep_of
+pub deep_by_parts : (P : TextGrammar Json Json → Type 0) (brackets : List ℕ) (k : ErrorKind) → brackets ≡ codes "[{" → k ≡ OneOf →
+    P (deep_by brackets k) → P deep_of
 deep_by_parts P brackets k b x h =
     subst (λ z. P (deep_by z OneOf)) b (
     subst (λ z. P (deep_by brackets z)) x h)

@@ -16,7 +16,8 @@ use Rattle.nom_combinator.specs.Verdicts.{cut_meaning, opt_meaning, peek_meaning
 use Rattle.nom_ends.specs.Ends.{fail_meaning}
 use Rattle.nom_escaped.specs.Escapes.{escaped_meaning}
 use Rattle.nom.specs.Grammar.{sliced, valued}
-use Rattle.nom.specs.Texts.{Text, TextGrammar, alt_of, char_of, delimited_of, digit1_of, kept, map_of, opt_of, or_of, pair_of, preceded_of, tag_of, terminated_of}
+use Rattle.nom.specs.Texts.{Text, TextGrammar, alt_of, char_of, delimited_of, digit1_of, kept, map_of, opt_of, or_of, pair_of, preceded_of, tag_of}
+use Rattle.nom.specs.Texts.{terminated_of}
 use Rattle.nom_json.specs.declared.tree.Json.{Json}
 use Rattle.nom_json.specs.declared.tree.Json.TheVariants as Value
 
@@ -43,7 +44,9 @@ abbrev pub WordTree : Type 0
 WordTree = (Part ⊎ Part) ⊎ Part
 
 abbrev pub word_by : (nothing truth untruth : List ℕ) → TextGrammar WordTree Json
-word_by nothing truth untruth = terminated_of (alt_of (or_of (or_of (map_of (λ _. Value.Null) (tag_of nothing)) (map_of (λ _. Value.Bool true) (tag_of truth))) (map_of (λ _. Value.Bool false) (tag_of untruth)))) spaces_of
+word_by nothing truth untruth =
+    terminated_of (alt_of (or_of (or_of (map_of (λ _. Value.Null) (tag_of nothing)) (map_of (λ _. Value.Bool true) (tag_of truth)))
+    (map_of (λ _. Value.Bool false) (tag_of untruth)))) spaces_of
 
 abbrev pub word_of : TextGrammar WordTree Json
 word_of = word_by (codes "null") (codes "true") (codes "false")
@@ -99,7 +102,8 @@ fail_of = valued (fail_meaning kept)
 -- a failure where a bracket opens; all else is refused
 abbrev pub deep_by : List ℕ → ErrorKind → TextGrammar Json Json
 deep_by brackets kind = record {
-  meaning = (preceded_of (record { meaning = peek_meaning (one_by brackets kind).meaning; IsOutput = (one_by brackets kind).IsOutput }) (record { meaning = cut_meaning fail_of.meaning; IsOutput = fail_of.IsOutput })).meaning;
+  meaning = (preceded_of (record { meaning = peek_meaning (one_by brackets kind).meaning; IsOutput = (one_by brackets kind).IsOutput })
+      (record { meaning = cut_meaning fail_of.meaning; IsOutput = fail_of.IsOutput })).meaning;
   IsOutput = fail_of.IsOutput;
 }
 

@@ -14,4 +14,5 @@ returns c =
     let least = ap (λ l. l.1.second.m) escape ∙ (ap (λ p. p.m) c.terminated.ensures.second ∙ c.take_while_m_n-digits.ensures.least) in
     let most = ap (λ l. l.1.second.n) escape ∙ (ap (λ p. p.n) c.terminated.ensures.second ∙ c.take_while_m_n-digits.ensures.most) in
     let plain_kind = ap (λ p. p.normal.kind) piece ∙ (ap (λ p. p.kind) c.escaped-piece.ensures.normal ∙ c.take_while1.ensures.kind) in
-    characters_by_parts (λ g. Parses g false c.args.input c.parse_complete.result) _ _ _ _ _ _ _ control letters mark least most plain_kind letter_kind c.parse_complete.ensures.shown
+    characters_by_parts (λ g. Parses g false c.args.input c.parse_complete.result) _ _ _ _ _ _ _ control letters mark least most plain_kind
+    letter_kind c.parse_complete.ensures.shown

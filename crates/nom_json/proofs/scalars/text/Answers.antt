@@ -15,12 +15,14 @@ returns-in_err-inside c =
 pub returns-in_err-behind : goal.returns-in_err-behind
 returns-in_err-behind c =
     let quote = rw (c.char-quote.ensures) at c.in_ok-inside.ensures.shown in
-    body_stops (char_of 34) characters_of (token_of 34) (taken refl quote) refl (err_from_residual c.from_residual-in_err-behind.ensures) c.in_err-behind.ensures
+    body_stops (char_of 34) characters_of (token_of 34) (taken refl quote) refl (err_from_residual c.from_residual-in_err-behind.ensures)
+    c.in_err-behind.ensures
 
 pub returns-in_err-rest : goal.returns-in_err-rest
 returns-in_err-rest c =
     let quote = rw (c.char-quote.ensures) at c.in_ok-inside.ensures.shown in
-    close_stops (char_of 34) characters_of (token_of 34) (token_frugal 34) (taken refl quote) (taken refl c.in_ok-behind.ensures) refl (err_from_residual c.from_residual-in_err-rest.ensures) c.in_err-rest.ensures
+    close_stops (char_of 34) characters_of (token_of 34) (token_frugal 34) (taken refl quote)
+    (taken refl c.in_ok-behind.ensures) refl (err_from_residual c.from_residual-in_err-rest.ensures) c.in_err-rest.ensures
 
 pub returns : goal.returns
 returns c =

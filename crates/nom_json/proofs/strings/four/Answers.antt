@@ -23,8 +23,11 @@ other_bytes bs h = sym (ap (λ t. cond t (digits_value 16 bs) 0) (ne_eqb (length
 pub returns-in-len4-clause-value : goal.returns-in-len4-clause-value
 returns-in-len4-clause-value c =
     let told = four_bytes c.as_bytes.result.now c.in-len4.len_at_least c.in-len4.len_below in
-    let sum : 4096 * c.digit.result + 256 * c.digit-in-len4.result + 16 * c.digit-in-len4-2.result + c.digit-in-len4-3.result ≡ number_of_four c.as_bytes.result.now = omega (arith, told, c.digit.ensures.value, c.digit-in-len4.ensures.value, c.digit-in-len4-2.ensures.value, c.digit-in-len4-3.ensures.value) in
-    subst (λ bs. 4096 * c.digit.result + 256 * c.digit-in-len4.result + 16 * c.digit-in-len4-2.result + c.digit-in-len4-3.result ≡ number_of_four bs) (c.as_bytes.ensures.value ∙ sym (encodes-chars c.args.digits.now c.utf8.digits)) sum
+    let sum : 4096 * c.digit.result + 256 * c.digit-in-len4.result + 16 * c.digit-in-len4-2.result + c.digit-in-len4-3.result ≡
+    number_of_four c.as_bytes.result.now =
+    omega (arith, told, c.digit.ensures.value, c.digit-in-len4.ensures.value, c.digit-in-len4-2.ensures.value, c.digit-in-len4-3.ensures.value) in
+    subst (λ bs. 4096 * c.digit.result + 256 * c.digit-in-len4.result + 16 * c.digit-in-len4-2.result + c.digit-in-len4-3.result ≡
+    number_of_four bs) (c.as_bytes.ensures.value ∙ sym (encodes-chars c.args.digits.now c.utf8.digits)) sum
 
 pub returns-in_default-clause-value : goal.returns-in_default-clause-value
 returns-in_default-clause-value c =

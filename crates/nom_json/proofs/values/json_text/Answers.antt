@@ -9,7 +9,8 @@ pub returns-in_err-behind : goal.returns-in_err-behind
 returns-in_err-behind c = value_stops (json_of c.args.depth) refl (err_from_residual c.from_residual.ensures) c.in_err-behind.ensures
 
 pub returns-in_err-rest : goal.returns-in_err-rest
-returns-in_err-rest c = end_stops (json_of c.args.depth) (taken refl c.in_ok-behind.ensures) refl (err_from_residual c.from_residual-in_err-rest.ensures) c.in_err-rest.ensures
+returns-in_err-rest c = end_stops (json_of c.args.depth)
+    (taken refl c.in_ok-behind.ensures) refl (err_from_residual c.from_residual-in_err-rest.ensures) c.in_err-rest.ensures
 
 pub returns : goal.returns
 returns c = told refl (ended (json_of c.args.depth) (taken refl c.in_ok-behind.ensures) (taken refl c.in_ok-rest.ensures))
