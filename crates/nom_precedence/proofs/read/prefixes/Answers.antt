@@ -15,7 +15,8 @@ use Rattle.nom_precedence.proofs.read.prefixes.Goals as goal
 pub loop-next-init : goal.loop-next-init
 loop-next-init g c = record {
   state_kept = refl;
-  collected = collected_none g.met.I.Items.lawful c.known.ensures (λ _. subst (λ z. AllZip (g.F.Parser.IsOutput (g.F.Parser.state c.args.parser.now)) [] z) (sym c.requires.empty) tt);
+  collected = collected_none g.met.I.Items.lawful c.known.ensures
+      (λ _. subst (λ z. AllZip (g.F.Parser.IsOutput (g.F.Parser.state c.args.parser.now)) [] z) (sym c.requires.empty) tt);
 }
 
 pub returns-then-input_len-clause-shown : goal.returns-then-input_len-clause-shown
