@@ -46,7 +46,7 @@ fn values(rt: HostRuntime) {
 #[test]
 fn an_input_that_ends(rt: HostRuntime) {
     let found = digits::<_, Error<&str>>(rt.alloc(), Assoc::Left, "1-2");
-    let needs = Told::Needs(Needed::Unknown);
+    let needs = Told::Needs(Needed::new(1));
     assert!(rt; found.streaming == needs.in_modes());
     assert!(rt; found.complete == value(0, -1).in_modes());
 }

@@ -79,7 +79,7 @@ where
     requires { (F.meaning (F.state operand)).IsSound }
 {
     let levels = levels(last);
-    let operator = one_of("^*-?").map(leveled);
+    let operator = alt([char('^'), char('*'), char('-'), char('?')]).map(leveled);
     let none = fail::<_, char, _>();
     in_both(
         precedence(
@@ -110,7 +110,7 @@ pub fn bracketed<'a, A: Allocator + Copy, E: ParseError<&'a str> + Tells>(
     input: &'a str,
 ) -> Both {
     let levels = levels(Assoc::Left);
-    let operator = one_of("^*-?").map(leveled);
+    let operator = alt([char('^'), char('*'), char('-'), char('?')]).map(leveled);
     let inner = one_of("0123456789").map(digit);
     let none = fail::<_, char, _>();
     or_brackets::<_, E, _>(

@@ -27,16 +27,19 @@ fn times_refused(alloc: Global, input: &str, value: i64) -> Result<Option<usize>
     Ok(if sufficed { Some(refused) } else { None })
 }
 
+// An operator that closes the innermost takes its place: only those that go under another grow the list.
 #[test]
 fn each_growth_refused(rt: HostRuntime) -> Result<(), AllocError> {
     for (input, value, times) in [
         ("7", 7, 0),
-        ("1-2-3-4-5-6-7-8", -34, 1),
+        ("1-2-3-4-5-6-7-8", -34, 0),
+        ("1-2*3", -5, 1),
         ("~~~~~~~~5", 5, 1),
         ("1-2*3^1^1^1^1^1^1^1^1^1^1", -5, 2),
     ] {
         let refused = times_refused(rt.alloc(), input, value)?;
         assert!(rt; refused >= Some(times), "at {input:?}");
+        assert!(rt; times > 0 || refused == Some(0), "at {input:?}");
     }
     Ok(())
 }
