@@ -11,7 +11,7 @@ use std::io::Read;
 /// Gives `step` bytes at a time at the most. The read with the number `fails` fails, and `every` so many is interrupted,
 /// unless these are 0.
 #[derive(Clone, Copy)]
-pub struct Steps<'b> {
+pub struct Pieces<'b> {
     pub left: &'b [u8],
     pub step: usize,
     pub fails: usize,
@@ -20,8 +20,8 @@ pub struct Steps<'b> {
 }
 
 /// So many bytes at a time, and no fault.
-pub fn steps(left: &[u8], step: usize) -> Steps<'_> {
-    Steps {
+pub fn steps(left: &[u8], step: usize) -> Pieces<'_> {
+    Pieces {
         left,
         step,
         fails: 0,
@@ -30,7 +30,7 @@ pub fn steps(left: &[u8], step: usize) -> Steps<'_> {
     }
 }
 
-impl<'b> Read for Steps<'b> {
+impl<'b> Read for Pieces<'b> {
     fn read(&mut self, room: &mut [u8]) -> io::Result<usize> {
         self.reads = self.reads.saturating_add(1);
         if self.reads == self.fails {
@@ -58,7 +58,7 @@ pub fn eager() -> Settings {
 
 /// What a reader gave.
 #[derive(Drop)]
-pub struct All<T> {
+pub struct Given<T> {
     pub items: Vec<T>,
     /// How many bytes they have.
     pub offset: u64,
@@ -75,11 +75,11 @@ pub fn all<R: Read + Drop, A: Allocator + Copy + Drop, G: Grammar>(
     data: &[u8],
     mut stream: Stream<R, A>,
     grammar: &mut G,
-) -> All<G::Item>
+) -> Given<G::Item>
     requires sound { (G.meaning (G.state grammar.old)).IsSound }
     requires open { IsOpen R.remaining stream }
 {
-    let mut all = All {
+    let mut all = Given {
         items: Vec::new(alloc),
         offset: 0,
         held: 0,

@@ -1,6 +1,6 @@
 //! The items are those of the whole, however its bytes come.
 
-use crate::tests::reader::{Steps, all, eager, steps};
+use crate::tests::reader::{Pieces, all, eager, steps};
 use nom_stream::settings::Settings;
 use nom_stream::stream::{Stop, Stream};
 use nom_stream_grammars::messages::{Messages, Received};
@@ -27,7 +27,7 @@ fn the_items_are_those_of_the_whole(rt: HostRuntime) {
         for read in [0usize, 1, 4, 4096] {
             for patient in [false, true] {
                 for every in [0usize, 2] {
-                    let source = Steps {
+                    let source = Pieces {
                         every,
                         ..steps(DATA, step)
                     };
@@ -51,7 +51,7 @@ fn the_items_are_those_of_the_whole(rt: HostRuntime) {
 #[test]
 fn a_read_that_fails_loses_nothing(rt: HostRuntime) {
     for fails in 1..44usize {
-        let source = Steps {
+        let source = Pieces {
             fails,
             ..steps(DATA, 1)
         };
