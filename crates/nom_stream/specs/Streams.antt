@@ -1,5 +1,6 @@
 -- Items of a reader.
-use Rattle.std.specs.Prelude.{◌≡◌, ℕ, zero, suc, ◌+◌, ◌-◌, ◌^◌, ◌<◌, ◌≤◌, min, Bool, true, false, List, [], ◌++◌, length, Option, Some, None, Result, Ok, Err, vec_len}
+use Rattle.std.specs.Prelude.{◌≡◌, ℕ, zero, suc, ◌+◌, ◌-◌, ◌^◌, ◌<◌, ◌≤◌, min, Bool, true, false}
+use Rattle.std.specs.Prelude.{List, [], ◌++◌, length, Option, Some, None, Result, Ok, Err, vec_len}
 use Rattle.std.specs.Io.KnownBytes.{Consumes, IsAtEnd}
 use Rattle.nom_error.specs.declared.answer.Needed.{Needed}
 use Rattle.nom_error.specs.declared.value.Error.{Error}
@@ -84,18 +85,21 @@ module _ {R A V O : Type 0} (IsItem : V → O → Type 0) (m : Meaning Bytes V (
     -- the data ended within an item
     Within : 0 < length (held_of s.held) → s.settings.complete ≡ false → held_of t.held ≡ held_of s.held → r ≡ Err (Stop.Incomplete k) → Ends k r
     -- or what is held is parsed as a complete input
-    Completed : 0 < length (held_of s.held) → s.settings.complete ≡ true → (taken : Taken O) → Takes IsItem m false (held_of s.held) (held_of t.held) taken → HoldsLast (held_of s.held) t.held taken → Tells taken r → Ends k r
+    Completed : 0 < length (held_of s.held) → s.settings.complete ≡ true → (taken : Taken O) → Takes IsItem m false (held_of s.held) (held_of t.held) taken →
+        HoldsLast (held_of s.held) t.held taken → Tells taken r → Ends k r
 
   -- what is told of what is held
   pub data Answers (r : Told O) : Type 0 where
     -- it is decided
-    Decided : (taken : Taken O) → (IsUndecided taken → ⊥) → Takes IsItem m true (held_of s.held) (held_of t.held) taken → HoldsLast (held_of s.held) t.held taken → Tells taken r → Answers r
+    Decided : (taken : Taken O) → (IsUndecided taken → ⊥) → Takes IsItem m true (held_of s.held) (held_of t.held) taken →
+        HoldsLast (held_of s.held) t.held taken → Tells taken r → Answers r
     -- the reader is at its end
     AtEnd : s.ended ≡ true → (k : Needed) → Takes IsItem m true (held_of s.held) (held_of s.held) (Took.Undecided k) → Ends k r → Answers r
     -- as many bytes are held as may be, and don't decide
     Full : s.settings.most ≤ length (held_of s.held) → held_of t.held ≡ held_of s.held → Waits IsItem m (held_of s.held) → r ≡ Err Stop.TooLong → Answers r
     -- it wasn't decided by the bytes before the last ones, and more couldn't be read
-    Unfilled : (why : Unread) → held_of t.held ≡ held_of s.held → (before last : List ℕ) → held_of s.held ≡ before ++ last → Waits IsItem m before → r ≡ Err (stop_of why) → Answers r
+    Unfilled : (why : Unread) → held_of t.held ≡ held_of s.held → (before last : List ℕ) → held_of s.held ≡ before ++ last → Waits IsItem m before →
+        r ≡ Err (stop_of why) → Answers r
 
 module _ {R A V O : Type 0} (left : R → Option (List ℕ)) (IsItem : V → O → Type 0) (m : Meaning Bytes V (Error Bytes)) (s t : Stream R A) where
   -- bytes were read as they were needed
@@ -105,7 +109,8 @@ module _ {R A V O : Type 0} (left : R → Option (List ℕ)) (IsItem : V → O �
     pub as_needed : ReadAsNeeded IsItem m s t given
 
 -- One answer: some bytes were read, as they were needed, and of what is held then an answer is told.
-pub record Decides {R A V O : Type 0} (left : R → Option (List ℕ)) (IsItem : V → O → Type 0) (m : Meaning Bytes V (Error Bytes)) (s t : Stream R A) (r : Told O) : Type 0 where
+pub record Decides {R A V O : Type 0} (left : R → Option (List ℕ)) (IsItem : V → O →
+    Type 0) (m : Meaning Bytes V (Error Bytes)) (s t : Stream R A) (r : Told O) : Type 0 where
   -- the stream as it stood then
   pub filled : Stream R A
   pub reads : Reads left IsItem m s filled

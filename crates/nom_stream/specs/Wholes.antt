@@ -96,5 +96,7 @@ module _ (A : Type 0) {R V O : Type 0} (left : R → Option (List ℕ)) (IsItem 
   -- where calls between them gave none.
   abbrev pub ItemsOfWhole : Type 0
   ItemsOfWhole =
-      (s t : Stream R A) (rs : List (Told O)) → Calls left IsItem m rs s t → (whole : Bytes) → seen_bytes.IsKnown whole → HasLeft left s whole.now → s.offset ≤ 2 ^ 64 - 1 →
-      (limit : ℕ) (trees : List V) → AreItems seen_bytes (AtWhole m s.settings.complete) (length (items_of rs) + limit) whole trees → AreOfWhole left IsItem m s t rs whole limit trees
+      (s t : Stream R A) (rs : List (Told O)) → Calls left IsItem m rs s t → (whole : Bytes) → seen_bytes.IsKnown whole → HasLeft left s whole.now →
+      s.offset ≤ 2 ^ 64 - 1 →
+      (limit : ℕ) (trees : List V) → AreItems seen_bytes (AtWhole m s.settings.complete) (length (items_of rs) + limit) whole trees →
+      AreOfWhole left IsItem m s t rs whole limit trees

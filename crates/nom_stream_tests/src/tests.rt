@@ -1,0 +1,6 @@
+//! Items by readers that give few bytes at a time, that fail, and that end early.
+
+mod ends;
+mod memory;
+mod reader;
+mod wholes;

@@ -1,0 +1,35 @@
+//! Want of memory.
+
+use crate::tests::reader::{all, eager, steps};
+use crate::tests::wholes::{DATA, MESSAGES};
+use linked_list_allocator::LocalHeap;
+use nom_stream::stream::{Stop, Stream};
+use nom_stream_grammars::messages::Messages;
+use std::alloc::AllocError;
+
+/// Heaps of each size up to one that suffices: each growth of the buffer and of the room of a read is refused in turn.
+/// Each time the answer is want of memory, and the items before it are right.
+#[test]
+fn each_growth_refused(rt: HostRuntime) -> Result<(), AllocError> {
+    let mut refused = 0usize;
+    let mut accepted = false;
+    for units in 1..20usize {
+        let heap = LocalHeap::new(rt.alloc(), units * 16)?;
+        let stream = Stream::new(&heap, steps(DATA, 5), eager());
+        let got = all(rt.alloc(), DATA, stream, &mut Messages);
+        match got.stop {
+            Some(Stop::OutOfMemory) => {
+                refused = refused.saturating_add(1);
+                assert!(rt; !accepted);
+                assert!(rt; MESSAGES.starts_with(&got.items));
+            }
+            _ => {
+                accepted = true;
+                assert!(rt; got.stop.is_none());
+                assert!(rt; got.items.as_slice() == MESSAGES.as_slice());
+            }
+        }
+    }
+    assert!(rt; refused > 2 && accepted);
+    Ok(())
+}
