@@ -1,5 +1,6 @@
 -- The items that calls give are those of the whole.
-use Rattle.std.proofs.Common.{arith, ◌≡◌, ℕ, suc, ◌+◌, ◌-◌, ◌^◌, ◌≤◌, min, Bool, List, [], ◌∷◌, ◌++◌, length, Option, Some, None, Ok, Err, refl, sym, ◌∙◌, ap, subst}
+use Rattle.std.proofs.Common.{arith, ◌≡◌, ℕ, suc, ◌+◌, ◌-◌, ◌^◌, ◌≤◌, min, Bool, List, [], ◌∷◌, ◌++◌, length, Option, Some, None, Ok, Err, refl, sym}
+use Rattle.std.proofs.Common.{◌∙◌, ap, subst}
 use Rattle.std.specs.List.{AllZip}
 use Rattle.nom_error.specs.declared.value.Error.{Error}
 use Rattle.nom_traits.specs.Bytes.{seen_bytes, bytes_lawful}
@@ -20,13 +21,16 @@ AllItems m complete = AreItems seen_bytes (AtWhole m complete)
 
 module _ {R A V O : Type 0} (left : R → Option (List ℕ)) (IsItem : V → O → Type 0) (m : Meaning Bytes V (Error Bytes)) where
   -- after an answer that gave no item the same bytes are left
-  still_left : (s t : Stream R A) (r : Told O) (whole : Bytes) → used_of r ≡ 0 → Decides left IsItem m s t r → HasLeft left s whole.now → HasLeft left t whole.now
+  still_left : (s t : Stream R A) (r : Told O) (whole : Bytes) → used_of r ≡ 0 → Decides left IsItem m s t r → HasLeft left s whole.now →
+      HasLeft left t whole.now
   still_left s t r whole none d has =
       let l = left_after left IsItem m s t r whole.now d has in
       let front : l.0 ≡ [] = nil_of l.0 (l.1 ∙ none) in
       subst (HasLeft left t) (sym (l.2.2 ∙ ap (λ z. z ++ l.2.0) front)) l.2.1
 
-  skip : (s u t : Stream R A) (r : Told O) (rs : List (Told O)) (whole : Bytes) (limit : ℕ) (trees : List V) → used_of r ≡ 0 → counted s.offset r ≡ s.offset → items_of (r ∷ rs) ≡ items_of rs → Decides left IsItem m s u r → AreOfWhole left IsItem m u t rs whole limit trees → AreOfWhole left IsItem m s t (r ∷ rs) whole limit trees
+  skip : (s u t : Stream R A) (r : Told O) (rs : List (Told O)) (whole : Bytes) (limit : ℕ) (trees : List V) → used_of r ≡ 0 →
+      counted s.offset r ≡ s.offset → items_of (r ∷ rs) ≡ items_of rs → Decides left IsItem m s u r →
+      AreOfWhole left IsItem m u t rs whole limit trees → AreOfWhole left IsItem m s t (r ∷ rs) whole limit trees
   skip s u t r rs whole limit trees none count same d k =
       let total : used_by rs ≡ used_by (r ∷ rs) = omega (arith, none) in
       record {
@@ -45,7 +49,8 @@ module _ {R A V O : Type 0} (left : R → Option (List ℕ)) (IsItem : V → O �
   abbrev AreSo : Stream R A → Stream R A → List (Told O) → Type 0
   AreSo s t rs =
       (whole : Bytes) → seen_bytes.IsKnown whole → HasLeft left s whole.now → s.offset ≤ 2 ^ 64 - 1 →
-      (limit : ℕ) (trees : List V) → AllItems m s.settings.complete (length (items_of rs) + limit) whole trees → AreOfWhole left IsItem m s t rs whole limit trees
+      (limit : ℕ) (trees : List V) → AllItems m s.settings.complete (length (items_of rs) + limit) whole trees →
+      AreOfWhole left IsItem m s t rs whole limit trees
 
   -- an item before those that follow
   prepend : (s u t : Stream R A) (n : ℕ) (o : O) (rs : List (Told O)) (whole next : Bytes) (size limit : ℕ) (v : V) (vs : List V) →
@@ -67,8 +72,10 @@ module _ {R A V O : Type 0} (left : R → Option (List ℕ)) (IsItem : V → O �
         settings = k.settings ∙ d.settings.1;
       }
 
-  item_first : (s u t : Stream R A) (n : ℕ) (o : O) (rs : List (Told O)) → Decides left IsItem m s u (Ok (Some (n, o))) → AreSo u t rs → (whole : Bytes) → seen_bytes.IsKnown whole → HasLeft left s whole.now → s.offset ≤ 2 ^ 64 - 1 →
-      (limit : ℕ) (trees : List V) → AllItems m s.settings.complete (suc (length (items_of rs) + limit)) whole trees → AreOfWhole left IsItem m s t (Ok (Some (n, o)) ∷ rs) whole limit trees
+  item_first : (s u t : Stream R A) (n : ℕ) (o : O) (rs : List (Told O)) → Decides left IsItem m s u (Ok (Some (n, o))) → AreSo u t rs →
+      (whole : Bytes) → seen_bytes.IsKnown whole → HasLeft left s whole.now → s.offset ≤ 2 ^ 64 - 1 →
+      (limit : ℕ) (trees : List V) → AllItems m s.settings.complete (suc (length (items_of rs) + limit)) whole trees →
+      AreOfWhole left IsItem m s t (Ok (Some (n, o)) ∷ rs) whole limit trees
   item_first s u t n o rs d others whole known has low limit [] a =
       let told = answers_whole left IsItem m s u (Ok (Some (n, o))) d whole known has a.0 a.1 in
       absurd (subst Ends (sym told.2) a.2)
@@ -80,11 +87,13 @@ module _ {R A V O : Type 0} (left : R → Option (List ℕ)) (IsItem : V → O �
       let tree : told.0 ≡ v = cc (told.2) in
       let count : n ≡ size = cc (told.2) in
       let l = left_after left IsItem m s u (Ok (Some (n, o))) whole.now d has in
-      let cut = same_cut (λ (b : ℕ). 1) (λ b. omega arith) l.0 l.2.0 rest.front next.now (sym l.2.2 ∙ rest.whole) (span-ones l.0 ∙ l.1 ∙ count ∙ sym rest.length_is) in
+      let cut = same_cut (λ (b : ℕ). 1) (λ b. omega arith) l.0 l.2.0 rest.front next.now (sym l.2.2 ∙ rest.whole)
+      (span-ones l.0 ∙ l.1 ∙ count ∙ sym rest.length_is) in
       let then : HasLeft left u next.now = subst (HasLeft left u) cut.1 l.2.1 in
       let counts : u.offset ≡ min (s.offset + n) (2 ^ 64 - 1) = d.offset in
       prepend s u t n o rs whole next size limit v vs d count (subst (λ z. IsItem z o) tree told.1) rest
-      (others next rest.known then (omega (arith, counts)) limit vs (subst (λ z. AllItems m z.complete (length (items_of rs) + limit) next vs) (sym d.settings.1) a.4))
+      (others next rest.known then (omega (arith, counts)) limit vs
+      (subst (λ z. AllItems m z.complete (length (items_of rs) + limit) next vs) (sym d.settings.1) a.4))
 
   are_so : (rs : List (Told O)) (s t : Stream R A) → Calls left IsItem m rs s t → AreSo s t rs
   are_so [] s t e whole known has low limit trees a =
@@ -107,11 +116,15 @@ module _ {R A V O : Type 0} (left : R → Option (List ℕ)) (IsItem : V → O �
   are_so (Ok None ∷ rs) s t h whole known has low limit trees a =
       let d = h.1 in
       let counts : (h.0).offset ≡ s.offset = d.offset in
-      skip s h.0 t (Ok None) rs whole limit trees refl refl refl d (are_so rs h.0 t h.2 whole known (still_left s h.0 (Ok None) whole refl d has) (omega (arith, low, counts)) limit trees (subst (λ z. AllItems m z.complete (length (items_of rs) + limit) whole trees) (sym d.settings.1) a))
+      skip s h.0 t (Ok None) rs whole limit trees refl refl refl d
+      (are_so rs h.0 t h.2 whole known (still_left s h.0 (Ok None) whole refl d has)
+      (omega (arith, low, counts)) limit trees (subst (λ z. AllItems m z.complete (length (items_of rs) + limit) whole trees) (sym d.settings.1) a))
   are_so (Err e ∷ rs) s t h whole known has low limit trees a =
       let d = h.1 in
       let counts : (h.0).offset ≡ s.offset = d.offset in
-      skip s h.0 t (Err e) rs whole limit trees refl refl refl d (are_so rs h.0 t h.2 whole known (still_left s h.0 (Err e) whole refl d has) (omega (arith, low, counts)) limit trees (subst (λ z. AllItems m z.complete (length (items_of rs) + limit) whole trees) (sym d.settings.1) a))
+      skip s h.0 t (Err e) rs whole limit trees refl refl refl d
+      (are_so rs h.0 t h.2 whole known (still_left s h.0 (Err e) whole refl d has)
+      (omega (arith, low, counts)) limit trees (subst (λ z. AllItems m z.complete (length (items_of rs) + limit) whole trees) (sym d.settings.1) a))
 
   pub items_whole : ItemsOfWhole A left IsItem m
   items_whole s t rs h = are_so rs s t h

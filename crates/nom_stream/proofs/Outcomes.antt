@@ -1,5 +1,6 @@
 -- The outcome that stands behind what was taken.
-use Rattle.std.proofs.Common.{arith, ◌≡◌, ℕ, zero, suc, ◌+◌, Bool, List, [], ◌∷◌, ◌++◌, length, Ok, Err, refl, sym, ◌∙◌, ap, subst, length-append, ◌⊎◌, inl, inr}
+use Rattle.std.proofs.Common.{arith, ◌≡◌, ℕ, zero, suc, ◌+◌, Bool, List, [], ◌∷◌, ◌++◌, length, Ok, Err, refl, sym, ◌∙◌, ap, subst, length-append}
+use Rattle.std.proofs.Common.{◌⊎◌, inl, inr}
 use Rattle.nom_error.specs.Answers.{size_of}
 use Rattle.nom_error.specs.declared.answer.Needed.{Needed}
 use Rattle.nom_error.specs.declared.answer.Err.TheVariants as Stop
@@ -29,7 +30,8 @@ module _ {V O : Type 0} (IsItem : V → O → Type 0) (m : Meaning Bytes V (Erro
     pub rest : IsRest seen_bytes x size j
     pub item : IsItem tree o
 
-  accepts_of : (j : Bytes) (o : O) (p : Outcome V) → m.answers more x p → Parses {E = Error Bytes} seen_bytes IsItem x (m.blames more x) p (Ok (j, o)) → Accepts j o
+  accepts_of : (j : Bytes) (o : O) (p : Outcome V) → m.answers more x p →
+      Parses {E = Error Bytes} seen_bytes IsItem x (m.blames more x) p (Ok (j, o)) → Accepts j o
   accepts_of j o (Accept n v) a h =
       let both : ◌≡◌ {A = Bytes × O} (h.0, h.1) (j, o) = cc (h.4) in
       let place : h.0 ≡ j = ap (λ (z : Bytes × O). z.0) both in
@@ -44,7 +46,8 @@ module _ {V O : Type 0} (IsItem : V → O → Type 0) (m : Meaning Bytes V (Erro
   accepts j o (ParseRanOut e r) = absurd (cc (e))
   accepts j o (Parsed p a h) = accepts_of j o p a h
 
-  lacks_of : (k : Needed) (p : Outcome V) → m.answers more x p → Parses {E = Error Bytes} seen_bytes IsItem x (m.blames more x) p (Err (Stop.Incomplete k)) → m.answers more x (Undecided (size_of k))
+  lacks_of : (k : Needed) (p : Outcome V) → m.answers more x p →
+      Parses {E = Error Bytes} seen_bytes IsItem x (m.blames more x) p (Err (Stop.Incomplete k)) → m.answers more x (Undecided (size_of k))
   lacks_of k (Accept n v) a h = absurd (cc (h.4))
   lacks_of k Refuse a h = absurd (cc (h.2))
   lacks_of k Fail a h = absurd (cc (h.2))
@@ -57,7 +60,8 @@ module _ {V O : Type 0} (IsItem : V → O → Type 0) (m : Meaning Bytes V (Erro
   lacks k (ParseRanOut e r) = absurd (cc (e))
   lacks k (Parsed p a h) = lacks_of k p a h
 
-  refuses_of : (e : Error Bytes) (p : Outcome V) → m.answers more x p → Parses {E = Error Bytes} seen_bytes IsItem x (m.blames more x) p (Err (Stop.Error e)) → m.answers more x Refuse
+  refuses_of : (e : Error Bytes) (p : Outcome V) → m.answers more x p →
+      Parses {E = Error Bytes} seen_bytes IsItem x (m.blames more x) p (Err (Stop.Error e)) → m.answers more x Refuse
   refuses_of e (Accept n v) a h = absurd (cc (h.4))
   refuses_of e Refuse a h = a
   refuses_of e Fail a h = absurd (cc (h.2))
@@ -71,7 +75,8 @@ module _ {V O : Type 0} (IsItem : V → O → Type 0) (m : Meaning Bytes V (Erro
   abbrev Fails : Type 0
   Fails = m.answers more x Fail ⊎ m.answers more x TooLarge
 
-  fails_of : (e : Error Bytes) (p : Outcome V) → m.answers more x p → Parses {E = Error Bytes} seen_bytes IsItem x (m.blames more x) p (Err (Stop.Failure e)) → Fails
+  fails_of : (e : Error Bytes) (p : Outcome V) → m.answers more x p →
+      Parses {E = Error Bytes} seen_bytes IsItem x (m.blames more x) p (Err (Stop.Failure e)) → Fails
   fails_of e (Accept n v) a h = absurd (cc (h.4))
   fails_of e Refuse a h = absurd (cc (h.2))
   fails_of e Fail a h = inl a
@@ -117,5 +122,6 @@ module _ {V O : Type 0} (IsItem : V → O → Type 0) (m : Meaning Bytes V (Erro
   by_answer new (Err (Stop.Failure e)) r p h = subst (Means new) (sym h.1) (fails e p, h.0)
   by_answer new (Err Stop.OutOfMemory) r p h = subst (Means new) (sym h.1) h.0
 
-pub meant : {V O : Type 0} (IsItem : V → O → Type 0) (m : Meaning Bytes V (Error Bytes)) (more : Bool) (old new : List ℕ) (r : Taken O) → (t : Takes IsItem m more old new r) → Means IsItem m more t.input new r
+pub meant : {V O : Type 0} (IsItem : V → O → Type 0) (m : Meaning Bytes V (Error Bytes)) (more : Bool) (old new : List ℕ) (r : Taken O) →
+    (t : Takes IsItem m more old new r) → Means IsItem m more t.input new r
 meant IsItem m more old new r t = by_answer IsItem m more t.input new t.answer r t.parses.shown t.took

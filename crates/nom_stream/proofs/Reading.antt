@@ -1,5 +1,6 @@
 -- What is read over several reads.
-use Rattle.std.proofs.Common.{arith, ◌≡◌, ℕ, ◌<◌, Bool, true, false, List, [], ◌++◌, Option, Some, None, Result, Ok, Err, refl, sym, ◌∙◌, ap, subst, append_assoc, append-nil, ◌⊎◌, inl, inr, take}
+use Rattle.std.proofs.Common.{arith, ◌≡◌, ℕ, ◌<◌, Bool, true, false, List, [], ◌++◌, Option, Some, None, Result, Ok, Err, refl, sym, ◌∙◌, ap, subst}
+use Rattle.std.proofs.Common.{append_assoc, append-nil, ◌⊎◌, inl, inr, take}
 use Rattle.std.specs.Io.KnownBytes.{Consumes, Keeps, ReadConsumes}
 use Rattle.nom_stream.specs.declared.stream.Stream.{Stream}
 use Rattle.nom_stream.specs.Held.{held_of}
@@ -55,14 +56,16 @@ module _ {R A : Type 0} (left : R → Option (List ℕ)) where
   }
 
   -- more was read
-  pub gives_more : (s u w t : Stream R A) (xs ys : List ℕ) → Gives left s u xs → w.source ≡ u.source → held_of w.held ≡ held_of u.held → Gives left w t ys → Gives left s t (xs ++ ys)
+  pub gives_more : (s u w t : Stream R A) (xs ys : List ℕ) → Gives left s u xs → w.source ≡ u.source → held_of w.held ≡ held_of u.held →
+      Gives left w t ys → Gives left s t (xs ++ ys)
   gives_more s u w t xs ys f e h g = record {
     consumed = consumes_more (left s.source) (left u.source) (left t.source) xs ys f.consumed (subst (λ z. Consumes (left z) (left t.source) ys) e g.consumed);
     added = g.added ∙ ap (λ z. z ++ ys) (h ∙ f.added) ∙ append_assoc (held_of s.held) xs ys;
   }
 
 -- at the end there is no further turn, and where more is held there is one less
-pub fewer_turns : (ended : Bool) (most before after : ℕ) → before < most → (ended ≡ true) ⊎ (before < after) → turns_left ended most after < turns_left false most before
+pub fewer_turns : (ended : Bool) (most before after : ℕ) → before < most → (ended ≡ true) ⊎ (before < after) →
+    turns_left ended most after < turns_left false most before
 fewer_turns true most before after b p = omega arith
 fewer_turns false most before after b (inl e) = absurd (cc (e))
 fewer_turns false most before after b (inr h) = omega (arith, b, h)

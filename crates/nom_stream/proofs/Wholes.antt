@@ -1,5 +1,6 @@
 -- One answer is that of the whole.
-use Rattle.std.proofs.Common.{◌≡◌, ℕ, ◌≤◌, Bool, true, false, List, [], ◌++◌, length, Option, Some, None, Err, refl, sym, ◌∙◌, ap, subst, append_assoc, append-nil, ◌⊎◌, inl, inr}
+use Rattle.std.proofs.Common.{◌≡◌, ℕ, ◌≤◌, Bool, true, false, List, [], ◌++◌, length, Option, Some, None, Err, refl, sym, ◌∙◌, ap, subst}
+use Rattle.std.proofs.Common.{append_assoc, append-nil, ◌⊎◌, inl, inr}
 use Rattle.std.specs.Io.KnownBytes.{Consumes, IsAtEnd}
 use Rattle.nom_error.specs.Answers.{size_of}
 use Rattle.nom_error.specs.declared.answer.Needed.{Needed}
@@ -36,12 +37,14 @@ module _ {R A : Type 0} (left : R → Option (List ℕ)) where
       let c = consumes_known (left s.source) (left u.source) h.0 given h.1 g.consumed in
       (c.0, c.1, h.2 ∙ ap (λ z. held_of s.held ++ z) c.2 ∙ sym (append_assoc (held_of s.held) given c.0) ∙ ap (λ z. z ++ c.0) (sym g.added))
 
-module _ {V : Type 0} (m : Meaning Bytes V (Error Bytes)) (lawful : IsLawful seen_bytes m) (x i : Bytes) (kx : seen_bytes.IsKnown x) (ki : seen_bytes.IsKnown i) where
+module _ {V : Type 0} (m : Meaning Bytes V (Error Bytes)) (lawful : IsLawful seen_bytes m) (x i : Bytes) (kx : seen_bytes.IsKnown x)
+    (ki : seen_bytes.IsKnown i) where
   abbrev Steady : Type 0
   Steady = IsSteady seen_bytes m
 
   -- what is decided on a beginning is the outcome at the whole
-  decided : (steady : Steady) (more : List ℕ) → i.now ≡ x.now ++ more → (complete : Bool) (o p : Outcome V) → m.answers true x o → IsDecided o → AtWhole m complete i p → o ≡ p
+  decided : (steady : Steady) (more : List ℕ) → i.now ≡ x.now ++ more → (complete : Bool) (o p : Outcome V) → m.answers true x o → IsDecided o →
+      AtWhole m complete i p → o ≡ p
   decided steady more e false o p a d b = steady x i o p kx ki (record { more = more; added = tt; whole = e; mark_is = refl }) a d b
   decided steady more e true o p a d (inl b) = steady x i o p kx ki (record { more = more; added = tt; whole = e; mark_is = refl }) a d b.0
   decided steady more e true o p a d (inr b) =
@@ -49,12 +52,14 @@ module _ {V : Type 0} (m : Meaning Bytes V (Error Bytes)) (lawful : IsLawful see
       absurd (subst IsDecided same d)
 
   -- where all of the whole leaves more needed, that is its outcome, unless it is asked for as a complete input
-  lacking : i.now ≡ x.now → (complete : Bool) → complete ≡ false → (k : Option ℕ) (p : Outcome V) → m.answers true x (Undecided k) → AtWhole m complete i p → Undecided k ≡ p
+  lacking : i.now ≡ x.now → (complete : Bool) → complete ≡ false → (k : Option ℕ) (p : Outcome V) → m.answers true x (Undecided k) →
+      AtWhole m complete i p → Undecided k ≡ p
   lacking e false f k p a b = lawful.one_outcome true x i (Undecided k) p kx ki (record { elements_are = sym e; mark_is = refl }) a tt b
   lacking e true f k p a b = absurd (cc (f))
 
   -- and then it is the complete one
-  completed : i.now ≡ x.now → (complete : Bool) → complete ≡ true → (y : Bytes) → seen_bytes.IsKnown y → i.now ≡ y.now → (k : Option ℕ) (o p : Outcome V) → m.answers true x (Undecided k) → m.answers false y o → AtWhole m complete i p → o ≡ p
+  completed : i.now ≡ x.now → (complete : Bool) → complete ≡ true → (y : Bytes) → seen_bytes.IsKnown y → i.now ≡ y.now →
+      (k : Option ℕ) (o p : Outcome V) → m.answers true x (Undecided k) → m.answers false y o → AtWhole m complete i p → o ≡ p
   completed e false f y ky d k o p a c b = absurd (cc (f))
   completed e true f y ky d k o p a c (inl b) =
       let same : Undecided k ≡ p = lawful.one_outcome true x i (Undecided k) p kx ki (record { elements_are = sym e; mark_is = refl }) a tt b.0 in
@@ -70,12 +75,14 @@ module _ {R A V O : Type 0} (IsItem : V → O → Type 0) (m : Meaning Bytes V (
   Tellings r = TellsWhole IsItem m t r i p
 
   -- of a parse that decides: its outcome is that of the whole
-  module _ (more : Bool) (x : Bytes) (same : (o : Outcome V) → m.answers more x o → (more ≡ true → IsDecided o) → o ≡ p) (large : m.answers more x TooLarge → Fails m i p) where
+  module _ (more : Bool) (x : Bytes) (same : (o : Outcome V) → m.answers more x o → (more ≡ true → IsDecided o) → o ≡ p)
+      (large : m.answers more x TooLarge → Fails m i p) where
     tells_failure : (m.answers more x Fail ⊎ m.answers more x TooLarge) → Fails m i p
     tells_failure (inl a) = inl (sym (same Fail a (λ _. tt)))
     tells_failure (inr a) = large a
 
-    tells : (held : (more ≡ true → ⊥) → held_of t.held ≡ x.now → held_of t.held ≡ i.now) (taken : Taken O) → (more ≡ true → IsUndecided taken → ⊥) → Means IsItem m more x (held_of t.held) taken → (r : Told O) → Tells taken r → Tellings r
+    tells : (held : (more ≡ true → ⊥) → held_of t.held ≡ x.now → held_of t.held ≡ i.now) (taken : Taken O) →
+        (more ≡ true → IsUndecided taken → ⊥) → Means IsItem m more x (held_of t.held) taken → (r : Told O) → Tells taken r → Tellings r
     tells held (Took.Item n o) d h r e = subst Tellings (sym e) (h.0, h.1, same (Accept n h.0) h.2 (λ _. tt))
     tells held Took.Nothing d h r e = subst Tellings (sym e) ((h.0).0, same (Accept 0 (h.0).0) (h.0).1 (λ _. tt))
     tells held (Took.Undecided k) d h r e = subst Tellings (sym e) (held (λ f. d f tt) h.1, same (Undecided (size_of k)) h.0 (λ f. absurd (d f tt)))
@@ -117,18 +124,23 @@ module _ {R A V O : Type 0} (IsItem : V → O → Type 0) (m : Meaning Bytes V (
   moves_answer u r (Full a b w e) = stays (held_of u.held) r (ap used_of e) b
   moves_answer u r (Unfilled why b before last d w e) = stays (held_of u.held) r (ap used_of e ∙ unread_used why) b
 
-module _ {R A V O : Type 0} (left : R → Option (List ℕ)) (IsItem : V → O → Type 0) (m : Meaning Bytes V (Error Bytes)) (u t : Stream R A) (opened : IsOpen left u) (same_source : t.source ≡ u.source) (same_settings : t.settings ≡ u.settings) (i : Bytes) (ki : seen_bytes.IsKnown i) (has : HasLeft left u i.now) (p : Outcome V) (b : AtWhole m u.settings.complete i p) where
+module _ {R A V O : Type 0} (left : R → Option (List ℕ)) (IsItem : V → O → Type 0) (m : Meaning Bytes V (Error Bytes)) (u t : Stream R A)
+    (opened : IsOpen left u) (same_source : t.source ≡ u.source) (same_settings : t.settings ≡ u.settings) (i : Bytes) (ki : seen_bytes.IsKnown i)
+    (has : HasLeft left u i.now) (p : Outcome V) (b : AtWhole m u.settings.complete i p) where
   at_end : u.ended ≡ true → i.now ≡ held_of u.held
   at_end e = has.2 ∙ ap (λ z. held_of u.held ++ z) (end_known (left u.source) has.0 has.1 (opened.at_end e)) ∙ append-nil (held_of u.held)
 
-  of_decided : (taken : Taken O) (r : Told O) → (IsUndecided taken → ⊥) → Takes IsItem m true (held_of u.held) (held_of t.held) taken → Tells taken r → TellsWhole IsItem m t r i p
+  of_decided : (taken : Taken O) (r : Told O) → (IsUndecided taken → ⊥) → Takes IsItem m true (held_of u.held) (held_of t.held) taken →
+      Tells taken r → TellsWhole IsItem m t r i p
   of_decided taken r d g e =
       let x = g.input in
       let longer : i.now ≡ x.now ++ has.0 = has.2 ∙ ap (λ z. z ++ has.0) (sym g.is_held) in
-      tells IsItem m t i p true x (λ o a f. decided m g.parses.lawful x i g.known ki g.parses.steady has.0 longer u.settings.complete o p a (f refl) b) (λ a. inr (inr (x, has.0, longer, a)))
+      tells IsItem m t i p true x (λ o a f. decided m g.parses.lawful x i g.known ki g.parses.steady has.0 longer u.settings.complete o p a
+      (f refl) b) (λ a. inr (inr (x, has.0, longer, a)))
       (λ f. absurd (f refl)) taken (λ _. d) (meant IsItem m true (held_of u.held) (held_of t.held) taken g) r e
 
-  of_ends : u.ended ≡ true → (k : Needed) (r : Told O) → Takes IsItem m true (held_of u.held) (held_of u.held) (Took.Undecided k) → Ends IsItem m u t k r → TellsWhole IsItem m t r i p
+  of_ends : u.ended ≡ true → (k : Needed) (r : Told O) → Takes IsItem m true (held_of u.held) (held_of u.held) (Took.Undecided k) →
+      Ends IsItem m u t k r → TellsWhole IsItem m t r i p
   of_ends ended k r g (Clean a c e) =
       let x = g.input in
       let h = meant IsItem m true (held_of u.held) (held_of u.held) (Took.Undecided k) g in
@@ -138,15 +150,18 @@ module _ {R A V O : Type 0} (left : R → Option (List ℕ)) (IsItem : V → O �
       let x = g.input in
       let h = meant IsItem m true (held_of u.held) (held_of u.held) (Took.Undecided k) g in
       let all : i.now ≡ x.now = at_end ended ∙ sym g.is_held in
-      subst (λ z. TellsWhole IsItem m t z i p) (sym e) (c ∙ sym (at_end ended), lacking m g.parses.lawful x i g.known ki all u.settings.complete a (size_of k) p h.0 b)
+      subst (λ z. TellsWhole IsItem m t z i p) (sym e)
+      (c ∙ sym (at_end ended), lacking m g.parses.lawful x i g.known ki all u.settings.complete a (size_of k) p h.0 b)
   of_ends ended k r g (Completed s a taken q l e) =
       let x = g.input in
       let y = q.input in
       let h = meant IsItem m true (held_of u.held) (held_of u.held) (Took.Undecided k) g in
       let all : i.now ≡ x.now = at_end ended ∙ sym g.is_held in
       let all_too : i.now ≡ y.now = at_end ended ∙ sym q.is_held in
-      let one : (o : Outcome V) → m.answers false y o → o ≡ p = λ o c. completed m g.parses.lawful x i g.known ki all u.settings.complete a y q.known all_too (size_of k) o p h.0 c b in
-      tells IsItem m t i p false y (λ o c f. one o c) (λ c. inr (inl (sym (one TooLarge c)))) (λ f c. c ∙ sym all_too) taken (λ f. absurd (cc (f))) (meant IsItem m false (held_of u.held) (held_of t.held) taken q) r e
+      let one : (o : Outcome V) → m.answers false y o → o ≡ p =
+      λ o c. completed m g.parses.lawful x i g.known ki all u.settings.complete a y q.known all_too (size_of k) o p h.0 c b in
+      tells IsItem m t i p false y (λ o c f. one o c) (λ c. inr (inl (sym (one TooLarge c))))
+      (λ f c. c ∙ sym all_too) taken (λ f. absurd (cc (f))) (meant IsItem m false (held_of u.held) (held_of t.held) taken q) r e
 
   of_unread : (why : Unread) → TellsWhole {O = O} IsItem m t (Err (stop_of why)) i p
   of_unread (Unread.Fault e) = tt
@@ -155,7 +170,8 @@ module _ {R A V O : Type 0} (left : R → Option (List ℕ)) (IsItem : V → O �
   pub of_answer : (r : Told O) → Answers IsItem m u t r → TellsWhole IsItem m t r i p
   of_answer r (Decided taken d g l e) = of_decided taken r d g e
   of_answer r (AtEnd e k g h) = of_ends e k r g h
-  of_answer r (Full a c w e) = subst (λ z. TellsWhole IsItem m t z i p) (sym e) (subst (λ z. z ≤ length (held_of t.held)) (ap (λ z. z.most) (sym same_settings)) (subst (λ z. u.settings.most ≤ length z) (sym c) a))
+  of_answer r (Full a c w e) = subst (λ z. TellsWhole IsItem m t z i p) (sym e)
+      (subst (λ z. z ≤ length (held_of t.held)) (ap (λ z. z.most) (sym same_settings)) (subst (λ z. u.settings.most ≤ length z) (sym c) a))
   of_answer r (Unfilled why c before last d w e) = subst (λ z. TellsWhole IsItem m t z i p) (sym e) (of_unread why)
 
 module _ {R A V O : Type 0} (left : R → Option (List ℕ)) (IsItem : V → O → Type 0) (m : Meaning Bytes V (Error Bytes)) where
@@ -163,12 +179,22 @@ module _ {R A V O : Type 0} (left : R → Option (List ℕ)) (IsItem : V → O �
   answers_whole s t r d whole known has p b =
       let u = d.filled in
       let then = left_read left s u d.reads.given whole.now d.reads.gives has in
-      of_answer left IsItem m u t d.open_then d.source (d.settings.1 ∙ sym d.settings.0) whole known then p (subst (λ z. AtWhole m z.complete whole p) (sym d.settings.0) b) r d.answers
+      of_answer left IsItem m u t d.open_then d.source (d.settings.1 ∙ sym d.settings.0) whole known then p
+      (subst (λ z. AtWhole m z.complete whole p) (sym d.settings.0) b) r d.answers
 
   -- and the bytes that no item had are a rest of the whole
-  pub left_after : (s t : Stream R A) (r : Told O) (xs : List ℕ) → Decides left IsItem m s t r → HasLeft left s xs → (front : List ℕ) × (length front ≡ used_of r) × ((rest : List ℕ) × HasLeft left t rest × (xs ≡ front ++ rest))
+  pub left_after : (s t : Stream R A) (r : Told O) (xs : List ℕ) → Decides left IsItem m s t r → HasLeft left s xs → (front : List ℕ) ×
+      (length front ≡ used_of r) × ((rest : List ℕ) × HasLeft left t rest × (xs ≡ front ++ rest))
   left_after s t r xs d has =
       let u = d.filled in
       let then = left_read left s u d.reads.given xs d.reads.gives has in
-      let f = moves_answer IsItem m t u r d.answers in
-      (f.0, f.1, (held_of t.held ++ then.0, (then.0, ap left d.source ∙ then.1, refl), then.2 ∙ ap (λ z. z ++ then.0) f.2 ∙ append_assoc f.0 (held_of t.held) then.0))
+      let f = moves_answer IsItem m t u r d.answers in (
+        f.0,
+        f.1,
+        (
+          held_of t.held ++ then.0,
+          (then.0, ap left d.source ∙ then.1, refl),
+          then.2 ∙ ap (λ z. z ++ then.0) f.2 ∙
+              append_assoc f.0 (held_of t.held) then.0,
+        ),
+      )

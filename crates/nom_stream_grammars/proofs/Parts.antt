@@ -13,7 +13,8 @@ use Rattle.nom_stream_grammars.specs.Records as Records
 pub record_by_parts : (P : BytesGrammar (ℕ × Slice seen_bytes) ℕ → Type 0) (begins : List ℕ) → begins ≡ 82 ∷ [] → P (Records.written_of begins) → P record_of
 record_by_parts P begins e h = subst (λ x. P (Records.written_of x)) e h
 
-pub message_by_parts : (P : BytesGrammar Body Received → Type 0) (ping text close : List ℕ) (l n : Bool) → ping ≡ 1 ∷ [] → text ≡ 2 ∷ [] → close ≡ 3 ∷ [] → l ≡ true → n ≡ true → P (Messages.written_of ping text close l n) → P message_of
+pub message_by_parts : (P : BytesGrammar Body Received → Type 0) (ping text close : List ℕ) (l n : Bool) → ping ≡ 1 ∷ [] → text ≡ 2 ∷ [] →
+    close ≡ 3 ∷ [] → l ≡ true → n ≡ true → P (Messages.written_of ping text close l n) → P message_of
 message_by_parts P ping text close l n p t c f g h =
     subst (λ x. P (Messages.written_of x (2 ∷ []) (3 ∷ []) true true)) p (
     subst (λ x. P (Messages.written_of ping x (3 ∷ []) true true)) t (

@@ -8,7 +8,8 @@ returns-then-more g c =
     let m = g.P.Parser.meaning (g.P.Parser.state c.args.parser) in
     record {
       parses = record {
-        shown = subst (λ (b : Bool). ParsesMeaning seen_bytes (g.P.Parser.IsOutput (g.P.Parser.state c.args.parser)) m b c.args.input c.parse.result) (sym c.if-more.true) c.parse.ensures.shown;
+        shown = subst (λ (b : Bool). ParsesMeaning seen_bytes (g.P.Parser.IsOutput (g.P.Parser.state c.args.parser)) m b c.args.input
+            c.parse.result) (sym c.if-more.true) c.parse.ensures.shown;
         lawful = c.laws_of.ensures.lawful;
         steady = c.laws_of.ensures.steady;
       };
@@ -19,7 +20,8 @@ returns g c =
     let m = g.P.Parser.meaning (g.P.Parser.state c.args.parser) in
     record {
       parses = record {
-        shown = subst (λ (b : Bool). ParsesMeaning seen_bytes (g.P.Parser.IsOutput (g.P.Parser.state c.args.parser)) m b c.args.input c.parse_complete.result) (sym c.if-more.false) c.parse_complete.ensures.shown;
+        shown = subst (λ (b : Bool). ParsesMeaning seen_bytes (g.P.Parser.IsOutput (g.P.Parser.state c.args.parser)) m b c.args.input
+            c.parse_complete.result) (sym c.if-more.false) c.parse_complete.ensures.shown;
         lawful = c.laws_of.ensures.lawful;
         steady = c.laws_of.ensures.steady;
       };

@@ -15,29 +15,40 @@ returns-in-None-clause-decides g c =
 pub returns-then-self-clause-decides : goal.returns-then-self-clause-decides
 returns-then-self-clause-decides g c =
     let i = c.parses.invariant in
-    let takes = subst (λ z. Takes (g.G.Grammar.IsItem (g.G.Grammar.state c.parses.grammar)) (g.G.Grammar.meaning (g.G.Grammar.state c.parses.grammar)) _ (held_of c.parses.self.held) (held_of c.take-taken.new.held) z) c.in-Some.ensures c.take-taken.ensures.takes in
+    let takes = subst (λ z. Takes (g.G.Grammar.IsItem (g.G.Grammar.state c.parses.grammar))
+    (g.G.Grammar.meaning (g.G.Grammar.state c.parses.grammar)) _ (held_of c.parses.self.held) (held_of c.take-taken.new.held) z)
+    c.in-Some.ensures c.take-taken.ensures.takes in
     decides_end g.R.Read.remaining g.G.Grammar.IsItem g.G.Grammar.meaning _ _ i.kept _ _ i.reads i.opened i.settings i.offset
-    _ refl refl refl refl refl c.take-taken.ensures.bytes c.take-taken.ensures.within _ takes _ c.take-taken.ensures.kept _ _ c.if-self.true c.finish.ensures.ends c.finish.ensures.others.0 c.finish.ensures.others.1 c.finish.ensures.offset
+    _ refl refl refl refl refl c.take-taken.ensures.bytes c.take-taken.ensures.within _ takes _ c.take-taken.ensures.kept _ _ c.if-self.true
+    c.finish.ensures.ends c.finish.ensures.others.0 c.finish.ensures.others.1 c.finish.ensures.offset
 
 pub returns-then-self-held-clause-decides : goal.returns-then-self-held-clause-decides
 returns-then-self-held-clause-decides g c =
     let i = c.parses.invariant in
-    let takes = subst (λ z. Takes (g.G.Grammar.IsItem (g.G.Grammar.state c.parses.grammar)) (g.G.Grammar.meaning (g.G.Grammar.state c.parses.grammar)) _ (held_of c.parses.self.held) (held_of c.take-taken.new.held) z) c.in-Some.ensures c.take-taken.ensures.takes in
+    let takes = subst (λ z. Takes (g.G.Grammar.IsItem (g.G.Grammar.state c.parses.grammar))
+    (g.G.Grammar.meaning (g.G.Grammar.state c.parses.grammar)) _ (held_of c.parses.self.held) (held_of c.take-taken.new.held) z)
+    c.in-Some.ensures c.take-taken.ensures.takes in
     decides_full g.R.Read.remaining g.G.Grammar.IsItem g.G.Grammar.meaning _ _ i.kept _ _ i.reads i.opened i.settings i.offset
     _ refl refl refl refl refl c.take-taken.ensures.bytes c.take-taken.ensures.within _ takes (omega (arith, c.len-held.ensures, c.if-self-held.true))
 
 pub returns-in-Err-clause-decides : goal.returns-in-Err-clause-decides
 returns-in-Err-clause-decides g c =
     let i = c.parses.invariant in
-    let takes = subst (λ z. Takes (g.G.Grammar.IsItem (g.G.Grammar.state c.parses.grammar)) (g.G.Grammar.meaning (g.G.Grammar.state c.parses.grammar)) _ (held_of c.parses.self.held) (held_of c.take-taken.new.held) z) c.in-Some.ensures c.take-taken.ensures.takes in
-    subst (λ z. Decides g.R.Read.remaining (g.G.Grammar.IsItem (g.G.Grammar.state c.args.grammar.now)) (g.G.Grammar.meaning (g.G.Grammar.state c.args.grammar.now)) c.args.self.now c.fill.new.self z) (sym c.unfilled.ensures) (
+    let takes = subst (λ z. Takes (g.G.Grammar.IsItem (g.G.Grammar.state c.parses.grammar))
+    (g.G.Grammar.meaning (g.G.Grammar.state c.parses.grammar)) _ (held_of c.parses.self.held) (held_of c.take-taken.new.held) z)
+    c.in-Some.ensures c.take-taken.ensures.takes in
+    subst (λ z. Decides g.R.Read.remaining (g.G.Grammar.IsItem (g.G.Grammar.state c.args.grammar.now))
+    (g.G.Grammar.meaning (g.G.Grammar.state c.args.grammar.now)) c.args.self.now c.fill.new.self z) (sym c.unfilled.ensures) (
     decides_unread g.R.Read.remaining g.G.Grammar.IsItem g.G.Grammar.meaning _ _ i.kept _ _ i.reads i.opened i.settings i.offset
-    _ refl refl refl refl refl c.take-taken.ensures.bytes c.take-taken.ensures.within _ takes _ c.in-Err.why c.in-Err.ensures.fills c.in-Err.ensures.open c.in-Err.ensures.settings c.in-Err.ensures.offset)
+    _ refl refl refl refl refl c.take-taken.ensures.bytes c.take-taken.ensures.within _ takes _ c.in-Err.why c.in-Err.ensures.fills
+    c.in-Err.ensures.open c.in-Err.ensures.settings c.in-Err.ensures.offset)
 
 pub parses-preserved : goal.parses-preserved
 parses-preserved g c =
     let i = c.parses.invariant in
-    let takes = subst (λ z. Takes (g.G.Grammar.IsItem (g.G.Grammar.state c.parses.grammar)) (g.G.Grammar.meaning (g.G.Grammar.state c.parses.grammar)) _ (held_of c.parses.self.held) (held_of c.take-taken.new.held) z) c.in-Some.ensures c.take-taken.ensures.takes in
+    let takes = subst (λ z. Takes (g.G.Grammar.IsItem (g.G.Grammar.state c.parses.grammar))
+    (g.G.Grammar.meaning (g.G.Grammar.state c.parses.grammar)) _ (held_of c.parses.self.held) (held_of c.take-taken.new.held) z)
+    c.in-Some.ensures c.take-taken.ensures.takes in
     record {
       kept = c.take-taken.ensures.kept ∙ i.kept;
       opened = c.in-Ok.ensures.open;
