@@ -1,8 +1,10 @@
 -- A text of plain characters alone means itself.
-use Rattle.std.proofs.Common.{◌≡◌, ℕ, zero, suc, ◌+◌, ◌<◌, false, true, List, [], ◌∷◌, ◌++◌, length, append-nil, Err, Some, None, refl, sym, ◌∙◌, ap}
-use Rattle.std.proofs.Common.{subst, inl, arith}
+use Rattle.std.proofs.Common.{◌≡◌, ℕ, zero, suc, ◌+◌, ◌<◌, ◌⊎◌, false, true, List, [], ◌∷◌, ◌++◌, length, append-nil, Err, Some, None, refl, sym, ◌∙◌}
+use Rattle.std.proofs.Common.{ap, subst, inl, inr, arith}
 use Rattle.std.specs.Prelude.{Bool, ◌==◌, String, chars, encode_utf8_all, IsUtf8}
+use Rattle.std.specs.List.{All}
 use Rattle.std.proofs.lemmas.Bool.{ne_eqb}
+use Rattle.std.proofs.lemmas.List.Elements.{All-head, All-tail}
 use Rattle.std.proofs.lemmas.Str.{chars-nil, encodes-chars}
 use Rattle.std.specs.declared.borrow.CowStr.{CowStr}
 use Rattle.std.specs.declared.borrow.CowStr.TheVariants.{Borrowed, Owned}
@@ -12,6 +14,7 @@ use Rattle.nom_error.specs.declared.kind.ErrorKind.TheVariants.{TakeWhile1}
 use Rattle.nom_error.specs.declared.value.Error.{Error}
 use Rattle.nom_traits.specs.Input.{IsRest, span}
 use Rattle.nom_traits.specs.Rests.{same_cut}
+use Rattle.nom_traits.specs.Runs.{Stops}
 use Rattle.nom_traits.specs.Slices.{IsSeenAs}
 use Rattle.nom_traits.specs.Text.{seen_text, text_lawful}
 use Rattle.nom_internal.specs.Outcome.Outcome.{Accept, Refuse, Fail, TooLarge, Undecided}
@@ -185,3 +188,30 @@ module _ {M : Type 0} {i : Text} where
 pub none_left : (bytes : List ℕ) (b : Bool) → b ≡ (length bytes == 0) → b ≡ true → chars bytes ≡ []
 none_left [] b e h = chars-nil
 none_left (c ∷ bytes) b e h = let never : false ≡ true = sym (ne_eqb (length (c ∷ bytes)) 0 (λ z. omega (arith, z))) ∙ (sym e ∙ h) in absurd (cc (never))
+
+-- all behind a front meets what all meets
+all_behind : (P : ℕ → Type 0) (xs ys : List ℕ) → All P (xs ++ ys) → All P ys
+all_behind P [] ys h = h
+all_behind P (x ∷ xs) ys h = all_behind P xs ys (All-tail P x (xs ++ ys) h)
+
+some_left : (bytes : List ℕ) → IsUtf8 bytes → (length bytes == 0) ≡ false → chars bytes ≡ [] → ⊥
+some_left bytes k e h =
+    let none : [] ≡ bytes = ap encode_utf8_all (sym h) ∙ encodes-chars bytes k in
+    let never : true ≡ false = subst (λ bs. (length bs == 0) ≡ false) (sym none) e in
+    cc (never)
+
+stopped_there : (cs : List ℕ) → (cs ≡ [] → ⊥) → Stops (λ c. ⊥ ⊎ (false ≡ in_text c)) cs → All (λ c. in_text c ≡ true) cs → ⊥
+stopped_there [] n s a = n refl
+stopped_there (c ∷ cs) n (inl h) a = h
+stopped_there (c ∷ cs) n (inr e) a = let never : false ≡ true = e ∙ All-head (λ x. in_text x ≡ true) c cs a in cc (never)
+
+-- where a text is left behind the plain characters, not all of them are plain
+pub not_plain : {i j x : Text} → Taken plain_run.IsOutput (plain_run.meaning.answers false i) i j x → (b : Bool) → b ≡ (length j.now == 0) →
+    b ≡ false → All (λ c. in_text c ≡ true) (chars i.now) → ⊥
+not_plain {i} {j} t b e f all =
+    let r = t.answered.0 in
+    let q = t.rest_is in
+    let c = same_cut seen_text.weight text_lawful.positive q.front (chars j.now) t.tree.items r.first.rest (sym q.whole ∙ r.first.whole)
+    (q.length_is ∙ sym r.first.length_is) in
+    let behind = all_behind (λ x. in_text x ≡ true) q.front (chars j.now) (subst (All (λ x. in_text x ≡ true)) q.whole all) in
+    stopped_there (chars j.now) (some_left j.now q.known.0 (sym e ∙ f)) (subst (Stops (λ x. ⊥ ⊎ (false ≡ in_text x))) (sym c.1) r.stops) behind

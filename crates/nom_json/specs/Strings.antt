@@ -1,10 +1,11 @@
 -- Strings, as they are meant.
 use Rattle.std.specs.Prelude.{◌≡◌, ℕ, ◌+◌, ◌-◌, ◌*◌, ◌<◌, ◌≤◌, ◌==◌, ◌⊎◌}
-use Rattle.std.specs.Prelude.{if◌then◌else◌, cond, List, length, Option, Some, String, chars, codes, encode_utf8, encode_utf8_all, string_bytes}
+use Rattle.std.specs.Prelude.{if◌then◌else◌, cond, true, List, length, Option, Some, String, chars, codes, encode_utf8, encode_utf8_all, string_bytes}
+use Rattle.std.specs.List.{All}
 use Rattle.std.specs.Option.{SomeIff, is_some}
 use Rattle.std.specs.Char.{IsScalar}
 use Rattle.std.specs.Str.Parse.{digits_value}
-use Rattle.std.specs.Cow.{cow_str_bytes}
+use Rattle.std.specs.Cow.{IsBorrowedStr, cow_str_bytes}
 use Rattle.std.specs.declared.borrow.CowStr.{CowStr}
 use Rattle.nom_error.specs.declared.kind.ErrorKind.{ErrorKind}
 use Rattle.nom_error.specs.declared.kind.ErrorKind.TheVariants as Kind
@@ -15,7 +16,7 @@ use Rattle.nom_escaped.specs.declared.spot.Piece.{Piece}
 use Rattle.nom_escaped.specs.Escapes.{escaped_transform_meaning}
 use Rattle.nom_escaped.specs.Texts.{AddAll}
 use Rattle.nom.specs.Texts.{Text, TextGrammar, all_consuming_of, alt_of, char_of, kept, map_of, or_of, pair_of, preceded_of, tag_of}
-use Rattle.nom_json.specs.Scalars.{Part, hexes_by, one_by, plain_by}
+use Rattle.nom_json.specs.Scalars.{Part, hexes_by, in_text, one_by, plain_by}
 
 -- the character that a letter behind a backslash stands for: `b`, `f`, `n`, `r`, `t`, and others for themselves
 abbrev pub meant_of : ℕ → ℕ
@@ -114,3 +115,7 @@ decoded_of {M} = record {
   meaning = (unescaped_of {M = M}).meaning;
   IsOutput = λ pieces text. Means signs pieces (cow_str_bytes text);
 }
+
+-- a text all of whose characters stand for themselves is given as it stands
+abbrev pub IsLent : {M : Type 0} → Text → CowStr M → Type 0
+IsLent written text = All (λ c. in_text c ≡ true) (chars written.now) → IsBorrowedStr text

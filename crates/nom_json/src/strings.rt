@@ -1,8 +1,8 @@
 //! Strings as they are meant: each escape is the character that it stands for.
-ghost use Rattle.std.specs.Prelude.{◌≡◌, ◌<◌, ◌≤◌, ◌^◌, false};
+ghost use Rattle.std.specs.Prelude.{◌≡◌, ◌<◌, ◌≤◌, ◌^◌, false, IfOk};
 ghost use Rattle.std.specs.Char.{digit_value};
 ghost use Rattle.nom.specs.Texts.{Parses};
-ghost use Rattle.nom_json.specs.Strings.{IsAlone, IsJoined, decoded_of, four_of, meant_of, unescaped_of};
+ghost use Rattle.nom_json.specs.Strings.{IsAlone, IsJoined, IsLent, decoded_of, four_of, meant_of, unescaped_of};
 
 use crate::scalars::{Answer, is_hex, is_plain};
 use nom::branch::alt;
@@ -99,7 +99,8 @@ fn unescaped<'a, A: Allocator + Copy>(alloc: A, written: &'a str) -> Answer<'a, 
 /// answer is `OutOfMemory`. What a string can't be is refused at its place, too: what `json` gives as one never is but for
 /// half a pair.
 pub fn decoded<'a, A: Allocator + Copy>(alloc: A, written: &'a str) -> Answer<'a, CowStr<'a, A>>
-    ensures { Parses decoded_of false written.entry result }
+    ensures shown { Parses decoded_of false written.entry result }
+    ensures lent { IfOk result (λ a. IsLent written.entry a.1) }
 {
     written.known();
     let mut plain = take_while::<_, &'a str, Error<&'a str>>(is_plain);
