@@ -1,5 +1,5 @@
 -- A record.
-use Rattle.std.specs.Prelude.{ℕ, List, [], ◌∷◌, length}
+use Rattle.std.specs.Prelude.{ℕ, true, List, [], ◌∷◌, length}
 use Rattle.nom_traits.specs.Bytes.{seen_bytes}
 use Rattle.nom_traits.specs.Slices.{Slice}
 use Rattle.nom.specs.Bytes.{BytesGrammar, length_data_of, map_of, number_of, preceded_of, tag_of}

@@ -1,7 +1,7 @@
 use Rattle.nom_stream_grammars.proofs.fields.FieldsGrammar.item.Goals as goal
 
 pub returns-clause-parses : goal.returns-clause-parses
-returns-clause-parses g c =
+returns-clause-parses c =
     let s1 = rw (c.map.ensures.parser) at c.parse_item.ensures.parses in
     let s2 = rw (c.preceded-field.ensures.first) at s1 in
     let s3 = rw (c.preceded-field.ensures.second) at s2 in

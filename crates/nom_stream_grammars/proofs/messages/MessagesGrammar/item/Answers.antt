@@ -4,7 +4,7 @@ use Rattle.nom_stream_grammars.proofs.Parts.{message_by_parts}
 use Rattle.nom_stream_grammars.proofs.messages.MessagesGrammar.item.Goals as goal
 
 pub returns-clause-parses : goal.returns-clause-parses
-returns-clause-parses g c =
+returns-clause-parses c =
     let list = ap (λ p. p.parser.parser) c.length_value.ensures.parser ∙ (ap (λ p. p.parser) c.all_consuming-body.ensures ∙ c.alt.ensures) in
     let ping = ap (λ l. l.0.parser.first.tag.now) list ∙
     (ap (λ p. p.first.tag.now) c.map.ensures.parser ∙ (ap (λ p. p.tag.now) c.pair-number.ensures.first ∙ ap (λ t. t.now) c.tag.ensures)) in
