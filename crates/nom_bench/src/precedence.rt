@@ -59,7 +59,7 @@ fn applied(operation: Operation<(), (), char, i64>) -> i64 {
 pub fn by_precedence(alloc: Global, bytes: &[u8]) -> Option<Round> {
     let levels = [Assoc::Left, Assoc::Left];
     let operand = map(number(), |number: u32| i64::from(number));
-    let operator = map(alt([char('*'), char('+'), char('-')]), leveled);
+    let operator = map(alt((char('*'), char('+'), char('-'))), leveled);
     let prefix = fail::<_, (), _>();
     let postfix = fail::<_, (), _>();
     value(
