@@ -1,9 +1,9 @@
 -- A value by one fold is one by another that gives what the first gives.
 use Rattle.std.proofs.Common.{ℕ, Bool, List, [], ◌∷◌}
-use Rattle.nom_precedence.specs.declared.operation.Operation.{Operation}
+use Rattle.nom_operators.specs.declared.operation.Operation.{Operation}
 use Rattle.nom_precedence.specs.Expressions.{Term, Pair}
-use Rattle.nom_precedence.specs.Trees.{Tree}
-use Rattle.nom_precedence.specs.Trees.Tree.{Leaf, Node}
+use Rattle.nom_operators.specs.Trees.{Tree}
+use Rattle.nom_operators.specs.Trees.Tree.{Leaf, Node}
 use Rattle.nom_precedence.specs.Values.{PostfixesGive, PrefixesGive, Stands, TermGives, TreeGives, folding}
 
 module _ {P V Q B F G H O : Type 0} (IsPrefix : P → F → Type 0) (IsOperand : V → O → Type 0) (IsPostfix : Q → G → Type 0)

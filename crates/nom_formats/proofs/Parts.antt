@@ -30,11 +30,12 @@ use Rattle.nom_branch.specs.AlternativeLaws.{choice_lawful, next_lawful}
 use Rattle.nom_combinator.specs.Verdicts.{cut_meaning}
 use Rattle.nom_combinator.specs.VerdictLaws.{cut_lawful}
 use Rattle.nom_ends.specs.EndLaws.{fail_lawful}
-use Rattle.nom_precedence.specs.declared.operation.Assoc.{Assoc}
+use Rattle.nom_operators.specs.declared.operation.Assoc.{Assoc}
 use Rattle.nom_precedence.specs.ExpressionLaws.{precedence_lawful}
 use Rattle.nom_precedence.specs.Operators.{HasLevel}
 use Rattle.nom_precedence.specs.ValueLaws.{GivesAlike, folding_pinned}
-use Rattle.nom_precedence.specs.Values.{folding, groups_left}
+use Rattle.nom_operators.specs.Groups.{groups_left}
+use Rattle.nom_precedence.specs.Values.{folding}
 use Rattle.nom_formats.specs.declared.arithmetic.Fault.{Fault}
 use Rattle.nom_formats.specs.declared.arithmetic.Fault.TheVariants.{TooDeep}
 use Rattle.nom_formats.specs.Arithmetic.{Any, Applies, Given, Grammar, Inside, IsLeveled, IsNumber, IsPlace, Parses, Sign, Text, Told, Worth, char_of}

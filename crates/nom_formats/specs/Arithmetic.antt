@@ -23,13 +23,14 @@ use Rattle.nom_sequence.specs.Sequences.{preceded_meaning, terminated_meaning}
 use Rattle.nom_branch.specs.Alternatives.{choice_meaning, next_meaning}
 use Rattle.nom_combinator.specs.Verdicts.{cut_meaning}
 use Rattle.nom_ends.specs.Ends.{fail_meaning}
-use Rattle.nom_precedence.specs.declared.operation.Assoc.{Assoc}
-use Rattle.nom_precedence.specs.declared.operation.Assoc.TheVariants.{Left, Right}
-use Rattle.nom_precedence.specs.declared.operation.Operation.{Operation}
-use Rattle.nom_precedence.specs.declared.operation.Operation.TheVariants.{Prefix, Postfix, Binary}
+use Rattle.nom_operators.specs.declared.operation.Assoc.{Assoc}
+use Rattle.nom_operators.specs.declared.operation.Assoc.TheVariants.{Left, Right}
+use Rattle.nom_operators.specs.declared.operation.Operation.{Operation}
+use Rattle.nom_operators.specs.declared.operation.Operation.TheVariants.{Prefix, Postfix, Binary}
 use Rattle.nom_precedence.specs.Expressions.{Term, Pair, precedence_meaning}
 use Rattle.nom_precedence.specs.Operators.{HasLevel}
-use Rattle.nom_precedence.specs.Values.{folding, Stands, groups_left}
+use Rattle.nom_operators.specs.Groups.{groups_left}
+use Rattle.nom_precedence.specs.Values.{folding, Stands}
 use Rattle.nom_formats.specs.declared.arithmetic.Fault.{Fault}
 use Rattle.nom_formats.specs.declared.arithmetic.Wrong.{Wrong}
 use Rattle.nom_formats.specs.declared.arithmetic.Wrong.TheVariants.{Overflow, DivisionByZero, Exponent}

@@ -1,7 +1,7 @@
 use Rattle.std.proofs.Common.{ap, ◌∙◌, subst, sym}
 use Rattle.nom_traits.specs.Text.{seen_text}
 use Rattle.nom_func.specs.Func.{IsParser}
-use Rattle.nom_precedence.specs.Values.{groups_left}
+use Rattle.nom_operators.specs.Groups.{groups_left}
 use Rattle.nom_formats.specs.Arithmetic.{Applies, Parses, func_of, minus_of, none_of, operand_by, operator_of, sum_by, view}
 use Rattle.nom_formats.proofs.Folds.{stands_by}
 use Rattle.nom_formats.proofs.Functions.{parses_by}
