@@ -3,6 +3,7 @@ ghost use Rattle.std.specs.Prelude.{◌≡◌, ◌==◌, if◌then◌else◌};
 
 use crate::{Fail, Made, Round, consumed, number};
 use nom::Parser;
+use nom::branch::alt;
 use nom::character::{char, one_of};
 use nom::combinator::{fail, map};
 use nom::multi::fold_many0;
@@ -58,7 +59,7 @@ fn applied(operation: Operation<(), (), char, i64>) -> i64 {
 pub fn by_precedence(alloc: Global, bytes: &[u8]) -> Option<Round> {
     let levels = [Assoc::Left, Assoc::Left];
     let operand = map(number(), |number: u32| i64::from(number));
-    let operator = map(one_of::<_, _, Fail>("*+-"), leveled);
+    let operator = map(alt((char('*'), char('+'), char('-'))), leveled);
     let prefix = fail::<_, (), _>();
     let postfix = fail::<_, (), _>();
     value(
