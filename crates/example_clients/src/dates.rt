@@ -2,13 +2,12 @@
 //!
 //! Each reads all there is. A number out of its range is refused with `Verify`, where it begins.
 
-use nom::branch::alt;
 use nom::bytes::{tag, take_while_m_n};
 use nom::character::{char, digit0, one_of, u32};
-use nom::combinator::{map, opt, value};
+use nom::combinator::opt;
 use nom::error::{Error, ErrorKind};
-use nom::sequence::{pair, preceded, terminated};
-use nom::{Err, IResult, Parser, Viewed};
+use nom::sequence::terminated;
+use nom::{Err, IResult, Parser};
 
 /// A date.
 #[derive(Clone, Copy, Debug, PartialEq, Eq)]
@@ -46,8 +45,6 @@ pub struct Duration {
     pub minutes: u32,
     pub seconds: u32,
 }
-
-impl Viewed for Date {}
 
 /// `count` digits, as a number from `least` to `most`.
 fn digits(input: &str, count: usize, least: u16, most: u16) -> IResult<&str, u16> {
@@ -212,14 +209,4 @@ fn clock(input: &str) -> (&str, u32, u32, u32) {
     let (input, minutes) = field(input, 'M');
     let (input, seconds) = field(input, 'S');
     (input, hours, minutes, seconds)
-}
-
-/// Whether a text says that a summer time holds: a choice of words, each with its value.
-pub fn summer(input: &str) -> IResult<&str, bool> {
-    let words = alt((
-        value(true, tag::<&str, &str, Error<&str>>("CEST")),
-        value(false, tag("CET")),
-    ));
-    let name = preceded(opt(char(' ')), words);
-    map(pair(name, opt(tag(" time"))), |(summer, _)| summer).parse_complete(input)
 }

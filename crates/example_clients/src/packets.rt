@@ -5,10 +5,9 @@
 
 use nom::bits::{bits, take as take_bits};
 use nom::bytes::take;
-use nom::combinator::map;
 use nom::error::{Error, ErrorKind};
 use nom::number::{be_u8, be_u16, be_u32};
-use nom::{Err, IResult, Parser, Viewed};
+use nom::{Err, IResult, Parser};
 use std::net::Ipv4Addr;
 
 type Bytes<'a> = &'a [u8];
@@ -19,8 +18,6 @@ type BitError<'a> = Error<(&'a [u8], usize)>;
 /// Six bytes that name a network card.
 #[derive(Clone, Copy, Debug, PartialEq, Eq)]
 pub struct MacAddress(pub u8, pub u8, pub u8, pub u8, pub u8, pub u8);
-
-impl Viewed for MacAddress {}
 
 /// The head of an Ethernet frame.
 #[derive(Clone, Copy, Debug, PartialEq, Eq)]
@@ -89,8 +86,13 @@ pub struct UdpHeader {
 }
 
 fn mac_address(input: Bytes<'_>) -> IResult<Bytes<'_>, MacAddress> {
-    let bytes = (be_u8(), be_u8(), be_u8(), be_u8(), be_u8(), be_u8());
-    map(bytes, |(a, b, c, d, e, f)| MacAddress(a, b, c, d, e, f)).parse(input)
+    let (input, a) = be_u8().parse(input)?;
+    let (input, b) = be_u8().parse(input)?;
+    let (input, c) = be_u8().parse(input)?;
+    let (input, d) = be_u8().parse(input)?;
+    let (input, e) = be_u8().parse(input)?;
+    let (input, f) = be_u8().parse(input)?;
+    Ok((input, MacAddress(a, b, c, d, e, f)))
 }
 
 /// The head of an Ethernet frame.
@@ -107,25 +109,17 @@ pub fn ethernet(input: Bytes<'_>) -> IResult<Bytes<'_>, EthernetHeader> {
 }
 
 fn address(input: Bytes<'_>) -> IResult<Bytes<'_>, Ipv4Addr> {
-    let bytes = (be_u8(), be_u8(), be_u8(), be_u8());
-    map(bytes, |(a, b, c, d)| Ipv4Addr::new(a, b, c, d)).parse(input)
+    let (input, a) = be_u8().parse(input)?;
+    let (input, b) = be_u8().parse(input)?;
+    let (input, c) = be_u8().parse(input)?;
+    let (input, d) = be_u8().parse(input)?;
+    Ok((input, Ipv4Addr::new(a, b, c, d)))
 }
 
 /// Two numbers of four bits.
 fn nibbles(input: Bytes<'_>) -> IResult<Bytes<'_>, (u8, u8)> {
     let pair = (take_bits::<_, _, u8, BitError<'_>>(4u8), take_bits(4u8));
     bits(pair).parse(input)
-}
-
-/// Whether a datagram may not be fragmented, whether more fragments follow, and the offset of this one.
-fn fragment(input: Bytes<'_>) -> IResult<Bytes<'_>, (u8, u8, u8, u16)> {
-    let fields = (
-        take_bits::<_, _, u8, BitError<'_>>(1u8),
-        take_bits(1u8),
-        take_bits(1u8),
-        take_bits(13u8),
-    );
-    bits(fields).parse(input)
 }
 
 /// The head of an IPv4 datagram, with its options. One of another version is refused with `Verify`.
@@ -137,7 +131,7 @@ pub fn ipv4(start: Bytes<'_>) -> IResult<Bytes<'_>, Ipv4Header<'_>> {
     let (input, service) = be_u8().parse(input)?;
     let (input, total_length) = be_u16().parse(input)?;
     let (input, identification) = be_u16().parse(input)?;
-    let (input, (_reserved, whole, more, fragment_offset)) = fragment(input)?;
+    let (input, fragment) = be_u16().parse(input)?;
     let (input, time_to_live) = be_u8().parse(input)?;
     let (input, protocol) = be_u8().parse(input)?;
     let (input, checksum) = be_u16().parse(input)?;
@@ -150,9 +144,9 @@ pub fn ipv4(start: Bytes<'_>) -> IResult<Bytes<'_>, Ipv4Header<'_>> {
         service,
         total_length,
         identification,
-        do_not_fragment: whole == 1,
-        more_fragments: more == 1,
-        fragment_offset,
+        do_not_fragment: fragment & 0x4000 != 0,
+        more_fragments: fragment & 0x2000 != 0,
+        fragment_offset: fragment & 0x1fff,
         time_to_live,
         protocol,
         checksum,
@@ -226,7 +220,8 @@ fn option_of(kind: u8, body: Bytes<'_>) -> Result<TcpOption<'_>, Err<Error<Bytes
         }
         (4, 0) => Ok(TcpOption::SelectiveAcknowledgmentPermitted),
         (8, 8) => {
-            let (_, (value, echo)) = (be_u32(), be_u32()).parse_complete(body)?;
+            let (body, value) = be_u32().parse_complete(body)?;
+            let (_, echo) = be_u32().parse_complete(body)?;
             Ok(TcpOption::Timestamps(value, echo))
         }
         _ => Ok(TcpOption::Other(kind, body)),
@@ -235,22 +230,18 @@ fn option_of(kind: u8, body: Bytes<'_>) -> Result<TcpOption<'_>, Err<Error<Bytes
 
 /// The head of a UDP datagram, whose length is 8 bytes at least.
 pub fn udp(start: Bytes<'_>) -> IResult<Bytes<'_>, UdpHeader> {
-    let fields = (be_u16(), be_u16(), be_u16(), be_u16());
-    let head = map(
-        fields,
-        |(source, destination, length, checksum)| UdpHeader {
-            source,
-            destination,
-            length,
-            checksum,
-        },
-    );
-    let mut head = head;
-    let (input, udp) = head.parse(start)?;
-    if udp.length < 8 {
+    let (input, source) = be_u16().parse(start)?;
+    let (input, destination) = be_u16().parse(input)?;
+    let (input, length) = be_u16().parse(input)?;
+    let (input, checksum) = be_u16().parse(input)?;
+    if length < 8 {
         return Err(Err::Error(Error::new(start, ErrorKind::Verify)));
     }
-    Ok((input, udp))
+    let head = UdpHeader {
+        source,
+        destination,
+        length,
+        checksum,
+    };
+    Ok((input, head))
 }
-
-impl Viewed for UdpHeader {}
