@@ -116,6 +116,15 @@ fn milliseconds(input: &str) -> IResult<&str, u32> {
     }
 }
 
+/// The minutes of an offset; there are none where no colon asks for them, and no digits stand there.
+fn offset_minutes(input: &str, asked: bool) -> IResult<&str, u16> {
+    let read = digits(input, 2, 0, 59);
+    if asked || read.is_ok() {
+        return read;
+    }
+    Ok((input, 0))
+}
+
 /// `Z`, or what the time differs from UTC, as `+02`, `-0330` or `+05:45`.
 pub fn parse_offset(input: &str) -> IResult<&str, Offset> {
     let (input, sign) = one_of("Z+-").parse_complete(input)?;
@@ -124,11 +133,7 @@ pub fn parse_offset(input: &str) -> IResult<&str, Offset> {
     }
     let (input, hours) = digits(input, 2, 0, 23)?;
     let (input, colon) = opt(char(':')).parse_complete(input)?;
-    let minutes = digits(input, 2, 0, 59);
-    let (rest, minutes) = match minutes {
-        Err(Err::Error(_)) if colon.is_none() => (input, 0),
-        other => other?,
-    };
+    let (rest, minutes) = offset_minutes(input, colon.is_some())?;
     let total = hours as i32 * 60 + minutes as i32;
     Ok((rest, Offset(if sign == '-' { -total } else { total })))
 }
