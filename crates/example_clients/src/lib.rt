@@ -4,5 +4,3 @@
 
 pub mod dates;
 pub mod packets;
-#[cfg(test)]
-mod tests;

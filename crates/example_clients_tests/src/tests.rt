@@ -1,7 +1,9 @@
 //! Vectors of the two grammars, by hand from their standards.
 
-use crate::dates::{Date, Duration, Offset, Time, parse_date, parse_date_time, parse_duration};
-use crate::packets::{MacAddress, TcpOption, ethernet, ipv4, tcp, tcp_option, udp};
+use example_clients::dates::{
+    Date, Duration, Offset, Time, parse_date, parse_date_time, parse_duration,
+};
+use example_clients::packets::{MacAddress, TcpOption, ethernet, ipv4, tcp, tcp_option, udp};
 use std::net::Ipv4Addr;
 
 /// An Ethernet frame of a SYN from 192.168.1.2:49320 to 93.184.216.34:443.
