@@ -134,8 +134,14 @@ pub fn parse_offset(input: &str) -> IResult<&str, Offset> {
     let (input, hours) = digits(input, 2, 0, 23)?;
     let (input, colon) = opt(char(':')).parse_complete(input)?;
     let (rest, minutes) = offset_minutes(input, colon.is_some())?;
-    let total = hours as i32 * 60 + minutes as i32;
-    Ok((rest, Offset(if sign == '-' { -total } else { total })))
+    let east = hours as i32 * 60 + minutes as i32;
+    // At most a day, so nothing wraps.
+    let offset = if sign == '-' {
+        east.wrapping_neg()
+    } else {
+        east
+    };
+    Ok((rest, Offset(offset)))
 }
 
 /// `12:34`, `12:34:56` or `12:34:56.789`, and an offset, if there is one.
