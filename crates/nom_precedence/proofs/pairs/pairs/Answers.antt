@@ -175,3 +175,87 @@ returns-in-Err-OutOfMemory-clause-shown g c =
     chain_ran_out (Unit {0}) (part g p f q b n) _ g.OM.Output.Mode.BUILDS g.OM.Error.Mode.BUILDS g.OM.Incomplete.IsStreaming.STREAMING i.collected
     shown
     c.in-Err-OutOfMemory.field-0-is
+
+pub returns-in-Stuck-clause-prefix_kept : goal.returns-in-Stuck-clause-prefix_kept
+returns-in-Stuck-clause-prefix_kept g c = c.in-Ok.ensures.prefix_kept ∙ c.loop-next.invariant.prefix_kept
+
+pub returns-in-Stuck-clause-operand_kept : goal.returns-in-Stuck-clause-operand_kept
+returns-in-Stuck-clause-operand_kept g c = c.in-Ok.ensures.operand_kept ∙ c.loop-next.invariant.operand_kept
+
+pub returns-in-Stuck-clause-postfix_kept : goal.returns-in-Stuck-clause-postfix_kept
+returns-in-Stuck-clause-postfix_kept g c = c.in-Ok.ensures.postfix_kept ∙ c.loop-next.invariant.postfix_kept
+
+pub returns-in-Stuck-clause-binary_kept : goal.returns-in-Stuck-clause-binary_kept
+returns-in-Stuck-clause-binary_kept g c = c.in-Ok.ensures.binary_kept ∙ c.loop-next.invariant.binary_kept
+
+pub returns-then-input_len-clause-prefix_kept : goal.returns-then-input_len-clause-prefix_kept
+returns-then-input_len-clause-prefix_kept g c = c.in-Ok.ensures.prefix_kept ∙ c.loop-next.invariant.prefix_kept
+
+pub returns-then-input_len-clause-operand_kept : goal.returns-then-input_len-clause-operand_kept
+returns-then-input_len-clause-operand_kept g c = c.in-Ok.ensures.operand_kept ∙ c.loop-next.invariant.operand_kept
+
+pub returns-then-input_len-clause-postfix_kept : goal.returns-then-input_len-clause-postfix_kept
+returns-then-input_len-clause-postfix_kept g c = c.in-Ok.ensures.postfix_kept ∙ c.loop-next.invariant.postfix_kept
+
+pub returns-then-input_len-clause-binary_kept : goal.returns-then-input_len-clause-binary_kept
+returns-then-input_len-clause-binary_kept g c = c.in-Ok.ensures.binary_kept ∙ c.loop-next.invariant.binary_kept
+
+pub returns-in-None-clause-prefix_kept : goal.returns-in-None-clause-prefix_kept
+returns-in-None-clause-prefix_kept g c = c.in-Ok.ensures.prefix_kept ∙ c.loop-next.invariant.prefix_kept
+
+pub returns-in-None-clause-operand_kept : goal.returns-in-None-clause-operand_kept
+returns-in-None-clause-operand_kept g c = c.in-Ok.ensures.operand_kept ∙ c.loop-next.invariant.operand_kept
+
+pub returns-in-None-clause-postfix_kept : goal.returns-in-None-clause-postfix_kept
+returns-in-None-clause-postfix_kept g c = c.in-Ok.ensures.postfix_kept ∙ c.loop-next.invariant.postfix_kept
+
+pub returns-in-None-clause-binary_kept : goal.returns-in-None-clause-binary_kept
+returns-in-None-clause-binary_kept g c = c.in-Ok.ensures.binary_kept ∙ c.loop-next.invariant.binary_kept
+
+pub returns-in-Err-Error-clause-prefix_kept : goal.returns-in-Err-Error-clause-prefix_kept
+returns-in-Err-Error-clause-prefix_kept g c = c.in-Err-Error.ensures.prefix_kept ∙ c.loop-next.invariant.prefix_kept
+
+pub returns-in-Err-Error-clause-operand_kept : goal.returns-in-Err-Error-clause-operand_kept
+returns-in-Err-Error-clause-operand_kept g c = c.in-Err-Error.ensures.operand_kept ∙ c.loop-next.invariant.operand_kept
+
+pub returns-in-Err-Error-clause-postfix_kept : goal.returns-in-Err-Error-clause-postfix_kept
+returns-in-Err-Error-clause-postfix_kept g c = c.in-Err-Error.ensures.postfix_kept ∙ c.loop-next.invariant.postfix_kept
+
+pub returns-in-Err-Error-clause-binary_kept : goal.returns-in-Err-Error-clause-binary_kept
+returns-in-Err-Error-clause-binary_kept g c = c.in-Err-Error.ensures.binary_kept ∙ c.loop-next.invariant.binary_kept
+
+pub returns-in-Err-Failure-clause-prefix_kept : goal.returns-in-Err-Failure-clause-prefix_kept
+returns-in-Err-Failure-clause-prefix_kept g c = c.in-Err-Failure.ensures.prefix_kept ∙ c.loop-next.invariant.prefix_kept
+
+pub returns-in-Err-Failure-clause-operand_kept : goal.returns-in-Err-Failure-clause-operand_kept
+returns-in-Err-Failure-clause-operand_kept g c = c.in-Err-Failure.ensures.operand_kept ∙ c.loop-next.invariant.operand_kept
+
+pub returns-in-Err-Failure-clause-postfix_kept : goal.returns-in-Err-Failure-clause-postfix_kept
+returns-in-Err-Failure-clause-postfix_kept g c = c.in-Err-Failure.ensures.postfix_kept ∙ c.loop-next.invariant.postfix_kept
+
+pub returns-in-Err-Failure-clause-binary_kept : goal.returns-in-Err-Failure-clause-binary_kept
+returns-in-Err-Failure-clause-binary_kept g c = c.in-Err-Failure.ensures.binary_kept ∙ c.loop-next.invariant.binary_kept
+
+pub returns-in-Err-Incomplete-clause-prefix_kept : goal.returns-in-Err-Incomplete-clause-prefix_kept
+returns-in-Err-Incomplete-clause-prefix_kept g c = c.in-Err-Incomplete.ensures.prefix_kept ∙ c.loop-next.invariant.prefix_kept
+
+pub returns-in-Err-Incomplete-clause-operand_kept : goal.returns-in-Err-Incomplete-clause-operand_kept
+returns-in-Err-Incomplete-clause-operand_kept g c = c.in-Err-Incomplete.ensures.operand_kept ∙ c.loop-next.invariant.operand_kept
+
+pub returns-in-Err-Incomplete-clause-postfix_kept : goal.returns-in-Err-Incomplete-clause-postfix_kept
+returns-in-Err-Incomplete-clause-postfix_kept g c = c.in-Err-Incomplete.ensures.postfix_kept ∙ c.loop-next.invariant.postfix_kept
+
+pub returns-in-Err-Incomplete-clause-binary_kept : goal.returns-in-Err-Incomplete-clause-binary_kept
+returns-in-Err-Incomplete-clause-binary_kept g c = c.in-Err-Incomplete.ensures.binary_kept ∙ c.loop-next.invariant.binary_kept
+
+pub returns-in-Err-OutOfMemory-clause-prefix_kept : goal.returns-in-Err-OutOfMemory-clause-prefix_kept
+returns-in-Err-OutOfMemory-clause-prefix_kept g c = c.in-Err-OutOfMemory.ensures.prefix_kept ∙ c.loop-next.invariant.prefix_kept
+
+pub returns-in-Err-OutOfMemory-clause-operand_kept : goal.returns-in-Err-OutOfMemory-clause-operand_kept
+returns-in-Err-OutOfMemory-clause-operand_kept g c = c.in-Err-OutOfMemory.ensures.operand_kept ∙ c.loop-next.invariant.operand_kept
+
+pub returns-in-Err-OutOfMemory-clause-postfix_kept : goal.returns-in-Err-OutOfMemory-clause-postfix_kept
+returns-in-Err-OutOfMemory-clause-postfix_kept g c = c.in-Err-OutOfMemory.ensures.postfix_kept ∙ c.loop-next.invariant.postfix_kept
+
+pub returns-in-Err-OutOfMemory-clause-binary_kept : goal.returns-in-Err-OutOfMemory-clause-binary_kept
+returns-in-Err-OutOfMemory-clause-binary_kept g c = c.in-Err-OutOfMemory.ensures.binary_kept ∙ c.loop-next.invariant.binary_kept
