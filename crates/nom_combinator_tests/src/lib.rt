@@ -1,5 +1,0 @@
-//! Tests of parsers that are made of others.
-#![tactic(auto)]
-
-#[cfg(test)]
-mod tests;

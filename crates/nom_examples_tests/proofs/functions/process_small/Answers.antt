@@ -1,6 +1,0 @@
-use Rattle.nom_func.proofs.FuncSound.{items_func}
-use Rattle.nom_own_parts.specs.Firsts.{small_outcome}
-use Rattle.nom_examples_tests.proofs.functions.process_small.Goals as goal
-
-pub process-requires : goal.process-requires
-process-requires g c = record { sound = items_func small_outcome }

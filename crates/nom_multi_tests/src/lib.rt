@@ -1,5 +1,0 @@
-//! Tests of the lists of nom.
-#![tactic(auto)]
-
-#[cfg(test)]
-mod tests;

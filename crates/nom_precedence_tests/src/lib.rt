@@ -1,5 +1,0 @@
-//! Tests of operator precedence.
-#![tactic(auto)]
-
-#[cfg(test)]
-mod tests;

@@ -1,0 +1,5 @@
+//! Tests of the examples.
+#![tactic(auto)]
+
+#[cfg(test)]
+mod tests;
