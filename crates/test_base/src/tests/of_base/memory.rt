@@ -39,37 +39,81 @@ fn is_ab_text<A: Allocator>(held: &String<A>, kind: ErrorKind) -> bool {
     held.as_str() == "ab" && kind == ErrorKind::Tag
 }
 
+/// The error of bytes.
+fn of_bytes<'a>() -> Error<&'a [u8]> {
+    Error::new(b"ab".as_slice(), ErrorKind::Tag)
+}
+
+/// The error of a text.
+fn of_text<'a>() -> Error<&'a str> {
+    Error::new("ab", ErrorKind::Tag)
+}
+
+/// Whether bytes are cloned.
+fn clones_bytes(heap: &LocalHeap) -> Result<bool, OutOfMemory> {
+    let own = of_bytes().cloned(heap)?;
+    Ok(is_ab(&own.input, own.code))
+}
+
+/// Whether a text is cloned.
+fn clones_text(heap: &LocalHeap) -> Result<bool, OutOfMemory> {
+    let own = of_text().cloned(heap)?;
+    Ok(is_ab_text(&own.input, own.code))
+}
+
+/// Whether bytes in a refusal are owned.
+fn owns_bytes(heap: &LocalHeap) -> Result<bool, OutOfMemory> {
+    match Err::Error(of_bytes()).to_owned(heap)? {
+        Err::Error(own) => Ok(is_ab(&own.input, own.code)),
+        _ => Ok(false),
+    }
+}
+
+/// Whether a text in a failure is owned.
+fn owns_text(heap: &LocalHeap) -> Result<bool, OutOfMemory> {
+    match Err::Failure(of_text()).to_owned(heap)? {
+        Err::Failure(own) => Ok(is_ab_text(&own.input, own.code)),
+        _ => Ok(false),
+    }
+}
+
+/// Whether bytes beside a kind are owned.
+fn owns_pair_of_bytes(heap: &LocalHeap) -> Result<bool, OutOfMemory> {
+    match Err::Failure((b"ab".as_slice(), ErrorKind::Tag)).to_owned(heap)? {
+        Err::Failure((own, kind)) => Ok(is_ab(&own, kind)),
+        _ => Ok(false),
+    }
+}
+
+/// Whether a text beside a kind is owned.
+fn owns_pair_of_text(heap: &LocalHeap) -> Result<bool, OutOfMemory> {
+    match Err::Error(("ab", ErrorKind::Tag)).to_owned(heap)? {
+        Err::Error((own, kind)) => Ok(is_ab_text(&own, kind)),
+        _ => Ok(false),
+    }
+}
+
+/// Whether a dump is made.
+fn dumps(heap: &LocalHeap) -> Result<bool, OutOfMemory> {
+    Ok("abc".to_hex(heap, 8)?.as_str() == DUMP)
+}
+
+/// Whether a dump from an offset is made.
+fn dumps_from(heap: &LocalHeap) -> Result<bool, OutOfMemory> {
+    Ok("abc".to_hex_from(heap, 8, 0)?.as_str() == DUMP)
+}
+
 /// Whether a call gives its value.
 fn is_given(heap: &LocalHeap, call: Call) -> Result<bool, OutOfMemory> {
-    let bytes = Error::new(b"ab".as_slice(), ErrorKind::Tag);
-    let text = Error::new("ab", ErrorKind::Tag);
     match call {
-        Call::ClonedBytes => {
-            let own = bytes.cloned(heap)?;
-            Ok(is_ab(&own.input, own.code))
-        }
-        Call::ClonedText => {
-            let own = text.cloned(heap)?;
-            Ok(is_ab_text(&own.input, own.code))
-        }
-        Call::OwnedBytes => match Err::Error(bytes).to_owned(heap)? {
-            Err::Error(own) => Ok(is_ab(&own.input, own.code)),
-            _ => Ok(false),
-        },
-        Call::OwnedText => match Err::Failure(text).to_owned(heap)? {
-            Err::Failure(own) => Ok(is_ab_text(&own.input, own.code)),
-            _ => Ok(false),
-        },
-        Call::OwnedPairOfBytes => match Err::Failure((bytes.input, bytes.code)).to_owned(heap)? {
-            Err::Failure((own, kind)) => Ok(is_ab(&own, kind)),
-            _ => Ok(false),
-        },
-        Call::OwnedPairOfText => match Err::Error((text.input, text.code)).to_owned(heap)? {
-            Err::Error((own, kind)) => Ok(is_ab_text(&own, kind)),
-            _ => Ok(false),
-        },
-        Call::Dump => Ok("abc".to_hex(heap, 8)?.as_str() == DUMP),
-        Call::DumpFrom => Ok("abc".to_hex_from(heap, 8, 0)?.as_str() == DUMP),
+        Call::ClonedBytes => clones_bytes(heap),
+        Call::ClonedText => clones_text(heap),
+        Call::OwnedBytes => owns_bytes(heap),
+        Call::OwnedText => owns_text(heap),
+        Call::OwnedPairOfBytes => owns_pair_of_bytes(heap),
+        Call::OwnedPairOfText => owns_pair_of_text(heap),
+        Call::Dump => dumps(heap),
+        Call::DumpFrom => dumps_from(heap),
     }
 }
 
@@ -219,16 +263,26 @@ fn extended<'h, X: ExtendInto<&'h LocalHeap, Extender: Held + Drop> + Drop>(
     None
 }
 
+/// Whether each collection has this many letters at least.
+fn collections_stay(heap: &LocalHeap) -> bool {
+    appended::<Vec<char, &LocalHeap>>(heap) >= Some(4)
+        && appended::<VecDeque<char, &LocalHeap>>(heap) >= Some(1)
+        && appended::<String<&LocalHeap>>(heap) >= Some(8)
+}
+
+/// Whether each builder has this many values at least.
+fn builders_stay(heap: &LocalHeap) -> bool {
+    extended(heap, b"ab".as_slice(), 2) >= Some(4)
+        && extended(heap, "ab", 2) >= Some(4)
+        && extended(heap, 'a', 1) >= Some(8)
+}
+
 #[test]
 fn collections_and_builders_stay(rt: HostRuntime) -> Result<(), AllocError> {
     for units in 1..40 {
         let heap = LocalHeap::new(rt.alloc(), units * 16)?;
-        assert!(rt; appended::<Vec<char, &LocalHeap>>(&heap) >= Some(4));
-        assert!(rt; appended::<VecDeque<char, &LocalHeap>>(&heap) >= Some(1));
-        assert!(rt; appended::<String<&LocalHeap>>(&heap) >= Some(8));
-        assert!(rt; extended(&heap, b"ab".as_slice(), 2) >= Some(4));
-        assert!(rt; extended(&heap, "ab", 2) >= Some(4));
-        assert!(rt; extended(&heap, 'a', 1) >= Some(8));
+        assert!(rt; collections_stay(&heap));
+        assert!(rt; builders_stay(&heap));
     }
     Ok(())
 }
