@@ -13,8 +13,9 @@ use nom_lengths::length_count;
 use nom_multi::{count, many_m_n, many_till, many0, many1, separated_list0, separated_list1};
 use nom_number::be_u8;
 use nom_search::bytes::AsBytes;
+use nom_search::extend::ExtendInto;
 use nom_traits::character::AsChar;
-use nom_traits::input::Items;
+use nom_traits::input::{Input, Items};
 use std::alloc::{AllocError, Allocator, Global};
 
 type Fail<'a> = Error<&'a str>;
@@ -171,73 +172,99 @@ enum List {
 }
 
 /// How often memory ran out of a list of an `a`.
-fn of_list<'a, P>(heap: &LocalHeap, list: List, item: P) -> Option<usize>
+fn of_list<I, P>(heap: &LocalHeap, list: List, item: P, input: I) -> Option<usize>
 where
-    P: Parser<&'a str, Output = char, Error = Fail<'a>> + Drop,
+    I: Input<Item: AsChar> + AsBytes,
+    P: Parser<I, Output = char, Error = Error<I>> + Drop,
     requires { (P.meaning (P.state item)).IsSound }
 {
     let two = ["a", "a"];
     match list {
-        List::Many0 => times_refused(heap, many0(heap, item), "aaaaab", "b", &["a"; 5]),
-        List::Many1 => times_refused(heap, many1(heap, item), "aab", "b", &two),
+        List::Many0 => times_refused(heap, many0(heap, item), input, "b", &["a"; 5]),
+        List::Many1 => times_refused(heap, many1(heap, item), input, "b", &two),
         List::ManyTill => {
             let until = many_till(heap, item, char('b'));
-            times_refused(heap, until, "aab", "", &["a", "a", "b"])
+            times_refused(heap, until, input, "", &["a", "a", "b"])
         }
         List::SeparatedList0 => {
-            times_refused(
-                heap,
-                separated_list0(heap, char(','), item),
-                "a,a,",
-                ",",
-                &two,
-            )
+            let list = separated_list0(heap, char(','), item);
+            times_refused(heap, list, input, ",", &two)
         }
         List::SeparatedList1 => {
-            times_refused(
-                heap,
-                separated_list1(heap, char(','), item),
-                "a,a;",
-                ";",
-                &two,
-            )
+            let list = separated_list1(heap, char(','), item);
+            times_refused(heap, list, input, ";", &two)
         }
-        List::ManyMN => times_refused(heap, many_m_n(heap, 1, 2, item), "aaa", "a", &two),
-        List::Count => times_refused(heap, count(heap, item, 2), "aa;", ";", &two),
+        List::ManyMN => times_refused(heap, many_m_n(heap, 1, 2, item), input, "a", &two),
+        List::Count => times_refused(heap, count(heap, item, 2), input, ";", &two),
     }
 }
 
 #[test]
 fn lists_of_characters(rt: HostRuntime) -> Result<(), AllocError> {
-    for (number, list) in [
-        List::Many0,
-        List::Many1,
-        List::ManyTill,
-        List::SeparatedList0,
-        List::SeparatedList1,
-        List::ManyMN,
-        List::Count,
-    ]
-    .into_iter()
-    .enumerate()
-    {
+    for (list, input) in [
+        (List::Many0, "aaaaab"),
+        (List::Many1, "aab"),
+        (List::ManyTill, "aab"),
+        (List::SeparatedList0, "a,a,"),
+        (List::SeparatedList1, "a,a;"),
+        (List::ManyMN, "aaa"),
+        (List::Count, "aa;"),
+    ] {
         let heap = free_heap(rt.alloc())?;
-        assert!(rt; of_list(&heap, list, char('a')) >= Some(1), "list {number}");
+        assert!(rt;
+            of_list(&heap, list, char('a'), input) >= Some(1),
+            "at {input}"
+        );
     }
     Ok(())
 }
 
-/// How often memory ran out of a list of tags with separators, of items behind a length, and of a text with escapes.
+/// How often memory ran out of a list of items with separators.
+fn of_separated<I, P, Q>(heap: &LocalHeap, separator: P, item: Q, input: I) -> Option<usize>
+where
+    I: Input + AsBytes,
+    P: Parser<I, Output = I, Error = Error<I>> + Drop,
+    Q: Parser<I, Output = I, Error = Error<I>> + Drop,
+    I: Item,
+    requires separator { (P.meaning (P.state separator)).IsSound }
+    requires item { (Q.meaning (Q.state item)).IsSound }
+{
+    let list = separated_list0(heap, separator, item);
+    times_refused(heap, list, input, ",", &["abc", "abc"])
+}
+
+/// How often memory ran out of a text with escapes, of a piece.
+fn of_escaped<'h, I, P, Q>(heap: &'h LocalHeap, piece: P, escape: Q, input: I) -> Option<usize>
+where
+    I: Input<Item: AsChar> + AsBytes + ExtendInto<&'h LocalHeap, Extender: Held + Drop>,
+    P: Parser<I, Output = I, Error = Error<I>> + Drop,
+    Q: Parser<I, Output = I, Error = Error<I>> + Drop,
+    requires piece { (P.meaning (P.state piece)).IsSound }
+    requires escape { (Q.meaning (Q.state escape)).IsSound }
+{
+    let text = escaped_transform(heap, piece, '\\', escape);
+    times_refused(heap, text, input, "7", &["a", "b"])
+}
+
+/// How often memory ran out of items after a length.
+fn of_counted(heap: &LocalHeap) -> Option<usize> {
+    let counted = length_count(heap, be_u8::<_, Error<&[u8]>>(), tag(b"ab".as_slice()));
+    times_refused(heap, counted, b"\x02abab;".as_slice(), ";", &["ab", "ab"])
+}
+
+/// How often memory ran out of a list of tags with separators, of items after a length, and of a text with escapes.
 fn of_others(alloc: Global) -> Result<[Option<usize>; 3], AllocError> {
     let heap = free_heap(alloc)?;
-    let separated = separated_list0(&heap, tag::<_, _, Fail>(","), tag::<_, _, Fail>("abc"));
-    let counted = length_count(&heap, be_u8::<_, Error<&[u8]>>(), tag(b"ab".as_slice()));
     let letters = complete::take_while::<_, _, Fail>(|c: char| c.is_alpha());
-    let text = escaped_transform(&heap, letters, '\\', tag("n"));
     Ok([
-        times_refused(&heap, separated, "abc,abc,", ",", &["abc", "abc"]),
-        times_refused(&heap, counted, b"\x02abab;".as_slice(), ";", &["ab", "ab"]),
-        times_refused(&heap, text, "ab7", "7", &["a", "b"]),
+        of_separated(
+            &heap,
+            tag::<_, _, Fail>(","),
+            tag::<_, _, Fail>("abc"),
+            "abc,abc,",
+        ),
+        of_counted(&heap),
+        of_escaped(&heap, letters, tag("n"), "ab7"),
     ])
 }
 

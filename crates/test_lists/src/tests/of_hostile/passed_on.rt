@@ -23,6 +23,7 @@ use nom_lengths::length_value;
 use nom_multi::{fill, many_till, many0, separated_list0};
 use nom_permutation::permutation;
 use nom_sequence::terminated;
+use nom_traits::character::AsChar;
 use nom_traits::input::{Input, Items};
 use std::alloc::{AllocError, Global};
 use std::cell::Cell;
@@ -107,21 +108,20 @@ fn is_out<I: Drop, O: Drop, E: Drop>(found: IResult<I, O, E>) -> bool {
 }
 
 /// Whether memory runs out in a parser.
-fn runs_out<'a, P>(mut parser: P, input: &'a str) -> bool
-where
-    P: Parser<&'a str> + Drop,
+fn runs_out<I: Items, P: Parser<I> + Drop>(mut parser: P, input: I) -> bool
     requires { (P.meaning (P.state parser)).IsSound }
 {
     is_out(parser.parse(input))
 }
 
 /// Whether the items of `;a;` end after the first one, where memory runs out, and stay ended.
-fn ends<'a, P>(part: P) -> bool
+fn ends<I, P>(part: P, input: I) -> bool
 where
-    P: Parser<&'a str, Output = usize, Error = Fail<'a>> + Drop,
+    I: Input<Item: AsChar>,
+    P: Parser<I, Output = usize, Error = Error<I>> + Drop,
     requires { (P.meaning (P.state part)).IsSound }
 {
-    let mut items = iterator(";a;", terminated(part, char(';')));
+    let mut items = iterator(input, terminated(part, char(';')));
     let first = items.next() == Some(0);
     let second = items.next().is_none();
     let third = items.next().is_none();
@@ -131,21 +131,15 @@ where
 
 /// Whether memory runs out where the items of `;a;;` fill a buffer, which then has the first one at its front, and else
 /// what it had.
-fn fills<'a, P>(part: P) -> bool
+fn fills<I, P>(part: P, input: I) -> bool
 where
-    P: Parser<&'a str, Output = usize, Error = Fail<'a>> + Drop,
+    I: Input<Item: AsChar>,
+    P: Parser<I, Output = usize, Error = Error<I>> + Drop,
     requires { (P.meaning (P.state part)).IsSound }
 {
     let mut buffer = [99, 99, 99];
-    let is_out = runs_out(fill(terminated(part, char(';')), &mut buffer), ";a;;");
+    let is_out = runs_out(fill(terminated(part, char(';')), &mut buffer), input);
     is_out && buffer == [0, 99, 99]
-}
-
-/// The same over any input.
-fn runs_out_of<I: Items, P: Parser<I> + Drop>(mut parser: P, input: I) -> bool
-    requires { (P.meaning (P.state parser)).IsSound }
-{
-    is_out(parser.parse(input))
 }
 
 /// Whether memory runs out in a value behind a length.
@@ -158,14 +152,15 @@ where
     requires one { IsOne (HasSize (L.IsOutput (L.state length)) (λ n. n)) }
     requires part { (P.meaning (P.state part)).IsSound }
 {
-    runs_out_of(length_value(length, part), input)
+    runs_out(length_value(length, part), input)
 }
 
 /// Whether memory runs out in a parser around one, with another beside it.
-fn runs_out_in<'a, P, Q>(alloc: Global, shape: Shape, part: P, other: Q, input: &'a str) -> bool
+fn runs_out_in<I, P, Q>(alloc: Global, shape: Shape, part: P, other: Q, input: I) -> bool
 where
-    P: Parser<&'a str, Output = usize, Error = Fail<'a>> + Drop,
-    Q: Parser<&'a str, Output = usize, Error = Fail<'a>> + Drop,
+    I: Input<Item: AsChar>,
+    P: Parser<I, Output = usize, Error = Error<I>> + Drop,
+    Q: Parser<I, Output = usize, Error = Error<I>> + Drop,
     requires part { (P.meaning (P.state part)).IsSound }
     requires other { (Q.meaning (Q.state other)).IsSound }
     requires one { IsOne (HasSize (Q.IsOutput (Q.state other)) (λ n. n)) }
@@ -178,17 +173,18 @@ where
         Shape::Ahead => runs_out(peek(part), input),
         Shape::Completed => runs_out(complete(part), input),
         Shape::Value => value_runs_out(other, part, input),
-        Shape::Items => ends(part),
-        Shape::Buffer => fills(part),
+        Shape::Items => ends(part, input),
+        Shape::Buffer => fills(part, input),
         shape => runs_out_among(alloc, shape, part, other, input),
     }
 }
 
 /// The same where both are tried in turn.
-fn runs_out_among<'a, P, Q>(alloc: Global, shape: Shape, part: P, other: Q, input: &'a str) -> bool
+fn runs_out_among<I, P, Q>(alloc: Global, shape: Shape, part: P, other: Q, input: I) -> bool
 where
-    P: Parser<&'a str, Output = usize, Error = Fail<'a>> + Drop,
-    Q: Parser<&'a str, Output = usize, Error = Fail<'a>> + Drop,
+    I: Input,
+    P: Parser<I, Output = usize, Error = Error<I>> + Drop,
+    Q: Parser<I, Output = usize, Error = Error<I>> + Drop,
     requires part { (P.meaning (P.state part)).IsSound }
     requires other { (Q.meaning (Q.state other)).IsSound }
 {
@@ -211,9 +207,10 @@ fn length_of(_c: char) -> usize
 }
 
 /// Whether memory runs out in a parser around one, and how often another parser beside that, of a `1`, was tried.
-fn tried_beside<'a, P>(alloc: Global, shape: Shape, part: P, input: &'a str) -> (bool, usize)
+fn tried_beside<I, P>(alloc: Global, shape: Shape, part: P, input: I) -> (bool, usize)
 where
-    P: Parser<&'a str, Output = usize, Error = Fail<'a>> + Drop,
+    I: Input<Item: AsChar>,
+    P: Parser<I, Output = usize, Error = Error<I>> + Drop,
     requires { (P.meaning (P.state part)).IsSound }
 {
     let calls = Cell::new(0usize);

@@ -38,25 +38,51 @@ enum Shape {
 
 /// What a list of an item, which takes its memory from a heap, answers in the four modes of what is built. A shape
 /// of another kind is a fold.
-fn of_shape<'a, 'h, S, P>(heap: &'h LocalHeap, shape: Shape, item: P, input: &'a [u8]) -> [Told; 4]
+fn of_shape<'h, S, I, P>(heap: &'h LocalHeap, shape: Shape, item: P, input: I) -> [Told; 4]
 where
     S: IsStreaming,
-    P: Parser<&'a [u8], Output = &'a [u8], Error = Trail> + Drop,
+    I: Input<Item = u8> + AsBytes + Viewed,
+    P: Parser<I, Output = I, Error = Trail> + Drop,
     requires { (P.meaning (P.state item)).IsSound }
 {
     match shape {
         Shape::Many0 => in_modes::<S, _, _>(many0(heap, item), input),
         Shape::Many1 => in_modes::<S, _, _>(many1(heap, item), input),
         Shape::Count => in_modes::<S, _, _>(count(heap, item, 20), input),
-        Shape::ManyMN(min, max) => { in_modes::<S, _, _>(many_m_n(heap, min, max, item), input) }
+        Shape::ManyMN(min, max) => in_modes::<S, _, _>(many_m_n(heap, min, max, item), input),
+        shape => apart::<S, _, _>(heap, shape, item, input),
+    }
+}
+
+/// The same of items before an end.
+fn until<'h, S, I, P, Q>(heap: &'h LocalHeap, item: P, end: Q, input: I) -> [Told; 4]
+where
+    S: IsStreaming,
+    I: Input + AsBytes,
+    P: Parser<I, Output = I, Error = Trail> + Drop,
+    Q: Parser<I, Output = I, Error = Trail> + Drop,
+    requires item { (P.meaning (P.state item)).IsSound }
+    requires end { (Q.meaning (Q.state end)).IsSound }
+{
+    in_modes::<S, _, _>(many_till(heap, item, end), input)
+}
+
+/// The same of items after a length, and of items with separators.
+fn apart<'h, S, I, P>(heap: &'h LocalHeap, shape: Shape, item: P, input: I) -> [Told; 4]
+where
+    S: IsStreaming,
+    I: Input<Item = u8> + AsBytes + Viewed,
+    P: Parser<I, Output = I, Error = Trail> + Drop,
+    requires { (P.meaning (P.state item)).IsSound }
+{
+    match shape {
         Shape::SeparatedList0 => {
             in_modes::<S, _, _>(separated_list0(heap, char(','), item), input)
         }
         Shape::SeparatedList1 => {
             in_modes::<S, _, _>(separated_list1(heap, char(','), item), input)
         }
-        Shape::LengthCount => { in_modes::<S, _, _>(length_count(heap, be_u8(), item), input) }
-        Shape::ManyTill => { in_modes::<S, _, _>(many_till(heap, item, tag(&b"b"[..])), input) }
+        Shape::LengthCount => in_modes::<S, _, _>(length_count(heap, be_u8(), item), input),
         fold => folded::<S, _, _>(fold, item, input),
     }
 }
@@ -86,7 +112,8 @@ fn of_tag<S: IsStreaming>(heap: &LocalHeap, shape: Shape, text: &[u8], input: &[
             many::<_, _, _, Vec<&[u8], &LocalHeap>>(heap, 1..=20, tag(text)),
             input,
         ),
-        _ => of_shape::<S, _>(heap, shape, tag(text), input),
+        Shape::ManyTill => until::<S, _, _, _>(heap, tag(text), tag(b"b".as_slice()), input),
+        _ => of_shape::<S, _, _>(heap, shape, tag(text), input),
     }
 }
 

@@ -38,14 +38,14 @@ fn values(rt: HostRuntime) {
         ),
         (";", left, refused(1, ErrorKind::OneOf)),
     ] {
-        let found = digits::<_, Error<&str>>(rt.alloc(), last, input);
+        let found = digits::<_, _, Error<&str>>(rt.alloc(), last, input);
         assert!(rt; found == told.in_both(), "at {input:?}");
     }
 }
 
 #[test]
 fn an_input_that_ends(rt: HostRuntime) {
-    let found = digits::<_, Error<&str>>(rt.alloc(), Assoc::Left, "1-2");
+    let found = digits::<_, _, Error<&str>>(rt.alloc(), Assoc::Left, "1-2");
     let needs = Told::Needs(Needed::new(1));
     assert!(rt; found.streaming == needs.in_modes());
     assert!(rt; found.complete == value(0, -1).in_modes());
@@ -63,7 +63,7 @@ fn steps_of_refusals(rt: HostRuntime) {
             Told::Fails(Fault::Steps(ErrorKind::Precedence, None)),
         ),
     ] {
-        let found = digits::<_, Trail>(rt.alloc(), Assoc::Left, input);
+        let found = digits::<_, _, Trail>(rt.alloc(), Assoc::Left, input);
         assert!(rt; found == told.in_both(), "at {input:?}");
     }
 }
@@ -77,7 +77,7 @@ fn brackets(rt: HostRuntime) {
         ("(1?2);", Told::Fails(Fault::At(4, ErrorKind::Precedence))),
         ("()", refused(1, ErrorKind::OneOf)),
     ] {
-        let found = bracketed::<_, Error<&str>>(rt.alloc(), input);
+        let found = bracketed::<_, _, Error<&str>>(rt.alloc(), input);
         assert!(rt; found == told.in_both(), "at {input:?}");
     }
 }

@@ -11,6 +11,8 @@ use nom_error::value::{Error, ParseError};
 use nom_internal::parser::{Parser, StreamParser};
 use nom_precedence::{Assoc, Operation, precedence};
 use nom_sequence::delimited;
+use nom_traits::character::AsChar;
+use nom_traits::input::Input;
 use std::alloc::{Allocator, Global};
 
 /// How operators of the three levels are grouped: of the last as it is said.
@@ -59,23 +61,25 @@ fn power(x: i64, y: i64) -> i64 {
 }
 
 /// What a parser answers where more may come, and where none may, each in the four modes of what is built.
-fn in_both<'a, P>(mut parser: P, input: &'a str) -> Both
+fn in_both<I, P>(mut parser: P, input: I) -> Both
 where
-    P: StreamParser<&'a str, Output = i64, Error: Tells> + Drop,
+    I: Input,
+    P: StreamParser<I, Output = i64, Error: Tells> + Drop,
     requires { (P.meaning (P.state parser)).IsSound }
 {
     Both {
-        streaming: in_modes::<Streaming, _>(&mut parser, input),
-        complete: in_modes::<Complete, _>(&mut parser, input),
+        streaming: in_modes::<Streaming, _, _>(&mut parser, input),
+        complete: in_modes::<Complete, _, _>(&mut parser, input),
     }
 }
 
 /// What expressions over an operand answer, with `~` before it, and `^`, `*` and `-`.
-fn over<'a, A, E, F>(alloc: A, last: Assoc, operand: F, input: &'a str) -> Both
+fn over<I, A, E, F>(alloc: A, last: Assoc, operand: F, input: I) -> Both
 where
+    I: Input<Item: AsChar>,
     A: Allocator + Copy,
-    E: ParseError<&'a str> + Tells,
-    F: StreamParser<&'a str, Output = i64, Error = E> + Drop,
+    E: ParseError<I> + Tells,
+    F: StreamParser<I, Output = i64, Error = E> + Drop,
     requires { (F.meaning (F.state operand)).IsSound }
 {
     let levels = levels(last);
@@ -96,24 +100,27 @@ where
 }
 
 /// The same over digits.
-pub fn digits<'a, A: Allocator + Copy, E: ParseError<&'a str> + Tells>(
-    alloc: A,
-    last: Assoc,
-    input: &'a str,
-) -> Both {
-    over::<_, E, _>(alloc, last, one_of("0123456789").map(digit), input)
+pub fn digits<I, A, E>(alloc: A, last: Assoc, input: I) -> Both
+where
+    I: Input<Item: AsChar>,
+    A: Allocator + Copy,
+    E: ParseError<I> + Tells,
+{
+    over::<_, _, E, _>(alloc, last, one_of("0123456789").map(digit), input)
 }
 
 /// The same over digits, and over such expressions in brackets.
-pub fn bracketed<'a, A: Allocator + Copy, E: ParseError<&'a str> + Tells>(
-    alloc: A,
-    input: &'a str,
-) -> Both {
+pub fn bracketed<I, A, E>(alloc: A, input: I) -> Both
+where
+    I: Input<Item: AsChar>,
+    A: Allocator + Copy,
+    E: ParseError<I> + Tells,
+{
     let levels = levels(Assoc::Left);
     let operator = alt([char('^'), char('*'), char('-'), char('?')]).map(leveled);
     let inner = one_of("0123456789").map(digit);
     let none = fail::<_, char, _>();
-    or_brackets::<_, E, _>(
+    or_brackets::<_, _, E, _>(
         alloc,
         precedence(alloc, &levels[..], char('~'), inner, none, operator, value),
         input,
@@ -121,24 +128,26 @@ pub fn bracketed<'a, A: Allocator + Copy, E: ParseError<&'a str> + Tells>(
 }
 
 /// The same over digits, and over a parser in brackets.
-fn or_brackets<'a, A, E, F>(alloc: A, inner: F, input: &'a str) -> Both
+fn or_brackets<I, A, E, F>(alloc: A, inner: F, input: I) -> Both
 where
+    I: Input<Item: AsChar>,
     A: Allocator + Copy,
-    E: ParseError<&'a str> + Tells,
-    F: StreamParser<&'a str, Output = i64, Error = E> + Drop,
+    E: ParseError<I> + Tells,
+    F: StreamParser<I, Output = i64, Error = E> + Drop,
     requires { (F.meaning (F.state inner)).IsSound }
 {
     let digit = one_of("0123456789").map(digit);
     let operand = alt((digit, delimited(char('('), inner, char(')'))));
-    over::<_, E, _>(alloc, Assoc::Left, operand, input)
+    over::<_, _, E, _>(alloc, Assoc::Left, operand, input)
 }
 
 /// What expressions of parts answer, whose operators consume nothing.
-fn of_parts<'a, P, F, Q>(alloc: Global, prefix: P, operand: F, postfix: Q, input: &'a str) -> Both
+fn of_parts<I, P, F, Q>(alloc: Global, prefix: P, operand: F, postfix: Q, input: I) -> Both
 where
-    P: StreamParser<&'a str, Output = char, Error = Error<&'a str>> + Drop,
-    F: StreamParser<&'a str, Output = i64, Error = Error<&'a str>> + Drop,
-    Q: StreamParser<&'a str, Output = char, Error = Error<&'a str>> + Drop,
+    I: Input,
+    P: StreamParser<I, Output = char, Error = Error<I>> + Drop,
+    F: StreamParser<I, Output = i64, Error = Error<I>> + Drop,
+    Q: StreamParser<I, Output = char, Error = Error<I>> + Drop,
     requires prefix { (P.meaning (P.state prefix)).IsSound }
     requires operand { (F.meaning (F.state operand)).IsSound }
     requires postfix { (Q.meaning (Q.state postfix)).IsSound }
@@ -161,7 +170,7 @@ where
 
 /// What an expression answers whose operands and operators consume nothing; and one with such prefixes, and with
 /// such postfixes.
-pub fn stuck(alloc: Global, input: &str) -> [Both; 3] {
+pub fn stuck<I: Input<Item: AsChar>>(alloc: Global, input: I) -> [Both; 3] {
     let first = one_of("0123456789").map(digit);
     let second = one_of("0123456789").map(digit);
     [

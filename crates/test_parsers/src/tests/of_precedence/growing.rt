@@ -1,6 +1,5 @@
 //! Expressions in an input that grows.
 ghost use Rattle.nom_growing.specs.Growing.{AreCuts};
-ghost use Rattle.nom_traits.specs.Bytes.{seen_bytes};
 
 use super::grammar::{digit, leveled, value};
 use nom_character::{char, one_of};
@@ -10,33 +9,33 @@ use nom_error::value::Error;
 use nom_growing::growing::{Grown, parse_growing};
 use nom_internal::parser::{Parser, StreamParser};
 use nom_precedence::{Assoc, precedence};
+use nom_traits::character::AsChar;
+use nom_traits::input::Input;
 use std::alloc::Global;
 
-type Fail<'a> = Error<&'a [u8]>;
-
 /// What a parser answers in an input that grows.
-fn grown_of<'a, P: StreamParser<&'a [u8]> + Drop>(
+fn grown_of<I: Input, P: StreamParser<I> + Drop>(
     parser: P,
-    input: &'a [u8],
+    input: I,
     cuts: &[usize],
-) -> Grown<&'a [u8], P::Output, P::Error>
+) -> Grown<I, P::Output, P::Error>
     requires sound { (P.meaning (P.state parser)).IsSound }
-    requires cuts { AreCuts seen_bytes input cuts.now }
+    requires cuts { AreCuts I.seen input cuts.now }
 {
     parse_growing(parser, input, cuts)
 }
 
 /// Digits with `-` between them, in an input that grows: the index of the cut, and the answer there.
-fn grown<'a>(
+fn grown<I: Input<Item: AsChar>>(
     alloc: Global,
-    input: &'a [u8],
+    input: I,
     cuts: &[usize],
-) -> (usize, IResult<&'a [u8], i64, Fail<'a>>)
-    requires { AreCuts seen_bytes input cuts.now }
+) -> (usize, IResult<I, i64, Error<I>>)
+    requires { AreCuts I.seen input cuts.now }
 {
     let levels = [Assoc::Right, Assoc::Left, Assoc::Left];
     let operand = one_of("0123456789").map(digit);
-    let none = fail::<_, char, Fail<'a>>();
+    let none = fail::<_, char, Error<I>>();
     let operator = char('-').map(leveled);
     let grown = grown_of(
         precedence(

@@ -14,7 +14,7 @@ fn times_refused(alloc: Global, input: &str, value: i64) -> Result<Option<usize>
     let mut sufficed = false;
     for units in 1..60 {
         let heap = LocalHeap::new(alloc, units * 16)?;
-        let found = digits::<_, Trail>(&heap, Assoc::Left, input).complete;
+        let found = digits::<_, _, Trail>(&heap, Assoc::Left, input).complete;
         if found[2] != Told::Accepts(0, None) {
             return Ok(None);
         }

@@ -8,6 +8,7 @@ use nom_error::mode::{Check, Emit, IsStreaming, OutputM};
 use nom_error::value::Error;
 use nom_internal::parser::Parser;
 use nom_trail::trail::Trail;
+use nom_traits::input::Input;
 
 /// What of an error is told: its kinds, and the length of the input at its place.
 #[derive(Clone, Copy, PartialEq, Eq)]
@@ -71,9 +72,9 @@ pub trait Tells {
     fn tells(&self) -> Fault;
 }
 
-impl Tells for Error<&str> {
+impl<I: Input> Tells for Error<I> {
     fn tells(&self) -> Fault {
-        Fault::At(self.input.len(), self.code)
+        Fault::At(self.input.input_len(), self.code)
     }
 }
 
@@ -89,9 +90,9 @@ impl Tells for Trail {
 }
 
 /// What of an answer is told.
-pub fn told_of<E: Tells + Drop>(answer: PResult<&str, i64, E>) -> Told {
+pub fn told_of<I: Input, E: Tells + Drop>(answer: PResult<I, i64, E>) -> Told {
     match answer {
-        Ok((rest, value)) => Told::Accepts(rest.len(), value),
+        Ok((rest, value)) => Told::Accepts(rest.input_len(), value),
         Err(Err::Error(error)) => Told::Refuses(error.as_ref().map(|error| error.tells())),
         Err(Err::Failure(error)) => Told::Fails(error.tells()),
         Err(Err::Incomplete(needed)) => Told::Needs(needed),
@@ -100,10 +101,11 @@ pub fn told_of<E: Tells + Drop>(answer: PResult<&str, i64, E>) -> Told {
 }
 
 /// What a parser answers in the four modes of what is built: all, outputs, errors, nothing.
-pub fn in_modes<'a, S, P>(parser: &mut P, input: &'a str) -> [Told; 4]
+pub fn in_modes<S, I, P>(parser: &mut P, input: I) -> [Told; 4]
 where
     S: IsStreaming,
-    P: Parser<&'a str, Output = i64, Error: Tells>,
+    I: Input,
+    P: Parser<I, Output = i64, Error: Tells>,
     requires { (P.meaning (P.state parser.old)).IsSound }
     ensures { P.state parser.new ≡ P.state parser.old }
 {
