@@ -3,12 +3,18 @@
 
 ghost use Rattle.std.specs.Prelude.{◌≡◌};
 
+mod flat;
+mod members;
+mod nest;
+mod permutations;
 pub mod promises;
 mod rounds;
+mod widths;
 
-pub use crate::rounds::Permutation;
-pub use nom_members::{Members, StreamMembers};
-pub use nom_slots::{Round, Slot};
+pub use crate::nest::Nests;
+pub use crate::permutations::{OnceEach, Permutation};
+pub use crate::widths::{Members, StreamMembers};
+use std::marker::PhantomData;
 
 /// Each of the parsers in `list` once, in any order, with their outputs in the order of the list.
 ///
@@ -16,8 +22,11 @@ pub use nom_slots::{Round, Slot};
 /// all that are left refuse, so does the permutation: their errors are joined by `or` from left to
 /// right, and the whole is closed by `append` with `Permutation` where that round started.
 #[inline(always)]
-pub fn permutation<List>(list: List) -> Permutation<List>
-    ensures { result.parser ≡ list }
+pub fn permutation<List: Nests>(list: List) -> Permutation<List>
+    ensures { result.members ≡ List.nested list }
 {
-    Permutation { parser: list }
+    OnceEach {
+        members: list.nested(),
+        tuple: PhantomData,
+    }
 }
