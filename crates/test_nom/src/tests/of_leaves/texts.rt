@@ -2,14 +2,15 @@
 ghost use Rattle.std.specs.Prelude.{◌≡◌};
 
 use nom::branch::alt;
-use nom::bytes::{complete, escaped, escaped_transform, tag, take_while1};
+use nom::bytes::{Tag, complete, escaped, escaped_transform, tag, take_while1};
 use nom::error::Error;
 use nom::multi::{length_data, many0};
 use nom::{
-    AsChar, Check, Complete, Emit, Err, IResult, Items, Mode, Needed, OutputM, OutputMode, PResult,
-    Parser, Streaming,
+    AsChar, Check, Complete, Emit, Err, IResult, Input, Items, Mode, Needed, OutputM, OutputMode,
+    PResult, Parser, Streaming,
 };
 use nom_rows::rows::{Answer, wrong_row};
+use std::alloc::Allocator;
 
 type Fail<'a> = Error<&'a str>;
 
@@ -70,6 +71,11 @@ fn an_empty_piece(rt: HostRuntime) {
     assert!(rt; gives(text, "ab7", "7", "ab"));
 }
 
+/// A tag.
+fn sign<'a>(text: &'a str) -> Tag<&'a str, &'a str, Fail<'a>> {
+    tag(text)
+}
+
 /// Whether what a list and its end answer is this many items before such a rest, with this one in the second
 /// place.
 fn are_items(found: IResult<&str, (Vec<&str>, &str)>, count: usize, left: &str) -> bool {
@@ -89,23 +95,36 @@ fn needs(found: IResult<&str, (Vec<&str>, &str)>, size: usize) -> bool {
     }
 }
 
-/// What a parser of items answers at two inputs. It promises nothing.
-fn items_of<'a, P: Parser<&'a str, Error = Fail<'a>> + Drop>(
-    mut parser: P,
-    first: &'a str,
-    second: &'a str,
-) -> (IResult<&'a str, P::Output>, IResult<&'a str, P::Output>)
-    requires { (P.meaning (P.state parser)).IsSound }
+/// What a parser answers. It promises nothing.
+fn answer_of<I: Input, P: Parser<I, Error = Error<I>>>(
+    parser: &mut P,
+    input: I,
+) -> IResult<I, P::Output>
+    requires { (P.meaning (P.state parser.old)).IsSound }
 {
-    (parser.parse(first), parser.parse(second))
+    parser.parse(input)
+}
+
+/// What items, each of them one of two, and their end answer. It promises nothing.
+fn list_of<
+    A: Allocator + Copy,
+    I: Input,
+    O: Drop,
+    P: Parser<I, Output = O, Error = Error<I>> + Drop,
+>(alloc: A, one: P, other: P, end: P, input: I) -> IResult<I, (Vec<O, A>, O)>
+    requires one { (P.meaning (P.state one)).IsSound }
+    requires other { (P.meaning (P.state other)).IsSound }
+    requires end { (P.meaning (P.state end)).IsSound }
+{
+    let mut list = many0(alloc, alt((one, other))).and(end);
+    answer_of(&mut list, input)
 }
 
 #[test]
 fn lists_and_choices_of_texts(rt: HostRuntime) {
-    let item = alt((tag::<_, _, Fail>("é"), tag::<_, _, Fail>("💢")));
-    let list = many0(rt.alloc(), item).and(tag::<_, _, Fail>(";"));
-    let (ended, unsure) = items_of(list, "é💢é;¡", "é💢");
+    let ended = list_of(rt.alloc(), sign("é"), sign("💢"), sign(";"), "é💢é;¡");
     assert!(rt; are_items(ended, 3, "¡"));
+    let unsure = list_of(rt.alloc(), sign("é"), sign("💢"), sign(";"), "é💢");
     assert!(rt; needs(unsure, 2));
 }
 

@@ -1,14 +1,17 @@
 //! Closures on outputs. Nothing is written for what they owe: that they take each output, that they judge
-//! the outputs of one tree alike, and that they give results that are seen alike for outputs that are.
+//! the outputs of one tree alike, and that they give results that are seen alike for outputs that are. A chain of
+//! parsers over parts and closures of any type says in its clauses what it takes of them.
 
-ghost use Rattle.std.specs.Prelude.{ℕ, List, Option};
+ghost use Rattle.std.specs.Prelude.{◌≡◌, ℕ, List, Option, Some, Ok, is_some, is_ok};
+ghost use Rattle.nom_traits.specs.View.{pair_view};
+ghost use Rattle.nom_internal.specs.Closures.{IsCallable, IsJudge, SeesAlike};
 
 use nom::bytes::take;
 use nom::combinator::{map, map_opt, map_res, success, value, verify};
 use nom::error::{Error, ErrorKind};
 use nom::number::be_u8;
-use nom::{IResult, Parser, Viewed};
-use nom_rows::rows::{Answer, bytes, is_grown, wrong_pinned_row, wrong_row};
+use nom::{IResult, Input, Parser, Viewed};
+use nom_rows::rows::{Answer, Content, Row, bytes, is_grown, wrong_pinned_row, wrong_row};
 use std::test::Fail;
 
 type At<'a> = Error<&'a [u8]>;
@@ -48,23 +51,57 @@ fn sum() -> Option<usize> {
     wrong_pinned_row(sum, &rows)
 }
 
+/// A map.
+fn mapped_of<
+    I: Input + Content,
+    A: Viewed + Drop,
+    O: Viewed + PartialEq + Drop,
+    P: Parser<I, Output = A, Error = Error<I>> + Drop,
+    G: Fn(A) -> O + Drop,
+>(part: P, by: G, rows: &[Row<I, O>]) -> Option<usize>
+    requires part { (P.meaning (P.state part)).IsSound }
+    requires pins { P.Pins (P.state part) }
+    requires takes { IsCallable (P.IsOutput (P.state part)) (G.pre by) }
+    requires alike { SeesAlike A.view O.view (G.post by) }
+{
+    wrong_pinned_row(map(part, by), rows)
+}
+
 fn table() -> Option<usize> {
     let rows = [
         (bytes("\x03"), Answer::Accepts(0, 2), None),
         (bytes("\x04"), Answer::Accepts(0, 0), None),
     ];
-    let set = be_u8::<_, At>().map(|b: u8| SET[(b % 4) as usize]);
-    wrong_pinned_row(set, &rows)
+    mapped_of(be_u8::<_, At>(), |b: u8| SET[(b % 4) as usize], &rows)
+}
+
+/// A map of a pair.
+fn mapped_pair<
+    I: Input + Content,
+    A: Viewed + Drop,
+    O: Viewed + PartialEq + Drop,
+    P: Parser<I, Output = A, Error = Error<I>> + Drop,
+    G: Fn((A, A)) -> O + Drop,
+>(first: P, second: P, by: G, rows: &[Row<I, O>]) -> Option<usize>
+    requires first { (P.meaning (P.state first)).IsSound }
+    requires second { (P.meaning (P.state second)).IsSound }
+    requires pins { P.Pins (P.state first) }
+    requires second_pins { P.Pins (P.state second) }
+    requires takes { (o : A × A) → G.pre by o }
+    requires alike { SeesAlike (pair_view A.view A.view) O.view (G.post by) }
+{
+    mapped_of(first.and(second), by, rows)
 }
 
 fn of_color() -> Option<usize> {
     let given = Color { red: 1, green: 2 };
     let rows = [(bytes("\x01\x02c"), Answer::Accepts(1, given), None)];
-    let color = map(
-        be_u8::<_, At>().and(be_u8()),
+    mapped_pair(
+        be_u8::<_, At>(),
+        be_u8(),
         |(red, green): (u8, u8)| Color { red, green },
-    );
-    wrong_pinned_row(color, &rows)
+        &rows,
+    )
 }
 
 fn of_piece() -> Option<usize> {
@@ -73,21 +110,24 @@ fn of_piece() -> Option<usize> {
         last: Some(b'b'),
     };
     let rows = [(bytes("abc"), Answer::Accepts(1, given), None)];
-    let piece = map(
+    mapped_of(
         take::<_, _, At>(2usize),
         |s: &[u8]| Piece {
             bytes: s,
             last: s.last().copied(),
         },
-    );
-    wrong_pinned_row(piece, &rows)
+        &rows,
+    )
 }
 
 /// A captured number.
 fn capped(most: u8, given: u8) -> Option<usize> {
     let rows = [(bytes("\x07"), Answer::Accepts(0, given), None)];
-    let capped = be_u8::<_, At>().map(move |b: u8| if b < most { b } else { most });
-    wrong_pinned_row(capped, &rows)
+    mapped_of(
+        be_u8::<_, At>(),
+        move |b: u8| if b < most { b } else { most },
+        &rows,
+    )
 }
 
 /// A function by its name.
@@ -99,14 +139,38 @@ fn length() -> Option<usize> {
     wrong_row(map(take::<_, _, At>(2usize), <[u8]>::len), &rows)
 }
 
+/// A map of a map.
+fn mapped_twice<
+    I: Input + Content,
+    A: Viewed + Drop,
+    B: Viewed + Drop,
+    O: Viewed + PartialEq + Drop,
+    P: Parser<I, Output = A, Error = Error<I>> + Drop,
+    F: Fn(A) -> B + Drop,
+    G: Fn(B) -> O + Drop,
+>(part: P, first: F, second: G, rows: &[Row<I, O>]) -> Option<usize>
+    requires part { (P.meaning (P.state part)).IsSound }
+    requires pins { P.Pins (P.state part) }
+    requires takes { IsCallable (P.IsOutput (P.state part)) (F.pre first) }
+    requires alike { SeesAlike A.view B.view (F.post first) }
+    requires second_takes { (b : B) → G.pre second b }
+    requires second_alike { SeesAlike B.view O.view (G.post second) }
+{
+    mapped_of(part.map(first), second, rows)
+}
+
 /// The first byte of a part of a slice.
 fn second_byte() -> Option<usize> {
     let rows = [
         (bytes("abcd"), Answer::Accepts(1, Some(b'b')), None),
         (bytes("cba"), Answer::Accepts(0, Some(b'b')), None),
     ];
-    let tail = take::<_, _, At>(3usize).map(|s: &[u8]| if s.len() > 1 { &s[1..] } else { s });
-    wrong_pinned_row(tail.map(|s: &[u8]| s.first().copied()), &rows)
+    mapped_twice(
+        take::<_, _, At>(3usize),
+        |s: &[u8]| if s.len() > 1 { &s[1..] } else { s },
+        |s: &[u8]| s.first().copied(),
+        &rows,
+    )
 }
 
 #[test]
@@ -143,6 +207,43 @@ fn judged_slice() -> Option<usize> {
     wrong_pinned_row(same, &rows)
 }
 
+/// A pair of two parts that closures judge.
+fn judged_pair_of<
+    I: Input + Content,
+    A: Viewed + Drop,
+    O: Viewed + PartialEq + Drop,
+    X: Drop,
+    P: Parser<I, Output = A, Error = Error<I>> + Drop,
+    F: Fn(A) -> Option<O> + Drop,
+    G: Fn(A) -> Result<O, X> + Drop,
+>(a: P, first: F, b: P, second: G, rows: &[Row<I, (O, O)>]) -> Option<usize>
+    requires a { (P.meaning (P.state a)).IsSound }
+    requires b { (P.meaning (P.state b)).IsSound }
+    requires a_pins { P.Pins (P.state a) }
+    requires b_pins { P.Pins (P.state b) }
+    requires first { IsJudge (P.IsOutput (P.state a)) (F.pre first) (F.post first) is_some }
+    requires second { IsJudge (P.IsOutput (P.state b)) (G.pre second) (G.post second) is_ok }
+    requires first_alike { SeesAlike A.view O.view (λ v o. F.post first v (Some o)) }
+    requires second_alike { SeesAlike A.view O.view (λ v o. G.post second v (Ok o)) }
+{
+    both_of(a.map_opt(first), map_res(b, second), rows)
+}
+
+/// A pair.
+fn both_of<
+    I: Input + Content,
+    O: PartialEq + Drop,
+    P: Parser<I, Output = O, Error = Error<I>> + Drop,
+    Q: Parser<I, Output = O, Error = Error<I>> + Drop,
+>(first: P, second: Q, rows: &[Row<I, (O, O)>]) -> Option<usize>
+    requires first { (P.meaning (P.state first)).IsSound }
+    requires second { (Q.meaning (Q.state second)).IsSound }
+    requires pins { P.Pins (P.state first) }
+    requires second_pins { Q.Pins (Q.state second) }
+{
+    wrong_pinned_row(first.and(second), rows)
+}
+
 // The second part refuses at its own start.
 fn judged_pair() -> Option<usize> {
     let rows = [
@@ -155,12 +256,13 @@ fn judged_pair() -> Option<usize> {
             Some(Answer::Refuses(EOF, 0)),
         ),
     ];
-    let less = be_u8::<_, At>().map_opt(|b: u8| b.checked_sub(4));
-    let value = map_res(
+    judged_pair_of(
         be_u8::<_, At>(),
+        |b: u8| b.checked_sub(4),
+        be_u8(),
         |b: u8| if b < 58 { Ok(b) } else { Err(b) },
-    );
-    wrong_pinned_row(less.and(value), &rows)
+        &rows,
+    )
 }
 
 /// A value for each output.
@@ -180,14 +282,27 @@ fn judged(rt: HostRuntime) {
     assert!(rt; words().is_none());
 }
 
-/// What a parser of two lists answers. It promises nothing.
-fn lists_of<'a, P: Parser<&'a [u8], Output = (Vec<u8>, Vec<u8>), Error = At<'a>>>(
+/// What a parser answers. It promises nothing.
+fn answer_of<I: Input, P: Parser<I, Error = Error<I>>>(
     parser: &mut P,
-    input: &'a [u8],
-) -> IResult<&'a [u8], (Vec<u8>, Vec<u8>)>
+    input: I,
+) -> IResult<I, P::Output>
     requires { (P.meaning (P.state parser.old)).IsSound }
 {
     parser.parse(input)
+}
+
+/// What a list and one behind a part answer. It promises nothing.
+fn lists_of<I: Input, B: Drop, P: Parser<I, Output = B, Error = Error<I>> + Drop>(
+    first: Vec<u8>,
+    second: Vec<u8>,
+    part: P,
+    input: I,
+) -> IResult<I, (Vec<u8>, Vec<u8>)>
+    requires part { (P.meaning (P.state part)).IsSound }
+{
+    let mut lists = success::<_, _, Error<I>>(first).and(value(second, part));
+    answer_of(&mut lists, input)
 }
 
 /// Whether both lists are those of 1 and 2, with nothing behind.
@@ -208,8 +323,8 @@ fn are_lists(found: IResult<&[u8], (Vec<u8>, Vec<u8>)>) -> bool {
 fn a_list_for_each_output(rt: HostRuntime) -> Result<(), Fail> {
     let list = vec![in rt.alloc(); 1u8, 2]?;
     for input in [bytes("a"), bytes("b")] {
-        let mut lists = success::<_, _, At>(list.clone()?).and(value(list.clone()?, be_u8()));
-        assert!(rt; are_lists(lists_of(&mut lists, input)));
+        let lists = lists_of(list.clone()?, list.clone()?, be_u8::<_, At>(), input);
+        assert!(rt; are_lists(lists));
     }
     Ok(())
 }

@@ -1,11 +1,13 @@
 //! Parts in sequence, and tuples: the answers of tuples of one and of four parsers stand among
-//! those that `nom_answers` replays.
+//! those that `nom_answers` replays. A wide tuple is made of parts of any type, over any input, and what each test
+//! gives it are leaves.
 
 use nom::bytes::{Tag, Take, tag, take};
 use nom::error::{Error, ErrorKind};
 use nom::number::{be_u8, be_u16};
 use nom::sequence::{delimited, pair, separated_pair, terminated};
-use nom_rows::rows::{Answer, bytes, is_grown, wrong_row};
+use nom::{Input, Parser};
+use nom_rows::rows::{Answer, Content, Row, bytes, is_grown, wrong_row};
 
 type At<'a> = Error<&'a [u8]>;
 
@@ -87,18 +89,66 @@ fn byte<'a>() -> Take<&'a [u8], At<'a>> {
     take(1usize)
 }
 
+/// A tuple of five.
+fn five_of<
+    I: Input + Content,
+    O: PartialEq + Drop,
+    P: Parser<I, Output = O, Error = Error<I>> + Drop,
+>(a: P, b: P, c: P, d: P, e: P, rows: &[Row<I, (O, O, O, O, O)>]) -> Option<usize>
+    requires a { (P.meaning (P.state a)).IsSound }
+    requires b { (P.meaning (P.state b)).IsSound }
+    requires c { (P.meaning (P.state c)).IsSound }
+    requires d { (P.meaning (P.state d)).IsSound }
+    requires e { (P.meaning (P.state e)).IsSound }
+{
+    wrong_row((a, b, c, d, e), rows)
+}
+
 fn five() -> Option<usize> {
     let [a, b, c, d, e] = ["a", "b", "c", "d", "e"];
     let outputs = (bytes(a), bytes(b), bytes(c), bytes(d), bytes(e));
     let rows = [(bytes("abcdefgh"), Answer::Accepts(3, outputs), None)];
-    wrong_row((byte(), byte(), byte(), byte(), byte()), &rows)
+    five_of(byte(), byte(), byte(), byte(), byte(), &rows)
+}
+
+/// A tuple of six.
+fn six_of<
+    I: Input + Content,
+    O: PartialEq + Drop,
+    P: Parser<I, Output = O, Error = Error<I>> + Drop,
+>(a: P, b: P, c: P, d: P, e: P, f: P, rows: &[Row<I, (O, O, O, O, O, O)>]) -> Option<usize>
+    requires a { (P.meaning (P.state a)).IsSound }
+    requires b { (P.meaning (P.state b)).IsSound }
+    requires c { (P.meaning (P.state c)).IsSound }
+    requires d { (P.meaning (P.state d)).IsSound }
+    requires e { (P.meaning (P.state e)).IsSound }
+    requires f { (P.meaning (P.state f)).IsSound }
+{
+    wrong_row((a, b, c, d, e, f), rows)
 }
 
 fn six() -> Option<usize> {
     let [a, b, c, d, e, f] = ["a", "b", "c", "d", "e", "f"];
     let outputs = (bytes(a), bytes(b), bytes(c), bytes(d), bytes(e), bytes(f));
     let rows = [(bytes("abcdefgh"), Answer::Accepts(2, outputs), None)];
-    wrong_row((byte(), byte(), byte(), byte(), byte(), byte()), &rows)
+    six_of(byte(), byte(), byte(), byte(), byte(), byte(), &rows)
+}
+
+/// A tuple of seven.
+fn seven_of<
+    I: Input + Content,
+    O: PartialEq + Drop,
+    P: Parser<I, Output = O, Error = Error<I>> + Drop,
+>(a: P, b: P, c: P, d: P, e: P, f: P, g: P, rows: &[Row<I, (O, O, O, O, O, O, O)>]) -> Option<usize>
+    requires a { (P.meaning (P.state a)).IsSound }
+    requires b { (P.meaning (P.state b)).IsSound }
+    requires c { (P.meaning (P.state c)).IsSound }
+    requires d { (P.meaning (P.state d)).IsSound }
+    requires e { (P.meaning (P.state e)).IsSound }
+    requires f { (P.meaning (P.state f)).IsSound }
+    requires g { (P.meaning (P.state g)).IsSound }
+{
+    wrong_row((a, b, c, d, e, f, g), rows)
 }
 
 fn seven() -> Option<usize> {
@@ -113,27 +163,74 @@ fn seven() -> Option<usize> {
         bytes(g),
     );
     let rows = [(bytes("abcdefgh"), Answer::Accepts(1, outputs), None)];
-    let seven = (byte(), byte(), byte(), byte(), byte(), byte(), byte());
-    wrong_row(seven, &rows)
+    seven_of(
+        byte(),
+        byte(),
+        byte(),
+        byte(),
+        byte(),
+        byte(),
+        byte(),
+        &rows,
+    )
 }
 
-// The first letter that is another one refuses, at its own place. Where the input ends in the middle, more is
-// needed where more may come, and else the letter refuses.
+/// A tuple of eight.
+fn eight_of<
+    I: Input + Content,
+    O: PartialEq + Drop,
+    P: Parser<I, Output = O, Error = Error<I>> + Drop,
+>(
+    a: P,
+    b: P,
+    c: P,
+    d: P,
+    e: P,
+    f: P,
+    g: P,
+    h: P,
+    rows: &[Row<I, (O, O, O, O, O, O, O, O)>],
+) -> Option<usize>
+    requires a { (P.meaning (P.state a)).IsSound }
+    requires b { (P.meaning (P.state b)).IsSound }
+    requires c { (P.meaning (P.state c)).IsSound }
+    requires d { (P.meaning (P.state d)).IsSound }
+    requires e { (P.meaning (P.state e)).IsSound }
+    requires f { (P.meaning (P.state f)).IsSound }
+    requires g { (P.meaning (P.state g)).IsSound }
+    requires h { (P.meaning (P.state h)).IsSound }
+{
+    wrong_row((a, b, c, d, e, f, g, h), rows)
+}
+
 fn eight() -> Option<usize> {
-    let [a, b, c, d, e, f, g, h] = ["a", "b", "c", "d", "e", "f", "g", "h"];
     let outputs = (
-        bytes(a),
-        bytes(b),
-        bytes(c),
-        bytes(d),
-        bytes(e),
-        bytes(f),
-        bytes(g),
-        bytes(h),
+        bytes("a"),
+        bytes("b"),
+        bytes("c"),
+        bytes("d"),
+        bytes("e"),
+        bytes("f"),
+        bytes("g"),
+        bytes("h"),
     );
-    let ended = Some(Answer::Refuses(TAG, 0));
+    let rows = [(bytes("abcdefghi"), Answer::Accepts(1, outputs), None)];
+    eight_of(
+        sign("a"),
+        sign("b"),
+        sign("c"),
+        sign("d"),
+        sign("e"),
+        sign("f"),
+        sign("g"),
+        sign("h"),
+        &rows,
+    )
+}
+
+// The first letter that is another one refuses, at its own place.
+fn another_letter() -> Option<usize> {
     let rows = [
-        (bytes("abcdefghi"), Answer::Accepts(1, outputs), None),
         (bytes("x"), Answer::Refuses(TAG, 1), None),
         (bytes("ax"), Answer::Refuses(TAG, 1), None),
         (bytes("abxx"), Answer::Refuses(TAG, 2), None),
@@ -142,22 +239,40 @@ fn eight() -> Option<usize> {
         (bytes("abcdex"), Answer::Refuses(TAG, 1), None),
         (bytes("abcdefx"), Answer::Refuses(TAG, 1), None),
         (bytes("abcdefgxy"), Answer::Refuses(TAG, 2), None),
+    ];
+    eight_of(
+        sign("a"),
+        sign("b"),
+        sign("c"),
+        sign("d"),
+        sign("e"),
+        sign("f"),
+        sign("g"),
+        sign("h"),
+        &rows,
+    )
+}
+
+// Where the input ends in the middle, more is needed where more may come, and else the letter refuses.
+fn too_few_letters() -> Option<usize> {
+    let ended = Some(Answer::Refuses(TAG, 0));
+    let rows = [
         (bytes(""), Answer::Needs(1), ended),
         (bytes("a"), Answer::Needs(1), ended),
         (bytes("abcd"), Answer::Needs(1), ended),
         (bytes("abcdefg"), Answer::Needs(1), ended),
     ];
-    let letters = (
-        sign(a),
-        sign(b),
-        sign(c),
-        sign(d),
-        sign(e),
-        sign(f),
-        sign(g),
-        sign(h),
-    );
-    wrong_row(letters, &rows)
+    eight_of(
+        sign("a"),
+        sign("b"),
+        sign("c"),
+        sign("d"),
+        sign("e"),
+        sign("f"),
+        sign("g"),
+        sign("h"),
+        &rows,
+    )
 }
 
 #[test]
@@ -166,6 +281,8 @@ fn wide_tuples(rt: HostRuntime) {
     assert!(rt; six().is_none());
     assert!(rt; seven().is_none());
     assert!(rt; eight().is_none());
+    assert!(rt; another_letter().is_none());
+    assert!(rt; too_few_letters().is_none());
 }
 
 // A tuple waits at each cut that one of its members lacks something at.

@@ -5,8 +5,8 @@ use nom::branch::alt;
 use nom::bytes::{Tag, tag};
 use nom::combinator::cut;
 use nom::error::ErrorKind;
-use nom::{Err, Parser};
-use nom_rows::rows::{bytes, grown, is_grown};
+use nom::{Err, Input, Parser};
+use nom_rows::rows::{Content, bytes, grown, is_grown};
 use nom_trail::trail::Trail;
 
 const ALT: Option<ErrorKind> = Some(ErrorKind::Alt);
@@ -79,6 +79,30 @@ fn of_seven() -> Option<usize> {
     wrong_row(seven, &rows)
 }
 
+/// A choice among eight.
+fn eight_of<I: Input + Content + PartialEq, P: Parser<I, Output = I, Error = Trail> + Drop>(
+    a: P,
+    b: P,
+    c: P,
+    d: P,
+    e: P,
+    f: P,
+    g: P,
+    h: P,
+    rows: &[Row<I>],
+) -> Option<usize>
+    requires a { (P.meaning (P.state a)).IsSound }
+    requires b { (P.meaning (P.state b)).IsSound }
+    requires c { (P.meaning (P.state c)).IsSound }
+    requires d { (P.meaning (P.state d)).IsSound }
+    requires e { (P.meaning (P.state e)).IsSound }
+    requires f { (P.meaning (P.state f)).IsSound }
+    requires g { (P.meaning (P.state g)).IsSound }
+    requires h { (P.meaning (P.state h)).IsSound }
+{
+    wrong_row(alt((a, b, c, d, e, f, g, h)), rows)
+}
+
 // The error lists eight steps: that the choice is closed would be the ninth.
 fn of_eight() -> Option<usize> {
     let rows = [
@@ -89,7 +113,7 @@ fn of_eight() -> Option<usize> {
         (bytes("x"), Answer::Refuses(8, None), None),
         (bytes(""), Answer::Needs(1), Some(Answer::Refuses(8, None))),
     ];
-    let eight = alt((
+    eight_of(
         word("a"),
         word("b"),
         word("c"),
@@ -98,8 +122,8 @@ fn of_eight() -> Option<usize> {
         word("f"),
         word("g"),
         word("h"),
-    ));
-    wrong_row(eight, &rows)
+        &rows,
+    )
 }
 
 // The errors of two branches of `or` are joined, and nothing is closed.
@@ -147,12 +171,12 @@ fn of_array_of_none() -> Option<usize> {
     wrong_row(alt([word("c"); 0]), &rows)
 }
 
-fn of_slice<'a>(rows: &[Row<'a>]) -> Option<usize> {
+fn of_slice<'a>(rows: &[Row<&'a [u8]>]) -> Option<usize> {
     let mut tags = [word("a"), word("b"), word("c")];
     wrong_row(alt(&mut tags[..]), rows)
 }
 
-fn of_slice_of_none<'a>(rows: &[Row<'a>]) -> Option<usize> {
+fn of_slice_of_none<'a>(rows: &[Row<&'a [u8]>]) -> Option<usize> {
     let mut tags = [word("c")];
     wrong_row(alt(&mut tags[..0]), rows)
 }

@@ -6,7 +6,8 @@ use nom::branch::permutation;
 use nom::bytes::{Tag, tag, take};
 use nom::character::char;
 use nom::error::{Error, ErrorKind};
-use nom_rows::rows::{Answer, bytes, is_grown, wrong_row};
+use nom::{Input, Parser};
+use nom_rows::rows::{Answer, Content, Row, bytes, is_grown, wrong_row};
 use nom_trail::trail::Trail;
 
 type At<'a> = Error<&'a [u8]>;
@@ -20,6 +21,21 @@ fn sign<'a>(text: &'a str) -> Tag<&'a [u8], &'a [u8], At<'a>> {
     tag(bytes(text))
 }
 
+/// Three parts in any order, the first two of one type.
+fn three_of<
+    I: Input + Content,
+    A: PartialEq + Drop,
+    B: PartialEq + Drop,
+    P: Parser<I, Output = A, Error = Error<I>> + Drop,
+    Q: Parser<I, Output = B, Error = Error<I>> + Drop,
+>(a: P, b: P, c: Q, rows: &[Row<I, (A, A, B)>]) -> Option<usize>
+    requires a { (P.meaning (P.state a)).IsSound }
+    requires b { (P.meaning (P.state b)).IsSound }
+    requires c { (Q.meaning (Q.state c)).IsSound }
+{
+    wrong_row(permutation((a, b, c)), rows)
+}
+
 fn in_any_order() -> Option<usize> {
     let outputs = (bytes("a"), bytes("b"), bytes("c"));
     let rows = [
@@ -27,8 +43,7 @@ fn in_any_order() -> Option<usize> {
         (bytes("cab"), Answer::Accepts(0, outputs), None),
         (bytes("abcd"), Answer::Accepts(1, outputs), None),
     ];
-    let parts = (sign("a"), sign("b"), take::<_, _, At>(1usize));
-    wrong_row(permutation(parts), &rows)
+    three_of(sign("a"), sign("b"), take::<_, _, At>(1usize), &rows)
 }
 
 fn characters() -> Option<usize> {
@@ -42,8 +57,24 @@ fn characters() -> Option<usize> {
         (bytes("cax"), Answer::Refuses(CHAR, 1), None),
         (bytes("cac"), Answer::Refuses(CHAR, 1), None),
     ];
-    let parts = (char::<_, At>('a'), char::<_, At>('b'), char::<_, At>('c'));
-    wrong_row(permutation(parts), &rows)
+    three_of(
+        char::<_, At>('a'),
+        char::<_, At>('b'),
+        char::<_, At>('c'),
+        &rows,
+    )
+}
+
+/// Two parts in any order.
+fn two_of<
+    I: Input + Content,
+    A: PartialEq + Drop,
+    P: Parser<I, Output = A, Error = Error<I>> + Drop,
+>(a: P, b: P, rows: &[Row<I, (A, A)>]) -> Option<usize>
+    requires a { (P.meaning (P.state a)).IsSound }
+    requires b { (P.meaning (P.state b)).IsSound }
+{
+    wrong_row(permutation((a, b)), rows)
 }
 
 // A member runs in the mode that is asked for.
@@ -54,13 +85,41 @@ fn two_tags() -> Option<usize> {
         (bytes("cx"), Answer::Refuses(TAG, 1), None),
         (bytes("ca"), Answer::Needs(1), Some(Answer::Refuses(TAG, 1))),
     ];
-    wrong_row(permutation((sign("ab"), sign("c"))), &rows)
+    two_of(sign("ab"), sign("c"), &rows)
+}
+
+/// Eight parts in any order.
+fn eight_of<
+    I: Input + Content,
+    O: PartialEq + Drop,
+    P: Parser<I, Output = O, Error = Error<I>> + Drop,
+>(
+    a: P,
+    b: P,
+    c: P,
+    d: P,
+    e: P,
+    f: P,
+    g: P,
+    h: P,
+    rows: &[Row<I, (O, O, O, O, O, O, O, O)>],
+) -> Option<usize>
+    requires a { (P.meaning (P.state a)).IsSound }
+    requires b { (P.meaning (P.state b)).IsSound }
+    requires c { (P.meaning (P.state c)).IsSound }
+    requires d { (P.meaning (P.state d)).IsSound }
+    requires e { (P.meaning (P.state e)).IsSound }
+    requires f { (P.meaning (P.state f)).IsSound }
+    requires g { (P.meaning (P.state g)).IsSound }
+    requires h { (P.meaning (P.state h)).IsSound }
+{
+    wrong_row(permutation((a, b, c, d, e, f, g, h)), rows)
 }
 
 fn eight_members() -> Option<usize> {
     let outputs = ('a', 'b', 'c', 'd', 'e', 'f', 'g', 'h');
     let rows = [(bytes("hbdfacegi"), Answer::Accepts(1, outputs), None)];
-    let parts = (
+    eight_of(
         char::<_, At>('a'),
         char::<_, At>('b'),
         char::<_, At>('c'),
@@ -69,8 +128,8 @@ fn eight_members() -> Option<usize> {
         char::<_, At>('f'),
         char::<_, At>('g'),
         char::<_, At>('h'),
-    );
-    wrong_row(permutation(parts), &rows)
+        &rows,
+    )
 }
 
 #[test]

@@ -3,16 +3,17 @@ ghost use Rattle.std.specs.Prelude.{◌≡◌};
 
 use nom::error::ErrorKind;
 use nom::{
-    Check, Complete, Emit, Err, Mode, Needed, OutputM, OutputMode, PResult, Parser, Streaming,
+    Check, Complete, Emit, Err, Input, IsStreaming, Mode, Needed, OutputM, OutputMode, PResult,
+    Parser, Streaming,
 };
-use nom_rows::rows::is_rest;
+use nom_rows::rows::{Content, is_rest};
 use nom_trail::trail::Trail;
 
 /// What is answered.
 #[derive(Clone, Copy)]
-pub enum Answer<'a> {
+pub enum Answer<I> {
     /// How many bytes are left, and the output.
-    Accepts(usize, &'a [u8]),
+    Accepts(usize, I),
     /// How many refusals of tags the error lists, and a last step behind them.
     Refuses(usize, Option<ErrorKind>),
     Fails(usize, Option<ErrorKind>),
@@ -35,12 +36,12 @@ pub fn are_steps(trail: &Trail, tags: usize, last: Option<ErrorKind>) -> bool {
 }
 
 /// Whether an answer is so, where outputs and errors are built or not.
-fn is_answer(
-    input: &&[u8],
-    found: &PResult<&[u8], &[u8], Trail>,
+fn is_answer<I: Input + Content + PartialEq>(
+    input: &I,
+    found: &PResult<I, I, Trail>,
     builds_output: bool,
     builds_error: bool,
-    wanted: &Answer,
+    wanted: &Answer<I>,
 ) -> bool {
     match wanted {
         Answer::Accepts(length, value) => match found {
@@ -70,10 +71,10 @@ fn is_answer(
 }
 
 /// Whether a parser answers so in a mode.
-fn answers<'a, OM: OutputMode, P: Parser<&'a [u8], Output = &'a [u8], Error = Trail>>(
+fn answers<OM: OutputMode, I: Input + Content + PartialEq, P: Parser<I, Output = I, Error = Trail>>(
     parser: &mut P,
-    input: &'a [u8],
-    wanted: &Answer,
+    input: I,
+    wanted: &Answer<I>,
 ) -> bool
     requires { (P.meaning (P.state parser.old)).IsSound }
     ensures { P.state parser.new ≡ P.state parser.old }
@@ -89,12 +90,27 @@ fn answers<'a, OM: OutputMode, P: Parser<&'a [u8], Output = &'a [u8], Error = Tr
 }
 
 /// An input, the answer where more may come, and the one where it is all, if it is another.
-pub type Row<'a> = (&'a [u8], Answer<'a>, Option<Answer<'a>>);
+pub type Row<I> = (I, Answer<I>, Option<Answer<I>>);
+
+/// Whether a parser answers so, whatever is built.
+fn answers_in<
+    S: IsStreaming,
+    I: Input + Content + PartialEq,
+    P: Parser<I, Output = I, Error = Trail>,
+>(parser: &mut P, input: I, wanted: &Answer<I>) -> bool
+    requires { (P.meaning (P.state parser.old)).IsSound }
+    ensures { P.state parser.new ≡ P.state parser.old }
+{
+    answers::<OutputM<Emit, Emit, S>, _, _>(parser, input, wanted)
+        && answers::<OutputM<Emit, Check, S>, _, _>(parser, input, wanted)
+        && answers::<OutputM<Check, Emit, S>, _, _>(parser, input, wanted)
+        && answers::<OutputM<Check, Check, S>, _, _>(parser, input, wanted)
+}
 
 /// Whether a parser answers as a row says, in each of the four modes of what is built.
-fn holds<'a, P: Parser<&'a [u8], Output = &'a [u8], Error = Trail>>(
+fn holds<I: Input + Content + PartialEq, P: Parser<I, Output = I, Error = Trail>>(
     parser: &mut P,
-    row: &Row<'a>,
+    row: &Row<I>,
 ) -> bool
     requires { (P.meaning (P.state parser.old)).IsSound }
     ensures { P.state parser.new ≡ P.state parser.old }
@@ -103,21 +119,15 @@ fn holds<'a, P: Parser<&'a [u8], Output = &'a [u8], Error = Trail>>(
         Some(answer) => answer,
         None => &row.1,
     };
-    answers::<OutputM<Emit, Emit, Streaming>, _>(parser, row.0, &row.1)
-        && answers::<OutputM<Emit, Check, Streaming>, _>(parser, row.0, &row.1)
-        && answers::<OutputM<Check, Emit, Streaming>, _>(parser, row.0, &row.1)
-        && answers::<OutputM<Check, Check, Streaming>, _>(parser, row.0, &row.1)
-        && answers::<OutputM<Emit, Emit, Complete>, _>(parser, row.0, complete)
-        && answers::<OutputM<Emit, Check, Complete>, _>(parser, row.0, complete)
-        && answers::<OutputM<Check, Emit, Complete>, _>(parser, row.0, complete)
-        && answers::<OutputM<Check, Check, Complete>, _>(parser, row.0, complete)
+    answers_in::<Streaming, _, _>(parser, row.0, &row.1)
+        && answers_in::<Complete, _, _>(parser, row.0, complete)
 }
 
 /// The first of the rows that a parser doesn't answer. It promises nothing, so that many calls in a test are
 /// proved quickly.
-pub fn wrong_row<'a, P: Parser<&'a [u8], Output = &'a [u8], Error = Trail> + Drop>(
+pub fn wrong_row<I: Input + Content + PartialEq, P: Parser<I, Output = I, Error = Trail> + Drop>(
     mut parser: P,
-    rows: &[Row<'a>],
+    rows: &[Row<I>],
 ) -> Option<usize>
     requires { (P.meaning (P.state parser)).IsSound }
 {
