@@ -13,7 +13,8 @@ use Rattle.nom_stream.specs.declared.stream.Stream.{Stream}
 use Rattle.nom_stream.specs.declared.stream.Unread.{Unread}
 use Rattle.nom_stream.specs.Held.{held_of, IsWithin}
 use Rattle.nom_stream.specs.Items.{Bytes, HoldsLast, IsUndecided, Takes}
-use Rattle.nom_stream.specs.Streams.{AreFillings, Decides, Ends, Fills, Gives, IsEnough, IsOpen, IsUnread, LacksRoom, ReadAsNeeded, Reads, Tells, Told, counted, stop_of}
+use Rattle.nom_stream.specs.Streams.{AreFillings, Decides, Ends, Fills, Gives, IsEnough, IsOpen, IsUnread, LacksRoom}
+use Rattle.nom_stream.specs.Streams.{ReadAsNeeded, Reads, Tells, Told, counted, stop_of}
 use Rattle.nom_stream.specs.Streams.AreFillings.{NoFilling, OneMore}
 use Rattle.nom_stream.specs.Wanted.{most_read, wanted_of}
 use Rattle.nom_stream.specs.Streams.Answers.{Decided, AtEnd, Full, Unfilled}

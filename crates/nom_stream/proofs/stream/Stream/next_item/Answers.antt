@@ -42,7 +42,8 @@ returns-in-Err-clause-decides g c =
     (g.G.Grammar.meaning (g.G.Grammar.state c.args.grammar.now)) c.args.self.now c.fill.new.self z) (sym c.unfilled.ensures) (
     decides_unread g.R.Read.remaining g.G.Grammar.IsItem g.G.Grammar.meaning _ _ i.kept _ _ i.reads i.opened i.settings i.offset
     _ refl refl refl refl refl c.take-taken.ensures.bytes c.take-taken.ensures.within _ takes
-    c.if-self.false (omega (arith, c.len-held.ensures, c.if-self-held.false)) _ (c.wanted-wanted.ensures.wanted ∙ ap (wanted_of c.parses.self.settings c.in-Some.needed) c.len-held.ensures)
+    c.if-self.false (omega (arith, c.len-held.ensures, c.if-self-held.false)) _
+    (c.wanted-wanted.ensures.wanted ∙ ap (wanted_of c.parses.self.settings c.in-Some.needed) c.len-held.ensures)
     _ c.in-Err.why (λ e. c.in-Err.ensures.memory (ap Err e)) c.in-Err.ensures.fills c.in-Err.ensures.no_more
     c.in-Err.ensures.open c.in-Err.ensures.settings c.in-Err.ensures.offset)
 
