@@ -16,7 +16,8 @@ use Rattle.nom_stream.specs.Held.{last_of}
 use Rattle.nom_stream.specs.Items.{Bytes}
 use Rattle.nom_stream.specs.Streams.{Decides}
 use Rattle.nom_stream_grammars.specs.declared.messages.Received.{Received}
-use Rattle.nom_messages_run.specs.Pipe.{Ends, Lines, Lists, Wrote, WroteAll, WroteFront, WroteLines, WroteSome, ending_status, ending_text, received_text, stopped}
+use Rattle.nom_messages_run.specs.Pipe.{Ends, Lines, Lists, Wrote, WroteAll, WroteFront, WroteLines, WroteSome}
+use Rattle.nom_messages_run.specs.Pipe.{ending_status, ending_text, received_text, stopped}
 
 module _ {R A V : Type 0} (left : R → Option (List ℕ)) (IsItem : V → Received → Type 0) (m : Meaning Bytes V (Error Bytes)) where
   -- one more message, and its line

@@ -124,7 +124,8 @@ fn list<A: Allocator + Copy, W: Sink>(
     message: Received,
     bytes: &[u8],
 ) -> Result<(), RunError>
-    ensures wrote { IfOk result (λ _. Wrote (W.held sink.old) (W.held sink.new) (string_bytes text.old ++ received_text message bytes.now) (string_bytes text.new)) }
+    ensures wrote { IfOk result (λ _. Wrote (W.held sink.old) (W.held sink.new)
+        (string_bytes text.old ++ received_text message bytes.now) (string_bytes text.new)) }
     ensures error { IfErr result (λ e. MatchRunError e ⊥
         (WroteFront (W.held sink.old) (W.held sink.new) (string_bytes text.old ++ received_text message bytes.now)) (sink.new ≡ sink.old) ⊥) }
 {
@@ -145,7 +146,8 @@ fn end<A: Allocator + Copy, W: Sink>(
     why: Option<Stop>,
     offset: u64,
 ) -> Result<u8, RunError>
-    ensures status { IfOk result (λ status. (status ≡ ending_status why) × Appends (W.held sink.old) (W.held sink.new) (string_bytes text.old ++ ending_text why offset)) }
+    ensures status { IfOk result (λ status. (status ≡ ending_status why)
+        × Appends (W.held sink.old) (W.held sink.new) (string_bytes text.old ++ ending_text why offset)) }
     ensures error { IfErr result (λ e. MatchRunError e ⊥
         (WroteFront (W.held sink.old) (W.held sink.new) (string_bytes text.old ++ ending_text why offset)) (sink.new ≡ sink.old) ⊥) }
 {

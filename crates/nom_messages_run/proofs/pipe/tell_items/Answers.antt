@@ -1,7 +1,8 @@
 use Rattle.std.proofs.Common.{arith, ◌≡◌, ◌++◌, Some, None, Ok, Err, refl, ◌∙◌, subst, string_bytes}
 use Rattle.nom_stream.specs.Streams.{Decides}
 use Rattle.nom_messages_run.specs.Pipe.{Wrote, WroteFront, WroteLines, received_text}
-use Rattle.nom_messages_run.proofs.Piped.{all_written, end_begun, ended, goes_on, line_begun, none_yet, on_err, on_error, on_failed_write, on_memory, on_ok, some_written, front_none}
+use Rattle.nom_messages_run.proofs.Piped.{all_written, end_begun, ended, front_none, goes_on, line_begun, none_yet, some_written}
+use Rattle.nom_messages_run.proofs.Piped.{on_err, on_error, on_failed_write, on_memory, on_ok}
 use Rattle.nom_messages_run.proofs.pipe.tell_items.Goals as goal
 
 pub returns-in-Err-clause-error : goal.returns-in-Err-clause-error
@@ -18,7 +19,8 @@ returns-in-Err-list-clause-error g c =
     let i = c.loop-turn.invariant in
     let IsItem = g.G.Grammar.IsItem (g.G.Grammar.state c.args.grammar.now) in
     let m = g.G.Grammar.meaning (g.G.Grammar.state c.args.grammar.now) in
-    let d = subst (λ z. Decides g.R.Read.remaining (g.G.Grammar.IsItem z) (g.G.Grammar.meaning z) c.loop-turn.stream c.next_item.new.self (Ok c.in-Ok-Some.field-0))
+    let d = subst (λ z. Decides g.R.Read.remaining (g.G.Grammar.IsItem z) (g.G.Grammar.meaning z) c.loop-turn.stream c.next_item.new.self
+    (Ok c.in-Ok-Some.field-0))
     i.kept c.in-Ok-Some.ensures.decides in
     on_error g.W.Sink.held c.loop-turn.sink c.list.new.sink _ _ _
     (λ w. line_begun g.R.Read.remaining IsItem m _ _ _ _ _ _ i.going c.next_item.new.self c.in-Ok-Some.used c.in-Ok-Some.message c.in-Ok-Some.field-0
@@ -48,7 +50,8 @@ returns-in-Ok-None-clause-error g c =
 pub returns-in-Err-next_item-clause-status : goal.returns-in-Err-next_item-clause-status
 returns-in-Err-next_item-clause-status g c =
     let i = c.loop-turn.invariant in
-    let d = subst (λ z. Decides g.R.Read.remaining (g.G.Grammar.IsItem z) (g.G.Grammar.meaning z) c.loop-turn.stream c.next_item.new.self (Err c.in-Err-next_item.why))
+    let d = subst (λ z. Decides g.R.Read.remaining (g.G.Grammar.IsItem z) (g.G.Grammar.meaning z) c.loop-turn.stream c.next_item.new.self
+    (Err c.in-Err-next_item.why))
     i.kept c.in-Err-next_item.ensures.decides in
     on_ok c.end-in-Err-next_item.result (λ status w. ended _ _ _ _ _ _ _ _ _ i.going c.next_item.new.self (Some c.in-Err-next_item.why) d _ status w)
     c.end-in-Err-next_item.ensures.status
@@ -56,7 +59,8 @@ returns-in-Err-next_item-clause-status g c =
 pub returns-in-Err-next_item-clause-error : goal.returns-in-Err-next_item-clause-error
 returns-in-Err-next_item-clause-error g c =
     let i = c.loop-turn.invariant in
-    let d = subst (λ z. Decides g.R.Read.remaining (g.G.Grammar.IsItem z) (g.G.Grammar.meaning z) c.loop-turn.stream c.next_item.new.self (Err c.in-Err-next_item.why))
+    let d = subst (λ z. Decides g.R.Read.remaining (g.G.Grammar.IsItem z) (g.G.Grammar.meaning z) c.loop-turn.stream c.next_item.new.self
+    (Err c.in-Err-next_item.why))
     i.kept c.in-Err-next_item.ensures.decides in
     on_err g.W.Sink.held c.loop-turn.sink c.end-in-Err-next_item.new.sink _ _ _
     (λ w. end_begun _ _ _ _ _ _ _ _ _ i.going c.next_item.new.self (Some c.in-Err-next_item.why) d _ w) c.end-in-Err-next_item.result
@@ -65,7 +69,8 @@ returns-in-Err-next_item-clause-error g c =
 pub loop-turn-preserved : goal.loop-turn-preserved
 loop-turn-preserved g c =
     let i = c.loop-turn.invariant in
-    let d = subst (λ z. Decides g.R.Read.remaining (g.G.Grammar.IsItem z) (g.G.Grammar.meaning z) c.loop-turn.stream c.next_item.new.self (Ok c.in-Ok-Some.field-0))
+    let d = subst (λ z. Decides g.R.Read.remaining (g.G.Grammar.IsItem z) (g.G.Grammar.meaning z) c.loop-turn.stream c.next_item.new.self
+    (Ok c.in-Ok-Some.field-0))
     i.kept c.in-Ok-Some.ensures.decides in
     let wrote = subst (λ z. Wrote (g.W.Sink.held c.loop-turn.sink) (g.W.Sink.held c.list.new.sink)
     (string_bytes c.loop-turn.text ++ received_text c.in-Ok-Some.message z) (string_bytes c.list.new.text)) c.last.ensures c.in-Ok-list.ensures.wrote in
