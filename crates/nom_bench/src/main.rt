@@ -29,7 +29,7 @@ use nom::error::Error;
 use nom::multi::{fold_many0, length_data, many0, separated_list0};
 use nom::number::{be_u8, be_u32};
 use nom::sequence::{preceded, terminated};
-use nom::{AsBytes, AsChar, Check, Compare, Err, FindSubstring, Input, OutputM, Parser, Streaming};
+use nom::{Check, Err, OutputM, Parser, Streaming};
 use nom_decimal::integer::Integer;
 use std::alloc::Global;
 use std::marker::PhantomData;
@@ -37,6 +37,11 @@ use std::process::ExitCode;
 use std::rt::{Clock, Env, Files};
 use std::time::Instant;
 use std::{env, fs, io, str};
+
+pub type Fail<'a> = Error<&'a [u8]>;
+
+/// The error of a parser of bits.
+type BitFail<'a> = Error<(&'a [u8], usize)>;
 
 /// What a parser made.
 #[derive(Clone, Copy)]
@@ -65,16 +70,15 @@ struct Contents<'a> {
 }
 
 /// How many bytes of the whole were consumed.
-#[inline(always)]
-pub fn consumed<I: Input>(whole: I, rest: I) -> usize {
-    whole.input_len().saturating_sub(rest.input_len())
+pub fn consumed(whole: &[u8], rest: &[u8]) -> usize {
+    whole.len().saturating_sub(rest.len())
 }
 
 /// What a parser of records consumes, run in one of the three ways.
 #[inline(always)]
-fn records<I: Input, T: Drop, P: Parser<I, Output = Vec<T>> + Drop>(
+fn records<'a, T: Drop, P: Parser<&'a [u8], Output = Vec<T>> + Drop>(
     mut parser: P,
-    bytes: I,
+    bytes: &'a [u8],
     way: Way,
 ) -> Option<Round>
     requires { (P.meaning (P.state parser)).IsSound }
@@ -101,7 +105,10 @@ fn records<I: Input, T: Drop, P: Parser<I, Output = Vec<T>> + Drop>(
 
 /// What a parser of one slice consumes.
 #[inline(always)]
-fn slice<I: Input, P: Parser<I, Output = I> + Drop>(mut parser: P, bytes: I) -> Option<Round>
+fn slice<'a, P: Parser<&'a [u8], Output = &'a [u8]> + Drop>(
+    mut parser: P,
+    bytes: &'a [u8],
+) -> Option<Round>
     requires { (P.meaning (P.state parser)).IsSound }
 {
     let (rest, _slice) = parser.parse_complete(bytes).ok()?;
@@ -113,9 +120,9 @@ fn slice<I: Input, P: Parser<I, Output = I> + Drop>(mut parser: P, bytes: I) -> 
 
 /// How many items a list has, of a parser that gives one; none where it has none.
 #[inline(always)]
-fn list<I: Input, T: Drop, P: Parser<I, Output = Vec<T>> + Drop>(
+fn list<'a, T: Drop, P: Parser<&'a [u8], Output = Vec<T>> + Drop>(
     mut parser: P,
-    bytes: I,
+    bytes: &'a [u8],
 ) -> Option<Round>
     requires { (P.meaning (P.state parser)).IsSound }
 {
@@ -129,36 +136,29 @@ fn list<I: Input, T: Drop, P: Parser<I, Output = Vec<T>> + Drop>(
     })
 }
 
-// These are generic over the input, which makes their proofs quick. Each runs over bytes alone.
 #[inline(never)]
-fn by_records<I>(alloc: Global, bytes: I, way: Way) -> Option<Round>
-where
-    I: Input<Item = u8> + Compare<&'static str>,
-{
+fn by_records(alloc: Global, bytes: &[u8], way: Way) -> Option<Round> {
     let record = preceded(
-        tag::<_, _, Error<I>>("R"),
-        length_data(be_u8::<_, Error<I>>()),
+        tag::<_, _, Fail>(&b"R"[..]),
+        length_data(be_u8::<_, Fail>()),
     );
-    let end = tag::<_, _, Error<I>>(".");
+    let end = tag::<_, _, Fail>(&b"."[..]);
     records(terminated(many0(alloc, record), end), bytes, way)
 }
 
 #[inline(never)]
-fn by_take_while1<I: Input<Item = u8>>(bytes: I) -> Option<Round> {
-    slice(
-        take_while1::<_, _, Error<I>>(|byte: u8| byte != b';'),
-        bytes,
-    )
+fn by_take_while1(bytes: &[u8]) -> Option<Round> {
+    slice(take_while1::<_, _, Fail>(|byte: u8| byte != b';'), bytes)
 }
 
 #[inline(never)]
-fn by_take_until<I: Input + FindSubstring<&'static str>>(bytes: I) -> Option<Round> {
-    slice(take_until::<_, _, Error<I>>(";;"), bytes)
+fn by_take_until(bytes: &[u8]) -> Option<Round> {
+    slice(take_until::<_, _, Fail>(&b";;"[..]), bytes)
 }
 
 #[inline(never)]
 fn by_alphanumeric1(bytes: &[u8]) -> Option<Round> {
-    let (rest, _word) = complete::alphanumeric1::<_, Error<&[u8]>>(bytes).ok()?;
+    let (rest, _word) = complete::alphanumeric1::<_, Fail>(bytes).ok()?;
     Some(Round {
         made: Made::Slice,
         bytes: consumed(bytes, rest),
@@ -166,7 +166,7 @@ fn by_alphanumeric1(bytes: &[u8]) -> Option<Round> {
 }
 
 /// A decimal number.
-pub fn number<I>() -> Integer<u32, I, Error<I>> {
+pub fn number<'a>() -> Integer<u32, &'a [u8], Fail<'a>> {
     Integer {
         signed: false,
         types: PhantomData,
@@ -174,19 +174,19 @@ pub fn number<I>() -> Integer<u32, I, Error<I>> {
 }
 
 #[inline(never)]
-fn by_numbers<I: Input<Item: AsChar>>(alloc: Global, bytes: I) -> Option<Round> {
+fn by_numbers(alloc: Global, bytes: &[u8]) -> Option<Round> {
     list(many0(alloc, terminated(number(), char(','))), bytes)
 }
 
 #[inline(never)]
-fn by_separated<I: Input<Item: AsChar>>(alloc: Global, bytes: I) -> Option<Round> {
+fn by_separated(alloc: Global, bytes: &[u8]) -> Option<Round> {
     list(separated_list0(alloc, char(','), number()), bytes)
 }
 
 #[inline(never)]
-fn by_fold<I: Input<Item = u8>>(bytes: I) -> Option<Round> {
+fn by_fold(bytes: &[u8]) -> Option<Round> {
     let mut count = fold_many0(
-        be_u8::<_, Error<I>>(),
+        be_u8::<_, Fail>(),
         || 0usize,
         |count: usize, _byte: u8| count.wrapping_add(1),
     );
@@ -200,39 +200,39 @@ fn by_fold<I: Input<Item = u8>>(bytes: I) -> Option<Round> {
 }
 
 #[inline(never)]
-fn by_words<I: Input + Compare<&'static str>>(alloc: Global, bytes: I) -> Option<Round> {
+fn by_words(alloc: Global, bytes: &[u8]) -> Option<Round> {
     let word = alt((
-        tag::<_, _, Error<I>>("GET "),
-        tag("PUT "),
-        tag("POST "),
-        tag("HEAD "),
-        tag("PATCH "),
-        tag("TRACE "),
-        tag("DELETE "),
-        tag("OPTIONS "),
+        tag::<_, _, Fail>(&b"GET "[..]),
+        tag::<_, _, Fail>(&b"PUT "[..]),
+        tag::<_, _, Fail>(&b"POST "[..]),
+        tag::<_, _, Fail>(&b"HEAD "[..]),
+        tag::<_, _, Fail>(&b"PATCH "[..]),
+        tag::<_, _, Fail>(&b"TRACE "[..]),
+        tag::<_, _, Fail>(&b"DELETE "[..]),
+        tag::<_, _, Fail>(&b"OPTIONS "[..]),
     ));
     list(many0(alloc, word), bytes)
 }
 
 #[inline(never)]
-fn by_tuples<I: Input<Item = u8>>(alloc: Global, bytes: I) -> Option<Round> {
-    let four = (char('<'), be_u8::<_, Error<I>>(), be_u8(), char('>'));
+fn by_tuples(alloc: Global, bytes: &[u8]) -> Option<Round> {
+    let four = (char('<'), be_u8::<_, Fail>(), be_u8(), char('>'));
     list(many0(alloc, four), bytes)
 }
 
 #[inline(never)]
-fn by_binary<I: Input<Item = u8>>(alloc: Global, bytes: I) -> Option<Round> {
-    list(many0(alloc, be_u32::<_, Error<I>>()), bytes)
+fn by_binary(alloc: Global, bytes: &[u8]) -> Option<Round> {
+    list(many0(alloc, be_u32::<_, Fail>()), bytes)
 }
 
 // Fields of `complete`: within `bits` others would ask for more at the end.
 #[inline(never)]
-fn by_fields<I: Input<Item = u8> + AsBytes>(alloc: Global, bytes: I) -> Option<Round> {
+fn by_fields(alloc: Global, bytes: &[u8]) -> Option<Round> {
     let pair = (
-        complete_bits::take::<_, u8, _, Error<(I, usize)>>(4usize),
-        complete_bits::take::<_, u16, _, Error<(I, usize)>>(12usize),
+        complete_bits::take::<_, u8, _, BitFail>(4usize),
+        complete_bits::take::<_, u16, _, BitFail>(12usize),
     );
-    list(many0(alloc, bits::<_, Error<I>>(pair)), bytes)
+    list(many0(alloc, bits::<_, Fail>(pair)), bytes)
 }
 
 /// The parsers, and the ways to run them.

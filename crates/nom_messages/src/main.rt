@@ -1,13 +1,72 @@
 //! `nom_messages FILE [CUT ..]`: the report on a file of messages, given in the parts that the cuts (offsets in
-//! bytes) make of it.
+//! bytes) make of it. `nom_messages -`: the messages of standard input, a line for each.
 #![tactic(auto)]
 
-mod report;
-
-use crate::report::Messages;
+use nom_messages_run::pipe::tell_messages;
+use nom_messages_run::report::Messages;
+use nom_run::counted::Counted;
+use nom_run::error::RunError;
 use nom_run::program::status_of;
+use nom_run::run::write_all;
+use nom_stream::settings::Settings;
+use nom_stream::stream::Stream;
+use std::alloc::Global;
 use std::process::ExitCode;
+use std::rt::{Env, Files};
+use std::{env, io};
+
+// The status where there is no report.
+const NO_REPORT: u8 = 3;
+
+// How standard input is read.
+const SETTINGS: Settings = Settings {
+    read: 65536,
+    most: 131072,
+    patient: true,
+    complete: false,
+};
+
+// Whether standard input is asked for, by the one word `-`.
+fn asks_for_input(rt: &(impl Env + Alloc<A = Global>)) -> bool {
+    match env::args(rt) {
+        Ok(mut words) => {
+            let _program = words.next();
+            match words.next() {
+                Some(word) => word.as_str() == "-" && words.next().is_none(),
+                None => false,
+            }
+        }
+        Err(_) => false,
+    }
+}
+
+// The line that tells why there is no status; none where a write failed.
+fn fault(error: RunError) -> &'static str {
+    match error {
+        RunError::OutOfMemory => "out of memory\n",
+        RunError::Read => "file fault\n",
+        RunError::Write => "",
+        RunError::Usage => "",
+    }
+}
+
+// The lines of standard input, and the status.
+fn tell_input(rt: &(impl Input + Print + Alloc<A = Global>)) -> u8 {
+    let mut stream = Stream::new(rt.alloc(), rt.reader(), SETTINGS);
+    let mut sink = Counted::new(io::writer(rt));
+    match tell_messages(rt.alloc(), &mut stream, &mut sink) {
+        Ok(status) => status,
+        Err(error) => {
+            let _ = write_all(&mut sink, fault(error).as_bytes());
+            NO_REPORT
+        }
+    }
+}
 
 fn main(rt: HostRuntime) -> ExitCode {
-    ExitCode::from(status_of(&rt, &Messages))
+    ExitCode::from(if asks_for_input(&rt) {
+        tell_input(&rt)
+    } else {
+        status_of(&rt, &Messages)
+    })
 }

@@ -122,7 +122,7 @@ module _ {R A V O : Type 0} (IsItem : V → O → Type 0) (m : Meaning Bytes V (
   moves_answer u r (Decided taken d g l e) = moves_taken true (held_of u.held) taken r g e
   moves_answer u r (AtEnd e k g h) = moves_ends u k r h
   moves_answer u r (Full a b w e) = stays (held_of u.held) r (ap used_of e) b
-  moves_answer u r (Unfilled why b before last d w e) = stays (held_of u.held) r (ap used_of e ∙ unread_used why) b
+  moves_answer u r (Unfilled why l b before last d w e) = stays (held_of u.held) r (ap used_of e ∙ unread_used why) b
 
 module _ {R A V O : Type 0} (left : R → Option (List ℕ)) (IsItem : V → O → Type 0) (m : Meaning Bytes V (Error Bytes)) (u t : Stream R A)
     (opened : IsOpen left u) (same_source : t.source ≡ u.source) (same_settings : t.settings ≡ u.settings) (i : Bytes) (ki : seen_bytes.IsKnown i)
@@ -172,7 +172,7 @@ module _ {R A V O : Type 0} (left : R → Option (List ℕ)) (IsItem : V → O �
   of_answer r (AtEnd e k g h) = of_ends e k r g h
   of_answer r (Full a c w e) = subst (λ z. TellsWhole IsItem m t z i p) (sym e)
       (subst (λ z. z ≤ length (held_of t.held)) (ap (λ z. z.most) (sym same_settings)) (subst (λ z. u.settings.most ≤ length z) (sym c) a))
-  of_answer r (Unfilled why c before last d w e) = subst (λ z. TellsWhole IsItem m t z i p) (sym e) (of_unread why)
+  of_answer r (Unfilled why l c before last d w e) = subst (λ z. TellsWhole IsItem m t z i p) (sym e) (of_unread why)
 
 module _ {R A V O : Type 0} (left : R → Option (List ℕ)) (IsItem : V → O → Type 0) (m : Meaning Bytes V (Error Bytes)) where
   pub answers_whole : AnswersWhole A left IsItem m

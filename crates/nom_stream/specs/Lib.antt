@@ -1,4 +1,5 @@
 pub mod Held
 pub mod Items
 pub mod Streams
+pub mod Wanted
 pub mod Wholes

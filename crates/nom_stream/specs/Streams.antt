@@ -1,6 +1,6 @@
 -- Items of a reader.
-use Rattle.std.specs.Prelude.{◌≡◌, ℕ, zero, suc, ◌+◌, ◌-◌, ◌^◌, ◌<◌, ◌≤◌, min, Bool, true, false}
-use Rattle.std.specs.Prelude.{List, [], ◌++◌, length, Option, Some, None, Result, Ok, Err, vec_len}
+use Rattle.std.specs.Prelude.{◌≡◌, ℕ, zero, suc, ◌+◌, ◌-◌, ◌^◌, ◌<◌, ◌≤◌, ◌⊎◌, min, Bool, true, false}
+use Rattle.std.specs.Prelude.{List, [], ◌++◌, length, Option, Some, None, Result, Ok, Err, vec_capacity, vec_len}
 use Rattle.std.specs.Io.KnownBytes.{Consumes, IsAtEnd}
 use Rattle.nom_error.specs.declared.answer.Needed.{Needed}
 use Rattle.nom_error.specs.declared.value.Error.{Error}
@@ -8,11 +8,13 @@ use Rattle.nom_internal.specs.Meaning.{Meaning}
 use Rattle.nom_stream.specs.declared.stream.Stop as Why
 use Rattle.nom_stream.specs.declared.stream.Stop.TheVariants as Stop
 use Rattle.nom_stream.specs.declared.stream.Unread.{Unread}
+use Rattle.nom_stream.specs.declared.settings.Settings.{Settings}
 use Rattle.nom_stream.specs.declared.stream.Stream.{Stream}
 use Rattle.nom_stream.specs.declared.step.Taken.{Taken}
 use Rattle.nom_stream.specs.declared.step.Taken.TheVariants as Took
 use Rattle.nom_stream.specs.Held.{held_of, IsWithin}
 use Rattle.nom_stream.specs.Items.{Bytes, HoldsLast, IsUndecided, Takes}
+use Rattle.nom_stream.specs.Wanted.{most_read, wanted_of}
 
 -- an item with how many bytes it has, none at the end, or why there is none
 abbrev pub Told : Type 0 → Type 0
@@ -68,16 +70,47 @@ module _ {R A : Type 0} (left : R → Option (List ℕ)) where
     ReadsOnce (Ok n) = (given : List ℕ) × Gives given × (length given ≡ n) × (n ≡ 0 → IsAtEnd (left t.source))
     ReadsOnce (Err e) = Gives []
 
+-- so many bytes are held; or the reader is at its end, no more may be held, or bytes couldn't be read
+abbrev pub IsEnough : {R A : Type 0} → (count : ℕ) → Stream R A → (Unreadable : Type 0) → Type 0
+IsEnough count t Unreadable = (count ≤ length (held_of t.held)) ⊎ (t.ended ≡ true) ⊎ (t.settings.most ≤ length (held_of t.held)) ⊎ Unreadable
+
+-- memory is wanted: the room, or the bytes that are held, have none left for a read
+abbrev pub LacksRoom : {R A : Type 0} → Stream R A → Type 0
+LacksRoom t = (vec_capacity t.room < most_read t.settings) ⊎ (vec_capacity t.held.bytes < vec_len t.held.bytes + most_read t.settings)
+
+-- bytes couldn't be read
+abbrev pub IsUnread : {O : Type 0} → Told O → Type 0
+IsUnread r = (why : Unread) × (r ≡ Err (stop_of why))
+
 -- these bytes leave the item undecided
 abbrev pub Waits : {V O : Type 0} → (V → O → Type 0) → Meaning Bytes V (Error Bytes) → List ℕ → Type 0
 Waits IsItem m xs = (k : Needed) × Takes IsItem m true xs xs (Took.Undecided k)
 
-module _ {R A V O : Type 0} (IsItem : V → O → Type 0) (m : Meaning Bytes V (Error Bytes)) (s t : Stream R A) where
-  -- Nothing was read, or what was held before the last filling leaves the item undecided; so do all beginnings of that.
+module _ {V O : Type 0} (IsItem : V → O → Type 0) (m : Meaning Bytes V (Error Bytes)) (settings : Settings) (held : List ℕ) where
+  -- A filling: bytes that were read behind those that were held and those of earlier fillings. These were parsed before it, and left the
+  -- item undecided; and it has less than one read more than what was wanted then.
+  pub record IsFilling (earlier last : List ℕ) : Type 0 where
+    pub needed : Needed
+    pub waits : Takes IsItem m true (held ++ earlier) (held ++ earlier) (Took.Undecided needed)
+    pub no_more : length last < wanted_of settings needed (length (held ++ earlier)) + most_read settings
+
+  -- bytes that were read by fillings, each of which gave as many as were wanted, or more
+  pub data AreFillings : List ℕ → Type 0 where
+    NoFilling : {given : List ℕ} → given ≡ [] → AreFillings given
+    OneMore : {given : List ℕ} (earlier last : List ℕ) → AreFillings earlier → (f : IsFilling earlier last) →
+        wanted_of settings f.needed (length (held ++ earlier)) ≤ length last → given ≡ earlier ++ last → AreFillings given
+
+module _ {R A V O : Type 0} (IsItem : V → O → Type 0) (m : Meaning Bytes V (Error Bytes)) (s t : Stream R A) (Unreadable : Type 0) where
+  -- Nothing was read, or bytes were, by fillings. The last one alone may have given fewer than were wanted: where the reader is at its
+  -- end, no more may be held, or bytes couldn't be read.
   pub data ReadAsNeeded (given : List ℕ) : Type 0 where
     NoneRead : given ≡ [] → t.source ≡ s.source → ReadAsNeeded given
-    MoreRead : (earlier last : List ℕ) → given ≡ earlier ++ last → Waits IsItem m (held_of s.held ++ earlier) → ReadAsNeeded given
+    MoreRead : (earlier last : List ℕ) → given ≡ earlier ++ last → AreFillings IsItem m s.settings (held_of s.held) earlier →
+        (f : IsFilling IsItem m s.settings (held_of s.held) earlier last) →
+        IsEnough (wanted_of s.settings f.needed (length (held_of s.held ++ earlier)) + length (held_of s.held ++ earlier)) t Unreadable →
+        ReadAsNeeded given
 
+module _ {R A V O : Type 0} (IsItem : V → O → Type 0) (m : Meaning Bytes V (Error Bytes)) (s t : Stream R A) where
   -- what is told at the end of the reader, where what is held isn't decided
   pub data Ends (k : Needed) (r : Told O) : Type 0 where
     -- nothing is held
@@ -98,22 +131,22 @@ module _ {R A V O : Type 0} (IsItem : V → O → Type 0) (m : Meaning Bytes V (
     -- as many bytes are held as may be, and don't decide
     Full : s.settings.most ≤ length (held_of s.held) → held_of t.held ≡ held_of s.held → Waits IsItem m (held_of s.held) → r ≡ Err Stop.TooLong → Answers r
     -- it wasn't decided by the bytes before the last ones, and more couldn't be read
-    Unfilled : (why : Unread) → held_of t.held ≡ held_of s.held → (before last : List ℕ) → held_of s.held ≡ before ++ last → Waits IsItem m before →
-        r ≡ Err (stop_of why) → Answers r
+    Unfilled : (why : Unread) → (why ≡ Unread.OutOfMemory → LacksRoom s) → held_of t.held ≡ held_of s.held → (before last : List ℕ) →
+        held_of s.held ≡ before ++ last → Waits IsItem m before → r ≡ Err (stop_of why) → Answers r
 
 module _ {R A V O : Type 0} (left : R → Option (List ℕ)) (IsItem : V → O → Type 0) (m : Meaning Bytes V (Error Bytes)) (s t : Stream R A) where
   -- bytes were read as they were needed
-  pub record Reads : Type 0 where
+  pub record Reads (Unreadable : Type 0) : Type 0 where
     pub given : List ℕ
     pub gives : Gives left s t given
-    pub as_needed : ReadAsNeeded IsItem m s t given
+    pub as_needed : ReadAsNeeded IsItem m s t Unreadable given
 
 -- One answer: some bytes were read, as they were needed, and of what is held then an answer is told.
 pub record Decides {R A V O : Type 0} (left : R → Option (List ℕ)) (IsItem : V → O →
     Type 0) (m : Meaning Bytes V (Error Bytes)) (s t : Stream R A) (r : Told O) : Type 0 where
   -- the stream as it stood then
   pub filled : Stream R A
-  pub reads : Reads left IsItem m s filled
+  pub reads : Reads left IsItem m s filled (IsUnread r)
   pub open_then : IsOpen left filled
   pub answers : Answers IsItem m filled t r
   pub source : t.source ≡ filled.source

@@ -1,5 +1,5 @@
 //! The bytes that were read and aren't used yet.
-ghost use Rattle.std.specs.Prelude.{◌≡◌, ◌+◌, ◌-◌, ◌≤◌, ◌++◌, [], drop, take, length, IfOk, IsOk, OnOk, OnErr, vec_len, vec_capacity};
+ghost use Rattle.std.specs.Prelude.{◌≡◌, ◌+◌, ◌-◌, ◌<◌, ◌≤◌, ◌++◌, [], drop, take, length, IfOk, IsOk, OnOk, OnErr, vec_len, vec_capacity};
 ghost use Rattle.nom_stream.specs.Held.{held_of, last_of, IsWithin};
 
 use nom_error::answer::OutOfMemory;
@@ -102,6 +102,7 @@ impl<A: Allocator> Held<A> {
         ensures within { IsWithin self.new }
         ensures same { held_of self.new ≡ held_of self.old }
         ensures room { OnOk result (vec_len self.new.bytes + count ≤ vec_capacity self.new.bytes) }
+        ensures lacks { OnErr result (vec_capacity self.new.bytes < vec_len self.new.bytes + count) }
         ensures start { self.new.start ≡ self.old.start }
         ensures len { vec_len self.new.bytes ≡ vec_len self.old.bytes }
     {

@@ -1,5 +1,6 @@
 //! How a stream reads.
-ghost use Rattle.std.specs.Prelude.{◌<◌};
+ghost use Rattle.std.specs.Prelude.{◌≡◌, ◌<◌};
+ghost use Rattle.nom_stream.specs.Wanted.{wanted_of};
 
 use nom_error::answer::Needed;
 
@@ -20,8 +21,10 @@ pub struct Settings {
 
 impl Settings {
     /// How many bytes are waited for where some are held and don't decide.
+    #[inline]
     pub fn wanted(&self, needed: Needed, held: usize) -> usize
-        ensures { 0 < result }
+        ensures wanted { result ≡ wanted_of self.now needed held }
+        ensures some { 0 < result }
     {
         match needed {
             Needed::Unknown => { if self.patient { held.max(1) } else { 1 } }

@@ -1,10 +1,11 @@
 //! The items of a reader.
-ghost use Rattle.std.specs.Prelude.{◌≡◌, true, false, ◌<◌, ◌≤◌, ◌+◌, IfOk, IfSome, IsOk, OnOk, [], length, vec_len, ◌⊎◌};
+ghost use Rattle.std.specs.Prelude.{◌≡◌, true, false, ◌<◌, ◌≤◌, ◌+◌, Err, IfErr, IfOk, IfSome, IsOk, OnErr, OnOk, [], length, vec_capacity, vec_len, ◌⊎◌};
 ghost use Rattle.std.specs.Io.{ReadsAtMost};
 ghost use Rattle.std.specs.Io.KnownBytes.{IsAtEnd, ReadConsumes};
 ghost use Rattle.nom_stream.specs.Held.{held_of, last_of, IsWithin};
 ghost use Rattle.nom_stream.specs.Items.{IsUndecided, Takes};
-ghost use Rattle.nom_stream.specs.Streams.{Decides, Ends, Fills, IsOpen, ReadsOnce, Tells, counted, stop_of, turns_left};
+ghost use Rattle.nom_stream.specs.Streams.{Decides, Ends, Fills, IsEnough, IsOpen, LacksRoom, ReadsOnce, Tells, counted, stop_of, turns_left};
+ghost use Rattle.nom_stream.specs.Wanted.{most_read};
 ghost use Rattle.nom_stream.specs.declared.step.Taken.TheVariants.{Undecided};
 
 use crate::grammar::Grammar;
@@ -120,13 +121,20 @@ impl<R: Read, A: Allocator + Copy> Stream<R, A> {
         requires most { count ≤ self.old.settings.most }
         ensures open { IsOpen R.remaining self.new }
         ensures room { IsOk result → vec_len self.new.room ≡ count }
+        ensures lacks { OnErr result (vec_capacity self.new.room < count) }
+        ensures error { IfErr result (λ e. e ≡ Unread.OutOfMemory) }
         ensures others { (self.new.source ≡ self.old.source) × (self.new.held ≡ self.old.held)
             × (self.new.settings ≡ self.old.settings) × (self.new.offset ≡ self.old.offset)
             × (self.new.ended ≡ self.old.ended) }
     {
+        let lacking = count.saturating_sub(self.room.len());
+        match self.room.reserve(lacking) {
+            Ok(()) => {}
+            Err(_) => return Err(Unread::OutOfMemory),
+        }
         match self.room.resize(count, 0) {
             Ok(()) => Ok(()),
-            Err(_) => Err(Unread::OutOfMemory),
+            Err(_) => unreachable!(),
         }
     }
 
@@ -136,8 +144,11 @@ impl<R: Read, A: Allocator + Copy> Stream<R, A> {
         requires goes_on { self.old.ended ≡ false }
         requires some { 0 < count }
         requires most { vec_len self.old.held.bytes + count ≤ self.old.settings.most }
+        requires asks { count ≤ most_read self.old.settings }
         ensures open { IsOpen R.remaining self.new }
         ensures reads { ReadsOnce R.remaining self.old self.new result }
+        ensures bound { IfOk result (λ n. n ≤ count) }
+        ensures memory { result ≡ Err Unread.OutOfMemory → LacksRoom self.new }
         ensures others { (self.new.held.start ≡ self.old.held.start) × (self.new.settings ≡ self.old.settings)
             × (self.new.offset ≡ self.old.offset) × (self.new.ended ≡ false) }
     {
@@ -156,7 +167,8 @@ impl<R: Read, A: Allocator + Copy> Stream<R, A> {
         }
     }
 
-    // Reads so many bytes, unless the reader comes to its end, or the limit is reached; some at least.
+    // Reads so many bytes, unless the reader comes to its end, or the limit is reached; some at least. No read is made once
+    // they are there.
     fn fill(&mut self, wants: usize) -> Result<(), Unread>
         requires open { IsOpen R.remaining self.old }
         requires some { 0 < wants }
@@ -164,6 +176,9 @@ impl<R: Read, A: Allocator + Copy> Stream<R, A> {
         requires most { length (held_of self.old.held) < self.old.settings.most }
         ensures open { IsOpen R.remaining self.new }
         ensures fills { Fills R.remaining self.old self.new }
+        ensures enough { IsOk result → IsEnough (wants + length (held_of self.old.held)) self.new ⊥ }
+        ensures no_more { length (held_of self.new.held) < wants + length (held_of self.old.held) + most_read self.old.settings }
+        ensures memory { result ≡ Err Unread.OutOfMemory → LacksRoom self.new }
         ensures some { IsOk result → (self.new.ended ≡ true) ⊎ (length (held_of self.old.held) < length (held_of self.new.held)) }
         ensures settings { self.new.settings ≡ self.old.settings }
         ensures offset { self.new.offset ≡ self.old.offset }

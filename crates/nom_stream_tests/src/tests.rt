@@ -2,5 +2,7 @@
 
 mod ends;
 mod memory;
+mod often;
+mod pipe;
 mod reader;
 mod wholes;

@@ -19,7 +19,7 @@ pub const MESSAGES: [Received; 6] = [
 ];
 
 /// The offset at which each message ends.
-const ENDS: [usize; 6] = [7, 14, 17, 21, 35, 42];
+pub const ENDS: [usize; 6] = [7, 14, 17, 21, 35, 42];
 
 #[test]
 fn the_items_are_those_of_the_whole(rt: HostRuntime) {

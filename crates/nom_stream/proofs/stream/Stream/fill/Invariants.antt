@@ -1,6 +1,7 @@
-use Rattle.std.proofs.Common.{◌≡◌, ◌≤◌, ◌+◌, length, false}
+use Rattle.std.proofs.Common.{◌≡◌, ◌<◌, ◌+◌, ◌-◌, length, false}
 use Rattle.nom_stream.specs.Held.{held_of}
 use Rattle.nom_stream.specs.Streams.{Fills, IsOpen}
+use Rattle.nom_stream.specs.Wanted.{most_read}
 use Rattle.nom_stream.proofs.stream.Stream.fill.Given as goal
 
 abbrev pub invariant-loop-wanted : goal.invariant-loop-wanted
@@ -11,7 +12,8 @@ invariant-loop-wanted g l = record {
   front : l.self.held.start ≡ 0;
   settings : l.self.settings ≡ l.fn.self.settings;
   offset : l.self.offset ≡ l.fn.self.offset;
-  counts : l.fn.wants + length (held_of l.fn.self.held) ≤ l.wanted + length (held_of l.self.held);
+  counts : l.wanted ≡ l.fn.wants + length (held_of l.fn.self.held) - length (held_of l.self.held);
+  no_more : length (held_of l.self.held) < l.fn.wants + length (held_of l.fn.self.held) + most_read l.fn.self.settings;
 }
 
 abbrev pub decreases-loop-wanted : goal.decreases-loop-wanted

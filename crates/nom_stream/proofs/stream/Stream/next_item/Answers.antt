@@ -1,8 +1,9 @@
-use Rattle.std.proofs.Common.{arith, refl, sym, ◌∙◌, subst}
+use Rattle.std.proofs.Common.{arith, Err, refl, sym, ◌∙◌, ap, subst}
 use Rattle.nom_stream.proofs.Telling.{decides_item, decides_end, decides_full, decides_unread, reads_further}
 use Rattle.nom_stream.specs.Held.{held_of}
 use Rattle.nom_stream.specs.Items.{Takes}
 use Rattle.nom_stream.specs.Streams.{Decides}
+use Rattle.nom_stream.specs.Wanted.{wanted_of}
 use Rattle.nom_stream.proofs.stream.Stream.next_item.Goals as goal
 
 pub returns-in-None-clause-decides : goal.returns-in-None-clause-decides
@@ -40,7 +41,10 @@ returns-in-Err-clause-decides g c =
     subst (λ z. Decides g.R.Read.remaining (g.G.Grammar.IsItem (g.G.Grammar.state c.args.grammar.now))
     (g.G.Grammar.meaning (g.G.Grammar.state c.args.grammar.now)) c.args.self.now c.fill.new.self z) (sym c.unfilled.ensures) (
     decides_unread g.R.Read.remaining g.G.Grammar.IsItem g.G.Grammar.meaning _ _ i.kept _ _ i.reads i.opened i.settings i.offset
-    _ refl refl refl refl refl c.take-taken.ensures.bytes c.take-taken.ensures.within _ takes _ c.in-Err.why c.in-Err.ensures.fills
+    _ refl refl refl refl refl c.take-taken.ensures.bytes c.take-taken.ensures.within _ takes
+    c.if-self.false (omega (arith, c.len-held.ensures, c.if-self-held.false)) _
+    (c.wanted-wanted.ensures.wanted ∙ ap (wanted_of c.parses.self.settings c.in-Some.needed) c.len-held.ensures)
+    _ c.in-Err.why (λ e. c.in-Err.ensures.memory (ap Err e)) c.in-Err.ensures.fills c.in-Err.ensures.no_more
     c.in-Err.ensures.open c.in-Err.ensures.settings c.in-Err.ensures.offset)
 
 pub parses-preserved : goal.parses-preserved
@@ -53,7 +57,10 @@ parses-preserved g c =
       kept = c.take-taken.ensures.kept ∙ i.kept;
       opened = c.in-Ok.ensures.open;
       reads = reads_further g.R.Read.remaining g.G.Grammar.IsItem g.G.Grammar.meaning _ _ i.kept _ _ i.reads i.opened i.settings i.offset
-          _ refl refl refl refl refl c.take-taken.ensures.bytes c.take-taken.ensures.within _ takes _ c.in-Ok.ensures.fills;
+          _ refl refl refl refl refl c.take-taken.ensures.bytes c.take-taken.ensures.within _ takes
+          c.if-self.false (omega (arith, c.len-held.ensures, c.if-self-held.false)) _
+          (c.wanted-wanted.ensures.wanted ∙ ap (wanted_of c.parses.self.settings c.in-Some.needed) c.len-held.ensures)
+          ⊥ _ c.in-Ok.ensures.fills c.in-Ok.ensures.no_more (c.in-Ok.ensures.enough refl);
       settings = c.in-Ok.ensures.settings ∙ i.settings;
       offset = c.in-Ok.ensures.offset ∙ i.offset;
     }

@@ -1,1 +1,2 @@
+pub mod Pipe
 pub mod Report

@@ -1,7 +1,7 @@
 use Rattle.std.proofs.Common.{◌≡◌, ◌++◌, take, string_bytes}
 use Rattle.nom_run.specs.Texts.{lines_text}
-use Rattle.nom_messages.specs.Report.{message_text}
-use Rattle.nom_messages.proofs.report.add_messages.Given as goal
+use Rattle.nom_messages_run.specs.Report.{message_text}
+use Rattle.nom_messages_run.proofs.report.add_messages.Given as goal
 
 abbrev pub invariant-loop-message : goal.invariant-loop-message
 invariant-loop-message g l =

@@ -14,7 +14,7 @@ use Rattle.nom_run.specs.Report.{IsTold}
 use Rattle.nom_run.specs.Texts.{bytes_text}
 use Rattle.nom_run.proofs.Reported.{reported}
 use Rattle.nom_run.proofs.Told.{lines-same}
-use Rattle.nom_messages.specs.Report.{ping_text, message_text, body_text, bodies_text, lines_of, message_grammar, IsReport}
+use Rattle.nom_messages_run.specs.Report.{ping_text, message_text, body_text, bodies_text, lines_of, message_grammar, IsReport}
 
 abbrev AreBodies : {A : Type 0} → List Body → Vec Message A → Type 0
 AreBodies {A} = (messages_of {M = A}).IsOutput

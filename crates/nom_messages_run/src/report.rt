@@ -3,7 +3,7 @@ ghost use Rattle.std.specs.Prelude.{◌≡◌, ◌++◌, IfOk, length, string_by
 ghost use Rattle.nom_run.specs.Report.{IsTold};
 ghost use Rattle.nom_run.specs.Stream.{NoneAbove};
 ghost use Rattle.nom_run.specs.Texts.{decided_text, lines_text, rest_text};
-ghost use Rattle.nom_messages.specs.Report.{IsReport, lines_of, message_text, ping_text};
+ghost use Rattle.nom_messages_run.specs.Report.{IsReport, lines_of, message_text, ping_text};
 
 use nom::error::Error;
 use nom::{IResult, Items, OutOfMemory};
@@ -13,8 +13,8 @@ use nom_run::text::{add_bytes, add_decided, add_rest, add_words};
 use std::alloc::Allocator;
 use std::fmt::Write;
 
-// Adds the line of a ping.
-fn add_ping<A: Allocator + Copy>(text: &mut String<A>, number: u32) -> Result<(), OutOfMemory>
+/// Adds the line of a ping.
+pub fn add_ping<A: Allocator + Copy>(text: &mut String<A>, number: u32) -> Result<(), OutOfMemory>
     ensures { IfOk result (λ _. string_bytes text.new ≡ string_bytes text.old ++ ping_text number) }
 {
     match write!(text, "ping {number}\n") {

@@ -1,1 +1,2 @@
+mod Piped
 pub mod Reported

@@ -1,0 +1,191 @@
+-- The lines of messages, call by call.
+use Rattle.std.proofs.Common.{arith, ◌≡◌, ℕ, ◌+◌, List, [], ◌∷◌, ◌++◌, Option, Some, Result, Ok, Err, refl, sym, ◌∙◌, ap, subst, append_assoc, append-nil}
+use Rattle.std.proofs.Common.{IfErr, IfOk, inl, inr, length-append, take, drop}
+use Rattle.std.specs.Io.KnownBytes.{Appends}
+use Rattle.nom_error.specs.declared.value.Error.{Error}
+use Rattle.nom_internal.specs.Meaning.{Meaning}
+use Rattle.std.proofs.lemmas.List.{take-append-drop}
+use Rattle.nom_run.proofs.Known.{appends-more, appends-none}
+use Rattle.nom_run.specs.declared.error.RunError.{RunError}
+use Rattle.nom_run.specs.declared.error.RunError.TheVariants.{Read, Write, OutOfMemory, Usage}
+use Rattle.nom_run.specs.Stream.{MatchRunError}
+use Rattle.nom_run.specs.Stream as Run
+use Rattle.nom_stream.specs.declared.stream.Stop as Why
+use Rattle.nom_stream.specs.declared.stream.Stream.{Stream}
+use Rattle.nom_stream.specs.Held.{last_of}
+use Rattle.nom_stream.specs.Items.{Bytes}
+use Rattle.nom_stream.specs.Streams.{Decides}
+use Rattle.nom_stream_grammars.specs.declared.messages.Received.{Received}
+use Rattle.nom_messages_run.specs.Pipe.{Ends, Lines, Lists, Wrote, WroteAll, WroteFront, WroteLines, WroteSome}
+use Rattle.nom_messages_run.specs.Pipe.{ending_status, ending_text, received_text, stopped}
+
+module _ {R A V : Type 0} (left : R → Option (List ℕ)) (IsItem : V → Received → Type 0) (m : Meaning Bytes V (Error Bytes)) where
+  -- one more message, and its line
+  one_more : (messages : List (ℕ × Received)) (s t u : Stream R A) (text : List ℕ) (n : ℕ) (message : Received) →
+      Lines left IsItem m messages s t text → Decides left IsItem m t u (Ok (Some (n, message))) →
+      Lines left IsItem m (messages ++ (n, message) ∷ []) s u (text ++ received_text message (last_of n u.held))
+  one_more [] s t u text n message h d =
+      let line = received_text message (last_of n u.held) in (
+        u,
+        subst (λ z. Decides left IsItem m z u (Ok (Some (n, message)))) h.0 d,
+        ([], ap (λ z. z ++ line) h.1 ∙ sym (append-nil line), (refl, refl)),
+      )
+  one_more ((k, first) ∷ messages) s t u text n message h d =
+      let line = received_text message (last_of n u.held) in
+      let rest = h.2 in (
+        h.0,
+        h.1,
+        (
+          rest.0 ++ line,
+          ap (λ z. z ++ line) rest.1 ∙ append_assoc (received_text first (last_of k (h.0).held)) rest.0 line,
+          one_more messages h.0 t u rest.0 n message rest.2 d,
+        ),
+      )
+
+  -- so many messages came, and of their lines all but the text was written
+  pub record Going (s t : Stream R A) (held held' : Option (List ℕ)) (text : List ℕ) (count : ℕ) : Type 0 where
+    pub written : List ℕ
+    pub wrote : Appends held held' written
+    pub lists : Lists left IsItem m s t (written ++ text) count
+
+  pub none_yet : (s : Stream R A) (held : Option (List ℕ)) (text : List ℕ) → text ≡ [] → Going s s held held text 0
+  none_yet s held text e = record {
+    written = [];
+    wrote = appends-none held;
+    lists = record { messages = []; lines = (refl, e); counted = refl };
+  }
+
+  module _ (s t : Stream R A) (held now : Option (List ℕ)) (text : List ℕ) (count : ℕ) (g : Going s t held now text count) where
+    module _ (u : Stream R A) (n : ℕ) (message : Received) (given : Option (ℕ × Received)) (is : given ≡ Some (n, message))
+        (decides : Decides left IsItem m t u (Ok given)) where
+      d : Decides left IsItem m t u (Ok (Some (n, message)))
+      d = subst (λ z. Decides left IsItem m t u (Ok z)) is decides
+
+      all_lines : Lists left IsItem m s u (g.written ++ (text ++ received_text message (last_of n u.held))) (count + 1)
+      all_lines = record {
+        messages = g.lists.messages ++ (n, message) ∷ [];
+        lines = subst (Lines left IsItem m (g.lists.messages ++ (n, message) ∷ []) s u)
+            (append_assoc g.written text (received_text message (last_of n u.held)))
+            (one_more g.lists.messages s t u (g.written ++ text) n message g.lists.lines d);
+        counted = simp length-append (omega (arith, g.lists.counted));
+      }
+
+      pub goes_on : (then : Option (List ℕ)) (new : List ℕ) → Wrote now then (text ++ received_text message (last_of n u.held)) new →
+          Going s u held then new (count + 1)
+      goes_on then new w = record {
+        written = g.written ++ w.0;
+        wrote = appends-more held now then g.written w.0 g.wrote w.2;
+        lists = subst (λ z. Lists left IsItem m s u z (count + 1))
+            (ap (λ z. g.written ++ z) w.1 ∙ sym (append_assoc g.written w.0 new)) all_lines;
+      }
+
+      pub line_begun : (then : Option (List ℕ)) → WroteFront now then (text ++ received_text message (last_of n u.held)) →
+          WroteSome left IsItem m s u held then
+      line_begun then w =
+          let all = text ++ received_text message (last_of n u.held) in
+          let wrote = w.1 in
+          record {
+            text = g.written ++ all;
+            is_text = inl (count + 1, all_lines);
+            front = g.written ++ wrote.0;
+            rest = w.0;
+            begins = ap (λ z. g.written ++ z) wrote.1 ∙ sym (append_assoc g.written wrote.0 w.0);
+            wrote = appends-more held now then g.written wrote.0 g.wrote wrote.2;
+          }
+
+    -- all is written, or some
+    pub all_written : (then : Option (List ℕ)) → Appends now then text → WroteLines left IsItem m s t held then count
+    all_written then w = (g.written ++ text, g.lists, appends-more held now then g.written text g.wrote w)
+
+    pub some_written : (then : Option (List ℕ)) → WroteFront now then text → WroteSome left IsItem m s t held then
+    some_written then w =
+        let wrote = w.1 in
+        record {
+          text = g.written ++ text;
+          is_text = inl (count, g.lists);
+          front = g.written ++ wrote.0;
+          rest = w.0;
+          begins = ap (λ z. g.written ++ z) wrote.1 ∙ sym (append_assoc g.written wrote.0 w.0);
+          wrote = appends-more held now then g.written wrote.0 g.wrote wrote.2;
+        }
+
+    -- and the end
+    module _ (u : Stream R A) (why : Option Why.Stop) (d : Decides left IsItem m t u (stopped why)) where
+      all_ends : Ends left IsItem m s u (g.written ++ (text ++ ending_text why u.offset)) (ending_status why)
+      all_ends = record {
+        before = t;
+        lines = g.written ++ text;
+        messages = g.lists.messages;
+        listed = g.lists.lines;
+        why = why;
+        last = d;
+        text_is = sym (append_assoc g.written text (ending_text why u.offset));
+        status_is = refl;
+      }
+
+      pub ended : (then : Option (List ℕ)) (status : ℕ) → (status ≡ ending_status why) × Appends now then (text ++ ending_text why u.offset) →
+          WroteAll left IsItem m s u held then status
+      ended then status w =
+          let all = text ++ ending_text why u.offset in (
+            g.written ++ all,
+            subst (Ends left IsItem m s u (g.written ++ all)) (sym w.0) all_ends,
+            appends-more held now then g.written all g.wrote w.1,
+          )
+
+      pub end_begun : (then : Option (List ℕ)) → WroteFront now then (text ++ ending_text why u.offset) → WroteSome left IsItem m s u held then
+      end_begun then w =
+          let all = text ++ ending_text why u.offset in
+          let wrote = w.1 in
+          record {
+            text = g.written ++ all;
+            is_text = inr (ending_status why, all_ends);
+            front = g.written ++ wrote.0;
+            rest = w.0;
+            begins = ap (λ z. g.written ++ z) wrote.1 ∙ sym (append_assoc g.written wrote.0 w.0);
+            wrote = appends-more held now then g.written wrote.0 g.wrote wrote.2;
+          }
+
+-- of a text that wasn't written whole a beginning was
+front_of : (held held' : Option (List ℕ)) (text : List ℕ) → Run.WroteFront held held' text → WroteFront held held' text
+front_of held held' text w = (drop w.count text, (take w.count text, sym (take-append-drop w.count text), w.wrote))
+
+pub unwritten : (F : Type 0) (held held' : Option (List ℕ)) (text : List ℕ) (e : RunError) →
+    MatchRunError e ⊥ (Run.WroteFront held held' text × F) ⊥ ⊥ → MatchRunError e ⊥ (WroteFront held held' text) ⊥ ⊥
+unwritten F held held' text Read h = absurd h
+unwritten F held held' text Write h = front_of held held' text h.0
+unwritten F held held' text OutOfMemory h = absurd h
+unwritten F held held' text Usage h = absurd h
+
+-- where nothing was written a beginning was
+pub front_none : (held : Option (List ℕ)) (text : List ℕ) → WroteFront held held text
+front_none held text = (text, ([], refl, appends-none held))
+
+-- What is told where memory ran out or a write failed, from what was written then.
+module _ {W : Type 0} (holds : W → Option (List ℕ)) (a b : W) (text : List ℕ) (Lined Begun : Type 0)
+    (begun : WroteFront (holds a) (holds b) text → Begun) where
+  abbrev FailedThere : RunError → Type 0
+  FailedThere e = MatchRunError e ⊥ (WroteFront (holds a) (holds b) text) (b ≡ a) ⊥
+
+  pub on_error : (e : RunError) → FailedThere e → MatchRunError e Lined Begun Begun ⊥
+  on_error Read h = absurd h
+  on_error Write h = begun h
+  on_error OutOfMemory h = begun (subst (λ z. WroteFront (holds a) (holds z) text) (sym h) (front_none (holds a) text))
+  on_error Usage h = absurd h
+
+  pub on_failed_write : (e : RunError) → MatchRunError e ⊥ (WroteFront (holds a) (holds b) text) ⊥ ⊥ → MatchRunError e Lined Begun Begun ⊥
+  on_failed_write Read h = absurd h
+  on_failed_write Write h = begun h
+  on_failed_write OutOfMemory h = absurd h
+  on_failed_write Usage h = absurd h
+
+  pub on_err : (r : Result ℕ RunError) → IfErr r FailedThere → IfErr r (λ e. MatchRunError e Lined Begun Begun ⊥)
+  on_err (Ok status) h = tt
+  on_err (Err e) h = on_error e h
+
+pub on_ok : {P Q : ℕ → Type 0} (r : Result ℕ RunError) → ((status : ℕ) → P status → Q status) → IfOk r P → IfOk r Q
+on_ok (Ok status) f h = f status h
+on_ok (Err e) f h = tt
+
+-- memory ran out
+pub on_memory : (e : RunError) (Lined Begun : Type 0) → e ≡ OutOfMemory → Begun → MatchRunError e Lined Begun Begun ⊥
+on_memory e Lined Begun is h = subst (λ z. MatchRunError z Lined Begun Begun ⊥) (sym is) h

@@ -1,0 +1,225 @@
+//! The lines of messages that come one after another, from a reader of any length.
+ghost use Rattle.std.specs.Prelude.{◌≡◌, ◌++◌, ◌^◌, ◌-◌, [], IfOk, IfErr, string_bytes};
+ghost use Rattle.std.specs.Io.KnownBytes.{Appends};
+ghost use Rattle.nom_run.specs.Stream.{MatchRunError};
+ghost use Rattle.nom_stream.specs.Streams.{IsOpen};
+ghost use Rattle.nom_messages_run.specs.Pipe.{Wrote, WroteAll, WroteFront, WroteLines, WroteSome, ending_status, ending_text, place_text, received_text};
+ghost use Rattle.nom_stream_grammars.specs.Messages.{message_of};
+
+use crate::report::add_ping;
+use nom::OutOfMemory;
+use nom_run::error::RunError;
+use nom_run::run::write_all;
+use nom_run::stream::Sink;
+use nom_run::text::{add_bytes, add_error, add_failure, add_need, add_words};
+use nom_stream::grammar::Grammar;
+use nom_stream::stream::{Stop, Stream};
+use nom_stream_grammars::messages::{Messages, Received};
+use std::alloc::Allocator;
+use std::fmt::Write;
+use std::io::Read;
+
+// So many bytes of lines are written at once. No line is longer than the room above them.
+const FULL: usize = 65536;
+
+const ROOM: usize = 66560;
+
+// Adds the line of a message, of which these are the bytes.
+fn add_received<A: Allocator + Copy>(
+    text: &mut String<A>,
+    message: Received,
+    bytes: &[u8],
+) -> Result<(), OutOfMemory>
+    ensures { IfOk result (λ _. string_bytes text.new ≡ string_bytes text.old ++ received_text message bytes.now) }
+{
+    match message {
+        Received::Ping(number) => add_ping(text, number),
+        Received::Text(len) => {
+            let start = bytes.len().saturating_sub(len);
+            add_bytes(text, "text ", &bytes[start..])
+        }
+        Received::Close => add_words(text, "close\n"),
+    }
+}
+
+// Adds what is at an offset.
+fn add_place<A: Allocator + Copy>(
+    text: &mut String<A>,
+    what: &str,
+    offset: u64,
+) -> Result<(), OutOfMemory>
+    ensures { IfOk result (λ _. string_bytes text.new ≡ string_bytes text.old ++ place_text what.now offset) }
+{
+    match write!(text, "{what} at {offset}\n") {
+        Ok(()) => Ok(()),
+        Err(_) => Err(OutOfMemory),
+    }
+}
+
+// The status where there is no further message.
+fn status_of(why: Option<Stop>) -> u8
+    ensures { result ≡ ending_status why }
+{
+    match why {
+        None => 0,
+        Some(Stop::Refused(_, _)) => 1,
+        Some(Stop::Failed(_, _)) => 1,
+        Some(Stop::Nothing) => 1,
+        Some(Stop::Incomplete(_)) => 2,
+        Some(Stop::TooLong) => 3,
+        Some(Stop::Fault(_)) => 3,
+        Some(Stop::OutOfMemory) => 3,
+    }
+}
+
+// Adds the last line.
+fn add_ending<A: Allocator + Copy>(
+    text: &mut String<A>,
+    why: Option<Stop>,
+    offset: u64,
+) -> Result<(), OutOfMemory>
+    ensures { IfOk result (λ _. string_bytes text.new ≡ string_bytes text.old ++ ending_text why offset) }
+{
+    match why {
+        None => add_place(text, "end", offset),
+        Some(Stop::Refused(kind, _)) => add_error(text, kind, offset as usize),
+        Some(Stop::Failed(kind, _)) => add_failure(text, kind, offset as usize),
+        Some(Stop::Nothing) => add_place(text, "empty", offset),
+        Some(Stop::Incomplete(needed)) => add_need(text, needed),
+        Some(Stop::TooLong) => add_place(text, "too long", offset),
+        Some(Stop::Fault(_)) => add_words(text, "file fault\n"),
+        Some(Stop::OutOfMemory) => add_words(text, "out of memory\n"),
+    }
+}
+
+// Writes the text, which is empty then.
+fn flush<A: Allocator, W: Sink>(sink: &mut W, text: &mut String<A>) -> Result<(), RunError>
+    ensures wrote { IfOk result (λ _. Appends (W.held sink.old) (W.held sink.new) (string_bytes text.old)) }
+    ensures none { IfOk result (λ _. string_bytes text.new ≡ []) }
+    ensures error { IfErr result (λ e. MatchRunError e ⊥ (WroteFront (W.held sink.old) (W.held sink.new) (string_bytes text.old)) ⊥ ⊥) }
+{
+    match write_all(sink, text.as_bytes()) {
+        Ok(()) => {}
+        Err(error) => return Err(error),
+    }
+    text.clear();
+    Ok(())
+}
+
+// The room for lines.
+fn make_room<A: Allocator>(alloc: A) -> Result<String<A>, RunError>
+    ensures none { IfOk result (λ t. string_bytes t ≡ []) }
+    ensures error { IfErr result (λ e. e ≡ RunError.OutOfMemory) }
+{
+    match String::with_capacity(alloc, ROOM) {
+        Ok(text) => Ok(text),
+        Err(_) => Err(RunError::OutOfMemory),
+    }
+}
+
+// Adds the line of a message, of which these are the bytes. Where there are many lines they are written.
+fn list<A: Allocator + Copy, W: Sink>(
+    sink: &mut W,
+    text: &mut String<A>,
+    message: Received,
+    bytes: &[u8],
+) -> Result<(), RunError>
+    ensures wrote { IfOk result (λ _. Wrote (W.held sink.old) (W.held sink.new)
+        (string_bytes text.old ++ received_text message bytes.now) (string_bytes text.new)) }
+    ensures error { IfErr result (λ e. MatchRunError e ⊥
+        (WroteFront (W.held sink.old) (W.held sink.new) (string_bytes text.old ++ received_text message bytes.now)) (sink.new ≡ sink.old) ⊥) }
+{
+    match add_received(text, message, bytes) {
+        Ok(()) => {}
+        Err(_) => return Err(RunError::OutOfMemory),
+    }
+    if text.len() < FULL {
+        return Ok(());
+    }
+    flush(sink, text)
+}
+
+// Adds the last line, and writes all.
+fn end<A: Allocator + Copy, W: Sink>(
+    sink: &mut W,
+    text: &mut String<A>,
+    why: Option<Stop>,
+    offset: u64,
+) -> Result<u8, RunError>
+    ensures status { IfOk result (λ status. (status ≡ ending_status why)
+        × Appends (W.held sink.old) (W.held sink.new) (string_bytes text.old ++ ending_text why offset)) }
+    ensures error { IfErr result (λ e. MatchRunError e ⊥
+        (WroteFront (W.held sink.old) (W.held sink.new) (string_bytes text.old ++ ending_text why offset)) (sink.new ≡ sink.old) ⊥) }
+{
+    match add_ending(text, why, offset) {
+        Ok(()) => {}
+        Err(_) => return Err(RunError::OutOfMemory),
+    }
+    flush(sink, text)?;
+    Ok(status_of(why))
+}
+
+/// Writes the lines of the messages that a stream gives, one after another, and the last line, which tells why there is
+/// no further one; answers the status.
+///
+/// `Write` where a write failed, and `OutOfMemory` where the text couldn't grow: of the lines a beginning was written.
+/// `Read` after 2^64 - 1 messages.
+pub fn tell_items<R: Read, A: Allocator + Copy, G: Grammar<Item = Received>, W: Sink>(
+    alloc: A,
+    stream: &mut Stream<R, A>,
+    grammar: &mut G,
+    sink: &mut W,
+) -> Result<u8, RunError>
+    requires sound { (G.meaning (G.state grammar.old)).IsSound }
+    requires open { IsOpen R.remaining stream.old }
+    ensures kept { G.state grammar.new ≡ G.state grammar.old }
+    ensures open { IsOpen R.remaining stream.new }
+    ensures status { IfOk result (λ status. WroteAll R.remaining (G.IsItem (G.state grammar.old)) (G.meaning (G.state grammar.old))
+        stream.old stream.new (W.held sink.old) (W.held sink.new) status) }
+    ensures error { IfErr result (λ e. MatchRunError e
+        (WroteLines R.remaining (G.IsItem (G.state grammar.old)) (G.meaning (G.state grammar.old))
+        stream.old stream.new (W.held sink.old) (W.held sink.new) (2 ^ 64 - 1))
+        (WroteSome R.remaining (G.IsItem (G.state grammar.old)) (G.meaning (G.state grammar.old))
+        stream.old stream.new (W.held sink.old) (W.held sink.new))
+        (WroteSome R.remaining (G.IsItem (G.state grammar.old)) (G.meaning (G.state grammar.old))
+        stream.old stream.new (W.held sink.old) (W.held sink.new)) ⊥) }
+{
+    let mut text = match make_room(alloc) {
+        Ok(text) => text,
+        Err(error) => return Err(error),
+    };
+    for _turn in 0..u64::MAX {
+        match stream.next_item(grammar) {
+            Ok(Some((used, message))) => {
+                match list(sink, &mut text, message, stream.last(used)) {
+                    Ok(()) => {}
+                    Err(error) => return Err(error),
+                }
+            }
+            Ok(None) => return end(sink, &mut text, None, stream.offset),
+            Err(why) => return end(sink, &mut text, Some(why), stream.offset),
+        }
+    }
+    match flush(sink, &mut text) {
+        Ok(()) => Err(RunError::Read),
+        Err(error) => Err(error),
+    }
+}
+
+/// The same for messages.
+pub fn tell_messages<R: Read, A: Allocator + Copy, W: Sink>(
+    alloc: A,
+    stream: &mut Stream<R, A>,
+    sink: &mut W,
+) -> Result<u8, RunError>
+    requires { IsOpen R.remaining stream.old }
+    ensures open { IsOpen R.remaining stream.new }
+    ensures status { IfOk result (λ status. WroteAll R.remaining message_of.IsOutput message_of.meaning
+        stream.old stream.new (W.held sink.old) (W.held sink.new) status) }
+    ensures error { IfErr result (λ e. MatchRunError e
+        (WroteLines R.remaining message_of.IsOutput message_of.meaning stream.old stream.new (W.held sink.old) (W.held sink.new) (2 ^ 64 - 1))
+        (WroteSome R.remaining message_of.IsOutput message_of.meaning stream.old stream.new (W.held sink.old) (W.held sink.new))
+        (WroteSome R.remaining message_of.IsOutput message_of.meaning stream.old stream.new (W.held sink.old) (W.held sink.new)) ⊥) }
+{
+    tell_items(alloc, stream, &mut Messages, sink)
+}
