@@ -5,9 +5,9 @@ use nom::character::char;
 use nom::combinator::{flat_map, map_parser};
 use nom::error::{Error, ErrorKind, ParseError};
 use nom::number::be_u8;
-use nom::{Err, OutOfMemory, Parser};
+use nom::{Err, Input, OutOfMemory, Parser};
 use nom_ends::left::Rest;
-use nom_rows::rows::{Answer, Row, bytes, is_grown, wrong_row};
+use nom_rows::rows::{Answer, Content, Row, bytes, is_grown, wrong_row};
 
 type Fail<'a> = Error<&'a str>;
 
@@ -63,6 +63,18 @@ fn twice() -> Option<usize> {
     wrong_row(twice, &rows)
 }
 
+/// One of two parts.
+fn either_of<
+    I: Input + Content,
+    O: PartialEq + Drop,
+    P: Parser<I, Output = O, Error = Error<I>> + Drop,
+>(first: P, second: P, rows: &[Row<I, O>]) -> Option<usize>
+    requires first { (P.meaning (P.state first)).IsSound }
+    requires second { (P.meaning (P.state second)).IsSound }
+{
+    wrong_row(first.or(second), rows)
+}
+
 fn one_of_two() -> Option<usize> {
     let rows = [
         ("abc", Answer::Accepts(1, "ab"), None),
@@ -70,7 +82,7 @@ fn one_of_two() -> Option<usize> {
         ("a", Answer::Needs(1), Some(Answer::Refuses(TAG, 1))),
         ("x", Answer::Refuses(TAG, 1), None),
     ];
-    wrong_row(tag::<_, _, Fail>("ab").or(tag("c")), &rows)
+    either_of(tag::<_, _, Fail>("ab"), tag("c"), &rows)
 }
 
 #[test]

@@ -1,13 +1,13 @@
 //! What becomes of a part's outcome, and items one after another.
 
-use nom::Err;
 use nom::bytes::{Tag, streaming, tag};
 use nom::combinator::{
     all_consuming, complete, cond, consumed, cut, iterator, not, opt, peek, recognize,
 };
 use nom::error::{Error, ErrorKind, context};
 use nom::sequence::pair;
-use nom_rows::rows::{Answer, Row, bytes, wrong_row};
+use nom::{Err, Input, Parser};
+use nom_rows::rows::{Answer, Content, Row, bytes, wrong_row};
 
 type At<'a> = Error<&'a [u8]>;
 
@@ -18,6 +18,17 @@ fn letter<'a>() -> Tag<&'a [u8], &'a [u8], At<'a>> {
     tag(bytes("a"))
 }
 
+/// All of an input, as a part consumes it.
+fn whole_of<
+    I: Input + Content + PartialEq,
+    O: Drop,
+    P: Parser<I, Output = O, Error = Error<I>> + Drop,
+>(part: P, rows: &[Row<I, I>]) -> Option<usize>
+    requires part { (P.meaning (P.state part)).IsSound }
+{
+    wrong_row(all_consuming(context("letter", recognize(part))), rows)
+}
+
 fn whole() -> Option<usize> {
     let a = bytes("a");
     let rows = [
@@ -26,7 +37,19 @@ fn whole() -> Option<usize> {
         (bytes("b"), Answer::Refuses(TAG, 1), None),
         (bytes(""), Answer::Needs(1), Some(Answer::Refuses(TAG, 0))),
     ];
-    wrong_row(all_consuming(context("letter", recognize(letter()))), &rows)
+    whole_of(letter(), &rows)
+}
+
+/// A part of which nothing is consumed, and one with what it consumes.
+fn ahead_of<
+    I: Input + Content + PartialEq,
+    O: PartialEq + Drop,
+    P: Parser<I, Output = O, Error = Error<I>> + Drop,
+>(first: P, second: P, rows: &[Row<I, (O, (I, O))>]) -> Option<usize>
+    requires first { (P.meaning (P.state first)).IsSound }
+    requires second { (P.meaning (P.state second)).IsSound }
+{
+    wrong_row(pair(peek(first), consumed(second)), rows)
 }
 
 fn ahead() -> Option<usize> {
@@ -35,7 +58,19 @@ fn ahead() -> Option<usize> {
         (bytes("ab"), Answer::Accepts(1, (a, (a, a))), None),
         (bytes("b"), Answer::Refuses(TAG, 1), None),
     ];
-    wrong_row(pair(peek(letter()), consumed(letter())), &rows)
+    ahead_of(letter(), letter(), &rows)
+}
+
+/// A part or nothing, and then no such part.
+fn absent_of<
+    I: Input + Content,
+    O: PartialEq + Drop,
+    P: Parser<I, Output = O, Error = Error<I>> + Drop,
+>(first: P, second: P, rows: &[Row<I, (Option<O>, ())>]) -> Option<usize>
+    requires first { (P.meaning (P.state first)).IsSound }
+    requires second { (P.meaning (P.state second)).IsSound }
+{
+    wrong_row(pair(opt(first), not(second)), rows)
 }
 
 // `not` consumes nothing, and where it refuses, it does so at its start.
@@ -47,7 +82,18 @@ fn absent() -> Option<usize> {
         (bytes("aab"), Answer::Refuses(ErrorKind::Not, 2), None),
         (a, Answer::Needs(1), Some(Answer::Accepts(0, (Some(a), ())))),
     ];
-    wrong_row(pair(opt(letter()), not(letter())), &rows)
+    absent_of(letter(), letter(), &rows)
+}
+
+/// A part whose refusals are failures, or nothing.
+fn final_of<
+    I: Input + Content,
+    O: PartialEq + Drop,
+    P: Parser<I, Output = O, Error = Error<I>> + Drop,
+>(part: P, rows: &[Row<I, Option<O>>]) -> Option<usize>
+    requires part { (P.meaning (P.state part)).IsSound }
+{
+    wrong_row(opt(cut(part)), rows)
 }
 
 fn final_refusal() -> Option<usize> {
@@ -55,11 +101,22 @@ fn final_refusal() -> Option<usize> {
         (bytes("ab"), Answer::Accepts(1, Some(bytes("a"))), None),
         (bytes("b"), Answer::Fails(TAG, 1), None),
     ];
-    wrong_row(opt(cut(letter())), &rows)
+    final_of(letter(), &rows)
 }
 
 fn on_condition<'a>(runs: bool, rows: &[Row<&'a [u8], Option<&'a [u8]>>]) -> Option<usize> {
     wrong_row(cond(runs, letter()), rows)
+}
+
+/// A part in the complete mode.
+fn complete_of<
+    I: Input + Content,
+    O: PartialEq + Drop,
+    P: Parser<I, Output = O, Error = Error<I>> + Drop,
+>(part: P, rows: &[Row<I, O>]) -> Option<usize>
+    requires part { (P.meaning (P.state part)).IsSound }
+{
+    wrong_row(complete(part), rows)
 }
 
 // What is wanted all the same is refused.
@@ -69,7 +126,7 @@ fn no_want_of_more() -> Option<usize> {
         (bytes("a"), Answer::Refuses(ErrorKind::Complete, 1), None),
     ];
     let letters = streaming::tag::<_, _, At>(bytes("ab"));
-    wrong_row(complete(letters), &rows)
+    complete_of(letters, &rows)
 }
 
 #[test]
@@ -111,5 +168,5 @@ fn items_that_end_in_a_failure(rt: HostRuntime) {
 fn a_part_in_the_complete_mode(rt: HostRuntime) {
     let rows = [("a", Answer::Refuses(TAG, 1), None)];
     let letters = tag::<_, _, Error<&str>>("ab");
-    assert!(rt; wrong_row(complete(letters), &rows).is_none());
+    assert!(rt; complete_of(letters, &rows).is_none());
 }

@@ -26,6 +26,18 @@ fn of_one() -> Option<usize> {
     wrong_row(alt((word("a"),)), &rows)
 }
 
+/// A choice between two.
+fn two_of<I: Input + Content + PartialEq, P: Parser<I, Output = I, Error = Trail> + Drop>(
+    a: P,
+    b: P,
+    rows: &[Row<I>],
+) -> Option<usize>
+    requires a { (P.meaning (P.state a)).IsSound }
+    requires b { (P.meaning (P.state b)).IsSound }
+{
+    wrong_row(alt((a, b)), rows)
+}
+
 fn of_two() -> Option<usize> {
     let rows = [
         (bytes("ab"), Answer::Accepts(1, bytes("a")), None),
@@ -33,7 +45,21 @@ fn of_two() -> Option<usize> {
         (bytes("c"), Answer::Refuses(2, ALT), None),
         (bytes(""), Answer::Needs(1), Some(Answer::Refuses(2, ALT))),
     ];
-    wrong_row(alt((word("a"), word("b"))), &rows)
+    two_of(word("a"), word("b"), &rows)
+}
+
+/// A choice among three.
+fn three_of<I: Input + Content + PartialEq, P: Parser<I, Output = I, Error = Trail> + Drop>(
+    a: P,
+    b: P,
+    c: P,
+    rows: &[Row<I>],
+) -> Option<usize>
+    requires a { (P.meaning (P.state a)).IsSound }
+    requires b { (P.meaning (P.state b)).IsSound }
+    requires c { (P.meaning (P.state c)).IsSound }
+{
+    wrong_row(alt((a, b, c)), rows)
 }
 
 // The first branch that doesn't refuse is taken, though a later one would accept more.
@@ -48,7 +74,19 @@ fn of_three() -> Option<usize> {
             Some(Answer::Accepts(0, bytes("a"))),
         ),
     ];
-    wrong_row(alt((word("ab"), word("a"), word("abc"))), &rows)
+    three_of(word("ab"), word("a"), word("abc"), &rows)
+}
+
+/// A choice among three, the second of which never refuses.
+fn three_with_a_failure<
+    I: Input + Content + PartialEq,
+    P: Parser<I, Output = I, Error = Trail> + Drop,
+>(a: P, b: P, c: P, rows: &[Row<I>]) -> Option<usize>
+    requires a { (P.meaning (P.state a)).IsSound }
+    requires b { (P.meaning (P.state b)).IsSound }
+    requires c { (P.meaning (P.state c)).IsSound }
+{
+    wrong_row(alt((a, cut(b), c)), rows)
 }
 
 // A failure ends the choice at once, and the error of the first branch is dropped.
@@ -59,7 +97,29 @@ fn of_three_with_a_failure() -> Option<usize> {
         (bytes("d"), Answer::Fails(1, None), None),
         (bytes("b"), Answer::Needs(1), Some(Answer::Fails(1, None))),
     ];
-    wrong_row(alt((word("a"), cut(word("bc")), word("d"))), &rows)
+    three_with_a_failure(word("a"), word("bc"), word("d"), &rows)
+}
+
+/// A choice among seven.
+fn seven_of<I: Input + Content + PartialEq, P: Parser<I, Output = I, Error = Trail> + Drop>(
+    a: P,
+    b: P,
+    c: P,
+    d: P,
+    e: P,
+    f: P,
+    g: P,
+    rows: &[Row<I>],
+) -> Option<usize>
+    requires a { (P.meaning (P.state a)).IsSound }
+    requires b { (P.meaning (P.state b)).IsSound }
+    requires c { (P.meaning (P.state c)).IsSound }
+    requires d { (P.meaning (P.state d)).IsSound }
+    requires e { (P.meaning (P.state e)).IsSound }
+    requires f { (P.meaning (P.state f)).IsSound }
+    requires g { (P.meaning (P.state g)).IsSound }
+{
+    wrong_row(alt((a, b, c, d, e, f, g)), rows)
 }
 
 fn of_seven() -> Option<usize> {
@@ -67,7 +127,7 @@ fn of_seven() -> Option<usize> {
         (bytes("ga"), Answer::Accepts(1, bytes("g")), None),
         (bytes("x"), Answer::Refuses(7, ALT), None),
     ];
-    let seven = alt((
+    seven_of(
         word("a"),
         word("b"),
         word("c"),
@@ -75,8 +135,8 @@ fn of_seven() -> Option<usize> {
         word("e"),
         word("f"),
         word("g"),
-    ));
-    wrong_row(seven, &rows)
+        &rows,
+    )
 }
 
 /// A choice among eight.
@@ -126,10 +186,22 @@ fn of_eight() -> Option<usize> {
     )
 }
 
+/// One of two.
+fn either_of<I: Input + Content + PartialEq, P: Parser<I, Output = I, Error = Trail> + Drop>(
+    a: P,
+    b: P,
+    rows: &[Row<I>],
+) -> Option<usize>
+    requires a { (P.meaning (P.state a)).IsSound }
+    requires b { (P.meaning (P.state b)).IsSound }
+{
+    wrong_row(a.or(b), rows)
+}
+
 // The errors of two branches of `or` are joined, and nothing is closed.
 fn of_or() -> Option<usize> {
     let rows = [(bytes("c"), Answer::Refuses(2, None), None)];
-    wrong_row(word("a").or(word("b")), &rows)
+    either_of(word("a"), word("b"), &rows)
 }
 
 #[test]
