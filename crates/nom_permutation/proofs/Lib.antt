@@ -1,5 +1,3 @@
 mod Applied
 mod Orders
-pub mod Places
 mod Turns
-pub mod Wider

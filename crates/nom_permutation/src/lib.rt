@@ -3,18 +3,12 @@
 
 ghost use Rattle.std.specs.Prelude.{◌≡◌};
 
-mod flat;
-mod members;
-mod nest;
-mod permutations;
 pub mod promises;
 mod rounds;
-mod widths;
 
-pub use crate::nest::Nests;
-pub use crate::permutations::{OnceEach, Permutation};
-pub use crate::widths::{Members, StreamMembers};
-use std::marker::PhantomData;
+pub use crate::rounds::Permutation;
+pub use nom_members::{Members, StreamMembers};
+pub use nom_slots::{Round, Slot};
 
 /// Each of the parsers in `list` once, in any order, with their outputs in the order of the list.
 ///
@@ -22,11 +16,8 @@ use std::marker::PhantomData;
 /// all that are left refuse, so does the permutation: their errors are joined by `or` from left to
 /// right, and the whole is closed by `append` with `Permutation` where that round started.
 #[inline(always)]
-pub fn permutation<List: Nests>(list: List) -> Permutation<List>
-    ensures { result.members ≡ List.nested list }
+pub fn permutation<List>(list: List) -> Permutation<List>
+    ensures { result.parser ≡ list }
 {
-    OnceEach {
-        members: list.nested(),
-        tuple: PhantomData,
-    }
+    Permutation { parser: list }
 }

@@ -5,10 +5,10 @@ use Rattle.nom_permutation.proofs.promises.applies_each_once.Goals as goal
 pub returns : goal.returns
 returns g c =
     let errors = g.L.Error.ParseError.errors in
-    let state = g.L.Members.state c.args._parser.now.members in
+    let state = g.L.Members.state c.args._parser.now.parser in
     record {
       once = applies_once g.I.Items.seen g.met.I.Items.lawful errors.joined (λ i. errors.appended i Kind.Permutation) errors.grows
-          (g.L.Members.members state) g.L.Members.none ((g.met.L.Members.good state).all_wait) ((g.met.L.Members.good state).one_fewer);
+          (g.L.Members.members state) g.L.Members.none (g.met.L.Members.all_wait state) (g.met.L.Members.one_fewer state);
       every = accepts_orders g.I.Items.seen g.met.I.Items.lawful errors.joined (λ i. errors.appended i Kind.Permutation) errors.grows
           (g.L.Members.members state) g.L.Members.none;
     }

@@ -1,0 +1,32 @@
+use Rattle.std.specs.Prelude.{Some}
+use Rattle.nom_internal.proofs.Shown.{both_built}
+use Rattle.nom_members.specs.Members.{or_waiting}
+use Rattle.nom_members.specs.Members.Choice.{NoChoice}
+use Rattle.nom_members.specs.Rounds.{IsApplied}
+use Rattle.nom_members.proofs.Turns.{BothHold, step_applied, taken_built, flat_built}
+use Rattle.nom_members.proofs.widths.Tuple3Members.outputs.Goals as goal
+
+pub returns : goal.returns
+returns g c outputs s t h k =
+    let joins = g.A.Error.ParseError.errors.joined in
+    let grows = g.A.Error.ParseError.errors.grows in
+    let m0 = g.A.Parser.meaning s.0 in
+    let o0 = IsApplied (g.A.Parser.IsOutput s.0) t.0 in
+    let m1 = g.B.Parser.meaning s.1 in
+    let o1 = IsApplied (g.B.Parser.IsOutput s.1) t.1 in
+    let m2 = g.C.Parser.meaning s.2 in
+    let o2 = IsApplied (g.C.Parser.IsOutput s.2) t.2 in
+    let c0 = or_waiting joins grows NoChoice m0 (λ v. (Some v, t.1, t.2)) t.0 in
+    let c1 = or_waiting joins grows c0 m1 (λ v. (t.0, Some v, t.2)) t.1 in
+    let k2 = step_applied joins grows m2 (λ v. (t.0, t.1, Some v)) c1 t.2 k in
+    let k1 = step_applied joins grows m1 (λ v. (t.0, Some v, t.2)) c0 t.1 k2.0 in
+    let k0 = step_applied joins grows m0 (λ v. (Some v, t.1, t.2)) NoChoice t.0 k1.0 in
+    let b0 = taken_built outputs (g.A.Parser.IsOutput s.0) t.0 k0.1 c.args.slots.0 c.taken.result k0.2 h.0 c.taken.ensures in
+    let b1 = taken_built outputs (g.B.Parser.IsOutput s.1) t.1 k1.1 c.args.slots.1 c.taken-2.result k1.2 h.1 c.taken-2.ensures in
+    let b2 = taken_built outputs (g.C.Parser.IsOutput s.2) t.2 k2.1 c.args.slots.2 c.taken-3.result k2.2 h.2 c.taken-3.ensures in
+    let p1 = both_built o0 o1 outputs c.taken.result c.taken-2.result c.combine-outputs.result b0 b1 c.combine-outputs.ensures.both
+    c.combine-outputs.ensures.none in
+    let p2 = both_built (BothHold o0 o1) o2 outputs c.combine-outputs.result c.taken-3.result c.combine-outputs-2.result p1 b2
+    c.combine-outputs-2.ensures.both c.combine-outputs-2.ensures.none in
+    flat_built outputs (BothHold (BothHold o0 o1) o2) (λ o. o0 o.0 × o1 o.1 × o2 o.2)
+    (λ p. (p.0.0, p.0.1, p.1)) c.combine-outputs-2.result c.made_flat.result (λ v h. (h.0.0, h.0.1, h.1)) p2 c.made_flat.ensures.some c.made_flat.ensures.none
