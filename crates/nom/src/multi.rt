@@ -9,6 +9,7 @@ pub use nom_lengths::{
     LengthCount, LengthData, LengthValue, length_count, length_data, length_value,
 };
 pub use nom_multi::{
-    Count, Fill, Many0, Many1, ManyMN, ManyTill, SeparatedList0, SeparatedList1, count, fill,
-    fill_buffer, many_m_n, many_till, many0, many1, separated_list0, separated_list1,
+    Count, Fill, Many0, Many1, ManyMN, ManyTill, count, fill, fill_buffer, many_m_n, many_till,
+    many0, many1,
 };
+pub use nom_separated::{SeparatedList0, SeparatedList1, separated_list0, separated_list1};

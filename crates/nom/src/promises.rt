@@ -23,7 +23,8 @@ pub use nom_memory::promises::{
 };
 pub use nom_multi::promises::{
     count_accepts, has_few_items, many_m_n_accepts, many_till_accepts, many0_accepts,
-    many1_accepts, refuses_at_empty, separated_list0_accepts, separated_list1_accepts,
+    many1_accepts, refuses_at_empty,
 };
 pub use nom_permutation::promises::applies_each_once;
+pub use nom_separated::promises::{separated_list0_accepts, separated_list1_accepts};
 pub use nom_stream_functions as stream_functions;

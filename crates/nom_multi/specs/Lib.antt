@@ -5,7 +5,5 @@ pub mod FillLaws
 pub mod Many
 pub mod ManyLaws
 pub mod Promises
-pub mod Separated
-pub mod SeparatedLaws
 pub mod Till
 pub mod TillLaws

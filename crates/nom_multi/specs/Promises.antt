@@ -1,12 +1,11 @@
 -- What the repetitions promise, said of their meanings.
-use Rattle.std.specs.Prelude.{◌≡◌, ℕ, ◌+◌, ◌<◌, ◌≤◌, ◌⊎◌, ◌↔◌, Bool, None, List, [], length}
+use Rattle.std.specs.Prelude.{◌≡◌, ℕ, ◌+◌, ◌<◌, ◌≤◌, ◌↔◌, Bool, List, length}
 use Rattle.nom_traits.specs.Input.{Seen, IsRest, input_len}
 use Rattle.nom_internal.specs.Outcome.{Outcome}
 use Rattle.nom_internal.specs.Outcome.Outcome.{Accept, Refuse}
 use Rattle.nom_internal.specs.Meaning.{Meaning}
 use Rattle.nom_repeat.specs.Repeat.{Turn, Pieces}
 use Rattle.nom_repeat.specs.Repeat.Turn.{Takes, Ends}
-use Rattle.nom_repeat.specs.Accepted.{InTurn, OneAndMore}
 
 -- at a place behind the first items of i an item is accepted that consumes nothing
 pub record HasEmptyItem {I A V : Type 0} (w : Seen I A) (Item : I → Outcome V → Type 0) (i : I) : Type 0 where
@@ -23,12 +22,6 @@ RefusesAtEmpty {I} w m whole = (s : Bool) (i : I) → w.IsKnown i → whole.answ
 -- no more items than the input is long
 abbrev pub HasFewItems : {I A V E : Type 0} → Seen I A → Meaning I (List V) E → Type 0
 HasFewItems {I} {V = V} w whole = (s : Bool) (i : I) (n : ℕ) (vs : List V) → w.IsKnown i → whole.answers s i (Accept n vs) → length vs ≤ input_len w i
-
--- What a list of the part m accepts that may be empty: none, where the part refuses; or a first item, and behind it just the items
--- that the part p accepts in turn, none of them empty.
-abbrev pub AcceptsNoneOrMore : {I A V E : Type 0} → Seen I A → Meaning I V E → Meaning I V E → Meaning I (List V) E → Type 0
-AcceptsNoneOrMore {I} {V = V} w m p whole = (s : Bool) (i : I) (n : ℕ) (vs : List V) → w.IsKnown i → whole.answers s i (Accept n vs) ↔
-    ((m.answers s i Refuse × (n ≡ 0) × (vs ≡ [])) ⊎ OneAndMore w (m.answers s) (InTurn w (p.answers s) (λ a. 0 < a) 0 None) i n vs)
 
 -- an item is taken where the end refuses and the part accepts, and consumes
 abbrev pub TakesBefore : {I T V : Type 0} → (I → Outcome T → Type 0) → (I → Outcome V → Type 0) → ℕ → I → Turn V (Unit {0}) → Type 0

@@ -7,15 +7,12 @@ mod bounded;
 mod buffer;
 mod many;
 pub mod promises;
-mod separated;
 mod till;
 
 pub use crate::bounded::{Count, ManyMN};
 pub use crate::buffer::{Fill, fill_buffer};
 pub use crate::many::{Many0, Many1};
-pub use crate::separated::{SeparatedList0, SeparatedList1};
 pub use crate::till::ManyTill;
-use nom_sequence::preceded;
 use std::alloc::Allocator;
 
 /// Items until one is refused: a list of their outputs, which takes its memory from `alloc`.
@@ -81,49 +78,6 @@ pub fn many_m_n<A: Allocator + Copy, F>(alloc: A, min: usize, max: usize, parser
         min,
         max,
         parser,
-    }
-}
-
-/// Items with a separator between them, and one at least: a list of the items' outputs, which takes its
-/// memory from `alloc`. Of the separators nothing is built.
-///
-/// A refusal of the first item is passed on. Later on a refusal of a separator, or of the item behind
-/// it, ends the list with success, before that separator. Where a separator and its item together
-/// consume nothing, they are refused with `SeparatedList`, at the separator.
-#[inline(always)]
-pub fn separated_list1<A: Allocator + Copy, G, F>(
-    alloc: A,
-    separator: G,
-    parser: F,
-) -> SeparatedList1<A, G, F>
-    ensures alloc { result.alloc ≡ alloc }
-    ensures separator { result.next.first ≡ separator }
-    ensures parser { result.next.second ≡ parser }
-{
-    SeparatedList1 {
-        alloc,
-        next: preceded(separator, parser),
-    }
-}
-
-/// Items with a separator between them, or none: a list of the items' outputs, which takes its memory
-/// from `alloc`. Of the separators nothing is built.
-///
-/// Where the first item is refused, the list is empty, and nothing is consumed. All else is as with
-/// `separated_list1`.
-#[inline(always)]
-pub fn separated_list0<A: Allocator + Copy, G, F>(
-    alloc: A,
-    separator: G,
-    parser: F,
-) -> SeparatedList0<A, G, F>
-    ensures alloc { result.alloc ≡ alloc }
-    ensures separator { result.next.first ≡ separator }
-    ensures parser { result.next.second ≡ parser }
-{
-    SeparatedList0 {
-        alloc,
-        next: preceded(separator, parser),
     }
 }
 

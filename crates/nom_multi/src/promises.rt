@@ -2,12 +2,10 @@
 //! contracts are the promises.
 ghost use Rattle.std.specs.Prelude.{◌<◌, ◌≤◌, None, Some};
 ghost use Rattle.nom_repeat.specs.Accepted.{AcceptsItems, AcceptsOneAndMore};
-ghost use Rattle.nom_sequence.specs.Sequences.{preceded_meaning};
-ghost use Rattle.nom_multi.specs.Promises.{RefusesAtEmpty, HasFewItems, AcceptsNoneOrMore, AcceptsUntil};
+ghost use Rattle.nom_multi.specs.Promises.{RefusesAtEmpty, HasFewItems, AcceptsUntil};
 
 use crate::bounded::{Count, ManyMN};
 use crate::many::{Many0, Many1};
-use crate::separated::{SeparatedList0, SeparatedList1};
 use crate::till::ManyTill;
 use nom_internal::parser::Parser;
 use nom_traits::input::{Input, Items};
@@ -48,32 +46,6 @@ pub fn count_accepts<I: Items, A: Allocator + Copy, F: Parser<I> + Drop>(_parser
 pub fn many_m_n_accepts<I: Input, A: Allocator + Copy, F: Parser<I> + Drop>(_parser: &ManyMN<A, F>)
     ensures { AcceptsItems I.seen (_parser.now.min ≤ _parser.now.max) (λ a. 0 < a) _parser.now.min (Some _parser.now.max)
         (F.meaning (F.state _parser.now.parser)) (⟦<ManyMN<A, F> as Parser<I>>⟧.meaning (_parser.now.min, _parser.now.max, F.state _parser.now.parser)) }
-{}
-
-/// `separated_list1` accepts a first item, and behind it just the pairs of a separator and an item that they
-/// accept, one behind the other, none of them empty, up to where the separator or the item behind it refuses.
-pub fn separated_list1_accepts<
-    I: Input,
-    A: Allocator + Copy,
-    F: Parser<I> + Drop,
-    G: Parser<I, Error = F::Error> + Drop,
->(_parser: &SeparatedList1<A, G, F>)
-    ensures { AcceptsOneAndMore I.seen (F.meaning (F.state _parser.now.next.second))
-        (preceded_meaning I.seen (G.meaning (G.state _parser.now.next.first)) (F.meaning (F.state _parser.now.next.second)))
-        (⟦<SeparatedList1<A, G, F> as Parser<I>>⟧.meaning (G.state _parser.now.next.first, F.state _parser.now.next.second)) }
-{}
-
-/// `separated_list0` accepts nothing, with no items, where the first item is refused; and else just what
-/// `separated_list1` accepts.
-pub fn separated_list0_accepts<
-    I: Input,
-    A: Allocator + Copy,
-    F: Parser<I> + Drop,
-    G: Parser<I, Error = F::Error> + Drop,
->(_parser: &SeparatedList0<A, G, F>)
-    ensures { AcceptsNoneOrMore I.seen (F.meaning (F.state _parser.now.next.second))
-        (preceded_meaning I.seen (G.meaning (G.state _parser.now.next.first)) (F.meaning (F.state _parser.now.next.second)))
-        (⟦<SeparatedList0<A, G, F> as Parser<I>>⟧.meaning (G.state _parser.now.next.first, F.state _parser.now.next.second)) }
 {}
 
 /// `many_till` accepts just the items that its part accepts, one behind the other, none of them empty, each

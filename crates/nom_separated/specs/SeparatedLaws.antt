@@ -10,7 +10,7 @@ use Rattle.nom_internal.specs.Success.{success_lawful, success_steady}
 use Rattle.nom_repeat.specs.Items.{items_meaning}
 use Rattle.nom_repeat.specs.ItemsLaws.{items_lawful, items_steady}
 use Rattle.nom_sequence.specs.Sequences.{preceded_meaning}
-use Rattle.nom_multi.specs.Separated.{further_meaning, separated1_meaning, optional_limits, optional_meaning, follows, following, separated0_meaning}
+use Rattle.nom_separated.specs.Separated.{further_meaning, separated1_meaning, optional_limits, optional_meaning, follows, following, separated0_meaning}
 use Rattle.nom_repeat.specs.Bounds.{any_limits, one_limits}
 use Rattle.nom_error.specs.declared.kind.ErrorKind.TheVariants as Kind
 use Rattle.nom_repeat.specs.declared.items.TooFew.TheVariants.{Passed}

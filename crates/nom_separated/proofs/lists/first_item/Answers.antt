@@ -1,8 +1,8 @@
 use Rattle.std.proofs.Common.{rules, []}
 use Rattle.nom_internal.proofs.Shown.{accepts}
 use Rattle.nom_repeat.proofs.Keeping.{kept_none, gained, room_built, room_grows}
-use Rattle.nom_multi.proofs.SeparatedShown.{first_missing, first_found, first_failed, first_lacks, first_lacks_room, nothing_yet}
-use Rattle.nom_multi.proofs.separated.first_item.Goals as goal
+use Rattle.nom_separated.proofs.SeparatedShown.{first_missing, first_found, first_failed, first_lacks, first_lacks_room, nothing_yet}
+use Rattle.nom_separated.proofs.lists.first_item.Goals as goal
 
 pub returns-then-not-gain-clause-shown : goal.returns-then-not-gain-clause-shown
 returns-then-not-gain-clause-shown g c =

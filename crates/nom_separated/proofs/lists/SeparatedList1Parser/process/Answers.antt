@@ -3,8 +3,8 @@ use Rattle.nom_repeat.proofs.Parts.{shown_as, shown_at}
 use Rattle.nom_repeat.proofs.Keeping.{kept_both, kept_ready}
 use Rattle.nom_repeat.proofs.ListKept.{list_of_none, ListGains}
 use Rattle.nom_repeat.specs.Kept.{Kept}
-use Rattle.nom_multi.specs.Separated.{further_meaning}
-use Rattle.nom_multi.proofs.separated.SeparatedList1Parser.process.Goals as goal
+use Rattle.nom_separated.specs.Separated.{further_meaning}
+use Rattle.nom_separated.proofs.lists.SeparatedList1Parser.process.Goals as goal
 
 pub returns-in_err-rest-clause-shown : goal.returns-in_err-rest-clause-shown
 returns-in_err-rest-clause-shown g c = then_err g.met.I.Items.lawful c.in_err-rest.ensures.shown c.from_residual.ensures

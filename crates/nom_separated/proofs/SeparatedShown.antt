@@ -20,7 +20,7 @@ use Rattle.nom_repeat.specs.Kept.{Kept}
 use Rattle.nom_repeat.proofs.Parts.{part_refused}
 use Rattle.nom_repeat.proofs.Repeated.{Collected, collected_none, ended}
 use Rattle.nom_repeat.proofs.ItemsShown.{items_more, items_failed, items_lack, items_part_ran_out, items_lack_room}
-use Rattle.nom_multi.specs.Separated.{optional_limits, optional_meaning, Found, IsFound, follows, further_meaning}
+use Rattle.nom_separated.specs.Separated.{optional_limits, optional_meaning, Found, IsFound, follows, further_meaning}
 
 -- where something is accepted, memory didn't run out
 accepted_anyway : {I A V O E : Type 0} {w : Seen I A} {IsOutput : V → O → Type 0} {mode : Modes} {i j : I} {x : Option O} {Answers : Outcome V → Type 0}
