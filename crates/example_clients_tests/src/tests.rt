@@ -1,9 +1,11 @@
-//! Vectors of the two grammars, by hand from their standards.
+//! Vectors of the grammars, by hand, and of the first two from their standards.
 
 use example_clients::dates::{
     Date, Duration, Offset, Time, parse_date, parse_date_time, parse_duration,
 };
 use example_clients::packets::{MacAddress, TcpOption, ethernet, ipv4, tcp, tcp_option, udp};
+use example_clients::parts::{framed, number_line, worded};
+use nom::Err;
 use std::net::Ipv4Addr;
 
 /// An Ethernet frame of a SYN from 192.168.1.2:49320 to 93.184.216.34:443.
@@ -175,5 +177,26 @@ fn durations(rt: HostRuntime) {
             _ => None,
         };
         assert!(rt; read == wanted);
+    }
+}
+
+#[test]
+fn functions_as_parts(rt: HostRuntime) {
+    assert!(rt; number_line("12\r\nb") == Ok(("b", ("12", "\r\n"))));
+    assert!(rt; number_line("12") == Ok(("", ("12", ""))));
+    assert!(rt; number_line("12x").is_err());
+    let whole: &[u8] = &[7, 1, 0, 9];
+    match framed(whole) {
+        Ok((left, (kind, length, found))) => {
+            assert!(rt;
+                left.is_empty() && kind == 7 && length == Some(256) && found == [9u8].as_slice()
+            );
+        }
+        _ => panic!(rt; "refused"),
+    }
+    assert!(rt; worded("ab 12;") == Ok((";", ("ab", " ", 12))));
+    match worded("ab 12") {
+        Err(Err::Incomplete(_)) => {}
+        _ => panic!(rt; "decided"),
     }
 }

@@ -24,6 +24,7 @@ pub use nom_error::finish::{Finish, FinishError};
 pub use nom_error::mode::{
     Check, Complete, Emit, IsStreaming, Mode, OutputM, OutputMode, Streaming,
 };
+pub use nom_func::answer::{answer, stream_answer};
 pub use nom_func::func::{Func, StreamFunc};
 pub use nom_func::function::{func, stream_func};
 pub use nom_growing::growing::{Grown, parse_growing};

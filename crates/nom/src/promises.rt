@@ -27,4 +27,3 @@ pub use nom_multi::promises::{
 };
 pub use nom_permutation::promises::applies_each_once;
 pub use nom_separated::promises::{separated_list0_accepts, separated_list1_accepts};
-pub use nom_stream_functions as stream_functions;

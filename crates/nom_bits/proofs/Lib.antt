@@ -1,5 +1,4 @@
 pub mod Bridged
-pub mod Functions
 pub mod Positions
 pub mod Shown
 pub mod Spellings

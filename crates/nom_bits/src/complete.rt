@@ -4,7 +4,8 @@
 ghost use Rattle.std.specs.Prelude.{◌≡◌, ◌≤◌, false};
 ghost use Rattle.std.specs.Result.{IfOk};
 ghost use Rattle.nom_traits.specs.Bits.{seen_bits};
-ghost use Rattle.nom_internal.specs.Meaning.{ParsesMeaning};
+ghost use Rattle.nom_traits.specs.View.{itself};
+ghost use Rattle.nom_func.specs.Func.{AnswersBy};
 ghost use Rattle.nom_bits.specs.BitRests.{StandsBehind};
 ghost use Rattle.nom_bits.specs.Fields.{bool_meaning};
 
@@ -48,7 +49,7 @@ pub fn tag<I, O: BitUint, C: ToUsize + Drop, E>(
 pub fn bool<I: Input<Item = u8>, E: ParseError<(I, usize)>>(
     input: (I, usize),
 ) -> IResult<(I, usize), bool, E>
-    ensures shown { ParsesMeaning (seen_bits I.seen) (λ t v. v ≡ t) (bool_meaning I.seen E.errors) false input result }
+    ensures shown { AnswersBy (seen_bits I.seen) itself (λ t v. v ≡ t) (bool_meaning I.seen E.errors) false input result }
     // The pair that is left.
     ensures pair { IfOk result (λ accepted. StandsBehind I.seen input 1 accepted.0) }
 {

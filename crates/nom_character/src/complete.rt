@@ -1,7 +1,8 @@
 //! Parsers of characters in one mode: no more input may come, whatever mode is asked for.
 ghost use Rattle.std.specs.Prelude.{◌≡◌, Some, None, false};
 ghost use Rattle.nom_traits.specs.Slices.{IsSeenAs};
-ghost use Rattle.nom_internal.specs.Meaning.{ParsesMeaning};
+ghost use Rattle.nom_traits.specs.View.{itself};
+ghost use Rattle.nom_func.specs.Func.{AnswersBy};
 ghost use Rattle.nom_character.specs.ClassRuns.{class_meaning};
 ghost use Rattle.nom_character.specs.Heads.{any_meaning, char_meaning};
 ghost use Rattle.nom_character.specs.Sights.{crlf_meaning, line_ending_meaning, line_meaning};
@@ -14,8 +15,8 @@ use nom_error::answer::IResult;
 use nom_error::kind::ErrorKind;
 use nom_error::mode::Complete;
 use nom_error::value::ParseError;
+use nom_func::answer::answer;
 use nom_internal::one_mode::fixed;
-use nom_internal::parser::Parser;
 use nom_traits::character::{AsChar, AsciiClass};
 use nom_traits::input::Input;
 use std::marker::PhantomData;
@@ -64,14 +65,14 @@ fn of_class<T: Input, E: ParseError<T>>(
 ) -> IResult<T, T, E>
 where
     T::Item: AsChar,
-    ensures { ParsesMeaning T.seen (IsSeenAs T.seen) (class_meaning T.seen T.Item.code E.errors class wanted) false input result }
+    ensures { AnswersBy T.seen T.view (IsSeenAs T.seen) (class_meaning T.seen T.Item.code E.errors class wanted) false input result }
 {
     let mut run = ClassRun::<T, E> {
         class,
         wanted,
         error: PhantomData,
     };
-    run.parse_complete(input)
+    answer(&mut run, input)
 }
 
 /// The first items that are letters, `A` to `Z` and `a` to `z`; there may be none.
@@ -79,7 +80,7 @@ where
 pub fn alpha0<T: Input, E: ParseError<T>>(input: T) -> IResult<T, T, E>
 where
     T::Item: AsChar,
-    ensures { ParsesMeaning T.seen (IsSeenAs T.seen) (class_meaning T.seen T.Item.code E.errors AsciiClass.Alpha None) false input result }
+    ensures { AnswersBy T.seen T.view (IsSeenAs T.seen) (class_meaning T.seen T.Item.code E.errors AsciiClass.Alpha None) false input result }
 {
     of_class(input, AsciiClass::Alpha, None)
 }
@@ -90,7 +91,7 @@ where
 pub fn alpha1<T: Input, E: ParseError<T>>(input: T) -> IResult<T, T, E>
 where
     T::Item: AsChar,
-    ensures { ParsesMeaning T.seen (IsSeenAs T.seen) (class_meaning T.seen T.Item.code E.errors AsciiClass.Alpha (Some ErrorKind.Alpha)) false input result }
+    ensures { AnswersBy T.seen T.view (IsSeenAs T.seen) (class_meaning T.seen T.Item.code E.errors AsciiClass.Alpha (Some ErrorKind.Alpha)) false input result }
 {
     of_class(input, AsciiClass::Alpha, Some(ErrorKind::Alpha))
 }
@@ -100,7 +101,7 @@ where
 pub fn digit0<T: Input, E: ParseError<T>>(input: T) -> IResult<T, T, E>
 where
     T::Item: AsChar,
-    ensures { ParsesMeaning T.seen (IsSeenAs T.seen) (class_meaning T.seen T.Item.code E.errors AsciiClass.Digit None) false input result }
+    ensures { AnswersBy T.seen T.view (IsSeenAs T.seen) (class_meaning T.seen T.Item.code E.errors AsciiClass.Digit None) false input result }
 {
     of_class(input, AsciiClass::Digit, None)
 }
@@ -111,7 +112,7 @@ where
 pub fn digit1<T: Input, E: ParseError<T>>(input: T) -> IResult<T, T, E>
 where
     T::Item: AsChar,
-    ensures { ParsesMeaning T.seen (IsSeenAs T.seen) (class_meaning T.seen T.Item.code E.errors AsciiClass.Digit (Some ErrorKind.Digit)) false input result }
+    ensures { AnswersBy T.seen T.view (IsSeenAs T.seen) (class_meaning T.seen T.Item.code E.errors AsciiClass.Digit (Some ErrorKind.Digit)) false input result }
 {
     of_class(input, AsciiClass::Digit, Some(ErrorKind::Digit))
 }
@@ -121,7 +122,7 @@ where
 pub fn hex_digit0<T: Input, E: ParseError<T>>(input: T) -> IResult<T, T, E>
 where
     T::Item: AsChar,
-    ensures { ParsesMeaning T.seen (IsSeenAs T.seen) (class_meaning T.seen T.Item.code E.errors AsciiClass.HexDigit None) false input result }
+    ensures { AnswersBy T.seen T.view (IsSeenAs T.seen) (class_meaning T.seen T.Item.code E.errors AsciiClass.HexDigit None) false input result }
 {
     of_class(input, AsciiClass::HexDigit, None)
 }
@@ -132,7 +133,7 @@ where
 pub fn hex_digit1<T: Input, E: ParseError<T>>(input: T) -> IResult<T, T, E>
 where
     T::Item: AsChar,
-    ensures { ParsesMeaning T.seen (IsSeenAs T.seen) (class_meaning T.seen T.Item.code E.errors AsciiClass.HexDigit (Some ErrorKind.HexDigit)) false
+    ensures { AnswersBy T.seen T.view (IsSeenAs T.seen) (class_meaning T.seen T.Item.code E.errors AsciiClass.HexDigit (Some ErrorKind.HexDigit)) false
         input result }
 {
     of_class(input, AsciiClass::HexDigit, Some(ErrorKind::HexDigit))
@@ -143,7 +144,7 @@ where
 pub fn oct_digit0<T: Input, E: ParseError<T>>(input: T) -> IResult<T, T, E>
 where
     T::Item: AsChar,
-    ensures { ParsesMeaning T.seen (IsSeenAs T.seen) (class_meaning T.seen T.Item.code E.errors AsciiClass.OctDigit None) false input result }
+    ensures { AnswersBy T.seen T.view (IsSeenAs T.seen) (class_meaning T.seen T.Item.code E.errors AsciiClass.OctDigit None) false input result }
 {
     of_class(input, AsciiClass::OctDigit, None)
 }
@@ -154,7 +155,7 @@ where
 pub fn oct_digit1<T: Input, E: ParseError<T>>(input: T) -> IResult<T, T, E>
 where
     T::Item: AsChar,
-    ensures { ParsesMeaning T.seen (IsSeenAs T.seen) (class_meaning T.seen T.Item.code E.errors AsciiClass.OctDigit (Some ErrorKind.OctDigit)) false
+    ensures { AnswersBy T.seen T.view (IsSeenAs T.seen) (class_meaning T.seen T.Item.code E.errors AsciiClass.OctDigit (Some ErrorKind.OctDigit)) false
         input result }
 {
     of_class(input, AsciiClass::OctDigit, Some(ErrorKind::OctDigit))
@@ -165,7 +166,7 @@ where
 pub fn bin_digit0<T: Input, E: ParseError<T>>(input: T) -> IResult<T, T, E>
 where
     T::Item: AsChar,
-    ensures { ParsesMeaning T.seen (IsSeenAs T.seen) (class_meaning T.seen T.Item.code E.errors AsciiClass.BinDigit None) false input result }
+    ensures { AnswersBy T.seen T.view (IsSeenAs T.seen) (class_meaning T.seen T.Item.code E.errors AsciiClass.BinDigit None) false input result }
 {
     of_class(input, AsciiClass::BinDigit, None)
 }
@@ -176,7 +177,7 @@ where
 pub fn bin_digit1<T: Input, E: ParseError<T>>(input: T) -> IResult<T, T, E>
 where
     T::Item: AsChar,
-    ensures { ParsesMeaning T.seen (IsSeenAs T.seen) (class_meaning T.seen T.Item.code E.errors AsciiClass.BinDigit (Some ErrorKind.BinDigit)) false
+    ensures { AnswersBy T.seen T.view (IsSeenAs T.seen) (class_meaning T.seen T.Item.code E.errors AsciiClass.BinDigit (Some ErrorKind.BinDigit)) false
         input result }
 {
     of_class(input, AsciiClass::BinDigit, Some(ErrorKind::BinDigit))
@@ -187,7 +188,7 @@ where
 pub fn alphanumeric0<T: Input, E: ParseError<T>>(input: T) -> IResult<T, T, E>
 where
     T::Item: AsChar,
-    ensures { ParsesMeaning T.seen (IsSeenAs T.seen) (class_meaning T.seen T.Item.code E.errors AsciiClass.Alphanumeric None) false input result }
+    ensures { AnswersBy T.seen T.view (IsSeenAs T.seen) (class_meaning T.seen T.Item.code E.errors AsciiClass.Alphanumeric None) false input result }
 {
     of_class(input, AsciiClass::Alphanumeric, None)
 }
@@ -198,7 +199,7 @@ where
 pub fn alphanumeric1<T: Input, E: ParseError<T>>(input: T) -> IResult<T, T, E>
 where
     T::Item: AsChar,
-    ensures { ParsesMeaning T.seen (IsSeenAs T.seen) (class_meaning T.seen T.Item.code E.errors AsciiClass.Alphanumeric (Some ErrorKind.AlphaNumeric))
+    ensures { AnswersBy T.seen T.view (IsSeenAs T.seen) (class_meaning T.seen T.Item.code E.errors AsciiClass.Alphanumeric (Some ErrorKind.AlphaNumeric))
         false input result }
 {
     of_class(
@@ -213,7 +214,7 @@ where
 pub fn space0<T: Input, E: ParseError<T>>(input: T) -> IResult<T, T, E>
 where
     T::Item: AsChar,
-    ensures { ParsesMeaning T.seen (IsSeenAs T.seen) (class_meaning T.seen T.Item.code E.errors AsciiClass.Space None) false input result }
+    ensures { AnswersBy T.seen T.view (IsSeenAs T.seen) (class_meaning T.seen T.Item.code E.errors AsciiClass.Space None) false input result }
 {
     of_class(input, AsciiClass::Space, None)
 }
@@ -224,7 +225,7 @@ where
 pub fn space1<T: Input, E: ParseError<T>>(input: T) -> IResult<T, T, E>
 where
     T::Item: AsChar,
-    ensures { ParsesMeaning T.seen (IsSeenAs T.seen) (class_meaning T.seen T.Item.code E.errors AsciiClass.Space (Some ErrorKind.Space)) false input result }
+    ensures { AnswersBy T.seen T.view (IsSeenAs T.seen) (class_meaning T.seen T.Item.code E.errors AsciiClass.Space (Some ErrorKind.Space)) false input result }
 {
     of_class(input, AsciiClass::Space, Some(ErrorKind::Space))
 }
@@ -234,7 +235,7 @@ where
 pub fn multispace0<T: Input, E: ParseError<T>>(input: T) -> IResult<T, T, E>
 where
     T::Item: AsChar,
-    ensures { ParsesMeaning T.seen (IsSeenAs T.seen) (class_meaning T.seen T.Item.code E.errors AsciiClass.MultiSpace None) false input result }
+    ensures { AnswersBy T.seen T.view (IsSeenAs T.seen) (class_meaning T.seen T.Item.code E.errors AsciiClass.MultiSpace None) false input result }
 {
     of_class(input, AsciiClass::MultiSpace, None)
 }
@@ -245,7 +246,7 @@ where
 pub fn multispace1<T: Input, E: ParseError<T>>(input: T) -> IResult<T, T, E>
 where
     T::Item: AsChar,
-    ensures { ParsesMeaning T.seen (IsSeenAs T.seen) (class_meaning T.seen T.Item.code E.errors AsciiClass.MultiSpace (Some ErrorKind.MultiSpace)) false
+    ensures { AnswersBy T.seen T.view (IsSeenAs T.seen) (class_meaning T.seen T.Item.code E.errors AsciiClass.MultiSpace (Some ErrorKind.MultiSpace)) false
         input result }
 {
     of_class(input, AsciiClass::MultiSpace, Some(ErrorKind::MultiSpace))
@@ -256,10 +257,10 @@ where
 pub fn anychar<T: Input, E: ParseError<T>>(input: T) -> IResult<T, char, E>
 where
     T::Item: AsChar,
-    ensures { ParsesMeaning T.seen (λ t c. c ≡ t) (any_meaning T.seen T.Item.code E.errors) false input result }
+    ensures { AnswersBy T.seen itself (λ t c. c ≡ t) (any_meaning T.seen T.Item.code E.errors) false input result }
 {
     let mut parser = AnyChar::<T, E>::new();
-    parser.parse_complete(input)
+    answer(&mut parser, input)
 }
 
 /// The first item, if it is the end of a line, `\n`.
@@ -269,13 +270,13 @@ where
 pub fn newline<T: Input, E: ParseError<T>>(input: T) -> IResult<T, char, E>
 where
     T::Item: AsChar,
-    ensures { ParsesMeaning T.seen (λ t c. c ≡ t) (char_meaning T.seen T.Item.code E.errors 10) false input result }
+    ensures { AnswersBy T.seen itself (λ t c. c ≡ t) (char_meaning T.seen T.Item.code E.errors 10) false input result }
 {
     let mut parser = Char::<T, E> {
         wanted: '\n',
         error: PhantomData,
     };
-    parser.parse_complete(input)
+    answer(&mut parser, input)
 }
 
 /// The first item, if it is a tab.
@@ -285,13 +286,13 @@ where
 pub fn tab<T: Input, E: ParseError<T>>(input: T) -> IResult<T, char, E>
 where
     T::Item: AsChar,
-    ensures { ParsesMeaning T.seen (λ t c. c ≡ t) (char_meaning T.seen T.Item.code E.errors 9) false input result }
+    ensures { AnswersBy T.seen itself (λ t c. c ≡ t) (char_meaning T.seen T.Item.code E.errors 9) false input result }
 {
     let mut parser = Char::<T, E> {
         wanted: '\t',
         error: PhantomData,
     };
-    parser.parse_complete(input)
+    answer(&mut parser, input)
 }
 
 /// `\r\n`.
@@ -301,10 +302,10 @@ where
 pub fn crlf<T: Input, E: ParseError<T>>(input: T) -> IResult<T, T, E>
 where
     T::Item: AsChar,
-    ensures { ParsesMeaning T.seen (IsSeenAs T.seen) (crlf_meaning T.seen T.Item.code E.errors) false input result }
+    ensures { AnswersBy T.seen T.view (IsSeenAs T.seen) (crlf_meaning T.seen T.Item.code E.errors) false input result }
 {
     let mut parser = Crlf::<T, E> { error: PhantomData };
-    parser.parse_complete(input)
+    answer(&mut parser, input)
 }
 
 /// The end of a line, `\n` or `\r\n`.
@@ -314,10 +315,10 @@ where
 pub fn line_ending<T: Input, E: ParseError<T>>(input: T) -> IResult<T, T, E>
 where
     T::Item: AsChar,
-    ensures { ParsesMeaning T.seen (IsSeenAs T.seen) (line_ending_meaning T.seen T.Item.code E.errors) false input result }
+    ensures { AnswersBy T.seen T.view (IsSeenAs T.seen) (line_ending_meaning T.seen T.Item.code E.errors) false input result }
 {
     let mut parser = LineEnding::<T, E> { error: PhantomData };
-    parser.parse_complete(input)
+    answer(&mut parser, input)
 }
 
 /// The items before the first `\n` or `\r\n`; there may be none.
@@ -328,8 +329,8 @@ where
 pub fn not_line_ending<T: Input, E: ParseError<T>>(input: T) -> IResult<T, T, E>
 where
     T::Item: AsChar,
-    ensures { ParsesMeaning T.seen (IsSeenAs T.seen) (line_meaning T.seen T.Item.code E.errors) false input result }
+    ensures { AnswersBy T.seen T.view (IsSeenAs T.seen) (line_meaning T.seen T.Item.code E.errors) false input result }
 {
     let mut parser = NotLineEnding::<T, E> { error: PhantomData };
-    parser.parse_complete(input)
+    answer(&mut parser, input)
 }

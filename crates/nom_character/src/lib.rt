@@ -4,7 +4,8 @@
 ghost use Rattle.std.specs.Prelude.{◌≡◌, false};
 ghost use Rattle.nom_traits.specs.Classes.{is_alpha_code, is_alphanum_code, is_bin_digit_code, is_dec_digit_code, is_hex_digit_code, is_newline_code};
 ghost use Rattle.nom_traits.specs.Classes.{is_oct_digit_code, is_space_code};
-ghost use Rattle.nom_internal.specs.Meaning.{ParsesMeaning};
+ghost use Rattle.nom_traits.specs.View.{itself};
+ghost use Rattle.nom_func.specs.Func.{AnswersBy};
 ghost use Rattle.nom_character.specs.Heads.{any_meaning};
 
 mod class;
@@ -29,8 +30,8 @@ pub use crate::runs::{
 use nom_error::answer::IResult;
 use nom_error::kind::ErrorKind;
 use nom_error::value::ParseError;
+use nom_func::answer::answer;
 pub use nom_internal::fixed::Fixed;
-use nom_internal::parser::Parser;
 use nom_traits::character::AsChar;
 use nom_traits::input::Input;
 use std::marker::PhantomData;
@@ -120,10 +121,10 @@ pub fn multispace0<I, E>() -> MultiSpace0<I, E> {
 pub fn anychar<T: Input, E: ParseError<T>>(input: T) -> IResult<T, char, E>
 where
     T::Item: AsChar,
-    ensures { ParsesMeaning T.seen (λ t c. c ≡ t) (any_meaning T.seen T.Item.code E.errors) false input result }
+    ensures { AnswersBy T.seen itself (λ t c. c ≡ t) (any_meaning T.seen T.Item.code E.errors) false input result }
 {
     let mut parser = AnyChar::<T, E>::new();
-    parser.parse_complete(input)
+    answer(&mut parser, input)
 }
 
 /// Whether the byte is an ASCII letter.

@@ -1,7 +1,8 @@
 //! Parsers of characters in one mode: more input may come, whatever mode is asked for.
 ghost use Rattle.std.specs.Prelude.{◌≡◌, Some, None, true};
 ghost use Rattle.nom_traits.specs.Slices.{IsSeenAs};
-ghost use Rattle.nom_internal.specs.Meaning.{ParsesMeaning};
+ghost use Rattle.nom_traits.specs.View.{itself};
+ghost use Rattle.nom_func.specs.Func.{StreamsBy};
 ghost use Rattle.nom_character.specs.ClassRuns.{class_meaning};
 ghost use Rattle.nom_character.specs.Heads.{any_meaning, char_meaning};
 ghost use Rattle.nom_character.specs.Sights.{crlf_meaning, line_ending_meaning, line_meaning};
@@ -14,8 +15,8 @@ use nom_error::answer::IResult;
 use nom_error::kind::ErrorKind;
 use nom_error::mode::Streaming;
 use nom_error::value::ParseError;
+use nom_func::answer::stream_answer;
 use nom_internal::one_mode::fixed;
-use nom_internal::parser::Parser;
 use nom_traits::character::{AsChar, AsciiClass};
 use nom_traits::input::Input;
 use std::marker::PhantomData;
@@ -64,14 +65,14 @@ fn of_class<T: Input, E: ParseError<T>>(
 ) -> IResult<T, T, E>
 where
     T::Item: AsChar,
-    ensures { ParsesMeaning T.seen (IsSeenAs T.seen) (class_meaning T.seen T.Item.code E.errors class wanted) true input result }
+    ensures { StreamsBy T.seen T.view (IsSeenAs T.seen) (class_meaning T.seen T.Item.code E.errors class wanted) true input result }
 {
     let mut run = ClassRun::<T, E> {
         class,
         wanted,
         error: PhantomData,
     };
-    run.parse(input)
+    stream_answer(&mut run, input)
 }
 
 /// The first items that are letters, `A` to `Z` and `a` to `z`; there may be none. Where all items are such,
@@ -80,7 +81,7 @@ where
 pub fn alpha0<T: Input, E: ParseError<T>>(input: T) -> IResult<T, T, E>
 where
     T::Item: AsChar,
-    ensures { ParsesMeaning T.seen (IsSeenAs T.seen) (class_meaning T.seen T.Item.code E.errors AsciiClass.Alpha None) true input result }
+    ensures { StreamsBy T.seen T.view (IsSeenAs T.seen) (class_meaning T.seen T.Item.code E.errors AsciiClass.Alpha None) true input result }
 {
     of_class(input, AsciiClass::Alpha, None)
 }
@@ -91,7 +92,7 @@ where
 pub fn alpha1<T: Input, E: ParseError<T>>(input: T) -> IResult<T, T, E>
 where
     T::Item: AsChar,
-    ensures { ParsesMeaning T.seen (IsSeenAs T.seen) (class_meaning T.seen T.Item.code E.errors AsciiClass.Alpha (Some ErrorKind.Alpha)) true input result }
+    ensures { StreamsBy T.seen T.view (IsSeenAs T.seen) (class_meaning T.seen T.Item.code E.errors AsciiClass.Alpha (Some ErrorKind.Alpha)) true input result }
 {
     of_class(input, AsciiClass::Alpha, Some(ErrorKind::Alpha))
 }
@@ -102,7 +103,7 @@ where
 pub fn digit0<T: Input, E: ParseError<T>>(input: T) -> IResult<T, T, E>
 where
     T::Item: AsChar,
-    ensures { ParsesMeaning T.seen (IsSeenAs T.seen) (class_meaning T.seen T.Item.code E.errors AsciiClass.Digit None) true input result }
+    ensures { StreamsBy T.seen T.view (IsSeenAs T.seen) (class_meaning T.seen T.Item.code E.errors AsciiClass.Digit None) true input result }
 {
     of_class(input, AsciiClass::Digit, None)
 }
@@ -113,7 +114,7 @@ where
 pub fn digit1<T: Input, E: ParseError<T>>(input: T) -> IResult<T, T, E>
 where
     T::Item: AsChar,
-    ensures { ParsesMeaning T.seen (IsSeenAs T.seen) (class_meaning T.seen T.Item.code E.errors AsciiClass.Digit (Some ErrorKind.Digit)) true input result }
+    ensures { StreamsBy T.seen T.view (IsSeenAs T.seen) (class_meaning T.seen T.Item.code E.errors AsciiClass.Digit (Some ErrorKind.Digit)) true input result }
 {
     of_class(input, AsciiClass::Digit, Some(ErrorKind::Digit))
 }
@@ -124,7 +125,7 @@ where
 pub fn hex_digit0<T: Input, E: ParseError<T>>(input: T) -> IResult<T, T, E>
 where
     T::Item: AsChar,
-    ensures { ParsesMeaning T.seen (IsSeenAs T.seen) (class_meaning T.seen T.Item.code E.errors AsciiClass.HexDigit None) true input result }
+    ensures { StreamsBy T.seen T.view (IsSeenAs T.seen) (class_meaning T.seen T.Item.code E.errors AsciiClass.HexDigit None) true input result }
 {
     of_class(input, AsciiClass::HexDigit, None)
 }
@@ -135,7 +136,7 @@ where
 pub fn hex_digit1<T: Input, E: ParseError<T>>(input: T) -> IResult<T, T, E>
 where
     T::Item: AsChar,
-    ensures { ParsesMeaning T.seen (IsSeenAs T.seen) (class_meaning T.seen T.Item.code E.errors AsciiClass.HexDigit (Some ErrorKind.HexDigit)) true
+    ensures { StreamsBy T.seen T.view (IsSeenAs T.seen) (class_meaning T.seen T.Item.code E.errors AsciiClass.HexDigit (Some ErrorKind.HexDigit)) true
         input result }
 {
     of_class(input, AsciiClass::HexDigit, Some(ErrorKind::HexDigit))
@@ -147,7 +148,7 @@ where
 pub fn oct_digit0<T: Input, E: ParseError<T>>(input: T) -> IResult<T, T, E>
 where
     T::Item: AsChar,
-    ensures { ParsesMeaning T.seen (IsSeenAs T.seen) (class_meaning T.seen T.Item.code E.errors AsciiClass.OctDigit None) true input result }
+    ensures { StreamsBy T.seen T.view (IsSeenAs T.seen) (class_meaning T.seen T.Item.code E.errors AsciiClass.OctDigit None) true input result }
 {
     of_class(input, AsciiClass::OctDigit, None)
 }
@@ -158,7 +159,7 @@ where
 pub fn oct_digit1<T: Input, E: ParseError<T>>(input: T) -> IResult<T, T, E>
 where
     T::Item: AsChar,
-    ensures { ParsesMeaning T.seen (IsSeenAs T.seen) (class_meaning T.seen T.Item.code E.errors AsciiClass.OctDigit (Some ErrorKind.OctDigit)) true
+    ensures { StreamsBy T.seen T.view (IsSeenAs T.seen) (class_meaning T.seen T.Item.code E.errors AsciiClass.OctDigit (Some ErrorKind.OctDigit)) true
         input result }
 {
     of_class(input, AsciiClass::OctDigit, Some(ErrorKind::OctDigit))
@@ -170,7 +171,7 @@ where
 pub fn bin_digit0<T: Input, E: ParseError<T>>(input: T) -> IResult<T, T, E>
 where
     T::Item: AsChar,
-    ensures { ParsesMeaning T.seen (IsSeenAs T.seen) (class_meaning T.seen T.Item.code E.errors AsciiClass.BinDigit None) true input result }
+    ensures { StreamsBy T.seen T.view (IsSeenAs T.seen) (class_meaning T.seen T.Item.code E.errors AsciiClass.BinDigit None) true input result }
 {
     of_class(input, AsciiClass::BinDigit, None)
 }
@@ -181,7 +182,7 @@ where
 pub fn bin_digit1<T: Input, E: ParseError<T>>(input: T) -> IResult<T, T, E>
 where
     T::Item: AsChar,
-    ensures { ParsesMeaning T.seen (IsSeenAs T.seen) (class_meaning T.seen T.Item.code E.errors AsciiClass.BinDigit (Some ErrorKind.BinDigit)) true
+    ensures { StreamsBy T.seen T.view (IsSeenAs T.seen) (class_meaning T.seen T.Item.code E.errors AsciiClass.BinDigit (Some ErrorKind.BinDigit)) true
         input result }
 {
     of_class(input, AsciiClass::BinDigit, Some(ErrorKind::BinDigit))
@@ -193,7 +194,7 @@ where
 pub fn alphanumeric0<T: Input, E: ParseError<T>>(input: T) -> IResult<T, T, E>
 where
     T::Item: AsChar,
-    ensures { ParsesMeaning T.seen (IsSeenAs T.seen) (class_meaning T.seen T.Item.code E.errors AsciiClass.Alphanumeric None) true input result }
+    ensures { StreamsBy T.seen T.view (IsSeenAs T.seen) (class_meaning T.seen T.Item.code E.errors AsciiClass.Alphanumeric None) true input result }
 {
     of_class(input, AsciiClass::Alphanumeric, None)
 }
@@ -204,7 +205,7 @@ where
 pub fn alphanumeric1<T: Input, E: ParseError<T>>(input: T) -> IResult<T, T, E>
 where
     T::Item: AsChar,
-    ensures { ParsesMeaning T.seen (IsSeenAs T.seen) (class_meaning T.seen T.Item.code E.errors AsciiClass.Alphanumeric (Some ErrorKind.AlphaNumeric))
+    ensures { StreamsBy T.seen T.view (IsSeenAs T.seen) (class_meaning T.seen T.Item.code E.errors AsciiClass.Alphanumeric (Some ErrorKind.AlphaNumeric))
         true input result }
 {
     of_class(
@@ -220,7 +221,7 @@ where
 pub fn space0<T: Input, E: ParseError<T>>(input: T) -> IResult<T, T, E>
 where
     T::Item: AsChar,
-    ensures { ParsesMeaning T.seen (IsSeenAs T.seen) (class_meaning T.seen T.Item.code E.errors AsciiClass.Space None) true input result }
+    ensures { StreamsBy T.seen T.view (IsSeenAs T.seen) (class_meaning T.seen T.Item.code E.errors AsciiClass.Space None) true input result }
 {
     of_class(input, AsciiClass::Space, None)
 }
@@ -231,7 +232,7 @@ where
 pub fn space1<T: Input, E: ParseError<T>>(input: T) -> IResult<T, T, E>
 where
     T::Item: AsChar,
-    ensures { ParsesMeaning T.seen (IsSeenAs T.seen) (class_meaning T.seen T.Item.code E.errors AsciiClass.Space (Some ErrorKind.Space)) true input result }
+    ensures { StreamsBy T.seen T.view (IsSeenAs T.seen) (class_meaning T.seen T.Item.code E.errors AsciiClass.Space (Some ErrorKind.Space)) true input result }
 {
     of_class(input, AsciiClass::Space, Some(ErrorKind::Space))
 }
@@ -242,7 +243,7 @@ where
 pub fn multispace0<T: Input, E: ParseError<T>>(input: T) -> IResult<T, T, E>
 where
     T::Item: AsChar,
-    ensures { ParsesMeaning T.seen (IsSeenAs T.seen) (class_meaning T.seen T.Item.code E.errors AsciiClass.MultiSpace None) true input result }
+    ensures { StreamsBy T.seen T.view (IsSeenAs T.seen) (class_meaning T.seen T.Item.code E.errors AsciiClass.MultiSpace None) true input result }
 {
     of_class(input, AsciiClass::MultiSpace, None)
 }
@@ -253,7 +254,7 @@ where
 pub fn multispace1<T: Input, E: ParseError<T>>(input: T) -> IResult<T, T, E>
 where
     T::Item: AsChar,
-    ensures { ParsesMeaning T.seen (IsSeenAs T.seen) (class_meaning T.seen T.Item.code E.errors AsciiClass.MultiSpace (Some ErrorKind.MultiSpace)) true
+    ensures { StreamsBy T.seen T.view (IsSeenAs T.seen) (class_meaning T.seen T.Item.code E.errors AsciiClass.MultiSpace (Some ErrorKind.MultiSpace)) true
         input result }
 {
     of_class(input, AsciiClass::MultiSpace, Some(ErrorKind::MultiSpace))
@@ -264,10 +265,10 @@ where
 pub fn anychar<T: Input, E: ParseError<T>>(input: T) -> IResult<T, char, E>
 where
     T::Item: AsChar,
-    ensures { ParsesMeaning T.seen (λ t c. c ≡ t) (any_meaning T.seen T.Item.code E.errors) true input result }
+    ensures { StreamsBy T.seen itself (λ t c. c ≡ t) (any_meaning T.seen T.Item.code E.errors) true input result }
 {
     let mut parser = AnyChar::<T, E>::new();
-    parser.parse(input)
+    stream_answer(&mut parser, input)
 }
 
 /// The first item, if it is the end of a line, `\n`.
@@ -277,13 +278,13 @@ where
 pub fn newline<T: Input, E: ParseError<T>>(input: T) -> IResult<T, char, E>
 where
     T::Item: AsChar,
-    ensures { ParsesMeaning T.seen (λ t c. c ≡ t) (char_meaning T.seen T.Item.code E.errors 10) true input result }
+    ensures { StreamsBy T.seen itself (λ t c. c ≡ t) (char_meaning T.seen T.Item.code E.errors 10) true input result }
 {
     let mut parser = Char::<T, E> {
         wanted: '\n',
         error: PhantomData,
     };
-    parser.parse(input)
+    stream_answer(&mut parser, input)
 }
 
 /// The first item, if it is a tab.
@@ -293,13 +294,13 @@ where
 pub fn tab<T: Input, E: ParseError<T>>(input: T) -> IResult<T, char, E>
 where
     T::Item: AsChar,
-    ensures { ParsesMeaning T.seen (λ t c. c ≡ t) (char_meaning T.seen T.Item.code E.errors 9) true input result }
+    ensures { StreamsBy T.seen itself (λ t c. c ≡ t) (char_meaning T.seen T.Item.code E.errors 9) true input result }
 {
     let mut parser = Char::<T, E> {
         wanted: '\t',
         error: PhantomData,
     };
-    parser.parse(input)
+    stream_answer(&mut parser, input)
 }
 
 /// `\r\n`.
@@ -309,10 +310,10 @@ where
 pub fn crlf<T: Input, E: ParseError<T>>(input: T) -> IResult<T, T, E>
 where
     T::Item: AsChar,
-    ensures { ParsesMeaning T.seen (IsSeenAs T.seen) (crlf_meaning T.seen T.Item.code E.errors) true input result }
+    ensures { StreamsBy T.seen T.view (IsSeenAs T.seen) (crlf_meaning T.seen T.Item.code E.errors) true input result }
 {
     let mut parser = Crlf::<T, E> { error: PhantomData };
-    parser.parse(input)
+    stream_answer(&mut parser, input)
 }
 
 /// The end of a line, `\n` or `\r\n`.
@@ -322,10 +323,10 @@ where
 pub fn line_ending<T: Input, E: ParseError<T>>(input: T) -> IResult<T, T, E>
 where
     T::Item: AsChar,
-    ensures { ParsesMeaning T.seen (IsSeenAs T.seen) (line_ending_meaning T.seen T.Item.code E.errors) true input result }
+    ensures { StreamsBy T.seen T.view (IsSeenAs T.seen) (line_ending_meaning T.seen T.Item.code E.errors) true input result }
 {
     let mut parser = LineEnding::<T, E> { error: PhantomData };
-    parser.parse(input)
+    stream_answer(&mut parser, input)
 }
 
 /// The items before the first `\n` or `\r\n`; there may be none.
@@ -336,8 +337,8 @@ where
 pub fn not_line_ending<T: Input, E: ParseError<T>>(input: T) -> IResult<T, T, E>
 where
     T::Item: AsChar,
-    ensures { ParsesMeaning T.seen (IsSeenAs T.seen) (line_meaning T.seen T.Item.code E.errors) true input result }
+    ensures { StreamsBy T.seen T.view (IsSeenAs T.seen) (line_meaning T.seen T.Item.code E.errors) true input result }
 {
     let mut parser = NotLineEnding::<T, E> { error: PhantomData };
-    parser.parse(input)
+    stream_answer(&mut parser, input)
 }

@@ -1,4 +1,3 @@
-pub mod Functions
 pub mod Readings
 pub mod Shown
 pub mod Signs

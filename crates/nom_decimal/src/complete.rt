@@ -4,13 +4,14 @@
 //! is none, and at the digit with which the number leaves its type.
 ghost use Rattle.std.specs.Prelude.{◌≡◌, pos, false};
 ghost use Rattle.std.specs.Int.{w8, w16, w32, w64, w128};
-ghost use Rattle.nom_internal.specs.Meaning.{ParsesMeaning};
+ghost use Rattle.nom_traits.specs.View.{itself};
+ghost use Rattle.nom_func.specs.Func.{AnswersBy};
 ghost use Rattle.nom_decimal.specs.Integers.{integer_meaning, signed_meaning, unsigned_meaning};
 
 use crate::integer::Integer;
 use nom_error::answer::IResult;
 use nom_error::value::ParseError;
-use nom_internal::parser::Parser;
+use nom_func::answer::answer;
 use nom_traits::character::AsChar;
 use nom_traits::input::Input;
 use nom_traits::view::Viewed;
@@ -25,13 +26,14 @@ fn of_type<N: PrimInt + Viewed, T: Input, E: ParseError<T>>(
 ) -> IResult<T, N, E>
 where
     T::Item: AsChar,
-    ensures { ParsesMeaning T.seen (λ z x. N.value x ≡ z) (integer_meaning T.seen T.Item.code signed N.fits E.errors) false input result }
+    requires { (x y : N) → N.value x ≡ N.value y → N.view.value x ≡ N.view.value y }
+    ensures { AnswersBy T.seen N.view (λ z x. N.value x ≡ z) (integer_meaning T.seen T.Item.code signed N.fits E.errors) false input result }
 {
     let mut integer = Integer::<N, T, E> {
         signed,
         types: PhantomData,
     };
-    integer.parse_complete(input)
+    answer(&mut integer, input)
 }
 
 /// Decimal digits, one at least, of a number below 2^8.
@@ -39,7 +41,7 @@ where
 pub fn u8<T: Input, E: ParseError<T>>(input: T) -> IResult<T, u8, E>
 where
     T::Item: AsChar,
-    ensures { ParsesMeaning T.seen (λ z x. pos x ≡ z) (unsigned_meaning T.seen T.Item.code 8 E.errors) false input result }
+    ensures { AnswersBy T.seen itself (λ z x. pos x ≡ z) (unsigned_meaning T.seen T.Item.code 8 E.errors) false input result }
 {
     of_type::<u8, T, E>(input, false)
 }
@@ -49,7 +51,7 @@ where
 pub fn u16<T: Input, E: ParseError<T>>(input: T) -> IResult<T, u16, E>
 where
     T::Item: AsChar,
-    ensures { ParsesMeaning T.seen (λ z x. pos x ≡ z) (unsigned_meaning T.seen T.Item.code 16 E.errors) false input result }
+    ensures { AnswersBy T.seen itself (λ z x. pos x ≡ z) (unsigned_meaning T.seen T.Item.code 16 E.errors) false input result }
 {
     of_type::<u16, T, E>(input, false)
 }
@@ -59,7 +61,7 @@ where
 pub fn u32<T: Input, E: ParseError<T>>(input: T) -> IResult<T, u32, E>
 where
     T::Item: AsChar,
-    ensures { ParsesMeaning T.seen (λ z x. pos x ≡ z) (unsigned_meaning T.seen T.Item.code 32 E.errors) false input result }
+    ensures { AnswersBy T.seen itself (λ z x. pos x ≡ z) (unsigned_meaning T.seen T.Item.code 32 E.errors) false input result }
 {
     of_type::<u32, T, E>(input, false)
 }
@@ -69,7 +71,7 @@ where
 pub fn u64<T: Input, E: ParseError<T>>(input: T) -> IResult<T, u64, E>
 where
     T::Item: AsChar,
-    ensures { ParsesMeaning T.seen (λ z x. pos x ≡ z) (unsigned_meaning T.seen T.Item.code 64 E.errors) false input result }
+    ensures { AnswersBy T.seen itself (λ z x. pos x ≡ z) (unsigned_meaning T.seen T.Item.code 64 E.errors) false input result }
 {
     of_type::<u64, T, E>(input, false)
 }
@@ -79,7 +81,7 @@ where
 pub fn u128<T: Input, E: ParseError<T>>(input: T) -> IResult<T, u128, E>
 where
     T::Item: AsChar,
-    ensures { ParsesMeaning T.seen (λ z x. pos x ≡ z) (unsigned_meaning T.seen T.Item.code 128 E.errors) false input result }
+    ensures { AnswersBy T.seen itself (λ z x. pos x ≡ z) (unsigned_meaning T.seen T.Item.code 128 E.errors) false input result }
 {
     of_type::<u128, T, E>(input, false)
 }
@@ -89,7 +91,7 @@ where
 pub fn usize<T: Input, E: ParseError<T>>(input: T) -> IResult<T, usize, E>
 where
     T::Item: AsChar,
-    ensures { ParsesMeaning T.seen (λ z x. pos x ≡ z) (unsigned_meaning T.seen T.Item.code 64 E.errors) false input result }
+    ensures { AnswersBy T.seen itself (λ z x. pos x ≡ z) (unsigned_meaning T.seen T.Item.code 64 E.errors) false input result }
 {
     of_type::<usize, T, E>(input, false)
 }
@@ -100,7 +102,7 @@ where
 pub fn i8<T: Input, E: ParseError<T>>(input: T) -> IResult<T, i8, E>
 where
     T::Item: AsChar,
-    ensures { ParsesMeaning T.seen (λ z x. x ≡ z) (signed_meaning T.seen T.Item.code w8 E.errors) false input result }
+    ensures { AnswersBy T.seen itself (λ z x. x ≡ z) (signed_meaning T.seen T.Item.code w8 E.errors) false input result }
 {
     of_type::<i8, T, E>(input, true)
 }
@@ -111,7 +113,7 @@ where
 pub fn i16<T: Input, E: ParseError<T>>(input: T) -> IResult<T, i16, E>
 where
     T::Item: AsChar,
-    ensures { ParsesMeaning T.seen (λ z x. x ≡ z) (signed_meaning T.seen T.Item.code w16 E.errors) false input result }
+    ensures { AnswersBy T.seen itself (λ z x. x ≡ z) (signed_meaning T.seen T.Item.code w16 E.errors) false input result }
 {
     of_type::<i16, T, E>(input, true)
 }
@@ -122,7 +124,7 @@ where
 pub fn i32<T: Input, E: ParseError<T>>(input: T) -> IResult<T, i32, E>
 where
     T::Item: AsChar,
-    ensures { ParsesMeaning T.seen (λ z x. x ≡ z) (signed_meaning T.seen T.Item.code w32 E.errors) false input result }
+    ensures { AnswersBy T.seen itself (λ z x. x ≡ z) (signed_meaning T.seen T.Item.code w32 E.errors) false input result }
 {
     of_type::<i32, T, E>(input, true)
 }
@@ -133,7 +135,7 @@ where
 pub fn i64<T: Input, E: ParseError<T>>(input: T) -> IResult<T, i64, E>
 where
     T::Item: AsChar,
-    ensures { ParsesMeaning T.seen (λ z x. x ≡ z) (signed_meaning T.seen T.Item.code w64 E.errors) false input result }
+    ensures { AnswersBy T.seen itself (λ z x. x ≡ z) (signed_meaning T.seen T.Item.code w64 E.errors) false input result }
 {
     of_type::<i64, T, E>(input, true)
 }
@@ -144,7 +146,7 @@ where
 pub fn i128<T: Input, E: ParseError<T>>(input: T) -> IResult<T, i128, E>
 where
     T::Item: AsChar,
-    ensures { ParsesMeaning T.seen (λ z x. x ≡ z) (signed_meaning T.seen T.Item.code w128 E.errors) false input result }
+    ensures { AnswersBy T.seen itself (λ z x. x ≡ z) (signed_meaning T.seen T.Item.code w128 E.errors) false input result }
 {
     of_type::<i128, T, E>(input, true)
 }
@@ -155,7 +157,7 @@ where
 pub fn isize<T: Input, E: ParseError<T>>(input: T) -> IResult<T, isize, E>
 where
     T::Item: AsChar,
-    ensures { ParsesMeaning T.seen (λ z x. x ≡ z) (signed_meaning T.seen T.Item.code w64 E.errors) false input result }
+    ensures { AnswersBy T.seen itself (λ z x. x ≡ z) (signed_meaning T.seen T.Item.code w64 E.errors) false input result }
 {
     of_type::<isize, T, E>(input, true)
 }

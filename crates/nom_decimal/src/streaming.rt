@@ -5,13 +5,14 @@
 //! needs 1 more.
 ghost use Rattle.std.specs.Prelude.{◌≡◌, pos, true};
 ghost use Rattle.std.specs.Int.{w8, w16, w32, w64, w128};
-ghost use Rattle.nom_internal.specs.Meaning.{ParsesMeaning};
+ghost use Rattle.nom_traits.specs.View.{itself};
+ghost use Rattle.nom_func.specs.Func.{StreamsBy};
 ghost use Rattle.nom_decimal.specs.Integers.{integer_meaning, signed_meaning, unsigned_meaning};
 
 use crate::integer::Integer;
 use nom_error::answer::IResult;
 use nom_error::value::ParseError;
-use nom_internal::parser::Parser;
+use nom_func::answer::stream_answer;
 use nom_traits::character::AsChar;
 use nom_traits::input::Input;
 use nom_traits::view::Viewed;
@@ -26,13 +27,14 @@ fn of_type<N: PrimInt + Viewed, T: Input, E: ParseError<T>>(
 ) -> IResult<T, N, E>
 where
     T::Item: AsChar,
-    ensures { ParsesMeaning T.seen (λ z x. N.value x ≡ z) (integer_meaning T.seen T.Item.code signed N.fits E.errors) true input result }
+    requires { (x y : N) → N.value x ≡ N.value y → N.view.value x ≡ N.view.value y }
+    ensures { StreamsBy T.seen N.view (λ z x. N.value x ≡ z) (integer_meaning T.seen T.Item.code signed N.fits E.errors) true input result }
 {
     let mut integer = Integer::<N, T, E> {
         signed,
         types: PhantomData,
     };
-    integer.parse(input)
+    stream_answer(&mut integer, input)
 }
 
 /// Decimal digits, one at least, of a number below 2^8.
@@ -40,7 +42,7 @@ where
 pub fn u8<T: Input, E: ParseError<T>>(input: T) -> IResult<T, u8, E>
 where
     T::Item: AsChar,
-    ensures { ParsesMeaning T.seen (λ z x. pos x ≡ z) (unsigned_meaning T.seen T.Item.code 8 E.errors) true input result }
+    ensures { StreamsBy T.seen itself (λ z x. pos x ≡ z) (unsigned_meaning T.seen T.Item.code 8 E.errors) true input result }
 {
     of_type::<u8, T, E>(input, false)
 }
@@ -50,7 +52,7 @@ where
 pub fn u16<T: Input, E: ParseError<T>>(input: T) -> IResult<T, u16, E>
 where
     T::Item: AsChar,
-    ensures { ParsesMeaning T.seen (λ z x. pos x ≡ z) (unsigned_meaning T.seen T.Item.code 16 E.errors) true input result }
+    ensures { StreamsBy T.seen itself (λ z x. pos x ≡ z) (unsigned_meaning T.seen T.Item.code 16 E.errors) true input result }
 {
     of_type::<u16, T, E>(input, false)
 }
@@ -60,7 +62,7 @@ where
 pub fn u32<T: Input, E: ParseError<T>>(input: T) -> IResult<T, u32, E>
 where
     T::Item: AsChar,
-    ensures { ParsesMeaning T.seen (λ z x. pos x ≡ z) (unsigned_meaning T.seen T.Item.code 32 E.errors) true input result }
+    ensures { StreamsBy T.seen itself (λ z x. pos x ≡ z) (unsigned_meaning T.seen T.Item.code 32 E.errors) true input result }
 {
     of_type::<u32, T, E>(input, false)
 }
@@ -70,7 +72,7 @@ where
 pub fn u64<T: Input, E: ParseError<T>>(input: T) -> IResult<T, u64, E>
 where
     T::Item: AsChar,
-    ensures { ParsesMeaning T.seen (λ z x. pos x ≡ z) (unsigned_meaning T.seen T.Item.code 64 E.errors) true input result }
+    ensures { StreamsBy T.seen itself (λ z x. pos x ≡ z) (unsigned_meaning T.seen T.Item.code 64 E.errors) true input result }
 {
     of_type::<u64, T, E>(input, false)
 }
@@ -80,7 +82,7 @@ where
 pub fn u128<T: Input, E: ParseError<T>>(input: T) -> IResult<T, u128, E>
 where
     T::Item: AsChar,
-    ensures { ParsesMeaning T.seen (λ z x. pos x ≡ z) (unsigned_meaning T.seen T.Item.code 128 E.errors) true input result }
+    ensures { StreamsBy T.seen itself (λ z x. pos x ≡ z) (unsigned_meaning T.seen T.Item.code 128 E.errors) true input result }
 {
     of_type::<u128, T, E>(input, false)
 }
@@ -90,7 +92,7 @@ where
 pub fn usize<T: Input, E: ParseError<T>>(input: T) -> IResult<T, usize, E>
 where
     T::Item: AsChar,
-    ensures { ParsesMeaning T.seen (λ z x. pos x ≡ z) (unsigned_meaning T.seen T.Item.code 64 E.errors) true input result }
+    ensures { StreamsBy T.seen itself (λ z x. pos x ≡ z) (unsigned_meaning T.seen T.Item.code 64 E.errors) true input result }
 {
     of_type::<usize, T, E>(input, false)
 }
@@ -101,7 +103,7 @@ where
 pub fn i8<T: Input, E: ParseError<T>>(input: T) -> IResult<T, i8, E>
 where
     T::Item: AsChar,
-    ensures { ParsesMeaning T.seen (λ z x. x ≡ z) (signed_meaning T.seen T.Item.code w8 E.errors) true input result }
+    ensures { StreamsBy T.seen itself (λ z x. x ≡ z) (signed_meaning T.seen T.Item.code w8 E.errors) true input result }
 {
     of_type::<i8, T, E>(input, true)
 }
@@ -112,7 +114,7 @@ where
 pub fn i16<T: Input, E: ParseError<T>>(input: T) -> IResult<T, i16, E>
 where
     T::Item: AsChar,
-    ensures { ParsesMeaning T.seen (λ z x. x ≡ z) (signed_meaning T.seen T.Item.code w16 E.errors) true input result }
+    ensures { StreamsBy T.seen itself (λ z x. x ≡ z) (signed_meaning T.seen T.Item.code w16 E.errors) true input result }
 {
     of_type::<i16, T, E>(input, true)
 }
@@ -123,7 +125,7 @@ where
 pub fn i32<T: Input, E: ParseError<T>>(input: T) -> IResult<T, i32, E>
 where
     T::Item: AsChar,
-    ensures { ParsesMeaning T.seen (λ z x. x ≡ z) (signed_meaning T.seen T.Item.code w32 E.errors) true input result }
+    ensures { StreamsBy T.seen itself (λ z x. x ≡ z) (signed_meaning T.seen T.Item.code w32 E.errors) true input result }
 {
     of_type::<i32, T, E>(input, true)
 }
@@ -134,7 +136,7 @@ where
 pub fn i64<T: Input, E: ParseError<T>>(input: T) -> IResult<T, i64, E>
 where
     T::Item: AsChar,
-    ensures { ParsesMeaning T.seen (λ z x. x ≡ z) (signed_meaning T.seen T.Item.code w64 E.errors) true input result }
+    ensures { StreamsBy T.seen itself (λ z x. x ≡ z) (signed_meaning T.seen T.Item.code w64 E.errors) true input result }
 {
     of_type::<i64, T, E>(input, true)
 }
@@ -145,7 +147,7 @@ where
 pub fn i128<T: Input, E: ParseError<T>>(input: T) -> IResult<T, i128, E>
 where
     T::Item: AsChar,
-    ensures { ParsesMeaning T.seen (λ z x. x ≡ z) (signed_meaning T.seen T.Item.code w128 E.errors) true input result }
+    ensures { StreamsBy T.seen itself (λ z x. x ≡ z) (signed_meaning T.seen T.Item.code w128 E.errors) true input result }
 {
     of_type::<i128, T, E>(input, true)
 }
@@ -156,7 +158,7 @@ where
 pub fn isize<T: Input, E: ParseError<T>>(input: T) -> IResult<T, isize, E>
 where
     T::Item: AsChar,
-    ensures { ParsesMeaning T.seen (λ z x. x ≡ z) (signed_meaning T.seen T.Item.code w64 E.errors) true input result }
+    ensures { StreamsBy T.seen itself (λ z x. x ≡ z) (signed_meaning T.seen T.Item.code w64 E.errors) true input result }
 {
     of_type::<isize, T, E>(input, true)
 }

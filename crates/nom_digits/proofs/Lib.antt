@@ -1,4 +1,3 @@
-pub mod Functions
 pub mod HexDigits
 pub mod HexShown
 pub mod PartDigits

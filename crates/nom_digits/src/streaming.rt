@@ -1,8 +1,9 @@
 //! Numbers and shapes that are written in digits, where more input may come.
 ghost use Rattle.std.specs.Prelude.{◌≡◌, true, false};
 ghost use Rattle.nom_traits.specs.Slices.{IsSeenAs};
+ghost use Rattle.nom_traits.specs.View.{itself, view_4};
 ghost use Rattle.nom_internal.specs.Choice.{EitherOutput};
-ghost use Rattle.nom_internal.specs.Meaning.{ParsesMeaning};
+ghost use Rattle.nom_func.specs.Func.{StreamsBy};
 ghost use Rattle.nom_digits.specs.Floats.{float_meaning};
 ghost use Rattle.nom_digits.specs.Hex.{hex_meaning};
 ghost use Rattle.nom_digits.specs.Parts.{IsParts, parts_meaning};
@@ -15,7 +16,7 @@ use crate::kind::AsFloat;
 use crate::part::FloatParts;
 use nom_error::answer::IResult;
 use nom_error::value::ParseError;
-use nom_internal::parser::Parser;
+use nom_func::answer::stream_answer;
 use nom_traits::character::AsChar;
 use nom_traits::input::Input;
 use std::marker::PhantomData;
@@ -29,10 +30,10 @@ use std::marker::PhantomData;
 pub fn hex_u32<I: Input, E: ParseError<I>>(input: I) -> IResult<I, u32, E>
 where
     I::Item: AsChar,
-    ensures { ParsesMeaning I.seen (λ t v. v ≡ t) (hex_meaning I.seen I.Item.code E.errors) true input result }
+    ensures { StreamsBy I.seen itself (λ t v. v ≡ t) (hex_meaning I.seen I.Item.code E.errors) true input result }
 {
     let mut parser = HexU32::<I, E> { error: PhantomData };
-    parser.parse(input)
+    stream_answer(&mut parser, input)
 }
 
 /// The shape of a decimal fraction, as `recognize_float` at the top.
@@ -40,10 +41,10 @@ where
 pub fn recognize_float<T: Input, E: ParseError<T>>(input: T) -> IResult<T, T, E>
 where
     T::Item: AsChar,
-    ensures { ParsesMeaning T.seen (IsSeenAs T.seen) (float_meaning T.seen T.Item.code E.errors) true input result }
+    ensures { StreamsBy T.seen T.view (IsSeenAs T.seen) (float_meaning T.seen T.Item.code E.errors) true input result }
 {
     let mut parser = RecognizeFloat::<T, E> { error: PhantomData };
-    parser.parse(input)
+    stream_answer(&mut parser, input)
 }
 
 /// The shape of a decimal fraction, or `nan`, `infinity` or `inf`, without case.
@@ -53,7 +54,7 @@ where
 pub fn recognize_float_or_exceptions<T: Input, E: ParseError<T>>(input: T) -> IResult<T, T, E>
 where
     T::Item: AsChar,
-    ensures { ParsesMeaning T.seen (EitherOutput (EitherOutput (EitherOutput (IsSeenAs T.seen) (IsSeenAs T.seen)) (IsSeenAs T.seen)) (IsSeenAs T.seen))
+    ensures { StreamsBy T.seen T.view (EitherOutput (EitherOutput (EitherOutput (IsSeenAs T.seen) (IsSeenAs T.seen)) (IsSeenAs T.seen)) (IsSeenAs T.seen))
         (exceptions_meaning T.seen T.Item.code E.errors (as_float_meaning E.errors (float_meaning T.seen T.Item.code E.errors))) true input result }
 {
     let mut parser = OrExceptions {
@@ -61,7 +62,7 @@ where
             parser: RecognizeFloat::<T, E> { error: PhantomData },
         },
     };
-    parser.parse(input)
+    stream_answer(&mut parser, input)
 }
 
 /// The sign of a decimal fraction, which is false for a minus, its integer, its fraction, and its power
@@ -77,8 +78,8 @@ pub fn recognize_float_parts<T: Input, E: ParseError<T>>(
 ) -> IResult<T, (bool, T, T, i32), E>
 where
     T::Item: AsChar,
-    ensures { ParsesMeaning T.seen (IsParts T.seen T.Item.code) (parts_meaning T.seen T.Item.code E.errors) true input result }
+    ensures { StreamsBy T.seen (view_4 itself T.view T.view itself) (IsParts T.seen T.Item.code) (parts_meaning T.seen T.Item.code E.errors) true input result }
 {
     let mut parser = FloatParts::<T, E> { error: PhantomData };
-    parser.parse(input)
+    stream_answer(&mut parser, input)
 }

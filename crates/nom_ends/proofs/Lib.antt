@@ -1,3 +1,2 @@
-pub mod Functions
 pub mod Rests
 pub mod Whole

@@ -18,6 +18,7 @@ use Rattle.nom_internal.specs.Outcome.Outcome.{Accept, Refuse, Fail, TooLarge, U
 use Rattle.nom_internal.specs.Sequence.{after, GoesOn, Then}
 use Rattle.nom_func.specs.Func.{TellsItems, FuncOutcome, IsParser, FuncAnswers, FuncBlames}
 use Rattle.nom_func.specs.Func.FuncBlames.{OfRefusal, OfFailure}
+use Rattle.nom_func.specs.FuncLaws.{agrees}
 use Rattle.nom_func.proofs.FuncSound.{items_func}
 use Rattle.nom_examples.specs.Colors.{Text, are_digits, on_pair, pair_of, place_missing, IsFault as IsFaultAt, AnswersPair}
 
@@ -103,8 +104,8 @@ told i o a = record { answer = a.answer; given = a.given.outcome_is; told = a.to
 pub pair_parser : IsParser seen_text itself AnswersPair (λ i. Unit {0})
 pair_parser = record {
   takes = λ i h. tt;
-  rests = λ i j v h g. (g.outcome_is.0, g.outcome_is.1);
-  one_outcome = λ x y o p kx ky r a k b. items_parser.one_outcome x y o p kx ky r (told x o a) k (told y p b);
+  rests = λ i r h g. items_parser.rests i r h g.outcome_is;
+  alike = λ i j r q h a b. items_parser.alike i j r q h a.outcome_is b.outcome_is;
 }
 
 -- its outcome is that of the characters
@@ -113,7 +114,8 @@ pair_answered i o a =
     let of_items : FuncOutcome {E = Error Text} seen_text itself (TellsItems seen_text itself pair_of) a.at (pair_of (chars a.at.now)) =
     record { answer = a.outcome.answer; given = a.outcome.given.outcome_is; told = a.outcome.given.outcome_is } in
     ap pair_of (sym a.alike.elements_are) ∙
-    items_parser.one_outcome a.at a.at (pair_of (chars a.at.now)) o a.known a.known (same_self seen_text a.at) of_items tt (told a.at o a.outcome)
+    agrees seen_text itself (TellsItems seen_text itself pair_of) false items_parser.alike a.at a.at (pair_of (chars a.at.now)) o
+    a.known a.known (same_self seen_text a.at) of_items tt (told a.at o a.outcome)
 
 -- a refusal, with its error at the start
 pub record IsMissed (i : Text) (e : Error Text) : Type 0 where

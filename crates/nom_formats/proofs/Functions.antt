@@ -15,6 +15,7 @@ use Rattle.nom_internal.specs.Outcome.Outcome.{Accept, Refuse, Fail, TooLarge, U
 use Rattle.nom_internal.specs.Outcome.ParsesAnswer.{ParseRanOut, Parsed}
 use Rattle.nom_internal.proofs.Consumed.{rest_length}
 use Rattle.nom_func.specs.Func.{IsParser, Tells}
+use Rattle.nom_func.proofs.FuncSound.{parser_of}
 use Rattle.nom_formats.specs.declared.arithmetic.Fault.{Fault}
 use Rattle.nom_formats.specs.Arithmetic.{Given, Grammar, IsGiven, Parses, Text, Told}
 
@@ -123,18 +124,15 @@ module _ {V O P : Type 0} (g : Grammar V O) (seen : View P) (Gives : Text → O 
       ((i : Text) (r : Told P) → Answers i r → Given Gives g i r) → IsLawful seen_text g.meaning →
       ((i k : Text) (t : V) (u v : O) (x y : P) → IsSame seen_text i k → g.IsOutput t u → g.IsOutput t v → Gives i u x → Gives k v y →
       seen.value x ≡ seen.value y) → IsParser seen_text seen Answers Takes
-  is_parser Answers Takes all by law alike = record {
-    takes = λ i known. all i;
-    rests = λ i j v known a. let h = by i (Ok (j, v)) a in given_rest i j v h.found h.parsed h.given;
-    one_outcome = λ x y o p kx ky same a keeps b.
-        let h = by x a.answer a.given in
-        let k = by y b.answer b.given in
-        let f = given_seen x h.found a.answer o h.parsed h.given a.told in
-        let e = given_seen y k.found b.answer p k.parsed k.given b.told in
-        let one = law.one_outcome false x y f.outcome e.outcome kx ky same f.answered tt e.answered in
-        same_seen seen (Holds x) (Holds y) (λ t v w m n. alike x y t m.0 n.0 v w same m.1 n.1 m.2 n.2) e.outcome o p
-        (subst (λ z. IsSeen seen (Holds x) z o) one f.seen_so) e.seen_so;
-  }
+  is_parser Answers Takes all by law alike = parser_of (λ i known. all i)
+      (λ i j v known a. let h = by i (Ok (j, v)) a in given_rest i j v h.found h.parsed h.given) (λ x y o p kx ky same a keeps b.
+      let h = by x a.answer a.given in
+      let k = by y b.answer b.given in
+      let f = given_seen x h.found a.answer o h.parsed h.given a.told in
+      let e = given_seen y k.found b.answer p k.parsed k.given b.told in
+      let one = law.one_outcome false x y f.outcome e.outcome kx ky same f.answered tt e.answered in
+      same_seen seen (Holds x) (Holds y) (λ t v w m n. alike x y t m.0 n.0 v w same m.1 n.1 m.2 n.2) e.outcome o p
+      (subst (λ z. IsSeen seen (Holds x) z o) one f.seen_so) e.seen_so)
 
 -- what is answered by one meaning is by a grammar, where its outcomes, errors and outputs are the grammar's
 pub parses_by : {V O : Type 0} (g : Grammar V O) {F : V → O → Type 0} {A : Outcome V → Type 0} {X : Fault → Type 0} {R : Type 0} {i : Text} {r : Told O}

@@ -20,6 +20,7 @@ use Rattle.nom_internal.specs.Outcome.Outcome.{Fail}
 use Rattle.nom_internal.specs.Pinned.{IsPinned, either_pinned, value_pinned}
 use Rattle.nom_internal.specs.SequenceLaws.{sequence_lawful}
 use Rattle.nom_func.specs.Func.{IsParser, Tells, viewed_pinned}
+use Rattle.nom_func.proofs.FuncSound.{parser_of}
 use Rattle.nom_func.specs.FuncLaws.{func_lawful}
 use Rattle.nom_bytes.specs.Predicates.{one_answer}
 use Rattle.nom_character.specs.ClassRuns.{class_lawful}
@@ -115,11 +116,8 @@ fails : (i : Text) (e : Fault) (r : Told Worth) (o : Outcome view.Value) → r �
 fails i e r o q t = subst (λ z. Tells seen_text view i z o) q t
 
 pub inside_part : (d : ℕ) → IsParser seen_text view (Inside d) Any
-inside_part zero = record {
-  takes = λ i k. tt;
-  rests = λ i j v k a. cc (a);
-  one_outcome = λ x y o p kx ky s a keeps b. fails x (TooDeep x) a.answer o a.given a.told ∙ sym (fails y (TooDeep y) b.answer p b.given b.told);
-}
+inside_part zero = parser_of (λ i k. tt) (λ i j v k a. cc (a)) (λ x y o p kx ky s a keeps b. fails x (TooDeep x) a.answer o a.given a.told ∙
+    sym (fails y (TooDeep y) b.answer p b.given b.told))
 inside_part (suc d) = is_parser (sum_of d) view (λ _ x y. y ≡ x) (Inside (suc d)) Any (λ i. tt) (λ i r h. given_itself (sum_of d) i r h)
     (sum_lawful (Inside d) (inside_part d)) (λ i k t u v x y s p q f g. ap view.value f ∙ (sum_pinned (Inside d) t u v p q ∙ sym (ap view.value g)))
 
@@ -144,7 +142,7 @@ sum_by_parts pre post P {groups} {opens} {closes} {f} {inside} l o c e h =
 -- a part that takes some texts and takes all takes any
 pub part_takes : {Gives : Text → Told Worth → Type 0} {Takes : Text → Type 0} → IsParser seen_text view Gives Any → ((i : Text) → Takes i) →
     IsParser seen_text view Gives Takes
-part_takes p all = record { takes = λ i known. all i; rests = p.rests; one_outcome = p.one_outcome }
+part_takes p all = record { takes = λ i known. all i; rests = p.rests; alike = p.alike }
 
 takes_any : (Takes : Text → Type 0) → ((i : Text) → IsProp (Takes i)) → ((i : Text) → Takes i) → ◌≡◌ {A = Text → Type 0} Takes Any
 takes_any Takes one all = fun_ext (λ i. h_prop_ext (one i) (λ x y. refl) (λ x. tt) (λ x. all i))

@@ -25,7 +25,7 @@ module _ {I A O E : Type 0} {w : Seen I A} {view : View O} {Gives : I → Result
   pub func_ok : {Takes : I → Type 0} {j : I} {v : O} {b : Option O} → IsParser w view Gives Takes → w.IsKnown i → Gives i (Ok (j, v)) →
       Built mode.outputs (λ u. u ≡ v) b → ShowsAnswer w (IsViewed view) mode i (FuncAnswers w view Gives i) (FuncBlames Gives i) RunsOut (Ok (j, b))
   func_ok {j = j} {v = v} {b = b} p h g k =
-      let r = p.rests i j v h g in
+      let r = (p.rests i (Ok (j, v)) h g).rest j v refl in
       Shown (Accept r.0 (view.value v)) (answered (Accept r.0 (view.value v)) (Ok (j, v)) h g (r.0, r.1, refl))
       (j, b, r.1, built_error mode.outputs _ _ b (λ u e. ap view.value e) k, refl)
 

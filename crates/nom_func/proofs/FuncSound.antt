@@ -1,20 +1,19 @@
 -- Functions that answer as a meaning says are parsers.
-use Rattle.std.proofs.Common.{◌≡◌, ℕ, Bool, true, false, List, ◌++◌, Result, Ok, Err, arith, refl, sym, ◌∙◌, subst, ap}
+use Rattle.std.proofs.Common.{◌≡◌, ℕ, Bool, true, false, List, [], ◌++◌, Result, Ok, Err, arith, refl, sym, ◌∙◌, subst, ap}
 use Rattle.nom_error.specs.declared.answer.Needed.{Needed}
 use Rattle.nom_error.specs.declared.answer.Err as Answer
 use Rattle.nom_error.specs.declared.answer.Err.TheVariants.{Incomplete, Error, Failure, OutOfMemory}
 use Rattle.nom_error.specs.Answers.{size_of}
 use Rattle.nom_error.specs.Modes.{modes}
-use Rattle.nom_traits.specs.Input.{Seen, IsRest, span}
+use Rattle.nom_traits.specs.Input.{Seen, InputLaws, IsRest, Related, span}
 use Rattle.nom_traits.specs.Rests.{span-append}
 use Rattle.nom_traits.specs.View.{View}
 use Rattle.nom_internal.specs.Outcome.{Outcome, IsDecided, Parses, ParsesAnswer}
 use Rattle.nom_internal.specs.Outcome.ParsesAnswer.{ParseRanOut, Parsed}
 use Rattle.nom_internal.specs.Outcome.Outcome.{Accept, Refuse, Fail, TooLarge, Undecided}
 use Rattle.nom_internal.specs.Meaning.{Meaning, IsLawful, IsSteady, NeverTooLarge, Agree, Keeps, ParsesMeaning}
-use Rattle.nom_internal.specs.Leaf.{Leaf, LeafLaws, LeafAnswers, leaf_lawful, leaf_steady}
 use Rattle.nom_internal.specs.Pinned.{IsPinned}
-use Rattle.nom_func.specs.Func.{Tells, TellsItems, FuncOutcome, IsParser, IsStreamParser}
+use Rattle.nom_func.specs.Func.{Tells, TellOne, TellsItems, FuncOutcome, IsParser, IsStreamParser, Answers, AnswersBy, StreamsBy}
 
 module _ {I A : Type 0} (w : Seen I A) where
   -- a rest is left at one place
@@ -97,29 +96,47 @@ module _ {I A V O E : Type 0} {w : Seen I A} {view : View O} {IsOutput : V → O
     (pinned : IsPinned view IsOutput) (takes : (i : I) → w.IsKnown i → Takes i)
     (shows : (i : I) (r : Result (I × O) (Answer.Err E E Needed)) → w.IsKnown i → Gives i r →
     ParsesAnswer w IsOutput i (Answers i) (IsError i) (RunsOut i) r) where
-  meant : (i : I) (o : Outcome view.Value) → w.IsKnown i → FuncOutcome w view Gives i o → Meant view IsOutput (Answers i) o
-  meant i o h a = meant_by w view IsOutput i (Answers i) (IsError i) (RunsOut i) a.answer o (shows i a.answer h a.given) a.told
+  meant : (i : I) (r : Result (I × O) (Answer.Err E E Needed)) (o : Outcome view.Value) → w.IsKnown i → Gives i r → Tells w view i r o →
+      Meant view IsOutput (Answers i) o
+  meant i r o h g t = meant_by w view IsOutput i (Answers i) (IsError i) (RunsOut i) r o (shows i r h g) t
 
   parser_by : IsParser w view Gives Takes
+  unfolding TellOne
   parser_by = record {
     takes = takes;
-    rests = λ i j v h g. rest_by w view IsOutput i (Answers i) (IsError i) (RunsOut i) j v (shows i (Ok (j, v)) h g);
-    one_outcome = λ x y o p kx ky r a k b.
-        let c = meant x o kx a in
-        let d = meant y p ky b in
+    rests = λ i r h g. record {
+      rest = λ j v e. rest_by w view IsOutput i (Answers i) (IsError i) (RunsOut i) j v
+          (subst (λ x. ParsesAnswer w IsOutput i (Answers i) (IsError i) (RunsOut i) x) e (shows i r h g));
+    };
+    alike = λ x y f g record { from_known = kx; to_known = ky; related = r } a b. (λ o p t k u.
+        let c = meant x f o kx a t in
+        let d = meant y g p ky b u in
         let same = one x y c.outcome d.outcome kx ky r c.answered tt d.answered in
-        retold_once view IsOutput pinned d.outcome o p (subst (λ z. Retold view IsOutput z o) same c.retold) d.retold;
+        retold_once view IsOutput pinned d.outcome o p (subst (λ z. Retold view IsOutput z o) same c.retold) d.retold);
   }
 
   stream_parser_by : Agree w true Answers Answers → ((i : I) → w.IsKnown i → Answers i TooLarge → ⊥) → IsStreamParser w view Gives Takes
+  unfolding TellOne
   stream_parser_by steady never = record {
     parser = parser_by;
-    stays = λ x y o p kx ky r a k b.
-        let c = meant x o kx a in
-        let d = meant y p ky b in
+    stays = λ x y f g record { from_known = kx; to_known = ky; related = r } a b. (λ o p t k u.
+        let c = meant x f o kx a t in
+        let d = meant y g p ky b u in
         let large : c.outcome ≡ TooLarge → ⊥ = λ e. never x kx (subst (λ z. Answers x z) e c.answered) in
         let same = steady x y c.outcome d.outcome kx ky r c.answered (retold_decided view IsOutput c.outcome o large c.retold k) d.answered in
-        retold_once view IsOutput pinned d.outcome o p (subst (λ z. Retold view IsOutput z o) same c.retold) d.retold;
+        retold_once view IsOutput pinned d.outcome o p (subst (λ z. Retold view IsOutput z o) same c.retold) d.retold);
+  }
+
+-- by the outcomes that the answers tell
+module _ {I A O E : Type 0} {w : Seen I A} {view : View O} {Gives : I → Result (I × O) (Answer.Err E E Needed) → Type 0} {Takes : I → Type 0} where
+  pub parser_of : ((i : I) → w.IsKnown i → Takes i) → ((i j : I) (v : O) → w.IsKnown i → Gives i (Ok (j, v)) → (n : ℕ) × IsRest w i n j) →
+      Agree w false (FuncOutcome w view Gives) (FuncOutcome w view Gives) → IsParser w view Gives Takes
+  unfolding TellOne
+  parser_of takes rests one = record {
+    takes = takes;
+    rests = λ i r known a. record { rest = λ j v e. rests i j v known (subst (λ x. Gives i x) e a) };
+    alike = λ i j r q h a b. (λ o p t k u. one i j o p h.from_known h.to_known h.related (record { answer = r; given = a; told = t }) k
+        (record { answer = q; given = b; told = u }));
   }
 
 module _ {I A V O E : Type 0} {w : Seen I A} {view : View O} {IsOutput : V → O → Type 0} {m : Meaning I V E}
@@ -137,41 +154,6 @@ module _ {I A V O E : Type 0} {w : Seen I A} {view : View O} {IsOutput : V → O
       stream_parser_by {IsError = λ i. m.blames true i} {RunsOut = λ i. m.runs_out (modes true true true) i}
       (lawful.one_outcome true) pinned takes shows steady (λ i h a. lawful.never_fails true never true i h a)
 
--- Of a function whose contract says so, and maybe more.
-module _ {I A V O E : Type 0} {w : Seen I A} {view : View O} {IsOutput : V → O → Type 0} {Answers : I → Outcome V → Type 0} {IsError : I → E → Type 0}
-    {RunsOut : I → Type 0} {Gives : I → Result (I × O) (Answer.Err E E Needed) → Type 0} {Takes : I → Type 0} where
-  pub func_says : Agree w false Answers Answers → IsPinned view IsOutput → ((i : I) → w.IsKnown i → Takes i) →
-      ((i : I) (r : Result (I × O) (Answer.Err E E Needed)) → w.IsKnown i → Gives i r → ParsesAnswer w IsOutput i (Answers i) (IsError i) (RunsOut i) r) →
-      IsParser w view Gives Takes
-  func_says one pinned takes says = parser_by {IsError = IsError} {RunsOut = RunsOut} one pinned takes says
-
-  pub stream_func_says : Agree w false Answers Answers → Agree w true Answers Answers → ((i : I) → w.IsKnown i → Answers i TooLarge → ⊥) →
-      IsPinned view IsOutput → ((i : I) → w.IsKnown i → Takes i) →
-      ((i : I) (r : Result (I × O) (Answer.Err E E Needed)) → w.IsKnown i → Gives i r → ParsesAnswer w IsOutput i (Answers i) (IsError i) (RunsOut i) r) →
-      IsStreamParser w view Gives Takes
-  stream_func_says one steady never pinned takes says = stream_parser_by {IsError = IsError} {RunsOut = RunsOut} one pinned takes says steady never
-
--- Of a function without a premise, whose contract says so itself: what it blames, and where it takes memory, doesn't matter.
-module _ {I A V O E : Type 0} {w : Seen I A} {view : View O} {IsOutput : V → O → Type 0} {Answers : I → Outcome V → Type 0} {IsError : I → E → Type 0}
-    {RunsOut : I → Type 0} where
-  pub func_parses : Agree w false Answers Answers → IsPinned view IsOutput →
-      IsParser w view (λ i r. ParsesAnswer w IsOutput i (Answers i) (IsError i) (RunsOut i) r) (λ i. Unit {0})
-  func_parses one pinned = parser_by {IsError = IsError} {RunsOut = RunsOut} one pinned (λ i h. tt) (λ i r h g. g)
-
-  pub stream_func_parses : Agree w false Answers Answers → Agree w true Answers Answers → ((i : I) → w.IsKnown i → Answers i TooLarge → ⊥) →
-      IsPinned view IsOutput → IsStreamParser w view (λ i r. ParsesAnswer w IsOutput i (Answers i) (IsError i) (RunsOut i) r) (λ i. Unit {0})
-  stream_func_parses one steady never pinned = stream_parser_by {IsError = IsError} {RunsOut = RunsOut} one pinned (λ i h. tt) (λ i r h g. g) steady never
-
--- of a leaf, in the mode s or streaming
-module _ {I A V O E : Type 0} {w : Seen I A} {view : View O} {IsOutput : V → O → Type 0} {leaf : Leaf I V} {IsError : I → E → Type 0}
-    {RunsOut : I → Type 0} (l : LeafLaws w leaf) (pinned : IsPinned view IsOutput) where
-  pub leaf_func : (s : Bool) → IsParser w view (λ i r. ParsesAnswer w IsOutput i (LeafAnswers leaf s i) (IsError i) (RunsOut i) r) (λ i. Unit {0})
-  leaf_func s = func_parses {IsError = IsError} {RunsOut = RunsOut} ((leaf_lawful w leaf l {E = E} (Unit {0}) (λ i e. ⊥) ⊥).one_outcome s) pinned
-
-  pub leaf_stream_func : IsStreamParser w view (λ i r. ParsesAnswer w IsOutput i (LeafAnswers leaf true i) (IsError i) (RunsOut i) r) (λ i. Unit {0})
-  leaf_stream_func = stream_func_parses {IsError = IsError} {RunsOut = RunsOut}
-      ((leaf_lawful w leaf l {E = E} (Unit {0}) (λ i e. ⊥) ⊥).one_outcome true) (leaf_steady w leaf l {E = E} (Unit {0}) (λ i e. ⊥) ⊥) (λ i h a. a) pinned
-
 module _ {I A O E : Type 0} (w : Seen I A) (view : View O) where
   -- an answer tells one outcome
   tells_once : (i : I) (r : Result (I × O) (Answer.Err E E Needed)) (o p : Outcome view.Value) → Tells w view i r o → Tells w view i r p → o ≡ p
@@ -181,24 +163,103 @@ module _ {I A O E : Type 0} (w : Seen I A) (view : View O) where
   tells_once i (Err (Failure e)) o p h k = h ∙ sym k
   tells_once i (Err OutOfMemory) o p h k = absurd h
 
+module _ {I A O E : Type 0} (w : Seen I A) (view : View O) (outcome : List A → Outcome view.Value) where
+  items_outcome : (i : I) (r : Result (I × O) (Answer.Err E E Needed)) (o : Outcome view.Value) → TellsItems w view outcome i r → Tells w view i r o →
+      o ≡ outcome (w.elements i)
+  items_outcome i r o g t = tells_once w view i r o (outcome (w.elements i)) t g
+
+  items_rest : (i : I) (r : Result (I × O) (Answer.Err E E Needed)) (j : I) (v : O) → r ≡ Ok (j, v) → TellsItems w view outcome i r → (n : ℕ) × IsRest w i n j
+  items_rest i r j v e g = let told = subst (λ x. TellsItems w view outcome i x) e g in (told.0, told.1)
+
 -- Of a function without a premise, whose contract says the outcome by the items.
 module _ {I A O E : Type 0} {w : Seen I A} {view : View O} (outcome : List A → Outcome view.Value) where
-  items_outcome : (i : I) (o : Outcome view.Value) → FuncOutcome {E = E} w view (TellsItems w view outcome) i o → o ≡ outcome (w.elements i)
-  items_outcome i o a = tells_once w view i a.answer o (outcome (w.elements i)) a.told a.given
-
   pub items_func : IsParser {E = E} w view (TellsItems w view outcome) (λ i. Unit {0})
+  unfolding TellOne
   items_func = record {
     takes = λ i h. tt;
-    rests = λ i j v h g. (g.0, g.1);
-    one_outcome = λ x y o p kx ky r a k b. items_outcome x o a ∙ (ap outcome r.elements_are ∙ sym (items_outcome y p b));
+    rests = λ i r h g. record { rest = λ j v e. items_rest w view outcome i r j v e g };
+    alike = λ x y f g record { from_known = kx; to_known = ky; related = r } a b. (λ o p t k u.
+        items_outcome w view outcome x f o a t ∙ (ap outcome r.elements_are ∙ sym (items_outcome w view outcome y g p b u)));
   }
 
   -- where what is decided stays as items are added
   pub items_stream_func : ((xs more : List A) → IsDecided (outcome xs) → outcome (xs ++ more) ≡ outcome xs) →
       IsStreamParser {E = E} w view (TellsItems w view outcome) (λ i. Unit {0})
+  unfolding TellOne
   items_stream_func steady = record {
     parser = items_func;
-    stays = λ x y o p kx ky r a k b.
-        let kept = steady (w.elements x) r.more (subst IsDecided (items_outcome x o a) k) in
-        items_outcome x o a ∙ (sym kept ∙ (ap outcome (sym r.whole) ∙ sym (items_outcome y p b)));
+    stays = λ x y f g record { from_known = kx; to_known = ky; related = r } a b. (λ o p t k u.
+        let kept = steady (w.elements x) r.more (subst IsDecided (items_outcome w view outcome x f o a t) k) in
+        items_outcome w view outcome x f o a t ∙ (sym kept ∙ (ap outcome (sym r.whole) ∙ sym (items_outcome w view outcome y g p b u))));
+  }
+
+module _ {I A : Type 0} (w : Seen I A) (l : InputLaws w) where
+  all_left : (i : I) → w.IsKnown i → IsRest w i 0 i
+  all_left i k = record { known = k; front = []; whole = refl; length_is = refl; mark_is = sym (l.mark_none (w.mark i)) }
+
+  left_with : {O E : Type 0} (i j : I) (v x : O) (r : Result (I × O) (Answer.Err E E Needed)) → w.IsKnown i → r ≡ Ok (j, v) → r ≡ Ok (i, x) →
+      (n : ℕ) × IsRest w i n j
+  left_with {O} i j v x r k e f =
+      let same : ◌≡◌ {A = I × O} (j, v) (i, x) = cc (e, f) in
+      (0, subst (λ y. IsRest w i 0 y) (sym (ap (λ q. q.0) same)) (all_left i k))
+
+  told_with : {O E : Type 0} (view : View O) (i : I) (x : O) (r : Result (I × O) (Answer.Err E E Needed)) (o : Outcome view.Value) → w.IsKnown i →
+      r ≡ Ok (i, x) → Tells w view i r o → o ≡ Accept 0 (view.value x)
+  told_with view i x r o k e t =
+      let t = subst (λ y. Tells w view i y o) e t in
+      t.2 ∙ ap (λ n. Accept n (view.value x)) (one_length w i i t.0 0 t.1 (all_left i k))
+
+-- Of a function that tells its answer outright: it leaves all of its input, with an output of it.
+module _ {I A O E : Type 0} {w : Seen I A} (l : InputLaws w) {view : View O} {Gives : I → Result (I × O) (Answer.Err E E Needed) → Type 0}
+    {Takes : I → Type 0} (value : I → O) (takes : (i : I) → w.IsKnown i → Takes i)
+    (outright : (i : I) (r : Result (I × O) (Answer.Err E E Needed)) → Gives i r → r ≡ Ok (i, value i)) where
+  -- the outputs of inputs that are seen alike are
+  pub outright_func : ((i j : I) → Related w false i j → view.value (value i) ≡ view.value (value j)) → IsParser w view Gives Takes
+  unfolding TellOne
+  outright_func alike = record {
+    takes = takes;
+    rests = λ i r k g. record { rest = λ j v e. left_with w l i j v (value i) r k e (outright i r g) };
+    alike = λ i j r q h a b. (λ o p t k u. told_with w l view i (value i) r o h.from_known (outright i r a) t ∙
+        (ap (λ v. Accept 0 v) (alike i j h.related) ∙ sym (told_with w l view j (value j) q p h.to_known (outright j q b) u)));
+  }
+
+  -- and that of a longer input is
+  pub outright_stream_func : ((longer : Bool) (i j : I) → Related w longer i j → view.value (value i) ≡ view.value (value j)) →
+      IsStreamParser w view Gives Takes
+  unfolding TellOne
+  outright_stream_func alike = record {
+    parser = outright_func (alike false);
+    stays = λ i j r q h a b. (λ o p t k u. told_with w l view i (value i) r o h.from_known (outright i r a) t ∙
+        (ap (λ v. Accept 0 v) (alike true i j h.related) ∙ sym (told_with w l view j (value j) q p h.to_known (outright j q b) u)));
+  }
+
+-- What answers by a lawful meaning, whose trees stand for one output each, answers so alike.
+module _ {I A V O E : Type 0} {w : Seen I A} {view : View O} {IsOutput : V → O → Type 0} {m : Meaning I V E} {i : I}
+    {r : Result (I × O) (Answer.Err E E Needed)} where
+  pub answers_by : {s : Bool} → IsLawful w m → IsPinned view IsOutput → ParsesMeaning w IsOutput m s i r → AnswersBy w view IsOutput m s i r
+  unfolding TellOne Answers
+  answers_by {s} lawful pinned shown = record {
+    shown = shown;
+    rests = record {
+      rest = λ j v e. rest_by w view IsOutput i (m.answers s i) (m.blames s i) (m.runs_out (modes true true s) i) j v
+          (subst (λ x. ParsesMeaning w IsOutput m s i x) e shown);
+    };
+    alike = λ j q record { from_known = ki; to_known = kj; related = same } by. (λ o p t k u.
+        let a = meant_by w view IsOutput i (m.answers s i) (m.blames s i) (m.runs_out (modes true true s) i) r o shown t in
+        let b = meant_by w view IsOutput j (m.answers s j) (m.blames s j) (m.runs_out (modes true true s) j) q p by u in
+        let one = lawful.one_outcome s i j a.outcome b.outcome ki kj same a.answered tt b.answered in
+        retold_once view IsOutput pinned b.outcome o p (subst (λ z. Retold view IsOutput z o) one a.retold) b.retold);
+  }
+
+  pub streams_by : IsLawful w m → IsSteady w m → NeverTooLarge m → IsPinned view IsOutput → ParsesMeaning w IsOutput m true i r →
+      StreamsBy w view IsOutput m true i r
+  unfolding TellOne Answers
+  streams_by lawful steady never pinned shown = record {
+    answer = answers_by lawful pinned shown;
+    stays = λ j q record { from_known = ki; to_known = kj; related = longer } by. (λ o p t k u.
+        let a = meant_by w view IsOutput i (m.answers true i) (m.blames true i) (m.runs_out (modes true true true) i) r o shown t in
+        let b = meant_by w view IsOutput j (m.answers true j) (m.blames true j) (m.runs_out (modes true true true) j) q p by u in
+        let large : a.outcome ≡ TooLarge → ⊥ = λ e. lawful.never_fails true never true i ki (subst (λ z. m.answers true i z) e a.answered) in
+        let one = steady i j a.outcome b.outcome ki kj longer a.answered (retold_decided view IsOutput a.outcome o large a.retold k) b.answered in
+        retold_once view IsOutput pinned b.outcome o p (subst (λ z. Retold view IsOutput z o) one a.retold) b.retold);
   }

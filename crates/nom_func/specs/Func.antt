@@ -5,11 +5,11 @@ use Rattle.nom_error.specs.declared.answer.Needed.{Needed}
 use Rattle.nom_error.specs.declared.answer.Err as Answer
 use Rattle.nom_error.specs.declared.answer.Err.TheVariants.{Incomplete, Error, Failure, OutOfMemory}
 use Rattle.nom_error.specs.Answers.{size_of}
-use Rattle.nom_traits.specs.Input.{Seen, IsRest, IsSame}
+use Rattle.nom_traits.specs.Input.{Seen, IsRest, IsSame, Related}
 use Rattle.nom_traits.specs.View.{View}
 use Rattle.nom_internal.specs.Outcome.{Outcome}
 use Rattle.nom_internal.specs.Outcome.Outcome.{Accept, Refuse, Fail, Undecided}
-use Rattle.nom_internal.specs.Meaning.{Meaning, Agree}
+use Rattle.nom_internal.specs.Meaning.{Meaning, Keeps, ParsesMeaning}
 use Rattle.nom_internal.specs.Pinned.{IsPinned}
 
 -- an output stands for its view
@@ -29,6 +29,16 @@ abbrev pub FuncNeverFails : {I A O E : Type 0} → Seen I A → (I → Result (I
 FuncNeverFails {I} {E = E} w Gives false = (i : I) (e : E) → w.IsKnown i → Gives i (Err (Failure e)) → ⊥
 FuncNeverFails w Gives true = Unit {0}
 
+-- two inputs, the second longer than the first (true), or seen alike (false)
+pub record AreRelated {I A : Type 0} (w : Seen I A) (longer : Bool) (i j : I) : Type 0 where
+  pub from_known : w.IsKnown i
+  pub to_known : w.IsKnown j
+  pub related : Related w longer i j
+
+-- what an acceptance leaves is a rest of the input
+pub record LeavesRest {I A O E : Type 0} (w : Seen I A) (i : I) (r : Result (I × O) (Answer.Err E E Needed)) : Type 0 where
+  pub rest : (j : I) (v : O) → r ≡ Ok (j, v) → (n : ℕ) × IsRest w i n j
+
 module _ {I A O E : Type 0} (w : Seen I A) (view : View O) where
   -- The outcome that an answer at i tells: its tree is the view of the output, and a failure is one of the function's own. Want
   -- of memory tells none.
@@ -43,24 +53,30 @@ module _ {I A O E : Type 0} (w : Seen I A) (view : View O) where
   abbrev pub TellsItems : (List A → Outcome view.Value) → I → Result (I × O) (Answer.Err E E Needed) → Type 0
   TellsItems outcome i r = Tells i r (outcome (w.elements i))
 
+  -- the answers r at i and q at j tell one outcome, where r's is kept: always (false), or on a longer input (true)
+  unfoldable pub TellOne : (longer : Bool) (i j : I) (r q : Result (I × O) (Answer.Err E E Needed)) → Type 0
+  TellOne longer i j r q = (o p : Outcome view.Value) → Tells i r o → Keeps longer o → Tells j q p → o ≡ p
+
   module _ (Gives : I → Result (I × O) (Answer.Err E E Needed) → Type 0) where
+    -- What makes a function a parser: it takes every input; what it leaves of one is a rest of it; and at inputs that are seen
+    -- alike its answers tell one outcome.
+    pub record IsParser (Takes : I → Type 0) : Type 0 where
+      pub takes : (i : I) → w.IsKnown i → Takes i
+      pub rests : (i : I) (r : Result (I × O) (Answer.Err E E Needed)) → w.IsKnown i → Gives i r → LeavesRest w i r
+      pub alike : (i j : I) (r q : Result (I × O) (Answer.Err E E Needed)) → AreRelated w false i j →
+          Gives i r → Gives j q → TellOne false i j r q
+
+    -- and a stream parser: an acceptance, a refusal or a failure stays on every longer input
+    pub record IsStreamParser (Takes : I → Type 0) : Type 0 where
+      pub parser : IsParser Takes
+      pub stays : (i j : I) (r q : Result (I × O) (Answer.Err E E Needed)) → AreRelated w true i j →
+          Gives i r → Gives j q → TellOne true i j r q
+
     -- the function's outcome at i: what an answer of it tells
     pub record FuncOutcome (i : I) (o : Outcome view.Value) : Type 0 where
       pub answer : Result (I × O) (Answer.Err E E Needed)
       pub given : Gives i answer
       pub told : Tells i answer o
-
-    -- What makes a function a parser: it takes every input; what it leaves of one is a rest of it; and at inputs that are seen
-    -- alike its outcomes are one.
-    pub record IsParser (Takes : I → Type 0) : Type 0 where
-      pub takes : (i : I) → w.IsKnown i → Takes i
-      pub rests : (i j : I) (v : O) → w.IsKnown i → Gives i (Ok (j, v)) → (n : ℕ) × IsRest w i n j
-      pub one_outcome : Agree w false FuncOutcome FuncOutcome
-
-    -- and a stream parser: an acceptance, a refusal or a failure stays on every longer input
-    pub record IsStreamParser (Takes : I → Type 0) : Type 0 where
-      pub parser : IsParser Takes
-      pub stays : Agree w true FuncOutcome FuncOutcome
 
     -- the function's outcome at an input that is seen as i is
     pub record FuncAnswers (i : I) (o : Outcome view.Value) : Type 0 where
@@ -80,3 +96,23 @@ module _ {I A O E : Type 0} (w : Seen I A) (view : View O) where
       Settles = Unit {0};
       NeverFails = FuncNeverFails w Gives;
     }
+
+-- the answer r at i is what a meaning says in one mode
+unfoldable pub Answers : {I A V O E : Type 0} (w : Seen I A) (IsOutput : V → O → Type 0) (m : Meaning I V E) (s : Bool) (i : I)
+    (r : Result (I × O) (Answer.Err E E Needed)) → Type 0
+Answers w IsOutput m s i r = ParsesMeaning w IsOutput m s i r
+
+-- What a plain function ensures of its answer r at i: what a meaning says in one mode. The meaning is lawful, so it pins the
+-- function's answers everywhere; `rests` and `alike` say so in the words of `IsParser`, by which `func` takes the function.
+module _ {I A V O E : Type 0} (w : Seen I A) (view : View O) (IsOutput : V → O → Type 0) (m : Meaning I V E) (s : Bool) (i : I)
+    (r : Result (I × O) (Answer.Err E E Needed)) where
+  pub record AnswersBy : Type 0 where
+    pub shown : Answers w IsOutput m s i r
+    pub rests : LeavesRest w i r
+    -- each answer by the meaning at an input that is seen as i is
+    pub alike : (j : I) (q : Result (I × O) (Answer.Err E E Needed)) → AreRelated w false i j → Answers w IsOutput m s j q → TellOne w view false i j r q
+
+  -- and of a function of `streaming`, by which `stream_func` takes it: on each longer input what is decided stays
+  pub record StreamsBy : Type 0 where
+    pub answer : AnswersBy
+    pub stays : (j : I) (q : Result (I × O) (Answer.Err E E Needed)) → AreRelated w true i j → Answers w IsOutput m s j q → TellOne w view true i j r q

@@ -9,8 +9,8 @@ use Rattle.nom_traits.specs.Rests.{rest_place, same_then, same_sym}
 use Rattle.nom_traits.specs.View.{View}
 use Rattle.nom_internal.specs.Outcome.{Outcome, failure}
 use Rattle.nom_internal.specs.Outcome.Outcome.{Accept}
-use Rattle.nom_internal.specs.Meaning.{IsLawful, IsSteady, Agree}
-use Rattle.nom_func.specs.Func.{Tells, FuncOutcome, FuncAnswers, FuncNeverFails, IsParser, IsStreamParser, func_meaning}
+use Rattle.nom_internal.specs.Meaning.{IsLawful, IsSteady, Agree, Keeps}
+use Rattle.nom_func.specs.Func.{AreRelated, Tells, TellOne, FuncOutcome, FuncAnswers, FuncNeverFails, IsParser, IsStreamParser, func_meaning}
 
 module _ {I A : Type 0} (w : Seen I A) where
   -- inputs that are seen as related ones are related alike
@@ -40,6 +40,12 @@ module _ {I A : Type 0} (w : Seen I A) where
     never_too_large i (Err (Error e)) h = cc
     never_too_large i (Err (Failure e)) h = cc
     never_too_large i (Err OutOfMemory) h = h
+
+    -- what answers that tell one outcome tell
+    told_one : (longer : Bool) (i j : I) (r q : Result (I × O) (Answer.Err E E Needed)) → TellOne w view longer i j r q → (o p : Outcome view.Value) →
+        Tells w view i r o → Keeps longer o → Tells w view j q p → o ≡ p
+    unfolding TellOne
+    told_one longer i j r q h = h
 
     module _ (Gives : I → Result (I × O) (Answer.Err E E Needed) → Type 0) where
       fails_by_error : (i : I) (r : Result (I × O) (Answer.Err E E Needed)) → ((e : E) → Gives i (Err (Failure e)) → ⊥) → Gives i r →
@@ -73,13 +79,20 @@ module _ {I A : Type 0} (w : Seen I A) where
         never_fails = λ large h s i k a. never_fails large h i a;
       }
 
+      -- the outcomes of answers that tell one
+      pub agrees : (longer : Bool) → ((i j : I) (r q : Result (I × O) (Answer.Err E E Needed)) → AreRelated w longer i j →
+          Gives i r → Gives j q → TellOne w view longer i j r q) → Agree w longer (FuncOutcome w view Gives) (FuncOutcome w view Gives)
+      agrees longer f x y o p kx ky r a k b =
+          let related = f x y a.answer b.answer (record { from_known = kx; to_known = ky; related = r }) a.given b.given in
+          told_one longer x y a.answer b.answer related o p a.told k b.told
+
       pub func_lawful : (Takes : I → Type 0) → (let IsSound : Type 0 = IsParser w view Gives Takes in IsSound → IsLawful w (func_meaning w view Gives IsSound))
-      func_lawful Takes p = lawful_under (IsParser w view Gives Takes) p.one_outcome
+      func_lawful Takes p = lawful_under (IsParser w view Gives Takes) (agrees false p.alike)
 
       pub stream_func_lawful : (Takes : I → Type 0) →
           (let IsSound : Type 0 = IsStreamParser w view Gives Takes in IsSound → IsLawful w (func_meaning w view Gives IsSound))
-      stream_func_lawful Takes p = lawful_under (IsStreamParser w view Gives Takes) p.parser.one_outcome
+      stream_func_lawful Takes p = lawful_under (IsStreamParser w view Gives Takes) (agrees false p.parser.alike)
 
       pub stream_func_steady : (Takes : I → Type 0) →
           (let IsSound : Type 0 = IsStreamParser w view Gives Takes in IsSound → IsSteady w (func_meaning w view Gives IsSound))
-      stream_func_steady Takes p = agrees_alike true p.stays
+      stream_func_steady Takes p = agrees_alike true (agrees true p.stays)

@@ -1,5 +1,6 @@
 //! Functions and closures as parsers.
 #![tactic(auto)]
 
+pub mod answer;
 pub mod func;
 pub mod function;

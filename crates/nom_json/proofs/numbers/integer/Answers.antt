@@ -1,5 +1,6 @@
 use Rattle.std.proofs.Common.{codes, refl, ◌∙◌, ap}
 use Rattle.nom_internal.proofs.Shown.{err_from_residual}
+use Rattle.nom_func.specs.Func.{Answers}
 use Rattle.nom_json.specs.Numbers.{i64_of, whole_by}
 use Rattle.nom_json.proofs.Between.{before_stops, behind}
 use Rattle.nom_json.proofs.Told.{taken}
@@ -17,6 +18,7 @@ returns-in_err-place c =
     before_stops (whole_by 45 (codes "0")) i64_of (whole_frugal 45 (codes "0")) refl (err_from_residual c.from_residual.ensures) look
 
 pub returns : goal.returns
+unfolding Answers
 returns c =
     let inner = ap (λ p. p.parser) c.peek.ensures ∙ c.all_consuming.ensures in
     let minus = ap (λ p. p.first.parser.wanted) inner ∙
@@ -24,4 +26,4 @@ returns c =
     let zero = ap (λ p. p.second.parser.0.tag.now) inner ∙
     (ap (λ p. p.parser.0.tag.now) c.pair-whole.ensures.second ∙ (ap (λ l. l.0.tag.now) c.alt.ensures ∙ ap (λ t. t.now) c.tag.ensures)) in
     let look = whole_told _ _ minus zero c.in_ok-place.ensures.shown in
-    behind (whole_by 45 (codes "0")) i64_of (taken refl look) c.i64.ensures
+    behind (whole_by 45 (codes "0")) i64_of (taken refl look) c.i64.ensures.shown

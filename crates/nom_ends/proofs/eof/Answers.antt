@@ -1,0 +1,9 @@
+use Rattle.nom_internal.specs.Pinned.{slice_pinned}
+use Rattle.nom_func.proofs.FuncSound.{answers_by}
+use Rattle.nom_ends.specs.AllLaws.{eof_lawful}
+use Rattle.nom_ends.proofs.eof.Goals as goal
+
+pub returns : goal.returns
+returns g c =
+    answers_by (eof_lawful g.I.Items.seen g.E.ParseError.errors) (slice_pinned g.I.Items.seen g.I.Viewed.view g.met.I.Input.views)
+    c.parse_complete.ensures.shown

@@ -1,0 +1,36 @@
+//! The answers of parsers, with what makes a function of them a parser again.
+ghost use Rattle.std.specs.Prelude.{true, false};
+ghost use Rattle.nom_internal.specs.Meaning.{NeverTooLarge};
+ghost use Rattle.nom_func.specs.Func.{AnswersBy, StreamsBy};
+
+use nom_error::answer::IResult;
+use nom_internal::parser::{Parser, StreamParser};
+use nom_traits::input::Items;
+
+/// What a parser answers of a complete input, as `parse_complete`; a function that ensures this may be handed to `func`.
+#[inline(always)]
+pub fn answer<I: Items, P: StreamParser<I>>(
+    parser: &mut P,
+    input: I,
+) -> IResult<I, P::Output, P::Error>
+    requires sound { (P.meaning (P.state parser.old)).IsSound }
+    requires pins { P.Parser.Pins (P.state parser.old) }
+    ensures { AnswersBy I.seen P.Output.view (P.IsOutput (P.state parser.old)) (P.meaning (P.state parser.old)) false input result }
+{
+    parser.parse_complete(input)
+}
+
+/// What a parser answers of an input of which more may come, as `parse`; a function that ensures this may be handed to
+/// `stream_func`, and to `func`.
+#[inline(always)]
+pub fn stream_answer<I: Items, P: StreamParser<I>>(
+    parser: &mut P,
+    input: I,
+) -> IResult<I, P::Output, P::Error>
+    requires sound { (P.meaning (P.state parser.old)).IsSound }
+    requires pins { P.Parser.Pins (P.state parser.old) }
+    requires never_too_large { NeverTooLarge (P.meaning (P.state parser.old)) }
+    ensures { StreamsBy I.seen P.Output.view (P.IsOutput (P.state parser.old)) (P.meaning (P.state parser.old)) true input result }
+{
+    parser.parse(input)
+}

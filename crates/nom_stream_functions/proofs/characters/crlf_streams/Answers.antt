@@ -1,6 +1,0 @@
-use Rattle.nom_character.proofs.Functions.{sight_stream_func}
-use Rattle.nom_character.specs.SightLaws.{crlf_laws}
-use Rattle.nom_stream_functions.proofs.characters.crlf_streams.Goals as goal
-
-pub returns : goal.returns
-returns g c = sight_stream_func (crlf_laws g.I.Item.Value.code) g.met.I.Input.views

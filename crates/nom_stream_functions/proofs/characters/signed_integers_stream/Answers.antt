@@ -1,5 +1,0 @@
-use Rattle.nom_decimal.proofs.Functions.{signed_stream_func}
-use Rattle.nom_stream_functions.proofs.characters.signed_integers_stream.Goals as goal
-
-pub returns : goal.returns
-returns g c = λ size. signed_stream_func g.I.Item.Value.code size

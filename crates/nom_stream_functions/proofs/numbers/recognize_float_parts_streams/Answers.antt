@@ -1,5 +1,0 @@
-use Rattle.nom_digits.proofs.Functions.{parts_stream_func}
-use Rattle.nom_stream_functions.proofs.numbers.recognize_float_parts_streams.Goals as goal
-
-pub returns : goal.returns
-returns g c = parts_stream_func g.met.I.Items.lawful g.I.Item.Value.code g.met.I.Input.views
