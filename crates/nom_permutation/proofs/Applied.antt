@@ -2,8 +2,8 @@
 use Rattle.std.specs.Prelude.{◌≡◌, ℕ, ◌+◌, ◌≤◌, Bool, List, [], ◌∷◌, length, Option, None}
 use Rattle.std.proofs.Common.{arith, sym, ap, subst, inl, inr, zero, suc}
 use Rattle.nom_traits.specs.Input.{Seen, InputLaws}
-use Rattle.nom_members.specs.Members.{Member, EachMember}
-use Rattle.nom_members.specs.Left.{is_left, left, LeavesOneFewer}
+use Rattle.nom_permutation.specs.Members.{Member, EachMember}
+use Rattle.nom_permutation.specs.Left.{is_left, left, LeavesOneFewer}
 use Rattle.nom_permutation.specs.Permutation.{permutation_meaning}
 use Rattle.nom_permutation.specs.Order.{Turn, AllApplied, InOrder}
 use Rattle.nom_permutation.specs.Once.{AppliesEachOnce, AcceptsEachOrder}

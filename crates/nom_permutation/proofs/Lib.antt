@@ -1,3 +1,5 @@
 mod Applied
 mod Orders
+pub mod Places
 mod Turns
+pub mod Wider

@@ -8,8 +8,8 @@ use Rattle.nom_internal.specs.Meaning.{Meaning}
 use Rattle.nom_internal.specs.Cases.{labelled, labelled_meaning}
 use Rattle.nom_internal.specs.Choice.{GoesOnRefused}
 use Rattle.nom_internal.specs.Sequence.{GoesOn, after}
-use Rattle.nom_members.specs.Members.{Member, Choice, IsOver, or_waiting, or_members, tried}
-use Rattle.nom_members.specs.Members.Choice.{NoChoice, Among}
+use Rattle.nom_permutation.specs.Members.{Member, Choice, IsOver, or_waiting, or_members, tried}
+use Rattle.nom_permutation.specs.Members.Choice.{NoChoice, Among}
 use Rattle.nom_permutation.specs.Permutation.{round_meaning, rounds_meaning, permutation_meaning}
 use Rattle.nom_permutation.proofs.Turns.{over_answer}
 use Rattle.nom_permutation.specs.Order.{Turn, AllApplied, InOrder}

@@ -11,10 +11,10 @@ use Rattle.nom_internal.specs.Outcome.ShowsAnswer.{Shown}
 use Rattle.nom_internal.specs.Meaning.{Meaning, ShowsMeaning}
 use Rattle.nom_internal.specs.Cases.{closed_meaning}
 use Rattle.nom_internal.specs.Choice.{OnError, ClosesResult}
-use Rattle.nom_members.specs.Members.{Member, Choice, IsOver, tried}
-use Rattle.nom_members.specs.Members.Choice.{NoChoice, Among}
-use Rattle.nom_members.specs.Rounds.{applies, as_answer, ShowsRound, HasTried}
-use Rattle.nom_members.proofs.Turns.{fixed}
+use Rattle.nom_permutation.specs.Members.{Member, Choice, IsOver, tried}
+use Rattle.nom_permutation.specs.Members.Choice.{NoChoice, Among}
+use Rattle.nom_permutation.specs.Rounds.{applies, as_answer, ShowsRound, HasTried}
+use Rattle.nom_permutation.proofs.Places.{fixed}
 use Rattle.nom_permutation.specs.Permutation.{round_meaning, rounds_meaning}
 use Rattle.nom_internal.proofs.Choices.{closed_shown}
 use Rattle.nom_internal.proofs.Shown.{accepts, then_err, next_shown}

@@ -3,7 +3,7 @@ use Rattle.std.specs.Prelude.{ℕ, Bool, List, length}
 use Rattle.nom_traits.specs.Input.{Seen}
 use Rattle.nom_internal.specs.Outcome.Outcome.{Accept}
 use Rattle.nom_internal.specs.Meaning.{Meaning}
-use Rattle.nom_members.specs.Members.{Member}
+use Rattle.nom_permutation.specs.Members.{Member}
 use Rattle.nom_permutation.specs.Order.{AllApplied, InOrder}
 
 -- What a permutation accepts, its members accept in turn, each of them one that isn't applied yet; and at the end all are applied.

@@ -4,7 +4,7 @@ use Rattle.std.specs.Prelude.{◌≡◌, ℕ, ◌+◌, Bool, List, [], ◌∷◌
 use Rattle.std.proofs.Common.{zero, suc}
 use Rattle.nom_traits.specs.Input.{Seen, IsRest}
 use Rattle.nom_internal.specs.Outcome.Outcome.{Accept, Refuse}
-use Rattle.nom_members.specs.Members.{Member}
+use Rattle.nom_permutation.specs.Members.{Member}
 
 -- after the trees t, the member isn't applied and accepts the first n items of i, which gives the trees u
 pub record Accepts {I T E : Type 0} (s : Bool) (m : Member I T E) (t : T) (i : I) (n : ℕ) (u : T) : Type 0 where

@@ -9,8 +9,8 @@ use Rattle.nom_internal.specs.Meaning.{Meaning}
 use Rattle.nom_internal.specs.Cases.{closed_meaning}
 use Rattle.nom_internal.specs.Families.{Family}
 use Rattle.nom_internal.specs.Sequence.{then_meaning}
-use Rattle.nom_members.specs.Members.{Member, EachMember, AreSound, Choice, tried}
-use Rattle.nom_members.specs.Members.Choice.{NoChoice, Among}
+use Rattle.nom_permutation.specs.Members.{Member, EachMember, AreSound, Choice, tried}
+use Rattle.nom_permutation.specs.Members.Choice.{NoChoice, Among}
 
 -- an acceptance of no items
 abbrev pub done_meaning : {I V E : Type 0} → V → Meaning I V E

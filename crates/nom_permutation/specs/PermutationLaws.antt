@@ -12,8 +12,8 @@ use Rattle.nom_internal.specs.ChoiceLaws.{or_lawful, or_steady}
 use Rattle.nom_internal.specs.Families.{IsLawfulFamily, AnyKey}
 use Rattle.nom_internal.specs.Sequence.{then_meaning}
 use Rattle.nom_internal.specs.SequenceLaws.{then_lawful, then_steady}
-use Rattle.nom_members.specs.Members.Choice.{NoChoice, Among}
-use Rattle.nom_members.specs.Members.{Member, EachMember, AreLawful, AreSteady, Choice, or_waiting, or_members}
+use Rattle.nom_permutation.specs.Members.Choice.{NoChoice, Among}
+use Rattle.nom_permutation.specs.Members.{Member, EachMember, AreLawful, AreSteady, Choice, or_waiting, or_members}
 use Rattle.nom_permutation.specs.Permutation.{AreFrugal, AllSettle, NoneFails, done_meaning, promised, promised_family, round_meaning, rounds_meaning}
 use Rattle.nom_permutation.specs.Permutation.{permutation_meaning}
 

@@ -3,12 +3,19 @@
 
 ghost use Rattle.std.specs.Prelude.{◌≡◌};
 
+mod flat;
+mod members;
+mod nest;
+mod permutations;
 pub mod promises;
 mod rounds;
+mod widths;
 
-pub use crate::rounds::Permutation;
-pub use nom_members::{Members, StreamMembers};
-pub use nom_slots::{Round, Slot};
+pub use crate::flat::Flat;
+pub use crate::members::{Nested, StreamNested};
+pub use crate::nest::{More, Nests, One};
+pub use crate::permutations::{OnceEach, Permutation};
+pub use crate::widths::StreamMembers;
 
 /// Each of the parsers in `list` once, in any order, with their outputs in the order of the list.
 ///
@@ -16,8 +23,10 @@ pub use nom_slots::{Round, Slot};
 /// all that are left refuse, so does the permutation: their errors are joined by `or` from left to
 /// right, and the whole is closed by `append` with `Permutation` where that round started.
 #[inline(always)]
-pub fn permutation<List>(list: List) -> Permutation<List>
-    ensures { result.parser ≡ list }
+pub fn permutation<List: Nests>(list: List) -> Permutation<List>
+    ensures { result.members ≡ List.nested list }
 {
-    Permutation { parser: list }
+    OnceEach {
+        members: list.nested(),
+    }
 }

@@ -2,16 +2,19 @@
 //! the promise.
 ghost use Rattle.nom_permutation.specs.Once.{AcceptsEachOrder, AppliesEachOnce};
 
-use crate::rounds::Permutation;
+use crate::flat::Flat;
+use crate::members::Nested;
+use crate::permutations::OnceEach;
 use nom_internal::parser::Parser;
-use nom_members::Members;
 use nom_traits::input::Items;
 
 /// What a permutation accepts, its members accept in turn, each once: at each turn the first that isn't
 /// applied yet and accepts, and at the end all are applied. And what they so accept, it accepts.
-pub fn applies_each_once<I: Items, L: Members<I>>(_parser: &Permutation<L>)
-    ensures once { AppliesEachOnce I.seen (L.members (L.state _parser.now.parser)) L.none
-        (⟦<Permutation<L> as Parser<I>>⟧.meaning (L.state _parser.now.parser)) }
-    ensures every { AcceptsEachOrder I.seen (L.members (L.state _parser.now.parser)) L.none
-        (⟦<Permutation<L> as Parser<I>>⟧.meaning (L.state _parser.now.parser)) }
+pub fn applies_each_once<I: Items, N: Nested<I>>(_parser: &OnceEach<N>)
+where
+    N::Outputs: Flat,
+    ensures once { AppliesEachOnce I.seen (N.members (N.state _parser.now.members)) N.none
+        (⟦<OnceEach<N> as Parser<I>>⟧.meaning (N.state _parser.now.members)) }
+    ensures every { AcceptsEachOrder I.seen (N.members (N.state _parser.now.members)) N.none
+        (⟦<OnceEach<N> as Parser<I>>⟧.meaning (N.state _parser.now.members)) }
 {}

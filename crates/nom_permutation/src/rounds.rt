@@ -1,67 +1,47 @@
-//! Permutations.
+//! The rounds of a permutation.
+ghost use Rattle.std.specs.Prelude.{◌≡◌};
 ghost use Rattle.nom_error.specs.declared.kind.ErrorKind.TheVariants as Kind;
+ghost use Rattle.nom_error.specs.Modes.{modes};
+ghost use Rattle.nom_internal.specs.Meaning.{ShowsMeaning};
+ghost use Rattle.nom_permutation.specs.Members.{AreSound};
 ghost use Rattle.nom_permutation.specs.Permutation.{permutation_meaning};
+ghost use Rattle.nom_permutation.specs.Rounds.{FlatOutput};
 
+use crate::flat::{Flat, made_flat};
+use crate::members::Nested;
 use nom_error::answer::PResult;
 use nom_error::kind::ErrorKind;
 use nom_error::mode::OutputMode;
 use nom_internal::choice::close;
-use nom_internal::parser::{Parser, StreamParser};
-use nom_members::{Members, StreamMembers};
 use nom_traits::input::Items;
 
-/// Parsers that are applied once each, in any order; made by `permutation`.
-#[derive(Drop)]
-pub struct Permutation<T> {
-    pub parser: T,
-}
-
-impl<I: Items, L: Members<I>> Parser<I> for Permutation<L> {
-    ghost use Rattle.nom_permutation.specs.PermutationLaws.{permutation_lawful};
-
-    type Output = L::Output;
-
-    type Error = L::Error;
-
-    ghost State = { L.State };
-
-    ghost state = { λ p. L.state p.parser };
-
-    // The members' trees.
-    ghost Tree = { L.Tree };
-
-    ghost IsOutput = { L.IsOutput };
-
-    ghost meaning = { λ s. permutation_meaning I.seen L.Error.errors.joined (λ i. L.Error.errors.appended i Kind.Permutation) L.Error.errors.grows
-        (L.members s) L.none };
-
-    ghost Pins = { L.Pins };
-
-    #[inline(always)]
-    fn process<OM: OutputMode>(&mut self, input: I) -> PResult<I, Self::Output, Self::Error> {
-        input.known();
-        let mut slots = L::slots();
-        let mut rest = input;
-        loop {
-            match self.parser.round::<OM>(&mut slots, rest) {
-                None => return Ok((rest, L::outputs(slots))),
-                Some(round) => match close(round, rest, ErrorKind::Permutation) {
-                    Ok(next) => rest = next,
-                    Err(fault) => return Err(fault),
-                },
-            }
+/// Round by round, each of the members once, with their outputs made flat.
+#[inline(always)]
+pub fn rounds<I: Items, N: Nested<I>, OM: OutputMode>(
+    members: &mut N,
+    input: I,
+) -> PResult<I, <N::Outputs as Flat>::Tuple, N::Error>
+where
+    N::Outputs: Flat,
+    requires { AreSound (N.members (N.state members.old)) }
+    ensures shown { ShowsMeaning I.seen (FlatOutput (N.AreOutputs (N.state members.old)) N.Outputs.pairs)
+        (permutation_meaning I.seen N.Error.errors.joined (λ i. N.Error.errors.appended i Kind.Permutation) N.Error.errors.grows
+        (N.members (N.state members.old)) N.none) (modes OM.Output.BUILDS OM.Error.BUILDS OM.Incomplete.STREAMING) input result }
+    ensures kept { N.state members.new ≡ N.state members.old }
+{
+    input.known();
+    let mut slots = N::slots();
+    let mut rest = input;
+    loop {
+        match members.round::<OM>(&mut slots, rest) {
+            None => return Ok((rest, made_flat(N::outputs(slots)))),
+            Some(round) => match close(round, rest, ErrorKind::Permutation) {
+                Ok(next) => rest = next,
+                Err(fault) => {
+                    N::discard(slots);
+                    return Err(fault);
+                }
+            },
         }
     }
-
-    ghost lawful = { λ s k. permutation_lawful I.seen L.Error.errors.joined (λ i. L.Error.errors.appended i Kind.Permutation) L.Error.errors.grows
-        (L.members s) I.lawful (L.lawful s k) L.none };
-}
-
-impl<I: Items, L: StreamMembers<I>> StreamParser<I> for Permutation<L> {
-    ghost use Rattle.nom_permutation.specs.PermutationLaws.{permutation_steady};
-
-    ghost pinned = { L.pinned };
-
-    ghost steady = { λ s k. permutation_steady I.seen L.Error.errors.joined (λ i. L.Error.errors.appended i Kind.Permutation) L.Error.errors.grows
-        (L.members s) I.lawful (L.steady s k) L.none };
 }

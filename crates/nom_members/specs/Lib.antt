@@ -1,5 +1,0 @@
-pub mod Left
-pub mod MemberLaws
-pub mod Members
-pub mod RoundLaws
-pub mod Rounds

@@ -1,0 +1,241 @@
+//! The members of a permutation, nested: a first one, or some and one more behind them.
+ghost use Rattle.std.specs.Prelude.{◌≡◌, ◌+◌, ◌∷◌, [], ℕ, Bool, List, Option, Some, None, length};
+ghost use Rattle.nom_error.specs.Modes.{Built, modes};
+ghost use Rattle.nom_traits.specs.View.{View};
+ghost use Rattle.nom_permutation.specs.Members.{Member, AreSound, IsOver, member, tried, with_last};
+ghost use Rattle.nom_permutation.specs.NestedLaws.{AreGood, ArePinned, AreStream};
+ghost use Rattle.nom_permutation.specs.Rounds.{HasTried, Holds, IsApplied, applies, waits};
+
+use crate::nest::{More, One};
+use nom_error::mode::OutputMode;
+use nom_error::value::ParseError;
+use nom_internal::parser::{Parser, StreamParser};
+use nom_slots::{Round, Slot, taken, try_slot};
+use nom_traits::input::Items;
+
+/// Members, nested, and what a round does with them.
+pub trait Nested<I: Items>: Sized {
+    /// The members' places.
+    type Slots;
+
+    type Outputs;
+
+    type Error: ParseError<I>;
+
+    /// What of the members their meaning depends on.
+    ghost State: { Type 0 };
+
+    ghost state: { Self → State };
+
+    /// The trees of the members that are applied.
+    ghost Tree: { Type 0 };
+
+    /// Of none.
+    ghost none: { Tree };
+
+    ghost members: { State → List (Member I Tree Self.Error) };
+
+    /// The places hold the outputs of the trees, where outputs are built.
+    ghost AreHeld: { Bool → State → Tree → Self.Slots → Type 0 };
+
+    /// How many places wait.
+    ghost waiting: { Self.Slots → ℕ };
+
+    ghost AreOutputs: { State → Tree → Self.Outputs → Type 0 };
+
+    ghost Pins: { State → Type 0 };
+
+    /// Places that all wait.
+    fn slots() -> Self::Slots
+        ensures held { (outputs : Bool) (s : State) → AreHeld outputs s none result }
+        ensures all { (s : State) → waiting result ≡ length (members s) };
+
+    /// The first of the members that aren't applied that doesn't refuse; `None` where all are applied.
+    fn round<OM: OutputMode>(
+        &mut self,
+        slots: &mut Self::Slots,
+        input: I,
+    ) -> Option<Round<I, Self::Error>>
+        requires { AreSound (members (state self.old)) }
+        ensures shown { (t : Tree) → AreHeld OM.Output.BUILDS (state self.old) t slots.old →
+            HasTried I.seen (modes OM.Output.BUILDS OM.Error.BUILDS OM.Incomplete.STREAMING) input
+            (λ u. AreHeld OM.Output.BUILDS (state self.old) u slots.new) t
+            (tried Self.Error.errors.joined Self.Error.errors.grows (members (state self.old)) t) result }
+        ensures counted { waiting slots.new + applies result ≡ waiting slots.old }
+        ensures kept { state self.new ≡ state self.old };
+
+    /// The outputs, put together.
+    fn outputs(slots: Self::Slots) -> Option<Self::Outputs>
+        ensures { (outputs : Bool) (s : State) (t : Tree) → AreHeld outputs s t slots →
+            IsOver (tried Self.Error.errors.joined Self.Error.errors.grows (members s) t) → Built outputs (AreOutputs s t) result };
+
+    /// Lets the places go.
+    fn discard(slots: Self::Slots);
+
+    /// Where no place waits, no member is tried.
+    ghost over: { (outputs : Bool) (s : State) (t : Tree) (slots : Self.Slots) → AreHeld outputs s t slots → waiting slots ≡ 0 →
+        IsOver (tried Self.Error.errors.joined Self.Error.errors.grows (members s) t) };
+
+    /// They are lawful, of `none` no member is applied, and to apply one leaves one fewer of these.
+    ghost good: { (s : State) → AreGood I.seen (members s) none };
+}
+
+/// Members that are stream parsers.
+pub trait StreamNested<I: Items>: Nested<I> {
+    /// How their outputs are compared.
+    ghost view: { View Self.Outputs };
+
+    ghost pinned: { (s : Self.State) → ArePinned view (Self.members s) (Self.Nested.Pins s) (Self.AreOutputs s) };
+
+    ghost stream: { (s : Self.State) → AreStream I.seen (Self.members s) };
+}
+
+impl<I: Items, A: Parser<I>> Nested<I> for One<A> {
+    ghost use Rattle.nom_permutation.specs.NestedLaws.{one_good};
+    ghost use Rattle.nom_permutation.specs.RoundLaws.{first_over};
+
+    type Slots = Slot<A::Output>;
+
+    type Outputs = One<A::Output>;
+
+    type Error = A::Error;
+
+    ghost State = { A.State };
+
+    ghost state = { λ p. A.state p.member };
+
+    ghost Tree = { Option A.Tree };
+
+    ghost none = { None };
+
+    ghost members = { λ s. member (A.meaning s) (λ t. t) (λ _ v. Some v) ∷ [] };
+
+    ghost AreHeld = { λ outputs s t slot. Holds outputs (A.IsOutput s) t slot };
+
+    ghost waiting = { waits };
+
+    ghost AreOutputs = { λ s t o. IsApplied (A.IsOutput s) t o.member };
+
+    ghost Pins = { A.Pins };
+
+    #[inline(always)]
+    fn slots() -> Self::Slots {
+        Slot::Waiting
+    }
+
+    #[inline(always)]
+    fn round<OM: OutputMode>(
+        &mut self,
+        slots: &mut Self::Slots,
+        input: I,
+    ) -> Option<Round<I, Self::Error>> {
+        try_slot::<I, A, OM>(None, slots, &mut self.member, input)
+    }
+
+    #[inline(always)]
+    fn outputs(slots: Self::Slots) -> Option<Self::Outputs> {
+        match taken(slots) {
+            Some(member) => Some(One { member }),
+            None => None,
+        }
+    }
+
+    #[inline(always)]
+    fn discard(_slots: Self::Slots) {}
+
+    ghost over = { λ outputs s t slot h z. first_over A.Error.errors.joined A.Error.errors.grows (A.meaning s) (λ v. Some v) outputs (A.IsOutput s)
+        t slot h z };
+
+    ghost good = { λ s. one_good (A.meaning s) (A.lawful s) };
+}
+
+impl<I: Items, A: StreamParser<I>> StreamNested<I> for One<A> {
+    ghost use Rattle.nom_permutation.specs.NestedLaws.{one_view, one_pinned, one_stream};
+
+    ghost view = { one_view A.Output.view };
+
+    ghost pinned = { λ s. one_pinned (A.meaning s) (A.IsOutput s) (A.pinned s) };
+
+    ghost stream = { λ s. one_stream (A.meaning s) (A.steady s) };
+}
+
+impl<I: Items, M: Nested<I>, A: Parser<I, Error = M::Error>> Nested<I> for More<M, A> {
+    ghost use Rattle.nom_permutation.specs.NestedLaws.{last_over, more_good};
+
+    type Slots = (M::Slots, Slot<A::Output>);
+
+    type Outputs = (M::Outputs, A::Output);
+
+    type Error = M::Error;
+
+    ghost State = { M.State × A.State };
+
+    ghost state = { λ p. (M.state p.others, A.state p.member) };
+
+    ghost Tree = { M.Tree × Option A.Tree };
+
+    ghost none = { (M.none, None) };
+
+    ghost members = { λ s. with_last (M.members s.0) (A.meaning s.1) };
+
+    ghost AreHeld = { λ outputs s t slots. M.AreHeld outputs s.0 t.0 slots.0 × Holds outputs (A.IsOutput s.1) t.1 slots.1 };
+
+    ghost waiting = { λ slots. M.waiting slots.0 + waits slots.1 };
+
+    ghost AreOutputs = { λ s t o. M.AreOutputs s.0 t.0 o.0 × IsApplied (A.IsOutput s.1) t.1 o.1 };
+
+    ghost Pins = { λ s. M.Pins s.0 × A.Pins s.1 };
+
+    #[inline(always)]
+    fn slots() -> Self::Slots {
+        (M::slots(), Slot::Waiting)
+    }
+
+    #[inline(always)]
+    fn round<OM: OutputMode>(
+        &mut self,
+        slots: &mut Self::Slots,
+        input: I,
+    ) -> Option<Round<I, Self::Error>> {
+        let round = self.others.round::<OM>(&mut slots.0, input);
+        try_slot::<I, A, OM>(round, &mut slots.1, &mut self.member, input)
+    }
+
+    #[inline(always)]
+    fn outputs(slots: Self::Slots) -> Option<Self::Outputs> {
+        let (others, last) = slots;
+        match taken(last) {
+            Some(last) => match M::outputs(others) {
+                Some(others) => Some((others, last)),
+                None => None,
+            },
+            None => {
+                M::discard(others);
+                None
+            }
+        }
+    }
+
+    #[inline(always)]
+    fn discard(slots: Self::Slots) {
+        let (others, _last) = slots;
+        M::discard(others);
+    }
+
+    ghost over = { λ outputs s t slots h z. last_over M.Error.errors.joined M.Error.errors.grows (A.meaning s.1) t outputs (A.IsOutput s.1)
+        (M.waiting slots.0) slots.1 (M.members s.0) (λ k. M.over outputs s.0 t.0 slots.0 h.0 k) h.1 z };
+
+    ghost good = { λ s. more_good (A.meaning s.1) (M.good s.0) (A.lawful s.1) };
+}
+
+impl<I: Items, M: StreamNested<I>, A: StreamParser<I, Error = M::Error>> StreamNested<I>
+    for More<M, A> {
+    ghost use Rattle.nom_permutation.specs.NestedLaws.{more_pinned, more_stream};
+    ghost use Rattle.nom_traits.specs.View.{pair_view};
+
+    ghost view = { pair_view M.view A.Output.view };
+
+    ghost pinned = { λ s. more_pinned (A.meaning s.1) (A.IsOutput s.1) (M.pinned s.0) (A.pinned s.1) };
+
+    ghost stream = { λ s. more_stream (A.meaning s.1) (M.stream s.0) (A.steady s.1) };
+}
