@@ -4,7 +4,7 @@ use example_clients::dates::{
     Date, Duration, Offset, Time, parse_date, parse_date_time, parse_duration,
 };
 use example_clients::packets::{MacAddress, TcpOption, ethernet, ipv4, tcp, tcp_option, udp};
-use example_clients::parts::{framed, number_line, worded};
+use example_clients::parts::{number, word};
 use nom::Err;
 use std::net::Ipv4Addr;
 
@@ -182,20 +182,11 @@ fn durations(rt: HostRuntime) {
 
 #[test]
 fn functions_as_parts(rt: HostRuntime) {
-    assert!(rt; number_line("12\r\nb") == Ok(("b", ("12", "\r\n"))));
-    assert!(rt; number_line("12") == Ok(("", ("12", ""))));
-    assert!(rt; number_line("12x").is_err());
-    let whole: &[u8] = &[7, 1, 0, 9];
-    match framed(whole) {
-        Ok((left, (kind, length, found))) => {
-            assert!(rt;
-                left.is_empty() && kind == 7 && length == Some(256) && found == [9u8].as_slice()
-            );
-        }
-        _ => panic!(rt; "refused"),
-    }
-    assert!(rt; worded("ab 12;") == Ok((";", ("ab", " ", 12))));
-    match worded("ab 12") {
+    assert!(rt; number("12") == Ok(("", ("12", Some("")))));
+    assert!(rt; number("12;") == Ok((";", ("12", None))));
+    assert!(rt; number(";").is_err());
+    assert!(rt; word("ab;") == Ok((";", "ab")));
+    match word("ab") {
         Err(Err::Incomplete(_)) => {}
         _ => panic!(rt; "decided"),
     }

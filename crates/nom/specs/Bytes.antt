@@ -9,6 +9,7 @@ use Rattle.nom_error.specs.Errors.{Errors}
 use Rattle.nom_traits.specs.Bytes.{seen_bytes}
 use Rattle.nom_traits.specs.Compares.{ComparesBytes}
 use Rattle.nom_traits.specs.Slices.{Slice}
+use Rattle.nom_traits.specs.View.{View}
 use Rattle.nom.specs.Grammar as Grammars
 use Rattle.nom.specs.Grammar.{Grammar}
 use Rattle.nom.specs.Leaves as Leaves
@@ -32,6 +33,11 @@ BytesGrammar V O = Grammar Bytes V O (Error Bytes)
 -- what `parse` (true) and `parse_complete` (false) answer by the grammar
 abbrev pub Parses : {V O : Type 0} → BytesGrammar V O → Bool → Bytes → Result (Bytes × O) (Answer.Err (Error Bytes) (Error Bytes) Needed) → Type 0
 Parses = Grammars.Parses seen_bytes
+
+-- and as a part of others
+abbrev pub AnswersAsPart : {V O : Type 0} → View O → BytesGrammar V O → Bool → Bytes → Result (Bytes × O) (Answer.Err (Error Bytes) (Error Bytes) Needed) →
+    Type 0
+AnswersAsPart = Grammars.AnswersAsPart seen_bytes
 
 abbrev pub tag_of : List ℕ → BytesGrammar (Slice seen_bytes) Bytes
 tag_of = Leaves.tag_of seen_bytes kept ComparesBytes

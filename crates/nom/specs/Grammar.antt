@@ -7,11 +7,13 @@ use Rattle.nom_error.specs.declared.answer.Err as Answer
 use Rattle.nom_error.specs.Errors.{Errors}
 use Rattle.nom_traits.specs.Input.{Seen}
 use Rattle.nom_traits.specs.Slices.{Slice, IsSeenAs}
+use Rattle.nom_traits.specs.View.{View}
 use Rattle.nom_internal.specs.Meaning.{Meaning, ParsesMeaning}
 use Rattle.nom_internal.specs.Choice.{EitherOutput}
 use Rattle.nom_internal.specs.Closures.{GivesFor}
 use Rattle.nom_internal.specs.Mapped.{map_meaning}
 use Rattle.nom_internal.specs.Sequence.{pair_meaning}
+use Rattle.nom_func.specs.Func.{AnswersBy}
 use Rattle.nom_sequence.specs.Sequences.{preceded_meaning, terminated_meaning}
 use Rattle.nom_branch.specs.Alternatives.{next_meaning, choice_meaning}
 use Rattle.nom_combinator.specs.Verdicts.{opt_meaning, OptOutput}
@@ -29,6 +31,10 @@ module _ {I A E : Type 0} (w : Seen I A) where
   -- what `parse` (true) and `parse_complete` (false) answer by the grammar
   abbrev pub Parses : {V O : Type 0} → Grammar I V O E → Bool → I → Result (I × O) (Answer.Err E E Needed) → Type 0
   Parses g streaming i r = ParsesMeaning w g.IsOutput g.meaning streaming i r
+
+  -- the same of a function that others take as a part by `func`, with what its outputs are compared by
+  abbrev pub AnswersAsPart : {V O : Type 0} → View O → Grammar I V O E → Bool → I → Result (I × O) (Answer.Err E E Needed) → Type 0
+  AnswersAsPart view g streaming i r = AnswersBy w view g.IsOutput g.meaning streaming i r
 
   -- a leaf that accepts a slice of the input
   abbrev pub sliced : Meaning I (Slice w) E → Grammar I (Slice w) I E

@@ -9,6 +9,7 @@ use Rattle.nom_error.specs.Errors.{Errors}
 use Rattle.nom_traits.specs.Text.{seen_text}
 use Rattle.nom_traits.specs.Compares.{ComparesText}
 use Rattle.nom_traits.specs.Slices.{Slice}
+use Rattle.nom_traits.specs.View.{View}
 use Rattle.nom.specs.Grammar as Grammars
 use Rattle.nom.specs.Grammar.{Grammar}
 use Rattle.nom.specs.Leaves as Leaves
@@ -32,6 +33,10 @@ TextGrammar V O = Grammar Text V O (Error Text)
 -- what `parse` (true) and `parse_complete` (false) answer by the grammar
 abbrev pub Parses : {V O : Type 0} → TextGrammar V O → Bool → Text → Result (Text × O) (Answer.Err (Error Text) (Error Text) Needed) → Type 0
 Parses = Grammars.Parses seen_text
+
+-- and as a part of others
+abbrev pub AnswersAsPart : {V O : Type 0} → View O → TextGrammar V O → Bool → Text → Result (Text × O) (Answer.Err (Error Text) (Error Text) Needed) → Type 0
+AnswersAsPart = Grammars.AnswersAsPart seen_text
 
 abbrev pub tag_of : List ℕ → TextGrammar (Slice seen_text) Text
 tag_of = Leaves.tag_of seen_text kept ComparesText

@@ -1,6 +1,7 @@
 //! Functions whose contracts are their grammars, in the words of `Rattle.nom.specs.Bytes`.
-ghost use Rattle.std.specs.Prelude.{codes, true};
-ghost use Rattle.nom.specs.Bytes.{Parses, alt_of, char_of, delimited_of, digit1_of, is_a_of, is_not_of, many0_of, opt_of, or_of, preceded_of, tag_of};
+ghost use Rattle.std.specs.Prelude.{codes, true, false};
+ghost use Rattle.nom_traits.specs.View.{behind_view};
+ghost use Rattle.nom.specs.Bytes.{AnswersAsPart, Parses, alt_of, char_of, delimited_of, digit1_of, is_a_of, is_not_of, many0_of, opt_of, or_of, preceded_of, tag_of};
 ghost use Rattle.nom.specs.Bytes.{take_of, terminated_of};
 
 use nom::branch::alt;
@@ -8,8 +9,8 @@ use nom::bytes::{is_a, is_not, tag, take};
 use nom::character::{char, digit1};
 use nom::combinator::opt;
 use nom::multi::many0;
-use nom::sequence::{delimited, preceded, terminated};
-use nom::{IResult, Parser};
+use nom::sequence::{delimited, preceded, separated_pair, terminated};
+use nom::{IResult, Parser, answer, func};
 use std::alloc::Global;
 
 /// A name in brackets, as `[name]`.
@@ -41,4 +42,17 @@ pub fn records(alloc: Global, input: &[u8]) -> IResult<&[u8], Vec<&[u8]>>
 {
     let record = preceded(tag("R"), take(4usize));
     many0(alloc, record).parse(input)
+}
+
+/// Decimal digits, by a function that may be a part of others.
+pub fn number(input: &[u8]) -> IResult<&[u8], &[u8]>
+    ensures { AnswersAsPart behind_view digit1_of false input.entry result }
+{
+    answer(&mut digit1(), input)
+}
+
+/// Two numbers, with a dash between them.
+pub fn span(input: &[u8]) -> IResult<&[u8], (&[u8], &[u8])> {
+    let mut span = separated_pair(func(number), char('-'), func(number));
+    span.parse_complete(input)
 }

@@ -87,7 +87,6 @@ pub fn grown<I: Input, O: Viewed + Drop, E: ParseError<I>, F: Fn(I) -> IResult<I
 }
 
 /// Nothing of an input that grows.
-#[tactic(auto, unfolding(nom::specs::Func::TellOne))]
 pub fn grown_nothing<'a>(input: &'a [u8], cuts: &[usize]) -> Grown<&'a [u8], usize, Fail<'a>>
     requires { AreCuts seen_bytes input cuts.now }
 {
@@ -106,7 +105,6 @@ fn complete<I: Input, O: Viewed + Drop, E: ParseError<I>, F: Fn(I) -> IResult<I,
 }
 
 /// The length of what is left of an input that is complete.
-#[tactic(auto, unfolding(nom::specs::Func::TellOne))]
 pub fn measured(input: &[u8]) -> IResult<&[u8], usize> {
     complete(length_left, input)
 }

@@ -27,7 +27,6 @@ fn a_named_function(rt: HostRuntime) {
 
 // A closure's result names no lifetime but those of its argument, so the error holds no input.
 #[test]
-#[tactic(auto, unfolding(nom::specs::Func::TellOne))]
 fn a_closure(rt: HostRuntime) {
     let mut length = func::<&[u8], usize, (), _>(|input| Ok((input, input.len())));
     match length.parse(b"ab".as_slice()) {
@@ -37,7 +36,6 @@ fn a_closure(rt: HostRuntime) {
 }
 
 #[test]
-#[tactic(auto, unfolding(nom::specs::Func::TellOne))]
 fn want_of_memory(rt: HostRuntime) {
     let mut none = func(starved);
     match none.parse(b"ab".as_slice()) {
