@@ -1,3 +1,4 @@
+mod Buffer
 mod Calls
 mod Outcomes
 mod Reading
