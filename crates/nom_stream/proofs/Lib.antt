@@ -1,4 +1,6 @@
+mod Buffer
 mod Calls
+mod Lent
 mod Outcomes
 mod Reading
 mod Telling

@@ -1,14 +1,14 @@
 -- The bytes that were read and aren't used yet.
-use Rattle.std.specs.Prelude.{ℕ, ◌≤◌, ◌-◌, List, drop, take, vec_len}
+use Rattle.std.specs.Prelude.{ℕ, ◌≤◌, ◌-◌, List, drop, take, slice_range, vec_len}
 use Rattle.nom_stream.specs.declared.held.Held.{Held}
 
--- the used bytes are some of those that were read
+-- they lie in the buffer
 abbrev pub IsWithin : {A : Type 0} → Held A → Type 0
-IsWithin h = h.start ≤ vec_len h.bytes
+IsWithin h = (h.start ≤ h.end) × (h.end ≤ vec_len h.bytes)
 
 -- the bytes that aren't used yet
 abbrev pub held_of : {A : Type 0} → Held A → List ℕ
-held_of h = drop h.start h.bytes.items
+held_of h = slice_range h.bytes.items h.start h.end
 
 -- the last so many bytes that were used
 abbrev pub last_of : {A : Type 0} → ℕ → Held A → List ℕ

@@ -61,6 +61,15 @@ HoldsLast old h (Refused e n) = Unit {0}
 HoldsLast old h (Failed e n) = Unit {0}
 HoldsLast old h OutOfMemory = Unit {0}
 
+-- unless an item was taken, all is held as it was
+abbrev pub Stays : {A O : Type 0} → Held A → Held A → Taken O → Type 0
+Stays old new (Item n o) = Unit {0}
+Stays old new Nothing = new ≡ old
+Stays old new (Undecided k) = new ≡ old
+Stays old new (Refused e n) = new ≡ old
+Stays old new (Failed e n) = new ≡ old
+Stays old new OutOfMemory = new ≡ old
+
 -- the bytes don't decide
 abbrev pub IsUndecided : {O : Type 0} → Taken O → Type 0
 IsUndecided (Item n o) = ⊥

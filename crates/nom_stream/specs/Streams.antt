@@ -46,12 +46,11 @@ turns_left true most held = zero
 turns_left false most held = suc (most - held)
 
 module _ {R A : Type 0} (left : R → Option (List ℕ)) where
-  -- The buffer, with the bytes that are used, and the room of a read are never longer than the most bytes that may be held; and
-  -- the stream's end is the reader's.
+  -- The buffer, with the bytes that are used and the room for more, is never longer than the most bytes that may be held; and the
+  -- stream's end is the reader's.
   pub record IsOpen (s : Stream R A) : Type 0 where
     pub within : IsWithin s.held
     pub bounded : vec_len s.held.bytes ≤ s.settings.most
-    pub room : vec_len s.room ≤ s.settings.most
     pub at_end : s.ended ≡ true → IsAtEnd (left s.source)
 
   module _ (s t : Stream R A) where
@@ -74,9 +73,9 @@ module _ {R A : Type 0} (left : R → Option (List ℕ)) where
 abbrev pub IsEnough : {R A : Type 0} → (count : ℕ) → Stream R A → (Unreadable : Type 0) → Type 0
 IsEnough count t Unreadable = (count ≤ length (held_of t.held)) ⊎ (t.ended ≡ true) ⊎ (t.settings.most ≤ length (held_of t.held)) ⊎ Unreadable
 
--- memory is wanted: the room, or the bytes that are held, have none left for a read
+-- memory is wanted: the buffer has too little for the bytes that are held and a read
 abbrev pub LacksRoom : {R A : Type 0} → Stream R A → Type 0
-LacksRoom t = (vec_capacity t.room < most_read t.settings) ⊎ (vec_capacity t.held.bytes < vec_len t.held.bytes + most_read t.settings)
+LacksRoom t = vec_capacity t.held.bytes < length (held_of t.held) + most_read t.settings
 
 -- bytes couldn't be read
 abbrev pub IsUnread : {O : Type 0} → Told O → Type 0

@@ -1,5 +1,5 @@
 -- What the items of a stream are of the whole of its data.
-use Rattle.std.specs.Prelude.{◌≡◌, ℕ, ◌+◌, ◌-◌, ◌^◌, ◌≤◌, min, ◌⊎◌, Bool, true, false, List, [], ◌∷◌, ◌++◌, length, Option, Some, None, Ok, Err}
+use Rattle.std.specs.Prelude.{◌≡◌, ℕ, ◌+◌, ◌-◌, ◌^◌, ◌≤◌, min, ◌⊎◌, Bool, true, false, List, [], ◌∷◌, ◌++◌, length, take, Option, Some, None, Ok, Err}
 use Rattle.std.specs.List.{AllZip}
 use Rattle.nom_error.specs.Answers.{size_of}
 use Rattle.nom_error.specs.declared.value.Error.{Error}
@@ -11,7 +11,7 @@ use Rattle.nom_internal.specs.Meaning.{Meaning}
 use Rattle.nom_iterator.specs.Iterated.{AreItems}
 use Rattle.nom_stream.specs.declared.stream.Stop.TheVariants as Stop
 use Rattle.nom_stream.specs.declared.stream.Stream.{Stream}
-use Rattle.nom_stream.specs.Held.{held_of}
+use Rattle.nom_stream.specs.Held.{held_of, last_of}
 use Rattle.nom_stream.specs.Items.{Bytes}
 use Rattle.nom_stream.specs.Streams.{Decides, Told}
 
@@ -91,6 +91,12 @@ module _ (A : Type 0) {R V O : Type 0} (left : R → Option (List ℕ)) (IsItem 
   AnswersWhole =
       (s t : Stream R A) (r : Told O) → Decides left IsItem m s t r → (whole : Bytes) → seen_bytes.IsKnown whole → HasLeft left s whole.now →
       (p : Outcome V) → AtWhole m s.settings.complete whole p → TellsWhole IsItem m t r whole p
+
+  -- The bytes of an item, as they are lent after the call, are the first of those that no item had before it.
+  abbrev pub BytesOfWhole : Type 0
+  BytesOfWhole =
+      (s t : Stream R A) (n : ℕ) (o : O) → Decides left IsItem m s t (Ok (Some (n, o))) → (whole : List ℕ) → HasLeft left s whole →
+      last_of n t.held ≡ take n whole
 
   -- The items that calls give are those of the whole, in order, each where the one before ended, however its bytes came, and also
   -- where calls between them gave none.

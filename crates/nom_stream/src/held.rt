@@ -1,15 +1,46 @@
-//! The bytes that were read and aren't used yet.
-ghost use Rattle.std.specs.Prelude.{◌≡◌, ◌+◌, ◌-◌, ◌<◌, ◌≤◌, ◌++◌, [], drop, take, length, IfOk, IsOk, OnOk, OnErr, vec_len, vec_capacity};
+//! The bytes that were read and aren't used yet, and reads of more.
+ghost use Rattle.std.specs.Prelude.{◌≡◌, ℕ, true, ◌+◌, ◌^◌, ◌<◌, ◌≤◌, ◌++◌, List, [], Err, drop, length, max, IfOk, OnErr, OnOk, vec_capacity, vec_len};
+ghost use Rattle.std.specs.Io.{ReadsAtMost};
+ghost use Rattle.std.specs.Io.KnownBytes.{Consumes, IsAtEnd, Keeps, ReadConsumes};
 ghost use Rattle.nom_stream.specs.Held.{held_of, last_of, IsWithin};
 
 use nom_error::answer::OutOfMemory;
 use std::alloc::Allocator;
+use std::io;
+use std::io::Read;
 
-/// The bytes that were read, of which the first `start` are used.
+/// The bytes that were read and aren't used yet: those of the buffer from `start` up to `end`. Behind these it has
+/// room for more, and before them those that were used.
 #[derive(Drop)]
 pub struct Held<A: Allocator> {
     pub bytes: Vec<u8, A>,
     pub start: usize,
+    pub end: usize,
+}
+
+// Whether a read was interrupted.
+fn is_interrupted(answer: &io::Result<usize>) -> bool
+    ensures { result ≡ true → (e : _) × (answer.now ≡ Err e) }
+{
+    match answer {
+        Ok(_) => false,
+        Err(error) => error.kind() == io::ErrorKind::Interrupted,
+    }
+}
+
+// One read, made again where it is interrupted.
+fn read_again<R: Read>(source: &mut R, room: &mut [u8]) -> io::Result<usize>
+    ensures bound { ReadsAtMost result room.new }
+    ensures bytes { ReadConsumes (R.remaining source.old) (R.remaining source.new) result room.new }
+    ensures len { length room.new ≡ length room.old }
+{
+    for _turn in 0..u64::MAX {
+        let answer = source.read(room);
+        if !is_interrupted(&answer) {
+            return answer;
+        }
+    }
+    source.read(room)
 }
 
 impl<A: Allocator> Held<A> {
@@ -22,23 +53,26 @@ impl<A: Allocator> Held<A> {
         Held {
             bytes: Vec::new(alloc),
             start: 0,
+            end: 0,
         }
     }
 
     /// How many there are.
+    #[inline(always)]
     pub fn len(&self) -> usize
         requires { IsWithin self.now }
         ensures { result ≡ length (held_of self.now) }
     {
-        self.bytes.len() - self.start
+        self.end - self.start
     }
 
     /// The bytes.
+    #[inline(always)]
     pub fn as_slice(&self) -> &[u8]
         requires { IsWithin self.now }
         ensures { result.now ≡ held_of self.now }
     {
-        &self.bytes[self.start..]
+        &self.bytes[self.start..self.end]
     }
 
     /// The last bytes that were used.
@@ -51,6 +85,7 @@ impl<A: Allocator> Held<A> {
     }
 
     /// The first bytes are used.
+    #[inline(always)]
     pub fn consume(&mut self, count: usize)
         requires within { IsWithin self.old }
         requires count { count ≤ length (held_of self.old) }
@@ -68,47 +103,63 @@ impl<A: Allocator> Held<A> {
         ensures within { IsWithin self.new }
         ensures same { held_of self.new ≡ held_of self.old }
         ensures front { self.new.start ≡ 0 }
-        ensures shorter { vec_len self.new.bytes ≤ vec_len self.old.bytes }
+        ensures buffer { vec_len self.new.bytes ≡ vec_len self.old.bytes }
     {
-        let start = self.start;
+        let (start, end) = (self.start, self.end);
         if start == 0 {
             return;
         }
-        let left = self.bytes.len() - start;
-        self.bytes.copy_within(start.., 0);
-        self.bytes.truncate(left);
+        self.bytes.copy_within(start..end, 0);
         self.start = 0;
+        self.end = end - start;
     }
 
-    /// Adds bytes.
-    pub fn add(&mut self, more: &[u8]) -> Result<(), OutOfMemory>
-        requires { IsWithin self.old }
+    /// Makes room for so many more bytes behind them. The buffer never gets shorter.
+    pub fn make_room(&mut self, count: usize) -> Result<(), OutOfMemory>
+        requires within { IsWithin self.old }
+        requires fits { self.old.end + count < 2 ^ 64 }
         ensures within { IsWithin self.new }
-        ensures added { IfOk result (λ _. held_of self.new ≡ held_of self.old ++ more.now) }
-        ensures kept { OnErr result (held_of self.new ≡ held_of self.old) }
-        ensures fits { vec_len self.old.bytes + length more.now ≤ vec_capacity self.old.bytes → IsOk result }
-        ensures start { self.new.start ≡ self.old.start }
-        ensures longer { vec_len self.new.bytes ≤ vec_len self.old.bytes + length more.now }
+        ensures same { held_of self.new ≡ held_of self.old }
+        ensures room { OnOk result (self.new.end + count ≤ vec_len self.new.bytes) }
+        ensures lacks { OnErr result (vec_capacity self.new.bytes < self.new.end + count) }
+        ensures place { (self.new.start ≡ self.old.start) × (self.new.end ≡ self.old.end) }
+        ensures bounded { vec_len self.new.bytes ≤ max (vec_len self.old.bytes) (self.old.end + count) }
     {
-        match self.bytes.extend_from_slice(more) {
+        let wanted = self.end + count;
+        let len = self.bytes.len();
+        if wanted <= len {
+            return Ok(());
+        }
+        match self.bytes.reserve(wanted - len) {
+            Ok(()) => {}
+            Err(_) => return Err(OutOfMemory),
+        }
+        match self.bytes.resize(wanted, 0) {
             Ok(()) => Ok(()),
-            Err(_) => Err(OutOfMemory),
+            Err(_) => unreachable!(),
         }
     }
 
-    /// Makes room for so many more bytes.
-    pub fn reserve(&mut self, count: usize) -> Result<(), OutOfMemory>
-        requires { IsWithin self.old }
+    /// One read of so many bytes at the most, behind them; made again where it is interrupted.
+    pub fn read_from<R: Read>(&mut self, source: &mut R, count: usize) -> io::Result<usize>
+        requires within { IsWithin self.old }
+        requires room { self.old.end + count ≤ vec_len self.old.bytes }
         ensures within { IsWithin self.new }
-        ensures same { held_of self.new ≡ held_of self.old }
-        ensures room { OnOk result (vec_len self.new.bytes + count ≤ vec_capacity self.new.bytes) }
-        ensures lacks { OnErr result (vec_capacity self.new.bytes < vec_len self.new.bytes + count) }
+        ensures given { IfOk result (λ n. (given : List ℕ) × (length given ≡ n) × (held_of self.new ≡ held_of self.old ++ given)
+            × Consumes (R.remaining source.old) (R.remaining source.new) given) }
+        ensures bound { IfOk result (λ n. n ≤ count) }
+        ensures at_end { IfOk result (λ n. n ≡ 0 → 0 < count → IsAtEnd (R.remaining source.new)) }
+        ensures fault { OnErr result ((held_of self.new ≡ held_of self.old) × Keeps (R.remaining source.old) (R.remaining source.new)) }
         ensures start { self.new.start ≡ self.old.start }
-        ensures len { vec_len self.new.bytes ≡ vec_len self.old.bytes }
+        ensures buffer { vec_len self.new.bytes ≡ vec_len self.old.bytes }
     {
-        match self.bytes.reserve(count) {
-            Ok(()) => Ok(()),
-            Err(_) => Err(OutOfMemory),
+        let end = self.end;
+        match read_again(source, &mut self.bytes[end..end + count]) {
+            Ok(given) => {
+                self.end = end + given;
+                Ok(given)
+            }
+            Err(error) => Err(error),
         }
     }
 
@@ -118,7 +169,12 @@ impl<A: Allocator> Held<A> {
         ensures { result.items ≡ held_of self }
     {
         self.settle();
-        let Held { bytes, start: _ } = self;
+        let Held {
+            mut bytes,
+            start: _,
+            end,
+        } = self;
+        bytes.truncate(end);
         bytes
     }
 }

@@ -1,5 +1,5 @@
 //! What the items of every stream promise. These functions do nothing: their contracts are the promises.
-ghost use Rattle.nom_stream.specs.Wholes.{AnswersWhole, ItemsOfWhole};
+ghost use Rattle.nom_stream.specs.Wholes.{AnswersWhole, BytesOfWhole, ItemsOfWhole};
 
 use crate::grammar::Grammar;
 use crate::stream::Stream;
@@ -26,4 +26,13 @@ pub fn items_of_whole<R: Read, A: Allocator + Copy, G: Grammar>(
     _grammar: &G,
 )
     ensures { ItemsOfWhole A R.remaining (G.IsItem (G.state _grammar.now)) (G.meaning (G.state _grammar.now)) }
+{}
+
+/// For every way in which a reader gives its bytes: those of an item, which `last` lends after the call that gave it, are
+/// the first ones of all the bytes that no item had before.
+pub fn bytes_of_whole<R: Read, A: Allocator + Copy, G: Grammar>(
+    _stream: &Stream<R, A>,
+    _grammar: &G,
+)
+    ensures { BytesOfWhole A R.remaining (G.IsItem (G.state _grammar.now)) (G.meaning (G.state _grammar.now)) }
 {}

@@ -1,7 +1,7 @@
 //! One item from what is held.
 ghost use Rattle.std.specs.Prelude.{◌≡◌, MatchOption};
 ghost use Rattle.nom_stream.specs.Held.{held_of, IsWithin};
-ghost use Rattle.nom_stream.specs.Items.{IsStopped, HoldsLast, IsUndecided, Takes, taken_of};
+ghost use Rattle.nom_stream.specs.Items.{IsStopped, HoldsLast, IsUndecided, Stays, Takes, taken_of};
 ghost use Rattle.nom_stream.specs.declared.step.Taken.TheVariants.{Undecided};
 
 use crate::grammar::Grammar;
@@ -42,6 +42,7 @@ fn stopped<T>(stop: Err<Error<&[u8]>>) -> Taken<T>
 }
 
 /// Parses what is held, by whether more may come, and takes the bytes of an accepted item; nothing else is taken.
+#[inline(always)]
 pub fn take<A: Allocator, G: Grammar>(
     held: &mut Held<A>,
     grammar: &mut G,
@@ -54,6 +55,7 @@ pub fn take<A: Allocator, G: Grammar>(
     ensures takes { Takes (G.IsItem (G.state grammar.old)) (G.meaning (G.state grammar.old)) more (held_of held.old) (held_of held.new) result }
     ensures last { HoldsLast (held_of held.old) held.new result }
     ensures bytes { held.new.bytes ≡ held.old.bytes }
+    ensures stays { Stays held.old held.new result }
 {
     let input = held.as_slice();
     input.known();
@@ -71,7 +73,27 @@ pub fn take<A: Allocator, G: Grammar>(
     }
 }
 
+/// The same, for where speed is nothing: a grammar's code stands once in all such places.
+#[inline(never)]
+pub fn take_again<A: Allocator, G: Grammar>(
+    held: &mut Held<A>,
+    grammar: &mut G,
+    more: bool,
+) -> Taken<G::Item>
+    requires sound { (G.meaning (G.state grammar.old)).IsSound }
+    requires within { IsWithin held.old }
+    ensures kept { G.state grammar.new ≡ G.state grammar.old }
+    ensures within { IsWithin held.new }
+    ensures takes { Takes (G.IsItem (G.state grammar.old)) (G.meaning (G.state grammar.old)) more (held_of held.old) (held_of held.new) result }
+    ensures last { HoldsLast (held_of held.old) held.new result }
+    ensures bytes { held.new.bytes ≡ held.old.bytes }
+    ensures stays { Stays held.old held.new result }
+{
+    take(held, grammar, more)
+}
+
 /// What is needed where the bytes don't decide.
+#[inline(always)]
 pub fn needed_of<T>(taken: &Taken<T>) -> Option<Needed>
     ensures { MatchOption result (IsUndecided taken.now → ⊥) (λ k. taken.now ≡ Undecided k) }
 {

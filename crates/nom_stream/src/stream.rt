@@ -1,7 +1,5 @@
 //! The items of a reader.
-ghost use Rattle.std.specs.Prelude.{◌≡◌, true, false, ◌<◌, ◌≤◌, ◌+◌, Err, IfErr, IfOk, IfSome, IsOk, OnErr, OnOk, [], length, vec_capacity, vec_len, ◌⊎◌};
-ghost use Rattle.std.specs.Io.{ReadsAtMost};
-ghost use Rattle.std.specs.Io.KnownBytes.{IsAtEnd, ReadConsumes};
+ghost use Rattle.std.specs.Prelude.{◌≡◌, true, false, ◌<◌, ◌≤◌, ◌+◌, ◌^◌, Err, IfOk, IfSome, IsOk, [], length, vec_capacity, vec_len, ◌⊎◌};
 ghost use Rattle.nom_stream.specs.Held.{held_of, last_of, IsWithin};
 ghost use Rattle.nom_stream.specs.Items.{IsUndecided, Takes};
 ghost use Rattle.nom_stream.specs.Streams.{Decides, Ends, Fills, IsEnough, IsOpen, LacksRoom, ReadsOnce, Tells, counted, stop_of, turns_left};
@@ -11,7 +9,7 @@ ghost use Rattle.nom_stream.specs.declared.step.Taken.TheVariants.{Undecided};
 use crate::grammar::Grammar;
 use crate::held::Held;
 use crate::settings::Settings;
-use crate::step::{Taken, needed_of, take};
+use crate::step::{Taken, needed_of, take, take_again};
 use nom_error::answer::Needed;
 use nom_error::kind::ErrorKind;
 use std::alloc::Allocator;
@@ -52,8 +50,6 @@ pub enum Stop {
 pub struct Stream<R, A: Allocator> {
     pub source: R,
     pub held: Held<A>,
-    /// The room of a read.
-    pub room: Vec<u8, A>,
     pub settings: Settings,
     /// How many bytes the items had so far; it stays at the greatest `u64`.
     pub offset: u64,
@@ -71,31 +67,6 @@ fn unfilled<T>(why: Unread) -> Result<T, Stop>
     })
 }
 
-// Whether a read was interrupted.
-fn is_interrupted(answer: &io::Result<usize>) -> bool
-    ensures { result ≡ true → (e : _) × (answer.now ≡ Err e) }
-{
-    match answer {
-        Ok(_) => false,
-        Err(error) => error.kind() == io::ErrorKind::Interrupted,
-    }
-}
-
-// One read, made again where it is interrupted.
-fn read_again<R: Read>(source: &mut R, room: &mut [u8]) -> io::Result<usize>
-    ensures bound { ReadsAtMost result room.new }
-    ensures bytes { ReadConsumes (R.remaining source.old) (R.remaining source.new) result room.new }
-    ensures len { length room.new ≡ length room.old }
-{
-    for _turn in 0..u64::MAX {
-        let answer = source.read(room);
-        if !is_interrupted(&answer) {
-            return answer;
-        }
-    }
-    source.read(room)
-}
-
 impl<R: Read, A: Allocator + Copy> Stream<R, A> {
     /// A stream from where a reader stands.
     pub fn new(alloc: A, source: R, settings: Settings) -> Self
@@ -108,33 +79,9 @@ impl<R: Read, A: Allocator + Copy> Stream<R, A> {
         Stream {
             source,
             held: Held::new(alloc),
-            room: Vec::new(alloc),
             settings,
             offset: 0,
             ended: false,
-        }
-    }
-
-    // Makes the room of a read.
-    fn make_room(&mut self, count: usize) -> Result<(), Unread>
-        requires open { IsOpen R.remaining self.old }
-        requires most { count ≤ self.old.settings.most }
-        ensures open { IsOpen R.remaining self.new }
-        ensures room { IsOk result → vec_len self.new.room ≡ count }
-        ensures lacks { OnErr result (vec_capacity self.new.room < count) }
-        ensures error { IfErr result (λ e. e ≡ Unread.OutOfMemory) }
-        ensures others { (self.new.source ≡ self.old.source) × (self.new.held ≡ self.old.held)
-            × (self.new.settings ≡ self.old.settings) × (self.new.offset ≡ self.old.offset)
-            × (self.new.ended ≡ self.old.ended) }
-    {
-        let lacking = count.saturating_sub(self.room.len());
-        match self.room.reserve(lacking) {
-            Ok(()) => {}
-            Err(_) => return Err(Unread::OutOfMemory),
-        }
-        match self.room.resize(count, 0) {
-            Ok(()) => Ok(()),
-            Err(_) => unreachable!(),
         }
     }
 
@@ -143,27 +90,24 @@ impl<R: Read, A: Allocator + Copy> Stream<R, A> {
         requires open { IsOpen R.remaining self.old }
         requires goes_on { self.old.ended ≡ false }
         requires some { 0 < count }
-        requires most { vec_len self.old.held.bytes + count ≤ self.old.settings.most }
+        requires front { self.old.held.start ≡ 0 }
+        requires most { length (held_of self.old.held) + count ≤ self.old.settings.most }
+        requires fits { length (held_of self.old.held) + count < 2 ^ 64 }
         requires asks { count ≤ most_read self.old.settings }
         ensures open { IsOpen R.remaining self.new }
         ensures reads { ReadsOnce R.remaining self.old self.new result }
         ensures bound { IfOk result (λ n. n ≤ count) }
         ensures memory { result ≡ Err Unread.OutOfMemory → LacksRoom self.new }
-        ensures others { (self.new.held.start ≡ self.old.held.start) × (self.new.settings ≡ self.old.settings)
+        ensures others { (self.new.held.start ≡ 0) × (self.new.settings ≡ self.old.settings)
             × (self.new.offset ≡ self.old.offset) × (self.new.ended ≡ false) }
     {
-        self.make_room(count)?;
-        match self.held.reserve(count) {
+        match self.held.make_room(count) {
             Ok(()) => {}
             Err(_) => return Err(Unread::OutOfMemory),
         }
-        let given = match read_again(&mut self.source, &mut self.room) {
-            Ok(given) => given,
-            Err(error) => return Err(Unread::Fault(error)),
-        };
-        match self.held.add(&self.room[..given]) {
-            Ok(()) => Ok(given),
-            Err(_) => unreachable!(),
+        match self.held.read_from(&mut self.source, count) {
+            Ok(given) => Ok(given),
+            Err(error) => Err(Unread::Fault(error)),
         }
     }
 
@@ -199,12 +143,12 @@ impl<R: Read, A: Allocator + Copy> Stream<R, A> {
     }
 
     // What is told of what was taken; the bytes of an item are counted.
+    #[inline(always)]
     fn tell<T>(&mut self, taken: Taken<T>) -> Result<Option<(usize, T)>, Stop>
         ensures tells { Tells taken result }
         ensures offset { self.new.offset ≡ counted self.old.offset result }
         ensures others { (self.new.source ≡ self.old.source) × (self.new.held ≡ self.old.held)
-            × (self.new.room ≡ self.old.room) × (self.new.settings ≡ self.old.settings)
-            × (self.new.ended ≡ self.old.ended) }
+            × (self.new.settings ≡ self.old.settings) × (self.new.ended ≡ self.old.ended) }
     {
         match taken {
             Taken::Item(used, item) => {
@@ -240,14 +184,76 @@ impl<R: Read, A: Allocator + Copy> Stream<R, A> {
         if !self.settings.complete {
             return Err(Stop::Incomplete(needed));
         }
-        let taken = take(&mut self.held, grammar, false);
+        let taken = take_again(&mut self.held, grammar, false);
         self.tell(taken)
+    }
+
+    // Where what is held doesn't decide: more is read, and it is parsed again, until it does or can't.
+    #[inline(never)]
+    fn read_further<G: Grammar>(
+        &mut self,
+        needed: Needed,
+        grammar: &mut G,
+    ) -> Result<Option<(usize, G::Item)>, Stop>
+        requires sound { (G.meaning (G.state grammar.old)).IsSound }
+        requires open { IsOpen R.remaining self.old }
+        requires waits { Takes (G.IsItem (G.state grammar.old)) (G.meaning (G.state grammar.old)) true (held_of self.old.held)
+            (held_of self.old.held) (Undecided needed) }
+        ensures kept { G.state grammar.new ≡ G.state grammar.old }
+        ensures open { IsOpen R.remaining self.new }
+        ensures decides { Decides R.remaining (G.IsItem (G.state grammar.old)) (G.meaning (G.state grammar.old)) self.old self.new result }
+        ensures offset { self.new.offset ≡ counted self.old.offset result }
+        ensures last { IfOk result (λ r. IfSome r (λ p. p.0 ≤ self.new.held.start)) }
+        ensures settings { self.new.settings ≡ self.old.settings }
+    {
+        let mut lacking = needed;
+        'parses: loop {
+            if self.ended {
+                return self.finish(lacking, grammar);
+            }
+            let held = self.held.len();
+            if self.settings.most <= held {
+                return Err(Stop::TooLong);
+            }
+            let wanted = self.settings.wanted(lacking, held);
+            match self.fill(wanted) {
+                Ok(()) => {}
+                Err(why) => return unfilled(why),
+            }
+            let taken = take_again(&mut self.held, grammar, true);
+            lacking = match needed_of(&taken) {
+                Some(needed) => needed,
+                None => return self.tell(taken),
+            };
+        }
+    }
+
+    // The same. The room for the answer, which a fault makes large, is cleared here, and so not for each item.
+    #[inline(always)]
+    fn read_on<G: Grammar>(
+        &mut self,
+        needed: Needed,
+        grammar: &mut G,
+    ) -> Result<Option<(usize, G::Item)>, Stop>
+        requires sound { (G.meaning (G.state grammar.old)).IsSound }
+        requires open { IsOpen R.remaining self.old }
+        requires waits { Takes (G.IsItem (G.state grammar.old)) (G.meaning (G.state grammar.old)) true (held_of self.old.held)
+            (held_of self.old.held) (Undecided needed) }
+        ensures kept { G.state grammar.new ≡ G.state grammar.old }
+        ensures open { IsOpen R.remaining self.new }
+        ensures decides { Decides R.remaining (G.IsItem (G.state grammar.old)) (G.meaning (G.state grammar.old)) self.old self.new result }
+        ensures offset { self.new.offset ≡ counted self.old.offset result }
+        ensures last { IfOk result (λ r. IfSome r (λ p. p.0 ≤ self.new.held.start)) }
+        ensures settings { self.new.settings ≡ self.old.settings }
+    {
+        self.read_further(needed, grammar)
     }
 
     /// The next item, with how many bytes it has; none at the end of the data.
     ///
     /// What is held is parsed. Where it isn't decided more is read, and it is parsed again. An item's bytes aren't held
     /// any more, but `last` lends them until the next call. After a `Stop` all is held, and the call can be made again.
+    #[inline]
     pub fn next_item<G: Grammar>(
         &mut self,
         grammar: &mut G,
@@ -261,24 +267,10 @@ impl<R: Read, A: Allocator + Copy> Stream<R, A> {
         ensures last { IfOk result (λ r. IfSome r (λ p. p.0 ≤ self.new.held.start)) }
         ensures settings { self.new.settings ≡ self.old.settings }
     {
-        'parses: loop {
-            let taken = take(&mut self.held, grammar, true);
-            let needed = match needed_of(&taken) {
-                Some(needed) => needed,
-                None => return self.tell(taken),
-            };
-            if self.ended {
-                return self.finish(needed, grammar);
-            }
-            let held = self.held.len();
-            if self.settings.most <= held {
-                return Err(Stop::TooLong);
-            }
-            let wanted = self.settings.wanted(needed, held);
-            match self.fill(wanted) {
-                Ok(()) => {}
-                Err(why) => return unfilled(why),
-            }
+        let taken = take(&mut self.held, grammar, true);
+        match needed_of(&taken) {
+            Some(needed) => self.read_on(needed, grammar),
+            None => self.tell(taken),
         }
     }
 

@@ -1,0 +1,65 @@
+use Rattle.std.proofs.Common.{arith, true, Err, refl, sym, ◌∙◌, ap, subst}
+use Rattle.nom_stream.proofs.Telling.{as_after, decides_item, decides_end, decides_full, decides_unread, reads_further, waits_there}
+use Rattle.nom_stream.specs.Held.{held_of}
+use Rattle.nom_stream.specs.Items.{Takes}
+use Rattle.nom_stream.specs.declared.step.Taken.TheVariants.{Undecided}
+use Rattle.nom_stream.specs.Streams.{Decides, IsOpen, Reads}
+use Rattle.nom_stream.specs.Wanted.{wanted_of}
+use Rattle.nom_stream.proofs.stream.Stream.read_further.Goals as goal
+
+pub returns-then-self-clause-decides : goal.returns-then-self-clause-decides
+returns-then-self-clause-decides g c =
+    let i = c.parses.invariant in
+    decides_end g.R.Read.remaining g.G.Grammar.IsItem g.G.Grammar.meaning _ _ i.kept _ _ i.reads i.opened i.settings i.offset
+    _ i.waits _ _ c.if-self.true c.finish.ensures.ends c.finish.ensures.others.0 c.finish.ensures.others.1 c.finish.ensures.offset
+
+pub returns-then-self-held-clause-decides : goal.returns-then-self-held-clause-decides
+returns-then-self-held-clause-decides g c =
+    let i = c.parses.invariant in
+    decides_full g.R.Read.remaining g.G.Grammar.IsItem g.G.Grammar.meaning _ _ i.kept _ _ i.reads i.opened i.settings i.offset
+    _ i.waits (omega (arith, c.len-held.ensures, c.if-self-held.true))
+
+pub returns-in-Err-clause-decides : goal.returns-in-Err-clause-decides
+returns-in-Err-clause-decides g c =
+    let i = c.parses.invariant in
+    subst (λ z. Decides g.R.Read.remaining (g.G.Grammar.IsItem (g.G.Grammar.state c.args.grammar.now))
+    (g.G.Grammar.meaning (g.G.Grammar.state c.args.grammar.now)) c.args.self.now c.fill.new.self z) (sym c.unfilled.ensures) (
+    decides_unread g.R.Read.remaining g.G.Grammar.IsItem g.G.Grammar.meaning _ _ i.kept _ _ i.reads i.opened i.settings i.offset
+    _ i.waits c.if-self.false (omega (arith, c.len-held.ensures, c.if-self-held.false)) _
+    (c.wanted-wanted.ensures.wanted ∙ ap (wanted_of c.parses.self.settings c.parses.lacking) c.len-held.ensures)
+    _ c.in-Err.why (λ e. c.in-Err.ensures.memory (ap Err e)) c.in-Err.ensures.fills c.in-Err.ensures.no_more
+    c.in-Err.ensures.open c.in-Err.ensures.settings c.in-Err.ensures.offset)
+
+pub returns-in-None-clause-decides : goal.returns-in-None-clause-decides
+returns-in-None-clause-decides g c =
+    let i = c.parses.invariant in
+    let o = c.tell.ensures.others in
+    let reads = reads_further g.R.Read.remaining g.G.Grammar.IsItem g.G.Grammar.meaning _ _ i.kept _ _ i.reads i.opened i.settings i.offset
+    _ i.waits c.if-self.false (omega (arith, c.len-held.ensures, c.if-self-held.false)) _
+    (c.wanted-wanted.ensures.wanted ∙ ap (wanted_of c.parses.self.settings c.parses.lacking) c.len-held.ensures)
+    ⊥ _ c.in-Ok.ensures.fills c.in-Ok.ensures.no_more (c.in-Ok.ensures.enough refl) in
+    decides_item g.R.Read.remaining g.G.Grammar.IsItem g.G.Grammar.meaning _ _ i.kept _ _ reads c.in-Ok.ensures.open
+    (c.in-Ok.ensures.settings ∙ i.settings) (c.in-Ok.ensures.offset ∙ i.offset)
+    _ _ c.take_again-taken.result _ c.in-None.ensures c.take_again-taken.ensures.takes c.take_again-taken.ensures.last c.tell.ensures.tells
+    o.1 o.0 o.2 c.tell.ensures.offset
+
+pub parses-preserved : goal.parses-preserved
+parses-preserved g c =
+    let i = c.parses.invariant in
+    let state = g.G.Grammar.state c.parses.grammar in
+    let held = c.take_again-taken.new.held in
+    let w = waits_there (g.G.Grammar.IsItem state) (g.G.Grammar.meaning state) c.fill.new.self.held held c.take_again-taken.result c.in-Some.needed
+    c.in-Some.ensures c.take_again-taken.ensures.stays c.take_again-taken.ensures.takes in
+    let reads = reads_further g.R.Read.remaining g.G.Grammar.IsItem g.G.Grammar.meaning _ _ i.kept _ _ i.reads i.opened i.settings i.offset
+    _ i.waits c.if-self.false (omega (arith, c.len-held.ensures, c.if-self-held.false)) _
+    (c.wanted-wanted.ensures.wanted ∙ ap (wanted_of c.parses.self.settings c.parses.lacking) c.len-held.ensures)
+    ⊥ _ c.in-Ok.ensures.fills c.in-Ok.ensures.no_more (c.in-Ok.ensures.enough refl) in
+    record {
+      kept = c.take_again-taken.ensures.kept ∙ i.kept;
+      opened = as_after (IsOpen g.R.Read.remaining) c.fill.new.self held w.0 c.in-Ok.ensures.open;
+      reads = as_after (λ z. Reads g.R.Read.remaining (g.G.Grammar.IsItem (g.G.Grammar.state c.args.grammar.now))
+          (g.G.Grammar.meaning (g.G.Grammar.state c.args.grammar.now)) c.args.self.now z ⊥) c.fill.new.self held w.0 reads;
+      waits = subst (λ z. Takes (g.G.Grammar.IsItem z) (g.G.Grammar.meaning z) true (held_of held) (held_of held) (Undecided c.in-Some.needed)) i.kept w.1;
+      settings = c.in-Ok.ensures.settings ∙ i.settings;
+      offset = c.in-Ok.ensures.offset ∙ i.offset;
+    }
