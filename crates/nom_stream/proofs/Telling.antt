@@ -1,5 +1,5 @@
 -- What is told of what is held.
-use Rattle.std.proofs.Common.{arith, ◌≡◌, ℕ, ◌+◌, ◌<◌, ◌≤◌, true, false, List, [], ◌++◌, length, Option, Err, refl, sym, ◌∙◌, ap, subst}
+use Rattle.std.proofs.Common.{arith, ◌≡◌, ℕ, ◌+◌, ◌<◌, ◌≤◌, true, false, List, ◌++◌, length, Option, Err, refl, sym, ◌∙◌, ap, subst}
 use Rattle.std.proofs.Common.{length-append, inl, inr}
 use Rattle.nom_error.specs.declared.answer.Needed.{Needed}
 use Rattle.nom_error.specs.declared.value.Error.{Error}
@@ -19,7 +19,7 @@ use Rattle.nom_stream.specs.Wanted.{most_read, wanted_of}
 use Rattle.nom_stream.specs.Streams.Answers.{Decided, AtEnd, Full, Unfilled}
 use Rattle.nom_stream.specs.Streams.Ends.{Completed}
 use Rattle.nom_stream.specs.Streams.ReadAsNeeded.{NoneRead, MoreRead}
-use Rattle.nom_stream.proofs.Reading.{gives_more, gives_none}
+use Rattle.nom_stream.proofs.Reading.{gives_more}
 
 module _ {R A V O : Type 0} (IsItem : V → O → Type 0) (m : Meaning Bytes V (Error Bytes)) (s t : Stream R A) where
   -- an item that is told of what is held as a complete input
@@ -136,15 +136,7 @@ module _ {R A State V O : Type 0} (left : R → Option (List ℕ)) (IsItem : Sta
       offset = count' ∙ offset;
     }
 
--- before anything was read
-pub none_read : {R A V O : Type 0} (left : R → Option (List ℕ)) (IsItem : V → O → Type 0) (m : Meaning Bytes V (Error Bytes)) (s : Stream R A)
-    (Unreadable : Type 0) → Reads left IsItem m s s Unreadable
-none_read left IsItem m s Unreadable = record { given = []; gives = gives_none left s s refl refl; as_needed = NoneRead refl refl }
-
 -- where all is held as it was, so is the stream
-pub as_before : {R A : Type 0} (P : Stream R A → Type 0) (s : Stream R A) (h : Held A) → h ≡ s.held → P (record s { held = h }) → P s
-as_before P s h e p = subst (λ z. P (record s { held = z })) e p
-
 pub as_after : {R A : Type 0} (P : Stream R A → Type 0) (s : Stream R A) (h : Held A) → h ≡ s.held → P s → P (record s { held = h })
 as_after P s h e p = subst (λ z. P (record s { held = z })) (sym e) p
 

@@ -73,25 +73,6 @@ pub fn take<A: Allocator, G: Grammar>(
     }
 }
 
-/// The same, for where speed is nothing: a grammar's code stands once in all such places.
-#[inline(never)]
-pub fn take_again<A: Allocator, G: Grammar>(
-    held: &mut Held<A>,
-    grammar: &mut G,
-    more: bool,
-) -> Taken<G::Item>
-    requires sound { (G.meaning (G.state grammar.old)).IsSound }
-    requires within { IsWithin held.old }
-    ensures kept { G.state grammar.new ≡ G.state grammar.old }
-    ensures within { IsWithin held.new }
-    ensures takes { Takes (G.IsItem (G.state grammar.old)) (G.meaning (G.state grammar.old)) more (held_of held.old) (held_of held.new) result }
-    ensures last { HoldsLast (held_of held.old) held.new result }
-    ensures bytes { held.new.bytes ≡ held.old.bytes }
-    ensures stays { Stays held.old held.new result }
-{
-    take(held, grammar, more)
-}
-
 /// What is needed where the bytes don't decide.
 #[inline(always)]
 pub fn needed_of<T>(taken: &Taken<T>) -> Option<Needed>

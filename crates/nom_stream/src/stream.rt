@@ -9,7 +9,7 @@ ghost use Rattle.nom_stream.specs.declared.step.Taken.TheVariants.{Undecided};
 use crate::grammar::Grammar;
 use crate::held::Held;
 use crate::settings::Settings;
-use crate::step::{Taken, needed_of, take, take_again};
+use crate::step::{Taken, needed_of, take};
 use nom_error::answer::Needed;
 use nom_error::kind::ErrorKind;
 use std::alloc::Allocator;
@@ -113,7 +113,8 @@ impl<R: Read, A: Allocator + Copy> Stream<R, A> {
 
     // Reads so many bytes, unless the reader comes to its end, or the limit is reached; some at least. No read is made once
     // they are there.
-    fn fill(&mut self, wants: usize) -> Result<(), Unread>
+    #[inline(never)]
+    fn read_wanted(&mut self, wants: usize) -> Result<(), Unread>
         requires open { IsOpen R.remaining self.old }
         requires some { 0 < wants }
         requires goes_on { self.old.ended ≡ false }
@@ -142,6 +143,25 @@ impl<R: Read, A: Allocator + Copy> Stream<R, A> {
         Ok(())
     }
 
+    // The same, with room for the answer as in `end`.
+    #[inline(always)]
+    fn fill(&mut self, wants: usize) -> Result<(), Unread>
+        requires open { IsOpen R.remaining self.old }
+        requires some { 0 < wants }
+        requires goes_on { self.old.ended ≡ false }
+        requires most { length (held_of self.old.held) < self.old.settings.most }
+        ensures open { IsOpen R.remaining self.new }
+        ensures fills { Fills R.remaining self.old self.new }
+        ensures enough { IsOk result → IsEnough (wants + length (held_of self.old.held)) self.new ⊥ }
+        ensures no_more { length (held_of self.new.held) < wants + length (held_of self.old.held) + most_read self.old.settings }
+        ensures memory { result ≡ Err Unread.OutOfMemory → LacksRoom self.new }
+        ensures some { IsOk result → (self.new.ended ≡ true) ⊎ (length (held_of self.old.held) < length (held_of self.new.held)) }
+        ensures settings { self.new.settings ≡ self.old.settings }
+        ensures offset { self.new.offset ≡ self.old.offset }
+    {
+        self.read_wanted(wants)
+    }
+
     // What is told of what was taken; the bytes of an item are counted.
     #[inline(always)]
     fn tell<T>(&mut self, taken: Taken<T>) -> Result<Option<(usize, T)>, Stop>
@@ -164,6 +184,7 @@ impl<R: Read, A: Allocator + Copy> Stream<R, A> {
     }
 
     // What is told at the end of the reader, where what is held isn't decided.
+    #[inline(never)]
     fn finish<G: Grammar>(
         &mut self,
         needed: Needed,
@@ -184,69 +205,27 @@ impl<R: Read, A: Allocator + Copy> Stream<R, A> {
         if !self.settings.complete {
             return Err(Stop::Incomplete(needed));
         }
-        let taken = take_again(&mut self.held, grammar, false);
+        let taken = take(&mut self.held, grammar, false);
         self.tell(taken)
     }
 
-    // Where what is held doesn't decide: more is read, and it is parsed again, until it does or can't.
-    #[inline(never)]
-    fn read_further<G: Grammar>(
-        &mut self,
-        needed: Needed,
-        grammar: &mut G,
-    ) -> Result<Option<(usize, G::Item)>, Stop>
-        requires sound { (G.meaning (G.state grammar.old)).IsSound }
-        requires open { IsOpen R.remaining self.old }
-        requires waits { Takes (G.IsItem (G.state grammar.old)) (G.meaning (G.state grammar.old)) true (held_of self.old.held)
-            (held_of self.old.held) (Undecided needed) }
-        ensures kept { G.state grammar.new ≡ G.state grammar.old }
-        ensures open { IsOpen R.remaining self.new }
-        ensures decides { Decides R.remaining (G.IsItem (G.state grammar.old)) (G.meaning (G.state grammar.old)) self.old self.new result }
-        ensures offset { self.new.offset ≡ counted self.old.offset result }
-        ensures last { IfOk result (λ r. IfSome r (λ p. p.0 ≤ self.new.held.start)) }
-        ensures settings { self.new.settings ≡ self.old.settings }
-    {
-        let mut lacking = needed;
-        'parses: loop {
-            if self.ended {
-                return self.finish(lacking, grammar);
-            }
-            let held = self.held.len();
-            if self.settings.most <= held {
-                return Err(Stop::TooLong);
-            }
-            let wanted = self.settings.wanted(lacking, held);
-            match self.fill(wanted) {
-                Ok(()) => {}
-                Err(why) => return unfilled(why),
-            }
-            let taken = take_again(&mut self.held, grammar, true);
-            lacking = match needed_of(&taken) {
-                Some(needed) => needed,
-                None => return self.tell(taken),
-            };
-        }
-    }
-
-    // The same. The room for the answer, which a fault makes large, is cleared here, and so not for each item.
+    // The same. It is here that the room for the answer is cleared, which a fault makes large, and so not for each item.
     #[inline(always)]
-    fn read_on<G: Grammar>(
+    fn end<G: Grammar>(
         &mut self,
         needed: Needed,
         grammar: &mut G,
     ) -> Result<Option<(usize, G::Item)>, Stop>
         requires sound { (G.meaning (G.state grammar.old)).IsSound }
         requires open { IsOpen R.remaining self.old }
-        requires waits { Takes (G.IsItem (G.state grammar.old)) (G.meaning (G.state grammar.old)) true (held_of self.old.held)
-            (held_of self.old.held) (Undecided needed) }
         ensures kept { G.state grammar.new ≡ G.state grammar.old }
         ensures open { IsOpen R.remaining self.new }
-        ensures decides { Decides R.remaining (G.IsItem (G.state grammar.old)) (G.meaning (G.state grammar.old)) self.old self.new result }
+        ensures ends { Ends (G.IsItem (G.state grammar.old)) (G.meaning (G.state grammar.old)) self.old self.new needed result }
         ensures offset { self.new.offset ≡ counted self.old.offset result }
         ensures last { IfOk result (λ r. IfSome r (λ p. p.0 ≤ self.new.held.start)) }
-        ensures settings { self.new.settings ≡ self.old.settings }
+        ensures others { (self.new.source ≡ self.old.source) × (self.new.settings ≡ self.old.settings) }
     {
-        self.read_further(needed, grammar)
+        self.finish(needed, grammar)
     }
 
     /// The next item, with how many bytes it has; none at the end of the data.
@@ -267,10 +246,24 @@ impl<R: Read, A: Allocator + Copy> Stream<R, A> {
         ensures last { IfOk result (λ r. IfSome r (λ p. p.0 ≤ self.new.held.start)) }
         ensures settings { self.new.settings ≡ self.old.settings }
     {
-        let taken = take(&mut self.held, grammar, true);
-        match needed_of(&taken) {
-            Some(needed) => self.read_on(needed, grammar),
-            None => self.tell(taken),
+        'parses: loop {
+            let taken = take(&mut self.held, grammar, true);
+            let needed = match needed_of(&taken) {
+                Some(needed) => needed,
+                None => return self.tell(taken),
+            };
+            if self.ended {
+                return self.end(needed, grammar);
+            }
+            let held = self.held.len();
+            if self.settings.most <= held {
+                return Err(Stop::TooLong);
+            }
+            let wanted = self.settings.wanted(needed, held);
+            match self.fill(wanted) {
+                Ok(()) => {}
+                Err(why) => return unfilled(why),
+            }
         }
     }
 

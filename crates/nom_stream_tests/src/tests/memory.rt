@@ -3,11 +3,12 @@
 use crate::tests::reader::{all, eager, steps};
 use crate::tests::wholes::{DATA, MESSAGES};
 use linked_list_allocator::LocalHeap;
+use nom_stream::settings::Settings;
 use nom_stream::stream::{Stop, Stream};
 use nom_stream_grammars::messages::Messages;
 use std::alloc::AllocError;
 
-/// Heaps of each size up to one that suffices: each growth of the buffer and of the room of a read is refused in turn.
+/// Heaps of each size up to one that suffices: each growth of the buffer is refused in turn.
 /// Each time the answer is want of memory, and the items before it are right.
 #[test]
 fn each_growth_refused(rt: HostRuntime) -> Result<(), AllocError> {
@@ -15,7 +16,11 @@ fn each_growth_refused(rt: HostRuntime) -> Result<(), AllocError> {
     let mut accepted = false;
     for units in 1..20usize {
         let heap = LocalHeap::new(rt.alloc(), units * 16)?;
-        let stream = Stream::new(&heap, steps(DATA, 5), eager());
+        let settings = Settings {
+            read: 40,
+            ..eager()
+        };
+        let stream = Stream::new(&heap, steps(DATA, 5), settings);
         let got = all(rt.alloc(), DATA, stream, &mut Messages);
         match got.stop {
             Some(Stop::OutOfMemory) => {

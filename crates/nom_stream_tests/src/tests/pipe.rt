@@ -164,7 +164,7 @@ fn memory_that_runs_out(rt: HostRuntime) -> Result<(), AllocError> {
     let last = &b"out of memory\n"[..];
     for (size, status) in [
         (1024usize, Err(RunError::OutOfMemory)),
-        (66608, Ok(3)),
+        (66576, Ok(3)),
         (131072, Ok(0)),
     ] {
         let heap = LocalHeap::new(rt.alloc(), size)?;

@@ -2,7 +2,7 @@ use Rattle.std.proofs.Common.{◌≡◌, ◌<◌, ◌+◌, ◌-◌, length, fals
 use Rattle.nom_stream.specs.Held.{held_of}
 use Rattle.nom_stream.specs.Streams.{Fills, IsOpen}
 use Rattle.nom_stream.specs.Wanted.{most_read}
-use Rattle.nom_stream.proofs.stream.Stream.fill.Given as goal
+use Rattle.nom_stream.proofs.stream.Stream.read_wanted.Given as goal
 
 abbrev pub invariant-loop-wanted : goal.invariant-loop-wanted
 invariant-loop-wanted g l = record {

@@ -1,9 +1,7 @@
-use Rattle.std.proofs.Common.{◌≡◌, true, length}
+use Rattle.std.proofs.Common.{◌≡◌, length}
 use Rattle.nom_stream.specs.Held.{held_of}
-use Rattle.nom_stream.specs.Items.{Takes}
 use Rattle.nom_stream.specs.Streams.{Reads, IsOpen, turns_left}
-use Rattle.nom_stream.specs.declared.step.Taken.TheVariants.{Undecided}
-use Rattle.nom_stream.proofs.stream.Stream.read_further.Given as goal
+use Rattle.nom_stream.proofs.stream.Stream.next_item.Given as goal
 
 abbrev pub invariant-parses : goal.invariant-parses
 invariant-parses g l = record {
@@ -11,8 +9,6 @@ invariant-parses g l = record {
   opened : IsOpen g.R.Read.remaining l.self;
   reads : Reads g.R.Read.remaining (g.G.Grammar.IsItem (g.G.Grammar.state l.fn.grammar))
       (g.G.Grammar.meaning (g.G.Grammar.state l.fn.grammar)) l.fn.self l.self ⊥;
-  waits : Takes (g.G.Grammar.IsItem (g.G.Grammar.state l.fn.grammar)) (g.G.Grammar.meaning (g.G.Grammar.state l.fn.grammar)) true
-      (held_of l.self.held) (held_of l.self.held) (Undecided l.lacking);
   settings : l.self.settings ≡ l.fn.self.settings;
   offset : l.self.offset ≡ l.fn.self.offset;
 }
