@@ -1,2 +1,3 @@
 mod Piped
 pub mod Reported
+mod Whole

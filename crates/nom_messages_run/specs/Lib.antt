@@ -1,2 +1,3 @@
 pub mod Pipe
 pub mod Report
+pub mod Whole

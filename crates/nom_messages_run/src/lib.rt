@@ -3,4 +3,5 @@
 #![tactic(auto)]
 
 pub mod pipe;
+pub mod promises;
 pub mod report;
