@@ -1,5 +1,6 @@
 //! `nom_bench FILE [ROUNDS]`: how fast the grammar of nom_records, runs, a search, decimal and binary numbers, a
-//! choice, a tuple, bit fields, settings and expressions go over a file, held in memory.
+//! choice, a tuple, bit fields, settings and expressions go over a file, held in memory; and how many items a second
+//! a stream gives.
 //!
 //! The grammar runs by `parse`, by `parse_complete`, and by `process` where nothing is built. By
 //! `parse_complete` also run a `take_while1` of all bytes before the first `;`, a `take_until` of all before
@@ -8,7 +9,8 @@
 //! finds, a list of tuples of four, as `<ab>`, a list of binary numbers of 32 bits, the highest byte first, and
 //! a list of pairs of bit fields, of 4 and of 12 bits. The grammar of nom_settings runs over the file as a text,
 //! and over that text with line and column; and sums of products of decimal numbers run by `precedence`, and
-//! by a fold of each level.
+//! by a fold of each level. Then come messages as those of nom_messages, and records, up to the first place that
+//! has none: by `parse` over the whole, and by a stream whose reader gives 1, 64, 4096 and 65536 bytes a read.
 //! Each runs ROUNDS times (7 where none are named), and a line for each tells how many items a list has, or
 //! the value of an expression, the bytes consumed, and the MB (10^6 bytes) a second of the best round. A file
 //! that isn't accepted gets `no records`, `no run`, `no needle`, `no word`, `no numbers`, `no bytes`, `no words`,
@@ -20,7 +22,9 @@
 
 mod located;
 mod precedence;
+mod streams;
 
+use crate::streams::Items;
 use nom::bits::{bits, complete as complete_bits};
 use nom::branch::alt;
 use nom::bytes::{tag, take_until, take_while1};
@@ -408,7 +412,8 @@ fn run(rt: &(impl Clock + Env + Files + Print + Alloc<A = Global>)) -> io::Resul
     ] {
         bench(rt, way, contents, rounds)?;
     }
-    Ok(())
+    streams::bench(rt, Items::Messages, &bytes, rounds)?;
+    streams::bench(rt, Items::Records, &bytes, rounds)
 }
 
 fn main(rt: HostRuntime) -> ExitCode {
