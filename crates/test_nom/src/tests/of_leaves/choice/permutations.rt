@@ -2,11 +2,12 @@
 //! those that `nom_answers` replays.
 
 use crate::tests::of_leaves::choice::steps::{are_steps, refusal_of};
-use nom::branch::permutation;
+use nom::branch::{Permutation, permutation};
 use nom::bytes::{Tag, tag, take};
 use nom::character::char;
 use nom::error::{Error, ErrorKind};
-use nom::{Input, Parser};
+use nom::sequence::preceded;
+use nom::{IResult, Input, Parser};
 use nom_rows::rows::{Answer, Content, Row, bytes, is_grown, wrong_row};
 use nom_trail::trail::Trail;
 
@@ -16,9 +17,16 @@ const TAG: ErrorKind = ErrorKind::Tag;
 
 const CHAR: ErrorKind = ErrorKind::Char;
 
+type Sign<'a> = Tag<&'a [u8], &'a [u8], At<'a>>;
+
 /// A tag.
-fn sign<'a>(text: &'a str) -> Tag<&'a [u8], &'a [u8], At<'a>> {
+fn sign<'a>(text: &'a str) -> Sign<'a> {
     tag(bytes(text))
+}
+
+/// Two tags in any order, by the type that a user names.
+fn signs<'a>() -> Permutation<(Sign<'a>, Sign<'a>)> {
+    permutation((sign("ab"), sign("c")))
 }
 
 /// Three parts in any order, the first two of one type.
@@ -160,7 +168,23 @@ fn errors_are_joined_and_closed(rt: HostRuntime) {
 
 #[test]
 fn an_input_that_grows(rt: HostRuntime) {
-    let parts = permutation((sign("ab"), sign("c")));
     let wanted = (1, (bytes("ab"), bytes("c")));
-    assert!(rt; is_grown(parts, bytes("cabX"), [1, 2, 4, 4], 2, wanted));
+    assert!(rt; is_grown(signs(), bytes("cabX"), [1, 2, 4, 4], 2, wanted));
+}
+
+/// At a text.
+fn of_text(input: &str) -> IResult<&str, (&str, &str)> {
+    let mut parts = permutation((tag("ab"), tag("c")));
+    parts.parse(input)
+}
+
+/// At bytes, within another parser.
+fn of_bytes(input: &[u8]) -> IResult<&[u8], (&[u8], &[u8])> {
+    preceded(sign("<"), signs()).parse_complete(input)
+}
+
+#[test]
+fn as_a_caller_writes_it(rt: HostRuntime) {
+    assert!(rt; of_text("cabx") == Ok(("x", ("ab", "c"))));
+    assert!(rt; of_bytes(bytes("<cab")) == Ok((bytes(""), (bytes("ab"), bytes("c")))));
 }
