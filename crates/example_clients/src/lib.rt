@@ -2,6 +2,7 @@
 //! ends, and that each parser may be run, the check finds by itself.
 #![tactic(auto)]
 
+pub mod closures;
 pub mod dates;
 pub mod packets;
 pub mod parts;

@@ -1,11 +1,13 @@
 //! Vectors of the grammars, by hand, and of the first two from their standards.
 
+use example_clients::closures::{Point, digit, minute, name, number as decimal, place};
 use example_clients::dates::{
     Date, Duration, Offset, Time, parse_date, parse_date_time, parse_duration,
 };
 use example_clients::packets::{MacAddress, TcpOption, ethernet, ipv4, tcp, tcp_option, udp};
 use example_clients::parts::{number, word};
-use nom::Err;
+use nom::error::{Error, ErrorKind};
+use nom::{Err, IResult};
 use std::net::Ipv4Addr;
 
 /// An Ethernet frame of a SYN from 192.168.1.2:49320 to 93.184.216.34:443.
@@ -184,10 +186,33 @@ fn durations(rt: HostRuntime) {
 fn functions_as_parts(rt: HostRuntime) {
     assert!(rt; number("12") == Ok(("", ("12", Some("")))));
     assert!(rt; number("12;") == Ok((";", ("12", None))));
-    assert!(rt; number(";").is_err());
+    assert!(rt; number(";") == refused(";", ErrorKind::Digit));
     assert!(rt; word("ab;") == Ok((";", "ab")));
     match word("ab") {
         Err(Err::Incomplete(_)) => {}
         _ => panic!(rt; "decided"),
     }
+}
+
+/// A refusal at the input, of a kind.
+fn refused<O>(input: &str, code: ErrorKind) -> IResult<&str, O> {
+    Err(Err::Error(Error { input, code }))
+}
+
+#[test]
+fn closures_on_outputs(rt: HostRuntime) {
+    assert!(rt; decimal("42;") == Ok((";", 42)));
+    assert!(rt; decimal("4294967295") == Ok(("", u32::MAX)));
+    assert!(rt; decimal("4294967296") == refused("4294967296", ErrorKind::MapRes));
+    assert!(rt; decimal("x") == refused("x", ErrorKind::Digit));
+    assert!(rt; place("3x4 ") == Ok((" ", Point { column: 3, row: 4 })));
+    assert!(rt; place("3y4") == refused("y4", ErrorKind::Tag));
+    assert!(rt; minute("59") == Ok(("", 59)));
+    assert!(rt; minute("60") == refused("60", ErrorKind::Verify));
+    assert!(rt; minute("256") == refused("256", ErrorKind::MapRes));
+    assert!(rt; digit("7a") == Ok(("a", 7)));
+    assert!(rt; digit("a7") == refused("a7", ErrorKind::MapOpt));
+    assert!(rt; digit("") == refused("", ErrorKind::Eof));
+    assert!(rt; name("é_1-") == Ok(("-", "é_1")));
+    assert!(rt; name("-") == refused("-", ErrorKind::TakeWhile1));
 }

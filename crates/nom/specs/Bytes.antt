@@ -94,7 +94,7 @@ take_while1_of = Leaves.take_while1_of seen_bytes kept
 abbrev pub all_consuming_of : {V O : Type 0} → BytesGrammar V O → BytesGrammar V O
 all_consuming_of = Grammars.all_consuming_of seen_bytes kept
 
--- a number of so many bytes, the highest first (true), or last
+-- a number of that many bytes, the highest first (true), or last
 abbrev pub number_of : (big : Bool) → ℕ → BytesGrammar ℕ ℕ
 number_of = Leaves.number_of seen_bytes kept
 

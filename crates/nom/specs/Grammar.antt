@@ -84,7 +84,7 @@ abbrev pub many0_of : {I A V O M E : Type 0} → Seen I A → Errors I E → Gra
 many0_of w errs g = record { meaning = many0_meaning w errs g.meaning; IsOutput = λ ts o. AllZip g.IsOutput ts o.items }
 
 module _ {I A E : Type 0} (w : Seen I A) (errs : Errors I E) where
-  -- a length, and so many items; `lack` is what is needed where there are fewer
+  -- a length, and that many items; `lack` is what is needed where there are fewer
   abbrev pub length_data_of : {V : Type 0} → (lack : ℕ → List A → Option ℕ) → Grammar I V ℕ E → Grammar I (V × Slice w) I E
   length_data_of lack g = record {
     meaning = length_data_meaning w errs lack (HasSize g.IsOutput (λ n. n)) g.meaning;

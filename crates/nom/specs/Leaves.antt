@@ -9,7 +9,7 @@ use Rattle.nom_traits.specs.Slices.{Slice}
 use Rattle.nom_bytes.specs.Tags.{tag_meaning}
 use Rattle.nom_bytes.specs.Takes.{take_meaning}
 use Rattle.nom_bytes.specs.ParsedRuns.{run1_meaning}
-use Rattle.nom_character.specs.Heads.{char_meaning}
+use Rattle.nom_first.specs.Heads.{char_meaning}
 use Rattle.nom_character.specs.ClassRuns.{class_meaning}
 use Rattle.nom_number.specs.Numbers.{unsigned_meaning}
 use Rattle.nom.specs.Grammar.{Grammar, sliced, valued}
@@ -38,6 +38,6 @@ module _ {I E : Type 0} (w : Seen I ℕ) (errs : Errors I E) where
   abbrev pub take_while1_of : (ℕ → Bool) → Grammar I (Slice w) I E
   take_while1_of test = sliced w (run1_meaning w (λ item b. b ≡ test item) (Unit {0}) errs Kind.TakeWhile1)
 
-  -- a number of so many bytes, the highest first (true), or last
+  -- a number of that many bytes, the highest first (true), or last
   abbrev pub number_of : (big : Bool) → ℕ → Grammar I ℕ ℕ E
   number_of big count = valued (unsigned_meaning w errs big count)

@@ -1,4 +1,4 @@
-//! Repetition, folds, and what stands behind a length.
+//! Repetition, folds, and what stands after a length.
 
 pub use nom_alloc::{FoldMany0Alloc, fold_many0_alloc};
 pub use nom_folds::{

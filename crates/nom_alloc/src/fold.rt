@@ -3,7 +3,7 @@ ghost use Rattle.std.specs.Prelude.{◌≡◌, List, ℕ, Ok};
 ghost use Rattle.nom_error.specs.Modes.{Built};
 ghost use Rattle.nom_folds.specs.Folded.{FoldGains, CanFold, IsStart, IsCarried};
 ghost use Rattle.nom_folds.specs.Folds.{Folds, AreCallable, FoldsAlike};
-ghost use Rattle.nom_alloc.specs.FoldAlloc.{fold_many0_alloc_meaning};
+ghost use Rattle.nom_alloc.specs.FoldAlloc.{LacksFor, LacksSome, fold_many0_alloc_meaning};
 
 use nom_error::answer::{OutOfMemory, PResult};
 use nom_error::kind::ErrorKind;
@@ -27,12 +27,11 @@ impl<'a, T: Drop, R: Drop, G: Fn(R, T) -> Result<R, OutOfMemory>> Keep<T> for Fo
 
     ghost CanKeep = { CanFold (λ k. k.value) (λ k. k.fold.now) G.pre };
 
-    // The closure alone knows where there is no memory.
-    ghost IsFull = { λ _. Unit {0} };
+    ghost IsFull = { λ k. LacksFor (G.post k.fold.now) };
 
-    ghost Grows = { Unit {0} };
+    ghost Grows = { LacksSome G.post };
 
-    ghost fills = { λ _ _. tt };
+    ghost fills = { λ k h. (k.fold.now, h) };
 
     #[inline(always)]
     fn keep(&mut self, item: T) -> bool {
@@ -114,7 +113,7 @@ where
 
     ghost IsOutput = { λ s. Folds (F.IsOutput s.0) (H.post s.1) (λ r x y. G.post s.2 r x (Ok y)) };
 
-    ghost meaning = { λ s. fold_many0_alloc_meaning I.seen F.Error.errors (AreCallable (H.pre s.1) (G.pre s.2)) (F.meaning s.0) };
+    ghost meaning = { λ s. fold_many0_alloc_meaning I.seen F.Error.errors (AreCallable (H.pre s.1) (G.pre s.2)) (LacksSome G.post) (F.meaning s.0) };
 
     ghost Pins = { λ s. F.Pins s.0 × FoldsAlike F.Output.view R.view (H.post s.1) (λ r x y. G.post s.2 r x (Ok y)) };
 
@@ -137,7 +136,8 @@ where
         Ok((rest, carried(last)))
     }
 
-    ghost lawful = { λ s k. fold_many0_alloc_lawful I.seen I.lawful F.Error.errors (AreCallable (H.pre s.1) (G.pre s.2)) (F.meaning s.0) (F.lawful s.0 k.0) };
+    ghost lawful = { λ s k. fold_many0_alloc_lawful I.seen I.lawful F.Error.errors (AreCallable (H.pre s.1) (G.pre s.2)) (LacksSome G.post) (F.meaning s.0)
+        (F.lawful s.0 k.0) };
 }
 
 impl<
@@ -152,5 +152,6 @@ impl<
 
     ghost pinned = { λ s k p. folds_pinned F.Output.view R.view (F.IsOutput s.0) (H.post s.1) (λ r x y. G.post s.2 r x (Ok y)) (F.pinned s.0 k.0 p.0) p.1 };
 
-    ghost steady = { λ s k. fold_many0_alloc_steady I.seen I.lawful F.Error.errors (AreCallable (H.pre s.1) (G.pre s.2)) (F.meaning s.0) (F.steady s.0 k.0) };
+    ghost steady = { λ s k. fold_many0_alloc_steady I.seen I.lawful F.Error.errors (AreCallable (H.pre s.1) (G.pre s.2)) (LacksSome G.post) (F.meaning s.0)
+        (F.steady s.0 k.0) };
 }

@@ -23,15 +23,15 @@ impl Literal {
 #[derive(Clone, Copy)]
 enum State {
     Plain,
-    /// Behind a backslash.
+    /// After a backslash.
     Escape,
-    /// Behind `\x`.
+    /// After `\x`.
     High,
-    /// Behind `\x` and the first digit.
+    /// After `\x` and the first digit.
     Low(u32),
-    /// Behind `\u`.
+    /// After `\u`.
     Open,
-    /// Behind `\u{` and digits.
+    /// After `\u{` and digits.
     Code(u32),
 }
 
@@ -56,7 +56,7 @@ fn escaped(c: char) -> Option<(State, Piece)> {
     }
 }
 
-/// What the next character of a literal means, and where the one behind it stands; none where a literal
+/// What the next character of a literal means, and where the one after it stands; none where a literal
 /// can't go on so.
 fn step(state: State, c: char) -> Option<(State, Piece)> {
     match state {

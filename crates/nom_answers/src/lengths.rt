@@ -1,4 +1,4 @@
-//! What stands behind a length.
+//! What stands after a length.
 
 pub mod behind;
 pub mod calls;

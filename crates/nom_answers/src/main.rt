@@ -43,11 +43,11 @@
 //!   characters, or two members of `member_of`.
 //! - A list is one of `lists::calls::call_of`, of an item that is a part of `part_of` or made of one as `item_of`
 //!   says; `lists::items` tells which lists are of which items. A fold counts the items: `zero` is 0, and `inc`
-//!   adds 1. What `fill` leaves in its buffer is told behind the answer; `in Check` it builds no output.
+//!   adds 1. What `fill` leaves in its buffer is told after the answer; `in Check` it builds no output.
 //! - A list of characters that a text or a queue gathers is one of `lists::gathered::gathering_of`. A fold does so
 //!   from the text `empty`, and `push` adds a character. `into String` and `into VecDeque` name the type of what
 //!   `many` answers.
-//! - What stands behind a length is one of `lengths::calls::kind_of`, of a length of `length_of` and, but for
+//! - What stands after a length is one of `lengths::calls::kind_of`, of a length of `length_of` and, but for
 //!   data and records, a part of `part_of`, as `lengths::read` has them. `digit_value` is the number that a digit
 //!   writes; `one` is 1, and `three` 3.
 //! - A field of bits has any count and pattern, alone or within `bits`, and is at most as wide as its type; other

@@ -35,7 +35,7 @@ fn comparison_text(alloc: Global, comparison: CompareResult) -> Option<String> {
 }
 
 /// The index of a count of characters. None too where the parts there aren't the front and the rest of
-/// the text, or the front isn't of so many characters.
+/// the text, or the front isn't of that many characters.
 fn index_of(text: &str, count: usize) -> Option<usize> {
     let index = text.slice_index(count).ok()?;
     let rest = text.take_from(index);

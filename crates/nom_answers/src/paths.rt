@@ -87,7 +87,7 @@ fn over_bytes<'a>(
     }
 }
 
-/// The module of a path, and the name behind it.
+/// The module of a path, and the name after it.
 fn module_of(path: &str) -> Option<(Module, &str)> {
     let (root, path) = path.split_once("::")?;
     place_of("bytes character", root)?;

@@ -4,7 +4,7 @@
 //!
 //! The grammar runs by `parse`, by `parse_complete`, and by `process` where nothing is built. By
 //! `parse_complete` also run a `take_while1` of all bytes before the first `;`, a `take_until` of all before
-//! the first `;;`, an `alphanumeric1`, a list of decimal numbers of 32 bits, each with a `,` behind it, such a
+//! the first `;;`, an `alphanumeric1`, a list of decimal numbers of 32 bits, each with a `,` after it, such a
 //! list with a `,` between two, a fold that counts bytes, a list of words, each of which an `alt` of eight tags
 //! finds, a list of tuples of four, as `<ab>`, a list of binary numbers of 32 bits, the highest byte first, and
 //! a list of pairs of bit fields, of 4 and of 12 bits. The grammar of nom_settings runs over the file as a text,
@@ -52,7 +52,7 @@ type BitFail<'a> = Error<(&'a [u8], usize)>;
 pub enum Made {
     /// One slice.
     Slice,
-    /// A list with so many items: 0 where none is built.
+    /// A list with that many items: 0 where none is built.
     Items(usize),
     /// The value of an expression.
     Value(i64),

@@ -1,4 +1,4 @@
-//! Items a second: of a reader that gives so many bytes a read, and of the whole at once.
+//! Items a second: of a reader that gives that many bytes a read, and of the whole at once.
 ghost use Rattle.nom_stream.specs.Streams.{IsOpen};
 
 use crate::Fail;
@@ -20,7 +20,7 @@ use std::io::Read;
 use std::rt::Clock;
 use std::time::Instant;
 
-/// Gives so many bytes a read at the most.
+/// Gives that many bytes a read at the most.
 #[derive(Clone, Copy)]
 struct Pieces<'b> {
     left: &'b [u8],
@@ -188,7 +188,7 @@ impl Items {
         }
     }
 
-    /// The items of a stream that reads so many bytes at a time.
+    /// The items of a stream that reads that many bytes at a time.
     fn of_stream(self, alloc: Global, bytes: &[u8], step: usize) -> Found {
         let stream = Stream::new(alloc, Pieces { left: bytes, step }, reads(step));
         match self {
@@ -206,7 +206,7 @@ fn speed(found: Found, nanoseconds: u128) -> u128 {
         .unwrap_or(0)
 }
 
-/// The rounds of one way, and the line that tells of them. It reads so many bytes at a time; 0 is the whole.
+/// The rounds of one way, and the line that tells of them. It reads that many bytes at a time; 0 is the whole.
 fn bench_reads(
     rt: &(impl Clock + Print + Alloc<A = Global>),
     items: Items,

@@ -87,7 +87,7 @@ module _ {I : Type 0} (w : Seen I ℕ) (l : InputLaws w) where
         let none : 0 + o ≡ o = omega arith in
         subst (λ m. IsRest (seen_bits w) (x, o) 0 (j, m % 8)) none (passed_within x o 0 j h (omega arith) (subst (λ m. Skips w x (m / 8) j) (sym none) s))
 
-    -- the pair behind a field that begins in its first byte, behind the position that begins there
+    -- the pair after a field that begins in its first byte, after the position that begins there
     stands_behind : (x : I) (o n : ℕ) (j : I) (rest : I × ℕ) → 0 < n → Skips w x (o / 8) j → StandsBehind w (j, o % 8) n rest → StandsBehind w (x, o) n rest
     stands_behind x o n j rest some s b = record {
       none = λ e. absurd (omega (arith, some, e));
@@ -95,7 +95,7 @@ module _ {I : Type 0} (w : Seen I ℕ) (l : InputLaws w) where
       bit = λ h. b.bit h ∙ omega arith;
     }
 
-    -- a field behind a position
+    -- a field after a position
     pub splits : (x : I) (o n : ℕ) (j : I) (rest : I × ℕ) → 0 < n → w.IsKnown x → Skips w x (o / 8) j → IsRest (seen_bits w) (j, o % 8) n rest →
         StandsBehind w (j, o % 8) n rest → SplitsAt w (x, o) n (j, o % 8) rest
     splits x o n j rest some h s r b =
@@ -107,7 +107,7 @@ module _ {I : Type 0} (w : Seen I ℕ) (l : InputLaws w) where
           rest_is = subst (λ m. IsRest (seen_bits w) (x, o) m rest) (omega arith) (rest_rest (seen_bits w) (bits_lawful w) (x, o) 0 (j, o % 8) n rest there r);
         }
 
-    -- fewer bits behind a position
+    -- fewer bits after a position
     pub few_behind : (x : I) (o n : ℕ) (j : I) → w.IsKnown x → Skips w x (o / 8) j → length ((seen_bits w).elements (j, o % 8)) < n →
         length ((seen_bits w).elements (x, o)) < n
     few_behind x o n j h s k = subst (λ bs. length bs < n) (at_once (x, o) (j, o % 8) (at_byte x o j h s)) k

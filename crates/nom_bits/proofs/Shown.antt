@@ -18,7 +18,7 @@ pub refuses_as : {E : Type 0} {P Q : E → Type 0} {Grows : Type 0} {errors : Bo
 refuses_as f (inl h) = inl h
 refuses_as {P = P} {Q = Q} {errors = errors} f (inr h) = inr (h.0, built_error errors P Q h.0 f h.1, h.2)
 
--- a number of so many bits fits a type of at least as many
+-- a number of that many bits fits a type of at least as many
 pub fits_width : (number count width : ℕ) → number < 2 ^ count → count ≤ width → number < 2 ^ width
 fits_width number count width h k = omega (arith, h, pow_mono {i = count} {j = width} k)
 

@@ -32,7 +32,7 @@ doubled a p = omega arith
 power_step : (a c p q x : ℕ) → c ≤ 1 → q ≡ p * 2 → x < (2 * a + c + 1) * p → x < (a + 1) * q
 power_step a c p q x h e k = subst (λ m. x < (a + 1) * m) (sym e) (omega (arith, k, once_more a c p, doubled a p, mul-le-mul_left p h))
 
--- and so many bits spell a number below their power of 2
+-- and that many bits spell a number below their power of 2
 pub spelled_below : (a : ℕ) (bs : List Bool) → spelled_after a bs < (a + 1) * 2 ^ length bs
 spelled_below a [] = omega arith
 spelled_below a (b ∷ bs) = power_step a (cond b 1 0) (2 ^ length bs) (2 ^ suc (length bs)) _ (bit_small b) (pow-suc 2 (length bs))
@@ -84,7 +84,7 @@ pub record IsSpelling {S : Type 0} (steps : S → Option ℕ → S → Type 0) (
   pub offset : 0 < left → passed < 8
   pub enough : 0 < left → passed + left ≤ 8 * length rest
 
--- so many bits of a byte are read: those that are left, or all of the byte's
+-- that many bits of a byte are read: those that are left, or all of the byte's
 pub reads_byte : (value left p n b : ℕ) (xs : List ℕ) → p < 8 → n ≡ left ⊎ p + n ≡ 8 → n ≤ left → p + n ≤ 8 →
     spelled_after value (take left (drop p (all_bits (b ∷ xs)))) ≡ spelled_after (spelled_after value (take n (drop p (byte_bits b))))
     (take (left - n) (all_bits xs))

@@ -38,7 +38,7 @@ module _ {I : Type 0} (w : Seen I ℕ) where
     pub counted : IsCount w x count end
     pub rest_is : IsRest w x end j
 
-  -- The pair behind the next bits of i, as many as count: behind none i itself, and else so many bytes on, at the bit that is
+  -- The pair after the next bits of i, as many as count: after none i itself, and else that many bytes on, at the bit that is
   -- next in its byte.
   pub record StandsBehind (i : I × ℕ) (count : ℕ) (rest : I × ℕ) : Type 0 where
     pub none : count ≡ 0 → rest ≡ i
@@ -56,7 +56,7 @@ module _ {I : Type 0} (w : Seen I ℕ) where
   pub bits_left : (x : I) (o : ℕ) → length ((seen_bits w).elements (x, o)) ≡ 8 * length (w.elements x) - o
   bits_left x o = length-drop o (all_bits (w.elements x)) ∙ ap (λ n. n - o) (length-all_bits (w.elements x))
 
-  -- so many bits are a front
+  -- that many bits are a front
   pub bits_place : (i : I × ℕ) (n : ℕ) → n ≤ length ((seen_bits w).elements i) → IsPlace (seen_bits w) i n
   bits_place i n h =
       let bs = (seen_bits w).elements i in

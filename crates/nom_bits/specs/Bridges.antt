@@ -129,7 +129,7 @@ module _ {E F : Type 0} (Converts : E → F → Type 0) where
   InBytes (Failure e) r = (f : F) × Converts e f × (r ≡ Failure f)
   InBytes OutOfMemory r = r ≡ OutOfMemory
 
--- a failure, since it is too large, or want of memory for its error
+-- a failure, since it is too large, or no memory for its error
 abbrev pub IsTooLargeAt : {I F : Type 0} → Errors I F → I → Answer.Err F (Option F) Needed → Type 0
 IsTooLargeAt {F = F} errs i r = ((f : F) × errs.of_kind i Kind.TooLarge f × (r ≡ Failure f)) ⊎ (errs.grows × (r ≡ OutOfMemory))
 

@@ -33,7 +33,7 @@ module _ {I : Type 0} (w : Seen I ℕ) where
       let there = first_related (seen_bits w) longer x y count t r first in
       record { field = f.field; rest = there.rest; whole = there.whole; count_is = f.count_is; number_is = f.number_is }
 
-  -- bits that lack in the complete mode lack on inputs that are seen alike
+  -- bits that lack in the complete mode lack on inputs that are equal as models
   short_alike : (longer s : Bool) → (longer ≡ true → s ≡ true) → (x y : I × ℕ) (count : ℕ) → Related (seen_bits w) longer x y → s ≡ false →
       IsShort w x count → IsShort w y count
   short_alike true true only x y count r e h = absurd (cc (e))

@@ -41,7 +41,7 @@ module _ {I : Type 0} (w : Seen I ℕ) where
   abbrev pub TagBlames : {E : Type 0} → Errors (I × ℕ) E → ℕ → I × ℕ → E → Type 0
   TagBlames errs count i e = (IsShort i count × errs.of_kind i Kind.Eof e) ⊎ ((count ≤ length ((seen_bits w).elements i)) × errs.of_kind i Kind.TagBits e)
 
-  -- a number takes so many bits at most: that is the premise
+  -- a number takes that many bits at most: that is the premise
   abbrev pub take_meaning : {E : Type 0} → Errors (I × ℕ) E → (width count : ℕ) → Meaning (I × ℕ) ℕ E
   take_meaning errs width count = leaf_meaning (count ≤ width) (λ i. errs.of_kind i Kind.Eof) errs.grows (fields count)
 

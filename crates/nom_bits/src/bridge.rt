@@ -7,6 +7,7 @@ ghost use Rattle.nom_bits.specs.BitRests.{bits_ahead};
 ghost use Rattle.nom_bits.specs.Bridges.{bits_meaning, bytes_meaning, bytes_needed, InBytes, InBits, IsNeed, IsTooLargeAt};
 ghost use Rattle.nom_bits.specs.BridgeLaws.{bits_of_lawful, bits_of_steady, bytes_of_lawful, bytes_of_steady};
 ghost use Rattle.nom_internal.specs.Mapped.{ConvertsSome};
+ghost use Rattle.nom_internal.specs.Results.{OfRest};
 
 use crate::convert::ErrorConvert;
 use crate::field::skipped;
@@ -188,6 +189,9 @@ where
     ghost Tree = { P.Tree };
 
     ghost IsOutput = { P.IsOutput };
+
+    /// It rests at a whole byte.
+    ghost Besides = { λ _ _ _ _. OfRest (λ rest. rest.1 ≡ 0) };
 
     ghost meaning = { λ s. bytes_meaning I.seen E.errors P.Error.converts (P.meaning s) };
 

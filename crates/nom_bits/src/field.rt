@@ -7,7 +7,7 @@ ghost use Rattle.nom_bits.specs.BitRests.{Skips, StandsBehind, SplitsAt};
 
 use nom_traits::input::Input;
 
-/// The input without its first `count` bytes, where there are so many.
+/// The input without its first `count` bytes, where there are that many.
 #[inline(always)]
 pub fn skipped<I: Input<Item = u8>>(input: I, count: usize) -> Option<I>
     ensures { MatchOption result (length (I.seen.elements input) < count) (Skips I.seen input count) }
@@ -18,7 +18,7 @@ pub fn skipped<I: Input<Item = u8>>(input: I, count: usize) -> Option<I>
     }
 }
 
-/// What follows `count` bits that begin in the first byte, where there are so many.
+/// What follows `count` bits that begin in the first byte, where there are that many.
 #[inline(always)]
 fn following<I: Input<Item = u8>>(start: (I, usize), count: usize) -> Option<(I, usize)>
     requires offset { start.1 < 8 }
@@ -49,7 +49,7 @@ pub struct Field<I> {
     pub rest: (I, usize),
 }
 
-/// Where the next `count` bits stand, where there are so many.
+/// Where the next `count` bits stand, where there are that many.
 #[inline(always)]
 pub fn next_field<I: Input<Item = u8>>(input: (I, usize), count: usize) -> Option<Field<I>>
     requires { count ≤ 128 }

@@ -6,6 +6,7 @@ ghost use Rattle.nom_error.specs.Modes.{modes};
 ghost use Rattle.nom_traits.specs.Bits.{seen_bits};
 ghost use Rattle.nom_internal.specs.Meaning.{ShowsMeaning};
 ghost use Rattle.nom_internal.specs.Pinned.{value_pinned};
+ghost use Rattle.nom_internal.specs.Results.{OfRest};
 ghost use Rattle.nom_bits.specs.BitRests.{StandsBehind};
 ghost use Rattle.nom_bits.specs.Fields.{take_meaning, tag_meaning, bool_meaning};
 ghost use Rattle.nom_bits.specs.FieldLaws.{take_lawful, take_steady, tag_lawful, tag_steady, bool_lawful, bool_steady};
@@ -21,7 +22,7 @@ use nom_internal::parser::{Parser, StreamParser};
 use nom_traits::input::Input;
 use std::marker::PhantomData;
 
-/// The number that so many bits spell; made by `take`.
+/// The number that as many bits spell; made by `take`.
 #[derive(Drop)]
 pub struct Take<I, O, E> {
     pub count: usize,
@@ -41,6 +42,9 @@ impl<I: Input<Item = u8>, O: BitUint, E: ParseError<(I, usize)>> Parser<(I, usiz
     ghost Tree = { ℕ };
 
     ghost IsOutput = { λ _ t v. v ≡ O.of_bits t };
+
+    /// The pair that is left.
+    ghost Besides = { λ _ old _ i. OfRest (StandsBehind I.seen i old.count) };
 
     ghost meaning = { λ count. take_meaning I.seen E.errors O.WIDTH count };
 
@@ -75,7 +79,7 @@ impl<I: Input<Item = u8>, O: BitUint, E: ParseError<(I, usize)>> StreamParser<(I
     ghost steady = { λ count k. take_steady I.seen E.errors O.WIDTH count };
 }
 
-/// A number that is wanted, spelled by so many bits; made by `tag`.
+/// A number that is wanted, spelled by that many bits; made by `tag`.
 #[derive(Drop)]
 pub struct Tag<I, O, E> {
     /// The number.
@@ -97,6 +101,9 @@ impl<I: Input<Item = u8>, O: BitUint, E: ParseError<(I, usize)>> Parser<(I, usiz
     ghost Tree = { ℕ };
 
     ghost IsOutput = { λ _ t v. v ≡ O.of_bits t };
+
+    /// The pair that is left.
+    ghost Besides = { λ _ old _ i. OfRest (StandsBehind I.seen i old.count) };
 
     ghost meaning = { λ s. tag_meaning I.seen E.errors O.WIDTH s.0 s.1 };
 
@@ -153,6 +160,9 @@ impl<I: Input<Item = u8>, E: ParseError<(I, usize)>> Parser<(I, usize)> for Bool
     ghost Tree = { Bool };
 
     ghost IsOutput = { λ _ t v. v ≡ t };
+
+    /// The pair that is left.
+    ghost Besides = { λ _ _ _ i. OfRest (StandsBehind I.seen i 1) };
 
     ghost meaning = { λ _. bool_meaning I.seen E.errors };
 

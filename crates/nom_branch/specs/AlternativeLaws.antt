@@ -2,10 +2,7 @@
 use Rattle.nom_error.specs.Errors.{Errors}
 use Rattle.nom_error.specs.declared.kind.ErrorKind.TheVariants.{Alt}
 use Rattle.nom_traits.specs.Input.{Seen}
-use Rattle.nom_traits.specs.View.{View}
 use Rattle.nom_internal.specs.Meaning.{Meaning, IsLawful, IsSteady}
-use Rattle.nom_internal.specs.Pinned.{IsPinned, either_pinned}
-use Rattle.nom_internal.specs.Choice.{EitherOutput}
 use Rattle.nom_internal.specs.CaseLaws.{closed_lawful, closed_steady}
 use Rattle.nom_internal.specs.ChoiceLaws.{either_lawful, either_steady}
 use Rattle.nom_branch.specs.Alternatives.{next_meaning, choice_meaning}
@@ -29,14 +26,3 @@ module _ {I A E : Type 0} {w : Seen I A} (e : Errors I E) where
 
   pub choice_steady : {V : Type 0} {m : Meaning I V E} → Stays w m → IsSteady w (choice_meaning e m)
   choice_steady {m = m} p = closed_steady w m (λ i. e.appended i Alt) e.grows p.steady
-
--- outputs that one tree stands for are seen alike, as a fact that names which they are
-pub record Pinning {V O : Type 0} (view : View O) (IsOutput : V → O → Type 0) : Type 0 where
-  pub pinned : IsPinned view IsOutput
-
-module _ {O : Type 0} {view : View O} where
-  pub pins : {V : Type 0} (IsOutput : V → O → Type 0) → IsPinned view IsOutput → Pinning view IsOutput
-  pins IsOutput h = record { pinned = h }
-
-  pub next_pins : {V W : Type 0} {F : V → O → Type 0} {G : W → O → Type 0} → Pinning view F → Pinning view G → Pinning view (EitherOutput F G)
-  next_pins {F = F} {G = G} f g = record { pinned = either_pinned view F G f.pinned g.pinned }

@@ -76,7 +76,7 @@ each_at P (x ∷ xs) zero s h l = subst P l h.0
 each_at P (x ∷ xs) (suc k) s h l = each_at P xs k s h.1 l
 
 module _ {S I V O E : Type 0} (e : Errors I E) (part : S → Meaning I V E) (view : View O) (IsOutput : S → V → O → Type 0) (Pins : S → Type 0) where
-  -- two outputs of one tree are seen alike, where each parser pins
+  -- two outputs of one tree are equal as viewed, where each parser pins
   pub list_pinned : ((s : S) → (part s).IsSound → Pins s → IsPinned view (IsOutput s)) → (ss : List S) → (list_meaning e part ss).IsSound →
       Each Pins ss → IsPinned view (ListOutput IsOutput ss)
   list_pinned f ss h p t a b x y =

@@ -2,14 +2,19 @@
 ghost use Rattle.std.specs.Prelude.{ℕ, List, map};
 ghost use Rattle.nom_choose.specs.Lists.{list_meaning, ListOutput, Each};
 
-use crate::branches::Choice;
 use nom_choose::choose;
 use nom_error::answer::PResult;
 use nom_error::mode::OutputMode;
 use nom_internal::parser::{Parser, StreamParser};
 use nom_traits::input::Items;
 
-impl<I: Items, A: Parser<I>> Parser<I> for Choice<&mut [A]> {
+/// The first of the parsers of an array or a slice that doesn't refuse, made by `alt`.
+#[derive(Drop)]
+pub struct AnyOf<L> {
+    pub parsers: L,
+}
+
+impl<I: Items, A: Parser<I>> Parser<I> for AnyOf<&mut [A]> {
     ghost use Rattle.nom_branch.specs.ListLaws.{list_lawful};
 
     type Output = A::Output;
@@ -18,7 +23,7 @@ impl<I: Items, A: Parser<I>> Parser<I> for Choice<&mut [A]> {
 
     ghost State = { List A.State };
 
-    ghost state = { λ p. map A.state p.parser.now };
+    ghost state = { λ p. map A.state p.parsers.now };
 
     // The place of the branch that is taken, and its tree.
     ghost Tree = { ℕ × A.Tree };
@@ -31,14 +36,14 @@ impl<I: Items, A: Parser<I>> Parser<I> for Choice<&mut [A]> {
 
     #[inline(always)]
     fn process<OM: OutputMode>(&mut self, input: I) -> PResult<I, Self::Output, Self::Error> {
-        let branches = &mut *self.parser;
+        let branches = &mut *self.parsers;
         choose::<I, A, OM>(branches, input)
     }
 
     ghost lawful = { list_lawful I.seen A.Error.errors A.meaning A.lawful };
 }
 
-impl<I: Items, A: StreamParser<I>> StreamParser<I> for Choice<&mut [A]> {
+impl<I: Items, A: StreamParser<I>> StreamParser<I> for AnyOf<&mut [A]> {
     ghost use Rattle.nom_branch.specs.ListLaws.{list_pinned, list_steady};
 
     ghost pinned = { list_pinned A.Error.errors A.meaning A.Output.view A.IsOutput A.Pins A.pinned };
@@ -46,7 +51,7 @@ impl<I: Items, A: StreamParser<I>> StreamParser<I> for Choice<&mut [A]> {
     ghost steady = { list_steady I.seen A.Error.errors A.meaning A.steady };
 }
 
-impl<I: Items, A: Parser<I>, const N: usize> Parser<I> for Choice<[A; N]> {
+impl<I: Items, A: Parser<I>, const N: usize> Parser<I> for AnyOf<[A; N]> {
     ghost use Rattle.nom_branch.specs.ListLaws.{list_lawful};
 
     type Output = A::Output;
@@ -55,7 +60,7 @@ impl<I: Items, A: Parser<I>, const N: usize> Parser<I> for Choice<[A; N]> {
 
     ghost State = { List A.State };
 
-    ghost state = { λ p. map A.state p.parser };
+    ghost state = { λ p. map A.state p.parsers };
 
     ghost Tree = { ℕ × A.Tree };
 
@@ -67,13 +72,13 @@ impl<I: Items, A: Parser<I>, const N: usize> Parser<I> for Choice<[A; N]> {
 
     #[inline(always)]
     fn process<OM: OutputMode>(&mut self, input: I) -> PResult<I, Self::Output, Self::Error> {
-        choose::<I, A, OM>(&mut self.parser, input)
+        choose::<I, A, OM>(&mut self.parsers, input)
     }
 
     ghost lawful = { list_lawful I.seen A.Error.errors A.meaning A.lawful };
 }
 
-impl<I: Items, A: StreamParser<I>, const N: usize> StreamParser<I> for Choice<[A; N]> {
+impl<I: Items, A: StreamParser<I>, const N: usize> StreamParser<I> for AnyOf<[A; N]> {
     ghost use Rattle.nom_branch.specs.ListLaws.{list_pinned, list_steady};
 
     ghost pinned = { list_pinned A.Error.errors A.meaning A.Output.view A.IsOutput A.Pins A.pinned };

@@ -20,7 +20,7 @@ abbrev pub IsAtBound : Option ℕ → ℕ → Type 0
 IsAtBound (Some most) count = count ≡ most
 IsAtBound None count = ⊥
 
--- a number of items, with so many behind them, is enough: as many as are wanted at least, or as many as the bound, and an item behind
+-- a number of items, with so many after them, is enough: as many as are wanted at least, or as many as the bound, and an item after
 abbrev pub IsEnough : (least : ℕ) (bound : Option ℕ) (count behind : ℕ) → Type 0
 IsEnough least bound count behind = (least ≤ count) ⊎ (IsAtBound bound count × (0 < behind))
 

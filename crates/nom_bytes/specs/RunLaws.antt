@@ -20,7 +20,7 @@ stops_longer Ends [] more h s = absurd (omega (arith, h))
 stops_longer Ends (x ∷ rest) more h s = s
 
 module _ (least : ℕ) (bound : Option ℕ) where
-  -- whether items are enough depends on whether one is behind them
+  -- whether items are enough depends on whether one is after them
   enough_with : (count a b : ℕ) → (0 < a → 0 < b) → IsEnough least bound count a → IsEnough least bound count b
   enough_with count a b f (inl h) = inl h
   enough_with count a b f (inr h) = inr (h.0, f h.1)

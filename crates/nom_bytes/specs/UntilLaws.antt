@@ -22,7 +22,7 @@ module _ {I A T : Type 0} (w : Seen I A) (Finds : T → List A → Option ℕ �
       let same : ◌≡◌ {A = Option ℕ} (Some n) None = f.one needle i (Some n) None h a b in
       cc (same)
 
-  -- a place that is found is found in what is longer, or seen alike
+  -- a place that is found is found in what is longer, or equal as models
   found_stays : (longer : Bool) (x y : I) (n : ℕ) → w.IsKnown x → w.IsKnown y → Related w longer x y → Finds needle (w.elements x) (Some n) →
       Finds needle (w.elements y) (Some n)
   found_stays longer x y n = open_stays w (λ xs. Finds needle xs (Some n)) (λ x y. f.found_stays needle x y n) longer x y

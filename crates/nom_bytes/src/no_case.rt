@@ -26,7 +26,7 @@ impl<T: Copy, I: Input + Compare<T>, E: ParseError<I>> Parser<I> for TagNoCase<T
 
     type Error = E;
 
-    // Tags that are seen alike are one parser.
+    // Tags that are equal as models are one parser.
     ghost State = { I.Tag };
 
     ghost state = { λ p. I.tag_seen p.tag };

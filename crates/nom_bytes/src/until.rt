@@ -27,7 +27,7 @@ impl<T: Copy, I: Input + FindSubstring<T>, E: ParseError<I>> Parser<I> for TakeU
 
     type Error = E;
 
-    // Needles that are seen alike are one parser.
+    // Needles that are equal as models are one parser.
     ghost State = { I.Needle };
 
     ghost state = { λ p. I.needle_seen p.tag };
@@ -72,7 +72,7 @@ impl<T: Copy, I: Input + FindSubstring<T>, E: ParseError<I>> Parser<I> for TakeU
 
     type Error = E;
 
-    // Needles that are seen alike are one parser.
+    // Needles that are equal as models are one parser.
     ghost State = { I.Needle };
 
     ghost state = { λ p. I.needle_seen p.tag };

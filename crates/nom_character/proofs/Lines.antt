@@ -12,8 +12,8 @@ use Rattle.nom_traits.specs.Runs.{EndsAt}
 use Rattle.nom_traits.specs.Rests.{same_cut, rest_rest}
 use Rattle.nom_character.specs.declared.line.Sighted.{Sighted}
 use Rattle.nom_character.specs.declared.line.Sighted.TheVariants as Found
-use Rattle.nom_character.specs.Heads.{IsHead}
-use Rattle.nom_character.specs.HeadLaws.{one_head}
+use Rattle.nom_first.specs.Heads.{IsHead}
+use Rattle.nom_first.specs.HeadLaws.{one_head}
 use Rattle.nom_character.specs.Sights.{Sight, at_end, one_more, after_return, crlf_in, line_ending_in, line_in, is_line_code, IsSighted, IsNewline, IsLineEnd}
 use Rattle.nom_character.specs.Sights.Sight.{Stands, Absent, Begins}
 
@@ -74,7 +74,7 @@ module _ {I A : Type 0} (w : Seen I A) (l : InputLaws w) where
         let front = before_rest i j (w.weight x) (x ∷ []) r whole one in
         (w.weight x, r, e ∙ ap Stands (sym (ap length front)))
 
-    -- the first item, with an `\n` wanted behind it
+    -- the first item, with an `\n` wanted after it
     pub return_shown : (lack : Option ℕ) → sight s (w.elements i) ≡ after_return code s (Stands 2) lack (w.elements j) → (found : Sighted I) →
         IsNewline w code s lack j found → IsSighted w sight s i found
     return_shown lack e (Found.Stands k) h =
@@ -108,7 +108,7 @@ module _ {I A : Type 0} (w : Seen I A) (l : InputLaws w) where
       by_true (code x == 10) (Stands 1) (cond (code x == 13) (after_return code s (Stands 2) (Some 2) (w.elements j)) Absent) t in
       one_stands code s (line_ending_in code) i j x p r e
 
--- so many items before
+-- that many items before
 abbrev later : Sight → ℕ → Sight
 later (Stands n) k = Stands (n + k)
 later Absent k = Absent
@@ -145,7 +145,7 @@ module _ {A : Type 0} (code : A → ℕ) (s : Bool) where
   abbrev Passes : A → Type 0
   Passes x = is_line_code (code x) ≡ false
 
-  -- behind items that end no line it is as without them, so many items later
+  -- after items that end no line it is as without them, that many items later
   past : (xs ys : List A) → All Passes xs → line_in code s (xs ++ ys) ≡ later (line_in code s ys) (length xs)
   past [] ys h = sym (later_none (line_in code s ys))
   past (x ∷ xs) ys h =

@@ -10,7 +10,7 @@ use Rattle.nom_internal.specs.Meaning.{Meaning}
 use Rattle.nom_internal.specs.Leaf.{Leaf, leaf_meaning}
 use Rattle.nom_character.specs.declared.line.Sighted.{Sighted}
 use Rattle.nom_character.specs.declared.line.Sighted.TheVariants as Found
-use Rattle.nom_character.specs.Heads.{IsHead}
+use Rattle.nom_first.specs.Heads.{IsHead}
 
 -- the first items, so many, are it; no list that begins so has it; or a longer list may have it, for which a size lacks, or an unknown one
 pub data Sight : Type 0 where
@@ -73,7 +73,7 @@ module _ {I A E : Type 0} (w : Seen I A) (code : A → ℕ) (errs : Errors I E) 
   abbrev pub line_meaning : Meaning I (Slice w) E
   line_meaning = sight_meaning w (line_in code) errs Kind.Tag
 
--- what was found at an input: the rest behind what stands there, or why there is none
+-- what was found at an input: the rest after what stands there, or why there is none
 abbrev pub IsSighted : {I A : Type 0} → Seen I A → (Bool → List A → Sight) → Bool → I → Sighted I → Type 0
 IsSighted w sight s i (Found.Stands j) = (n : ℕ) × (r : IsRest w i n j) × (sight s (w.elements i) ≡ Stands (length r.front))
 IsSighted w sight s i Found.Absent = sight s (w.elements i) ≡ Absent
@@ -90,7 +90,7 @@ IsNewline w code s lack i (Found.Begins k) = (s ≡ true) × ((found : Sight) �
 abbrev pub is_line_code : ℕ → Bool
 is_line_code c = c == 10 || c == 13
 
--- what was found at an input that begins with an '\n' or an '\r': all of it stands behind the line before
+-- what was found at an input that begins with an '\n' or an '\r': all of it stands after the line before
 abbrev pub IsLineEnd : {I A : Type 0} → Seen I A → (code : A → ℕ) → Bool → I → Sighted I → Type 0
 IsLineEnd w code s i (Found.Stands j) = (j ≡ i) × (line_in code s (w.elements i) ≡ Stands 0)
 IsLineEnd w code s i Found.Absent = line_in code s (w.elements i) ≡ Absent

@@ -4,7 +4,7 @@ ghost use Rattle.nom_traits.specs.Slices.{IsSeenAs};
 ghost use Rattle.nom_traits.specs.View.{itself};
 ghost use Rattle.nom_func.specs.Func.{AnswersBy};
 ghost use Rattle.nom_character.specs.ClassRuns.{class_meaning};
-ghost use Rattle.nom_character.specs.Heads.{any_meaning, char_meaning};
+ghost use Rattle.nom_first.specs.Heads.{any_meaning, char_meaning};
 ghost use Rattle.nom_character.specs.Sights.{crlf_meaning, line_ending_meaning, line_meaning};
 
 use crate::class::ClassRun;
@@ -323,7 +323,7 @@ where
 
 /// The items before the first `\n` or `\r\n`; there may be none.
 ///
-/// Where there is none, all items are accepted. An `\r` that comes first, with no `\n` behind it, is
+/// Where there is none, all items are accepted. An `\r` that comes first, with no `\n` after it, is
 /// refused with `Tag`.
 #[inline(always)]
 pub fn not_line_ending<T: Input, E: ParseError<T>>(input: T) -> IResult<T, T, E>

@@ -6,11 +6,10 @@ ghost use Rattle.nom_traits.specs.Classes.{is_alpha_code, is_alphanum_code, is_b
 ghost use Rattle.nom_traits.specs.Classes.{is_oct_digit_code, is_space_code};
 ghost use Rattle.nom_traits.specs.View.{itself};
 ghost use Rattle.nom_func.specs.Func.{AnswersBy};
-ghost use Rattle.nom_character.specs.Heads.{any_meaning};
+ghost use Rattle.nom_first.specs.Heads.{any_meaning};
 
 mod class;
 pub mod complete;
-pub mod first;
 mod line;
 mod line_ends;
 mod one;

@@ -6,16 +6,16 @@ ghost use Rattle.nom_error.specs.declared.kind.ErrorKind.TheVariants as Kind;
 ghost use Rattle.nom_traits.specs.Slices.{Slice, IsSeenAs};
 ghost use Rattle.nom_internal.specs.Meaning.{ShowsMeaning};
 ghost use Rattle.nom_internal.specs.Pinned.{slice_pinned};
-ghost use Rattle.nom_character.specs.Heads.{IsHead};
+ghost use Rattle.nom_first.specs.Heads.{IsHead};
 ghost use Rattle.nom_character.specs.Sights.{Sight, IsSighted, IsNewline, IsLineEnd, is_line_code, sight_meaning, crlf_in, crlf_meaning};
 ghost use Rattle.nom_character.specs.Sights.{line_ending_in, line_ending_meaning, line_in, line_meaning};
 ghost use Rattle.nom_character.specs.SightLaws.{sight_lawful, sight_steady, crlf_laws, line_ending_laws, line_laws};
 
-use crate::first::{behind, first};
 use nom_error::answer::{Err, Needed, PResult};
 use nom_error::kind::ErrorKind;
 use nom_error::mode::{IsStreaming, OutputMode};
 use nom_error::value::{ParseError, refusal};
+use nom_first::first::{behind, first};
 use nom_internal::parser::{Parser, StreamParser};
 use nom_internal::slices::before;
 use nom_traits::character::AsChar;
@@ -25,7 +25,7 @@ use std::marker::PhantomData;
 /// What was found at the start of an input.
 #[derive(Drop)]
 pub enum Sighted<I> {
-    /// What is sought, with the rest behind it.
+    /// What is sought, with the rest after it.
     Stands(I),
     /// Something else.
     Absent,
@@ -103,7 +103,7 @@ where
 }
 
 /// The end of a line at the start of an input whose first item is `\r` or `\n`: all of it is what
-/// stands behind the line before.
+/// stands after the line before.
 #[inline(always)]
 fn line_end_at<I: Input, S: IsStreaming>(input: I) -> Sighted<I>
 where

@@ -4,7 +4,7 @@ ghost use Rattle.nom_traits.specs.Slices.{IsSeenAs};
 ghost use Rattle.nom_traits.specs.View.{itself};
 ghost use Rattle.nom_func.specs.Func.{StreamsBy};
 ghost use Rattle.nom_character.specs.ClassRuns.{class_meaning};
-ghost use Rattle.nom_character.specs.Heads.{any_meaning, char_meaning};
+ghost use Rattle.nom_first.specs.Heads.{any_meaning, char_meaning};
 ghost use Rattle.nom_character.specs.Sights.{crlf_meaning, line_ending_meaning, line_meaning};
 
 use crate::class::ClassRun;
@@ -331,8 +331,8 @@ where
 
 /// The items before the first `\n` or `\r\n`; there may be none.
 ///
-/// Where there is none, or where the input ends behind an `\r`, it asks for more, and can't tell how much.
-/// An `\r` that comes first, with another item behind it than `\n`, is refused with `Tag`.
+/// Where there is none, or where the input ends after an `\r`, it asks for more, and can't tell how much.
+/// An `\r` that comes first, with another item after it than `\n`, is refused with `Tag`.
 #[inline(always)]
 pub fn not_line_ending<T: Input, E: ParseError<T>>(input: T) -> IResult<T, T, E>
 where

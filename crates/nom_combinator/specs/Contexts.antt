@@ -4,7 +4,7 @@ use Rattle.nom_error.specs.declared.answer.Needed.{Needed}
 use Rattle.nom_error.specs.declared.answer.Err as Answer
 use Rattle.nom_error.specs.declared.answer.Err.TheVariants as Variant
 
--- an error made of another, which is answered in its place, or want of memory
+-- an error made of another, which is answered in its place, or that memory ran out
 abbrev pub Makes : {E : Type 0} → (E → E → Type 0) → Type 0 → (E → Answer.Err E (Option E) Needed) → E → Answer.Err E (Option E) Needed → Type 0
 Makes {E} Named Grows answer x r = ((r ≡ Variant.OutOfMemory) × Grows) ⊎ ((e : E) × Named x e × (r ≡ answer e))
 

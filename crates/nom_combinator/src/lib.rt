@@ -77,7 +77,7 @@ pub fn recognize<F>(parser: F) -> Recognize<F>
     Recognize { parser }
 }
 
-/// A parser's output, behind the slice of the input that it consumes.
+/// A parser's output, after the slice of the input that it consumes.
 #[inline(always)]
 pub fn consumed<F>(parser: F) -> Consumed<F>
     ensures { result.parser ≡ parser }

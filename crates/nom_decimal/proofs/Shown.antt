@@ -16,7 +16,7 @@ use Rattle.nom_decimal.specs.Read.{BehindSign, IsRead, IsUnfit}
 
 module _ {I A T : Type 0} (w : Seen I A) (l : InputLaws w) (code : A → ℕ) (signed : Bool) (value : T → ℤ) (fits : ℤ → Type 0) (i : I) (u : Unsigned I)
     (b : BehindSign w code signed i u) where
-  -- what is said of the list behind the sign is said of the input
+  -- what is said of the list after the sign is said of the input
   same_integer : with_sign u.negative (number_of code (digits_of code (w.elements u.digits))) ≡ integer_of code signed (w.elements i)
   same_integer = ap (λ s. with_sign s (number_of code (digits_of code (w.elements u.digits)))) b.negative_is ∙
       ap (λ xs. with_sign (is_negative code signed (w.elements i)) (number_of code (digits_of code xs))) b.elements_are

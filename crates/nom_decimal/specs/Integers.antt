@@ -50,7 +50,7 @@ module _ {A : Type 0} (code : A → ℕ) (signed : Bool) where
   is_negative [] = false
   is_negative (x ∷ xs) = signed && code x == 45
 
-  -- the digits behind the sign, what follows them, and the number that both write
+  -- the digits after the sign, what follows them, and the number that both write
   abbrev pub integer_digits : List A → List A
   integer_digits xs = digits_of code (after_sign xs)
 

@@ -5,7 +5,7 @@ use Rattle.nom_decimal.specs.declared.integer.Unsigned.{Unsigned}
 use Rattle.nom_decimal.specs.declared.integer.Number.{Number}
 use Rattle.nom_decimal.specs.Integers.{digits_of, after_digits, number_of, with_sign, sign_of, after_sign, is_negative}
 
--- the input behind its sign, and whether that is a minus
+-- the input after its sign, and whether that is a minus
 pub record BehindSign {I A : Type 0} (w : Seen I A) (code : A → ℕ) (signed : Bool) (i : I) (u : Unsigned I) : Type 0 where
   pub rest_is : IsRest w i (span w.weight (sign_of code signed (w.elements i))) u.digits
   pub elements_are : w.elements u.digits ≡ after_sign code signed (w.elements i)

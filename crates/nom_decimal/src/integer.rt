@@ -8,11 +8,11 @@ ghost use Rattle.nom_decimal.specs.Integers.{with_sign, sign_of, integer_meaning
 ghost use Rattle.nom_decimal.specs.IntegerLaws.{integer_lawful, integer_steady, range_of};
 ghost use Rattle.nom_decimal.specs.Read.{BehindSign, IsRead, IsUnfit};
 
-use nom_character::first::first;
 use nom_error::answer::{Err, Needed, PResult};
 use nom_error::kind::ErrorKind;
 use nom_error::mode::{IsStreaming, Mode, OutputMode};
 use nom_error::value::{ParseError, refusal};
+use nom_first::first::first;
 use nom_internal::parser::{Parser, StreamParser};
 use nom_traits::character::AsChar;
 use nom_traits::input::Input;
@@ -20,7 +20,7 @@ use nom_traits::view::Viewed;
 use num_traits::{NumCast, PrimInt, Zero};
 use std::marker::PhantomData;
 
-/// The number with one more digit behind its own; `None` where the type doesn't have it.
+/// The number with one more digit after its own; `None` where the type doesn't have it.
 #[inline(always)]
 fn followed_by<T: PrimInt>(number: T, digit: u8, negative: bool) -> Option<T>
     requires digit { digit < 10 }
@@ -63,16 +63,16 @@ where
     }
 }
 
-/// What stands behind a sign.
+/// What stands after a sign.
 #[derive(Drop)]
 pub struct Unsigned<I> {
     /// Whether the sign is a minus.
     pub negative: bool,
-    /// The input behind the sign.
+    /// The input after the sign.
     pub digits: I,
 }
 
-/// The input behind its sign, where one may stand first.
+/// The input after its sign, where one may stand first.
 #[inline(always)]
 fn behind_sign<I: Input>(input: I, signed: bool) -> Unsigned<I>
 where

@@ -5,10 +5,10 @@ use Rattle.std.specs.Iterator.{AlwaysYields}
 use Rattle.std.proofs.lemmas.Bool.Decides.{nat_tests}
 use Rattle.std.proofs.lemmas.List.{map-append}
 use Rattle.nom_traits.specs.Digits.{digits_after, value_of, value_more}
-use Rattle.nom_character.proofs.Firsts.{some_given, none_given}
+use Rattle.nom_first.proofs.Firsts.{some_given, none_given}
 use Rattle.nom_digits.specs.Hex.{hex_value, hex_number}
 
--- how many numbers so many digits write
+-- how many numbers that many digits write
 abbrev room : ℕ → ℕ
 room zero = 1
 room (suc k) = 16 * room k

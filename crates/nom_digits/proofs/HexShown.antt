@@ -20,7 +20,7 @@ use Rattle.nom_digits.specs.Hex.{hex_number, FirstEight, hex_meaning}
 use Rattle.nom_digits.specs.HexLaws.{eight_place}
 
 module _ {I A : Type 0} (w : Seen I A) (l : InputLaws w) where
-  -- a front of so many items
+  -- a front of that many items
   pub count_front : (count : ℕ) (i : I) (n : ℕ) (j : I) → IsCount w i count n → IsFront w i n j → w.elements j ≡ take count (w.elements i)
   count_front count i n j c f =
       let cut = same_cut w.weight l.positive (w.elements j) f.rest c.place.front c.place.rest (sym f.whole ∙ c.place.whole)

@@ -1,4 +1,4 @@
--- Zeros before and behind digits, one by one.
+-- Zeros before and after digits, one by one.
 use Rattle.std.proofs.Common.{◌≡◌, ℕ, ◌+◌, ◌<◌, ◌≤◌, ◌==◌, Bool, true, false, cond, Option, Some, None, List, [], ◌∷◌, ◌++◌, length, refl, sym, ◌∙◌}
 use Rattle.std.proofs.Common.{ap, arith, append_assoc, append-nil, length-append}
 use Rattle.std.specs.Iterator.{AlwaysYields}
@@ -6,7 +6,7 @@ use Rattle.std.proofs.lemmas.Bool.Decides.{nat_tests}
 use Rattle.nom_traits.specs.Input.{Seen, InputLaws, IsFront, IsPlace, IsRest, span}
 use Rattle.nom_traits.specs.Rests.{same_cut, span-append}
 use Rattle.nom_traits.specs.Slices.{Slice, IsSeenAs}
-use Rattle.nom_character.proofs.Firsts.{some_given, none_given}
+use Rattle.nom_first.proofs.Firsts.{some_given, none_given}
 use Rattle.nom_digits.specs.Parts.{integer_of, zeros_of, kept_before, trimmed, fraction_of, integer_slice, fraction_slice}
 
 is_zero : (c : ℕ) → c ≡ 48 → (c == 48) ≡ true
@@ -240,6 +240,7 @@ module _ {I A : Type 0} (w : Seen I A) (l : InputLaws w) (code : A → ℕ) (i :
       let cut = same_cut w.weight l.positive r.front (w.elements j) (zeros_of code (w.elements i)) (integer_of code (w.elements i))
       (sym r.whole ∙ integer_whole code (w.elements i)) (r.length_is ∙ e) in
       record {
+        known = r.known;
         elements_are = cut.1 ∙ ap (integer_of code) s.elements_are;
         mark_is = r.mark_is ∙ (ap (λ m. w.mark_after m r.front) s.mark_is ∙ ap (w.mark_after t.mark) (cut.0 ∙ ap (zeros_of code) s.elements_are));
       }
@@ -253,4 +254,4 @@ module _ {I A : Type 0} (w : Seen I A) (l : InputLaws w) (code : A → ℕ) (i :
   fraction_seen j t e f s =
       let whole = fraction_whole code (w.elements i) in
       let cut = same_cut w.weight l.positive (w.elements j) f.rest (fraction_of code (w.elements i)) whole.0 (sym f.whole ∙ whole.1) (f.length_is ∙ e) in
-      record { elements_are = cut.0 ∙ ap (fraction_of code) s.elements_are; mark_is = f.mark_is ∙ s.mark_is }
+      record { known = f.known; elements_are = cut.0 ∙ ap (fraction_of code) s.elements_are; mark_is = f.mark_is ∙ s.mark_is }

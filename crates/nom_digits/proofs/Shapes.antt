@@ -10,7 +10,7 @@ use Rattle.nom_internal.specs.Meaning.{Meaning, ShowsMeaning}
 use Rattle.nom_internal.specs.Recognized.{recognized_meaning}
 use Rattle.nom_internal.specs.Sequence.{pair_meaning}
 use Rattle.nom_branch.specs.Alternatives.{next_meaning, choice_meaning}
-use Rattle.nom_character.specs.Heads.{char_meaning}
+use Rattle.nom_first.specs.Heads.{char_meaning}
 use Rattle.nom_combinator.specs.Verdicts.{cut_meaning, opt_meaning}
 use Rattle.std.specs.Prelude.{◌⊎◌, ℤ, FitsSigned}
 use Rattle.std.specs.Int.{w32}

@@ -16,14 +16,14 @@ use Rattle.nom_internal.specs.Meaning.{ShowsMeaning}
 use Rattle.nom_internal.proofs.Shown.{accepted, undecided, refused}
 use Rattle.nom_traits.specs.Input.{Seen, InputLaws, IsRest, span}
 use Rattle.nom_traits.specs.Rests.{rest_rest, span-append}
-use Rattle.nom_character.specs.Heads.{IsHead}
+use Rattle.nom_first.specs.Heads.{IsHead}
 use Rattle.nom_character.specs.Sights.{Sight, at_end, one_more}
 use Rattle.nom_character.specs.Sights.Sight.{Stands, Absent, Begins}
 use Rattle.nom_character.proofs.Lines.{behind_head, before_rest}
 use Rattle.nom_digits.specs.declared.word.WordAt.TheVariants as Found
 use Rattle.nom_digits.specs.Words.{word_in, word_meaning, IsWordAt}
 
--- so many items before
+-- that many items before
 abbrev pub later : ℕ → Sight → Sight
 later k (Stands n) = Stands (n + k)
 later k Absent = Absent
@@ -58,7 +58,7 @@ another_letter : (c d : ℕ) → (c ≡ d → ⊥) → (c == d) ≡ false
 another_letter c d e = grind (arith, nat_tests, e)
 
 module _ {I A : Type 0} (w : Seen I A) (code : A → ℕ) (word : List ℕ) (i : I) where
-  -- the first letters, as many as k, were found, and this is the rest behind them
+  -- the first letters, as many as k, were found, and this is the rest after them
   pub record IsFound (k : ℕ) (j : I) : Type 0 where
     pub place : ℕ
     pub rest_is : IsRest w i place j

@@ -12,10 +12,10 @@ use Rattle.nom_internal.specs.Sequence.{pair_meaning}
 use Rattle.nom_internal.specs.SequenceLaws.{sequence_lawful, sequence_steady}
 use Rattle.nom_branch.specs.Alternatives.{next_meaning, choice_meaning}
 use Rattle.nom_branch.specs.AlternativeLaws.{next_lawful, next_stays, choice_lawful, choice_steady, stays}
-use Rattle.nom_character.specs.declared.first.Blame.TheVariants.{OfChar}
+use Rattle.nom_first.specs.declared.first.Blame.TheVariants.{OfChar}
 use Rattle.nom_character.specs.ClassRuns.{class_lawful, class_steady}
-use Rattle.nom_character.specs.Heads.{char_meaning}
-use Rattle.nom_character.specs.HeadLaws.{told, head_lawful, head_steady}
+use Rattle.nom_first.specs.Heads.{char_meaning}
+use Rattle.nom_first.specs.HeadLaws.{told, head_lawful, head_steady}
 use Rattle.nom_combinator.specs.Verdicts.{cut_meaning, opt_meaning}
 use Rattle.nom_combinator.specs.VerdictLaws.{cut_lawful, cut_steady, opt_lawful, opt_steady}
 use Rattle.nom_digits.specs.Floats.{either_meaning, digits_meaning, whole_meaning, point_meaning, decimal_meaning, exponent_meaning, float_meaning}

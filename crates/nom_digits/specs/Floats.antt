@@ -10,7 +10,7 @@ use Rattle.nom_internal.specs.Recognized.{recognized_meaning}
 use Rattle.nom_internal.specs.Sequence.{pair_meaning}
 use Rattle.nom_branch.specs.Alternatives.{next_meaning, choice_meaning}
 use Rattle.nom_character.specs.ClassRuns.{class_meaning}
-use Rattle.nom_character.specs.Heads.{char_meaning}
+use Rattle.nom_first.specs.Heads.{char_meaning}
 use Rattle.nom_combinator.specs.Verdicts.{cut_meaning, opt_meaning}
 
 module _ {I A E : Type 0} (w : Seen I A) (code : A → ℕ) (errs : Errors I E) where
@@ -22,7 +22,7 @@ module _ {I A E : Type 0} (w : Seen I A) (code : A → ℕ) (errs : Errors I E) 
   abbrev pub digits_meaning : Meaning I (Slice w) E
   digits_meaning = class_meaning w code errs Class.Digit (Some Kind.Digit)
 
-  -- digits, with an optional point and optional digits behind it
+  -- digits, with an optional point and optional digits after it
   abbrev pub whole_meaning : Meaning I (Slice w) E
   whole_meaning = recognized_meaning w (pair_meaning w digits_meaning (opt_meaning (pair_meaning w (char_meaning w code errs 46) (opt_meaning digits_meaning))))
 

@@ -11,7 +11,7 @@ use Rattle.nom_internal.specs.Pinned.{IsPinned, slice_pinned}
 use Rattle.nom_internal.specs.SequenceLaws.{sequence_lawful, sequence_steady}
 use Rattle.nom_error.specs.Modes.{with_outputs}
 use Rattle.nom_character.specs.ClassRuns.{class_lawful, class_steady}
-use Rattle.nom_character.specs.Heads.{char_meaning}
+use Rattle.nom_first.specs.Heads.{char_meaning}
 use Rattle.nom_sequence.specs.Sequences.{preceded_meaning}
 use Rattle.nom_decimal.specs.Integers.{signed_meaning}
 use Rattle.nom_decimal.specs.IntegerLaws.{signed_lawful, signed_steady}

@@ -10,7 +10,7 @@ use Rattle.nom_internal.specs.Meaning.{Meaning}
 use Rattle.nom_internal.specs.Sequence.{pair_meaning}
 use Rattle.nom_branch.specs.Alternatives.{next_meaning, choice_meaning}
 use Rattle.nom_character.specs.ClassRuns.{class_meaning}
-use Rattle.nom_character.specs.Heads.{char_meaning}
+use Rattle.nom_first.specs.Heads.{char_meaning}
 use Rattle.nom_combinator.specs.Verdicts.{cut_meaning, opt_meaning, OptOutput}
 use Rattle.nom_internal.specs.Choice.{EitherOutput}
 use Rattle.nom_sequence.specs.Sequences.{preceded_meaning}
@@ -20,7 +20,7 @@ use Rattle.nom_digits.specs.Words.{as_float_meaning}
 
 -- Lists of digits.
 module _ {A : Type 0} (code : A → ℕ) where
-  -- the digits behind the leading zeros, or the last zero, where there are only zeros
+  -- the digits after the leading zeros, or the last zero, where there are only zeros
   abbrev pub integer_of : List A → List A
   integer_of [] = []
   integer_of (x ∷ []) = x ∷ []
@@ -55,7 +55,7 @@ module _ {I A : Type 0} (w : Seen I A) (code : A → ℕ) where
   fraction_slice t = record { items = fraction_of code t.items; mark = t.mark }
 
 module _ {I A : Type 0} (w : Seen I A) where
-  -- digits before a point, and those behind it, by how they were read
+  -- digits before a point, and those after it, by how they were read
   abbrev pub Both : Type 0
   Both = (Slice w × (Slice w ⊎ Slice w)) ⊎ (Slice w × Slice w)
 
@@ -76,11 +76,11 @@ module _ {I A E : Type 0} (w : Seen I A) (code : A → ℕ) (errs : Errors I E) 
   abbrev pub digits0_meaning : Meaning I (Slice w) E
   digits0_meaning = class_meaning w code errs Class.Digit None
 
-  -- a point with the digits behind it, or none, since none follow those before it
+  -- a point with the digits after it, or none, since none follow those before it
   abbrev pub behind_meaning : Meaning I (Slice w ⊎ Slice w) E
   behind_meaning = choice_meaning errs (next_meaning errs (preceded_meaning w (char_meaning w code errs 46) digits0_meaning) digits0_meaning)
 
-  -- digits before the point and behind it: one at least before it, or else behind it
+  -- digits before the point and after it: one at least before it, or else after it
   abbrev pub both_meaning : Meaning I (Both w) E
   both_meaning = choice_meaning errs
       (next_meaning errs (pair_meaning w (digits_meaning w code errs) behind_meaning)

@@ -24,7 +24,7 @@ use std::marker::PhantomData;
 /// A number of at most eight digits in base 16.
 ///
 /// The digits are those up to the first other item. Of more than eight the first eight are read, and the
-/// rest begins behind them. Where there is none, it refuses with `IsA`.
+/// rest begins after them. Where there is none, it refuses with `IsA`.
 #[inline(always)]
 pub fn hex_u32<I: Input, E: ParseError<I>>(input: I) -> IResult<I, u32, E>
 where
@@ -68,7 +68,7 @@ where
 /// of ten.
 ///
 /// The integer has no leading zeros, and the fraction no trailing ones; of zeros alone one is left. A
-/// digit must stand before the point or behind it: else it refuses with `Float` at the start. Behind an
+/// digit must stand before the point or after it: else it refuses with `Float` at the start. After an
 /// `e` or `E` a whole number of type `i32` must follow, else it fails with `Digit`; without one the power
 /// is 0.
 #[inline(always)]

@@ -22,8 +22,8 @@ use std::marker::PhantomData;
 /// One of two characters.
 #[inline(always)]
 pub(crate) fn either<I, E>(first: char, second: char) -> Choice<(Char<I, E>, Char<I, E>)>
-    ensures first { result.parser.0.wanted ≡ first }
-    ensures second { result.parser.1.wanted ≡ second }
+    ensures first { result.first.wanted ≡ first }
+    ensures second { result.second.wanted ≡ second }
 {
     alt((char(first), char(second)))
 }

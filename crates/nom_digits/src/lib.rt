@@ -20,10 +20,10 @@ use std::marker::PhantomData;
 
 /// The shape of a decimal fraction, as a slice of the input.
 ///
-/// An optional sign, `+` or `-`; either digits with an optional point and optional digits behind it, or a
+/// An optional sign, `+` or `-`; either digits with an optional point and optional digits after it, or a
 /// point and digits; and an optional exponent of `e` or `E`, an optional sign and digits. Digits are
 /// decimal, one at least. Where no fraction stands, it refuses as `alt` of its parts does; where digits
-/// lack behind an `e` or `E`, it fails with `Digit` there. Where more may come and might belong to it,
+/// lack after an `e` or `E`, it fails with `Digit` there. Where more may come and might belong to it,
 /// streaming asks for 1 more.
 #[inline(always)]
 pub fn recognize_float<T, E>() -> RecognizeFloat<T, E> {

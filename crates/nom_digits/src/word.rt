@@ -6,11 +6,11 @@ ghost use Rattle.nom_digits.specs.declared.word.Exception.{Exception};
 ghost use Rattle.nom_digits.specs.Words.{IsWordAt, letters_of, word_meaning};
 ghost use Rattle.nom_digits.specs.WordLaws.{word_stream};
 
-use nom_character::first::first;
 use nom_error::answer::{Err, Needed, PResult};
 use nom_error::kind::ErrorKind;
 use nom_error::mode::{IsStreaming, OutputMode};
 use nom_error::value::{ParseError, refusal};
+use nom_first::first::first;
 use nom_internal::parser::{Parser, StreamParser};
 use nom_internal::slices::before;
 use nom_traits::character::AsChar;
@@ -45,7 +45,7 @@ impl Exception {
 /// What stands at the start of an input.
 #[derive(Drop)]
 pub enum WordAt<I> {
-    /// The word, with the rest behind it.
+    /// The word, with the rest after it.
     Stands(I),
     /// Something else.
     Differs,

@@ -20,7 +20,7 @@ pub record PlainLaws {I A V : Type 0} (w : Seen I A) (Accepts : I → ℕ → V 
   pub refused_alike : (x y : I) → IsSame w x y → Refuses x → Refuses y
 
 module _ {I A V : Type 0} (w : Seen I A) (Accepts : I → ℕ → V → Type 0) (Refuses : I → Type 0) (l : PlainLaws w Accepts Refuses) where
-  -- in either mode, at inputs that are seen alike
+  -- in either mode, at inputs that are equal as models
   answers_alike : (s t : Bool) (x y : I) (o : Outcome V) → IsSame w x y → LeafAnswers (plain_leaf Accepts Refuses) s x o →
       LeafAnswers (plain_leaf Accepts Refuses) t y o
   answers_alike s t x y (Accept n v) r a = l.accepted_alike x y n v r a

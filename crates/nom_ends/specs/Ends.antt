@@ -59,7 +59,7 @@ module _ {I A : Type 0} (w : Seen I A) where
   abbrev pub eof_meaning : {E : Type 0} → Errors I E → Meaning I (Slice w) E
   eof_meaning errs = leaf_meaning (Unit {0}) (λ i e. errs.of_kind i Kind.Eof e) errs.grows (plain_leaf IsEnd (λ i. w.elements i ≡ [] → ⊥))
 
-  -- a part, and then the end, with the part's tree: what is left behind it is refused there
+  -- a part, and then the end, with the part's tree: what is left after it is refused there
   abbrev pub all_consuming_meaning : {V E : Type 0} → Errors I E → Meaning I V E → Meaning I V E
   all_consuming_meaning errs m = sequence_meaning w (λ u v. u) (λ o. o) (with_outputs false) m (eof_meaning errs)
 

@@ -90,6 +90,7 @@ impl<I: Input, E: ParseError<I>> Parser<I> for Rest<I, E> {
 
     #[inline(always)]
     fn process<OM: OutputMode>(&mut self, input: I) -> PResult<I, I, E> {
+        input.known();
         Ok((
             input.take_from(input.input_len()),
             built::<OM::Output, I>(input),

@@ -37,7 +37,7 @@ pub fn fail<I, O, E>() -> Fail<O, I, E> {
     Fail { of: PhantomData }
 }
 
-/// A parser behind which nothing may be left: what is left is refused with `Eof`, where it begins.
+/// A parser after which nothing may be left: what is left is refused with `Eof`, where it begins.
 #[inline(always)]
 pub fn all_consuming<F>(parser: F) -> AllConsuming<F>
     ensures { result.parser ≡ parser }
@@ -54,7 +54,7 @@ pub fn eof<I: Input, E: ParseError<I>>(input: I) -> IResult<I, I, E>
     parser.parse_complete(input)
 }
 
-/// All that is left, in both modes; nothing is left behind it.
+/// All that is left, in both modes; nothing is left after it.
 #[inline(always)]
 pub fn rest<I: Input, E: ParseError<I>>(input: I) -> IResult<I, I, E>
     ensures { AnswersBy I.seen I.view (IsSeenAs I.seen) (rest_meaning I.seen) false input result }

@@ -55,7 +55,7 @@ abbrev pub WantsMore : {T E : Type 0} → Result T (Answer.Err E E Needed) → T
 WantsMore (Ok v) = ⊥
 WantsMore (Std.Err e) = IsIncomplete e
 
--- a finished answer: an acceptance as it is, and else the error that a refusal or a failure holds, or want of memory
+-- a finished answer: an acceptance as it is, and else the error that a refusal or a failure holds, or that memory ran out
 abbrev pub IsFinished : {T E : Type 0} → Result T (Answer.Err E E Needed) → Result T (FinishError E) → Type 0
 IsFinished (Ok v) r = r ≡ Ok v
 IsFinished (Std.Err (Incomplete k)) r = ⊥

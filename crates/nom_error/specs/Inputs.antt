@@ -25,11 +25,11 @@ module _ {T : Type 0} (bytes : T → List ℕ) where
   abbrev pub OwnsPair : Bor (List ℕ) × ErrorKind → T × ErrorKind → Type 0
   OwnsPair = IsFirstMapped (λ s v. bytes v ≡ s.now)
 
--- the owned error, or want of memory, which comes only where the input isn't empty
+-- the owned error, or that memory ran out, which comes only where the input isn't empty
 abbrev pub IsCloned : {T : Type 0} → (T → List ℕ) → Value.Error (Bor (List ℕ)) → Result (Value.Error T) OutOfMemory → Type 0
 IsCloned bytes d r = MatchResult r (Owns bytes d) (λ _. 0 < length d.input.now)
 
--- the answer with an owned error, or want of memory, which comes only where an input is held that isn't empty
+-- the answer with an owned error, or that memory ran out, which comes only where an input is held that isn't empty
 abbrev pub IsOwned : {T : Type 0} → (T → List ℕ) → Answer.Err (Value.Error (Bor (List ℕ))) (Value.Error (Bor (List ℕ))) Needed →
     Result (Answer.Err (Value.Error T) (Value.Error T) Needed) OutOfMemory → Type 0
 IsOwned bytes d r = MatchResult r (IsMapped (Owns bytes) d) (λ _. HoldsError (λ e. 0 < length e.input.now) d)

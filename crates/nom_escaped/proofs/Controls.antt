@@ -1,4 +1,4 @@
--- The first item of an input, and the rest behind it.
+-- The first item of an input, and the rest after it.
 use Rattle.std.proofs.Common.{◌≡◌, ℕ, ◌<◌, List, [], ◌∷◌, ◌++◌, length, Option, Some, None, refl, sym, ◌∙◌, ap, subst, arith}
 use Rattle.std.specs.Iterator.{AlwaysYields}
 use Rattle.nom_traits.specs.Input.{Seen, InputLaws, IsRest, input_len, span}
@@ -33,7 +33,7 @@ module _ {I A : Type 0} (w : Seen I A) (l : InputLaws w) where
       omega (arith, h, ap w.weight same)
   one_weight x xs (a ∷ b ∷ front) rest n e c h = absurd (omega (arith, c))
 
-  -- the rest behind the first item has all the others
+  -- the rest after the first item has all the others
   behind_first : (i j : I) (x : A) (xs : List A) (n : ℕ) → w.elements i ≡ x ∷ xs → IsCount w i 1 n → IsRest w i n j → (n ≡ w.weight x) × (w.elements j ≡ xs)
   behind_first i j x xs n e c r =
       let weight = one_weight x xs c.place.front c.place.rest n (sym e ∙ c.place.whole) c.count_is c.place.length_is in

@@ -100,7 +100,7 @@ module _ {I A U W O X E : Type 0} (w : Seen I A) (l : InputLaws w) (IsNormal : U
       other_stands a = told Control.None 0 i (refl, a) (rest_self w l i known) (Ok (i, Some Other))
           (Shown (Accept 0 Other) (refl, refl) (i, Some Other, rest_self w l i known, (Other, refl, refl), refl))
 
-      -- an escapable piece is sought behind the control character
+      -- an escapable piece is sought after the control character
       module _ (j : I) (c : BehindControl w IsControl (λ y. y ≡ j) i) where
         behind : (r : Told) → Tells (labelled_meaning (λ v. Found (Escapable v)) g) s j r → Goal s r
         behind r k = told (Control.Before tt)

@@ -1,7 +1,7 @@
 -- Escapes: a list of pieces.
 --
 -- At each place where items are left, what stands there is a piece or ends the list:
--- - A piece that consumes is taken, and the next place is behind it.
+-- - A piece that consumes is taken, and the next place is after it.
 -- - A normal piece that consumes nothing is the last one.
 -- - An item that begins no piece ends the list; where it is the first item, the whole is refused.
 -- - The control character as the last item is refused, or more is needed.
@@ -77,12 +77,12 @@ all_pieces vs None = vs
 all_pieces vs (Some v) = vs ++ v ∷ []
 
 module _ {I A U W E : Type 0} (w : Seen I A) (errs : Errors I E) (IsControl : A → Type 0) (m : Meaning I U E) (g : Meaning I W E) where
-  -- the items of all pieces; the size that lacks behind a last control character is 1
+  -- the items of all pieces; the size that lacks after a last control character is 1
   abbrev pub escaped_meaning : Meaning I (Slice w) E
   escaped_meaning = recognized_meaning w
       (repeat_meaning w (escape_rule (λ i. errs.of_kind i Kind.Escaped) errs.grows (λ i j. i)) all_pieces (always (spot_meaning w IsControl (Some 1) m g)))
 
-  -- all pieces; what lacks behind a last control character is unknown
+  -- all pieces; what lacks after a last control character is unknown
   abbrev pub escaped_transform_meaning : Meaning I (List (Piece U W)) E
   escaped_transform_meaning = repeat_meaning w (escape_rule (λ i. errs.of_kind i Kind.EscapedTransform) errs.grows (λ i j. j)) all_pieces
       (always (spot_meaning w IsControl None m g))

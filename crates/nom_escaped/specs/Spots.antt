@@ -1,4 +1,4 @@
--- What stands at a place of a text with escapes: where an item is left, a normal piece, otherwise the control character and behind
+-- What stands at a place of a text with escapes: where an item is left, a normal piece, otherwise the control character and after
 -- it an escapable piece.
 use Rattle.std.specs.Prelude.{◌≡◌, ℕ, ◌<◌, Bool, true, false, List, [], ◌∷◌, length, Option, Some, None, Result, Ok, Err}
 use Rattle.nom_error.specs.declared.answer.Needed.{Needed}
@@ -38,7 +38,7 @@ left_leaf w = record {
 }
 
 module _ {I A : Type 0} (w : Seen I A) (IsControl : A → Type 0) where
-  -- at i the control character stands, items follow it, and of the rest behind it the fact holds
+  -- at i the control character stands, items follow it, and of the rest after it the fact holds
   pub record BehindControl (Fact : I → Type 0) (i : I) : Type 0 where
     pub item : A
     pub items : List A
@@ -91,7 +91,7 @@ control_leaf w IsControl lack = record {
   Lacks = λ i k. StandsLast w IsControl i × (k ≡ lack);
 }
 
--- what follows by what the first item is: behind the control character an escapable piece
+-- what follows by what the first item is: after the control character an escapable piece
 abbrev pub by_control : {I U W E : Type 0} → Meaning I W E → Control (Unit {0}) → Meaning I (Spot (Piece U W)) E
 by_control g Control.None = success_meaning Other
 by_control g Control.Last = success_meaning Dangling
@@ -100,11 +100,11 @@ by_control g (Control.Before u) = labelled_meaning (λ v. Found (Escapable v)) g
 abbrev pub behind_control : {I U W E : Type 0} → Meaning I W E → Family (Control (Unit {0})) I (Spot (Piece U W)) E
 behind_control g = record { at = by_control g; IsSound = g.IsSound; IsFrugal = g.IsFrugal; Settles = g.Settles; NeverFails = g.NeverFails }
 
--- the control character, and behind it an escapable piece
+-- the control character, and after it an escapable piece
 abbrev pub escape_meaning : {I A U W E : Type 0} → Seen I A → (A → Type 0) → Option ℕ → Meaning I W E → Meaning I (Spot (Piece U W)) E
 escape_meaning w IsControl lack g = then_meaning w (λ _ t. t) (λ b. b) (λ b. b) (look (control_leaf w IsControl lack)) (behind_control g)
 
--- a normal piece, otherwise the control character and behind it an escapable piece
+-- a normal piece, otherwise the control character and after it an escapable piece
 abbrev pub piece_meaning : {I A U W E : Type 0} → Seen I A → (A → Type 0) → Option ℕ → Meaning I U E → Meaning I W E → Meaning I (Spot (Piece U W)) E
 piece_meaning w IsControl lack m g = otherwise_meaning (labelled_meaning (λ u. Found (Normal u)) m) (escape_meaning w IsControl lack g)
 
@@ -116,7 +116,7 @@ by_left done m false = success_meaning done
 abbrev pub where_left : {I V E : Type 0} → V → Meaning I V E → Family Bool I V E
 where_left done m = record { at = by_left done m; IsSound = m.IsSound; IsFrugal = m.IsFrugal; Settles = m.Settles; NeverFails = m.NeverFails }
 
--- A piece, where an item is left. The size that lacks behind a last control character is `lack`.
+-- A piece, where an item is left. The size that lacks after a last control character is `lack`.
 abbrev pub spot_meaning : {I A U W E : Type 0} → Seen I A → (A → Type 0) → Option ℕ → Meaning I U E → Meaning I W E → Meaning I (Spot (Piece U W)) E
 spot_meaning w IsControl lack m g = then_meaning w (λ _ t. t) (λ b. b) (λ b. b) (look (left_leaf w)) (where_left Done (piece_meaning w IsControl lack m g))
 

@@ -29,7 +29,7 @@ abbrev pub IsExtended : {T O X P : Type 0} → (T → List P) → (O → List P)
 IsExtended parts normal_adds escapable_adds text (Normal value) new = IsAppended parts normal_adds text value new
 IsExtended parts normal_adds escapable_adds text (Escapable value) new = IsAppended parts escapable_adds text value new
 
--- texts of the same pieces, whose values are seen alike and add alike
+-- texts of the same pieces, whose values are equal as viewed and add alike
 module _ {U W O X P : Type 0} (IsNormal : U → O → Type 0) (IsEscapable : W → X → Type 0) (normal_adds : O → List P) (escapable_adds : X → List P)
     (o : View O) (x : View X) (normal_alike : (a b : O) → o.value a ≡ o.value b → normal_adds a ≡ normal_adds b)
     (escapable_alike : (a b : X) → x.value a ≡ x.value b → escapable_adds a ≡ escapable_adds b) (normal : IsPinned o IsNormal)

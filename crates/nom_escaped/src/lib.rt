@@ -13,7 +13,7 @@ pub use crate::raw::Escaped;
 pub use crate::transform::EscapedTransform;
 use std::alloc::Allocator;
 
-/// A text with escapes: normal pieces, and escapable pieces that each stand behind the control
+/// A text with escapes: normal pieces, and escapable pieces that each stand after the control
 /// character. Its output is the text as it stands, escapes included.
 ///
 /// Where items are left, `normal` is tried first. Where it accepts nothing, the text ends. Where it

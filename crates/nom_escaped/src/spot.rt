@@ -15,7 +15,7 @@ use nom_traits::input::Input;
 pub enum Piece<O, P> {
     /// A normal piece.
     Normal(O),
-    /// The control character, and behind it an escapable piece.
+    /// The control character, and after it an escapable piece.
     Escapable(P),
 }
 
@@ -38,11 +38,11 @@ pub enum Control<I> {
     None,
     /// It is the last item.
     Last,
-    /// It stands there, and items are behind it.
+    /// It stands there, and items are after it.
     Before(I),
 }
 
-/// Whether the first item is the control character, and what is behind it.
+/// Whether the first item is the control character, and what is after it.
 #[inline(always)]
 fn control_at<I: Input>(control_char: char, input: I) -> Control<I>
 where
@@ -79,7 +79,7 @@ fn lacks<S: IsStreaming, I: Copy, T: Drop, E>(input: I, size: Needed, spot: T) -
     }
 }
 
-/// What stands at the start of an input: a piece, or why there is none. The size that lacks behind a
+/// What stands at the start of an input: a piece, or why there is none. The size that lacks after a
 /// last control character is `lack`.
 #[inline(always)]
 pub(crate) fn spot_at<OM: OutputMode, I: Input, F: Parser<I>, G: Parser<I, Error = F::Error>>(

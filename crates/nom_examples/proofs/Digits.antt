@@ -47,7 +47,7 @@ module _ (a b : ℕ) (h : are_digits a b ≡ true) where
       ((omega arith, (first, (second, tt))), omega (arith, first, second)) in
       subst (λ ds. IsNumeral 16 ds × (digits_value 16 ds < 2 ^ 8)) (sym (pair_digits a b h)) fits
 
--- texts that are seen alike are read alike
+-- texts that are equal as models are read alike
 same_verdict : {E : Type 0} (cs : List ℕ) (r x : Result ℕ E) → ParsesUnsigned 8 16 (encode_utf8_all cs) r → ParsesUnsigned 8 16 (encode_utf8_all cs) x →
     is_ok r ≡ is_ok x
 same_verdict cs (Ok v) (Ok w) g h = refl
@@ -66,7 +66,7 @@ read_judge takes gives = record {
       (subst (λ cs. ParsesUnsigned 8 16 (encode_utf8_all cs) x) b.elements_are (gives q x h));
 }
 
--- two digits, and all that is behind them
+-- two digits, and all that is after them
 pub record IsTwo (i : Text) (n : ℕ) (items : List ℕ) : Type 0 where
   pub first : ℕ
   pub second : ℕ

@@ -20,7 +20,7 @@ use Rattle.nom_internal.specs.Outcome.Outcome.{Accept, Refuse, Fail, TooLarge, U
 use Rattle.nom_internal.specs.Meaning.{ParsesMeaning}
 use Rattle.nom_internal.proofs.Consumed.{rest_self}
 use Rattle.nom_internal.proofs.Shown.{err_from_residual}
-use Rattle.nom_character.specs.Heads.{IsHead, char_meaning}
+use Rattle.nom_first.specs.Heads.{IsHead, char_meaning}
 use Rattle.nom_examples.specs.Brackets.{run_of, opened, closed, IsNested, IsOpen, MissesBracket, brackets_meaning}
 
 abbrev Bytes : Type 0
@@ -49,7 +49,7 @@ NestedAnswer i r = ParsesMeaning seen_bytes (λ t n. n ≡ t) brackets_meaning f
 same_code : (x c : ℕ) → true ≡ (x == c) → x ≡ c
 same_code x c h = grind (arith, nat_tests)
 
--- the items behind the first one
+-- the items after the first one
 behind_one : (xs front ys : List ℕ) (x : ℕ) (rest : List ℕ) → xs ≡ front ++ ys → span (λ _. 1) front ≡ 1 → xs ≡ x ∷ rest → xs ≡ x ∷ ys
 behind_one xs [] ys x rest e h f = absurd (omega (arith, h))
 behind_one xs (y ∷ []) ys x rest e h f = let same : y ∷ ys ≡ x ∷ rest = sym e ∙ f in let head : y ≡ x = cc (same) in e ∙ ap (λ z. z ∷ ys) head
@@ -155,13 +155,13 @@ past_head : (b : Bool) (k r s : ℕ) → suc k ≤ cond b (1 + r) 0 → (k ≤ r
 past_head true k r s h f = let e = f (omega (arith, h)) in omega (arith, e)
 past_head false k r s h f = absurd (omega (arith, h))
 
--- a run goes on behind its first items
+-- a run goes on after its first items
 run_past : (byte k : ℕ) (zs : List ℕ) → k ≤ run_of byte zs → run_of byte zs ≡ k + run_of byte (drop k zs)
 run_past byte zero zs h = omega arith
 run_past byte (suc k) [] h = absurd (omega (arith, h))
 run_past byte (suc k) (z ∷ zs) h = past_head (z == byte) k (run_of byte zs) (run_of byte (drop k zs)) h (run_past byte k zs)
 
--- how many close, where so many did and the others are behind
+-- how many close, where so many did and the others are after
 closed_past : (ys front bs : List ℕ) (d : ℕ) → d ≡ opened ys → d ≤ closed ys → ys ≡ front ++ bs → span (λ _. 1) front ≡ d + d → closed ys ≡ d + run_of 41 bs
 closed_past ys front bs d e h f l =
     let behind : drop d (drop d ys) ≡ bs =

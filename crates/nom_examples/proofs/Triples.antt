@@ -62,7 +62,7 @@ read_by i j n v a r =
     let two = subst (λ k. IsRest seen_text i k j) p.1 r in
     record { pair = p.0; behind = behind_pair p.0 two; rest = two }
 
--- characters with a pair, and what comes of what is behind it
+-- characters with a pair, and what comes of what is after it
 after_read : {V : Type 0} {i j : Text} {v : ℕ} (r : IsRead i j v) (next : ℕ → List ℕ → Outcome V) → on_pair (chars i.now) next ≡ next v (chars j.now)
 after_read {v = v} r next = on_pair_at r.pair next ∙ ap (next v) (sym r.behind)
 
@@ -83,7 +83,7 @@ color_by {red} {green} {blue} {i} {j} {k} {l} p q r = record {
   rest = rest_rest seen_text text_lawful i 2 j 4 l p.rest (rest_rest seen_text text_lawful j 2 k 2 l q.rest r.rest);
 }
 
--- the last of some pairs: what is left behind it is the rest of all
+-- the last of some pairs: what is left after it is the rest of all
 last_read : (i j k : Text) (n m v : ℕ) → IsRest seen_text i n j → Pair j (Accept m v) → IsRest seen_text i (n + m) k → IsRead j k v
 last_read i j k n m v p a q =
     let pair = pair_accepted (chars j.now) m v (pair_answered j (Accept m v) a) in

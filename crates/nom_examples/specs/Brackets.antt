@@ -20,14 +20,14 @@ abbrev pub run_of : ℕ → List ℕ → ℕ
 run_of byte [] = 0
 run_of byte (x ∷ xs) = cond (x == byte) (1 + run_of byte xs) 0
 
--- how many brackets open at first, and how many close right behind those
+-- how many brackets open at first, and how many close right after those
 abbrev pub opened : List ℕ → ℕ
 opened xs = run_of 40 xs
 
 abbrev pub closed : List ℕ → ℕ
 closed xs = run_of 41 (drop (opened xs) xs)
 
--- As many brackets as opened are closed behind them, and the depth is how many; what follows is left.
+-- As many brackets as opened are closed after them, and the depth is how many; what follows is left.
 abbrev pub IsNested : Bytes → (length depth : ℕ) → Type 0
 IsNested i n d = (d ≡ opened i.now) × (d ≤ closed i.now) × (n ≡ d + d)
 

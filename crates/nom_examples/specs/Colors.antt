@@ -24,7 +24,7 @@ Text = Bor (List ℕ)
 abbrev pub are_digits : ℕ → ℕ → Bool
 are_digits a b = is_digit a 16 && is_digit b 16
 
--- Two digits, and what comes of their number and of the characters behind them; where the two aren't there, a refusal.
+-- Two digits, and what comes of their number and of the characters after them; where the two aren't there, a refusal.
 abbrev pub on_pair : {V : Type 0} → List ℕ → (ℕ → List ℕ → Outcome V) → Outcome V
 on_pair (a ∷ (b ∷ cs)) next = cond (are_digits a b) (next (16 * digit_value a + digit_value b) cs) Refuse
 on_pair (a ∷ []) next = Refuse

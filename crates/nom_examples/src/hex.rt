@@ -1,4 +1,4 @@
-//! Colours in base 16, as `#2F14DF`: a tuple of parsers behind a tag.
+//! Colours in base 16, as `#2F14DF`: a tuple of parsers after a tag.
 ghost use Rattle.std.specs.Prelude.{◌≡◌, chars, encode_utf8_all};
 ghost use Rattle.std.specs.Char.{is_digit};
 ghost use Rattle.std.specs.Str.Parse.{ParsesUnsigned};

@@ -64,7 +64,7 @@ append_length [] us = omega arith
 append_length (v ∷ vs) us = omega (arith, append_length vs us)
 
 module _ {I A V E : Type 0} (w : Seen I A) (l : InputLaws w) (errs : Errors I E) (m : Meaning I V E) (lawful : IsLawful w m) (s : Bool) where
-  -- behind a first item that consumes nothing there is no other
+  -- after a first item that consumes nothing there is no other
   none_later : (Fact : ℕ → I → Type 0) (i j : I) (v : V) (us : List V) (n : ℕ) → w.IsKnown i → IsRest w i 0 j →
       (dropped_meaning m).answers s i (Accept 0 v) →
       Pieces w (TurnsBy (any_limits Kind.Many1Count).most (item_turn (any_limits Kind.Many1Count)) (λ _. (dropped_meaning m).answers s)) Fact 0 j us n →

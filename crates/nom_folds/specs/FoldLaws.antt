@@ -19,7 +19,7 @@ use Rattle.nom_folds.specs.Folds.{Folds, FoldsAlike, fold_many0_meaning, fold_ma
 use Rattle.nom_repeat.specs.Bounds.{any_limits, one_limits, bounded_limits}
 use Rattle.nom_repeat.specs.declared.items.TooFew.TheVariants.{Fresh}
 
--- folds of the outputs of one list of trees are seen alike
+-- folds of the outputs of one list of trees are equal as viewed
 module _ {V T R : Type 0} (item : View T) (value : View R) (IsOutput : V → T → Type 0) (Inits : R → Type 0) (Gives : R → T → R → Type 0)
     (pinned : IsPinned item IsOutput) (alike : FoldsAlike item value Inits Gives) where
   folds_alike : (vs : List V) (xs ys : List T) (a b c d : R) → value.value a ≡ value.value b → AllZip IsOutput vs xs → AllZip IsOutput vs ys →

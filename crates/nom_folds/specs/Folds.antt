@@ -26,7 +26,7 @@ pub record AreCallable {T R : Type 0} (CanInit : Type 0) (Takes : R → T → Ty
   pub can_init : CanInit
   pub takes : (r : R) (x : T) → Takes r x
 
--- First values are seen alike, and so are the results for values and items that are. No verdict rests on it: it is asked only
+-- First values are equal as viewed, and so are the results for values and items that are. No verdict rests on it: it is asked only
 -- where outputs are compared.
 pub record FoldsAlike {T R : Type 0} (item : View T) (value : View R) (Inits : R → Type 0) (Gives : R → T → R → Type 0) : Type 0 where
   pub first : (a b : R) → Inits a → Inits b → value.value a ≡ value.value b

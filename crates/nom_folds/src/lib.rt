@@ -76,7 +76,7 @@ pub fn fold_many1<F, H, G>(parser: F, init: H, fold: G) -> FoldMany1<F, H, G>
 /// The fold of items until one is refused, `min` at least and `max` at most: as `fold_many0`.
 ///
 /// A refusal before `min` items refuses all, with the item's error, to which `ManyMN` is added at the item. An
-/// item that consumes nothing is refused with `ManyMN`. Behind `max` items none is tried. Where `min` is above
+/// item that consumes nothing is refused with `ManyMN`. After `max` items none is tried. Where `min` is above
 /// `max`, the answer is an `Error` with `ManyMN`.
 #[inline(always)]
 pub fn fold_many_m_n<F, H, G>(
@@ -104,7 +104,7 @@ pub fn fold_many_m_n<F, H, G>(
 /// As many items as `range` says, in a collection, which takes its memory from `alloc`. The range is one of
 /// counts, or one count.
 ///
-/// As many are taken as the range allows at most, `usize::MAX` where it has no second end; behind them none is
+/// As many are taken as the range allows at most, `usize::MAX` where it has no second end; after them none is
 /// tried. A refusal ends the list with success, before the item; but where the number of the items before it
 /// is outside the range, it refuses all, with the item's error, to which `Many` is added at the item. An item
 /// that consumes nothing is refused with `Many`. Where the range has two ends and nothing between them, the

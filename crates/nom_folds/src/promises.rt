@@ -16,20 +16,20 @@ use nom_traits::input::{Input, Items};
 use nom_traits::view::Viewed;
 use std::alloc::Allocator;
 
-/// `many0_count` accepts just the items that its part accepts, one behind the other, none of them empty, up to
+/// `many0_count` accepts just the items that its part accepts, one after the other, none of them empty, up to
 /// where the part refuses.
 pub fn many0_count_accepts<I: Input, F: Parser<I> + Drop>(_parser: &Many0Count<F>)
     ensures { AcceptsItems I.seen (Unit {0}) (λ a. 0 < a) 0 None (F.meaning (F.state _parser.now.item.parser))
         (⟦<Many0Count<F> as Parser<I>>⟧.meaning (F.state _parser.now.item.parser)) }
 {}
 
-/// `many1_count` accepts a first item, and behind it just what `many0_count` accepts.
+/// `many1_count` accepts a first item, and after it just what `many0_count` accepts.
 pub fn many1_count_accepts<I: Input, F: Parser<I> + Drop>(_parser: &Many1Count<F>)
     ensures { AcceptsOneAndMore I.seen (F.meaning (F.state _parser.now.item.parser)) (F.meaning (F.state _parser.now.item.parser))
         (⟦<Many1Count<F> as Parser<I>>⟧.meaning (F.state _parser.now.item.parser)) }
 {}
 
-/// `fold_many0` accepts just the items that its part accepts, one behind the other, none of them empty, up to
+/// `fold_many0` accepts just the items that its part accepts, one after the other, none of them empty, up to
 /// where the part refuses.
 pub fn fold_many0_accepts<
     I: Input,
@@ -42,7 +42,7 @@ pub fn fold_many0_accepts<
         (⟦<FoldMany0<F, H, G> as Parser<I>>⟧.meaning (F.state _parser.now.parser, _parser.now.init, _parser.now.fold)) }
 {}
 
-/// `fold_many1` accepts a first item, and behind it just what `fold_many0` accepts.
+/// `fold_many1` accepts a first item, and after it just what `fold_many0` accepts.
 pub fn fold_many1_accepts<
     I: Input,
     F: Parser<I, Output: Viewed> + Drop,
@@ -54,8 +54,8 @@ pub fn fold_many1_accepts<
         (⟦<FoldMany1<F, H, G> as Parser<I>>⟧.meaning (F.state _parser.now.parser, _parser.now.init, _parser.now.fold)) }
 {}
 
-/// `fold_many_m_n`, where its bounds fit each other, accepts just the items that its part accepts, one behind
-/// the other, none of them empty: up to where the part refuses, behind the least number at least, or up to the
+/// `fold_many_m_n`, where its bounds fit each other, accepts just the items that its part accepts, one after
+/// the other, none of them empty: up to where the part refuses, after the least number at least, or up to the
 /// most.
 pub fn fold_many_m_n_accepts<
     I: Input,
@@ -69,8 +69,8 @@ pub fn fold_many_m_n_accepts<
         (⟦<FoldManyMN<F, H, G> as Parser<I>>⟧.meaning (F.state _parser.now.parser, _parser.now.init, _parser.now.fold, _parser.now.min, _parser.now.max)) }
 {}
 
-/// `many`, where its range isn't empty, accepts just the items that its part accepts, one behind the other,
-/// none of them empty: up to where the part refuses, behind the fewest items of the range at least, or up to
+/// `many`, where its range isn't empty, accepts just the items that its part accepts, one after the other,
+/// none of them empty: up to where the part refuses, after the fewest items of the range at least, or up to
 /// the most.
 pub fn many_accepts<
     I: Input,

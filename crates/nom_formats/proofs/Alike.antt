@@ -1,4 +1,4 @@
--- Operations on values that are seen alike give values that are.
+-- Operations on values that are equal as viewed give values that are.
 use Rattle.std.proofs.Common.{◌≡◌, ℕ, List, Ok, Err, inl, inr, sym, ◌∙◌, ap, subst, ℤ, pos}
 use Rattle.std.specs.Prelude.{chars, IfErr, int_div, ◌+ℤ◌, ◌-ℤ◌, ◌*ℤ◌, neg_ℤ}
 use Rattle.std.specs.Int.{w64, int_pow}

@@ -118,8 +118,8 @@ module _ {V O P : Type 0} (g : Grammar V O) (seen : View P) (Gives : Text → O 
       (r.0, subst (λ z. IsRest seen_text i r.0 z) (sym (ap (λ q. q.0) same)) r.1)
   given_rest i j y (Err e) h t = cc (t)
 
-  -- A function whose answers are such is a part: its grammar is lawful, and what it gives at inputs that are seen alike for outputs of
-  -- one tree is seen alike.
+  -- A function whose answers are such is a part: its grammar is lawful, and what it gives at inputs that are equal as models for outputs of
+  -- one tree is equal as viewed.
   pub is_parser : (Answers : Text → Told P → Type 0) (Takes : Text → Type 0) → ((i : Text) → Takes i) →
       ((i : Text) (r : Told P) → Answers i r → Given Gives g i r) → IsLawful seen_text g.meaning →
       ((i k : Text) (t : V) (u v : O) (x y : P) → IsSame seen_text i k → g.IsOutput t u → g.IsOutput t v → Gives i u x → Gives k v y →

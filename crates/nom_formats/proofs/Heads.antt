@@ -18,7 +18,7 @@ use Rattle.nom_internal.specs.Outcome.ParsesAnswer.{ParseRanOut, Parsed}
 use Rattle.nom_internal.specs.Leaf.{LeafAnswers}
 use Rattle.nom_bytes.specs.ParsedRuns.{runs}
 use Rattle.nom_character.specs.ClassRuns.{IsOf}
-use Rattle.nom_character.specs.Heads.{heads}
+use Rattle.nom_first.specs.Heads.{heads}
 
 abbrev Text : Type 0
 Text = Bor (List ℕ)
@@ -30,7 +30,7 @@ CharAnswer IsError RunsOut c i r = ParsesAnswer seen_text (λ t x. x ≡ t) i
 same_code : (x c : ℕ) → true ≡ (x == c) → x ≡ c
 same_code x c h = grind (arith, nat_tests)
 
--- behind a front as long as the first character stands what follows it
+-- after a front as long as the first character stands what follows it
 pub behind_head : (c x n : ℕ) (cs : List ℕ) (i j : Text) → chars i.now ≡ x ∷ cs → true ≡ (x == c) → n ≡ len_utf8 x → IsRest seen_text i n j →
     chars i.now ≡ c ∷ chars j.now
 behind_head c x n cs i j e t l r =
@@ -52,7 +52,7 @@ pub char_taken : (k : ℕ) {E : Type 0} {IsError : E → Type 0} {RunsOut : Type
     CharAnswer IsError RunsOut k i (Ok (j, x)) → chars i.now ≡ c ∷ chars j.now
 char_taken k {E} {IsError} {RunsOut} c {i} {j} {x} e h = subst (λ z. chars i.now ≡ z ∷ chars j.now) e (char_read IsError RunsOut k i j x h)
 
--- a run of characters that meet a test, one at least, and the rest behind it
+-- a run of characters that meet a test, one at least, and the rest after it
 pub record IsRunRead (Test : ℕ → Bool → Type 0) (i d j : Text) : Type 0 where
   pub some : 0 < length (chars d.now)
   pub meets : All (λ c. Test c true) (chars d.now)

@@ -16,7 +16,7 @@ use Rattle.nom_internal.specs.Outcome.ParsesAnswer.{ParseRanOut, Parsed}
 use Rattle.nom_internal.specs.Leaf.{LeafAnswers}
 use Rattle.nom_internal.specs.Sequence.{Then}
 use Rattle.nom_bytes.specs.ParsedRuns.{runs}
-use Rattle.nom_character.specs.Heads.{heads}
+use Rattle.nom_first.specs.Heads.{heads}
 use Rattle.nom_formats.specs.Named.{IsNamed, in_name, in_value}
 use Rattle.nom_formats.proofs.Heads.{run_read, behind_head}
 use Rattle.nom_formats.proofs.Sequences.{AreBoth, both}
@@ -24,7 +24,7 @@ use Rattle.nom_formats.proofs.Sequences.{AreBoth, both}
 abbrev Text : Type 0
 Text = Bor (List ℕ)
 
--- a rest that lies behind another one
+-- a rest that lies after another one
 rest_between : (i b j : Text) (n k m : ℕ) → IsRest seen_text i k b → IsRest seen_text i n j → n ≡ k + m → IsPlace seen_text b m → IsRest seen_text b m j
 rest_between i b j n k m p q e at =
     let whole : (p.front ++ at.front) ++ at.rest ≡ q.front ++ chars j.now =

@@ -24,8 +24,8 @@ use Rattle.nom_func.proofs.FuncSound.{parser_of}
 use Rattle.nom_func.specs.FuncLaws.{func_lawful}
 use Rattle.nom_bytes.specs.Predicates.{one_answer}
 use Rattle.nom_character.specs.ClassRuns.{class_lawful}
-use Rattle.nom_character.specs.declared.first.Blame.TheVariants.{OfChar, OfKind}
-use Rattle.nom_character.specs.HeadLaws.{head_lawful, told}
+use Rattle.nom_first.specs.declared.first.Blame.TheVariants.{OfChar, OfKind}
+use Rattle.nom_first.specs.HeadLaws.{head_lawful, told}
 use Rattle.nom_sequence.specs.Sequences.{terminated_meaning}
 use Rattle.nom_branch.specs.AlternativeLaws.{choice_lawful, next_lawful}
 use Rattle.nom_combinator.specs.Verdicts.{cut_meaning}

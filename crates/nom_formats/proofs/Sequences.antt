@@ -7,7 +7,7 @@ use Rattle.nom_internal.specs.Sequence.{Then, GoesOn, after}
 
 module _ {I A P Q T : Type 0} (w : Seen I A) (tree : P → Q → T) (First : I → Outcome P → Type 0) (Next : P → I → Outcome Q → Type 0) (i : I) (n : ℕ)
     (t : T) where
-  -- both parts accept, one behind the other
+  -- both parts accept, one after the other
   pub record AreBoth : Type 0 where
     pub first_length : ℕ
     pub second_length : ℕ

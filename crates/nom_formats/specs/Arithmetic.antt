@@ -18,7 +18,7 @@ use Rattle.nom_internal.specs.Choice.{EitherOutput}
 use Rattle.nom_internal.specs.Meaning.{Meaning, ParsesMeaning}
 use Rattle.nom_func.specs.Func.{IsParser, IsViewed, func_meaning}
 use Rattle.nom_character.specs.ClassRuns.{class_meaning}
-use Rattle.nom_character.specs.Heads.{char_meaning, satisfy_meaning}
+use Rattle.nom_first.specs.Heads.{char_meaning, satisfy_meaning}
 use Rattle.nom_sequence.specs.Sequences.{preceded_meaning, terminated_meaning}
 use Rattle.nom_branch.specs.Alternatives.{choice_meaning, next_meaning}
 use Rattle.nom_combinator.specs.Verdicts.{cut_meaning}
@@ -42,7 +42,7 @@ Text = Bor (List ℕ)
 abbrev pub Worth : Type 0
 Worth = Result ℤ (Wrong × Text)
 
--- an operator by its character, behind the text from there on
+-- an operator by its character, after the text from there on
 abbrev pub Sign : Type 0
 Sign = Text × ℕ
 
@@ -178,7 +178,7 @@ number_of = func_of view Any (Given IsNumber digits_of)
 abbrev pub operator_of : Grammar sign_view.Value (ℕ × Sign)
 operator_of = func_of sign_view Any (Given IsLeveled (one_of_by (codes "^*/+-") Kind.OneOf))
 
--- what stands between two characters, behind the first of which nothing else may stand
+-- what stands between two characters, after the first of which nothing else may stand
 abbrev pub brackets_by : {V O : Type 0} (opens closes : ℕ) → Grammar V O → Grammar V O
 brackets_by opens closes g = record {
   meaning = preceded_meaning seen_text (char_of opens).meaning (terminated_meaning seen_text (cut_meaning g.meaning) (cut_meaning (char_of closes).meaning));

@@ -89,7 +89,7 @@ module _ {I A V O E : Type 0} (w : Seen I A) (view : View O) (IsOutput : V → O
   rest_by j v (ParseRanOut e h) = cc (e)
   rest_by j v (Parsed a h p) = rest_of view IsOutput w i IsError a j v p
 
--- The function takes every input, and answers as a relation of inputs to outcomes says, under which inputs that are seen alike
+-- The function takes every input, and answers as a relation of inputs to outcomes says, under which inputs that are equal as models
 -- have one outcome; and one tree stands for one output.
 module _ {I A V O E : Type 0} {w : Seen I A} {view : View O} {IsOutput : V → O → Type 0} {Answers : I → Outcome V → Type 0} {IsError : I → E → Type 0}
     {RunsOut : I → Type 0} {Gives : I → Result (I × O) (Answer.Err E E Needed) → Type 0} {Takes : I → Type 0} (one : Agree w false Answers Answers)
@@ -213,7 +213,7 @@ module _ {I A : Type 0} (w : Seen I A) (l : InputLaws w) where
 module _ {I A O E : Type 0} {w : Seen I A} (l : InputLaws w) {view : View O} {Gives : I → Result (I × O) (Answer.Err E E Needed) → Type 0}
     {Takes : I → Type 0} (value : I → O) (takes : (i : I) → w.IsKnown i → Takes i)
     (outright : (i : I) (r : Result (I × O) (Answer.Err E E Needed)) → Gives i r → r ≡ Ok (i, value i)) where
-  -- the outputs of inputs that are seen alike are
+  -- the outputs of inputs that are equal as models are
   pub outright_func : ((i j : I) → Related w false i j → view.value (value i) ≡ view.value (value j)) → IsParser w view Gives Takes
   unfolding TellOne
   outright_func alike = record {

@@ -29,7 +29,7 @@ abbrev pub FuncNeverFails : {I A O E : Type 0} → Seen I A → (I → Result (I
 FuncNeverFails {I} {E = E} w Gives false = (i : I) (e : E) → w.IsKnown i → Gives i (Err (Failure e)) → ⊥
 FuncNeverFails w Gives true = Unit {0}
 
--- two inputs, the second longer than the first (true), or seen alike (false)
+-- two inputs, the second longer than the first (true), or equal as models (false)
 pub record AreRelated {I A : Type 0} (w : Seen I A) (longer : Bool) (i j : I) : Type 0 where
   pub from_known : w.IsKnown i
   pub to_known : w.IsKnown j

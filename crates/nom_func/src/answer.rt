@@ -1,6 +1,8 @@
 //! The answers of parsers, with what makes a function of them a parser again.
-ghost use Rattle.std.specs.Prelude.{true, false};
+ghost use Rattle.std.specs.Prelude.{◌≡◌, true, false};
+ghost use Rattle.nom_error.specs.Modes.{modes};
 ghost use Rattle.nom_internal.specs.Meaning.{NeverTooLarge};
+ghost use Rattle.nom_internal.specs.Results.{rest_of};
 ghost use Rattle.nom_func.specs.Func.{AnswersBy, StreamsBy};
 
 use nom_error::answer::IResult;
@@ -15,7 +17,9 @@ pub fn answer<I: Items, P: StreamParser<I>>(
 ) -> IResult<I, P::Output, P::Error>
     requires sound { (P.meaning (P.state parser.old)).IsSound }
     requires pins { P.Parser.Pins (P.state parser.old) }
-    ensures { AnswersBy I.seen P.Output.view (P.IsOutput (P.state parser.old)) (P.meaning (P.state parser.old)) false input result }
+    ensures answer { AnswersBy I.seen P.Output.view (P.IsOutput (P.state parser.old)) (P.meaning (P.state parser.old)) false input result }
+    ensures kept { P.state parser.new ≡ P.state parser.old }
+    ensures besides { P.Besides (modes true true false) parser.old parser.new input (rest_of result) }
 {
     parser.parse_complete(input)
 }
@@ -30,7 +34,9 @@ pub fn stream_answer<I: Items, P: StreamParser<I>>(
     requires sound { (P.meaning (P.state parser.old)).IsSound }
     requires pins { P.Parser.Pins (P.state parser.old) }
     requires never_too_large { NeverTooLarge (P.meaning (P.state parser.old)) }
-    ensures { StreamsBy I.seen P.Output.view (P.IsOutput (P.state parser.old)) (P.meaning (P.state parser.old)) true input result }
+    ensures answer { StreamsBy I.seen P.Output.view (P.IsOutput (P.state parser.old)) (P.meaning (P.state parser.old)) true input result }
+    ensures kept { P.state parser.new ≡ P.state parser.old }
+    ensures besides { P.Besides (modes true true true) parser.old parser.new input (rest_of result) }
 {
     parser.parse(input)
 }

@@ -7,7 +7,7 @@ use std::marker::PhantomData;
 
 /// A function or closure as a parser, alike in both modes: its answer, with what isn't asked for dropped.
 ///
-/// It takes every input, leaves rests of it alone, and answers inputs that are seen alike by one outcome, as
+/// It takes every input, leaves rests of it alone, and answers inputs that are equal as models by one outcome, as
 /// outputs are compared; so do all functions of this library.
 #[inline(always)]
 pub fn func<I, O, E, F: Fn(I) -> IResult<I, O, E>>(f: F) -> Func<F, I, O, E>

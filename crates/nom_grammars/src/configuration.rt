@@ -1,4 +1,4 @@
-//! A small language: lines of settings, as `name=value`, and of comments behind a `#`.
+//! A small language: lines of settings, as `name=value`, and of comments after a `#`.
 
 use nom::branch::alt;
 use nom::bytes::{is_not, tag, take_while1};

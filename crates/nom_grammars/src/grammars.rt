@@ -28,7 +28,7 @@ pub fn digits_or_any(input: &[u8]) -> IResult<&[u8], &[u8]>
     alt((digit1(), tag("*"))).parse(input)
 }
 
-/// Signs, where there are some, and a `;` behind them.
+/// Signs, where there are some, and a `;` after them.
 pub fn signs(input: &[u8]) -> IResult<&[u8], Option<&[u8]>>
     ensures { Parses (terminated_of (opt_of (is_a_of (codes "+-"))) (tag_of (codes ";"))) true input.entry result }
 {

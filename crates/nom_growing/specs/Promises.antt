@@ -16,7 +16,7 @@ module _ {I A V E : Type 0} (w : Seen I A) (m : Meaning I V E) where
   abbrev pub StaysOnLonger : Type 0
   StaysOnLonger = (x y : I) (o p : Outcome V) → w.IsKnown x → w.IsKnown y → Extends w x y → m.answers true x o → IsDecided o → m.answers true y p → o ≡ p
 
-  -- an outcome on an input is the one outcome on every input that is seen alike
+  -- an outcome on an input is the one outcome on every input that is equal as models
   abbrev pub HasOneOutcome : Type 0
   HasOneOutcome = (s : Bool) (x y : I) (o : Outcome V) → w.IsKnown x → w.IsKnown y → IsSame w x y → m.answers s x o → m.answers s y o ×
       ((p : Outcome V) → m.answers s y p → o ≡ p)
@@ -39,7 +39,7 @@ module _ {I A V E : Type 0} (w : Seen I A) (m : Meaning I V E) where
   HasNoFailure = (large s : Bool) (i : I) → w.IsKnown i → m.NeverFails large → m.answers s i (failure large) → ⊥
 
 module _ {I A V O E : Type 0} (w : Seen I A) (view : View O) (Pins : Type 0) (IsOutput : V → O → Type 0) (m : Meaning I V E) where
-  -- What is answered on y, which extends x, by what was answered on x: an acceptance of one length, with an output seen alike
+  -- What is answered on y, which extends x, by what was answered on x: an acceptance of one length, with an output equal as viewed
   -- where the parser pins; a refusal; a failure, unless it is one that what is lacking is too large.
   abbrev pub Stays : I → I → Result (I × O) (Answer.Err E E Needed) → Result (I × O) (Answer.Err E E Needed) → Type 0
   Stays x y (Ok (j, a)) s = (n : ℕ) × (k : I) × (b : O) × IsRest w x n j × IsRest w y n k × (Pins → view.value a ≡ view.value b) × (s ≡ Ok (k, b))
@@ -48,7 +48,7 @@ module _ {I A V O E : Type 0} (w : Seen I A) (view : View O) (Pins : Type 0) (Is
   Stays x y (Err (Failure e)) s = m.answers true x TooLarge ⊎ ((f : E) × (s ≡ Err (Failure f)))
   Stays x y (Err OutOfMemory) s = Unit {0}
 
-  -- of two answers of `parse`, on an input and on one that extends it, want of memory aside
+  -- of two answers of `parse`, on an input and on one that extends it, running out of memory aside
   abbrev pub AnswersStay : Type 0
   AnswersStay = (x y : I) (r s : Result (I × O) (Answer.Err E E Needed)) → w.IsKnown x → w.IsKnown y → Extends w x y →
       ParsesMeaning w IsOutput m true x r → ParsesMeaning w IsOutput m true y s → (s ≡ Err OutOfMemory) ⊎ Stays x y r s
@@ -66,7 +66,7 @@ module _ {I A V O E : Type 0} (w : Seen I A) (view : View O) (Pins : Type 0) (Is
   IsBlamed x e = m.blames true x e × m.blames false x e
 
   -- What `parse_complete` answers on x, by what `parse` answered on it: an acceptance with a rest and, where the parser pins, an output
-  -- that are seen alike; a refusal; a failure, unless it is one that what is lacking is too large; each error blamed in either mode.
+  -- that are equal as viewed; a refusal; a failure, unless it is one that what is lacking is too large; each error blamed in either mode.
   abbrev pub Completes : I → Result (I × O) (Answer.Err E E Needed) → Result (I × O) (Answer.Err E E Needed) → Type 0
   Completes x (Ok (j, a)) s = (k : I) × (b : O) × IsSame w j k × (Pins → view.value a ≡ view.value b) × (s ≡ Ok (k, b))
   Completes x (Err (Incomplete k)) s = Unit {0}

@@ -12,7 +12,7 @@ pub fn stays_on_longer<I: Items, P: StreamParser<I>>(_parser: &P)
 {}
 
 /// Of two answers of `parse`, the second on an input that extends the first's: an acceptance stays one,
-/// of one length and, where the parser pins, with an output seen alike; a refusal stays one; and so does a
+/// of one length and, where the parser pins, with an output equal as viewed; a refusal stays one; and so does a
 /// failure, unless it is one that what is lacking is too large, as `has_no_failure` can rule out. Want of
 /// memory aside.
 pub fn answers_stay<I: Items, P: StreamParser<I>>(_parser: &P)
@@ -20,7 +20,7 @@ pub fn answers_stay<I: Items, P: StreamParser<I>>(_parser: &P)
     ensures { AnswersStay I.seen P.Output.view (P.Parser.Pins (P.state _parser.now)) (P.IsOutput (P.state _parser.now)) (P.meaning (P.state _parser.now)) }
 {}
 
-/// Inputs that are seen alike have one outcome in each mode, and the same.
+/// Inputs that are equal as models have one outcome in each mode, and the same.
 pub fn has_one_outcome<I: Items, P: Parser<I>>(_parser: &P)
     requires { (P.meaning (P.state _parser.now)).IsSound }
     ensures { HasOneOutcome I.seen (P.meaning (P.state _parser.now)) }
@@ -41,7 +41,7 @@ pub fn is_complete_too<I: Items, P: Parser<I>>(_parser: &P)
 {}
 
 /// Of what `parse` and `parse_complete` answer on one input, where the parser's condition for it holds and the first is decided:
-/// both accept, with rests and, where the parser pins, outputs seen alike; both refuse; or both fail, unless the failure is one
+/// both accept, with rests and, where the parser pins, outputs equal as viewed; both refuse; or both fail, unless the failure is one
 /// that what is lacking is too large. The error of either is one that the parser blames in both modes. That memory runs out aside.
 pub fn answers_complete<I: Items, P: StreamParser<I>>(_parser: &P)
     requires sound { (P.meaning (P.state _parser.now)).IsSound }

@@ -62,7 +62,7 @@ module _ (chunk from : ℕ) (bs : List ℕ) where
       items ≡ whole
   lines_end n passed items whole h e = sym (append-nil items) ∙ ap (λ l. items ++ l) (sym (lines_past n (from + passed) passed h)) ∙ e
 
-  -- behind the next line stand the same lines, whether or not it is full
+  -- after the next line stand the same lines, whether or not it is full
   rest_lines : (n passed m : ℕ) → passed < length bs → m ≡ min chunk (length bs - passed)
       → dump_lines n chunk (from + (passed + m)) (drop (passed + m) bs) ≡ dump_lines n chunk (from + passed + chunk) (drop chunk (drop passed bs))
   rest_lines n passed m h e =

@@ -129,7 +129,7 @@ module _ {I A V O E : Type 0} (w : Seen I A) (IsOutput : V → O → Type 0) (mo
   closed_shown Closes Grows before r (Shown (Undecided k) a h) g = Shown (Undecided k) (here (Undecided k) a refl) (h.0, h.1, rw h.2 at g)
 
 module _ {I A V O E : Type 0} (w : Seen I A) (IsOutput : V → O → Type 0) (mode : Modes) (i : I) where
-  -- what is shown, where the answers, the errors and the want of memory are more
+  -- what is shown, where the answers, the errors and where memory runs out are more
   pub shown_map : (F G : Outcome V → Type 0) (P Q : E → Type 0) (R S : Type 0) (r : Result (I × Option O) (Answer.Err E (Option E) Needed)) →
       ((o : Outcome V) → F o → G o) → ((e : E) → P e → Q e) → (R → S) → ShowsAnswer w IsOutput mode i F P R r → ShowsAnswer w IsOutput mode i G Q S r
   shown_map F G P Q R S r f g k (RanOut e h) = RanOut e (k h)

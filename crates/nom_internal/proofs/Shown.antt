@@ -4,10 +4,10 @@ use Rattle.std.specs.Result.{IsErrAnd, IsErr}
 use Rattle.std.proofs.lemmas.Result.{err_from_is_err_and}
 use Rattle.nom_error.specs.declared.answer.Needed.{Needed}
 use Rattle.nom_error.specs.declared.answer.Err as Answer
-use Rattle.nom_error.specs.declared.answer.Err.TheVariants.{Incomplete, Error}
+use Rattle.nom_error.specs.declared.answer.Err.TheVariants.{Incomplete, Error, Failure, OutOfMemory}
 use Rattle.nom_error.specs.Modes.{Built, Modes, modes, with_outputs}
 use Rattle.nom_error.specs.Answers.{Refuses, size_of}
-use Rattle.nom_internal.specs.Results.{IsFull, HoldsSame}
+use Rattle.nom_internal.specs.Results.{IsFull, HoldsSame, rest_of}
 use Rattle.nom_traits.specs.Input.{Seen, InputLaws, IsRest}
 use Rattle.nom_traits.specs.Rests.{rest_rest}
 use Rattle.nom_internal.specs.Outcome.{Outcome, IsFault, Shows, ShowsAnswer, Parses, ParsesAnswer}
@@ -23,6 +23,17 @@ pub err_from_residual : {T E : Type 0} {r : Result T E} {e : E} → IsErr r × I
 err_from_residual {r = r} h =
     let p = err_from_is_err_and r h.1 in
     p.1 ∙ ap Err p.2
+
+-- the rest of what `parse` returns is that of what `process` does
+pub same_rest : {I O E : Type 0} (p : Result (I × Option O) (Answer.Err E (Option E) Needed)) (r : Result (I × O) (Answer.Err E E Needed)) →
+    HoldsSame p r → rest_of p ≡ rest_of r
+same_rest (Ok (j, Some v)) r h = sym (ap rest_of h)
+same_rest (Ok (j, None)) r h = absurd h
+same_rest (Err (Incomplete k)) r h = sym (ap rest_of h)
+same_rest (Err (Error (Some e))) r h = sym (ap rest_of h)
+same_rest (Err (Error None)) r h = absurd h
+same_rest (Err (Failure e)) r h = sym (ap rest_of h)
+same_rest (Err OutOfMemory) r h = sym (ap rest_of h)
 
 -- an error that is built, of which a further fact follows
 pub built_error : {E : Type 0} (errors : Bool) (P Q : E → Type 0) (b : Option E) → ((e : E) → P e → Q e) → Built errors P b → Built errors Q b

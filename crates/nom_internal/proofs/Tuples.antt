@@ -20,7 +20,7 @@ pub on_accepted : {I T U E : Type 0} (Next : I → Option T → Result (I × Opt
     (r : Result (I × Option U) (Answer.Err E (Option E) Needed)) → before ≡ Ok (j, x) → Next j x r → OnAccepted Next before r
 on_accepted Next before j x r h k = rw h k
 
--- a member's answer, with its output behind others
+-- a member's answer, with its output after others
 module _ {I A V T O E : Type 0} (w : Seen I A) (IsOutput : V → O → Type 0) (m : Meaning I V E) (mode : Modes) (j : I) (t : T) where
   abbrev Behind : Result (I × Option (T × O)) (Answer.Err E (Option E) Needed) → Type 0
   Behind r = ShowsAnswer w (λ v o. (o.0 ≡ t) × IsOutput v o.1) (with_outputs true mode) j (m.answers mode.streaming j) (m.blames mode.streaming j)
@@ -38,7 +38,7 @@ module _ {I A V T O E : Type 0} (w : Seen I A) (IsOutput : V → O → Type 0) (
   paired_shown answer r (Shown TooLarge a h) g = Shown TooLarge a (h.0, h.1, rw h.2 at g)
   paired_shown answer r (Shown (Undecided k) a h) g = Shown (Undecided k) a (h.0, h.1, rw h.2 at g)
 
--- a member, behind those before it
+-- a member, after those before it
 module _ {I A P Q T O R E : Type 0} (w : Seen I A) (l : InputLaws w) (tree : P → Q → T) (Before : P → O → Type 0) (Last : Q → R → Type 0)
     (Both : T → O × R → Type 0) (both : (u : P) (v : Q) (o : O) (r : R) → Before u o → Last v r → Both (tree u v) (o, r)) (a : Meaning I P E)
     (b : Meaning I Q E) (mode : Modes) (i : I) where
@@ -84,7 +84,7 @@ module _ {I A V T O E : Type 0} (w : Seen I A) (IsOutput : V → T → Type 0) (
   formed_shown before r (Shown TooLarge a h) g = Shown TooLarge a (h.0, h.1, rw h.2 at g)
   formed_shown before r (Shown (Undecided k) a h) g = Shown (Undecided k) a (h.0, h.1, rw h.2 at g)
 
--- a tuple, by its members: each was run behind those before it, and the outputs were put together
+-- a tuple, by its members: each was run after those before it, and the outputs were put together
 module _ {I Z X P A : Type 0} (w : Seen I Z) (l : InputLaws w) (mode : Modes) (i : I) (IsA : P → A → Type 0) (a : Meaning I P X)
     (after_a : Result (I × Option A) (Answer.Err X (Option X) Needed)) (shows_a : ShowsMeaning w IsA a (with_outputs true mode) i after_a) where
   module _ {Q B : Type 0} (IsB : Q → B → Type 0) (b : Meaning I Q X) (after_b : Result (I × Option (A × B)) (Answer.Err X (Option X) Needed))

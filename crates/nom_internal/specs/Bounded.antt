@@ -15,7 +15,7 @@ module _ {J B P : Type 0} (v : Seen J B) (IsOutput : P → J → Type 0) where
     pub is_output : IsOutput u j
     pub known : v.IsKnown j
 
-  -- the outputs of one tree are seen alike
+  -- the outputs of one tree are equal as viewed
   abbrev pub AreAlike : Type 0
   AreAlike = (u : P) (j k : J) → IsOutput u j → IsOutput u k → IsSame v j k
 

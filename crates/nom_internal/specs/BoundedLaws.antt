@@ -12,7 +12,7 @@ use Rattle.nom_internal.specs.SequenceLaws.{then_lawful, then_steady}
 use Rattle.nom_internal.specs.CaseLaws.{CaseLaws, no_place, case_lawful}
 use Rattle.nom_internal.specs.Bounded.{IsBound, AreAlike, held, bounded_case, bounded_family, and_then_meaning}
 
--- inputs that are seen alike are related, where no longer ones are asked for
+-- inputs that are equal as models are related, where no longer ones are asked for
 alike_related : {J B : Type 0} (v : Seen J B) (longer : Bool) → (longer ≡ true → false ≡ true) → (j k : J) → IsSame v j k → Related v longer j k
 alike_related v true stays j k r = absurd (cc (stays refl))
 alike_related v false stays j k r = r

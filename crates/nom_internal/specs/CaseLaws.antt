@@ -18,7 +18,7 @@ abbrev pub Streams : PartMode → Type 0
 Streams mode = mode_of mode true ≡ true
 
 -- What cases must keep, where their premise holds. Do longer inputs keep it too (true), or, if that isn't asked, only those that
--- are seen alike?
+-- are equal as models?
 pub record CaseLaws {I A J B P T E F : Type 0} (stays : Bool) (w : Seen I A) (v : Seen J B) (c : Case I J P T E F) : Type 1 where
   -- related inputs have related inputs of the part
   pub at_known : (i : I) (j : J) → w.IsKnown i → c.At i j → v.IsKnown j

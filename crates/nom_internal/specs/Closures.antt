@@ -18,7 +18,7 @@ pub record IsJudge {V P R : Type 0} (IsOutput : V → P → Type 0) (Takes : P �
   pub takes : (t : V) (p : P) → IsOutput t p → Takes p
   pub fixed : (t : V) (p q : P) (r x : R) → IsOutput t p → IsOutput t q → Gives p r → Gives q x → fits r ≡ fits x
 
--- A closure gives results that are seen alike for arguments that are. No verdict rests on it: it is asked only where outputs
+-- A closure gives results that are equal as viewed for arguments that are. No verdict rests on it: it is asked only where outputs
 -- are compared.
 pub record SeesAlike {P R : Type 0} (argument : View P) (result : View R) (Gives : P → R → Type 0) : Type 0 where
   pub alike : (p q : P) (r x : R) → argument.value p ≡ argument.value q → Gives p r → Gives q x → result.value r ≡ result.value x

@@ -33,7 +33,7 @@ leaf_meaning IsSound Blames Grows leaf = record {
   NeverFails = λ large. Unit {0};
 }
 
--- What a leaf must keep. Where it is said of two inputs, the second is longer than the first, and more may come, or seen alike.
+-- What a leaf must keep. Where it is said of two inputs, the second is longer than the first, and more may come, or equal as models.
 pub record LeafLaws {I A V : Type 0} (w : Seen I A) (leaf : Leaf I V) : Type 0 where
   pub place : (s : Bool) (i : I) (n : ℕ) (v : V) → w.IsKnown i → leaf.Accepts s i n v → IsPlace w i n
   -- no two answers

@@ -8,7 +8,7 @@ use Rattle.nom_internal.specs.Closures.{GivesFor, SeesAlike}
 use Rattle.nom_internal.specs.Mapped.{map_case, map_meaning, renamed_case, renamed_meaning}
 use Rattle.nom_internal.specs.Pinned.{IsPinned}
 
--- what a closure gives for the outputs of one tree is seen alike, where they are
+-- what a closure gives for the outputs of one tree is equal as viewed, where they are
 pub given_pinned : {V P R : Type 0} (argument : View P) (result : View R) (IsOutput : V → P → Type 0) (Gives : P → R → Type 0) →
     IsPinned argument IsOutput → SeesAlike argument result Gives → IsPinned result (GivesFor IsOutput Gives)
 given_pinned argument result IsOutput Gives f s t a b g h = s.alike g.output h.output a b (f t g.output h.output g.is_output h.is_output) g.given h.given

@@ -28,7 +28,7 @@ pub record Meaning (I V E : Type 0) : Type 1 where
 abbrev pub NeverTooLarge : {I V E : Type 0} → Meaning I V E → Type 0
 NeverTooLarge m = m.NeverFails true
 
--- which outcomes a longer input keeps (true), and one seen alike (false)
+-- which outcomes a longer input keeps (true), and one equal as a model (false)
 abbrev pub Keeps : {V : Type 0} → Bool → Outcome V → Type 0
 Keeps true o = IsDecided o
 Keeps false o = Unit {0}
@@ -38,7 +38,7 @@ module _ {I A : Type 0} (w : Seen I A) {V : Type 0} where
   abbrev pub Agree : Bool → (I → Outcome V → Type 0) → (I → Outcome V → Type 0) → Type 0
   Agree longer P Q = (x y : I) (o p : Outcome V) → w.IsKnown x → w.IsKnown y → Related w longer x y → P x o → Keeps longer o → Q y p → o ≡ p
 
-  -- on inputs seen alike an outcome of the first relation, if only a decided one (true), is one of the second
+  -- on inputs equal as models an outcome of the first relation, if only a decided one (true), is one of the second
   abbrev pub Carries : Bool → (I → Outcome V → Type 0) → (I → Outcome V → Type 0) → Type 0
   Carries decided P Q = (x y : I) (o : Outcome V) → w.IsKnown x → w.IsKnown y → IsSame w x y → P x o → Keeps decided o → Q y o
 
@@ -54,7 +54,7 @@ module _ {I A V E : Type 0} (w : Seen I A) (m : Meaning I V E) where
   -- the laws of every sound parser
   pub record IsLawful : Type 0 where
     pub within : (s : Bool) → Within w (m.answers s)
-    -- inputs that are seen alike have one outcome, and the same
+    -- inputs that are equal as models have one outcome, and the same
     pub one_outcome : (s : Bool) → Agree w false (m.answers s) (m.answers s)
     pub alike : (s : Bool) → Carries w false (m.answers s) (m.answers s)
     pub frugal : (mode : Modes) (i : I) → w.IsKnown i → m.IsFrugal mode → m.runs_out mode i → ⊥

@@ -13,7 +13,7 @@ IsPinned {V} {O} view IsOutput = (t : V) (a b : O) → IsOutput t a → IsOutput
 pub value_pinned : {O : Type 0} → IsPinned (itself {O = O}) (λ t o. o ≡ t)
 value_pinned t a b p q = p ∙ sym q
 
--- a slice, where inputs that are seen alike are compared as one
+-- a slice, where inputs that are equal as models are compared as one
 pub slice_pinned : {I A : Type 0} (w : Seen I A) (view : View I) → ((x y : I) → IsSame w x y → view.value x ≡ view.value y) → IsPinned view (IsSeenAs w)
 slice_pinned w view views t a b p q = views a b (record { elements_are = p.elements_are ∙ sym q.elements_are; mark_is = p.mark_is ∙ sym q.mark_is })
 

@@ -24,6 +24,25 @@ HoldsSame (Err (Error None)) r = ⊥
 HoldsSame (Err (Failure e)) r = r ≡ Err (Failure e)
 HoldsSame (Err OutOfMemory) r = r ≡ Err OutOfMemory
 
+-- the rest that is accepted
+abbrev pub rest_of : {I O E : Type 0} → Result (I × O) E → Option I
+rest_of (Ok (j, v)) = Some j
+rest_of (Err e) = None
+
+-- of the rest, where one is accepted
+abbrev pub OfRest : {I : Type 0} → (I → Type 0) → Option I → Type 0
+OfRest Fact (Some j) = Fact j
+OfRest Fact None = Unit {0}
+
+-- what a call owes where it accepts
+abbrev pub WhereAccepted : {I : Type 0} → (Option I → Type 0) → Option I → Type 0
+WhereAccepted Fact rest = OfRest (λ j. Fact (Some j)) rest
+
+-- What two calls owe, one after the other: where the first accepts, the second begins at its rest.
+pub data ThenBesides {I : Type 0} (First : Option I → Type 0) (Second : I → Option I → Type 0) (rest : Option I) : Type 0 where
+  Stopped : First None → rest ≡ None → ThenBesides First Second rest
+  Both : (j : I) → First (Some j) → Second j rest → ThenBesides First Second rest
+
 -- the answer asks for more input
 abbrev pub AsksForMore : {T E : Type 0} → Result T (Answer.Err E E Needed) → Type 0
 AsksForMore r = (k : Needed) × (r ≡ Err (Incomplete k))

@@ -77,7 +77,7 @@ module _ {I Z X P : Type 0} (w : Seen I Z) (l : InputLaws w) (a : Meaning I P X)
                     IsSteady w (tuple_8 w a b c d e f g h)
                 steady_8 p q r s u v y z = sequence_steady w l add_8 (λ o. o) (λ o. o) (tuple_7 w a b c d e f g) h (steady_7 p q r s u v y) z
 
--- two outputs of one tuple of trees are seen alike, member by member
+-- two outputs of one tuple of trees are equal as viewed, member by member
 module _ {P A : Type 0} (a : View A) (IsA : P → A → Type 0) where
   pub single_pinned : IsPinned a IsA → IsPinned (single_view a) (λ t o. IsA t o.0)
   single_pinned p t o n i k = p t o.0 n.0 i k

@@ -13,7 +13,7 @@ use Rattle.nom_internal.specs.Sequence.{sequence_meaning, pair_meaning}
 abbrev pub built_meaning : {I V E : Type 0} → Meaning I V E → Meaning I V E
 built_meaning m = record m { runs_out = λ mode. m.runs_out (with_outputs true mode); IsFrugal = λ mode. m.IsFrugal (with_outputs true mode) }
 
--- a tuple with one more value behind its own
+-- a tuple with one more value after its own
 abbrev pub add_3 : {A B C : Type 0} → A × B → C → A × B × C
 add_3 t x = (t.0, t.1, x)
 
@@ -111,11 +111,11 @@ abbrev pub OnAccepted : {I T U E : Type 0} → (I → Option T → Result (I × 
 OnAccepted Next (Ok a) r = Next a.0 a.1 r
 OnAccepted Next (Err f) r = r ≡ Err f
 
--- an acceptance with its value behind another
+-- an acceptance with its value after another
 abbrev pub IsPaired : {I T U E : Type 0} → T → I → Option U → Result (I × Option (T × U)) (Answer.Err E (Option E) Needed) → Type 0
 IsPaired {U = U} t j x r = (u : U) → x ≡ Some u → r ≡ Ok (j, Some (t, u))
 
--- what one more member shows at j, behind members whose outputs were built
+-- what one more member shows at j, after members whose outputs were built
 abbrev pub ShowsMember : {I A V T O E : Type 0} → Seen I A → (V → O → Type 0) → Meaning I V E → Modes → I → Option T →
     Result (I × Option (T × O)) (Answer.Err E (Option E) Needed) → Type 0
 ShowsMember {T = T} w IsOutput m mode j x r =

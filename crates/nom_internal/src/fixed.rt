@@ -1,4 +1,5 @@
 //! Parsers in one mode.
+ghost use Rattle.nom_error.specs.Modes.{with_streaming};
 ghost use Rattle.nom_internal.specs.Cases.{fixed_meaning};
 ghost use Rattle.nom_internal.specs.CaseLaws.{fixed_lawful, fixed_steady};
 
@@ -31,6 +32,8 @@ impl<I: Items, P: Parser<I> + Drop, S: IsStreaming> Parser<I> for Fixed<P, S> {
     ghost meaning = { λ s. fixed_meaning S.STREAMING (P.meaning s) };
 
     ghost Pins = { P.Pins };
+
+    ghost Besides = { λ mode old new. P.Besides (with_streaming S.STREAMING mode) old.parser new.parser };
 
     #[inline(always)]
     fn process<OM: OutputMode>(&mut self, input: I) -> PResult<I, P::Output, P::Error> {

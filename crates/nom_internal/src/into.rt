@@ -74,6 +74,8 @@ where
 
     ghost Pins = { λ s. F.Pins s × SeesAlike F.Output.view O.view O.from_gives };
 
+    ghost Besides = { λ mode old new. F.Besides mode old.parser new.parser };
+
     #[inline(always)]
     fn process<OM: OutputMode>(&mut self, input: I) -> PResult<I, O, E> {
         converted_answer(self.parser.process::<OM>(input))

@@ -1,9 +1,11 @@
 //! Parsers whose acceptances a closure judges by what it makes of the output.
-ghost use Rattle.std.specs.Prelude.{Some, Ok, is_some, is_ok};
+ghost use Rattle.std.specs.Prelude.{true, Some, Ok, is_some, is_ok};
 ghost use Rattle.nom_error.specs.Answers.{Refuses};
+ghost use Rattle.nom_error.specs.Modes.{with_outputs};
 ghost use Rattle.nom_error.specs.declared.kind.ErrorKind.TheVariants as Kind;
 ghost use Rattle.nom_internal.specs.Closures.{GivesFor, SeesAlike};
 ghost use Rattle.nom_internal.specs.Judged.{judged_meaning, OfError};
+ghost use Rattle.nom_internal.specs.Results.{WhereAccepted};
 ghost use Rattle.nom_internal.specs.JudgedLaws.{judged_lawful, judged_steady};
 ghost use Rattle.nom_internal.specs.MappedLaws.{given_pinned};
 
@@ -46,6 +48,8 @@ where
         (G.post s.1) is_some (λ i _. F.Error.errors.of_kind i Kind.MapOpt) F.Error.errors.grows (F.meaning s.0) };
 
     ghost Pins = { λ s. F.Pins s.0 × SeesAlike F.Output.view O.view (λ a o. G.post s.1 a (Some o)) };
+
+    ghost Besides = { λ mode old new i. WhereAccepted (F.Besides (with_outputs true mode) old.parser new.parser i) };
 
     #[inline(always)]
     fn process<OM: OutputMode>(&mut self, input: I) -> PResult<I, O, F::Error> {
@@ -132,6 +136,8 @@ where
         F.Error.externals.grows (F.meaning s.0) };
 
     ghost Pins = { λ s. F.Pins s.0 × SeesAlike F.Output.view O.view (λ a o. G.post s.1 a (Ok o)) };
+
+    ghost Besides = { λ mode old new i. WhereAccepted (F.Besides (with_outputs true mode) old.parser new.parser i) };
 
     #[inline(always)]
     fn process<OM: OutputMode>(&mut self, input: I) -> PResult<I, O, F::Error> {

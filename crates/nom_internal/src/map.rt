@@ -37,6 +37,8 @@ where
 
     ghost Pins = { λ s. F.Pins s.0 × SeesAlike F.Output.view O.view (G.post s.1) };
 
+    ghost Besides = { λ mode old new. F.Besides mode old.parser new.parser };
+
     #[inline(always)]
     fn process<OM: OutputMode>(&mut self, input: I) -> PResult<I, O, F::Error> {
         let (rest, output) = self.parser.process::<OM>(input)?;

@@ -1,9 +1,9 @@
 //! Parsers.
-ghost use Rattle.std.specs.Prelude.{◌≡◌, true, false};
-ghost use Rattle.nom_error.specs.Modes.{modes};
+ghost use Rattle.std.specs.Prelude.{◌≡◌, true, false, Option};
+ghost use Rattle.nom_error.specs.Modes.{Modes, modes};
 ghost use Rattle.nom_internal.specs.Meaning.{Meaning, IsLawful, IsSteady, ShowsMeaning, ParsesMeaning};
 ghost use Rattle.nom_internal.specs.Pinned.{IsPinned};
-ghost use Rattle.nom_internal.specs.Results.{IsFull, HoldsSame};
+ghost use Rattle.nom_internal.specs.Results.{IsFull, HoldsSame, rest_of};
 
 use crate::and_then::AndThen;
 use crate::either::Or;
@@ -44,8 +44,12 @@ pub trait Parser<I: Items>: Sized {
     ghost meaning: { State → Meaning I Tree Self.Error };
 
     /// Where the outputs that a tree stands for are one, as they are compared: closures answer arguments
-    /// that are seen alike by results that are.
+    /// that are equal as viewed by results that are.
     ghost Pins: { State → Type 0 };
+
+    /// What a call owes besides its outcome, by the mode, the parser before and after, the input, and the
+    /// rest that is accepted.
+    ghost Besides: { Modes → Self → Self → I → Option I → Type 0 } = { λ _ _ _ _ _. Unit {0} };
 
     /// Runs the parser in the mode `OM`: builds the output and the error only where it asks for them,
     /// and answers as it says whether more input may come.
@@ -54,9 +58,10 @@ pub trait Parser<I: Items>: Sized {
         ensures shown { ShowsMeaning I.seen (IsOutput (state self.old)) (meaning (state self.old))
             (modes OM.Output.BUILDS OM.Error.BUILDS OM.Incomplete.STREAMING) input result }
         // A call keeps the meaning.
-        ensures kept { state self.new ≡ state self.old };
+        ensures kept { state self.new ≡ state self.old }
+        ensures besides { Besides (modes OM.Output.BUILDS OM.Error.BUILDS OM.Incomplete.STREAMING) self.old self.new input (rest_of result) };
 
-    /// Of a sound parser: one outcome for each mode and input, fronts alone accepted, no want of memory
+    /// Of a sound parser: one outcome for each mode and input, fronts alone accepted, memory that never runs out
     /// where it is frugal, where it settles, decided streaming outcomes that are the complete ones, and no
     /// failure where it never fails.
     ghost lawful: { (s : State) → (meaning s).IsSound → IsLawful I.seen (meaning s) };
@@ -67,6 +72,7 @@ pub trait Parser<I: Items>: Sized {
         requires sound { (meaning (state self.old)).IsSound }
         ensures shown { ParsesMeaning I.seen (IsOutput (state self.old)) (meaning (state self.old)) true input result }
         ensures kept { state self.new ≡ state self.old }
+        ensures besides { Besides (modes true true true) self.old self.new input (rest_of result) }
     {
         full(self.process::<OutputM<Emit, Emit, Streaming>>(input))
     }
@@ -77,6 +83,7 @@ pub trait Parser<I: Items>: Sized {
         requires sound { (meaning (state self.old)).IsSound }
         ensures shown { ParsesMeaning I.seen (IsOutput (state self.old)) (meaning (state self.old)) false input result }
         ensures kept { state self.new ≡ state self.old }
+        ensures besides { Besides (modes true true false) self.old self.new input (rest_of result) }
     {
         full(self.process::<OutputM<Emit, Emit, Complete>>(input))
     }
@@ -191,7 +198,7 @@ pub trait StreamParser<I: Items>: Parser<I, Output: Viewed> {
     #[inline(always)]
     fn streams(&self) {}
 
-    /// Where it pins, two outputs of one tree are seen alike.
+    /// Where it pins, two outputs of one tree are equal as viewed.
     ghost pinned: { (s : Self.State) → (Self.meaning s).IsSound → Self.Parser.Pins s → IsPinned Self.Output.view (Self.IsOutput s) };
 
     /// A decided streaming outcome stays on every longer input.

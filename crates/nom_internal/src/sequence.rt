@@ -1,5 +1,6 @@
 //! One parser after another.
 ghost use Rattle.std.specs.Prelude.{◌≡◌, Some, None};
+ghost use Rattle.nom_internal.specs.Results.{ThenBesides};
 ghost use Rattle.nom_internal.specs.Sequence.{pair_meaning};
 
 use crate::parser::{Parser, StreamParser};
@@ -44,6 +45,8 @@ impl<I: Items, F: Parser<I> + Drop, G: Parser<I, Error = F::Error> + Drop> Parse
     ghost meaning = { λ s. pair_meaning I.seen (F.meaning s.0) (G.meaning s.1) };
 
     ghost Pins = { λ s. F.Pins s.0 × G.Pins s.1 };
+
+    ghost Besides = { λ mode old new i. ThenBesides (F.Besides mode old.first new.first i) (G.Besides mode old.second new.second) };
 
     #[inline(always)]
     fn process<OM: OutputMode>(&mut self, input: I) -> PResult<I, Self::Output, Self::Error> {

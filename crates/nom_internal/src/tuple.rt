@@ -14,7 +14,7 @@ use nom_error::answer::PResult;
 use nom_error::mode::{Emit, Mode, OutputM, OutputMode};
 use nom_traits::input::Items;
 
-/// An answer, with its output behind another.
+/// An answer, with its output after another.
 #[inline(always)]
 fn paired<I, T: Drop, U: Drop, E>(
     first: Option<T>,
@@ -31,7 +31,7 @@ fn paired<I, T: Drop, U: Drop, E>(
     }
 }
 
-/// What one more member answers behind those before it. Its output is built in every mode.
+/// What one more member answers after those before it. Its output is built in every mode.
 #[inline(always)]
 pub fn next_member<I: Items, T: Drop, P: Parser<I>, OM: OutputMode>(
     before: PResult<I, T, P::Error>,

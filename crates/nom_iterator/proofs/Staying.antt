@@ -1,4 +1,4 @@
--- Items stay on longer inputs, and are the same on inputs that are seen alike.
+-- Items stay on longer inputs, and are the same on inputs that are equal as models.
 use Rattle.std.proofs.Common.{arith, ◌≡◌, ℕ, suc, zero, ◌<◌, ◌≤◌, Bool, true, false, List, [], ◌∷◌, ◌++◌, length, map, refl, sym, ◌∙◌, ap, subst}
 use Rattle.std.specs.List.{AllZip}
 use Rattle.nom_traits.specs.Input.{Seen, InputLaws, IsRest, Related, Extends, IsSame, input_len, span}

@@ -35,7 +35,7 @@ module _ {I A V E : Type 0} (w : Seen I A) (m : Meaning I V E) where
       (ended : Bool) (limit : ℕ) (x y : I) (ts us : List V) → w.IsKnown x → w.IsKnown y → Extends w x y →
       CanGive w (m.answers true) ended limit x ts → CanGive w (m.answers true) ended limit y us → (more : List V) × (us ≡ ts ++ more)
 
-  -- inputs that are seen alike have the same items, and no others
+  -- inputs that are equal as models have the same items, and no others
   abbrev pub ItemsAreOne : Type 0
   ItemsAreOne =
       (ended : Bool) (limit : ℕ) (x y : I) (ts us : List V) → w.IsKnown x → w.IsKnown y → IsSame w x y →
@@ -47,7 +47,7 @@ module _ {I A V E : Type 0} (w : Seen I A) (m : Meaning I V E) where
       ((i : I) (k : ℕ) (t : V) → m.answers true i (Accept k t) → 0 < k) → (ended : Bool) (limit : ℕ) (x : I) (ts : List V) →
       CanGive w (m.answers true) ended limit x ts → length ts ≤ input_len w x
 
-  -- Of the outputs that are given for the items on an input and on one that extends it, the first are seen alike, where the parser pins.
+  -- Of the outputs that are given for the items on an input and on one that extends it, the first are equal as viewed, where the parser pins.
   abbrev pub OutputsStay : {O : Type 0} → View O → (Pins : Type 0) → (V → O → Type 0) → Type 0
   OutputsStay {O} view Pins IsOutput =
       (ended : Bool) (limit : ℕ) (x y : I) (ts us : List V) (vs vs' : List O) → w.IsKnown x → w.IsKnown y → Extends w x y →

@@ -16,7 +16,7 @@ pub fn items_stay<I: Items, P: StreamParser<I>>(_parser: &P)
         (P.IsOutput (P.state _parser.now)) }
 {}
 
-/// The items that can be given on an input, up to any limit, are those on every input that is seen alike.
+/// The items that can be given on an input, up to any limit, are those on every input that is equal as models.
 pub fn items_are_one<I: Items, P: Parser<I>>(_parser: &P)
     requires { (P.meaning (P.state _parser.now)).IsSound }
     ensures { ItemsAreOne I.seen (P.meaning (P.state _parser.now)) }

@@ -32,7 +32,7 @@ pub closed : {V O U P W Q : Type 0} (a : TextGrammar V O) (b : TextGrammar U P) 
     TakenBy a i j x → TakenBy b j k y → TakenBy d k l z → TakenBy (delimited_of a b d) i l y
 closed a b d {y = y} t u w = both_taken {IsNext = b.IsOutput} {y = y} t (both_taken {IsResult = b.IsOutput} {z = y} u w u.output_is) u.output_is
 
--- a part behind another
+-- a part after another
 module _ {V O U P : Type 0} (a : TextGrammar V O) (b : TextGrammar U P) {i : Text} {r : Told P} where
   pub before_stops : IsFrugal a → {e : Answer.Err (Error Text) (Error Text) Needed} {s : Told O} → s ≡ Err e → r ≡ Err e → Parses a false i s →
       Parses (preceded_of a b) false i r

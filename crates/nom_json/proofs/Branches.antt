@@ -43,7 +43,7 @@ module _ {i : Text} {r : Told Json} where
       (either_refused scalar_of (array_of (value_of d)) f (subst (λ n. HasRefused (array_of (value_of n)) i) (one_less d) g))
       (subst (λ n. Parses (object_of (value_of n)) false i r) (one_less d) h)
 
--- behind a character what is left is shorter
+-- after a character what is left is shorter
 pub moved : (c : ℕ) {V O : Type 0} (g : TextGrammar V O) {i j : Text} {x : ℕ} {r : Told O} → TakenBy (token_of c) i j x → Parses g false j r →
     IfOk r (λ a. input_len seen_text a.0 < input_len seen_text i)
 moved c g {i} t (ParseRanOut e h) = subst (λ z. IfOk z (λ a. input_len seen_text a.0 < input_len seen_text i)) (sym e) tt

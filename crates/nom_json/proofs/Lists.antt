@@ -32,11 +32,11 @@ Turns first further = TurnsBy None list_turn (λ k. (item_at first further k).an
 abbrev pub Listed : {V O : Type 0} → TextGrammar V O → (start place : Text) → List O → Type 0
 Listed g start place outputs = Collected seen_text (Turns g.meaning (behind_comma g).meaning) (λ vs. AllZip g.IsOutput vs outputs × (0 < length vs)) start place
 
--- the part for so many items before it
+-- the part for that many items before it
 abbrev PartAt : {V O : Type 0} → TextGrammar V O → ℕ → Meaning Text V (Error Text)
 PartAt g n = item_at g.meaning (behind_comma g).meaning n
 
--- behind the first item are the further ones
+-- after the first item are the further ones
 further_at : {V : Type 0} (first further : Meaning Text V (Error Text)) (k : ℕ) → 0 < k → further ≡ item_at first further k
 further_at first further zero h = absurd (omega (arith, h))
 further_at first further (suc k) h = refl
@@ -152,7 +152,7 @@ module _ {V O : Type 0} (g : TextGrammar V O) {i j : Text} {outputs : List O} (c
         omega (arith, length-append c.trees (t.tree ∷ []), c.held.1),
       )
 
--- the items behind a growth that succeeded
+-- the items after a growth that succeeded
 pub grown : {T E X : Type 0} (r : Result T E) (items more old : List X) → items ≡ (if is_ok r then more else old) → is_err r ≡ false → items ≡ more
 grown (Ok x) items more old h e = h
 grown (Err x) items more old h e = cc (e)

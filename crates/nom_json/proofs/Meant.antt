@@ -21,7 +21,7 @@ pub some_by : {P Q : Type 0} (v : ℕ) (r : Option ℕ) → (P → Q) → (Q →
 some_by v None f g h = λ q. h (g q)
 some_by v (Some x) f g h = (f h.0, h.1)
 
--- of texts that are seen alike the character is judged alike
+-- of texts that are equal as models the character is judged alike
 abbrev number_in : List ℕ → ℕ
 number_in cs = number_of_four (encode_utf8_all cs)
 

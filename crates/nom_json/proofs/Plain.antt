@@ -189,7 +189,7 @@ pub none_left : (bytes : List ℕ) (b : Bool) → b ≡ (length bytes == 0) → 
 none_left [] b e h = chars-nil
 none_left (c ∷ bytes) b e h = let never : false ≡ true = sym (ne_eqb (length (c ∷ bytes)) 0 (λ z. omega (arith, z))) ∙ (sym e ∙ h) in absurd (cc (never))
 
--- all behind a front meets what all meets
+-- all after a front meets what all meets
 all_behind : (P : ℕ → Type 0) (xs ys : List ℕ) → All P (xs ++ ys) → All P ys
 all_behind P [] ys h = h
 all_behind P (x ∷ xs) ys h = all_behind P xs ys (All-tail P x (xs ++ ys) h)
@@ -205,7 +205,7 @@ stopped_there [] n s a = n refl
 stopped_there (c ∷ cs) n (inl h) a = h
 stopped_there (c ∷ cs) n (inr e) a = let never : false ≡ true = e ∙ All-head (λ x. in_text x ≡ true) c cs a in cc (never)
 
--- where a text is left behind the plain characters, not all of them are plain
+-- where a text is left after the plain characters, not all of them are plain
 pub not_plain : {i j x : Text} → Taken plain_run.IsOutput (plain_run.meaning.answers false i) i j x → (b : Bool) → b ≡ (length j.now == 0) →
     b ≡ false → All (λ c. in_text c ≡ true) (chars i.now) → ⊥
 not_plain {i} {j} t b e f all =

@@ -1,4 +1,4 @@
--- What is known of characters with white space behind them.
+-- What is known of characters with white space after them.
 use Rattle.std.proofs.Common.{◌≡◌, ℕ, ◌+◌, ◌<◌, false, arith, sym, subst}
 use Rattle.nom_error.specs.Modes.{Modes}
 use Rattle.nom_traits.specs.Input.{IsRest, input_len}
@@ -38,7 +38,7 @@ token_length c i n t Fail a g = cc (g)
 token_length c i n t TooLarge a g = cc (g)
 token_length c i n t (Undecided k) a g = cc (g)
 
--- what is left behind a character, and behind what follows it, is shorter
+-- what is left after a character, and after what follows it, is shorter
 pub token_moves : (c : ℕ) {i j k : Text} {x n : ℕ} → (t : Taken (token_of c).IsOutput ((token_of c).meaning.answers false i) i j x) →
     IsRest seen_text j n k → input_len seen_text k < input_len seen_text i
 token_moves c {i} t r = omega (

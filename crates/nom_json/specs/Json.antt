@@ -86,7 +86,7 @@ items_at first further = record {
 abbrev pub behind_comma : {V O : Type 0} → TextGrammar V O → TextGrammar V O
 behind_comma g = preceded_of (token_of 44) g
 
--- any number of items, with commas between them; where a comma or what stands behind it is refused, the list ends before the comma
+-- any number of items, with commas between them; where a comma or what stands after it is refused, the list ends before the comma
 abbrev pub list_of : {V O M : Type 0} → TextGrammar V O → TextGrammar (List V) (Vec O M)
 list_of g = record {
   meaning = repeat_meaning seen_text list_rule (λ vs _. vs) (items_at g.meaning (behind_comma g).meaning);
@@ -118,6 +118,6 @@ json_of d = preceded_of spaces_of (value_of d)
 abbrev pub eof_of : TextGrammar Part Text
 eof_of = sliced seen_text (eof_meaning seen_text kept)
 
--- a whole text, with nothing behind it
+-- a whole text, with nothing after it
 abbrev pub json_text_of : (d : ℕ) → TextGrammar (Tree d) Json
 json_text_of d = terminated_of (json_of d) eof_of

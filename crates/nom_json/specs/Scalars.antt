@@ -11,7 +11,7 @@ use Rattle.nom_internal.specs.Tuples.{tuple_3, tuple_4}
 use Rattle.nom_bytes.specs.ParsedRuns.{bounded_meaning, run1_meaning}
 use Rattle.nom_bytes.specs.Predicates.{IsFixed}
 use Rattle.nom_character.specs.ClassRuns.{class_meaning}
-use Rattle.nom_character.specs.Heads.{satisfy_meaning}
+use Rattle.nom_first.specs.Heads.{satisfy_meaning}
 use Rattle.nom_combinator.specs.Verdicts.{cut_meaning, opt_meaning, peek_meaning}
 use Rattle.nom_ends.specs.Ends.{fail_meaning}
 use Rattle.nom_escaped.specs.Escapes.{escaped_meaning}
@@ -28,7 +28,7 @@ Part = Slice seen_text
 abbrev pub spaces_of : TextGrammar Part Text
 spaces_of = sliced seen_text (class_meaning seen_text (λ x. x) kept MultiSpace None)
 
--- a character, and white space behind it
+-- a character, and white space after it
 abbrev pub token_of : ℕ → TextGrammar ℕ ℕ
 token_of c = terminated_of (char_of c) spaces_of
 
@@ -75,11 +75,11 @@ abbrev pub hexes_by : (least most : ℕ) → TextGrammar Part Text
 hexes_by least most =
     sliced seen_text (bounded_meaning seen_text (λ c b. b ≡ is_digit c 16) (((c : ℕ) → Unit {0}) × IsFixed IsScalar (λ c b. b ≡ is_digit c 16)) kept least most)
 
--- what stands behind a backslash: a letter, or a `u` and digits
+-- what stands after a backslash: a letter, or a `u` and digits
 abbrev pub escape_by : (letters : List ℕ) (mark least most : ℕ) (kind : ErrorKind) → TextGrammar (ℕ ⊎ ℕ) ℕ
 escape_by letters mark least most kind = alt_of (or_of (one_by letters kind) (terminated_of (char_of mark) (hexes_by least most)))
 
--- characters, and escapes behind a control character
+-- characters, and escapes after a control character
 abbrev pub escaped_by : {V O : Type 0} → (control : ℕ) → TextGrammar Part Text → TextGrammar V O → TextGrammar Part Text
 escaped_by control plain escape = sliced seen_text (escaped_meaning seen_text kept (λ x. x ≡ control) plain.meaning escape.meaning)
 
@@ -91,7 +91,7 @@ characters_by control letters mark least most plain_kind letter_kind =
 abbrev pub characters_of : TextGrammar Part Text
 characters_of = characters_by 92 (codes "\"\\/bfnrt") 117 4 4 Kind.TakeWhile1 Kind.OneOf
 
--- a text between quotes, and white space behind it
+-- a text between quotes, and white space after it
 abbrev pub text_of : TextGrammar Part Text
 text_of = delimited_of (char_of 34) characters_of (token_of 34)
 

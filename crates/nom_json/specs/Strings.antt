@@ -18,7 +18,7 @@ use Rattle.nom_escaped.specs.Texts.{AddAll}
 use Rattle.nom.specs.Texts.{Text, TextGrammar, all_consuming_of, alt_of, char_of, kept, map_of, or_of, pair_of, preceded_of, tag_of}
 use Rattle.nom_json.specs.Scalars.{Part, hexes_by, in_text, one_by, plain_by}
 
--- the character that a letter behind a backslash stands for: `b`, `f`, `n`, `r`, `t`, and others for themselves
+-- the character that a letter after a backslash stands for: `b`, `f`, `n`, `r`, `t`, and others for themselves
 abbrev pub meant_of : ℕ → ℕ
 meant_of letter = if letter == 98 then 8 else (if letter == 102 then 12 else (if letter == 110 then 10 else
     (if letter == 114 then 13 else (if letter == 116 then 9 else letter))))
@@ -53,7 +53,7 @@ map_opt_of Gives g = record {
   IsOutput = GivesFor g.IsOutput (λ o p. Gives o (Some p));
 }
 
--- a letter or four digits behind a backslash, or two times four, as the character that they stand for
+-- a letter or four digits after a backslash, or two times four, as the character that they stand for
 abbrev pub EscapeTree : Type 0
 EscapeTree = ℕ ⊎ (Part ⊎ (Part × Part))
 
@@ -83,7 +83,7 @@ meant_by s = alt_of (or_of
 abbrev pub Means : Signs → List (Piece Part EscapeTree) → List ℕ → Type 0
 Means s = AddAll (plain_by s.plain_kind).IsOutput (meant_by s).IsOutput (λ text. encode_utf8_all (chars text.now)) encode_utf8
 
--- characters and escapes, and nothing behind them, as the text that they make together
+-- characters and escapes, and nothing after them, as the text that they make together
 abbrev pub unescaped_by : {M : Type 0} → Signs → TextGrammar (List (Piece Part EscapeTree)) (String M)
 unescaped_by s = all_consuming_of (record {
   meaning = escaped_transform_meaning seen_text kept (λ x. x ≡ s.control) (plain_by s.plain_kind).meaning (meant_by s).meaning;

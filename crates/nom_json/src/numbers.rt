@@ -18,7 +18,7 @@ use nom::sequence::pair;
 /// integer = '-'? ('0' | digit+)
 /// ```
 ///
-/// A number with a fraction or an exponent is refused with `Eof` at its first character behind the digits, also where its
+/// A number with a fraction or an exponent is refused with `Eof` at its first character after the digits, also where its
 /// value is whole; one that doesn't fit an `i64` is refused with `Digit`.
 pub fn integer<'a>(number: &'a str) -> Answer<'a, i64>
     ensures { Parses integer_of false number.entry result }

@@ -15,7 +15,7 @@ use nom::{Items, Parser};
 use std::alloc::Allocator;
 use std::borrow::CowStr;
 
-/// The character that a letter behind a backslash stands for.
+/// The character that a letter after a backslash stands for.
 fn meant(letter: char) -> char
     ensures { result ≡ meant_of letter }
 {

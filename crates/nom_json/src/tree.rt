@@ -5,7 +5,7 @@ ghost use Rattle.nom_json.specs.declared.tree.Json.TheVariants.{Null, Bool, Numb
 use nom::Viewed;
 
 /// A value. Numbers and strings are slices of the text: a number as it is written, a string with its escapes and
-/// without its quotes. The members of an object stand in their order, each behind its name, and a name may stand
+/// without its quotes. The members of an object stand in their order, each after its name, and a name may stand
 /// twice.
 #[derive(Debug, Drop)]
 pub enum Json<'a> {

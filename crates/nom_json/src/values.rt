@@ -146,7 +146,7 @@ fn members<'a>(
     }
 }
 
-/// A comma, and a value behind it.
+/// A comma, and a value after it.
 #[cycle(values)]
 fn next_element<'a>(alloc: Global, depth: usize, input: &'a str) -> Answer<'a, Json<'a>>
     ensures shown { Parses (behind_comma (value_of depth)) false input.entry result }
@@ -156,7 +156,7 @@ fn next_element<'a>(alloc: Global, depth: usize, input: &'a str) -> Answer<'a, J
     value(alloc, depth, behind)
 }
 
-/// A comma, and a member behind it.
+/// A comma, and a member after it.
 #[cycle(values)]
 fn next_member<'a>(alloc: Global, depth: usize, input: &'a str) -> Answer<'a, (&'a str, Json<'a>)>
     ensures shown { Parses (behind_comma (member_of (value_of depth))) false input.entry result }
@@ -193,7 +193,7 @@ fn member<'a>(alloc: Global, depth: usize, input: &'a str) -> Answer<'a, (&'a st
 ///
 /// A plain character is any but the quote, the backslash and those below a space; a space is a space, a tab, a line feed or
 /// a carriage return. Half a pair of surrogates may be written alone, as the RFC has it: `decoded` refuses it. What follows
-/// the value is left, so that `01` is the number `0` with `1` behind it: `json_text` refuses what is left.
+/// the value is left, so that `01` is the number `0` with `1` after it: `json_text` refuses what is left.
 ///
 /// A text that isn't one is refused. Where more than `depth` brackets lie in each other, that is a failure with `Fail` at the
 /// bracket: so `depth` bounds the stack that a hostile text can take.
@@ -204,7 +204,7 @@ pub fn json<'a>(alloc: Global, depth: usize, input: &'a str) -> Answer<'a, Json<
     value(alloc, depth, inside)
 }
 
-/// A whole JSON text to its tree: what `json` reads, with nothing behind it. What is left is refused with `Eof`, where it
+/// A whole JSON text to its tree: what `json` reads, with nothing after it. What is left is refused with `Eof`, where it
 /// begins.
 pub fn json_text<'a>(alloc: Global, depth: usize, input: &'a str) -> Answer<'a, Json<'a>>
     ensures { Parses (json_text_of depth) false input.entry result }

@@ -17,7 +17,7 @@
 //! 1. The text.
 //! 2. The value: a word; a number as it is written, and the whole number that it is, where it is one that fits; the text
 //!    that a string means, put together or as it stands, or that a surrogate in it has no other half; how many values a
-//!    list has; how many members an object has, and what their names mean, one behind another. Or `refused`, or
+//!    list has; how many members an object has, and what their names mean, one after another. Or `refused`, or
 //!    `too deep` where more than 100 brackets lie in each other.
 //!
 //! It prints and ends as `nom_answers` does.
@@ -139,7 +139,7 @@ fn found(alloc: Global, text: &str) -> Option<Answer> {
     }
 }
 
-/// The answer that a line tells: words, and behind them a text, if there is one.
+/// The answer that a line tells: words, and after them a text, if there is one.
 fn read_answer(alloc: Global, line: &str) -> Option<Answer> {
     match line.split_once(" \"") {
         None => told(alloc, line),

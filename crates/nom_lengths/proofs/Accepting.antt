@@ -1,4 +1,4 @@
--- What a list behind its length accepts.
+-- What a list after its length accepts.
 use Rattle.std.proofs.Common.{ℕ, Some, ap, sym, subst}
 use Rattle.nom_error.specs.Errors.{Errors}
 use Rattle.nom_traits.specs.Input.{Seen}

@@ -1,4 +1,4 @@
--- What is shown behind a length.
+-- What is shown after a length.
 use Rattle.std.proofs.Common.{◌≡◌, ℕ, true, Result, Ok, Option, Some, sym}
 use Rattle.nom_error.specs.declared.answer.Needed.{Needed}
 use Rattle.nom_error.specs.declared.answer.Err as Answer

@@ -6,7 +6,7 @@ use Rattle.nom_traits.specs.Slices.{IsCount}
 use Rattle.nom_internal.specs.CaseLaws.{no_place}
 
 module _ {A : Type 0} (weight : A → ℕ) (pos : (a : A) → 0 < weight a) where
-  -- what a longer front holds behind a front
+  -- what a longer front holds after a front
   front_behind : (f r g h : List A) (m : ℕ) → f ++ r ≡ g ++ h → span weight g ≡ span weight f + m → (k : List A) × (r ≡ k ++ h) × (span weight k ≡ m)
   front_behind [] r g h m e s = (g, e, omega (arith, s))
   front_behind (x ∷ f) r [] h m e s = absurd (omega (arith, s, pos x))

@@ -1,4 +1,4 @@
--- The laws of what stands behind a length.
+-- The laws of what stands after a length.
 use Rattle.std.specs.Prelude.{ℕ, true, List, Option}
 use Rattle.nom_error.specs.Errors.{Errors}
 use Rattle.nom_error.specs.Modes.{with_outputs}

@@ -1,4 +1,4 @@
--- What stands behind a length.
+-- What stands after a length.
 use Rattle.std.specs.Prelude.{◌≡◌, ℕ, true, List, Option}
 use Rattle.nom_error.specs.Errors.{Errors}
 use Rattle.nom_error.specs.Modes.{modes, with_outputs}
@@ -17,7 +17,7 @@ pub record HasSize {P O : Type 0} (IsOutput : P → O → Type 0) (size : O → 
   pub is_output : IsOutput u output
   pub size_is : size output ≡ n
 
--- A length, and behind it what is meant by its number. What the tree of the length stands for is told by its output, so the
+-- A length, and after it what is meant by its number. What the tree of the length stands for is told by its output, so the
 -- length is built in every mode.
 abbrev pub behind_length : {I A P Q T E : Type 0} → (w : Seen I A) → (P → Q → T) → (P → ℕ → Type 0) → Meaning I P E → Family ℕ I Q E → Meaning I T E
 behind_length w tree IsLength a f = then_meaning w tree (with_outputs true) (λ o. o) a (of_value IsLength f)
@@ -32,7 +32,7 @@ takes_by_count w errs lack = record {
   NeverFails = λ large. Unit {0};
 }
 
--- a length, and behind it so many items, as `take` takes them
+-- a length, and after it that many items, as `take` takes them
 abbrev pub length_data_meaning : {I A P E : Type 0} → (w : Seen I A) → Errors I E → (ℕ → List A → Option ℕ) → (P → ℕ → Type 0) → Meaning I P E →
     Meaning I (P × Slice w) E
 length_data_meaning w errs lack IsLength a = behind_length w (λ u t. (u, t)) IsLength a (takes_by_count w errs lack)
@@ -47,6 +47,6 @@ items_by_count w errs m = record {
   NeverFails = m.NeverFails;
 }
 
--- A length, and behind it exactly so many items, which may be empty. Where one is refused, the kind is added behind the length.
+-- A length, and after it exactly that many items, which may be empty. Where one is refused, the kind is added after the length.
 abbrev pub length_count_meaning : {I A P V E : Type 0} → (w : Seen I A) → Errors I E → (P → ℕ → Type 0) → Meaning I P E → Meaning I V E → Meaning I (List V) E
 length_count_meaning w errs IsLength a m = behind_length w (λ u vs. vs) IsLength a (items_by_count w errs m)

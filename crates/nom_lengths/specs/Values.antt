@@ -1,4 +1,4 @@
--- A value behind a length, on exactly so much of the input.
+-- A value after a length, on exactly so much of the input.
 use Rattle.std.specs.Prelude.{◌≡◌, ℕ, ◌-◌, ◌<◌, ◌≤◌, Bool, true, ◌⊎◌, Option, Some, Result, Ok, Err}
 use Rattle.nom_error.specs.Errors.{Errors}
 use Rattle.nom_error.specs.Answers.{Refuses}
@@ -77,6 +77,6 @@ values_by_length w errs m = record {
   NeverFails = m.NeverFails;
 }
 
--- a length, and behind it a part on exactly so much
+-- a length, and after it a part on exactly so much
 abbrev pub length_value_meaning : {I A P V E : Type 0} → (w : Seen I A) → Errors I E → (P → ℕ → Type 0) → Meaning I P E → Meaning I V E → Meaning I V E
 length_value_meaning w errs IsLength a m = behind_length w (λ u t. t) IsLength a (values_by_length w errs m)

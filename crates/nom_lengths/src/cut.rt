@@ -13,7 +13,7 @@ use nom_error::value::{ParseError, refusal};
 use nom_internal::slices::front;
 use nom_traits::input::{Input, Items};
 
-/// The first items, of the length together, and what stands behind them. Where there is less, more is
+/// The first items, of the length together, and what stands after them. Where there is less, more is
 /// needed, in both modes.
 #[inline(always)]
 pub(crate) fn cut<OM: OutputMode, I: Input, E: ParseError<I>>(

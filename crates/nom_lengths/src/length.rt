@@ -1,4 +1,4 @@
-//! Data behind a length.
+//! Data after a length.
 ghost use Rattle.nom_traits.specs.Slices.{Slice, IsSeenAs};
 ghost use Rattle.nom_lengths.specs.Lengths.{HasSize, length_data_meaning};
 
@@ -10,7 +10,7 @@ use nom_internal::parser::{Parser, StreamParser};
 use nom_traits::convert::ToUsize;
 use nom_traits::input::{Input, Items};
 
-/// A length and so many items behind it, made by `length_data`.
+/// A length and that many items after it, made by `length_data`.
 #[derive(Drop)]
 pub struct LengthData<F> {
     pub parser: F,

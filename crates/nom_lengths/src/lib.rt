@@ -1,4 +1,4 @@
-//! Lengths: what stands behind a length that is read.
+//! Lengths: what stands after a length that is read.
 #![tactic(auto)]
 
 ghost use Rattle.std.specs.Prelude.{◌≡◌};
@@ -14,10 +14,10 @@ pub use crate::length::LengthData;
 pub use crate::value::LengthValue;
 use std::alloc::Allocator;
 
-/// A length, as `parser` reads it, and behind it so many items: bytes of a byte slice, characters of a
+/// A length, as `parser` reads it, and after it that many items: bytes of a byte slice, characters of a
 /// text. Its output is those items. The length may be of any type that is `ToUsize`.
 ///
-/// Where there are fewer, streaming asks for the rest, and complete refuses with `Eof` behind the
+/// Where there are fewer, streaming asks for the rest, and complete refuses with `Eof` after the
 /// length, as `take` does.
 #[inline(always)]
 pub fn length_data<F>(parser: F) -> LengthData<F>
@@ -26,10 +26,10 @@ pub fn length_data<F>(parser: F) -> LengthData<F>
     LengthData { parser }
 }
 
-/// A length, as `length` reads it, and behind it so many outputs of `parser`, one after another: a list
+/// A length, as `length` reads it, and after it so many outputs of `parser`, one after another: a list
 /// of them, which takes its memory from `alloc`.
 ///
-/// Where an item is refused, so is all, and `Count` is added to its error at the place behind the
+/// Where an item is refused, so is all, and `Count` is added to its error at the place after the
 /// length. An item may consume nothing. All else that an item answers is passed on. No memory is taken
 /// ahead: the list grows by the items that are accepted, and where it can't, the answer is
 /// `OutOfMemory`.
@@ -50,12 +50,12 @@ pub fn length_count<A: Allocator + Copy, F, G>(
     }
 }
 
-/// A length, as `length` reads it, and `parser` on exactly so much of the input behind it. The length is
+/// A length, as `length` reads it, and `parser` on exactly so much of the input after it. The length is
 /// in the units of `input_len`: bytes, of a byte slice and of a text. The output is that of `parser`,
-/// whatever it leaves of those bytes, and the rest stands behind them.
+/// whatever it leaves of those bytes, and the rest stands after them.
 ///
 /// Where there are fewer, more is needed, in both modes. Where the length ends inside a character, it is
-/// refused with `LengthValue` at the place behind the length. `parser` runs in the mode that is asked
+/// refused with `LengthValue` at the place after the length. `parser` runs in the mode that is asked
 /// for; where it wants more than there is for it, it is refused with `Complete`.
 #[inline(always)]
 pub fn length_value<F, G>(length: F, parser: G) -> LengthValue<F, G>

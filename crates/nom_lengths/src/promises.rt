@@ -1,4 +1,4 @@
-//! What a list behind its length promises beside what every parser does. The function does nothing: its
+//! What a list after its length promises beside what every parser does. The function does nothing: its
 //! contract is the promise.
 ghost use Rattle.nom_lengths.specs.Lengths.{HasSize};
 ghost use Rattle.nom_lengths.specs.Promises.{AcceptsCounted};
@@ -9,8 +9,8 @@ use nom_traits::convert::ToUsize;
 use nom_traits::input::Items;
 use std::alloc::Allocator;
 
-/// `length_count` accepts a length that its first part accepts, and behind it just so many items that its second
-/// part accepts, one behind the other, of any length.
+/// `length_count` accepts a length that its first part accepts, and after it just that many items that its second
+/// part accepts, one after the other, of any length.
 pub fn length_count_accepts<
     I: Items,
     A: Allocator + Copy,

@@ -1,4 +1,4 @@
-//! A value behind the length of what it is read from.
+//! A value after the length of what it is read from.
 ghost use Rattle.std.specs.Prelude.{◌≡◌};
 ghost use Rattle.nom_error.specs.declared.kind.ErrorKind.TheVariants as Kind;
 ghost use Rattle.nom_error.specs.Modes.{modes};
@@ -17,7 +17,7 @@ use nom_traits::convert::ToUsize;
 use nom_traits::input::{Input, Items};
 use nom_traits::view::Viewed;
 
-/// A length and a parser on exactly so much of the input behind it, made by `length_value`.
+/// A length and a parser on exactly so much of the input after it, made by `length_value`.
 #[derive(Drop)]
 pub struct LengthValue<F, G> {
     pub length: F,

@@ -127,7 +127,7 @@ module _ {I A U W E : Type 0} (w : Seen I A) (l : InputLaws w) (IsControl : A �
       by TooLarge b e = absurd (cc (e))
       by (Undecided d) b e = absurd (cc (e))
 
-  -- at an input that is seen alike
+  -- at an input that is equal as models
   piece_alike : (i j : I) → w.IsKnown i → w.IsKnown j → IsSame w j i → HasPiece j → HasPiece i
   piece_alike i j h k r (inl a) = inl (a.0, a.1, p.alike s j i (Accept a.0 a.1) k h r a.2 tt)
   piece_alike i j h k r (inr a) = inr (

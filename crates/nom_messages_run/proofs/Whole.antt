@@ -50,7 +50,7 @@ still offset None = refl
 still offset (Some why) = refl
 
 module _ {R A V : Type 0} (left : R → Option (List ℕ)) (IsItem : V → Received → Type 0) (m : Meaning Bytes V (Error Bytes)) where
-  -- the lines of the first items, and what is behind them
+  -- the lines of the first items, and what is after them
   record Listed (s t : Stream R A) (whole : Bytes) (limit : ℕ) (trees : List V) (text : List ℕ) : Type 0 where
     pub first : List V
     pub others : List V
@@ -179,7 +179,7 @@ module _ {R A V : Type 0} (left : R → Option (List ℕ)) (IsItem : V → Recei
         (item_first s h.0 t n o (length messages) rest.0 h.1 (are_listed messages h.0 t rest.0 rest.2) whole known has low limit trees
         (subst (λ z. AllItems m s.settings.complete z whole trees) one_more a))
 
-    -- the last line behind the others
+    -- the last line after the others
     module _ (s t : Stream R A) (held held' : Option (List ℕ)) (status : ℕ) (text : List ℕ) (e : Ends left IsItem m s t text status)
         (wrote : Appends held held' text) (whole : Bytes) (limit : ℕ) (trees : List V)
         (k : Listed s e.before whole (suc limit) trees e.lines) where

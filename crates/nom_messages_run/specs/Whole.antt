@@ -38,7 +38,7 @@ module _ {V : Type 0} (IsItem : V → Received → Type 0) (m : Meaning Bytes V 
 
 module _ {R A V : Type 0} (IsItem : V → Received → Type 0) (m : Meaning Bytes V (Error Bytes)) where
   -- What was written, of data that is `whole`, and of which these are the trees of the items: the lines of the first of them, and the
-  -- last line, which tells of the outcome behind these. Where it tells that there is no further message, they are all.
+  -- last line, which tells of the outcome after these. Where it tells that there is no further message, they are all.
   pub record WroteWhole (s t : Stream R A) (held held' : Option (List ℕ)) (status : ℕ) (whole : Bytes) (trees : List V) : Type 0 where
     pub first : List V
     pub others : List V

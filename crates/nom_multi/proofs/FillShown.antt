@@ -13,7 +13,7 @@ use Rattle.nom_error.specs.Modes.{Built, Modes}
 use Rattle.nom_traits.specs.Input.{Seen}
 use Rattle.nom_internal.specs.Outcome.Outcome.{Accept, Refuse, Fail, TooLarge, Undecided}
 use Rattle.nom_internal.specs.Meaning.{Meaning, ShowsMeaning}
-use Rattle.nom_repeat.specs.Repeat.{TurnsBy}
+use Rattle.nom_repeat.specs.Repeat.{TurnsBy, Pieces}
 use Rattle.nom_repeat.specs.Items.{item_turn, refused_turn}
 use Rattle.nom_repeat.proofs.Keeping.{zip_push}
 use Rattle.nom_repeat.proofs.Parts.{part_refused, part_failed, part_lacks, part_ran_out}
@@ -116,4 +116,25 @@ filled {w = w} {m = m} {mode = mode} {i = i} {j = j} {old = old} {RanOut = RanOu
   pieces = pieces_end w (TurnsBy (Some (length old)) (item_turn (exact_limits (length old))) (λ _. m.answers mode.streaming))
       (Stops m (length old) mode RanOut) j (length c.trees) h 0 i c.trees c.taken (omega arith) c.pieces;
   holds = c.held.0;
+}
+
+-- it is filled, whatever else follows from memory running out
+module _ {I A V E : Type 0} (w : Seen I A) (m : Meaning I V E) (n : ℕ) (mode : Modes) {RanOut Follows : Type 0} (f : RanOut → Follows) where
+  stops_then : (k : ℕ) (j : I) → Stops m n mode RanOut k j → Stops m n mode Follows k j
+  stops_then k j (inl h) = inl h
+  stops_then k j (inr h) = inr (h.0, f h.1)
+
+  pieces_then : (k : ℕ) (i : I) (vs : List V) (taken : ℕ) →
+      Pieces w (TurnsBy (Some n) (item_turn (exact_limits n)) (λ _. m.answers mode.streaming)) (Stops m n mode RanOut) k i vs taken →
+      Pieces w (TurnsBy (Some n) (item_turn (exact_limits n)) (λ _. m.answers mode.streaming)) (Stops m n mode Follows) k i vs taken
+  pieces_then k i [] taken p = (p.0, stops_then k i p.1)
+  pieces_then k i (v ∷ vs) taken p = (p.0, p.1, p.2, p.3, p.4, pieces_then (k + 1) p.2 vs p.1 p.5, p.6)
+
+pub filled_then : {I A V T E : Type 0} {w : Seen I A} {P : V → T → Type 0} {m : Meaning I V E} {mode : Modes} {i : I} {old new : List T}
+    {RanOut Follows : Type 0} → (RanOut → Follows) → IsFilled w P m mode i old new RanOut → IsFilled w P m mode i old new Follows
+filled_then {w = w} {m = m} {mode = mode} {i = i} {old = old} f h = record {
+  trees = h.trees;
+  taken = h.taken;
+  pieces = pieces_then w m (length old) mode f 0 i h.trees h.taken h.pieces;
+  holds = h.holds;
 }

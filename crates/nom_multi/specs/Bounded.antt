@@ -8,7 +8,7 @@ use Rattle.nom_repeat.specs.Inverted.{error_if}
 use Rattle.nom_repeat.specs.Items.{items_meaning}
 use Rattle.nom_repeat.specs.Bounds.{exact_limits, bounded_limits}
 
--- Just so many items, which may be empty. Where one is refused, the kind is added at the start.
+-- Just that many items, which may be empty. Where one is refused, the kind is added at the start.
 abbrev pub count_meaning : {I A V E : Type 0} → Seen I A → Errors I E → ℕ → Meaning I V E → Meaning I (List V) E
 count_meaning w errs n m = items_meaning w errs (exact_limits n) (Unit {0}) m
 

@@ -1,4 +1,4 @@
--- The laws of so many items, or within bounds.
+-- The laws of that many items, or within bounds.
 use Rattle.std.specs.Prelude.{ℕ, true, ltb}
 use Rattle.nom_error.specs.Errors.{Errors}
 use Rattle.nom_error.specs.declared.kind.ErrorKind.TheVariants as Kind

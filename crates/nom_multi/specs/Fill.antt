@@ -14,7 +14,7 @@ use Rattle.nom_repeat.specs.Repeat.Turn.{Ends}
 use Rattle.nom_repeat.specs.Items.{item_turn, items_meaning}
 use Rattle.nom_repeat.specs.Bounds.{exact_limits}
 
--- just so many items, which takes no memory
+-- just that many items, which takes no memory
 abbrev pub fill_meaning : {I A V E : Type 0} → Seen I A → Errors I E → ℕ → Meaning I V E → Meaning I (List V) E
 fill_meaning w errs n m = items_meaning w errs (exact_limits n) ⊥ m
 
@@ -22,7 +22,7 @@ fill_meaning w errs n m = items_meaning w errs (exact_limits n) ⊥ m
 abbrev pub IsDone : {V : Type 0} → List V → Unit {0} → Type 0
 IsDone vs o = Unit {0}
 
--- the outputs of the trees at the front, where outputs are built, and what stood behind them
+-- the outputs of the trees at the front, where outputs are built, and what stood after them
 abbrev pub Holds : {V T : Type 0} → (V → T → Type 0) → Bool → List T → List V → List T → Type 0
 Holds {T = T} IsOutput true old vs new = (xs : List T) × AllZip IsOutput vs xs × (new ≡ xs ++ drop (length xs) old)
 Holds IsOutput false old vs new = new ≡ old

@@ -7,7 +7,7 @@ use Rattle.nom_internal.specs.Meaning.{Meaning}
 use Rattle.nom_repeat.specs.Repeat.{Turn, Pieces}
 use Rattle.nom_repeat.specs.Repeat.Turn.{Takes, Ends}
 
--- at a place behind the first items of i an item is accepted that consumes nothing
+-- at a place after the first items of i an item is accepted that consumes nothing
 pub record HasEmptyItem {I A V : Type 0} (w : Seen I A) (Item : I → Outcome V → Type 0) (i : I) : Type 0 where
   pub taken : ℕ
   pub place : I

@@ -1,5 +1,5 @@
 //! Items in a buffer.
-ghost use Rattle.std.specs.Prelude.{◌≡◌, ◌<◌, ℕ, List, length};
+ghost use Rattle.std.specs.Prelude.{◌≡◌, ◌<◌, ℕ, List, length, None};
 ghost use Rattle.nom_error.specs.Modes.{Built, modes};
 ghost use Rattle.nom_internal.specs.Meaning.{ShowsMeaning};
 ghost use Rattle.nom_multi.specs.Fill.{fill_meaning, IsDone, IsFilled, IsPut, IsRanOut};
@@ -35,6 +35,10 @@ impl<'a, I: Items, T: Drop, F: Parser<I, Output = T> + Drop> Parser<I> for Fill<
 
     ghost IsOutput = { λ _. IsDone };
 
+    /// What the buffer holds.
+    ghost Besides = { λ mode old new i rest. IsFilled I.seen (F.IsOutput (F.state old.parser)) (F.meaning (F.state old.parser)) mode i
+        old.buffer.now new.buffer.now (rest ≡ None) };
+
     ghost meaning = { λ s. fill_meaning I.seen F.Error.errors s.1 (F.meaning s.0) };
 
     ghost Pins = { λ _. Unit {0} };
@@ -57,7 +61,7 @@ impl<'a, I: Items, T: Viewed + Drop, F: StreamParser<I, Output = T> + Drop> Stre
 }
 
 /// Runs a parser as often as a buffer is long, and writes its outputs at the front of the buffer, one
-/// behind the other, where outputs are built. What was written stays, whatever is answered.
+/// after the other, where outputs are built. What was written stays, whatever is answered.
 #[inline(always)]
 pub fn fill_buffer<OM: OutputMode, I: Items, T: Drop, F: Parser<I, Output = T>>(
     parser: &mut F,

@@ -43,7 +43,7 @@ pub fn many1<A: Allocator + Copy, F>(alloc: A, parser: F) -> Many1<A, F>
     Many1 { alloc, parser }
 }
 
-/// Just so many items: a list of their outputs, which takes its memory from `alloc`.
+/// Just that many items: a list of their outputs, which takes its memory from `alloc`.
 ///
 /// An item that is refused refuses all, with the item's error, to which `Count` is added at the start.
 /// Items may consume nothing. No memory is taken ahead.
@@ -64,7 +64,7 @@ pub fn count<A: Allocator + Copy, F>(alloc: A, parser: F, count: usize) -> Count
 /// its memory from `alloc`.
 ///
 /// A refusal before `min` items refuses all, with the item's error, to which `ManyMN` is added at the
-/// item. An item that consumes nothing is refused with `ManyMN`. Behind `max` items none is tried. Where
+/// item. An item that consumes nothing is refused with `ManyMN`. After `max` items none is tried. Where
 /// `min` is above `max`, the answer is a `Failure` with `ManyMN`.
 #[inline(always)]
 pub fn many_m_n<A: Allocator + Copy, F>(alloc: A, min: usize, max: usize, parser: F) -> ManyMN<A, F>
@@ -101,7 +101,7 @@ pub fn many_till<A: Allocator + Copy, F, G>(alloc: A, parser: F, end: G) -> Many
 ///
 /// A refusal of an item refuses all, with its error, to which `Count` is added at the start. Items may be
 /// empty. All else that an item answers is passed on. Where outputs are built, those of the items that were
-/// accepted stand at the front of the buffer afterwards, whatever is answered; what stood behind them stays,
+/// accepted stand at the front of the buffer afterwards, whatever is answered; what stood after them stays,
 /// and so does the whole buffer where none are built.
 #[inline(always)]
 pub fn fill<'a, F, T>(parser: F, buffer: &'a mut [T]) -> Fill<'a, F, T>

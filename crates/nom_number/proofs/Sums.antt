@@ -42,7 +42,7 @@ spread v d p = omega arith
 after_step : (v d p q x y z : ℕ) → x ≡ (256 * v + d) * p + z → y ≡ (256 * 0 + d) * p + z → q ≡ p * 256 → x ≡ v * q + y
 after_step v d p q x y z h k e = omega (arith, h, k, spread v d p, ap (λ m. v * m) e)
 
--- the digits behind a number add theirs
+-- the digits after a number add theirs
 after : (v : ℕ) (ds : List ℕ) → digits_after 256 v ds ≡ v * 256 ^ length ds + value_of 256 ds
 after v [] = omega arith
 after v (d ∷ ds) = after_step v d (256 ^ length ds) (256 ^ suc (length ds)) _ _ (value_of 256 ds) (after (256 * v + d) ds) (after (256 * 0 + d) ds)

@@ -12,7 +12,7 @@ abbrev pub lacking : ℕ → Option ℕ
 lacking zero = None
 lacking (suc n) = Some (suc n)
 
--- what lacks of so many bytes is their number less the input's length
+-- what lacks of that many bytes is their number less the input's length
 abbrev pub bytes_lack : {I A : Type 0} → Seen I A → ℕ → List A → Option ℕ
 bytes_lack w count xs = lacking (count - span w.weight xs)
 
@@ -25,11 +25,11 @@ abbrev pub number_of : (big : Bool) → List ℕ → ℕ
 number_of true bytes = value_of 256 bytes
 number_of false bytes = value_of 256 (reverse bytes)
 
--- the signed number of so many bits: less 2^bits, where the highest of them is set
+-- the signed number of that many bits: less 2^bits, where the highest of them is set
 abbrev pub signed_of : (bits : ℕ) → ℕ → ℤ
 signed_of bits n = cond (nat_lt n (2 ^ (bits - 1))) (pos n) (pos n -ℤ pos (2 ^ bits))
 
--- a number of so many bytes
+-- a number of that many bytes
 abbrev pub unsigned_meaning : {I E : Type 0} → Seen I ℕ → Errors I E → (big : Bool) → ℕ → Meaning I ℕ E
 unsigned_meaning w errs big count = number_meaning w errs (number_of big) count
 

@@ -98,7 +98,7 @@ fn first_number<M: Mode, F: Layout, I: Input<Item = u8>>(
     }
 }
 
-/// A number that so many bytes write, in one order.
+/// A number that as many bytes write, in one order.
 #[derive(Drop)]
 pub struct Binary<F, I, E> {
     /// Whether the highest byte is the first one.

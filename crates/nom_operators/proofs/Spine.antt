@@ -1,5 +1,5 @@
 -- The machine of operators: a stack of those whose right side isn't read to its end, each with what stands on its left, the innermost
--- first; and the value of what was read behind the innermost.
+-- first; and the value of what was read after the innermost.
 --
 -- The stack is the right spine of the tree of what was read: that is the invariant. A new operator closes the innermost ones whose
 -- right side ends before it, each of which joins the values on its sides; then it is put on the stack, and the value is that of its
@@ -18,26 +18,26 @@ pub record Joins {T B X C : Type 0} (level : B → ℕ) (left : ℕ → Bool) (S
       Stands t before x → IsOperator o c → Stands u behind y → Gives x c y z → Stands t (before ++ (o, u) ∷ behind) z
 
 module _ {T B X C : Type 0} (level : B → ℕ) (left : ℕ → Bool) (Stands : T → List (B × T) → X → Type 0) (IsOperator : B → C → Type 0) where
-  -- Of the term t and the pairs ps that were read, those behind the innermost operator of the stack are the term v and the pairs qs.
+  -- Of the term t and the pairs ps that were read, those after the innermost operator of the stack are the term v and the pairs qs.
   abbrev pub IsSpine : T → List (B × T) → List (X × C) → T → List (B × T) → Type 0
   IsSpine t ps [] v qs = (v ≡ t) × (ps ≡ qs)
   IsSpine t ps (e ∷ s) v qs = (u : T) × (before : List (B × T)) × (o : B) × IsSpine t ps s u (before ++ (o, v) ∷ qs) × IsRoot level left before o qs ×
       Stands u before e.0 × IsOperator o e.1
 
-  -- Between two pairs: behind the innermost operator stands the last term alone.
+  -- Between two pairs: after the innermost operator stands the last term alone.
   pub record Reads (t : T) (ps : List (B × T)) (s : List (X × C)) (x : X) : Type 0 where
     pub term : T
     pub spine : IsSpine t ps s term []
     pub value : Stands term [] x
 
-  -- while operators are closed: the value is that of all that stands behind the innermost
+  -- while operators are closed: the value is that of all that stands after the innermost
   pub record Holds (t : T) (ps : List (B × T)) (s : List (X × C)) (x : X) : Type 0 where
     pub term : T
     pub pairs : List (B × T)
     pub spine : IsSpine t ps s term pairs
     pub value : Stands term pairs x
 
-  -- while an operator of the level k is put in, those behind the innermost on the stack are closed by it
+  -- while an operator of the level k is put in, those after the innermost on the stack are closed by it
   pub record Closing (k : ℕ) (t : T) (ps : List (B × T)) (s : List (X × C)) (x : X) : Type 0 where
     pub held : Holds t ps s x
     pub closed : Parts level (left k) k held.pairs []
@@ -81,7 +81,7 @@ module _ {T B X C : Type 0} (level : B → ℕ) (left : ℕ → Bool) (Stands : 
   root_greatest false j o u before behind e h = levels_append level (λ i. i ≤ j) before ((o, u) ∷ behind)
       (levels_map level (λ i. i < j) (λ i. i ≤ j) (λ i z. omega (arith, z)) before h.0) (omega (arith, e), h.1)
 
-  -- behind all those that it closes an operator is a root
+  -- after all those that it closes an operator is a root
   closes_parts : (b : Bool) (k j : ℕ) (ps : List (B × T)) → left k ≡ b → Closes left k j → Levels level (λ i. i ≤ j) ps → Parts level b k ps []
   closes_parts true k j ps p (inl c) h = (levels_map level (λ i. i ≤ j) (λ i. i ≤ k) (λ i z. omega (arith, c, z)) ps h, tt)
   closes_parts true k j ps p (inr c) h = (levels_map level (λ i. i ≤ j) (λ i. i ≤ k) (λ i z. omega (arith, c.0, z)) ps h, tt)
@@ -108,7 +108,7 @@ module _ {T B X C : Type 0} (level : B → ℕ) (left : ℕ → Bool) (Stands : 
       by (inl f) = let same : i ≡ k = omega (arith, f, e, c.0) in inr (same, ap left (sym same) ∙ p)
       by (inr f) = inl (omega (arith, f, e, c.0))
 
-  -- the spine goes on behind it
+  -- the spine goes on after it
   spine_more : (of : C → ℕ) → ((o : B) (c : C) → IsOperator o c → of c ≡ level o) → (k : ℕ) (q : B) (u : T) → level q ≡ k →
       (t : T) (ps : List (B × T)) (s : List (X × C)) (v : T) (qs : List (B × T)) → IsSpine level left Stands IsOperator t ps s v qs →
       UnderInnermost left of k s → IsSpine level left Stands IsOperator t (ps ++ (q, u) ∷ []) s v (qs ++ (q, u) ∷ [])
@@ -153,7 +153,7 @@ module _ {T B X C : Type 0} (level : B → ℕ) (left : ℕ → Bool) (Stands : 
             (root_greatest (left (level r.2)) (level r.2) r.2 held.term r.1 held.pairs refl r.4);
       }
 
-  -- It goes under the innermost that is left: then it is put on the stack with what was joined, and its term stands behind it.
+  -- It goes under the innermost that is left: then it is put on the stack with what was joined, and its term stands after it.
   pub reads_more : (of : C → ℕ) → ((o : B) (c : C) → IsOperator o c → of c ≡ level o) →
       (q : B) (u : T) (c : C) (t : T) (ps : List (B × T)) (s : List (X × C)) (x y : X) → Closing level left Stands IsOperator (level q) t ps s x →
       UnderInnermost left of (level q) s → IsOperator q c → Stands u [] y → Reads level left Stands IsOperator t (ps ++ (q, u) ∷ []) ((x, c) ∷ s) y

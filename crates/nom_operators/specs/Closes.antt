@@ -5,7 +5,7 @@ use Rattle.std.specs.Prelude.{◌≡◌, ℕ, ◌<◌, ◌⊎◌, Bool, true, fa
 abbrev pub Closes : (ℕ → Bool) → ℕ → ℕ → Type 0
 Closes left k j = (j < k) ⊎ ((j ≡ k) × (left k ≡ true))
 
--- and else the right side goes on behind it
+-- and else the right side goes on after it
 abbrev pub GoesUnder : (ℕ → Bool) → ℕ → ℕ → Type 0
 GoesUnder left k j = (k < j) ⊎ ((j ≡ k) × (left k ≡ false))
 

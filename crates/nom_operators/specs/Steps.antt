@@ -1,5 +1,5 @@
 -- The steps of operators that wait for their right side, each with what stands on its left, the innermost first; and of the value
--- behind the innermost.
+-- after the innermost.
 use Rattle.std.specs.Prelude.{◌≡◌, ℕ, Bool, List, [], ◌∷◌, reverse, Option, Some, None}
 use Rattle.nom_operators.specs.Closes.{Closes, UnderInnermost}
 
@@ -20,7 +20,7 @@ module _ {X C : Type 0} (Gives : X → C → X → X → Type 0) (Fact : C → T
     NoneJoined : (r : List (X × C)) (y : X) → s ≡ r → x ≡ y → Joined r y
     OneJoined : (r : List (X × C)) (l y z : X) (c : C) → Joined ((l, c) ∷ r) y → Fact c → Gives l c y z → Joined r z
 
--- An operator and a term more: it closes what ends before it, and what is left goes on behind it; then it is the innermost, with what was
+-- An operator and a term more: it closes what ends before it, and what is left goes on after it; then it is the innermost, with what was
 -- joined on its left, and the value is that of the term.
 pub record Pushed {X C : Type 0} (left : ℕ → Bool) (of : C → ℕ) (Gives : X → C → X → X → Type 0) (s : List (X × C)) (x : X) (c : C) (y : X)
     (r : List (X × C)) (z : X) : Type 0 where

@@ -4,7 +4,7 @@ use Rattle.std.proofs.Common.{arith, sym, ◌∙◌, ap, subst}
 use Rattle.nom_operators.specs.Trees.{Tree, Levels, Parts, IsRoot, IsTree}
 use Rattle.nom_operators.specs.Trees.Tree.{Leaf, Node}
 
--- two places in a list: the same, or the second behind the first, or before it
+-- two places in a list: the same, or the second after the first, or before it
 pub data TwoPlaces {A : Type 0} (b c : List A) (x y : A) (a d : List A) : Type 0 where
   Same : b ≡ c → x ≡ y → a ≡ d → TwoPlaces b c x y a d
   Behind : (m : List A) → c ≡ b ++ x ∷ m → a ≡ m ++ y ∷ d → TwoPlaces b c x y a d
@@ -38,7 +38,7 @@ module _ {T B : Type 0} (level : B → ℕ) where
   levels_map Fact Said f [] h = tt
   levels_map Fact Said f (x ∷ b) h = (f (level x.0) h.0, levels_map Fact Said f b h.1)
 
-  -- of two roots, the second behind the first: there are none
+  -- of two roots, the second after the first: there are none
   clash : (x y : Bool) (j k : ℕ) (b m d : List (B × T)) (o q : B × T) → level o.0 ≡ j → level q.0 ≡ k → (j ≡ k → x ≡ y) →
       Parts level x j b (m ++ q ∷ d) → Parts level y k (b ++ o ∷ m) d → ⊥
   clash true true j k b m d o q e f s g h = omega (arith, e, f, level_of (λ i. i < j) m q d g.1, level_of (λ i. i ≤ k) b o m h.0)

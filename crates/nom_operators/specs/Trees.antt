@@ -14,7 +14,7 @@ module _ {T B : Type 0} (level : B → ℕ) where
   Levels Fact [] = Unit {0}
   Levels Fact (p ∷ ps) = Fact (level p.0) × Levels Fact ps
 
-  -- An operator of the level k is the root: none before or behind it has a greater level; and of its own level, grouped from the left,
+  -- An operator of the level k is the root: none before or after it has a greater level; and of its own level, grouped from the left,
   -- it is the last, and grouped from the right the first.
   abbrev pub Parts : Bool → ℕ → List (B × T) → List (B × T) → Type 0
   Parts true k before behind = Levels (λ j. j ≤ k) before × Levels (λ j. j < k) behind
@@ -25,7 +25,7 @@ module _ {T B : Type 0} (level : B → ℕ) (left : ℕ → Bool) where
   IsRoot before o behind = Parts level (left (level o)) (level o) before behind
 
   -- The tree of a term and pairs: with no operator, the term; else the root between the tree of what stands before it and that of what
-  -- stands behind it.
+  -- stands after it.
   abbrev pub IsTree : T → List (B × T) → Tree T B → Type 0
   IsTree t ps (Leaf u) = (ps ≡ []) × (u ≡ t)
   IsTree t ps (Node l o r) = (before : List (B × T)) × (u : T) × (behind : List (B × T)) × (ps ≡ before ++ (o, u) ∷ behind) × IsRoot before o behind ×

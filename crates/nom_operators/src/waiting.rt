@@ -9,7 +9,7 @@ ghost use Rattle.nom_operators.specs.declared.operation.Operation.TheVariants.{B
 use crate::operation::{Assoc, Operation};
 use std::alloc::Allocator;
 
-/// The value of what was read behind the innermost operator that waits; and that operator, with what stands on its
+/// The value of what was read after the innermost operator that waits; and that operator, with what stands on its
 /// left and with its level, if any waits. Those outside it stand in a list, the next one last.
 #[derive(Drop)]
 pub struct Held<O, B> {
@@ -17,7 +17,7 @@ pub struct Held<O, B> {
     pub innermost: Option<(O, (usize, B))>,
 }
 
-/// An operator with its level, and the value of the term behind it: what ends before it is joined, and then it waits.
+/// An operator with its level, and the value of the term after it: what ends before it is joined, and then it waits.
 /// None where there is no memory for the one that it goes under.
 #[inline(always)]
 pub fn put<P: Drop, Q: Drop, B: Drop, O: Drop, A: Allocator, G: Fn(Operation<P, Q, B, O>) -> O>(

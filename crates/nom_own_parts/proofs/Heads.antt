@@ -1,4 +1,4 @@
--- A first byte, and what is behind it.
+-- A first byte, and what is after it.
 use Rattle.std.specs.Prelude.{cond, nat_lt, true}
 use Rattle.std.proofs.Common.{◌≡◌, ℕ, ◌<◌, List, [], ◌∷◌, length, Bor, arith, refl, subst, ap, ◌∙◌}
 use Rattle.std.proofs.lemmas.Bool.Decides.{nat_tests}

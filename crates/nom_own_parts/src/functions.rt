@@ -52,7 +52,7 @@ pub fn small(input: &[u8]) -> IResult<&[u8], u8>
     }
 }
 
-/// Want of memory at every input.
+/// Memory that runs out at every input.
 pub fn starved(_input: &[u8]) -> IResult<&[u8], u8>
     ensures { result ≡ Std.Err Answer.OutOfMemory }
 {

@@ -60,7 +60,7 @@ tried Joins Grows ms t = or_members Joins Grows t NoChoice ms
 abbrev pub among_more : {I T P E : Type 0} → Member I T E → Member I (T × P) E
 among_more m = record { Tree = m.Tree; meaning = m.meaning; tree = λ t. m.tree t.0; put = λ t v. (m.put t.0 v, t.1) }
 
--- some members, and one more behind them
+-- some members, and one more after them
 abbrev pub with_last : {I T P E : Type 0} → List (Member I T E) → Meaning I P E → List (Member I (T × Option P) E)
 with_last [] m = member m (λ t. t.1) (λ t v. (t.0, Some v)) ∷ []
 with_last (x ∷ xs) m = among_more x ∷ with_last xs m

@@ -55,7 +55,7 @@ pub record AreGood {I A T E : Type 0} (w : Seen I A) (ms : List (Member I T E)) 
 pub record AreStream {I A T E : Type 0} (w : Seen I A) (ms : List (Member I T E)) : Type 0 where
   pub steady : AreSound ms → AreSteady w ms
 
--- where members are sound and what pins each of them holds, two outputs of their trees are seen alike
+-- where members are sound and what pins each of them holds, two outputs of their trees are equal as viewed
 pub record ArePinned {I T O E : Type 0} (view : View O) (ms : List (Member I T E)) (Pins : Type 0) (IsOutput : T → O → Type 0) : Type 0 where
   pub pinned : AreSound ms → Pins → IsPinned view IsOutput
 
@@ -96,7 +96,7 @@ module _ {I P O E : Type 0} {view : View O} (m : Meaning I P E) (IsOutput : P �
           (applied_pinned view IsOutput (f (last_sound m ms h) p.1));
     }
 
--- outputs made flat are seen alike where those that they are made of are
+-- outputs made flat are equal as viewed where those that they are made of are
 pub flat_pinned : {I T O U E : Type 0} {nested : View O} {view : View U} {ms : List (Member I T E)} {Pins : Type 0} {AreOutputs : T → O → Type 0} →
     ArePinned nested ms Pins AreOutputs → (form : nested.Value → view.Value) (pairs : U → O) → ((o : U) → form (nested.value (pairs o)) ≡ view.value o) →
     ArePinned view ms Pins (λ t o. AreOutputs t (pairs o))

@@ -1,4 +1,4 @@
-//! The members of a permutation, nested: a first one, or some and one more behind them.
+//! The members of a permutation, nested: a first one, or some and one more after them.
 ghost use Rattle.std.specs.Prelude.{◌≡◌, ◌+◌, ◌∷◌, [], ℕ, Bool, List, Option, Some, None, length};
 ghost use Rattle.nom_error.specs.Modes.{Built, modes};
 ghost use Rattle.nom_traits.specs.View.{View};

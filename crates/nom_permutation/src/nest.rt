@@ -7,7 +7,7 @@ pub struct One<A> {
     pub member: A,
 }
 
-/// Members, and one more behind them.
+/// Members, and one more after them.
 #[derive(Drop)]
 pub struct More<M, A> {
     pub others: M,

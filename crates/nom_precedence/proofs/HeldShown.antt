@@ -1,4 +1,4 @@
--- What is held of a first value and of pairs behind it.
+-- What is held of a first value and of pairs after it.
 use Rattle.std.proofs.Common.{◌≡◌, ℕ, Bool, true, false, Option, Some, None, List, [], ◌∷◌, ◌++◌, refl, sym, subst}
 use Rattle.std.specs.Prelude.{IfSome, IsSome}
 use Rattle.std.specs.List.{AllZip}

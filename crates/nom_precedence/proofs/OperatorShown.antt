@@ -106,7 +106,7 @@ abbrev pub IsWholeOf : {V X : Type 0} → (V → X → Type 0) → Read V → X 
 IsWholeOf IsOutput (Whole v) x = IsOutput v x
 IsWholeOf IsOutput Stuck x = ⊥
 
--- a part whose output is built in every mode, and another behind it
+-- a part whose output is built in every mode, and another after it
 module _ {I A V W T X Z E : Type 0} {w : Seen I A} (l : InputLaws w) (tree : V → W → T) (m : Meaning I V E) (b : Meaning I (Read W) E)
     (IsFirst : V → X → Type 0) (IsResult : T → Z → Type 0) (outputs errors streaming : Bool) {i : I} where
   pub own_first_err : {f : Answer.Err E (Option E) Needed} {r : Result (I × Option (Told.Read (Option Z))) (Answer.Err E (Option E) Needed)} →

@@ -29,7 +29,7 @@ module _ {K L O G : Type 0} (value : K → Option O) (fold : K → L) (Gives : L
       }
 
   module _ {V Q : Type 0} (CanKeep : K → Type 0) (IsOperand : V → O → Type 0) (IsPostfix : Q → G → Type 0) (f : L) where
-    -- an operand that is built, and what is kept of the postfixes behind it
+    -- an operand that is built, and what is kept of the postfixes after it
     pub tail_built : (outputs : Bool) (v : V) (qs : List Q) (x : Option O) (first k : Option K) (z : Option O) →
         BuiltFrom true (IsHeld value fold f) x first → MatchOption k (z ≡ None) (λ m. z ≡ value m) → Built outputs (IsOperand v) x →
         Built outputs (Kept (AppliedGains value fold Gives) CanKeep IsPostfix first qs) k → Built outputs (IsTail IsOperand IsPostfix (Gives f) (v, qs)) z
@@ -64,7 +64,7 @@ held_ready value fold CanKeep f true P None first g b c = absurd (cc (b.1))
 held_ready value fold CanKeep f false P (Some a) first g b c = absurd (cc (b))
 held_ready value fold CanKeep f false P None first g b c = c
 
--- a term's value, from the value behind its prefixes
+-- a term's value, from the value after its prefixes
 pub term_built : {P V Q F O G : Type 0} (IsPrefix : P → F → Type 0) (OnPrefix : F → O → O → Type 0) (IsOperand : V → O → Type 0)
     (IsPostfix : Q → G → Type 0) (OnPostfix : O → G → O → Type 0) (ps : List P) (t : Tail V Q) (cs : List F) (x y : O) → AllZip IsPrefix ps cs →
     IsTail IsOperand IsPostfix OnPostfix t x → Before OnPrefix cs x y → IsTerm IsPrefix OnPrefix IsOperand IsPostfix OnPostfix (term_of ps t) y

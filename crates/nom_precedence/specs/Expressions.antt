@@ -13,13 +13,13 @@ use Rattle.nom_precedence.specs.Stuck.Read.{Whole}
 use Rattle.nom_precedence.specs.Chains.{chain_meaning}
 use Rattle.nom_precedence.specs.Operators.{operator_meaning}
 
--- a term: operators before an operand, in the order in which they stand, and operators behind it
+-- a term: operators before an operand, in the order in which they stand, and operators after it
 pub record Term (P V Q : Type 0) : Type 0 where
   pub prefixes : List P
   pub operand : V
   pub postfixes : List Q
 
--- the operand with what stands behind it
+-- the operand with what stands after it
 abbrev pub Tail : Type 0 → Type 0 → Type 0
 Tail V Q = V × List Q
 
@@ -39,7 +39,7 @@ tail_meaning w operand postfix = read_both w (λ v qs. (v, qs)) (labelled_meanin
 unfoldable pub term_meaning : {I A P V Q E : Type 0} → Seen I A → Meaning I P E → Meaning I V E → Meaning I Q E → Meaning I (Read (Term P V Q)) E
 term_meaning w prefix operand postfix = read_both w term_of (affixes_meaning w (Unit {0}) prefix) (tail_meaning w operand postfix)
 
--- an operator with its level, and a term behind it
+-- an operator with its level, and a term after it
 abbrev pub Pair : Type 0 → Type 0 → Type 0
 Pair B T = (ℕ × B) × T
 

@@ -11,7 +11,7 @@ pub record Premises : Type 1 where
   pub Settles : Type 0
   pub NeverFails : Bool → Type 0
 
--- the same answers, errors and want of memory
+-- the same answers, errors and running out of memory
 abbrev pub with_premises : {I V E : Type 0} → Premises → Meaning I V E → Meaning I V E
 with_premises p m = record {
   IsSound = p.IsSound;

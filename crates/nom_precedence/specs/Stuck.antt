@@ -13,7 +13,7 @@ use Rattle.nom_internal.specs.Cases.PartMode.{AsAsked}
 use Rattle.nom_internal.specs.Sequence.{then_meaning}
 use Rattle.nom_internal.specs.Success.{success_meaning}
 
--- it was read whole, with a tree; or it is stuck behind what was consumed
+-- it was read whole, with a tree; or it is stuck after what was consumed
 pub data Read (V : Type 0) : Type 0 where
   Whole : V → Read V
   Stuck : Read V
@@ -24,7 +24,7 @@ both f (Whole v) (Whole u) = Whole (f v u)
 both f (Whole v) Stuck = Stuck
 both f Stuck r = Stuck
 
--- behind what is stuck nothing is read
+-- after what is stuck nothing is read
 abbrev pub read_behind : {I V W E : Type 0} → Meaning I (Read W) E → Read V → Meaning I (Read W) E
 read_behind m (Whole v) = m
 read_behind m Stuck = success_meaning Stuck
@@ -32,7 +32,7 @@ read_behind m Stuck = success_meaning Stuck
 abbrev pub unless_stuck : {I V W E : Type 0} → Meaning I (Read W) E → Family (Read V) I (Read W) E
 unless_stuck m = record { at = read_behind m; IsSound = m.IsSound; IsFrugal = m.IsFrugal; Settles = m.Settles; NeverFails = m.NeverFails }
 
--- a part, and another behind it, unless it is stuck
+-- a part, and another after it, unless it is stuck
 abbrev pub read_both : {I A V W T E : Type 0} → Seen I A → (V → W → T) → Meaning I (Read V) E → Meaning I (Read W) E → Meaning I (Read T) E
 read_both w tree a b = then_meaning w (both tree) (λ o. o) (λ o. o) a (unless_stuck b)
 

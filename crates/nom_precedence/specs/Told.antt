@@ -33,7 +33,7 @@ abbrev pub Behind : {X Q : Type 0} → (X → Q → X → Type 0) → X → List
 Behind Gives x [] y = y ≡ x
 Behind {X = X} Gives x (c ∷ cs) y = (z : X) × Gives x c z × Behind Gives z cs y
 
--- the value of an operand under the postfixes behind it
+-- the value of an operand under the postfixes after it
 pub record IsTail {V Q O G : Type 0} (IsOperand : V → O → Type 0) (IsPostfix : Q → G → Type 0) (OnPostfix : O → G → O → Type 0) (t : V × List Q) (y : O)
     : Type 0 where
   pub operand : O
@@ -60,11 +60,11 @@ pub record IsHeld {K L O : Type 0} (value : K → Option O) (fold : K → L) (f 
   pub value_is : value k ≡ Some x
   pub fold_is : fold k ≡ f
 
--- an operator with its level, and the value of the term behind it
+-- an operator with its level, and the value of the term after it
 abbrev pub IsPairOf : {B H T O : Type 0} → (B → ℕ × H → Type 0) → (T → O → Type 0) → (ℕ × B) × T → (ℕ × H) × O → Type 0
 IsPairOf IsBinary IsValue t o = IsOwn IsBinary t.0 o.0 × IsValue t.1 o.1
 
--- the value of a first term's value and of the outputs of pairs behind it
+-- the value of a first term's value and of the outputs of pairs after it
 pub record IsMade {X C V : Type 0} (left : ℕ → Bool) (of : C → ℕ) (Gives : X → C → X → X → Type 0) (IsPair : V → C × X → Type 0) (before : Option X)
     (vs : List V) (y : X) : Type 0 where
   pub first : X

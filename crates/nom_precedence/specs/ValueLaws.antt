@@ -1,4 +1,4 @@
--- Values of one tree are seen alike.
+-- Values of one tree are equal as viewed.
 use Rattle.std.specs.Prelude.{◌≡◌, ℕ, Bool, List, [], ◌∷◌}
 use Rattle.std.proofs.Common.{sym, ◌∙◌, ap, subst}
 use Rattle.nom_traits.specs.View.{View, pair_view, itself}
@@ -11,7 +11,7 @@ use Rattle.nom_operators.specs.TreeLaws.{one_tree}
 use Rattle.nom_precedence.specs.Expressions.{Term, Pair}
 use Rattle.nom_precedence.specs.Values.{Folding, folding, PostfixesGive, PrefixesGive, TermGives, TreeGives, Stands}
 
--- The fold gives values that are seen alike for operators and values that are. No verdict rests on it: it is asked only where outputs
+-- The fold gives values that are equal as viewed for operators and values that are. No verdict rests on it: it is asked only where outputs
 -- are compared.
 pub record GivesAlike {P V Q B F G H O : Type 0} (f : Folding P V Q B F G H O) (prefix : View F) (postfix : View G) (binary : View H) (value : View O) :
     Type 0 where
@@ -22,7 +22,7 @@ pub record GivesAlike {P V Q B F G H O : Type 0} (f : Folding P V Q B F G H O) (
   pub on_binary : (a b : H) (x y z w u v : O) → binary.value a ≡ binary.value b → value.value x ≡ value.value y → value.value z ≡ value.value w →
       f.Gives (Binary x a z) u → f.Gives (Binary y b w) v → value.value u ≡ value.value v
 
--- the parts' outputs of one tree are seen alike
+-- the parts' outputs of one tree are equal as viewed
 pub record ArePinned {P V Q B F G H O : Type 0} (f : Folding P V Q B F G H O) (prefix : View F) (postfix : View G) (binary : View H) (value : View O) :
     Type 0 where
   pub prefixes : IsPinned prefix f.IsPrefix

@@ -1,4 +1,4 @@
--- Messages behind their lengths.
+-- Messages after their lengths.
 use Rattle.std.specs.Prelude.{◌≡◌, ℕ, ◌⊎◌, Bool, true, List, [], ◌∷◌, Result, Err, Vec}
 use Rattle.nom_error.specs.declared.answer.Needed.{Needed}
 use Rattle.nom_error.specs.declared.answer.Err as Answer
@@ -24,14 +24,14 @@ module _ (ping text close end : List ℕ) (length_first number_first : Bool) whe
       (map_of Text (preceded_of (tag_of text) (length_data_of (number_of true 1)))))
       (map_of (λ _. Close) (tag_of close)))
 
-  -- messages, each a body behind its length, and an end
+  -- messages, each a body after its length, and an end
   abbrev pub written_of : {M : Type 0} → BytesGrammar (List Body) (Vec Message M)
   written_of = terminated_of (many0_of (length_value_of (number_of length_first 2) (all_consuming_of body_of))) (tag_of end)
 
 abbrev pub messages_of : {M : Type 0} → BytesGrammar (List Body) (Vec Message M)
 messages_of = written_of (1 ∷ []) (2 ∷ []) (3 ∷ []) (0 ∷ 0 ∷ []) true true
 
--- What is answered is what the grammar makes of the whole, want of memory aside: nothing tells where the cuts were, but an error, which
+-- What is answered is what the grammar makes of the whole, running out of memory aside: nothing tells where the cuts were, but an error, which
 -- holds the input as it was on a beginning.
 abbrev pub TellsWhole : {M : Type 0} → Bytes → Result (Bytes × Vec Message M) (Answer.Err (Error Bytes) (Error Bytes) Needed) → Type 0
 TellsWhole {M} whole r = (o : Outcome (List Body)) → (messages_of {M = M}).meaning.answers true whole o → (r ≡ Err OutOfMemory) ⊎

@@ -1,4 +1,4 @@
-//! A protocol of messages behind their lengths.
+//! A protocol of messages after their lengths.
 #![tactic(auto)]
 
 mod message;

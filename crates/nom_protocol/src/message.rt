@@ -1,4 +1,4 @@
-//! Messages behind their lengths, which come in pieces.
+//! Messages after their lengths, which come in pieces.
 ghost use Rattle.std.specs.Prelude.{◌≡◌};
 ghost use Rattle.nom_traits.specs.Bytes.{seen_bytes};
 ghost use Rattle.nom_growing.specs.Growing.{AreCuts, IsGrown};

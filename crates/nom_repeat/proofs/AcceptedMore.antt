@@ -1,4 +1,4 @@
--- What a first item and those behind it accept.
+-- What a first item and those after it accept.
 use Rattle.std.proofs.Common.{◌≡◌, ◌∙◌, Bool, ℕ, ◌+◌, ◌<◌, ◌≤◌, ◌⊎◌, Some, None, List, [], ◌∷◌, ◌++◌, refl, arith, ap, subst, inl, inr}
 use Rattle.nom_error.specs.Errors.{Errors}
 use Rattle.nom_error.specs.declared.kind.ErrorKind.{ErrorKind}
@@ -13,7 +13,7 @@ use Rattle.nom_repeat.specs.Accepted.{InTurn, OneAndMore, AcceptsOneAndMore}
 use Rattle.nom_repeat.specs.declared.items.TooFew.{TooFew}
 use Rattle.nom_repeat.proofs.AcceptedItems.{accepted_in_turn, in_turn_accepted}
 
--- what is accepted behind something else
+-- what is accepted after something else
 pub after_accepts : {P T : Type 0} (a n : ℕ) (f : P → T) (v : T) (o : Outcome P) → Accept n v ≡ after a f o → (c : ℕ) × (u : P) × (o ≡ Accept c u) ×
     (n ≡ a + c) × (v ≡ f u)
 after_accepts a n f v (Accept c u) e = (c, u, refl, cc (e), cc (e))

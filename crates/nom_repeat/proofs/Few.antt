@@ -73,7 +73,7 @@ module _ {I A V : Type 0} (w : Seen I A) (b : Limits) (kind : ErrorKind) (is : b
       omega (arith, pieces_few Fact (k + 1) p.2 vs p.1 p.5, rest_length p.4, taken_consumes b kind is k (p.3).reply p.0 v (p.3).fact)
 
 module _ {I A V E : Type 0} (w : Seen I A) (errs : Errors I E) (b : Limits) (Grows : Type 0) (m : Meaning I V E) where
-  -- so many items are accepted at most
+  -- that many items are accepted at most
   pub few_accepted : (kind : ErrorKind) → b.empty ≡ Some kind → (s : Bool) (i : I) (n : ℕ) (vs : List V) →
       (items_meaning w errs b Grows m).answers s i (Accept n vs) → length vs ≤ input_len w i
   few_accepted kind is s i n vs a =

@@ -108,7 +108,7 @@ module _ {I A P V T R O E : Type 0} {w : Seen I A} (r : Rule I P V T E) (tree : 
     ended t e {b = b} h = Shown (Accept (c.taken + 0) (tree c.trees t)) (ends w r tree f mode.streaming i j c a p (Accept 0 t) e)
         (j, b, subst (λ n. IsRest w i n j) (omega arith) c.rest_is, h, refl)
 
-    -- or behind it
+    -- or after it
     pub ended_behind : InputLaws w → (n : ℕ) (t : T) {h : I} → IsRest w j n h → Ends (Accept n t) ≡ r.turn (length c.trees) a → {b : Option O} →
         Built mode.outputs (IsOutput (tree c.trees t)) b → ShowsMeaning w IsOutput (repeat_meaning w r tree f) mode i (Ok (h, b))
     ended_behind l n t {h} q e {b = b} z = Shown (Accept (c.taken + n) (tree c.trees t)) (ends w r tree f mode.streaming i j c a p (Accept n t) e)

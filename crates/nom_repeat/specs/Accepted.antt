@@ -18,7 +18,7 @@ abbrev pub TakesItem : {I V : Type 0} → (I → Outcome V → Type 0) → (ℕ 
 TakesItem Item May most k i (Takes n v) = IsBelow most k × Item i (Accept n v) × May n
 TakesItem Item May most k i (Ends o) = ⊥
 
--- the items end: where the part refuses, behind enough of them; or where there are as many as there may be
+-- the items end: where the part refuses, after enough of them; or where there are as many as there may be
 abbrev pub EndsItems : {I V : Type 0} → (I → Outcome V → Type 0) → ℕ → Option ℕ → ℕ → I → Type 0
 EndsItems Item least most k i = (IsBelow most k × Item i Refuse × (least ≤ k)) ⊎ (IsBelow most k → ⊥)
 
@@ -32,7 +32,7 @@ abbrev pub AcceptsItems : {I A V E F : Type 0} → Seen I A → Type 0 → (ℕ 
 AcceptsItems {I} {V = V} w Allowed May least most m whole =
     (s : Bool) (i : I) (n : ℕ) (vs : List V) → whole.answers s i (Accept n vs) ↔ (Allowed × InTurn w (m.answers s) May least most i n vs)
 
--- an item of any length, and behind it such others
+-- an item of any length, and after it such others
 pub record OneAndMore {I A V : Type 0} (w : Seen I A) (Item : I → Outcome V → Type 0) (More : I → ℕ → List V → Type 0) (i : I) (n : ℕ)
     (vs : List V) : Type 0 where
   pub first_length : ℕ
@@ -46,7 +46,7 @@ pub record OneAndMore {I A V : Type 0} (w : Seen I A) (Item : I → Outcome V �
   pub length_is : n ≡ first_length + more_length
   pub trees_are : vs ≡ tree ∷ trees
 
--- What a repetition accepts that has one item at least: a first item of the part m, of any length, and behind it just the items
+-- What a repetition accepts that has one item at least: a first item of the part m, of any length, and after it just the items
 -- that the part p accepts in turn, none of them empty.
 abbrev pub AcceptsOneAndMore : {I A V E F : Type 0} → Seen I A → Meaning I V E → Meaning I V E → Meaning I (List V) F → Type 0
 AcceptsOneAndMore {I} {V = V} w m p whole =

@@ -14,11 +14,11 @@ any_limits kind = record { least = 0; most = None; too_few = Never; at_start = f
 abbrev pub one_limits : TooFew → Bool → Limits
 one_limits few at_start = record { least = 1; most = Some 1; too_few = few; at_start = at_start; empty = None }
 
--- Just so many items, which may be empty. Where one is refused, the kind is added at the start.
+-- Just that many items, which may be empty. Where one is refused, the kind is added at the start.
 abbrev pub exact_limits : ℕ → Limits
 exact_limits n = record { least = n; most = Some n; too_few = Added Kind.Count; at_start = true; empty = None }
 
--- At least and at most so many items, none of them empty. Where one is refused before the least number, the kind is added at
+-- At least and at most that many items, none of them empty. Where one is refused before the least number, the kind is added at
 -- its place.
 abbrev pub bounded_limits : ErrorKind → ℕ → ℕ → Limits
 bounded_limits kind least most = record { least = least; most = Some most; too_few = Added kind; at_start = false; empty = Some kind }

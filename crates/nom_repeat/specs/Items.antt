@@ -133,7 +133,7 @@ pub record AreLimits (b : Limits) : Type 0 where
   pub has_error : NeverFew b.too_few b.least
   pub has_bound : NeedsNone b.most b.least
 
--- the kind of an item that consumed nothing, by the lengths of what is left before and behind it
+-- the kind of an item that consumed nothing, by the lengths of what is left before and after it
 abbrev pub IsStuck : Option ErrorKind → ℕ → ℕ → Option ErrorKind → Type 0
 IsStuck empty before after (Some kind) = (empty ≡ Some kind) × (after ≡ before)
 IsStuck empty before after None = (empty ≡ None) ⊎ (after ≡ before → ⊥)

@@ -14,7 +14,7 @@ abbrev pub LacksRoom : {K : Type 0} → (K → Type 0) → Option K → Type 0
 LacksRoom IsFull (Some k) = IsFull k
 LacksRoom IsFull None = ⊥
 
--- so many items more, in their order
+-- that many items more, in their order
 abbrev pub Adds : {T K : Type 0} → (K → T → K → Type 0) → K → List T → K → Type 0
 Adds Gains k [] new = new ≡ k
 Adds {K = K} Gains k (x ∷ xs) new = (next : K) × Gains k x next × Adds Gains next xs new

@@ -1,11 +1,11 @@
 -- Repetition: items in turn, and what ends them.
 --
 -- A part runs at a place. By its outcome, and by the number of items before, a rule says whether an item is taken, and the
--- part runs again behind it, or the repetition ends, and how. At a bound the part doesn't run. So a repetition is a rule: it
--- says whether an item may be empty, which error a refusal gives, before or behind so many items, and where memory is asked for.
+-- part runs again after it, or the repetition ends, and how. At a bound the part doesn't run. So a repetition is a rule: it
+-- says whether an item may be empty, which error a refusal gives, before or after that many items, and where memory is asked for.
 --
 -- A second part is no more than another part for a rule:
--- - A separator and the item behind it, in sequence, are one part, with the item's tree. Where both together consume nothing,
+-- - A separator and the item after it, in sequence, are one part, with the item's tree. Where both together consume nothing,
 --   there is no progress, at the separator. A refusal of either ends the list before the separator. The first item alone is
 --   the part for no item before it.
 -- - An end that is tried first, or else an item, are one part, whose tree is of the one or of the other, and whose errors are
@@ -49,7 +49,7 @@ abbrev pub IsBelow : Option ℕ → ℕ → Type 0
 IsBelow None k = Unit {0}
 IsBelow (Some bound) k = k < bound
 
--- what the part for a count replies after so many items: its outcome, or nothing at the bound, where it doesn't run
+-- what the part for a count replies after that many items: its outcome, or nothing at the bound, where it doesn't run
 abbrev pub Replies : {I P : Type 0} → Option ℕ → (ℕ → I → Outcome P → Type 0) → ℕ → I → Option (Outcome P) → Type 0
 Replies bound Part k i (Some o) = IsBelow bound k × Part k i o
 Replies bound Part k i None = IsBelow bound k → ⊥
@@ -73,13 +73,13 @@ TurnsBy bound turn Part k i t = OnReply bound Part (λ a. t ≡ turn k a) k i
 pub record Rule (I P V T E : Type 0) : Type 1 where
   -- how many items it takes at most
   pub bound : Option ℕ
-  -- how it goes on after so many items, by what the part replies
+  -- how it goes on after that many items, by what the part replies
   pub turn : ℕ → Option (Outcome P) → Turn V T
-  -- the error, where it ends so: from its start, after so many items, at a place, by what the part replies and by its errors there
+  -- the error, where it ends so: from its start, after that many items, at a place, by what the part replies and by its errors there
   pub Blames : I → ℕ → I → Option (Outcome P) → (E → Type 0) → E → Type 0
-  -- what the part builds after so many items, by what the repetition does
+  -- what the part builds after that many items, by what the repetition does
   pub part : ℕ → Modes → Modes
-  -- may it ask for memory after so many items, by what is built and by what the part replies
+  -- may it ask for memory after that many items, by what is built and by what the part replies
   pub Asks : Modes → ℕ → Option (Outcome P) → Type 0
   -- by what holds of the parts: its premise, that it is frugal, that it never fails
   pub IsSound : Type 0 → Type 0

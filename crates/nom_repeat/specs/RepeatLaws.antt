@@ -14,17 +14,17 @@ use Rattle.nom_internal.specs.Sequence.{after}
 use Rattle.nom_repeat.specs.Repeat.{Turn, Pieces, Reaches, Repeats, IsBelow, Replies, Ran, OnReply, TurnsBy, Rule, repeat_meaning}
 use Rattle.nom_repeat.specs.Repeat.Turn.{Takes, Ends}
 
--- which turns a longer input keeps (true), and one seen alike (false)
+-- which turns a longer input keeps (true), and one equal as a model (false)
 abbrev pub KeepsTurn : {V T : Type 0} → Bool → Turn V T → Type 0
 KeepsTurn longer (Takes n v) = Unit {0}
 KeepsTurn longer (Ends o) = Keeps longer o
 
--- which replies a longer input keeps (true), and one seen alike (false)
+-- which replies a longer input keeps (true), and one equal as a model (false)
 abbrev pub KeepsReply : {P : Type 0} → Bool → Option (Outcome P) → Type 0
 KeepsReply longer (Some o) = Keeps longer o
 KeepsReply longer None = Unit {0}
 
--- an end behind n items of the input consumes nothing, or what the part accepted
+-- an end after n items of the input consumes nothing, or what the part accepted
 abbrev pub EndsAt : {P : Type 0} → ℕ → Option (Outcome P) → Type 0
 EndsAt n (Some (Accept m u)) = (n ≡ 0) ⊎ (n ≡ m)
 EndsAt n (Some Refuse) = n ≡ 0
@@ -44,7 +44,7 @@ module _ {I A : Type 0} (w : Seen I A) {V T : Type 0} where
   abbrev pub AgreeTurns : Bool → (ℕ → I → Turn V T → Type 0) → (ℕ → I → Turn V T → Type 0) → Type 0
   AgreeTurns longer F G = (k : ℕ) (x y : I) (s t : Turn V T) → w.IsKnown x → w.IsKnown y → Related w longer x y → F k x s → KeepsTurn longer s → G k y t → s ≡ t
 
-  -- on inputs seen alike a turn of the first relation, if only a decided one (true), is one of the second's
+  -- on inputs equal as models a turn of the first relation, if only a decided one (true), is one of the second's
   abbrev pub CarriesTurns : Bool → (ℕ → I → Turn V T → Type 0) → (ℕ → I → Turn V T → Type 0) → Type 0
   CarriesTurns decided F G = (k : ℕ) (x y : I) (t : Turn V T) → w.IsKnown x → w.IsKnown y → IsSame w x y → F k x t → KeepsTurn decided t → G k y t
 

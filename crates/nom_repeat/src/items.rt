@@ -31,9 +31,9 @@ pub enum TooFew {
 /// How many items are taken, and what ends them with an error.
 #[derive(Clone, Copy)]
 pub struct Limits {
-    /// A refusal before so many items is a refusal of all.
+    /// A refusal before that many items is a refusal of all.
     pub least: usize,
-    /// After so many items none is tried.
+    /// After that many items none is tried.
     pub most: Option<usize>,
     /// The error of that refusal.
     pub too_few: TooFew,
@@ -107,7 +107,7 @@ fn is_full(most: Option<usize>, count: usize) -> bool
     }
 }
 
-/// The kind of a refusal where an item consumed nothing, by the lengths before and behind it.
+/// The kind of a refusal where an item consumed nothing, by the lengths before and after it.
 #[inline(always)]
 fn stuck(empty: Option<ErrorKind>, before: usize, after: usize) -> Option<ErrorKind>
     ensures { IsStuck empty before after result }

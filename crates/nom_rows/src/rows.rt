@@ -56,7 +56,7 @@ fn is_output<O: PartialEq>(found: &Option<O>, is_built: bool, wanted: &O) -> boo
     }
 }
 
-/// Whether an error is of a kind, at an input that so many bytes are left of.
+/// Whether an error is of a kind, at an input that as many bytes are left of.
 fn is_error<I: Content>(input: &I, error: &Error<I>, kind: ErrorKind, length: usize) -> bool {
     error.code == kind && is_rest(input, &error.input, length)
 }

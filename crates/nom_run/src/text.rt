@@ -137,7 +137,7 @@ fn add_count<A: Allocator + Copy>(
     }
 }
 
-/// Adds a line for bytes: their name, with the space behind it, their count, and the bytes in base 16 where there
+/// Adds a line for bytes: their name, with the space after it, their count, and the bytes in base 16 where there
 /// are any.
 pub fn add_bytes<A: Allocator + Copy>(
     text: &mut String<A>,

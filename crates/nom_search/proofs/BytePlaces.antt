@@ -31,7 +31,7 @@ module _ (bs t : List ℕ) where
       OccursAt-from_part bs t n (omega (arith, size, ap length s.whole, length-append s.before (t ++ s.rest), length-append t s.rest))
       (ap (λ ys. take (length t) ys) dropped ∙ take-append_seam t s.rest)
 
-  -- what the searcher finds behind a place before which the needle stands nowhere
+  -- what the searcher finds after a place before which the needle stands nowhere
   module _ (start : ℕ) (room : start ≤ length bs) (none : Nowhere (OccursAt bs t) 0 start) where
     occurs_on : (n : ℕ) → OccursAt (drop start bs) t n → OccursAt bs t (start + n)
     occurs_on n h = record {
@@ -45,7 +45,7 @@ module _ (bs t : List ℕ) where
       reads = λ j l. get_or-drop start bs (n + j) 0 ∙ ap (λ k. get_or bs k 0) (omega arith) ∙ h.reads j l;
     }
 
-    -- a place where the needle stands is as far behind the start
+    -- a place where the needle stands is as far after the start
     behind : (m : ℕ) → OccursAt bs t m → (n : ℕ) × (m ≡ start + n) × OccursAt (drop start bs) t n
     behind m h =
         elim (cases_lt m start) [

@@ -2,7 +2,7 @@
 use Rattle.std.specs.Prelude.{ℕ, ◌+◌, ◌*◌}
 use Rattle.memchr.specs.Find.{Nowhere}
 
--- P holds at none of the n places from `place` on, nor of those that lie one, two or three pages behind
+-- P holds at none of the n places from `place` on, nor of those that lie one, two or three pages after
 pub record NowhereInPages (P : ℕ → Type 0) (page place n : ℕ) : Type 0 where
   pub first : Nowhere P place (place + n)
   pub second : Nowhere P (place + page) (place + page + n)

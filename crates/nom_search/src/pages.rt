@@ -18,11 +18,11 @@ const LINES: usize = PAGE / LINE;
 /// How many bytes four pages have.
 const BLOCK: usize = 4 * PAGE;
 
-/// How far `memchr` looks alone. Behind that, it costs little that a block with the byte is read twice.
+/// How far `memchr` looks alone. After that, it costs little that a block with the byte is read twice.
 const NEAR: usize = 64 * PAGE;
 
 /// The first place of a byte.
-// Over many pages `memchr` waits for memory, since it reads them one behind the other.
+// Over many pages `memchr` waits for memory, since it reads them one after the other.
 #[inline(always)]
 pub(crate) fn find_byte(byte: u8, bytes: &[u8]) -> Option<usize>
     ensures { IsFirstByte (is_byte byte) bytes.now result }

@@ -18,7 +18,7 @@ module _ {I A P V E : Type 0} (w : Seen I A) (errs : Errors I E) (separator : Me
   pub separated1_accepts_more : AcceptsOneAndMore w m (preceded_meaning w separator m) (separated1_meaning w errs separator m)
   separated1_accepts_more = one_and_more_accept w errs Passed false Kind.SeparatedList (Unit {0}) (Unit {0}) m (preceded_meaning w separator m)
 
-  -- none, or a first item and those behind it
+  -- none, or a first item and those after it
   no_item : (i : I) (n : ℕ) (s : Bool) → InTurn w (m.answers s) (λ _. Unit {0}) 0 (Some 1) i n [] → m.answers s i Refuse × (n ≡ 0)
   no_item i n s (e, inl z) = (z.1, e)
   no_item i n s (e, inr z) = absurd (z (omega arith))

@@ -104,7 +104,7 @@ told {K = K} Gains CanKeep IsItem builds before vs {first} {found} {list} is b =
 
 module _ {I A P V O E : Type 0} {w : Seen I A} (l : InputLaws w) (errs : Errors I E) (separator : Meaning I P E) (m : Meaning I V E)
     (IsResult : List V → O → Type 0) {mode : Modes} {j : I} where
-  -- behind no item nothing follows
+  -- after no item nothing follows
   pub nothing_follows : w.IsKnown j → (vs : List V) → vs ≡ [] → (list : Option O) → Built mode.outputs (IsResult vs) list →
       ShowsMeaning w (λ us. IsResult (vs ++ us)) (follows w errs separator m vs) mode j (Ok (j, list))
   nothing_follows known [] h list built =
@@ -112,7 +112,7 @@ module _ {I A P V O E : Type 0} {w : Seen I A} (l : InputLaws w) (errs : Errors 
       (j, list, record { known = known; front = []; whole = refl; length_is = refl; mark_is = sym (l.mark_none (w.mark j)) }, built, refl)
   nothing_follows known (v ∷ vs) h list built = absurd (cc (h))
 
-  -- behind one item the further ones follow
+  -- after one item the further ones follow
   pub items_follow : (vs : List V) → IsFound true vs → {r : Result (I × Option O) (Answer.Err E (Option E) Needed)} →
       ShowsMeaning w (λ us. IsResult (vs ++ us)) (further_meaning w errs separator m) mode j r →
       ShowsMeaning w (λ us. IsResult (vs ++ us)) (follows w errs separator m vs) mode j r

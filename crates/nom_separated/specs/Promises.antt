@@ -5,7 +5,7 @@ use Rattle.nom_internal.specs.Outcome.Outcome.{Accept, Refuse}
 use Rattle.nom_internal.specs.Meaning.{Meaning}
 use Rattle.nom_repeat.specs.Accepted.{InTurn, OneAndMore}
 
--- What a list of the part m accepts that may be empty: none, where the part refuses; or a first item, and behind it just the items
+-- What a list of the part m accepts that may be empty: none, where the part refuses; or a first item, and after it just the items
 -- that the part p accepts in turn, none of them empty.
 abbrev pub AcceptsNoneOrMore : {I A V E : Type 0} → Seen I A → Meaning I V E → Meaning I V E → Meaning I (List V) E → Type 0
 AcceptsNoneOrMore {I} {V = V} w m p whole = (s : Bool) (i : I) (n : ℕ) (vs : List V) → w.IsKnown i → whole.answers s i (Accept n vs) ↔

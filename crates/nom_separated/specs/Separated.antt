@@ -15,7 +15,7 @@ use Rattle.nom_repeat.specs.declared.items.TooFew.TheVariants.{Never, Passed}
 use Rattle.nom_sequence.specs.Sequences.{preceded_meaning}
 use Rattle.nom_repeat.specs.Bounds.{any_limits, one_limits}
 
--- Any number of further items, each behind a separator. Where either is refused, the list ends before the separator. Both
+-- Any number of further items, each after a separator. Where either is refused, the list ends before the separator. Both
 -- together may not be empty.
 abbrev pub further_meaning : {I A P V E : Type 0} → Seen I A → Errors I E → Meaning I P E → Meaning I V E → Meaning I (List V) E
 further_meaning w errs separator m = items_meaning w errs (any_limits Kind.SeparatedList) (Unit {0}) (preceded_meaning w separator m)

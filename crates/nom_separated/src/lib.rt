@@ -13,7 +13,7 @@ use std::alloc::Allocator;
 /// Items with a separator between them, and one at least: a list of the items' outputs, which takes its
 /// memory from `alloc`. Of the separators nothing is built.
 ///
-/// A refusal of the first item is passed on. Later on a refusal of a separator, or of the item behind
+/// A refusal of the first item is passed on. Later on a refusal of a separator, or of the item after
 /// it, ends the list with success, before that separator. Where a separator and its item together
 /// consume nothing, they are refused with `SeparatedList`, at the separator.
 #[inline(always)]

@@ -20,7 +20,7 @@ use std::alloc::Allocator;
 #[derive(Drop)]
 pub struct SeparatedList1<A, G, F> {
     pub alloc: A,
-    /// A separator and an item behind it.
+    /// A separator and an item after it.
     pub next: Preceded<G, F>,
 }
 
@@ -95,7 +95,7 @@ impl<
 #[derive(Drop)]
 pub struct SeparatedList0<A, G, F> {
     pub alloc: A,
-    /// A separator and an item behind it.
+    /// A separator and an item after it.
     pub next: Preceded<G, F>,
 }
 

@@ -9,8 +9,8 @@ use nom_internal::parser::Parser;
 use nom_traits::input::Input;
 use std::alloc::Allocator;
 
-/// `separated_list1` accepts a first item, and behind it just the pairs of a separator and an item that they
-/// accept, one behind the other, none of them empty, up to where the separator or the item behind it refuses.
+/// `separated_list1` accepts a first item, and after it just the pairs of a separator and an item that they
+/// accept, one after the other, none of them empty, up to where the separator or the item after it refuses.
 pub fn separated_list1_accepts<
     I: Input,
     A: Allocator + Copy,

@@ -1,6 +1,7 @@
 //! The parsers that run two parts in sequence.
 ghost use Rattle.std.specs.Prelude.{false};
 ghost use Rattle.nom_error.specs.Modes.{with_outputs};
+ghost use Rattle.nom_internal.specs.Results.{ThenBesides};
 ghost use Rattle.nom_internal.specs.SequenceLaws.{sequence_lawful, sequence_steady};
 ghost use Rattle.nom_sequence.specs.Sequences.{preceded_meaning, terminated_meaning};
 
@@ -33,6 +34,8 @@ impl<I: Items, F: Parser<I> + Drop, G: Parser<I, Error = F::Error> + Drop> Parse
     ghost meaning = { λ s. preceded_meaning I.seen (F.meaning s.0) (G.meaning s.1) };
 
     ghost Pins = { λ s. G.Pins s.1 };
+
+    ghost Besides = { λ mode old new i. ThenBesides (F.Besides (with_outputs false mode) old.first new.first i) (G.Besides mode old.second new.second) };
 
     #[inline(always)]
     fn process<OM: OutputMode>(&mut self, input: I) -> PResult<I, Self::Output, Self::Error> {
@@ -79,6 +82,8 @@ impl<I: Items, F: Parser<I> + Drop, G: Parser<I, Error = F::Error> + Drop> Parse
     ghost meaning = { λ s. terminated_meaning I.seen (F.meaning s.0) (G.meaning s.1) };
 
     ghost Pins = { λ s. F.Pins s.0 };
+
+    ghost Besides = { λ mode old new i. ThenBesides (F.Besides mode old.first new.first i) (G.Besides (with_outputs false mode) old.second new.second) };
 
     #[inline(always)]
     fn process<OM: OutputMode>(&mut self, input: I) -> PResult<I, Self::Output, Self::Error> {

@@ -10,7 +10,7 @@ use Rattle.nom_traits.specs.Slices.{Slice, IsSeenAs}
 use Rattle.nom_internal.specs.Meaning.{Meaning}
 use Rattle.nom_internal.specs.Sequence.{pair_meaning}
 use Rattle.nom_bytes.specs.ParsedRuns.{run_meaning, run1_meaning}
-use Rattle.nom_character.specs.Heads.{char_meaning}
+use Rattle.nom_first.specs.Heads.{char_meaning}
 use Rattle.nom_sequence.specs.Sequences.{preceded_meaning, terminated_meaning}
 use Rattle.nom_combinator.specs.Verdicts.{complete_meaning, cut_meaning, opt_meaning}
 use Rattle.nom_multi.specs.Many.{many0_meaning}

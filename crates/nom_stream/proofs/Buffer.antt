@@ -1,4 +1,4 @@
--- The bytes of a buffer, where the first are used, and where more are written behind them.
+-- The bytes of a buffer, where the first are used, and where more are written after them.
 use Rattle.std.proofs.Common.{◌≡◌, ℕ, ◌+◌, ◌-◌, ◌≤◌, List, ◌++◌, length, take, drop, slice_range, refl, sym, ap, ◌∙◌, arith, append_assoc}
 use Rattle.std.proofs.lemmas.List.{append-nil, take-take, take_at, drop_at, take-append-le, drop-append-le, drop-take, drop-drop, length-take-le, length-drop}
 use lib.Seq.{take-add}
@@ -6,7 +6,7 @@ use lib.Seq.{take-add}
 pub range_length : (xs : List ℕ) (start end : ℕ) → start ≤ end → end ≤ length xs → length (slice_range xs start end) ≡ end - start
 range_length xs start end ordered within = length-take-le (end - start) (drop start xs) (omega (arith, length-drop start xs))
 
--- ys are written over what was behind the end, and n of them are held then
+-- ys are written over what was after the end, and n of them are held then
 grown : (xs ys behind : List ℕ) (start end n : ℕ) → start ≤ end → end ≤ length xs → n ≤ length ys →
     slice_range (take end xs ++ (ys ++ behind)) start (end + n) ≡ slice_range xs start end ++ take n ys
 grown xs ys behind start end n ordered within fits =

@@ -1,4 +1,4 @@
--- The outcome that stands behind what was taken.
+-- The outcome that stands after what was taken.
 use Rattle.std.proofs.Common.{arith, ◌≡◌, ℕ, zero, suc, ◌+◌, Bool, List, [], ◌∷◌, ◌++◌, length, Ok, Err, refl, sym, ◌∙◌, ap, subst, length-append}
 use Rattle.std.proofs.Common.{◌⊎◌, inl, inr}
 use Rattle.nom_error.specs.Answers.{size_of}

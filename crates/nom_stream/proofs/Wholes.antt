@@ -66,7 +66,7 @@ module _ {V : Type 0} (m : Meaning Bytes V (Error Bytes)) (lawful : IsLawful see
       absurd (b.1 (subst IsLacking same tt))
   completed e true f y ky d k o p a c (inr b) = lawful.one_outcome false y i o p ky ki (record { elements_are = sym d; mark_is = refl }) c tt b.2
 
-  -- what is needed at an input is needed at each that is seen alike
+  -- what is needed at an input is needed at each that is equal as models
   lacking_alike : i.now ≡ x.now → (k : Option ℕ) → m.answers true x (Undecided k) → m.answers true i (Undecided k)
   lacking_alike e k a = lawful.alike true x i (Undecided k) kx ki (record { elements_are = sym e; mark_is = refl }) a tt
 

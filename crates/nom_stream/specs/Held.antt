@@ -10,6 +10,6 @@ IsWithin h = (h.start ≤ h.end) × (h.end ≤ vec_len h.bytes)
 abbrev pub held_of : {A : Type 0} → Held A → List ℕ
 held_of h = slice_range h.bytes.items h.start h.end
 
--- the last so many bytes that were used
+-- the last that many bytes that were used
 abbrev pub last_of : {A : Type 0} → ℕ → Held A → List ℕ
 last_of count h = take count (drop (h.start - count) h.bytes.items)

@@ -54,7 +54,7 @@ module _ {R A : Type 0} (left : R → Option (List ℕ)) where
     pub at_end : s.ended ≡ true → IsAtEnd (left s.source)
 
   module _ (s t : Stream R A) where
-    -- these bytes were read, and are held behind the others
+    -- these bytes were read, and are held after the others
     pub record Gives (given : List ℕ) : Type 0 where
       pub consumed : Consumes (left s.source) (left t.source) given
       pub added : held_of t.held ≡ held_of s.held ++ given
@@ -69,7 +69,7 @@ module _ {R A : Type 0} (left : R → Option (List ℕ)) where
     ReadsOnce (Ok n) = (given : List ℕ) × Gives given × (length given ≡ n) × (n ≡ 0 → IsAtEnd (left t.source))
     ReadsOnce (Err e) = Gives []
 
--- so many bytes are held; or the reader is at its end, no more may be held, or bytes couldn't be read
+-- that many bytes are held; or the reader is at its end, no more may be held, or bytes couldn't be read
 abbrev pub IsEnough : {R A : Type 0} → (count : ℕ) → Stream R A → (Unreadable : Type 0) → Type 0
 IsEnough count t Unreadable = (count ≤ length (held_of t.held)) ⊎ (t.ended ≡ true) ⊎ (t.settings.most ≤ length (held_of t.held)) ⊎ Unreadable
 
@@ -86,7 +86,7 @@ abbrev pub Waits : {V O : Type 0} → (V → O → Type 0) → Meaning Bytes V (
 Waits IsItem m xs = (k : Needed) × Takes IsItem m true xs xs (Took.Undecided k)
 
 module _ {V O : Type 0} (IsItem : V → O → Type 0) (m : Meaning Bytes V (Error Bytes)) (settings : Settings) (held : List ℕ) where
-  -- A filling: bytes that were read behind those that were held and those of earlier fillings. These were parsed before it, and left the
+  -- A filling: bytes that were read after those that were held and those of earlier fillings. These were parsed before it, and left the
   -- item undecided; and it has less than one read more than what was wanted then.
   pub record IsFilling (earlier last : List ℕ) : Type 0 where
     pub needed : Needed

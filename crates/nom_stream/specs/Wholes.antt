@@ -44,7 +44,7 @@ IsLacking TooLarge = ⊥
 IsLacking (Undecided k) = Unit {0}
 
 module _ {V : Type 0} (m : Meaning Bytes V (Error Bytes)) where
-  -- The outcome at an input behind which nothing comes: the streaming one, as `iterator` has it; or (true) where more is needed, the
+  -- The outcome at an input after which nothing comes: the streaming one, as `iterator` has it; or (true) where more is needed, the
   -- complete one.
   abbrev pub AtWhole : (complete : Bool) → Bytes → Outcome V → Type 0
   AtWhole false i p = m.answers true i p

@@ -9,7 +9,7 @@ use std::alloc::Allocator;
 use std::io;
 use std::io::Read;
 
-/// The bytes that were read and aren't used yet: those of the buffer from `start` up to `end`. Behind these it has
+/// The bytes that were read and aren't used yet: those of the buffer from `start` up to `end`. After these it has
 /// room for more, and before them those that were used.
 #[derive(Drop)]
 pub struct Held<A: Allocator> {
@@ -114,7 +114,7 @@ impl<A: Allocator> Held<A> {
         self.end = end - start;
     }
 
-    /// Makes room for so many more bytes behind them. The buffer never gets shorter.
+    /// Makes room for so many more bytes after them. The buffer never gets shorter.
     pub fn make_room(&mut self, count: usize) -> Result<(), OutOfMemory>
         requires within { IsWithin self.old }
         requires fits { self.old.end + count < 2 ^ 64 }
@@ -140,7 +140,7 @@ impl<A: Allocator> Held<A> {
         }
     }
 
-    /// One read of so many bytes at the most, behind them; made again where it is interrupted.
+    /// One read of that many bytes at the most, after them; made again where it is interrupted.
     pub fn read_from<R: Read>(&mut self, source: &mut R, count: usize) -> io::Result<usize>
         requires within { IsWithin self.old }
         requires room { self.old.end + count ≤ vec_len self.old.bytes }

@@ -85,7 +85,7 @@ impl<R: Read, A: Allocator + Copy> Stream<R, A> {
         }
     }
 
-    // One read of so many bytes at the most, which the limit leaves room for; none are read at the end.
+    // One read of that many bytes at the most, which the limit leaves room for; none are read at the end.
     fn read_once(&mut self, count: usize) -> Result<usize, Unread>
         requires open { IsOpen R.remaining self.old }
         requires goes_on { self.old.ended ≡ false }
@@ -111,7 +111,7 @@ impl<R: Read, A: Allocator + Copy> Stream<R, A> {
         }
     }
 
-    // Reads so many bytes, unless the reader comes to its end, or the limit is reached; some at least. No read is made once
+    // Reads that many bytes, unless the reader comes to its end, or the limit is reached; some at least. No read is made once
     // they are there.
     #[inline(never)]
     fn read_wanted(&mut self, wants: usize) -> Result<(), Unread>

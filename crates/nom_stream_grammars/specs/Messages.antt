@@ -13,7 +13,7 @@ module _ (ping text close : List ℕ) (length_first number_first : Bool) where
       (map_of (λ bytes. Text (length bytes.now)) (preceded_of (tag_of text) (length_data_of (number_of true 1)))))
       (map_of (λ _. Close) (tag_of close)))
 
-  -- a body behind its length
+  -- a body after its length
   abbrev pub written_of : BytesGrammar Body Received
   written_of = length_value_of (number_of length_first 2) (all_consuming_of body_of)
 

@@ -1,4 +1,4 @@
-//! Fields: each some bytes behind a semicolon, up to the next one.
+//! Fields: each some bytes after a semicolon, up to the next one.
 ghost use Rattle.std.specs.Prelude.{◌≡◌, length};
 ghost use Rattle.nom_traits.specs.Bytes.{seen_bytes};
 ghost use Rattle.nom_traits.specs.Slices.{Slice};

@@ -17,7 +17,7 @@ take_full m n xs ys l h =
     let all = take_all n xs (omega (arith, l, h)) in
     all ∙ (sym (take_all m xs (omega (arith, l))) ∙ (sym (take-append-le m xs ys (omega (arith, l))) ∙ ap (λ z. take m (z ++ ys)) (sym all)))
 
--- a list that isn't full, with nothing behind it
+-- a list that isn't full, with nothing after it
 pub take_none : {X : Type 0} (m n : ℕ) (xs : List X) → length xs ≡ m → take n xs ≡ take m (take n xs ++ [])
 take_none m n xs l =
     let few : length (take n xs) ≤ m = omega (arith, l, length-take n xs, min-le_right n (length xs)) in

@@ -13,7 +13,7 @@ use nom_error::value::ParseError;
 pub struct Trail {
     /// How many steps there are.
     pub count: usize,
-    /// Their kinds. What stands behind them tells nothing.
+    /// Their kinds. What stands after them tells nothing.
     pub kinds: [ErrorKind; 8],
 }
 
@@ -52,7 +52,7 @@ impl Trail {
         }
     }
 
-    /// This trail with the steps of another one behind it, as far as there is room.
+    /// This trail with the steps of another one after it, as far as there is room.
     pub fn joined(self, other: Trail) -> Trail
         ensures { IsTrail (steps_of self ++ steps_of other) result }
     {

@@ -57,8 +57,10 @@ dropped : (xs ys zs : List ℕ) (n : ℕ) → xs ≡ ys ++ zs → n ≡ length y
 dropped xs ys zs n e f = rw (e, f) (drop-append_seam ys zs)
 
 -- a list of characters is a text, where its bytes are part of one
-part_known : (bs cs : List ℕ) → all_scalars cs ≡ true → bs ≡ encode_utf8_all cs → length bs < 2 ^ 63 → IsUtf8 bs × (length bs < 2 ^ 63)
-part_known bs cs s e h = (subst IsUtf8 (sym e) (cs, (s, refl)), h)
+part_known : (j : Bor (List ℕ)) (cs : List ℕ) → all_scalars cs ≡ true → j.now ≡ encode_utf8_all cs → length j.now < 2 ^ 63 → seen_text.IsKnown j
+part_known j cs s e h =
+    let text : IsUtf8 j.now = subst IsUtf8 (sym e) (cs, (s, refl)) in
+    (text, h, encodes-chars j.now text)
 
 pub text_front : (i j : Bor (List ℕ)) (n : ℕ) → seen_text.IsKnown i → IsPlace seen_text i n → j.now ≡ take n i.now → IsFront seen_text i n j
 text_front i j n u p e =
@@ -66,7 +68,7 @@ text_front i j n u p e =
     let b : j.now ≡ encode_utf8_all c.front = e ∙ taken i.now (encode_utf8_all c.front) (encode_utf8_all c.rest) n c.bytes_are c.length_is in
     let f : chars j.now ≡ c.front = ap chars b ∙ chars-encodes c.front c.front_is in
     record {
-      known = part_known j.now c.front c.front_is b
+      known = part_known j c.front c.front_is b
           (omega (arith, u.1, ap length b, ap length c.bytes_are, length-append (encode_utf8_all c.front) (encode_utf8_all c.rest)));
       rest = c.rest;
       whole = c.whole ∙ ap (λ l. l ++ c.rest) (sym f);
@@ -80,7 +82,7 @@ text_rest i j n u p e =
     let b : j.now ≡ encode_utf8_all c.rest = e ∙ dropped i.now (encode_utf8_all c.front) (encode_utf8_all c.rest) n c.bytes_are c.length_is in
     let f : chars j.now ≡ c.rest = ap chars b ∙ chars-encodes c.rest c.rest_is in
     record {
-      known = part_known j.now c.rest c.rest_is b
+      known = part_known j c.rest c.rest_is b
           (omega (arith, u.1, ap length b, ap length c.bytes_are, length-append (encode_utf8_all c.front) (encode_utf8_all c.rest)));
       front = c.front;
       whole = c.whole ∙ ap (λ l. c.front ++ l) (sym f);

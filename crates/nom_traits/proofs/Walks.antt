@@ -56,7 +56,7 @@ text_placed (c ∷ cs) n s e f = (
 )
 
 module _ {I A S : Type 0} (w : Seen I A) (Meets Ends : A → Type 0) (steps : S → Option A → S → Type 0) where
-  -- the items that were passed all meet the test, a place lies behind them, and s gives the others
+  -- the items that were passed all meet the test, a place lies after them, and s gives the others
   pub record IsWalking (i : I) (place : ℕ) (s : S) : Type 0 where
     pub passed : List A
     pub rest : List A
@@ -100,7 +100,7 @@ module _ {I A S : Type 0} {w : Seen I A} {Meets Ends : A → Type 0} {steps : S 
   pub walk_begins : {i : I} {s : S} → AlwaysYields steps (λ x. x) s (w.elements i) → IsWalking w Meets Ends steps i 0 s
   walk_begins {i = i} h = record { passed = []; rest = w.elements i; whole = refl; meets = All-nil Meets; place_is = refl; gives = h }
 
-  -- the place behind the next item is within the input
+  -- the place after the next item is within the input
   pub walk_fits : {i : I} {s : S} (t : S) {n m : ℕ} (x : A) → IsWalking w Meets Ends steps i n s → steps s (Some x) t → m ≡ w.weight x →
       n + m ≤ span w.weight (w.elements i)
   walk_fits {i = i} {s = s} t {n = n} x h k e =

@@ -29,7 +29,7 @@ module _ {I : Type 0} (w : Seen I ℕ) where
     pub no_more_told : (x y : I) (o p : ℕ) → w.IsKnown x → w.IsKnown y → byte_mark x o ≡ byte_mark y p → passed_bits x o ≡ passed_bits y p →
         (seen_bits w).mark (x, o) ≡ (seen_bits w).mark (y, p)
 
-  -- bits are seen alike where their lists are equal
+  -- bits are equal as models where their lists are equal
   abbrev pub AreBitsAlone : Type 0
   AreBitsAlone = (x y : I) (o p : ℕ) → (seen_bits w).elements (x, o) ≡ (seen_bits w).elements (y, p) → IsSame (seen_bits w) (x, o) (y, p)
 

@@ -1,7 +1,7 @@
 -- Blocks of bytes: vectors with a lane for each byte.
 use Rattle.std.specs.Prelude.{◌≡◌, ℕ, ◌+◌, ◌-◌, ◌%◌, ◌<◌, ◌≤◌, Bool, true, false, List, slice_index, bit_or}
 
--- how far a byte lies behind another; past 256 it starts again
+-- how far a byte lies after another; past 256 it starts again
 abbrev pub behind : ℕ → ℕ → ℕ
 behind low b = (b + (256 - low)) % 256
 
@@ -9,7 +9,7 @@ behind low b = (b + (256 - low)) % 256
 abbrev pub lower_case : ℕ → ℕ
 lower_case b = bit_or b 32
 
--- of the n bytes from a place on, the first `run` pass the test, and the one behind them, if it is of the n, doesn't
+-- of the n bytes from a place on, the first `run` pass the test, and the one after them, if it is of the n, doesn't
 pub record IsRunWithin (test : ℕ → Bool) (bytes : List ℕ) (place n run : ℕ) : Type 0 where
   pub within : run ≤ n
   pub passes : (k : ℕ) → place ≤ k → k < place + run → test (slice_index bytes k) ≡ true

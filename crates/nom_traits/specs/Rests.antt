@@ -34,7 +34,7 @@ module _ {I A : Type 0} (w : Seen I A) where
   pub same_then : (x y z : I) → IsSame w x y → IsSame w y z → IsSame w x z
   same_then x y z r s = record { elements_are = r.elements_are ∙ s.elements_are; mark_is = r.mark_is ∙ s.mark_is }
 
-  -- a rest of an input is a rest of one that is seen alike
+  -- a rest of an input is a rest of one that is equal as models
   pub rest_alike : (x y : I) (n : ℕ) (j : I) → IsSame w x y → IsRest w x n j → IsRest w y n j
   rest_alike x y n j r p = record {
     known = p.known;
@@ -65,7 +65,7 @@ module _ {I A : Type 0} (w : Seen I A) (l : InputLaws w) where
     mark_is = q.mark_is ∙ (ap (λ s. w.mark_after s q.front) p.mark_is ∙ sym (l.mark_more (w.mark i) p.front q.front));
   }
 
-  -- fronts of one length are seen alike
+  -- fronts of one length are equal as models
   pub same_front : (i : I) (n : ℕ) (x y : I) → IsFront w i n x → IsFront w i n y → IsSame w x y
   same_front i n x y p q =
       let c = same_cut w.weight l.positive (w.elements x) p.rest (w.elements y) q.rest (sym p.whole ∙ q.whole) (p.length_is ∙ sym q.length_is) in

@@ -10,8 +10,9 @@ pub record Slice {I A : Type 0} (w : Seen I A) : Type 0 where
   pub mark : w.Mark
 
 module _ {I A : Type 0} (w : Seen I A) where
-  -- the value is seen so
+  -- the value is an input, seen so
   pub record IsSeenAs (t : Slice w) (v : I) : Type 0 where
+    pub known : w.IsKnown v
     pub elements_are : w.elements v ≡ t.items
     pub mark_is : w.mark v ≡ t.mark
 
@@ -39,7 +40,7 @@ module _ {I A : Type 0} (w : Seen I A) where
   pub front_seen : InputLaws w → (i : I) (n : ℕ) (v : I) (t : Slice w) → IsFront w i n v → IsFirst i n t → IsSeenAs t v
   front_seen l i n v t p q =
       let c = same_cut w.weight l.positive (w.elements v) p.rest t.items q.rest (sym p.whole ∙ q.whole) (p.length_is ∙ sym q.length_is) in
-      record { elements_are = c.0; mark_is = p.mark_is ∙ sym q.mark_is }
+      record { known = p.known; elements_are = c.0; mark_is = p.mark_is ∙ sym q.mark_is }
 
   slice_equal : (t u : Slice w) → t.items ≡ u.items → t.mark ≡ u.mark → t ≡ u
   slice_equal t u e f =

@@ -8,7 +8,8 @@ use Rattle.std.proofs.Math.Utf8.{scalar}
 use Rattle.std.proofs.lemmas.Str.{len_utf8_bounds, scalars-chars, length-encode}
 use Rattle.nom_traits.specs.Input.{Seen, AreValues, InputLaws, span}
 
--- a text is seen as its characters, each as long as its UTF-8 form
+-- A text is seen as its characters, each as long as its UTF-8 form. That these spell its bytes follows from UTF-8; it is said so
+-- that texts of equal characters are found to be equal.
 abbrev pub seen_text : Seen (Bor (List ℕ)) ℕ
 seen_text = record {
   elements = λ s. chars s.now;
@@ -16,7 +17,7 @@ seen_text = record {
   Mark = Unit {0};
   mark = λ _. tt;
   mark_after = λ m _. m;
-  IsKnown = λ s. IsUtf8 s.now × (length s.now < 2 ^ 63);
+  IsKnown = λ s. IsUtf8 s.now × (length s.now < 2 ^ 63) × (encode_utf8_all (chars s.now) ≡ s.now);
   IsMore = λ _. Unit {0};
 }
 

@@ -2,6 +2,14 @@
 use Rattle.std.specs.Prelude.{ℕ, List, map, Option, Some, None, Result, Ok, Err, Vec, Box, box_value, String, string_bytes, chars}
 use Rattle.std.specs.Borrow.{Bor}
 use Rattle.std.specs.VecDeque.{deque_items}
+use Rattle.std.specs.BTreeMap.{BTreeMap}
+use Rattle.std.specs.BTreeSet.{BTreeSet}
+use Rattle.std.specs.HashMap.{HashMap}
+use Rattle.std.specs.HashSet.{HashSet}
+use Rattle.std.specs.Rc.{rc_value}
+use Rattle.std.specs.Arc.{arc_value}
+use Rattle.std.specs.declared.rc.Rc.{Rc}
+use Rattle.std.specs.declared.sync.Arc.{Arc}
 use Rattle.std.specs.declared.collections.VecDeque.{VecDeque}
 use Rattle.nom_traits.specs.Input.{Seen}
 
@@ -84,6 +92,33 @@ deque_view t = record { Value = List t.Value; value = λ v. map t.value (deque_i
 -- the value on the heap
 abbrev pub box_view : {T A : Type 0} → View T → View (Box T A)
 box_view t = record { Value = t.Value; value = λ b. t.value (box_value b) }
+
+-- the shared value
+abbrev pub rc_view : {T A : Type 0} → View T → View (Rc T A)
+rc_view t = record { Value = t.Value; value = λ r. t.value (rc_value r) }
+
+abbrev pub arc_view : {T A : Type 0} → View T → View (Arc T A)
+arc_view t = record { Value = t.Value; value = λ r. t.value (arc_value r) }
+
+-- each key with its value, as the map's iterator gives them
+abbrev pub entries_view : {K V M : Type 0} → View K → View V → (M → List (K × V)) → View M
+entries_view k v entries = record { Value = List (k.Value × v.Value); value = λ m. map (λ e. (k.value e.0, v.value e.1)) (entries m) }
+
+abbrev pub tree_map_view : {K V : Type 0} → View K → View V → View (BTreeMap K V)
+tree_map_view k v = entries_view k v (λ m. m.entries)
+
+abbrev pub hash_map_view : {K V S : Type 0} → View K → View V → View (HashMap K V S)
+hash_map_view k v = entries_view k v (λ m. m.entries)
+
+-- each key of a set, as the set's iterator gives them
+abbrev pub keys_view : {K S : Type 0} → View K → (S → List K) → View S
+keys_view k keys = record { Value = List k.Value; value = λ s. map k.value (keys s) }
+
+abbrev pub tree_set_view : {K : Type 0} → View K → View (BTreeSet K)
+tree_set_view k = keys_view k (λ s. s.keys)
+
+abbrev pub hash_set_view : {K S : Type 0} → View K → View (HashSet K S)
+hash_set_view k = keys_view k (λ s. s.keys)
 
 -- the characters of a text that owns its bytes
 abbrev pub string_view : {A : Type 0} → View (String A)

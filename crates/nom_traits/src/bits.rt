@@ -39,7 +39,7 @@ pub fn bits_tell_marks<I: Items<Item = u8>>()
     ensures { TellsMarks I.seen }
 {}
 
-/// Bits of slices of bytes have no mark: they are seen alike where their lists are equal, whatever bits
+/// Bits of slices of bytes have no mark: they are equal as models where their lists are equal, whatever bits
 /// stand before them.
 pub fn bits_of_slices_have_no_mark()
     ensures { AreBitsAlone seen_bytes }

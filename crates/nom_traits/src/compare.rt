@@ -19,7 +19,7 @@ pub enum CompareResult {
 
 /// An input that is compared with tags of type `T`.
 pub trait Compare<T>: Items {
-    /// What a tag is seen as: tags seen alike are one to every parser.
+    /// What a tag is seen as: tags equal as models are one to every parser.
     ghost Tag: { Type 0 };
 
     ghost tag_seen: { T → Tag };

@@ -61,7 +61,7 @@ impl<'a> ByteIndices<'a> {
 impl Iterator for ByteIndices<'_> {
     type Item = (usize, u8);
 
-    // The place behind what is left is a number of the type.
+    // The place after what is left is a number of the type.
     ghost can_next = { λ s. s.place + length s.rest.now < 2 ^ 64 };
 
     ghost next_gives = { YieldsFirst (λ s. placed (λ _. 1) s.place s.rest.now) };

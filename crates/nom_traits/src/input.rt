@@ -126,10 +126,10 @@ pub trait Input: Items + Viewed {
     /// Any items may follow.
     ghost more: { (xs : List Self.Item) → Self.seen.IsMore xs };
 
-    /// Inputs that are seen alike are compared as one.
+    /// Inputs that are equal as models are compared as one.
     ghost views: { (x y : Self) → IsSame Self.seen x y → Self.view.value x ≡ Self.view.value y };
 
-    /// Inputs that are compared as one are seen alike: they have the same items and the same mark.
+    /// Inputs that are compared as one are equal as models: they have the same items and the same mark.
     ghost tells: { (x y : Self) → Self.view.value x ≡ Self.view.value y → IsSame Self.seen x y };
 
     /// The rest, and then the first items, of length `index`.

@@ -91,7 +91,7 @@ fn in_lower_case(block: u8x32) -> u8x32
     block | u8x32::splat(0x20)
 }
 
-/// How far each byte lies behind `low`; past 256 it starts again.
+/// How far each byte lies after `low`; past 256 it starts again.
 #[inline(always)]
 fn less(block: u8x32, low: u8) -> u8x32
     ensures { result ≡ map (behind low) block }

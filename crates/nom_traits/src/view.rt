@@ -1,16 +1,21 @@
 //! What outputs are compared by.
 ghost use Rattle.nom_traits.specs.View.{View, itself, single_view, pair_view, view_3, view_4, view_5, view_6, view_7, view_8, option_view};
-ghost use Rattle.nom_traits.specs.View.{result_view, list_view, vec_view, deque_view, box_view, string_view, behind_view, text_view};
+ghost use Rattle.nom_traits.specs.View.{result_view, list_view, vec_view, deque_view, box_view, rc_view, arc_view, string_view, behind_view, text_view};
+ghost use Rattle.nom_traits.specs.View.{tree_map_view, hash_map_view, tree_set_view, hash_set_view};
 
 use std::alloc::Allocator;
 use std::cmp::Ordering;
-use std::collections::VecDeque;
-use std::net::{IpAddr, Ipv4Addr, Ipv6Addr, SocketAddr};
+use std::collections::{BTreeMap, BTreeSet, HashMap, HashSet, LinkedList, VecDeque};
+use std::hash::{BuildHasher, Hash};
+use std::net::{IpAddr, Ipv4Addr, Ipv6Addr, SocketAddr, SocketAddrV4, SocketAddrV6};
+use std::ops::{Range, RangeInclusive};
+use std::rc::Rc;
+use std::sync::Arc;
 use std::time::Duration;
 
-/// A type whose values are compared by a view of them: references and boxes by what they hold, lists
-/// by their items and texts by their characters. With no member given, a value is compared as it is, so
-/// `impl Viewed for Color {}` serves most types.
+/// A type whose values are compared by a view of them: references, boxes and shared values by what they
+/// hold, lists and sets by their items, maps by their entries, and texts by their characters. With no
+/// member given, a value is compared as it is, so `impl Viewed for Color {}` serves most types.
 pub trait Viewed {
     ghost view: { View Self } = { itself };
 }
@@ -60,6 +65,14 @@ impl Viewed for Ipv6Addr {}
 impl Viewed for IpAddr {}
 
 impl Viewed for SocketAddr {}
+
+impl Viewed for SocketAddrV4 {}
+
+impl Viewed for SocketAddrV6 {}
+
+impl<A> Viewed for Range<A> {}
+
+impl<A> Viewed for RangeInclusive<A> {}
 
 impl<A: Viewed> Viewed for (A,) {
     ghost view = { single_view A.view };
@@ -118,6 +131,37 @@ impl<T: Viewed, A: Allocator> Viewed for VecDeque<T, A> {
 
 impl<T: Viewed, A: Allocator> Viewed for Box<T, A> {
     ghost view = { box_view T.view };
+}
+
+impl<T: Viewed, A: Allocator> Viewed for Rc<T, A> {
+    ghost view = { rc_view T.view };
+}
+
+impl<T: Viewed, A: Allocator> Viewed for Arc<T, A> {
+    ghost view = { arc_view T.view };
+}
+
+impl<T: Viewed, A: Allocator> Viewed for LinkedList<T, A> {
+    ghost view = { list_view T.view };
+}
+
+/// A map is compared by its entries, in the order of its keys.
+impl<K: Ord + Viewed, V: Viewed, A: Allocator> Viewed for BTreeMap<K, V, A> {
+    ghost view = { tree_map_view K.view V.view };
+}
+
+impl<K: Ord + Viewed, A: Allocator> Viewed for BTreeSet<K, A> {
+    ghost view = { tree_set_view K.view };
+}
+
+/// A map is compared by its entries, in the order in which its iterator gives them.
+impl<K: Eq + Hash + Viewed, V: Viewed, S: BuildHasher, A: Allocator> Viewed
+    for HashMap<K, V, S, A> {
+    ghost view = { hash_map_view K.view V.view };
+}
+
+impl<K: Eq + Hash + Viewed, S: BuildHasher, A: Allocator> Viewed for HashSet<K, S, A> {
+    ghost view = { hash_set_view K.view };
 }
 
 impl<A: Allocator> Viewed for String<A> {

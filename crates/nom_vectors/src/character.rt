@@ -54,7 +54,7 @@ fn is_two_letters(answer: IResult<&str, Vec<char, Global>>) -> bool {
     }
 }
 
-/// Whether a list of `a` with `b` behind it is decided in `aabX` at this cut, with the rest `X` and two items.
+/// Whether a list of `a` with `b` after it is decided in `aabX` at this cut, with the rest `X` and two items.
 fn grows(alloc: Global, input: &str, cuts: &[usize], index: usize) -> bool
     requires { AreCuts seen_text input cuts.now }
 {

@@ -25,7 +25,7 @@ pub fn row_1(alloc: Global) -> bool {
     }
 }
 
-/// Whether `terminated((be_u16(), take(3)), tag("fg"))` needs so many bytes more.
+/// Whether `terminated((be_u16(), take(3)), tag("fg"))` needs that many bytes more.
 fn needs_bytes(alloc: Global, input: &[u8], size: usize) -> bool {
     let found = number_and_slice(alloc, input);
     found.grows && needs(found.streaming, Some(size))

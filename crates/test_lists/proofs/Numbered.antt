@@ -8,8 +8,8 @@ use Rattle.nom_traits.specs.View.{itself}
 use Rattle.nom_internal.specs.Meaning.{IsLawful}
 use Rattle.nom_internal.specs.MappedLaws.{map_lawful}
 use Rattle.nom_internal.specs.Pinned.{IsPinned}
-use Rattle.nom_character.specs.declared.first.Blame.TheVariants.{OfChar}
-use Rattle.nom_character.specs.HeadLaws.{told, head_lawful}
+use Rattle.nom_first.specs.declared.first.Blame.TheVariants.{OfChar}
+use Rattle.nom_first.specs.HeadLaws.{told, head_lawful}
 use Rattle.nom_multi.specs.Many.{many0_meaning}
 use Rattle.nom_multi.specs.ManyLaws.{many0_lawful}
 use Rattle.test_lists.specs.Listed.{AreListed, IsNumber, kept, letters, numbered}

@@ -9,7 +9,7 @@ use Rattle.nom_traits.specs.Text.{seen_text}
 use Rattle.nom_internal.specs.Meaning.{Meaning}
 use Rattle.nom_internal.specs.Closures.{GivesFor}
 use Rattle.nom_internal.specs.Mapped.{map_meaning}
-use Rattle.nom_character.specs.Heads.{char_meaning}
+use Rattle.nom_first.specs.Heads.{char_meaning}
 use Rattle.nom_multi.specs.Many.{many0_meaning}
 
 abbrev pub Text : Type 0

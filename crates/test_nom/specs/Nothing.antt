@@ -1,4 +1,4 @@
--- The rest behind a parser that consumes nothing.
+-- The rest after a parser that consumes nothing.
 use Rattle.std.specs.Prelude.{[], refl}
 use Rattle.std.proofs.Common.{sym}
 use Rattle.nom_traits.specs.Input.{Seen, InputLaws, IsRest}

@@ -89,7 +89,7 @@ fn found(question: Question<&[u8]>, call: &str, position: Option<usize>) -> Opti
     }
 }
 
-/// The acceptance that a line tells of bits, by what it tells behind `rest=(`.
+/// The acceptance that a line tells of bits, by what it tells after `rest=(`.
 fn accepted_in_bits(alloc: Global, text: &str) -> Option<Answer> {
     let (rest, value) = text.split_once(") value=")?;
     let (literal, position) = rest.rsplit_once(", ")?;

@@ -45,7 +45,7 @@ pub struct Members<T> {
     pub d: T,
 }
 
-/// The members of a list where each is of one form, by what the form has before and behind the text.
+/// The members of a list where each is of one form, by what the form has before and after the text.
 pub fn members_of<'a>(list: &'a str, front: &str, back: &str) -> Option<Members<&'a str>> {
     let mut texts = [""; 4];
     let mut count = 0usize;

@@ -1,4 +1,4 @@
-//! What stands behind a length of any kind.
+//! What stands after a length of any kind.
 ghost use Rattle.nom_internal.specs.Families.{IsOne};
 ghost use Rattle.nom_lengths.specs.Lengths.{HasSize};
 
@@ -13,7 +13,7 @@ use nom_answer_lines::ask::Question;
 use nom_ends::left::{Eof, Rest};
 use std::fmt::Debug;
 
-/// What a part answers behind a length: one value on all that it has, or so many of them.
+/// What a part answers after a length: one value on all that it has, or that many of them.
 pub fn parsed<I, L, P>(question: Question<I>, kind: Kind, length: L, part: P) -> Option<Answer>
 where
     I: Input + AsBytes + Debug,
@@ -31,7 +31,7 @@ where
     }
 }
 
-/// What data behind a length answers.
+/// What data after a length answers.
 pub fn data<I, L>(question: Question<I>, length: L) -> Option<Answer>
 where
     I: Input + AsBytes + Debug,
@@ -43,7 +43,7 @@ where
     question.ask(length_data(length))
 }
 
-/// What a part answers behind a length that is made of another part.
+/// What a part answers after a length that is made of another part.
 fn made<I, L, P>(
     question: Question<I>,
     kind: Kind,

@@ -4,7 +4,7 @@ use crate::forms::form_of;
 use nom_answer_lines::literal::between;
 use nom_answer_lines::names::{number_of, place_of};
 
-/// What stands behind a length.
+/// What stands after a length.
 #[derive(Clone, Copy)]
 pub enum Kind {
     Data,
@@ -12,7 +12,7 @@ pub enum Kind {
     Count,
     /// Any number of lengths with their data.
     DataMany0,
-    /// The same, each behind an `R`.
+    /// The same, each after an `R`.
     RecordsMany0,
     /// One of these at least.
     RecordsMany1,
@@ -35,7 +35,7 @@ pub enum Length {
     Tag,
 }
 
-/// What is parsed behind a length.
+/// What is parsed after a length.
 #[derive(Clone, Copy)]
 pub enum Part {
     Rest,
@@ -59,7 +59,7 @@ pub struct Call<T> {
     pub text: T,
 }
 
-/// What stands behind a length, and the text of the length and its part.
+/// What stands after a length, and the text of the length and its part.
 fn kind_of(call: &str) -> Option<(Kind, &str)> {
     let forms = "length_data(*)|length_value(*)|length_count(*)|many0(length_data(*))|\
         many0(preceded(tag(\"R\"), length_data(*)))|many1(preceded(tag(\"R\"), length_data(*)))";
@@ -75,7 +75,7 @@ fn kind_of(call: &str) -> Option<(Kind, &str)> {
     Some((kind, inner))
 }
 
-/// A length, and the text behind it.
+/// A length, and the text after it.
 fn length_of(text: &str) -> Option<(Length, &str)> {
     let forms = "map(one_of(\"0123\"), digit_value)*|map(char('1'), one)*|map(char('1'), three)*|\
         cut(map(char('1'), one))*|be_u8()*|cut(be_u8())*|be_u16()*|be_u64()*|tag(\"a\").map(one)*";

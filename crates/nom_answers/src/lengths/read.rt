@@ -55,7 +55,7 @@ where
     list(question, shape, record)
 }
 
-/// What a call answers of bytes alone; none where its length isn't one of bytes. Behind `be_u16` and within `cut`
+/// What a call answers of bytes alone; none where its length isn't one of bytes. After `be_u16` and within `cut`
 /// there is data alone.
 pub fn asked_of_bytes<I, T>(question: Question<I>, call: Call<T>) -> Option<Answer>
 where

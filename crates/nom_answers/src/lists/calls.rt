@@ -32,7 +32,7 @@ pub enum Shape {
     SeparatedList0,
     SeparatedList1,
     ManyTill,
-    /// A buffer of so many places, filled.
+    /// A buffer of that many places, filled.
     Fill(usize),
     /// The same where no output is built.
     FillInCheck(usize),

@@ -165,7 +165,7 @@ fn filled_in_check<'a>(question: Question<&'a str>, places: usize, text: &str) -
     with_buffer(question.alloc, answer, &buffer[..places])
 }
 
-/// What a call answers that fills a buffer of so many places.
+/// What a call answers that fills a buffer of that many places.
 fn filled_by(question: Question<&str>, call: &Call<&str>, places: usize) -> Option<Answer> {
     match (&call.item, &call.part) {
         (Item::Itself, Part::Tag) => filled(question, places, tag(call.part_text)),

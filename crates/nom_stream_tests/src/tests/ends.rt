@@ -6,7 +6,7 @@ use nom_stream::stream::{Stop, Stream};
 use nom_stream_grammars::fields::Fields;
 use nom_stream_grammars::records::Records;
 
-/// Fields behind semicolons: only the end of the data tells that the last one is whole.
+/// Fields after semicolons: only the end of the data tells that the last one is whole.
 const DATA: &[u8] = b";a;bcd;ef";
 
 #[test]

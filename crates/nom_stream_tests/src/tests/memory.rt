@@ -1,4 +1,4 @@
-//! Want of memory.
+//! Memory that runs out.
 
 use crate::tests::reader::{all, eager, steps};
 use crate::tests::wholes::{DATA, MESSAGES};
@@ -9,7 +9,7 @@ use nom_stream_grammars::messages::Messages;
 use std::alloc::AllocError;
 
 /// Heaps of each size up to one that suffices: each growth of the buffer is refused in turn.
-/// Each time the answer is want of memory, and the items before it are right.
+/// Each time the answer is that memory ran out, and the items before it are right.
 #[test]
 fn each_growth_refused(rt: HostRuntime) -> Result<(), AllocError> {
     let mut refused = 0usize;

@@ -105,6 +105,6 @@ fn a_refusal_stands_at_its_offset(rt: HostRuntime) {
     let got = all(rt.alloc(), data, stream, &mut Messages);
     assert!(rt; got.items.as_slice() == [Received::Close].as_slice());
     assert!(rt; got.offset == 3);
-    // Behind the kind of the second message stands a byte too many, of which the error tells: the last one of its body.
+    // After the kind of the second message stands a byte too many, of which the error tells: the last one of its body.
     assert!(rt; matches!(got.stop, Some(Stop::Refused(_, 1))));
 }

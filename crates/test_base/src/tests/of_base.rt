@@ -1,4 +1,4 @@
-//! What no clause says: printed texts, derives, want of memory, and each public call once.
+//! What no clause says: printed texts, derives, running out of memory, and each public call once.
 
 mod collections;
 mod errors;

@@ -5,13 +5,13 @@ use Rattle.nom_digits.proofs.part.read.Goals as goal
 pub returns : goal.returns
 returns g c =
     let mantissa = c.pair-shape.result.first.parser in
-    let sign = mantissa.first.parser.parser in
-    let both = mantissa.second.parser in
-    let behind = both.0.second.parser in
-    let alone = both.1 in
+    let sign = mantissa.first.parser in
+    let both = mantissa.second in
+    let behind = both.first.second in
+    let alone = both.second in
     let power = c.pair-shape.result.second.parser in
-    let found = part_wants sign.0.wanted sign.1.wanted behind.0.first.wanted alone.second.first.wanted power.first.parser.0.wanted
-    power.first.parser.1.wanted behind.0.second.class behind.0.second.wanted behind.1.class behind.1.wanted alone.first.class alone.first.wanted
+    let found = part_wants sign.first.wanted sign.second.wanted behind.first.first.wanted alone.second.first.wanted power.first.first.wanted
+    power.first.second.wanted behind.first.second.class behind.first.second.wanted behind.second.class behind.second.wanted alone.first.class alone.first.wanted
     power.second.parser.signed in
     let same : found ≡ parts_want =
     rw (

@@ -45,7 +45,7 @@ abbrev is_pair : (g : given.Over) → g.P.Parser.State → g.F.Parser.State → 
     Pair g.C.Parser.Tree (Term g.P.Parser.Tree g.F.Parser.Tree g.Q.Parser.Tree) → (ℕ × g.row.B.Denot) × g.row.F-Output.Denot → Type 0
 is_pair g p f q b fold = IsPairOf (g.C.Parser.IsOutput b) (is_term g p f q fold)
 
--- and what is made of pairs behind a first value
+-- and what is made of pairs after a first value
 abbrev Pairs : (g : given.Over) → g.P.Parser.State → g.F.Parser.State → g.Q.Parser.State → g.C.Parser.State → g.row.G.Denot → List Assoc →
     Option g.row.F-Output.Denot → List (Pair g.C.Parser.Tree (Term g.P.Parser.Tree g.F.Parser.Tree g.Q.Parser.Tree)) → g.row.F-Output.Denot → Type 0
 Pairs g p f q b fold levels before = IsMade (groups_left levels) (λ c. c.0) (λ x c y z. g.G.Fn.post fold (Binary x c.1 y, tt) z) (is_pair g p f q b fold) before

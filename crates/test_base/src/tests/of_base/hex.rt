@@ -65,7 +65,7 @@ fn bytes_that_are_not_shown(rt: HostRuntime) -> Result<(), OutOfMemory> {
 }
 
 /// Heaps of each size up to one that suffices: each growth is refused in turn, and each time the answer is
-/// want of memory. An empty input needs none.
+/// that memory ran out. An empty input needs none.
 #[test]
 fn each_growth_refused(rt: HostRuntime) -> Result<(), AllocError> {
     let mut refused = 0usize;

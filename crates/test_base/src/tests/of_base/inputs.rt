@@ -16,7 +16,7 @@ use nom_traits::input::{Input, Items};
 // Characters of 1, 2, 3, 4, 3, 2 and 1 bytes.
 const MIXED: &str = "a¡€💢€¡a";
 
-/// The rest and the front of an input, of which the front has so many items.
+/// The rest and the front of an input, of which the front has that many items.
 fn parts_of<I: Input>(input: I, count: usize) -> Result<(I, I), Needed> {
     let place = input.slice_index(count)?;
     Ok(input.take_split(place))

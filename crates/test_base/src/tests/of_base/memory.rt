@@ -1,4 +1,4 @@
-//! Each growth of what takes memory of a heap is refused in turn. Each time the answer is want of memory, what was
+//! Each growth of what takes memory of a heap is refused in turn. Each time the answer is that memory ran out, what was
 //! there before stays, and with ample memory the call then gives its value again.
 
 use linked_list_allocator::LocalHeap;
@@ -213,7 +213,7 @@ fn letter(place: usize, letters: usize) -> u8 {
     }
 }
 
-/// Whether just so many letters are held.
+/// Whether just that many letters are held.
 fn are_letters<H: Held>(held: &H, count: usize, letters: usize) -> bool {
     for place in 0..count {
         if !held.holds(place, letter(place, letters)) {

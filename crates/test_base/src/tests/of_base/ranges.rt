@@ -6,7 +6,7 @@ use nom_ranges::range::NomRange;
 use nom_ranges::saturating::SaturatingIterator;
 use std::ops::Bound;
 
-/// Whether a range has these ends, may be inverted, allows so few and so many items, and its iterators begin.
+/// Whether a range has these ends, may be inverted, allows so few and that many items, and its iterators begin.
 fn is_range<R: NomRange<usize>>(
     range: &R,
     ends: (Bound<usize>, Bound<usize>),

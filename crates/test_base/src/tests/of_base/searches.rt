@@ -170,7 +170,7 @@ fn substrings_of_bytes(rt: HostRuntime) {
     }
 }
 
-/// The place of a `;` that stands alone at a place, among so many bytes.
+/// The place of a `;` that stands alone at a place, among that many bytes.
 fn place_among<A: Allocator>(
     alloc: A,
     len: usize,
@@ -186,7 +186,7 @@ fn place_among<A: Allocator>(
 #[test]
 fn bytes_that_are_far(rt: HostRuntime) -> Result<(), AllocError> {
     // Both sides of the places from which on four pages are looked through side by side, of the borders of
-    // these pages, and behind the last of them.
+    // these pages, and after the last of them.
     for place in [
         262143, 262144, 262207, 266239, 266240, 270335, 270336, 274431, 274432, 278527, 278528,
         294912, 299999,

@@ -20,7 +20,7 @@ fn both<I: Items, P: Parser<I> + Drop>(
     [parser.parse(input), parser.parse_complete(input)]
 }
 
-/// What is answered of so many bytes behind a `1`.
+/// What is answered of that many bytes after a `1`.
 fn behind_one(length: usize) -> [IResult<&'static str, &'static str>; 2] {
     let length = map(char::<_, Error<&str>>('1'), move |_one: char| length);
     both(length_value(length, Rest::new()), "1é")

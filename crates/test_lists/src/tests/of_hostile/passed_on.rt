@@ -143,7 +143,7 @@ where
     is_out && buffer == [0, 99, 99]
 }
 
-/// Whether memory runs out in a value behind a length.
+/// Whether memory runs out in a value after a length.
 fn value_runs_out<I, L, P>(length: L, part: P, input: I) -> bool
 where
     I: Input,

@@ -1,4 +1,4 @@
-//! Values behind a length.
+//! Values after a length.
 
 use nom_bytes::tag;
 use nom_error::answer::{Err, IResult};

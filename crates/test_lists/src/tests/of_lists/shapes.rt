@@ -1,4 +1,4 @@
-//! Lists of a tag: what they answer with less built, the kinds that they add, and want of memory.
+//! Lists of a tag: what they answer with less built, the kinds that they add, and running out of memory.
 
 use super::told::{Told, in_modes};
 use linked_list_allocator::LocalHeap;
@@ -233,7 +233,7 @@ fn times_refused(alloc: Global, shape: Shape, input: &[u8]) -> Result<Option<usi
     Ok(if sufficed { Some(refused) } else { None })
 }
 
-// Each growth of a list is refused in turn, and each time the answer is want of memory, and no shorter list.
+// Each growth of a list is refused in turn, and each time the answer is that memory ran out, and no shorter list.
 #[test]
 fn each_growth_refused(rt: HostRuntime) -> Result<(), AllocError> {
     let items = &b"aaaaaaaaaaaaaaaaaaaa;"[..];

@@ -53,7 +53,7 @@ fn a_tag_at_the_least_cut(rt: HostRuntime) {
     assert!(rt; grown == (2, Ok((&b"X"[..], &b"ab"[..]))));
 }
 
-/// A record of four bytes behind `R`, in an input that grows: the index of the cut, the rest, and the four
+/// A record of four bytes after `R`, in an input that grows: the index of the cut, the rest, and the four
 /// bytes.
 fn grown_record<'a>(
     input: &'a [u8],
@@ -77,7 +77,7 @@ fn records_of_four_bytes(rt: HostRuntime) {
     assert!(rt; refused == (0, Err(Err::Error(error))));
 }
 
-/// A list of `a` with `b` behind it, in an input that grows: the index of the cut, the rest, and how many
+/// A list of `a` with `b` after it, in an input that grows: the index of the cut, the rest, and how many
 /// items there are; none where it isn't accepted.
 fn grown_list<'a>(
     alloc: Global,

@@ -1,4 +1,4 @@
-//! Data behind a length, by a parser of one byte of a user's own.
+//! Data after a length, by a parser of one byte of a user's own.
 ghost use Rattle.std.specs.Prelude.{ℕ, ◌<◌, length};
 ghost use Rattle.nom_error.specs.Modes.{Built};
 ghost use Rattle.nom_traits.specs.Bytes.{seen_bytes};
@@ -58,7 +58,7 @@ fn first<M: Mode>(input: &[u8]) -> Option<u8>
     if M::BUILDS { Some(input[0]) } else { None }
 }
 
-/// What data behind a length of one byte answers in a mode.
+/// What data after a length of one byte answers in a mode.
 fn data<OM: OutputMode>(input: &[u8]) -> PResult<&[u8], &[u8], At> {
     length_data(Byte).process::<OM>(input)
 }

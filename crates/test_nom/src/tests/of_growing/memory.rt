@@ -1,4 +1,4 @@
-//! Want of memory.
+//! Memory that runs out.
 use linked_list_allocator::LocalHeap;
 use nom::bytes::{escaped_transform, tag, take_while1};
 use nom::error::Error;
@@ -20,7 +20,7 @@ fn is_built(heap: &LocalHeap) -> Result<bool, OutOfMemory> {
 }
 
 /// Heaps of each size up to one that suffices: each growth of the text that `escaped_transform` builds is
-/// refused in turn, and each time the answer is want of memory, and no shorter text.
+/// refused in turn, and each time the answer is that memory ran out, and no shorter text.
 #[test]
 fn each_growth_of_a_text_refused(rt: HostRuntime) -> Result<(), AllocError> {
     let mut refused = 0usize;

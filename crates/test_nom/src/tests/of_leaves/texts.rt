@@ -27,7 +27,7 @@ fn left_in<'a, OM: OutputMode, P: Parser<&'a str, Error = Fail<'a>> + Drop>(
     }
 }
 
-// A text with digits, a backslash, and behind it `n`.
+// A text with digits, a backslash, and after it `n`.
 #[test]
 fn an_escaped_text_that_is_checked(rt: HostRuntime) {
     let digits = take_while1::<_, _, Fail>(|c: char| c.is_ascii_digit());

@@ -1,5 +1,5 @@
 //! Closures on outputs. Nothing is written for what they owe: that they take each output, that they judge
-//! the outputs of one tree alike, and that they give results that are seen alike for outputs that are. A chain of
+//! the outputs of one tree alike, and that they give results that are equal as viewed for outputs that are. A chain of
 //! parsers over parts and closures of any type says in its clauses what it takes of them.
 
 ghost use Rattle.std.specs.Prelude.{◌≡◌, ℕ, List, Option, Some, Ok, is_some, is_ok};
@@ -292,7 +292,7 @@ fn answer_of<I: Input, P: Parser<I, Error = Error<I>>>(
     parser.parse(input)
 }
 
-/// What a list and one behind a part answer. It promises nothing.
+/// What a list and one after a part answer. It promises nothing.
 fn lists_of<I: Input, B: Drop, P: Parser<I, Output = B, Error = Error<I>> + Drop>(
     first: Vec<u8>,
     second: Vec<u8>,
@@ -305,7 +305,7 @@ fn lists_of<I: Input, B: Drop, P: Parser<I, Output = B, Error = Error<I>> + Drop
     answer_of(&mut lists, input)
 }
 
-/// Whether both lists are those of 1 and 2, with nothing behind.
+/// Whether both lists are those of 1 and 2, with nothing after.
 fn are_lists(found: IResult<&[u8], (Vec<u8>, Vec<u8>)>) -> bool {
     match found {
         Ok((rest, (first, second))) => {

@@ -293,7 +293,7 @@ fn a_record_that_grows(rt: HostRuntime) {
     assert!(rt; is_grown(record, bytes("Rabcd;xy"), [0, 3, 5, 6], 3, wanted));
 }
 
-// Two bytes behind an `R`: the second runs where the first ended.
+// Two bytes after an `R`: the second runs where the first ended.
 #[test]
 fn two_parsers(rt: HostRuntime) {
     let outputs = (bytes("R"), bytes("ab"));

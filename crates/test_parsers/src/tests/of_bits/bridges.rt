@@ -65,7 +65,7 @@ fn refused_fields(rt: HostRuntime) {
     assert!(rt; checked);
 }
 
-/// A field of 4 bits, and a byte that is wanted behind it.
+/// A field of 4 bits, and a byte that is wanted after it.
 fn field_and_byte(input: Bits<'_>) -> Ended<(u8, &[u8])> {
     how((take(4u8), bytes(tag::<_, _, Bad<'_>>(b"x".as_slice()))).parse(input))
 }

@@ -8,7 +8,7 @@ pub type Bits<'a> = (&'a [u8], usize);
 
 pub type Fail<'a> = Error<(&'a [u8], usize)>;
 
-/// With a value and a rest of so many bytes, from a position on; with a refusal before so many bytes, at a
+/// With a value and a rest of that many bytes, from a position on; with a refusal before that many bytes, at a
 /// position; or for want of more. What is needed is a type argument, since the check covers an enum that holds
 /// both references and a `NonZeroUsize` only so.
 #[derive(Drop, PartialEq)]

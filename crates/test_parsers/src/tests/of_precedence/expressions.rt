@@ -8,7 +8,7 @@ use nom_error::value::Error;
 use nom_precedence::Assoc;
 use nom_trail::trail::Trail;
 
-/// A rest of so many bytes, and a value.
+/// A rest of that many bytes, and a value.
 fn value(rest: usize, value: i64) -> Told {
     Told::Accepts(rest, Some(value))
 }

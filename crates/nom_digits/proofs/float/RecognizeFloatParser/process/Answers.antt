@@ -5,13 +5,13 @@ use Rattle.nom_digits.proofs.float.RecognizeFloatParser.process.Goals as goal
 pub returns-clause-shown : goal.returns-clause-shown
 returns-clause-shown g c =
     let shape = c.recognize-shape.result.parser in
-    let sign = shape.first.parser.parser in
-    let whole = shape.second.first.parser.0.parser in
-    let part = shape.second.first.parser.1.parser in
+    let sign = shape.first.parser in
+    let whole = shape.second.first.first.parser in
+    let part = shape.second.first.second.parser in
     let exponent = shape.second.second.parser.parser in
-    let behind = exponent.second.first.parser.parser in
-    let found = wants sign.0.wanted sign.1.wanted whole.second.parser.first.wanted part.first.wanted exponent.first.parser.0.wanted
-    exponent.first.parser.1.wanted behind.0.wanted behind.1.wanted in
+    let behind = exponent.second.first.parser in
+    let found = wants sign.first.wanted sign.second.wanted whole.second.parser.first.wanted part.first.wanted exponent.first.first.wanted
+    exponent.first.second.wanted behind.first.wanted behind.second.wanted in
     let same : found ≡ fraction_wants =
     rw (
       c.recognize-shape.ensures,

@@ -12,7 +12,7 @@ returns-then-input_len-eq0-clause-shown g c =
     let w = g.I.Items.seen in
     let none = no_length w.weight g.met.I.Items.lawful.positive (w.elements c.args.input) (sym c.input_len.ensures ∙ c.if-input_len-eq0.true) in
     accepted (all_of w c.args.input) (rest_self w g.met.I.Items.lawful c.args.input c.known.ensures) (none, refl, refl)
-    (whole_built w g.OM.Output.Mode.BUILDS c.args.input c.built.result c.built.ensures)
+    (whole_built w g.OM.Output.Mode.BUILDS c.args.input c.built.result c.known.ensures c.built.ensures)
 
 pub returns-else-input_len-eq0-clause-shown : goal.returns-else-input_len-eq0-clause-shown
 returns-else-input_len-eq0-clause-shown g c =

@@ -1,4 +1,7 @@
-use Rattle.nom_internal.proofs.Shown.{then_err, then_ok, output_err, output_ok, both_built}
+use Rattle.std.proofs.Common.{ap}
+use Rattle.nom_internal.specs.Results.{rest_of}
+use Rattle.nom_internal.specs.Results.ThenBesides.{Stopped, Both}
+use Rattle.nom_internal.proofs.Shown.{err_from_residual, then_err, then_ok, output_err, output_ok, both_built}
 use Rattle.nom_internal.proofs.sequence.AndParser.process.Goals as goal
 
 pub returns-in_err-rest-clause-shown : goal.returns-in_err-rest-clause-shown
@@ -12,3 +15,13 @@ pub returns-clause-shown : goal.returns-clause-shown
 returns-clause-shown g c = then_ok g.met.I.Items.lawful c.in_ok-rest.ensures.shown
     (λ u b. output_ok c.in_ok-rest-2.ensures.shown
     (λ v d. both_built (g.F.Parser.IsOutput _ u) (g.G.Parser.IsOutput _ v) _ _ _ _ b d c.combine.ensures.both c.combine.ensures.none))
+
+pub returns-in_err-rest-clause-besides : goal.returns-in_err-rest-clause-besides
+returns-in_err-rest-clause-besides g c = Stopped c.in_err-rest.ensures.besides (ap rest_of (err_from_residual c.from_residual.ensures))
+
+pub returns-in_err-rest-2-clause-besides : goal.returns-in_err-rest-2-clause-besides
+returns-in_err-rest-2-clause-besides g c = Both _ c.in_ok-rest.ensures.besides
+    (rw (ap rest_of (err_from_residual c.from_residual-in_err-rest-2.ensures)) c.in_err-rest-2.ensures.besides)
+
+pub returns-clause-besides : goal.returns-clause-besides
+returns-clause-besides g c = Both _ c.in_ok-rest.ensures.besides c.in_ok-rest-2.ensures.besides

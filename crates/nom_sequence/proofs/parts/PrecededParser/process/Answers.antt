@@ -1,4 +1,7 @@
-use Rattle.nom_internal.proofs.Shown.{then_err, then_ok}
+use Rattle.std.proofs.Common.{ap}
+use Rattle.nom_internal.specs.Results.{rest_of}
+use Rattle.nom_internal.specs.Results.ThenBesides.{Stopped, Both}
+use Rattle.nom_internal.proofs.Shown.{err_from_residual, then_err, then_ok}
 use Rattle.nom_sequence.proofs.parts.PrecededParser.process.Goals as goal
 
 pub returns-in_err-rest-clause-shown : goal.returns-in_err-rest-clause-shown
@@ -6,3 +9,9 @@ returns-in_err-rest-clause-shown g c = then_err g.met.I.Items.lawful c.in_err-re
 
 pub returns-clause-shown : goal.returns-clause-shown
 returns-clause-shown g c = then_ok g.met.I.Items.lawful c.in_ok-rest.ensures.shown (λ u b. c.process-2.ensures.shown)
+
+pub returns-in_err-rest-clause-besides : goal.returns-in_err-rest-clause-besides
+returns-in_err-rest-clause-besides g c = Stopped c.in_err-rest.ensures.besides (ap rest_of (err_from_residual c.from_residual.ensures))
+
+pub returns-clause-besides : goal.returns-clause-besides
+returns-clause-besides g c = Both _ c.in_ok-rest.ensures.besides c.process-2.ensures.besides

@@ -14,14 +14,14 @@ use nom_trail::trail::Trail;
 pub enum Answer<I> {
     /// How many bytes are left, and the output.
     Accepts(usize, I),
-    /// How many refusals of tags the error lists, and a last step behind them.
+    /// How many refusals of tags the error lists, and a last step after them.
     Refuses(usize, Option<ErrorKind>),
     Fails(usize, Option<ErrorKind>),
     /// So many more are needed.
     Needs(usize),
 }
 
-/// Whether an error lists so many refusals of tags, and a last step behind them.
+/// Whether an error lists so many refusals of tags, and a last step after them.
 pub fn are_steps(trail: &Trail, tags: usize, last: Option<ErrorKind>) -> bool {
     let steps = trail.steps();
     let front = steps

@@ -1,0 +1,51 @@
+//! Closures on outputs.
+
+use nom::bytes::{tag, take_while1};
+use nom::character::complete::anychar;
+use nom::character::digit1;
+use nom::combinator::{map, map_opt, map_res, verify};
+use nom::sequence::separated_pair;
+use nom::{IResult, Parser, Viewed, func};
+
+/// A place in a picture.
+#[derive(Clone, Copy, Debug, PartialEq, Eq)]
+pub struct Point {
+    pub column: u32,
+    pub row: u32,
+}
+
+impl Viewed for Point {}
+
+/// A decimal number that fits.
+pub fn number(input: &str) -> IResult<&str, u32> {
+    map_res(digit1(), |digits: &str| digits.parse::<u32>()).parse_complete(input)
+}
+
+/// Two numbers, as `3x4`.
+pub fn place(input: &str) -> IResult<&str, Point> {
+    let column = map_res(digit1(), |digits: &str| digits.parse::<u32>());
+    let row = map_res(digit1(), |digits: &str| digits.parse::<u32>());
+    map(
+        separated_pair(column, tag("x"), row),
+        |(column, row)| Point { column, row },
+    )
+    .parse_complete(input)
+}
+
+/// A number below 60.
+pub fn minute(input: &str) -> IResult<&str, u8> {
+    let number = map_res(digit1(), |digits: &str| digits.parse::<u8>());
+    verify(number, |number: &u8| *number < 60).parse_complete(input)
+}
+
+/// A decimal digit, as a number.
+pub fn digit(input: &str) -> IResult<&str, u32> {
+    map_opt(func(anychar), |character: char| character.to_digit(10)).parse_complete(input)
+}
+
+/// A name of letters, digits and low lines.
+pub fn name(input: &str) -> IResult<&str, &str> {
+    take_while1(|character: char| character.is_alphanumeric() || character == '_').parse_complete(
+        input,
+    )
+}

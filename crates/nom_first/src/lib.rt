@@ -1,0 +1,4 @@
+//! The first item of an input.
+#![tactic(auto)]
+
+pub mod first;
