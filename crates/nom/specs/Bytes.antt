@@ -6,7 +6,7 @@ use Rattle.nom_error.specs.declared.answer.Err as Answer
 use Rattle.nom_error.specs.declared.kind.ErrorKind.TheVariants.{Char}
 use Rattle.nom_error.specs.declared.value.Error.{Error}
 use Rattle.nom_error.specs.Errors.{Errors}
-use Rattle.nom_traits.specs.Bytes.{seen_bytes}
+use Rattle.nom_traits.specs.Bytes.{bytes_model}
 use Rattle.nom_traits.specs.Compares.{ComparesBytes}
 use Rattle.nom_traits.specs.Slices.{Slice}
 use Rattle.nom_traits.specs.View.{View}
@@ -18,8 +18,8 @@ abbrev pub Bytes : Type 0
 Bytes = Bor (List ℕ)
 
 -- the errors of `Error`: the input where it refuses, and the kind
-abbrev pub kept : Errors Bytes (Error Bytes)
-kept = record {
+abbrev pub plain_errors : Errors Bytes (Error Bytes)
+plain_errors = record {
   of_kind = λ i kind e. e ≡ record { input = i; code = kind };
   appended = λ _ _ other e. e ≡ other;
   of_char = λ i _ e. e ≡ record { input = i; code = Char };
@@ -32,74 +32,74 @@ BytesGrammar V O = Grammar Bytes V O (Error Bytes)
 
 -- what `parse` (true) and `parse_complete` (false) answer by the grammar
 abbrev pub Parses : {V O : Type 0} → BytesGrammar V O → Bool → Bytes → Result (Bytes × O) (Answer.Err (Error Bytes) (Error Bytes) Needed) → Type 0
-Parses = Grammars.Parses seen_bytes
+Parses = Grammars.Parses bytes_model
 
 -- and as a part of others
 abbrev pub AnswersAsPart : {V O : Type 0} → View O → BytesGrammar V O → Bool → Bytes → Result (Bytes × O) (Answer.Err (Error Bytes) (Error Bytes) Needed) →
     Type 0
-AnswersAsPart = Grammars.AnswersAsPart seen_bytes
+AnswersAsPart = Grammars.AnswersAsPart bytes_model
 
-abbrev pub tag_of : List ℕ → BytesGrammar (Slice seen_bytes) Bytes
-tag_of = Leaves.tag_of seen_bytes kept ComparesBytes
+abbrev pub tag_of : List ℕ → BytesGrammar (Slice bytes_model) Bytes
+tag_of = Leaves.tag_of bytes_model plain_errors ComparesBytes
 
-abbrev pub take_of : ℕ → BytesGrammar (Slice seen_bytes) Bytes
-take_of = Leaves.take_of seen_bytes kept (λ count xs. Some (count - length xs))
+abbrev pub take_of : ℕ → BytesGrammar (Slice bytes_model) Bytes
+take_of = Leaves.take_of bytes_model plain_errors (λ count xs. Some (count - length xs))
 
-abbrev pub is_a_of : List ℕ → BytesGrammar (Slice seen_bytes) Bytes
-is_a_of set = Leaves.is_a_of seen_bytes kept set
+abbrev pub is_a_of : List ℕ → BytesGrammar (Slice bytes_model) Bytes
+is_a_of set = Leaves.is_a_of bytes_model plain_errors set
 
-abbrev pub is_not_of : List ℕ → BytesGrammar (Slice seen_bytes) Bytes
-is_not_of set = Leaves.is_not_of seen_bytes kept set
+abbrev pub is_not_of : List ℕ → BytesGrammar (Slice bytes_model) Bytes
+is_not_of set = Leaves.is_not_of bytes_model plain_errors set
 
 abbrev pub char_of : ℕ → BytesGrammar ℕ ℕ
-char_of = Leaves.char_of seen_bytes kept
+char_of = Leaves.char_of bytes_model plain_errors
 
-abbrev pub digit1_of : BytesGrammar (Slice seen_bytes) Bytes
-digit1_of = Leaves.digit1_of seen_bytes kept
+abbrev pub digit1_of : BytesGrammar (Slice bytes_model) Bytes
+digit1_of = Leaves.digit1_of bytes_model plain_errors
 
 abbrev pub pair_of : {V O U P : Type 0} → BytesGrammar V O → BytesGrammar U P → BytesGrammar (V × U) (O × P)
-pair_of = Grammars.pair_of seen_bytes
+pair_of = Grammars.pair_of bytes_model
 
 abbrev pub preceded_of : {V O U P : Type 0} → BytesGrammar V O → BytesGrammar U P → BytesGrammar U P
-preceded_of = Grammars.preceded_of seen_bytes
+preceded_of = Grammars.preceded_of bytes_model
 
 abbrev pub terminated_of : {V O U P : Type 0} → BytesGrammar V O → BytesGrammar U P → BytesGrammar V O
-terminated_of = Grammars.terminated_of seen_bytes
+terminated_of = Grammars.terminated_of bytes_model
 
 abbrev pub separated_pair_of : {V O S Q U P : Type 0} → BytesGrammar V O → BytesGrammar S Q → BytesGrammar U P → BytesGrammar (V × U) (O × P)
-separated_pair_of = Grammars.separated_pair_of seen_bytes
+separated_pair_of = Grammars.separated_pair_of bytes_model
 
 abbrev pub delimited_of : {V O U P S Q : Type 0} → BytesGrammar V O → BytesGrammar U P → BytesGrammar S Q → BytesGrammar U P
-delimited_of = Grammars.delimited_of seen_bytes
+delimited_of = Grammars.delimited_of bytes_model
 
 abbrev pub opt_of : {V O : Type 0} → BytesGrammar V O → BytesGrammar (Option V) (Option O)
 opt_of = Grammars.opt_of
 
 -- `alt_of (or_of (or_of g h) k)` is `alt((g, h, k))`
 abbrev pub or_of : {V U O : Type 0} → BytesGrammar V O → BytesGrammar U O → BytesGrammar (V ⊎ U) O
-or_of = Grammars.or_of kept
+or_of = Grammars.or_of plain_errors
 
 abbrev pub alt_of : {V O : Type 0} → BytesGrammar V O → BytesGrammar V O
-alt_of = Grammars.alt_of kept
+alt_of = Grammars.alt_of plain_errors
 
 abbrev pub many0_of : {V O M : Type 0} → BytesGrammar V O → BytesGrammar (List V) (Vec O M)
-many0_of = Grammars.many0_of seen_bytes kept
+many0_of = Grammars.many0_of bytes_model plain_errors
 
 abbrev pub map_of : {V O P : Type 0} → (O → P) → BytesGrammar V O → BytesGrammar V P
 map_of = Grammars.map_of
 
-abbrev pub take_while1_of : (ℕ → Bool) → BytesGrammar (Slice seen_bytes) Bytes
-take_while1_of = Leaves.take_while1_of seen_bytes kept
+abbrev pub take_while1_of : (ℕ → Bool) → BytesGrammar (Slice bytes_model) Bytes
+take_while1_of = Leaves.take_while1_of bytes_model plain_errors
 
 abbrev pub all_consuming_of : {V O : Type 0} → BytesGrammar V O → BytesGrammar V O
-all_consuming_of = Grammars.all_consuming_of seen_bytes kept
+all_consuming_of = Grammars.all_consuming_of bytes_model plain_errors
 
 -- a number of that many bytes, the highest first (true), or last
 abbrev pub number_of : (big : Bool) → ℕ → BytesGrammar ℕ ℕ
-number_of = Leaves.number_of seen_bytes kept
+number_of = Leaves.number_of bytes_model plain_errors
 
-abbrev pub length_data_of : {V : Type 0} → BytesGrammar V ℕ → BytesGrammar (V × Slice seen_bytes) Bytes
-length_data_of = Grammars.length_data_of seen_bytes kept (λ count xs. Some (count - length xs))
+abbrev pub length_data_of : {V : Type 0} → BytesGrammar V ℕ → BytesGrammar (V × Slice bytes_model) Bytes
+length_data_of = Grammars.length_data_of bytes_model plain_errors (λ count xs. Some (count - length xs))
 
 abbrev pub length_value_of : {V U O : Type 0} → BytesGrammar V ℕ → BytesGrammar U O → BytesGrammar U O
-length_value_of = Grammars.length_value_of seen_bytes kept
+length_value_of = Grammars.length_value_of bytes_model plain_errors

@@ -5,8 +5,8 @@ use Rattle.std.specs.List.{AllZip}
 use Rattle.nom_error.specs.declared.answer.Needed.{Needed}
 use Rattle.nom_error.specs.declared.answer.Err as Answer
 use Rattle.nom_error.specs.Errors.{Errors}
-use Rattle.nom_traits.specs.Input.{Seen}
-use Rattle.nom_traits.specs.Slices.{Slice, IsSeenAs}
+use Rattle.nom_traits.specs.Input.{Model}
+use Rattle.nom_traits.specs.Slices.{Slice, IsModelledBy}
 use Rattle.nom_traits.specs.View.{View}
 use Rattle.nom_internal.specs.Meaning.{Meaning, ParsesMeaning}
 use Rattle.nom_internal.specs.Choice.{EitherOutput}
@@ -18,8 +18,8 @@ use Rattle.nom_sequence.specs.Sequences.{preceded_meaning, terminated_meaning}
 use Rattle.nom_branch.specs.Alternatives.{next_meaning, choice_meaning}
 use Rattle.nom_combinator.specs.Verdicts.{opt_meaning, OptOutput}
 use Rattle.nom_ends.specs.Ends.{all_consuming_meaning}
-use Rattle.nom_lengths.specs.Lengths.{HasSize, length_data_meaning}
-use Rattle.nom_lengths.specs.Values.{length_value_meaning}
+use Rattle.nom_multi_length.specs.Lengths.{HasSize, length_data_meaning}
+use Rattle.nom_multi_length.specs.Values.{length_value_meaning}
 use Rattle.nom_multi.specs.Many.{many0_meaning}
 
 pub record Grammar (I V O E : Type 0) : Type 1 where
@@ -27,7 +27,7 @@ pub record Grammar (I V O E : Type 0) : Type 1 where
   -- which outputs a parse tree stands for
   pub IsOutput : V → O → Type 0
 
-module _ {I A E : Type 0} (w : Seen I A) where
+module _ {I A E : Type 0} (w : Model I A) where
   -- what `parse` (true) and `parse_complete` (false) answer by the grammar
   abbrev pub Parses : {V O : Type 0} → Grammar I V O E → Bool → I → Result (I × O) (Answer.Err E E Needed) → Type 0
   Parses g streaming i r = ParsesMeaning w g.IsOutput g.meaning streaming i r
@@ -38,7 +38,7 @@ module _ {I A E : Type 0} (w : Seen I A) where
 
   -- a leaf that accepts a slice of the input
   abbrev pub sliced : Meaning I (Slice w) E → Grammar I (Slice w) I E
-  sliced m = record { meaning = m; IsOutput = IsSeenAs w }
+  sliced m = record { meaning = m; IsOutput = IsModelledBy w }
 
   abbrev pub pair_of : {V O U P : Type 0} → Grammar I V O E → Grammar I U P E → Grammar I (V × U) (O × P) E
   pair_of g h = record {
@@ -80,15 +80,15 @@ module _ {I E : Type 0} (errs : Errors I E) where
   abbrev pub alt_of : {V O : Type 0} → Grammar I V O E → Grammar I V O E
   alt_of g = record { meaning = choice_meaning errs g.meaning; IsOutput = g.IsOutput }
 
-abbrev pub many0_of : {I A V O M E : Type 0} → Seen I A → Errors I E → Grammar I V O E → Grammar I (List V) (Vec O M) E
+abbrev pub many0_of : {I A V O M E : Type 0} → Model I A → Errors I E → Grammar I V O E → Grammar I (List V) (Vec O M) E
 many0_of w errs g = record { meaning = many0_meaning w errs g.meaning; IsOutput = λ ts o. AllZip g.IsOutput ts o.items }
 
-module _ {I A E : Type 0} (w : Seen I A) (errs : Errors I E) where
+module _ {I A E : Type 0} (w : Model I A) (errs : Errors I E) where
   -- a length, and that many items; `lack` is what is needed where there are fewer
   abbrev pub length_data_of : {V : Type 0} → (lack : ℕ → List A → Option ℕ) → Grammar I V ℕ E → Grammar I (V × Slice w) I E
   length_data_of lack g = record {
     meaning = length_data_meaning w errs lack (HasSize g.IsOutput (λ n. n)) g.meaning;
-    IsOutput = λ t o. IsSeenAs w t.1 o;
+    IsOutput = λ t o. IsModelledBy w t.1 o;
   }
 
   -- a length, and a grammar on exactly so much

@@ -4,17 +4,17 @@ use Rattle.nom_error.specs.declared.kind.ErrorKind.TheVariants as Kind
 use Rattle.nom_error.specs.Errors.{Errors}
 use Rattle.nom_traits.specs.declared.character.AsciiClass.TheVariants as Class
 use Rattle.nom_traits.specs.declared.compare.CompareResult.{CompareResult}
-use Rattle.nom_traits.specs.Input.{Seen}
+use Rattle.nom_traits.specs.Input.{Model}
 use Rattle.nom_traits.specs.Slices.{Slice}
 use Rattle.nom_bytes.specs.Tags.{tag_meaning}
 use Rattle.nom_bytes.specs.Takes.{take_meaning}
 use Rattle.nom_bytes.specs.ParsedRuns.{run1_meaning}
-use Rattle.nom_first.specs.Heads.{char_meaning}
+use Rattle.nom_character_first.specs.FirstItem.{char_meaning}
 use Rattle.nom_character.specs.ClassRuns.{class_meaning}
 use Rattle.nom_number.specs.Numbers.{unsigned_meaning}
 use Rattle.nom.specs.Grammar.{Grammar, sliced, valued}
 
-module _ {I E : Type 0} (w : Seen I ℕ) (errs : Errors I E) where
+module _ {I E : Type 0} (w : Model I ℕ) (errs : Errors I E) where
   -- `compares` is how inputs compare with tags, `lack` what is needed where there are fewer items than a count
   abbrev pub tag_of : (compares : List ℕ → List ℕ → CompareResult → Type 0) → List ℕ → Grammar I (Slice w) I E
   tag_of compares t = sliced w (tag_meaning w errs length compares t)

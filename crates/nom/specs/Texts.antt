@@ -6,7 +6,7 @@ use Rattle.nom_error.specs.declared.answer.Err as Answer
 use Rattle.nom_error.specs.declared.kind.ErrorKind.TheVariants.{Char}
 use Rattle.nom_error.specs.declared.value.Error.{Error}
 use Rattle.nom_error.specs.Errors.{Errors}
-use Rattle.nom_traits.specs.Text.{seen_text}
+use Rattle.nom_traits.specs.Text.{text_model}
 use Rattle.nom_traits.specs.Compares.{ComparesText}
 use Rattle.nom_traits.specs.Slices.{Slice}
 use Rattle.nom_traits.specs.View.{View}
@@ -18,8 +18,8 @@ abbrev pub Text : Type 0
 Text = Bor (List ℕ)
 
 -- the errors of `Error`: the input where it refuses, and the kind
-abbrev pub kept : Errors Text (Error Text)
-kept = record {
+abbrev pub plain_errors : Errors Text (Error Text)
+plain_errors = record {
   of_kind = λ i kind e. e ≡ record { input = i; code = kind };
   appended = λ _ _ other e. e ≡ other;
   of_char = λ i _ e. e ≡ record { input = i; code = Char };
@@ -32,63 +32,63 @@ TextGrammar V O = Grammar Text V O (Error Text)
 
 -- what `parse` (true) and `parse_complete` (false) answer by the grammar
 abbrev pub Parses : {V O : Type 0} → TextGrammar V O → Bool → Text → Result (Text × O) (Answer.Err (Error Text) (Error Text) Needed) → Type 0
-Parses = Grammars.Parses seen_text
+Parses = Grammars.Parses text_model
 
 -- and as a part of others
 abbrev pub AnswersAsPart : {V O : Type 0} → View O → TextGrammar V O → Bool → Text → Result (Text × O) (Answer.Err (Error Text) (Error Text) Needed) → Type 0
-AnswersAsPart = Grammars.AnswersAsPart seen_text
+AnswersAsPart = Grammars.AnswersAsPart text_model
 
-abbrev pub tag_of : List ℕ → TextGrammar (Slice seen_text) Text
-tag_of = Leaves.tag_of seen_text kept ComparesText
+abbrev pub tag_of : List ℕ → TextGrammar (Slice text_model) Text
+tag_of = Leaves.tag_of text_model plain_errors ComparesText
 
-abbrev pub take_of : ℕ → TextGrammar (Slice seen_text) Text
-take_of = Leaves.take_of seen_text kept (λ _ _. None)
+abbrev pub take_of : ℕ → TextGrammar (Slice text_model) Text
+take_of = Leaves.take_of text_model plain_errors (λ _ _. None)
 
-abbrev pub is_a_of : List ℕ → TextGrammar (Slice seen_text) Text
-is_a_of set = Leaves.is_a_of seen_text kept (chars set)
+abbrev pub is_a_of : List ℕ → TextGrammar (Slice text_model) Text
+is_a_of set = Leaves.is_a_of text_model plain_errors (chars set)
 
-abbrev pub is_not_of : List ℕ → TextGrammar (Slice seen_text) Text
-is_not_of set = Leaves.is_not_of seen_text kept (chars set)
+abbrev pub is_not_of : List ℕ → TextGrammar (Slice text_model) Text
+is_not_of set = Leaves.is_not_of text_model plain_errors (chars set)
 
 abbrev pub char_of : ℕ → TextGrammar ℕ ℕ
-char_of = Leaves.char_of seen_text kept
+char_of = Leaves.char_of text_model plain_errors
 
-abbrev pub digit1_of : TextGrammar (Slice seen_text) Text
-digit1_of = Leaves.digit1_of seen_text kept
+abbrev pub digit1_of : TextGrammar (Slice text_model) Text
+digit1_of = Leaves.digit1_of text_model plain_errors
 
 abbrev pub pair_of : {V O U P : Type 0} → TextGrammar V O → TextGrammar U P → TextGrammar (V × U) (O × P)
-pair_of = Grammars.pair_of seen_text
+pair_of = Grammars.pair_of text_model
 
 abbrev pub preceded_of : {V O U P : Type 0} → TextGrammar V O → TextGrammar U P → TextGrammar U P
-preceded_of = Grammars.preceded_of seen_text
+preceded_of = Grammars.preceded_of text_model
 
 abbrev pub terminated_of : {V O U P : Type 0} → TextGrammar V O → TextGrammar U P → TextGrammar V O
-terminated_of = Grammars.terminated_of seen_text
+terminated_of = Grammars.terminated_of text_model
 
 abbrev pub separated_pair_of : {V O S Q U P : Type 0} → TextGrammar V O → TextGrammar S Q → TextGrammar U P → TextGrammar (V × U) (O × P)
-separated_pair_of = Grammars.separated_pair_of seen_text
+separated_pair_of = Grammars.separated_pair_of text_model
 
 abbrev pub delimited_of : {V O U P S Q : Type 0} → TextGrammar V O → TextGrammar U P → TextGrammar S Q → TextGrammar U P
-delimited_of = Grammars.delimited_of seen_text
+delimited_of = Grammars.delimited_of text_model
 
 abbrev pub opt_of : {V O : Type 0} → TextGrammar V O → TextGrammar (Option V) (Option O)
 opt_of = Grammars.opt_of
 
 -- `alt_of (or_of (or_of g h) k)` is `alt((g, h, k))`
 abbrev pub or_of : {V U O : Type 0} → TextGrammar V O → TextGrammar U O → TextGrammar (V ⊎ U) O
-or_of = Grammars.or_of kept
+or_of = Grammars.or_of plain_errors
 
 abbrev pub alt_of : {V O : Type 0} → TextGrammar V O → TextGrammar V O
-alt_of = Grammars.alt_of kept
+alt_of = Grammars.alt_of plain_errors
 
 abbrev pub many0_of : {V O M : Type 0} → TextGrammar V O → TextGrammar (List V) (Vec O M)
-many0_of = Grammars.many0_of seen_text kept
+many0_of = Grammars.many0_of text_model plain_errors
 
 abbrev pub map_of : {V O P : Type 0} → (O → P) → TextGrammar V O → TextGrammar V P
 map_of = Grammars.map_of
 
-abbrev pub take_while1_of : (ℕ → Bool) → TextGrammar (Slice seen_text) Text
-take_while1_of = Leaves.take_while1_of seen_text kept
+abbrev pub take_while1_of : (ℕ → Bool) → TextGrammar (Slice text_model) Text
+take_while1_of = Leaves.take_while1_of text_model plain_errors
 
 abbrev pub all_consuming_of : {V O : Type 0} → TextGrammar V O → TextGrammar V O
-all_consuming_of = Grammars.all_consuming_of seen_text kept
+all_consuming_of = Grammars.all_consuming_of text_model plain_errors

@@ -9,4 +9,4 @@ pub use nom_bytes::{
     is_a, is_not, predicate, tag, tag_no_case, take, take_till, take_till1, take_until,
     take_until1, take_while, take_while_m_n, take_while1,
 };
-pub use nom_escaped::{Escaped, EscapedTransform, escaped, escaped_transform};
+pub use nom_bytes_escaped::{Escaped, EscapedTransform, escaped, escaped_transform};

@@ -12,4 +12,6 @@ pub use nom_character::{
     newline, none_of, not_line_ending, oct_digit0, oct_digit1, one_of, predicate, satisfy, space0,
     space1, tab,
 };
-pub use nom_decimal::{Integer, i8, i16, i32, i64, i128, isize, u8, u16, u32, u64, u128, usize};
+pub use nom_character_integer::{
+    Integer, i8, i16, i32, i64, i128, isize, u8, u16, u32, u64, u128, usize,
+};

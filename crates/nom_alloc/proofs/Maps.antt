@@ -4,7 +4,7 @@ use Rattle.nom_error.specs.declared.answer.Needed.{Needed}
 use Rattle.nom_error.specs.declared.answer.OutOfMemory.{OutOfMemory}
 use Rattle.nom_error.specs.declared.answer.Err as Answer
 use Rattle.nom_error.specs.Modes.{Built, Modes}
-use Rattle.nom_traits.specs.Input.{Seen}
+use Rattle.nom_traits.specs.Input.{Model}
 use Rattle.nom_internal.specs.Outcome.Outcome.{Accept}
 use Rattle.nom_internal.specs.Outcome.ShowsAnswer.{RanOut, Shown}
 use Rattle.nom_internal.specs.Meaning.{Meaning, ShowsMeaning}
@@ -31,12 +31,12 @@ was_built : {V P : Type 0} (IsOutput : V → P → Type 0) (t : V) (built : Bool
 was_built IsOutput t true x p e h = let same : h.0 ≡ p = cc (h.1, e) in (refl, subst (IsOutput t) same h.2)
 was_built IsOutput t false x p e h = absurd (cc (h, e))
 
-abbrev MapAllocShown : {I A V P R E : Type 0} (w : Seen I A) (IsOutput : V → P → Type 0) (Takes : P → Type 0)
+abbrev MapAllocShown : {I A V P R E : Type 0} (w : Model I A) (IsOutput : V → P → Type 0) (Takes : P → Type 0)
     (Gives : P → Result R OutOfMemory → Type 0) (m : Meaning I V E) (mode : Modes) (i : I) → Result (I × Option R) (Answer.Err E (Option E) Needed) → Type 0
 MapAllocShown w IsOutput Takes Gives m mode i = ShowsMeaning w (GivesFor IsOutput (λ p r. Gives p (Ok r))) (map_alloc_meaning IsOutput Takes Gives m) mode i
 
 -- The premise that a closure takes the outputs tells which closure it is.
-module _ {I A V P R E : Type 0} {w : Seen I A} {IsOutput : V → P → Type 0} {Takes : P → Type 0} (Gives : P → Result R OutOfMemory → Type 0)
+module _ {I A V P R E : Type 0} {w : Model I A} {IsOutput : V → P → Type 0} {Takes : P → Type 0} (Gives : P → Result R OutOfMemory → Type 0)
     (m : Meaning I V E) {mode : Modes} {i : I} where
   -- whatever isn't an acceptance passes
   pub map_err : {f : Answer.Err E (Option E) Needed} {r : Result (I × Option R) (Answer.Err E (Option E) Needed)} → IsCallable IsOutput Takes →

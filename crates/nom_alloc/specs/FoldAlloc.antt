@@ -3,12 +3,12 @@ use Rattle.std.specs.Prelude.{List, Result, Err}
 use Rattle.nom_error.specs.declared.answer.OutOfMemory.{OutOfMemory}
 use Rattle.nom_error.specs.Errors.{Errors}
 use Rattle.nom_error.specs.declared.kind.ErrorKind.TheVariants as Kind
-use Rattle.nom_traits.specs.Input.{Seen, InputLaws}
+use Rattle.nom_traits.specs.Input.{Model, InputLaws}
 use Rattle.nom_internal.specs.Meaning.{Meaning, IsLawful, IsSteady}
 use Rattle.nom_repeat.specs.Items.{items_meaning}
 use Rattle.nom_repeat.specs.ItemsLaws.{items_lawful, items_steady}
 use Rattle.nom_repeat.specs.Bounds.{any_limits}
-use Rattle.nom_folds.specs.Under.{under, under_lawful, under_steady}
+use Rattle.nom_multi_fold.specs.Under.{under, under_lawful, under_steady}
 
 -- the closure finds no memory for some value and item
 abbrev pub LacksFor : {R P : Type 0} → (R → P → Result R OutOfMemory → Type 0) → Type 0
@@ -20,10 +20,10 @@ LacksSome {G} Gives = (g : G) × LacksFor (Gives g)
 
 -- Any number of items; one that consumes nothing is refused. Folding an item may take memory, so where outputs are built memory
 -- may run out as in a list of the items, but only if a closure of the type may find none.
-abbrev pub fold_many0_alloc_meaning : {I A V E : Type 0} → Seen I A → Errors I E → (Premise Grows : Type 0) → Meaning I V E → Meaning I (List V) E
+abbrev pub fold_many0_alloc_meaning : {I A V E : Type 0} → Model I A → Errors I E → (Premise Grows : Type 0) → Meaning I V E → Meaning I (List V) E
 fold_many0_alloc_meaning w errs Premise Grows m = under Premise (items_meaning w errs (any_limits Kind.Many0) Grows m)
 
-module _ {I A V E : Type 0} (w : Seen I A) (l : InputLaws w) (errs : Errors I E) (Premise Grows : Type 0) (m : Meaning I V E) where
+module _ {I A V E : Type 0} (w : Model I A) (l : InputLaws w) (errs : Errors I E) (Premise Grows : Type 0) (m : Meaning I V E) where
   pub fold_many0_alloc_lawful : IsLawful w m → IsLawful w (fold_many0_alloc_meaning w errs Premise Grows m)
   fold_many0_alloc_lawful p =
       let all = items_meaning w errs (any_limits Kind.Many0) Grows m in

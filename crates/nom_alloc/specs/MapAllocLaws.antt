@@ -1,7 +1,7 @@
 -- The laws of a part whose outputs a closure maps, which may take memory.
 use Rattle.std.specs.Prelude.{true, refl, Result}
 use Rattle.nom_error.specs.declared.answer.OutOfMemory.{OutOfMemory}
-use Rattle.nom_traits.specs.Input.{Seen}
+use Rattle.nom_traits.specs.Input.{Model}
 use Rattle.nom_internal.specs.Outcome.{Outcome}
 use Rattle.nom_internal.specs.Outcome.Outcome.{Accept, Refuse, Fail, TooLarge, Undecided}
 use Rattle.nom_internal.specs.Meaning.{Meaning, IsLawful, IsSteady}
@@ -16,7 +16,7 @@ never_lacks IsOutput Gives Fail f h = h
 never_lacks IsOutput Gives TooLarge f h = h
 never_lacks IsOutput Gives (Undecided k) f h = h
 
-module _ {I A V P R : Type 0} (w : Seen I A) (IsOutput : V → P → Type 0) (Takes : P → Type 0) (Gives : P → Result R OutOfMemory → Type 0) where
+module _ {I A V P R : Type 0} (w : Model I A) (IsOutput : V → P → Type 0) (Takes : P → Type 0) (Gives : P → Result R OutOfMemory → Type 0) where
   map_alloc_laws : {E : Type 0} → CaseLaws {E = E} true w w (map_alloc_case IsOutput Takes Gives)
   map_alloc_laws {E} =
       let l = fixed_laws {P = V} w {E = E} true in

@@ -1,16 +1,16 @@
 //! Folds of items by a closure that may take memory.
 ghost use Rattle.std.specs.Prelude.{◌≡◌, List, ℕ, Ok};
 ghost use Rattle.nom_error.specs.Modes.{Built};
-ghost use Rattle.nom_folds.specs.Folded.{FoldGains, CanFold, IsStart, IsCarried};
-ghost use Rattle.nom_folds.specs.Folds.{Folds, AreCallable, FoldsAlike};
+ghost use Rattle.nom_multi_fold.specs.Folded.{FoldPushes, CanFold, IsStart, IsCarried};
+ghost use Rattle.nom_multi_fold.specs.Folds.{Folds, AreCallable, FoldsAlike};
 ghost use Rattle.nom_alloc.specs.FoldAlloc.{LacksFor, LacksSome, fold_many0_alloc_meaning};
 
 use nom_error::answer::{OutOfMemory, PResult};
 use nom_error::kind::ErrorKind;
 use nom_error::mode::{Check, Mode, OutputMode};
 use nom_internal::parser::{Parser, StreamParser};
+use nom_repeat::accumulator::Accumulator;
 use nom_repeat::items::{Limits, TooFew, items};
-use nom_repeat::keep::Keep;
 use nom_traits::input::Input;
 use nom_traits::view::Viewed;
 
@@ -22,10 +22,11 @@ pub struct Folded<'a, R, G> {
     pub fold: &'a G,
 }
 
-impl<'a, T: Drop, R: Drop, G: Fn(R, T) -> Result<R, OutOfMemory>> Keep<T> for Folded<'a, R, G> {
-    ghost Gains = { FoldGains (λ k. k.value) (λ k. k.fold.now) (λ f r x y. G.post f r x (Ok y)) };
+impl<'a, T: Drop, R: Drop, G: Fn(R, T) -> Result<R, OutOfMemory>> Accumulator<T>
+    for Folded<'a, R, G> {
+    ghost Pushes = { FoldPushes (λ k. k.value) (λ k. k.fold.now) (λ f r x y. G.post f r x (Ok y)) };
 
-    ghost CanKeep = { CanFold (λ k. k.value) (λ k. k.fold.now) G.pre };
+    ghost CanPush = { CanFold (λ k. k.value) (λ k. k.fold.now) G.pre };
 
     ghost IsFull = { λ k. LacksFor (G.post k.fold.now) };
 
@@ -113,7 +114,7 @@ where
 
     ghost IsOutput = { λ s. Folds (F.IsOutput s.0) (H.post s.1) (λ r x y. G.post s.2 r x (Ok y)) };
 
-    ghost meaning = { λ s. fold_many0_alloc_meaning I.seen F.Error.errors (AreCallable (H.pre s.1) (G.pre s.2)) (LacksSome G.post) (F.meaning s.0) };
+    ghost meaning = { λ s. fold_many0_alloc_meaning I.model F.Error.errors (AreCallable (H.pre s.1) (G.pre s.2)) (LacksSome G.post) (F.meaning s.0) };
 
     ghost Pins = { λ s. F.Pins s.0 × FoldsAlike F.Output.view R.view (H.post s.1) (λ r x y. G.post s.2 r x (Ok y)) };
 
@@ -136,7 +137,7 @@ where
         Ok((rest, carried(last)))
     }
 
-    ghost lawful = { λ s k. fold_many0_alloc_lawful I.seen I.lawful F.Error.errors (AreCallable (H.pre s.1) (G.pre s.2)) (LacksSome G.post) (F.meaning s.0)
+    ghost lawful = { λ s k. fold_many0_alloc_lawful I.model I.lawful F.Error.errors (AreCallable (H.pre s.1) (G.pre s.2)) (LacksSome G.post) (F.meaning s.0)
         (F.lawful s.0 k.0) };
 }
 
@@ -147,11 +148,11 @@ impl<
     H: Fn() -> R,
     G: Fn(R, F::Output) -> Result<R, OutOfMemory>,
 > StreamParser<I> for FoldMany0Alloc<F, H, G> {
-    ghost use Rattle.nom_folds.specs.FoldLaws.{folds_pinned};
+    ghost use Rattle.nom_multi_fold.specs.FoldLaws.{folds_pinned};
     ghost use Rattle.nom_alloc.specs.FoldAlloc.{fold_many0_alloc_steady};
 
     ghost pinned = { λ s k p. folds_pinned F.Output.view R.view (F.IsOutput s.0) (H.post s.1) (λ r x y. G.post s.2 r x (Ok y)) (F.pinned s.0 k.0 p.0) p.1 };
 
-    ghost steady = { λ s k. fold_many0_alloc_steady I.seen I.lawful F.Error.errors (AreCallable (H.pre s.1) (G.pre s.2)) (LacksSome G.post) (F.meaning s.0)
+    ghost steady = { λ s k. fold_many0_alloc_steady I.model I.lawful F.Error.errors (AreCallable (H.pre s.1) (G.pre s.2)) (LacksSome G.post) (F.meaning s.0)
         (F.steady s.0 k.0) };
 }

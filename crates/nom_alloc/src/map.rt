@@ -56,7 +56,7 @@ where
         }
     }
 
-    ghost lawful = { λ s k. map_alloc_lawful I.seen (F.IsOutput s.0) (G.pre s.1) (G.post s.1) (F.meaning s.0) (F.lawful s.0 k.0) };
+    ghost lawful = { λ s k. map_alloc_lawful I.model (F.IsOutput s.0) (G.pre s.1) (G.post s.1) (F.meaning s.0) (F.lawful s.0 k.0) };
 }
 
 impl<
@@ -67,5 +67,5 @@ impl<
 > StreamParser<I> for MapAlloc<F, G> {
     ghost pinned = { λ s k p. given_pinned F.Output.view O.view (F.IsOutput s.0) (λ a o. G.post s.1 a (Ok o)) (F.pinned s.0 k.0 p.0) p.1 };
 
-    ghost steady = { λ s k. map_alloc_steady I.seen (F.IsOutput s.0) (G.pre s.1) (G.post s.1) (F.meaning s.0) (F.steady s.0 k.0) };
+    ghost steady = { λ s k. map_alloc_steady I.model (F.IsOutput s.0) (G.pre s.1) (G.post s.1) (F.meaning s.0) (F.steady s.0 k.0) };
 }

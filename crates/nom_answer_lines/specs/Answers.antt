@@ -10,8 +10,8 @@ use Rattle.nom_error.specs.declared.value.Error as Value
 use Rattle.nom_answer_lines.specs.declared.answer.Answer as Told
 
 -- two answers are one
-abbrev pub IsSame : Told.Answer → Told.Answer → Type 0
-IsSame a b = (string_bytes a.said ≡ string_bytes b.said) × (a.left.items ≡ b.left.items)
+abbrev pub AreSameAnswers : Told.Answer → Told.Answer → Type 0
+AreSameAnswers a b = (string_bytes a.said ≡ string_bytes b.said) × (a.left.items ≡ b.left.items)
 
 -- a text that is known
 abbrev pub IsKnownAs : Option (List ℕ) → List ℕ → Type 0

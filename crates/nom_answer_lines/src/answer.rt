@@ -1,6 +1,6 @@
 //! Answers, as lines tell them.
 ghost use Rattle.std.specs.Prelude.{◌≡◌, ◌↔◌, IsTrue, IfSome, string_bytes};
-ghost use Rattle.nom_answer_lines.specs.Answers.{IsKnownAs, IsSame, left_of, said_of};
+ghost use Rattle.nom_answer_lines.specs.Answers.{IsKnownAs, AreSameAnswers, left_of, said_of};
 
 use crate::literal::literal_of;
 use nom::{AsBytes, Err, IResult, Needed};
@@ -19,7 +19,7 @@ pub struct Answer {
 impl Answer {
     /// Whether two answers are one.
     pub fn is(&self, other: &Answer) -> bool
-        ensures { IsTrue result ↔ IsSame self.now other.now }
+        ensures { IsTrue result ↔ AreSameAnswers self.now other.now }
     {
         self.said.as_str() == other.said.as_str() && self.left.as_slice() == other.left.as_slice()
     }

@@ -1,14 +1,14 @@
-//! The grammars of `nom_formats`, `nom_json` and `nom_protocol`, by their names.
-ghost use Rattle.nom_traits.specs.Bytes.{seen_bytes};
+//! The grammars of `example_formats`, `example_json` and `example_protocol`, by their names.
+ghost use Rattle.nom_traits.specs.Bytes.{bytes_model};
 ghost use Rattle.nom_growing.specs.Growing.{AreCuts};
 
+use example_formats::{expression, named_value, sections};
+use example_json::json;
+use example_protocol::{Message, messages};
 use nom::error::Error;
 use nom::{Err, IResult};
 use nom_answer_lines::answer::Answer;
 use nom_answer_lines::literal::{Literal, literal_of};
-use nom_formats::{expression, named_value, sections};
-use nom_json::json;
-use nom_protocol::{Message, messages};
 use std::alloc::Global;
 use std::fmt::Debug;
 
@@ -32,7 +32,7 @@ type Found<'a> = IResult<&'a [u8], Vec<Message<'a>>>;
 
 /// What `messages` answers where a slice comes in pieces.
 fn in_pieces<'a>(alloc: Global, input: &'a [u8], cuts: &[usize]) -> Found<'a>
-    requires { AreCuts seen_bytes input cuts.now }
+    requires { AreCuts bytes_model input cuts.now }
 {
     messages(alloc, input, cuts).result
 }

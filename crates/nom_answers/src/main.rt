@@ -84,7 +84,7 @@
 //! NomRange bounded_iter().take(8) of ..=3usize | - | - | value=[0, 1, 2]
 //! ```
 //!
-//! And of a grammar of `nom_formats` or `nom_protocol` there are three: its name, the input, and the answer as
+//! And of a grammar of `example_formats` or `example_protocol` there are three: its name, the input, and the answer as
 //! `{:?}` writes it:
 //!
 //! ```text

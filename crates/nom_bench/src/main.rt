@@ -34,7 +34,7 @@ use nom::multi::{fold_many0, length_data, many0, separated_list0};
 use nom::number::{be_u8, be_u32};
 use nom::sequence::{preceded, terminated};
 use nom::{Check, Err, OutputM, Parser, Streaming};
-use nom_decimal::integer::Integer;
+use nom_character_integer::integer::Integer;
 use std::alloc::Global;
 use std::marker::PhantomData;
 use std::process::ExitCode;

@@ -2,6 +2,8 @@
 ghost use Rattle.nom_stream.specs.Streams.{IsOpen};
 
 use crate::Fail;
+use example_streams::messages::{Messages, Received};
+use example_streams::records::Records;
 use nom::Parser;
 use nom::branch::alt;
 use nom::bytes::tag;
@@ -12,8 +14,6 @@ use nom::sequence::{pair, preceded};
 use nom_stream::grammar::Grammar;
 use nom_stream::settings::Settings;
 use nom_stream::stream::Stream;
-use nom_stream_grammars::messages::{Messages, Received};
-use nom_stream_grammars::records::Records;
 use std::alloc::{Allocator, Global};
 use std::io;
 use std::io::Read;

@@ -7,10 +7,10 @@ use Rattle.nom_error.specs.declared.answer.Err.TheVariants.{Incomplete}
 use Rattle.nom_error.specs.Answers.{size_of}
 use Rattle.nom_error.specs.Errors.{Errors}
 use Rattle.nom_error.specs.Modes.{Built, Modes, with_streaming}
-use Rattle.nom_traits.specs.Input.{Seen, InputLaws, IsRest}
+use Rattle.nom_traits.specs.Input.{Model, InputLaws, IsSuffixOf}
 use Rattle.nom_traits.specs.Rests.{rest_rest}
 use Rattle.nom_traits.specs.Slices.{IsCount}
-use Rattle.nom_traits.specs.Bits.{AreBytes, seen_bits, bits_lawful}
+use Rattle.nom_traits.specs.Bits.{AreBytes, bits_model, bits_lawful}
 use Rattle.nom_internal.specs.Outcome.{Outcome, Shows}
 use Rattle.nom_internal.specs.Outcome.Outcome.{Accept, Refuse, Fail, TooLarge, Undecided}
 use Rattle.nom_internal.specs.Outcome.ShowsAnswer.{RanOut, Shown}
@@ -32,10 +32,10 @@ converts_built false Converts P Q x y f c h = subst (λ z. ConvertsSome Converts
 same_err : {T E : Type 0} {e f : E} → ◌≡◌ {A = Result T E} (Err e) (Err f) → e ≡ f
 same_err h = cc (h)
 
-module _ {I T O E F : Type 0} (w : Seen I ℕ) (IsOutput : T → O → Type 0) (Converts : E → F → Type 0) (m : Meaning (I × ℕ) T E) (mode : Modes) (i : I)
+module _ {I T O E F : Type 0} (w : Model I ℕ) (IsOutput : T → O → Type 0) (Converts : E → F → Type 0) (m : Meaning (I × ℕ) T E) (mode : Modes) (i : I)
     (bytes : AreBytes (w.elements i)) where
   abbrev InBits' : Result ((I × ℕ) × Option O) (Answer.Err E (Option E) Needed) → Type 0
-  InBits' = ShowsMeaning (seen_bits w) IsOutput m (with_streaming true mode) (i, 0)
+  InBits' = ShowsMeaning (bits_model w) IsOutput m (with_streaming true mode) (i, 0)
 
   abbrev OfBits : Result (I × Option O) (Answer.Err F (Option F) Needed) → Type 0
   OfBits = ShowsMeaning w IsOutput (bits_meaning w Converts m) mode i
@@ -46,18 +46,18 @@ module _ {I T O E F : Type 0} (w : Seen I ℕ) (IsOutput : T → O → Type 0) (
 
   -- the bytes that are begun are consumed
   pub bits_ok : InputLaws w → ((j : I) → w.IsKnown j → AreBytes (w.elements j)) → w.IsKnown i → (place : I × ℕ) (j : I) (x : Option O) →
-      InBits' (Ok (place, x)) → IsRest (seen_bits w) place (bits_ahead w place) (j, 0) → OfBits (Ok (j, x))
+      InBits' (Ok (place, x)) → IsSuffixOf (bits_model w) place (bits_ahead w place) (j, 0) → OfBits (Ok (j, x))
   bits_ok l values known place j x h r =
       let a = accepts h in
       let n = a.length in
       let ahead = bits_ahead w place in
-      let whole = bits_passed w l values i (n + ahead) j known (rest_rest (seen_bits w) (bits_lawful w) (i, 0) n place ahead (j, 0) a.rest_is r) in
-      let count : whole.1 ≡ rounded_up n = omega (arith, whole.4, mod-lt (length ((seen_bits w).elements place)) {m = 8} (lit< tt)) in
+      let whole = bits_passed w l values i (n + ahead) j known (rest_rest (bits_model w) (bits_lawful w) (i, 0) n place ahead (j, 0) a.rest_is r) in
+      let count : whole.1 ≡ rounded_up n = omega (arith, whole.4, mod-lt (length ((bits_model w).elements place)) {m = 8} (lit< tt)) in
       Shown (Accept whole.0 a.tree) (at_bits (Accept n a.tree) a.answered (whole.0, subst (λ c. IsCount w i c whole.0) count whole.2, refl))
       (j, x, whole.3, a.built_is, refl)
 
   bits_of : (o : Outcome T) (e : Answer.Err E (Option E) Needed) (r : Answer.Err F (Option F) Needed) → m.answers true (i, 0) o →
-      Shows (seen_bits w) IsOutput (with_streaming true mode) (i, 0) (m.blames true (i, 0)) o (Err e) → InBytes Converts e r → OfBits (Err r)
+      Shows (bits_model w) IsOutput (with_streaming true mode) (i, 0) (m.blames true (i, 0)) o (Err e) → InBytes Converts e r → OfBits (Err r)
   bits_of (Accept n v) e r a h c = absurd (cc (h.4))
   bits_of Refuse e r a h c =
       let d = subst (λ z. InBytes Converts z r) (same_err h.2) c in
@@ -77,23 +77,23 @@ module _ {I T O E F : Type 0} (w : Seen I ℕ) (IsOutput : T → O → Type 0) (
   bits_err e r (RanOut q h) c = RanOut (ap Err (subst (λ z. InBytes Converts z r) (same_err q) c)) (RunsOutInPart (i, 0) (refl, bytes) h)
   bits_err e r (Shown o a h) c = bits_of o e r a h c
 
-module _ {I T O E F : Type 0} (w : Seen I ℕ) (IsOutput : T → O → Type 0) (errs : Errors (I × ℕ) F) (Converts : E → F → Type 0) (m : Meaning I T E)
-    (mode : Modes) (i : I × ℕ) (j : I) (start : IsRest (seen_bits w) i (bits_ahead w i) (j, 0)) where
+module _ {I T O E F : Type 0} (w : Model I ℕ) (IsOutput : T → O → Type 0) (errs : Errors (I × ℕ) F) (Converts : E → F → Type 0) (m : Meaning I T E)
+    (mode : Modes) (i : I × ℕ) (j : I) (start : IsSuffixOf (bits_model w) i (bits_ahead w i) (j, 0)) where
   abbrev InBytes' : Result (I × Option O) (Answer.Err E (Option E) Needed) → Type 0
   InBytes' = ShowsMeaning w IsOutput m (with_streaming true mode) j
 
   abbrev OfBytes : Result ((I × ℕ) × Option O) (Answer.Err F (Option F) Needed) → Type 0
-  OfBytes = ShowsMeaning (seen_bits w) IsOutput (bytes_meaning w errs Converts m) mode i
+  OfBytes = ShowsMeaning (bits_model w) IsOutput (bytes_meaning w errs Converts m) mode i
 
   at_bytes : {Fact : I → Outcome T → Type 0} (a : Outcome T) → m.answers true j a → Fact j a →
-      OnPart (λ i j. IsRest (seen_bits w) i (bits_ahead w i) (j, 0)) (m.answers true) Fact i
+      OnPart (λ i j. IsSuffixOf (bits_model w) i (bits_ahead w i) (j, 0)) (m.answers true) Fact i
   at_bytes a p f = record { at = j; at_is = start; outcome = a; answered = p; fact = f }
 
   pub bytes_ok : InputLaws w → ((j : I) → w.IsKnown j → AreBytes (w.elements j)) → (k : I) (x : Option O) → InBytes' (Ok (k, x)) → OfBytes (Ok ((k, 0), x))
   bytes_ok l values k x h =
       let a = accepts h in
       let count = length a.rest_is.front in
-      let rest = rest_rest (seen_bits w) (bits_lawful w) i (bits_ahead w i) (j, 0) (8 * count)
+      let rest = rest_rest (bits_model w) (bits_lawful w) i (bits_ahead w i) (j, 0) (8 * count)
       (k, 0) start (bytes_passed w l values j a.length k start.known a.rest_is) in
       Shown (Accept (bits_ahead w i + 8 * count) a.tree)
       (at_bytes (Accept a.length a.tree) a.answered

@@ -5,9 +5,9 @@ use Rattle.std.proofs.Math.Pow.{pow_mono}
 use Rattle.nom_error.specs.declared.answer.Needed.{Needed}
 use Rattle.nom_error.specs.declared.answer.Err as Answer
 use Rattle.nom_error.specs.Answers.{Refuses}
-use Rattle.nom_traits.specs.Input.{Seen}
-use Rattle.nom_traits.specs.Rests.{span-ones}
-use Rattle.nom_traits.specs.Bits.{seen_bits, spelled}
+use Rattle.nom_traits.specs.Input.{Model}
+use Rattle.nom_traits.specs.Rests.{items_len-ones}
+use Rattle.nom_traits.specs.Bits.{bits_model, spelled}
 use Rattle.nom_internal.proofs.Shown.{built_error}
 use Rattle.nom_bits.specs.BitRests.{SplitsAt}
 use Rattle.nom_bits.specs.Fields.{IsField}
@@ -22,24 +22,24 @@ refuses_as {P = P} {Q = Q} {errors = errors} f (inr h) = inr (h.0, built_error e
 pub fits_width : (number count width : ℕ) → number < 2 ^ count → count ≤ width → number < 2 ^ width
 fits_width number count width h k = omega (arith, h, pow_mono {i = count} {j = width} k)
 
-module _ {I : Type 0} (w : Seen I ℕ) {i start rest : I × ℕ} {count : ℕ} (s : SplitsAt w i count start rest) where
+module _ {I : Type 0} (w : Model I ℕ) {i start rest : I × ℕ} {count : ℕ} (s : SplitsAt w i count start rest) where
   -- there are as many bits
-  pub split_within : count ≤ length ((seen_bits w).elements start)
+  pub split_within : count ≤ length ((bits_model w).elements start)
   split_within = omega (
     arith,
     ap length s.bits_are,
     ap length s.rest_is.whole,
-    length-append s.rest_is.front ((seen_bits w).elements rest),
-    span-ones s.rest_is.front,
+    length-append s.rest_is.front ((bits_model w).elements rest),
+    items_len-ones s.rest_is.front,
     s.rest_is.length_is,
   )
 
-  pub split_long : count ≤ length ((seen_bits w).elements i)
+  pub split_long : count ≤ length ((bits_model w).elements i)
   split_long = omega (arith, split_within, ap length s.bits_are)
 
-  pub split_field : {number : ℕ} → number ≡ spelled (take count ((seen_bits w).elements start)) → IsField w i count number
+  pub split_field : {number : ℕ} → number ≡ spelled (take count ((bits_model w).elements start)) → IsField w i count number
   split_field e =
-      let bs = (seen_bits w).elements start in
+      let bs = (bits_model w).elements start in
       record {
         field = take count bs;
         rest = drop count bs;

@@ -3,10 +3,10 @@ use Rattle.std.specs.Prelude.{◌≡◌, ℕ, ◌+◌, ◌-◌, ◌*◌, ◌/◌
 use Rattle.std.proofs.Common.{arith, sym, ◌∙◌, ap, subst, lit<, drop, take, append-nil, length-append}
 use Rattle.std.proofs.lemmas.Grind.{flat_map-append}
 use Rattle.std.proofs.lemmas.List.{length-drop, length-take-le, take-append-drop}
-use Rattle.nom_traits.specs.Input.{Seen, span, IsPlace, IsRest, Related, InputLaws}
-use Rattle.nom_traits.specs.Rests.{same_cut, span-ones, rest_related}
+use Rattle.nom_traits.specs.Input.{Model, items_len, IsBoundary, IsSuffixOf, Related, InputLaws}
+use Rattle.nom_traits.specs.Rests.{same_cut, items_len-ones, rest_related}
 use Rattle.nom_traits.specs.Slices.{IsCount, place_slice, place_first, first_related, same_count, same_length}
-use Rattle.nom_traits.specs.Bits.{byte_bits, all_bits, whole_bytes, AreBytes, past_bits, seen_bits, bits_lawful}
+use Rattle.nom_traits.specs.Bits.{byte_bits, all_bits, whole_bytes, AreBytes, past_bits, bits_model, bits_lawful}
 use Rattle.nom_traits.specs.BitLists.{length-all_bits, whole-all_bits, few_bits}
 use Rattle.nom_traits.specs.BitPlaces.{passes_bits}
 
@@ -31,12 +31,12 @@ pub bytes_before : (xs ys : List ℕ) → AreBytes (xs ++ ys) → AreBytes xs
 bytes_before [] ys h = tt
 bytes_before (x ∷ xs) ys h = (h.0, bytes_before xs ys h.1)
 
-module _ {I : Type 0} (w : Seen I ℕ) where
+module _ {I : Type 0} (w : Model I ℕ) where
   -- j is x without its first bytes, as many as count
   pub record Skips (x : I) (count : ℕ) (j : I) : Type 0 where
     pub end : ℕ
     pub counted : IsCount w x count end
-    pub rest_is : IsRest w x end j
+    pub rest_is : IsSuffixOf w x end j
 
   -- The pair after the next bits of i, as many as count: after none i itself, and else that many bytes on, at the bit that is
   -- next in its byte.
@@ -48,23 +48,23 @@ module _ {I : Type 0} (w : Seen I ℕ) where
   -- The next bits of i, as many as count, are the first of start, which begins in its first byte if there are any; and rest
   -- follows them.
   pub record SplitsAt (i : I × ℕ) (count : ℕ) (start rest : I × ℕ) : Type 0 where
-    pub bits_are : (seen_bits w).elements start ≡ (seen_bits w).elements i
+    pub bits_are : (bits_model w).elements start ≡ (bits_model w).elements i
     pub begins : 0 < count → start.1 < 8
-    pub rest_is : IsRest (seen_bits w) i count rest
+    pub rest_is : IsSuffixOf (bits_model w) i count rest
     pub stands : StandsBehind i count rest
 
-  pub bits_left : (x : I) (o : ℕ) → length ((seen_bits w).elements (x, o)) ≡ 8 * length (w.elements x) - o
+  pub bits_left : (x : I) (o : ℕ) → length ((bits_model w).elements (x, o)) ≡ 8 * length (w.elements x) - o
   bits_left x o = length-drop o (all_bits (w.elements x)) ∙ ap (λ n. n - o) (length-all_bits (w.elements x))
 
   -- that many bits are a front
-  pub bits_place : (i : I × ℕ) (n : ℕ) → n ≤ length ((seen_bits w).elements i) → IsPlace (seen_bits w) i n
+  pub bits_place : (i : I × ℕ) (n : ℕ) → n ≤ length ((bits_model w).elements i) → IsBoundary (bits_model w) i n
   bits_place i n h =
-      let bs = (seen_bits w).elements i in
-      record { front = take n bs; rest = drop n bs; whole = sym (take-append-drop n bs); length_is = span-ones (take n bs) ∙ length-take-le n bs h }
+      let bs = (bits_model w).elements i in
+      record { front = take n bs; rest = drop n bs; whole = sym (take-append-drop n bs); length_is = items_len-ones (take n bs) ∙ length-take-le n bs h }
 
   -- the bits before the next whole byte: a list of bits ends with a byte
   abbrev pub bits_ahead : I × ℕ → ℕ
-  bits_ahead i = length ((seen_bits w).elements i) % 8
+  bits_ahead i = length ((bits_model w).elements i) % 8
 
   module _ (l : InputLaws w) where
     -- two counts of items of one length, on related inputs, are one
@@ -83,16 +83,16 @@ module _ {I : Type 0} (w : Seen I ℕ) where
     -- how many bytes follow those that are skipped
     pub skips_length : (x : I) (count : ℕ) (j : I) → Skips x count j → length (w.elements x) ≡ count + length (w.elements j)
     skips_length x count j s =
-        let cut = same_cut w.weight l.positive s.rest_is.front (w.elements j) s.counted.place.front s.counted.place.rest
+        let cut = same_cut w.item_len l.positive s.rest_is.front (w.elements j) s.counted.place.front s.counted.place.rest
         (sym s.rest_is.whole ∙ s.counted.place.whole) (s.rest_is.length_is ∙ sym s.counted.place.length_is) in
         omega (arith, ap length s.rest_is.whole, length-append s.rest_is.front (w.elements j), ap length cut.0, s.counted.count_is)
 
     -- the mark of bits from the first on, with no bits after them
-    pub start_mark : (j : I) → ((seen_bits w).mark (j, 0) []).0 ≡ w.mark j
+    pub start_mark : (j : I) → ((bits_model w).mark (j, 0) []).0 ≡ w.mark j
     start_mark j = ap (λ bs. w.mark_after (w.mark j) bs) no_bytes ∙ l.mark_none (w.mark j)
 
     -- bytes that are related, as bits
-    pub as_bits : (longer : Bool) (x y : I) → AreBytes (w.elements y) → Related w longer x y → Related (seen_bits w) longer (x, 0) (y, 0)
+    pub as_bits : (longer : Bool) (x y : I) → AreBytes (w.elements y) → Related w longer x y → Related (bits_model w) longer (x, 0) (y, 0)
     as_bits true x y h e = record {
       more = all_bits e.more;
       added = record { bytes = e.more; more = e.added; are_bytes = bytes_behind (w.elements x) e.more (subst AreBytes e.whole h); bits_are = refl };
@@ -102,7 +102,7 @@ module _ {I : Type 0} (w : Seen I ℕ) where
     as_bits false x y h r = record { elements_are = ap all_bits r.elements_are; mark_is = ap (λ m bs. past_bits w m bs) r.mark_is }
 
     -- bits that are related, as bytes
-    pub as_bytes : (longer : Bool) (x y : I) → AreBytes (w.elements x) → AreBytes (w.elements y) → Related (seen_bits w) longer (x, 0) (y, 0) →
+    pub as_bytes : (longer : Bool) (x y : I) → AreBytes (w.elements x) → AreBytes (w.elements y) → Related (bits_model w) longer (x, 0) (y, 0) →
         Related w longer x y
     as_bytes true x y h k e =
         let bytes = e.added.bytes in
@@ -121,11 +121,11 @@ module _ {I : Type 0} (w : Seen I ℕ) where
     }
 
     -- related bits begin before one place of their bytes
-    pub same_ahead : (longer : Bool) (x y : I × ℕ) → Related (seen_bits w) longer x y → bits_ahead x ≡ bits_ahead y
+    pub same_ahead : (longer : Bool) (x y : I × ℕ) → Related (bits_model w) longer x y → bits_ahead x ≡ bits_ahead y
     same_ahead true x y e = omega (
       arith,
       ap length e.whole,
-      length-append ((seen_bits w).elements x) e.more,
+      length-append ((bits_model w).elements x) e.more,
       ap length e.added.bits_are,
       length-all_bits e.added.bytes,
     )
@@ -133,40 +133,42 @@ module _ {I : Type 0} (w : Seen I ℕ) where
 
     module _ (values : (i : I) → w.IsKnown i → AreBytes (w.elements i)) where
       -- the inputs of bytes at which related bits reach the next whole byte are related
-      pub ahead_related : (longer : Bool) (x y : I × ℕ) (j k : I) → Related (seen_bits w) longer x y → IsRest (seen_bits w) x (bits_ahead x) (j, 0) →
-          IsRest (seen_bits w) y (bits_ahead y) (k, 0) → Related w longer j k
+      pub ahead_related : (longer : Bool) (x y : I × ℕ) (j k : I) → Related (bits_model w) longer x y → IsSuffixOf (bits_model w) x (bits_ahead x) (j, 0) →
+          IsSuffixOf (bits_model w) y (bits_ahead y) (k, 0) → Related w longer j k
       ahead_related longer x y j k r p q =
-          let there : IsRest (seen_bits w) y (bits_ahead x) (k, 0) = subst (λ n. IsRest (seen_bits w) y n (k, 0)) (sym (same_ahead longer x y r)) q in
+          let there : IsSuffixOf (bits_model w) y (bits_ahead x) (k, 0) = subst (λ n. IsSuffixOf (bits_model w) y n (k, 0)) (sym (same_ahead longer x y r)) q in
           as_bytes longer j k (values j p.known) (values k q.known)
-          (rest_related (seen_bits w) (bits_lawful w) longer x y (bits_ahead x) (j, 0) (k, 0) r p there)
+          (rest_related (bits_model w) (bits_lawful w) longer x y (bits_ahead x) (j, 0) (k, 0) r p there)
 
       -- bytes that are passed, as bits
-      pub bytes_passed : (x : I) (n : ℕ) (j : I) → w.IsKnown x → (r : IsRest w x n j) → IsRest (seen_bits w) (x, 0) (8 * length r.front) (j, 0)
+      pub bytes_passed : (x : I) (n : ℕ) (j : I) → w.IsKnown x → (r : IsSuffixOf w x n j) → IsSuffixOf (bits_model w) (x, 0) (8 * length r.front) (j, 0)
       bytes_passed x n j h r =
           let c = length r.front in
-          let place : IsPlace w x n = record { front = r.front; rest = w.elements j; whole = r.whole; length_is = r.length_is } in
+          let place : IsBoundary w x n = record { front = r.front; rest = w.elements j; whole = r.whole; length_is = r.length_is } in
           let whole : (8 * c + 0) / 8 ≡ c = omega arith in
           let none : (8 * c + 0) % 8 ≡ 0 = omega arith in
-          let within : 8 * c ≤ length ((seen_bits w).elements (x, 0)) = omega (arith, bits_left x 0, ap length r.whole, length-append r.front (w.elements j)) in
+          let within : 8 * c ≤ length ((bits_model w).elements (x, 0)) = omega
+          (arith, bits_left x 0, ap length r.whole, length-append r.front (w.elements j)) in
           let counted : IsCount w x ((8 * c + 0) / 8) n = record { place = place; count_is = sym whole } in
-          subst (λ o. IsRest (seen_bits w) (x, 0) (8 * c) (j, o)) none (passes_bits w l values x j 0 (8 * c) n h (bits_place (x, 0) (8 * c) within) counted r)
+          subst (λ o. IsSuffixOf (bits_model w) (x, 0) (8 * c) (j, o)) none
+          (passes_bits w l values x j 0 (8 * c) n h (bits_place (x, 0) (8 * c) within) counted r)
 
       -- bits that are passed to a whole byte, as bytes
-      pub bits_passed : (x : I) (m : ℕ) (j : I) → w.IsKnown x → IsRest (seen_bits w) (x, 0) m (j, 0) → (n : ℕ) × (c : ℕ) × IsCount w x c n ×
-          IsRest w x n j × (m ≡ 8 * c)
+      pub bits_passed : (x : I) (m : ℕ) (j : I) → w.IsKnown x → IsSuffixOf (bits_model w) (x, 0) m (j, 0) → (n : ℕ) × (c : ℕ) × IsCount w x c n ×
+          IsSuffixOf w x n j × (m ≡ 8 * c)
       bits_passed x m j h r =
           let xs = w.elements x in
           let js = w.elements j in
           let c = length xs - length js in
           let total : 8 * length xs ≡ m + 8 * length js =
-          omega (arith, length-all_bits xs, ap length r.whole, length-append r.front (all_bits js), span-ones r.front, r.length_is, length-all_bits js) in
+          omega (arith, length-all_bits xs, ap length r.whole, length-append r.front (all_bits js), items_len-ones r.front, r.length_is, length-all_bits js) in
           let eight : m ≡ 8 * c = omega (arith, total) in
           let within : c ≤ length xs = omega arith in
           let parts : all_bits xs ≡ all_bits (take c xs) ++ all_bits (drop c xs) =
           ap all_bits (sym (take-append-drop c xs)) ∙ all_bits-append (take c xs) (drop c xs) in
           let counted : length (take c xs) ≡ c = length-take-le c xs within in
           let cut = same_cut (λ _. 1) (λ _. omega arith) r.front (all_bits js) (all_bits (take c xs)) (all_bits (drop c xs)) (sym r.whole ∙ parts)
-          (r.length_is ∙ (eight ∙ (omega (arith, length-all_bits (take c xs), counted, span-ones (all_bits (take c xs)))))) in
+          (r.length_is ∙ (eight ∙ (omega (arith, length-all_bits (take c xs), counted, items_len-ones (all_bits (take c xs)))))) in
           let known : AreBytes (take c xs ++ drop c xs) = subst AreBytes (sym (take-append-drop c xs)) (values x h) in
           let rest : js ≡ drop c xs = same_bytes js (drop c xs) (values j r.known) (bytes_behind (take c xs) (drop c xs) known) cut.1 in
           let whole : xs ≡ take c xs ++ js = sym (take-append-drop c xs) ∙ ap (λ ys. take c xs ++ ys) (sym rest) in
@@ -174,7 +176,7 @@ module _ {I : Type 0} (w : Seen I ℕ) where
           ap whole_bytes (append-nil r.front ∙ cut.0) ∙ bytes_of_bits (take c xs) (bytes_before (take c xs) (drop c xs) known) in
           let mark : w.mark j ≡ w.mark_after (w.mark x) (take c xs) =
           sym (start_mark j) ∙ (ap (λ m. (m []).0) r.mark_is ∙ ap (λ bs. w.mark_after (w.mark x) bs) bytes) in (
-            span w.weight (take c xs),
+            items_len w.item_len (take c xs),
             c,
             record { place = record { front = take c xs; rest = js; whole = whole; length_is = refl }; count_is = counted },
             record { known = r.known; front = take c xs; whole = whole; length_is = refl; mark_is = mark },

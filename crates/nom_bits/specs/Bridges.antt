@@ -7,9 +7,9 @@ use Rattle.nom_error.specs.declared.kind.ErrorKind.TheVariants as Kind
 use Rattle.nom_error.specs.Answers.{size_of}
 use Rattle.nom_error.specs.Errors.{Errors}
 use Rattle.nom_error.specs.Modes.{with_streaming}
-use Rattle.nom_traits.specs.Input.{Seen, IsRest}
+use Rattle.nom_traits.specs.Input.{Model, IsSuffixOf}
 use Rattle.nom_traits.specs.Slices.{IsCount}
-use Rattle.nom_traits.specs.Bits.{AreBytes, seen_bits}
+use Rattle.nom_traits.specs.Bits.{AreBytes, bits_model}
 use Rattle.nom_internal.specs.Outcome.{Outcome, IsFault}
 use Rattle.nom_internal.specs.Outcome.Outcome.{Accept, Refuse, Fail, TooLarge, Undecided}
 use Rattle.nom_internal.specs.Meaning.{Meaning}
@@ -31,7 +31,7 @@ bytes_needed None = None
 abbrev pub ConvertedBlame : {T E F : Type 0} → (E → F → Type 0) → Outcome T → (E → Type 0) → F → Type 0
 ConvertedBlame {E = E} Converts a Part f = (e : E) × IsFault a × Part e × Converts e f
 
-module _ {I T : Type 0} (w : Seen I ℕ) where
+module _ {I T : Type 0} (w : Model I ℕ) where
   -- the bytes that are begun are consumed
   abbrev pub BitsBecome : I → Outcome T → Outcome T → Type 0
   BitsBecome i (Accept n t) o = (m : ℕ) × IsCount w i (rounded_up n) m × (o ≡ Accept m t)
@@ -44,7 +44,7 @@ module _ {I T : Type 0} (w : Seen I ℕ) where
   -- their count.
   pub record BytesAccept (i : I × ℕ) (n : ℕ) (t : T) (o : Outcome T) : Type 0 where
     pub at : I
-    pub at_is : IsRest (seen_bits w) i (bits_ahead w i) (at, 0)
+    pub at_is : IsSuffixOf (bits_model w) i (bits_ahead w i) (at, 0)
     pub count : ℕ
     pub counted : IsCount w at count n
     pub outcome_is : o ≡ Accept (bits_ahead w i + 8 * count) t
@@ -59,7 +59,7 @@ abbrev pub BitsNeeded : Option ℕ → Option ℕ → Type 0
 BitsNeeded (Some n) k = (8 * n < 2 ^ 64) × (k ≡ Some (8 * n))
 BitsNeeded None k = k ≡ None
 
-module _ {I T : Type 0} (w : Seen I ℕ) where
+module _ {I T : Type 0} (w : Model I ℕ) where
   abbrev pub BytesBecome : I × ℕ → Outcome T → Outcome T → Type 0
   BytesBecome i (Accept n t) o = BytesAccept w i n t o
   BytesBecome i Refuse o = o ≡ Refuse
@@ -75,7 +75,7 @@ OnTooLarge Fact Fail = ⊥
 OnTooLarge Fact TooLarge = ⊥
 OnTooLarge Fact (Undecided k) = IsTooLarge k × Fact
 
-module _ {I T E F : Type 0} (w : Seen I ℕ) (Converts : E → F → Type 0) where
+module _ {I T E F : Type 0} (w : Model I ℕ) (Converts : E → F → Type 0) where
   -- A parser of bits runs, streaming, at the first bit of an input of bytes; what it answers, in bytes. That the items are
   -- bytes holds of every known input; what a longer one adds is then the bits of bytes.
   abbrev pub bits_case : Case I (I × ℕ) T T E F
@@ -94,7 +94,7 @@ module _ {I T E F : Type 0} (w : Seen I ℕ) (Converts : E → F → Type 0) whe
   abbrev pub bits_meaning : Meaning (I × ℕ) T E → Meaning I T F
   bits_meaning = case_meaning bits_case
 
-module _ {I T E F : Type 0} (w : Seen I ℕ) (errs : Errors (I × ℕ) F) (Converts : E → F → Type 0) where
+module _ {I T E F : Type 0} (w : Model I ℕ) (errs : Errors (I × ℕ) F) (Converts : E → F → Type 0) where
   -- the error of what is too large is made at the start
   abbrev pub BytesBlame : I × ℕ → Outcome T → (E → Type 0) → F → Type 0
   BytesBlame i a Part f = ConvertedBlame Converts a Part f ⊎ OnTooLarge (errs.of_kind i Kind.TooLarge f) a
@@ -102,7 +102,7 @@ module _ {I T E F : Type 0} (w : Seen I ℕ) (errs : Errors (I × ℕ) F) (Conve
   -- A parser of bytes runs, streaming, from the next whole byte on; what it answers, in bits.
   abbrev pub bytes_case : Case (I × ℕ) I T T E F
   bytes_case = record {
-    At = λ i j. IsRest (seen_bits w) i (bits_ahead w i) (j, 0);
+    At = λ i j. IsSuffixOf (bits_model w) i (bits_ahead w i) (j, 0);
     mode = Always true;
     Becomes = BytesBecome w;
     Blames = BytesBlame;

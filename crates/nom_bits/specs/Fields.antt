@@ -2,24 +2,24 @@
 use Rattle.std.specs.Prelude.{◌≡◌, ℕ, ◌<◌, ◌≤◌, nat_eq, ◌⊎◌, Bool, false, List, ◌++◌, length, Some}
 use Rattle.nom_error.specs.declared.kind.ErrorKind.TheVariants as Kind
 use Rattle.nom_error.specs.Errors.{Errors}
-use Rattle.nom_traits.specs.Input.{Seen}
-use Rattle.nom_traits.specs.Bits.{seen_bits, spelled}
+use Rattle.nom_traits.specs.Input.{Model}
+use Rattle.nom_traits.specs.Bits.{bits_model, spelled}
 use Rattle.nom_internal.specs.Meaning.{Meaning}
 use Rattle.nom_internal.specs.Leaf.{Leaf, leaf_meaning}
 use Rattle.nom_internal.specs.Cases.{labelled_meaning}
 
-module _ {I : Type 0} (w : Seen I ℕ) where
+module _ {I : Type 0} (w : Model I ℕ) where
   -- the next bits, as many as count, spell a number
   pub record IsField (i : I × ℕ) (count number : ℕ) : Type 0 where
     pub field : List Bool
     pub rest : List Bool
-    pub whole : (seen_bits w).elements i ≡ field ++ rest
+    pub whole : (bits_model w).elements i ≡ field ++ rest
     pub count_is : length field ≡ count
     pub number_is : spelled field ≡ number
 
   -- there are fewer bits than count
   abbrev pub IsShort : I × ℕ → ℕ → Type 0
-  IsShort i count = length ((seen_bits w).elements i) < count
+  IsShort i count = length ((bits_model w).elements i) < count
 
   -- the number that the next bits spell; where there are fewer, all of them are needed, or in the complete mode they are refused
   abbrev pub fields : ℕ → Leaf (I × ℕ) ℕ
@@ -39,7 +39,7 @@ module _ {I : Type 0} (w : Seen I ℕ) where
 
   -- a refusal is for want of bits, or since another number stands there
   abbrev pub TagBlames : {E : Type 0} → Errors (I × ℕ) E → ℕ → I × ℕ → E → Type 0
-  TagBlames errs count i e = (IsShort i count × errs.of_kind i Kind.Eof e) ⊎ ((count ≤ length ((seen_bits w).elements i)) × errs.of_kind i Kind.TagBits e)
+  TagBlames errs count i e = (IsShort i count × errs.of_kind i Kind.Eof e) ⊎ ((count ≤ length ((bits_model w).elements i)) × errs.of_kind i Kind.TagBits e)
 
   -- a number takes that many bits at most: that is the premise
   abbrev pub take_meaning : {E : Type 0} → Errors (I × ℕ) E → (width count : ℕ) → Meaning (I × ℕ) ℕ E

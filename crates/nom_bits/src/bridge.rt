@@ -1,8 +1,8 @@
 //! Parsers of bits among parsers of bytes, and of bytes among parsers of bits.
 ghost use Rattle.std.specs.Prelude.{◌≡◌};
 ghost use Rattle.nom_error.specs.Answers.{size_of};
-ghost use Rattle.nom_traits.specs.Bits.{seen_bits};
-ghost use Rattle.nom_traits.specs.Input.{IsRest};
+ghost use Rattle.nom_traits.specs.Bits.{bits_model};
+ghost use Rattle.nom_traits.specs.Input.{IsSuffixOf};
 ghost use Rattle.nom_bits.specs.BitRests.{bits_ahead};
 ghost use Rattle.nom_bits.specs.Bridges.{bits_meaning, bytes_meaning, bytes_needed, InBytes, InBits, IsNeed, IsTooLargeAt};
 ghost use Rattle.nom_bits.specs.BridgeLaws.{bits_of_lawful, bits_of_steady, bytes_of_lawful, bytes_of_steady};
@@ -22,10 +22,10 @@ use std::marker::PhantomData;
 /// The bytes from the next whole byte on, or the end where there is none.
 #[inline(always)]
 fn whole_byte<I: Input<Item = u8>>(input: (I, usize)) -> I
-    ensures { IsRest (seen_bits I.seen) input (bits_ahead I.seen input) (result, 0) }
+    ensures { IsSuffixOf (bits_model I.model) input (bits_ahead I.model input) (result, 0) }
 {
     let (bytes, position) = input;
-    bytes.known();
+    bytes.prove_known();
     match skipped(bytes, position / 8 + (position % 8 + 7) / 8) {
         Some(rest) => rest,
         None => bytes.take_from(bytes.input_len()),
@@ -134,13 +134,13 @@ where
 
     ghost IsOutput = { P.IsOutput };
 
-    ghost meaning = { λ s. bits_meaning I.seen P.Error.converts (P.meaning s) };
+    ghost meaning = { λ s. bits_meaning I.model P.Error.converts (P.meaning s) };
 
     ghost Pins = { P.Pins };
 
     #[inline(always)]
     fn process<OM: OutputMode>(&mut self, input: I) -> PResult<I, P::Output, E> {
-        input.known();
+        input.prove_known();
         match self
             .parser
             .process::<OutputM<OM::Output, OM::Error, Streaming>>((input, 0))
@@ -153,7 +153,7 @@ where
         }
     }
 
-    ghost lawful = { λ s k. bits_of_lawful I.seen I.lawful P.Error.converts (P.meaning s) (P.lawful s k) };
+    ghost lawful = { λ s k. bits_of_lawful I.model I.lawful P.Error.converts (P.meaning s) (P.lawful s k) };
 }
 
 impl<I: Input<Item = u8>, P: StreamParser<(I, usize)> + Drop, E: ParseError<I>> StreamParser<I>
@@ -163,7 +163,7 @@ where
 {
     ghost pinned = { P.pinned };
 
-    ghost steady = { λ s k. bits_of_steady I.seen I.lawful P.Error.converts (P.meaning s) (P.steady s k) };
+    ghost steady = { λ s k. bits_of_steady I.model I.lawful P.Error.converts (P.meaning s) (P.steady s k) };
 }
 
 /// A parser of bytes among parsers of bits; made by `bytes`. `E` is the type of its errors.
@@ -193,7 +193,7 @@ where
     /// It rests at a whole byte.
     ghost Besides = { λ _ _ _ _. OfRest (λ rest. rest.1 ≡ 0) };
 
-    ghost meaning = { λ s. bytes_meaning I.seen E.errors P.Error.converts (P.meaning s) };
+    ghost meaning = { λ s. bytes_meaning I.model E.errors P.Error.converts (P.meaning s) };
 
     ghost Pins = { P.Pins };
 
@@ -211,7 +211,7 @@ where
         }
     }
 
-    ghost lawful = { λ s k. bytes_of_lawful I.seen I.lawful I.values E.errors P.Error.converts (P.meaning s) (P.lawful s k) };
+    ghost lawful = { λ s k. bytes_of_lawful I.model I.lawful I.values E.errors P.Error.converts (P.meaning s) (P.lawful s k) };
 }
 
 impl<I: Input<Item = u8>, P: StreamParser<I> + Drop, E: ParseError<(I, usize)>> StreamParser<
@@ -222,5 +222,5 @@ where
 {
     ghost pinned = { P.pinned };
 
-    ghost steady = { λ s k. bytes_of_steady I.seen I.lawful I.values E.errors P.Error.converts (P.meaning s) (P.steady s k) };
+    ghost steady = { λ s k. bytes_of_steady I.model I.lawful I.values E.errors P.Error.converts (P.meaning s) (P.steady s k) };
 }

@@ -1,8 +1,8 @@
 //! Bit fields of an input of bytes, from a position among its bits on.
 ghost use Rattle.std.specs.Prelude.{◌≡◌, ◌<◌, ◌≤◌, ◌+◌, ◌^◌, length, MatchOption};
 ghost use Rattle.std.proofs.Common.{take, drop};
-ghost use Rattle.nom_traits.specs.Bits.{seen_bits, byte_bits, spelled, spelled_after};
-ghost use Rattle.nom_traits.specs.Input.{IsRest};
+ghost use Rattle.nom_traits.specs.Bits.{bits_model, byte_bits, spelled, spelled_after};
+ghost use Rattle.nom_traits.specs.Input.{IsSuffixOf};
 ghost use Rattle.nom_bits.specs.BitRests.{Skips, StandsBehind, SplitsAt};
 
 use nom_traits::input::Input;
@@ -10,7 +10,7 @@ use nom_traits::input::Input;
 /// The input without its first `count` bytes, where there are that many.
 #[inline(always)]
 pub fn skipped<I: Input<Item = u8>>(input: I, count: usize) -> Option<I>
-    ensures { MatchOption result (length (I.seen.elements input) < count) (Skips I.seen input count) }
+    ensures { MatchOption result (length (I.model.elements input) < count) (Skips I.model input count) }
 {
     match input.slice_index(count) {
         Ok(n) => Some(input.take_from(n)),
@@ -24,11 +24,11 @@ fn following<I: Input<Item = u8>>(start: (I, usize), count: usize) -> Option<(I,
     requires offset { start.1 < 8 }
     requires some { 0 < count }
     requires count { count ≤ 128 }
-    ensures { MatchOption result (length ((seen_bits I.seen).elements start) < count)
-        (λ rest. IsRest (seen_bits I.seen) start count rest × StandsBehind I.seen start count rest) }
+    ensures { MatchOption result (length ((bits_model I.model).elements start) < count)
+        (λ rest. IsSuffixOf (bits_model I.model) start count rest × StandsBehind I.model start count rest) }
 {
     let (bytes, offset) = start;
-    bytes.known();
+    bytes.prove_known();
     let end = offset + count;
     match skipped(bytes, end / 8) {
         Some(rest) => {
@@ -53,9 +53,9 @@ pub struct Field<I> {
 #[inline(always)]
 pub fn next_field<I: Input<Item = u8>>(input: (I, usize), count: usize) -> Option<Field<I>>
     requires { count ≤ 128 }
-    ensures { MatchOption result (length ((seen_bits I.seen).elements input) < count) (λ f. SplitsAt I.seen input count f.start f.rest) }
+    ensures { MatchOption result (length ((bits_model I.model).elements input) < count) (λ f. SplitsAt I.model input count f.start f.rest) }
 {
-    input.0.known();
+    input.0.prove_known();
     if count == 0 {
         Some(Field {
             start: input,
@@ -91,9 +91,9 @@ fn extended(value: u128, byte: u8, passed: usize, width: usize) -> u128
 #[inline(always)]
 pub fn spelling<I: Input<Item = u8>>(start: (I, usize), count: usize) -> u128
     requires count { count ≤ 128 }
-    requires within { count ≤ length ((seen_bits I.seen).elements start) }
+    requires within { count ≤ length ((bits_model I.model).elements start) }
     requires offset { 0 < count → start.1 < 8 }
-    ensures number { result ≡ spelled (take count ((seen_bits I.seen).elements start)) }
+    ensures number { result ≡ spelled (take count ((bits_model I.model).elements start)) }
     ensures range { result < 2 ^ count }
 {
     let (bytes, offset) = start;

@@ -3,7 +3,7 @@ ghost use Rattle.std.specs.Prelude.{◌≡◌, ℕ, Bool};
 ghost use Rattle.std.specs.Result.{IfOk};
 ghost use Rattle.std.proofs.Common.{sym, ◌∙◌, ap};
 ghost use Rattle.nom_error.specs.Modes.{modes};
-ghost use Rattle.nom_traits.specs.Bits.{seen_bits};
+ghost use Rattle.nom_traits.specs.Bits.{bits_model};
 ghost use Rattle.nom_internal.specs.Meaning.{ShowsMeaning};
 ghost use Rattle.nom_internal.specs.Pinned.{value_pinned};
 ghost use Rattle.nom_internal.specs.Results.{OfRest};
@@ -44,20 +44,20 @@ impl<I: Input<Item = u8>, O: BitUint, E: ParseError<(I, usize)>> Parser<(I, usiz
     ghost IsOutput = { λ _ t v. v ≡ O.of_bits t };
 
     /// The pair that is left.
-    ghost Besides = { λ _ old _ i. OfRest (StandsBehind I.seen i old.count) };
+    ghost Besides = { λ _ old _ i. OfRest (StandsBehind I.model i old.count) };
 
-    ghost meaning = { λ count. take_meaning I.seen E.errors O.WIDTH count };
+    ghost meaning = { λ count. take_meaning I.model E.errors O.WIDTH count };
 
     ghost Pins = { λ _. Unit {0} };
 
     #[inline(always)]
     fn process<OM: OutputMode>(&mut self, input: (I, usize)) -> PResult<(I, usize), O, E>
-        requires sound { (take_meaning I.seen E.errors O.WIDTH self.old.count).IsSound }
-        ensures shown { ShowsMeaning (seen_bits I.seen) (λ t v. v ≡ O.of_bits t) (take_meaning I.seen E.errors O.WIDTH self.old.count)
+        requires sound { (take_meaning I.model E.errors O.WIDTH self.old.count).IsSound }
+        ensures shown { ShowsMeaning (bits_model I.model) (λ t v. v ≡ O.of_bits t) (take_meaning I.model E.errors O.WIDTH self.old.count)
             (modes OM.Output.BUILDS OM.Error.BUILDS OM.Incomplete.STREAMING) input result }
         ensures kept { self.new.count ≡ self.old.count }
         // The pair that is left.
-        ensures pair { IfOk result (λ accepted. StandsBehind I.seen input self.old.count accepted.0) }
+        ensures pair { IfOk result (λ accepted. StandsBehind I.model input self.old.count accepted.0) }
     {
         match next_field(input, self.count) {
             Some(found) => {
@@ -69,14 +69,14 @@ impl<I: Input<Item = u8>, O: BitUint, E: ParseError<(I, usize)>> Parser<(I, usiz
         }
     }
 
-    ghost lawful = { λ count k. take_lawful I.seen E.errors O.WIDTH count };
+    ghost lawful = { λ count k. take_lawful I.model E.errors O.WIDTH count };
 }
 
 impl<I: Input<Item = u8>, O: BitUint, E: ParseError<(I, usize)>> StreamParser<(I, usize)>
     for Take<I, O, E> {
     ghost pinned = { λ s k p t a b x y. ap O.view.value (x ∙ sym y) };
 
-    ghost steady = { λ count k. take_steady I.seen E.errors O.WIDTH count };
+    ghost steady = { λ count k. take_steady I.model E.errors O.WIDTH count };
 }
 
 /// A number that is wanted, spelled by that many bits; made by `tag`.
@@ -103,20 +103,20 @@ impl<I: Input<Item = u8>, O: BitUint, E: ParseError<(I, usize)>> Parser<(I, usiz
     ghost IsOutput = { λ _ t v. v ≡ O.of_bits t };
 
     /// The pair that is left.
-    ghost Besides = { λ _ old _ i. OfRest (StandsBehind I.seen i old.count) };
+    ghost Besides = { λ _ old _ i. OfRest (StandsBehind I.model i old.count) };
 
-    ghost meaning = { λ s. tag_meaning I.seen E.errors O.WIDTH s.0 s.1 };
+    ghost meaning = { λ s. tag_meaning I.model E.errors O.WIDTH s.0 s.1 };
 
     ghost Pins = { λ _. Unit {0} };
 
     #[inline(always)]
     fn process<OM: OutputMode>(&mut self, input: (I, usize)) -> PResult<(I, usize), O, E>
-        requires sound { (tag_meaning I.seen E.errors O.WIDTH self.old.pattern self.old.count).IsSound }
-        ensures shown { ShowsMeaning (seen_bits I.seen) (λ t v. v ≡ O.of_bits t) (tag_meaning I.seen E.errors O.WIDTH self.old.pattern self.old.count)
+        requires sound { (tag_meaning I.model E.errors O.WIDTH self.old.pattern self.old.count).IsSound }
+        ensures shown { ShowsMeaning (bits_model I.model) (λ t v. v ≡ O.of_bits t) (tag_meaning I.model E.errors O.WIDTH self.old.pattern self.old.count)
             (modes OM.Output.BUILDS OM.Error.BUILDS OM.Incomplete.STREAMING) input result }
         ensures kept { ◌≡◌ {A = ℕ × ℕ} (self.new.pattern, self.new.count) (self.old.pattern, self.old.count) }
         // The pair that is left.
-        ensures pair { IfOk result (λ accepted. StandsBehind I.seen input self.old.count accepted.0) }
+        ensures pair { IfOk result (λ accepted. StandsBehind I.model input self.old.count accepted.0) }
     {
         match next_field(input, self.count) {
             Some(found) => {
@@ -132,14 +132,14 @@ impl<I: Input<Item = u8>, O: BitUint, E: ParseError<(I, usize)>> Parser<(I, usiz
         }
     }
 
-    ghost lawful = { λ s k. tag_lawful I.seen E.errors O.WIDTH s.0 s.1 };
+    ghost lawful = { λ s k. tag_lawful I.model E.errors O.WIDTH s.0 s.1 };
 }
 
 impl<I: Input<Item = u8>, O: BitUint, E: ParseError<(I, usize)>> StreamParser<(I, usize)>
     for Tag<I, O, E> {
     ghost pinned = { λ s k p t a b x y. ap O.view.value (x ∙ sym y) };
 
-    ghost steady = { λ s k. tag_steady I.seen E.errors O.WIDTH s.0 s.1 };
+    ghost steady = { λ s k. tag_steady I.model E.errors O.WIDTH s.0 s.1 };
 }
 
 /// The next bit; made by `bool`.
@@ -162,19 +162,19 @@ impl<I: Input<Item = u8>, E: ParseError<(I, usize)>> Parser<(I, usize)> for Bool
     ghost IsOutput = { λ _ t v. v ≡ t };
 
     /// The pair that is left.
-    ghost Besides = { λ _ _ _ i. OfRest (StandsBehind I.seen i 1) };
+    ghost Besides = { λ _ _ _ i. OfRest (StandsBehind I.model i 1) };
 
-    ghost meaning = { λ _. bool_meaning I.seen E.errors };
+    ghost meaning = { λ _. bool_meaning I.model E.errors };
 
     ghost Pins = { λ _. Unit {0} };
 
     #[inline(always)]
     fn process<OM: OutputMode>(&mut self, input: (I, usize)) -> PResult<(I, usize), bool, E>
-        requires sound { (bool_meaning I.seen E.errors).IsSound }
-        ensures shown { ShowsMeaning (seen_bits I.seen) (λ t v. v ≡ t) (bool_meaning I.seen E.errors)
+        requires sound { (bool_meaning I.model E.errors).IsSound }
+        ensures shown { ShowsMeaning (bits_model I.model) (λ t v. v ≡ t) (bool_meaning I.model E.errors)
             (modes OM.Output.BUILDS OM.Error.BUILDS OM.Incomplete.STREAMING) input result }
         // The pair that is left.
-        ensures pair { IfOk result (λ accepted. StandsBehind I.seen input 1 accepted.0) }
+        ensures pair { IfOk result (λ accepted. StandsBehind I.model input 1 accepted.0) }
     {
         match next_field(input, 1) {
             Some(found) => {
@@ -186,11 +186,11 @@ impl<I: Input<Item = u8>, E: ParseError<(I, usize)>> Parser<(I, usize)> for Bool
         }
     }
 
-    ghost lawful = { λ _ k. bool_lawful I.seen E.errors };
+    ghost lawful = { λ _ k. bool_lawful I.model E.errors };
 }
 
 impl<I: Input<Item = u8>, E: ParseError<(I, usize)>> StreamParser<(I, usize)> for Bool<I, E> {
     ghost pinned = { λ _ k p. value_pinned };
 
-    ghost steady = { λ _ k. bool_steady I.seen E.errors };
+    ghost steady = { λ _ k. bool_steady I.model E.errors };
 }

@@ -3,7 +3,7 @@
 //! Where there are fewer bits, each needs as many as it takes.
 ghost use Rattle.std.specs.Prelude.{◌≡◌, ◌≤◌, true};
 ghost use Rattle.std.specs.Result.{IfOk};
-ghost use Rattle.nom_traits.specs.Bits.{seen_bits};
+ghost use Rattle.nom_traits.specs.Bits.{bits_model};
 ghost use Rattle.nom_traits.specs.View.{itself};
 ghost use Rattle.nom_func.specs.Func.{StreamsBy};
 ghost use Rattle.nom_bits.specs.BitRests.{StandsBehind};
@@ -49,9 +49,9 @@ pub fn tag<I, O: BitUint, C: ToUsize + Drop, E>(
 pub fn bool<I: Input<Item = u8>, E: ParseError<(I, usize)>>(
     input: (I, usize),
 ) -> IResult<(I, usize), bool, E>
-    ensures shown { StreamsBy (seen_bits I.seen) itself (λ t v. v ≡ t) (bool_meaning I.seen E.errors) true input result }
+    ensures shown { StreamsBy (bits_model I.model) itself (λ t v. v ≡ t) (bool_meaning I.model E.errors) true input result }
     // The pair that is left.
-    ensures pair { IfOk result (λ accepted. StandsBehind I.seen input 1 accepted.0) }
+    ensures pair { IfOk result (λ accepted. StandsBehind I.model input 1 accepted.0) }
 {
     let mut parser = Bool::<I, E> { types: PhantomData };
     full(parser.process::<OutputM<Emit, Emit, Streaming>>(input))

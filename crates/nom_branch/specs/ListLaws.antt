@@ -3,7 +3,7 @@ use Rattle.std.specs.Prelude.{◌≡◌, ℕ, ◌+◌, List, [], ◌∷◌}
 use Rattle.std.proofs.Common.{sym, ◌∙◌, subst, zero, suc}
 use Rattle.nom_error.specs.declared.kind.ErrorKind.TheVariants.{Alt}
 use Rattle.nom_error.specs.Errors.{Errors}
-use Rattle.nom_traits.specs.Input.{Seen}
+use Rattle.nom_traits.specs.Input.{Model}
 use Rattle.nom_traits.specs.View.{View}
 use Rattle.nom_internal.specs.Meaning.{Meaning, IsLawful, IsSteady}
 use Rattle.nom_internal.specs.Pinned.{IsPinned}
@@ -11,10 +11,10 @@ use Rattle.nom_internal.specs.Leaf.{LeafLaws, leaf_lawful, leaf_steady}
 use Rattle.nom_internal.specs.CaseLaws.{labelled_lawful, labelled_steady, closed_lawful, closed_steady}
 use Rattle.nom_internal.specs.Choice.{or_meaning}
 use Rattle.nom_internal.specs.ChoiceLaws.{or_lawful, or_steady}
-use Rattle.nom_choose.specs.Sound.{sound_before, sound_at}
-use Rattle.nom_choose.specs.Lists.{no_branch, branch_meaning, others_meaning, list_meaning, StandsAt, Each, ListOutput}
+use Rattle.nom_branch_list.specs.Sound.{sound_before, sound_at}
+use Rattle.nom_branch_list.specs.Lists.{no_branch, branch_meaning, others_meaning, list_meaning, IsElementAt, Each, ListOutput}
 
-no_branch_laws : {I A V : Type 0} (w : Seen I A) → LeafLaws {V = V} w no_branch
+no_branch_laws : {I A V : Type 0} (w : Model I A) → LeafLaws {V = V} w no_branch
 no_branch_laws w = record {
   place = λ s i n v h a. absurd a;
   one_accepted = λ s i n m u v h a b. absurd a;
@@ -29,7 +29,7 @@ no_branch_laws w = record {
   refused_settles = λ i h a. a;
 }
 
-module _ {S I A V E : Type 0} (w : Seen I A) (e : Errors I E) (part : S → Meaning I V E) where
+module _ {S I A V E : Type 0} (w : Model I A) (e : Errors I E) (part : S → Meaning I V E) where
   others_lawful : ((s : S) → (part s).IsSound → IsLawful w (part s)) → (m : Meaning I (ℕ × V) E) (k : ℕ) (ss : List S) →
       (others_meaning e part m k ss).IsSound → IsLawful w m → IsLawful w (others_meaning e part m k ss)
   others_lawful p m k [] h l = l
@@ -65,12 +65,12 @@ module _ {S I A V E : Type 0} (w : Seen I A) (e : Errors I E) (part : S → Mean
       (λ i. e.appended i Alt) e.grows (others_steady p a 1 ss h (labelled_steady w (part s) (λ t. (0, t)) (p s sound)))
 
 -- one element stands at a place, and the fact of each is its own
-stands_once : {S : Type 0} (ss : List S) (k : ℕ) (x y : S) → StandsAt ss k x → StandsAt ss k y → x ≡ y
+stands_once : {S : Type 0} (ss : List S) (k : ℕ) (x y : S) → IsElementAt ss k x → IsElementAt ss k y → x ≡ y
 stands_once [] k x y p q = absurd p
 stands_once (s ∷ ss) zero x y p q = sym p ∙ q
 stands_once (s ∷ ss) (suc k) x y p q = stands_once ss k x y p q
 
-each_at : {S : Type 0} (P : S → Type 0) (ss : List S) (k : ℕ) (s : S) → Each P ss → StandsAt ss k s → P s
+each_at : {S : Type 0} (P : S → Type 0) (ss : List S) (k : ℕ) (s : S) → Each P ss → IsElementAt ss k s → P s
 each_at P [] k s h l = absurd l
 each_at P (x ∷ xs) zero s h l = subst P l h.0
 each_at P (x ∷ xs) (suc k) s h l = each_at P xs k s h.1 l

@@ -1,8 +1,8 @@
 //! Choices among parsers of one type, in an array or a slice.
 ghost use Rattle.std.specs.Prelude.{ℕ, List, map};
-ghost use Rattle.nom_choose.specs.Lists.{list_meaning, ListOutput, Each};
+ghost use Rattle.nom_branch_list.specs.Lists.{list_meaning, ListOutput, Each};
 
-use nom_choose::choose;
+use nom_branch_list::choose;
 use nom_error::answer::PResult;
 use nom_error::mode::OutputMode;
 use nom_internal::parser::{Parser, StreamParser};
@@ -40,7 +40,7 @@ impl<I: Items, A: Parser<I>> Parser<I> for AnyOf<&mut [A]> {
         choose::<I, A, OM>(branches, input)
     }
 
-    ghost lawful = { list_lawful I.seen A.Error.errors A.meaning A.lawful };
+    ghost lawful = { list_lawful I.model A.Error.errors A.meaning A.lawful };
 }
 
 impl<I: Items, A: StreamParser<I>> StreamParser<I> for AnyOf<&mut [A]> {
@@ -48,7 +48,7 @@ impl<I: Items, A: StreamParser<I>> StreamParser<I> for AnyOf<&mut [A]> {
 
     ghost pinned = { list_pinned A.Error.errors A.meaning A.Output.view A.IsOutput A.Pins A.pinned };
 
-    ghost steady = { list_steady I.seen A.Error.errors A.meaning A.steady };
+    ghost steady = { list_steady I.model A.Error.errors A.meaning A.steady };
 }
 
 impl<I: Items, A: Parser<I>, const N: usize> Parser<I> for AnyOf<[A; N]> {
@@ -75,7 +75,7 @@ impl<I: Items, A: Parser<I>, const N: usize> Parser<I> for AnyOf<[A; N]> {
         choose::<I, A, OM>(&mut self.parsers, input)
     }
 
-    ghost lawful = { list_lawful I.seen A.Error.errors A.meaning A.lawful };
+    ghost lawful = { list_lawful I.model A.Error.errors A.meaning A.lawful };
 }
 
 impl<I: Items, A: StreamParser<I>, const N: usize> StreamParser<I> for AnyOf<[A; N]> {
@@ -83,5 +83,5 @@ impl<I: Items, A: StreamParser<I>, const N: usize> StreamParser<I> for AnyOf<[A;
 
     ghost pinned = { list_pinned A.Error.errors A.meaning A.Output.view A.IsOutput A.Pins A.pinned };
 
-    ghost steady = { list_steady I.seen A.Error.errors A.meaning A.steady };
+    ghost steady = { list_steady I.model A.Error.errors A.meaning A.steady };
 }

@@ -2,7 +2,7 @@
 use Rattle.std.proofs.Common.{◌≡◌, ℕ, ◌-◌, ◌<◌, ◌≤◌, min, max, ◌⊎◌, Option, Some, None, Bool, true, false, [], length, refl, sym, ◌∙◌, ap, subst}
 use Rattle.std.proofs.Common.{arith, append-nil, inl, inr}
 use Rattle.std.proofs.lemmas.Bool.{cases_lt}
-use Rattle.nom_traits.specs.Input.{Seen, input_len}
+use Rattle.nom_traits.specs.Input.{Model, input_len}
 use Rattle.nom_traits.specs.Slices.{Slice}
 use Rattle.nom_internal.specs.Leaf.{LeafAnswers}
 use Rattle.nom_internal.specs.Outcome.{Outcome}
@@ -13,7 +13,7 @@ use Rattle.nom_bytes.specs.RunLaws.{run_closed}
 closed : {P : Type 0} → false ≡ true → P
 closed k = absurd (cc (k))
 
-module _ {I A : Type 0} (w : Seen I A) (Test : A → Bool → Type 0) (most : ℕ) where
+module _ {I A : Type 0} (w : Model I A) (Test : A → Bool → Type 0) (most : ℕ) where
   -- the run is all of the input
   abbrev all_run : (i : I) (n count : ℕ) → n ≡ input_len w i → Reaches w Test most i None count →
       IsRunSlice w Test (Some most) false i n (record { items = w.elements i; mark = w.mark i })
@@ -43,7 +43,7 @@ all_few : (least most count : ℕ) → count < least → IsEnough least (Some mo
 all_few least most count h (inl k) = omega (arith, h, k)
 all_few least most count h (inr k) = omega (arith, k.1)
 
-module _ {I A : Type 0} (w : Seen I A) (Test : A → Bool → Type 0) (most least : ℕ) where
+module _ {I A : Type 0} (w : Model I A) (Test : A → Bool → Type 0) (most least : ℕ) where
   abbrev Answers : Bool → I → Outcome (Slice w) → Type 0
   Answers = LeafAnswers (runs w Test (Some most) least)
 

@@ -4,8 +4,8 @@ use Rattle.std.proofs.Common.{append_assoc, append-nil, length-append, ◌⊎◌
 use Rattle.std.specs.Iterator.{AlwaysYields}
 use Rattle.std.specs.List.{All}
 use Rattle.std.proofs.lemmas.List.Elements.{All-nil, All-cons, All-append}
-use Rattle.nom_traits.specs.Input.{Seen, span, placed}
-use Rattle.nom_traits.specs.Rests.{span-append}
+use Rattle.nom_traits.specs.Input.{Model, items_len, placed}
+use Rattle.nom_traits.specs.Rests.{items_len-append}
 use Rattle.nom_traits.specs.Slices.{Slice}
 use Rattle.nom_bytes.specs.ParsedRuns.{IsRunSlice}
 
@@ -14,7 +14,7 @@ pub stop_of : {Full Open Stopped Ends : Type 0} → Full ⊎ (Open × Stopped) �
 stop_of (inl h) f = inl h
 stop_of (inr h) f = inr (f h.1)
 
-module _ {I A S : Type 0} (w : Seen I A) (Test : A → Bool → Type 0) (steps : S → Option (ℕ × A) → S → Type 0) where
+module _ {I A S : Type 0} (w : Model I A) (Test : A → Bool → Type 0) (steps : S → Option (ℕ × A) → S → Type 0) where
   -- the items that were passed, which are so many, all meet the test, and s gives the others
   pub record IsCounting (i : I) (count : ℕ) (s : S) : Type 0 where
     pub passed : List A
@@ -22,9 +22,9 @@ module _ {I A S : Type 0} (w : Seen I A) (Test : A → Bool → Type 0) (steps :
     pub whole : w.elements i ≡ passed ++ rest
     pub meets : All (λ x. Test x true) passed
     pub counted : length passed ≡ count
-    pub gives : AlwaysYields steps (λ p. p) s (placed w.weight (span w.weight passed) rest)
+    pub gives : AlwaysYields steps (λ p. p) s (placed w.item_len (items_len w.item_len passed) rest)
 
-  pub count_begins : (i : I) (s : S) → AlwaysYields steps (λ p. p) s (placed w.weight 0 (w.elements i)) → IsCounting i 0 s
+  pub count_begins : (i : I) (s : S) → AlwaysYields steps (λ p. p) s (placed w.item_len 0 (w.elements i)) → IsCounting i 0 s
   count_begins i s h = record { passed = []; rest = w.elements i; whole = refl; meets = All-nil (λ x. Test x true); counted = refl; gives = h }
 
   -- the next item, with its place
@@ -34,18 +34,19 @@ module _ {I A S : Type 0} (w : Seen I A) (Test : A → Bool → Type 0) (steps :
     whole : w.elements i ≡ passed ++ (x ∷ rest)
     meets : All (λ z. Test z true) passed
     counted : length passed ≡ count
-    place : n ≡ span w.weight passed
-    gives : AlwaysYields steps (λ p. p) t (placed w.weight (n + w.weight x) rest)
+    place : n ≡ items_len w.item_len passed
+    gives : AlwaysYields steps (λ p. p) t (placed w.item_len (n + w.item_len x) rest)
 
   next_of : (i : I) (s t : S) (count n : ℕ) (x : A) (passed rest : List A) → w.elements i ≡ passed ++ rest → All (λ z. Test z true) passed →
-      length passed ≡ count → AlwaysYields steps (λ p. p) s (placed w.weight (span w.weight passed) rest) → steps s (Some (n, x)) t → IsNext i count n x t
+      length passed ≡ count → AlwaysYields steps (λ p. p) s (placed w.item_len (items_len w.item_len passed) rest) → steps s (Some (n, x)) t →
+      IsNext i count n x t
   next_of i s t count n x passed [] e h c g k = absurd (g (n, x) t k)
   next_of i s t count n x passed (y ∷ rest) e h c g k =
       let r = g.1 (n, x) t k in
-      let place : n ≡ span w.weight passed = ap (λ p. p.0) r.0 in
+      let place : n ≡ items_len w.item_len passed = ap (λ p. p.0) r.0 in
       let item : x ≡ y = ap (λ p. p.1) r.0 in
-      let gives : AlwaysYields steps (λ p. p) t (placed w.weight (n + w.weight y) rest) =
-      subst (λ m. AlwaysYields steps (λ p. p) t (placed w.weight (m + w.weight y) rest)) (sym place) r.1 in
+      let gives : AlwaysYields steps (λ p. p) t (placed w.item_len (n + w.item_len y) rest) =
+      subst (λ m. AlwaysYields steps (λ p. p) t (placed w.item_len (m + w.item_len y) rest)) (sym place) r.1 in
       record {
         passed = passed;
         rest = rest;
@@ -53,7 +54,7 @@ module _ {I A S : Type 0} (w : Seen I A) (Test : A → Bool → Type 0) (steps :
         meets = h;
         counted = c;
         place = place;
-        gives = subst (λ z. AlwaysYields steps (λ p. p) t (placed w.weight (n + w.weight z) rest)) (sym item) gives;
+        gives = subst (λ z. AlwaysYields steps (λ p. p) t (placed w.item_len (n + w.item_len z) rest)) (sym item) gives;
       }
 
   next_in : (i : I) (s t : S) (count n : ℕ) (x : A) → IsCounting i count s → steps s (Some (n, x)) t → IsNext i count n x t
@@ -62,14 +63,14 @@ module _ {I A S : Type 0} (w : Seen I A) (Test : A → Bool → Type 0) (steps :
   pub count_goes_on : (i : I) (s t : S) (count n : ℕ) (x : A) → IsCounting i count s → steps s (Some (n, x)) t → Test x true → IsCounting i (count + 1) t
   count_goes_on i s t count n x h k m =
       let r = next_in i s t count n x h k in
-      let place : n + w.weight x ≡ span w.weight (r.passed ++ (x ∷ [])) = omega (arith, r.place, span-append w.weight r.passed (x ∷ [])) in
+      let place : n + w.item_len x ≡ items_len w.item_len (r.passed ++ (x ∷ [])) = omega (arith, r.place, items_len-append w.item_len r.passed (x ∷ [])) in
       record {
         passed = r.passed ++ (x ∷ []);
         rest = r.rest;
         whole = r.whole ∙ sym (append_assoc r.passed (x ∷ []) r.rest);
         meets = All-append (λ z. Test z true) r.passed (x ∷ []) r.meets (All-cons (λ z. Test z true) x [] m (All-nil (λ z. Test z true)));
         counted = omega (arith, r.counted, length-append r.passed (x ∷ []));
-        gives = subst (λ m. AlwaysYields steps (λ p. p) t (placed w.weight m r.rest)) place r.gives;
+        gives = subst (λ m. AlwaysYields steps (λ p. p) t (placed w.item_len m r.rest)) place r.gives;
       }
 
   pub count_stops : (i : I) (s t : S) (most count n : ℕ) (x : A) → IsCounting i count s → steps s (Some (n, x)) t → count ≤ most → (count ≡ most) ⊎
@@ -88,7 +89,7 @@ module _ {I A S : Type 0} (w : Seen I A) (Test : A → Bool → Type 0) (steps :
         r.counted,
       )
 
-  ends_of : (i : I) (s t : S) (n : ℕ) (passed rest : List A) → w.elements i ≡ passed ++ rest → AlwaysYields steps (λ p. p) s (placed w.weight n rest) →
+  ends_of : (i : I) (s t : S) (n : ℕ) (passed rest : List A) → w.elements i ≡ passed ++ rest → AlwaysYields steps (λ p. p) s (placed w.item_len n rest) →
       steps s None t → w.elements i ≡ passed
   ends_of i s t n passed [] e g k = e ∙ append-nil passed
   ends_of i s t n passed (y ∷ rest) e g k = absurd (g.0 t k)
@@ -96,5 +97,5 @@ module _ {I A S : Type 0} (w : Seen I A) (Test : A → Bool → Type 0) (steps :
   pub count_ends : (i : I) (s t : S) (most count : ℕ) → IsCounting i count s → steps s None t → count ≤ most → All (λ x. Test x true) (w.elements i) ×
       (length (w.elements i) ≡ count) × (count ≤ most)
   count_ends i s t most count h k b =
-      let all : w.elements i ≡ h.passed = ends_of i s t (span w.weight h.passed) h.passed h.rest h.whole h.gives k in
+      let all : w.elements i ≡ h.passed = ends_of i s t (items_len w.item_len h.passed) h.passed h.rest h.whole h.gives k in
       (subst (All (λ x. Test x true)) (sym all) h.meets, ap length all ∙ h.counted, b)

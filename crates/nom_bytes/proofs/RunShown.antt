@@ -8,9 +8,9 @@ use Rattle.nom_error.specs.declared.answer.Needed.{Needed}
 use Rattle.nom_error.specs.declared.answer.Err as Answer
 use Rattle.nom_error.specs.Answers.{Refuses}
 use Rattle.nom_error.specs.Modes.{Modes}
-use Rattle.nom_traits.specs.Input.{Seen, InputLaws, span}
+use Rattle.nom_traits.specs.Input.{Model, InputLaws, items_len}
 use Rattle.nom_traits.specs.Runs.{Stops}
-use Rattle.nom_traits.specs.Slices.{Slice, IsSeenAs, front_seen}
+use Rattle.nom_traits.specs.Slices.{Slice, IsModelledBy, front_seen}
 use Rattle.nom_traits.specs.Splits.{IsRunLength, IsRunEmpty, FrontBuilt, Splits}
 use Rattle.nom_internal.specs.Leaf.{leaf_meaning}
 use Rattle.nom_internal.specs.Meaning.{ShowsMeaning}
@@ -22,10 +22,11 @@ stops_ends : {A : Type 0} (Ends Fails : A → Type 0) → ((x : A) → Ends x �
 stops_ends Ends Fails f [] h = tt
 stops_ends Ends Fails f (x ∷ xs) h = inr (f x h)
 
-enough_items : {A : Type 0} (weight : A → ℕ) (wanted : Bool) (xs : List A) (n : ℕ) → span weight xs ≡ n → (wanted ≡ true → 0 < n) → cond wanted 1 0 ≤ length xs
-enough_items weight false xs n e h = omega arith
-enough_items weight true [] n e h = absurd (omega (arith, e, h refl))
-enough_items weight true (x ∷ xs) n e h = omega arith
+enough_items : {A : Type 0} (item_len : A → ℕ) (wanted : Bool) (xs : List A) (n : ℕ) → items_len item_len xs ≡ n → (wanted ≡ true → 0 < n) →
+    cond wanted 1 0 ≤ length xs
+enough_items item_len false xs n e h = omega arith
+enough_items item_len true [] n e h = absurd (omega (arith, e, h refl))
+enough_items item_len true (x ∷ xs) n e h = omega arith
 
 none_enough : (wanted : Bool) (behind : ℕ) → wanted ≡ true → IsEnough (cond wanted 1 0) None 0 behind → ⊥
 none_enough true behind e (inl h) = omega (arith, h)
@@ -36,7 +37,7 @@ one_lacks : (wanted : Bool) (n : ℕ) → Some 1 ≡ Some (max 1 (cond wanted 1 
 one_lacks true n = let one : 1 ≡ max 1 (1 - n) = omega arith in ap Some one
 one_lacks false n = let one : 1 ≡ max 1 (0 - n) = omega arith in ap Some one
 
-module _ {I A : Type 0} (w : Seen I A) (l : InputLaws w) (Meets Ends : A → Type 0) (Test : A → Bool → Type 0) (meets : (x : A) → Meets x → Test x true)
+module _ {I A : Type 0} (w : Model I A) (l : InputLaws w) (Meets Ends : A → Type 0) (Test : A → Bool → Type 0) (meets : (x : A) → Meets x → Test x true)
     (ends : (x : A) → Ends x → Test x false) where
   abbrev items_of : (s : Bool) (i : I) (n : ℕ) → IsRunLength w Meets Ends s i n → Slice w
   items_of s i n r = record { items = r.run; mark = w.mark i }
@@ -61,7 +62,7 @@ module _ {I A : Type 0} (w : Seen I A) (l : InputLaws w) (Meets Ends : A → Typ
 
   module _ {E : Type 0} (wanted : Bool) (Blames : I → E → Type 0) (Grows : Type 0) (mode : Modes) (i : I) where
     abbrev Shows : Result (I × Option I) (Answer.Err E (Option E) Needed) → Type 0
-    Shows r = ShowsMeaning w (IsSeenAs w) (leaf_meaning (Unit {0}) Blames Grows (runs w Test None (cond wanted 1 0))) mode i r
+    Shows r = ShowsMeaning w (IsModelledBy w) (leaf_meaning (Unit {0}) Blames Grows (runs w Test None (cond wanted 1 0))) mode i r
 
     -- a split after the run, where one item is wanted at least or none, shows the run's meaning, whatever its premise
     pub split_shown : (IsRefusal : Answer.Err E (Option E) Needed → Type 0) →
@@ -71,9 +72,9 @@ module _ {I A : Type 0} (w : Seen I A) (l : InputLaws w) (Meets Ends : A → Typ
     split_shown IsRefusal refuses (Ok p) h =
         let run = run_of mode.streaming i h.0 h.1 in
         let built = built_error mode.outputs _ _ p.1 (λ v f. front_seen w l i h.0 v (items_of mode.streaming i h.0 h.1) f run.first) h.4 in
-        accepted (items_of mode.streaming i h.0 h.1) h.3 (run, inl (enough_items w.weight wanted h.1.run h.0 h.1.length_is h.2)) built
+        accepted (items_of mode.streaming i h.0 h.1) h.3 (run, inl (enough_items w.item_len wanted h.1.run h.0 h.1.length_is h.2)) built
     split_shown IsRefusal refuses (Std.Err e) (inl h) =
         let all : All (λ x. Test x true) (w.elements i) = λ k d p. meets _ (h.0.1 k d p) in
-        subst (λ f. Shows (Std.Err f)) (sym h.1.2) (undecided h.1.1 (h.0.0, (all, tt, one_lacks wanted (span w.weight (w.elements i)))))
+        subst (λ f. Shows (Std.Err f)) (sym h.1.2) (undecided h.1.1 (h.0.0, (all, tt, one_lacks wanted (items_len w.item_len (w.elements i)))))
     split_shown IsRefusal refuses (Std.Err e) (inr h) =
         refused (refuses e h.2) (0, record { items = []; mark = w.mark i }, no_run mode.streaming i h.1, none_enough wanted (length (w.elements i)) h.0)

@@ -8,22 +8,22 @@ use Rattle.nom_error.specs.Errors.{Errors}
 use Rattle.nom_error.specs.Modes.{Built, Modes}
 use Rattle.nom_traits.specs.declared.compare.CompareResult.{CompareResult}
 use Rattle.nom_traits.specs.declared.compare.CompareResult.TheVariants as Compared
-use Rattle.nom_traits.specs.Input.{Seen, IsPlace, IsRest, input_len}
-use Rattle.nom_traits.specs.Slices.{Slice, IsFirst, IsSeenAs, place_first}
+use Rattle.nom_traits.specs.Input.{Model, IsBoundary, IsSuffixOf, input_len}
+use Rattle.nom_traits.specs.Slices.{Slice, IsFirst, IsModelledBy, place_first}
 use Rattle.nom_traits.specs.Compares.{CompareLaws}
 use Rattle.nom_internal.specs.Meaning.{ShowsMeaning}
 use Rattle.nom_internal.proofs.Shown.{accepted, undecided}
 use Rattle.nom_bytes.specs.Tags.{tag_meaning}
 
-module _ {I A T E : Type 0} (w : Seen I A) (errs : Errors I E) (size : T → ℕ) (Compares : T → List A → CompareResult → Type 0)
+module _ {I A T E : Type 0} (w : Model I A) (errs : Errors I E) (size : T → ℕ) (Compares : T → List A → CompareResult → Type 0)
     (c : CompareLaws w size Compares) (tag : T) (mode : Modes) (i : I) (known : w.IsKnown i) where
   abbrev Shows : Result (I × Option I) (Answer.Err E (Option E) Needed) → Type 0
-  Shows r = ShowsMeaning w (IsSeenAs w) (tag_meaning w errs size Compares tag) mode i r
+  Shows r = ShowsMeaning w (IsModelledBy w) (tag_meaning w errs size Compares tag) mode i r
 
-  pub tag_found : (n : ℕ) (j : I) (x : Option I) → n ≡ size tag → Compares tag (w.elements i) Compared.Ok → IsRest w i n j →
-      ((t : Slice w) → IsFirst w i n t → Built mode.outputs (IsSeenAs w t) x) → Shows (Ok (j, x))
+  pub tag_found : (n : ℕ) (j : I) (x : Option I) → n ≡ size tag → Compares tag (w.elements i) Compared.Ok → IsSuffixOf w i n j →
+      ((t : Slice w) → IsFirst w i n t → Built mode.outputs (IsModelledBy w t) x) → Shows (Ok (j, x))
   tag_found n j x e a r built =
-      let first = place_first w i n (subst (λ m. IsPlace w i m) (sym e) (c.place tag i known a)) in
+      let first = place_first w i n (subst (λ m. IsBoundary w i m) (sym e) (c.place tag i known a)) in
       accepted _ r (e, first, a) (built _ first)
 
   -- what is lacking of the tag, of length n, is needed

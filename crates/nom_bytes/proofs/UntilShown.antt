@@ -4,24 +4,24 @@ use Rattle.nom_error.specs.declared.answer.Needed.TheVariants.{Unknown}
 use Rattle.nom_error.specs.declared.answer.Err.TheVariants.{Incomplete}
 use Rattle.nom_error.specs.Errors.{Errors}
 use Rattle.nom_error.specs.Modes.{Built, Modes}
-use Rattle.nom_traits.specs.Input.{Seen, IsRest}
-use Rattle.nom_traits.specs.Slices.{Slice, IsFirst, IsSeenAs, place_first}
+use Rattle.nom_traits.specs.Input.{Model, IsSuffixOf}
+use Rattle.nom_traits.specs.Slices.{Slice, IsFirst, IsModelledBy, place_first}
 use Rattle.nom_search.specs.Substrings.{FindLaws}
 use Rattle.nom_internal.specs.Meaning.{ShowsMeaning}
 use Rattle.nom_internal.proofs.Shown.{accepted, undecided}
 use Rattle.nom_bytes.specs.Untils.{until_meaning}
 
-module _ {I A T E : Type 0} {w : Seen I A} (errs : Errors I E) {Finds : T → List A → Option ℕ → Type 0} {one : Bool} {needle : T} {mode : Modes} {i : I} where
+module _ {I A T E : Type 0} {w : Model I A} (errs : Errors I E) {Finds : T → List A → Option ℕ → Type 0} {one : Bool} {needle : T} {mode : Modes} {i : I} where
   pub until_found : FindLaws w Finds → {n : ℕ} {j : I} {x : Option I} → w.IsKnown i → Finds needle (w.elements i) (Some n) → (one ≡ true → 0 < n) →
-      IsRest w i n j → ((t : Slice w) → IsFirst w i n t → Built mode.outputs (IsSeenAs w t) x) →
-      ShowsMeaning w (IsSeenAs w) (until_meaning w errs Finds one needle) mode i (Ok (j, x))
+      IsSuffixOf w i n j → ((t : Slice w) → IsFirst w i n t → Built mode.outputs (IsModelledBy w t) x) →
+      ShowsMeaning w (IsModelledBy w) (until_meaning w errs Finds one needle) mode i (Ok (j, x))
   until_found f {n = n} known a some r built =
       let first = place_first w i n (f.place needle i n known a) in
       accepted _ r (first, a, some) (built _ first)
 
-module _ {I A T E : Type 0} {w : Seen I A} (errs : Errors I E) (Finds : T → List A → Option ℕ → Type 0) (one : Bool) (needle : T) {mode : Modes} {i : I} where
+module _ {I A T E : Type 0} {w : Model I A} (errs : Errors I E) (Finds : T → List A → Option ℕ → Type 0) (one : Bool) (needle : T) {mode : Modes} {i : I} where
   pub until_open : mode.streaming ≡ true → Finds needle (w.elements i) None →
-      ShowsMeaning w (IsSeenAs w) (until_meaning w errs Finds one needle) mode i (Err (Incomplete Unknown))
+      ShowsMeaning w (IsModelledBy w) (until_meaning w errs Finds one needle) mode i (Err (Incomplete Unknown))
   until_open more a = undecided refl (more, (a, refl))
 
 -- where one item isn't asked for, none is

@@ -4,7 +4,7 @@ use Rattle.std.specs.List.{All}
 use Rattle.nom_error.specs.declared.kind.ErrorKind.{ErrorKind}
 use Rattle.nom_error.specs.declared.kind.ErrorKind.TheVariants as Kind
 use Rattle.nom_error.specs.Errors.{Errors}
-use Rattle.nom_traits.specs.Input.{Seen, input_len}
+use Rattle.nom_traits.specs.Input.{Model, input_len}
 use Rattle.nom_traits.specs.Slices.{Slice, IsFirst}
 use Rattle.nom_traits.specs.Runs.{Stops}
 use Rattle.nom_internal.specs.Meaning.{Meaning}
@@ -25,7 +25,7 @@ abbrev pub IsEnough : (least : ℕ) (bound : Option ℕ) (count behind : ℕ) �
 IsEnough least bound count behind = (least ≤ count) ⊎ (IsAtBound bound count × (0 < behind))
 
 -- Test is what the test answers at an item: true where the item meets it.
-module _ {I A : Type 0} (w : Seen I A) (Test : A → Bool → Type 0) (bound : Option ℕ) where
+module _ {I A : Type 0} (w : Model I A) (Test : A → Bool → Type 0) (bound : Option ℕ) where
   -- The slice is the run of i, of length n: the longest list of first items, no more than the bound, that all meet the test. Where more
   -- may come, an item follows it, since more might make it longer.
   pub record IsRunSlice (streaming : Bool) (i : I) (n : ℕ) (t : Slice w) : Type 0 where
@@ -45,7 +45,7 @@ module _ {I A : Type 0} (w : Seen I A) (Test : A → Bool → Type 0) (bound : O
   }
 
 -- IsSound is the test's premise.
-module _ {I A : Type 0} (w : Seen I A) (Test : A → Bool → Type 0) (IsSound : Type 0) where
+module _ {I A : Type 0} (w : Model I A) (Test : A → Bool → Type 0) (IsSound : Type 0) where
   -- a run that may be empty: nothing is refused
   abbrev pub run_meaning : {E : Type 0} → Meaning I (Slice w) E
   run_meaning = leaf_meaning IsSound (λ _ _. ⊥) ⊥ (runs w Test None 0)
@@ -57,7 +57,7 @@ module _ {I A : Type 0} (w : Seen I A) (Test : A → Bool → Type 0) (IsSound :
   abbrev pub bounded_meaning : {E : Type 0} → Errors I E → (least most : ℕ) → Meaning I (Slice w) E
   bounded_meaning errs least most = leaf_meaning IsSound (λ i. errs.of_kind i Kind.TakeWhileMN) errs.grows (runs w Test (Some most) least)
 
-module _ {I A : Type 0} (w : Seen I A) (Test : A → Bool → Type 0) (most : ℕ) where
+module _ {I A : Type 0} (w : Model I A) (Test : A → Bool → Type 0) (most : ℕ) where
   -- how far a run under a bound reaches, and how many items it has: to an item that follows it, or through all of the input
   abbrev pub Reaches : I → Option ℕ → ℕ → Type 0
   Reaches i (Some n) count = (t : Slice w) × IsRunSlice w Test (Some most) true i n t × (length t.items ≡ count)

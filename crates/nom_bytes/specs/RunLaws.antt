@@ -3,7 +3,7 @@ use Rattle.std.specs.Prelude.{◌≡◌, ℕ, ◌-◌, ◌<◌, ◌≤◌, max, 
 use Rattle.std.specs.List.{All}
 use Rattle.std.proofs.Common.{arith, sym, ◌∙◌, ap, subst, append_assoc, append-nil, length-append, inl, inr}
 use Rattle.std.proofs.lemmas.List.Elements.{All-head, All-tail}
-use Rattle.nom_traits.specs.Input.{Seen, Related, AreValues, span}
+use Rattle.nom_traits.specs.Input.{Model, Related, AreValues, items_len}
 use Rattle.nom_traits.specs.Runs.{Stops}
 use Rattle.nom_traits.specs.Slices.{Slice, first_place, same_count}
 use Rattle.nom_internal.specs.Meaning.{IsLawful, IsSteady}
@@ -50,7 +50,7 @@ module _ {A : Type 0} (IsValue : A → Type 0) (Test : A → Bool → Type 0) (f
     no_longer xs front others run (x ∷ rest) a e h b f (inr s) =
         front_within front others run (x ∷ rest) (subst (AreValues IsValue) e a) (sym e ∙ f) h (omega arith) s
 
-module _ {I A : Type 0} (w : Seen I A) (Test : A → Bool → Type 0) (bound : Option ℕ) where
+module _ {I A : Type 0} (w : Model I A) (Test : A → Bool → Type 0) (bound : Option ℕ) where
   -- a run of the first of related inputs, as one of the second
   record IsCarried (s : Bool) (y : I) (n : ℕ) (t : Slice w) (behind : ℕ) : Type 0 where
     is_run : IsRunSlice w Test bound s y n t
@@ -99,7 +99,7 @@ module _ {I A : Type 0} (w : Seen I A) (Test : A → Bool → Type 0) (bound : O
   abbrev pub run_closed : (s : Bool) (i : I) (n : ℕ) (t : Slice w) → IsRunSlice w Test bound true i n t → IsRunSlice w Test bound s i n t
   run_closed s i n t r = record { first = r.first; meets = r.meets; bounded = r.bounded; stops = r.stops; followed = λ _. r.followed refl }
 
-module _ {I A : Type 0} (w : Seen I A) (IsValue : A → Type 0) (values : (i : I) → w.IsKnown i → AreValues IsValue (w.elements i))
+module _ {I A : Type 0} (w : Model I A) (IsValue : A → Type 0) (values : (i : I) → w.IsKnown i → AreValues IsValue (w.elements i))
     (Test : A → Bool → Type 0) (fixed : IsFixed IsValue Test) (bound : Option ℕ) where
   one_run : (s : Bool) (i : I) (n m : ℕ) (t u : Slice w) → w.IsKnown i → IsRunSlice w Test bound s i n t → IsRunSlice w Test bound s i m u → (n ≡ m) × (t ≡ u)
   one_run s i n m t u h r q =
@@ -156,7 +156,7 @@ module _ {I A : Type 0} (w : Seen I A) (IsValue : A → Type 0) (values : (i : I
       accepted_stays = λ longer s only x y n t kx ky e a. accepted_stays longer s only x y n t e a;
       refused_stays = λ longer s only x y kx ky e a. refused_stays longer s only x y e a;
       lack_alike = λ x y k kx ky e a. subst (λ xs. All (λ z. Test z true) xs × IsWithin bound (length xs) ×
-          (k ≡ Some (max 1 (least - span w.weight xs)))) e.elements_are a;
+          (k ≡ Some (max 1 (least - items_len w.item_len xs)))) e.elements_are a;
       accepted_settles = λ i n t h a. (run_closed w Test bound false i n t a.0, a.1);
       refused_settles = λ i h a. (a.0, a.1, run_closed w Test bound false i a.0 a.1 a.2, a.3);
     }

@@ -5,7 +5,7 @@ use Rattle.nom_error.specs.declared.kind.ErrorKind.TheVariants as Kind
 use Rattle.nom_error.specs.Errors.{Errors}
 use Rattle.nom_traits.specs.declared.compare.CompareResult.{CompareResult}
 use Rattle.nom_traits.specs.declared.compare.CompareResult.TheVariants as Compared
-use Rattle.nom_traits.specs.Input.{Seen, InputLaws, Related, span}
+use Rattle.nom_traits.specs.Input.{Model, InputLaws, Related, items_len}
 use Rattle.nom_traits.specs.Slices.{first_place, first_related, same_length}
 use Rattle.nom_traits.specs.Compares.{CompareLaws}
 use Rattle.nom_internal.specs.Meaning.{IsLawful, IsSteady}
@@ -13,7 +13,7 @@ use Rattle.nom_internal.specs.Leaf.{LeafLaws, leaf_lawful, leaf_steady}
 use Rattle.nom_bytes.specs.Stays.{closed_stays, open_stays}
 use Rattle.nom_bytes.specs.Tags.{tags, tag_meaning}
 
-module _ {I A T : Type 0} (w : Seen I A) (size : T → ℕ) (Compares : T → List A → CompareResult → Type 0) (c : CompareLaws w size Compares) (tag : T) where
+module _ {I A T : Type 0} (w : Model I A) (size : T → ℕ) (Compares : T → List A → CompareResult → Type 0) (c : CompareLaws w size Compares) (tag : T) where
   abbrev Finds : CompareResult → I → Type 0
   Finds r i = Compares tag (w.elements i) r
 
@@ -59,12 +59,12 @@ module _ {I A T : Type 0} (w : Seen I A) (size : T → ℕ) (Compares : T → Li
       open_stays w (λ xs. Compares tag xs Compared.Ok) (c.ok_stays tag) longer x y kx ky r a.2,
     );
     refused_stays = refused_stays;
-    lack_alike = λ x y k kx ky r a. subst (λ xs. Compares tag xs Compared.Incomplete × (k ≡ Some (size tag - span w.weight xs))) r.elements_are a;
+    lack_alike = λ x y k kx ky r a. subst (λ xs. Compares tag xs Compared.Incomplete × (k ≡ Some (size tag - items_len w.item_len xs))) r.elements_are a;
     accepted_settles = λ i n t h a. a;
     refused_settles = λ i h a. refused_settles i a;
   }
 
-module _ {I A T E : Type 0} (w : Seen I A) (l : InputLaws w) (errs : Errors I E) (size : T → ℕ) (Compares : T → List A → CompareResult → Type 0)
+module _ {I A T E : Type 0} (w : Model I A) (l : InputLaws w) (errs : Errors I E) (size : T → ℕ) (Compares : T → List A → CompareResult → Type 0)
     (c : CompareLaws w size Compares) (tag : T) where
   pub tag_lawful : IsLawful w (tag_meaning w errs size Compares tag)
   tag_lawful = leaf_lawful w (tags w size Compares tag) (tag_laws w size Compares c tag l) (Unit {0}) (λ i. errs.of_kind i Kind.Tag) errs.grows

@@ -3,14 +3,14 @@ use Rattle.std.specs.Prelude.{◌≡◌, ℕ, ◌<◌, List, length, Option}
 use Rattle.std.proofs.Common.{sym, ◌∙◌, subst}
 use Rattle.nom_error.specs.declared.kind.ErrorKind.TheVariants as Kind
 use Rattle.nom_error.specs.Errors.{Errors}
-use Rattle.nom_traits.specs.Input.{Seen}
+use Rattle.nom_traits.specs.Input.{Model}
 use Rattle.nom_traits.specs.Slices.{first_place, first_related, first_fewer, same_count}
 use Rattle.nom_internal.specs.Meaning.{IsLawful, IsSteady}
 use Rattle.nom_internal.specs.Leaf.{LeafLaws, leaf_lawful, leaf_steady}
 use Rattle.nom_bytes.specs.Stays.{closed_stays}
 use Rattle.nom_bytes.specs.Takes.{takes, take_meaning}
 
-module _ {I A : Type 0} (w : Seen I A) (lack : ℕ → List A → Option ℕ) (count : ℕ) where
+module _ {I A : Type 0} (w : Model I A) (lack : ℕ → List A → Option ℕ) (count : ℕ) where
   pub take_laws : LeafLaws w (takes w lack count)
   take_laws = record {
     place = λ s i n t h a. first_place w i n t a.0;
@@ -26,7 +26,7 @@ module _ {I A : Type 0} (w : Seen I A) (lack : ℕ → List A → Option ℕ) (c
     refused_settles = λ i h a. absurd (cc (a.0));
   }
 
-module _ {I A E : Type 0} (w : Seen I A) (errs : Errors I E) (lack : ℕ → List A → Option ℕ) (count : ℕ) where
+module _ {I A E : Type 0} (w : Model I A) (errs : Errors I E) (lack : ℕ → List A → Option ℕ) (count : ℕ) where
   pub take_lawful : IsLawful w (take_meaning w errs lack count)
   take_lawful = leaf_lawful w (takes w lack count) (take_laws w lack count) (Unit {0}) (λ i. errs.of_kind i Kind.Eof) errs.grows
 

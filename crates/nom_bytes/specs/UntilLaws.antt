@@ -3,7 +3,7 @@ use Rattle.std.specs.Prelude.{◌≡◌, ℕ, ◌<◌, Bool, true, false, ◌⊎
 use Rattle.std.proofs.Common.{sym, ◌∙◌, subst, inl, inr, arith}
 use Rattle.nom_error.specs.declared.kind.ErrorKind.TheVariants as Kind
 use Rattle.nom_error.specs.Errors.{Errors}
-use Rattle.nom_traits.specs.Input.{Seen, InputLaws, Related}
+use Rattle.nom_traits.specs.Input.{Model, InputLaws, Related}
 use Rattle.nom_traits.specs.Slices.{Slice, IsFirst, first_place, first_related, same_length}
 use Rattle.nom_search.specs.Substrings.{FindLaws}
 use Rattle.nom_internal.specs.Meaning.{IsLawful, IsSteady}
@@ -11,7 +11,7 @@ use Rattle.nom_internal.specs.Leaf.{LeafLaws, leaf_lawful, leaf_steady}
 use Rattle.nom_bytes.specs.Stays.{closed_stays, open_stays}
 use Rattle.nom_bytes.specs.Untils.{untils, until_meaning}
 
-module _ {I A T : Type 0} (w : Seen I A) (Finds : T → List A → Option ℕ → Type 0) (f : FindLaws w Finds) (needle : T) where
+module _ {I A T : Type 0} (w : Model I A) (Finds : T → List A → Option ℕ → Type 0) (f : FindLaws w Finds) (needle : T) where
   same_place : (i : I) (n m : ℕ) → w.IsKnown i → Finds needle (w.elements i) (Some n) → Finds needle (w.elements i) (Some m) → n ≡ m
   same_place i n m h a b =
       let same : ◌≡◌ {A = Option ℕ} (Some n) (Some m) = f.one needle i (Some n) (Some m) h a b in
@@ -66,7 +66,7 @@ module _ {I A T : Type 0} (w : Seen I A) (Finds : T → List A → Option ℕ �
       refused_settles = λ i h a. refused_settles i a;
     }
 
-module _ {I A T E : Type 0} (w : Seen I A) (l : InputLaws w) (errs : Errors I E) (Finds : T → List A → Option ℕ → Type 0) (f : FindLaws w Finds)
+module _ {I A T E : Type 0} (w : Model I A) (l : InputLaws w) (errs : Errors I E) (Finds : T → List A → Option ℕ → Type 0) (f : FindLaws w Finds)
     (one : Bool) (needle : T) where
   pub until_lawful : IsLawful w (until_meaning w errs Finds one needle)
   until_lawful = leaf_lawful w (untils w Finds one needle) (until_laws w Finds f needle one l) (Unit {0}) (λ i. errs.of_kind i Kind.TakeUntil) errs.grows

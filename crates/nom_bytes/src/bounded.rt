@@ -1,7 +1,7 @@
 //! The parser of runs with a bound.
 ghost use Rattle.std.specs.Prelude.{◌≡◌, ◌-◌, ℕ, max, Some};
 ghost use Rattle.nom_error.specs.declared.kind.ErrorKind.TheVariants as Kind;
-ghost use Rattle.nom_traits.specs.Slices.{Slice, IsSeenAs};
+ghost use Rattle.nom_traits.specs.Slices.{Slice, IsModelledBy};
 ghost use Rattle.nom_internal.specs.Pinned.{slice_pinned};
 ghost use Rattle.nom_bytes.specs.ParsedRuns.{Reaches, bounded_meaning};
 ghost use Rattle.nom_bytes.specs.RunLaws.{run_lawful, run_steady};
@@ -25,7 +25,7 @@ fn bounded_run<I: Input, P: Predicate<I::Item>>(
     most: usize,
 ) -> (Option<usize>, usize)
     requires { P.IsSound (P.state predicate.now) }
-    ensures { Reaches I.seen (P.answers (P.state predicate.now)) most input result.0 result.1 }
+    ensures { Reaches I.model (P.answers (P.state predicate.now)) most input result.0 result.1 }
 {
     let mut count = 0usize;
     for (index, item) in input.iter_indices() {
@@ -65,11 +65,11 @@ impl<I: Input, P: Predicate<I::Item>, E: ParseError<I>> Parser<I> for TakeWhileM
 
     ghost state = { λ p. (P.state p.predicate, p.m, p.n) };
 
-    ghost Tree = { Slice I.seen };
+    ghost Tree = { Slice I.model };
 
-    ghost IsOutput = { λ _. IsSeenAs I.seen };
+    ghost IsOutput = { λ _. IsModelledBy I.model };
 
-    ghost meaning = { λ s. bounded_meaning I.seen (P.answers s.0) (P.IsSound s.0) E.errors s.1 s.2 };
+    ghost meaning = { λ s. bounded_meaning I.model (P.answers s.0) (P.IsSound s.0) E.errors s.1 s.2 };
 
     ghost Pins = { λ _. Unit {0} };
 
@@ -95,14 +95,14 @@ impl<I: Input, P: Predicate<I::Item>, E: ParseError<I>> Parser<I> for TakeWhileM
         }
     }
 
-    ghost lawful = { λ s k. run_lawful I.seen I.Item.IsValue I.values (P.answers s.0) (P.fixed s.0 k) (Some s.2) s.1 (P.IsSound s.0)
+    ghost lawful = { λ s k. run_lawful I.model I.Item.IsValue I.values (P.answers s.0) (P.fixed s.0 k) (Some s.2) s.1 (P.IsSound s.0)
         (λ i. E.errors.of_kind i Kind.TakeWhileMN) E.errors.grows };
 }
 
 impl<I: Input, P: Predicate<I::Item>, E: ParseError<I>> StreamParser<I> for TakeWhileMN<P, I, E> {
-    ghost pinned = { λ s k p. slice_pinned I.seen I.view I.views };
+    ghost pinned = { λ s k p. slice_pinned I.model I.view I.views };
 
-    ghost steady = { λ s k. run_steady I.seen I.Item.IsValue I.values (P.answers s.0) (P.fixed s.0 k) (Some s.2) s.1 (P.IsSound s.0)
+    ghost steady = { λ s k. run_steady I.model I.Item.IsValue I.values (P.answers s.0) (P.fixed s.0 k) (Some s.2) s.1 (P.IsSound s.0)
         (λ i. E.errors.of_kind i Kind.TakeWhileMN) E.errors.grows };
 }
 

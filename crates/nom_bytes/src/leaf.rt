@@ -1,6 +1,6 @@
 //! The parsers of items.
 ghost use Rattle.std.specs.Prelude.{◌≡◌, ℕ};
-ghost use Rattle.nom_traits.specs.Slices.{Slice, IsSeenAs};
+ghost use Rattle.nom_traits.specs.Slices.{Slice, IsModelledBy};
 ghost use Rattle.nom_internal.specs.Pinned.{slice_pinned};
 ghost use Rattle.nom_bytes.specs.Takes.{take_meaning};
 ghost use Rattle.nom_bytes.specs.TakeLaws.{take_lawful, take_steady};
@@ -33,11 +33,11 @@ impl<I: Input, E: ParseError<I>> Parser<I> for Take<I, E> {
 
     ghost state = { λ p. p.count };
 
-    ghost Tree = { Slice I.seen };
+    ghost Tree = { Slice I.model };
 
-    ghost IsOutput = { λ _. IsSeenAs I.seen };
+    ghost IsOutput = { λ _. IsModelledBy I.model };
 
-    ghost meaning = { λ count. take_meaning I.seen E.errors I.lack count };
+    ghost meaning = { λ count. take_meaning I.model E.errors I.lack count };
 
     ghost Pins = { λ _. Unit {0} };
 
@@ -50,13 +50,13 @@ impl<I: Input, E: ParseError<I>> Parser<I> for Take<I, E> {
         }
     }
 
-    ghost lawful = { λ count k. take_lawful I.seen E.errors I.lack count };
+    ghost lawful = { λ count k. take_lawful I.model E.errors I.lack count };
 }
 
 impl<I: Input, E: ParseError<I>> StreamParser<I> for Take<I, E> {
-    ghost pinned = { λ s k p. slice_pinned I.seen I.view I.views };
+    ghost pinned = { λ s k p. slice_pinned I.model I.view I.views };
 
-    ghost steady = { λ count k. take_steady I.seen E.errors I.lack count };
+    ghost steady = { λ count k. take_steady I.model E.errors I.lack count };
 }
 
 /// A tag, made by `tag`.
@@ -74,19 +74,19 @@ impl<T: Copy, I: Input + Compare<T>, E: ParseError<I>> Parser<I> for Tag<T, I, E
     // Tags that are equal as models are one parser.
     ghost State = { I.Tag };
 
-    ghost state = { λ p. I.tag_seen p.tag };
+    ghost state = { λ p. I.tag_model p.tag };
 
-    ghost Tree = { Slice I.seen };
+    ghost Tree = { Slice I.model };
 
-    ghost IsOutput = { λ _. IsSeenAs I.seen };
+    ghost IsOutput = { λ _. IsModelledBy I.model };
 
-    ghost meaning = { λ tag. tag_meaning I.seen E.errors I.tag_size I.compares tag };
+    ghost meaning = { λ tag. tag_meaning I.model E.errors I.tag_size I.compares tag };
 
     ghost Pins = { λ _. Unit {0} };
 
     #[inline(always)]
     fn process<OM: OutputMode>(&mut self, input: I) -> PResult<I, I, E> {
-        input.known();
+        input.prove_known();
         match input.compare(self.tag) {
             CompareResult::Ok => {
                 let n = I::tag_len(self.tag);
@@ -101,11 +101,11 @@ impl<T: Copy, I: Input + Compare<T>, E: ParseError<I>> Parser<I> for Tag<T, I, E
         }
     }
 
-    ghost lawful = { λ tag k. tag_lawful I.seen I.lawful E.errors I.tag_size I.compares I.comparing tag };
+    ghost lawful = { λ tag k. tag_lawful I.model I.lawful E.errors I.tag_size I.compares I.comparing tag };
 }
 
 impl<T: Copy, I: Input + Compare<T>, E: ParseError<I>> StreamParser<I> for Tag<T, I, E> {
-    ghost pinned = { λ s k p. slice_pinned I.seen I.view I.views };
+    ghost pinned = { λ s k p. slice_pinned I.model I.view I.views };
 
-    ghost steady = { λ tag k. tag_steady I.seen I.lawful E.errors I.tag_size I.compares I.comparing tag };
+    ghost steady = { λ tag k. tag_steady I.model I.lawful E.errors I.tag_size I.compares I.comparing tag };
 }

@@ -1,5 +1,5 @@
 //! Tags without the case of ASCII letters.
-ghost use Rattle.nom_traits.specs.Slices.{Slice, IsSeenAs};
+ghost use Rattle.nom_traits.specs.Slices.{Slice, IsModelledBy};
 ghost use Rattle.nom_internal.specs.Pinned.{slice_pinned};
 ghost use Rattle.nom_bytes.specs.Tags.{tag_meaning};
 ghost use Rattle.nom_bytes.specs.TagLaws.{tag_lawful, tag_steady};
@@ -29,19 +29,19 @@ impl<T: Copy, I: Input + Compare<T>, E: ParseError<I>> Parser<I> for TagNoCase<T
     // Tags that are equal as models are one parser.
     ghost State = { I.Tag };
 
-    ghost state = { λ p. I.tag_seen p.tag };
+    ghost state = { λ p. I.tag_model p.tag };
 
-    ghost Tree = { Slice I.seen };
+    ghost Tree = { Slice I.model };
 
-    ghost IsOutput = { λ _. IsSeenAs I.seen };
+    ghost IsOutput = { λ _. IsModelledBy I.model };
 
-    ghost meaning = { λ tag. tag_meaning I.seen E.errors I.tag_size I.compares_no_case tag };
+    ghost meaning = { λ tag. tag_meaning I.model E.errors I.tag_size I.compares_no_case tag };
 
     ghost Pins = { λ _. Unit {0} };
 
     #[inline(always)]
     fn process<OM: OutputMode>(&mut self, input: I) -> PResult<I, I, E> {
-        input.known();
+        input.prove_known();
         match input.compare_no_case(self.tag) {
             CompareResult::Ok => {
                 let n = I::tag_len(self.tag);
@@ -56,11 +56,11 @@ impl<T: Copy, I: Input + Compare<T>, E: ParseError<I>> Parser<I> for TagNoCase<T
         }
     }
 
-    ghost lawful = { λ tag k. tag_lawful I.seen I.lawful E.errors I.tag_size I.compares_no_case I.comparing_no_case tag };
+    ghost lawful = { λ tag k. tag_lawful I.model I.lawful E.errors I.tag_size I.compares_no_case I.comparing_no_case tag };
 }
 
 impl<T: Copy, I: Input + Compare<T>, E: ParseError<I>> StreamParser<I> for TagNoCase<T, I, E> {
-    ghost pinned = { λ s k p. slice_pinned I.seen I.view I.views };
+    ghost pinned = { λ s k p. slice_pinned I.model I.view I.views };
 
-    ghost steady = { λ tag k. tag_steady I.seen I.lawful E.errors I.tag_size I.compares_no_case I.comparing_no_case tag };
+    ghost steady = { λ tag k. tag_steady I.model I.lawful E.errors I.tag_size I.compares_no_case I.comparing_no_case tag };
 }

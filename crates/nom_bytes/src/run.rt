@@ -1,6 +1,6 @@
 //! The parsers of runs that may be empty.
 ghost use Rattle.std.specs.Prelude.{◌≡◌, None};
-ghost use Rattle.nom_traits.specs.Slices.{Slice, IsSeenAs};
+ghost use Rattle.nom_traits.specs.Slices.{Slice, IsModelledBy};
 ghost use Rattle.nom_internal.specs.Pinned.{slice_pinned};
 ghost use Rattle.nom_bytes.specs.ParsedRuns.{run_meaning};
 ghost use Rattle.nom_bytes.specs.RunLaws.{run_lawful, run_steady};
@@ -29,11 +29,11 @@ impl<I: Input, P: Predicate<I::Item>, E: ParseError<I>> Parser<I> for SplitPosit
 
     ghost state = { λ p. P.state p.predicate };
 
-    ghost Tree = { Slice I.seen };
+    ghost Tree = { Slice I.model };
 
-    ghost IsOutput = { λ _. IsSeenAs I.seen };
+    ghost IsOutput = { λ _. IsModelledBy I.model };
 
-    ghost meaning = { λ s. run_meaning I.seen (P.answers s) (P.IsSound s) };
+    ghost meaning = { λ s. run_meaning I.model (P.answers s) (P.IsSound s) };
 
     ghost Pins = { λ _. Unit {0} };
 
@@ -43,13 +43,13 @@ impl<I: Input, P: Predicate<I::Item>, E: ParseError<I>> Parser<I> for SplitPosit
         input.split_at_position_mode::<OM, _, E>(|item| !predicate.meets(item))
     }
 
-    ghost lawful = { λ s k. run_lawful I.seen I.Item.IsValue I.values (P.answers s) (P.fixed s k) None 0 (P.IsSound s) (λ _ _. ⊥) ⊥ };
+    ghost lawful = { λ s k. run_lawful I.model I.Item.IsValue I.values (P.answers s) (P.fixed s k) None 0 (P.IsSound s) (λ _ _. ⊥) ⊥ };
 }
 
 impl<I: Input, P: Predicate<I::Item>, E: ParseError<I>> StreamParser<I> for SplitPosition<P, I, E> {
-    ghost pinned = { λ s k p. slice_pinned I.seen I.view I.views };
+    ghost pinned = { λ s k p. slice_pinned I.model I.view I.views };
 
-    ghost steady = { λ s k. run_steady I.seen I.Item.IsValue I.values (P.answers s) (P.fixed s k) None 0 {E = E} (P.IsSound s) (λ _ _. ⊥) ⊥ };
+    ghost steady = { λ s k. run_steady I.model I.Item.IsValue I.values (P.answers s) (P.fixed s k) None 0 {E = E} (P.IsSound s) (λ _ _. ⊥) ⊥ };
 }
 
 /// The longest list of first items that meet the test; it may be empty.

@@ -1,7 +1,7 @@
 //! The parsers of runs of one item at least.
 ghost use Rattle.std.specs.Prelude.{◌≡◌, None};
 ghost use Rattle.nom_error.specs.declared.kind.ErrorKind.{ErrorKind};
-ghost use Rattle.nom_traits.specs.Slices.{Slice, IsSeenAs};
+ghost use Rattle.nom_traits.specs.Slices.{Slice, IsModelledBy};
 ghost use Rattle.nom_internal.specs.Pinned.{slice_pinned};
 ghost use Rattle.nom_bytes.specs.ParsedRuns.{run1_meaning};
 ghost use Rattle.nom_bytes.specs.RunLaws.{run_lawful, run_steady};
@@ -32,11 +32,11 @@ impl<I: Input, P: Predicate<I::Item>, E: ParseError<I>> Parser<I> for SplitPosit
 
     ghost state = { λ p. (P.state p.predicate, p.kind) };
 
-    ghost Tree = { Slice I.seen };
+    ghost Tree = { Slice I.model };
 
-    ghost IsOutput = { λ _. IsSeenAs I.seen };
+    ghost IsOutput = { λ _. IsModelledBy I.model };
 
-    ghost meaning = { λ s. run1_meaning I.seen (P.answers s.0) (P.IsSound s.0) E.errors s.1 };
+    ghost meaning = { λ s. run1_meaning I.model (P.answers s.0) (P.IsSound s.0) E.errors s.1 };
 
     ghost Pins = { λ _. Unit {0} };
 
@@ -46,15 +46,15 @@ impl<I: Input, P: Predicate<I::Item>, E: ParseError<I>> Parser<I> for SplitPosit
         input.split_at_position_mode1::<OM, _, E>(|item| !predicate.meets(item), self.kind)
     }
 
-    ghost lawful = { λ s k. run_lawful I.seen I.Item.IsValue I.values (P.answers s.0) (P.fixed s.0 k) None 1 (P.IsSound s.0)
+    ghost lawful = { λ s k. run_lawful I.model I.Item.IsValue I.values (P.answers s.0) (P.fixed s.0 k) None 1 (P.IsSound s.0)
         (λ i. E.errors.of_kind i s.1) E.errors.grows };
 }
 
 impl<I: Input, P: Predicate<I::Item>, E: ParseError<I>> StreamParser<I>
     for SplitPosition1<P, I, E> {
-    ghost pinned = { λ s k p. slice_pinned I.seen I.view I.views };
+    ghost pinned = { λ s k p. slice_pinned I.model I.view I.views };
 
-    ghost steady = { λ s k. run_steady I.seen I.Item.IsValue I.values (P.answers s.0) (P.fixed s.0 k) None 1 (P.IsSound s.0)
+    ghost steady = { λ s k. run_steady I.model I.Item.IsValue I.values (P.answers s.0) (P.fixed s.0 k) None 1 (P.IsSound s.0)
         (λ i. E.errors.of_kind i s.1) E.errors.grows };
 }
 

@@ -1,6 +1,6 @@
 //! Items up to a needle.
 ghost use Rattle.std.specs.Prelude.{◌≡◌, true, false};
-ghost use Rattle.nom_traits.specs.Slices.{Slice, IsSeenAs};
+ghost use Rattle.nom_traits.specs.Slices.{Slice, IsModelledBy};
 ghost use Rattle.nom_internal.specs.Pinned.{slice_pinned};
 ghost use Rattle.nom_bytes.specs.Untils.{until_meaning};
 ghost use Rattle.nom_bytes.specs.UntilLaws.{until_lawful, until_steady};
@@ -30,19 +30,19 @@ impl<T: Copy, I: Input + FindSubstring<T>, E: ParseError<I>> Parser<I> for TakeU
     // Needles that are equal as models are one parser.
     ghost State = { I.Needle };
 
-    ghost state = { λ p. I.needle_seen p.tag };
+    ghost state = { λ p. I.needle_model p.tag };
 
-    ghost Tree = { Slice I.seen };
+    ghost Tree = { Slice I.model };
 
-    ghost IsOutput = { λ _. IsSeenAs I.seen };
+    ghost IsOutput = { λ _. IsModelledBy I.model };
 
-    ghost meaning = { λ needle. until_meaning I.seen E.errors I.finds false needle };
+    ghost meaning = { λ needle. until_meaning I.model E.errors I.finds false needle };
 
     ghost Pins = { λ _. Unit {0} };
 
     #[inline(always)]
     fn process<OM: OutputMode>(&mut self, input: I) -> PResult<I, I, E> {
-        input.known();
+        input.prove_known();
         match input.find_substring(self.tag) {
             Some(index) => Ok((input.take_from(index), front::<OM::Output, I>(input, index))),
             None if OM::Incomplete::STREAMING => Err(Err::Incomplete(Needed::Unknown)),
@@ -50,14 +50,14 @@ impl<T: Copy, I: Input + FindSubstring<T>, E: ParseError<I>> Parser<I> for TakeU
         }
     }
 
-    ghost lawful = { λ needle k. until_lawful I.seen I.lawful E.errors I.finds I.finding false needle };
+    ghost lawful = { λ needle k. until_lawful I.model I.lawful E.errors I.finds I.finding false needle };
 }
 
 impl<T: Copy, I: Input + FindSubstring<T>, E: ParseError<I>> StreamParser<I>
     for TakeUntil<T, I, E> {
-    ghost pinned = { λ s k p. slice_pinned I.seen I.view I.views };
+    ghost pinned = { λ s k p. slice_pinned I.model I.view I.views };
 
-    ghost steady = { λ needle k. until_steady I.seen I.lawful E.errors I.finds I.finding false needle };
+    ghost steady = { λ needle k. until_steady I.model I.lawful E.errors I.finds I.finding false needle };
 }
 
 /// The items up to the first place of a needle, at least one; made by `take_until1`.
@@ -75,19 +75,19 @@ impl<T: Copy, I: Input + FindSubstring<T>, E: ParseError<I>> Parser<I> for TakeU
     // Needles that are equal as models are one parser.
     ghost State = { I.Needle };
 
-    ghost state = { λ p. I.needle_seen p.tag };
+    ghost state = { λ p. I.needle_model p.tag };
 
-    ghost Tree = { Slice I.seen };
+    ghost Tree = { Slice I.model };
 
-    ghost IsOutput = { λ _. IsSeenAs I.seen };
+    ghost IsOutput = { λ _. IsModelledBy I.model };
 
-    ghost meaning = { λ needle. until_meaning I.seen E.errors I.finds true needle };
+    ghost meaning = { λ needle. until_meaning I.model E.errors I.finds true needle };
 
     ghost Pins = { λ _. Unit {0} };
 
     #[inline(always)]
     fn process<OM: OutputMode>(&mut self, input: I) -> PResult<I, I, E> {
-        input.known();
+        input.prove_known();
         match input.find_substring(self.tag) {
             Some(0) => Err(refusal::<OM::Error, I, E>(input, ErrorKind::TakeUntil)),
             Some(n) => Ok((input.take_from(n), front::<OM::Output, I>(input, n))),
@@ -96,12 +96,12 @@ impl<T: Copy, I: Input + FindSubstring<T>, E: ParseError<I>> Parser<I> for TakeU
         }
     }
 
-    ghost lawful = { λ needle k. until_lawful I.seen I.lawful E.errors I.finds I.finding true needle };
+    ghost lawful = { λ needle k. until_lawful I.model I.lawful E.errors I.finds I.finding true needle };
 }
 
 impl<T: Copy, I: Input + FindSubstring<T>, E: ParseError<I>> StreamParser<I>
     for TakeUntil1<T, I, E> {
-    ghost pinned = { λ s k p. slice_pinned I.seen I.view I.views };
+    ghost pinned = { λ s k p. slice_pinned I.model I.view I.views };
 
-    ghost steady = { λ needle k. until_steady I.seen I.lawful E.errors I.finds I.finding true needle };
+    ghost steady = { λ needle k. until_steady I.model I.lawful E.errors I.finds I.finding true needle };
 }

@@ -4,7 +4,7 @@ use Rattle.nom_error.specs.declared.kind.ErrorKind.{ErrorKind}
 use Rattle.nom_error.specs.Errors.{Errors}
 use Rattle.nom_traits.specs.declared.character.AsciiClass.{AsciiClass}
 use Rattle.nom_traits.specs.Classes.{has_code}
-use Rattle.nom_traits.specs.Input.{Seen, AreValues}
+use Rattle.nom_traits.specs.Input.{Model, AreValues}
 use Rattle.nom_traits.specs.Slices.{Slice}
 use Rattle.nom_internal.specs.Meaning.{Meaning, IsLawful, IsSteady}
 use Rattle.nom_internal.specs.Leaf.{leaf_meaning}
@@ -30,11 +30,11 @@ abbrev pub IsOf : {A : Type 0} → (code : A → ℕ) → AsciiClass → A → B
 IsOf code class x b = has_code class (code x) ≡ b
 
 -- the longest list of first items that are of the class
-abbrev pub class_meaning : {I A E : Type 0} (w : Seen I A) → (code : A → ℕ) → Errors I E → AsciiClass → Option ErrorKind → Meaning I (Slice w) E
+abbrev pub class_meaning : {I A E : Type 0} (w : Model I A) → (code : A → ℕ) → Errors I E → AsciiClass → Option ErrorKind → Meaning I (Slice w) E
 class_meaning w code errs class wanted =
     leaf_meaning (Unit {0}) (wanted_error errs wanted) (wanted_grows errs wanted) (runs w (IsOf code class) None (least_of wanted))
 
-module _ {I A E : Type 0} (w : Seen I A) (IsValue : A → Type 0) (values : (i : I) → w.IsKnown i → AreValues IsValue (w.elements i)) (code : A → ℕ)
+module _ {I A E : Type 0} (w : Model I A) (IsValue : A → Type 0) (values : (i : I) → w.IsKnown i → AreValues IsValue (w.elements i)) (code : A → ℕ)
     (errs : Errors I E) (class : AsciiClass) (wanted : Option ErrorKind) where
   one_class : IsFixed IsValue (IsOf code class)
   one_class x v p q = cc (p, q)

@@ -1,3 +1,3 @@
 pub mod ClassRuns
-pub mod SightLaws
-pub mod Sights
+pub mod LineMatchLaws
+pub mod LineMatches

@@ -7,8 +7,8 @@ ghost use Rattle.nom_error.specs.declared.kind.ErrorKind.TheVariants as Kind;
 ghost use Rattle.nom_traits.specs.declared.character.AsciiClass.{AsciiClass};
 ghost use Rattle.nom_traits.specs.declared.character.AsciiClass.TheVariants as Class;
 ghost use Rattle.nom_traits.specs.Classes.{IsInside, IsOutside};
-ghost use Rattle.nom_traits.specs.Input.{IsPlace};
-ghost use Rattle.nom_traits.specs.Slices.{Slice, IsSeenAs};
+ghost use Rattle.nom_traits.specs.Input.{IsBoundary};
+ghost use Rattle.nom_traits.specs.Slices.{Slice, IsModelledBy};
 ghost use Rattle.nom_traits.specs.Splits.{Splits, Never, FrontBuilt, IsRunLength, IsRunOpen};
 ghost use Rattle.nom_internal.specs.Meaning.{ShowsMeaning};
 ghost use Rattle.nom_internal.specs.Pinned.{slice_pinned};
@@ -29,8 +29,8 @@ fn class_len<I: Input, S: IsStreaming>(input: I, class: AsciiClass) -> Option<us
 where
     I::Item: AsChar,
     ensures { MatchOption result
-        (IsRunOpen I.seen (λ x. IsInside class (I.Item.code x)) (λ x. IsOutside class (I.Item.code x)) S.STREAMING input)
-        (IsRunLength I.seen (λ x. IsInside class (I.Item.code x)) (λ x. IsOutside class (I.Item.code x)) S.STREAMING input) }
+        (IsRunOpen I.model (λ x. IsInside class (I.Item.code x)) (λ x. IsOutside class (I.Item.code x)) S.STREAMING input)
+        (IsRunLength I.model (λ x. IsInside class (I.Item.code x)) (λ x. IsOutside class (I.Item.code x)) S.STREAMING input) }
 {
     match input.position_outside(class) {
         Some(n) => Some(n),
@@ -42,8 +42,8 @@ where
 /// The first items of an input, of length `n`, where outputs are built.
 #[inline(always)]
 fn first_items<M: Mode, I: Input>(input: I, n: usize) -> Option<I>
-    requires { IsPlace I.seen input n }
-    ensures { FrontBuilt I.seen M.BUILDS input n result }
+    requires { IsBoundary I.model input n }
+    ensures { FrontBuilt I.model M.BUILDS input n result }
 {
     if M::BUILDS { Some(input.take(n)) } else { None }
 }
@@ -56,8 +56,8 @@ fn class_split<OM: OutputMode, I: Input, E: ParseError<I>>(
 ) -> PResult<I, I, E>
 where
     I::Item: AsChar,
-    ensures { Splits I.seen (λ x. IsInside class (I.Item.code x)) (λ x. IsOutside class (I.Item.code x)) OM.Incomplete.STREAMING input false
-        (FrontBuilt I.seen OM.Output.BUILDS) Never result }
+    ensures { Splits I.model (λ x. IsInside class (I.Item.code x)) (λ x. IsOutside class (I.Item.code x)) OM.Incomplete.STREAMING input false
+        (FrontBuilt I.model OM.Output.BUILDS) Never result }
 {
     match class_len::<I, OM::Incomplete>(input, class) {
         Some(n) => Ok((input.take_from(n), first_items::<OM::Output, I>(input, n))),
@@ -74,8 +74,8 @@ fn class_split1<OM: OutputMode, I: Input, E: ParseError<I>>(
 ) -> PResult<I, I, E>
 where
     I::Item: AsChar,
-    ensures { Splits I.seen (λ x. IsInside class (I.Item.code x))
-        (λ x. IsOutside class (I.Item.code x)) OM.Incomplete.STREAMING input true (FrontBuilt I.seen OM.Output.BUILDS)
+    ensures { Splits I.model (λ x. IsInside class (I.Item.code x))
+        (λ x. IsOutside class (I.Item.code x)) OM.Incomplete.STREAMING input true (FrontBuilt I.model OM.Output.BUILDS)
         (Refuses (E.errors.of_kind input kind) E.errors.grows OM.Error.BUILDS) result }
 {
     match class_len::<I, OM::Incomplete>(input, class) {
@@ -94,7 +94,7 @@ pub(crate) fn class_run<OM: OutputMode, I: Input, E: ParseError<I>>(
 ) -> PResult<I, I, E>
 where
     I::Item: AsChar,
-    ensures { ShowsMeaning I.seen (IsSeenAs I.seen) (class_meaning I.seen I.Item.code E.errors class wanted)
+    ensures { ShowsMeaning I.model (IsModelledBy I.model) (class_meaning I.model I.Item.code E.errors class wanted)
         (modes OM.Output.BUILDS OM.Error.BUILDS OM.Incomplete.STREAMING) input result }
 {
     match wanted {
@@ -123,11 +123,11 @@ where
 
     ghost state = { λ p. (p.class, p.wanted) };
 
-    ghost Tree = { Slice I.seen };
+    ghost Tree = { Slice I.model };
 
-    ghost IsOutput = { λ _. IsSeenAs I.seen };
+    ghost IsOutput = { λ _. IsModelledBy I.model };
 
-    ghost meaning = { λ s. class_meaning I.seen I.Item.code E.errors s.0 s.1 };
+    ghost meaning = { λ s. class_meaning I.model I.Item.code E.errors s.0 s.1 };
 
     ghost Pins = { λ _. Unit {0} };
 
@@ -136,16 +136,16 @@ where
         class_run::<OM, I, E>(input, self.class, self.wanted)
     }
 
-    ghost lawful = { λ s k. class_lawful I.seen I.Item.IsValue I.values I.Item.code E.errors s.0 s.1 };
+    ghost lawful = { λ s k. class_lawful I.model I.Item.IsValue I.values I.Item.code E.errors s.0 s.1 };
 }
 
 impl<I: Input, E: ParseError<I>> StreamParser<I> for ClassRun<I, E>
 where
     I::Item: AsChar,
 {
-    ghost pinned = { λ s k p. slice_pinned I.seen I.view I.views };
+    ghost pinned = { λ s k p. slice_pinned I.model I.view I.views };
 
-    ghost steady = { λ s k. class_steady I.seen I.Item.IsValue I.values I.Item.code E.errors s.0 s.1 };
+    ghost steady = { λ s k. class_steady I.model I.Item.IsValue I.values I.Item.code E.errors s.0 s.1 };
 }
 
 /// Decimal digits, one at least, made by `digit1`.
@@ -166,11 +166,11 @@ where
 
     ghost state = { λ _. tt };
 
-    ghost Tree = { Slice I.seen };
+    ghost Tree = { Slice I.model };
 
-    ghost IsOutput = { λ _. IsSeenAs I.seen };
+    ghost IsOutput = { λ _. IsModelledBy I.model };
 
-    ghost meaning = { λ _. class_meaning I.seen I.Item.code E.errors Class.Digit (Some Kind.Digit) };
+    ghost meaning = { λ _. class_meaning I.model I.Item.code E.errors Class.Digit (Some Kind.Digit) };
 
     ghost Pins = { λ _. Unit {0} };
 
@@ -179,16 +179,16 @@ where
         class_run::<OM, I, E>(input, AsciiClass::Digit, Some(ErrorKind::Digit))
     }
 
-    ghost lawful = { λ _ k. class_lawful I.seen I.Item.IsValue I.values I.Item.code E.errors Class.Digit (Some Kind.Digit) };
+    ghost lawful = { λ _ k. class_lawful I.model I.Item.IsValue I.values I.Item.code E.errors Class.Digit (Some Kind.Digit) };
 }
 
 impl<I: Input, E: ParseError<I>> StreamParser<I> for Digit1<I, E>
 where
     I::Item: AsChar,
 {
-    ghost pinned = { λ s k p. slice_pinned I.seen I.view I.views };
+    ghost pinned = { λ s k p. slice_pinned I.model I.view I.views };
 
-    ghost steady = { λ _ k. class_steady I.seen I.Item.IsValue I.values I.Item.code E.errors Class.Digit (Some Kind.Digit) };
+    ghost steady = { λ _ k. class_steady I.model I.Item.IsValue I.values I.Item.code E.errors Class.Digit (Some Kind.Digit) };
 }
 
 /// Spaces, tabs and ends of lines, made by `multispace0`.
@@ -209,11 +209,11 @@ where
 
     ghost state = { λ _. tt };
 
-    ghost Tree = { Slice I.seen };
+    ghost Tree = { Slice I.model };
 
-    ghost IsOutput = { λ _. IsSeenAs I.seen };
+    ghost IsOutput = { λ _. IsModelledBy I.model };
 
-    ghost meaning = { λ _. class_meaning I.seen I.Item.code E.errors Class.MultiSpace None };
+    ghost meaning = { λ _. class_meaning I.model I.Item.code E.errors Class.MultiSpace None };
 
     ghost Pins = { λ _. Unit {0} };
 
@@ -222,14 +222,14 @@ where
         class_run::<OM, I, E>(input, AsciiClass::MultiSpace, None)
     }
 
-    ghost lawful = { λ _ k. class_lawful I.seen I.Item.IsValue I.values I.Item.code E.errors Class.MultiSpace None };
+    ghost lawful = { λ _ k. class_lawful I.model I.Item.IsValue I.values I.Item.code E.errors Class.MultiSpace None };
 }
 
 impl<I: Input, E: ParseError<I>> StreamParser<I> for MultiSpace0<I, E>
 where
     I::Item: AsChar,
 {
-    ghost pinned = { λ s k p. slice_pinned I.seen I.view I.views };
+    ghost pinned = { λ s k p. slice_pinned I.model I.view I.views };
 
-    ghost steady = { λ _ k. class_steady I.seen I.Item.IsValue I.values I.Item.code E.errors Class.MultiSpace None };
+    ghost steady = { λ _ k. class_steady I.model I.Item.IsValue I.values I.Item.code E.errors Class.MultiSpace None };
 }

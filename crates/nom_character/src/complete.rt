@@ -1,11 +1,11 @@
 //! Parsers of characters in one mode: no more input may come, whatever mode is asked for.
 ghost use Rattle.std.specs.Prelude.{◌≡◌, Some, None, false};
-ghost use Rattle.nom_traits.specs.Slices.{IsSeenAs};
+ghost use Rattle.nom_traits.specs.Slices.{IsModelledBy};
 ghost use Rattle.nom_traits.specs.View.{itself};
 ghost use Rattle.nom_func.specs.Func.{AnswersBy};
 ghost use Rattle.nom_character.specs.ClassRuns.{class_meaning};
-ghost use Rattle.nom_first.specs.Heads.{any_meaning, char_meaning};
-ghost use Rattle.nom_character.specs.Sights.{crlf_meaning, line_ending_meaning, line_meaning};
+ghost use Rattle.nom_character_first.specs.FirstItem.{anychar_meaning, char_meaning};
+ghost use Rattle.nom_character.specs.LineMatches.{crlf_meaning, line_ending_meaning, line_meaning};
 
 use crate::class::ClassRun;
 use crate::line::{Crlf, LineEnding, NotLineEnding};
@@ -65,7 +65,7 @@ fn of_class<T: Input, E: ParseError<T>>(
 ) -> IResult<T, T, E>
 where
     T::Item: AsChar,
-    ensures { AnswersBy T.seen T.view (IsSeenAs T.seen) (class_meaning T.seen T.Item.code E.errors class wanted) false input result }
+    ensures { AnswersBy T.model T.view (IsModelledBy T.model) (class_meaning T.model T.Item.code E.errors class wanted) false input result }
 {
     let mut run = ClassRun::<T, E> {
         class,
@@ -80,7 +80,7 @@ where
 pub fn alpha0<T: Input, E: ParseError<T>>(input: T) -> IResult<T, T, E>
 where
     T::Item: AsChar,
-    ensures { AnswersBy T.seen T.view (IsSeenAs T.seen) (class_meaning T.seen T.Item.code E.errors AsciiClass.Alpha None) false input result }
+    ensures { AnswersBy T.model T.view (IsModelledBy T.model) (class_meaning T.model T.Item.code E.errors AsciiClass.Alpha None) false input result }
 {
     of_class(input, AsciiClass::Alpha, None)
 }
@@ -91,7 +91,8 @@ where
 pub fn alpha1<T: Input, E: ParseError<T>>(input: T) -> IResult<T, T, E>
 where
     T::Item: AsChar,
-    ensures { AnswersBy T.seen T.view (IsSeenAs T.seen) (class_meaning T.seen T.Item.code E.errors AsciiClass.Alpha (Some ErrorKind.Alpha)) false input result }
+    ensures { AnswersBy T.model T.view (IsModelledBy T.model) (class_meaning T.model T.Item.code E.errors AsciiClass.Alpha (Some ErrorKind.Alpha)) false input
+        result }
 {
     of_class(input, AsciiClass::Alpha, Some(ErrorKind::Alpha))
 }
@@ -101,7 +102,7 @@ where
 pub fn digit0<T: Input, E: ParseError<T>>(input: T) -> IResult<T, T, E>
 where
     T::Item: AsChar,
-    ensures { AnswersBy T.seen T.view (IsSeenAs T.seen) (class_meaning T.seen T.Item.code E.errors AsciiClass.Digit None) false input result }
+    ensures { AnswersBy T.model T.view (IsModelledBy T.model) (class_meaning T.model T.Item.code E.errors AsciiClass.Digit None) false input result }
 {
     of_class(input, AsciiClass::Digit, None)
 }
@@ -112,7 +113,8 @@ where
 pub fn digit1<T: Input, E: ParseError<T>>(input: T) -> IResult<T, T, E>
 where
     T::Item: AsChar,
-    ensures { AnswersBy T.seen T.view (IsSeenAs T.seen) (class_meaning T.seen T.Item.code E.errors AsciiClass.Digit (Some ErrorKind.Digit)) false input result }
+    ensures { AnswersBy T.model T.view (IsModelledBy T.model) (class_meaning T.model T.Item.code E.errors AsciiClass.Digit (Some ErrorKind.Digit)) false input
+        result }
 {
     of_class(input, AsciiClass::Digit, Some(ErrorKind::Digit))
 }
@@ -122,7 +124,7 @@ where
 pub fn hex_digit0<T: Input, E: ParseError<T>>(input: T) -> IResult<T, T, E>
 where
     T::Item: AsChar,
-    ensures { AnswersBy T.seen T.view (IsSeenAs T.seen) (class_meaning T.seen T.Item.code E.errors AsciiClass.HexDigit None) false input result }
+    ensures { AnswersBy T.model T.view (IsModelledBy T.model) (class_meaning T.model T.Item.code E.errors AsciiClass.HexDigit None) false input result }
 {
     of_class(input, AsciiClass::HexDigit, None)
 }
@@ -133,7 +135,7 @@ where
 pub fn hex_digit1<T: Input, E: ParseError<T>>(input: T) -> IResult<T, T, E>
 where
     T::Item: AsChar,
-    ensures { AnswersBy T.seen T.view (IsSeenAs T.seen) (class_meaning T.seen T.Item.code E.errors AsciiClass.HexDigit (Some ErrorKind.HexDigit)) false
+    ensures { AnswersBy T.model T.view (IsModelledBy T.model) (class_meaning T.model T.Item.code E.errors AsciiClass.HexDigit (Some ErrorKind.HexDigit)) false
         input result }
 {
     of_class(input, AsciiClass::HexDigit, Some(ErrorKind::HexDigit))
@@ -144,7 +146,7 @@ where
 pub fn oct_digit0<T: Input, E: ParseError<T>>(input: T) -> IResult<T, T, E>
 where
     T::Item: AsChar,
-    ensures { AnswersBy T.seen T.view (IsSeenAs T.seen) (class_meaning T.seen T.Item.code E.errors AsciiClass.OctDigit None) false input result }
+    ensures { AnswersBy T.model T.view (IsModelledBy T.model) (class_meaning T.model T.Item.code E.errors AsciiClass.OctDigit None) false input result }
 {
     of_class(input, AsciiClass::OctDigit, None)
 }
@@ -155,7 +157,7 @@ where
 pub fn oct_digit1<T: Input, E: ParseError<T>>(input: T) -> IResult<T, T, E>
 where
     T::Item: AsChar,
-    ensures { AnswersBy T.seen T.view (IsSeenAs T.seen) (class_meaning T.seen T.Item.code E.errors AsciiClass.OctDigit (Some ErrorKind.OctDigit)) false
+    ensures { AnswersBy T.model T.view (IsModelledBy T.model) (class_meaning T.model T.Item.code E.errors AsciiClass.OctDigit (Some ErrorKind.OctDigit)) false
         input result }
 {
     of_class(input, AsciiClass::OctDigit, Some(ErrorKind::OctDigit))
@@ -166,7 +168,7 @@ where
 pub fn bin_digit0<T: Input, E: ParseError<T>>(input: T) -> IResult<T, T, E>
 where
     T::Item: AsChar,
-    ensures { AnswersBy T.seen T.view (IsSeenAs T.seen) (class_meaning T.seen T.Item.code E.errors AsciiClass.BinDigit None) false input result }
+    ensures { AnswersBy T.model T.view (IsModelledBy T.model) (class_meaning T.model T.Item.code E.errors AsciiClass.BinDigit None) false input result }
 {
     of_class(input, AsciiClass::BinDigit, None)
 }
@@ -177,7 +179,7 @@ where
 pub fn bin_digit1<T: Input, E: ParseError<T>>(input: T) -> IResult<T, T, E>
 where
     T::Item: AsChar,
-    ensures { AnswersBy T.seen T.view (IsSeenAs T.seen) (class_meaning T.seen T.Item.code E.errors AsciiClass.BinDigit (Some ErrorKind.BinDigit)) false
+    ensures { AnswersBy T.model T.view (IsModelledBy T.model) (class_meaning T.model T.Item.code E.errors AsciiClass.BinDigit (Some ErrorKind.BinDigit)) false
         input result }
 {
     of_class(input, AsciiClass::BinDigit, Some(ErrorKind::BinDigit))
@@ -188,7 +190,7 @@ where
 pub fn alphanumeric0<T: Input, E: ParseError<T>>(input: T) -> IResult<T, T, E>
 where
     T::Item: AsChar,
-    ensures { AnswersBy T.seen T.view (IsSeenAs T.seen) (class_meaning T.seen T.Item.code E.errors AsciiClass.Alphanumeric None) false input result }
+    ensures { AnswersBy T.model T.view (IsModelledBy T.model) (class_meaning T.model T.Item.code E.errors AsciiClass.Alphanumeric None) false input result }
 {
     of_class(input, AsciiClass::Alphanumeric, None)
 }
@@ -199,7 +201,7 @@ where
 pub fn alphanumeric1<T: Input, E: ParseError<T>>(input: T) -> IResult<T, T, E>
 where
     T::Item: AsChar,
-    ensures { AnswersBy T.seen T.view (IsSeenAs T.seen) (class_meaning T.seen T.Item.code E.errors AsciiClass.Alphanumeric (Some ErrorKind.AlphaNumeric))
+    ensures { AnswersBy T.model T.view (IsModelledBy T.model) (class_meaning T.model T.Item.code E.errors AsciiClass.Alphanumeric (Some ErrorKind.AlphaNumeric))
         false input result }
 {
     of_class(
@@ -214,7 +216,7 @@ where
 pub fn space0<T: Input, E: ParseError<T>>(input: T) -> IResult<T, T, E>
 where
     T::Item: AsChar,
-    ensures { AnswersBy T.seen T.view (IsSeenAs T.seen) (class_meaning T.seen T.Item.code E.errors AsciiClass.Space None) false input result }
+    ensures { AnswersBy T.model T.view (IsModelledBy T.model) (class_meaning T.model T.Item.code E.errors AsciiClass.Space None) false input result }
 {
     of_class(input, AsciiClass::Space, None)
 }
@@ -225,7 +227,8 @@ where
 pub fn space1<T: Input, E: ParseError<T>>(input: T) -> IResult<T, T, E>
 where
     T::Item: AsChar,
-    ensures { AnswersBy T.seen T.view (IsSeenAs T.seen) (class_meaning T.seen T.Item.code E.errors AsciiClass.Space (Some ErrorKind.Space)) false input result }
+    ensures { AnswersBy T.model T.view (IsModelledBy T.model) (class_meaning T.model T.Item.code E.errors AsciiClass.Space (Some ErrorKind.Space)) false input
+        result }
 {
     of_class(input, AsciiClass::Space, Some(ErrorKind::Space))
 }
@@ -235,7 +238,7 @@ where
 pub fn multispace0<T: Input, E: ParseError<T>>(input: T) -> IResult<T, T, E>
 where
     T::Item: AsChar,
-    ensures { AnswersBy T.seen T.view (IsSeenAs T.seen) (class_meaning T.seen T.Item.code E.errors AsciiClass.MultiSpace None) false input result }
+    ensures { AnswersBy T.model T.view (IsModelledBy T.model) (class_meaning T.model T.Item.code E.errors AsciiClass.MultiSpace None) false input result }
 {
     of_class(input, AsciiClass::MultiSpace, None)
 }
@@ -246,7 +249,8 @@ where
 pub fn multispace1<T: Input, E: ParseError<T>>(input: T) -> IResult<T, T, E>
 where
     T::Item: AsChar,
-    ensures { AnswersBy T.seen T.view (IsSeenAs T.seen) (class_meaning T.seen T.Item.code E.errors AsciiClass.MultiSpace (Some ErrorKind.MultiSpace)) false
+    ensures { AnswersBy T.model T.view (IsModelledBy T.model) (class_meaning T.model T.Item.code E.errors AsciiClass.MultiSpace (Some ErrorKind.MultiSpace))
+        false
         input result }
 {
     of_class(input, AsciiClass::MultiSpace, Some(ErrorKind::MultiSpace))
@@ -257,7 +261,7 @@ where
 pub fn anychar<T: Input, E: ParseError<T>>(input: T) -> IResult<T, char, E>
 where
     T::Item: AsChar,
-    ensures { AnswersBy T.seen itself (λ t c. c ≡ t) (any_meaning T.seen T.Item.code E.errors) false input result }
+    ensures { AnswersBy T.model itself (λ t c. c ≡ t) (anychar_meaning T.model T.Item.code E.errors) false input result }
 {
     let mut parser = AnyChar::<T, E>::new();
     answer(&mut parser, input)
@@ -270,7 +274,7 @@ where
 pub fn newline<T: Input, E: ParseError<T>>(input: T) -> IResult<T, char, E>
 where
     T::Item: AsChar,
-    ensures { AnswersBy T.seen itself (λ t c. c ≡ t) (char_meaning T.seen T.Item.code E.errors 10) false input result }
+    ensures { AnswersBy T.model itself (λ t c. c ≡ t) (char_meaning T.model T.Item.code E.errors 10) false input result }
 {
     let mut parser = Char::<T, E> {
         wanted: '\n',
@@ -286,7 +290,7 @@ where
 pub fn tab<T: Input, E: ParseError<T>>(input: T) -> IResult<T, char, E>
 where
     T::Item: AsChar,
-    ensures { AnswersBy T.seen itself (λ t c. c ≡ t) (char_meaning T.seen T.Item.code E.errors 9) false input result }
+    ensures { AnswersBy T.model itself (λ t c. c ≡ t) (char_meaning T.model T.Item.code E.errors 9) false input result }
 {
     let mut parser = Char::<T, E> {
         wanted: '\t',
@@ -302,7 +306,7 @@ where
 pub fn crlf<T: Input, E: ParseError<T>>(input: T) -> IResult<T, T, E>
 where
     T::Item: AsChar,
-    ensures { AnswersBy T.seen T.view (IsSeenAs T.seen) (crlf_meaning T.seen T.Item.code E.errors) false input result }
+    ensures { AnswersBy T.model T.view (IsModelledBy T.model) (crlf_meaning T.model T.Item.code E.errors) false input result }
 {
     let mut parser = Crlf::<T, E> { error: PhantomData };
     answer(&mut parser, input)
@@ -315,7 +319,7 @@ where
 pub fn line_ending<T: Input, E: ParseError<T>>(input: T) -> IResult<T, T, E>
 where
     T::Item: AsChar,
-    ensures { AnswersBy T.seen T.view (IsSeenAs T.seen) (line_ending_meaning T.seen T.Item.code E.errors) false input result }
+    ensures { AnswersBy T.model T.view (IsModelledBy T.model) (line_ending_meaning T.model T.Item.code E.errors) false input result }
 {
     let mut parser = LineEnding::<T, E> { error: PhantomData };
     answer(&mut parser, input)
@@ -329,7 +333,7 @@ where
 pub fn not_line_ending<T: Input, E: ParseError<T>>(input: T) -> IResult<T, T, E>
 where
     T::Item: AsChar,
-    ensures { AnswersBy T.seen T.view (IsSeenAs T.seen) (line_meaning T.seen T.Item.code E.errors) false input result }
+    ensures { AnswersBy T.model T.view (IsModelledBy T.model) (line_meaning T.model T.Item.code E.errors) false input result }
 {
     let mut parser = NotLineEnding::<T, E> { error: PhantomData };
     answer(&mut parser, input)

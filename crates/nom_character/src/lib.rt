@@ -6,7 +6,7 @@ ghost use Rattle.nom_traits.specs.Classes.{is_alpha_code, is_alphanum_code, is_b
 ghost use Rattle.nom_traits.specs.Classes.{is_oct_digit_code, is_space_code};
 ghost use Rattle.nom_traits.specs.View.{itself};
 ghost use Rattle.nom_func.specs.Func.{AnswersBy};
-ghost use Rattle.nom_first.specs.Heads.{any_meaning};
+ghost use Rattle.nom_character_first.specs.FirstItem.{anychar_meaning};
 
 mod class;
 pub mod complete;
@@ -120,7 +120,7 @@ pub fn multispace0<I, E>() -> MultiSpace0<I, E> {
 pub fn anychar<T: Input, E: ParseError<T>>(input: T) -> IResult<T, char, E>
 where
     T::Item: AsChar,
-    ensures { AnswersBy T.seen itself (λ t c. c ≡ t) (any_meaning T.seen T.Item.code E.errors) false input result }
+    ensures { AnswersBy T.model itself (λ t c. c ≡ t) (anychar_meaning T.model T.Item.code E.errors) false input result }
 {
     let mut parser = AnyChar::<T, E>::new();
     answer(&mut parser, input)

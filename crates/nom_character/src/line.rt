@@ -3,19 +3,19 @@ ghost use Rattle.std.specs.Prelude.{◌≡◌, Bool, List, true, false};
 ghost use Rattle.nom_error.specs.Modes.{modes};
 ghost use Rattle.nom_error.specs.Answers.{size_of};
 ghost use Rattle.nom_error.specs.declared.kind.ErrorKind.TheVariants as Kind;
-ghost use Rattle.nom_traits.specs.Slices.{Slice, IsSeenAs};
+ghost use Rattle.nom_traits.specs.Slices.{Slice, IsModelledBy};
 ghost use Rattle.nom_internal.specs.Meaning.{ShowsMeaning};
 ghost use Rattle.nom_internal.specs.Pinned.{slice_pinned};
-ghost use Rattle.nom_first.specs.Heads.{IsHead};
-ghost use Rattle.nom_character.specs.Sights.{Sight, IsSighted, IsNewline, IsLineEnd, is_line_code, sight_meaning, crlf_in, crlf_meaning};
-ghost use Rattle.nom_character.specs.Sights.{line_ending_in, line_ending_meaning, line_in, line_meaning};
-ghost use Rattle.nom_character.specs.SightLaws.{sight_lawful, sight_steady, crlf_laws, line_ending_laws, line_laws};
+ghost use Rattle.nom_character_first.specs.FirstItem.{IsFirstItem};
+ghost use Rattle.nom_character.specs.LineMatches.{Match, IsMatched, IsNewline, IsLineEnd, is_line_code, match_meaning, crlf_in, crlf_meaning};
+ghost use Rattle.nom_character.specs.LineMatches.{line_ending_in, line_ending_meaning, line_in, line_meaning};
+ghost use Rattle.nom_character.specs.LineMatchLaws.{match_lawful, match_steady, crlf_laws, line_ending_laws, line_laws};
 
+use nom_character_first::first::{behind, first};
 use nom_error::answer::{Err, Needed, PResult};
 use nom_error::kind::ErrorKind;
 use nom_error::mode::{IsStreaming, OutputMode};
 use nom_error::value::{ParseError, refusal};
-use nom_first::first::{behind, first};
 use nom_internal::parser::{Parser, StreamParser};
 use nom_internal::slices::before;
 use nom_traits::character::AsChar;
@@ -24,99 +24,99 @@ use std::marker::PhantomData;
 
 /// What was found at the start of an input.
 #[derive(Drop)]
-pub enum Sighted<I> {
+pub enum Matched<I> {
     /// What is sought, with the rest after it.
-    Stands(I),
+    Full(I),
     /// Something else.
     Absent,
     /// A beginning of it, of which this lacks.
-    Begins(Needed),
+    Partial(Needed),
 }
 
 /// The answer for what was found.
 #[inline(always)]
 fn answer<OM: OutputMode, I: Input, E: ParseError<I>>(
     input: I,
-    found: Sighted<I>,
+    found: Matched<I>,
     kind: ErrorKind,
 ) -> PResult<I, I, E>
-    requires { (sight : Bool → List I.Item → Sight) × IsSighted I.seen sight OM.Incomplete.STREAMING input found }
-    ensures { (sight : Bool → List I.Item → Sight) → IsSighted I.seen sight OM.Incomplete.STREAMING input found →
-        ShowsMeaning I.seen (IsSeenAs I.seen) (sight_meaning I.seen sight E.errors kind)
+    requires { (pattern : Bool → List I.Item → Match) × IsMatched I.model pattern OM.Incomplete.STREAMING input found }
+    ensures { (pattern : Bool → List I.Item → Match) → IsMatched I.model pattern OM.Incomplete.STREAMING input found →
+        ShowsMeaning I.model (IsModelledBy I.model) (match_meaning I.model pattern E.errors kind)
         (modes OM.Output.BUILDS OM.Error.BUILDS OM.Incomplete.STREAMING) input result }
 {
     match found {
-        Sighted::Stands(rest) => Ok((rest, before::<OM::Output, I>(input, rest))),
-        Sighted::Absent => Err(refusal::<OM::Error, I, E>(input, kind)),
-        Sighted::Begins(needed) => Err(Err::Incomplete(needed)),
+        Matched::Full(rest) => Ok((rest, before::<OM::Output, I>(input, rest))),
+        Matched::Absent => Err(refusal::<OM::Error, I, E>(input, kind)),
+        Matched::Partial(needed) => Err(Err::Incomplete(needed)),
     }
 }
 
 /// An `\n` that is wanted after an `\r`; where there is no item, what lacks is `lack`.
 #[inline(always)]
-fn newline_at<I: Input, S: IsStreaming>(input: I, lack: Needed) -> Sighted<I>
+fn newline_at<I: Input, S: IsStreaming>(input: I, lack: Needed) -> Matched<I>
 where
     I::Item: AsChar,
-    ensures { IsNewline I.seen I.Item.code S.STREAMING (size_of lack) input result }
+    ensures { IsNewline I.model I.Item.code S.STREAMING (size_of lack) input result }
 {
     match first(input) {
-        Some(item) if item.as_char() == '\n' => Sighted::Stands(behind(input, item)),
-        Some(_) => Sighted::Absent,
-        None if S::STREAMING => Sighted::Begins(lack),
-        None => Sighted::Absent,
+        Some(item) if item.as_char() == '\n' => Matched::Full(behind(input, item)),
+        Some(_) => Matched::Absent,
+        None if S::STREAMING => Matched::Partial(lack),
+        None => Matched::Absent,
     }
 }
 
 /// `\r\n` at the start of an input.
 #[inline(always)]
-fn crlf_at<I: Input, S: IsStreaming>(input: I) -> Sighted<I>
+fn crlf_at<I: Input, S: IsStreaming>(input: I) -> Matched<I>
 where
     I::Item: AsChar,
-    ensures { IsSighted I.seen (crlf_in I.Item.code) S.STREAMING input result }
+    ensures { IsMatched I.model (crlf_in I.Item.code) S.STREAMING input result }
 {
     match first(input) {
         Some(item) if item.as_char() == '\r' => {
             newline_at::<I, S>(behind(input, item), Needed::new(2))
         }
-        Some(_) => Sighted::Absent,
-        None if S::STREAMING => Sighted::Begins(Needed::new(2)),
-        None => Sighted::Absent,
+        Some(_) => Matched::Absent,
+        None if S::STREAMING => Matched::Partial(Needed::new(2)),
+        None => Matched::Absent,
     }
 }
 
 /// `\n` or `\r\n` at the start of an input.
 #[inline(always)]
-fn line_ending_at<I: Input, S: IsStreaming>(input: I) -> Sighted<I>
+fn line_ending_at<I: Input, S: IsStreaming>(input: I) -> Matched<I>
 where
     I::Item: AsChar,
-    ensures { IsSighted I.seen (line_ending_in I.Item.code) S.STREAMING input result }
+    ensures { IsMatched I.model (line_ending_in I.Item.code) S.STREAMING input result }
 {
     match first(input) {
-        Some(item) if item.as_char() == '\n' => Sighted::Stands(behind(input, item)),
+        Some(item) if item.as_char() == '\n' => Matched::Full(behind(input, item)),
         Some(item) if item.as_char() == '\r' => {
             newline_at::<I, S>(behind(input, item), Needed::new(2))
         }
-        Some(_) => Sighted::Absent,
-        None if S::STREAMING => Sighted::Begins(Needed::new(1)),
-        None => Sighted::Absent,
+        Some(_) => Matched::Absent,
+        None if S::STREAMING => Matched::Partial(Needed::new(1)),
+        None => Matched::Absent,
     }
 }
 
 /// The end of a line at the start of an input whose first item is `\r` or `\n`: all of it is what
 /// stands after the line before.
 #[inline(always)]
-fn line_end_at<I: Input, S: IsStreaming>(input: I) -> Sighted<I>
+fn line_end_at<I: Input, S: IsStreaming>(input: I) -> Matched<I>
 where
     I::Item: AsChar,
-    requires { (x : I.Item) × IsHead I.seen input x × (is_line_code (I.Item.code x) ≡ true) }
-    ensures { IsLineEnd I.seen I.Item.code S.STREAMING input result }
+    requires { (x : I.Item) × IsFirstItem I.model input x × (is_line_code (I.Item.code x) ≡ true) }
+    ensures { IsLineEnd I.model I.Item.code S.STREAMING input result }
 {
     match first(input) {
-        Some(item) if item.as_char() == '\n' => Sighted::Stands(input),
+        Some(item) if item.as_char() == '\n' => Matched::Full(input),
         Some(item) => match newline_at::<I, S>(behind(input, item), Needed::Unknown) {
-            Sighted::Stands(_) => Sighted::Stands(input),
-            Sighted::Absent => Sighted::Absent,
-            Sighted::Begins(needed) => Sighted::Begins(needed),
+            Matched::Full(_) => Matched::Full(input),
+            Matched::Absent => Matched::Absent,
+            Matched::Partial(needed) => Matched::Partial(needed),
         },
         None => unreachable!(),
     }
@@ -124,10 +124,10 @@ where
 
 /// The items before the first end of a line.
 #[inline(always)]
-fn line_at<I: Input, S: IsStreaming>(input: I) -> Sighted<I>
+fn line_at<I: Input, S: IsStreaming>(input: I) -> Matched<I>
 where
     I::Item: AsChar,
-    ensures { IsSighted I.seen (line_in I.Item.code) S.STREAMING input result }
+    ensures { IsMatched I.model (line_in I.Item.code) S.STREAMING input result }
 {
     let is_end = |item: I::Item| -> bool
         ensures { result ≡ is_line_code (I.Item.code item) }
@@ -137,8 +137,8 @@ where
     };
     match input.position(is_end) {
         Some(n) => line_end_at::<I, S>(input.take_from(n)),
-        None if S::STREAMING => Sighted::Begins(Needed::Unknown),
-        None => Sighted::Stands(input.take_from(input.input_len())),
+        None if S::STREAMING => Matched::Partial(Needed::Unknown),
+        None => Matched::Full(input.take_from(input.input_len())),
     }
 }
 
@@ -160,11 +160,11 @@ where
 
     ghost state = { λ _. tt };
 
-    ghost Tree = { Slice I.seen };
+    ghost Tree = { Slice I.model };
 
-    ghost IsOutput = { λ _. IsSeenAs I.seen };
+    ghost IsOutput = { λ _. IsModelledBy I.model };
 
-    ghost meaning = { λ _. crlf_meaning I.seen I.Item.code E.errors };
+    ghost meaning = { λ _. crlf_meaning I.model I.Item.code E.errors };
 
     ghost Pins = { λ _. Unit {0} };
 
@@ -174,16 +174,16 @@ where
         answer::<OM, I, E>(input, found, ErrorKind::CrLf)
     }
 
-    ghost lawful = { λ _ k. sight_lawful I.seen (crlf_in I.Item.code) (crlf_laws I.Item.code) E.errors Kind.CrLf };
+    ghost lawful = { λ _ k. match_lawful I.model (crlf_in I.Item.code) (crlf_laws I.Item.code) E.errors Kind.CrLf };
 }
 
 impl<I: Input, E: ParseError<I>> StreamParser<I> for Crlf<I, E>
 where
     I::Item: AsChar,
 {
-    ghost pinned = { λ s k p. slice_pinned I.seen I.view I.views };
+    ghost pinned = { λ s k p. slice_pinned I.model I.view I.views };
 
-    ghost steady = { λ _ k. sight_steady I.seen (crlf_in I.Item.code) (crlf_laws I.Item.code) E.errors Kind.CrLf };
+    ghost steady = { λ _ k. match_steady I.model (crlf_in I.Item.code) (crlf_laws I.Item.code) E.errors Kind.CrLf };
 }
 
 /// `\n` or `\r\n`, made by `line_ending`.
@@ -204,11 +204,11 @@ where
 
     ghost state = { λ _. tt };
 
-    ghost Tree = { Slice I.seen };
+    ghost Tree = { Slice I.model };
 
-    ghost IsOutput = { λ _. IsSeenAs I.seen };
+    ghost IsOutput = { λ _. IsModelledBy I.model };
 
-    ghost meaning = { λ _. line_ending_meaning I.seen I.Item.code E.errors };
+    ghost meaning = { λ _. line_ending_meaning I.model I.Item.code E.errors };
 
     ghost Pins = { λ _. Unit {0} };
 
@@ -218,16 +218,16 @@ where
         answer::<OM, I, E>(input, found, ErrorKind::CrLf)
     }
 
-    ghost lawful = { λ _ k. sight_lawful I.seen (line_ending_in I.Item.code) (line_ending_laws I.Item.code) E.errors Kind.CrLf };
+    ghost lawful = { λ _ k. match_lawful I.model (line_ending_in I.Item.code) (line_ending_laws I.Item.code) E.errors Kind.CrLf };
 }
 
 impl<I: Input, E: ParseError<I>> StreamParser<I> for LineEnding<I, E>
 where
     I::Item: AsChar,
 {
-    ghost pinned = { λ s k p. slice_pinned I.seen I.view I.views };
+    ghost pinned = { λ s k p. slice_pinned I.model I.view I.views };
 
-    ghost steady = { λ _ k. sight_steady I.seen (line_ending_in I.Item.code) (line_ending_laws I.Item.code) E.errors Kind.CrLf };
+    ghost steady = { λ _ k. match_steady I.model (line_ending_in I.Item.code) (line_ending_laws I.Item.code) E.errors Kind.CrLf };
 }
 
 /// The items before the first end of a line, made by `not_line_ending`.
@@ -248,11 +248,11 @@ where
 
     ghost state = { λ _. tt };
 
-    ghost Tree = { Slice I.seen };
+    ghost Tree = { Slice I.model };
 
-    ghost IsOutput = { λ _. IsSeenAs I.seen };
+    ghost IsOutput = { λ _. IsModelledBy I.model };
 
-    ghost meaning = { λ _. line_meaning I.seen I.Item.code E.errors };
+    ghost meaning = { λ _. line_meaning I.model I.Item.code E.errors };
 
     ghost Pins = { λ _. Unit {0} };
 
@@ -262,14 +262,14 @@ where
         answer::<OM, I, E>(input, found, ErrorKind::Tag)
     }
 
-    ghost lawful = { λ _ k. sight_lawful I.seen (line_in I.Item.code) (line_laws I.Item.code) E.errors Kind.Tag };
+    ghost lawful = { λ _ k. match_lawful I.model (line_in I.Item.code) (line_laws I.Item.code) E.errors Kind.Tag };
 }
 
 impl<I: Input, E: ParseError<I>> StreamParser<I> for NotLineEnding<I, E>
 where
     I::Item: AsChar,
 {
-    ghost pinned = { λ s k p. slice_pinned I.seen I.view I.views };
+    ghost pinned = { λ s k p. slice_pinned I.model I.view I.views };
 
-    ghost steady = { λ _ k. sight_steady I.seen (line_in I.Item.code) (line_laws I.Item.code) E.errors Kind.Tag };
+    ghost steady = { λ _ k. match_steady I.model (line_in I.Item.code) (line_laws I.Item.code) E.errors Kind.Tag };
 }

@@ -4,17 +4,17 @@ ghost use Rattle.std.specs.Char.{len_utf8};
 ghost use Rattle.nom_error.specs.declared.kind.ErrorKind.{ErrorKind};
 ghost use Rattle.nom_error.specs.declared.kind.ErrorKind.TheVariants as Kind;
 ghost use Rattle.nom_internal.specs.Pinned.{value_pinned};
-ghost use Rattle.nom_first.specs.declared.first.Blame.TheVariants.{OfKind, OfChar};
-ghost use Rattle.nom_first.specs.Heads.{char_meaning, satisfy_meaning, any_meaning};
-ghost use Rattle.nom_first.specs.HeadLaws.{told, head_lawful, head_steady};
+ghost use Rattle.nom_character_first.specs.declared.first.Blame.TheVariants.{OfKind, OfChar};
+ghost use Rattle.nom_character_first.specs.FirstItem.{char_meaning, satisfy_meaning, anychar_meaning};
+ghost use Rattle.nom_character_first.specs.FirstItemLaws.{told, first_item_lawful, first_item_steady};
 
 use crate::predicate::{Any, Is};
 use nom_bytes::predicate::Predicate;
+use nom_character_first::first::{Blame, first_where};
 use nom_error::answer::{Needed, PResult};
 use nom_error::kind::ErrorKind;
 use nom_error::mode::OutputMode;
 use nom_error::value::ParseError;
-use nom_first::first::{Blame, first_where};
 use nom_internal::parser::{Parser, StreamParser};
 use nom_traits::character::AsChar;
 use nom_traits::input::Input;
@@ -43,7 +43,7 @@ where
 
     ghost IsOutput = { λ _ t c. c ≡ t };
 
-    ghost meaning = { λ wanted. char_meaning I.seen I.Item.code E.errors wanted };
+    ghost meaning = { λ wanted. char_meaning I.model I.Item.code E.errors wanted };
 
     ghost Pins = { λ _. Unit {0} };
 
@@ -56,7 +56,7 @@ where
         first_where::<OM, I, Is, E>(input, &test, Blame::OfChar(self.wanted), lack)
     }
 
-    ghost lawful = { λ wanted k. head_lawful I.seen I.Item.IsValue I.values I.Item.code (λ x b. b ≡ (I.Item.code x == wanted))
+    ghost lawful = { λ wanted k. first_item_lawful I.model I.Item.IsValue I.values I.Item.code (λ x b. b ≡ (I.Item.code x == wanted))
         (told I.Item.IsValue (λ x. I.Item.code x == wanted)) (Some (len_utf8 wanted)) (Unit {0}) E.errors (OfChar wanted) };
 }
 
@@ -66,7 +66,7 @@ where
 {
     ghost pinned = { λ s k p. value_pinned };
 
-    ghost steady = { λ wanted k. head_steady I.seen I.Item.IsValue I.values I.Item.code (λ x b. b ≡ (I.Item.code x == wanted))
+    ghost steady = { λ wanted k. first_item_steady I.model I.Item.IsValue I.values I.Item.code (λ x b. b ≡ (I.Item.code x == wanted))
         (told I.Item.IsValue (λ x. I.Item.code x == wanted)) (Some (len_utf8 wanted)) (Unit {0}) E.errors (OfChar wanted) };
 }
 
@@ -94,7 +94,7 @@ where
 
     ghost IsOutput = { λ _ t c. c ≡ t };
 
-    ghost meaning = { λ s. satisfy_meaning I.seen I.Item.code (P.answers s.0) (P.IsSound s.0) E.errors s.1 };
+    ghost meaning = { λ s. satisfy_meaning I.model I.Item.code (P.answers s.0) (P.IsSound s.0) E.errors s.1 };
 
     ghost Pins = { λ _. Unit {0} };
 
@@ -108,7 +108,8 @@ where
         )
     }
 
-    ghost lawful = { λ s k. head_lawful I.seen I.Item.IsValue I.values I.Item.code (P.answers s.0) (P.fixed s.0 k) None (P.IsSound s.0) E.errors (OfKind s.1) };
+    ghost lawful = { λ s k. first_item_lawful I.model I.Item.IsValue I.values I.Item.code (P.answers s.0) (P.fixed s.0 k) None (P.IsSound s.0) E.errors
+        (OfKind s.1) };
 }
 
 impl<I: Input, P: Predicate<I::Item>, E: ParseError<I>> StreamParser<I> for Satisfy<P, I, E>
@@ -117,7 +118,8 @@ where
 {
     ghost pinned = { λ s k p. value_pinned };
 
-    ghost steady = { λ s k. head_steady I.seen I.Item.IsValue I.values I.Item.code (P.answers s.0) (P.fixed s.0 k) None (P.IsSound s.0) E.errors (OfKind s.1) };
+    ghost steady = { λ s k. first_item_steady I.model I.Item.IsValue I.values I.Item.code (P.answers s.0) (P.fixed s.0 k) None (P.IsSound s.0) E.errors
+        (OfKind s.1) };
 }
 
 /// Any one character.
@@ -152,7 +154,7 @@ where
 
     ghost IsOutput = { λ _ t c. c ≡ t };
 
-    ghost meaning = { λ _. any_meaning I.seen I.Item.code E.errors };
+    ghost meaning = { λ _. anychar_meaning I.model I.Item.code E.errors };
 
     ghost Pins = { λ _. Unit {0} };
 
@@ -162,7 +164,7 @@ where
         first_where::<OM, I, Any, E>(input, &Any, Blame::OfKind(ErrorKind::Eof), lack)
     }
 
-    ghost lawful = { λ _ k. head_lawful I.seen I.Item.IsValue I.values I.Item.code (λ x b. b ≡ true) (told I.Item.IsValue (λ x. true)) (Some 1)
+    ghost lawful = { λ _ k. first_item_lawful I.model I.Item.IsValue I.values I.Item.code (λ x b. b ≡ true) (told I.Item.IsValue (λ x. true)) (Some 1)
         (Unit {0}) E.errors (OfKind Kind.Eof) };
 }
 
@@ -172,6 +174,6 @@ where
 {
     ghost pinned = { λ s k p. value_pinned };
 
-    ghost steady = { λ _ k. head_steady I.seen I.Item.IsValue I.values I.Item.code (λ x b. b ≡ true) (told I.Item.IsValue (λ x. true)) (Some 1)
+    ghost steady = { λ _ k. first_item_steady I.model I.Item.IsValue I.values I.Item.code (λ x b. b ≡ true) (told I.Item.IsValue (λ x. true)) (Some 1)
         (Unit {0}) E.errors (OfKind Kind.Eof) };
 }

@@ -1,11 +1,11 @@
 //! Parsers of characters in one mode: more input may come, whatever mode is asked for.
 ghost use Rattle.std.specs.Prelude.{◌≡◌, Some, None, true};
-ghost use Rattle.nom_traits.specs.Slices.{IsSeenAs};
+ghost use Rattle.nom_traits.specs.Slices.{IsModelledBy};
 ghost use Rattle.nom_traits.specs.View.{itself};
 ghost use Rattle.nom_func.specs.Func.{StreamsBy};
 ghost use Rattle.nom_character.specs.ClassRuns.{class_meaning};
-ghost use Rattle.nom_first.specs.Heads.{any_meaning, char_meaning};
-ghost use Rattle.nom_character.specs.Sights.{crlf_meaning, line_ending_meaning, line_meaning};
+ghost use Rattle.nom_character_first.specs.FirstItem.{anychar_meaning, char_meaning};
+ghost use Rattle.nom_character.specs.LineMatches.{crlf_meaning, line_ending_meaning, line_meaning};
 
 use crate::class::ClassRun;
 use crate::line::{Crlf, LineEnding, NotLineEnding};
@@ -65,7 +65,7 @@ fn of_class<T: Input, E: ParseError<T>>(
 ) -> IResult<T, T, E>
 where
     T::Item: AsChar,
-    ensures { StreamsBy T.seen T.view (IsSeenAs T.seen) (class_meaning T.seen T.Item.code E.errors class wanted) true input result }
+    ensures { StreamsBy T.model T.view (IsModelledBy T.model) (class_meaning T.model T.Item.code E.errors class wanted) true input result }
 {
     let mut run = ClassRun::<T, E> {
         class,
@@ -81,7 +81,7 @@ where
 pub fn alpha0<T: Input, E: ParseError<T>>(input: T) -> IResult<T, T, E>
 where
     T::Item: AsChar,
-    ensures { StreamsBy T.seen T.view (IsSeenAs T.seen) (class_meaning T.seen T.Item.code E.errors AsciiClass.Alpha None) true input result }
+    ensures { StreamsBy T.model T.view (IsModelledBy T.model) (class_meaning T.model T.Item.code E.errors AsciiClass.Alpha None) true input result }
 {
     of_class(input, AsciiClass::Alpha, None)
 }
@@ -92,7 +92,8 @@ where
 pub fn alpha1<T: Input, E: ParseError<T>>(input: T) -> IResult<T, T, E>
 where
     T::Item: AsChar,
-    ensures { StreamsBy T.seen T.view (IsSeenAs T.seen) (class_meaning T.seen T.Item.code E.errors AsciiClass.Alpha (Some ErrorKind.Alpha)) true input result }
+    ensures { StreamsBy T.model T.view (IsModelledBy T.model) (class_meaning T.model T.Item.code E.errors AsciiClass.Alpha (Some ErrorKind.Alpha)) true input
+        result }
 {
     of_class(input, AsciiClass::Alpha, Some(ErrorKind::Alpha))
 }
@@ -103,7 +104,7 @@ where
 pub fn digit0<T: Input, E: ParseError<T>>(input: T) -> IResult<T, T, E>
 where
     T::Item: AsChar,
-    ensures { StreamsBy T.seen T.view (IsSeenAs T.seen) (class_meaning T.seen T.Item.code E.errors AsciiClass.Digit None) true input result }
+    ensures { StreamsBy T.model T.view (IsModelledBy T.model) (class_meaning T.model T.Item.code E.errors AsciiClass.Digit None) true input result }
 {
     of_class(input, AsciiClass::Digit, None)
 }
@@ -114,7 +115,8 @@ where
 pub fn digit1<T: Input, E: ParseError<T>>(input: T) -> IResult<T, T, E>
 where
     T::Item: AsChar,
-    ensures { StreamsBy T.seen T.view (IsSeenAs T.seen) (class_meaning T.seen T.Item.code E.errors AsciiClass.Digit (Some ErrorKind.Digit)) true input result }
+    ensures { StreamsBy T.model T.view (IsModelledBy T.model) (class_meaning T.model T.Item.code E.errors AsciiClass.Digit (Some ErrorKind.Digit)) true input
+        result }
 {
     of_class(input, AsciiClass::Digit, Some(ErrorKind::Digit))
 }
@@ -125,7 +127,7 @@ where
 pub fn hex_digit0<T: Input, E: ParseError<T>>(input: T) -> IResult<T, T, E>
 where
     T::Item: AsChar,
-    ensures { StreamsBy T.seen T.view (IsSeenAs T.seen) (class_meaning T.seen T.Item.code E.errors AsciiClass.HexDigit None) true input result }
+    ensures { StreamsBy T.model T.view (IsModelledBy T.model) (class_meaning T.model T.Item.code E.errors AsciiClass.HexDigit None) true input result }
 {
     of_class(input, AsciiClass::HexDigit, None)
 }
@@ -136,7 +138,7 @@ where
 pub fn hex_digit1<T: Input, E: ParseError<T>>(input: T) -> IResult<T, T, E>
 where
     T::Item: AsChar,
-    ensures { StreamsBy T.seen T.view (IsSeenAs T.seen) (class_meaning T.seen T.Item.code E.errors AsciiClass.HexDigit (Some ErrorKind.HexDigit)) true
+    ensures { StreamsBy T.model T.view (IsModelledBy T.model) (class_meaning T.model T.Item.code E.errors AsciiClass.HexDigit (Some ErrorKind.HexDigit)) true
         input result }
 {
     of_class(input, AsciiClass::HexDigit, Some(ErrorKind::HexDigit))
@@ -148,7 +150,7 @@ where
 pub fn oct_digit0<T: Input, E: ParseError<T>>(input: T) -> IResult<T, T, E>
 where
     T::Item: AsChar,
-    ensures { StreamsBy T.seen T.view (IsSeenAs T.seen) (class_meaning T.seen T.Item.code E.errors AsciiClass.OctDigit None) true input result }
+    ensures { StreamsBy T.model T.view (IsModelledBy T.model) (class_meaning T.model T.Item.code E.errors AsciiClass.OctDigit None) true input result }
 {
     of_class(input, AsciiClass::OctDigit, None)
 }
@@ -159,7 +161,7 @@ where
 pub fn oct_digit1<T: Input, E: ParseError<T>>(input: T) -> IResult<T, T, E>
 where
     T::Item: AsChar,
-    ensures { StreamsBy T.seen T.view (IsSeenAs T.seen) (class_meaning T.seen T.Item.code E.errors AsciiClass.OctDigit (Some ErrorKind.OctDigit)) true
+    ensures { StreamsBy T.model T.view (IsModelledBy T.model) (class_meaning T.model T.Item.code E.errors AsciiClass.OctDigit (Some ErrorKind.OctDigit)) true
         input result }
 {
     of_class(input, AsciiClass::OctDigit, Some(ErrorKind::OctDigit))
@@ -171,7 +173,7 @@ where
 pub fn bin_digit0<T: Input, E: ParseError<T>>(input: T) -> IResult<T, T, E>
 where
     T::Item: AsChar,
-    ensures { StreamsBy T.seen T.view (IsSeenAs T.seen) (class_meaning T.seen T.Item.code E.errors AsciiClass.BinDigit None) true input result }
+    ensures { StreamsBy T.model T.view (IsModelledBy T.model) (class_meaning T.model T.Item.code E.errors AsciiClass.BinDigit None) true input result }
 {
     of_class(input, AsciiClass::BinDigit, None)
 }
@@ -182,7 +184,7 @@ where
 pub fn bin_digit1<T: Input, E: ParseError<T>>(input: T) -> IResult<T, T, E>
 where
     T::Item: AsChar,
-    ensures { StreamsBy T.seen T.view (IsSeenAs T.seen) (class_meaning T.seen T.Item.code E.errors AsciiClass.BinDigit (Some ErrorKind.BinDigit)) true
+    ensures { StreamsBy T.model T.view (IsModelledBy T.model) (class_meaning T.model T.Item.code E.errors AsciiClass.BinDigit (Some ErrorKind.BinDigit)) true
         input result }
 {
     of_class(input, AsciiClass::BinDigit, Some(ErrorKind::BinDigit))
@@ -194,7 +196,7 @@ where
 pub fn alphanumeric0<T: Input, E: ParseError<T>>(input: T) -> IResult<T, T, E>
 where
     T::Item: AsChar,
-    ensures { StreamsBy T.seen T.view (IsSeenAs T.seen) (class_meaning T.seen T.Item.code E.errors AsciiClass.Alphanumeric None) true input result }
+    ensures { StreamsBy T.model T.view (IsModelledBy T.model) (class_meaning T.model T.Item.code E.errors AsciiClass.Alphanumeric None) true input result }
 {
     of_class(input, AsciiClass::Alphanumeric, None)
 }
@@ -205,7 +207,7 @@ where
 pub fn alphanumeric1<T: Input, E: ParseError<T>>(input: T) -> IResult<T, T, E>
 where
     T::Item: AsChar,
-    ensures { StreamsBy T.seen T.view (IsSeenAs T.seen) (class_meaning T.seen T.Item.code E.errors AsciiClass.Alphanumeric (Some ErrorKind.AlphaNumeric))
+    ensures { StreamsBy T.model T.view (IsModelledBy T.model) (class_meaning T.model T.Item.code E.errors AsciiClass.Alphanumeric (Some ErrorKind.AlphaNumeric))
         true input result }
 {
     of_class(
@@ -221,7 +223,7 @@ where
 pub fn space0<T: Input, E: ParseError<T>>(input: T) -> IResult<T, T, E>
 where
     T::Item: AsChar,
-    ensures { StreamsBy T.seen T.view (IsSeenAs T.seen) (class_meaning T.seen T.Item.code E.errors AsciiClass.Space None) true input result }
+    ensures { StreamsBy T.model T.view (IsModelledBy T.model) (class_meaning T.model T.Item.code E.errors AsciiClass.Space None) true input result }
 {
     of_class(input, AsciiClass::Space, None)
 }
@@ -232,7 +234,8 @@ where
 pub fn space1<T: Input, E: ParseError<T>>(input: T) -> IResult<T, T, E>
 where
     T::Item: AsChar,
-    ensures { StreamsBy T.seen T.view (IsSeenAs T.seen) (class_meaning T.seen T.Item.code E.errors AsciiClass.Space (Some ErrorKind.Space)) true input result }
+    ensures { StreamsBy T.model T.view (IsModelledBy T.model) (class_meaning T.model T.Item.code E.errors AsciiClass.Space (Some ErrorKind.Space)) true input
+        result }
 {
     of_class(input, AsciiClass::Space, Some(ErrorKind::Space))
 }
@@ -243,7 +246,7 @@ where
 pub fn multispace0<T: Input, E: ParseError<T>>(input: T) -> IResult<T, T, E>
 where
     T::Item: AsChar,
-    ensures { StreamsBy T.seen T.view (IsSeenAs T.seen) (class_meaning T.seen T.Item.code E.errors AsciiClass.MultiSpace None) true input result }
+    ensures { StreamsBy T.model T.view (IsModelledBy T.model) (class_meaning T.model T.Item.code E.errors AsciiClass.MultiSpace None) true input result }
 {
     of_class(input, AsciiClass::MultiSpace, None)
 }
@@ -254,7 +257,8 @@ where
 pub fn multispace1<T: Input, E: ParseError<T>>(input: T) -> IResult<T, T, E>
 where
     T::Item: AsChar,
-    ensures { StreamsBy T.seen T.view (IsSeenAs T.seen) (class_meaning T.seen T.Item.code E.errors AsciiClass.MultiSpace (Some ErrorKind.MultiSpace)) true
+    ensures { StreamsBy T.model T.view (IsModelledBy T.model) (class_meaning T.model T.Item.code E.errors AsciiClass.MultiSpace (Some ErrorKind.MultiSpace))
+        true
         input result }
 {
     of_class(input, AsciiClass::MultiSpace, Some(ErrorKind::MultiSpace))
@@ -265,7 +269,7 @@ where
 pub fn anychar<T: Input, E: ParseError<T>>(input: T) -> IResult<T, char, E>
 where
     T::Item: AsChar,
-    ensures { StreamsBy T.seen itself (λ t c. c ≡ t) (any_meaning T.seen T.Item.code E.errors) true input result }
+    ensures { StreamsBy T.model itself (λ t c. c ≡ t) (anychar_meaning T.model T.Item.code E.errors) true input result }
 {
     let mut parser = AnyChar::<T, E>::new();
     stream_answer(&mut parser, input)
@@ -278,7 +282,7 @@ where
 pub fn newline<T: Input, E: ParseError<T>>(input: T) -> IResult<T, char, E>
 where
     T::Item: AsChar,
-    ensures { StreamsBy T.seen itself (λ t c. c ≡ t) (char_meaning T.seen T.Item.code E.errors 10) true input result }
+    ensures { StreamsBy T.model itself (λ t c. c ≡ t) (char_meaning T.model T.Item.code E.errors 10) true input result }
 {
     let mut parser = Char::<T, E> {
         wanted: '\n',
@@ -294,7 +298,7 @@ where
 pub fn tab<T: Input, E: ParseError<T>>(input: T) -> IResult<T, char, E>
 where
     T::Item: AsChar,
-    ensures { StreamsBy T.seen itself (λ t c. c ≡ t) (char_meaning T.seen T.Item.code E.errors 9) true input result }
+    ensures { StreamsBy T.model itself (λ t c. c ≡ t) (char_meaning T.model T.Item.code E.errors 9) true input result }
 {
     let mut parser = Char::<T, E> {
         wanted: '\t',
@@ -310,7 +314,7 @@ where
 pub fn crlf<T: Input, E: ParseError<T>>(input: T) -> IResult<T, T, E>
 where
     T::Item: AsChar,
-    ensures { StreamsBy T.seen T.view (IsSeenAs T.seen) (crlf_meaning T.seen T.Item.code E.errors) true input result }
+    ensures { StreamsBy T.model T.view (IsModelledBy T.model) (crlf_meaning T.model T.Item.code E.errors) true input result }
 {
     let mut parser = Crlf::<T, E> { error: PhantomData };
     stream_answer(&mut parser, input)
@@ -323,7 +327,7 @@ where
 pub fn line_ending<T: Input, E: ParseError<T>>(input: T) -> IResult<T, T, E>
 where
     T::Item: AsChar,
-    ensures { StreamsBy T.seen T.view (IsSeenAs T.seen) (line_ending_meaning T.seen T.Item.code E.errors) true input result }
+    ensures { StreamsBy T.model T.view (IsModelledBy T.model) (line_ending_meaning T.model T.Item.code E.errors) true input result }
 {
     let mut parser = LineEnding::<T, E> { error: PhantomData };
     stream_answer(&mut parser, input)
@@ -337,7 +341,7 @@ where
 pub fn not_line_ending<T: Input, E: ParseError<T>>(input: T) -> IResult<T, T, E>
 where
     T::Item: AsChar,
-    ensures { StreamsBy T.seen T.view (IsSeenAs T.seen) (line_meaning T.seen T.Item.code E.errors) true input result }
+    ensures { StreamsBy T.model T.view (IsModelledBy T.model) (line_meaning T.model T.Item.code E.errors) true input result }
 {
     let mut parser = NotLineEnding::<T, E> { error: PhantomData };
     stream_answer(&mut parser, input)

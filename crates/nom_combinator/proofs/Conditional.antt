@@ -3,7 +3,7 @@ use Rattle.std.proofs.Common.{◌≡◌, Result, Ok, Err, Option, Some, None, re
 use Rattle.nom_error.specs.declared.answer.Needed.{Needed}
 use Rattle.nom_error.specs.declared.answer.Err as Answer
 use Rattle.nom_error.specs.Modes.{Built, Modes}
-use Rattle.nom_traits.specs.Input.{Seen, InputLaws}
+use Rattle.nom_traits.specs.Input.{Model, InputLaws}
 use Rattle.nom_internal.specs.Meaning.{Meaning, ShowsMeaning}
 use Rattle.nom_internal.proofs.Cased.{labels_err, labels_ok}
 use Rattle.nom_internal.proofs.Shown.{accepted}
@@ -12,7 +12,7 @@ use Rattle.nom_combinator.specs.Verdicts.{OptOutput}
 use Rattle.nom_internal.proofs.Consumed.{rest_self}
 use Rattle.nom_combinator.proofs.Judged.{option_built}
 
-module _ {I A F S P O E : Type 0} (w : Seen I A) (state : F → S) (IsOutput : S → P → O → Type 0) (meaning : S → Meaning I P E) (mode : Modes) (i : I) where
+module _ {I A F S P O E : Type 0} (w : Model I A) (state : F → S) (IsOutput : S → P → O → Type 0) (meaning : S → Meaning I P E) (mode : Modes) (i : I) where
   abbrev CondShown : Option F → Result (I × Option (Option O)) (Answer.Err E (Option E) Needed) → Type 0
   CondShown p = ShowsMeaning w (CondOutput IsOutput (state_of state p)) (cond_meaning meaning (state_of state p)) mode i
 

@@ -4,7 +4,7 @@ use Rattle.nom_error.specs.declared.answer.Needed.{Needed}
 use Rattle.nom_error.specs.declared.answer.Err as Answer
 use Rattle.nom_error.specs.declared.answer.Err.TheVariants.{Incomplete, Error, Failure, OutOfMemory}
 use Rattle.nom_error.specs.Modes.{Built, Modes}
-use Rattle.nom_traits.specs.Input.{Seen}
+use Rattle.nom_traits.specs.Input.{Model}
 use Rattle.nom_internal.specs.Outcome.{Outcome, IsFault, Shows}
 use Rattle.nom_internal.specs.Outcome.Outcome.{Accept, Refuse, Fail, TooLarge, Undecided}
 use Rattle.nom_internal.specs.Outcome.ShowsAnswer.{RanOut, Shown}
@@ -15,7 +15,7 @@ use Rattle.nom_internal.proofs.Shown.{accepts}
 use Rattle.nom_internal.specs.Mapped.{BuildsError, renamed_meaning}
 use Rattle.nom_combinator.specs.Contexts.{Makes, IsRenamed}
 
-module _ {I A P O E : Type 0} (w : Seen I A) (IsOutput : P → O → Type 0) (Named : I → E → E → Type 0) (Grows : Type 0) (m : Meaning I P E)
+module _ {I A P O E : Type 0} (w : Model I A) (IsOutput : P → O → Type 0) (Named : I → E → E → Type 0) (Grows : Type 0) (m : Meaning I P E)
     (mode : Modes) (i : I) where
   abbrev RenamedShown : Result (I × Option O) (Answer.Err E (Option E) Needed) → Type 0
   RenamedShown = ShowsMeaning w IsOutput (renamed_meaning Named Grows m) mode i

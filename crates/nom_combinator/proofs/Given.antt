@@ -3,7 +3,7 @@ use Rattle.std.proofs.Common.{◌≡◌, Result, Ok, Err, Option, refl, sym, sub
 use Rattle.nom_error.specs.declared.answer.Needed.{Needed}
 use Rattle.nom_error.specs.declared.answer.Err as Answer
 use Rattle.nom_error.specs.Modes.{Built, Modes}
-use Rattle.nom_traits.specs.Input.{Seen}
+use Rattle.nom_traits.specs.Input.{Model}
 use Rattle.nom_internal.specs.Outcome.Outcome.{Accept}
 use Rattle.nom_internal.specs.Outcome.ShowsAnswer.{Shown}
 use Rattle.nom_internal.specs.Meaning.{Meaning, ShowsMeaning}
@@ -11,7 +11,7 @@ use Rattle.nom_internal.proofs.Shown.{accepts}
 use Rattle.nom_internal.proofs.Cased.{here, passing_err}
 use Rattle.nom_combinator.specs.Outputs.{value_case, value_meaning}
 
-module _ {I A P O T E : Type 0} (w : Seen I A) (IsOutput : P → O → Type 0) (IsClone : T → Type 0) (v : T) (IsSure : Type 0) (m : Meaning I P E)
+module _ {I A P O T E : Type 0} (w : Model I A) (IsOutput : P → O → Type 0) (IsClone : T → Type 0) (v : T) (IsSure : Type 0) (m : Meaning I P E)
     (mode : Modes) (i : I) where
   abbrev ValueShown : Result (I × Option T) (Answer.Err E (Option E) Needed) → Type 0
   ValueShown = ShowsMeaning w (λ _. IsClone) (value_meaning v IsSure m) mode i

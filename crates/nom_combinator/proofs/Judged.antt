@@ -5,8 +5,8 @@ use Rattle.nom_error.specs.declared.answer.Err as Answer
 use Rattle.nom_error.specs.declared.answer.Err.TheVariants.{Incomplete, Error, Failure}
 use Rattle.nom_error.specs.Answers.{Refuses}
 use Rattle.nom_error.specs.Modes.{with_outputs, Built, Modes, modes}
-use Rattle.nom_traits.specs.Input.{Seen, InputLaws, IsRest}
-use Rattle.nom_traits.specs.Slices.{Slice, IsFirst, IsSeenAs}
+use Rattle.nom_traits.specs.Input.{Model, InputLaws, IsSuffixOf}
+use Rattle.nom_traits.specs.Slices.{Slice, IsFirst, IsModelledBy}
 use Rattle.nom_internal.specs.Recognized.{recognized_meaning}
 use Rattle.nom_internal.proofs.Consumed.{rest_self, slice_before, recognized_err}
 use Rattle.nom_internal.specs.Outcome.{Outcome, Shows}
@@ -21,7 +21,7 @@ use Rattle.nom_combinator.specs.Verdicts.{complete_case, complete_meaning, WithS
 use Rattle.nom_combinator.specs.Verdicts.{cut_meaning, opt_outcome, opt_meaning, OptOutput, Looks, peek_meaning, not_case, not_meaning}
 
 -- what neither accepts nor refuses passes
-module _ {I A P T O X E : Type 0} (w : Seen I A) (becomes : Outcome P → Outcome T) (errors : Bool → Bool) (Never : (Bool → Type 0) → Bool → Type 0)
+module _ {I A P T O X E : Type 0} (w : Model I A) (becomes : Outcome P → Outcome T) (errors : Bool → Bool) (Never : (Bool → Type 0) → Bool → Type 0)
     (fails : Fail ≡ becomes Fail) (larges : TooLarge ≡ becomes TooLarge) (waits : (k : Option ℕ) → Undecided k ≡ becomes (Undecided k))
     (IsOutput : P → O → Type 0) (IsResult : T → X → Type 0) (m : Meaning I P E) (mode : Modes) (i : I) where
   pub verdict_passes : (f k : Answer.Err E (Option E) Needed) → f ≡ k → ((x : Option E) → k ≡ Error x → ⊥) →
@@ -45,7 +45,7 @@ pub record Refusal {E : Type 0} (Answered : Type 0) (IsError : E → Type 0) (er
   pub answered : Answered
   pub error_is : Built errors IsError b
 
-module _ {I A P O E : Type 0} (w : Seen I A) (IsOutput : P → O → Type 0) (m : Meaning I P E) (mode : Modes) (i : I) (b : Option E) where
+module _ {I A P O E : Type 0} (w : Model I A) (IsOutput : P → O → Type 0) (m : Meaning I P E) (mode : Modes) (i : I) (b : Option E) where
   refusal_of : (o : Outcome P) → m.answers mode.streaming i o → Shows w IsOutput mode i (m.blames mode.streaming i) o (Err (Error b)) →
       Refusal (m.answers mode.streaming i Refuse) (m.blames mode.streaming i) mode.errors b
   refusal_of (Accept n v) a h = cc (h.4)
@@ -64,7 +64,7 @@ module _ {I A P O E : Type 0} (w : Seen I A) (IsOutput : P → O → Type 0) (m 
   refuses f q h = shown_refusal (subst (λ y. ShowsMeaning w IsOutput m mode i (Err y)) q h)
 
 -- a refusal that is final
-module _ {I A P O E : Type 0} (w : Seen I A) (IsOutput : P → O → Type 0) (m : Meaning I P E) (mode : Modes) (i : I) where
+module _ {I A P O E : Type 0} (w : Model I A) (IsOutput : P → O → Type 0) (m : Meaning I P E) (mode : Modes) (i : I) where
   abbrev CutShown : Result (I × Option O) (Answer.Err E (Option E) Needed) → Type 0
   CutShown = ShowsMeaning w IsOutput (cut_meaning m) mode i
 
@@ -91,7 +91,7 @@ module _ {P O : Type 0} (IsOutput : P → O → Type 0) where
   option_built false v x y h k = k
 
 -- an option
-module _ {I A P O E : Type 0} (w : Seen I A) (l : InputLaws w) (IsOutput : P → O → Type 0) (m : Meaning I P E) (mode : Modes) (i : I) where
+module _ {I A P O E : Type 0} (w : Model I A) (l : InputLaws w) (IsOutput : P → O → Type 0) (m : Meaning I P E) (mode : Modes) (i : I) where
   abbrev OptShown : Result (I × Option (Option O)) (Answer.Err E (Option E) Needed) → Type 0
   OptShown = ShowsMeaning w (OptOutput IsOutput) (opt_meaning m) mode i
 
@@ -114,7 +114,7 @@ module _ {I A P O E : Type 0} (w : Seen I A) (l : InputLaws w) (IsOutput : P →
       Shown (Accept 0 None) (here Refuse r.answered refl) (i, y, rest_self w l i known, k, refl)
 
 -- a look ahead
-module _ {I A P O E : Type 0} (w : Seen I A) (l : InputLaws w) (IsOutput : P → O → Type 0) (m : Meaning I P E) (mode : Modes) (i : I) where
+module _ {I A P O E : Type 0} (w : Model I A) (l : InputLaws w) (IsOutput : P → O → Type 0) (m : Meaning I P E) (mode : Modes) (i : I) where
   abbrev PeekShown : Result (I × Option O) (Answer.Err E (Option E) Needed) → Type 0
   PeekShown = ShowsMeaning w IsOutput (peek_meaning m) mode i
 
@@ -128,7 +128,7 @@ module _ {I A P O E : Type 0} (w : Seen I A) (l : InputLaws w) (IsOutput : P →
       Shown (Accept 0 a.tree) (here (Accept a.length a.tree) a.answered refl) (i, x, rest_self w l i known, a.built_is, refl)
 
 -- a part that must refuse
-module _ {I A P O E : Type 0} (w : Seen I A) (l : InputLaws w) (IsOutput : P → O → Type 0) (Own : I → E → Type 0) (Grows : Type 0) (m : Meaning I P E)
+module _ {I A P O E : Type 0} (w : Model I A) (l : InputLaws w) (IsOutput : P → O → Type 0) (Own : I → E → Type 0) (Grows : Type 0) (m : Meaning I P E)
     (mode : Modes) (i : I) where
   abbrev NotShown : Result (I × Option (Unit {0})) (Answer.Err E (Option E) Needed) → Type 0
   NotShown = ShowsMeaning w (λ t o. o ≡ t) (not_meaning Own Grows m) mode i
@@ -165,7 +165,7 @@ module _ {I A P O E : Type 0} (w : Seen I A) (l : InputLaws w) (IsOutput : P →
   not_accepted p f h k = let a = accepts h in accepted_refusal a.length a.tree a.answered f k
 
 -- a part that runs as on a complete input
-module _ {I A P O E : Type 0} (w : Seen I A) (IsOutput : P → O → Type 0) (Own : I → E → Type 0) (Grows : Type 0) (m : Meaning I P E) (mode : Modes)
+module _ {I A P O E : Type 0} (w : Model I A) (IsOutput : P → O → Type 0) (Own : I → E → Type 0) (Grows : Type 0) (m : Meaning I P E) (mode : Modes)
     (i : I) where
   abbrev CompleteShown : Result (I × Option O) (Answer.Err E (Option E) Needed) → Type 0
   CompleteShown = ShowsMeaning w IsOutput (complete_meaning Own Grows m) mode i
@@ -213,27 +213,27 @@ module _ {I A P O E : Type 0} (w : Seen I A) (IsOutput : P → O → Type 0) (Ow
   complete_wanted f x q h r g = wanted x (subst (λ y. CompletePart (Err y)) q h) r g
 
 -- what a part consumes
-module _ {I A P O E : Type 0} (w : Seen I A) (IsOutput : P → O → Type 0) (m : Meaning I P E) (mode : Modes) (i : I) where
+module _ {I A P O E : Type 0} (w : Model I A) (IsOutput : P → O → Type 0) (m : Meaning I P E) (mode : Modes) (i : I) where
   pub recognize_err : (f : Answer.Err E (Option E) Needed) (r : Result (I × Option I) (Answer.Err E (Option E) Needed)) →
-      ShowsMeaning w IsOutput m (with_outputs false mode) i (Err f) → r ≡ Err f → ShowsMeaning w (IsSeenAs w) (recognized_meaning w m) mode i r
-  recognize_err f r h e = subst (λ z. ShowsMeaning w (IsSeenAs w) (recognized_meaning w m) mode i z) (sym e) (recognized_err w IsOutput m mode i f h)
+      ShowsMeaning w IsOutput m (with_outputs false mode) i (Err f) → r ≡ Err f → ShowsMeaning w (IsModelledBy w) (recognized_meaning w m) mode i r
+  recognize_err f r h e = subst (λ z. ShowsMeaning w (IsModelledBy w) (recognized_meaning w m) mode i z) (sym e) (recognized_err w IsOutput m mode i f h)
 
-  pub has_rest : (j : I) (x : Option O) → ShowsMeaning w IsOutput m mode i (Ok (j, x)) → (n : ℕ) × IsRest w i n j
+  pub has_rest : (j : I) (x : Option O) → ShowsMeaning w IsOutput m mode i (Ok (j, x)) → (n : ℕ) × IsSuffixOf w i n j
   has_rest j x h = let a = accepts h in (a.length, a.rest_is)
 
   abbrev ConsumedShown : Result (I × Option (I × O)) (Answer.Err E (Option E) Needed) → Type 0
-  ConsumedShown = ShowsMeaning w (λ t o. IsSeenAs w t.0 o.0 × IsOutput t.1 o.1) (consumed_meaning w m) mode i
+  ConsumedShown = ShowsMeaning w (λ t o. IsModelledBy w t.0 o.0 × IsOutput t.1 o.1) (consumed_meaning w m) mode i
 
   pub consumed_err : (f : Answer.Err E (Option E) Needed) (r : Result (I × Option (I × O)) (Answer.Err E (Option E) Needed)) →
       ShowsMeaning w IsOutput m mode i (Err f) → r ≡ Err f → ConsumedShown r
   consumed_err f r h e = subst (λ z. ConsumedShown z) (sym e)
-      (plain_err w IsOutput (λ t o. IsSeenAs w t.0 o.0 × IsOutput t.1 o.1) (λ b. b) (λ i. WithSlice w i) m mode i f h)
+      (plain_err w IsOutput (λ t o. IsModelledBy w t.0 o.0 × IsOutput t.1 o.1) (λ b. b) (λ i. WithSlice w i) m mode i f h)
 
   pub consumed_ok : (j : I) (x : Option O) (b : Option I) (y : Option (I × O)) → ShowsMeaning w IsOutput m mode i (Ok (j, x)) →
-      ((n : ℕ) (t : Slice w) → IsRest w i n j → IsFirst w i n t → Built mode.outputs (IsSeenAs w t) b) →
+      ((n : ℕ) (t : Slice w) → IsSuffixOf w i n j → IsFirst w i n t → Built mode.outputs (IsModelledBy w t) b) →
       ((a : I) (c : O) → b ≡ Some a → x ≡ Some c → y ≡ Some (a, c)) → (b ≡ None → y ≡ None) → ConsumedShown (Ok (j, y))
   consumed_ok j x b y h f both none =
       let a = accepts h in
       let t = slice_before a.rest_is in
       Shown (Accept a.length (t.0, a.tree)) (here (Accept a.length a.tree) a.answered (t.0, t.1, refl))
-      (j, y, a.rest_is, both_built (IsSeenAs w t.0) (IsOutput a.tree) mode.outputs b x y (f a.length t.0 a.rest_is t.1) a.built_is both none, refl)
+      (j, y, a.rest_is, both_built (IsModelledBy w t.0) (IsOutput a.tree) mode.outputs b x y (f a.length t.0 a.rest_is t.1) a.built_is both none, refl)

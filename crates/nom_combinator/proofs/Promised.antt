@@ -1,8 +1,8 @@
 -- What is answered of what a part consumes.
 use Rattle.std.proofs.Common.{◌≡◌, ℕ, ◌++◌, Bool, Ok, refl, sym, ◌∙◌, ap, subst}
-use Rattle.nom_traits.specs.Input.{Seen, InputLaws, IsRest}
+use Rattle.nom_traits.specs.Input.{Model, InputLaws, IsSuffixOf}
 use Rattle.nom_traits.specs.Rests.{same_cut}
-use Rattle.nom_traits.specs.Slices.{Slice, IsSeenAs, IsFirst}
+use Rattle.nom_traits.specs.Slices.{Slice, IsModelledBy, IsFirst}
 use Rattle.nom_internal.specs.Outcome.{Outcome, Parses}
 use Rattle.nom_internal.specs.Outcome.Outcome.{Accept, Refuse, Fail, TooLarge, Undecided}
 use Rattle.nom_internal.specs.Outcome.ParsesAnswer.{ParseRanOut, Parsed}
@@ -12,10 +12,10 @@ use Rattle.nom_internal.specs.Recognized.{IsSliced, recognized_meaning}
 use Rattle.nom_combinator.specs.Verdicts.{WithSlice, consumed_meaning}
 use Rattle.nom_combinator.specs.Promises.{AreParts, GivesFront, GivesFrontAndOutput}
 
-module _ {I A : Type 0} (w : Seen I A) (l : InputLaws w) (i : I) where
-  are_parts : (j o : I) (n : ℕ) (t : Slice w) → IsFirst w i n t → IsRest w i n j → IsSeenAs w t o → AreParts w i o j
+module _ {I A : Type 0} (w : Model I A) (l : InputLaws w) (i : I) where
+  are_parts : (j o : I) (n : ℕ) (t : Slice w) → IsFirst w i n t → IsSuffixOf w i n j → IsModelledBy w t o → AreParts w i o j
   are_parts j o n t f r s =
-      let c = same_cut w.weight l.positive t.items f.rest r.front (w.elements j) (sym f.whole ∙ r.whole) (f.length_is ∙ sym r.length_is) in
+      let c = same_cut w.item_len l.positive t.items f.rest r.front (w.elements j) (sym f.whole ∙ r.whole) (f.length_is ∙ sym r.length_is) in
       let e : w.elements o ≡ r.front = s.elements_are ∙ c.0 in
       record {
         items = r.whole ∙ ap (λ xs. xs ++ w.elements j) (sym e);
@@ -42,41 +42,41 @@ module _ {I A : Type 0} (w : Seen I A) (l : InputLaws w) (i : I) where
   consumed_first (Undecided k) n t v f = absurd (cc (f))
 
 -- an answer that is an acceptance shows one
-module _ {I A T O E : Type 0} (w : Seen I A) (IsOutput : T → O → Type 0) (i j : I) (IsError : E → Type 0) (o : O) where
+module _ {I A T O E : Type 0} (w : Model I A) (IsOutput : T → O → Type 0) (i j : I) (IsError : E → Type 0) (o : O) where
   pub record IsAccepted (a : Outcome T) : Type 0 where
     pub length : ℕ
     pub tree : T
     pub accepts : a ≡ Accept length tree
-    pub rest : IsRest w i length j
+    pub rest : IsSuffixOf w i length j
     pub output : IsOutput tree o
 
   accepted_by : (a : Outcome T) → Parses w IsOutput i IsError a (Ok (j, o)) → IsAccepted a
   accepted_by (Accept n t) s =
       let same : ◌≡◌ {A = I × O} (s.0, s.1) (j, o) = cc (s.4) in
-      record { length = n; tree = t; accepts = refl; rest = subst (λ p. IsRest w i n p.0) same s.2; output = subst (λ p. IsOutput t p.1) same s.3 }
+      record { length = n; tree = t; accepts = refl; rest = subst (λ p. IsSuffixOf w i n p.0) same s.2; output = subst (λ p. IsOutput t p.1) same s.3 }
   accepted_by Refuse s = cc (s.2)
   accepted_by Fail s = cc (s.2)
   accepted_by TooLarge s = cc (s.2)
   accepted_by (Undecided k) s = cc (s.2)
 
-module _ {I A V E : Type 0} (w : Seen I A) (l : InputLaws w) (m : Meaning I V E) where
-  recognizes : (s : Bool) (i j o : I) → ParsesMeaning w (IsSeenAs w) (recognized_meaning w m) s i (Ok (j, o)) → AreParts w i o j
+module _ {I A V E : Type 0} (w : Model I A) (l : InputLaws w) (m : Meaning I V E) where
+  recognizes : (s : Bool) (i j o : I) → ParsesMeaning w (IsModelledBy w) (recognized_meaning w m) s i (Ok (j, o)) → AreParts w i o j
   recognizes s i j o (ParseRanOut e h) = absurd (cc)
   recognizes s i j o (Parsed a b p) =
-      let k = accepted_by w (IsSeenAs w) i j _ o a p in
+      let k = accepted_by w (IsModelledBy w) i j _ o a p in
       let first = sliced_first w l i b.outcome k.length k.tree (subst (λ z. Passes (λ n u q. IsSliced w i n q) b.outcome z) k.accepts b.fact) in
       are_parts w l i j o k.length k.tree first k.rest k.output
 
   pub recognize_gives : GivesFront w (recognized_meaning w m)
   recognize_gives s i j o h p = recognizes s i j o p
 
-module _ {I A V O E : Type 0} (w : Seen I A) (l : InputLaws w) (IsOutput : V → O → Type 0) (m : Meaning I V E) where
+module _ {I A V O E : Type 0} (w : Model I A) (l : InputLaws w) (IsOutput : V → O → Type 0) (m : Meaning I V E) where
   consumes : (s : Bool) (i j o : I) (v : O) →
-      ParsesMeaning {O = I × O} w (λ t p. IsSeenAs w t.0 p.0 × IsOutput t.1 p.1) (consumed_meaning w m) s i (Ok (j, (o, v))) → AreParts w i o j ×
+      ParsesMeaning {O = I × O} w (λ t p. IsModelledBy w t.0 p.0 × IsOutput t.1 p.1) (consumed_meaning w m) s i (Ok (j, (o, v))) → AreParts w i o j ×
       ParsesMeaning w IsOutput m s i (Ok (j, v))
   consumes s i j o v (ParseRanOut e h) = absurd (cc)
   consumes s i j o v (Parsed a b p) =
-      let k = accepted_by {O = I × O} w (λ t q. IsSeenAs w t.0 q.0 × IsOutput t.1 q.1) i j _ (o, v) a p in
+      let k = accepted_by {O = I × O} w (λ t q. IsModelledBy w t.0 q.0 × IsOutput t.1 q.1) i j _ (o, v) a p in
       let first = consumed_first w l i b.outcome k.length k.tree.0 k.tree.1 (subst (λ z. Passes (WithSlice w i) b.outcome z) k.accepts b.fact) in
       let here = subst (λ z. m.answers s z b.outcome) (sym b.at_is) b.answered in
       let part = subst (λ z. m.answers s i z) first.1 here in

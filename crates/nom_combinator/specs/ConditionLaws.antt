@@ -1,7 +1,7 @@
 -- The laws of a part that runs on a condition.
 use Rattle.std.specs.Prelude.{Option, Some, None}
 use Rattle.std.proofs.Common.{sym, ◌∙◌, ap}
-use Rattle.nom_traits.specs.Input.{Seen}
+use Rattle.nom_traits.specs.Input.{Model}
 use Rattle.nom_traits.specs.View.{View, option_view}
 use Rattle.nom_internal.specs.Meaning.{Meaning, IsLawful, IsSteady}
 use Rattle.nom_internal.specs.CaseLaws.{labelled_lawful, labelled_steady}
@@ -10,7 +10,7 @@ use Rattle.nom_internal.specs.Pinned.{IsPinned}
 use Rattle.nom_combinator.specs.Conditions.{cond_meaning, CondOutput, CondPins}
 use Rattle.nom_combinator.specs.VerdictLaws.{opt_pinned}
 
-module _ {I A S P E : Type 0} (w : Seen I A) (meaning : S → Meaning I P E) where
+module _ {I A S P E : Type 0} (w : Model I A) (meaning : S → Meaning I P E) where
   pub cond_lawful : ((s : S) → (meaning s).IsSound → IsLawful w (meaning s)) → (o : Option S) → (cond_meaning meaning o).IsSound →
       IsLawful w (cond_meaning meaning o)
   cond_lawful l (Some s) k = labelled_lawful w (meaning s) (λ t. Some t) (l s k)

@@ -1,7 +1,7 @@
 -- The laws of a value in the place of what a part accepts.
 use Rattle.std.specs.Prelude.{◌≡◌, ℕ, Bool, true, false, refl}
 use Rattle.std.proofs.Common.{sym, ◌∙◌, subst}
-use Rattle.nom_traits.specs.Input.{Seen, IsPlace}
+use Rattle.nom_traits.specs.Input.{Model, IsBoundary}
 use Rattle.nom_internal.specs.Outcome.{failure}
 use Rattle.nom_internal.specs.Outcome.Outcome.{Accept}
 use Rattle.nom_internal.specs.Meaning.{Meaning, IsLawful, IsSteady}
@@ -13,16 +13,16 @@ never_given : {T : Type 0} (large : Bool) (n : ℕ) (v : T) → failure large �
 never_given true n v e = cc
 never_given false n v e = cc
 
-module _ {I A P T : Type 0} (w : Seen I A) (v : T) where
+module _ {I A P T : Type 0} (w : Model I A) (v : T) where
   given_laws : AcceptLaws w (λ i. GivesValue {P = P} v)
   given_laws = record {
     same = λ longer x y n u o p kx ky r s k t. s ∙ sym t;
     alike = λ x y n u o kx ky r s. s;
-    place = λ i m n u t h p s. let same : m ≡ n = cc (s) in subst (λ k. IsPlace w i k) same p;
+    place = λ i m n u t h p s. let same : m ≡ n = cc (s) in subst (λ k. IsBoundary w i k) same p;
     never_fails = λ large i n u s. never_given large n v s;
   }
 
-module _ {I A P T E : Type 0} (w : Seen I A) (v : T) (IsSure : Type 0) where
+module _ {I A P T E : Type 0} (w : Model I A) (v : T) (IsSure : Type 0) where
   value_laws : CaseLaws true w w (value_case {P = P} {E = E} v IsSure)
   value_laws =
       let l = plain_laws w (λ i. GivesValue v) (given_laws w v) {E = E} (λ b. b) in

@@ -2,7 +2,7 @@
 use Rattle.std.specs.Prelude.{◌≡◌, ℕ, Bool, true, false, Option, Some, None, ◌⊎◌, refl}
 use Rattle.std.proofs.Common.{sym, ◌∙◌, ap, subst, inl, inr}
 use Rattle.nom_traits.specs.Slices.{Slice, first_place, first_related, same_length}
-use Rattle.nom_traits.specs.Input.{InputLaws, Related, Seen, IsPlace}
+use Rattle.nom_traits.specs.Input.{InputLaws, Related, Model, IsBoundary}
 use Rattle.nom_traits.specs.View.{View, option_view, view_some}
 use Rattle.nom_internal.specs.Outcome.{Outcome, IsDecided, IsFault, IsFailure, failure}
 use Rattle.nom_internal.specs.Outcome.Outcome.{Accept, Refuse, Fail, TooLarge, Undecided}
@@ -25,12 +25,12 @@ record IsVerdict {P T : Type 0} (becomes : Outcome P → Outcome T) (Never : (Bo
   accepts : (a : Outcome P) (n : ℕ) (t : T) → Accept n t ≡ becomes a → IsAccepted n a
   never : (Part : Bool → Type 0) (large : Bool) (a : Outcome P) → Never Part large → failure large ≡ becomes a → Part large × (a ≡ failure large)
 
-module _ {I A P : Type 0} (w : Seen I A) where
-  accepted_place : (i j : I) (a : Outcome P) (n : ℕ) → i ≡ j → ((m : ℕ) (u : P) → a ≡ Accept m u → IsPlace w j m) → IsAccepted n a → IsPlace w i n
-  accepted_place i j a n e place (inl z) = subst (λ k. IsPlace w i k) (sym z) (no_place w i)
+module _ {I A P : Type 0} (w : Model I A) where
+  accepted_place : (i j : I) (a : Outcome P) (n : ℕ) → i ≡ j → ((m : ℕ) (u : P) → a ≡ Accept m u → IsBoundary w j m) → IsAccepted n a → IsBoundary w i n
+  accepted_place i j a n e place (inl z) = subst (λ k. IsBoundary w i k) (sym z) (no_place w i)
   accepted_place i j a n e place (inr k) = here_place w i j n e (place n k.0 k.1)
 
-module _ {I A P T : Type 0} (w : Seen I A) (becomes : Outcome P → Outcome T) (Never : (Bool → Type 0) → Bool → Type 0) (is : IsVerdict becomes Never) where
+module _ {I A P T : Type 0} (w : Model I A) (becomes : Outcome P → Outcome T) (Never : (Bool → Type 0) → Bool → Type 0) (is : IsVerdict becomes Never) where
   verdict_keeps : (a : Outcome P) (o : Outcome T) → o ≡ becomes a → IsDecided o → IsDecided a
   verdict_keeps a o e d = is.keeps a (subst (λ z. IsDecided z) e d)
 
@@ -144,12 +144,12 @@ blames_more : {P E : Type 0} (HasOwn HasParts : Outcome P → Type 0) (Own : E �
 blames_more HasOwn HasParts Own a X Y e f (inl h) = inl h
 blames_more HasOwn HasParts Own a X Y e f (inr h) = inr (h.0, f e h.1)
 
-module _ {I A P : Type 0} (w : Seen I A) where
+module _ {I A P : Type 0} (w : Model I A) where
   looks_laws : AcceptLaws {P = P} w (λ i. Looks)
   looks_laws = record {
     same = λ longer x y n u o p kx ky r s k t. s ∙ sym t;
     alike = λ x y n u o kx ky r s. s;
-    place = λ i m n u t h p s. let none : n ≡ 0 = cc in subst (λ k. IsPlace w i k) (sym none) (no_place w i);
+    place = λ i m n u t h p s. let none : n ≡ 0 = cc in subst (λ k. IsBoundary w i k) (sym none) (no_place w i);
     never_fails = never;
   }
     where
@@ -173,7 +173,7 @@ module _ {I A P : Type 0} (w : Seen I A) where
       asks_none = λ Part mode i a h g. h.1 g.1 g.2;
     }
 
-module _ {I A P : Type 0} (w : Seen I A) where
+module _ {I A P : Type 0} (w : Model I A) where
   complete_accepts : (a : Outcome P) (n : ℕ) (t : P) → Accept n t ≡ complete_outcome a → IsAccepted n a
   complete_accepts (Accept m u) n t e = inr (t, sym e)
   complete_accepts Refuse n t e = cc
@@ -209,14 +209,14 @@ module _ {I A P : Type 0} (w : Seen I A) where
       asks_none = λ Part mode i a h g. h.1 g.1 g.2;
     }
 
-module _ {I A P : Type 0} (w : Seen I A) (l : InputLaws w) where
+module _ {I A P : Type 0} (w : Model I A) (l : InputLaws w) where
   kept_same : (longer : Bool) (x y : I) (n : ℕ) (u : P) (o p : Outcome (Slice w × P)) → Related w longer x y → WithSlice w x n u o → WithSlice w y n u p → o ≡ p
   kept_same longer x y n u o p r s t =
       let same = same_length w l y n n s.0 t.0 (first_related w longer x y n s.0 r s.1) t.1 refl in
       s.2 ∙ (ap (λ z. Accept n (z, u)) same ∙ sym t.2)
 
-  kept_place : (i : I) (n m : ℕ) (u : P) (t : Slice w × P) → WithSlice w i n u (Accept m t) → IsPlace w i m
-  kept_place i n m u t s = let same : n ≡ m = cc (s.2) in subst (λ z. IsPlace w i z) same (first_place w i n s.0 s.1)
+  kept_place : (i : I) (n m : ℕ) (u : P) (t : Slice w × P) → WithSlice w i n u (Accept m t) → IsBoundary w i m
+  kept_place i n m u t s = let same : n ≡ m = cc (s.2) in subst (λ z. IsBoundary w i z) same (first_place w i n s.0 s.1)
 
   never_kept : (is_large : Bool) (i : I) (n : ℕ) (u : P) → WithSlice w i n u (failure is_large) → ⊥
   never_kept true i n u s = absurd (cc (s.2))
@@ -236,7 +236,7 @@ module _ {V O : Type 0} (view : View O) (F : V → O → Type 0) where
   opt_pinned f (Some t) a b p q = ap (view_some view) p.1 ∙ (ap Some (f t p.0 q.0 p.2 q.2) ∙ sym (ap (view_some view) q.1))
   opt_pinned f None a b p q = ap (view_some view) (p ∙ sym q)
 
-module _ {I A P E : Type 0} (w : Seen I A) (m : Meaning I P E) where
+module _ {I A P E : Type 0} (w : Model I A) (m : Meaning I P E) where
   pub cut_lawful : IsLawful w m → IsLawful w (cut_meaning m)
   cut_lawful l = case_lawful w w m l (verdict_case cut_outcome (λ _. true) NeverCut) (verdict_laws w cut_outcome NeverCut cut_is (λ _. true))
 

@@ -1,7 +1,7 @@
 -- What becomes of a part's outcome: a refusal that is final, an option, a look ahead, and a part that must refuse.
 use Rattle.std.specs.Prelude.{◌≡◌, ◌⊎◌, ℕ, Bool, true, false, Option, Some, None}
 use Rattle.nom_error.specs.Modes.{with_streaming, modes}
-use Rattle.nom_traits.specs.Input.{Seen}
+use Rattle.nom_traits.specs.Input.{Model}
 use Rattle.nom_traits.specs.Slices.{Slice, IsFirst}
 use Rattle.nom_internal.specs.Outcome.{Outcome, IsFault, IsFailure}
 use Rattle.nom_internal.specs.Outcome.Outcome.{Accept, Refuse, Fail, TooLarge, Undecided}
@@ -139,9 +139,9 @@ abbrev pub complete_meaning : {I P E : Type 0} → (I → E → Type 0) → Type
 complete_meaning Own Grows = case_meaning (complete_case Own Grows)
 
 -- an acceptance, with the slice that the part consumed beside its tree
-abbrev pub WithSlice : {I A P : Type 0} (w : Seen I A) → I → ℕ → P → Outcome (Slice w × P) → Type 0
+abbrev pub WithSlice : {I A P : Type 0} (w : Model I A) → I → ℕ → P → Outcome (Slice w × P) → Type 0
 WithSlice w i n v o = (t : Slice w) × IsFirst w i n t × (o ≡ Accept n (t, v))
 
 -- a part with the slice that it consumes
-abbrev pub consumed_meaning : {I A P E : Type 0} (w : Seen I A) → Meaning I P E → Meaning I (Slice w × P) E
+abbrev pub consumed_meaning : {I A P E : Type 0} (w : Model I A) → Meaning I P E → Meaning I (Slice w × P) E
 consumed_meaning w = case_meaning (plain_case (λ b. b) (λ i. Passes (WithSlice w i)))

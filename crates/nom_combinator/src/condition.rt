@@ -40,17 +40,17 @@ impl<I: Items, F: Parser<I> + Drop> Parser<I> for Cond<F> {
                 Ok((rest, built::<OM::Output, Option<F::Output>>(output)))
             }
             None => {
-                input.known();
+                input.prove_known();
                 Ok((input, built::<OM::Output, Option<F::Output>>(None)))
             }
         }
     }
 
-    ghost lawful = { cond_lawful I.seen F.meaning F.lawful };
+    ghost lawful = { cond_lawful I.model F.meaning F.lawful };
 }
 
 impl<I: Items, F: StreamParser<I> + Drop> StreamParser<I> for Cond<F> {
     ghost pinned = { cond_pinned F.Output.view F.meaning F.IsOutput F.Pins F.pinned };
 
-    ghost steady = { cond_steady I.seen F.meaning F.steady };
+    ghost steady = { cond_steady I.model F.meaning F.steady };
 }

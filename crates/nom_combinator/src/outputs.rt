@@ -70,7 +70,7 @@ impl<I: Items, F: Parser<I> + Drop, G: Fn(&F::Output) -> bool> Parser<I> for Ver
         }
     }
 
-    ghost lawful = { λ s k. judged_lawful I.seen (F.IsOutput s.0) (λ o. (p : Bor F.Output) → p.now ≡ o → G.pre s.1 p) (FnReturnsAt G.Fn s.1) (λ b. b)
+    ghost lawful = { λ s k. judged_lawful I.model (F.IsOutput s.0) (λ o. (p : Bor F.Output) → p.now ≡ o → G.pre s.1 p) (FnReturnsAt G.Fn s.1) (λ b. b)
         (λ i _. F.Error.errors.of_kind i Kind.Verify) F.Error.errors.grows (F.meaning s.0) k.1 (F.lawful s.0 k.0) };
 }
 
@@ -78,7 +78,7 @@ impl<I: Items, F: StreamParser<I> + Drop, G: Fn(&F::Output) -> bool> StreamParse
     for Verify<F, G> {
     ghost pinned = { λ s k p t a b g h. F.pinned s.0 k.0 p t a b g.0 h.0 };
 
-    ghost steady = { λ s k. judged_steady I.seen (F.IsOutput s.0) (λ o. (p : Bor F.Output) → p.now ≡ o → G.pre s.1 p) (FnReturnsAt G.Fn s.1) (λ b. b)
+    ghost steady = { λ s k. judged_steady I.model (F.IsOutput s.0) (λ o. (p : Bor F.Output) → p.now ≡ o → G.pre s.1 p) (FnReturnsAt G.Fn s.1) (λ b. b)
         (λ i _. F.Error.errors.of_kind i Kind.Verify) F.Error.errors.grows (F.meaning s.0) k.1 (F.steady s.0 k.0) };
 }
 
@@ -117,11 +117,11 @@ impl<I: Items, O: Clone, F: Parser<I> + Drop> Parser<I> for Value<O, F> {
         }
     }
 
-    ghost lawful = { λ s k. value_lawful I.seen s.0 (O.is_infallible s.0) (F.meaning s.1) (F.lawful s.1 k) };
+    ghost lawful = { λ s k. value_lawful I.model s.0 (O.is_infallible s.0) (F.meaning s.1) (F.lawful s.1 k) };
 }
 
 impl<I: Items, O: Clone + Viewed, F: StreamParser<I> + Drop> StreamParser<I> for Value<O, F> {
     ghost pinned = { λ s k p t. clones_alike O.view O.is_clone s.0 p };
 
-    ghost steady = { λ s k. value_steady I.seen s.0 (O.is_infallible s.0) (F.meaning s.1) (F.steady s.1 k) };
+    ghost steady = { λ s k. value_steady I.model s.0 (O.is_infallible s.0) (F.meaning s.1) (F.steady s.1 k) };
 }

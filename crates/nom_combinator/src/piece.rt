@@ -1,5 +1,5 @@
 //! The parsers that give what a part consumes.
-ghost use Rattle.nom_traits.specs.Slices.{Slice, IsSeenAs};
+ghost use Rattle.nom_traits.specs.Slices.{Slice, IsModelledBy};
 ghost use Rattle.nom_internal.specs.Recognized.{recognized_meaning};
 ghost use Rattle.nom_internal.specs.RecognizedLaws.{recognized_lawful, recognized_steady};
 ghost use Rattle.nom_internal.specs.Pinned.{slice_pinned, pair_pinned};
@@ -28,11 +28,11 @@ impl<I: Input, F: Parser<I> + Drop> Parser<I> for Recognize<F> {
 
     ghost state = { λ p. F.state p.parser };
 
-    ghost Tree = { Slice I.seen };
+    ghost Tree = { Slice I.model };
 
-    ghost IsOutput = { λ _. IsSeenAs I.seen };
+    ghost IsOutput = { λ _. IsModelledBy I.model };
 
-    ghost meaning = { λ s. recognized_meaning I.seen (F.meaning s) };
+    ghost meaning = { λ s. recognized_meaning I.model (F.meaning s) };
 
     ghost Pins = { λ _. Unit {0} };
 
@@ -45,13 +45,13 @@ impl<I: Input, F: Parser<I> + Drop> Parser<I> for Recognize<F> {
         Ok((rest, slice))
     }
 
-    ghost lawful = { λ s k. recognized_lawful I.seen I.lawful (F.meaning s) (F.lawful s k) };
+    ghost lawful = { λ s k. recognized_lawful I.model I.lawful (F.meaning s) (F.lawful s k) };
 }
 
 impl<I: Input, F: StreamParser<I> + Drop> StreamParser<I> for Recognize<F> {
-    ghost pinned = { λ s k p. slice_pinned I.seen I.view I.views };
+    ghost pinned = { λ s k p. slice_pinned I.model I.view I.views };
 
-    ghost steady = { λ s k. recognized_steady I.seen I.lawful (F.meaning s) (F.steady s k) };
+    ghost steady = { λ s k. recognized_steady I.model I.lawful (F.meaning s) (F.steady s k) };
 }
 
 /// A parser's output, and what it consumes; made by `consumed`.
@@ -69,11 +69,11 @@ impl<I: Input, F: Parser<I> + Drop> Parser<I> for Consumed<F> {
 
     ghost state = { λ p. F.state p.parser };
 
-    ghost Tree = { Slice I.seen × F.Tree };
+    ghost Tree = { Slice I.model × F.Tree };
 
-    ghost IsOutput = { λ s t o. IsSeenAs I.seen t.0 o.0 × F.IsOutput s t.1 o.1 };
+    ghost IsOutput = { λ s t o. IsModelledBy I.model t.0 o.0 × F.IsOutput s t.1 o.1 };
 
-    ghost meaning = { λ s. consumed_meaning I.seen (F.meaning s) };
+    ghost meaning = { λ s. consumed_meaning I.model (F.meaning s) };
 
     ghost Pins = { F.Pins };
 
@@ -84,11 +84,11 @@ impl<I: Input, F: Parser<I> + Drop> Parser<I> for Consumed<F> {
         Ok((rest, combine(slice, output)))
     }
 
-    ghost lawful = { λ s k. consumed_lawful I.seen (F.meaning s) I.lawful (F.lawful s k) };
+    ghost lawful = { λ s k. consumed_lawful I.model (F.meaning s) I.lawful (F.lawful s k) };
 }
 
 impl<I: Input, F: StreamParser<I> + Drop> StreamParser<I> for Consumed<F> {
-    ghost pinned = { λ s k p. pair_pinned I.view F.Output.view (IsSeenAs I.seen) (F.IsOutput s) (slice_pinned I.seen I.view I.views) (F.pinned s k p) };
+    ghost pinned = { λ s k p. pair_pinned I.view F.Output.view (IsModelledBy I.model) (F.IsOutput s) (slice_pinned I.model I.view I.views) (F.pinned s k p) };
 
-    ghost steady = { λ s k. consumed_steady I.seen (F.meaning s) I.lawful (F.steady s k) };
+    ghost steady = { λ s k. consumed_steady I.model (F.meaning s) I.lawful (F.steady s k) };
 }

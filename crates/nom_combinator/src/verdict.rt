@@ -51,13 +51,13 @@ impl<I: Items, F: Parser<I> + Drop> Parser<I> for Cut<F> {
         }
     }
 
-    ghost lawful = { λ s k. cut_lawful I.seen (F.meaning s) (F.lawful s k) };
+    ghost lawful = { λ s k. cut_lawful I.model (F.meaning s) (F.lawful s k) };
 }
 
 impl<I: Items, F: StreamParser<I> + Drop> StreamParser<I> for Cut<F> {
     ghost pinned = { F.pinned };
 
-    ghost steady = { λ s k. cut_steady I.seen (F.meaning s) (F.steady s k) };
+    ghost steady = { λ s k. cut_steady I.model (F.meaning s) (F.steady s k) };
 }
 
 /// A parser, or nothing where it refuses; made by `opt`.
@@ -85,7 +85,7 @@ impl<I: Items, F: Parser<I> + Drop> Parser<I> for Opt<F> {
 
     #[inline(always)]
     fn process<OM: OutputMode>(&mut self, input: I) -> PResult<I, Self::Output, Self::Error> {
-        input.known();
+        input.prove_known();
         match self
             .parser
             .process::<OutputM<OM::Output, Check, OM::Incomplete>>(input)
@@ -98,13 +98,13 @@ impl<I: Items, F: Parser<I> + Drop> Parser<I> for Opt<F> {
         }
     }
 
-    ghost lawful = { λ s k. opt_lawful I.seen (F.meaning s) (F.lawful s k) };
+    ghost lawful = { λ s k. opt_lawful I.model (F.meaning s) (F.lawful s k) };
 }
 
 impl<I: Items, F: StreamParser<I> + Drop> StreamParser<I> for Opt<F> {
     ghost pinned = { λ s k p. opt_pinned F.Output.view (F.IsOutput s) (F.pinned s k p) };
 
-    ghost steady = { λ s k. opt_steady I.seen (F.meaning s) (F.steady s k) };
+    ghost steady = { λ s k. opt_steady I.model (F.meaning s) (F.steady s k) };
 }
 
 /// A parser of which nothing is consumed; made by `peek`.
@@ -132,18 +132,18 @@ impl<I: Items, F: Parser<I> + Drop> Parser<I> for Peek<F> {
 
     #[inline(always)]
     fn process<OM: OutputMode>(&mut self, input: I) -> PResult<I, Self::Output, Self::Error> {
-        input.known();
+        input.prove_known();
         let (_, output) = self.parser.process::<OM>(input)?;
         Ok((input, output))
     }
 
-    ghost lawful = { λ s k. peek_lawful I.seen (F.meaning s) (F.lawful s k) };
+    ghost lawful = { λ s k. peek_lawful I.model (F.meaning s) (F.lawful s k) };
 }
 
 impl<I: Items, F: StreamParser<I> + Drop> StreamParser<I> for Peek<F> {
     ghost pinned = { F.pinned };
 
-    ghost steady = { λ s k. peek_steady I.seen (F.meaning s) (F.steady s k) };
+    ghost steady = { λ s k. peek_steady I.model (F.meaning s) (F.steady s k) };
 }
 
 /// A parser that must refuse; made by `not`.
@@ -171,7 +171,7 @@ impl<I: Items, F: Parser<I> + Drop> Parser<I> for Not<F> {
 
     #[inline(always)]
     fn process<OM: OutputMode>(&mut self, input: I) -> PResult<I, Self::Output, Self::Error> {
-        input.known();
+        input.prove_known();
         match self
             .parser
             .process::<OutputM<Check, Check, OM::Incomplete>>(input)
@@ -184,7 +184,7 @@ impl<I: Items, F: Parser<I> + Drop> Parser<I> for Not<F> {
         }
     }
 
-    ghost lawful = { λ s k. not_lawful I.seen (F.meaning s) (λ i. F.Error.errors.of_kind i Kind.Not) F.Error.errors.grows (F.lawful s k) };
+    ghost lawful = { λ s k. not_lawful I.model (F.meaning s) (λ i. F.Error.errors.of_kind i Kind.Not) F.Error.errors.grows (F.lawful s k) };
 }
 
 impl<I: Items, F: StreamParser<I> + Drop> StreamParser<I> for Not<F> {
@@ -192,7 +192,7 @@ impl<I: Items, F: StreamParser<I> + Drop> StreamParser<I> for Not<F> {
 
     ghost pinned = { λ s k p. value_pinned };
 
-    ghost steady = { λ s k. not_steady I.seen (F.meaning s) (λ i. F.Error.errors.of_kind i Kind.Not) F.Error.errors.grows (F.steady s k) };
+    ghost steady = { λ s k. not_steady I.model (F.meaning s) (λ i. F.Error.errors.of_kind i Kind.Not) F.Error.errors.grows (F.steady s k) };
 }
 
 /// A parser that runs as on a complete input; made by `complete`.
@@ -234,5 +234,5 @@ impl<I: Items, F: Parser<I> + Drop> Parser<I> for MakeComplete<F> {
         }
     }
 
-    ghost lawful = { λ s k. complete_lawful I.seen (F.meaning s) (λ i. F.Error.errors.of_kind i Kind.Complete) F.Error.errors.grows (F.lawful s k) };
+    ghost lawful = { λ s k. complete_lawful I.model (F.meaning s) (λ i. F.Error.errors.of_kind i Kind.Complete) F.Error.errors.grows (F.lawful s k) };
 }

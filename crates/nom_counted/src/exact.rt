@@ -4,7 +4,7 @@ ghost use Rattle.nom_error.specs.Modes.{Built, modes};
 ghost use Rattle.nom_internal.specs.Meaning.{ShowsMeaning};
 ghost use Rattle.nom_repeat.specs.Bounds.{exact_limits};
 ghost use Rattle.nom_repeat.specs.Items.{items_meaning};
-ghost use Rattle.nom_repeat.specs.Kept.{Kept};
+ghost use Rattle.nom_repeat.specs.Accumulated.{Accumulated};
 
 use nom_error::answer::{Err, PResult};
 use nom_error::kind::ErrorKind;
@@ -12,33 +12,33 @@ use nom_error::mode::{Mode, OutputM, OutputMode};
 use nom_error::value::ParseError;
 use nom_internal::choice::close_error;
 use nom_internal::parser::Parser;
-use nom_repeat::keep::{Keep, gain};
+use nom_repeat::accumulator::{Accumulator, push_item};
 use nom_traits::input::Items;
 
 /// Exactly `count` items of a parser, one after another, of any length each: what was kept before, and what is
 /// kept of each. Where an item is refused, so is all, with its error, to which `Count` is added at the start.
 #[inline(always)]
-pub fn items_exactly<OM: OutputMode, I: Items, F: Parser<I>, K: Keep<F::Output> + Drop>(
+pub fn items_exactly<OM: OutputMode, I: Items, F: Parser<I>, K: Accumulator<F::Output> + Drop>(
     parser: &mut F,
     input: I,
     before: Option<K>,
     count: usize,
 ) -> PResult<I, K, F::Error>
     requires sound { (F.meaning (F.state parser.old)).IsSound }
-    requires built { Built OM.Output.BUILDS K.CanKeep before }
-    ensures shown { ShowsMeaning I.seen (Kept K.Gains K.CanKeep (F.IsOutput (F.state parser.old)) before)
-        (items_meaning I.seen F.Error.errors (exact_limits count) K.Grows (F.meaning (F.state parser.old)))
+    requires built { Built OM.Output.BUILDS K.CanPush before }
+    ensures shown { ShowsMeaning I.model (Accumulated K.Pushes K.CanPush (F.IsOutput (F.state parser.old)) before)
+        (items_meaning I.model F.Error.errors (exact_limits count) K.Grows (F.meaning (F.state parser.old)))
         (modes OM.Output.BUILDS OM.Error.BUILDS OM.Incomplete.STREAMING) input result }
     ensures kept { F.state parser.new ≡ F.state parser.old }
 {
-    input.known();
+    input.prove_known();
     let mut rest = input;
     let mut kept = before;
     let mut done = 0usize;
     while done < count {
         match parser.process::<OutputM<OM::Output, OM::Error, OM::Incomplete>>(rest) {
             Ok((next, item)) => {
-                if !gain(&mut kept, item) {
+                if !push_item(&mut kept, item) {
                     return Err(Err::OutOfMemory);
                 }
                 rest = next;

@@ -2,12 +2,12 @@
 use Rattle.std.specs.Prelude.{◌≡◌, Bool, Option}
 use Rattle.std.proofs.Common.{ap, subst, sym}
 use Rattle.nom_error.specs.Modes.{Built}
-use Rattle.nom_traits.specs.Input.{Seen}
-use Rattle.nom_traits.specs.Slices.{IsSeenAs}
+use Rattle.nom_traits.specs.Input.{Model}
+use Rattle.nom_traits.specs.Slices.{IsModelledBy}
 use Rattle.nom_internal.proofs.Shown.{built_error}
 use Rattle.nom_ends.specs.Ends.{all_of}
 
-pub whole_built : {I A : Type 0} (w : Seen I A) (built : Bool) (i : I) (b : Option I) → w.IsKnown i → Built built (λ o. o ≡ i) b →
-    Built built (IsSeenAs w (all_of w i)) b
+pub whole_built : {I A : Type 0} (w : Model I A) (built : Bool) (i : I) (b : Option I) → w.IsKnown i → Built built (λ o. o ≡ i) b →
+    Built built (IsModelledBy w (all_of w i)) b
 whole_built w built i b known h = built_error built (λ o. o ≡ i)
-    (IsSeenAs w (all_of w i)) b (λ o p. record { known = subst w.IsKnown (sym p) known; elements_are = ap w.elements p; mark_is = ap w.mark p }) h
+    (IsModelledBy w (all_of w i)) b (λ o p. record { known = subst w.IsKnown (sym p) known; elements_are = ap w.elements p; mark_is = ap w.mark p }) h

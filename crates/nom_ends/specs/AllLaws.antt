@@ -3,7 +3,7 @@ use Rattle.std.specs.Prelude.{◌≡◌, ℕ, Bool, true, false, List, [], refl}
 use Rattle.std.proofs.Common.{sym, ◌∙◌, ap, append-nil}
 use Rattle.nom_error.specs.declared.kind.ErrorKind.TheVariants as Kind
 use Rattle.nom_error.specs.Errors.{Errors}
-use Rattle.nom_traits.specs.Input.{Seen, IsPlace, IsSame, input_len}
+use Rattle.nom_traits.specs.Input.{Model, IsBoundary, IsSame, input_len}
 use Rattle.nom_traits.specs.Slices.{Slice}
 use Rattle.nom_internal.specs.Outcome.{Outcome, failure}
 use Rattle.nom_internal.specs.Outcome.Outcome.{Accept, Refuse, Fail, TooLarge, Undecided}
@@ -12,14 +12,14 @@ use Rattle.nom_internal.specs.Leaf.{LeafAnswers, leaf_meaning}
 use Rattle.nom_ends.specs.Ends.{plain_leaf, all_of, IsEnd, IsAll, IsLength, eof_meaning, rest_meaning, rest_len_meaning}
 
 -- what the answers of a plain leaf must keep
-pub record PlainLaws {I A V : Type 0} (w : Seen I A) (Accepts : I → ℕ → V → Type 0) (Refuses : I → Type 0) : Type 0 where
-  pub place : (i : I) (n : ℕ) (v : V) → Accepts i n v → IsPlace w i n
+pub record PlainLaws {I A V : Type 0} (w : Model I A) (Accepts : I → ℕ → V → Type 0) (Refuses : I → Type 0) : Type 0 where
+  pub place : (i : I) (n : ℕ) (v : V) → Accepts i n v → IsBoundary w i n
   pub one_accepted : (i : I) (n m : ℕ) (u v : V) → Accepts i n u → Accepts i m v → (n ≡ m) × (u ≡ v)
   pub never_both : (i : I) (n : ℕ) (v : V) → Accepts i n v → Refuses i → ⊥
   pub accepted_alike : (x y : I) (n : ℕ) (v : V) → IsSame w x y → Accepts x n v → Accepts y n v
   pub refused_alike : (x y : I) → IsSame w x y → Refuses x → Refuses y
 
-module _ {I A V : Type 0} (w : Seen I A) (Accepts : I → ℕ → V → Type 0) (Refuses : I → Type 0) (l : PlainLaws w Accepts Refuses) where
+module _ {I A V : Type 0} (w : Model I A) (Accepts : I → ℕ → V → Type 0) (Refuses : I → Type 0) (l : PlainLaws w Accepts Refuses) where
   -- in either mode, at inputs that are equal as models
   answers_alike : (s t : Bool) (x y : I) (o : Outcome V) → IsSame w x y → LeafAnswers (plain_leaf Accepts Refuses) s x o →
       LeafAnswers (plain_leaf Accepts Refuses) t y o
@@ -60,7 +60,7 @@ module _ {I A V : Type 0} (w : Seen I A) (Accepts : I → ℕ → V → Type 0) 
       never_fails = λ large g s i h a. never_answers large s i a;
     }
 
-module _ {I A : Type 0} (w : Seen I A) where
+module _ {I A : Type 0} (w : Model I A) where
   all_alike : (x y : I) → IsSame w x y → all_of w x ≡ all_of w y
   all_alike x y r =
       let slice : List A → w.Mark → Slice w = λ xs m. record { items = xs; mark = m } in
@@ -69,11 +69,11 @@ module _ {I A : Type 0} (w : Seen I A) where
   len_alike : (x y : I) → IsSame w x y → input_len w x ≡ input_len w y
   len_alike x y r = cc (r.elements_are)
 
-  place_none : (i : I) (n : ℕ) → n ≡ 0 → IsPlace w i n
+  place_none : (i : I) (n : ℕ) → n ≡ 0 → IsBoundary w i n
   place_none i n e = record { front = []; rest = w.elements i; whole = refl; length_is = sym e }
 
   -- all items, as a front
-  pub place_all : (i : I) (n : ℕ) → n ≡ input_len w i → IsPlace w i n
+  pub place_all : (i : I) (n : ℕ) → n ≡ input_len w i → IsBoundary w i n
   place_all i n e = record { front = w.elements i; rest = []; whole = sym (append-nil (w.elements i)); length_is = sym e }
 
   pub end_laws : PlainLaws w (IsEnd w) (λ i. w.elements i ≡ [] → ⊥)

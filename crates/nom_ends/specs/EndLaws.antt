@@ -3,7 +3,7 @@ use Rattle.std.specs.Prelude.{◌≡◌}
 use Rattle.std.proofs.Common.{sym, ◌∙◌, ap}
 use Rattle.nom_error.specs.declared.kind.ErrorKind.TheVariants as Kind
 use Rattle.nom_error.specs.Errors.{Errors}
-use Rattle.nom_traits.specs.Input.{Seen}
+use Rattle.nom_traits.specs.Input.{Model}
 use Rattle.nom_traits.specs.View.{View}
 use Rattle.nom_internal.specs.Meaning.{IsLawful, IsSteady}
 use Rattle.nom_internal.specs.Leaf.{LeafLaws, leaf_lawful, leaf_steady}
@@ -16,7 +16,7 @@ pub same_pinned : {O : Type 0} (view : View O) → IsPinned view (λ t o. o ≡ 
 same_pinned view t a b p q = ap view.value (p ∙ sym q)
 
 -- a clone of a value
-pub clone_lawful : {I A V : Type 0} (E : Type 0) (w : Seen I A) (v : V) (IsSure : Type 0) → IsLawful w (clone_meaning {E = E} v IsSure)
+pub clone_lawful : {I A V : Type 0} (E : Type 0) (w : Model I A) (v : V) (IsSure : Type 0) → IsLawful w (clone_meaning {E = E} v IsSure)
 clone_lawful E w v IsSure =
     let l = success_lawful E w v in
     record {
@@ -29,7 +29,7 @@ clone_lawful E w v IsSure =
       never_fails = l.never_fails;
     }
 
-fail_laws : {I A V : Type 0} (w : Seen I A) → LeafLaws w (fail_leaf {I = I} {V = V})
+fail_laws : {I A V : Type 0} (w : Model I A) → LeafLaws w (fail_leaf {I = I} {V = V})
 fail_laws w = record {
   place = λ s i n u h a. absurd a;
   one_accepted = λ s i n m u t h a b. absurd a;
@@ -44,7 +44,7 @@ fail_laws w = record {
   refused_settles = λ i h a. a;
 }
 
-module _ {I A E : Type 0} (V : Type 0) (w : Seen I A) (errs : Errors I E) where
+module _ {I A E : Type 0} (V : Type 0) (w : Model I A) (errs : Errors I E) where
   pub fail_lawful : IsLawful w (fail_meaning {V = V} errs)
   fail_lawful = leaf_lawful w fail_leaf (fail_laws w) (Unit {0}) (λ i e. errs.of_kind i Kind.Fail e) errs.grows
 

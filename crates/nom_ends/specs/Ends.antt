@@ -3,7 +3,7 @@ use Rattle.std.specs.Prelude.{◌≡◌, ℕ, true, false, []}
 use Rattle.nom_error.specs.Modes.{with_outputs}
 use Rattle.nom_error.specs.declared.kind.ErrorKind.TheVariants as Kind
 use Rattle.nom_error.specs.Errors.{Errors}
-use Rattle.nom_traits.specs.Input.{Seen, input_len}
+use Rattle.nom_traits.specs.Input.{Model, input_len}
 use Rattle.nom_traits.specs.Slices.{Slice}
 use Rattle.nom_internal.specs.Meaning.{Meaning}
 use Rattle.nom_internal.specs.Leaf.{Leaf, leaf_meaning}
@@ -14,7 +14,7 @@ use Rattle.nom_internal.specs.Success.{success_meaning}
 -- isn't sure to be there.
 abbrev pub clone_meaning : {I V E : Type 0} → V → Type 0 → Meaning I V E
 clone_meaning v IsSure = record (success_meaning v) {
-  runs_out = λ mode i. (mode.outputs ≡ true) × ¬ IsSure;
+  may_run_out = λ mode i. (mode.outputs ≡ true) × ¬ IsSure;
   IsFrugal = λ mode. mode.outputs ≡ true → IsSure;
 }
 
@@ -38,7 +38,7 @@ plain_leaf Accepts Refuses = record {
   Lacks = λ i k. ⊥;
 }
 
-module _ {I A : Type 0} (w : Seen I A) where
+module _ {I A : Type 0} (w : Model I A) where
   -- an input, as it is seen
   abbrev pub all_of : I → Slice w
   all_of i = record { items = w.elements i; mark = w.mark i }

@@ -30,7 +30,7 @@ impl<I: Input, F: Parser<I> + Drop> Parser<I> for AllConsuming<F> {
 
     ghost IsOutput = { F.IsOutput };
 
-    ghost meaning = { λ s. all_consuming_meaning I.seen F.Error.errors (F.meaning s) };
+    ghost meaning = { λ s. all_consuming_meaning I.model F.Error.errors (F.meaning s) };
 
     ghost Pins = { F.Pins };
 
@@ -42,6 +42,6 @@ impl<I: Input, F: Parser<I> + Drop> Parser<I> for AllConsuming<F> {
         Ok((rest, output))
     }
 
-    ghost lawful = { λ s k. sequence_lawful I.seen I.lawful (λ u v. u) (λ o. o) (with_outputs false) (F.meaning s) (eof_meaning I.seen F.Error.errors)
-        (F.lawful s k.0) (eof_lawful I.seen F.Error.errors) };
+    ghost lawful = { λ s k. sequence_lawful I.model I.lawful (λ u v. u) (λ o. o) (with_outputs false) (F.meaning s) (eof_meaning I.model F.Error.errors)
+        (F.lawful s k.0) (eof_lawful I.model F.Error.errors) };
 }

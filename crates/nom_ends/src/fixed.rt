@@ -42,20 +42,20 @@ impl<I: Items, O: Clone, E: ParseError<I>> Parser<I> for Success<O, I, E> {
 
     #[inline(always)]
     fn process<OM: OutputMode>(&mut self, input: I) -> PResult<I, O, E> {
-        input.known();
+        input.prove_known();
         match cloned::<OM::Output, O>(&self.value) {
             Ok(output) => Ok((input, output)),
             Err(_) => Err(Err::OutOfMemory),
         }
     }
 
-    ghost lawful = { λ value k. clone_lawful E I.seen value (O.is_infallible value) };
+    ghost lawful = { λ value k. clone_lawful E I.model value (O.is_infallible value) };
 }
 
 impl<I: Items, O: Clone + Viewed, E: ParseError<I>> StreamParser<I> for Success<O, I, E> {
     ghost pinned = { λ value k p t. clones_alike O.view O.is_clone value p };
 
-    ghost steady = { λ value k. success_steady E I.seen value };
+    ghost steady = { λ value k. success_steady E I.model value };
 }
 
 /// A refusal, made by `fail`.
@@ -86,11 +86,11 @@ impl<I: Items, O: Drop, E: ParseError<I>> Parser<I> for Fail<O, I, E> {
         Err(refusal::<OM::Error, I, E>(input, ErrorKind::Fail))
     }
 
-    ghost lawful = { λ _ k. fail_lawful O I.seen E.errors };
+    ghost lawful = { λ _ k. fail_lawful O I.model E.errors };
 }
 
 impl<I: Items, O: Drop + Viewed, E: ParseError<I>> StreamParser<I> for Fail<O, I, E> {
     ghost pinned = { λ s k p. same_pinned O.view };
 
-    ghost steady = { λ _ k. fail_steady O I.seen E.errors };
+    ghost steady = { λ _ k. fail_steady O I.model E.errors };
 }

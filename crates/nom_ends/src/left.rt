@@ -1,6 +1,6 @@
 //! Parsers of all that is left, alike in both modes.
 ghost use Rattle.std.specs.Prelude.{◌≡◌, ℕ};
-ghost use Rattle.nom_traits.specs.Slices.{Slice, IsSeenAs};
+ghost use Rattle.nom_traits.specs.Slices.{Slice, IsModelledBy};
 ghost use Rattle.nom_ends.specs.Ends.{eof_meaning, rest_meaning, rest_len_meaning};
 ghost use Rattle.nom_ends.specs.AllLaws.{eof_lawful, rest_lawful, rest_len_lawful};
 
@@ -36,25 +36,25 @@ impl<I: Input, E: ParseError<I>> Parser<I> for Eof<I, E> {
 
     ghost state = { λ _. tt };
 
-    ghost Tree = { Slice I.seen };
+    ghost Tree = { Slice I.model };
 
-    ghost IsOutput = { λ _. IsSeenAs I.seen };
+    ghost IsOutput = { λ _. IsModelledBy I.model };
 
-    ghost meaning = { λ _. eof_meaning I.seen E.errors };
+    ghost meaning = { λ _. eof_meaning I.model E.errors };
 
     ghost Pins = { λ _. Unit {0} };
 
     #[inline(always)]
     fn process<OM: OutputMode>(&mut self, input: I) -> PResult<I, I, E> {
         if input.input_len() == 0 {
-            input.known();
+            input.prove_known();
             Ok((input, built::<OM::Output, I>(input)))
         } else {
             Err(refusal::<OM::Error, I, E>(input, ErrorKind::Eof))
         }
     }
 
-    ghost lawful = { λ _ k. eof_lawful I.seen E.errors };
+    ghost lawful = { λ _ k. eof_lawful I.model E.errors };
 }
 
 /// All that is left.
@@ -80,24 +80,24 @@ impl<I: Input, E: ParseError<I>> Parser<I> for Rest<I, E> {
 
     ghost state = { λ _. tt };
 
-    ghost Tree = { Slice I.seen };
+    ghost Tree = { Slice I.model };
 
-    ghost IsOutput = { λ _. IsSeenAs I.seen };
+    ghost IsOutput = { λ _. IsModelledBy I.model };
 
-    ghost meaning = { λ _. rest_meaning I.seen };
+    ghost meaning = { λ _. rest_meaning I.model };
 
     ghost Pins = { λ _. Unit {0} };
 
     #[inline(always)]
     fn process<OM: OutputMode>(&mut self, input: I) -> PResult<I, I, E> {
-        input.known();
+        input.prove_known();
         Ok((
             input.take_from(input.input_len()),
             built::<OM::Output, I>(input),
         ))
     }
 
-    ghost lawful = { λ _ k. rest_lawful I.seen E };
+    ghost lawful = { λ _ k. rest_lawful I.model E };
 }
 
 /// The length of what is left.
@@ -127,15 +127,15 @@ impl<I: Input, E: ParseError<I>> Parser<I> for RestLen<I, E> {
 
     ghost IsOutput = { λ _ t n. n ≡ t };
 
-    ghost meaning = { λ _. rest_len_meaning I.seen };
+    ghost meaning = { λ _. rest_len_meaning I.model };
 
     ghost Pins = { λ _. Unit {0} };
 
     #[inline(always)]
     fn process<OM: OutputMode>(&mut self, input: I) -> PResult<I, usize, E> {
-        input.known();
+        input.prove_known();
         Ok((input, built::<OM::Output, usize>(input.input_len())))
     }
 
-    ghost lawful = { λ _ k. rest_len_lawful I.seen E };
+    ghost lawful = { λ _ k. rest_len_lawful I.model E };
 }

@@ -2,7 +2,7 @@
 #![tactic(auto)]
 
 ghost use Rattle.std.specs.Prelude.{◌≡◌, false};
-ghost use Rattle.nom_traits.specs.Slices.{IsSeenAs};
+ghost use Rattle.nom_traits.specs.Slices.{IsModelledBy};
 ghost use Rattle.nom_traits.specs.View.{itself};
 ghost use Rattle.nom_func.specs.Func.{AnswersBy};
 ghost use Rattle.nom_ends.specs.Ends.{eof_meaning, rest_meaning, rest_len_meaning};
@@ -48,7 +48,7 @@ pub fn all_consuming<F>(parser: F) -> AllConsuming<F>
 /// The end of the input: an empty input is given, and any other is refused with `Eof`, in both modes.
 #[inline(always)]
 pub fn eof<I: Input, E: ParseError<I>>(input: I) -> IResult<I, I, E>
-    ensures { AnswersBy I.seen I.view (IsSeenAs I.seen) (eof_meaning I.seen E.errors) false input result }
+    ensures { AnswersBy I.model I.view (IsModelledBy I.model) (eof_meaning I.model E.errors) false input result }
 {
     let mut parser = Eof::<I, E>::new();
     parser.parse_complete(input)
@@ -57,7 +57,7 @@ pub fn eof<I: Input, E: ParseError<I>>(input: I) -> IResult<I, I, E>
 /// All that is left, in both modes; nothing is left after it.
 #[inline(always)]
 pub fn rest<I: Input, E: ParseError<I>>(input: I) -> IResult<I, I, E>
-    ensures { AnswersBy I.seen I.view (IsSeenAs I.seen) (rest_meaning I.seen) false input result }
+    ensures { AnswersBy I.model I.view (IsModelledBy I.model) (rest_meaning I.model) false input result }
 {
     let mut parser = Rest::<I, E>::new();
     parser.parse_complete(input)
@@ -66,7 +66,7 @@ pub fn rest<I: Input, E: ParseError<I>>(input: I) -> IResult<I, I, E>
 /// The length of what is left, in both modes; nothing is consumed.
 #[inline(always)]
 pub fn rest_len<I: Input, E: ParseError<I>>(input: I) -> IResult<I, usize, E>
-    ensures { AnswersBy I.seen itself (λ t n. n ≡ t) (rest_len_meaning I.seen) false input result }
+    ensures { AnswersBy I.model itself (λ t n. n ≡ t) (rest_len_meaning I.model) false input result }
 {
     let mut parser = RestLen::<I, E>::new();
     parser.parse_complete(input)

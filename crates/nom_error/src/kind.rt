@@ -1,6 +1,6 @@
 //! Why a parser refuses.
 ghost use Rattle.std.specs.Prelude.{◌≡◌, Some};
-ghost use Rattle.nom_error.specs.Kinds.{description_of, name_of, number_of};
+ghost use Rattle.nom_error.specs.Kinds.{description_of, name_of, kind_number};
 
 use std::fmt;
 
@@ -203,7 +203,7 @@ impl fmt::Debug for ErrorKind {
 
 /// The number of the kind.
 pub fn error_to_u32(e: &ErrorKind) -> u32
-    ensures { result ≡ number_of e.now }
+    ensures { result ≡ kind_number e.now }
 {
     match e {
         ErrorKind::Tag => 1,

@@ -5,8 +5,8 @@ use Rattle.nom_error.specs.declared.answer.Err as Answer
 use Rattle.nom_error.specs.declared.answer.Err.TheVariants.{Incomplete, Error, Failure, OutOfMemory}
 use Rattle.nom_error.specs.Answers.{size_of}
 use Rattle.nom_error.specs.Modes.{modes}
-use Rattle.nom_traits.specs.Input.{Seen, InputLaws, IsRest, Related, span}
-use Rattle.nom_traits.specs.Rests.{span-append}
+use Rattle.nom_traits.specs.Input.{Model, InputLaws, IsSuffixOf, Related, items_len}
+use Rattle.nom_traits.specs.Rests.{items_len-append}
 use Rattle.nom_traits.specs.View.{View}
 use Rattle.nom_internal.specs.Outcome.{Outcome, IsDecided, Parses, ParsesAnswer}
 use Rattle.nom_internal.specs.Outcome.ParsesAnswer.{ParseRanOut, Parsed}
@@ -15,14 +15,14 @@ use Rattle.nom_internal.specs.Meaning.{Meaning, IsLawful, IsSteady, NeverTooLarg
 use Rattle.nom_internal.specs.Pinned.{IsPinned}
 use Rattle.nom_func.specs.Func.{Tells, TellOne, TellsItems, FuncOutcome, IsParser, IsStreamParser, Answers, AnswersBy, StreamsBy}
 
-module _ {I A : Type 0} (w : Seen I A) where
+module _ {I A : Type 0} (w : Model I A) where
   -- a rest is left at one place
-  one_length : (i j : I) (n m : ℕ) → IsRest w i n j → IsRest w i m j → n ≡ m
+  one_length : (i j : I) (n m : ℕ) → IsSuffixOf w i n j → IsSuffixOf w i m j → n ≡ m
   one_length i j n m p q = omega (
     arith,
-    ap (span w.weight) (sym p.whole ∙ q.whole),
-    span-append w.weight p.front (w.elements j),
-    span-append w.weight q.front (w.elements j),
+    ap (items_len w.item_len) (sym p.whole ∙ q.whole),
+    items_len-append w.item_len p.front (w.elements j),
+    items_len-append w.item_len q.front (w.elements j),
     p.length_is,
     q.length_is,
   )
@@ -50,7 +50,7 @@ module _ {V O : Type 0} (view : View O) (IsOutput : V → O → Type 0) where
   retold_decided TooLarge o never h k = absurd (never refl)
   retold_decided (Undecided d) o never h k = subst (Keeps true) h k
 
-  module _ {I A E : Type 0} (w : Seen I A) (i : I) (IsError : E → Type 0) where
+  module _ {I A E : Type 0} (w : Model I A) (i : I) (IsError : E → Type 0) where
     retold_of : (a : Outcome V) (r : Result (I × O) (Answer.Err E E Needed)) (o : Outcome view.Value) → Parses w IsOutput i IsError a r →
         Tells w view i r o → Retold a o
     retold_of (Accept n t) r o p h =
@@ -62,10 +62,10 @@ module _ {V O : Type 0} (view : View O) (IsOutput : V → O → Type 0) where
     retold_of (Undecided k) r o p h = (let told : o ≡ Undecided (size_of p.0) = subst (λ x. Tells w view i x o) p.2 h in told ∙ ap Undecided p.1)
 
     rest_of : (a : Outcome V) (j : I) (v : O) →
-        (let r : Result (I × O) (Answer.Err E E Needed) = Ok (j, v) in Parses w IsOutput i IsError a r → (n : ℕ) × IsRest w i n j)
+        (let r : Result (I × O) (Answer.Err E E Needed) = Ok (j, v) in Parses w IsOutput i IsError a r → (n : ℕ) × IsSuffixOf w i n j)
     rest_of (Accept n t) j v p =
         let same : ◌≡◌ {A = I × O} (j, v) (p.0, p.1) = cc (p.4) in
-        (n, subst (λ k. IsRest w i n k) (sym (ap (λ q. q.0) same)) p.2)
+        (n, subst (λ k. IsSuffixOf w i n k) (sym (ap (λ q. q.0) same)) p.2)
     rest_of Refuse j v p = cc (p.2)
     rest_of Fail j v p = cc (p.2)
     rest_of TooLarge j v p = cc (p.2)
@@ -77,7 +77,7 @@ record Meant {V O : Type 0} (view : View O) (IsOutput : V → O → Type 0) (Ans
   answered : Answers outcome
   retold : Retold view IsOutput outcome o
 
-module _ {I A V O E : Type 0} (w : Seen I A) (view : View O) (IsOutput : V → O → Type 0) (i : I) (Answers : Outcome V → Type 0) (IsError : E → Type 0)
+module _ {I A V O E : Type 0} (w : Model I A) (view : View O) (IsOutput : V → O → Type 0) (i : I) (Answers : Outcome V → Type 0) (IsError : E → Type 0)
     (RunsOut : Type 0) where
   meant_by : (r : Result (I × O) (Answer.Err E E Needed)) (o : Outcome view.Value) → ParsesAnswer w IsOutput i Answers IsError RunsOut r →
       Tells w view i r o → Meant view IsOutput Answers o
@@ -85,13 +85,13 @@ module _ {I A V O E : Type 0} (w : Seen I A) (view : View O) (IsOutput : V → O
   meant_by r o (Parsed a h p) t = record { outcome = a; answered = h; retold = retold_of view IsOutput w i IsError a r o p t }
 
   rest_by : (j : I) (v : O) → (let r : Result (I × O) (Answer.Err E E Needed) = Ok (j, v) in ParsesAnswer w IsOutput i Answers IsError RunsOut r →
-      (n : ℕ) × IsRest w i n j)
+      (n : ℕ) × IsSuffixOf w i n j)
   rest_by j v (ParseRanOut e h) = cc (e)
   rest_by j v (Parsed a h p) = rest_of view IsOutput w i IsError a j v p
 
 -- The function takes every input, and answers as a relation of inputs to outcomes says, under which inputs that are equal as models
 -- have one outcome; and one tree stands for one output.
-module _ {I A V O E : Type 0} {w : Seen I A} {view : View O} {IsOutput : V → O → Type 0} {Answers : I → Outcome V → Type 0} {IsError : I → E → Type 0}
+module _ {I A V O E : Type 0} {w : Model I A} {view : View O} {IsOutput : V → O → Type 0} {Answers : I → Outcome V → Type 0} {IsError : I → E → Type 0}
     {RunsOut : I → Type 0} {Gives : I → Result (I × O) (Answer.Err E E Needed) → Type 0} {Takes : I → Type 0} (one : Agree w false Answers Answers)
     (pinned : IsPinned view IsOutput) (takes : (i : I) → w.IsKnown i → Takes i)
     (shows : (i : I) (r : Result (I × O) (Answer.Err E E Needed)) → w.IsKnown i → Gives i r →
@@ -128,8 +128,8 @@ module _ {I A V O E : Type 0} {w : Seen I A} {view : View O} {IsOutput : V → O
   }
 
 -- by the outcomes that the answers tell
-module _ {I A O E : Type 0} {w : Seen I A} {view : View O} {Gives : I → Result (I × O) (Answer.Err E E Needed) → Type 0} {Takes : I → Type 0} where
-  pub parser_of : ((i : I) → w.IsKnown i → Takes i) → ((i j : I) (v : O) → w.IsKnown i → Gives i (Ok (j, v)) → (n : ℕ) × IsRest w i n j) →
+module _ {I A O E : Type 0} {w : Model I A} {view : View O} {Gives : I → Result (I × O) (Answer.Err E E Needed) → Type 0} {Takes : I → Type 0} where
+  pub parser_of : ((i : I) → w.IsKnown i → Takes i) → ((i j : I) (v : O) → w.IsKnown i → Gives i (Ok (j, v)) → (n : ℕ) × IsSuffixOf w i n j) →
       Agree w false (FuncOutcome w view Gives) (FuncOutcome w view Gives) → IsParser w view Gives Takes
   unfolding TellOne
   parser_of takes rests one = record {
@@ -139,22 +139,22 @@ module _ {I A O E : Type 0} {w : Seen I A} {view : View O} {Gives : I → Result
         (record { answer = q; given = b; told = u }));
   }
 
-module _ {I A V O E : Type 0} {w : Seen I A} {view : View O} {IsOutput : V → O → Type 0} {m : Meaning I V E}
+module _ {I A V O E : Type 0} {w : Model I A} {view : View O} {IsOutput : V → O → Type 0} {m : Meaning I V E}
     {Gives : I → Result (I × O) (Answer.Err E E Needed) → Type 0} {Takes : I → Type 0} where
   -- a function that answers as a lawful meaning says in one mode is a parser, where one tree stands for one output
   pub func_sound : (s : Bool) → IsLawful w m → IsPinned view IsOutput → ((i : I) → w.IsKnown i → Takes i) →
       ((i : I) (r : Result (I × O) (Answer.Err E E Needed)) → w.IsKnown i → Gives i r → ParsesMeaning w IsOutput m s i r) → IsParser w view Gives Takes
   func_sound s lawful pinned takes shows =
-      parser_by {IsError = λ i. m.blames s i} {RunsOut = λ i. m.runs_out (modes true true s) i} (lawful.one_outcome s) pinned takes shows
+      parser_by {IsError = λ i. m.blames s i} {RunsOut = λ i. m.may_run_out (modes true true s) i} (lawful.one_outcome s) pinned takes shows
 
   -- and a stream parser where that mode is the streaming one, the meaning is steady, and what it lacks is never too large
   pub stream_func_sound : IsLawful w m → IsSteady w m → NeverTooLarge m → IsPinned view IsOutput → ((i : I) → w.IsKnown i → Takes i) →
       ((i : I) (r : Result (I × O) (Answer.Err E E Needed)) → w.IsKnown i → Gives i r → ParsesMeaning w IsOutput m true i r) → IsStreamParser w view Gives Takes
   stream_func_sound lawful steady never pinned takes shows =
-      stream_parser_by {IsError = λ i. m.blames true i} {RunsOut = λ i. m.runs_out (modes true true true) i}
+      stream_parser_by {IsError = λ i. m.blames true i} {RunsOut = λ i. m.may_run_out (modes true true true) i}
       (lawful.one_outcome true) pinned takes shows steady (λ i h a. lawful.never_fails true never true i h a)
 
-module _ {I A O E : Type 0} (w : Seen I A) (view : View O) where
+module _ {I A O E : Type 0} (w : Model I A) (view : View O) where
   -- an answer tells one outcome
   tells_once : (i : I) (r : Result (I × O) (Answer.Err E E Needed)) (o p : Outcome view.Value) → Tells w view i r o → Tells w view i r p → o ≡ p
   tells_once i (Ok (j, v)) o p h k = h.2 ∙ (ap (λ n. Accept n (view.value v)) (one_length w i j h.0 k.0 h.1 k.1) ∙ sym k.2)
@@ -163,16 +163,17 @@ module _ {I A O E : Type 0} (w : Seen I A) (view : View O) where
   tells_once i (Err (Failure e)) o p h k = h ∙ sym k
   tells_once i (Err OutOfMemory) o p h k = absurd h
 
-module _ {I A O E : Type 0} (w : Seen I A) (view : View O) (outcome : List A → Outcome view.Value) where
+module _ {I A O E : Type 0} (w : Model I A) (view : View O) (outcome : List A → Outcome view.Value) where
   items_outcome : (i : I) (r : Result (I × O) (Answer.Err E E Needed)) (o : Outcome view.Value) → TellsItems w view outcome i r → Tells w view i r o →
       o ≡ outcome (w.elements i)
   items_outcome i r o g t = tells_once w view i r o (outcome (w.elements i)) t g
 
-  items_rest : (i : I) (r : Result (I × O) (Answer.Err E E Needed)) (j : I) (v : O) → r ≡ Ok (j, v) → TellsItems w view outcome i r → (n : ℕ) × IsRest w i n j
+  items_rest : (i : I) (r : Result (I × O) (Answer.Err E E Needed)) (j : I) (v : O) → r ≡ Ok (j, v) → TellsItems w view outcome i r → (n : ℕ) ×
+      IsSuffixOf w i n j
   items_rest i r j v e g = let told = subst (λ x. TellsItems w view outcome i x) e g in (told.0, told.1)
 
 -- Of a function without a premise, whose contract says the outcome by the items.
-module _ {I A O E : Type 0} {w : Seen I A} {view : View O} (outcome : List A → Outcome view.Value) where
+module _ {I A O E : Type 0} {w : Model I A} {view : View O} (outcome : List A → Outcome view.Value) where
   pub items_func : IsParser {E = E} w view (TellsItems w view outcome) (λ i. Unit {0})
   unfolding TellOne
   items_func = record {
@@ -193,15 +194,15 @@ module _ {I A O E : Type 0} {w : Seen I A} {view : View O} (outcome : List A →
         items_outcome w view outcome x f o a t ∙ (sym kept ∙ (ap outcome (sym r.whole) ∙ sym (items_outcome w view outcome y g p b u))));
   }
 
-module _ {I A : Type 0} (w : Seen I A) (l : InputLaws w) where
-  all_left : (i : I) → w.IsKnown i → IsRest w i 0 i
+module _ {I A : Type 0} (w : Model I A) (l : InputLaws w) where
+  all_left : (i : I) → w.IsKnown i → IsSuffixOf w i 0 i
   all_left i k = record { known = k; front = []; whole = refl; length_is = refl; mark_is = sym (l.mark_none (w.mark i)) }
 
   left_with : {O E : Type 0} (i j : I) (v x : O) (r : Result (I × O) (Answer.Err E E Needed)) → w.IsKnown i → r ≡ Ok (j, v) → r ≡ Ok (i, x) →
-      (n : ℕ) × IsRest w i n j
+      (n : ℕ) × IsSuffixOf w i n j
   left_with {O} i j v x r k e f =
       let same : ◌≡◌ {A = I × O} (j, v) (i, x) = cc (e, f) in
-      (0, subst (λ y. IsRest w i 0 y) (sym (ap (λ q. q.0) same)) (all_left i k))
+      (0, subst (λ y. IsSuffixOf w i 0 y) (sym (ap (λ q. q.0) same)) (all_left i k))
 
   told_with : {O E : Type 0} (view : View O) (i : I) (x : O) (r : Result (I × O) (Answer.Err E E Needed)) (o : Outcome view.Value) → w.IsKnown i →
       r ≡ Ok (i, x) → Tells w view i r o → o ≡ Accept 0 (view.value x)
@@ -210,7 +211,7 @@ module _ {I A : Type 0} (w : Seen I A) (l : InputLaws w) where
       t.2 ∙ ap (λ n. Accept n (view.value x)) (one_length w i i t.0 0 t.1 (all_left i k))
 
 -- Of a function that tells its answer outright: it leaves all of its input, with an output of it.
-module _ {I A O E : Type 0} {w : Seen I A} (l : InputLaws w) {view : View O} {Gives : I → Result (I × O) (Answer.Err E E Needed) → Type 0}
+module _ {I A O E : Type 0} {w : Model I A} (l : InputLaws w) {view : View O} {Gives : I → Result (I × O) (Answer.Err E E Needed) → Type 0}
     {Takes : I → Type 0} (value : I → O) (takes : (i : I) → w.IsKnown i → Takes i)
     (outright : (i : I) (r : Result (I × O) (Answer.Err E E Needed)) → Gives i r → r ≡ Ok (i, value i)) where
   -- the outputs of inputs that are equal as models are
@@ -234,19 +235,19 @@ module _ {I A O E : Type 0} {w : Seen I A} (l : InputLaws w) {view : View O} {Gi
   }
 
 -- What answers by a lawful meaning, whose trees stand for one output each, answers so alike.
-module _ {I A V O E : Type 0} {w : Seen I A} {view : View O} {IsOutput : V → O → Type 0} {m : Meaning I V E} {i : I}
+module _ {I A V O E : Type 0} {w : Model I A} {view : View O} {IsOutput : V → O → Type 0} {m : Meaning I V E} {i : I}
     {r : Result (I × O) (Answer.Err E E Needed)} where
   pub answers_by : {s : Bool} → IsLawful w m → IsPinned view IsOutput → ParsesMeaning w IsOutput m s i r → AnswersBy w view IsOutput m s i r
   unfolding TellOne Answers
   answers_by {s} lawful pinned shown = record {
     shown = shown;
     rests = record {
-      rest = λ j v e. rest_by w view IsOutput i (m.answers s i) (m.blames s i) (m.runs_out (modes true true s) i) j v
+      rest = λ j v e. rest_by w view IsOutput i (m.answers s i) (m.blames s i) (m.may_run_out (modes true true s) i) j v
           (subst (λ x. ParsesMeaning w IsOutput m s i x) e shown);
     };
     alike = λ j q record { from_known = ki; to_known = kj; related = same } by. (λ o p t k u.
-        let a = meant_by w view IsOutput i (m.answers s i) (m.blames s i) (m.runs_out (modes true true s) i) r o shown t in
-        let b = meant_by w view IsOutput j (m.answers s j) (m.blames s j) (m.runs_out (modes true true s) j) q p by u in
+        let a = meant_by w view IsOutput i (m.answers s i) (m.blames s i) (m.may_run_out (modes true true s) i) r o shown t in
+        let b = meant_by w view IsOutput j (m.answers s j) (m.blames s j) (m.may_run_out (modes true true s) j) q p by u in
         let one = lawful.one_outcome s i j a.outcome b.outcome ki kj same a.answered tt b.answered in
         retold_once view IsOutput pinned b.outcome o p (subst (λ z. Retold view IsOutput z o) one a.retold) b.retold);
   }
@@ -257,8 +258,8 @@ module _ {I A V O E : Type 0} {w : Seen I A} {view : View O} {IsOutput : V → O
   streams_by lawful steady never pinned shown = record {
     answer = answers_by lawful pinned shown;
     stays = λ j q record { from_known = ki; to_known = kj; related = longer } by. (λ o p t k u.
-        let a = meant_by w view IsOutput i (m.answers true i) (m.blames true i) (m.runs_out (modes true true true) i) r o shown t in
-        let b = meant_by w view IsOutput j (m.answers true j) (m.blames true j) (m.runs_out (modes true true true) j) q p by u in
+        let a = meant_by w view IsOutput i (m.answers true i) (m.blames true i) (m.may_run_out (modes true true true) i) r o shown t in
+        let b = meant_by w view IsOutput j (m.answers true j) (m.blames true j) (m.may_run_out (modes true true true) j) q p by u in
         let large : a.outcome ≡ TooLarge → ⊥ = λ e. lawful.never_fails true never true i ki (subst (λ z. m.answers true i z) e a.answered) in
         let one = steady i j a.outcome b.outcome ki kj longer a.answered (retold_decided view IsOutput a.outcome o large a.retold k) b.answered in
         retold_once view IsOutput pinned b.outcome o p (subst (λ z. Retold view IsOutput z o) one a.retold) b.retold);

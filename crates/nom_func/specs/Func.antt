@@ -5,7 +5,7 @@ use Rattle.nom_error.specs.declared.answer.Needed.{Needed}
 use Rattle.nom_error.specs.declared.answer.Err as Answer
 use Rattle.nom_error.specs.declared.answer.Err.TheVariants.{Incomplete, Error, Failure, OutOfMemory}
 use Rattle.nom_error.specs.Answers.{size_of}
-use Rattle.nom_traits.specs.Input.{Seen, IsRest, IsSame, Related}
+use Rattle.nom_traits.specs.Input.{Model, IsSuffixOf, IsSame, Related}
 use Rattle.nom_traits.specs.View.{View}
 use Rattle.nom_internal.specs.Outcome.{Outcome}
 use Rattle.nom_internal.specs.Outcome.Outcome.{Accept, Refuse, Fail, Undecided}
@@ -25,25 +25,25 @@ pub data FuncBlames {I O E : Type 0} (Gives : I → Result (I × O) (Answer.Err 
   OfFailure : Gives i (Err (Failure e)) → FuncBlames Gives i e
 
 -- The function never answers a failure (false). That what it lacks is too large (true), its answers never tell.
-abbrev pub FuncNeverFails : {I A O E : Type 0} → Seen I A → (I → Result (I × O) (Answer.Err E E Needed) → Type 0) → Bool → Type 0
+abbrev pub FuncNeverFails : {I A O E : Type 0} → Model I A → (I → Result (I × O) (Answer.Err E E Needed) → Type 0) → Bool → Type 0
 FuncNeverFails {I} {E = E} w Gives false = (i : I) (e : E) → w.IsKnown i → Gives i (Err (Failure e)) → ⊥
 FuncNeverFails w Gives true = Unit {0}
 
 -- two inputs, the second longer than the first (true), or equal as models (false)
-pub record AreRelated {I A : Type 0} (w : Seen I A) (longer : Bool) (i j : I) : Type 0 where
+pub record AreRelated {I A : Type 0} (w : Model I A) (longer : Bool) (i j : I) : Type 0 where
   pub from_known : w.IsKnown i
   pub to_known : w.IsKnown j
   pub related : Related w longer i j
 
 -- what an acceptance leaves is a rest of the input
-pub record LeavesRest {I A O E : Type 0} (w : Seen I A) (i : I) (r : Result (I × O) (Answer.Err E E Needed)) : Type 0 where
-  pub rest : (j : I) (v : O) → r ≡ Ok (j, v) → (n : ℕ) × IsRest w i n j
+pub record LeavesRest {I A O E : Type 0} (w : Model I A) (i : I) (r : Result (I × O) (Answer.Err E E Needed)) : Type 0 where
+  pub rest : (j : I) (v : O) → r ≡ Ok (j, v) → (n : ℕ) × IsSuffixOf w i n j
 
-module _ {I A O E : Type 0} (w : Seen I A) (view : View O) where
+module _ {I A O E : Type 0} (w : Model I A) (view : View O) where
   -- The outcome that an answer at i tells: its tree is the view of the output, and a failure is one of the function's own. Want
   -- of memory tells none.
   abbrev pub Tells : I → Result (I × O) (Answer.Err E E Needed) → Outcome view.Value → Type 0
-  Tells i (Ok (j, v)) o = (n : ℕ) × IsRest w i n j × (o ≡ Accept n (view.value v))
+  Tells i (Ok (j, v)) o = (n : ℕ) × IsSuffixOf w i n j × (o ≡ Accept n (view.value v))
   Tells i (Err (Incomplete k)) o = o ≡ Undecided (size_of k)
   Tells i (Err (Error e)) o = o ≡ Refuse
   Tells i (Err (Failure e)) o = o ≡ Fail
@@ -91,20 +91,20 @@ module _ {I A O E : Type 0} (w : Seen I A) (view : View O) where
       IsSound = IsSound;
       answers = λ s. FuncAnswers;
       blames = λ s. FuncBlames Gives;
-      runs_out = λ mode i. Gives i (Err OutOfMemory);
+      may_run_out = λ mode i. Gives i (Err OutOfMemory);
       IsFrugal = λ mode. (i : I) → w.IsKnown i → Gives i (Err OutOfMemory) → ⊥;
       Settles = Unit {0};
       NeverFails = FuncNeverFails w Gives;
     }
 
 -- the answer r at i is what a meaning says in one mode
-unfoldable pub Answers : {I A V O E : Type 0} (w : Seen I A) (IsOutput : V → O → Type 0) (m : Meaning I V E) (s : Bool) (i : I)
+unfoldable pub Answers : {I A V O E : Type 0} (w : Model I A) (IsOutput : V → O → Type 0) (m : Meaning I V E) (s : Bool) (i : I)
     (r : Result (I × O) (Answer.Err E E Needed)) → Type 0
 Answers w IsOutput m s i r = ParsesMeaning w IsOutput m s i r
 
 -- What a plain function ensures of its answer r at i: what a meaning says in one mode. The meaning is lawful, so it pins the
 -- function's answers everywhere; `rests` and `alike` say so in the words of `IsParser`, by which `func` takes the function.
-module _ {I A V O E : Type 0} (w : Seen I A) (view : View O) (IsOutput : V → O → Type 0) (m : Meaning I V E) (s : Bool) (i : I)
+module _ {I A V O E : Type 0} (w : Model I A) (view : View O) (IsOutput : V → O → Type 0) (m : Meaning I V E) (s : Bool) (i : I)
     (r : Result (I × O) (Answer.Err E E Needed)) where
   pub record AnswersBy : Type 0 where
     pub shown : Answers w IsOutput m s i r

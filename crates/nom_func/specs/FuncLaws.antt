@@ -4,7 +4,7 @@ use Rattle.std.proofs.Common.{sym, ◌∙◌, ap, subst}
 use Rattle.nom_error.specs.declared.answer.Needed.{Needed}
 use Rattle.nom_error.specs.declared.answer.Err as Answer
 use Rattle.nom_error.specs.declared.answer.Err.TheVariants.{Incomplete, Error, Failure, OutOfMemory}
-use Rattle.nom_traits.specs.Input.{Seen, IsPlace, IsSame, Related}
+use Rattle.nom_traits.specs.Input.{Model, IsBoundary, IsSame, Related}
 use Rattle.nom_traits.specs.Rests.{rest_place, same_then, same_sym}
 use Rattle.nom_traits.specs.View.{View}
 use Rattle.nom_internal.specs.Outcome.{Outcome, failure}
@@ -12,7 +12,7 @@ use Rattle.nom_internal.specs.Outcome.Outcome.{Accept}
 use Rattle.nom_internal.specs.Meaning.{IsLawful, IsSteady, Agree, Keeps}
 use Rattle.nom_func.specs.Func.{AreRelated, Tells, TellOne, FuncOutcome, FuncAnswers, FuncNeverFails, IsParser, IsStreamParser, func_meaning}
 
-module _ {I A : Type 0} (w : Seen I A) where
+module _ {I A : Type 0} (w : Model I A) where
   -- inputs that are seen as related ones are related alike
   related_alike : (longer : Bool) (x y u v : I) → IsSame w u x → IsSame w v y → Related w longer x y → Related w longer u v
   related_alike true x y u v p q r = record {
@@ -23,12 +23,12 @@ module _ {I A : Type 0} (w : Seen I A) where
   }
   related_alike false x y u v p q r = same_then w u x v p (same_then w x y v r (same_sym w v y q))
 
-  place_alike : (x y : I) (n : ℕ) → IsSame w x y → IsPlace w x n → IsPlace w y n
+  place_alike : (x y : I) (n : ℕ) → IsSame w x y → IsBoundary w x n → IsBoundary w y n
   place_alike x y n r p = record { front = p.front; rest = p.rest; whole = sym r.elements_are ∙ p.whole; length_is = p.length_is }
 
   module _ {O E : Type 0} (view : View O) where
-    accepts_within : (i : I) (r : Result (I × O) (Answer.Err E E Needed)) (n : ℕ) (t : view.Value) → Tells w view i r (Accept n t) → IsPlace w i n
-    accepts_within i (Ok (j, v)) n t h = let same : h.0 ≡ n = cc (h.2) in subst (IsPlace w i) same (rest_place w i h.0 j h.1)
+    accepts_within : (i : I) (r : Result (I × O) (Answer.Err E E Needed)) (n : ℕ) (t : view.Value) → Tells w view i r (Accept n t) → IsBoundary w i n
+    accepts_within i (Ok (j, v)) n t h = let same : h.0 ≡ n = cc (h.2) in subst (IsBoundary w i) same (rest_place w i h.0 j h.1)
     accepts_within i (Err (Incomplete k)) n t h = cc
     accepts_within i (Err (Error e)) n t h = cc
     accepts_within i (Err (Failure e)) n t h = cc

@@ -17,7 +17,7 @@ pub fn answer<I: Items, P: StreamParser<I>>(
 ) -> IResult<I, P::Output, P::Error>
     requires sound { (P.meaning (P.state parser.old)).IsSound }
     requires pins { P.Parser.Pins (P.state parser.old) }
-    ensures answer { AnswersBy I.seen P.Output.view (P.IsOutput (P.state parser.old)) (P.meaning (P.state parser.old)) false input result }
+    ensures answer { AnswersBy I.model P.Output.view (P.IsOutput (P.state parser.old)) (P.meaning (P.state parser.old)) false input result }
     ensures kept { P.state parser.new ≡ P.state parser.old }
     ensures besides { P.Besides (modes true true false) parser.old parser.new input (rest_of result) }
 {
@@ -34,7 +34,7 @@ pub fn stream_answer<I: Items, P: StreamParser<I>>(
     requires sound { (P.meaning (P.state parser.old)).IsSound }
     requires pins { P.Parser.Pins (P.state parser.old) }
     requires never_too_large { NeverTooLarge (P.meaning (P.state parser.old)) }
-    ensures answer { StreamsBy I.seen P.Output.view (P.IsOutput (P.state parser.old)) (P.meaning (P.state parser.old)) true input result }
+    ensures answer { StreamsBy I.model P.Output.view (P.IsOutput (P.state parser.old)) (P.meaning (P.state parser.old)) true input result }
     ensures kept { P.state parser.new ≡ P.state parser.old }
     ensures besides { P.Besides (modes true true true) parser.old parser.new input (rest_of result) }
 {

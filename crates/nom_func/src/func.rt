@@ -32,13 +32,13 @@ impl<I: Items, O: Viewed + Drop, E: ParseError<I>, F: Fn(I) -> IResult<I, O, E>>
 
     ghost IsOutput = { λ _. IsViewed O.view };
 
-    ghost meaning = { λ f. func_meaning I.seen O.view (F.post f) (IsParser I.seen O.view (F.post f) (F.pre f)) };
+    ghost meaning = { λ f. func_meaning I.model O.view (F.post f) (IsParser I.model O.view (F.post f) (F.pre f)) };
 
     ghost Pins = { λ _. Unit {0} };
 
     #[inline(always)]
     fn process<OM: OutputMode>(&mut self, input: I) -> PResult<I, O, E> {
-        input.known();
+        input.prove_known();
         match (self.f)(input) {
             Ok((rest, value)) => Ok((rest, built::<OM::Output, O>(value))),
             Err(Err::Incomplete(needed)) => Err(Err::Incomplete(needed)),
@@ -48,7 +48,7 @@ impl<I: Items, O: Viewed + Drop, E: ParseError<I>, F: Fn(I) -> IResult<I, O, E>>
         }
     }
 
-    ghost lawful = { λ f. func_lawful I.seen O.view (F.post f) (F.pre f) };
+    ghost lawful = { λ f. func_lawful I.model O.view (F.post f) (F.pre f) };
 }
 
 /// A function as a stream parser; made by `stream_func`.
@@ -71,7 +71,7 @@ impl<I: Items, O: Viewed + Drop, E: ParseError<I>, F: Fn(I) -> IResult<I, O, E>>
 
     ghost IsOutput = { λ _. IsViewed O.view };
 
-    ghost meaning = { λ f. func_meaning I.seen O.view (F.post f) (IsStreamParser I.seen O.view (F.post f) (F.pre f)) };
+    ghost meaning = { λ f. func_meaning I.model O.view (F.post f) (IsStreamParser I.model O.view (F.post f) (F.pre f)) };
 
     ghost Pins = { λ _. Unit {0} };
 
@@ -80,12 +80,12 @@ impl<I: Items, O: Viewed + Drop, E: ParseError<I>, F: Fn(I) -> IResult<I, O, E>>
         self.func.process::<OM>(input)
     }
 
-    ghost lawful = { λ f. stream_func_lawful I.seen O.view (F.post f) (F.pre f) };
+    ghost lawful = { λ f. stream_func_lawful I.model O.view (F.post f) (F.pre f) };
 }
 
 impl<I: Items, O: Viewed + Drop, E: ParseError<I>, F: Fn(I) -> IResult<I, O, E>> StreamParser<I>
     for StreamFunc<F, I, O, E> {
     ghost pinned = { λ f k p. viewed_pinned O.view };
 
-    ghost steady = { λ f. stream_func_steady I.seen O.view (F.post f) (F.pre f) };
+    ghost steady = { λ f. stream_func_steady I.model O.view (F.post f) (F.pre f) };
 }

@@ -3,7 +3,7 @@ use Rattle.std.proofs.Common.{◌≡◌, true, false, Result, Ok, Err, sym, subs
 use Rattle.nom_error.specs.declared.answer.Needed.{Needed}
 use Rattle.nom_error.specs.declared.answer.Err as Answer
 use Rattle.nom_error.specs.declared.answer.Err.TheVariants.{OutOfMemory}
-use Rattle.nom_traits.specs.Input.{Seen, InputLaws}
+use Rattle.nom_traits.specs.Input.{Model, InputLaws}
 use Rattle.nom_traits.specs.Rests.{same_self, rest_related}
 use Rattle.nom_traits.specs.View.{View}
 use Rattle.nom_internal.specs.Pinned.{IsPinned}
@@ -13,7 +13,7 @@ use Rattle.nom_internal.specs.Outcome.ParsesAnswer.{ParseRanOut, Parsed}
 use Rattle.nom_internal.specs.Meaning.{Meaning, IsLawful, ParsesMeaning}
 use Rattle.nom_growing.specs.Promises.{IsBlamed, Completes}
 
-module _ {I A V O E : Type 0} (w : Seen I A) (l : InputLaws w) (view : View O) (Pins : Type 0) (IsOutput : V → O → Type 0)
+module _ {I A V O E : Type 0} (w : Model I A) (l : InputLaws w) (view : View O) (Pins : Type 0) (IsOutput : V → O → Type 0)
     (pinned : Pins → IsPinned view IsOutput) (m : Meaning I V E) (laws : IsLawful w m) (settles : m.Settles) (x : I) (known : w.IsKnown x) where
   abbrev Shown : Result (I × O) (Answer.Err E E Needed) → Result (I × O) (Answer.Err E E Needed) → Type 0
   Shown r s = Completes w view Pins IsOutput m x r s

@@ -6,7 +6,7 @@ use Rattle.nom_error.specs.declared.answer.Err as Answer
 use Rattle.nom_error.specs.declared.answer.Err.TheVariants.{Incomplete, OutOfMemory}
 use Rattle.nom_error.specs.Answers.{size_of}
 use Rattle.nom_internal.specs.Results.{AsksForMore, HasRests, WithRest}
-use Rattle.nom_traits.specs.Input.{Seen, InputLaws, IsPlace, IsFront, IsRest, input_len}
+use Rattle.nom_traits.specs.Input.{Model, InputLaws, IsBoundary, IsPrefixOf, IsSuffixOf, input_len}
 use Rattle.nom_traits.specs.Rests.{same_self, same_front, rest_related}
 use Rattle.nom_traits.specs.View.{View}
 use Rattle.nom_internal.specs.Pinned.{IsPinned}
@@ -21,8 +21,8 @@ use Rattle.nom_growing.specs.Growing.IsBeginning.{AtCut, AtEnd}
 use Rattle.nom_growing.specs.Growing.AnswersOn.{RanOutOn, ShownOn}
 
 -- the place in the whole where a rest in a beginning starts
-pub rest_place_in : {I A : Type 0} {w : Seen I A} {x j : I} {n a b : ℕ} {whole : I} {cut : ℕ} → IsRest w x n j → a ≡ input_len w x → b ≡ input_len w j →
-    IsFront w whole cut x → IsPlace w whole (a - b)
+pub rest_place_in : {I A : Type 0} {w : Model I A} {x j : I} {n a b : ℕ} {whole : I} {cut : ℕ} → IsSuffixOf w x n j → a ≡ input_len w x → b ≡ input_len w j →
+    IsPrefixOf w whole cut x → IsBoundary w whole (a - b)
 rest_place_in {w = w} {j = j} p e f q = record {
   front = p.front;
   rest = w.elements j ++ q.rest;
@@ -31,13 +31,14 @@ rest_place_in {w = w} {j = j} p e f q = record {
 }
 
 -- the acceptance on a beginning, with the rest of the whole at its place
-pub accepts_in_whole : {I A O E : Type 0} {w : Seen I A} {x whole rest k : I} {output : O} {a b : ℕ} {r : Result (I × O) (Answer.Err E E Needed)} →
-    r ≡ Ok (rest, output) → a ≡ input_len w x → b ≡ input_len w rest → IsRest w whole (a - b) k → WithRest (IsRest w x) (IsRest w whole) r (Ok (k, output))
+pub accepts_in_whole : {I A O E : Type 0} {w : Model I A} {x whole rest k : I} {output : O} {a b : ℕ} {r : Result (I × O) (Answer.Err E E Needed)} →
+    r ≡ Ok (rest, output) → a ≡ input_len w x → b ≡ input_len w rest → IsSuffixOf w whole (a - b) k →
+    WithRest (IsSuffixOf w x) (IsSuffixOf w whole) r (Ok (k, output))
 accepts_in_whole {I = I} {O = O} {w = w} {x = x} {whole = whole} {rest = rest} {k = k} {output = output} was e f q = record {
   accepts = λ j v n h p.
       let same : ◌≡◌ {A = I × O} (rest, output) (j, v) = cc (was, h) in
-      let here : IsRest w x n rest = subst (λ i. IsRest w x n i) (sym (ap (λ t. t.0) same)) p in
-      (k, subst (λ t. IsRest w whole t k) (sym (before_length here e f)) q, ap (λ u. Ok (k, u)) (ap (λ t. t.1) same));
+      let here : IsSuffixOf w x n rest = subst (λ i. IsSuffixOf w x n i) (sym (ap (λ t. t.0) same)) p in
+      (k, subst (λ t. IsSuffixOf w whole t k) (sym (before_length here e f)) q, ap (λ u. Ok (k, u)) (ap (λ t. t.1) same));
   else_same = λ u h. cc (was, h);
 }
 
@@ -48,7 +49,7 @@ decided_from Fail h k = tt
 decided_from TooLarge h k = h refl
 decided_from (Undecided n) h k = k n refl
 
-module _ {I A V O E : Type 0} (w : Seen I A) (IsOutput : V → O → Type 0) (IsError : E → Type 0) (x : I) where
+module _ {I A V O E : Type 0} (w : Model I A) (IsOutput : V → O → Type 0) (IsError : E → Type 0) (x : I) where
   undecided_of : (k : Needed) (o : Outcome V) → Parses w IsOutput x IsError o (Err (Incomplete k)) → o ≡ Undecided (size_of k)
   undecided_of k (Accept n v) s = cc (s.4)
   undecided_of k Refuse s = cc (s.2)
@@ -59,7 +60,7 @@ module _ {I A V O E : Type 0} (w : Seen I A) (IsOutput : V → O → Type 0) (Is
       ap Undecided (sym s.1 ∙ ap size_of (sym same))
 
   -- what is shown on a beginning is shown on the whole, with the rest there
-  shown_in_whole : (whole : I) (o : Outcome V) (r r' : Result (I × O) (Answer.Err E E Needed)) → WithRest (IsRest w x) (IsRest w whole) r r' →
+  shown_in_whole : (whole : I) (o : Outcome V) (r r' : Result (I × O) (Answer.Err E E Needed)) → WithRest (IsSuffixOf w x) (IsSuffixOf w whole) r r' →
       Parses w IsOutput x IsError o r → Parses w IsOutput whole IsError o r'
   shown_in_whole whole (Accept n v) r r' t s = let k = t.accepts s.0 s.1 n s.4 s.2 in (k.0, s.1, k.1, s.3, k.2)
   shown_in_whole whole Refuse r r' t s = (s.0, s.1, t.else_same _ s.2)
@@ -67,34 +68,34 @@ module _ {I A V O E : Type 0} (w : Seen I A) (IsOutput : V → O → Type 0) (Is
   shown_in_whole whole TooLarge r r' t s = (s.0, s.1, t.else_same _ s.2)
   shown_in_whole whole (Undecided k) r r' t s = (s.0, s.1, t.else_same _ s.2)
 
-  rest_of : (o : Outcome V) (j : I) (v : O) → Parses {E = E} w IsOutput x IsError o (Ok (j, v)) → (n : ℕ) × IsRest w x n j
+  rest_of : (o : Outcome V) (j : I) (v : O) → Parses {E = E} w IsOutput x IsError o (Ok (j, v)) → (n : ℕ) × IsSuffixOf w x n j
   rest_of (Accept n u) j v s =
       let same : ◌≡◌ {A = I × O} (j, v) (s.0, s.1) = cc (s.4) in
-      (n, subst (λ i. IsRest w x n i) (sym (ap (λ t. t.0) same)) s.2)
+      (n, subst (λ i. IsSuffixOf w x n i) (sym (ap (λ t. t.0) same)) s.2)
   rest_of Refuse j v s = cc (s.2)
   rest_of Fail j v s = cc (s.2)
   rest_of TooLarge j v s = cc (s.2)
   rest_of (Undecided k) j v s = cc (s.2)
 
   rest_answered : (Answers : Outcome V → Type 0) (RunsOut : Type 0) (j : I) (v : O) → ParsesAnswer w IsOutput x Answers IsError RunsOut (Ok (j, v)) →
-      (n : ℕ) × IsRest w x n j
+      (n : ℕ) × IsSuffixOf w x n j
   rest_answered Answers RunsOut j v (ParseRanOut e h) = cc
   rest_answered Answers RunsOut j v (Parsed o a s) = rest_of o j v s
 
-pub rest_shown : {I A V O E : Type 0} {w : Seen I A} {IsOutput : V → O → Type 0} {IsError : E → Type 0} {x : I} {Answers : Outcome V → Type 0}
+pub rest_shown : {I A V O E : Type 0} {w : Model I A} {IsOutput : V → O → Type 0} {IsError : E → Type 0} {x : I} {Answers : Outcome V → Type 0}
     {RunsOut : Type 0} {r : Result (I × O) (Answer.Err E E Needed)} → ParsesAnswer w IsOutput x Answers IsError RunsOut r →
-    HasRests (λ j. (n : ℕ) × IsRest w x n j) r
+    HasRests (λ j. (n : ℕ) × IsSuffixOf w x n j) r
 rest_shown {w = w} {IsOutput = IsOutput} {IsError = IsError} {x = x} {Answers = Answers} {RunsOut = RunsOut} s j v e =
     rest_answered w IsOutput IsError x Answers RunsOut j v (subst (λ t. ParsesAnswer w IsOutput x Answers IsError RunsOut t) e s)
 
 -- what is shown at one state is shown at an equal one
-pub shown_along : {I A V O E State : Type 0} (w : Seen I A) (IsOutput : State → V → O → Type 0) (meaning : State → Meaning I V E) (x : I)
+pub shown_along : {I A V O E State : Type 0} (w : Model I A) (IsOutput : State → V → O → Type 0) (meaning : State → Meaning I V E) (x : I)
     (r : Result (I × O) (Answer.Err E E Needed)) (s t : State) → s ≡ t → ParsesMeaning w (IsOutput s) (meaning s) true x r →
     ParsesMeaning w (IsOutput t) (meaning t) true x r
 shown_along w IsOutput meaning x r s t e h = subst (λ u. ParsesMeaning w (IsOutput u) (meaning u) true x r) e h
 
-module _ {I A V O E : Type 0} (w : Seen I A) (l : InputLaws w) (IsOutput : V → O → Type 0) (m : Meaning I V E) (laws : IsLawful w m) (whole : I) where
-  waits_shown : (cut : ℕ) (x : I) (k : Needed) → IsFront w whole cut x → ParsesMeaning w IsOutput m true x (Err (Incomplete k)) → Waits w m whole cut
+module _ {I A V O E : Type 0} (w : Model I A) (l : InputLaws w) (IsOutput : V → O → Type 0) (m : Meaning I V E) (laws : IsLawful w m) (whole : I) where
+  waits_shown : (cut : ℕ) (x : I) (k : Needed) → IsPrefixOf w whole cut x → ParsesMeaning w IsOutput m true x (Err (Incomplete k)) → Waits w m whole cut
   waits_shown cut x k p (ParseRanOut e h) = cc
   waits_shown cut x k p (Parsed o a s) =
       let b = subst (λ z. m.answers true x z) (undecided_of w IsOutput (m.blames true x) x k o s) a in
@@ -106,15 +107,15 @@ module _ {I A V O E : Type 0} (w : Seen I A) (l : InputLaws w) (IsOutput : V →
         only = λ y z q c. laws.one_outcome true x y (Undecided (size_of k)) z p.known q.known (same_front w l whole cut x y p q) b tt c;
       }
 
-  pub waits : (cut : ℕ) (x : I) (r : Result (I × O) (Answer.Err E E Needed)) → IsFront w whole cut x → AsksForMore r →
+  pub waits : (cut : ℕ) (x : I) (r : Result (I × O) (Answer.Err E E Needed)) → IsPrefixOf w whole cut x → AsksForMore r →
       ParsesMeaning w IsOutput m true x r → Waits w m whole cut
   waits cut x r p e s = waits_shown cut x e.0 p (subst (λ t. ParsesMeaning w IsOutput m true x t) e.1 s)
 
-module _ {I A V O E : Type 0} (w : Seen I A) (IsOutput : V → O → Type 0) (m : Meaning I V E) (laws : IsLawful w m) (whole : I) (known : w.IsKnown whole)
+module _ {I A V O E : Type 0} (w : Model I A) (IsOutput : V → O → Type 0) (m : Meaning I V E) (laws : IsLawful w m) (whole : I) (known : w.IsKnown whole)
     (cuts : List ℕ) (index : ℕ) (before : (k : ℕ) → k < index → Waits w m whole (slice_index cuts k)) where
   module _ (more : (xs : List A) → w.IsMore xs) (steady : IsSteady w m) (inside : index < length cuts) (x : I)
-      (p : IsFront w whole (slice_index cuts index) x) (r r' : Result (I × O) (Answer.Err E E Needed)) (decided : AsksForMore r → ⊥)
-      (rest : WithRest (IsRest w x) (IsRest w whole) r r') where
+      (p : IsPrefixOf w whole (slice_index cuts index) x) (r r' : Result (I × O) (Answer.Err E E Needed)) (decided : AsksForMore r → ⊥)
+      (rest : WithRest (IsSuffixOf w x) (IsSuffixOf w whole) r r') where
     asks : (k : Option ℕ) → Parses w IsOutput x (m.blames true x) (Undecided k) r → AsksForMore r
     asks k s = (s.0, s.2)
 
@@ -169,7 +170,7 @@ is_too_large TooLarge = inl refl
 is_too_large (Undecided k) = inr (λ e. cc)
 
 -- one `parse` of the whole, beside the answer on a beginning with the rest of the whole
-module _ {I A V O E : Type 0} (w : Seen I A) (l : InputLaws w) (view : View O) (Pins : Type 0) (IsOutput : V → O → Type 0)
+module _ {I A V O E : Type 0} (w : Model I A) (l : InputLaws w) (view : View O) (Pins : Type 0) (IsOutput : V → O → Type 0)
     (pinned : Pins → IsPinned view IsOutput) (m : Meaning I V E) (whole beginning : I) where
   of_outcome : (o : Outcome V) (r s : Result (I × O) (Answer.Err E E Needed)) → m.answers true beginning o →
       Parses w IsOutput whole (m.blames true beginning) o r → (o ≡ TooLarge → ⊥) → Parses w IsOutput whole (m.blames true whole) o s →
@@ -202,7 +203,7 @@ module _ {I A V O E : Type 0} (w : Seen I A) (l : InputLaws w) (view : View O) (
     of_answer (ShownOn a) (ParseRanOut e h) = inl e
     of_answer (ShownOn a) (Parsed p b t) = inr (of_shown a.outcome p r s a.answered a.shown (λ f. a.stays f p b) t)
 
-pub agrees : {I A V O E : Type 0} (w : Seen I A) (l : InputLaws w) (view : View O) (Pins : Type 0) (IsOutput : V → O → Type 0) (m : Meaning I V E)
+pub agrees : {I A V O E : Type 0} (w : Model I A) (l : InputLaws w) (view : View O) (Pins : Type 0) (IsOutput : V → O → Type 0) (m : Meaning I V E)
     (whole : I) (cuts : List ℕ) (index : ℕ) (r : Result (I × O) (Answer.Err E E Needed)) → (Pins → IsPinned view IsOutput) →
     IsGrown w IsOutput m whole cuts index r → AgreesWithWhole w view Pins IsOutput m whole cuts index r
 agrees w l view Pins IsOutput m whole cuts index r pinned g = record {

@@ -2,7 +2,7 @@
 use Rattle.std.specs.Prelude.{ℕ, ◌<◌, ◌≤◌, List, [], ◌∷◌, length, slice_index, zero, suc}
 use Rattle.std.specs.Borrow.{Bor}
 use Rattle.std.proofs.Common.{arith}
-use Rattle.nom_traits.specs.Bytes.{seen_bytes}
+use Rattle.nom_traits.specs.Bytes.{bytes_model}
 use Rattle.nom_traits.proofs.ByteCuts.{byte_place}
 use Rattle.nom_growing.specs.Growing.{AreCuts}
 
@@ -17,8 +17,8 @@ cut_within n (x ∷ xs) h zero b = h.0
 cut_within n (x ∷ xs) h (suc k) b = cut_within n xs h.1 k (omega arith)
 
 -- the cuts of a list that is written out
-pub byte_cuts : (i : Bor (List ℕ)) (cuts : List ℕ) → AllWithin (length i.now) cuts → AreCuts seen_bytes i cuts
+pub byte_cuts : (i : Bor (List ℕ)) (cuts : List ℕ) → AllWithin (length i.now) cuts → AreCuts bytes_model i cuts
 byte_cuts i cuts h = λ k b. byte_place i (slice_index cuts k) (cut_within (length i.now) cuts h k b)
 
-pub byte_cuts_below : (i : Bor (List ℕ)) (cuts : List ℕ) → ((k : ℕ) → k < length cuts → slice_index cuts k ≤ length i.now) → AreCuts seen_bytes i cuts
+pub byte_cuts_below : (i : Bor (List ℕ)) (cuts : List ℕ) → ((k : ℕ) → k < length cuts → slice_index cuts k ≤ length i.now) → AreCuts bytes_model i cuts
 byte_cuts_below i cuts h = λ k b. byte_place i (slice_index cuts k) (h k b)

@@ -4,32 +4,32 @@ use Rattle.nom_error.specs.declared.answer.Needed.{Needed}
 use Rattle.nom_error.specs.declared.answer.Err as Answer
 use Rattle.nom_error.specs.declared.answer.Err.TheVariants.{OutOfMemory}
 use Rattle.nom_error.specs.Modes.{modes}
-use Rattle.nom_traits.specs.Input.{Seen, IsPlace, IsFront}
+use Rattle.nom_traits.specs.Input.{Model, IsBoundary, IsPrefixOf}
 use Rattle.nom_traits.specs.View.{View}
 use Rattle.nom_internal.specs.Outcome.{Outcome, Parses}
 use Rattle.nom_internal.specs.Outcome.Outcome.{TooLarge, Undecided}
 use Rattle.nom_internal.specs.Meaning.{Meaning, ParsesMeaning}
 use Rattle.nom_growing.specs.Promises.{IsOfWhole}
 
-module _ {I A : Type 0} (w : Seen I A) (whole : I) (cuts : List ℕ) where
+module _ {I A : Type 0} (w : Model I A) (whole : I) (cuts : List ℕ) where
   -- each cut is a place
   abbrev pub AreCuts : Type 0
-  AreCuts = (k : ℕ) → k < length cuts → IsPlace w whole (slice_index cuts k)
+  AreCuts = (k : ℕ) → k < length cuts → IsBoundary w whole (slice_index cuts k)
 
   -- the beginning at the cut of an index; the number of cuts stands for the whole
   pub data IsBeginning (index : ℕ) (x : I) : Type 0 where
-    AtCut : index < length cuts → IsFront w whole (slice_index cuts index) x → IsBeginning index x
+    AtCut : index < length cuts → IsPrefixOf w whole (slice_index cuts index) x → IsBeginning index x
     AtEnd : index ≡ length cuts → x ≡ whole → IsBeginning index x
 
 -- on the beginning at a cut the outcome is that more is needed, and no other
-pub record Waits {I A V E : Type 0} (w : Seen I A) (m : Meaning I V E) (whole : I) (cut : ℕ) : Type 0 where
+pub record Waits {I A V E : Type 0} (w : Model I A) (m : Meaning I V E) (whole : I) (cut : ℕ) : Type 0 where
   pub beginning : I
-  pub begins : IsFront w whole cut beginning
+  pub begins : IsPrefixOf w whole cut beginning
   pub needed : Option ℕ
   pub answered : m.answers true beginning (Undecided needed)
-  pub only : (x : I) (o : Outcome V) → IsFront w whole cut x → m.answers true x o → Undecided needed ≡ o
+  pub only : (x : I) (o : Outcome V) → IsPrefixOf w whole cut x → m.answers true x o → Undecided needed ≡ o
 
-module _ {I A V O E : Type 0} (w : Seen I A) (IsOutput : V → O → Type 0) (m : Meaning I V E) (whole : I) (cuts : List ℕ) (index : ℕ) where
+module _ {I A V O E : Type 0} (w : Model I A) (IsOutput : V → O → Type 0) (m : Meaning I V E) (whole : I) (cuts : List ℕ) (index : ℕ) where
   -- the outcome on a beginning, shown with the rest in the whole
   pub record ShowsBeginning (beginning : I) (r : Result (I × O) (Answer.Err E E Needed)) : Type 0 where
     pub outcome : Outcome V
@@ -41,7 +41,7 @@ module _ {I A V O E : Type 0} (w : Seen I A) (IsOutput : V → O → Type 0) (m 
 
   -- memory ran out on a beginning, where it may, or its outcome is shown
   pub data AnswersOn (beginning : I) (r : Result (I × O) (Answer.Err E E Needed)) : Type 0 where
-    RanOutOn : r ≡ Err OutOfMemory → m.runs_out (modes true true true) beginning → AnswersOn beginning r
+    RanOutOn : r ≡ Err OutOfMemory → m.may_run_out (modes true true true) beginning → AnswersOn beginning r
     ShownOn : ShowsBeginning beginning r → AnswersOn beginning r
 
   -- the answer at the least cut whose beginning does not wait, or at the end
@@ -54,7 +54,7 @@ module _ {I A V O E : Type 0} (w : Seen I A) (IsOutput : V → O → Type 0) (m 
 
 -- Verdict, output as it is seen, and rest are those of one `parse` of the whole, running out of memory aside, where the parser pins;
 -- unless what is lacking on the beginning is too large.
-pub record AgreesWithWhole {I A V O E : Type 0} (w : Seen I A) (view : View O) (Pins : Type 0) (IsOutput : V → O → Type 0) (m : Meaning I V E)
+pub record AgreesWithWhole {I A V O E : Type 0} (w : Model I A) (view : View O) (Pins : Type 0) (IsOutput : V → O → Type 0) (m : Meaning I V E)
     (whole : I) (cuts : List ℕ) (index : ℕ) (r : Result (I × O) (Answer.Err E E Needed)) : Type 0 where
   pub beginning : I
   pub begins : IsBeginning w whole cuts index beginning

@@ -5,13 +5,13 @@ use Rattle.nom_error.specs.declared.answer.Err as Answer
 use Rattle.nom_error.specs.declared.answer.Err.TheVariants.{Incomplete, Error, Failure, OutOfMemory}
 use Rattle.nom_error.specs.Answers.{size_of}
 use Rattle.nom_error.specs.Modes.{Modes}
-use Rattle.nom_traits.specs.Input.{Seen, Extends, IsSame, IsPlace, IsRest}
+use Rattle.nom_traits.specs.Input.{Model, Extends, IsSame, IsBoundary, IsSuffixOf}
 use Rattle.nom_traits.specs.View.{View}
 use Rattle.nom_internal.specs.Outcome.{Outcome, IsDecided, failure}
 use Rattle.nom_internal.specs.Outcome.Outcome.{Accept, TooLarge}
 use Rattle.nom_internal.specs.Meaning.{Meaning, ParsesMeaning}
 
-module _ {I A V E : Type 0} (w : Seen I A) (m : Meaning I V E) where
+module _ {I A V E : Type 0} (w : Model I A) (m : Meaning I V E) where
   -- a decided streaming outcome on an input is the one outcome on every input that extends it
   abbrev pub StaysOnLonger : Type 0
   StaysOnLonger = (x y : I) (o p : Outcome V) → w.IsKnown x → w.IsKnown y → Extends w x y → m.answers true x o → IsDecided o → m.answers true y p → o ≡ p
@@ -23,7 +23,7 @@ module _ {I A V E : Type 0} (w : Seen I A) (m : Meaning I V E) where
 
   -- what is accepted is a front of the input
   abbrev pub AcceptsFronts : Type 0
-  AcceptsFronts = (s : Bool) (i : I) (n : ℕ) (v : V) → w.IsKnown i → m.answers s i (Accept n v) → IsPlace w i n
+  AcceptsFronts = (s : Bool) (i : I) (n : ℕ) (v : V) → w.IsKnown i → m.answers s i (Accept n v) → IsBoundary w i n
 
   -- a decided streaming outcome is the complete one, and the errors of the one are those of the other
   abbrev pub IsCompleteToo : Type 0
@@ -32,26 +32,26 @@ module _ {I A V E : Type 0} (w : Seen I A) (m : Meaning I V E) where
 
   -- where a parser is frugal, memory never runs out
   abbrev pub NeverRunsOut : Type 0
-  NeverRunsOut = (mode : Modes) (i : I) → w.IsKnown i → m.IsFrugal mode → m.runs_out mode i → ⊥
+  NeverRunsOut = (mode : Modes) (i : I) → w.IsKnown i → m.IsFrugal mode → m.may_run_out mode i → ⊥
 
   -- where a parser never fails so, by itself or since what is lacking is too large, it has no such outcome
   abbrev pub HasNoFailure : Type 0
   HasNoFailure = (large s : Bool) (i : I) → w.IsKnown i → m.NeverFails large → m.answers s i (failure large) → ⊥
 
-module _ {I A V O E : Type 0} (w : Seen I A) (view : View O) (Pins : Type 0) (IsOutput : V → O → Type 0) (m : Meaning I V E) where
+module _ {I A V O E : Type 0} (w : Model I A) (view : View O) (Pins : Type 0) (IsOutput : V → O → Type 0) (m : Meaning I V E) where
   -- What is answered on y, which extends x, by what was answered on x: an acceptance of one length, with an output equal as viewed
   -- where the parser pins; a refusal; a failure, unless it is one that what is lacking is too large.
-  abbrev pub Stays : I → I → Result (I × O) (Answer.Err E E Needed) → Result (I × O) (Answer.Err E E Needed) → Type 0
-  Stays x y (Ok (j, a)) s = (n : ℕ) × (k : I) × (b : O) × IsRest w x n j × IsRest w y n k × (Pins → view.value a ≡ view.value b) × (s ≡ Ok (k, b))
-  Stays x y (Err (Incomplete k)) s = Unit {0}
-  Stays x y (Err (Error e)) s = (f : E) × (s ≡ Err (Error f))
-  Stays x y (Err (Failure e)) s = m.answers true x TooLarge ⊎ ((f : E) × (s ≡ Err (Failure f)))
-  Stays x y (Err OutOfMemory) s = Unit {0}
+  abbrev pub StaysLonger : I → I → Result (I × O) (Answer.Err E E Needed) → Result (I × O) (Answer.Err E E Needed) → Type 0
+  StaysLonger x y (Ok (j, a)) s = (n : ℕ) × (k : I) × (b : O) × IsSuffixOf w x n j × IsSuffixOf w y n k × (Pins → view.value a ≡ view.value b) × (s ≡ Ok (k, b))
+  StaysLonger x y (Err (Incomplete k)) s = Unit {0}
+  StaysLonger x y (Err (Error e)) s = (f : E) × (s ≡ Err (Error f))
+  StaysLonger x y (Err (Failure e)) s = m.answers true x TooLarge ⊎ ((f : E) × (s ≡ Err (Failure f)))
+  StaysLonger x y (Err OutOfMemory) s = Unit {0}
 
   -- of two answers of `parse`, on an input and on one that extends it, running out of memory aside
   abbrev pub AnswersStay : Type 0
   AnswersStay = (x y : I) (r s : Result (I × O) (Answer.Err E E Needed)) → w.IsKnown x → w.IsKnown y → Extends w x y →
-      ParsesMeaning w IsOutput m true x r → ParsesMeaning w IsOutput m true y s → (s ≡ Err OutOfMemory) ⊎ Stays x y r s
+      ParsesMeaning w IsOutput m true x r → ParsesMeaning w IsOutput m true y s → (s ≡ Err OutOfMemory) ⊎ StaysLonger x y r s
 
   -- what one `parse` of the whole answers, by what was answered on a beginning with the rest of the whole
   abbrev pub IsOfWhole : I → Result (I × O) (Answer.Err E E Needed) → Result (I × O) (Answer.Err E E Needed) → Type 0

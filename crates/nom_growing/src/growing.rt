@@ -1,6 +1,6 @@
 //! Inputs that grow.
 ghost use Rattle.std.specs.Prelude.{ℕ, MatchBool};
-ghost use Rattle.nom_traits.specs.Input.{IsRest, IsFront};
+ghost use Rattle.nom_traits.specs.Input.{IsSuffixOf, IsPrefixOf};
 ghost use Rattle.nom_growing.specs.Growing.{AreCuts, IsGrown, AgreesWithWhole};
 ghost use Rattle.nom_internal.specs.Results.{AsksForMore, HasRests, WithRest};
 
@@ -35,9 +35,9 @@ fn in_whole<I: Input, O: Drop, E: Drop>(
     whole: I,
     answer: IResult<I, O, E>,
 ) -> IResult<I, O, E>
-    requires begins { (cut : ℕ) × IsFront I.seen whole cut beginning }
-    requires rests { HasRests (λ j. (n : ℕ) × IsRest I.seen beginning n j) answer }
-    ensures { WithRest (IsRest I.seen beginning) (IsRest I.seen whole) answer result }
+    requires begins { (cut : ℕ) × IsPrefixOf I.model whole cut beginning }
+    requires rests { HasRests (λ j. (n : ℕ) × IsSuffixOf I.model beginning n j) answer }
+    ensures { WithRest (IsSuffixOf I.model beginning) (IsSuffixOf I.model whole) answer result }
 {
     let (rest, output) = answer?;
     let n = beginning.input_len() - rest.input_len();
@@ -52,13 +52,13 @@ pub fn parse_growing<I: Input, P: StreamParser<I> + Drop>(
     cuts: &[usize],
 ) -> Grown<I, P::Output, P::Error>
     requires sound { (P.meaning (P.state parser)).IsSound }
-    requires cuts { AreCuts I.seen whole cuts.now }
-    ensures grown { IsGrown I.seen (P.IsOutput (P.state parser)) (P.meaning (P.state parser)) whole cuts.now result.index result.result }
+    requires cuts { AreCuts I.model whole cuts.now }
+    ensures grown { IsGrown I.model (P.IsOutput (P.state parser)) (P.meaning (P.state parser)) whole cuts.now result.index result.result }
     // Where the parser pins, one parse of the whole answers the same.
-    ensures whole { AgreesWithWhole I.seen P.Output.view (P.Parser.Pins (P.state parser)) (P.IsOutput (P.state parser))
+    ensures whole { AgreesWithWhole I.model P.Output.view (P.Parser.Pins (P.state parser)) (P.IsOutput (P.state parser))
         (P.meaning (P.state parser)) whole cuts.now result.index result.result }
 {
-    whole.known();
+    whole.prove_known();
     for (index, cut) in cuts.iter().enumerate() {
         let beginning = whole.take(*cut);
         let answer = parser.parse(beginning);

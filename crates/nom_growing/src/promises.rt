@@ -8,7 +8,7 @@ use nom_traits::input::Items;
 /// A decided streaming outcome on an input is the outcome on every input that extends it.
 pub fn stays_on_longer<I: Items, P: StreamParser<I>>(_parser: &P)
     requires { (P.meaning (P.state _parser.now)).IsSound }
-    ensures { StaysOnLonger I.seen (P.meaning (P.state _parser.now)) }
+    ensures { StaysOnLonger I.model (P.meaning (P.state _parser.now)) }
 {}
 
 /// Of two answers of `parse`, the second on an input that extends the first's: an acceptance stays one,
@@ -17,19 +17,19 @@ pub fn stays_on_longer<I: Items, P: StreamParser<I>>(_parser: &P)
 /// memory aside.
 pub fn answers_stay<I: Items, P: StreamParser<I>>(_parser: &P)
     requires { (P.meaning (P.state _parser.now)).IsSound }
-    ensures { AnswersStay I.seen P.Output.view (P.Parser.Pins (P.state _parser.now)) (P.IsOutput (P.state _parser.now)) (P.meaning (P.state _parser.now)) }
+    ensures { AnswersStay I.model P.Output.view (P.Parser.Pins (P.state _parser.now)) (P.IsOutput (P.state _parser.now)) (P.meaning (P.state _parser.now)) }
 {}
 
 /// Inputs that are equal as models have one outcome in each mode, and the same.
 pub fn has_one_outcome<I: Items, P: Parser<I>>(_parser: &P)
     requires { (P.meaning (P.state _parser.now)).IsSound }
-    ensures { HasOneOutcome I.seen (P.meaning (P.state _parser.now)) }
+    ensures { HasOneOutcome I.model (P.meaning (P.state _parser.now)) }
 {}
 
 /// What is accepted is a front of the input, so what is left is a rest of it.
 pub fn accepts_fronts<I: Items, P: Parser<I>>(_parser: &P)
     requires { (P.meaning (P.state _parser.now)).IsSound }
-    ensures { AcceptsFronts I.seen (P.meaning (P.state _parser.now)) }
+    ensures { AcceptsFronts I.model (P.meaning (P.state _parser.now)) }
 {}
 
 /// Where a parser's condition for it holds, a decided streaming outcome is the complete one, and the
@@ -37,7 +37,7 @@ pub fn accepts_fronts<I: Items, P: Parser<I>>(_parser: &P)
 pub fn is_complete_too<I: Items, P: Parser<I>>(_parser: &P)
     requires sound { (P.meaning (P.state _parser.now)).IsSound }
     requires settles { (P.meaning (P.state _parser.now)).Settles }
-    ensures { IsCompleteToo I.seen (P.meaning (P.state _parser.now)) }
+    ensures { IsCompleteToo I.model (P.meaning (P.state _parser.now)) }
 {}
 
 /// Of what `parse` and `parse_complete` answer on one input, where the parser's condition for it holds and the first is decided:
@@ -46,17 +46,17 @@ pub fn is_complete_too<I: Items, P: Parser<I>>(_parser: &P)
 pub fn answers_complete<I: Items, P: StreamParser<I>>(_parser: &P)
     requires sound { (P.meaning (P.state _parser.now)).IsSound }
     requires settles { (P.meaning (P.state _parser.now)).Settles }
-    ensures { AnswersComplete I.seen P.Output.view (P.Parser.Pins (P.state _parser.now)) (P.IsOutput (P.state _parser.now)) (P.meaning (P.state _parser.now)) }
+    ensures { AnswersComplete I.model P.Output.view (P.Parser.Pins (P.state _parser.now)) (P.IsOutput (P.state _parser.now)) (P.meaning (P.state _parser.now)) }
 {}
 
 /// Where a parser is frugal, memory never runs out.
 pub fn never_runs_out<I: Items, P: Parser<I>>(_parser: &P)
     requires { (P.meaning (P.state _parser.now)).IsSound }
-    ensures { NeverRunsOut I.seen (P.meaning (P.state _parser.now)) }
+    ensures { NeverRunsOut I.model (P.meaning (P.state _parser.now)) }
 {}
 
 /// Where a parser never fails, by itself or since what is lacking is too large, it has no such outcome.
 pub fn has_no_failure<I: Items, P: Parser<I>>(_parser: &P)
     requires { (P.meaning (P.state _parser.now)).IsSound }
-    ensures { HasNoFailure I.seen (P.meaning (P.state _parser.now)) }
+    ensures { HasNoFailure I.model (P.meaning (P.state _parser.now)) }
 {}

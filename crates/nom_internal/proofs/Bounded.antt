@@ -3,7 +3,7 @@ use Rattle.std.proofs.Common.{◌≡◌, sym, subst, true, Result, Ok, Err, Opti
 use Rattle.nom_error.specs.declared.answer.Needed.{Needed}
 use Rattle.nom_error.specs.declared.answer.Err as Answer
 use Rattle.nom_error.specs.Modes.{Built, Modes}
-use Rattle.nom_traits.specs.Input.{Seen, InputLaws}
+use Rattle.nom_traits.specs.Input.{Model, InputLaws}
 use Rattle.nom_internal.specs.Outcome.{Outcome, Shows}
 use Rattle.nom_internal.specs.Outcome.Outcome.{Accept, Refuse, Fail, TooLarge, Undecided}
 use Rattle.nom_internal.specs.Outcome.ShowsAnswer.{RanOut, Shown}
@@ -15,11 +15,11 @@ use Rattle.nom_internal.proofs.Consumed.{rest_self}
 use Rattle.nom_internal.proofs.Shown.{accepts, built_error}
 
 -- the output that was built
-pub bound_of : {J B P : Type 0} (v : Seen J B) (IsOutput : P → J → Type 0) (u : P) (x : Option J) (j : J) → Built true (IsOutput u) x → x ≡ Some j →
+pub bound_of : {J B P : Type 0} (v : Model J B) (IsOutput : P → J → Type 0) (u : P) (x : Option J) (j : J) → Built true (IsOutput u) x → x ≡ Some j →
     v.IsKnown j → IsBound v IsOutput u j
 bound_of v IsOutput u x j b e known = record { is_output = built_fact true (IsOutput u) x j b e; known = known }
 
-module _ {I A J B P Q O E : Type 0} (w : Seen I A) (v : Seen J B) (IsOutput : P → J → Type 0) (IsResult : Q → O → Type 0) (m : Meaning J Q E)
+module _ {I A J B P Q O E : Type 0} (w : Model I A) (v : Model J B) (IsOutput : P → J → Type 0) (IsResult : Q → O → Type 0) (m : Meaning J Q E)
     (mode : Modes) (i : I) (u : P) (j : J) (b : IsBound v IsOutput u j) where
   abbrev BoundShown : Result (I × Option O) (Answer.Err E (Option E) Needed) → Type 0
   BoundShown = ShowsMeaning w IsResult ((bounded_family v IsOutput m).at u) mode i

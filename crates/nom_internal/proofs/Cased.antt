@@ -4,7 +4,7 @@ use Rattle.nom_error.specs.declared.answer.Needed.{Needed}
 use Rattle.nom_error.specs.declared.answer.Err as Answer
 use Rattle.nom_error.specs.declared.answer.Err.TheVariants.{Incomplete, Error}
 use Rattle.nom_error.specs.Modes.{Built, Modes, with_outputs, with_streaming}
-use Rattle.nom_traits.specs.Input.{Seen}
+use Rattle.nom_traits.specs.Input.{Model}
 use Rattle.nom_internal.specs.Outcome.{Outcome, Shows, ShowsAnswer}
 use Rattle.nom_internal.specs.Outcome.Outcome.{Accept, Refuse, Fail, TooLarge, Undecided}
 use Rattle.nom_internal.specs.Outcome.ShowsAnswer.{RanOut, Shown}
@@ -29,11 +29,11 @@ pub record Passing {I P T E : Type 0} (c : Case I I P T E E) (m : Meaning I P E)
   pub blames_failure : (e : E) → m.blames (mode_of c.mode mode.streaming) i e → c.Blames i Fail (m.blames (mode_of c.mode mode.streaming) i) e
   pub blames_large : (e : E) → m.blames (mode_of c.mode mode.streaming) i e → c.Blames i TooLarge (m.blames (mode_of c.mode mode.streaming) i) e
 
-module _ {I A P T O X E : Type 0} (w : Seen I A) (IsOutput : P → O → Type 0) (IsResult : T → X → Type 0) (c : Case I I P T E E) (m : Meaning I P E)
+module _ {I A P T O X E : Type 0} (w : Model I A) (IsOutput : P → O → Type 0) (IsResult : T → X → Type 0) (c : Case I I P T E E) (m : Meaning I P E)
     (mode : Modes) (i : I) where
   abbrev InPart : Result (I × Option O) (Answer.Err E (Option E) Needed) → Type 0
   InPart = ShowsAnswer w IsOutput (c.part mode) i (m.answers (mode_of c.mode mode.streaming) i) (m.blames (mode_of c.mode mode.streaming) i)
-      (m.runs_out (c.part mode) i)
+      (m.may_run_out (c.part mode) i)
 
   abbrev Whole : Result (I × Option X) (Answer.Err E (Option E) Needed) → Type 0
   Whole = ShowsMeaning w IsResult (case_meaning c m) mode i
@@ -64,7 +64,7 @@ module _ {I A P T O X E : Type 0} (w : Seen I A) (IsOutput : P → O → Type 0)
     pub passing_err : {f : Answer.Err E (Option E) Needed} → f ≡ k → InPart (Err f) → Whole (Err k)
     passing_err q h = passed (subst (λ y. InPart (Err y)) q h)
 
-module _ {I A P T O X E : Type 0} (w : Seen I A) (IsOutput : P → O → Type 0) (IsResult : T → X → Type 0) (builds : Bool → Bool)
+module _ {I A P T O X E : Type 0} (w : Model I A) (IsOutput : P → O → Type 0) (IsResult : T → X → Type 0) (builds : Bool → Bool)
     (OnAccept : I → ℕ → P → Outcome T → Type 0) (m : Meaning I P E) (mode : Modes) (i : I) where
   -- whatever isn't an acceptance passes
   pub plain_err : (f : Answer.Err E (Option E) Needed) → ShowsMeaning w IsOutput m (with_outputs (builds mode.outputs) mode) i (Err f) →
@@ -81,7 +81,7 @@ module _ {I A P T O X E : Type 0} (w : Seen I A) (IsOutput : P → O → Type 0)
         blames_large = λ z h. h;
       }) refl
 
-module _ {I A P T O E : Type 0} (w : Seen I A) (label : P → T) (IsOutput : P → O → Type 0) (IsLabelled : T → O → Type 0)
+module _ {I A P T O E : Type 0} (w : Model I A) (label : P → T) (IsOutput : P → O → Type 0) (IsLabelled : T → O → Type 0)
     (same : (t : P) (o : O) → IsOutput t o → IsLabelled (label t) o) (m : Meaning I P E) (mode : Modes) (i : I) where
   labelled_of : (o : Outcome P) (r : Result (I × Option O) (Answer.Err E (Option E) Needed)) → m.answers mode.streaming i o →
       Shows w IsOutput mode i (m.blames mode.streaming i) o r → Shows w IsLabelled mode i ((labelled_meaning label m).blames mode.streaming i)
@@ -98,7 +98,7 @@ module _ {I A P T O E : Type 0} (w : Seen I A) (label : P → T) (IsOutput : P �
   labelled_shown r (RanOut e h) = RanOut e (RunsOutInPart i refl h)
   labelled_shown r (Shown o a h) = Shown (labelled label o) (here o a refl) (labelled_of o r a h)
 
-module _ {I A P O E : Type 0} (w : Seen I A) (IsOutput : P → O → Type 0) (streaming : Bool) (m : Meaning I P E) (mode : Modes) (i : I) where
+module _ {I A P O E : Type 0} (w : Model I A) (IsOutput : P → O → Type 0) (streaming : Bool) (m : Meaning I P E) (mode : Modes) (i : I) where
   fixed_of : (o : Outcome P) (r : Result (I × Option O) (Answer.Err E (Option E) Needed)) → m.answers streaming i o →
       Shows w IsOutput mode i (m.blames streaming i) o r → Shows w IsOutput mode i ((fixed_meaning streaming m).blames mode.streaming i) o r
   fixed_of (Accept n v) r a h = h
@@ -114,11 +114,11 @@ module _ {I A P O E : Type 0} (w : Seen I A) (IsOutput : P → O → Type 0) (st
   fixed_shown r (Shown o a h) = Shown o (here o a refl) (fixed_of o r a h)
 
 -- a part with its trees labelled, whose value is told in another form
-module _ {I A P T O X E : Type 0} (w : Seen I A) (label : P → T) (IsOutput : P → O → Type 0) (IsLabelled : T → X → Type 0) (m : Meaning I P E)
+module _ {I A P T O X E : Type 0} (w : Model I A) (label : P → T) (IsOutput : P → O → Type 0) (IsLabelled : T → X → Type 0) (m : Meaning I P E)
     (built : Bool) (mode : Modes) (i : I) where
   abbrev Labels : Result (I × Option X) (Answer.Err E (Option E) Needed) → Type 0
   Labels = ShowsAnswer w IsLabelled (with_outputs built mode) i ((labelled_meaning label m).answers mode.streaming i)
-      ((labelled_meaning label m).blames mode.streaming i) ((labelled_meaning label m).runs_out mode i)
+      ((labelled_meaning label m).blames mode.streaming i) ((labelled_meaning label m).may_run_out mode i)
 
   labels_passed : (f : Answer.Err E (Option E) Needed) (o : Outcome P) → m.answers mode.streaming i o →
       Shows w IsOutput mode i (m.blames mode.streaming i) o (Err f) → Labels (Err f)

@@ -6,7 +6,7 @@ use Rattle.nom_error.specs.declared.answer.Err as Answer
 use Rattle.nom_error.specs.declared.answer.Err.TheVariants.{Incomplete, Error, Failure, OutOfMemory}
 use Rattle.nom_error.specs.Answers.{Refuses}
 use Rattle.nom_error.specs.Modes.{Built, Modes, modes, with_outputs, with_errors}
-use Rattle.nom_traits.specs.Input.{Seen}
+use Rattle.nom_traits.specs.Input.{Model}
 use Rattle.nom_internal.specs.Outcome.{Outcome, Shows, ShowsAnswer, IsFailure, IsFault, OnOutcome}
 use Rattle.nom_internal.specs.Outcome.Outcome.{Accept, Refuse, Fail, TooLarge, Undecided}
 use Rattle.nom_internal.specs.Outcome.ShowsAnswer.{RanOut, Shown}
@@ -77,7 +77,7 @@ module _ {T E : Type 0} (Q R : Option E → Result T (Answer.Err E (Option E) Ne
   on_error_map (Err (Failure e)) r f h = h
   on_error_map (Err OutOfMemory) r f h = h
 
-module _ {I A V O E : Type 0} (w : Seen I A) (IsOutput : V → O → Type 0) (mode : Modes) (i : I) where
+module _ {I A V O E : Type 0} (w : Model I A) (IsOutput : V → O → Type 0) (mode : Modes) (i : I) where
   -- what is shown, of an error of which more is known
   pub shows_map : (P Q : E → Type 0) (o : Outcome V) (r : Result (I × Option O) (Answer.Err E (Option E) Needed)) → ((e : E) → P e → Q e) →
       Shows w IsOutput mode i P o r → Shows w IsOutput mode i Q o r
@@ -94,7 +94,7 @@ module _ {I A V O E : Type 0} (w : Seen I A) (IsOutput : V → O → Type 0) (mo
   refusal_shown Answers Gives IsError Grows RunsOut f r a g k (inl h) e = RanOut (e ∙ ap Err h.0) (k h.1 h.2)
   refusal_shown Answers Gives IsError Grows RunsOut f r a g k (inr h) e = Shown Refuse a (h.0, built_error mode.errors Gives IsError h.0 g h.1, e ∙ ap Err h.2)
 
-module _ {I A V O E : Type 0} (w : Seen I A) (IsOutput : V → O → Type 0) (mode : Modes) (i : I) (m : Meaning I V E) where
+module _ {I A V O E : Type 0} (w : Model I A) (IsOutput : V → O → Type 0) (mode : Modes) (i : I) (m : Meaning I V E) where
   -- a branch after a refusal
   pub next_shown : (Joins : E → E → E → Type 0) (Grows : Type 0) (x : Option E) (before r : Result (I × Option O) (Answer.Err E (Option E) Needed)) →
       Built mode.errors (λ _. Unit {0}) x → ShowsMeaning w IsOutput m mode i before → JoinsResult Joins Grows x before r →
@@ -122,20 +122,20 @@ module _ {I A V O E : Type 0} (w : Seen I A) (IsOutput : V → O → Type 0) (mo
       let made = rw h.2 at g in
       let closed = closed_meaning Closes Grows m in
       refusal_shown w IsOutput mode i (closed.answers mode.streaming i) (λ e. (x : E) × m.blames mode.streaming i x × Closes i x e)
-      (closed.blames mode.streaming i) Grows (closed.runs_out mode i) made.0 r (here Refuse a refl) (λ e c. here Refuse a c)
+      (closed.blames mode.streaming i) Grows (closed.may_run_out mode i) made.0 r (here Refuse a refl) (λ e c. here Refuse a c)
       (λ e z. RunsOutBeside (here Refuse a (e, z))) (closes_built Grows (Closes i) (m.blames mode.streaming i) mode.errors h.0 made.0 h.1 made.1) made.2
   closed_shown Closes Grows before r (Shown Fail a h) g = Shown Fail (here Fail a refl) (h.0, here Fail a h.1, rw h.2 at g)
   closed_shown Closes Grows before r (Shown TooLarge a h) g = Shown TooLarge (here TooLarge a refl) (h.0, here TooLarge a h.1, rw h.2 at g)
   closed_shown Closes Grows before r (Shown (Undecided k) a h) g = Shown (Undecided k) (here (Undecided k) a refl) (h.0, h.1, rw h.2 at g)
 
-module _ {I A V O E : Type 0} (w : Seen I A) (IsOutput : V → O → Type 0) (mode : Modes) (i : I) where
+module _ {I A V O E : Type 0} (w : Model I A) (IsOutput : V → O → Type 0) (mode : Modes) (i : I) where
   -- what is shown, where the answers, the errors and where memory runs out are more
   pub shown_map : (F G : Outcome V → Type 0) (P Q : E → Type 0) (R S : Type 0) (r : Result (I × Option O) (Answer.Err E (Option E) Needed)) →
       ((o : Outcome V) → F o → G o) → ((e : E) → P e → Q e) → (R → S) → ShowsAnswer w IsOutput mode i F P R r → ShowsAnswer w IsOutput mode i G Q S r
   shown_map F G P Q R S r f g k (RanOut e h) = RanOut e (k h)
   shown_map F G P Q R S r f g k (Shown o a h) = Shown o (f o a) (shows_map w IsOutput mode i P Q o r g h)
 
-module _ {I A V T O E : Type 0} (w : Seen I A) (label : V → T) (IsOutput : V → O → Type 0) (IsLabelled : T → O → Type 0)
+module _ {I A V T O E : Type 0} (w : Model I A) (label : V → T) (IsOutput : V → O → Type 0) (IsLabelled : T → O → Type 0)
     (same : (t : V) (o : O) → IsOutput t o → IsLabelled (label t) o) (Joins : E → E → E → Type 0) (Grows : Type 0) (m : Meaning I V E) (mode : Modes)
     (i : I) where
   failure_labelled : (e : E) → OnOutcome IsFailure (m.answers mode.streaming) (m.blames mode.streaming i e) i →
@@ -186,7 +186,7 @@ module _ {I A V T O E : Type 0} (w : Seen I A) (label : V → T) (IsOutput : V �
       labelled_next (Shown o a k) = Shown (labelled label o) (here o a refl) (next_of x r o a k)
 
 -- one of two parsers, of one type of trees
-module _ {I A V O E : Type 0} (w : Seen I A) (IsOutput : V → O → Type 0) (Joins : E → E → E → Type 0) (Grows : Type 0) (a b : Meaning I V E)
+module _ {I A V O E : Type 0} (w : Model I A) (IsOutput : V → O → Type 0) (Joins : E → E → E → Type 0) (Grows : Type 0) (a b : Meaning I V E)
     (mode : Modes) (i : I) where
   next_blames_first : (x : Option E) (e : E) → Built mode.errors (a.blames mode.streaming i) x →
       NextBlames Joins b mode.streaming i (λ f. x ≡ Some f) e → NextBlames Joins b mode.streaming i (a.blames mode.streaming i) e
@@ -211,7 +211,7 @@ module _ {I A V O E : Type 0} (w : Seen I A) (IsOutput : V → O → Type 0) (Jo
       let both = or_meaning Joins Grows a b in
       shown_map w IsOutput mode i (b.answers mode.streaming i) (both.answers mode.streaming i) (NextBlames Joins b mode.streaming i (λ f. h.0 ≡ Some f))
       (both.blames mode.streaming i) (NextRunsOut Grows b mode i)
-      (both.runs_out mode i) r (λ o d. record { first = Refuse; answered = c; goes_on = d }) (λ e n. FirstRefuses c (next_blames_first h.0 e h.1 n))
+      (both.may_run_out mode i) r (λ o d. record { first = Refuse; answered = c; goes_on = d }) (λ e n. FirstRefuses c (next_blames_first h.0 e h.1 n))
       (λ k. inr (c, k))
       (next (built_map mode.errors (a.blames mode.streaming i) (λ _. Unit {0}) h.0 (λ _ _ _. tt) h.1))
   or_shown before r (Shown Fail c h) g =
@@ -223,7 +223,7 @@ module _ {I A V O E : Type 0} (w : Seen I A) (IsOutput : V → O → Type 0) (Jo
   or_shown before r (Shown (Undecided k) c h) g = Shown (Undecided k) (record { first = Undecided k; answered = c; goes_on = refl }) (h.0, h.1, rw h.2 at g)
 
 -- one of two parsers, with a tree that says which
-pub either_shown : {I A P Q O E : Type 0} (w : Seen I A) (First : P → O → Type 0) (Second : Q → O → Type 0) (Joins : E → E → E → Type 0)
+pub either_shown : {I A P Q O E : Type 0} (w : Model I A) (First : P → O → Type 0) (Second : Q → O → Type 0) (Joins : E → E → E → Type 0)
     (Grows : Type 0) (a : Meaning I P E) (b : Meaning I Q E) (mode : Modes) (i : I) (before r : Result (I × Option O) (Answer.Err E (Option E) Needed)) →
     ShowsMeaning w First a mode i before → OnError (ShowsNext w Second Joins Grows b mode i) before r →
     ShowsMeaning w (EitherOutput First Second) (either_meaning Joins Grows a b) mode i r
@@ -235,10 +235,10 @@ either_shown w First Second Joins Grows a b mode i before r h g =
     (ShowsNext w out Joins Grows (labelled_meaning inr b) mode i) before r (λ x k. next_labelled w inr Second out (λ t o k. k) Joins Grows b mode i x r k) g)
 
 -- a parser that stands in where the first refuses, whose error is dropped
-module _ {I A V O E : Type 0} (w : Seen I A) (IsOutput : V → O → Type 0) (a b : Meaning I V E) (built : Bool) (mode : Modes) (i : I) where
+module _ {I A V O E : Type 0} (w : Model I A) (IsOutput : V → O → Type 0) (a b : Meaning I V E) (built : Bool) (mode : Modes) (i : I) where
   abbrev Otherwise : Result (I × Option O) (Answer.Err E (Option E) Needed) → Type 0
   Otherwise = ShowsAnswer w IsOutput (with_outputs built mode) i ((otherwise_meaning a b).answers mode.streaming i)
-      ((otherwise_meaning a b).blames mode.streaming i) ((otherwise_meaning a b).runs_out mode i)
+      ((otherwise_meaning a b).blames mode.streaming i) ((otherwise_meaning a b).may_run_out mode i)
 
   first_of : (o : Outcome V) (r : Result (I × Option O) (Answer.Err E (Option E) Needed)) → a.answers mode.streaming i o →
       ((x : Option E) → r ≡ Err (Error x) → ⊥) → Shows w IsOutput (modes built false mode.streaming) i (a.blames mode.streaming i) o r → Otherwise r
@@ -253,7 +253,7 @@ module _ {I A V O E : Type 0} (w : Seen I A) (IsOutput : V → O → Type 0) (a 
   -- whatever the first answers but a refusal
   pub otherwise_first : (r : Result (I × Option O) (Answer.Err E (Option E) Needed)) → ((x : Option E) → r ≡ Err (Error x) → ⊥) →
       ShowsAnswer w IsOutput (modes built false mode.streaming) i (a.answers mode.streaming i) (a.blames mode.streaming i)
-      (a.runs_out (with_errors false mode) i) r → Otherwise r
+      (a.may_run_out (with_errors false mode) i) r → Otherwise r
   otherwise_first r f (RanOut e h) = RanOut e (inl h)
   otherwise_first r f (Shown o c h) = first_of o r c f h
 
@@ -273,6 +273,6 @@ module _ {I A V O E : Type 0} (w : Seen I A) (IsOutput : V → O → Type 0) (a 
 
     -- where the first refuses, what the second answers
     pub otherwise_next : (r : Result (I × Option O) (Answer.Err E (Option E) Needed)) →
-        ShowsAnswer w IsOutput (with_outputs built mode) i (b.answers mode.streaming i) (b.blames mode.streaming i) (b.runs_out mode i) r → Otherwise r
+        ShowsAnswer w IsOutput (with_outputs built mode) i (b.answers mode.streaming i) (b.blames mode.streaming i) (b.may_run_out mode i) r → Otherwise r
     otherwise_next r (RanOut e h) = RanOut e (inr (refused, h))
     otherwise_next r (Shown o c h) = Shown o (record { first = Refuse; answered = refused; goes_on = c }) (otherwise_of o r c h)

@@ -3,7 +3,7 @@ use Rattle.std.proofs.Common.{◌≡◌, true, Result, Option, Some, refl}
 use Rattle.nom_error.specs.declared.answer.Needed.{Needed}
 use Rattle.nom_error.specs.declared.answer.Err as Answer
 use Rattle.nom_error.specs.Modes.{Built, Modes}
-use Rattle.nom_traits.specs.Input.{Seen}
+use Rattle.nom_traits.specs.Input.{Model}
 use Rattle.nom_internal.specs.Outcome.ShowsAnswer.{RanOut, Shown}
 use Rattle.nom_internal.specs.Meaning.{Meaning, ShowsMeaning}
 use Rattle.nom_internal.specs.Families.{Family, of_value}
@@ -12,7 +12,7 @@ use Rattle.nom_internal.proofs.Cased.{labelled_shown}
 use Rattle.nom_internal.proofs.Choices.{built_fact, shows_map}
 
 -- what is shown of the value that a tree stands for is shown of the tree
-module _ {P V I A Q X E : Type 0} (w : Seen I A) (IsValue : P → V → Type 0) (f : Family V I Q E) (IsResult : Q → X → Type 0) (mode : Modes) (i : I)
+module _ {P V I A Q X E : Type 0} (w : Model I A) (IsValue : P → V → Type 0) (f : Family V I Q E) (IsResult : Q → X → Type 0) (mode : Modes) (i : I)
     (u : P) (v : V) (is : IsValue u v) where
   pub of_value_shown : (r : Result (I × Option X) (Answer.Err E (Option E) Needed)) → ShowsMeaning w IsResult (f.at v) mode i r →
       ShowsMeaning w IsResult ((of_value IsValue f).at u) mode i r
@@ -22,7 +22,7 @@ module _ {P V I A Q X E : Type 0} (w : Seen I A) (IsValue : P → V → Type 0) 
       (shows_map w IsResult mode i ((f.at v).blames mode.streaming i)
       (((of_value IsValue f).at u).blames mode.streaming i) o r (λ e b. record { value = v; is_value = is; fact = b }) h)
 
-module _ {I A P O H S Q X E : Type 0} (w : Seen I A) (IsOutput : P → O → Type 0) (g : Maker O H S) (IsResult : S → Q → X → Type 0)
+module _ {I A P O H S Q X E : Type 0} (w : Model I A) (IsOutput : P → O → Type 0) (g : Maker O H S) (IsResult : S → Q → X → Type 0)
     (m : S → Meaning I Q E) (mode : Modes) (i : I) (u : P) where
   pub given_shown : (x : Option O) (o : O) (h : H) (r : Result (I × Option X) (Answer.Err E (Option E) Needed)) → Built true (IsOutput u) x →
       x ≡ Some o → g.Gives o h → ShowsMeaning w (IsResult (g.state h)) (m (g.state h)) mode i r →

@@ -4,7 +4,7 @@ use Rattle.nom_error.specs.declared.answer.Needed.{Needed}
 use Rattle.nom_error.specs.declared.answer.Err as Answer
 use Rattle.nom_error.specs.Answers.{Refuses}
 use Rattle.nom_error.specs.Modes.{Built, Modes, with_outputs}
-use Rattle.nom_traits.specs.Input.{Seen}
+use Rattle.nom_traits.specs.Input.{Model}
 use Rattle.nom_internal.specs.Outcome.{Outcome}
 use Rattle.nom_internal.specs.Outcome.Outcome.{Accept, Refuse}
 use Rattle.nom_internal.specs.Outcome.ShowsAnswer.{RanOut, Shown}
@@ -15,12 +15,12 @@ use Rattle.nom_internal.specs.Judged.{kept_if, judged_case, judged_meaning}
 use Rattle.nom_internal.proofs.Shown.{Accepts, accepts, built_error}
 use Rattle.nom_internal.proofs.Cased.{here, passing_err}
 
-abbrev JudgedShown : {I A V P R O E : Type 0} (w : Seen I A) (IsOutput : V → P → Type 0) (Takes : P → Type 0) (Gives : P → R → Type 0) (fits : R → Bool)
+abbrev JudgedShown : {I A V P R O E : Type 0} (w : Model I A) (IsOutput : V → P → Type 0) (Takes : P → Type 0) (Gives : P → R → Type 0) (fits : R → Bool)
     (Makes : I → R → E → Type 0) (Grows : Type 0) (IsResult : V → O → Type 0) (m : Meaning I V E) (mode : Modes) (i : I) →
     Result (I × Option O) (Answer.Err E (Option E) Needed) → Type 0
 JudgedShown w IsOutput Takes Gives fits Makes Grows IsResult m mode i = ShowsMeaning w IsResult (judged_meaning IsOutput Takes Gives fits Makes Grows m) mode i
 
-module _ {I A V P R O E : Type 0} (w : Seen I A) (IsOutput : V → P → Type 0) (Takes : P → Type 0) (Gives : P → R → Type 0) (fits : R → Bool)
+module _ {I A V P R O E : Type 0} (w : Model I A) (IsOutput : V → P → Type 0) (Takes : P → Type 0) (Gives : P → R → Type 0) (fits : R → Bool)
     (Makes : I → R → E → Type 0) (Grows : Type 0) (IsResult : V → O → Type 0) (m : Meaning I V E) (mode : Modes) (i : I) where
   abbrev Goal : Result (I × Option O) (Answer.Err E (Option E) Needed) → Type 0
   Goal = JudgedShown w IsOutput Takes Gives fits Makes Grows IsResult m mode i
@@ -46,12 +46,12 @@ module _ {I A V P R O E : Type 0} (w : Seen I A) (IsOutput : V → P → Type 0)
       (q.0, built_error mode.errors _ _ q.0 (λ z c. here (Accept n t) a (r, g, f, c)) q.1, ap Err q.2)
 
 -- the output that was built is one of the tree
-output_is : {I A V P : Type 0} {w : Seen I A} {IsOutput : V → P → Type 0} {i j : I} {Answers : Outcome V → Type 0} {x : Option P} {p : P} → x ≡ Some p →
+output_is : {I A V P : Type 0} {w : Model I A} {IsOutput : V → P → Type 0} {i j : I} {Answers : Outcome V → Type 0} {x : Option P} {p : P} → x ≡ Some p →
     (a : Accepts w IsOutput true i Answers j x) → IsOutput a.tree p
 output_is {IsOutput = IsOutput} {p = p} e a = let same : a.built_is.0 ≡ p = cc (a.built_is.1, e) in subst (IsOutput a.tree) same a.built_is.2
 
 -- The premise that a closure judges the part tells which closure it is.
-module _ {I A V P R O E : Type 0} {w : Seen I A} {IsOutput : V → P → Type 0} {Takes : P → Type 0} {Gives : P → R → Type 0} {fits : R → Bool}
+module _ {I A V P R O E : Type 0} {w : Model I A} {IsOutput : V → P → Type 0} {Takes : P → Type 0} {Gives : P → R → Type 0} {fits : R → Bool}
     (Makes : I → R → E → Type 0) {Grows : Type 0} {IsResult : V → O → Type 0} (m : Meaning I V E) {mode : Modes} {i : I} where
   -- whatever isn't an acceptance passes
   pub judged_err : {f : Answer.Err E (Option E) Needed} {r : Result (I × Option O) (Answer.Err E (Option E) Needed)} →

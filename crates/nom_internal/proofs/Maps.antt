@@ -3,7 +3,7 @@ use Rattle.std.proofs.Common.{◌≡◌, Bool, true, false, Result, Ok, Err, Opt
 use Rattle.nom_error.specs.declared.answer.Needed.{Needed}
 use Rattle.nom_error.specs.declared.answer.Err as Answer
 use Rattle.nom_error.specs.Modes.{Built, Modes}
-use Rattle.nom_traits.specs.Input.{Seen}
+use Rattle.nom_traits.specs.Input.{Model}
 use Rattle.nom_internal.specs.Outcome.{Outcome, IsFault, Shows}
 use Rattle.nom_internal.specs.Outcome.Outcome.{Accept, Refuse, Fail, TooLarge, Undecided}
 use Rattle.nom_internal.specs.Outcome.ShowsAnswer.{RanOut, Shown}
@@ -25,12 +25,12 @@ module _ {V P R : Type 0} (IsOutput : V → P → Type 0) (Gives : P → R → T
   none_given true x e h = absurd (cc (h.1, e))
   none_given false x e h = refl
 
-abbrev MapShown : {I A V P R E : Type 0} (w : Seen I A) (IsOutput : V → P → Type 0) (Takes : P → Type 0) (Gives : P → R → Type 0) (m : Meaning I V E)
+abbrev MapShown : {I A V P R E : Type 0} (w : Model I A) (IsOutput : V → P → Type 0) (Takes : P → Type 0) (Gives : P → R → Type 0) (m : Meaning I V E)
     (mode : Modes) (i : I) → Result (I × Option R) (Answer.Err E (Option E) Needed) → Type 0
 MapShown w IsOutput Takes Gives m mode i = ShowsMeaning w (GivesFor IsOutput Gives) (map_meaning IsOutput Takes m) mode i
 
 -- The premise that a closure takes the outputs tells which closure it is.
-module _ {I A V P R E : Type 0} {w : Seen I A} {IsOutput : V → P → Type 0} {Takes : P → Type 0} {Gives : P → R → Type 0} (m : Meaning I V E)
+module _ {I A V P R E : Type 0} {w : Model I A} {IsOutput : V → P → Type 0} {Takes : P → Type 0} {Gives : P → R → Type 0} (m : Meaning I V E)
     {mode : Modes} {i : I} where
   -- whatever isn't an acceptance passes
   pub map_err : {f : Answer.Err E (Option E) Needed} {r : Result (I × Option R) (Answer.Err E (Option E) Needed)} → IsCallable IsOutput Takes →
@@ -70,7 +70,7 @@ converts_built : {T U : Type 0} (built : Bool) (Converts : T → U → Type 0) (
 converts_built true Converts P Q x y f c h = let d = subst (λ z. ConvertsSome Converts z y) h.1 c in (d.0, d.2, f h.0 d.0 h.2 d.1)
 converts_built false Converts P Q x y f c h = subst (λ z. ConvertsSome Converts z y) h c
 
-module _ {I A V P R E F : Type 0} (w : Seen I A) (IsOutput : V → P → Type 0) (Gives : P → R → Type 0) (Converts : E → F → Type 0) (m : Meaning I V E)
+module _ {I A V P R E F : Type 0} (w : Model I A) (IsOutput : V → P → Type 0) (Gives : P → R → Type 0) (Converts : E → F → Type 0) (m : Meaning I V E)
     (mode : Modes) (i : I) where
   abbrev IntoShown : Result (I × Option R) (Answer.Err F (Option F) Needed) → Type 0
   IntoShown = ShowsMeaning w (GivesFor IsOutput Gives) (into_meaning Converts m) mode i

@@ -8,7 +8,7 @@ use Rattle.nom_error.specs.declared.answer.Err.TheVariants.{Incomplete, Error, F
 use Rattle.nom_error.specs.Modes.{Built, Modes, modes, with_outputs}
 use Rattle.nom_error.specs.Answers.{Refuses, size_of}
 use Rattle.nom_internal.specs.Results.{IsFull, HoldsSame, rest_of}
-use Rattle.nom_traits.specs.Input.{Seen, InputLaws, IsRest}
+use Rattle.nom_traits.specs.Input.{Model, InputLaws, IsSuffixOf}
 use Rattle.nom_traits.specs.Rests.{rest_rest}
 use Rattle.nom_internal.specs.Outcome.{Outcome, IsFault, Shows, ShowsAnswer, Parses, ParsesAnswer}
 use Rattle.nom_internal.specs.Outcome.Outcome.{Accept, Refuse, Fail, TooLarge, Undecided}
@@ -41,15 +41,15 @@ built_error true P Q b f h = (h.0, h.1, f h.0 h.2)
 built_error false P Q b f h = h
 
 -- an acceptance that was shown, with what was built
-pub record Accepts {I A V O : Type 0} (w : Seen I A) (IsOutput : V → O → Type 0) (built : Bool) (i : I) (Answers : Outcome V → Type 0) (j : I)
+pub record Accepts {I A V O : Type 0} (w : Model I A) (IsOutput : V → O → Type 0) (built : Bool) (i : I) (Answers : Outcome V → Type 0) (j : I)
     (x : Option O) : Type 0 where
   pub length : ℕ
   pub tree : V
   pub answered : Answers (Accept length tree)
-  pub rest_is : IsRest w i length j
+  pub rest_is : IsSuffixOf w i length j
   pub built_is : Built built (IsOutput tree) x
 
-module _ {I A V O E : Type 0} (w : Seen I A) (IsOutput : V → O → Type 0) (mode : Modes) (i : I) (Answers : Outcome V → Type 0) (IsError : E → Type 0) where
+module _ {I A V O E : Type 0} (w : Model I A) (IsOutput : V → O → Type 0) (mode : Modes) (i : I) (Answers : Outcome V → Type 0) (IsError : E → Type 0) where
   some_accepts : (j : I) (x : Option O) (o : Outcome V) → Answers o → Shows w IsOutput mode i IsError o (Ok (j, x)) →
       Accepts w IsOutput mode.outputs i Answers j x
   some_accepts j x (Accept n v) a s =
@@ -58,7 +58,7 @@ module _ {I A V O E : Type 0} (w : Seen I A) (IsOutput : V → O → Type 0) (mo
         length = n;
         tree = v;
         answered = a;
-        rest_is = subst (λ k. IsRest w i n k) (sym (ap (λ p. p.0) same)) s.2;
+        rest_is = subst (λ k. IsSuffixOf w i n k) (sym (ap (λ p. p.0) same)) s.2;
         built_is = subst (λ y. Built mode.outputs (IsOutput v) y) (sym (ap (λ p. p.1) same)) s.3;
       }
   some_accepts j x Refuse a s = cc (s.2)
@@ -66,14 +66,14 @@ module _ {I A V O E : Type 0} (w : Seen I A) (IsOutput : V → O → Type 0) (mo
   some_accepts j x TooLarge a s = cc (s.2)
   some_accepts j x (Undecided k) a s = cc (s.2)
 
-pub accepts : {I A V O E : Type 0} {w : Seen I A} {IsOutput : V → O → Type 0} {mode : Modes} {i : I} {Answers : Outcome V → Type 0}
+pub accepts : {I A V O E : Type 0} {w : Model I A} {IsOutput : V → O → Type 0} {mode : Modes} {i : I} {Answers : Outcome V → Type 0}
     {IsError : E → Type 0} {RunsOut : Type 0} {j : I} {x : Option O} → ShowsAnswer w IsOutput mode i Answers IsError RunsOut (Ok (j, x)) →
     Accepts w IsOutput mode.outputs i Answers j x
 accepts (RanOut e h) = cc
 accepts {w = w} {IsOutput = IsOutput} {mode = mode} {i = i} {Answers = Answers} {IsError = IsError} {j = j} {x = x} (Shown o a s) =
     some_accepts w IsOutput mode i Answers IsError j x o a s
 
-module _ {I A V O P E : Type 0} (w : Seen I A) (IsOutput : V → O → Type 0) (IsResult : V → P → Type 0) (built : Bool) (mode : Modes) (i : I)
+module _ {I A V O P E : Type 0} (w : Model I A) (IsOutput : V → O → Type 0) (IsResult : V → P → Type 0) (built : Bool) (mode : Modes) (i : I)
     (IsError : E → Type 0) where
   err_shown : (e : Answer.Err E (Option E) Needed) (o : Outcome V) → Shows w IsOutput (with_outputs built mode) i IsError o (Err e) →
       Shows w IsResult mode i IsError o (Err e)
@@ -83,7 +83,7 @@ module _ {I A V O P E : Type 0} (w : Seen I A) (IsOutput : V → O → Type 0) (
   err_shown e TooLarge s = (s.0, s.1, cc (s.2))
   err_shown e (Undecided k) s = (s.0, s.1, cc (s.2))
 
-module _ {I A V O P E : Type 0} {w : Seen I A} {IsOutput : V → O → Type 0} {IsResult : V → P → Type 0} {built : Bool} {mode : Modes} {i : I}
+module _ {I A V O P E : Type 0} {w : Model I A} {IsOutput : V → O → Type 0} {IsResult : V → P → Type 0} {built : Bool} {mode : Modes} {i : I}
     {Answers : Outcome V → Type 0} {IsError : E → Type 0} {RunsOut : Type 0} where
   -- no acceptance, and a `?` returns what was answered: whatever an acceptance would have built
   pub output_err : {e : Answer.Err E (Option E) Needed} {r : Result (I × Option P) (Answer.Err E (Option E) Needed)} →
@@ -101,17 +101,17 @@ module _ {I A V O P E : Type 0} {w : Seen I A} {IsOutput : V → O → Type 0} {
       Shown (Accept a.length a.tree) a.answered (j, y, a.rest_is, k a.tree a.built_is, refl)
 
 -- what two parts in sequence show
-abbrev pub ShowsThen : {I A P Q T Y E : Type 0} (w : Seen I A) (tree : P → Q → T) (First : I → Outcome P → Type 0) (FirstBlames : I → E → Type 0)
+abbrev pub ShowsThen : {I A P Q T Y E : Type 0} (w : Model I A) (tree : P → Q → T) (First : I → Outcome P → Type 0) (FirstBlames : I → E → Type 0)
     (FirstRunsOut : I → Type 0) (Next : P → I → Outcome Q → Type 0) (NextBlames : P → I → E → Type 0) (NextRunsOut : P → I → Type 0)
     (IsResult : T → Y → Type 0) (mode : Modes) (i : I) → Result (I × Option Y) (Answer.Err E (Option E) Needed) → Type 0
 ShowsThen w tree First FirstBlames FirstRunsOut Next NextBlames NextRunsOut IsResult mode i r =
     ShowsAnswer w IsResult mode i (Then w tree First Next i) (ThenBlames w First FirstBlames Next NextBlames i)
     (ThenRunsOut w First FirstRunsOut NextRunsOut i) r
 
-module _ {I A P Q T Y E : Type 0} (w : Seen I A) (l : InputLaws w) (tree : P → Q → T) (First : I → Outcome P → Type 0) (FirstBlames : I → E → Type 0)
+module _ {I A P Q T Y E : Type 0} (w : Model I A) (l : InputLaws w) (tree : P → Q → T) (First : I → Outcome P → Type 0) (FirstBlames : I → E → Type 0)
     (FirstRunsOut : I → Type 0) (Next : P → I → Outcome Q → Type 0) (NextBlames : P → I → E → Type 0) (NextRunsOut : P → I → Type 0)
     (IsResult : T → Y → Type 0) (mode : Modes) (i : I) where
-  module _ (j : I) (n : ℕ) (u : P) (a : First i (Accept n u)) (p : IsRest w i n j) where
+  module _ (j : I) (n : ℕ) (u : P) (a : First i (Accept n u)) (p : IsSuffixOf w i n j) where
     next_fact : (o : Outcome Q) → Next u j o → IsFault o → (e : E) → NextBlames u j e → ThenBlames w First FirstBlames Next NextBlames i e
     next_fact o b f e h = BlamesNext
         (record { length = n; tree = u; rest = j; accepted = a; rest_is = p; fact = record { outcome = o; answered = b; kind_is = f; fact = h } })
@@ -132,7 +132,7 @@ module _ {I A P Q T Y E : Type 0} (w : Seen I A) (l : InputLaws w) (tree : P →
     next_shown r (RanOut f h) = RanOut f (RunsOutNext (record { length = n; tree = u; rest = j; accepted = a; rest_is = p; fact = h }))
     next_shown r (Shown o b s) = Shown (after n (tree u) o) (record { first = Accept n u; answered = a; goes_on = (j, o, p, b, refl) }) (shows_after o r b s)
 
-module _ {I A P Q T X Y E : Type 0} (w : Seen I A) (tree : P → Q → T) (First : I → Outcome P → Type 0) (FirstBlames : I → E → Type 0)
+module _ {I A P Q T X Y E : Type 0} (w : Model I A) (tree : P → Q → T) (First : I → Outcome P → Type 0) (FirstBlames : I → E → Type 0)
     (FirstRunsOut : I → Type 0) (Next : P → I → Outcome Q → Type 0) (NextBlames : P → I → E → Type 0) (NextRunsOut : P → I → Type 0)
     (IsFirst : P → X → Type 0) (IsResult : T → Y → Type 0) (built : Bool) (mode : Modes) (i : I) where
   first_fact : (o : Outcome P) → First i o → IsFault o → (e : E) → FirstBlames i e → ThenBlames w First FirstBlames Next NextBlames i e
@@ -147,7 +147,7 @@ module _ {I A P Q T X Y E : Type 0} (w : Seen I A) (tree : P → Q → T) (First
   first_err e TooLarge a s = Shown TooLarge (record { first = TooLarge; answered = a; goes_on = refl }) (s.0, first_fact TooLarge a tt s.0 s.1, cc (s.2))
   first_err e (Undecided k) a s = Shown (Undecided k) (record { first = Undecided k; answered = a; goes_on = refl }) (s.0, s.1, cc (s.2))
 
-module _ {I A P Q T X Y E : Type 0} {w : Seen I A} (l : InputLaws w) {tree : P → Q → T} {First : I → Outcome P → Type 0} {FirstBlames : I → E → Type 0}
+module _ {I A P Q T X Y E : Type 0} {w : Model I A} (l : InputLaws w) {tree : P → Q → T} {First : I → Outcome P → Type 0} {FirstBlames : I → E → Type 0}
     {FirstRunsOut : I → Type 0} {Next : P → I → Outcome Q → Type 0} {NextBlames : P → I → E → Type 0} {NextRunsOut : P → I → Type 0}
     {IsFirst : P → X → Type 0} {IsResult : T → Y → Type 0} {built : Bool} {mode : Modes} {i : I} where
   -- a first part that does not accept, and a `?` returns what it answered
@@ -177,7 +177,7 @@ both_built IsFirst IsSecond true x y z p q both none = ((p.0, q.0), both p.0 q.0
 both_built IsFirst IsSecond false x y z p q both none = none p
 
 -- what `process` shows is shown by a result without its options
-module _ {I A V O E : Type 0} (w : Seen I A) (IsOutput : V → O → Type 0) (streaming : Bool) (i : I) (IsError : E → Type 0) where
+module _ {I A V O E : Type 0} (w : Model I A) (IsOutput : V → O → Type 0) (streaming : Bool) (i : I) (IsError : E → Type 0) where
   full_of : (o : Outcome V) (r : Result (I × Option O) (Answer.Err E (Option E) Needed)) → Shows w IsOutput (modes true true streaming) i IsError o r → IsFull r
   full_of (Accept n v) r s = subst (λ x. IsFull x) (sym (s.4 ∙ ap (λ b. Ok (s.0, b)) s.3.1)) tt
   full_of Refuse r s = subst (λ x. IsFull x) (sym (s.2 ∙ ap (λ b. Err (Error b)) s.1.1)) tt
@@ -193,7 +193,7 @@ module _ {I A V O E : Type 0} (w : Seen I A) (IsOutput : V → O → Type 0) (st
   parses_of TooLarge p r h s = (s.0, s.1, subst (λ x. HoldsSame x r) s.2 h)
   parses_of (Undecided k) p r h s = (s.0, s.1, subst (λ x. HoldsSame x r) s.2 h)
 
-module _ {I A V O E : Type 0} {w : Seen I A} {IsOutput : V → O → Type 0} {streaming : Bool} {i : I} {Answers : Outcome V → Type 0} {IsError : E → Type 0} where
+module _ {I A V O E : Type 0} {w : Model I A} {IsOutput : V → O → Type 0} {streaming : Bool} {i : I} {Answers : Outcome V → Type 0} {IsError : E → Type 0} where
   pub answer_full : {RunsOut : Type 0} {r : Result (I × Option O) (Answer.Err E (Option E) Needed)} →
       ShowsAnswer w IsOutput (modes true true streaming) i Answers IsError RunsOut r → IsFull r
   answer_full (RanOut e h) = subst (λ x. IsFull x) (sym e) tt
@@ -205,7 +205,7 @@ module _ {I A V O E : Type 0} {w : Seen I A} {IsOutput : V → O → Type 0} {st
   parsed {p = p} {r = r} h (Shown o a s) = Parsed o a (parses_of w IsOutput streaming i IsError o p r h s)
 
 -- what a refusal at a leaf shows
-pub refused : {I A V O E : Type 0} {w : Seen I A} {IsOutput : V → O → Type 0} {mode : Modes} {i : I} {Answers : Outcome V → Type 0}
+pub refused : {I A V O E : Type 0} {w : Model I A} {IsOutput : V → O → Type 0} {mode : Modes} {i : I} {Answers : Outcome V → Type 0}
     {IsError : E → Type 0} {Grows : Type 0} {r : Answer.Err E (Option E) Needed} → Refuses IsError Grows mode.errors r → Answers Refuse →
     ShowsAnswer w IsOutput mode i Answers IsError (Answers Refuse × (mode.errors ≡ true) × Grows) (Err r)
 refused (inl h) a = RanOut (ap Err h.0) (a, h.1, h.2)
@@ -216,9 +216,9 @@ some_built true P v h p = (v, refl, p)
 some_built false P v h p = absurd (cc (h))
 
 -- what a leaf shows of an acceptance, and where more is needed
-module _ {I A V O E : Type 0} {w : Seen I A} {IsOutput : V → O → Type 0} {mode : Modes} {i : I} {Answers : Outcome V → Type 0} {IsError : E → Type 0}
+module _ {I A V O E : Type 0} {w : Model I A} {IsOutput : V → O → Type 0} {mode : Modes} {i : I} {Answers : Outcome V → Type 0} {IsError : E → Type 0}
     {RunsOut : Type 0} where
-  pub accepted : {n : ℕ} (v : V) {j : I} {x : Option O} → IsRest w i n j → Answers (Accept n v) → Built mode.outputs (IsOutput v) x →
+  pub accepted : {n : ℕ} (v : V) {j : I} {x : Option O} → IsSuffixOf w i n j → Answers (Accept n v) → Built mode.outputs (IsOutput v) x →
       ShowsAnswer w IsOutput mode i Answers IsError RunsOut (Ok (j, x))
   accepted {n = n} v {j = j} {x = x} p a b = Shown (Accept n v) a (j, x, p, b, refl)
 

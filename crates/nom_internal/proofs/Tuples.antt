@@ -3,7 +3,7 @@ use Rattle.std.proofs.Common.{◌≡◌, Bool, true, false, Result, Ok, Err, Opt
 use Rattle.nom_error.specs.declared.answer.Needed.{Needed}
 use Rattle.nom_error.specs.declared.answer.Err as Answer
 use Rattle.nom_error.specs.Modes.{Built, Modes, with_outputs}
-use Rattle.nom_traits.specs.Input.{Seen, InputLaws}
+use Rattle.nom_traits.specs.Input.{Model, InputLaws}
 use Rattle.nom_internal.specs.Outcome.{ShowsAnswer}
 use Rattle.nom_internal.specs.Outcome.Outcome.{Accept, Refuse, Fail, TooLarge, Undecided}
 use Rattle.nom_internal.specs.Outcome.ShowsAnswer.{RanOut, Shown}
@@ -21,10 +21,10 @@ pub on_accepted : {I T U E : Type 0} (Next : I → Option T → Result (I × Opt
 on_accepted Next before j x r h k = rw h k
 
 -- a member's answer, with its output after others
-module _ {I A V T O E : Type 0} (w : Seen I A) (IsOutput : V → O → Type 0) (m : Meaning I V E) (mode : Modes) (j : I) (t : T) where
+module _ {I A V T O E : Type 0} (w : Model I A) (IsOutput : V → O → Type 0) (m : Meaning I V E) (mode : Modes) (j : I) (t : T) where
   abbrev Behind : Result (I × Option (T × O)) (Answer.Err E (Option E) Needed) → Type 0
   Behind r = ShowsAnswer w (λ v o. (o.0 ≡ t) × IsOutput v o.1) (with_outputs true mode) j (m.answers mode.streaming j) (m.blames mode.streaming j)
-      (m.runs_out (with_outputs true mode) j) r
+      (m.may_run_out (with_outputs true mode) j) r
 
   pub paired_shown : (answer : Result (I × Option O) (Answer.Err E (Option E) Needed))
       (r : Result (I × Option (T × O)) (Answer.Err E (Option E) Needed)) → ShowsMeaning w IsOutput m (with_outputs true mode) j answer →
@@ -39,12 +39,12 @@ module _ {I A V T O E : Type 0} (w : Seen I A) (IsOutput : V → O → Type 0) (
   paired_shown answer r (Shown (Undecided k) a h) g = Shown (Undecided k) a (h.0, h.1, rw h.2 at g)
 
 -- a member, after those before it
-module _ {I A P Q T O R E : Type 0} (w : Seen I A) (l : InputLaws w) (tree : P → Q → T) (Before : P → O → Type 0) (Last : Q → R → Type 0)
+module _ {I A P Q T O R E : Type 0} (w : Model I A) (l : InputLaws w) (tree : P → Q → T) (Before : P → O → Type 0) (Last : Q → R → Type 0)
     (Both : T → O × R → Type 0) (both : (u : P) (v : Q) (o : O) (r : R) → Before u o → Last v r → Both (tree u v) (o, r)) (a : Meaning I P E)
     (b : Meaning I Q E) (mode : Modes) (i : I) where
   behind_as : (u : P) (t : O) (j : I) → Before u t → (r : Result (I × Option (O × R)) (Answer.Err E (Option E) Needed)) → Behind w Last b mode j t r →
       ShowsAnswer w (λ v. Both (tree u v)) (with_outputs true mode) j (b.answers mode.streaming j) (b.blames mode.streaming j)
-      (b.runs_out (with_outputs true mode) j) r
+      (b.may_run_out (with_outputs true mode) j) r
   behind_as u t j p r (RanOut e h) = RanOut e h
   behind_as u t j p r (Shown (Accept n v) a h) =
       Shown (Accept n v) a (h.0, h.1, h.2, built_error true _ _ h.1 (λ o q. both u v o.0 o.1 (subst (λ x. Before u x) (sym q.0) p) q.1) h.3, h.4)
@@ -64,7 +64,7 @@ built_cond true P v h = (v, refl, h)
 built_cond false P v h = refl
 
 -- outputs that are built, in another form where they are asked for
-module _ {I A V T O E : Type 0} (w : Seen I A) (IsOutput : V → T → Type 0) (IsForm : V → O → Type 0) (form : T → O)
+module _ {I A V T O E : Type 0} (w : Model I A) (IsOutput : V → T → Type 0) (IsForm : V → O → Type 0) (form : T → O)
     (same : (v : V) (t : T) → IsOutput v t → IsForm v (form t)) (m : Meaning I V E) (mode : Modes) (i : I) where
   pub formed_shown : (before : Result (I × Option T) (Answer.Err E (Option E) Needed)) (r : Result (I × Option O) (Answer.Err E (Option E) Needed)) →
       ShowsMeaning w IsOutput m (with_outputs true mode) i before → OnAccepted (IsFormed mode.outputs form) before r →
@@ -85,7 +85,7 @@ module _ {I A V T O E : Type 0} (w : Seen I A) (IsOutput : V → T → Type 0) (
   formed_shown before r (Shown (Undecided k) a h) g = Shown (Undecided k) a (h.0, h.1, rw h.2 at g)
 
 -- a tuple, by its members: each was run after those before it, and the outputs were put together
-module _ {I Z X P A : Type 0} (w : Seen I Z) (l : InputLaws w) (mode : Modes) (i : I) (IsA : P → A → Type 0) (a : Meaning I P X)
+module _ {I Z X P A : Type 0} (w : Model I Z) (l : InputLaws w) (mode : Modes) (i : I) (IsA : P → A → Type 0) (a : Meaning I P X)
     (after_a : Result (I × Option A) (Answer.Err X (Option X) Needed)) (shows_a : ShowsMeaning w IsA a (with_outputs true mode) i after_a) where
   module _ {Q B : Type 0} (IsB : Q → B → Type 0) (b : Meaning I Q X) (after_b : Result (I × Option (A × B)) (Answer.Err X (Option X) Needed))
       (shows_b : OnAccepted (ShowsMember w IsB b mode) after_a after_b) where

@@ -1,7 +1,7 @@
 -- A parser on what another one gives: the first's output, as an input of its own.
 use Rattle.std.specs.Prelude.{◌≡◌, true}
 use Rattle.nom_error.specs.Modes.{with_outputs}
-use Rattle.nom_traits.specs.Input.{Seen, IsSame}
+use Rattle.nom_traits.specs.Input.{Model, IsSame}
 use Rattle.nom_internal.specs.Outcome.{Outcome, mapped}
 use Rattle.nom_internal.specs.Meaning.{Meaning}
 use Rattle.nom_internal.specs.Cases.{Case, case_meaning}
@@ -9,7 +9,7 @@ use Rattle.nom_internal.specs.Cases.PartMode.{AsAsked}
 use Rattle.nom_internal.specs.Families.{Family}
 use Rattle.nom_internal.specs.Sequence.{then_meaning}
 
-module _ {J B P : Type 0} (v : Seen J B) (IsOutput : P → J → Type 0) where
+module _ {J B P : Type 0} (v : Model J B) (IsOutput : P → J → Type 0) where
   -- an output of a tree, as an input
   pub record IsBound (u : P) (j : J) : Type 0 where
     pub is_output : IsOutput u j
@@ -38,7 +38,7 @@ bounded_case At = record {
 }
 
 -- a parser on an output of a first part's tree
-abbrev pub bounded_family : {I J B P Q E : Type 0} → Seen J B → (P → J → Type 0) → Meaning J Q E → Family P I Q E
+abbrev pub bounded_family : {I J B P Q E : Type 0} → Model J B → (P → J → Type 0) → Meaning J Q E → Family P I Q E
 bounded_family v IsOutput m = record {
   at = λ u. case_meaning (bounded_case (IsBound v IsOutput u)) m;
   IsSound = m.IsSound × AreAlike v IsOutput;
@@ -49,5 +49,5 @@ bounded_family v IsOutput m = record {
 
 -- A first part, whose outputs are built, and a parser on its output alone, whose rest is dropped: what the first consumes
 -- is consumed, and the second's tree is the tree.
-abbrev pub and_then_meaning : {I A J B P Q E : Type 0} → Seen I A → Seen J B → (P → J → Type 0) → Meaning I P E → Meaning J Q E → Meaning I Q E
+abbrev pub and_then_meaning : {I A J B P Q E : Type 0} → Model I A → Model J B → (P → J → Type 0) → Meaning I P E → Meaning J Q E → Meaning I Q E
 and_then_meaning w v IsOutput a m = then_meaning w (λ u t. t) (with_outputs true) (λ o. o) a (bounded_family v IsOutput m)

@@ -2,7 +2,7 @@
 use Rattle.std.specs.Prelude.{◌≡◌, ℕ, Bool, true, false, refl}
 use Rattle.std.proofs.Common.{sym, ◌∙◌, ap, subst}
 use Rattle.nom_error.specs.Modes.{with_outputs}
-use Rattle.nom_traits.specs.Input.{Seen, InputLaws, IsPlace, IsSame, Related}
+use Rattle.nom_traits.specs.Input.{Model, InputLaws, IsBoundary, IsSame, Related}
 use Rattle.nom_internal.specs.Outcome.{Outcome, IsDecided}
 use Rattle.nom_internal.specs.Outcome.Outcome.{Accept, Refuse, Fail, TooLarge, Undecided}
 use Rattle.nom_internal.specs.Meaning.{Meaning, IsLawful, IsSteady}
@@ -13,18 +13,18 @@ use Rattle.nom_internal.specs.CaseLaws.{CaseLaws, no_place, case_lawful}
 use Rattle.nom_internal.specs.Bounded.{IsBound, AreAlike, held, bounded_case, bounded_family, and_then_meaning}
 
 -- inputs that are equal as models are related, where no longer ones are asked for
-alike_related : {J B : Type 0} (v : Seen J B) (longer : Bool) → (longer ≡ true → false ≡ true) → (j k : J) → IsSame v j k → Related v longer j k
+alike_related : {J B : Type 0} (v : Model J B) (longer : Bool) → (longer ≡ true → false ≡ true) → (j k : J) → IsSame v j k → Related v longer j k
 alike_related v true stays j k r = absurd (cc (stays refl))
 alike_related v false stays j k r = r
 
-held_place : {I A V : Type 0} (w : Seen I A) (i : I) (a : Outcome V) (n : ℕ) (t : V) → Accept n t ≡ held a → IsPlace w i n
-held_place w i (Accept m u) n t e = let none : n ≡ 0 = cc in subst (λ k. IsPlace w i k) (sym none) (no_place w i)
+held_place : {I A V : Type 0} (w : Model I A) (i : I) (a : Outcome V) (n : ℕ) (t : V) → Accept n t ≡ held a → IsBoundary w i n
+held_place w i (Accept m u) n t e = let none : n ≡ 0 = cc in subst (λ k. IsBoundary w i k) (sym none) (no_place w i)
 held_place w i Refuse n t e = cc
 held_place w i Fail n t e = cc
 held_place w i TooLarge n t e = cc
 held_place w i (Undecided k) n t e = cc
 
-module _ {I A J B P Q E : Type 0} (w : Seen I A) (v : Seen J B) (IsOutput : P → J → Type 0) (same : AreAlike v IsOutput) (m : Meaning J Q E)
+module _ {I A J B P Q E : Type 0} (w : Model I A) (v : Model J B) (IsOutput : P → J → Type 0) (same : AreAlike v IsOutput) (m : Meaning J Q E)
     (l : IsLawful v m) where
   bounded_laws : (u : P) → CaseLaws {I = I} {P = Q} {E = E} false w v (bounded_case (IsBound v IsOutput u))
   bounded_laws u = record {

@@ -2,7 +2,7 @@
 use Rattle.std.specs.Prelude.{◌≡◌, ℕ, Bool, true, false, not, [], refl}
 use Rattle.std.proofs.Common.{sym, ◌∙◌, ap, subst}
 use Rattle.nom_error.specs.Modes.{Modes}
-use Rattle.nom_traits.specs.Input.{Seen, IsPlace, IsSame, Related}
+use Rattle.nom_traits.specs.Input.{Model, IsBoundary, IsSame, Related}
 use Rattle.nom_traits.specs.Rests.{same_self}
 use Rattle.nom_internal.specs.Outcome.{Outcome, IsDecided, failure}
 use Rattle.nom_internal.specs.Outcome.Outcome.{Accept, Refuse, Fail, TooLarge, Undecided}
@@ -19,7 +19,7 @@ Streams mode = mode_of mode true ≡ true
 
 -- What cases must keep, where their premise holds. Do longer inputs keep it too (true), or, if that isn't asked, only those that
 -- are equal as models?
-pub record CaseLaws {I A J B P T E F : Type 0} (stays : Bool) (w : Seen I A) (v : Seen J B) (c : Case I J P T E F) : Type 1 where
+pub record CaseLaws {I A J B P T E F : Type 0} (stays : Bool) (w : Model I A) (v : Model J B) (c : Case I J P T E F) : Type 1 where
   -- related inputs have related inputs of the part
   pub at_known : (i : I) (j : J) → w.IsKnown i → c.At i j → v.IsKnown j
   pub at_related : (longer : Bool) → (longer ≡ true → stays ≡ true) → (x y : I) (j k : J) → Related w longer x y → c.At x j → c.At y k → Related v longer j k
@@ -31,8 +31,8 @@ pub record CaseLaws {I A J B P T E F : Type 0} (stays : Bool) (w : Seen I A) (v 
       Related w longer x y → c.Becomes x a o → Keeps longer o → c.Becomes y a p → o ≡ p
   pub alike : (x y : I) (a : Outcome P) (o : Outcome T) → w.IsKnown x → w.IsKnown y → IsSame w x y → c.Becomes x a o → c.Becomes y a o
   -- what is accepted is a front, where what the part accepts is one
-  pub place : (i : I) (j : J) (a : Outcome P) (n : ℕ) (t : T) → w.IsKnown i → c.At i j → ((m : ℕ) (u : P) → a ≡ Accept m u → IsPlace v j m) →
-      c.Becomes i a (Accept n t) → IsPlace w i n
+  pub place : (i : I) (j : J) (a : Outcome P) (n : ℕ) (t : T) → w.IsKnown i → c.At i j → ((m : ℕ) (u : P) → a ≡ Accept m u → IsBoundary v j m) →
+      c.Becomes i a (Accept n t) → IsBoundary w i n
   pub never_fails : (Part : Bool → Type 0) (large : Bool) (i : I) (a : Outcome P) → c.NeverFails Part large → c.Becomes i a (failure large) →
       Part large × (a ≡ failure large)
   -- the part's errors stand for themselves
@@ -40,7 +40,7 @@ pub record CaseLaws {I A J B P T E F : Type 0} (stays : Bool) (w : Seen I A) (v 
   pub part_frugal : (Part : Modes → Type 0) (mode : Modes) → c.IsFrugal Part mode → Part (c.part mode)
   pub asks_none : (Part : Modes → Type 0) (mode : Modes) (i : I) (a : Outcome P) → c.IsFrugal Part mode → c.Asks mode i a → ⊥
 
-module _ {I A J B P T E F : Type 0} {stays : Bool} (w : Seen I A) (v : Seen J B) (c : Case I J P T E F) (l : CaseLaws stays w v c) where
+module _ {I A J B P T E F : Type 0} {stays : Bool} (w : Model I A) (v : Model J B) (c : Case I J P T E F) (l : CaseLaws stays w v c) where
   keeps_part : (longer : Bool) → (longer ≡ true → Streams c.mode) → (i : I) (a : Outcome P) (o : Outcome T) → c.Becomes i a o → Keeps longer o → Keeps longer a
   keeps_part true only i a o b k = l.keeps (only refl) i a o b k
   keeps_part false only i a o b k = tt
@@ -89,7 +89,7 @@ module _ {I A J B P T E F : Type 0} {stays : Bool} (w : Seen I A) (v : Seen J B)
       }
 
   module _ (m : Meaning J P E) (p : IsLawful v m) where
-    case_frugal : (mode : Modes) (i : I) → w.IsKnown i → c.IsFrugal m.IsFrugal mode → (case_meaning c m).runs_out mode i → ⊥
+    case_frugal : (mode : Modes) (i : I) → w.IsKnown i → c.IsFrugal m.IsFrugal mode → (case_meaning c m).may_run_out mode i → ⊥
     case_frugal mode i h g (RunsOutInPart j q r) = p.frugal (c.part mode) j (l.at_known i j h q) (l.part_frugal m.IsFrugal mode g) r
     case_frugal mode i h g (RunsOutBeside r) = l.asks_none m.IsFrugal mode i r.outcome g r.fact
 
@@ -99,7 +99,7 @@ module _ {I A J B P T E F : Type 0} {stays : Bool} (w : Seen I A) (v : Seen J B)
         p.never_fails large n.0 (mode_of c.mode s) a.at (l.at_known i a.at h a.at_is) (subst (λ z. m.answers (mode_of c.mode s) a.at z) n.1 a.answered)
 
 -- how a whole settles, by the mode of its part
-module _ {I A J B P T E F : Type 0} {stays : Bool} (w : Seen I A) (v : Seen J B) (m : Meaning J P E) (p : IsLawful v m) (c : Case I J P T E F)
+module _ {I A J B P T E F : Type 0} {stays : Bool} (w : Model I A) (v : Model J B) (m : Meaning J P E) (p : IsLawful v m) (c : Case I J P T E F)
     (l : CaseLaws stays w v c) where
   abbrev Answers : Bool → I → Outcome T → Type 0
   Answers s i o = OnPart c.At (m.answers s) (λ _ a. c.Becomes i a o) i
@@ -132,17 +132,17 @@ module _ {I A J B P T E F : Type 0} {stays : Bool} (w : Seen I A) (v : Seen J B)
     never_fails = case_never w v c l m p;
   }
 
-module _ {I A J B P T E F : Type 0} (w : Seen I A) (v : Seen J B) (m : Meaning J P E) (c : Case I J P T E F) (l : CaseLaws true w v c) where
+module _ {I A J B P T E F : Type 0} (w : Model I A) (v : Model J B) (m : Meaning J P E) (c : Case I J P T E F) (l : CaseLaws true w v c) where
   pub case_steady : Streams c.mode → IsSteady v m → IsSteady w (case_meaning c m)
   case_steady only p = case_agree w v c l true (λ _. only) (λ _. refl) (m.answers (mode_of c.mode true)) (m.answers (mode_of c.mode true))
       (subst (λ s. Agree v true (m.answers s) (m.answers s)) (sym only) p)
 
 -- nothing is a front
-pub no_place : {I A : Type 0} (w : Seen I A) (i : I) → IsPlace w i 0
+pub no_place : {I A : Type 0} (w : Model I A) (i : I) → IsBoundary w i 0
 no_place w i = record { front = []; rest = w.elements i; whole = refl; length_is = refl }
 
 -- the laws that cases at the same input have
-module _ {I A : Type 0} (w : Seen I A) where
+module _ {I A : Type 0} (w : Model I A) where
   pub here_known : (i j : I) → w.IsKnown i → i ≡ j → w.IsKnown j
   here_known i j h e = subst w.IsKnown e h
 
@@ -152,8 +152,8 @@ module _ {I A : Type 0} (w : Seen I A) where
   pub here_alike : (x y j : I) → IsSame w x y → x ≡ j → (k : I) × (y ≡ k)
   here_alike x y j r e = (y, refl)
 
-  pub here_place : (i j : I) (n : ℕ) → i ≡ j → IsPlace w j n → IsPlace w i n
-  here_place i j n e = subst (λ z. IsPlace w z n) (sym e)
+  pub here_place : (i j : I) (n : ℕ) → i ≡ j → IsBoundary w j n → IsBoundary w i n
+  here_place i j n e = subst (λ z. IsBoundary w z n) (sym e)
 
 -- cases that make one outcome of each outcome, of its kind: `f` keeps what is decided, what is accepted and how it fails
 pub record IsOutcomeMap {P T : Type 0} (f : Outcome P → Outcome T) : Type 0 where
@@ -178,14 +178,15 @@ passes_all = record {
   fails = λ large a e. sym e;
 }
 
-module _ {I A P T : Type 0} (w : Seen I A) (f : Outcome P → Outcome T) (is : IsOutcomeMap f) where
+module _ {I A P T : Type 0} (w : Model I A) (f : Outcome P → Outcome T) (is : IsOutcomeMap f) where
   pub map_keeps : (a : Outcome P) (o : Outcome T) → o ≡ f a → IsDecided o → IsDecided a
   map_keeps a o e d = is.keeps a (subst (λ z. IsDecided z) e d)
 
-  pub map_place : (i j : I) (a : Outcome P) (n : ℕ) (t : T) → i ≡ j → ((m : ℕ) (u : P) → a ≡ Accept m u → IsPlace w j m) → Accept n t ≡ f a → IsPlace w i n
+  pub map_place : (i j : I) (a : Outcome P) (n : ℕ) (t : T) → i ≡ j → ((m : ℕ) (u : P) → a ≡ Accept m u → IsBoundary w j m) → Accept n t ≡ f a →
+      IsBoundary w i n
   map_place i j a n t e place b = let k = is.accepts a n t b in here_place w i j n e (place n k.0 k.1)
 
-module _ {I A P : Type 0} (w : Seen I A) where
+module _ {I A P : Type 0} (w : Model I A) where
   pub labelled_laws : {T E : Type 0} (label : P → T) → CaseLaws {E = E} true w w (plain_case (λ b. b) (λ i a o. o ≡ labelled label a))
   labelled_laws label = record {
     at_known = here_known w;
@@ -246,7 +247,7 @@ module _ {I A P : Type 0} (w : Seen I A) where
     asks_none = λ Part mode i a h g. refused_only ((mode.errors ≡ true) × Grows) a (λ z. h.1 z.0 z.1) g;
   }
 
-module _ {I A P E : Type 0} (w : Seen I A) (m : Meaning I P E) where
+module _ {I A P E : Type 0} (w : Model I A) (m : Meaning I P E) where
   pub labelled_lawful : {T : Type 0} (label : P → T) → IsLawful w m → IsLawful w (labelled_meaning label m)
   labelled_lawful label l = case_lawful w w m l (plain_case (λ b. b) (λ i a o. o ≡ labelled label a)) (labelled_laws w label)
 

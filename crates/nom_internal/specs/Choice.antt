@@ -7,7 +7,7 @@ use Rattle.nom_error.specs.declared.answer.Err as Answer
 use Rattle.nom_error.specs.declared.answer.Err.TheVariants.{Incomplete, Error, Failure, OutOfMemory}
 use Rattle.nom_error.specs.Answers.{Refuses}
 use Rattle.nom_error.specs.Modes.{Built, Modes, with_errors}
-use Rattle.nom_traits.specs.Input.{Seen}
+use Rattle.nom_traits.specs.Input.{Model}
 use Rattle.nom_internal.specs.Outcome.{Outcome, ShowsAnswer, IsFailure, IsFault, OnOutcome}
 use Rattle.nom_internal.specs.Outcome.Outcome.{Accept, Refuse, Fail, TooLarge, Undecided}
 use Rattle.nom_internal.specs.Meaning.{Meaning}
@@ -47,7 +47,7 @@ pub data OrBlames {I V E : Type 0} (Joins : E → E → E → Type 0) (a b : Mea
 
 -- where a part may run out of memory after a refusal: in itself, or in the joining of errors
 abbrev pub NextRunsOut : {I V E : Type 0} → Type 0 → Meaning I V E → Modes → I → Type 0
-NextRunsOut Grows m mode i = m.runs_out mode i ⊎ (m.answers mode.streaming i Refuse × (mode.errors ≡ true) × Grows)
+NextRunsOut Grows m mode i = m.may_run_out mode i ⊎ (m.answers mode.streaming i Refuse × (mode.errors ≡ true) × Grows)
 
 -- One of two parsers: the second where the first refuses; if both refuse, their errors joined. It is frugal where both are
 -- and, where errors are built, making one takes no memory.
@@ -56,7 +56,7 @@ or_meaning Joins Grows a b = record {
   IsSound = a.IsSound × b.IsSound;
   answers = λ s. OnRefusal (a.answers s) (b.answers s);
   blames = OrBlames Joins a b;
-  runs_out = λ mode i. a.runs_out mode i ⊎ (a.answers mode.streaming i Refuse × NextRunsOut Grows b mode i);
+  may_run_out = λ mode i. a.may_run_out mode i ⊎ (a.answers mode.streaming i Refuse × NextRunsOut Grows b mode i);
   IsFrugal = λ mode. a.IsFrugal mode × b.IsFrugal mode × (mode.errors ≡ true → Grows → ⊥);
   Settles = a.Settles × b.Settles;
   NeverFails = λ large. a.NeverFails large × b.NeverFails large;
@@ -77,7 +77,7 @@ otherwise_meaning a b = record {
   IsSound = a.IsSound × b.IsSound;
   answers = λ s. OnRefusal (a.answers s) (b.answers s);
   blames = OtherwiseBlames a b;
-  runs_out = λ mode i. a.runs_out (with_errors false mode) i ⊎ (a.answers mode.streaming i Refuse × b.runs_out mode i);
+  may_run_out = λ mode i. a.may_run_out (with_errors false mode) i ⊎ (a.answers mode.streaming i Refuse × b.may_run_out mode i);
   IsFrugal = λ mode. a.IsFrugal (with_errors false mode) × b.IsFrugal mode;
   Settles = a.Settles × b.Settles;
   NeverFails = λ large. a.NeverFails large × b.NeverFails large;
@@ -119,7 +119,7 @@ abbrev pub ClosesResult : {T E : Type 0} → (E → E → Type 0) → Type 0 →
 ClosesResult {E = E} Closes Grows = OnError (λ x r. (f : Answer.Err E (Option E) Needed) × ClosesError Closes Grows x f × (r ≡ Err f))
 
 -- what a part shows after a refusal with an error, where errors are built
-abbrev pub ShowsNext : {I A V O E : Type 0} → Seen I A → (V → O → Type 0) → (E → E → E → Type 0) → Type 0 → Meaning I V E → Modes → I → Option E →
+abbrev pub ShowsNext : {I A V O E : Type 0} → Model I A → (V → O → Type 0) → (E → E → E → Type 0) → Type 0 → Meaning I V E → Modes → I → Option E →
     Result (I × Option O) (Answer.Err E (Option E) Needed) → Type 0
 ShowsNext w IsOutput Joins Grows m mode i x r = Built mode.errors (λ _. Unit {0}) x →
     ShowsAnswer w IsOutput mode i (m.answers mode.streaming i) (NextBlames Joins m mode.streaming i (λ a. x ≡ Some a)) (NextRunsOut Grows m mode i) r

@@ -2,7 +2,7 @@
 use Rattle.std.specs.Prelude.{◌≡◌, Bool, true, false, not, ◌⊎◌}
 use Rattle.std.proofs.Common.{sym, ◌∙◌, subst, inl, inr}
 use Rattle.nom_error.specs.Modes.{Modes, with_errors}
-use Rattle.nom_traits.specs.Input.{Seen, IsPlace}
+use Rattle.nom_traits.specs.Input.{Model, IsBoundary}
 use Rattle.nom_traits.specs.Rests.{same_self}
 use Rattle.nom_internal.specs.Outcome.{Outcome, IsDecided, IsFailure, IsFault, OnOutcome, failure}
 use Rattle.nom_internal.specs.Outcome.Outcome.{Accept, Refuse, Fail, TooLarge, Undecided}
@@ -48,7 +48,7 @@ module _ {V : Type 0} (N : Outcome V → Type 0) where
   goes_by TooLarge o s = inl (sym s)
   goes_by (Undecided d) o s = inl (sym s)
 
-module _ {I A V : Type 0} (w : Seen I A) (F G N M : I → Outcome V → Type 0) where
+module _ {I A V : Type 0} (w : Model I A) (F G N M : I → Outcome V → Type 0) where
   pub or_agree : (longer : Bool) → Agree w longer F G → Agree w longer N M → Agree w longer (OnRefusal F N) (OnRefusal G M)
   or_agree longer f g x y o p kx ky r s k t =
       let e = f x y s.first t.first kx ky r s.answered (keeps_refused (N x) longer s.first o k s.goes_on) t.answered in
@@ -61,9 +61,9 @@ module _ {I A V : Type 0} (w : Seen I A) (F G N M : I → Outcome V → Type 0) 
     goes_on = goes_map (N x) (M y) t.first o (λ n. g x y o kx ky r n k) t.goes_on;
   }
 
-module _ {I A V : Type 0} (w : Seen I A) (F N : I → Outcome V → Type 0) where
+module _ {I A V : Type 0} (w : Model I A) (F N : I → Outcome V → Type 0) where
   pub or_within : Within w F → Within w N → Within w (OnRefusal F N)
-  or_within f g i n v h t = elim (goes_by (N i) t.first (Accept n v) t.goes_on) as (λ _. IsPlace w i n) [
+  or_within f g i n v h t = elim (goes_by (N i) t.first (Accept n v) t.goes_on) as (λ _. IsBoundary w i n) [
     | inl e ↦ f i n v h (subst (λ o. F i o) e t.answered)
     | inr m ↦ g i n v h m
   ]
@@ -75,7 +75,7 @@ module _ {I A V : Type 0} (w : Seen I A) (F N : I → Outcome V → Type 0) wher
     | inr m ↦ g i h m
   ]
 
-module _ {I A V E : Type 0} (w : Seen I A) (a b : Meaning I V E) (p : IsLawful w a) (q : IsLawful w b) where
+module _ {I A V E : Type 0} (w : Model I A) (a b : Meaning I V E) (p : IsLawful w a) (q : IsLawful w b) where
   -- what a choice answers, where its first part refuses
   goes_on_refused : (s : Bool) (i : I) (o : Outcome V) → w.IsKnown i → OnRefusal (a.answers s) (b.answers s) i o → a.answers s i Refuse → b.answers s i o
   goes_on_refused s i o h c r = subst (λ z. GoesOnRefused (b.answers s i) z o) (one_at w a p s i c.first Refuse h c.answered r) c.goes_on
@@ -130,11 +130,12 @@ module _ {I A V E : Type 0} (w : Seen I A) (a b : Meaning I V E) (p : IsLawful w
   next_frugal Grows mode i h f g (inr r) = g r.1 r.2
 
   or_frugal : (Joins : E → E → E → Type 0) (Grows : Type 0) (mode : Modes) (i : I) → w.IsKnown i → a.IsFrugal mode × b.IsFrugal mode ×
-      (mode.errors ≡ true → Grows → ⊥) → (or_meaning Joins Grows a b).runs_out mode i → ⊥
+      (mode.errors ≡ true → Grows → ⊥) → (or_meaning Joins Grows a b).may_run_out mode i → ⊥
   or_frugal Joins Grows mode i h f (inl r) = p.frugal mode i h f.0 r
   or_frugal Joins Grows mode i h f (inr r) = next_frugal Grows mode i h f.1 f.2 r.1
 
-  otherwise_frugal : (mode : Modes) (i : I) → w.IsKnown i → a.IsFrugal (with_errors false mode) × b.IsFrugal mode → (otherwise_meaning a b).runs_out mode i → ⊥
+  otherwise_frugal : (mode : Modes) (i : I) → w.IsKnown i → a.IsFrugal (with_errors false mode) × b.IsFrugal mode →
+      (otherwise_meaning a b).may_run_out mode i → ⊥
   otherwise_frugal mode i h f (inl r) = p.frugal (with_errors false mode) i h f.0 r
   otherwise_frugal mode i h f (inr r) = q.frugal mode i h f.1 r.1
 
@@ -160,14 +161,14 @@ module _ {I A V E : Type 0} (w : Seen I A) (a b : Meaning I V E) (p : IsLawful w
     never_fails = λ large g s. or_never w (a.answers s) (b.answers s) large (p.never_fails large g.0 s) (q.never_fails large g.1 s);
   }
 
-module _ {I A V E : Type 0} (w : Seen I A) (a b : Meaning I V E) where
+module _ {I A V E : Type 0} (w : Model I A) (a b : Meaning I V E) where
   pub or_steady : (Joins : E → E → E → Type 0) (Grows : Type 0) → IsSteady w a → IsSteady w b → IsSteady w (or_meaning Joins Grows a b)
   or_steady Joins Grows p q = or_agree w (a.answers true) (a.answers true) (b.answers true) (b.answers true) true p q
 
   pub otherwise_steady : IsSteady w a → IsSteady w b → IsSteady w (otherwise_meaning a b)
   otherwise_steady p q = or_agree w (a.answers true) (a.answers true) (b.answers true) (b.answers true) true p q
 
-module _ {I A P Q E : Type 0} (w : Seen I A) (Joins : E → E → E → Type 0) (Grows : Type 0) (a : Meaning I P E) (b : Meaning I Q E) where
+module _ {I A P Q E : Type 0} (w : Model I A) (Joins : E → E → E → Type 0) (Grows : Type 0) (a : Meaning I P E) (b : Meaning I Q E) where
   pub either_lawful : IsLawful w a → IsLawful w b → IsLawful w (either_meaning Joins Grows a b)
   either_lawful p q = or_lawful w (labelled_meaning inl a) (labelled_meaning inr b) (labelled_lawful w a inl p) (labelled_lawful w b inr q) Joins Grows
 

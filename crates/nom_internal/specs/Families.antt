@@ -2,7 +2,7 @@
 use Rattle.std.specs.Prelude.{◌≡◌, Bool, true, not}
 use Rattle.std.proofs.Common.{subst}
 use Rattle.nom_error.specs.Modes.{Modes}
-use Rattle.nom_traits.specs.Input.{Seen}
+use Rattle.nom_traits.specs.Input.{Model}
 use Rattle.nom_internal.specs.Meaning.{Meaning, IsLawful, IsSteady, SameBlame}
 
 pub record Family (K I V E : Type 0) : Type 1 where
@@ -18,7 +18,7 @@ abbrev pub always : {K I V E : Type 0} → Meaning I V E → Family K I V E
 always m = record { at = λ _. m; IsSound = m.IsSound; IsFrugal = m.IsFrugal; Settles = m.Settles; NeverFails = m.NeverFails }
 
 -- the laws of a sound family, of the keys of which the fact holds
-pub record IsLawfulFamily {K I A V E : Type 0} (w : Seen I A) (IsKey : K → Type 0) (f : Family K I V E) : Type 0 where
+pub record IsLawfulFamily {K I A V E : Type 0} (w : Model I A) (IsKey : K → Type 0) (f : Family K I V E) : Type 0 where
   pub lawful : (k : K) → IsKey k → IsLawful w (f.at k)
   pub frugal : (mode : Modes) → f.IsFrugal mode → (k : K) → IsKey k → (f.at k).IsFrugal mode
   pub settles : f.Settles → (k : K) → IsKey k → (f.at k).Settles
@@ -28,7 +28,7 @@ pub record IsLawfulFamily {K I A V E : Type 0} (w : Seen I A) (IsKey : K → Typ
 abbrev pub AnyKey : {K : Type 0} → K → Type 0
 AnyKey _ = Unit {0}
 
-pub always_lawful : {K I A V E : Type 0} (w : Seen I A) (m : Meaning I V E) → IsLawful w m → IsLawfulFamily {K = K} w AnyKey (always m)
+pub always_lawful : {K I A V E : Type 0} (w : Model I A) (m : Meaning I V E) → IsLawful w m → IsLawfulFamily {K = K} w AnyKey (always m)
 always_lawful w m l = record {
   lawful = λ _ _. l;
   frugal = λ mode h _ _. h;
@@ -53,7 +53,7 @@ of_value IsValue f = record {
     IsSound = f.IsSound;
     answers = λ s i o. OfValue (IsValue u) (λ v. (f.at v).answers s i o);
     blames = λ s i e. OfValue (IsValue u) (λ v. (f.at v).blames s i e);
-    runs_out = λ mode i. OfValue (IsValue u) (λ v. (f.at v).runs_out mode i);
+    may_run_out = λ mode i. OfValue (IsValue u) (λ v. (f.at v).may_run_out mode i);
     IsFrugal = f.IsFrugal;
     Settles = f.Settles;
     NeverFails = f.NeverFails;
@@ -64,7 +64,7 @@ of_value IsValue f = record {
   NeverFails = f.NeverFails;
 }
 
-module _ {P V I A Q E : Type 0} (w : Seen I A) (IsValue : P → V → Type 0) (f : Family V I Q E) (one : IsOne IsValue)
+module _ {P V I A Q E : Type 0} (w : Model I A) (IsValue : P → V → Type 0) (f : Family V I Q E) (one : IsOne IsValue)
     (l : IsLawfulFamily w (λ v. (u : P) × IsValue u v) f) where
   same_blame : (u : P) → f.Settles → (s : Bool) → SameBlame w (((of_value IsValue f).at u).answers s) (((of_value IsValue f).at u).answers (not s))
       (((of_value IsValue f).at u).blames s) (((of_value IsValue f).at u).blames (not s))
@@ -102,7 +102,7 @@ module _ {P V I A Q E : Type 0} (w : Seen I A) (IsValue : P → V → Type 0) (f
     never_fails = λ large h _ _. h;
   }
 
-module _ {P V I A Q E : Type 0} (w : Seen I A) (IsValue : P → V → Type 0) (f : Family V I Q E) (one : IsOne IsValue) where
+module _ {P V I A Q E : Type 0} (w : Model I A) (IsValue : P → V → Type 0) (f : Family V I Q E) (one : IsOne IsValue) where
   pub of_value_steady : ((v : V) → ((u : P) × IsValue u v) → IsSteady w (f.at v)) → (u : P) → IsSteady w ((of_value IsValue f).at u)
   of_value_steady l u x y o p kx ky r a k b =
       l a.value (u, a.is_value) x y o p kx ky r a.fact k (subst (λ n. (f.at n).answers true y p) (one u b.value a.value b.is_value a.is_value) b.fact)

@@ -1,7 +1,7 @@
 -- A part, and on the rest the parser that a closure gives for the part's output.
 use Rattle.std.specs.Prelude.{◌≡◌, true}
 use Rattle.nom_error.specs.Modes.{with_outputs}
-use Rattle.nom_traits.specs.Input.{Seen}
+use Rattle.nom_traits.specs.Input.{Model}
 use Rattle.nom_internal.specs.Meaning.{Meaning}
 use Rattle.nom_internal.specs.Cases.{labelled_meaning}
 use Rattle.nom_internal.specs.Families.{Family, of_value}
@@ -62,5 +62,6 @@ module _ {P O H S : Type 0} (IsOutput : P → O → Type 0) (g : Maker O H S) wh
   }
 
 -- A part, whose outputs are built, and then the parser that is given for its output.
-abbrev pub flat_map_meaning : {I A P O H S Q E : Type 0} → Seen I A → (P → O → Type 0) → Maker O H S → Meaning I P E → (S → Meaning I Q E) → Meaning I (S × Q) E
+abbrev pub flat_map_meaning : {I A P O H S Q E : Type 0} → Model I A → (P → O → Type 0) → Maker O H S → Meaning I P E → (S → Meaning I Q E) →
+    Meaning I (S × Q) E
 flat_map_meaning w IsOutput g a m = then_meaning w (λ u t. t) (with_outputs true) (λ o. o) a (given_family IsOutput g m)

@@ -2,7 +2,7 @@
 use Rattle.std.specs.Prelude.{true}
 use Rattle.std.proofs.Common.{sym, ◌∙◌, subst}
 use Rattle.nom_error.specs.Modes.{with_outputs}
-use Rattle.nom_traits.specs.Input.{Seen, InputLaws}
+use Rattle.nom_traits.specs.Input.{Model, InputLaws}
 use Rattle.nom_traits.specs.View.{View}
 use Rattle.nom_internal.specs.Meaning.{Meaning, IsLawful, IsSteady}
 use Rattle.nom_internal.specs.Families.{IsOne, IsLawfulFamily, AnyKey, of_value_lawful, of_value_steady}
@@ -18,7 +18,7 @@ module _ {P O H S : Type 0} (IsOutput : P → O → Type 0) (g : Maker O H S) (I
   state_sound : (t : P) (u : S) → GivesState IsOutput g t u → IsSound u
   state_sound t u a = subst IsSound a.state_is (k.sound t a.output a.parser a.is_output a.given)
 
-module _ {I A P O H S Q E : Type 0} (w : Seen I A) (IsOutput : P → O → Type 0) (g : Maker O H S) (m : S → Meaning I Q E)
+module _ {I A P O H S Q E : Type 0} (w : Model I A) (IsOutput : P → O → Type 0) (g : Maker O H S) (m : S → Meaning I Q E)
     (k : IsMaker IsOutput g (λ u. (m u).IsSound)) where
   module _ (l : (u : S) → (m u).IsSound → IsLawful w (m u)) where
     states_lawful : IsLawfulFamily w (λ u. (t : P) × GivesState IsOutput g t u) (states_family IsOutput g m)

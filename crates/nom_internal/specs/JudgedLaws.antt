@@ -1,7 +1,7 @@
 -- The laws of parts whose acceptances closures judge.
 use Rattle.std.specs.Prelude.{◌≡◌, ℕ, Bool, true, false, refl}
 use Rattle.std.proofs.Common.{sym, ◌∙◌, ap, subst}
-use Rattle.nom_traits.specs.Input.{Seen, IsPlace}
+use Rattle.nom_traits.specs.Input.{Model, IsBoundary}
 use Rattle.nom_internal.specs.Outcome.{Outcome, failure}
 use Rattle.nom_internal.specs.Outcome.Outcome.{Accept, Refuse, Fail, TooLarge, Undecided}
 use Rattle.nom_internal.specs.Meaning.{Meaning, IsLawful, IsSteady}
@@ -22,11 +22,11 @@ never_kept false false m u e = cc
 
 module _ {V R : Type 0} (Says : V → R → Type 0) (fits : R → Bool) where
   -- what is judged alike becomes one outcome
-  judged_accepts : {I A : Type 0} (w : Seen I A) → ((t : V) (r x : R) → Says t r → Says t x → fits r ≡ fits x) → AcceptLaws w (λ i. Judged Says fits)
+  judged_accepts : {I A : Type 0} (w : Model I A) → ((t : V) (r x : R) → Says t r → Says t x → fits r ≡ fits x) → AcceptLaws w (λ i. Judged Says fits)
   judged_accepts w one = record {
     same = λ longer x y n u o p kx ky r s k t. s.2 ∙ (ap (λ b. kept_if b (Accept n u)) (one u s.0 t.0 s.1 t.1) ∙ sym t.2);
     alike = λ x y n u o kx ky r s. s;
-    place = λ i m n u t h p s. subst (λ k. IsPlace w i k) (kept_accepts (fits s.0) n m t u s.2) p;
+    place = λ i m n u t h p s. subst (λ k. IsBoundary w i k) (kept_accepts (fits s.0) n m t u s.2) p;
     never_fails = λ large i n u s. never_kept large (fits s.0) n u s.2;
   }
 
@@ -45,7 +45,7 @@ module _ {V R : Type 0} (Says : V → R → Type 0) (fits : R → Bool) where
   unfit_only Fact TooLarge f h = h
   unfit_only Fact (Undecided k) f h = h
 
-module _ {I A V P R E : Type 0} (w : Seen I A) (IsOutput : V → P → Type 0) (Takes : P → Type 0) (Gives : P → R → Type 0) (fits : R → Bool)
+module _ {I A V P R E : Type 0} (w : Model I A) (IsOutput : V → P → Type 0) (Takes : P → Type 0) (Gives : P → R → Type 0) (fits : R → Bool)
     (Makes : I → R → E → Type 0) (Grows : Type 0) where
   judged_laws : IsJudge IsOutput Takes Gives fits → CaseLaws true w w (judged_case IsOutput Takes Gives fits Makes Grows)
   judged_laws j =

@@ -1,7 +1,7 @@
 -- Leaves: parsers with no part.
 use Rattle.std.specs.Prelude.{◌≡◌, ℕ, Bool, true, false, Option, refl}
 use Rattle.std.proofs.Common.{ap, subst}
-use Rattle.nom_traits.specs.Input.{Seen, IsPlace, IsSame, Related}
+use Rattle.nom_traits.specs.Input.{Model, IsBoundary, IsSame, Related}
 use Rattle.nom_internal.specs.Outcome.{Outcome, failure}
 use Rattle.nom_internal.specs.Outcome.Outcome.{Accept, Refuse, Fail, TooLarge, Undecided}
 use Rattle.nom_internal.specs.Meaning.{Meaning, IsLawful, IsSteady, Keeps, Agree}
@@ -27,15 +27,15 @@ leaf_meaning IsSound Blames Grows leaf = record {
   IsSound = IsSound;
   answers = LeafAnswers leaf;
   blames = λ s. Blames;
-  runs_out = λ mode i. leaf.Refuses mode.streaming i × (mode.errors ≡ true) × Grows;
+  may_run_out = λ mode i. leaf.Refuses mode.streaming i × (mode.errors ≡ true) × Grows;
   IsFrugal = λ mode. mode.errors ≡ true → Grows → ⊥;
   Settles = Unit {0};
   NeverFails = λ large. Unit {0};
 }
 
 -- What a leaf must keep. Where it is said of two inputs, the second is longer than the first, and more may come, or equal as models.
-pub record LeafLaws {I A V : Type 0} (w : Seen I A) (leaf : Leaf I V) : Type 0 where
-  pub place : (s : Bool) (i : I) (n : ℕ) (v : V) → w.IsKnown i → leaf.Accepts s i n v → IsPlace w i n
+pub record LeafLaws {I A V : Type 0} (w : Model I A) (leaf : Leaf I V) : Type 0 where
+  pub place : (s : Bool) (i : I) (n : ℕ) (v : V) → w.IsKnown i → leaf.Accepts s i n v → IsBoundary w i n
   -- no two answers
   pub one_accepted : (s : Bool) (i : I) (n m : ℕ) (u v : V) → w.IsKnown i → leaf.Accepts s i n u → leaf.Accepts s i m v → (n ≡ m) × (u ≡ v)
   pub one_lack : (i : I) (j k : Option ℕ) → w.IsKnown i → leaf.Lacks i j → leaf.Lacks i k → j ≡ k
@@ -52,7 +52,7 @@ pub record LeafLaws {I A V : Type 0} (w : Seen I A) (leaf : Leaf I V) : Type 0 w
   pub accepted_settles : (i : I) (n : ℕ) (v : V) → w.IsKnown i → leaf.Accepts true i n v → leaf.Accepts false i n v
   pub refused_settles : (i : I) → w.IsKnown i → leaf.Refuses true i → leaf.Refuses false i
 
-module _ {I A V : Type 0} (w : Seen I A) (leaf : Leaf I V) (l : LeafLaws w leaf) where
+module _ {I A V : Type 0} (w : Model I A) (leaf : Leaf I V) (l : LeafLaws w leaf) where
   answers_carry : (longer s : Bool) → (longer ≡ true → s ≡ true) → (x y : I) (o : Outcome V) → w.IsKnown x → w.IsKnown y → Related w longer x y →
       LeafAnswers leaf s x o → Keeps longer o → LeafAnswers leaf s y o
   answers_carry longer s only x y (Accept n v) kx ky r a d = l.accepted_stays longer s only x y n v kx ky r a

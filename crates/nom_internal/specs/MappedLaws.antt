@@ -1,6 +1,6 @@
 -- The laws of parts whose outputs or errors become others.
 use Rattle.std.specs.Prelude.{true, refl}
-use Rattle.nom_traits.specs.Input.{Seen}
+use Rattle.nom_traits.specs.Input.{Model}
 use Rattle.nom_traits.specs.View.{View}
 use Rattle.nom_internal.specs.Meaning.{Meaning, IsLawful, IsSteady}
 use Rattle.nom_internal.specs.CaseLaws.{CaseLaws, fixed_laws, case_lawful, case_steady}
@@ -13,7 +13,7 @@ pub given_pinned : {V P R : Type 0} (argument : View P) (result : View R) (IsOut
     IsPinned argument IsOutput → SeesAlike argument result Gives → IsPinned result (GivesFor IsOutput Gives)
 given_pinned argument result IsOutput Gives f s t a b g h = s.alike g.output h.output a b (f t g.output h.output g.is_output h.is_output) g.given h.given
 
-module _ {I A V P : Type 0} (w : Seen I A) (IsOutput : V → P → Type 0) (Takes : P → Type 0) where
+module _ {I A V P : Type 0} (w : Model I A) (IsOutput : V → P → Type 0) (Takes : P → Type 0) where
   map_laws : {E : Type 0} → CaseLaws {E = E} true w w (map_case IsOutput Takes)
   map_laws {E} =
       let l = fixed_laws {P = V} w {E = E} true in
@@ -38,7 +38,7 @@ module _ {I A V P : Type 0} (w : Seen I A) (IsOutput : V → P → Type 0) (Take
     pub map_steady : IsSteady w m → IsSteady w (map_meaning IsOutput Takes m)
     map_steady l = case_steady w w m (map_case IsOutput Takes) map_laws refl l
 
-module _ {I A V E F : Type 0} (w : Seen I A) (Makes : I → E → F → Type 0) (Grows : Type 0) where
+module _ {I A V E F : Type 0} (w : Model I A) (Makes : I → E → F → Type 0) (Grows : Type 0) where
   renamed_laws : CaseLaws true w w (renamed_case {V = V} Makes Grows)
   renamed_laws =
       let l = fixed_laws {P = V} w {E = E} true in

@@ -3,7 +3,7 @@ use Rattle.std.specs.Prelude.{◌≡◌, ℕ, Bool, true, false, not, Result, Op
 use Rattle.nom_error.specs.declared.answer.Needed.{Needed}
 use Rattle.nom_error.specs.declared.answer.Err as Answer
 use Rattle.nom_error.specs.Modes.{Modes, modes}
-use Rattle.nom_traits.specs.Input.{Seen, IsPlace, IsSame, Related}
+use Rattle.nom_traits.specs.Input.{Model, IsBoundary, IsSame, Related}
 use Rattle.nom_internal.specs.Outcome.{Outcome, IsDecided, ShowsAnswer, ParsesAnswer, failure}
 use Rattle.nom_internal.specs.Outcome.Outcome.{Accept}
 
@@ -16,7 +16,7 @@ pub record Meaning (I V E : Type 0) : Type 1 where
   -- the error that a refusal or a failure holds, by mode and input
   pub blames : Bool → I → E → Type 0
   -- where memory may run out, by what is built, the mode and the input
-  pub runs_out : Modes → I → Type 0
+  pub may_run_out : Modes → I → Type 0
   -- the parser is frugal, so memory never runs out, by what is built
   pub IsFrugal : Modes → Type 0
   -- a decided streaming outcome is the complete one too
@@ -33,7 +33,7 @@ abbrev pub Keeps : {V : Type 0} → Bool → Outcome V → Type 0
 Keeps true o = IsDecided o
 Keeps false o = Unit {0}
 
-module _ {I A : Type 0} (w : Seen I A) {V : Type 0} where
+module _ {I A : Type 0} (w : Model I A) {V : Type 0} where
   -- on related inputs the first relation's outcome, where it is kept, is the second's
   abbrev pub Agree : Bool → (I → Outcome V → Type 0) → (I → Outcome V → Type 0) → Type 0
   Agree longer P Q = (x y : I) (o p : Outcome V) → w.IsKnown x → w.IsKnown y → Related w longer x y → P x o → Keeps longer o → Q y p → o ≡ p
@@ -44,20 +44,20 @@ module _ {I A : Type 0} (w : Seen I A) {V : Type 0} where
 
   -- what is accepted is a front
   abbrev pub Within : (I → Outcome V → Type 0) → Type 0
-  Within P = (i : I) (n : ℕ) (v : V) → w.IsKnown i → P i (Accept n v) → IsPlace w i n
+  Within P = (i : I) (n : ℕ) (v : V) → w.IsKnown i → P i (Accept n v) → IsBoundary w i n
 
 -- where both relations decide alike, the first's error is the second's
-abbrev pub SameBlame : {I A V E : Type 0} → Seen I A → (I → Outcome V → Type 0) → (I → Outcome V → Type 0) → (I → E → Type 0) → (I → E → Type 0) → Type 0
+abbrev pub SameBlame : {I A V E : Type 0} → Model I A → (I → Outcome V → Type 0) → (I → Outcome V → Type 0) → (I → E → Type 0) → (I → E → Type 0) → Type 0
 SameBlame {I} {V = V} {E = E} w P Q B C = (i : I) (o : Outcome V) (e : E) → w.IsKnown i → P i o → Q i o → IsDecided o → B i e → C i e
 
-module _ {I A V E : Type 0} (w : Seen I A) (m : Meaning I V E) where
+module _ {I A V E : Type 0} (w : Model I A) (m : Meaning I V E) where
   -- the laws of every sound parser
   pub record IsLawful : Type 0 where
     pub within : (s : Bool) → Within w (m.answers s)
     -- inputs that are equal as models have one outcome, and the same
     pub one_outcome : (s : Bool) → Agree w false (m.answers s) (m.answers s)
     pub alike : (s : Bool) → Carries w false (m.answers s) (m.answers s)
-    pub frugal : (mode : Modes) (i : I) → w.IsKnown i → m.IsFrugal mode → m.runs_out mode i → ⊥
+    pub frugal : (mode : Modes) (i : I) → w.IsKnown i → m.IsFrugal mode → m.may_run_out mode i → ⊥
     -- where it settles, a decided streaming outcome is the complete one, and the errors of either mode are the other's
     pub settles : m.Settles → Carries w true (m.answers true) (m.answers false)
     pub blames_alike : m.Settles → (s : Bool) → SameBlame w (m.answers s) (m.answers (not s)) (m.blames s) (m.blames (not s))
@@ -68,10 +68,10 @@ module _ {I A V E : Type 0} (w : Seen I A) (m : Meaning I V E) where
   IsSteady = Agree w true (m.answers true) (m.answers true)
 
 -- what `process` returns of a parser that means m, at i: what is built of outputs and errors, and the mode
-abbrev pub ShowsMeaning : {I A V O E : Type 0} → Seen I A → (V → O → Type 0) → Meaning I V E → Modes → I →
+abbrev pub ShowsMeaning : {I A V O E : Type 0} → Model I A → (V → O → Type 0) → Meaning I V E → Modes → I →
     Result (I × Option O) (Answer.Err E (Option E) Needed) → Type 0
-ShowsMeaning w IsOutput m mode i r = ShowsAnswer w IsOutput mode i (m.answers mode.streaming i) (m.blames mode.streaming i) (m.runs_out mode i) r
+ShowsMeaning w IsOutput m mode i r = ShowsAnswer w IsOutput mode i (m.answers mode.streaming i) (m.blames mode.streaming i) (m.may_run_out mode i) r
 
 -- what `parse` (true) and `parse_complete` (false) return of it
-abbrev pub ParsesMeaning : {I A V O E : Type 0} → Seen I A → (V → O → Type 0) → Meaning I V E → Bool → I → Result (I × O) (Answer.Err E E Needed) → Type 0
-ParsesMeaning w IsOutput m s i r = ParsesAnswer w IsOutput i (m.answers s i) (m.blames s i) (m.runs_out (modes true true s) i) r
+abbrev pub ParsesMeaning : {I A V O E : Type 0} → Model I A → (V → O → Type 0) → Meaning I V E → Bool → I → Result (I × O) (Answer.Err E E Needed) → Type 0
+ParsesMeaning w IsOutput m s i r = ParsesAnswer w IsOutput i (m.answers s i) (m.blames s i) (m.may_run_out (modes true true s) i) r

@@ -5,7 +5,7 @@ use Rattle.nom_error.specs.declared.answer.Err.TheVariants.{Incomplete, Error, F
 use Rattle.nom_error.specs.declared.answer.Needed.{Needed}
 use Rattle.nom_error.specs.Answers.{size_of}
 use Rattle.nom_error.specs.Modes.{Built, Modes}
-use Rattle.nom_traits.specs.Input.{Seen, IsRest}
+use Rattle.nom_traits.specs.Input.{Model, IsSuffixOf}
 
 -- An acceptance of the first items, of a length, with a parse tree; a refusal; a failure; a failure since what is lacking
 -- doesn't fit a size; or more is needed, of a size or, by None, of an unknown one.
@@ -60,10 +60,10 @@ pub record OnOutcome {I V : Type 0} (IsKind : Outcome V → Type 0) (Part : I �
   pub kind_is : IsKind outcome
   pub fact : Fact
 
-module _ {I A V O E : Type 0} (w : Seen I A) (IsOutput : V → O → Type 0) (mode : Modes) (i : I) where
+module _ {I A V O E : Type 0} (w : Model I A) (IsOutput : V → O → Type 0) (mode : Modes) (i : I) where
   -- what `process` returns at i for an outcome, with an error of which the fact holds
   abbrev pub Shows : (E → Type 0) → Outcome V → Result (I × Option O) (Answer.Err E (Option E) Needed) → Type 0
-  Shows IsError (Accept n v) r = (j : I) × (b : Option O) × IsRest w i n j × Built mode.outputs (IsOutput v) b × (r ≡ Ok (j, b))
+  Shows IsError (Accept n v) r = (j : I) × (b : Option O) × IsSuffixOf w i n j × Built mode.outputs (IsOutput v) b × (r ≡ Ok (j, b))
   Shows IsError Refuse r = (b : Option E) × Built mode.errors IsError b × (r ≡ Err (Error b))
   Shows IsError Fail r = (e : E) × IsError e × (r ≡ Err (Failure e))
   Shows IsError TooLarge r = (e : E) × IsError e × (r ≡ Err (Failure e))
@@ -75,10 +75,10 @@ module _ {I A V O E : Type 0} (w : Seen I A) (IsOutput : V → O → Type 0) (mo
     RanOut : r ≡ Err OutOfMemory → RunsOut → ShowsAnswer Answers IsError RunsOut r
     Shown : (o : Outcome V) → Answers o → Shows IsError o r → ShowsAnswer Answers IsError RunsOut r
 
-module _ {I A V O E : Type 0} (w : Seen I A) (IsOutput : V → O → Type 0) (i : I) where
+module _ {I A V O E : Type 0} (w : Model I A) (IsOutput : V → O → Type 0) (i : I) where
   -- what `parse` returns at i for an outcome: mode.outputs and mode.errors are built
   abbrev pub Parses : (E → Type 0) → Outcome V → Result (I × O) (Answer.Err E E Needed) → Type 0
-  Parses IsError (Accept n v) r = (j : I) × (b : O) × IsRest w i n j × IsOutput v b × (r ≡ Ok (j, b))
+  Parses IsError (Accept n v) r = (j : I) × (b : O) × IsSuffixOf w i n j × IsOutput v b × (r ≡ Ok (j, b))
   Parses IsError Refuse r = (e : E) × IsError e × (r ≡ Err (Error e))
   Parses IsError Fail r = (e : E) × IsError e × (r ≡ Err (Failure e))
   Parses IsError TooLarge r = (e : E) × IsError e × (r ≡ Err (Failure e))

@@ -1,7 +1,7 @@
 -- What the laws of a part give at one input, and from one mode to the other.
 use Rattle.std.specs.Prelude.{◌≡◌, ℕ, Bool, true, false, not}
 use Rattle.std.proofs.Common.{sym, subst}
-use Rattle.nom_traits.specs.Input.{Seen, IsSame}
+use Rattle.nom_traits.specs.Input.{Model, IsSame}
 use Rattle.nom_traits.specs.Rests.{same_self, same_sym}
 use Rattle.nom_internal.specs.Outcome.{Outcome, mapped, failure, IsDecided, OnOutcome}
 use Rattle.nom_internal.specs.Outcome.Outcome.{Accept, Refuse, Fail, TooLarge, Undecided}
@@ -29,14 +29,14 @@ failure_mapped false l f TooLarge e = cc
 failure_mapped false l f (Undecided d) e = cc
 
 -- two modes of a part, of which the second's decided outcomes are the first's: what is said of the one, said of the other
-pub record Transfers {I A V E : Type 0} (w : Seen I A) (P Q : I → Outcome V → Type 0) (B C : I → E → Type 0) : Type 0 where
+pub record Transfers {I A V E : Type 0} (w : Model I A) (P Q : I → Outcome V → Type 0) (B C : I → E → Type 0) : Type 0 where
   pub one : Agree w false P P
   pub alike : Carries w false Q Q
   -- two decided outcomes are one
   pub meets : (x y : I) (o p : Outcome V) → w.IsKnown x → w.IsKnown y → IsSame w x y → P x o → Q y p → IsDecided o → IsDecided p → o ≡ p
   pub blames : SameBlame w P Q B C
 
-module _ {I A V E : Type 0} (w : Seen I A) (m : Meaning I V E) (l : IsLawful w m) where
+module _ {I A V E : Type 0} (w : Model I A) (m : Meaning I V E) (l : IsLawful w m) where
   -- a parser has one outcome at one input
   pub one_at : (s : Bool) (i : I) (o p : Outcome V) → w.IsKnown i → m.answers s i o → m.answers s i p → o ≡ p
   one_at s i o p h a b = l.one_outcome s i i o p h h (same_self w i) a tt b
@@ -54,7 +54,7 @@ module _ {I A V E : Type 0} (w : Seen I A) (m : Meaning I V E) (l : IsLawful w m
     blames = l.blames_alike t s;
   }
 
-module _ {I A V E : Type 0} (w : Seen I A) (P Q : I → Outcome V → Type 0) (B C : I → E → Type 0) (t : Transfers w P Q B C) where
+module _ {I A V E : Type 0} (w : Model I A) (P Q : I → Outcome V → Type 0) (B C : I → E → Type 0) (t : Transfers w P Q B C) where
   -- the first mode's outcome at i, where both modes decide on inputs seen so, is the second's there
   pub transferred : (i x y : I) (b a c : Outcome V) → w.IsKnown i → w.IsKnown x → w.IsKnown y → IsSame w i x → IsSame w y i → P i b → P x a → Q y c →
       IsDecided a → IsDecided c → Q i b × IsDecided b

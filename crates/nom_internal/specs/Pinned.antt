@@ -1,8 +1,8 @@
 -- Outputs that one tree stands for are one, as they are compared.
 use Rattle.std.specs.Prelude.{◌≡◌}
 use Rattle.std.proofs.Common.{sym, ◌∙◌, ap, inl, inr}
-use Rattle.nom_traits.specs.Input.{Seen, IsSame}
-use Rattle.nom_traits.specs.Slices.{IsSeenAs}
+use Rattle.nom_traits.specs.Input.{Model, IsSame}
+use Rattle.nom_traits.specs.Slices.{IsModelledBy}
 use Rattle.nom_traits.specs.View.{View, itself, pair_view}
 use Rattle.nom_internal.specs.Choice.{EitherOutput}
 
@@ -14,7 +14,7 @@ pub value_pinned : {O : Type 0} → IsPinned (itself {O = O}) (λ t o. o ≡ t)
 value_pinned t a b p q = p ∙ sym q
 
 -- a slice, where inputs that are equal as models are compared as one
-pub slice_pinned : {I A : Type 0} (w : Seen I A) (view : View I) → ((x y : I) → IsSame w x y → view.value x ≡ view.value y) → IsPinned view (IsSeenAs w)
+pub slice_pinned : {I A : Type 0} (w : Model I A) (view : View I) → ((x y : I) → IsSame w x y → view.value x ≡ view.value y) → IsPinned view (IsModelledBy w)
 slice_pinned w view views t a b p q = views a b (record { elements_are = p.elements_are ∙ sym q.elements_are; mark_is = p.mark_is ∙ sym q.mark_is })
 
 -- a pair, by its parts

@@ -1,7 +1,7 @@
 -- The laws of cases in which all but an acceptance passes, and of slices that a part consumes.
 use Rattle.std.specs.Prelude.{◌≡◌, ℕ, Bool, true, false, refl}
 use Rattle.std.proofs.Common.{sym, ◌∙◌, ap, subst}
-use Rattle.nom_traits.specs.Input.{Seen, InputLaws, IsPlace, IsSame, Related}
+use Rattle.nom_traits.specs.Input.{Model, InputLaws, IsBoundary, IsSame, Related}
 use Rattle.nom_traits.specs.Slices.{Slice, IsFirst, first_place, first_related, same_length}
 use Rattle.nom_internal.specs.Outcome.{Outcome, IsDecided, failure}
 use Rattle.nom_internal.specs.Outcome.Outcome.{Accept, Refuse, Fail, TooLarge, Undecided}
@@ -11,14 +11,14 @@ use Rattle.nom_internal.specs.CaseLaws.{CaseLaws, here_known, here_related, here
 use Rattle.nom_internal.specs.Recognized.{IsSliced, recognized_meaning}
 
 -- what cases on an acceptance alone must keep
-pub record AcceptLaws {I A P T : Type 0} (w : Seen I A) (OnAccept : I → ℕ → P → Outcome T → Type 0) : Type 0 where
+pub record AcceptLaws {I A P T : Type 0} (w : Model I A) (OnAccept : I → ℕ → P → Outcome T → Type 0) : Type 0 where
   pub same : (longer : Bool) (x y : I) (n : ℕ) (u : P) (o p : Outcome T) → w.IsKnown x → w.IsKnown y → Related w longer x y → OnAccept x n u o →
       Keeps longer o → OnAccept y n u p → o ≡ p
   pub alike : (x y : I) (n : ℕ) (u : P) (o : Outcome T) → w.IsKnown x → w.IsKnown y → IsSame w x y → OnAccept x n u o → OnAccept y n u o
-  pub place : (i : I) (m n : ℕ) (u : P) (t : T) → w.IsKnown i → IsPlace w i m → OnAccept i m u (Accept n t) → IsPlace w i n
+  pub place : (i : I) (m n : ℕ) (u : P) (t : T) → w.IsKnown i → IsBoundary w i m → OnAccept i m u (Accept n t) → IsBoundary w i n
   pub never_fails : (large : Bool) (i : I) (n : ℕ) (u : P) → OnAccept i n u (failure large) → ⊥
 
-module _ {I A P T : Type 0} (w : Seen I A) (OnAccept : I → ℕ → P → Outcome T → Type 0) (l : AcceptLaws w OnAccept) where
+module _ {I A P T : Type 0} (w : Model I A) (OnAccept : I → ℕ → P → Outcome T → Type 0) (l : AcceptLaws w OnAccept) where
   passes_keeps : (i : I) (a : Outcome P) (o : Outcome T) → Passes (OnAccept i) a o → IsDecided o → IsDecided a
   passes_keeps i (Accept n v) o e k = tt
   passes_keeps i Refuse o e k = tt
@@ -41,8 +41,8 @@ module _ {I A P T : Type 0} (w : Seen I A) (OnAccept : I → ℕ → P → Outco
   passes_alike x y TooLarge o kx ky r s = s
   passes_alike x y (Undecided d) o kx ky r s = s
 
-  passes_place : (i j : I) (a : Outcome P) (n : ℕ) (t : T) → w.IsKnown i → i ≡ j → ((m : ℕ) (u : P) → a ≡ Accept m u → IsPlace w j m) →
-      Passes (OnAccept i) a (Accept n t) → IsPlace w i n
+  passes_place : (i j : I) (a : Outcome P) (n : ℕ) (t : T) → w.IsKnown i → i ≡ j → ((m : ℕ) (u : P) → a ≡ Accept m u → IsBoundary w j m) →
+      Passes (OnAccept i) a (Accept n t) → IsBoundary w i n
   passes_place i j (Accept m u) n t h e place s = l.place i m n u t h (here_place w i j m e (place m u refl)) s
   passes_place i j Refuse n t h e place s = absurd (cc (s))
   passes_place i j Fail n t h e place s = absurd (cc (s))
@@ -76,20 +76,20 @@ module _ {I A P T : Type 0} (w : Seen I A) (OnAccept : I → ℕ → P → Outco
   }
 
 -- slices
-module _ {I A : Type 0} (w : Seen I A) where
+module _ {I A : Type 0} (w : Model I A) where
   sliced : InputLaws w → (longer : Bool) (x y : I) (n : ℕ) (o p : Outcome (Slice w)) → Related w longer x y → IsSliced w x n o → IsSliced w y n p → o ≡ p
   sliced l longer x y n o p r s t =
       let same = same_length w l y n n s.0 t.0 (first_related w longer x y n s.0 r s.1) t.1 refl in
       s.2 ∙ (ap (λ z. Accept n z) same ∙ sym t.2)
 
-  sliced_place : (i : I) (n m : ℕ) (t u : Slice w) → IsFirst w i n t → Accept m u ≡ Accept n t → IsPlace w i m
-  sliced_place i n m t u f e = let same : n ≡ m = cc (e) in subst (λ z. IsPlace w i z) same (first_place w i n t f)
+  sliced_place : (i : I) (n m : ℕ) (t u : Slice w) → IsFirst w i n t → Accept m u ≡ Accept n t → IsBoundary w i m
+  sliced_place i n m t u f e = let same : n ≡ m = cc (e) in subst (λ z. IsBoundary w i z) same (first_place w i n t f)
 
   never_sliced : (large : Bool) (i : I) (n : ℕ) → IsSliced w i n (failure large) → ⊥
   never_sliced true i n s = absurd (cc (s.2))
   never_sliced false i n s = absurd (cc (s.2))
 
-module _ {I A V : Type 0} (w : Seen I A) (l : InputLaws w) where
+module _ {I A V : Type 0} (w : Model I A) (l : InputLaws w) where
   pub sliced_laws : AcceptLaws w (λ i n (u : V). IsSliced w i n)
   sliced_laws = record {
     same = λ longer x y n u o p kx ky r s k t. sliced w l longer x y n o p r s t;
@@ -98,7 +98,7 @@ module _ {I A V : Type 0} (w : Seen I A) (l : InputLaws w) where
     never_fails = λ large i n u s. never_sliced w large i n s;
   }
 
-module _ {I A V E : Type 0} (w : Seen I A) (l : InputLaws w) (m : Meaning I V E) where
+module _ {I A V E : Type 0} (w : Model I A) (l : InputLaws w) (m : Meaning I V E) where
   pub recognized_lawful : IsLawful w m → IsLawful w (recognized_meaning w m)
   recognized_lawful p = case_lawful w w m p (plain_case (λ _. false) (λ i. Passes (λ n (u : V) o. IsSliced w i n o)))
       (plain_laws w (λ i n (u : V). IsSliced w i n) (sliced_laws w l) (λ _. false))

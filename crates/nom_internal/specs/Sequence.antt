@@ -1,7 +1,7 @@
 -- A part that is followed by another.
 use Rattle.std.specs.Prelude.{◌≡◌, ℕ, ◌+◌}
 use Rattle.nom_error.specs.Modes.{Modes}
-use Rattle.nom_traits.specs.Input.{Seen, IsRest}
+use Rattle.nom_traits.specs.Input.{Model, IsSuffixOf}
 use Rattle.nom_internal.specs.Outcome.{Outcome, mapped, IsFault, OnOutcome}
 use Rattle.nom_internal.specs.Outcome.Outcome.{Accept, Refuse, Fail, TooLarge, Undecided}
 use Rattle.nom_internal.specs.Meaning.{Meaning}
@@ -11,10 +11,10 @@ use Rattle.nom_internal.specs.Families.{Family, always}
 abbrev pub after : {V W : Type 0} → ℕ → (V → W) → Outcome V → Outcome W
 after n = mapped (λ m. n + m)
 
-module _ {I A P Q T : Type 0} (w : Seen I A) (tree : P → Q → T) where
+module _ {I A P Q T : Type 0} (w : Model I A) (tree : P → Q → T) where
   -- how a first outcome goes on: an acceptance by what follows on the rest, and else as it is
   abbrev pub GoesOn : (P → I → Outcome Q → Type 0) → I → Outcome P → Outcome T → Type 0
-  GoesOn Next i (Accept n u) o = (j : I) × (p : Outcome Q) × IsRest w i n j × Next u j p × (o ≡ after n (tree u) p)
+  GoesOn Next i (Accept n u) o = (j : I) × (p : Outcome Q) × IsSuffixOf w i n j × Next u j p × (o ≡ after n (tree u) p)
   GoesOn _ _ Refuse o = o ≡ Refuse
   GoesOn _ _ Fail o = o ≡ Fail
   GoesOn _ _ TooLarge o = o ≡ TooLarge
@@ -26,46 +26,46 @@ module _ {I A P Q T : Type 0} (w : Seen I A) (tree : P → Q → T) where
     pub answered : First i first
     pub goes_on : GoesOn Next i first o
 
-module _ {I A P : Type 0} (w : Seen I A) where
+module _ {I A P : Type 0} (w : Model I A) where
   -- a first part accepts and leaves a rest, of which the fact holds
   pub record OnRest (First : I → Outcome P → Type 0) (Fact : P → I → Type 0) (i : I) : Type 0 where
     pub length : ℕ
     pub tree : P
     pub rest : I
     pub accepted : First i (Accept length tree)
-    pub rest_is : IsRest w i length rest
+    pub rest_is : IsSuffixOf w i length rest
     pub fact : Fact tree rest
 
-module _ {I A P Q E : Type 0} (w : Seen I A) (First : I → Outcome P → Type 0) (FirstBlames : I → E → Type 0) (Next : P → I → Outcome Q → Type 0)
+module _ {I A P Q E : Type 0} (w : Model I A) (First : I → Outcome P → Type 0) (FirstBlames : I → E → Type 0) (Next : P → I → Outcome Q → Type 0)
     (NextBlames : P → I → E → Type 0) where
   -- the error that a first part holds, or what follows it
   pub data ThenBlames (i : I) (e : E) : Type 0 where
     BlamesFirst : OnOutcome IsFault First (FirstBlames i e) i → ThenBlames i e
     BlamesNext : OnRest w First (λ u j. OnOutcome IsFault (Next u) (NextBlames u j e) j) i → ThenBlames i e
 
-module _ {I A P : Type 0} (w : Seen I A) (First : I → Outcome P → Type 0) (FirstRunsOut : I → Type 0) (NextRunsOut : P → I → Type 0) where
+module _ {I A P : Type 0} (w : Model I A) (First : I → Outcome P → Type 0) (FirstRunsOut : I → Type 0) (NextRunsOut : P → I → Type 0) where
   -- memory may run out in a first part, or in what follows it
   pub data ThenRunsOut (i : I) : Type 0 where
     RunsOutFirst : FirstRunsOut i → ThenRunsOut i
     RunsOutNext : OnRest w First NextRunsOut i → ThenRunsOut i
 
 -- A part, and then what its tree says, with a tree made of theirs, and with what each of them builds.
-abbrev pub then_meaning : {I A P Q T E : Type 0} → Seen I A → (P → Q → T) → (Modes → Modes) → (Modes → Modes) → Meaning I P E → Family P I Q E → Meaning I T E
+abbrev pub then_meaning : {I A P Q T E : Type 0} → Model I A → (P → Q → T) → (Modes → Modes) → (Modes → Modes) → Meaning I P E → Family P I Q E → Meaning I T E
 then_meaning w tree first_mode next_mode a f = record {
   IsSound = a.IsSound × f.IsSound;
   answers = λ s. Then w tree (a.answers s) (λ u. (f.at u).answers s);
   blames = λ s. ThenBlames w (a.answers s) (a.blames s) (λ u. (f.at u).answers s) (λ u. (f.at u).blames s);
-  runs_out = λ mode. ThenRunsOut w (a.answers mode.streaming) (a.runs_out (first_mode mode)) (λ u. (f.at u).runs_out (next_mode mode));
+  may_run_out = λ mode. ThenRunsOut w (a.answers mode.streaming) (a.may_run_out (first_mode mode)) (λ u. (f.at u).may_run_out (next_mode mode));
   IsFrugal = λ mode. a.IsFrugal (first_mode mode) × f.IsFrugal (next_mode mode);
   Settles = a.Settles × f.Settles;
   NeverFails = λ large. a.NeverFails large × f.NeverFails large;
 }
 
 -- two parts in sequence: whatever the first's tree, the second follows
-abbrev pub sequence_meaning : {I A P Q T E : Type 0} → Seen I A → (P → Q → T) → (Modes → Modes) → (Modes → Modes) → Meaning I P E → Meaning I Q E →
+abbrev pub sequence_meaning : {I A P Q T E : Type 0} → Model I A → (P → Q → T) → (Modes → Modes) → (Modes → Modes) → Meaning I P E → Meaning I Q E →
     Meaning I T E
 sequence_meaning w tree first_mode second_mode a b = then_meaning w tree first_mode second_mode a (always b)
 
 -- two parts in sequence, with the pair of their trees
-abbrev pub pair_meaning : {I A P Q E : Type 0} → Seen I A → Meaning I P E → Meaning I Q E → Meaning I (P × Q) E
+abbrev pub pair_meaning : {I A P Q E : Type 0} → Model I A → Meaning I P E → Meaning I Q E → Meaning I (P × Q) E
 pair_meaning w a b = sequence_meaning w (λ u v. (u, v)) (λ o. o) (λ o. o) a b

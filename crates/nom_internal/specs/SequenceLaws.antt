@@ -2,7 +2,7 @@
 use Rattle.std.specs.Prelude.{◌≡◌, ℕ, ◌+◌, Bool, true, false, not}
 use Rattle.std.proofs.Common.{sym, ◌∙◌, ap, subst}
 use Rattle.nom_error.specs.Modes.{Modes}
-use Rattle.nom_traits.specs.Input.{Seen, InputLaws, IsRest, IsPlace, IsSame, Related}
+use Rattle.nom_traits.specs.Input.{Model, InputLaws, IsSuffixOf, IsBoundary, IsSame, Related}
 use Rattle.nom_traits.specs.Rests.{same_self, rest_related, rest_alike, place_more}
 use Rattle.nom_internal.specs.Outcome.{Outcome, IsDecided, IsFault, OnOutcome, failure}
 use Rattle.nom_internal.specs.Outcome.Outcome.{Accept, Refuse, Fail, TooLarge, Undecided}
@@ -14,7 +14,7 @@ use Rattle.nom_internal.specs.Sequence.ThenBlames.{BlamesFirst, BlamesNext}
 use Rattle.nom_internal.specs.Sequence.ThenRunsOut.{RunsOutFirst, RunsOutNext}
 
 -- where what follows is kept, so is the first part
-module _ {I A P Q T : Type 0} (w : Seen I A) (tree : P → Q → T) (N : P → I → Outcome Q → Type 0) where
+module _ {I A P Q T : Type 0} (w : Model I A) (tree : P → Q → T) (N : P → I → Outcome Q → Type 0) where
   pub keeps_first : (longer : Bool) (x : I) (a : Outcome P) (o : Outcome T) → Keeps longer o → GoesOn w tree N x a o → Keeps longer a
   keeps_first true x (Accept n u) o k s = tt
   keeps_first true x Refuse o k s = tt
@@ -23,7 +23,7 @@ module _ {I A P Q T : Type 0} (w : Seen I A) (tree : P → Q → T) (N : P → I
   keeps_first true x (Undecided d) o k s = subst (λ y. IsDecided y) s k
   keeps_first false x a o k s = tt
 
-module _ {I A P Q T : Type 0} (w : Seen I A) (l : InputLaws w) (tree : P → Q → T) (longer : Bool) (F G : I → Outcome P → Type 0)
+module _ {I A P Q T : Type 0} (w : Model I A) (l : InputLaws w) (tree : P → Q → T) (longer : Bool) (F G : I → Outcome P → Type 0)
     (N M : P → I → Outcome Q → Type 0) where
   goes_agree : ((u : P) → Agree w longer (N u) (M u)) → (x y : I) (a : Outcome P) (o p : Outcome T) → w.IsKnown x → w.IsKnown y → Related w longer x y →
       Keeps longer o → GoesOn w tree N x a o → GoesOn w tree M y a p → o ≡ p
@@ -42,7 +42,7 @@ module _ {I A P Q T : Type 0} (w : Seen I A) (l : InputLaws w) (tree : P → Q �
       let e = f x y s.first t.first kx ky r s.answered (keeps_first w tree N longer x s.first o k s.goes_on) t.answered in
       goes_agree h x y s.first o p kx ky r k s.goes_on (subst (λ z. GoesOn w tree M y z p) (sym e) t.goes_on)
 
-module _ {I A P Q T : Type 0} (w : Seen I A) (tree : P → Q → T) (decided : Bool) (F G : I → Outcome P → Type 0) (N M : P → I → Outcome Q → Type 0) where
+module _ {I A P Q T : Type 0} (w : Model I A) (tree : P → Q → T) (decided : Bool) (F G : I → Outcome P → Type 0) (N M : P → I → Outcome Q → Type 0) where
   goes_carries : ((u : P) → Carries w decided (N u) (M u)) → (x y : I) (a : Outcome P) (o : Outcome T) → IsSame w x y → Keeps decided o →
       GoesOn w tree N x a o → GoesOn w tree M y a o
   goes_carries g x y (Accept n u) o r k t = (
@@ -64,18 +64,18 @@ module _ {I A P Q T : Type 0} (w : Seen I A) (tree : P → Q → T) (decided : B
     goes_on = goes_carries g x y t.first o r k t.goes_on;
   }
 
-module _ {I A P Q T : Type 0} (w : Seen I A) (tree : P → Q → T) (F : I → Outcome P → Type 0) (N : P → I → Outcome Q → Type 0) where
-  goes_within : ((u : P) → Within w (N u)) → (i : I) (n m : ℕ) (v : T) (u : P) (j : I) (p : Outcome Q) → IsRest w i m j → N u j p →
-      Accept n v ≡ after m (tree u) p → IsPlace w i n
+module _ {I A P Q T : Type 0} (w : Model I A) (tree : P → Q → T) (F : I → Outcome P → Type 0) (N : P → I → Outcome Q → Type 0) where
+  goes_within : ((u : P) → Within w (N u)) → (i : I) (n m : ℕ) (v : T) (u : P) (j : I) (p : Outcome Q) → IsSuffixOf w i m j → N u j p →
+      Accept n v ≡ after m (tree u) p → IsBoundary w i n
   goes_within g i n m v u j (Accept k x) r b e =
       let same : m + k ≡ n = cc in
-      subst (λ t. IsPlace w i t) same (place_more w i m j k r (g u j k x r.known b))
+      subst (λ t. IsBoundary w i t) same (place_more w i m j k r (g u j k x r.known b))
   goes_within g i n m v u j Refuse r b e = cc
   goes_within g i n m v u j Fail r b e = cc
   goes_within g i n m v u j TooLarge r b e = cc
   goes_within g i n m v u j (Undecided x) r b e = cc
 
-  first_within : ((u : P) → Within w (N u)) → (i : I) (n : ℕ) (v : T) (a : Outcome P) → GoesOn w tree N i a (Accept n v) → IsPlace w i n
+  first_within : ((u : P) → Within w (N u)) → (i : I) (n : ℕ) (v : T) (a : Outcome P) → GoesOn w tree N i a (Accept n v) → IsBoundary w i n
   first_within g i n v (Accept m u) t = goes_within g i n m v u t.0 t.1 t.2 t.3 t.4
   first_within g i n v Refuse t = cc
   first_within g i n v Fail t = cc
@@ -97,9 +97,9 @@ module _ {I A P Q T : Type 0} (w : Seen I A) (tree : P → Q → T) (F : I → O
   never_goes false f g i h TooLarge b t = absurd (cc (t))
   never_goes false f g i h (Undecided d) b t = absurd (cc (t))
 
-module _ {I A P Q T E : Type 0} (w : Seen I A) (l : InputLaws w) (tree : P → Q → T) (F G : I → Outcome P → Type 0) (B C : I → E → Type 0)
+module _ {I A P Q T E : Type 0} (w : Model I A) (l : InputLaws w) (tree : P → Q → T) (F G : I → Outcome P → Type 0) (B C : I → E → Type 0)
     (N M : P → I → Outcome Q → Type 0) (D H : P → I → E → Type 0) (f : Transfers w F G B C) (g : (u : P) → Transfers w (N u) (M u) (D u) (H u)) where
-  next_blamed : (i : I) (n : ℕ) (u : P) (j : I) (o : Outcome T) (e : E) → IsDecided o → IsRest w i n j → GoesOn w tree N i (Accept n u) o →
+  next_blamed : (i : I) (n : ℕ) (u : P) (j : I) (o : Outcome T) (e : E) → IsDecided o → IsSuffixOf w i n j → GoesOn w tree N i (Accept n u) o →
       GoesOn w tree M i (Accept n u) o → OnOutcome IsFault (N u) (D u j e) j → OnOutcome IsFault (M u) (H u j e) j
   next_blamed i n u j o e d r s t b =
       blame_transferred w (N u) (M u) (D u) (H u)
@@ -126,10 +126,10 @@ module _ {I A P Q T E : Type 0} (w : Seen I A) (l : InputLaws w) (tree : P → Q
             (subst (λ z. GoesOn w tree M i z o) (sym yours) t.goes_on) r.fact;
       })
 
-module _ {I A P Q T E : Type 0} (w : Seen I A) (l : InputLaws w) (tree : P → Q → T) (first_mode next_mode : Modes → Modes) (a : Meaning I P E)
+module _ {I A P Q T E : Type 0} (w : Model I A) (l : InputLaws w) (tree : P → Q → T) (first_mode next_mode : Modes → Modes) (a : Meaning I P E)
     (f : Family P I Q E) where
   then_frugal : IsLawful w a → IsLawfulFamily w AnyKey f → (mode : Modes) (i : I) → w.IsKnown i → a.IsFrugal (first_mode mode) ×
-      f.IsFrugal (next_mode mode) → (then_meaning w tree first_mode next_mode a f).runs_out mode i → ⊥
+      f.IsFrugal (next_mode mode) → (then_meaning w tree first_mode next_mode a f).may_run_out mode i → ⊥
   then_frugal p q mode i h g (RunsOutFirst r) = p.frugal (first_mode mode) i h g.0 r
   then_frugal p q mode i h g (RunsOutNext r) =
       (q.lawful r.tree tt).frugal (next_mode mode) r.rest (r.rest_is).known (q.frugal (next_mode mode) g.1 r.tree tt) r.fact
@@ -155,7 +155,7 @@ module _ {I A P Q T E : Type 0} (w : Seen I A) (l : InputLaws w) (tree : P → Q
   then_steady p q = then_agree w l tree true (a.answers true) (a.answers true) (λ u. (f.at u).answers true) (λ u. (f.at u).answers true) p q
 
 -- sequences
-module _ {I A P Q T E : Type 0} (w : Seen I A) (l : InputLaws w) (tree : P → Q → T) (first_mode second_mode : Modes → Modes) (a : Meaning I P E)
+module _ {I A P Q T E : Type 0} (w : Model I A) (l : InputLaws w) (tree : P → Q → T) (first_mode second_mode : Modes → Modes) (a : Meaning I P E)
     (b : Meaning I Q E) where
   pub sequence_lawful : IsLawful w a → IsLawful w b → IsLawful w (sequence_meaning w tree first_mode second_mode a b)
   sequence_lawful p q = then_lawful w l tree first_mode second_mode a (always b) p (always_lawful w b q)

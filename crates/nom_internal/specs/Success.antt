@@ -1,7 +1,7 @@
 -- An acceptance of nothing.
 use Rattle.std.specs.Prelude.{◌≡◌, ℕ, [], refl}
 use Rattle.std.proofs.Common.{sym, ◌∙◌}
-use Rattle.nom_traits.specs.Input.{Seen, IsPlace}
+use Rattle.nom_traits.specs.Input.{Model, IsBoundary}
 use Rattle.nom_internal.specs.Meaning.{Meaning, IsLawful, IsSteady}
 use Rattle.nom_internal.specs.Leaf.{Leaf, LeafLaws, leaf_meaning, leaf_lawful, leaf_steady}
 
@@ -17,10 +17,10 @@ abbrev pub success_meaning : {I V E : Type 0} → V → Meaning I V E
 success_meaning v = leaf_meaning (Unit {0}) (λ i e. ⊥) ⊥ (success_leaf v)
 
 -- the place before all items
-pub place_zero : {I A : Type 0} (w : Seen I A) (i : I) (n : ℕ) → n ≡ 0 → IsPlace w i n
+pub place_zero : {I A : Type 0} (w : Model I A) (i : I) (n : ℕ) → n ≡ 0 → IsBoundary w i n
 place_zero w i n e = record { front = []; rest = w.elements i; whole = refl; length_is = sym e }
 
-pub success_laws : {I A V : Type 0} (w : Seen I A) (v : V) → LeafLaws w (success_leaf v)
+pub success_laws : {I A V : Type 0} (w : Model I A) (v : V) → LeafLaws w (success_leaf v)
 success_laws w v = record {
   place = λ s i n u h a. place_zero w i n a.0;
   one_accepted = λ s i n m u t h a b. (a.0 ∙ sym b.0, a.1 ∙ sym b.1);
@@ -35,7 +35,7 @@ success_laws w v = record {
   refused_settles = λ i h a. a;
 }
 
-module _ {I A V : Type 0} (E : Type 0) (w : Seen I A) (v : V) where
+module _ {I A V : Type 0} (E : Type 0) (w : Model I A) (v : V) where
   pub success_lawful : IsLawful w (success_meaning {E = E} v)
   success_lawful = leaf_lawful w (success_leaf v) (success_laws w v) {E = E} (Unit {0}) (λ i e. ⊥) ⊥
 

@@ -1,7 +1,7 @@
 -- The laws of tuples.
 use Rattle.std.specs.Prelude.{true}
 use Rattle.nom_error.specs.Modes.{with_outputs}
-use Rattle.nom_traits.specs.Input.{Seen, InputLaws}
+use Rattle.nom_traits.specs.Input.{Model, InputLaws}
 use Rattle.nom_traits.specs.View.{View, single_view, view_3, view_4, view_5, view_6, view_7, view_8}
 use Rattle.nom_internal.specs.Meaning.{Meaning, IsLawful, IsSteady}
 use Rattle.nom_internal.specs.SequenceLaws.{sequence_lawful, sequence_steady}
@@ -10,7 +10,7 @@ use Rattle.nom_internal.specs.Tuples.{built_meaning, add_3, add_4, add_5, add_6,
 use Rattle.nom_internal.specs.Tuples.{tuple_8, Outputs_3, Outputs_4, Outputs_5, Outputs_6, Outputs_7, Outputs_8}
 
 -- what is built changes no outcome
-module _ {I A V E : Type 0} {w : Seen I A} {m : Meaning I V E} where
+module _ {I A V E : Type 0} {w : Model I A} {m : Meaning I V E} where
   pub built_lawful : IsLawful w m → IsLawful w (built_meaning m)
   built_lawful l = record {
     within = l.within;
@@ -23,7 +23,7 @@ module _ {I A V E : Type 0} {w : Seen I A} {m : Meaning I V E} where
   }
 
 -- a tuple is lawful and steady where its members are
-module _ {I Z X P : Type 0} (w : Seen I Z) (l : InputLaws w) (a : Meaning I P X) where
+module _ {I Z X P : Type 0} (w : Model I Z) (l : InputLaws w) (a : Meaning I P X) where
   module _ {Q : Type 0} (b : Meaning I Q X) where
     pub lawful_2 : IsLawful w a → IsLawful w b → IsLawful w (tuple_2 w a b)
     lawful_2 p q = sequence_lawful w l (λ u v. (u, v)) (λ o. o) (λ o. o) a b p q

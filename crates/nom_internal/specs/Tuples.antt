@@ -4,14 +4,14 @@ use Rattle.std.specs.Prelude.{◌≡◌, Bool, true, Result, Ok, Err, Option, So
 use Rattle.nom_error.specs.declared.answer.Needed.{Needed}
 use Rattle.nom_error.specs.declared.answer.Err as Answer
 use Rattle.nom_error.specs.Modes.{Modes, with_outputs}
-use Rattle.nom_traits.specs.Input.{Seen}
+use Rattle.nom_traits.specs.Input.{Model}
 use Rattle.nom_internal.specs.Outcome.{ShowsAnswer}
 use Rattle.nom_internal.specs.Meaning.{Meaning}
 use Rattle.nom_internal.specs.Sequence.{sequence_meaning, pair_meaning}
 
 -- a part whose outputs are built in every mode
 abbrev pub built_meaning : {I V E : Type 0} → Meaning I V E → Meaning I V E
-built_meaning m = record m { runs_out = λ mode. m.runs_out (with_outputs true mode); IsFrugal = λ mode. m.IsFrugal (with_outputs true mode) }
+built_meaning m = record m { may_run_out = λ mode. m.may_run_out (with_outputs true mode); IsFrugal = λ mode. m.IsFrugal (with_outputs true mode) }
 
 -- a tuple with one more value after its own
 abbrev pub add_3 : {A B C : Type 0} → A × B → C → A × B × C
@@ -34,28 +34,28 @@ add_8 t x = (t.0, t.1, t.2, t.3, t.4, t.5, t.6, x)
 
 -- The members of a tuple in sequence, by its width: those before the last, and then the last, with the tuple of all their
 -- trees.
-abbrev pub tuple_2 : {I Z P Q X : Type 0} → Seen I Z → Meaning I P X → Meaning I Q X → Meaning I (P × Q) X
+abbrev pub tuple_2 : {I Z P Q X : Type 0} → Model I Z → Meaning I P X → Meaning I Q X → Meaning I (P × Q) X
 tuple_2 w a b = pair_meaning w a b
 
-abbrev pub tuple_3 : {I Z P Q R X : Type 0} → Seen I Z → Meaning I P X → Meaning I Q X → Meaning I R X → Meaning I (P × Q × R) X
+abbrev pub tuple_3 : {I Z P Q R X : Type 0} → Model I Z → Meaning I P X → Meaning I Q X → Meaning I R X → Meaning I (P × Q × R) X
 tuple_3 w a b c = sequence_meaning w add_3 (λ o. o) (λ o. o) (tuple_2 w a b) c
 
-abbrev pub tuple_4 : {I Z P Q R S X : Type 0} → Seen I Z → Meaning I P X → Meaning I Q X → Meaning I R X → Meaning I S X → Meaning I (P × Q × R × S) X
+abbrev pub tuple_4 : {I Z P Q R S X : Type 0} → Model I Z → Meaning I P X → Meaning I Q X → Meaning I R X → Meaning I S X → Meaning I (P × Q × R × S) X
 tuple_4 w a b c d = sequence_meaning w add_4 (λ o. o) (λ o. o) (tuple_3 w a b c) d
 
-abbrev pub tuple_5 : {I Z P Q R S T X : Type 0} → Seen I Z → Meaning I P X → Meaning I Q X → Meaning I R X → Meaning I S X → Meaning I T X →
+abbrev pub tuple_5 : {I Z P Q R S T X : Type 0} → Model I Z → Meaning I P X → Meaning I Q X → Meaning I R X → Meaning I S X → Meaning I T X →
     Meaning I (P × Q × R × S × T) X
 tuple_5 w a b c d e = sequence_meaning w add_5 (λ o. o) (λ o. o) (tuple_4 w a b c d) e
 
-abbrev pub tuple_6 : {I Z P Q R S T U X : Type 0} → Seen I Z → Meaning I P X → Meaning I Q X → Meaning I R X → Meaning I S X → Meaning I T X →
+abbrev pub tuple_6 : {I Z P Q R S T U X : Type 0} → Model I Z → Meaning I P X → Meaning I Q X → Meaning I R X → Meaning I S X → Meaning I T X →
     Meaning I U X → Meaning I (P × Q × R × S × T × U) X
 tuple_6 w a b c d e f = sequence_meaning w add_6 (λ o. o) (λ o. o) (tuple_5 w a b c d e) f
 
-abbrev pub tuple_7 : {I Z P Q R S T U V X : Type 0} → Seen I Z → Meaning I P X → Meaning I Q X → Meaning I R X → Meaning I S X → Meaning I T X →
+abbrev pub tuple_7 : {I Z P Q R S T U V X : Type 0} → Model I Z → Meaning I P X → Meaning I Q X → Meaning I R X → Meaning I S X → Meaning I T X →
     Meaning I U X → Meaning I V X → Meaning I (P × Q × R × S × T × U × V) X
 tuple_7 w a b c d e f g = sequence_meaning w add_7 (λ o. o) (λ o. o) (tuple_6 w a b c d e f) g
 
-abbrev pub tuple_8 : {I Z P Q R S T U V W X : Type 0} → Seen I Z → Meaning I P X → Meaning I Q X → Meaning I R X → Meaning I S X → Meaning I T X →
+abbrev pub tuple_8 : {I Z P Q R S T U V W X : Type 0} → Model I Z → Meaning I P X → Meaning I Q X → Meaning I R X → Meaning I S X → Meaning I T X →
     Meaning I U X → Meaning I V X → Meaning I W X → Meaning I (P × Q × R × S × T × U × V × W) X
 tuple_8 w a b c d e f g h = sequence_meaning w add_8 (λ o. o) (λ o. o) (tuple_7 w a b c d e f g) h
 
@@ -116,11 +116,11 @@ abbrev pub IsPaired : {I T U E : Type 0} → T → I → Option U → Result (I 
 IsPaired {U = U} t j x r = (u : U) → x ≡ Some u → r ≡ Ok (j, Some (t, u))
 
 -- what one more member shows at j, after members whose outputs were built
-abbrev pub ShowsMember : {I A V T O E : Type 0} → Seen I A → (V → O → Type 0) → Meaning I V E → Modes → I → Option T →
+abbrev pub ShowsMember : {I A V T O E : Type 0} → Model I A → (V → O → Type 0) → Meaning I V E → Modes → I → Option T →
     Result (I × Option (T × O)) (Answer.Err E (Option E) Needed) → Type 0
 ShowsMember {T = T} w IsOutput m mode j x r =
     (t : T) → x ≡ Some t → ShowsAnswer w (λ v o. (o.0 ≡ t) × IsOutput v o.1) (with_outputs true mode) j (m.answers mode.streaming j)
-    (m.blames mode.streaming j) (m.runs_out (with_outputs true mode) j) r
+    (m.blames mode.streaming j) (m.may_run_out (with_outputs true mode) j) r
 
 -- an acceptance with its value in another form, where outputs are asked for
 abbrev pub IsFormed : {I T U E : Type 0} → Bool → (T → U) → I → Option T → Result (I × Option U) (Answer.Err E (Option E) Needed) → Type 0

@@ -35,7 +35,7 @@ impl<
 
     ghost IsOutput = { λ s. G.IsOutput s.1 };
 
-    ghost meaning = { λ s. and_then_meaning I.seen F.Output.seen (F.IsOutput s.0) (F.meaning s.0) (G.meaning s.1) };
+    ghost meaning = { λ s. and_then_meaning I.model F.Output.model (F.IsOutput s.0) (F.meaning s.0) (G.meaning s.1) };
 
     // The second needn't be a stream parser, which alone has a law of what it pins.
     ghost Pins = { λ s. IsPinned G.Output.view (G.IsOutput s.1) };
@@ -49,12 +49,12 @@ impl<
             Some(output) => output,
             None => unreachable!(),
         };
-        bound.known();
+        bound.prove_known();
         let (_, output) = self.second.process::<OM>(bound)?;
         Ok((rest, output))
     }
 
-    ghost lawful = { λ s k. and_then_lawful I.seen F.Output.seen (F.IsOutput s.0) k.1.1 (G.meaning s.1) (G.lawful s.1 k.1.0) I.lawful (F.meaning s.0)
+    ghost lawful = { λ s k. and_then_lawful I.model F.Output.model (F.IsOutput s.0) k.1.1 (G.meaning s.1) (G.lawful s.1 k.1.0) I.lawful (F.meaning s.0)
         (F.lawful s.0 k.0) };
 }
 
@@ -67,6 +67,6 @@ impl<
 
     ghost pinned = { λ s k p. p };
 
-    ghost steady = { λ s k. and_then_steady I.seen F.Output.seen (F.IsOutput s.0) k.1.1 (G.meaning s.1) (G.lawful s.1 k.1.0) I.lawful (F.meaning s.0)
+    ghost steady = { λ s k. and_then_steady I.model F.Output.model (F.IsOutput s.0) k.1.1 (G.meaning s.1) (G.lawful s.1 k.1.0) I.lawful (F.meaning s.0)
         (F.steady s.0 k.0) };
 }

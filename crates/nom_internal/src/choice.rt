@@ -52,7 +52,7 @@ pub fn after_refusal<I: Items, P: Parser<I>, OM: OutputMode>(
     input: I,
 ) -> PResult<I, P::Output, P::Error>
     requires { (P.meaning (P.state next.old)).IsSound }
-    ensures shown { ShowsNext I.seen (P.IsOutput (P.state next.old)) P.Error.errors.joined P.Error.errors.grows (P.meaning (P.state next.old))
+    ensures shown { ShowsNext I.model (P.IsOutput (P.state next.old)) P.Error.errors.joined P.Error.errors.grows (P.meaning (P.state next.old))
         (modes OM.Output.BUILDS OM.Error.BUILDS OM.Incomplete.STREAMING) input error result }
     ensures kept { P.state next.new ≡ P.state next.old }
 {
@@ -67,7 +67,7 @@ pub fn next_branch<I: Items, P: Parser<I>, OM: OutputMode>(
     input: I,
 ) -> PResult<I, P::Output, P::Error>
     requires { (P.meaning (P.state next.old)).IsSound }
-    ensures shown { OnError (ShowsNext I.seen (P.IsOutput (P.state next.old)) P.Error.errors.joined P.Error.errors.grows (P.meaning (P.state next.old))
+    ensures shown { OnError (ShowsNext I.model (P.IsOutput (P.state next.old)) P.Error.errors.joined P.Error.errors.grows (P.meaning (P.state next.old))
         (modes OM.Output.BUILDS OM.Error.BUILDS OM.Incomplete.STREAMING) input) before result }
     ensures kept { P.state next.new ≡ P.state next.old }
 {

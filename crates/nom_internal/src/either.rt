@@ -45,7 +45,7 @@ impl<
         next_branch::<I, G, OM>(answer, &mut self.second, input)
     }
 
-    ghost lawful = { λ s k. either_lawful I.seen F.Error.errors.joined F.Error.errors.grows (F.meaning s.0) (G.meaning s.1) (F.lawful s.0 k.0)
+    ghost lawful = { λ s k. either_lawful I.model F.Error.errors.joined F.Error.errors.grows (F.meaning s.0) (G.meaning s.1) (F.lawful s.0 k.0)
         (G.lawful s.1 k.1) };
 }
 
@@ -59,6 +59,6 @@ impl<
 
     ghost pinned = { λ s k p. either_pinned F.Output.view (F.IsOutput s.0) (G.IsOutput s.1) (F.pinned s.0 k.0 p.0) (G.pinned s.1 k.1 p.1) };
 
-    ghost steady = { λ s k. either_steady I.seen F.Error.errors.joined F.Error.errors.grows (F.meaning s.0) (G.meaning s.1) (F.steady s.0 k.0)
+    ghost steady = { λ s k. either_steady I.model F.Error.errors.joined F.Error.errors.grows (F.meaning s.0) (G.meaning s.1) (F.steady s.0 k.0)
         (G.steady s.1 k.1) };
 }

@@ -41,11 +41,11 @@ impl<I: Items, P: Parser<I> + Drop, S: IsStreaming> Parser<I> for Fixed<P, S> {
             .process::<OutputM<OM::Output, OM::Error, S>>(input)
     }
 
-    ghost lawful = { λ s k. fixed_lawful I.seen (P.meaning s) S.STREAMING (P.lawful s k) };
+    ghost lawful = { λ s k. fixed_lawful I.model (P.meaning s) S.STREAMING (P.lawful s k) };
 }
 
 impl<I: Items, P: StreamParser<I> + Drop> StreamParser<I> for Fixed<P, Streaming> {
     ghost pinned = { P.pinned };
 
-    ghost steady = { λ s k. fixed_steady I.seen (P.meaning s) (P.steady s k) };
+    ghost steady = { λ s k. fixed_steady I.model (P.meaning s) (P.steady s k) };
 }

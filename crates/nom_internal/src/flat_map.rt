@@ -34,7 +34,7 @@ impl<
 
     ghost IsOutput = { λ s. IsGiven (F.IsOutput s.0) (maker (G.pre s.1) (G.post s.1) H.state) H.IsOutput };
 
-    ghost meaning = { λ s. flat_map_meaning I.seen (F.IsOutput s.0) (maker (G.pre s.1) (G.post s.1) H.state) (F.meaning s.0) H.meaning };
+    ghost meaning = { λ s. flat_map_meaning I.model (F.IsOutput s.0) (maker (G.pre s.1) (G.post s.1) H.state) (F.meaning s.0) H.meaning };
 
     ghost Pins = { λ s. OfEach (F.IsOutput s.0) (maker (G.pre s.1) (G.post s.1) H.state) H.Pins };
 
@@ -51,7 +51,7 @@ impl<
         next.process::<OM>(rest)
     }
 
-    ghost lawful = { λ s k. flat_map_lawful I.seen (F.IsOutput s.0)
+    ghost lawful = { λ s k. flat_map_lawful I.model (F.IsOutput s.0)
         (maker (G.pre s.1) (G.post s.1) H.state) H.meaning k.1 H.lawful I.lawful (F.meaning s.0) (F.lawful s.0 k.0) };
 }
 
@@ -66,6 +66,6 @@ impl<
     ghost pinned = { λ s k p. given_pinned (F.IsOutput s.0) (maker (G.pre s.1) (G.post s.1) H.state)
         (λ u. (H.meaning u).IsSound) H.Pins H.Output.view H.IsOutput k.1 p H.pinned };
 
-    ghost steady = { λ s k. flat_map_steady I.seen (F.IsOutput s.0)
+    ghost steady = { λ s k. flat_map_steady I.model (F.IsOutput s.0)
         (maker (G.pre s.1) (G.post s.1) H.state) H.meaning k.1 H.steady I.lawful (F.meaning s.0) (F.steady s.0 k.0) };
 }

@@ -81,7 +81,7 @@ where
         converted_answer(self.parser.process::<OM>(input))
     }
 
-    ghost lawful = { λ s k. renamed_lawful I.seen (λ _. E.from_gives) ⊥ (F.meaning s) (F.lawful s k) };
+    ghost lawful = { λ s k. renamed_lawful I.model (λ _. E.from_gives) ⊥ (F.meaning s) (F.lawful s k) };
 }
 
 impl<
@@ -92,5 +92,5 @@ impl<
 > StreamParser<I> for Into<F, O, E> {
     ghost pinned = { λ s k p. given_pinned F.Output.view O.view (F.IsOutput s) O.from_gives (F.pinned s k p.0) p.1 };
 
-    ghost steady = { λ s k. renamed_steady I.seen (λ _. E.from_gives) ⊥ (F.meaning s) (F.steady s k) };
+    ghost steady = { λ s k. renamed_steady I.model (λ _. E.from_gives) ⊥ (F.meaning s) (F.steady s k) };
 }

@@ -66,7 +66,7 @@ where
         }
     }
 
-    ghost lawful = { λ s k. judged_lawful I.seen (F.IsOutput s.0) (G.pre s.1)
+    ghost lawful = { λ s k. judged_lawful I.model (F.IsOutput s.0) (G.pre s.1)
         (G.post s.1) is_some (λ i _. F.Error.errors.of_kind i Kind.MapOpt) F.Error.errors.grows (F.meaning s.0) k.1 (F.lawful s.0 k.0) };
 }
 
@@ -78,7 +78,7 @@ impl<
 > StreamParser<I> for MapOpt<F, G> {
     ghost pinned = { λ s k p. given_pinned F.Output.view O.view (F.IsOutput s.0) (λ a o. G.post s.1 a (Some o)) (F.pinned s.0 k.0 p.0) p.1 };
 
-    ghost steady = { λ s k. judged_steady I.seen (F.IsOutput s.0) (G.pre s.1)
+    ghost steady = { λ s k. judged_steady I.model (F.IsOutput s.0) (G.pre s.1)
         (G.post s.1) is_some (λ i _. F.Error.errors.of_kind i Kind.MapOpt) F.Error.errors.grows (F.meaning s.0) k.1 (F.steady s.0 k.0) };
 }
 
@@ -158,7 +158,7 @@ where
         }
     }
 
-    ghost lawful = { λ s k. judged_lawful I.seen (F.IsOutput s.0) (G.pre s.1)
+    ghost lawful = { λ s k. judged_lawful I.model (F.IsOutput s.0) (G.pre s.1)
         (G.post s.1) is_ok (λ i. OfError (F.Error.externals.of_external i Kind.MapRes)) F.Error.externals.grows (F.meaning s.0) k.1 (F.lawful s.0 k.0) };
 }
 
@@ -174,6 +174,6 @@ where
 {
     ghost pinned = { λ s k p. given_pinned F.Output.view O.view (F.IsOutput s.0) (λ a o. G.post s.1 a (Ok o)) (F.pinned s.0 k.0 p.0) p.1 };
 
-    ghost steady = { λ s k. judged_steady I.seen (F.IsOutput s.0) (G.pre s.1)
+    ghost steady = { λ s k. judged_steady I.model (F.IsOutput s.0) (G.pre s.1)
         (G.post s.1) is_ok (λ i. OfError (F.Error.externals.of_external i Kind.MapRes)) F.Error.externals.grows (F.meaning s.0) k.1 (F.steady s.0 k.0) };
 }

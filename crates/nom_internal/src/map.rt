@@ -48,12 +48,12 @@ where
         }
     }
 
-    ghost lawful = { λ s k. map_lawful I.seen (F.IsOutput s.0) (G.pre s.1) (F.meaning s.0) (F.lawful s.0 k.0) };
+    ghost lawful = { λ s k. map_lawful I.model (F.IsOutput s.0) (G.pre s.1) (F.meaning s.0) (F.lawful s.0 k.0) };
 }
 
 impl<I: Items, F: StreamParser<I> + Drop, O: Viewed + Drop, G: Fn(F::Output) -> O> StreamParser<I>
     for Map<F, G> {
     ghost pinned = { λ s k p. given_pinned F.Output.view O.view (F.IsOutput s.0) (G.post s.1) (F.pinned s.0 k.0 p.0) p.1 };
 
-    ghost steady = { λ s k. map_steady I.seen (F.IsOutput s.0) (G.pre s.1) (F.meaning s.0) (F.steady s.0 k.0) };
+    ghost steady = { λ s k. map_steady I.model (F.IsOutput s.0) (G.pre s.1) (F.meaning s.0) (F.steady s.0 k.0) };
 }

@@ -55,7 +55,7 @@ pub trait Parser<I: Items>: Sized {
     /// and answers as it says whether more input may come.
     fn process<OM: OutputMode>(&mut self, input: I) -> PResult<I, Self::Output, Self::Error>
         requires sound { (meaning (state self.old)).IsSound }
-        ensures shown { ShowsMeaning I.seen (IsOutput (state self.old)) (meaning (state self.old))
+        ensures shown { ShowsMeaning I.model (IsOutput (state self.old)) (meaning (state self.old))
             (modes OM.Output.BUILDS OM.Error.BUILDS OM.Incomplete.STREAMING) input result }
         // A call keeps the meaning.
         ensures kept { state self.new ≡ state self.old }
@@ -64,13 +64,13 @@ pub trait Parser<I: Items>: Sized {
     /// Of a sound parser: one outcome for each mode and input, fronts alone accepted, memory that never runs out
     /// where it is frugal, where it settles, decided streaming outcomes that are the complete ones, and no
     /// failure where it never fails.
-    ghost lawful: { (s : State) → (meaning s).IsSound → IsLawful I.seen (meaning s) };
+    ghost lawful: { (s : State) → (meaning s).IsSound → IsLawful I.model (meaning s) };
 
     /// Parses an input of which more may come.
     #[inline(always)]
     final fn parse(&mut self, input: I) -> IResult<I, Self::Output, Self::Error>
         requires sound { (meaning (state self.old)).IsSound }
-        ensures shown { ParsesMeaning I.seen (IsOutput (state self.old)) (meaning (state self.old)) true input result }
+        ensures shown { ParsesMeaning I.model (IsOutput (state self.old)) (meaning (state self.old)) true input result }
         ensures kept { state self.new ≡ state self.old }
         ensures besides { Besides (modes true true true) self.old self.new input (rest_of result) }
     {
@@ -81,7 +81,7 @@ pub trait Parser<I: Items>: Sized {
     #[inline(always)]
     final fn parse_complete(&mut self, input: I) -> IResult<I, Self::Output, Self::Error>
         requires sound { (meaning (state self.old)).IsSound }
-        ensures shown { ParsesMeaning I.seen (IsOutput (state self.old)) (meaning (state self.old)) false input result }
+        ensures shown { ParsesMeaning I.model (IsOutput (state self.old)) (meaning (state self.old)) false input result }
         ensures kept { state self.new ≡ state self.old }
         ensures besides { Besides (modes true true false) self.old self.new input (rest_of result) }
     {
@@ -202,7 +202,7 @@ pub trait StreamParser<I: Items>: Parser<I, Output: Viewed> {
     ghost pinned: { (s : Self.State) → (Self.meaning s).IsSound → Self.Parser.Pins s → IsPinned Self.Output.view (Self.IsOutput s) };
 
     /// A decided streaming outcome stays on every longer input.
-    ghost steady: { (s : Self.State) → (Self.meaning s).IsSound → IsSteady I.seen (Self.meaning s) };
+    ghost steady: { (s : Self.State) → (Self.meaning s).IsSound → IsSteady I.model (Self.meaning s) };
 }
 
 /// A result in which outputs and errors are built, without their options.

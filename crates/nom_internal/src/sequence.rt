@@ -42,7 +42,7 @@ impl<I: Items, F: Parser<I> + Drop, G: Parser<I, Error = F::Error> + Drop> Parse
 
     ghost IsOutput = { λ s t o. F.IsOutput s.0 t.0 o.0 × G.IsOutput s.1 t.1 o.1 };
 
-    ghost meaning = { λ s. pair_meaning I.seen (F.meaning s.0) (G.meaning s.1) };
+    ghost meaning = { λ s. pair_meaning I.model (F.meaning s.0) (G.meaning s.1) };
 
     ghost Pins = { λ s. F.Pins s.0 × G.Pins s.1 };
 
@@ -55,7 +55,7 @@ impl<I: Items, F: Parser<I> + Drop, G: Parser<I, Error = F::Error> + Drop> Parse
         Ok((rest, combine(first, second)))
     }
 
-    ghost lawful = { λ s k. sequence_lawful I.seen I.lawful (λ u v. (u, v)) (λ o. o) (λ o. o) (F.meaning s.0) (G.meaning s.1) (F.lawful s.0 k.0)
+    ghost lawful = { λ s k. sequence_lawful I.model I.lawful (λ u v. (u, v)) (λ o. o) (λ o. o) (F.meaning s.0) (G.meaning s.1) (F.lawful s.0 k.0)
         (G.lawful s.1 k.1) };
 }
 
@@ -67,6 +67,6 @@ impl<I: Items, F: StreamParser<I> + Drop, G: StreamParser<I, Error = F::Error> +
 
     ghost pinned = { λ s k p. pair_pinned F.Output.view G.Output.view (F.IsOutput s.0) (G.IsOutput s.1) (F.pinned s.0 k.0 p.0) (G.pinned s.1 k.1 p.1) };
 
-    ghost steady = { λ s k. sequence_steady I.seen I.lawful (λ u v. (u, v)) (λ o. o) (λ o. o) (F.meaning s.0) (G.meaning s.1) (F.steady s.0 k.0)
+    ghost steady = { λ s k. sequence_steady I.model I.lawful (λ u v. (u, v)) (λ o. o) (λ o. o) (F.meaning s.0) (G.meaning s.1) (F.steady s.0 k.0)
         (G.steady s.1 k.1) };
 }

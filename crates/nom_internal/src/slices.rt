@@ -1,8 +1,8 @@
 //! Slices of inputs as outputs.
 ghost use Rattle.nom_error.specs.Modes.{Built};
 ghost use Rattle.std.specs.Prelude.{ℕ};
-ghost use Rattle.nom_traits.specs.Input.{IsPlace, IsRest};
-ghost use Rattle.nom_traits.specs.Slices.{Slice, IsFirst, IsSeenAs};
+ghost use Rattle.nom_traits.specs.Input.{IsBoundary, IsSuffixOf};
+ghost use Rattle.nom_traits.specs.Slices.{Slice, IsFirst, IsModelledBy};
 
 use nom_error::mode::Mode;
 use nom_traits::input::Input;
@@ -10,8 +10,8 @@ use nom_traits::input::Input;
 /// The first items of an input, of length `n`, where outputs are built.
 #[inline(always)]
 pub fn front<M: Mode, I: Input>(input: I, n: usize) -> Option<I>
-    requires { IsPlace I.seen input n }
-    ensures { (t : Slice I.seen) → IsFirst I.seen input n t → Built M.BUILDS (IsSeenAs I.seen t) result }
+    requires { IsBoundary I.model input n }
+    ensures { (t : Slice I.model) → IsFirst I.model input n t → Built M.BUILDS (IsModelledBy I.model t) result }
 {
     if M::BUILDS { Some(input.take(n)) } else { None }
 }
@@ -19,8 +19,8 @@ pub fn front<M: Mode, I: Input>(input: I, n: usize) -> Option<I>
 /// The items of an input before a rest of it, where outputs are built.
 #[inline(always)]
 pub fn before<M: Mode, I: Input>(input: I, rest: I) -> Option<I>
-    requires { (n : ℕ) × IsRest I.seen input n rest }
-    ensures { (n : ℕ) (t : Slice I.seen) → IsRest I.seen input n rest → IsFirst I.seen input n t → Built M.BUILDS (IsSeenAs I.seen t) result }
+    requires { (n : ℕ) × IsSuffixOf I.model input n rest }
+    ensures { (n : ℕ) (t : Slice I.model) → IsSuffixOf I.model input n rest → IsFirst I.model input n t → Built M.BUILDS (IsModelledBy I.model t) result }
 {
     front::<M, I>(input, input.input_len() - rest.input_len())
 }

@@ -38,7 +38,7 @@ pub fn next_member<I: Items, T: Drop, P: Parser<I>, OM: OutputMode>(
     next: &mut P,
 ) -> PResult<I, (T, P::Output), P::Error>
     requires { (P.meaning (P.state next.old)).IsSound }
-    ensures shown { OnAccepted (ShowsMember I.seen (P.IsOutput (P.state next.old)) (P.meaning (P.state next.old))
+    ensures shown { OnAccepted (ShowsMember I.model (P.IsOutput (P.state next.old)) (P.meaning (P.state next.old))
         (modes OM.Output.BUILDS OM.Error.BUILDS OM.Incomplete.STREAMING)) before result }
     ensures kept { P.state next.new ≡ P.state next.old }
 {
@@ -154,7 +154,7 @@ impl<I: Items, A: Parser<I>, B: Parser<I, Error = A::Error>> Parser<I> for (A, B
 
     ghost IsOutput = { λ s. Outputs_2 (A.IsOutput s.0) (B.IsOutput s.1) };
 
-    ghost meaning = { λ s. built_meaning (tuple_2 I.seen (A.meaning s.0) (B.meaning s.1)) };
+    ghost meaning = { λ s. built_meaning (tuple_2 I.model (A.meaning s.0) (B.meaning s.1)) };
 
     ghost Pins = { λ s. A.Pins s.0 × B.Pins s.1 };
 
@@ -167,14 +167,14 @@ impl<I: Items, A: Parser<I>, B: Parser<I, Error = A::Error>> Parser<I> for (A, B
         formed::<I, _, Self::Output, A::Error, OM::Output>(answer)
     }
 
-    ghost lawful = { λ s k. built_lawful (lawful_2 I.seen I.lawful (A.meaning s.0) (B.meaning s.1) (A.lawful s.0 k.0) (B.lawful s.1 k.1)) };
+    ghost lawful = { λ s k. built_lawful (lawful_2 I.model I.lawful (A.meaning s.0) (B.meaning s.1) (A.lawful s.0 k.0) (B.lawful s.1 k.1)) };
 }
 
 impl<I: Items, A: StreamParser<I>, B: StreamParser<I, Error = A::Error>> StreamParser<I>
     for (A, B) {
     ghost pinned = { λ s k p. pair_pinned A.Output.view B.Output.view (A.IsOutput s.0) (B.IsOutput s.1) (A.pinned s.0 k.0 p.0) (B.pinned s.1 k.1 p.1) };
 
-    ghost steady = { λ s k. steady_2 I.seen I.lawful (A.meaning s.0) (B.meaning s.1) (A.steady s.0 k.0) (B.steady s.1 k.1) };
+    ghost steady = { λ s k. steady_2 I.model I.lawful (A.meaning s.0) (B.meaning s.1) (A.steady s.0 k.0) (B.steady s.1 k.1) };
 }
 
 impl<A: Drop, B: Drop, C: Drop> Flat<((A, B), C)> for (A, B, C) {
@@ -202,7 +202,7 @@ impl<I: Items, A: Parser<I>, B: Parser<I, Error = A::Error>, C: Parser<I, Error 
 
     ghost IsOutput = { λ s. Outputs_3 (A.IsOutput s.0) (B.IsOutput s.1) (C.IsOutput s.2) };
 
-    ghost meaning = { λ s. built_meaning (tuple_3 I.seen (A.meaning s.0) (B.meaning s.1) (C.meaning s.2)) };
+    ghost meaning = { λ s. built_meaning (tuple_3 I.model (A.meaning s.0) (B.meaning s.1) (C.meaning s.2)) };
 
     ghost Pins = { λ s. A.Pins s.0 × B.Pins s.1 × C.Pins s.2 };
 
@@ -217,7 +217,7 @@ impl<I: Items, A: Parser<I>, B: Parser<I, Error = A::Error>, C: Parser<I, Error 
     }
 
     ghost lawful = { λ s k. built_lawful
-        (lawful_3 I.seen I.lawful (A.meaning s.0) (B.meaning s.1) (C.meaning s.2) (A.lawful s.0 k.0.0) (B.lawful s.1 k.0.1) (C.lawful s.2 k.1)) };
+        (lawful_3 I.model I.lawful (A.meaning s.0) (B.meaning s.1) (C.meaning s.2) (A.lawful s.0 k.0.0) (B.lawful s.1 k.0.1) (C.lawful s.2 k.1)) };
 }
 
 impl<
@@ -229,7 +229,7 @@ impl<
     ghost pinned = { λ s k p. pinned_3 A.Output.view (A.IsOutput s.0) B.Output.view (B.IsOutput s.1) C.Output.view (C.IsOutput s.2)
         (A.pinned s.0 k.0.0 p.0) (B.pinned s.1 k.0.1 p.1) (C.pinned s.2 k.1 p.2) };
 
-    ghost steady = { λ s k. steady_3 I.seen I.lawful (A.meaning s.0) (B.meaning s.1) (C.meaning s.2) (A.steady s.0 k.0.0) (B.steady s.1 k.0.1)
+    ghost steady = { λ s k. steady_3 I.model I.lawful (A.meaning s.0) (B.meaning s.1) (C.meaning s.2) (A.steady s.0 k.0.0) (B.steady s.1 k.0.1)
         (C.steady s.2 k.1) };
 }
 
@@ -262,7 +262,7 @@ impl<
 
     ghost IsOutput = { λ s. Outputs_4 (A.IsOutput s.0) (B.IsOutput s.1) (C.IsOutput s.2) (D.IsOutput s.3) };
 
-    ghost meaning = { λ s. built_meaning (tuple_4 I.seen (A.meaning s.0) (B.meaning s.1) (C.meaning s.2) (D.meaning s.3)) };
+    ghost meaning = { λ s. built_meaning (tuple_4 I.model (A.meaning s.0) (B.meaning s.1) (C.meaning s.2) (D.meaning s.3)) };
 
     ghost Pins = { λ s. A.Pins s.0 × B.Pins s.1 × C.Pins s.2 × D.Pins s.3 };
 
@@ -278,7 +278,7 @@ impl<
     }
 
     ghost lawful = { λ s k. built_lawful
-        (lawful_4 I.seen I.lawful (A.meaning s.0) (B.meaning s.1) (C.meaning s.2) (D.meaning s.3) (A.lawful s.0 k.0.0.0) (B.lawful s.1 k.0.0.1)
+        (lawful_4 I.model I.lawful (A.meaning s.0) (B.meaning s.1) (C.meaning s.2) (D.meaning s.3) (A.lawful s.0 k.0.0.0) (B.lawful s.1 k.0.0.1)
         (C.lawful s.2 k.0.1) (D.lawful s.3 k.1)) };
 }
 
@@ -292,6 +292,6 @@ impl<
     ghost pinned = { λ s k p. pinned_4 A.Output.view (A.IsOutput s.0) B.Output.view (B.IsOutput s.1) C.Output.view (C.IsOutput s.2) D.Output.view
         (D.IsOutput s.3) (A.pinned s.0 k.0.0.0 p.0) (B.pinned s.1 k.0.0.1 p.1) (C.pinned s.2 k.0.1 p.2) (D.pinned s.3 k.1 p.3) };
 
-    ghost steady = { λ s k. steady_4 I.seen I.lawful (A.meaning s.0) (B.meaning s.1) (C.meaning s.2) (D.meaning s.3) (A.steady s.0 k.0.0.0)
+    ghost steady = { λ s k. steady_4 I.model I.lawful (A.meaning s.0) (B.meaning s.1) (C.meaning s.2) (D.meaning s.3) (A.steady s.0 k.0.0.0)
         (B.steady s.1 k.0.0.1) (C.steady s.2 k.0.1) (D.steady s.3 k.1) };
 }

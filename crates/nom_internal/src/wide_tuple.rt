@@ -40,7 +40,7 @@ impl<
 
     ghost IsOutput = { λ s. Outputs_5 (A.IsOutput s.0) (B.IsOutput s.1) (C.IsOutput s.2) (D.IsOutput s.3) (E.IsOutput s.4) };
 
-    ghost meaning = { λ s. built_meaning (tuple_5 I.seen (A.meaning s.0) (B.meaning s.1) (C.meaning s.2) (D.meaning s.3) (E.meaning s.4)) };
+    ghost meaning = { λ s. built_meaning (tuple_5 I.model (A.meaning s.0) (B.meaning s.1) (C.meaning s.2) (D.meaning s.3) (E.meaning s.4)) };
 
     ghost Pins = { λ s. A.Pins s.0 × B.Pins s.1 × C.Pins s.2 × D.Pins s.3 × E.Pins s.4 };
 
@@ -57,7 +57,7 @@ impl<
     }
 
     ghost lawful = { λ s k. built_lawful
-        (lawful_5 I.seen I.lawful (A.meaning s.0) (B.meaning s.1) (C.meaning s.2) (D.meaning s.3) (E.meaning s.4) (A.lawful s.0 k.0.0.0.0)
+        (lawful_5 I.model I.lawful (A.meaning s.0) (B.meaning s.1) (C.meaning s.2) (D.meaning s.3) (E.meaning s.4) (A.lawful s.0 k.0.0.0.0)
         (B.lawful s.1 k.0.0.0.1) (C.lawful s.2 k.0.0.1) (D.lawful s.3 k.0.1) (E.lawful s.4 k.1)) };
 }
 
@@ -73,7 +73,7 @@ impl<
         (D.IsOutput s.3) E.Output.view (E.IsOutput s.4) (A.pinned s.0 k.0.0.0.0 p.0) (B.pinned s.1 k.0.0.0.1 p.1) (C.pinned s.2 k.0.0.1 p.2)
         (D.pinned s.3 k.0.1 p.3) (E.pinned s.4 k.1 p.4) };
 
-    ghost steady = { λ s k. steady_5 I.seen I.lawful (A.meaning s.0) (B.meaning s.1) (C.meaning s.2) (D.meaning s.3) (E.meaning s.4)
+    ghost steady = { λ s k. steady_5 I.model I.lawful (A.meaning s.0) (B.meaning s.1) (C.meaning s.2) (D.meaning s.3) (E.meaning s.4)
         (A.steady s.0 k.0.0.0.0) (B.steady s.1 k.0.0.0.1) (C.steady s.2 k.0.0.1) (D.steady s.3 k.0.1) (E.steady s.4 k.1) };
 }
 
@@ -116,7 +116,7 @@ impl<
 
     ghost IsOutput = { λ s. Outputs_6 (A.IsOutput s.0) (B.IsOutput s.1) (C.IsOutput s.2) (D.IsOutput s.3) (E.IsOutput s.4) (F.IsOutput s.5) };
 
-    ghost meaning = { λ s. built_meaning (tuple_6 I.seen (A.meaning s.0) (B.meaning s.1) (C.meaning s.2) (D.meaning s.3) (E.meaning s.4) (F.meaning s.5)) };
+    ghost meaning = { λ s. built_meaning (tuple_6 I.model (A.meaning s.0) (B.meaning s.1) (C.meaning s.2) (D.meaning s.3) (E.meaning s.4) (F.meaning s.5)) };
 
     ghost Pins = { λ s. A.Pins s.0 × B.Pins s.1 × C.Pins s.2 × D.Pins s.3 × E.Pins s.4 × F.Pins s.5 };
 
@@ -134,7 +134,7 @@ impl<
     }
 
     ghost lawful = { λ s k. built_lawful
-        (lawful_6 I.seen I.lawful (A.meaning s.0) (B.meaning s.1) (C.meaning s.2) (D.meaning s.3) (E.meaning s.4) (F.meaning s.5)
+        (lawful_6 I.model I.lawful (A.meaning s.0) (B.meaning s.1) (C.meaning s.2) (D.meaning s.3) (E.meaning s.4) (F.meaning s.5)
         (A.lawful s.0 k.0.0.0.0.0) (B.lawful s.1 k.0.0.0.0.1) (C.lawful s.2 k.0.0.0.1) (D.lawful s.3 k.0.0.1) (E.lawful s.4 k.0.1) (F.lawful s.5 k.1)) };
 }
 
@@ -151,7 +151,7 @@ impl<
         (D.IsOutput s.3) E.Output.view (E.IsOutput s.4) F.Output.view (F.IsOutput s.5) (A.pinned s.0 k.0.0.0.0.0 p.0) (B.pinned s.1 k.0.0.0.0.1 p.1)
         (C.pinned s.2 k.0.0.0.1 p.2) (D.pinned s.3 k.0.0.1 p.3) (E.pinned s.4 k.0.1 p.4) (F.pinned s.5 k.1 p.5) };
 
-    ghost steady = { λ s k. steady_6 I.seen I.lawful (A.meaning s.0) (B.meaning s.1) (C.meaning s.2) (D.meaning s.3) (E.meaning s.4) (F.meaning s.5)
+    ghost steady = { λ s k. steady_6 I.model I.lawful (A.meaning s.0) (B.meaning s.1) (C.meaning s.2) (D.meaning s.3) (E.meaning s.4) (F.meaning s.5)
         (A.steady s.0 k.0.0.0.0.0) (B.steady s.1 k.0.0.0.0.1) (C.steady s.2 k.0.0.0.1) (D.steady s.3 k.0.0.1) (E.steady s.4 k.0.1) (F.steady s.5 k.1) };
 }
 
@@ -197,7 +197,7 @@ impl<
 
     ghost IsOutput = { λ s. Outputs_7 (A.IsOutput s.0) (B.IsOutput s.1) (C.IsOutput s.2) (D.IsOutput s.3) (E.IsOutput s.4) (F.IsOutput s.5) (G.IsOutput s.6) };
 
-    ghost meaning = { λ s. built_meaning (tuple_7 I.seen (A.meaning s.0) (B.meaning s.1) (C.meaning s.2) (D.meaning s.3) (E.meaning s.4) (F.meaning s.5)
+    ghost meaning = { λ s. built_meaning (tuple_7 I.model (A.meaning s.0) (B.meaning s.1) (C.meaning s.2) (D.meaning s.3) (E.meaning s.4) (F.meaning s.5)
         (G.meaning s.6)) };
 
     ghost Pins = { λ s. A.Pins s.0 × B.Pins s.1 × C.Pins s.2 × D.Pins s.3 × E.Pins s.4 × F.Pins s.5 × G.Pins s.6 };
@@ -217,7 +217,7 @@ impl<
     }
 
     ghost lawful = { λ s k. built_lawful
-        (lawful_7 I.seen I.lawful (A.meaning s.0) (B.meaning s.1) (C.meaning s.2) (D.meaning s.3) (E.meaning s.4) (F.meaning s.5) (G.meaning s.6)
+        (lawful_7 I.model I.lawful (A.meaning s.0) (B.meaning s.1) (C.meaning s.2) (D.meaning s.3) (E.meaning s.4) (F.meaning s.5) (G.meaning s.6)
         (A.lawful s.0 k.0.0.0.0.0.0) (B.lawful s.1 k.0.0.0.0.0.1) (C.lawful s.2 k.0.0.0.0.1) (D.lawful s.3 k.0.0.0.1) (E.lawful s.4 k.0.0.1)
         (F.lawful s.5 k.0.1) (G.lawful s.6 k.1)) };
 }
@@ -237,7 +237,7 @@ impl<
         (B.pinned s.1 k.0.0.0.0.0.1 p.1) (C.pinned s.2 k.0.0.0.0.1 p.2) (D.pinned s.3 k.0.0.0.1 p.3) (E.pinned s.4 k.0.0.1 p.4) (F.pinned s.5 k.0.1 p.5)
         (G.pinned s.6 k.1 p.6) };
 
-    ghost steady = { λ s k. steady_7 I.seen I.lawful (A.meaning s.0) (B.meaning s.1) (C.meaning s.2) (D.meaning s.3) (E.meaning s.4) (F.meaning s.5)
+    ghost steady = { λ s k. steady_7 I.model I.lawful (A.meaning s.0) (B.meaning s.1) (C.meaning s.2) (D.meaning s.3) (E.meaning s.4) (F.meaning s.5)
         (G.meaning s.6) (A.steady s.0 k.0.0.0.0.0.0) (B.steady s.1 k.0.0.0.0.0.1) (C.steady s.2 k.0.0.0.0.1) (D.steady s.3 k.0.0.0.1)
         (E.steady s.4 k.0.0.1) (F.steady s.5 k.0.1) (G.steady s.6 k.1) };
 }
@@ -287,7 +287,7 @@ impl<
     ghost IsOutput = { λ s. Outputs_8 (A.IsOutput s.0) (B.IsOutput s.1) (C.IsOutput s.2) (D.IsOutput s.3) (E.IsOutput s.4) (F.IsOutput s.5)
         (G.IsOutput s.6) (H.IsOutput s.7) };
 
-    ghost meaning = { λ s. built_meaning (tuple_8 I.seen (A.meaning s.0) (B.meaning s.1) (C.meaning s.2) (D.meaning s.3) (E.meaning s.4) (F.meaning s.5)
+    ghost meaning = { λ s. built_meaning (tuple_8 I.model (A.meaning s.0) (B.meaning s.1) (C.meaning s.2) (D.meaning s.3) (E.meaning s.4) (F.meaning s.5)
         (G.meaning s.6) (H.meaning s.7)) };
 
     ghost Pins = { λ s. A.Pins s.0 × B.Pins s.1 × C.Pins s.2 × D.Pins s.3 × E.Pins s.4 × F.Pins s.5 × G.Pins s.6 × H.Pins s.7 };
@@ -308,7 +308,7 @@ impl<
     }
 
     ghost lawful = { λ s k. built_lawful
-        (lawful_8 I.seen I.lawful (A.meaning s.0) (B.meaning s.1) (C.meaning s.2) (D.meaning s.3) (E.meaning s.4) (F.meaning s.5) (G.meaning s.6)
+        (lawful_8 I.model I.lawful (A.meaning s.0) (B.meaning s.1) (C.meaning s.2) (D.meaning s.3) (E.meaning s.4) (F.meaning s.5) (G.meaning s.6)
         (H.meaning s.7) (A.lawful s.0 k.0.0.0.0.0.0.0) (B.lawful s.1 k.0.0.0.0.0.0.1) (C.lawful s.2 k.0.0.0.0.0.1) (D.lawful s.3 k.0.0.0.0.1)
         (E.lawful s.4 k.0.0.0.1) (F.lawful s.5 k.0.0.1) (G.lawful s.6 k.0.1) (H.lawful s.7 k.1)) };
 }
@@ -329,7 +329,7 @@ impl<
         (A.pinned s.0 k.0.0.0.0.0.0.0 p.0) (B.pinned s.1 k.0.0.0.0.0.0.1 p.1) (C.pinned s.2 k.0.0.0.0.0.1 p.2) (D.pinned s.3 k.0.0.0.0.1 p.3)
         (E.pinned s.4 k.0.0.0.1 p.4) (F.pinned s.5 k.0.0.1 p.5) (G.pinned s.6 k.0.1 p.6) (H.pinned s.7 k.1 p.7) };
 
-    ghost steady = { λ s k. steady_8 I.seen I.lawful (A.meaning s.0) (B.meaning s.1) (C.meaning s.2) (D.meaning s.3) (E.meaning s.4) (F.meaning s.5)
+    ghost steady = { λ s k. steady_8 I.model I.lawful (A.meaning s.0) (B.meaning s.1) (C.meaning s.2) (D.meaning s.3) (E.meaning s.4) (F.meaning s.5)
         (G.meaning s.6) (H.meaning s.7) (A.steady s.0 k.0.0.0.0.0.0.0) (B.steady s.1 k.0.0.0.0.0.0.1) (C.steady s.2 k.0.0.0.0.0.1)
         (D.steady s.3 k.0.0.0.0.1) (E.steady s.4 k.0.0.0.1) (F.steady s.5 k.0.0.1) (G.steady s.6 k.0.1) (H.steady s.7 k.1) };
 }

@@ -5,7 +5,7 @@ use Rattle.std.specs.List.{AllZip}
 use Rattle.nom_error.specs.declared.answer.Needed.{Needed}
 use Rattle.nom_error.specs.declared.answer.Err as Answer
 use Rattle.nom_error.specs.declared.answer.Err.TheVariants as Variant
-use Rattle.nom_traits.specs.Input.{Seen, IsRest}
+use Rattle.nom_traits.specs.Input.{Model, IsSuffixOf}
 use Rattle.nom_internal.specs.Outcome.{Outcome, Parses}
 use Rattle.nom_internal.specs.Outcome.Outcome.{Accept, Refuse, Fail, TooLarge, Undecided}
 use Rattle.nom_internal.specs.Outcome.ParsesAnswer.{ParseRanOut, Parsed}
@@ -17,15 +17,15 @@ use Rattle.nom_iterator.specs.declared.items.State.{State}
 use Rattle.nom_iterator.specs.declared.items.State.TheVariants.{Running, Done, Failure, Incomplete, OutOfMemory}
 
 -- an item that was given: its piece was accepted, and what is left is held
-record IsItem {I A V O E : Type 0} (w : Seen I A) (IsOutput : V → O → Type 0) (m : Meaning I V E) (i : I) (v : O) (j : I) (s : State E) : Type 0 where
+record IsItem {I A V O E : Type 0} (w : Model I A) (IsOutput : V → O → Type 0) (m : Meaning I V E) (i : I) (v : O) (j : I) (s : State E) : Type 0 where
   size : ℕ
   tree : V
   accepted : m.answers true i (Accept size tree)
-  rest_is : IsRest w i size j
+  rest_is : IsSuffixOf w i size j
   output_is : IsOutput tree v
   runs : s ≡ Running
 
-module _ {I A V O E : Type 0} (w : Seen I A) (IsOutput : V → O → Type 0) (m : Meaning I V E) (i : I) where
+module _ {I A V O E : Type 0} (w : Model I A) (IsOutput : V → O → Type 0) (m : Meaning I V E) (i : I) where
   -- what an answer is, by what was given for it
   item_of_answer : (q : Result (I × O) (Answer.Err E E Needed)) (v : O) (j : I) (s : State E) → Moves i q (Some v) j s → (o : Outcome V) →
       m.answers true i o → Parses w IsOutput i (m.blames true i) o q → IsItem w IsOutput m i v j s
@@ -33,7 +33,15 @@ module _ {I A V O E : Type 0} (w : Seen I A) (IsOutput : V → O → Type 0) (m 
       let both : ◌≡◌ {A = I × O} (h.0, h.1) (k, u) = cc (h.4) in
       let value : h.1 ≡ v = ap (λ (z : I × O). z.1) both ∙ cc (g.0) in
       let place : h.0 ≡ j = ap (λ (z : I × O). z.0) both ∙ sym g.1 in
-      record { size = n; tree = t; accepted = a; rest_is = subst (λ z. IsRest w i n z) place h.2; output_is = subst (λ z. IsOutput t z) value h.3; runs = g.2 }
+      record {
+        size = n;
+        tree = t;
+        accepted = a;
+        rest_is = subst (λ z. IsSuffixOf w i n z) place h.2;
+        output_is = subst (λ z. IsOutput t z) value h.3;
+        runs =
+            g.2;
+      }
   item_of_answer (Ok (k, u)) v j s g Refuse a h = absurd (cc (h.2))
   item_of_answer (Ok (k, u)) v j s g Fail a h = absurd (cc (h.2))
   item_of_answer (Ok (k, u)) v j s g TooLarge a h = absurd (cc (h.2))
@@ -110,7 +118,7 @@ module _ {I V E : Type 0} (m : Meaning I V E) (i : I) where
   finishes_there s r (inl h) f = inl (h.0, h.1, ended_finishes h.0 s r h.2 f)
   finishes_there s r (inr h) f = inr (h.0, subst (λ z. IsFinish i z r) h.1 f)
 
-module _ {X S I A V O E : Type 0} (w : Seen I A) (IsOutput : S → V → O → Type 0) (m : S → Meaning I V E) (state : X → S) (place : X → I)
+module _ {X S I A V O E : Type 0} (w : Model I A) (IsOutput : S → V → O → Type 0) (m : S → Meaning I V E) (state : X → S) (place : X → I)
     (held : X → State E) where
   abbrev Steps : X → Option O → X → Type 0
   Steps = Next w IsOutput m state place held

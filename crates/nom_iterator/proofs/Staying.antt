@@ -1,8 +1,8 @@
 -- Items stay on longer inputs, and are the same on inputs that are equal as models.
 use Rattle.std.proofs.Common.{arith, ◌≡◌, ℕ, suc, zero, ◌<◌, ◌≤◌, Bool, true, false, List, [], ◌∷◌, ◌++◌, length, map, refl, sym, ◌∙◌, ap, subst}
 use Rattle.std.specs.List.{AllZip}
-use Rattle.nom_traits.specs.Input.{Seen, InputLaws, IsRest, Related, Extends, IsSame, input_len, span}
-use Rattle.nom_traits.specs.Rests.{rest_related, span-append}
+use Rattle.nom_traits.specs.Input.{Model, InputLaws, IsSuffixOf, Related, Extends, IsSame, input_len, items_len}
+use Rattle.nom_traits.specs.Rests.{rest_related, items_len-append}
 use Rattle.nom_traits.specs.View.{View}
 use Rattle.nom_internal.specs.Pinned.{IsPinned}
 use Rattle.nom_internal.specs.Outcome.{Outcome}
@@ -19,20 +19,20 @@ module _ {V : Type 0} where
   accept_kept false n v = tt
 
 -- the first acceptance, and then the items on its rest, on related inputs
-module _ {I A V : Type 0} (w : Seen I A) (l : InputLaws w) (Answers : I → Outcome V → Type 0) (longer : Bool) (agree : Agree w longer Answers Answers) where
+module _ {I A V : Type 0} (w : Model I A) (l : InputLaws w) (Answers : I → Outcome V → Type 0) (longer : Bool) (agree : Agree w longer Answers Answers) where
   module _ (x y : I) (t : V) (k : ℕ) (j : I) (kx : w.IsKnown x) (ky : w.IsKnown y) (r : Related w longer x y) (a : Answers x (Accept k t))
-      (p : IsRest w x k j) where
-    first_kept : (u : V) (n : ℕ) (i : I) → Answers y (Accept n u) → IsRest w y n i → (t ≡ u) × Related w longer j i
+      (p : IsSuffixOf w x k j) where
+    first_kept : (u : V) (n : ℕ) (i : I) → Answers y (Accept n u) → IsSuffixOf w y n i → (t ≡ u) × Related w longer j i
     first_kept u n i b q =
         let same : Accept k t ≡ Accept n u = agree x y (Accept k t) (Accept n u) kx ky r a (accept_kept longer k t) b in
         let length : k ≡ n = cc (same) in
         let tree : t ≡ u = cc (same) in
-        (tree, rest_related w l longer x y k j i r p (subst (λ z. IsRest w y z i) (sym length) q))
+        (tree, rest_related w l longer x y k j i r p (subst (λ z. IsSuffixOf w y z i) (sym length) q))
 
     first_ends : (o : Outcome V) → Answers y o → Ends o → ⊥
     first_ends o b e = never_ends o k t (agree x y (Accept k t) o kx ky r a (accept_kept longer k t) b) e
 
-module _ {I A V E : Type 0} (w : Seen I A) (l : InputLaws w) (m : Meaning I V E) where
+module _ {I A V E : Type 0} (w : Model I A) (l : InputLaws w) (m : Meaning I V E) where
   running_stay : IsSteady w m → (limit : ℕ) (x y : I) (ts us : List V) → w.IsKnown x → w.IsKnown y → Extends w x y →
       AreItems w (m.answers true) limit x ts → AreItems w (m.answers true) limit y us → (more : List V) × (us ≡ ts ++ more)
   running_stay k zero x y ts us kx ky r a b = ([], b ∙ ap (λ z. z ++ []) (sym a))
@@ -65,14 +65,14 @@ module _ {I A V E : Type 0} (w : Seen I A) (l : InputLaws w) (m : Meaning I V E)
   items_are_one k true limit x y ts us kx ky r a b = a ∙ sym b
   items_are_one k false limit x y ts us kx ky r a b = running_are_one k limit x y ts us kx ky r a b
 
-module _ {I A V E : Type 0} (w : Seen I A) (m : Meaning I V E) where
+module _ {I A V E : Type 0} (w : Model I A) (m : Meaning I V E) where
   running_fit : ((i : I) (k : ℕ) (t : V) → m.answers true i (Accept k t) → 0 < k) → (limit : ℕ) (x : I) (ts : List V) →
       AreItems w (m.answers true) limit x ts → length ts ≤ input_len w x
   running_fit f zero x ts a = omega (arith, ap length a)
   running_fit f (suc n) x [] a = omega arith
   running_fit f (suc n) x (t ∷ ts) a =
       let others = running_fit f n a.1 ts a.4 in
-      omega (arith, f x a.0 t a.2, others, ap (span w.weight) (a.3).whole, span-append w.weight (a.3).front (w.elements a.1), (a.3).length_is)
+      omega (arith, f x a.0 t a.2, others, ap (items_len w.item_len) (a.3).whole, items_len-append w.item_len (a.3).front (w.elements a.1), (a.3).length_is)
 
   pub items_fit : ItemsFit w m
   items_fit f true limit x ts a = omega (arith, ap length a)
@@ -90,7 +90,7 @@ module _ {V O : Type 0} (view : View O) (IsOutput : V → O → Type 0) (pinned 
       let others = first_alike ts more vs us h.1 k.1 in
       (others.0, cc (pinned t v u h.0 k.0, others.1))
 
-module _ {I A V O E : Type 0} (w : Seen I A) (l : InputLaws w) (m : Meaning I V E) (view : View O) (Pins : Type 0) (IsOutput : V → O → Type 0) where
+module _ {I A V O E : Type 0} (w : Model I A) (l : InputLaws w) (m : Meaning I V E) (view : View O) (Pins : Type 0) (IsOutput : V → O → Type 0) where
   pub outputs_stay : IsSteady w m → (Pins → IsPinned view IsOutput) → OutputsStay w m view Pins IsOutput
   outputs_stay k pinned ended limit x y ts us vs vs' kx ky r a b h j p =
       let stay = items_stay w l m k ended limit x y ts us kx ky r a b in

@@ -1,7 +1,7 @@
 -- The items that a parser accepts one after another.
 use Rattle.std.specs.Prelude.{◌≡◌, ℕ, suc, zero, ◌<◌, ◌≤◌, Bool, true, false, List, [], ◌∷◌, ◌++◌, length, map}
 use Rattle.std.specs.List.{AllZip}
-use Rattle.nom_traits.specs.Input.{Seen, IsRest, Extends, IsSame, input_len}
+use Rattle.nom_traits.specs.Input.{Model, IsSuffixOf, Extends, IsSame, input_len}
 use Rattle.nom_traits.specs.View.{View}
 use Rattle.nom_internal.specs.Outcome.{Outcome}
 use Rattle.nom_internal.specs.Outcome.Outcome.{Accept, Refuse, Fail, TooLarge, Undecided}
@@ -15,20 +15,20 @@ Ends Fail = Unit {0}
 Ends TooLarge = Unit {0}
 Ends (Undecided k) = Unit {0}
 
-module _ {I A V : Type 0} (w : Seen I A) (Answers : I → Outcome V → Type 0) where
+module _ {I A V : Type 0} (w : Model I A) (Answers : I → Outcome V → Type 0) where
   -- The trees of the items from an input on, up to a limit: each of a piece that is accepted, and each begun where the one before
   -- ended, until something else than an acceptance is answered.
   abbrev pub AreItems : ℕ → I → List V → Type 0
   AreItems zero i ts = ts ≡ []
   AreItems (suc n) i [] = (o : Outcome V) × Answers i o × Ends o
-  AreItems (suc n) i (t ∷ ts) = (k : ℕ) × (j : I) × Answers i (Accept k t) × IsRest w i k j × AreItems n j ts
+  AreItems (suc n) i (t ∷ ts) = (k : ℕ) × (j : I) × Answers i (Accept k t) × IsSuffixOf w i k j × AreItems n j ts
 
   -- the trees of the items that can still be given, by whether they have ended
   abbrev pub CanGive : Bool → ℕ → I → List V → Type 0
   CanGive true limit i ts = ts ≡ []
   CanGive false limit i ts = AreItems limit i ts
 
-module _ {I A V E : Type 0} (w : Seen I A) (m : Meaning I V E) where
+module _ {I A V E : Type 0} (w : Model I A) (m : Meaning I V E) where
   -- the items that can be given on an input are a beginning of those on every input that extends it
   abbrev pub ItemsStay : Type 0
   ItemsStay =

@@ -7,7 +7,7 @@ use Rattle.nom_error.specs.Modes.{modes}
 use Rattle.nom_error.specs.declared.answer.Needed.{Needed}
 use Rattle.nom_error.specs.declared.answer.Err as Answer
 use Rattle.nom_error.specs.declared.answer.Err.TheVariants as Variant
-use Rattle.nom_traits.specs.Input.{Seen}
+use Rattle.nom_traits.specs.Input.{Model}
 use Rattle.nom_internal.specs.Outcome.{Outcome}
 use Rattle.nom_internal.specs.Outcome.Outcome.{Accept, Refuse, Fail, TooLarge, Undecided}
 use Rattle.nom_internal.specs.Meaning.{Meaning, ParsesMeaning}
@@ -27,7 +27,7 @@ Moves i (Err Variant.OutOfMemory) r j s = (r ≡ None) × (j ≡ i) × (s ≡ He
 abbrev pub Rests : {I O E : Type 0} → I → State E → Option O → I → State E → Type 0
 Rests i s r j t = (r ≡ None) × (j ≡ i) × (t ≡ s)
 
-module _ {I A V O E : Type 0} (w : Seen I A) (IsOutput : V → O → Type 0) (m : Meaning I V E) where
+module _ {I A V O E : Type 0} (w : Model I A) (IsOutput : V → O → Type 0) (m : Meaning I V E) where
   -- One `next` at the place i: while it runs, by what `parse` answers there; after it ended, nothing is given.
   abbrev pub Gives : I → State E → Option O → I → State E → Type 0
   Gives i Held.Running r j t = (q : Result (I × O) (Answer.Err E E Needed)) × ParsesMeaning w IsOutput m true i q × Moves i q r j t
@@ -68,7 +68,7 @@ module _ {I V E : Type 0} (m : Meaning I V E) (i : I) where
 
   -- the items end at i, since something else than an acceptance is answered there, or since memory runs out: then that is held
   abbrev pub EndsHolding : State E → Type 0
-  EndsHolding s = ((o : Outcome V) × m.answers true i o × HoldsEnd o s) ⊎ (m.runs_out (modes true true true) i × (s ≡ Held.OutOfMemory))
+  EndsHolding s = ((o : Outcome V) × m.answers true i o × HoldsEnd o s) ⊎ (m.may_run_out (modes true true true) i × (s ≡ Held.OutOfMemory))
 
   -- what `finish` answers where the items ended at i with an outcome
   abbrev pub Finishes : Outcome V → Result (I × Unit {0}) (Answer.Err E E Needed) → Type 0
@@ -80,10 +80,10 @@ module _ {I V E : Type 0} (m : Meaning I V E) (i : I) where
 
   -- and where they ended there
   abbrev pub FinishesThere : Result (I × Unit {0}) (Answer.Err E E Needed) → Type 0
-  FinishesThere r = ((o : Outcome V) × m.answers true i o × Finishes o r) ⊎ (m.runs_out (modes true true true) i × (r ≡ Err Variant.OutOfMemory))
+  FinishesThere r = ((o : Outcome V) × m.answers true i o × Finishes o r) ⊎ (m.may_run_out (modes true true true) i × (r ≡ Err Variant.OutOfMemory))
 
 -- iterators X, by the parser's state, the place reached and what is held
-module _ {X S I A V O E : Type 0} (w : Seen I A) (IsOutput : S → V → O → Type 0) (m : S → Meaning I V E) (state : X → S) (place : X → I)
+module _ {X S I A V O E : Type 0} (w : Model I A) (IsOutput : S → V → O → Type 0) (m : S → Meaning I V E) (state : X → S) (place : X → I)
     (held : X → State E) where
   abbrev pub Next : X → Option O → X → Type 0
   Next s r t = IsStep w (IsOutput (state s)) (m (state s)) (state s) (state t) (place s) (held s) r (place t) (held t)

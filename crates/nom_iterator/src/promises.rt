@@ -11,21 +11,21 @@ use nom_traits::input::Items;
 /// extends it, and where the parser pins, so are their outputs, as they are seen.
 pub fn items_stay<I: Items, P: StreamParser<I>>(_parser: &P)
     requires { (P.meaning (P.state _parser.now)).IsSound }
-    ensures items { ItemsStay I.seen (P.meaning (P.state _parser.now)) }
-    ensures outputs { OutputsStay I.seen (P.meaning (P.state _parser.now)) P.Output.view (P.Parser.Pins (P.state _parser.now))
+    ensures items { ItemsStay I.model (P.meaning (P.state _parser.now)) }
+    ensures outputs { OutputsStay I.model (P.meaning (P.state _parser.now)) P.Output.view (P.Parser.Pins (P.state _parser.now))
         (P.IsOutput (P.state _parser.now)) }
 {}
 
 /// The items that can be given on an input, up to any limit, are those on every input that is equal as models.
 pub fn items_are_one<I: Items, P: Parser<I>>(_parser: &P)
     requires { (P.meaning (P.state _parser.now)).IsSound }
-    ensures { ItemsAreOne I.seen (P.meaning (P.state _parser.now)) }
+    ensures { ItemsAreOne I.model (P.meaning (P.state _parser.now)) }
 {}
 
 /// Where each acceptance consumes something, no more items can be given than the input is long: so a limit
 /// of its length gives them all.
 pub fn items_fit<I: Items, P: Parser<I>>(_parser: &P)
-    ensures { ItemsFit I.seen (P.meaning (P.state _parser.now)) }
+    ensures { ItemsFit I.model (P.meaning (P.state _parser.now)) }
 {}
 
 /// What calls of `next` give are the outputs of items, each begun where the one before ended. Of an iterator that
@@ -35,9 +35,9 @@ pub fn gives_items<I: Items, E: ParseError<I>, F: Parser<I, Error = E> + Drop>(
     _iterator: &ParserIterator<I, E, F>,
 )
     requires { (F.meaning (F.state _iterator.now.parser)).IsSound }
-    ensures items { GivesItems I.seen F.IsOutput F.meaning (λ s. F.state s.parser) (λ s. s.input) (λ s. s.state) _iterator.now }
-    ensures ends { EndsThere I.seen F.IsOutput F.meaning (λ s. F.state s.parser) (λ s. s.input) (λ s. s.state) _iterator.now }
-    ensures stays { StaysEnded I.seen F.IsOutput F.meaning (λ s. F.state s.parser) (λ s. s.input) (λ s. s.state) _iterator.now }
+    ensures items { GivesItems I.model F.IsOutput F.meaning (λ s. F.state s.parser) (λ s. s.input) (λ s. s.state) _iterator.now }
+    ensures ends { EndsThere I.model F.IsOutput F.meaning (λ s. F.state s.parser) (λ s. s.input) (λ s. s.state) _iterator.now }
+    ensures stays { StaysEnded I.model F.IsOutput F.meaning (λ s. F.state s.parser) (λ s. s.input) (λ s. s.state) _iterator.now }
 {}
 
 /// Of an iterator that runs: as long as items are given, `finish` answers the place that is reached. After a call that
@@ -47,5 +47,5 @@ pub fn finishes_so<I: Items, E: ParseError<I>, F: Parser<I, Error = E> + Drop>(
     _iterator: &ParserIterator<I, E, F>,
 )
     requires { (F.meaning (F.state _iterator.now.parser)).IsSound }
-    ensures { FinishesSo I.seen F.IsOutput F.meaning (λ s. F.state s.parser) (λ s. s.input) (λ s. s.state) _iterator.now }
+    ensures { FinishesSo I.model F.IsOutput F.meaning (λ s. F.state s.parser) (λ s. s.input) (λ s. s.state) _iterator.now }
 {}

@@ -1,4 +1,4 @@
-//! `nom_json_answers FILE ..`: replays JSON texts that stand in files, and tells where `nom_json` answers otherwise.
+//! `nom_json_answers FILE ..`: replays JSON texts that stand in files, and tells where `example_json` answers otherwise.
 //!
 //! Each line is a text and what the grammar of JSON makes of it, as it was written down by hand. There are two columns:
 //!
@@ -23,11 +23,11 @@
 //! It prints and ends as `nom_answers` does.
 #![tactic(auto)]
 
+use example_json::{Json, decoded, integer, json_text};
 use nom::Err;
 use nom_answer_lines::answer::Answer;
 use nom_answer_lines::literal::{Literal, literal_of};
 use nom_answer_lines::replay::{Verdict, replay_all};
-use nom_json::{Json, decoded, integer, json_text};
 use std::alloc::Global;
 use std::borrow::CowStr;
 use std::process::ExitCode;

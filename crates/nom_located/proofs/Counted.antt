@@ -3,9 +3,9 @@ use Rattle.std.specs.Prelude.{◌≡◌, ℕ, ◌+◌, Bool, true, false, cond, 
 use Rattle.std.proofs.Common.{arith, sym, ◌∙◌, ap, subst, append_assoc}
 use Rattle.std.proofs.Math.Seq.{take-append_seam}
 use Rattle.std.proofs.lemmas.List.Sums.{sum_by-cons}
-use Rattle.nom_traits.specs.Input.{Seen, IsRest}
+use Rattle.nom_traits.specs.Input.{Model, IsSuffixOf}
 use Rattle.nom_search.specs.Reads.{read_all, ReadsBytes}
-use Rattle.nom_located.specs.Located.{Place, step, past_bytes, IsAfter, line_ends, seen_located}
+use Rattle.nom_located.specs.Located.{Place, step, past_bytes, IsAfter, line_ends, located_model}
 use Rattle.nom_located.specs.LocatedLaws.{length_read, moved_read, past_append, past_offset}
 
 more_ends : (b : ℕ) (bs : List ℕ) → line_ends (b ∷ bs) ≡ cond (nat_eq b 10) 1 0 + line_ends bs
@@ -44,10 +44,10 @@ read_append : {A : Type 0} (read : A → List ℕ) (xs ys : List A) → read_all
 read_append read [] ys = refl
 read_append read (x ∷ xs) ys = ap (λ l. read x ++ l) (read_append read xs ys) ∙ sym (append_assoc (read x) (read_all read xs) (read_all read ys))
 
-module _ {I A : Type 0} (w : Seen I A) (read : A → List ℕ) {bytes : I → List ℕ} (reads : ReadsBytes w bytes read) {S : Type 0} (fragment : S → I)
+module _ {I A : Type 0} (w : Model I A) (read : A → List ℕ) {bytes : I → List ℕ} (reads : ReadsBytes w bytes read) {S : Type 0} (fragment : S → I)
     (at : S → Place) where
   -- the bytes of the items before a rest are the first bytes of the whole
-  bytes_before : (x y : S) (n : ℕ) → w.IsKnown (fragment x) → (q : IsRest (seen_located fragment at read w) x n y) →
+  bytes_before : (x y : S) (n : ℕ) → w.IsKnown (fragment x) → (q : IsSuffixOf (located_model fragment at read w) x n y) →
       read_all read q.front ≡ take n (bytes (fragment x))
   bytes_before x y n h q =
       let whole : bytes (fragment x) ≡ read_all read q.front ++ read_all read (w.elements (fragment y)) = reads.whole (fragment x) h
@@ -56,7 +56,7 @@ module _ {I A : Type 0} (w : Seen I A) (read : A → List ℕ) {bytes : I → Li
       sym (ap (take n) whole ∙ (ap (λ k. take k (read_all read q.front ++ read_all read (w.elements (fragment y)))) size
       ∙ take-append_seam (read_all read q.front) (read_all read (w.elements (fragment y)))))
 
-  pub rest_after : (x y : S) (n : ℕ) → w.IsKnown (fragment x) → IsRest (seen_located fragment at read w) x n y →
+  pub rest_after : (x y : S) (n : ℕ) → w.IsKnown (fragment x) → IsSuffixOf (located_model fragment at read w) x n y →
       IsAfter (at x) (take n (bytes (fragment x))) (at y)
   rest_after x y n h q =
       let bs = bytes_before x y n h q in

@@ -1,7 +1,7 @@
 -- An input that knows where it lies: how far from the start in bytes, in which line, and where in that line.
 use Rattle.std.specs.Prelude.{◌≡◌, ℕ, ◌+◌, ◌<◌, ◌≤◌, ◌^◌, Bool, true, false, nat_eq, List, [], ◌∷◌, ◌++◌, length, count_by}
-use Rattle.nom_traits.specs.Input.{Seen}
-use Rattle.nom_located.specs.Moving.{Moving, seen_moving}
+use Rattle.nom_traits.specs.Input.{Model}
+use Rattle.nom_located.specs.Moving.{Moving, moving_model}
 
 -- how many bytes stand before it; its line, and its place in that line in bytes, both from 1 on
 pub record Place : Type 0 where
@@ -35,8 +35,8 @@ module _ {S I A : Type 0} (fragment : S → I) (at : S → Place) (read : A → 
   abbrev pub located : Moving S I A
   located = record { held = fragment; Mark = Place; mark = at; step = λ p a. past_bytes p (read a); Fits = Fits }
 
-  abbrev pub seen_located : Seen I A → Seen S A
-  seen_located w = seen_moving located w
+  abbrev pub located_model : Model I A → Model S A
+  located_model w = moving_model located w
 
 -- how many of the bytes end a line
 abbrev pub line_ends : List ℕ → ℕ

@@ -1,11 +1,11 @@
 -- The laws of places.
 use Rattle.std.specs.Prelude.{◌≡◌, ℕ, ◌+◌, ◌≤◌, Bool, true, false, nat_eq, List, [], ◌∷◌, ◌++◌, length, refl}
 use Rattle.std.proofs.Common.{arith, sym, ◌∙◌, ap, subst, length-append}
-use Rattle.nom_traits.specs.Input.{Seen, InputLaws, span, IsFront, IsRest}
+use Rattle.nom_traits.specs.Input.{Model, InputLaws, items_len, IsPrefixOf, IsSuffixOf}
 use Rattle.nom_traits.specs.Rests.{same_cut}
 use Rattle.nom_search.specs.Reads.{read_all, ReadsBytes}
 use Rattle.nom_located.specs.Moving.{Fitting, moved}
-use Rattle.nom_located.specs.Located.{Place, place, step, past_bytes, Fits, located, seen_located}
+use Rattle.nom_located.specs.Located.{Place, place, step, past_bytes, Fits, located, located_model}
 
 pub past_append : (p : Place) (xs ys : List ℕ) → past_bytes p (xs ++ ys) ≡ past_bytes (past_bytes p xs) ys
 past_append p [] ys = refl
@@ -56,29 +56,29 @@ fewer_fits p n k le h = record {
   column_to = h.column_to;
 }
 
-module _ {I A : Type 0} (w : Seen I A) (read : A → List ℕ) {bytes : I → List ℕ} (reads : ReadsBytes w bytes read) where
-  pub located_fitting : Fitting w.weight (λ p a. past_bytes p (read a)) Fits
+module _ {I A : Type 0} (w : Model I A) (read : A → List ℕ) {bytes : I → List ℕ} (reads : ReadsBytes w bytes read) where
+  pub located_fitting : Fitting w.item_len (λ p a. past_bytes p (read a)) Fits
   located_fitting = record {
-    after_item = λ p a n h. past_fits p (read a) n (w.weight a + n) (ap (λ k. k + n) (sym (reads.size a))) h;
+    after_item = λ p a n h. past_fits p (read a) n (w.item_len a + n) (ap (λ k. k + n) (sym (reads.size a))) h;
     before_less = fewer_fits;
   }
 
-  pub length_read : (xs : List A) → length (read_all read xs) ≡ span w.weight xs
+  pub length_read : (xs : List A) → length (read_all read xs) ≡ items_len w.item_len xs
   length_read [] = refl
   length_read (x ∷ xs) = omega (arith, length-append (read x) (read_all read xs), reads.size x, length_read xs)
 
   module _ {S : Type 0} (fragment : S → I) (at : S → Place) where
     -- the place after the bytes of a front
-    pub place_after : InputLaws w → (x : S) (n : ℕ) (f j : I) (bs : List ℕ) (line column : ℕ) → IsFront w (fragment x) n f →
-        (q : IsRest w (fragment x) n j) → bs ≡ bytes f → place ((at x).offset + length bs) line column ≡ past_bytes (at x) bs →
+    pub place_after : InputLaws w → (x : S) (n : ℕ) (f j : I) (bs : List ℕ) (line column : ℕ) → IsPrefixOf w (fragment x) n f →
+        (q : IsSuffixOf w (fragment x) n j) → bs ≡ bytes f → place ((at x).offset + length bs) line column ≡ past_bytes (at x) bs →
         place ((at x).offset + n) line column ≡ moved (located fragment at read).step (at x) q.front
     place_after l x n f j bs line column p q b e =
-        let cut = same_cut w.weight l.positive (w.elements f) p.rest q.front (w.elements j) (sym p.whole ∙ q.whole) (p.length_is ∙ sym q.length_is) in
+        let cut = same_cut w.item_len l.positive (w.elements f) p.rest q.front (w.elements j) (sym p.whole ∙ q.whole) (p.length_is ∙ sym q.length_is) in
         let read_is : bs ≡ read_all read q.front = b ∙ (reads.whole f p.known ∙ ap (read_all read) cut.0) in
         let size : n ≡ length bs = sym q.length_is ∙ (sym (length_read q.front) ∙ ap length (sym read_is)) in
         ap (λ k. place ((at x).offset + k) line column) size ∙ (e ∙ (ap (past_bytes (at x)) read_is ∙ sym (moved_read read (at x) q.front)))
 
     -- how far a rest lies from an input is the length of what stands before it
-    pub rest_offset : (x y : S) (n : ℕ) → IsRest (seen_located fragment at read w) x n y → (at y).offset ≡ (at x).offset + n
+    pub rest_offset : (x y : S) (n : ℕ) → IsSuffixOf (located_model fragment at read w) x n y → (at y).offset ≡ (at x).offset + n
     rest_offset x y n p = ap (λ m. (m.0).offset) p.mark_is ∙ (ap (λ q. q.offset) (moved_read read (at x) p.front)
         ∙ omega (arith, past_offset (at x) (read_all read p.front), length_read p.front, p.length_is))

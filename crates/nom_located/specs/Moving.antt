@@ -1,7 +1,7 @@
 -- Inputs that hold another input, and a mark of their own that each item moves: a line and a column, or how many items were passed. They
 -- are seen as what they hold, with that as a part of the mark.
 use Rattle.std.specs.Prelude.{ℕ, ◌+◌, ◌≤◌, List, [], ◌∷◌}
-use Rattle.nom_traits.specs.Input.{Seen, input_len}
+use Rattle.nom_traits.specs.Input.{Model, input_len}
 use Rattle.nom_traits.specs.View.{View}
 
 -- what such a value holds, its own mark, and how an item moves that
@@ -19,19 +19,19 @@ moved step m [] = m
 moved step m (x ∷ xs) = moved step (step m x) xs
 
 -- a mark that fits goes on to fit, after an item, and before less
-pub record Fitting {M A : Type 0} (weight : A → ℕ) (step : M → A → M) (Fits : M → ℕ → Type 0) : Type 0 where
-  pub after_item : (m : M) (a : A) (n : ℕ) → Fits m (weight a + n) → Fits (step m a) n
+pub record Fitting {M A : Type 0} (item_len : A → ℕ) (step : M → A → M) (Fits : M → ℕ → Type 0) : Type 0 where
+  pub after_item : (m : M) (a : A) (n : ℕ) → Fits m (item_len a + n) → Fits (step m a) n
   pub before_less : (m : M) (n k : ℕ) → k ≤ n → Fits m n → Fits m k
 
 -- for marks that always fit
 abbrev pub always : {M : Type 0} → M → ℕ → Type 0
 always _ _ = Unit {0}
 
-module _ {S I A : Type 0} (m : Moving S I A) (w : Seen I A) where
-  abbrev pub seen_moving : Seen S A
-  seen_moving = record {
+module _ {S I A : Type 0} (m : Moving S I A) (w : Model I A) where
+  abbrev pub moving_model : Model S A
+  moving_model = record {
     elements = λ x. w.elements (m.held x);
-    weight = w.weight;
+    item_len = w.item_len;
     Mark = m.Mark × w.Mark;
     mark = λ x. (m.mark x, w.mark (m.held x));
     mark_after = λ k xs. (moved m.step k.0 xs, w.mark_after k.1 xs);

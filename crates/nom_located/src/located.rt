@@ -5,12 +5,12 @@ ghost use Rattle.std.proofs.Common.{ap};
 ghost use Rattle.memchr.specs.Find.{IsFirst, Passes, is_byte};
 ghost use Rattle.nom_traits.specs.Input.{input_len};
 ghost use Rattle.nom_located.specs.Moving.{moving_view};
-ghost use Rattle.nom_located.specs.MovingLaws.{moving_comparing, moving_finding, moving_lawful, moving_reads, moving_tells, moving_views};
-ghost use Rattle.nom_located.specs.Located.{Fits, located, place, past_bytes, seen_located};
+ghost use Rattle.nom_located.specs.MovingLaws.{moving_comparing, moving_finding, moving_lawful, moving_reads, moving_injective, moving_views};
+ghost use Rattle.nom_located.specs.Located.{Fits, located, place, past_bytes, located_model};
 
 use memchr::memchr;
-use nom_convert::parse::ParseTo;
 use nom_error::answer::{Needed, OutOfMemory};
+use nom_parse_to::parse::ParseTo;
 use nom_search::bytes::{AsBytes, ByteItems};
 use nom_search::extend::ExtendInto;
 use nom_search::substring::FindSubstring;
@@ -31,7 +31,7 @@ pub struct Located<I: Items> {
     offset: usize,
     line: usize,
     column: usize,
-    ghost fits: { Fits (place offset line column) (input_len I.seen fragment) },
+    ghost fits: { Fits (place offset line column) (input_len I.model fragment) },
 }
 
 impl<I: Items> Copy for Located<I> {}
@@ -65,13 +65,13 @@ impl<I: Input + ByteItems> Viewed for Located<I> {
 impl<I: Input + ByteItems> Items for Located<I> {
     type Item = I::Item;
 
-    ghost seen = { seen_located (λ x. x.fragment) (λ x. place x.offset x.line x.column) I.read I.seen };
+    ghost model = { located_model (λ x. x.fragment) (λ x. place x.offset x.line x.column) I.read I.model };
 
-    fn known(self) {
-        self.fragment.known();
+    fn prove_known(self) {
+        self.fragment.prove_known();
     }
 
-    ghost lawful = { moving_lawful (located (λ x. x.fragment) (λ x. place x.offset x.line x.column) I.read) I.seen I.lawful };
+    ghost lawful = { moving_lawful (located (λ x. x.fragment) (λ x. place x.offset x.line x.column) I.read) I.model I.lawful };
 
     ghost values = { λ x h. I.values x.fragment h.0 };
 }
@@ -90,7 +90,7 @@ impl<I: Input + ByteItems> Input for Located<I> {
 
     #[inline(always)]
     fn take(&self, index: usize) -> Self {
-        self.fragment.known();
+        self.fragment.prove_known();
         let fragment = self.fragment.take(index);
         Located {
             fragment,
@@ -102,7 +102,7 @@ impl<I: Input + ByteItems> Input for Located<I> {
 
     #[inline]
     fn take_from(&self, index: usize) -> Self {
-        self.fragment.known();
+        self.fragment.prove_known();
         let front = self.fragment.take(index);
         let fragment = self.fragment.take_from(index);
         let (line, column) = line_after(front.as_bytes(), self.offset, self.line, self.column);
@@ -140,9 +140,9 @@ impl<I: Input + ByteItems> Input for Located<I> {
 
     ghost more = { I.more };
 
-    ghost views = { moving_views (located (λ x. x.fragment) (λ x. place x.offset x.line x.column) I.read) I.seen I.view I.views };
+    ghost views = { moving_views (located (λ x. x.fragment) (λ x. place x.offset x.line x.column) I.read) I.model I.view I.views };
 
-    ghost tells = { moving_tells (located (λ x. x.fragment) (λ x. place x.offset x.line x.column) I.read) I.seen I.view I.tells };
+    ghost view_injective = { moving_injective (located (λ x. x.fragment) (λ x. place x.offset x.line x.column) I.read) I.model I.view I.tells };
 }
 
 /// Line and column after bytes, from those before them.
@@ -181,7 +181,7 @@ impl<I: Input + ByteItems> Located<I> {
     pub fn new(fragment: I) -> Located<I>
         ensures { (result.fragment ≡ fragment) × (result.offset ≡ 0) × (result.line ≡ 1) × (result.column ≡ 1) }
     {
-        fragment.known();
+        fragment.prove_known();
         let _length = fragment.as_bytes().len();
         Located {
             fragment,
@@ -236,7 +236,7 @@ impl<I: Input + ByteItems> AsBytes for Located<I> {
 impl<I: Input + ByteItems> ByteItems for Located<I> {
     ghost read = { I.read };
 
-    ghost reading = { moving_reads (located (λ x. x.fragment) (λ x. place x.offset x.line x.column) I.read) I.seen I.reading };
+    ghost reading = { moving_reads (located (λ x. x.fragment) (λ x. place x.offset x.line x.column) I.read) I.model I.reading };
 }
 
 impl<I: Input + ByteItems> Offset for Located<I> {
@@ -249,7 +249,7 @@ impl<I: Input + ByteItems> Offset for Located<I> {
 impl<T, I: Input + ByteItems + Compare<T>> Compare<T> for Located<I> {
     ghost Tag = { I.Tag };
 
-    ghost tag_seen = { I.tag_seen };
+    ghost tag_model = { I.tag_model };
 
     ghost tag_size = { I.tag_size };
 
@@ -272,15 +272,15 @@ impl<T, I: Input + ByteItems + Compare<T>> Compare<T> for Located<I> {
         self.fragment.compare_no_case(tag)
     }
 
-    ghost comparing = { moving_comparing (located (λ x. x.fragment) (λ x. place x.offset x.line x.column) I.read) I.seen I.comparing };
+    ghost comparing = { moving_comparing (located (λ x. x.fragment) (λ x. place x.offset x.line x.column) I.read) I.model I.comparing };
 
-    ghost comparing_no_case = { moving_comparing (located (λ x. x.fragment) (λ x. place x.offset x.line x.column) I.read) I.seen I.comparing_no_case };
+    ghost comparing_no_case = { moving_comparing (located (λ x. x.fragment) (λ x. place x.offset x.line x.column) I.read) I.model I.comparing_no_case };
 }
 
 impl<T, I: Input + ByteItems + FindSubstring<T>> FindSubstring<T> for Located<I> {
     ghost Needle = { I.Needle };
 
-    ghost needle_seen = { I.needle_seen };
+    ghost needle_model = { I.needle_model };
 
     ghost finds = { I.finds };
 
@@ -289,7 +289,7 @@ impl<T, I: Input + ByteItems + FindSubstring<T>> FindSubstring<T> for Located<I>
         self.fragment.find_substring(substr)
     }
 
-    ghost finding = { moving_finding (located (λ x. x.fragment) (λ x. place x.offset x.line x.column) I.read) I.seen I.finding };
+    ghost finding = { moving_finding (located (λ x. x.fragment) (λ x. place x.offset x.line x.column) I.read) I.model I.finding };
 }
 
 impl<R, I: Input + ByteItems + ParseTo<R>> ParseTo<R> for Located<I> {

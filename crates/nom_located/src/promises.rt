@@ -1,7 +1,7 @@
 //! What the place of an input promises. These functions do nothing: their contracts are the promises.
 ghost use Rattle.std.specs.Prelude.{◌≡◌, take};
-ghost use Rattle.nom_traits.specs.Input.{IsFront, IsRest};
-ghost use Rattle.nom_located.specs.Located.{IsAfter, place, seen_located};
+ghost use Rattle.nom_traits.specs.Input.{IsPrefixOf, IsSuffixOf};
+ghost use Rattle.nom_located.specs.Located.{IsAfter, place, located_model};
 
 use crate::located::Located;
 use nom_search::bytes::ByteItems;
@@ -11,14 +11,14 @@ use nom_traits::input::{Input, Items};
 /// them that are 10. Its column is 1 and the number of bytes after the last such; where there is none, it is the
 /// column before and the number of all.
 pub fn stands_after<I: Input + ByteItems>(input: Located<I>, _length: usize, _rest: Located<I>)
-    requires { IsRest (seen_located (λ x. x.fragment) (λ x. place x.offset x.line x.column) I.read I.seen) input _length _rest }
+    requires { IsSuffixOf (located_model (λ x. x.fragment) (λ x. place x.offset x.line x.column) I.read I.model) input _length _rest }
     ensures { IsAfter (place input.offset input.line input.column) (take _length (I.bytes input.fragment)) (place _rest.offset _rest.line _rest.column) }
 {
-    input.known();
+    input.prove_known();
 }
 
 /// A front stands where the whole does.
 pub fn stands_there<I: Input + ByteItems>(_input: Located<I>, _length: usize, _front: Located<I>)
-    requires { IsFront (seen_located (λ x. x.fragment) (λ x. place x.offset x.line x.column) I.read I.seen) _input _length _front }
+    requires { IsPrefixOf (located_model (λ x. x.fragment) (λ x. place x.offset x.line x.column) I.read I.model) _input _length _front }
     ensures { place _front.offset _front.line _front.column ≡ place _input.offset _input.line _input.column }
 {}

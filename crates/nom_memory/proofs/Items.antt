@@ -4,7 +4,7 @@ use Rattle.std.specs.Prelude.{ltb}
 use Rattle.nom_error.specs.Errors.{Errors}
 use Rattle.nom_error.specs.Modes.{Modes, modes}
 use Rattle.nom_error.specs.declared.kind.ErrorKind.{ErrorKind}
-use Rattle.nom_traits.specs.Input.{Seen}
+use Rattle.nom_traits.specs.Input.{Model}
 use Rattle.nom_internal.specs.Outcome.{Outcome}
 use Rattle.nom_internal.specs.Outcome.Outcome.{Accept, Refuse, Fail, TooLarge, Undecided}
 use Rattle.nom_internal.specs.Meaning.{Meaning, IsLawful}
@@ -35,24 +35,24 @@ module _ {I V : Type 0} (b : Limits) (Item : I → Outcome V → Type 0) where
   pub taken_accepted : (k : ℕ) (i : I) (a : ℕ) (v : V) → TurnsBy b.most (item_turn b) (λ _. Item) k i (Takes a v) → IsAccepted Item i
   taken_accepted k i a v t = taken_by k i a v t.reply t.replied t.fact
 
-module _ {I A V E : Type 0} (w : Seen I A) (errs : Errors I E) (b : Limits) (Grows : Type 0) (m : Meaning I V E) (lawful : IsLawful w m)
+module _ {I A V E : Type 0} (w : Model I A) (errs : Errors I E) (b : Limits) (Grows : Type 0) (m : Meaning I V E) (lawful : IsLawful w m)
     (frugal : AlwaysFrugal m) (no : errs.grows → ⊥) (mode : Modes) where
   abbrev Refused : Type 0
   Refused = (mode.errors ≡ true) × errs.grows
 
-  abbrev Kept : Type 0
-  Kept = (mode.outputs ≡ true) × Grows
+  abbrev Accumulated : Type 0
+  Accumulated = (mode.outputs ≡ true) × Grows
 
   abbrev Asked : ℕ → I → Type 0
-  Asked k j = OnReply b.most (λ _. m.answers mode.streaming) (ItemAsks b Refused Kept k) k j ⊎
-      (IsBelow b.most k × m.runs_out (modes mode.outputs (item_errors b.too_few mode.errors) mode.streaming) j)
+  Asked k j = OnReply b.most (λ _. m.answers mode.streaming) (ItemAsks b Refused Accumulated k) k j ⊎
+      (IsBelow b.most k × m.may_run_out (modes mode.outputs (item_errors b.too_few mode.errors) mode.streaming) j)
 
-  empty_kept : (kind : Option ErrorKind) → EmptyAsks kind Refused Kept → Kept
+  empty_kept : (kind : Option ErrorKind) → EmptyAsks kind Refused Accumulated → Accumulated
   empty_kept (Some k) h = absurd (no h.1)
   empty_kept None h = h
 
-  asked_by : (k : ℕ) (j : I) (reply : Option (Outcome V)) → Replies b.most (λ _. m.answers mode.streaming) k j reply → ItemAsks b Refused Kept k reply →
-      Kept × IsAccepted (m.answers mode.streaming) j
+  asked_by : (k : ℕ) (j : I) (reply : Option (Outcome V)) → Replies b.most (λ _. m.answers mode.streaming) k j reply → ItemAsks b Refused Accumulated k reply →
+      Accumulated × IsAccepted (m.answers mode.streaming) j
   asked_by k j (Some (Accept zero v)) h q = (empty_kept b.empty q, (0, v, h.1))
   asked_by k j (Some (Accept (suc n) v)) h q = (q, (suc n, v, h.1))
   asked_by k j (Some Refuse) h q = absurd (no q.2.1)
@@ -61,22 +61,22 @@ module _ {I A V E : Type 0} (w : Seen I A) (errs : Errors I E) (b : Limits) (Gro
   asked_by k j (Some (Undecided d)) h q = absurd q
   asked_by k j None h q = absurd q
 
-  asked : (k : ℕ) (j : I) → w.IsKnown j → Asked k j → Kept × IsAccepted (m.answers mode.streaming) j
+  asked : (k : ℕ) (j : I) → w.IsKnown j → Asked k j → Accumulated × IsAccepted (m.answers mode.streaming) j
   asked k j h (inl r) = asked_by k j r.reply r.replied r.fact
   asked k j h (inr r) = absurd (lawful.frugal (modes mode.outputs (item_errors b.too_few mode.errors) mode.streaming) j h
       (frugal (modes mode.outputs (item_errors b.too_few mode.errors) mode.streaming)) r.1)
 
   walked : (k : ℕ) (i : I) (vs : List V) (n : ℕ) → w.IsKnown i → Pieces w (TurnsBy b.most (item_turn b) (λ _. m.answers mode.streaming)) Asked k i vs n
-      → Kept × IsAccepted (m.answers mode.streaming) i
+      → Accumulated × IsAccepted (m.answers mode.streaming) i
   walked k i [] n h p = asked k i h p.1
   walked k i (v ∷ vs) n h p = ((walked (k + 1) p.2 vs p.1 p.4.known p.5).0, taken_accepted b (m.answers mode.streaming) k i p.0 v p.3)
 
   -- items run out of memory only to keep one, and then the first is accepted
-  pub items_grow : (i : I) → w.IsKnown i → (items_meaning w errs b Grows m).runs_out mode i → Kept × IsAccepted (m.answers mode.streaming) i
+  pub items_grow : (i : I) → w.IsKnown i → (items_meaning w errs b Grows m).may_run_out mode i → Accumulated × IsAccepted (m.answers mode.streaming) i
   items_grow i h r = walked 0 i r.trees r.taken h r.pieces
 
 -- What is accepted where items are.
-module _ {I A V E : Type 0} (w : Seen I A) (errs : Errors I E) (b : Limits) (Grows : Type 0) (m : Meaning I V E) (s : Bool) (i : I) where
+module _ {I A V E : Type 0} (w : Model I A) (errs : Errors I E) (b : Limits) (Grows : Type 0) (m : Meaning I V E) (s : Bool) (i : I) where
   no_items : (n : ℕ) (v : V) (us : List V) (taken : ℕ) (ending : Outcome (Unit {0})) → Accept n (v ∷ us) ≡ after taken (λ _. []) ending → ⊥
   no_items n v us taken (Accept k t) e = absurd (cc (e))
   no_items n v us taken Refuse e = absurd (cc (e))
@@ -94,7 +94,7 @@ module _ {I A V E : Type 0} (w : Seen I A) (errs : Errors I E) (b : Limits) (Gro
   pub some_accepted : (n : ℕ) (v : V) (us : List V) → (items_meaning w errs b Grows m).answers s i (Accept n (v ∷ us)) → IsAccepted (m.answers s) i
   some_accepted n v us r = some_by n v us r.trees r.taken r.ending r.pieces r.outcome_is
 
-module _ {I A V E : Type 0} (w : Seen I A) (errs : Errors I E) (few : TooFew) (at_start : Bool) (Grows : Type 0) (m : Meaning I V E) (s : Bool) (i : I) where
+module _ {I A V E : Type 0} (w : Model I A) (errs : Errors I E) (few : TooFew) (at_start : Bool) (Grows : Type 0) (m : Meaning I V E) (s : Bool) (i : I) where
   not_ended : {T : Type 0} (n : ℕ) (vs : T) (taken : ℕ) (tree : Unit {0} → T) (ending other : Outcome (Unit {0})) → ending ≡ other →
       (Accept n vs ≡ after taken tree other → ⊥) → Accept n vs ≡ after taken tree ending → ⊥
   not_ended {T} n vs taken tree ending other same never e = never (subst (λ z. ◌≡◌ {A = Outcome T} (Accept n vs) (after taken tree z)) same e)

@@ -4,7 +4,7 @@ use Rattle.nom_error.specs.Errors.{Errors}
 use Rattle.nom_error.specs.Modes.{Modes, with_outputs}
 use Rattle.nom_error.specs.declared.kind.ErrorKind.{ErrorKind}
 use Rattle.nom_error.specs.declared.kind.ErrorKind.TheVariants as Kind
-use Rattle.nom_traits.specs.Input.{Seen, InputLaws}
+use Rattle.nom_traits.specs.Input.{Model, InputLaws}
 use Rattle.nom_internal.specs.Meaning.{Meaning, IsLawful}
 use Rattle.nom_internal.specs.Sequence.ThenRunsOut.{RunsOutFirst, RunsOutNext}
 use Rattle.nom_internal.specs.SequenceLaws.{sequence_lawful}
@@ -16,16 +16,16 @@ use Rattle.nom_repeat.specs.declared.items.TooFew.TheVariants.{Added, Passed}
 use Rattle.nom_sequence.specs.Sequences.{preceded_meaning}
 use Rattle.nom_multi.specs.Bounded.{count_meaning, many_m_n_meaning}
 use Rattle.nom_multi.specs.Many.{many0_meaning, many1_meaning}
-use Rattle.nom_separated.specs.Separated.{further_meaning, optional_limits, follows, separated0_meaning, separated1_meaning}
-use Rattle.nom_folds.specs.Ranges.{range_limits, range_meaning}
-use Rattle.nom_lengths.specs.Lengths.{length_count_meaning}
+use Rattle.nom_multi_separated.specs.Separated.{further_meaning, optional_limits, follows, separated0_meaning, separated1_meaning}
+use Rattle.nom_multi_fold.specs.Ranges.{range_limits, range_meaning}
+use Rattle.nom_multi_length.specs.Lengths.{length_count_meaning}
 use Rattle.std.specs.Prelude.{ltb}
 use Rattle.std.specs.declared.ops.Bound.{Bound}
 use Rattle.nom_internal.specs.Outcome.Outcome.{Accept}
 use Rattle.nom_memory.specs.Growths.{AlwaysFrugal, IsAccepted, GrowsByItems, GrowsBySeparated, GrowsByCounted}
 use Rattle.nom_memory.proofs.Items.{items_grow, some_accepted, one_accepted}
 
-module _ {I A V E : Type 0} (w : Seen I A) (errs : Errors I E) (m : Meaning I V E) (lawful : IsLawful w m) where
+module _ {I A V E : Type 0} (w : Model I A) (errs : Errors I E) (m : Meaning I V E) (lawful : IsLawful w m) where
   limited_grow : (b : Limits) → GrowsByItems w errs m (items_meaning w errs b (Unit {0}) m)
   limited_grow b frugal none mode i h r =
       let k = items_grow w errs b (Unit {0}) m lawful frugal none mode i h r in (k.0.0, k.1)
@@ -48,7 +48,7 @@ module _ {I A V E : Type 0} (w : Seen I A) (errs : Errors I E) (m : Meaning I V 
   pub many_m_n_grow : (least most : ℕ) → GrowsByItems w errs m (many_m_n_meaning w errs least most m)
   many_m_n_grow least most frugal none mode i h r = by (ltb most least) r
     where
-      by : (test : Bool) → Either test (Unit {0} × errs.grows) ((items_meaning w errs (bounded_limits Kind.ManyMN least most) (Unit {0}) m).runs_out
+      by : (test : Bool) → Either test (Unit {0} × errs.grows) ((items_meaning w errs (bounded_limits Kind.ManyMN least most) (Unit {0}) m).may_run_out
           mode i) → (mode.outputs ≡ true) × IsAccepted (m.answers mode.streaming) i
       by true q = absurd (none q.1)
       by false q = limited_grow (bounded_limits Kind.ManyMN least most) frugal none mode i h q
@@ -67,10 +67,10 @@ module _ {I A V E : Type 0} (w : Seen I A) (errs : Errors I E) (m : Meaning I V 
       let k = limited_grow (exact_limits r.fact.value) frugal.1 none mode r.rest r.rest_is.known r.fact.fact in
       (k.0, record { length = r.length; tree = r.tree; rest = r.rest; accepted = r.accepted; rest_is = r.rest_is; fact = k.1 })
 
-module _ {I A P V E : Type 0} (w : Seen I A) (l : InputLaws w) (errs : Errors I E) (separator : Meaning I P E) (m : Meaning I V E)
+module _ {I A P V E : Type 0} (w : Model I A) (l : InputLaws w) (errs : Errors I E) (separator : Meaning I P E) (m : Meaning I V E)
     (separates : IsLawful w separator) (lawful : IsLawful w m) where
   further_grow : AlwaysFrugal separator × AlwaysFrugal m → (errs.grows → ⊥) → (mode : Modes) (j : I) → w.IsKnown j →
-      (further_meaning w errs separator m).runs_out mode j → mode.outputs ≡ true
+      (further_meaning w errs separator m).may_run_out mode j → mode.outputs ≡ true
   further_grow frugal none mode j h r =
       let part = sequence_lawful w l (λ u v. v) (with_outputs false) (λ o. o) separator m separates lawful in
       (items_grow w errs (any_limits Kind.SeparatedList) (Unit {0}) (preceded_meaning w separator m) part
@@ -88,7 +88,7 @@ module _ {I A P V E : Type 0} (w : Seen I A) (l : InputLaws w) (errs : Errors I 
   separated0_grow frugal none mode i h (RunsOutNext r) = by r.tree r.accepted r.fact
     where
       by : (vs : List V) → (items_meaning w errs optional_limits (Unit {0}) m).answers mode.streaming i (Accept r.length vs) →
-          (follows w errs separator m vs).runs_out mode r.rest → (mode.outputs ≡ true) × IsAccepted (m.answers mode.streaming) i
+          (follows w errs separator m vs).may_run_out mode r.rest → (mode.outputs ≡ true) × IsAccepted (m.answers mode.streaming) i
       by [] a q = absurd q.0
       by (v ∷ vs) a q = (
         further_grow frugal none mode r.rest r.rest_is.known q,

@@ -3,7 +3,7 @@ use Rattle.std.proofs.Common.{◌≡◌, ℕ, ◌+◌, Bool, true, false, Option
 use Rattle.std.proofs.Common.{ap, arith}
 use Rattle.nom_error.specs.Errors.{Errors}
 use Rattle.nom_error.specs.Modes.{Modes, with_errors, with_outputs}
-use Rattle.nom_traits.specs.Input.{Seen, InputLaws, IsRest, IsSame, span}
+use Rattle.nom_traits.specs.Input.{Model, InputLaws, IsSuffixOf, IsSame, items_len}
 use Rattle.nom_traits.specs.Rests.{rest_alike}
 use Rattle.nom_internal.specs.Outcome.{Outcome}
 use Rattle.nom_internal.specs.Outcome.Outcome.{Accept, Refuse, Fail, TooLarge, Undecided}
@@ -13,14 +13,15 @@ use Rattle.nom_internal.specs.Choice.{GoesOnRefused}
 use Rattle.nom_internal.specs.Sequence.{GoesOn, after}
 use Rattle.nom_repeat.specs.Repeat.{IsBelow, OnReply, Pieces, Replies, TurnsBy}
 use Rattle.nom_repeat.specs.Repeat.Turn.{Takes}
-use Rattle.nom_escaped.specs.declared.spot.Control.{Control}
-use Rattle.nom_escaped.specs.declared.spot.Piece.{Piece}
-use Rattle.nom_escaped.specs.declared.spot.Piece.TheVariants.{Normal, Escapable}
-use Rattle.nom_escaped.specs.declared.spot.Spot.{Spot}
-use Rattle.nom_escaped.specs.declared.spot.Spot.TheVariants.{Found, Other, Dangling, Done}
-use Rattle.nom_escaped.specs.Spots.{BehindControl, by_control, by_left, control_leaf, escape_meaning, left_leaf, look, piece_meaning, spot_meaning}
-use Rattle.nom_escaped.specs.SpotLaws.{spot_lawful}
-use Rattle.nom_escaped.specs.Escapes.{by_spot, escape_turn, OnReplied, OnSpot, escaped_transform_meaning}
+use Rattle.nom_bytes_escaped.specs.declared.next_piece.Control.{Control}
+use Rattle.nom_bytes_escaped.specs.declared.next_piece.Piece.{Piece}
+use Rattle.nom_bytes_escaped.specs.declared.next_piece.Piece.TheVariants.{Normal, Escapable}
+use Rattle.nom_bytes_escaped.specs.declared.next_piece.NextPiece.{NextPiece}
+use Rattle.nom_bytes_escaped.specs.declared.next_piece.NextPiece.TheVariants.{Found, Other, Dangling, Done}
+use Rattle.nom_bytes_escaped.specs.NextPieces.{BehindControl, by_control, by_left, control_leaf, escape_meaning, left_leaf, look, piece_meaning}
+use Rattle.nom_bytes_escaped.specs.NextPieces.{next_piece_meaning}
+use Rattle.nom_bytes_escaped.specs.NextPieceLaws.{next_piece_lawful}
+use Rattle.nom_bytes_escaped.specs.Escapes.{by_next_piece, escape_turn, OnReplied, OnNextPiece, escaped_transform_meaning}
 use Rattle.nom_memory.specs.Growths.{AlwaysFrugal, IsAccepted, GrowsByPieces}
 
 -- an acceptance after n items comes of one
@@ -48,26 +49,26 @@ accept_of n u label TooLarge e = absurd (cc (e))
 accept_of n u label (Undecided d) e = absurd (cc (e))
 
 -- a rest after nothing is the input
-same_rest : {I A : Type 0} (w : Seen I A) → InputLaws w → (i j : I) (n : ℕ) → n ≡ 0 → IsRest w i n j → IsSame w j i
+same_rest : {I A : Type 0} (w : Model I A) → InputLaws w → (i j : I) (n : ℕ) → n ≡ 0 → IsSuffixOf w i n j → IsSame w j i
 same_rest w l i j n e r = by r.front r.whole r.length_is r.mark_is
   where
-    by : (front : List _) → w.elements i ≡ front ++ w.elements j → span w.weight front ≡ n → w.mark j ≡ w.mark_after (w.mark i) front → IsSame w j i
+    by : (front : List _) → w.elements i ≡ front ++ w.elements j → items_len w.item_len front ≡ n → w.mark j ≡ w.mark_after (w.mark i) front → IsSame w j i
     by [] whole is mark = record { elements_are = sym whole; mark_is = mark ∙ l.mark_none (w.mark i) }
     by (x ∷ xs) whole is mark = absurd (omega (arith, l.positive x, is, e))
 
-module _ {I A U W E : Type 0} (w : Seen I A) (l : InputLaws w) (IsControl : A → Type 0) (lack : Option ℕ) (m : Meaning I U E) (g : Meaning I W E)
+module _ {I A U W E : Type 0} (w : Model I A) (l : InputLaws w) (IsControl : A → Type 0) (lack : Option ℕ) (m : Meaning I U E) (g : Meaning I W E)
     (p : IsLawful w m) (s : Bool) where
   -- a piece stands at i
   abbrev pub HasPiece : I → Type 0
   HasPiece i = IsAccepted (m.answers s) i ⊎ (m.answers s i Refuse × BehindControl w IsControl (IsAccepted (g.answers s)) i)
 
-  found_other : (v : Piece U W) → ◌≡◌ {A = Spot (Piece U W)} (Found v) Other → ⊥
+  found_other : (v : Piece U W) → ◌≡◌ {A = NextPiece (Piece U W)} (Found v) Other → ⊥
   found_other v e = absurd (cc (e))
 
-  found_dangling : (v : Piece U W) → ◌≡◌ {A = Spot (Piece U W)} (Found v) Dangling → ⊥
+  found_dangling : (v : Piece U W) → ◌≡◌ {A = NextPiece (Piece U W)} (Found v) Dangling → ⊥
   found_dangling v e = absurd (cc (e))
 
-  found_done : (v : Piece U W) → ◌≡◌ {A = Spot (Piece U W)} (Found v) Done → ⊥
+  found_done : (v : Piece U W) → ◌≡◌ {A = NextPiece (Piece U W)} (Found v) Done → ⊥
   found_done v e = absurd (cc (e))
 
   -- after the control character
@@ -75,8 +76,8 @@ module _ {I A U W E : Type 0} (w : Seen I A) (l : InputLaws w) (IsControl : A �
       BehindControl w IsControl (IsAccepted (g.answers s)) i
   escaped_at i n v a = by a.first a.answered a.goes_on
     where
-      behind : (k : ℕ) (c : Control (Unit {0})) → (look {E = E} (control_leaf w IsControl lack)).answers s i (Accept k c) → (j : I) → IsRest w i k j →
-          (o : Outcome (Spot (Piece U W))) → (by_control {U = U} g c).answers s j o → Accept n (Found v) ≡ after k (λ t. t) o →
+      behind : (k : ℕ) (c : Control (Unit {0})) → (look {E = E} (control_leaf w IsControl lack)).answers s i (Accept k c) → (j : I) → IsSuffixOf w i k j →
+          (o : Outcome (NextPiece (Piece U W))) → (by_control {U = U} g c).answers s j o → Accept n (Found v) ≡ after k (λ t. t) o →
           BehindControl w IsControl (IsAccepted (g.answers s)) i
       behind k Control.None b j r o x e =
           let f = after_accept k n (Found v) (λ t. t) o e in
@@ -96,7 +97,7 @@ module _ {I A U W E : Type 0} (w : Seen I A) (l : InputLaws w) (IsControl : A �
             is_control = b.is_control;
             some = b.some;
             rest = j;
-            rest_is = subst (λ z. IsRest w i z j) b.length_is r;
+            rest_is = subst (λ z. IsSuffixOf w i z j) b.length_is r;
             fact = (c.0, c.1, subst (λ z. g.answers s z (Accept c.0 c.1)) (sym x.at_is) (subst (g.answers s x.at) c.2 x.answered));
           }
 
@@ -112,7 +113,7 @@ module _ {I A U W E : Type 0} (w : Seen I A) (l : InputLaws w) (IsControl : A �
   piece_at : (i : I) (n : ℕ) (v : Piece U W) → (piece_meaning w IsControl lack m g).answers s i (Accept n (Found v)) → HasPiece i
   piece_at i n v a = by a.first a.answered a.goes_on
     where
-      by : (first : Outcome (Spot (Piece U W))) → (labelled_meaning (λ u. Found (Normal u)) m).answers s i first →
+      by : (first : Outcome (NextPiece (Piece U W))) → (labelled_meaning (λ u. Found (Normal u)) m).answers s i first →
           GoesOnRefused ((escape_meaning {U = U} w IsControl lack g).answers s i) first (Accept n (Found v)) → HasPiece i
       by (Accept k u) b e =
           let c = accept_of k u (λ z. Found (Normal z)) b.outcome b.fact in
@@ -139,16 +140,16 @@ module _ {I A U W E : Type 0} (w : Seen I A) (l : InputLaws w) (IsControl : A �
       is_control = a.1.is_control;
       some = a.1.some;
       rest = a.1.rest;
-      rest_is = rest_alike w j i (w.weight a.1.item) a.1.rest r a.1.rest_is;
+      rest_is = rest_alike w j i (w.item_len a.1.item) a.1.rest r a.1.rest_is;
       fact = a.1.fact;
     },
   )
 
   -- where a piece is found, it stands there
-  spot_at : (i : I) (n : ℕ) (v : Piece U W) → w.IsKnown i → (spot_meaning w IsControl lack m g).answers s i (Accept n (Found v)) → HasPiece i
-  spot_at i n v h a = by a.first a.answered a.goes_on
+  piece_at : (i : I) (n : ℕ) (v : Piece U W) → w.IsKnown i → (next_piece_meaning w IsControl lack m g).answers s i (Accept n (Found v)) → HasPiece i
+  piece_at i n v h a = by a.first a.answered a.goes_on
     where
-      on_left : (k : ℕ) (left : Bool) → (k ≡ 0) → (j : I) → IsRest w i k j → (o : Outcome (Spot (Piece U W))) →
+      on_left : (k : ℕ) (left : Bool) → (k ≡ 0) → (j : I) → IsSuffixOf w i k j → (o : Outcome (NextPiece (Piece U W))) →
           (by_left Done (piece_meaning w IsControl lack m g) left).answers s j o → Accept n (Found v) ≡ after k (λ t. t) o → HasPiece i
       on_left k true z j r o x e =
           let f = after_accept k n (Found v) (λ t. t) o e in
@@ -167,46 +168,47 @@ module _ {I A U W E : Type 0} (w : Seen I A) (l : InputLaws w) (IsControl : A �
       by TooLarge c x = absurd (cc (x))
       by (Undecided d) c x = absurd (cc (x))
 
-  spot_taken : (i : I) (u : Spot (Piece U W)) (n k a : ℕ) (v : Piece U W) → Takes a v ≡ by_spot u k n → (x : Piece U W) × (u ≡ Found x)
-  spot_taken i (Found x) n k a v e = (x, refl)
-  spot_taken i Other n zero a v e = absurd (cc (e))
-  spot_taken i Other n (suc k) a v e = absurd (cc (e))
-  spot_taken i Dangling n k a v e = absurd (cc (e))
-  spot_taken i Done n k a v e = absurd (cc (e))
+  next_piece_taken : (i : I) (u : NextPiece (Piece U W)) (n k a : ℕ) (v : Piece U W) → Takes a v ≡ by_next_piece u k n → (x : Piece U W) × (u ≡ Found x)
+  next_piece_taken i (Found x) n k a v e = (x, refl)
+  next_piece_taken i Other n zero a v e = absurd (cc (e))
+  next_piece_taken i Other n (suc k) a v e = absurd (cc (e))
+  next_piece_taken i Dangling n k a v e = absurd (cc (e))
+  next_piece_taken i Done n k a v e = absurd (cc (e))
 
-  taken_by : (k : ℕ) (i : I) (a : ℕ) (v : Piece U W) (reply : Option (Outcome (Spot (Piece U W)))) → w.IsKnown i →
-      Replies None (λ _. (spot_meaning w IsControl lack m g).answers s) k i reply → Takes a v ≡ escape_turn k reply → HasPiece i
+  taken_by : (k : ℕ) (i : I) (a : ℕ) (v : Piece U W) (reply : Option (Outcome (NextPiece (Piece U W)))) → w.IsKnown i →
+      Replies None (λ _. (next_piece_meaning w IsControl lack m g).answers s) k i reply → Takes a v ≡ escape_turn k reply → HasPiece i
   taken_by k i a v (Some (Accept n u)) h r e =
-      let x = spot_taken i u n k a v e in spot_at i n x.0 h (subst (λ z. (spot_meaning w IsControl lack m g).answers s i (Accept n z)) x.1 r.1)
+      let x = next_piece_taken i u n k a v e in piece_at i n x.0 h (subst (λ z. (next_piece_meaning w IsControl lack m g).answers s i (Accept n z)) x.1 r.1)
   taken_by k i a v (Some Refuse) h r e = absurd (cc (e))
   taken_by k i a v (Some Fail) h r e = absurd (cc (e))
   taken_by k i a v (Some TooLarge) h r e = absurd (cc (e))
   taken_by k i a v (Some (Undecided d)) h r e = absurd (cc (e))
   taken_by k i a v None h r e = absurd (cc (e))
 
-module _ {I A U W E : Type 0} (w : Seen I A) (l : InputLaws w) (IsControl : A → Type 0) (errs : Errors I E) (m : Meaning I U E) (g : Meaning I W E)
+module _ {I A U W E : Type 0} (w : Model I A) (l : InputLaws w) (IsControl : A → Type 0) (errs : Errors I E) (m : Meaning I U E) (g : Meaning I W E)
     (p : IsLawful w m) (q : IsLawful w g) (frugal : AlwaysFrugal m × AlwaysFrugal g) (none : errs.grows → ⊥) (mode : Modes) where
   abbrev Piece_at : I → Type 0
   Piece_at i = HasPiece w l IsControl None m g p mode.streaming i
 
   abbrev Asked : ℕ → I → Type 0
   Asked k j =
-      OnReply None (λ _. (spot_meaning w IsControl None m g).answers mode.streaming)
+      OnReply None (λ _. (next_piece_meaning w IsControl None m g).answers mode.streaming)
       (OnReplied (mode.outputs ≡ true) ((k ≡ 0) × (mode.errors ≡ true) × errs.grows) ((mode.errors ≡ true) × errs.grows) ⊥) k j
-      ⊎ (IsBelow None k × (spot_meaning w IsControl None m g).runs_out mode j)
+      ⊎ (IsBelow None k × (next_piece_meaning w IsControl None m g).may_run_out mode j)
 
-  on_spot : (k : ℕ) (j : I) (n : ℕ) (u : Spot (Piece U W)) → w.IsKnown j → (spot_meaning w IsControl None m g).answers mode.streaming j (Accept n u) →
-      OnSpot (mode.outputs ≡ true) ((k ≡ 0) × (mode.errors ≡ true) × errs.grows) ((mode.errors ≡ true) × errs.grows) u → (mode.outputs ≡ true) × Piece_at j
-  on_spot k j n (Found v) h a z = (z, spot_at w l IsControl None m g p mode.streaming j n v h a)
-  on_spot k j n Other h a z = absurd (none z.2)
-  on_spot k j n Dangling h a z = absurd (none z.1)
-  on_spot k j n Done h a z = absurd z
+  on_next_piece : (k : ℕ) (j : I) (n : ℕ) (u : NextPiece (Piece U W)) → w.IsKnown j →
+      (next_piece_meaning w IsControl None m g).answers mode.streaming j (Accept n u) →
+      OnNextPiece (mode.outputs ≡ true) ((k ≡ 0) × (mode.errors ≡ true) × errs.grows) ((mode.errors ≡ true) × errs.grows) u → (mode.outputs ≡ true) × Piece_at j
+  on_next_piece k j n (Found v) h a z = (z, piece_at w l IsControl None m g p mode.streaming j n v h a)
+  on_next_piece k j n Other h a z = absurd (none z.2)
+  on_next_piece k j n Dangling h a z = absurd (none z.1)
+  on_next_piece k j n Done h a z = absurd z
 
-  asked_by : (k : ℕ) (j : I) (reply : Option (Outcome (Spot (Piece U W)))) → w.IsKnown j →
-      Replies None (λ _. (spot_meaning w IsControl None m g).answers mode.streaming) k j reply →
+  asked_by : (k : ℕ) (j : I) (reply : Option (Outcome (NextPiece (Piece U W)))) → w.IsKnown j →
+      Replies None (λ _. (next_piece_meaning w IsControl None m g).answers mode.streaming) k j reply →
       OnReplied (mode.outputs ≡ true) ((k ≡ 0) × (mode.errors ≡ true) × errs.grows) ((mode.errors ≡ true) × errs.grows) ⊥ reply →
       (mode.outputs ≡ true) × Piece_at j
-  asked_by k j (Some (Accept n u)) h r z = on_spot k j n u h r.1 z
+  asked_by k j (Some (Accept n u)) h r z = on_next_piece k j n u h r.1 z
   asked_by k j (Some Refuse) h r z = absurd z
   asked_by k j (Some Fail) h r z = absurd z
   asked_by k j (Some TooLarge) h r z = absurd z
@@ -215,11 +217,11 @@ module _ {I A U W E : Type 0} (w : Seen I A) (l : InputLaws w) (IsControl : A �
 
   asked : (k : ℕ) (j : I) → w.IsKnown j → Asked k j → (mode.outputs ≡ true) × Piece_at j
   asked k j h (inl r) = asked_by k j r.reply h r.replied r.fact
-  asked k j h (inr r) = absurd ((spot_lawful w l IsControl None m g p q).frugal mode j h
+  asked k j h (inr r) = absurd ((next_piece_lawful w l IsControl None m g p q).frugal mode j h
       (λ _ x. x, (frugal.0 (with_outputs mode.outputs (with_errors false mode)), (λ _ x. x, frugal.1 mode))) r.1)
 
   walked : (k : ℕ) (i : I) (vs : List (Piece U W)) (n : ℕ) → w.IsKnown i →
-      Pieces w (TurnsBy None escape_turn (λ _. (spot_meaning w IsControl None m g).answers mode.streaming)) Asked k i vs n →
+      Pieces w (TurnsBy None escape_turn (λ _. (next_piece_meaning w IsControl None m g).answers mode.streaming)) Asked k i vs n →
       (mode.outputs ≡ true) × Piece_at i
   walked k i [] n h z = asked k i h z.1
   walked k i (v ∷ vs) n h z = (
@@ -227,10 +229,10 @@ module _ {I A U W E : Type 0} (w : Seen I A) (l : InputLaws w) (IsControl : A �
     taken_by w l IsControl None m g p mode.streaming k i z.0 v z.3.reply h z.3.replied z.3.fact,
   )
 
-  pub pieces_grow : (i : I) → w.IsKnown i → (escaped_transform_meaning w errs IsControl m g).runs_out mode i → (mode.outputs ≡ true) × Piece_at i
+  pub pieces_grow : (i : I) → w.IsKnown i → (escaped_transform_meaning w errs IsControl m g).may_run_out mode i → (mode.outputs ≡ true) × Piece_at i
   pieces_grow i h r = walked 0 i r.trees r.taken h r.pieces
 
-pub escaped_transform_grow : {I A U W E : Type 0} (w : Seen I A) → InputLaws w →
+pub escaped_transform_grow : {I A U W E : Type 0} (w : Model I A) → InputLaws w →
     (IsControl : A → Type 0) (errs : Errors I E) (m : Meaning I U E) (g : Meaning I W E) → IsLawful w m → IsLawful w g →
     GrowsByPieces w IsControl errs m g (escaped_transform_meaning w errs IsControl m g)
 escaped_transform_grow w l IsControl errs m g p q frugal none mode i h r = pieces_grow w l IsControl errs m g p q frugal none mode i h r

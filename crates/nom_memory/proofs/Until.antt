@@ -2,7 +2,7 @@
 use Rattle.std.proofs.Common.{◌≡◌, ℕ, ◌+◌, Bool, true, false, Option, Some, None, ◌⊎◌, inl, inr, List, [], ◌∷◌, zero, suc, refl, sym, ◌∙◌, subst}
 use Rattle.nom_error.specs.Errors.{Errors}
 use Rattle.nom_error.specs.Modes.{Modes, with_errors}
-use Rattle.nom_traits.specs.Input.{Seen}
+use Rattle.nom_traits.specs.Input.{Model}
 use Rattle.nom_internal.specs.Outcome.{Outcome}
 use Rattle.nom_internal.specs.Outcome.Outcome.{Accept, Refuse, Fail, TooLarge, Undecided}
 use Rattle.nom_internal.specs.Meaning.{Meaning, IsLawful}
@@ -71,12 +71,12 @@ module _ {I V T E : Type 0} (m : Meaning I V E) (end : Meaning I T E) (s : Bool)
   taken_by i a v (Some (Undecided d)) h e = absurd (cc (e))
   taken_by i a v None h e = absurd (cc (e))
 
-module _ {I A V T E : Type 0} (w : Seen I A) (errs : Errors I E) (m : Meaning I V E) (end : Meaning I T E) (p : IsLawful w m) (q : IsLawful w end)
+module _ {I A V T E : Type 0} (w : Model I A) (errs : Errors I E) (m : Meaning I V E) (end : Meaning I T E) (p : IsLawful w m) (q : IsLawful w end)
     (none : errs.grows → ⊥) (mode : Modes) where
   abbrev Asked : ℕ → I → Type 0
   Asked k j =
       OnReply None (λ _. (end_or_item end m).answers mode.streaming) (TillAsks ((mode.errors ≡ true) × errs.grows) (mode.outputs ≡ true)) k j
-      ⊎ (IsBelow None k × (end_or_item end m).runs_out mode j)
+      ⊎ (IsBelow None k × (end_or_item end m).may_run_out mode j)
 
   item_asks : (j : I) (u : T ⊎ V) (n : ℕ) → (end_or_item end m).answers mode.streaming j (Accept n u) →
       OnItem ((mode.errors ≡ true) × errs.grows) (mode.outputs ≡ true) u n → (mode.outputs ≡ true) × IsItem m end mode.streaming j
@@ -111,6 +111,6 @@ module _ {I A V T E : Type 0} (w : Seen I A) (errs : Errors I E) (m : Meaning I 
       below (Some o) y = y
       below None y = y
 
-pub many_till_grow : {I A V T E : Type 0} (w : Seen I A) (errs : Errors I E) (m : Meaning I V E) (end : Meaning I T E) → IsLawful w m → IsLawful w end →
+pub many_till_grow : {I A V T E : Type 0} (w : Model I A) (errs : Errors I E) (m : Meaning I V E) (end : Meaning I T E) → IsLawful w m → IsLawful w end →
     GrowsUntil w errs m end (many_till_meaning w errs m end)
 many_till_grow w errs m end p q frugal none mode i h r = walked w errs m end p q none mode frugal 0 i r.trees r.taken h r.pieces

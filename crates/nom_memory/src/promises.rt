@@ -7,14 +7,14 @@ ghost use Rattle.std.specs.Prelude.{◌≡◌};
 ghost use Rattle.nom_memory.specs.Growths.{GrowsByCounted, GrowsByItems, GrowsByPieces, GrowsBySeparated, GrowsUntil};
 
 use nom_build::collection::Collection;
-use nom_escaped::EscapedTransform;
-use nom_folds::Many;
+use nom_bytes_escaped::EscapedTransform;
 use nom_internal::parser::Parser;
-use nom_lengths::LengthCount;
 use nom_multi::{Count, Many0, Many1, ManyMN, ManyTill};
+use nom_multi_fold::Many;
+use nom_multi_length::LengthCount;
+use nom_multi_separated::{SeparatedList0, SeparatedList1};
 use nom_ranges::range::NomRange;
 use nom_search::extend::{Builder, ExtendInto};
-use nom_separated::{SeparatedList0, SeparatedList1};
 use nom_traits::character::AsChar;
 use nom_traits::convert::ToUsize;
 use nom_traits::input::{Input, Items, Value};
@@ -25,7 +25,7 @@ pub fn many0_grows_by_items<I: Input, A: Allocator + Copy, F: Parser<I> + Drop>(
     _parser: &Many0<A, F>,
 )
     requires { (F.meaning (F.state _parser.now.parser)).IsSound }
-    ensures { GrowsByItems I.seen F.Error.errors (F.meaning (F.state _parser.now.parser)) (⟦<Many0<A, F> as Parser<I>>⟧.meaning (F.state _parser.now.parser)) }
+    ensures { GrowsByItems I.model F.Error.errors (F.meaning (F.state _parser.now.parser)) (⟦<Many0<A, F> as Parser<I>>⟧.meaning (F.state _parser.now.parser)) }
 {}
 
 /// `many1` runs out of memory only for an item: its first is accepted.
@@ -33,7 +33,7 @@ pub fn many1_grows_by_items<I: Input, A: Allocator + Copy, F: Parser<I> + Drop>(
     _parser: &Many1<A, F>,
 )
     requires { (F.meaning (F.state _parser.now.parser)).IsSound }
-    ensures { GrowsByItems I.seen F.Error.errors (F.meaning (F.state _parser.now.parser)) (⟦<Many1<A, F> as Parser<I>>⟧.meaning (F.state _parser.now.parser)) }
+    ensures { GrowsByItems I.model F.Error.errors (F.meaning (F.state _parser.now.parser)) (⟦<Many1<A, F> as Parser<I>>⟧.meaning (F.state _parser.now.parser)) }
 {}
 
 /// `count` runs out of memory only for an item: its first is accepted.
@@ -41,7 +41,7 @@ pub fn count_grows_by_items<I: Items, A: Allocator + Copy, F: Parser<I> + Drop>(
     _parser: &Count<A, F>,
 )
     requires { (F.meaning (F.state _parser.now.parser)).IsSound }
-    ensures { GrowsByItems I.seen F.Error.errors (F.meaning (F.state _parser.now.parser))
+    ensures { GrowsByItems I.model F.Error.errors (F.meaning (F.state _parser.now.parser))
         (⟦<Count<A, F> as Parser<I>>⟧.meaning (_parser.now.count, F.state _parser.now.parser)) }
 {}
 
@@ -50,7 +50,7 @@ pub fn many_m_n_grows_by_items<I: Input, A: Allocator + Copy, F: Parser<I> + Dro
     _parser: &ManyMN<A, F>,
 )
     requires { (F.meaning (F.state _parser.now.parser)).IsSound }
-    ensures { GrowsByItems I.seen F.Error.errors (F.meaning (F.state _parser.now.parser))
+    ensures { GrowsByItems I.model F.Error.errors (F.meaning (F.state _parser.now.parser))
         (⟦<ManyMN<A, F> as Parser<I>>⟧.meaning (_parser.now.min, _parser.now.max, F.state _parser.now.parser)) }
 {}
 
@@ -63,7 +63,7 @@ pub fn many_grows_by_items<
     C: Collection<F::Output, A>,
 >(_parser: &Many<A, R, F, C>)
     requires { (F.meaning (F.state _parser.now.parser)).IsSound }
-    ensures { GrowsByItems I.seen F.Error.errors (F.meaning (F.state _parser.now.parser))
+    ensures { GrowsByItems I.model F.Error.errors (F.meaning (F.state _parser.now.parser))
         (⟦<Many<A, R, F, C> as Parser<I>>⟧.meaning (F.state _parser.now.parser, _parser.now.range)) }
 {}
 
@@ -76,7 +76,7 @@ pub fn separated_list1_grows_by_items<
 >(_parser: &SeparatedList1<A, G, F>)
     requires separator { (G.meaning (G.state _parser.now.next.first)).IsSound }
     requires item { (F.meaning (F.state _parser.now.next.second)).IsSound }
-    ensures { GrowsBySeparated I.seen F.Error.errors (G.meaning (G.state _parser.now.next.first)) (F.meaning (F.state _parser.now.next.second))
+    ensures { GrowsBySeparated I.model F.Error.errors (G.meaning (G.state _parser.now.next.first)) (F.meaning (F.state _parser.now.next.second))
         (⟦<SeparatedList1<A, G, F> as Parser<I>>⟧.meaning (G.state _parser.now.next.first, F.state _parser.now.next.second)) }
 {}
 
@@ -89,7 +89,7 @@ pub fn separated_list0_grows_by_items<
 >(_parser: &SeparatedList0<A, G, F>)
     requires separator { (G.meaning (G.state _parser.now.next.first)).IsSound }
     requires item { (F.meaning (F.state _parser.now.next.second)).IsSound }
-    ensures { GrowsBySeparated I.seen F.Error.errors (G.meaning (G.state _parser.now.next.first)) (F.meaning (F.state _parser.now.next.second))
+    ensures { GrowsBySeparated I.model F.Error.errors (G.meaning (G.state _parser.now.next.first)) (F.meaning (F.state _parser.now.next.second))
         (⟦<SeparatedList0<A, G, F> as Parser<I>>⟧.meaning (G.state _parser.now.next.first, F.state _parser.now.next.second)) }
 {}
 
@@ -102,7 +102,7 @@ pub fn many_till_grows_by_items<
 >(_parser: &ManyTill<A, F, G>)
     requires item { (F.meaning (F.state _parser.now.parser)).IsSound }
     requires end { (G.meaning (G.state _parser.now.end)).IsSound }
-    ensures { GrowsUntil I.seen F.Error.errors (F.meaning (F.state _parser.now.parser)) (G.meaning (G.state _parser.now.end))
+    ensures { GrowsUntil I.model F.Error.errors (F.meaning (F.state _parser.now.parser)) (G.meaning (G.state _parser.now.end))
         (⟦<ManyTill<A, F, G> as Parser<I>>⟧.meaning (F.state _parser.now.parser, G.state _parser.now.end)) }
 {}
 
@@ -115,7 +115,7 @@ pub fn length_count_grows_by_items<
 >(_parser: &LengthCount<A, F, G>)
     requires length { (F.meaning (F.state _parser.now.length)).IsSound }
     requires item { (G.meaning (G.state _parser.now.parser)).IsSound }
-    ensures { GrowsByCounted I.seen F.Error.errors (F.meaning (F.state _parser.now.length)) (G.meaning (G.state _parser.now.parser))
+    ensures { GrowsByCounted I.model F.Error.errors (F.meaning (F.state _parser.now.length)) (G.meaning (G.state _parser.now.parser))
         (⟦<LengthCount<A, F, G> as Parser<I>>⟧.meaning (F.state _parser.now.length, G.state _parser.now.parser)) }
 {}
 
@@ -134,7 +134,7 @@ where
     G::Output: ExtendInto<A, Extender = X>,
     requires normal { (F.meaning (F.state _parser.now.normal)).IsSound }
     requires transform { (G.meaning (G.state _parser.now.transform)).IsSound }
-    ensures { GrowsByPieces I.seen (λ x. C.code x ≡ _parser.now.control_char) F.Error.errors (F.meaning (F.state _parser.now.normal))
+    ensures { GrowsByPieces I.model (λ x. C.code x ≡ _parser.now.control_char) F.Error.errors (F.meaning (F.state _parser.now.normal))
         (G.meaning (G.state _parser.now.transform)) (⟦<EscapedTransform<A, F, G> as Parser<I>>⟧.meaning
         (F.state _parser.now.normal, _parser.now.control_char, G.state _parser.now.transform)) }
 {}

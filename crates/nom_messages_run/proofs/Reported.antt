@@ -4,12 +4,12 @@ use Rattle.nom_error.specs.declared.value.Error.{Error}
 use Rattle.nom_error.specs.declared.answer.Needed.{Needed}
 use Rattle.nom_error.specs.declared.answer.Err as Answer
 use Rattle.std.specs.Prelude.{codes}
-use Rattle.nom_traits.specs.Bytes.{seen_bytes}
+use Rattle.nom_traits.specs.Bytes.{bytes_model}
 use Rattle.nom_growing.specs.Growing.{IsGrown}
 use Rattle.nom_growing.specs.Promises.{HasNoFailure}
 use Rattle.nom.specs.Bytes.{Bytes}
-use Rattle.nom_protocol.specs.declared.message.Message.{Message}
-use Rattle.nom_protocol.specs.Messages.{Body, body_of, messages_of}
+use Rattle.example_protocol.specs.declared.message.Message.{Message}
+use Rattle.example_protocol.specs.Messages.{Body, body_of, messages_of}
 use Rattle.nom_run.specs.Report.{IsTold}
 use Rattle.nom_run.specs.Texts.{bytes_text}
 use Rattle.nom_run.proofs.Reported.{reported}
@@ -32,9 +32,9 @@ never_fails : (large : Bool) → message_grammar.NeverFails large
 never_fails large = search
 
 pub reported_messages : {A : Type 0} (whole : Bytes) (cuts : List ℕ) (index start : ℕ) →
-    (index < length cuts → start ≡ slice_index cuts index) → (length cuts ≤ index → start ≡ length whole.now) → seen_bytes.IsKnown whole →
+    (index < length cuts → start ≡ slice_index cuts index) → (length cuts ≤ index → start ≡ length whole.now) → bytes_model.IsKnown whole →
     (answer : Result (Bytes × Vec Message A) (Answer.Err (Error Bytes) (Error Bytes) Needed)) (text : List ℕ) (status : ℕ) →
-    IsGrown seen_bytes AreBodies message_grammar whole cuts index answer → HasNoFailure seen_bytes message_grammar →
+    IsGrown bytes_model AreBodies message_grammar whole cuts index answer → HasNoFailure bytes_model message_grammar →
     IsTold lines_of index start answer text status → IsReport whole.now cuts text status
 unfolding IsReport
 reported_messages whole cuts index start at_cut at_end known answer text status g none t =

@@ -4,8 +4,8 @@ use Rattle.std.proofs.Common.{Ok, refl, sym, ◌∙◌, ap, subst, take}
 use Rattle.std.specs.Io.KnownBytes.{Appends}
 use Rattle.std.specs.List.{AllZip}
 use Rattle.nom_error.specs.declared.value.Error.{Error}
-use Rattle.nom_traits.specs.Bytes.{seen_bytes, bytes_lawful}
-use Rattle.nom_traits.specs.Input.{IsRest}
+use Rattle.nom_traits.specs.Bytes.{bytes_model, bytes_lawful}
+use Rattle.nom_traits.specs.Input.{IsSuffixOf}
 use Rattle.nom_traits.specs.Rests.{rest_rest}
 use Rattle.nom_internal.specs.Outcome.{Outcome}
 use Rattle.nom_internal.specs.Outcome.Outcome.{Accept, Undecided}
@@ -20,12 +20,12 @@ use Rattle.nom_stream.specs.Items.{Bytes}
 use Rattle.nom_stream.specs.Streams.{Answers, Decides, Told, counted}
 use Rattle.nom_stream.specs.Streams.Answers.{Decided, AtEnd, Full, Unfilled}
 use Rattle.nom_stream.specs.Wholes.{AnswersWhole, AtWhole, BytesOfWhole, HasLeft, ItemsOfWhole, TellsWhole}
-use Rattle.nom_stream_grammars.specs.declared.messages.Received.{Received}
+use Rattle.example_streams.specs.declared.messages.Received.{Received}
 use Rattle.nom_messages_run.specs.Pipe.{Ends, Lines, received_text, stopped}
 use Rattle.nom_messages_run.specs.Whole.{IsTheEnd, LinesOf, LinesOfWhole, WroteWhole}
 
 abbrev AllItems : {V : Type 0} → Meaning Bytes V (Error Bytes) → Bool → ℕ → Bytes → List V → Type 0
-AllItems m complete = AreItems seen_bytes (AtWhole m complete)
+AllItems m complete = AreItems bytes_model (AtWhole m complete)
 
 -- items that have ended below a limit are those up to each limit above them
 module _ {V : Type 0} (m : Meaning Bytes V (Error Bytes)) (complete : Bool) where
@@ -56,24 +56,24 @@ module _ {R A V : Type 0} (left : R → Option (List ℕ)) (IsItem : V → Recei
     pub others : List V
     pub trees_are : trees ≡ first ++ others
     pub place : Bytes
-    pub known : seen_bytes.IsKnown place
+    pub known : bytes_model.IsKnown place
     pub lines_are : LinesOf IsItem m s.settings.complete first whole place text
     pub used : ℕ
-    pub begins : IsRest seen_bytes whole used place
+    pub begins : IsSuffixOf bytes_model whole used place
     pub left_then : HasLeft left t place.now
     pub go_on : AllItems m s.settings.complete limit place others
     pub offset : t.offset ≡ min (s.offset + used) (2 ^ 64 - 1)
     pub settings : t.settings ≡ s.settings
 
   -- every answer rests on lawful meanings
-  lawful_of : (u t : Stream R A) (r : Told Received) → Answers IsItem m u t r → IsLawful seen_bytes m
+  lawful_of : (u t : Stream R A) (r : Told Received) → Answers IsItem m u t r → IsLawful bytes_model m
   lawful_of u t r (Decided taken d g l e) = g.parses.lawful
   lawful_of u t r (AtEnd e k g h) = g.parses.lawful
   lawful_of u t r (Full a b w e) = (w.1).parses.lawful
   lawful_of u t r (Unfilled why l b before last d w e) = (w.1).parses.lawful
 
   -- where the last line tells that there is no further item, none is accepted
-  none_accepted : (lawful : IsLawful seen_bytes m) (t : Stream R A) (complete : Bool) (place : Bytes) → seen_bytes.IsKnown place →
+  none_accepted : (lawful : IsLawful bytes_model m) (t : Stream R A) (complete : Bool) (place : Bytes) → bytes_model.IsKnown place →
       (why : Option Why.Stop) (k : ℕ) (v : V) → AtWhole m complete place (Accept k v) → TellsWhole IsItem m t (stopped why) place (Accept k v) →
       IsTheEnd complete why → ⊥
   none_accepted lawful t false place known None k v a told end =
@@ -91,7 +91,7 @@ module _ {R A V : Type 0} (left : R → Option (List ℕ)) (IsItem : V → Recei
 
   -- an item before those that follow
   prepend : (s u t : Stream R A) (n : ℕ) (o : Received) (bytes rest : List ℕ) (whole next : Bytes) (limit : ℕ) (v : V) (vs : List V) →
-      bytes ≡ take n whole.now → AtWhole m s.settings.complete whole (Accept n v) → IsItem v o → IsRest seen_bytes whole n next →
+      bytes ≡ take n whole.now → AtWhole m s.settings.complete whole (Accept n v) → IsItem v o → IsSuffixOf bytes_model whole n next →
       u.offset ≡ min (s.offset + n) (2 ^ 64 - 1) → u.settings ≡ s.settings →
       Listed u t next limit vs rest → Listed s t whole limit (v ∷ vs) (received_text o bytes ++ rest)
   prepend s u t n o bytes rest whole next limit v vs first a item begins offset settings k = record {
@@ -114,7 +114,7 @@ module _ {R A V : Type 0} (left : R → Option (List ℕ)) (IsItem : V → Recei
       ),
     );
     used = n + k.used;
-    begins = rest_rest seen_bytes bytes_lawful whole n next k.used k.place begins k.begins;
+    begins = rest_rest bytes_model bytes_lawful whole n next k.used k.place begins k.begins;
     left_then = k.left_then;
     go_on = subst (λ z. AllItems m z.complete limit k.place k.others) settings k.go_on;
     offset = omega (arith, k.offset, offset);
@@ -124,12 +124,12 @@ module _ {R A V : Type 0} (left : R → Option (List ℕ)) (IsItem : V → Recei
   module _ (answers : AnswersWhole A left IsItem m) (items : ItemsOfWhole A left IsItem m) (bytes : BytesOfWhole A left IsItem m) where
     abbrev AreListed : Stream R A → Stream R A → ℕ → List ℕ → Type 0
     AreListed s t count text =
-        (whole : Bytes) → seen_bytes.IsKnown whole → HasLeft left s whole.now → s.offset ≤ 2 ^ 64 - 1 →
+        (whole : Bytes) → bytes_model.IsKnown whole → HasLeft left s whole.now → s.offset ≤ 2 ^ 64 - 1 →
         (limit : ℕ) (trees : List V) → AllItems m s.settings.complete (count + limit) whole trees → Listed s t whole limit trees text
 
     -- an item that a call gave
     item_first : (s u t : Stream R A) (n : ℕ) (o : Received) (count : ℕ) (rest : List ℕ) → Decides left IsItem m s u (Ok (Some (n, o))) →
-        AreListed u t count rest → (whole : Bytes) → seen_bytes.IsKnown whole → HasLeft left s whole.now → s.offset ≤ 2 ^ 64 - 1 →
+        AreListed u t count rest → (whole : Bytes) → bytes_model.IsKnown whole → HasLeft left s whole.now → s.offset ≤ 2 ^ 64 - 1 →
         (limit : ℕ) (trees : List V) → AllItems m s.settings.complete (suc (count + limit)) whole trees →
         Listed s t whole limit trees (received_text o (last_of n u.held) ++ rest)
     item_first s u t n o count rest d others whole known has low limit [] a =
@@ -145,7 +145,7 @@ module _ {R A V : Type 0} (left : R → Option (List ℕ)) (IsItem : V → Recei
         let all : n + 0 ≡ n = omega arith in
         let next = w.place in
         let same : w.others ≡ vs = one_tree IsItem o v vs w.first w.others w.items w.trees_are in
-        let begins : IsRest seen_bytes whole n next = subst (λ z. IsRest seen_bytes whole z next) all w.begins in
+        let begins : IsSuffixOf bytes_model whole n next = subst (λ z. IsSuffixOf bytes_model whole z next) all w.begins in
         let offset : u.offset ≡ min (s.offset + n) (2 ^ 64 - 1) = omega (arith, w.offset) in
         prepend s u t n o (last_of n u.held) rest whole next limit v vs (bytes s u n o d whole.now has)
         (subst (λ z. AtWhole m s.settings.complete whole (Accept z v)) size a.2)

@@ -12,8 +12,8 @@ use Rattle.nom_stream.specs.declared.stream.Stream.{Stream}
 use Rattle.nom_stream.specs.Held.{last_of}
 use Rattle.nom_stream.specs.Items.{Bytes}
 use Rattle.nom_stream.specs.Streams.{Decides, Told}
-use Rattle.nom_stream_grammars.specs.declared.messages.Received.{Received}
-use Rattle.nom_stream_grammars.specs.declared.messages.Received.TheVariants.{Ping, Text, Close}
+use Rattle.example_streams.specs.declared.messages.Received.{Received}
+use Rattle.example_streams.specs.declared.messages.Received.TheVariants.{Ping, Text, Close}
 use Rattle.nom_messages_run.specs.Report.{ping_text}
 
 -- the line of a message, by its bytes: those of a text are the last ones

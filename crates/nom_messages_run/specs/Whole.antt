@@ -2,8 +2,8 @@
 use Rattle.std.specs.Prelude.{◌≡◌, ℕ, ◌+◌, ◌-◌, ◌^◌, ◌<◌, ◌≤◌, min, Bool, false, List, [], ◌∷◌, ◌++◌, length, take, Option, Some, None}
 use Rattle.std.specs.Io.KnownBytes.{Appends}
 use Rattle.nom_error.specs.declared.value.Error.{Error}
-use Rattle.nom_traits.specs.Bytes.{seen_bytes}
-use Rattle.nom_traits.specs.Input.{IsRest}
+use Rattle.nom_traits.specs.Bytes.{bytes_model}
+use Rattle.nom_traits.specs.Input.{IsSuffixOf}
 use Rattle.nom_internal.specs.Outcome.{Outcome}
 use Rattle.nom_internal.specs.Outcome.Outcome.{Accept}
 use Rattle.nom_internal.specs.Meaning.{Meaning}
@@ -13,7 +13,7 @@ use Rattle.nom_stream.specs.declared.stream.Stop.TheVariants as Stop
 use Rattle.nom_stream.specs.declared.stream.Stream.{Stream}
 use Rattle.nom_stream.specs.Items.{Bytes}
 use Rattle.nom_stream.specs.Wholes.{AtWhole, HasLeft, TellsWhole}
-use Rattle.nom_stream_grammars.specs.declared.messages.Received.{Received}
+use Rattle.example_streams.specs.declared.messages.Received.{Received}
 use Rattle.nom_messages_run.specs.Pipe.{WroteAll, ending_status, ending_text, received_text, stopped}
 
 -- the last line tells that there is no further message
@@ -33,7 +33,7 @@ module _ {V : Type 0} (IsItem : V → Received → Type 0) (m : Meaning Bytes V 
   abbrev pub LinesOf : List V → (i place : Bytes) → (text : List ℕ) → Type 0
   LinesOf [] i place text = (i ≡ place) × (text ≡ [])
   LinesOf (v ∷ vs) i place text = (n : ℕ) × AtWhole m complete i (Accept n v) × ((message : Received) × IsItem v message ×
-      ((next : Bytes) × IsRest seen_bytes i n next × ((rest : List ℕ) ×
+      ((next : Bytes) × IsSuffixOf bytes_model i n next × ((rest : List ℕ) ×
       (text ≡ received_text message (take n i.now) ++ rest) × LinesOf vs next place rest)))
 
 module _ {R A V : Type 0} (IsItem : V → Received → Type 0) (m : Meaning Bytes V (Error Bytes)) where
@@ -51,7 +51,7 @@ module _ {R A V : Type 0} (IsItem : V → Received → Type 0) (m : Meaning Byte
     pub status_is : status ≡ ending_status why
     -- where the last line stands in the data
     pub used : ℕ
-    pub begins : IsRest seen_bytes whole used place
+    pub begins : IsSuffixOf bytes_model whole used place
     pub offset : t.offset ≡ min (s.offset + used) (2 ^ 64 - 1)
     pub outcome : Outcome V
     pub answers : AtWhole m s.settings.complete place outcome
@@ -63,6 +63,6 @@ module _ (A : Type 0) {R V : Type 0} (left : R → Option (List ℕ)) (IsItem : 
   abbrev pub LinesOfWhole : Type 0
   LinesOfWhole =
       (s t : Stream R A) (held held' : Option (List ℕ)) (status : ℕ) → WroteAll left IsItem m s t held held' status →
-      (whole : Bytes) → seen_bytes.IsKnown whole → HasLeft left s whole.now → s.offset ≤ 2 ^ 64 - 1 →
-      (limit : ℕ) (trees : List V) → AreItems seen_bytes (AtWhole m s.settings.complete) limit whole trees → length trees < limit →
+      (whole : Bytes) → bytes_model.IsKnown whole → HasLeft left s whole.now → s.offset ≤ 2 ^ 64 - 1 →
+      (limit : ℕ) (trees : List V) → AreItems bytes_model (AtWhole m s.settings.complete) limit whole trees → length trees < limit →
       WroteWhole IsItem m s t held held' status whole trees

@@ -1,10 +1,10 @@
 //! What the lines of messages promise. The function does nothing: its contract is the promise.
 ghost use Rattle.nom_messages_run.specs.Whole.{LinesOfWhole};
 
+use example_streams::messages::Received;
 use nom_stream::grammar::Grammar;
 use nom_stream::promises::{answers_of_whole, bytes_of_whole, items_of_whole};
 use nom_stream::stream::Stream;
-use nom_stream_grammars::messages::Received;
 use std::alloc::Allocator;
 use std::io::Read;
 

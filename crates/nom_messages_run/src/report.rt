@@ -5,9 +5,9 @@ ghost use Rattle.nom_run.specs.Stream.{NoneAbove};
 ghost use Rattle.nom_run.specs.Texts.{decided_text, lines_text, rest_text};
 ghost use Rattle.nom_messages_run.specs.Report.{IsReport, lines_of, message_text, ping_text};
 
+use example_protocol::{Message, messages};
 use nom::error::Error;
 use nom::{IResult, Items, OutOfMemory};
-use nom_protocol::{Message, messages};
 use nom_run::report::{Report, beginning_len, tell_stop};
 use nom_run::text::{add_bytes, add_decided, add_rest, add_words};
 use std::alloc::Allocator;
@@ -95,7 +95,7 @@ impl Report for Messages {
         bytes: &[u8],
         cuts: &[usize],
     ) -> Result<(String<A>, u8), OutOfMemory> {
-        bytes.known();
+        bytes.prove_known();
         let grown = messages(alloc, bytes, cuts);
         let beginning = beginning_len(bytes.len(), cuts, grown.index);
         tell(alloc, grown.index, beginning, grown.result)

@@ -4,7 +4,7 @@ use Rattle.std.proofs.lemmas.Bool.{le-ltb, ltb-false}
 use Rattle.std.proofs.Common.{◌≡◌, Bool, true, false, ℕ, ◌<◌, ◌≤◌, Some, None, refl}
 use Rattle.nom_error.specs.Errors.{Errors}
 use Rattle.nom_error.specs.declared.kind.ErrorKind.TheVariants as Kind
-use Rattle.nom_traits.specs.Input.{Seen}
+use Rattle.nom_traits.specs.Input.{Model}
 use Rattle.nom_internal.specs.Outcome.Outcome.{Accept}
 use Rattle.nom_internal.specs.Meaning.{Meaning}
 use Rattle.nom_repeat.specs.Inverted.{Either, error_outcome}
@@ -18,7 +18,7 @@ use Rattle.nom_multi.specs.Bounded.{count_meaning, many_m_n_meaning}
 use Rattle.nom_multi.specs.Many.{many0_meaning, many1_meaning}
 use Rattle.nom_repeat.specs.Bounds.{any_limits, exact_limits, bounded_limits}
 
-module _ {I A V E : Type 0} (w : Seen I A) (errs : Errors I E) (m : Meaning I V E) where
+module _ {I A V E : Type 0} (w : Model I A) (errs : Errors I E) (m : Meaning I V E) where
   pub many0_accepts_items : AcceptsItems w (Unit {0}) (λ a. 0 < a) 0 None m (many0_meaning w errs m)
   many0_accepts_items = items_accept w errs (any_limits Kind.Many0) (Unit {0}) m
 

@@ -10,15 +10,15 @@ use Rattle.nom_error.specs.declared.answer.Err as Answer
 use Rattle.nom_error.specs.declared.answer.Err.TheVariants.{Incomplete, Error, Failure, OutOfMemory}
 use Rattle.nom_error.specs.Answers.{size_of}
 use Rattle.nom_error.specs.Modes.{Built, Modes}
-use Rattle.nom_traits.specs.Input.{Seen}
+use Rattle.nom_traits.specs.Input.{Model}
 use Rattle.nom_internal.specs.Outcome.Outcome.{Accept, Refuse, Fail, TooLarge, Undecided}
 use Rattle.nom_internal.specs.Meaning.{Meaning, ShowsMeaning}
 use Rattle.nom_repeat.specs.Repeat.{TurnsBy, Pieces}
 use Rattle.nom_repeat.specs.Items.{item_turn, refused_turn}
-use Rattle.nom_repeat.proofs.Keeping.{zip_push}
+use Rattle.nom_repeat.proofs.Accumulating.{zip_push}
 use Rattle.nom_repeat.proofs.Parts.{part_refused, part_failed, part_lacks, part_ran_out}
 use Rattle.nom_repeat.proofs.Repeated.{Collected, pieces_end}
-use Rattle.nom_multi.specs.Fill.{Holds, Stops, IsFilled, IsPut}
+use Rattle.nom_multi.specs.Fill.{HoldsItems, StopsFilling, IsFilled, IsPut}
 use Rattle.nom_repeat.specs.Bounds.{exact_limits}
 
 length_zip : {V T : Type 0} (P : V → T → Type 0) (vs : List V) (xs : List T) → AllZip P vs xs → length vs ≡ length xs
@@ -57,7 +57,7 @@ pub is_over : {count l n k : ℕ} → l ≤ count → l ≡ n → count ≡ k �
 is_over h e c z = omega (arith, h, z, e, c)
 
 module _ {V T : Type 0} (P : V → T → Type 0) where
-  pub holds_none : (builds : Bool) (old : List T) → Holds P builds old [] old
+  pub holds_none : (builds : Bool) (old : List T) → HoldsItems P builds old [] old
   holds_none true old = ([], tt, refl)
   holds_none false old = refl
 
@@ -65,8 +65,8 @@ module _ {V T : Type 0} (P : V → T → Type 0) where
   none_some x e = absurd (cc (e))
 
   -- one output more
-  pub holds_more : (builds : Bool) (old : List T) (vs : List V) (v : V) (mid new : List T) (count : ℕ) (item : Option T) → Holds P builds old vs mid →
-      count ≡ length vs → count < length old → Built builds (P v) item → IsPut mid count item new → Holds P builds old (vs ++ v ∷ []) new
+  pub holds_more : (builds : Bool) (old : List T) (vs : List V) (v : V) (mid new : List T) (count : ℕ) (item : Option T) → HoldsItems P builds old vs mid →
+      count ≡ length vs → count < length old → Built builds (P v) item → IsPut mid count item new → HoldsItems P builds old (vs ++ v ∷ []) new
   holds_more true old vs v mid new count (Some x) h c l b p =
       let one : x ≡ b.0 = cc (b.1) in
       let here : count ≡ length h.0 = c ∙ length_zip P vs h.0 h.1 in (
@@ -79,58 +79,59 @@ module _ {V T : Type 0} (P : V → T → Type 0) where
   holds_more false old vs v mid new count (Some x) h c l b p = absurd (none_some x (sym b))
   holds_more false old vs v mid new count None h c l b p = p ∙ h
 
-module _ {I A V E : Type 0} {w : Seen I A} (m : Meaning I V E) (n : ℕ) (mode : Modes) {RanOut : Type 0} {Held : List V → Type 0} {i j : I}
+module _ {I A V E : Type 0} {w : Model I A} (m : Meaning I V E) (n : ℕ) (mode : Modes) {RanOut : Type 0} {Held : List V → Type 0} {i j : I}
     (c : Collected w (TurnsBy (Some n) (item_turn (exact_limits n)) (λ _. m.answers mode.streaming)) Held i j) where
   -- the buffer is full
-  pub stops_full : (length c.trees < n → ⊥) → Stops m n mode RanOut (length c.trees) j
+  pub stops_full : (length c.trees < n → ⊥) → StopsFilling m n mode RanOut (length c.trees) j
   stops_full h = inl (Accept 0 tt, record { reply = None; replied = h; fact = refl })
 
   module _ (below : length c.trees < n) {X : Type 0} {IsItem : V → X → Type 0} {f : Answer.Err E (Option E) Needed} where
-    pub stops_refused : {x : Option E} → f ≡ Error x → ShowsMeaning w IsItem m mode j (Err f) → Stops m n mode RanOut (length c.trees) j
+    pub stops_refused : {x : Option E} → f ≡ Error x → ShowsMeaning w IsItem m mode j (Err f) → StopsFilling m n mode RanOut (length c.trees) j
     stops_refused e h = inl (
       Refuse,
       record { reply = Some Refuse; replied = (below, part_refused e h); fact = ap (λ z. refused_turn z) (sym (lt-ltb (length c.trees) n below)) },
     )
 
-    pub stops_failed : {x : E} → f ≡ Failure x → ShowsMeaning w IsItem m mode j (Err f) → Stops m n mode RanOut (length c.trees) j
+    pub stops_failed : {x : E} → f ≡ Failure x → ShowsMeaning w IsItem m mode j (Err f) → StopsFilling m n mode RanOut (length c.trees) j
     stops_failed e h = by (part_failed e h).0
       where
-        by : m.answers mode.streaming j Fail ⊎ m.answers mode.streaming j TooLarge → Stops m n mode RanOut (length c.trees) j
+        by : m.answers mode.streaming j Fail ⊎ m.answers mode.streaming j TooLarge → StopsFilling m n mode RanOut (length c.trees) j
         by (inl a) = inl (Fail, record { reply = Some Fail; replied = (below, a); fact = refl })
         by (inr a) = inl (TooLarge, record { reply = Some TooLarge; replied = (below, a); fact = refl })
 
-    pub stops_undecided : {k : Needed} → f ≡ Incomplete k → ShowsMeaning w IsItem m mode j (Err f) → Stops m n mode RanOut (length c.trees) j
+    pub stops_undecided : {k : Needed} → f ≡ Incomplete k → ShowsMeaning w IsItem m mode j (Err f) → StopsFilling m n mode RanOut (length c.trees) j
     stops_undecided {k = k} e h = inl (Undecided (size_of k), record { reply = Some (Undecided (size_of k)); replied = (below, part_lacks e h); fact = refl })
 
-    pub stops_without_memory : f ≡ OutOfMemory → ShowsMeaning w IsItem m mode j (Err f) → RanOut → Stops m n mode RanOut (length c.trees) j
+    pub stops_without_memory : f ≡ OutOfMemory → ShowsMeaning w IsItem m mode j (Err f) → RanOut → StopsFilling m n mode RanOut (length c.trees) j
     stops_without_memory e h r = inr (part_ran_out e h, r)
 
 -- what the buffer holds where the items stop
-pub filled : {I A V T E : Type 0} {w : Seen I A} {P : V → T → Type 0} {m : Meaning I V E} {mode : Modes} {i j : I} {old new : List T}
+pub filled : {I A V T E : Type 0} {w : Model I A} {P : V → T → Type 0} {m : Meaning I V E} {mode : Modes} {i j : I} {old new : List T}
     {Counted : List V → Type 0} {RanOut : Type 0}
     (c : Collected w (TurnsBy (Some (length old)) (item_turn (exact_limits (length old))) (λ _. m.answers mode.streaming))
-    (λ vs. Holds P mode.outputs old vs new × Counted vs) i j) → Stops m (length old) mode RanOut (length c.trees) j → IsFilled w P m mode i old new RanOut
+    (λ vs. HoldsItems P mode.outputs old vs new × Counted vs) i j) → StopsFilling m (length old) mode RanOut (length c.trees) j →
+    IsFilled w P m mode i old new RanOut
 filled {w = w} {m = m} {mode = mode} {i = i} {j = j} {old = old} {RanOut = RanOut} c h = record {
   trees = c.trees;
   taken = c.taken;
   pieces = pieces_end w (TurnsBy (Some (length old)) (item_turn (exact_limits (length old))) (λ _. m.answers mode.streaming))
-      (Stops m (length old) mode RanOut) j (length c.trees) h 0 i c.trees c.taken (omega arith) c.pieces;
+      (StopsFilling m (length old) mode RanOut) j (length c.trees) h 0 i c.trees c.taken (omega arith) c.pieces;
   holds = c.held.0;
 }
 
 -- it is filled, whatever else follows from memory running out
-module _ {I A V E : Type 0} (w : Seen I A) (m : Meaning I V E) (n : ℕ) (mode : Modes) {RanOut Follows : Type 0} (f : RanOut → Follows) where
-  stops_then : (k : ℕ) (j : I) → Stops m n mode RanOut k j → Stops m n mode Follows k j
+module _ {I A V E : Type 0} (w : Model I A) (m : Meaning I V E) (n : ℕ) (mode : Modes) {RanOut Follows : Type 0} (f : RanOut → Follows) where
+  stops_then : (k : ℕ) (j : I) → StopsFilling m n mode RanOut k j → StopsFilling m n mode Follows k j
   stops_then k j (inl h) = inl h
   stops_then k j (inr h) = inr (h.0, f h.1)
 
   pieces_then : (k : ℕ) (i : I) (vs : List V) (taken : ℕ) →
-      Pieces w (TurnsBy (Some n) (item_turn (exact_limits n)) (λ _. m.answers mode.streaming)) (Stops m n mode RanOut) k i vs taken →
-      Pieces w (TurnsBy (Some n) (item_turn (exact_limits n)) (λ _. m.answers mode.streaming)) (Stops m n mode Follows) k i vs taken
+      Pieces w (TurnsBy (Some n) (item_turn (exact_limits n)) (λ _. m.answers mode.streaming)) (StopsFilling m n mode RanOut) k i vs taken →
+      Pieces w (TurnsBy (Some n) (item_turn (exact_limits n)) (λ _. m.answers mode.streaming)) (StopsFilling m n mode Follows) k i vs taken
   pieces_then k i [] taken p = (p.0, stops_then k i p.1)
   pieces_then k i (v ∷ vs) taken p = (p.0, p.1, p.2, p.3, p.4, pieces_then (k + 1) p.2 vs p.1 p.5, p.6)
 
-pub filled_then : {I A V T E : Type 0} {w : Seen I A} {P : V → T → Type 0} {m : Meaning I V E} {mode : Modes} {i : I} {old new : List T}
+pub filled_then : {I A V T E : Type 0} {w : Model I A} {P : V → T → Type 0} {m : Meaning I V E} {mode : Modes} {i : I} {old new : List T}
     {RanOut Follows : Type 0} → (RanOut → Follows) → IsFilled w P m mode i old new RanOut → IsFilled w P m mode i old new Follows
 filled_then {w = w} {m = m} {mode = mode} {i = i} {old = old} f h = record {
   trees = h.trees;

@@ -3,7 +3,7 @@ use Rattle.std.specs.Prelude.{ltb}
 use Rattle.std.proofs.lemmas.Bool.{le-ltb}
 use Rattle.std.proofs.Common.{◌≡◌, Bool, true, false, ℕ, ◌+◌, Option, Some, None, List, [], ◌∷◌, zero, suc, refl, arith, sym, subst}
 use Rattle.nom_error.specs.Errors.{Errors}
-use Rattle.nom_traits.specs.Input.{Seen, InputLaws}
+use Rattle.nom_traits.specs.Input.{Model, InputLaws}
 use Rattle.nom_traits.specs.Rests.{rest_rest}
 use Rattle.nom_internal.specs.Outcome.{Outcome}
 use Rattle.nom_internal.specs.Outcome.Outcome.{Accept, Refuse, Fail, TooLarge, Undecided}
@@ -40,7 +40,7 @@ ends_refused n f Fail e = absurd (cc)
 ends_refused n f TooLarge e = absurd (cc)
 ends_refused n f (Undecided k) e = absurd (cc)
 
-module _ {I A V : Type 0} (w : Seen I A) (Item : I → Outcome V → Type 0) where
+module _ {I A V : Type 0} (w : Model I A) (Item : I → Outcome V → Type 0) where
   pieces_empty : InputLaws w → (o : Outcome (Unit {0})) → o ≡ Refuse → (k : ℕ) (i : I) (vs : List V) (n : ℕ) → w.IsKnown i →
       Pieces w (TurnsBy None (item_turn (any_limits Kind.Many0)) (λ _. Item))
       (λ h j. TurnsBy None (item_turn (any_limits Kind.Many0)) (λ _. Item) h j (Ends o)) k i vs n → HasEmptyItem w Item i
@@ -59,7 +59,7 @@ module _ {I A V : Type 0} (w : Seen I A) (Item : I → Outcome V → Type 0) whe
       let b = pieces_empty l o q (k + 1) p.2 vs p.1 (p.4).known p.5 in
       record { taken = p.0 + b.taken; place = b.place; rest_is = rest_rest w l i p.0 p.2 b.taken b.place p.4 b.rest_is; tree = b.tree; accepted = b.accepted }
 
-module _ {I A V E : Type 0} (w : Seen I A) (errs : Errors I E) (m : Meaning I V E) where
+module _ {I A V E : Type 0} (w : Model I A) (errs : Errors I E) (m : Meaning I V E) where
   pub many0_refuses_at_empty : InputLaws w → RefusesAtEmpty w m (many0_meaning w errs m)
   many0_refuses_at_empty l s i h a =
       pieces_empty w (m.answers s) l a.ending (ends_refused a.taken (λ _. a.trees) a.ending a.outcome_is) 0 i a.trees a.taken h a.pieces

@@ -11,7 +11,7 @@ use Rattle.nom_error.specs.declared.answer.Err as Answer
 use Rattle.nom_error.specs.declared.answer.Err.TheVariants.{Incomplete, Error, Failure, OutOfMemory}
 use Rattle.nom_error.specs.declared.kind.ErrorKind.TheVariants as Kind
 use Rattle.nom_error.specs.Modes.{Built, Modes, modes}
-use Rattle.nom_traits.specs.Input.{Seen, InputLaws, IsRest}
+use Rattle.nom_traits.specs.Input.{Model, InputLaws, IsSuffixOf}
 use Rattle.nom_internal.specs.Outcome.{Outcome, ShowsAnswer}
 use Rattle.nom_internal.specs.Outcome.Outcome.{Accept, Refuse, Fail, TooLarge, Undecided}
 use Rattle.nom_internal.specs.Meaning.{Meaning, ShowsMeaning}
@@ -21,10 +21,10 @@ use Rattle.nom_internal.specs.Families.{always}
 use Rattle.nom_internal.proofs.Cased.{here, labels_err, labels_ok}
 use Rattle.nom_internal.proofs.Choices.{otherwise_first, otherwise_next, closes_built}
 use Rattle.nom_internal.proofs.Shown.{built_error}
-use Rattle.nom_repeat.specs.Kept.{GainsBoth}
+use Rattle.nom_repeat.specs.Accumulated.{PushesBoth}
 use Rattle.nom_repeat.specs.Repeat.{TurnsBy}
 use Rattle.nom_repeat.specs.Repeat.Turn.{Takes, Ends}
-use Rattle.nom_repeat.proofs.Keeping.{zip_push}
+use Rattle.nom_repeat.proofs.Accumulating.{zip_push}
 use Rattle.nom_repeat.proofs.Parts.{part_refused, part_refusal, part_failed, part_lacks, part_ran_out}
 use Rattle.nom_repeat.proofs.Repeated.{Collected, collected_more, ended_behind, refused, failed, too_large, lacking, ran_out, ran_out_within}
 use Rattle.nom_multi.specs.Till.{end_or_item, step_turn, till_turn, OnItem, till_rule, many_till_meaning, with_end, IsStep}
@@ -32,18 +32,18 @@ use Rattle.nom_multi.specs.declared.till.Step.{Step}
 use Rattle.nom_multi.specs.declared.till.Step.TheVariants.{End, Item}
 
 -- what is told of an end or an item
-abbrev pub ShowsStep : {I A T V O P E : Type 0} (w : Seen I A) (IsEnd : T → O → Type 0) (IsItem : V → P → Type 0) (end : Meaning I T E)
+abbrev pub ShowsStep : {I A T V O P E : Type 0} (w : Model I A) (IsEnd : T → O → Type 0) (IsItem : V → P → Type 0) (end : Meaning I T E)
     (m : Meaning I V E) (outputs errors streaming : Bool) (i : I) → Result (I × Option (Step (Option O) (Option P))) (Answer.Err E (Option E) Needed) → Type 0
 ShowsStep w IsEnd IsItem end m outputs errors streaming i r =
     ShowsAnswer w (IsStep outputs IsEnd IsItem) (modes true errors streaming) i ((end_or_item end m).answers streaming i)
-    ((end_or_item end m).blames streaming i) ((end_or_item end m).runs_out (modes outputs errors streaming) i) r
+    ((end_or_item end m).blames streaming i) ((end_or_item end m).may_run_out (modes outputs errors streaming) i) r
 
-module _ {I A T V O P E : Type 0} (w : Seen I A) (IsEnd : T → O → Type 0) (IsItem : V → P → Type 0) (end : Meaning I T E) (m : Meaning I V E)
+module _ {I A T V O P E : Type 0} (w : Model I A) (IsEnd : T → O → Type 0) (IsItem : V → P → Type 0) (end : Meaning I T E) (m : Meaning I V E)
     (outputs errors streaming : Bool) (i : I) where
   -- whatever the end answers but a refusal
   first : (r : Result (I × Option (Step (Option O) (Option P))) (Answer.Err E (Option E) Needed)) → ((x : Option E) → r ≡ Err (Error x) → ⊥) →
       ShowsAnswer w (IsStep outputs IsEnd IsItem) (modes true false streaming) i ((labelled_meaning {T = T ⊎ V} inl end).answers streaming i)
-      ((labelled_meaning {T = T ⊎ V} inl end).blames streaming i) ((labelled_meaning {T = T ⊎ V} inl end).runs_out (modes outputs false streaming) i)
+      ((labelled_meaning {T = T ⊎ V} inl end).blames streaming i) ((labelled_meaning {T = T ⊎ V} inl end).may_run_out (modes outputs false streaming) i)
       r → ShowsStep w IsEnd IsItem end m outputs errors streaming i r
   first r f h = otherwise_first w (IsStep outputs IsEnd IsItem) (labelled_meaning inl end)
       (labelled_meaning inr m) true (modes outputs errors streaming) i r f h
@@ -63,7 +63,7 @@ module _ {I A T V O P E : Type 0} (w : Seen I A) (IsEnd : T → O → Type 0) (I
   module _ (f : Answer.Err E (Option E) Needed) (b : Option E) (is : f ≡ Error b) (h : ShowsMeaning w IsEnd end (modes outputs false streaming) i (Err f)) where
     next : (r : Result (I × Option (Step (Option O) (Option P))) (Answer.Err E (Option E) Needed)) →
         ShowsAnswer w (IsStep outputs IsEnd IsItem) (modes true errors streaming) i ((labelled_meaning {T = T ⊎ V} inr m).answers streaming i)
-        ((labelled_meaning {T = T ⊎ V} inr m).blames streaming i) ((labelled_meaning {T = T ⊎ V} inr m).runs_out (modes outputs errors streaming) i) r →
+        ((labelled_meaning {T = T ⊎ V} inr m).blames streaming i) ((labelled_meaning {T = T ⊎ V} inr m).may_run_out (modes outputs errors streaming) i) r →
         ShowsStep w IsEnd IsItem end m outputs errors streaming i r
     next r k = otherwise_next w (IsStep outputs IsEnd IsItem) (labelled_meaning inl end)
         (labelled_meaning inr m) true (modes outputs errors streaming) i (here Refuse (part_refused is h) refl) r k
@@ -113,18 +113,18 @@ if_taken T Empty Taken v zero e h = absurd (omega (arith, e))
 if_taken T Empty Taken v (suc n) e h = h
 
 -- items were taken, and no end was found
-abbrev pub Till : {I A T V : Type 0} (w : Seen I A) (Part : I → Outcome (T ⊎ V) → Type 0) (Held : List V → Type 0) (i j : I) → Type 0
+abbrev pub Till : {I A T V : Type 0} (w : Model I A) (Part : I → Outcome (T ⊎ V) → Type 0) (Held : List V → Type 0) (i j : I) → Type 0
 Till w Part Held i j = Collected w (TurnsBy None (λ _ a. till_turn a) (λ _. Part)) Held i j
 
 -- what items until an end show
-abbrev pub ShowsTill : {I A T V O E : Type 0} (w : Seen I A) (errs : Errors I E) (m : Meaning I V E) (end : Meaning I T E)
+abbrev pub ShowsTill : {I A T V O E : Type 0} (w : Model I A) (errs : Errors I E) (m : Meaning I V E) (end : Meaning I T E)
     (IsOutput : List V × T → O → Type 0) (mode : Modes) (i : I) → Result (I × Option O) (Answer.Err E (Option E) Needed) → Type 0
 ShowsTill w errs m end IsOutput mode i r = ShowsMeaning w IsOutput (many_till_meaning w errs m end) mode i r
 
-module _ {I A T V O E : Type 0} {w : Seen I A} (errs : Errors I E) (m : Meaning I V E) (end : Meaning I T E) (IsOutput : List V × T → O → Type 0)
+module _ {I A T V O E : Type 0} {w : Model I A} (errs : Errors I E) (m : Meaning I V E) (end : Meaning I T E) (IsOutput : List V × T → O → Type 0)
     (mode : Modes) {Held : List V → Type 0} {i j : I} (c : Till w ((end_or_item end m).answers mode.streaming) Held i j) where
   pub till_ended : InputLaws w → {n : ℕ} {u : T ⊎ V} (t : T) → (end_or_item end m).answers mode.streaming j (Accept n u) → u ≡ inl t → {h : I} →
-      IsRest w j n h → (x : Option O) → Built mode.outputs (IsOutput (c.trees, t)) x → ShowsTill w errs m end IsOutput mode i (Ok (h, x))
+      IsSuffixOf w j n h → (x : Option O) → Built mode.outputs (IsOutput (c.trees, t)) x → ShowsTill w errs m end IsOutput mode i (Ok (h, x))
   till_ended l {n} {u} t a is q x z =
       ended_behind (till_rule errs) with_end (always (end_or_item end m)) c (Some (Accept n (inl t)))
       (tt, subst (λ y. (end_or_item end m).answers mode.streaming j (Accept n y)) is a) l n t q refl z
@@ -151,7 +151,7 @@ module _ {I A T V O E : Type 0} {w : Seen I A} (errs : Errors I E) (m : Meaning 
 
   module _ {X : Type 0} {IsTold : T ⊎ V → X → Type 0} {f : Answer.Err E (Option E) Needed}
       (h : ShowsAnswer w IsTold (modes true mode.errors mode.streaming) j ((end_or_item end m).answers mode.streaming j)
-      ((end_or_item end m).blames mode.streaming j) ((end_or_item end m).runs_out mode j) (Err f)) where
+      ((end_or_item end m).blames mode.streaming j) ((end_or_item end m).may_run_out mode j) (Err f)) where
     pub till_refused : {x : Option E} → f ≡ Error x → (g : Answer.Err E (Option E) Needed) →
         ClosesError (errs.appended j Kind.ManyTill) errs.grows x g → ShowsTill w errs m end IsOutput mode i (Err g)
     till_refused {x} e g q =
@@ -181,18 +181,18 @@ module _ {I A T V O E : Type 0} {w : Seen I A} (errs : Errors I E) (m : Meaning 
     till_ran_out e = ran_out_within (till_rule errs) with_end (always (end_or_item end m)) c tt (part_ran_out e h)
 
 -- one item more
-pub till_more : {I A T V : Type 0} {w : Seen I A} (l : InputLaws w) (Part : I → Outcome (T ⊎ V) → Type 0) {Held More : List V → Type 0} {i j h : I}
-    (c : Till w Part Held i j) {n : ℕ} {u : T ⊎ V} (v : V) → Part j (Accept n u) → u ≡ inr v → 0 < n → IsRest w j n h → More (c.trees ++ v ∷ []) →
+pub till_more : {I A T V : Type 0} {w : Model I A} (l : InputLaws w) (Part : I → Outcome (T ⊎ V) → Type 0) {Held More : List V → Type 0} {i j h : I}
+    (c : Till w Part Held i j) {n : ℕ} {u : T ⊎ V} (v : V) → Part j (Accept n u) → u ≡ inr v → 0 < n → IsSuffixOf w j n h → More (c.trees ++ v ∷ []) →
     Till w Part More i h
 till_more l Part {i = i} {j = j} c {n} v a is p q z =
     collected_more l (TurnsBy None (λ _ x. till_turn x) (λ _. Part)) v c
     (record { reply = Some (Accept n (inr v)); replied = (tt, subst (λ y. Part j (Accept n y)) is a); fact = taken_turn v n p }) q z
 
 -- the list grows by what is built
-pub list_gained : {V O A : Type 0} (P : V → O → Type 0) (builds : Bool) (vs : List V) (v : V) (old new : Option (Vec O A)) (item : Option O) →
-    GainsBoth (λ (k : Vec O A) x (n : Vec O A). n.items ≡ k.items ++ x ∷ []) (λ _. Unit {0}) old item new →
+pub list_pushed : {V O A : Type 0} (P : V → O → Type 0) (builds : Bool) (vs : List V) (v : V) (old new : Option (Vec O A)) (item : Option O) →
+    PushesBoth (λ (k : Vec O A) x (n : Vec O A). n.items ≡ k.items ++ x ∷ []) (λ _. Unit {0}) old item new →
     Built builds (λ (k : Vec O A). AllZip P vs k.items) old → Built builds (P v) item → Built builds (λ (k : Vec O A). AllZip P (vs ++ v ∷ []) k.items) new
-list_gained P true vs v (Some k) (Some n) (Some x) g b c =
+list_pushed P true vs v (Some k) (Some n) (Some x) g b c =
     let list : k ≡ b.0 = cc (b.1) in
     let one : x ≡ c.0 = cc (c.1) in (
       n,
@@ -200,11 +200,11 @@ list_gained P true vs v (Some k) (Some n) (Some x) g b c =
       subst (λ z. AllZip P (vs ++ v ∷ []) z) (sym g.0)
           (zip_push P vs k.items v x (subst (λ z. AllZip P vs z.items) (sym list) b.2) (subst (λ z. P v z) (sym one) c.2)),
     )
-list_gained P true vs v (Some k) None (Some x) g b c = absurd g
-list_gained P true vs v (Some k) n None g b c = absurd (cc (c.1))
-list_gained P true vs v None n x g b c = absurd (cc (b.1))
-list_gained P false vs v (Some k) n x g b c = absurd (cc (b))
-list_gained P false vs v None n x g b c = g
+list_pushed P true vs v (Some k) None (Some x) g b c = absurd g
+list_pushed P true vs v (Some k) n None g b c = absurd (cc (c.1))
+list_pushed P true vs v None n x g b c = absurd (cc (b.1))
+list_pushed P false vs v (Some k) n x g b c = absurd (cc (b))
+list_pushed P false vs v None n x g b c = g
 
 -- any list may grow
 pub may_grow : {K : Type 0} (x : Option K) → IfSome x (λ _. Unit {0})
@@ -212,7 +212,7 @@ may_grow (Some k) = tt
 may_grow None = tt
 
 -- what is told, at the states before
-pub stands_at : {S R I A T V O P E : Type 0} {w : Seen I A} (IsEnd : S → T → O → Type 0) (IsItem : R → V → P → Type 0) (end : S → Meaning I T E)
+pub stands_at : {S R I A T V O P E : Type 0} {w : Model I A} (IsEnd : S → T → O → Type 0) (IsItem : R → V → P → Type 0) (end : S → Meaning I T E)
     (m : R → Meaning I V E) {outputs errors streaming : Bool} {i : I}
     {r : Result (I × Option (Step (Option O) (Option P))) (Answer.Err E (Option E) Needed)} {a b : S} {x y : R} → a ≡ b → x ≡ y →
     ShowsStep w (IsEnd a) (IsItem x) (end a) (m x) outputs errors streaming i r → ShowsStep w (IsEnd b) (IsItem y) (end b) (m y) outputs errors streaming i r

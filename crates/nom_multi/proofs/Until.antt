@@ -1,7 +1,7 @@
 -- What lists until an end accept.
 use Rattle.std.proofs.Common.{◌≡◌, Bool, ℕ, ◌+◌, ◌<◌, ◌⊎◌, Option, Some, None, List, [], ◌∷◌, zero, suc, refl, arith, ap, subst, sym, inl, inr}
 use Rattle.nom_error.specs.Errors.{Errors}
-use Rattle.nom_traits.specs.Input.{Seen}
+use Rattle.nom_traits.specs.Input.{Model}
 use Rattle.nom_internal.specs.Outcome.{Outcome}
 use Rattle.nom_internal.specs.Outcome.Outcome.{Accept, Refuse, Fail, TooLarge, Undecided}
 use Rattle.nom_internal.specs.Meaning.{Meaning}
@@ -93,7 +93,7 @@ module _ {T V : Type 0} where
   takes_item zero v h = absurd (omega (arith, h))
   takes_item (suc n) v h = refl
 
-module _ {I A T V E : Type 0} (w : Seen I A) (errs : Errors I E) (m : Meaning I V E) (end : Meaning I T E) (s : Bool) where
+module _ {I A T V E : Type 0} (w : Model I A) (errs : Errors I E) (m : Meaning I V E) (end : Meaning I T E) (s : Bool) where
   abbrev Turns : ℕ → I → Turn V T → Type 0
   Turns = TurnsBy None (λ _ a. till_turn a) (λ _. (end_or_item end m).answers s)
 
@@ -154,6 +154,6 @@ module _ {I A T V E : Type 0} (w : Seen I A) (errs : Errors I E) (m : Meaning I 
     outcome_is = ap (λ c. Accept c (vs, t)) h.length_is;
   }
 
-pub many_till_accepts_until : {I A T V E : Type 0} (w : Seen I A) (errs : Errors I E) (m : Meaning I V E) (end : Meaning I T E) →
+pub many_till_accepts_until : {I A T V E : Type 0} (w : Model I A) (errs : Errors I E) (m : Meaning I V E) (end : Meaning I T E) →
     AcceptsUntil w m end (many_till_meaning w errs m end)
 many_till_accepts_until w errs m end s i n vs t = (until_forward w errs m end s i n vs t, until_backward w errs m end s i n vs t)

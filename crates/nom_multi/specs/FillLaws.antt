@@ -1,7 +1,7 @@
 -- The laws of items in a buffer.
 use Rattle.std.specs.Prelude.{ℕ, refl}
 use Rattle.nom_error.specs.Errors.{Errors}
-use Rattle.nom_traits.specs.Input.{Seen, InputLaws}
+use Rattle.nom_traits.specs.Input.{Model, InputLaws}
 use Rattle.nom_traits.specs.View.{itself}
 use Rattle.nom_internal.specs.Meaning.{Meaning, IsLawful, IsSteady}
 use Rattle.nom_internal.specs.Pinned.{IsPinned}
@@ -9,7 +9,7 @@ use Rattle.nom_repeat.specs.ItemsLaws.{items_lawful, items_steady}
 use Rattle.nom_multi.specs.Fill.{fill_meaning, IsDone}
 use Rattle.nom_repeat.specs.Bounds.{exact_limits}
 
-module _ {I A V E : Type 0} (w : Seen I A) (l : InputLaws w) (errs : Errors I E) (n : ℕ) (m : Meaning I V E) where
+module _ {I A V E : Type 0} (w : Model I A) (l : InputLaws w) (errs : Errors I E) (n : ℕ) (m : Meaning I V E) where
   pub fill_lawful : IsLawful w m → IsLawful w (fill_meaning w errs n m)
   fill_lawful p = items_lawful w l errs (exact_limits n) ⊥ m p
 

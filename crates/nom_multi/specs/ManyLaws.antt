@@ -1,6 +1,6 @@
 -- The laws of items until one is refused.
 use Rattle.nom_error.specs.Errors.{Errors}
-use Rattle.nom_traits.specs.Input.{Seen, InputLaws}
+use Rattle.nom_traits.specs.Input.{Model, InputLaws}
 use Rattle.nom_internal.specs.Meaning.{Meaning, IsLawful, IsSteady}
 use Rattle.nom_repeat.specs.ItemsLaws.{items_lawful, items_steady}
 use Rattle.nom_multi.specs.Many.{many0_meaning, many1_meaning}
@@ -11,7 +11,7 @@ use Rattle.nom_repeat.specs.Bounds.{any_limits, one_limits}
 use Rattle.nom_error.specs.declared.kind.ErrorKind.TheVariants as Kind
 use Rattle.nom_repeat.specs.declared.items.TooFew.TheVariants.{Added}
 
-module _ {I A V E : Type 0} (w : Seen I A) (l : InputLaws w) (errs : Errors I E) (m : Meaning I V E) where
+module _ {I A V E : Type 0} (w : Model I A) (l : InputLaws w) (errs : Errors I E) (m : Meaning I V E) where
   pub many0_lawful : IsLawful w m → IsLawful w (many0_meaning w errs m)
   many0_lawful p = items_lawful w l errs (any_limits Kind.Many0) (Unit {0}) m p
 

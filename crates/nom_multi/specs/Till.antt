@@ -4,7 +4,7 @@ use Rattle.std.proofs.Common.{inl, inr}
 use Rattle.nom_error.specs.Errors.{Errors}
 use Rattle.nom_error.specs.Modes.{Built}
 use Rattle.nom_error.specs.declared.kind.ErrorKind.TheVariants as Kind
-use Rattle.nom_traits.specs.Input.{Seen}
+use Rattle.nom_traits.specs.Input.{Model}
 use Rattle.nom_internal.specs.Outcome.{Outcome}
 use Rattle.nom_internal.specs.Outcome.Outcome.{Accept, Refuse, Fail, TooLarge, Undecided}
 use Rattle.nom_internal.specs.Meaning.{Meaning}
@@ -52,12 +52,12 @@ TillBlames errs j None P e = ⊥
 
 -- where memory is needed: for an error, or to keep an item
 abbrev pub TillAsks : {T V : Type 0} → Type 0 → Type 0 → Option (Outcome (T ⊎ V)) → Type 0
-TillAsks Refused Kept (Some (Accept n u)) = OnItem Refused Kept u n
-TillAsks Refused Kept (Some Refuse) = Refused
-TillAsks Refused Kept (Some Fail) = ⊥
-TillAsks Refused Kept (Some TooLarge) = ⊥
-TillAsks Refused Kept (Some (Undecided n)) = ⊥
-TillAsks Refused Kept None = ⊥
+TillAsks Refused Accumulated (Some (Accept n u)) = OnItem Refused Accumulated u n
+TillAsks Refused Accumulated (Some Refuse) = Refused
+TillAsks Refused Accumulated (Some Fail) = ⊥
+TillAsks Refused Accumulated (Some TooLarge) = ⊥
+TillAsks Refused Accumulated (Some (Undecided n)) = ⊥
+TillAsks Refused Accumulated None = ⊥
 
 abbrev pub till_rule : {I T V E : Type 0} → Errors I E → Rule I (T ⊎ V) V T E
 till_rule errs = record {
@@ -76,7 +76,7 @@ abbrev pub with_end : {T V : Type 0} → List V → T → List V × T
 with_end vs t = (vs, t)
 
 -- items until an end, with the list of their trees and the end's tree
-abbrev pub many_till_meaning : {I A T V E : Type 0} → Seen I A → Errors I E → Meaning I V E → Meaning I T E → Meaning I (List V × T) E
+abbrev pub many_till_meaning : {I A T V E : Type 0} → Model I A → Errors I E → Meaning I V E → Meaning I T E → Meaning I (List V × T) E
 many_till_meaning w errs m end = repeat_meaning w (till_rule errs) with_end (always (end_or_item end m))
 
 -- what is told of an end or an item: what is built of it

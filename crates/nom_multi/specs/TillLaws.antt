@@ -2,7 +2,7 @@
 use Rattle.std.specs.Prelude.{◌≡◌, ℕ, ◌⊎◌, Bool, true, false, Option, Some, None, zero, suc, refl}
 use Rattle.std.proofs.Common.{inl, inr}
 use Rattle.nom_error.specs.Errors.{Errors}
-use Rattle.nom_traits.specs.Input.{Seen, InputLaws}
+use Rattle.nom_traits.specs.Input.{Model, InputLaws}
 use Rattle.nom_internal.specs.Outcome.{Outcome, failure}
 use Rattle.nom_internal.specs.Outcome.Outcome.{Accept, Refuse, Fail, TooLarge, Undecided}
 use Rattle.nom_internal.specs.Meaning.{Meaning, IsLawful, IsSteady}
@@ -45,18 +45,19 @@ till_blames errs j (Some TooLarge) X Y e f h = f tt e h
 till_blames errs j (Some (Undecided n)) X Y e f h = h
 till_blames errs j None X Y e f h = h
 
-item_asks_none : {T V : Type 0} (Refused Kept : Type 0) (u : T ⊎ V) (n : ℕ) → (Refused → ⊥) → (Kept → ⊥) → OnItem Refused Kept u n → ⊥
-item_asks_none Refused Kept (inl t) n f g h = h
-item_asks_none Refused Kept (inr v) zero f g h = f h
-item_asks_none Refused Kept (inr v) (suc n) f g h = g h
+item_asks_none : {T V : Type 0} (Refused Accumulated : Type 0) (u : T ⊎ V) (n : ℕ) → (Refused → ⊥) → (Accumulated → ⊥) → OnItem Refused Accumulated u n → ⊥
+item_asks_none Refused Accumulated (inl t) n f g h = h
+item_asks_none Refused Accumulated (inr v) zero f g h = f h
+item_asks_none Refused Accumulated (inr v) (suc n) f g h = g h
 
-till_asks_none : {T V : Type 0} (Refused Kept : Type 0) (a : Option (Outcome (T ⊎ V))) → (Refused → ⊥) → (Kept → ⊥) → TillAsks Refused Kept a → ⊥
-till_asks_none Refused Kept (Some (Accept n u)) f g h = item_asks_none Refused Kept u n f g h
-till_asks_none Refused Kept (Some Refuse) f g h = f h
-till_asks_none Refused Kept (Some Fail) f g h = h
-till_asks_none Refused Kept (Some TooLarge) f g h = h
-till_asks_none Refused Kept (Some (Undecided n)) f g h = h
-till_asks_none Refused Kept None f g h = h
+till_asks_none : {T V : Type 0} (Refused Accumulated : Type 0) (a : Option (Outcome (T ⊎ V))) → (Refused → ⊥) → (Accumulated → ⊥) →
+    TillAsks Refused Accumulated a → ⊥
+till_asks_none Refused Accumulated (Some (Accept n u)) f g h = item_asks_none Refused Accumulated u n f g h
+till_asks_none Refused Accumulated (Some Refuse) f g h = f h
+till_asks_none Refused Accumulated (Some Fail) f g h = h
+till_asks_none Refused Accumulated (Some TooLarge) f g h = h
+till_asks_none Refused Accumulated (Some (Undecided n)) f g h = h
+till_asks_none Refused Accumulated None f g h = h
 
 step_never_fails : {T V : Type 0} (large : Bool) (u : T ⊎ V) (n : ℕ) → Ends (failure large) ≡ step_turn u n → ⊥
 step_never_fails true (inl t) n e = absurd (cc (e))
@@ -89,7 +90,7 @@ till_rule_laws errs = record {
   never_fails = λ Part large k a h e. (h, till_fails large a e);
 }
 
-module _ {I A T V E : Type 0} (w : Seen I A) (l : InputLaws w) (errs : Errors I E) (m : Meaning I V E) (end : Meaning I T E) where
+module _ {I A T V E : Type 0} (w : Model I A) (l : InputLaws w) (errs : Errors I E) (m : Meaning I V E) (end : Meaning I T E) where
   pub many_till_lawful : IsLawful w m → IsLawful w end → IsLawful w (many_till_meaning w errs m end)
   many_till_lawful p q =
       let part : IsLawful w (end_or_item end m) =

@@ -9,9 +9,9 @@ use nom_error::kind::ErrorKind;
 use nom_error::mode::OutputMode;
 use nom_error::value::ParseError;
 use nom_internal::parser::{Parser, StreamParser};
+use nom_repeat::accumulator::none_yet;
 use nom_repeat::inverted::failure;
 use nom_repeat::items::{Limits, TooFew, items};
-use nom_repeat::keep::none_yet;
 use nom_traits::input::{Input, Items};
 use std::alloc::Allocator;
 
@@ -38,7 +38,7 @@ impl<I: Items, A: Allocator + Copy, F: Parser<I> + Drop> Parser<I> for Count<A, 
 
     ghost IsOutput = { λ s vs o. AllZip (F.IsOutput s.1) vs o.items };
 
-    ghost meaning = { λ s. count_meaning I.seen F.Error.errors s.0 (F.meaning s.1) };
+    ghost meaning = { λ s. count_meaning I.model F.Error.errors s.0 (F.meaning s.1) };
 
     ghost Pins = { λ s. F.Pins s.1 };
 
@@ -48,7 +48,7 @@ impl<I: Items, A: Allocator + Copy, F: Parser<I> + Drop> Parser<I> for Count<A, 
         items_exactly::<OM, I, F, Vec<F::Output, A>>(&mut self.parser, input, none, self.count)
     }
 
-    ghost lawful = { λ s k. count_lawful I.seen I.lawful F.Error.errors s.0 (F.meaning s.1) (F.lawful s.1 k) };
+    ghost lawful = { λ s k. count_lawful I.model I.lawful F.Error.errors s.0 (F.meaning s.1) (F.lawful s.1 k) };
 }
 
 impl<I: Items, A: Allocator + Copy, F: StreamParser<I> + Drop> StreamParser<I> for Count<A, F> {
@@ -57,7 +57,7 @@ impl<I: Items, A: Allocator + Copy, F: StreamParser<I> + Drop> StreamParser<I> f
 
     ghost pinned = { λ s k p. list_pinned F.Output.view (F.IsOutput s.1) (F.pinned s.1 k p) };
 
-    ghost steady = { λ s k. count_steady I.seen I.lawful F.Error.errors s.0 (F.meaning s.1) (F.steady s.1 k) };
+    ghost steady = { λ s k. count_steady I.model I.lawful F.Error.errors s.0 (F.meaning s.1) (F.steady s.1 k) };
 }
 
 /// Items until one is refused, as many as the bounds say; made by `many_m_n`.
@@ -84,7 +84,7 @@ impl<I: Input, A: Allocator + Copy, F: Parser<I> + Drop> Parser<I> for ManyMN<A,
 
     ghost IsOutput = { λ s vs o. AllZip (F.IsOutput s.2) vs o.items };
 
-    ghost meaning = { λ s. many_m_n_meaning I.seen F.Error.errors s.0 s.1 (F.meaning s.2) };
+    ghost meaning = { λ s. many_m_n_meaning I.model F.Error.errors s.0 s.1 (F.meaning s.2) };
 
     ghost Pins = { λ s. F.Pins s.2 };
 
@@ -104,7 +104,7 @@ impl<I: Input, A: Allocator + Copy, F: Parser<I> + Drop> Parser<I> for ManyMN<A,
         items::<OM, OM::Error, I, F, Vec<F::Output, A>>(&mut self.parser, input, none, limits)
     }
 
-    ghost lawful = { λ s k. many_m_n_lawful I.seen I.lawful F.Error.errors s.0 s.1 (F.meaning s.2) (F.lawful s.2 k) };
+    ghost lawful = { λ s k. many_m_n_lawful I.model I.lawful F.Error.errors s.0 s.1 (F.meaning s.2) (F.lawful s.2 k) };
 }
 
 impl<I: Input, A: Allocator + Copy, F: StreamParser<I> + Drop> StreamParser<I> for ManyMN<A, F> {
@@ -113,5 +113,5 @@ impl<I: Input, A: Allocator + Copy, F: StreamParser<I> + Drop> StreamParser<I> f
 
     ghost pinned = { λ s k p. list_pinned F.Output.view (F.IsOutput s.2) (F.pinned s.2 k p) };
 
-    ghost steady = { λ s k. many_m_n_steady I.seen I.lawful F.Error.errors s.0 s.1 (F.meaning s.2) (F.steady s.2 k) };
+    ghost steady = { λ s k. many_m_n_steady I.model I.lawful F.Error.errors s.0 s.1 (F.meaning s.2) (F.steady s.2 k) };
 }

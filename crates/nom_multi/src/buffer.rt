@@ -36,10 +36,10 @@ impl<'a, I: Items, T: Drop, F: Parser<I, Output = T> + Drop> Parser<I> for Fill<
     ghost IsOutput = { λ _. IsDone };
 
     /// What the buffer holds.
-    ghost Besides = { λ mode old new i rest. IsFilled I.seen (F.IsOutput (F.state old.parser)) (F.meaning (F.state old.parser)) mode i
+    ghost Besides = { λ mode old new i rest. IsFilled I.model (F.IsOutput (F.state old.parser)) (F.meaning (F.state old.parser)) mode i
         old.buffer.now new.buffer.now (rest ≡ None) };
 
-    ghost meaning = { λ s. fill_meaning I.seen F.Error.errors s.1 (F.meaning s.0) };
+    ghost meaning = { λ s. fill_meaning I.model F.Error.errors s.1 (F.meaning s.0) };
 
     ghost Pins = { λ _. Unit {0} };
 
@@ -48,7 +48,7 @@ impl<'a, I: Items, T: Drop, F: Parser<I, Output = T> + Drop> Parser<I> for Fill<
         fill_buffer::<OM, I, T, F>(&mut self.parser, self.buffer, input)
     }
 
-    ghost lawful = { λ s k. fill_lawful I.seen I.lawful F.Error.errors s.1 (F.meaning s.0) (F.lawful s.0 k) };
+    ghost lawful = { λ s k. fill_lawful I.model I.lawful F.Error.errors s.1 (F.meaning s.0) (F.lawful s.0 k) };
 }
 
 impl<'a, I: Items, T: Viewed + Drop, F: StreamParser<I, Output = T> + Drop> StreamParser<I>
@@ -57,7 +57,7 @@ impl<'a, I: Items, T: Viewed + Drop, F: StreamParser<I, Output = T> + Drop> Stre
 
     ghost pinned = { λ s k p. done_pinned };
 
-    ghost steady = { λ s k. fill_steady I.seen I.lawful F.Error.errors s.1 (F.meaning s.0) (F.steady s.0 k) };
+    ghost steady = { λ s k. fill_steady I.model I.lawful F.Error.errors s.1 (F.meaning s.0) (F.steady s.0 k) };
 }
 
 /// Runs a parser as often as a buffer is long, and writes its outputs at the front of the buffer, one
@@ -69,14 +69,14 @@ pub fn fill_buffer<OM: OutputMode, I: Items, T: Drop, F: Parser<I, Output = T>>(
     input: I,
 ) -> PResult<I, (), F::Error>
     requires { (F.meaning (F.state parser.old)).IsSound }
-    ensures shown { ShowsMeaning I.seen IsDone (fill_meaning I.seen F.Error.errors (length buffer.old) (F.meaning (F.state parser.old)))
+    ensures shown { ShowsMeaning I.model IsDone (fill_meaning I.model F.Error.errors (length buffer.old) (F.meaning (F.state parser.old)))
         (modes OM.Output.BUILDS OM.Error.BUILDS OM.Incomplete.STREAMING) input result }
     ensures kept { F.state parser.new ≡ F.state parser.old }
     ensures long { length buffer.new ≡ length buffer.old }
-    ensures filled { IsFilled I.seen (F.IsOutput (F.state parser.old)) (F.meaning (F.state parser.old))
+    ensures filled { IsFilled I.model (F.IsOutput (F.state parser.old)) (F.meaning (F.state parser.old))
         (modes OM.Output.BUILDS OM.Error.BUILDS OM.Incomplete.STREAMING) input buffer.old buffer.new (IsRanOut result) }
 {
-    input.known();
+    input.prove_known();
     let mut rest = input;
     let mut count = 0usize;
     while count < buffer.len() {

@@ -8,8 +8,8 @@ use nom_error::kind::ErrorKind;
 use nom_error::mode::{Check, OutputMode};
 use nom_error::value::ParseError;
 use nom_internal::parser::{Parser, StreamParser};
+use nom_repeat::accumulator::none_yet;
 use nom_repeat::items::{Limits, TooFew, items};
-use nom_repeat::keep::none_yet;
 use nom_traits::input::{Input, Items};
 use std::alloc::Allocator;
 
@@ -35,7 +35,7 @@ impl<I: Input, A: Allocator + Copy, F: Parser<I> + Drop> Parser<I> for Many0<A, 
 
     ghost IsOutput = { λ s vs o. AllZip (F.IsOutput s) vs o.items };
 
-    ghost meaning = { λ s. many0_meaning I.seen F.Error.errors (F.meaning s) };
+    ghost meaning = { λ s. many0_meaning I.model F.Error.errors (F.meaning s) };
 
     ghost Pins = { F.Pins };
 
@@ -52,7 +52,7 @@ impl<I: Input, A: Allocator + Copy, F: Parser<I> + Drop> Parser<I> for Many0<A, 
         items::<OM, Check, I, F, Vec<F::Output, A>>(&mut self.parser, input, none, limits)
     }
 
-    ghost lawful = { λ s k. many0_lawful I.seen I.lawful F.Error.errors (F.meaning s) (F.lawful s k) };
+    ghost lawful = { λ s k. many0_lawful I.model I.lawful F.Error.errors (F.meaning s) (F.lawful s k) };
 }
 
 impl<I: Input, A: Allocator + Copy, F: StreamParser<I> + Drop> StreamParser<I> for Many0<A, F> {
@@ -61,7 +61,7 @@ impl<I: Input, A: Allocator + Copy, F: StreamParser<I> + Drop> StreamParser<I> f
 
     ghost pinned = { λ s k p. list_pinned F.Output.view (F.IsOutput s) (F.pinned s k p) };
 
-    ghost steady = { λ s k. many0_steady I.seen I.lawful F.Error.errors (F.meaning s) (F.steady s k) };
+    ghost steady = { λ s k. many0_steady I.model I.lawful F.Error.errors (F.meaning s) (F.steady s k) };
 }
 
 /// Items until one is refused, and one at least; made by `many1`.
@@ -86,7 +86,7 @@ impl<I: Input, A: Allocator + Copy, F: Parser<I> + Drop> Parser<I> for Many1<A, 
 
     ghost IsOutput = { λ s vs o. AllZip (F.IsOutput s) vs o.items };
 
-    ghost meaning = { λ s. many1_meaning I.seen F.Error.errors (F.meaning s) };
+    ghost meaning = { λ s. many1_meaning I.model F.Error.errors (F.meaning s) };
 
     ghost Pins = { F.Pins };
 
@@ -116,7 +116,7 @@ impl<I: Input, A: Allocator + Copy, F: Parser<I> + Drop> Parser<I> for Many1<A, 
         items::<OM, Check, I, F, Vec<F::Output, A>>(&mut self.parser, rest, first, any)
     }
 
-    ghost lawful = { λ s k. many1_lawful I.seen I.lawful F.Error.errors (F.meaning s) (F.lawful s k.0) };
+    ghost lawful = { λ s k. many1_lawful I.model I.lawful F.Error.errors (F.meaning s) (F.lawful s k.0) };
 }
 
 impl<I: Input, A: Allocator + Copy, F: StreamParser<I> + Drop> StreamParser<I> for Many1<A, F> {
@@ -125,5 +125,5 @@ impl<I: Input, A: Allocator + Copy, F: StreamParser<I> + Drop> StreamParser<I> f
 
     ghost pinned = { λ s k p. list_pinned F.Output.view (F.IsOutput s) (F.pinned s k.0 p) };
 
-    ghost steady = { λ s k. many1_steady I.seen I.lawful F.Error.errors (F.meaning s) (F.steady s k.0) };
+    ghost steady = { λ s k. many1_steady I.model I.lawful F.Error.errors (F.meaning s) (F.steady s k.0) };
 }

@@ -13,30 +13,30 @@ use std::alloc::Allocator;
 
 /// `many0` answers an `Error` only where an item was accepted without consuming.
 pub fn refuses_at_empty<I: Input, A: Allocator + Copy, F: Parser<I> + Drop>(_parser: &Many0<A, F>)
-    ensures { RefusesAtEmpty I.seen (F.meaning (F.state _parser.now.parser)) (⟦<Many0<A, F> as Parser<I>>⟧.meaning (F.state _parser.now.parser)) }
+    ensures { RefusesAtEmpty I.model (F.meaning (F.state _parser.now.parser)) (⟦<Many0<A, F> as Parser<I>>⟧.meaning (F.state _parser.now.parser)) }
 {}
 
 /// `many0` gives at most as many items as the input is long.
 pub fn has_few_items<I: Input, A: Allocator + Copy, F: Parser<I> + Drop>(_parser: &Many0<A, F>)
-    ensures { HasFewItems I.seen (⟦<Many0<A, F> as Parser<I>>⟧.meaning (F.state _parser.now.parser)) }
+    ensures { HasFewItems I.model (⟦<Many0<A, F> as Parser<I>>⟧.meaning (F.state _parser.now.parser)) }
 {}
 
 /// `many0` accepts just the items that its part accepts, one after the other, none of them empty, up to
 /// where the part refuses.
 pub fn many0_accepts<I: Input, A: Allocator + Copy, F: Parser<I> + Drop>(_parser: &Many0<A, F>)
-    ensures { AcceptsItems I.seen (Unit {0}) (λ a. 0 < a) 0 None (F.meaning (F.state _parser.now.parser))
+    ensures { AcceptsItems I.model (Unit {0}) (λ a. 0 < a) 0 None (F.meaning (F.state _parser.now.parser))
         (⟦<Many0<A, F> as Parser<I>>⟧.meaning (F.state _parser.now.parser)) }
 {}
 
 /// `many1` accepts a first item, and after it just what `many0` accepts.
 pub fn many1_accepts<I: Input, A: Allocator + Copy, F: Parser<I> + Drop>(_parser: &Many1<A, F>)
-    ensures { AcceptsOneAndMore I.seen (F.meaning (F.state _parser.now.parser)) (F.meaning (F.state _parser.now.parser))
+    ensures { AcceptsOneAndMore I.model (F.meaning (F.state _parser.now.parser)) (F.meaning (F.state _parser.now.parser))
         (⟦<Many1<A, F> as Parser<I>>⟧.meaning (F.state _parser.now.parser)) }
 {}
 
 /// `count` accepts just that many items that its part accepts, one after the other, of any length.
 pub fn count_accepts<I: Items, A: Allocator + Copy, F: Parser<I> + Drop>(_parser: &Count<A, F>)
-    ensures { AcceptsItems I.seen (Unit {0}) (λ _. Unit {0}) _parser.now.count (Some _parser.now.count) (F.meaning (F.state _parser.now.parser))
+    ensures { AcceptsItems I.model (Unit {0}) (λ _. Unit {0}) _parser.now.count (Some _parser.now.count) (F.meaning (F.state _parser.now.parser))
         (⟦<Count<A, F> as Parser<I>>⟧.meaning (_parser.now.count, F.state _parser.now.parser)) }
 {}
 
@@ -44,7 +44,7 @@ pub fn count_accepts<I: Items, A: Allocator + Copy, F: Parser<I> + Drop>(_parser
 /// other, none of them empty: up to where the part refuses, after the least number at least, or up to the
 /// most.
 pub fn many_m_n_accepts<I: Input, A: Allocator + Copy, F: Parser<I> + Drop>(_parser: &ManyMN<A, F>)
-    ensures { AcceptsItems I.seen (_parser.now.min ≤ _parser.now.max) (λ a. 0 < a) _parser.now.min (Some _parser.now.max)
+    ensures { AcceptsItems I.model (_parser.now.min ≤ _parser.now.max) (λ a. 0 < a) _parser.now.min (Some _parser.now.max)
         (F.meaning (F.state _parser.now.parser)) (⟦<ManyMN<A, F> as Parser<I>>⟧.meaning (_parser.now.min, _parser.now.max, F.state _parser.now.parser)) }
 {}
 
@@ -56,6 +56,6 @@ pub fn many_till_accepts<
     F: Parser<I> + Drop,
     G: Parser<I, Error = F::Error> + Drop,
 >(_parser: &ManyTill<A, F, G>)
-    ensures { AcceptsUntil I.seen (F.meaning (F.state _parser.now.parser)) (G.meaning (G.state _parser.now.end))
+    ensures { AcceptsUntil I.model (F.meaning (F.state _parser.now.parser)) (G.meaning (G.state _parser.now.end))
         (⟦<ManyTill<A, F, G> as Parser<I>>⟧.meaning (F.state _parser.now.parser, G.state _parser.now.end)) }
 {}

@@ -12,7 +12,7 @@ use nom_error::value::{ParseError, refusal};
 use nom_internal::choice::close_error;
 use nom_internal::parser::{Parser, StreamParser};
 use nom_internal::sequence::combine;
-use nom_repeat::keep::{gain, none_yet};
+use nom_repeat::accumulator::{none_yet, push_item};
 use nom_traits::input::{Input, Items};
 use std::alloc::Allocator;
 
@@ -53,24 +53,24 @@ impl<
 
     ghost IsOutput = { λ s t o. AllZip (F.IsOutput s.0) t.0 o.0.items × G.IsOutput s.1 t.1 o.1 };
 
-    ghost meaning = { λ s. many_till_meaning I.seen F.Error.errors (F.meaning s.0) (G.meaning s.1) };
+    ghost meaning = { λ s. many_till_meaning I.model F.Error.errors (F.meaning s.0) (G.meaning s.1) };
 
     ghost Pins = { λ s. F.Pins s.0 × G.Pins s.1 };
 
     #[inline]
     fn process<OM: OutputMode>(&mut self, input: I) -> PResult<I, Self::Output, Self::Error> {
-        input.known();
+        input.prove_known();
         let mut kept = none_yet::<OM::Output, F::Output, A>(self.alloc);
         let mut rest = input;
         loop {
-            match what_stands::<OM, I, F, G>(&mut self.parser, &mut self.end, rest) {
+            match end_or_next::<OM, I, F, G>(&mut self.parser, &mut self.end, rest) {
                 Ok((next, stands)) => match told(stands) {
                     Step::End(end) => return Ok((next, combine(kept, end))),
                     Step::Item(item) => {
                         if next.input_len() == rest.input_len() {
                             return Err(refusal::<OM::Error, I, F::Error>(rest, ErrorKind::Many0));
                         }
-                        if !gain(&mut kept, item) {
+                        if !push_item(&mut kept, item) {
                             return Err(Err::OutOfMemory);
                         }
                         rest = next;
@@ -86,7 +86,7 @@ impl<
         }
     }
 
-    ghost lawful = { λ s k. many_till_lawful I.seen I.lawful F.Error.errors (F.meaning s.0) (G.meaning s.1) (F.lawful s.0 k.1) (G.lawful s.1 k.0) };
+    ghost lawful = { λ s k. many_till_lawful I.model I.lawful F.Error.errors (F.meaning s.0) (G.meaning s.1) (F.lawful s.0 k.1) (G.lawful s.1 k.0) };
 }
 
 impl<
@@ -103,23 +103,23 @@ impl<
     ghost pinned = { λ s k p. pair_pinned (vec_view F.Output.view) G.Output.view (λ vs list. AllZip (F.IsOutput s.0) vs list.items) (G.IsOutput s.1)
         (list_pinned F.Output.view (F.IsOutput s.0) (F.pinned s.0 k.1 p.0)) (G.pinned s.1 k.0 p.1) };
 
-    ghost steady = { λ s k. many_till_steady I.seen I.lawful F.Error.errors (F.meaning s.0) (G.meaning s.1) (F.steady s.0 k.1) (G.steady s.1 k.0) };
+    ghost steady = { λ s k. many_till_steady I.model I.lawful F.Error.errors (F.meaning s.0) (G.meaning s.1) (F.steady s.0 k.1) (G.steady s.1 k.0) };
 }
 
 /// The end, or else an item.
 #[inline(always)]
-fn what_stands<OM: OutputMode, I: Input, F: Parser<I>, G: Parser<I, Error = F::Error>>(
+fn end_or_next<OM: OutputMode, I: Input, F: Parser<I>, G: Parser<I, Error = F::Error>>(
     parser: &mut F,
     end: &mut G,
     input: I,
 ) -> PResult<I, Step<Option<G::Output>, Option<F::Output>>, F::Error>
     requires parser { (F.meaning (F.state parser.old)).IsSound }
     requires end { (G.meaning (G.state end.old)).IsSound }
-    ensures shown { ShowsAnswer I.seen (IsStep OM.Output.BUILDS (G.IsOutput (G.state end.old)) (F.IsOutput (F.state parser.old)))
+    ensures shown { ShowsAnswer I.model (IsStep OM.Output.BUILDS (G.IsOutput (G.state end.old)) (F.IsOutput (F.state parser.old)))
         (modes true OM.Error.BUILDS OM.Incomplete.STREAMING) input
         ((end_or_item (G.meaning (G.state end.old)) (F.meaning (F.state parser.old))).answers OM.Incomplete.STREAMING input)
         ((end_or_item (G.meaning (G.state end.old)) (F.meaning (F.state parser.old))).blames OM.Incomplete.STREAMING input)
-        ((end_or_item (G.meaning (G.state end.old)) (F.meaning (F.state parser.old))).runs_out
+        ((end_or_item (G.meaning (G.state end.old)) (F.meaning (F.state parser.old))).may_run_out
         (modes OM.Output.BUILDS OM.Error.BUILDS OM.Incomplete.STREAMING) input) result }
     ensures parser_kept { F.state parser.new ≡ F.state parser.old }
     ensures end_kept { G.state end.new ≡ G.state end.old }
@@ -136,7 +136,7 @@ fn what_stands<OM: OutputMode, I: Input, F: Parser<I>, G: Parser<I, Error = F::E
     }
 }
 
-/// What `what_stands` tells.
+/// What `end_or_next` tells.
 #[inline(always)]
 fn told<T>(stands: Option<T>) -> T
     requires { IsSome stands }

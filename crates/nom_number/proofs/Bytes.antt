@@ -6,7 +6,7 @@ use Rattle.nom_error.specs.Answers.{size_of}
 use Rattle.nom_error.specs.declared.answer.Needed.{Needed}
 use Rattle.nom_error.specs.declared.answer.Needed.TheVariants.{Unknown}
 use Rattle.nom_error.specs.Modes.{Built}
-use Rattle.nom_traits.specs.Input.{Seen, span, IsFront, InputLaws}
+use Rattle.nom_traits.specs.Input.{Model, items_len, IsPrefixOf, InputLaws}
 use Rattle.nom_traits.specs.Slices.{IsCount, front_seen, place_slice, place_first}
 use Rattle.nom_traits.specs.Digits.{value_of}
 use Rattle.nom_number.specs.Numbers.{lacking}
@@ -36,9 +36,9 @@ pub some_more : (xs front rest : List ℕ) → xs ≡ front ++ rest → length f
 some_more xs front rest e h = omega (arith, ap length e, length-append front rest, h)
 
 -- of one byte that isn't there all lacks
-pub lacks_one : {A : Type 0} (weight : A → ℕ) (xs : List A) → length xs < 1 → Some 1 ≡ lacking (1 - span weight xs)
-lacks_one weight [] h = refl
-lacks_one weight (x ∷ xs) h = absurd (omega (arith, h))
+pub lacks_one : {A : Type 0} (item_len : A → ℕ) (xs : List A) → length xs < 1 → Some 1 ≡ lacking (1 - items_len item_len xs)
+lacks_one item_len [] h = refl
+lacks_one item_len (x ∷ xs) h = absurd (omega (arith, h))
 
 -- a size of 0 is unknown
 pub lacking_is : (k : Needed) (n : ℕ) → (n ≡ 0 → k ≡ Unknown) → (0 < n → size_of k ≡ Some n) → size_of k ≡ lacking n
@@ -46,6 +46,6 @@ lacking_is k zero a b = ap size_of (a refl)
 lacking_is k (suc n) a b = b (omega arith)
 
 -- what is taken of a count of items has so many
-pub taken_count : {I A : Type 0} (w : Seen I A) → InputLaws w → (i : I) (count n : ℕ) (v : I) → IsCount w i count n → IsFront w i n v →
+pub taken_count : {I A : Type 0} (w : Model I A) → InputLaws w → (i : I) (count n : ℕ) (v : I) → IsCount w i count n → IsPrefixOf w i n v →
     length (w.elements v) ≡ count
 taken_count w l i count n v c f = ap length (front_seen w l i n v (place_slice w i n c.place) f (place_first w i n c.place)).elements_are ∙ c.count_is

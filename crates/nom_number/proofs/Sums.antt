@@ -7,7 +7,7 @@ use Rattle.std.proofs.lemmas.Nat.{pow-add}
 use Rattle.std.proofs.Math.Nat.{pow-suc, mul-le-mul}
 use Rattle.std.proofs.Math.Pow.{pow_mono}
 use Rattle.nom_traits.specs.Digits.{digits_after, value_of, value_more}
-use Rattle.nom_number.specs.Numbers.{number_of}
+use Rattle.nom_number.specs.Numbers.{binary_number}
 
 -- what iterates over the bytes xs has given n of them, which write the number
 pub record IsSummed {S : Type 0} (big : Bool) (steps : S → Option ℕ → S → Type 0) (xs : List ℕ) (n number : ℕ) (s : S) : Type 0 where
@@ -16,7 +16,7 @@ pub record IsSummed {S : Type 0} (big : Bool) (steps : S → Option ℕ → S �
   pub whole : xs ≡ passed ++ rest
   pub gives : AlwaysYields steps (λ x. x) s rest
   pub count_is : length passed ≡ n
-  pub number_is : number ≡ number_of big passed
+  pub number_is : number ≡ binary_number big passed
   pub below : number < 2 ^ (8 * n)
 
 -- one more byte
@@ -49,11 +49,11 @@ after v (d ∷ ds) = after_step v d (256 ^ length ds) (256 ^ suc (length ds)) _ 
     (pow-suc 256 (length ds))
 
 -- bytes, and one more that is lower than all: it is their number's lowest digit
-big_more : (passed : List ℕ) (x : ℕ) → number_of true (passed ++ x ∷ []) ≡ 256 * number_of true passed + x
+big_more : (passed : List ℕ) (x : ℕ) → binary_number true (passed ++ x ∷ []) ≡ 256 * binary_number true passed + x
 big_more passed x = value_more 256 0 x passed
 
 -- and one that is higher than all
-little_more : (passed : List ℕ) (x : ℕ) → number_of false (passed ++ x ∷ []) ≡ number_of false passed + x * 2 ^ (8 * length passed)
+little_more : (passed : List ℕ) (x : ℕ) → binary_number false (passed ++ x ∷ []) ≡ binary_number false passed + x * 2 ^ (8 * length passed)
 little_more passed x = ap (value_of 256) (reverse-append passed (x ∷ [])) ∙ (after (256 * 0 + x) (reverse passed) ∙ omega (arith, width))
   where
     width : x * 256 ^ length (reverse passed) ≡ x * 2 ^ (8 * length passed)
@@ -73,16 +73,16 @@ module _ {S : Type 0} (big : Bool) (steps : S → Option ℕ → S → Type 0) (
   pub begins : (s : S) → AlwaysYields steps (λ x. x) s xs → IsSummed big steps xs 0 0 s
   begins s h = record { passed = []; rest = xs; whole = refl; gives = h; count_is = refl; number_is = none big; below = omega arith }
     where
-      none : (b : Bool) → 0 ≡ number_of b []
+      none : (b : Bool) → 0 ≡ binary_number b []
       none true = refl
       none false = refl
 
   module _ (n number : ℕ) (s t : S) (r : IsSummed big steps xs n number s) where
     -- all are given
-    pub ends : steps s None t → (number ≡ number_of big xs) × (number < 2 ^ (8 * length xs))
+    pub ends : steps s None t → (number ≡ binary_number big xs) × (number < 2 ^ (8 * length xs))
     ends k =
         let whole : xs ≡ r.passed = r.whole ∙ (ap (λ ys. r.passed ++ ys) (none_left steps s t r.rest r.gives k) ∙ append-nil r.passed) in
-        (r.number_is ∙ ap (number_of big) (sym whole), subst (λ m. number < 2 ^ (8 * m)) (sym r.count_is ∙ ap length (sym whole)) r.below)
+        (r.number_is ∙ ap (binary_number big) (sym whole), subst (λ m. number < 2 ^ (8 * m)) (sym r.count_is ∙ ap length (sym whole)) r.below)
 
     module _ (x : ℕ) (k : steps s (Some x) t) where
       next : (ys : List ℕ) × (r.rest ≡ x ∷ ys) × AlwaysYields steps (λ x. x) t ys
@@ -95,7 +95,7 @@ module _ {S : Type 0} (big : Bool) (steps : S → Option ℕ → S → Type 0) (
       pub one_left : n < length xs
       one_left = omega (arith, r.count_is, ap length whole_next, length-append r.passed (x ∷ next.0))
 
-      pub goes_on : (more : ℕ) → more ≡ number_of big (r.passed ++ x ∷ []) → more < 2 ^ (8 * (n + 1)) → IsSummed big steps xs (n + 1) more t
+      pub goes_on : (more : ℕ) → more ≡ binary_number big (r.passed ++ x ∷ []) → more < 2 ^ (8 * (n + 1)) → IsSummed big steps xs (n + 1) more t
       goes_on more e b = record {
         passed = r.passed ++ x ∷ [];
         rest = next.0;
@@ -137,4 +137,4 @@ module _ {S : Type 0} (steps : S → Option ℕ → S → Type 0) (xs : List ℕ
   pub little_goes_on : IsSummed false steps xs (n + 1) (number + x * 2 ^ (8 * n)) t
   little_goes_on = goes_on false steps xs n number s t r x k (number + x * 2 ^ (8 * n))
       (ap (λ m. m + x * 2 ^ (8 * n)) r.number_is ∙
-      (ap (λ m. number_of false r.passed + x * 2 ^ (8 * m)) (sym r.count_is) ∙ sym (little_more r.passed x))) little_below
+      (ap (λ m. binary_number false r.passed + x * 2 ^ (8 * m)) (sym r.count_is) ∙ sym (little_more r.passed x))) little_below

@@ -2,7 +2,7 @@
 use Rattle.std.specs.Prelude.{ℕ, ◌-◌, ◌*◌, ◌^◌, nat_lt, Bool, true, false, cond, List, reverse, Option, Some, None, suc, zero, ℤ, pos, ◌-ℤ◌}
 use Rattle.nom_error.specs.Errors.{Errors}
 use Rattle.nom_traits.specs.Digits.{value_of}
-use Rattle.nom_traits.specs.Input.{Seen, span}
+use Rattle.nom_traits.specs.Input.{Model, items_len}
 use Rattle.nom_internal.specs.Meaning.{Meaning}
 use Rattle.nom_internal.specs.Cases.{labelled_meaning}
 use Rattle.nom_bytes.specs.Takes.{take_meaning}
@@ -13,25 +13,25 @@ lacking zero = None
 lacking (suc n) = Some (suc n)
 
 -- what lacks of that many bytes is their number less the input's length
-abbrev pub bytes_lack : {I A : Type 0} → Seen I A → ℕ → List A → Option ℕ
-bytes_lack w count xs = lacking (count - span w.weight xs)
+abbrev pub bytes_lack : {I A : Type 0} → Model I A → ℕ → List A → Option ℕ
+bytes_lack w count xs = lacking (count - items_len w.item_len xs)
 
 -- the first items, as many as count, and the number that they write; where there are fewer, more is needed, or they are refused
-abbrev pub number_meaning : {I A N E : Type 0} → (w : Seen I A) → Errors I E → (List A → N) → ℕ → Meaning I N E
+abbrev pub number_meaning : {I A N E : Type 0} → (w : Model I A) → Errors I E → (List A → N) → ℕ → Meaning I N E
 number_meaning w errs value count = labelled_meaning (λ t. value t.items) (take_meaning w errs (bytes_lack w) count)
 
 -- the number that bytes write: the highest first (true), or last
-abbrev pub number_of : (big : Bool) → List ℕ → ℕ
-number_of true bytes = value_of 256 bytes
-number_of false bytes = value_of 256 (reverse bytes)
+abbrev pub binary_number : (big : Bool) → List ℕ → ℕ
+binary_number true bytes = value_of 256 bytes
+binary_number false bytes = value_of 256 (reverse bytes)
 
 -- the signed number of that many bits: less 2^bits, where the highest of them is set
 abbrev pub signed_of : (bits : ℕ) → ℕ → ℤ
 signed_of bits n = cond (nat_lt n (2 ^ (bits - 1))) (pos n) (pos n -ℤ pos (2 ^ bits))
 
 -- a number of that many bytes
-abbrev pub unsigned_meaning : {I E : Type 0} → Seen I ℕ → Errors I E → (big : Bool) → ℕ → Meaning I ℕ E
-unsigned_meaning w errs big count = number_meaning w errs (number_of big) count
+abbrev pub unsigned_meaning : {I E : Type 0} → Model I ℕ → Errors I E → (big : Bool) → ℕ → Meaning I ℕ E
+unsigned_meaning w errs big count = number_meaning w errs (binary_number big) count
 
-abbrev pub signed_meaning : {I E : Type 0} → Seen I ℕ → Errors I E → (big : Bool) → ℕ → Meaning I ℤ E
-signed_meaning w errs big count = number_meaning w errs (λ bytes. signed_of (8 * count) (number_of big bytes)) count
+abbrev pub signed_meaning : {I E : Type 0} → Model I ℕ → Errors I E → (big : Bool) → ℕ → Meaning I ℤ E
+signed_meaning w errs big count = number_meaning w errs (λ bytes. signed_of (8 * count) (binary_number big bytes)) count

@@ -19,8 +19,8 @@ use std::marker::PhantomData;
 /// The first byte of an input, where outputs are built.
 #[inline(always)]
 fn first_byte<M: Mode, I: Input<Item = u8>>(input: I) -> Option<u8>
-    requires { 0 < length (I.seen.elements input) }
-    ensures { Built M.BUILDS (λ b. (rest : List ℕ) × (I.seen.elements input ≡ b ∷ rest)) result }
+    requires { 0 < length (I.model.elements input) }
+    ensures { Built M.BUILDS (λ b. (rest : List ℕ) × (I.model.elements input ≡ b ∷ rest)) result }
 {
     if M::BUILDS {
         input.iter_elements().next()
@@ -48,7 +48,7 @@ impl<I: Input<Item = u8>, E: ParseError<I>> Parser<I> for BeU8<I, E> {
 
     ghost IsOutput = { λ _ t v. v ≡ t };
 
-    ghost meaning = { λ _. number_meaning I.seen E.errors (value_of 256) 1 };
+    ghost meaning = { λ _. number_meaning I.model E.errors (value_of 256) 1 };
 
     ghost Pins = { λ _. Unit {0} };
 
@@ -61,13 +61,13 @@ impl<I: Input<Item = u8>, E: ParseError<I>> Parser<I> for BeU8<I, E> {
         }
     }
 
-    ghost lawful = { λ _ k. labelled_lawful I.seen (take_meaning I.seen E.errors (bytes_lack I.seen) 1) (λ t. value_of 256 t.items)
-        (take_lawful I.seen E.errors (bytes_lack I.seen) 1) };
+    ghost lawful = { λ _ k. labelled_lawful I.model (take_meaning I.model E.errors (bytes_lack I.model) 1) (λ t. value_of 256 t.items)
+        (take_lawful I.model E.errors (bytes_lack I.model) 1) };
 }
 
 impl<I: Input<Item = u8>, E: ParseError<I>> StreamParser<I> for BeU8<I, E> {
     ghost pinned = { λ _ k p. value_pinned };
 
-    ghost steady = { λ _ k. labelled_steady I.seen (take_meaning I.seen E.errors (bytes_lack I.seen) 1) (λ t. value_of 256 t.items)
-        (take_steady I.seen E.errors (bytes_lack I.seen) 1) };
+    ghost steady = { λ _ k. labelled_steady I.model (take_meaning I.model E.errors (bytes_lack I.model) 1) (λ t. value_of 256 t.items)
+        (take_steady I.model E.errors (bytes_lack I.model) 1) };
 }

@@ -4,7 +4,7 @@
 ghost use Rattle.std.specs.Prelude.{◌≡◌, true, false};
 ghost use Rattle.nom_traits.specs.View.{itself};
 ghost use Rattle.nom_func.specs.Func.{StreamsBy};
-ghost use Rattle.nom_number.specs.Numbers.{number_meaning, number_of, unsigned_meaning, signed_meaning};
+ghost use Rattle.nom_number.specs.Numbers.{number_meaning, binary_number, unsigned_meaning, signed_meaning};
 ghost use Rattle.nom_number.specs.Orders.{is_big};
 
 use crate::layout;
@@ -26,7 +26,7 @@ fn of_layout<F: Layout, I: Input<Item = u8>, E: ParseError<I>>(
     input: I,
     big: bool,
 ) -> IResult<I, F::Number, E>
-    ensures { StreamsBy I.seen F.Number.view (λ t v. v ≡ t) (number_meaning I.seen E.errors (λ bytes. F.of_bits (number_of big bytes)) F.BYTES) true
+    ensures { StreamsBy I.model F.Number.view (λ t v. v ≡ t) (number_meaning I.model E.errors (λ bytes. F.of_bits (binary_number big bytes)) F.BYTES) true
         input result }
 {
     let mut parser = Binary::<F, I, E> {
@@ -39,7 +39,7 @@ fn of_layout<F: Layout, I: Input<Item = u8>, E: ParseError<I>>(
 /// A number of one byte.
 #[inline(always)]
 pub fn be_u8<I: Input<Item = u8>, E: ParseError<I>>(input: I) -> IResult<I, u8, E>
-    ensures { StreamsBy I.seen itself (λ t v. v ≡ t) (unsigned_meaning I.seen E.errors true 1) true input result }
+    ensures { StreamsBy I.model itself (λ t v. v ≡ t) (unsigned_meaning I.model E.errors true 1) true input result }
 {
     of_layout::<layout::U8, I, E>(input, true)
 }
@@ -47,7 +47,7 @@ pub fn be_u8<I: Input<Item = u8>, E: ParseError<I>>(input: I) -> IResult<I, u8, 
 /// A number of two bytes, the highest first.
 #[inline(always)]
 pub fn be_u16<I: Input<Item = u8>, E: ParseError<I>>(input: I) -> IResult<I, u16, E>
-    ensures { StreamsBy I.seen itself (λ t v. v ≡ t) (unsigned_meaning I.seen E.errors true 2) true input result }
+    ensures { StreamsBy I.model itself (λ t v. v ≡ t) (unsigned_meaning I.model E.errors true 2) true input result }
 {
     of_layout::<layout::U16, I, E>(input, true)
 }
@@ -55,7 +55,7 @@ pub fn be_u16<I: Input<Item = u8>, E: ParseError<I>>(input: I) -> IResult<I, u16
 /// A number of three bytes, the highest first.
 #[inline(always)]
 pub fn be_u24<I: Input<Item = u8>, E: ParseError<I>>(input: I) -> IResult<I, u32, E>
-    ensures { StreamsBy I.seen itself (λ t v. v ≡ t) (unsigned_meaning I.seen E.errors true 3) true input result }
+    ensures { StreamsBy I.model itself (λ t v. v ≡ t) (unsigned_meaning I.model E.errors true 3) true input result }
 {
     of_layout::<layout::U24, I, E>(input, true)
 }
@@ -63,7 +63,7 @@ pub fn be_u24<I: Input<Item = u8>, E: ParseError<I>>(input: I) -> IResult<I, u32
 /// A number of four bytes, the highest first.
 #[inline(always)]
 pub fn be_u32<I: Input<Item = u8>, E: ParseError<I>>(input: I) -> IResult<I, u32, E>
-    ensures { StreamsBy I.seen itself (λ t v. v ≡ t) (unsigned_meaning I.seen E.errors true 4) true input result }
+    ensures { StreamsBy I.model itself (λ t v. v ≡ t) (unsigned_meaning I.model E.errors true 4) true input result }
 {
     of_layout::<layout::U32, I, E>(input, true)
 }
@@ -71,7 +71,7 @@ pub fn be_u32<I: Input<Item = u8>, E: ParseError<I>>(input: I) -> IResult<I, u32
 /// A number of eight bytes, the highest first.
 #[inline(always)]
 pub fn be_u64<I: Input<Item = u8>, E: ParseError<I>>(input: I) -> IResult<I, u64, E>
-    ensures { StreamsBy I.seen itself (λ t v. v ≡ t) (unsigned_meaning I.seen E.errors true 8) true input result }
+    ensures { StreamsBy I.model itself (λ t v. v ≡ t) (unsigned_meaning I.model E.errors true 8) true input result }
 {
     of_layout::<layout::U64, I, E>(input, true)
 }
@@ -79,7 +79,7 @@ pub fn be_u64<I: Input<Item = u8>, E: ParseError<I>>(input: I) -> IResult<I, u64
 /// A number of sixteen bytes, the highest first.
 #[inline(always)]
 pub fn be_u128<I: Input<Item = u8>, E: ParseError<I>>(input: I) -> IResult<I, u128, E>
-    ensures { StreamsBy I.seen itself (λ t v. v ≡ t) (unsigned_meaning I.seen E.errors true 16) true input result }
+    ensures { StreamsBy I.model itself (λ t v. v ≡ t) (unsigned_meaning I.model E.errors true 16) true input result }
 {
     of_layout::<layout::U128, I, E>(input, true)
 }
@@ -87,7 +87,7 @@ pub fn be_u128<I: Input<Item = u8>, E: ParseError<I>>(input: I) -> IResult<I, u1
 /// A signed number of one byte.
 #[inline(always)]
 pub fn be_i8<I: Input<Item = u8>, E: ParseError<I>>(input: I) -> IResult<I, i8, E>
-    ensures { StreamsBy I.seen itself (λ t v. v ≡ t) (signed_meaning I.seen E.errors true 1) true input result }
+    ensures { StreamsBy I.model itself (λ t v. v ≡ t) (signed_meaning I.model E.errors true 1) true input result }
 {
     of_layout::<layout::I8, I, E>(input, true)
 }
@@ -95,7 +95,7 @@ pub fn be_i8<I: Input<Item = u8>, E: ParseError<I>>(input: I) -> IResult<I, i8, 
 /// A signed number of two bytes, the highest first.
 #[inline(always)]
 pub fn be_i16<I: Input<Item = u8>, E: ParseError<I>>(input: I) -> IResult<I, i16, E>
-    ensures { StreamsBy I.seen itself (λ t v. v ≡ t) (signed_meaning I.seen E.errors true 2) true input result }
+    ensures { StreamsBy I.model itself (λ t v. v ≡ t) (signed_meaning I.model E.errors true 2) true input result }
 {
     of_layout::<layout::I16, I, E>(input, true)
 }
@@ -103,7 +103,7 @@ pub fn be_i16<I: Input<Item = u8>, E: ParseError<I>>(input: I) -> IResult<I, i16
 /// A signed number of three bytes, the highest first.
 #[inline(always)]
 pub fn be_i24<I: Input<Item = u8>, E: ParseError<I>>(input: I) -> IResult<I, i32, E>
-    ensures { StreamsBy I.seen itself (λ t v. v ≡ t) (signed_meaning I.seen E.errors true 3) true input result }
+    ensures { StreamsBy I.model itself (λ t v. v ≡ t) (signed_meaning I.model E.errors true 3) true input result }
 {
     of_layout::<layout::I24, I, E>(input, true)
 }
@@ -111,7 +111,7 @@ pub fn be_i24<I: Input<Item = u8>, E: ParseError<I>>(input: I) -> IResult<I, i32
 /// A signed number of four bytes, the highest first.
 #[inline(always)]
 pub fn be_i32<I: Input<Item = u8>, E: ParseError<I>>(input: I) -> IResult<I, i32, E>
-    ensures { StreamsBy I.seen itself (λ t v. v ≡ t) (signed_meaning I.seen E.errors true 4) true input result }
+    ensures { StreamsBy I.model itself (λ t v. v ≡ t) (signed_meaning I.model E.errors true 4) true input result }
 {
     of_layout::<layout::I32, I, E>(input, true)
 }
@@ -119,7 +119,7 @@ pub fn be_i32<I: Input<Item = u8>, E: ParseError<I>>(input: I) -> IResult<I, i32
 /// A signed number of eight bytes, the highest first.
 #[inline(always)]
 pub fn be_i64<I: Input<Item = u8>, E: ParseError<I>>(input: I) -> IResult<I, i64, E>
-    ensures { StreamsBy I.seen itself (λ t v. v ≡ t) (signed_meaning I.seen E.errors true 8) true input result }
+    ensures { StreamsBy I.model itself (λ t v. v ≡ t) (signed_meaning I.model E.errors true 8) true input result }
 {
     of_layout::<layout::I64, I, E>(input, true)
 }
@@ -127,7 +127,7 @@ pub fn be_i64<I: Input<Item = u8>, E: ParseError<I>>(input: I) -> IResult<I, i64
 /// A signed number of sixteen bytes, the highest first.
 #[inline(always)]
 pub fn be_i128<I: Input<Item = u8>, E: ParseError<I>>(input: I) -> IResult<I, i128, E>
-    ensures { StreamsBy I.seen itself (λ t v. v ≡ t) (signed_meaning I.seen E.errors true 16) true input result }
+    ensures { StreamsBy I.model itself (λ t v. v ≡ t) (signed_meaning I.model E.errors true 16) true input result }
 {
     of_layout::<layout::I128, I, E>(input, true)
 }
@@ -135,7 +135,7 @@ pub fn be_i128<I: Input<Item = u8>, E: ParseError<I>>(input: I) -> IResult<I, i1
 /// A number of one byte.
 #[inline(always)]
 pub fn le_u8<I: Input<Item = u8>, E: ParseError<I>>(input: I) -> IResult<I, u8, E>
-    ensures { StreamsBy I.seen itself (λ t v. v ≡ t) (unsigned_meaning I.seen E.errors false 1) true input result }
+    ensures { StreamsBy I.model itself (λ t v. v ≡ t) (unsigned_meaning I.model E.errors false 1) true input result }
 {
     of_layout::<layout::U8, I, E>(input, false)
 }
@@ -143,7 +143,7 @@ pub fn le_u8<I: Input<Item = u8>, E: ParseError<I>>(input: I) -> IResult<I, u8, 
 /// A number of two bytes, the lowest first.
 #[inline(always)]
 pub fn le_u16<I: Input<Item = u8>, E: ParseError<I>>(input: I) -> IResult<I, u16, E>
-    ensures { StreamsBy I.seen itself (λ t v. v ≡ t) (unsigned_meaning I.seen E.errors false 2) true input result }
+    ensures { StreamsBy I.model itself (λ t v. v ≡ t) (unsigned_meaning I.model E.errors false 2) true input result }
 {
     of_layout::<layout::U16, I, E>(input, false)
 }
@@ -151,7 +151,7 @@ pub fn le_u16<I: Input<Item = u8>, E: ParseError<I>>(input: I) -> IResult<I, u16
 /// A number of three bytes, the lowest first.
 #[inline(always)]
 pub fn le_u24<I: Input<Item = u8>, E: ParseError<I>>(input: I) -> IResult<I, u32, E>
-    ensures { StreamsBy I.seen itself (λ t v. v ≡ t) (unsigned_meaning I.seen E.errors false 3) true input result }
+    ensures { StreamsBy I.model itself (λ t v. v ≡ t) (unsigned_meaning I.model E.errors false 3) true input result }
 {
     of_layout::<layout::U24, I, E>(input, false)
 }
@@ -159,7 +159,7 @@ pub fn le_u24<I: Input<Item = u8>, E: ParseError<I>>(input: I) -> IResult<I, u32
 /// A number of four bytes, the lowest first.
 #[inline(always)]
 pub fn le_u32<I: Input<Item = u8>, E: ParseError<I>>(input: I) -> IResult<I, u32, E>
-    ensures { StreamsBy I.seen itself (λ t v. v ≡ t) (unsigned_meaning I.seen E.errors false 4) true input result }
+    ensures { StreamsBy I.model itself (λ t v. v ≡ t) (unsigned_meaning I.model E.errors false 4) true input result }
 {
     of_layout::<layout::U32, I, E>(input, false)
 }
@@ -167,7 +167,7 @@ pub fn le_u32<I: Input<Item = u8>, E: ParseError<I>>(input: I) -> IResult<I, u32
 /// A number of eight bytes, the lowest first.
 #[inline(always)]
 pub fn le_u64<I: Input<Item = u8>, E: ParseError<I>>(input: I) -> IResult<I, u64, E>
-    ensures { StreamsBy I.seen itself (λ t v. v ≡ t) (unsigned_meaning I.seen E.errors false 8) true input result }
+    ensures { StreamsBy I.model itself (λ t v. v ≡ t) (unsigned_meaning I.model E.errors false 8) true input result }
 {
     of_layout::<layout::U64, I, E>(input, false)
 }
@@ -175,7 +175,7 @@ pub fn le_u64<I: Input<Item = u8>, E: ParseError<I>>(input: I) -> IResult<I, u64
 /// A number of sixteen bytes, the lowest first.
 #[inline(always)]
 pub fn le_u128<I: Input<Item = u8>, E: ParseError<I>>(input: I) -> IResult<I, u128, E>
-    ensures { StreamsBy I.seen itself (λ t v. v ≡ t) (unsigned_meaning I.seen E.errors false 16) true input result }
+    ensures { StreamsBy I.model itself (λ t v. v ≡ t) (unsigned_meaning I.model E.errors false 16) true input result }
 {
     of_layout::<layout::U128, I, E>(input, false)
 }
@@ -183,7 +183,7 @@ pub fn le_u128<I: Input<Item = u8>, E: ParseError<I>>(input: I) -> IResult<I, u1
 /// A signed number of one byte.
 #[inline(always)]
 pub fn le_i8<I: Input<Item = u8>, E: ParseError<I>>(input: I) -> IResult<I, i8, E>
-    ensures { StreamsBy I.seen itself (λ t v. v ≡ t) (signed_meaning I.seen E.errors false 1) true input result }
+    ensures { StreamsBy I.model itself (λ t v. v ≡ t) (signed_meaning I.model E.errors false 1) true input result }
 {
     of_layout::<layout::I8, I, E>(input, false)
 }
@@ -191,7 +191,7 @@ pub fn le_i8<I: Input<Item = u8>, E: ParseError<I>>(input: I) -> IResult<I, i8, 
 /// A signed number of two bytes, the lowest first.
 #[inline(always)]
 pub fn le_i16<I: Input<Item = u8>, E: ParseError<I>>(input: I) -> IResult<I, i16, E>
-    ensures { StreamsBy I.seen itself (λ t v. v ≡ t) (signed_meaning I.seen E.errors false 2) true input result }
+    ensures { StreamsBy I.model itself (λ t v. v ≡ t) (signed_meaning I.model E.errors false 2) true input result }
 {
     of_layout::<layout::I16, I, E>(input, false)
 }
@@ -199,7 +199,7 @@ pub fn le_i16<I: Input<Item = u8>, E: ParseError<I>>(input: I) -> IResult<I, i16
 /// A signed number of three bytes, the lowest first.
 #[inline(always)]
 pub fn le_i24<I: Input<Item = u8>, E: ParseError<I>>(input: I) -> IResult<I, i32, E>
-    ensures { StreamsBy I.seen itself (λ t v. v ≡ t) (signed_meaning I.seen E.errors false 3) true input result }
+    ensures { StreamsBy I.model itself (λ t v. v ≡ t) (signed_meaning I.model E.errors false 3) true input result }
 {
     of_layout::<layout::I24, I, E>(input, false)
 }
@@ -207,7 +207,7 @@ pub fn le_i24<I: Input<Item = u8>, E: ParseError<I>>(input: I) -> IResult<I, i32
 /// A signed number of four bytes, the lowest first.
 #[inline(always)]
 pub fn le_i32<I: Input<Item = u8>, E: ParseError<I>>(input: I) -> IResult<I, i32, E>
-    ensures { StreamsBy I.seen itself (λ t v. v ≡ t) (signed_meaning I.seen E.errors false 4) true input result }
+    ensures { StreamsBy I.model itself (λ t v. v ≡ t) (signed_meaning I.model E.errors false 4) true input result }
 {
     of_layout::<layout::I32, I, E>(input, false)
 }
@@ -215,7 +215,7 @@ pub fn le_i32<I: Input<Item = u8>, E: ParseError<I>>(input: I) -> IResult<I, i32
 /// A signed number of eight bytes, the lowest first.
 #[inline(always)]
 pub fn le_i64<I: Input<Item = u8>, E: ParseError<I>>(input: I) -> IResult<I, i64, E>
-    ensures { StreamsBy I.seen itself (λ t v. v ≡ t) (signed_meaning I.seen E.errors false 8) true input result }
+    ensures { StreamsBy I.model itself (λ t v. v ≡ t) (signed_meaning I.model E.errors false 8) true input result }
 {
     of_layout::<layout::I64, I, E>(input, false)
 }
@@ -223,7 +223,7 @@ pub fn le_i64<I: Input<Item = u8>, E: ParseError<I>>(input: I) -> IResult<I, i64
 /// A signed number of sixteen bytes, the lowest first.
 #[inline(always)]
 pub fn le_i128<I: Input<Item = u8>, E: ParseError<I>>(input: I) -> IResult<I, i128, E>
-    ensures { StreamsBy I.seen itself (λ t v. v ≡ t) (signed_meaning I.seen E.errors false 16) true input result }
+    ensures { StreamsBy I.model itself (λ t v. v ≡ t) (signed_meaning I.model E.errors false 16) true input result }
 {
     of_layout::<layout::I128, I, E>(input, false)
 }
@@ -231,7 +231,7 @@ pub fn le_i128<I: Input<Item = u8>, E: ParseError<I>>(input: I) -> IResult<I, i1
 /// `be_u8`: one byte has no order.
 #[inline(always)]
 pub fn u8<I: Input<Item = u8>, E: ParseError<I>>(input: I) -> IResult<I, u8, E>
-    ensures { StreamsBy I.seen itself (λ t v. v ≡ t) (unsigned_meaning I.seen E.errors true 1) true input result }
+    ensures { StreamsBy I.model itself (λ t v. v ≡ t) (unsigned_meaning I.model E.errors true 1) true input result }
 {
     of_layout::<layout::U8, I, E>(input, true)
 }
@@ -239,7 +239,7 @@ pub fn u8<I: Input<Item = u8>, E: ParseError<I>>(input: I) -> IResult<I, u8, E>
 /// `be_i8`: one byte has no order.
 #[inline(always)]
 pub fn i8<I: Input<Item = u8>, E: ParseError<I>>(input: I) -> IResult<I, i8, E>
-    ensures { StreamsBy I.seen itself (λ t v. v ≡ t) (signed_meaning I.seen E.errors true 1) true input result }
+    ensures { StreamsBy I.model itself (λ t v. v ≡ t) (signed_meaning I.model E.errors true 1) true input result }
 {
     of_layout::<layout::I8, I, E>(input, true)
 }

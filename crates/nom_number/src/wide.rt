@@ -6,7 +6,7 @@ ghost use Rattle.nom_traits.specs.Slices.{Slice, IsFirst, IsCount};
 ghost use Rattle.nom_internal.specs.CaseLaws.{labelled_lawful, labelled_steady};
 ghost use Rattle.nom_bytes.specs.Takes.{take_meaning};
 ghost use Rattle.nom_bytes.specs.TakeLaws.{take_lawful, take_steady};
-ghost use Rattle.nom_number.specs.Numbers.{bytes_lack, number_meaning, number_of};
+ghost use Rattle.nom_number.specs.Numbers.{bytes_lack, number_meaning, binary_number};
 
 use crate::layout::Layout;
 use nom_error::answer::{Err, Needed, PResult};
@@ -29,9 +29,9 @@ fn widened(byte: u8) -> u128
 /// The number that the bytes of an input write, the highest first.
 #[inline(always)]
 fn big_number<I: Input<Item = u8>>(bytes: I) -> u128
-    requires { length (I.seen.elements bytes) < 17 }
-    ensures value { result ≡ number_of true (I.seen.elements bytes) }
-    ensures bits { result < 2 ^ (8 * length (I.seen.elements bytes)) }
+    requires { length (I.model.elements bytes) < 17 }
+    ensures value { result ≡ binary_number true (I.model.elements bytes) }
+    ensures bits { result < 2 ^ (8 * length (I.model.elements bytes)) }
 {
     let mut value = 0u128;
     for byte in bytes.iter_elements() {
@@ -54,9 +54,9 @@ fn at_place(byte: u8, place: usize) -> u128
 /// The number that the bytes of an input write, the highest last.
 #[inline(always)]
 fn little_number<I: Input<Item = u8>>(bytes: I) -> u128
-    requires { length (I.seen.elements bytes) < 17 }
-    ensures value { result ≡ number_of false (I.seen.elements bytes) }
-    ensures bits { result < 2 ^ (8 * length (I.seen.elements bytes)) }
+    requires { length (I.model.elements bytes) < 17 }
+    ensures value { result ≡ binary_number false (I.model.elements bytes) }
+    ensures bits { result < 2 ^ (8 * length (I.model.elements bytes)) }
 {
     let mut value = 0u128;
     let mut place = 0;
@@ -70,9 +70,9 @@ fn little_number<I: Input<Item = u8>>(bytes: I) -> u128
 /// The number that the bytes of an input write, the highest first or last.
 #[inline(always)]
 fn number<I: Input<Item = u8>>(bytes: I, big: bool) -> u128
-    requires { length (I.seen.elements bytes) < 17 }
-    ensures value { result ≡ number_of big (I.seen.elements bytes) }
-    ensures bits { result < 2 ^ (8 * length (I.seen.elements bytes)) }
+    requires { length (I.model.elements bytes) < 17 }
+    ensures value { result ≡ binary_number big (I.model.elements bytes) }
+    ensures bits { result < 2 ^ (8 * length (I.model.elements bytes)) }
 {
     if big {
         big_number(bytes)
@@ -88,8 +88,8 @@ fn first_number<M: Mode, F: Layout, I: Input<Item = u8>>(
     n: usize,
     big: bool,
 ) -> Option<F::Number>
-    requires { IsCount I.seen input F.BYTES n }
-    ensures { (t : Slice I.seen) → IsFirst I.seen input n t → Built M.BUILDS (λ v. v ≡ F.of_bits (number_of big t.items)) result }
+    requires { IsCount I.model input F.BYTES n }
+    ensures { (t : Slice I.model) → IsFirst I.model input n t → Built M.BUILDS (λ v. v ≡ F.of_bits (binary_number big t.items)) result }
 {
     if M::BUILDS {
         Some(F::from_bits(number(input.take(n), big)))
@@ -120,7 +120,7 @@ impl<F: Layout, I: Input<Item = u8>, E: ParseError<I>> Parser<I> for Binary<F, I
 
     ghost IsOutput = { λ _ t v. v ≡ t };
 
-    ghost meaning = { λ big. number_meaning I.seen E.errors (λ bytes. F.of_bits (number_of big bytes)) F.BYTES };
+    ghost meaning = { λ big. number_meaning I.model E.errors (λ bytes. F.of_bits (binary_number big bytes)) F.BYTES };
 
     ghost Pins = { λ _. Unit {0} };
 
@@ -139,13 +139,13 @@ impl<F: Layout, I: Input<Item = u8>, E: ParseError<I>> Parser<I> for Binary<F, I
         }
     }
 
-    ghost lawful = { λ big k. labelled_lawful I.seen (take_meaning I.seen E.errors (bytes_lack I.seen) F.BYTES) (λ t. F.of_bits (number_of big t.items))
-        (take_lawful I.seen E.errors (bytes_lack I.seen) F.BYTES) };
+    ghost lawful = { λ big k. labelled_lawful I.model (take_meaning I.model E.errors (bytes_lack I.model) F.BYTES) (λ t. F.of_bits (binary_number big t.items))
+        (take_lawful I.model E.errors (bytes_lack I.model) F.BYTES) };
 }
 
 impl<F: Layout, I: Input<Item = u8>, E: ParseError<I>> StreamParser<I> for Binary<F, I, E> {
     ghost pinned = { λ _ k p t x y a b. ap (F.Number.view.value) (a ∙ sym b) };
 
-    ghost steady = { λ big k. labelled_steady I.seen (take_meaning I.seen E.errors (bytes_lack I.seen) F.BYTES) (λ t. F.of_bits (number_of big t.items))
-        (take_steady I.seen E.errors (bytes_lack I.seen) F.BYTES) };
+    ghost steady = { λ big k. labelled_steady I.model (take_meaning I.model E.errors (bytes_lack I.model) F.BYTES) (λ t. F.of_bits (binary_number big t.items))
+        (take_steady I.model E.errors (bytes_lack I.model) F.BYTES) };
 }

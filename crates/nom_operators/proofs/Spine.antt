@@ -12,50 +12,50 @@ use Rattle.nom_operators.specs.Closes.{Closes, GoesUnder, UnderInnermost}
 use Rattle.nom_operators.specs.TreeLaws.{level_of, levels_append, levels_map}
 
 -- What values stand for: a term and pairs. Values of both sides of a root, joined by it, give one of the whole.
-pub record Joins {T B X C : Type 0} (level : B → ℕ) (left : ℕ → Bool) (Stands : T → List (B × T) → X → Type 0) (IsOperator : B → C → Type 0)
+pub record Joins {T B X C : Type 0} (level : B → ℕ) (left : ℕ → Bool) (StandsFor : T → List (B × T) → X → Type 0) (IsOperator : B → C → Type 0)
     (Gives : X → C → X → X → Type 0) : Type 0 where
   pub joins : (t : T) (before : List (B × T)) (o : B) (u : T) (behind : List (B × T)) (x : X) (c : C) (y z : X) → IsRoot level left before o behind →
-      Stands t before x → IsOperator o c → Stands u behind y → Gives x c y z → Stands t (before ++ (o, u) ∷ behind) z
+      StandsFor t before x → IsOperator o c → StandsFor u behind y → Gives x c y z → StandsFor t (before ++ (o, u) ∷ behind) z
 
-module _ {T B X C : Type 0} (level : B → ℕ) (left : ℕ → Bool) (Stands : T → List (B × T) → X → Type 0) (IsOperator : B → C → Type 0) where
+module _ {T B X C : Type 0} (level : B → ℕ) (left : ℕ → Bool) (StandsFor : T → List (B × T) → X → Type 0) (IsOperator : B → C → Type 0) where
   -- Of the term t and the pairs ps that were read, those after the innermost operator of the stack are the term v and the pairs qs.
   abbrev pub IsSpine : T → List (B × T) → List (X × C) → T → List (B × T) → Type 0
   IsSpine t ps [] v qs = (v ≡ t) × (ps ≡ qs)
   IsSpine t ps (e ∷ s) v qs = (u : T) × (before : List (B × T)) × (o : B) × IsSpine t ps s u (before ++ (o, v) ∷ qs) × IsRoot level left before o qs ×
-      Stands u before e.0 × IsOperator o e.1
+      StandsFor u before e.0 × IsOperator o e.1
 
   -- Between two pairs: after the innermost operator stands the last term alone.
   pub record Reads (t : T) (ps : List (B × T)) (s : List (X × C)) (x : X) : Type 0 where
     pub term : T
     pub spine : IsSpine t ps s term []
-    pub value : Stands term [] x
+    pub value : StandsFor term [] x
 
   -- while operators are closed: the value is that of all that stands after the innermost
   pub record Holds (t : T) (ps : List (B × T)) (s : List (X × C)) (x : X) : Type 0 where
     pub term : T
     pub pairs : List (B × T)
     pub spine : IsSpine t ps s term pairs
-    pub value : Stands term pairs x
+    pub value : StandsFor term pairs x
 
   -- while an operator of the level k is put in, those after the innermost on the stack are closed by it
   pub record Closing (k : ℕ) (t : T) (ps : List (B × T)) (s : List (X × C)) (x : X) : Type 0 where
     pub held : Holds t ps s x
     pub closed : Parts level (left k) k held.pairs []
 
-module _ {T B X C : Type 0} (level : B → ℕ) (left : ℕ → Bool) (Stands : T → List (B × T) → X → Type 0) (IsOperator : B → C → Type 0) where
+module _ {T B X C : Type 0} (level : B → ℕ) (left : ℕ → Bool) (StandsFor : T → List (B × T) → X → Type 0) (IsOperator : B → C → Type 0) where
   -- a first term
-  pub reads_first : (t : T) (x : X) → Stands t [] x → Reads level left Stands IsOperator t [] [] x
+  pub reads_first : (t : T) (x : X) → StandsFor t [] x → Reads level left StandsFor IsOperator t [] [] x
   reads_first t x h = record { term = t; spine = (refl, refl); value = h }
 
   -- the end: nothing is closed yet
-  pub holds_none : (t : T) (ps : List (B × T)) (s : List (X × C)) (x : X) → Reads level left Stands IsOperator t ps s x →
-      Holds level left Stands IsOperator t ps s x
+  pub holds_none : (t : T) (ps : List (B × T)) (s : List (X × C)) (x : X) → Reads level left StandsFor IsOperator t ps s x →
+      Holds level left StandsFor IsOperator t ps s x
   holds_none t ps s x h = record { term = h.term; pairs = []; spine = h.spine; value = h.value }
 
   -- the innermost operator joins the values on its sides
-  pub holds_joined : (Gives : X → C → X → X → Type 0) → Joins level left Stands IsOperator Gives →
-      (t : T) (ps : List (B × T)) (s : List (X × C)) (l : X) (c : C) (x y : X) → Holds level left Stands IsOperator t ps ((l, c) ∷ s) x →
-      Gives l c x y → Holds level left Stands IsOperator t ps s y
+  pub holds_joined : (Gives : X → C → X → X → Type 0) → Joins level left StandsFor IsOperator Gives →
+      (t : T) (ps : List (B × T)) (s : List (X × C)) (l : X) (c : C) (x y : X) → Holds level left StandsFor IsOperator t ps ((l, c) ∷ s) x →
+      Gives l c x y → Holds level left StandsFor IsOperator t ps s y
   holds_joined Gives j t ps s l c x y h g =
       let z = h.spine in
       record {
@@ -66,8 +66,8 @@ module _ {T B X C : Type 0} (level : B → ℕ) (left : ℕ → Bool) (Stands : 
       }
 
   -- at the end, with nothing on the stack, the value is that of all
-  pub holds_all : (t : T) (ps : List (B × T)) (x : X) → Holds level left Stands IsOperator t ps [] x → Stands t ps x
-  holds_all t ps x h = subst (λ z. Stands z ps x) (h.spine).0 (subst (λ z. Stands h.term z x) (sym (h.spine).1) h.value)
+  pub holds_all : (t : T) (ps : List (B × T)) (x : X) → Holds level left StandsFor IsOperator t ps [] x → StandsFor t ps x
+  holds_all t ps x h = subst (λ z. StandsFor z ps x) (h.spine).0 (subst (λ z. StandsFor h.term z x) (sym (h.spine).1) h.value)
 
   parts_none : (b : Bool) (k : ℕ) → Parts {T = T} level b k [] []
   parts_none true k = (tt, tt)
@@ -110,8 +110,8 @@ module _ {T B X C : Type 0} (level : B → ℕ) (left : ℕ → Bool) (Stands : 
 
   -- the spine goes on after it
   spine_more : (of : C → ℕ) → ((o : B) (c : C) → IsOperator o c → of c ≡ level o) → (k : ℕ) (q : B) (u : T) → level q ≡ k →
-      (t : T) (ps : List (B × T)) (s : List (X × C)) (v : T) (qs : List (B × T)) → IsSpine level left Stands IsOperator t ps s v qs →
-      UnderInnermost left of k s → IsSpine level left Stands IsOperator t (ps ++ (q, u) ∷ []) s v (qs ++ (q, u) ∷ [])
+      (t : T) (ps : List (B × T)) (s : List (X × C)) (v : T) (qs : List (B × T)) → IsSpine level left StandsFor IsOperator t ps s v qs →
+      UnderInnermost left of k s → IsSpine level left StandsFor IsOperator t (ps ++ (q, u) ∷ []) s v (qs ++ (q, u) ∷ [])
   spine_more of says k q u is t ps [] v qs h n = (h.0, ap (λ z. z ++ (q, u) ∷ []) h.1)
   spine_more of says k q u is t ps (e ∷ s) v qs h n =
       let o = h.2 in
@@ -120,7 +120,7 @@ module _ {T B X C : Type 0} (level : B → ℕ) (left : ℕ → Bool) (Stands : 
         h.0,
         h.1,
         o,
-        subst (λ z. IsSpine level left Stands IsOperator t (ps ++ (q, u) ∷ []) s h.0 z) (append_assoc h.1 ((o, v) ∷ qs) ((q, u) ∷ []))
+        subst (λ z. IsSpine level left StandsFor IsOperator t (ps ++ (q, u) ∷ []) s h.0 z) (append_assoc h.1 ((o, v) ∷ qs) ((q, u) ∷ []))
             outer,
         under_parts (left (level o)) k (level o) q u h.1 qs is refl under h.4,
         h.5,
@@ -128,21 +128,21 @@ module _ {T B X C : Type 0} (level : B → ℕ) (left : ℕ → Bool) (Stands : 
       )
     where
       next : (o : B) → GoesUnder left k (level o) → (w : T) (before : List (B × T)) (v' : T) (qs' : List (B × T)) (s' : List (X × C)) →
-          IsSpine level left Stands IsOperator t ps s' w (before ++ (o, v') ∷ qs') → UnderInnermost left of k s'
+          IsSpine level left StandsFor IsOperator t ps s' w (before ++ (o, v') ∷ qs') → UnderInnermost left of k s'
       next o under w before v' qs' [] z = tt
       next o under w before v' qs' (f ∷ s') z = subst (λ y. GoesUnder left k y) (sym (says z.2 f.1 z.6))
           (under_outer (left (level z.2)) k (level z.2) (level o) o v' z.1 before qs' refl refl under z.4)
 
   -- a new operator comes: nothing is closed yet
-  pub closing_none : (k : ℕ) (t : T) (ps : List (B × T)) (s : List (X × C)) (x : X) → Reads level left Stands IsOperator t ps s x →
-      Closing level left Stands IsOperator k t ps s x
+  pub closing_none : (k : ℕ) (t : T) (ps : List (B × T)) (s : List (X × C)) (x : X) → Reads level left StandsFor IsOperator t ps s x →
+      Closing level left StandsFor IsOperator k t ps s x
   unfolding holds_none
   closing_none k t ps s x h = record { held = holds_none t ps s x h; closed = parts_none (left k) k }
 
   -- it closes the innermost
-  pub closing_more : (Gives : X → C → X → X → Type 0) → Joins level left Stands IsOperator Gives → (of : C → ℕ) →
+  pub closing_more : (Gives : X → C → X → X → Type 0) → Joins level left StandsFor IsOperator Gives → (of : C → ℕ) →
       ((o : B) (c : C) → IsOperator o c → of c ≡ level o) → (k : ℕ) (t : T) (ps : List (B × T)) (s : List (X × C)) (l : X) (c : C) (x y : X) →
-      Closing level left Stands IsOperator k t ps ((l, c) ∷ s) x → Closes left k (of c) → Gives l c x y → Closing level left Stands IsOperator k t ps s y
+      Closing level left StandsFor IsOperator k t ps ((l, c) ∷ s) x → Closes left k (of c) → Gives l c x y → Closing level left StandsFor IsOperator k t ps s y
   unfolding holds_joined
   closing_more Gives j of says k t ps s l c x y h z g =
       let held = h.held in
@@ -155,8 +155,8 @@ module _ {T B X C : Type 0} (level : B → ℕ) (left : ℕ → Bool) (Stands : 
 
   -- It goes under the innermost that is left: then it is put on the stack with what was joined, and its term stands after it.
   pub reads_more : (of : C → ℕ) → ((o : B) (c : C) → IsOperator o c → of c ≡ level o) →
-      (q : B) (u : T) (c : C) (t : T) (ps : List (B × T)) (s : List (X × C)) (x y : X) → Closing level left Stands IsOperator (level q) t ps s x →
-      UnderInnermost left of (level q) s → IsOperator q c → Stands u [] y → Reads level left Stands IsOperator t (ps ++ (q, u) ∷ []) ((x, c) ∷ s) y
+      (q : B) (u : T) (c : C) (t : T) (ps : List (B × T)) (s : List (X × C)) (x y : X) → Closing level left StandsFor IsOperator (level q) t ps s x →
+      UnderInnermost left of (level q) s → IsOperator q c → StandsFor u [] y → Reads level left StandsFor IsOperator t (ps ++ (q, u) ∷ []) ((x, c) ∷ s) y
   reads_more of says q u c t ps s x y h n is z =
       let held = h.held in
       record {

@@ -1,7 +1,7 @@
 -- What the rounds accept is what an order of the members accepts.
 use Rattle.std.specs.Prelude.{◌≡◌, ℕ, ◌+◌, Bool, List, [], ◌∷◌, length, Option, Some, None, ◌⊎◌, refl}
 use Rattle.std.proofs.Common.{arith, sym, ap, subst, inl, inr, zero, suc}
-use Rattle.nom_traits.specs.Input.{Seen, InputLaws, IsRest}
+use Rattle.nom_traits.specs.Input.{Model, InputLaws, IsSuffixOf}
 use Rattle.nom_internal.specs.Outcome.{Outcome}
 use Rattle.nom_internal.specs.Outcome.Outcome.{Accept, Refuse, Fail, TooLarge, Undecided}
 use Rattle.nom_internal.specs.Meaning.{Meaning}
@@ -12,7 +12,7 @@ use Rattle.nom_permutation.specs.Members.{Member, Choice, IsOver, or_waiting, or
 use Rattle.nom_permutation.specs.Members.Choice.{NoChoice, Among}
 use Rattle.nom_permutation.specs.Permutation.{round_meaning, rounds_meaning, permutation_meaning}
 use Rattle.nom_permutation.proofs.Turns.{over_answer}
-use Rattle.nom_permutation.specs.Order.{Turn, AllApplied, InOrder}
+use Rattle.nom_permutation.specs.Order.{TakesTurn, AllApplied, InOrder}
 
 -- a choice accepts, or it refuses, as one of no members does
 abbrev ChoiceAccepts : {I T E : Type 0} → Bool → Choice I T E → I → ℕ → T → Type 0
@@ -82,12 +82,12 @@ module _ {I T P E : Type 0} (s : Bool) (Joins : E → E → E → Type 0) (Grows
 module _ {I T E : Type 0} (s : Bool) (Joins : E → E → E → Type 0) (Grows : Type 0) (t : T) (i : I) (n : ℕ) (u : T) where
   -- where the members after some others accept, either those do, or they refuse and it is the turn of a member
   members_turn : (o : Choice I T E) (ms : List (Member I T E)) → ChoiceAccepts s (or_members Joins Grows t o ms) i n u → ChoiceAccepts s o i n u ⊎
-      (ChoiceRefuses s o i × Turn s ms t i n u)
+      (ChoiceRefuses s o i × TakesTurn s ms t i n u)
   members_turn o [] h = inl h
   members_turn o (m ∷ ms) h = elim (members_turn (or_waiting Joins Grows o m.meaning (m.put t) (m.tree t)) ms h) as
-      (λ _. ChoiceAccepts s o i n u ⊎ (ChoiceRefuses s o i × Turn s (m ∷ ms) t i n u)) [
+      (λ _. ChoiceAccepts s o i n u ⊎ (ChoiceRefuses s o i × TakesTurn s (m ∷ ms) t i n u)) [
         | inl a ↦ elim (waiting_accepts s Joins Grows m.meaning (m.put t) i o (m.tree t) n u a) as
-            (λ _. ChoiceAccepts s o i n u ⊎ (ChoiceRefuses s o i × Turn s (m ∷ ms) t i n u)) [
+            (λ _. ChoiceAccepts s o i n u ⊎ (ChoiceRefuses s o i × TakesTurn s (m ∷ ms) t i n u)) [
               | inl b ↦ inl b
               | inr b ↦ inr (b.0, inl (record { waits = b.1; tree = b.2; accepted = b.3; put = b.4 }))
             ]
@@ -117,18 +117,18 @@ round_accepts Closes Grows s t (Among m) i n u h =
     inr (subst (λ z. m.answers s z (Accept n u)) (sym h.at_is) (subst (λ z. m.answers s h.at z) (sym h.fact) h.answered))
 
 -- how a round's outcome goes on, where the whole accepts
-module _ {I A T : Type 0} (w : Seen I A) (Next : T → I → Outcome T → Type 0) (i : I) (n : ℕ) (u : T) where
+module _ {I A T : Type 0} (w : Model I A) (Next : T → I → Outcome T → Type 0) (i : I) (n : ℕ) (u : T) where
   pub record GoesOnFrom (a : Outcome T) : Type 0 where
     pub length : ℕ
     pub trees : T
     pub is : a ≡ Accept length trees
     pub rest : I
-    pub rest_is : IsRest w i length rest
+    pub rest_is : IsSuffixOf w i length rest
     pub more : ℕ
     pub next : Next trees rest (Accept more u)
     pub lengths : n ≡ length + more
 
-  after_next : (k : ℕ) (v : T) (j : I) (p : Outcome T) → IsRest w i k j → Next v j p → Accept n u ≡ after k (λ t. t) p → GoesOnFrom (Accept k v)
+  after_next : (k : ℕ) (v : T) (j : I) (p : Outcome T) → IsSuffixOf w i k j → Next v j p → Accept n u ≡ after k (λ t. t) p → GoesOnFrom (Accept k v)
   after_next k v j (Accept m t) r h e =
       let same : u ≡ t = cc (e) in
       record { length = k; trees = v; is = refl; rest = j; rest_is = r; more = m; next = subst (λ z. Next v j (Accept m z)) (sym same) h; lengths = cc (e) }
@@ -144,7 +144,7 @@ module _ {I A T : Type 0} (w : Seen I A) (Next : T → I → Outcome T → Type 
   goes_on_from TooLarge h = absurd (cc (h))
   goes_on_from (Undecided d) h = absurd (cc (h))
 
-module _ {I A T E : Type 0} (w : Seen I A) (Joins : E → E → E → Type 0) (Closes : I → E → E → Type 0) (Grows : Type 0) (ms : List (Member I T E))
+module _ {I A T E : Type 0} (w : Model I A) (Joins : E → E → E → Type 0) (Closes : I → E → E → Type 0) (Grows : Type 0) (ms : List (Member I T E))
     (s : Bool) where
   -- once all are applied, nothing more is accepted
   over_accepts : (k : ℕ) (t : T) (i : I) (n : ℕ) (u : T) → IsOver (tried Joins Grows ms t) →
@@ -213,7 +213,7 @@ module _ {I T P E : Type 0} (s : Bool) (Joins : E → E → E → Type 0) (Grows
       record { first = Refuse; answered = h; goes_on = record { at = i; at_is = refl; outcome = Refuse; answered = f refl; fact = refl } }
 
 module _ {I T E : Type 0} (s : Bool) (Joins : E → E → E → Type 0) (Grows : Type 0) (t : T) (i : I) (n : ℕ) (u : T) where
-  turn_members : (o : Choice I T E) (ms : List (Member I T E)) → ChoiceAccepts s o i n u ⊎ (ChoiceRefuses s o i × Turn s ms t i n u) →
+  turn_members : (o : Choice I T E) (ms : List (Member I T E)) → ChoiceAccepts s o i n u ⊎ (ChoiceRefuses s o i × TakesTurn s ms t i n u) →
       ChoiceAccepts s (or_members Joins Grows t o ms) i n u
   turn_members o [] (inl a) = a
   turn_members o [] (inr r) = absurd r.1
@@ -244,7 +244,7 @@ round_accepted : {I T E : Type 0} (Closes : I → E → E → Type 0) (Grows : T
 round_accepted Closes Grows s t NoChoice i n u h = absurd h
 round_accepted Closes Grows s t (Among m) i n u h = record { at = i; at_is = refl; outcome = Accept n u; answered = h; fact = refl }
 
-module _ {I A T E : Type 0} (w : Seen I A) (l : InputLaws w) (Joins : E → E → E → Type 0) (Closes : I → E → E → Type 0) (Grows : Type 0)
+module _ {I A T E : Type 0} (w : Model I A) (l : InputLaws w) (Joins : E → E → E → Type 0) (Closes : I → E → E → Type 0) (Grows : Type 0)
     (ms : List (Member I T E)) (s : Bool) where
   order_in_rounds : (k : ℕ) (t : T) (i : I) (n : ℕ) (u : T) → w.IsKnown i → InOrder w s ms u k t i n →
       (rounds_meaning w Joins Closes Grows ms k t).answers s i (Accept n u)

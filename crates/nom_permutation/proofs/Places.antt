@@ -4,9 +4,9 @@ use Rattle.std.proofs.Common.{sym, ◌∙◌, ap, subst}
 use Rattle.nom_error.specs.declared.answer.Needed.{Needed}
 use Rattle.nom_error.specs.declared.answer.Err as Answer
 use Rattle.nom_error.specs.declared.answer.Err.TheVariants.{Incomplete, Error, Failure, OutOfMemory}
-use Rattle.nom_slots.specs.declared.slots.Slot.{Slot}
-use Rattle.nom_slots.specs.declared.slots.Slot.TheVariants.{Waiting, Applied}
-use Rattle.nom_traits.specs.Input.{Seen}
+use Rattle.nom_permutation_slots.specs.declared.slots.Slot.{Slot}
+use Rattle.nom_permutation_slots.specs.declared.slots.Slot.TheVariants.{Waiting, Applied}
+use Rattle.nom_traits.specs.Input.{Model}
 use Rattle.nom_error.specs.Modes.{Built, Modes, modes, with_outputs}
 use Rattle.nom_internal.specs.Outcome.{Outcome, Shows, ShowsAnswer}
 use Rattle.nom_internal.specs.Outcome.Outcome.{Accept, Refuse, Fail, TooLarge, Undecided}
@@ -18,15 +18,15 @@ use Rattle.nom_internal.specs.Choice.OrBlames.{FirstFails, FirstRefuses}
 use Rattle.nom_internal.specs.Choice.NextBlames.{NextFails, NextRefuses}
 use Rattle.nom_permutation.specs.Members.{Choice, IsOver, or_waiting}
 use Rattle.nom_permutation.specs.Members.Choice.{NoChoice, Among}
-use Rattle.nom_slots.specs.Tries.{Fills, TriesFirst, TriesAfter, Tries}
-use Rattle.nom_permutation.specs.Rounds.{Holds, IsApplied, waits, applies, as_answer, WhereRefused, ShowsRound, HasTried}
+use Rattle.nom_permutation_slots.specs.Tries.{Fills, TriesFirst, TriesAfter, Tries}
+use Rattle.nom_permutation.specs.Rounds.{SlotHolds, IsApplied, waits, applies, as_answer, WhereRefused, ShowsRound, HasTried}
 use Rattle.nom_internal.proofs.Cased.{labelled_shown}
 use Rattle.nom_internal.proofs.Shown.{both_built}
 use Rattle.nom_internal.proofs.Choices.{shown_map, next_labelled, or_shown}
 
 -- a member that can be asked for either kind of outputs answers as where they are
 abbrev pub fixed : {I V E : Type 0} → Bool → Meaning I V E → Meaning I V E
-fixed outputs m = record m { runs_out = λ mode. m.runs_out (with_outputs outputs mode) }
+fixed outputs m = record m { may_run_out = λ mode. m.may_run_out (with_outputs outputs mode) }
 
 module _ {I V E : Type 0} (Joins : E → E → E → Type 0) (m : Meaning I V E) (outputs s : Bool) (i : I) (First : E → Type 0) where
   next_fixed : (e : E) → NextBlames Joins m s i First e → NextBlames Joins (fixed outputs m) s i First e
@@ -42,22 +42,23 @@ or_unfixed : {I V E : Type 0} (Joins : E → E → E → Type 0) (a b : Meaning 
 or_unfixed Joins a b outputs s i e (FirstFails f) = FirstFails f
 or_unfixed Joins a b outputs s i e (FirstRefuses r n) = FirstRefuses r (next_unfixed Joins b outputs s i (a.blames s i) e n)
 
-module _ {I A V O E : Type 0} (w : Seen I A) (IsOutput : V → O → Type 0) (outputs errors s : Bool) (i : I) (Answers : Outcome V → Type 0)
-    (IsError : E → Type 0) (RunsOut : Type 0) (Held : V → Type 0) (before slot : Slot O) (fills : (v : V) → Holds outputs IsOutput (Some v) slot → Held v) where
-  -- a member's answer, and the place that it fills
-  pub fills_shown : (q : Result (I × Option O) (Answer.Err E (Option E) Needed)) (r : Result I (Answer.Err E (Option E) Needed)) →
-      ShowsAnswer w IsOutput (modes outputs errors s) i Answers IsError RunsOut q → Fills before q slot r →
-      ShowsAnswer w (λ v _. Held v) (modes true errors s) i Answers IsError RunsOut (as_answer r)
-  fills_shown q r (RanOut e h) f = let g = rw e at f in RanOut (ap as_answer g.1) h
-  fills_shown q r (Shown (Accept n v) a h) f =
-      let g = rw h.4 at f in
-      Shown (Accept n v) a (h.0, Some tt, h.2, (tt, refl, fills v (h.1, g.0, h.3)), ap as_answer g.1)
-  fills_shown q r (Shown Refuse a h) f = let g = rw h.2 at f in Shown Refuse a (h.0, h.1, ap as_answer g.1)
-  fills_shown q r (Shown Fail a h) f = let g = rw h.2 at f in Shown Fail a (h.0, h.1, ap as_answer g.1)
-  fills_shown q r (Shown TooLarge a h) f = let g = rw h.2 at f in Shown TooLarge a (h.0, h.1, ap as_answer g.1)
-  fills_shown q r (Shown (Undecided k) a h) f = let g = rw h.2 at f in Shown (Undecided k) a (h.0, h.1, ap as_answer g.1)
+module _ {I A V O E : Type 0} (w : Model I A) (IsOutput : V → O → Type 0) (outputs errors s : Bool) (i : I) (Answers : Outcome V → Type 0)
+    (IsError : E → Type 0) (RunsOut : Type 0) (Held : V → Type 0) (before slot : Slot O) (fills : (v : V) → SlotHolds outputs IsOutput (Some v) slot → Held v)
+  where
+    -- a member's answer, and the place that it fills
+    pub fills_shown : (q : Result (I × Option O) (Answer.Err E (Option E) Needed)) (r : Result I (Answer.Err E (Option E) Needed)) →
+        ShowsAnswer w IsOutput (modes outputs errors s) i Answers IsError RunsOut q → Fills before q slot r →
+        ShowsAnswer w (λ v _. Held v) (modes true errors s) i Answers IsError RunsOut (as_answer r)
+    fills_shown q r (RanOut e h) f = let g = rw e at f in RanOut (ap as_answer g.1) h
+    fills_shown q r (Shown (Accept n v) a h) f =
+        let g = rw h.4 at f in
+        Shown (Accept n v) a (h.0, Some tt, h.2, (tt, refl, fills v (h.1, g.0, h.3)), ap as_answer g.1)
+    fills_shown q r (Shown Refuse a h) f = let g = rw h.2 at f in Shown Refuse a (h.0, h.1, ap as_answer g.1)
+    fills_shown q r (Shown Fail a h) f = let g = rw h.2 at f in Shown Fail a (h.0, h.1, ap as_answer g.1)
+    fills_shown q r (Shown TooLarge a h) f = let g = rw h.2 at f in Shown TooLarge a (h.0, h.1, ap as_answer g.1)
+    fills_shown q r (Shown (Undecided k) a h) f = let g = rw h.2 at f in Shown (Undecided k) a (h.0, h.1, ap as_answer g.1)
 
-module _ {I A T E : Type 0} (w : Seen I A) (Held Held' : T → Type 0) (mode : Modes) (i : I) (Answers : Outcome T → Type 0) (IsError : E → Type 0)
+module _ {I A T E : Type 0} (w : Model I A) (Held Held' : T → Type 0) (mode : Modes) (i : I) (Answers : Outcome T → Type 0) (IsError : E → Type 0)
     (RunsOut : Type 0) where
   lost_of : (f : Answer.Err E (Option E) Needed) (o : Outcome T) → Shows w (λ u _. Held u) (with_outputs true mode) i IsError o (as_answer (Err f)) →
       Shows w (λ u _. Held' u) (with_outputs true mode) i IsError o (as_answer (Err f))
@@ -101,14 +102,14 @@ fills_refused {I = I} {E = E} Fact before slot (Err e) r f h = subst (λ z. Wher
     of (Failure x) = tt
     of OutOfMemory = tt
 
-module _ {I A T V O E : Type 0} (w : Seen I A) (IsOutput : V → O → Type 0) (Joins : E → E → E → Type 0) (Grows : Type 0) (m : Meaning I V E)
+module _ {I A T V O E : Type 0} (w : Model I A) (IsOutput : V → O → Type 0) (Joins : E → E → E → Type 0) (Grows : Type 0) (m : Meaning I V E)
     (put : V → T) (outputs errors s : Bool) (i : I) (t : T) (Held Held' : T → Type 0) (before slot : Slot O)
-    (stays : slot ≡ before → (u : T) → Held u → Held' u) (fills : (v : V) → Holds outputs IsOutput (Some v) slot → Held t → Held' (put v)) where
+    (stays : slot ≡ before → (u : T) → Held u → Held' u) (fills : (v : V) → SlotHolds outputs IsOutput (Some v) slot → Held t → Held' (put v)) where
   first_step : (r : Result I (Answer.Err E (Option E) Needed)) → Held t → TriesFirst w IsOutput m (modes outputs errors s) i before slot r →
       ShowsRound w (modes outputs errors s) i Held' (labelled_meaning put m) r × WhereRefused (Held' t) r
   first_step r h g = (
     labelled_shown w put (λ v _. Held' (put v)) (λ u _. Held' u) (λ u o k. k) (fixed outputs m) (modes true errors s) i (as_answer r)
-        (fills_shown w IsOutput outputs errors s i (m.answers s i) (m.blames s i) (m.runs_out (modes outputs errors s) i)
+        (fills_shown w IsOutput outputs errors s i (m.answers s i) (m.blames s i) (m.may_run_out (modes outputs errors s) i)
         (λ v. Held' (put v)) before slot (λ v k. fills v k h) g.0 r g.1 g.2),
     fills_refused (Held' t) before slot g.0 r (λ e. stays e t h) g.2,
   )
@@ -126,20 +127,20 @@ module _ {I A T V O E : Type 0} (w : Seen I A) (IsOutput : V → O → Type 0) (
           let f = or_meaning Joins Grows (fixed outputs o) (fixed outputs n) in
           let g' = or_meaning Joins Grows o n in
           shown_map w (λ u _. Held' u) (modes true errors s) i (f.answers s i) (g'.answers s i) (f.blames s i) (g'.blames s i)
-          (f.runs_out (modes true errors s) i) (g'.runs_out (modes outputs errors s) i) (as_answer r) (λ p a. a)
+          (f.may_run_out (modes true errors s) i) (g'.may_run_out (modes outputs errors s) i) (as_answer r) (λ p a. a)
           (λ e b. or_unfixed Joins o n outputs s i e b) (λ k. k)
           (or_shown w (λ u _. Held' u) Joins Grows (fixed outputs o) (fixed outputs n) (modes true errors s) i (as_answer c) (as_answer r) h g)
 
       lost : (f : Answer.Err E (Option E) Needed) → ShowsRound w (modes outputs errors s) i Held o (Err f) →
           ShowsRound w (modes outputs errors s) i Held' o (Err f)
-      lost f h = lost_shown w Held Held' (modes outputs errors s) i (o.answers s i) (o.blames s i) (o.runs_out (modes outputs errors s) i) f h
+      lost f h = lost_shown w Held Held' (modes outputs errors s) i (o.answers s i) (o.blames s i) (o.may_run_out (modes outputs errors s) i) f h
 
       by_before : (b : Result I (Answer.Err E (Option E) Needed)) → ShowsRound w (modes outputs errors s) i Held o b → WhereRefused (Held t) b →
           TriesAfter w IsOutput Joins Grows m (modes outputs errors s) i b before slot r →
           ShowsRound w (modes outputs errors s) i Held' (or_meaning Joins Grows o (labelled_meaning put m)) r × WhereRefused (Held' t) r
       by_before (Ok j) h k g = (
         both (Ok j)
-            (kept_shown w Held Held' (modes outputs errors s) i (o.answers s i) (o.blames s i) (o.runs_out (modes outputs errors s) i) j (stays g.0) h)
+            (kept_shown w Held Held' (modes outputs errors s) i (o.answers s i) (o.blames s i) (o.may_run_out (modes outputs errors s) i) j (stays g.0) h)
             (ap as_answer g.1),
         subst (λ z. WhereRefused (Held' t) z) (sym g.1) tt,
       )
@@ -166,8 +167,9 @@ module _ {I A T V O E : Type 0} (w : Seen I A) (IsOutput : V → O → Type 0) (
     where
       shown : (r : Result I (Answer.Err E (Option E) Needed)) → ShowsRound w (modes outputs errors s) i Held n r →
           ShowsRound w (modes outputs errors s) i Held' n r
-      shown (Ok j) h = kept_shown w Held Held' (modes outputs errors s) i (n.answers s i) (n.blames s i) (n.runs_out (modes outputs errors s) i) j (stays e) h
-      shown (Err f) h = lost_shown w Held Held' (modes outputs errors s) i (n.answers s i) (n.blames s i) (n.runs_out (modes outputs errors s) i) f h
+      shown (Ok j) h = kept_shown w Held Held' (modes outputs errors s) i (n.answers s i) (n.blames s i) (n.may_run_out (modes outputs errors s) i) j
+          (stays e) h
+      shown (Err f) h = lost_shown w Held Held' (modes outputs errors s) i (n.answers s i) (n.blames s i) (n.may_run_out (modes outputs errors s) i) f h
 
       refused : (r : Result I (Answer.Err E (Option E) Needed)) → WhereRefused (Held t) r → WhereRefused (Held' t) r
       refused (Ok j) h = tt
@@ -178,7 +180,7 @@ module _ {I A T V O E : Type 0} (w : Seen I A) (IsOutput : V → O → Type 0) (
 
   -- one member's part in a round
   pub member_step : (o : Choice I T E) (x : Option V) (round round' : Option (Result I (Answer.Err E (Option E) Needed))) →
-      Holds outputs IsOutput x before → HasTried w (modes outputs errors s) i Held t o round →
+      SlotHolds outputs IsOutput x before → HasTried w (modes outputs errors s) i Held t o round →
       Tries w IsOutput Joins Grows m (modes outputs errors s) i before round slot round' →
       HasTried w (modes outputs errors s) i Held' t (or_waiting Joins Grows o m put x) round'
   member_step o (Some v) round round' h k g =
@@ -197,8 +199,8 @@ module _ {I A T V O E : Type 0} (w : Seen I A) (IsOutput : V → O → Type 0) (
 
 -- a place that stays
 pub holds_same : {V O : Type 0} (outputs : Bool) (IsOutput : V → O → Type 0) (x : Option V) (before slot : Slot O) → slot ≡ before →
-    Holds outputs IsOutput x before → Holds outputs IsOutput x slot
-holds_same outputs IsOutput x before slot e h = subst (λ z. Holds outputs IsOutput x z) (sym e) h
+    SlotHolds outputs IsOutput x before → SlotHolds outputs IsOutput x slot
+holds_same outputs IsOutput x before slot e h = subst (λ z. SlotHolds outputs IsOutput x z) (sym e) h
 
 -- a member whose place is among those that are all applied
 pub step_applied : {I T V E : Type 0} (Joins : E → E → E → Type 0) (Grows : Type 0) (m : Meaning I V E) (put : V → T) (o : Choice I T E)
@@ -209,12 +211,12 @@ step_applied Joins Grows m put (Among n) None h = absurd h
 
 -- what is taken from the place of an applied member
 pub taken_built : {V O : Type 0} (outputs : Bool) (IsOutput : V → O → Type 0) (x : Option V) (v : V) (slot : Slot O) (r : Option O) → x ≡ Some v →
-    Holds outputs IsOutput x slot → ((b : Option O) → slot ≡ Applied b → r ≡ b) → Built outputs (IsApplied IsOutput x) r
+    SlotHolds outputs IsOutput x slot → ((b : Option O) → slot ≡ Applied b → r ≡ b) → Built outputs (IsApplied IsOutput x) r
 taken_built outputs IsOutput x v slot r e h f =
-    let k = subst (λ z. Holds outputs IsOutput z slot) e h in
+    let k = subst (λ z. SlotHolds outputs IsOutput z slot) e h in
     subst (λ z. Built outputs (IsApplied IsOutput z) r) (sym e) (subst (λ z. Built outputs (IsOutput v) z) (sym (f k.0 k.1)) k.2)
 
-module _ {I A V O E : Type 0} (w : Seen I A) (IsOutput : V → O → Type 0) (Joins : E → E → E → Type 0) (Grows : Type 0) (m : Meaning I V E)
+module _ {I A V O E : Type 0} (w : Model I A) (IsOutput : V → O → Type 0) (Joins : E → E → E → Type 0) (Grows : Type 0) (m : Meaning I V E)
     (outputs errors s : Bool) (i : I) (slot : Slot O) where
   fill_counted : (q : Result (I × Option O) (Answer.Err E (Option E) Needed)) (r : Result I (Answer.Err E (Option E) Needed)) → Fills Waiting q slot r →
       waits slot + applies (Some r) ≡ 1

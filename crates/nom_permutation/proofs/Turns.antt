@@ -4,7 +4,7 @@ use Rattle.std.proofs.Common.{sym, ap, subst, zero, suc}
 use Rattle.nom_error.specs.declared.answer.Needed.{Needed}
 use Rattle.nom_error.specs.declared.answer.Err as Answer
 use Rattle.nom_error.specs.declared.answer.Err.TheVariants.{Incomplete, Error, Failure, OutOfMemory}
-use Rattle.nom_traits.specs.Input.{Seen, InputLaws, IsRest}
+use Rattle.nom_traits.specs.Input.{Model, InputLaws, IsSuffixOf}
 use Rattle.nom_error.specs.Modes.{Built, modes}
 use Rattle.nom_internal.specs.Outcome.Outcome.{Accept}
 use Rattle.nom_internal.specs.Outcome.ShowsAnswer.{Shown}
@@ -19,7 +19,7 @@ use Rattle.nom_permutation.specs.Permutation.{round_meaning, rounds_meaning}
 use Rattle.nom_internal.proofs.Choices.{closed_shown}
 use Rattle.nom_internal.proofs.Shown.{accepts, then_err, next_shown}
 
-module _ {I A T E : Type 0} (w : Seen I A) (Closes : I → E → E → Type 0) (Grows : Type 0) (outputs errors s : Bool) (i : I) (Held : T → Type 0) where
+module _ {I A T E : Type 0} (w : Model I A) (Closes : I → E → E → Type 0) (Grows : Type 0) (outputs errors s : Bool) (i : I) (Held : T → Type 0) where
   close_shown : (m : Meaning I T E) (r closed : Result I (Answer.Err E (Option E) Needed)) → ShowsRound w (modes outputs errors s) i Held m r →
       ClosesResult (Closes i) Grows r closed → ShowsRound w (modes outputs errors s) i Held (closed_meaning Closes Grows m) closed
   close_shown m r closed h g =
@@ -42,7 +42,7 @@ module _ {I A T E : Type 0} (w : Seen I A) (Closes : I → E → E → Type 0) (
       let same : h.0 ≡ r = cc (e, h.1) in
       close_shown m r closed (subst (λ z. ShowsRound w (modes outputs errors s) i Held m z) same h.2) g
 
-module _ {I A T E : Type 0} (w : Seen I A) (outputs errors s : Bool) (i : I) (Held : T → Type 0) (t : T) where
+module _ {I A T E : Type 0} (w : Model I A) (outputs errors s : Bool) (i : I) (Held : T → Type 0) (t : T) where
   -- a round that tried none
   pub round_over : (o : Choice I T E) (round : Option (Result I (Answer.Err E (Option E) Needed))) → round ≡ None →
       HasTried w (modes outputs errors s) i Held t o round → IsOver o × Held t
@@ -64,10 +64,10 @@ closed_applies Q j (Err (Error x)) closed e h = cc (e, h.2)
 closed_applies Q j (Err (Failure x)) closed e h = cc (e, h)
 closed_applies Q j (Err OutOfMemory) closed e h = cc (e, h)
 
-rest_none : {I A : Type 0} (w : Seen I A) (l : InputLaws w) (j : I) → w.IsKnown j → IsRest w j 0 j
+rest_none : {I A : Type 0} (w : Model I A) (l : InputLaws w) (j : I) → w.IsKnown j → IsSuffixOf w j 0 j
 rest_none w l j k = record { known = k; front = []; whole = refl; length_is = refl; mark_is = sym (l.mark_none (w.mark j)) }
 
-module _ {I A T E : Type 0} (w : Seen I A) (l : InputLaws w) (Joins : E → E → E → Type 0) (Closes : I → E → E → Type 0) (Grows : Type 0)
+module _ {I A T E : Type 0} (w : Model I A) (l : InputLaws w) (Joins : E → E → E → Type 0) (Closes : I → E → E → Type 0) (Grows : Type 0)
     (ms : List (Member I T E)) (s : Bool) where
   over_round : (t : T) (o : Choice I T E) (j : I) → IsOver o → (round_meaning Closes Grows t o).answers s j (Accept 0 t)
   over_round t NoChoice j h = refl
@@ -83,13 +83,13 @@ module _ {I A T E : Type 0} (w : Seen I A) (l : InputLaws w) (Joins : E → E �
         (j, Accept 0 t, rest_none w l j k, over_answer n t j k h, refl);
   }
 
-module _ {I A T O E : Type 0} (w : Seen I A) (Joins : E → E → E → Type 0) (Closes : I → E → E → Type 0) (Grows : Type 0) (ms : List (Member I T E))
+module _ {I A T O E : Type 0} (w : Model I A) (Joins : E → E → E → Type 0) (Closes : I → E → E → Type 0) (Grows : Type 0) (ms : List (Member I T E))
     (IsOutput : T → O → Type 0) (outputs errors s : Bool) where
   -- what n rounds after the trees t show
   abbrev pub ShowsRounds : ℕ → T → I → Result (I × Option O) (Answer.Err E (Option E) Needed) → Type 0
   ShowsRounds n t i r = ShowsMeaning w IsOutput (rounds_meaning w Joins Closes Grows ms n t) (modes outputs errors s) i r
 
-module _ {I A T O E : Type 0} (w : Seen I A) (l : InputLaws w) (Joins : E → E → E → Type 0) (Closes : I → E → E → Type 0) (Grows : Type 0)
+module _ {I A T O E : Type 0} (w : Model I A) (l : InputLaws w) (Joins : E → E → E → Type 0) (Closes : I → E → E → Type 0) (Grows : Type 0)
     (ms : List (Member I T E)) (IsOutput : T → O → Type 0) (outputs errors s : Bool) where
   abbrev Rounds : ℕ → T → I → Result (I × Option O) (Answer.Err E (Option E) Needed) → Type 0
   Rounds n t i r = ShowsRounds w Joins Closes Grows ms IsOutput outputs errors s n t i r
@@ -112,8 +112,8 @@ module _ {I A T O E : Type 0} (w : Seen I A) (l : InputLaws w) (Joins : E → E 
           c.tree,
           c.built_is.2,
           λ r k. subst (λ z. Rounds z t i r) (sym e)
-              (next_shown w l (λ _ u. u) (a.answers s) (a.blames s) (a.runs_out (modes outputs errors s)) (λ u. (next u).answers s) (λ u. (next u).blames s)
-              (λ u. (next u).runs_out (modes outputs errors s)) IsOutput (modes outputs errors s) i j c.length c.tree c.answered c.rest_is r k),
+              (next_shown w l (λ _ u. u) (a.answers s) (a.blames s) (a.may_run_out (modes outputs errors s)) (λ u. (next u).answers s) (λ u. (next u).blames s)
+              (λ u. (next u).may_run_out (modes outputs errors s)) IsOutput (modes outputs errors s) i j c.length c.tree c.answered c.rest_is r k),
         )
 
     -- a round that doesn't accept ends them

@@ -5,7 +5,7 @@ use Rattle.nom_error.specs.declared.answer.Needed.{Needed}
 use Rattle.nom_error.specs.declared.answer.Err as Answer
 use Rattle.nom_error.specs.declared.answer.Err.TheVariants.{Incomplete, Error, Failure, OutOfMemory}
 use Rattle.nom_error.specs.Modes.{Modes, with_outputs}
-use Rattle.nom_traits.specs.Input.{Seen}
+use Rattle.nom_traits.specs.Input.{Model}
 use Rattle.nom_internal.specs.Outcome.{Outcome, ShowsAnswer, IsFailure}
 use Rattle.nom_internal.specs.Outcome.Outcome.{Accept, Refuse, Fail, TooLarge, Undecided}
 use Rattle.nom_internal.specs.Outcome.ShowsAnswer.{RanOut, Shown}
@@ -41,7 +41,7 @@ module _ {I T U E : Type 0} (put : T → U) where
   record Covers (m : Meaning I T E) (n : Meaning I U E) : Type 0 where
     pub answers : (s : Bool) (i : I) (o : Outcome T) → m.answers s i o → n.answers s i (labelled put o)
     pub blames : (s : Bool) (i : I) (e : E) → m.blames s i e → n.blames s i e
-    pub runs_out : (mode : Modes) (i : I) → m.runs_out mode i → n.runs_out mode i
+    pub may_run_out : (mode : Modes) (i : I) → m.may_run_out mode i → n.may_run_out mode i
 
   -- of two choices, if there are some
   abbrev IsWider : Choice I T E → Choice I U E → Type 0
@@ -61,7 +61,7 @@ module _ {I T U E : Type 0} (put : T → U) where
         fact = ap (labelled put) h.fact ∙ labelled_twice put label h.outcome;
       };
       blames = λ s i e h. h;
-      runs_out = λ mode i h. h;
+      may_run_out = λ mode i h. h;
     }
 
   module _ (Joins : E → E → E → Type 0) (Grows : Type 0) (a b : Meaning I T E) (c d : Meaning I U E) (p : Covers a c) (q : Covers b d) where
@@ -98,11 +98,11 @@ module _ {I T U E : Type 0} (put : T → U) where
     or_blames s i e (FirstRefuses r n) = FirstRefuses (p.answers s i Refuse r) (next_blames s i e n)
 
     next_runs_out : (mode : Modes) (i : I) → NextRunsOut Grows b mode i → NextRunsOut Grows d mode i
-    next_runs_out mode i (inl h) = inl (q.runs_out mode i h)
+    next_runs_out mode i (inl h) = inl (q.may_run_out mode i h)
     next_runs_out mode i (inr h) = inr (q.answers mode.streaming i Refuse h.0, h.1, h.2)
 
-    or_runs_out : (mode : Modes) (i : I) → (or_meaning Joins Grows a b).runs_out mode i → (or_meaning Joins Grows c d).runs_out mode i
-    or_runs_out mode i (inl h) = inl (p.runs_out mode i h)
+    or_runs_out : (mode : Modes) (i : I) → (or_meaning Joins Grows a b).may_run_out mode i → (or_meaning Joins Grows c d).may_run_out mode i
+    or_runs_out mode i (inl h) = inl (p.may_run_out mode i h)
     or_runs_out mode i (inr h) = inr (p.answers mode.streaming i Refuse h.0, next_runs_out mode i h.1)
 
     or_covers : Covers (or_meaning Joins Grows a b) (or_meaning Joins Grows c d)
@@ -113,7 +113,7 @@ module _ {I T U E : Type 0} (put : T → U) where
         goes_on = goes_on s i h.first o h.goes_on;
       };
       blames = or_blames;
-      runs_out = or_runs_out;
+      may_run_out = or_runs_out;
     }
 
   module _ {Q : Type 0} (Joins : E → E → E → Type 0) (Grows : Type 0) (m : Meaning I Q E) (label : Q → T) where
@@ -142,7 +142,7 @@ where_refused f (Err (Error x)) h = f h
 where_refused f (Err (Failure e)) h = tt
 where_refused f (Err OutOfMemory) h = tt
 
-module _ {I A T U E : Type 0} (w : Seen I A) (mode : Modes) (i : I) (Held : T → Type 0) (Wide : U → Type 0) (put : T → U)
+module _ {I A T U E : Type 0} (w : Model I A) (mode : Modes) (i : I) (Held : T → Type 0) (Wide : U → Type 0) (put : T → U)
     (held : (v : T) → Held v → Wide (put v)) where
   wider_shown : (F : Outcome T → Type 0) (G : Outcome U → Type 0) (Q : E → Type 0) (S : Type 0) → ((o : Outcome T) → F o → G (labelled put o)) →
       (r : Result (I × Option (Unit {0})) (Answer.Err E (Option E) Needed)) → ShowsAnswer w (λ v _. Held v) (with_outputs true mode) i F Q S r →
@@ -159,9 +159,9 @@ module _ {I A T U E : Type 0} (w : Seen I A) (mode : Modes) (i : I) (Held : T �
       ShowsRound w mode i Wide n r
   wider_round m n r c h =
       let s = mode.streaming in
-      wider_shown (m.answers s i) (n.answers s i) (n.blames s i) (n.runs_out mode i) (c.answers s i) (as_answer r)
-      (shown_map w (λ v _. Held v) (with_outputs true mode) i (m.answers s i) (m.answers s i) (m.blames s i) (n.blames s i) (m.runs_out mode i)
-      (n.runs_out mode i) (as_answer r) (λ o a. a) (c.blames s i) (c.runs_out mode i) h)
+      wider_shown (m.answers s i) (n.answers s i) (n.blames s i) (n.may_run_out mode i) (c.answers s i) (as_answer r)
+      (shown_map w (λ v _. Held v) (with_outputs true mode) i (m.answers s i) (m.answers s i) (m.blames s i) (n.blames s i) (m.may_run_out mode i)
+      (n.may_run_out mode i) (as_answer r) (λ o a. a) (c.blames s i) (c.may_run_out mode i) h)
 
   wider_tried : (t : T) (o : Choice I T E) (p : Choice I U E) (round : Option (Result I (Answer.Err E (Option E) Needed))) → IsWider put o p →
       HasTried w mode i Held t o round → HasTried w mode i Wide (put t) p round
@@ -170,7 +170,7 @@ module _ {I A T U E : Type 0} (w : Seen I A) (mode : Modes) (i : I) (Held : T �
   wider_tried t (Among m) NoChoice round c h = absurd c
   wider_tried t (Among m) (Among n) round c h = (h.0, h.1, wider_round m n h.0 c h.2, where_refused (held t) h.0 h.3)
 
-module _ {I A T P E : Type 0} (w : Seen I A) (mode : Modes) (i : I) (Joins : E → E → E → Type 0) (Grows : Type 0) (Held : T → Type 0)
+module _ {I A T P E : Type 0} (w : Model I A) (mode : Modes) (i : I) (Joins : E → E → E → Type 0) (Grows : Type 0) (Held : T → Type 0)
     (Wide : T × P → Type 0) (t : T × P) (held : (v : T) → Held v → Wide (v, t.1)) where
   -- what a round has tried of some members
   pub others_tried : (ms : List (Member I T E)) (round : Option (Result I (Answer.Err E (Option E) Needed))) →

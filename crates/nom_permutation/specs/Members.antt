@@ -1,6 +1,6 @@
 -- The members of a permutation, and the choice among those that aren't applied.
 use Rattle.std.specs.Prelude.{List, [], ◌∷◌, Option, Some, None}
-use Rattle.nom_traits.specs.Input.{Seen}
+use Rattle.nom_traits.specs.Input.{Model}
 use Rattle.nom_internal.specs.Meaning.{Meaning, IsLawful, IsSteady}
 use Rattle.nom_internal.specs.Cases.{labelled_meaning}
 use Rattle.nom_internal.specs.Choice.{or_meaning}
@@ -25,10 +25,10 @@ EachMember Fact (m ∷ ms) = Fact m × EachMember Fact ms
 abbrev pub AreSound : {I T E : Type 0} → List (Member I T E) → Type 0
 AreSound = EachMember (λ m. m.meaning.IsSound)
 
-abbrev pub AreLawful : {I A T E : Type 0} → Seen I A → List (Member I T E) → Type 0
+abbrev pub AreLawful : {I A T E : Type 0} → Model I A → List (Member I T E) → Type 0
 AreLawful w = EachMember (λ m. IsLawful w m.meaning)
 
-abbrev pub AreSteady : {I A T E : Type 0} → Seen I A → List (Member I T E) → Type 0
+abbrev pub AreSteady : {I A T E : Type 0} → Model I A → List (Member I T E) → Type 0
 AreSteady w = EachMember (λ m. IsSteady w m.meaning)
 
 -- the choice among the members that aren't applied, if there are some

@@ -1,10 +1,10 @@
 -- The laws of members, by those before the last and by the last.
 use Rattle.std.specs.Prelude.{◌≡◌, ℕ, ◌+◌, Bool, List, [], ◌∷◌, length, Option, Some, None, refl}
 use Rattle.std.proofs.Common.{◌∙◌, arith, ap, subst, sym}
-use Rattle.nom_traits.specs.Input.{Seen}
+use Rattle.nom_traits.specs.Input.{Model}
 use Rattle.nom_traits.specs.View.{View, pair_view}
 use Rattle.nom_internal.specs.Pinned.{IsPinned, pair_pinned}
-use Rattle.nom_slots.specs.declared.slots.Slot.{Slot}
+use Rattle.nom_permutation_slots.specs.declared.slots.Slot.{Slot}
 use Rattle.nom_permutation.specs.declared.nest.One.{One}
 use Rattle.nom_internal.specs.Meaning.{Meaning, IsLawful, IsSteady}
 use Rattle.nom_permutation.specs.Members.{Member, member, EachMember, AreSound, AreLawful, AreSteady, Choice, IsOver, or_waiting, or_members, tried}
@@ -12,7 +12,7 @@ use Rattle.nom_permutation.specs.Members.{among_more, with_last}
 use Rattle.nom_permutation.specs.Members.Choice.{NoChoice, Among}
 use Rattle.nom_permutation.specs.Left.{is_left, left, here, LeavesOneFewer}
 use Rattle.nom_permutation.specs.MemberLaws.{applied_pinned}
-use Rattle.nom_permutation.specs.Rounds.{Holds, IsApplied, waits}
+use Rattle.nom_permutation.specs.Rounds.{SlotHolds, IsApplied, waits}
 use Rattle.nom_permutation.specs.RoundLaws.{step_over}
 
 module _ {I T P E : Type 0} (m : Meaning I P E) where
@@ -46,20 +46,20 @@ module _ {I T P E : Type 0} (m : Meaning I P E) where
       (λ t v e. omega (arith, left_last ms t, left_last ms (t.0, Some v), ap is_left e))
 
 -- where they are sound, members are lawful; of `none` no member is applied; to apply one leaves one fewer of these
-pub record AreGood {I A T E : Type 0} (w : Seen I A) (ms : List (Member I T E)) (none : T) : Type 0 where
+pub record AreGood {I A T E : Type 0} (w : Model I A) (ms : List (Member I T E)) (none : T) : Type 0 where
   pub lawful : AreSound ms → AreLawful w ms
   pub all_wait : EachMember (λ x. x.tree none ≡ None) ms
   pub one_fewer : EachMember (LeavesOneFewer ms) ms
 
 -- members that are stream parsers
-pub record AreStream {I A T E : Type 0} (w : Seen I A) (ms : List (Member I T E)) : Type 0 where
+pub record AreStream {I A T E : Type 0} (w : Model I A) (ms : List (Member I T E)) : Type 0 where
   pub steady : AreSound ms → AreSteady w ms
 
 -- where members are sound and what pins each of them holds, two outputs of their trees are equal as viewed
 pub record ArePinned {I T O E : Type 0} (view : View O) (ms : List (Member I T E)) (Pins : Type 0) (IsOutput : T → O → Type 0) : Type 0 where
   pub pinned : AreSound ms → Pins → IsPinned view IsOutput
 
-module _ {I A P E : Type 0} {w : Seen I A} (m : Meaning I P E) where
+module _ {I A P E : Type 0} {w : Model I A} (m : Meaning I P E) where
   pub one_good : (m.IsSound → IsLawful w m) → AreGood w (member m (λ t. t) (λ _ v. Some v) ∷ []) None
   one_good f = record { lawful = λ h. (f h.0, tt); all_wait = (refl, tt); one_fewer = (λ t v e. here t 0 e, tt) }
 
@@ -143,7 +143,7 @@ module _ {I T P E : Type 0} (Joins : E → E → E → Type 0) (Grows : Type 0) 
 
   -- where no place waits, no member is tried
   pub last_over : {O : Type 0} (outputs : Bool) (IsOutput : P → O → Type 0) (n : ℕ) (slot : Slot O) (ms : List (Member I T E)) →
-      (n ≡ 0 → IsOver (tried Joins Grows ms t.0)) → Holds outputs IsOutput t.1 slot → n + waits slot ≡ 0 → IsOver (tried Joins Grows (with_last ms m) t)
+      (n ≡ 0 → IsOver (tried Joins Grows ms t.0)) → SlotHolds outputs IsOutput t.1 slot → n + waits slot ≡ 0 → IsOver (tried Joins Grows (with_last ms m) t)
   last_over outputs IsOutput n slot ms f h z = subst IsOver (sym (last_tried NoChoice ms))
       (step_over Joins Grows m (λ v. (t.0, Some v)) outputs IsOutput n (or_others Joins Grows t NoChoice ms) t.1 slot
       (λ k. over_others Joins Grows t NoChoice NoChoice ms (λ u. u) (f k)) h z)

@@ -2,7 +2,7 @@
 -- applied yet refuses there.
 use Rattle.std.specs.Prelude.{◌≡◌, ℕ, ◌+◌, Bool, List, [], ◌∷◌, None, ◌⊎◌}
 use Rattle.std.proofs.Common.{zero, suc}
-use Rattle.nom_traits.specs.Input.{Seen, IsRest}
+use Rattle.nom_traits.specs.Input.{Model, IsSuffixOf}
 use Rattle.nom_internal.specs.Outcome.Outcome.{Accept, Refuse}
 use Rattle.nom_permutation.specs.Members.{Member}
 
@@ -18,17 +18,17 @@ abbrev pub IsAppliedOrRefuses : {I T E : Type 0} → Bool → Member I T E → T
 IsAppliedOrRefuses s m t i = m.tree t ≡ None → m.meaning.answers s i Refuse
 
 -- the turn of one of the members: it accepts, and every earlier one that isn't applied refuses
-abbrev pub Turn : {I T E : Type 0} → Bool → List (Member I T E) → T → I → ℕ → T → Type 0
-Turn s [] t i n u = ⊥
-Turn s (m ∷ ms) t i n u = Accepts s m t i n u ⊎ (IsAppliedOrRefuses s m t i × Turn s ms t i n u)
+abbrev pub TakesTurn : {I T E : Type 0} → Bool → List (Member I T E) → T → I → ℕ → T → Type 0
+TakesTurn s [] t i n u = ⊥
+TakesTurn s (m ∷ ms) t i n u = Accepts s m t i n u ⊎ (IsAppliedOrRefuses s m t i × TakesTurn s ms t i n u)
 
 -- a turn, and then others on the rest
-pub record Turns {I A T E : Type 0} (w : Seen I A) (s : Bool) (ms : List (Member I T E)) (Others : T → I → ℕ → Type 0) (t : T) (i : I) (n : ℕ) : Type 0 where
+pub record Turns {I A T E : Type 0} (w : Model I A) (s : Bool) (ms : List (Member I T E)) (Others : T → I → ℕ → Type 0) (t : T) (i : I) (n : ℕ) : Type 0 where
   pub length : ℕ
   pub trees : T
   pub rest : I
-  pub turn : Turn s ms t i length trees
-  pub rest_is : IsRest w i length rest
+  pub turn : TakesTurn s ms t i length trees
+  pub rest_is : IsSuffixOf w i length rest
   pub more : ℕ
   pub others : Others trees rest more
   pub lengths : n ≡ length + more
@@ -38,7 +38,7 @@ abbrev pub AllApplied : {I T E : Type 0} → List (Member I T E) → T → Type 
 AllApplied [] t = Unit {0}
 AllApplied (m ∷ ms) t = (m.tree t ≡ None → ⊥) × AllApplied ms t
 
-module _ {I A T E : Type 0} (w : Seen I A) (s : Bool) (ms : List (Member I T E)) (u : T) where
+module _ {I A T E : Type 0} (w : Model I A) (s : Bool) (ms : List (Member I T E)) (u : T) where
   -- of the trees t the turns of the members that are left, k at most, accept the first n items of i and end with the trees u
   abbrev pub InOrder : ℕ → T → I → ℕ → Type 0
   InOrder zero t i n = (n ≡ 0) × (u ≡ t)

@@ -3,7 +3,7 @@
 use Rattle.std.specs.Prelude.{◌≡◌, ℕ, Bool, true, List, length}
 use Rattle.std.proofs.Common.{zero, suc}
 use Rattle.nom_error.specs.Modes.{Modes}
-use Rattle.nom_traits.specs.Input.{Seen}
+use Rattle.nom_traits.specs.Input.{Model}
 use Rattle.nom_internal.specs.Outcome.Outcome.{Accept}
 use Rattle.nom_internal.specs.Meaning.{Meaning}
 use Rattle.nom_internal.specs.Cases.{closed_meaning}
@@ -18,7 +18,7 @@ done_meaning t = record {
   IsSound = Unit {0};
   answers = λ s i o. o ≡ Accept 0 t;
   blames = λ s i e. ⊥;
-  runs_out = λ mode i. ⊥;
+  may_run_out = λ mode i. ⊥;
   IsFrugal = λ mode. Unit {0};
   Settles = Unit {0};
   NeverFails = λ large. Unit {0};
@@ -40,7 +40,7 @@ promised Grows ms m = record {
   IsSound = AreSound ms;
   answers = m.answers;
   blames = m.blames;
-  runs_out = m.runs_out;
+  may_run_out = m.may_run_out;
   IsFrugal = AreFrugal Grows ms;
   Settles = AllSettle ms;
   NeverFails = NoneFails ms;
@@ -54,7 +54,7 @@ abbrev pub round_meaning : {I T E : Type 0} → (I → E → E → Type 0) → T
 round_meaning Closes Grows t NoChoice = done_meaning t
 round_meaning Closes Grows t (Among m) = closed_meaning Closes Grows m
 
-module _ {I A T E : Type 0} (w : Seen I A) (Joins : E → E → E → Type 0) (Closes : I → E → E → Type 0) (Grows : Type 0) (ms : List (Member I T E)) where
+module _ {I A T E : Type 0} (w : Model I A) (Joins : E → E → E → Type 0) (Closes : I → E → E → Type 0) (Grows : Type 0) (ms : List (Member I T E)) where
   -- n more rounds after the trees t, each on the rest of the one before
   abbrev pub rounds_meaning : ℕ → T → Meaning I T E
   rounds_meaning zero t = promised Grows ms (done_meaning t)

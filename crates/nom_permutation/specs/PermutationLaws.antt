@@ -2,7 +2,7 @@
 use Rattle.std.specs.Prelude.{◌≡◌, ℕ, Bool, true, false, List, [], ◌∷◌, length, Option, Some, None}
 use Rattle.std.proofs.Common.{sym, ◌∙◌, subst, zero, suc}
 use Rattle.nom_error.specs.Modes.{Modes}
-use Rattle.nom_traits.specs.Input.{Seen, InputLaws, IsPlace}
+use Rattle.nom_traits.specs.Input.{Model, InputLaws, IsBoundary}
 use Rattle.nom_internal.specs.Outcome.{failure}
 use Rattle.nom_internal.specs.Outcome.Outcome.{Accept}
 use Rattle.nom_internal.specs.Meaning.{Meaning, IsLawful, IsSteady}
@@ -29,11 +29,11 @@ pub record IsPromised {I T W E : Type 0} (Grows : Type 0) (ms : List (Member I T
   pub never_fails : (large : Bool) → NoneFails ms large → m.NeverFails large
 
 -- a lawful meaning that promises what all members do
-pub record IsGood {I A T W E : Type 0} (w : Seen I A) (Grows : Type 0) (ms : List (Member I T E)) (m : Meaning I W E) : Type 0 where
+pub record IsGood {I A T W E : Type 0} (w : Model I A) (Grows : Type 0) (ms : List (Member I T E)) (m : Meaning I W E) : Type 0 where
   pub lawful : IsLawful w m
   pub promises : IsPromised Grows ms m
 
-module _ {I A T W E : Type 0} (w : Seen I A) (Grows : Type 0) (all : List (Member I T E)) where
+module _ {I A T W E : Type 0} (w : Model I A) (Grows : Type 0) (all : List (Member I T E)) where
   -- with what all members promise in the place of what it promises itself, it is lawful
   good_lawful : (m : Meaning I W E) → IsGood w Grows all m → IsLawful w (promised Grows all m)
   good_lawful m h = record {
@@ -46,10 +46,10 @@ module _ {I A T W E : Type 0} (w : Seen I A) (Grows : Type 0) (all : List (Membe
     never_fails = λ large f. h.lawful.never_fails large (h.promises.never_fails large f);
   }
 
-module _ {I A V : Type 0} (w : Seen I A) (t : V) where
+module _ {I A V : Type 0} (w : Model I A) (t : V) where
   done_lawful : {E : Type 0} → IsLawful w (done_meaning {I = I} {E = E} t)
   done_lawful = record {
-    within = λ s i n v h a. let none : 0 ≡ n = cc (a) in subst (λ m. IsPlace w i m) none (no_place w i);
+    within = λ s i n v h a. let none : 0 ≡ n = cc (a) in subst (λ m. IsBoundary w i m) none (no_place w i);
     one_outcome = λ s x y o q kx ky r a z b. a ∙ sym b;
     alike = λ s x y o kx ky r a k. a;
     frugal = λ mode i h f r. r;
@@ -65,7 +65,7 @@ module _ {I A V : Type 0} (w : Seen I A) (t : V) where
   done_steady : (E : Type 0) → IsSteady w (done_meaning {I = I} {E = E} t)
   done_steady E x y o q kx ky r a z b = a ∙ sym b
 
-module _ {I A T P E : Type 0} (w : Seen I A) (Joins : E → E → E → Type 0) (Grows : Type 0) (all : List (Member I T E)) (m : Meaning I P E) (put : P → T) where
+module _ {I A T P E : Type 0} (w : Model I A) (Joins : E → E → E → Type 0) (Grows : Type 0) (all : List (Member I T E)) (m : Meaning I P E) (put : P → T) where
   labelled_good : IsGood w Grows all m → IsGood w Grows all (labelled_meaning put m)
   labelled_good k = record {
     lawful = labelled_lawful w m put k.lawful;
@@ -87,14 +87,14 @@ module _ {I A T P E : Type 0} (w : Seen I A) (Joins : E → E → E → Type 0) 
     };
   }
 
-module _ {I A T P E : Type 0} (w : Seen I A) (Joins : E → E → E → Type 0) (Grows : Type 0) (m : Meaning I P E) (put : P → T) where
+module _ {I A T P E : Type 0} (w : Model I A) (Joins : E → E → E → Type 0) (Grows : Type 0) (m : Meaning I P E) (put : P → T) where
   waiting_steady : (o : Choice I T E) (x : Option P) → OfChoice (λ n. IsSteady w n) o → IsSteady w m →
       OfChoice (λ n. IsSteady w n) (or_waiting Joins Grows o m put x)
   waiting_steady o (Some v) h k = h
   waiting_steady NoChoice None h k = labelled_steady w m put k
   waiting_steady (Among n) None h k = or_steady w n (labelled_meaning put m) Joins Grows h (labelled_steady w m put k)
 
-module _ {I A T E : Type 0} (w : Seen I A) (Joins : E → E → E → Type 0) (Grows : Type 0) (all : List (Member I T E)) where
+module _ {I A T E : Type 0} (w : Model I A) (Joins : E → E → E → Type 0) (Grows : Type 0) (all : List (Member I T E)) where
   -- the choice among members that aren't applied
   members_good : (t : T) (o : Choice I T E) (ms : List (Member I T E)) → OfChoice (λ n. IsGood w Grows all n) o →
       EachMember (λ a. IsGood w Grows all a.meaning) ms → OfChoice (λ n. IsGood w Grows all n) (or_members Joins Grows t o ms)
@@ -102,7 +102,7 @@ module _ {I A T E : Type 0} (w : Seen I A) (Joins : E → E → E → Type 0) (G
   members_good t o (m ∷ ms) h k =
       members_good t (or_waiting Joins Grows o m.meaning (m.put t) (m.tree t)) ms (waiting_good w Joins Grows all m.meaning (m.put t) o (m.tree t) h k.0) k.1
 
-module _ {I A T E : Type 0} (w : Seen I A) (Joins : E → E → E → Type 0) (Grows : Type 0) where
+module _ {I A T E : Type 0} (w : Model I A) (Joins : E → E → E → Type 0) (Grows : Type 0) where
   members_steady : (t : T) (o : Choice I T E) (ms : List (Member I T E)) → OfChoice (λ n. IsSteady w n) o → EachMember (λ a. IsSteady w a.meaning) ms →
       OfChoice (λ n. IsSteady w n) (or_members Joins Grows t o ms)
   members_steady t o [] h k = h
@@ -110,7 +110,7 @@ module _ {I A T E : Type 0} (w : Seen I A) (Joins : E → E → E → Type 0) (G
       members_steady t (or_waiting Joins Grows o m.meaning (m.put t) (m.tree t)) ms (waiting_steady w Joins Grows m.meaning (m.put t) o (m.tree t) h k.0) k.1
 
 -- what all members promise, each promises
-module _ {I A T E : Type 0} (w : Seen I A) (Grows : Type 0) (all : List (Member I T E)) where
+module _ {I A T E : Type 0} (w : Model I A) (Grows : Type 0) (all : List (Member I T E)) where
   each_good : (ms : List (Member I T E)) → EachMember (λ a. IsLawful w a.meaning) ms →
       ((mode : Modes) → AreFrugal Grows all mode → EachMember (λ a. a.meaning.IsFrugal mode) ms) → (AllSettle all → AllSettle ms) →
       ((large : Bool) → NoneFails all large → NoneFails ms large) → EachMember (λ a. IsGood w Grows all a.meaning) ms
@@ -120,7 +120,7 @@ module _ {I A T E : Type 0} (w : Seen I A) (Grows : Type 0) (all : List (Member 
     each_good ms h.1 (λ mode x. (f mode x).1) (λ x. (g x).1) (λ large x. (k large x).1),
   )
 
-module _ {I A T E : Type 0} (w : Seen I A) (Closes : I → E → E → Type 0) (Grows : Type 0) where
+module _ {I A T E : Type 0} (w : Model I A) (Closes : I → E → E → Type 0) (Grows : Type 0) where
   module _ (all : List (Member I T E)) where
     done_good : (t : T) → IsGood w Grows all (done_meaning {I = I} {E = E} t)
     done_good t = record { lawful = done_lawful w t; promises = record { frugal = λ mode f. tt; settles = λ f. tt; never_fails = λ large f. tt } }
@@ -136,7 +136,7 @@ module _ {I A T E : Type 0} (w : Seen I A) (Closes : I → E → E → Type 0) (
   round_steady t NoChoice h = done_steady w t E
   round_steady t (Among m) h = closed_steady w m Closes Grows h
 
-module _ {I A T E : Type 0} (w : Seen I A) (Joins : E → E → E → Type 0) (Closes : I → E → E → Type 0) (Grows : Type 0) (ms : List (Member I T E)) where
+module _ {I A T E : Type 0} (w : Model I A) (Joins : E → E → E → Type 0) (Closes : I → E → E → Type 0) (Grows : Type 0) (ms : List (Member I T E)) where
   rounds_promise : (n : ℕ) (t : T) → IsPromised Grows ms (rounds_meaning w Joins Closes Grows ms n t)
   rounds_promise zero t = record { frugal = λ mode f. f; settles = λ f. f; never_fails = λ large f. f }
   rounds_promise (suc n) t = record { frugal = λ mode f. f; settles = λ f. f; never_fails = λ large f. f }

@@ -3,9 +3,9 @@ use Rattle.std.specs.Prelude.{◌≡◌, ℕ, Bool, true, Result, Ok, Err, Optio
 use Rattle.nom_error.specs.declared.answer.Needed.{Needed}
 use Rattle.nom_error.specs.declared.answer.Err as Answer
 use Rattle.nom_error.specs.declared.answer.Err.TheVariants.{Incomplete, Error, Failure, OutOfMemory}
-use Rattle.nom_slots.specs.declared.slots.Slot.{Slot}
-use Rattle.nom_slots.specs.declared.slots.Slot.TheVariants.{Waiting, Applied}
-use Rattle.nom_traits.specs.Input.{Seen}
+use Rattle.nom_permutation_slots.specs.declared.slots.Slot.{Slot}
+use Rattle.nom_permutation_slots.specs.declared.slots.Slot.TheVariants.{Waiting, Applied}
+use Rattle.nom_traits.specs.Input.{Model}
 use Rattle.nom_error.specs.Modes.{Built, Modes, with_outputs}
 use Rattle.nom_internal.specs.Outcome.{ShowsAnswer}
 use Rattle.nom_internal.specs.Meaning.{Meaning}
@@ -13,9 +13,9 @@ use Rattle.nom_permutation.specs.Members.{Choice}
 use Rattle.nom_permutation.specs.Members.Choice.{NoChoice, Among}
 
 -- a place for a member's tree, if it is applied: it holds its output where outputs are built
-abbrev pub Holds : {V O : Type 0} → Bool → (V → O → Type 0) → Option V → Slot O → Type 0
-Holds outputs IsOutput None slot = slot ≡ Waiting
-Holds {O = O} outputs IsOutput (Some v) slot = (b : Option O) × (slot ≡ Applied b) × Built outputs (IsOutput v) b
+abbrev pub SlotHolds : {V O : Type 0} → Bool → (V → O → Type 0) → Option V → Slot O → Type 0
+SlotHolds outputs IsOutput None slot = slot ≡ Waiting
+SlotHolds {O = O} outputs IsOutput (Some v) slot = (b : Option O) × (slot ≡ Applied b) × Built outputs (IsOutput v) b
 
 -- the output of a member that is applied
 abbrev pub IsApplied : {V O : Type 0} → (V → O → Type 0) → Option V → O → Type 0
@@ -46,11 +46,11 @@ WhereRefused Fact (Err (Error x)) = Fact
 WhereRefused Fact (Err (Failure e)) = Unit {0}
 WhereRefused Fact (Err OutOfMemory) = Unit {0}
 
-module _ {I A T E : Type 0} (w : Seen I A) (mode : Modes) (i : I) (AreHeld : T → Type 0) where
+module _ {I A T E : Type 0} (w : Model I A) (mode : Modes) (i : I) (AreHeld : T → Type 0) where
   -- what a round shows of a choice among members, with places that hold the outputs of the trees
   abbrev pub ShowsRound : Meaning I T E → Result I (Answer.Err E (Option E) Needed) → Type 0
   ShowsRound m r = ShowsAnswer w (λ t _. AreHeld t) (with_outputs true mode) i (m.answers mode.streaming i) (m.blames mode.streaming i)
-      (m.runs_out mode i) (as_answer r)
+      (m.may_run_out mode i) (as_answer r)
 
   -- what a round answers after the trees t, so far: nothing, as it tried none, or what the choice shows
   abbrev pub HasTried : T → Choice I T E → Option (Result I (Answer.Err E (Option E) Needed)) → Type 0

@@ -4,13 +4,13 @@ ghost use Rattle.nom_error.specs.Modes.{Built, modes};
 ghost use Rattle.nom_traits.specs.View.{View};
 ghost use Rattle.nom_permutation.specs.Members.{Member, AreSound, IsOver, member, tried, with_last};
 ghost use Rattle.nom_permutation.specs.NestedLaws.{AreGood, ArePinned, AreStream};
-ghost use Rattle.nom_permutation.specs.Rounds.{HasTried, Holds, IsApplied, applies, waits};
+ghost use Rattle.nom_permutation.specs.Rounds.{HasTried, SlotHolds, IsApplied, applies, waits};
 
 use crate::nest::{More, One};
 use nom_error::mode::OutputMode;
 use nom_error::value::ParseError;
 use nom_internal::parser::{Parser, StreamParser};
-use nom_slots::{Round, Slot, taken, try_slot};
+use nom_permutation_slots::{Round, Slot, taken, try_slot};
 use nom_traits::input::Items;
 
 /// Members, nested, and what a round does with them.
@@ -58,7 +58,7 @@ pub trait Nested<I: Items>: Sized {
     ) -> Option<Round<I, Self::Error>>
         requires { AreSound (members (state self.old)) }
         ensures shown { (t : Tree) → AreHeld OM.Output.BUILDS (state self.old) t slots.old →
-            HasTried I.seen (modes OM.Output.BUILDS OM.Error.BUILDS OM.Incomplete.STREAMING) input
+            HasTried I.model (modes OM.Output.BUILDS OM.Error.BUILDS OM.Incomplete.STREAMING) input
             (λ u. AreHeld OM.Output.BUILDS (state self.old) u slots.new) t
             (tried Self.Error.errors.joined Self.Error.errors.grows (members (state self.old)) t) result }
         ensures counted { waiting slots.new + applies result ≡ waiting slots.old }
@@ -77,7 +77,7 @@ pub trait Nested<I: Items>: Sized {
         IsOver (tried Self.Error.errors.joined Self.Error.errors.grows (members s) t) };
 
     /// They are lawful, of `none` no member is applied, and to apply one leaves one fewer of these.
-    ghost good: { (s : State) → AreGood I.seen (members s) none };
+    ghost good: { (s : State) → AreGood I.model (members s) none };
 }
 
 /// Members that are stream parsers.
@@ -87,7 +87,7 @@ pub trait StreamNested<I: Items>: Nested<I> {
 
     ghost pinned: { (s : Self.State) → ArePinned view (Self.members s) (Self.Nested.Pins s) (Self.AreOutputs s) };
 
-    ghost stream: { (s : Self.State) → AreStream I.seen (Self.members s) };
+    ghost stream: { (s : Self.State) → AreStream I.model (Self.members s) };
 }
 
 impl<I: Items, A: Parser<I>> Nested<I> for One<A> {
@@ -110,7 +110,7 @@ impl<I: Items, A: Parser<I>> Nested<I> for One<A> {
 
     ghost members = { λ s. member (A.meaning s) (λ t. t) (λ _ v. Some v) ∷ [] };
 
-    ghost AreHeld = { λ outputs s t slot. Holds outputs (A.IsOutput s) t slot };
+    ghost AreHeld = { λ outputs s t slot. SlotHolds outputs (A.IsOutput s) t slot };
 
     ghost waiting = { waits };
 
@@ -178,7 +178,7 @@ impl<I: Items, M: Nested<I>, A: Parser<I, Error = M::Error>> Nested<I> for More<
 
     ghost members = { λ s. with_last (M.members s.0) (A.meaning s.1) };
 
-    ghost AreHeld = { λ outputs s t slots. M.AreHeld outputs s.0 t.0 slots.0 × Holds outputs (A.IsOutput s.1) t.1 slots.1 };
+    ghost AreHeld = { λ outputs s t slots. M.AreHeld outputs s.0 t.0 slots.0 × SlotHolds outputs (A.IsOutput s.1) t.1 slots.1 };
 
     ghost waiting = { λ slots. M.waiting slots.0 + waits slots.1 };
 

@@ -41,7 +41,7 @@ where
 
     ghost IsOutput = { λ s. FlatOutput (N.AreOutputs s) N.Outputs.pairs };
 
-    ghost meaning = { λ s. permutation_meaning I.seen N.Error.errors.joined (λ i. N.Error.errors.appended i Kind.Permutation) N.Error.errors.grows
+    ghost meaning = { λ s. permutation_meaning I.model N.Error.errors.joined (λ i. N.Error.errors.appended i Kind.Permutation) N.Error.errors.grows
         (N.members s) N.none };
 
     ghost Pins = { N.Pins };
@@ -51,7 +51,7 @@ where
         rounds::<I, N, OM>(&mut self.members, input)
     }
 
-    ghost lawful = { λ s k. permutation_lawful I.seen N.Error.errors.joined (λ i. N.Error.errors.appended i Kind.Permutation) N.Error.errors.grows
+    ghost lawful = { λ s k. permutation_lawful I.model N.Error.errors.joined (λ i. N.Error.errors.appended i Kind.Permutation) N.Error.errors.grows
         (N.members s) I.lawful ((N.good s).lawful k) N.none };
 }
 
@@ -61,6 +61,6 @@ impl<I: Items, N: StreamMembers<I>> StreamParser<I> for OnceEach<N> {
 
     ghost pinned = { λ s k p. (flat_pinned (N.pinned s) N.form N.Outputs.pairs N.formed).pinned k p };
 
-    ghost steady = { λ s k. permutation_steady I.seen N.Error.errors.joined (λ i. N.Error.errors.appended i Kind.Permutation) N.Error.errors.grows
+    ghost steady = { λ s k. permutation_steady I.model N.Error.errors.joined (λ i. N.Error.errors.appended i Kind.Permutation) N.Error.errors.grows
         (N.members s) I.lawful ((N.stream s).steady k) N.none };
 }

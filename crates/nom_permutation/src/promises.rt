@@ -13,8 +13,8 @@ use nom_traits::input::Items;
 pub fn applies_each_once<I: Items, N: Nested<I>>(_parser: &OnceEach<N>)
 where
     N::Outputs: Flat,
-    ensures once { AppliesEachOnce I.seen (N.members (N.state _parser.now.members)) N.none
+    ensures once { AppliesEachOnce I.model (N.members (N.state _parser.now.members)) N.none
         (⟦<OnceEach<N> as Parser<I>>⟧.meaning (N.state _parser.now.members)) }
-    ensures every { AcceptsEachOrder I.seen (N.members (N.state _parser.now.members)) N.none
+    ensures every { AcceptsEachOrder I.model (N.members (N.state _parser.now.members)) N.none
         (⟦<OnceEach<N> as Parser<I>>⟧.meaning (N.state _parser.now.members)) }
 {}

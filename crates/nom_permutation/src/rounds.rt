@@ -24,12 +24,12 @@ pub fn rounds<I: Items, N: Nested<I>, OM: OutputMode>(
 where
     N::Outputs: Flat,
     requires { AreSound (N.members (N.state members.old)) }
-    ensures shown { ShowsMeaning I.seen (FlatOutput (N.AreOutputs (N.state members.old)) N.Outputs.pairs)
-        (permutation_meaning I.seen N.Error.errors.joined (λ i. N.Error.errors.appended i Kind.Permutation) N.Error.errors.grows
+    ensures shown { ShowsMeaning I.model (FlatOutput (N.AreOutputs (N.state members.old)) N.Outputs.pairs)
+        (permutation_meaning I.model N.Error.errors.joined (λ i. N.Error.errors.appended i Kind.Permutation) N.Error.errors.grows
         (N.members (N.state members.old)) N.none) (modes OM.Output.BUILDS OM.Error.BUILDS OM.Incomplete.STREAMING) input result }
     ensures kept { N.state members.new ≡ N.state members.old }
 {
-    input.known();
+    input.prove_known();
     let mut slots = N::slots();
     let mut rest = input;
     loop {

@@ -5,7 +5,7 @@ use Rattle.nom_error.specs.declared.answer.Needed.{Needed}
 use Rattle.nom_error.specs.declared.answer.Err as Answer
 use Rattle.nom_error.specs.declared.answer.Err.TheVariants.{Incomplete, Failure, OutOfMemory}
 use Rattle.nom_error.specs.Modes.{Built, modes}
-use Rattle.nom_traits.specs.Input.{Seen, InputLaws, IsRest}
+use Rattle.nom_traits.specs.Input.{Model, InputLaws, IsSuffixOf}
 use Rattle.nom_internal.specs.Outcome.{Outcome, ShowsAnswer}
 use Rattle.nom_internal.specs.Outcome.Outcome.{Accept, Refuse, Fail, TooLarge, Undecided}
 use Rattle.nom_internal.specs.Outcome.ShowsAnswer.{RanOut}
@@ -47,10 +47,10 @@ pub refuses_whole : {I V E : Type 0} (m : Meaning I V E) {s : Bool} {j : I} → 
 refuses_whole m a = here Refuse a refl
 
 -- items were taken, and none was stuck
-abbrev pub Chain : {I A V : Type 0} (w : Seen I A) (Part : I → Outcome (Read V) → Type 0) (Held : List V → Type 0) (i j : I) → Type 0
+abbrev pub Chain : {I A V : Type 0} (w : Model I A) (Part : I → Outcome (Read V) → Type 0) (Held : List V → Type 0) (i j : I) → Type 0
 Chain w Part Held i j = Collected w (TurnsBy None (λ _ a. chain_turn a) (λ _. Part)) Held i j
 
-module _ {I A V X E : Type 0} {w : Seen I A} (Grows : Type 0) (m : Meaning I (Read V) E) (IsOutput : List V → X → Type 0)
+module _ {I A V X E : Type 0} {w : Model I A} (Grows : Type 0) (m : Meaning I (Read V) E) (IsOutput : List V → X → Type 0)
     (outputs errors streaming : Bool) {Held : List V → Type 0} {i j : I} (c : Chain w (m.answers streaming) Held i j) where
   abbrev ShowsIt : Result (I × Option (Told.Read (Option X))) (Answer.Err E (Option E) Needed) → Type 0
   ShowsIt = ShowsRead w IsOutput (chain_meaning w Grows m) outputs errors streaming i
@@ -61,13 +61,13 @@ module _ {I A V X E : Type 0} {w : Seen I A} (Grows : Type 0) (m : Meaning I (Re
       {mode = modes true errors streaming} c (Some Refuse) (tt, a) (Whole tt) refl {b = Some (Is.Whole x)} (Is.Whole x, refl, h))
 
   -- it consumes nothing
-  pub chain_stuck : InputLaws w → {n : ℕ} (v : V) → m.answers streaming j (Accept n (Whole v)) → n ≡ 0 → {h : I} → IsRest w j n h →
+  pub chain_stuck : InputLaws w → {n : ℕ} (v : V) → m.answers streaming j (Accept n (Whole v)) → n ≡ 0 → {h : I} → IsSuffixOf w j n h →
       ShowsIt (Ok (h, Some Is.Stuck))
   chain_stuck l {n} v a z q = not_ran_out _ (λ e. cc (e)) (ended_behind (chain_rule Grows) chained (always m) {IsOutput = IsRead outputs IsOutput}
       {mode = modes true errors streaming} c (Some (Accept n (Whole v))) (tt, a) l n Stuck q (stuck_turn v n z) {b = Some Is.Stuck} (Is.Stuck, refl, tt))
 
   -- it is stuck itself
-  pub chain_stuck_within : InputLaws w → {n : ℕ} → m.answers streaming j (Accept n Stuck) → {h : I} → IsRest w j n h → ShowsIt (Ok (h, Some Is.Stuck))
+  pub chain_stuck_within : InputLaws w → {n : ℕ} → m.answers streaming j (Accept n Stuck) → {h : I} → IsSuffixOf w j n h → ShowsIt (Ok (h, Some Is.Stuck))
   chain_stuck_within l {n} a q = not_ran_out _ (λ e. cc (e)) (ended_behind (chain_rule Grows) chained (always m) {IsOutput = IsRead outputs IsOutput}
       {mode = modes true errors streaming} c (Some (Accept n Stuck)) (tt, a) l n Stuck q refl {b = Some Is.Stuck} (Is.Stuck, refl, tt))
 
@@ -78,7 +78,7 @@ module _ {I A V X E : Type 0} {w : Seen I A} (Grows : Type 0) (m : Meaning I (Re
 
   module _ {Y : Type 0} {IsTold : Read V → Y → Type 0} {b : Bool} {f : Answer.Err E (Option E) Needed}
       (h : ShowsAnswer w IsTold (modes b false streaming) j (m.answers streaming j) (m.blames streaming j)
-      (m.runs_out (modes outputs false streaming) j) (Err f)) where
+      (m.may_run_out (modes outputs false streaming) j) (Err f)) where
     pub chain_failed : {x : E} → f ≡ Failure x → ShowsIt (Err (Failure x))
     chain_failed {x} e = let p = part_failed e h in by p.0 p.1
       where
@@ -97,7 +97,7 @@ module _ {I A V X E : Type 0} {w : Seen I A} (Grows : Type 0) (m : Meaning I (Re
         {mode = modes outputs errors streaming} c tt (part_ran_out e h)))
 
 -- one item more
-pub chain_more : {I A V : Type 0} {w : Seen I A} (l : InputLaws w) (Part : I → Outcome (Read V) → Type 0) {Held More : List V → Type 0} {i j h : I}
-    (c : Chain w Part Held i j) {n : ℕ} (v : V) → Part j (Accept n (Whole v)) → 0 < n → IsRest w j n h → More (c.trees ++ v ∷ []) → Chain w Part More i h
+pub chain_more : {I A V : Type 0} {w : Model I A} (l : InputLaws w) (Part : I → Outcome (Read V) → Type 0) {Held More : List V → Type 0} {i j h : I}
+    (c : Chain w Part Held i j) {n : ℕ} (v : V) → Part j (Accept n (Whole v)) → 0 < n → IsSuffixOf w j n h → More (c.trees ++ v ∷ []) → Chain w Part More i h
 chain_more l Part c {n} v a p q z = collected_more l (TurnsBy None (λ _ x. chain_turn x) (λ _. Part)) v c
     (record { reply = Some (Accept n (Whole v)); replied = (tt, a); fact = taken_turn v n p }) q z

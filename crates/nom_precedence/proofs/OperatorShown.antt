@@ -7,7 +7,7 @@ use Rattle.nom_error.specs.Modes.{Built, modes}
 use Rattle.nom_error.specs.declared.answer.Needed.{Needed}
 use Rattle.nom_error.specs.declared.answer.Err as Answer
 use Rattle.nom_error.specs.declared.kind.ErrorKind.TheVariants as Kind
-use Rattle.nom_traits.specs.Input.{Seen, InputLaws, IsRest}
+use Rattle.nom_traits.specs.Input.{Model, InputLaws, IsSuffixOf}
 use Rattle.nom_internal.specs.Outcome.{ShowsAnswer}
 use Rattle.nom_internal.specs.Outcome.Outcome.{Accept, Refuse, Fail}
 use Rattle.nom_internal.specs.Outcome.ShowsAnswer.{RanOut, Shown}
@@ -28,14 +28,14 @@ use Rattle.nom_precedence.specs.declared.read.Read.TheVariants as Is
 use Rattle.nom_precedence.proofs.ReadShown.{is_whole, is_stuck}
 
 -- what an operator shows, which is built in every mode
-abbrev pub ShowsOwn : {I A P H E : Type 0} (w : Seen I A) (errs : Errors I E) (IsBinary : P → ℕ × H → Type 0) (levels : ℕ) (m : Meaning I P E)
+abbrev pub ShowsOwn : {I A P H E : Type 0} (w : Model I A) (errs : Errors I E) (IsBinary : P → ℕ × H → Type 0) (levels : ℕ) (m : Meaning I P E)
     (outputs errors streaming : Bool) (i : I) → Result (I × Option (ℕ × H)) (Answer.Err E (Option E) Needed) → Type 0
 ShowsOwn w errs IsBinary levels m outputs errors streaming i r = ShowsAnswer w (IsOwn IsBinary) (modes true errors streaming) i
     ((operator_meaning errs (HasLevel IsBinary (λ o. o.0)) levels m).answers streaming i)
     ((operator_meaning errs (HasLevel IsBinary (λ o. o.0)) levels m).blames streaming i)
-    ((operator_meaning errs (HasLevel IsBinary (λ o. o.0)) levels m).runs_out (modes outputs errors streaming) i) r
+    ((operator_meaning errs (HasLevel IsBinary (λ o. o.0)) levels m).may_run_out (modes outputs errors streaming) i) r
 
-module _ {I A P H E : Type 0} {w : Seen I A} (errs : Errors I E) (IsBinary : P → ℕ × H → Type 0) (levels : ℕ) (m : Meaning I P E)
+module _ {I A P H E : Type 0} {w : Model I A} (errs : Errors I E) (IsBinary : P → ℕ × H → Type 0) (levels : ℕ) (m : Meaning I P E)
     (outputs errors streaming : Bool) {i : I} where
   -- an operator of a level that is there
   pub own_ok : {j : I} {x : Option (ℕ × H)} {own : ℕ × H} → x ≡ Some own → own.0 < levels →
@@ -94,8 +94,8 @@ with_want outputs m = record {
   IsSound = m.IsSound;
   answers = m.answers;
   blames = m.blames;
-  runs_out =
-      λ mode. m.runs_out (modes outputs mode.errors mode.streaming);
+  may_run_out =
+      λ mode. m.may_run_out (modes outputs mode.errors mode.streaming);
   IsFrugal = m.IsFrugal;
   Settles = m.Settles;
   NeverFails = m.NeverFails;
@@ -107,26 +107,26 @@ IsWholeOf IsOutput (Whole v) x = IsOutput v x
 IsWholeOf IsOutput Stuck x = ⊥
 
 -- a part whose output is built in every mode, and another after it
-module _ {I A V W T X Z E : Type 0} {w : Seen I A} (l : InputLaws w) (tree : V → W → T) (m : Meaning I V E) (b : Meaning I (Read W) E)
+module _ {I A V W T X Z E : Type 0} {w : Model I A} (l : InputLaws w) (tree : V → W → T) (m : Meaning I V E) (b : Meaning I (Read W) E)
     (IsFirst : V → X → Type 0) (IsResult : T → Z → Type 0) (outputs errors streaming : Bool) {i : I} where
   pub own_first_err : {f : Answer.Err E (Option E) Needed} {r : Result (I × Option (Told.Read (Option Z))) (Answer.Err E (Option E) Needed)} →
       ShowsAnswer w IsFirst (modes true errors streaming) i (m.answers streaming i) (m.blames streaming i)
-      (m.runs_out (modes outputs errors streaming) i) (Err f) → IsErr r × IsErrAnd r (λ y. y ≡ f) →
+      (m.may_run_out (modes outputs errors streaming) i) (Err f) → IsErr r × IsErrAnd r (λ y. y ≡ f) →
       ShowsRead w IsResult (read_both w tree (labelled_meaning Whole m) b) outputs errors streaming i r
   own_first_err {f} h q = then_err l (labels_err w Whole IsFirst (IsWholeOf IsFirst) (with_want outputs m) true (modes true errors streaming) i f h) q
 
   pub own_goes : {j : I} {x : Option X} {r : Result (I × Option (Told.Read (Option Z))) (Answer.Err E (Option E) Needed)} →
       ShowsAnswer w IsFirst (modes true errors streaming) i (m.answers streaming i) (m.blames streaming i)
-      (m.runs_out (modes outputs errors streaming) i) (Ok (j, x)) → ((v : V) → Built true (IsFirst v) x →
+      (m.may_run_out (modes outputs errors streaming) i) (Ok (j, x)) → ((v : V) → Built true (IsFirst v) x →
       ShowsAnswer w (λ u. IsRead outputs IsResult (both tree (Whole v) u)) (modes true errors streaming) j (b.answers streaming j)
-      (b.blames streaming j) (b.runs_out (modes outputs errors streaming) j) r) →
+      (b.blames streaming j) (b.may_run_out (modes outputs errors streaming) j) r) →
       ShowsRead w IsResult (read_both w tree (labelled_meaning Whole m) b) outputs errors streaming i r
   own_goes {j} {x} {r} h k = then_ok l (labels_ok w Whole IsFirst (IsWholeOf IsFirst) (with_want outputs m) true (modes true errors streaming) i j x x h
       (λ u p. p)) (λ u p. behind u p)
     where
       behind : (u : Read V) → Built true (IsWholeOf IsFirst u) x → ShowsAnswer w (λ v. IsRead outputs IsResult (both tree u v))
           (modes true errors streaming) j ((read_behind b u).answers streaming j) ((read_behind b u).blames streaming j)
-          ((read_behind b u).runs_out (modes outputs errors streaming) j) r
+          ((read_behind b u).may_run_out (modes outputs errors streaming) j) r
       behind (Whole v) p = k v p
       behind Stuck p = absurd (p.2)
 
@@ -134,12 +134,12 @@ module _ {I A V W T X Z E : Type 0} {w : Seen I A} (l : InputLaws w) (tree : V �
     pub own_second_err : {j : I} {x : Option X} {f : Answer.Err E (Option E) Needed}
         {r : Result (I × Option (Told.Read (Option Z))) (Answer.Err E (Option E) Needed)} →
         ShowsAnswer w IsFirst (modes true errors streaming) i (m.answers streaming i) (m.blames streaming i)
-        (m.runs_out (modes outputs errors streaming) i) (Ok (j, x)) → ShowsRead w IsSecond b outputs errors streaming j (Err f) →
+        (m.may_run_out (modes outputs errors streaming) i) (Ok (j, x)) → ShowsRead w IsSecond b outputs errors streaming j (Err f) →
         IsErr r × IsErrAnd r (λ y. y ≡ f) → ShowsRead w IsResult (read_both w tree (labelled_meaning Whole m) b) outputs errors streaming i r
     own_second_err h k q = own_goes h (λ v p. output_err k q)
 
     pub own_second_stuck : {j h : I} {x : Option X} → ShowsAnswer w IsFirst (modes true errors streaming) i (m.answers streaming i)
-        (m.blames streaming i) (m.runs_out (modes outputs errors streaming) i) (Ok (j, x)) →
+        (m.blames streaming i) (m.may_run_out (modes outputs errors streaming) i) (Ok (j, x)) →
         ShowsRead w IsSecond b outputs errors streaming j (Ok (h, Some Is.Stuck)) →
         ShowsRead w IsResult (read_both w tree (labelled_meaning Whole m) b) outputs errors streaming i (Ok (h, Some Is.Stuck))
     own_second_stuck p k = own_goes p (λ v q. output_ok k (λ u z. as_stuck v u (is_stuck outputs IsSecond u z)))
@@ -151,7 +151,7 @@ module _ {I A V W T X Z E : Type 0} {w : Seen I A} (l : InputLaws w) (tree : V �
     pub own_both : {j h : I} {x : Option X} {y : Option Y} (z : Option Z) →
         ((v : V) (u : W) → Built true (IsFirst v) x → Built outputs (IsSecond u) y → Built outputs (IsResult (tree v u)) z) →
         ShowsAnswer w IsFirst (modes true errors streaming) i (m.answers streaming i) (m.blames streaming i)
-        (m.runs_out (modes outputs errors streaming) i) (Ok (j, x)) → ShowsRead w IsSecond b outputs errors streaming j (Ok (h, Some (Is.Whole y))) →
+        (m.may_run_out (modes outputs errors streaming) i) (Ok (j, x)) → ShowsRead w IsSecond b outputs errors streaming j (Ok (h, Some (Is.Whole y))) →
         ShowsRead w IsResult (read_both w tree (labelled_meaning Whole m) b) outputs errors streaming i (Ok (h, Some (Is.Whole z)))
     own_both {x = x} {y = y} z f p k = own_goes p (λ v q. output_ok k (λ u t. as_whole v q u (is_whole outputs IsSecond u t)))
       where
@@ -165,14 +165,14 @@ pub own_is : {X : Type 0} (P : X → Type 0) {x : Option X} {y : X} → x ≡ So
 own_is P {x} {y} e b = let same : b.0 ≡ y = cc (b.1, e) in subst P same b.2
 
 -- a part that is told, closed
-pub closed_read : {I A V X E : Type 0} {w : Seen I A} (IsOutput : V → X → Type 0) (m : Meaning I (Read V) E) (Closes : I → E → E → Type 0)
+pub closed_read : {I A V X E : Type 0} {w : Model I A} (IsOutput : V → X → Type 0) (m : Meaning I (Read V) E) (Closes : I → E → E → Type 0)
     (Grows : Type 0) (outputs errors streaming : Bool) {i : I} {before r : Result (I × Option (Told.Read (Option X))) (Answer.Err E (Option E) Needed)}
     → ShowsRead w IsOutput m outputs errors streaming i before → ClosesResult (Closes i) Grows before r →
     ShowsRead w IsOutput (closed_meaning Closes Grows m) outputs errors streaming i r
 closed_read {w = w} IsOutput m Closes Grows outputs errors streaming {i} {before} {r} h g =
     closed_shown w (IsRead outputs IsOutput) (modes true errors streaming) i (with_want outputs m) Closes Grows before r h g
 
-module _ {I A V X Z E : Type 0} {w : Seen I A} (errs : Errors I E) (IsOutput : V → X → Type 0) (IsResult : V → Z → Type 0) (m : Meaning I (Read V) E)
+module _ {I A V X Z E : Type 0} {w : Model I A} (errs : Errors I E) (IsOutput : V → X → Type 0) (IsResult : V → Z → Type 0) (m : Meaning I (Read V) E)
     (outputs errors streaming : Bool) {i : I} where
   -- all was read whole
   pub freed_ok : {j : I} {x : Option X} {z : Option Z} → ((v : V) → Built outputs (IsOutput v) x → Built outputs (IsResult v) z) →
@@ -192,7 +192,7 @@ module _ {I A V X Z E : Type 0} {w : Seen I A} (errs : Errors I E) (IsOutput : V
       let a = accepts h in
       by a.length a.rest_is (subst (λ u. m.answers streaming i (Accept a.length u)) (is_stuck outputs IsOutput a.tree a.built_is) a.answered) g
     where
-      by : (n : ℕ) → IsRest w i n j → m.answers streaming i (Accept n Stuck) → Refuses (errs.of_kind j Kind.Precedence) errs.grows errors f →
+      by : (n : ℕ) → IsSuffixOf w i n j → m.answers streaming i (Accept n Stuck) → Refuses (errs.of_kind j Kind.Precedence) errs.grows errors f →
           ShowsMeaning w IsResult (freed_meaning w errs m) (modes outputs errors streaming) i (Err f)
       by n q a (inl g) = RanOut (ap Err g.0) (RunsOutBeside (here (Accept n Stuck) a (g.1, g.2)))
       by n q a (inr g) = Shown Refuse (here (Accept n Stuck) a refl) (

@@ -5,7 +5,7 @@ use Rattle.nom_error.specs.declared.answer.Needed.{Needed}
 use Rattle.nom_error.specs.declared.answer.Err as Answer
 use Rattle.nom_error.specs.declared.answer.Err.TheVariants.{OutOfMemory}
 use Rattle.nom_error.specs.Modes.{Built, BuiltFrom, BuiltFromBoth, Modes, modes}
-use Rattle.nom_traits.specs.Input.{Seen, InputLaws}
+use Rattle.nom_traits.specs.Input.{Model, InputLaws}
 use Rattle.nom_internal.specs.Outcome.{Outcome, ShowsAnswer}
 use Rattle.nom_internal.specs.Outcome.Outcome.{Accept}
 use Rattle.nom_internal.specs.Outcome.ShowsAnswer.{RanOut, Shown}
@@ -20,7 +20,7 @@ use Rattle.nom_precedence.specs.declared.read.Read as Told
 use Rattle.nom_precedence.specs.declared.read.Read.TheVariants as Is
 
 -- where memory didn't run out, it doesn't matter where it may
-pub not_ran_out : {I A V O E : Type 0} {w : Seen I A} {IsOutput : V → O → Type 0} {mode : Modes} {i : I} {Answers : Outcome V → Type 0}
+pub not_ran_out : {I A V O E : Type 0} {w : Model I A} {IsOutput : V → O → Type 0} {mode : Modes} {i : I} {Answers : Outcome V → Type 0}
     {IsError : E → Type 0} {RunsOut : Type 0} (Other : Type 0) {r : Result (I × Option O) (Answer.Err E (Option E) Needed)} →
     (r ≡ Err OutOfMemory → ⊥) → ShowsAnswer w IsOutput mode i Answers IsError RunsOut r → ShowsAnswer w IsOutput mode i Answers IsError Other r
 not_ran_out Other f (RanOut e h) = absurd (f e)
@@ -31,7 +31,7 @@ pub told_as : {S : Type 0} (P : Option S → Type 0) {o : Option S} {t s : S} �
 told_as P {o} {t} {s} e f h = let same : o ≡ Some s = cc (e, f) in subst P same h
 
 -- the same of an answer
-pub told_ok : {I A V O E : Type 0} {w : Seen I A} {IsOutput : V → O → Type 0} {mode : Modes} {i : I} {Answers : Outcome V → Type 0}
+pub told_ok : {I A V O E : Type 0} {w : Model I A} {IsOutput : V → O → Type 0} {mode : Modes} {i : I} {Answers : Outcome V → Type 0}
     {IsError : E → Type 0} {RunsOut : Type 0} {j : I} {o : Option O} {t s : O} → o ≡ Some t → t ≡ s →
     ShowsAnswer w IsOutput mode i Answers IsError RunsOut (Ok (j, o)) → ShowsAnswer w IsOutput mode i Answers IsError RunsOut (Ok (j, Some s))
 told_ok {w = w} {IsOutput} {mode} {i} {Answers} {IsError} {RunsOut} {j} {o} {t} {s} e f h = let same : o ≡ Some s = cc (e, f) in
@@ -67,7 +67,7 @@ built_from_both true P Q R Gives None y z f h k g = absurd (cc (h.1))
 built_from_both false P Q R Gives (Some a) y z f h k g = absurd (cc (h))
 built_from_both false P Q R Gives None y z f h k g = g
 
-module _ {I A V X E : Type 0} {w : Seen I A} (IsOutput : V → X → Type 0) (m : Meaning I V E) (outputs errors streaming : Bool) {i : I} where
+module _ {I A V X E : Type 0} {w : Model I A} (IsOutput : V → X → Type 0) (m : Meaning I V E) (outputs errors streaming : Bool) {i : I} where
   -- a part that is never stuck
   pub whole_ok : {j : I} {x : Option X} → ShowsMeaning w IsOutput m (modes outputs errors streaming) i (Ok (j, x)) →
       ShowsRead w IsOutput (labelled_meaning Whole m) outputs errors streaming i (Ok (j, Some (Is.Whole x)))
@@ -88,7 +88,7 @@ pub is_stuck : {V X : Type 0} (outputs : Bool) (IsOutput : V → X → Type 0) (
 is_stuck outputs IsOutput (Whole v) b = let same : b.0 ≡ Is.Stuck = cc (b.1) in absurd (subst (λ z. IsRead outputs IsOutput (Whole v) z) same b.2)
 is_stuck outputs IsOutput Stuck b = refl
 
-module _ {I A V W T X Z E : Type 0} {w : Seen I A} (l : InputLaws w) (tree : V → W → T) (a : Meaning I (Read V) E) (b : Meaning I (Read W) E)
+module _ {I A V W T X Z E : Type 0} {w : Model I A} (l : InputLaws w) (tree : V → W → T) (a : Meaning I (Read V) E) (b : Meaning I (Read W) E)
     (IsFirst : V → X → Type 0) (IsResult : T → Z → Type 0) (outputs errors streaming : Bool) {i : I} where
   -- the first part isn't accepted
   pub first_err : {f : Answer.Err E (Option E) Needed} {r : Result (I × Option (Told.Read (Option Z))) (Answer.Err E (Option E) Needed)} →
@@ -102,7 +102,7 @@ module _ {I A V W T X Z E : Type 0} {w : Seen I A} (l : InputLaws w) (tree : V �
   first_stuck {j} h = then_ok l h (λ u p. behind u (is_stuck outputs IsFirst u p))
     where
       behind : (u : Read V) → u ≡ Stuck → ShowsAnswer w (λ v. IsRead outputs IsResult (both tree u v)) (modes true errors streaming) j
-          ((read_behind b u).answers streaming j) ((read_behind b u).blames streaming j) ((read_behind b u).runs_out (modes outputs errors streaming) j)
+          ((read_behind b u).answers streaming j) ((read_behind b u).blames streaming j) ((read_behind b u).may_run_out (modes outputs errors streaming) j)
           (Ok (j, Some Is.Stuck))
       behind (Whole v) e = absurd (cc (e))
       behind Stuck e = Shown (Accept 0 Stuck) (refl, refl) (
@@ -117,13 +117,13 @@ module _ {I A V W T X Z E : Type 0} {w : Seen I A} (l : InputLaws w) (tree : V �
   pub first_whole : {j : I} {x : Option X} {r : Result (I × Option (Told.Read (Option Z))) (Answer.Err E (Option E) Needed)} →
       ShowsRead w IsFirst a outputs errors streaming i (Ok (j, Some (Is.Whole x))) →
       ((v : V) → Built outputs (IsFirst v) x → ShowsAnswer w (λ u. IsRead outputs IsResult (both tree (Whole v) u)) (modes true errors streaming) j
-      (b.answers streaming j) (b.blames streaming j) (b.runs_out (modes outputs errors streaming) j) r) →
+      (b.answers streaming j) (b.blames streaming j) (b.may_run_out (modes outputs errors streaming) j) r) →
       ShowsRead w IsResult (read_both w tree a b) outputs errors streaming i r
   first_whole {j} {x} {r} h k = then_ok l h (λ u p. behind u (is_whole outputs IsFirst u p))
     where
       behind : (u : Read V) → ((v : V) × (u ≡ Whole v) × Built outputs (IsFirst v) x) →
           ShowsAnswer w (λ v. IsRead outputs IsResult (both tree u v)) (modes true errors streaming) j ((read_behind b u).answers streaming j)
-          ((read_behind b u).blames streaming j) ((read_behind b u).runs_out (modes outputs errors streaming) j) r
+          ((read_behind b u).blames streaming j) ((read_behind b u).may_run_out (modes outputs errors streaming) j) r
       behind (Whole v) p = let same : v ≡ p.0 = cc (p.1) in k v (subst (λ z. Built outputs (IsFirst z) x) (sym same) p.2)
       behind Stuck p = absurd (cc (p.1))
 

@@ -2,9 +2,9 @@
 use Rattle.std.proofs.Common.{◌≡◌, ◌++◌, Bool, true, false, Option, Some, None, MatchOption, List, [], ◌∷◌, refl, sym, ◌∙◌, ap, subst}
 use Rattle.std.specs.List.{AllZip}
 use Rattle.nom_error.specs.Modes.{Built, BuiltFrom}
-use Rattle.nom_repeat.specs.Kept.{Adds, Kept}
+use Rattle.nom_repeat.specs.Accumulated.{Adds, Accumulated}
 use Rattle.nom_precedence.specs.Expressions.{Tail, term_of}
-use Rattle.nom_precedence.specs.Steps.{AppliedGains, Before}
+use Rattle.nom_precedence.specs.Steps.{AppliedPushes, Before}
 use Rattle.nom_precedence.specs.Told.{Behind, IsHeld, IsTail, IsTerm}
 use Rattle.nom_precedence.proofs.ReadShown.{built_from}
 
@@ -15,7 +15,7 @@ module _ {K L O G : Type 0} (value : K → Option O) (fold : K → L) (Gives : L
     pub value_is : value k ≡ Some behind
     pub given : Behind (Gives f) x cs behind
 
-  pub adds_behind : (k : K) (cs : List G) (new : K) (x : O) → value k ≡ Some x → Adds (AppliedGains value fold Gives) k cs new → HasApplied x cs (fold k) new
+  pub adds_behind : (k : K) (cs : List G) (new : K) (x : O) → value k ≡ Some x → Adds (AppliedPushes value fold Gives) k cs new → HasApplied x cs (fold k) new
   adds_behind k [] new x e a = record { behind = x; value_is = ap value a ∙ e; given = refl }
   adds_behind k (c ∷ cs) new x e a =
       let next = a.0 in
@@ -28,11 +28,12 @@ module _ {K L O G : Type 0} (value : K → Option O) (fold : K → L) (Gives : L
         given = (g.behind, subst (λ z. Gives (fold k) z c g.behind) same g.given, subst (λ z. Behind (Gives z) g.behind cs r.behind) g.fold_is r.given);
       }
 
-  module _ {V Q : Type 0} (CanKeep : K → Type 0) (IsOperand : V → O → Type 0) (IsPostfix : Q → G → Type 0) (f : L) where
+  module _ {V Q : Type 0} (CanPush : K → Type 0) (IsOperand : V → O → Type 0) (IsPostfix : Q → G → Type 0) (f : L) where
     -- an operand that is built, and what is kept of the postfixes after it
     pub tail_built : (outputs : Bool) (v : V) (qs : List Q) (x : Option O) (first k : Option K) (z : Option O) →
         BuiltFrom true (IsHeld value fold f) x first → MatchOption k (z ≡ None) (λ m. z ≡ value m) → Built outputs (IsOperand v) x →
-        Built outputs (Kept (AppliedGains value fold Gives) CanKeep IsPostfix first qs) k → Built outputs (IsTail IsOperand IsPostfix (Gives f) (v, qs)) z
+        Built outputs (Accumulated (AppliedPushes value fold Gives) CanPush IsPostfix first qs) k →
+        Built outputs (IsTail IsOperand IsPostfix (Gives f) (v, qs)) z
     tail_built true v qs (Some a) first (Some m) z c e b d =
         let is : a ≡ b.0 = cc (b.1) in
         let one : m ≡ d.0 = cc (d.1) in
@@ -56,13 +57,13 @@ module _ {K L O G : Type 0} (value : K → Option O) (fold : K → L) (Gives : L
     tail_built false v qs x first None z c e b d = e
 
 -- where it is built, postfixes may be applied to it
-pub held_ready : {K L O : Type 0} (value : K → Option O) (fold : K → L) (CanKeep : K → Type 0) (f : L) (outputs : Bool) (P : O → Type 0) (x : Option O)
-    (first : Option K) → ((k : K) (a : O) → value k ≡ Some a → fold k ≡ f → CanKeep k) → Built outputs P x →
-    BuiltFrom true (IsHeld value fold f) x first → Built outputs CanKeep first
-held_ready value fold CanKeep f true P (Some a) first g b c = (c.0, c.1, g c.0 a c.2.value_is c.2.fold_is)
-held_ready value fold CanKeep f true P None first g b c = absurd (cc (b.1))
-held_ready value fold CanKeep f false P (Some a) first g b c = absurd (cc (b))
-held_ready value fold CanKeep f false P None first g b c = c
+pub held_ready : {K L O : Type 0} (value : K → Option O) (fold : K → L) (CanPush : K → Type 0) (f : L) (outputs : Bool) (P : O → Type 0) (x : Option O)
+    (first : Option K) → ((k : K) (a : O) → value k ≡ Some a → fold k ≡ f → CanPush k) → Built outputs P x →
+    BuiltFrom true (IsHeld value fold f) x first → Built outputs CanPush first
+held_ready value fold CanPush f true P (Some a) first g b c = (c.0, c.1, g c.0 a c.2.value_is c.2.fold_is)
+held_ready value fold CanPush f true P None first g b c = absurd (cc (b.1))
+held_ready value fold CanPush f false P (Some a) first g b c = absurd (cc (b))
+held_ready value fold CanPush f false P None first g b c = c
 
 -- a term's value, from the value after its prefixes
 pub term_built : {P V Q F O G : Type 0} (IsPrefix : P → F → Type 0) (OnPrefix : F → O → O → Type 0) (IsOperand : V → O → Type 0)

@@ -10,7 +10,7 @@ use Rattle.nom_operators.specs.declared.operation.Operation.TheVariants.{Prefix,
 use Rattle.nom_precedence.specs.Expressions.{Term}
 use Rattle.nom_precedence.specs.Steps.{Before}
 use Rattle.nom_precedence.specs.Told.{Behind, IsTerm, IsPairOf, IsMade}
-use Rattle.nom_precedence.specs.Values.{Folding, folding, PostfixesGive, PrefixesGive, TermGives, IsOperator, Stands}
+use Rattle.nom_precedence.specs.Values.{Folding, folding, PostfixesGive, PrefixesGive, TermGives, IsOperator, StandsFor}
 
 module _ {P V Q B F G H O : Type 0} (f : Folding P V Q B F G H O) where
   behind_gives : (x : O) (qs : List Q) (cs : List G) (y : O) → AllZip f.IsPostfix qs cs → Behind (λ a c b. f.Gives (Postfix a c) b) x cs y →
@@ -39,11 +39,11 @@ module _ {P V Q B F G H O : Type 0} (f : Folding P V Q B F G H O) where
 
 module _ {P V Q B F G H O : Type 0} (f : Folding P V Q B F G H O) (left : ℕ → Bool) where
   -- a term of its own
-  pub stands_alone : (t : Term P V Q) (y : O) → TermGives f t y → Stands f left t [] y
+  pub stands_alone : (t : Term P V Q) (y : O) → TermGives f t y → StandsFor f left t [] y
   stands_alone t y g = record { tree = Leaf t; is_tree = (refl, refl); gives = g }
 
   -- what stands on both sides of a root, joined by the fold, stands for the whole
-  pub stands_join : Joins (λ (o : ℕ × B). o.0) left (Stands f left) (IsOperator f) (λ x c y z. f.Gives (Binary x c.1 y) z)
+  pub stands_join : Joins (λ (o : ℕ × B). o.0) left (StandsFor f left) (IsOperator f) (λ x c y z. f.Gives (Binary x c.1 y) z)
   stands_join = record {
     joins = λ t before o u behind x c y z root l is r g. record {
       tree = Node l.tree o r.tree;
@@ -64,17 +64,18 @@ module _ {P V Q B F G H O : Type 0} (IsPrefix : P → F → Type 0) (IsOperand :
   pub expression_built : (outputs : Bool) (t : Term P V Q) (ps : List ((ℕ × B) × Term P V Q)) (v z : Option O) →
       Built outputs (IsTerm IsPrefix (λ p a b. Gives (Prefix p a) b) IsOperand IsPostfix (λ a c b. Gives (Postfix a c) b) t) v →
       Built outputs (IsMade left (λ c. c.0) (λ x c y z. Gives (Binary x c.1 y) z) (IsPairOf IsBinary (IsTerm IsPrefix (λ p a b. Gives (Prefix p a) b)
-      IsOperand IsPostfix (λ a c b. Gives (Postfix a c) b))) v ps) z → Built outputs (Stands (folding IsPrefix IsOperand IsPostfix IsBinary Gives) left t ps) z
+      IsOperand IsPostfix (λ a c b. Gives (Postfix a c) b))) v ps) z →
+      Built outputs (StandsFor (folding IsPrefix IsOperand IsPostfix IsBinary Gives) left t ps) z
   expression_built true t ps (Some a) z b d =
       let f = folding IsPrefix IsOperand IsPostfix IsBinary Gives in
       let m = d.2 in
       let is : b.0 ≡ m.first = cc (b.1, m.first_is) in
-      let alone : Stands f left t [] m.first = subst (λ q. Stands f left t [] q) is (stands_alone f left t b.0 (term_gives f t b.0 b.2)) in (
+      let alone : StandsFor f left t [] m.first = subst (λ q. StandsFor f left t [] q) is (stands_alone f left t b.0 (term_gives f t b.0 b.2)) in (
         d.0,
         d.1,
-        made_stands (λ o. o.0) left (Stands f left) (IsOperator f) (λ x c y z. f.Gives (Binary x c.1 y) z) (stands_join f left) (λ c. c.0)
+        made_stands (λ o. o.0) left (StandsFor f left) (IsOperator f) (λ x c y z. f.Gives (Binary x c.1 y) z) (stands_join f left) (λ c. c.0)
             (λ o c h. h.1) t ps m.outputs m.first d.0 alone (zip_map (IsPairOf IsBinary (IsTerm IsPrefix (λ p a b. Gives (Prefix p a) b)
-            IsOperand IsPostfix (λ a c b. Gives (Postfix a c) b))) (λ p o. IsOperator f p.0 o.0 × Stands f left p.1 [] o.1) ps m.outputs
+            IsOperand IsPostfix (λ a c b. Gives (Postfix a c) b))) (λ p o. IsOperator f p.0 o.0 × StandsFor f left p.1 [] o.1) ps m.outputs
             (λ p o h. (h.0, stands_alone f left p.1 o.1 (term_gives f p.1 o.1 h.1))) m.are_outputs) m.made,
       )
   expression_built true t ps None z b d = absurd (cc (b.1))

@@ -2,7 +2,7 @@
 -- consumes nothing, or is stuck itself.
 use Rattle.std.specs.Prelude.{◌≡◌, ℕ, true, false, Option, Some, None, List, zero, suc}
 use Rattle.nom_error.specs.Modes.{with_errors}
-use Rattle.nom_traits.specs.Input.{Seen}
+use Rattle.nom_traits.specs.Input.{Model}
 use Rattle.nom_internal.specs.Outcome.{Outcome}
 use Rattle.nom_internal.specs.Outcome.Outcome.{Accept, Refuse, Fail, TooLarge, Undecided}
 use Rattle.nom_internal.specs.Meaning.{Meaning}
@@ -50,7 +50,7 @@ ChainAsks Fact (Some TooLarge) = ⊥
 ChainAsks Fact (Some (Undecided d)) = ⊥
 ChainAsks Fact None = ⊥
 
--- The errors of the part's refusals aren't built. Keeping an item may take memory where outputs are built.
+-- The errors of the part's refusals aren't built. Accumulating an item may take memory where outputs are built.
 abbrev pub chain_rule : {I V E : Type 0} → Type 0 → Rule I (Read V) V (Read (Unit {0})) E
 chain_rule Grows = record {
   bound = None;
@@ -68,5 +68,5 @@ abbrev pub chained : {V : Type 0} → List V → Read (Unit {0}) → Read (List 
 chained vs (Whole u) = Whole vs
 chained vs Stuck = Stuck
 
-abbrev pub chain_meaning : {I A V E : Type 0} → Seen I A → Type 0 → Meaning I (Read V) E → Meaning I (Read (List V)) E
+abbrev pub chain_meaning : {I A V E : Type 0} → Model I A → Type 0 → Meaning I (Read V) E → Meaning I (Read (List V)) E
 chain_meaning w Grows m = repeat_meaning w (chain_rule Grows) chained (always m)

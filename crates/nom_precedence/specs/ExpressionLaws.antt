@@ -2,7 +2,7 @@
 use Rattle.std.specs.Prelude.{◌≡◌, ℕ, true}
 use Rattle.nom_error.specs.Errors.{Errors}
 use Rattle.nom_error.specs.declared.kind.ErrorKind.TheVariants as Kind
-use Rattle.nom_traits.specs.Input.{Seen, InputLaws}
+use Rattle.nom_traits.specs.Input.{Model, InputLaws}
 use Rattle.nom_internal.specs.Meaning.{Meaning, IsLawful, IsSteady}
 use Rattle.nom_internal.specs.Families.{IsOne}
 use Rattle.nom_internal.specs.Cases.{labelled_meaning, closed_meaning}
@@ -17,7 +17,7 @@ use Rattle.nom_precedence.specs.OperatorLaws.{operator_lawful, operator_steady}
 use Rattle.nom_precedence.specs.Premises.{Gives, told_lawful}
 use Rattle.nom_precedence.specs.Expressions.{term_of, term_meaning, pair_meaning, expression_meaning, premises, precedence_meaning}
 
-module _ {I A P V Q E : Type 0} (w : Seen I A) (l : InputLaws w) (prefix : Meaning I P E) (operand : Meaning I V E) (postfix : Meaning I Q E) where
+module _ {I A P V Q E : Type 0} (w : Model I A) (l : InputLaws w) (prefix : Meaning I P E) (operand : Meaning I V E) (postfix : Meaning I Q E) where
   pub term_lawful : IsLawful w prefix → IsLawful w operand → IsLawful w postfix → IsLawful w (term_meaning w prefix operand postfix)
   unfolding term_meaning
   term_lawful p q r =
@@ -40,7 +40,7 @@ module _ {I A P V Q E : Type 0} (w : Seen I A) (l : InputLaws w) (prefix : Meani
       (both_steady w l (λ v qs. (v, qs)) one behind (labelled_steady w operand Whole q)
       (chain_steady w l ⊥ (labelled_meaning Whole postfix) (labelled_steady w postfix Whole r)))
 
-module _ {I A T B E : Type 0} (w : Seen I A) (l : InputLaws w) (errs : Errors I E) (operator : Meaning I (ℕ × B) E) (term : Meaning I (Read T) E) where
+module _ {I A T B E : Type 0} (w : Model I A) (l : InputLaws w) (errs : Errors I E) (operator : Meaning I (ℕ × B) E) (term : Meaning I (Read T) E) where
   pub expression_lawful : IsLawful w operator → IsLawful w term → IsLawful w (expression_meaning w errs operator term)
   unfolding pair_meaning
   expression_lawful p q =
@@ -63,7 +63,7 @@ module _ {I A T B E : Type 0} (w : Seen I A) (l : InputLaws w) (errs : Errors I 
       (chain_steady w l (Unit {0}) pair (both_steady w l (λ o t. (o, t)) (labelled_meaning Whole operator) term (labelled_steady w operator Whole p)
       q)))
 
-module _ {I A P V Q B E : Type 0} (w : Seen I A) (l : InputLaws w) (errs : Errors I E) (CanFold : Type 0) (IsLevel : B → ℕ → Type 0) (levels : ℕ)
+module _ {I A P V Q B E : Type 0} (w : Model I A) (l : InputLaws w) (errs : Errors I E) (CanFold : Type 0) (IsLevel : B → ℕ → Type 0) (levels : ℕ)
     (prefix : Meaning I P E) (operand : Meaning I V E) (postfix : Meaning I Q E) (binary : Meaning I B E) where
   -- the premises that are told give those that are gathered
   told : Gives (premises errs CanFold IsLevel prefix operand postfix binary)

@@ -3,7 +3,7 @@ use Rattle.std.specs.Prelude.{◌≡◌, ℕ, true, false, List}
 use Rattle.nom_error.specs.Errors.{Errors}
 use Rattle.nom_error.specs.Modes.{with_errors, with_outputs}
 use Rattle.nom_error.specs.declared.kind.ErrorKind.TheVariants as Kind
-use Rattle.nom_traits.specs.Input.{Seen}
+use Rattle.nom_traits.specs.Input.{Model}
 use Rattle.nom_internal.specs.Meaning.{Meaning}
 use Rattle.nom_internal.specs.Families.{IsOne}
 use Rattle.nom_internal.specs.Cases.{labelled_meaning, closed_meaning}
@@ -27,33 +27,33 @@ abbrev pub term_of : {P V Q : Type 0} → List P → Tail V Q → Term P V Q
 term_of ps t = record { prefixes = ps; operand = t.0; postfixes = t.1 }
 
 -- as many items of a part as are accepted, where it may take memory to keep them
-abbrev pub affixes_meaning : {I A V E : Type 0} → Seen I A → Type 0 → Meaning I V E → Meaning I (Read (List V)) E
+abbrev pub affixes_meaning : {I A V E : Type 0} → Model I A → Type 0 → Meaning I V E → Meaning I (Read (List V)) E
 affixes_meaning w Grows m = chain_meaning w Grows (labelled_meaning Whole m)
 
 -- an operand, and as many postfixes
-abbrev pub tail_meaning : {I A V Q E : Type 0} → Seen I A → Meaning I V E → Meaning I Q E → Meaning I (Read (Tail V Q)) E
+abbrev pub tail_meaning : {I A V Q E : Type 0} → Model I A → Meaning I V E → Meaning I Q E → Meaning I (Read (Tail V Q)) E
 tail_meaning w operand postfix = read_both w (λ v qs. (v, qs)) (labelled_meaning Whole operand) (affixes_meaning w ⊥ postfix)
 
 -- A term. As many prefixes as are accepted, an operand, and as many postfixes. It is refused where its operand is. Prefixes are
 -- kept where outputs are built, which may take memory.
-unfoldable pub term_meaning : {I A P V Q E : Type 0} → Seen I A → Meaning I P E → Meaning I V E → Meaning I Q E → Meaning I (Read (Term P V Q)) E
+unfoldable pub term_meaning : {I A P V Q E : Type 0} → Model I A → Meaning I P E → Meaning I V E → Meaning I Q E → Meaning I (Read (Term P V Q)) E
 term_meaning w prefix operand postfix = read_both w term_of (affixes_meaning w (Unit {0}) prefix) (tail_meaning w operand postfix)
 
 -- an operator with its level, and a term after it
 abbrev pub Pair : Type 0 → Type 0 → Type 0
 Pair B T = (ℕ × B) × T
 
-unfoldable pub pair_meaning : {I A T B E : Type 0} → Seen I A → Meaning I (ℕ × B) E → Meaning I (Read T) E → Meaning I (Read (Pair B T)) E
+unfoldable pub pair_meaning : {I A T B E : Type 0} → Model I A → Meaning I (ℕ × B) E → Meaning I (Read T) E → Meaning I (Read (Pair B T)) E
 pair_meaning w operator term = read_both w (λ o t. (o, t)) (labelled_meaning Whole operator) term
 
 -- A first term, to whose refusal `Precedence` is added at the start; and then pairs of an operator and a term, as many as are accepted.
 -- Where an operator or its term is refused, the pairs end before that operator. All is read whole, or an item is stuck.
-abbrev pub read_meaning : {I A T B E : Type 0} → Seen I A → Errors I E → Meaning I (ℕ × B) E → Meaning I (Read T) E → Meaning I (Read (T × List (Pair B T))) E
+abbrev pub read_meaning : {I A T B E : Type 0} → Model I A → Errors I E → Meaning I (ℕ × B) E → Meaning I (Read T) E → Meaning I (Read (T × List (Pair B T))) E
 read_meaning w errs operator term = read_both w (λ t ps. (t, ps)) (closed_meaning (λ i. errs.appended i Kind.Precedence) errs.grows term)
     (chain_meaning w (Unit {0}) (pair_meaning w operator term))
 
 -- What is read whole is accepted. Where an item is stuck, the expression is refused there.
-abbrev pub expression_meaning : {I A T B E : Type 0} → Seen I A → Errors I E → Meaning I (ℕ × B) E → Meaning I (Read T) E → Meaning I (T × List (Pair B T)) E
+abbrev pub expression_meaning : {I A T B E : Type 0} → Model I A → Errors I E → Meaning I (ℕ × B) E → Meaning I (Read T) E → Meaning I (T × List (Pair B T)) E
 expression_meaning w errs operator term = freed_meaning w errs (read_meaning w errs operator term)
 
 -- The premises of all, told at once. Its parts are sound, each tree of an operator stands for one level, and the fold may be called. It
@@ -74,7 +74,7 @@ premises errs CanFold IsLevel prefix operand postfix binary = record {
 }
 
 -- What `precedence` means, of so many levels.
-abbrev pub precedence_meaning : {I A P V Q B E : Type 0} → Seen I A → Errors I E → Type 0 → (B → ℕ → Type 0) → ℕ → Meaning I P E → Meaning I V E →
+abbrev pub precedence_meaning : {I A P V Q B E : Type 0} → Model I A → Errors I E → Type 0 → (B → ℕ → Type 0) → ℕ → Meaning I P E → Meaning I V E →
     Meaning I Q E → Meaning I B E → Meaning I (Term P V Q × List (Pair B (Term P V Q))) E
 precedence_meaning w errs CanFold IsLevel levels prefix operand postfix binary =
     with_premises (premises errs CanFold IsLevel prefix operand postfix binary)

@@ -2,7 +2,7 @@
 use Rattle.std.specs.Prelude.{◌≡◌, ℕ, Bool, true, false, ltb, refl}
 use Rattle.std.proofs.Common.{sym, ◌∙◌, ap, subst}
 use Rattle.nom_error.specs.Errors.{Errors}
-use Rattle.nom_traits.specs.Input.{Seen, IsPlace}
+use Rattle.nom_traits.specs.Input.{Model, IsBoundary}
 use Rattle.nom_traits.specs.View.{itself}
 use Rattle.nom_internal.specs.Outcome.{Outcome, failure, IsDecided}
 use Rattle.nom_internal.specs.Outcome.Outcome.{Accept, Refuse, Fail, TooLarge, Undecided}
@@ -43,9 +43,9 @@ module _ {P : Type 0} (IsLevel : P → ℕ → Type 0) (levels : ℕ) where
   same one TooLarge o p s t = s ∙ sym t
   same one (Undecided k) o p s t = s ∙ sym t
 
-  place : {I A : Type 0} (w : Seen I A) (i j : I) (a : Outcome P) (n : ℕ) (t : ℕ × P) → i ≡ j → ((m : ℕ) (u : P) → a ≡ Accept m u → IsPlace w j m) →
-      Becomes a (Accept n t) → IsPlace w i n
-  place w i j (Accept m u) n t e f b = subst (λ z. IsPlace w i z) (level_accepts (ltb b.value levels) n m b.value t u b.fact)
+  place : {I A : Type 0} (w : Model I A) (i j : I) (a : Outcome P) (n : ℕ) (t : ℕ × P) → i ≡ j → ((m : ℕ) (u : P) → a ≡ Accept m u → IsBoundary w j m) →
+      Becomes a (Accept n t) → IsBoundary w i n
+  place w i j (Accept m u) n t e f b = subst (λ z. IsBoundary w i z) (level_accepts (ltb b.value levels) n m b.value t u b.fact)
       (here_place w i j m e (f m u refl))
   place w i j Refuse n t e f b = absurd (cc (b))
   place w i j Fail n t e f b = absurd (cc (b))
@@ -75,7 +75,7 @@ module _ {P : Type 0} (IsLevel : P → ℕ → Type 0) (levels : ℕ) where
   asks_none Grows TooLarge f h = h
   asks_none Grows (Undecided k) f h = h
 
-module _ {I A P E : Type 0} (w : Seen I A) (errs : Errors I E) (IsLevel : P → ℕ → Type 0) (levels : ℕ) (one : IsOne IsLevel) where
+module _ {I A P E : Type 0} (w : Model I A) (errs : Errors I E) (IsLevel : P → ℕ → Type 0) (levels : ℕ) (one : IsOne IsLevel) where
   operator_laws : CaseLaws true w w (operator_case errs IsLevel levels)
   operator_laws = record {
     at_known = here_known w;

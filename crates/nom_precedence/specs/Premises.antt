@@ -1,7 +1,7 @@
 -- A meaning whose premises are told at once, in place of those that its definition gathers.
 use Rattle.std.specs.Prelude.{Bool}
 use Rattle.nom_error.specs.Modes.{Modes}
-use Rattle.nom_traits.specs.Input.{Seen}
+use Rattle.nom_traits.specs.Input.{Model}
 use Rattle.nom_internal.specs.Meaning.{Meaning, IsLawful, IsSteady}
 
 -- when a parser is sound, frugal, settles, and never fails
@@ -17,7 +17,7 @@ with_premises p m = record {
   IsSound = p.IsSound;
   answers = m.answers;
   blames = m.blames;
-  runs_out = m.runs_out;
+  may_run_out = m.may_run_out;
   IsFrugal = p.IsFrugal;
   Settles = p.Settles;
   NeverFails = p.NeverFails;
@@ -29,7 +29,7 @@ pub record Gives {I V E : Type 0} (p : Premises) (m : Meaning I V E) : Type 0 wh
   pub settles : p.Settles → m.Settles
   pub never_fails : (large : Bool) → p.NeverFails large → m.NeverFails large
 
-module _ {I A V E : Type 0} (w : Seen I A) (p : Premises) (m : Meaning I V E) where
+module _ {I A V E : Type 0} (w : Model I A) (p : Premises) (m : Meaning I V E) where
   pub told_lawful : Gives p m → IsLawful w m → IsLawful w (with_premises p m)
   told_lawful g l = record {
     within = l.within;

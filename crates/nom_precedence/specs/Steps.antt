@@ -2,7 +2,7 @@
 use Rattle.std.specs.Prelude.{◌≡◌, List, [], ◌∷◌, Option, Some}
 
 -- What a value under postfixes gains by one more: the fold's value for both.
-pub record AppliedGains {K L X Q : Type 0} (value : K → Option X) (fold : K → L) (Gives : L → X → Q → X → Type 0) (old : K) (item : Q) (new : K) : Type 0 where
+pub record AppliedPushes {K L X Q : Type 0} (value : K → Option X) (fold : K → L) (Gives : L → X → Q → X → Type 0) (old : K) (item : Q) (new : K) : Type 0 where
   pub before : X
   pub behind : X
   pub before_is : value old ≡ Some before

@@ -3,7 +3,7 @@
 use Rattle.std.specs.Prelude.{◌≡◌, ℕ, true}
 use Rattle.nom_error.specs.Errors.{Errors}
 use Rattle.nom_error.specs.declared.kind.ErrorKind.TheVariants as Kind
-use Rattle.nom_traits.specs.Input.{Seen, IsRest}
+use Rattle.nom_traits.specs.Input.{Model, IsSuffixOf}
 use Rattle.nom_internal.specs.Outcome.{Outcome}
 use Rattle.nom_internal.specs.Outcome.Outcome.{Accept, Refuse, Fail, TooLarge, Undecided}
 use Rattle.nom_internal.specs.Meaning.{Meaning}
@@ -33,7 +33,7 @@ abbrev pub unless_stuck : {I V W E : Type 0} → Meaning I (Read W) E → Family
 unless_stuck m = record { at = read_behind m; IsSound = m.IsSound; IsFrugal = m.IsFrugal; Settles = m.Settles; NeverFails = m.NeverFails }
 
 -- a part, and another after it, unless it is stuck
-abbrev pub read_both : {I A V W T E : Type 0} → Seen I A → (V → W → T) → Meaning I (Read V) E → Meaning I (Read W) E → Meaning I (Read T) E
+abbrev pub read_both : {I A V W T E : Type 0} → Model I A → (V → W → T) → Meaning I (Read V) E → Meaning I (Read W) E → Meaning I (Read T) E
 read_both w tree a b = then_meaning w (both tree) (λ o. o) (λ o. o) a (unless_stuck b)
 
 -- At last: what was read whole is accepted, and what is stuck is refused.
@@ -47,12 +47,12 @@ IfStuck Fact (Whole v) = ⊥
 IfStuck Fact Stuck = Fact
 
 -- the error at the place where it is stuck
-pub record StuckAt {I A E : Type 0} (w : Seen I A) (errs : Errors I E) (i : I) (n : ℕ) (e : E) : Type 0 where
+pub record StuckAt {I A E : Type 0} (w : Model I A) (errs : Errors I E) (i : I) (n : ℕ) (e : E) : Type 0 where
   pub rest : I
-  pub rest_is : IsRest w i n rest
+  pub rest_is : IsSuffixOf w i n rest
   pub error_is : errs.of_kind rest Kind.Precedence e
 
-abbrev pub StuckBlames : {I A V E : Type 0} → Seen I A → Errors I E → I → Outcome (Read V) → (E → Type 0) → E → Type 0
+abbrev pub StuckBlames : {I A V E : Type 0} → Model I A → Errors I E → I → Outcome (Read V) → (E → Type 0) → E → Type 0
 StuckBlames w errs i (Accept n u) P e = IfStuck (StuckAt w errs i n e) u
 StuckBlames w errs i Refuse P e = P e
 StuckBlames w errs i Fail P e = P e
@@ -66,7 +66,7 @@ StuckAsks Fact Fail = ⊥
 StuckAsks Fact TooLarge = ⊥
 StuckAsks Fact (Undecided d) = ⊥
 
-abbrev pub freed_case : {I A V E : Type 0} → Seen I A → Errors I E → Case I I (Read V) V E E
+abbrev pub freed_case : {I A V E : Type 0} → Model I A → Errors I E → Case I I (Read V) V E E
 freed_case w errs = record {
   At = λ i j. i ≡ j;
   mode = AsAsked;
@@ -79,5 +79,5 @@ freed_case w errs = record {
   NeverFails = λ Part. Part;
 }
 
-abbrev pub freed_meaning : {I A V E : Type 0} → Seen I A → Errors I E → Meaning I (Read V) E → Meaning I V E
+abbrev pub freed_meaning : {I A V E : Type 0} → Model I A → Errors I E → Meaning I (Read V) E → Meaning I V E
 freed_meaning w errs m = case_meaning (freed_case w errs) m

@@ -3,7 +3,7 @@ use Rattle.std.specs.Prelude.{◌≡◌, ℕ, Bool, true, false, refl}
 use Rattle.std.proofs.Common.{sym, ◌∙◌, subst}
 use Rattle.nom_error.specs.Errors.{Errors}
 use Rattle.nom_error.specs.Modes.{Modes}
-use Rattle.nom_traits.specs.Input.{Seen, InputLaws, IsPlace}
+use Rattle.nom_traits.specs.Input.{Model, InputLaws, IsBoundary}
 use Rattle.nom_internal.specs.Outcome.{Outcome, failure}
 use Rattle.nom_internal.specs.Outcome.Outcome.{Accept, Refuse, Fail, TooLarge, Undecided}
 use Rattle.nom_internal.specs.Meaning.{Meaning, IsLawful, IsSteady}
@@ -15,7 +15,7 @@ use Rattle.nom_internal.specs.Success.{success_lawful, success_steady}
 use Rattle.nom_precedence.specs.Stuck.{Read, both, read_behind, unless_stuck, read_both, freed, IfStuck, StuckBlames, StuckAsks, freed_case, freed_meaning}
 use Rattle.nom_precedence.specs.Stuck.Read.{Whole, Stuck}
 
-module _ {I A W E : Type 0} (w : Seen I A) (V : Type 0) (m : Meaning I (Read W) E) where
+module _ {I A W E : Type 0} (w : Model I A) (V : Type 0) (m : Meaning I (Read W) E) where
   behind_lawful : IsLawful w m → (u : Read V) → IsLawful w (read_behind m u)
   behind_lawful p (Whole v) = p
   behind_lawful p Stuck = success_lawful E w Stuck
@@ -44,7 +44,7 @@ module _ {I A W E : Type 0} (w : Seen I A) (V : Type 0) (m : Meaning I (Read W) 
     never_fails = λ large h u _. behind_never large h u;
   }
 
-module _ {I A V W T E : Type 0} (w : Seen I A) (l : InputLaws w) (tree : V → W → T) (a : Meaning I (Read V) E) (b : Meaning I (Read W) E) where
+module _ {I A V W T E : Type 0} (w : Model I A) (l : InputLaws w) (tree : V → W → T) (a : Meaning I (Read V) E) (b : Meaning I (Read W) E) where
   pub both_lawful : IsLawful w a → IsLawful w b → IsLawful w (read_both w tree a b)
   both_lawful p q = then_lawful w l (both tree) (λ o. o) (λ o. o) a (unless_stuck b) p (unless_lawful w V b q)
 
@@ -61,12 +61,12 @@ never_freed true m Stuck e = cc
 never_freed false m (Whole v) e = cc
 never_freed false m Stuck e = cc
 
-module _ {I A V E : Type 0} (w : Seen I A) (errs : Errors I E) where
+module _ {I A V E : Type 0} (w : Model I A) (errs : Errors I E) where
   freed_accept_laws : AcceptLaws w (λ i n (u : Read V) o. o ≡ freed n u)
   freed_accept_laws = record {
     same = λ longer x y n u o p kx ky r s k t. s ∙ sym t;
     alike = λ x y n u o kx ky r s. s;
-    place = λ i m n u t h p s. subst (λ k. IsPlace w i k) (freed_accepts n m t u s) p;
+    place = λ i m n u t h p s. subst (λ k. IsBoundary w i k) (freed_accepts n m t u s) p;
     never_fails = λ large i n u s. never_freed large n u s;
   }
 
@@ -88,7 +88,7 @@ stuck_asks_none Fact Fail f h = h
 stuck_asks_none Fact TooLarge f h = h
 stuck_asks_none Fact (Undecided d) f h = h
 
-module _ {I A V E : Type 0} (w : Seen I A) (errs : Errors I E) where
+module _ {I A V E : Type 0} (w : Model I A) (errs : Errors I E) where
   freed_laws : CaseLaws true w w (freed_case {V = V} w errs)
   freed_laws =
       let l = plain_laws w (λ i n (u : Read V) o. o ≡ freed n u) (freed_accept_laws w errs) {E = E} (λ b. b) in

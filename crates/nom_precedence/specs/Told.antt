@@ -4,7 +4,7 @@ use Rattle.std.specs.List.{AllZip}
 use Rattle.nom_error.specs.Modes.{Built, modes}
 use Rattle.nom_error.specs.declared.answer.Needed.{Needed}
 use Rattle.nom_error.specs.declared.answer.Err as Answer
-use Rattle.nom_traits.specs.Input.{Seen}
+use Rattle.nom_traits.specs.Input.{Model}
 use Rattle.nom_internal.specs.Outcome.{ShowsAnswer}
 use Rattle.nom_internal.specs.Meaning.{Meaning}
 use Rattle.nom_precedence.specs.Stuck.{Read}
@@ -23,10 +23,10 @@ IsRead builds IsOutput Stuck (Is.Whole x) = ⊥
 IsRead builds IsOutput Stuck Is.Stuck = Unit {0}
 
 -- what a part answers that may be stuck: that is told in every mode
-abbrev pub ShowsRead : {I A V X E : Type 0} → Seen I A → (V → X → Type 0) → Meaning I (Read V) E → (outputs errors streaming : Bool) → I →
+abbrev pub ShowsRead : {I A V X E : Type 0} → Model I A → (V → X → Type 0) → Meaning I (Read V) E → (outputs errors streaming : Bool) → I →
     Result (I × Option (Told.Read (Option X))) (Answer.Err E (Option E) Needed) → Type 0
 ShowsRead w IsOutput m outputs errors streaming i r = ShowsAnswer w (IsRead outputs IsOutput) (modes true errors streaming) i (m.answers streaming i)
-    (m.blames streaming i) (m.runs_out (modes outputs errors streaming) i) r
+    (m.blames streaming i) (m.may_run_out (modes outputs errors streaming) i) r
 
 -- postfixes are applied to a value, from left to right
 abbrev pub Behind : {X Q : Type 0} → (X → Q → X → Type 0) → X → List Q → X → Type 0

@@ -9,7 +9,7 @@ use Rattle.nom_operators.specs.Trees.{Tree}
 use Rattle.nom_operators.specs.Trees.Tree.{Leaf, Node}
 use Rattle.nom_operators.specs.TreeLaws.{one_tree}
 use Rattle.nom_precedence.specs.Expressions.{Term, Pair}
-use Rattle.nom_precedence.specs.Values.{Folding, folding, PostfixesGive, PrefixesGive, TermGives, TreeGives, Stands}
+use Rattle.nom_precedence.specs.Values.{Folding, folding, PostfixesGive, PrefixesGive, TermGives, TreeGives, StandsFor}
 
 -- The fold gives values that are equal as viewed for operators and values that are. No verdict rests on it: it is asked only where outputs
 -- are compared.
@@ -53,7 +53,7 @@ module _ {P V Q B F G H O : Type 0} (f : Folding P V Q B F G H O) (prefix : View
   tree_alike (Node l o r) u v p q = alike.on_binary (p.1).1 (q.1).1 p.0 q.0 p.2 q.2 u v (pinned.binaries o.1 p.1 q.1 (p.4).0 (q.4).0)
       (tree_alike l p.0 q.0 p.3 q.3) (tree_alike r p.2 q.2 p.5 q.5) p.6 q.6
 
-  pub stands_pinned : (left : ℕ → Bool) → IsPinned value (λ (e : Term P V Q × List (Pair B (Term P V Q))). Stands f left e.0 e.1)
+  pub stands_pinned : (left : ℕ → Bool) → IsPinned value (λ (e : Term P V Q × List (Pair B (Term P V Q))). StandsFor f left e.0 e.1)
   stands_pinned left e a b p q =
       let same = one_tree (λ (o : ℕ × B). o.0) left e.0 e.1 p.tree q.tree p.is_tree q.is_tree in
       tree_alike q.tree a b (subst (λ t. TreeGives f t a) same p.gives) q.gives
@@ -62,6 +62,6 @@ module _ {P V Q B F G H O : Type 0} (IsPrefix : P → F → Type 0) (IsOperand :
     (IsBinary : B → ℕ × H → Type 0) (Gives : Operation F G H O → O → Type 0) (prefix : View F) (postfix : View G) (binary : View H) (value : View O) where
   pub folding_pinned : GivesAlike (folding IsPrefix IsOperand IsPostfix IsBinary Gives) prefix postfix binary value → IsPinned prefix IsPrefix →
       IsPinned value IsOperand → IsPinned postfix IsPostfix → IsPinned (pair_view itself binary) IsBinary → (left : ℕ → Bool) →
-      IsPinned value (λ (e : Term P V Q × List (Pair B (Term P V Q))). Stands (folding IsPrefix IsOperand IsPostfix IsBinary Gives) left e.0 e.1)
+      IsPinned value (λ (e : Term P V Q × List (Pair B (Term P V Q))). StandsFor (folding IsPrefix IsOperand IsPostfix IsBinary Gives) left e.0 e.1)
   folding_pinned alike p q r s left = stands_pinned (folding IsPrefix IsOperand IsPostfix IsBinary Gives) prefix postfix binary value alike
       (record { prefixes = p; operands = q; postfixes = r; binaries = λ t a b x y. ap (λ z. z.1) (s t a b x y) }) left

@@ -3,7 +3,7 @@ ghost use Rattle.std.specs.Prelude.{◌≡◌, ℕ, List, length};
 ghost use Rattle.nom_precedence.specs.Expressions.{read_meaning, term_meaning};
 ghost use Rattle.nom_precedence.specs.Operators.{HasLevel, operator_meaning};
 ghost use Rattle.nom_precedence.specs.Told.{ShowsRead};
-ghost use Rattle.nom_precedence.specs.Values.{Stands, folding};
+ghost use Rattle.nom_precedence.specs.Values.{StandsFor, folding};
 ghost use Rattle.nom_operators.specs.Groups.{groups_left};
 ghost use Rattle.nom_operators.specs.declared.operation.Operation.{Operation};
 ghost use Rattle.nom_operators.specs.declared.operation.Assoc.{Assoc};
@@ -66,9 +66,10 @@ where
 
     ghost Tree = { Term P.Tree F.Tree Q.Tree × List (Pair C.Tree (Term P.Tree F.Tree Q.Tree)) };
 
-    ghost IsOutput = { λ s e y. Stands (folding (P.IsOutput s.0) (F.IsOutput s.1) (Q.IsOutput s.2) (C.IsOutput s.3) (G.post s.5)) (groups_left s.4) e.0 e.1 y };
+    ghost IsOutput = { λ s e y. StandsFor (folding (P.IsOutput s.0) (F.IsOutput s.1) (Q.IsOutput s.2) (C.IsOutput s.3) (G.post s.5)) (groups_left s.4) e.0 e.1
+        y };
 
-    ghost meaning = { λ s. precedence_meaning I.seen F.Error.errors ((x : Operation P.Output Q.Output B F.Output) → G.pre s.5 x)
+    ghost meaning = { λ s. precedence_meaning I.model F.Error.errors ((x : Operation P.Output Q.Output B F.Output) → G.pre s.5 x)
         (HasLevel (C.IsOutput s.3) (λ o. o.0)) (length s.4) (P.meaning s.0) (F.meaning s.1) (Q.meaning s.2) (C.meaning s.3) };
 
     ghost Pins = { λ s. P.Pins s.0 × F.Pins s.1 × Q.Pins s.2 × C.Pins s.3 × GivesAlike
@@ -91,7 +92,7 @@ where
         }
     }
 
-    ghost lawful = { λ s k. precedence_lawful I.seen I.lawful F.Error.errors ((x : Operation P.Output Q.Output B F.Output) → G.pre s.5 x)
+    ghost lawful = { λ s k. precedence_lawful I.model I.lawful F.Error.errors ((x : Operation P.Output Q.Output B F.Output) → G.pre s.5 x)
         (HasLevel (C.IsOutput s.3) (λ o. o.0)) (length s.4) (P.meaning s.0) (F.meaning s.1) (Q.meaning s.2) (C.meaning s.3) k.4 (P.lawful s.0 k.0)
         (F.lawful s.1 k.1) (Q.lawful s.2 k.2) (C.lawful s.3 k.3) };
 }
@@ -114,7 +115,7 @@ impl<
         Q.Output.view B.view F.Output.view p.4 (P.pinned s.0 k.0 p.0) (F.pinned s.1 k.1 p.1) (Q.pinned s.2 k.2 p.2) (C.pinned s.3 k.3 p.3)
         (groups_left s.4) };
 
-    ghost steady = { λ s k. precedence_steady I.seen I.lawful F.Error.errors ((x : Operation P.Output Q.Output B F.Output) → G.pre s.5 x)
+    ghost steady = { λ s k. precedence_steady I.model I.lawful F.Error.errors ((x : Operation P.Output Q.Output B F.Output) → G.pre s.5 x)
         (HasLevel (C.IsOutput s.3) (λ o. o.0)) (length s.4) (P.meaning s.0) (F.meaning s.1) (Q.meaning s.2) (C.meaning s.3) k.4 (P.steady s.0 k.0)
         (F.steady s.1 k.1) (Q.steady s.2 k.2) (C.steady s.3 k.3) };
 }
@@ -146,10 +147,10 @@ fn read<
     requires postfix { (Q.meaning (Q.state postfix.old)).IsSound }
     requires binary { (C.meaning (C.state binary.old)).IsSound }
     requires fold { (x : Operation P.Output Q.Output B F.Output) → G.pre fold.now x }
-    ensures shown { ShowsRead I.seen (λ e y. Stands (folding (P.IsOutput (P.state prefix.old)) (F.IsOutput (F.state operand.old))
+    ensures shown { ShowsRead I.model (λ e y. StandsFor (folding (P.IsOutput (P.state prefix.old)) (F.IsOutput (F.state operand.old))
         (Q.IsOutput (Q.state postfix.old)) (C.IsOutput (C.state binary.old)) (G.post fold.now)) (groups_left levels.now) e.0 e.1 y)
-        (read_meaning I.seen F.Error.errors (operator_meaning F.Error.errors (HasLevel (C.IsOutput (C.state binary.old)) (λ o. o.0))
-        (length levels.now) (C.meaning (C.state binary.old))) (term_meaning I.seen (P.meaning (P.state prefix.old))
+        (read_meaning I.model F.Error.errors (operator_meaning F.Error.errors (HasLevel (C.IsOutput (C.state binary.old)) (λ o. o.0))
+        (length levels.now) (C.meaning (C.state binary.old))) (term_meaning I.model (P.meaning (P.state prefix.old))
         (F.meaning (F.state operand.old)) (Q.meaning (Q.state postfix.old)))) OM.Output.BUILDS OM.Error.BUILDS OM.Incomplete.STREAMING input result }
     ensures prefix_kept { P.state prefix.new ≡ P.state prefix.old }
     ensures operand_kept { F.state operand.new ≡ F.state operand.old }

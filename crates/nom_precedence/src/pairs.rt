@@ -30,13 +30,13 @@ fn operator<OM: OutputMode, I: Input, B: Drop, C: Parser<I, Output = (usize, B)>
     input: I,
 ) -> PResult<I, (usize, B), C::Error>
     requires { (C.meaning (C.state binary.old)).IsSound }
-    ensures shown { ShowsAnswer I.seen (IsOwn (C.IsOutput (C.state binary.old))) (modes true OM.Error.BUILDS OM.Incomplete.STREAMING) input
+    ensures shown { ShowsAnswer I.model (IsOwn (C.IsOutput (C.state binary.old))) (modes true OM.Error.BUILDS OM.Incomplete.STREAMING) input
         ((operator_meaning C.Error.errors (HasLevel (C.IsOutput (C.state binary.old)) (λ o. o.0)) (length levels.now)
         (C.meaning (C.state binary.old))).answers OM.Incomplete.STREAMING input)
         ((operator_meaning C.Error.errors (HasLevel (C.IsOutput (C.state binary.old)) (λ o. o.0)) (length levels.now)
         (C.meaning (C.state binary.old))).blames OM.Incomplete.STREAMING input)
         ((operator_meaning C.Error.errors (HasLevel (C.IsOutput (C.state binary.old)) (λ o. o.0)) (length levels.now)
-        (C.meaning (C.state binary.old))).runs_out (modes OM.Output.BUILDS OM.Error.BUILDS OM.Incomplete.STREAMING) input) result }
+        (C.meaning (C.state binary.old))).may_run_out (modes OM.Output.BUILDS OM.Error.BUILDS OM.Incomplete.STREAMING) input) result }
     ensures kept { C.state binary.new ≡ C.state binary.old }
 {
     let (rest, read) = binary.process::<OutputM<Emit, OM::Error, OM::Incomplete>>(input)?;
@@ -85,11 +85,11 @@ fn pair<
     requires postfix { (Q.meaning (Q.state postfix.old)).IsSound }
     requires binary { (C.meaning (C.state binary.old)).IsSound }
     requires fold { (x : Operation P.Output Q.Output B F.Output) → G.pre fold.now x }
-    ensures shown { ShowsRead I.seen (IsPairOf (C.IsOutput (C.state binary.old))
+    ensures shown { ShowsRead I.model (IsPairOf (C.IsOutput (C.state binary.old))
         (IsTerm (P.IsOutput (P.state prefix.old)) (λ p x y. G.post fold.now (Prefix p x) y) (F.IsOutput (F.state operand.old))
         (Q.IsOutput (Q.state postfix.old)) (λ x c y. G.post fold.now (Postfix x c) y)))
-        (pair_meaning I.seen (operator_meaning F.Error.errors (HasLevel (C.IsOutput (C.state binary.old)) (λ o. o.0)) (length levels.now)
-        (C.meaning (C.state binary.old))) (term_meaning I.seen (P.meaning (P.state prefix.old)) (F.meaning (F.state operand.old))
+        (pair_meaning I.model (operator_meaning F.Error.errors (HasLevel (C.IsOutput (C.state binary.old)) (λ o. o.0)) (length levels.now)
+        (C.meaning (C.state binary.old))) (term_meaning I.model (P.meaning (P.state prefix.old)) (F.meaning (F.state operand.old))
         (Q.meaning (Q.state postfix.old)))) OM.Output.BUILDS OM.Error.BUILDS OM.Incomplete.STREAMING input result }
     ensures prefix_kept { P.state prefix.new ≡ P.state prefix.old }
     ensures operand_kept { F.state operand.new ≡ F.state operand.old }
@@ -197,19 +197,19 @@ pub fn pairs<
     requires binary { (C.meaning (C.state binary.old)).IsSound }
     requires fold { (x : Operation P.Output Q.Output B F.Output) → G.pre fold.now x }
     requires before { Built OM.Output.BUILDS (λ _. Unit {0}) before }
-    ensures shown { ShowsRead I.seen (IsMade (groups_left levels.now) (λ c. c.0) (λ x c y z. G.post fold.now (Binary x c.1 y) z)
+    ensures shown { ShowsRead I.model (IsMade (groups_left levels.now) (λ c. c.0) (λ x c y z. G.post fold.now (Binary x c.1 y) z)
         (IsPairOf (C.IsOutput (C.state binary.old)) (IsTerm (P.IsOutput (P.state prefix.old)) (λ p x y. G.post fold.now (Prefix p x) y)
         (F.IsOutput (F.state operand.old)) (Q.IsOutput (Q.state postfix.old)) (λ x c y. G.post fold.now (Postfix x c) y))) before)
-        (chain_meaning I.seen (Unit {0}) (pair_meaning I.seen (operator_meaning F.Error.errors
+        (chain_meaning I.model (Unit {0}) (pair_meaning I.model (operator_meaning F.Error.errors
         (HasLevel (C.IsOutput (C.state binary.old)) (λ o. o.0)) (length levels.now) (C.meaning (C.state binary.old)))
-        (term_meaning I.seen (P.meaning (P.state prefix.old)) (F.meaning (F.state operand.old)) (Q.meaning (Q.state postfix.old)))))
+        (term_meaning I.model (P.meaning (P.state prefix.old)) (F.meaning (F.state operand.old)) (Q.meaning (Q.state postfix.old)))))
         OM.Output.BUILDS OM.Error.BUILDS OM.Incomplete.STREAMING input result }
     ensures prefix_kept { P.state prefix.new ≡ P.state prefix.old }
     ensures operand_kept { F.state operand.new ≡ F.state operand.old }
     ensures postfix_kept { Q.state postfix.new ≡ Q.state postfix.old }
     ensures binary_kept { C.state binary.new ≡ C.state binary.old }
 {
-    input.known();
+    input.prove_known();
     let mut rest = input;
     // The list stands apart from what is held, so that this stays in registers.
     let mut outer: Vec<(F::Output, (usize, B)), A> = Vec::new(alloc);

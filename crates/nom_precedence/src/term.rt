@@ -2,7 +2,7 @@
 ghost use Rattle.std.specs.Prelude.{◌≡◌, IsSome, None, true, MatchOption};
 ghost use Rattle.nom_error.specs.Modes.{BuiltFrom};
 ghost use Rattle.nom_precedence.specs.Expressions.{tail_meaning, term_meaning};
-ghost use Rattle.nom_precedence.specs.Steps.{AppliedGains, Before};
+ghost use Rattle.nom_precedence.specs.Steps.{AppliedPushes, Before};
 ghost use Rattle.nom_precedence.specs.Told.{ShowsRead, IsHeld, IsTail, IsTerm};
 ghost use Rattle.nom_operators.specs.declared.operation.Operation.{Operation};
 ghost use Rattle.nom_operators.specs.declared.operation.Operation.TheVariants.{Postfix, Prefix};
@@ -12,7 +12,7 @@ use nom_error::answer::PResult;
 use nom_error::mode::OutputMode;
 use nom_internal::parser::Parser;
 use nom_operators::operation::Operation;
-use nom_repeat::keep::Keep;
+use nom_repeat::accumulator::Accumulator;
 use nom_traits::input::{Input, Items};
 use std::alloc::Allocator;
 use std::marker::PhantomData;
@@ -25,11 +25,11 @@ pub struct Applied<'a, P, B, O, G> {
     pub of: PhantomData<(P, B)>,
 }
 
-impl<'a, P: Drop, Q: Drop, B: Drop, O: Drop, G: Fn(Operation<P, Q, B, O>) -> O> Keep<Q>
+impl<'a, P: Drop, Q: Drop, B: Drop, O: Drop, G: Fn(Operation<P, Q, B, O>) -> O> Accumulator<Q>
     for Applied<'a, P, B, O, G> {
-    ghost Gains = { λ old x new. AppliedGains (λ k. k.value) (λ k. k.fold.now) (λ f r c y. G.post f (Postfix r c) y) old x new };
+    ghost Pushes = { λ old x new. AppliedPushes (λ k. k.value) (λ k. k.fold.now) (λ f r c y. G.post f (Postfix r c) y) old x new };
 
-    ghost CanKeep = { λ k. IsSome k.value × ((x : Operation P Q B O) → G.pre k.fold.now x) };
+    ghost CanPush = { λ k. IsSome k.value × ((x : Operation P Q B O) → G.pre k.fold.now x) };
 
     ghost IsFull = { λ _. ⊥ };
 
@@ -125,8 +125,8 @@ fn tail<
     requires operand { (F.meaning (F.state operand.old)).IsSound }
     requires postfix { (Q.meaning (Q.state postfix.old)).IsSound }
     requires fold { (x : Operation P Q.Output B F.Output) → G.pre fold.now x }
-    ensures shown { ShowsRead I.seen (IsTail (F.IsOutput (F.state operand.old)) (Q.IsOutput (Q.state postfix.old))
-        (λ x c y. G.post fold.now (Postfix x c) y)) (tail_meaning I.seen (F.meaning (F.state operand.old)) (Q.meaning (Q.state postfix.old)))
+    ensures shown { ShowsRead I.model (IsTail (F.IsOutput (F.state operand.old)) (Q.IsOutput (Q.state postfix.old))
+        (λ x c y. G.post fold.now (Postfix x c) y)) (tail_meaning I.model (F.meaning (F.state operand.old)) (Q.meaning (Q.state postfix.old)))
         OM.Output.BUILDS OM.Error.BUILDS OM.Incomplete.STREAMING input result }
     ensures operand_kept { F.state operand.new ≡ F.state operand.old }
     ensures postfix_kept { Q.state postfix.new ≡ Q.state postfix.old }
@@ -164,9 +164,9 @@ pub fn term<
     requires operand { (F.meaning (F.state operand.old)).IsSound }
     requires postfix { (Q.meaning (Q.state postfix.old)).IsSound }
     requires fold { (x : Operation P.Output Q.Output B F.Output) → G.pre fold.now x }
-    ensures shown { ShowsRead I.seen (IsTerm (P.IsOutput (P.state prefix.old)) (λ p x y. G.post fold.now (Prefix p x) y)
+    ensures shown { ShowsRead I.model (IsTerm (P.IsOutput (P.state prefix.old)) (λ p x y. G.post fold.now (Prefix p x) y)
         (F.IsOutput (F.state operand.old)) (Q.IsOutput (Q.state postfix.old)) (λ x c y. G.post fold.now (Postfix x c) y))
-        (term_meaning I.seen (P.meaning (P.state prefix.old)) (F.meaning (F.state operand.old)) (Q.meaning (Q.state postfix.old))) OM.Output.BUILDS
+        (term_meaning I.model (P.meaning (P.state prefix.old)) (F.meaning (F.state operand.old)) (Q.meaning (Q.state postfix.old))) OM.Output.BUILDS
         OM.Error.BUILDS OM.Incomplete.STREAMING input result }
     ensures prefix_kept { P.state prefix.new ≡ P.state prefix.old }
     ensures operand_kept { F.state operand.new ≡ F.state operand.old }

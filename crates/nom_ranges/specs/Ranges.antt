@@ -51,9 +51,9 @@ abbrev pub IsAtMost : ℕ → Option ℕ → Type 0
 IsAtMost c (Some m) = c ≤ m
 IsAtMost c None = Unit {0}
 
-abbrev pub IsBelow : ℕ → Option ℕ → Type 0
-IsBelow c (Some m) = c < m
-IsBelow c None = Unit {0}
+abbrev pub IsBelowMost : ℕ → Option ℕ → Type 0
+IsBelowMost c (Some m) = c < m
+IsBelowMost c None = Unit {0}
 
 -- what an iterator that counts from 0 answers after n items: up to the bound, or on at the last `usize` where there is none
 abbrev pub Counts : Option ℕ → ℕ → Option ℕ → Type 0
@@ -61,5 +61,5 @@ Counts (Some m) n r = MatchOption r (m ≤ n) (λ k. (n < m) × (k ≡ n))
 Counts None n r = r ≡ Some (min n (2 ^ 64 - 1))
 
 -- an iterator in state s counts, where `size` is what number an item is
-abbrev pub IsCount : {S A : Type 0} → (S → Option A → S → Type 0) → (A → ℕ) → Option ℕ → S → Type 0
-IsCount {S} {A} steps size m s = (xs : List A) (r : Option A) (t : S) → YieldsThen steps s xs r t → Counts m (length xs) (option_map size r)
+abbrev pub CountsTo : {S A : Type 0} → (S → Option A → S → Type 0) → (A → ℕ) → Option ℕ → S → Type 0
+CountsTo {S} {A} steps size m s = (xs : List A) (r : Option A) (t : S) → YieldsThen steps s xs r t → Counts m (length xs) (option_map size r)

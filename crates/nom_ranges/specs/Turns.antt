@@ -2,11 +2,11 @@
 use Rattle.std.specs.Prelude.{◌≡◌, ℕ, ◌<◌, ◌≤◌, List, length, Option, Some, None}
 use Rattle.std.specs.Iterator.{Yields}
 use Rattle.std.proofs.Common.{subst, sym}
-use Rattle.nom_ranges.specs.Ranges.{IsCount}
+use Rattle.nom_ranges.specs.Ranges.{CountsTo}
 
-module _ {S : Type 0} (steps : S → Option ℕ → S → Type 0) (m : ℕ) {made s : S} (counts : IsCount steps (λ k. k) (Some m) made) (same : s ≡ made) where
-  count_turns : IsCount steps (λ k. k) (Some m) s
-  count_turns = let P : S → Type 0 = IsCount steps (λ k. k) (Some m) in subst P (sym same) counts
+module _ {S : Type 0} (steps : S → Option ℕ → S → Type 0) (m : ℕ) {made s : S} (counts : CountsTo steps (λ k. k) (Some m) made) (same : s ≡ made) where
+  count_turns : CountsTo steps (λ k. k) (Some m) s
+  count_turns = let P : S → Type 0 = CountsTo steps (λ k. k) (Some m) in subst P (sym same) counts
 
   -- an item is the number of the items before it, and is below m
   pub count_comes : {i t : S} {k : ℕ} (xs : List ℕ) → Yields steps s xs i → steps i (Some k) t → (length xs < m) × (k ≡ length xs)

@@ -5,7 +5,7 @@ ghost use Rattle.std.specs.Range.{range_inclusive_start, range_inclusive_end, ra
 ghost use Rattle.std.specs.Range.Bound.{bound_map};
 ghost use Rattle.std.specs.declared.ops.Bound.{Bound};
 ghost use Rattle.std.specs.declared.ops.Bound.TheVariants.{Included, Excluded, Unbounded};
-ghost use Rattle.nom_ranges.specs.Ranges.{IsWithin, IsInverted, IsCount, fewest, most_items, limit};
+ghost use Rattle.nom_ranges.specs.Ranges.{IsWithin, IsInverted, CountsTo, fewest, most_items, limit};
 
 use crate::saturating::SaturatingIterator;
 use nom_traits::convert::ToUsize;
@@ -45,13 +45,13 @@ pub trait NomRange<Idx: ToUsize> {
     /// Counts from 0 up to, not including, the most items. Without a bound it stays at `usize::MAX`.
     fn saturating_iter(&self) -> Self::Saturating
         ensures ready { Self.Saturating.can_next result }
-        ensures counts { IsCount Self.Saturating.next_gives Idx.size (most_items (upper self.now)) result };
+        ensures counts { CountsTo Self.Saturating.next_gives Idx.size (most_items (upper self.now)) result };
 
     /// Counts from 0 up to, not including, the most items, `usize::MAX` without a bound.
     fn bounded_iter(&self) -> Self::Bounded
         ensures ready { Self.Bounded.can_next result }
         ensures ends { IsFinite (Self.Bounded.remaining result) }
-        ensures counts { IsCount Self.Bounded.next_gives Idx.size (Some (limit (most_items (upper self.now)))) result };
+        ensures counts { CountsTo Self.Bounded.next_gives Idx.size (Some (limit (most_items (upper self.now)))) result };
 }
 
 impl NomRange<usize> for Range<usize> {
@@ -308,7 +308,7 @@ impl NomRange<usize> for usize {
 /// The counts from 0 up to, not including, `most`.
 #[inline(always)]
 fn up_to(most: usize) -> Range<usize>
-    ensures { IsCount ⟦<Range<usize> as Iterator>⟧.next_gives (λ n. n) (Some most) result }
+    ensures { CountsTo ⟦<Range<usize> as Iterator>⟧.next_gives (λ n. n) (Some most) result }
 {
     0..most
 }
@@ -316,7 +316,7 @@ fn up_to(most: usize) -> Range<usize>
 /// The counts from 0 on.
 #[inline(always)]
 fn endless() -> SaturatingIterator
-    ensures { IsCount ⟦<SaturatingIterator as Iterator>⟧.next_gives (λ n. n) None result }
+    ensures { CountsTo ⟦<SaturatingIterator as Iterator>⟧.next_gives (λ n. n) None result }
 {
     SaturatingIterator { count: 0 }
 }
@@ -324,7 +324,7 @@ fn endless() -> SaturatingIterator
 /// The counts from 0 up to, not including, the last before `end`.
 #[inline(always)]
 fn before(end: usize) -> Range<usize>
-    ensures { IsCount ⟦<Range<usize> as Iterator>⟧.next_gives (λ n. n) (Some (end - 1)) result }
+    ensures { CountsTo ⟦<Range<usize> as Iterator>⟧.next_gives (λ n. n) (Some (end - 1)) result }
 {
     up_to(end.saturating_sub(1))
 }
@@ -332,14 +332,14 @@ fn before(end: usize) -> Range<usize>
 /// The counts from 0 up to, not including, the last of the range.
 #[inline(always)]
 fn through(range: &RangeInclusive<usize>) -> Range<usize>
-    ensures { IsCount ⟦<Range<usize> as Iterator>⟧.next_gives (λ n. n) (Some (range_inclusive_end range.now)) result }
+    ensures { CountsTo ⟦<Range<usize> as Iterator>⟧.next_gives (λ n. n) (Some (range_inclusive_end range.now)) result }
 {
     up_to(*range.end())
 }
 
 /// The number as it is. A number behind a reference isn't known to fit.
 #[inline(always)]
-fn known(n: usize) -> usize
+fn prove_known(n: usize) -> usize
     ensures same { result ≡ n }
     ensures fits { n < 2 ^ 64 }
 {

@@ -4,8 +4,8 @@ use Rattle.nom_error.specs.declared.value.Error.{Error}
 use Rattle.nom_error.specs.declared.answer.Needed.{Needed}
 use Rattle.nom_error.specs.declared.answer.Err as Answer
 use Rattle.nom_error.specs.Modes.{with_outputs}
-use Rattle.nom_traits.specs.Bytes.{seen_bytes, bytes_lawful}
-use Rattle.nom_traits.specs.Slices.{IsSeenAs}
+use Rattle.nom_traits.specs.Bytes.{bytes_model, bytes_lawful}
+use Rattle.nom_traits.specs.Slices.{IsModelledBy}
 use Rattle.nom_internal.specs.Outcome.{failure}
 use Rattle.nom_internal.specs.Meaning.{IsLawful}
 use Rattle.nom_internal.specs.SequenceLaws.{sequence_lawful}
@@ -15,8 +15,8 @@ use Rattle.nom_traits.specs.CompareTags.{bytes_comparing}
 use Rattle.nom_bytes.specs.Takes.{take_meaning}
 use Rattle.nom_bytes.specs.TakeLaws.{take_lawful}
 use Rattle.nom_bytes.specs.TagLaws.{tag_lawful}
-use Rattle.nom_lengths.specs.Lengths.{HasSize, length_data_meaning}
-use Rattle.nom_lengths.specs.LengthLaws.{length_data_lawful}
+use Rattle.nom_multi_length.specs.Lengths.{HasSize, length_data_meaning}
+use Rattle.nom_multi_length.specs.LengthLaws.{length_data_lawful}
 use Rattle.nom_multi.specs.Many.{many0_meaning}
 use Rattle.nom_multi.specs.ManyLaws.{many0_lawful}
 use Rattle.nom_traits.specs.Digits.{value_of}
@@ -35,38 +35,38 @@ abbrev AnswerErr : Type 0
 AnswerErr = Answer.Err (Error Bytes) (Error Bytes) Needed
 
 -- the grammar never fails
-grammar_lawful : (tag end : List ℕ) → IsLawful seen_bytes (grammar_of tag end)
+grammar_lawful : (tag end : List ℕ) → IsLawful bytes_model (grammar_of tag end)
 grammar_lawful tag end =
-    let number = labelled_lawful seen_bytes (take_meaning seen_bytes errors_at (bytes_lack seen_bytes) 1) (λ t. value_of 256 t.items)
-    (take_lawful seen_bytes errors_at (bytes_lack seen_bytes) 1) in
-    let length_data = length_data_lawful seen_bytes bytes_lawful errors_at bytes_lacking (HasSize (λ t v. v ≡ t) (λ n. n))
-    (number_meaning seen_bytes errors_at (value_of 256) 1) (λ u m n a b. sym a.size_is ∙ (a.is_output ∙ (sym b.is_output ∙ b.size_is))) number in
-    let item = sequence_lawful seen_bytes bytes_lawful (λ u v. v) (with_outputs false) (λ o. o) (tag_of tag)
-    (length_data_meaning seen_bytes errors_at bytes_lacking (HasSize (λ t v. v ≡ t) (λ n. n))
-    (number_meaning seen_bytes errors_at (value_of 256) 1))
-    (tag_lawful seen_bytes bytes_lawful errors_at length ComparesBytes bytes_comparing tag) length_data in
-    sequence_lawful seen_bytes bytes_lawful (λ u v. u) (λ o. o) (with_outputs false) (many0_meaning seen_bytes errors_at (record_of tag))
-    (tag_of end) (many0_lawful seen_bytes bytes_lawful errors_at (record_of tag) item)
-    (tag_lawful seen_bytes bytes_lawful errors_at length ComparesBytes bytes_comparing end)
+    let number = labelled_lawful bytes_model (take_meaning bytes_model errors_at (bytes_lack bytes_model) 1) (λ t. value_of 256 t.items)
+    (take_lawful bytes_model errors_at (bytes_lack bytes_model) 1) in
+    let length_data = length_data_lawful bytes_model bytes_lawful errors_at bytes_lacking (HasSize (λ t v. v ≡ t) (λ n. n))
+    (number_meaning bytes_model errors_at (value_of 256) 1) (λ u m n a b. sym a.size_is ∙ (a.is_output ∙ (sym b.is_output ∙ b.size_is))) number in
+    let item = sequence_lawful bytes_model bytes_lawful (λ u v. v) (with_outputs false) (λ o. o) (tag_of tag)
+    (length_data_meaning bytes_model errors_at bytes_lacking (HasSize (λ t v. v ≡ t) (λ n. n))
+    (number_meaning bytes_model errors_at (value_of 256) 1))
+    (tag_lawful bytes_model bytes_lawful errors_at length ComparesBytes bytes_comparing tag) length_data in
+    sequence_lawful bytes_model bytes_lawful (λ u v. u) (λ o. o) (with_outputs false) (many0_meaning bytes_model errors_at (record_of tag))
+    (tag_of end) (many0_lawful bytes_model bytes_lawful errors_at (record_of tag) item)
+    (tag_lawful bytes_model bytes_lawful errors_at length ComparesBytes bytes_comparing end)
 
-grammar_never_fails : (large : Bool) (i : Bytes) → seen_bytes.IsKnown i → record_grammar.answers true i (failure large) → ⊥
+grammar_never_fails : (large : Bool) (i : Bytes) → bytes_model.IsKnown i → record_grammar.answers true i (failure large) → ⊥
 grammar_never_fails large i h = (grammar_lawful (codes "R") (codes ".")).never_fails large ((tt, (tt, tt)), tt) true i h
 
 -- the grammar of two tags is that of the report, where these are its own
 pub by_its_tags : {A : Type 0} (tag end : List ℕ) → tag ≡ codes "R" → end ≡ codes "." →
     (whole : Bytes) (cuts : List ℕ) (index : ℕ) (answer : Result (Bytes × Vec Bytes A) AnswerErr) →
-    IsGrown seen_bytes AreRecords (grammar_of tag end) whole cuts index answer → IsGrown seen_bytes AreRecords record_grammar whole cuts index answer
+    IsGrown bytes_model AreRecords (grammar_of tag end) whole cuts index answer → IsGrown bytes_model AreRecords record_grammar whole cuts index answer
 by_its_tags tag end e f whole cuts index answer g =
-    let tagged = subst (λ x. IsGrown seen_bytes AreRecords (grammar_of x end) whole cuts index answer) e g in
-    subst (λ x. IsGrown seen_bytes AreRecords (grammar_of (codes "R") x) whole cuts index answer) f tagged
+    let tagged = subst (λ x. IsGrown bytes_model AreRecords (grammar_of x end) whole cuts index answer) e g in
+    subst (λ x. IsGrown bytes_model AreRecords (grammar_of (codes "R") x) whole cuts index answer) f tagged
 
 pub reported_records : {A : Type 0} (whole : Bytes) (cuts : List ℕ) (index start : ℕ) →
-    (index < length cuts → start ≡ slice_index cuts index) → (length cuts ≤ index → start ≡ length whole.now) → seen_bytes.IsKnown whole →
+    (index < length cuts → start ≡ slice_index cuts index) → (length cuts ≤ index → start ≡ length whole.now) → bytes_model.IsKnown whole →
     (answer : Result (Bytes × Vec Bytes A) AnswerErr) (text : List ℕ) (status : ℕ) →
-    IsGrown seen_bytes AreRecords record_grammar whole cuts index answer → IsTold lines_of index start answer text status →
+    IsGrown bytes_model AreRecords record_grammar whole cuts index answer → IsTold lines_of index start answer text status →
     IsReport whole.now cuts text status
 unfolding IsReport
 reported_records whole cuts index start at_cut at_end known answer text status g t =
     reported record_grammar records_text AreRecords lines_of
-    (λ ts v h. lines-same (λ t o. IsSeenAs seen_bytes t.1 o) (λ t. record_text t.1.items) (λ r. record_text r.now)
+    (λ ts v h. lines-same (λ t o. IsModelledBy bytes_model t.1 o) (λ t. record_text t.1.items) (λ r. record_text r.now)
     (λ t o e. ap record_text e.elements_are) ts v.items h) whole cuts index start at_cut at_end known grammar_never_fails answer text status g t

@@ -6,14 +6,14 @@ use Rattle.nom_error.specs.declared.kind.ErrorKind.{ErrorKind}
 use Rattle.nom_error.specs.declared.kind.ErrorKind.TheVariants.{Char}
 use Rattle.nom_error.specs.Errors.{Errors}
 use Rattle.nom_error.specs.declared.value.Error.{Error}
-use Rattle.nom_traits.specs.Bytes.{seen_bytes}
+use Rattle.nom_traits.specs.Bytes.{bytes_model}
 use Rattle.nom_traits.specs.Compares.{ComparesBytes}
-use Rattle.nom_traits.specs.Slices.{Slice, IsSeenAs}
+use Rattle.nom_traits.specs.Slices.{Slice, IsModelledBy}
 use Rattle.nom_internal.specs.Meaning.{Meaning}
 use Rattle.nom_bytes.specs.Tags.{tag_meaning}
 use Rattle.nom_sequence.specs.Sequences.{preceded_meaning, terminated_meaning}
 use Rattle.nom_multi.specs.Many.{many0_meaning}
-use Rattle.nom_lengths.specs.Lengths.{HasSize, length_data_meaning}
+use Rattle.nom_multi_length.specs.Lengths.{HasSize, length_data_meaning}
 use Rattle.nom_traits.specs.Digits.{value_of}
 use Rattle.nom_number.specs.Numbers.{number_meaning}
 use Rattle.nom_run.specs.Report.{IsReportBy}
@@ -45,29 +45,29 @@ errors_at = record {
   grows = ⊥;
 }
 
-abbrev pub tag_of : List ℕ → Meaning (Bor (List ℕ)) (Slice seen_bytes) (Error (Bor (List ℕ)))
-tag_of = tag_meaning seen_bytes errors_at length ComparesBytes
+abbrev pub tag_of : List ℕ → Meaning (Bor (List ℕ)) (Slice bytes_model) (Error (Bor (List ℕ)))
+tag_of = tag_meaning bytes_model errors_at length ComparesBytes
 
 -- a record: a tag, a byte that says how many bytes follow, and these
-abbrev pub record_of : List ℕ → Meaning (Bor (List ℕ)) (ℕ × Slice seen_bytes) (Error (Bor (List ℕ)))
-record_of tag = preceded_meaning seen_bytes (tag_of tag)
-    (length_data_meaning seen_bytes errors_at bytes_lacking (HasSize (λ t v. v ≡ t) (λ n. n)) (number_meaning seen_bytes errors_at (value_of 256) 1))
+abbrev pub record_of : List ℕ → Meaning (Bor (List ℕ)) (ℕ × Slice bytes_model) (Error (Bor (List ℕ)))
+record_of tag = preceded_meaning bytes_model (tag_of tag)
+    (length_data_meaning bytes_model errors_at bytes_lacking (HasSize (λ t v. v ≡ t) (λ n. n)) (number_meaning bytes_model errors_at (value_of 256) 1))
 
 -- records, and then another tag
-abbrev pub grammar_of : (tag end : List ℕ) → Meaning (Bor (List ℕ)) (List (ℕ × Slice seen_bytes)) (Error (Bor (List ℕ)))
-grammar_of tag end = terminated_meaning seen_bytes (many0_meaning seen_bytes errors_at (record_of tag)) (tag_of end)
+abbrev pub grammar_of : (tag end : List ℕ) → Meaning (Bor (List ℕ)) (List (ℕ × Slice bytes_model)) (Error (Bor (List ℕ)))
+grammar_of tag end = terminated_meaning bytes_model (many0_meaning bytes_model errors_at (record_of tag)) (tag_of end)
 
 -- the grammar: records that begin with `R`, and then `.`
-abbrev pub record_grammar : Meaning (Bor (List ℕ)) (List (ℕ × Slice seen_bytes)) (Error (Bor (List ℕ)))
+abbrev pub record_grammar : Meaning (Bor (List ℕ)) (List (ℕ × Slice bytes_model)) (Error (Bor (List ℕ)))
 record_grammar = grammar_of (codes "R") (codes ".")
 
 -- the lines of its records
-abbrev pub records_text : List (ℕ × Slice seen_bytes) → List ℕ
+abbrev pub records_text : List (ℕ × Slice bytes_model) → List ℕ
 records_text ts = lines_text (λ t. record_text t.1.items) ts
 
 -- the outputs of a tree: the slices of its records
-abbrev pub AreRecords : {A : Type 0} → List (ℕ × Slice seen_bytes) → Vec (Bor (List ℕ)) A → Type 0
-AreRecords ts v = AllZip (λ t o. IsSeenAs seen_bytes t.1 o) ts v.items
+abbrev pub AreRecords : {A : Type 0} → List (ℕ × Slice bytes_model) → Vec (Bor (List ℕ)) A → Type 0
+AreRecords ts v = AllZip (λ t o. IsModelledBy bytes_model t.1 o) ts v.items
 
 -- `text` and `status` are the report on `bytes`, given in the parts that `cuts` make of them
 unfoldable pub IsReport : (bytes cuts text : List ℕ) → (status : ℕ) → Type 0

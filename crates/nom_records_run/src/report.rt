@@ -1,6 +1,6 @@
 //! The report on a file of records.
 ghost use Rattle.std.specs.Prelude.{◌≡◌, ◌++◌, IfOk, length, string_bytes};
-ghost use Rattle.nom_traits.specs.Bytes.{seen_bytes};
+ghost use Rattle.nom_traits.specs.Bytes.{bytes_model};
 ghost use Rattle.nom_growing.specs.Growing.{IsGrown};
 ghost use Rattle.nom_records_run.specs.Report.{AreRecords, IsReport, lines_of, record_grammar, record_text};
 ghost use Rattle.nom_run.specs.Report.{IsTold};
@@ -11,8 +11,8 @@ use nom_bytes::tag;
 use nom_error::answer::{Err, IResult, OutOfMemory};
 use nom_error::value::Error;
 use nom_growing::growing::{Grown, parse_growing};
-use nom_lengths::length_data;
 use nom_multi::many0;
+use nom_multi_length::length_data;
 use nom_number::be_u8;
 use nom_run::report::{Report, beginning_len, tell_stop};
 use nom_run::text::{add_bytes, add_decided, add_rest};
@@ -74,7 +74,7 @@ fn grown_records<'a, A: Allocator + Copy>(
     cuts: &[usize],
 ) -> Grown<&'a [u8], Vec<&'a [u8], A>, Error<&'a [u8]>>
     requires { NoneAbove cuts.now (length bytes.now) }
-    ensures { IsGrown seen_bytes AreRecords record_grammar bytes.entry cuts.now result.index result.result }
+    ensures { IsGrown bytes_model AreRecords record_grammar bytes.entry cuts.now result.index result.result }
 {
     let record = preceded(
         tag::<_, _, Error<&[u8]>>(&b"R"[..]),
@@ -96,7 +96,7 @@ impl Report for Records {
         bytes: &[u8],
         cuts: &[usize],
     ) -> Result<(String<A>, u8), OutOfMemory> {
-        bytes.known();
+        bytes.prove_known();
         let grown = grown_records(alloc, bytes, cuts);
         let beginning = beginning_len(bytes.len(), cuts, grown.index);
         tell(alloc, grown.index, beginning, grown.result)

@@ -5,7 +5,7 @@ use Rattle.std.proofs.Common.{◌≡◌, Bool, true, false, ℕ, ◌+◌, ◌<�
 use Rattle.std.proofs.Common.{sym, inl, inr}
 use Rattle.nom_error.specs.Errors.{Errors}
 use Rattle.nom_error.specs.declared.kind.ErrorKind.{ErrorKind}
-use Rattle.nom_traits.specs.Input.{Seen}
+use Rattle.nom_traits.specs.Input.{Model}
 use Rattle.nom_internal.specs.Outcome.{Outcome}
 use Rattle.nom_internal.specs.Outcome.Outcome.{Accept, Refuse, Fail, TooLarge, Undecided}
 use Rattle.nom_internal.specs.Meaning.{Meaning}
@@ -66,7 +66,7 @@ module _ {I V : Type 0} (b : Limits) (Item : I → Outcome V → Type 0) where
   ends_turn k i (inl z) = record { reply = Some Refuse; replied = (z.0, z.1); fact = ap (λ few. refused_turn few) (sym (le-ltb k b.least z.2)) }
   ends_turn k i (inr z) = record { reply = None; replied = z; fact = refl }
 
-module _ {I A V : Type 0} (w : Seen I A) (b : Limits) (Item : I → Outcome V → Type 0) where
+module _ {I A V : Type 0} (w : Model I A) (b : Limits) (Item : I → Outcome V → Type 0) where
   in_turn : (d : ℕ) (t : Unit {0}) (k : ℕ) (i : I) (vs : List V) (n : ℕ) →
       Pieces w (TurnsBy b.most (item_turn b) (λ _. Item)) (λ h j. TurnsBy b.most (item_turn b) (λ _. Item) h j (Ends (Accept d t))) k i vs n → (d ≡ 0) ×
       Pieces w (TakesItem Item (MayTake b.empty) b.most) (EndsItems Item b.least b.most) k i vs n
@@ -82,7 +82,7 @@ module _ {I A V : Type 0} (w : Seen I A) (b : Limits) (Item : I → Outcome V �
   by_turns k i [] n p = (p.0, ends_turn b Item k i p.1)
   by_turns k i (v ∷ vs) n p = (p.0, p.1, p.2, takes_turn b Item k i p.0 v p.3, p.4, by_turns (k + 1) p.2 vs p.1 p.5, p.6)
 
-module _ {I A V E : Type 0} (w : Seen I A) (errs : Errors I E) (b : Limits) (Grows : Type 0) (m : Meaning I V E) (s : Bool) (i : I) (n : ℕ) (vs : List V) where
+module _ {I A V E : Type 0} (w : Model I A) (errs : Errors I E) (b : Limits) (Grows : Type 0) (m : Meaning I V E) (s : Bool) (i : I) (n : ℕ) (vs : List V) where
   pub accepted_in_turn : (items_meaning w errs b Grows m).answers s i (Accept n vs) → InTurn w (m.answers s) (MayTake b.empty) b.least b.most i n vs
   accepted_in_turn a =
       let e = ending_accepts n a.taken a.trees vs a.ending a.outcome_is in
@@ -105,6 +105,6 @@ module _ {I A V E : Type 0} (w : Seen I A) (errs : Errors I E) (b : Limits) (Gro
   }
 
 -- what items within limits accept are the items that the part accepts in turn
-pub items_accept : {I A V E : Type 0} (w : Seen I A) (errs : Errors I E) (b : Limits) (Grows : Type 0) (m : Meaning I V E) →
+pub items_accept : {I A V E : Type 0} (w : Model I A) (errs : Errors I E) (b : Limits) (Grows : Type 0) (m : Meaning I V E) →
     AcceptsItems w (Unit {0}) (MayTake b.empty) b.least b.most m (items_meaning w errs b Grows m)
 items_accept w errs b Grows m s i n vs = ((λ a. (tt, accepted_in_turn w errs b Grows m s i n vs a)), (λ h. in_turn_accepted w errs b Grows m s i n vs h.1))

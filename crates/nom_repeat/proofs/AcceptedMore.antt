@@ -2,7 +2,7 @@
 use Rattle.std.proofs.Common.{◌≡◌, ◌∙◌, Bool, ℕ, ◌+◌, ◌<◌, ◌≤◌, ◌⊎◌, Some, None, List, [], ◌∷◌, ◌++◌, refl, arith, ap, subst, inl, inr}
 use Rattle.nom_error.specs.Errors.{Errors}
 use Rattle.nom_error.specs.declared.kind.ErrorKind.{ErrorKind}
-use Rattle.nom_traits.specs.Input.{Seen, IsRest}
+use Rattle.nom_traits.specs.Input.{Model, IsSuffixOf}
 use Rattle.nom_internal.specs.Outcome.{Outcome}
 use Rattle.nom_internal.specs.Outcome.Outcome.{Accept, Refuse, Fail, TooLarge, Undecided}
 use Rattle.nom_internal.specs.Meaning.{Meaning}
@@ -23,13 +23,13 @@ after_accepts a n f v TooLarge e = absurd (cc (e))
 after_accepts a n f v (Undecided k) e = absurd (cc (e))
 
 -- a sequence accepts what its first part accepts, and then what follows
-pub first_accepts : {I A P Q T : Type 0} (w : Seen I A) (tree : P → Q → T) (First : I → Outcome P → Type 0) (Next : P → I → Outcome Q → Type 0) (i : I)
-    (n : ℕ) (v : T) → Then w tree First Next i (Accept n v) → (a c : ℕ) × (u : P) × (j : I) × (x : Q) × First i (Accept a u) × IsRest w i a j ×
+pub first_accepts : {I A P Q T : Type 0} (w : Model I A) (tree : P → Q → T) (First : I → Outcome P → Type 0) (Next : P → I → Outcome Q → Type 0) (i : I)
+    (n : ℕ) (v : T) → Then w tree First Next i (Accept n v) → (a c : ℕ) × (u : P) × (j : I) × (x : Q) × First i (Accept a u) × IsSuffixOf w i a j ×
     Next u j (Accept c x) × (n ≡ a + c) × (v ≡ tree u x)
 first_accepts {I} {P = P} {Q = Q} {T = T} w tree First Next i n v t = of t.first t.answered t.goes_on
   where
     of : (o : Outcome P) → First i o → GoesOn w tree Next i o (Accept n v) → (a c : ℕ) × (u : P) × (j : I) × (x : Q) × First i (Accept a u) ×
-        IsRest w i a j × Next u j (Accept c x) × (n ≡ a + c) × (v ≡ tree u x)
+        IsSuffixOf w i a j × Next u j (Accept c x) × (n ≡ a + c) × (v ≡ tree u x)
     of (Accept a u) h g =
         let e = after_accepts a n (tree u) v g.1 g.4 in
         (a, e.0, u, g.0, e.1, h, g.2, subst (λ o. Next u g.0 o) e.2 g.3, e.3, e.4)
@@ -38,7 +38,7 @@ first_accepts {I} {P = P} {Q = Q} {T = T} w tree First Next i n v t = of t.first
     of TooLarge h g = absurd (cc (g))
     of (Undecided k) h g = absurd (cc (g))
 
-module _ {I A V : Type 0} (w : Seen I A) (Item : I → Outcome V → Type 0) where
+module _ {I A V : Type 0} (w : Model I A) (Item : I → Outcome V → Type 0) where
   -- one item
   pub only_item : (i : I) (n : ℕ) (vs : List V) → InTurn w Item (λ _. Unit {0}) 1 (Some 1) i n vs → (v : V) × (vs ≡ v ∷ []) × Item i (Accept n v)
   only_item i n [] p = absurd (none p.1)
@@ -49,10 +49,10 @@ module _ {I A V : Type 0} (w : Seen I A) (Item : I → Outcome V → Type 0) whe
   only_item i n (v ∷ []) p = (v, refl, subst (λ c. Item i (Accept c v)) (omega (arith, p.6, (p.5).0)) (p.3).1)
   only_item i n (v ∷ u ∷ vs) p = absurd (omega (arith, ((p.5).3).0))
 
-  pub is_only_item : (i j : I) (n : ℕ) (v : V) → Item i (Accept n v) → IsRest w i n j → InTurn w Item (λ _. Unit {0}) 1 (Some 1) i n (v ∷ [])
+  pub is_only_item : (i j : I) (n : ℕ) (v : V) → Item i (Accept n v) → IsSuffixOf w i n j → InTurn w Item (λ _. Unit {0}) 1 (Some 1) i n (v ∷ [])
   is_only_item i j n v h r = (n, 0, j, (omega arith, h, tt), r, (refl, inr (λ z. omega (arith, z))), omega arith)
 
-module _ {I A V E : Type 0} (w : Seen I A) (errs : Errors I E) (few : TooFew) (start : Bool) (kind : ErrorKind) (G H : Type 0) (m p : Meaning I V E) where
+module _ {I A V E : Type 0} (w : Model I A) (errs : Errors I E) (few : TooFew) (start : Bool) (kind : ErrorKind) (G H : Type 0) (m p : Meaning I V E) where
   abbrev both : Meaning I (List V) E
   both = sequence_meaning w (λ vs us. vs ++ us) (λ o. o) (λ o. o) (items_meaning w errs (one_limits few start) G m) (items_meaning w errs (any_limits kind) H p)
 

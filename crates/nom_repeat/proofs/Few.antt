@@ -3,7 +3,7 @@ use Rattle.std.specs.Prelude.{ltb}
 use Rattle.std.proofs.Common.{◌≡◌, Bool, true, false, ℕ, ◌+◌, ◌<◌, ◌≤◌, Option, Some, None, List, [], ◌∷◌, length, zero, suc, refl, arith, ap}
 use Rattle.nom_error.specs.Errors.{Errors}
 use Rattle.nom_error.specs.declared.kind.ErrorKind.{ErrorKind}
-use Rattle.nom_traits.specs.Input.{Seen, input_len}
+use Rattle.nom_traits.specs.Input.{Model, input_len}
 use Rattle.nom_internal.specs.Outcome.{Outcome}
 use Rattle.nom_internal.specs.Outcome.Outcome.{Accept, Refuse, Fail, TooLarge, Undecided}
 use Rattle.nom_internal.specs.Meaning.{Meaning}
@@ -64,7 +64,7 @@ taken_within n m t v Fail e = absurd (cc (e))
 taken_within n m t v TooLarge e = absurd (cc (e))
 taken_within n m t v (Undecided d) e = absurd (cc (e))
 
-module _ {I A V : Type 0} (w : Seen I A) (b : Limits) (kind : ErrorKind) (is : b.empty ≡ Some kind) (Item : I → Outcome V → Type 0) where
+module _ {I A V : Type 0} (w : Model I A) (b : Limits) (kind : ErrorKind) (is : b.empty ≡ Some kind) (Item : I → Outcome V → Type 0) where
   -- no more than the input is long, where each consumes
   pub pieces_few : (Fact : ℕ → I → Type 0) (k : ℕ) (i : I) (vs : List V) (n : ℕ) → Pieces w (TurnsBy b.most (item_turn b) (λ _. Item)) Fact k i vs n →
       length vs ≤ input_len w i
@@ -72,7 +72,7 @@ module _ {I A V : Type 0} (w : Seen I A) (b : Limits) (kind : ErrorKind) (is : b
   pieces_few Fact k i (v ∷ vs) n p =
       omega (arith, pieces_few Fact (k + 1) p.2 vs p.1 p.5, rest_length p.4, taken_consumes b kind is k (p.3).reply p.0 v (p.3).fact)
 
-module _ {I A V E : Type 0} (w : Seen I A) (errs : Errors I E) (b : Limits) (Grows : Type 0) (m : Meaning I V E) where
+module _ {I A V E : Type 0} (w : Model I A) (errs : Errors I E) (b : Limits) (Grows : Type 0) (m : Meaning I V E) where
   -- that many items are accepted at most
   pub few_accepted : (kind : ErrorKind) → b.empty ≡ Some kind → (s : Bool) (i : I) (n : ℕ) (vs : List V) →
       (items_meaning w errs b Grows m).answers s i (Accept n vs) → length vs ≤ input_len w i

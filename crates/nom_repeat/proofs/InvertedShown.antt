@@ -6,29 +6,30 @@ use Rattle.nom_error.specs.Modes.{Modes}
 use Rattle.nom_error.specs.declared.kind.ErrorKind.{ErrorKind}
 use Rattle.nom_error.specs.declared.answer.Needed.{Needed}
 use Rattle.nom_error.specs.declared.answer.Err as Answer
-use Rattle.nom_traits.specs.Input.{Seen}
+use Rattle.nom_traits.specs.Input.{Model}
 use Rattle.nom_internal.specs.Outcome.Outcome.{Refuse, Fail}
 use Rattle.nom_internal.specs.Outcome.ShowsAnswer.{RanOut, Shown}
 use Rattle.nom_internal.specs.Meaning.{Meaning, ShowsMeaning}
 use Rattle.nom_repeat.specs.Inverted.{error_if, GivesFailure}
 
-module _ {I A V O E : Type 0} {w : Seen I A} {IsOutput : V → O → Type 0} {mode : Modes} {i : I} (errs : Errors I E) (kind : ErrorKind) (m : Meaning I V E) where
-  -- they fail
-  pub inverted_fails : (test : Bool) → test ≡ true → {f : Answer.Err E (Option E) Needed} → GivesFailure (errs.of_kind i kind) errs.grows f →
-      ShowsMeaning w IsOutput (error_if errs kind true test m) mode i (Err f)
-  inverted_fails true t (inl g) = RanOut (ap Err g.0) (tt, g.1)
-  inverted_fails true t (inr g) = Shown Fail refl (g.0, g.1, ap Err g.2)
-  inverted_fails false t g = absurd (cc (t))
+module _ {I A V O E : Type 0} {w : Model I A} {IsOutput : V → O → Type 0} {mode : Modes} {i : I} (errs : Errors I E) (kind : ErrorKind) (m : Meaning I V E)
+  where
+    -- they fail
+    pub inverted_fails : (test : Bool) → test ≡ true → {f : Answer.Err E (Option E) Needed} → GivesFailure (errs.of_kind i kind) errs.grows f →
+        ShowsMeaning w IsOutput (error_if errs kind true test m) mode i (Err f)
+    inverted_fails true t (inl g) = RanOut (ap Err g.0) (tt, g.1)
+    inverted_fails true t (inr g) = Shown Fail refl (g.0, g.1, ap Err g.2)
+    inverted_fails false t g = absurd (cc (t))
 
-  -- they refuse
-  pub inverted_refuses : (test : Bool) → test ≡ true → {f : Answer.Err E (Option E) Needed} → Refuses (errs.of_kind i kind) errs.grows mode.errors f →
-      ShowsMeaning w IsOutput (error_if errs kind false test m) mode i (Err f)
-  inverted_refuses true t (inl g) = RanOut (ap Err g.0) (g.1, g.2)
-  inverted_refuses true t (inr g) = Shown Refuse refl (g.0, g.1, ap Err g.2)
-  inverted_refuses false t g = absurd (cc (t))
+    -- they refuse
+    pub inverted_refuses : (test : Bool) → test ≡ true → {f : Answer.Err E (Option E) Needed} → Refuses (errs.of_kind i kind) errs.grows mode.errors f →
+        ShowsMeaning w IsOutput (error_if errs kind false test m) mode i (Err f)
+    inverted_refuses true t (inl g) = RanOut (ap Err g.0) (g.1, g.2)
+    inverted_refuses true t (inr g) = Shown Refuse refl (g.0, g.1, ap Err g.2)
+    inverted_refuses false t g = absurd (cc (t))
 
-  -- they fit, and the part answers
-  pub not_inverted : (fails test : Bool) → test ≡ false → {r : Result (I × Option O) (Answer.Err E (Option E) Needed)} →
-      ShowsMeaning w IsOutput m mode i r → ShowsMeaning w IsOutput (error_if errs kind fails test m) mode i r
-  not_inverted fails true t h = absurd (cc (t))
-  not_inverted fails false t h = h
+    -- they fit, and the part answers
+    pub not_inverted : (fails test : Bool) → test ≡ false → {r : Result (I × Option O) (Answer.Err E (Option E) Needed)} →
+        ShowsMeaning w IsOutput m mode i r → ShowsMeaning w IsOutput (error_if errs kind fails test m) mode i r
+    not_inverted fails true t h = absurd (cc (t))
+    not_inverted fails false t h = h

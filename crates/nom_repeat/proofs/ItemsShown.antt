@@ -9,7 +9,7 @@ use Rattle.nom_error.specs.declared.answer.Err.TheVariants.{Incomplete, Error, F
 use Rattle.nom_error.specs.declared.kind.ErrorKind.{ErrorKind}
 use Rattle.nom_error.specs.Modes.{Built, Modes, modes}
 use Rattle.nom_error.specs.Answers.{Refuses, size_of}
-use Rattle.nom_traits.specs.Input.{Seen, InputLaws, IsRest, input_len}
+use Rattle.nom_traits.specs.Input.{Model, InputLaws, IsSuffixOf, input_len}
 use Rattle.nom_internal.specs.Outcome.{Outcome}
 use Rattle.nom_internal.specs.Outcome.Outcome.{Accept, Refuse, Fail, TooLarge, Undecided}
 use Rattle.nom_internal.specs.Meaning.{Meaning, ShowsMeaning}
@@ -55,15 +55,15 @@ stuck_blames errs b i j zero v P kind is z e h = subst (λ x. OfKind x (λ k. er
 stuck_blames errs b i j (suc n) v P kind is z e h = absurd (omega (arith, z))
 
 -- what items show, and what their part does
-abbrev pub ShowsItems : {I A V E O : Type 0} (w : Seen I A) (errs : Errors I E) (b : Limits) (Grows : Type 0) (m : Meaning I V E)
+abbrev pub ShowsItems : {I A V E O : Type 0} (w : Model I A) (errs : Errors I E) (b : Limits) (Grows : Type 0) (m : Meaning I V E)
     (IsOutput : List V → O → Type 0) (mode : Modes) (i : I) → Result (I × Option O) (Answer.Err E (Option E) Needed) → Type 0
 ShowsItems w errs b Grows m IsOutput mode i r = ShowsMeaning w IsOutput (items_meaning w errs b Grows m) mode i r
 
-abbrev pub ShowsItem : {I A V E X : Type 0} (w : Seen I A) (b : Limits) (m : Meaning I V E) (IsItem : V → X → Type 0) (mode : Modes) (j : I) →
+abbrev pub ShowsItem : {I A V E X : Type 0} (w : Model I A) (b : Limits) (m : Meaning I V E) (IsItem : V → X → Type 0) (mode : Modes) (j : I) →
     Result (I × Option X) (Answer.Err E (Option E) Needed) → Type 0
 ShowsItem w b m IsItem mode j r = ShowsMeaning w IsItem m (modes mode.outputs (item_errors b.too_few mode.errors) mode.streaming) j r
 
-module _ {I A V E O : Type 0} {w : Seen I A} (errs : Errors I E) (b : Limits) (Grows : Type 0) (m : Meaning I V E) {IsOutput : List V → O → Type 0}
+module _ {I A V E O : Type 0} {w : Model I A} (errs : Errors I E) (b : Limits) (Grows : Type 0) (m : Meaning I V E) {IsOutput : List V → O → Type 0}
     {mode : Modes} {Held : List V → Type 0} {i j : I} (c : Collected w (TurnsBy b.most (item_turn b) (λ _. m.answers mode.streaming)) Held i j) where
   -- at the bound the items end
   pub items_full : (IsBelow b.most (length c.trees) → ⊥) → {x : Option O} → Built mode.outputs (IsOutput c.trees) x →
@@ -154,7 +154,7 @@ module _ {I A V E O : Type 0} {w : Seen I A} (errs : Errors I E) (b : Limits) (G
             (taken_asks b ((mode.errors ≡ true) × errs.grows) ((mode.outputs ≡ true) × Grows) (length c.trees) a.length a.tree p (o, t))
 
 -- an item is taken
-pub items_more : {I A V X : Type 0} {w : Seen I A} (l : InputLaws w) (b : Limits) {Item : I → Outcome V → Type 0} {IsItem : V → X → Type 0}
+pub items_more : {I A V X : Type 0} {w : Model I A} (l : InputLaws w) (b : Limits) {Item : I → Outcome V → Type 0} {IsItem : V → X → Type 0}
     {builds : Bool} {Held More : List V → Type 0} {i j : I} (c : Collected w (TurnsBy b.most (item_turn b) (λ _. Item)) Held i j) →
     IsBelow b.most (length c.trees) → {h : I} {x : Option X} (a : Accepts w IsItem builds j (Item j) h x) → (b.empty ≡ None) ⊎ (0 < a.length) →
     More (c.trees ++ a.tree ∷ []) → Collected w (TurnsBy b.most (item_turn b) (λ _. Item)) More i h
@@ -163,14 +163,14 @@ items_more l b {Item = Item} c below a p z =
     (record { reply = Some (Accept a.length a.tree); replied = (below, a.answered); fact = taken_turn b (length c.trees) a.length a.tree p }) a.rest_is z
 
 -- the part's answer, at the state before and in the mode in which it ran
-pub part_at : {S I A V E O : Type 0} {w : Seen I A} (IsOutput : S → V → O → Type 0) (meaning : S → Meaning I V E)
+pub part_at : {S I A V E O : Type 0} {w : Model I A} (IsOutput : S → V → O → Type 0) (meaning : S → Meaning I V E)
     {outputs errors asked streaming : Bool} {i : I} {r : Result (I × Option O) (Answer.Err E (Option E) Needed)} {a b : S} → errors ≡ asked → a ≡ b →
     ShowsMeaning w (IsOutput a) (meaning a) (modes outputs errors streaming) i r → ShowsMeaning w (IsOutput b) (meaning b) (modes outputs asked streaming) i r
 part_at {w = w} IsOutput meaning {outputs} {errors} {asked} {streaming} {i} {r} {a} {b} e h s =
     subst (λ z. ShowsMeaning w (IsOutput b) (meaning b) (modes outputs z streaming) i r) e (shown_at IsOutput meaning h s)
 
 -- an item consumes, where it must
-pub moves : {I A : Type 0} {w : Seen I A} {i j : I} {n a b : ℕ} {kind : Option ErrorKind} → IsRest w i n j → a ≡ input_len w i → b ≡ input_len w j →
+pub moves : {I A : Type 0} {w : Model I A} {i j : I} {n a b : ℕ} {kind : Option ErrorKind} → IsSuffixOf w i n j → a ≡ input_len w i → b ≡ input_len w j →
     (kind ≡ None) ⊎ (b ≡ a → ⊥) → (kind ≡ None) ⊎ (0 < n)
 moves r x y (inl e) = inl e
 moves r x y (inr h) = inr (consumes r y x h)

@@ -1,11 +1,11 @@
 pub mod AcceptedItems
 pub mod AcceptedMore
-pub mod CountKept
+pub mod CountAccumulated
 pub mod Counted
 pub mod Few
 pub mod InvertedShown
 pub mod ItemsShown
-pub mod Keeping
-pub mod ListKept
+pub mod Accumulating
+pub mod ListAccumulated
 pub mod Parts
 pub mod Repeated

@@ -5,14 +5,14 @@ use Rattle.nom_error.specs.declared.answer.Err as Answer
 use Rattle.nom_error.specs.declared.answer.Err.TheVariants.{Incomplete, Error, Failure, OutOfMemory}
 use Rattle.nom_error.specs.Answers.{size_of}
 use Rattle.nom_error.specs.Modes.{Built, Modes}
-use Rattle.nom_traits.specs.Input.{Seen}
+use Rattle.nom_traits.specs.Input.{Model}
 use Rattle.nom_internal.specs.Outcome.{Outcome, Shows, ShowsAnswer}
 use Rattle.nom_internal.specs.Outcome.Outcome.{Accept, Refuse, Fail, TooLarge, Undecided}
 use Rattle.nom_internal.specs.Outcome.ShowsAnswer.{RanOut, Shown}
 use Rattle.nom_internal.specs.Meaning.{Meaning, ShowsMeaning}
 use Rattle.nom_internal.proofs.Shown.{built_error}
 
-module _ {I A V O E : Type 0} {w : Seen I A} {IsOutput : V → O → Type 0} {mode : Modes} {i : I} {Answers : Outcome V → Type 0} {IsError : E → Type 0}
+module _ {I A V O E : Type 0} {w : Model I A} {IsOutput : V → O → Type 0} {mode : Modes} {i : I} {Answers : Outcome V → Type 0} {IsError : E → Type 0}
     {RunsOut : Type 0} {f : Answer.Err E (Option E) Needed} where
   pub part_refused : {b : Option E} → f ≡ Error b → ShowsAnswer w IsOutput mode i Answers IsError RunsOut (Err f) → Answers Refuse
   part_refused is (RanOut e h) = absurd (cc (e, is))
@@ -59,13 +59,13 @@ module _ {I A V O E : Type 0} {w : Seen I A} {IsOutput : V → O → Type 0} {mo
   part_ran_out is (Shown (Undecided k) a s) = absurd (cc (is, s.2))
 
 -- the same at an equal state
-pub shown_at : {S I A V O E : Type 0} {w : Seen I A} (IsOutput : S → V → O → Type 0) (meaning : S → Meaning I V E) {mode : Modes} {i : I}
+pub shown_at : {S I A V O E : Type 0} {w : Model I A} (IsOutput : S → V → O → Type 0) (meaning : S → Meaning I V E) {mode : Modes} {i : I}
     {r : Result (I × Option O) (Answer.Err E (Option E) Needed)} {a b : S} → a ≡ b → ShowsMeaning w (IsOutput a) (meaning a) mode i r →
     ShowsMeaning w (IsOutput b) (meaning b) mode i r
 shown_at {w = w} IsOutput meaning {mode = mode} {i = i} {r = r} e h = subst (λ z. ShowsMeaning w (IsOutput z) (meaning z) mode i r) e h
 
 -- the same, with outputs seen as something else
-module _ {I A V O E : Type 0} (w : Seen I A) (IsOutput IsResult : V → O → Type 0) (mode : Modes) (i : I) (IsError : E → Type 0) where
+module _ {I A V O E : Type 0} (w : Model I A) (IsOutput IsResult : V → O → Type 0) (mode : Modes) (i : I) (IsError : E → Type 0) where
   shows_as : (o : Outcome V) (r : Result (I × Option O) (Answer.Err E (Option E) Needed)) → ((v : V) (x : O) → IsOutput v x → IsResult v x) →
       Shows w IsOutput mode i IsError o r → Shows w IsResult mode i IsError o r
   shows_as (Accept n v) r f s = (s.0, s.1, s.2, built_error mode.outputs _ _ s.1 (f v) s.3, s.4)
@@ -74,7 +74,7 @@ module _ {I A V O E : Type 0} (w : Seen I A) (IsOutput IsResult : V → O → Ty
   shows_as TooLarge r f s = s
   shows_as (Undecided k) r f s = s
 
-pub shown_as : {I A V O E : Type 0} {w : Seen I A} {IsOutput IsResult : V → O → Type 0} {mode : Modes} {i : I} {Answers : Outcome V → Type 0}
+pub shown_as : {I A V O E : Type 0} {w : Model I A} {IsOutput IsResult : V → O → Type 0} {mode : Modes} {i : I} {Answers : Outcome V → Type 0}
     {IsError : E → Type 0} {RunsOut : Type 0} {r : Result (I × Option O) (Answer.Err E (Option E) Needed)} →
     ((v : V) (x : O) → IsOutput v x → IsResult v x) → ShowsAnswer w IsOutput mode i Answers IsError RunsOut r →
     ShowsAnswer w IsResult mode i Answers IsError RunsOut r
@@ -83,7 +83,7 @@ shown_as {w = w} {IsOutput} {IsResult} {mode} {i} {Answers} {IsError} {RunsOut} 
     Shown o a (shows_as w IsOutput IsResult mode i IsError o r f s)
 
 -- the same, of what is accepted
-module _ {I A V O E : Type 0} (w : Seen I A) (IsOutput IsResult : V → O → Type 0) (mode : Modes) (i : I) (Answers : Outcome V → Type 0)
+module _ {I A V O E : Type 0} (w : Model I A) (IsOutput IsResult : V → O → Type 0) (mode : Modes) (i : I) (Answers : Outcome V → Type 0)
     (IsError : E → Type 0) where
   shows_by : (o : Outcome V) (r : Result (I × Option O) (Answer.Err E (Option E) Needed)) →
       ((n : ℕ) (v : V) (x : O) → Answers (Accept n v) → IsOutput v x → IsResult v x) → Answers o → Shows w IsOutput mode i IsError o r →
@@ -94,7 +94,7 @@ module _ {I A V O E : Type 0} (w : Seen I A) (IsOutput IsResult : V → O → Ty
   shows_by TooLarge r f a s = s
   shows_by (Undecided k) r f a s = s
 
-pub shown_by : {I A V O E : Type 0} {w : Seen I A} {IsOutput IsResult : V → O → Type 0} {mode : Modes} {i : I} {Answers : Outcome V → Type 0}
+pub shown_by : {I A V O E : Type 0} {w : Model I A} {IsOutput IsResult : V → O → Type 0} {mode : Modes} {i : I} {Answers : Outcome V → Type 0}
     {IsError : E → Type 0} {RunsOut : Type 0} {r : Result (I × Option O) (Answer.Err E (Option E) Needed)} →
     ((n : ℕ) (v : V) (x : O) → Answers (Accept n v) → IsOutput v x → IsResult v x) → ShowsAnswer w IsOutput mode i Answers IsError RunsOut r →
     ShowsAnswer w IsResult mode i Answers IsError RunsOut r

@@ -1,7 +1,7 @@
 -- What a repetition accepts, said of what its part accepts.
 use Rattle.std.specs.Prelude.{◌≡◌, ℕ, ◌+◌, ◌<◌, ◌≤◌, ◌⊎◌, ◌↔◌, Bool, Option, Some, None, List, ◌∷◌}
 use Rattle.nom_error.specs.declared.kind.ErrorKind.{ErrorKind}
-use Rattle.nom_traits.specs.Input.{Seen, IsRest}
+use Rattle.nom_traits.specs.Input.{Model, IsSuffixOf}
 use Rattle.nom_internal.specs.Outcome.{Outcome}
 use Rattle.nom_internal.specs.Outcome.Outcome.{Accept, Refuse}
 use Rattle.nom_internal.specs.Meaning.{Meaning}
@@ -24,16 +24,16 @@ EndsItems Item least most k i = (IsBelow most k × Item i Refuse × (least ≤ k
 
 -- From i on the part accepts items with the trees vs, of length n together, each beginning where the one before ended; and where
 -- the last ended, the items end.
-abbrev pub InTurn : {I A V : Type 0} → Seen I A → (I → Outcome V → Type 0) → (ℕ → Type 0) → ℕ → Option ℕ → I → ℕ → List V → Type 0
+abbrev pub InTurn : {I A V : Type 0} → Model I A → (I → Outcome V → Type 0) → (ℕ → Type 0) → ℕ → Option ℕ → I → ℕ → List V → Type 0
 InTurn w Item May least most i n vs = Pieces w (TakesItem Item May most) (EndsItems Item least most) 0 i vs n
 
 -- What a repetition of the part m accepts: where it is allowed, just the items that the part accepts in turn.
-abbrev pub AcceptsItems : {I A V E F : Type 0} → Seen I A → Type 0 → (ℕ → Type 0) → ℕ → Option ℕ → Meaning I V E → Meaning I (List V) F → Type 0
+abbrev pub AcceptsItems : {I A V E F : Type 0} → Model I A → Type 0 → (ℕ → Type 0) → ℕ → Option ℕ → Meaning I V E → Meaning I (List V) F → Type 0
 AcceptsItems {I} {V = V} w Allowed May least most m whole =
     (s : Bool) (i : I) (n : ℕ) (vs : List V) → whole.answers s i (Accept n vs) ↔ (Allowed × InTurn w (m.answers s) May least most i n vs)
 
 -- an item of any length, and after it such others
-pub record OneAndMore {I A V : Type 0} (w : Seen I A) (Item : I → Outcome V → Type 0) (More : I → ℕ → List V → Type 0) (i : I) (n : ℕ)
+pub record OneAndMore {I A V : Type 0} (w : Model I A) (Item : I → Outcome V → Type 0) (More : I → ℕ → List V → Type 0) (i : I) (n : ℕ)
     (vs : List V) : Type 0 where
   pub first_length : ℕ
   pub tree : V
@@ -41,13 +41,13 @@ pub record OneAndMore {I A V : Type 0} (w : Seen I A) (Item : I → Outcome V �
   pub more_length : ℕ
   pub trees : List V
   pub accepted : Item i (Accept first_length tree)
-  pub rest_is : IsRest w i first_length rest
+  pub rest_is : IsSuffixOf w i first_length rest
   pub more : More rest more_length trees
   pub length_is : n ≡ first_length + more_length
   pub trees_are : vs ≡ tree ∷ trees
 
 -- What a repetition accepts that has one item at least: a first item of the part m, of any length, and after it just the items
 -- that the part p accepts in turn, none of them empty.
-abbrev pub AcceptsOneAndMore : {I A V E F : Type 0} → Seen I A → Meaning I V E → Meaning I V E → Meaning I (List V) F → Type 0
+abbrev pub AcceptsOneAndMore : {I A V E F : Type 0} → Model I A → Meaning I V E → Meaning I V E → Meaning I (List V) F → Type 0
 AcceptsOneAndMore {I} {V = V} w m p whole =
     (s : Bool) (i : I) (n : ℕ) (vs : List V) → whole.answers s i (Accept n vs) ↔ OneAndMore w (m.answers s) (InTurn w (p.answers s) (λ a. 0 < a) 0 None) i n vs

@@ -31,7 +31,7 @@ error_if {V = V} errs kind fails test m = record {
   IsSound = m.IsSound;
   answers = λ s i o. Either test (o ≡ error_outcome fails) (m.answers s i o);
   blames = λ s i e. Either test (errs.of_kind i kind e) (m.blames s i e);
-  runs_out = λ mode i. Either test (HasError fails mode × errs.grows) (m.runs_out mode i);
+  may_run_out = λ mode i. Either test (HasError fails mode × errs.grows) (m.may_run_out mode i);
   IsFrugal = λ mode. Either test (HasError fails mode → errs.grows → ⊥) (m.IsFrugal mode);
   Settles = m.Settles;
   NeverFails = λ large. Either test (error_outcome {V = V} fails ≡ failure large → ⊥) (m.NeverFails large);

@@ -3,7 +3,7 @@ use Rattle.std.specs.Prelude.{◌≡◌, ℕ, Bool, true, false}
 use Rattle.std.proofs.Common.{sym, ◌∙◌}
 use Rattle.nom_error.specs.Errors.{Errors}
 use Rattle.nom_error.specs.declared.kind.ErrorKind.{ErrorKind}
-use Rattle.nom_traits.specs.Input.{Seen}
+use Rattle.nom_traits.specs.Input.{Model}
 use Rattle.nom_internal.specs.Outcome.Outcome.{Accept}
 use Rattle.nom_internal.specs.Meaning.{Meaning, IsLawful, IsSteady}
 use Rattle.nom_repeat.specs.Inverted.{error_outcome, error_if}
@@ -12,7 +12,7 @@ pub no_accept : {V : Type 0} (fails : Bool) (n : ℕ) (v : V) → Accept n v ≡
 no_accept true n v e = absurd (cc (e))
 no_accept false n v e = absurd (cc (e))
 
-module _ {I A V E : Type 0} (w : Seen I A) (errs : Errors I E) (kind : ErrorKind) (fails : Bool) (m : Meaning I V E) where
+module _ {I A V E : Type 0} (w : Model I A) (errs : Errors I E) (kind : ErrorKind) (fails : Bool) (m : Meaning I V E) where
   pub error_if_lawful : (test : Bool) → IsLawful w m → IsLawful w (error_if errs kind fails test m)
   error_if_lawful true p = record {
     within = λ s i n v h a. absurd (no_accept fails n v a);

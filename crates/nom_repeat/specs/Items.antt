@@ -7,7 +7,7 @@ use Rattle.nom_error.specs.declared.answer.Err as Answer
 use Rattle.nom_error.specs.declared.answer.Err.TheVariants.{Error}
 use Rattle.nom_error.specs.Answers.{Refuses}
 use Rattle.nom_error.specs.Modes.{modes}
-use Rattle.nom_traits.specs.Input.{Seen}
+use Rattle.nom_traits.specs.Input.{Model}
 use Rattle.nom_internal.specs.Outcome.{Outcome}
 use Rattle.nom_internal.specs.Outcome.Outcome.{Accept, Refuse, Fail, TooLarge, Undecided}
 use Rattle.nom_internal.specs.Meaning.{Meaning}
@@ -64,8 +64,8 @@ ItemBlames errs b i j None P e = ⊥
 
 -- an empty item needs memory for its error, or is kept
 abbrev pub EmptyAsks : Option ErrorKind → Type 0 → Type 0 → Type 0
-EmptyAsks (Some kind) Refused Kept = Refused
-EmptyAsks None Refused Kept = Kept
+EmptyAsks (Some kind) Refused Accumulated = Refused
+EmptyAsks None Refused Accumulated = Accumulated
 
 -- an error is made where there are too few items
 abbrev pub MakesError : TooFew → Type 0
@@ -76,13 +76,13 @@ MakesError (Fresh kind) = Unit {0}
 
 -- where memory is needed: for an error, or to keep an item
 abbrev pub ItemAsks : {V : Type 0} → Limits → Type 0 → Type 0 → ℕ → Option (Outcome V) → Type 0
-ItemAsks b Refused Kept k (Some (Accept zero v)) = EmptyAsks b.empty Refused Kept
-ItemAsks b Refused Kept k (Some (Accept (suc n) v)) = Kept
-ItemAsks b Refused Kept k (Some Refuse) = (ltb k b.least ≡ true) × MakesError b.too_few × Refused
-ItemAsks b Refused Kept k (Some Fail) = ⊥
-ItemAsks b Refused Kept k (Some TooLarge) = ⊥
-ItemAsks b Refused Kept k (Some (Undecided n)) = ⊥
-ItemAsks b Refused Kept k None = ⊥
+ItemAsks b Refused Accumulated k (Some (Accept zero v)) = EmptyAsks b.empty Refused Accumulated
+ItemAsks b Refused Accumulated k (Some (Accept (suc n) v)) = Accumulated
+ItemAsks b Refused Accumulated k (Some Refuse) = (ltb k b.least ≡ true) × MakesError b.too_few × Refused
+ItemAsks b Refused Accumulated k (Some Fail) = ⊥
+ItemAsks b Refused Accumulated k (Some TooLarge) = ⊥
+ItemAsks b Refused Accumulated k (Some (Undecided n)) = ⊥
+ItemAsks b Refused Accumulated k None = ⊥
 
 -- an item's error is built where that of too few is made of it, and errors are built at all
 abbrev pub item_errors : TooFew → Bool → Bool
@@ -106,7 +106,7 @@ items_rule errs b Grows = record {
 }
 
 -- the items, with the list of their trees
-abbrev pub items_meaning : {I A V E : Type 0} → Seen I A → Errors I E → Limits → Type 0 → Meaning I V E → Meaning I (List V) E
+abbrev pub items_meaning : {I A V E : Type 0} → Model I A → Errors I E → Limits → Type 0 → Meaning I V E → Meaning I (List V) E
 items_meaning w errs b Grows m = repeat_meaning w (items_rule errs b Grows) (λ vs _. vs) (always m)
 
 -- a number of items is given as the most, where empty ones are taken

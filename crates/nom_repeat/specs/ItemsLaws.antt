@@ -2,7 +2,7 @@
 use Rattle.std.specs.Prelude.{◌≡◌, ℕ, Bool, true, false, ltb, Option, Some, None, zero, suc, refl}
 use Rattle.nom_error.specs.Errors.{Errors}
 use Rattle.nom_error.specs.declared.kind.ErrorKind.{ErrorKind}
-use Rattle.nom_traits.specs.Input.{Seen, InputLaws}
+use Rattle.nom_traits.specs.Input.{Model, InputLaws}
 use Rattle.nom_internal.specs.Outcome.{Outcome, failure}
 use Rattle.nom_internal.specs.Outcome.Outcome.{Accept, Refuse, Fail, TooLarge, Undecided}
 use Rattle.nom_internal.specs.Meaning.{Meaning, IsLawful, IsSteady}
@@ -57,19 +57,19 @@ item_blames errs b i j (Some TooLarge) X Y e f h = f tt e h
 item_blames errs b i j (Some (Undecided n)) X Y e f h = h
 item_blames errs b i j None X Y e f h = h
 
-empty_asks_none : (kind : Option ErrorKind) (Refused Kept : Type 0) → (Refused → ⊥) → (Kept → ⊥) → EmptyAsks kind Refused Kept → ⊥
-empty_asks_none (Some kind) Refused Kept f g h = f h
-empty_asks_none None Refused Kept f g h = g h
+empty_asks_none : (kind : Option ErrorKind) (Refused Accumulated : Type 0) → (Refused → ⊥) → (Accumulated → ⊥) → EmptyAsks kind Refused Accumulated → ⊥
+empty_asks_none (Some kind) Refused Accumulated f g h = f h
+empty_asks_none None Refused Accumulated f g h = g h
 
-item_asks_none : {V : Type 0} (b : Limits) (Refused Kept : Type 0) (k : ℕ) (a : Option (Outcome V)) → (Refused → ⊥) → (Kept → ⊥) →
-    ItemAsks b Refused Kept k a → ⊥
-item_asks_none b Refused Kept k (Some (Accept zero v)) f g h = empty_asks_none b.empty Refused Kept f g h
-item_asks_none b Refused Kept k (Some (Accept (suc n) v)) f g h = g h
-item_asks_none b Refused Kept k (Some Refuse) f g h = f h.2
-item_asks_none b Refused Kept k (Some Fail) f g h = h
-item_asks_none b Refused Kept k (Some TooLarge) f g h = h
-item_asks_none b Refused Kept k (Some (Undecided n)) f g h = h
-item_asks_none b Refused Kept k None f g h = h
+item_asks_none : {V : Type 0} (b : Limits) (Refused Accumulated : Type 0) (k : ℕ) (a : Option (Outcome V)) → (Refused → ⊥) → (Accumulated → ⊥) →
+    ItemAsks b Refused Accumulated k a → ⊥
+item_asks_none b Refused Accumulated k (Some (Accept zero v)) f g h = empty_asks_none b.empty Refused Accumulated f g h
+item_asks_none b Refused Accumulated k (Some (Accept (suc n) v)) f g h = g h
+item_asks_none b Refused Accumulated k (Some Refuse) f g h = f h.2
+item_asks_none b Refused Accumulated k (Some Fail) f g h = h
+item_asks_none b Refused Accumulated k (Some TooLarge) f g h = h
+item_asks_none b Refused Accumulated k (Some (Undecided n)) f g h = h
+item_asks_none b Refused Accumulated k None f g h = h
 
 empty_never_fails : {V : Type 0} (large : Bool) (kind : Option ErrorKind) (v : V) → Ends (failure large) ≡ empty_turn kind v → ⊥
 empty_never_fails true (Some kind) v e = absurd (cc (e))
@@ -107,7 +107,7 @@ items_rule_laws errs b Grows = record {
   never_fails = λ Part large k a h e. (h, item_fails b large k a e);
 }
 
-module _ {I A V E : Type 0} (w : Seen I A) (l : InputLaws w) (errs : Errors I E) (b : Limits) (Grows : Type 0) (m : Meaning I V E) where
+module _ {I A V E : Type 0} (w : Model I A) (l : InputLaws w) (errs : Errors I E) (b : Limits) (Grows : Type 0) (m : Meaning I V E) where
   pub items_lawful : IsLawful w m → IsLawful w (items_meaning w errs b Grows m)
   items_lawful p = repeat_lawful w l (items_rule errs b Grows) (items_rule_laws errs b Grows) (λ vs _. vs) (always m) (always_lawful w m p)
 

@@ -12,7 +12,7 @@
 --   the item's. An accepted end ends the repetition with its tree, and consumes; an accepted item is taken.
 use Rattle.std.specs.Prelude.{◌≡◌, ℕ, ◌+◌, ◌<◌, Bool, ◌⊎◌, Option, Some, None, List, [], ◌∷◌}
 use Rattle.nom_error.specs.Modes.{Modes}
-use Rattle.nom_traits.specs.Input.{Seen, IsRest}
+use Rattle.nom_traits.specs.Input.{Model, IsSuffixOf}
 use Rattle.nom_internal.specs.Outcome.{Outcome}
 use Rattle.nom_internal.specs.Meaning.{Meaning}
 use Rattle.nom_internal.specs.Families.{Family}
@@ -23,12 +23,12 @@ pub data Turn (V T : Type 0) : Type 0 where
   Takes : ℕ → V → Turn V T
   Ends : Outcome T → Turn V T
 
-module _ {I A V T : Type 0} (w : Seen I A) (Turns : ℕ → I → Turn V T → Type 0) where
+module _ {I A V T : Type 0} (w : Model I A) (Turns : ℕ → I → Turn V T → Type 0) where
   -- From i on, where k items were taken before, items with the trees vs, of length n together, are taken in turn, each
   -- beginning where the one before ended, and of the number of items and the place then reached the fact holds.
   abbrev pub Pieces : (ℕ → I → Type 0) → ℕ → I → List V → ℕ → Type 0
   Pieces Fact k i [] n = (n ≡ 0) × Fact k i
-  Pieces Fact k i (v ∷ vs) n = (a : ℕ) × (m : ℕ) × (j : I) × Turns k i (Takes a v) × IsRest w i a j × Pieces Fact (k + 1) j vs m × (n ≡ a + m)
+  Pieces Fact k i (v ∷ vs) n = (a : ℕ) × (m : ℕ) × (j : I) × Turns k i (Takes a v) × IsSuffixOf w i a j × Pieces Fact (k + 1) j vs m × (n ≡ a + m)
 
   -- of a place that is reached the fact holds
   pub record Reaches (Fact : ℕ → I → Type 0) (i : I) : Type 0 where
@@ -87,14 +87,14 @@ pub record Rule (I P V T E : Type 0) : Type 1 where
   pub NeverFails : (Bool → Type 0) → Bool → Type 0
 
 -- The repetition, by a rule, of a part for each count of items before it, with a tree made of its items' trees and its end's.
-abbrev pub repeat_meaning : {I A P V T R E : Type 0} → Seen I A → Rule I P V T E → (List V → T → R) → Family ℕ I P E → Meaning I R E
+abbrev pub repeat_meaning : {I A P V T R E : Type 0} → Model I A → Rule I P V T E → (List V → T → R) → Family ℕ I P E → Meaning I R E
 repeat_meaning w r tree f = record {
   IsSound = r.IsSound f.IsSound;
   answers = λ s. Repeats w (TurnsBy r.bound r.turn (λ k. (f.at k).answers s)) tree;
   blames = λ s i e. Reaches w (TurnsBy r.bound r.turn (λ k. (f.at k).answers s))
       (λ k j. OnReply r.bound (λ k. (f.at k).answers s) (λ a. r.Blames i k j a ((f.at k).blames s j) e) k j) i;
-  runs_out = λ mode. Reaches w (TurnsBy r.bound r.turn (λ k. (f.at k).answers mode.streaming))
-      (λ k j. OnReply r.bound (λ k. (f.at k).answers mode.streaming) (r.Asks mode k) k j ⊎ (IsBelow r.bound k × (f.at k).runs_out (r.part k mode) j));
+  may_run_out = λ mode. Reaches w (TurnsBy r.bound r.turn (λ k. (f.at k).answers mode.streaming))
+      (λ k j. OnReply r.bound (λ k. (f.at k).answers mode.streaming) (r.Asks mode k) k j ⊎ (IsBelow r.bound k × (f.at k).may_run_out (r.part k mode) j));
   IsFrugal = r.IsFrugal f.IsFrugal;
   Settles = f.Settles;
   NeverFails = r.NeverFails f.NeverFails;

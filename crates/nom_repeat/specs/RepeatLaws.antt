@@ -2,7 +2,7 @@
 use Rattle.std.specs.Prelude.{◌≡◌, ℕ, ◌+◌, Bool, true, false, not, ◌⊎◌, Option, Some, None, List, [], ◌∷◌, refl}
 use Rattle.std.proofs.Common.{arith, sym, ◌∙◌, ap, subst, inl, inr}
 use Rattle.nom_error.specs.Modes.{Modes}
-use Rattle.nom_traits.specs.Input.{Seen, InputLaws, IsRest, IsPlace, IsSame, Related}
+use Rattle.nom_traits.specs.Input.{Model, InputLaws, IsSuffixOf, IsBoundary, IsSame, Related}
 use Rattle.nom_traits.specs.Rests.{same_self, rest_related, rest_alike, place_more}
 use Rattle.nom_internal.specs.Outcome.{Outcome, IsDecided, failure}
 use Rattle.nom_internal.specs.Outcome.Outcome.{Accept, Refuse, Fail, TooLarge, Undecided}
@@ -39,7 +39,7 @@ pub record EndAlike {V T : Type 0} (vs us : List V) (n m : ℕ) (p q : Outcome T
   pub taken_is : n ≡ m
   pub ending_is : p ≡ q
 
-module _ {I A : Type 0} (w : Seen I A) {V T : Type 0} where
+module _ {I A : Type 0} (w : Model I A) {V T : Type 0} where
   -- on related inputs the first relation's turn, where it is kept, is the second's
   abbrev pub AgreeTurns : Bool → (ℕ → I → Turn V T → Type 0) → (ℕ → I → Turn V T → Type 0) → Type 0
   AgreeTurns longer F G = (k : ℕ) (x y : I) (s t : Turn V T) → w.IsKnown x → w.IsKnown y → Related w longer x y → F k x s → KeepsTurn longer s → G k y t → s ≡ t
@@ -48,7 +48,7 @@ module _ {I A : Type 0} (w : Seen I A) {V T : Type 0} where
   abbrev pub CarriesTurns : Bool → (ℕ → I → Turn V T → Type 0) → (ℕ → I → Turn V T → Type 0) → Type 0
   CarriesTurns decided F G = (k : ℕ) (x y : I) (t : Turn V T) → w.IsKnown x → w.IsKnown y → IsSame w x y → F k x t → KeepsTurn decided t → G k y t
 
-module _ {I A V T : Type 0} (w : Seen I A) (l : InputLaws w) (longer : Bool) (F G : ℕ → I → Turn V T → Type 0) where
+module _ {I A V T : Type 0} (w : Model I A) (l : InputLaws w) (longer : Bool) (F G : ℕ → I → Turn V T → Type 0) where
   pieces_agree : AgreeTurns w longer F G → (k : ℕ) (x y : I) (vs us : List V) (n m : ℕ) (p q : Outcome T) → w.IsKnown x → w.IsKnown y →
       Related w longer x y → Keeps longer p → Pieces w F (λ h j. F h j (Ends p)) k x vs n → Pieces w G (λ h j. G h j (Ends q)) k y us m → EndAlike vs us n m p q
   pieces_agree f k x y [] [] n m p q kx ky r d a b =
@@ -62,7 +62,7 @@ module _ {I A V T : Type 0} (w : Seen I A) (l : InputLaws w) (longer : Bool) (F 
       let e = f k x y (Takes a.0 v) (Takes b.0 u) kx ky r a.3 tt b.3 in
       let lengths : a.0 ≡ b.0 = cc in
       let heads : v ≡ u = cc in
-      let z = rest_related w l longer x y a.0 a.2 b.2 r a.4 (subst (λ c. IsRest w y c b.2) (sym lengths) b.4) in
+      let z = rest_related w l longer x y a.0 a.2 b.2 r a.4 (subst (λ c. IsSuffixOf w y c b.2) (sym lengths) b.4) in
       let t = pieces_agree f (k + 1) a.2 b.2 vs us a.1 b.1 p q (a.4).known (b.4).known z d a.5 b.5 in
       record { trees_are = cc (t.trees_are, heads); taken_is = omega (arith, t.taken_is, lengths, a.6, b.6); ending_is = t.ending_is }
 
@@ -73,26 +73,26 @@ module _ {I A V T : Type 0} (w : Seen I A) (l : InputLaws w) (longer : Bool) (F 
       a.outcome_is ∙ (ap (λ z. after z (tree a.trees) a.ending) e.taken_is ∙
       (ap (λ z. after b.taken (tree z) a.ending) e.trees_are ∙ (ap (λ z. after b.taken (tree b.trees) z) e.ending_is ∙ sym b.outcome_is)))
 
-module _ {I A V T : Type 0} (w : Seen I A) (F : ℕ → I → Turn V T → Type 0) where
-  pieces_place : (m : ℕ) {P : ℕ → I → Type 0} → ((k : ℕ) (j : I) → w.IsKnown j → P k j → IsPlace w j m) → (k : ℕ) (i : I) (vs : List V) (n : ℕ) →
-      w.IsKnown i → Pieces w F P k i vs n → IsPlace w i (n + m)
-  pieces_place m f k i [] n h p = subst (λ z. IsPlace w i z) (omega (arith, p.0)) (f k i h p.1)
+module _ {I A V T : Type 0} (w : Model I A) (F : ℕ → I → Turn V T → Type 0) where
+  pieces_place : (m : ℕ) {P : ℕ → I → Type 0} → ((k : ℕ) (j : I) → w.IsKnown j → P k j → IsBoundary w j m) → (k : ℕ) (i : I) (vs : List V) (n : ℕ) →
+      w.IsKnown i → Pieces w F P k i vs n → IsBoundary w i (n + m)
+  pieces_place m f k i [] n h p = subst (λ z. IsBoundary w i z) (omega (arith, p.0)) (f k i h p.1)
   pieces_place m f k i (v ∷ vs) n h p =
-      subst (λ z. IsPlace w i z) (omega (arith, p.6)) (place_more w i p.0 p.2 (p.1 + m) p.4 (pieces_place m f (k + 1) p.2 vs p.1 (p.4).known p.5))
+      subst (λ z. IsBoundary w i z) (omega (arith, p.6)) (place_more w i p.0 p.2 (p.1 + m) p.4 (pieces_place m f (k + 1) p.2 vs p.1 (p.4).known p.5))
 
-  repeats_place : {R : Type 0} (tree : List V → T → R) → ((k : ℕ) (j : I) (n : ℕ) (t : T) → w.IsKnown j → F k j (Ends (Accept n t)) → IsPlace w j n) →
+  repeats_place : {R : Type 0} (tree : List V → T → R) → ((k : ℕ) (j : I) (n : ℕ) (t : T) → w.IsKnown j → F k j (Ends (Accept n t)) → IsBoundary w j n) →
       (i : I) (n : ℕ) (v : R) (vs : List V) (taken : ℕ) (ending : Outcome T) → w.IsKnown i → Pieces w F (λ k j. F k j (Ends ending)) 0 i vs taken →
-      Accept n v ≡ after taken (tree vs) ending → IsPlace w i n
+      Accept n v ≡ after taken (tree vs) ending → IsBoundary w i n
   repeats_place tree f i n v vs taken (Accept m t) h p e =
       let same : taken + m ≡ n = cc in
-      subst (λ z. IsPlace w i z) same (pieces_place m (λ k j kj z. f k j m t kj z) 0 i vs taken h p)
+      subst (λ z. IsBoundary w i z) same (pieces_place m (λ k j kj z. f k j m t kj z) 0 i vs taken h p)
   repeats_place tree f i n v vs taken Refuse h p e = absurd (cc)
   repeats_place tree f i n v vs taken Fail h p e = absurd (cc)
   repeats_place tree f i n v vs taken TooLarge h p e = absurd (cc)
   repeats_place tree f i n v vs taken (Undecided d) h p e = absurd (cc)
 
   pub repeats_within : {R : Type 0} (tree : List V → T → R) →
-      ((k : ℕ) (j : I) (n : ℕ) (t : T) → w.IsKnown j → F k j (Ends (Accept n t)) → IsPlace w j n) → Within w (Repeats w F tree)
+      ((k : ℕ) (j : I) (n : ℕ) (t : T) → w.IsKnown j → F k j (Ends (Accept n t)) → IsBoundary w j n) → Within w (Repeats w F tree)
   repeats_within tree f i n v h a = repeats_place tree f i n v a.trees a.taken a.ending h a.pieces a.outcome_is
 
   -- a fact that holds nowhere holds at no place that is reached
@@ -111,14 +111,14 @@ module _ {I A V T : Type 0} (w : Seen I A) (F : ℕ → I → Turn V T → Type 
       pieces_never (λ k j. F k j (Ends (failure large))) f 0 i a.trees a.taken h
       (subst (λ z. Pieces w F (λ k j. F k j (Ends z)) 0 i a.trees a.taken) e a.pieces)
 
-module _ {I A V T : Type 0} (w : Seen I A) (F G : ℕ → I → Turn V T → Type 0) where
+module _ {I A V T : Type 0} (w : Model I A) (F G : ℕ → I → Turn V T → Type 0) where
   -- decided turns of the first relation, that are the second's at each place
   pub pieces_along : ((k : ℕ) (i : I) (t : Turn V T) → w.IsKnown i → F k i t → KeepsTurn true t → G k i t) → {P Q : ℕ → I → Type 0} →
       ((k : ℕ) (i : I) → w.IsKnown i → P k i → Q k i) → (k : ℕ) (i : I) (vs : List V) (n : ℕ) → w.IsKnown i → Pieces w F P k i vs n → Pieces w G Q k i vs n
   pieces_along f g k i [] n h p = (p.0, g k i h p.1)
   pieces_along f g k i (v ∷ vs) n h p = (p.0, p.1, p.2, f k i (Takes p.0 v) h p.3 tt, p.4, pieces_along f g (k + 1) p.2 vs p.1 (p.4).known p.5, p.6)
 
-module _ {I A V T : Type 0} (w : Seen I A) (decided : Bool) (F G : ℕ → I → Turn V T → Type 0) where
+module _ {I A V T : Type 0} (w : Model I A) (decided : Bool) (F G : ℕ → I → Turn V T → Type 0) where
   pub pieces_carry : CarriesTurns w decided F G → {P Q : ℕ → I → Type 0} →
       ((k : ℕ) (x y : I) → w.IsKnown x → w.IsKnown y → IsSame w x y → P k x → Q k y) → (k : ℕ) (x y : I) (vs : List V) (n : ℕ) → w.IsKnown x →
       w.IsKnown y → IsSame w x y → Pieces w F P k x vs n → Pieces w G Q k y vs n
@@ -148,7 +148,7 @@ module _ {I A V T : Type 0} (w : Seen I A) (decided : Bool) (F G : ℕ → I →
 abbrev pub BothTurns : {I V T : Type 0} → (ℕ → I → Turn V T → Type 0) → (ℕ → I → Turn V T → Type 0) → ℕ → I → Turn V T → Type 0
 BothTurns F G k i t = F k i t × G k i t
 
-module _ {I A V T : Type 0} (w : Seen I A) (l : InputLaws w) (F G : ℕ → I → Turn V T → Type 0) where
+module _ {I A V T : Type 0} (w : Model I A) (l : InputLaws w) (F G : ℕ → I → Turn V T → Type 0) where
   -- Where both relations decide on alike turns, what is said of a place that the first reaches is said of it by the second: the
   -- fact goes over at a place at which both have a decided turn, and the first's turns are the second's.
   pieces_reach : AgreeTurns w false F F → CarriesTurns w false G G → (Fact Said : ℕ → I → Type 0) →
@@ -162,7 +162,7 @@ module _ {I A V T : Type 0} (w : Seen I A) (l : InputLaws w) (F G : ℕ → I �
   pieces_reach f g Fact Said goes k x z (v ∷ vs) (u ∷ us) n m p kx kz r d a b =
       let e = f k x z (Takes a.0 v) (Takes b.0 u) kx kz r (a.3).0 tt b.3 in
       let lengths : a.0 ≡ b.0 = cc in
-      let rests = rest_related w l false x z a.0 a.2 b.2 r a.4 (subst (λ c. IsRest w z c b.2) (sym lengths) b.4) in
+      let rests = rest_related w l false x z a.0 a.2 b.2 r a.4 (subst (λ c. IsSuffixOf w z c b.2) (sym lengths) b.4) in
       let turn : G k z (Takes b.0 u) = subst (λ t. G k z t) e (g k x z (Takes a.0 v) kx kz r (a.3).1 tt) in
       (b.0, b.1, b.2, turn, b.4, pieces_reach f g Fact Said goes (k + 1) a.2 b.2 vs us a.1 b.1 p (a.4).known (b.4).known rests d a.5 b.5, b.6)
 
@@ -193,7 +193,7 @@ pub record RuleLaws {I P V T E : Type 0} (r : Rule I P V T E) : Type 1 where
       Ends (failure large) ≡ r.turn k a → Part large × (a ≡ Some (failure large))
 
 -- related inputs have one reply
-module _ {I A P : Type 0} (w : Seen I A) (bound : Option ℕ) where
+module _ {I A P : Type 0} (w : Model I A) (bound : Option ℕ) where
   reply_agree : (longer : Bool) (F G : ℕ → I → Outcome P → Type 0) → ((k : ℕ) → Agree w longer (F k) (G k)) →
       (k : ℕ) (x y : I) (a b : Option (Outcome P)) → w.IsKnown x → w.IsKnown y → Related w longer x y → Replies bound F k x a → KeepsReply longer a →
       Replies bound G k y b → a ≡ b
@@ -216,7 +216,7 @@ keeps_alike : {P : Type 0} (a : Option (Outcome P)) → KeepsReply false a
 keeps_alike (Some o) = tt
 keeps_alike None = tt
 
-module _ {I A P V T : Type 0} (w : Seen I A) (bound : Option ℕ) (turn : ℕ → Option (Outcome P) → Turn V T)
+module _ {I A P V T : Type 0} (w : Model I A) (bound : Option ℕ) (turn : ℕ → Option (Outcome P) → Turn V T)
     (decided : (k : ℕ) (a : Option (Outcome P)) → KeepsTurn true (turn k a) → KeepsReply true a) where
   kept_reply : (longer : Bool) (k : ℕ) (a : Option (Outcome P)) → KeepsTurn longer (turn k a) → KeepsReply longer a
   kept_reply true k a h = decided k a h
@@ -236,7 +236,7 @@ module _ {I A P V T : Type 0} (w : Seen I A) (bound : Option ℕ) (turn : ℕ �
     fact = a.fact;
   }
 
-module _ {I A P V T R E : Type 0} (w : Seen I A) (l : InputLaws w) (r : Rule I P V T E) (rl : RuleLaws r) (tree : List V → T → R) (f : Family ℕ I P E) where
+module _ {I A P V T R E : Type 0} (w : Model I A) (l : InputLaws w) (r : Rule I P V T E) (rl : RuleLaws r) (tree : List V → T → R) (f : Family ℕ I P E) where
   abbrev Part : Bool → ℕ → I → Outcome P → Type 0
   Part s k = (f.at k).answers s
 
@@ -245,9 +245,9 @@ module _ {I A P V T R E : Type 0} (w : Seen I A) (l : InputLaws w) (r : Rule I P
 
   -- an end with success is within the input
   end_place : (s : Bool) → ((k : ℕ) → Within w (Part s k)) → (k : ℕ) (j : I) (n : ℕ) (a : Option (Outcome P)) → w.IsKnown j →
-      Replies r.bound (Part s) k j a → EndsAt n a → IsPlace w j n
+      Replies r.bound (Part s) k j a → EndsAt n a → IsBoundary w j n
   end_place s g k j n (Some (Accept x u)) h p (inl e) = place_zero w j n e
-  end_place s g k j n (Some (Accept x u)) h p (inr e) = subst (λ z. IsPlace w j z) (sym e) (g k j x u h p.1)
+  end_place s g k j n (Some (Accept x u)) h p (inr e) = subst (λ z. IsBoundary w j z) (sym e) (g k j x u h p.1)
   end_place s g k j n (Some Refuse) h p e = place_zero w j n e
   end_place s g k j n (Some Fail) h p e = place_zero w j n e
   end_place s g k j n (Some TooLarge) h p e = place_zero w j n e
@@ -323,7 +323,7 @@ module _ {I A P V T R E : Type 0} (w : Seen I A) (l : InputLaws w) (r : Rule I P
     both_blames t false i o e h a b d z = blames_alike t false i o e h b d z
 
     never_asks : (mode : Modes) → r.IsFrugal f.IsFrugal mode → (k : ℕ) (j : I) → w.IsKnown j →
-        OnReply r.bound (Part mode.streaming) (r.Asks mode k) k j ⊎ (IsBelow r.bound k × (f.at k).runs_out (r.part k mode) j) → ⊥
+        OnReply r.bound (Part mode.streaming) (r.Asks mode k) k j ⊎ (IsBelow r.bound k × (f.at k).may_run_out (r.part k mode) j) → ⊥
     never_asks mode g k j h (inl a) = rl.asks_none f.IsFrugal mode k a.reply g a.fact
     never_asks mode g k j h (inr a) = (q.lawful k tt).frugal (r.part k mode) j h (q.frugal (r.part k mode) (rl.part_frugal f.IsFrugal mode k g) k tt) a.1
 
@@ -339,7 +339,7 @@ module _ {I A P V T R E : Type 0} (w : Seen I A) (l : InputLaws w) (r : Rule I P
       one_outcome = λ s. repeats_agree w l false (Turns s) (Turns s) tree (agree s);
       alike = λ s. repeats_carry w false (Turns s) (Turns s) tree (alike s);
       frugal = λ mode i h g. reaches_never w (Turns mode.streaming)
-          (λ k j. OnReply r.bound (Part mode.streaming) (r.Asks mode k) k j ⊎ (IsBelow r.bound k × (f.at k).runs_out (r.part k mode) j))
+          (λ k j. OnReply r.bound (Part mode.streaming) (r.Asks mode k) k j ⊎ (IsBelow r.bound k × (f.at k).may_run_out (r.part k mode) j))
           (never_asks mode g) i h;
       settles = λ t. repeats_carry w true (Turns true) (Turns false) tree (settle t);
       blames_alike = both_blames;

@@ -3,10 +3,10 @@ ghost use Rattle.std.specs.Prelude.{◌≡◌, if◌then◌else◌, IsTrue, fals
 ghost use Rattle.nom_error.specs.Modes.{Built, modes};
 ghost use Rattle.nom_internal.specs.Meaning.{ShowsMeaning};
 ghost use Rattle.nom_repeat.specs.Items.{items_meaning, item_errors, AreLimits, GivesFew, IsNever, IsOneMore, IsStuck};
-ghost use Rattle.nom_repeat.specs.Kept.{Kept};
+ghost use Rattle.nom_repeat.specs.Accumulated.{Accumulated};
 ghost use Rattle.nom_repeat.specs.Repeat.{IsBelow};
 
-use crate::keep::{Keep, gain};
+use crate::accumulator::{Accumulator, push_item};
 use nom_error::answer::{Err, PResult};
 use nom_error::kind::ErrorKind;
 use nom_error::mode::{Mode, OutputM, OutputMode};
@@ -47,22 +47,22 @@ pub struct Limits {
 /// Items of a parser, one after another, within the limits: what was kept before, and what is kept of
 /// each. `EM` says whether the items' errors are built.
 #[inline(always)]
-pub fn items<OM: OutputMode, EM: Mode, I: Input, F: Parser<I>, K: Keep<F::Output> + Drop>(
+pub fn items<OM: OutputMode, EM: Mode, I: Input, F: Parser<I>, K: Accumulator<F::Output> + Drop>(
     parser: &mut F,
     input: I,
     before: Option<K>,
     limits: Limits,
 ) -> PResult<I, K, F::Error>
     requires sound { (F.meaning (F.state parser.old)).IsSound }
-    requires built { Built OM.Output.BUILDS K.CanKeep before }
+    requires built { Built OM.Output.BUILDS K.CanPush before }
     requires errors { EM.BUILDS ≡ item_errors limits.too_few OM.Error.BUILDS }
     requires limits { AreLimits limits }
-    ensures shown { ShowsMeaning I.seen (Kept K.Gains K.CanKeep (F.IsOutput (F.state parser.old)) before)
-        (items_meaning I.seen F.Error.errors limits K.Grows (F.meaning (F.state parser.old)))
+    ensures shown { ShowsMeaning I.model (Accumulated K.Pushes K.CanPush (F.IsOutput (F.state parser.old)) before)
+        (items_meaning I.model F.Error.errors limits K.Grows (F.meaning (F.state parser.old)))
         (modes OM.Output.BUILDS OM.Error.BUILDS OM.Incomplete.STREAMING) input result }
     ensures kept { F.state parser.new ≡ F.state parser.old }
 {
-    input.known();
+    input.prove_known();
     let mut rest = input;
     let mut kept = before;
     let mut count = 0usize;
@@ -74,7 +74,7 @@ pub fn items<OM: OutputMode, EM: Mode, I: Input, F: Parser<I>, K: Keep<F::Output
             Ok((next, item)) => match stuck(limits.empty, rest.input_len(), next.input_len()) {
                 Some(kind) => return Err(refusal::<OM::Error, I, F::Error>(rest, kind)),
                 None => {
-                    if !gain(&mut kept, item) {
+                    if !push_item(&mut kept, item) {
                         return Err(Err::OutOfMemory);
                     }
                     rest = next;

@@ -4,6 +4,6 @@
 
 ghost use Rattle.std.specs.Prelude.{◌≡◌};
 
+pub mod accumulator;
 pub mod inverted;
 pub mod items;
-pub mod keep;

@@ -1,15 +1,15 @@
 -- The words that were read as numbers, one below the other.
 use Rattle.std.proofs.Common.{◌≡◌, ℕ, ◌+◌, ◌-◌, ◌<◌, ◌≤◌, List, [], length, slice_index, slice_index_or, below_more, arith}
 use Rattle.nom_run.specs.Stream.{NeverFalls}
-use Rattle.nom_run.specs.Words.{IsNumber, number_of, StartsWithNumbers}
+use Rattle.nom_run.specs.Words.{IsNumber, word_number, StartsWithNumbers}
 
 -- those before a place, and the one there
 module _ (ws : List (List ℕ)) (cuts : List ℕ) (i floor cut : ℕ) (lengths : length cuts ≡ i)
-    (each : (k : ℕ) → k < i → IsNumber (slice_index_or ws k []) × (slice_index cuts k ≡ number_of (slice_index_or ws k []))) (ordered : NeverFalls cuts)
-    (last : 0 < i → slice_index cuts (i - 1) ≡ floor) (here : IsNumber (slice_index_or ws i []) × (cut ≡ number_of (slice_index_or ws i [])))
+    (each : (k : ℕ) → k < i → IsNumber (slice_index_or ws k []) × (slice_index cuts k ≡ word_number (slice_index_or ws k []))) (ordered : NeverFalls cuts)
+    (last : 0 < i → slice_index cuts (i - 1) ≡ floor) (here : IsNumber (slice_index_or ws i []) × (cut ≡ word_number (slice_index_or ws i [])))
     (above : floor ≤ cut) where
   abbrev Rises : ℕ → Type 0
-  Rises k = number_of (slice_index_or ws k []) ≤ number_of (slice_index_or ws (k + 1) [])
+  Rises k = word_number (slice_index_or ws k []) ≤ word_number (slice_index_or ws (k + 1) [])
 
   rises_before : (k : ℕ) → k + 1 < i → Rises k
   rises_before k h = omega (arith, (each k (omega arith)).1, (each (k + 1) h).1, ordered k (omega (arith, lengths)))

@@ -4,9 +4,9 @@ use Rattle.std.proofs.Common.{ap, subst, arith, length-append}
 use Rattle.nom_error.specs.declared.value.Error.{Error}
 use Rattle.nom_error.specs.declared.answer.Needed.{Needed}
 use Rattle.nom_error.specs.declared.answer.Err as Answer
-use Rattle.nom_traits.specs.Input.{IsRest}
-use Rattle.nom_traits.specs.Rests.{span-ones}
-use Rattle.nom_traits.specs.Bytes.{seen_bytes}
+use Rattle.nom_traits.specs.Input.{IsSuffixOf}
+use Rattle.nom_traits.specs.Rests.{items_len-ones}
+use Rattle.nom_traits.specs.Bytes.{bytes_model}
 use Rattle.nom_internal.specs.Outcome.{Outcome, Parses, failure}
 use Rattle.nom_internal.specs.Outcome.Outcome.{Accept, Refuse, Fail, TooLarge, Undecided}
 use Rattle.nom_internal.specs.Meaning.{Meaning}
@@ -28,20 +28,20 @@ on_ok P Q (Err e) f h = tt
 
 -- the length of a beginning
 start_is : (whole : Bytes) (cuts : List ℕ) (index start : ℕ) (x : Bytes) → (index < length cuts → start ≡ slice_index cuts index) →
-    (length cuts ≤ index → start ≡ length whole.now) → IsBeginning seen_bytes whole cuts index x → start ≡ length x.now
-start_is whole cuts index start x f g (AtCut h p) = f h ∙ sym p.length_is ∙ span-ones x.now
+    (length cuts ≤ index → start ≡ length whole.now) → IsBeginning bytes_model whole cuts index x → start ≡ length x.now
+start_is whole cuts index start x f g (AtCut h p) = f h ∙ sym p.length_is ∙ items_len-ones x.now
 start_is whole cuts index start x f g (AtEnd h p) =
     let past : length cuts ≤ index = omega (arith, h) in
     g past ∙ ap (λ y. length y.now) (sym p)
 
-rest_len : (whole j : Bytes) (n : ℕ) → IsRest seen_bytes whole n j → length j.now ≡ length whole.now - n
-rest_len whole j n p = omega (arith, ap length p.whole, length-append p.front j.now, span-ones p.front, p.length_is)
+rest_len : (whole j : Bytes) (n : ℕ) → IsSuffixOf bytes_model whole n j → length j.now ≡ length whole.now - n
+rest_len whole j n p = omega (arith, ap length p.whole, length-append p.front j.now, items_len-ones p.front, p.length_is)
 
 module _ {V O : Type 0} (lines : V → List ℕ) (IsOutput : V → O → Type 0) (given : O → List ℕ)
     (same : (v : V) (o : O) → IsOutput v o → given o ≡ lines v) (Blames : Error Bytes → Type 0) (index start : ℕ) (whole x : Bytes)
     (begins : start ≡ length x.now) where
   says : (o : Outcome V) → ((large : Bool) → o ≡ failure large → ⊥) → (answer : Result (Bytes × O) AnswerErr) (text : List ℕ) (status : ℕ) →
-      Parses seen_bytes IsOutput whole Blames o answer → IsTold given index start answer text status → Says lines Blames index whole.now x.now o text status
+      Parses bytes_model IsOutput whole Blames o answer → IsTold given index start answer text status → Says lines Blames index whole.now x.now o text status
   says (Accept n v) never answer text status p t =
       let told = subst (λ a. IsTold given index start a text status) p.4 t in
       let parts : decided_text index ++ given p.1 ++ rest_text (length (p.0).now) ≡ decided_text index ++ lines v ++ rest_text (length whole.now - n) =
@@ -60,13 +60,13 @@ module _ {V O : Type 0} (lines : V → List ℕ) (IsOutput : V → O → Type 0)
 module _ {V O : Type 0} (m : Meaning Bytes V (Error Bytes)) (lines : V → List ℕ) (IsOutput : V → O → Type 0) (given : O → List ℕ)
     (same : (v : V) (o : O) → IsOutput v o → given o ≡ lines v) (whole : Bytes) (cuts : List ℕ) (index start : ℕ)
     (at_cut : index < length cuts → start ≡ slice_index cuts index) (at_end : length cuts ≤ index → start ≡ length whole.now)
-    (known : seen_bytes.IsKnown whole) (never : (large : Bool) (i : Bytes) → seen_bytes.IsKnown i → m.answers true i (failure large) → ⊥) where
-  begins_known : (x : Bytes) → IsBeginning seen_bytes whole cuts index x → seen_bytes.IsKnown x
+    (known : bytes_model.IsKnown whole) (never : (large : Bool) (i : Bytes) → bytes_model.IsKnown i → m.answers true i (failure large) → ⊥) where
+  begins_known : (x : Bytes) → IsBeginning bytes_model whole cuts index x → bytes_model.IsKnown x
   begins_known x (AtCut h p) = p.known
-  begins_known x (AtEnd h e) = subst seen_bytes.IsKnown (sym e) known
+  begins_known x (AtEnd h e) = subst bytes_model.IsKnown (sym e) known
 
-  answered : (answer : Result (Bytes × O) AnswerErr) (text : List ℕ) (status : ℕ) (g : IsGrown seen_bytes IsOutput m whole cuts index answer) →
-      AnswersOn seen_bytes IsOutput m whole cuts index g.beginning answer → IsTold given index start answer text status →
+  answered : (answer : Result (Bytes × O) AnswerErr) (text : List ℕ) (status : ℕ) (g : IsGrown bytes_model IsOutput m whole cuts index answer) →
+      AnswersOn bytes_model IsOutput m whole cuts index g.beginning answer → IsTold given index start answer text status →
       IsReportBy m lines whole.now cuts text status
   answered answer text status g (RanOutOn e h) t = absurd (subst (λ a. IsTold given index start a text status) e t)
   answered answer text status g (ShownOn b) t = record {
@@ -86,6 +86,6 @@ module _ {V O : Type 0} (m : Meaning Bytes V (Error Bytes)) (lines : V → List 
         status b.shown t;
   }
 
-  pub reported : (answer : Result (Bytes × O) AnswerErr) (text : List ℕ) (status : ℕ) → IsGrown seen_bytes IsOutput m whole cuts index answer →
+  pub reported : (answer : Result (Bytes × O) AnswerErr) (text : List ℕ) (status : ℕ) → IsGrown bytes_model IsOutput m whole cuts index answer →
       IsTold given index start answer text status → IsReportBy m lines whole.now cuts text status
   reported answer text status g t = answered answer text status g g.answer t

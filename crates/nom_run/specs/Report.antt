@@ -6,7 +6,7 @@ use Rattle.nom_error.specs.declared.answer.Needed.{Needed}
 use Rattle.nom_error.specs.declared.answer.Err as Answer
 use Rattle.nom_error.specs.declared.answer.Err.TheVariants as Stop
 use Rattle.nom_error.specs.Answers.{size_of}
-use Rattle.nom_traits.specs.Bytes.{seen_bytes}
+use Rattle.nom_traits.specs.Bytes.{bytes_model}
 use Rattle.nom_internal.specs.Outcome.{Outcome}
 use Rattle.nom_internal.specs.Outcome.Outcome.{Accept, Refuse, Fail, TooLarge, Undecided}
 use Rattle.nom_internal.specs.Meaning.{Meaning}
@@ -34,9 +34,9 @@ pub record IsReportBy {V : Type 0} (m : Meaning Bytes V (Error Bytes)) (lines : 
   pub whole_is : whole.now ≡ bytes
   pub index : ℕ
   pub in_range : index ≤ length cuts
-  pub waited : (k : ℕ) → k < index → Waits seen_bytes m whole (slice_index cuts k)
+  pub waited : (k : ℕ) → k < index → Waits bytes_model m whole (slice_index cuts k)
   pub beginning : Bytes
-  pub begins : IsBeginning seen_bytes whole cuts index beginning
+  pub begins : IsBeginning bytes_model whole cuts index beginning
   pub outcome : Outcome V
   pub answered : m.answers true beginning outcome
   pub decided : index < length cuts → (k : Option ℕ) → outcome ≡ Undecided k → ⊥

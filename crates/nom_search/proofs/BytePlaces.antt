@@ -7,25 +7,25 @@ use Rattle.std.proofs.Math.Seq.{take-append_seam, drop-append_seam}
 use Rattle.std.proofs.lemmas.List.{length-take-le, take-append-drop, take_all, get_or-take, get_or-drop}
 use Rattle.memchr.specs.Find.{IsFirst, IsFirstByte, Nowhere, OccursAt, Passes, FindsNeedle}
 use Rattle.memchr.proofs.lemmas.MatchLemmas.{OccursAt-split, OccursAt-from_part}
-use Rattle.nom_traits.specs.Rests.{span-ones}
-use Rattle.nom_search.specs.Substrings.{StandsAt, FindsBytes}
+use Rattle.nom_traits.specs.Rests.{items_len-ones}
+use Rattle.nom_search.specs.Substrings.{IsFoundAt, FindsBytes}
 
 -- the bytes from a place on, as a slice gives them
 pub rest_is : (bs : List ℕ) (n : ℕ) → take (length bs - n) (drop n bs) ≡ drop n bs
 rest_is bs n = take_all (length bs - n) (drop n bs) (omega (arith, length-drop n bs))
 
 module _ (bs t : List ℕ) where
-  stands : (n : ℕ) → OccursAt bs t n → StandsAt (λ _. 1) t bs n
+  stands : (n : ℕ) → OccursAt bs t n → IsFoundAt (λ _. 1) t bs n
   stands n h = record {
     before = take n bs;
     rest = drop (n + length t) bs;
     whole = sym (take-append-drop n bs) ∙ ap (λ ys. take n bs ++ ys) (OccursAt-split bs t n h);
-    length_is = span-ones (take n bs) ∙ length-take-le n bs (omega (arith, h.fits));
+    length_is = items_len-ones (take n bs) ∙ length-take-le n bs (omega (arith, h.fits));
   }
 
-  occurs : (n : ℕ) → StandsAt (λ _. 1) t bs n → OccursAt bs t n
+  occurs : (n : ℕ) → IsFoundAt (λ _. 1) t bs n → OccursAt bs t n
   occurs n s =
-      let size : n ≡ length s.before = sym s.length_is ∙ span-ones s.before in
+      let size : n ≡ length s.before = sym s.length_is ∙ items_len-ones s.before in
       let dropped : drop n bs ≡ t ++ s.rest =
       ap (λ ys. drop n ys) s.whole ∙ (ap (λ k. drop k (s.before ++ (t ++ s.rest))) size ∙ drop-append_seam s.before (t ++ s.rest)) in
       OccursAt-from_part bs t n (omega (arith, size, ap length s.whole, length-append s.before (t ++ s.rest), length-append t s.rest))

@@ -4,9 +4,9 @@ use Rattle.std.specs.Prelude.{Some, None, chars, encode_utf8_all, IsUtf8, IsChar
 use Rattle.std.specs.Char.{len_utf8}
 use Rattle.std.proofs.Math.Seq.{take-append_seam, drop-append_seam}
 use Rattle.std.proofs.lemmas.Str.{IsUtf8-take, IsUtf8-nil, IsCharBoundary-start, IsCharBoundary-from_rest, chars-append, encodes-chars, encodes-append}
-use Rattle.nom_traits.specs.Rests.{span-ones}
-use Rattle.nom_traits.specs.Text.{span-text}
-use Rattle.nom_search.specs.Substrings.{StandsAt, FindsFirst, FindsBytes}
+use Rattle.nom_traits.specs.Rests.{items_len-ones}
+use Rattle.nom_traits.specs.Text.{items_len-text}
+use Rattle.nom_search.specs.Substrings.{IsFoundAt, FindsFirst, FindsBytes}
 
 -- a text begins where some character does
 begins : (x : ℕ) (t ys : List ℕ) → IsCharBoundary (x ∷ t) 0 → IsCharBoundary ((x ∷ t) ++ ys) 0
@@ -32,18 +32,18 @@ before_utf8 : (bs t : List ℕ) → IsUtf8 bs → IsUtf8 t → (n : ℕ) (h : Fi
 before_utf8 bs [] u v n h =
     let s = h.0 in
     let front : n ≤ 0 = h.1 0 (record { before = []; rest = bs; whole = refl; length_is = refl }) in
-    subst IsUtf8 (sym (is_empty s.before (omega (arith, front, s.length_is, span-ones s.before)))) IsUtf8-nil
+    subst IsUtf8 (sym (is_empty s.before (omega (arith, front, s.length_is, items_len-ones s.before)))) IsUtf8-nil
 before_utf8 bs (x ∷ t) u v n h = let s = h.0 in cut_utf8 bs s.before t s.rest x u v s.whole
 
 module _ (bs t : List ℕ) (u : IsUtf8 bs) (v : IsUtf8 t) where
-  pub text_stands : (n : ℕ) → StandsAt len_utf8 (chars t) (chars bs) n → StandsAt (λ _. 1) t bs n
+  pub text_stands : (n : ℕ) → IsFoundAt len_utf8 (chars t) (chars bs) n → IsFoundAt (λ _. 1) t bs n
   text_stands n s = record {
     before = encode_utf8_all s.before;
     rest = encode_utf8_all s.rest;
     whole = sym (encodes-chars bs u) ∙
         (ap encode_utf8_all s.whole ∙ (encodes-append s.before (chars t ++ s.rest) ∙
         ap (λ ys. encode_utf8_all s.before ++ ys) (encodes-append (chars t) s.rest ∙ ap (λ ys. ys ++ encode_utf8_all s.rest) (encodes-chars t v))));
-    length_is = span-ones (encode_utf8_all s.before) ∙ (sym (span-text s.before) ∙ s.length_is);
+    length_is = items_len-ones (encode_utf8_all s.before) ∙ (sym (items_len-text s.before) ∙ s.length_is);
   }
 
   pub text_found : (r : Option ℕ) → FindsBytes t bs r → FindsFirst len_utf8 (chars t) (chars bs) r
@@ -55,7 +55,7 @@ module _ (bs t : List ℕ) (u : IsUtf8 bs) (v : IsUtf8 t) where
           before = chars s.before;
           rest = chars s.rest;
           whole = ap chars s.whole ∙ (chars-append s.before (t ++ s.rest) w ∙ ap (λ ys. chars s.before ++ ys) (chars-append t s.rest v));
-          length_is = span-text (chars s.before) ∙ (ap length (encodes-chars s.before w) ∙ (sym (span-ones s.before) ∙ s.length_is));
+          length_is = items_len-text (chars s.before) ∙ (ap length (encodes-chars s.before w) ∙ (sym (items_len-ones s.before) ∙ s.length_is));
         },
         λ m k. h.1 m (text_stands m k),
       )

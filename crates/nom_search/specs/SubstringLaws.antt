@@ -3,11 +3,11 @@ use Rattle.std.specs.Prelude.{◌≡◌, ℕ, ◌≤◌, ◌⊎◌, List, [], �
 use Rattle.std.specs.Borrow.{Bor}
 use Rattle.std.specs.Char.{len_utf8}
 use Rattle.std.proofs.Common.{arith, sym, ◌∙◌, ap, subst, inl, inr, append_assoc}
-use Rattle.nom_traits.specs.Input.{Seen, span}
-use Rattle.nom_traits.specs.Rests.{span-append}
-use Rattle.nom_traits.specs.Bytes.{seen_bytes}
-use Rattle.nom_traits.specs.Text.{seen_text}
-use Rattle.nom_search.specs.Substrings.{FindLaws, StandsAt, FindsFirst, FindsBytes}
+use Rattle.nom_traits.specs.Input.{Model, items_len}
+use Rattle.nom_traits.specs.Rests.{items_len-append}
+use Rattle.nom_traits.specs.Bytes.{bytes_model}
+use Rattle.nom_traits.specs.Text.{text_model}
+use Rattle.nom_search.specs.Substrings.{FindLaws, IsFoundAt, FindsFirst, FindsBytes}
 
 -- of two lists in front of one, one is a front of the other
 one_longer : {A : Type 0} (t xs ys more : List A) → t ++ ys ≡ xs ++ more → ((rest : List A) × (xs ≡ t ++ rest)) ⊎
@@ -19,14 +19,14 @@ one_longer (a ∷ t) (b ∷ xs) ys more e =
     let tails : t ++ ys ≡ xs ++ more = cc in
     elim (one_longer t xs ys more tails) [ inl h ↦ inl (h.0, cc (heads, h.1)) | inr h ↦ inr (h.0, h.1, cc (heads, h.2)) ]
 
-module _ {A : Type 0} (weight : A → ℕ) (t : List A) where
-  one_result : (xs : List A) (r s : Option ℕ) → FindsFirst weight t xs r → FindsFirst weight t xs s → r ≡ s
+module _ {A : Type 0} (item_len : A → ℕ) (t : List A) where
+  one_result : (xs : List A) (r s : Option ℕ) → FindsFirst item_len t xs r → FindsFirst item_len t xs s → r ≡ s
   one_result xs (Some n) (Some m) h k = ap Some (omega (arith, h.1 m k.0, k.1 n h.0))
   one_result xs (Some n) None h k = absurd (k n h.0)
   one_result xs None (Some m) h k = absurd (h m k.0)
   one_result xs None None h k = refl
 
-  stands_more : (xs more : List A) (n : ℕ) → StandsAt weight t xs n → StandsAt weight t (xs ++ more) n
+  stands_more : (xs more : List A) (n : ℕ) → IsFoundAt item_len t xs n → IsFoundAt item_len t (xs ++ more) n
   stands_more xs more n s = record {
     before = s.before;
     rest = s.rest ++ more;
@@ -35,7 +35,7 @@ module _ {A : Type 0} (weight : A → ℕ) (t : List A) where
   }
 
   -- a needle that stands before the end of a place found stands in the shorter list
-  least_more : (xs more : List A) (n m : ℕ) → FindsFirst weight t xs (Some n) → StandsAt weight t (xs ++ more) m → n ≤ m
+  least_more : (xs more : List A) (n m : ℕ) → FindsFirst item_len t xs (Some n) → IsFoundAt item_len t (xs ++ more) m → n ≤ m
   least_more xs more n m h k =
       elim (one_longer (k.before ++ t) xs k.rest more (append_assoc k.before t k.rest ∙ sym k.whole)) [
         | inl j ↦ h.1 m (record { before = k.before; rest = j.0; whole = j.1 ∙ append_assoc k.before t j.0; length_is = k.length_is })
@@ -45,27 +45,27 @@ module _ {A : Type 0} (weight : A → ℕ) (t : List A) where
               arith,
               s.length_is,
               k.length_is,
-              ap (span weight) s.whole,
-              ap (span weight) j.2,
-              span-append weight k.before t,
-              span-append weight xs (j.0 ∷ j.1),
-              span-append weight s.before (t ++ s.rest),
-              span-append weight t s.rest,
+              ap (items_len item_len) s.whole,
+              ap (items_len item_len) j.2,
+              items_len-append item_len k.before t,
+              items_len-append item_len xs (j.0 ∷ j.1),
+              items_len-append item_len s.before (t ++ s.rest),
+              items_len-append item_len t s.rest,
             )
       ]
 
-  found_more : (xs more : List A) (n : ℕ) → FindsFirst weight t xs (Some n) → FindsFirst weight t (xs ++ more) (Some n)
+  found_more : (xs more : List A) (n : ℕ) → FindsFirst item_len t xs (Some n) → FindsFirst item_len t (xs ++ more) (Some n)
   found_more xs more n h = (stands_more xs more n h.0, λ m k. least_more xs more n m h k)
 
-pub first_finding : {I A : Type 0} (w : Seen I A) → FindLaws {T = List A} w (FindsFirst w.weight)
+pub first_finding : {I A : Type 0} (w : Model I A) → FindLaws {T = List A} w (FindsFirst w.item_len)
 first_finding {A = A} w = record {
-  one = λ t i r s u h k. one_result w.weight t (w.elements i) r s h k;
+  one = λ t i r s u h k. one_result w.item_len t (w.elements i) r s h k;
   place = λ t i n u h. let s = h.0 in record { front = s.before; rest = t ++ s.rest; whole = s.whole; length_is = s.length_is };
-  found_stays = λ t x y n h k e f. subst (λ xs. FindsFirst w.weight t xs (Some n)) (sym e.whole) (found_more w.weight t (w.elements x) e.more n f);
+  found_stays = λ t x y n h k e f. subst (λ xs. FindsFirst w.item_len t xs (Some n)) (sym e.whole) (found_more w.item_len t (w.elements x) e.more n f);
 }
 
-pub bytes_finding : FindLaws {I = Bor (List ℕ)} {T = List ℕ} seen_bytes FindsBytes
-bytes_finding = first_finding seen_bytes
+pub bytes_finding : FindLaws {I = Bor (List ℕ)} {T = List ℕ} bytes_model FindsBytes
+bytes_finding = first_finding bytes_model
 
-pub text_finding : FindLaws {I = Bor (List ℕ)} {T = List ℕ} seen_text (FindsFirst len_utf8)
-text_finding = first_finding seen_text
+pub text_finding : FindLaws {I = Bor (List ℕ)} {T = List ℕ} text_model (FindsFirst len_utf8)
+text_finding = first_finding text_model

@@ -62,7 +62,7 @@ pub trait ByteItems: Items + AsBytes {
 
     /// The bytes are those of the items, each of which has as many as its length. A byte of ASCII is an
     /// item of its own.
-    ghost reading: { ReadsBytes Self.seen Self.bytes read };
+    ghost reading: { ReadsBytes Self.model Self.bytes read };
 }
 
 impl ByteItems for &[u8] {

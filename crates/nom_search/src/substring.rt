@@ -15,23 +15,23 @@ pub trait FindSubstring<T>: Items {
     /// What a needle is seen as: needles equal as models are one to every parser.
     ghost Needle: { Type 0 };
 
-    ghost needle_seen: { T → Needle };
+    ghost needle_model: { T → Needle };
 
     /// What a search of a list of items for a needle finds.
     ghost finds: { Needle → List Self.Item → Option ℕ → Type 0 };
 
     /// The first place at which the needle stands, if it stands anywhere. An empty one stands at 0.
     fn find_substring(&self, substr: T) -> Option<usize>
-        ensures { finds (needle_seen substr) (Self.seen.elements self.now) result };
+        ensures { finds (needle_model substr) (Self.model.elements self.now) result };
 
     /// There is one result; what is found begins at a place, and is found there in longer inputs too.
-    ghost finding: { FindLaws Self.seen finds };
+    ghost finding: { FindLaws Self.model finds };
 }
 
 impl<'a, 'b> FindSubstring<&'b [u8]> for &'a [u8] {
     ghost Needle = { List ℕ };
 
-    ghost needle_seen = { λ t. t.now };
+    ghost needle_model = { λ t. t.now };
 
     ghost finds = { FindsBytes };
 
@@ -47,7 +47,7 @@ impl<'a, 'b> FindSubstring<&'b [u8]> for &'a [u8] {
 impl<'a, 'b> FindSubstring<&'b str> for &'a [u8] {
     ghost Needle = { List ℕ };
 
-    ghost needle_seen = { λ t. t.now };
+    ghost needle_model = { λ t. t.now };
 
     ghost finds = { FindsBytes };
 
@@ -63,7 +63,7 @@ impl<'a, 'b> FindSubstring<&'b str> for &'a [u8] {
 impl<'a, 'b> FindSubstring<&'b str> for &'a str {
     ghost Needle = { List ℕ };
 
-    ghost needle_seen = { λ t. chars t.now };
+    ghost needle_model = { λ t. chars t.now };
 
     ghost finds = { FindsFirst len_utf8 };
 
@@ -132,6 +132,6 @@ fn first_match(bytes: &[u8], needle: &[u8]) -> Option<usize>
 fn find_text(text: &str, needle: &str) -> Option<usize>
     ensures { FindsFirst len_utf8 (chars needle.now) (chars text.now) result }
 {
-    text.known();
+    text.prove_known();
     find_bytes(text.as_bytes(), needle.as_bytes())
 }

@@ -31,7 +31,7 @@ impl<I: Items, F: Parser<I> + Drop, G: Parser<I, Error = F::Error> + Drop> Parse
 
     ghost IsOutput = { λ s. G.IsOutput s.1 };
 
-    ghost meaning = { λ s. preceded_meaning I.seen (F.meaning s.0) (G.meaning s.1) };
+    ghost meaning = { λ s. preceded_meaning I.model (F.meaning s.0) (G.meaning s.1) };
 
     ghost Pins = { λ s. G.Pins s.1 };
 
@@ -45,7 +45,7 @@ impl<I: Items, F: Parser<I> + Drop, G: Parser<I, Error = F::Error> + Drop> Parse
         self.second.process::<OM>(rest)
     }
 
-    ghost lawful = { λ s k. sequence_lawful I.seen I.lawful (λ u v. v) (with_outputs false) (λ o. o) (F.meaning s.0) (G.meaning s.1) (F.lawful s.0 k.0)
+    ghost lawful = { λ s k. sequence_lawful I.model I.lawful (λ u v. v) (with_outputs false) (λ o. o) (F.meaning s.0) (G.meaning s.1) (F.lawful s.0 k.0)
         (G.lawful s.1 k.1) };
 }
 
@@ -54,7 +54,7 @@ impl<I: Items, F: StreamParser<I> + Drop, G: StreamParser<I, Error = F::Error> +
 > for Preceded<F, G> {
     ghost pinned = { λ s k p. G.pinned s.1 k.1 p };
 
-    ghost steady = { λ s k. sequence_steady I.seen I.lawful (λ u v. v) (with_outputs false) (λ o. o) (F.meaning s.0) (G.meaning s.1) (F.steady s.0 k.0)
+    ghost steady = { λ s k. sequence_steady I.model I.lawful (λ u v. v) (with_outputs false) (λ o. o) (F.meaning s.0) (G.meaning s.1) (F.steady s.0 k.0)
         (G.steady s.1 k.1) };
 }
 
@@ -79,7 +79,7 @@ impl<I: Items, F: Parser<I> + Drop, G: Parser<I, Error = F::Error> + Drop> Parse
 
     ghost IsOutput = { λ s. F.IsOutput s.0 };
 
-    ghost meaning = { λ s. terminated_meaning I.seen (F.meaning s.0) (G.meaning s.1) };
+    ghost meaning = { λ s. terminated_meaning I.model (F.meaning s.0) (G.meaning s.1) };
 
     ghost Pins = { λ s. F.Pins s.0 };
 
@@ -94,7 +94,7 @@ impl<I: Items, F: Parser<I> + Drop, G: Parser<I, Error = F::Error> + Drop> Parse
         Ok((rest, first))
     }
 
-    ghost lawful = { λ s k. sequence_lawful I.seen I.lawful (λ u v. u) (λ o. o) (with_outputs false) (F.meaning s.0) (G.meaning s.1) (F.lawful s.0 k.0)
+    ghost lawful = { λ s k. sequence_lawful I.model I.lawful (λ u v. u) (λ o. o) (with_outputs false) (F.meaning s.0) (G.meaning s.1) (F.lawful s.0 k.0)
         (G.lawful s.1 k.1) };
 }
 
@@ -103,6 +103,6 @@ impl<I: Items, F: StreamParser<I> + Drop, G: StreamParser<I, Error = F::Error> +
 > for Terminated<F, G> {
     ghost pinned = { λ s k p. F.pinned s.0 k.0 p };
 
-    ghost steady = { λ s k. sequence_steady I.seen I.lawful (λ u v. u) (λ o. o) (with_outputs false) (F.meaning s.0) (G.meaning s.1) (F.steady s.0 k.0)
+    ghost steady = { λ s k. sequence_steady I.model I.lawful (λ u v. u) (λ o. o) (with_outputs false) (F.meaning s.0) (G.meaning s.1) (F.steady s.0 k.0)
         (G.steady s.1 k.1) };
 }

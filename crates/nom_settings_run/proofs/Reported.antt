@@ -5,7 +5,7 @@ use Rattle.std.specs.Prelude.{encode_utf8_all, IsUtf8, Option}
 use Rattle.nom_error.specs.declared.answer.Needed.{Needed}
 use Rattle.nom_error.specs.declared.answer.Err as Answer
 use Rattle.nom_error.specs.declared.value.Error.{Error}
-use Rattle.nom_traits.specs.Slices.{Slice, IsSeenAs}
+use Rattle.nom_traits.specs.Slices.{Slice, IsModelledBy}
 use Rattle.nom_internal.specs.Outcome.{Outcome, Parses}
 use Rattle.nom_internal.specs.Outcome.Outcome.{Accept, Refuse, Fail, TooLarge, Undecided}
 use Rattle.nom_internal.specs.Outcome.ParsesAnswer.{ParseRanOut, Parsed}
@@ -17,7 +17,7 @@ use Rattle.nom_located.specs.Located.{place}
 use Rattle.nom_settings_run.specs.Report.{IsReport, IsTold, IsToldBytes, OfText, place_of, Says, Text, bytes_of, line_text, seen_there, section_text}
 use Rattle.nom_settings_run.specs.Report.{section_tree_text, sections_text, setting_text, setting_tree_text, spelled, trees_text}
 
-same_bytes : (t : Slice seen_there) (o : Text) → IsSeenAs seen_there t o → spelled o ≡ bytes_of t
+same_bytes : (t : Slice seen_there) (o : Text) → IsModelledBy seen_there t o → spelled o ≡ bytes_of t
 same_bytes t o h = ap encode_utf8_all h.elements_are
 
 pub same_line : (line column line' column' : ℕ) (s n v s' n' v' : List ℕ) → line ≡ line' → column ≡ column' → s ≡ s' → n ≡ n' → v ≡ v' →
@@ -27,7 +27,7 @@ same_line line column line' column' s n v s' n' v' a b c d e =
     ∙ (ap (λ x. line_text line' column' s' x v) d ∙ ap (λ x. line_text line' column' s' n' x) e)))
 
 -- outputs have the lines of their trees
-setting_same : (u : Slice seen_there) (s : Text) → IsSeenAs seen_there u s → (t : SettingTree seen_there) (o : Text × Text) →
+setting_same : (u : Slice seen_there) (s : Text) → IsModelledBy seen_there u s → (t : SettingTree seen_there) (o : Text × Text) →
     IsSetting seen_there t o → setting_text s o ≡ setting_tree_text u t
 setting_same u s h t o k = same_line _ _ _ _ _ _ _ _ _ _ (ap (λ m. m.0.line) k.0.mark_is) (ap (λ m. m.0.column) k.0.mark_is) (same_bytes u s h)
     (same_bytes t.0 o.0 k.0) (same_bytes t.1 o.1 k.1)

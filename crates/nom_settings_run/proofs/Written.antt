@@ -3,12 +3,12 @@ use Rattle.std.proofs.Common.{◌≡◌, ℕ, List, codes, subst}
 use Rattle.nom_error.specs.declared.kind.ErrorKind.{ErrorKind}
 use Rattle.nom_error.specs.declared.kind.ErrorKind.TheVariants.{IsNot}
 use Rattle.nom_error.specs.declared.value.Error.{Error}
-use Rattle.nom_traits.specs.Input.{Seen}
+use Rattle.nom_traits.specs.Input.{Model}
 use Rattle.nom_internal.specs.Meaning.{Meaning}
 use Rattle.nom_settings_run.specs.Settings.{SectionTree, settings_grammar, written_of}
 
 -- what holds of the grammar by its parts holds of the grammar
-pub by_its_parts : {I : Type 0} (w : Seen I ℕ) (P : Meaning I (List (SectionTree w)) (Error I) → Type 0) (opens closes sign cr lf cr₂ lf₂ : ℕ)
+pub by_its_parts : {I : Type 0} (w : Model I ℕ) (P : Meaning I (List (SectionTree w)) (Error I) → Type 0) (opens closes sign cr lf cr₂ lf₂ : ℕ)
     (header name : List ℕ) (k l : ErrorKind) → opens ≡ 91 → closes ≡ 93 → sign ≡ 61 → cr ≡ 13 → lf ≡ 10 → cr₂ ≡ 13 → lf₂ ≡ 10 → header ≡ codes "]\r\n" →
     name ≡ codes "[=\r\n" → k ≡ IsNot → l ≡ IsNot → P (written_of w opens closes sign cr lf cr₂ lf₂ header name k l) → P (settings_grammar w)
 by_its_parts w P opens closes sign cr lf cr₂ lf₂ header name k l o c s e f e₂ f₂ h n a b g =

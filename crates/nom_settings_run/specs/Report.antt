@@ -10,13 +10,13 @@ use Rattle.nom_error.specs.declared.answer.Err.TheVariants as Stop
 use Rattle.nom_error.specs.declared.kind.ErrorKind.{ErrorKind}
 use Rattle.nom_error.specs.declared.kind.ErrorKind.TheVariants as Kind
 use Rattle.nom_error.specs.declared.value.Error.{Error}
-use Rattle.nom_traits.specs.Input.{Seen}
+use Rattle.nom_traits.specs.Input.{Model}
 use Rattle.nom_traits.specs.Slices.{Slice}
-use Rattle.nom_traits.specs.Text.{seen_text}
+use Rattle.nom_traits.specs.Text.{text_model}
 use Rattle.nom_traits.specs.contracts.text.RefStrItems.TheImpl as TextItems
 use Rattle.nom_traits.specs.contracts.input.CharValue.TheImpl as CharValue
 use Rattle.nom_located.specs.declared.located.Located.{Located}
-use Rattle.nom_located.specs.Located.{IsAfter, Place, place, seen_located}
+use Rattle.nom_located.specs.Located.{IsAfter, Place, place, located_model}
 use Rattle.nom_internal.specs.Outcome.{Outcome}
 use Rattle.nom_internal.specs.Outcome.Outcome.{Accept, Refuse, Fail, TooLarge, Undecided}
 use Rattle.nom_run.specs.Texts.{lines_text}
@@ -29,8 +29,8 @@ Text = Located (Bor (List ℕ)) ℕ TextItems.ghosts CharValue.ghosts
 abbrev pub place_of : Text → Place
 place_of x = place x.offset x.line x.column
 
-abbrev pub seen_there : Seen Text ℕ
-seen_there = seen_located (λ x. x.fragment) place_of encode_utf8 seen_text
+abbrev pub seen_there : Model Text ℕ
+seen_there = located_model (λ x. x.fragment) place_of encode_utf8 text_model
 
 -- the line of a setting: where its name stands, the name of its section, and its name and value
 abbrev pub line_text : (line column : ℕ) (section name value : List ℕ) → List ℕ

@@ -5,12 +5,12 @@ use Rattle.nom_error.specs.declared.kind.ErrorKind.{ErrorKind}
 use Rattle.nom_error.specs.declared.kind.ErrorKind.TheVariants as Kind
 use Rattle.nom_error.specs.Errors.{Errors}
 use Rattle.nom_error.specs.declared.value.Error.{Error}
-use Rattle.nom_traits.specs.Input.{Seen}
-use Rattle.nom_traits.specs.Slices.{Slice, IsSeenAs}
+use Rattle.nom_traits.specs.Input.{Model}
+use Rattle.nom_traits.specs.Slices.{Slice, IsModelledBy}
 use Rattle.nom_internal.specs.Meaning.{Meaning}
 use Rattle.nom_internal.specs.Sequence.{pair_meaning}
 use Rattle.nom_bytes.specs.ParsedRuns.{run_meaning, run1_meaning}
-use Rattle.nom_first.specs.Heads.{char_meaning}
+use Rattle.nom_character_first.specs.FirstItem.{char_meaning}
 use Rattle.nom_sequence.specs.Sequences.{preceded_meaning, terminated_meaning}
 use Rattle.nom_combinator.specs.Verdicts.{complete_meaning, cut_meaning, opt_meaning}
 use Rattle.nom_multi.specs.Many.{many0_meaning}
@@ -30,7 +30,7 @@ kept = record {
 abbrev pub in_value : ℕ → Bool
 in_value c = not (c == 13) && not (c == 10)
 
-module _ {I : Type 0} (w : Seen I ℕ) where
+module _ {I : Type 0} (w : Model I ℕ) where
   abbrev char_of : ℕ → Meaning I ℕ (Error I)
   char_of = char_meaning w (λ x. x) kept
 
@@ -55,10 +55,10 @@ module _ {I : Type 0} (w : Seen I ℕ) where
   SectionTree = Slice w × List SettingTree
 
   abbrev pub IsSetting : SettingTree → (I × I) → Type 0
-  IsSetting t o = IsSeenAs w t.0 o.0 × IsSeenAs w t.1 o.1
+  IsSetting t o = IsModelledBy w t.0 o.0 × IsModelledBy w t.1 o.1
 
   abbrev pub IsSection : {A : Type 0} → SectionTree → (I × Vec (I × I) A) → Type 0
-  IsSection t o = IsSeenAs w t.0 o.0 × AllZip IsSetting t.1 o.1.items
+  IsSection t o = IsModelledBy w t.0 o.0 × AllZip IsSetting t.1 o.1.items
 
   -- the outputs of a tree: the slices of its names and values
   abbrev pub AreSections : {A : Type 0} → List SectionTree → Vec (I × Vec (I × I) A) A → Type 0

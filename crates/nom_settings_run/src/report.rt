@@ -171,7 +171,7 @@ fn tell_bytes<A: Allocator + Copy>(
     ensures { IfOk result (λ r. IsToldBytes (take count bytes.now) (string_bytes r.0) r.1) }
 {
     let start = Located::new(bytes);
-    start.known();
+    start.prove_known();
     let there = start.take_from(count);
     stands_after(start, count, there);
     tell_fault(alloc, there.line(), there.column(), ErrorKind::Char)
@@ -192,7 +192,7 @@ impl Report for Settings {
         match str::from_utf8(bytes) {
             Ok(text) => {
                 let whole = Located::new(text);
-                whole.known();
+                whole.prove_known();
                 tell(alloc, settings(alloc, whole))
             }
             Err(error) => tell_bytes(alloc, bytes, error.valid_up_to()),

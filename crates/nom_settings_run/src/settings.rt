@@ -40,7 +40,7 @@ pub fn settings<A: Allocator + Copy, I: Input<Item = char>>(
     alloc: A,
     input: I,
 ) -> IResult<I, Vec<Section<I, A>, A>, Error<I>>
-    ensures { ParsesMeaning I.seen (AreSections I.seen) (settings_grammar I.seen) false input result }
+    ensures { ParsesMeaning I.model (AreSections I.model) (settings_grammar I.model) false input result }
 {
     let end_of_header = pair(opt(char('\r')), char('\n'));
     let title = terminated(is_not("]\r\n"), pair(char(']'), end_of_header));

@@ -3,9 +3,9 @@ use Rattle.std.proofs.Common.{arith, ◌≡◌, ℕ, suc, ◌+◌, ◌-◌, ◌^
 use Rattle.std.proofs.Common.{◌∙◌, ap, subst}
 use Rattle.std.specs.List.{AllZip}
 use Rattle.nom_error.specs.declared.value.Error.{Error}
-use Rattle.nom_traits.specs.Bytes.{seen_bytes, bytes_lawful}
-use Rattle.nom_traits.specs.Input.{IsRest}
-use Rattle.nom_traits.specs.Rests.{rest_rest, same_cut, span-ones}
+use Rattle.nom_traits.specs.Bytes.{bytes_model, bytes_lawful}
+use Rattle.nom_traits.specs.Input.{IsSuffixOf}
+use Rattle.nom_traits.specs.Rests.{rest_rest, same_cut, items_len-ones}
 use Rattle.nom_internal.specs.Outcome.Outcome.{Accept}
 use Rattle.nom_internal.specs.Meaning.{Meaning}
 use Rattle.nom_iterator.specs.Iterated.{AreItems, Ends}
@@ -17,7 +17,7 @@ use Rattle.nom_stream.proofs.Outcomes.{nil_of}
 use Rattle.nom_stream.proofs.Wholes.{answers_whole, left_after}
 
 abbrev AllItems : {V : Type 0} → Meaning Bytes V (Error Bytes) → Bool → ℕ → Bytes → List V → Type 0
-AllItems m complete = AreItems seen_bytes (AtWhole m complete)
+AllItems m complete = AreItems bytes_model (AtWhole m complete)
 
 module _ {R A V O : Type 0} (left : R → Option (List ℕ)) (IsItem : V → O → Type 0) (m : Meaning Bytes V (Error Bytes)) where
   -- after an answer that gave no item the same bytes are left
@@ -39,7 +39,7 @@ module _ {R A V O : Type 0} (left : R → Option (List ℕ)) (IsItem : V → O �
         trees_are = k.trees_are;
         items = subst (λ z. AllZip IsItem k.first z) (sym same) k.items;
         place = k.place;
-        begins = subst (λ z. IsRest seen_bytes whole z k.place) total k.begins;
+        begins = subst (λ z. IsSuffixOf bytes_model whole z k.place) total k.begins;
         left_then = k.left_then;
         go_on = subst (λ z. AllItems m z.complete limit k.place k.others) d.settings.1 k.go_on;
         offset = omega (arith, k.offset, d.offset, count, none);
@@ -48,13 +48,13 @@ module _ {R A V O : Type 0} (left : R → Option (List ℕ)) (IsItem : V → O �
 
   abbrev AreSo : Stream R A → Stream R A → List (Told O) → Type 0
   AreSo s t rs =
-      (whole : Bytes) → seen_bytes.IsKnown whole → HasLeft left s whole.now → s.offset ≤ 2 ^ 64 - 1 →
+      (whole : Bytes) → bytes_model.IsKnown whole → HasLeft left s whole.now → s.offset ≤ 2 ^ 64 - 1 →
       (limit : ℕ) (trees : List V) → AllItems m s.settings.complete (length (items_of rs) + limit) whole trees →
       AreOfWhole left IsItem m s t rs whole limit trees
 
   -- an item before those that follow
   prepend : (s u t : Stream R A) (n : ℕ) (o : O) (rs : List (Told O)) (whole next : Bytes) (size limit : ℕ) (v : V) (vs : List V) →
-      Decides left IsItem m s u (Ok (Some (n, o))) → n ≡ size → IsItem v o → IsRest seen_bytes whole size next →
+      Decides left IsItem m s u (Ok (Some (n, o))) → n ≡ size → IsItem v o → IsSuffixOf bytes_model whole size next →
       AreOfWhole left IsItem m u t rs next limit vs → AreOfWhole left IsItem m s t (Ok (Some (n, o)) ∷ rs) whole limit (v ∷ vs)
   prepend s u t n o rs whole next size limit v vs d count item rest k =
       let counts : u.offset ≡ min (s.offset + n) (2 ^ 64 - 1) = d.offset in
@@ -65,7 +65,8 @@ module _ {R A V O : Type 0} (left : R → Option (List ℕ)) (IsItem : V → O �
         trees_are = ap (λ z. v ∷ z) k.trees_are;
         items = (item, k.items);
         place = k.place;
-        begins = subst (λ z. IsRest seen_bytes whole z k.place) all (rest_rest seen_bytes bytes_lawful whole size next (used_by rs) k.place rest k.begins);
+        begins = subst (λ z. IsSuffixOf bytes_model whole z k.place) all
+            (rest_rest bytes_model bytes_lawful whole size next (used_by rs) k.place rest k.begins);
         left_then = k.left_then;
         go_on = subst (λ z. AllItems m z.complete limit k.place k.others) d.settings.1 k.go_on;
         offset = omega (arith, k.offset, counts);
@@ -73,7 +74,7 @@ module _ {R A V O : Type 0} (left : R → Option (List ℕ)) (IsItem : V → O �
       }
 
   item_first : (s u t : Stream R A) (n : ℕ) (o : O) (rs : List (Told O)) → Decides left IsItem m s u (Ok (Some (n, o))) → AreSo u t rs →
-      (whole : Bytes) → seen_bytes.IsKnown whole → HasLeft left s whole.now → s.offset ≤ 2 ^ 64 - 1 →
+      (whole : Bytes) → bytes_model.IsKnown whole → HasLeft left s whole.now → s.offset ≤ 2 ^ 64 - 1 →
       (limit : ℕ) (trees : List V) → AllItems m s.settings.complete (suc (length (items_of rs) + limit)) whole trees →
       AreOfWhole left IsItem m s t (Ok (Some (n, o)) ∷ rs) whole limit trees
   item_first s u t n o rs d others whole known has low limit [] a =
@@ -88,7 +89,7 @@ module _ {R A V O : Type 0} (left : R → Option (List ℕ)) (IsItem : V → O �
       let count : n ≡ size = cc (told.2) in
       let l = left_after left IsItem m s u (Ok (Some (n, o))) whole.now d has in
       let cut = same_cut (λ (b : ℕ). 1) (λ b. omega arith) l.0 l.2.0 rest.front next.now (sym l.2.2 ∙ rest.whole)
-      (span-ones l.0 ∙ l.1 ∙ count ∙ sym rest.length_is) in
+      (items_len-ones l.0 ∙ l.1 ∙ count ∙ sym rest.length_is) in
       let then : HasLeft left u next.now = subst (HasLeft left u) cut.1 l.2.1 in
       let counts : u.offset ≡ min (s.offset + n) (2 ^ 64 - 1) = d.offset in
       prepend s u t n o rs whole next size limit v vs d count (subst (λ z. IsItem z o) tree told.1) rest

@@ -5,9 +5,9 @@ use Rattle.nom_error.specs.Answers.{size_of}
 use Rattle.nom_error.specs.declared.answer.Needed.{Needed}
 use Rattle.nom_error.specs.declared.answer.Err.TheVariants as Stop
 use Rattle.nom_error.specs.declared.value.Error.{Error}
-use Rattle.nom_traits.specs.Bytes.{seen_bytes}
-use Rattle.nom_traits.specs.Input.{IsRest}
-use Rattle.nom_traits.specs.Rests.{span-ones}
+use Rattle.nom_traits.specs.Bytes.{bytes_model}
+use Rattle.nom_traits.specs.Input.{IsSuffixOf}
+use Rattle.nom_traits.specs.Rests.{items_len-ones}
 use Rattle.nom_internal.specs.Outcome.{Outcome, Parses}
 use Rattle.nom_internal.specs.Outcome.Outcome.{Accept, Refuse, Fail, TooLarge, Undecided}
 use Rattle.nom_internal.specs.Outcome.ParsesAnswer.{ParseRanOut, Parsed}
@@ -27,27 +27,27 @@ module _ {V O : Type 0} (IsItem : V → O → Type 0) (m : Meaning Bytes V (Erro
     pub size : ℕ
     pub tree : V
     pub accepted : m.answers more x (Accept size tree)
-    pub rest : IsRest seen_bytes x size j
+    pub rest : IsSuffixOf bytes_model x size j
     pub item : IsItem tree o
 
   accepts_of : (j : Bytes) (o : O) (p : Outcome V) → m.answers more x p →
-      Parses {E = Error Bytes} seen_bytes IsItem x (m.blames more x) p (Ok (j, o)) → Accepts j o
+      Parses {E = Error Bytes} bytes_model IsItem x (m.blames more x) p (Ok (j, o)) → Accepts j o
   accepts_of j o (Accept n v) a h =
       let both : ◌≡◌ {A = Bytes × O} (h.0, h.1) (j, o) = cc (h.4) in
       let place : h.0 ≡ j = ap (λ (z : Bytes × O). z.0) both in
       let value : h.1 ≡ o = ap (λ (z : Bytes × O). z.1) both in
-      record { size = n; tree = v; accepted = a; rest = subst (IsRest seen_bytes x n) place h.2; item = subst (λ z. IsItem v z) value h.3 }
+      record { size = n; tree = v; accepted = a; rest = subst (IsSuffixOf bytes_model x n) place h.2; item = subst (λ z. IsItem v z) value h.3 }
   accepts_of j o Refuse a h = absurd (cc (h.2))
   accepts_of j o Fail a h = absurd (cc (h.2))
   accepts_of j o TooLarge a h = absurd (cc (h.2))
   accepts_of j o (Undecided k) a h = absurd (cc (h.2))
 
-  pub accepts : (j : Bytes) (o : O) → ParsesMeaning seen_bytes IsItem m more x (Ok (j, o)) → Accepts j o
+  pub accepts : (j : Bytes) (o : O) → ParsesMeaning bytes_model IsItem m more x (Ok (j, o)) → Accepts j o
   accepts j o (ParseRanOut e r) = absurd (cc (e))
   accepts j o (Parsed p a h) = accepts_of j o p a h
 
   lacks_of : (k : Needed) (p : Outcome V) → m.answers more x p →
-      Parses {E = Error Bytes} seen_bytes IsItem x (m.blames more x) p (Err (Stop.Incomplete k)) → m.answers more x (Undecided (size_of k))
+      Parses {E = Error Bytes} bytes_model IsItem x (m.blames more x) p (Err (Stop.Incomplete k)) → m.answers more x (Undecided (size_of k))
   lacks_of k (Accept n v) a h = absurd (cc (h.4))
   lacks_of k Refuse a h = absurd (cc (h.2))
   lacks_of k Fail a h = absurd (cc (h.2))
@@ -56,19 +56,19 @@ module _ {V O : Type 0} (IsItem : V → O → Type 0) (m : Meaning Bytes V (Erro
       let same : h.0 ≡ k = cc (h.2) in
       subst (λ z. m.answers more x (Undecided z)) (sym h.1 ∙ ap size_of same) a
 
-  lacks : (k : Needed) → ParsesMeaning seen_bytes IsItem m more x (Err (Stop.Incomplete k)) → m.answers more x (Undecided (size_of k))
+  lacks : (k : Needed) → ParsesMeaning bytes_model IsItem m more x (Err (Stop.Incomplete k)) → m.answers more x (Undecided (size_of k))
   lacks k (ParseRanOut e r) = absurd (cc (e))
   lacks k (Parsed p a h) = lacks_of k p a h
 
   refuses_of : (e : Error Bytes) (p : Outcome V) → m.answers more x p →
-      Parses {E = Error Bytes} seen_bytes IsItem x (m.blames more x) p (Err (Stop.Error e)) → m.answers more x Refuse
+      Parses {E = Error Bytes} bytes_model IsItem x (m.blames more x) p (Err (Stop.Error e)) → m.answers more x Refuse
   refuses_of e (Accept n v) a h = absurd (cc (h.4))
   refuses_of e Refuse a h = a
   refuses_of e Fail a h = absurd (cc (h.2))
   refuses_of e TooLarge a h = absurd (cc (h.2))
   refuses_of e (Undecided k) a h = absurd (cc (h.2))
 
-  refuses : (e : Error Bytes) → ParsesMeaning seen_bytes IsItem m more x (Err (Stop.Error e)) → m.answers more x Refuse
+  refuses : (e : Error Bytes) → ParsesMeaning bytes_model IsItem m more x (Err (Stop.Error e)) → m.answers more x Refuse
   refuses e (ParseRanOut u r) = absurd (cc (u))
   refuses e (Parsed p a h) = refuses_of e p a h
 
@@ -76,14 +76,14 @@ module _ {V O : Type 0} (IsItem : V → O → Type 0) (m : Meaning Bytes V (Erro
   Fails = m.answers more x Fail ⊎ m.answers more x TooLarge
 
   fails_of : (e : Error Bytes) (p : Outcome V) → m.answers more x p →
-      Parses {E = Error Bytes} seen_bytes IsItem x (m.blames more x) p (Err (Stop.Failure e)) → Fails
+      Parses {E = Error Bytes} bytes_model IsItem x (m.blames more x) p (Err (Stop.Failure e)) → Fails
   fails_of e (Accept n v) a h = absurd (cc (h.4))
   fails_of e Refuse a h = absurd (cc (h.2))
   fails_of e Fail a h = inl a
   fails_of e TooLarge a h = inr a
   fails_of e (Undecided k) a h = absurd (cc (h.2))
 
-  fails : (e : Error Bytes) → ParsesMeaning seen_bytes IsItem m more x (Err (Stop.Failure e)) → Fails
+  fails : (e : Error Bytes) → ParsesMeaning bytes_model IsItem m more x (Err (Stop.Failure e)) → Fails
   fails e (ParseRanOut u r) = absurd (cc (u))
   fails e (Parsed p a h) = fails_of e p a h
 
@@ -103,19 +103,19 @@ module _ {V O : Type 0} (IsItem : V → O → Type 0) (m : Meaning Bytes V (Erro
   accepted : (n : ℕ) (j : Bytes) (o : O) (new : List ℕ) → n + length j.now ≡ length x.now → new ≡ j.now → Accepts j o → Means new (taken_of n o)
   accepted zero j o new e is a =
       let rest = a.rest in
-      let size : zero ≡ a.size = same_size zero a.size rest.front j.now e rest.whole (sym (span-ones rest.front) ∙ rest.length_is) in
-      let none : rest.front ≡ [] = nil_of rest.front (omega (arith, size, span-ones rest.front, rest.length_is)) in
+      let size : zero ≡ a.size = same_size zero a.size rest.front j.now e rest.whole (sym (items_len-ones rest.front) ∙ rest.length_is) in
+      let none : rest.front ≡ [] = nil_of rest.front (omega (arith, size, items_len-ones rest.front, rest.length_is)) in
       ((a.tree, subst (λ z. m.answers more x (Accept z a.tree)) (sym size) a.accepted), is ∙ sym (rest.whole ∙ ap (λ z. z ++ j.now) none))
   accepted (suc n) j o new e is a =
       let rest = a.rest in
-      let size : suc n ≡ a.size = same_size (suc n) a.size rest.front j.now e rest.whole (sym (span-ones rest.front) ∙ rest.length_is) in (
+      let size : suc n ≡ a.size = same_size (suc n) a.size rest.front j.now e rest.whole (sym (items_len-ones rest.front) ∙ rest.length_is) in (
         a.tree,
         a.item,
         subst (λ z. m.answers more x (Accept z a.tree)) (sym size) a.accepted,
-        (rest.front, sym (span-ones rest.front) ∙ rest.length_is ∙ sym size, rest.whole ∙ ap (λ z. rest.front ++ z) (sym is)),
+        (rest.front, sym (items_len-ones rest.front) ∙ rest.length_is ∙ sym size, rest.whole ∙ ap (λ z. rest.front ++ z) (sym is)),
       )
 
-  by_answer : (new : List ℕ) (answer : Answered O) (r : Taken O) → ParsesMeaning seen_bytes IsItem m more x answer → Items.Took x new answer r → Means new r
+  by_answer : (new : List ℕ) (answer : Answered O) (r : Taken O) → ParsesMeaning bytes_model IsItem m more x answer → Items.Took x new answer r → Means new r
   by_answer new (Ok (j, o)) r p h = subst (Means new) (sym h.3) (accepted h.0 j o new h.1 h.2 (accepts j o p))
   by_answer new (Err (Stop.Incomplete k)) r p h = subst (Means new) (sym h.1) (lacks k p, h.0)
   by_answer new (Err (Stop.Error e)) r p h = subst (Means new) (sym h.1) (refuses e p, h.0)

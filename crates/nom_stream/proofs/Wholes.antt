@@ -5,7 +5,7 @@ use Rattle.std.specs.Io.KnownBytes.{Consumes, IsAtEnd}
 use Rattle.nom_error.specs.Answers.{size_of}
 use Rattle.nom_error.specs.declared.answer.Needed.{Needed}
 use Rattle.nom_error.specs.declared.value.Error.{Error}
-use Rattle.nom_traits.specs.Bytes.{seen_bytes}
+use Rattle.nom_traits.specs.Bytes.{bytes_model}
 use Rattle.nom_internal.specs.Outcome.{Outcome, IsDecided}
 use Rattle.nom_internal.specs.Outcome.Outcome.{Accept, Refuse, Fail, TooLarge, Undecided}
 use Rattle.nom_internal.specs.Meaning.{Meaning, IsLawful, IsSteady}
@@ -37,10 +37,10 @@ module _ {R A : Type 0} (left : R → Option (List ℕ)) where
       let c = consumes_known (left s.source) (left u.source) h.0 given h.1 g.consumed in
       (c.0, c.1, h.2 ∙ ap (λ z. held_of s.held ++ z) c.2 ∙ sym (append_assoc (held_of s.held) given c.0) ∙ ap (λ z. z ++ c.0) (sym g.added))
 
-module _ {V : Type 0} (m : Meaning Bytes V (Error Bytes)) (lawful : IsLawful seen_bytes m) (x i : Bytes) (kx : seen_bytes.IsKnown x)
-    (ki : seen_bytes.IsKnown i) where
+module _ {V : Type 0} (m : Meaning Bytes V (Error Bytes)) (lawful : IsLawful bytes_model m) (x i : Bytes) (kx : bytes_model.IsKnown x)
+    (ki : bytes_model.IsKnown i) where
   abbrev Steady : Type 0
-  Steady = IsSteady seen_bytes m
+  Steady = IsSteady bytes_model m
 
   -- what is decided on a beginning is the outcome at the whole
   decided : (steady : Steady) (more : List ℕ) → i.now ≡ x.now ++ more → (complete : Bool) (o p : Outcome V) → m.answers true x o → IsDecided o →
@@ -58,7 +58,7 @@ module _ {V : Type 0} (m : Meaning Bytes V (Error Bytes)) (lawful : IsLawful see
   lacking e true f k p a b = absurd (cc (f))
 
   -- and then it is the complete one
-  completed : i.now ≡ x.now → (complete : Bool) → complete ≡ true → (y : Bytes) → seen_bytes.IsKnown y → i.now ≡ y.now →
+  completed : i.now ≡ x.now → (complete : Bool) → complete ≡ true → (y : Bytes) → bytes_model.IsKnown y → i.now ≡ y.now →
       (k : Option ℕ) (o p : Outcome V) → m.answers true x (Undecided k) → m.answers false y o → AtWhole m complete i p → o ≡ p
   completed e false f y ky d k o p a c b = absurd (cc (f))
   completed e true f y ky d k o p a c (inl b) =
@@ -125,7 +125,7 @@ module _ {R A V O : Type 0} (IsItem : V → O → Type 0) (m : Meaning Bytes V (
   moves_answer u r (Unfilled why l b before last d w e) = stays (held_of u.held) r (ap used_of e ∙ unread_used why) b
 
 module _ {R A V O : Type 0} (left : R → Option (List ℕ)) (IsItem : V → O → Type 0) (m : Meaning Bytes V (Error Bytes)) (u t : Stream R A)
-    (opened : IsOpen left u) (same_source : t.source ≡ u.source) (same_settings : t.settings ≡ u.settings) (i : Bytes) (ki : seen_bytes.IsKnown i)
+    (opened : IsOpen left u) (same_source : t.source ≡ u.source) (same_settings : t.settings ≡ u.settings) (i : Bytes) (ki : bytes_model.IsKnown i)
     (has : HasLeft left u i.now) (p : Outcome V) (b : AtWhole m u.settings.complete i p) where
   at_end : u.ended ≡ true → i.now ≡ held_of u.held
   at_end e = has.2 ∙ ap (λ z. held_of u.held ++ z) (end_known (left u.source) has.0 has.1 (opened.at_end e)) ∙ append-nil (held_of u.held)

@@ -5,7 +5,7 @@ use Rattle.nom_error.specs.declared.answer.Needed.{Needed}
 use Rattle.nom_error.specs.declared.answer.Err as Answer
 use Rattle.nom_error.specs.declared.answer.Err.TheVariants as Stop
 use Rattle.nom_error.specs.declared.value.Error.{Error}
-use Rattle.nom_traits.specs.Bytes.{seen_bytes}
+use Rattle.nom_traits.specs.Bytes.{bytes_model}
 use Rattle.nom_internal.specs.Meaning.{Meaning, IsLawful, IsSteady, ParsesMeaning}
 use Rattle.nom_stream.specs.declared.held.Held.{Held}
 use Rattle.nom_stream.specs.declared.step.Taken.{Taken}
@@ -22,9 +22,9 @@ Answered O = Result (Bytes × O) (Answer.Err (Error Bytes) (Error Bytes) Needed)
 -- What is answered at an input, by whether more may come, is what the grammar means there; and the laws of its meaning: one outcome
 -- for each input, and what is decided stays on every longer one.
 pub record ParsesItem {V O : Type 0} (IsItem : V → O → Type 0) (m : Meaning Bytes V (Error Bytes)) (more : Bool) (x : Bytes) (r : Answered O) : Type 0 where
-  pub shown : ParsesMeaning seen_bytes IsItem m more x r
-  pub lawful : IsLawful seen_bytes m
-  pub steady : IsSteady seen_bytes m
+  pub shown : ParsesMeaning bytes_model IsItem m more x r
+  pub lawful : IsLawful bytes_model m
+  pub steady : IsSteady bytes_model m
 
 -- what is told where nothing is accepted: of an error its kind, and the length of the input that it holds
 abbrev pub IsStopped : {O : Type 0} → Answer.Err (Error Bytes) (Error Bytes) Needed → Taken O → Type 0
@@ -46,7 +46,7 @@ Took x new (Err e) r = (new ≡ x.now) × IsStopped e r
 -- What is held is parsed once, by whether more may come: an accepted item is taken off its front, and else it stays.
 pub record Takes {V O : Type 0} (IsItem : V → O → Type 0) (m : Meaning Bytes V (Error Bytes)) (more : Bool) (old new : List ℕ) (r : Taken O) : Type 0 where
   pub input : Bytes
-  pub known : seen_bytes.IsKnown input
+  pub known : bytes_model.IsKnown input
   pub is_held : input.now ≡ old
   pub answer : Answered O
   pub parses : ParsesItem IsItem m more input answer

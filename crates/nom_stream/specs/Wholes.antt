@@ -3,8 +3,8 @@ use Rattle.std.specs.Prelude.{◌≡◌, ℕ, ◌+◌, ◌-◌, ◌^◌, ◌≤�
 use Rattle.std.specs.List.{AllZip}
 use Rattle.nom_error.specs.Answers.{size_of}
 use Rattle.nom_error.specs.declared.value.Error.{Error}
-use Rattle.nom_traits.specs.Bytes.{seen_bytes}
-use Rattle.nom_traits.specs.Input.{IsRest}
+use Rattle.nom_traits.specs.Bytes.{bytes_model}
+use Rattle.nom_traits.specs.Input.{IsSuffixOf}
 use Rattle.nom_internal.specs.Outcome.{Outcome}
 use Rattle.nom_internal.specs.Outcome.Outcome.{Accept, Refuse, Fail, TooLarge, Undecided}
 use Rattle.nom_internal.specs.Meaning.{Meaning}
@@ -79,9 +79,9 @@ module _ {R A V O : Type 0} (left : R → Option (List ℕ)) (IsItem : V → O �
     pub trees_are : trees ≡ first ++ others
     pub items : AllZip IsItem first (items_of rs)
     pub place : Bytes
-    pub begins : IsRest seen_bytes whole (used_by rs) place
+    pub begins : IsSuffixOf bytes_model whole (used_by rs) place
     pub left_then : HasLeft left t place.now
-    pub go_on : AreItems seen_bytes (AtWhole m s.settings.complete) limit place others
+    pub go_on : AreItems bytes_model (AtWhole m s.settings.complete) limit place others
     pub offset : t.offset ≡ min (s.offset + used_by rs) (2 ^ 64 - 1)
     pub settings : t.settings ≡ s.settings
 
@@ -89,7 +89,7 @@ module _ (A : Type 0) {R V O : Type 0} (left : R → Option (List ℕ)) (IsItem 
   -- One answer is that of the whole, however its bytes came.
   abbrev pub AnswersWhole : Type 0
   AnswersWhole =
-      (s t : Stream R A) (r : Told O) → Decides left IsItem m s t r → (whole : Bytes) → seen_bytes.IsKnown whole → HasLeft left s whole.now →
+      (s t : Stream R A) (r : Told O) → Decides left IsItem m s t r → (whole : Bytes) → bytes_model.IsKnown whole → HasLeft left s whole.now →
       (p : Outcome V) → AtWhole m s.settings.complete whole p → TellsWhole IsItem m t r whole p
 
   -- The bytes of an item, as they are lent after the call, are the first of those that no item had before it.
@@ -102,7 +102,7 @@ module _ (A : Type 0) {R V O : Type 0} (left : R → Option (List ℕ)) (IsItem 
   -- where calls between them gave none.
   abbrev pub ItemsOfWhole : Type 0
   ItemsOfWhole =
-      (s t : Stream R A) (rs : List (Told O)) → Calls left IsItem m rs s t → (whole : Bytes) → seen_bytes.IsKnown whole → HasLeft left s whole.now →
+      (s t : Stream R A) (rs : List (Told O)) → Calls left IsItem m rs s t → (whole : Bytes) → bytes_model.IsKnown whole → HasLeft left s whole.now →
       s.offset ≤ 2 ^ 64 - 1 →
-      (limit : ℕ) (trees : List V) → AreItems seen_bytes (AtWhole m s.settings.complete) (length (items_of rs) + limit) whole trees →
+      (limit : ℕ) (trees : List V) → AreItems bytes_model (AtWhole m s.settings.complete) (length (items_of rs) + limit) whole trees →
       AreOfWhole left IsItem m s t rs whole limit trees

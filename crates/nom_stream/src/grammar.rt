@@ -41,8 +41,8 @@ pub trait Grammar {
 // The laws of a sound stream parser.
 fn laws_of<I: Items, P: StreamParser<I>>(_parser: &P)
     requires { (P.meaning (P.state _parser.now)).IsSound }
-    ensures lawful { IsLawful I.seen (P.meaning (P.state _parser.now)) }
-    ensures steady { IsSteady I.seen (P.meaning (P.state _parser.now)) }
+    ensures lawful { IsLawful I.model (P.meaning (P.state _parser.now)) }
+    ensures steady { IsSteady I.model (P.meaning (P.state _parser.now)) }
 {}
 
 /// What a stream parser answers at an input, by whether more may come: the body of `Grammar::item` for any parser of this

@@ -58,7 +58,7 @@ pub fn take<A: Allocator, G: Grammar>(
     ensures stays { Stays held.old held.new result }
 {
     let input = held.as_slice();
-    input.known();
+    input.prove_known();
     let len = input.len();
     match grammar.item(input, more) {
         Ok((rest, item)) => {

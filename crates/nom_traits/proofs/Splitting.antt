@@ -1,11 +1,11 @@
 -- Splits of an input after its run.
 use Rattle.std.proofs.Common.{◌≡◌, ℕ, ◌<◌, ◌++◌, Bool, List, [], ◌∷◌, length, refl, sym, ◌∙◌, ap, subst, arith}
-use Rattle.nom_traits.specs.Input.{Seen, InputLaws, span}
+use Rattle.nom_traits.specs.Input.{Model, InputLaws, items_len}
 use Rattle.nom_traits.specs.Runs.{Stops}
 use Rattle.nom_traits.specs.Splits.{IsRunLength, IsRunEmpty}
 
-module _ {I A : Type 0} (w : Seen I A) (Meets Ends : A → Type 0) (streaming : Bool) (i : I) where
-  no_items : (l : InputLaws w) (xs : List A) → span w.weight xs ≡ 0 → xs ≡ []
+module _ {I A : Type 0} (w : Model I A) (Meets Ends : A → Type 0) (streaming : Bool) (i : I) where
+  no_items : (l : InputLaws w) (xs : List A) → items_len w.item_len xs ≡ 0 → xs ≡ []
   no_items l [] e = refl
   no_items l (x ∷ xs) e = absurd (omega (arith, l.positive x, e))
 

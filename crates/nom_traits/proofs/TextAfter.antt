@@ -3,16 +3,16 @@ use Rattle.std.proofs.Common.{◌≡◌, ℕ, ◌+◌, ◌-◌, ◌<◌, ◌≤�
 use Rattle.std.specs.Prelude.{chars, encode_utf8_all, encode_utf8, IsUtf8}
 use Rattle.std.specs.Char.{len_utf8}
 use Rattle.std.proofs.lemmas.Str.{length-encode, encodes-chars, chars_past_char, IsUtf8-past_char, length-le-encodes}
-use Rattle.nom_traits.specs.Input.{span}
-use Rattle.nom_traits.specs.Rests.{span-append}
+use Rattle.nom_traits.specs.Input.{items_len}
+use Rattle.nom_traits.specs.Rests.{items_len-append}
 use Rattle.nom_traits.specs.Slices.{IsCount}
-use Rattle.nom_traits.specs.Text.{seen_text}
+use Rattle.nom_traits.specs.Text.{text_model}
 
 -- where the first characters, so many, are looked for: those passed, and what is left
 pub record IsAfter (bs rest passed : List ℕ) (index left count : ℕ) : Type 0 where
   pub whole : chars bs ≡ passed ++ chars rest
   pub utf8 : IsUtf8 rest
-  pub index_is : index ≡ span len_utf8 passed
+  pub index_is : index ≡ items_len len_utf8 passed
   pub left_is : left + length passed ≡ count
   pub room : index + length rest ≡ length bs
 
@@ -24,13 +24,13 @@ pub after_next : {bs from rest passed : List ℕ} (c : ℕ) {index left count k 
 after_next {from = from} {rest = rest} {passed = passed} c a e d h = record {
   whole = a.whole ∙ ap (λ z. passed ++ z) (chars_past_char from rest c a.utf8 e) ∙ sym (append_assoc passed (c ∷ []) (chars rest));
   utf8 = IsUtf8-past_char from rest c a.utf8 e;
-  index_is = omega (arith, span-append len_utf8 passed (c ∷ []), a.index_is);
+  index_is = omega (arith, items_len-append len_utf8 passed (c ∷ []), a.index_is);
   left_is = omega (arith, length-append passed (c ∷ []), a.left_is);
   room = omega (arith, a.room, ap length e, length-append (encode_utf8 c) rest, length-encode c);
 }
 
 pub after_found : {i : Bor (List ℕ)} {rest passed : List ℕ} {index left count : ℕ} → IsAfter i.now rest passed index left count → left ≡ 0 →
-    IsCount seen_text i count index
+    IsCount text_model i count index
 after_found {rest = rest} {passed = passed} a h = record {
   place = record { front = passed; rest = chars rest; whole = a.whole; length_is = sym a.index_is };
   count_is = omega (arith, a.left_is);

@@ -6,11 +6,11 @@ use Rattle.std.proofs.lemmas.Str.{IsUtf8-take, chars-append, encodes-chars, enco
 use Rattle.nom_traits.specs.declared.compare.CompareResult.TheVariants as Compared
 use Rattle.nom_traits.specs.Compares.{IsFound, IsBegun, ComparesAs}
 use Rattle.nom_traits.specs.CompareTags.{IsForm, bytes_are_bytes, found_not_begun}
-use Rattle.nom_traits.specs.Bytes.{seen_bytes, bytes_lawful}
-use Rattle.nom_traits.specs.Text.{seen_text, span-text}
+use Rattle.nom_traits.specs.Bytes.{bytes_model, bytes_lawful}
+use Rattle.nom_traits.specs.Text.{text_model, items_len-text}
 use Rattle.nom_traits.proofs.TextCuts.{place_boundary}
 
-module _ (form : List ℕ → List ℕ) (f : IsForm form) (i : Bor (List ℕ)) (u : seen_text.IsKnown i) (t : List ℕ) where
+module _ (form : List ℕ → List ℕ) (f : IsForm form) (i : Bor (List ℕ)) (u : text_model.IsKnown i) (t : List ℕ) where
   -- the characters of a front that ends between characters
   pub text_ok : ComparesAs (λ xs. xs) form t i.now Compared.Ok → IsCharBoundary i.now (length t) → ComparesAs encode_utf8_all form t (chars i.now) Compared.Ok
   text_ok k p =
@@ -42,7 +42,7 @@ module _ (form : List ℕ → List ℕ) (f : IsForm form) (i : Bor (List ℕ)) (
         front = k.front;
         rest = k.rest;
         whole = k.whole;
-        length_is = span-text k.front ∙
+        length_is = items_len-text k.front ∙
             (sym (f.size (encode_utf8_all k.front)) ∙ (ap length k.tag_is ∙ f.size t));
       })
 
@@ -58,4 +58,4 @@ module _ (form : List ℕ → List ℕ) (f : IsForm form) (i : Bor (List ℕ)) (
   -- a tag that ends inside a character
   pub text_inside : ComparesAs (λ xs. xs) form t i.now Compared.Ok → (IsCharBoundary i.now (length t) → ⊥) →
       ComparesAs encode_utf8_all form t (chars i.now) Compared.Error
-  text_inside h p = (λ k. p (found_boundary k), λ k. found_not_begun seen_bytes bytes_lawful (λ xs. xs) bytes_are_bytes form f t i.now h (begun_bytes k))
+  text_inside h p = (λ k. p (found_boundary k), λ k. found_not_begun bytes_model bytes_lawful (λ xs. xs) bytes_are_bytes form f t i.now h (begun_bytes k))

@@ -8,9 +8,9 @@ use Rattle.std.proofs.lemmas.Bool.{and_parts, or_cases, leb-true, eqb-true, case
 use Rattle.std.proofs.lemmas.List.{append_cancel_left}
 use Rattle.std.proofs.lemmas.List.Elements.{All-head, All-tail, All-same}
 use Rattle.std.proofs.lemmas.Str.{IsUtf8-from_ascii, chars-append, chars-IsAscii, encodes-chars, encodes-append, encodes-IsAscii, byte_from_char}
-use Rattle.nom_traits.specs.Bytes.{seen_bytes}
-use Rattle.nom_traits.specs.Text.{seen_text, span-text}
-use Rattle.nom_traits.specs.Rests.{span-ones}
+use Rattle.nom_traits.specs.Bytes.{bytes_model}
+use Rattle.nom_traits.specs.Text.{text_model, items_len-text}
+use Rattle.nom_traits.specs.Rests.{items_len-ones}
 use Rattle.nom_traits.specs.Runs.{EndsAt, IsPosition}
 use Rattle.nom_traits.specs.Classes.{is_alpha_code, is_dec_digit_code, is_hex_digit_code, is_space_code, is_newline_code, is_multispace_code}
 use Rattle.nom_traits.specs.Classes.{has_code, IsInside, IsOutside}
@@ -76,8 +76,8 @@ module _ (class : AsciiClass) where
   pub all_inside : (bs : List ℕ) → All (IsInside class) bs → All (IsInside class) (chars bs)
   all_inside bs h = All-same (IsInside class) (chars bs) bs (chars-IsAscii bs (run_ascii bs h)) h
 
-  pub text_ends : (i j : Bor (List ℕ)) (n : ℕ) → j.now ≡ i.now → IsUtf8 i.now → EndsAt seen_bytes (IsInside class) (IsOutside class) j n →
-      EndsAt seen_text (IsInside class) (IsOutside class) i n
+  pub text_ends : (i j : Bor (List ℕ)) (n : ℕ) → j.now ≡ i.now → IsUtf8 i.now → EndsAt bytes_model (IsInside class) (IsOutside class) j n →
+      EndsAt text_model (IsInside class) (IsOutside class) i n
   text_ends i j n same u e =
       let run = e.run in
       let r = e.is_run in
@@ -95,10 +95,10 @@ module _ (class : AsciiClass) where
         item = next.0;
         rest = next.1;
         is_run = record { whole = parts ∙ ap (λ z. run ++ z) next.2; meets = r.meets; stops = next.3 };
-        length_is = span-text run ∙ (ap length (encodes-IsAscii run ascii) ∙ (sym (span-ones run) ∙ e.length_is));
+        length_is = items_len-text run ∙ (ap length (encodes-IsAscii run ascii) ∙ (sym (items_len-ones run) ∙ e.length_is));
       }
 
   pub text_position : (i j : Bor (List ℕ)) (r : Option ℕ) → j.now ≡ i.now → IsUtf8 i.now →
-      IsPosition seen_bytes (IsInside class) (IsOutside class) j r → IsPosition seen_text (IsInside class) (IsOutside class) i r
+      IsPosition bytes_model (IsInside class) (IsOutside class) j r → IsPosition text_model (IsInside class) (IsOutside class) i r
   text_position i j (Some n) same u h = text_ends i j n same u h
   text_position i j None same u h = all_inside i.now (All-same (IsInside class) i.now j.now (sym same) h)

@@ -16,8 +16,8 @@ use Rattle.std.specs.Str.Iter.{char_indices_rest, char_indices_offset, char_indi
 use Rattle.std.specs.declared.str.CharIndices.{CharIndices}
 use Rattle.std.proofs.lemmas.List.Elements.{All-nil, All-cons, All-append}
 use Rattle.std.proofs.lemmas.Str.{encode_same, length-encode, len_utf8_bounds}
-use Rattle.nom_traits.specs.Input.{Seen, span, placed}
-use Rattle.nom_traits.specs.Rests.{span-append}
+use Rattle.nom_traits.specs.Input.{Model, items_len, placed}
+use Rattle.nom_traits.specs.Rests.{items_len-append}
 use Rattle.nom_traits.specs.Runs.{IsPosition}
 
 -- items of length 1 are at their indices
@@ -55,14 +55,14 @@ text_placed (c ∷ cs) n s e f = (
       (pair_same x n c (p.0 ∙ sym f) (sym k.0), text_placed cs (n + len_utf8 c) j k.1 (omega (arith, f, p.2, length-encode x.1, ap len_utf8 k.0))),
 )
 
-module _ {I A S : Type 0} (w : Seen I A) (Meets Ends : A → Type 0) (steps : S → Option A → S → Type 0) where
+module _ {I A S : Type 0} (w : Model I A) (Meets Ends : A → Type 0) (steps : S → Option A → S → Type 0) where
   -- the items that were passed all meet the test, a place lies after them, and s gives the others
   pub record IsWalking (i : I) (place : ℕ) (s : S) : Type 0 where
     pub passed : List A
     pub rest : List A
     pub whole : w.elements i ≡ passed ++ rest
     pub meets : All Meets passed
-    pub place_is : place ≡ span w.weight passed
+    pub place_is : place ≡ items_len w.item_len passed
     pub gives : AlwaysYields steps (λ x. x) s rest
 
   -- the next item
@@ -71,10 +71,10 @@ module _ {I A S : Type 0} (w : Seen I A) (Meets Ends : A → Type 0) (steps : S 
     rest : List A
     whole : w.elements i ≡ passed ++ (x ∷ rest)
     meets : All Meets passed
-    place : n ≡ span w.weight passed
+    place : n ≡ items_len w.item_len passed
     gives : AlwaysYields steps (λ x. x) t rest
 
-  next_of : (i : I) (s t : S) (n : ℕ) (x : A) (passed rest : List A) → w.elements i ≡ passed ++ rest → All Meets passed → n ≡ span w.weight passed →
+  next_of : (i : I) (s t : S) (n : ℕ) (x : A) (passed rest : List A) → w.elements i ≡ passed ++ rest → All Meets passed → n ≡ items_len w.item_len passed →
       AlwaysYields steps (λ x. x) s rest → steps s (Some x) t → IsNext i n x t
   next_of i s t n x passed [] e h p g k = absurd (g x t k)
   next_of i s t n x passed (y ∷ rest) e h p g k =
@@ -96,18 +96,18 @@ module _ {I A S : Type 0} (w : Seen I A) (Meets Ends : A → Type 0) (steps : S 
   ends_of i s t passed [] e h g k = subst (All Meets) (sym (e ∙ append-nil passed)) h
   ends_of i s t passed (y ∷ rest) e h g k = absurd (g.0 t k)
 
-module _ {I A S : Type 0} {w : Seen I A} {Meets Ends : A → Type 0} {steps : S → Option A → S → Type 0} where
+module _ {I A S : Type 0} {w : Model I A} {Meets Ends : A → Type 0} {steps : S → Option A → S → Type 0} where
   pub walk_begins : {i : I} {s : S} → AlwaysYields steps (λ x. x) s (w.elements i) → IsWalking w Meets Ends steps i 0 s
   walk_begins {i = i} h = record { passed = []; rest = w.elements i; whole = refl; meets = All-nil Meets; place_is = refl; gives = h }
 
   -- the place after the next item is within the input
-  pub walk_fits : {i : I} {s : S} (t : S) {n m : ℕ} (x : A) → IsWalking w Meets Ends steps i n s → steps s (Some x) t → m ≡ w.weight x →
-      n + m ≤ span w.weight (w.elements i)
+  pub walk_fits : {i : I} {s : S} (t : S) {n m : ℕ} (x : A) → IsWalking w Meets Ends steps i n s → steps s (Some x) t → m ≡ w.item_len x →
+      n + m ≤ items_len w.item_len (w.elements i)
   walk_fits {i = i} {s = s} t {n = n} x h k e =
       let r = next_in w Meets Ends steps i s t n x h k in
-      omega (arith, r.place, e, ap (λ ys. span w.weight ys) r.whole, span-append w.weight r.passed (x ∷ r.rest))
+      omega (arith, r.place, e, ap (λ ys. items_len w.item_len ys) r.whole, items_len-append w.item_len r.passed (x ∷ r.rest))
 
-  pub walk_goes_on : {i : I} {s : S} (t : S) {n m : ℕ} (x : A) → IsWalking w Meets Ends steps i n s → steps s (Some x) t → m ≡ w.weight x → Meets x →
+  pub walk_goes_on : {i : I} {s : S} (t : S) {n m : ℕ} (x : A) → IsWalking w Meets Ends steps i n s → steps s (Some x) t → m ≡ w.item_len x → Meets x →
       IsWalking w Meets Ends steps i (n + m) t
   walk_goes_on {i = i} {s = s} t {n = n} x h k e meets =
       let r = next_in w Meets Ends steps i s t n x h k in
@@ -116,7 +116,7 @@ module _ {I A S : Type 0} {w : Seen I A} {Meets Ends : A → Type 0} {steps : S 
         rest = r.rest;
         whole = r.whole ∙ sym (append_assoc r.passed (x ∷ []) r.rest);
         meets = All-append Meets r.passed (x ∷ []) r.meets (All-cons Meets x [] meets (All-nil Meets));
-        place_is = omega (arith, r.place, e, span-append w.weight r.passed (x ∷ []));
+        place_is = omega (arith, r.place, e, items_len-append w.item_len r.passed (x ∷ []));
         gives = r.gives;
       }
 

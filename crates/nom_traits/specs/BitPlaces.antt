@@ -5,13 +5,13 @@ use Rattle.std.proofs.Math.Nat.{mod-lt}
 use Rattle.std.proofs.Math.Path.{fun_ext}
 use Rattle.std.proofs.Math.Seq.{take-add, take-append_seam}
 use Rattle.std.proofs.lemmas.List.{append-nil, drop-drop, drop_at, length-take-le, take-append-drop}
-use Rattle.nom_traits.specs.Input.{Seen, IsPlace, IsRest, IsSame, Extends, InputLaws}
-use Rattle.nom_traits.specs.Rests.{same_cut, span-ones}
+use Rattle.nom_traits.specs.Input.{Model, IsBoundary, IsSuffixOf, IsSame, Extends, InputLaws}
+use Rattle.nom_traits.specs.Rests.{same_cut, items_len-ones}
 use Rattle.nom_traits.specs.Slices.{IsCount}
-use Rattle.nom_traits.specs.Bits.{all_bits, whole_bytes, bits_over, AreBytes, HasMarks, BitPlace, past_bits, seen_bits}
+use Rattle.nom_traits.specs.Bits.{all_bits, whole_bytes, bits_over, AreBytes, HasMarks, BitPlace, past_bits, bits_model}
 use Rattle.nom_traits.specs.BitLists.{whole-all_bits, over-all_bits, few_bits, take-all_bits, drop-all_bits, bytes_taken}
 
-module _ {I : Type 0} (w : Seen I ℕ) where
+module _ {I : Type 0} (w : Model I ℕ) where
   -- the mark of x without its first o / 8 bytes, or without all where there are fewer
   abbrev pub byte_mark : I → ℕ → w.Mark
   byte_mark x o = w.mark_after (w.mark x) (take (o / 8) (w.elements x))
@@ -23,28 +23,28 @@ module _ {I : Type 0} (w : Seen I ℕ) where
   -- What the mark of (x, o) tells: the mark of x without its first o / 8 bytes and, where inputs of I can differ in
   -- their marks, the passed bits of the next.
   pub record TellsMarks : Type 0 where
-    pub bytes_told : (x y : I) (o p : ℕ) → w.IsKnown x → w.IsKnown y → (seen_bits w).mark (x, o) ≡ (seen_bits w).mark (y, p) → byte_mark x o ≡ byte_mark y p
-    pub bits_told : (x y : I) (o p : ℕ) → w.IsKnown x → w.IsKnown y → (seen_bits w).mark (x, o) ≡ (seen_bits w).mark (y, p) → HasMarks w →
+    pub bytes_told : (x y : I) (o p : ℕ) → w.IsKnown x → w.IsKnown y → (bits_model w).mark (x, o) ≡ (bits_model w).mark (y, p) → byte_mark x o ≡ byte_mark y p
+    pub bits_told : (x y : I) (o p : ℕ) → w.IsKnown x → w.IsKnown y → (bits_model w).mark (x, o) ≡ (bits_model w).mark (y, p) → HasMarks w →
         passed_bits x o ≡ passed_bits y p
     pub no_more_told : (x y : I) (o p : ℕ) → w.IsKnown x → w.IsKnown y → byte_mark x o ≡ byte_mark y p → passed_bits x o ≡ passed_bits y p →
-        (seen_bits w).mark (x, o) ≡ (seen_bits w).mark (y, p)
+        (bits_model w).mark (x, o) ≡ (bits_model w).mark (y, p)
 
   -- bits are equal as models where their lists are equal
   abbrev pub AreBitsAlone : Type 0
-  AreBitsAlone = (x y : I) (o p : ℕ) → (seen_bits w).elements (x, o) ≡ (seen_bits w).elements (y, p) → IsSame (seen_bits w) (x, o) (y, p)
+  AreBitsAlone = (x y : I) (o p : ℕ) → (bits_model w).elements (x, o) ≡ (bits_model w).elements (y, p) → IsSame (bits_model w) (x, o) (y, p)
 
   -- a longer input of bits is longer by whole bytes
   abbrev pub GrowsByBytes : Type 0
-  GrowsByBytes = (x y : I) (o p : ℕ) → Extends (seen_bits w) (x, o) (y, p) → (bytes : List ℕ) × w.IsMore bytes × AreBytes bytes ×
-      ((seen_bits w).elements (y, p) ≡ (seen_bits w).elements (x, o) ++ all_bits bytes)
+  GrowsByBytes = (x y : I) (o p : ℕ) → Extends (bits_model w) (x, o) (y, p) → (bytes : List ℕ) × w.IsMore bytes × AreBytes bytes ×
+      ((bits_model w).elements (y, p) ≡ (bits_model w).elements (x, o) ++ all_bits bytes)
 
   -- past n bits of (x, o) stands what is (n + o) / 8 bytes on in x, from its bit (n + o) % 8 on
   abbrev pub PassesBits : Type 0
-  PassesBits = (x j : I) (o n k : ℕ) → w.IsKnown x → IsPlace (seen_bits w) (x, o) n → IsCount w x ((n + o) / 8) k → IsRest w x k j →
-      IsRest (seen_bits w) (x, o) n (j, (n + o) % 8)
+  PassesBits = (x j : I) (o n k : ℕ) → w.IsKnown x → IsBoundary (bits_model w) (x, o) n → IsCount w x ((n + o) / 8) k → IsSuffixOf w x k j →
+      IsSuffixOf (bits_model w) (x, o) n (j, (n + o) % 8)
 
   pub grows_by_bytes : GrowsByBytes
-  grows_by_bytes x y o p e = (e.added.bytes, e.added.more, e.added.are_bytes, e.whole ∙ ap (λ bs. (seen_bits w).elements (x, o) ++ bs) e.added.bits_are)
+  grows_by_bytes x y o p e = (e.added.bytes, e.added.more, e.added.are_bytes, e.whole ∙ ap (λ bs. (bits_model w).elements (x, o) ++ bs) e.added.bits_are)
 
   -- where inputs of I do not differ in their marks, inputs of bits do not
   no_marks : ((m n : w.Mark) → m ≡ n) → (m n : BitPlace w) → m ≡ n
@@ -54,7 +54,7 @@ module _ {I : Type 0} (w : Seen I ℕ) where
       ap (λ k. (k, m.1)) (h m.0 n.0) ∙ ap (λ t. (n.0, t)) same
 
   pub bits_alone : ((m n : w.Mark) → m ≡ n) → AreBitsAlone
-  bits_alone h x y o p e = record { elements_are = e; mark_is = fun_ext (λ bs. no_marks h ((seen_bits w).mark (x, o) bs) ((seen_bits w).mark (y, p) bs)) }
+  bits_alone h x y o p e = record { elements_are = e; mark_is = fun_ext (λ bs. no_marks h ((bits_model w).mark (x, o) bs) ((bits_model w).mark (y, p) bs)) }
 
   module _ (l : InputLaws w) where
     -- past the bits of bytes: past the bytes
@@ -73,7 +73,7 @@ module _ {I : Type 0} (w : Seen I ℕ) where
         ∙ ap (λ os. (m, λ (t : HasMarks w). os)) few.1
 
     -- the mark of (x, o), from the place between two bytes before it
-    mark_from : (x : I) (o : ℕ) (bs : List Bool) → AreBytes (w.elements x) → (seen_bits w).mark (x, o) bs ≡ past_bits w (byte_mark x o) (passed_bits x o ++ bs)
+    mark_from : (x : I) (o : ℕ) (bs : List Bool) → AreBytes (w.elements x) → (bits_model w).mark (x, o) bs ≡ past_bits w (byte_mark x o) (passed_bits x o ++ bs)
     mark_from x o bs h =
         let f = take (o / 8) (w.elements x) in
         let parts : o ≡ 8 * (o / 8) + o % 8 = omega arith in
@@ -89,7 +89,7 @@ module _ {I : Type 0} (w : Seen I ℕ) where
         omega (arith, length-take (o % 8) ys, mod-lt o {m = 8} (lit< tt))
 
     -- the mark of (x, o), with no bits after it
-    mark_there : (x : I) (o : ℕ) → AreBytes (w.elements x) → (seen_bits w).mark (x, o) [] ≡ (byte_mark x o, λ _. passed_bits x o)
+    mark_there : (x : I) (o : ℕ) → AreBytes (w.elements x) → (bits_model w).mark (x, o) [] ≡ (byte_mark x o, λ _. passed_bits x o)
     mark_there x o h =
         mark_from x o [] h
         ∙ ap (past_bits w (byte_mark x o)) (append-nil (passed_bits x o))
@@ -98,7 +98,7 @@ module _ {I : Type 0} (w : Seen I ℕ) where
     module _ (values : (i : I) → w.IsKnown i → AreBytes (w.elements i)) where
       pub tells_marks : TellsMarks
       tells_marks =
-          let same : (x y : I) (o p : ℕ) → w.IsKnown x → w.IsKnown y → (seen_bits w).mark (x, o) ≡ (seen_bits w).mark (y, p) →
+          let same : (x y : I) (o p : ℕ) → w.IsKnown x → w.IsKnown y → (bits_model w).mark (x, o) ≡ (bits_model w).mark (y, p) →
           ◌≡◌ {A = BitPlace w} (byte_mark x o, λ _. passed_bits x o) (byte_mark y p, λ _. passed_bits y p) =
           λ x y o p h k e. sym (mark_there x o (values x h)) ∙ ap (λ m. m []) e ∙ mark_there y p (values y k) in
           record {
@@ -115,7 +115,7 @@ module _ {I : Type 0} (w : Seen I ℕ) where
           let bits = all_bits xs in
           let b = (n + o) / 8 in
           let r = (n + o) % 8 in
-          let cut = same_cut w.weight l.positive q.front js c.place.front c.place.rest (sym q.whole ∙ c.place.whole) (q.length_is ∙ sym c.place.length_is) in
+          let cut = same_cut w.item_len l.positive q.front js c.place.front c.place.rest (sym q.whole ∙ c.place.whole) (q.length_is ∙ sym c.place.length_is) in
           let count : length q.front ≡ b = ap length cut.0 ∙ c.count_is in
           let front : take b xs ≡ q.front = ap (take b) q.whole ∙ ap (λ m. take m (q.front ++ js)) (sym count) ∙ take-append_seam q.front js in
           let rest : drop b xs ≡ js = ap (drop b) q.whole ∙ drop_at q.front js b count in
@@ -125,13 +125,13 @@ module _ {I : Type 0} (w : Seen I ℕ) where
           let taken : take o bits ++ take n (drop o bits) ≡ all_bits q.front ++ take r (all_bits js) = sym (take-add o n bits) ∙
           ap (λ m. take m bits) parts ∙ take-all_bits b r xs ∙ ap (λ ys. all_bits ys ++ take r (all_bits (drop b xs))) front ∙
           ap (λ ys. all_bits q.front ++ take r (all_bits ys)) rest in
-          let within : n ≤ length (drop o bits) = omega (arith, ap length p.whole, length-append p.front p.rest, span-ones p.front, p.length_is) in
+          let within : n ≤ length (drop o bits) = omega (arith, ap length p.whole, length-append p.front p.rest, items_len-ones p.front, p.length_is) in
           let known : AreBytes q.front = subst AreBytes front (bytes_taken b xs (values x h)) in
           record {
             known = q.known;
             front = take n (drop o bits);
             whole = sym (take-append-drop n (drop o bits)) ∙ ap (λ ys. take n (drop o bits) ++ ys) dropped;
-            length_is = span-ones (take n (drop o bits)) ∙ length-take-le n (drop o bits) within;
+            length_is = items_len-ones (take n (drop o bits)) ∙ length-take-le n (drop o bits) within;
             mark_is = fun_ext (λ bs.
                 ap (λ m. past_bits w m (take r (all_bits js) ++ bs)) q.mark_is
                 ∙ sym (past_all_bits (w.mark x) q.front (take r (all_bits js) ++ bs) known)

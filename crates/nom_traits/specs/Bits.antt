@@ -3,7 +3,7 @@ use Rattle.std.specs.Prelude.{◌≡◌, ℕ, ◌+◌, ◌*◌, ◌/◌, ◌%◌
 use Rattle.std.specs.List.{flat_map}
 use Rattle.std.proofs.Common.{zero, suc, lit<, drop, take, append_assoc, ap}
 use Rattle.std.proofs.Math.Path.{fun_ext}
-use Rattle.nom_traits.specs.Input.{Seen, AreValues, InputLaws}
+use Rattle.nom_traits.specs.Input.{Model, AreValues, InputLaws}
 
 -- the bit of weight 2 ^ k
 abbrev pub is_bit : ℕ → ℕ → Bool
@@ -44,7 +44,7 @@ bits_over bs = bs
 abbrev pub AreBytes : List ℕ → Type 0
 AreBytes xs = AreValues (λ b. b < 256) xs
 
-module _ {I : Type 0} (w : Seen I ℕ) where
+module _ {I : Type 0} (w : Model I ℕ) where
   -- the marks of I can differ: not all are equal
   abbrev pub HasMarks : Type 0
   HasMarks = ((m n : w.Mark) → m ≡ n) → ⊥
@@ -52,7 +52,7 @@ module _ {I : Type 0} (w : Seen I ℕ) where
   -- What is told of a place among the bits: the mark of I at the last place between two bytes, and the bits passed
   -- since. Those bits are told only where the marks of I can differ: so bits of a slice of bytes, whose mark says
   -- nothing, have none either, whatever bits stand before them. Whether the marks can differ follows from their
-  -- type, so Seen needn't say it.
+  -- type, so Model needn't say it.
   abbrev pub BitPlace : Type 0
   BitPlace = w.Mark × (HasMarks → List Bool)
 
@@ -72,10 +72,10 @@ module _ {I : Type 0} (w : Seen I ℕ) where
   -- its first o / 8 bytes, and the o % 8 bits passed of the next. Bits that are passed take part in the mark of I
   -- once their byte is whole, told or not; so the mark is a function, from the bits that follow to the place that
   -- they lead to.
-  abbrev pub seen_bits : Seen (I × ℕ) Bool
-  seen_bits = record {
+  abbrev pub bits_model : Model (I × ℕ) Bool
+  bits_model = record {
     elements = λ x. drop x.1 (all_bits (w.elements x.0));
-    weight = λ _. 1;
+    item_len = λ _. 1;
     Mark = List Bool → BitPlace;
     mark = λ x bs. past_bits (w.mark x.0) (take x.1 (all_bits (w.elements x.0)) ++ bs);
     mark_after = λ m xs bs. m (xs ++ bs);
@@ -83,7 +83,7 @@ module _ {I : Type 0} (w : Seen I ℕ) where
     IsMore = AreMoreBytes;
   }
 
-  pub bits_lawful : InputLaws seen_bits
+  pub bits_lawful : InputLaws bits_model
   bits_lawful = record {
     positive = λ _. lit< tt;
     mark_none = λ _. refl;

@@ -2,13 +2,13 @@
 use Rattle.std.specs.Prelude.{ℕ, ◌<◌, ◌^◌, List, length, refl}
 use Rattle.std.specs.Borrow.{Bor}
 use Rattle.std.proofs.Common.{lit<}
-use Rattle.nom_traits.specs.Input.{Seen, AreValues, InputLaws}
+use Rattle.nom_traits.specs.Input.{Model, AreValues, InputLaws}
 
 -- bytes are seen as they are
-abbrev pub seen_bytes : Seen (Bor (List ℕ)) ℕ
-seen_bytes = record {
+abbrev pub bytes_model : Model (Bor (List ℕ)) ℕ
+bytes_model = record {
   elements = λ s. s.now;
-  weight = λ _. 1;
+  item_len = λ _. 1;
   Mark = Unit {0};
   mark = λ _. tt;
   mark_after = λ m _. m;
@@ -16,7 +16,7 @@ seen_bytes = record {
   IsMore = λ _. Unit {0};
 }
 
-pub bytes_lawful : InputLaws seen_bytes
+pub bytes_lawful : InputLaws bytes_model
 bytes_lawful = record {
   positive = λ _. lit< tt;
   mark_none = λ _. refl;

@@ -8,10 +8,10 @@ use Rattle.std.proofs.lemmas.List.{length-map, map-append}
 use Rattle.std.proofs.lemmas.Str.{encodes-append}
 use Rattle.nom_traits.specs.declared.compare.CompareResult.{CompareResult}
 use Rattle.nom_traits.specs.declared.compare.CompareResult.TheVariants as Compared
-use Rattle.nom_traits.specs.Input.{Seen, InputLaws, span}
-use Rattle.nom_traits.specs.Rests.{span-ones}
-use Rattle.nom_traits.specs.Bytes.{seen_bytes, bytes_lawful}
-use Rattle.nom_traits.specs.Text.{seen_text, text_lawful, span-text}
+use Rattle.nom_traits.specs.Input.{Model, InputLaws, items_len}
+use Rattle.nom_traits.specs.Rests.{items_len-ones}
+use Rattle.nom_traits.specs.Bytes.{bytes_model, bytes_lawful}
+use Rattle.nom_traits.specs.Text.{text_model, text_lawful, items_len-text}
 use Rattle.nom_traits.specs.Compares.{CompareLaws, IsFound, IsBegun, ComparesAs, ComparesBytes, ComparesBytesNoCase, ComparesText, ComparesTextNoCase}
 
 -- a form of bytes: each byte has one
@@ -26,15 +26,15 @@ pub folded_form : IsForm str_to_ascii_lowercase
 folded_form = record { append = λ xs ys. map-append to_ascii_lowercase xs ys; size = λ xs. length-map xs to_ascii_lowercase }
 
 -- items are read as bytes, each as many as its length
-pub record AreBytes {I A : Type 0} (w : Seen I A) (bytes : List A → List ℕ) : Type 0 where
+pub record AreBytes {I A : Type 0} (w : Model I A) (bytes : List A → List ℕ) : Type 0 where
   pub append : (xs ys : List A) → bytes (xs ++ ys) ≡ bytes xs ++ bytes ys
-  pub size : (xs : List A) → span w.weight xs ≡ length (bytes xs)
+  pub size : (xs : List A) → items_len w.item_len xs ≡ length (bytes xs)
 
-pub bytes_are_bytes : AreBytes seen_bytes (λ xs. xs)
-bytes_are_bytes = record { append = λ _ _. refl; size = span-ones }
+pub bytes_are_bytes : AreBytes bytes_model (λ xs. xs)
+bytes_are_bytes = record { append = λ _ _. refl; size = items_len-ones }
 
-pub text_is_bytes : AreBytes seen_text encode_utf8_all
-text_is_bytes = record { append = encodes-append; size = span-text }
+pub text_is_bytes : AreBytes text_model encode_utf8_all
+text_is_bytes = record { append = encodes-append; size = items_len-text }
 
 -- of two lists in front of one, one is a front of the other
 one_longer : {A : Type 0} (t xs ys more : List A) → t ++ ys ≡ xs ++ more → ((rest : List A) × (xs ≡ t ++ rest)) ⊎
@@ -54,7 +54,7 @@ module _ {A : Type 0} (bytes : List A → List ℕ) (form : List ℕ → List �
   pub begun_with : (ys : List ℕ) → 0 < length ys → form t ≡ form (bytes xs) ++ ys → IsBegun bytes form t xs
   begun_with ys h e = let k = one_more ys h in record { byte = k.0; more = k.1; tag_is = e ∙ ap (λ zs. form (bytes xs) ++ zs) k.2 }
 
-module _ {I A : Type 0} (w : Seen I A) (l : InputLaws w) (bytes : List A → List ℕ) (b : AreBytes w bytes) (form : List ℕ → List ℕ) (f : IsForm form)
+module _ {I A : Type 0} (w : Model I A) (l : InputLaws w) (bytes : List A → List ℕ) (b : AreBytes w bytes) (form : List ℕ → List ℕ) (f : IsForm form)
     (t : List ℕ) where
   found_size : (xs : List A) (k : IsFound bytes form t xs) → length (bytes k.front) ≡ length t
   found_size xs k = sym (f.size (bytes k.front)) ∙ (ap length k.tag_is ∙ f.size t)
@@ -100,7 +100,7 @@ module _ {I A : Type 0} (w : Seen I A) (l : InputLaws w) (bytes : List A → Lis
         (k.tag_is ∙ (ap (λ ys. ys ++ (k.byte ∷ k.more)) (form_parts xs more) ∙ append_assoc (form (bytes xs)) (form (bytes more)) (k.byte ∷ k.more)))),
   )
 
-module _ {I A : Type 0} (w : Seen I A) (l : InputLaws w) (bytes : List A → List ℕ) (b : AreBytes w bytes) (form : List ℕ → List ℕ) (f : IsForm form) where
+module _ {I A : Type 0} (w : Model I A) (l : InputLaws w) (bytes : List A → List ℕ) (b : AreBytes w bytes) (form : List ℕ → List ℕ) (f : IsForm form) where
   comparing : CompareLaws {T = List ℕ} w length (ComparesAs bytes form)
   comparing = record {
     one = λ t i r s h j k. one_result w l bytes b form f t (w.elements i) r s j k;
@@ -123,14 +123,14 @@ module _ {I A : Type 0} (w : Seen I A) (l : InputLaws w) (bytes : List A → Lis
         (error_kept w l bytes b form f t (w.elements x) e.more r);
   }
 
-pub bytes_comparing : CompareLaws {I = Bor (List ℕ)} {T = List ℕ} seen_bytes length ComparesBytes
-bytes_comparing = comparing seen_bytes bytes_lawful (λ xs. xs) bytes_are_bytes (λ t. t) itself_form
+pub bytes_comparing : CompareLaws {I = Bor (List ℕ)} {T = List ℕ} bytes_model length ComparesBytes
+bytes_comparing = comparing bytes_model bytes_lawful (λ xs. xs) bytes_are_bytes (λ t. t) itself_form
 
-pub bytes_comparing_no_case : CompareLaws {I = Bor (List ℕ)} {T = List ℕ} seen_bytes length ComparesBytesNoCase
-bytes_comparing_no_case = comparing seen_bytes bytes_lawful (λ xs. xs) bytes_are_bytes str_to_ascii_lowercase folded_form
+pub bytes_comparing_no_case : CompareLaws {I = Bor (List ℕ)} {T = List ℕ} bytes_model length ComparesBytesNoCase
+bytes_comparing_no_case = comparing bytes_model bytes_lawful (λ xs. xs) bytes_are_bytes str_to_ascii_lowercase folded_form
 
-pub text_comparing : CompareLaws {I = Bor (List ℕ)} {T = List ℕ} seen_text length ComparesText
-text_comparing = comparing seen_text text_lawful encode_utf8_all text_is_bytes (λ t. t) itself_form
+pub text_comparing : CompareLaws {I = Bor (List ℕ)} {T = List ℕ} text_model length ComparesText
+text_comparing = comparing text_model text_lawful encode_utf8_all text_is_bytes (λ t. t) itself_form
 
-pub text_comparing_no_case : CompareLaws {I = Bor (List ℕ)} {T = List ℕ} seen_text length ComparesTextNoCase
-text_comparing_no_case = comparing seen_text text_lawful encode_utf8_all text_is_bytes str_to_ascii_lowercase folded_form
+pub text_comparing_no_case : CompareLaws {I = Bor (List ℕ)} {T = List ℕ} text_model length ComparesTextNoCase
+text_comparing_no_case = comparing text_model text_lawful encode_utf8_all text_is_bytes str_to_ascii_lowercase folded_form

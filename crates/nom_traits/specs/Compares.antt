@@ -3,13 +3,13 @@ use Rattle.std.specs.Prelude.{◌≡◌, ℕ, ◌<◌, List, ◌∷◌, ◌++◌
 use Rattle.std.specs.Str.{str_to_ascii_lowercase}
 use Rattle.nom_traits.specs.declared.compare.CompareResult.{CompareResult}
 use Rattle.nom_traits.specs.declared.compare.CompareResult.TheVariants as Compared
-use Rattle.nom_traits.specs.Input.{Seen, IsPlace, Extends, input_len}
+use Rattle.nom_traits.specs.Input.{Model, IsBoundary, Extends, input_len}
 
 -- the laws of a comparison of inputs with tags, each of a length
-pub record CompareLaws {I A T : Type 0} (w : Seen I A) (size : T → ℕ) (Compares : T → List A → CompareResult → Type 0) : Type 0 where
+pub record CompareLaws {I A T : Type 0} (w : Model I A) (size : T → ℕ) (Compares : T → List A → CompareResult → Type 0) : Type 0 where
   pub one : (t : T) (i : I) (r s : CompareResult) → w.IsKnown i → Compares t (w.elements i) r → Compares t (w.elements i) s → r ≡ s
   -- the tag ends at a place
-  pub place : (t : T) (i : I) → w.IsKnown i → Compares t (w.elements i) Compared.Ok → IsPlace w i (size t)
+  pub place : (t : T) (i : I) → w.IsKnown i → Compares t (w.elements i) Compared.Ok → IsBoundary w i (size t)
   -- the items are fewer than the tag's
   pub shorter : (t : T) (i : I) → w.IsKnown i → Compares t (w.elements i) Compared.Incomplete → input_len w i < size t
   -- what is decided stays

@@ -3,7 +3,7 @@ use Rattle.std.specs.Prelude.{◌≡◌, ℕ, ◌≤◌, Bool, true, false, Opti
 use Rattle.std.specs.List.{All}
 use Rattle.std.proofs.Common.{arith, sym, ◌∙◌, ap, subst, append_assoc, append-nil}
 use Rattle.std.proofs.lemmas.List.Elements.{All-nil, All-head, All-tail, All-cons}
-use Rattle.nom_traits.specs.Input.{Seen, span}
+use Rattle.nom_traits.specs.Input.{Model, items_len}
 
 -- nothing, or a first item that ends a run
 abbrev pub Stops : {A : Type 0} → (A → Type 0) → List A → Type 0
@@ -90,14 +90,14 @@ module _ {A : Type 0} (test : A → Bool) where
   some_run [] = ([], [], record { whole = refl; meets = All-nil (λ y. test y ≡ true); stops = tt })
   some_run (x ∷ xs) = run_after x xs (test x) refl (some_run xs)
 
-module _ {I A : Type 0} (w : Seen I A) (Meets Ends : A → Type 0) where
+module _ {I A : Type 0} (w : Model I A) (Meets Ends : A → Type 0) where
   -- the run of an input, of length n, with an item after it
   pub record EndsAt (i : I) (n : ℕ) : Type 0 where
     pub run : List A
     pub item : A
     pub rest : List A
     pub is_run : IsRun Meets Ends (w.elements i) run (item ∷ rest)
-    pub length_is : span w.weight run ≡ n
+    pub length_is : items_len w.item_len run ≡ n
 
   -- where the first item stands that ends the run; none: all items meet the test
   abbrev pub IsPosition : I → Option ℕ → Type 0

@@ -1,17 +1,17 @@
 -- Slices of an input, as they are seen.
 use Rattle.std.specs.Prelude.{◌≡◌, ℕ, ◌<◌, Bool, true, false, List, [], ◌++◌, length, refl}
 use Rattle.std.proofs.Common.{arith, sym, ◌∙◌, ap, append_assoc, append-nil, length-append}
-use Rattle.nom_traits.specs.Input.{Seen, span, IsPlace, IsFront, Related, InputLaws}
-use Rattle.nom_traits.specs.Rests.{same_cut, span-ones}
+use Rattle.nom_traits.specs.Input.{Model, items_len, IsBoundary, IsPrefixOf, Related, InputLaws}
+use Rattle.nom_traits.specs.Rests.{same_cut, items_len-ones}
 
 -- a list of items with its mark: the parse tree of a slice
-pub record Slice {I A : Type 0} (w : Seen I A) : Type 0 where
+pub record Slice {I A : Type 0} (w : Model I A) : Type 0 where
   pub items : List A
   pub mark : w.Mark
 
-module _ {I A : Type 0} (w : Seen I A) where
+module _ {I A : Type 0} (w : Model I A) where
   -- the value is an input, seen so
-  pub record IsSeenAs (t : Slice w) (v : I) : Type 0 where
+  pub record IsModelledBy (t : Slice w) (v : I) : Type 0 where
     pub known : w.IsKnown v
     pub elements_are : w.elements v ≡ t.items
     pub mark_is : w.mark v ≡ t.mark
@@ -20,26 +20,26 @@ module _ {I A : Type 0} (w : Seen I A) where
   pub record IsFirst (i : I) (n : ℕ) (t : Slice w) : Type 0 where
     pub rest : List A
     pub whole : w.elements i ≡ t.items ++ rest
-    pub length_is : span w.weight t.items ≡ n
+    pub length_is : items_len w.item_len t.items ≡ n
     pub mark_is : t.mark ≡ w.mark i
 
   -- n is the length of the first items, as many as count
   pub record IsCount (i : I) (count n : ℕ) : Type 0 where
-    pub place : IsPlace w i n
+    pub place : IsBoundary w i n
     pub count_is : length place.front ≡ count
 
-  pub first_place : (i : I) (n : ℕ) (t : Slice w) → IsFirst i n t → IsPlace w i n
+  pub first_place : (i : I) (n : ℕ) (t : Slice w) → IsFirst i n t → IsBoundary w i n
   first_place i n t p = record { front = t.items; rest = p.rest; whole = p.whole; length_is = p.length_is }
 
-  abbrev pub place_slice : (i : I) (n : ℕ) → IsPlace w i n → Slice w
+  abbrev pub place_slice : (i : I) (n : ℕ) → IsBoundary w i n → Slice w
   place_slice i n p = record { items = p.front; mark = w.mark i }
 
-  pub place_first : (i : I) (n : ℕ) (p : IsPlace w i n) → IsFirst i n (place_slice i n p)
+  pub place_first : (i : I) (n : ℕ) (p : IsBoundary w i n) → IsFirst i n (place_slice i n p)
   place_first i n p = record { rest = p.rest; whole = p.whole; length_is = p.length_is; mark_is = refl }
 
-  pub front_seen : InputLaws w → (i : I) (n : ℕ) (v : I) (t : Slice w) → IsFront w i n v → IsFirst i n t → IsSeenAs t v
+  pub front_seen : InputLaws w → (i : I) (n : ℕ) (v : I) (t : Slice w) → IsPrefixOf w i n v → IsFirst i n t → IsModelledBy t v
   front_seen l i n v t p q =
-      let c = same_cut w.weight l.positive (w.elements v) p.rest t.items q.rest (sym p.whole ∙ q.whole) (p.length_is ∙ sym q.length_is) in
+      let c = same_cut w.item_len l.positive (w.elements v) p.rest t.items q.rest (sym p.whole ∙ q.whole) (p.length_is ∙ sym q.length_is) in
       record { known = p.known; elements_are = c.0; mark_is = p.mark_is ∙ sym q.mark_is }
 
   slice_equal : (t u : Slice w) → t.items ≡ u.items → t.mark ≡ u.mark → t ≡ u
@@ -64,18 +64,18 @@ module _ {I A : Type 0} (w : Seen I A) where
 
   -- first items of one measure are one slice
   same_measure : (measure : A → ℕ) → ((a : A) → 0 < measure a) → (i : I) (n m : ℕ) (t u : Slice w) → IsFirst i n t → IsFirst i m u →
-      span measure t.items ≡ span measure u.items → t ≡ u
+      items_len measure t.items ≡ items_len measure u.items → t ≡ u
   same_measure measure positive i n m t u p q e =
       let c = same_cut measure positive t.items p.rest u.items q.rest (sym p.whole ∙ q.whole) e in
       slice_equal t u c.0 (p.mark_is ∙ sym q.mark_is)
 
   pub same_length : InputLaws w → (i : I) (n m : ℕ) (t u : Slice w) → IsFirst i n t → IsFirst i m u → n ≡ m → t ≡ u
-  same_length l i n m t u p q e = same_measure w.weight l.positive i n m t u p q (p.length_is ∙ (e ∙ sym q.length_is))
+  same_length l i n m t u p q e = same_measure w.item_len l.positive i n m t u p q (p.length_is ∙ (e ∙ sym q.length_is))
 
   pub same_count : (i : I) (n m : ℕ) (t u : Slice w) → IsFirst i n t → IsFirst i m u → length t.items ≡ length u.items → (n ≡ m) × (t ≡ u)
   same_count i n m t u p q e =
-      let same = same_measure (λ _. 1) (λ _. omega arith) i n m t u p q (span-ones t.items ∙ (e ∙ sym (span-ones u.items))) in
-      (sym p.length_is ∙ (ap (λ z. span w.weight z.items) same ∙ q.length_is), same)
+      let same = same_measure (λ _. 1) (λ _. omega arith) i n m t u p q (items_len-ones t.items ∙ (e ∙ sym (items_len-ones u.items))) in
+      (sym p.length_is ∙ (ap (λ z. items_len w.item_len z.items) same ∙ q.length_is), same)
 
   pub first_fewer : (i : I) (n : ℕ) (t : Slice w) (count : ℕ) → IsFirst i n t → length t.items ≡ count → length (w.elements i) < count → ⊥
   first_fewer i n t count p e h = omega (arith, ap length p.whole, length-append t.items p.rest)

@@ -1,46 +1,46 @@
 //! Bits of bytes as inputs: a pair of an input of bytes and a position is the list of the input's bits from
 //! the position on, highest first in each byte, each of length 1. Past the end the list is empty.
-ghost use Rattle.nom_traits.specs.Bits.{seen_bits, bits_lawful, bits_are_values};
+ghost use Rattle.nom_traits.specs.Bits.{bits_model, bits_lawful, bits_are_values};
 ghost use Rattle.nom_traits.specs.BitPlaces.{GrowsByBytes, PassesBits, TellsMarks, AreBitsAlone};
-ghost use Rattle.nom_traits.specs.Bytes.{seen_bytes};
+ghost use Rattle.nom_traits.specs.Bytes.{bytes_model};
 
 use crate::input::Items;
 
 impl<I: Items<Item = u8>> Items for (I, usize) {
     type Item = bool;
 
-    ghost seen = { seen_bits I.seen };
+    ghost model = { bits_model I.model };
 
     #[inline(always)]
-    fn known(self) {
-        self.0.known();
+    fn prove_known(self) {
+        self.0.prove_known();
     }
 
-    ghost lawful = { bits_lawful I.seen };
+    ghost lawful = { bits_lawful I.model };
 
-    ghost values = { λ i h. bits_are_values ((seen_bits I.seen).elements i) };
+    ghost values = { λ i h. bits_are_values ((bits_model I.model).elements i) };
 }
 
 // What inputs of bits promise. These functions do nothing: their contracts are the promises.
 
 /// A longer input of bits is longer by whole bytes, such as may follow the input of bytes.
 pub fn bits_grow_by_bytes<I: Items<Item = u8>>()
-    ensures { GrowsByBytes I.seen }
+    ensures { GrowsByBytes I.model }
 {}
 
 /// Past `n` bits of `(x, o)` stands what is `(n + o) / 8` bytes on in `x`, from its bit `(n + o) % 8` on.
 pub fn bits_pass<I: Items<Item = u8>>()
-    ensures { PassesBits I.seen }
+    ensures { PassesBits I.model }
 {}
 
 /// The mark of `(x, o)` tells the mark of `x` without its first `o / 8` bytes and, where inputs of bytes can
 /// differ in their marks, the `o % 8` bits passed of the next byte; and no more.
 pub fn bits_tell_marks<I: Items<Item = u8>>()
-    ensures { TellsMarks I.seen }
+    ensures { TellsMarks I.model }
 {}
 
 /// Bits of slices of bytes have no mark: they are equal as models where their lists are equal, whatever bits
 /// stand before them.
 pub fn bits_of_slices_have_no_mark()
-    ensures { AreBitsAlone seen_bytes }
+    ensures { AreBitsAlone bytes_model }
 {}

@@ -1,6 +1,6 @@
 //! Slices of bytes as inputs: the items are the bytes, each of length 1.
 ghost use Rattle.std.specs.Prelude.{◌≡◌, ◌-◌, length, Some, refl};
-ghost use Rattle.nom_traits.specs.Bytes.{seen_bytes, bytes_lawful};
+ghost use Rattle.nom_traits.specs.Bytes.{bytes_model, bytes_lawful};
 
 use crate::character::AsciiClass;
 use crate::elements::{ByteIndices, Bytes};
@@ -11,10 +11,10 @@ use nom_error::answer::Needed;
 impl Items for &[u8] {
     type Item = u8;
 
-    ghost seen = { seen_bytes };
+    ghost model = { bytes_model };
 
     #[inline(always)]
-    fn known(self) {
+    fn prove_known(self) {
         let _n = self.len();
     }
 
@@ -38,14 +38,14 @@ impl<'a> Input for &'a [u8] {
     #[inline(always)]
     fn take(&self, index: usize) -> Self {
         let slice = *self;
-        slice.known();
+        slice.prove_known();
         &slice[..index]
     }
 
     #[inline(always)]
     fn take_from(&self, index: usize) -> Self {
         let slice = *self;
-        slice.known();
+        slice.prove_known();
         &slice[index..]
     }
 
@@ -82,5 +82,5 @@ impl<'a> Input for &'a [u8] {
 
     ghost views = { λ x y h. h.elements_are };
 
-    ghost tells = { λ x y e. record { elements_are = e; mark_is = refl } };
+    ghost view_injective = { λ x y e. record { elements_are = e; mark_is = refl } };
 }

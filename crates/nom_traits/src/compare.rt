@@ -22,7 +22,7 @@ pub trait Compare<T>: Items {
     /// What a tag is seen as: tags equal as models are one to every parser.
     ghost Tag: { Type 0 };
 
-    ghost tag_seen: { T → Tag };
+    ghost tag_model: { T → Tag };
 
     /// The length of a tag, as a front of an input.
     ghost tag_size: { Tag → ℕ };
@@ -35,29 +35,29 @@ pub trait Compare<T>: Items {
 
     /// The length of a tag, as a front of an input.
     fn tag_len(tag: T) -> usize
-        ensures { result ≡ tag_size (tag_seen tag) };
+        ensures { result ≡ tag_size (tag_model tag) };
 
     /// Compares the input's front with a tag.
     fn compare(&self, tag: T) -> CompareResult
-        ensures { compares (tag_seen tag) (Self.seen.elements self.now) result };
+        ensures { compares (tag_model tag) (Self.model.elements self.now) result };
 
     /// Compares the input's front with a tag, where the case of ASCII letters doesn't matter.
     fn compare_no_case(&self, tag: T) -> CompareResult
-        ensures { compares_no_case (tag_seen tag) (Self.seen.elements self.now) result };
+        ensures { compares_no_case (tag_model tag) (Self.model.elements self.now) result };
 
     /// What is decided stays on longer inputs; a tag that is found ends at a place; where more is
     /// needed, the input is shorter than the tag.
-    ghost comparing: { CompareLaws Self.seen tag_size compares };
+    ghost comparing: { CompareLaws Self.model tag_size compares };
 
     /// The same laws of `compare_no_case`.
-    ghost comparing_no_case: { CompareLaws Self.seen tag_size compares_no_case };
+    ghost comparing_no_case: { CompareLaws Self.model tag_size compares_no_case };
 }
 
 /// Bytes are compared one by one.
 impl<'a, 'b> Compare<&'b [u8]> for &'a [u8] {
     ghost Tag = { List ℕ };
 
-    ghost tag_seen = { λ t. t.now };
+    ghost tag_model = { λ t. t.now };
 
     ghost tag_size = { length };
 
@@ -91,7 +91,7 @@ impl<'a, 'b> Compare<&'b [u8]> for &'a [u8] {
 impl<'a, 'b> Compare<&'b str> for &'a [u8] {
     ghost Tag = { List ℕ };
 
-    ghost tag_seen = { λ t. t.now };
+    ghost tag_model = { λ t. t.now };
 
     ghost tag_size = { length };
 
@@ -124,7 +124,7 @@ impl<'a, 'b> Compare<&'b str> for &'a [u8] {
 impl<'a, const N: usize> Compare<[u8; N]> for &'a [u8] {
     ghost Tag = { List ℕ };
 
-    ghost tag_seen = { λ t. t };
+    ghost tag_model = { λ t. t };
 
     ghost tag_size = { length };
 
@@ -157,7 +157,7 @@ impl<'a, const N: usize> Compare<[u8; N]> for &'a [u8] {
 impl<'a, 'b, const N: usize> Compare<&'b [u8; N]> for &'a [u8] {
     ghost Tag = { List ℕ };
 
-    ghost tag_seen = { λ t. t.now };
+    ghost tag_model = { λ t. t.now };
 
     ghost tag_size = { length };
 
@@ -191,7 +191,7 @@ impl<'a, 'b, const N: usize> Compare<&'b [u8; N]> for &'a [u8] {
 impl<'a, 'b> Compare<&'b str> for &'a str {
     ghost Tag = { List ℕ };
 
-    ghost tag_seen = { λ t. t.now };
+    ghost tag_model = { λ t. t.now };
 
     ghost tag_size = { length };
 
@@ -225,7 +225,7 @@ impl<'a, 'b> Compare<&'b str> for &'a str {
 impl<'a, 'b> Compare<&'b [u8]> for &'a str {
     ghost Tag = { List ℕ };
 
-    ghost tag_seen = { λ t. t.now };
+    ghost tag_model = { λ t. t.now };
 
     ghost tag_size = { length };
 
@@ -314,7 +314,7 @@ fn between_characters(text: &str, tag: &[u8], found: CompareResult) -> CompareRe
     ensures { (form : List ℕ → List ℕ) → IsForm form → ComparesAs (λ xs. xs) form tag.now text.now found →
         ComparesAs encode_utf8_all form tag.now (chars text.now) result }
 {
-    text.known();
+    text.prove_known();
     match found {
         CompareResult::Ok if text.is_char_boundary(tag.len()) => CompareResult::Ok,
         CompareResult::Ok => CompareResult::Error,

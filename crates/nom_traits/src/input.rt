@@ -4,7 +4,7 @@ ghost use Rattle.std.specs.Char.{IsScalar};
 ghost use Rattle.std.specs.Iterator.{AlwaysYields, IsFinite};
 ghost use Rattle.nom_error.specs.Answers.{size_of, Refuses};
 ghost use Rattle.nom_traits.specs.Classes.{has_code, IsInside, IsOutside};
-ghost use Rattle.nom_traits.specs.Input.{Seen, InputLaws, AreValues, placed, IsPlace, IsFront, IsRest, IsSame, input_len};
+ghost use Rattle.nom_traits.specs.Input.{Model, InputLaws, AreValues, placed, IsBoundary, IsPrefixOf, IsSuffixOf, IsSame, input_len};
 ghost use Rattle.nom_traits.specs.Slices.{IsCount};
 ghost use Rattle.nom_traits.specs.Runs.{IsPosition};
 ghost use Rattle.nom_traits.specs.Splits.{Splits, Never, RefusesWith, FrontBuilt};
@@ -55,17 +55,17 @@ pub trait Items: Copy {
     type Item: Value;
 
     /// How the values are seen.
-    ghost seen: { Seen Self Self.Item };
+    ghost model: { Model Self Self.Item };
 
     /// Changes nothing, and tells that a value of the type is an input.
-    fn known(self)
-        ensures { seen.IsKnown self };
+    fn prove_known(self)
+        ensures { model.IsKnown self };
 
     /// Each item has a length, and the mark after some items follows from theirs.
-    ghost lawful: { InputLaws seen };
+    ghost lawful: { InputLaws model };
 
     /// The items are values of their type.
-    ghost values: { (i : Self) → seen.IsKnown i → AreValues Self.Item.IsValue (seen.elements i) };
+    ghost values: { (i : Self) → model.IsKnown i → AreValues Self.Item.IsValue (model.elements i) };
 }
 
 /// An input that can be cut at the places between its items.
@@ -81,63 +81,63 @@ pub trait Input: Items + Viewed {
 
     /// The length: the sum of the items' lengths.
     fn input_len(&self) -> usize
-        ensures { result ≡ input_len Self.seen self.now };
+        ensures { result ≡ input_len Self.model self.now };
 
     /// The first items, of length `index`.
     fn take(&self, index: usize) -> Self
-        requires { IsPlace Self.seen self.now index }
-        ensures { IsFront Self.seen self.now index result };
+        requires { IsBoundary Self.model self.now index }
+        ensures { IsPrefixOf Self.model self.now index result };
 
     /// The rest after the first items, of length `index`.
     fn take_from(&self, index: usize) -> Self
-        requires { IsPlace Self.seen self.now index }
-        ensures { IsRest Self.seen self.now index result };
+        requires { IsBoundary Self.model self.now index }
+        ensures { IsSuffixOf Self.model self.now index result };
 
     /// The length of the first `count` items, or what is needed where there are fewer.
     fn slice_index(&self, count: usize) -> Result<usize, Needed>
         ensures { MatchResult result
-            (λ n. IsCount Self.seen self.now count n)
-            (λ k. (length (Self.seen.elements self.now) < count) × (size_of k ≡ lack count (Self.seen.elements self.now))) };
+            (λ n. IsCount Self.model self.now count n)
+            (λ k. (length (Self.model.elements self.now) < count) × (size_of k ≡ lack count (Self.model.elements self.now))) };
 
     /// The length of an item.
     fn item_len(&self, item: &Self::Item) -> usize
-        ensures { result ≡ Self.seen.weight item.now };
+        ensures { result ≡ Self.model.item_len item.now };
 
     /// The items, one by one.
     fn iter_elements(&self) -> Self::Iter
-        ensures gives { AlwaysYields Self.Iter.next_gives (λ x. x) result (Self.seen.elements self.now) }
+        ensures gives { AlwaysYields Self.Iter.next_gives (λ x. x) result (Self.model.elements self.now) }
         ensures can { Self.Iter.can_next result }
         ensures ends { IsFinite (Self.Iter.remaining result) };
 
     /// The items, one by one, each with its place.
     fn iter_indices(&self) -> Self::IterIndices
-        ensures gives { AlwaysYields Self.IterIndices.next_gives (λ x. x) result (placed Self.seen.weight 0 (Self.seen.elements self.now)) }
+        ensures gives { AlwaysYields Self.IterIndices.next_gives (λ x. x) result (placed Self.model.item_len 0 (Self.model.elements self.now)) }
         ensures can { Self.IterIndices.can_next result }
         ensures ends { IsFinite (Self.IterIndices.remaining result) };
 
     /// What `position_outside` answers, where the input knows a quicker way than item by item.
     fn class_end(&self, class: AsciiClass) -> Option<Option<usize>>
         ensures { MatchOption result (Unit {0})
-            (λ place. IsPosition Self.seen (λ x. IsInside class (Self.Item.code x)) (λ x. IsOutside class (Self.Item.code x)) self.now place) }
+            (λ place. IsPosition Self.model (λ x. IsInside class (Self.Item.code x)) (λ x. IsOutside class (Self.Item.code x)) self.now place) }
     {
         None
     }
 
     /// Any items may follow.
-    ghost more: { (xs : List Self.Item) → Self.seen.IsMore xs };
+    ghost more: { (xs : List Self.Item) → Self.model.IsMore xs };
 
     /// Inputs that are equal as models are compared as one.
-    ghost views: { (x y : Self) → IsSame Self.seen x y → Self.view.value x ≡ Self.view.value y };
+    ghost views: { (x y : Self) → IsSame Self.model x y → Self.view.value x ≡ Self.view.value y };
 
     /// Inputs that are compared as one are equal as models: they have the same items and the same mark.
-    ghost tells: { (x y : Self) → Self.view.value x ≡ Self.view.value y → IsSame Self.seen x y };
+    ghost view_injective: { (x y : Self) → Self.view.value x ≡ Self.view.value y → IsSame Self.model x y };
 
     /// The rest, and then the first items, of length `index`.
     #[inline(always)]
     final fn take_split(&self, index: usize) -> (Self, Self)
-        requires { IsPlace Self.seen self.now index }
-        ensures rest { IsRest Self.seen self.now index result.0 }
-        ensures front { IsFront Self.seen self.now index result.1 }
+        requires { IsBoundary Self.model self.now index }
+        ensures rest { IsSuffixOf Self.model self.now index result.0 }
+        ensures front { IsPrefixOf Self.model self.now index result.1 }
     {
         (self.take_from(index), self.take(index))
     }
@@ -147,7 +147,7 @@ pub trait Input: Items + Viewed {
     #[inline(always)]
     final fn position<P: Fn(Self::Item) -> bool>(&self, predicate: P) -> Option<usize>
         requires { P.IsAlwaysCallable predicate }
-        ensures { IsPosition Self.seen (λ x. P.post predicate x false) (λ x. P.post predicate x true) self.now result }
+        ensures { IsPosition Self.model (λ x. P.post predicate x false) (λ x. P.post predicate x true) self.now result }
     {
         // The length is the bound of each place; it is read and not used.
         let _length = self.input_len();
@@ -167,7 +167,7 @@ pub trait Input: Items + Viewed {
     final fn position_outside(&self, class: AsciiClass) -> Option<usize>
     where
         Self::Item: AsChar,
-        ensures { IsPosition Self.seen (λ x. IsInside class (Self.Item.code x)) (λ x. IsOutside class (Self.Item.code x)) self.now result }
+        ensures { IsPosition Self.model (λ x. IsInside class (Self.Item.code x)) (λ x. IsOutside class (Self.Item.code x)) self.now result }
     {
         match self.class_end(class) {
             Some(place) => place,
@@ -188,7 +188,7 @@ pub trait Input: Items + Viewed {
         predicate: P,
     ) -> IResult<Self, Self, E>
         requires { P.IsAlwaysCallable predicate }
-        ensures { Splits Self.seen (λ x. P.post predicate x false) (λ x. P.post predicate x true) true self.now false (IsFront Self.seen) Never result }
+        ensures { Splits Self.model (λ x. P.post predicate x false) (λ x. P.post predicate x true) true self.now false (IsPrefixOf Self.model) Never result }
     {
         match run_len::<Self, Streaming, P>(*self, predicate) {
             Some(n) => Ok(self.take_split(n)),
@@ -204,7 +204,7 @@ pub trait Input: Items + Viewed {
         kind: ErrorKind,
     ) -> IResult<Self, Self, E>
         requires { P.IsAlwaysCallable predicate }
-        ensures { Splits Self.seen (λ x. P.post predicate x false) (λ x. P.post predicate x true) true self.now true (IsFront Self.seen)
+        ensures { Splits Self.model (λ x. P.post predicate x false) (λ x. P.post predicate x true) true self.now true (IsPrefixOf Self.model)
             (RefusesWith (E.errors.of_kind self.now kind) E.errors.grows) result }
     {
         match run_len::<Self, Streaming, P>(*self, predicate) {
@@ -221,7 +221,7 @@ pub trait Input: Items + Viewed {
         predicate: P,
     ) -> IResult<Self, Self, E>
         requires { P.IsAlwaysCallable predicate }
-        ensures { Splits Self.seen (λ x. P.post predicate x false) (λ x. P.post predicate x true) false self.now false (IsFront Self.seen) Never result }
+        ensures { Splits Self.model (λ x. P.post predicate x false) (λ x. P.post predicate x true) false self.now false (IsPrefixOf Self.model) Never result }
     {
         match run_len::<Self, Complete, P>(*self, predicate) {
             Some(n) => Ok(self.take_split(n)),
@@ -238,7 +238,7 @@ pub trait Input: Items + Viewed {
         kind: ErrorKind,
     ) -> IResult<Self, Self, E>
         requires { P.IsAlwaysCallable predicate }
-        ensures { Splits Self.seen (λ x. P.post predicate x false) (λ x. P.post predicate x true) false self.now true (IsFront Self.seen)
+        ensures { Splits Self.model (λ x. P.post predicate x false) (λ x. P.post predicate x true) false self.now true (IsPrefixOf Self.model)
             (RefusesWith (E.errors.of_kind self.now kind) E.errors.grows) result }
     {
         match run_len::<Self, Complete, P>(*self, predicate) {
@@ -256,8 +256,8 @@ pub trait Input: Items + Viewed {
         predicate: P,
     ) -> PResult<Self, Self, E>
         requires { P.IsAlwaysCallable predicate }
-        ensures { Splits Self.seen (λ x. P.post predicate x false)
-            (λ x. P.post predicate x true) OM.Incomplete.STREAMING self.now false (FrontBuilt Self.seen OM.Output.BUILDS) Never result }
+        ensures { Splits Self.model (λ x. P.post predicate x false)
+            (λ x. P.post predicate x true) OM.Incomplete.STREAMING self.now false (FrontBuilt Self.model OM.Output.BUILDS) Never result }
     {
         match run_len::<Self, OM::Incomplete, P>(*self, predicate) {
             Some(n) => Ok((self.take_from(n), front_built::<OM::Output, Self>(*self, n))),
@@ -274,8 +274,8 @@ pub trait Input: Items + Viewed {
         E: ParseError<Self>,
     >(&self, predicate: P, kind: ErrorKind) -> PResult<Self, Self, E>
         requires { P.IsAlwaysCallable predicate }
-        ensures { Splits Self.seen (λ x. P.post predicate x false)
-            (λ x. P.post predicate x true) OM.Incomplete.STREAMING self.now true (FrontBuilt Self.seen OM.Output.BUILDS)
+        ensures { Splits Self.model (λ x. P.post predicate x false)
+            (λ x. P.post predicate x true) OM.Incomplete.STREAMING self.now true (FrontBuilt Self.model OM.Output.BUILDS)
             (Refuses (E.errors.of_kind self.now kind) E.errors.grows OM.Error.BUILDS) result }
     {
         match run_len::<Self, OM::Incomplete, P>(*self, predicate) {

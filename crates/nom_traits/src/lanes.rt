@@ -2,7 +2,7 @@
 ghost use Rattle.std.specs.Prelude.{◌≡◌, ◌+◌, ◌≤◌, length, take, map, not};
 ghost use Rattle.std.specs.List.{All};
 ghost use Rattle.std.specs.Simd.Lanes.{mask_l};
-ghost use Rattle.nom_traits.specs.Bytes.{seen_bytes};
+ghost use Rattle.nom_traits.specs.Bytes.{bytes_model};
 ghost use Rattle.nom_traits.specs.Classes.{has_code, IsInside, IsOutside};
 ghost use Rattle.nom_traits.specs.Lanes.{behind, lower_case, IsRunWithin};
 ghost use Rattle.nom_traits.specs.Runs.{IsPosition};
@@ -17,7 +17,7 @@ const BLOCK: usize = 32;
 // Inlined, since the class is known where it is called.
 #[inline(always)]
 pub(crate) fn bytes_outside(bytes: &[u8], class: AsciiClass) -> Option<usize>
-    ensures { IsPosition seen_bytes (IsInside class) (IsOutside class) bytes.entry result }
+    ensures { IsPosition bytes_model (IsInside class) (IsOutside class) bytes.entry result }
 {
     let mut place = 0;
     while bytes.len() - place >= BLOCK {
@@ -34,7 +34,7 @@ pub(crate) fn bytes_outside(bytes: &[u8], class: AsciiClass) -> Option<usize>
 #[inline(always)]
 fn rest_outside(bytes: &[u8], start: usize, class: AsciiClass) -> Option<usize>
     requires { All (IsInside class) (take start bytes.now) }
-    ensures { IsPosition seen_bytes (IsInside class) (IsOutside class) bytes.entry result }
+    ensures { IsPosition bytes_model (IsInside class) (IsOutside class) bytes.entry result }
 {
     for place in start..bytes.len() {
         if !class.has(bytes[place]) {

@@ -1,6 +1,6 @@
 //! How far one input lies in another.
 ghost use Rattle.std.specs.Prelude.{ℕ};
-ghost use Rattle.nom_traits.specs.Input.{IsRest};
+ghost use Rattle.nom_traits.specs.Input.{IsSuffixOf};
 
 use crate::input::Items;
 
@@ -8,8 +8,8 @@ use crate::input::Items;
 pub trait Offset: Items {
     /// The length of the items before `second`, which is a rest of this input.
     fn offset(&self, second: &Self) -> usize
-        requires { (n : ℕ) × IsRest Self.seen self.now n second.now }
-        ensures { IsRest Self.seen self.now result second.now };
+        requires { (n : ℕ) × IsSuffixOf Self.model self.now n second.now }
+        ensures { IsSuffixOf Self.model self.now result second.now };
 }
 
 impl Offset for &[u8] {

@@ -1,6 +1,6 @@
 //! Splits of inputs after a run of items.
 ghost use Rattle.std.specs.Prelude.{◌≡◌, true, false, MatchOption};
-ghost use Rattle.nom_traits.specs.Input.{IsPlace};
+ghost use Rattle.nom_traits.specs.Input.{IsBoundary};
 ghost use Rattle.nom_traits.specs.Splits.{IsRunLength, IsRunOpen, RefusesWith, FrontBuilt};
 
 use crate::input::Input;
@@ -18,8 +18,8 @@ pub fn run_len<I: Input, S: IsStreaming, P: Fn(I::Item) -> bool>(
 ) -> Option<usize>
     requires { P.IsAlwaysCallable predicate }
     ensures { MatchOption result
-        (IsRunOpen I.seen (λ x. P.post predicate x false) (λ x. P.post predicate x true) S.STREAMING input)
-        (IsRunLength I.seen (λ x. P.post predicate x false) (λ x. P.post predicate x true) S.STREAMING input) }
+        (IsRunOpen I.model (λ x. P.post predicate x false) (λ x. P.post predicate x true) S.STREAMING input)
+        (IsRunLength I.model (λ x. P.post predicate x false) (λ x. P.post predicate x true) S.STREAMING input) }
 {
     match input.position(predicate) {
         Some(n) => Some(n),
@@ -31,8 +31,8 @@ pub fn run_len<I: Input, S: IsStreaming, P: Fn(I::Item) -> bool>(
 /// The first items of an input, where outputs are built.
 #[inline(always)]
 pub fn front_built<M: Mode, I: Input>(input: I, index: usize) -> Option<I>
-    requires { IsPlace I.seen input index }
-    ensures { FrontBuilt I.seen M.BUILDS input index result }
+    requires { IsBoundary I.model input index }
+    ensures { FrontBuilt I.model M.BUILDS input index result }
 {
     if M::BUILDS {
         Some(input.take(index))

@@ -4,7 +4,7 @@ ghost use Rattle.nom_error.specs.Answers.{size_of};
 ghost use Rattle.nom_traits.specs.Classes.{IsInside, IsOutside};
 ghost use Rattle.nom_traits.specs.Runs.{IsPosition};
 ghost use Rattle.nom_traits.specs.Slices.{IsCount};
-ghost use Rattle.nom_traits.specs.Text.{seen_text, text_lawful, text_values};
+ghost use Rattle.nom_traits.specs.Text.{text_model, text_lawful, text_values};
 
 use crate::character::AsciiClass;
 use crate::input::{Input, Items};
@@ -16,10 +16,10 @@ use std::str::{CharIndices, Chars};
 impl Items for &str {
     type Item = char;
 
-    ghost seen = { seen_text };
+    ghost model = { text_model };
 
     #[inline(always)]
-    fn known(self) {
+    fn prove_known(self) {
         let _bytes = self.as_bytes();
     }
 
@@ -39,21 +39,21 @@ impl<'a> Input for &'a str {
     #[inline(always)]
     fn input_len(&self) -> usize {
         let text = *self;
-        text.known();
+        text.prove_known();
         text.len()
     }
 
     #[inline(always)]
     fn take(&self, index: usize) -> Self {
         let text = *self;
-        text.known();
+        text.prove_known();
         &text[..index]
     }
 
     #[inline(always)]
     fn take_from(&self, index: usize) -> Self {
         let text = *self;
-        text.known();
+        text.prove_known();
         &text[index..]
     }
 
@@ -75,7 +75,7 @@ impl<'a> Input for &'a str {
     #[inline(always)]
     fn iter_indices(&self) -> CharIndices<'a> {
         let text = *self;
-        text.known();
+        text.prove_known();
         text.char_indices()
     }
 
@@ -88,14 +88,14 @@ impl<'a> Input for &'a str {
 
     ghost views = { λ x y h. h.elements_are };
 
-    ghost tells = { λ x y e. record { elements_are = e; mark_is = refl } };
+    ghost view_injective = { λ x y e. record { elements_are = e; mark_is = refl } };
 }
 
 impl Offset for &str {
     #[inline(always)]
     fn offset(&self, second: &Self) -> usize {
         let whole = *self;
-        whole.known();
+        whole.prove_known();
         whole.len() - second.len()
     }
 }
@@ -104,9 +104,9 @@ impl Offset for &str {
 // The classes are ASCII, so the first byte outside one begins the first character outside it.
 #[inline(always)]
 fn text_outside(text: &str, class: AsciiClass) -> Option<usize>
-    ensures { IsPosition seen_text (IsInside class) (IsOutside class) text.entry result }
+    ensures { IsPosition text_model (IsInside class) (IsOutside class) text.entry result }
 {
-    text.known();
+    text.prove_known();
     bytes_outside(text.as_bytes(), class)
 }
 
@@ -114,10 +114,10 @@ fn text_outside(text: &str, class: AsciiClass) -> Option<usize>
 #[inline]
 fn index_after(text: &str, count: usize) -> Result<usize, Needed>
     ensures { MatchResult result
-        (λ n. IsCount seen_text text.entry count n)
+        (λ n. IsCount text_model text.entry count n)
         (λ k. (length (chars text.now) < count) × (size_of k ≡ None)) }
 {
-    text.known();
+    text.prove_known();
     let mut index = 0;
     let mut left = count;
     for c in text.chars() {

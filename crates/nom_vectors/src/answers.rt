@@ -1,7 +1,7 @@
 //! What a row says of an answer.
 ghost use Rattle.std.specs.Prelude.{◌≡◌, ◌↔◌, IsTrue, MatchResult};
 ghost use Rattle.nom_error.specs.Answers.{size_of};
-ghost use Rattle.nom_error.specs.Kinds.{number_of};
+ghost use Rattle.nom_error.specs.Kinds.{kind_number};
 ghost use Rattle.nom_vectors.specs.Answers.{AsksFor, IsFailure, IsRefusal};
 
 use crate::grown::grows;
@@ -82,7 +82,7 @@ pub fn refuses<I: AsBytes + Drop, O: Drop>(
     kind: ErrorKind,
     place: &[u8],
 ) -> bool
-    ensures { IsTrue result ↔ MatchResult answer (λ _. ⊥) (IsRefusal (λ e. (number_of e.code ≡ number_of kind) × (I.bytes e.input ≡ place.now))) }
+    ensures { IsTrue result ↔ MatchResult answer (λ _. ⊥) (IsRefusal (λ e. (kind_number e.code ≡ kind_number kind) × (I.bytes e.input ≡ place.now))) }
 {
     match answer {
         Ok(_) => false,
@@ -100,7 +100,7 @@ pub fn fails<I: AsBytes + Drop, O: Drop>(
     kind: ErrorKind,
     place: &[u8],
 ) -> bool
-    ensures { IsTrue result ↔ MatchResult answer (λ _. ⊥) (IsFailure (λ e. (number_of e.code ≡ number_of kind) × (I.bytes e.input ≡ place.now))) }
+    ensures { IsTrue result ↔ MatchResult answer (λ _. ⊥) (IsFailure (λ e. (kind_number e.code ≡ kind_number kind) × (I.bytes e.input ≡ place.now))) }
 {
     match answer {
         Ok(_) => false,

@@ -1,12 +1,12 @@
 //! Rows of choice, permutations and tuples.
 
 use crate::answers::{Answers, accepts, answers_of, needs, refuses};
+use example_basics::hex_color;
 use nom::IResult;
 use nom::branch::{alt, permutation};
 use nom::bytes::tag;
 use nom::character::char;
 use nom::error::{Error, ErrorKind};
-use nom_examples::hex_color;
 use std::alloc::Global;
 
 type Fail<'a> = Error<&'a str>;
@@ -50,7 +50,7 @@ pub fn row_25(alloc: Global) -> bool {
         && refused.grows
 }
 
-/// `hex_color`, of `nom_examples`, on `#2F14DF`: rest empty, red 47, green 20, blue 223.
+/// `hex_color`, of `example_basics`, on `#2F14DF`: rest empty, red 47, green 20, blue 223.
 pub fn row_29() -> bool {
     match hex_color("#2F14DF") {
         Ok((rest, color)) => {

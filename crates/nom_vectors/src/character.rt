@@ -1,6 +1,6 @@
 //! Rows of characters and decimal integers.
 
-ghost use Rattle.nom_traits.specs.Text.{seen_text};
+ghost use Rattle.nom_traits.specs.Text.{text_model};
 ghost use Rattle.nom_growing.specs.Growing.{AreCuts};
 
 use crate::answers::{Answers, answers_of, needs, of_function, refuses};
@@ -56,7 +56,7 @@ fn is_two_letters(answer: IResult<&str, Vec<char, Global>>) -> bool {
 
 /// Whether a list of `a` with `b` after it is decided in `aabX` at this cut, with the rest `X` and two items.
 fn grows(alloc: Global, input: &str, cuts: &[usize], index: usize) -> bool
-    requires { AreCuts seen_text input cuts.now }
+    requires { AreCuts text_model input cuts.now }
 {
     let letters = many0(alloc, char::<_, Error<&str>>('a'));
     let grown = parse_growing(terminated(letters, char('b')), input, cuts);

@@ -8,7 +8,7 @@ use std::alloc::Global;
 
 /// All places of an input, the first first; none where memory runs out.
 fn places_of<I: Input>(alloc: Global, input: I) -> Option<Vec<usize>>
-    ensures { IfSome result (λ v. AreCuts I.seen input v.items) }
+    ensures { IfSome result (λ v. AreCuts I.model input v.items) }
 {
     let mut places = Vec::new(alloc);
     for count in 0..usize::MAX {

@@ -3,24 +3,24 @@ use Rattle.std.specs.Prelude.{◌≡◌, ◌==◌, Some}
 use Rattle.std.specs.Char.{IsScalar, len_utf8}
 use Rattle.std.proofs.Common.{sym, ◌∙◌}
 use Rattle.std.proofs.lemmas.Slice.Zip.{AllZip-long}
-use Rattle.nom_traits.specs.Text.{seen_text, text_lawful, text_values}
+use Rattle.nom_traits.specs.Text.{text_model, text_lawful, text_values}
 use Rattle.nom_traits.specs.View.{itself}
 use Rattle.nom_internal.specs.Meaning.{IsLawful}
 use Rattle.nom_internal.specs.MappedLaws.{map_lawful}
 use Rattle.nom_internal.specs.Pinned.{IsPinned}
-use Rattle.nom_first.specs.declared.first.Blame.TheVariants.{OfChar}
-use Rattle.nom_first.specs.HeadLaws.{told, head_lawful}
+use Rattle.nom_character_first.specs.declared.first.Blame.TheVariants.{OfChar}
+use Rattle.nom_character_first.specs.FirstItemLaws.{told, first_item_lawful}
 use Rattle.nom_multi.specs.Many.{many0_meaning}
 use Rattle.nom_multi.specs.ManyLaws.{many0_lawful}
 use Rattle.test_lists.specs.Listed.{AreListed, IsNumber, kept, letters, numbered}
 
-letters_lawful : IsLawful seen_text letters
-letters_lawful = head_lawful seen_text IsScalar text_values (λ x. x) (λ x b. b ≡ (x == 97)) (told IsScalar (λ x. x == 97)) (Some (len_utf8 97))
+letters_lawful : IsLawful text_model letters
+letters_lawful = first_item_lawful text_model IsScalar text_values (λ x. x) (λ x b. b ≡ (x == 97)) (told IsScalar (λ x. x == 97)) (Some (len_utf8 97))
     (Unit {0}) kept (OfChar 97)
 
-pub numbered_lawful : (M : Type 0) → IsLawful seen_text (numbered M)
-numbered_lawful M = map_lawful seen_text (AreListed {M = M}) (λ _. Unit {0}) (many0_meaning seen_text kept letters)
-    (many0_lawful seen_text text_lawful kept letters letters_lawful)
+pub numbered_lawful : (M : Type 0) → IsLawful text_model (numbered M)
+numbered_lawful M = map_lawful text_model (AreListed {M = M}) (λ _. Unit {0}) (many0_meaning text_model kept letters)
+    (many0_lawful text_model text_lawful kept letters letters_lawful)
 
 pub number_pinned : (M : Type 0) → IsPinned itself (IsNumber M)
 number_pinned M t a b p q =

@@ -5,11 +5,11 @@ use Rattle.std.specs.List.{AllZip}
 use Rattle.nom_error.specs.declared.kind.ErrorKind.TheVariants.{Char}
 use Rattle.nom_error.specs.declared.value.Error.{Error}
 use Rattle.nom_error.specs.Errors.{Errors}
-use Rattle.nom_traits.specs.Text.{seen_text}
+use Rattle.nom_traits.specs.Text.{text_model}
 use Rattle.nom_internal.specs.Meaning.{Meaning}
 use Rattle.nom_internal.specs.Closures.{GivesFor}
 use Rattle.nom_internal.specs.Mapped.{map_meaning}
-use Rattle.nom_first.specs.Heads.{char_meaning}
+use Rattle.nom_character_first.specs.FirstItem.{char_meaning}
 use Rattle.nom_multi.specs.Many.{many0_meaning}
 
 abbrev pub Text : Type 0
@@ -34,7 +34,7 @@ abbrev pub IsNumber : (M : Type 0) → List ℕ → ℕ → Type 0
 IsNumber M = GivesFor (AreListed {M = M}) (λ list n. n ≡ length list.items)
 
 abbrev pub letters : Meaning Text ℕ (Error Text)
-letters = char_meaning seen_text (λ x. x) kept 97
+letters = char_meaning text_model (λ x. x) kept 97
 
 abbrev pub numbered : (M : Type 0) → Meaning Text (List ℕ) (Error Text)
-numbered M = map_meaning (AreListed {M = M}) (λ _. Unit {0}) (many0_meaning seen_text kept letters)
+numbered M = map_meaning (AreListed {M = M}) (λ _. Unit {0}) (many0_meaning text_model kept letters)

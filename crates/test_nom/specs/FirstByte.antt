@@ -3,7 +3,7 @@ use Rattle.std.specs.Prelude.{◌≡◌, ℕ, ◌-◌, List, ◌∷◌, Option, 
 use Rattle.std.specs.Borrow.{Bor}
 use Rattle.nom_error.specs.declared.kind.ErrorKind.TheVariants.{Eof}
 use Rattle.nom_error.specs.declared.value.Error.{Error}
-use Rattle.nom_traits.specs.Bytes.{seen_bytes}
+use Rattle.nom_traits.specs.Bytes.{bytes_model}
 use Rattle.nom_traits.specs.Slices.{Slice}
 use Rattle.nom_internal.specs.Meaning.{Meaning, IsLawful}
 use Rattle.nom_internal.specs.Leaf.{leaf_meaning, leaf_lawful}
@@ -19,9 +19,9 @@ abbrev bytes_missing : ℕ → List ℕ → Option ℕ
 bytes_missing count xs = Some (count - length xs)
 
 -- a slice of one byte, with that byte as its output
-abbrev pub byte_meaning : Meaning (Bor (List ℕ)) (Slice seen_bytes) (Error (Bor (List ℕ)))
-byte_meaning = leaf_meaning (Unit {0}) (λ i e. e ≡ record { input = i; code = Eof }) ⊥ (takes seen_bytes bytes_missing 1)
+abbrev pub byte_meaning : Meaning (Bor (List ℕ)) (Slice bytes_model) (Error (Bor (List ℕ)))
+byte_meaning = leaf_meaning (Unit {0}) (λ i e. e ≡ record { input = i; code = Eof }) ⊥ (takes bytes_model bytes_missing 1)
 
-pub byte_lawful : IsLawful seen_bytes byte_meaning
-byte_lawful = leaf_lawful seen_bytes (takes seen_bytes bytes_missing 1) (take_laws seen_bytes bytes_missing 1) (Unit {0})
+pub byte_lawful : IsLawful bytes_model byte_meaning
+byte_lawful = leaf_lawful bytes_model (takes bytes_model bytes_missing 1) (take_laws bytes_model bytes_missing 1) (Unit {0})
     (λ i e. e ≡ record { input = i; code = Eof }) ⊥

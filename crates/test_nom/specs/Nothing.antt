@@ -1,8 +1,8 @@
 -- The rest after a parser that consumes nothing.
 use Rattle.std.specs.Prelude.{[], refl}
 use Rattle.std.proofs.Common.{sym}
-use Rattle.nom_traits.specs.Input.{Seen, InputLaws, IsRest}
+use Rattle.nom_traits.specs.Input.{Model, InputLaws, IsSuffixOf}
 
 -- an input is its own rest, where nothing was consumed
-pub rest_here : {I A : Type 0} (w : Seen I A) → InputLaws w → (i : I) → w.IsKnown i → IsRest w i 0 i
+pub rest_here : {I A : Type 0} (w : Model I A) → InputLaws w → (i : I) → w.IsKnown i → IsSuffixOf w i 0 i
 rest_here w l i k = record { known = k; front = []; whole = refl; length_is = refl; mark_is = sym (l.mark_none (w.mark i)) }

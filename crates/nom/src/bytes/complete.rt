@@ -4,4 +4,4 @@ pub use nom_bytes::complete::{
     is_a, is_not, tag, tag_no_case, take, take_till, take_till1, take_until, take_until1,
     take_while, take_while_m_n, take_while1,
 };
-pub use nom_escaped::complete::{escaped, escaped_transform};
+pub use nom_bytes_escaped::complete::{escaped, escaped_transform};

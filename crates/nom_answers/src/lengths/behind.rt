@@ -1,6 +1,6 @@
 //! What stands after a length of any kind.
 ghost use Rattle.nom_internal.specs.Families.{IsOne};
-ghost use Rattle.nom_lengths.specs.Lengths.{HasSize};
+ghost use Rattle.nom_multi_length.specs.Lengths.{HasSize};
 
 use crate::lengths::calls::{Call, Kind, Part};
 use nom::bytes::{tag, take, take_while, take_while1};

@@ -4,4 +4,4 @@ use Rattle.nom_ends.specs.AllLaws.{rest_len_lawful}
 use Rattle.nom_ends.proofs.rest_len.Goals as goal
 
 pub returns : goal.returns
-returns g c = answers_by (rest_len_lawful g.I.Items.seen g.row.E.Denot) value_pinned c.parse_complete.ensures.shown
+returns g c = answers_by (rest_len_lawful g.I.Items.model g.row.E.Denot) value_pinned c.parse_complete.ensures.shown

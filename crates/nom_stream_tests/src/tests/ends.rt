@@ -1,10 +1,10 @@
 //! The end of the data.
 
 use crate::tests::reader::{all, eager, steps};
+use example_streams::fields::Fields;
+use example_streams::records::Records;
 use nom_stream::settings::Settings;
 use nom_stream::stream::{Stop, Stream};
-use nom_stream_grammars::fields::Fields;
-use nom_stream_grammars::records::Records;
 
 /// Fields after semicolons: only the end of the data tells that the last one is whole.
 const DATA: &[u8] = b";a;bcd;ef";

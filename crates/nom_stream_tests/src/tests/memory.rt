@@ -2,10 +2,10 @@
 
 use crate::tests::reader::{all, eager, steps};
 use crate::tests::wholes::{DATA, MESSAGES};
+use example_streams::messages::Messages;
 use linked_list_allocator::LocalHeap;
 use nom_stream::settings::Settings;
 use nom_stream::stream::{Stop, Stream};
-use nom_stream_grammars::messages::Messages;
 use std::alloc::AllocError;
 
 /// Heaps of each size up to one that suffices: each growth of the buffer is refused in turn.

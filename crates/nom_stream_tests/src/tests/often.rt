@@ -2,12 +2,12 @@
 
 use crate::tests::reader::{Pieces, eager, steps};
 use crate::tests::wholes::DATA;
+use example_streams::fields::Fields;
+use example_streams::messages::Messages;
 use nom::IResult;
 use nom_stream::grammar::Grammar;
 use nom_stream::settings::Settings;
 use nom_stream::stream::Stream;
-use nom_stream_grammars::fields::Fields;
-use nom_stream_grammars::messages::Messages;
 use std::alloc::Global;
 
 /// A grammar whose parses are counted.

@@ -1,9 +1,9 @@
 //! The items are those of the whole, however its bytes come.
 
 use crate::tests::reader::{Pieces, all, eager, steps};
+use example_streams::messages::{Messages, Received};
 use nom_stream::settings::Settings;
 use nom_stream::stream::{Stop, Stream};
-use nom_stream_grammars::messages::{Messages, Received};
 
 /// Messages in all: a ping, a text, a leave, an empty text, a text of ten bytes, and a ping.
 pub const DATA: &[u8] =

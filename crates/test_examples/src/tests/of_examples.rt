@@ -1,5 +1,8 @@
 //! Lists of words in brackets, nested brackets, letters, colours, settings, and a composed parser that keeps
 //! nom's promises.
+use example_basics::{Color, brackets_line, hex_color, promised};
+use example_grammars::{Line, setting, settings};
+use example_parts::{Refusal, Token, Tokens, one_letter};
 use nom::branch::alt;
 use nom::bytes::{tag, take};
 use nom::error::{Error, ErrorKind};
@@ -7,9 +10,6 @@ use nom::multi::{length_data, many0};
 use nom::number::be_u8;
 use nom::sequence::{preceded, terminated};
 use nom::{Err, IResult, Needed, Parser, StreamParser};
-use nom_examples::{Color, brackets_line, hex_color, promised};
-use nom_grammars::{Line, setting, settings};
-use nom_own_parts::{Refusal, Token, Tokens, one_letter};
 
 type Fail<'a> = Error<&'a [u8]>;
 

@@ -1,12 +1,12 @@
 //! Functions of a user's own and of the library as parsers, in each build mode, and on inputs that grow.
+use example_parts::functions::{first, grown_byte, measured, small, starved};
+use example_parts::streaming::grown_digits;
 use nom::character::complete;
 use nom::combinator::{eof, recognize, rest};
 use nom::error::{Error, ErrorKind};
 use nom::{
     Check, Emit, Err, IResult, Needed, OutputM, OutputMode, PResult, Parser, Streaming, func,
 };
-use nom_own_parts::functions::{first, grown_byte, measured, small, starved};
-use nom_own_parts::streaming::grown_digits;
 
 type Fail<'a> = Error<&'a [u8]>;
 

@@ -1,9 +1,9 @@
 //! Where outputs, rests and refused inputs stand in brackets.
+use example_input::Nested;
 use nom::bytes::{is_not, tag};
 use nom::error::Error;
 use nom::sequence::separated_pair;
 use nom::{Err, IResult, Parser};
-use nom_source::Nested;
 
 /// What stands before a comma, and what stands between it and a semicolon.
 fn halves(input: Nested<'_>) -> IResult<Nested<'_>, (Nested<'_>, Nested<'_>), Error<Nested<'_>>> {

@@ -6,4 +6,4 @@ use Rattle.nom_bits.proofs.complete.bool.Goals as goal
 
 pub returns-clause-shown : goal.returns-clause-shown
 returns-clause-shown g c =
-    answers_by (bool_lawful g.I.Items.seen g.E.ParseError.errors) value_pinned (parsed c.full.ensures c.process.ensures.shown)
+    answers_by (bool_lawful g.I.Items.model g.E.ParseError.errors) value_pinned (parsed c.full.ensures c.process.ensures.shown)

@@ -1,5 +1,5 @@
 use Rattle.std.proofs.Common.{take}
-use Rattle.nom_traits.specs.Bits.{seen_bits, spelled}
+use Rattle.nom_traits.specs.Bits.{bits_model, spelled}
 use Rattle.nom_bits.proofs.Spellings.{IsSpelling}
 use Rattle.nom_bits.proofs.field.spelling.Given as goal
 
@@ -7,5 +7,5 @@ abbrev pub invariant-loop-byte : goal.invariant-loop-byte
 invariant-loop-byte g l =
     (goal.iterator-loop-byte g).can_next l.byte-iterator
     × (goal.iterator-loop-byte g).is_finite l.byte-iterator
-    × IsSpelling (goal.iterator-loop-byte g).next_gives (spelled (take l.fn.count ((seen_bits g.I.Items.seen).elements l.fn.start))) l.left l.passed
+    × IsSpelling (goal.iterator-loop-byte g).next_gives (spelled (take l.fn.count ((bits_model g.I.Items.model).elements l.fn.start))) l.left l.passed
     l.value l.byte-iterator

@@ -6,5 +6,5 @@ use Rattle.nom_bits.proofs.streaming.bool.Goals as goal
 
 pub returns-clause-shown : goal.returns-clause-shown
 returns-clause-shown g c =
-    streams_by (bool_lawful g.I.Items.seen g.E.ParseError.errors) (bool_steady g.I.Items.seen g.E.ParseError.errors) tt value_pinned
+    streams_by (bool_lawful g.I.Items.model g.E.ParseError.errors) (bool_steady g.I.Items.model g.E.ParseError.errors) tt value_pinned
     (parsed c.full.ensures c.process.ensures.shown)

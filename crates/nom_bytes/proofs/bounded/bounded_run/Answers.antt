@@ -7,7 +7,7 @@ use Rattle.nom_bytes.proofs.bounded.bounded_run.Goals as goal
 pub loop-index-init : goal.loop-index-init
 loop-index-init g c =
     let gives = subst (λ s. AlwaysYields g.I.IterIndices.Iterator.next_gives (λ p. p) s
-    (placed g.I.Items.seen.weight 0 (g.I.Items.seen.elements c.args.input)))
+    (placed g.I.Items.model.item_len 0 (g.I.Items.model.elements c.args.input)))
     (sym c.into_iter-index-iterator.ensures.into_iter_gives) c.iter_indices-index-items.ensures.gives in
     (search rules, search rules, omega arith, count_begins _ _ _ _ _ gives)
 

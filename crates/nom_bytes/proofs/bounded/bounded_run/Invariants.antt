@@ -7,5 +7,5 @@ invariant-loop-index g l =
     (goal.iterator-loop-index g).can_next l.index-iterator
     × (goal.iterator-loop-index g).is_finite l.index-iterator
     × (l.count ≤ l.fn.most)
-    × IsCounting g.I.Items.seen (g.P.Predicate.answers (g.P.Predicate.state l.fn.predicate))
+    × IsCounting g.I.Items.model (g.P.Predicate.answers (g.P.Predicate.state l.fn.predicate))
     (goal.iterator-loop-index g).next_gives l.fn.input l.count l.index-iterator

@@ -6,7 +6,7 @@ use Rattle.nom_repeat.specs.Bounds.{exact_limits}
 use Rattle.nom_repeat.specs.declared.items.TooFew.TheVariants.{Added}
 use Rattle.nom_repeat.proofs.Parts.{shown_at}
 use Rattle.nom_repeat.proofs.Repeated.{collected_none}
-use Rattle.nom_repeat.proofs.Keeping.{kept_none, can_keep_first, can_keep_next, gained, room_built, room_grows}
+use Rattle.nom_repeat.proofs.Accumulating.{kept_none, can_push_first, can_push_next, pushed, room_built, room_grows}
 use Rattle.nom_repeat.proofs.ItemsShown.{items_full, items_too_few, items_failed, items_lack, items_part_ran_out, items_lack_room, items_more}
 use Rattle.nom_counted.proofs.Places.{is_below, is_over, one_longer}
 use Rattle.nom_counted.proofs.exact.items_exactly.Goals as goal
@@ -14,9 +14,9 @@ use Rattle.nom_counted.proofs.exact.items_exactly.Goals as goal
 pub loop-done-init : goal.loop-done-init
 loop-done-init g c = record {
   state_kept = refl;
-  collected = collected_none g.met.I.Items.lawful c.known.ensures
-      (kept_none g.K.Keep.Gains g.K.Keep.CanKeep (g.F.Parser.IsOutput (g.F.Parser.state c.args.parser.now)) _ _ c.requires.built, refl);
-  can_keep = can_keep_first g.K.Keep.Gains g.K.Keep.CanKeep (g.F.Parser.IsOutput (g.F.Parser.state c.args.parser.now)) _ _ c.requires.built;
+  collected = collected_none g.met.I.Items.lawful c.prove_known.ensures
+      (kept_none g.K.Accumulator.Pushes g.K.Accumulator.CanPush (g.F.Parser.IsOutput (g.F.Parser.state c.args.parser.now)) _ _ c.requires.built, refl);
+  can_push = can_push_first g.K.Accumulator.Pushes g.K.Accumulator.CanPush (g.F.Parser.IsOutput (g.F.Parser.state c.args.parser.now)) _ _ c.requires.built;
 }
 
 pub loop-done-preserved : goal.loop-done-preserved
@@ -24,58 +24,64 @@ loop-done-preserved g c =
     let i = c.loop-done.invariant in
     let part = shown_at g.F.Parser.IsOutput g.F.Parser.meaning i.state_kept c.in-Ok.ensures.shown in
     let item = accepts part in
-    let gains = c.gain.ensures.kept (search rules) in
+    let pushes = c.push_item.ensures.kept (search rules) in
     record {
       state_kept = cc;
       collected = items_more g.met.I.Items.lawful (exact_limits c.args.count) i.collected (is_below c.loop-done-test.true i.collected.held.1) item (inl refl) (
-        gained g.K.Keep.Gains g.K.Keep.CanKeep (g.F.Parser.IsOutput (g.F.Parser.state c.args.parser.now)) _ _ _ _ _ _ _ gains i.collected.held.0
+        pushed g.K.Accumulator.Pushes g.K.Accumulator.CanPush (g.F.Parser.IsOutput (g.F.Parser.state c.args.parser.now)) _ _ _ _ _ _ _ pushes i.collected.held.0
             item.built_is,
         one_longer _ _ i.collected.held.1,
       );
-      can_keep = can_keep_next g.K.Keep.Gains g.K.Keep.CanKeep (g.F.Parser.IsOutput (g.F.Parser.state c.args.parser.now)) _ _ _ gains i.can_keep;
+      can_push = can_push_next g.K.Accumulator.Pushes g.K.Accumulator.CanPush (g.F.Parser.IsOutput (g.F.Parser.state c.args.parser.now)) _ _ _ pushes
+          i.can_push;
     }
 
-pub returns-then-not-gain-clause-shown : goal.returns-then-not-gain-clause-shown
-returns-then-not-gain-clause-shown g c =
+pub returns-then-not-push_item-clause-shown : goal.returns-then-not-push_item-clause-shown
+returns-then-not-push_item-clause-shown g c =
     let i = c.loop-done.invariant in
     let part = shown_at g.F.Parser.IsOutput g.F.Parser.meaning i.state_kept c.in-Ok.ensures.shown in
-    items_lack_room g.F.Error.ParseError.errors (exact_limits c.args.count) g.K.Keep.Grows (g.F.Parser.meaning (g.F.Parser.state c.args.parser.now)) i.collected
+    items_lack_room g.F.Error.ParseError.errors (exact_limits c.args.count) g.K.Accumulator.Grows (g.F.Parser.meaning (g.F.Parser.state c.args.parser.now))
+    i.collected
     (is_below c.loop-done-test.true i.collected.held.1) (accepts part) (inl refl)
-    (room_built g.K.Keep.IsFull _ _ _ i.collected.held.0 (c.gain.ensures.full c.if-not-gain.true))
-    (room_grows g.K.Keep.IsFull g.K.Keep.Grows g.K.Keep.fills _ (c.gain.ensures.full c.if-not-gain.true))
+    (room_built g.K.Accumulator.IsFull _ _ _ i.collected.held.0 (c.push_item.ensures.full c.if-not-push_item.true))
+    (room_grows g.K.Accumulator.IsFull g.K.Accumulator.Grows g.K.Accumulator.fills _ (c.push_item.ensures.full c.if-not-push_item.true))
 
 pub returns-in-Err-Error-clause-shown : goal.returns-in-Err-Error-clause-shown
 returns-in-Err-Error-clause-shown g c =
     let i = c.loop-done.invariant in
     let part = shown_at g.F.Parser.IsOutput g.F.Parser.meaning i.state_kept c.in-Err-Error.ensures.shown in
     let below = is_below c.loop-done-test.true i.collected.held.1 in
-    items_too_few g.F.Error.ParseError.errors (exact_limits c.args.count) g.K.Keep.Grows (g.F.Parser.meaning (g.F.Parser.state c.args.parser.now)) i.collected
+    items_too_few g.F.Error.ParseError.errors (exact_limits c.args.count) g.K.Accumulator.Grows (g.F.Parser.meaning (g.F.Parser.state c.args.parser.now))
+    i.collected
     below (lt-ltb _ _ below) (Added Kind.Count) refl c.in-Err-Error.field-0-is part refl c.close_error.ensures
 
 pub returns-in-Err-Failure-clause-shown : goal.returns-in-Err-Failure-clause-shown
 returns-in-Err-Failure-clause-shown g c =
     let i = c.loop-done.invariant in
     let part = shown_at g.F.Parser.IsOutput g.F.Parser.meaning i.state_kept c.in-Err-Failure.ensures.shown in
-    items_failed g.F.Error.ParseError.errors (exact_limits c.args.count) g.K.Keep.Grows (g.F.Parser.meaning (g.F.Parser.state c.args.parser.now)) i.collected
+    items_failed g.F.Error.ParseError.errors (exact_limits c.args.count) g.K.Accumulator.Grows (g.F.Parser.meaning (g.F.Parser.state c.args.parser.now))
+    i.collected
     (is_below c.loop-done-test.true i.collected.held.1) c.in-Err-Failure.field-0-is part
 
 pub returns-in-Err-Incomplete-clause-shown : goal.returns-in-Err-Incomplete-clause-shown
 returns-in-Err-Incomplete-clause-shown g c =
     let i = c.loop-done.invariant in
     let part = shown_at g.F.Parser.IsOutput g.F.Parser.meaning i.state_kept c.in-Err-Incomplete.ensures.shown in
-    items_lack g.F.Error.ParseError.errors (exact_limits c.args.count) g.K.Keep.Grows (g.F.Parser.meaning (g.F.Parser.state c.args.parser.now)) i.collected
+    items_lack g.F.Error.ParseError.errors (exact_limits c.args.count) g.K.Accumulator.Grows (g.F.Parser.meaning (g.F.Parser.state c.args.parser.now))
+    i.collected
     (is_below c.loop-done-test.true i.collected.held.1) c.in-Err-Incomplete.field-0-is part
 
 pub returns-in-Err-OutOfMemory-clause-shown : goal.returns-in-Err-OutOfMemory-clause-shown
 returns-in-Err-OutOfMemory-clause-shown g c =
     let i = c.loop-done.invariant in
     let part = shown_at g.F.Parser.IsOutput g.F.Parser.meaning i.state_kept c.in-Err-OutOfMemory.ensures.shown in
-    items_part_ran_out g.F.Error.ParseError.errors (exact_limits c.args.count) g.K.Keep.Grows (g.F.Parser.meaning (g.F.Parser.state c.args.parser.now))
+    items_part_ran_out g.F.Error.ParseError.errors (exact_limits c.args.count) g.K.Accumulator.Grows (g.F.Parser.meaning (g.F.Parser.state c.args.parser.now))
     i.collected
     (is_below c.loop-done-test.true i.collected.held.1) c.in-Err-OutOfMemory.field-0-is part
 
 pub returns-clause-shown : goal.returns-clause-shown
 returns-clause-shown g c =
     let i = c.loop-done.invariant in
-    items_full g.F.Error.ParseError.errors (exact_limits c.args.count) g.K.Keep.Grows (g.F.Parser.meaning (g.F.Parser.state c.args.parser.now)) i.collected
+    items_full g.F.Error.ParseError.errors (exact_limits c.args.count) g.K.Accumulator.Grows (g.F.Parser.meaning (g.F.Parser.state c.args.parser.now))
+    i.collected
     (is_over c.loop-done-test.false i.collected.held.1) i.collected.held.0

@@ -4,20 +4,21 @@ use Rattle.nom_error.specs.Modes.{Built}
 use Rattle.nom_repeat.specs.Repeat.{TurnsBy}
 use Rattle.nom_repeat.specs.Items.{item_turn}
 use Rattle.nom_repeat.specs.Bounds.{exact_limits}
-use Rattle.nom_repeat.specs.Kept.{Kept}
+use Rattle.nom_repeat.specs.Accumulated.{Accumulated}
 use Rattle.nom_repeat.proofs.Repeated.{Collected}
 use Rattle.nom_counted.proofs.exact.items_exactly.Given as goal
 
 abbrev pub invariant-loop-done : goal.invariant-loop-done
 invariant-loop-done g l = record {
   state_kept : g.F.Parser.state l.parser ≡ g.F.Parser.state l.fn.parser;
-  collected : Collected g.I.Items.seen
+  collected : Collected g.I.Items.model
       (TurnsBy (Some l.fn.count) (item_turn (exact_limits l.fn.count)) (λ _. (g.F.Parser.meaning (g.F.Parser.state l.fn.parser)).answers
       g.OM.Incomplete.IsStreaming.STREAMING))
-      (λ vs. Built g.OM.Output.Mode.BUILDS (Kept g.K.Keep.Gains g.K.Keep.CanKeep (g.F.Parser.IsOutput (g.F.Parser.state l.fn.parser)) l.fn.before vs)
+      (λ vs. Built g.OM.Output.Mode.BUILDS (Accumulated g.K.Accumulator.Pushes g.K.Accumulator.CanPush (g.F.Parser.IsOutput (g.F.Parser.state l.fn.parser))
+      l.fn.before vs)
       l.kept × (l.done ≡ length vs))
       l.fn.input l.rest;
-  can_keep : IfSome l.kept g.K.Keep.CanKeep;
+  can_push : IfSome l.kept g.K.Accumulator.CanPush;
 }
 
 abbrev pub decreases-loop-done : goal.decreases-loop-done

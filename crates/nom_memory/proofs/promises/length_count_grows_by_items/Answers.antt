@@ -1,4 +1,4 @@
-use Rattle.nom_lengths.specs.Lengths.{HasSize}
+use Rattle.nom_multi_length.specs.Lengths.{HasSize}
 use Rattle.nom_memory.proofs.Lists.{length_count_grow}
 use Rattle.nom_memory.proofs.promises.length_count_grows_by_items.Goals as goal
 
@@ -6,5 +6,5 @@ pub returns : goal.returns
 returns g c =
     let s = g.F.Parser.state c.args._parser.now.length in
     let t = g.G.Parser.state c.args._parser.now.parser in
-    length_count_grow g.I.Items.seen g.F.Error.ParseError.errors (g.G.Parser.meaning t) (g.met.G.Parser.lawful t c.requires.item)
+    length_count_grow g.I.Items.model g.F.Error.ParseError.errors (g.G.Parser.meaning t) (g.met.G.Parser.lawful t c.requires.item)
     (HasSize (g.F.Parser.IsOutput s) g.F.Output.ToUsize.size) (g.F.Parser.meaning s) (g.met.F.Parser.lawful s c.requires.length)

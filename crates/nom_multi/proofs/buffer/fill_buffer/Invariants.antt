@@ -2,7 +2,7 @@ use Rattle.std.proofs.Common.{◌≡◌, ◌-◌, Some, length}
 use Rattle.nom_repeat.specs.Repeat.{TurnsBy}
 use Rattle.nom_repeat.specs.Items.{item_turn}
 use Rattle.nom_repeat.proofs.Repeated.{Collected}
-use Rattle.nom_multi.specs.Fill.{Holds}
+use Rattle.nom_multi.specs.Fill.{HoldsItems}
 use Rattle.nom_multi.proofs.buffer.fill_buffer.Given as goal
 use Rattle.nom_repeat.specs.Bounds.{exact_limits}
 
@@ -10,10 +10,10 @@ abbrev pub invariant-loop-count : goal.invariant-loop-count
 invariant-loop-count g l = record {
   state_kept : g.F.Parser.state l.parser ≡ g.F.Parser.state l.fn.parser;
   length_kept : length l.buffer ≡ length l.fn.buffer;
-  collected : Collected g.I.Items.seen
+  collected : Collected g.I.Items.model
       (TurnsBy (Some (length l.fn.buffer)) (item_turn (exact_limits (length l.fn.buffer)))
       (λ _. (g.F.Parser.meaning (g.F.Parser.state l.fn.parser)).answers g.OM.Incomplete.IsStreaming.STREAMING))
-      (λ vs. Holds (g.F.Parser.IsOutput (g.F.Parser.state l.fn.parser)) g.OM.Output.Mode.BUILDS l.fn.buffer vs l.buffer × (l.count ≡ length vs))
+      (λ vs. HoldsItems (g.F.Parser.IsOutput (g.F.Parser.state l.fn.parser)) g.OM.Output.Mode.BUILDS l.fn.buffer vs l.buffer × (l.count ≡ length vs))
       l.fn.input l.rest;
 }
 

@@ -6,4 +6,4 @@ abbrev pub invariant-loop-byte : goal.invariant-loop-byte
 invariant-loop-byte g l =
     (goal.iterator-loop-byte g).can_next l.byte-iterator
     × (goal.iterator-loop-byte g).is_finite l.byte-iterator
-    × ((n : ℕ) × IsSummed true (goal.iterator-loop-byte g).next_gives (g.I.Items.seen.elements l.fn.bytes) n l.value l.byte-iterator)
+    × ((n : ℕ) × IsSummed true (goal.iterator-loop-byte g).next_gives (g.I.Items.model.elements l.fn.bytes) n l.value l.byte-iterator)

@@ -12,7 +12,7 @@ use Rattle.nom_permutation.proofs.rounds.rounds.Goals as goal
 
 pub loop-slots-init : goal.loop-slots-init
 loop-slots-init g c =
-    let w = g.I.Items.seen in
+    let w = g.I.Items.model in
     let joins = g.N.Error.ParseError.errors.joined in
     let grows = g.N.Error.ParseError.errors.grows in
     let outputs = g.OM.Output.Mode.BUILDS in
@@ -22,7 +22,7 @@ loop-slots-init g c =
     let ms = g.N.Nested.members st in
     record {
       kept = refl;
-      known = c.known.ensures;
+      known = c.prove_known.ensures;
       reached = (
         g.N.Nested.none,
         c.slots-slots.ensures.held outputs st,
@@ -37,7 +37,7 @@ round-requires g c = subst (λ z. AreSound (g.N.Nested.members z)) (sym c.loop-s
 
 pub returns-in-None-clause-shown : goal.returns-in-None-clause-shown
 returns-in-None-clause-shown g c =
-    let w = g.I.Items.seen in
+    let w = g.I.Items.model in
     let l = g.met.I.Items.lawful in
     let joins = g.N.Error.ParseError.errors.joined in
     let grows = g.N.Error.ParseError.errors.grows in
@@ -64,7 +64,7 @@ returns-in-None-clause-shown g c =
 
 pub loop-slots-preserved : goal.loop-slots-preserved
 loop-slots-preserved g c =
-    let w = g.I.Items.seen in
+    let w = g.I.Items.model in
     let l = g.met.I.Items.lawful in
     let joins = g.N.Error.ParseError.errors.joined in
     let grows = g.N.Error.ParseError.errors.grows in
@@ -100,7 +100,7 @@ loop-slots-preserved g c =
 
 pub returns-in-Err-clause-shown : goal.returns-in-Err-clause-shown
 returns-in-Err-clause-shown g c =
-    let w = g.I.Items.seen in
+    let w = g.I.Items.model in
     let l = g.met.I.Items.lawful in
     let joins = g.N.Error.ParseError.errors.joined in
     let grows = g.N.Error.ParseError.errors.grows in

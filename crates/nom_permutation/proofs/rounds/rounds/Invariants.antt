@@ -9,15 +9,15 @@ use Rattle.nom_permutation.proofs.rounds.rounds.Given as goal
 abbrev pub invariant-loop-slots : goal.invariant-loop-slots
 invariant-loop-slots g l = record {
   kept : g.N.Nested.state l.members ≡ g.N.Nested.state l.fn.members;
-  known : g.I.Items.seen.IsKnown l.rest;
+  known : g.I.Items.model.IsKnown l.rest;
   reached : (t : g.N.Nested.Tree) × g.N.Nested.AreHeld g.OM.Output.Mode.BUILDS (g.N.Nested.state l.fn.members) t l.slots ×
       ((r : Result _ (Answer.Err _ (Option _) Needed)) →
-      ShowsRounds g.I.Items.seen g.N.Error.ParseError.errors.joined (λ i. g.N.Error.ParseError.errors.appended i Kind.Permutation)
+      ShowsRounds g.I.Items.model g.N.Error.ParseError.errors.joined (λ i. g.N.Error.ParseError.errors.appended i Kind.Permutation)
       g.N.Error.ParseError.errors.grows (g.N.Nested.members (g.N.Nested.state l.fn.members))
       (FlatOutput (g.N.Nested.AreOutputs (g.N.Nested.state l.fn.members)) g.N.Outputs.Flat.pairs)
       g.OM.Output.Mode.BUILDS g.OM.Error.Mode.BUILDS g.OM.Incomplete.IsStreaming.STREAMING
       (g.N.Nested.waiting l.slots) t l.rest r →
-      ShowsRounds g.I.Items.seen g.N.Error.ParseError.errors.joined (λ i. g.N.Error.ParseError.errors.appended i Kind.Permutation)
+      ShowsRounds g.I.Items.model g.N.Error.ParseError.errors.joined (λ i. g.N.Error.ParseError.errors.appended i Kind.Permutation)
       g.N.Error.ParseError.errors.grows (g.N.Nested.members (g.N.Nested.state l.fn.members))
       (FlatOutput (g.N.Nested.AreOutputs (g.N.Nested.state l.fn.members)) g.N.Outputs.Flat.pairs)
       g.OM.Output.Mode.BUILDS g.OM.Error.Mode.BUILDS g.OM.Incomplete.IsStreaming.STREAMING

@@ -8,7 +8,7 @@ use Rattle.nom_precedence.specs.Chains.{chain_meaning}
 use Rattle.nom_precedence.specs.Expressions.{Pair, Term, pair_meaning, term_meaning}
 use Rattle.nom_precedence.specs.Operators.{HasLevel, operator_meaning}
 use Rattle.nom_precedence.specs.Told.{IsMade, IsPairOf, IsTerm, ShowsRead}
-use Rattle.nom_precedence.specs.Values.{Stands, folding}
+use Rattle.nom_precedence.specs.Values.{StandsFor, folding}
 use Rattle.nom_operators.specs.Groups.{groups_left}
 use Rattle.nom_operators.specs.declared.operation.Assoc.{Assoc}
 use Rattle.nom_operators.specs.declared.operation.Operation.TheVariants.{Binary, Postfix, Prefix}
@@ -24,7 +24,7 @@ operator g b n = operator_meaning g.F.Error.ParseError.errors (HasLevel (g.C.Par
 
 abbrev term : (g : given.Over) → g.P.Parser.State → g.F.Parser.State → g.Q.Parser.State →
     Meaning g.row.I.Denot (Read (Term g.P.Parser.Tree g.F.Parser.Tree g.Q.Parser.Tree)) g.row.F-Error.Denot
-term g p f q = term_meaning g.I.Items.seen (g.P.Parser.meaning p) (g.F.Parser.meaning f) (g.Q.Parser.meaning q)
+term g p f q = term_meaning g.I.Items.model (g.P.Parser.meaning p) (g.F.Parser.meaning f) (g.Q.Parser.meaning q)
 
 abbrev first : (g : given.Over) → g.P.Parser.State → g.F.Parser.State → g.Q.Parser.State →
     Meaning g.row.I.Denot (Read (Term g.P.Parser.Tree g.F.Parser.Tree g.Q.Parser.Tree)) g.row.F-Error.Denot
@@ -32,7 +32,7 @@ first g p f q = closed_meaning (λ i. g.F.Error.ParseError.errors.appended i Kin
 
 abbrev behind : (g : given.Over) → g.P.Parser.State → g.F.Parser.State → g.Q.Parser.State → g.C.Parser.State → ℕ →
     Meaning g.row.I.Denot (Read (List (Pair g.C.Parser.Tree (Term g.P.Parser.Tree g.F.Parser.Tree g.Q.Parser.Tree)))) g.row.F-Error.Denot
-behind g p f q b n = chain_meaning g.I.Items.seen (Unit {0}) (pair_meaning g.I.Items.seen (operator g b n) (term g p f q))
+behind g p f q b n = chain_meaning g.I.Items.model (Unit {0}) (pair_meaning g.I.Items.model (operator g b n) (term g p f q))
 
 -- and their outputs, by the fold
 abbrev is_term : (g : given.Over) → g.P.Parser.State → g.F.Parser.State → g.Q.Parser.State → g.row.G.Denot →
@@ -54,7 +54,7 @@ abbrev Whole : (g : given.Over) → g.P.Parser.State → g.F.Parser.State → g.
     Term g.P.Parser.Tree g.F.Parser.Tree g.Q.Parser.Tree × List (Pair g.C.Parser.Tree (Term g.P.Parser.Tree g.F.Parser.Tree g.Q.Parser.Tree)) →
     g.row.F-Output.Denot → Type 0
 Whole g p f q b fold levels e y =
-    Stands (folding (g.P.Parser.IsOutput p) (g.F.Parser.IsOutput f) (g.Q.Parser.IsOutput q) (g.C.Parser.IsOutput b) (λ o. g.G.Fn.post fold (o, tt)))
+    StandsFor (folding (g.P.Parser.IsOutput p) (g.F.Parser.IsOutput f) (g.Q.Parser.IsOutput q) (g.C.Parser.IsOutput b) (λ o. g.G.Fn.post fold (o, tt)))
     (groups_left levels) e.0 e.1 y
 
 pub returns-in_err-rest-clause-shown : goal.returns-in_err-rest-clause-shown
@@ -111,7 +111,7 @@ returns-in_err-end-in-Whole-clause-shown g c =
     let errs = g.F.Error.ParseError.errors in
     let closed = closed_read (is_term g p f q fold) (term g p f q) (λ i. errs.appended i Kind.Precedence) errs.grows g.OM.Output.Mode.BUILDS
     g.OM.Error.Mode.BUILDS g.OM.Incomplete.IsStreaming.STREAMING c.term-first.ensures.shown c.in_ok-rest.ensures in
-    let others = at_states (λ x y z d r. ShowsRead g.I.Items.seen (Pairs g x y z d fold c.args.levels.now c.in-Whole.value) (behind g x y z d n)
+    let others = at_states (λ x y z d r. ShowsRead g.I.Items.model (Pairs g x y z d fold c.args.levels.now c.in-Whole.value) (behind g x y z d n)
     g.OM.Output.Mode.BUILDS g.OM.Error.Mode.BUILDS g.OM.Incomplete.IsStreaming.STREAMING c.in_ok-rest.rest r) c.term-first.ensures.prefix_kept
     c.term-first.ensures.operand_kept c.term-first.ensures.postfix_kept refl c.in_err-end-in-Whole.ensures.shown in
     second_err g.met.I.Items.lawful (λ t ps. (t, ps)) (first g p f q) (behind g p f q b n) (is_term g p f q fold)
@@ -129,7 +129,7 @@ returns-in-Stuck-told-clause-shown g c =
     let errs = g.F.Error.ParseError.errors in
     let closed = closed_read (is_term g p f q fold) (term g p f q) (λ i. errs.appended i Kind.Precedence) errs.grows g.OM.Output.Mode.BUILDS
     g.OM.Error.Mode.BUILDS g.OM.Incomplete.IsStreaming.STREAMING c.term-first.ensures.shown c.in_ok-rest.ensures in
-    let others = at_states (λ x y z d r. ShowsRead g.I.Items.seen (Pairs g x y z d fold c.args.levels.now c.in-Whole.value) (behind g x y z d n)
+    let others = at_states (λ x y z d r. ShowsRead g.I.Items.model (Pairs g x y z d fold c.args.levels.now c.in-Whole.value) (behind g x y z d n)
     g.OM.Output.Mode.BUILDS g.OM.Error.Mode.BUILDS g.OM.Incomplete.IsStreaming.STREAMING c.in_ok-rest.rest r) c.term-first.ensures.prefix_kept
     c.term-first.ensures.operand_kept c.term-first.ensures.postfix_kept refl c.in_ok-end-in-Whole.ensures.shown in
     second_stuck g.met.I.Items.lawful (λ t ps. (t, ps)) (first g p f q) (behind g p f q b n) (is_term g p f q fold)
@@ -147,7 +147,7 @@ returns-in-Whole-told-clause-shown g c =
     let errs = g.F.Error.ParseError.errors in
     let closed = closed_read (is_term g p f q fold) (term g p f q) (λ i. errs.appended i Kind.Precedence) errs.grows g.OM.Output.Mode.BUILDS
     g.OM.Error.Mode.BUILDS g.OM.Incomplete.IsStreaming.STREAMING c.term-first.ensures.shown c.in_ok-rest.ensures in
-    let others = at_states (λ x y z d r. ShowsRead g.I.Items.seen (Pairs g x y z d fold c.args.levels.now c.in-Whole.value) (behind g x y z d n)
+    let others = at_states (λ x y z d r. ShowsRead g.I.Items.model (Pairs g x y z d fold c.args.levels.now c.in-Whole.value) (behind g x y z d n)
     g.OM.Output.Mode.BUILDS g.OM.Error.Mode.BUILDS g.OM.Incomplete.IsStreaming.STREAMING c.in_ok-rest.rest r) c.term-first.ensures.prefix_kept
     c.term-first.ensures.operand_kept c.term-first.ensures.postfix_kept refl c.in_ok-end-in-Whole.ensures.shown in
     both_whole g.met.I.Items.lawful (λ t ps. (t, ps)) (first g p f q) (behind g p f q b n) (is_term g p f q fold)

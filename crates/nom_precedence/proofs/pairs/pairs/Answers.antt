@@ -20,7 +20,7 @@ abbrev Shows : (g : given.Over) → g.row.G.Denot → ℕ → g.row.I.Denot → 
     Result (g.row.I.Denot × Option (Told.Read (Option ((ℕ × g.row.B.Denot) × g.row.F-Output.Denot))))
     (Answer.Err g.row.F-Error.Denot (Option g.row.F-Error.Denot) Needed) → Type 0
 Shows g fold n i p f q b r =
-    ShowsRead g.I.Items.seen (is_pair g p f q b fold) (part g p f q b n) g.OM.Output.Mode.BUILDS false g.OM.Incomplete.IsStreaming.STREAMING i r
+    ShowsRead g.I.Items.model (is_pair g p f q b fold) (part g p f q b n) g.OM.Output.Mode.BUILDS false g.OM.Incomplete.IsStreaming.STREAMING i r
 
 pub loop-next-init : goal.loop-next-init
 loop-next-init g c = record {
@@ -28,7 +28,7 @@ loop-next-init g c = record {
   operand_kept = refl;
   postfix_kept = refl;
   binary_kept = refl;
-  collected = collected_none g.met.I.Items.lawful c.known.ensures
+  collected = collected_none g.met.I.Items.lawful c.prove_known.ensures
       (run_none _ _ _ _ _ _ _ _ _ _ c.new-outer.ensures.items c.requires.before c.begun-held.ensures);
 }
 

@@ -16,9 +16,9 @@ use Rattle.nom_precedence.proofs.pairs.pairs.Given as goal
 abbrev pub part : (g : goal.Over) → g.P.Parser.State → g.F.Parser.State → g.Q.Parser.State → g.C.Parser.State → ℕ →
     Meaning g.row.I.Denot (Read (Pair g.C.Parser.Tree (Term g.P.Parser.Tree g.F.Parser.Tree g.Q.Parser.Tree))) g.row.F-Error.Denot
 part g p f q b n =
-    pair_meaning g.I.Items.seen
+    pair_meaning g.I.Items.model
     (operator_meaning g.F.Error.ParseError.errors (HasLevel (g.C.Parser.IsOutput b) (λ o. o.0)) n (g.C.Parser.meaning b))
-    (term_meaning g.I.Items.seen (g.P.Parser.meaning p) (g.F.Parser.meaning f) (g.Q.Parser.meaning q))
+    (term_meaning g.I.Items.model (g.P.Parser.meaning p) (g.F.Parser.meaning f) (g.Q.Parser.meaning q))
 
 -- an output of it, by the fold
 abbrev pub is_pair : (g : goal.Over) → g.P.Parser.State → g.F.Parser.State → g.Q.Parser.State → g.C.Parser.State → g.row.G.Denot →
@@ -39,11 +39,11 @@ invariant-loop-next g l =
       operand_kept : g.F.Parser.state l.operand ≡ f;
       postfix_kept : g.Q.Parser.state l.postfix ≡ q;
       binary_kept : g.C.Parser.state l.binary ≡ b;
-      collected : Chain g.I.Items.seen ((part g p f q b (length l.fn.levels)).answers g.OM.Incomplete.IsStreaming.STREAMING)
+      collected : Chain g.I.Items.model ((part g p f q b (length l.fn.levels)).answers g.OM.Incomplete.IsStreaming.STREAMING)
           (λ vs. Built g.OM.Output.Mode.BUILDS (HasRun (groups_left l.fn.levels) (λ d. d.0) (λ x d y z. g.G.Fn.post l.fn.fold (Binary x d.1 y, tt) z)
           (is_pair g p f q b l.fn.fold) (λ k. k.innermost) (λ k. k.value) l.outer.items l.fn.before vs) l.held)
           l.fn.input l.rest;
     }
 
 abbrev pub decreases-loop-next : goal.decreases-loop-next
-decreases-loop-next g l = input_len g.I.Items.seen l.rest
+decreases-loop-next g l = input_len g.I.Items.model l.rest

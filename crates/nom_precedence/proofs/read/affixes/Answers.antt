@@ -1,8 +1,8 @@
 use Rattle.std.proofs.Common.{rules, refl, ◌∙◌, false}
 use Rattle.nom_internal.specs.Cases.{labelled_meaning}
 use Rattle.nom_internal.proofs.Shown.{accepts}
-use Rattle.nom_repeat.specs.Kept.{Kept}
-use Rattle.nom_repeat.proofs.Keeping.{kept_none, kept_ready, can_keep_first, gained, room_built, room_grows}
+use Rattle.nom_repeat.specs.Accumulated.{Accumulated}
+use Rattle.nom_repeat.proofs.Accumulating.{kept_none, kept_ready, can_push_first, pushed, room_built, room_grows}
 use Rattle.nom_repeat.proofs.Parts.{part_refused, shown_at}
 use Rattle.nom_repeat.proofs.Repeated.{collected_none, is_empty, consumes, is_shorter}
 use Rattle.nom_precedence.specs.Stuck.Read.{Whole}
@@ -14,37 +14,40 @@ use Rattle.nom_precedence.proofs.read.affixes.Goals as goal
 pub loop-next-init : goal.loop-next-init
 loop-next-init g c = record {
   state_kept = refl;
-  collected = collected_none g.met.I.Items.lawful c.known.ensures (kept_none g.K.Keep.Gains g.K.Keep.CanKeep
+  collected = collected_none g.met.I.Items.lawful c.prove_known.ensures (kept_none g.K.Accumulator.Pushes g.K.Accumulator.CanPush
       (g.F.Parser.IsOutput (g.F.Parser.state c.args.parser.now)) _ _ c.requires.before);
 }
 
-pub gain-requires : goal.gain-requires
-gain-requires g c =
+pub push_item-requires : goal.push_item-requires
+push_item-requires g c =
     let i = c.loop-next.invariant in
-    can_keep_first g.K.Keep.Gains g.K.Keep.CanKeep (g.F.Parser.IsOutput (g.F.Parser.state c.args.parser.now)) _ _
-    (kept_ready g.K.Keep.Gains g.K.Keep.CanKeep (g.F.Parser.IsOutput (g.F.Parser.state c.args.parser.now)) _ _ _ i.collected.trees i.collected.held)
+    can_push_first g.K.Accumulator.Pushes g.K.Accumulator.CanPush (g.F.Parser.IsOutput (g.F.Parser.state c.args.parser.now)) _ _
+    (kept_ready g.K.Accumulator.Pushes g.K.Accumulator.CanPush (g.F.Parser.IsOutput (g.F.Parser.state c.args.parser.now)) _ _ _ i.collected.trees
+    i.collected.held)
 
 pub returns-then-input_len-clause-shown : goal.returns-then-input_len-clause-shown
 returns-then-input_len-clause-shown g c =
     let i = c.loop-next.invariant in
     let item = accepts (shown_at g.F.Parser.IsOutput g.F.Parser.meaning i.state_kept c.in-Ok.ensures.shown) in
-    chain_stuck g.K.Keep.Grows (labelled_meaning Whole (g.F.Parser.meaning (g.F.Parser.state c.args.parser.now)))
-    (Kept g.K.Keep.Gains g.K.Keep.CanKeep (g.F.Parser.IsOutput (g.F.Parser.state c.args.parser.now)) c.args.before) g.OM.Output.Mode.BUILDS
+    chain_stuck g.K.Accumulator.Grows (labelled_meaning Whole (g.F.Parser.meaning (g.F.Parser.state c.args.parser.now)))
+    (Accumulated g.K.Accumulator.Pushes g.K.Accumulator.CanPush (g.F.Parser.IsOutput (g.F.Parser.state c.args.parser.now)) c.args.before)
+    g.OM.Output.Mode.BUILDS
     g.OM.Error.Mode.BUILDS g.OM.Incomplete.IsStreaming.STREAMING i.collected g.met.I.Items.lawful item.tree
     (accepts_whole (g.F.Parser.meaning (g.F.Parser.state c.args.parser.now)) item.answered)
     (is_empty item.rest_is c.input_len.ensures c.input_len-in-Ok.ensures c.if-input_len.true) item.rest_is
 
-pub returns-then-not-gain-clause-shown : goal.returns-then-not-gain-clause-shown
-returns-then-not-gain-clause-shown g c =
+pub returns-then-not-push_item-clause-shown : goal.returns-then-not-push_item-clause-shown
+returns-then-not-push_item-clause-shown g c =
     let i = c.loop-next.invariant in
     let item = accepts (shown_at g.F.Parser.IsOutput g.F.Parser.meaning i.state_kept c.in-Ok.ensures.shown) in
-    chain_lacks_room g.K.Keep.Grows (labelled_meaning Whole (g.F.Parser.meaning (g.F.Parser.state c.args.parser.now)))
-    (Kept g.K.Keep.Gains g.K.Keep.CanKeep (g.F.Parser.IsOutput (g.F.Parser.state c.args.parser.now)) c.args.before) g.OM.Output.Mode.BUILDS
+    chain_lacks_room g.K.Accumulator.Grows (labelled_meaning Whole (g.F.Parser.meaning (g.F.Parser.state c.args.parser.now)))
+    (Accumulated g.K.Accumulator.Pushes g.K.Accumulator.CanPush (g.F.Parser.IsOutput (g.F.Parser.state c.args.parser.now)) c.args.before)
+    g.OM.Output.Mode.BUILDS
     g.OM.Error.Mode.BUILDS g.OM.Incomplete.IsStreaming.STREAMING i.collected item.tree
     (accepts_whole (g.F.Parser.meaning (g.F.Parser.state c.args.parser.now)) item.answered)
     (consumes item.rest_is c.input_len.ensures c.input_len-in-Ok.ensures c.if-input_len.false)
-    (room_built g.K.Keep.IsFull _ _ _ i.collected.held (c.gain.ensures.full c.if-not-gain.true))
-    (room_grows g.K.Keep.IsFull g.K.Keep.Grows g.K.Keep.fills _ (c.gain.ensures.full c.if-not-gain.true))
+    (room_built g.K.Accumulator.IsFull _ _ _ i.collected.held (c.push_item.ensures.full c.if-not-push_item.true))
+    (room_grows g.K.Accumulator.IsFull g.K.Accumulator.Grows g.K.Accumulator.fills _ (c.push_item.ensures.full c.if-not-push_item.true))
 
 pub loop-next-smaller : goal.loop-next-smaller
 loop-next-smaller g c =
@@ -60,15 +63,16 @@ loop-next-preserved g c =
       collected = chain_more g.met.I.Items.lawful ((labelled_meaning Whole (g.F.Parser.meaning (g.F.Parser.state c.args.parser.now))).answers
           g.OM.Incomplete.IsStreaming.STREAMING) i.collected item.tree (accepts_whole (g.F.Parser.meaning (g.F.Parser.state c.args.parser.now))
           item.answered) (consumes item.rest_is c.input_len.ensures c.input_len-in-Ok.ensures c.if-input_len.false) item.rest_is
-          (gained g.K.Keep.Gains g.K.Keep.CanKeep (g.F.Parser.IsOutput (g.F.Parser.state c.args.parser.now)) _ _ _ _ _ _ _
-          (c.gain.ensures.kept (search rules)) i.collected.held item.built_is);
+          (pushed g.K.Accumulator.Pushes g.K.Accumulator.CanPush (g.F.Parser.IsOutput (g.F.Parser.state c.args.parser.now)) _ _ _ _ _ _ _
+          (c.push_item.ensures.kept (search rules)) i.collected.held item.built_is);
     }
 
 pub returns-in-Err-Error-clause-shown : goal.returns-in-Err-Error-clause-shown
 returns-in-Err-Error-clause-shown g c =
     let i = c.loop-next.invariant in
-    chain_ended g.K.Keep.Grows (labelled_meaning Whole (g.F.Parser.meaning (g.F.Parser.state c.args.parser.now)))
-    (Kept g.K.Keep.Gains g.K.Keep.CanKeep (g.F.Parser.IsOutput (g.F.Parser.state c.args.parser.now)) c.args.before) g.OM.Output.Mode.BUILDS
+    chain_ended g.K.Accumulator.Grows (labelled_meaning Whole (g.F.Parser.meaning (g.F.Parser.state c.args.parser.now)))
+    (Accumulated g.K.Accumulator.Pushes g.K.Accumulator.CanPush (g.F.Parser.IsOutput (g.F.Parser.state c.args.parser.now)) c.args.before)
+    g.OM.Output.Mode.BUILDS
     g.OM.Error.Mode.BUILDS g.OM.Incomplete.IsStreaming.STREAMING i.collected
     (refuses_whole (g.F.Parser.meaning (g.F.Parser.state c.args.parser.now))
     (part_refused c.in-Err-Error.field-0-is (shown_at g.F.Parser.IsOutput g.F.Parser.meaning i.state_kept c.in-Err-Error.ensures.shown))) _
@@ -77,8 +81,9 @@ returns-in-Err-Error-clause-shown g c =
 pub returns-in-Err-Failure-clause-shown : goal.returns-in-Err-Failure-clause-shown
 returns-in-Err-Failure-clause-shown g c =
     let i = c.loop-next.invariant in
-    chain_failed g.K.Keep.Grows (labelled_meaning Whole (g.F.Parser.meaning (g.F.Parser.state c.args.parser.now)))
-    (Kept g.K.Keep.Gains g.K.Keep.CanKeep (g.F.Parser.IsOutput (g.F.Parser.state c.args.parser.now)) c.args.before) g.OM.Output.Mode.BUILDS
+    chain_failed g.K.Accumulator.Grows (labelled_meaning Whole (g.F.Parser.meaning (g.F.Parser.state c.args.parser.now)))
+    (Accumulated g.K.Accumulator.Pushes g.K.Accumulator.CanPush (g.F.Parser.IsOutput (g.F.Parser.state c.args.parser.now)) c.args.before)
+    g.OM.Output.Mode.BUILDS
     g.OM.Error.Mode.BUILDS g.OM.Incomplete.IsStreaming.STREAMING i.collected
     (whole_err (g.F.Parser.IsOutput (g.F.Parser.state c.args.parser.now)) (g.F.Parser.meaning (g.F.Parser.state c.args.parser.now))
     g.OM.Output.Mode.BUILDS false g.OM.Incomplete.IsStreaming.STREAMING
@@ -87,8 +92,9 @@ returns-in-Err-Failure-clause-shown g c =
 pub returns-in-Err-Incomplete-clause-shown : goal.returns-in-Err-Incomplete-clause-shown
 returns-in-Err-Incomplete-clause-shown g c =
     let i = c.loop-next.invariant in
-    chain_lacks g.K.Keep.Grows (labelled_meaning Whole (g.F.Parser.meaning (g.F.Parser.state c.args.parser.now)))
-    (Kept g.K.Keep.Gains g.K.Keep.CanKeep (g.F.Parser.IsOutput (g.F.Parser.state c.args.parser.now)) c.args.before) g.OM.Output.Mode.BUILDS
+    chain_lacks g.K.Accumulator.Grows (labelled_meaning Whole (g.F.Parser.meaning (g.F.Parser.state c.args.parser.now)))
+    (Accumulated g.K.Accumulator.Pushes g.K.Accumulator.CanPush (g.F.Parser.IsOutput (g.F.Parser.state c.args.parser.now)) c.args.before)
+    g.OM.Output.Mode.BUILDS
     g.OM.Error.Mode.BUILDS g.OM.Incomplete.IsStreaming.STREAMING i.collected
     (whole_err (g.F.Parser.IsOutput (g.F.Parser.state c.args.parser.now)) (g.F.Parser.meaning (g.F.Parser.state c.args.parser.now))
     g.OM.Output.Mode.BUILDS false g.OM.Incomplete.IsStreaming.STREAMING
@@ -97,8 +103,9 @@ returns-in-Err-Incomplete-clause-shown g c =
 pub returns-in-Err-OutOfMemory-clause-shown : goal.returns-in-Err-OutOfMemory-clause-shown
 returns-in-Err-OutOfMemory-clause-shown g c =
     let i = c.loop-next.invariant in
-    chain_ran_out g.K.Keep.Grows (labelled_meaning Whole (g.F.Parser.meaning (g.F.Parser.state c.args.parser.now)))
-    (Kept g.K.Keep.Gains g.K.Keep.CanKeep (g.F.Parser.IsOutput (g.F.Parser.state c.args.parser.now)) c.args.before) g.OM.Output.Mode.BUILDS
+    chain_ran_out g.K.Accumulator.Grows (labelled_meaning Whole (g.F.Parser.meaning (g.F.Parser.state c.args.parser.now)))
+    (Accumulated g.K.Accumulator.Pushes g.K.Accumulator.CanPush (g.F.Parser.IsOutput (g.F.Parser.state c.args.parser.now)) c.args.before)
+    g.OM.Output.Mode.BUILDS
     g.OM.Error.Mode.BUILDS g.OM.Incomplete.IsStreaming.STREAMING i.collected
     (whole_err (g.F.Parser.IsOutput (g.F.Parser.state c.args.parser.now)) (g.F.Parser.meaning (g.F.Parser.state c.args.parser.now))
     g.OM.Output.Mode.BUILDS false g.OM.Incomplete.IsStreaming.STREAMING

@@ -15,7 +15,7 @@ use Rattle.nom_precedence.proofs.read.prefixes.Goals as goal
 pub loop-next-init : goal.loop-next-init
 loop-next-init g c = record {
   state_kept = refl;
-  collected = collected_none g.met.I.Items.lawful c.known.ensures
+  collected = collected_none g.met.I.Items.lawful c.prove_known.ensures
       (λ _. subst (λ z. AllZip (g.F.Parser.IsOutput (g.F.Parser.state c.args.parser.now)) [] z) (sym c.requires.empty) tt);
 }
 

@@ -13,7 +13,7 @@ use Rattle.nom_precedence.proofs.term.tail.Goals as goal
 pub returns-in_err-behind-clause-shown : goal.returns-in_err-behind-clause-shown
 returns-in_err-behind-clause-shown g c = first_err g.met.I.Items.lawful (λ v qs. (v, qs))
     (labelled_meaning Whole (g.F.Parser.meaning (g.F.Parser.state c.args.operand.now)))
-    (affixes_meaning g.I.Items.seen ⊥ (g.Q.Parser.meaning (g.Q.Parser.state c.args.postfix.now)))
+    (affixes_meaning g.I.Items.model ⊥ (g.Q.Parser.meaning (g.Q.Parser.state c.args.postfix.now)))
     (g.F.Parser.IsOutput (g.F.Parser.state c.args.operand.now)) (IsTail (g.F.Parser.IsOutput (g.F.Parser.state c.args.operand.now))
     (g.Q.Parser.IsOutput (g.Q.Parser.state c.args.postfix.now)) (λ x q y. g.G.Fn.post c.args.fold.now (Postfix x q, tt) y)) g.OM.Output.Mode.BUILDS
     g.OM.Error.Mode.BUILDS g.OM.Incomplete.IsStreaming.STREAMING (whole_err (g.F.Parser.IsOutput (g.F.Parser.state c.args.operand.now))
@@ -30,7 +30,7 @@ affixes-requires-clause-before g c =
 pub returns-in_err-end-clause-shown : goal.returns-in_err-end-clause-shown
 returns-in_err-end-clause-shown g c = second_err g.met.I.Items.lawful (λ v qs. (v, qs))
     (labelled_meaning Whole (g.F.Parser.meaning (g.F.Parser.state c.args.operand.now)))
-    (affixes_meaning g.I.Items.seen ⊥ (g.Q.Parser.meaning (g.Q.Parser.state c.args.postfix.now)))
+    (affixes_meaning g.I.Items.model ⊥ (g.Q.Parser.meaning (g.Q.Parser.state c.args.postfix.now)))
     (g.F.Parser.IsOutput (g.F.Parser.state c.args.operand.now)) (IsTail (g.F.Parser.IsOutput (g.F.Parser.state c.args.operand.now))
     (g.Q.Parser.IsOutput (g.Q.Parser.state c.args.postfix.now)) (λ x q y. g.G.Fn.post c.args.fold.now (Postfix x q, tt) y)) g.OM.Output.Mode.BUILDS
     g.OM.Error.Mode.BUILDS g.OM.Incomplete.IsStreaming.STREAMING _ (whole_ok (g.F.Parser.IsOutput (g.F.Parser.state c.args.operand.now))
@@ -40,7 +40,7 @@ returns-in_err-end-clause-shown g c = second_err g.met.I.Items.lawful (λ v qs. 
 pub returns-in-Stuck-clause-shown : goal.returns-in-Stuck-clause-shown
 returns-in-Stuck-clause-shown g c = second_stuck g.met.I.Items.lawful (λ v qs. (v, qs))
     (labelled_meaning Whole (g.F.Parser.meaning (g.F.Parser.state c.args.operand.now)))
-    (affixes_meaning g.I.Items.seen ⊥ (g.Q.Parser.meaning (g.Q.Parser.state c.args.postfix.now)))
+    (affixes_meaning g.I.Items.model ⊥ (g.Q.Parser.meaning (g.Q.Parser.state c.args.postfix.now)))
     (g.F.Parser.IsOutput (g.F.Parser.state c.args.operand.now)) (IsTail (g.F.Parser.IsOutput (g.F.Parser.state c.args.operand.now))
     (g.Q.Parser.IsOutput (g.Q.Parser.state c.args.postfix.now)) (λ x q y. g.G.Fn.post c.args.fold.now (Postfix x q, tt) y)) g.OM.Output.Mode.BUILDS
     g.OM.Error.Mode.BUILDS g.OM.Incomplete.IsStreaming.STREAMING _ (whole_ok (g.F.Parser.IsOutput (g.F.Parser.state c.args.operand.now))
@@ -50,7 +50,7 @@ returns-in-Stuck-clause-shown g c = second_stuck g.met.I.Items.lawful (λ v qs. 
 pub returns-in-Whole-clause-shown : goal.returns-in-Whole-clause-shown
 returns-in-Whole-clause-shown g c = both_whole g.met.I.Items.lawful (λ v qs. (v, qs))
     (labelled_meaning Whole (g.F.Parser.meaning (g.F.Parser.state c.args.operand.now)))
-    (affixes_meaning g.I.Items.seen ⊥ (g.Q.Parser.meaning (g.Q.Parser.state c.args.postfix.now)))
+    (affixes_meaning g.I.Items.model ⊥ (g.Q.Parser.meaning (g.Q.Parser.state c.args.postfix.now)))
     (g.F.Parser.IsOutput (g.F.Parser.state c.args.operand.now)) (IsTail (g.F.Parser.IsOutput (g.F.Parser.state c.args.operand.now))
     (g.Q.Parser.IsOutput (g.Q.Parser.state c.args.postfix.now)) (λ x q y. g.G.Fn.post c.args.fold.now (Postfix x q, tt) y)) g.OM.Output.Mode.BUILDS
     g.OM.Error.Mode.BUILDS g.OM.Incomplete.IsStreaming.STREAMING _ _ (λ v u p q. tail_built (λ k. k.value) (λ k. k.fold.now)

@@ -8,8 +8,8 @@ use Rattle.nom_precedence.proofs.term.term.Goals as goal
 pub returns-in_err-rest-clause-shown : goal.returns-in_err-rest-clause-shown
 unfolding term_meaning
 returns-in_err-rest-clause-shown g c = first_err g.met.I.Items.lawful term_of
-    (affixes_meaning g.I.Items.seen (Unit {0}) (g.P.Parser.meaning (g.P.Parser.state c.args.prefix.now)))
-    (tail_meaning g.I.Items.seen (g.F.Parser.meaning (g.F.Parser.state c.args.operand.now)) (g.Q.Parser.meaning (g.Q.Parser.state c.args.postfix.now)))
+    (affixes_meaning g.I.Items.model (Unit {0}) (g.P.Parser.meaning (g.P.Parser.state c.args.prefix.now)))
+    (tail_meaning g.I.Items.model (g.F.Parser.meaning (g.F.Parser.state c.args.operand.now)) (g.Q.Parser.meaning (g.Q.Parser.state c.args.postfix.now)))
     _ (IsTerm (g.P.Parser.IsOutput (g.P.Parser.state c.args.prefix.now)) (λ p x y. g.G.Fn.post c.args.fold.now (Prefix p x, tt) y)
     (g.F.Parser.IsOutput (g.F.Parser.state c.args.operand.now)) (g.Q.Parser.IsOutput (g.Q.Parser.state c.args.postfix.now))
     (λ x q y. g.G.Fn.post c.args.fold.now (Postfix x q, tt) y)) g.OM.Output.Mode.BUILDS g.OM.Error.Mode.BUILDS g.OM.Incomplete.IsStreaming.STREAMING
@@ -18,8 +18,8 @@ returns-in_err-rest-clause-shown g c = first_err g.met.I.Items.lawful term_of
 pub returns-in-Stuck-clause-shown : goal.returns-in-Stuck-clause-shown
 unfolding term_meaning
 returns-in-Stuck-clause-shown g c = first_stuck g.met.I.Items.lawful term_of
-    (affixes_meaning g.I.Items.seen (Unit {0}) (g.P.Parser.meaning (g.P.Parser.state c.args.prefix.now)))
-    (tail_meaning g.I.Items.seen (g.F.Parser.meaning (g.F.Parser.state c.args.operand.now)) (g.Q.Parser.meaning (g.Q.Parser.state c.args.postfix.now)))
+    (affixes_meaning g.I.Items.model (Unit {0}) (g.P.Parser.meaning (g.P.Parser.state c.args.prefix.now)))
+    (tail_meaning g.I.Items.model (g.F.Parser.meaning (g.F.Parser.state c.args.operand.now)) (g.Q.Parser.meaning (g.Q.Parser.state c.args.postfix.now)))
     _ (IsTerm (g.P.Parser.IsOutput (g.P.Parser.state c.args.prefix.now)) (λ p x y. g.G.Fn.post c.args.fold.now (Prefix p x, tt) y)
     (g.F.Parser.IsOutput (g.F.Parser.state c.args.operand.now)) (g.Q.Parser.IsOutput (g.Q.Parser.state c.args.postfix.now))
     (λ x q y. g.G.Fn.post c.args.fold.now (Postfix x q, tt) y)) g.OM.Output.Mode.BUILDS g.OM.Error.Mode.BUILDS g.OM.Incomplete.IsStreaming.STREAMING
@@ -28,8 +28,8 @@ returns-in-Stuck-clause-shown g c = first_stuck g.met.I.Items.lawful term_of
 pub returns-in_err-end-in-Whole-clause-shown : goal.returns-in_err-end-in-Whole-clause-shown
 unfolding term_meaning
 returns-in_err-end-in-Whole-clause-shown g c = second_err g.met.I.Items.lawful term_of
-    (affixes_meaning g.I.Items.seen (Unit {0}) (g.P.Parser.meaning (g.P.Parser.state c.args.prefix.now)))
-    (tail_meaning g.I.Items.seen (g.F.Parser.meaning (g.F.Parser.state c.args.operand.now)) (g.Q.Parser.meaning (g.Q.Parser.state c.args.postfix.now)))
+    (affixes_meaning g.I.Items.model (Unit {0}) (g.P.Parser.meaning (g.P.Parser.state c.args.prefix.now)))
+    (tail_meaning g.I.Items.model (g.F.Parser.meaning (g.F.Parser.state c.args.operand.now)) (g.Q.Parser.meaning (g.Q.Parser.state c.args.postfix.now)))
     _ (IsTerm (g.P.Parser.IsOutput (g.P.Parser.state c.args.prefix.now)) (λ p x y. g.G.Fn.post c.args.fold.now (Prefix p x, tt) y)
     (g.F.Parser.IsOutput (g.F.Parser.state c.args.operand.now)) (g.Q.Parser.IsOutput (g.Q.Parser.state c.args.postfix.now))
     (λ x q y. g.G.Fn.post c.args.fold.now (Postfix x q, tt) y)) g.OM.Output.Mode.BUILDS g.OM.Error.Mode.BUILDS g.OM.Incomplete.IsStreaming.STREAMING _
@@ -38,8 +38,8 @@ returns-in_err-end-in-Whole-clause-shown g c = second_err g.met.I.Items.lawful t
 pub returns-in-Stuck-told-clause-shown : goal.returns-in-Stuck-told-clause-shown
 unfolding term_meaning
 returns-in-Stuck-told-clause-shown g c = second_stuck g.met.I.Items.lawful term_of
-    (affixes_meaning g.I.Items.seen (Unit {0}) (g.P.Parser.meaning (g.P.Parser.state c.args.prefix.now)))
-    (tail_meaning g.I.Items.seen (g.F.Parser.meaning (g.F.Parser.state c.args.operand.now)) (g.Q.Parser.meaning (g.Q.Parser.state c.args.postfix.now)))
+    (affixes_meaning g.I.Items.model (Unit {0}) (g.P.Parser.meaning (g.P.Parser.state c.args.prefix.now)))
+    (tail_meaning g.I.Items.model (g.F.Parser.meaning (g.F.Parser.state c.args.operand.now)) (g.Q.Parser.meaning (g.Q.Parser.state c.args.postfix.now)))
     _ (IsTerm (g.P.Parser.IsOutput (g.P.Parser.state c.args.prefix.now)) (λ p x y. g.G.Fn.post c.args.fold.now (Prefix p x, tt) y)
     (g.F.Parser.IsOutput (g.F.Parser.state c.args.operand.now)) (g.Q.Parser.IsOutput (g.Q.Parser.state c.args.postfix.now))
     (λ x q y. g.G.Fn.post c.args.fold.now (Postfix x q, tt) y)) g.OM.Output.Mode.BUILDS g.OM.Error.Mode.BUILDS g.OM.Incomplete.IsStreaming.STREAMING _
@@ -49,8 +49,8 @@ returns-in-Stuck-told-clause-shown g c = second_stuck g.met.I.Items.lawful term_
 pub returns-in-Whole-told-clause-shown : goal.returns-in-Whole-told-clause-shown
 unfolding term_meaning
 returns-in-Whole-told-clause-shown g c = both_whole g.met.I.Items.lawful term_of
-    (affixes_meaning g.I.Items.seen (Unit {0}) (g.P.Parser.meaning (g.P.Parser.state c.args.prefix.now)))
-    (tail_meaning g.I.Items.seen (g.F.Parser.meaning (g.F.Parser.state c.args.operand.now)) (g.Q.Parser.meaning (g.Q.Parser.state c.args.postfix.now)))
+    (affixes_meaning g.I.Items.model (Unit {0}) (g.P.Parser.meaning (g.P.Parser.state c.args.prefix.now)))
+    (tail_meaning g.I.Items.model (g.F.Parser.meaning (g.F.Parser.state c.args.operand.now)) (g.Q.Parser.meaning (g.Q.Parser.state c.args.postfix.now)))
     _ (IsTerm (g.P.Parser.IsOutput (g.P.Parser.state c.args.prefix.now)) (λ p x y. g.G.Fn.post c.args.fold.now (Prefix p x, tt) y)
     (g.F.Parser.IsOutput (g.F.Parser.state c.args.operand.now)) (g.Q.Parser.IsOutput (g.Q.Parser.state c.args.postfix.now))
     (λ x q y. g.G.Fn.post c.args.fold.now (Postfix x q, tt) y)) g.OM.Output.Mode.BUILDS g.OM.Error.Mode.BUILDS g.OM.Incomplete.IsStreaming.STREAMING _ _

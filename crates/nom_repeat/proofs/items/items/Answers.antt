@@ -2,7 +2,7 @@ use Rattle.std.proofs.Common.{rules, refl}
 use Rattle.nom_internal.proofs.Shown.{accepts}
 use Rattle.nom_repeat.proofs.Repeated.{collected_none, is_empty}
 use Rattle.nom_repeat.proofs.Counted.{counts_none, counts_more, below, at_bound, few_items, enough_items, left_falls}
-use Rattle.nom_repeat.proofs.Keeping.{kept_none, can_keep_first, can_keep_next, gained, room_built, room_grows}
+use Rattle.nom_repeat.proofs.Accumulating.{kept_none, can_push_first, can_push_next, pushed, room_built, room_grows}
 use Rattle.nom_repeat.proofs.ItemsShown.{items_full, items_refused, items_too_few, items_failed, items_lack, items_part_ran_out, items_stuck}
 use Rattle.nom_repeat.proofs.ItemsShown.{items_lack_room, items_more, moves, part_at, some_few}
 use Rattle.nom_internal.proofs.Consumed.{rest_length}
@@ -11,17 +11,17 @@ use Rattle.nom_repeat.proofs.items.items.Goals as goal
 pub loop-input-init : goal.loop-input-init
 loop-input-init g c = record {
   state_kept = refl;
-  collected = collected_none g.met.I.Items.lawful c.known.ensures (
-    kept_none g.K.Keep.Gains g.K.Keep.CanKeep (g.F.Parser.IsOutput (g.F.Parser.state c.args.parser.now)) _ _ c.requires.built,
+  collected = collected_none g.met.I.Items.lawful c.prove_known.ensures (
+    kept_none g.K.Accumulator.Pushes g.K.Accumulator.CanPush (g.F.Parser.IsOutput (g.F.Parser.state c.args.parser.now)) _ _ c.requires.built,
     counts_none _ c.args.limits.most,
   );
-  can_keep = can_keep_first g.K.Keep.Gains g.K.Keep.CanKeep (g.F.Parser.IsOutput (g.F.Parser.state c.args.parser.now)) _ _ c.requires.built;
+  can_push = can_push_first g.K.Accumulator.Pushes g.K.Accumulator.CanPush (g.F.Parser.IsOutput (g.F.Parser.state c.args.parser.now)) _ _ c.requires.built;
 }
 
 pub returns-then-is_full-clause-shown : goal.returns-then-is_full-clause-shown
 returns-then-is_full-clause-shown g c =
     let i = c.loop-input.invariant in
-    items_full g.F.Error.ParseError.errors c.args.limits g.K.Keep.Grows (g.F.Parser.meaning (g.F.Parser.state c.args.parser.now)) i.collected
+    items_full g.F.Error.ParseError.errors c.args.limits g.K.Accumulator.Grows (g.F.Parser.meaning (g.F.Parser.state c.args.parser.now)) i.collected
     (at_bound _ _ _ i.collected.held.1 (c.is_full.ensures.full (search rules))) i.collected.held.0
 
 pub returns-in-Some-clause-shown : goal.returns-in-Some-clause-shown
@@ -30,19 +30,19 @@ returns-in-Some-clause-shown g c =
     let part = part_at g.F.Parser.IsOutput g.F.Parser.meaning c.requires.errors i.state_kept c.in-Ok.ensures.shown in
     let is_below = below _ _ _ i.collected.held.1 (c.is_full.ensures.below c.if-is_full.false) in
     let item = accepts part in
-    items_stuck g.F.Error.ParseError.errors c.args.limits g.K.Keep.Grows (g.F.Parser.meaning (g.F.Parser.state c.args.parser.now)) i.collected is_below
+    items_stuck g.F.Error.ParseError.errors c.args.limits g.K.Accumulator.Grows (g.F.Parser.meaning (g.F.Parser.state c.args.parser.now)) i.collected is_below
     item c.in-Some.kind c.in-Some.ensures.0 (is_empty item.rest_is c.input_len-in-Ok.ensures c.input_len.ensures c.in-Some.ensures.1) c.refusal.ensures
 
-pub returns-then-not-gain-clause-shown : goal.returns-then-not-gain-clause-shown
-returns-then-not-gain-clause-shown g c =
+pub returns-then-not-push_item-clause-shown : goal.returns-then-not-push_item-clause-shown
+returns-then-not-push_item-clause-shown g c =
     let i = c.loop-input.invariant in
     let part = part_at g.F.Parser.IsOutput g.F.Parser.meaning c.requires.errors i.state_kept c.in-Ok.ensures.shown in
     let is_below = below _ _ _ i.collected.held.1 (c.is_full.ensures.below c.if-is_full.false) in
     let item = accepts part in
-    items_lack_room g.F.Error.ParseError.errors c.args.limits g.K.Keep.Grows (g.F.Parser.meaning (g.F.Parser.state c.args.parser.now)) i.collected
+    items_lack_room g.F.Error.ParseError.errors c.args.limits g.K.Accumulator.Grows (g.F.Parser.meaning (g.F.Parser.state c.args.parser.now)) i.collected
     is_below item (moves item.rest_is c.input_len.ensures c.input_len-in-Ok.ensures c.in-None.ensures)
-    (room_built g.K.Keep.IsFull _ _ _ i.collected.held.0 (c.gain.ensures.full c.if-not-gain.true))
-    (room_grows g.K.Keep.IsFull g.K.Keep.Grows g.K.Keep.fills _ (c.gain.ensures.full c.if-not-gain.true))
+    (room_built g.K.Accumulator.IsFull _ _ _ i.collected.held.0 (c.push_item.ensures.full c.if-not-push_item.true))
+    (room_grows g.K.Accumulator.IsFull g.K.Accumulator.Grows g.K.Accumulator.fills _ (c.push_item.ensures.full c.if-not-push_item.true))
 
 pub loop-input-smaller : goal.loop-input-smaller
 loop-input-smaller g c =
@@ -57,16 +57,18 @@ loop-input-preserved g c =
     let part = part_at g.F.Parser.IsOutput g.F.Parser.meaning c.requires.errors i.state_kept c.in-Ok.ensures.shown in
     let is_below = below _ _ _ i.collected.held.1 (c.is_full.ensures.below c.if-is_full.false) in
     let item = accepts part in
-    let gains = c.gain.ensures.kept (search rules) in
+    let pushes = c.push_item.ensures.kept (search rules) in
     record {
       state_kept = cc;
       collected = items_more g.met.I.Items.lawful c.args.limits i.collected is_below item
           (moves item.rest_is c.input_len.ensures c.input_len-in-Ok.ensures c.in-None.ensures) (
-            gained g.K.Keep.Gains g.K.Keep.CanKeep (g.F.Parser.IsOutput (g.F.Parser.state c.args.parser.now)) _ _ _ _ _ _ _ gains i.collected.held.0
+            pushed g.K.Accumulator.Pushes g.K.Accumulator.CanPush (g.F.Parser.IsOutput (g.F.Parser.state c.args.parser.now)) _ _ _ _ _ _ _ pushes
+                i.collected.held.0
                 item.built_is,
             counts_more c.args.limits.most _ _ _ _ i.collected.held.1 c.one_more-count.ensures,
           );
-      can_keep = can_keep_next g.K.Keep.Gains g.K.Keep.CanKeep (g.F.Parser.IsOutput (g.F.Parser.state c.args.parser.now)) _ _ _ gains i.can_keep;
+      can_push = can_push_next g.K.Accumulator.Pushes g.K.Accumulator.CanPush (g.F.Parser.IsOutput (g.F.Parser.state c.args.parser.now)) _ _ _ pushes
+          i.can_push;
     }
 
 pub few-requires : goal.few-requires
@@ -77,7 +79,7 @@ returns-then-count-limits-clause-shown g c =
     let i = c.loop-input.invariant in
     let part = part_at g.F.Parser.IsOutput g.F.Parser.meaning c.requires.errors i.state_kept c.in-Err-Error.ensures.shown in
     let is_below = below _ _ _ i.collected.held.1 (c.is_full.ensures.below c.if-is_full.false) in
-    items_too_few g.F.Error.ParseError.errors c.args.limits g.K.Keep.Grows (g.F.Parser.meaning (g.F.Parser.state c.args.parser.now)) i.collected
+    items_too_few g.F.Error.ParseError.errors c.args.limits g.K.Accumulator.Grows (g.F.Parser.meaning (g.F.Parser.state c.args.parser.now)) i.collected
     is_below (few_items _ _ _ _ i.collected.held.1 c.requires.limits.has_bound (search rules)) c.args.limits.too_few refl c.in-Err-Error.field-0-is
     part c.place-at.ensures c.few.ensures
 
@@ -86,26 +88,26 @@ returns-in-Err-Error-clause-shown g c =
     let i = c.loop-input.invariant in
     let part = part_at g.F.Parser.IsOutput g.F.Parser.meaning c.requires.errors i.state_kept c.in-Err-Error.ensures.shown in
     let is_below = below _ _ _ i.collected.held.1 (c.is_full.ensures.below c.if-is_full.false) in
-    items_refused g.F.Error.ParseError.errors c.args.limits g.K.Keep.Grows (g.F.Parser.meaning (g.F.Parser.state c.args.parser.now)) i.collected
+    items_refused g.F.Error.ParseError.errors c.args.limits g.K.Accumulator.Grows (g.F.Parser.meaning (g.F.Parser.state c.args.parser.now)) i.collected
     is_below (enough_items _ _ _ _ i.collected.held.1 c.requires.limits.has_bound (search rules)) c.in-Err-Error.field-0-is part i.collected.held.0
 
 pub returns-in-Err-Failure-clause-shown : goal.returns-in-Err-Failure-clause-shown
 returns-in-Err-Failure-clause-shown g c =
     let i = c.loop-input.invariant in
     let part = part_at g.F.Parser.IsOutput g.F.Parser.meaning c.requires.errors i.state_kept c.in-Err-Failure.ensures.shown in
-    items_failed g.F.Error.ParseError.errors c.args.limits g.K.Keep.Grows (g.F.Parser.meaning (g.F.Parser.state c.args.parser.now)) i.collected
+    items_failed g.F.Error.ParseError.errors c.args.limits g.K.Accumulator.Grows (g.F.Parser.meaning (g.F.Parser.state c.args.parser.now)) i.collected
     (below _ _ _ i.collected.held.1 (c.is_full.ensures.below c.if-is_full.false)) c.in-Err-Failure.field-0-is part
 
 pub returns-in-Err-Incomplete-clause-shown : goal.returns-in-Err-Incomplete-clause-shown
 returns-in-Err-Incomplete-clause-shown g c =
     let i = c.loop-input.invariant in
     let part = part_at g.F.Parser.IsOutput g.F.Parser.meaning c.requires.errors i.state_kept c.in-Err-Incomplete.ensures.shown in
-    items_lack g.F.Error.ParseError.errors c.args.limits g.K.Keep.Grows (g.F.Parser.meaning (g.F.Parser.state c.args.parser.now)) i.collected
+    items_lack g.F.Error.ParseError.errors c.args.limits g.K.Accumulator.Grows (g.F.Parser.meaning (g.F.Parser.state c.args.parser.now)) i.collected
     (below _ _ _ i.collected.held.1 (c.is_full.ensures.below c.if-is_full.false)) c.in-Err-Incomplete.field-0-is part
 
 pub returns-in-Err-OutOfMemory-clause-shown : goal.returns-in-Err-OutOfMemory-clause-shown
 returns-in-Err-OutOfMemory-clause-shown g c =
     let i = c.loop-input.invariant in
     let part = part_at g.F.Parser.IsOutput g.F.Parser.meaning c.requires.errors i.state_kept c.in-Err-OutOfMemory.ensures.shown in
-    items_part_ran_out g.F.Error.ParseError.errors c.args.limits g.K.Keep.Grows (g.F.Parser.meaning (g.F.Parser.state c.args.parser.now)) i.collected
+    items_part_ran_out g.F.Error.ParseError.errors c.args.limits g.K.Accumulator.Grows (g.F.Parser.meaning (g.F.Parser.state c.args.parser.now)) i.collected
     (below _ _ _ i.collected.held.1 (c.is_full.ensures.below c.if-is_full.false)) c.in-Err-OutOfMemory.field-0-is part

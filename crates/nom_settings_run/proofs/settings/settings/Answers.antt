@@ -6,7 +6,7 @@ use Rattle.nom_settings_run.proofs.settings.settings.Goals as goal
 
 pub returns : goal.returns
 returns g c =
-    let w = g.I.Items.seen in
+    let w = g.I.Items.model in
     let section = ap (λ p. p.parser.parser) c.complete-whole.ensures ∙ (ap (λ p. p.parser) c.all_consuming.ensures ∙ c.many0-2.ensures.parser) in
     let header = ap (λ p. p.first) section ∙ c.pair-section.ensures.first in
     let opens = ap (λ p. p.first.wanted) header ∙ (ap (λ p. p.wanted) c.preceded-header.ensures.first ∙ c.char-open.ensures) in

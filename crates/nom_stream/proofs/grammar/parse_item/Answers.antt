@@ -1,5 +1,5 @@
 use Rattle.std.proofs.Common.{Bool, sym, subst}
-use Rattle.nom_traits.specs.Bytes.{seen_bytes}
+use Rattle.nom_traits.specs.Bytes.{bytes_model}
 use Rattle.nom_internal.specs.Meaning.{ParsesMeaning}
 use Rattle.nom_stream.proofs.grammar.parse_item.Goals as goal
 
@@ -8,7 +8,7 @@ returns-then-more g c =
     let m = g.P.Parser.meaning (g.P.Parser.state c.args.parser) in
     record {
       parses = record {
-        shown = subst (λ (b : Bool). ParsesMeaning seen_bytes (g.P.Parser.IsOutput (g.P.Parser.state c.args.parser)) m b c.args.input
+        shown = subst (λ (b : Bool). ParsesMeaning bytes_model (g.P.Parser.IsOutput (g.P.Parser.state c.args.parser)) m b c.args.input
             c.parse.result) (sym c.if-more.true) c.parse.ensures.shown;
         lawful = c.laws_of.ensures.lawful;
         steady = c.laws_of.ensures.steady;
@@ -20,7 +20,7 @@ returns g c =
     let m = g.P.Parser.meaning (g.P.Parser.state c.args.parser) in
     record {
       parses = record {
-        shown = subst (λ (b : Bool). ParsesMeaning seen_bytes (g.P.Parser.IsOutput (g.P.Parser.state c.args.parser)) m b c.args.input
+        shown = subst (λ (b : Bool). ParsesMeaning bytes_model (g.P.Parser.IsOutput (g.P.Parser.state c.args.parser)) m b c.args.input
             c.parse_complete.result) (sym c.if-more.false) c.parse_complete.ensures.shown;
         lawful = c.laws_of.ensures.lawful;
         steady = c.laws_of.ensures.steady;

@@ -10,7 +10,7 @@ loop-c-init c = (
   search rules,
   subst (λ r. IsAfter c.args.text.now r [] 0 c.args.count c.args.count)
       (sym (ap (λ i. i.rest.now) c.into_iter-c-iterator.ensures.into_iter_gives ∙ c.chars-c-items.ensures.rest))
-      (after_start c.args.text.now c.args.count c.known.ensures.0),
+      (after_start c.args.text.now c.args.count c.prove_known.ensures.0),
 )
 
 pub returns-then-left-eq0 : goal.returns-then-left-eq0
@@ -26,7 +26,7 @@ overflow_add-index c =
       length-append (encode_utf8 c.in-Some.c) c.next.new.self.rest.now,
       length-encode c.in-Some.c,
       c.len_utf8-index.ensures.value,
-      c.known.ensures.1,
+      c.prove_known.ensures.1,
     )
 
 pub loop-c-preserved : goal.loop-c-preserved

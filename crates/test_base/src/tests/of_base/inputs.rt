@@ -119,7 +119,7 @@ fn splits_in_modes(rt: HostRuntime) {
 }
 
 fn known_twice<J: Items>(input: J) -> (J, J) {
-    input.known();
+    input.prove_known();
     (input, input)
 }
 
@@ -137,7 +137,7 @@ fn bits_of_bytes(rt: HostRuntime) {
 fn outside<I: Input>(input: I, class: AsciiClass) -> Option<usize>
 where
     I::Item: AsChar,
-    ensures { IsPosition I.seen (λ x. IsInside class (I.Item.code x)) (λ x. IsOutside class (I.Item.code x)) input result }
+    ensures { IsPosition I.model (λ x. IsInside class (I.Item.code x)) (λ x. IsOutside class (I.Item.code x)) input result }
 {
     input.position_outside(class)
 }

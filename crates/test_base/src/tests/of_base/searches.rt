@@ -1,6 +1,6 @@
 //! Classes, tokens, searches, bytes and builders.
 ghost use Rattle.std.specs.Prelude.{◌≡◌, ℕ, ◌<◌, ◌∷◌, ◌++◌, [], Some, IfOk, IfSome};
-ghost use Rattle.nom_traits.specs.Input.{IsFront, input_len};
+ghost use Rattle.nom_traits.specs.Input.{IsPrefixOf, input_len};
 ghost use Rattle.nom_traits.specs.Classes.{is_alpha_code, is_alphanum_code, is_bin_digit_code, is_dec_digit_code, is_hex_digit_code, is_newline_code};
 ghost use Rattle.nom_traits.specs.Classes.{is_oct_digit_code, is_space_code};
 
@@ -199,9 +199,9 @@ fn bytes_that_are_far(rt: HostRuntime) -> Result<(), AllocError> {
 
 /// What stands before the first place of a needle.
 fn before<I: Input + FindSubstring<T>, T: Drop>(input: I, needle: T) -> Option<I>
-    ensures { IfSome result (λ front. (n : ℕ) × I.finds (I.needle_seen needle) (I.seen.elements input) (Some n) × IsFront I.seen input n front) }
+    ensures { IfSome result (λ front. (n : ℕ) × I.finds (I.needle_model needle) (I.model.elements input) (Some n) × IsPrefixOf I.model input n front) }
 {
-    input.known();
+    input.prove_known();
     match input.find_substring(needle) {
         Some(place) => Some(input.take(place)),
         None => None,
@@ -239,9 +239,9 @@ fn bytes_of_values(rt: HostRuntime) {
 
 /// How many bytes an input lends: as many as its length.
 fn lent<I: ByteItems>(input: I) -> usize
-    ensures { result ≡ input_len I.seen input }
+    ensures { result ≡ input_len I.model input }
 {
-    input.known();
+    input.prove_known();
     input.as_bytes().len()
 }
 

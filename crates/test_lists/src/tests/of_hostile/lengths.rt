@@ -7,7 +7,7 @@ use nom_error::answer::{Err, IResult, Needed};
 use nom_error::kind::ErrorKind;
 use nom_error::value::Error;
 use nom_internal::parser::Parser;
-use nom_lengths::length_value;
+use nom_multi_length::length_value;
 use nom_traits::input::Items;
 
 /// What a parser answers where more may come, and where no more may.

@@ -2,9 +2,9 @@
 ghost use Rattle.std.specs.Prelude.{◌≡◌, length, false};
 ghost use Rattle.std.specs.Borrow.{Bor};
 ghost use Rattle.nom_internal.specs.Families.{IsOne};
-ghost use Rattle.nom_lengths.specs.Lengths.{HasSize};
+ghost use Rattle.nom_multi_length.specs.Lengths.{HasSize};
 ghost use Rattle.linked_list_allocator.specs.declared.local.LocalHeap.{LocalHeap};
-ghost use Rattle.nom_traits.specs.Text.{seen_text};
+ghost use Rattle.nom_traits.specs.Text.{text_model};
 ghost use Rattle.nom_internal.specs.Meaning.{ParsesMeaning};
 ghost use Rattle.test_lists.specs.Listed.{IsNumber, numbered};
 
@@ -19,10 +19,10 @@ use nom_error::value::Error;
 use nom_func::function::func;
 use nom_internal::parser::Parser;
 use nom_iterator::iterator;
-use nom_lengths::length_value;
 use nom_multi::{fill, many_till, many0};
+use nom_multi_length::length_value;
+use nom_multi_separated::separated_list0;
 use nom_permutation::permutation;
-use nom_separated::separated_list0;
 use nom_sequence::terminated;
 use nom_traits::character::AsChar;
 use nom_traits::input::{Input, Items};
@@ -40,7 +40,7 @@ fn count_of<'h>(list: Vec<char, &'h LocalHeap>) -> usize
 
 /// How many `a` there are; they are listed in a heap.
 fn listed<'a, 'h>(heap: &'h LocalHeap, input: &'a str) -> IResult<&'a str, usize>
-    ensures { ParsesMeaning seen_text (IsNumber (Bor LocalHeap)) (numbered (Bor LocalHeap)) false input.entry result }
+    ensures { ParsesMeaning text_model (IsNumber (Bor LocalHeap)) (numbered (Bor LocalHeap)) false input.entry result }
 {
     let mut list = map(many0(heap, char::<_, Fail>('a')), count_of);
     list.parse_complete(input)
@@ -109,7 +109,7 @@ fn is_out<I: Drop, O: Drop, E: Drop>(found: IResult<I, O, E>) -> bool {
 }
 
 /// Whether memory runs out in a parser.
-fn runs_out<I: Items, P: Parser<I> + Drop>(mut parser: P, input: I) -> bool
+fn may_run_out<I: Items, P: Parser<I> + Drop>(mut parser: P, input: I) -> bool
     requires { (P.meaning (P.state parser)).IsSound }
 {
     is_out(parser.parse(input))
@@ -139,7 +139,7 @@ where
     requires { (P.meaning (P.state part)).IsSound }
 {
     let mut buffer = [99, 99, 99];
-    let is_out = runs_out(fill(terminated(part, char(';')), &mut buffer), input);
+    let is_out = may_run_out(fill(terminated(part, char(';')), &mut buffer), input);
     is_out && buffer == [0, 99, 99]
 }
 
@@ -153,7 +153,7 @@ where
     requires one { IsOne (HasSize (L.IsOutput (L.state length)) (λ n. n)) }
     requires part { (P.meaning (P.state part)).IsSound }
 {
-    runs_out(length_value(length, part), input)
+    may_run_out(length_value(length, part), input)
 }
 
 /// Whether memory runs out in a parser around one, with another beside it.
@@ -167,12 +167,12 @@ where
     requires one { IsOne (HasSize (Q.IsOutput (Q.state other)) (λ n. n)) }
 {
     match shape {
-        Shape::Alone => runs_out(part, input),
-        Shape::FirstBranch => runs_out(alt((part, other)), input),
-        Shape::Optional => runs_out(opt(part), input),
-        Shape::Refused => runs_out(not(part), input),
-        Shape::Ahead => runs_out(peek(part), input),
-        Shape::Completed => runs_out(complete(part), input),
+        Shape::Alone => may_run_out(part, input),
+        Shape::FirstBranch => may_run_out(alt((part, other)), input),
+        Shape::Optional => may_run_out(opt(part), input),
+        Shape::Refused => may_run_out(not(part), input),
+        Shape::Ahead => may_run_out(peek(part), input),
+        Shape::Completed => may_run_out(complete(part), input),
         Shape::Value => value_runs_out(other, part, input),
         Shape::Items => ends(part, input),
         Shape::Buffer => fills(part, input),
@@ -190,13 +190,13 @@ where
     requires other { (Q.meaning (Q.state other)).IsSound }
 {
     match shape {
-        Shape::ItemBeforeAnEnd => runs_out(many_till(alloc, part, other), input),
-        Shape::EndBehindItems => runs_out(many_till(alloc, other, part), input),
-        Shape::FirstMember => runs_out(permutation((part, other)), input),
-        Shape::SecondMember => runs_out(permutation((other, part)), input),
-        Shape::SeparatedItem => runs_out(separated_list0(alloc, other, part), input),
-        Shape::Separator => runs_out(separated_list0(alloc, part, other), input),
-        _ => runs_out(many0(alloc, part), input),
+        Shape::ItemBeforeAnEnd => may_run_out(many_till(alloc, part, other), input),
+        Shape::EndBehindItems => may_run_out(many_till(alloc, other, part), input),
+        Shape::FirstMember => may_run_out(permutation((part, other)), input),
+        Shape::SecondMember => may_run_out(permutation((other, part)), input),
+        Shape::SeparatedItem => may_run_out(separated_list0(alloc, other, part), input),
+        Shape::Separator => may_run_out(separated_list0(alloc, part, other), input),
+        _ => may_run_out(many0(alloc, part), input),
     }
 }
 
@@ -232,7 +232,7 @@ fn listed_beside<'a>(
 ) -> (bool, usize) {
     let list = func(
         |i|
-            ensures { ParsesMeaning seen_text (IsNumber (Bor LocalHeap)) (numbered (Bor LocalHeap)) false i.entry result }
+            ensures { ParsesMeaning text_model (IsNumber (Bor LocalHeap)) (numbered (Bor LocalHeap)) false i.entry result }
         { listed(heap, i) },
     );
     tried_beside(alloc, shape, list, input)

@@ -2,8 +2,8 @@
 
 use nom_character::{char, one_of};
 use nom_error::value::Error;
-use nom_folds::{fold_many1, many};
 use nom_internal::parser::Parser;
+use nom_multi_fold::{fold_many1, many};
 use nom_traits::input::Input;
 use std::collections::VecDeque;
 

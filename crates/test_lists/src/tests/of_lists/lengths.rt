@@ -5,7 +5,7 @@ use nom_error::answer::{Err, IResult};
 use nom_error::kind::ErrorKind;
 use nom_error::value::Error;
 use nom_internal::parser::Parser;
-use nom_lengths::length_value;
+use nom_multi_length::length_value;
 use nom_number::be_u8;
 
 /// What is answered where more may come.

@@ -1,5 +1,5 @@
 //! Records that come in pieces.
-ghost use Rattle.nom_traits.specs.Bytes.{seen_bytes};
+ghost use Rattle.nom_traits.specs.Bytes.{bytes_model};
 ghost use Rattle.nom_growing.specs.Growing.{AreCuts};
 
 use nom::bytes::{tag, take};
@@ -34,14 +34,14 @@ fn grown_of<'a, P: StreamParser<&'a [u8]> + Drop>(
     cuts: &[usize],
 ) -> Grown<&'a [u8], P::Output, P::Error>
     requires sound { (P.meaning (P.state parser)).IsSound }
-    requires cuts { AreCuts seen_bytes input cuts.now }
+    requires cuts { AreCuts bytes_model input cuts.now }
 {
     parse_growing(parser, input, cuts)
 }
 
 /// The tag `ab`, in an input that grows: the index of the cut, the rest, and the tag.
 fn grown_tag<'a>(input: &'a [u8], cuts: &[usize]) -> (usize, IResult<&'a [u8], &'a [u8]>)
-    requires { AreCuts seen_bytes input cuts.now }
+    requires { AreCuts bytes_model input cuts.now }
 {
     let grown = grown_of(tag::<_, _, Fail>(&b"ab"[..]), input, cuts);
     (grown.index, grown.result)
@@ -59,7 +59,7 @@ fn grown_record<'a>(
     input: &'a [u8],
     cuts: &[usize],
 ) -> (usize, IResult<&'a [u8], (&'a [u8], &'a [u8])>)
-    requires { AreCuts seen_bytes input cuts.now }
+    requires { AreCuts bytes_model input cuts.now }
 {
     let record = tag::<_, _, Fail>(&b"R"[..]).and(take::<_, _, Fail>(4usize));
     let grown = grown_of(record, input, cuts);
@@ -84,7 +84,7 @@ fn grown_list<'a>(
     input: &'a [u8],
     cuts: &[usize],
 ) -> Option<(usize, &'a [u8], usize)>
-    requires { AreCuts seen_bytes input cuts.now }
+    requires { AreCuts bytes_model input cuts.now }
 {
     let items = many0(alloc, tag::<_, _, Fail>(&b"a"[..]));
     let list = terminated(items, tag::<_, _, Fail>(&b"b"[..]));

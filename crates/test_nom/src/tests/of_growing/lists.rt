@@ -1,7 +1,7 @@
 //! Data after a length, by a parser of one byte of a user's own.
 ghost use Rattle.std.specs.Prelude.{ℕ, ◌<◌, length};
 ghost use Rattle.nom_error.specs.Modes.{Built};
-ghost use Rattle.nom_traits.specs.Bytes.{seen_bytes};
+ghost use Rattle.nom_traits.specs.Bytes.{bytes_model};
 ghost use Rattle.nom_traits.specs.Slices.{Slice};
 ghost use Rattle.test_nom.specs.FirstByte.{IsFirstByte, byte_meaning, byte_lawful};
 
@@ -28,7 +28,7 @@ impl<'a> Parser<&'a [u8]> for Byte {
 
     ghost state = { λ _. tt };
 
-    ghost Tree = { Slice seen_bytes };
+    ghost Tree = { Slice bytes_model };
 
     ghost IsOutput = { λ _ t. IsFirstByte t.items };
 

@@ -2,9 +2,9 @@
 ghost use Rattle.std.specs.Prelude.{◌≡◌, ℕ, ◌-◌, List, length, Some, MatchResult, refl};
 ghost use Rattle.nom_traits.specs.Compares.{ComparesBytes, ComparesBytesNoCase};
 ghost use Rattle.nom_traits.specs.CompareTags.{bytes_comparing, bytes_comparing_no_case};
-ghost use Rattle.nom_traits.specs.Bytes.{seen_bytes, bytes_lawful};
+ghost use Rattle.nom_traits.specs.Bytes.{bytes_model, bytes_lawful};
 ghost use Rattle.nom_traits.specs.View.{behind_view};
-ghost use Rattle.nom.specs.Held.{no_label, seen_held, held_view, held_views, held_tells, held_lawful, held_comparing};
+ghost use Rattle.nom.specs.Wrapped.{no_label, wrapped_model, wrapped_view, wrapped_views, wrapped_injective, wrapped_lawful, wrapped_comparing};
 
 use nom::bytes::{tag, take};
 use nom::error::{ErrorKind, ParseError};
@@ -20,19 +20,19 @@ struct Packet<'a> {
 }
 
 impl Viewed for Packet<'_> {
-    ghost view = { held_view (λ p. p.bytes) no_label behind_view };
+    ghost view = { wrapped_view (λ p. p.bytes) no_label behind_view };
 }
 
 impl Items for Packet<'_> {
     type Item = u8;
 
-    ghost seen = { seen_held (λ p. p.bytes) no_label seen_bytes };
+    ghost model = { wrapped_model (λ p. p.bytes) no_label bytes_model };
 
-    fn known(self) {
-        self.bytes.known();
+    fn prove_known(self) {
+        self.bytes.prove_known();
     }
 
-    ghost lawful = { held_lawful (λ p. p.bytes) no_label seen_bytes bytes_lawful };
+    ghost lawful = { wrapped_lawful (λ p. p.bytes) no_label bytes_model bytes_lawful };
 
     ghost values = { λ p h. h.0 };
 }
@@ -78,15 +78,15 @@ impl<'a> Input for Packet<'a> {
 
     ghost more = { λ _. tt };
 
-    ghost views = { held_views (λ p. p.bytes) no_label seen_bytes behind_view (λ x y h. h.elements_are) };
+    ghost views = { wrapped_views (λ p. p.bytes) no_label bytes_model behind_view (λ x y h. h.elements_are) };
 
-    ghost tells = { held_tells (λ p. p.bytes) no_label seen_bytes behind_view (λ x y e. record { elements_are = e; mark_is = refl }) };
+    ghost view_injective = { wrapped_injective (λ p. p.bytes) no_label bytes_model behind_view (λ x y e. record { elements_are = e; mark_is = refl }) };
 }
 
 impl<'a, 'b> Compare<&'b [u8]> for Packet<'a> {
     ghost Tag = { List ℕ };
 
-    ghost tag_seen = { λ t. t.now };
+    ghost tag_model = { λ t. t.now };
 
     ghost tag_size = { length };
 
@@ -108,9 +108,9 @@ impl<'a, 'b> Compare<&'b [u8]> for Packet<'a> {
         self.bytes.compare_no_case(tag)
     }
 
-    ghost comparing = { held_comparing (λ p. p.bytes) no_label seen_bytes bytes_comparing };
+    ghost comparing = { wrapped_comparing (λ p. p.bytes) no_label bytes_model bytes_comparing };
 
-    ghost comparing_no_case = { held_comparing (λ p. p.bytes) no_label seen_bytes bytes_comparing_no_case };
+    ghost comparing_no_case = { wrapped_comparing (λ p. p.bytes) no_label bytes_model bytes_comparing_no_case };
 }
 
 /// How many bytes were left at a refusal, and why.

@@ -140,7 +140,7 @@ fn length_of_two() -> u8
 struct Two;
 
 impl<'a> Parser<&'a str> for Two {
-    ghost use Rattle.nom_traits.specs.Text.{seen_text};
+    ghost use Rattle.nom_traits.specs.Text.{text_model};
     ghost use Rattle.nom_internal.specs.Success.{success_lawful, success_meaning};
 
     type Output = u8;
@@ -160,11 +160,11 @@ impl<'a> Parser<&'a str> for Two {
     ghost Pins = { λ _. Unit {0} };
 
     fn process<OM: OutputMode>(&mut self, input: &'a str) -> PResult<&'a str, u8, Error<&'a str>> {
-        input.known();
+        input.prove_known();
         Ok((input, OM::Output::bind(length_of_two)))
     }
 
-    ghost lawful = { λ _ k. success_lawful _ seen_text tt };
+    ghost lawful = { λ _ k. success_lawful _ text_model tt };
 }
 
 #[test]

@@ -20,7 +20,7 @@ fn grown_of<I: Input, P: StreamParser<I> + Drop>(
     cuts: &[usize],
 ) -> Grown<I, P::Output, P::Error>
     requires sound { (P.meaning (P.state parser)).IsSound }
-    requires cuts { AreCuts I.seen input cuts.now }
+    requires cuts { AreCuts I.model input cuts.now }
 {
     parse_growing(parser, input, cuts)
 }
@@ -31,7 +31,7 @@ fn grown<I: Input<Item: AsChar>>(
     input: I,
     cuts: &[usize],
 ) -> (usize, IResult<I, i64, Error<I>>)
-    requires { AreCuts I.seen input cuts.now }
+    requires { AreCuts I.model input cuts.now }
 {
     let levels = [Assoc::Right, Assoc::Left, Assoc::Left];
     let operand = one_of("0123456789").map(digit);

@@ -1,5 +1,5 @@
 use Rattle.nom_internal.proofs.Shown.{output_err, output_ok}
-use Rattle.nom_folds.proofs.FoldShown.{carried_built}
+use Rattle.nom_multi_fold.proofs.FoldShown.{carried_built}
 use Rattle.nom_alloc.proofs.fold.FoldMany0AllocParser.process.Goals as goal
 
 pub returns-in_err-rest-clause-shown : goal.returns-in_err-rest-clause-shown

@@ -1,6 +1,6 @@
 use Rattle.std.proofs.Common.{subst, sym}
 use Rattle.nom_internal.specs.Families.{IsOne}
-use Rattle.nom_lengths.specs.Lengths.{HasSize}
+use Rattle.nom_multi_length.specs.Lengths.{HasSize}
 use Rattle.nom_answers.proofs.lengths.behind.data.Goals as goal
 
 pub ask-requires : goal.ask-requires

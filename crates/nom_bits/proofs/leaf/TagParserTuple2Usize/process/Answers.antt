@@ -4,7 +4,7 @@ use Rattle.nom_bits.proofs.Shown.{fits_width, refuses_as, split_within, split_lo
 use Rattle.nom_bits.proofs.leaf.TagParserTuple2Usize.process.Goals as goal
 
 pub spelling-number-requires-clause-within : goal.spelling-number-requires-clause-within
-spelling-number-requires-clause-within g c = split_within g.I.Items.seen c.in-Some.ensures
+spelling-number-requires-clause-within g c = split_within g.I.Items.model c.in-Some.ensures
 
 pub number_built-requires : goal.number_built-requires
 number_built-requires g c = fits_width _ _ _ c.spelling-number.ensures.range c.requires.sound
@@ -13,14 +13,14 @@ pub returns-then-number-self-clause-shown : goal.returns-then-number-self-clause
 returns-then-number-self-clause-shown g c =
     accepted c.spelling-number.result c.in-Some.ensures.rest_is (
       refl,
-      split_field g.I.Items.seen c.in-Some.ensures c.spelling-number.ensures.number,
+      split_field g.I.Items.model c.in-Some.ensures c.spelling-number.ensures.number,
       c.if-number-self.true,
     ) c.number_built.ensures
 
 pub returns-else-number-self-clause-shown : goal.returns-else-number-self-clause-shown
 returns-else-number-self-clause-shown g c =
-    refused (refuses_as (λ e h. inr (split_long g.I.Items.seen c.in-Some.ensures, h)) c.refusal.ensures)
-    (inr (c.spelling-number.result, split_field g.I.Items.seen c.in-Some.ensures c.spelling-number.ensures.number, c.if-number-self.false))
+    refused (refuses_as (λ e h. inr (split_long g.I.Items.model c.in-Some.ensures, h)) c.refusal.ensures)
+    (inr (c.spelling-number.result, split_field g.I.Items.model c.in-Some.ensures c.spelling-number.ensures.number, c.if-number-self.false))
 
 pub returns-in-None-clause-shown : goal.returns-in-None-clause-shown
 returns-in-None-clause-shown g c =

@@ -4,14 +4,14 @@ use Rattle.nom_bits.proofs.Shown.{fits_width, split_within, split_field}
 use Rattle.nom_bits.proofs.leaf.TakeParserTuple2Usize.process.Goals as goal
 
 pub spelling-number-requires-clause-within : goal.spelling-number-requires-clause-within
-spelling-number-requires-clause-within g c = split_within g.I.Items.seen c.in-Some.ensures
+spelling-number-requires-clause-within g c = split_within g.I.Items.model c.in-Some.ensures
 
 pub number_built-requires : goal.number_built-requires
 number_built-requires g c = fits_width _ _ _ c.spelling-number.ensures.range c.requires.sound
 
 pub returns-in-Some-clause-shown : goal.returns-in-Some-clause-shown
 returns-in-Some-clause-shown g c =
-    accepted c.spelling-number.result c.in-Some.ensures.rest_is (refl, split_field g.I.Items.seen c.in-Some.ensures c.spelling-number.ensures.number)
+    accepted c.spelling-number.result c.in-Some.ensures.rest_is (refl, split_field g.I.Items.model c.in-Some.ensures c.spelling-number.ensures.number)
     c.number_built.ensures
 
 pub returns-in-None-clause-shown : goal.returns-in-None-clause-shown

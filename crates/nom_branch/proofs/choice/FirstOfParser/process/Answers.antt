@@ -6,7 +6,7 @@ use Rattle.nom_branch.proofs.choice.FirstOfParser.process.Goals as goal
 
 pub returns-clause-shown : goal.returns-clause-shown
 returns-clause-shown g c =
-    let w = g.I.Items.seen in
+    let w = g.I.Items.model in
     let e = g.F.Error.ParseError.errors in
     let mode = modes g.OM.Output.Mode.BUILDS g.OM.Error.Mode.BUILDS g.OM.Incomplete.IsStreaming.STREAMING in
     let i = c.args.input in

@@ -6,7 +6,7 @@ use Rattle.nom_bytes.proofs.leaf.TakeParser.process.Goals as goal
 pub returns-in-Ok-clause-shown : goal.returns-in-Ok-clause-shown
 returns-in-Ok-clause-shown g c =
     let n = c.in-Ok.ensures in
-    let first = place_first g.I.Items.seen _ _ n.place in
+    let first = place_first g.I.Items.model _ _ n.place in
     accepted _ c.take_from.ensures (first, n.count_is) (c.front.ensures _ first)
 
 pub returns-in-Err-clause-shown : goal.returns-in-Err-clause-shown

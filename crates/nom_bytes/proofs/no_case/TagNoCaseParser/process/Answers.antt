@@ -5,12 +5,12 @@ use Rattle.nom_bytes.proofs.no_case.TagNoCaseParser.process.Goals as goal
 
 pub returns-in-Ok-clause-shown : goal.returns-in-Ok-clause-shown
 returns-in-Ok-clause-shown g c =
-    tag_found _ g.E.ParseError.errors _ _ g.met.I.Compare.comparing_no_case _ _ _ c.known.ensures _ _ _ c.tag_len-n.ensures c.in-Ok.ensures
+    tag_found _ g.E.ParseError.errors _ _ g.met.I.Compare.comparing_no_case _ _ _ c.prove_known.ensures _ _ _ c.tag_len-n.ensures c.in-Ok.ensures
     c.take_from.ensures c.front.ensures
 
 pub returns-in-Incomplete-clause-shown : goal.returns-in-Incomplete-clause-shown
 returns-in-Incomplete-clause-shown g c =
-    tag_begun _ g.E.ParseError.errors _ _ g.met.I.Compare.comparing_no_case _ _ _ c.known.ensures _ _ _ (sym c.STREAMING.ensures ∙ c.if-STREAMING.true)
+    tag_begun _ g.E.ParseError.errors _ _ g.met.I.Compare.comparing_no_case _ _ _ c.prove_known.ensures _ _ _ (sym c.STREAMING.ensures ∙ c.if-STREAMING.true)
     c.tag_len.ensures c.input_len.ensures c.in-Incomplete.ensures c.new.ensures.some
 
 pub returns-in-Incomplete-2-clause-shown : goal.returns-in-Incomplete-2-clause-shown

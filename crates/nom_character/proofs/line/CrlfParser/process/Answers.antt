@@ -1,4 +1,4 @@
-use Rattle.nom_character.specs.Sights.{crlf_in}
+use Rattle.nom_character.specs.LineMatches.{crlf_in}
 use Rattle.nom_character.proofs.line.CrlfParser.process.Goals as goal
 
 pub returns-clause-shown : goal.returns-clause-shown

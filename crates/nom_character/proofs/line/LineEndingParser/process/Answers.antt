@@ -1,4 +1,4 @@
-use Rattle.nom_character.specs.Sights.{line_ending_in}
+use Rattle.nom_character.specs.LineMatches.{line_ending_in}
 use Rattle.nom_character.proofs.line.LineEndingParser.process.Goals as goal
 
 pub returns-clause-shown : goal.returns-clause-shown

@@ -1,7 +1,7 @@
 use Rattle.std.proofs.Common.{◌≡◌, ◌==◌, arith, ◌∙◌, ap, Some}
 use Rattle.std.proofs.lemmas.Str.{len_utf8_bounds}
-use Rattle.nom_first.specs.declared.first.Blame.TheVariants.{OfChar}
-use Rattle.nom_first.proofs.Firsts.{head_lacking}
+use Rattle.nom_character_first.specs.declared.first.Blame.TheVariants.{OfChar}
+use Rattle.nom_character_first.proofs.Firsts.{head_lacking}
 use Rattle.nom_character.proofs.one.CharParser.process.Goals as goal
 
 pub returns-clause-shown : goal.returns-clause-shown

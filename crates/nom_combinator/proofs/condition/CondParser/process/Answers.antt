@@ -13,4 +13,4 @@ returns-in_ok-rest-in-Some-clause-shown g c =
 
 pub returns-in-None-clause-shown : goal.returns-in-None-clause-shown
 returns-in-None-clause-shown g c =
-    cond_none _ g.F.Parser.state g.F.Parser.IsOutput g.F.Parser.meaning _ _ g.met.I.Items.lawful c.known.ensures _ c.in-None.is _ c.built-in-None.ensures
+    cond_none _ g.F.Parser.state g.F.Parser.IsOutput g.F.Parser.meaning _ _ g.met.I.Items.lawful c.prove_known.ensures _ c.in-None.is _ c.built-in-None.ensures

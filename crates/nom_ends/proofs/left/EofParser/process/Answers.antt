@@ -9,12 +9,12 @@ use Rattle.nom_ends.proofs.left.EofParser.process.Goals as goal
 
 pub returns-then-input_len-eq0-clause-shown : goal.returns-then-input_len-eq0-clause-shown
 returns-then-input_len-eq0-clause-shown g c =
-    let w = g.I.Items.seen in
-    let none = no_length w.weight g.met.I.Items.lawful.positive (w.elements c.args.input) (sym c.input_len.ensures ∙ c.if-input_len-eq0.true) in
-    accepted (all_of w c.args.input) (rest_self w g.met.I.Items.lawful c.args.input c.known.ensures) (none, refl, refl)
-    (whole_built w g.OM.Output.Mode.BUILDS c.args.input c.built.result c.known.ensures c.built.ensures)
+    let w = g.I.Items.model in
+    let none = no_length w.item_len g.met.I.Items.lawful.positive (w.elements c.args.input) (sym c.input_len.ensures ∙ c.if-input_len-eq0.true) in
+    accepted (all_of w c.args.input) (rest_self w g.met.I.Items.lawful c.args.input c.prove_known.ensures) (none, refl, refl)
+    (whole_built w g.OM.Output.Mode.BUILDS c.args.input c.built.result c.prove_known.ensures c.built.ensures)
 
 pub returns-else-input_len-eq0-clause-shown : goal.returns-else-input_len-eq0-clause-shown
 returns-else-input_len-eq0-clause-shown g c =
-    let w = g.I.Items.seen in
+    let w = g.I.Items.model in
     refused c.refusal.ensures (λ none. c.if-input_len-eq0.false (c.input_len.ensures ∙ no_items w none))

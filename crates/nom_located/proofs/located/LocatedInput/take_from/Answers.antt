@@ -1,6 +1,6 @@
 use Rattle.std.proofs.Common.{arith, ap, length, subst, sym, ◌∙◌}
-use Rattle.nom_traits.specs.Rests.{span-append}
-use Rattle.nom_traits.specs.Input.{span, input_len}
+use Rattle.nom_traits.specs.Rests.{items_len-append}
+use Rattle.nom_traits.specs.Input.{items_len, input_len}
 use Rattle.nom_search.specs.Reads.{bytes_length}
 use Rattle.nom_located.specs.Located.{Fits, located, place}
 use Rattle.nom_located.specs.LocatedLaws.{located_fitting, place_after}
@@ -9,7 +9,7 @@ use Rattle.nom_located.proofs.located.LocatedInput.take_from.Goals as goal
 
 pub line_after-line-requires : goal.line_after-line-requires
 line_after-line-requires g c =
-    let w = g.I.Items.seen in
+    let w = g.I.Items.model in
     let fitting = located_fitting w g.I.ByteItems.read g.met.I.ByteItems.reading in
     let fits = fits_front (located (λ x. x.fragment) (λ x. place x.offset x.line x.column) g.I.ByteItems.read) w fitting c.args.self.now c.args.index
     c.take-front.result c.args.self.now.fits c.take-front.ensures in
@@ -20,12 +20,13 @@ line_after-line-requires g c =
 pub overflow_add-result : goal.overflow_add-result
 overflow_add-result g c =
     let q = c.take_from-fragment.ensures in
-    let whole = ap (span g.I.Items.seen.weight) q.whole ∙ span-append g.I.Items.seen.weight q.front (g.I.Items.seen.elements c.take_from-fragment.result) in
+    let whole = ap (items_len g.I.Items.model.item_len) q.whole ∙ items_len-append g.I.Items.model.item_len q.front
+    (g.I.Items.model.elements c.take_from-fragment.result) in
     omega (arith, whole, q.length_is, c.args.self.now.fits.fits)
 
 pub invariant_of-result : goal.invariant_of-result
 invariant_of-result g c =
-    let w = g.I.Items.seen in
+    let w = g.I.Items.model in
     let read = g.I.ByteItems.read in
     let reading = g.met.I.ByteItems.reading in
     let q = c.take_from-fragment.ensures in
@@ -39,7 +40,7 @@ invariant_of-result g c =
 
 pub returns : goal.returns
 returns g c =
-    let w = g.I.Items.seen in
+    let w = g.I.Items.model in
     let read = g.I.ByteItems.read in
     let reading = g.met.I.ByteItems.reading in
     let q = c.take_from-fragment.ensures in

@@ -1,5 +1,5 @@
 use Rattle.nom_repeat.proofs.Parts.{shown_as}
-use Rattle.nom_repeat.proofs.ListKept.{list_of_none}
+use Rattle.nom_repeat.proofs.ListAccumulated.{list_of_none}
 use Rattle.nom_multi.proofs.bounded.CountParser.process.Goals as goal
 
 pub returns-clause-shown : goal.returns-clause-shown

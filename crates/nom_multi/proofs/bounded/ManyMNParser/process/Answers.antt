@@ -3,7 +3,7 @@ use Rattle.std.proofs.lemmas.Bool.{lt-ltb, le-ltb}
 use Rattle.nom_error.specs.declared.kind.ErrorKind.TheVariants as Kind
 use Rattle.nom_repeat.proofs.InvertedShown.{inverted_fails, not_inverted}
 use Rattle.nom_repeat.proofs.Parts.{shown_as}
-use Rattle.nom_repeat.proofs.ListKept.{list_of_none}
+use Rattle.nom_repeat.proofs.ListAccumulated.{list_of_none}
 use Rattle.nom_repeat.specs.Items.{items_meaning}
 use Rattle.nom_multi.proofs.bounded.ManyMNParser.process.Goals as goal
 use Rattle.nom_repeat.specs.Bounds.{bounded_limits}
@@ -12,13 +12,13 @@ pub returns-then-self-clause-shown : goal.returns-then-self-clause-shown
 returns-then-self-clause-shown g c =
     let s = c.args.self.now in
     inverted_fails g.F.Error.ParseError.errors Kind.ManyMN
-    (items_meaning g.I.Items.seen g.F.Error.ParseError.errors (bounded_limits Kind.ManyMN s.min s.max) (Unit {0})
+    (items_meaning g.I.Items.model g.F.Error.ParseError.errors (bounded_limits Kind.ManyMN s.min s.max) (Unit {0})
     (g.F.Parser.meaning (g.F.Parser.state s.parser))) _ (lt-ltb s.max s.min c.if-self.true) c.failure.ensures
 
 pub returns-clause-shown : goal.returns-clause-shown
 returns-clause-shown g c =
     let s = c.args.self.now in
     not_inverted g.F.Error.ParseError.errors Kind.ManyMN
-    (items_meaning g.I.Items.seen g.F.Error.ParseError.errors (bounded_limits Kind.ManyMN s.min s.max) (Unit {0})
+    (items_meaning g.I.Items.model g.F.Error.ParseError.errors (bounded_limits Kind.ManyMN s.min s.max) (Unit {0})
     (g.F.Parser.meaning (g.F.Parser.state s.parser))) true _ (le-ltb s.max s.min c.if-self.false)
     (shown_as (list_of_none (g.F.Parser.IsOutput (g.F.Parser.state s.parser)) _ c.none_yet-none.ensures.empty) c.items.ensures.shown)

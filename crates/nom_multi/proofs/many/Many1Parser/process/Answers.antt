@@ -1,8 +1,8 @@
 use Rattle.nom_internal.proofs.Shown.{accepts, then_err, then_ok}
 use Rattle.nom_repeat.proofs.Parts.{shown_as, shown_at}
-use Rattle.nom_repeat.proofs.Keeping.{kept_both, kept_ready}
-use Rattle.nom_repeat.proofs.ListKept.{list_of_none, ListGains}
-use Rattle.nom_repeat.specs.Kept.{Kept}
+use Rattle.nom_repeat.proofs.Accumulating.{kept_both, kept_ready}
+use Rattle.nom_repeat.proofs.ListAccumulated.{list_of_none, ListPushes}
+use Rattle.nom_repeat.specs.Accumulated.{Accumulated}
 use Rattle.nom_multi.specs.Many.{many0_meaning}
 use Rattle.nom_multi.proofs.many.Many1Parser.process.Goals as goal
 
@@ -12,13 +12,13 @@ returns-in_err-rest-clause-shown g c = then_err g.met.I.Items.lawful c.in_err-re
 pub items-requires-2-clause-built : goal.items-requires-2-clause-built
 items-requires-2-clause-built g c =
     let first = accepts c.in_ok-rest.ensures.shown in
-    kept_ready ListGains (λ _. Unit {0}) (g.F.Parser.IsOutput (g.F.Parser.state c.args.self.now.parser)) _ _ _ _ first.built_is
+    kept_ready ListPushes (λ _. Unit {0}) (g.F.Parser.IsOutput (g.F.Parser.state c.args.self.now.parser)) _ _ _ _ first.built_is
 
 pub returns-clause-shown : goal.returns-clause-shown
 returns-clause-shown g c =
     let is_output = g.F.Parser.IsOutput (g.F.Parser.state c.args.self.now.parser) in
-    let more = shown_at (λ s. Kept ListGains (λ _. Unit {0}) (g.F.Parser.IsOutput s) c.in_ok-rest.first)
-    (λ s. many0_meaning g.I.Items.seen g.F.Error.ParseError.errors (g.F.Parser.meaning s)) c.in_ok-rest.ensures.kept c.items-2.ensures.shown in
+    let more = shown_at (λ s. Accumulated ListPushes (λ _. Unit {0}) (g.F.Parser.IsOutput s) c.in_ok-rest.first)
+    (λ s. many0_meaning g.I.Items.model g.F.Error.ParseError.errors (g.F.Parser.meaning s)) c.in_ok-rest.ensures.kept c.items-2.ensures.shown in
     then_ok g.met.I.Items.lawful c.in_ok-rest.ensures.shown
     (λ vs first. shown_as (λ us list kept. list_of_none is_output _ c.none_yet-none.ensures.empty _ list
-    (kept_both ListGains (λ _. Unit {0}) is_output _ _ _ vs us list first kept)) more)
+    (kept_both ListPushes (λ _. Unit {0}) is_output _ _ _ vs us list first kept)) more)

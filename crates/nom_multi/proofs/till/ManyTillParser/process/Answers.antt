@@ -3,18 +3,18 @@ use Rattle.std.specs.Prelude.{vec_len, vec_capacity}
 use Rattle.std.specs.List.{AllZip}
 use Rattle.nom_error.specs.Modes.{modes}
 use Rattle.nom_internal.proofs.Shown.{accepts, both_built, built_error}
-use Rattle.nom_repeat.proofs.Keeping.{room_built}
+use Rattle.nom_repeat.proofs.Accumulating.{room_built}
 use Rattle.nom_repeat.proofs.Repeated.{collected_none, is_empty, consumes, is_shorter}
 use Rattle.nom_multi.specs.Till.{end_or_item}
 use Rattle.nom_multi.proofs.TillShown.{is_end, is_item, stands_at, till_ended, till_stuck, till_lacks_room, till_more, till_refused, till_failed}
-use Rattle.nom_multi.proofs.TillShown.{till_lacks, till_ran_out, list_gained}
+use Rattle.nom_multi.proofs.TillShown.{till_lacks, till_ran_out, list_pushed}
 use Rattle.nom_multi.proofs.till.ManyTillParser.process.Goals as goal
 
 pub loop-next-init : goal.loop-next-init
 loop-next-init g c = record {
   parser_kept = refl;
   end_kept = refl;
-  collected = collected_none g.met.I.Items.lawful c.known.ensures (built_error _ _ _ _ (λ list none. rw none tt) c.none_yet-kept.ensures.empty);
+  collected = collected_none g.met.I.Items.lawful c.prove_known.ensures (built_error _ _ _ _ (λ list none. rw none tt) c.none_yet-kept.ensures.empty);
 }
 
 pub returns-in-End-clause-shown : goal.returns-in-End-clause-shown
@@ -48,8 +48,8 @@ returns-then-input_len-clause-shown g c =
     (modes g.OM.Output.Mode.BUILDS g.OM.Error.Mode.BUILDS g.OM.Incomplete.IsStreaming.STREAMING) i.collected item.0 found.answered item.1
     (is_empty found.rest_is c.input_len.ensures c.input_len-in-Item.ensures c.if-input_len.true) _ c.refusal.ensures
 
-pub returns-then-not-gain-clause-shown : goal.returns-then-not-gain-clause-shown
-returns-then-not-gain-clause-shown g c =
+pub returns-then-not-push_item-clause-shown : goal.returns-then-not-push_item-clause-shown
+returns-then-not-push_item-clause-shown g c =
     let i = c.loop-next.invariant in
     let told = stands_at (λ s. g.G.Parser.IsOutput s) (λ s. g.F.Parser.IsOutput s) (λ s. g.G.Parser.meaning s)
     (λ s. g.F.Parser.meaning s) i.end_kept i.parser_kept c.in-Ok.ensures.shown in
@@ -62,7 +62,7 @@ returns-then-not-gain-clause-shown g c =
     (g.G.Parser.IsOutput (g.G.Parser.state c.args.self.now.end)) t.1 o.1)
     (modes g.OM.Output.Mode.BUILDS g.OM.Error.Mode.BUILDS g.OM.Incomplete.IsStreaming.STREAMING) i.collected item.0 found.answered item.1
     (consumes found.rest_is c.input_len.ensures c.input_len-in-Item.ensures c.if-input_len.false)
-    (room_built (λ list. vec_capacity list ≤ vec_len list) _ _ _ i.collected.held (c.gain.ensures.full c.if-not-gain.true))
+    (room_built (λ list. vec_capacity list ≤ vec_len list) _ _ _ i.collected.held (c.push_item.ensures.full c.if-not-push_item.true))
 
 pub loop-next-smaller : goal.loop-next-smaller
 loop-next-smaller g c =
@@ -84,7 +84,7 @@ loop-next-preserved g c =
           ((end_or_item (g.G.Parser.meaning (g.G.Parser.state c.args.self.now.end))
           (g.F.Parser.meaning (g.F.Parser.state c.args.self.now.parser))).answers g.OM.Incomplete.IsStreaming.STREAMING) i.collected item.0
           found.answered item.1 (consumes found.rest_is c.input_len.ensures c.input_len-in-Item.ensures c.if-input_len.false) found.rest_is
-          (list_gained (g.F.Parser.IsOutput (g.F.Parser.state c.args.self.now.parser)) _ _ _ _ _ _ (c.gain.ensures.kept (search rules)) i.collected.held
+          (list_pushed (g.F.Parser.IsOutput (g.F.Parser.state c.args.self.now.parser)) _ _ _ _ _ _ (c.push_item.ensures.kept (search rules)) i.collected.held
           item.2);
     }
 

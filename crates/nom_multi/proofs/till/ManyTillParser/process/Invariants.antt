@@ -10,11 +10,11 @@ abbrev pub invariant-loop-next : goal.invariant-loop-next
 invariant-loop-next g l = record {
   parser_kept : g.F.Parser.state l.self.parser ≡ g.F.Parser.state l.fn.self.parser;
   end_kept : g.G.Parser.state l.self.end ≡ g.G.Parser.state l.fn.self.end;
-  collected : Till g.I.Items.seen
+  collected : Till g.I.Items.model
       ((end_or_item (g.G.Parser.meaning (g.G.Parser.state l.fn.self.end)) (g.F.Parser.meaning (g.F.Parser.state l.fn.self.parser))).answers
       g.OM.Incomplete.IsStreaming.STREAMING)
       (λ vs. Built g.OM.Output.Mode.BUILDS (λ list. AllZip (g.F.Parser.IsOutput (g.F.Parser.state l.fn.self.parser)) vs list.items) l.kept) l.fn.input l.rest;
 }
 
 abbrev pub decreases-loop-next : goal.decreases-loop-next
-decreases-loop-next g l = input_len g.I.Items.seen l.rest
+decreases-loop-next g l = input_len g.I.Items.model l.rest

@@ -1,6 +1,6 @@
 use Rattle.std.specs.Prelude.{Some, refl}
 use Rattle.nom_permutation.specs.Members.Choice.{NoChoice}
-use Rattle.nom_permutation.specs.Rounds.{Holds}
+use Rattle.nom_permutation.specs.Rounds.{SlotHolds}
 use Rattle.nom_permutation.proofs.Places.{holds_same, member_step}
 use Rattle.nom_permutation.proofs.members.OneNested.round.Goals as goal
 
@@ -11,6 +11,6 @@ returns-clause-shown g c t h =
     let o = g.A.Parser.IsOutput state in
     let before = c.args.slots.now in
     let after = c.try_slot.new.slot in
-    member_step g.I.Items.seen o g.A.Error.ParseError.errors.joined g.A.Error.ParseError.errors.grows (g.A.Parser.meaning state) (λ v. Some v)
-    outputs g.OM.Error.Mode.BUILDS g.OM.Incomplete.IsStreaming.STREAMING c.args.input t (λ u. Holds outputs o u before) (λ u. Holds outputs o u after)
+    member_step g.I.Items.model o g.A.Error.ParseError.errors.joined g.A.Error.ParseError.errors.grows (g.A.Parser.meaning state) (λ v. Some v)
+    outputs g.OM.Error.Mode.BUILDS g.OM.Incomplete.IsStreaming.STREAMING c.args.input t (λ u. SlotHolds outputs o u before) (λ u. SlotHolds outputs o u after)
     before after (λ e u k. holds_same outputs o u before after e k) (λ v k l. k) NoChoice t _ _ h (refl, h) c.try_slot.ensures.shown

@@ -1,6 +1,6 @@
 use Rattle.std.proofs.Common.{sym}
-use Rattle.nom_traits.specs.Rests.{span-ones}
+use Rattle.nom_traits.specs.Rests.{items_len-ones}
 use Rattle.nom_traits.proofs.bytes.RefSliceU8Input.input_len.Goals as goal
 
 pub returns : goal.returns
-returns c = sym (span-ones c.args.self.now.now)
+returns c = sym (items_len-ones c.args.self.now.now)

@@ -5,7 +5,7 @@ use Rattle.nom_traits.proofs.input.Input.position.Goals as goal
 
 pub loop-item-init : goal.loop-item-init
 loop-item-init g c =
-    let gives = subst (λ s. AlwaysYields g.Self.Iter.Iterator.next_gives (λ x. x) s (g.Self.Items.seen.elements c.args.self.now))
+    let gives = subst (λ s. AlwaysYields g.Self.Iter.Iterator.next_gives (λ x. x) s (g.Self.Items.model.elements c.args.self.now))
     (sym c.into_iter-item-iterator.ensures.into_iter_gives) c.iter_elements-item-items.ensures.gives in
     (search rules, search rules, walk_begins gives)
 

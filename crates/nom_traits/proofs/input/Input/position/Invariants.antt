@@ -6,5 +6,5 @@ abbrev pub invariant-loop-item : goal.invariant-loop-item
 invariant-loop-item g l =
     (goal.iterator-loop-item g).can_next l.item-iterator
     × (goal.iterator-loop-item g).is_finite l.item-iterator
-    × IsWalking g.Self.Items.seen (λ x. goal.P-post g l.fn.predicate x false) (λ x. goal.P-post g l.fn.predicate x true)
+    × IsWalking g.Self.Items.model (λ x. goal.P-post g l.fn.predicate x false) (λ x. goal.P-post g l.fn.predicate x true)
     (goal.iterator-loop-item g).next_gives l.fn.self l.place l.item-iterator

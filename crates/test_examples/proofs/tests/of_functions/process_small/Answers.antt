@@ -1,5 +1,5 @@
 use Rattle.nom_func.proofs.FuncSound.{items_func}
-use Rattle.nom_own_parts.specs.Firsts.{small_outcome}
+use Rattle.example_parts.specs.Firsts.{small_outcome}
 use Rattle.test_examples.proofs.tests.of_functions.process_small.Goals as goal
 
 pub process-requires : goal.process-requires

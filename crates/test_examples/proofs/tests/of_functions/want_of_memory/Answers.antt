@@ -1,5 +1,5 @@
 use Rattle.std.proofs.Common.{subst}
-use Rattle.nom_traits.specs.Bytes.{seen_bytes}
+use Rattle.nom_traits.specs.Bytes.{bytes_model}
 use Rattle.nom_traits.specs.View.{itself}
 use Rattle.nom_func.specs.Func.{Tells}
 use Rattle.nom_func.proofs.FuncSound.{parser_of}
@@ -7,5 +7,5 @@ use Rattle.test_examples.proofs.tests.of_functions.want_of_memory.Goals as goal
 
 pub parse-requires : goal.parse-requires
 parse-requires g c = record {
-  sound = parser_of (λ i k. tt) (λ i j v k e. cc (e)) (λ x y o p kx ky r a keeps b. absurd (subst (λ z. Tells seen_bytes itself x z o) a.given a.told));
+  sound = parser_of (λ i k. tt) (λ i j v k e. cc (e)) (λ x y o p kx ky r a keeps b. absurd (subst (λ z. Tells bytes_model itself x z o) a.given a.told));
 }

@@ -3,4 +3,4 @@ use Rattle.nom_search.specs.Reads.{bytes_length}
 use Rattle.test_base.proofs.tests.of_base.searches.lent.Goals as goal
 
 pub returns : goal.returns
-returns g c = ap length c.as_bytes.ensures ∙ bytes_length _ _ _ g.met.I.ByteItems.reading _ c.known.ensures
+returns g c = ap length c.as_bytes.ensures ∙ bytes_length _ _ _ g.met.I.ByteItems.reading _ c.prove_known.ensures

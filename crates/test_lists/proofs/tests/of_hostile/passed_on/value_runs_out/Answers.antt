@@ -1,10 +1,10 @@
 use Rattle.std.proofs.Common.{subst, sym}
 use Rattle.nom_internal.specs.Families.{IsOne}
-use Rattle.nom_lengths.specs.Lengths.{HasSize}
+use Rattle.nom_multi_length.specs.Lengths.{HasSize}
 use Rattle.test_lists.proofs.tests.of_hostile.passed_on.value_runs_out.Goals as goal
 
-pub runs_out-requires : goal.runs_out-requires
-runs_out-requires g c = (
+pub may_run_out-requires : goal.may_run_out-requires
+may_run_out-requires g c = (
   subst (λ x. (g.L.Parser.meaning (g.L.Parser.state x)).IsSound) (sym c.length_value.ensures.length) c.requires.length,
   (
     subst (λ x. (g.P.Parser.meaning (g.P.Parser.state x)).IsSound) (sym c.length_value.ensures.parser) c.requires.part,

@@ -1,5 +1,5 @@
 use Rattle.std.proofs.Common.{◌≡◌, ℕ, List, [], ◌∷◌, ◌++◌, length, sym, ◌∙◌, refl, arith}
-use Rattle.nom_traits.specs.Bytes.{seen_bytes}
+use Rattle.nom_traits.specs.Bytes.{bytes_model}
 use Rattle.nom_traits.specs.Slices.{place_first}
 use Rattle.nom_internal.proofs.Shown.{accepted, undecided, refused, built_error}
 use Rattle.test_nom.specs.FirstByte.{IsFirstByte}
@@ -15,7 +15,7 @@ pub returns-in-Ok-clause-shown : goal.returns-in-Ok-clause-shown
 returns-in-Ok-clause-shown g c =
     let n = c.in-Ok.ensures in
     let place = n.place in
-    let first = place_first seen_bytes c.args.input _ place in
+    let first = place_first bytes_model c.args.input _ place in
     accepted _ c.take_from.ensures (first, n.count_is)
     (built_error _ (IsFirstByte c.args.input.now)
     (IsFirstByte place.front) _ (λ b. byte_of c.args.input.now place.front place.rest b place.whole n.count_is) c.first.ensures)

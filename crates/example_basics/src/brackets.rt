@@ -1,0 +1,37 @@
+//! A recursive function of a user's own, which `func` makes a parser. A function can't hand itself to `func`,
+//! so it calls itself, and its other parts by `parse_complete`.
+ghost use Rattle.std.specs.Prelude.{◌≡◌, false};
+ghost use Rattle.nom_traits.specs.Bytes.{bytes_model};
+ghost use Rattle.nom_internal.specs.Meaning.{ParsesMeaning};
+ghost use Rattle.example_basics.specs.Brackets.{brackets_meaning};
+
+use nom::bytes::tag;
+use nom::character::char;
+use nom::error::Error;
+use nom::sequence::terminated;
+use nom::{IResult, Items, Parser, func};
+
+/// Nested round brackets, as `(())`, with how deep they are nested; what follows them is left. An input that
+/// opens none has none, and where a bracket that was opened isn't closed, the input is refused there.
+pub fn nested_brackets(input: &[u8]) -> IResult<&[u8], usize>
+    ensures { ParsesMeaning bytes_model (λ t n. n ≡ t) brackets_meaning false input.entry result }
+{
+    input.prove_known();
+    let mut open = char::<&[u8], Error<&[u8]>>('(');
+    match open.parse_complete(input) {
+        Ok(accepted) => {
+            let (inside, _) = accepted;
+            let (behind, depth) = nested_brackets(inside)?;
+            let mut close = char::<&[u8], Error<&[u8]>>(')');
+            let (rest, _) = close.parse_complete(behind)?;
+            Ok((rest, depth + 1))
+        }
+        Err(_) => Ok((input, 0)),
+    }
+}
+
+/// Nested brackets and a semicolon.
+pub fn brackets_line(input: &[u8]) -> IResult<&[u8], usize> {
+    let mut line = terminated(func(nested_brackets), tag(";"));
+    line.parse_complete(input)
+}

@@ -1,0 +1,30 @@
+//! What a caller knows of any sound parser that settles, whatever it is made of.
+ghost use Rattle.nom_growing.specs.Promises.{AcceptsFronts, AnswersStay, HasNoFailure, HasOneOutcome, IsCompleteToo, NeverRunsOut, StaysOnLonger};
+
+use nom::promises::{
+    accepts_fronts, answers_stay, has_no_failure, has_one_outcome, is_complete_too, never_runs_out,
+    stays_on_longer,
+};
+use nom::{Items, StreamParser};
+
+/// Does nothing: its contract is all that nom promises of the parser.
+pub fn promised<I: Items, P: StreamParser<I>>(parser: &P)
+    requires sound { (P.meaning (P.state parser.now)).IsSound }
+    requires settles { (P.meaning (P.state parser.now)).Settles }
+    ensures decided { StaysOnLonger I.model (P.meaning (P.state parser.now)) }
+    ensures answers { AnswersStay I.model P.Output.view (P.Parser.Pins (P.state parser.now)) (P.IsOutput (P.state parser.now))
+        (P.meaning (P.state parser.now)) }
+    ensures alike { HasOneOutcome I.model (P.meaning (P.state parser.now)) }
+    ensures fronts { AcceptsFronts I.model (P.meaning (P.state parser.now)) }
+    ensures complete { IsCompleteToo I.model (P.meaning (P.state parser.now)) }
+    ensures frugal { NeverRunsOut I.model (P.meaning (P.state parser.now)) }
+    ensures failures { HasNoFailure I.model (P.meaning (P.state parser.now)) }
+{
+    stays_on_longer(parser);
+    answers_stay(parser);
+    has_one_outcome(parser);
+    accepts_fronts(parser);
+    is_complete_too(parser);
+    never_runs_out(parser);
+    has_no_failure(parser);
+}

@@ -1,0 +1,104 @@
+-- What the parser of a name and its value answers.
+use Rattle.std.proofs.Common.{◌≡◌, ℕ, ◌+◌, Bool, true, false, List, [], ◌∷◌, ◌++◌, Result, Bor, sym, ◌∙◌, ap, subst, arith, append_assoc, refl, rules}
+use Rattle.std.specs.Prelude.{◌==◌, chars, Some, None, IfOk}
+use Rattle.std.specs.Char.{len_utf8}
+use Rattle.std.specs.List.{All}
+use Rattle.nom_error.specs.declared.answer.Needed.{Needed}
+use Rattle.nom_error.specs.declared.answer.Err as Answer
+use Rattle.nom_traits.specs.Input.{IsSuffixOf, IsBoundary}
+use Rattle.nom_traits.specs.Rests.{same_cut, items_len-append, rest_rest}
+use Rattle.nom_traits.specs.Runs.{Stops}
+use Rattle.nom_traits.specs.Slices.{Slice, IsModelledBy, first_place}
+use Rattle.nom_traits.specs.Text.{text_model, text_lawful}
+use Rattle.nom_internal.specs.Outcome.{Outcome, ParsesAnswer}
+use Rattle.nom_internal.specs.Outcome.Outcome.{Accept, Refuse, Fail, TooLarge, Undecided}
+use Rattle.nom_internal.specs.Outcome.ParsesAnswer.{ParseRanOut, Parsed}
+use Rattle.nom_internal.specs.Leaf.{LeafAnswers}
+use Rattle.nom_internal.specs.Sequence.{Then}
+use Rattle.nom_bytes.specs.ParsedRuns.{runs}
+use Rattle.nom_character_first.specs.FirstItem.{heads}
+use Rattle.example_formats.specs.Named.{IsNamed, in_name, in_value}
+use Rattle.example_formats.proofs.FirstItem.{run_read, behind_head}
+use Rattle.example_formats.proofs.Sequences.{AreBoth, both}
+
+abbrev Text : Type 0
+Text = Bor (List ℕ)
+
+-- a rest that lies after another one
+rest_between : (i b j : Text) (n k m : ℕ) → IsSuffixOf text_model i k b → IsSuffixOf text_model i n j → n ≡ k + m → IsBoundary text_model b m →
+    IsSuffixOf text_model b m j
+rest_between i b j n k m p q e at =
+    let whole : (p.front ++ at.front) ++ at.rest ≡ q.front ++ chars j.now =
+    append_assoc p.front at.front at.rest ∙ (ap (λ xs. p.front ++ xs) (sym at.whole) ∙ (sym p.whole ∙ q.whole)) in
+    let cut = same_cut len_utf8 text_lawful.positive (p.front ++ at.front) at.rest q.front (chars j.now) whole
+    (omega (arith, items_len-append len_utf8 p.front at.front, p.length_is, at.length_is, q.length_is, e)) in
+    record {
+      known = q.known;
+      front = at.front;
+      whole = at.whole ∙ ap (λ xs. at.front ++ xs) cut.1;
+      length_is = at.length_is;
+      mark_is = refl;
+    }
+
+all_as : {P Q : ℕ → Type 0} (xs : List ℕ) → ((c : ℕ) → P c → Q c) → All P xs → All Q xs
+all_as xs f h = search rules
+
+stops_as : {P Q : ℕ → Type 0} (xs : List ℕ) → ((c : ℕ) → P c → Q c) → Stops P xs → Stops Q xs
+stops_as [] f h = tt
+stops_as (x ∷ xs) f h = f x h
+
+module _ (Names Values : ℕ → Bool → Type 0) (sign : ℕ) (is_sign : sign ≡ 61) (names : (c : ℕ) (b : Bool) → Names c b → b ≡ in_name c)
+    (values : (c : ℕ) (b : Bool) → Values c b → b ≡ in_value c) where
+  abbrev NameAnswers : Text → Outcome (Slice text_model) → Type 0
+  NameAnswers = LeafAnswers (runs text_model Names None 1) false
+
+  abbrev SignAnswers : Text → Outcome ℕ → Type 0
+  SignAnswers = LeafAnswers (heads text_model (λ x. x) (λ x b. b ≡ (x == sign)) (Some (len_utf8 sign))) false
+
+  abbrev ValueAnswers : Text → Outcome (Slice text_model) → Type 0
+  ValueAnswers = LeafAnswers (runs text_model Values None 1) false
+
+  abbrev BehindName : Text → Outcome (Slice text_model) → Type 0
+  BehindName = Then text_model (λ u v. v) SignAnswers (λ _. ValueAnswers)
+
+  abbrev LineAnswers : Text → Outcome (Slice text_model × Slice text_model) → Type 0
+  LineAnswers = Then text_model (λ u v. (u, v)) NameAnswers (λ _. BehindName)
+
+  named_by : (i j d v : Text) (n : ℕ) (t : Slice text_model × Slice text_model) →
+      (line : AreBoth text_model (λ u v. (u, v)) NameAnswers (λ _. BehindName) i n t) →
+      AreBoth text_model (λ u v. v) SignAnswers (λ _. ValueAnswers) line.between line.second_length line.second → IsSuffixOf text_model i n j →
+      IsModelledBy text_model t.0 d → IsModelledBy text_model t.1 v → IsNamed (chars i.now) (chars d.now) (chars v.now) (chars j.now)
+  named_by i j d v n t line behind r sd sv =
+      let name = run_read Names i d line.between line.first_length line.first line.first_accepts line.behind
+      (subst (λ s. IsModelledBy text_model s d) (ap (λ x. x.0) line.tree_is) sd) in
+      let at = behind.first_accepts in
+      let equals = behind_head sign at.0 behind.first_length at.1.rest line.between behind.between at.1.whole at.2 at.3 behind.behind in
+      let place = first_place text_model behind.between behind.second_length behind.second behind.second_accepts.0.first in
+      let before = rest_rest text_model text_lawful i line.first_length line.between behind.first_length behind.between line.behind behind.behind in
+      let rest = rest_between i behind.between j n (line.first_length + behind.first_length) behind.second_length before r
+      (omega (arith, line.length_is, behind.length_is)) place in
+      let value = run_read Values behind.between v j behind.second_length behind.second behind.second_accepts rest
+      (subst (λ s. IsModelledBy text_model s v) (ap (λ x. x.1) line.tree_is ∙ behind.tree_is) sv) in
+      record {
+        whole = name.whole ∙ ap (λ xs. chars d.now ++ xs) (equals ∙ (ap (λ c. c ∷ chars behind.between.now) is_sign ∙ ap (λ xs. 61 ∷ xs) value.whole));
+        some_name = name.some;
+        is_name = all_as (chars d.now) (λ c h. sym (names c true h)) name.meets;
+        some_value = value.some;
+        is_value = all_as (chars v.now) (λ c h. sym (values c true h)) value.meets;
+        ends = stops_as (chars j.now) (λ c h. sym (values c false h)) value.stops;
+      }
+
+  abbrev IsLine : Text → (Text × (Text × Text)) → Type 0
+  IsLine i a = IsNamed (chars i.now) (chars (a.1.0).now) (chars (a.1.1).now) (chars (a.0).now)
+
+  pub named_answer : {E : Type 0} {IsError : E → Type 0} {RunsOut : Type 0} (i : Text) (r : Result (Text × (Text × Text)) (Answer.Err E E Needed)) →
+      ParsesAnswer text_model (λ t o. IsModelledBy text_model t.0 o.0 × IsModelledBy text_model t.1 o.1) i (LineAnswers i) IsError RunsOut r → IfOk r (IsLine i)
+  named_answer i r (ParseRanOut e h) = subst (λ x. IfOk x (IsLine i)) (sym e) tt
+  named_answer i r (Parsed (Accept n t) a p) =
+      let line = both text_model (λ u v. (u, v)) NameAnswers (λ _. BehindName) i n t a in
+      let behind = both text_model (λ u v. v) SignAnswers (λ _. ValueAnswers) line.between line.second_length line.second line.second_accepts in
+      subst (λ x. IfOk x (IsLine i)) (sym p.4) (named_by i p.0 (p.1).0 (p.1).1 n t line behind p.2 (p.3).0 (p.3).1)
+  named_answer i r (Parsed Refuse a p) = subst (λ x. IfOk x (IsLine i)) (sym p.2) tt
+  named_answer i r (Parsed Fail a p) = subst (λ x. IfOk x (IsLine i)) (sym p.2) tt
+  named_answer i r (Parsed TooLarge a p) = subst (λ x. IfOk x (IsLine i)) (sym p.2) tt
+  named_answer i r (Parsed (Undecided k) a p) = subst (λ x. IfOk x (IsLine i)) (sym p.2) tt

@@ -1,0 +1,35 @@
+-- A name and its value.
+use Rattle.std.specs.Prelude.{◌≡◌, ℕ, ◌<◌, ◌==◌, ◌||◌, ◌&&◌, not, Bool, true, false, List, ◌∷◌, ◌++◌, length}
+use Rattle.std.specs.Borrow.{Bor}
+use Rattle.std.specs.Char.{is_ascii_alphanumeric}
+use Rattle.std.specs.List.{All}
+use Rattle.nom_error.specs.Errors.{Errors}
+use Rattle.nom_traits.specs.Runs.{Stops}
+use Rattle.nom_traits.specs.Slices.{Slice}
+use Rattle.nom_traits.specs.Text.{text_model}
+use Rattle.nom.specs.Grammar.{Grammar, separated_pair_of}
+use Rattle.nom.specs.Leaves.{char_of, take_while1_of}
+
+-- a letter, a digit, or `_`
+abbrev pub in_name : ℕ → Bool
+in_name c = is_ascii_alphanumeric c || (c == 95)
+
+-- no end of a line
+abbrev pub in_value : ℕ → Bool
+in_value c = not (c == 13) && not (c == 10)
+
+-- The characters are a name, `=`, a value that ends with its line, and the rest; neither is empty.
+pub record IsNamed (cs name value rest : List ℕ) : Type 0 where
+  pub whole : cs ≡ name ++ (61 ∷ (value ++ rest))
+  pub some_name : 0 < length name
+  pub is_name : All (λ c. in_name c ≡ true) name
+  pub some_value : 0 < length value
+  pub is_value : All (λ c. in_value c ≡ true) value
+  pub ends : Stops (λ c. in_value c ≡ false) rest
+
+abbrev Text : Type 0
+Text = Bor (List ℕ)
+
+-- the grammar of the line, with errors of any type
+abbrev pub line_of : {E : Type 0} → Errors Text E → Grammar Text (Slice text_model × Slice text_model) (Text × Text) E
+line_of errs = separated_pair_of text_model (take_while1_of text_model errs in_name) (char_of text_model errs 61) (take_while1_of text_model errs in_value)

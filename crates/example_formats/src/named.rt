@@ -1,0 +1,44 @@
+//! A name and its value, as `color=dark red`.
+ghost use Rattle.std.specs.Prelude.{◌≡◌, false, chars, IfOk};
+ghost use Rattle.nom_traits.specs.Text.{text_model};
+ghost use Rattle.nom.specs.Grammar.{Parses};
+ghost use Rattle.example_formats.specs.Named.{IsNamed, in_name, in_value, line_of};
+
+use nom::bytes::take_while1;
+use nom::character::char;
+use nom::error::ParseError;
+use nom::sequence::separated_pair;
+use nom::{IResult, Parser};
+
+/// Whether a character may stand in a name.
+fn is_named(c: char) -> bool
+    ensures { result ≡ in_name c }
+{
+    c.is_ascii_alphanumeric() || c == '_'
+}
+
+/// Whether a character may stand in a value.
+fn is_value(c: char) -> bool
+    ensures { result ≡ in_value c }
+{
+    c != '\r' && c != '\n'
+}
+
+/// A name, `=` and a value:
+///
+/// ```text
+/// line  = name '=' value
+/// name  = (letter | digit | '_')+
+/// value = (any character but the end of a line)+
+/// ```
+///
+/// The end of the line, or of the input, is left. The error type is the caller's.
+pub fn named_value<'a, E: ParseError<&'a str>>(
+    input: &'a str,
+) -> IResult<&'a str, (&'a str, &'a str), E>
+    ensures grammar { Parses text_model (line_of E.errors) false input.entry result }
+    ensures named { IfOk result (λ a. IsNamed (chars input.now) (chars a.1.0.now) (chars a.1.1.now) (chars a.0.now)) }
+{
+    let mut line = separated_pair(take_while1(is_named), char('='), take_while1(is_value));
+    line.parse_complete(input)
+}

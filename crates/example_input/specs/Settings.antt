@@ -1,0 +1,14 @@
+-- Settings of a file.
+use Rattle.std.specs.Prelude.{codes, chars}
+use Rattle.nom_error.specs.Errors.{Errors}
+use Rattle.nom_traits.specs.Compares.{ComparesText}
+use Rattle.nom_traits.specs.Slices.{Slice}
+use Rattle.nom.specs.Grammar.{Grammar, separated_pair_of}
+use Rattle.nom.specs.Leaves.{is_not_of, tag_of}
+use Rattle.example_input.specs.declared.source.Source.{Source}
+use Rattle.example_input.specs.Sources.{source_model}
+
+-- a name and a value with a `=` between them, neither of them empty; the value ends with its line
+abbrev pub setting_of : {E : Type 0} → Errors Source E → Grammar Source (Slice source_model × Slice source_model) (Source × Source) E
+setting_of errs = separated_pair_of source_model (is_not_of source_model errs (chars (codes "="))) (tag_of source_model errs ComparesText (codes "="))
+    (is_not_of source_model errs (chars (codes "\n")))

@@ -1,0 +1,13 @@
+-- How a text with the name of its file is seen: as the text, with the name as its mark.
+use Rattle.std.specs.Prelude.{ℕ, List}
+use Rattle.nom_traits.specs.Input.{Model}
+use Rattle.nom_traits.specs.Text.{text_model}
+use Rattle.nom.specs.Wrapped.{wrapped_model}
+use Rattle.example_input.specs.declared.source.Source.{Source}
+
+-- the characters of the file's name
+abbrev pub name : Source → List ℕ
+name s = s.file.now
+
+abbrev pub source_model : Model Source ℕ
+source_model = wrapped_model (λ s. s.text) name text_model

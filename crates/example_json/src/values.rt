@@ -1,0 +1,215 @@
+//! Values, which hold values: functions that call each other, down to a depth.
+ghost use Rattle.std.specs.Prelude.{◌≡◌, ◌+◌, ◌<◌, false, IfOk};
+ghost use Rattle.nom_traits.specs.Input.{input_len};
+ghost use Rattle.nom_traits.specs.Text.{text_model};
+ghost use Rattle.nom.specs.Texts.{Parses};
+ghost use Rattle.example_json.specs.Json.{array_of, behind_comma, json_of, json_text_of, list_of, member_of, object_of, refuses, scalar_of, value_of};
+
+use crate::scalars::{Answer, number, spaces, text, token, too_deep, word};
+use crate::tree::Json;
+use nom::combinator::eof;
+use nom::{Err, Items};
+use std::alloc::Global;
+
+/// A place in a text.
+#[derive(Clone, Copy)]
+pub struct Place<'a> {
+    text: &'a str,
+}
+
+/// Whether an answer is a refusal, so that another branch is tried.
+fn is_refused<'a, T>(answer: &Answer<'a, T>) -> bool
+    ensures { result ≡ refuses answer.now }
+{
+    match answer {
+        Err(Err::Error(_)) => true,
+        _ => false,
+    }
+}
+
+/// A word, a number or a text.
+fn scalar<'a>(input: &'a str) -> Answer<'a, Json<'a>>
+    ensures { Parses scalar_of false input.entry result }
+{
+    let answer = word(input);
+    if !is_refused(&answer) {
+        return answer;
+    }
+    let answer = number(input);
+    if !is_refused(&answer) {
+        return answer;
+    }
+    let (rest, text) = text(input)?;
+    Ok((rest, Json::String(text)))
+}
+
+/// A value, in which `depth` brackets may lie in each other.
+#[cycle(values)]
+fn value<'a>(alloc: Global, depth: usize, input: &'a str) -> Answer<'a, Json<'a>>
+    ensures { Parses (value_of depth) false input.entry result }
+{
+    let answer = scalar(input);
+    if !is_refused(&answer) {
+        return answer;
+    }
+    if depth == 0 {
+        return too_deep(input);
+    }
+    let answer = array(alloc, depth - 1, input);
+    if !is_refused(&answer) {
+        return answer;
+    }
+    object(alloc, depth - 1, input)
+}
+
+/// An array, whose values hold `depth` brackets in each other.
+#[cycle(values)]
+fn array<'a>(alloc: Global, depth: usize, input: &'a str) -> Answer<'a, Json<'a>>
+    ensures { Parses (array_of (value_of depth)) false input.entry result }
+{
+    let (inside, _) = token(input, '[')?;
+    let (behind, list) = elements(alloc, depth, Place { text: inside })?;
+    let (rest, _) = token(behind, ']')?;
+    Ok((rest, Json::Array(list)))
+}
+
+/// An object, whose values hold `depth` brackets in each other.
+#[cycle(values)]
+fn object<'a>(alloc: Global, depth: usize, input: &'a str) -> Answer<'a, Json<'a>>
+    ensures { Parses (object_of (value_of depth)) false input.entry result }
+{
+    let (inside, _) = token(input, '{')?;
+    let (behind, list) = members(alloc, depth, Place { text: inside })?;
+    let (rest, _) = token(behind, '}')?;
+    Ok((rest, Json::Object(list)))
+}
+
+/// The values of an array.
+#[cycle(values)]
+fn elements<'a>(alloc: Global, depth: usize, start: Place<'a>) -> Answer<'a, Vec<Json<'a>>>
+    ensures { Parses (list_of (value_of depth)) false start.entry.text result }
+{
+    start.text.prove_known();
+    let mut list = Vec::new(alloc);
+    let answer = value(alloc, depth, start.text);
+    if is_refused(&answer) {
+        return Ok((start.text, list));
+    }
+    let (rest, first) = answer?;
+    if list.push(first).is_err() {
+        return Err(Err::OutOfMemory);
+    }
+    let mut place = Place { text: rest };
+    loop {
+        let answer = next_element(alloc, depth, place.text);
+        if is_refused(&answer) {
+            return Ok((place.text, list));
+        }
+        let (rest, item) = answer?;
+        if list.push(item).is_err() {
+            return Err(Err::OutOfMemory);
+        }
+        place = Place { text: rest };
+    }
+}
+
+/// The members of an object.
+#[cycle(values)]
+fn members<'a>(
+    alloc: Global,
+    depth: usize,
+    start: Place<'a>,
+) -> Answer<'a, Vec<(&'a str, Json<'a>)>>
+    ensures { Parses (list_of (member_of (value_of depth))) false start.entry.text result }
+{
+    start.text.prove_known();
+    let mut list = Vec::new(alloc);
+    let answer = member(alloc, depth, start.text);
+    if is_refused(&answer) {
+        return Ok((start.text, list));
+    }
+    let (rest, first) = answer?;
+    if list.push(first).is_err() {
+        return Err(Err::OutOfMemory);
+    }
+    let mut place = Place { text: rest };
+    loop {
+        let answer = next_member(alloc, depth, place.text);
+        if is_refused(&answer) {
+            return Ok((place.text, list));
+        }
+        let (rest, item) = answer?;
+        if list.push(item).is_err() {
+            return Err(Err::OutOfMemory);
+        }
+        place = Place { text: rest };
+    }
+}
+
+/// A comma, and a value after it.
+#[cycle(values)]
+fn next_element<'a>(alloc: Global, depth: usize, input: &'a str) -> Answer<'a, Json<'a>>
+    ensures shown { Parses (behind_comma (value_of depth)) false input.entry result }
+    ensures moves { IfOk result (λ a. input_len text_model a.0 < input_len text_model input.entry) }
+{
+    let (behind, _) = token(input, ',')?;
+    value(alloc, depth, behind)
+}
+
+/// A comma, and a member after it.
+#[cycle(values)]
+fn next_member<'a>(alloc: Global, depth: usize, input: &'a str) -> Answer<'a, (&'a str, Json<'a>)>
+    ensures shown { Parses (behind_comma (member_of (value_of depth))) false input.entry result }
+    ensures moves { IfOk result (λ a. input_len text_model a.0 < input_len text_model input.entry) }
+{
+    let (behind, _) = token(input, ',')?;
+    member(alloc, depth, behind)
+}
+
+/// A name and its value.
+#[cycle(values)]
+fn member<'a>(alloc: Global, depth: usize, input: &'a str) -> Answer<'a, (&'a str, Json<'a>)>
+    ensures { Parses (member_of (value_of depth)) false input.entry result }
+{
+    let (behind, name) = text(input)?;
+    let (inside, _) = token(behind, ':')?;
+    let (rest, item) = value(alloc, depth, inside)?;
+    Ok((rest, (name, item)))
+}
+
+/// A value of JSON to its tree, by the grammar of RFC 8259:
+///
+/// ```text
+/// json   = space* value
+/// value  = word | number | text | array | object
+/// word   = ('null' | 'true' | 'false') space*
+/// number = '-'? ('0' | digit+) ('.' digit+)? (('e' | 'E') ('+' | '-')? digit+)? space*
+/// text   = '"' (plain | '\' escape)* '"' space*
+/// escape = one of '"\/bfnrt' | 'u' hex hex hex hex
+/// array  = '[' space* (value (',' space* value)*)? ']' space*
+/// object = '{' space* (member (',' space* member)*)? '}' space*
+/// member = text ':' space* value
+/// ```
+///
+/// A plain character is any but the quote, the backslash and those below a space; a space is a space, a tab, a line feed or
+/// a carriage return. Half a pair of surrogates may be written alone, as the RFC has it: `decoded` refuses it. What follows
+/// the value is left, so that `01` is the number `0` with `1` after it: `json_text` refuses what is left.
+///
+/// A text that isn't one is refused. Where more than `depth` brackets lie in each other, that is a failure with `Fail` at the
+/// bracket: so `depth` bounds the stack that a hostile text can take.
+pub fn json<'a>(alloc: Global, depth: usize, input: &'a str) -> Answer<'a, Json<'a>>
+    ensures { Parses (json_of depth) false input.entry result }
+{
+    let (inside, _) = spaces(input)?;
+    value(alloc, depth, inside)
+}
+
+/// A whole JSON text to its tree: what `json` reads, with nothing after it. What is left is refused with `Eof`, where it
+/// begins.
+pub fn json_text<'a>(alloc: Global, depth: usize, input: &'a str) -> Answer<'a, Json<'a>>
+    ensures { Parses (json_text_of depth) false input.entry result }
+{
+    let (behind, value) = json(alloc, depth, input)?;
+    let (rest, _) = eof(behind)?;
+    Ok((rest, value))
+}

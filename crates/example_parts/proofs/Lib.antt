@@ -1,0 +1,2 @@
+pub mod FirstItem
+pub mod TokenItems

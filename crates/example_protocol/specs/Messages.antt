@@ -1,0 +1,38 @@
+-- Messages after their lengths.
+use Rattle.std.specs.Prelude.{◌≡◌, ℕ, ◌⊎◌, Bool, true, List, [], ◌∷◌, Result, Err, Vec}
+use Rattle.nom_error.specs.declared.answer.Needed.{Needed}
+use Rattle.nom_error.specs.declared.answer.Err as Answer
+use Rattle.nom_error.specs.declared.answer.Err.TheVariants.{OutOfMemory}
+use Rattle.nom_error.specs.declared.value.Error.{Error}
+use Rattle.nom_traits.specs.Bytes.{bytes_model}
+use Rattle.nom_traits.specs.Slices.{Slice}
+use Rattle.nom_internal.specs.Outcome.{Outcome, Parses}
+use Rattle.nom.specs.Bytes.{Bytes, BytesGrammar, all_consuming_of, alt_of, length_data_of, length_value_of, many0_of, map_of, number_of, or_of}
+use Rattle.nom.specs.Bytes.{pair_of, preceded_of, tag_of, terminated_of}
+use Rattle.example_protocol.specs.declared.message.Message.{Message}
+use Rattle.example_protocol.specs.declared.message.Message.TheVariants.{Ping, Text, Close}
+
+-- a ping, a text, or a leave
+abbrev pub Body : Type 0
+Body = ((Slice bytes_model × ℕ) ⊎ (ℕ × Slice bytes_model)) ⊎ Slice bytes_model
+
+-- By which bytes each kind begins and the messages end. Numbers of several bytes have the highest first (true), or last.
+module _ (ping text close end : List ℕ) (length_first number_first : Bool) where
+  abbrev pub body_of : BytesGrammar Body Message
+  body_of = alt_of (or_of (or_of
+      (map_of (λ o. Ping o.1) (pair_of (tag_of ping) (number_of number_first 4)))
+      (map_of Text (preceded_of (tag_of text) (length_data_of (number_of true 1)))))
+      (map_of (λ _. Close) (tag_of close)))
+
+  -- messages, each a body after its length, and an end
+  abbrev pub written_of : {M : Type 0} → BytesGrammar (List Body) (Vec Message M)
+  written_of = terminated_of (many0_of (length_value_of (number_of length_first 2) (all_consuming_of body_of))) (tag_of end)
+
+abbrev pub messages_of : {M : Type 0} → BytesGrammar (List Body) (Vec Message M)
+messages_of = written_of (1 ∷ []) (2 ∷ []) (3 ∷ []) (0 ∷ 0 ∷ []) true true
+
+-- What is answered is what the grammar makes of the whole, running out of memory aside: nothing tells where the cuts were, but an error, which
+-- holds the input as it was on a beginning.
+abbrev pub TellsWhole : {M : Type 0} → Bytes → Result (Bytes × Vec Message M) (Answer.Err (Error Bytes) (Error Bytes) Needed) → Type 0
+TellsWhole {M} whole r = (o : Outcome (List Body)) → (messages_of {M = M}).meaning.answers true whole o → (r ≡ Err OutOfMemory) ⊎
+    ((beginning : Bytes) × Parses bytes_model (messages_of {M = M}).IsOutput whole ((messages_of {M = M}).meaning.blames true beginning) o r)

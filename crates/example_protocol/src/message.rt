@@ -1,0 +1,100 @@
+//! Messages after their lengths, which come in pieces.
+ghost use Rattle.std.specs.Prelude.{◌≡◌};
+ghost use Rattle.nom_traits.specs.Bytes.{bytes_model};
+ghost use Rattle.nom_growing.specs.Growing.{AreCuts, IsGrown};
+ghost use Rattle.nom_growing.specs.Promises.{HasNoFailure};
+ghost use Rattle.example_protocol.specs.Messages.{TellsWhole, messages_of};
+ghost use Rattle.example_protocol.specs.declared.message.Message.TheVariants.{Ping, Text, Close};
+
+use nom::branch::alt;
+use nom::bytes::tag;
+use nom::combinator::{all_consuming, map};
+use nom::error::Error;
+use nom::multi::{length_data, length_value, many0};
+use nom::number::{be_u8, be_u16, be_u32};
+use nom::promises::has_no_failure;
+use nom::sequence::{pair, preceded, terminated};
+use nom::{Grown, Input, Items, StreamParser, Viewed, parse_growing};
+use std::alloc::Allocator;
+
+/// A message.
+#[derive(Clone, Copy, Debug, PartialEq, Eq)]
+pub enum Message<'a> {
+    /// Asks for an answer of the same number.
+    Ping(u32),
+    /// A text, as its bytes.
+    Text(&'a [u8]),
+    /// The other side leaves.
+    Close,
+}
+
+impl<'a> Viewed for Message<'a> {}
+
+fn ping<'a>(kind_and_number: (&'a [u8], u32)) -> Message<'a>
+    ensures { result ≡ Ping kind_and_number.entry.1 }
+{
+    Message::Ping(kind_and_number.1)
+}
+
+fn text<'a>(bytes: &'a [u8]) -> Message<'a>
+    ensures { result ≡ Text bytes.entry }
+{
+    Message::Text(bytes)
+}
+
+fn close<'a>(_kind: &'a [u8]) -> Message<'a>
+    ensures { result ≡ Close }
+{
+    Message::Close
+}
+
+/// What a parser answers of an input that grows, and that it never fails: by one call, since each call with a
+/// concrete parser spells out all that the parser is made of.
+fn unfailing<I: Input, P: StreamParser<I> + Drop>(
+    parser: P,
+    input: I,
+    cuts: &[usize],
+) -> Grown<I, P::Output, P::Error>
+    requires sound { (P.meaning (P.state parser)).IsSound }
+    requires cuts { AreCuts I.model input cuts.now }
+    ensures grown { IsGrown I.model (P.IsOutput (P.state parser)) (P.meaning (P.state parser)) input cuts.now result.index result.result }
+    ensures failures { HasNoFailure I.model (P.meaning (P.state parser)) }
+{
+    has_no_failure(&parser);
+    parse_growing(parser, input, cuts)
+}
+
+/// The messages of a source, of which each number of `cuts` tells how many bytes were there when it gave the
+/// next piece:
+///
+/// ```text
+/// messages = message* 0 0
+/// message  = length:u16 body           (the length is the body's, in bytes; numbers have the highest byte first)
+/// body     = 1 number:u32 | 2 length:u8 bytes | 3
+/// ```
+///
+/// What the whole is answered by is what is answered here, wherever the cuts lie. A body that isn't one, or is
+/// longer than its message, ends the messages: the input is refused there, with `Tag`. It never fails.
+pub fn messages<'a, A: Allocator + Copy>(
+    alloc: A,
+    bytes: &'a [u8],
+    cuts: &[usize],
+) -> Grown<&'a [u8], Vec<Message<'a>, A>, Error<&'a [u8]>>
+    requires { AreCuts bytes_model bytes cuts.now }
+    ensures { TellsWhole bytes.entry result.result ×
+        IsGrown bytes_model (messages_of {M = A}).IsOutput (messages_of {M = A}).meaning bytes.entry cuts.now result.index result.result ×
+        HasNoFailure bytes_model (messages_of {M = A}).meaning }
+{
+    bytes.prove_known();
+    let number = pair(tag::<_, _, Error<&[u8]>>(&b"\x01"[..]), be_u32());
+    let string = preceded(
+        tag::<_, _, Error<&[u8]>>(&b"\x02"[..]),
+        length_data(be_u8()),
+    );
+    let leave = tag::<_, _, Error<&[u8]>>(&b"\x03"[..]);
+    let body = all_consuming(alt((map(number, ping), map(string, text), map(leave, close))));
+    let message = length_value(be_u16(), body);
+    let end = tag::<_, _, Error<&[u8]>>(&b"\0\0"[..]);
+    let stream = terminated(many0(alloc, message), end);
+    unfailing(stream, bytes, cuts)
+}

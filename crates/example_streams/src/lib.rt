@@ -1,0 +1,6 @@
+//! Grammars of items that come in a stream: records, and the messages of `example_protocol`.
+#![tactic(auto)]
+
+pub mod fields;
+pub mod messages;
+pub mod records;

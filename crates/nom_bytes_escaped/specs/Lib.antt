@@ -1,0 +1,5 @@
+pub mod EscapeLaws
+pub mod Escapes
+pub mod NextPieceLaws
+pub mod NextPieces
+pub mod Texts

@@ -1,0 +1,98 @@
+//! Texts with escapes, as they stand.
+ghost use Rattle.std.specs.Prelude.{◌≡◌, ℕ};
+ghost use Rattle.nom_traits.specs.Slices.{Slice, IsModelledBy};
+ghost use Rattle.nom_bytes_escaped.specs.Escapes.{escaped_meaning};
+
+use crate::next_piece::{NextPiece, piece_at, told};
+use nom_error::answer::{Err, Needed, PResult};
+use nom_error::kind::ErrorKind;
+use nom_error::mode::{Check, OutputM, OutputMode};
+use nom_error::value::refusal;
+use nom_internal::parser::{Parser, StreamParser};
+use nom_internal::slices::before;
+use nom_traits::character::AsChar;
+use nom_traits::input::Input;
+
+/// A text with escapes, made by `escaped`.
+#[derive(Drop)]
+pub struct Escaped<F, G> {
+    pub normal: F,
+    pub control_char: char,
+    pub escapable: G,
+}
+
+impl<I: Input, F: Parser<I> + Drop, G: Parser<I, Error = F::Error> + Drop> Parser<I>
+    for Escaped<F, G>
+where
+    I::Item: AsChar,
+{
+    ghost use Rattle.nom_bytes_escaped.specs.EscapeLaws.{escaped_lawful};
+
+    type Output = I;
+
+    type Error = F::Error;
+
+    ghost State = { F.State × ℕ × G.State };
+
+    ghost state = { λ p. (F.state p.normal, p.control_char, G.state p.escapable) };
+
+    ghost Tree = { Slice I.model };
+
+    ghost IsOutput = { λ _. IsModelledBy I.model };
+
+    ghost meaning = { λ s. escaped_meaning I.model F.Error.errors (λ x. I.Item.code x ≡ s.1) (F.meaning s.0) (G.meaning s.2) };
+
+    ghost Pins = { λ _. Unit {0} };
+
+    #[inline]
+    fn process<OM: OutputMode>(&mut self, input: I) -> PResult<I, I, F::Error> {
+        input.prove_known();
+        let lack = Needed::new(1);
+        let mut rest = input;
+        loop {
+            let (next, next_piece) = piece_at::<OutputM<Check, OM::Error, OM::Incomplete>, I, F, G>(
+                &mut self.normal,
+                self.control_char,
+                &mut self.escapable,
+                lack,
+                rest,
+            )?;
+            match told(next_piece) {
+                NextPiece::Found(_) => {
+                    if next.input_len() == rest.input_len() {
+                        return Ok((rest, before::<OM::Output, I>(input, rest)));
+                    }
+                    rest = next;
+                }
+                NextPiece::Other => {
+                    if rest.input_len() == input.input_len() {
+                        return Err(refusal::<OM::Error, I, F::Error>(input, ErrorKind::Escaped));
+                    }
+                    return Ok((rest, before::<OM::Output, I>(input, rest)));
+                }
+                NextPiece::Dangling => {
+                    return Err(refusal::<OM::Error, I, F::Error>(input, ErrorKind::Escaped));
+                }
+                NextPiece::Done => return Ok((rest, before::<OM::Output, I>(input, rest))),
+            }
+        }
+    }
+
+    ghost lawful = { λ s k. escaped_lawful I.model I.lawful F.Error.errors (λ x. I.Item.code x ≡ s.1) (F.meaning s.0) (G.meaning s.2)
+        (F.lawful s.0 k.1.0) (G.lawful s.2 k.1.1.1) };
+}
+
+impl<I: Input, F: StreamParser<I> + Drop, G: StreamParser<I, Error = F::Error> + Drop> StreamParser<
+    I,
+> for Escaped<F, G>
+where
+    I::Item: AsChar,
+{
+    ghost use Rattle.nom_internal.specs.Pinned.{slice_pinned};
+    ghost use Rattle.nom_bytes_escaped.specs.EscapeLaws.{escaped_steady};
+
+    ghost pinned = { λ s k p. slice_pinned I.model I.view I.views };
+
+    ghost steady = { λ s k. escaped_steady I.model I.lawful F.Error.errors (λ x. I.Item.code x ≡ s.1) (F.meaning s.0) (G.meaning s.2)
+        (F.steady s.0 k.1.0) (G.steady s.2 k.1.1.1) };
+}

@@ -1,0 +1,172 @@
+//! Texts with escapes, as they are meant.
+ghost use Rattle.std.specs.Prelude.{◌≡◌, ℕ, List, [], IsTrue, IsSome, false};
+ghost use Rattle.nom_error.specs.Modes.{Built};
+ghost use Rattle.nom_bytes_escaped.specs.declared.next_piece.Piece.{Piece};
+ghost use Rattle.nom_bytes_escaped.specs.Texts.{AddAll, IsAppended, IsExtended};
+ghost use Rattle.nom_bytes_escaped.specs.Escapes.{escaped_transform_meaning};
+
+use crate::next_piece::{NextPiece, Piece, piece_at, told};
+use nom_error::answer::{Err, Needed, PResult};
+use nom_error::kind::ErrorKind;
+use nom_error::mode::{Mode, OutputMode};
+use nom_error::value::refusal;
+use nom_internal::parser::{Parser, StreamParser};
+use nom_search::extend::{Builder, ExtendInto};
+use nom_traits::character::AsChar;
+use nom_traits::input::{Input, Value};
+use std::alloc::Allocator;
+
+/// A text with escapes whose pieces are put together, made by `escaped_transform`.
+#[derive(Drop)]
+pub struct EscapedTransform<A, F, G> {
+    pub alloc: A,
+    pub normal: F,
+    pub control_char: char,
+    pub transform: G,
+}
+
+/// An empty text, where texts are built.
+#[inline(always)]
+fn no_text<M: Mode, A: Allocator + Copy, X: Builder + Drop, I: ExtendInto<A, Extender = X>>(
+    input: &I,
+    alloc: A,
+) -> Option<X>
+    ensures { Built M.BUILDS (λ text. X.parts text ≡ []) result }
+{
+    if M::BUILDS {
+        Some(input.new_builder(alloc))
+    } else {
+        None
+    }
+}
+
+/// Appends a value, where texts are built, and tells whether there was memory for it.
+#[inline(always)]
+fn append<A: Allocator + Copy, X: Builder + Drop, O: ExtendInto<A, Extender = X> + Drop>(
+    text: &mut Option<X>,
+    value: Option<O>,
+) -> bool
+    ensures kept { IsTrue result → IsAppended X.parts O.added text.old value text.new }
+    ensures refused { result ≡ false → IsSome text.old }
+{
+    match (text, value) {
+        (Some(text), Some(value)) => value.extend_into(text).is_ok(),
+        _ => true,
+    }
+}
+
+/// Appends the value of a piece, as `append` does.
+#[inline(always)]
+fn extend<
+    A: Allocator + Copy,
+    X: Builder + Drop,
+    O: ExtendInto<A, Extender = X> + Drop,
+    P: ExtendInto<A, Extender = X> + Drop,
+>(text: &mut Option<X>, piece: Piece<Option<O>, Option<P>>) -> bool
+    ensures kept { IsTrue result → IsExtended X.parts O.added P.added text.old piece text.new }
+    ensures refused { result ≡ false → IsSome text.old }
+{
+    match piece {
+        Piece::Normal(value) => append::<A, X, O>(text, value),
+        Piece::Escapable(value) => append::<A, X, P>(text, value),
+    }
+}
+
+impl<
+    A: Allocator + Copy,
+    X: Builder + Drop,
+    C: AsChar + Value,
+    I: Input<Item = C> + ExtendInto<A, Extender = X>,
+    F: Parser<I> + Drop,
+    G: Parser<I, Error = F::Error> + Drop,
+> Parser<I> for EscapedTransform<A, F, G>
+where
+    F::Output: ExtendInto<A, Extender = X>,
+    G::Output: ExtendInto<A, Extender = X>,
+{
+    ghost use Rattle.nom_bytes_escaped.specs.EscapeLaws.{escaped_transform_lawful};
+
+    type Output = X;
+
+    type Error = F::Error;
+
+    ghost State = { F.State × ℕ × G.State };
+
+    ghost state = { λ p. (F.state p.normal, p.control_char, G.state p.transform) };
+
+    ghost Tree = { List (Piece F.Tree G.Tree) };
+
+    ghost IsOutput = { λ s vs text. AddAll (F.IsOutput s.0) (G.IsOutput s.2) F.Output.added G.Output.added vs (X.parts text) };
+
+    ghost meaning = { λ s. escaped_transform_meaning I.model F.Error.errors (λ x. C.code x ≡ s.1) (F.meaning s.0) (G.meaning s.2) };
+
+    ghost Pins = { λ s. F.Pins s.0 × G.Pins s.2 };
+
+    #[inline]
+    fn process<OM: OutputMode>(&mut self, input: I) -> PResult<I, X, F::Error> {
+        input.prove_known();
+        let mut rest = input;
+        let mut text = no_text::<OM::Output, A, X, I>(&input, self.alloc);
+        loop {
+            let (next, next_piece) = piece_at::<OM, I, F, G>(
+                &mut self.normal,
+                self.control_char,
+                &mut self.transform,
+                Needed::Unknown,
+                rest,
+            )?;
+            match told(next_piece) {
+                NextPiece::Found(piece) => {
+                    if !extend::<A, X, F::Output, G::Output>(&mut text, piece) {
+                        return Err(Err::OutOfMemory);
+                    }
+                    if next.input_len() == rest.input_len() {
+                        return Ok((rest, text));
+                    }
+                    rest = next;
+                }
+                NextPiece::Other => {
+                    if rest.input_len() == input.input_len() {
+                        return Err(refusal::<OM::Error, I, F::Error>(
+                            input,
+                            ErrorKind::EscapedTransform,
+                        ));
+                    }
+                    return Ok((rest, text));
+                }
+                NextPiece::Dangling => {
+                    return Err(refusal::<OM::Error, I, F::Error>(
+                        rest,
+                        ErrorKind::EscapedTransform,
+                    ));
+                }
+                NextPiece::Done => return Ok((rest, text)),
+            }
+        }
+    }
+
+    ghost lawful = { λ s k. escaped_transform_lawful I.model I.lawful F.Error.errors (λ x. C.code x ≡ s.1) (F.meaning s.0) (G.meaning s.2)
+        (F.lawful s.0 k.1.0) (G.lawful s.2 k.1.1.1) };
+}
+
+impl<
+    A: Allocator + Copy,
+    X: Builder + Drop,
+    C: AsChar + Value,
+    I: Input<Item = C> + ExtendInto<A, Extender = X>,
+    F: StreamParser<I> + Drop,
+    G: StreamParser<I, Error = F::Error> + Drop,
+> StreamParser<I> for EscapedTransform<A, F, G>
+where
+    F::Output: ExtendInto<A, Extender = X>,
+    G::Output: ExtendInto<A, Extender = X>,
+{
+    ghost use Rattle.nom_bytes_escaped.specs.EscapeLaws.{escaped_transform_steady};
+    ghost use Rattle.nom_bytes_escaped.specs.Texts.{texts_pinned};
+
+    ghost pinned = { λ s k p. texts_pinned X.view X.parts X.views F.Output.view G.Output.view (F.IsOutput s.0)
+        (G.IsOutput s.2) F.Output.added G.Output.added F.Output.views G.Output.views (F.pinned s.0 k.1.0 p.0) (G.pinned s.2 k.1.1.1 p.1) };
+
+    ghost steady = { λ s k. escaped_transform_steady I.model I.lawful F.Error.errors (λ x. C.code x ≡ s.1) (F.meaning s.0) (G.meaning s.2)
+        (F.steady s.0 k.1.0) (G.steady s.2 k.1.1.1) };
+}

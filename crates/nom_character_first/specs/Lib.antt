@@ -1,0 +1,2 @@
+pub mod FirstItemLaws
+pub mod FirstItem

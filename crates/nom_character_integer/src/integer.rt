@@ -1,0 +1,205 @@
+//! Whole numbers in decimal digits.
+ghost use Rattle.std.specs.Prelude.{◌≡◌, ◌<◌, ◌+◌, ◌-◌, ◌*◌, ℕ, Bool, ℤ, true, false, [], ◌∷◌, MatchOption};
+ghost use Rattle.std.proofs.Common.{sym, ◌∙◌};
+ghost use Rattle.nom_traits.specs.Classes.{is_dec_digit_code};
+ghost use Rattle.nom_error.specs.Modes.{Built};
+ghost use Rattle.num_traits.specs.Laws.{Checks};
+ghost use Rattle.nom_character_integer.specs.Integers.{with_sign, sign_of, integer_meaning};
+ghost use Rattle.nom_character_integer.specs.IntegerLaws.{integer_lawful, integer_steady, range_of};
+ghost use Rattle.nom_character_integer.specs.Read.{BehindSign, IsRead, IsUnfit};
+
+use nom_character_first::first::first;
+use nom_error::answer::{Err, Needed, PResult};
+use nom_error::kind::ErrorKind;
+use nom_error::mode::{IsStreaming, Mode, OutputMode};
+use nom_error::value::{ParseError, refusal};
+use nom_internal::parser::{Parser, StreamParser};
+use nom_traits::character::AsChar;
+use nom_traits::input::Input;
+use nom_traits::view::Viewed;
+use num_traits::{NumCast, PrimInt, Zero};
+use std::marker::PhantomData;
+
+/// The number with one more digit after its own; `None` where the type doesn't have it.
+#[inline(always)]
+fn followed_by<T: PrimInt>(number: T, digit: u8, negative: bool) -> Option<T>
+    requires digit { digit < 10 }
+    ensures { (n : ℕ) → T.value number ≡ with_sign negative n → Checks T.value T.fits (with_sign negative (10 * n + digit)) result }
+{
+    let tens = number.checked_mul(&<T as NumCast>::from(10u8)?)?;
+    let ones = <T as NumCast>::from(digit)?;
+    if negative {
+        tens.checked_sub(&ones)
+    } else {
+        tens.checked_add(&ones)
+    }
+}
+
+/// The value of an item that is a decimal digit.
+#[inline(always)]
+fn digit_of<C: AsChar>(item: C) -> Option<u8>
+    ensures { MatchOption result (is_dec_digit_code (C.code item) ≡ false) (λ d. (is_dec_digit_code (C.code item) ≡ true) × (d ≡ C.code item - 48)) }
+{
+    if item.is_dec_digit() {
+        Some((item.as_char() as u32 - 48) as u8)
+    } else {
+        None
+    }
+}
+
+/// The sign at the start of an input, where one may stand there.
+#[inline(always)]
+fn sign_at<I: Input>(input: I, signed: bool) -> Option<I::Item>
+where
+    I::Item: AsChar,
+    ensures { MatchOption result (sign_of I.Item.code signed (I.model.elements input) ≡ [])
+        (λ x. sign_of I.Item.code signed (I.model.elements input) ≡ x ∷ []) }
+{
+    if !signed {
+        return None;
+    }
+    match first(input) {
+        Some(item) if item.as_char() == '+' || item.as_char() == '-' => Some(item),
+        _ => None,
+    }
+}
+
+/// What stands after a sign.
+#[derive(Drop)]
+pub struct Unsigned<I> {
+    /// Whether the sign is a minus.
+    pub negative: bool,
+    /// The input after the sign.
+    pub digits: I,
+}
+
+/// The input after its sign, where one may stand first.
+#[inline(always)]
+fn behind_sign<I: Input>(input: I, signed: bool) -> Unsigned<I>
+where
+    I::Item: AsChar,
+    ensures { BehindSign I.model I.Item.code signed input result }
+{
+    input.prove_known();
+    match sign_at(input, signed) {
+        Some(sign) => Unsigned {
+            negative: sign.as_char() == '-',
+            digits: input.take_from(input.item_len(&sign)),
+        },
+        None => Unsigned {
+            negative: false,
+            digits: input,
+        },
+    }
+}
+
+/// A number that was read.
+#[derive(Drop)]
+pub struct Number<T> {
+    /// The number.
+    pub value: T,
+    /// The length of its digits.
+    pub length: usize,
+    /// Whether an item follows them.
+    pub followed: bool,
+}
+
+/// The number that the first digits write; `None` where the type doesn't have it, which is told at the
+/// digit that is too much.
+#[inline(always)]
+fn number_at<I: Input, T: PrimInt>(input: I, negative: bool) -> Option<Number<T>>
+where
+    I::Item: AsChar,
+    ensures { MatchOption result (IsUnfit I.model I.Item.code T.fits negative input) (IsRead I.model I.Item.code T.value T.fits negative input) }
+{
+    let mut value = T::zero();
+    for (length, item) in input.iter_indices() {
+        match digit_of(item) {
+            None => {
+                return Some(Number {
+                    value,
+                    length,
+                    followed: true,
+                });
+            }
+            Some(digit) => match followed_by(value, digit, negative) {
+                None => return None,
+                Some(more) => value = more,
+            },
+        }
+    }
+    Some(Number {
+        value,
+        length: input.input_len(),
+        followed: false,
+    })
+}
+
+/// What is built of a number.
+#[inline(always)]
+fn built<M: Mode, T: Drop>(value: T) -> Option<T>
+    ensures { Built M.BUILDS (λ x. x ≡ value) result }
+{
+    if M::BUILDS { Some(value) } else { None }
+}
+
+/// A whole number in decimal digits, of a type of numbers, made by `u8` and its like.
+#[derive(Drop)]
+pub struct Integer<T, I, E> {
+    /// Whether a sign may stand first.
+    pub signed: bool,
+    /// The types of the number, of the input and of the error.
+    pub types: PhantomData<(T, I, E)>,
+}
+
+impl<I: Input, T: PrimInt + Viewed, E: ParseError<I>> Parser<I> for Integer<T, I, E>
+where
+    I::Item: AsChar,
+{
+    type Output = T;
+
+    type Error = E;
+
+    ghost State = { Bool };
+
+    ghost state = { λ p. p.signed };
+
+    ghost Tree = { ℤ };
+
+    ghost IsOutput = { λ _ z x. T.value x ≡ z };
+
+    ghost meaning = { λ signed. integer_meaning I.model I.Item.code signed T.fits E.errors };
+
+    ghost Pins = { λ _. (x y : T) → T.value x ≡ T.value y → T.view.value x ≡ T.view.value y };
+
+    #[inline(always)]
+    fn process<OM: OutputMode>(&mut self, input: I) -> PResult<I, T, E> {
+        let behind = behind_sign(input, self.signed);
+        match number_at::<I, T>(behind.digits, behind.negative) {
+            None => Err(refusal::<OM::Error, I, E>(input, ErrorKind::Digit)),
+            Some(number) if !number.followed && OM::Incomplete::STREAMING => {
+                Err(Err::Incomplete(Needed::new(1)))
+            }
+            Some(number) if number.length == 0 => {
+                Err(refusal::<OM::Error, I, E>(input, ErrorKind::Digit))
+            }
+            Some(number) => Ok((
+                behind.digits.take_from(number.length),
+                built::<OM::Output, T>(number.value),
+            )),
+        }
+    }
+
+    ghost lawful = { λ signed k. integer_lawful I.model I.Item.code signed T.fits (range_of T.fits T.exact T.exact_law T.small_fits_law T.between_law)
+        E.errors };
+}
+
+impl<I: Input, T: PrimInt + Viewed, E: ParseError<I>> StreamParser<I> for Integer<T, I, E>
+where
+    I::Item: AsChar,
+{
+    ghost pinned = { λ s k p t x y f g. p x y (f ∙ sym g) };
+
+    ghost steady = { λ signed k. integer_steady I.model I.Item.code signed T.fits (range_of T.fits T.exact T.exact_law T.small_fits_law T.between_law)
+        E.errors };
+}

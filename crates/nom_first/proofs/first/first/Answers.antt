@@ -1,7 +1,0 @@
-use Rattle.nom_first.proofs.Firsts.{first_given}
-use Rattle.nom_first.proofs.first.first.Goals as goal
-
-pub returns : goal.returns
-returns g c =
-    first_given g.I.Items.seen g.I.Iter.Iterator.next_gives c.iter_elements.result c.next.new.self c.args.input c.next.result
-    c.iter_elements.ensures.gives c.next.ensures.steps

@@ -1,2 +1,0 @@
-pub mod HeadLaws
-pub mod Heads

@@ -1,5 +1,0 @@
-use Rattle.nom_folds.proofs.Accepting.{fold_many0_accepts_items}
-use Rattle.nom_folds.proofs.promises.fold_many0_accepts.Goals as goal
-
-pub returns : goal.returns
-returns g c = fold_many0_accepts_items _ g.F.Error.ParseError.errors (g.F.Parser.meaning (g.F.Parser.state c.args._parser.now.parser)) (Unit {0})

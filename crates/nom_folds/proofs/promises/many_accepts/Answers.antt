@@ -1,7 +1,0 @@
-use Rattle.nom_error.specs.declared.kind.ErrorKind.TheVariants as Kind
-use Rattle.nom_folds.proofs.Accepting.{range_accepts_items}
-use Rattle.nom_folds.proofs.promises.many_accepts.Goals as goal
-
-pub returns : goal.returns
-returns g c = range_accepts_items _ g.F.Error.ParseError.errors (g.F.Parser.meaning (g.F.Parser.state c.args._parser.now.parser)) Kind.Many
-    (g.R.NomRange.IsSpent c.args._parser.now.range) (g.R.NomRange.lower c.args._parser.now.range) (g.R.NomRange.upper c.args._parser.now.range) (Unit {0})

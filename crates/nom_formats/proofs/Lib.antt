@@ -1,9 +1,0 @@
-pub mod Alike
-pub mod Folds
-pub mod Functions
-pub mod Heads
-pub mod NamedValues
-pub mod Numbers
-pub mod Parts
-pub mod Sequences
-pub mod WrittenSections

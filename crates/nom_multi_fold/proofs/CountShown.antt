@@ -1,0 +1,116 @@
+-- What counts of items show: the number fits, since each item but a first one consumes.
+use Rattle.std.proofs.Common.{◌≡◌, ℕ, ◌+◌, ◌-◌, ◌^◌, ◌<◌, ◌≤◌, Bool, true, false, Result, Ok, Option, Some, ◌⊎◌, inl, inr, List, [], ◌∷◌, ◌++◌}
+use Rattle.std.proofs.Common.{length, zero, suc, refl, arith, ap, subst}
+use Rattle.nom_error.specs.declared.kind.ErrorKind.TheVariants as Kind
+use Rattle.nom_error.specs.declared.answer.Needed.{Needed}
+use Rattle.nom_error.specs.declared.answer.Err as Answer
+use Rattle.nom_error.specs.Errors.{Errors}
+use Rattle.nom_error.specs.Modes.{Built, Modes}
+use Rattle.nom_traits.specs.Input.{Model, InputLaws, IsSuffixOf, input_len}
+use Rattle.nom_traits.specs.Rests.{same_self, rest_related}
+use Rattle.nom_internal.specs.Outcome.{Outcome}
+use Rattle.nom_internal.specs.Outcome.Outcome.{Accept}
+use Rattle.nom_internal.specs.Meaning.{Meaning, IsLawful, ShowsMeaning}
+use Rattle.nom_internal.proofs.Consumed.{rest_self, rest_length}
+use Rattle.nom_internal.proofs.Shown.{Accepts, accepts, next_shown}
+use Rattle.nom_repeat.specs.Repeat.{Pieces, Replies, TurnsBy}
+use Rattle.nom_repeat.specs.Items.{item_turn, items_meaning}
+use Rattle.nom_repeat.specs.Accumulated.{Accumulated}
+use Rattle.nom_repeat.proofs.CountAccumulated.{CountPushes, count_of_none}
+use Rattle.nom_repeat.proofs.Few.{taken_accepted, taken_consumes, accepted_tree, taken_within, few_accepted}
+use Rattle.nom_repeat.proofs.Accumulating.{kept_both}
+use Rattle.nom_repeat.proofs.Parts.{shown_by}
+use Rattle.nom_multi_fold.specs.Counts.{IsNumber, many0_count_meaning, many1_count_meaning}
+use Rattle.nom_multi_fold.specs.Dropped.{dropped_meaning}
+use Rattle.nom_multi_fold.specs.DroppedLaws.{dropped_lawful}
+use Rattle.nom_repeat.specs.Bounds.{any_limits, one_limits}
+use Rattle.nom_repeat.specs.declared.items.TooFew.TheVariants.{Fresh}
+
+-- what is kept of items, of which nothing is built
+abbrev pub CountAccumulated : {V : Type 0} → Option ℕ → List V → ℕ → Type 0
+CountAccumulated before vs n = Accumulated {T = Unit {0}} CountPushes (λ _. Unit {0}) (λ _ _. Unit {0}) before vs n
+
+module _ {I A V E : Type 0} {w : Model I A} (errs : Errors I E) (m : Meaning I V E) {mode : Modes} {i : I} (fits : input_len w i < 2 ^ 64)
+    {before : Option ℕ} (none : Built mode.outputs (λ n. n ≡ 0) before) where
+  pub count0_shown : {r : Result (I × Option ℕ) (Answer.Err E (Option E) Needed)} →
+      ShowsMeaning w (CountAccumulated before) (many0_count_meaning w errs m) mode i r → ShowsMeaning w IsNumber (many0_count_meaning w errs m) mode i r
+  count0_shown h = shown_by (λ n vs x a k. count_of_none (λ _ _. Unit {0}) mode.outputs none vs x
+      (omega (arith, fits, few_accepted w errs (any_limits Kind.Many0Count) ⊥ (dropped_meaning m) Kind.Many0Count refl mode.streaming i n vs a)) k) h
+
+module _ {I A V : Type 0} (w : Model I A) (Item : I → Outcome V → Type 0) where
+  -- a first item, or none
+  first_piece : (Fact : ℕ → I → Type 0) (i : I) (vs : List V) (n : ℕ) →
+      Pieces w (TurnsBy (Some 1) (item_turn (one_limits (Fresh Kind.Many1Count) true)) (λ _. Item)) Fact 0 i vs n → (vs ≡ []) ⊎
+      ((a : ℕ) × (v : V) × (vs ≡ v ∷ []) × Item i (Accept a v) × (a ≤ n))
+  first_piece Fact i [] n p = inl refl
+  first_piece Fact i (v ∷ []) n p =
+      let turn = p.3 in
+      let reply = taken_accepted (one_limits (Fresh Kind.Many1Count) true) 0 turn.reply p.0 v turn.fact in
+      inr (p.0, v, refl, answered turn.reply reply turn.replied, omega (arith, p.6))
+    where
+      answered : (r : Option (Outcome V)) → r ≡ Some (Accept p.0 v) → Replies (Some 1) (λ _. Item) 0 i r → Item i (Accept p.0 v)
+      answered r e h = (subst (λ z. Replies (Some 1) (λ _. Item) 0 i z) e h).1
+  first_piece Fact i (v ∷ u ∷ vs) n p =
+      let turn = (p.5).3 in
+      let reply = taken_accepted (one_limits (Fresh Kind.Many1Count) true) 1 turn.reply (p.5).0 u turn.fact in
+      let below = (subst (λ z. Replies (Some 1) (λ _. Item) 1 p.2 z) reply turn.replied).0 in
+      absurd (omega (arith, below))
+
+accept_length : {V : Type 0} (n m : ℕ) (u v : V) → Accept n u ≡ Accept m v → n ≡ m
+accept_length n m u v e = cc (e)
+
+append_length : {V : Type 0} (vs us : List V) → length (vs ++ us) ≡ length vs + length us
+append_length [] us = omega arith
+append_length (v ∷ vs) us = omega (arith, append_length vs us)
+
+module _ {I A V E : Type 0} (w : Model I A) (l : InputLaws w) (errs : Errors I E) (m : Meaning I V E) (lawful : IsLawful w m) (s : Bool) where
+  -- after a first item that consumes nothing there is no other
+  none_later : (Fact : ℕ → I → Type 0) (i j : I) (v : V) (us : List V) (n : ℕ) → w.IsKnown i → IsSuffixOf w i 0 j →
+      (dropped_meaning m).answers s i (Accept 0 v) →
+      Pieces w (TurnsBy (any_limits Kind.Many1Count).most (item_turn (any_limits Kind.Many1Count)) (λ _. (dropped_meaning m).answers s)) Fact 0 j us n →
+      length us ≤ 0
+  none_later Fact i j v [] n known r a p = omega arith
+  none_later Fact i j v (u ∷ us) n known r a p =
+      let turn = p.3 in
+      let reply = taken_accepted (any_limits Kind.Many1Count) 0 turn.reply p.0 u turn.fact in
+      let moves = taken_consumes (any_limits Kind.Many1Count) Kind.Many1Count refl 0 turn.reply p.0 u turn.fact in
+      let again = (subst (λ z. Replies (any_limits Kind.Many1Count).most (λ _. (dropped_meaning m).answers s) 0 j z) reply turn.replied).1 in
+      let same = rest_related w l false i i 0 i j (same_self w i) (rest_self w l i known) r in
+      let one = (dropped_lawful w m lawful).one_outcome s i j (Accept 0 v) (Accept p.0 u) known r.known same a tt again in
+      absurd (omega (arith, moves, accept_length 0 p.0 v u one))
+
+  -- a first item and the later ones fit
+  both_fit : (i j : I) (n : ℕ) (vs : List V) (k : ℕ) (us : List V) → input_len w i < 2 ^ 64 → w.IsKnown i →
+      (items_meaning w errs (one_limits (Fresh Kind.Many1Count) true) ⊥ (dropped_meaning m)).answers s i (Accept n vs) → IsSuffixOf w i n j →
+      (items_meaning w errs (any_limits Kind.Many1Count) ⊥ (dropped_meaning m)).answers s j (Accept k us) → length (vs ++ us) ≤ 2 ^ 64 - 1
+  both_fit i j n vs k us fits known a r b =
+      let first : vs ≡ a.trees = accepted_tree n a.taken a.trees vs a.ending a.outcome_is in
+      let later : us ≡ b.trees = accepted_tree k b.taken b.trees us b.ending b.outcome_is in
+      let few = few_accepted w errs (any_limits Kind.Many1Count) ⊥ (dropped_meaning m) Kind.Many1Count refl s j k us b in
+      let within = taken_within n a.taken a.trees vs a.ending a.outcome_is in
+      by n r (first_piece w ((dropped_meaning m).answers s) _ i a.trees a.taken a.pieces) within (ap length first) (ap length later) few
+    where
+      by : (n : ℕ) → IsSuffixOf w i n j → (a.trees ≡ []) ⊎
+          ((c : ℕ) × (v : V) × (a.trees ≡ v ∷ []) × (dropped_meaning m).answers s i (Accept c v) × (c ≤ a.taken)) → a.taken ≤ n →
+          length vs ≡ length a.trees → length us ≡ length b.trees → length us ≤ input_len w j → length (vs ++ us) ≤ 2 ^ 64 - 1
+      by n r (inl e) within first later few = omega (arith, append_length vs us, ap length e, first, few, fits, rest_length r)
+      by (suc n) r (inr h) within first later few = omega (arith, append_length vs us, ap length h.2, first, few, fits, rest_length r)
+      by zero r (inr h) within first later few =
+          let none : h.0 ≡ 0 = omega (arith, h.4, within) in
+          let stays = subst (λ z. (dropped_meaning m).answers s i (Accept z h.1)) none h.3 in
+          let end = none_later _ i j h.1 b.trees b.taken known r stays b.pieces in
+          omega (arith, append_length vs us, ap length h.2, first, later, end)
+
+module _ {I A V E : Type 0} {w : Model I A} (l : InputLaws w) (errs : Errors I E) (m : Meaning I V E) (lawful : IsLawful w m) {mode : Modes} {i : I}
+    (known : w.IsKnown i) (fits : input_len w i < 2 ^ 64) {before : Option ℕ} (none : Built mode.outputs (λ n. n ≡ 0) before) where
+  pub count1_shown : {j : I} {x : Option ℕ} {r : Result (I × Option ℕ) (Answer.Err E (Option E) Needed)} →
+      ShowsMeaning w (CountAccumulated before) (items_meaning w errs (one_limits (Fresh Kind.Many1Count) true) ⊥ (dropped_meaning m)) mode i (Ok (j, x)) →
+      ShowsMeaning w (CountAccumulated x) (items_meaning w errs (any_limits Kind.Many1Count) ⊥ (dropped_meaning m)) mode j r →
+      ShowsMeaning w IsNumber (many1_count_meaning w errs m) mode i r
+  count1_shown {j = j} {x = x} {r = r} h more =
+      let a : Accepts w (CountAccumulated before) mode.outputs i
+      ((items_meaning w errs (one_limits (Fresh Kind.Many1Count) true) ⊥ (dropped_meaning m)).answers mode.streaming i) j x = accepts h in
+      next_shown w l (λ vs us. vs ++ us) _ _ _ _ _ _ IsNumber mode i j a.length a.tree a.answered a.rest_is r
+      (shown_by (λ n us y b k. count_of_none (λ _ _. Unit {0}) mode.outputs none (a.tree ++ us) y
+      (both_fit w l errs m lawful mode.streaming i j a.length a.tree n us fits known a.answered a.rest_is b)
+      (kept_both CountPushes (λ _. Unit {0}) (λ _ _. Unit {0}) mode.outputs before x a.tree us y a.built_is k)) more)

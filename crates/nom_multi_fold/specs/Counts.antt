@@ -1,0 +1,25 @@
+-- How many items there are.
+use Rattle.std.specs.Prelude.{◌≡◌, ℕ, true, List, ◌++◌, length}
+use Rattle.nom_error.specs.Errors.{Errors}
+use Rattle.nom_error.specs.declared.kind.ErrorKind.TheVariants as Kind
+use Rattle.nom_traits.specs.Input.{Model}
+use Rattle.nom_internal.specs.Meaning.{Meaning}
+use Rattle.nom_internal.specs.Sequence.{sequence_meaning}
+use Rattle.nom_repeat.specs.Items.{items_meaning}
+use Rattle.nom_repeat.specs.declared.items.TooFew.TheVariants.{Fresh}
+use Rattle.nom_multi_fold.specs.Dropped.{dropped_meaning}
+use Rattle.nom_repeat.specs.Bounds.{any_limits, one_limits}
+
+-- the number of the items
+abbrev pub IsNumber : {V : Type 0} → List V → ℕ → Type 0
+IsNumber vs n = n ≡ length vs
+
+-- Any number of items, of which nothing is built; one that consumes nothing is refused. Counting them takes no memory.
+abbrev pub many0_count_meaning : {I A V E : Type 0} → Model I A → Errors I E → Meaning I V E → Meaning I (List V) E
+many0_count_meaning w errs m = items_meaning w errs (any_limits Kind.Many0Count) ⊥ (dropped_meaning m)
+
+-- One item at least: a first one, whose refusal is one of the kind at the start, and which may be empty; and then any number.
+abbrev pub many1_count_meaning : {I A V E : Type 0} → Model I A → Errors I E → Meaning I V E → Meaning I (List V) E
+many1_count_meaning w errs m =
+    sequence_meaning w (λ vs us. vs ++ us) (λ o. o) (λ o. o) (items_meaning w errs (one_limits (Fresh Kind.Many1Count) true) ⊥ (dropped_meaning m))
+    (items_meaning w errs (any_limits Kind.Many1Count) ⊥ (dropped_meaning m))

@@ -1,0 +1,138 @@
+//! How many items there are.
+ghost use Rattle.std.specs.Prelude.{◌≡◌, ◌^◌, ◌<◌, List};
+ghost use Rattle.nom_traits.specs.Input.{input_len};
+ghost use Rattle.nom_multi_fold.specs.Counts.{IsNumber, many0_count_meaning, many1_count_meaning};
+
+use crate::dropped::Dropped;
+use nom_error::answer::PResult;
+use nom_error::kind::ErrorKind;
+use nom_error::mode::{Check, OutputMode};
+use nom_error::value::ParseError;
+use nom_internal::built::built;
+use nom_internal::parser::{Parser, StreamParser};
+use nom_repeat::accumulator::Accumulator;
+use nom_repeat::items::{Limits, TooFew, items};
+use nom_traits::input::{Input, Items};
+
+/// The number of items until one is refused, made by `many0_count`.
+#[derive(Drop)]
+pub struct Many0Count<F> {
+    pub item: Dropped<F>,
+}
+
+impl<I: Input, F: Parser<I> + Drop> Parser<I> for Many0Count<F> {
+    ghost use Rattle.nom_multi_fold.specs.CountLaws.{many0_count_lawful};
+
+    type Output = usize;
+
+    type Error = F::Error;
+
+    ghost State = { F.State };
+
+    ghost state = { λ p. F.state p.item.parser };
+
+    ghost Tree = { List F.Tree };
+
+    ghost IsOutput = { λ _. IsNumber };
+
+    ghost meaning = { λ s. many0_count_meaning I.model F.Error.errors (F.meaning s) };
+
+    ghost Pins = { λ _. Unit {0} };
+
+    #[inline]
+    fn process<OM: OutputMode>(&mut self, input: I) -> PResult<I, usize, F::Error> {
+        fits(input);
+        let none = built::<OM::Output, usize>(0);
+        let limits = Limits {
+            least: 0,
+            most: None,
+            too_few: TooFew::Never,
+            at_start: false,
+            empty: Some(ErrorKind::Many0Count),
+        };
+        items::<OM, Check, I, Dropped<F>, usize>(&mut self.item, input, none, limits)
+    }
+
+    ghost lawful = { λ s k. many0_count_lawful I.model I.lawful F.Error.errors (F.meaning s) (F.lawful s k) };
+}
+
+impl<I: Input, F: StreamParser<I> + Drop> StreamParser<I> for Many0Count<F> {
+    ghost use Rattle.nom_multi_fold.specs.CountLaws.{number_pinned, many0_count_steady};
+
+    ghost pinned = { λ s k p. number_pinned };
+
+    ghost steady = { λ s k. many0_count_steady I.model I.lawful F.Error.errors (F.meaning s) (F.steady s k) };
+}
+
+/// The number of items until one is refused, one at least; made by `many1_count`.
+#[derive(Drop)]
+pub struct Many1Count<F> {
+    pub item: Dropped<F>,
+}
+
+impl<I: Input, F: Parser<I> + Drop> Parser<I> for Many1Count<F> {
+    ghost use Rattle.nom_multi_fold.specs.CountLaws.{many1_count_lawful};
+
+    type Output = usize;
+
+    type Error = F::Error;
+
+    ghost State = { F.State };
+
+    ghost state = { λ p. F.state p.item.parser };
+
+    ghost Tree = { List F.Tree };
+
+    ghost IsOutput = { λ _. IsNumber };
+
+    ghost meaning = { λ s. many1_count_meaning I.model F.Error.errors (F.meaning s) };
+
+    ghost Pins = { λ _. Unit {0} };
+
+    #[inline]
+    fn process<OM: OutputMode>(&mut self, input: I) -> PResult<I, usize, F::Error> {
+        fits(input);
+        let none = built::<OM::Output, usize>(0);
+        let one = Limits {
+            least: 1,
+            most: Some(1),
+            too_few: TooFew::Fresh(ErrorKind::Many1Count),
+            at_start: true,
+            empty: None,
+        };
+        let (rest, first) = items::<OM, Check, I, Dropped<F>, usize>(
+            &mut self.item,
+            input,
+            none,
+            one,
+        )?;
+        let any = Limits {
+            least: 0,
+            most: None,
+            too_few: TooFew::Never,
+            at_start: false,
+            empty: Some(ErrorKind::Many1Count),
+        };
+        items::<OM, Check, I, Dropped<F>, usize>(&mut self.item, rest, first, any)
+    }
+
+    ghost lawful = { λ s k. many1_count_lawful I.model I.lawful F.Error.errors (F.meaning s) (F.lawful s k.0) };
+}
+
+impl<I: Input, F: StreamParser<I> + Drop> StreamParser<I> for Many1Count<F> {
+    ghost use Rattle.nom_multi_fold.specs.CountLaws.{number_pinned, many1_count_steady};
+
+    ghost pinned = { λ s k p. number_pinned };
+
+    ghost steady = { λ s k. many1_count_steady I.model I.lawful F.Error.errors (F.meaning s) (F.steady s k.0) };
+}
+
+/// An input is known, and its length is a `usize`.
+#[inline(always)]
+fn fits<I: Input>(input: I)
+    ensures known { I.model.IsKnown input }
+    ensures fits { input_len I.model input < 2 ^ 64 }
+{
+    input.prove_known();
+    let _length = input.input_len();
+}

@@ -1,0 +1,253 @@
+//! Folds of the items until one is refused.
+ghost use Rattle.std.specs.Prelude.{List, ℕ};
+ghost use Rattle.nom_multi_fold.specs.Folds.{Folds, AreCallable, FoldsAlike, fold_many0_meaning, fold_many1_meaning, fold_many_m_n_meaning};
+
+use crate::folded::{Folded, carried, start};
+use nom_error::answer::PResult;
+use nom_error::kind::ErrorKind;
+use nom_error::mode::{Check, OutputMode};
+use nom_error::value::{ParseError, refusal};
+use nom_internal::parser::{Parser, StreamParser};
+use nom_repeat::accumulator::Accumulator;
+use nom_repeat::items::{Limits, TooFew, items};
+use nom_traits::input::{Input, Items};
+use nom_traits::view::Viewed;
+
+/// The fold of items until one is refused, made by `fold_many0`. The closures are called only where outputs
+/// are built.
+#[derive(Drop)]
+pub struct FoldMany0<F, H, G> {
+    pub parser: F,
+    pub init: H,
+    pub fold: G,
+}
+
+impl<
+    I: Input,
+    F: Parser<I> + Drop,
+    R: Viewed + Drop,
+    H: Fn() -> R,
+    G: Fn(R, F::Output) -> R,
+> Parser<I> for FoldMany0<F, H, G>
+where
+    F::Output: Viewed,
+{
+    ghost use Rattle.nom_multi_fold.specs.FoldLaws.{fold_many0_lawful};
+
+    type Output = R;
+
+    type Error = F::Error;
+
+    ghost State = { F.State × H × G };
+
+    ghost state = { λ p. (F.state p.parser, p.init, p.fold) };
+
+    ghost Tree = { List F.Tree };
+
+    ghost IsOutput = { λ s. Folds (F.IsOutput s.0) (H.post s.1) (G.post s.2) };
+
+    ghost meaning = { λ s. fold_many0_meaning I.model F.Error.errors (AreCallable (H.pre s.1) (G.pre s.2)) (F.meaning s.0) };
+
+    ghost Pins = { λ s. F.Pins s.0 × FoldsAlike F.Output.view R.view (H.post s.1) (G.post s.2) };
+
+    #[inline]
+    fn process<OM: OutputMode>(&mut self, input: I) -> PResult<I, R, F::Error> {
+        let first = start::<OM::Output, F::Output, R, H, G>(&self.init, &self.fold);
+        let limits = Limits {
+            least: 0,
+            most: None,
+            too_few: TooFew::Never,
+            at_start: false,
+            empty: Some(ErrorKind::Many0),
+        };
+        let (rest, last) = items::<OM, Check, I, F, Folded<R, G>>(
+            &mut self.parser,
+            input,
+            first,
+            limits,
+        )?;
+        Ok((rest, carried(last)))
+    }
+
+    ghost lawful = { λ s k. fold_many0_lawful I.model I.lawful F.Error.errors (AreCallable (H.pre s.1) (G.pre s.2)) (F.meaning s.0) (F.lawful s.0 k.0) };
+}
+
+impl<
+    I: Input,
+    F: StreamParser<I> + Drop,
+    R: Viewed + Drop,
+    H: Fn() -> R,
+    G: Fn(R, F::Output) -> R,
+> StreamParser<I> for FoldMany0<F, H, G> {
+    ghost use Rattle.nom_multi_fold.specs.FoldLaws.{folds_pinned, fold_many0_steady};
+
+    ghost pinned = { λ s k p. folds_pinned F.Output.view R.view (F.IsOutput s.0) (H.post s.1) (G.post s.2) (F.pinned s.0 k.0 p.0) p.1 };
+
+    ghost steady = { λ s k. fold_many0_steady I.model I.lawful F.Error.errors (AreCallable (H.pre s.1) (G.pre s.2)) (F.meaning s.0) (F.steady s.0 k.0) };
+}
+
+/// The fold of items until one is refused, one at least; made by `fold_many1`. The closures are called only
+/// where outputs are built.
+#[derive(Drop)]
+pub struct FoldMany1<F, H, G> {
+    pub parser: F,
+    pub init: H,
+    pub fold: G,
+}
+
+impl<
+    I: Input,
+    F: Parser<I> + Drop,
+    R: Viewed + Drop,
+    H: Fn() -> R,
+    G: Fn(R, F::Output) -> R,
+> Parser<I> for FoldMany1<F, H, G>
+where
+    F::Output: Viewed,
+{
+    ghost use Rattle.nom_multi_fold.specs.FoldLaws.{fold_many1_lawful};
+
+    type Output = R;
+
+    type Error = F::Error;
+
+    ghost State = { F.State × H × G };
+
+    ghost state = { λ p. (F.state p.parser, p.init, p.fold) };
+
+    ghost Tree = { List F.Tree };
+
+    ghost IsOutput = { λ s. Folds (F.IsOutput s.0) (H.post s.1) (G.post s.2) };
+
+    ghost meaning = { λ s. fold_many1_meaning I.model F.Error.errors (AreCallable (H.pre s.1) (G.pre s.2)) (F.meaning s.0) };
+
+    ghost Pins = { λ s. F.Pins s.0 × FoldsAlike F.Output.view R.view (H.post s.1) (G.post s.2) };
+
+    #[inline]
+    fn process<OM: OutputMode>(&mut self, input: I) -> PResult<I, R, F::Error> {
+        let none = start::<OM::Output, F::Output, R, H, G>(&self.init, &self.fold);
+        let one = Limits {
+            least: 1,
+            most: Some(1),
+            too_few: TooFew::Fresh(ErrorKind::Many1),
+            at_start: true,
+            empty: None,
+        };
+        let (rest, first) = items::<OM, Check, I, F, Folded<R, G>>(
+            &mut self.parser,
+            input,
+            none,
+            one,
+        )?;
+        let any = Limits {
+            least: 0,
+            most: None,
+            too_few: TooFew::Never,
+            at_start: false,
+            empty: Some(ErrorKind::Many1),
+        };
+        let (behind, last) = items::<OM, Check, I, F, Folded<R, G>>(
+            &mut self.parser,
+            rest,
+            first,
+            any,
+        )?;
+        Ok((behind, carried(last)))
+    }
+
+    ghost lawful = { λ s k. fold_many1_lawful I.model I.lawful F.Error.errors (AreCallable (H.pre s.1) (G.pre s.2)) (F.meaning s.0) (F.lawful s.0 (k.0).0) };
+}
+
+impl<
+    I: Input,
+    F: StreamParser<I> + Drop,
+    R: Viewed + Drop,
+    H: Fn() -> R,
+    G: Fn(R, F::Output) -> R,
+> StreamParser<I> for FoldMany1<F, H, G> {
+    ghost use Rattle.nom_multi_fold.specs.FoldLaws.{folds_pinned, fold_many1_steady};
+
+    ghost pinned = { λ s k p. folds_pinned F.Output.view R.view (F.IsOutput s.0) (H.post s.1) (G.post s.2) (F.pinned s.0 (k.0).0 p.0) p.1 };
+
+    ghost steady = { λ s k. fold_many1_steady I.model I.lawful F.Error.errors (AreCallable (H.pre s.1) (G.pre s.2)) (F.meaning s.0) (F.steady s.0 (k.0).0) };
+}
+
+/// The fold of items until one is refused, as many as the bounds say; made by `fold_many_m_n`. The closures
+/// are called only where outputs are built.
+#[derive(Drop)]
+pub struct FoldManyMN<F, H, G> {
+    pub min: usize,
+    pub max: usize,
+    pub parser: F,
+    pub init: H,
+    pub fold: G,
+}
+
+impl<
+    I: Input,
+    F: Parser<I> + Drop,
+    R: Viewed + Drop,
+    H: Fn() -> R,
+    G: Fn(R, F::Output) -> R,
+> Parser<I> for FoldManyMN<F, H, G>
+where
+    F::Output: Viewed,
+{
+    ghost use Rattle.nom_multi_fold.specs.FoldLaws.{fold_many_m_n_lawful};
+
+    type Output = R;
+
+    type Error = F::Error;
+
+    ghost State = { F.State × H × G × ℕ × ℕ };
+
+    ghost state = { λ p. (F.state p.parser, p.init, p.fold, p.min, p.max) };
+
+    ghost Tree = { List F.Tree };
+
+    ghost IsOutput = { λ s. Folds (F.IsOutput s.0) (H.post s.1) (G.post s.2) };
+
+    ghost meaning = { λ s. fold_many_m_n_meaning I.model F.Error.errors s.3 s.4 (AreCallable (H.pre s.1) (G.pre s.2)) (F.meaning s.0) };
+
+    ghost Pins = { λ s. F.Pins s.0 × FoldsAlike F.Output.view R.view (H.post s.1) (G.post s.2) };
+
+    #[inline]
+    fn process<OM: OutputMode>(&mut self, input: I) -> PResult<I, R, F::Error> {
+        if self.max < self.min {
+            return Err(refusal::<OM::Error, I, F::Error>(input, ErrorKind::ManyMN));
+        }
+        let first = start::<OM::Output, F::Output, R, H, G>(&self.init, &self.fold);
+        let limits = Limits {
+            least: self.min,
+            most: Some(self.max),
+            too_few: TooFew::Added(ErrorKind::ManyMN),
+            at_start: false,
+            empty: Some(ErrorKind::ManyMN),
+        };
+        let (rest, last) = items::<OM, OM::Error, I, F, Folded<R, G>>(
+            &mut self.parser,
+            input,
+            first,
+            limits,
+        )?;
+        Ok((rest, carried(last)))
+    }
+
+    ghost lawful = { λ s k. fold_many_m_n_lawful I.model I.lawful F.Error.errors (AreCallable (H.pre s.1) (G.pre s.2))
+        (F.meaning s.0) s.3 s.4 (F.lawful s.0 k.0) };
+}
+
+impl<
+    I: Input,
+    F: StreamParser<I> + Drop,
+    R: Viewed + Drop,
+    H: Fn() -> R,
+    G: Fn(R, F::Output) -> R,
+> StreamParser<I> for FoldManyMN<F, H, G> {
+    ghost use Rattle.nom_multi_fold.specs.FoldLaws.{folds_pinned, fold_many_m_n_steady};
+
+    ghost pinned = { λ s k p. folds_pinned F.Output.view R.view (F.IsOutput s.0) (H.post s.1) (G.post s.2) (F.pinned s.0 k.0 p.0) p.1 };
+
+    ghost steady = { λ s k. fold_many_m_n_steady I.model I.lawful F.Error.errors (AreCallable (H.pre s.1) (G.pre s.2))
+        (F.meaning s.0) s.3 s.4 (F.steady s.0 k.0) };
+}

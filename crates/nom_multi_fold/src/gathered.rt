@@ -1,0 +1,61 @@
+//! A collection that items are appended to.
+ghost use Rattle.std.specs.Prelude.{◌≡◌, []};
+ghost use Rattle.nom_error.specs.Modes.{Built};
+ghost use Rattle.nom_multi_fold.specs.Ranges.{Gathers, IsGathered};
+
+use nom_build::collection::Collection;
+use nom_error::mode::Mode;
+use nom_repeat::accumulator::Accumulator;
+use std::alloc::Allocator;
+use std::marker::PhantomData;
+
+/// A collection in memory of an allocator of type `A`, as it is kept of items.
+#[derive(Drop)]
+pub struct Gathered<C, A> {
+    pub collection: C,
+    pub allocator: PhantomData<A>,
+}
+
+impl<T, A: Allocator, C: Collection<T, A>> Accumulator<T> for Gathered<C, A> {
+    ghost Pushes = { Gathers (λ k. C.items k.collection) };
+
+    ghost CanPush = { λ _. Unit {0} };
+
+    ghost IsFull = { λ k. (x : T) × C.grows x k.collection };
+
+    ghost Grows = { Unit {0} };
+
+    ghost fills = { λ _ _. tt };
+
+    #[inline(always)]
+    fn keep(&mut self, item: T) -> bool {
+        self.collection.append(item).is_ok()
+    }
+}
+
+/// A collection of no items, where outputs are built; it takes no memory.
+#[inline(always)]
+pub fn gather<M: Mode, T, A: Allocator, C: Collection<T, A>>(alloc: A) -> Option<Gathered<C, A>>
+    ensures empty { Built M.BUILDS (λ k. C.items k.collection ≡ []) result }
+    ensures ready { Built M.BUILDS (λ _. Unit {0}) result }
+{
+    if M::BUILDS {
+        Some(Gathered {
+            collection: C::empty(alloc),
+            allocator: PhantomData,
+        })
+    } else {
+        None
+    }
+}
+
+/// The collection, where outputs are built.
+#[inline(always)]
+pub fn collected<C: Drop, A>(kept: Option<Gathered<C, A>>) -> Option<C>
+    ensures { IsGathered (λ k. k.collection) kept result }
+{
+    match kept {
+        Some(kept) => Some(kept.collection),
+        None => None,
+    }
+}

@@ -1,0 +1,183 @@
+//! As many items as a range of counts says.
+ghost use Rattle.std.specs.Prelude.{List};
+ghost use Rattle.std.specs.List.{AllZip};
+ghost use Rattle.nom_error.specs.declared.kind.ErrorKind.TheVariants as Kind;
+ghost use Rattle.nom_multi_fold.specs.Folds.{Folds, AreCallable, FoldsAlike};
+ghost use Rattle.nom_multi_fold.specs.Ranges.{range_meaning};
+ghost use Rattle.nom_multi_fold.specs.Under.{under};
+
+use crate::folded::{Folded, carried, start};
+use crate::gathered::{Gathered, collected, gather};
+use nom_build::collection::{Collection, ViewedCollection};
+use nom_error::answer::PResult;
+use nom_error::kind::ErrorKind;
+use nom_error::mode::OutputMode;
+use nom_error::value::ParseError;
+use nom_internal::parser::{Parser, StreamParser};
+use nom_ranges::counts::{least, most};
+use nom_ranges::range::NomRange;
+use nom_repeat::accumulator::Accumulator;
+use nom_repeat::inverted::failure;
+use nom_repeat::items::{Limits, TooFew, items};
+use nom_traits::input::{Input, Items};
+use nom_traits::view::Viewed;
+use std::alloc::Allocator;
+
+/// As many items as a range says, in a collection of type `C`; made by `many`.
+#[derive(Drop)]
+pub struct Many<A, R, F, C> {
+    pub alloc: A,
+    pub range: R,
+    pub parser: F,
+    /// Nothing: it shows the type of the collection, with its lifetimes.
+    pub collection: [C; 0],
+}
+
+impl<
+    I: Input,
+    A: Allocator + Copy,
+    R: NomRange<usize> + Drop,
+    F: Parser<I> + Drop,
+    C: Collection<F::Output, A>,
+> Parser<I> for Many<A, R, F, C> {
+    ghost use Rattle.nom_multi_fold.specs.RangeLaws.{range_lawful};
+
+    type Output = C;
+
+    type Error = F::Error;
+
+    ghost State = { F.State × R };
+
+    ghost state = { λ p. (F.state p.parser, p.range) };
+
+    ghost Tree = { List F.Tree };
+
+    ghost IsOutput = { λ s vs o. AllZip (F.IsOutput s.0) vs (C.items o) };
+
+    ghost meaning = { λ s. range_meaning I.model F.Error.errors Kind.Many (R.IsSpent s.1) (R.lower s.1) (R.upper s.1) (Unit {0}) (F.meaning s.0) };
+
+    ghost Pins = { λ s. F.Pins s.0 };
+
+    #[inline]
+    fn process<OM: OutputMode>(&mut self, input: I) -> PResult<I, C, F::Error> {
+        if self.range.is_inverted() {
+            return Err(failure(input, ErrorKind::Many));
+        }
+        let none = gather::<OM::Output, F::Output, A, C>(self.alloc);
+        let limits = Limits {
+            least: least(&self.range),
+            most: Some(most(&self.range)),
+            too_few: TooFew::Added(ErrorKind::Many),
+            at_start: false,
+            empty: Some(ErrorKind::Many),
+        };
+        let (rest, all) = items::<OM, OM::Error, I, F, Gathered<C, A>>(
+            &mut self.parser,
+            input,
+            none,
+            limits,
+        )?;
+        Ok((rest, collected(all)))
+    }
+
+    ghost lawful = { λ s k. range_lawful I.model I.lawful F.Error.errors Kind.Many (R.IsSpent s.1) (R.lower s.1) (R.upper s.1) (Unit {0}) (F.meaning s.0)
+        (F.lawful s.0 k) };
+}
+
+impl<
+    I: Input,
+    A: Allocator + Copy,
+    R: NomRange<usize> + Drop,
+    F: StreamParser<I> + Drop,
+    C: ViewedCollection<F::Output, A>,
+> StreamParser<I> for Many<A, R, F, C> {
+    ghost use Rattle.nom_multi_fold.specs.RangeLaws.{collection_pinned, range_steady};
+
+    ghost pinned = { λ s k p. collection_pinned F.Output.view C.view C.items (F.IsOutput s.0) (F.pinned s.0 k p) C.views };
+
+    ghost steady = { λ s k. range_steady I.model I.lawful F.Error.errors Kind.Many (R.IsSpent s.1) (R.lower s.1) (R.upper s.1) (Unit {0}) (F.meaning s.0)
+        (F.steady s.0 k) };
+}
+
+/// The fold of as many items as a range says, made by `fold`. The closures are called only where outputs are
+/// built.
+#[derive(Drop)]
+pub struct Fold<R, F, H, G> {
+    pub range: R,
+    pub parser: F,
+    pub init: H,
+    pub fold: G,
+}
+
+impl<
+    I: Input,
+    R: NomRange<usize> + Drop,
+    F: Parser<I> + Drop,
+    T: Viewed + Drop,
+    H: Fn() -> T,
+    G: Fn(T, F::Output) -> T,
+> Parser<I> for Fold<R, F, H, G>
+where
+    F::Output: Viewed,
+{
+    ghost use Rattle.nom_multi_fold.specs.RangeLaws.{range_fold_lawful};
+
+    type Output = T;
+
+    type Error = F::Error;
+
+    ghost State = { F.State × H × G × R };
+
+    ghost state = { λ p. (F.state p.parser, p.init, p.fold, p.range) };
+
+    ghost Tree = { List F.Tree };
+
+    ghost IsOutput = { λ s. Folds (F.IsOutput s.0) (H.post s.1) (G.post s.2) };
+
+    ghost meaning = { λ s. under (AreCallable (H.pre s.1) (G.pre s.2))
+        (range_meaning I.model F.Error.errors Kind.Fold (R.IsSpent s.3) (R.lower s.3) (R.upper s.3) ⊥ (F.meaning s.0)) };
+
+    ghost Pins = { λ s. F.Pins s.0 × FoldsAlike F.Output.view T.view (H.post s.1) (G.post s.2) };
+
+    #[inline]
+    fn process<OM: OutputMode>(&mut self, input: I) -> PResult<I, T, F::Error> {
+        if self.range.is_inverted() {
+            return Err(failure(input, ErrorKind::Fold));
+        }
+        let first = start::<OM::Output, F::Output, T, H, G>(&self.init, &self.fold);
+        let limits = Limits {
+            least: least(&self.range),
+            most: Some(most(&self.range)),
+            too_few: TooFew::Added(ErrorKind::Fold),
+            at_start: false,
+            empty: Some(ErrorKind::Fold),
+        };
+        let (rest, last) = items::<OM, OM::Error, I, F, Folded<T, G>>(
+            &mut self.parser,
+            input,
+            first,
+            limits,
+        )?;
+        Ok((rest, carried(last)))
+    }
+
+    ghost lawful = { λ s k. range_fold_lawful I.model I.lawful F.Error.errors Kind.Fold (R.IsSpent s.3) (R.lower s.3) (R.upper s.3) ⊥ (F.meaning s.0)
+        (AreCallable (H.pre s.1) (G.pre s.2)) (F.lawful s.0 k.0) };
+}
+
+impl<
+    I: Input,
+    R: NomRange<usize> + Drop,
+    F: StreamParser<I> + Drop,
+    T: Viewed + Drop,
+    H: Fn() -> T,
+    G: Fn(T, F::Output) -> T,
+> StreamParser<I> for Fold<R, F, H, G> {
+    ghost use Rattle.nom_multi_fold.specs.FoldLaws.{folds_pinned};
+    ghost use Rattle.nom_multi_fold.specs.RangeLaws.{range_fold_steady};
+
+    ghost pinned = { λ s k p. folds_pinned F.Output.view T.view (F.IsOutput s.0) (H.post s.1) (G.post s.2) (F.pinned s.0 k.0 p.0) p.1 };
+
+    ghost steady = { λ s k. range_fold_steady I.model I.lawful F.Error.errors Kind.Fold (R.IsSpent s.3) (R.lower s.3) (R.upper s.3) ⊥ (F.meaning s.0)
+        (AreCallable (H.pre s.1) (G.pre s.2)) (F.steady s.0 k.0) };
+}

@@ -1,0 +1,78 @@
+//! A list after its length.
+ghost use Rattle.std.specs.Prelude.{List};
+ghost use Rattle.std.specs.List.{AllZip};
+ghost use Rattle.nom_multi_length.specs.Lengths.{HasSize, length_count_meaning};
+
+use nom_counted::exact::items_exactly;
+use nom_error::answer::PResult;
+use nom_error::mode::{Emit, OutputM, OutputMode};
+use nom_error::value::ParseError;
+use nom_internal::parser::{Parser, StreamParser};
+use nom_repeat::accumulator::none_yet;
+use nom_traits::convert::ToUsize;
+use nom_traits::input::Items;
+use std::alloc::Allocator;
+
+/// A length n and n outputs of a parser after it, made by `length_count`.
+#[derive(Drop)]
+pub struct LengthCount<A, F, G> {
+    pub alloc: A,
+    pub length: F,
+    pub parser: G,
+}
+
+impl<
+    I: Items,
+    A: Allocator + Copy,
+    F: Parser<I, Output: ToUsize> + Drop,
+    G: Parser<I, Error = F::Error> + Drop,
+> Parser<I> for LengthCount<A, F, G> {
+    ghost use Rattle.nom_multi_length.specs.LengthLaws.{length_count_lawful};
+
+    type Output = Vec<G::Output, A>;
+
+    type Error = F::Error;
+
+    ghost State = { F.State × G.State };
+
+    ghost state = { λ p. (F.state p.length, G.state p.parser) };
+
+    ghost Tree = { List G.Tree };
+
+    ghost IsOutput = { λ s vs o. AllZip (G.IsOutput s.1) vs o.items };
+
+    ghost meaning = { λ s. length_count_meaning I.model F.Error.errors (HasSize (F.IsOutput s.0) F.Output.size) (F.meaning s.0) (G.meaning s.1) };
+
+    ghost Pins = { λ s. G.Pins s.1 };
+
+    #[inline]
+    fn process<OM: OutputMode>(&mut self, input: I) -> PResult<I, Self::Output, Self::Error> {
+        let (rest, length) = self
+            .length
+            .process::<OutputM<Emit, OM::Error, OM::Incomplete>>(input)?;
+        let count = match length {
+            Some(length) => length.to_usize(),
+            None => unreachable!(),
+        };
+        let none = none_yet::<OM::Output, G::Output, A>(self.alloc);
+        items_exactly::<OM, I, G, Vec<G::Output, A>>(&mut self.parser, rest, none, count)
+    }
+
+    ghost lawful = { λ s k. length_count_lawful I.model I.lawful F.Error.errors (HasSize (F.IsOutput s.0) F.Output.size) (F.meaning s.0)
+        (G.meaning s.1) k.1.1 (F.lawful s.0 k.0) (G.lawful s.1 k.1.0) };
+}
+
+impl<
+    I: Items,
+    A: Allocator + Copy,
+    F: StreamParser<I, Output: ToUsize> + Drop,
+    G: StreamParser<I, Error = F::Error> + Drop,
+> StreamParser<I> for LengthCount<A, F, G> {
+    ghost use Rattle.nom_repeat.specs.Lists.{list_pinned};
+    ghost use Rattle.nom_multi_length.specs.LengthLaws.{length_count_steady};
+
+    ghost pinned = { λ s k p. list_pinned G.Output.view (G.IsOutput s.1) (G.pinned s.1 k.1.0 p) };
+
+    ghost steady = { λ s k. length_count_steady I.model I.lawful F.Error.errors (HasSize (F.IsOutput s.0) F.Output.size) (F.meaning s.0)
+        (G.meaning s.1) k.1.1 (F.steady s.0 k.0) (G.steady s.1 k.1.0) };
+}

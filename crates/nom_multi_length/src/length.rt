@@ -1,0 +1,65 @@
+//! Data after a length.
+ghost use Rattle.nom_traits.specs.Slices.{Slice, IsModelledBy};
+ghost use Rattle.nom_multi_length.specs.Lengths.{HasSize, length_data_meaning};
+
+use nom_bytes::take;
+use nom_error::answer::PResult;
+use nom_error::mode::{Emit, OutputM, OutputMode};
+use nom_error::value::ParseError;
+use nom_internal::parser::{Parser, StreamParser};
+use nom_traits::convert::ToUsize;
+use nom_traits::input::{Input, Items};
+
+/// A length and that many items after it, made by `length_data`.
+#[derive(Drop)]
+pub struct LengthData<F> {
+    pub parser: F,
+}
+
+impl<I: Input, F: Parser<I, Output: ToUsize> + Drop> Parser<I> for LengthData<F> {
+    ghost use Rattle.nom_multi_length.specs.LengthLaws.{length_data_lawful};
+
+    type Output = I;
+
+    type Error = F::Error;
+
+    ghost State = { F.State };
+
+    ghost state = { λ p. F.state p.parser };
+
+    // The tree of the length, and the items.
+    ghost Tree = { F.Tree × Slice I.model };
+
+    ghost IsOutput = { λ s t o. IsModelledBy I.model t.1 o };
+
+    ghost meaning = { λ s. length_data_meaning I.model F.Error.errors I.lack (HasSize (F.IsOutput s) F.Output.size) (F.meaning s) };
+
+    ghost Pins = { λ _. Unit {0} };
+
+    #[inline(always)]
+    fn process<OM: OutputMode>(&mut self, input: I) -> PResult<I, I, F::Error> {
+        let (rest, length) = self
+            .parser
+            .process::<OutputM<Emit, OM::Error, OM::Incomplete>>(input)?;
+        match length {
+            Some(length) => {
+                let mut data = take::<F::Output, I, F::Error>(length);
+                data.process::<OM>(rest)
+            }
+            None => unreachable!(),
+        }
+    }
+
+    ghost lawful = { λ s k. length_data_lawful I.model I.lawful F.Error.errors I.lack (HasSize (F.IsOutput s) F.Output.size)
+        (F.meaning s) k.1.1 (F.lawful s k.0) };
+}
+
+impl<I: Input, F: StreamParser<I, Output: ToUsize> + Drop> StreamParser<I> for LengthData<F> {
+    ghost use Rattle.nom_internal.specs.Pinned.{slice_pinned};
+    ghost use Rattle.nom_multi_length.specs.LengthLaws.{length_data_steady};
+
+    ghost pinned = { λ s k p t a b x y. slice_pinned I.model I.view I.views t.1 a b x y };
+
+    ghost steady = { λ s k. length_data_steady I.model I.lawful F.Error.errors I.lack (HasSize (F.IsOutput s) F.Output.size)
+        (F.meaning s) k.1.1 (F.steady s k.0) };
+}

@@ -1,0 +1,22 @@
+//! What a list after its length promises beside what every parser does. The function does nothing: its
+//! contract is the promise.
+ghost use Rattle.nom_multi_length.specs.Lengths.{HasSize};
+ghost use Rattle.nom_multi_length.specs.Promises.{AcceptsCounted};
+
+use crate::count::LengthCount;
+use nom_internal::parser::Parser;
+use nom_traits::convert::ToUsize;
+use nom_traits::input::Items;
+use std::alloc::Allocator;
+
+/// `length_count` accepts a length that its first part accepts, and after it just that many items that its second
+/// part accepts, one after the other, of any length.
+pub fn length_count_accepts<
+    I: Items,
+    A: Allocator + Copy,
+    F: Parser<I, Output: ToUsize> + Drop,
+    G: Parser<I, Error = F::Error> + Drop,
+>(_parser: &LengthCount<A, F, G>)
+    ensures { AcceptsCounted I.model (HasSize (F.IsOutput (F.state _parser.now.length)) F.Output.size) (F.meaning (F.state _parser.now.length))
+        (G.meaning (G.state _parser.now.parser)) (⟦<LengthCount<A, F, G> as Parser<I>>⟧.meaning (F.state _parser.now.length, G.state _parser.now.parser)) }
+{}

@@ -1,0 +1,133 @@
+//! A value after the length of what it is read from.
+ghost use Rattle.std.specs.Prelude.{◌≡◌};
+ghost use Rattle.nom_error.specs.declared.kind.ErrorKind.TheVariants as Kind;
+ghost use Rattle.nom_error.specs.Modes.{modes};
+ghost use Rattle.nom_internal.specs.Meaning.{ShowsMeaning};
+ghost use Rattle.nom_internal.specs.Pinned.{IsPinned};
+ghost use Rattle.nom_multi_length.specs.Lengths.{HasSize};
+ghost use Rattle.nom_multi_length.specs.Values.{SettlesResult, settled_meaning, values_by_length, length_value_meaning};
+
+use crate::cut::cut;
+use nom_error::answer::{Err, PResult};
+use nom_error::kind::ErrorKind;
+use nom_error::mode::{Emit, Mode, OutputM, OutputMode};
+use nom_error::value::{ParseError, refusal};
+use nom_internal::parser::{Parser, StreamParser};
+use nom_traits::convert::ToUsize;
+use nom_traits::input::{Input, Items};
+use nom_traits::view::Viewed;
+
+/// A length and a parser on exactly so much of the input after it, made by `length_value`.
+#[derive(Drop)]
+pub struct LengthValue<F, G> {
+    pub length: F,
+    pub parser: G,
+}
+
+/// An answer on all that there is: where more is needed, a refusal.
+#[inline(always)]
+fn settle<M: Mode, I: Drop, T, E: ParseError<I>>(
+    answer: Result<T, Err<E, Option<E>>>,
+    input: I,
+) -> Result<T, Err<E, Option<E>>>
+    ensures { SettlesResult (E.errors.of_kind input Kind.Complete) E.errors.grows M.BUILDS answer result }
+{
+    match answer {
+        Ok(accepted) => Ok(accepted),
+        Err(Err::Incomplete(_)) => Err(refusal::<M, I, E>(input, ErrorKind::Complete)),
+        Err(Err::Error(error)) => Err(Err::Error(error)),
+        Err(Err::Failure(error)) => Err(Err::Failure(error)),
+        Err(Err::OutOfMemory) => Err(Err::OutOfMemory),
+    }
+}
+
+/// A parser on all that there is, in the mode that is asked for.
+#[inline(always)]
+fn settled<OM: OutputMode, I: Input, G: Parser<I>>(
+    parser: &mut G,
+    input: I,
+) -> PResult<I, G::Output, G::Error>
+    requires sound { (G.meaning (G.state parser.old)).IsSound }
+    ensures shown { ShowsMeaning I.model (G.IsOutput (G.state parser.old)) (settled_meaning G.Error.errors (G.meaning (G.state parser.old)))
+        (modes OM.Output.BUILDS OM.Error.BUILDS OM.Incomplete.STREAMING) input result }
+    ensures kept { G.state parser.new ≡ G.state parser.old }
+{
+    settle::<OM::Error, I, (I, Option<G::Output>), G::Error>(parser.process::<OM>(input), input)
+}
+
+/// A parser on the first items of an input, of the length together: its rest is dropped.
+#[inline(always)]
+fn within<OM: OutputMode, I: Input, G: Parser<I>>(
+    parser: &mut G,
+    input: I,
+    length: usize,
+) -> PResult<I, G::Output, G::Error>
+    requires sound { (G.meaning (G.state parser.old)).IsSound }
+    ensures shown { ShowsMeaning I.model (G.IsOutput (G.state parser.old))
+        ((values_by_length I.model G.Error.errors (G.meaning (G.state parser.old))).at length)
+        (modes OM.Output.BUILDS OM.Error.BUILDS OM.Incomplete.STREAMING) input result }
+    ensures kept { G.state parser.new ≡ G.state parser.old }
+{
+    let (rest, slice) = cut::<OutputM<Emit, OM::Error, OM::Incomplete>, I, G::Error>(
+        input, length,
+    )?;
+    let bound = match slice {
+        Some(slice) => slice,
+        None => unreachable!(),
+    };
+    bound.prove_known();
+    let (_, output) = settled::<OM, I, G>(parser, bound)?;
+    Ok((rest, output))
+}
+
+impl<
+    I: Input,
+    F: Parser<I, Output: ToUsize> + Drop,
+    G: Parser<I, Output: Viewed, Error = F::Error> + Drop,
+> Parser<I> for LengthValue<F, G> {
+    ghost use Rattle.nom_multi_length.specs.ValueLaws.{length_value_lawful};
+
+    type Output = G::Output;
+
+    type Error = F::Error;
+
+    ghost State = { F.State × G.State };
+
+    ghost state = { λ p. (F.state p.length, G.state p.parser) };
+
+    ghost Tree = { G.Tree };
+
+    ghost IsOutput = { λ s. G.IsOutput s.1 };
+
+    ghost meaning = { λ s. length_value_meaning I.model F.Error.errors (HasSize (F.IsOutput s.0) F.Output.size) (F.meaning s.0) (G.meaning s.1) };
+
+    // The second needn't be a stream parser, which alone has a law of what it pins.
+    ghost Pins = { λ s. IsPinned G.Output.view (G.IsOutput s.1) };
+
+    #[inline(always)]
+    fn process<OM: OutputMode>(&mut self, input: I) -> PResult<I, G::Output, F::Error> {
+        let (rest, length) = self
+            .length
+            .process::<OutputM<Emit, OM::Error, OM::Incomplete>>(input)?;
+        match length {
+            Some(length) => within::<OM, I, G>(&mut self.parser, rest, length.to_usize()),
+            None => unreachable!(),
+        }
+    }
+
+    ghost lawful = { λ s k. length_value_lawful I.model I.lawful F.Error.errors (HasSize (F.IsOutput s.0) F.Output.size) (F.meaning s.0) (G.meaning s.1)
+        (G.lawful s.1 k.1.0) k.1.1 (F.lawful s.0 k.0) };
+}
+
+impl<
+    I: Input,
+    F: StreamParser<I, Output: ToUsize> + Drop,
+    G: Parser<I, Output: Viewed, Error = F::Error> + Drop,
+> StreamParser<I> for LengthValue<F, G> {
+    ghost use Rattle.nom_multi_length.specs.ValueLaws.{length_value_steady};
+
+    ghost pinned = { λ s k p. p };
+
+    ghost steady = { λ s k. length_value_steady I.model I.lawful F.Error.errors (HasSize (F.IsOutput s.0) F.Output.size) (F.meaning s.0) (G.meaning s.1)
+        (G.lawful s.1 k.1.0) k.1.1 (F.steady s.0 k.0) };
+}

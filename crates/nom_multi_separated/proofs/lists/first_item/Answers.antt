@@ -1,0 +1,50 @@
+use Rattle.std.proofs.Common.{rules, []}
+use Rattle.nom_internal.proofs.Shown.{accepts}
+use Rattle.nom_repeat.proofs.Accumulating.{kept_none, pushed, room_built, room_grows}
+use Rattle.nom_multi_separated.proofs.SeparatedShown.{first_missing, first_found, first_failed, first_lacks, first_lacks_room, nothing_yet}
+use Rattle.nom_multi_separated.proofs.lists.first_item.Goals as goal
+
+pub returns-then-not-push_item-clause-shown : goal.returns-then-not-push_item-clause-shown
+returns-then-not-push_item-clause-shown g c =
+    let full = c.push_item.ensures.full c.if-not-push_item.true in
+    let first = kept_none g.K.Accumulator.Pushes g.K.Accumulator.CanPush (g.F.Parser.IsOutput (g.F.Parser.state c.args.parser.now)) _ _ c.requires.built in
+    first_lacks_room g.met.I.Items.lawful g.F.Error.ParseError.errors g.K.Accumulator.Grows (g.F.Parser.meaning (g.F.Parser.state c.args.parser.now))
+    g.K.Accumulator.Pushes g.K.Accumulator.CanPush (g.F.Parser.IsOutput (g.F.Parser.state c.args.parser.now)) c.args.before _ _ _
+    (nothing_yet g.met.I.Items.lawful ((g.F.Parser.meaning (g.F.Parser.state c.args.parser.now)).answers g.OM.Incomplete.IsStreaming.STREAMING)
+    c.prove_known.ensures) (accepts c.in-Ok.ensures.shown) (room_built g.K.Accumulator.IsFull _ _ _ first full)
+    (room_grows g.K.Accumulator.IsFull g.K.Accumulator.Grows g.K.Accumulator.fills _ full)
+
+pub returns-else-not-push_item-clause-shown : goal.returns-else-not-push_item-clause-shown
+returns-else-not-push_item-clause-shown g c =
+    let first = kept_none g.K.Accumulator.Pushes g.K.Accumulator.CanPush (g.F.Parser.IsOutput (g.F.Parser.state c.args.parser.now)) _ _ c.requires.built in
+    let item = accepts c.in-Ok.ensures.shown in
+    first_found g.met.I.Items.lawful g.F.Error.ParseError.errors g.K.Accumulator.Grows (g.F.Parser.meaning (g.F.Parser.state c.args.parser.now))
+    g.K.Accumulator.Pushes
+    g.K.Accumulator.CanPush (g.F.Parser.IsOutput (g.F.Parser.state c.args.parser.now)) c.args.before _ _ _
+    (nothing_yet g.met.I.Items.lawful ((g.F.Parser.meaning (g.F.Parser.state c.args.parser.now)).answers g.OM.Incomplete.IsStreaming.STREAMING)
+    c.prove_known.ensures) item _ (pushed g.K.Accumulator.Pushes g.K.Accumulator.CanPush (g.F.Parser.IsOutput (g.F.Parser.state c.args.parser.now)) _ _ [] _ _
+    _ _
+    (c.push_item.ensures.kept (search rules)) first item.built_is)
+
+pub returns-in-Err-Error-clause-shown : goal.returns-in-Err-Error-clause-shown
+returns-in-Err-Error-clause-shown g c =
+    first_missing g.met.I.Items.lawful g.F.Error.ParseError.errors g.K.Accumulator.Grows (g.F.Parser.meaning (g.F.Parser.state c.args.parser.now))
+    g.K.Accumulator.Pushes g.K.Accumulator.CanPush (g.F.Parser.IsOutput (g.F.Parser.state c.args.parser.now)) c.args.before _ _ _
+    (nothing_yet g.met.I.Items.lawful ((g.F.Parser.meaning (g.F.Parser.state c.args.parser.now)).answers g.OM.Incomplete.IsStreaming.STREAMING)
+    c.prove_known.ensures) c.in-Err-Error.field-0-is c.in-Err-Error.ensures.shown _
+    (kept_none g.K.Accumulator.Pushes g.K.Accumulator.CanPush (g.F.Parser.IsOutput (g.F.Parser.state c.args.parser.now)) _ _ c.requires.built)
+
+pub returns-in-Err-Failure-clause-shown : goal.returns-in-Err-Failure-clause-shown
+returns-in-Err-Failure-clause-shown g c =
+    first_failed g.met.I.Items.lawful g.F.Error.ParseError.errors g.K.Accumulator.Grows (g.F.Parser.meaning (g.F.Parser.state c.args.parser.now))
+    g.K.Accumulator.Pushes g.K.Accumulator.CanPush (g.F.Parser.IsOutput (g.F.Parser.state c.args.parser.now)) c.args.before _ _ _
+    (nothing_yet g.met.I.Items.lawful ((g.F.Parser.meaning (g.F.Parser.state c.args.parser.now)).answers g.OM.Incomplete.IsStreaming.STREAMING)
+    c.prove_known.ensures) c.in-Err-Failure.field-0-is c.in-Err-Failure.ensures.shown
+
+pub returns-in-Err-Incomplete-clause-shown : goal.returns-in-Err-Incomplete-clause-shown
+returns-in-Err-Incomplete-clause-shown g c =
+    first_lacks g.met.I.Items.lawful g.F.Error.ParseError.errors g.K.Accumulator.Grows (g.F.Parser.meaning (g.F.Parser.state c.args.parser.now))
+    g.K.Accumulator.Pushes
+    g.K.Accumulator.CanPush (g.F.Parser.IsOutput (g.F.Parser.state c.args.parser.now)) c.args.before _ _ _
+    (nothing_yet g.met.I.Items.lawful ((g.F.Parser.meaning (g.F.Parser.state c.args.parser.now)).answers g.OM.Incomplete.IsStreaming.STREAMING)
+    c.prove_known.ensures) c.in-Err-Incomplete.field-0-is c.in-Err-Incomplete.ensures.shown

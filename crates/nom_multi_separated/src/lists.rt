@@ -1,0 +1,205 @@
+//! Items with a separator between them.
+ghost use Rattle.std.specs.Prelude.{◌≡◌, true, List};
+ghost use Rattle.std.specs.List.{AllZip};
+ghost use Rattle.nom_error.specs.Modes.{Built, modes};
+ghost use Rattle.nom_internal.specs.Outcome.{ShowsAnswer};
+ghost use Rattle.nom_multi_separated.specs.Separated.{Found, optional_meaning, separated0_meaning, separated1_meaning};
+
+use nom_error::answer::{Err, PResult};
+use nom_error::kind::ErrorKind;
+use nom_error::mode::{Check, OutputM, OutputMode};
+use nom_error::value::ParseError;
+use nom_internal::parser::{Parser, StreamParser};
+use nom_repeat::accumulator::{Accumulator, none_yet, push_item};
+use nom_repeat::items::{Limits, TooFew, items};
+use nom_sequence::Preceded;
+use nom_traits::input::{Input, Items};
+use std::alloc::Allocator;
+
+/// Items with a separator between them, and one at least; made by `separated_list1`.
+#[derive(Drop)]
+pub struct SeparatedList1<A, G, F> {
+    pub alloc: A,
+    /// A separator and an item after it.
+    pub next: Preceded<G, F>,
+}
+
+impl<
+    I: Input,
+    A: Allocator + Copy,
+    F: Parser<I> + Drop,
+    G: Parser<I, Error = F::Error> + Drop,
+> Parser<I> for SeparatedList1<A, G, F> {
+    ghost use Rattle.nom_multi_separated.specs.SeparatedLaws.{separated1_lawful};
+
+    type Output = Vec<F::Output, A>;
+
+    type Error = F::Error;
+
+    ghost State = { G.State × F.State };
+
+    ghost state = { λ p. (G.state p.next.first, F.state p.next.second) };
+
+    ghost Tree = { List F.Tree };
+
+    ghost IsOutput = { λ s vs o. AllZip (F.IsOutput s.1) vs o.items };
+
+    ghost meaning = { λ s. separated1_meaning I.model F.Error.errors (G.meaning s.0) (F.meaning s.1) };
+
+    ghost Pins = { λ s. F.Pins s.1 };
+
+    #[inline]
+    fn process<OM: OutputMode>(&mut self, input: I) -> PResult<I, Self::Output, Self::Error> {
+        let none = none_yet::<OM::Output, F::Output, A>(self.alloc);
+        let one = Limits {
+            least: 1,
+            most: Some(1),
+            too_few: TooFew::Passed,
+            at_start: false,
+            empty: None,
+        };
+        let (rest, first) = items::<OM, OM::Error, I, F, Vec<F::Output, A>>(
+            &mut self.next.second,
+            input,
+            none,
+            one,
+        )?;
+        let any = Limits {
+            least: 0,
+            most: None,
+            too_few: TooFew::Never,
+            at_start: false,
+            empty: Some(ErrorKind::SeparatedList),
+        };
+        items::<OM, Check, I, Preceded<G, F>, Vec<F::Output, A>>(&mut self.next, rest, first, any)
+    }
+
+    ghost lawful = { λ s k. separated1_lawful I.model I.lawful F.Error.errors (G.meaning s.0) (F.meaning s.1) (G.lawful s.0 k.1.0) (F.lawful s.1 k.0) };
+}
+
+impl<
+    I: Input,
+    A: Allocator + Copy,
+    F: StreamParser<I> + Drop,
+    G: StreamParser<I, Error = F::Error> + Drop,
+> StreamParser<I> for SeparatedList1<A, G, F> {
+    ghost use Rattle.nom_repeat.specs.Lists.{list_pinned};
+    ghost use Rattle.nom_multi_separated.specs.SeparatedLaws.{separated1_steady};
+
+    ghost pinned = { λ s k p. list_pinned F.Output.view (F.IsOutput s.1) (F.pinned s.1 k.0 p) };
+
+    ghost steady = { λ s k. separated1_steady I.model I.lawful F.Error.errors (G.meaning s.0) (F.meaning s.1) (G.steady s.0 k.1.0) (F.steady s.1 k.0) };
+}
+
+/// Items with a separator between them, made by `separated_list0`.
+#[derive(Drop)]
+pub struct SeparatedList0<A, G, F> {
+    pub alloc: A,
+    /// A separator and an item after it.
+    pub next: Preceded<G, F>,
+}
+
+impl<
+    I: Input,
+    A: Allocator + Copy,
+    F: Parser<I> + Drop,
+    G: Parser<I, Error = F::Error> + Drop,
+> Parser<I> for SeparatedList0<A, G, F> {
+    ghost use Rattle.nom_multi_separated.specs.SeparatedLaws.{separated0_lawful};
+
+    type Output = Vec<F::Output, A>;
+
+    type Error = F::Error;
+
+    ghost State = { G.State × F.State };
+
+    ghost state = { λ p. (G.state p.next.first, F.state p.next.second) };
+
+    ghost Tree = { List F.Tree };
+
+    ghost IsOutput = { λ s vs o. AllZip (F.IsOutput s.1) vs o.items };
+
+    ghost meaning = { λ s. separated0_meaning I.model F.Error.errors (G.meaning s.0) (F.meaning s.1) };
+
+    ghost Pins = { λ s. F.Pins s.1 };
+
+    #[inline]
+    fn process<OM: OutputMode>(&mut self, input: I) -> PResult<I, Self::Output, Self::Error> {
+        let none = none_yet::<OM::Output, F::Output, A>(self.alloc);
+        let (rest, first) = first_item::<OM, I, F, Vec<F::Output, A>>(
+            &mut self.next.second,
+            input,
+            none,
+        )?;
+        match first {
+            Some((found, list)) => {
+                if !found {
+                    return Ok((rest, list));
+                }
+                let any = Limits {
+                    least: 0,
+                    most: None,
+                    too_few: TooFew::Never,
+                    at_start: false,
+                    empty: Some(ErrorKind::SeparatedList),
+                };
+                items::<OM, Check, I, Preceded<G, F>, Vec<F::Output, A>>(
+                    &mut self.next,
+                    rest,
+                    list,
+                    any,
+                )
+            }
+            None => unreachable!(),
+        }
+    }
+
+    ghost lawful = { λ s k. separated0_lawful I.model I.lawful F.Error.errors (G.meaning s.0) (F.meaning s.1) (G.lawful s.0 k.1.0) (F.lawful s.1 k.0) };
+}
+
+impl<
+    I: Input,
+    A: Allocator + Copy,
+    F: StreamParser<I> + Drop,
+    G: StreamParser<I, Error = F::Error> + Drop,
+> StreamParser<I> for SeparatedList0<A, G, F> {
+    ghost use Rattle.nom_repeat.specs.Lists.{list_pinned};
+    ghost use Rattle.nom_multi_separated.specs.SeparatedLaws.{separated0_steady};
+
+    ghost pinned = { λ s k p. list_pinned F.Output.view (F.IsOutput s.1) (F.pinned s.1 k.0 p) };
+
+    ghost steady = { λ s k. separated0_steady I.model I.lawful F.Error.errors (G.meaning s.0) (F.meaning s.1) (G.steady s.0 k.1.0) (F.steady s.1 k.0) };
+}
+
+/// The first item, if it isn't refused: whether there is one, and what is kept.
+#[inline(always)]
+fn first_item<OM: OutputMode, I: Input, F: Parser<I>, K: Accumulator<F::Output> + Drop>(
+    parser: &mut F,
+    input: I,
+    before: Option<K>,
+) -> PResult<I, (bool, Option<K>), F::Error>
+    requires sound { (F.meaning (F.state parser.old)).IsSound }
+    requires built { Built OM.Output.BUILDS K.CanPush before }
+    ensures shown { ShowsAnswer I.model (Found K.Pushes K.CanPush (F.IsOutput (F.state parser.old)) OM.Output.BUILDS before)
+        (modes true OM.Error.BUILDS OM.Incomplete.STREAMING) input
+        ((optional_meaning I.model F.Error.errors K.Grows (F.meaning (F.state parser.old))).answers OM.Incomplete.STREAMING input)
+        ((optional_meaning I.model F.Error.errors K.Grows (F.meaning (F.state parser.old))).blames OM.Incomplete.STREAMING input)
+        ((optional_meaning I.model F.Error.errors K.Grows (F.meaning (F.state parser.old))).may_run_out
+        (modes OM.Output.BUILDS OM.Error.BUILDS OM.Incomplete.STREAMING) input) result }
+    ensures kept { F.state parser.new ≡ F.state parser.old }
+{
+    input.prove_known();
+    let mut kept = before;
+    match parser.process::<OutputM<OM::Output, Check, OM::Incomplete>>(input) {
+        Ok((rest, item)) => {
+            if !push_item(&mut kept, item) {
+                return Err(Err::OutOfMemory);
+            }
+            Ok((rest, Some((true, kept))))
+        }
+        Err(Err::Error(_)) => Ok((input, Some((false, kept)))),
+        Err(Err::Failure(error)) => Err(Err::Failure(error)),
+        Err(Err::Incomplete(needed)) => Err(Err::Incomplete(needed)),
+        Err(Err::OutOfMemory) => Err(Err::OutOfMemory),
+    }
+}

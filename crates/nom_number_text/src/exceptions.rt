@@ -1,0 +1,77 @@
+//! Words in the place of a decimal fraction.
+ghost use Rattle.std.specs.Prelude.{◌⊎◌};
+ghost use Rattle.nom_traits.specs.Slices.{Slice, IsModelledBy};
+ghost use Rattle.nom_internal.specs.Choice.{EitherOutput};
+ghost use Rattle.nom_number_text.specs.Words.{exceptions_meaning};
+ghost use Rattle.nom_number_text.specs.WordLaws.{exceptions_lawful, exceptions_steady, exceptions_pinned};
+
+use crate::word::{Exception, Word};
+use nom_error::answer::PResult;
+use nom_error::kind::ErrorKind;
+use nom_error::mode::OutputMode;
+use nom_error::value::ParseError;
+use nom_internal::choice::{close, next_branch};
+use nom_internal::parser::{Parser, StreamParser};
+use nom_traits::character::AsChar;
+use nom_traits::input::Input;
+use std::marker::PhantomData;
+
+/// A parser, or where it refuses `nan`, `infinity` or `inf`; made by `recognize_float_or_exceptions`.
+#[derive(Drop)]
+pub struct OrExceptions<F> {
+    pub parser: F,
+}
+
+impl<I: Input, F: Parser<I, Output = I> + Drop> Parser<I> for OrExceptions<F>
+where
+    I::Item: AsChar,
+{
+    type Output = I;
+
+    type Error = F::Error;
+
+    ghost State = { F.State };
+
+    ghost state = { λ p. F.state p.parser };
+
+    // The branch that is taken, and its tree.
+    ghost Tree = { ((F.Tree ⊎ Slice I.model) ⊎ Slice I.model) ⊎ Slice I.model };
+
+    ghost IsOutput = { λ s. EitherOutput (EitherOutput (EitherOutput (F.IsOutput s) (IsModelledBy I.model)) (IsModelledBy I.model)) (IsModelledBy I.model) };
+
+    ghost meaning = { λ s. exceptions_meaning I.model I.Item.code F.Error.errors (F.meaning s) };
+
+    ghost Pins = { F.Pins };
+
+    #[inline(always)]
+    fn process<OM: OutputMode>(&mut self, input: I) -> PResult<I, I, F::Error> {
+        let mut nan = Word::<I, F::Error> {
+            word: Exception::Nan,
+            error: PhantomData,
+        };
+        let mut infinity = Word::<I, F::Error> {
+            word: Exception::Infinity,
+            error: PhantomData,
+        };
+        let mut inf = Word::<I, F::Error> {
+            word: Exception::Inf,
+            error: PhantomData,
+        };
+        let answer = self.parser.process::<OM>(input);
+        let answer = next_branch::<I, Word<I, F::Error>, OM>(answer, &mut nan, input);
+        let answer = next_branch::<I, Word<I, F::Error>, OM>(answer, &mut infinity, input);
+        let answer = next_branch::<I, Word<I, F::Error>, OM>(answer, &mut inf, input);
+        close(answer, input, ErrorKind::Alt)
+    }
+
+    ghost lawful = { λ s k. exceptions_lawful I.model I.Item.code F.Error.errors (F.meaning s) (F.lawful s k.0.0.0) };
+}
+
+impl<I: Input, F: StreamParser<I, Output = I> + Drop> StreamParser<I> for OrExceptions<F>
+where
+    I::Item: AsChar,
+{
+    ghost pinned = { λ s k p. exceptions_pinned I.model I.view I.views (F.IsOutput s) (F.pinned s k.0.0.0 p) };
+
+    ghost steady = { λ s k. exceptions_steady I.model I.Item.code F.Error.errors (F.meaning s) (F.steady s k.0.0.0) };
+}

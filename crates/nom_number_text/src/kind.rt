@@ -1,0 +1,72 @@
+//! A part whose errors become those of one kind.
+ghost use Rattle.nom_error.specs.declared.kind.ErrorKind.TheVariants as Kind;
+ghost use Rattle.nom_combinator.specs.Contexts.{IsRenamed};
+ghost use Rattle.nom_number_text.specs.Words.{as_float_meaning};
+ghost use Rattle.nom_internal.specs.MappedLaws.{renamed_lawful, renamed_steady};
+
+use nom_error::answer::{Err, PResult};
+use nom_error::kind::ErrorKind;
+use nom_error::mode::OutputMode;
+use nom_error::value::ParseError;
+use nom_internal::parser::{Parser, StreamParser};
+use nom_traits::input::Items;
+
+/// An answer, whose error becomes one of `Float` where it holds one.
+#[inline(always)]
+fn of_float<I: Drop, E: ParseError<I>>(input: I, answer: Err<E, Option<E>>) -> Err<E, Option<E>>
+    ensures { IsRenamed (λ _. E.errors.of_kind input Kind.Float) E.errors.grows answer result }
+{
+    match answer {
+        Err::Incomplete(needed) => Err::Incomplete(needed),
+        Err::Error(Some(_)) => match E::from_error_kind(input, ErrorKind::Float) {
+            Ok(error) => Err::Error(Some(error)),
+            Err(_) => Err::OutOfMemory,
+        },
+        Err::Error(None) => Err::Error(None),
+        Err::Failure(_) => match E::from_error_kind(input, ErrorKind::Float) {
+            Ok(error) => Err::Failure(error),
+            Err(_) => Err::OutOfMemory,
+        },
+        Err::OutOfMemory => Err::OutOfMemory,
+    }
+}
+
+/// A parser whose errors become those of `Float` at the start.
+#[derive(Drop)]
+pub struct AsFloat<F> {
+    pub parser: F,
+}
+
+impl<I: Items, F: Parser<I> + Drop> Parser<I> for AsFloat<F> {
+    type Output = F::Output;
+
+    type Error = F::Error;
+
+    ghost State = { F.State };
+
+    ghost state = { λ p. F.state p.parser };
+
+    ghost Tree = { F.Tree };
+
+    ghost IsOutput = { F.IsOutput };
+
+    ghost meaning = { λ s. as_float_meaning F.Error.errors (F.meaning s) };
+
+    ghost Pins = { F.Pins };
+
+    #[inline(always)]
+    fn process<OM: OutputMode>(&mut self, input: I) -> PResult<I, Self::Output, Self::Error> {
+        match self.parser.process::<OM>(input) {
+            Ok(accepted) => Ok(accepted),
+            Err(answer) => Err(of_float::<I, F::Error>(input, answer)),
+        }
+    }
+
+    ghost lawful = { λ s k. renamed_lawful I.model (λ i _. F.Error.errors.of_kind i Kind.Float) F.Error.errors.grows (F.meaning s) (F.lawful s k) };
+}
+
+impl<I: Items, F: StreamParser<I> + Drop> StreamParser<I> for AsFloat<F> {
+    ghost pinned = { F.pinned };
+
+    ghost steady = { λ s k. renamed_steady I.model (λ i _. F.Error.errors.of_kind i Kind.Float) F.Error.errors.grows (F.meaning s) (F.steady s k) };
+}

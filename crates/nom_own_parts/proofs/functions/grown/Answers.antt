@@ -1,4 +1,0 @@
-use Rattle.nom_own_parts.proofs.functions.grown.Goals as goal
-
-pub parse_growing-requires-clause-sound : goal.parse_growing-requires-clause-sound
-parse_growing-requires-clause-sound g c = rw (c.stream_func.ensures) c.requires.sound

@@ -1,5 +1,0 @@
-use Rattle.nom_own_parts.proofs.Heads.{behind_first, small_first}
-use Rattle.nom_own_parts.proofs.functions.small.Goals as goal
-
-pub returns-then-byte-lt128 : goal.returns-then-byte-lt128
-returns-then-byte-lt128 c = (1, behind_first c.known.ensures c.in-Some.ensures.cases.0, small_first c.in-Some.ensures.cases.0 c.if-byte-lt128.true)

@@ -1,0 +1,95 @@
+//! What is kept of items.
+ghost use Rattle.std.specs.Prelude.{◌≡◌, ◌+◌, ◌-◌, ◌^◌, ◌≤◌, ◌++◌, ◌∷◌, [], IsTrue, IfSome, false, min, vec_len, vec_capacity};
+ghost use Rattle.nom_error.specs.Modes.{Built};
+ghost use Rattle.nom_repeat.specs.Accumulated.{PushesBoth, LacksRoom};
+
+use nom_error::mode::Mode;
+use std::alloc::Allocator;
+
+/// What is kept of items of type `T`: a list, a number, the value of a fold.
+pub trait Accumulator<T> {
+    /// What is kept after one item more.
+    ghost Pushes: { Self → T → Self → Type 0 };
+
+    /// The premise: what is called to keep an item may be called.
+    ghost CanPush: { Self → Type 0 };
+
+    /// There is no room for an item but by more memory.
+    ghost IsFull: { Self → Type 0 };
+
+    /// Accumulating items may take memory.
+    ghost Grows: { Type 0 };
+
+    ghost fills: { (k : Self) → IsFull k → Grows };
+
+    /// Keeps an item, and tells whether there was memory for it; there may be none only where there is no
+    /// room.
+    fn keep(&mut self, item: T) -> bool
+        requires { CanPush self.old }
+        ensures kept { IsTrue result → Pushes self.old item self.new }
+        ensures next { IsTrue result → CanPush self.new }
+        ensures full { result ≡ false → IsFull self.old };
+}
+
+/// A list of the items, in their order.
+impl<T: Drop, A: Allocator> Accumulator<T> for Vec<T, A> {
+    ghost Pushes = { λ old x new. new.items ≡ old.items ++ x ∷ [] };
+
+    ghost CanPush = { λ _. Unit {0} };
+
+    ghost IsFull = { λ list. vec_capacity list ≤ vec_len list };
+
+    ghost Grows = { Unit {0} };
+
+    ghost fills = { λ _ _. tt };
+
+    #[inline(always)]
+    fn keep(&mut self, item: T) -> bool {
+        self.push(item).is_ok()
+    }
+}
+
+/// The number of the items, up to `usize::MAX`.
+impl<T: Drop> Accumulator<T> for usize {
+    ghost Pushes = { λ old _ new. new ≡ min (old + 1) (2 ^ 64 - 1) };
+
+    ghost CanPush = { λ _. Unit {0} };
+
+    ghost IsFull = { λ _. ⊥ };
+
+    ghost Grows = { ⊥ };
+
+    ghost fills = { λ _ h. h };
+
+    #[inline(always)]
+    fn keep(&mut self, _item: T) -> bool {
+        *self = self.saturating_add(1);
+        true
+    }
+}
+
+/// Keeps an item, where outputs are built, and tells whether there was memory for it.
+#[inline(always)]
+pub fn push_item<T: Drop, K: Accumulator<T>>(kept: &mut Option<K>, item: Option<T>) -> bool
+    requires { IfSome kept.old K.CanPush }
+    ensures kept { IsTrue result → PushesBoth K.Pushes K.CanPush kept.old item kept.new }
+    ensures full { result ≡ false → LacksRoom K.IsFull kept.old }
+{
+    match (kept, item) {
+        (Some(kept), Some(item)) => kept.keep(item),
+        _ => true,
+    }
+}
+
+/// A list of no items, where a list is built; it takes no memory.
+#[inline(always)]
+pub fn none_yet<M: Mode, T, A: Allocator>(alloc: A) -> Option<Vec<T, A>>
+    ensures empty { Built M.BUILDS (λ list. list.items ≡ []) result }
+    ensures ready { Built M.BUILDS (λ _. Unit {0}) result }
+{
+    if M::BUILDS {
+        Some(Vec::new(alloc))
+    } else {
+        None
+    }
+}

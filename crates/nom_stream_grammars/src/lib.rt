@@ -1,6 +1,0 @@
-//! Grammars of items that come in a stream: records, and the messages of `nom_protocol`.
-#![tactic(auto)]
-
-pub mod fields;
-pub mod messages;
-pub mod records;
