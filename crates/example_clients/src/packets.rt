@@ -19,7 +19,7 @@ type BitError<'a> = Error<(&'a [u8], usize)>;
 #[derive(Clone, Copy, Debug, PartialEq, Eq)]
 pub struct MacAddress(pub u8, pub u8, pub u8, pub u8, pub u8, pub u8);
 
-/// The head of an Ethernet frame.
+/// The header of an Ethernet frame.
 #[derive(Clone, Copy, Debug, PartialEq, Eq)]
 pub struct EthernetHeader {
     pub destination: MacAddress,
@@ -28,7 +28,7 @@ pub struct EthernetHeader {
     pub kind: u16,
 }
 
-/// The head of an IPv4 datagram. Lengths are in bytes.
+/// The header of an IPv4 datagram. Lengths are in bytes.
 #[derive(Clone, Copy, Debug, PartialEq, Eq)]
 pub struct Ipv4Header<'a> {
     pub header_length: usize,
@@ -47,7 +47,7 @@ pub struct Ipv4Header<'a> {
     pub options: &'a [u8],
 }
 
-/// The head of a TCP segment. Its length is in bytes.
+/// The header of a TCP segment. Its length is in bytes.
 #[derive(Clone, Copy, Debug, PartialEq, Eq)]
 pub struct TcpHeader<'a> {
     pub source: u16,
@@ -76,7 +76,7 @@ pub enum TcpOption<'a> {
     Other(u8, &'a [u8]),
 }
 
-/// The head of a UDP datagram.
+/// The header of a UDP datagram.
 #[derive(Clone, Copy, Debug, PartialEq, Eq)]
 pub struct UdpHeader {
     pub source: u16,
@@ -95,7 +95,7 @@ fn mac_address(input: Bytes<'_>) -> IResult<Bytes<'_>, MacAddress> {
     Ok((input, MacAddress(a, b, c, d, e, f)))
 }
 
-/// The head of an Ethernet frame.
+/// The header of an Ethernet frame.
 pub fn ethernet(input: Bytes<'_>) -> IResult<Bytes<'_>, EthernetHeader> {
     let (input, destination) = mac_address(input)?;
     let (input, source) = mac_address(input)?;
@@ -122,7 +122,7 @@ fn nibbles(input: Bytes<'_>) -> IResult<Bytes<'_>, (u8, u8)> {
     bits(pair).parse(input)
 }
 
-/// The head of an IPv4 datagram, with its options. One of another version is refused with `Verify`.
+/// The header of an IPv4 datagram, with its options. One of another version is refused with `Verify`.
 pub fn ipv4(start: Bytes<'_>) -> IResult<Bytes<'_>, Ipv4Header<'_>> {
     let (input, (version, words)) = nibbles(start)?;
     if version != 4 || words < 5 {
@@ -157,7 +157,7 @@ pub fn ipv4(start: Bytes<'_>) -> IResult<Bytes<'_>, Ipv4Header<'_>> {
     Ok((input, head))
 }
 
-/// The head of a TCP segment, with the bytes of its options.
+/// The header of a TCP segment, with the bytes of its options.
 pub fn tcp(start: Bytes<'_>) -> IResult<Bytes<'_>, TcpHeader<'_>> {
     let (input, source) = be_u16().parse(start)?;
     let (input, destination) = be_u16().parse(input)?;
@@ -228,7 +228,7 @@ fn option_of(kind: u8, body: Bytes<'_>) -> Result<TcpOption<'_>, Err<Error<Bytes
     }
 }
 
-/// The head of a UDP datagram, whose length is 8 bytes at least.
+/// The header of a UDP datagram, whose length is 8 bytes at least.
 pub fn udp(start: Bytes<'_>) -> IResult<Bytes<'_>, UdpHeader> {
     let (input, source) = be_u16().parse(start)?;
     let (input, destination) = be_u16().parse(input)?;

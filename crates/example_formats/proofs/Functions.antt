@@ -34,7 +34,7 @@ pub given_itself : {V O : Type 0} (g : Grammar V O) (i : Text) (r : Told O) → 
 given_itself g i (Ok (j, x)) h = record { found = Ok (j, x); parsed = h; given = (x, refl, refl) }
 given_itself g i (Err e) h = record { found = Err e; parsed = h; given = refl }
 
--- what is held by an acceptance, as it is seen
+-- what is held by an acceptance, as a model
 abbrev IsModelled : {V P : Type 0} (model : View P) → (V → P → Type 0) → Outcome V → Outcome model.Value → Type 0
 IsModelled {P = P} model Holds (Accept n t) o = (y : P) × Holds t y × (o ≡ Accept n (model.value y))
 IsModelled model Holds Refuse o = o ≡ Refuse

@@ -1,4 +1,4 @@
--- How a text with its depth in brackets is seen: as the text, with the depth as a mark, which each character moves.
+-- The model of a text with its depth in brackets: the text's, with the depth as a mark, which each character moves.
 use Rattle.std.specs.Prelude.{ℕ, ◌+◌, ◌-◌, ◌^◌, ◌==◌, min, if◌then◌else◌, List}
 use Rattle.std.specs.Borrow.{Bor}
 use Rattle.nom_traits.specs.Input.{Model}

@@ -1,4 +1,4 @@
--- How a text with the name of its file is seen: as the text, with the name as its mark.
+-- The model of a text with the name of its file: the text's, with the name as its mark.
 use Rattle.std.specs.Prelude.{ℕ, List}
 use Rattle.nom_traits.specs.Input.{Model}
 use Rattle.nom_traits.specs.Text.{text_model}

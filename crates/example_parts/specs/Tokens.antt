@@ -1,4 +1,4 @@
--- Inputs that hold a slice of tokens, and are seen as it is, with a mark: how many tokens stood before.
+-- Inputs that hold a slice of tokens. Their model is the slice's, with a mark: how many tokens stood before.
 use Rattle.std.specs.Prelude.{◌≡◌, ℕ, ◌+◌, ◌-◌, ◌^◌, min, ◌<◌, ◌≤◌, List, [], ◌∷◌, ◌++◌, length, take, drop, Option, Some, refl}
 use Rattle.std.specs.Borrow.{Bor}
 use Rattle.std.proofs.Common.{arith, lit<, sym, ◌∙◌, ap, subst, length-append}

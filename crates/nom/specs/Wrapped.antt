@@ -1,5 +1,5 @@
 -- Inputs of a user's own type that hold another input, and a label that each front and rest keeps: the name of a file, say,
--- or nothing (`no_label`). They are seen as what they hold, with the label as a part of the mark.
+-- or nothing (`no_label`). Their model is that of what they hold, with the label as a part of the mark.
 use Rattle.std.specs.Prelude.{◌≡◌, ℕ, ◌<◌, List, [], ◌++◌, length, Option, Result, Ok, Err, MatchResult}
 use Rattle.std.proofs.Common.{ap, ◌∙◌}
 use Rattle.nom_error.specs.declared.answer.Needed.{Needed}

@@ -60,7 +60,7 @@ impl Weighs for Received {
     }
 }
 
-/// How many items were found, and the sum of their weights.
+/// How many items were found, and the sum of their values.
 #[derive(Clone, Copy)]
 struct Found {
     items: u64,

@@ -8,7 +8,7 @@ use Rattle.nom_internal.specs.Leaf.{Leaf, leaf_meaning}
 use Rattle.nom_internal.specs.Cases.{labelled_meaning, closed_meaning}
 use Rattle.nom_internal.specs.Choice.{or_meaning}
 
--- what always refuses
+-- a parser that always refuses
 abbrev pub no_branch : {I V : Type 0} → Leaf I V
 no_branch = record {
   Accepts = λ s i n v. ⊥;
@@ -40,7 +40,7 @@ module _ {S I V E : Type 0} (e : Errors I E) (part : S → Meaning I V E) where
   list_meaning [] = none_meaning e
   list_meaning (s ∷ ss) = closed_meaning (λ i. e.appended i Alt) e.grows (any_branch_meaning (s ∷ ss))
 
--- what stands at place k of a list
+-- s is the element at index k of a list
 abbrev pub IsElementAt : {S : Type 0} → List S → ℕ → S → Type 0
 IsElementAt [] k s = ⊥
 IsElementAt (x ∷ xs) zero s = x ≡ s

@@ -150,7 +150,7 @@ module _ {I A U W O X : Type 0} (w : Model I A) (outputs : Bool) (IsNormal : U â
     pub rest_is : IsSuffixOf w i length j
     pub is_piece : IsPiece outputs IsNormal IsEscapable tree x
 
-  -- an acceptance, with the spot
+  -- an acceptance, with what stands there
   pub record Told (j : I) (y : NextPiece (Piece (Option O) (Option X))) : Type 0 where
     pub length : â„•
     pub tree : NextPiece (Piece U W)

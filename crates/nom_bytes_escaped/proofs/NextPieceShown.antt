@@ -32,7 +32,7 @@ module _ {I A U W O X E : Type 0} (w : Model I A) (l : InputLaws w) (IsNormal : 
   abbrev Told : Type 0
   Told = Result (I × Option (NextPiece (Piece (Option O) (Option X)))) (Answer.Err E (Option E) Needed)
 
-  -- what a part that tells a spot shows at a place
+  -- what a part that tells the next piece shows at a place
   abbrev Tells : Meaning I (NextPiece (Piece U W)) E → Bool → I → Told → Type 0
   Tells part s j = ShowsAnswer w (IsNextPiece outputs IsNormal IsEscapable) (modes true errors s) j (part.answers s j) (part.blames s j)
       (part.may_run_out (modes outputs errors s) j)

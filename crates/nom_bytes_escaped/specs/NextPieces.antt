@@ -1,4 +1,4 @@
--- What stands at a place of a text with escapes: where an item is left, a normal piece, otherwise the control character and after
+-- What stands next in a text with escapes: where an item is left, a normal piece, otherwise the control character and after
 -- it an escapable piece.
 use Rattle.std.specs.Prelude.{◌≡◌, ℕ, ◌<◌, Bool, true, false, List, [], ◌∷◌, length, Option, Some, None, Result, Ok, Err}
 use Rattle.nom_error.specs.declared.answer.Needed.{Needed}
@@ -138,7 +138,7 @@ module _ {U W O X : Type 0} (outputs : Bool) (IsNormal : U → O → Type 0) (Is
   IsNextPiece Dangling b = b ≡ Dangling
   IsNextPiece Done b = b ≡ Done
 
--- what is returned for what stands at i: a spot is there always, and its values where outputs are built
+-- what is returned for what stands at i: it is told always, and its values where outputs are built
 abbrev pub ShowsNextPiece : {I A U W O X E : Type 0} → Model I A → (U → O → Type 0) → (W → X → Type 0) → Modes → (A → Type 0) → Option ℕ → Meaning I U E →
     Meaning I W E → I → Result (I × Option (NextPiece (Piece (Option O) (Option X)))) (Answer.Err E (Option E) Needed) → Type 0
 ShowsNextPiece w IsNormal IsEscapable mode IsControl lack m g i r =

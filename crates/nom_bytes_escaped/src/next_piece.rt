@@ -1,4 +1,4 @@
-//! What stands at a place of an input with escapes.
+//! The next piece of an input with escapes.
 ghost use Rattle.std.specs.Prelude.{◌≡◌, ◌<◌, length, IsSome, Some};
 ghost use Rattle.nom_error.specs.Modes.{modes};
 ghost use Rattle.nom_error.specs.Answers.{size_of};
@@ -19,7 +19,7 @@ pub enum Piece<O, P> {
     Escapable(P),
 }
 
-/// What stands at a place.
+/// What comes next: a piece, or why there is none.
 #[derive(Drop)]
 pub enum NextPiece<T> {
     /// A piece.
@@ -127,7 +127,7 @@ where
     }
 }
 
-/// The spot that `piece_at` tells.
+/// What `piece_at` tells.
 #[inline(always)]
 pub(crate) fn told<T>(next_piece: Option<NextPiece<T>>) -> NextPiece<T>
     requires { IsSome next_piece }

@@ -1,4 +1,4 @@
--- What is sought at the first items of an input, by a function of the list of items.
+-- What is matched at the first items of an input, by a function of the list of items.
 use Rattle.std.specs.Prelude.{◌≡◌, ℕ, ◌+◌, ◌==◌, ◌||◌, Bool, true, false, cond, List, [], ◌∷◌, length, Option, Some, None}
 use Rattle.nom_error.specs.declared.kind.ErrorKind.{ErrorKind}
 use Rattle.nom_error.specs.declared.kind.ErrorKind.TheVariants as Kind
@@ -12,7 +12,7 @@ use Rattle.nom_character.specs.declared.line.Matched.{Matched}
 use Rattle.nom_character.specs.declared.line.Matched.TheVariants as Found
 use Rattle.nom_character_first.specs.FirstItem.{IsFirstItem}
 
--- the first items, so many, are it; no list that begins so has it; or a longer list may have it, for which a size lacks, or an unknown one
+-- the first n items are it; no list that begins so has it; or a longer list may have it, for which a size is needed, or an unknown one
 pub data Match : Type 0 where
   Full : ℕ → Match
   Absent : Match
@@ -52,7 +52,7 @@ module _ {A : Type 0} (code : A → ℕ) (streaming : Bool) where
   line_in (x ∷ xs) = cond (code x == 10) (Full 0) (cond (code x == 13) (after_return (Full 0) None xs) (one_more (line_in xs)))
 
 module _ {I A : Type 0} (w : Model I A) (pattern : Bool → List A → Match) where
-  -- the first items, where they stand; where what is sought is absent, it is refused; where it begins, more is needed
+  -- the first items that match; where the pattern is absent, it is refused; where it begins, more is needed
   abbrev pub match_leaf : Leaf I (Slice w)
   match_leaf = record {
     Accepts = λ s i n t. IsFirst w i n t × (pattern s (w.elements i) ≡ Full (length t.items));
@@ -73,7 +73,7 @@ module _ {I A E : Type 0} (w : Model I A) (code : A → ℕ) (errs : Errors I E)
   abbrev pub line_meaning : Meaning I (Slice w) E
   line_meaning = match_meaning w (line_in code) errs Kind.Tag
 
--- what was found at an input: the rest after what stands there, or why there is none
+-- what was matched at an input: the rest after it, or why there is none
 abbrev pub IsMatched : {I A : Type 0} → Model I A → (Bool → List A → Match) → Bool → I → Matched I → Type 0
 IsMatched w pattern s i (Found.Full j) = (n : ℕ) × (r : IsSuffixOf w i n j) × (pattern s (w.elements i) ≡ Full (length r.front))
 IsMatched w pattern s i Found.Absent = pattern s (w.elements i) ≡ Absent

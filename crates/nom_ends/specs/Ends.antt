@@ -39,7 +39,7 @@ plain_leaf Accepts Refuses = record {
 }
 
 module _ {I A : Type 0} (w : Model I A) where
-  -- an input, as it is seen
+  -- an input, as its model
   abbrev pub all_of : I → Slice w
   all_of i = record { items = w.elements i; mark = w.mark i }
 

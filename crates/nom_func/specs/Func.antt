@@ -58,8 +58,8 @@ module _ {I A O E : Type 0} (w : Model I A) (view : View O) where
   TellOne longer i j r q = (o p : Outcome view.Value) → Tells i r o → Keeps longer o → Tells j q p → o ≡ p
 
   module _ (Gives : I → Result (I × O) (Answer.Err E E Needed) → Type 0) where
-    -- What makes a function a parser: it takes every input; what it leaves of one is a rest of it; and at inputs that are seen
-    -- alike its answers tell one outcome.
+    -- What makes a function a parser: it takes every input; what it leaves of one is a rest of it; and at inputs of equal models
+    -- its answers tell one outcome.
     pub record IsParser (Takes : I → Type 0) : Type 0 where
       pub takes : (i : I) → w.IsKnown i → Takes i
       pub rests : (i : I) (r : Result (I × O) (Answer.Err E E Needed)) → w.IsKnown i → Gives i r → LeavesRest w i r
@@ -78,7 +78,7 @@ module _ {I A O E : Type 0} (w : Model I A) (view : View O) where
       pub given : Gives i answer
       pub told : Tells i answer o
 
-    -- the function's outcome at an input that is seen as i is
+    -- the function's outcome at an input whose model is i's
     pub record FuncAnswers (i : I) (o : Outcome view.Value) : Type 0 where
       pub at : I
       pub known : w.IsKnown at
@@ -109,7 +109,7 @@ module _ {I A V O E : Type 0} (w : Model I A) (view : View O) (IsOutput : V → 
   pub record AnswersBy : Type 0 where
     pub shown : Answers w IsOutput m s i r
     pub rests : LeavesRest w i r
-    -- each answer by the meaning at an input that is seen as i is
+    -- each answer by the meaning at an input whose model is i's
     pub alike : (j : I) (q : Result (I × O) (Answer.Err E E Needed)) → AreRelated w false i j → Answers w IsOutput m s j q → TellOne w view false i j r q
 
   -- and of a function of `streaming`, by which `stream_func` takes it: on each longer input what is decided stays

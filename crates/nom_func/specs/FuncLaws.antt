@@ -13,7 +13,7 @@ use Rattle.nom_internal.specs.Meaning.{IsLawful, IsSteady, Agree, Keeps}
 use Rattle.nom_func.specs.Func.{AreRelated, Tells, TellOne, FuncOutcome, FuncAnswers, FuncNeverFails, IsParser, IsStreamParser, func_meaning}
 
 module _ {I A : Type 0} (w : Model I A) where
-  -- inputs that are seen as related ones are related alike
+  -- inputs whose models are those of related ones are related alike
   related_alike : (longer : Bool) (x y u v : I) → IsSame w u x → IsSame w v y → Related w longer x y → Related w longer u v
   related_alike true x y u v p q r = record {
     more = r.more;
@@ -60,7 +60,7 @@ module _ {I A : Type 0} (w : Model I A) where
       never_fails true h i a = never_too_large a.at a.outcome.answer a.outcome.told
       never_fails false h i a = fails_by_error a.at a.outcome.answer (λ e. h a.at e a.known) a.outcome.given a.outcome.told
 
-      -- what the function's outcomes at an input keep, those at inputs that are seen as it is keep
+      -- what the function's outcomes at an input keep, those at inputs of its model keep
       agrees_alike : (longer : Bool) → Agree w longer (FuncOutcome w view Gives) (FuncOutcome w view Gives) →
           Agree w longer (FuncAnswers w view Gives) (FuncAnswers w view Gives)
       agrees_alike longer f x y o p kx ky r a k b = f a.at b.at o p a.known b.known (related_alike longer x y a.at b.at a.alike b.alike r) a.outcome k b.outcome

@@ -52,7 +52,7 @@ module _ {I A V O E : Type 0} (w : Model I A) (IsOutput : V → O → Type 0) (m
     pub begins : IsBeginning w whole cuts index beginning
     pub answer : AnswersOn beginning r
 
--- Verdict, output as it is seen, and rest are those of one `parse` of the whole, running out of memory aside, where the parser pins;
+-- Verdict, view of the output, and rest are those of one `parse` of the whole, running out of memory aside, where the parser pins;
 -- unless what is lacking on the beginning is too large.
 pub record AgreesWithWhole {I A V O E : Type 0} (w : Model I A) (view : View O) (Pins : Type 0) (IsOutput : V → O → Type 0) (m : Meaning I V E)
     (whole : I) (cuts : List ℕ) (index : ℕ) (r : Result (I × O) (Answer.Err E E Needed)) : Type 0 where

@@ -55,7 +55,7 @@ module _ {I A V E : Type 0} (w : Model I A) (m : Meaning I V E) (l : IsLawful w 
   }
 
 module _ {I A V E : Type 0} (w : Model I A) (P Q : I → Outcome V → Type 0) (B C : I → E → Type 0) (t : Transfers w P Q B C) where
-  -- the first mode's outcome at i, where both modes decide on inputs seen so, is the second's there
+  -- the first mode's outcome at i, where both modes decide on inputs equal as models, is the second's there
   pub transferred : (i x y : I) (b a c : Outcome V) → w.IsKnown i → w.IsKnown x → w.IsKnown y → IsSame w i x → IsSame w y i → P i b → P x a → Q y c →
       IsDecided a → IsDecided c → Q i b × IsDecided b
   transferred i x y b a c ki kx ky r s p f q d e =
@@ -65,7 +65,7 @@ module _ {I A V E : Type 0} (w : Model I A) (P Q : I → Outcome V → Type 0) (
       let equal : b ≡ c = t.meets i i b c ki ki (same_self w i) p moved decided e in
       (subst (λ o. Q i o) (sym equal) moved, decided)
 
-  -- a blame of the first mode at i, where both modes decide on inputs seen so, is the second's
+  -- a blame of the first mode at i, where both modes decide on inputs equal as models, is the second's
   pub blame_transferred : (i x y : I) (a c : Outcome V) (e : E) → w.IsKnown i → w.IsKnown x → w.IsKnown y → IsSame w i x → IsSame w y i → P x a →
       Q y c → IsDecided a → IsDecided c → (IsKind : Outcome V → Type 0) → OnOutcome IsKind P (B i e) i → OnOutcome IsKind Q (C i e) i
   blame_transferred i x y a c e ki kx ky r s f q d z IsKind b =

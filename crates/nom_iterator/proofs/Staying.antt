@@ -78,7 +78,7 @@ module _ {I A V E : Type 0} (w : Model I A) (m : Meaning I V E) where
   items_fit f true limit x ts a = omega (arith, ap length a)
   items_fit f false limit x ts a = running_fit f limit x ts a
 
--- the outputs of a beginning of some trees are seen as the first of the outputs of all
+-- the outputs of a beginning of some trees have the views of the first outputs of all
 module _ {V O : Type 0} (view : View O) (IsOutput : V → O → Type 0) (pinned : IsPinned view IsOutput) where
   first_alike : (ts more : List V) (vs vs' : List O) → AllZip IsOutput ts vs → AllZip IsOutput (ts ++ more) vs' → (rest : List view.Value) ×
       (map view.value vs' ≡ map view.value vs ++ rest)

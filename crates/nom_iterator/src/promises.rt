@@ -8,7 +8,7 @@ use nom_internal::parser::{Parser, StreamParser};
 use nom_traits::input::Items;
 
 /// The items that can be given on an input, up to any limit, are a beginning of those on every input that
-/// extends it, and where the parser pins, so are their outputs, as they are seen.
+/// extends it, and where the parser pins, so are the views of their outputs.
 pub fn items_stay<I: Items, P: StreamParser<I>>(_parser: &P)
     requires { (P.meaning (P.state _parser.now)).IsSound }
     ensures items { ItemsStay I.model (P.meaning (P.state _parser.now)) }

@@ -1,5 +1,5 @@
 -- Inputs that hold another input, and a mark of their own that each item moves: a line and a column, or how many items were passed. They
--- are seen as what they hold, with that as a part of the mark.
+-- have the model of what they hold, with that as a part of the mark.
 use Rattle.std.specs.Prelude.{ℕ, ◌+◌, ◌≤◌, List, [], ◌∷◌}
 use Rattle.nom_traits.specs.Input.{Model, input_len}
 use Rattle.nom_traits.specs.View.{View}

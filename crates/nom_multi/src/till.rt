@@ -16,7 +16,7 @@ use nom_repeat::accumulator::{none_yet, push_item};
 use nom_traits::input::{Input, Items};
 use std::alloc::Allocator;
 
-/// What stands at a place.
+/// What comes next: a piece, or why there is none.
 #[derive(Drop)]
 pub enum Step<T, V> {
     /// The end.

@@ -26,7 +26,7 @@ use Rattle.nom_multi_fold.specs.DroppedLaws.{dropped_lawful}
 use Rattle.nom_repeat.specs.Bounds.{any_limits, one_limits}
 use Rattle.nom_repeat.specs.declared.items.TooFew.TheVariants.{Fresh}
 
--- what is kept of items, of which nothing is built
+-- an accumulator of items, of which nothing is built
 abbrev pub CountAccumulated : {V : Type 0} → Option ℕ → List V → ℕ → Type 0
 CountAccumulated before vs n = Accumulated {T = Unit {0}} CountPushes (λ _. Unit {0}) (λ _ _. Unit {0}) before vs n
 

@@ -1,4 +1,4 @@
--- What folds show, by what is kept of items.
+-- What folds show, by what is accumulated of items.
 use Rattle.std.proofs.Common.{◌≡◌, Bool, true, false, Result, Option, Some, None, List, [], ◌∷◌, ◌++◌, sym, ◌∙◌, ap, subst}
 use Rattle.std.specs.List.{FoldsTo}
 use Rattle.nom_error.specs.declared.answer.Needed.{Needed}

@@ -1,4 +1,4 @@
--- A collection that is kept of items.
+-- A collection as an accumulator of items.
 use Rattle.std.proofs.Common.{◌≡◌, ◌++◌, ◌∷◌, [], List, Option, Some, None, Bool, true, false, refl, sym, ◌∙◌, ap, subst}
 use Rattle.std.specs.List.{AllZip}
 use Rattle.nom_error.specs.Modes.{Built}

@@ -9,7 +9,7 @@ use nom_repeat::accumulator::Accumulator;
 use std::alloc::Allocator;
 use std::marker::PhantomData;
 
-/// A collection in memory of an allocator of type `A`, as it is kept of items.
+/// A collection in memory of an allocator of type `A`, as an accumulator of items.
 #[derive(Drop)]
 pub struct Gathered<C, A> {
     pub collection: C,

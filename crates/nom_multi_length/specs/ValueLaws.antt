@@ -105,7 +105,7 @@ module _ {I A V E : Type 0} (w : Model I A) (errs : Errors I E) (m : Meaning I V
     never_fails = λ large g s i h a. l.never_fails large g s i h (subst (λ z. m.answers s i z) (settled_fails large a.0 a.2) a.1);
   }
 
--- what is seen as one slice is equal as models
+-- what is modelled by one slice is equal as models
 slices_alike : {I A : Type 0} (w : Model I A) → AreAlike w (IsModelledBy w)
 slices_alike w u j k a b = record { elements_are = a.elements_are ∙ sym b.elements_are; mark_is = a.mark_is ∙ sym b.mark_is }
 

@@ -1,7 +1,7 @@
 -- The steps by which a term's value is made.
 use Rattle.std.specs.Prelude.{◌≡◌, List, [], ◌∷◌, Option, Some}
 
--- What a value under postfixes gains by one more: the fold's value for both.
+-- What one more postfix makes of a value: the fold's value for both.
 pub record AppliedPushes {K L X Q : Type 0} (value : K → Option X) (fold : K → L) (Gives : L → X → Q → X → Type 0) (old : K) (item : Q) (new : K) : Type 0 where
   pub before : X
   pub behind : X

@@ -64,7 +64,7 @@ pub shown_at : {S I A V O E : Type 0} {w : Model I A} (IsOutput : S → V → O 
     ShowsMeaning w (IsOutput b) (meaning b) mode i r
 shown_at {w = w} IsOutput meaning {mode = mode} {i = i} {r = r} e h = subst (λ z. ShowsMeaning w (IsOutput z) (meaning z) mode i r) e h
 
--- the same, with outputs seen as something else
+-- the same, with outputs viewed as something else
 module _ {I A V O E : Type 0} (w : Model I A) (IsOutput IsResult : V → O → Type 0) (mode : Modes) (i : I) (IsError : E → Type 0) where
   shows_as : (o : Outcome V) (r : Result (I × Option O) (Answer.Err E (Option E) Needed)) → ((v : V) (x : O) → IsOutput v x → IsResult v x) →
       Shows w IsOutput mode i IsError o r → Shows w IsResult mode i IsError o r

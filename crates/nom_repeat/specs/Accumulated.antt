@@ -1,15 +1,15 @@
--- What is kept of items.
+-- What is accumulated of items.
 use Rattle.std.specs.Prelude.{◌≡◌, List, [], ◌∷◌, Option, Some, None}
 use Rattle.std.specs.List.{AllZip}
 
--- one item more, where both are built; and what is called for the next may be called
+-- one more item, where both are built; and what is called for the next may be called
 abbrev pub PushesBoth : {T K : Type 0} → (K → T → K → Type 0) → (K → Type 0) → Option K → Option T → Option K → Type 0
 PushesBoth Pushes CanPush (Some k) (Some x) (Some new) = Pushes k x new × CanPush new
 PushesBoth Pushes CanPush (Some k) (Some x) None = ⊥
 PushesBoth Pushes CanPush (Some k) None new = new ≡ Some k
 PushesBoth Pushes CanPush None x new = new ≡ None
 
--- there is no room for another item, in what is kept
+-- the accumulator has no room for another item
 abbrev pub LacksRoom : {K : Type 0} → (K → Type 0) → Option K → Type 0
 LacksRoom IsFull (Some k) = IsFull k
 LacksRoom IsFull None = ⊥
@@ -19,7 +19,7 @@ abbrev pub Adds : {T K : Type 0} → (K → T → K → Type 0) → K → List T
 Adds Pushes k [] new = new ≡ k
 Adds {K = K} Pushes k (x ∷ xs) new = (next : K) × Pushes k x next × Adds Pushes next xs new
 
--- what is kept of the outputs of trees, beside what was kept before
+-- an accumulator with the outputs of trees, from what it was before
 pub record Accumulated {V T K : Type 0} (Pushes : K → T → K → Type 0) (CanPush : K → Type 0) (IsOutput : V → T → Type 0) (before : Option K) (vs : List V)
     (k : K) : Type 0 where
   pub first : K

@@ -1,4 +1,4 @@
-//! What is kept of items.
+//! What is accumulated of items.
 ghost use Rattle.std.specs.Prelude.{◌≡◌, ◌+◌, ◌-◌, ◌^◌, ◌≤◌, ◌++◌, ◌∷◌, [], IsTrue, IfSome, false, min, vec_len, vec_capacity};
 ghost use Rattle.nom_error.specs.Modes.{Built};
 ghost use Rattle.nom_repeat.specs.Accumulated.{PushesBoth, LacksRoom};
@@ -6,12 +6,12 @@ ghost use Rattle.nom_repeat.specs.Accumulated.{PushesBoth, LacksRoom};
 use nom_error::mode::Mode;
 use std::alloc::Allocator;
 
-/// What is kept of items of type `T`: a list, a number, the value of a fold.
+/// An accumulator of items of type `T`: a list, a number, the value of a fold.
 pub trait Accumulator<T> {
-    /// What is kept after one item more.
+    /// What one more item makes of it.
     ghost Pushes: { Self → T → Self → Type 0 };
 
-    /// The premise: what is called to keep an item may be called.
+    /// The premise: what is called to push an item may be called.
     ghost CanPush: { Self → Type 0 };
 
     /// There is no room for an item but by more memory.

@@ -12,7 +12,7 @@ use nom_traits::input::Items;
 
 /// An input in which needles of type `T` are looked for.
 pub trait FindSubstring<T>: Items {
-    /// What a needle is seen as: needles equal as models are one to every parser.
+    /// The model of a needle: needles equal as models are one to every parser.
     ghost Needle: { Type 0 };
 
     ghost needle_model: { T → Needle };

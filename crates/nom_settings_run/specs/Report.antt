@@ -22,7 +22,7 @@ use Rattle.nom_internal.specs.Outcome.Outcome.{Accept, Refuse, Fail, TooLarge, U
 use Rattle.nom_run.specs.Texts.{lines_text}
 use Rattle.nom_settings_run.specs.Settings.{SectionTree, SettingTree, settings_grammar}
 
--- a text that knows its line and column, and how it is seen
+-- a text that knows its line and column, and its model
 abbrev pub Text : Type 0
 Text = Located (Bor (List ℕ)) ℕ TextItems.ghosts CharValue.ghosts
 

@@ -67,7 +67,7 @@ module _ {I : Type 0} (w : Model I ℕ) where
     pub are_bytes : AreBytes bytes
     pub bits_are : bs ≡ all_bits bytes
 
-  -- (x, o) is seen as the bits of x without the first o.
+  -- The model of (x, o) is the bits of x without the first o.
   -- Its mark is the place that the first o bits of x lead to, or all where there are fewer: the mark of x without
   -- its first o / 8 bytes, and the o % 8 bits passed of the next. Bits that are passed take part in the mark of I
   -- once their byte is whole, told or not; so the mark is a function, from the bits that follow to the place that

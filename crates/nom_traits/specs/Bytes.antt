@@ -1,10 +1,10 @@
--- How a slice of bytes is seen.
+-- The model of a slice of bytes.
 use Rattle.std.specs.Prelude.{ℕ, ◌<◌, ◌^◌, List, length, refl}
 use Rattle.std.specs.Borrow.{Bor}
 use Rattle.std.proofs.Common.{lit<}
 use Rattle.nom_traits.specs.Input.{Model, AreValues, InputLaws}
 
--- bytes are seen as they are
+-- bytes are their own model
 abbrev pub bytes_model : Model (Bor (List ℕ)) ℕ
 bytes_model = record {
   elements = λ s. s.now;

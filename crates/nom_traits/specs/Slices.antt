@@ -1,4 +1,4 @@
--- Slices of an input, as they are seen.
+-- Slices of an input, as models.
 use Rattle.std.specs.Prelude.{◌≡◌, ℕ, ◌<◌, Bool, true, false, List, [], ◌++◌, length, refl}
 use Rattle.std.proofs.Common.{arith, sym, ◌∙◌, ap, append_assoc, append-nil, length-append}
 use Rattle.nom_traits.specs.Input.{Model, items_len, IsBoundary, IsPrefixOf, Related, InputLaws}
@@ -10,7 +10,7 @@ pub record Slice {I A : Type 0} (w : Model I A) : Type 0 where
   pub mark : w.Mark
 
 module _ {I A : Type 0} (w : Model I A) where
-  -- the value is an input, seen so
+  -- the value is an input of that model
   pub record IsModelledBy (t : Slice w) (v : I) : Type 0 where
     pub known : w.IsKnown v
     pub elements_are : w.elements v ≡ t.items

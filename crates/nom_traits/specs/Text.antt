@@ -1,4 +1,4 @@
--- How a text is seen.
+-- The model of a text.
 use Rattle.std.specs.Prelude.{◌≡◌, ℕ, ◌<◌, ◌^◌, Bool, true, false, List, [], ◌∷◌, length, refl, chars, encode_utf8, encode_utf8_all, IsUtf8, ◌&&◌}
 use Rattle.std.specs.Borrow.{Bor}
 use Rattle.std.specs.Char.{len_utf8, IsScalar}
@@ -8,7 +8,7 @@ use Rattle.std.proofs.Math.Utf8.{scalar}
 use Rattle.std.proofs.lemmas.Str.{len_utf8_bounds, scalars-chars, length-encode}
 use Rattle.nom_traits.specs.Input.{Model, AreValues, InputLaws, items_len}
 
--- A text is seen as its characters, each as long as its UTF-8 form. That these spell its bytes follows from UTF-8; it is said so
+-- A text's model is its characters, each as long as its UTF-8 form. That these spell its bytes follows from UTF-8; it is said so
 -- that texts of equal characters are found to be equal.
 abbrev pub text_model : Model (Bor (List ℕ)) ℕ
 text_model = record {

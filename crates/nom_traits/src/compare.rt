@@ -19,7 +19,7 @@ pub enum CompareResult {
 
 /// An input that is compared with tags of type `T`.
 pub trait Compare<T>: Items {
-    /// What a tag is seen as: tags equal as models are one to every parser.
+    /// The model of a tag: tags equal as models are one to every parser.
     ghost Tag: { Type 0 };
 
     ghost tag_model: { T → Tag };

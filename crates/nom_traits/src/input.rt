@@ -49,12 +49,12 @@ impl<T: Value> Value for &T {
     ghost code = { λ r. T.code r.now };
 }
 
-/// A value seen as a list of items, each of a length of at least 1, with a mark.
+/// A value whose model is a list of items, each of a length of at least 1, with a mark.
 pub trait Items: Copy {
     /// An item.
     type Item: Value;
 
-    /// How the values are seen.
+    /// The model of the values.
     ghost model: { Model Self Self.Item };
 
     /// Changes nothing, and tells that a value of the type is an input.

@@ -1,4 +1,4 @@
-//! Inputs: values seen as lists of items, how they are cut, and how they are compared with tags; items as
+//! Inputs: values whose models are lists of items, how they are cut, and how they are compared with tags; items as
 //! characters and their classes; what outputs are compared by; numbers as lengths.
 #![tactic(auto)]
 
