@@ -18,7 +18,7 @@ use Rattle.nom_internal.specs.Outcome.Outcome.{Accept, Refuse, Fail, TooLarge, U
 use Rattle.nom_internal.specs.Sequence.{after, GoesOn, Then}
 use Rattle.nom_func.specs.Func.{TellsItems, FuncOutcome, IsParser, FuncAnswers, FuncBlames}
 use Rattle.nom_func.specs.Func.FuncBlames.{OfRefusal, OfFailure}
-use Rattle.nom_func.specs.FuncLaws.{agrees}
+use Rattle.nom_func.specs.laws.FuncLaws.{agrees}
 use Rattle.nom_func.proofs.FuncSound.{items_func}
 use Rattle.example_basics.specs.Colors.{Text, are_digits, on_pair, pair_of, place_missing, IsFault as IsFaultAt, AnswersPair}
 

@@ -10,7 +10,7 @@ use Rattle.nom_traits.proofs.ByteCuts.{byte_place}
 use Rattle.nom_internal.specs.Meaning.{Meaning, IsLawful}
 use Rattle.nom_internal.specs.Leaf.{leaf_meaning}
 use Rattle.nom_ends.specs.Ends.{plain_leaf}
-use Rattle.nom_ends.specs.AllLaws.{PlainLaws, plain_lawful}
+use Rattle.nom_ends.specs.laws.AllLaws.{PlainLaws, plain_lawful}
 
 abbrev Bytes : Type 0
 Bytes = Bor (List ℕ)

@@ -18,23 +18,23 @@ use Rattle.nom_internal.specs.Meaning.{IsLawful}
 use Rattle.nom_internal.specs.Outcome.{Outcome}
 use Rattle.nom_internal.specs.Outcome.Outcome.{Fail}
 use Rattle.nom_internal.specs.Pinned.{IsPinned, either_pinned, value_pinned}
-use Rattle.nom_internal.specs.SequenceLaws.{sequence_lawful}
+use Rattle.nom_internal.specs.laws.SequenceLaws.{sequence_lawful}
 use Rattle.nom_func.specs.Func.{IsParser, Tells, viewed_pinned}
 use Rattle.nom_func.proofs.FuncSound.{parser_of}
-use Rattle.nom_func.specs.FuncLaws.{func_lawful}
+use Rattle.nom_func.specs.laws.FuncLaws.{func_lawful}
 use Rattle.nom_bytes.specs.Predicates.{one_answer}
 use Rattle.nom_character.specs.ClassRuns.{class_lawful}
 use Rattle.nom_character_first.specs.declared.first.Blame.TheVariants.{OfChar, OfKind}
-use Rattle.nom_character_first.specs.FirstItemLaws.{first_item_lawful, told}
+use Rattle.nom_character_first.specs.laws.FirstItemLaws.{first_item_lawful, told}
 use Rattle.nom_sequence.specs.Sequences.{terminated_meaning}
-use Rattle.nom_branch.specs.AlternativeLaws.{choice_lawful, next_lawful}
+use Rattle.nom_branch.specs.laws.AlternativeLaws.{choice_lawful, next_lawful}
 use Rattle.nom_combinator.specs.Verdicts.{cut_meaning}
-use Rattle.nom_combinator.specs.VerdictLaws.{cut_lawful}
-use Rattle.nom_ends.specs.EndLaws.{fail_lawful}
+use Rattle.nom_combinator.specs.laws.VerdictLaws.{cut_lawful}
+use Rattle.nom_ends.specs.laws.EndLaws.{fail_lawful}
 use Rattle.nom_operators.specs.declared.operation.Assoc.{Assoc}
-use Rattle.nom_precedence.specs.ExpressionLaws.{precedence_lawful}
+use Rattle.nom_precedence.specs.laws.ExpressionLaws.{precedence_lawful}
 use Rattle.nom_precedence.specs.Operators.{HasLevel}
-use Rattle.nom_precedence.specs.ValueLaws.{GivesAlike, folding_pinned}
+use Rattle.nom_precedence.specs.laws.ValueLaws.{GivesAlike, folding_pinned}
 use Rattle.nom_operators.specs.Groups.{groups_left}
 use Rattle.nom_precedence.specs.Values.{folding}
 use Rattle.example_formats.specs.declared.arithmetic.Fault.{Fault}

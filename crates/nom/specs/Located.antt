@@ -6,7 +6,7 @@ use Rattle.nom_traits.specs.Bytes.{bytes_model}
 use Rattle.nom_growing.specs.ByteCuts.{AllWithin, byte_cuts}
 use Rattle.nom_growing.specs.Growing.{AreCuts}
 use Rattle.nom_located.specs.Moving.{Moving, moving_model}
-use Rattle.nom_located.specs.MovingLaws.{place_moving}
+use Rattle.nom_located.specs.laws.MovingLaws.{place_moving}
 
 -- the cuts of a list that is written out
 pub located_cuts : {S : Type 0} (m : Moving S (Bor (List ℕ)) ℕ) (x : S) (cuts : List ℕ) → AllWithin (length (m.held x).now) cuts →

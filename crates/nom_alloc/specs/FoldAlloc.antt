@@ -6,7 +6,7 @@ use Rattle.nom_error.specs.declared.kind.ErrorKind.TheVariants as Kind
 use Rattle.nom_traits.specs.Input.{Model, InputLaws}
 use Rattle.nom_internal.specs.Meaning.{Meaning, IsLawful, IsSteady}
 use Rattle.nom_repeat.specs.Items.{items_meaning}
-use Rattle.nom_repeat.specs.ItemsLaws.{items_lawful, items_steady}
+use Rattle.nom_repeat.specs.laws.ItemsLaws.{items_lawful, items_steady}
 use Rattle.nom_repeat.specs.Bounds.{any_limits}
 use Rattle.nom_multi_fold.specs.Under.{under, under_lawful, under_steady}
 

@@ -1,3 +1,3 @@
 pub mod FoldAlloc
 pub mod MapAlloc
-pub mod MapAllocLaws
+pub mod laws

@@ -148,7 +148,7 @@ impl<
     H: Fn() -> R,
     G: Fn(R, F::Output) -> Result<R, OutOfMemory>,
 > StreamParser<I> for FoldMany0Alloc<F, H, G> {
-    ghost use Rattle.nom_multi_fold.specs.FoldLaws.{folds_pinned};
+    ghost use Rattle.nom_multi_fold.specs.laws.FoldLaws.{folds_pinned};
     ghost use Rattle.nom_alloc.specs.FoldAlloc.{fold_many0_alloc_steady};
 
     ghost pinned = { λ s k p. folds_pinned F.Output.view R.view (F.IsOutput s.0) (H.post s.1) (λ r x y. G.post s.2 r x (Ok y)) (F.pinned s.0 k.0 p.0) p.1 };

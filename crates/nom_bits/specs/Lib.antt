@@ -1,5 +1,4 @@
 pub mod BitRests
-pub mod BridgeLaws
 pub mod Bridges
-pub mod FieldLaws
 pub mod Fields
+pub mod laws

@@ -9,7 +9,7 @@ ghost use Rattle.nom_internal.specs.Pinned.{value_pinned};
 ghost use Rattle.nom_internal.specs.Results.{OfRest};
 ghost use Rattle.nom_bits.specs.BitRests.{StandsBehind};
 ghost use Rattle.nom_bits.specs.Fields.{take_meaning, tag_meaning, bool_meaning};
-ghost use Rattle.nom_bits.specs.FieldLaws.{take_lawful, take_steady, tag_lawful, tag_steady, bool_lawful, bool_steady};
+ghost use Rattle.nom_bits.specs.laws.FieldLaws.{take_lawful, take_steady, tag_lawful, tag_steady, bool_lawful, bool_steady};
 
 use crate::field::{next_field, spelling};
 use crate::number::{BitUint, number_built};

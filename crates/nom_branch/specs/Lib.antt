@@ -1,3 +1,2 @@
-pub mod AlternativeLaws
 pub mod Alternatives
-pub mod ListLaws
+pub mod laws

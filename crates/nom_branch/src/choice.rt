@@ -20,7 +20,7 @@ pub struct FirstOf<F, G> {
 
 impl<I: Items, F: Parser<I>, G: Parser<I, Output = F::Output, Error = F::Error>> Parser<I>
     for FirstOf<F, G> {
-    ghost use Rattle.nom_branch.specs.AlternativeLaws.{next_lawful, choice_lawful};
+    ghost use Rattle.nom_branch.specs.laws.AlternativeLaws.{next_lawful, choice_lawful};
 
     type Output = F::Output;
 
@@ -54,7 +54,7 @@ impl<
     F: StreamParser<I>,
     G: StreamParser<I, Output = F::Output, Error = F::Error>,
 > StreamParser<I> for FirstOf<F, G> {
-    ghost use Rattle.nom_branch.specs.AlternativeLaws.{stays, next_stays, choice_steady};
+    ghost use Rattle.nom_branch.specs.laws.AlternativeLaws.{stays, next_stays, choice_steady};
     ghost use Rattle.nom_internal.specs.Pinned.{either_pinned};
 
     ghost pinned = { λ s k p. either_pinned F.Output.view (F.IsOutput s.0) (G.IsOutput s.1) (F.pinned s.0 k.0 p.0) (G.pinned s.1 k.1 p.1) };

@@ -15,7 +15,7 @@ pub struct AnyOf<L> {
 }
 
 impl<I: Items, A: Parser<I>> Parser<I> for AnyOf<&mut [A]> {
-    ghost use Rattle.nom_branch.specs.ListLaws.{list_lawful};
+    ghost use Rattle.nom_branch.specs.laws.ListLaws.{list_lawful};
 
     type Output = A::Output;
 
@@ -44,7 +44,7 @@ impl<I: Items, A: Parser<I>> Parser<I> for AnyOf<&mut [A]> {
 }
 
 impl<I: Items, A: StreamParser<I>> StreamParser<I> for AnyOf<&mut [A]> {
-    ghost use Rattle.nom_branch.specs.ListLaws.{list_pinned, list_steady};
+    ghost use Rattle.nom_branch.specs.laws.ListLaws.{list_pinned, list_steady};
 
     ghost pinned = { list_pinned A.Error.errors A.meaning A.Output.view A.IsOutput A.Pins A.pinned };
 
@@ -52,7 +52,7 @@ impl<I: Items, A: StreamParser<I>> StreamParser<I> for AnyOf<&mut [A]> {
 }
 
 impl<I: Items, A: Parser<I>, const N: usize> Parser<I> for AnyOf<[A; N]> {
-    ghost use Rattle.nom_branch.specs.ListLaws.{list_lawful};
+    ghost use Rattle.nom_branch.specs.laws.ListLaws.{list_lawful};
 
     type Output = A::Output;
 
@@ -79,7 +79,7 @@ impl<I: Items, A: Parser<I>, const N: usize> Parser<I> for AnyOf<[A; N]> {
 }
 
 impl<I: Items, A: StreamParser<I>, const N: usize> StreamParser<I> for AnyOf<[A; N]> {
-    ghost use Rattle.nom_branch.specs.ListLaws.{list_pinned, list_steady};
+    ghost use Rattle.nom_branch.specs.laws.ListLaws.{list_pinned, list_steady};
 
     ghost pinned = { list_pinned A.Error.errors A.meaning A.Output.view A.IsOutput A.Pins A.pinned };
 

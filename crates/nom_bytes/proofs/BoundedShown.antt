@@ -8,7 +8,7 @@ use Rattle.nom_internal.specs.Leaf.{LeafAnswers}
 use Rattle.nom_internal.specs.Outcome.{Outcome}
 use Rattle.nom_internal.specs.Outcome.Outcome.{Accept, Refuse, Undecided}
 use Rattle.nom_bytes.specs.ParsedRuns.{IsEnough, IsRunSlice, runs, Reaches}
-use Rattle.nom_bytes.specs.RunLaws.{run_closed}
+use Rattle.nom_bytes.specs.laws.RunLaws.{run_closed}
 
 closed : {P : Type 0} → false ≡ true → P
 closed k = absurd (cc (k))

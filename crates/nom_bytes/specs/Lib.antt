@@ -1,10 +1,7 @@
 pub mod ParsedRuns
 pub mod Predicates
-pub mod RunLaws
 pub mod Stays
-pub mod TagLaws
 pub mod Tags
-pub mod TakeLaws
 pub mod Takes
-pub mod UntilLaws
 pub mod Untils
+pub mod laws

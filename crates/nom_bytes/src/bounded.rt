@@ -4,7 +4,7 @@ ghost use Rattle.nom_error.specs.declared.kind.ErrorKind.TheVariants as Kind;
 ghost use Rattle.nom_traits.specs.Slices.{Slice, IsModelledBy};
 ghost use Rattle.nom_internal.specs.Pinned.{slice_pinned};
 ghost use Rattle.nom_bytes.specs.ParsedRuns.{Reaches, bounded_meaning};
-ghost use Rattle.nom_bytes.specs.RunLaws.{run_lawful, run_steady};
+ghost use Rattle.nom_bytes.specs.laws.RunLaws.{run_lawful, run_steady};
 
 use crate::predicate::{Predicate, Where};
 use nom_error::answer::{Err, Needed, PResult};

@@ -3,9 +3,9 @@ ghost use Rattle.std.specs.Prelude.{◌≡◌, ℕ};
 ghost use Rattle.nom_traits.specs.Slices.{Slice, IsModelledBy};
 ghost use Rattle.nom_internal.specs.Pinned.{slice_pinned};
 ghost use Rattle.nom_bytes.specs.Takes.{take_meaning};
-ghost use Rattle.nom_bytes.specs.TakeLaws.{take_lawful, take_steady};
+ghost use Rattle.nom_bytes.specs.laws.TakeLaws.{take_lawful, take_steady};
 ghost use Rattle.nom_bytes.specs.Tags.{tag_meaning};
-ghost use Rattle.nom_bytes.specs.TagLaws.{tag_lawful, tag_steady};
+ghost use Rattle.nom_bytes.specs.laws.TagLaws.{tag_lawful, tag_steady};
 
 use nom_error::answer::{Err, Needed, PResult};
 use nom_error::kind::ErrorKind;

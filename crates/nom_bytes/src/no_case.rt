@@ -2,7 +2,7 @@
 ghost use Rattle.nom_traits.specs.Slices.{Slice, IsModelledBy};
 ghost use Rattle.nom_internal.specs.Pinned.{slice_pinned};
 ghost use Rattle.nom_bytes.specs.Tags.{tag_meaning};
-ghost use Rattle.nom_bytes.specs.TagLaws.{tag_lawful, tag_steady};
+ghost use Rattle.nom_bytes.specs.laws.TagLaws.{tag_lawful, tag_steady};
 
 use nom_error::answer::{Err, Needed, PResult};
 use nom_error::kind::ErrorKind;

@@ -3,7 +3,7 @@ ghost use Rattle.std.specs.Prelude.{◌≡◌, None};
 ghost use Rattle.nom_traits.specs.Slices.{Slice, IsModelledBy};
 ghost use Rattle.nom_internal.specs.Pinned.{slice_pinned};
 ghost use Rattle.nom_bytes.specs.ParsedRuns.{run_meaning};
-ghost use Rattle.nom_bytes.specs.RunLaws.{run_lawful, run_steady};
+ghost use Rattle.nom_bytes.specs.laws.RunLaws.{run_lawful, run_steady};
 
 use crate::predicate::{Predicate, Unless, Where};
 use nom_error::answer::PResult;

@@ -3,7 +3,7 @@ ghost use Rattle.std.specs.Prelude.{◌≡◌, true, false};
 ghost use Rattle.nom_traits.specs.Slices.{Slice, IsModelledBy};
 ghost use Rattle.nom_internal.specs.Pinned.{slice_pinned};
 ghost use Rattle.nom_bytes.specs.Untils.{until_meaning};
-ghost use Rattle.nom_bytes.specs.UntilLaws.{until_lawful, until_steady};
+ghost use Rattle.nom_bytes.specs.laws.UntilLaws.{until_lawful, until_steady};
 
 use nom_error::answer::{Err, Needed, PResult};
 use nom_error::kind::ErrorKind;

@@ -1,5 +1,4 @@
-pub mod EscapeLaws
 pub mod Escapes
-pub mod NextPieceLaws
 pub mod NextPieces
 pub mod Texts
+pub mod laws

@@ -26,7 +26,7 @@ impl<I: Input, F: Parser<I> + Drop, G: Parser<I, Error = F::Error> + Drop> Parse
 where
     I::Item: AsChar,
 {
-    ghost use Rattle.nom_bytes_escaped.specs.EscapeLaws.{escaped_lawful};
+    ghost use Rattle.nom_bytes_escaped.specs.laws.EscapeLaws.{escaped_lawful};
 
     type Output = I;
 
@@ -89,7 +89,7 @@ where
     I::Item: AsChar,
 {
     ghost use Rattle.nom_internal.specs.Pinned.{slice_pinned};
-    ghost use Rattle.nom_bytes_escaped.specs.EscapeLaws.{escaped_steady};
+    ghost use Rattle.nom_bytes_escaped.specs.laws.EscapeLaws.{escaped_steady};
 
     ghost pinned = { λ s k p. slice_pinned I.model I.view I.views };
 

@@ -84,7 +84,7 @@ where
     F::Output: ExtendInto<A, Extender = X>,
     G::Output: ExtendInto<A, Extender = X>,
 {
-    ghost use Rattle.nom_bytes_escaped.specs.EscapeLaws.{escaped_transform_lawful};
+    ghost use Rattle.nom_bytes_escaped.specs.laws.EscapeLaws.{escaped_transform_lawful};
 
     type Output = X;
 
@@ -161,7 +161,7 @@ where
     F::Output: ExtendInto<A, Extender = X>,
     G::Output: ExtendInto<A, Extender = X>,
 {
-    ghost use Rattle.nom_bytes_escaped.specs.EscapeLaws.{escaped_transform_steady};
+    ghost use Rattle.nom_bytes_escaped.specs.laws.EscapeLaws.{escaped_transform_steady};
     ghost use Rattle.nom_bytes_escaped.specs.Texts.{texts_pinned};
 
     ghost pinned = { λ s k p. texts_pinned X.view X.parts X.views F.Output.view G.Output.view (F.IsOutput s.0)

@@ -13,7 +13,7 @@ use Rattle.nom_traits.specs.Rests.{same_cut, rest_rest}
 use Rattle.nom_character.specs.declared.line.Matched.{Matched}
 use Rattle.nom_character.specs.declared.line.Matched.TheVariants as Found
 use Rattle.nom_character_first.specs.FirstItem.{IsFirstItem}
-use Rattle.nom_character_first.specs.FirstItemLaws.{one_head}
+use Rattle.nom_character_first.specs.laws.FirstItemLaws.{one_head}
 use Rattle.nom_character.specs.LineMatches.{Match, at_end, one_more, after_return, crlf_in, line_ending_in, line_in, is_line_code, IsMatched, IsNewline}
 use Rattle.nom_character.specs.LineMatches.{IsLineEnd}
 use Rattle.nom_character.specs.LineMatches.Match.{Full, Absent, Partial}

@@ -10,7 +10,7 @@ use Rattle.nom_internal.specs.Meaning.{Meaning, IsLawful, IsSteady}
 use Rattle.nom_internal.specs.Leaf.{leaf_meaning}
 use Rattle.nom_bytes.specs.Predicates.{IsFixed}
 use Rattle.nom_bytes.specs.ParsedRuns.{runs}
-use Rattle.nom_bytes.specs.RunLaws.{run_lawful, run_steady}
+use Rattle.nom_bytes.specs.laws.RunLaws.{run_lawful, run_steady}
 
 abbrev pub least_of : Option ErrorKind → ℕ
 least_of None = 0

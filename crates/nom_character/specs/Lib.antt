@@ -1,3 +1,3 @@
 pub mod ClassRuns
-pub mod LineMatchLaws
 pub mod LineMatches
+pub mod laws

@@ -9,7 +9,7 @@ ghost use Rattle.nom_internal.specs.Pinned.{slice_pinned};
 ghost use Rattle.nom_character_first.specs.FirstItem.{IsFirstItem};
 ghost use Rattle.nom_character.specs.LineMatches.{Match, IsMatched, IsNewline, IsLineEnd, is_line_code, match_meaning, crlf_in, crlf_meaning};
 ghost use Rattle.nom_character.specs.LineMatches.{line_ending_in, line_ending_meaning, line_in, line_meaning};
-ghost use Rattle.nom_character.specs.LineMatchLaws.{match_lawful, match_steady, crlf_laws, line_ending_laws, line_laws};
+ghost use Rattle.nom_character.specs.laws.LineMatchLaws.{match_lawful, match_steady, crlf_laws, line_ending_laws, line_laws};
 
 use nom_character_first::first::{behind, first};
 use nom_error::answer::{Err, Needed, PResult};

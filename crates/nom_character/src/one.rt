@@ -6,7 +6,7 @@ ghost use Rattle.nom_error.specs.declared.kind.ErrorKind.TheVariants as Kind;
 ghost use Rattle.nom_internal.specs.Pinned.{value_pinned};
 ghost use Rattle.nom_character_first.specs.declared.first.Blame.TheVariants.{OfKind, OfChar};
 ghost use Rattle.nom_character_first.specs.FirstItem.{char_meaning, satisfy_meaning, anychar_meaning};
-ghost use Rattle.nom_character_first.specs.FirstItemLaws.{told, first_item_lawful, first_item_steady};
+ghost use Rattle.nom_character_first.specs.laws.FirstItemLaws.{told, first_item_lawful, first_item_steady};
 
 use crate::predicate::{Any, Is};
 use nom_bytes::predicate::Predicate;

@@ -1,7 +1,7 @@
 //! Tests of the characters of items.
 ghost use Rattle.std.specs.Prelude.{ℕ, ◌≡◌, ◌==◌, ◌↔◌, IsTrue, true, false, not};
 ghost use Rattle.nom_bytes.specs.Predicates.{IsFixed, one_answer};
-ghost use Rattle.nom_character_first.specs.FirstItemLaws.{told};
+ghost use Rattle.nom_character_first.specs.laws.FirstItemLaws.{told};
 
 use nom_bytes::predicate::Predicate;
 use nom_search::token::FindToken;

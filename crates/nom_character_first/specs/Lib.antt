@@ -1,2 +1,2 @@
-pub mod FirstItemLaws
 pub mod FirstItem
+pub mod laws

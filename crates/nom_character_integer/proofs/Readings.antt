@@ -9,7 +9,7 @@ use Rattle.nom_traits.specs.Digits.{value_of, value_more}
 use Rattle.nom_traits.specs.Input.{Model, items_len, placed, input_len, IsBoundary, IsSuffixOf, InputLaws}
 use Rattle.nom_traits.specs.Rests.{items_len-append, same_cut}
 use Rattle.nom_character_integer.specs.Integers.{digits_of, after_digits, decimal_number, with_sign, sign_of, after_sign, is_negative, IsRange}
-use Rattle.nom_character_integer.specs.IntegerLaws.{number_grows, nearer, sign_whole}
+use Rattle.nom_character_integer.specs.laws.IntegerLaws.{number_grows, nearer, sign_whole}
 use Rattle.nom_character_integer.specs.Read.{BehindSign, IsRead, IsUnfit}
 
 module _ {A : Type 0} (code : A → ℕ) (signed : Bool) where

@@ -12,7 +12,7 @@ use Rattle.nom_character_integer.specs.declared.integer.Number.{Number}
 use Rattle.nom_character_integer.specs.Integers.{digits_of, after_digits, decimal_number, with_sign, sign_of, is_negative, integer_of, integer_digits}
 use Rattle.nom_character_integer.specs.Integers.{after_integer}
 use Rattle.nom_character_integer.specs.Integers.{IsEnded, integer_meaning}
-use Rattle.nom_character_integer.specs.IntegerLaws.{digits_whole}
+use Rattle.nom_character_integer.specs.laws.IntegerLaws.{digits_whole}
 use Rattle.nom_character_integer.specs.Read.{BehindSign, IsRead, IsUnfit}
 
 module _ {I A T : Type 0} (w : Model I A) (l : InputLaws w) (code : A → ℕ) (signed : Bool) (value : T → ℤ) (fits : ℤ → Type 0) (i : I) (u : Unsigned I)

@@ -4,7 +4,7 @@ use Rattle.std.specs.Prelude.{ℤ, pos, ◌+ℤ◌, ◌-ℤ◌, ◌*ℤ◌}
 use Rattle.std.proofs.lemmas.Int.{ints}
 use Rattle.num_traits.specs.Laws.{Checks}
 use Rattle.nom_character_integer.specs.Integers.{with_sign, IsRange}
-use Rattle.nom_character_integer.specs.IntegerLaws.{nearer}
+use Rattle.nom_character_integer.specs.laws.IntegerLaws.{nearer}
 
 ten_times : (negative : Bool) (n : ℕ) → with_sign negative n *ℤ pos 10 ≡ with_sign negative (10 * n)
 ten_times true zero = refl

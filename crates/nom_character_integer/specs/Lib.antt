@@ -1,3 +1,3 @@
-pub mod IntegerLaws
 pub mod Integers
 pub mod Read
+pub mod laws

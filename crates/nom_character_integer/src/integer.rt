@@ -5,7 +5,7 @@ ghost use Rattle.nom_traits.specs.Classes.{is_dec_digit_code};
 ghost use Rattle.nom_error.specs.Modes.{Built};
 ghost use Rattle.num_traits.specs.Laws.{Checks};
 ghost use Rattle.nom_character_integer.specs.Integers.{with_sign, sign_of, integer_meaning};
-ghost use Rattle.nom_character_integer.specs.IntegerLaws.{integer_lawful, integer_steady, range_of};
+ghost use Rattle.nom_character_integer.specs.laws.IntegerLaws.{integer_lawful, integer_steady, range_of};
 ghost use Rattle.nom_character_integer.specs.Read.{BehindSign, IsRead, IsUnfit};
 
 use nom_character_first::first::first;

@@ -1,7 +1,7 @@
 //! A part that runs on a condition.
 ghost use Rattle.std.specs.Prelude.{Option};
 ghost use Rattle.nom_combinator.specs.Conditions.{state_of, cond_meaning, CondOutput, CondPins};
-ghost use Rattle.nom_combinator.specs.ConditionLaws.{cond_lawful, cond_steady, cond_pinned};
+ghost use Rattle.nom_combinator.specs.laws.ConditionLaws.{cond_lawful, cond_steady, cond_pinned};
 
 use nom_error::answer::PResult;
 use nom_error::mode::OutputMode;

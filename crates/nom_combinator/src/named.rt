@@ -1,7 +1,7 @@
 //! A part whose errors are told with a name.
 ghost use Rattle.std.specs.Prelude.{ℕ, List};
 ghost use Rattle.nom_internal.specs.Mapped.{renamed_meaning};
-ghost use Rattle.nom_internal.specs.MappedLaws.{renamed_lawful, renamed_steady};
+ghost use Rattle.nom_internal.specs.laws.MappedLaws.{renamed_lawful, renamed_steady};
 ghost use Rattle.nom_combinator.specs.Contexts.{IsRenamed};
 
 use nom_error::answer::{Err, PResult};

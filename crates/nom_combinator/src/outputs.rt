@@ -5,9 +5,9 @@ ghost use Rattle.std.specs.Fn.{FnReturnsAt};
 ghost use Rattle.nom_error.specs.declared.kind.ErrorKind.TheVariants as Kind;
 ghost use Rattle.nom_internal.specs.Cloned.{ClonesEqual, clones_alike};
 ghost use Rattle.nom_internal.specs.Judged.{judged_meaning};
-ghost use Rattle.nom_internal.specs.JudgedLaws.{judged_lawful, judged_steady};
+ghost use Rattle.nom_internal.specs.laws.JudgedLaws.{judged_lawful, judged_steady};
 ghost use Rattle.nom_combinator.specs.Outputs.{value_meaning};
-ghost use Rattle.nom_combinator.specs.OutputLaws.{value_lawful, value_steady};
+ghost use Rattle.nom_combinator.specs.laws.OutputLaws.{value_lawful, value_steady};
 
 use nom_error::answer::{Err, PResult};
 use nom_error::kind::ErrorKind;

@@ -2,8 +2,8 @@
 ghost use Rattle.std.specs.Prelude.{◌≡◌, Option};
 ghost use Rattle.nom_error.specs.declared.kind.ErrorKind.TheVariants as Kind;
 ghost use Rattle.nom_combinator.specs.Verdicts.{complete_meaning, cut_meaning, OptOutput, opt_meaning, peek_meaning, not_meaning};
-ghost use Rattle.nom_combinator.specs.VerdictLaws.{complete_lawful, cut_lawful, cut_steady, opt_pinned, opt_lawful, opt_steady, peek_lawful};
-ghost use Rattle.nom_combinator.specs.VerdictLaws.{peek_steady, not_lawful, not_steady};
+ghost use Rattle.nom_combinator.specs.laws.VerdictLaws.{complete_lawful, cut_lawful, cut_steady, opt_pinned, opt_lawful, opt_steady, peek_lawful};
+ghost use Rattle.nom_combinator.specs.laws.VerdictLaws.{peek_steady, not_lawful, not_steady};
 
 use nom_error::answer::{Err, PResult};
 use nom_error::kind::ErrorKind;

@@ -1,3 +1,2 @@
-pub mod AllLaws
-pub mod EndLaws
 pub mod Ends
+pub mod laws

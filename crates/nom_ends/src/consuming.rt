@@ -1,8 +1,8 @@
 //! A part that leaves nothing.
 ghost use Rattle.std.specs.Prelude.{false};
 ghost use Rattle.nom_error.specs.Modes.{with_outputs};
-ghost use Rattle.nom_internal.specs.SequenceLaws.{sequence_lawful};
-ghost use Rattle.nom_ends.specs.AllLaws.{eof_lawful};
+ghost use Rattle.nom_internal.specs.laws.SequenceLaws.{sequence_lawful};
+ghost use Rattle.nom_ends.specs.laws.AllLaws.{eof_lawful};
 ghost use Rattle.nom_ends.specs.Ends.{all_consuming_meaning, eof_meaning};
 
 use crate::left::Eof;

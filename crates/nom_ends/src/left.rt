@@ -2,7 +2,7 @@
 ghost use Rattle.std.specs.Prelude.{◌≡◌, ℕ};
 ghost use Rattle.nom_traits.specs.Slices.{Slice, IsModelledBy};
 ghost use Rattle.nom_ends.specs.Ends.{eof_meaning, rest_meaning, rest_len_meaning};
-ghost use Rattle.nom_ends.specs.AllLaws.{eof_lawful, rest_lawful, rest_len_lawful};
+ghost use Rattle.nom_ends.specs.laws.AllLaws.{eof_lawful, rest_lawful, rest_len_lawful};
 
 use nom_error::answer::PResult;
 use nom_error::kind::ErrorKind;

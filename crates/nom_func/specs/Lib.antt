@@ -1,2 +1,2 @@
 pub mod Func
-pub mod FuncLaws
+pub mod laws

@@ -1,6 +1,6 @@
 //! Functions as parsers.
 ghost use Rattle.nom_func.specs.Func.{IsViewed, viewed_pinned, IsParser, IsStreamParser, func_meaning};
-ghost use Rattle.nom_func.specs.FuncLaws.{func_lawful, stream_func_lawful, stream_func_steady};
+ghost use Rattle.nom_func.specs.laws.FuncLaws.{func_lawful, stream_func_lawful, stream_func_steady};
 
 use nom_error::answer::{Err, IResult, PResult};
 use nom_error::mode::OutputMode;

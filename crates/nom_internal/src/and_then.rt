@@ -21,7 +21,7 @@ impl<
     F: Parser<I, Output: Items> + Drop,
     G: Parser<F::Output, Output: Viewed, Error = F::Error> + Drop,
 > Parser<I> for AndThen<F, G> {
-    ghost use Rattle.nom_internal.specs.BoundedLaws.{and_then_lawful};
+    ghost use Rattle.nom_internal.specs.laws.BoundedLaws.{and_then_lawful};
 
     type Output = G::Output;
 
@@ -63,7 +63,7 @@ impl<
     F: StreamParser<I, Output: Items> + Drop,
     G: Parser<F::Output, Output: Viewed, Error = F::Error> + Drop,
 > StreamParser<I> for AndThen<F, G> {
-    ghost use Rattle.nom_internal.specs.BoundedLaws.{and_then_steady};
+    ghost use Rattle.nom_internal.specs.laws.BoundedLaws.{and_then_steady};
 
     ghost pinned = { λ s k p. p };
 

@@ -20,7 +20,7 @@ impl<
     F: Parser<I> + Drop,
     G: Parser<I, Output = F::Output, Error = F::Error> + Drop,
 > Parser<I> for Or<F, G> {
-    ghost use Rattle.nom_internal.specs.ChoiceLaws.{either_lawful};
+    ghost use Rattle.nom_internal.specs.laws.ChoiceLaws.{either_lawful};
 
     type Output = F::Output;
 
@@ -54,7 +54,7 @@ impl<
     F: StreamParser<I> + Drop,
     G: StreamParser<I, Output = F::Output, Error = F::Error> + Drop,
 > StreamParser<I> for Or<F, G> {
-    ghost use Rattle.nom_internal.specs.ChoiceLaws.{either_steady};
+    ghost use Rattle.nom_internal.specs.laws.ChoiceLaws.{either_steady};
     ghost use Rattle.nom_internal.specs.Pinned.{either_pinned};
 
     ghost pinned = { λ s k p. either_pinned F.Output.view (F.IsOutput s.0) (G.IsOutput s.1) (F.pinned s.0 k.0 p.0) (G.pinned s.1 k.1 p.1) };

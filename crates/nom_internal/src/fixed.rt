@@ -1,7 +1,7 @@
 //! Parsers in one mode.
 ghost use Rattle.nom_error.specs.Modes.{with_streaming};
 ghost use Rattle.nom_internal.specs.Cases.{fixed_meaning};
-ghost use Rattle.nom_internal.specs.CaseLaws.{fixed_lawful, fixed_steady};
+ghost use Rattle.nom_internal.specs.laws.CaseLaws.{fixed_lawful, fixed_steady};
 
 use crate::parser::{Parser, StreamParser};
 use nom_error::answer::PResult;

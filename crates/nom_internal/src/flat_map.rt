@@ -19,7 +19,7 @@ impl<
     H: Parser<I, Error = F::Error> + Drop,
     G: Fn(F::Output) -> H + Drop,
 > Parser<I> for FlatMap<F, G> {
-    ghost use Rattle.nom_internal.specs.FlatMapLaws.{flat_map_lawful};
+    ghost use Rattle.nom_internal.specs.laws.FlatMapLaws.{flat_map_lawful};
 
     type Output = H::Output;
 
@@ -61,7 +61,7 @@ impl<
     H: StreamParser<I, Error = F::Error> + Drop,
     G: Fn(F::Output) -> H + Drop,
 > StreamParser<I> for FlatMap<F, G> {
-    ghost use Rattle.nom_internal.specs.FlatMapLaws.{flat_map_steady, given_pinned};
+    ghost use Rattle.nom_internal.specs.laws.FlatMapLaws.{flat_map_steady, given_pinned};
 
     ghost pinned = { λ s k p. given_pinned (F.IsOutput s.0) (maker (G.pre s.1) (G.post s.1) H.state)
         (λ u. (H.meaning u).IsSound) H.Pins H.Output.view H.IsOutput k.1 p H.pinned };

@@ -1,7 +1,7 @@
 //! A parser whose outputs and errors are converted.
 ghost use Rattle.nom_internal.specs.Closures.{GivesFor, SeesAlike};
 ghost use Rattle.nom_internal.specs.Mapped.{into_meaning, ConvertsSome, ConvertsResult};
-ghost use Rattle.nom_internal.specs.MappedLaws.{given_pinned, renamed_lawful, renamed_steady};
+ghost use Rattle.nom_internal.specs.laws.MappedLaws.{given_pinned, renamed_lawful, renamed_steady};
 
 use crate::parser::{Parser, StreamParser};
 use nom_error::answer::{Err, PResult};

@@ -6,8 +6,8 @@ ghost use Rattle.nom_error.specs.declared.kind.ErrorKind.TheVariants as Kind;
 ghost use Rattle.nom_internal.specs.Closures.{GivesFor, SeesAlike};
 ghost use Rattle.nom_internal.specs.Judged.{judged_meaning, OfError};
 ghost use Rattle.nom_internal.specs.Results.{WhereAccepted};
-ghost use Rattle.nom_internal.specs.JudgedLaws.{judged_lawful, judged_steady};
-ghost use Rattle.nom_internal.specs.MappedLaws.{given_pinned};
+ghost use Rattle.nom_internal.specs.laws.JudgedLaws.{judged_lawful, judged_steady};
+ghost use Rattle.nom_internal.specs.laws.MappedLaws.{given_pinned};
 
 use crate::built::built;
 use crate::parser::{Parser, StreamParser};

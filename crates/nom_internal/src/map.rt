@@ -1,7 +1,7 @@
 //! A parser whose outputs a closure maps.
 ghost use Rattle.nom_internal.specs.Closures.{GivesFor, SeesAlike};
 ghost use Rattle.nom_internal.specs.Mapped.{map_meaning};
-ghost use Rattle.nom_internal.specs.MappedLaws.{given_pinned, map_lawful, map_steady};
+ghost use Rattle.nom_internal.specs.laws.MappedLaws.{given_pinned, map_lawful, map_steady};
 
 use crate::parser::{Parser, StreamParser};
 use nom_error::answer::PResult;

@@ -28,7 +28,7 @@ pub struct And<F, G> {
 }
 
 impl<I: Items, F: Parser<I> + Drop, G: Parser<I, Error = F::Error> + Drop> Parser<I> for And<F, G> {
-    ghost use Rattle.nom_internal.specs.SequenceLaws.{sequence_lawful};
+    ghost use Rattle.nom_internal.specs.laws.SequenceLaws.{sequence_lawful};
 
     type Output = (F::Output, G::Output);
 
@@ -63,7 +63,7 @@ impl<I: Items, F: StreamParser<I> + Drop, G: StreamParser<I, Error = F::Error> +
     I,
 > for And<F, G> {
     ghost use Rattle.nom_internal.specs.Pinned.{pair_pinned};
-    ghost use Rattle.nom_internal.specs.SequenceLaws.{sequence_steady};
+    ghost use Rattle.nom_internal.specs.laws.SequenceLaws.{sequence_steady};
 
     ghost pinned = { λ s k p. pair_pinned F.Output.view G.Output.view (F.IsOutput s.0) (G.IsOutput s.1) (F.pinned s.0 k.0 p.0) (G.pinned s.1 k.1 p.1) };
 

@@ -6,7 +6,8 @@ ghost use Rattle.nom_error.specs.Modes.{modes};
 ghost use Rattle.nom_internal.specs.Pinned.{pair_pinned};
 ghost use Rattle.nom_internal.specs.Tuples.{built_meaning, tuple_2, tuple_3, tuple_4, Outputs_2, Outputs_3, Outputs_4, flat_3, flat_4, OnAccepted};
 ghost use Rattle.nom_internal.specs.Tuples.{ShowsMember, IsPaired, IsFormed};
-ghost use Rattle.nom_internal.specs.TupleLaws.{built_lawful, lawful_2, lawful_3, lawful_4, steady_2, steady_3, steady_4, pinned_3, pinned_4, single_pinned};
+ghost use Rattle.nom_internal.specs.laws.TupleLaws.{built_lawful, lawful_2, lawful_3, lawful_4, steady_2, steady_3, steady_4, pinned_3, pinned_4};
+ghost use Rattle.nom_internal.specs.laws.TupleLaws.{single_pinned};
 
 use crate::parser::{Parser, StreamParser};
 use crate::sequence::combine;

@@ -1,8 +1,8 @@
 //! Tuples of five to eight parsers.
 ghost use Rattle.nom_internal.specs.Tuples.{built_meaning, tuple_5, tuple_6, tuple_7, tuple_8, Outputs_5, Outputs_6, Outputs_7, Outputs_8, flat_5};
 ghost use Rattle.nom_internal.specs.Tuples.{flat_6, flat_7, flat_8};
-ghost use Rattle.nom_internal.specs.TupleLaws.{built_lawful, lawful_5, lawful_6, lawful_7, lawful_8, steady_5, steady_6, steady_7, steady_8};
-ghost use Rattle.nom_internal.specs.TupleLaws.{pinned_5, pinned_6, pinned_7, pinned_8};
+ghost use Rattle.nom_internal.specs.laws.TupleLaws.{built_lawful, lawful_5, lawful_6, lawful_7, lawful_8, steady_5, steady_6, steady_7, steady_8};
+ghost use Rattle.nom_internal.specs.laws.TupleLaws.{pinned_5, pinned_6, pinned_7, pinned_8};
 
 use crate::parser::{Parser, StreamParser};
 use crate::tuple::{Flat, formed, next_member};

@@ -6,7 +6,7 @@ use Rattle.std.proofs.lemmas.List.Sums.{sum_by-cons}
 use Rattle.nom_traits.specs.Input.{Model, IsSuffixOf}
 use Rattle.nom_search.specs.Reads.{read_all, ReadsBytes}
 use Rattle.nom_located.specs.Located.{Place, step, past_bytes, IsAfter, line_ends, located_model}
-use Rattle.nom_located.specs.LocatedLaws.{length_read, moved_read, past_append, past_offset}
+use Rattle.nom_located.specs.laws.LocatedLaws.{length_read, moved_read, past_append, past_offset}
 
 more_ends : (b : ℕ) (bs : List ℕ) → line_ends (b ∷ bs) ≡ cond (nat_eq b 10) 1 0 + line_ends bs
 more_ends b bs = sum_by-cons (λ c. cond (nat_eq c 10) 1 0) b bs

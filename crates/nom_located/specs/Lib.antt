@@ -1,4 +1,3 @@
 pub mod Located
-pub mod LocatedLaws
 pub mod Moving
-pub mod MovingLaws
+pub mod laws

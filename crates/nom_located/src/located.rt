@@ -5,7 +5,7 @@ ghost use Rattle.std.proofs.Common.{ap};
 ghost use Rattle.memchr.specs.Find.{IsFirst, Passes, is_byte};
 ghost use Rattle.nom_traits.specs.Input.{input_len};
 ghost use Rattle.nom_located.specs.Moving.{moving_view};
-ghost use Rattle.nom_located.specs.MovingLaws.{moving_comparing, moving_finding, moving_lawful, moving_reads, moving_injective, moving_views};
+ghost use Rattle.nom_located.specs.laws.MovingLaws.{moving_comparing, moving_finding, moving_lawful, moving_reads, moving_injective, moving_views};
 ghost use Rattle.nom_located.specs.Located.{Fits, located, place, past_bytes, located_model};
 
 use memchr::memchr;

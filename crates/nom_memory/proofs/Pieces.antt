@@ -20,7 +20,7 @@ use Rattle.nom_bytes_escaped.specs.declared.next_piece.NextPiece.{NextPiece}
 use Rattle.nom_bytes_escaped.specs.declared.next_piece.NextPiece.TheVariants.{Found, Other, Dangling, Done}
 use Rattle.nom_bytes_escaped.specs.NextPieces.{BehindControl, by_control, by_left, control_leaf, escape_meaning, left_leaf, look, piece_meaning}
 use Rattle.nom_bytes_escaped.specs.NextPieces.{next_piece_meaning}
-use Rattle.nom_bytes_escaped.specs.NextPieceLaws.{next_piece_lawful}
+use Rattle.nom_bytes_escaped.specs.laws.NextPieceLaws.{next_piece_lawful}
 use Rattle.nom_bytes_escaped.specs.Escapes.{by_next_piece, escape_turn, OnReplied, OnNextPiece, escaped_transform_meaning}
 use Rattle.nom_memory.specs.Growths.{AlwaysFrugal, IsAccepted, GrowsByPieces}
 

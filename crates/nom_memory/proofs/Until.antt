@@ -7,9 +7,9 @@ use Rattle.nom_internal.specs.Outcome.{Outcome}
 use Rattle.nom_internal.specs.Outcome.Outcome.{Accept, Refuse, Fail, TooLarge, Undecided}
 use Rattle.nom_internal.specs.Meaning.{Meaning, IsLawful}
 use Rattle.nom_internal.specs.Cases.{labelled, labelled_meaning}
-use Rattle.nom_internal.specs.CaseLaws.{labelled_lawful}
+use Rattle.nom_internal.specs.laws.CaseLaws.{labelled_lawful}
 use Rattle.nom_internal.specs.Choice.{GoesOnRefused}
-use Rattle.nom_internal.specs.ChoiceLaws.{otherwise_lawful}
+use Rattle.nom_internal.specs.laws.ChoiceLaws.{otherwise_lawful}
 use Rattle.nom_repeat.specs.Repeat.{IsBelow, OnReply, Pieces, Replies, TurnsBy}
 use Rattle.nom_repeat.specs.Repeat.Turn.{Takes}
 use Rattle.nom_multi.specs.Till.{end_or_item, step_turn, till_turn, TillAsks, OnItem, many_till_meaning}

@@ -8,7 +8,7 @@ use Rattle.nom_traits.specs.Input.{Model}
 use Rattle.nom_internal.specs.Outcome.Outcome.{Accept}
 use Rattle.nom_internal.specs.Meaning.{Meaning}
 use Rattle.nom_repeat.specs.Inverted.{Either, error_outcome}
-use Rattle.nom_repeat.specs.InvertedLaws.{no_accept}
+use Rattle.nom_repeat.specs.laws.InvertedLaws.{no_accept}
 use Rattle.nom_repeat.specs.Items.{items_meaning}
 use Rattle.nom_repeat.specs.Accepted.{InTurn, AcceptsItems, AcceptsOneAndMore}
 use Rattle.nom_repeat.specs.declared.items.TooFew.TheVariants.{Added}

@@ -1,9 +1,6 @@
 pub mod Bounded
-pub mod BoundedLaws
 pub mod Fill
-pub mod FillLaws
 pub mod Many
-pub mod ManyLaws
 pub mod Promises
 pub mod Till
-pub mod TillLaws
+pub mod laws

@@ -24,7 +24,7 @@ pub struct Count<A, F> {
 }
 
 impl<I: Items, A: Allocator + Copy, F: Parser<I> + Drop> Parser<I> for Count<A, F> {
-    ghost use Rattle.nom_multi.specs.BoundedLaws.{count_lawful};
+    ghost use Rattle.nom_multi.specs.laws.BoundedLaws.{count_lawful};
 
     type Output = Vec<F::Output, A>;
 
@@ -53,7 +53,7 @@ impl<I: Items, A: Allocator + Copy, F: Parser<I> + Drop> Parser<I> for Count<A, 
 
 impl<I: Items, A: Allocator + Copy, F: StreamParser<I> + Drop> StreamParser<I> for Count<A, F> {
     ghost use Rattle.nom_repeat.specs.Lists.{list_pinned};
-    ghost use Rattle.nom_multi.specs.BoundedLaws.{count_steady};
+    ghost use Rattle.nom_multi.specs.laws.BoundedLaws.{count_steady};
 
     ghost pinned = { λ s k p. list_pinned F.Output.view (F.IsOutput s.1) (F.pinned s.1 k p) };
 
@@ -70,7 +70,7 @@ pub struct ManyMN<A, F> {
 }
 
 impl<I: Input, A: Allocator + Copy, F: Parser<I> + Drop> Parser<I> for ManyMN<A, F> {
-    ghost use Rattle.nom_multi.specs.BoundedLaws.{many_m_n_lawful};
+    ghost use Rattle.nom_multi.specs.laws.BoundedLaws.{many_m_n_lawful};
 
     type Output = Vec<F::Output, A>;
 
@@ -109,7 +109,7 @@ impl<I: Input, A: Allocator + Copy, F: Parser<I> + Drop> Parser<I> for ManyMN<A,
 
 impl<I: Input, A: Allocator + Copy, F: StreamParser<I> + Drop> StreamParser<I> for ManyMN<A, F> {
     ghost use Rattle.nom_repeat.specs.Lists.{list_pinned};
-    ghost use Rattle.nom_multi.specs.BoundedLaws.{many_m_n_steady};
+    ghost use Rattle.nom_multi.specs.laws.BoundedLaws.{many_m_n_steady};
 
     ghost pinned = { λ s k p. list_pinned F.Output.view (F.IsOutput s.2) (F.pinned s.2 k p) };
 

@@ -21,7 +21,7 @@ pub struct Fill<'a, F, T> {
 }
 
 impl<'a, I: Items, T: Drop, F: Parser<I, Output = T> + Drop> Parser<I> for Fill<'a, F, T> {
-    ghost use Rattle.nom_multi.specs.FillLaws.{fill_lawful};
+    ghost use Rattle.nom_multi.specs.laws.FillLaws.{fill_lawful};
 
     type Output = ();
 
@@ -53,7 +53,7 @@ impl<'a, I: Items, T: Drop, F: Parser<I, Output = T> + Drop> Parser<I> for Fill<
 
 impl<'a, I: Items, T: Viewed + Drop, F: StreamParser<I, Output = T> + Drop> StreamParser<I>
     for Fill<'a, F, T> {
-    ghost use Rattle.nom_multi.specs.FillLaws.{done_pinned, fill_steady};
+    ghost use Rattle.nom_multi.specs.laws.FillLaws.{done_pinned, fill_steady};
 
     ghost pinned = { λ s k p. done_pinned };
 

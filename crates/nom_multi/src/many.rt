@@ -21,7 +21,7 @@ pub struct Many0<A, F> {
 }
 
 impl<I: Input, A: Allocator + Copy, F: Parser<I> + Drop> Parser<I> for Many0<A, F> {
-    ghost use Rattle.nom_multi.specs.ManyLaws.{many0_lawful};
+    ghost use Rattle.nom_multi.specs.laws.ManyLaws.{many0_lawful};
 
     type Output = Vec<F::Output, A>;
 
@@ -57,7 +57,7 @@ impl<I: Input, A: Allocator + Copy, F: Parser<I> + Drop> Parser<I> for Many0<A, 
 
 impl<I: Input, A: Allocator + Copy, F: StreamParser<I> + Drop> StreamParser<I> for Many0<A, F> {
     ghost use Rattle.nom_repeat.specs.Lists.{list_pinned};
-    ghost use Rattle.nom_multi.specs.ManyLaws.{many0_steady};
+    ghost use Rattle.nom_multi.specs.laws.ManyLaws.{many0_steady};
 
     ghost pinned = { λ s k p. list_pinned F.Output.view (F.IsOutput s) (F.pinned s k p) };
 
@@ -72,7 +72,7 @@ pub struct Many1<A, F> {
 }
 
 impl<I: Input, A: Allocator + Copy, F: Parser<I> + Drop> Parser<I> for Many1<A, F> {
-    ghost use Rattle.nom_multi.specs.ManyLaws.{many1_lawful};
+    ghost use Rattle.nom_multi.specs.laws.ManyLaws.{many1_lawful};
 
     type Output = Vec<F::Output, A>;
 
@@ -121,7 +121,7 @@ impl<I: Input, A: Allocator + Copy, F: Parser<I> + Drop> Parser<I> for Many1<A, 
 
 impl<I: Input, A: Allocator + Copy, F: StreamParser<I> + Drop> StreamParser<I> for Many1<A, F> {
     ghost use Rattle.nom_repeat.specs.Lists.{list_pinned};
-    ghost use Rattle.nom_multi.specs.ManyLaws.{many1_steady};
+    ghost use Rattle.nom_multi.specs.laws.ManyLaws.{many1_steady};
 
     ghost pinned = { λ s k p. list_pinned F.Output.view (F.IsOutput s) (F.pinned s k.0 p) };
 

@@ -39,7 +39,7 @@ impl<
     F: Parser<I> + Drop,
     G: Parser<I, Error = F::Error> + Drop,
 > Parser<I> for ManyTill<A, F, G> {
-    ghost use Rattle.nom_multi.specs.TillLaws.{many_till_lawful};
+    ghost use Rattle.nom_multi.specs.laws.TillLaws.{many_till_lawful};
 
     type Output = (Vec<F::Output, A>, G::Output);
 
@@ -98,7 +98,7 @@ impl<
     ghost use Rattle.nom_internal.specs.Pinned.{pair_pinned};
     ghost use Rattle.nom_traits.specs.View.{vec_view};
     ghost use Rattle.nom_repeat.specs.Lists.{list_pinned};
-    ghost use Rattle.nom_multi.specs.TillLaws.{many_till_steady};
+    ghost use Rattle.nom_multi.specs.laws.TillLaws.{many_till_steady};
 
     ghost pinned = { λ s k p. pair_pinned (vec_view F.Output.view) G.Output.view (λ vs list. AllZip (F.IsOutput s.0) vs list.items) (G.IsOutput s.1)
         (list_pinned F.Output.view (F.IsOutput s.0) (F.pinned s.0 k.1 p.0)) (G.pinned s.1 k.0 p.1) };

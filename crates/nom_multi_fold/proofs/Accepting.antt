@@ -22,7 +22,7 @@ use Rattle.nom_multi_fold.specs.Counts.{many0_count_meaning, many1_count_meaning
 use Rattle.nom_multi_fold.specs.Dropped.{dropped_meaning}
 use Rattle.nom_multi_fold.specs.Folds.{fold_many0_meaning, fold_many1_meaning, fold_many_m_n_meaning}
 use Rattle.nom_multi_fold.specs.Ranges.{range_limits, IsEmpty, range_meaning}
-use Rattle.nom_repeat.specs.InvertedLaws.{no_accept}
+use Rattle.nom_repeat.specs.laws.InvertedLaws.{no_accept}
 use Rattle.nom_multi_fold.specs.Unfit.{unfit}
 use Rattle.nom_repeat.specs.Bounds.{any_limits, bounded_limits}
 

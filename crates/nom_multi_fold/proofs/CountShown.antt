@@ -22,7 +22,7 @@ use Rattle.nom_repeat.proofs.Accumulating.{kept_both}
 use Rattle.nom_repeat.proofs.Parts.{shown_by}
 use Rattle.nom_multi_fold.specs.Counts.{IsNumber, many0_count_meaning, many1_count_meaning}
 use Rattle.nom_multi_fold.specs.Dropped.{dropped_meaning}
-use Rattle.nom_multi_fold.specs.DroppedLaws.{dropped_lawful}
+use Rattle.nom_multi_fold.specs.laws.DroppedLaws.{dropped_lawful}
 use Rattle.nom_repeat.specs.Bounds.{any_limits, one_limits}
 use Rattle.nom_repeat.specs.declared.items.TooFew.TheVariants.{Fresh}
 

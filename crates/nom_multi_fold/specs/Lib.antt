@@ -1,12 +1,8 @@
-pub mod CountLaws
 pub mod Counts
 pub mod Dropped
-pub mod DroppedLaws
-pub mod FoldLaws
 pub mod Folded
 pub mod Folds
-pub mod RangeLaws
 pub mod Ranges
 pub mod Under
 pub mod Unfit
-pub mod UnfitLaws
+pub mod laws

@@ -21,7 +21,7 @@ pub struct Many0Count<F> {
 }
 
 impl<I: Input, F: Parser<I> + Drop> Parser<I> for Many0Count<F> {
-    ghost use Rattle.nom_multi_fold.specs.CountLaws.{many0_count_lawful};
+    ghost use Rattle.nom_multi_fold.specs.laws.CountLaws.{many0_count_lawful};
 
     type Output = usize;
 
@@ -57,7 +57,7 @@ impl<I: Input, F: Parser<I> + Drop> Parser<I> for Many0Count<F> {
 }
 
 impl<I: Input, F: StreamParser<I> + Drop> StreamParser<I> for Many0Count<F> {
-    ghost use Rattle.nom_multi_fold.specs.CountLaws.{number_pinned, many0_count_steady};
+    ghost use Rattle.nom_multi_fold.specs.laws.CountLaws.{number_pinned, many0_count_steady};
 
     ghost pinned = { λ s k p. number_pinned };
 
@@ -71,7 +71,7 @@ pub struct Many1Count<F> {
 }
 
 impl<I: Input, F: Parser<I> + Drop> Parser<I> for Many1Count<F> {
-    ghost use Rattle.nom_multi_fold.specs.CountLaws.{many1_count_lawful};
+    ghost use Rattle.nom_multi_fold.specs.laws.CountLaws.{many1_count_lawful};
 
     type Output = usize;
 
@@ -120,7 +120,7 @@ impl<I: Input, F: Parser<I> + Drop> Parser<I> for Many1Count<F> {
 }
 
 impl<I: Input, F: StreamParser<I> + Drop> StreamParser<I> for Many1Count<F> {
-    ghost use Rattle.nom_multi_fold.specs.CountLaws.{number_pinned, many1_count_steady};
+    ghost use Rattle.nom_multi_fold.specs.laws.CountLaws.{number_pinned, many1_count_steady};
 
     ghost pinned = { λ s k p. number_pinned };
 

@@ -1,7 +1,7 @@
 //! Parts whose outputs are never built.
 ghost use Rattle.std.specs.Prelude.{◌≡◌};
 ghost use Rattle.nom_multi_fold.specs.Dropped.{dropped_meaning};
-ghost use Rattle.nom_multi_fold.specs.DroppedLaws.{dropped_lawful};
+ghost use Rattle.nom_multi_fold.specs.laws.DroppedLaws.{dropped_lawful};
 
 use nom_error::answer::PResult;
 use nom_error::mode::{Check, OutputM, OutputMode};

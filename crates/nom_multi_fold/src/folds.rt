@@ -32,7 +32,7 @@ impl<
 where
     F::Output: Viewed,
 {
-    ghost use Rattle.nom_multi_fold.specs.FoldLaws.{fold_many0_lawful};
+    ghost use Rattle.nom_multi_fold.specs.laws.FoldLaws.{fold_many0_lawful};
 
     type Output = R;
 
@@ -79,7 +79,7 @@ impl<
     H: Fn() -> R,
     G: Fn(R, F::Output) -> R,
 > StreamParser<I> for FoldMany0<F, H, G> {
-    ghost use Rattle.nom_multi_fold.specs.FoldLaws.{folds_pinned, fold_many0_steady};
+    ghost use Rattle.nom_multi_fold.specs.laws.FoldLaws.{folds_pinned, fold_many0_steady};
 
     ghost pinned = { λ s k p. folds_pinned F.Output.view R.view (F.IsOutput s.0) (H.post s.1) (G.post s.2) (F.pinned s.0 k.0 p.0) p.1 };
 
@@ -105,7 +105,7 @@ impl<
 where
     F::Output: Viewed,
 {
-    ghost use Rattle.nom_multi_fold.specs.FoldLaws.{fold_many1_lawful};
+    ghost use Rattle.nom_multi_fold.specs.laws.FoldLaws.{fold_many1_lawful};
 
     type Output = R;
 
@@ -165,7 +165,7 @@ impl<
     H: Fn() -> R,
     G: Fn(R, F::Output) -> R,
 > StreamParser<I> for FoldMany1<F, H, G> {
-    ghost use Rattle.nom_multi_fold.specs.FoldLaws.{folds_pinned, fold_many1_steady};
+    ghost use Rattle.nom_multi_fold.specs.laws.FoldLaws.{folds_pinned, fold_many1_steady};
 
     ghost pinned = { λ s k p. folds_pinned F.Output.view R.view (F.IsOutput s.0) (H.post s.1) (G.post s.2) (F.pinned s.0 (k.0).0 p.0) p.1 };
 
@@ -193,7 +193,7 @@ impl<
 where
     F::Output: Viewed,
 {
-    ghost use Rattle.nom_multi_fold.specs.FoldLaws.{fold_many_m_n_lawful};
+    ghost use Rattle.nom_multi_fold.specs.laws.FoldLaws.{fold_many_m_n_lawful};
 
     type Output = R;
 
@@ -244,7 +244,7 @@ impl<
     H: Fn() -> R,
     G: Fn(R, F::Output) -> R,
 > StreamParser<I> for FoldManyMN<F, H, G> {
-    ghost use Rattle.nom_multi_fold.specs.FoldLaws.{folds_pinned, fold_many_m_n_steady};
+    ghost use Rattle.nom_multi_fold.specs.laws.FoldLaws.{folds_pinned, fold_many_m_n_steady};
 
     ghost pinned = { λ s k p. folds_pinned F.Output.view R.view (F.IsOutput s.0) (H.post s.1) (G.post s.2) (F.pinned s.0 k.0 p.0) p.1 };
 

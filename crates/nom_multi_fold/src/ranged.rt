@@ -40,7 +40,7 @@ impl<
     F: Parser<I> + Drop,
     C: Collection<F::Output, A>,
 > Parser<I> for Many<A, R, F, C> {
-    ghost use Rattle.nom_multi_fold.specs.RangeLaws.{range_lawful};
+    ghost use Rattle.nom_multi_fold.specs.laws.RangeLaws.{range_lawful};
 
     type Output = C;
 
@@ -91,7 +91,7 @@ impl<
     F: StreamParser<I> + Drop,
     C: ViewedCollection<F::Output, A>,
 > StreamParser<I> for Many<A, R, F, C> {
-    ghost use Rattle.nom_multi_fold.specs.RangeLaws.{collection_pinned, range_steady};
+    ghost use Rattle.nom_multi_fold.specs.laws.RangeLaws.{collection_pinned, range_steady};
 
     ghost pinned = { λ s k p. collection_pinned F.Output.view C.view C.items (F.IsOutput s.0) (F.pinned s.0 k p) C.views };
 
@@ -120,7 +120,7 @@ impl<
 where
     F::Output: Viewed,
 {
-    ghost use Rattle.nom_multi_fold.specs.RangeLaws.{range_fold_lawful};
+    ghost use Rattle.nom_multi_fold.specs.laws.RangeLaws.{range_fold_lawful};
 
     type Output = T;
 
@@ -173,8 +173,8 @@ impl<
     H: Fn() -> T,
     G: Fn(T, F::Output) -> T,
 > StreamParser<I> for Fold<R, F, H, G> {
-    ghost use Rattle.nom_multi_fold.specs.FoldLaws.{folds_pinned};
-    ghost use Rattle.nom_multi_fold.specs.RangeLaws.{range_fold_steady};
+    ghost use Rattle.nom_multi_fold.specs.laws.FoldLaws.{folds_pinned};
+    ghost use Rattle.nom_multi_fold.specs.laws.RangeLaws.{range_fold_steady};
 
     ghost pinned = { λ s k p. folds_pinned F.Output.view T.view (F.IsOutput s.0) (H.post s.1) (G.post s.2) (F.pinned s.0 k.0 p.0) p.1 };
 

@@ -3,7 +3,7 @@ use Rattle.std.proofs.Common.{◌≡◌, ℕ, ◌+◌, ◌<◌, List, [], ◌∷
 use Rattle.nom_traits.specs.Input.{Model, InputLaws, items_len, IsBoundary, IsSuffixOf}
 use Rattle.nom_traits.specs.Rests.{place_more}
 use Rattle.nom_traits.specs.Slices.{IsCount}
-use Rattle.nom_internal.specs.CaseLaws.{no_place}
+use Rattle.nom_internal.specs.laws.CaseLaws.{no_place}
 
 module _ {A : Type 0} (item_len : A → ℕ) (pos : (a : A) → 0 < item_len a) where
   -- what a longer front holds after a front

@@ -1,5 +1,4 @@
 pub mod Lengths
-pub mod LengthLaws
 pub mod Values
-pub mod ValueLaws
 pub mod Promises
+pub mod laws

@@ -27,7 +27,7 @@ impl<
     F: Parser<I, Output: ToUsize> + Drop,
     G: Parser<I, Error = F::Error> + Drop,
 > Parser<I> for LengthCount<A, F, G> {
-    ghost use Rattle.nom_multi_length.specs.LengthLaws.{length_count_lawful};
+    ghost use Rattle.nom_multi_length.specs.laws.LengthLaws.{length_count_lawful};
 
     type Output = Vec<G::Output, A>;
 
@@ -69,7 +69,7 @@ impl<
     G: StreamParser<I, Error = F::Error> + Drop,
 > StreamParser<I> for LengthCount<A, F, G> {
     ghost use Rattle.nom_repeat.specs.Lists.{list_pinned};
-    ghost use Rattle.nom_multi_length.specs.LengthLaws.{length_count_steady};
+    ghost use Rattle.nom_multi_length.specs.laws.LengthLaws.{length_count_steady};
 
     ghost pinned = { λ s k p. list_pinned G.Output.view (G.IsOutput s.1) (G.pinned s.1 k.1.0 p) };
 

@@ -17,7 +17,7 @@ pub struct LengthData<F> {
 }
 
 impl<I: Input, F: Parser<I, Output: ToUsize> + Drop> Parser<I> for LengthData<F> {
-    ghost use Rattle.nom_multi_length.specs.LengthLaws.{length_data_lawful};
+    ghost use Rattle.nom_multi_length.specs.laws.LengthLaws.{length_data_lawful};
 
     type Output = I;
 
@@ -56,7 +56,7 @@ impl<I: Input, F: Parser<I, Output: ToUsize> + Drop> Parser<I> for LengthData<F>
 
 impl<I: Input, F: StreamParser<I, Output: ToUsize> + Drop> StreamParser<I> for LengthData<F> {
     ghost use Rattle.nom_internal.specs.Pinned.{slice_pinned};
-    ghost use Rattle.nom_multi_length.specs.LengthLaws.{length_data_steady};
+    ghost use Rattle.nom_multi_length.specs.laws.LengthLaws.{length_data_steady};
 
     ghost pinned = { λ s k p t a b x y. slice_pinned I.model I.view I.views t.1 a b x y };
 

@@ -85,7 +85,7 @@ impl<
     F: Parser<I, Output: ToUsize> + Drop,
     G: Parser<I, Output: Viewed, Error = F::Error> + Drop,
 > Parser<I> for LengthValue<F, G> {
-    ghost use Rattle.nom_multi_length.specs.ValueLaws.{length_value_lawful};
+    ghost use Rattle.nom_multi_length.specs.laws.ValueLaws.{length_value_lawful};
 
     type Output = G::Output;
 
@@ -124,7 +124,7 @@ impl<
     F: StreamParser<I, Output: ToUsize> + Drop,
     G: Parser<I, Output: Viewed, Error = F::Error> + Drop,
 > StreamParser<I> for LengthValue<F, G> {
-    ghost use Rattle.nom_multi_length.specs.ValueLaws.{length_value_steady};
+    ghost use Rattle.nom_multi_length.specs.laws.ValueLaws.{length_value_steady};
 
     ghost pinned = { λ s k p. p };
 

@@ -1,3 +1,3 @@
 pub mod Promises
 pub mod Separated
-pub mod SeparatedLaws
+pub mod laws

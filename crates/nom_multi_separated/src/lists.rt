@@ -30,7 +30,7 @@ impl<
     F: Parser<I> + Drop,
     G: Parser<I, Error = F::Error> + Drop,
 > Parser<I> for SeparatedList1<A, G, F> {
-    ghost use Rattle.nom_multi_separated.specs.SeparatedLaws.{separated1_lawful};
+    ghost use Rattle.nom_multi_separated.specs.laws.SeparatedLaws.{separated1_lawful};
 
     type Output = Vec<F::Output, A>;
 
@@ -84,7 +84,7 @@ impl<
     G: StreamParser<I, Error = F::Error> + Drop,
 > StreamParser<I> for SeparatedList1<A, G, F> {
     ghost use Rattle.nom_repeat.specs.Lists.{list_pinned};
-    ghost use Rattle.nom_multi_separated.specs.SeparatedLaws.{separated1_steady};
+    ghost use Rattle.nom_multi_separated.specs.laws.SeparatedLaws.{separated1_steady};
 
     ghost pinned = { λ s k p. list_pinned F.Output.view (F.IsOutput s.1) (F.pinned s.1 k.0 p) };
 
@@ -105,7 +105,7 @@ impl<
     F: Parser<I> + Drop,
     G: Parser<I, Error = F::Error> + Drop,
 > Parser<I> for SeparatedList0<A, G, F> {
-    ghost use Rattle.nom_multi_separated.specs.SeparatedLaws.{separated0_lawful};
+    ghost use Rattle.nom_multi_separated.specs.laws.SeparatedLaws.{separated0_lawful};
 
     type Output = Vec<F::Output, A>;
 
@@ -164,7 +164,7 @@ impl<
     G: StreamParser<I, Error = F::Error> + Drop,
 > StreamParser<I> for SeparatedList0<A, G, F> {
     ghost use Rattle.nom_repeat.specs.Lists.{list_pinned};
-    ghost use Rattle.nom_multi_separated.specs.SeparatedLaws.{separated0_steady};
+    ghost use Rattle.nom_multi_separated.specs.laws.SeparatedLaws.{separated0_steady};
 
     ghost pinned = { λ s k p. list_pinned F.Output.view (F.IsOutput s.1) (F.pinned s.1 k.0 p) };
 

@@ -3,9 +3,9 @@ ghost use Rattle.std.specs.Prelude.{◌≡◌, ◌<◌, ◌*◌, ◌^◌, ℕ, B
 ghost use Rattle.std.proofs.Common.{sym, ◌∙◌, ap};
 ghost use Rattle.nom_error.specs.Modes.{Built};
 ghost use Rattle.nom_traits.specs.Slices.{Slice, IsFirst, IsCount};
-ghost use Rattle.nom_internal.specs.CaseLaws.{labelled_lawful, labelled_steady};
+ghost use Rattle.nom_internal.specs.laws.CaseLaws.{labelled_lawful, labelled_steady};
 ghost use Rattle.nom_bytes.specs.Takes.{take_meaning};
-ghost use Rattle.nom_bytes.specs.TakeLaws.{take_lawful, take_steady};
+ghost use Rattle.nom_bytes.specs.laws.TakeLaws.{take_lawful, take_steady};
 ghost use Rattle.nom_number.specs.Numbers.{bytes_lack, number_meaning, binary_number};
 
 use crate::layout::Layout;

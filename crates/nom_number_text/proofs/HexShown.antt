@@ -17,7 +17,7 @@ use Rattle.nom_internal.proofs.Cased.{here, plain_err}
 use Rattle.nom_internal.proofs.Shown.{accepts}
 use Rattle.nom_character.specs.ClassRuns.{class_meaning}
 use Rattle.nom_number_text.specs.Hex.{hex_number, FirstEight, hex_meaning}
-use Rattle.nom_number_text.specs.HexLaws.{eight_place}
+use Rattle.nom_number_text.specs.laws.HexLaws.{eight_place}
 
 module _ {I A : Type 0} (w : Model I A) (l : InputLaws w) where
   -- a front of that many items

@@ -3,7 +3,7 @@ ghost use Rattle.std.specs.Prelude.{◌⊎◌};
 ghost use Rattle.nom_traits.specs.Slices.{Slice, IsModelledBy};
 ghost use Rattle.nom_internal.specs.Choice.{EitherOutput};
 ghost use Rattle.nom_number_text.specs.Words.{exceptions_meaning};
-ghost use Rattle.nom_number_text.specs.WordLaws.{exceptions_lawful, exceptions_steady, exceptions_pinned};
+ghost use Rattle.nom_number_text.specs.laws.WordLaws.{exceptions_lawful, exceptions_steady, exceptions_pinned};
 
 use crate::word::{Exception, Word};
 use nom_error::answer::PResult;

@@ -5,7 +5,7 @@ ghost use Rattle.nom_traits.specs.Slices.{Slice, IsModelledBy};
 ghost use Rattle.nom_internal.specs.Meaning.{ShowsMeaning};
 ghost use Rattle.nom_internal.specs.Pinned.{slice_pinned};
 ghost use Rattle.nom_number_text.specs.Floats.{float_meaning};
-ghost use Rattle.nom_number_text.specs.FloatLaws.{float_stream};
+ghost use Rattle.nom_number_text.specs.laws.FloatLaws.{float_stream};
 
 use nom_branch::{Choice, alt};
 use nom_character::{Char, char, digit1};

@@ -4,7 +4,7 @@ ghost use Rattle.nom_error.specs.Modes.{Built};
 ghost use Rattle.nom_internal.specs.Pinned.{value_pinned};
 ghost use Rattle.nom_traits.specs.Input.{items_len};
 ghost use Rattle.nom_number_text.specs.Hex.{hex_value, hex_number, hex_meaning};
-ghost use Rattle.nom_number_text.specs.HexLaws.{hex_stream};
+ghost use Rattle.nom_number_text.specs.laws.HexLaws.{hex_stream};
 
 use nom_character::ClassRun;
 use nom_error::answer::PResult;

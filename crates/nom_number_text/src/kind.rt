@@ -2,7 +2,7 @@
 ghost use Rattle.nom_error.specs.declared.kind.ErrorKind.TheVariants as Kind;
 ghost use Rattle.nom_combinator.specs.Contexts.{IsRenamed};
 ghost use Rattle.nom_number_text.specs.Words.{as_float_meaning};
-ghost use Rattle.nom_internal.specs.MappedLaws.{renamed_lawful, renamed_steady};
+ghost use Rattle.nom_internal.specs.laws.MappedLaws.{renamed_lawful, renamed_steady};
 
 use nom_error::answer::{Err, PResult};
 use nom_error::kind::ErrorKind;

@@ -5,7 +5,7 @@ ghost use Rattle.nom_traits.specs.Input.{items_len};
 ghost use Rattle.nom_traits.specs.Slices.{Slice, IsModelledBy};
 ghost use Rattle.nom_internal.specs.Meaning.{ShowsMeaning};
 ghost use Rattle.nom_number_text.specs.Parts.{zeros_of, fraction_of, integer_slice, fraction_slice, is_plus, power_read, Both, parts_meaning, IsParts, IsRaw};
-ghost use Rattle.nom_number_text.specs.PartLaws.{parts_stream, parts_pinned};
+ghost use Rattle.nom_number_text.specs.laws.PartLaws.{parts_stream, parts_pinned};
 
 use crate::float::either;
 use crate::kind::AsFloat;

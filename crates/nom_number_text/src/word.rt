@@ -4,7 +4,7 @@ ghost use Rattle.nom_traits.specs.Slices.{Slice, IsModelledBy};
 ghost use Rattle.nom_internal.specs.Pinned.{slice_pinned};
 ghost use Rattle.nom_number_text.specs.declared.word.Exception.{Exception};
 ghost use Rattle.nom_number_text.specs.Words.{IsWordAt, letters_of, word_meaning};
-ghost use Rattle.nom_number_text.specs.WordLaws.{word_stream};
+ghost use Rattle.nom_number_text.specs.laws.WordLaws.{word_stream};
 
 use nom_character_first::first::first;
 use nom_error::answer::{Err, Needed, PResult};

@@ -4,7 +4,7 @@ use Rattle.std.proofs.Common.{sym, subst, inl, inr, append_assoc, append-nil}
 use Rattle.std.proofs.lemmas.Bool.{cases_Bool, cases_order}
 use Rattle.nom_operators.specs.Trees.{Tree, IsTree}
 use Rattle.nom_operators.specs.Trees.Tree.{Leaf, Node}
-use Rattle.nom_operators.specs.TreeLaws.{one_tree}
+use Rattle.nom_operators.specs.laws.TreeLaws.{one_tree}
 use Rattle.nom_operators.specs.Closes.{Closes, GoesUnder, UnderInnermost}
 use Rattle.nom_operators.proofs.Spine.{Joins, Reads, Holds, Closing, reads_first, reads_more, holds_none, holds_joined, holds_all, closing_none, closing_more}
 

@@ -9,7 +9,7 @@ use Rattle.std.proofs.Common.{arith, sym, ◌∙◌, ap, subst, append_assoc, in
 use Rattle.std.proofs.Math.Nat.{eq-or-lt_of_le}
 use Rattle.nom_operators.specs.Trees.{Levels, Parts, IsRoot}
 use Rattle.nom_operators.specs.Closes.{Closes, GoesUnder, UnderInnermost}
-use Rattle.nom_operators.specs.TreeLaws.{level_of, levels_append, levels_map}
+use Rattle.nom_operators.specs.laws.TreeLaws.{level_of, levels_append, levels_map}
 
 -- What values stand for: a term and pairs. Values of both sides of a root, joined by it, give one of the whole.
 pub record Joins {T B X C : Type 0} (level : B → ℕ) (left : ℕ → Bool) (StandsFor : T → List (B × T) → X → Type 0) (IsOperator : B → C → Type 0)

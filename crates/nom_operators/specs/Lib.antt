@@ -1,5 +1,5 @@
 pub mod Closes
 pub mod Groups
 pub mod Steps
-pub mod TreeLaws
 pub mod Trees
+pub mod laws

@@ -17,7 +17,7 @@ use Rattle.nom_internal.specs.Choice.NextBlames.{NextFails, NextRefuses}
 use Rattle.nom_internal.proofs.Choices.{shown_map}
 use Rattle.nom_permutation.specs.Members.{Member, Choice, or_waiting, or_members}
 use Rattle.nom_permutation.specs.Members.Choice.{NoChoice, Among}
-use Rattle.nom_permutation.specs.NestedLaws.{or_others}
+use Rattle.nom_permutation.specs.laws.NestedLaws.{or_others}
 use Rattle.nom_permutation.specs.Rounds.{as_answer, WhereRefused, ShowsRound, HasTried}
 
 module _ {T U : Type 0} (put : T → U) where

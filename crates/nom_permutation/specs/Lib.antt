@@ -1,10 +1,7 @@
 pub mod Left
-pub mod MemberLaws
 pub mod Members
-pub mod NestedLaws
 pub mod Once
 pub mod Order
 pub mod Permutation
-pub mod PermutationLaws
-pub mod RoundLaws
 pub mod Rounds
+pub mod laws

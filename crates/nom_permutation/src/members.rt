@@ -3,7 +3,7 @@ ghost use Rattle.std.specs.Prelude.{◌≡◌, ◌+◌, ◌∷◌, [], ℕ, Bool
 ghost use Rattle.nom_error.specs.Modes.{Built, modes};
 ghost use Rattle.nom_traits.specs.View.{View};
 ghost use Rattle.nom_permutation.specs.Members.{Member, AreSound, IsOver, member, tried, with_last};
-ghost use Rattle.nom_permutation.specs.NestedLaws.{AreGood, ArePinned, AreStream};
+ghost use Rattle.nom_permutation.specs.laws.NestedLaws.{AreGood, ArePinned, AreStream};
 ghost use Rattle.nom_permutation.specs.Rounds.{HasTried, SlotHolds, IsApplied, applies, waits};
 
 use crate::nest::{More, One};
@@ -91,8 +91,8 @@ pub trait StreamNested<I: Items>: Nested<I> {
 }
 
 impl<I: Items, A: Parser<I>> Nested<I> for One<A> {
-    ghost use Rattle.nom_permutation.specs.NestedLaws.{one_good};
-    ghost use Rattle.nom_permutation.specs.RoundLaws.{first_over};
+    ghost use Rattle.nom_permutation.specs.laws.NestedLaws.{one_good};
+    ghost use Rattle.nom_permutation.specs.laws.RoundLaws.{first_over};
 
     type Slots = Slot<A::Output>;
 
@@ -150,7 +150,7 @@ impl<I: Items, A: Parser<I>> Nested<I> for One<A> {
 }
 
 impl<I: Items, A: StreamParser<I>> StreamNested<I> for One<A> {
-    ghost use Rattle.nom_permutation.specs.NestedLaws.{one_view, one_pinned, one_stream};
+    ghost use Rattle.nom_permutation.specs.laws.NestedLaws.{one_view, one_pinned, one_stream};
 
     ghost view = { one_view A.Output.view };
 
@@ -160,7 +160,7 @@ impl<I: Items, A: StreamParser<I>> StreamNested<I> for One<A> {
 }
 
 impl<I: Items, M: Nested<I>, A: Parser<I, Error = M::Error>> Nested<I> for More<M, A> {
-    ghost use Rattle.nom_permutation.specs.NestedLaws.{last_over, more_good};
+    ghost use Rattle.nom_permutation.specs.laws.NestedLaws.{last_over, more_good};
 
     type Slots = (M::Slots, Slot<A::Output>);
 
@@ -230,7 +230,7 @@ impl<I: Items, M: Nested<I>, A: Parser<I, Error = M::Error>> Nested<I> for More<
 
 impl<I: Items, M: StreamNested<I>, A: StreamParser<I, Error = M::Error>> StreamNested<I>
     for More<M, A> {
-    ghost use Rattle.nom_permutation.specs.NestedLaws.{more_pinned, more_stream};
+    ghost use Rattle.nom_permutation.specs.laws.NestedLaws.{more_pinned, more_stream};
     ghost use Rattle.nom_traits.specs.View.{pair_view};
 
     ghost view = { pair_view M.view A.Output.view };

@@ -26,7 +26,7 @@ impl<I: Items, N: Nested<I>> Parser<I> for OnceEach<N>
 where
     N::Outputs: Flat,
 {
-    ghost use Rattle.nom_permutation.specs.PermutationLaws.{permutation_lawful};
+    ghost use Rattle.nom_permutation.specs.laws.PermutationLaws.{permutation_lawful};
 
     type Output = <N::Outputs as Flat>::Tuple;
 
@@ -56,8 +56,8 @@ where
 }
 
 impl<I: Items, N: StreamMembers<I>> StreamParser<I> for OnceEach<N> {
-    ghost use Rattle.nom_permutation.specs.NestedLaws.{flat_pinned};
-    ghost use Rattle.nom_permutation.specs.PermutationLaws.{permutation_steady};
+    ghost use Rattle.nom_permutation.specs.laws.NestedLaws.{flat_pinned};
+    ghost use Rattle.nom_permutation.specs.laws.PermutationLaws.{permutation_steady};
 
     ghost pinned = { λ s k p. (flat_pinned (N.pinned s) N.form N.Outputs.pairs N.formed).pinned k p };
 

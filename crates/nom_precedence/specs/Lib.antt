@@ -1,13 +1,9 @@
-pub mod ChainLaws
 pub mod Chains
-pub mod ExpressionLaws
 pub mod Expressions
-pub mod OperatorLaws
 pub mod Operators
 pub mod Premises
 pub mod Steps
 pub mod Stuck
-pub mod StuckLaws
 pub mod Told
-pub mod ValueLaws
 pub mod Values
+pub mod laws

@@ -53,8 +53,8 @@ where
     Q::Output: Viewed,
 {
     ghost use Rattle.nom_precedence.specs.Expressions.{Term, Pair, precedence_meaning};
-    ghost use Rattle.nom_precedence.specs.ExpressionLaws.{precedence_lawful};
-    ghost use Rattle.nom_precedence.specs.ValueLaws.{GivesAlike};
+    ghost use Rattle.nom_precedence.specs.laws.ExpressionLaws.{precedence_lawful};
+    ghost use Rattle.nom_precedence.specs.laws.ValueLaws.{GivesAlike};
 
     type Output = F::Output;
 
@@ -108,8 +108,8 @@ impl<
     B: Viewed + Drop,
     G: Fn(Operation<P::Output, Q::Output, B, F::Output>) -> F::Output,
 > StreamParser<I> for Precedence<'l, A, P, F, Q, C, B, G> {
-    ghost use Rattle.nom_precedence.specs.ExpressionLaws.{precedence_steady};
-    ghost use Rattle.nom_precedence.specs.ValueLaws.{folding_pinned};
+    ghost use Rattle.nom_precedence.specs.laws.ExpressionLaws.{precedence_steady};
+    ghost use Rattle.nom_precedence.specs.laws.ValueLaws.{folding_pinned};
 
     ghost pinned = { λ s k p. folding_pinned (P.IsOutput s.0) (F.IsOutput s.1) (Q.IsOutput s.2) (C.IsOutput s.3) (G.post s.5) P.Output.view
         Q.Output.view B.view F.Output.view p.4 (P.pinned s.0 k.0 p.0) (F.pinned s.1 k.1 p.1) (Q.pinned s.2 k.2 p.2) (C.pinned s.3 k.3 p.3)

@@ -8,17 +8,17 @@ use Rattle.nom_traits.specs.Bytes.{bytes_model, bytes_lawful}
 use Rattle.nom_traits.specs.Slices.{IsModelledBy}
 use Rattle.nom_internal.specs.Outcome.{failure}
 use Rattle.nom_internal.specs.Meaning.{IsLawful}
-use Rattle.nom_internal.specs.SequenceLaws.{sequence_lawful}
-use Rattle.nom_internal.specs.CaseLaws.{labelled_lawful}
+use Rattle.nom_internal.specs.laws.SequenceLaws.{sequence_lawful}
+use Rattle.nom_internal.specs.laws.CaseLaws.{labelled_lawful}
 use Rattle.nom_traits.specs.Compares.{ComparesBytes}
 use Rattle.nom_traits.specs.CompareTags.{bytes_comparing}
 use Rattle.nom_bytes.specs.Takes.{take_meaning}
-use Rattle.nom_bytes.specs.TakeLaws.{take_lawful}
-use Rattle.nom_bytes.specs.TagLaws.{tag_lawful}
+use Rattle.nom_bytes.specs.laws.TakeLaws.{take_lawful}
+use Rattle.nom_bytes.specs.laws.TagLaws.{tag_lawful}
 use Rattle.nom_multi_length.specs.Lengths.{HasSize, length_data_meaning}
-use Rattle.nom_multi_length.specs.LengthLaws.{length_data_lawful}
+use Rattle.nom_multi_length.specs.laws.LengthLaws.{length_data_lawful}
 use Rattle.nom_multi.specs.Many.{many0_meaning}
-use Rattle.nom_multi.specs.ManyLaws.{many0_lawful}
+use Rattle.nom_multi.specs.laws.ManyLaws.{many0_lawful}
 use Rattle.nom_traits.specs.Digits.{value_of}
 use Rattle.nom_number.specs.Numbers.{bytes_lack, number_meaning}
 use Rattle.nom_growing.specs.Growing.{IsGrown}

@@ -13,7 +13,7 @@ use Rattle.nom_internal.specs.Sequence.{after}
 use Rattle.nom_repeat.specs.Repeat.{Pieces, Replies, TurnsBy}
 use Rattle.nom_repeat.specs.Repeat.Turn.{Takes, Ends}
 use Rattle.nom_repeat.specs.Items.{refused_turn, item_turn, items_meaning}
-use Rattle.nom_repeat.specs.ItemsLaws.{empty_never_ends}
+use Rattle.nom_repeat.specs.laws.ItemsLaws.{empty_never_ends}
 use Rattle.nom_repeat.specs.Accepted.{MayTake, TakesItem, EndsItems, InTurn, AcceptsItems}
 use Rattle.nom_repeat.specs.declared.items.Limits.{Limits}
 use Rattle.nom_repeat.proofs.Few.{taken_accepted, taken_consumes, accepted_tree}

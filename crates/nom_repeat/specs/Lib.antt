@@ -1,10 +1,8 @@
 pub mod Accepted
 pub mod Bounds
 pub mod Inverted
-pub mod InvertedLaws
 pub mod Items
-pub mod ItemsLaws
 pub mod Accumulated
 pub mod Lists
 pub mod Repeat
-pub mod RepeatLaws
+pub mod laws

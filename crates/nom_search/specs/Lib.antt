@@ -1,4 +1,4 @@
 pub mod FourPages
 pub mod Reads
-pub mod SubstringLaws
 pub mod Substrings
+pub mod laws

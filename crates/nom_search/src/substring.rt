@@ -3,7 +3,7 @@ ghost use Rattle.std.specs.Prelude.{ℕ, ◌+◌, ◌≤◌, List, Option, lengt
 ghost use Rattle.std.specs.Char.{len_utf8};
 ghost use Rattle.memchr.specs.Find.{FindsNeedle, Nowhere, OccursAt};
 ghost use Rattle.nom_search.specs.Substrings.{FindLaws, FindsBytes, FindsFirst};
-ghost use Rattle.nom_search.specs.SubstringLaws.{bytes_finding, text_finding};
+ghost use Rattle.nom_search.specs.laws.SubstringLaws.{bytes_finding, text_finding};
 
 use crate::pages::find_byte;
 use memchr::arch::all::is_prefix;

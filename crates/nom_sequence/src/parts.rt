@@ -2,7 +2,7 @@
 ghost use Rattle.std.specs.Prelude.{false};
 ghost use Rattle.nom_error.specs.Modes.{with_outputs};
 ghost use Rattle.nom_internal.specs.Results.{ThenBesides};
-ghost use Rattle.nom_internal.specs.SequenceLaws.{sequence_lawful, sequence_steady};
+ghost use Rattle.nom_internal.specs.laws.SequenceLaws.{sequence_lawful, sequence_steady};
 ghost use Rattle.nom_sequence.specs.Sequences.{preceded_meaning, terminated_meaning};
 
 use nom_error::answer::PResult;

@@ -6,12 +6,12 @@ use Rattle.std.proofs.lemmas.Slice.Zip.{AllZip-long}
 use Rattle.nom_traits.specs.Text.{text_model, text_lawful, text_values}
 use Rattle.nom_traits.specs.View.{itself}
 use Rattle.nom_internal.specs.Meaning.{IsLawful}
-use Rattle.nom_internal.specs.MappedLaws.{map_lawful}
+use Rattle.nom_internal.specs.laws.MappedLaws.{map_lawful}
 use Rattle.nom_internal.specs.Pinned.{IsPinned}
 use Rattle.nom_character_first.specs.declared.first.Blame.TheVariants.{OfChar}
-use Rattle.nom_character_first.specs.FirstItemLaws.{told, first_item_lawful}
+use Rattle.nom_character_first.specs.laws.FirstItemLaws.{told, first_item_lawful}
 use Rattle.nom_multi.specs.Many.{many0_meaning}
-use Rattle.nom_multi.specs.ManyLaws.{many0_lawful}
+use Rattle.nom_multi.specs.laws.ManyLaws.{many0_lawful}
 use Rattle.test_lists.specs.Listed.{AreListed, IsNumber, kept, letters, numbered}
 
 letters_lawful : IsLawful text_model letters

@@ -8,7 +8,7 @@ use Rattle.nom_traits.specs.Slices.{Slice}
 use Rattle.nom_internal.specs.Meaning.{Meaning, IsLawful}
 use Rattle.nom_internal.specs.Leaf.{leaf_meaning, leaf_lawful}
 use Rattle.nom_bytes.specs.Takes.{takes}
-use Rattle.nom_bytes.specs.TakeLaws.{take_laws}
+use Rattle.nom_bytes.specs.laws.TakeLaws.{take_laws}
 
 -- the first byte of a list
 abbrev pub IsFirstByte : List ℕ → ℕ → Type 0

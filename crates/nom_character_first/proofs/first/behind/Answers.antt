@@ -1,6 +1,6 @@
 use Rattle.std.proofs.Common.{subst}
 use Rattle.nom_traits.specs.Input.{IsSuffixOf}
-use Rattle.nom_character_first.specs.FirstItemLaws.{head_place}
+use Rattle.nom_character_first.specs.laws.FirstItemLaws.{head_place}
 use Rattle.nom_character_first.proofs.first.behind.Goals as goal
 
 pub take_from-requires : goal.take_from-requires

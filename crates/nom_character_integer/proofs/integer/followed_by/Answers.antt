@@ -2,7 +2,7 @@ use Rattle.std.proofs.Common.{◌+◌, ◌*◌, Some, None, subst, sym}
 use Rattle.num_traits.specs.Laws.{Checks}
 use Rattle.nom_character_integer.specs.Integers.{with_sign}
 use Rattle.nom_character_integer.proofs.Signs.{no_tens, one_less}
-use Rattle.nom_character_integer.specs.IntegerLaws.{range_of}
+use Rattle.nom_character_integer.specs.laws.IntegerLaws.{range_of}
 use Rattle.nom_character_integer.proofs.integer.followed_by.Goals as goal
 
 pub returns-in_err-tens : goal.returns-in_err-tens

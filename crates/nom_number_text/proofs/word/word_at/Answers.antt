@@ -1,6 +1,6 @@
 use Rattle.std.proofs.Common.{get_or, refl, sym, ◌∙◌, ap, arith}
 use Rattle.std.specs.Char.{to_ascii_lowercase}
-use Rattle.nom_character_first.specs.FirstItemLaws.{head_place}
+use Rattle.nom_character_first.specs.laws.FirstItemLaws.{head_place}
 use Rattle.nom_number_text.proofs.WordShown.{found_none, found_all, found_lacks, found_more}
 use Rattle.nom_number_text.proofs.word.word_at.Goals as goal
 

@@ -1,5 +1,5 @@
 use Rattle.nom_located.specs.Located.{located, place}
-use Rattle.nom_located.specs.MovingLaws.{counts_moving}
+use Rattle.nom_located.specs.laws.MovingLaws.{counts_moving}
 use Rattle.nom_located.proofs.located.LocatedInput.slice_index.Goals as goal
 
 pub returns : goal.returns

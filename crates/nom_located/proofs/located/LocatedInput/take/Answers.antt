@@ -1,6 +1,6 @@
 use Rattle.nom_located.specs.Located.{located, place}
-use Rattle.nom_located.specs.LocatedLaws.{located_fitting}
-use Rattle.nom_located.specs.MovingLaws.{fits_front}
+use Rattle.nom_located.specs.laws.LocatedLaws.{located_fitting}
+use Rattle.nom_located.specs.laws.MovingLaws.{fits_front}
 use Rattle.nom_located.proofs.located.LocatedInput.take.Goals as goal
 
 pub invariant_of-result : goal.invariant_of-result

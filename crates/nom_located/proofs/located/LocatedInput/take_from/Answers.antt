@@ -3,8 +3,8 @@ use Rattle.nom_traits.specs.Rests.{items_len-append}
 use Rattle.nom_traits.specs.Input.{items_len, input_len}
 use Rattle.nom_search.specs.Reads.{bytes_length}
 use Rattle.nom_located.specs.Located.{Fits, located, place}
-use Rattle.nom_located.specs.LocatedLaws.{located_fitting, place_after}
-use Rattle.nom_located.specs.MovingLaws.{fits_front, fits_rest, rest_moving}
+use Rattle.nom_located.specs.laws.LocatedLaws.{located_fitting, place_after}
+use Rattle.nom_located.specs.laws.MovingLaws.{fits_front, fits_rest, rest_moving}
 use Rattle.nom_located.proofs.located.LocatedInput.take_from.Goals as goal
 
 pub line_after-line-requires : goal.line_after-line-requires

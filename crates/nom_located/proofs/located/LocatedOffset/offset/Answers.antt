@@ -1,7 +1,7 @@
 use Rattle.std.proofs.Common.{arith, subst}
 use Rattle.nom_traits.specs.Input.{IsSuffixOf}
 use Rattle.nom_located.specs.Located.{place, located_model}
-use Rattle.nom_located.specs.LocatedLaws.{rest_offset}
+use Rattle.nom_located.specs.laws.LocatedLaws.{rest_offset}
 use Rattle.nom_located.proofs.located.LocatedOffset.offset.Goals as goal
 
 pub overflow_sub-result : goal.overflow_sub-result

@@ -2,7 +2,7 @@ use Rattle.std.specs.Prelude.{Some}
 use Rattle.std.proofs.Common.{subst}
 use Rattle.nom_permutation.specs.Members.{IsOver}
 use Rattle.nom_permutation.specs.Members.Choice.{NoChoice}
-use Rattle.nom_permutation.specs.NestedLaws.{or_others, last_tried, others_over}
+use Rattle.nom_permutation.specs.laws.NestedLaws.{or_others, last_tried, others_over}
 use Rattle.nom_permutation.specs.Rounds.{IsApplied}
 use Rattle.nom_permutation.proofs.Places.{BothHold, step_applied, taken_built, none_built, pair_built}
 use Rattle.nom_permutation.proofs.members.MoreNested.outputs.Goals as goal

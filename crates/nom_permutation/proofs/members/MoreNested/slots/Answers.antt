@@ -1,5 +1,5 @@
 use Rattle.std.proofs.Common.{arith}
-use Rattle.nom_permutation.specs.NestedLaws.{last_length}
+use Rattle.nom_permutation.specs.laws.NestedLaws.{last_length}
 use Rattle.nom_permutation.proofs.members.MoreNested.slots.Goals as goal
 
 pub returns-clause-all : goal.returns-clause-all

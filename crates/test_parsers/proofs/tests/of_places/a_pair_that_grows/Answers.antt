@@ -2,7 +2,7 @@ use Rattle.std.proofs.Common.{[], ◌∷◌, ◌≡◌, ◌∙◌, ap, arith, le
 use Rattle.nom_traits.specs.Bytes.{bytes_model}
 use Rattle.nom_growing.specs.ByteCuts.{byte_cuts}
 use Rattle.nom_located.specs.Located.{located, place}
-use Rattle.nom_located.specs.MovingLaws.{place_moving}
+use Rattle.nom_located.specs.laws.MovingLaws.{place_moving}
 use Rattle.test_parsers.proofs.tests.of_places.a_pair_that_grows.Goals as goal
 
 pub parse_growing-grown-requires-clause-cuts : goal.parse_growing-grown-requires-clause-cuts

@@ -1,0 +1,2 @@
+pub mod BridgeLaws
+pub mod FieldLaws

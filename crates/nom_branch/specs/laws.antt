@@ -1,0 +1,2 @@
+pub mod AlternativeLaws
+pub mod ListLaws

@@ -1,0 +1,84 @@
+-- The laws of choices among the parsers of a list.
+use Rattle.std.specs.Prelude.{◌≡◌, ℕ, ◌+◌, List, [], ◌∷◌}
+use Rattle.std.proofs.Common.{sym, ◌∙◌, subst, zero, suc}
+use Rattle.nom_error.specs.declared.kind.ErrorKind.TheVariants.{Alt}
+use Rattle.nom_error.specs.Errors.{Errors}
+use Rattle.nom_traits.specs.Input.{Model}
+use Rattle.nom_traits.specs.View.{View}
+use Rattle.nom_internal.specs.Meaning.{Meaning, IsLawful, IsSteady}
+use Rattle.nom_internal.specs.Pinned.{IsPinned}
+use Rattle.nom_internal.specs.Leaf.{LeafLaws, leaf_lawful, leaf_steady}
+use Rattle.nom_internal.specs.laws.CaseLaws.{labelled_lawful, labelled_steady, closed_lawful, closed_steady}
+use Rattle.nom_internal.specs.Choice.{or_meaning}
+use Rattle.nom_internal.specs.laws.ChoiceLaws.{or_lawful, or_steady}
+use Rattle.nom_branch_list.specs.Sound.{sound_before, sound_at}
+use Rattle.nom_branch_list.specs.Lists.{no_branch, branch_meaning, others_meaning, list_meaning, IsElementAt, Each, ListOutput}
+
+no_branch_laws : {I A V : Type 0} (w : Model I A) → LeafLaws {V = V} w no_branch
+no_branch_laws w = record {
+  place = λ s i n v h a. absurd a;
+  one_accepted = λ s i n m u v h a b. absurd a;
+  one_lack = λ i j k h a b. absurd a;
+  accepted_refused = λ s i n v h a b. a;
+  accepted_lacks = λ i n v k h a b. a;
+  refused_lacks = λ i k h a b. b;
+  accepted_stays = λ longer s only x y n v kx ky r a. a;
+  refused_stays = λ longer s only x y kx ky r a. a;
+  lack_alike = λ x y k kx ky r a. a;
+  accepted_settles = λ i n v h a. a;
+  refused_settles = λ i h a. a;
+}
+
+module _ {S I A V E : Type 0} (w : Model I A) (e : Errors I E) (part : S → Meaning I V E) where
+  others_lawful : ((s : S) → (part s).IsSound → IsLawful w (part s)) → (m : Meaning I (ℕ × V) E) (k : ℕ) (ss : List S) →
+      (others_meaning e part m k ss).IsSound → IsLawful w m → IsLawful w (others_meaning e part m k ss)
+  others_lawful p m k [] h l = l
+  others_lawful p m k (s ∷ ss) h l =
+      let b = branch_meaning k (part s) in
+      let n = or_meaning e.joined e.grows m b in
+      let sound = (sound_before e part n (k + 1) ss h).1 in
+      others_lawful p n (k + 1) ss h (or_lawful w m b l (labelled_lawful w (part s) (λ t. (k, t)) (p s sound)) e.joined e.grows)
+
+  pub list_lawful : ((s : S) → (part s).IsSound → IsLawful w (part s)) → (ss : List S) → (list_meaning e part ss).IsSound → IsLawful w (list_meaning e part ss)
+  list_lawful p [] h = leaf_lawful w no_branch (no_branch_laws w) (Unit {0}) (λ i. e.of_kind i Alt) e.grows
+  list_lawful p (s ∷ ss) h =
+      let a = branch_meaning 0 (part s) in
+      let sound = sound_before e part a 1 ss h in
+      closed_lawful w (others_meaning e part a 1 ss)
+      (λ i. e.appended i Alt) e.grows (others_lawful p a 1 ss h (labelled_lawful w (part s) (λ t. (0, t)) (p s sound)))
+
+  others_steady : ((s : S) → (part s).IsSound → IsSteady w (part s)) → (m : Meaning I (ℕ × V) E) (k : ℕ) (ss : List S) →
+      (others_meaning e part m k ss).IsSound → IsSteady w m → IsSteady w (others_meaning e part m k ss)
+  others_steady p m k [] h l = l
+  others_steady p m k (s ∷ ss) h l =
+      let b = branch_meaning k (part s) in
+      let n = or_meaning e.joined e.grows m b in
+      let sound = (sound_before e part n (k + 1) ss h).1 in
+      others_steady p n (k + 1) ss h (or_steady w m b e.joined e.grows l (labelled_steady w (part s) (λ t. (k, t)) (p s sound)))
+
+  pub list_steady : ((s : S) → (part s).IsSound → IsSteady w (part s)) → (ss : List S) → (list_meaning e part ss).IsSound → IsSteady w (list_meaning e part ss)
+  list_steady p [] h = leaf_steady w no_branch (no_branch_laws w) (Unit {0}) (λ i. e.of_kind i Alt) e.grows
+  list_steady p (s ∷ ss) h =
+      let a = branch_meaning 0 (part s) in
+      let sound = sound_before e part a 1 ss h in
+      closed_steady w (others_meaning e part a 1 ss)
+      (λ i. e.appended i Alt) e.grows (others_steady p a 1 ss h (labelled_steady w (part s) (λ t. (0, t)) (p s sound)))
+
+-- one element stands at a place, and the fact of each is its own
+stands_once : {S : Type 0} (ss : List S) (k : ℕ) (x y : S) → IsElementAt ss k x → IsElementAt ss k y → x ≡ y
+stands_once [] k x y p q = absurd p
+stands_once (s ∷ ss) zero x y p q = sym p ∙ q
+stands_once (s ∷ ss) (suc k) x y p q = stands_once ss k x y p q
+
+each_at : {S : Type 0} (P : S → Type 0) (ss : List S) (k : ℕ) (s : S) → Each P ss → IsElementAt ss k s → P s
+each_at P [] k s h l = absurd l
+each_at P (x ∷ xs) zero s h l = subst P l h.0
+each_at P (x ∷ xs) (suc k) s h l = each_at P xs k s h.1 l
+
+module _ {S I V O E : Type 0} (e : Errors I E) (part : S → Meaning I V E) (view : View O) (IsOutput : S → V → O → Type 0) (Pins : S → Type 0) where
+  -- two outputs of one tree are equal as viewed, where each parser pins
+  pub list_pinned : ((s : S) → (part s).IsSound → Pins s → IsPinned view (IsOutput s)) → (ss : List S) → (list_meaning e part ss).IsSound →
+      Each Pins ss → IsPinned view (ListOutput IsOutput ss)
+  list_pinned f ss h p t a b x y =
+      let one = stands_once ss t.0 y.0 x.0 y.1 x.1 in
+      f x.0 (sound_at e part ss t.0 x.0 x.1 h) (each_at Pins ss t.0 x.0 p x.1) t.1 a b x.2 (subst (λ z. IsOutput z t.1 b) one y.2)

@@ -1,0 +1,4 @@
+pub mod RunLaws
+pub mod TagLaws
+pub mod TakeLaws
+pub mod UntilLaws

@@ -1,0 +1,2 @@
+pub mod EscapeLaws
+pub mod NextPieceLaws

@@ -1,0 +1,3 @@
+pub mod ConditionLaws
+pub mod OutputLaws
+pub mod VerdictLaws

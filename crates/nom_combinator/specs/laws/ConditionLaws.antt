@@ -1,0 +1,28 @@
+-- The laws of a part that runs on a condition.
+use Rattle.std.specs.Prelude.{Option, Some, None}
+use Rattle.std.proofs.Common.{sym, ◌∙◌, ap}
+use Rattle.nom_traits.specs.Input.{Model}
+use Rattle.nom_traits.specs.View.{View, option_view}
+use Rattle.nom_internal.specs.Meaning.{Meaning, IsLawful, IsSteady}
+use Rattle.nom_internal.specs.laws.CaseLaws.{labelled_lawful, labelled_steady}
+use Rattle.nom_internal.specs.Success.{success_lawful, success_steady}
+use Rattle.nom_internal.specs.Pinned.{IsPinned}
+use Rattle.nom_combinator.specs.Conditions.{cond_meaning, CondOutput, CondPins}
+use Rattle.nom_combinator.specs.laws.VerdictLaws.{opt_pinned}
+
+module _ {I A S P E : Type 0} (w : Model I A) (meaning : S → Meaning I P E) where
+  pub cond_lawful : ((s : S) → (meaning s).IsSound → IsLawful w (meaning s)) → (o : Option S) → (cond_meaning meaning o).IsSound →
+      IsLawful w (cond_meaning meaning o)
+  cond_lawful l (Some s) k = labelled_lawful w (meaning s) (λ t. Some t) (l s k)
+  cond_lawful l None k = success_lawful E w None
+
+  pub cond_steady : ((s : S) → (meaning s).IsSound → IsSteady w (meaning s)) → (o : Option S) → (cond_meaning meaning o).IsSound →
+      IsSteady w (cond_meaning meaning o)
+  cond_steady l (Some s) k = labelled_steady w (meaning s) (λ t. Some t) (l s k)
+  cond_steady l None k = success_steady E w None
+
+module _ {I S P O E : Type 0} (view : View O) (meaning : S → Meaning I P E) (IsOutput : S → P → O → Type 0) (Pins : S → Type 0) where
+  pub cond_pinned : ((s : S) → (meaning s).IsSound → Pins s → IsPinned view (IsOutput s)) → (o : Option S) → (cond_meaning meaning o).IsSound →
+      CondPins Pins o → IsPinned (option_view view) (CondOutput IsOutput o)
+  cond_pinned f (Some s) k p = opt_pinned view (IsOutput s) (f s k p)
+  cond_pinned f None k p = λ t a b g h. ap (option_view view).value (g ∙ sym h)

@@ -1,0 +1,10 @@
+pub mod BoundedLaws
+pub mod CaseLaws
+pub mod ChoiceLaws
+pub mod FlatMapLaws
+pub mod JudgedLaws
+pub mod MappedLaws
+pub mod PartLaws
+pub mod RecognizedLaws
+pub mod SequenceLaws
+pub mod TupleLaws

@@ -1,0 +1,64 @@
+-- The laws of parts whose outputs or errors become others.
+use Rattle.std.specs.Prelude.{true, refl}
+use Rattle.nom_traits.specs.Input.{Model}
+use Rattle.nom_traits.specs.View.{View}
+use Rattle.nom_internal.specs.Meaning.{Meaning, IsLawful, IsSteady}
+use Rattle.nom_internal.specs.laws.CaseLaws.{CaseLaws, fixed_laws, case_lawful, case_steady}
+use Rattle.nom_internal.specs.Closures.{GivesFor, SeesAlike}
+use Rattle.nom_internal.specs.Mapped.{map_case, map_meaning, renamed_case, renamed_meaning}
+use Rattle.nom_internal.specs.Pinned.{IsPinned}
+
+-- what a closure gives for the outputs of one tree is equal as viewed, where they are
+pub given_pinned : {V P R : Type 0} (argument : View P) (result : View R) (IsOutput : V → P → Type 0) (Gives : P → R → Type 0) →
+    IsPinned argument IsOutput → SeesAlike argument result Gives → IsPinned result (GivesFor IsOutput Gives)
+given_pinned argument result IsOutput Gives f s t a b g h = s.alike g.output h.output a b (f t g.output h.output g.is_output h.is_output) g.given h.given
+
+module _ {I A V P : Type 0} (w : Model I A) (IsOutput : V → P → Type 0) (Takes : P → Type 0) where
+  map_laws : {E : Type 0} → CaseLaws {E = E} true w w (map_case IsOutput Takes)
+  map_laws {E} =
+      let l = fixed_laws {P = V} w {E = E} true in
+      record {
+        at_known = l.at_known;
+        at_related = l.at_related;
+        at_alike = l.at_alike;
+        keeps = l.keeps;
+        same = l.same;
+        alike = l.alike;
+        place = l.place;
+        never_fails = l.never_fails;
+        blames = l.blames;
+        part_frugal = λ Part mode h. h;
+        asks_none = λ Part mode i a h g. g;
+      }
+
+  module _ {E : Type 0} (m : Meaning I V E) where
+    pub map_lawful : IsLawful w m → IsLawful w (map_meaning IsOutput Takes m)
+    map_lawful l = case_lawful w w m l (map_case IsOutput Takes) map_laws
+
+    pub map_steady : IsSteady w m → IsSteady w (map_meaning IsOutput Takes m)
+    map_steady l = case_steady w w m (map_case IsOutput Takes) map_laws refl l
+
+module _ {I A V E F : Type 0} (w : Model I A) (Makes : I → E → F → Type 0) (Grows : Type 0) where
+  renamed_laws : CaseLaws true w w (renamed_case {V = V} Makes Grows)
+  renamed_laws =
+      let l = fixed_laws {P = V} w {E = E} true in
+      record {
+        at_known = l.at_known;
+        at_related = l.at_related;
+        at_alike = l.at_alike;
+        keeps = l.keeps;
+        same = l.same;
+        alike = l.alike;
+        place = l.place;
+        never_fails = l.never_fails;
+        blames = λ i a X Y e f h. (h.0, h.1, f h.0 h.2, h.3);
+        part_frugal = λ Part mode h. h.0;
+        asks_none = λ Part mode i a h g. h.1 g.1;
+      }
+
+  module _ (m : Meaning I V E) where
+    pub renamed_lawful : IsLawful w m → IsLawful w (renamed_meaning Makes Grows m)
+    renamed_lawful l = case_lawful w w m l (renamed_case Makes Grows) renamed_laws
+
+    pub renamed_steady : IsSteady w m → IsSteady w (renamed_meaning Makes Grows m)
+    renamed_steady l = case_steady w w m (renamed_case Makes Grows) renamed_laws refl l

@@ -1,0 +1,2 @@
+pub mod LocatedLaws
+pub mod MovingLaws

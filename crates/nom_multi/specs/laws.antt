@@ -1,0 +1,4 @@
+pub mod BoundedLaws
+pub mod FillLaws
+pub mod ManyLaws
+pub mod TillLaws

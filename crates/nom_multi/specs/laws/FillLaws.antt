@@ -1,0 +1,20 @@
+-- The laws of items in a buffer.
+use Rattle.std.specs.Prelude.{ℕ, refl}
+use Rattle.nom_error.specs.Errors.{Errors}
+use Rattle.nom_traits.specs.Input.{Model, InputLaws}
+use Rattle.nom_traits.specs.View.{itself}
+use Rattle.nom_internal.specs.Meaning.{Meaning, IsLawful, IsSteady}
+use Rattle.nom_internal.specs.Pinned.{IsPinned}
+use Rattle.nom_repeat.specs.laws.ItemsLaws.{items_lawful, items_steady}
+use Rattle.nom_multi.specs.Fill.{fill_meaning, IsDone}
+use Rattle.nom_repeat.specs.Bounds.{exact_limits}
+
+module _ {I A V E : Type 0} (w : Model I A) (l : InputLaws w) (errs : Errors I E) (n : ℕ) (m : Meaning I V E) where
+  pub fill_lawful : IsLawful w m → IsLawful w (fill_meaning w errs n m)
+  fill_lawful p = items_lawful w l errs (exact_limits n) ⊥ m p
+
+  pub fill_steady : IsSteady w m → IsSteady w (fill_meaning w errs n m)
+  fill_steady p = items_steady w l errs (exact_limits n) ⊥ m p
+
+pub done_pinned : {V : Type 0} → IsPinned itself (IsDone {V = V})
+done_pinned vs a b p q = refl

@@ -1,0 +1,104 @@
+-- The laws of items until an end.
+use Rattle.std.specs.Prelude.{◌≡◌, ℕ, ◌⊎◌, Bool, true, false, Option, Some, None, zero, suc, refl}
+use Rattle.std.proofs.Common.{inl, inr}
+use Rattle.nom_error.specs.Errors.{Errors}
+use Rattle.nom_traits.specs.Input.{Model, InputLaws}
+use Rattle.nom_internal.specs.Outcome.{Outcome, failure}
+use Rattle.nom_internal.specs.Outcome.Outcome.{Accept, Refuse, Fail, TooLarge, Undecided}
+use Rattle.nom_internal.specs.Meaning.{Meaning, IsLawful, IsSteady}
+use Rattle.nom_internal.specs.Cases.{labelled_meaning}
+use Rattle.nom_internal.specs.laws.CaseLaws.{labelled_lawful, labelled_steady}
+use Rattle.nom_internal.specs.laws.ChoiceLaws.{otherwise_lawful, otherwise_steady}
+use Rattle.nom_internal.specs.Families.{always, always_lawful}
+use Rattle.nom_repeat.specs.Repeat.{Ran}
+use Rattle.nom_repeat.specs.Repeat.Turn.{Ends}
+use Rattle.nom_repeat.specs.laws.RepeatLaws.{KeepsTurn, KeepsReply, EndsAt, RuleLaws, repeat_lawful, repeat_steady}
+use Rattle.nom_multi.specs.Till.{end_or_item, step_turn, till_turn, OnItem, TillBlames, TillAsks, till_rule, with_end, many_till_meaning}
+
+till_decided : {T V : Type 0} (a : Option (Outcome (T ⊎ V))) → KeepsTurn true (till_turn a) → KeepsReply true a
+till_decided (Some (Accept n u)) h = tt
+till_decided (Some Refuse) h = tt
+till_decided (Some Fail) h = tt
+till_decided (Some TooLarge) h = h
+till_decided (Some (Undecided n)) h = h
+till_decided None h = tt
+
+step_ends : {T V : Type 0} (u : T ⊎ V) (m n : ℕ) (t : T) → Ends (Accept n t) ≡ step_turn u m → n ≡ m
+step_ends (inl x) m n t e = cc (e)
+step_ends (inr v) zero n t e = absurd (cc (e))
+step_ends (inr v) (suc m) n t e = absurd (cc (e))
+
+till_ends : {T V : Type 0} (a : Option (Outcome (T ⊎ V))) (n : ℕ) (t : T) → Ends (Accept n t) ≡ till_turn a → EndsAt n a
+till_ends (Some (Accept m u)) n t e = inr (step_ends u m n t e)
+till_ends (Some Refuse) n t e = absurd (cc (e))
+till_ends (Some Fail) n t e = absurd (cc (e))
+till_ends (Some TooLarge) n t e = absurd (cc (e))
+till_ends (Some (Undecided m)) n t e = absurd (cc (e))
+till_ends None n t e = absurd (cc (e))
+
+till_blames : {I T V E : Type 0} (errs : Errors I E) (j : I) (a : Option (Outcome (T ⊎ V))) (X Y : E → Type 0) (e : E) → (Ran a → (f : E) → X f → Y f) →
+    TillBlames errs j a X e → TillBlames errs j a Y e
+till_blames errs j (Some (Accept n u)) X Y e f h = h
+till_blames errs j (Some Refuse) X Y e f h = (h.0, f tt h.0 h.1, h.2)
+till_blames errs j (Some Fail) X Y e f h = f tt e h
+till_blames errs j (Some TooLarge) X Y e f h = f tt e h
+till_blames errs j (Some (Undecided n)) X Y e f h = h
+till_blames errs j None X Y e f h = h
+
+item_asks_none : {T V : Type 0} (Refused Accumulated : Type 0) (u : T ⊎ V) (n : ℕ) → (Refused → ⊥) → (Accumulated → ⊥) → OnItem Refused Accumulated u n → ⊥
+item_asks_none Refused Accumulated (inl t) n f g h = h
+item_asks_none Refused Accumulated (inr v) zero f g h = f h
+item_asks_none Refused Accumulated (inr v) (suc n) f g h = g h
+
+till_asks_none : {T V : Type 0} (Refused Accumulated : Type 0) (a : Option (Outcome (T ⊎ V))) → (Refused → ⊥) → (Accumulated → ⊥) →
+    TillAsks Refused Accumulated a → ⊥
+till_asks_none Refused Accumulated (Some (Accept n u)) f g h = item_asks_none Refused Accumulated u n f g h
+till_asks_none Refused Accumulated (Some Refuse) f g h = f h
+till_asks_none Refused Accumulated (Some Fail) f g h = h
+till_asks_none Refused Accumulated (Some TooLarge) f g h = h
+till_asks_none Refused Accumulated (Some (Undecided n)) f g h = h
+till_asks_none Refused Accumulated None f g h = h
+
+step_never_fails : {T V : Type 0} (large : Bool) (u : T ⊎ V) (n : ℕ) → Ends (failure large) ≡ step_turn u n → ⊥
+step_never_fails true (inl t) n e = absurd (cc (e))
+step_never_fails false (inl t) n e = absurd (cc (e))
+step_never_fails true (inr v) zero e = absurd (cc (e))
+step_never_fails false (inr v) zero e = absurd (cc (e))
+step_never_fails true (inr v) (suc n) e = absurd (cc (e))
+step_never_fails false (inr v) (suc n) e = absurd (cc (e))
+
+till_fails : {T V : Type 0} (large : Bool) (a : Option (Outcome (T ⊎ V))) → Ends (failure large) ≡ till_turn a → a ≡ Some (failure large)
+till_fails large (Some (Accept n u)) e = absurd (step_never_fails large u n e)
+till_fails true (Some Refuse) e = absurd (cc (e))
+till_fails true (Some Fail) e = absurd (cc (e))
+till_fails true (Some TooLarge) e = refl
+till_fails true (Some (Undecided n)) e = absurd (cc (e))
+till_fails true None e = absurd (cc (e))
+till_fails false (Some Refuse) e = absurd (cc (e))
+till_fails false (Some Fail) e = refl
+till_fails false (Some TooLarge) e = absurd (cc (e))
+till_fails false (Some (Undecided n)) e = absurd (cc (e))
+till_fails false None e = absurd (cc (e))
+
+till_rule_laws : {I T V E : Type 0} (errs : Errors I E) → RuleLaws (till_rule {T = T} {V = V} errs)
+till_rule_laws errs = record {
+  decided = λ k. till_decided;
+  ends = λ k. till_ends;
+  blames = λ i k j a P Q e. till_blames errs j a P Q e;
+  part_frugal = λ Part mode k h. h.0;
+  asks_none = λ Part mode k a h. till_asks_none ((mode.errors ≡ true) × errs.grows) (mode.outputs ≡ true) a (λ p. h.2 p.0 p.1) h.1;
+  never_fails = λ Part large k a h e. (h, till_fails large a e);
+}
+
+module _ {I A T V E : Type 0} (w : Model I A) (l : InputLaws w) (errs : Errors I E) (m : Meaning I V E) (end : Meaning I T E) where
+  pub many_till_lawful : IsLawful w m → IsLawful w end → IsLawful w (many_till_meaning w errs m end)
+  many_till_lawful p q =
+      let part : IsLawful w (end_or_item end m) =
+      otherwise_lawful w (labelled_meaning inl end) (labelled_meaning inr m) (labelled_lawful w end inl q) (labelled_lawful w m inr p) in
+      repeat_lawful w l (till_rule errs) (till_rule_laws errs) with_end (always (end_or_item end m)) (always_lawful w (end_or_item end m) part)
+
+  pub many_till_steady : IsSteady w m → IsSteady w end → IsSteady w (many_till_meaning w errs m end)
+  many_till_steady p q =
+      let part : IsSteady w (end_or_item end m) =
+      otherwise_steady w (labelled_meaning inl end) (labelled_meaning inr m) (labelled_steady w end inl q) (labelled_steady w m inr p) in
+      repeat_steady w l (till_rule errs) (till_rule_laws errs) with_end (always (end_or_item end m)) (λ _. part)

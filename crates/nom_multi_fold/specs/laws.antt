@@ -1,0 +1,5 @@
+pub mod CountLaws
+pub mod DroppedLaws
+pub mod FoldLaws
+pub mod RangeLaws
+pub mod UnfitLaws

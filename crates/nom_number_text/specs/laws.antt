@@ -1,0 +1,4 @@
+pub mod FloatLaws
+pub mod HexLaws
+pub mod PartLaws
+pub mod WordLaws

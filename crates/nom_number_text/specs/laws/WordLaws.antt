@@ -1,0 +1,75 @@
+-- The laws of words, and of parts before them.
+use Rattle.std.specs.Prelude.{◌≡◌, ℕ, ◌==◌, Bool, true, false, cond, List, [], ◌∷◌, ◌++◌, codes, refl}
+use Rattle.std.proofs.Common.{ap}
+use Rattle.std.specs.Char.{to_ascii_lowercase}
+use Rattle.nom_error.specs.declared.kind.ErrorKind.TheVariants as Kind
+use Rattle.nom_error.specs.Errors.{Errors}
+use Rattle.nom_traits.specs.Input.{Model, IsSame}
+use Rattle.nom_internal.specs.laws.MappedLaws.{renamed_lawful, renamed_steady}
+use Rattle.nom_traits.specs.Slices.{IsModelledBy}
+use Rattle.nom_traits.specs.View.{View}
+use Rattle.nom_internal.specs.Choice.{EitherOutput}
+use Rattle.nom_internal.specs.Pinned.{IsPinned, slice_pinned, either_pinned}
+use Rattle.nom_internal.specs.Meaning.{Meaning, IsLawful, IsSteady}
+use Rattle.nom_branch.specs.laws.AlternativeLaws.{next_lawful, next_stays, choice_lawful, choice_steady, stays}
+use Rattle.nom_character.specs.LineMatches.{Match, one_more}
+use Rattle.nom_character.specs.LineMatches.Match.{Stands, Absent, Begins}
+use Rattle.nom_character.specs.laws.LineMatchLaws.{IsSettled, LineMatchLaws, match_lawful, match_steady}
+use Rattle.nom_number_text.specs.laws.FloatLaws.{IsStream}
+use Rattle.nom_number_text.specs.Words.{word_in, word_meaning, exceptions_meaning, as_float_meaning}
+
+settled_less : (a : Match) → IsSettled (one_more a) → IsSettled a
+settled_less (Stands n) h = tt
+settled_less Absent h = tt
+settled_less (Begins lack) h = h
+
+module _ {A : Type 0} (code : A → ℕ) where
+  by_letter : (b : Bool) (p q : Match) → (IsSettled p → q ≡ p) → IsSettled (cond b (one_more p) Absent) →
+      cond b (one_more q) Absent ≡ cond b (one_more p) Absent
+  by_letter true p q f h = ap one_more (f (settled_less p h))
+  by_letter false p q f h = refl
+
+  word_stays : (word : List ℕ) (s : Bool) (xs more : List A) → IsSettled (word_in code word true xs) →
+      word_in code word s (xs ++ more) ≡ word_in code word true xs
+  word_stays [] s xs more h = refl
+  word_stays (c ∷ cs) s [] more h = absurd h
+  word_stays (c ∷ cs) s (x ∷ xs) more h = by_letter (to_ascii_lowercase (code x) == c) _ _ (word_stays cs s xs more) h
+
+  pub word_laws : (word : List ℕ) → LineMatchLaws (word_in code word)
+  word_laws word = record { stays = word_stays word }
+
+module _ {I A E : Type 0} (w : Model I A) (code : A → ℕ) (errs : Errors I E) where
+  pub word_stream : (word : List ℕ) → IsStream w (word_meaning w code errs word)
+  word_stream word = record {
+    lawful = match_lawful w (word_in code word) (word_laws code word) errs Kind.Float;
+    steady = match_steady w (word_in code word) (word_laws code word) errs Kind.Float;
+  }
+
+  module _ {P : Type 0} (a : Meaning I P E) (p : IsStream w a) where
+    pub as_float_stream : IsStream w (as_float_meaning errs a)
+    as_float_stream = record {
+      lawful = renamed_lawful w (λ i _. errs.of_kind i Kind.Float) errs.grows a p.lawful;
+      steady = renamed_steady w (λ i _. errs.of_kind i Kind.Float) errs.grows a p.steady;
+    }
+
+  -- a part, and the three words
+  module _ {P : Type 0} (a : Meaning I P E) where
+    pub exceptions_lawful : IsLawful w a → IsLawful w (exceptions_meaning w code errs a)
+    exceptions_lawful p = choice_lawful errs
+        (next_lawful errs (next_lawful errs (next_lawful errs p (word_stream (codes "nan")).lawful) (word_stream (codes "infinity")).lawful)
+        (word_stream (codes "inf")).lawful)
+
+    pub exceptions_steady : IsSteady w a → IsSteady w (exceptions_meaning w code errs a)
+    exceptions_steady p = choice_steady errs
+        (next_stays errs (next_stays errs
+        (next_stays errs (stays a p) (stays (word_meaning w code errs (codes "nan")) (word_stream (codes "nan")).steady))
+        (stays (word_meaning w code errs (codes "infinity")) (word_stream (codes "infinity")).steady))
+        (stays (word_meaning w code errs (codes "inf")) (word_stream (codes "inf")).steady))
+
+pub exceptions_pinned : {I A P : Type 0} (w : Model I A) (view : View I) → ((x y : I) → IsSame w x y → view.value x ≡ view.value y) →
+    (IsOutput : P → I → Type 0) → IsPinned view IsOutput →
+    IsPinned view (EitherOutput (EitherOutput (EitherOutput IsOutput (IsModelledBy w)) (IsModelledBy w)) (IsModelledBy w))
+exceptions_pinned w view views IsOutput p =
+    let slice = slice_pinned w view views in
+    either_pinned view (EitherOutput (EitherOutput IsOutput (IsModelledBy w)) (IsModelledBy w)) (IsModelledBy w)
+    (either_pinned view (EitherOutput IsOutput (IsModelledBy w)) (IsModelledBy w) (either_pinned view IsOutput (IsModelledBy w) p slice) slice) slice

@@ -1,0 +1,4 @@
+pub mod MemberLaws
+pub mod NestedLaws
+pub mod PermutationLaws
+pub mod RoundLaws

@@ -1,0 +1,5 @@
+pub mod ChainLaws
+pub mod ExpressionLaws
+pub mod OperatorLaws
+pub mod StuckLaws
+pub mod ValueLaws

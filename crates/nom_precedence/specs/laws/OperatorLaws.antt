@@ -1,0 +1,107 @@
+-- The laws of operators with levels.
+use Rattle.std.specs.Prelude.{◌≡◌, ℕ, Bool, true, false, ltb, refl}
+use Rattle.std.proofs.Common.{sym, ◌∙◌, ap, subst}
+use Rattle.nom_error.specs.Errors.{Errors}
+use Rattle.nom_traits.specs.Input.{Model, IsBoundary}
+use Rattle.nom_traits.specs.View.{itself}
+use Rattle.nom_internal.specs.Outcome.{Outcome, failure, IsDecided}
+use Rattle.nom_internal.specs.Outcome.Outcome.{Accept, Refuse, Fail, TooLarge, Undecided}
+use Rattle.nom_internal.specs.Meaning.{Meaning, IsLawful, IsSteady}
+use Rattle.nom_internal.specs.Families.{OfValue, IsOne}
+use Rattle.nom_internal.specs.Cases.{Passes}
+use Rattle.nom_internal.specs.Closures.{GivesFor}
+use Rattle.nom_internal.specs.Pinned.{IsPinned}
+use Rattle.nom_internal.specs.laws.CaseLaws.{CaseLaws, here_known, here_related, here_alike, here_place, case_lawful, case_steady}
+use Rattle.nom_precedence.specs.Operators.{HasLevel, if_level, OperatorBlames, OperatorAsks, operator_case, operator_meaning}
+
+level_accepts : {P : Type 0} (b : Bool) (n m k : ℕ) (t : ℕ × P) (u : P) → Accept n t ≡ if_level b m k u → m ≡ n
+level_accepts true n m k t u e = cc
+level_accepts false n m k t u e = cc
+
+level_fails : {P : Type 0} (b large : Bool) (m k : ℕ) (u : P) → failure large ≡ if_level b m k u → large ≡ false
+level_fails true true m k u e = cc
+level_fails true false m k u e = cc
+level_fails false true m k u e = cc
+level_fails false false m k u e = refl
+
+module _ {P : Type 0} (IsLevel : P → ℕ → Type 0) (levels : ℕ) where
+  -- what a part's outcome becomes
+  abbrev Becomes : Outcome P → Outcome (ℕ × P) → Type 0
+  Becomes = Passes (λ n u o. OfValue (IsLevel u) (λ k. o ≡ if_level (ltb k levels) n k u))
+
+  keeps : (a : Outcome P) (o : Outcome (ℕ × P)) → Becomes a o → IsDecided o → IsDecided a
+  keeps (Accept n u) o b d = tt
+  keeps Refuse o b d = tt
+  keeps Fail o b d = tt
+  keeps TooLarge o b d = subst (λ z. IsDecided z) b d
+  keeps (Undecided k) o b d = subst (λ z. IsDecided z) b d
+
+  same : IsOne IsLevel → (a : Outcome P) (o p : Outcome (ℕ × P)) → Becomes a o → Becomes a p → o ≡ p
+  same one (Accept n u) o p s t = s.fact ∙ (ap (λ k. if_level (ltb k levels) n k u) (one u s.value t.value s.is_value t.is_value) ∙ sym t.fact)
+  same one Refuse o p s t = s ∙ sym t
+  same one Fail o p s t = s ∙ sym t
+  same one TooLarge o p s t = s ∙ sym t
+  same one (Undecided k) o p s t = s ∙ sym t
+
+  place : {I A : Type 0} (w : Model I A) (i j : I) (a : Outcome P) (n : ℕ) (t : ℕ × P) → i ≡ j → ((m : ℕ) (u : P) → a ≡ Accept m u → IsBoundary w j m) →
+      Becomes a (Accept n t) → IsBoundary w i n
+  place w i j (Accept m u) n t e f b = subst (λ z. IsBoundary w i z) (level_accepts (ltb b.value levels) n m b.value t u b.fact)
+      (here_place w i j m e (f m u refl))
+  place w i j Refuse n t e f b = absurd (cc (b))
+  place w i j Fail n t e f b = absurd (cc (b))
+  place w i j TooLarge n t e f b = absurd (cc (b))
+  place w i j (Undecided k) n t e f b = absurd (cc (b))
+
+  fails : (large : Bool) (a : Outcome P) → large ≡ true → Becomes a (failure large) → a ≡ failure large
+  fails true (Accept n u) e b = let no : true ≡ false = level_fails (ltb b.value levels) true n b.value u b.fact in absurd (cc)
+  fails true Refuse e b = absurd (cc (b))
+  fails true Fail e b = absurd (cc (b))
+  fails true TooLarge e b = refl
+  fails true (Undecided k) e b = absurd (cc (b))
+  fails false a e b = absurd (cc)
+
+  operator_blames : {E : Type 0} (Makes : E → Type 0) (a : Outcome P) (X Y : E → Type 0) (e : E) → ((f : E) → X f → Y f) →
+      OperatorBlames IsLevel levels Makes a X e → OperatorBlames IsLevel levels Makes a Y e
+  operator_blames Makes (Accept n u) X Y e f h = h
+  operator_blames Makes Refuse X Y e f h = f e h
+  operator_blames Makes Fail X Y e f h = f e h
+  operator_blames Makes TooLarge X Y e f h = f e h
+  operator_blames Makes (Undecided k) X Y e f h = h
+
+  asks_none : (Grows : Type 0) (a : Outcome P) → (Grows → ⊥) → OperatorAsks IsLevel levels Grows a → ⊥
+  asks_none Grows (Accept n u) f h = f (h.fact).1
+  asks_none Grows Refuse f h = h
+  asks_none Grows Fail f h = h
+  asks_none Grows TooLarge f h = h
+  asks_none Grows (Undecided k) f h = h
+
+module _ {I A P E : Type 0} (w : Model I A) (errs : Errors I E) (IsLevel : P → ℕ → Type 0) (levels : ℕ) (one : IsOne IsLevel) where
+  operator_laws : CaseLaws true w w (operator_case errs IsLevel levels)
+  operator_laws = record {
+    at_known = here_known w;
+    at_related = λ longer stays. here_related w longer;
+    at_alike = here_alike w;
+    keeps = λ only i. keeps IsLevel levels;
+    same = λ longer stays x y a o p kx ky r s k t. same IsLevel levels one a o p s t;
+    alike = λ x y a o kx ky r b. b;
+    place = λ i j a n t h e f b. place IsLevel levels w i j a n t e f b;
+    never_fails = λ Part large i a g e. (g.0, fails IsLevel levels large a g.1 e);
+    blames = λ i a X Y e f. operator_blames IsLevel levels (errs.of_kind i _) a X Y e f;
+    part_frugal = λ Part mode h. h.0;
+    asks_none = λ Part mode i a h g. asks_none IsLevel levels errs.grows a h.1 g;
+  }
+
+  module _ (m : Meaning I P E) where
+    pub operator_lawful : IsLawful w m → IsLawful w (operator_meaning errs IsLevel levels m)
+    operator_lawful p = case_lawful w w m p (operator_case errs IsLevel levels) operator_laws
+
+    pub operator_steady : IsSteady w m → IsSteady w (operator_meaning errs IsLevel levels m)
+    operator_steady p = case_steady w w m (operator_case errs IsLevel levels) operator_laws refl p
+
+-- Where what a part gives tells the level, and a tree of the part stands for one output, a tree stands for one level.
+pub one_level : {P X B : Type 0} (IsOutput : P → X → Type 0) (Gives : X → ℕ × B → Type 0) (level_of : X → ℕ) → IsPinned itself IsOutput →
+    ((x : X) (o : ℕ × B) → Gives x o → o.0 ≡ level_of x) → IsOne (HasLevel (GivesFor IsOutput Gives) (λ o. o.0))
+one_level IsOutput Gives level_of pinned tells u m n g h =
+    let one : level_of g.is_output.output ≡ level_of h.is_output.output = ap level_of (pinned u g.is_output.output h.is_output.output g.is_output.is_output
+    h.is_output.is_output) in
+    sym g.level_is ∙ (tells g.is_output.output g.output g.is_output.given ∙ (one ∙ (sym (tells h.is_output.output h.output h.is_output.given) ∙ h.level_is)))

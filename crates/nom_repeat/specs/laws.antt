@@ -1,0 +1,3 @@
+pub mod InvertedLaws
+pub mod ItemsLaws
+pub mod RepeatLaws
