@@ -66,7 +66,7 @@ impl NomRange<usize> for Range<usize> {
     #[inline(always)]
     fn bounds(&self) -> (Bound<usize>, Bound<usize>) {
         (
-            Bound::Included(known(self.start)),
+            Bound::Included(prove_known(self.start)),
             Bound::Excluded(self.end),
         )
     }
@@ -140,7 +140,7 @@ impl NomRange<usize> for RangeFrom<usize> {
 
     #[inline(always)]
     fn bounds(&self) -> (Bound<usize>, Bound<usize>) {
-        (Bound::Included(known(self.start)), Bound::Unbounded)
+        (Bound::Included(prove_known(self.start)), Bound::Unbounded)
     }
 
     #[inline(always)]
