@@ -8,6 +8,7 @@ pub mod built;
 pub mod choice;
 pub mod either;
 pub mod fixed;
+pub mod flat;
 pub mod flat_map;
 pub mod into;
 pub mod judged;

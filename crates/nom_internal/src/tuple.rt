@@ -1,19 +1,53 @@
 //! Tuples of up to four parsers, and the steps by which tuples of any width are run. The members run in
 //! sequence, and outputs are gathered in nested pairs. As in nom a member builds its output in every mode,
 //! and the tuple drops what isn't asked for.
-ghost use Rattle.std.specs.Prelude.{◌≡◌, Some, None, cond};
+ghost use Rattle.std.specs.Prelude.{◌≡◌, Some, None, cond, true};
+ghost use Rattle.std.proofs.Common.{refl};
 ghost use Rattle.nom_error.specs.Modes.{modes};
-ghost use Rattle.nom_internal.specs.Pinned.{pair_pinned};
-ghost use Rattle.nom_internal.specs.Tuples.{built_meaning, tuple_2, tuple_3, tuple_4, Outputs_2, Outputs_3, Outputs_4, flat_3, flat_4, OnAccepted};
-ghost use Rattle.nom_internal.specs.Tuples.{ShowsMember, IsPaired, IsFormed};
-ghost use Rattle.nom_internal.specs.laws.TupleLaws.{built_lawful, lawful_2, lawful_3, lawful_4, steady_2, steady_3, steady_4, pinned_3, pinned_4};
+ghost use Rattle.nom_traits.specs.View.{pair_view, view_3, view_4};
+ghost use Rattle.nom_internal.specs.Meaning.{ShowsMeaning};
+ghost use Rattle.nom_internal.specs.Sequence.{pair_meaning};
+ghost use Rattle.nom_internal.specs.Tuples.{built_meaning, OnAccepted, ShowsMember, IsPaired, IsFormed, PairOutput, OneOutput};
+ghost use Rattle.nom_internal.specs.laws.TupleLaws.{built_lawful, pair_lawful, steady_of, and_one_steady, one_view_of, and_one_more, flat_pinned};
 ghost use Rattle.nom_internal.specs.laws.TupleLaws.{single_pinned};
 
+use crate::flat::{Flat, One, made_flat};
 use crate::parser::{Parser, StreamParser};
 use crate::sequence::combine;
 use nom_error::answer::PResult;
 use nom_error::mode::{Emit, Mode, OutputM, OutputMode};
 use nom_traits::input::Items;
+
+/// An answer, with its output as the first of nested pairs.
+#[inline(always)]
+fn begun<I, T: Drop, E>(answer: PResult<I, T, E>) -> PResult<I, One<T>, E>
+    ensures { OnAccepted (IsFormed true (λ o. record { member = o })) answer result }
+{
+    match answer {
+        Ok(accepted) => {
+            let (rest, value) = accepted;
+            match value {
+                Some(member) => Ok((rest, Some(One { member }))),
+                None => Ok((rest, None)),
+            }
+        }
+        Err(error) => Err(error),
+    }
+}
+
+/// What the first member answers. Its output is built in every mode.
+#[inline(always)]
+pub fn first_member<I: Items, P: Parser<I>, OM: OutputMode>(
+    first: &mut P,
+    input: I,
+) -> PResult<I, One<P::Output>, P::Error>
+    requires { (P.meaning (P.state first.old)).IsSound }
+    ensures shown { ShowsMeaning I.model (OneOutput (P.IsOutput (P.state first.old))) (P.meaning (P.state first.old))
+        (modes true OM.Error.BUILDS OM.Incomplete.STREAMING) input result }
+    ensures kept { P.state first.new ≡ P.state first.old }
+{
+    begun(first.process::<OutputM<Emit, OM::Error, OM::Incomplete>>(input))
+}
 
 /// An answer, with its output after another.
 #[inline(always)]
@@ -53,49 +87,25 @@ pub fn next_member<I: Items, T: Drop, P: Parser<I>, OM: OutputMode>(
     }
 }
 
-/// A tuple, made of nested pairs.
-pub trait Flat<T>: Drop {
-    ghost flatten: { T → Self };
-
-    fn flat(nested: T) -> Self
-        ensures { result ≡ flatten nested };
-}
-
-/// A value in another form, where outputs are asked for.
+/// Nested pairs as their tuple, where outputs are asked for.
 #[inline(always)]
-fn asked<M: Mode, T: Drop, U: Flat<T>>(value: Option<T>) -> Option<U>
-    ensures { (t : T) → value ≡ Some t → result ≡ cond M.BUILDS (Some (U.flatten t)) None }
+fn asked<M: Mode, N: Flat + Drop>(nested: Option<N>) -> Option<N::Tuple>
+    ensures { (t : N) → nested ≡ Some t → result ≡ cond M.BUILDS (Some (N.flatten t)) None }
 {
-    if M::BUILDS {
-        match value {
-            Some(value) => Some(U::flat(value)),
-            None => None,
-        }
-    } else {
-        None
-    }
+    if M::BUILDS { made_flat(nested) } else { None }
 }
 
 /// An answer, with nested pairs as their tuple, where outputs are asked for.
 #[inline(always)]
-pub fn formed<I, T: Drop, U: Flat<T>, E, M: Mode>(answer: PResult<I, T, E>) -> PResult<I, U, E>
-    ensures { OnAccepted (IsFormed M.BUILDS U.flatten) answer result }
+pub fn formed<I, N: Flat + Drop, E, M: Mode>(answer: PResult<I, N, E>) -> PResult<I, N::Tuple, E>
+    ensures { OnAccepted (IsFormed M.BUILDS N.flatten) answer result }
 {
     match answer {
         Ok(accepted) => {
             let (rest, value) = accepted;
-            Ok((rest, asked::<M, T, U>(value)))
+            Ok((rest, asked::<M, N>(value)))
         }
         Err(error) => Err(error),
-    }
-}
-
-impl<A: Drop> Flat<A> for (A,) {
-    ghost flatten = { λ p. record { 0 = p } };
-
-    #[inline(always)]
-    fn flat(nested: A) -> Self {
-        (nested,)
     }
 }
 
@@ -118,10 +128,8 @@ impl<I: Items, A: Parser<I>> Parser<I> for (A,) {
 
     #[inline(always)]
     fn process<OM: OutputMode>(&mut self, input: I) -> PResult<I, Self::Output, Self::Error> {
-        let answer = self
-            .0
-            .process::<OutputM<Emit, OM::Error, OM::Incomplete>>(input);
-        formed::<I, _, Self::Output, A::Error, OM::Output>(answer)
+        let answer = first_member::<I, A, OM>(&mut self.0, input);
+        formed::<I, _, A::Error, OM::Output>(answer)
     }
 
     ghost lawful = { λ s k. built_lawful (A.lawful s k) };
@@ -131,15 +139,6 @@ impl<I: Items, A: StreamParser<I>> StreamParser<I> for (A,) {
     ghost pinned = { λ s k p. single_pinned A.Output.view (A.IsOutput s) (A.pinned s k p) };
 
     ghost steady = { λ s k. A.steady s k };
-}
-
-impl<A: Drop, B: Drop> Flat<(A, B)> for (A, B) {
-    ghost flatten = { λ p. p };
-
-    #[inline(always)]
-    fn flat(nested: (A, B)) -> Self {
-        nested
-    }
 }
 
 impl<I: Items, A: Parser<I>, B: Parser<I, Error = A::Error>> Parser<I> for (A, B) {
@@ -153,39 +152,28 @@ impl<I: Items, A: Parser<I>, B: Parser<I, Error = A::Error>> Parser<I> for (A, B
 
     ghost Tree = { A.Tree × B.Tree };
 
-    ghost IsOutput = { λ s. Outputs_2 (A.IsOutput s.0) (B.IsOutput s.1) };
+    ghost IsOutput = { λ s t o. PairOutput (A.IsOutput s.0) (B.IsOutput s.1) t (o.0, o.1) };
 
-    ghost meaning = { λ s. built_meaning (tuple_2 I.model (A.meaning s.0) (B.meaning s.1)) };
+    ghost meaning = { λ s. built_meaning (pair_meaning I.model (A.meaning s.0) (B.meaning s.1)) };
 
     ghost Pins = { λ s. A.Pins s.0 × B.Pins s.1 };
 
     #[inline(always)]
     fn process<OM: OutputMode>(&mut self, input: I) -> PResult<I, Self::Output, Self::Error> {
-        let answer = self
-            .0
-            .process::<OutputM<Emit, OM::Error, OM::Incomplete>>(input);
+        let answer = first_member::<I, A, OM>(&mut self.0, input);
         let answer = next_member::<I, _, B, OM>(answer, &mut self.1);
-        formed::<I, _, Self::Output, A::Error, OM::Output>(answer)
+        formed::<I, _, A::Error, OM::Output>(answer)
     }
 
-    ghost lawful = { λ s k. built_lawful (lawful_2 I.model I.lawful (A.meaning s.0) (B.meaning s.1) (A.lawful s.0 k.0) (B.lawful s.1 k.1)) };
+    ghost lawful = { λ s k. built_lawful (pair_lawful I.lawful (A.lawful s.0 k.0) (B.lawful s.1 k.1)) };
 }
 
 impl<I: Items, A: StreamParser<I>, B: StreamParser<I, Error = A::Error>> StreamParser<I>
     for (A, B) {
-    ghost pinned = { λ s k p. pair_pinned A.Output.view B.Output.view (A.IsOutput s.0) (B.IsOutput s.1) (A.pinned s.0 k.0 p.0) (B.pinned s.1 k.1 p.1) };
+    ghost pinned = { λ s k p. flat_pinned (pair_view A.Output.view B.Output.view) (λ v. v) (λ o. (o.0, o.1)) (λ _. refl)
+        (and_one_more (one_view_of A.Output.view (A.IsOutput s.0) (A.pinned s.0 k.0 p.0)) B.Output.view (B.IsOutput s.1) (B.pinned s.1 k.1 p.1)) };
 
-    ghost steady = { λ s k. steady_2 I.model I.lawful (A.meaning s.0) (B.meaning s.1) (A.steady s.0 k.0) (B.steady s.1 k.1) };
-}
-
-impl<A: Drop, B: Drop, C: Drop> Flat<((A, B), C)> for (A, B, C) {
-    ghost flatten = { flat_3 };
-
-    #[inline(always)]
-    fn flat(nested: ((A, B), C)) -> Self {
-        let ((a, b), c) = nested;
-        (a, b, c)
-    }
+    ghost steady = { λ s k. (and_one_steady I.lawful (steady_of I.model (A.meaning s.0) (A.steady s.0 k.0)) (B.meaning s.1) (B.steady s.1 k.1)).steady };
 }
 
 impl<I: Items, A: Parser<I>, B: Parser<I, Error = A::Error>, C: Parser<I, Error = A::Error>> Parser<
@@ -199,26 +187,23 @@ impl<I: Items, A: Parser<I>, B: Parser<I, Error = A::Error>, C: Parser<I, Error 
 
     ghost state = { λ p. (A.state p.0, B.state p.1, C.state p.2) };
 
-    ghost Tree = { A.Tree × B.Tree × C.Tree };
+    ghost Tree = { (A.Tree × B.Tree) × C.Tree };
 
-    ghost IsOutput = { λ s. Outputs_3 (A.IsOutput s.0) (B.IsOutput s.1) (C.IsOutput s.2) };
+    ghost IsOutput = { λ s t o. PairOutput (PairOutput (A.IsOutput s.0) (B.IsOutput s.1)) (C.IsOutput s.2) t ((o.0, o.1), o.2) };
 
-    ghost meaning = { λ s. built_meaning (tuple_3 I.model (A.meaning s.0) (B.meaning s.1) (C.meaning s.2)) };
+    ghost meaning = { λ s. built_meaning (pair_meaning I.model (pair_meaning I.model (A.meaning s.0) (B.meaning s.1)) (C.meaning s.2)) };
 
     ghost Pins = { λ s. A.Pins s.0 × B.Pins s.1 × C.Pins s.2 };
 
     #[inline(always)]
     fn process<OM: OutputMode>(&mut self, input: I) -> PResult<I, Self::Output, Self::Error> {
-        let answer = self
-            .0
-            .process::<OutputM<Emit, OM::Error, OM::Incomplete>>(input);
+        let answer = first_member::<I, A, OM>(&mut self.0, input);
         let answer = next_member::<I, _, B, OM>(answer, &mut self.1);
         let answer = next_member::<I, _, C, OM>(answer, &mut self.2);
-        formed::<I, _, Self::Output, A::Error, OM::Output>(answer)
+        formed::<I, _, A::Error, OM::Output>(answer)
     }
 
-    ghost lawful = { λ s k. built_lawful
-        (lawful_3 I.model I.lawful (A.meaning s.0) (B.meaning s.1) (C.meaning s.2) (A.lawful s.0 k.0.0) (B.lawful s.1 k.0.1) (C.lawful s.2 k.1)) };
+    ghost lawful = { λ s k. built_lawful (pair_lawful I.lawful (pair_lawful I.lawful (A.lawful s.0 k.0.0) (B.lawful s.1 k.0.1)) (C.lawful s.2 k.1)) };
 }
 
 impl<
@@ -227,21 +212,13 @@ impl<
     B: StreamParser<I, Error = A::Error>,
     C: StreamParser<I, Error = A::Error>,
 > StreamParser<I> for (A, B, C) {
-    ghost pinned = { λ s k p. pinned_3 A.Output.view (A.IsOutput s.0) B.Output.view (B.IsOutput s.1) C.Output.view (C.IsOutput s.2)
-        (A.pinned s.0 k.0.0 p.0) (B.pinned s.1 k.0.1 p.1) (C.pinned s.2 k.1 p.2) };
+    ghost pinned = { λ s k p. flat_pinned (view_3 A.Output.view B.Output.view C.Output.view) (λ v. (v.0.0, v.0.1, v.1)) (λ o. ((o.0, o.1), o.2)) (λ _. refl)
+        (and_one_more (and_one_more (one_view_of A.Output.view (A.IsOutput s.0) (A.pinned s.0 k.0.0 p.0)) B.Output.view (B.IsOutput s.1)
+        (B.pinned s.1 k.0.1 p.1)) C.Output.view (C.IsOutput s.2) (C.pinned s.2 k.1 p.2)) };
 
-    ghost steady = { λ s k. steady_3 I.model I.lawful (A.meaning s.0) (B.meaning s.1) (C.meaning s.2) (A.steady s.0 k.0.0) (B.steady s.1 k.0.1)
-        (C.steady s.2 k.1) };
-}
-
-impl<A: Drop, B: Drop, C: Drop, D: Drop> Flat<(((A, B), C), D)> for (A, B, C, D) {
-    ghost flatten = { flat_4 };
-
-    #[inline(always)]
-    fn flat(nested: (((A, B), C), D)) -> Self {
-        let (((a, b), c), d) = nested;
-        (a, b, c, d)
-    }
+    ghost steady = { λ s k. (and_one_steady I.lawful
+        (and_one_steady I.lawful (steady_of I.model (A.meaning s.0) (A.steady s.0 k.0.0)) (B.meaning s.1) (B.steady s.1 k.0.1)) (C.meaning s.2)
+        (C.steady s.2 k.1)).steady };
 }
 
 impl<
@@ -259,28 +236,27 @@ impl<
 
     ghost state = { λ p. (A.state p.0, B.state p.1, C.state p.2, D.state p.3) };
 
-    ghost Tree = { A.Tree × B.Tree × C.Tree × D.Tree };
+    ghost Tree = { ((A.Tree × B.Tree) × C.Tree) × D.Tree };
 
-    ghost IsOutput = { λ s. Outputs_4 (A.IsOutput s.0) (B.IsOutput s.1) (C.IsOutput s.2) (D.IsOutput s.3) };
+    ghost IsOutput = { λ s t o. PairOutput (PairOutput (PairOutput (A.IsOutput s.0) (B.IsOutput s.1)) (C.IsOutput s.2)) (D.IsOutput s.3) t
+        (((o.0, o.1), o.2), o.3) };
 
-    ghost meaning = { λ s. built_meaning (tuple_4 I.model (A.meaning s.0) (B.meaning s.1) (C.meaning s.2) (D.meaning s.3)) };
+    ghost meaning = { λ s. built_meaning (pair_meaning I.model (pair_meaning I.model (pair_meaning I.model (A.meaning s.0) (B.meaning s.1)) (C.meaning s.2))
+        (D.meaning s.3)) };
 
     ghost Pins = { λ s. A.Pins s.0 × B.Pins s.1 × C.Pins s.2 × D.Pins s.3 };
 
     #[inline(always)]
     fn process<OM: OutputMode>(&mut self, input: I) -> PResult<I, Self::Output, Self::Error> {
-        let answer = self
-            .0
-            .process::<OutputM<Emit, OM::Error, OM::Incomplete>>(input);
+        let answer = first_member::<I, A, OM>(&mut self.0, input);
         let answer = next_member::<I, _, B, OM>(answer, &mut self.1);
         let answer = next_member::<I, _, C, OM>(answer, &mut self.2);
         let answer = next_member::<I, _, D, OM>(answer, &mut self.3);
-        formed::<I, _, Self::Output, A::Error, OM::Output>(answer)
+        formed::<I, _, A::Error, OM::Output>(answer)
     }
 
-    ghost lawful = { λ s k. built_lawful
-        (lawful_4 I.model I.lawful (A.meaning s.0) (B.meaning s.1) (C.meaning s.2) (D.meaning s.3) (A.lawful s.0 k.0.0.0) (B.lawful s.1 k.0.0.1)
-        (C.lawful s.2 k.0.1) (D.lawful s.3 k.1)) };
+    ghost lawful = { λ s k. built_lawful (pair_lawful I.lawful
+        (pair_lawful I.lawful (pair_lawful I.lawful (A.lawful s.0 k.0.0.0) (B.lawful s.1 k.0.0.1)) (C.lawful s.2 k.0.1)) (D.lawful s.3 k.1)) };
 }
 
 impl<
@@ -290,9 +266,12 @@ impl<
     C: StreamParser<I, Error = A::Error>,
     D: StreamParser<I, Error = A::Error>,
 > StreamParser<I> for (A, B, C, D) {
-    ghost pinned = { λ s k p. pinned_4 A.Output.view (A.IsOutput s.0) B.Output.view (B.IsOutput s.1) C.Output.view (C.IsOutput s.2) D.Output.view
-        (D.IsOutput s.3) (A.pinned s.0 k.0.0.0 p.0) (B.pinned s.1 k.0.0.1 p.1) (C.pinned s.2 k.0.1 p.2) (D.pinned s.3 k.1 p.3) };
+    ghost pinned = { λ s k p. flat_pinned (view_4 A.Output.view B.Output.view C.Output.view D.Output.view) (λ v. (v.0.0.0, v.0.0.1, v.0.1, v.1))
+        (λ o. (((o.0, o.1), o.2), o.3)) (λ _. refl)
+        (and_one_more (and_one_more (and_one_more (one_view_of A.Output.view (A.IsOutput s.0) (A.pinned s.0 k.0.0.0 p.0)) B.Output.view (B.IsOutput s.1)
+        (B.pinned s.1 k.0.0.1 p.1)) C.Output.view (C.IsOutput s.2) (C.pinned s.2 k.0.1 p.2)) D.Output.view (D.IsOutput s.3) (D.pinned s.3 k.1 p.3)) };
 
-    ghost steady = { λ s k. steady_4 I.model I.lawful (A.meaning s.0) (B.meaning s.1) (C.meaning s.2) (D.meaning s.3) (A.steady s.0 k.0.0.0)
-        (B.steady s.1 k.0.0.1) (C.steady s.2 k.0.1) (D.steady s.3 k.1) };
+    ghost steady = { λ s k. (and_one_steady I.lawful
+        (and_one_steady I.lawful (and_one_steady I.lawful (steady_of I.model (A.meaning s.0) (A.steady s.0 k.0.0.0)) (B.meaning s.1) (B.steady s.1 k.0.0.1))
+        (C.meaning s.2) (C.steady s.2 k.0.1)) (D.meaning s.3) (D.steady s.3 k.1)).steady };
 }

@@ -1,24 +1,15 @@
 //! Tuples of five to eight parsers.
-ghost use Rattle.nom_internal.specs.Tuples.{built_meaning, tuple_5, tuple_6, tuple_7, tuple_8, Outputs_5, Outputs_6, Outputs_7, Outputs_8, flat_5};
-ghost use Rattle.nom_internal.specs.Tuples.{flat_6, flat_7, flat_8};
-ghost use Rattle.nom_internal.specs.laws.TupleLaws.{built_lawful, lawful_5, lawful_6, lawful_7, lawful_8, steady_5, steady_6, steady_7, steady_8};
-ghost use Rattle.nom_internal.specs.laws.TupleLaws.{pinned_5, pinned_6, pinned_7, pinned_8};
+ghost use Rattle.std.proofs.Common.{refl};
+ghost use Rattle.nom_traits.specs.View.{view_5, view_6, view_7, view_8};
+ghost use Rattle.nom_internal.specs.Sequence.{pair_meaning};
+ghost use Rattle.nom_internal.specs.Tuples.{built_meaning, PairOutput};
+ghost use Rattle.nom_internal.specs.laws.TupleLaws.{built_lawful, pair_lawful, steady_of, and_one_steady, one_view_of, and_one_more, flat_pinned};
 
 use crate::parser::{Parser, StreamParser};
-use crate::tuple::{Flat, formed, next_member};
+use crate::tuple::{first_member, formed, next_member};
 use nom_error::answer::PResult;
-use nom_error::mode::{Emit, OutputM, OutputMode};
+use nom_error::mode::OutputMode;
 use nom_traits::input::Items;
-
-impl<A: Drop, B: Drop, C: Drop, D: Drop, E: Drop> Flat<((((A, B), C), D), E)> for (A, B, C, D, E) {
-    ghost flatten = { flat_5 };
-
-    #[inline(always)]
-    fn flat(nested: ((((A, B), C), D), E)) -> Self {
-        let ((((a, b), c), d), e) = nested;
-        (a, b, c, d, e)
-    }
-}
 
 impl<
     I: Items,
@@ -36,29 +27,29 @@ impl<
 
     ghost state = { λ p. (A.state p.0, B.state p.1, C.state p.2, D.state p.3, E.state p.4) };
 
-    ghost Tree = { A.Tree × B.Tree × C.Tree × D.Tree × E.Tree };
+    ghost Tree = { (((A.Tree × B.Tree) × C.Tree) × D.Tree) × E.Tree };
 
-    ghost IsOutput = { λ s. Outputs_5 (A.IsOutput s.0) (B.IsOutput s.1) (C.IsOutput s.2) (D.IsOutput s.3) (E.IsOutput s.4) };
+    ghost IsOutput = { λ s t o. PairOutput (PairOutput (PairOutput (PairOutput (A.IsOutput s.0) (B.IsOutput s.1)) (C.IsOutput s.2)) (D.IsOutput s.3))
+        (E.IsOutput s.4) t ((((o.0, o.1), o.2), o.3), o.4) };
 
-    ghost meaning = { λ s. built_meaning (tuple_5 I.model (A.meaning s.0) (B.meaning s.1) (C.meaning s.2) (D.meaning s.3) (E.meaning s.4)) };
+    ghost meaning = { λ s. built_meaning (pair_meaning I.model
+        (pair_meaning I.model (pair_meaning I.model (pair_meaning I.model (A.meaning s.0) (B.meaning s.1)) (C.meaning s.2)) (D.meaning s.3)) (E.meaning s.4)) };
 
     ghost Pins = { λ s. A.Pins s.0 × B.Pins s.1 × C.Pins s.2 × D.Pins s.3 × E.Pins s.4 };
 
     #[inline(always)]
     fn process<OM: OutputMode>(&mut self, input: I) -> PResult<I, Self::Output, Self::Error> {
-        let answer = self
-            .0
-            .process::<OutputM<Emit, OM::Error, OM::Incomplete>>(input);
+        let answer = first_member::<I, A, OM>(&mut self.0, input);
         let answer = next_member::<I, _, B, OM>(answer, &mut self.1);
         let answer = next_member::<I, _, C, OM>(answer, &mut self.2);
         let answer = next_member::<I, _, D, OM>(answer, &mut self.3);
         let answer = next_member::<I, _, E, OM>(answer, &mut self.4);
-        formed::<I, _, Self::Output, A::Error, OM::Output>(answer)
+        formed::<I, _, A::Error, OM::Output>(answer)
     }
 
-    ghost lawful = { λ s k. built_lawful
-        (lawful_5 I.model I.lawful (A.meaning s.0) (B.meaning s.1) (C.meaning s.2) (D.meaning s.3) (E.meaning s.4) (A.lawful s.0 k.0.0.0.0)
-        (B.lawful s.1 k.0.0.0.1) (C.lawful s.2 k.0.0.1) (D.lawful s.3 k.0.1) (E.lawful s.4 k.1)) };
+    ghost lawful = { λ s k. built_lawful (pair_lawful I.lawful
+        (pair_lawful I.lawful (pair_lawful I.lawful (pair_lawful I.lawful (A.lawful s.0 k.0.0.0.0) (B.lawful s.1 k.0.0.0.1)) (C.lawful s.2 k.0.0.1))
+        (D.lawful s.3 k.0.1)) (E.lawful s.4 k.1)) };
 }
 
 impl<
@@ -69,23 +60,17 @@ impl<
     D: StreamParser<I, Error = A::Error>,
     E: StreamParser<I, Error = A::Error>,
 > StreamParser<I> for (A, B, C, D, E) {
-    ghost pinned = { λ s k p. pinned_5 A.Output.view (A.IsOutput s.0) B.Output.view (B.IsOutput s.1) C.Output.view (C.IsOutput s.2) D.Output.view
-        (D.IsOutput s.3) E.Output.view (E.IsOutput s.4) (A.pinned s.0 k.0.0.0.0 p.0) (B.pinned s.1 k.0.0.0.1 p.1) (C.pinned s.2 k.0.0.1 p.2)
-        (D.pinned s.3 k.0.1 p.3) (E.pinned s.4 k.1 p.4) };
+    ghost pinned = { λ s k p. flat_pinned (view_5 A.Output.view B.Output.view C.Output.view D.Output.view E.Output.view)
+        (λ v. (v.0.0.0.0, v.0.0.0.1, v.0.0.1, v.0.1, v.1)) (λ o. ((((o.0, o.1), o.2), o.3), o.4)) (λ _. refl)
+        (and_one_more (and_one_more (and_one_more
+        (and_one_more (one_view_of A.Output.view (A.IsOutput s.0) (A.pinned s.0 k.0.0.0.0 p.0)) B.Output.view (B.IsOutput s.1)
+        (B.pinned s.1 k.0.0.0.1 p.1)) C.Output.view (C.IsOutput s.2) (C.pinned s.2 k.0.0.1 p.2)) D.Output.view (D.IsOutput s.3)
+        (D.pinned s.3 k.0.1 p.3)) E.Output.view (E.IsOutput s.4) (E.pinned s.4 k.1 p.4)) };
 
-    ghost steady = { λ s k. steady_5 I.model I.lawful (A.meaning s.0) (B.meaning s.1) (C.meaning s.2) (D.meaning s.3) (E.meaning s.4)
-        (A.steady s.0 k.0.0.0.0) (B.steady s.1 k.0.0.0.1) (C.steady s.2 k.0.0.1) (D.steady s.3 k.0.1) (E.steady s.4 k.1) };
-}
-
-impl<A: Drop, B: Drop, C: Drop, D: Drop, E: Drop, F: Drop> Flat<(((((A, B), C), D), E), F)>
-    for (A, B, C, D, E, F) {
-    ghost flatten = { flat_6 };
-
-    #[inline(always)]
-    fn flat(nested: (((((A, B), C), D), E), F)) -> Self {
-        let (((((a, b), c), d), e), f) = nested;
-        (a, b, c, d, e, f)
-    }
+    ghost steady = { λ s k. (and_one_steady I.lawful
+        (and_one_steady I.lawful (and_one_steady I.lawful
+        (and_one_steady I.lawful (steady_of I.model (A.meaning s.0) (A.steady s.0 k.0.0.0.0)) (B.meaning s.1) (B.steady s.1 k.0.0.0.1)) (C.meaning s.2)
+        (C.steady s.2 k.0.0.1)) (D.meaning s.3) (D.steady s.3 k.0.1)) (E.meaning s.4) (E.steady s.4 k.1)).steady };
 }
 
 impl<
@@ -112,30 +97,33 @@ impl<
 
     ghost state = { λ p. (A.state p.0, B.state p.1, C.state p.2, D.state p.3, E.state p.4, F.state p.5) };
 
-    ghost Tree = { A.Tree × B.Tree × C.Tree × D.Tree × E.Tree × F.Tree };
+    ghost Tree = { ((((A.Tree × B.Tree) × C.Tree) × D.Tree) × E.Tree) × F.Tree };
 
-    ghost IsOutput = { λ s. Outputs_6 (A.IsOutput s.0) (B.IsOutput s.1) (C.IsOutput s.2) (D.IsOutput s.3) (E.IsOutput s.4) (F.IsOutput s.5) };
+    ghost IsOutput = { λ s t o. PairOutput (PairOutput
+        (PairOutput (PairOutput (PairOutput (A.IsOutput s.0) (B.IsOutput s.1)) (C.IsOutput s.2)) (D.IsOutput s.3)) (E.IsOutput s.4)) (F.IsOutput s.5) t
+        (((((o.0, o.1), o.2), o.3), o.4), o.5) };
 
-    ghost meaning = { λ s. built_meaning (tuple_6 I.model (A.meaning s.0) (B.meaning s.1) (C.meaning s.2) (D.meaning s.3) (E.meaning s.4) (F.meaning s.5)) };
+    ghost meaning = { λ s. built_meaning (pair_meaning I.model
+        (pair_meaning I.model (pair_meaning I.model (pair_meaning I.model (pair_meaning I.model (A.meaning s.0) (B.meaning s.1)) (C.meaning s.2))
+        (D.meaning s.3)) (E.meaning s.4)) (F.meaning s.5)) };
 
     ghost Pins = { λ s. A.Pins s.0 × B.Pins s.1 × C.Pins s.2 × D.Pins s.3 × E.Pins s.4 × F.Pins s.5 };
 
     #[inline(always)]
     fn process<OM: OutputMode>(&mut self, input: I) -> PResult<I, Self::Output, Self::Error> {
-        let answer = self
-            .0
-            .process::<OutputM<Emit, OM::Error, OM::Incomplete>>(input);
+        let answer = first_member::<I, A, OM>(&mut self.0, input);
         let answer = next_member::<I, _, B, OM>(answer, &mut self.1);
         let answer = next_member::<I, _, C, OM>(answer, &mut self.2);
         let answer = next_member::<I, _, D, OM>(answer, &mut self.3);
         let answer = next_member::<I, _, E, OM>(answer, &mut self.4);
         let answer = next_member::<I, _, F, OM>(answer, &mut self.5);
-        formed::<I, _, Self::Output, A::Error, OM::Output>(answer)
+        formed::<I, _, A::Error, OM::Output>(answer)
     }
 
-    ghost lawful = { λ s k. built_lawful
-        (lawful_6 I.model I.lawful (A.meaning s.0) (B.meaning s.1) (C.meaning s.2) (D.meaning s.3) (E.meaning s.4) (F.meaning s.5)
-        (A.lawful s.0 k.0.0.0.0.0) (B.lawful s.1 k.0.0.0.0.1) (C.lawful s.2 k.0.0.0.1) (D.lawful s.3 k.0.0.1) (E.lawful s.4 k.0.1) (F.lawful s.5 k.1)) };
+    ghost lawful = { λ s k. built_lawful (pair_lawful I.lawful
+        (pair_lawful I.lawful (pair_lawful I.lawful
+        (pair_lawful I.lawful (pair_lawful I.lawful (A.lawful s.0 k.0.0.0.0.0) (B.lawful s.1 k.0.0.0.0.1)) (C.lawful s.2 k.0.0.0.1))
+        (D.lawful s.3 k.0.0.1)) (E.lawful s.4 k.0.1)) (F.lawful s.5 k.1)) };
 }
 
 impl<
@@ -147,24 +135,19 @@ impl<
     E: StreamParser<I, Error = A::Error>,
     F: StreamParser<I, Error = A::Error>,
 > StreamParser<I> for (A, B, C, D, E, F) {
-    ghost pinned = { λ s k p. pinned_6 A.Output.view (A.IsOutput s.0) B.Output.view (B.IsOutput s.1) C.Output.view (C.IsOutput s.2) D.Output.view
-        (D.IsOutput s.3) E.Output.view (E.IsOutput s.4) F.Output.view (F.IsOutput s.5) (A.pinned s.0 k.0.0.0.0.0 p.0) (B.pinned s.1 k.0.0.0.0.1 p.1)
-        (C.pinned s.2 k.0.0.0.1 p.2) (D.pinned s.3 k.0.0.1 p.3) (E.pinned s.4 k.0.1 p.4) (F.pinned s.5 k.1 p.5) };
+    ghost pinned = { λ s k p. flat_pinned (view_6 A.Output.view B.Output.view C.Output.view D.Output.view E.Output.view F.Output.view)
+        (λ v. (v.0.0.0.0.0, v.0.0.0.0.1, v.0.0.0.1, v.0.0.1, v.0.1, v.1)) (λ o. (((((o.0, o.1), o.2), o.3), o.4), o.5)) (λ _. refl)
+        (and_one_more (and_one_more (and_one_more
+        (and_one_more (and_one_more (one_view_of A.Output.view (A.IsOutput s.0) (A.pinned s.0 k.0.0.0.0.0 p.0)) B.Output.view (B.IsOutput s.1)
+        (B.pinned s.1 k.0.0.0.0.1 p.1)) C.Output.view (C.IsOutput s.2) (C.pinned s.2 k.0.0.0.1 p.2)) D.Output.view (D.IsOutput s.3)
+        (D.pinned s.3 k.0.0.1 p.3)) E.Output.view (E.IsOutput s.4) (E.pinned s.4 k.0.1 p.4)) F.Output.view (F.IsOutput s.5)
+        (F.pinned s.5 k.1 p.5)) };
 
-    ghost steady = { λ s k. steady_6 I.model I.lawful (A.meaning s.0) (B.meaning s.1) (C.meaning s.2) (D.meaning s.3) (E.meaning s.4) (F.meaning s.5)
-        (A.steady s.0 k.0.0.0.0.0) (B.steady s.1 k.0.0.0.0.1) (C.steady s.2 k.0.0.0.1) (D.steady s.3 k.0.0.1) (E.steady s.4 k.0.1) (F.steady s.5 k.1) };
-}
-
-impl<A: Drop, B: Drop, C: Drop, D: Drop, E: Drop, F: Drop, G: Drop> Flat<
-    ((((((A, B), C), D), E), F), G),
-> for (A, B, C, D, E, F, G) {
-    ghost flatten = { flat_7 };
-
-    #[inline(always)]
-    fn flat(nested: ((((((A, B), C), D), E), F), G)) -> Self {
-        let ((((((a, b), c), d), e), f), g) = nested;
-        (a, b, c, d, e, f, g)
-    }
+    ghost steady = { λ s k. (and_one_steady I.lawful
+        (and_one_steady I.lawful (and_one_steady I.lawful
+        (and_one_steady I.lawful (and_one_steady I.lawful (steady_of I.model (A.meaning s.0) (A.steady s.0 k.0.0.0.0.0)) (B.meaning s.1)
+        (B.steady s.1 k.0.0.0.0.1)) (C.meaning s.2) (C.steady s.2 k.0.0.0.1)) (D.meaning s.3) (D.steady s.3 k.0.0.1)) (E.meaning s.4)
+        (E.steady s.4 k.0.1)) (F.meaning s.5) (F.steady s.5 k.1)).steady };
 }
 
 impl<
@@ -193,33 +176,35 @@ impl<
 
     ghost state = { λ p. (A.state p.0, B.state p.1, C.state p.2, D.state p.3, E.state p.4, F.state p.5, G.state p.6) };
 
-    ghost Tree = { A.Tree × B.Tree × C.Tree × D.Tree × E.Tree × F.Tree × G.Tree };
+    ghost Tree = { (((((A.Tree × B.Tree) × C.Tree) × D.Tree) × E.Tree) × F.Tree) × G.Tree };
 
-    ghost IsOutput = { λ s. Outputs_7 (A.IsOutput s.0) (B.IsOutput s.1) (C.IsOutput s.2) (D.IsOutput s.3) (E.IsOutput s.4) (F.IsOutput s.5) (G.IsOutput s.6) };
+    ghost IsOutput = { λ s t o. PairOutput (PairOutput
+        (PairOutput (PairOutput (PairOutput (PairOutput (A.IsOutput s.0) (B.IsOutput s.1)) (C.IsOutput s.2)) (D.IsOutput s.3)) (E.IsOutput s.4))
+        (F.IsOutput s.5)) (G.IsOutput s.6) t ((((((o.0, o.1), o.2), o.3), o.4), o.5), o.6) };
 
-    ghost meaning = { λ s. built_meaning (tuple_7 I.model (A.meaning s.0) (B.meaning s.1) (C.meaning s.2) (D.meaning s.3) (E.meaning s.4) (F.meaning s.5)
-        (G.meaning s.6)) };
+    ghost meaning = { λ s. built_meaning (pair_meaning I.model
+        (pair_meaning I.model (pair_meaning I.model
+        (pair_meaning I.model (pair_meaning I.model (pair_meaning I.model (A.meaning s.0) (B.meaning s.1)) (C.meaning s.2)) (D.meaning s.3))
+        (E.meaning s.4)) (F.meaning s.5)) (G.meaning s.6)) };
 
     ghost Pins = { λ s. A.Pins s.0 × B.Pins s.1 × C.Pins s.2 × D.Pins s.3 × E.Pins s.4 × F.Pins s.5 × G.Pins s.6 };
 
     #[inline(always)]
     fn process<OM: OutputMode>(&mut self, input: I) -> PResult<I, Self::Output, Self::Error> {
-        let answer = self
-            .0
-            .process::<OutputM<Emit, OM::Error, OM::Incomplete>>(input);
+        let answer = first_member::<I, A, OM>(&mut self.0, input);
         let answer = next_member::<I, _, B, OM>(answer, &mut self.1);
         let answer = next_member::<I, _, C, OM>(answer, &mut self.2);
         let answer = next_member::<I, _, D, OM>(answer, &mut self.3);
         let answer = next_member::<I, _, E, OM>(answer, &mut self.4);
         let answer = next_member::<I, _, F, OM>(answer, &mut self.5);
         let answer = next_member::<I, _, G, OM>(answer, &mut self.6);
-        formed::<I, _, Self::Output, A::Error, OM::Output>(answer)
+        formed::<I, _, A::Error, OM::Output>(answer)
     }
 
-    ghost lawful = { λ s k. built_lawful
-        (lawful_7 I.model I.lawful (A.meaning s.0) (B.meaning s.1) (C.meaning s.2) (D.meaning s.3) (E.meaning s.4) (F.meaning s.5) (G.meaning s.6)
-        (A.lawful s.0 k.0.0.0.0.0.0) (B.lawful s.1 k.0.0.0.0.0.1) (C.lawful s.2 k.0.0.0.0.1) (D.lawful s.3 k.0.0.0.1) (E.lawful s.4 k.0.0.1)
-        (F.lawful s.5 k.0.1) (G.lawful s.6 k.1)) };
+    ghost lawful = { λ s k. built_lawful (pair_lawful I.lawful
+        (pair_lawful I.lawful (pair_lawful I.lawful
+        (pair_lawful I.lawful (pair_lawful I.lawful (pair_lawful I.lawful (A.lawful s.0 k.0.0.0.0.0.0) (B.lawful s.1 k.0.0.0.0.0.1))
+        (C.lawful s.2 k.0.0.0.0.1)) (D.lawful s.3 k.0.0.0.1)) (E.lawful s.4 k.0.0.1)) (F.lawful s.5 k.0.1)) (G.lawful s.6 k.1)) };
 }
 
 impl<
@@ -232,26 +217,20 @@ impl<
     F: StreamParser<I, Error = A::Error>,
     G: StreamParser<I, Error = A::Error>,
 > StreamParser<I> for (A, B, C, D, E, F, G) {
-    ghost pinned = { λ s k p. pinned_7 A.Output.view (A.IsOutput s.0) B.Output.view (B.IsOutput s.1) C.Output.view (C.IsOutput s.2) D.Output.view
-        (D.IsOutput s.3) E.Output.view (E.IsOutput s.4) F.Output.view (F.IsOutput s.5) G.Output.view (G.IsOutput s.6) (A.pinned s.0 k.0.0.0.0.0.0 p.0)
-        (B.pinned s.1 k.0.0.0.0.0.1 p.1) (C.pinned s.2 k.0.0.0.0.1 p.2) (D.pinned s.3 k.0.0.0.1 p.3) (E.pinned s.4 k.0.0.1 p.4) (F.pinned s.5 k.0.1 p.5)
-        (G.pinned s.6 k.1 p.6) };
+    ghost pinned = { λ s k p. flat_pinned (view_7 A.Output.view B.Output.view C.Output.view D.Output.view E.Output.view F.Output.view G.Output.view)
+        (λ v. (v.0.0.0.0.0.0, v.0.0.0.0.0.1, v.0.0.0.0.1, v.0.0.0.1, v.0.0.1, v.0.1, v.1)) (λ o. ((((((o.0, o.1), o.2), o.3), o.4), o.5), o.6)) (λ _. refl)
+        (and_one_more (and_one_more (and_one_more
+        (and_one_more (and_one_more (and_one_more (one_view_of A.Output.view (A.IsOutput s.0) (A.pinned s.0 k.0.0.0.0.0.0 p.0)) B.Output.view
+        (B.IsOutput s.1) (B.pinned s.1 k.0.0.0.0.0.1 p.1)) C.Output.view (C.IsOutput s.2) (C.pinned s.2 k.0.0.0.0.1 p.2)) D.Output.view
+        (D.IsOutput s.3) (D.pinned s.3 k.0.0.0.1 p.3)) E.Output.view (E.IsOutput s.4) (E.pinned s.4 k.0.0.1 p.4)) F.Output.view
+        (F.IsOutput s.5) (F.pinned s.5 k.0.1 p.5)) G.Output.view (G.IsOutput s.6) (G.pinned s.6 k.1 p.6)) };
 
-    ghost steady = { λ s k. steady_7 I.model I.lawful (A.meaning s.0) (B.meaning s.1) (C.meaning s.2) (D.meaning s.3) (E.meaning s.4) (F.meaning s.5)
-        (G.meaning s.6) (A.steady s.0 k.0.0.0.0.0.0) (B.steady s.1 k.0.0.0.0.0.1) (C.steady s.2 k.0.0.0.0.1) (D.steady s.3 k.0.0.0.1)
-        (E.steady s.4 k.0.0.1) (F.steady s.5 k.0.1) (G.steady s.6 k.1) };
-}
-
-impl<A: Drop, B: Drop, C: Drop, D: Drop, E: Drop, F: Drop, G: Drop, H: Drop> Flat<
-    (((((((A, B), C), D), E), F), G), H),
-> for (A, B, C, D, E, F, G, H) {
-    ghost flatten = { flat_8 };
-
-    #[inline(always)]
-    fn flat(nested: (((((((A, B), C), D), E), F), G), H)) -> Self {
-        let (((((((a, b), c), d), e), f), g), h) = nested;
-        (a, b, c, d, e, f, g, h)
-    }
+    ghost steady = { λ s k. (and_one_steady I.lawful
+        (and_one_steady I.lawful (and_one_steady I.lawful
+        (and_one_steady I.lawful (and_one_steady I.lawful
+        (and_one_steady I.lawful (steady_of I.model (A.meaning s.0) (A.steady s.0 k.0.0.0.0.0.0)) (B.meaning s.1) (B.steady s.1 k.0.0.0.0.0.1))
+        (C.meaning s.2) (C.steady s.2 k.0.0.0.0.1)) (D.meaning s.3) (D.steady s.3 k.0.0.0.1)) (E.meaning s.4) (E.steady s.4 k.0.0.1))
+        (F.meaning s.5) (F.steady s.5 k.0.1)) (G.meaning s.6) (G.steady s.6 k.1)).steady };
 }
 
 impl<
@@ -282,21 +261,22 @@ impl<
 
     ghost state = { λ p. (A.state p.0, B.state p.1, C.state p.2, D.state p.3, E.state p.4, F.state p.5, G.state p.6, H.state p.7) };
 
-    ghost Tree = { A.Tree × B.Tree × C.Tree × D.Tree × E.Tree × F.Tree × G.Tree × H.Tree };
+    ghost Tree = { ((((((A.Tree × B.Tree) × C.Tree) × D.Tree) × E.Tree) × F.Tree) × G.Tree) × H.Tree };
 
-    ghost IsOutput = { λ s. Outputs_8 (A.IsOutput s.0) (B.IsOutput s.1) (C.IsOutput s.2) (D.IsOutput s.3) (E.IsOutput s.4) (F.IsOutput s.5)
-        (G.IsOutput s.6) (H.IsOutput s.7) };
+    ghost IsOutput = { λ s t o. PairOutput (PairOutput
+        (PairOutput (PairOutput (PairOutput (PairOutput (PairOutput (A.IsOutput s.0) (B.IsOutput s.1)) (C.IsOutput s.2)) (D.IsOutput s.3)) (E.IsOutput s.4))
+        (F.IsOutput s.5)) (G.IsOutput s.6)) (H.IsOutput s.7) t (((((((o.0, o.1), o.2), o.3), o.4), o.5), o.6), o.7) };
 
-    ghost meaning = { λ s. built_meaning (tuple_8 I.model (A.meaning s.0) (B.meaning s.1) (C.meaning s.2) (D.meaning s.3) (E.meaning s.4) (F.meaning s.5)
-        (G.meaning s.6) (H.meaning s.7)) };
+    ghost meaning = { λ s. built_meaning (pair_meaning I.model
+        (pair_meaning I.model (pair_meaning I.model
+        (pair_meaning I.model (pair_meaning I.model (pair_meaning I.model (pair_meaning I.model (A.meaning s.0) (B.meaning s.1)) (C.meaning s.2))
+        (D.meaning s.3)) (E.meaning s.4)) (F.meaning s.5)) (G.meaning s.6)) (H.meaning s.7)) };
 
     ghost Pins = { λ s. A.Pins s.0 × B.Pins s.1 × C.Pins s.2 × D.Pins s.3 × E.Pins s.4 × F.Pins s.5 × G.Pins s.6 × H.Pins s.7 };
 
     #[inline(always)]
     fn process<OM: OutputMode>(&mut self, input: I) -> PResult<I, Self::Output, Self::Error> {
-        let answer = self
-            .0
-            .process::<OutputM<Emit, OM::Error, OM::Incomplete>>(input);
+        let answer = first_member::<I, A, OM>(&mut self.0, input);
         let answer = next_member::<I, _, B, OM>(answer, &mut self.1);
         let answer = next_member::<I, _, C, OM>(answer, &mut self.2);
         let answer = next_member::<I, _, D, OM>(answer, &mut self.3);
@@ -304,13 +284,14 @@ impl<
         let answer = next_member::<I, _, F, OM>(answer, &mut self.5);
         let answer = next_member::<I, _, G, OM>(answer, &mut self.6);
         let answer = next_member::<I, _, H, OM>(answer, &mut self.7);
-        formed::<I, _, Self::Output, A::Error, OM::Output>(answer)
+        formed::<I, _, A::Error, OM::Output>(answer)
     }
 
-    ghost lawful = { λ s k. built_lawful
-        (lawful_8 I.model I.lawful (A.meaning s.0) (B.meaning s.1) (C.meaning s.2) (D.meaning s.3) (E.meaning s.4) (F.meaning s.5) (G.meaning s.6)
-        (H.meaning s.7) (A.lawful s.0 k.0.0.0.0.0.0.0) (B.lawful s.1 k.0.0.0.0.0.0.1) (C.lawful s.2 k.0.0.0.0.0.1) (D.lawful s.3 k.0.0.0.0.1)
-        (E.lawful s.4 k.0.0.0.1) (F.lawful s.5 k.0.0.1) (G.lawful s.6 k.0.1) (H.lawful s.7 k.1)) };
+    ghost lawful = { λ s k. built_lawful (pair_lawful I.lawful
+        (pair_lawful I.lawful (pair_lawful I.lawful
+        (pair_lawful I.lawful (pair_lawful I.lawful
+        (pair_lawful I.lawful (pair_lawful I.lawful (A.lawful s.0 k.0.0.0.0.0.0.0) (B.lawful s.1 k.0.0.0.0.0.0.1)) (C.lawful s.2 k.0.0.0.0.0.1))
+        (D.lawful s.3 k.0.0.0.0.1)) (E.lawful s.4 k.0.0.0.1)) (F.lawful s.5 k.0.0.1)) (G.lawful s.6 k.0.1)) (H.lawful s.7 k.1)) };
 }
 
 impl<
@@ -324,12 +305,22 @@ impl<
     G: StreamParser<I, Error = A::Error>,
     H: StreamParser<I, Error = A::Error>,
 > StreamParser<I> for (A, B, C, D, E, F, G, H) {
-    ghost pinned = { λ s k p. pinned_8 A.Output.view (A.IsOutput s.0) B.Output.view (B.IsOutput s.1) C.Output.view (C.IsOutput s.2) D.Output.view
-        (D.IsOutput s.3) E.Output.view (E.IsOutput s.4) F.Output.view (F.IsOutput s.5) G.Output.view (G.IsOutput s.6) H.Output.view (H.IsOutput s.7)
-        (A.pinned s.0 k.0.0.0.0.0.0.0 p.0) (B.pinned s.1 k.0.0.0.0.0.0.1 p.1) (C.pinned s.2 k.0.0.0.0.0.1 p.2) (D.pinned s.3 k.0.0.0.0.1 p.3)
-        (E.pinned s.4 k.0.0.0.1 p.4) (F.pinned s.5 k.0.0.1 p.5) (G.pinned s.6 k.0.1 p.6) (H.pinned s.7 k.1 p.7) };
+    ghost pinned = { λ s k p. flat_pinned (view_8 A.Output.view B.Output.view C.Output.view D.Output.view E.Output.view F.Output.view G.Output.view
+        H.Output.view) (λ v. (v.0.0.0.0.0.0.0, v.0.0.0.0.0.0.1, v.0.0.0.0.0.1, v.0.0.0.0.1, v.0.0.0.1, v.0.0.1, v.0.1, v.1))
+        (λ o. (((((((o.0, o.1), o.2), o.3), o.4), o.5), o.6), o.7)) (λ _. refl)
+        (and_one_more (and_one_more (and_one_more
+        (and_one_more (and_one_more (and_one_more
+        (and_one_more (one_view_of A.Output.view (A.IsOutput s.0) (A.pinned s.0 k.0.0.0.0.0.0.0 p.0)) B.Output.view (B.IsOutput s.1)
+        (B.pinned s.1 k.0.0.0.0.0.0.1 p.1)) C.Output.view (C.IsOutput s.2) (C.pinned s.2 k.0.0.0.0.0.1 p.2)) D.Output.view (D.IsOutput s.3)
+        (D.pinned s.3 k.0.0.0.0.1 p.3)) E.Output.view (E.IsOutput s.4) (E.pinned s.4 k.0.0.0.1 p.4)) F.Output.view (F.IsOutput s.5)
+        (F.pinned s.5 k.0.0.1 p.5)) G.Output.view (G.IsOutput s.6) (G.pinned s.6 k.0.1 p.6)) H.Output.view (H.IsOutput s.7)
+        (H.pinned s.7 k.1 p.7)) };
 
-    ghost steady = { λ s k. steady_8 I.model I.lawful (A.meaning s.0) (B.meaning s.1) (C.meaning s.2) (D.meaning s.3) (E.meaning s.4) (F.meaning s.5)
-        (G.meaning s.6) (H.meaning s.7) (A.steady s.0 k.0.0.0.0.0.0.0) (B.steady s.1 k.0.0.0.0.0.0.1) (C.steady s.2 k.0.0.0.0.0.1)
-        (D.steady s.3 k.0.0.0.0.1) (E.steady s.4 k.0.0.0.1) (F.steady s.5 k.0.0.1) (G.steady s.6 k.0.1) (H.steady s.7 k.1) };
+    ghost steady = { λ s k. (and_one_steady I.lawful
+        (and_one_steady I.lawful (and_one_steady I.lawful
+        (and_one_steady I.lawful (and_one_steady I.lawful
+        (and_one_steady I.lawful (and_one_steady I.lawful (steady_of I.model (A.meaning s.0) (A.steady s.0 k.0.0.0.0.0.0.0)) (B.meaning s.1)
+        (B.steady s.1 k.0.0.0.0.0.0.1)) (C.meaning s.2) (C.steady s.2 k.0.0.0.0.0.1)) (D.meaning s.3) (D.steady s.3 k.0.0.0.0.1)) (E.meaning s.4)
+        (E.steady s.4 k.0.0.0.1)) (F.meaning s.5) (F.steady s.5 k.0.0.1)) (G.meaning s.6) (G.steady s.6 k.0.1)) (H.meaning s.7)
+        (H.steady s.7 k.1)).steady };
 }

@@ -142,7 +142,7 @@ impl<I: Input + ByteItems> Input for Located<I> {
 
     ghost views = { moving_views (located (λ x. x.fragment) (λ x. place x.offset x.line x.column) I.read) I.model I.view I.views };
 
-    ghost view_injective = { moving_injective (located (λ x. x.fragment) (λ x. place x.offset x.line x.column) I.read) I.model I.view I.tells };
+    ghost view_injective = { moving_injective (located (λ x. x.fragment) (λ x. place x.offset x.line x.column) I.read) I.model I.view I.view_injective };
 }
 
 /// Line and column after bytes, from those before them.

@@ -3,7 +3,6 @@
 
 ghost use Rattle.std.specs.Prelude.{◌≡◌};
 
-mod flat;
 mod members;
 mod nest;
 mod permutations;
@@ -11,11 +10,11 @@ pub mod promises;
 mod rounds;
 mod widths;
 
-pub use crate::flat::Flat;
 pub use crate::members::{Nested, StreamNested};
-pub use crate::nest::{More, Nests, One};
+pub use crate::nest::{More, Nests};
 pub use crate::permutations::{OnceEach, Permutation};
 pub use crate::widths::StreamMembers;
+pub use nom_internal::flat::{Flat, One};
 
 /// Each of the parsers in `list` once, in any order, with their outputs in the order of the list.
 ///

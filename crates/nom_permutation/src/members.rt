@@ -6,7 +6,8 @@ ghost use Rattle.nom_permutation.specs.Members.{Member, AreSound, IsOver, member
 ghost use Rattle.nom_permutation.specs.laws.NestedLaws.{AreGood, ArePinned, AreStream};
 ghost use Rattle.nom_permutation.specs.Rounds.{HasTried, SlotHolds, IsApplied, applies, waits};
 
-use crate::nest::{More, One};
+use crate::nest::More;
+use nom_internal::flat::One;
 use nom_error::mode::OutputMode;
 use nom_error::value::ParseError;
 use nom_internal::parser::{Parser, StreamParser};

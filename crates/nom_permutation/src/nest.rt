@@ -1,11 +1,7 @@
 //! Tuples, and how they nest.
 ghost use Rattle.std.specs.Prelude.{◌≡◌};
 
-/// The first member.
-#[derive(Drop)]
-pub struct One<A> {
-    pub member: A,
-}
+use nom_internal::flat::One;
 
 /// Members, and one more after them.
 #[derive(Drop)]

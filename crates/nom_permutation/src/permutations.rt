@@ -3,7 +3,7 @@ ghost use Rattle.nom_error.specs.declared.kind.ErrorKind.TheVariants as Kind;
 ghost use Rattle.nom_permutation.specs.Permutation.{permutation_meaning};
 ghost use Rattle.nom_permutation.specs.Rounds.{FlatOutput};
 
-use crate::flat::Flat;
+use nom_internal::flat::Flat;
 use crate::members::Nested;
 use crate::nest::Nests;
 use crate::rounds::rounds;

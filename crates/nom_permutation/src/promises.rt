@@ -2,7 +2,7 @@
 //! the promise.
 ghost use Rattle.nom_permutation.specs.Once.{AcceptsEachOrder, AppliesEachOnce};
 
-use crate::flat::Flat;
+use nom_internal::flat::Flat;
 use crate::members::Nested;
 use crate::permutations::OnceEach;
 use nom_internal::parser::Parser;

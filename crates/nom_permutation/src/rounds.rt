@@ -7,7 +7,7 @@ ghost use Rattle.nom_permutation.specs.Members.{AreSound};
 ghost use Rattle.nom_permutation.specs.Permutation.{permutation_meaning};
 ghost use Rattle.nom_permutation.specs.Rounds.{FlatOutput};
 
-use crate::flat::{Flat, made_flat};
+use nom_internal::flat::{Flat, made_flat};
 use crate::members::Nested;
 use nom_error::answer::PResult;
 use nom_error::kind::ErrorKind;

@@ -1,9 +1,10 @@
 //! The widths of permutations of stream parsers.
 ghost use Rattle.std.specs.Prelude.{◌≡◌, refl};
 
-use crate::flat::Flat;
+use nom_internal::flat::Flat;
 use crate::members::StreamNested;
-use crate::nest::{More, One};
+use crate::nest::More;
+use nom_internal::flat::One;
 use nom_internal::parser::StreamParser;
 use nom_traits::input::Items;
 use nom_traits::view::Viewed;

@@ -5,7 +5,7 @@ use Rattle.nom_traits.specs.Input.{Model}
 use Rattle.nom_traits.specs.View.{View, pair_view}
 use Rattle.nom_internal.specs.Pinned.{IsPinned, pair_pinned}
 use Rattle.nom_permutation_slots.specs.declared.slots.Slot.{Slot}
-use Rattle.nom_permutation.specs.declared.nest.One.{One}
+use Rattle.nom_internal.specs.declared.flat.One.{One}
 use Rattle.nom_internal.specs.Meaning.{Meaning, IsLawful, IsSteady}
 use Rattle.nom_permutation.specs.Members.{Member, member, EachMember, AreSound, AreLawful, AreSteady, Choice, IsOver, or_waiting, or_members, tried}
 use Rattle.nom_permutation.specs.Members.{among_more, with_last}

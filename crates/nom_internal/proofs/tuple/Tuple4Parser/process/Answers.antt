@@ -1,14 +1,18 @@
 use Rattle.nom_error.specs.Modes.{modes}
-use Rattle.nom_internal.proofs.Tuples.{shown_4}
+use Rattle.nom_internal.proofs.Tuples.{and_member, first_of_members, tuple_shown}
 use Rattle.nom_internal.proofs.tuple.Tuple4Parser.process.Goals as goal
 
 pub returns-clause-shown : goal.returns-clause-shown
 returns-clause-shown g c =
-    let mode = modes g.OM.Output.Mode.BUILDS g.OM.Error.Mode.BUILDS g.OM.Incomplete.IsStreaming.STREAMING in
     let p = c.args.self.now in
-    shown_4 g.I.Items.model g.met.I.Items.lawful mode c.args.input
-    (g.A.Parser.IsOutput (g.A.Parser.state p.0)) (g.A.Parser.meaning (g.A.Parser.state p.0)) c.process-answer.result c.process-answer.ensures.shown
-    (g.B.Parser.IsOutput (g.B.Parser.state p.1)) (g.B.Parser.meaning (g.B.Parser.state p.1)) c.next_member-answer.result c.next_member-answer.ensures.shown
-    (g.C.Parser.IsOutput (g.C.Parser.state p.2)) (g.C.Parser.meaning (g.C.Parser.state p.2)) c.next_member-answer-2.result c.next_member-answer-2.ensures.shown
-    (g.D.Parser.IsOutput (g.D.Parser.state p.3)) (g.D.Parser.meaning (g.D.Parser.state p.3)) c.next_member-answer-3.result c.next_member-answer-3.ensures.shown
-    c.formed.result c.formed.ensures
+    let l = g.met.I.Items.lawful in
+    let mode = modes g.OM.Output.Mode.BUILDS g.OM.Error.Mode.BUILDS g.OM.Incomplete.IsStreaming.STREAMING in
+    let one = first_of_members g.I.Items.model (g.A.Parser.IsOutput (g.A.Parser.state p.0)) (g.A.Parser.meaning (g.A.Parser.state p.0)) mode c.args.input
+    c.first_member-answer.result c.first_member-answer.ensures.shown in
+    let two = and_member l (g.B.Parser.IsOutput (g.B.Parser.state p.1)) (g.B.Parser.meaning (g.B.Parser.state p.1)) one
+    c.next_member-answer.result c.next_member-answer.ensures.shown in
+    let three = and_member l (g.C.Parser.IsOutput (g.C.Parser.state p.2)) (g.C.Parser.meaning (g.C.Parser.state p.2)) two
+    c.next_member-answer-2.result c.next_member-answer-2.ensures.shown in
+    let four = and_member l (g.D.Parser.IsOutput (g.D.Parser.state p.3)) (g.D.Parser.meaning (g.D.Parser.state p.3)) three
+    c.next_member-answer-3.result c.next_member-answer-3.ensures.shown in
+    tuple_shown _ _ (λ t o h. h) four c.formed.ensures

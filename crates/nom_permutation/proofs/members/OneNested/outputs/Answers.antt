@@ -1,6 +1,6 @@
 use Rattle.std.specs.Prelude.{◌≡◌, Bool, Option, Some, refl}
 use Rattle.nom_error.specs.Modes.{Built}
-use Rattle.nom_permutation.specs.declared.nest.One.{One}
+use Rattle.nom_internal.specs.declared.flat.One.{One}
 use Rattle.nom_permutation.specs.Members.Choice.{NoChoice}
 use Rattle.nom_permutation.specs.Rounds.{IsApplied}
 use Rattle.nom_permutation.proofs.Places.{flat_built, none_built, step_applied, taken_built}

@@ -1,9 +1,13 @@
-//! Nested outputs, made flat.
+//! Outputs that are gathered in nested pairs, and their tuple.
 ghost use Rattle.std.specs.Prelude.{◌≡◌, Option, Some, None, refl};
 
-use crate::nest::One;
+/// The first output.
+#[derive(Drop)]
+pub struct One<A> {
+    pub member: A,
+}
 
-/// Nested outputs that are made flat as a tuple.
+/// Nested pairs of outputs, which a tuple of 1 to 8 is made of.
 pub trait Flat: Sized {
     type Tuple: Drop;
 
@@ -28,6 +32,22 @@ pub fn made_flat<N: Flat>(nested: Option<N>) -> Option<N::Tuple>
         Some(nested) => Some(nested.flat()),
         None => None,
     }
+}
+
+impl<A: Drop> Flat for One<A> {
+    type Tuple = (A,);
+
+    ghost flatten = { λ p. record { 0 = p.member } };
+
+    ghost pairs = { λ o. record { member = o.0 } };
+
+    #[inline(always)]
+    fn flat(self) -> Self::Tuple {
+        let One { member: a } = self;
+        (a,)
+    }
+
+    ghost same = { λ _. refl };
 }
 
 impl<A: Drop, B: Drop> Flat for (One<A>, B) {
