@@ -17,7 +17,7 @@ use Rattle.nom_internal.specs.Sequence.{Then, ThenBlames, ThenRunsOut}
 use Rattle.nom_internal.specs.Sequence.ThenBlames.{BlamesFirst, BlamesNext}
 use Rattle.nom_internal.specs.Sequence.ThenRunsOut.{RunsOutFirst, RunsOutNext}
 use Rattle.nom_func.specs.Func.{FuncAnswers, FuncBlames, IsViewed}
-use Rattle.nom_internal.specs.Tuples.{add_3, Outputs_3}
+use Rattle.nom_internal.specs.Tuples.{PairOutput}
 use Rattle.example_basics.specs.Colors.{Text, on_pair, parts_of, place_missing, AnswersPair}
 use Rattle.example_basics.proofs.Pairs.{IsPair, IsMissed, IsPlain, Both, both, sequence_plain, pair_accepted, on_pair_at, on_pair_none, missing_at}
 use Rattle.example_basics.proofs.Pairs.{missing_none, behind_pair, text_between, pair_place, pair_answered, pair_missed, pair_plain}
@@ -28,8 +28,8 @@ Pair = FuncAnswers text_model itself AnswersPair
 abbrev Two : Text → Outcome (ℕ × ℕ) → Type 0
 Two = Then text_model (λ u v. (u, v)) Pair (λ _. Pair)
 
-abbrev Three : Text → Outcome (ℕ × ℕ × ℕ) → Type 0
-Three = Then text_model add_3 Two (λ _. Pair)
+abbrev Three : Text → Outcome ((ℕ × ℕ) × ℕ) → Type 0
+Three = Then text_model (λ t v. (t, v)) Two (λ _. Pair)
 
 abbrev TwoBlames : Text → Error Text → Type 0
 TwoBlames = ThenBlames text_model Pair (FuncBlames AnswersPair) (λ _. Pair) (λ _. FuncBlames AnswersPair)
@@ -48,7 +48,8 @@ ThreeRunsOut = ThenRunsOut text_model Two TwoRunsOut (λ _. RanOut)
 
 -- what the tuple of three answers at i
 abbrev pub TripleAnswer : Text → Result (Text × (ℕ × ℕ × ℕ)) (Answer.Err (Error Text) (Error Text) Needed) → Type 0
-TripleAnswer i r = ParsesAnswer text_model (Outputs_3 (IsViewed itself) (IsViewed itself) (IsViewed itself)) i (Three i) (ThreeBlames i) (ThreeRunsOut i) r
+TripleAnswer i r = ParsesAnswer text_model (λ t o. PairOutput (PairOutput (IsViewed itself) (IsViewed itself)) (IsViewed itself) t ((o.0, o.1), o.2)) i
+    (Three i) (ThreeBlames i) (ThreeRunsOut i) r
 
 -- a pair that was read
 record IsRead (i j : Text) (v : ℕ) : Type 0 where
@@ -108,14 +109,15 @@ two_by i j n t b r =
 two_read : (i j : Text) (n : ℕ) (t : ℕ × ℕ) → Two i (Accept n t) → IsSuffixOf text_model i n j → TwoRead i j n t
 two_read i j n t a r = two_by i j n t (both text_model (λ u v. (u, v)) Pair (λ _. Pair) i n t a) r
 
-three_by : (i j : Text) (n : ℕ) (t : ℕ × ℕ × ℕ) (b : Both text_model add_3 Two (λ _. Pair) i n t) → IsSuffixOf text_model i n j → IsTriple i j t
+three_by : (i j : Text) (n : ℕ) (t : (ℕ × ℕ) × ℕ) (b : Both text_model (λ t v. (t, v)) Two (λ _. Pair) i n t) → IsSuffixOf text_model i n j →
+    IsTriple i j (t.0.0, t.0.1, t.1)
 three_by i j n t b r =
     let two = two_read i b.rest b.size b.left b.first b.rest_is in
     let third = last_read i b.rest j b.size b.more b.right b.rest_is b.next (subst (λ k. IsSuffixOf text_model i k j) b.length_is r) in
-    subst (λ p. IsTriple i j p) (sym b.tree_is) (color_by two.first two.second third)
+    subst (λ p. IsTriple i j (p.0.0, p.0.1, p.1)) (sym b.tree_is) (color_by two.first two.second third)
 
-three_read : (i j : Text) (n : ℕ) (t : ℕ × ℕ × ℕ) → Three i (Accept n t) → IsSuffixOf text_model i n j → IsTriple i j t
-three_read i j n t a r = three_by i j n t (both text_model add_3 Two (λ _. Pair) i n t a) r
+three_read : (i j : Text) (n : ℕ) (t : (ℕ × ℕ) × ℕ) → Three i (Accept n t) → IsSuffixOf text_model i n j → IsTriple i j (t.0.0, t.0.1, t.1)
+three_read i j n t a r = three_by i j n t (both text_model (λ t v. (t, v)) Two (λ _. Pair) i n t a) r
 
 -- one is missing, with the error there
 pub record IsNoTriple (i : Text) (e : Error Text) : Type 0 where
@@ -169,8 +171,8 @@ three_none i e (BlamesNext x) =
     third_none i x.rest x.length x.tree e (two_read i x.rest x.length x.tree x.accepted x.rest_is) (pair_missed x.rest e x.fact.fact)
 
 -- the tuple is plain, and takes no memory
-three_plain : (i : Text) (o : Outcome (ℕ × ℕ × ℕ)) → Three i o → IsPlain o
-three_plain i o a = sequence_plain text_model add_3 Two (λ _. Pair) i
+three_plain : (i : Text) (o : Outcome ((ℕ × ℕ) × ℕ)) → Three i o → IsPlain o
+three_plain i o a = sequence_plain text_model (λ t v. (t, v)) Two (λ _. Pair) i
     (sequence_plain text_model (λ u v. (u, v)) Pair (λ _. Pair) i (pair_plain i) (λ u j. pair_plain j)) (λ u j. pair_plain j) o a
 
 two_frugal : (i : Text) → TwoRunsOut i → ⊥
@@ -181,17 +183,17 @@ three_frugal : (i : Text) → ThreeRunsOut i → ⊥
 three_frugal i (RunsOutFirst x) = two_frugal i x
 three_frugal i (RunsOutNext x) = x.fact.outcome_is
 
-tuple_is : (t u : ℕ × ℕ × ℕ) → Outputs_3 (IsViewed itself) (IsViewed itself) (IsViewed itself) u t → t ≡ u
-tuple_is t u h = let make : ℕ → ℕ → ℕ → ℕ × ℕ × ℕ =
-    λ x y z. (x, y, z) in ap (λ x. make x t.1 t.2) h.0 ∙ (ap (λ y. make u.0 y t.2) h.1 ∙ ap (λ z. make u.0 u.1 z) h.2)
+pairs_are : (t : ℕ × ℕ × ℕ) (u : (ℕ × ℕ) × ℕ) → PairOutput (PairOutput (IsViewed itself) (IsViewed itself)) (IsViewed itself) u ((t.0, t.1), t.2) →
+    ((t.0, t.1), t.2) ≡ u
+pairs_are t u h = cc (h.0.0, h.0.1, h.1)
 
 -- what the tuple accepts
 pub triple_read : {i j : Text} {t : ℕ × ℕ × ℕ} → TripleAnswer i (Ok (j, t)) → IsTriple i j t
 triple_read (ParseRanOut e h) = cc (e)
 triple_read {i} {j} {t} (Parsed (Accept n u) a p) =
     let same : ◌≡◌ {A = Text × (ℕ × ℕ × ℕ)} (j, t) (p.0, p.1) = cc (p.4) in
-    let outputs : p.1 ≡ u = tuple_is p.1 u p.3 in
-    three_read i j n t (subst (λ x. Three i (Accept n x)) (sym (ap (λ q. q.1) same ∙ outputs)) a)
+    let outputs = ap (λ x. ((x.0, x.1), x.2)) (ap (λ q. q.1) same) ∙ pairs_are p.1 u p.3 in
+    three_read i j n ((t.0, t.1), t.2) (subst (λ x. Three i (Accept n x)) (sym outputs) a)
     (subst (λ k. IsSuffixOf text_model i n k) (sym (ap (λ q. q.0) same)) p.2)
 triple_read (Parsed Refuse a p) = cc (p.2)
 triple_read (Parsed Fail a p) = cc (p.2)

@@ -7,7 +7,7 @@ use Rattle.nom_traits.specs.declared.character.AsciiClass.TheVariants.{MultiSpac
 use Rattle.nom_traits.specs.Slices.{Slice}
 use Rattle.nom_traits.specs.Text.{text_model}
 use Rattle.nom_internal.specs.Recognized.{recognized_meaning}
-use Rattle.nom_internal.specs.Tuples.{tuple_3, tuple_4}
+use Rattle.nom_internal.specs.Sequence.{pair_meaning}
 use Rattle.nom_bytes.specs.ParsedRuns.{bounded_meaning, run1_meaning}
 use Rattle.nom_bytes.specs.Predicates.{IsFixed}
 use Rattle.nom_character.specs.ClassRuns.{class_meaning}
@@ -54,11 +54,13 @@ word_of = word_by (codes "null") (codes "true") (codes "false")
 -- A sign, a whole part without leading zeros, a fraction and an exponent: by their characters, and the kinds of their refusals.
 abbrev pub number_by : (minus : ℕ) (zero : List ℕ) (dot : ℕ) (marks signs : List ℕ) (mark_kind sign_kind : ErrorKind) → TextGrammar Part Json
 number_by minus zero dot marks signs mark_kind sign_kind = terminated_of
-    (map_of Value.Number (sliced text_model (recognized_meaning text_model (tuple_4 text_model
+    (map_of Value.Number (sliced text_model (recognized_meaning text_model
+    (pair_meaning text_model (pair_meaning text_model (pair_meaning text_model
     (opt_of (char_of minus)).meaning
-    (alt_of (or_of (tag_of zero) digit1_of)).meaning
-    (opt_of (pair_of (char_of dot) digit1_of)).meaning
-    (opt_meaning (tuple_3 text_model (one_by marks mark_kind).meaning (opt_of (one_by signs sign_kind)).meaning digit1_of.meaning)))))) spaces_of
+    (alt_of (or_of (tag_of zero) digit1_of)).meaning)
+    (opt_of (pair_of (char_of dot) digit1_of)).meaning)
+    (opt_meaning (pair_meaning text_model (pair_meaning text_model (one_by marks mark_kind).meaning (opt_of (one_by signs sign_kind)).meaning)
+    digit1_of.meaning)))))) spaces_of
 
 abbrev pub number_of : TextGrammar Part Json
 number_of = number_by 45 (codes "0") 46 (codes "eE") (codes "+-") Kind.OneOf Kind.OneOf

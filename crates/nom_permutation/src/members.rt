@@ -7,9 +7,9 @@ ghost use Rattle.nom_permutation.specs.laws.NestedLaws.{AreGood, ArePinned, AreS
 ghost use Rattle.nom_permutation.specs.Rounds.{HasTried, SlotHolds, IsApplied, applies, waits};
 
 use crate::nest::More;
-use nom_internal::flat::One;
 use nom_error::mode::OutputMode;
 use nom_error::value::ParseError;
+use nom_internal::flat::One;
 use nom_internal::parser::{Parser, StreamParser};
 use nom_permutation_slots::{Round, Slot, taken, try_slot};
 use nom_traits::input::Items;

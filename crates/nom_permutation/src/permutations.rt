@@ -3,13 +3,13 @@ ghost use Rattle.nom_error.specs.declared.kind.ErrorKind.TheVariants as Kind;
 ghost use Rattle.nom_permutation.specs.Permutation.{permutation_meaning};
 ghost use Rattle.nom_permutation.specs.Rounds.{FlatOutput};
 
-use nom_internal::flat::Flat;
 use crate::members::Nested;
 use crate::nest::Nests;
 use crate::rounds::rounds;
 use crate::widths::StreamMembers;
 use nom_error::answer::PResult;
 use nom_error::mode::OutputMode;
+use nom_internal::flat::Flat;
 use nom_internal::parser::{Parser, StreamParser};
 use nom_traits::input::Items;
 

@@ -2,9 +2,9 @@
 //! the promise.
 ghost use Rattle.nom_permutation.specs.Once.{AcceptsEachOrder, AppliesEachOnce};
 
-use nom_internal::flat::Flat;
 use crate::members::Nested;
 use crate::permutations::OnceEach;
+use nom_internal::flat::Flat;
 use nom_internal::parser::Parser;
 use nom_traits::input::Items;
 

@@ -7,12 +7,12 @@ ghost use Rattle.nom_permutation.specs.Members.{AreSound};
 ghost use Rattle.nom_permutation.specs.Permutation.{permutation_meaning};
 ghost use Rattle.nom_permutation.specs.Rounds.{FlatOutput};
 
-use nom_internal::flat::{Flat, made_flat};
 use crate::members::Nested;
 use nom_error::answer::PResult;
 use nom_error::kind::ErrorKind;
 use nom_error::mode::OutputMode;
 use nom_internal::choice::close;
+use nom_internal::flat::{Flat, made_flat};
 use nom_traits::input::Items;
 
 /// Round by round, each of the members once, with their outputs made flat.

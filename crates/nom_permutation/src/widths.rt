@@ -1,10 +1,9 @@
 //! The widths of permutations of stream parsers.
 ghost use Rattle.std.specs.Prelude.{◌≡◌, refl};
 
-use nom_internal::flat::Flat;
 use crate::members::StreamNested;
 use crate::nest::More;
-use nom_internal::flat::One;
+use nom_internal::flat::{Flat, One};
 use nom_internal::parser::StreamParser;
 use nom_traits::input::Items;
 use nom_traits::view::Viewed;
@@ -29,9 +28,7 @@ impl<
     B: StreamParser<I, Error = A::Error>,
     C: StreamParser<I, Error = A::Error>,
 > StreamMembers<I> for More<More<One<A>, B>, C> {
-    ghost use Rattle.nom_internal.specs.Tuples.{flat_3};
-
-    ghost form = { flat_3 };
+    ghost form = { λ v. (v.0.0, v.0.1, v.1) };
 
     ghost formed = { λ _. refl };
 }
@@ -43,9 +40,7 @@ impl<
     C: StreamParser<I, Error = A::Error>,
     D: StreamParser<I, Error = A::Error>,
 > StreamMembers<I> for More<More<More<One<A>, B>, C>, D> {
-    ghost use Rattle.nom_internal.specs.Tuples.{flat_4};
-
-    ghost form = { flat_4 };
+    ghost form = { λ v. (v.0.0.0, v.0.0.1, v.0.1, v.1) };
 
     ghost formed = { λ _. refl };
 }
@@ -58,9 +53,7 @@ impl<
     D: StreamParser<I, Error = A::Error>,
     E: StreamParser<I, Error = A::Error>,
 > StreamMembers<I> for More<More<More<More<One<A>, B>, C>, D>, E> {
-    ghost use Rattle.nom_internal.specs.Tuples.{flat_5};
-
-    ghost form = { flat_5 };
+    ghost form = { λ v. (v.0.0.0.0, v.0.0.0.1, v.0.0.1, v.0.1, v.1) };
 
     ghost formed = { λ _. refl };
 }
@@ -74,9 +67,7 @@ impl<
     E: StreamParser<I, Error = A::Error>,
     F: StreamParser<I, Error = A::Error>,
 > StreamMembers<I> for More<More<More<More<More<One<A>, B>, C>, D>, E>, F> {
-    ghost use Rattle.nom_internal.specs.Tuples.{flat_6};
-
-    ghost form = { flat_6 };
+    ghost form = { λ v. (v.0.0.0.0.0, v.0.0.0.0.1, v.0.0.0.1, v.0.0.1, v.0.1, v.1) };
 
     ghost formed = { λ _. refl };
 }
@@ -91,9 +82,7 @@ impl<
     F: StreamParser<I, Error = A::Error>,
     G: StreamParser<I, Error = A::Error>,
 > StreamMembers<I> for More<More<More<More<More<More<One<A>, B>, C>, D>, E>, F>, G> {
-    ghost use Rattle.nom_internal.specs.Tuples.{flat_7};
-
-    ghost form = { flat_7 };
+    ghost form = { λ v. (v.0.0.0.0.0.0, v.0.0.0.0.0.1, v.0.0.0.0.1, v.0.0.0.1, v.0.0.1, v.0.1, v.1) };
 
     ghost formed = { λ _. refl };
 }
@@ -109,9 +98,7 @@ impl<
     G: StreamParser<I, Error = A::Error>,
     H: StreamParser<I, Error = A::Error>,
 > StreamMembers<I> for More<More<More<More<More<More<More<One<A>, B>, C>, D>, E>, F>, G>, H> {
-    ghost use Rattle.nom_internal.specs.Tuples.{flat_8};
-
-    ghost form = { flat_8 };
+    ghost form = { λ v. (v.0.0.0.0.0.0.0, v.0.0.0.0.0.0.1, v.0.0.0.0.0.1, v.0.0.0.0.1, v.0.0.0.1, v.0.0.1, v.0.1, v.1) };
 
     ghost formed = { λ _. refl };
 }
