@@ -25,7 +25,7 @@ use Rattle.nom_func.specs.laws.FuncLaws.{func_lawful}
 use Rattle.nom_bytes.specs.Predicates.{one_answer}
 use Rattle.nom_character.specs.ClassRuns.{class_lawful}
 use Rattle.nom_character_first.specs.declared.first.Blame.TheVariants.{OfChar, OfKind}
-use Rattle.nom_character_first.specs.laws.FirstItemLaws.{first_item_lawful, told}
+use Rattle.nom_character_first.specs.laws.FirstItemLaws.{first_item_lawful, test_is_fixed}
 use Rattle.nom_sequence.specs.Sequences.{terminated_meaning}
 use Rattle.nom_branch.specs.laws.AlternativeLaws.{choice_lawful, next_lawful}
 use Rattle.nom_combinator.specs.Verdicts.{cut_meaning}
@@ -46,7 +46,8 @@ use Rattle.example_formats.proofs.Alike.{joins_alike, negates_alike, number_alik
 use Rattle.example_formats.proofs.Functions.{given_itself, is_parser}
 
 char_lawful : (c : ℕ) → IsLawful text_model (char_of c).meaning
-char_lawful c = first_item_lawful text_model IsScalar text_values (λ x. x) (λ x b. b ≡ (x == c)) (told IsScalar (λ x. x == c)) (Some (len_utf8 c)) (Unit {0})
+char_lawful c = first_item_lawful text_model IsScalar text_values (λ x. x) (λ x b. b ≡ (x == c)) (test_is_fixed IsScalar (λ x. x == c)) (Some (len_utf8 c))
+    (Unit {0})
     faults (OfChar c)
 
 set_lawful : (set : List ℕ) (kind : ErrorKind) → IsLawful text_model (one_of_by set kind).meaning

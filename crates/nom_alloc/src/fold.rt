@@ -35,7 +35,7 @@ impl<'a, T: Drop, R: Drop, G: Fn(R, T) -> Result<R, OutOfMemory>> Accumulator<T>
     ghost fills = { λ k h. (k.fold.now, h) };
 
     #[inline(always)]
-    fn keep(&mut self, item: T) -> bool {
+    fn push(&mut self, item: T) -> bool {
         match self.value.take() {
             Some(value) => match (self.fold)(value, item) {
                 Ok(next) => {

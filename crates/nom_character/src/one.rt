@@ -6,7 +6,7 @@ ghost use Rattle.nom_error.specs.declared.kind.ErrorKind.TheVariants as Kind;
 ghost use Rattle.nom_internal.specs.Pinned.{value_pinned};
 ghost use Rattle.nom_character_first.specs.declared.first.Blame.TheVariants.{OfKind, OfChar};
 ghost use Rattle.nom_character_first.specs.FirstItem.{char_meaning, satisfy_meaning, anychar_meaning};
-ghost use Rattle.nom_character_first.specs.laws.FirstItemLaws.{told, first_item_lawful, first_item_steady};
+ghost use Rattle.nom_character_first.specs.laws.FirstItemLaws.{test_is_fixed, first_item_lawful, first_item_steady};
 
 use crate::predicate::{Any, Is};
 use nom_bytes::predicate::Predicate;
@@ -57,7 +57,7 @@ where
     }
 
     ghost lawful = { λ wanted k. first_item_lawful I.model I.Item.IsValue I.values I.Item.code (λ x b. b ≡ (I.Item.code x == wanted))
-        (told I.Item.IsValue (λ x. I.Item.code x == wanted)) (Some (len_utf8 wanted)) (Unit {0}) E.errors (OfChar wanted) };
+        (test_is_fixed I.Item.IsValue (λ x. I.Item.code x == wanted)) (Some (len_utf8 wanted)) (Unit {0}) E.errors (OfChar wanted) };
 }
 
 impl<I: Input, E: ParseError<I>> StreamParser<I> for Char<I, E>
@@ -67,7 +67,7 @@ where
     ghost pinned = { λ s k p. value_pinned };
 
     ghost steady = { λ wanted k. first_item_steady I.model I.Item.IsValue I.values I.Item.code (λ x b. b ≡ (I.Item.code x == wanted))
-        (told I.Item.IsValue (λ x. I.Item.code x == wanted)) (Some (len_utf8 wanted)) (Unit {0}) E.errors (OfChar wanted) };
+        (test_is_fixed I.Item.IsValue (λ x. I.Item.code x == wanted)) (Some (len_utf8 wanted)) (Unit {0}) E.errors (OfChar wanted) };
 }
 
 /// A character that passes a test, made by `satisfy`, `one_of` and `none_of`.
@@ -164,7 +164,7 @@ where
         first_where::<OM, I, Any, E>(input, &Any, Blame::OfKind(ErrorKind::Eof), lack)
     }
 
-    ghost lawful = { λ _ k. first_item_lawful I.model I.Item.IsValue I.values I.Item.code (λ x b. b ≡ true) (told I.Item.IsValue (λ x. true)) (Some 1)
+    ghost lawful = { λ _ k. first_item_lawful I.model I.Item.IsValue I.values I.Item.code (λ x b. b ≡ true) (test_is_fixed I.Item.IsValue (λ x. true)) (Some 1)
         (Unit {0}) E.errors (OfKind Kind.Eof) };
 }
 
@@ -174,6 +174,6 @@ where
 {
     ghost pinned = { λ s k p. value_pinned };
 
-    ghost steady = { λ _ k. first_item_steady I.model I.Item.IsValue I.values I.Item.code (λ x b. b ≡ true) (told I.Item.IsValue (λ x. true)) (Some 1)
+    ghost steady = { λ _ k. first_item_steady I.model I.Item.IsValue I.values I.Item.code (λ x b. b ≡ true) (test_is_fixed I.Item.IsValue (λ x. true)) (Some 1)
         (Unit {0}) E.errors (OfKind Kind.Eof) };
 }

@@ -1,7 +1,7 @@
 //! Tests of the characters of items.
 ghost use Rattle.std.specs.Prelude.{ℕ, ◌≡◌, ◌==◌, ◌↔◌, IsTrue, true, false, not};
 ghost use Rattle.nom_bytes.specs.Predicates.{IsFixed, one_answer};
-ghost use Rattle.nom_character_first.specs.laws.FirstItemLaws.{told};
+ghost use Rattle.nom_character_first.specs.laws.FirstItemLaws.{test_is_fixed};
 
 use nom_bytes::predicate::Predicate;
 use nom_search::token::FindToken;
@@ -96,7 +96,7 @@ impl<T: AsChar> Predicate<T> for Is {
         item.as_char() == self.wanted
     }
 
-    ghost fixed = { λ wanted h. told T.IsValue (λ x. T.code x == wanted) };
+    ghost fixed = { λ wanted h. test_is_fixed T.IsValue (λ x. T.code x == wanted) };
 }
 
 /// All items.
@@ -117,5 +117,5 @@ impl<T: AsChar> Predicate<T> for Any {
         true
     }
 
-    ghost fixed = { λ _ h. told T.IsValue (λ x. true) };
+    ghost fixed = { λ _ h. test_is_fixed T.IsValue (λ x. true) };
 }

@@ -26,7 +26,7 @@ impl<'a, T: Drop, R: Drop, G: Fn(R, T) -> R> Accumulator<T> for Folded<'a, R, G>
     ghost fills = { λ _ h. h };
 
     #[inline(always)]
-    fn keep(&mut self, item: T) -> bool {
+    fn push(&mut self, item: T) -> bool {
         match self.value.take() {
             Some(value) => {
                 self.value = Some((self.fold)(value, item));

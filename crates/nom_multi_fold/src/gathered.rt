@@ -28,7 +28,7 @@ impl<T, A: Allocator, C: Collection<T, A>> Accumulator<T> for Gathered<C, A> {
     ghost fills = { λ _ _. tt };
 
     #[inline(always)]
-    fn keep(&mut self, item: T) -> bool {
+    fn push(&mut self, item: T) -> bool {
         self.collection.append(item).is_ok()
     }
 }

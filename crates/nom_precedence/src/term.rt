@@ -38,7 +38,7 @@ impl<'a, P: Drop, Q: Drop, B: Drop, O: Drop, G: Fn(Operation<P, Q, B, O>) -> O> 
     ghost fills = { λ _ h. h };
 
     #[inline(always)]
-    fn keep(&mut self, item: Q) -> bool {
+    fn push(&mut self, item: Q) -> bool {
         match self.value.take() {
             Some(value) => {
                 self.value = Some((self.fold)(Operation::Postfix(value, item)));

@@ -22,9 +22,9 @@ pub trait Accumulator<T> {
 
     ghost fills: { (k : Self) → IsFull k → Grows };
 
-    /// Keeps an item, and tells whether there was memory for it; there may be none only where there is no
+    /// Pushes an item, and tells whether there was memory for it; there may be none only where there is no
     /// room.
-    fn keep(&mut self, item: T) -> bool
+    fn push(&mut self, item: T) -> bool
         requires { CanPush self.old }
         ensures kept { IsTrue result → Pushes self.old item self.new }
         ensures next { IsTrue result → CanPush self.new }
@@ -44,7 +44,7 @@ impl<T: Drop, A: Allocator> Accumulator<T> for Vec<T, A> {
     ghost fills = { λ _ _. tt };
 
     #[inline(always)]
-    fn keep(&mut self, item: T) -> bool {
+    fn push(&mut self, item: T) -> bool {
         self.push(item).is_ok()
     }
 }
@@ -62,13 +62,13 @@ impl<T: Drop> Accumulator<T> for usize {
     ghost fills = { λ _ h. h };
 
     #[inline(always)]
-    fn keep(&mut self, _item: T) -> bool {
+    fn push(&mut self, _item: T) -> bool {
         *self = self.saturating_add(1);
         true
     }
 }
 
-/// Keeps an item, where outputs are built, and tells whether there was memory for it.
+/// Pushes an item, where outputs are built, and tells whether there was memory for it.
 #[inline(always)]
 pub fn push_item<T: Drop, K: Accumulator<T>>(kept: &mut Option<K>, item: Option<T>) -> bool
     requires { IfSome kept.old K.CanPush }
@@ -76,7 +76,7 @@ pub fn push_item<T: Drop, K: Accumulator<T>>(kept: &mut Option<K>, item: Option<
     ensures full { result ≡ false → LacksRoom K.IsFull kept.old }
 {
     match (kept, item) {
-        (Some(kept), Some(item)) => kept.keep(item),
+        (Some(kept), Some(item)) => kept.push(item),
         _ => true,
     }
 }

@@ -11,8 +11,8 @@ use Rattle.nom_character_first.specs.declared.first.Blame.{Blame}
 use Rattle.nom_character_first.specs.FirstItem.{IsFirstItem, heads, blamed, first_item_meaning}
 
 -- a test that computes answers in one way
-pub told : {A : Type 0} (IsValue : A → Type 0) (test : A → Bool) → IsFixed IsValue (λ x b. b ≡ test x)
-told IsValue test x v p q = cc (p, q)
+pub test_is_fixed : {A : Type 0} (IsValue : A → Type 0) (test : A → Bool) → IsFixed IsValue (λ x b. b ≡ test x)
+test_is_fixed IsValue test x v p q = cc (p, q)
 
 module _ {I A : Type 0} (w : Model I A) where
   -- an input has one first item

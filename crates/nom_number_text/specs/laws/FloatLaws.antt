@@ -15,7 +15,7 @@ use Rattle.nom_branch.specs.laws.AlternativeLaws.{next_lawful, next_stays, choic
 use Rattle.nom_character_first.specs.declared.first.Blame.TheVariants.{OfChar}
 use Rattle.nom_character.specs.ClassRuns.{class_lawful, class_steady}
 use Rattle.nom_character_first.specs.FirstItem.{char_meaning}
-use Rattle.nom_character_first.specs.laws.FirstItemLaws.{told, first_item_lawful, first_item_steady}
+use Rattle.nom_character_first.specs.laws.FirstItemLaws.{test_is_fixed, first_item_lawful, first_item_steady}
 use Rattle.nom_combinator.specs.Verdicts.{cut_meaning, opt_meaning}
 use Rattle.nom_combinator.specs.laws.VerdictLaws.{cut_lawful, cut_steady, opt_lawful, opt_steady}
 use Rattle.nom_number_text.specs.Floats.{either_char_meaning, digits_meaning, whole_meaning, point_meaning, decimal_meaning, exponent_meaning, float_meaning}
@@ -53,9 +53,9 @@ module _ {I A E : Type 0} (w : Model I A) (l : InputLaws w) (IsValue : A → Typ
     (code : A → ℕ) (errs : Errors I E) where
   pub char_stream : (c : ℕ) → IsStream w (char_meaning w code errs c)
   char_stream c = record {
-    lawful = first_item_lawful w IsValue values code (λ x b. b ≡ (code x == c)) (told IsValue (λ x. code x == c)) (Some (len_utf8 c)) (Unit {0}) errs
+    lawful = first_item_lawful w IsValue values code (λ x b. b ≡ (code x == c)) (test_is_fixed IsValue (λ x. code x == c)) (Some (len_utf8 c)) (Unit {0}) errs
         (OfChar c);
-    steady = first_item_steady w IsValue values code (λ x b. b ≡ (code x == c)) (told IsValue (λ x. code x == c)) (Some (len_utf8 c)) (Unit {0}) errs
+    steady = first_item_steady w IsValue values code (λ x b. b ≡ (code x == c)) (test_is_fixed IsValue (λ x. code x == c)) (Some (len_utf8 c)) (Unit {0}) errs
         (OfChar c);
   }
 
