@@ -1,5 +1,5 @@
 //! Comparisons of inputs with tags.
-ghost use Rattle.std.specs.Prelude.{◌≡◌, ℕ, List, length, chars, encode_utf8_all};
+ghost use Rattle.std.specs.Prelude.{◌≡◌, ◌<◌, ℕ, List, length, chars, encode_utf8_all};
 ghost use Rattle.nom_traits.specs.declared.compare.CompareResult.{CompareResult};
 ghost use Rattle.nom_traits.specs.Compares.{CompareLaws, ComparesAs, ComparesBytes, ComparesBytesNoCase, ComparesText, ComparesTextNoCase};
 ghost use Rattle.nom_traits.specs.CompareTags.{IsForm, bytes_comparing, bytes_comparing_no_case, text_comparing, text_comparing_no_case};
@@ -259,19 +259,34 @@ impl<'a, 'b> Compare<&'b [u8]> for &'a str {
 fn compare_bytes(bytes: &[u8], tag: &[u8]) -> CompareResult
     ensures { ComparesBytes tag.now bytes.now result }
 {
-    let n = bytes.len().min(tag.len());
-    for i in 0..n {
+    if bytes.len() < tag.len() {
+        return compare_short(bytes, tag);
+    }
+    for i in 0..tag.len() {
         let byte = bytes[i];
         let wanted = tag[i];
         if byte != wanted {
             return CompareResult::Error;
         }
     }
-    if bytes.len() >= tag.len() {
-        CompareResult::Ok
-    } else {
-        CompareResult::Incomplete
+    CompareResult::Ok
+}
+
+/// The same of bytes that are fewer than the tag's. It stands apart, so that the other stays small.
+#[cold]
+#[inline(never)]
+fn compare_short(bytes: &[u8], tag: &[u8]) -> CompareResult
+    requires { length bytes.now < length tag.now }
+    ensures { ComparesBytes tag.now bytes.now result }
+{
+    for i in 0..bytes.len() {
+        let byte = bytes[i];
+        let wanted = tag[i];
+        if byte != wanted {
+            return CompareResult::Error;
+        }
     }
+    CompareResult::Incomplete
 }
 
 #[inline(always)]
