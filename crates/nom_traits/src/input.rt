@@ -149,15 +149,10 @@ pub trait Input: Items + Viewed {
         requires { P.IsAlwaysCallable predicate }
         ensures { IsPosition Self.model (λ x. P.post predicate x false) (λ x. P.post predicate x true) self.now result }
     {
-        // The length is the bound of each place; it is read and not used.
-        let _length = self.input_len();
-        let mut place = 0;
-        for item in self.iter_elements() {
-            let behind = place + self.item_len(&item);
+        for (place, item) in self.iter_indices() {
             if predicate(item) {
                 return Some(place);
             }
-            place = behind;
         }
         None
     }
