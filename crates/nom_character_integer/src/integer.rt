@@ -1,5 +1,5 @@
 //! Whole numbers in decimal digits.
-ghost use Rattle.std.specs.Prelude.{◌≡◌, ◌<◌, ◌+◌, ◌-◌, ◌*◌, ℕ, Bool, ℤ, true, false, [], ◌∷◌, MatchOption};
+ghost use Rattle.std.specs.Prelude.{◌≡◌, ◌<◌, ◌+◌, ◌-◌, ◌*◌, ℕ, Bool, ℤ, pos, true, false, [], ◌∷◌, MatchOption};
 ghost use Rattle.std.proofs.Common.{sym, ◌∙◌};
 ghost use Rattle.nom_traits.specs.Classes.{is_dec_digit_code};
 ghost use Rattle.nom_error.specs.Modes.{Built};
@@ -20,18 +20,43 @@ use nom_traits::view::Viewed;
 use num_traits::{NumCast, PrimInt, Zero};
 use std::marker::PhantomData;
 
+/// Ten times a number and some ones more, or less where it is negative; `None` where the type doesn't
+/// have it.
+#[inline(always)]
+fn ten_times_and<T: PrimInt>(number: T, ten: T, ones: T, negative: bool) -> Option<T>
+    ensures { (n d : ℕ) → T.value number ≡ with_sign negative n → T.value ten ≡ pos 10 → T.value ones ≡ pos d →
+        Checks T.value T.fits (with_sign negative (10 * n + d)) result }
+{
+    let tens = number.checked_mul(&ten)?;
+    if negative {
+        tens.checked_sub(&ones)
+    } else {
+        tens.checked_add(&ones)
+    }
+}
+
+/// Whether any digit may follow a number that isn't negative. It is a hint, of which nothing is promised.
+#[inline(always)]
+fn has_room<T: PrimInt>(number: T, ten: T) -> bool {
+    match T::max_value().checked_div(&ten) {
+        Some(tenth) => number < tenth,
+        None => false,
+    }
+}
+
 /// The number with one more digit after its own; `None` where the type doesn't have it.
+// Both branches are the same. In the first the compiler leaves out the checks, which never fail there.
 #[inline(always)]
 fn followed_by<T: PrimInt>(number: T, digit: u8, negative: bool) -> Option<T>
     requires digit { digit < 10 }
     ensures { (n : ℕ) → T.value number ≡ with_sign negative n → Checks T.value T.fits (with_sign negative (10 * n + digit)) result }
 {
-    let tens = number.checked_mul(&<T as NumCast>::from(10u8)?)?;
+    let ten = <T as NumCast>::from(10u8)?;
     let ones = <T as NumCast>::from(digit)?;
-    if negative {
-        tens.checked_sub(&ones)
+    if has_room(number, ten) {
+        ten_times_and(number, ten, ones, negative)
     } else {
-        tens.checked_add(&ones)
+        ten_times_and(number, ten, ones, negative)
     }
 }
 

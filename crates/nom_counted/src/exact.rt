@@ -38,7 +38,7 @@ pub fn items_exactly<OM: OutputMode, I: Items, F: Parser<I>, K: Accumulator<F::O
     while done < count {
         match parser.process::<OutputM<OM::Output, OM::Error, OM::Incomplete>>(rest) {
             Ok((next, item)) => {
-                if !push_item(&mut kept, item) {
+                if !push_item::<OM::Output, _, _>(&mut kept, item) {
                     return Err(Err::OutOfMemory);
                 }
                 rest = next;

@@ -138,6 +138,11 @@ impl<I: Input + ByteItems> Input for Located<I> {
         self.fragment.class_end(class)
     }
 
+    #[inline(always)]
+    fn knows_places(&self) -> bool {
+        self.fragment.knows_places()
+    }
+
     ghost more = { I.more };
 
     ghost views = { moving_views (located (λ x. x.fragment) (λ x. place x.offset x.line x.column) I.read) I.model I.view I.views };

@@ -1,6 +1,5 @@
 -- What is accumulated of items, as they come.
 use Rattle.std.proofs.Common.{◌≡◌, ◌++◌, ◌∷◌, [], List, Option, Some, None, Bool, true, false, refl, sym, ◌∙◌, subst}
-use Rattle.std.specs.Prelude.{IfSome}
 use Rattle.std.specs.List.{AllZip}
 use Rattle.nom_error.specs.Modes.{Built}
 use Rattle.nom_internal.proofs.Shown.{built_error}
@@ -24,10 +23,6 @@ module _ {V T K : Type 0} (Pushes : K → T → K → Type 0) (CanPush : K → T
   pub kept_none : (builds : Bool) (before : Option K) → Built builds CanPush before → Built builds (Accumulated Pushes CanPush P before []) before
   kept_none true before h = (h.0, h.1, record { first = h.0; first_is = h.1; outputs = []; are_outputs = tt; added = refl; ready = h.2 })
   kept_none false before h = h
-
-  pub can_push_first : (builds : Bool) (before : Option K) → Built builds CanPush before → IfSome before CanPush
-  can_push_first true before h = subst (λ z. IfSome z CanPush) (sym h.1) h.2
-  can_push_first false before h = subst (λ z. IfSome z CanPush) (sym h) tt
 
   kept_more : (before : Option K) (vs : List V) (v : V) (k : K) (x : T) (new : K) → Accumulated Pushes CanPush P before vs k → P v x → Pushes k x new →
       CanPush new → Accumulated Pushes CanPush P before (vs ++ v ∷ []) new
@@ -53,12 +48,6 @@ module _ {V T K : Type 0} (Pushes : K → T → K → Type 0) (CanPush : K → T
   pushed before true vs v None n x g b c = absurd (none_some b.0 b.1)
   pushed before false vs v (Some k) x n g b c = absurd (none_some k (sym b))
   pushed before false vs v None x n g b c = g
-
-  pub can_push_next : (old new : Option K) (item : Option T) → PushesBoth Pushes CanPush old item new → IfSome old CanPush → IfSome new CanPush
-  can_push_next (Some k) (Some n) (Some x) g h = g.1
-  can_push_next (Some k) None (Some x) g h = absurd g
-  can_push_next (Some k) n None g h = subst (λ z. IfSome z CanPush) (sym g) h
-  can_push_next None n x g h = subst (λ z. IfSome z CanPush) (sym g) tt
 
 module _ {V T K : Type 0} (Pushes : K → T → K → Type 0) (CanPush : K → Type 0) (P : V → T → Type 0) where
   adds_both : (k : K) (xs : List T) (mid : K) (ys : List T) (new : K) → Adds Pushes k xs mid → Adds Pushes mid ys new → Adds Pushes k (xs ++ ys) new
@@ -95,6 +84,10 @@ module _ {V T K : Type 0} (Pushes : K → T → K → Type 0) (CanPush : K → T
   pub kept_ready : (builds : Bool) (before kept : Option K) (vs : List V) → Built builds (Accumulated Pushes CanPush P before vs) kept →
       Built builds CanPush kept
   kept_ready builds before kept vs h = built_error builds _ CanPush kept (λ k z. z.ready) h
+
+-- what is built, whatever it is
+pub built_any : {X : Type 0} (builds : Bool) (P : X → Type 0) (x : Option X) → Built builds P x → Built builds (λ _. Unit {0}) x
+built_any builds P x h = built_error builds P (λ _. Unit {0}) x (λ _ _. tt) h
 
 -- where there is no room, something is kept, so it is built
 pub room_built : {K : Type 0} (IsFull P : K → Type 0) (builds : Bool) (x : Option K) → Built builds P x → LacksRoom IsFull x → builds ≡ true

@@ -70,14 +70,18 @@ impl<T: Drop> Accumulator<T> for usize {
 
 /// Pushes an item, where outputs are built, and tells whether there was memory for it.
 #[inline(always)]
-pub fn push_item<T: Drop, K: Accumulator<T>>(kept: &mut Option<K>, item: Option<T>) -> bool
-    requires { IfSome kept.old K.CanPush }
+pub fn push_item<M: Mode, T: Drop, K: Accumulator<T>>(kept: &mut Option<K>, item: Option<T>) -> bool
+    requires kept { Built M.BUILDS K.CanPush kept.old }
+    requires item { Built M.BUILDS (λ _. Unit {0}) item }
     ensures kept { IsTrue result → PushesBoth K.Pushes K.CanPush kept.old item kept.new }
     ensures full { result ≡ false → LacksRoom K.IsFull kept.old }
 {
+    if !M::BUILDS {
+        return true;
+    }
     match (kept, item) {
         (Some(kept), Some(item)) => kept.push(item),
-        _ => true,
+        _ => unreachable!(),
     }
 }
 

@@ -55,66 +55,72 @@ text_placed (c ∷ cs) n s e f = (
       (pair_same x n c (p.0 ∙ sym f) (sym k.0), text_placed cs (n + len_utf8 c) j k.1 (omega (arith, f, p.2, length-encode x.1, ap len_utf8 k.0))),
 )
 
-module _ {I A S : Type 0} (w : Model I A) (Meets Ends : A → Type 0) (steps : S → Option (ℕ × A) → S → Type 0) where
-  -- the items that were passed all meet the test, and s gives the others, each with its place
-  pub record IsWalking (i : I) (s : S) : Type 0 where
+module _ {I A S : Type 0} (w : Model I A) (Meets Ends : A → Type 0) (steps : S → Option A → S → Type 0) where
+  -- the items that were passed all meet the test, a place lies after them, and s gives the others
+  pub record IsWalking (i : I) (place : ℕ) (s : S) : Type 0 where
     pub passed : List A
     pub rest : List A
     pub whole : w.elements i ≡ passed ++ rest
     pub meets : All Meets passed
-    pub gives : AlwaysYields steps (λ p. p) s (placed w.item_len (items_len w.item_len passed) rest)
+    pub place_is : place ≡ items_len w.item_len passed
+    pub gives : AlwaysYields steps (λ x. x) s rest
 
-  -- the next item, with its place
+  -- the next item
   record IsNext (i : I) (n : ℕ) (x : A) (t : S) : Type 0 where
     passed : List A
     rest : List A
     whole : w.elements i ≡ passed ++ (x ∷ rest)
     meets : All Meets passed
     place : n ≡ items_len w.item_len passed
-    gives : AlwaysYields steps (λ p. p) t (placed w.item_len (items_len w.item_len passed + w.item_len x) rest)
+    gives : AlwaysYields steps (λ x. x) t rest
 
-  next_of : (i : I) (s t : S) (n : ℕ) (x : A) (passed rest : List A) → w.elements i ≡ passed ++ rest → All Meets passed →
-      AlwaysYields steps (λ p. p) s (placed w.item_len (items_len w.item_len passed) rest) → steps s (Some (n, x)) t → IsNext i n x t
-  next_of i s t n x passed [] e h g k = absurd (g (n, x) t k)
-  next_of i s t n x passed (y ∷ rest) e h g k =
-      let r = g.1 (n, x) t k in
-      let item : x ≡ y = ap (λ p. p.1) r.0 in
+  next_of : (i : I) (s t : S) (n : ℕ) (x : A) (passed rest : List A) → w.elements i ≡ passed ++ rest → All Meets passed → n ≡ items_len w.item_len passed →
+      AlwaysYields steps (λ x. x) s rest → steps s (Some x) t → IsNext i n x t
+  next_of i s t n x passed [] e h p g k = absurd (g x t k)
+  next_of i s t n x passed (y ∷ rest) e h p g k =
+      let r = g.1 x t k in
       record {
         passed = passed;
         rest = rest;
-        whole = e ∙ ap (λ z. passed ++ (z ∷ rest)) (sym item);
+        whole = e ∙ ap (λ z. passed ++ (z ∷ rest)) (sym r.0);
         meets = h;
-        place = ap (λ p. p.0) r.0;
-        gives = subst (λ z. AlwaysYields steps (λ p. p) t (placed w.item_len (items_len w.item_len passed + w.item_len z) rest)) (sym item) r.1;
+        place = p;
+        gives = r.1;
       }
 
-  next_in : (i : I) (s t : S) (n : ℕ) (x : A) → IsWalking i s → steps s (Some (n, x)) t → IsNext i n x t
-  next_in i s t n x h k = next_of i s t n x h.passed h.rest h.whole h.meets h.gives k
+  next_in : (i : I) (s t : S) (n : ℕ) (x : A) → IsWalking i n s → steps s (Some x) t → IsNext i n x t
+  next_in i s t n x h k = next_of i s t n x h.passed h.rest h.whole h.meets h.place_is h.gives k
 
-  ends_of : (i : I) (s t : S) (passed rest : List A) → w.elements i ≡ passed ++ rest → All Meets passed →
-      AlwaysYields steps (λ p. p) s (placed w.item_len (items_len w.item_len passed) rest) → steps s None t → All Meets (w.elements i)
+  ends_of : (i : I) (s t : S) (passed rest : List A) → w.elements i ≡ passed ++ rest → All Meets passed → AlwaysYields steps (λ x. x) s rest →
+      steps s None t → All Meets (w.elements i)
   ends_of i s t passed [] e h g k = subst (All Meets) (sym (e ∙ append-nil passed)) h
   ends_of i s t passed (y ∷ rest) e h g k = absurd (g.0 t k)
 
-module _ {I A S : Type 0} {w : Model I A} {Meets Ends : A → Type 0} {steps : S → Option (ℕ × A) → S → Type 0} where
-  pub walk_begins : {i : I} {s : S} → AlwaysYields steps (λ p. p) s (placed w.item_len 0 (w.elements i)) → IsWalking w Meets Ends steps i s
-  walk_begins {i = i} h = record { passed = []; rest = w.elements i; whole = refl; meets = All-nil Meets; gives = h }
+module _ {I A S : Type 0} {w : Model I A} {Meets Ends : A → Type 0} {steps : S → Option A → S → Type 0} where
+  pub walk_begins : {i : I} {s : S} → AlwaysYields steps (λ x. x) s (w.elements i) → IsWalking w Meets Ends steps i 0 s
+  walk_begins {i = i} h = record { passed = []; rest = w.elements i; whole = refl; meets = All-nil Meets; place_is = refl; gives = h }
 
-  pub walk_goes_on : {i : I} {s : S} (t : S) {n : ℕ} (x : A) → IsWalking w Meets Ends steps i s → steps s (Some (n, x)) t → Meets x →
-      IsWalking w Meets Ends steps i t
-  walk_goes_on {i = i} {s = s} t {n = n} x h k meets =
+  -- the place after the next item is within the input
+  pub walk_fits : {i : I} {s : S} (t : S) {n m : ℕ} (x : A) → IsWalking w Meets Ends steps i n s → steps s (Some x) t → m ≡ w.item_len x →
+      n + m ≤ items_len w.item_len (w.elements i)
+  walk_fits {i = i} {s = s} t {n = n} x h k e =
       let r = next_in w Meets Ends steps i s t n x h k in
-      let place : items_len w.item_len r.passed + w.item_len x ≡ items_len w.item_len (r.passed ++ (x ∷ [])) =
-      omega (arith, items_len-append w.item_len r.passed (x ∷ [])) in
+      omega (arith, r.place, e, ap (λ ys. items_len w.item_len ys) r.whole, items_len-append w.item_len r.passed (x ∷ r.rest))
+
+  pub walk_goes_on : {i : I} {s : S} (t : S) {n m : ℕ} (x : A) → IsWalking w Meets Ends steps i n s → steps s (Some x) t → m ≡ w.item_len x → Meets x →
+      IsWalking w Meets Ends steps i (n + m) t
+  walk_goes_on {i = i} {s = s} t {n = n} x h k e meets =
+      let r = next_in w Meets Ends steps i s t n x h k in
       record {
         passed = r.passed ++ (x ∷ []);
         rest = r.rest;
         whole = r.whole ∙ sym (append_assoc r.passed (x ∷ []) r.rest);
         meets = All-append Meets r.passed (x ∷ []) r.meets (All-cons Meets x [] meets (All-nil Meets));
-        gives = subst (λ m. AlwaysYields steps (λ p. p) t (placed w.item_len m r.rest)) place r.gives;
+        place_is = omega (arith, r.place, e, items_len-append w.item_len r.passed (x ∷ []));
+        gives = r.gives;
       }
 
-  pub walk_stops : {i : I} {s : S} (t : S) {n : ℕ} (x : A) → IsWalking w Meets Ends steps i s → steps s (Some (n, x)) t → Ends x →
+  pub walk_stops : {i : I} {s : S} (t : S) {n : ℕ} (x : A) → IsWalking w Meets Ends steps i n s → steps s (Some x) t → Ends x →
       IsPosition w Meets Ends i (Some n)
   walk_stops {i = i} {s = s} t {n = n} x h k m =
       let r = next_in w Meets Ends steps i s t n x h k in
@@ -126,5 +132,5 @@ module _ {I A S : Type 0} {w : Model I A} {Meets Ends : A → Type 0} {steps : S
         length_is = sym r.place;
       }
 
-  pub walk_ends : {i : I} {s : S} (t : S) → IsWalking w Meets Ends steps i s → steps s None t → IsPosition w Meets Ends i None
+  pub walk_ends : {i : I} {s : S} (t : S) {n : ℕ} → IsWalking w Meets Ends steps i n s → steps s None t → IsPosition w Meets Ends i None
   walk_ends {i = i} {s = s} t h k = ends_of w Meets Ends steps i s t h.passed h.rest h.whole h.meets h.gives k

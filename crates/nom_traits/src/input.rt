@@ -115,6 +115,12 @@ pub trait Input: Items + Viewed {
         ensures can { Self.IterIndices.can_next result }
         ensures ends { IsFinite (Self.IterIndices.remaining result) };
 
+    /// Whether `iter_indices` is quicker than adding up lengths: a hint, of which nothing is promised.
+    #[inline(always)]
+    fn knows_places(&self) -> bool {
+        false
+    }
+
     /// What `position_outside` answers, where the input knows a quicker way than item by item.
     fn class_end(&self, class: AsciiClass) -> Option<Option<usize>>
         ensures { MatchOption result (Unit {0})
@@ -149,12 +155,11 @@ pub trait Input: Items + Viewed {
         requires { P.IsAlwaysCallable predicate }
         ensures { IsPosition Self.model (λ x. P.post predicate x false) (λ x. P.post predicate x true) self.now result }
     {
-        for (place, item) in self.iter_indices() {
-            if predicate(item) {
-                return Some(place);
-            }
+        if self.knows_places() {
+            first_place(self, predicate)
+        } else {
+            length_before(self, predicate)
         }
-        None
     }
 
     /// The place of the first item that isn't of the class; `None` where all are.
@@ -279,4 +284,37 @@ pub trait Input: Items + Viewed {
             None => Err(Err::Incomplete(Needed::new(1))),
         }
     }
+}
+
+/// The place of the first item for which the predicate answers true, by the places of the items.
+#[inline(always)]
+fn first_place<I: Input, P: Fn(I::Item) -> bool>(input: &I, predicate: P) -> Option<usize>
+    requires { P.IsAlwaysCallable predicate }
+    ensures { IsPosition I.model (λ x. P.post predicate x false) (λ x. P.post predicate x true) input.now result }
+{
+    for (place, item) in input.iter_indices() {
+        if predicate(item) {
+            return Some(place);
+        }
+    }
+    None
+}
+
+/// The same, by the lengths of the items.
+#[inline(always)]
+fn length_before<I: Input, P: Fn(I::Item) -> bool>(input: &I, predicate: P) -> Option<usize>
+    requires { P.IsAlwaysCallable predicate }
+    ensures { IsPosition I.model (λ x. P.post predicate x false) (λ x. P.post predicate x true) input.now result }
+{
+    // The length is the bound of each place; it is read and not used.
+    let _length = input.input_len();
+    let mut place = 0;
+    for item in input.iter_elements() {
+        let behind = place + input.item_len(&item);
+        if predicate(item) {
+            return Some(place);
+        }
+        place = behind;
+    }
+    None
 }

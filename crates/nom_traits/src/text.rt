@@ -84,6 +84,11 @@ impl<'a> Input for &'a str {
         Some(text_outside(self, class))
     }
 
+    #[inline(always)]
+    fn knows_places(&self) -> bool {
+        true
+    }
+
     ghost more = { λ _. tt };
 
     ghost views = { λ x y h. h.elements_are };

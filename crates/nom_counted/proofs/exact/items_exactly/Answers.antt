@@ -6,7 +6,7 @@ use Rattle.nom_repeat.specs.Bounds.{exact_limits}
 use Rattle.nom_repeat.specs.declared.items.TooFew.TheVariants.{Added}
 use Rattle.nom_repeat.proofs.Parts.{shown_at}
 use Rattle.nom_repeat.proofs.Repeated.{collected_none}
-use Rattle.nom_repeat.proofs.Accumulating.{kept_none, can_push_first, can_push_next, pushed, room_built, room_grows}
+use Rattle.nom_repeat.proofs.Accumulating.{kept_none, kept_ready, built_any, pushed, room_built, room_grows}
 use Rattle.nom_repeat.proofs.ItemsShown.{items_full, items_too_few, items_failed, items_lack, items_part_ran_out, items_lack_room, items_more}
 use Rattle.nom_counted.proofs.Places.{is_below, is_over, one_longer}
 use Rattle.nom_counted.proofs.exact.items_exactly.Goals as goal
@@ -16,7 +16,6 @@ loop-done-init g c = record {
   state_kept = refl;
   collected = collected_none g.met.I.Items.lawful c.prove_known.ensures
       (kept_none g.K.Accumulator.Pushes g.K.Accumulator.CanPush (g.F.Parser.IsOutput (g.F.Parser.state c.args.parser.now)) _ _ c.requires.built, refl);
-  can_push = can_push_first g.K.Accumulator.Pushes g.K.Accumulator.CanPush (g.F.Parser.IsOutput (g.F.Parser.state c.args.parser.now)) _ _ c.requires.built;
 }
 
 pub loop-done-preserved : goal.loop-done-preserved
@@ -32,9 +31,16 @@ loop-done-preserved g c =
             item.built_is,
         one_longer _ _ i.collected.held.1,
       );
-      can_push = can_push_next g.K.Accumulator.Pushes g.K.Accumulator.CanPush (g.F.Parser.IsOutput (g.F.Parser.state c.args.parser.now)) _ _ _ pushes
-          i.can_push;
     }
+
+pub push_item-requires-clause-kept : goal.push_item-requires-clause-kept
+push_item-requires-clause-kept g c =
+    let i = c.loop-done.invariant in
+    kept_ready g.K.Accumulator.Pushes g.K.Accumulator.CanPush (g.F.Parser.IsOutput (g.F.Parser.state c.args.parser.now)) _ _ _ i.collected.trees
+    i.collected.held.0
+
+pub push_item-requires-clause-item : goal.push_item-requires-clause-item
+push_item-requires-clause-item g c = built_any _ _ _ (accepts c.in-Ok.ensures.shown).built_is
 
 pub returns-then-not-push_item-clause-shown : goal.returns-then-not-push_item-clause-shown
 returns-then-not-push_item-clause-shown g c =

@@ -1,5 +1,4 @@
 use Rattle.std.proofs.Common.{◌≡◌, ◌-◌, Some, length}
-use Rattle.std.specs.Prelude.{IfSome}
 use Rattle.nom_error.specs.Modes.{Built}
 use Rattle.nom_repeat.specs.Repeat.{TurnsBy}
 use Rattle.nom_repeat.specs.Items.{item_turn}
@@ -18,7 +17,6 @@ invariant-loop-done g l = record {
       l.fn.before vs)
       l.kept × (l.done ≡ length vs))
       l.fn.input l.rest;
-  can_push : IfSome l.kept g.K.Accumulator.CanPush;
 }
 
 abbrev pub decreases-loop-done : goal.decreases-loop-done

@@ -1,8 +1,11 @@
 use Rattle.std.proofs.Common.{rules, []}
 use Rattle.nom_internal.proofs.Shown.{accepts}
-use Rattle.nom_repeat.proofs.Accumulating.{kept_none, pushed, room_built, room_grows}
+use Rattle.nom_repeat.proofs.Accumulating.{built_any, kept_none, pushed, room_built, room_grows}
 use Rattle.nom_multi_separated.proofs.SeparatedShown.{first_missing, first_found, first_failed, first_lacks, first_lacks_room, nothing_yet}
 use Rattle.nom_multi_separated.proofs.lists.first_item.Goals as goal
+
+pub push_item-requires-clause-item : goal.push_item-requires-clause-item
+push_item-requires-clause-item g c = built_any _ _ _ (accepts c.in-Ok.ensures.shown).built_is
 
 pub returns-then-not-push_item-clause-shown : goal.returns-then-not-push_item-clause-shown
 returns-then-not-push_item-clause-shown g c =

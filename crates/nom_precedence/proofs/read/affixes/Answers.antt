@@ -2,7 +2,7 @@ use Rattle.std.proofs.Common.{rules, refl, ◌∙◌, false}
 use Rattle.nom_internal.specs.Cases.{labelled_meaning}
 use Rattle.nom_internal.proofs.Shown.{accepts}
 use Rattle.nom_repeat.specs.Accumulated.{Accumulated}
-use Rattle.nom_repeat.proofs.Accumulating.{kept_none, kept_ready, can_push_first, pushed, room_built, room_grows}
+use Rattle.nom_repeat.proofs.Accumulating.{kept_none, kept_ready, built_any, pushed, room_built, room_grows}
 use Rattle.nom_repeat.proofs.Parts.{part_refused, shown_at}
 use Rattle.nom_repeat.proofs.Repeated.{collected_none, is_empty, consumes, is_shorter}
 use Rattle.nom_precedence.specs.Stuck.Read.{Whole}
@@ -18,12 +18,14 @@ loop-next-init g c = record {
       (g.F.Parser.IsOutput (g.F.Parser.state c.args.parser.now)) _ _ c.requires.before);
 }
 
-pub push_item-requires : goal.push_item-requires
-push_item-requires g c =
+pub push_item-requires-clause-kept : goal.push_item-requires-clause-kept
+push_item-requires-clause-kept g c =
     let i = c.loop-next.invariant in
-    can_push_first g.K.Accumulator.Pushes g.K.Accumulator.CanPush (g.F.Parser.IsOutput (g.F.Parser.state c.args.parser.now)) _ _
-    (kept_ready g.K.Accumulator.Pushes g.K.Accumulator.CanPush (g.F.Parser.IsOutput (g.F.Parser.state c.args.parser.now)) _ _ _ i.collected.trees
-    i.collected.held)
+    kept_ready g.K.Accumulator.Pushes g.K.Accumulator.CanPush (g.F.Parser.IsOutput (g.F.Parser.state c.args.parser.now)) _ _ _ i.collected.trees
+    i.collected.held
+
+pub push_item-requires-clause-item : goal.push_item-requires-clause-item
+push_item-requires-clause-item g c = built_any _ _ _ (accepts c.in-Ok.ensures.shown).built_is
 
 pub returns-then-input_len-clause-shown : goal.returns-then-input_len-clause-shown
 returns-then-input_len-clause-shown g c =

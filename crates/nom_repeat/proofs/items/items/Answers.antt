@@ -2,7 +2,7 @@ use Rattle.std.proofs.Common.{rules, refl}
 use Rattle.nom_internal.proofs.Shown.{accepts}
 use Rattle.nom_repeat.proofs.Repeated.{collected_none, is_empty}
 use Rattle.nom_repeat.proofs.Counted.{counts_none, counts_more, below, at_bound, few_items, enough_items, left_falls}
-use Rattle.nom_repeat.proofs.Accumulating.{kept_none, can_push_first, can_push_next, pushed, room_built, room_grows}
+use Rattle.nom_repeat.proofs.Accumulating.{kept_none, kept_ready, built_any, pushed, room_built, room_grows}
 use Rattle.nom_repeat.proofs.ItemsShown.{items_full, items_refused, items_too_few, items_failed, items_lack, items_part_ran_out, items_stuck}
 use Rattle.nom_repeat.proofs.ItemsShown.{items_lack_room, items_more, moves, part_at, some_few}
 use Rattle.nom_internal.proofs.Consumed.{rest_length}
@@ -15,7 +15,6 @@ loop-input-init g c = record {
     kept_none g.K.Accumulator.Pushes g.K.Accumulator.CanPush (g.F.Parser.IsOutput (g.F.Parser.state c.args.parser.now)) _ _ c.requires.built,
     counts_none _ c.args.limits.most,
   );
-  can_push = can_push_first g.K.Accumulator.Pushes g.K.Accumulator.CanPush (g.F.Parser.IsOutput (g.F.Parser.state c.args.parser.now)) _ _ c.requires.built;
 }
 
 pub returns-then-is_full-clause-shown : goal.returns-then-is_full-clause-shown
@@ -32,6 +31,15 @@ returns-in-Some-clause-shown g c =
     let item = accepts part in
     items_stuck g.F.Error.ParseError.errors c.args.limits g.K.Accumulator.Grows (g.F.Parser.meaning (g.F.Parser.state c.args.parser.now)) i.collected is_below
     item c.in-Some.kind c.in-Some.ensures.0 (is_empty item.rest_is c.input_len-in-Ok.ensures c.input_len.ensures c.in-Some.ensures.1) c.refusal.ensures
+
+pub push_item-requires-clause-kept : goal.push_item-requires-clause-kept
+push_item-requires-clause-kept g c =
+    let i = c.loop-input.invariant in
+    kept_ready g.K.Accumulator.Pushes g.K.Accumulator.CanPush (g.F.Parser.IsOutput (g.F.Parser.state c.args.parser.now)) _ _ _ i.collected.trees
+    i.collected.held.0
+
+pub push_item-requires-clause-item : goal.push_item-requires-clause-item
+push_item-requires-clause-item g c = built_any _ _ _ (accepts c.in-Ok.ensures.shown).built_is
 
 pub returns-then-not-push_item-clause-shown : goal.returns-then-not-push_item-clause-shown
 returns-then-not-push_item-clause-shown g c =
@@ -67,8 +75,6 @@ loop-input-preserved g c =
                 item.built_is,
             counts_more c.args.limits.most _ _ _ _ i.collected.held.1 c.one_more-count.ensures,
           );
-      can_push = can_push_next g.K.Accumulator.Pushes g.K.Accumulator.CanPush (g.F.Parser.IsOutput (g.F.Parser.state c.args.parser.now)) _ _ _ pushes
-          i.can_push;
     }
 
 pub few-requires : goal.few-requires

@@ -1,5 +1,4 @@
 use Rattle.std.proofs.Common.{◌≡◌}
-use Rattle.std.specs.Prelude.{IfSome}
 use Rattle.nom_error.specs.Modes.{Built}
 use Rattle.nom_traits.specs.Input.{input_len}
 use Rattle.nom_repeat.specs.Repeat.{TurnsBy}
@@ -18,7 +17,6 @@ invariant-loop-input g l = record {
       (λ vs. Built g.OM.Output.Mode.BUILDS (Accumulated g.K.Accumulator.Pushes g.K.Accumulator.CanPush (g.F.Parser.IsOutput (g.F.Parser.state l.fn.parser))
       l.fn.before vs)
       l.kept × Counts l.fn.limits.most l.count vs) l.fn.input l.rest;
-  can_push : IfSome l.kept g.K.Accumulator.CanPush;
 }
 
 abbrev pub decreases-loop-input : goal.decreases-loop-input

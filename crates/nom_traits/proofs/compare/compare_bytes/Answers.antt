@@ -1,4 +1,4 @@
-use Rattle.std.proofs.Common.{◌≡◌, length, min, arith}
+use Rattle.std.proofs.Common.{arith}
 use Rattle.nom_traits.specs.CompareTags.{itself_form}
 use Rattle.nom_traits.proofs.ByteCompared.{fronts_differ, fronts_more, fronts_are, compared_error, compared_ok}
 use Rattle.nom_traits.proofs.compare.compare_bytes.Goals as goal

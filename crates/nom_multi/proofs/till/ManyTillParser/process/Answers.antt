@@ -3,7 +3,7 @@ use Rattle.std.specs.Prelude.{vec_len, vec_capacity}
 use Rattle.std.specs.List.{AllZip}
 use Rattle.nom_error.specs.Modes.{modes}
 use Rattle.nom_internal.proofs.Shown.{accepts, both_built, built_error}
-use Rattle.nom_repeat.proofs.Accumulating.{room_built}
+use Rattle.nom_repeat.proofs.Accumulating.{built_any, room_built}
 use Rattle.nom_repeat.proofs.Repeated.{collected_none, is_empty, consumes, is_shorter}
 use Rattle.nom_multi.specs.Till.{end_or_item}
 use Rattle.nom_multi.proofs.TillShown.{is_end, is_item, stands_at, till_ended, till_stuck, till_lacks_room, till_more, till_refused, till_failed}
@@ -47,6 +47,14 @@ returns-then-input_len-clause-shown g c =
     (g.G.Parser.IsOutput (g.G.Parser.state c.args.self.now.end)) t.1 o.1)
     (modes g.OM.Output.Mode.BUILDS g.OM.Error.Mode.BUILDS g.OM.Incomplete.IsStreaming.STREAMING) i.collected item.0 found.answered item.1
     (is_empty found.rest_is c.input_len.ensures c.input_len-in-Item.ensures c.if-input_len.true) _ c.refusal.ensures
+
+pub push_item-requires-clause-kept : goal.push_item-requires-clause-kept
+push_item-requires-clause-kept g c = built_any _ _ _ c.loop-next.invariant.collected.held
+
+pub push_item-requires-clause-item : goal.push_item-requires-clause-item
+push_item-requires-clause-item g c =
+    let found = accepts c.in-Ok.ensures.shown in
+    built_any _ _ _ (is_item _ _ _ found.tree c.told.ensures c.in-Item.is found.built_is).2
 
 pub returns-then-not-push_item-clause-shown : goal.returns-then-not-push_item-clause-shown
 returns-then-not-push_item-clause-shown g c =
