@@ -9,6 +9,6 @@ returns-then-keep-clause-pushed g c =
       joined = _;
       joins = left.joined;
       under = left.under;
-      stack_is = ap (λ s. (c.close-left.result.0, c.args.operator) ∷ s) (c.accumulator.ensures.kept (search rules));
+      stack_is = ap (λ s. (c.close-left.result.0, c.args.operator) ∷ s) (c.keep.ensures.kept (search rules));
       value_is = refl;
     }
