@@ -119,7 +119,7 @@ pub fn many<A: Allocator + Copy, R, F, C>(alloc: A, range: R, parser: F) -> Many
         alloc,
         range,
         parser,
-        collection: [],
+        collection: None,
     }
 }
 

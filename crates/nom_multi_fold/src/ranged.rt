@@ -30,7 +30,7 @@ pub struct Many<A, R, F, C> {
     pub range: R,
     pub parser: F,
     /// Nothing: it shows the type of the collection, with its lifetimes.
-    pub collection: [C; 0],
+    pub collection: Option<C>,
 }
 
 impl<
