@@ -46,48 +46,32 @@ where
     }
 }
 
-/// What a list of tags answers over a range: one call each, since the size of the range and of the item in the
-/// list's type has to be known.
-fn list_over<'a, I>(question: Question<I>, counts: &Counts, text: &'a str) -> Option<Answer>
+/// What a list over a range answers.
+fn listed<I, P, R>(question: Question<I>, range: R, item: P) -> Option<Answer>
 where
-    I: Input + AsBytes + Debug + Compare<&'a str>,
+    I: Input + AsBytes + Debug,
+    P: Parser<I, Output = I, Error = Error<I>> + Drop,
+    R: NomRange<usize> + Drop,
+    requires { (P.meaning (P.state item)).IsSound }
 {
-    let alloc = question.alloc;
-    let item = tag(text);
-    match counts {
-        Counts::Between(first, end) => {
-            question.ask(many::<_, _, _, Vec<I>>(alloc, *first..*end, item))
-        }
-        Counts::Through(first, last) => {
-            question.ask(many::<_, _, _, Vec<I>>(alloc, *first..=*last, item))
-        }
-        Counts::From(first) => question.ask(many::<_, _, _, Vec<I>>(alloc, *first.., item)),
-        Counts::All => question.ask(many::<_, _, _, Vec<I>>(alloc, .., item)),
-        Counts::Before(end) => question.ask(many::<_, _, _, Vec<I>>(alloc, ..*end, item)),
-        Counts::UpTo(last) => question.ask(many::<_, _, _, Vec<I>>(alloc, ..=*last, item)),
-        Counts::Exactly(count) => question.ask(many::<_, _, _, Vec<I>>(alloc, *count, item)),
-    }
+    question.ask(many::<_, _, _, Vec<I>>(question.alloc, range, item))
 }
 
-/// The same of a list of tags with a final refusal.
-fn list_of_cut_over<'a, I>(question: Question<I>, counts: &Counts, text: &'a str) -> Option<Answer>
+/// The same, over a range by its ends.
+fn list_over<I, P>(question: Question<I>, counts: &Counts, item: P) -> Option<Answer>
 where
-    I: Input + AsBytes + Debug + Compare<&'a str>,
+    I: Input + AsBytes + Debug,
+    P: Parser<I, Output = I, Error = Error<I>> + Drop,
+    requires { (P.meaning (P.state item)).IsSound }
 {
-    let alloc = question.alloc;
-    let item = cut(tag(text));
     match counts {
-        Counts::Between(first, end) => {
-            question.ask(many::<_, _, _, Vec<I>>(alloc, *first..*end, item))
-        }
-        Counts::Through(first, last) => {
-            question.ask(many::<_, _, _, Vec<I>>(alloc, *first..=*last, item))
-        }
-        Counts::From(first) => question.ask(many::<_, _, _, Vec<I>>(alloc, *first.., item)),
-        Counts::All => question.ask(many::<_, _, _, Vec<I>>(alloc, .., item)),
-        Counts::Before(end) => question.ask(many::<_, _, _, Vec<I>>(alloc, ..*end, item)),
-        Counts::UpTo(last) => question.ask(many::<_, _, _, Vec<I>>(alloc, ..=*last, item)),
-        Counts::Exactly(count) => question.ask(many::<_, _, _, Vec<I>>(alloc, *count, item)),
+        Counts::Between(first, end) => listed(question, *first..*end, item),
+        Counts::Through(first, last) => listed(question, *first..=*last, item),
+        Counts::From(first) => listed(question, *first.., item),
+        Counts::All => listed(question, .., item),
+        Counts::Before(end) => listed(question, ..*end, item),
+        Counts::UpTo(last) => listed(question, ..=*last, item),
+        Counts::Exactly(count) => listed(question, *count, item),
     }
 }
 
@@ -98,10 +82,10 @@ where
 {
     match (&call.shape, &call.item, &call.part) {
         (Shape::Many(counts), Item::Itself, Part::Tag) => {
-            list_over(question, counts, call.part_text)
+            list_over(question, counts, tag(call.part_text))
         }
         (Shape::Many(counts), Item::Cut, Part::Tag) => {
-            list_of_cut_over(question, counts, call.part_text)
+            list_over(question, counts, cut(tag(call.part_text)))
         }
         _ => None,
     }

@@ -51,6 +51,10 @@ where
         Shape::Many1 => in_modes::<S, _, _>(many1(heap, item), input),
         Shape::Count => in_modes::<S, _, _>(count(heap, item, 20), input),
         Shape::ManyMN(min, max) => in_modes::<S, _, _>(many_m_n(heap, min, max, item), input),
+        Shape::Many => in_modes::<S, _, _>(
+            many::<_, _, _, Vec<I, &LocalHeap>>(heap, 1..=20, item),
+            input,
+        ),
         shape => apart::<S, _, _>(heap, shape, item, input),
     }
 }
@@ -106,13 +110,9 @@ where
     }
 }
 
-/// What a list of a tag answers. The size of a `many` has to be known.
+/// What a list of a tag answers.
 fn of_tag<S: IsStreaming>(heap: &LocalHeap, shape: Shape, text: &[u8], input: &[u8]) -> [Told; 4] {
     match shape {
-        Shape::Many => in_modes::<S, _, _>(
-            many::<_, _, _, Vec<&[u8], &LocalHeap>>(heap, 1..=20, tag(text)),
-            input,
-        ),
         Shape::ManyTill => until::<S, _, _, _>(heap, tag(text), tag(b"b".as_slice()), input),
         _ => of_shape::<S, _, _>(heap, shape, tag(text), input),
     }
