@@ -146,8 +146,8 @@ module _ {I A U W E : Type 0} (w : Model I A) (l : InputLaws w) (IsControl : A �
   )
 
   -- where a piece is found, it stands there
-  piece_at : (i : I) (n : ℕ) (v : Piece U W) → w.IsKnown i → (next_piece_meaning w IsControl lack m g).answers s i (Accept n (Found v)) → HasPiece i
-  piece_at i n v h a = by a.first a.answered a.goes_on
+  next_piece_at : (i : I) (n : ℕ) (v : Piece U W) → w.IsKnown i → (next_piece_meaning w IsControl lack m g).answers s i (Accept n (Found v)) → HasPiece i
+  next_piece_at i n v h a = by a.first a.answered a.goes_on
     where
       on_left : (k : ℕ) (left : Bool) → (k ≡ 0) → (j : I) → IsSuffixOf w i k j → (o : Outcome (NextPiece (Piece U W))) →
           (by_left Done (piece_meaning w IsControl lack m g) left).answers s j o → Accept n (Found v) ≡ after k (λ t. t) o → HasPiece i
@@ -178,7 +178,7 @@ module _ {I A U W E : Type 0} (w : Model I A) (l : InputLaws w) (IsControl : A �
   taken_by : (k : ℕ) (i : I) (a : ℕ) (v : Piece U W) (reply : Option (Outcome (NextPiece (Piece U W)))) → w.IsKnown i →
       Replies None (λ _. (next_piece_meaning w IsControl lack m g).answers s) k i reply → Takes a v ≡ escape_turn k reply → HasPiece i
   taken_by k i a v (Some (Accept n u)) h r e =
-      let x = next_piece_taken i u n k a v e in piece_at i n x.0 h (subst (λ z. (next_piece_meaning w IsControl lack m g).answers s i (Accept n z)) x.1 r.1)
+      let x = next_piece_taken i u n k a v e in next_piece_at i n x.0 h (subst (λ z. (next_piece_meaning w IsControl lack m g).answers s i (Accept n z)) x.1 r.1)
   taken_by k i a v (Some Refuse) h r e = absurd (cc (e))
   taken_by k i a v (Some Fail) h r e = absurd (cc (e))
   taken_by k i a v (Some TooLarge) h r e = absurd (cc (e))
@@ -199,7 +199,7 @@ module _ {I A U W E : Type 0} (w : Model I A) (l : InputLaws w) (IsControl : A �
   on_next_piece : (k : ℕ) (j : I) (n : ℕ) (u : NextPiece (Piece U W)) → w.IsKnown j →
       (next_piece_meaning w IsControl None m g).answers mode.streaming j (Accept n u) →
       OnNextPiece (mode.outputs ≡ true) ((k ≡ 0) × (mode.errors ≡ true) × errs.grows) ((mode.errors ≡ true) × errs.grows) u → (mode.outputs ≡ true) × Piece_at j
-  on_next_piece k j n (Found v) h a z = (z, piece_at w l IsControl None m g p mode.streaming j n v h a)
+  on_next_piece k j n (Found v) h a z = (z, next_piece_at w l IsControl None m g p mode.streaming j n v h a)
   on_next_piece k j n Other h a z = absurd (none z.2)
   on_next_piece k j n Dangling h a z = absurd (none z.1)
   on_next_piece k j n Done h a z = absurd z

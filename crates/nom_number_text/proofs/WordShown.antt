@@ -18,26 +18,26 @@ use Rattle.nom_traits.specs.Input.{Model, InputLaws, IsSuffixOf, items_len}
 use Rattle.nom_traits.specs.Rests.{rest_rest, items_len-append}
 use Rattle.nom_character_first.specs.FirstItem.{IsFirstItem}
 use Rattle.nom_character.specs.LineMatches.{Match, at_end, one_more}
-use Rattle.nom_character.specs.LineMatches.Match.{Stands, Absent, Begins}
+use Rattle.nom_character.specs.LineMatches.Match.{Full, Absent, Partial}
 use Rattle.nom_character.proofs.Lines.{behind_head, before_rest}
 use Rattle.nom_number_text.specs.declared.word.WordAt.TheVariants as Found
 use Rattle.nom_number_text.specs.Words.{word_in, word_meaning, IsWordAt}
 
 -- that many items before
 abbrev pub later : ℕ → Match → Match
-later k (Stands n) = Stands (n + k)
+later k (Full n) = Full (n + k)
 later k Absent = Absent
-later k (Begins lack) = Begins lack
+later k (Partial lack) = Partial lack
 
 later_none : (a : Match) → a ≡ later 0 a
-later_none (Stands n) = ap Stands (omega arith)
+later_none (Full n) = ap Full (omega arith)
 later_none Absent = refl
-later_none (Begins lack) = refl
+later_none (Partial lack) = refl
 
 later_more : (k : ℕ) (a : Match) → later k (one_more a) ≡ later (k + 1) a
-later_more k (Stands n) = ap Stands (omega arith)
+later_more k (Full n) = ap Full (omega arith)
 later_more k Absent = refl
-later_more k (Begins lack) = refl
+later_more k (Partial lack) = refl
 
 later_end : (k : ℕ) (s : Bool) (lack : Option ℕ) → later k (at_end s lack Absent) ≡ at_end s lack Absent
 later_end k true lack = refl
@@ -80,7 +80,7 @@ module _ {I A : Type 0} (w : Model I A) (code : A → ℕ) (word : List ℕ) (i 
       f.place,
       f.rest_is,
       λ s. f.word_is s ∙
-          (ap (λ cs. later k (word_in code cs s (w.elements j))) (drop_all k word h) ∙ ap Stands (behind f.count_is)),
+          (ap (λ cs. later k (word_in code cs s (w.elements j))) (drop_all k word h) ∙ ap Full (behind f.count_is)),
     )
       where
         behind : length f.rest_is.front ≡ k → 0 + k ≡ length f.rest_is.front
@@ -139,7 +139,7 @@ module _ {I A E : Type 0} (w : Model I A) (code : A → ℕ) (errs : Errors I E)
   word_stands j x f built =
       let slice : Slice w = record { items = f.1.front; mark = w.mark i } in
       let first : IsFirst w i f.0 slice = record { rest = w.elements j; whole = f.1.whole; length_is = f.1.length_is; mark_is = refl } in
-      accepted slice f.1 (first, subst (λ cs. word_in code cs mode.streaming (w.elements i) ≡ Stands (length f.1.front)) same (f.2 mode.streaming))
+      accepted slice f.1 (first, subst (λ cs. word_in code cs mode.streaming (w.elements i) ≡ Full (length f.1.front)) same (f.2 mode.streaming))
       (built f.0 slice f.1 first)
 
   pub word_absent : (f : Answer.Err E (Option E) Needed) → IsWordAt w code letters i Found.Differs →
@@ -151,7 +151,7 @@ module _ {I A E : Type 0} (w : Model I A) (code : A → ℕ) (errs : Errors I E)
     lacks s = subst (λ cs. word_in code cs s (w.elements i) ≡ at_end s (Some k) Absent) same (h.1 s)
 
     pub word_lacks : (n : Needed) → mode.streaming ≡ true → size_of n ≡ Some k → WordShown (Err (Incomplete n))
-    word_lacks n s e = undecided refl (s, lacks true ∙ ap Begins (sym e))
+    word_lacks n s e = undecided refl (s, lacks true ∙ ap Partial (sym e))
 
     pub word_ends : (f : Answer.Err E (Option E) Needed) → mode.streaming ≡ false → Refuses (errs.of_kind i Kind.Float) errs.grows mode.errors f →
         WordShown (Err f)

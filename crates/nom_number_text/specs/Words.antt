@@ -9,7 +9,7 @@ use Rattle.nom_internal.specs.Mapped.{renamed_meaning}
 use Rattle.nom_internal.specs.Meaning.{Meaning}
 use Rattle.nom_branch.specs.Alternatives.{next_meaning, choice_meaning}
 use Rattle.nom_character.specs.LineMatches.{Match, at_end, one_more, match_meaning}
-use Rattle.nom_character.specs.LineMatches.Match.{Stands, Absent}
+use Rattle.nom_character.specs.LineMatches.Match.{Full, Absent}
 use Rattle.nom_number_text.specs.declared.word.WordAt.{WordAt}
 use Rattle.nom_number_text.specs.declared.word.WordAt.TheVariants as Found
 use Rattle.nom_number_text.specs.declared.word.Exception.{Exception}
@@ -19,7 +19,7 @@ use Rattle.nom_number_text.specs.declared.word.Exception.TheVariants as Named
 -- Where the items end before it does, as many items lack as letters are left.
 module _ {A : Type 0} (code : A → ℕ) where
   abbrev pub word_in : (word : List ℕ) → (streaming : Bool) → List A → Match
-  word_in [] streaming xs = Stands 0
+  word_in [] streaming xs = Full 0
   word_in (c ∷ cs) streaming [] = at_end streaming (Some (length cs + 1)) Absent
   word_in (c ∷ cs) streaming (x ∷ xs) = cond (to_ascii_lowercase (code x) == c) (one_more (word_in cs streaming xs)) Absent
 
@@ -29,7 +29,7 @@ word_meaning w code errs word = match_meaning w (word_in code word) errs Kind.Fl
 
 -- what stands at the start of an input, in either mode: all of the word, something else, or a beginning of it of which so many letters lack
 abbrev pub IsWordAt : {I A : Type 0} (w : Model I A) → (code : A → ℕ) → List ℕ → I → WordAt I → Type 0
-IsWordAt w code word i (Found.Stands j) = (n : ℕ) × (r : IsSuffixOf w i n j) × ((s : Bool) → word_in code word s (w.elements i) ≡ Stands (length r.front))
+IsWordAt w code word i (Found.Stands j) = (n : ℕ) × (r : IsSuffixOf w i n j) × ((s : Bool) → word_in code word s (w.elements i) ≡ Full (length r.front))
 IsWordAt w code word i Found.Differs = (s : Bool) → word_in code word s (w.elements i) ≡ Absent
 IsWordAt w code word i (Found.Lacks k) = (0 < k) × ((s : Bool) → word_in code word s (w.elements i) ≡ at_end s (Some k) Absent)
 

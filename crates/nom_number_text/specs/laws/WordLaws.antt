@@ -13,15 +13,15 @@ use Rattle.nom_internal.specs.Pinned.{IsPinned, slice_pinned, either_pinned}
 use Rattle.nom_internal.specs.Meaning.{Meaning, IsLawful, IsSteady}
 use Rattle.nom_branch.specs.laws.AlternativeLaws.{next_lawful, next_stays, choice_lawful, choice_steady, stays}
 use Rattle.nom_character.specs.LineMatches.{Match, one_more}
-use Rattle.nom_character.specs.LineMatches.Match.{Stands, Absent, Begins}
+use Rattle.nom_character.specs.LineMatches.Match.{Full, Absent, Partial}
 use Rattle.nom_character.specs.laws.LineMatchLaws.{IsSettled, LineMatchLaws, match_lawful, match_steady}
 use Rattle.nom_number_text.specs.laws.FloatLaws.{IsStream}
 use Rattle.nom_number_text.specs.Words.{word_in, word_meaning, exceptions_meaning, as_float_meaning}
 
 settled_less : (a : Match) → IsSettled (one_more a) → IsSettled a
-settled_less (Stands n) h = tt
+settled_less (Full n) h = tt
 settled_less Absent h = tt
-settled_less (Begins lack) h = h
+settled_less (Partial lack) h = h
 
 module _ {A : Type 0} (code : A → ℕ) where
   by_letter : (b : Bool) (p q : Match) → (IsSettled p → q ≡ p) → IsSettled (cond b (one_more p) Absent) →
