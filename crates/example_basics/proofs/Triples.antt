@@ -185,7 +185,9 @@ three_frugal i (RunsOutNext x) = x.fact.outcome_is
 
 pairs_are : (t : ℕ × ℕ × ℕ) (u : (ℕ × ℕ) × ℕ) → PairOutput (PairOutput (IsViewed itself) (IsViewed itself)) (IsViewed itself) u ((t.0, t.1), t.2) →
     ((t.0, t.1), t.2) ≡ u
-pairs_are t u h = cc (h.0.0, h.0.1, h.1)
+pairs_are t u h =
+    let make : ℕ → ℕ → ℕ → (ℕ × ℕ) × ℕ = λ x y z. ((x, y), z) in
+    ap (λ x. make x t.1 t.2) h.0.0 ∙ (ap (λ y. make u.0.0 y t.2) h.0.1 ∙ ap (λ z. make u.0.0 u.0.1 z) h.1)
 
 -- what the tuple accepts
 pub triple_read : {i j : Text} {t : ℕ × ℕ × ℕ} → TripleAnswer i (Ok (j, t)) → IsTriple i j t
