@@ -18,6 +18,9 @@ pub struct Held<A: Allocator> {
     pub end: usize,
 }
 
+// So long a buffer costs little, and holds many small reads.
+const SMALL: usize = 4096;
+
 // Whether a read was interrupted.
 fn is_interrupted(answer: &io::Result<usize>) -> bool
     ensures { result ≡ true → (e : _) × (answer.now ≡ Err e) }
@@ -137,6 +140,44 @@ impl<A: Allocator> Held<A> {
         match self.bytes.resize(wanted, 0) {
             Ok(()) => Ok(()),
             Err(_) => unreachable!(),
+        }
+    }
+
+    /// Makes room for so many more bytes after them, and may move them to the front. The buffer gets longer than `most` only
+    /// where these bytes make it so.
+    #[inline(always)]
+    pub fn find_room(&mut self, count: usize, most: usize) -> Result<(), OutOfMemory>
+        requires within { IsWithin self.old }
+        requires fits { length (held_of self.old) + count < 2 ^ 64 }
+        ensures within { IsWithin self.new }
+        ensures same { held_of self.new ≡ held_of self.old }
+        ensures room { OnOk result (self.new.end + count ≤ vec_len self.new.bytes) }
+        ensures lacks { OnErr result (vec_capacity self.new.bytes < length (held_of self.new) + count) }
+        ensures bounded { vec_len self.new.bytes ≤ max (vec_len self.old.bytes) (max most (length (held_of self.old) + count)) }
+    {
+        if self.bytes.len() - self.end < count {
+            return self.clear_room(count, most);
+        }
+        Ok(())
+    }
+
+    // The same, where there is no room behind them. A buffer too short for them grows to `SMALL` bytes, if it may be that
+    // long, so that small reads seldom move bytes.
+    #[inline(never)]
+    fn clear_room(&mut self, count: usize, most: usize) -> Result<(), OutOfMemory>
+        requires within { IsWithin self.old }
+        requires fits { length (held_of self.old) + count < 2 ^ 64 }
+        ensures within { IsWithin self.new }
+        ensures same { held_of self.new ≡ held_of self.old }
+        ensures room { OnOk result (self.new.end + count ≤ vec_len self.new.bytes) }
+        ensures lacks { OnErr result (vec_capacity self.new.bytes < length (held_of self.new) + count) }
+        ensures bounded { vec_len self.new.bytes ≤ max (vec_len self.old.bytes) (max most (length (held_of self.old) + count)) }
+    {
+        self.settle();
+        let ample = SMALL.min(most).saturating_sub(self.end).max(count);
+        match self.make_room(ample) {
+            Ok(()) => Ok(()),
+            Err(_) => self.make_room(count),
         }
     }
 
