@@ -1,5 +1,5 @@
 //! The bytes that were read and aren't used yet, and reads of more.
-ghost use Rattle.std.specs.Prelude.{◌≡◌, ℕ, true, ◌+◌, ◌^◌, ◌<◌, ◌≤◌, ◌++◌, List, [], Err, drop, length, max, IfOk, OnErr, OnOk, vec_capacity, vec_len};
+ghost use Rattle.std.specs.Prelude.{◌≡◌, ℕ, true, ◌+◌, ◌-◌, ◌^◌, ◌<◌, ◌≤◌, ◌++◌, List, [], Err, drop, length, max, IfOk, OnErr, OnOk, vec_capacity, vec_len};
 ghost use Rattle.std.specs.Io.{ReadsAtMost};
 ghost use Rattle.std.specs.Io.KnownBytes.{Consumes, IsAtEnd, Keeps, ReadConsumes};
 ghost use Rattle.nom_stream.specs.Held.{held_of, last_of, IsWithin};
@@ -98,6 +98,19 @@ impl<A: Allocator> Held<A> {
         ensures bytes { self.new.bytes ≡ self.old.bytes }
     {
         self.start += count;
+    }
+
+    /// All but the last bytes are used: as many are left.
+    #[inline(always)]
+    pub fn leave(&mut self, left: usize)
+        requires within { IsWithin self.old }
+        requires left { left ≤ length (held_of self.old) }
+        ensures within { IsWithin self.new }
+        ensures others { held_of self.new ≡ drop (length (held_of self.old) - left) (held_of self.old) }
+        ensures start { self.new.start ≡ self.old.start + (length (held_of self.old) - left) }
+        ensures bytes { self.new.bytes ≡ self.old.bytes }
+    {
+        self.start = self.end - left;
     }
 
     /// Moves the bytes to the front, over those that are used.
