@@ -100,7 +100,8 @@ impl<A: Allocator> Held<A> {
         self.start += count;
     }
 
-    /// All but the last bytes are used: as many are left.
+    /// All but the last bytes are used: so many are left. The start follows from the end, which stays, with no step by way
+    /// of the bytes that are used: the next parse waits for it.
     #[inline(always)]
     pub fn leave(&mut self, left: usize)
         requires within { IsWithin self.old }
