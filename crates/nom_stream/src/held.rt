@@ -1,5 +1,5 @@
 //! The bytes that were read and aren't used yet, and reads of more.
-ghost use Rattle.std.specs.Prelude.{◌≡◌, ℕ, true, ◌+◌, ◌^◌, ◌<◌, ◌≤◌, ◌++◌, List, [], Err, drop, length, max, IfOk, OnErr, OnOk, vec_capacity, vec_len};
+ghost use Rattle.std.specs.Prelude.{◌≡◌, ℕ, true, ◌+◌, ◌-◌, ◌^◌, ◌<◌, ◌≤◌, ◌++◌, List, [], Err, drop, length, max, IfOk, OnErr, OnOk, vec_capacity, vec_len};
 ghost use Rattle.std.specs.Io.{ReadsAtMost};
 ghost use Rattle.std.specs.Io.KnownBytes.{Consumes, IsAtEnd, Keeps, ReadConsumes};
 ghost use Rattle.nom_stream.specs.Held.{held_of, last_of, IsWithin};
@@ -17,6 +17,9 @@ pub struct Held<A: Allocator> {
     pub start: usize,
     pub end: usize,
 }
+
+// So long a buffer costs little, and holds many small reads.
+const SMALL: usize = 4096;
 
 // Whether a read was interrupted.
 fn is_interrupted(answer: &io::Result<usize>) -> bool
@@ -97,6 +100,20 @@ impl<A: Allocator> Held<A> {
         self.start += count;
     }
 
+    /// All but the last bytes are used: so many are left. The start follows from the end, which stays, with no step by way
+    /// of the bytes that are used: the next parse waits for it.
+    #[inline(always)]
+    pub fn leave(&mut self, left: usize)
+        requires within { IsWithin self.old }
+        requires left { left ≤ length (held_of self.old) }
+        ensures within { IsWithin self.new }
+        ensures others { held_of self.new ≡ drop (length (held_of self.old) - left) (held_of self.old) }
+        ensures start { self.new.start ≡ self.old.start + (length (held_of self.old) - left) }
+        ensures bytes { self.new.bytes ≡ self.old.bytes }
+    {
+        self.start = self.end - left;
+    }
+
     /// Moves the bytes to the front, over those that are used.
     pub fn settle(&mut self)
         requires { IsWithin self.old }
@@ -137,6 +154,44 @@ impl<A: Allocator> Held<A> {
         match self.bytes.resize(wanted, 0) {
             Ok(()) => Ok(()),
             Err(_) => unreachable!(),
+        }
+    }
+
+    /// Makes room for so many more bytes after them, and may move them to the front. The buffer gets longer than `most` only
+    /// where these bytes make it so.
+    #[inline(always)]
+    pub fn find_room(&mut self, count: usize, most: usize) -> Result<(), OutOfMemory>
+        requires within { IsWithin self.old }
+        requires fits { length (held_of self.old) + count < 2 ^ 64 }
+        ensures within { IsWithin self.new }
+        ensures same { held_of self.new ≡ held_of self.old }
+        ensures room { OnOk result (self.new.end + count ≤ vec_len self.new.bytes) }
+        ensures lacks { OnErr result (vec_capacity self.new.bytes < length (held_of self.new) + count) }
+        ensures bounded { vec_len self.new.bytes ≤ max (vec_len self.old.bytes) (max most (length (held_of self.old) + count)) }
+    {
+        if self.bytes.len() - self.end < count {
+            return self.clear_room(count, most);
+        }
+        Ok(())
+    }
+
+    // The same, where there is no room behind them. A buffer too short for them grows to `SMALL` bytes, if it may be that
+    // long, so that small reads seldom move bytes.
+    #[inline(never)]
+    fn clear_room(&mut self, count: usize, most: usize) -> Result<(), OutOfMemory>
+        requires within { IsWithin self.old }
+        requires fits { length (held_of self.old) + count < 2 ^ 64 }
+        ensures within { IsWithin self.new }
+        ensures same { held_of self.new ≡ held_of self.old }
+        ensures room { OnOk result (self.new.end + count ≤ vec_len self.new.bytes) }
+        ensures lacks { OnErr result (vec_capacity self.new.bytes < length (held_of self.new) + count) }
+        ensures bounded { vec_len self.new.bytes ≤ max (vec_len self.old.bytes) (max most (length (held_of self.old) + count)) }
+    {
+        self.settle();
+        let ample = SMALL.min(most).saturating_sub(self.end).max(count);
+        match self.make_room(ample) {
+            Ok(()) => Ok(()),
+            Err(_) => self.make_room(count),
         }
     }
 

@@ -62,11 +62,12 @@ pub fn take<A: Allocator, G: Grammar>(
     let len = input.len();
     match grammar.item(input, more) {
         Ok((rest, item)) => {
-            let used = len - rest.len();
+            let left = rest.len();
+            let used = len - left;
             if used == 0 {
                 return Taken::Nothing;
             }
-            held.consume(used);
+            held.leave(left);
             Taken::Item(used, item)
         }
         Err(stop) => stopped(stop),

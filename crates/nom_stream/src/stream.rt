@@ -90,7 +90,6 @@ impl<R: Read, A: Allocator + Copy> Stream<R, A> {
         requires open { IsOpen R.remaining self.old }
         requires goes_on { self.old.ended ≡ false }
         requires some { 0 < count }
-        requires front { self.old.held.start ≡ 0 }
         requires most { length (held_of self.old.held) + count ≤ self.old.settings.most }
         requires fits { length (held_of self.old.held) + count < 2 ^ 64 }
         requires asks { count ≤ most_read self.old.settings }
@@ -98,10 +97,9 @@ impl<R: Read, A: Allocator + Copy> Stream<R, A> {
         ensures reads { ReadsOnce R.remaining self.old self.new result }
         ensures bound { IfOk result (λ n. n ≤ count) }
         ensures memory { result ≡ Err Unread.OutOfMemory → LacksRoom self.new }
-        ensures others { (self.new.held.start ≡ 0) × (self.new.settings ≡ self.old.settings)
-            × (self.new.offset ≡ self.old.offset) × (self.new.ended ≡ false) }
+        ensures others { (self.new.settings ≡ self.old.settings) × (self.new.offset ≡ self.old.offset) × (self.new.ended ≡ false) }
     {
-        match self.held.make_room(count) {
+        match self.held.find_room(count, self.settings.most) {
             Ok(()) => {}
             Err(_) => return Err(Unread::OutOfMemory),
         }
@@ -128,7 +126,6 @@ impl<R: Read, A: Allocator + Copy> Stream<R, A> {
         ensures settings { self.new.settings ≡ self.old.settings }
         ensures offset { self.new.offset ≡ self.old.offset }
     {
-        self.held.settle();
         let mut wanted = wants;
         while wanted > 0 && self.held.len() < self.settings.most {
             let spare = self.settings.most - self.held.len();
@@ -232,7 +229,7 @@ impl<R: Read, A: Allocator + Copy> Stream<R, A> {
     ///
     /// What is held is parsed. Where it isn't decided more is read, and it is parsed again. An item's bytes aren't held
     /// any more, but `last` lends them until the next call. After a `Stop` all is held, and the call can be made again.
-    #[inline]
+    #[inline(always)]
     pub fn next_item<G: Grammar>(
         &mut self,
         grammar: &mut G,

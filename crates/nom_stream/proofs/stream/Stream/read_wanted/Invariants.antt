@@ -9,7 +9,6 @@ invariant-loop-wanted g l = record {
   opened : IsOpen g.R.Read.remaining l.self;
   fills : Fills g.R.Read.remaining l.fn.self l.self;
   goes_on : l.self.ended ≡ false;
-  front : l.self.held.start ≡ 0;
   settings : l.self.settings ≡ l.fn.self.settings;
   offset : l.self.offset ≡ l.fn.self.offset;
   counts : l.wanted ≡ l.fn.wants + length (held_of l.fn.self.held) - length (held_of l.self.held);
