@@ -23,8 +23,12 @@
 mod located;
 mod precedence;
 mod streams;
+mod texts;
+mod wires;
 
 use crate::streams::Items;
+use crate::texts::Text;
+use crate::wires::Wire;
 use nom::bits::{bits, complete as complete_bits};
 use nom::branch::alt;
 use nom::bytes::{tag, take_until, take_while1};
@@ -68,9 +72,23 @@ pub struct Round {
 
 /// A file: its bytes, and the text that they are; an empty text where they are none.
 #[derive(Clone, Copy)]
-struct Contents<'a> {
-    bytes: &'a [u8],
-    text: &'a str,
+pub struct Contents<'a> {
+    pub bytes: &'a [u8],
+    pub text: &'a str,
+}
+
+/// A case: a parser, and the words of its line.
+pub trait Case: Copy {
+    fn name(self) -> &'static str;
+
+    /// What a list holds.
+    fn items(self) -> &'static str;
+
+    /// What a file has not, that isn't accepted.
+    fn lacking(self) -> &'static str;
+
+    /// One round.
+    fn run(self, alloc: Global, contents: Contents<'_>) -> Option<Round>;
 }
 
 /// How many bytes of the whole were consumed.
@@ -124,7 +142,7 @@ fn slice<'a, P: Parser<&'a [u8], Output = &'a [u8]> + Drop>(
 
 /// How many items a list has, of a parser that gives one; none where it has none.
 #[inline(always)]
-fn list<'a, T: Drop, P: Parser<&'a [u8], Output = Vec<T>> + Drop>(
+pub fn list<'a, T: Drop, P: Parser<&'a [u8], Output = Vec<T>> + Drop>(
     mut parser: P,
     bytes: &'a [u8],
 ) -> Option<Round>
@@ -189,18 +207,19 @@ fn by_separated(alloc: Global, bytes: &[u8]) -> Option<Round> {
 
 #[inline(never)]
 fn by_fold(bytes: &[u8]) -> Option<Round> {
-    let mut count = fold_many0(
-        be_u8::<_, Fail>(),
-        || 0usize,
-        |count: usize, _byte: u8| count.wrapping_add(1),
-    );
-    match count.parse_complete(bytes) {
-        Ok((rest, count)) if count > 0 => Some(Round {
-            made: Made::Items(count),
-            bytes: consumed(bytes, rest),
-        }),
-        _ => None,
+    if bytes.is_empty() {
+        return None;
     }
+    let mut sum = fold_many0(
+        be_u8::<_, Fail>(),
+        || 0i64,
+        |sum: i64, byte: u8| sum.wrapping_add(byte as i64),
+    );
+    let (rest, sum) = sum.parse_complete(bytes).ok()?;
+    Some(Round {
+        made: Made::Value(sum),
+        bytes: consumed(bytes, rest),
+    })
 }
 
 #[inline(never)]
@@ -261,7 +280,7 @@ enum Way {
     Folds,
 }
 
-impl Way {
+impl Case for Way {
     fn name(self) -> &'static str {
         match self {
             Way::Parse => "parse",
@@ -284,11 +303,9 @@ impl Way {
         }
     }
 
-    /// What a list holds.
     fn items(self) -> &'static str {
         match self {
             Way::Numbers | Way::Separated | Way::Binary => "numbers",
-            Way::Fold => "bytes counted",
             Way::Words => "words",
             Way::Tuples => "tuples",
             Way::Fields => "pairs of fields",
@@ -297,7 +314,6 @@ impl Way {
         }
     }
 
-    /// What a file has not, that isn't accepted.
     fn lacking(self) -> &'static str {
         match self {
             Way::Parse | Way::ParseComplete | Way::Check => "no records",
@@ -336,10 +352,10 @@ impl Way {
     }
 }
 
-/// The rounds of one way, and the line that tells of them.
+/// The rounds of one case, and the line that tells of them.
 fn bench(
     rt: &(impl Clock + Print + Alloc<A = Global>),
-    way: Way,
+    case: impl Case,
     contents: Contents<'_>,
     rounds: u32,
 ) -> io::Result<()> {
@@ -347,10 +363,10 @@ fn bench(
     let mut told = None;
     for _round in 0..rounds {
         let start = Instant::now(rt)?;
-        told = way.run(rt.alloc(), contents);
+        told = case.run(rt.alloc(), contents);
         best = best.min(start.elapsed(rt)?.as_nanos());
     }
-    let name = way.name();
+    let name = case.name();
     match told {
         Some(round) => {
             let speed = (round.bytes as u128)
@@ -360,7 +376,7 @@ fn bench(
             let consumed = round.bytes;
             match round.made {
                 Made::Items(count) => {
-                    let items = way.items();
+                    let items = case.items();
                     println!(rt; "{name}: {count} {items}, {consumed} bytes, {speed} MB/s")
                 }
                 Made::Value(value) => {
@@ -370,7 +386,7 @@ fn bench(
             }
         }
         None => {
-            let lacking = way.lacking();
+            let lacking = case.lacking();
             println!(rt; "{name}: {lacking}")
         }
     }
@@ -411,6 +427,27 @@ fn run(rt: &(impl Clock + Env + Files + Print + Alloc<A = Global>)) -> io::Resul
         Way::Folds,
     ] {
         bench(rt, way, contents, rounds)?;
+    }
+    for text in [
+        Text::Rows,
+        Text::Settings,
+        Text::Escaped,
+        Text::Transform,
+        Text::Keywords,
+        Text::Json,
+    ] {
+        bench(rt, text, contents, rounds)?;
+    }
+    for wire in [
+        Wire::Floats,
+        Wire::HexNumbers,
+        Wire::HexPairs,
+        Wire::Permutation,
+        Wire::Values,
+        Wire::Lines,
+        Wire::Heads,
+    ] {
+        bench(rt, wire, contents, rounds)?;
     }
     streams::bench(rt, Items::Messages, &bytes, rounds)?;
     streams::bench(rt, Items::Records, &bytes, rounds)
