@@ -2,12 +2,12 @@
 
 use crate::{Case, Contents, Fail, Round, list};
 use nom::branch::permutation;
-use nom::bytes::{tag, take_while_m_n, take_while1};
-use nom::character::{char, complete, is_hex_digit, line_ending};
+use nom::bytes::{is_not, tag, take_while_m_n, take_while1};
+use nom::character::{alpha1, char, complete, is_hex_digit, line_ending};
 use nom::func;
 use nom::multi::{length_value, many_till, many0, many0_count, many1};
 use nom::number::{be_u8, complete as complete_numbers, recognize_float};
-use nom::sequence::{delimited, pair, preceded, terminated};
+use nom::sequence::{delimited, pair, preceded, separated_pair, terminated};
 use std::alloc::Global;
 
 /// How far the end of the first line is looked for.
@@ -58,52 +58,22 @@ fn by_lines(alloc: Global, bytes: &[u8]) -> Option<Round> {
     list(many0(alloc, line), bytes)
 }
 
-/// Whether a byte may stand in a method or in the name of a header.
-fn is_token(byte: u8) -> bool {
-    match byte {
-        0..=31 | 127..=255 => false,
-        b'(' | b')' | b'<' | b'>' | b'@' | b',' | b';' | b':' | b'\\' | b'"' => false,
-        b'/' | b'[' | b']' | b'?' | b'=' | b'{' | b'}' | b' ' => false,
-        _ => true,
-    }
-}
-
-fn is_version(byte: u8) -> bool {
-    byte.is_ascii_digit() || byte == b'.'
-}
-
-fn is_space(byte: u8) -> bool {
-    byte == b' '
-}
-
-fn is_target(byte: u8) -> bool {
-    byte != b' '
-}
-
-fn is_blank(byte: u8) -> bool {
-    byte == b' ' || byte == b'\t'
-}
-
-fn is_value(byte: u8) -> bool {
-    byte != b'\r' && byte != b'\n'
-}
-
-// The grammar of nom's own benchmark of HTTP.
+/// A request line, header lines and an empty line, one head after another.
 #[inline(never)]
 fn by_heads(alloc: Global, bytes: &[u8]) -> Option<Round> {
-    let method = take_while1::<_, _, Fail>(is_token);
-    let target = preceded(take_while1(is_space), take_while1(is_target));
-    let version = preceded(tag(&b"HTTP/"[..]), take_while1(is_version));
-    let request = (
-        method,
-        target,
-        delimited(take_while1(is_space), version, line_ending()),
-    );
-    let value = delimited(take_while1(is_blank), take_while1(is_value), line_ending());
-    let header = pair(
-        terminated(take_while1(is_token), char(':')),
-        many1(alloc, value),
-    );
+    let method = alpha1::<_, Fail>();
+    let target = delimited(char(' '), is_not(&b" \r\n"[..]), tag(&b" HTTP/"[..]));
+    let version = take_while1(|byte: u8| byte.is_ascii_digit() || byte == b'.');
+    let request = (method, target, terminated(version, line_ending()));
+    let name = take_while1(|byte: u8| {
+        matches!(
+            byte,
+            b'!' | b'#'..=b'\'' | b'*' | b'+' | b'-' | b'.' | b'0'..=b'9' | b'A'..=b'Z'
+                | b'^'..=b'z' | b'|' | b'~'
+        )
+    });
+    let sides = separated_pair(name, tag(&b": "[..]), is_not(&b"\r\n"[..]));
+    let header = terminated(sides, line_ending());
     let head = pair(request, terminated(many1(alloc, header), line_ending()));
     list(many0(alloc, head), bytes)
 }
