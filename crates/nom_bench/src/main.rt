@@ -1,22 +1,27 @@
 //! `nom_bench FILE [ROUNDS]`: how fast the grammar of nom_records, runs, a search, decimal and binary numbers, a
-//! choice, a tuple, bit fields, settings and expressions go over a file, held in memory; and how many items a second
-//! a stream gives.
+//! choice, a tuple, bit fields, settings, expressions, what stands in texts and what stands in bytes go over a file, held
+//! in memory; and how many items a second a stream gives.
 //!
 //! The grammar runs by `parse`, by `parse_complete`, and by `process` where nothing is built. By
 //! `parse_complete` also run a `take_while1` of all bytes before the first `;`, a `take_until` of all before
 //! the first `;;`, an `alphanumeric1`, a list of decimal numbers of 32 bits, each with a `,` after it, such a
-//! list with a `,` between two, a fold that counts bytes, a list of words, each of which an `alt` of eight tags
+//! list with a `,` between two, a fold that sums up bytes, a list of words, each of which an `alt` of eight tags
 //! finds, a list of tuples of four, as `<ab>`, a list of binary numbers of 32 bits, the highest byte first, and
 //! a list of pairs of bit fields, of 4 and of 12 bits. The grammar of nom_settings runs over the file as a text,
 //! and over that text with line and column; and sums of products of decimal numbers run by `precedence`, and
-//! by a fold of each level. Then come messages as those of nom_messages, and records, up to the first place that
+//! by a fold of each level. Of texts run rows of fields, sections of `name = value`, quoted strings with escapes, as
+//! they stand and as they are meant, words of a language, and the JSON of example_json; of bytes shapes of decimal
+//! fractions, numbers and pairs of digits in base 16, permutations of `abc`, values behind a length, lines up to a
+//! `\r\n`, and heads of HTTP requests. Then come messages as those of nom_messages, and records, up to the first place that
 //! has none: by `parse` over the whole, and by a stream whose reader gives 1, 64, 4096 and 65536 bytes a read.
-//! Each runs ROUNDS times (7 where none are named), and a line for each tells how many items a list has, or
-//! the value of an expression, the bytes consumed, and the MB (10^6 bytes) a second of the best round. A file
-//! that isn't accepted gets `no records`, `no run`, `no needle`, `no word`, `no numbers`, `no bytes`, `no words`,
-//! `no tuples`, `no fields`, `no sections` or `no expression`: so a file for the grammar is one of records; a file
-//! for a run and a needle is long, with a `;;` at its end and no `;` before; one for a word is of letters and
-//! digits; one for binary numbers or for fields is of any bytes; and the others are as their items are written.
+//!
+//! Each runs ROUNDS times (7 where none are named), and a line for each tells how many items a list has, or the value
+//! of a sum or an expression, the bytes consumed, and the MB (10^6 bytes) a second of the best round. A file that
+//! isn't accepted gets `no` and what it lacks, as `no records`, `no needle` or `no rows`: so a file for the grammar is
+//! one of records; a file for a run and a needle is long, with a `;;` at its end and no `;` before; one for a word is
+//! of letters and digits; one for binary numbers or for fields is of any bytes; and the others are as their items are
+//! written. Rows and lines take any bytes, so they run only where a `,` and the end of a line, or a `\r`, are among
+//! the first 256.
 //! With no argument nothing is printed.
 #![tactic(auto)]
 
