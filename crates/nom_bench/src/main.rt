@@ -1,30 +1,39 @@
 //! `nom_bench FILE [ROUNDS]`: how fast the grammar of nom_records, runs, a search, decimal and binary numbers, a
-//! choice, a tuple, bit fields, settings and expressions go over a file, held in memory; and how many items a second
-//! a stream gives.
+//! choice, a tuple, bit fields, settings, expressions, what stands in texts and what stands in bytes go over a file, held
+//! in memory; and how many items a second a stream gives.
 //!
 //! The grammar runs by `parse`, by `parse_complete`, and by `process` where nothing is built. By
 //! `parse_complete` also run a `take_while1` of all bytes before the first `;`, a `take_until` of all before
 //! the first `;;`, an `alphanumeric1`, a list of decimal numbers of 32 bits, each with a `,` after it, such a
-//! list with a `,` between two, a fold that counts bytes, a list of words, each of which an `alt` of eight tags
+//! list with a `,` between two, a fold that sums up bytes, a list of words, each of which an `alt` of eight tags
 //! finds, a list of tuples of four, as `<ab>`, a list of binary numbers of 32 bits, the highest byte first, and
 //! a list of pairs of bit fields, of 4 and of 12 bits. The grammar of nom_settings runs over the file as a text,
 //! and over that text with line and column; and sums of products of decimal numbers run by `precedence`, and
-//! by a fold of each level. Then come messages as those of nom_messages, and records, up to the first place that
+//! by a fold of each level. Of texts run rows of fields, sections of `name = value`, quoted strings with escapes, as
+//! they stand and as they are meant, words of a language, and the JSON of example_json; of bytes shapes of decimal
+//! fractions, numbers and pairs of digits in base 16, permutations of `abc`, values behind a length, lines up to a
+//! `\r\n`, and heads of HTTP requests. Then come messages as those of nom_messages, and records, up to the first place that
 //! has none: by `parse` over the whole, and by a stream whose reader gives 1, 64, 4096 and 65536 bytes a read.
-//! Each runs ROUNDS times (7 where none are named), and a line for each tells how many items a list has, or
-//! the value of an expression, the bytes consumed, and the MB (10^6 bytes) a second of the best round. A file
-//! that isn't accepted gets `no records`, `no run`, `no needle`, `no word`, `no numbers`, `no bytes`, `no words`,
-//! `no tuples`, `no fields`, `no sections` or `no expression`: so a file for the grammar is one of records; a file
-//! for a run and a needle is long, with a `;;` at its end and no `;` before; one for a word is of letters and
-//! digits; one for binary numbers or for fields is of any bytes; and the others are as their items are written.
+//!
+//! Each runs ROUNDS times (7 where none are named), and a line for each tells how many items a list has, or the value
+//! of a sum or an expression, the bytes consumed, and the MB (10^6 bytes) a second of the best round. A file that
+//! isn't accepted gets `no` and what it lacks, as `no records`, `no needle` or `no rows`: so a file for the grammar is
+//! one of records; a file for a run and a needle is long, with a `;;` at its end and no `;` before; one for a word is
+//! of letters and digits; one for binary numbers or for fields is of any bytes; and the others are as their items are
+//! written. Rows and lines take any bytes, so they run only where a `,` and the end of a line, or a `\r`, are among
+//! the first 256.
 //! With no argument nothing is printed.
 #![tactic(auto)]
 
 mod located;
 mod precedence;
 mod streams;
+mod texts;
+mod wires;
 
 use crate::streams::Items;
+use crate::texts::Text;
+use crate::wires::Wire;
 use nom::bits::{bits, complete as complete_bits};
 use nom::branch::alt;
 use nom::bytes::{tag, take_until, take_while1};
@@ -68,9 +77,23 @@ pub struct Round {
 
 /// A file: its bytes, and the text that they are; an empty text where they are none.
 #[derive(Clone, Copy)]
-struct Contents<'a> {
-    bytes: &'a [u8],
-    text: &'a str,
+pub struct Contents<'a> {
+    pub bytes: &'a [u8],
+    pub text: &'a str,
+}
+
+/// A case: a parser, and the words of its line.
+pub trait Case: Copy {
+    fn name(self) -> &'static str;
+
+    /// What a list holds.
+    fn items(self) -> &'static str;
+
+    /// What a file has not, that isn't accepted.
+    fn lacking(self) -> &'static str;
+
+    /// One round.
+    fn run(self, alloc: Global, contents: Contents<'_>) -> Option<Round>;
 }
 
 /// How many bytes of the whole were consumed.
@@ -124,7 +147,7 @@ fn slice<'a, P: Parser<&'a [u8], Output = &'a [u8]> + Drop>(
 
 /// How many items a list has, of a parser that gives one; none where it has none.
 #[inline(always)]
-fn list<'a, T: Drop, P: Parser<&'a [u8], Output = Vec<T>> + Drop>(
+pub fn list<'a, T: Drop, P: Parser<&'a [u8], Output = Vec<T>> + Drop>(
     mut parser: P,
     bytes: &'a [u8],
 ) -> Option<Round>
@@ -189,18 +212,19 @@ fn by_separated(alloc: Global, bytes: &[u8]) -> Option<Round> {
 
 #[inline(never)]
 fn by_fold(bytes: &[u8]) -> Option<Round> {
-    let mut count = fold_many0(
-        be_u8::<_, Fail>(),
-        || 0usize,
-        |count: usize, _byte: u8| count.wrapping_add(1),
-    );
-    match count.parse_complete(bytes) {
-        Ok((rest, count)) if count > 0 => Some(Round {
-            made: Made::Items(count),
-            bytes: consumed(bytes, rest),
-        }),
-        _ => None,
+    if bytes.is_empty() {
+        return None;
     }
+    let mut sum = fold_many0(
+        be_u8::<_, Fail>(),
+        || 0i64,
+        |sum: i64, byte: u8| sum.wrapping_add(byte as i64),
+    );
+    let (rest, sum) = sum.parse_complete(bytes).ok()?;
+    Some(Round {
+        made: Made::Value(sum),
+        bytes: consumed(bytes, rest),
+    })
 }
 
 #[inline(never)]
@@ -261,7 +285,7 @@ enum Way {
     Folds,
 }
 
-impl Way {
+impl Case for Way {
     fn name(self) -> &'static str {
         match self {
             Way::Parse => "parse",
@@ -284,11 +308,9 @@ impl Way {
         }
     }
 
-    /// What a list holds.
     fn items(self) -> &'static str {
         match self {
             Way::Numbers | Way::Separated | Way::Binary => "numbers",
-            Way::Fold => "bytes counted",
             Way::Words => "words",
             Way::Tuples => "tuples",
             Way::Fields => "pairs of fields",
@@ -297,7 +319,6 @@ impl Way {
         }
     }
 
-    /// What a file has not, that isn't accepted.
     fn lacking(self) -> &'static str {
         match self {
             Way::Parse | Way::ParseComplete | Way::Check => "no records",
@@ -336,10 +357,10 @@ impl Way {
     }
 }
 
-/// The rounds of one way, and the line that tells of them.
+/// The rounds of one case, and the line that tells of them.
 fn bench(
     rt: &(impl Clock + Print + Alloc<A = Global>),
-    way: Way,
+    case: impl Case,
     contents: Contents<'_>,
     rounds: u32,
 ) -> io::Result<()> {
@@ -347,10 +368,10 @@ fn bench(
     let mut told = None;
     for _round in 0..rounds {
         let start = Instant::now(rt)?;
-        told = way.run(rt.alloc(), contents);
+        told = case.run(rt.alloc(), contents);
         best = best.min(start.elapsed(rt)?.as_nanos());
     }
-    let name = way.name();
+    let name = case.name();
     match told {
         Some(round) => {
             let speed = (round.bytes as u128)
@@ -360,7 +381,7 @@ fn bench(
             let consumed = round.bytes;
             match round.made {
                 Made::Items(count) => {
-                    let items = way.items();
+                    let items = case.items();
                     println!(rt; "{name}: {count} {items}, {consumed} bytes, {speed} MB/s")
                 }
                 Made::Value(value) => {
@@ -370,7 +391,7 @@ fn bench(
             }
         }
         None => {
-            let lacking = way.lacking();
+            let lacking = case.lacking();
             println!(rt; "{name}: {lacking}")
         }
     }
@@ -411,6 +432,27 @@ fn run(rt: &(impl Clock + Env + Files + Print + Alloc<A = Global>)) -> io::Resul
         Way::Folds,
     ] {
         bench(rt, way, contents, rounds)?;
+    }
+    for text in [
+        Text::Rows,
+        Text::Settings,
+        Text::Escaped,
+        Text::Transform,
+        Text::Keywords,
+        Text::Json,
+    ] {
+        bench(rt, text, contents, rounds)?;
+    }
+    for wire in [
+        Wire::Floats,
+        Wire::HexNumbers,
+        Wire::HexPairs,
+        Wire::Permutation,
+        Wire::Values,
+        Wire::Lines,
+        Wire::Heads,
+    ] {
+        bench(rt, wire, contents, rounds)?;
     }
     streams::bench(rt, Items::Messages, &bytes, rounds)?;
     streams::bench(rt, Items::Records, &bytes, rounds)
