@@ -12,7 +12,7 @@ pub fn promised<I: Items, P: StreamParser<I>>(parser: &P)
     requires sound { (P.meaning (P.state parser.now)).IsSound }
     requires settles { (P.meaning (P.state parser.now)).Settles }
     ensures decided { StaysOnLonger I.model (P.meaning (P.state parser.now)) }
-    ensures answers { AnswersStay I.model P.Output.view (P.Parser.Pins (P.state parser.now)) (P.IsOutput (P.state parser.now))
+    ensures answers { AnswersStay I.model P.Output.view (P.Pins parser.now) (P.IsOutput (P.state parser.now))
         (P.meaning (P.state parser.now)) }
     ensures alike { HasOneOutcome I.model (P.meaning (P.state parser.now)) }
     ensures fronts { AcceptsFronts I.model (P.meaning (P.state parser.now)) }

@@ -108,10 +108,7 @@ module _ (Gives : Text → Told Worth → Type 0) where
   }
 
   sum_pinned : IsPinned view (sum_in Any Gives).IsOutput
-  sum_pinned = folding_pinned minus_of.IsOutput (operand_by 40 41 (func_of view Any Gives)).IsOutput none_of.IsOutput operator_of.IsOutput Applies
-      text_view itself (pair_view text_view itself) view applies_alike (viewed_pinned text_view)
-      (either_pinned view (func_of view Any Gives).IsOutput number_of.IsOutput (viewed_pinned view) (viewed_pinned view)) value_pinned
-      (viewed_pinned sign_view) (groups_left levels)
+  sum_pinned = folding_pinned applies_alike viewed_pinned (either_pinned viewed_pinned viewed_pinned) value_pinned viewed_pinned (groups_left levels)
 
 fails : (i : Text) (e : Fault) (r : Told Worth) (o : Outcome view.Value) → r ≡ Err (Answered.Failure e) → Tells text_model view i r o → o ≡ Fail
 fails i e r o q t = subst (λ z. Tells text_model view i z o) q t
@@ -120,7 +117,7 @@ pub inside_part : (d : ℕ) → IsParser text_model view (Inside d) Any
 inside_part zero = parser_of (λ i k. tt) (λ i j v k a. cc (a)) (λ x y o p kx ky s a keeps b. fails x (TooDeep x) a.answer o a.given a.told ∙
     sym (fails y (TooDeep y) b.answer p b.given b.told))
 inside_part (suc d) = is_parser (sum_of d) view (λ _ x y. y ≡ x) (Inside (suc d)) Any (λ i. tt) (λ i r h. given_itself (sum_of d) i r h)
-    (sum_lawful (Inside d) (inside_part d)) (λ i k t u v x y s p q f g. ap view.value f ∙ (sum_pinned (Inside d) t u v p q ∙ sym (ap view.value g)))
+    (sum_lawful (Inside d) (inside_part d)) (λ i k t u v x y s p q f g. ap view.value f ∙ ((sum_pinned (Inside d)).one_view t u v p q ∙ sym (ap view.value g)))
 
 pub inside_none : (d : ℕ) (i : Text) → d ≡ 0 → Inside d i (Err (Answered.Failure (TooDeep i)))
 inside_none zero i e = refl

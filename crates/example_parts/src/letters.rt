@@ -49,7 +49,6 @@ impl<I: Input<Item = u8>, E: ParseError<I>> Parser<I> for Letter<I, E> {
     ghost meaning = { λ _. letter_meaning I.model E.errors };
 
     // A letter is its own tree.
-    ghost Pins = { λ _. Unit {0} };
 
     fn process<OM: OutputMode>(&mut self, input: I) -> PResult<I, u8, E> {
         match first(input) {
@@ -69,7 +68,9 @@ impl<I: Input<Item = u8>, E: ParseError<I>> Parser<I> for Letter<I, E> {
 }
 
 impl<I: Input<Item = u8>, E: ParseError<I>> StreamParser<I> for Letter<I, E> {
-    ghost pinned = { λ _ k p. value_pinned };
+    ghost Pins = { λ _. Unit {0} };
+
+    ghost pinned = { λ p k h. value_pinned };
 
     ghost steady = { λ _ k. letter_steady I.model E.errors };
 }

@@ -93,13 +93,10 @@ pub struct FoldMany0Alloc<F, H, G> {
 impl<
     I: Input,
     F: Parser<I> + Drop,
-    R: Viewed + Drop,
+    R: Drop,
     H: Fn() -> R,
     G: Fn(R, F::Output) -> Result<R, OutOfMemory>,
-> Parser<I> for FoldMany0Alloc<F, H, G>
-where
-    F::Output: Viewed,
-{
+> Parser<I> for FoldMany0Alloc<F, H, G> {
     ghost use Rattle.nom_alloc.specs.FoldAlloc.{fold_many0_alloc_lawful};
 
     type Output = R;
@@ -115,8 +112,6 @@ where
     ghost IsOutput = { λ s. Folds (F.IsOutput s.0) (H.post s.1) (λ r x y. G.post s.2 r x (Ok y)) };
 
     ghost meaning = { λ s. fold_many0_alloc_meaning I.model F.Error.errors (AreCallable (H.pre s.1) (G.pre s.2)) (LacksSome G.post) (F.meaning s.0) };
-
-    ghost Pins = { λ s. F.Pins s.0 × FoldsAlike F.Output.view R.view (H.post s.1) (λ r x y. G.post s.2 r x (Ok y)) };
 
     #[inline]
     fn process<OM: OutputMode>(&mut self, input: I) -> PResult<I, R, F::Error> {
@@ -151,7 +146,9 @@ impl<
     ghost use Rattle.nom_multi_fold.specs.laws.FoldLaws.{folds_pinned};
     ghost use Rattle.nom_alloc.specs.FoldAlloc.{fold_many0_alloc_steady};
 
-    ghost pinned = { λ s k p. folds_pinned F.Output.view R.view (F.IsOutput s.0) (H.post s.1) (λ r x y. G.post s.2 r x (Ok y)) (F.pinned s.0 k.0 p.0) p.1 };
+    ghost Pins = { λ p. F.Pins p.parser × FoldsAlike F.Output.view R.view (H.post p.init) (λ r x y. G.post p.fold r x (Ok y)) };
+
+    ghost pinned = { λ p k h. folds_pinned (F.pinned p.parser k.0 h.0) h.1 };
 
     ghost steady = { λ s k. fold_many0_alloc_steady I.model I.lawful F.Error.errors (AreCallable (H.pre s.1) (G.pre s.2)) (LacksSome G.post) (F.meaning s.0)
         (F.steady s.0 k.0) };

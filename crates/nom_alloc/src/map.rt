@@ -19,15 +19,8 @@ pub struct MapAlloc<F, G> {
     pub map: G,
 }
 
-impl<
-    I: Items,
-    F: Parser<I> + Drop,
-    O: Viewed + Drop,
-    G: Fn(F::Output) -> Result<O, OutOfMemory>,
-> Parser<I> for MapAlloc<F, G>
-where
-    F::Output: Viewed,
-{
+impl<I: Items, F: Parser<I> + Drop, O: Drop, G: Fn(F::Output) -> Result<O, OutOfMemory>> Parser<I>
+    for MapAlloc<F, G> {
     type Output = O;
 
     type Error = F::Error;
@@ -41,8 +34,6 @@ where
     ghost IsOutput = { λ s. GivesFor (F.IsOutput s.0) (λ a o. G.post s.1 a (Ok o)) };
 
     ghost meaning = { λ s. map_alloc_meaning (F.IsOutput s.0) (G.pre s.1) (G.post s.1) (F.meaning s.0) };
-
-    ghost Pins = { λ s. F.Pins s.0 × SeesAlike F.Output.view O.view (λ a o. G.post s.1 a (Ok o)) };
 
     #[inline(always)]
     fn process<OM: OutputMode>(&mut self, input: I) -> PResult<I, O, F::Error> {
@@ -65,7 +56,9 @@ impl<
     O: Viewed + Drop,
     G: Fn(F::Output) -> Result<O, OutOfMemory>,
 > StreamParser<I> for MapAlloc<F, G> {
-    ghost pinned = { λ s k p. given_pinned F.Output.view O.view (F.IsOutput s.0) (λ a o. G.post s.1 a (Ok o)) (F.pinned s.0 k.0 p.0) p.1 };
+    ghost Pins = { λ p. F.Pins p.parser × SeesAlike F.Output.view O.view (λ a o. G.post p.map a (Ok o)) };
+
+    ghost pinned = { λ p k h. given_pinned (F.pinned p.parser k.0 h.0) h.1 };
 
     ghost steady = { λ s k. map_alloc_steady I.model (F.IsOutput s.0) (G.pre s.1) (G.post s.1) (F.meaning s.0) (F.steady s.0 k.0) };
 }

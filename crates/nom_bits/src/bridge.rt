@@ -136,8 +136,6 @@ where
 
     ghost meaning = { λ s. bits_meaning I.model P.Error.converts (P.meaning s) };
 
-    ghost Pins = { P.Pins };
-
     #[inline(always)]
     fn process<OM: OutputMode>(&mut self, input: I) -> PResult<I, P::Output, E> {
         input.prove_known();
@@ -161,7 +159,9 @@ impl<I: Input<Item = u8>, P: StreamParser<(I, usize)> + Drop, E: ParseError<I>> 
 where
     P::Error: ErrorConvert<E>,
 {
-    ghost pinned = { P.pinned };
+    ghost Pins = { λ p. P.Pins p.parser };
+
+    ghost pinned = { λ p. P.pinned p.parser };
 
     ghost steady = { λ s k. bits_of_steady I.model I.lawful P.Error.converts (P.meaning s) (P.steady s k) };
 }
@@ -195,8 +195,6 @@ where
 
     ghost meaning = { λ s. bytes_meaning I.model E.errors P.Error.converts (P.meaning s) };
 
-    ghost Pins = { P.Pins };
-
     #[inline(always)]
     fn process<OM: OutputMode>(&mut self, input: (I, usize)) -> PResult<(I, usize), P::Output, E> {
         match self
@@ -220,7 +218,9 @@ impl<I: Input<Item = u8>, P: StreamParser<I> + Drop, E: ParseError<(I, usize)>> 
 where
     P::Error: ErrorConvert<E>,
 {
-    ghost pinned = { P.pinned };
+    ghost Pins = { λ p. P.Pins p.parser };
+
+    ghost pinned = { λ p. P.pinned p.parser };
 
     ghost steady = { λ s k. bytes_of_steady I.model I.lawful I.values E.errors P.Error.converts (P.meaning s) (P.steady s k) };
 }

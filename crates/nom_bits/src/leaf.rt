@@ -22,7 +22,7 @@ use nom_internal::parser::{Parser, StreamParser};
 use nom_traits::input::Input;
 use std::marker::PhantomData;
 
-/// The number that as many bits spell; made by `take`.
+/// The number that the next `count` bits spell; made by `take`.
 #[derive(Drop)]
 pub struct Take<I, O, E> {
     pub count: usize,
@@ -48,8 +48,6 @@ impl<I: Input<Item = u8>, O: BitUint, E: ParseError<(I, usize)>> Parser<(I, usiz
 
     ghost meaning = { λ count. take_meaning I.model E.errors O.WIDTH count };
 
-    ghost Pins = { λ _. Unit {0} };
-
     #[inline(always)]
     fn process<OM: OutputMode>(&mut self, input: (I, usize)) -> PResult<(I, usize), O, E>
         requires sound { (take_meaning I.model E.errors O.WIDTH self.old.count).IsSound }
@@ -74,12 +72,14 @@ impl<I: Input<Item = u8>, O: BitUint, E: ParseError<(I, usize)>> Parser<(I, usiz
 
 impl<I: Input<Item = u8>, O: BitUint, E: ParseError<(I, usize)>> StreamParser<(I, usize)>
     for Take<I, O, E> {
-    ghost pinned = { λ s k p t a b x y. ap O.view.value (x ∙ sym y) };
+    ghost Pins = { λ _. Unit {0} };
+
+    ghost pinned = { λ p k h. record { one_view = λ t a b x y. ap O.view.value (x ∙ sym y) } };
 
     ghost steady = { λ count k. take_steady I.model E.errors O.WIDTH count };
 }
 
-/// A number that is wanted, spelled by that many bits; made by `tag`.
+/// A number that is wanted, spelled by the next `count` bits; made by `tag`.
 #[derive(Drop)]
 pub struct Tag<I, O, E> {
     /// The number.
@@ -106,8 +106,6 @@ impl<I: Input<Item = u8>, O: BitUint, E: ParseError<(I, usize)>> Parser<(I, usiz
     ghost Besides = { λ _ old _ i. OfRest (StandsBehind I.model i old.count) };
 
     ghost meaning = { λ s. tag_meaning I.model E.errors O.WIDTH s.0 s.1 };
-
-    ghost Pins = { λ _. Unit {0} };
 
     #[inline(always)]
     fn process<OM: OutputMode>(&mut self, input: (I, usize)) -> PResult<(I, usize), O, E>
@@ -137,7 +135,9 @@ impl<I: Input<Item = u8>, O: BitUint, E: ParseError<(I, usize)>> Parser<(I, usiz
 
 impl<I: Input<Item = u8>, O: BitUint, E: ParseError<(I, usize)>> StreamParser<(I, usize)>
     for Tag<I, O, E> {
-    ghost pinned = { λ s k p t a b x y. ap O.view.value (x ∙ sym y) };
+    ghost Pins = { λ _. Unit {0} };
+
+    ghost pinned = { λ p k h. record { one_view = λ t a b x y. ap O.view.value (x ∙ sym y) } };
 
     ghost steady = { λ s k. tag_steady I.model E.errors O.WIDTH s.0 s.1 };
 }
@@ -166,8 +166,6 @@ impl<I: Input<Item = u8>, E: ParseError<(I, usize)>> Parser<(I, usize)> for Bool
 
     ghost meaning = { λ _. bool_meaning I.model E.errors };
 
-    ghost Pins = { λ _. Unit {0} };
-
     #[inline(always)]
     fn process<OM: OutputMode>(&mut self, input: (I, usize)) -> PResult<(I, usize), bool, E>
         requires sound { (bool_meaning I.model E.errors).IsSound }
@@ -190,7 +188,9 @@ impl<I: Input<Item = u8>, E: ParseError<(I, usize)>> Parser<(I, usize)> for Bool
 }
 
 impl<I: Input<Item = u8>, E: ParseError<(I, usize)>> StreamParser<(I, usize)> for Bool<I, E> {
-    ghost pinned = { λ _ k p. value_pinned };
+    ghost Pins = { λ _. Unit {0} };
+
+    ghost pinned = { λ p k h. value_pinned };
 
     ghost steady = { λ _ k. bool_steady I.model E.errors };
 }

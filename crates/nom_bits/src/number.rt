@@ -6,7 +6,7 @@ ghost use Rattle.nom_error.specs.Modes.{Built};
 use nom_error::mode::Mode;
 use nom_traits::view::Viewed;
 
-/// A whole number from 0 that as many bits spell, 128 at most.
+/// A whole number from 0, spelled by up to 128 bits.
 pub trait BitUint: Viewed + Drop + Sized {
     ghost WIDTH: { ℕ };
 

@@ -37,8 +37,6 @@ impl<I: Items, F: Parser<I>, G: Parser<I, Output = F::Output, Error = F::Error>>
 
     ghost meaning = { λ s. choice_meaning F.Error.errors (next_meaning F.Error.errors (F.meaning s.0) (G.meaning s.1)) };
 
-    ghost Pins = { λ s. F.Pins s.0 × G.Pins s.1 };
-
     #[inline(always)]
     fn process<OM: OutputMode>(&mut self, input: I) -> PResult<I, Self::Output, Self::Error> {
         let answer = self.first.process::<OM>(input);
@@ -57,7 +55,9 @@ impl<
     ghost use Rattle.nom_branch.specs.laws.AlternativeLaws.{stays, next_stays, choice_steady};
     ghost use Rattle.nom_internal.specs.Pinned.{either_pinned};
 
-    ghost pinned = { λ s k p. either_pinned F.Output.view (F.IsOutput s.0) (G.IsOutput s.1) (F.pinned s.0 k.0 p.0) (G.pinned s.1 k.1 p.1) };
+    ghost Pins = { λ p. F.Pins p.first × G.Pins p.second };
+
+    ghost pinned = { λ p k h. either_pinned (F.pinned p.first k.0 h.0) (G.pinned p.second k.1 h.1) };
 
     ghost steady = { λ s k. choice_steady F.Error.errors
         (next_stays F.Error.errors (stays (F.meaning s.0) (F.steady s.0 k.0)) (stays (G.meaning s.1) (G.steady s.1 k.1))) };

@@ -32,8 +32,6 @@ impl<I: Items, A: Parser<I>> Parser<I> for AnyOf<&mut [A]> {
 
     ghost meaning = { list_meaning A.Error.errors A.meaning };
 
-    ghost Pins = { Each A.Pins };
-
     #[inline(always)]
     fn process<OM: OutputMode>(&mut self, input: I) -> PResult<I, Self::Output, Self::Error> {
         let branches = &mut *self.parsers;
@@ -46,7 +44,9 @@ impl<I: Items, A: Parser<I>> Parser<I> for AnyOf<&mut [A]> {
 impl<I: Items, A: StreamParser<I>> StreamParser<I> for AnyOf<&mut [A]> {
     ghost use Rattle.nom_branch.specs.laws.ListLaws.{list_pinned, list_steady};
 
-    ghost pinned = { list_pinned A.Error.errors A.meaning A.Output.view A.IsOutput A.Pins A.pinned };
+    ghost Pins = { λ p. Each A.Pins p.parsers.now };
+
+    ghost pinned = { λ p. list_pinned A.Error.errors A.meaning A.state A.pinned p.parsers.now };
 
     ghost steady = { list_steady I.model A.Error.errors A.meaning A.steady };
 }
@@ -68,8 +68,6 @@ impl<I: Items, A: Parser<I>, const N: usize> Parser<I> for AnyOf<[A; N]> {
 
     ghost meaning = { list_meaning A.Error.errors A.meaning };
 
-    ghost Pins = { Each A.Pins };
-
     #[inline(always)]
     fn process<OM: OutputMode>(&mut self, input: I) -> PResult<I, Self::Output, Self::Error> {
         choose::<I, A, OM>(&mut self.parsers, input)
@@ -81,7 +79,9 @@ impl<I: Items, A: Parser<I>, const N: usize> Parser<I> for AnyOf<[A; N]> {
 impl<I: Items, A: StreamParser<I>, const N: usize> StreamParser<I> for AnyOf<[A; N]> {
     ghost use Rattle.nom_branch.specs.laws.ListLaws.{list_pinned, list_steady};
 
-    ghost pinned = { list_pinned A.Error.errors A.meaning A.Output.view A.IsOutput A.Pins A.pinned };
+    ghost Pins = { λ p. Each A.Pins p.parsers };
+
+    ghost pinned = { λ p. list_pinned A.Error.errors A.meaning A.state A.pinned p.parsers };
 
     ghost steady = { list_steady I.model A.Error.errors A.meaning A.steady };
 }

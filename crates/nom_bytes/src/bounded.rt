@@ -71,8 +71,6 @@ impl<I: Input, P: Predicate<I::Item>, E: ParseError<I>> Parser<I> for TakeWhileM
 
     ghost meaning = { λ s. bounded_meaning I.model (P.answers s.0) (P.IsSound s.0) E.errors s.1 s.2 };
 
-    ghost Pins = { λ _. Unit {0} };
-
     #[inline(always)]
     fn process<OM: OutputMode>(&mut self, input: I) -> PResult<I, I, E> {
         let least = self.m.min(self.n);
@@ -100,7 +98,9 @@ impl<I: Input, P: Predicate<I::Item>, E: ParseError<I>> Parser<I> for TakeWhileM
 }
 
 impl<I: Input, P: Predicate<I::Item>, E: ParseError<I>> StreamParser<I> for TakeWhileMN<P, I, E> {
-    ghost pinned = { λ s k p. slice_pinned I.model I.view I.views };
+    ghost Pins = { λ _. Unit {0} };
+
+    ghost pinned = { λ p k h. slice_pinned I.views };
 
     ghost steady = { λ s k. run_steady I.model I.Item.IsValue I.values (P.answers s.0) (P.fixed s.0 k) (Some s.2) s.1 (P.IsSound s.0)
         (λ i. E.errors.of_kind i Kind.TakeWhileMN) E.errors.grows };

@@ -39,8 +39,6 @@ impl<I: Input, E: ParseError<I>> Parser<I> for Take<I, E> {
 
     ghost meaning = { λ count. take_meaning I.model E.errors I.lack count };
 
-    ghost Pins = { λ _. Unit {0} };
-
     #[inline(always)]
     fn process<OM: OutputMode>(&mut self, input: I) -> PResult<I, I, E> {
         match input.slice_index(self.count) {
@@ -54,7 +52,9 @@ impl<I: Input, E: ParseError<I>> Parser<I> for Take<I, E> {
 }
 
 impl<I: Input, E: ParseError<I>> StreamParser<I> for Take<I, E> {
-    ghost pinned = { λ s k p. slice_pinned I.model I.view I.views };
+    ghost Pins = { λ _. Unit {0} };
+
+    ghost pinned = { λ p k h. slice_pinned I.views };
 
     ghost steady = { λ count k. take_steady I.model E.errors I.lack count };
 }
@@ -82,8 +82,6 @@ impl<T: Copy, I: Input + Compare<T>, E: ParseError<I>> Parser<I> for Tag<T, I, E
 
     ghost meaning = { λ tag. tag_meaning I.model E.errors I.tag_size I.compares tag };
 
-    ghost Pins = { λ _. Unit {0} };
-
     #[inline(always)]
     fn process<OM: OutputMode>(&mut self, input: I) -> PResult<I, I, E> {
         input.prove_known();
@@ -105,7 +103,9 @@ impl<T: Copy, I: Input + Compare<T>, E: ParseError<I>> Parser<I> for Tag<T, I, E
 }
 
 impl<T: Copy, I: Input + Compare<T>, E: ParseError<I>> StreamParser<I> for Tag<T, I, E> {
-    ghost pinned = { λ s k p. slice_pinned I.model I.view I.views };
+    ghost Pins = { λ _. Unit {0} };
+
+    ghost pinned = { λ p k h. slice_pinned I.views };
 
     ghost steady = { λ tag k. tag_steady I.model I.lawful E.errors I.tag_size I.compares I.comparing tag };
 }

@@ -35,8 +35,6 @@ impl<I: Input, P: Predicate<I::Item>, E: ParseError<I>> Parser<I> for SplitPosit
 
     ghost meaning = { λ s. run_meaning I.model (P.answers s) (P.IsSound s) };
 
-    ghost Pins = { λ _. Unit {0} };
-
     #[inline(always)]
     fn process<OM: OutputMode>(&mut self, input: I) -> PResult<I, I, E> {
         let predicate = &self.predicate;
@@ -47,7 +45,9 @@ impl<I: Input, P: Predicate<I::Item>, E: ParseError<I>> Parser<I> for SplitPosit
 }
 
 impl<I: Input, P: Predicate<I::Item>, E: ParseError<I>> StreamParser<I> for SplitPosition<P, I, E> {
-    ghost pinned = { λ s k p. slice_pinned I.model I.view I.views };
+    ghost Pins = { λ _. Unit {0} };
+
+    ghost pinned = { λ p k h. slice_pinned I.views };
 
     ghost steady = { λ s k. run_steady I.model I.Item.IsValue I.values (P.answers s) (P.fixed s k) None 0 {E = E} (P.IsSound s) (λ _ _. ⊥) ⊥ };
 }

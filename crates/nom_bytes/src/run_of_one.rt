@@ -38,8 +38,6 @@ impl<I: Input, P: Predicate<I::Item>, E: ParseError<I>> Parser<I> for SplitPosit
 
     ghost meaning = { λ s. run1_meaning I.model (P.answers s.0) (P.IsSound s.0) E.errors s.1 };
 
-    ghost Pins = { λ _. Unit {0} };
-
     #[inline(always)]
     fn process<OM: OutputMode>(&mut self, input: I) -> PResult<I, I, E> {
         let predicate = &self.predicate;
@@ -52,7 +50,9 @@ impl<I: Input, P: Predicate<I::Item>, E: ParseError<I>> Parser<I> for SplitPosit
 
 impl<I: Input, P: Predicate<I::Item>, E: ParseError<I>> StreamParser<I>
     for SplitPosition1<P, I, E> {
-    ghost pinned = { λ s k p. slice_pinned I.model I.view I.views };
+    ghost Pins = { λ _. Unit {0} };
+
+    ghost pinned = { λ p k h. slice_pinned I.views };
 
     ghost steady = { λ s k. run_steady I.model I.Item.IsValue I.values (P.answers s.0) (P.fixed s.0 k) None 1 (P.IsSound s.0)
         (λ i. E.errors.of_kind i s.1) E.errors.grows };

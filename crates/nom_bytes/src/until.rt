@@ -38,8 +38,6 @@ impl<T: Copy, I: Input + FindSubstring<T>, E: ParseError<I>> Parser<I> for TakeU
 
     ghost meaning = { λ needle. until_meaning I.model E.errors I.finds false needle };
 
-    ghost Pins = { λ _. Unit {0} };
-
     #[inline(always)]
     fn process<OM: OutputMode>(&mut self, input: I) -> PResult<I, I, E> {
         input.prove_known();
@@ -55,7 +53,9 @@ impl<T: Copy, I: Input + FindSubstring<T>, E: ParseError<I>> Parser<I> for TakeU
 
 impl<T: Copy, I: Input + FindSubstring<T>, E: ParseError<I>> StreamParser<I>
     for TakeUntil<T, I, E> {
-    ghost pinned = { λ s k p. slice_pinned I.model I.view I.views };
+    ghost Pins = { λ _. Unit {0} };
+
+    ghost pinned = { λ p k h. slice_pinned I.views };
 
     ghost steady = { λ needle k. until_steady I.model I.lawful E.errors I.finds I.finding false needle };
 }
@@ -83,8 +83,6 @@ impl<T: Copy, I: Input + FindSubstring<T>, E: ParseError<I>> Parser<I> for TakeU
 
     ghost meaning = { λ needle. until_meaning I.model E.errors I.finds true needle };
 
-    ghost Pins = { λ _. Unit {0} };
-
     #[inline(always)]
     fn process<OM: OutputMode>(&mut self, input: I) -> PResult<I, I, E> {
         input.prove_known();
@@ -101,7 +99,9 @@ impl<T: Copy, I: Input + FindSubstring<T>, E: ParseError<I>> Parser<I> for TakeU
 
 impl<T: Copy, I: Input + FindSubstring<T>, E: ParseError<I>> StreamParser<I>
     for TakeUntil1<T, I, E> {
-    ghost pinned = { λ s k p. slice_pinned I.model I.view I.views };
+    ghost Pins = { λ _. Unit {0} };
+
+    ghost pinned = { λ p k h. slice_pinned I.views };
 
     ghost steady = { λ needle k. until_steady I.model I.lawful E.errors I.finds I.finding true needle };
 }

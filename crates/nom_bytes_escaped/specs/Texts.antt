@@ -36,8 +36,8 @@ module _ {U W O X P : Type 0} (IsNormal : U → O → Type 0) (IsEscapable : W �
     (escapable : IsPinned x IsEscapable) where
   one_added : (v : Piece U W) (ps qs : List P) → Adds IsNormal IsEscapable normal_adds escapable_adds v ps →
       Adds IsNormal IsEscapable normal_adds escapable_adds v qs → ps ≡ qs
-  one_added (Normal u) ps qs a b = a.2 ∙ (normal_alike a.0 b.0 (normal u a.0 b.0 a.1 b.1) ∙ sym b.2)
-  one_added (Escapable u) ps qs a b = a.2 ∙ (escapable_alike a.0 b.0 (escapable u a.0 b.0 a.1 b.1) ∙ sym b.2)
+  one_added (Normal u) ps qs a b = a.2 ∙ (normal_alike a.0 b.0 (normal.one_view u a.0 b.0 a.1 b.1) ∙ sym b.2)
+  one_added (Escapable u) ps qs a b = a.2 ∙ (escapable_alike a.0 b.0 (escapable.one_view u a.0 b.0 a.1 b.1) ∙ sym b.2)
 
   all_added : (vs : List (Piece U W)) (ps qs : List P) → AddAll IsNormal IsEscapable normal_adds escapable_adds vs ps →
       AddAll IsNormal IsEscapable normal_adds escapable_adds vs qs → ps ≡ qs
@@ -47,9 +47,10 @@ module _ {U W O X P : Type 0} (IsNormal : U → O → Type 0) (IsEscapable : W �
       let tails = all_added vs a.1 b.1 a.3 b.3 in
       a.4 ∙ (ap (λ z. z ++ a.1) heads ∙ (ap (λ z. b.0 ++ z) tails ∙ sym b.4))
 
-pub texts_pinned : {T U W O X P : Type 0} (t : View T) (parts : T → List P) → ((a b : T) → parts a ≡ parts b → t.value a ≡ t.value b) →
-    (o : View O) (x : View X) (IsNormal : U → O → Type 0) (IsEscapable : W → X → Type 0) (normal_adds : O → List P) (escapable_adds : X → List P) →
+pub texts_pinned : {T U W O X P : Type 0} {t : View T} {o : View O} {x : View X} {IsNormal : U → O → Type 0} {IsEscapable : W → X → Type 0} →
+    (parts : T → List P) (normal_adds : O → List P) (escapable_adds : X → List P) → ((a b : T) → parts a ≡ parts b → t.value a ≡ t.value b) →
     ((a b : O) → o.value a ≡ o.value b → normal_adds a ≡ normal_adds b) → ((a b : X) → x.value a ≡ x.value b → escapable_adds a ≡ escapable_adds b) →
     IsPinned o IsNormal → IsPinned x IsEscapable → IsPinned t (λ vs text. AddAll IsNormal IsEscapable normal_adds escapable_adds vs (parts text))
-texts_pinned t parts model o x IsNormal IsEscapable normal_adds escapable_adds f g p q vs a b h k =
-    model a b (all_added IsNormal IsEscapable normal_adds escapable_adds o x f g p q vs (parts a) (parts b) h k)
+texts_pinned {o = o} {x = x} {IsNormal = IsNormal} {IsEscapable = IsEscapable} parts normal_adds escapable_adds model f g p q = record {
+  one_view = λ vs a b h k. model a b (all_added IsNormal IsEscapable normal_adds escapable_adds o x f g p q vs (parts a) (parts b) h k);
+}

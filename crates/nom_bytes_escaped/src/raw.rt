@@ -42,8 +42,6 @@ where
 
     ghost meaning = { λ s. escaped_meaning I.model F.Error.errors (λ x. I.Item.code x ≡ s.1) (F.meaning s.0) (G.meaning s.2) };
 
-    ghost Pins = { λ _. Unit {0} };
-
     #[inline]
     fn process<OM: OutputMode>(&mut self, input: I) -> PResult<I, I, F::Error> {
         input.prove_known();
@@ -91,7 +89,9 @@ where
     ghost use Rattle.nom_internal.specs.Pinned.{slice_pinned};
     ghost use Rattle.nom_bytes_escaped.specs.laws.EscapeLaws.{escaped_steady};
 
-    ghost pinned = { λ s k p. slice_pinned I.model I.view I.views };
+    ghost Pins = { λ _. Unit {0} };
+
+    ghost pinned = { λ p k h. slice_pinned I.views };
 
     ghost steady = { λ s k. escaped_steady I.model I.lawful F.Error.errors (λ x. I.Item.code x ≡ s.1) (F.meaning s.0) (G.meaning s.2)
         (F.steady s.0 k.1.0) (G.steady s.2 k.1.1.1) };

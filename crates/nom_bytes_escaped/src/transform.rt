@@ -100,8 +100,6 @@ where
 
     ghost meaning = { λ s. escaped_transform_meaning I.model F.Error.errors (λ x. C.code x ≡ s.1) (F.meaning s.0) (G.meaning s.2) };
 
-    ghost Pins = { λ s. F.Pins s.0 × G.Pins s.2 };
-
     #[inline]
     fn process<OM: OutputMode>(&mut self, input: I) -> PResult<I, X, F::Error> {
         input.prove_known();
@@ -164,8 +162,10 @@ where
     ghost use Rattle.nom_bytes_escaped.specs.laws.EscapeLaws.{escaped_transform_steady};
     ghost use Rattle.nom_bytes_escaped.specs.Texts.{texts_pinned};
 
-    ghost pinned = { λ s k p. texts_pinned X.view X.parts X.views F.Output.view G.Output.view (F.IsOutput s.0)
-        (G.IsOutput s.2) F.Output.added G.Output.added F.Output.views G.Output.views (F.pinned s.0 k.1.0 p.0) (G.pinned s.2 k.1.1.1 p.1) };
+    ghost Pins = { λ p. F.Pins p.normal × G.Pins p.transform };
+
+    ghost pinned = { λ p k h. texts_pinned X.parts F.Output.added G.Output.added X.views F.Output.views G.Output.views
+        (F.pinned p.normal k.1.0 h.0) (G.pinned p.transform k.1.1.1 h.1) };
 
     ghost steady = { λ s k. escaped_transform_steady I.model I.lawful F.Error.errors (λ x. C.code x ≡ s.1) (F.meaning s.0) (G.meaning s.2)
         (F.steady s.0 k.1.0) (G.steady s.2 k.1.1.1) };

@@ -129,8 +129,6 @@ where
 
     ghost meaning = { λ s. class_meaning I.model I.Item.code E.errors s.0 s.1 };
 
-    ghost Pins = { λ _. Unit {0} };
-
     #[inline(always)]
     fn process<OM: OutputMode>(&mut self, input: I) -> PResult<I, I, E> {
         class_run::<OM, I, E>(input, self.class, self.wanted)
@@ -143,7 +141,9 @@ impl<I: Input, E: ParseError<I>> StreamParser<I> for ClassRun<I, E>
 where
     I::Item: AsChar,
 {
-    ghost pinned = { λ s k p. slice_pinned I.model I.view I.views };
+    ghost Pins = { λ _. Unit {0} };
+
+    ghost pinned = { λ p k h. slice_pinned I.views };
 
     ghost steady = { λ s k. class_steady I.model I.Item.IsValue I.values I.Item.code E.errors s.0 s.1 };
 }
@@ -172,8 +172,6 @@ where
 
     ghost meaning = { λ _. class_meaning I.model I.Item.code E.errors Class.Digit (Some Kind.Digit) };
 
-    ghost Pins = { λ _. Unit {0} };
-
     #[inline(always)]
     fn process<OM: OutputMode>(&mut self, input: I) -> PResult<I, I, E> {
         class_run::<OM, I, E>(input, AsciiClass::Digit, Some(ErrorKind::Digit))
@@ -186,7 +184,9 @@ impl<I: Input, E: ParseError<I>> StreamParser<I> for Digit1<I, E>
 where
     I::Item: AsChar,
 {
-    ghost pinned = { λ s k p. slice_pinned I.model I.view I.views };
+    ghost Pins = { λ _. Unit {0} };
+
+    ghost pinned = { λ p k h. slice_pinned I.views };
 
     ghost steady = { λ _ k. class_steady I.model I.Item.IsValue I.values I.Item.code E.errors Class.Digit (Some Kind.Digit) };
 }
@@ -215,8 +215,6 @@ where
 
     ghost meaning = { λ _. class_meaning I.model I.Item.code E.errors Class.MultiSpace None };
 
-    ghost Pins = { λ _. Unit {0} };
-
     #[inline(always)]
     fn process<OM: OutputMode>(&mut self, input: I) -> PResult<I, I, E> {
         class_run::<OM, I, E>(input, AsciiClass::MultiSpace, None)
@@ -229,7 +227,9 @@ impl<I: Input, E: ParseError<I>> StreamParser<I> for MultiSpace0<I, E>
 where
     I::Item: AsChar,
 {
-    ghost pinned = { λ s k p. slice_pinned I.model I.view I.views };
+    ghost Pins = { λ _. Unit {0} };
+
+    ghost pinned = { λ p k h. slice_pinned I.views };
 
     ghost steady = { λ _ k. class_steady I.model I.Item.IsValue I.values I.Item.code E.errors Class.MultiSpace None };
 }

@@ -166,8 +166,6 @@ where
 
     ghost meaning = { λ _. crlf_meaning I.model I.Item.code E.errors };
 
-    ghost Pins = { λ _. Unit {0} };
-
     #[inline(always)]
     fn process<OM: OutputMode>(&mut self, input: I) -> PResult<I, I, E> {
         let found = crlf_at::<I, OM::Incomplete>(input);
@@ -181,7 +179,9 @@ impl<I: Input, E: ParseError<I>> StreamParser<I> for Crlf<I, E>
 where
     I::Item: AsChar,
 {
-    ghost pinned = { λ s k p. slice_pinned I.model I.view I.views };
+    ghost Pins = { λ _. Unit {0} };
+
+    ghost pinned = { λ p k h. slice_pinned I.views };
 
     ghost steady = { λ _ k. match_steady I.model (crlf_in I.Item.code) (crlf_laws I.Item.code) E.errors Kind.CrLf };
 }
@@ -210,8 +210,6 @@ where
 
     ghost meaning = { λ _. line_ending_meaning I.model I.Item.code E.errors };
 
-    ghost Pins = { λ _. Unit {0} };
-
     #[inline(always)]
     fn process<OM: OutputMode>(&mut self, input: I) -> PResult<I, I, E> {
         let found = line_ending_at::<I, OM::Incomplete>(input);
@@ -225,7 +223,9 @@ impl<I: Input, E: ParseError<I>> StreamParser<I> for LineEnding<I, E>
 where
     I::Item: AsChar,
 {
-    ghost pinned = { λ s k p. slice_pinned I.model I.view I.views };
+    ghost Pins = { λ _. Unit {0} };
+
+    ghost pinned = { λ p k h. slice_pinned I.views };
 
     ghost steady = { λ _ k. match_steady I.model (line_ending_in I.Item.code) (line_ending_laws I.Item.code) E.errors Kind.CrLf };
 }
@@ -254,8 +254,6 @@ where
 
     ghost meaning = { λ _. line_meaning I.model I.Item.code E.errors };
 
-    ghost Pins = { λ _. Unit {0} };
-
     #[inline(always)]
     fn process<OM: OutputMode>(&mut self, input: I) -> PResult<I, I, E> {
         let found = line_at::<I, OM::Incomplete>(input);
@@ -269,7 +267,9 @@ impl<I: Input, E: ParseError<I>> StreamParser<I> for NotLineEnding<I, E>
 where
     I::Item: AsChar,
 {
-    ghost pinned = { λ s k p. slice_pinned I.model I.view I.views };
+    ghost Pins = { λ _. Unit {0} };
+
+    ghost pinned = { λ p k h. slice_pinned I.views };
 
     ghost steady = { λ _ k. match_steady I.model (line_in I.Item.code) (line_laws I.Item.code) E.errors Kind.Tag };
 }

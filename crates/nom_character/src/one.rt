@@ -45,8 +45,6 @@ where
 
     ghost meaning = { λ wanted. char_meaning I.model I.Item.code E.errors wanted };
 
-    ghost Pins = { λ _. Unit {0} };
-
     #[inline(always)]
     fn process<OM: OutputMode>(&mut self, input: I) -> PResult<I, char, E> {
         let lack = Needed::new(self.wanted.len_utf8());
@@ -64,7 +62,9 @@ impl<I: Input, E: ParseError<I>> StreamParser<I> for Char<I, E>
 where
     I::Item: AsChar,
 {
-    ghost pinned = { λ s k p. value_pinned };
+    ghost Pins = { λ _. Unit {0} };
+
+    ghost pinned = { λ p k h. value_pinned };
 
     ghost steady = { λ wanted k. first_item_steady I.model I.Item.IsValue I.values I.Item.code (λ x b. b ≡ (I.Item.code x == wanted))
         (test_is_fixed I.Item.IsValue (λ x. I.Item.code x == wanted)) (Some (len_utf8 wanted)) (Unit {0}) E.errors (OfChar wanted) };
@@ -96,8 +96,6 @@ where
 
     ghost meaning = { λ s. satisfy_meaning I.model I.Item.code (P.answers s.0) (P.IsSound s.0) E.errors s.1 };
 
-    ghost Pins = { λ _. Unit {0} };
-
     #[inline(always)]
     fn process<OM: OutputMode>(&mut self, input: I) -> PResult<I, char, E> {
         first_where::<OM, I, P, E>(
@@ -116,7 +114,9 @@ impl<I: Input, P: Predicate<I::Item>, E: ParseError<I>> StreamParser<I> for Sati
 where
     I::Item: AsChar,
 {
-    ghost pinned = { λ s k p. value_pinned };
+    ghost Pins = { λ _. Unit {0} };
+
+    ghost pinned = { λ p k h. value_pinned };
 
     ghost steady = { λ s k. first_item_steady I.model I.Item.IsValue I.values I.Item.code (P.answers s.0) (P.fixed s.0 k) None (P.IsSound s.0) E.errors
         (OfKind s.1) };
@@ -156,8 +156,6 @@ where
 
     ghost meaning = { λ _. anychar_meaning I.model I.Item.code E.errors };
 
-    ghost Pins = { λ _. Unit {0} };
-
     #[inline(always)]
     fn process<OM: OutputMode>(&mut self, input: I) -> PResult<I, char, E> {
         let lack = Needed::new(1);
@@ -172,7 +170,9 @@ impl<I: Input, E: ParseError<I>> StreamParser<I> for AnyChar<I, E>
 where
     I::Item: AsChar,
 {
-    ghost pinned = { λ s k p. value_pinned };
+    ghost Pins = { λ _. Unit {0} };
+
+    ghost pinned = { λ p k h. value_pinned };
 
     ghost steady = { λ _ k. first_item_steady I.model I.Item.IsValue I.values I.Item.code (λ x b. b ≡ true) (test_is_fixed I.Item.IsValue (λ x. true)) (Some 1)
         (Unit {0}) E.errors (OfKind Kind.Eof) };

@@ -35,17 +35,7 @@ fn ten_times_and<T: PrimInt>(number: T, ten: T, ones: T, negative: bool) -> Opti
     }
 }
 
-/// Whether any digit may follow a number that isn't negative. It is a hint, of which nothing is promised.
-#[inline(always)]
-fn has_room<T: PrimInt>(number: T, ten: T) -> bool {
-    match T::max_value().checked_div(&ten) {
-        Some(tenth) => number < tenth,
-        None => false,
-    }
-}
-
 /// The number with one more digit after its own; `None` where the type doesn't have it.
-// Both branches are the same. In the first the compiler leaves out the checks, which never fail there.
 #[inline(always)]
 fn followed_by<T: PrimInt>(number: T, digit: u8, negative: bool) -> Option<T>
     requires digit { digit < 10 }
@@ -53,11 +43,7 @@ fn followed_by<T: PrimInt>(number: T, digit: u8, negative: bool) -> Option<T>
 {
     let ten = <T as NumCast>::from(10u8)?;
     let ones = <T as NumCast>::from(digit)?;
-    if has_room(number, ten) {
-        ten_times_and(number, ten, ones, negative)
-    } else {
-        ten_times_and(number, ten, ones, negative)
-    }
+    ten_times_and(number, ten, ones, negative)
 }
 
 /// The value of an item that is a decimal digit.
@@ -177,7 +163,7 @@ pub struct Integer<T, I, E> {
     pub types: PhantomData<(T, I, E)>,
 }
 
-impl<I: Input, T: PrimInt + Viewed, E: ParseError<I>> Parser<I> for Integer<T, I, E>
+impl<I: Input, T: PrimInt, E: ParseError<I>> Parser<I> for Integer<T, I, E>
 where
     I::Item: AsChar,
 {
@@ -194,8 +180,6 @@ where
     ghost IsOutput = { λ _ z x. T.value x ≡ z };
 
     ghost meaning = { λ signed. integer_meaning I.model I.Item.code signed T.fits E.errors };
-
-    ghost Pins = { λ _. (x y : T) → T.value x ≡ T.value y → T.view.value x ≡ T.view.value y };
 
     #[inline(always)]
     fn process<OM: OutputMode>(&mut self, input: I) -> PResult<I, T, E> {
@@ -223,7 +207,9 @@ impl<I: Input, T: PrimInt + Viewed, E: ParseError<I>> StreamParser<I> for Intege
 where
     I::Item: AsChar,
 {
-    ghost pinned = { λ s k p t x y f g. p x y (f ∙ sym g) };
+    ghost Pins = { λ _. (x y : T) → T.value x ≡ T.value y → T.view.value x ≡ T.view.value y };
+
+    ghost pinned = { λ p k h. record { one_view = λ t x y f g. h x y (f ∙ sym g) } };
 
     ghost steady = { λ signed k. integer_steady I.model I.Item.code signed T.fits (range_of T.fits T.exact T.exact_law T.small_fits_law T.between_law)
         E.errors };

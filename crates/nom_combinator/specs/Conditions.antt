@@ -20,6 +20,7 @@ abbrev pub CondOutput : {S P O : Type 0} → (S → P → O → Type 0) → Opti
 CondOutput IsOutput (Some s) t o = OptOutput (IsOutput s) t o
 CondOutput IsOutput None t o = o ≡ None
 
-abbrev pub CondPins : {S : Type 0} → (S → Type 0) → Option S → Type 0
-CondPins Pins (Some s) = Pins s
+-- what pins a part, where there is one
+abbrev pub CondPins : {F : Type 0} → (F → Type 0) → Option F → Type 0
+CondPins Pins (Some f) = Pins f
 CondPins Pins None = Unit {0}

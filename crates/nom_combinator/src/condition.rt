@@ -30,8 +30,6 @@ impl<I: Items, F: Parser<I> + Drop> Parser<I> for Cond<F> {
 
     ghost meaning = { cond_meaning F.meaning };
 
-    ghost Pins = { CondPins F.Pins };
-
     #[inline(always)]
     fn process<OM: OutputMode>(&mut self, input: I) -> PResult<I, Self::Output, Self::Error> {
         match &mut self.parser {
@@ -50,7 +48,9 @@ impl<I: Items, F: Parser<I> + Drop> Parser<I> for Cond<F> {
 }
 
 impl<I: Items, F: StreamParser<I> + Drop> StreamParser<I> for Cond<F> {
-    ghost pinned = { cond_pinned F.Output.view F.meaning F.IsOutput F.Pins F.pinned };
+    ghost Pins = { λ p. CondPins F.Pins p.parser };
+
+    ghost pinned = { λ p. cond_pinned F.state F.meaning F.pinned p.parser };
 
     ghost steady = { cond_steady I.model F.meaning F.steady };
 }

@@ -59,8 +59,6 @@ where
 
     ghost meaning = { λ s. renamed_meaning (λ i. F.Error.contexts.named i s.0) F.Error.contexts.grows (F.meaning s.1) };
 
-    ghost Pins = { λ s. F.Pins s.1 };
-
     #[inline(always)]
     fn process<OM: OutputMode>(&mut self, input: I) -> PResult<I, Self::Output, Self::Error> {
         match self.parser.process::<OM>(input) {
@@ -76,7 +74,9 @@ impl<I: Items, F: StreamParser<I> + Drop> StreamParser<I> for Context<F>
 where
     F::Error: ContextError<I>,
 {
-    ghost pinned = { λ s k p. F.pinned s.1 k p };
+    ghost Pins = { λ p. F.Pins p.parser };
+
+    ghost pinned = { λ p k h. F.pinned p.parser k h };
 
     ghost steady = { λ s k. renamed_steady I.model (λ i. F.Error.contexts.named i s.0) F.Error.contexts.grows (F.meaning s.1) (F.steady s.1 k) };
 }

@@ -3,11 +3,11 @@ ghost use Rattle.std.specs.Prelude.{◌≡◌, true};
 ghost use Rattle.std.specs.Borrow.{Bor};
 ghost use Rattle.std.specs.Fn.{FnReturnsAt};
 ghost use Rattle.nom_error.specs.declared.kind.ErrorKind.TheVariants as Kind;
-ghost use Rattle.nom_internal.specs.Cloned.{ClonesEqual, clones_alike};
+ghost use Rattle.nom_internal.specs.Cloned.{ClonesEqual, clones_pinned};
 ghost use Rattle.nom_internal.specs.Judged.{judged_meaning};
 ghost use Rattle.nom_internal.specs.laws.JudgedLaws.{judged_lawful, judged_steady};
 ghost use Rattle.nom_combinator.specs.Outputs.{value_meaning};
-ghost use Rattle.nom_combinator.specs.laws.OutputLaws.{value_lawful, value_steady};
+ghost use Rattle.nom_combinator.specs.laws.OutputLaws.{tested_pinned, value_lawful, value_steady};
 
 use nom_error::answer::{Err, PResult};
 use nom_error::kind::ErrorKind;
@@ -51,8 +51,6 @@ impl<I: Items, F: Parser<I> + Drop, G: Fn(&F::Output) -> bool> Parser<I> for Ver
     ghost meaning = { λ s. judged_meaning (F.IsOutput s.0) (λ o. (p : Bor F.Output) → p.now ≡ o → G.pre s.1 p) (FnReturnsAt G.Fn s.1) (λ b. b)
         (λ i _. F.Error.errors.of_kind i Kind.Verify) F.Error.errors.grows (F.meaning s.0) };
 
-    ghost Pins = { λ s. F.Pins s.0 };
-
     #[inline(always)]
     fn process<OM: OutputMode>(&mut self, input: I) -> PResult<I, F::Output, F::Error> {
         let (rest, output) = self
@@ -76,7 +74,9 @@ impl<I: Items, F: Parser<I> + Drop, G: Fn(&F::Output) -> bool> Parser<I> for Ver
 
 impl<I: Items, F: StreamParser<I> + Drop, G: Fn(&F::Output) -> bool> StreamParser<I>
     for Verify<F, G> {
-    ghost pinned = { λ s k p t a b g h. F.pinned s.0 k.0 p t a b g.0 h.0 };
+    ghost Pins = { λ p. F.Pins p.parser };
+
+    ghost pinned = { λ p k h. tested_pinned (F.pinned p.parser k.0 h) };
 
     ghost steady = { λ s k. judged_steady I.model (F.IsOutput s.0) (λ o. (p : Bor F.Output) → p.now ≡ o → G.pre s.1 p) (FnReturnsAt G.Fn s.1) (λ b. b)
         (λ i _. F.Error.errors.of_kind i Kind.Verify) F.Error.errors.grows (F.meaning s.0) k.1 (F.steady s.0 k.0) };
@@ -106,8 +106,6 @@ impl<I: Items, O: Clone, F: Parser<I> + Drop> Parser<I> for Value<O, F> {
 
     ghost meaning = { λ s. value_meaning s.0 (O.is_infallible s.0) (F.meaning s.1) };
 
-    ghost Pins = { λ s. ClonesEqual O.is_clone s.0 };
-
     #[inline(always)]
     fn process<OM: OutputMode>(&mut self, input: I) -> PResult<I, O, F::Error> {
         let (rest, _) = self.parser.process::<OM>(input)?;
@@ -121,7 +119,9 @@ impl<I: Items, O: Clone, F: Parser<I> + Drop> Parser<I> for Value<O, F> {
 }
 
 impl<I: Items, O: Clone + Viewed, F: StreamParser<I> + Drop> StreamParser<I> for Value<O, F> {
-    ghost pinned = { λ s k p t. clones_alike O.view O.is_clone s.0 p };
+    ghost Pins = { λ p. ClonesEqual O.is_clone p.value };
+
+    ghost pinned = { λ p k h. clones_pinned h };
 
     ghost steady = { λ s k. value_steady I.model s.0 (O.is_infallible s.0) (F.meaning s.1) (F.steady s.1 k) };
 }

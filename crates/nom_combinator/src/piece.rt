@@ -34,8 +34,6 @@ impl<I: Input, F: Parser<I> + Drop> Parser<I> for Recognize<F> {
 
     ghost meaning = { λ s. recognized_meaning I.model (F.meaning s) };
 
-    ghost Pins = { λ _. Unit {0} };
-
     #[inline(always)]
     fn process<OM: OutputMode>(&mut self, input: I) -> PResult<I, I, F::Error> {
         let (rest, _) = self
@@ -49,7 +47,9 @@ impl<I: Input, F: Parser<I> + Drop> Parser<I> for Recognize<F> {
 }
 
 impl<I: Input, F: StreamParser<I> + Drop> StreamParser<I> for Recognize<F> {
-    ghost pinned = { λ s k p. slice_pinned I.model I.view I.views };
+    ghost Pins = { λ _. Unit {0} };
+
+    ghost pinned = { λ p k h. slice_pinned I.views };
 
     ghost steady = { λ s k. recognized_steady I.model I.lawful (F.meaning s) (F.steady s k) };
 }
@@ -75,8 +75,6 @@ impl<I: Input, F: Parser<I> + Drop> Parser<I> for Consumed<F> {
 
     ghost meaning = { λ s. consumed_meaning I.model (F.meaning s) };
 
-    ghost Pins = { F.Pins };
-
     #[inline(always)]
     fn process<OM: OutputMode>(&mut self, input: I) -> PResult<I, Self::Output, Self::Error> {
         let (rest, output) = self.parser.process::<OM>(input)?;
@@ -88,7 +86,9 @@ impl<I: Input, F: Parser<I> + Drop> Parser<I> for Consumed<F> {
 }
 
 impl<I: Input, F: StreamParser<I> + Drop> StreamParser<I> for Consumed<F> {
-    ghost pinned = { λ s k p. pair_pinned I.view F.Output.view (IsModelledBy I.model) (F.IsOutput s) (slice_pinned I.model I.view I.views) (F.pinned s k p) };
+    ghost Pins = { λ p. F.Pins p.parser };
+
+    ghost pinned = { λ p k h. pair_pinned (slice_pinned I.views) (F.pinned p.parser k h) };
 
     ghost steady = { λ s k. consumed_steady I.model (F.meaning s) I.lawful (F.steady s k) };
 }

@@ -34,8 +34,6 @@ impl<I: Items, F: Parser<I> + Drop> Parser<I> for Cut<F> {
 
     ghost meaning = { λ s. cut_meaning (F.meaning s) };
 
-    ghost Pins = { F.Pins };
-
     #[inline(always)]
     fn process<OM: OutputMode>(&mut self, input: I) -> PResult<I, Self::Output, Self::Error> {
         match self
@@ -55,7 +53,9 @@ impl<I: Items, F: Parser<I> + Drop> Parser<I> for Cut<F> {
 }
 
 impl<I: Items, F: StreamParser<I> + Drop> StreamParser<I> for Cut<F> {
-    ghost pinned = { F.pinned };
+    ghost Pins = { λ p. F.Pins p.parser };
+
+    ghost pinned = { λ p. F.pinned p.parser };
 
     ghost steady = { λ s k. cut_steady I.model (F.meaning s) (F.steady s k) };
 }
@@ -81,8 +81,6 @@ impl<I: Items, F: Parser<I> + Drop> Parser<I> for Opt<F> {
 
     ghost meaning = { λ s. opt_meaning (F.meaning s) };
 
-    ghost Pins = { F.Pins };
-
     #[inline(always)]
     fn process<OM: OutputMode>(&mut self, input: I) -> PResult<I, Self::Output, Self::Error> {
         input.prove_known();
@@ -102,7 +100,9 @@ impl<I: Items, F: Parser<I> + Drop> Parser<I> for Opt<F> {
 }
 
 impl<I: Items, F: StreamParser<I> + Drop> StreamParser<I> for Opt<F> {
-    ghost pinned = { λ s k p. opt_pinned F.Output.view (F.IsOutput s) (F.pinned s k p) };
+    ghost Pins = { λ p. F.Pins p.parser };
+
+    ghost pinned = { λ p k h. opt_pinned (F.pinned p.parser k h) };
 
     ghost steady = { λ s k. opt_steady I.model (F.meaning s) (F.steady s k) };
 }
@@ -128,8 +128,6 @@ impl<I: Items, F: Parser<I> + Drop> Parser<I> for Peek<F> {
 
     ghost meaning = { λ s. peek_meaning (F.meaning s) };
 
-    ghost Pins = { F.Pins };
-
     #[inline(always)]
     fn process<OM: OutputMode>(&mut self, input: I) -> PResult<I, Self::Output, Self::Error> {
         input.prove_known();
@@ -141,7 +139,9 @@ impl<I: Items, F: Parser<I> + Drop> Parser<I> for Peek<F> {
 }
 
 impl<I: Items, F: StreamParser<I> + Drop> StreamParser<I> for Peek<F> {
-    ghost pinned = { F.pinned };
+    ghost Pins = { λ p. F.Pins p.parser };
+
+    ghost pinned = { λ p. F.pinned p.parser };
 
     ghost steady = { λ s k. peek_steady I.model (F.meaning s) (F.steady s k) };
 }
@@ -167,8 +167,6 @@ impl<I: Items, F: Parser<I> + Drop> Parser<I> for Not<F> {
 
     ghost meaning = { λ s. not_meaning (λ i. F.Error.errors.of_kind i Kind.Not) F.Error.errors.grows (F.meaning s) };
 
-    ghost Pins = { λ _. Unit {0} };
-
     #[inline(always)]
     fn process<OM: OutputMode>(&mut self, input: I) -> PResult<I, Self::Output, Self::Error> {
         input.prove_known();
@@ -190,7 +188,9 @@ impl<I: Items, F: Parser<I> + Drop> Parser<I> for Not<F> {
 impl<I: Items, F: StreamParser<I> + Drop> StreamParser<I> for Not<F> {
     ghost use Rattle.nom_internal.specs.Pinned.{value_pinned};
 
-    ghost pinned = { λ s k p. value_pinned };
+    ghost Pins = { λ _. Unit {0} };
+
+    ghost pinned = { λ p k h. value_pinned };
 
     ghost steady = { λ s k. not_steady I.model (F.meaning s) (λ i. F.Error.errors.of_kind i Kind.Not) F.Error.errors.grows (F.steady s k) };
 }
@@ -215,8 +215,6 @@ impl<I: Items, F: Parser<I> + Drop> Parser<I> for MakeComplete<F> {
     ghost IsOutput = { F.IsOutput };
 
     ghost meaning = { λ s. complete_meaning (λ i. F.Error.errors.of_kind i Kind.Complete) F.Error.errors.grows (F.meaning s) };
-
-    ghost Pins = { F.Pins };
 
     #[inline(always)]
     fn process<OM: OutputMode>(&mut self, input: I) -> PResult<I, Self::Output, Self::Error> {

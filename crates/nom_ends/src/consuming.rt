@@ -32,8 +32,6 @@ impl<I: Input, F: Parser<I> + Drop> Parser<I> for AllConsuming<F> {
 
     ghost meaning = { λ s. all_consuming_meaning I.model F.Error.errors (F.meaning s) };
 
-    ghost Pins = { F.Pins };
-
     #[inline(always)]
     fn process<OM: OutputMode>(&mut self, input: I) -> PResult<I, Self::Output, Self::Error> {
         let (rest, output) = self.parser.process::<OM>(input)?;

@@ -1,9 +1,10 @@
 //! Parsers whose answer is fixed, whatever the input.
 ghost use Rattle.std.specs.Prelude.{◌≡◌};
-ghost use Rattle.nom_internal.specs.Cloned.{ClonesEqual, clones_alike};
+ghost use Rattle.nom_internal.specs.Cloned.{ClonesEqual, clones_pinned};
+ghost use Rattle.nom_internal.specs.Pinned.{value_pinned};
 ghost use Rattle.nom_internal.specs.Success.{success_steady};
 ghost use Rattle.nom_ends.specs.Ends.{clone_meaning, fail_meaning};
-ghost use Rattle.nom_ends.specs.laws.EndLaws.{clone_lawful, fail_lawful, fail_steady, same_pinned};
+ghost use Rattle.nom_ends.specs.laws.EndLaws.{clone_lawful, fail_lawful, fail_steady};
 
 use nom_error::answer::{Err, PResult};
 use nom_error::kind::ErrorKind;
@@ -38,8 +39,6 @@ impl<I: Items, O: Clone, E: ParseError<I>> Parser<I> for Success<O, I, E> {
 
     ghost meaning = { λ value. clone_meaning value (O.is_infallible value) };
 
-    ghost Pins = { ClonesEqual O.is_clone };
-
     #[inline(always)]
     fn process<OM: OutputMode>(&mut self, input: I) -> PResult<I, O, E> {
         input.prove_known();
@@ -53,7 +52,9 @@ impl<I: Items, O: Clone, E: ParseError<I>> Parser<I> for Success<O, I, E> {
 }
 
 impl<I: Items, O: Clone + Viewed, E: ParseError<I>> StreamParser<I> for Success<O, I, E> {
-    ghost pinned = { λ value k p t. clones_alike O.view O.is_clone value p };
+    ghost Pins = { λ p. ClonesEqual O.is_clone p.value };
+
+    ghost pinned = { λ p k h. clones_pinned h };
 
     ghost steady = { λ value k. success_steady E I.model value };
 }
@@ -79,8 +80,6 @@ impl<I: Items, O: Drop, E: ParseError<I>> Parser<I> for Fail<O, I, E> {
 
     ghost meaning = { λ _. fail_meaning E.errors };
 
-    ghost Pins = { λ _. Unit {0} };
-
     #[inline(always)]
     fn process<OM: OutputMode>(&mut self, input: I) -> PResult<I, O, E> {
         Err(refusal::<OM::Error, I, E>(input, ErrorKind::Fail))
@@ -90,7 +89,9 @@ impl<I: Items, O: Drop, E: ParseError<I>> Parser<I> for Fail<O, I, E> {
 }
 
 impl<I: Items, O: Drop + Viewed, E: ParseError<I>> StreamParser<I> for Fail<O, I, E> {
-    ghost pinned = { λ s k p. same_pinned O.view };
+    ghost Pins = { λ _. Unit {0} };
+
+    ghost pinned = { λ p k h. value_pinned };
 
     ghost steady = { λ _ k. fail_steady O I.model E.errors };
 }

@@ -42,8 +42,6 @@ impl<I: Input, E: ParseError<I>> Parser<I> for Eof<I, E> {
 
     ghost meaning = { λ _. eof_meaning I.model E.errors };
 
-    ghost Pins = { λ _. Unit {0} };
-
     #[inline(always)]
     fn process<OM: OutputMode>(&mut self, input: I) -> PResult<I, I, E> {
         if input.input_len() == 0 {
@@ -86,8 +84,6 @@ impl<I: Input, E: ParseError<I>> Parser<I> for Rest<I, E> {
 
     ghost meaning = { λ _. rest_meaning I.model };
 
-    ghost Pins = { λ _. Unit {0} };
-
     #[inline(always)]
     fn process<OM: OutputMode>(&mut self, input: I) -> PResult<I, I, E> {
         input.prove_known();
@@ -128,8 +124,6 @@ impl<I: Input, E: ParseError<I>> Parser<I> for RestLen<I, E> {
     ghost IsOutput = { λ _ t n. n ≡ t };
 
     ghost meaning = { λ _. rest_len_meaning I.model };
-
-    ghost Pins = { λ _. Unit {0} };
 
     #[inline(always)]
     fn process<OM: OutputMode>(&mut self, input: I) -> PResult<I, usize, E> {

@@ -37,7 +37,7 @@ module _ {V O : Type 0} (view : View O) (IsOutput : V → O → Type 0) where
   Retold (Undecided k) o = o ≡ Undecided k
 
   retold_once : IsPinned view IsOutput → (a : Outcome V) (o p : Outcome view.Value) → Retold a o → Retold a p → o ≡ p
-  retold_once one (Accept n t) o p h k = h.2 ∙ (ap (λ v. Accept n v) (one t h.0 k.0 h.1 k.1) ∙ sym k.2)
+  retold_once one (Accept n t) o p h k = h.2 ∙ (ap (λ v. Accept n v) (one.one_view t h.0 k.0 h.1 k.1) ∙ sym k.2)
   retold_once one Refuse o p h k = h ∙ sym k
   retold_once one Fail o p h k = h ∙ sym k
   retold_once one TooLarge o p h k = h ∙ sym k

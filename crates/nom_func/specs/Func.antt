@@ -16,8 +16,8 @@ use Rattle.nom_internal.specs.Pinned.{IsPinned}
 abbrev pub IsViewed : {O : Type 0} (view : View O) → view.Value → O → Type 0
 IsViewed view t o = view.value o ≡ t
 
-pub viewed_pinned : {O : Type 0} (view : View O) → IsPinned view (IsViewed view)
-viewed_pinned view t a b p q = p ∙ sym q
+pub viewed_pinned : {O : Type 0} {view : View O} → IsPinned view (IsViewed view)
+viewed_pinned = record { one_view = λ t a b p q. p ∙ sym q }
 
 -- the error that the function's refusal or failure holds
 pub data FuncBlames {I O E : Type 0} (Gives : I → Result (I × O) (Answer.Err E E Needed) → Type 0) (i : I) (e : E) : Type 0 where

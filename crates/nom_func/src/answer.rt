@@ -16,7 +16,7 @@ pub fn answer<I: Items, P: StreamParser<I>>(
     input: I,
 ) -> IResult<I, P::Output, P::Error>
     requires sound { (P.meaning (P.state parser.old)).IsSound }
-    requires pins { P.Parser.Pins (P.state parser.old) }
+    requires pins { P.Pins parser.old }
     ensures answer { AnswersBy I.model P.Output.view (P.IsOutput (P.state parser.old)) (P.meaning (P.state parser.old)) false input result }
     ensures kept { P.state parser.new ≡ P.state parser.old }
     ensures besides { P.Besides (modes true true false) parser.old parser.new input (rest_of result) }
@@ -32,7 +32,7 @@ pub fn stream_answer<I: Items, P: StreamParser<I>>(
     input: I,
 ) -> IResult<I, P::Output, P::Error>
     requires sound { (P.meaning (P.state parser.old)).IsSound }
-    requires pins { P.Parser.Pins (P.state parser.old) }
+    requires pins { P.Pins parser.old }
     requires never_too_large { NeverTooLarge (P.meaning (P.state parser.old)) }
     ensures answer { StreamsBy I.model P.Output.view (P.IsOutput (P.state parser.old)) (P.meaning (P.state parser.old)) true input result }
     ensures kept { P.state parser.new ≡ P.state parser.old }

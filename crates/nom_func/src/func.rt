@@ -34,8 +34,6 @@ impl<I: Items, O: Viewed + Drop, E: ParseError<I>, F: Fn(I) -> IResult<I, O, E>>
 
     ghost meaning = { λ f. func_meaning I.model O.view (F.post f) (IsParser I.model O.view (F.post f) (F.pre f)) };
 
-    ghost Pins = { λ _. Unit {0} };
-
     #[inline(always)]
     fn process<OM: OutputMode>(&mut self, input: I) -> PResult<I, O, E> {
         input.prove_known();
@@ -73,8 +71,6 @@ impl<I: Items, O: Viewed + Drop, E: ParseError<I>, F: Fn(I) -> IResult<I, O, E>>
 
     ghost meaning = { λ f. func_meaning I.model O.view (F.post f) (IsStreamParser I.model O.view (F.post f) (F.pre f)) };
 
-    ghost Pins = { λ _. Unit {0} };
-
     #[inline(always)]
     fn process<OM: OutputMode>(&mut self, input: I) -> PResult<I, O, E> {
         self.func.process::<OM>(input)
@@ -85,7 +81,9 @@ impl<I: Items, O: Viewed + Drop, E: ParseError<I>, F: Fn(I) -> IResult<I, O, E>>
 
 impl<I: Items, O: Viewed + Drop, E: ParseError<I>, F: Fn(I) -> IResult<I, O, E>> StreamParser<I>
     for StreamFunc<F, I, O, E> {
-    ghost pinned = { λ f k p. viewed_pinned O.view };
+    ghost Pins = { λ _. Unit {0} };
+
+    ghost pinned = { λ p k h. viewed_pinned };
 
     ghost steady = { λ f. stream_func_steady I.model O.view (F.post f) (F.pre f) };
 }

@@ -29,7 +29,8 @@ module _ {I A V O E : Type 0} (w : Model I A) (l : InputLaws w) (view : View O) 
   of_one : (o : Outcome V) (r s : Result (I × O) (Answer.Err E E Needed)) → m.answers true x o → m.answers false x o → IsDecided o →
       Parses w IsOutput x (m.blames true x) o r → Parses w IsOutput x (m.blames false x) o s → Shown r s
   of_one (Accept n v) r s a b d h t =
-      let answer : Shown (Ok (h.0, h.1)) s = (t.0, t.1, rest_related w l false x x n h.0 t.0 (same_self w x) h.2 t.2, (λ p. pinned p v h.1 t.1 h.3 t.3), t.4) in
+      let same = rest_related w l false x x n h.0 t.0 (same_self w x) h.2 t.2 in
+      let answer : Shown (Ok (h.0, h.1)) s = (t.0, t.1, same, (λ p. (pinned p).one_view v h.1 t.1 h.3 t.3), t.4) in
       subst (λ z. Shown z s) (sym h.4) answer
   of_one Refuse r s a b d h t = subst (λ z. Shown z s) (sym h.2) (t.0, t.2, first_blamed Refuse a b d h.0 h.1, second_blamed Refuse a b d t.0 t.1)
   of_one Fail r s a b d h t = subst (λ z. Shown z s) (sym h.2) (inr (t.0, t.2, first_blamed Fail a b d h.0 h.1, second_blamed Fail a b d t.0 t.1))

@@ -177,7 +177,7 @@ module _ {I A V O E : Type 0} (w : Model I A) (l : InputLaws w) (view : View O) 
       IsOfWhole w view Pins IsOutput m beginning r s
   of_outcome (Accept n v) r s a h f t =
       let answer : IsOfWhole w view Pins IsOutput m beginning (Ok (h.0, h.1)) s =
-      (t.0, t.1, rest_related w l false whole whole n h.0 t.0 (same_self w whole) h.2 t.2, (λ p. pinned p v h.1 t.1 h.3 t.3), t.4) in
+      (t.0, t.1, rest_related w l false whole whole n h.0 t.0 (same_self w whole) h.2 t.2, (λ p. (pinned p).one_view v h.1 t.1 h.3 t.3), t.4) in
       subst (λ z. IsOfWhole w view Pins IsOutput m beginning z s) (sym h.4) answer
   of_outcome Refuse r s a h f t = subst (λ z. IsOfWhole w view Pins IsOutput m beginning z s) (sym h.2) (t.0, t.2)
   of_outcome Fail r s a h f t = subst (λ z. IsOfWhole w view Pins IsOutput m beginning z s) (sym h.2) (inr (t.0, t.2))

@@ -55,7 +55,7 @@ pub fn parse_growing<I: Input, P: StreamParser<I> + Drop>(
     requires cuts { AreCuts I.model whole cuts.now }
     ensures grown { IsGrown I.model (P.IsOutput (P.state parser)) (P.meaning (P.state parser)) whole cuts.now result.index result.result }
     // Where the parser pins, one parse of the whole answers the same.
-    ensures whole { AgreesWithWhole I.model P.Output.view (P.Parser.Pins (P.state parser)) (P.IsOutput (P.state parser))
+    ensures whole { AgreesWithWhole I.model P.Output.view (P.Pins parser) (P.IsOutput (P.state parser))
         (P.meaning (P.state parser)) whole cuts.now result.index result.result }
 {
     whole.prove_known();

@@ -17,7 +17,7 @@ pub fn stays_on_longer<I: Items, P: StreamParser<I>>(_parser: &P)
 /// memory aside.
 pub fn answers_stay<I: Items, P: StreamParser<I>>(_parser: &P)
     requires { (P.meaning (P.state _parser.now)).IsSound }
-    ensures { AnswersStay I.model P.Output.view (P.Parser.Pins (P.state _parser.now)) (P.IsOutput (P.state _parser.now)) (P.meaning (P.state _parser.now)) }
+    ensures { AnswersStay I.model P.Output.view (P.Pins _parser.now) (P.IsOutput (P.state _parser.now)) (P.meaning (P.state _parser.now)) }
 {}
 
 /// Inputs that are equal as models have one outcome in each mode, and the same.
@@ -46,7 +46,7 @@ pub fn is_complete_too<I: Items, P: Parser<I>>(_parser: &P)
 pub fn answers_complete<I: Items, P: StreamParser<I>>(_parser: &P)
     requires sound { (P.meaning (P.state _parser.now)).IsSound }
     requires settles { (P.meaning (P.state _parser.now)).Settles }
-    ensures { AnswersComplete I.model P.Output.view (P.Parser.Pins (P.state _parser.now)) (P.IsOutput (P.state _parser.now)) (P.meaning (P.state _parser.now)) }
+    ensures { AnswersComplete I.model P.Output.view (P.Pins _parser.now) (P.IsOutput (P.state _parser.now)) (P.meaning (P.state _parser.now)) }
 {}
 
 /// Where a parser is frugal, memory never runs out.

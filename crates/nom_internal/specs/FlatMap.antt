@@ -35,6 +35,10 @@ module _ {P O H S : Type 0} (IsOutput : P → O → Type 0) (g : Maker O H S) wh
   abbrev pub OfEach : (S → Type 0) → Type 0
   OfEach Fact = (t : P) (u : S) → GivesState t u → Fact u
 
+  -- of each parser that can be given
+  abbrev pub OfEachGiven : (H → Type 0) → Type 0
+  OfEachGiven Fact = (t : P) (o : O) (h : H) → IsOutput t o → g.Gives o h → Fact h
+
   -- an output of a parser whose state can be given; the state is in the tree
   pub record IsGiven {Q X : Type 0} (IsResult : S → Q → X → Type 0) (r : S × Q) (x : X) : Type 0 where
     pub key : P

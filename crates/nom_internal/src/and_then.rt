@@ -19,7 +19,7 @@ pub struct AndThen<F, G> {
 impl<
     I: Items,
     F: Parser<I, Output: Items> + Drop,
-    G: Parser<F::Output, Output: Viewed, Error = F::Error> + Drop,
+    G: Parser<F::Output, Error = F::Error> + Drop,
 > Parser<I> for AndThen<F, G> {
     ghost use Rattle.nom_internal.specs.laws.BoundedLaws.{and_then_lawful};
 
@@ -38,7 +38,6 @@ impl<
     ghost meaning = { λ s. and_then_meaning I.model F.Output.model (F.IsOutput s.0) (F.meaning s.0) (G.meaning s.1) };
 
     // The second needn't be a stream parser, which alone has a law of what it pins.
-    ghost Pins = { λ s. IsPinned G.Output.view (G.IsOutput s.1) };
 
     #[inline(always)]
     fn process<OM: OutputMode>(&mut self, input: I) -> PResult<I, G::Output, F::Error> {
@@ -65,7 +64,9 @@ impl<
 > StreamParser<I> for AndThen<F, G> {
     ghost use Rattle.nom_internal.specs.laws.BoundedLaws.{and_then_steady};
 
-    ghost pinned = { λ s k p. p };
+    ghost Pins = { λ p. IsPinned G.Output.view (G.IsOutput (G.state p.second)) };
+
+    ghost pinned = { λ p k h. h };
 
     ghost steady = { λ s k. and_then_steady I.model F.Output.model (F.IsOutput s.0) k.1.1 (G.meaning s.1) (G.lawful s.1 k.1.0) I.lawful (F.meaning s.0)
         (F.steady s.0 k.0) };

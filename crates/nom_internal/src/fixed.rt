@@ -31,8 +31,6 @@ impl<I: Items, P: Parser<I> + Drop, S: IsStreaming> Parser<I> for Fixed<P, S> {
 
     ghost meaning = { λ s. fixed_meaning S.STREAMING (P.meaning s) };
 
-    ghost Pins = { P.Pins };
-
     ghost Besides = { λ mode old new. P.Besides (with_streaming S.STREAMING mode) old.parser new.parser };
 
     #[inline(always)]
@@ -45,7 +43,9 @@ impl<I: Items, P: Parser<I> + Drop, S: IsStreaming> Parser<I> for Fixed<P, S> {
 }
 
 impl<I: Items, P: StreamParser<I> + Drop> StreamParser<I> for Fixed<P, Streaming> {
-    ghost pinned = { P.pinned };
+    ghost Pins = { λ p. P.Pins p.parser };
+
+    ghost pinned = { λ p. P.pinned p.parser };
 
     ghost steady = { λ s k. fixed_steady I.model (P.meaning s) (P.steady s k) };
 }

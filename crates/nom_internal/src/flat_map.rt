@@ -1,5 +1,5 @@
 //! Parsers that closures give.
-ghost use Rattle.nom_internal.specs.FlatMap.{maker, OfEach, IsGiven, flat_map_meaning};
+ghost use Rattle.nom_internal.specs.FlatMap.{maker, OfEachGiven, IsGiven, flat_map_meaning};
 
 use crate::parser::{Parser, StreamParser};
 use nom_error::answer::PResult;
@@ -36,8 +36,6 @@ impl<
 
     ghost meaning = { λ s. flat_map_meaning I.model (F.IsOutput s.0) (maker (G.pre s.1) (G.post s.1) H.state) (F.meaning s.0) H.meaning };
 
-    ghost Pins = { λ s. OfEach (F.IsOutput s.0) (maker (G.pre s.1) (G.post s.1) H.state) H.Pins };
-
     #[inline(always)]
     fn process<OM: OutputMode>(&mut self, input: I) -> PResult<I, H::Output, F::Error> {
         let (rest, output) = self
@@ -63,8 +61,9 @@ impl<
 > StreamParser<I> for FlatMap<F, G> {
     ghost use Rattle.nom_internal.specs.laws.FlatMapLaws.{flat_map_steady, given_pinned};
 
-    ghost pinned = { λ s k p. given_pinned (F.IsOutput s.0) (maker (G.pre s.1) (G.post s.1) H.state)
-        (λ u. (H.meaning u).IsSound) H.Pins H.Output.view H.IsOutput k.1 p H.pinned };
+    ghost Pins = { λ p. OfEachGiven (F.IsOutput (F.state p.first)) (maker (G.pre p.make) (G.post p.make) H.state) H.Pins };
+
+    ghost pinned = { λ p k h. given_pinned k.1 h H.pinned };
 
     ghost steady = { λ s k. flat_map_steady I.model (F.IsOutput s.0)
         (maker (G.pre s.1) (G.post s.1) H.state) H.meaning k.1 H.steady I.lawful (F.meaning s.0) (F.steady s.0 k.0) };

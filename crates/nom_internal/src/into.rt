@@ -52,12 +52,9 @@ fn converted_answer<I, T: Drop, U: From<T>, E: Drop, F: From<E>>(
 impl<
     I: Items,
     F: Parser<I> + Drop,
-    O: From<F::Output> + Viewed + Drop,
+    O: From<F::Output> + Drop,
     E: From<F::Error> + ParseError<I>,
-> Parser<I> for Into<F, O, E>
-where
-    F::Output: Viewed,
-{
+> Parser<I> for Into<F, O, E> {
     type Output = O;
 
     type Error = E;
@@ -71,8 +68,6 @@ where
     ghost IsOutput = { λ s. GivesFor (F.IsOutput s) O.from_gives };
 
     ghost meaning = { λ s. into_meaning E.from_gives (F.meaning s) };
-
-    ghost Pins = { λ s. F.Pins s × SeesAlike F.Output.view O.view O.from_gives };
 
     ghost Besides = { λ mode old new. F.Besides mode old.parser new.parser };
 
@@ -90,7 +85,9 @@ impl<
     O: From<F::Output> + Viewed + Drop,
     E: From<F::Error> + ParseError<I>,
 > StreamParser<I> for Into<F, O, E> {
-    ghost pinned = { λ s k p. given_pinned F.Output.view O.view (F.IsOutput s) O.from_gives (F.pinned s k p.0) p.1 };
+    ghost Pins = { λ p. F.Pins p.parser × SeesAlike F.Output.view O.view O.from_gives };
+
+    ghost pinned = { λ p k h. given_pinned (F.pinned p.parser k h.0) h.1 };
 
     ghost steady = { λ s k. renamed_steady I.model (λ _. E.from_gives) ⊥ (F.meaning s) (F.steady s k) };
 }

@@ -27,11 +27,8 @@ pub struct MapOpt<F, G> {
     pub map: G,
 }
 
-impl<I: Items, F: Parser<I> + Drop, O: Viewed + Drop, G: Fn(F::Output) -> Option<O>> Parser<I>
-    for MapOpt<F, G>
-where
-    F::Output: Viewed,
-{
+impl<I: Items, F: Parser<I> + Drop, O: Drop, G: Fn(F::Output) -> Option<O>> Parser<I>
+    for MapOpt<F, G> {
     type Output = O;
 
     type Error = F::Error;
@@ -46,8 +43,6 @@ where
 
     ghost meaning = { λ s. judged_meaning (F.IsOutput s.0) (G.pre s.1)
         (G.post s.1) is_some (λ i _. F.Error.errors.of_kind i Kind.MapOpt) F.Error.errors.grows (F.meaning s.0) };
-
-    ghost Pins = { λ s. F.Pins s.0 × SeesAlike F.Output.view O.view (λ a o. G.post s.1 a (Some o)) };
 
     ghost Besides = { λ mode old new i. WhereAccepted (F.Besides (with_outputs true mode) old.parser new.parser i) };
 
@@ -76,7 +71,9 @@ impl<
     O: Viewed + Drop,
     G: Fn(F::Output) -> Option<O>,
 > StreamParser<I> for MapOpt<F, G> {
-    ghost pinned = { λ s k p. given_pinned F.Output.view O.view (F.IsOutput s.0) (λ a o. G.post s.1 a (Some o)) (F.pinned s.0 k.0 p.0) p.1 };
+    ghost Pins = { λ p. F.Pins p.parser × SeesAlike F.Output.view O.view (λ a o. G.post p.map a (Some o)) };
+
+    ghost pinned = { λ p k h. given_pinned (F.pinned p.parser k.0 h.0) h.1 };
 
     ghost steady = { λ s k. judged_steady I.model (F.IsOutput s.0) (G.pre s.1)
         (G.post s.1) is_some (λ i _. F.Error.errors.of_kind i Kind.MapOpt) F.Error.errors.grows (F.meaning s.0) k.1 (F.steady s.0 k.0) };
@@ -109,15 +106,9 @@ pub struct MapRes<F, G> {
     pub map: G,
 }
 
-impl<
-    I: Items,
-    X: Drop,
-    F: Parser<I> + Drop,
-    O: Viewed + Drop,
-    G: Fn(F::Output) -> Result<O, X>,
-> Parser<I> for MapRes<F, G>
+impl<I: Items, X: Drop, F: Parser<I> + Drop, O: Drop, G: Fn(F::Output) -> Result<O, X>> Parser<I>
+    for MapRes<F, G>
 where
-    F::Output: Viewed,
     F::Error: FromExternalError<I, X>,
 {
     type Output = O;
@@ -134,8 +125,6 @@ where
 
     ghost meaning = { λ s. judged_meaning (F.IsOutput s.0) (G.pre s.1) (G.post s.1) is_ok (λ i. OfError (F.Error.externals.of_external i Kind.MapRes))
         F.Error.externals.grows (F.meaning s.0) };
-
-    ghost Pins = { λ s. F.Pins s.0 × SeesAlike F.Output.view O.view (λ a o. G.post s.1 a (Ok o)) };
 
     ghost Besides = { λ mode old new i. WhereAccepted (F.Besides (with_outputs true mode) old.parser new.parser i) };
 
@@ -172,7 +161,9 @@ impl<
 where
     F::Error: FromExternalError<I, X>,
 {
-    ghost pinned = { λ s k p. given_pinned F.Output.view O.view (F.IsOutput s.0) (λ a o. G.post s.1 a (Ok o)) (F.pinned s.0 k.0 p.0) p.1 };
+    ghost Pins = { λ p. F.Pins p.parser × SeesAlike F.Output.view O.view (λ a o. G.post p.map a (Ok o)) };
+
+    ghost pinned = { λ p k h. given_pinned (F.pinned p.parser k.0 h.0) h.1 };
 
     ghost steady = { λ s k. judged_steady I.model (F.IsOutput s.0) (G.pre s.1)
         (G.post s.1) is_ok (λ i. OfError (F.Error.externals.of_external i Kind.MapRes)) F.Error.externals.grows (F.meaning s.0) k.1 (F.steady s.0 k.0) };

@@ -17,10 +17,7 @@ pub struct Map<F, G> {
     pub map: G,
 }
 
-impl<I: Items, F: Parser<I> + Drop, O: Viewed + Drop, G: Fn(F::Output) -> O> Parser<I> for Map<F, G>
-where
-    F::Output: Viewed,
-{
+impl<I: Items, F: Parser<I> + Drop, O: Drop, G: Fn(F::Output) -> O> Parser<I> for Map<F, G> {
     type Output = O;
 
     type Error = F::Error;
@@ -34,8 +31,6 @@ where
     ghost IsOutput = { λ s. GivesFor (F.IsOutput s.0) (G.post s.1) };
 
     ghost meaning = { λ s. map_meaning (F.IsOutput s.0) (G.pre s.1) (F.meaning s.0) };
-
-    ghost Pins = { λ s. F.Pins s.0 × SeesAlike F.Output.view O.view (G.post s.1) };
 
     ghost Besides = { λ mode old new. F.Besides mode old.parser new.parser };
 
@@ -53,7 +48,9 @@ where
 
 impl<I: Items, F: StreamParser<I> + Drop, O: Viewed + Drop, G: Fn(F::Output) -> O> StreamParser<I>
     for Map<F, G> {
-    ghost pinned = { λ s k p. given_pinned F.Output.view O.view (F.IsOutput s.0) (G.post s.1) (F.pinned s.0 k.0 p.0) p.1 };
+    ghost Pins = { λ p. F.Pins p.parser × SeesAlike F.Output.view O.view (G.post p.map) };
+
+    ghost pinned = { λ p k h. given_pinned (F.pinned p.parser k.0 h.0) h.1 };
 
     ghost steady = { λ s k. map_steady I.model (F.IsOutput s.0) (G.pre s.1) (F.meaning s.0) (F.steady s.0 k.0) };
 }

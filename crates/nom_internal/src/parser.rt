@@ -43,10 +43,6 @@ pub trait Parser<I: Items>: Sized {
     /// What the parser means.
     ghost meaning: { State → Meaning I Tree Self.Error };
 
-    /// Where the outputs that a tree stands for are one, as they are compared: closures answer arguments
-    /// that are equal as viewed by results that are.
-    ghost Pins: { State → Type 0 };
-
     /// What a call owes besides its outcome, by the mode, the parser before and after, the input, and the
     /// rest that is accepted.
     ghost Besides: { Modes → Self → Self → I → Option I → Type 0 } = { λ _ _ _ _ _. Unit {0} };
@@ -194,12 +190,16 @@ pub trait Parser<I: Items>: Sized {
 /// A parser whose decided streaming outcomes stay on every longer input, and whose outputs are compared
 /// by a view.
 pub trait StreamParser<I: Items>: Parser<I, Output: Viewed> {
+    /// Where the outputs that a tree stands for are equal as viewed: closures answer arguments that are equal
+    /// as viewed by results that are.
+    ghost Pins: { Self → Type 0 };
+
     /// Does nothing: a parser is called by `Parser`.
     #[inline(always)]
     fn streams(&self) {}
 
     /// Where it pins, two outputs of one tree are equal as viewed.
-    ghost pinned: { (s : Self.State) → (Self.meaning s).IsSound → Self.Parser.Pins s → IsPinned Self.Output.view (Self.IsOutput s) };
+    ghost pinned: { (p : Self) → (Self.meaning (Self.state p)).IsSound → Self.StreamParser.Pins p → IsPinned Self.Output.view (Self.IsOutput (Self.state p)) };
 
     /// A decided streaming outcome stays on every longer input.
     ghost steady: { (s : Self.State) → (Self.meaning s).IsSound → IsSteady I.model (Self.meaning s) };

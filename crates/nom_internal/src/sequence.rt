@@ -44,8 +44,6 @@ impl<I: Items, F: Parser<I> + Drop, G: Parser<I, Error = F::Error> + Drop> Parse
 
     ghost meaning = { λ s. pair_meaning I.model (F.meaning s.0) (G.meaning s.1) };
 
-    ghost Pins = { λ s. F.Pins s.0 × G.Pins s.1 };
-
     ghost Besides = { λ mode old new i. ThenBesides (F.Besides mode old.first new.first i) (G.Besides mode old.second new.second) };
 
     #[inline(always)]
@@ -65,7 +63,9 @@ impl<I: Items, F: StreamParser<I> + Drop, G: StreamParser<I, Error = F::Error> +
     ghost use Rattle.nom_internal.specs.Pinned.{pair_pinned};
     ghost use Rattle.nom_internal.specs.laws.SequenceLaws.{sequence_steady};
 
-    ghost pinned = { λ s k p. pair_pinned F.Output.view G.Output.view (F.IsOutput s.0) (G.IsOutput s.1) (F.pinned s.0 k.0 p.0) (G.pinned s.1 k.1 p.1) };
+    ghost Pins = { λ p. F.Pins p.first × G.Pins p.second };
+
+    ghost pinned = { λ p k h. pair_pinned (F.pinned p.first k.0 h.0) (G.pinned p.second k.1 h.1) };
 
     ghost steady = { λ s k. sequence_steady I.model I.lawful (λ u v. (u, v)) (λ o. o) (λ o. o) (F.meaning s.0) (G.meaning s.1) (F.steady s.0 k.0)
         (G.steady s.1 k.1) };

@@ -4,12 +4,11 @@
 ghost use Rattle.std.specs.Prelude.{◌≡◌, Some, None, cond, true};
 ghost use Rattle.std.proofs.Common.{refl};
 ghost use Rattle.nom_error.specs.Modes.{modes};
-ghost use Rattle.nom_traits.specs.View.{pair_view, view_3, view_4};
 ghost use Rattle.nom_internal.specs.Meaning.{ShowsMeaning};
 ghost use Rattle.nom_internal.specs.Sequence.{pair_meaning};
 ghost use Rattle.nom_internal.specs.Tuples.{built_meaning, OnAccepted, ShowsMember, IsPaired, IsFormed, PairOutput, OneOutput};
-ghost use Rattle.nom_internal.specs.laws.TupleLaws.{built_lawful, pair_lawful, steady_of, and_one_steady, one_view_of, and_one_more, flat_pinned};
-ghost use Rattle.nom_internal.specs.laws.TupleLaws.{single_pinned};
+ghost use Rattle.nom_internal.specs.Pinned.{pair_pinned};
+ghost use Rattle.nom_internal.specs.laws.TupleLaws.{built_lawful, pair_lawful, steady_of, and_one_steady, flat_pinned, single_pinned};
 
 use crate::flat::{Flat, One, made_flat};
 use crate::parser::{Parser, StreamParser};
@@ -124,8 +123,6 @@ impl<I: Items, A: Parser<I>> Parser<I> for (A,) {
 
     ghost meaning = { λ s. built_meaning (A.meaning s) };
 
-    ghost Pins = { λ s. A.Pins s };
-
     #[inline(always)]
     fn process<OM: OutputMode>(&mut self, input: I) -> PResult<I, Self::Output, Self::Error> {
         let answer = first_member::<I, A, OM>(&mut self.0, input);
@@ -136,7 +133,9 @@ impl<I: Items, A: Parser<I>> Parser<I> for (A,) {
 }
 
 impl<I: Items, A: StreamParser<I>> StreamParser<I> for (A,) {
-    ghost pinned = { λ s k p. single_pinned A.Output.view (A.IsOutput s) (A.pinned s k p) };
+    ghost Pins = { λ p. A.Pins p.0 };
+
+    ghost pinned = { λ p k h. single_pinned (A.pinned p.0 k h) };
 
     ghost steady = { λ s k. A.steady s k };
 }
@@ -156,8 +155,6 @@ impl<I: Items, A: Parser<I>, B: Parser<I, Error = A::Error>> Parser<I> for (A, B
 
     ghost meaning = { λ s. built_meaning (pair_meaning I.model (A.meaning s.0) (B.meaning s.1)) };
 
-    ghost Pins = { λ s. A.Pins s.0 × B.Pins s.1 };
-
     #[inline(always)]
     fn process<OM: OutputMode>(&mut self, input: I) -> PResult<I, Self::Output, Self::Error> {
         let answer = first_member::<I, A, OM>(&mut self.0, input);
@@ -170,8 +167,10 @@ impl<I: Items, A: Parser<I>, B: Parser<I, Error = A::Error>> Parser<I> for (A, B
 
 impl<I: Items, A: StreamParser<I>, B: StreamParser<I, Error = A::Error>> StreamParser<I>
     for (A, B) {
-    ghost pinned = { λ s k p. flat_pinned (pair_view A.Output.view B.Output.view) (λ v. v) (λ o. (o.0, o.1)) (λ _. refl)
-        (and_one_more (one_view_of A.Output.view (A.IsOutput s.0) (A.pinned s.0 k.0 p.0)) B.Output.view (B.IsOutput s.1) (B.pinned s.1 k.1 p.1)) };
+    ghost Pins = { λ p. A.Pins p.0 × B.Pins p.1 };
+
+    ghost pinned = { λ p k h. flat_pinned (λ v. v) (λ o. (o.0, o.1)) (λ _. refl)
+        (pair_pinned (A.pinned p.0 k.0 h.0) (B.pinned p.1 k.1 h.1)) };
 
     ghost steady = { λ s k. (and_one_steady I.lawful (steady_of I.model (A.meaning s.0) (A.steady s.0 k.0)) (B.meaning s.1) (B.steady s.1 k.1)).steady };
 }
@@ -193,8 +192,6 @@ impl<I: Items, A: Parser<I>, B: Parser<I, Error = A::Error>, C: Parser<I, Error 
 
     ghost meaning = { λ s. built_meaning (pair_meaning I.model (pair_meaning I.model (A.meaning s.0) (B.meaning s.1)) (C.meaning s.2)) };
 
-    ghost Pins = { λ s. A.Pins s.0 × B.Pins s.1 × C.Pins s.2 };
-
     #[inline(always)]
     fn process<OM: OutputMode>(&mut self, input: I) -> PResult<I, Self::Output, Self::Error> {
         let answer = first_member::<I, A, OM>(&mut self.0, input);
@@ -212,9 +209,10 @@ impl<
     B: StreamParser<I, Error = A::Error>,
     C: StreamParser<I, Error = A::Error>,
 > StreamParser<I> for (A, B, C) {
-    ghost pinned = { λ s k p. flat_pinned (view_3 A.Output.view B.Output.view C.Output.view) (λ v. (v.0.0, v.0.1, v.1)) (λ o. ((o.0, o.1), o.2)) (λ _. refl)
-        (and_one_more (and_one_more (one_view_of A.Output.view (A.IsOutput s.0) (A.pinned s.0 k.0.0 p.0)) B.Output.view (B.IsOutput s.1)
-        (B.pinned s.1 k.0.1 p.1)) C.Output.view (C.IsOutput s.2) (C.pinned s.2 k.1 p.2)) };
+    ghost Pins = { λ p. A.Pins p.0 × B.Pins p.1 × C.Pins p.2 };
+
+    ghost pinned = { λ p k h. flat_pinned (λ v. (v.0.0, v.0.1, v.1)) (λ o. ((o.0, o.1), o.2)) (λ _. refl)
+        (pair_pinned (pair_pinned (A.pinned p.0 k.0.0 h.0) (B.pinned p.1 k.0.1 h.1)) (C.pinned p.2 k.1 h.2)) };
 
     ghost steady = { λ s k. (and_one_steady I.lawful
         (and_one_steady I.lawful (steady_of I.model (A.meaning s.0) (A.steady s.0 k.0.0)) (B.meaning s.1) (B.steady s.1 k.0.1)) (C.meaning s.2)
@@ -244,8 +242,6 @@ impl<
     ghost meaning = { λ s. built_meaning (pair_meaning I.model (pair_meaning I.model (pair_meaning I.model (A.meaning s.0) (B.meaning s.1)) (C.meaning s.2))
         (D.meaning s.3)) };
 
-    ghost Pins = { λ s. A.Pins s.0 × B.Pins s.1 × C.Pins s.2 × D.Pins s.3 };
-
     #[inline(always)]
     fn process<OM: OutputMode>(&mut self, input: I) -> PResult<I, Self::Output, Self::Error> {
         let answer = first_member::<I, A, OM>(&mut self.0, input);
@@ -266,10 +262,10 @@ impl<
     C: StreamParser<I, Error = A::Error>,
     D: StreamParser<I, Error = A::Error>,
 > StreamParser<I> for (A, B, C, D) {
-    ghost pinned = { λ s k p. flat_pinned (view_4 A.Output.view B.Output.view C.Output.view D.Output.view) (λ v. (v.0.0.0, v.0.0.1, v.0.1, v.1))
-        (λ o. (((o.0, o.1), o.2), o.3)) (λ _. refl)
-        (and_one_more (and_one_more (and_one_more (one_view_of A.Output.view (A.IsOutput s.0) (A.pinned s.0 k.0.0.0 p.0)) B.Output.view (B.IsOutput s.1)
-        (B.pinned s.1 k.0.0.1 p.1)) C.Output.view (C.IsOutput s.2) (C.pinned s.2 k.0.1 p.2)) D.Output.view (D.IsOutput s.3) (D.pinned s.3 k.1 p.3)) };
+    ghost Pins = { λ p. A.Pins p.0 × B.Pins p.1 × C.Pins p.2 × D.Pins p.3 };
+
+    ghost pinned = { λ p k h. flat_pinned (λ v. (v.0.0.0, v.0.0.1, v.0.1, v.1)) (λ o. (((o.0, o.1), o.2), o.3)) (λ _. refl)
+        (pair_pinned (pair_pinned (pair_pinned (A.pinned p.0 k.0.0.0 h.0) (B.pinned p.1 k.0.0.1 h.1)) (C.pinned p.2 k.0.1 h.2)) (D.pinned p.3 k.1 h.3)) };
 
     ghost steady = { λ s k. (and_one_steady I.lawful
         (and_one_steady I.lawful (and_one_steady I.lawful (steady_of I.model (A.meaning s.0) (A.steady s.0 k.0.0.0)) (B.meaning s.1) (B.steady s.1 k.0.0.1))

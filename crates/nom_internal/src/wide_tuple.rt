@@ -1,9 +1,9 @@
 //! Tuples of five to eight parsers.
 ghost use Rattle.std.proofs.Common.{refl};
-ghost use Rattle.nom_traits.specs.View.{view_5, view_6, view_7, view_8};
 ghost use Rattle.nom_internal.specs.Sequence.{pair_meaning};
 ghost use Rattle.nom_internal.specs.Tuples.{built_meaning, PairOutput};
-ghost use Rattle.nom_internal.specs.laws.TupleLaws.{built_lawful, pair_lawful, steady_of, and_one_steady, one_view_of, and_one_more, flat_pinned};
+ghost use Rattle.nom_internal.specs.Pinned.{pair_pinned};
+ghost use Rattle.nom_internal.specs.laws.TupleLaws.{built_lawful, pair_lawful, steady_of, and_one_steady, flat_pinned};
 
 use crate::parser::{Parser, StreamParser};
 use crate::tuple::{first_member, formed, next_member};
@@ -35,8 +35,6 @@ impl<
     ghost meaning = { λ s. built_meaning (pair_meaning I.model
         (pair_meaning I.model (pair_meaning I.model (pair_meaning I.model (A.meaning s.0) (B.meaning s.1)) (C.meaning s.2)) (D.meaning s.3)) (E.meaning s.4)) };
 
-    ghost Pins = { λ s. A.Pins s.0 × B.Pins s.1 × C.Pins s.2 × D.Pins s.3 × E.Pins s.4 };
-
     #[inline(always)]
     fn process<OM: OutputMode>(&mut self, input: I) -> PResult<I, Self::Output, Self::Error> {
         let answer = first_member::<I, A, OM>(&mut self.0, input);
@@ -60,12 +58,11 @@ impl<
     D: StreamParser<I, Error = A::Error>,
     E: StreamParser<I, Error = A::Error>,
 > StreamParser<I> for (A, B, C, D, E) {
-    ghost pinned = { λ s k p. flat_pinned (view_5 A.Output.view B.Output.view C.Output.view D.Output.view E.Output.view)
-        (λ v. (v.0.0.0.0, v.0.0.0.1, v.0.0.1, v.0.1, v.1)) (λ o. ((((o.0, o.1), o.2), o.3), o.4)) (λ _. refl)
-        (and_one_more (and_one_more (and_one_more
-        (and_one_more (one_view_of A.Output.view (A.IsOutput s.0) (A.pinned s.0 k.0.0.0.0 p.0)) B.Output.view (B.IsOutput s.1)
-        (B.pinned s.1 k.0.0.0.1 p.1)) C.Output.view (C.IsOutput s.2) (C.pinned s.2 k.0.0.1 p.2)) D.Output.view (D.IsOutput s.3)
-        (D.pinned s.3 k.0.1 p.3)) E.Output.view (E.IsOutput s.4) (E.pinned s.4 k.1 p.4)) };
+    ghost Pins = { λ p. A.Pins p.0 × B.Pins p.1 × C.Pins p.2 × D.Pins p.3 × E.Pins p.4 };
+
+    ghost pinned = { λ p k h. flat_pinned (λ v. (v.0.0.0.0, v.0.0.0.1, v.0.0.1, v.0.1, v.1)) (λ o. ((((o.0, o.1), o.2), o.3), o.4)) (λ _. refl)
+        (pair_pinned (pair_pinned (pair_pinned (pair_pinned (A.pinned p.0 k.0.0.0.0 h.0) (B.pinned p.1 k.0.0.0.1 h.1)) (C.pinned p.2 k.0.0.1 h.2))
+        (D.pinned p.3 k.0.1 h.3)) (E.pinned p.4 k.1 h.4)) };
 
     ghost steady = { λ s k. (and_one_steady I.lawful
         (and_one_steady I.lawful (and_one_steady I.lawful
@@ -107,8 +104,6 @@ impl<
         (pair_meaning I.model (pair_meaning I.model (pair_meaning I.model (pair_meaning I.model (A.meaning s.0) (B.meaning s.1)) (C.meaning s.2))
         (D.meaning s.3)) (E.meaning s.4)) (F.meaning s.5)) };
 
-    ghost Pins = { λ s. A.Pins s.0 × B.Pins s.1 × C.Pins s.2 × D.Pins s.3 × E.Pins s.4 × F.Pins s.5 };
-
     #[inline(always)]
     fn process<OM: OutputMode>(&mut self, input: I) -> PResult<I, Self::Output, Self::Error> {
         let answer = first_member::<I, A, OM>(&mut self.0, input);
@@ -135,13 +130,12 @@ impl<
     E: StreamParser<I, Error = A::Error>,
     F: StreamParser<I, Error = A::Error>,
 > StreamParser<I> for (A, B, C, D, E, F) {
-    ghost pinned = { λ s k p. flat_pinned (view_6 A.Output.view B.Output.view C.Output.view D.Output.view E.Output.view F.Output.view)
-        (λ v. (v.0.0.0.0.0, v.0.0.0.0.1, v.0.0.0.1, v.0.0.1, v.0.1, v.1)) (λ o. (((((o.0, o.1), o.2), o.3), o.4), o.5)) (λ _. refl)
-        (and_one_more (and_one_more (and_one_more
-        (and_one_more (and_one_more (one_view_of A.Output.view (A.IsOutput s.0) (A.pinned s.0 k.0.0.0.0.0 p.0)) B.Output.view (B.IsOutput s.1)
-        (B.pinned s.1 k.0.0.0.0.1 p.1)) C.Output.view (C.IsOutput s.2) (C.pinned s.2 k.0.0.0.1 p.2)) D.Output.view (D.IsOutput s.3)
-        (D.pinned s.3 k.0.0.1 p.3)) E.Output.view (E.IsOutput s.4) (E.pinned s.4 k.0.1 p.4)) F.Output.view (F.IsOutput s.5)
-        (F.pinned s.5 k.1 p.5)) };
+    ghost Pins = { λ p. A.Pins p.0 × B.Pins p.1 × C.Pins p.2 × D.Pins p.3 × E.Pins p.4 × F.Pins p.5 };
+
+    ghost pinned = { λ p k h. flat_pinned (λ v. (v.0.0.0.0.0, v.0.0.0.0.1, v.0.0.0.1, v.0.0.1, v.0.1, v.1)) (λ o.
+        (((((o.0, o.1), o.2), o.3), o.4), o.5)) (λ _. refl)
+        (pair_pinned (pair_pinned (pair_pinned (pair_pinned (pair_pinned (A.pinned p.0 k.0.0.0.0.0 h.0) (B.pinned p.1 k.0.0.0.0.1 h.1))
+        (C.pinned p.2 k.0.0.0.1 h.2)) (D.pinned p.3 k.0.0.1 h.3)) (E.pinned p.4 k.0.1 h.4)) (F.pinned p.5 k.1 h.5)) };
 
     ghost steady = { λ s k. (and_one_steady I.lawful
         (and_one_steady I.lawful (and_one_steady I.lawful
@@ -187,8 +181,6 @@ impl<
         (pair_meaning I.model (pair_meaning I.model (pair_meaning I.model (A.meaning s.0) (B.meaning s.1)) (C.meaning s.2)) (D.meaning s.3))
         (E.meaning s.4)) (F.meaning s.5)) (G.meaning s.6)) };
 
-    ghost Pins = { λ s. A.Pins s.0 × B.Pins s.1 × C.Pins s.2 × D.Pins s.3 × E.Pins s.4 × F.Pins s.5 × G.Pins s.6 };
-
     #[inline(always)]
     fn process<OM: OutputMode>(&mut self, input: I) -> PResult<I, Self::Output, Self::Error> {
         let answer = first_member::<I, A, OM>(&mut self.0, input);
@@ -217,13 +209,13 @@ impl<
     F: StreamParser<I, Error = A::Error>,
     G: StreamParser<I, Error = A::Error>,
 > StreamParser<I> for (A, B, C, D, E, F, G) {
-    ghost pinned = { λ s k p. flat_pinned (view_7 A.Output.view B.Output.view C.Output.view D.Output.view E.Output.view F.Output.view G.Output.view)
-        (λ v. (v.0.0.0.0.0.0, v.0.0.0.0.0.1, v.0.0.0.0.1, v.0.0.0.1, v.0.0.1, v.0.1, v.1)) (λ o. ((((((o.0, o.1), o.2), o.3), o.4), o.5), o.6)) (λ _. refl)
-        (and_one_more (and_one_more (and_one_more
-        (and_one_more (and_one_more (and_one_more (one_view_of A.Output.view (A.IsOutput s.0) (A.pinned s.0 k.0.0.0.0.0.0 p.0)) B.Output.view
-        (B.IsOutput s.1) (B.pinned s.1 k.0.0.0.0.0.1 p.1)) C.Output.view (C.IsOutput s.2) (C.pinned s.2 k.0.0.0.0.1 p.2)) D.Output.view
-        (D.IsOutput s.3) (D.pinned s.3 k.0.0.0.1 p.3)) E.Output.view (E.IsOutput s.4) (E.pinned s.4 k.0.0.1 p.4)) F.Output.view
-        (F.IsOutput s.5) (F.pinned s.5 k.0.1 p.5)) G.Output.view (G.IsOutput s.6) (G.pinned s.6 k.1 p.6)) };
+    ghost Pins = { λ p. A.Pins p.0 × B.Pins p.1 × C.Pins p.2 × D.Pins p.3 × E.Pins p.4 × F.Pins p.5 × G.Pins p.6 };
+
+    ghost pinned = { λ p k h. flat_pinned (λ v. (v.0.0.0.0.0.0, v.0.0.0.0.0.1, v.0.0.0.0.1, v.0.0.0.1, v.0.0.1, v.0.1, v.1)) (λ o.
+        ((((((o.0, o.1), o.2), o.3), o.4), o.5), o.6)) (λ _. refl)
+        (pair_pinned (pair_pinned (pair_pinned (pair_pinned (pair_pinned (pair_pinned (A.pinned p.0 k.0.0.0.0.0.0 h.0)
+        (B.pinned p.1 k.0.0.0.0.0.1 h.1)) (C.pinned p.2 k.0.0.0.0.1 h.2)) (D.pinned p.3 k.0.0.0.1 h.3)) (E.pinned p.4 k.0.0.1 h.4))
+        (F.pinned p.5 k.0.1 h.5)) (G.pinned p.6 k.1 h.6)) };
 
     ghost steady = { λ s k. (and_one_steady I.lawful
         (and_one_steady I.lawful (and_one_steady I.lawful
@@ -272,8 +264,6 @@ impl<
         (pair_meaning I.model (pair_meaning I.model (pair_meaning I.model (pair_meaning I.model (A.meaning s.0) (B.meaning s.1)) (C.meaning s.2))
         (D.meaning s.3)) (E.meaning s.4)) (F.meaning s.5)) (G.meaning s.6)) (H.meaning s.7)) };
 
-    ghost Pins = { λ s. A.Pins s.0 × B.Pins s.1 × C.Pins s.2 × D.Pins s.3 × E.Pins s.4 × F.Pins s.5 × G.Pins s.6 × H.Pins s.7 };
-
     #[inline(always)]
     fn process<OM: OutputMode>(&mut self, input: I) -> PResult<I, Self::Output, Self::Error> {
         let answer = first_member::<I, A, OM>(&mut self.0, input);
@@ -305,16 +295,13 @@ impl<
     G: StreamParser<I, Error = A::Error>,
     H: StreamParser<I, Error = A::Error>,
 > StreamParser<I> for (A, B, C, D, E, F, G, H) {
-    ghost pinned = { λ s k p. flat_pinned (view_8 A.Output.view B.Output.view C.Output.view D.Output.view E.Output.view F.Output.view G.Output.view
-        H.Output.view) (λ v. (v.0.0.0.0.0.0.0, v.0.0.0.0.0.0.1, v.0.0.0.0.0.1, v.0.0.0.0.1, v.0.0.0.1, v.0.0.1, v.0.1, v.1))
+    ghost Pins = { λ p. A.Pins p.0 × B.Pins p.1 × C.Pins p.2 × D.Pins p.3 × E.Pins p.4 × F.Pins p.5 × G.Pins p.6 × H.Pins p.7 };
+
+    ghost pinned = { λ p k h. flat_pinned (λ v. (v.0.0.0.0.0.0.0, v.0.0.0.0.0.0.1, v.0.0.0.0.0.1, v.0.0.0.0.1, v.0.0.0.1, v.0.0.1, v.0.1, v.1))
         (λ o. (((((((o.0, o.1), o.2), o.3), o.4), o.5), o.6), o.7)) (λ _. refl)
-        (and_one_more (and_one_more (and_one_more
-        (and_one_more (and_one_more (and_one_more
-        (and_one_more (one_view_of A.Output.view (A.IsOutput s.0) (A.pinned s.0 k.0.0.0.0.0.0.0 p.0)) B.Output.view (B.IsOutput s.1)
-        (B.pinned s.1 k.0.0.0.0.0.0.1 p.1)) C.Output.view (C.IsOutput s.2) (C.pinned s.2 k.0.0.0.0.0.1 p.2)) D.Output.view (D.IsOutput s.3)
-        (D.pinned s.3 k.0.0.0.0.1 p.3)) E.Output.view (E.IsOutput s.4) (E.pinned s.4 k.0.0.0.1 p.4)) F.Output.view (F.IsOutput s.5)
-        (F.pinned s.5 k.0.0.1 p.5)) G.Output.view (G.IsOutput s.6) (G.pinned s.6 k.0.1 p.6)) H.Output.view (H.IsOutput s.7)
-        (H.pinned s.7 k.1 p.7)) };
+        (pair_pinned (pair_pinned (pair_pinned (pair_pinned (pair_pinned (pair_pinned (pair_pinned (A.pinned p.0 k.0.0.0.0.0.0.0 h.0)
+        (B.pinned p.1 k.0.0.0.0.0.0.1 h.1)) (C.pinned p.2 k.0.0.0.0.0.1 h.2)) (D.pinned p.3 k.0.0.0.0.1 h.3)) (E.pinned p.4 k.0.0.0.1 h.4))
+        (F.pinned p.5 k.0.0.1 h.5)) (G.pinned p.6 k.0.1 h.6)) (H.pinned p.7 k.1 h.7)) };
 
     ghost steady = { λ s k. (and_one_steady I.lawful
         (and_one_steady I.lawful (and_one_steady I.lawful

@@ -12,7 +12,7 @@ use nom_traits::input::Items;
 pub fn items_stay<I: Items, P: StreamParser<I>>(_parser: &P)
     requires { (P.meaning (P.state _parser.now)).IsSound }
     ensures items { ItemsStay I.model (P.meaning (P.state _parser.now)) }
-    ensures outputs { OutputsStay I.model (P.meaning (P.state _parser.now)) P.Output.view (P.Parser.Pins (P.state _parser.now))
+    ensures outputs { OutputsStay I.model (P.meaning (P.state _parser.now)) P.Output.view (P.Pins _parser.now)
         (P.IsOutput (P.state _parser.now)) }
 {}
 

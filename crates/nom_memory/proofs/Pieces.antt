@@ -178,7 +178,8 @@ module _ {I A U W E : Type 0} (w : Model I A) (l : InputLaws w) (IsControl : A �
   taken_by : (k : ℕ) (i : I) (a : ℕ) (v : Piece U W) (reply : Option (Outcome (NextPiece (Piece U W)))) → w.IsKnown i →
       Replies None (λ _. (next_piece_meaning w IsControl lack m g).answers s) k i reply → Takes a v ≡ escape_turn k reply → HasPiece i
   taken_by k i a v (Some (Accept n u)) h r e =
-      let x = next_piece_taken i u n k a v e in next_piece_at i n x.0 h (subst (λ z. (next_piece_meaning w IsControl lack m g).answers s i (Accept n z)) x.1 r.1)
+      let x = next_piece_taken i u n k a v e in
+      next_piece_at i n x.0 h (subst (λ z. (next_piece_meaning w IsControl lack m g).answers s i (Accept n z)) x.1 r.1)
   taken_by k i a v (Some Refuse) h r e = absurd (cc (e))
   taken_by k i a v (Some Fail) h r e = absurd (cc (e))
   taken_by k i a v (Some TooLarge) h r e = absurd (cc (e))

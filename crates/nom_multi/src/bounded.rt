@@ -40,8 +40,6 @@ impl<I: Items, A: Allocator + Copy, F: Parser<I> + Drop> Parser<I> for Count<A, 
 
     ghost meaning = { λ s. count_meaning I.model F.Error.errors s.0 (F.meaning s.1) };
 
-    ghost Pins = { λ s. F.Pins s.1 };
-
     #[inline]
     fn process<OM: OutputMode>(&mut self, input: I) -> PResult<I, Self::Output, Self::Error> {
         let none = none_yet::<OM::Output, F::Output, A>(self.alloc);
@@ -55,7 +53,9 @@ impl<I: Items, A: Allocator + Copy, F: StreamParser<I> + Drop> StreamParser<I> f
     ghost use Rattle.nom_repeat.specs.Lists.{list_pinned};
     ghost use Rattle.nom_multi.specs.laws.BoundedLaws.{count_steady};
 
-    ghost pinned = { λ s k p. list_pinned F.Output.view (F.IsOutput s.1) (F.pinned s.1 k p) };
+    ghost Pins = { λ p. F.Pins p.parser };
+
+    ghost pinned = { λ p k h. list_pinned (F.pinned p.parser k h) };
 
     ghost steady = { λ s k. count_steady I.model I.lawful F.Error.errors s.0 (F.meaning s.1) (F.steady s.1 k) };
 }
@@ -86,8 +86,6 @@ impl<I: Input, A: Allocator + Copy, F: Parser<I> + Drop> Parser<I> for ManyMN<A,
 
     ghost meaning = { λ s. many_m_n_meaning I.model F.Error.errors s.0 s.1 (F.meaning s.2) };
 
-    ghost Pins = { λ s. F.Pins s.2 };
-
     #[inline]
     fn process<OM: OutputMode>(&mut self, input: I) -> PResult<I, Self::Output, Self::Error> {
         if self.max < self.min {
@@ -111,7 +109,9 @@ impl<I: Input, A: Allocator + Copy, F: StreamParser<I> + Drop> StreamParser<I> f
     ghost use Rattle.nom_repeat.specs.Lists.{list_pinned};
     ghost use Rattle.nom_multi.specs.laws.BoundedLaws.{many_m_n_steady};
 
-    ghost pinned = { λ s k p. list_pinned F.Output.view (F.IsOutput s.2) (F.pinned s.2 k p) };
+    ghost Pins = { λ p. F.Pins p.parser };
+
+    ghost pinned = { λ p k h. list_pinned (F.pinned p.parser k h) };
 
     ghost steady = { λ s k. many_m_n_steady I.model I.lawful F.Error.errors s.0 s.1 (F.meaning s.2) (F.steady s.2 k) };
 }

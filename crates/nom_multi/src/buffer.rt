@@ -41,8 +41,6 @@ impl<'a, I: Items, T: Drop, F: Parser<I, Output = T> + Drop> Parser<I> for Fill<
 
     ghost meaning = { λ s. fill_meaning I.model F.Error.errors s.1 (F.meaning s.0) };
 
-    ghost Pins = { λ _. Unit {0} };
-
     #[inline]
     fn process<OM: OutputMode>(&mut self, input: I) -> PResult<I, (), F::Error> {
         fill_buffer::<OM, I, T, F>(&mut self.parser, self.buffer, input)
@@ -55,7 +53,9 @@ impl<'a, I: Items, T: Viewed + Drop, F: StreamParser<I, Output = T> + Drop> Stre
     for Fill<'a, F, T> {
     ghost use Rattle.nom_multi.specs.laws.FillLaws.{done_pinned, fill_steady};
 
-    ghost pinned = { λ s k p. done_pinned };
+    ghost Pins = { λ _. Unit {0} };
+
+    ghost pinned = { λ p k h. done_pinned };
 
     ghost steady = { λ s k. fill_steady I.model I.lawful F.Error.errors s.1 (F.meaning s.0) (F.steady s.0 k) };
 }

@@ -37,8 +37,6 @@ impl<I: Input, A: Allocator + Copy, F: Parser<I> + Drop> Parser<I> for Many0<A, 
 
     ghost meaning = { λ s. many0_meaning I.model F.Error.errors (F.meaning s) };
 
-    ghost Pins = { F.Pins };
-
     #[inline]
     fn process<OM: OutputMode>(&mut self, input: I) -> PResult<I, Self::Output, Self::Error> {
         let none = none_yet::<OM::Output, F::Output, A>(self.alloc);
@@ -59,7 +57,9 @@ impl<I: Input, A: Allocator + Copy, F: StreamParser<I> + Drop> StreamParser<I> f
     ghost use Rattle.nom_repeat.specs.Lists.{list_pinned};
     ghost use Rattle.nom_multi.specs.laws.ManyLaws.{many0_steady};
 
-    ghost pinned = { λ s k p. list_pinned F.Output.view (F.IsOutput s) (F.pinned s k p) };
+    ghost Pins = { λ p. F.Pins p.parser };
+
+    ghost pinned = { λ p k h. list_pinned (F.pinned p.parser k h) };
 
     ghost steady = { λ s k. many0_steady I.model I.lawful F.Error.errors (F.meaning s) (F.steady s k) };
 }
@@ -87,8 +87,6 @@ impl<I: Input, A: Allocator + Copy, F: Parser<I> + Drop> Parser<I> for Many1<A, 
     ghost IsOutput = { λ s vs o. AllZip (F.IsOutput s) vs o.items };
 
     ghost meaning = { λ s. many1_meaning I.model F.Error.errors (F.meaning s) };
-
-    ghost Pins = { F.Pins };
 
     #[inline]
     fn process<OM: OutputMode>(&mut self, input: I) -> PResult<I, Self::Output, Self::Error> {
@@ -123,7 +121,9 @@ impl<I: Input, A: Allocator + Copy, F: StreamParser<I> + Drop> StreamParser<I> f
     ghost use Rattle.nom_repeat.specs.Lists.{list_pinned};
     ghost use Rattle.nom_multi.specs.laws.ManyLaws.{many1_steady};
 
-    ghost pinned = { λ s k p. list_pinned F.Output.view (F.IsOutput s) (F.pinned s k.0 p) };
+    ghost Pins = { λ p. F.Pins p.parser };
+
+    ghost pinned = { λ p k h. list_pinned (F.pinned p.parser k.0 h) };
 
     ghost steady = { λ s k. many1_steady I.model I.lawful F.Error.errors (F.meaning s) (F.steady s k.0) };
 }

@@ -55,8 +55,6 @@ impl<
 
     ghost meaning = { λ s. many_till_meaning I.model F.Error.errors (F.meaning s.0) (G.meaning s.1) };
 
-    ghost Pins = { λ s. F.Pins s.0 × G.Pins s.1 };
-
     #[inline]
     fn process<OM: OutputMode>(&mut self, input: I) -> PResult<I, Self::Output, Self::Error> {
         input.prove_known();
@@ -100,8 +98,10 @@ impl<
     ghost use Rattle.nom_repeat.specs.Lists.{list_pinned};
     ghost use Rattle.nom_multi.specs.laws.TillLaws.{many_till_steady};
 
-    ghost pinned = { λ s k p. pair_pinned (vec_view F.Output.view) G.Output.view (λ vs list. AllZip (F.IsOutput s.0) vs list.items) (G.IsOutput s.1)
-        (list_pinned F.Output.view (F.IsOutput s.0) (F.pinned s.0 k.1 p.0)) (G.pinned s.1 k.0 p.1) };
+    ghost Pins = { λ p. F.Pins p.parser × G.Pins p.end };
+
+    ghost pinned = { λ p k h. pair_pinned
+        (list_pinned (F.pinned p.parser k.1 h.0)) (G.pinned p.end k.0 h.1) };
 
     ghost steady = { λ s k. many_till_steady I.model I.lawful F.Error.errors (F.meaning s.0) (G.meaning s.1) (F.steady s.0 k.1) (G.steady s.1 k.0) };
 }

@@ -37,8 +37,6 @@ impl<I: Input, F: Parser<I> + Drop> Parser<I> for Many0Count<F> {
 
     ghost meaning = { λ s. many0_count_meaning I.model F.Error.errors (F.meaning s) };
 
-    ghost Pins = { λ _. Unit {0} };
-
     #[inline]
     fn process<OM: OutputMode>(&mut self, input: I) -> PResult<I, usize, F::Error> {
         fits(input);
@@ -59,7 +57,9 @@ impl<I: Input, F: Parser<I> + Drop> Parser<I> for Many0Count<F> {
 impl<I: Input, F: StreamParser<I> + Drop> StreamParser<I> for Many0Count<F> {
     ghost use Rattle.nom_multi_fold.specs.laws.CountLaws.{number_pinned, many0_count_steady};
 
-    ghost pinned = { λ s k p. number_pinned };
+    ghost Pins = { λ _. Unit {0} };
+
+    ghost pinned = { λ p k h. number_pinned };
 
     ghost steady = { λ s k. many0_count_steady I.model I.lawful F.Error.errors (F.meaning s) (F.steady s k) };
 }
@@ -86,8 +86,6 @@ impl<I: Input, F: Parser<I> + Drop> Parser<I> for Many1Count<F> {
     ghost IsOutput = { λ _. IsNumber };
 
     ghost meaning = { λ s. many1_count_meaning I.model F.Error.errors (F.meaning s) };
-
-    ghost Pins = { λ _. Unit {0} };
 
     #[inline]
     fn process<OM: OutputMode>(&mut self, input: I) -> PResult<I, usize, F::Error> {
@@ -122,7 +120,9 @@ impl<I: Input, F: Parser<I> + Drop> Parser<I> for Many1Count<F> {
 impl<I: Input, F: StreamParser<I> + Drop> StreamParser<I> for Many1Count<F> {
     ghost use Rattle.nom_multi_fold.specs.laws.CountLaws.{number_pinned, many1_count_steady};
 
-    ghost pinned = { λ s k p. number_pinned };
+    ghost Pins = { λ _. Unit {0} };
+
+    ghost pinned = { λ p k h. number_pinned };
 
     ghost steady = { λ s k. many1_count_steady I.model I.lawful F.Error.errors (F.meaning s) (F.steady s k.0) };
 }

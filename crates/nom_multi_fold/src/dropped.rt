@@ -30,8 +30,6 @@ impl<I: Items, F: Parser<I> + Drop> Parser<I> for Dropped<F> {
 
     ghost meaning = { λ s. dropped_meaning (F.meaning s) };
 
-    ghost Pins = { λ _. Unit {0} };
-
     #[inline(always)]
     fn process<OM: OutputMode>(&mut self, input: I) -> PResult<I, (), F::Error> {
         let (rest, _) = self

@@ -22,16 +22,8 @@ pub struct FoldMany0<F, H, G> {
     pub fold: G,
 }
 
-impl<
-    I: Input,
-    F: Parser<I> + Drop,
-    R: Viewed + Drop,
-    H: Fn() -> R,
-    G: Fn(R, F::Output) -> R,
-> Parser<I> for FoldMany0<F, H, G>
-where
-    F::Output: Viewed,
-{
+impl<I: Input, F: Parser<I> + Drop, R: Drop, H: Fn() -> R, G: Fn(R, F::Output) -> R> Parser<I>
+    for FoldMany0<F, H, G> {
     ghost use Rattle.nom_multi_fold.specs.laws.FoldLaws.{fold_many0_lawful};
 
     type Output = R;
@@ -47,8 +39,6 @@ where
     ghost IsOutput = { λ s. Folds (F.IsOutput s.0) (H.post s.1) (G.post s.2) };
 
     ghost meaning = { λ s. fold_many0_meaning I.model F.Error.errors (AreCallable (H.pre s.1) (G.pre s.2)) (F.meaning s.0) };
-
-    ghost Pins = { λ s. F.Pins s.0 × FoldsAlike F.Output.view R.view (H.post s.1) (G.post s.2) };
 
     #[inline]
     fn process<OM: OutputMode>(&mut self, input: I) -> PResult<I, R, F::Error> {
@@ -81,7 +71,9 @@ impl<
 > StreamParser<I> for FoldMany0<F, H, G> {
     ghost use Rattle.nom_multi_fold.specs.laws.FoldLaws.{folds_pinned, fold_many0_steady};
 
-    ghost pinned = { λ s k p. folds_pinned F.Output.view R.view (F.IsOutput s.0) (H.post s.1) (G.post s.2) (F.pinned s.0 k.0 p.0) p.1 };
+    ghost Pins = { λ p. F.Pins p.parser × FoldsAlike F.Output.view R.view (H.post p.init) (G.post p.fold) };
+
+    ghost pinned = { λ p k h. folds_pinned (F.pinned p.parser k.0 h.0) h.1 };
 
     ghost steady = { λ s k. fold_many0_steady I.model I.lawful F.Error.errors (AreCallable (H.pre s.1) (G.pre s.2)) (F.meaning s.0) (F.steady s.0 k.0) };
 }
@@ -95,16 +87,8 @@ pub struct FoldMany1<F, H, G> {
     pub fold: G,
 }
 
-impl<
-    I: Input,
-    F: Parser<I> + Drop,
-    R: Viewed + Drop,
-    H: Fn() -> R,
-    G: Fn(R, F::Output) -> R,
-> Parser<I> for FoldMany1<F, H, G>
-where
-    F::Output: Viewed,
-{
+impl<I: Input, F: Parser<I> + Drop, R: Drop, H: Fn() -> R, G: Fn(R, F::Output) -> R> Parser<I>
+    for FoldMany1<F, H, G> {
     ghost use Rattle.nom_multi_fold.specs.laws.FoldLaws.{fold_many1_lawful};
 
     type Output = R;
@@ -120,8 +104,6 @@ where
     ghost IsOutput = { λ s. Folds (F.IsOutput s.0) (H.post s.1) (G.post s.2) };
 
     ghost meaning = { λ s. fold_many1_meaning I.model F.Error.errors (AreCallable (H.pre s.1) (G.pre s.2)) (F.meaning s.0) };
-
-    ghost Pins = { λ s. F.Pins s.0 × FoldsAlike F.Output.view R.view (H.post s.1) (G.post s.2) };
 
     #[inline]
     fn process<OM: OutputMode>(&mut self, input: I) -> PResult<I, R, F::Error> {
@@ -167,7 +149,9 @@ impl<
 > StreamParser<I> for FoldMany1<F, H, G> {
     ghost use Rattle.nom_multi_fold.specs.laws.FoldLaws.{folds_pinned, fold_many1_steady};
 
-    ghost pinned = { λ s k p. folds_pinned F.Output.view R.view (F.IsOutput s.0) (H.post s.1) (G.post s.2) (F.pinned s.0 (k.0).0 p.0) p.1 };
+    ghost Pins = { λ p. F.Pins p.parser × FoldsAlike F.Output.view R.view (H.post p.init) (G.post p.fold) };
+
+    ghost pinned = { λ p k h. folds_pinned (F.pinned p.parser (k.0).0 h.0) h.1 };
 
     ghost steady = { λ s k. fold_many1_steady I.model I.lawful F.Error.errors (AreCallable (H.pre s.1) (G.pre s.2)) (F.meaning s.0) (F.steady s.0 (k.0).0) };
 }
@@ -183,16 +167,8 @@ pub struct FoldManyMN<F, H, G> {
     pub fold: G,
 }
 
-impl<
-    I: Input,
-    F: Parser<I> + Drop,
-    R: Viewed + Drop,
-    H: Fn() -> R,
-    G: Fn(R, F::Output) -> R,
-> Parser<I> for FoldManyMN<F, H, G>
-where
-    F::Output: Viewed,
-{
+impl<I: Input, F: Parser<I> + Drop, R: Drop, H: Fn() -> R, G: Fn(R, F::Output) -> R> Parser<I>
+    for FoldManyMN<F, H, G> {
     ghost use Rattle.nom_multi_fold.specs.laws.FoldLaws.{fold_many_m_n_lawful};
 
     type Output = R;
@@ -208,8 +184,6 @@ where
     ghost IsOutput = { λ s. Folds (F.IsOutput s.0) (H.post s.1) (G.post s.2) };
 
     ghost meaning = { λ s. fold_many_m_n_meaning I.model F.Error.errors s.3 s.4 (AreCallable (H.pre s.1) (G.pre s.2)) (F.meaning s.0) };
-
-    ghost Pins = { λ s. F.Pins s.0 × FoldsAlike F.Output.view R.view (H.post s.1) (G.post s.2) };
 
     #[inline]
     fn process<OM: OutputMode>(&mut self, input: I) -> PResult<I, R, F::Error> {
@@ -246,7 +220,9 @@ impl<
 > StreamParser<I> for FoldManyMN<F, H, G> {
     ghost use Rattle.nom_multi_fold.specs.laws.FoldLaws.{folds_pinned, fold_many_m_n_steady};
 
-    ghost pinned = { λ s k p. folds_pinned F.Output.view R.view (F.IsOutput s.0) (H.post s.1) (G.post s.2) (F.pinned s.0 k.0 p.0) p.1 };
+    ghost Pins = { λ p. F.Pins p.parser × FoldsAlike F.Output.view R.view (H.post p.init) (G.post p.fold) };
+
+    ghost pinned = { λ p k h. folds_pinned (F.pinned p.parser k.0 h.0) h.1 };
 
     ghost steady = { λ s k. fold_many_m_n_steady I.model I.lawful F.Error.errors (AreCallable (H.pre s.1) (G.pre s.2))
         (F.meaning s.0) s.3 s.4 (F.steady s.0 k.0) };

@@ -56,8 +56,6 @@ impl<
 
     ghost meaning = { λ s. range_meaning I.model F.Error.errors Kind.Many (R.IsSpent s.1) (R.lower s.1) (R.upper s.1) (Unit {0}) (F.meaning s.0) };
 
-    ghost Pins = { λ s. F.Pins s.0 };
-
     #[inline]
     fn process<OM: OutputMode>(&mut self, input: I) -> PResult<I, C, F::Error> {
         if self.range.is_inverted() {
@@ -93,7 +91,9 @@ impl<
 > StreamParser<I> for Many<A, R, F, C> {
     ghost use Rattle.nom_multi_fold.specs.laws.RangeLaws.{collection_pinned, range_steady};
 
-    ghost pinned = { λ s k p. collection_pinned F.Output.view C.view C.items (F.IsOutput s.0) (F.pinned s.0 k p) C.views };
+    ghost Pins = { λ p. F.Pins p.parser };
+
+    ghost pinned = { λ p k h. collection_pinned (F.pinned p.parser k h) C.views };
 
     ghost steady = { λ s k. range_steady I.model I.lawful F.Error.errors Kind.Many (R.IsSpent s.1) (R.lower s.1) (R.upper s.1) (Unit {0}) (F.meaning s.0)
         (F.steady s.0 k) };
@@ -113,13 +113,10 @@ impl<
     I: Input,
     R: NomRange<usize> + Drop,
     F: Parser<I> + Drop,
-    T: Viewed + Drop,
+    T: Drop,
     H: Fn() -> T,
     G: Fn(T, F::Output) -> T,
-> Parser<I> for Fold<R, F, H, G>
-where
-    F::Output: Viewed,
-{
+> Parser<I> for Fold<R, F, H, G> {
     ghost use Rattle.nom_multi_fold.specs.laws.RangeLaws.{range_fold_lawful};
 
     type Output = T;
@@ -136,8 +133,6 @@ where
 
     ghost meaning = { λ s. under (AreCallable (H.pre s.1) (G.pre s.2))
         (range_meaning I.model F.Error.errors Kind.Fold (R.IsSpent s.3) (R.lower s.3) (R.upper s.3) ⊥ (F.meaning s.0)) };
-
-    ghost Pins = { λ s. F.Pins s.0 × FoldsAlike F.Output.view T.view (H.post s.1) (G.post s.2) };
 
     #[inline]
     fn process<OM: OutputMode>(&mut self, input: I) -> PResult<I, T, F::Error> {
@@ -176,7 +171,9 @@ impl<
     ghost use Rattle.nom_multi_fold.specs.laws.FoldLaws.{folds_pinned};
     ghost use Rattle.nom_multi_fold.specs.laws.RangeLaws.{range_fold_steady};
 
-    ghost pinned = { λ s k p. folds_pinned F.Output.view T.view (F.IsOutput s.0) (H.post s.1) (G.post s.2) (F.pinned s.0 k.0 p.0) p.1 };
+    ghost Pins = { λ p. F.Pins p.parser × FoldsAlike F.Output.view T.view (H.post p.init) (G.post p.fold) };
+
+    ghost pinned = { λ p k h. folds_pinned (F.pinned p.parser k.0 h.0) h.1 };
 
     ghost steady = { λ s k. range_fold_steady I.model I.lawful F.Error.errors Kind.Fold (R.IsSpent s.3) (R.lower s.3) (R.upper s.3) ⊥ (F.meaning s.0)
         (AreCallable (H.pre s.1) (G.pre s.2)) (F.steady s.0 k.0) };

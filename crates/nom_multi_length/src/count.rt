@@ -43,8 +43,6 @@ impl<
 
     ghost meaning = { λ s. length_count_meaning I.model F.Error.errors (HasSize (F.IsOutput s.0) F.Output.size) (F.meaning s.0) (G.meaning s.1) };
 
-    ghost Pins = { λ s. G.Pins s.1 };
-
     #[inline]
     fn process<OM: OutputMode>(&mut self, input: I) -> PResult<I, Self::Output, Self::Error> {
         let (rest, length) = self
@@ -71,7 +69,9 @@ impl<
     ghost use Rattle.nom_repeat.specs.Lists.{list_pinned};
     ghost use Rattle.nom_multi_length.specs.laws.LengthLaws.{length_count_steady};
 
-    ghost pinned = { λ s k p. list_pinned G.Output.view (G.IsOutput s.1) (G.pinned s.1 k.1.0 p) };
+    ghost Pins = { λ p. G.Pins p.parser };
+
+    ghost pinned = { λ p k h. list_pinned (G.pinned p.parser k.1.0 h) };
 
     ghost steady = { λ s k. length_count_steady I.model I.lawful F.Error.errors (HasSize (F.IsOutput s.0) F.Output.size) (F.meaning s.0)
         (G.meaning s.1) k.1.1 (F.steady s.0 k.0) (G.steady s.1 k.1.0) };

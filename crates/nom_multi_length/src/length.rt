@@ -34,8 +34,6 @@ impl<I: Input, F: Parser<I, Output: ToUsize> + Drop> Parser<I> for LengthData<F>
 
     ghost meaning = { λ s. length_data_meaning I.model F.Error.errors I.lack (HasSize (F.IsOutput s) F.Output.size) (F.meaning s) };
 
-    ghost Pins = { λ _. Unit {0} };
-
     #[inline(always)]
     fn process<OM: OutputMode>(&mut self, input: I) -> PResult<I, I, F::Error> {
         let (rest, length) = self
@@ -58,7 +56,9 @@ impl<I: Input, F: StreamParser<I, Output: ToUsize> + Drop> StreamParser<I> for L
     ghost use Rattle.nom_internal.specs.Pinned.{slice_pinned};
     ghost use Rattle.nom_multi_length.specs.laws.LengthLaws.{length_data_steady};
 
-    ghost pinned = { λ s k p t a b x y. slice_pinned I.model I.view I.views t.1 a b x y };
+    ghost Pins = { λ _. Unit {0} };
+
+    ghost pinned = { λ p k h. record { one_view = λ t. (slice_pinned I.views).one_view t.1 } };
 
     ghost steady = { λ s k. length_data_steady I.model I.lawful F.Error.errors I.lack (HasSize (F.IsOutput s) F.Output.size)
         (F.meaning s) k.1.1 (F.steady s k.0) };

@@ -26,7 +26,7 @@ pub fn length_data<F>(parser: F) -> LengthData<F>
     LengthData { parser }
 }
 
-/// A length, as `length` reads it, and after it so many outputs of `parser`, one after another: a list
+/// A length, as `length` reads it, and after it that number of outputs of `parser`, one after another: a list
 /// of them, which takes its memory from `alloc`.
 ///
 /// Where an item is refused, so is all, and `Count` is added to its error at the place after the

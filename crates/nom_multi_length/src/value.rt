@@ -80,11 +80,9 @@ fn within<OM: OutputMode, I: Input, G: Parser<I>>(
     Ok((rest, output))
 }
 
-impl<
-    I: Input,
-    F: Parser<I, Output: ToUsize> + Drop,
-    G: Parser<I, Output: Viewed, Error = F::Error> + Drop,
-> Parser<I> for LengthValue<F, G> {
+impl<I: Input, F: Parser<I, Output: ToUsize> + Drop, G: Parser<I, Error = F::Error> + Drop> Parser<
+    I,
+> for LengthValue<F, G> {
     ghost use Rattle.nom_multi_length.specs.laws.ValueLaws.{length_value_lawful};
 
     type Output = G::Output;
@@ -102,7 +100,6 @@ impl<
     ghost meaning = { λ s. length_value_meaning I.model F.Error.errors (HasSize (F.IsOutput s.0) F.Output.size) (F.meaning s.0) (G.meaning s.1) };
 
     // The second needn't be a stream parser, which alone has a law of what it pins.
-    ghost Pins = { λ s. IsPinned G.Output.view (G.IsOutput s.1) };
 
     #[inline(always)]
     fn process<OM: OutputMode>(&mut self, input: I) -> PResult<I, G::Output, F::Error> {
@@ -126,7 +123,9 @@ impl<
 > StreamParser<I> for LengthValue<F, G> {
     ghost use Rattle.nom_multi_length.specs.laws.ValueLaws.{length_value_steady};
 
-    ghost pinned = { λ s k p. p };
+    ghost Pins = { λ p. IsPinned G.Output.view (G.IsOutput (G.state p.parser)) };
+
+    ghost pinned = { λ p k h. h };
 
     ghost steady = { λ s k. length_value_steady I.model I.lawful F.Error.errors (HasSize (F.IsOutput s.0) F.Output.size) (F.meaning s.0) (G.meaning s.1)
         (G.lawful s.1 k.1.0) k.1.1 (F.steady s.0 k.0) };

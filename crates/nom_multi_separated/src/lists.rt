@@ -46,8 +46,6 @@ impl<
 
     ghost meaning = { λ s. separated1_meaning I.model F.Error.errors (G.meaning s.0) (F.meaning s.1) };
 
-    ghost Pins = { λ s. F.Pins s.1 };
-
     #[inline]
     fn process<OM: OutputMode>(&mut self, input: I) -> PResult<I, Self::Output, Self::Error> {
         let none = none_yet::<OM::Output, F::Output, A>(self.alloc);
@@ -86,7 +84,9 @@ impl<
     ghost use Rattle.nom_repeat.specs.Lists.{list_pinned};
     ghost use Rattle.nom_multi_separated.specs.laws.SeparatedLaws.{separated1_steady};
 
-    ghost pinned = { λ s k p. list_pinned F.Output.view (F.IsOutput s.1) (F.pinned s.1 k.0 p) };
+    ghost Pins = { λ p. F.Pins p.next.second };
+
+    ghost pinned = { λ p k h. list_pinned (F.pinned p.next.second k.0 h) };
 
     ghost steady = { λ s k. separated1_steady I.model I.lawful F.Error.errors (G.meaning s.0) (F.meaning s.1) (G.steady s.0 k.1.0) (F.steady s.1 k.0) };
 }
@@ -120,8 +120,6 @@ impl<
     ghost IsOutput = { λ s vs o. AllZip (F.IsOutput s.1) vs o.items };
 
     ghost meaning = { λ s. separated0_meaning I.model F.Error.errors (G.meaning s.0) (F.meaning s.1) };
-
-    ghost Pins = { λ s. F.Pins s.1 };
 
     #[inline]
     fn process<OM: OutputMode>(&mut self, input: I) -> PResult<I, Self::Output, Self::Error> {
@@ -166,7 +164,9 @@ impl<
     ghost use Rattle.nom_repeat.specs.Lists.{list_pinned};
     ghost use Rattle.nom_multi_separated.specs.laws.SeparatedLaws.{separated0_steady};
 
-    ghost pinned = { λ s k p. list_pinned F.Output.view (F.IsOutput s.1) (F.pinned s.1 k.0 p) };
+    ghost Pins = { λ p. F.Pins p.next.second };
+
+    ghost pinned = { λ p k h. list_pinned (F.pinned p.next.second k.0 h) };
 
     ghost steady = { λ s k. separated0_steady I.model I.lawful F.Error.errors (G.meaning s.0) (F.meaning s.1) (G.steady s.0 k.1.0) (F.steady s.1 k.0) };
 }

@@ -50,8 +50,6 @@ impl<I: Input<Item = u8>, E: ParseError<I>> Parser<I> for BeU8<I, E> {
 
     ghost meaning = { λ _. number_meaning I.model E.errors (value_of 256) 1 };
 
-    ghost Pins = { λ _. Unit {0} };
-
     #[inline(always)]
     fn process<OM: OutputMode>(&mut self, input: I) -> PResult<I, u8, E> {
         match input.slice_index(1) {
@@ -66,7 +64,9 @@ impl<I: Input<Item = u8>, E: ParseError<I>> Parser<I> for BeU8<I, E> {
 }
 
 impl<I: Input<Item = u8>, E: ParseError<I>> StreamParser<I> for BeU8<I, E> {
-    ghost pinned = { λ _ k p. value_pinned };
+    ghost Pins = { λ _. Unit {0} };
+
+    ghost pinned = { λ p k h. value_pinned };
 
     ghost steady = { λ _ k. labelled_steady I.model (take_meaning I.model E.errors (bytes_lack I.model) 1) (λ t. value_of 256 t.items)
         (take_steady I.model E.errors (bytes_lack I.model) 1) };

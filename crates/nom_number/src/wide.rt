@@ -98,7 +98,7 @@ fn first_number<M: Mode, F: Layout, I: Input<Item = u8>>(
     }
 }
 
-/// A number that as many bytes write, in one order.
+/// A number that `F::BYTES` bytes write, in one order.
 #[derive(Drop)]
 pub struct Binary<F, I, E> {
     /// Whether the highest byte is the first one.
@@ -122,8 +122,6 @@ impl<F: Layout, I: Input<Item = u8>, E: ParseError<I>> Parser<I> for Binary<F, I
 
     ghost meaning = { λ big. number_meaning I.model E.errors (λ bytes. F.of_bits (binary_number big bytes)) F.BYTES };
 
-    ghost Pins = { λ _. Unit {0} };
-
     #[inline(always)]
     fn process<OM: OutputMode>(&mut self, input: I) -> PResult<I, F::Number, E> {
         match input.slice_index(F::BYTES) {
@@ -144,7 +142,9 @@ impl<F: Layout, I: Input<Item = u8>, E: ParseError<I>> Parser<I> for Binary<F, I
 }
 
 impl<F: Layout, I: Input<Item = u8>, E: ParseError<I>> StreamParser<I> for Binary<F, I, E> {
-    ghost pinned = { λ _ k p t x y a b. ap (F.Number.view.value) (a ∙ sym b) };
+    ghost Pins = { λ _. Unit {0} };
+
+    ghost pinned = { λ p k h. value_pinned };
 
     ghost steady = { λ big k. labelled_steady I.model (take_meaning I.model E.errors (bytes_lack I.model) F.BYTES) (λ t. F.of_bits (binary_number big t.items))
         (take_steady I.model E.errors (bytes_lack I.model) F.BYTES) };

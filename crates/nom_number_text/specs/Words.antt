@@ -27,7 +27,7 @@ module _ {A : Type 0} (code : A → ℕ) where
 abbrev pub word_meaning : {I A E : Type 0} (w : Model I A) → (code : A → ℕ) → Errors I E → List ℕ → Meaning I (Slice w) E
 word_meaning w code errs word = match_meaning w (word_in code word) errs Kind.Float
 
--- what stands at the start of an input, in either mode: all of the word, something else, or a beginning of it of which so many letters lack
+-- what stands at the start of an input, in either mode: all of the word, something else, or a beginning of it, with the number of letters that are missing
 abbrev pub IsWordAt : {I A : Type 0} (w : Model I A) → (code : A → ℕ) → List ℕ → I → WordAt I → Type 0
 IsWordAt w code word i (Found.Stands j) = (n : ℕ) × (r : IsSuffixOf w i n j) × ((s : Bool) → word_in code word s (w.elements i) ≡ Full (length r.front))
 IsWordAt w code word i Found.Differs = (s : Bool) → word_in code word s (w.elements i) ≡ Absent

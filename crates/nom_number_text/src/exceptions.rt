@@ -41,8 +41,6 @@ where
 
     ghost meaning = { λ s. exceptions_meaning I.model I.Item.code F.Error.errors (F.meaning s) };
 
-    ghost Pins = { F.Pins };
-
     #[inline(always)]
     fn process<OM: OutputMode>(&mut self, input: I) -> PResult<I, I, F::Error> {
         let mut nan = Word::<I, F::Error> {
@@ -71,7 +69,9 @@ impl<I: Input, F: StreamParser<I, Output = I> + Drop> StreamParser<I> for OrExce
 where
     I::Item: AsChar,
 {
-    ghost pinned = { λ s k p. exceptions_pinned I.model I.view I.views (F.IsOutput s) (F.pinned s k.0.0.0 p) };
+    ghost Pins = { λ p. F.Pins p.parser };
+
+    ghost pinned = { λ p k h. exceptions_pinned I.views (F.pinned p.parser k.0.0.0 h) };
 
     ghost steady = { λ s k. exceptions_steady I.model I.Item.code F.Error.errors (F.meaning s) (F.steady s k.0.0.0) };
 }

@@ -52,8 +52,6 @@ where
 
     ghost meaning = { λ _. float_meaning I.model I.Item.code E.errors };
 
-    ghost Pins = { λ _. Unit {0} };
-
     #[inline(always)]
     fn process<OM: OutputMode>(&mut self, input: I) -> PResult<I, I, E> {
         let whole = pair(digit1(), opt(pair(char('.'), opt(digit1()))));
@@ -71,7 +69,9 @@ impl<I: Input, E: ParseError<I>> StreamParser<I> for RecognizeFloat<I, E>
 where
     I::Item: AsChar,
 {
-    ghost pinned = { λ s k p. slice_pinned I.model I.view I.views };
+    ghost Pins = { λ _. Unit {0} };
+
+    ghost pinned = { λ p k h. slice_pinned I.views };
 
     ghost steady = { λ _ k. (float_stream I.model I.lawful I.Item.IsValue I.values I.Item.code E.errors).steady };
 }

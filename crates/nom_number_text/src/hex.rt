@@ -99,8 +99,6 @@ where
 
     ghost meaning = { λ _. hex_meaning I.model I.Item.code E.errors };
 
-    ghost Pins = { λ _. Unit {0} };
-
     #[inline(always)]
     fn process<OM: OutputMode>(&mut self, input: I) -> PResult<I, u32, E> {
         let mut run = ClassRun::<I, E> {
@@ -124,7 +122,9 @@ impl<I: Input, E: ParseError<I>> StreamParser<I> for HexU32<I, E>
 where
     I::Item: AsChar,
 {
-    ghost pinned = { λ s k p. value_pinned };
+    ghost Pins = { λ _. Unit {0} };
+
+    ghost pinned = { λ p k h. value_pinned };
 
     ghost steady = { λ _ k. (hex_stream I.model I.Item.code I.Item.IsValue I.values E.errors).steady };
 }

@@ -52,8 +52,6 @@ impl<I: Items, F: Parser<I> + Drop> Parser<I> for AsFloat<F> {
 
     ghost meaning = { λ s. as_float_meaning F.Error.errors (F.meaning s) };
 
-    ghost Pins = { F.Pins };
-
     #[inline(always)]
     fn process<OM: OutputMode>(&mut self, input: I) -> PResult<I, Self::Output, Self::Error> {
         match self.parser.process::<OM>(input) {
@@ -66,7 +64,9 @@ impl<I: Items, F: Parser<I> + Drop> Parser<I> for AsFloat<F> {
 }
 
 impl<I: Items, F: StreamParser<I> + Drop> StreamParser<I> for AsFloat<F> {
-    ghost pinned = { F.pinned };
+    ghost Pins = { λ p. F.Pins p.parser };
+
+    ghost pinned = { λ p. F.pinned p.parser };
 
     ghost steady = { λ s k. renamed_steady I.model (λ i _. F.Error.errors.of_kind i Kind.Float) F.Error.errors.grows (F.meaning s) (F.steady s k) };
 }

@@ -181,8 +181,6 @@ where
 
     ghost meaning = { λ _. parts_meaning I.model I.Item.code E.errors };
 
-    ghost Pins = { λ _. Unit {0} };
-
     #[inline(always)]
     fn process<OM: OutputMode>(&mut self, input: I) -> PResult<I, Self::Output, E> {
         let (rest, read) = read::<OM, I, E>(input)?;
@@ -199,7 +197,9 @@ impl<I: Input, E: ParseError<I>> StreamParser<I> for FloatParts<I, E>
 where
     I::Item: AsChar,
 {
-    ghost pinned = { λ s k p. parts_pinned I.model I.view I.views I.Item.code };
+    ghost Pins = { λ _. Unit {0} };
+
+    ghost pinned = { λ p k h. parts_pinned I.model I.views I.Item.code };
 
     ghost steady = { λ _ k. (parts_stream I.model I.lawful I.Item.IsValue I.values I.Item.code E.errors).steady };
 }

@@ -49,7 +49,7 @@ pub enum WordAt<I> {
     Stands(I),
     /// Something else.
     Differs,
-    /// A beginning of it, of which so many letters lack.
+    /// A beginning of it, and how many letters are missing.
     Lacks(usize),
 }
 
@@ -99,8 +99,6 @@ where
 
     ghost meaning = { λ word. word_meaning I.model I.Item.code E.errors (letters_of word) };
 
-    ghost Pins = { λ _. Unit {0} };
-
     #[inline(always)]
     fn process<OM: OutputMode>(&mut self, input: I) -> PResult<I, I, E> {
         match word_at(input, self.word.letters()) {
@@ -120,7 +118,9 @@ impl<I: Input, E: ParseError<I>> StreamParser<I> for Word<I, E>
 where
     I::Item: AsChar,
 {
-    ghost pinned = { λ s k p. slice_pinned I.model I.view I.views };
+    ghost Pins = { λ _. Unit {0} };
+
+    ghost pinned = { λ p k h. slice_pinned I.views };
 
     ghost steady = { λ word k. (word_stream I.model I.Item.code E.errors (letters_of word)).steady };
 }

@@ -44,8 +44,6 @@ pub trait Nested<I: Items>: Sized {
 
     ghost AreOutputs: { State → Tree → Self.Outputs → Type 0 };
 
-    ghost Pins: { State → Type 0 };
-
     /// Places that all wait.
     fn slots() -> Self::Slots
         ensures held { (outputs : Bool) (s : State) → AreHeld outputs s none result }
@@ -86,7 +84,9 @@ pub trait StreamNested<I: Items>: Nested<I> {
     /// How their outputs are compared.
     ghost view: { View Self.Outputs };
 
-    ghost pinned: { (s : Self.State) → ArePinned view (Self.members s) (Self.Nested.Pins s) (Self.AreOutputs s) };
+    ghost Pins: { Self → Type 0 };
+
+    ghost pinned: { (p : Self) → ArePinned view (Self.members (Self.state p)) (Pins p) (Self.AreOutputs (Self.state p)) };
 
     ghost stream: { (s : Self.State) → AreStream I.model (Self.members s) };
 }
@@ -116,8 +116,6 @@ impl<I: Items, A: Parser<I>> Nested<I> for One<A> {
     ghost waiting = { waits };
 
     ghost AreOutputs = { λ s t o. IsApplied (A.IsOutput s) t o.member };
-
-    ghost Pins = { A.Pins };
 
     #[inline(always)]
     fn slots() -> Self::Slots {
@@ -155,7 +153,9 @@ impl<I: Items, A: StreamParser<I>> StreamNested<I> for One<A> {
 
     ghost view = { one_view A.Output.view };
 
-    ghost pinned = { λ s. one_pinned (A.meaning s) (A.IsOutput s) (A.pinned s) };
+    ghost Pins = { λ p. A.Pins p.member };
+
+    ghost pinned = { λ p. one_pinned (A.meaning (A.state p.member)) (A.IsOutput (A.state p.member)) (A.pinned p.member) };
 
     ghost stream = { λ s. one_stream (A.meaning s) (A.steady s) };
 }
@@ -184,8 +184,6 @@ impl<I: Items, M: Nested<I>, A: Parser<I, Error = M::Error>> Nested<I> for More<
     ghost waiting = { λ slots. M.waiting slots.0 + waits slots.1 };
 
     ghost AreOutputs = { λ s t o. M.AreOutputs s.0 t.0 o.0 × IsApplied (A.IsOutput s.1) t.1 o.1 };
-
-    ghost Pins = { λ s. M.Pins s.0 × A.Pins s.1 };
 
     #[inline(always)]
     fn slots() -> Self::Slots {
@@ -236,7 +234,9 @@ impl<I: Items, M: StreamNested<I>, A: StreamParser<I, Error = M::Error>> StreamN
 
     ghost view = { pair_view M.view A.Output.view };
 
-    ghost pinned = { λ s. more_pinned (A.meaning s.1) (A.IsOutput s.1) (M.pinned s.0) (A.pinned s.1) };
+    ghost Pins = { λ p. M.Pins p.others × A.Pins p.member };
+
+    ghost pinned = { λ p. more_pinned (A.meaning (A.state p.member)) (A.IsOutput (A.state p.member)) (M.pinned p.others) (A.pinned p.member) };
 
     ghost stream = { λ s. more_stream (A.meaning s.1) (M.stream s.0) (A.steady s.1) };
 }

@@ -44,8 +44,6 @@ where
     ghost meaning = { λ s. permutation_meaning I.model N.Error.errors.joined (λ i. N.Error.errors.appended i Kind.Permutation) N.Error.errors.grows
         (N.members s) N.none };
 
-    ghost Pins = { N.Pins };
-
     #[inline(always)]
     fn process<OM: OutputMode>(&mut self, input: I) -> PResult<I, Self::Output, Self::Error> {
         rounds::<I, N, OM>(&mut self.members, input)
@@ -59,7 +57,9 @@ impl<I: Items, N: StreamMembers<I>> StreamParser<I> for OnceEach<N> {
     ghost use Rattle.nom_permutation.specs.laws.NestedLaws.{flat_pinned};
     ghost use Rattle.nom_permutation.specs.laws.PermutationLaws.{permutation_steady};
 
-    ghost pinned = { λ s k p. (flat_pinned (N.pinned s) N.form N.Outputs.pairs N.formed).pinned k p };
+    ghost Pins = { λ p. N.Pins p.members };
+
+    ghost pinned = { λ p k h. (flat_pinned (N.pinned p.members) N.form N.Outputs.pairs N.formed).pinned k h };
 
     ghost steady = { λ s k. permutation_steady I.model N.Error.errors.joined (λ i. N.Error.errors.appended i Kind.Permutation) N.Error.errors.grows
         (N.members s) I.lawful ((N.stream s).steady k) N.none };

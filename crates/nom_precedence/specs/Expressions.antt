@@ -73,7 +73,7 @@ premises errs CanFold IsLevel prefix operand postfix binary = record {
   NeverFails = λ large. prefix.NeverFails large × operand.NeverFails large × postfix.NeverFails large × binary.NeverFails large × (large ≡ true);
 }
 
--- What `precedence` means, of so many levels.
+-- What `precedence` means, by the number of levels.
 abbrev pub precedence_meaning : {I A P V Q B E : Type 0} → Model I A → Errors I E → Type 0 → (B → ℕ → Type 0) → ℕ → Meaning I P E → Meaning I V E →
     Meaning I Q E → Meaning I B E → Meaning I (Term P V Q × List (Pair B (Term P V Q))) E
 precedence_meaning w errs CanFold IsLevel levels prefix operand postfix binary =

@@ -44,14 +44,9 @@ impl<
     F: Parser<I> + Drop,
     Q: Parser<I, Error = F::Error> + Drop,
     C: Parser<I, Output = (usize, B), Error = F::Error> + Drop,
-    B: Viewed + Drop,
+    B: Drop,
     G: Fn(Operation<P::Output, Q::Output, B, F::Output>) -> F::Output,
-> Parser<I> for Precedence<'l, A, P, F, Q, C, B, G>
-where
-    P::Output: Viewed,
-    F::Output: Viewed,
-    Q::Output: Viewed,
-{
+> Parser<I> for Precedence<'l, A, P, F, Q, C, B, G> {
     ghost use Rattle.nom_precedence.specs.Expressions.{Term, Pair, precedence_meaning};
     ghost use Rattle.nom_precedence.specs.laws.ExpressionLaws.{precedence_lawful};
     ghost use Rattle.nom_precedence.specs.laws.ValueLaws.{GivesAlike};
@@ -71,9 +66,6 @@ where
 
     ghost meaning = { λ s. precedence_meaning I.model F.Error.errors ((x : Operation P.Output Q.Output B F.Output) → G.pre s.5 x)
         (HasLevel (C.IsOutput s.3) (λ o. o.0)) (length s.4) (P.meaning s.0) (F.meaning s.1) (Q.meaning s.2) (C.meaning s.3) };
-
-    ghost Pins = { λ s. P.Pins s.0 × F.Pins s.1 × Q.Pins s.2 × C.Pins s.3 × GivesAlike
-        (folding (P.IsOutput s.0) (F.IsOutput s.1) (Q.IsOutput s.2) (C.IsOutput s.3) (G.post s.5)) P.Output.view Q.Output.view B.view F.Output.view };
 
     fn process<OM: OutputMode>(&mut self, input: I) -> PResult<I, F::Output, F::Error> {
         let (end, whole) = read::<OM, I, A, P, F, Q, B, C, G>(
@@ -111,9 +103,12 @@ impl<
     ghost use Rattle.nom_precedence.specs.laws.ExpressionLaws.{precedence_steady};
     ghost use Rattle.nom_precedence.specs.laws.ValueLaws.{folding_pinned};
 
-    ghost pinned = { λ s k p. folding_pinned (P.IsOutput s.0) (F.IsOutput s.1) (Q.IsOutput s.2) (C.IsOutput s.3) (G.post s.5) P.Output.view
-        Q.Output.view B.view F.Output.view p.4 (P.pinned s.0 k.0 p.0) (F.pinned s.1 k.1 p.1) (Q.pinned s.2 k.2 p.2) (C.pinned s.3 k.3 p.3)
-        (groups_left s.4) };
+    ghost Pins = { λ p. P.Pins p.prefix × F.Pins p.operand × Q.Pins p.postfix × C.Pins p.binary × GivesAlike
+        (folding (P.IsOutput (P.state p.prefix)) (F.IsOutput (F.state p.operand)) (Q.IsOutput (Q.state p.postfix)) (C.IsOutput (C.state p.binary))
+        (G.post p.fold)) P.Output.view Q.Output.view B.view F.Output.view };
+
+    ghost pinned = { λ p k h. folding_pinned h.4 (P.pinned p.prefix k.0 h.0) (F.pinned p.operand k.1 h.1) (Q.pinned p.postfix k.2 h.2)
+        (C.pinned p.binary k.3 h.3) (groups_left p.levels.now) };
 
     ghost steady = { λ s k. precedence_steady I.model I.lawful F.Error.errors ((x : Operation P.Output Q.Output B F.Output) → G.pre s.5 x)
         (HasLevel (C.IsOutput s.3) (λ o. o.0)) (length s.4) (P.meaning s.0) (F.meaning s.1) (Q.meaning s.2) (C.meaning s.3) k.4 (P.steady s.0 k.0)

@@ -1,4 +1,4 @@
--- Items of one part, one after another: at least so many and at most so many, until one is refused.
+-- Items of one part, one after another, between a least and a greatest number of them, until one is refused.
 use Rattle.std.specs.Prelude.{◌≡◌, ℕ, ◌+◌, ◌⊎◌, Bool, true, false, ltb, if◌then◌else◌, Option, Some, None, List, zero, suc}
 use Rattle.nom_error.specs.Errors.{Errors}
 use Rattle.nom_error.specs.declared.kind.ErrorKind.{ErrorKind}

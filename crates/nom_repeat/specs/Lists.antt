@@ -5,7 +5,7 @@ use Rattle.nom_traits.specs.View.{View, vec_view}
 use Rattle.nom_internal.specs.Pinned.{IsPinned}
 use Rattle.std.specs.declared.vec.Vec.{Vec}
 
-module _ {V O : Type 0} (view : View O) (IsOutput : V → O → Type 0) (pinned : IsPinned view IsOutput) where
+module _ {V O : Type 0} {view : View O} {IsOutput : V → O → Type 0} (pinned : IsPinned view IsOutput) where
   -- outputs, each of its own tree
   pub zip_pinned : (us : List V) (xs ys : List O) → AllZip IsOutput us xs → AllZip IsOutput us ys → map view.value xs ≡ map view.value ys
   zip_pinned [] [] [] p q = refl
@@ -13,9 +13,9 @@ module _ {V O : Type 0} (view : View O) (IsOutput : V → O → Type 0) (pinned 
   zip_pinned [] (x ∷ xs) ys p q = absurd p
   zip_pinned (u ∷ us) [] ys p q = absurd p
   zip_pinned (u ∷ us) (x ∷ xs) [] p q = absurd q
-  zip_pinned (u ∷ us) (x ∷ xs) (y ∷ ys) p q = let heads = pinned u x y p.0 q.0 in let tails = zip_pinned us xs ys p.1 q.1 in cc (heads, tails)
+  zip_pinned (u ∷ us) (x ∷ xs) (y ∷ ys) p q = let heads = pinned.one_view u x y p.0 q.0 in let tails = zip_pinned us xs ys p.1 q.1 in cc (heads, tails)
 
 -- lists of them
-pub list_pinned : {V O A : Type 0} (view : View O) (IsOutput : V → O → Type 0) → IsPinned view IsOutput →
+pub list_pinned : {V O A : Type 0} {view : View O} {IsOutput : V → O → Type 0} → IsPinned view IsOutput →
     IsPinned (vec_view {A = A} view) (λ vs (list : Vec O A). AllZip IsOutput vs list.items)
-list_pinned view IsOutput pinned vs a b p q = zip_pinned view IsOutput pinned vs a.items b.items p q
+list_pinned pinned = record { one_view = λ vs a b p q. zip_pinned pinned vs a.items b.items p q }

@@ -167,10 +167,10 @@ pub fn wrong_row<
 pub fn wrong_pinned_row<
     I: Input + Content,
     O: PartialEq + Drop,
-    P: Parser<I, Output = O, Error = Error<I>> + Drop,
+    P: StreamParser<I, Output = O, Error = Error<I>> + Drop,
 >(parser: P, rows: &[Row<I, O>]) -> Option<usize>
-    requires sound { (P.meaning (P.state parser)).IsSound }
-    requires pins { P.Pins (P.state parser) }
+    requires sound { (P.Parser.meaning (P.Parser.state parser)).IsSound }
+    requires pins { P.Pins parser }
 {
     wrong_row(parser, rows)
 }
@@ -205,7 +205,7 @@ pub fn is_grown<'a, P: StreamParser<&'a [u8]> + Drop>(
 where
     P::Output: PartialEq,
     requires sound { (P.Parser.meaning (P.Parser.state parser)).IsSound }
-    requires pins { P.Parser.Pins (P.Parser.state parser) }
+    requires pins { P.Pins parser }
 {
     let Some(grown) = grown(parser, whole, cuts) else {
         return false;

@@ -33,8 +33,6 @@ impl<I: Items, F: Parser<I> + Drop, G: Parser<I, Error = F::Error> + Drop> Parse
 
     ghost meaning = { λ s. preceded_meaning I.model (F.meaning s.0) (G.meaning s.1) };
 
-    ghost Pins = { λ s. G.Pins s.1 };
-
     ghost Besides = { λ mode old new i. ThenBesides (F.Besides (with_outputs false mode) old.first new.first i) (G.Besides mode old.second new.second) };
 
     #[inline(always)]
@@ -52,7 +50,9 @@ impl<I: Items, F: Parser<I> + Drop, G: Parser<I, Error = F::Error> + Drop> Parse
 impl<I: Items, F: StreamParser<I> + Drop, G: StreamParser<I, Error = F::Error> + Drop> StreamParser<
     I,
 > for Preceded<F, G> {
-    ghost pinned = { λ s k p. G.pinned s.1 k.1 p };
+    ghost Pins = { λ p. G.Pins p.second };
+
+    ghost pinned = { λ p k h. G.pinned p.second k.1 h };
 
     ghost steady = { λ s k. sequence_steady I.model I.lawful (λ u v. v) (with_outputs false) (λ o. o) (F.meaning s.0) (G.meaning s.1) (F.steady s.0 k.0)
         (G.steady s.1 k.1) };
@@ -81,8 +81,6 @@ impl<I: Items, F: Parser<I> + Drop, G: Parser<I, Error = F::Error> + Drop> Parse
 
     ghost meaning = { λ s. terminated_meaning I.model (F.meaning s.0) (G.meaning s.1) };
 
-    ghost Pins = { λ s. F.Pins s.0 };
-
     ghost Besides = { λ mode old new i. ThenBesides (F.Besides mode old.first new.first i) (G.Besides (with_outputs false mode) old.second new.second) };
 
     #[inline(always)]
@@ -101,7 +99,9 @@ impl<I: Items, F: Parser<I> + Drop, G: Parser<I, Error = F::Error> + Drop> Parse
 impl<I: Items, F: StreamParser<I> + Drop, G: StreamParser<I, Error = F::Error> + Drop> StreamParser<
     I,
 > for Terminated<F, G> {
-    ghost pinned = { λ s k p. F.pinned s.0 k.0 p };
+    ghost Pins = { λ p. F.Pins p.first };
+
+    ghost pinned = { λ p k h. F.pinned p.first k.0 h };
 
     ghost steady = { λ s k. sequence_steady I.model I.lawful (λ u v. u) (λ o. o) (with_outputs false) (F.meaning s.0) (G.meaning s.1) (F.steady s.0 k.0)
         (G.steady s.1 k.1) };

@@ -23,5 +23,7 @@ numbered_lawful M = map_lawful text_model (AreListed {M = M}) (λ _. Unit {0}) (
     (many0_lawful text_model text_lawful kept letters letters_lawful)
 
 pub number_pinned : (M : Type 0) → IsPinned itself (IsNumber M)
-number_pinned M t a b p q =
-    p.given ∙ (AllZip-long (λ t o. o ≡ t) t p.output.items p.is_output ∙ (sym (AllZip-long (λ t o. o ≡ t) t q.output.items q.is_output) ∙ sym q.given))
+number_pinned M = record {
+  one_view = λ t a b p q.
+      p.given ∙ (AllZip-long (λ t o. o ≡ t) t p.output.items p.is_output ∙ (sym (AllZip-long (λ t o. o ≡ t) t q.output.items q.is_output) ∙ sym q.given));
+}

@@ -70,15 +70,23 @@ stands_once [] k x y p q = absurd p
 stands_once (s ∷ ss) zero x y p q = sym p ∙ q
 stands_once (s ∷ ss) (suc k) x y p q = stands_once ss k x y p q
 
-each_at : {S : Type 0} (P : S → Type 0) (ss : List S) (k : ℕ) (s : S) → Each P ss → IsElementAt ss k s → P s
-each_at P [] k s h l = absurd l
-each_at P (x ∷ xs) zero s h l = subst P l h.0
-each_at P (x ∷ xs) (suc k) s h l = each_at P xs k s h.1 l
+-- the fact of each parser is that of the one whose state stands at a place
+fact_at : {P S : Type 0} (state : P → S) (Fact : P → Type 0) (ps : List P) (k : ℕ) (s : S) → Each Fact ps → IsElementAt (map state ps) k s →
+    (p : P) × (state p ≡ s) × Fact p
+fact_at state Fact [] k s h l = absurd l
+fact_at state Fact (p ∷ ps) zero s h l = (p, l, h.0)
+fact_at state Fact (p ∷ ps) (suc k) s h l = fact_at state Fact ps k s h.1 l
 
-module _ {S I V O E : Type 0} (e : Errors I E) (part : S → Meaning I V E) (view : View O) (IsOutput : S → V → O → Type 0) (Pins : S → Type 0) where
+module _ {P S I V O E : Type 0} (e : Errors I E) (part : S → Meaning I V E) (state : P → S) {view : View O} {IsOutput : S → V → O → Type 0}
+    {Pins : P → Type 0} where
   -- two outputs of one tree are equal as viewed, where each parser pins
-  pub list_pinned : ((s : S) → (part s).IsSound → Pins s → IsPinned view (IsOutput s)) → (ss : List S) → (list_meaning e part ss).IsSound →
-      Each Pins ss → IsPinned view (ListOutput IsOutput ss)
-  list_pinned f ss h p t a b x y =
-      let one = stands_once ss t.0 y.0 x.0 y.1 x.1 in
-      f x.0 (sound_at e part ss t.0 x.0 x.1 h) (each_at Pins ss t.0 x.0 p x.1) t.1 a b x.2 (subst (λ z. IsOutput z t.1 b) one y.2)
+  pub list_pinned : ((p : P) → (part (state p)).IsSound → Pins p → IsPinned view (IsOutput (state p))) → (ps : List P) →
+      (list_meaning e part (map state ps)).IsSound → Each Pins ps → IsPinned view (ListOutput IsOutput (map state ps))
+  list_pinned f ps h pins = record {
+    one_view = λ t a b x y.
+        let ss = map state ps in
+        let one = stands_once ss t.0 y.0 x.0 y.1 x.1 in
+        let at = fact_at state Pins ps t.0 x.0 pins x.1 in
+        let pinned = subst (λ s. (part s).IsSound → IsPinned view (IsOutput s)) at.1 (λ k. f at.0 k at.2) (sound_at e part ss t.0 x.0 x.1 h) in
+        pinned.one_view t.1 a b x.2 (subst (λ z. IsOutput z t.1 b) one y.2);
+  }

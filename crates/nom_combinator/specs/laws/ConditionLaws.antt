@@ -7,7 +7,7 @@ use Rattle.nom_internal.specs.Meaning.{Meaning, IsLawful, IsSteady}
 use Rattle.nom_internal.specs.laws.CaseLaws.{labelled_lawful, labelled_steady}
 use Rattle.nom_internal.specs.Success.{success_lawful, success_steady}
 use Rattle.nom_internal.specs.Pinned.{IsPinned}
-use Rattle.nom_combinator.specs.Conditions.{cond_meaning, CondOutput, CondPins}
+use Rattle.nom_combinator.specs.Conditions.{state_of, cond_meaning, CondOutput, CondPins}
 use Rattle.nom_combinator.specs.laws.VerdictLaws.{opt_pinned}
 
 module _ {I A S P E : Type 0} (w : Model I A) (meaning : S → Meaning I P E) where
@@ -21,8 +21,8 @@ module _ {I A S P E : Type 0} (w : Model I A) (meaning : S → Meaning I P E) wh
   cond_steady l (Some s) k = labelled_steady w (meaning s) (λ t. Some t) (l s k)
   cond_steady l None k = success_steady E w None
 
-module _ {I S P O E : Type 0} (view : View O) (meaning : S → Meaning I P E) (IsOutput : S → P → O → Type 0) (Pins : S → Type 0) where
-  pub cond_pinned : ((s : S) → (meaning s).IsSound → Pins s → IsPinned view (IsOutput s)) → (o : Option S) → (cond_meaning meaning o).IsSound →
-      CondPins Pins o → IsPinned (option_view view) (CondOutput IsOutput o)
-  cond_pinned f (Some s) k p = opt_pinned view (IsOutput s) (f s k p)
-  cond_pinned f None k p = λ t a b g h. ap (option_view view).value (g ∙ sym h)
+module _ {I F S P O E : Type 0} (state : F → S) (meaning : S → Meaning I P E) {view : View O} {IsOutput : S → P → O → Type 0} {Pins : F → Type 0} where
+  pub cond_pinned : ((f : F) → (meaning (state f)).IsSound → Pins f → IsPinned view (IsOutput (state f))) → (o : Option F) →
+      (cond_meaning meaning (state_of state o)).IsSound → CondPins Pins o → IsPinned (option_view view) (CondOutput IsOutput (state_of state o))
+  cond_pinned f (Some p) k h = opt_pinned (f p k h)
+  cond_pinned f None k h = record { one_view = λ t a b x y. ap (option_view view).value (x ∙ sym y) }

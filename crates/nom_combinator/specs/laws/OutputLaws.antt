@@ -2,12 +2,18 @@
 use Rattle.std.specs.Prelude.{◌≡◌, ℕ, Bool, true, false, refl}
 use Rattle.std.proofs.Common.{sym, ◌∙◌, subst}
 use Rattle.nom_traits.specs.Input.{Model, IsBoundary}
+use Rattle.nom_traits.specs.View.{View}
 use Rattle.nom_internal.specs.Outcome.{failure}
 use Rattle.nom_internal.specs.Outcome.Outcome.{Accept}
 use Rattle.nom_internal.specs.Meaning.{Meaning, IsLawful, IsSteady}
+use Rattle.nom_internal.specs.Pinned.{IsPinned}
 use Rattle.nom_internal.specs.laws.CaseLaws.{CaseLaws, case_lawful, case_steady}
 use Rattle.nom_internal.specs.laws.RecognizedLaws.{AcceptLaws, plain_laws}
 use Rattle.nom_combinator.specs.Outputs.{GivesValue, value_case, value_meaning}
+
+-- outputs that pass a test
+pub tested_pinned : {V O : Type 0} {view : View O} {F : V → O → Type 0} {Passes : O → Type 0} → IsPinned view F → IsPinned view (λ t o. F t o × Passes o)
+tested_pinned f = record { one_view = λ t a b p q. f.one_view t a b p.0 q.0 }
 
 never_given : {T : Type 0} (large : Bool) (n : ℕ) (v : T) → failure large ≡ Accept n v → ⊥
 never_given true n v e = cc

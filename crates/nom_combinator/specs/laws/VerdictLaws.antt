@@ -231,10 +231,13 @@ module _ {I A P : Type 0} (w : Model I A) (l : InputLaws w) where
   }
 
 -- options are pinned as what they hold
-module _ {V O : Type 0} (view : View O) (F : V → O → Type 0) where
-  pub opt_pinned : IsPinned view F → IsPinned (option_view view) (OptOutput F)
-  opt_pinned f (Some t) a b p q = ap (view_some view) p.1 ∙ (ap Some (f t p.0 q.0 p.2 q.2) ∙ sym (ap (view_some view) q.1))
-  opt_pinned f None a b p q = ap (view_some view) (p ∙ sym q)
+module _ {V O : Type 0} {view : View O} {F : V → O → Type 0} (f : IsPinned view F) where
+  one_option : (t : Option V) (a b : Option O) → OptOutput F t a → OptOutput F t b → view_some view a ≡ view_some view b
+  one_option (Some t) a b p q = ap (view_some view) p.1 ∙ (ap Some (f.one_view t p.0 q.0 p.2 q.2) ∙ sym (ap (view_some view) q.1))
+  one_option None a b p q = ap (view_some view) (p ∙ sym q)
+
+  pub opt_pinned : IsPinned (option_view view) (OptOutput F)
+  opt_pinned = record { one_view = one_option }
 
 module _ {I A P E : Type 0} (w : Model I A) (m : Meaning I P E) where
   pub cut_lawful : IsLawful w m → IsLawful w (cut_meaning m)

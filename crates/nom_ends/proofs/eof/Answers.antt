@@ -5,5 +5,5 @@ use Rattle.nom_ends.proofs.eof.Goals as goal
 
 pub returns : goal.returns
 returns g c =
-    answers_by (eof_lawful g.I.Items.model g.E.ParseError.errors) (slice_pinned g.I.Items.model g.I.Viewed.view g.met.I.Input.views)
+    answers_by (eof_lawful g.I.Items.model g.E.ParseError.errors) (slice_pinned g.met.I.Input.views)
     c.parse_complete.ensures.shown

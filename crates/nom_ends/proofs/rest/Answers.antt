@@ -5,5 +5,5 @@ use Rattle.nom_ends.proofs.rest.Goals as goal
 
 pub returns : goal.returns
 returns g c =
-    answers_by (rest_lawful g.I.Items.model g.row.E.Denot) (slice_pinned g.I.Items.model g.I.Viewed.view g.met.I.Input.views)
+    answers_by (rest_lawful g.I.Items.model g.row.E.Denot) (slice_pinned g.met.I.Input.views)
     c.parse_complete.ensures.shown

@@ -1,19 +1,11 @@
 -- The laws of parsers that look at no item.
-use Rattle.std.specs.Prelude.{◌≡◌}
-use Rattle.std.proofs.Common.{sym, ◌∙◌, ap}
 use Rattle.nom_error.specs.declared.kind.ErrorKind.TheVariants as Kind
 use Rattle.nom_error.specs.Errors.{Errors}
 use Rattle.nom_traits.specs.Input.{Model}
-use Rattle.nom_traits.specs.View.{View}
 use Rattle.nom_internal.specs.Meaning.{IsLawful, IsSteady}
 use Rattle.nom_internal.specs.Leaf.{LeafLaws, leaf_lawful, leaf_steady}
-use Rattle.nom_internal.specs.Pinned.{IsPinned}
 use Rattle.nom_internal.specs.Success.{success_lawful}
 use Rattle.nom_ends.specs.Ends.{clone_meaning, fail_leaf, fail_meaning}
-
--- one value, by any view
-pub same_pinned : {O : Type 0} (view : View O) → IsPinned view (λ t o. o ≡ t)
-same_pinned view t a b p q = ap view.value (p ∙ sym q)
 
 -- a clone of a value
 pub clone_lawful : {I A V : Type 0} (E : Type 0) (w : Model I A) (v : V) (IsSure : Type 0) → IsLawful w (clone_meaning {E = E} v IsSure)

@@ -9,7 +9,7 @@ use Rattle.nom_internal.specs.Families.{IsOne, IsLawfulFamily, AnyKey, of_value_
 use Rattle.nom_internal.specs.laws.CaseLaws.{labelled_lawful, labelled_steady}
 use Rattle.nom_internal.specs.laws.SequenceLaws.{then_lawful, then_steady}
 use Rattle.nom_internal.specs.Pinned.{IsPinned}
-use Rattle.nom_internal.specs.FlatMap.{Maker, GivesState, IsMaker, OfEach, IsGiven, states_family, given_family, flat_map_meaning}
+use Rattle.nom_internal.specs.FlatMap.{Maker, GivesState, IsMaker, OfEach, OfEachGiven, IsGiven, states_family, given_family, flat_map_meaning}
 
 module _ {P O H S : Type 0} (IsOutput : P → O → Type 0) (g : Maker O H S) (IsSound : S → Type 0) (k : IsMaker IsOutput g IsSound) where
   one_state : IsOne (GivesState IsOutput g)
@@ -46,7 +46,14 @@ module _ {I A P O H S Q E : Type 0} (w : Model I A) (IsOutput : P → O → Type
     flat_map_steady i a p = then_steady w i (λ u t. t) (with_outputs true) (λ o. o) a (given_family IsOutput g m) p given_steady
 
 -- the outputs of one tree are one, where those of each parser are
-module _ {P O H S Q X : Type 0} (IsOutput : P → O → Type 0) (g : Maker O H S) (IsSound Pins : S → Type 0) (view : View X) (IsResult : S → Q → X → Type 0) where
-  pub given_pinned : IsMaker IsOutput g IsSound → OfEach IsOutput g Pins → ((u : S) → IsSound u → Pins u → IsPinned view (IsResult u)) →
-      IsPinned view (IsGiven IsOutput g IsResult)
-  given_pinned k e f t a b p q = f t.0 (state_sound IsOutput g IsSound k p.key t.0 p.given) (e p.key t.0 p.given) t.1 a b p.is_output q.is_output
+module _ {P O H S Q X : Type 0} {IsOutput : P → O → Type 0} {g : Maker O H S} {IsSound : S → Type 0} {Pins : H → Type 0} {view : View X}
+    {IsResult : S → Q → X → Type 0} where
+  pub given_pinned : IsMaker IsOutput g IsSound → OfEachGiven IsOutput g Pins →
+      ((h : H) → IsSound (g.state h) → Pins h → IsPinned view (IsResult (g.state h))) → IsPinned view (IsGiven IsOutput g IsResult)
+  given_pinned k e f = record {
+    one_view = λ t a b p q.
+        let made = p.given in
+        let sound = k.sound p.key made.output made.parser made.is_output made.given in
+        let pinned = f made.parser sound (e p.key made.output made.parser made.is_output made.given) in
+        (subst (λ u. IsPinned view (IsResult u)) made.state_is pinned).one_view t.1 a b p.is_output q.is_output;
+  }

@@ -9,9 +9,11 @@ use Rattle.nom_internal.specs.Mapped.{map_case, map_meaning, renamed_case, renam
 use Rattle.nom_internal.specs.Pinned.{IsPinned}
 
 -- what a closure gives for the outputs of one tree is equal as viewed, where they are
-pub given_pinned : {V P R : Type 0} (argument : View P) (result : View R) (IsOutput : V → P → Type 0) (Gives : P → R → Type 0) →
+pub given_pinned : {V P R : Type 0} {argument : View P} {result : View R} {IsOutput : V → P → Type 0} {Gives : P → R → Type 0} →
     IsPinned argument IsOutput → SeesAlike argument result Gives → IsPinned result (GivesFor IsOutput Gives)
-given_pinned argument result IsOutput Gives f s t a b g h = s.alike g.output h.output a b (f t g.output h.output g.is_output h.is_output) g.given h.given
+given_pinned f s = record {
+  one_view = λ t a b g h. s.alike g.output h.output a b (f.one_view t g.output h.output g.is_output h.is_output) g.given h.given;
+}
 
 module _ {I A V P : Type 0} (w : Model I A) (IsOutput : V → P → Type 0) (Takes : P → Type 0) where
   map_laws : {E : Type 0} → CaseLaws {E = E} true w w (map_case IsOutput Takes)

@@ -39,22 +39,12 @@ pub and_one_steady : {I A P Q E : Type 0} {w : Model I A} (l : InputLaws w) {a :
     AreSteady w (pair_meaning w a b)
 and_one_steady {w = w} l {a = a} p b q = record { steady = sequence_steady w l (λ u v. (u, v)) (λ o. o) (λ o. o) a b p.steady q }
 
--- two outputs of one tree have one view: a record, by which view and outputs are found
-pub record HasOneView {V O : Type 0} (view : View O) (IsOutput : V → O → Type 0) : Type 0 where
-  pub one_view : IsPinned view IsOutput
-
-pub one_view_of : {V O : Type 0} (view : View O) (IsOutput : V → O → Type 0) → IsPinned view IsOutput → HasOneView view IsOutput
-one_view_of view IsOutput p = record { one_view = p }
-
--- members, and one more
-pub and_one_more : {V W O P : Type 0} {a : View O} {F : V → O → Type 0} → HasOneView a F → (b : View P) (G : W → P → Type 0) → IsPinned b G →
-    HasOneView (pair_view a b) (PairOutput F G)
-and_one_more {a = a} {F = F} f b G g = record { one_view = pair_pinned a b F G f.one_view g }
-
 -- the tuple that nested pairs are: its view is a form of theirs
-pub flat_pinned : {V O F : Type 0} {view : View O} {IsOutput : V → O → Type 0} (flat : View F) (form : view.Value → flat.Value) (pairs : F → O) →
-    ((o : F) → form (view.value (pairs o)) ≡ flat.value o) → HasOneView view IsOutput → IsPinned flat (λ t o. IsOutput t (pairs o))
-flat_pinned flat form pairs same h t x y p q = sym (same x) ∙ (ap form (h.one_view t (pairs x) (pairs y) p q) ∙ same y)
+pub flat_pinned : {V O F : Type 0} {view : View O} {IsOutput : V → O → Type 0} {flat : View F} (form : view.Value → flat.Value) (pairs : F → O) →
+    ((o : F) → form (view.value (pairs o)) ≡ flat.value o) → IsPinned view IsOutput → IsPinned flat (λ t o. IsOutput t (pairs o))
+flat_pinned form pairs same h = record {
+  one_view = λ t x y p q. sym (same x) ∙ (ap form (h.one_view t (pairs x) (pairs y) p q) ∙ same y);
+}
 
-pub single_pinned : {P A : Type 0} (a : View A) (IsA : P → A → Type 0) → IsPinned a IsA → IsPinned (single_view a) (λ t o. IsA t o.0)
-single_pinned a IsA p t o n i k = p t o.0 n.0 i k
+pub single_pinned : {P A : Type 0} {a : View A} {IsA : P → A → Type 0} → IsPinned a IsA → IsPinned (single_view a) (λ t o. IsA t o.0)
+single_pinned p = record { one_view = λ t o n i k. p.one_view t o.0 n.0 i k }

@@ -17,4 +17,4 @@ module _ {I A V E : Type 0} (w : Model I A) (l : InputLaws w) (errs : Errors I E
   fill_steady p = items_steady w l errs (exact_limits n) ⊥ m p
 
 pub done_pinned : {V : Type 0} → IsPinned itself (IsDone {V = V})
-done_pinned vs a b p q = refl
+done_pinned = record { one_view = λ vs a b p q. refl }

@@ -32,7 +32,7 @@ module _ {I A V E : Type 0} (w : Model I A) (l : InputLaws w) (errs : Errors I E
   range_fold_steady Premise p = under_steady w Premise (range_meaning w errs kind IsSpent lower upper Grows m) (range_steady p)
 
 -- collections of outputs, each of its own tree
-module _ {V T C : Type 0} (item : View T) (collection : View C) (items : C → List T) (IsOutput : V → T → Type 0) (pinned : IsPinned item IsOutput)
+module _ {V T C : Type 0} {item : View T} {collection : View C} {items : C → List T} {IsOutput : V → T → Type 0} (pinned : IsPinned item IsOutput)
     (views : (x y : C) → map item.value (items x) ≡ map item.value (items y) → collection.value x ≡ collection.value y) where
   pub collection_pinned : IsPinned collection (λ vs c. AllZip IsOutput vs (items c))
-  collection_pinned vs a b p q = views a b (zip_pinned item IsOutput pinned vs (items a) (items b) p q)
+  collection_pinned = record { one_view = λ vs a b p q. views a b (zip_pinned pinned vs (items a) (items b) p q) }

@@ -58,13 +58,15 @@ module _ {I A E : Type 0} (w : Model I A) (l : InputLaws w) (IsValue : A → Typ
   parts_stream = pair_stream w _ mantissa_stream _ power_stream l
 
 -- the parts of one tree are one
-pub parts_pinned : {I A : Type 0} (w : Model I A) (view : View I) → ((x y : I) → IsSame w x y → view.value x ≡ view.value y) → (code : A → ℕ) →
+pub parts_pinned : {I A : Type 0} (w : Model I A) {view : View I} → ((x y : I) → IsSame w x y → view.value x ≡ view.value y) → (code : A → ℕ) →
     IsPinned (view_4 itself view view itself) (IsParts w code)
-parts_pinned w view views code t o n p q =
-    let slice = slice_pinned w view views in
-    cc (
-      p.0 ∙ sym q.0,
-      slice (integer_slice w code (before_of w t.0.1)) o.1 n.1 p.1 q.1,
-      slice (fraction_slice w code (behind_of w t.0.1)) o.2 n.2 p.2 q.2,
-      p.3 ∙ sym q.3,
-    )
+parts_pinned w {view = view} views code = record {
+  one_view = λ t o n p q.
+      let slice : IsPinned view (IsModelledBy w) = slice_pinned views in
+      cc (
+        p.0 ∙ sym q.0,
+        slice.one_view (integer_slice w code (before_of w t.0.1)) o.1 n.1 p.1 q.1,
+        slice.one_view (fraction_slice w code (behind_of w t.0.1)) o.2 n.2 p.2 q.2,
+        p.3 ∙ sym q.3,
+      );
+}

@@ -66,10 +66,9 @@ module _ {I A E : Type 0} (w : Model I A) (code : A → ℕ) (errs : Errors I E)
         (stays (word_meaning w code errs (codes "infinity")) (word_stream (codes "infinity")).steady))
         (stays (word_meaning w code errs (codes "inf")) (word_stream (codes "inf")).steady))
 
-pub exceptions_pinned : {I A P : Type 0} (w : Model I A) (view : View I) → ((x y : I) → IsSame w x y → view.value x ≡ view.value y) →
-    (IsOutput : P → I → Type 0) → IsPinned view IsOutput →
+pub exceptions_pinned : {I A P : Type 0} {w : Model I A} {view : View I} {IsOutput : P → I → Type 0} →
+    ((x y : I) → IsSame w x y → view.value x ≡ view.value y) → IsPinned view IsOutput →
     IsPinned view (EitherOutput (EitherOutput (EitherOutput IsOutput (IsModelledBy w)) (IsModelledBy w)) (IsModelledBy w))
-exceptions_pinned w view views IsOutput p =
-    let slice = slice_pinned w view views in
-    either_pinned view (EitherOutput (EitherOutput IsOutput (IsModelledBy w)) (IsModelledBy w)) (IsModelledBy w)
-    (either_pinned view (EitherOutput IsOutput (IsModelledBy w)) (IsModelledBy w) (either_pinned view IsOutput (IsModelledBy w) p slice) slice) slice
+exceptions_pinned views p =
+    let slice = slice_pinned views in
+    either_pinned (either_pinned (either_pinned p slice) slice) slice

@@ -5,7 +5,10 @@ use Rattle.nom_internal.specs.Pinned.{IsPinned}
 use Rattle.nom_permutation.specs.Rounds.{IsApplied}
 
 -- an output of an applied member, as it is compared
-pub applied_pinned : {V O : Type 0} (view : View O) (IsOutput : V → O → Type 0) → IsPinned view IsOutput → (x : Option V) (a b : O) →
-    IsApplied IsOutput x a → IsApplied IsOutput x b → view.value a ≡ view.value b
-applied_pinned view IsOutput f (Some v) a b p q = f v a b p q
-applied_pinned view IsOutput f None a b p q = absurd p
+module _ {V O : Type 0} {view : View O} {IsOutput : V → O → Type 0} (f : IsPinned view IsOutput) where
+  one_applied : (x : Option V) (a b : O) → IsApplied IsOutput x a → IsApplied IsOutput x b → view.value a ≡ view.value b
+  one_applied (Some v) a b p q = f.one_view v a b p q
+  one_applied None a b p q = absurd p
+
+  pub applied_pinned : IsPinned view (IsApplied IsOutput)
+  applied_pinned = record { one_view = one_applied }

@@ -86,14 +86,13 @@ one_view view = record { Value = view.Value; value = λ o. view.value o.member }
 module _ {I P O E : Type 0} {view : View O} (m : Meaning I P E) (IsOutput : P → O → Type 0) {Pins : Type 0} where
   pub one_pinned : (m.IsSound → Pins → IsPinned view IsOutput) →
       ArePinned (one_view view) (member m (λ t. t) (λ _ v. Some v) ∷ []) Pins (λ t o. IsApplied IsOutput t o.member)
-  one_pinned f = record { pinned = λ h p t a b x y. applied_pinned view IsOutput (f h.0 p) t a.member b.member x y }
+  one_pinned f = record { pinned = λ h p. record { one_view = λ t a b. (applied_pinned (f h.0 p)).one_view t a.member b.member } }
 
   module _ {T U : Type 0} {before : View U} {ms : List (Member I T E)} {Others : Type 0} {AreOutputs : T → U → Type 0} where
     pub more_pinned : ArePinned before ms Others AreOutputs → (m.IsSound → Pins → IsPinned view IsOutput) →
         ArePinned (pair_view before view) (with_last ms m) (Others × Pins) (λ t o. AreOutputs t.0 o.0 × IsApplied IsOutput t.1 o.1)
     more_pinned k f = record {
-      pinned = λ h p. pair_pinned before view AreOutputs (IsApplied IsOutput) (k.pinned (others_sound m ms h) p.0)
-          (applied_pinned view IsOutput (f (last_sound m ms h) p.1));
+      pinned = λ h p. pair_pinned (k.pinned (others_sound m ms h) p.0) (applied_pinned (f (last_sound m ms h) p.1));
     }
 
 -- outputs made flat are equal as viewed where those that they are made of are
@@ -101,7 +100,7 @@ pub flat_pinned : {I T O U E : Type 0} {nested : View O} {view : View U} {ms : L
     ArePinned nested ms Pins AreOutputs → (form : nested.Value → view.Value) (pairs : U → O) → ((o : U) → form (nested.value (pairs o)) ≡ view.value o) →
     ArePinned view ms Pins (λ t o. AreOutputs t (pairs o))
 flat_pinned k form pairs same = record {
-  pinned = λ h p t o q i j. sym (same o) ∙ (ap form (k.pinned h p t (pairs o) (pairs q) i j) ∙ same q);
+  pinned = λ h p. record { one_view = λ t o q i j. sym (same o) ∙ (ap form ((k.pinned h p).one_view t (pairs o) (pairs q) i j) ∙ same q) };
 }
 
 module _ {I T P E : Type 0} (Joins : E → E → E → Type 0) (Grows : Type 0) where

@@ -36,16 +36,16 @@ module _ {P V Q B F G H O : Type 0} (f : Folding P V Q B F G H O) (prefix : View
       value.value u ≡ value.value v
   postfixes_alike x y [] u v e p q = ap value.value p ∙ (e ∙ sym (ap value.value q))
   postfixes_alike x y (c ∷ cs) u v e p q = postfixes_alike p.1 q.1 cs u v
-      (alike.on_postfix p.0 q.0 x y p.1 q.1 (pinned.postfixes c p.0 q.0 p.2 q.2) e p.3 q.3) p.4 q.4
+      (alike.on_postfix p.0 q.0 x y p.1 q.1 (pinned.postfixes.one_view c p.0 q.0 p.2 q.2) e p.3 q.3) p.4 q.4
 
   prefixes_alike : (ps : List P) (x y u v : O) → value.value x ≡ value.value y → PrefixesGive f ps x u → PrefixesGive f ps y v → value.value u ≡ value.value v
   prefixes_alike [] x y u v e p q = ap value.value p ∙ (e ∙ sym (ap value.value q))
-  prefixes_alike (c ∷ cs) x y u v e p q = alike.on_prefix p.0 q.0 p.1 q.1 u v (pinned.prefixes c p.0 q.0 p.2 q.2)
+  prefixes_alike (c ∷ cs) x y u v e p q = alike.on_prefix p.0 q.0 p.1 q.1 u v (pinned.prefixes.one_view c p.0 q.0 p.2 q.2)
       (prefixes_alike cs x y p.1 q.1 e p.3 q.3) p.4 q.4
 
   term_alike : (t : Term P V Q) (u v : O) → TermGives f t u → TermGives f t v → value.value u ≡ value.value v
   term_alike t u v p q = prefixes_alike t.prefixes p.behind q.behind u v
-      (postfixes_alike p.operand q.operand t.postfixes p.behind q.behind (pinned.operands t.operand p.operand q.operand p.is_operand q.is_operand)
+      (postfixes_alike p.operand q.operand t.postfixes p.behind q.behind (pinned.operands.one_view t.operand p.operand q.operand p.is_operand q.is_operand)
       p.postfixes_give q.postfixes_give) p.prefixes_give q.prefixes_give
 
   tree_alike : (t : Tree (Term P V Q) (ℕ × B)) (u v : O) → TreeGives f t u → TreeGives f t v → value.value u ≡ value.value v
@@ -54,14 +54,16 @@ module _ {P V Q B F G H O : Type 0} (f : Folding P V Q B F G H O) (prefix : View
       (tree_alike l p.0 q.0 p.3 q.3) (tree_alike r p.2 q.2 p.5 q.5) p.6 q.6
 
   pub stands_pinned : (left : ℕ → Bool) → IsPinned value (λ (e : Term P V Q × List (Pair B (Term P V Q))). StandsFor f left e.0 e.1)
-  stands_pinned left e a b p q =
-      let same = one_tree (λ (o : ℕ × B). o.0) left e.0 e.1 p.tree q.tree p.is_tree q.is_tree in
-      tree_alike q.tree a b (subst (λ t. TreeGives f t a) same p.gives) q.gives
+  stands_pinned left = record {
+    one_view = λ e a b p q.
+        let same = one_tree (λ (o : ℕ × B). o.0) left e.0 e.1 p.tree q.tree p.is_tree q.is_tree in
+        tree_alike q.tree a b (subst (λ t. TreeGives f t a) same p.gives) q.gives;
+  }
 
-module _ {P V Q B F G H O : Type 0} (IsPrefix : P → F → Type 0) (IsOperand : V → O → Type 0) (IsPostfix : Q → G → Type 0)
-    (IsBinary : B → ℕ × H → Type 0) (Gives : Operation F G H O → O → Type 0) (prefix : View F) (postfix : View G) (binary : View H) (value : View O) where
+module _ {P V Q B F G H O : Type 0} {IsPrefix : P → F → Type 0} {IsOperand : V → O → Type 0} {IsPostfix : Q → G → Type 0}
+    {IsBinary : B → ℕ × H → Type 0} {Gives : Operation F G H O → O → Type 0} {prefix : View F} {postfix : View G} {binary : View H} {value : View O} where
   pub folding_pinned : GivesAlike (folding IsPrefix IsOperand IsPostfix IsBinary Gives) prefix postfix binary value → IsPinned prefix IsPrefix →
       IsPinned value IsOperand → IsPinned postfix IsPostfix → IsPinned (pair_view itself binary) IsBinary → (left : ℕ → Bool) →
       IsPinned value (λ (e : Term P V Q × List (Pair B (Term P V Q))). StandsFor (folding IsPrefix IsOperand IsPostfix IsBinary Gives) left e.0 e.1)
   folding_pinned alike p q r s left = stands_pinned (folding IsPrefix IsOperand IsPostfix IsBinary Gives) prefix postfix binary value alike
-      (record { prefixes = p; operands = q; postfixes = r; binaries = λ t a b x y. ap (λ z. z.1) (s t a b x y) }) left
+      (record { prefixes = p; operands = q; postfixes = r; binaries = λ t a b x y. ap (λ z. z.1) (s.one_view t a b x y) }) left

@@ -8,5 +8,5 @@ returns-clause-items g c = items_stay _ g.met.I.Items.lawful (g.P.Parser.meaning
 pub returns-clause-outputs : goal.returns-clause-outputs
 returns-clause-outputs g c =
     let p = g.P.Parser.state c.args._parser.now in
-    outputs_stay _ g.met.I.Items.lawful (g.P.Parser.meaning p) g.P.Output.Viewed.view (g.P.Parser.Pins p) (g.P.Parser.IsOutput p)
+    outputs_stay _ g.met.I.Items.lawful (g.P.Parser.meaning p) g.P.Output.Viewed.view (g.P.StreamParser.Pins c.args._parser.now) (g.P.Parser.IsOutput p)
     (g.met.P.StreamParser.steady _ c.requires) (g.met.P.StreamParser.pinned _ c.requires)

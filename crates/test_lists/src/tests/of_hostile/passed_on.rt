@@ -68,8 +68,6 @@ impl<'c, I: Items, P: Parser<I> + Drop> Parser<I> for Tried<'c, P> {
 
     ghost meaning = { P.meaning };
 
-    ghost Pins = { P.Pins };
-
     fn process<OM: OutputMode>(&mut self, input: I) -> PResult<I, P::Output, P::Error> {
         self.calls.set(self.calls.get().saturating_add(1));
         self.inner.process::<OM>(input)

@@ -34,8 +34,6 @@ impl<'a> Parser<&'a [u8]> for Byte {
 
     ghost meaning = { λ _. byte_meaning };
 
-    ghost Pins = { λ _. Unit {0} };
-
     fn process<OM: OutputMode>(
         &mut self,
         input: &'a [u8],

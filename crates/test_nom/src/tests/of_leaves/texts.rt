@@ -157,8 +157,6 @@ impl<'a> Parser<&'a str> for Two {
 
     ghost meaning = { λ _. success_meaning tt };
 
-    ghost Pins = { λ _. Unit {0} };
-
     fn process<OM: OutputMode>(&mut self, input: &'a str) -> PResult<&'a str, u8, Error<&'a str>> {
         input.prove_known();
         Ok((input, OM::Output::bind(length_of_two)))

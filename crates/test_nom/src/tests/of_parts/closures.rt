@@ -10,7 +10,7 @@ use nom::bytes::take;
 use nom::combinator::{map, map_opt, map_res, success, value, verify};
 use nom::error::{Error, ErrorKind};
 use nom::number::be_u8;
-use nom::{IResult, Input, Parser, Viewed};
+use nom::{IResult, Input, Parser, StreamParser, Viewed};
 use nom_rows::rows::{Answer, Content, Row, bytes, is_grown, wrong_pinned_row, wrong_row};
 use std::test::Fail;
 
@@ -56,11 +56,11 @@ fn mapped_of<
     I: Input + Content,
     A: Viewed + Drop,
     O: Viewed + PartialEq + Drop,
-    P: Parser<I, Output = A, Error = Error<I>> + Drop,
+    P: StreamParser<I, Output = A, Error = Error<I>> + Drop,
     G: Fn(A) -> O + Drop,
 >(part: P, by: G, rows: &[Row<I, O>]) -> Option<usize>
     requires part { (P.meaning (P.state part)).IsSound }
-    requires pins { P.Pins (P.state part) }
+    requires pins { P.Pins part }
     requires takes { IsCallable (P.IsOutput (P.state part)) (G.pre by) }
     requires alike { SeesAlike A.view O.view (G.post by) }
 {
@@ -80,13 +80,13 @@ fn mapped_pair<
     I: Input + Content,
     A: Viewed + Drop,
     O: Viewed + PartialEq + Drop,
-    P: Parser<I, Output = A, Error = Error<I>> + Drop,
+    P: StreamParser<I, Output = A, Error = Error<I>> + Drop,
     G: Fn((A, A)) -> O + Drop,
 >(first: P, second: P, by: G, rows: &[Row<I, O>]) -> Option<usize>
     requires first { (P.meaning (P.state first)).IsSound }
     requires second { (P.meaning (P.state second)).IsSound }
-    requires pins { P.Pins (P.state first) }
-    requires second_pins { P.Pins (P.state second) }
+    requires pins { P.Pins first }
+    requires second_pins { P.Pins second }
     requires takes { (o : A × A) → G.pre by o }
     requires alike { SeesAlike (pair_view A.view A.view) O.view (G.post by) }
 {
@@ -145,12 +145,12 @@ fn mapped_twice<
     A: Viewed + Drop,
     B: Viewed + Drop,
     O: Viewed + PartialEq + Drop,
-    P: Parser<I, Output = A, Error = Error<I>> + Drop,
+    P: StreamParser<I, Output = A, Error = Error<I>> + Drop,
     F: Fn(A) -> B + Drop,
     G: Fn(B) -> O + Drop,
 >(part: P, first: F, second: G, rows: &[Row<I, O>]) -> Option<usize>
     requires part { (P.meaning (P.state part)).IsSound }
-    requires pins { P.Pins (P.state part) }
+    requires pins { P.Pins part }
     requires takes { IsCallable (P.IsOutput (P.state part)) (F.pre first) }
     requires alike { SeesAlike A.view B.view (F.post first) }
     requires second_takes { (b : B) → G.pre second b }
@@ -213,14 +213,14 @@ fn judged_pair_of<
     A: Viewed + Drop,
     O: Viewed + PartialEq + Drop,
     X: Drop,
-    P: Parser<I, Output = A, Error = Error<I>> + Drop,
+    P: StreamParser<I, Output = A, Error = Error<I>> + Drop,
     F: Fn(A) -> Option<O> + Drop,
     G: Fn(A) -> Result<O, X> + Drop,
 >(a: P, first: F, b: P, second: G, rows: &[Row<I, (O, O)>]) -> Option<usize>
     requires a { (P.meaning (P.state a)).IsSound }
     requires b { (P.meaning (P.state b)).IsSound }
-    requires a_pins { P.Pins (P.state a) }
-    requires b_pins { P.Pins (P.state b) }
+    requires a_pins { P.Pins a }
+    requires b_pins { P.Pins b }
     requires first { IsJudge (P.IsOutput (P.state a)) (F.pre first) (F.post first) is_some }
     requires second { IsJudge (P.IsOutput (P.state b)) (G.pre second) (G.post second) is_ok }
     requires first_alike { SeesAlike A.view O.view (λ v o. F.post first v (Some o)) }
@@ -233,13 +233,13 @@ fn judged_pair_of<
 fn both_of<
     I: Input + Content,
     O: PartialEq + Drop,
-    P: Parser<I, Output = O, Error = Error<I>> + Drop,
-    Q: Parser<I, Output = O, Error = Error<I>> + Drop,
+    P: StreamParser<I, Output = O, Error = Error<I>> + Drop,
+    Q: StreamParser<I, Output = O, Error = Error<I>> + Drop,
 >(first: P, second: Q, rows: &[Row<I, (O, O)>]) -> Option<usize>
     requires first { (P.meaning (P.state first)).IsSound }
     requires second { (Q.meaning (Q.state second)).IsSound }
-    requires pins { P.Pins (P.state first) }
-    requires second_pins { Q.Pins (Q.state second) }
+    requires pins { P.Pins first }
+    requires second_pins { Q.Pins second }
 {
     wrong_pinned_row(first.and(second), rows)
 }

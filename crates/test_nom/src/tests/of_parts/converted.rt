@@ -6,7 +6,8 @@ use nom::combinator::{into, map_opt};
 use nom::error::{Error, ErrorKind, ParseError};
 use nom::number::be_u8;
 use nom::{
-    Check, Complete, Emit, Err, OutOfMemory, OutputM, OutputMode, Parser, Streaming, Viewed,
+    Check, Complete, Emit, Err, OutOfMemory, OutputM, OutputMode, Parser, StreamParser, Streaming,
+    Viewed,
 };
 use nom_rows::rows::{Answer, bytes, wrong_row};
 
@@ -95,13 +96,13 @@ fn told_of<'a, OM: OutputMode, P: Parser<&'a [u8], Output = Wide, Error = Why>>(
 
 /// Whether it is this number, or this kind, where it is built, of a parser whose outputs are the same on
 /// longer inputs.
-fn is_told<'a, P: Parser<&'a [u8], Output = Wide, Error = Why> + Drop>(
+fn is_told<'a, P: StreamParser<&'a [u8], Output = Wide, Error = Why> + Drop>(
     mut parser: P,
     input: &'a [u8],
     wanted: Result<Wide, Why>,
 ) -> bool
     requires sound { (P.meaning (P.state parser)).IsSound }
-    requires pins { P.Pins (P.state parser) }
+    requires pins { P.Pins parser }
 {
     let (full, checked) = match wanted {
         Ok(wide) => (Told::Accepts(Some(wide)), Told::Accepts(None)),
