@@ -6,7 +6,7 @@ ghost use Rattle.example_basics.specs.Colors.{AnswersColor, AnswersPair};
 
 use nom::bytes::complete::{tag, take_while_m_n};
 use nom::combinator::map_res;
-use nom::{IResult, Items, Parser, Viewed, func};
+use nom::{IResult, Items, Parser, func};
 use std::num::ParseIntError;
 
 /// A colour, by how much of each it has.
@@ -16,8 +16,6 @@ pub struct Color {
     pub green: u8,
     pub blue: u8,
 }
-
-impl Viewed for Color {}
 
 /// The number of a text of digits in base 16. Its contract speaks of the text as a parser sees it.
 fn from_hex(digits: &str) -> Result<u8, ParseIntError>

@@ -5,7 +5,7 @@ use nom::character::complete::anychar;
 use nom::character::digit1;
 use nom::combinator::{map, map_opt, map_res, verify};
 use nom::sequence::separated_pair;
-use nom::{IResult, Parser, Viewed, func};
+use nom::{IResult, Parser, func};
 
 /// A place in a picture.
 #[derive(Clone, Copy, Debug, PartialEq, Eq)]
@@ -13,8 +13,6 @@ pub struct Point {
     pub column: u32,
     pub row: u32,
 }
-
-impl Viewed for Point {}
 
 /// A decimal number that fits.
 pub fn number(input: &str) -> IResult<&str, u32> {

@@ -10,7 +10,7 @@ use nom::combinator::{map, opt};
 use nom::error::Error;
 use nom::multi::many0;
 use nom::sequence::{delimited, pair, separated_pair, terminated};
-use nom::{IResult, Parser, Viewed};
+use nom::{IResult, Parser};
 use std::alloc::Global;
 
 /// A section: its name, and its settings in their order, each a name and a value. All are slices of the input.
@@ -21,8 +21,6 @@ pub struct Section<'a> {
 }
 
 // `map` asks it of what it gives: sections are compared as they are.
-impl<'a> Viewed for Section<'a> {}
-
 /// Whether a character may stand in a value.
 fn is_value(c: char) -> bool
     ensures { result ≡ in_value c }

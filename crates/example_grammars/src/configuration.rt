@@ -6,7 +6,7 @@ use nom::combinator::{map, opt, value};
 use nom::error::Error;
 use nom::multi::many0;
 use nom::sequence::{preceded, separated_pair, terminated};
-use nom::{IResult, Parser, Viewed};
+use nom::{IResult, Parser};
 use std::alloc::Global;
 
 /// A line.
@@ -15,8 +15,6 @@ pub enum Line<'a> {
     Comment,
     Setting(&'a str, &'a str),
 }
-
-impl<'a> Viewed for Line<'a> {}
 
 /// The lines of a text, each ended by a line feed. A comment may be empty; a name is of letters, and a
 /// value isn't empty.
