@@ -1,5 +1,5 @@
 //! The next piece of an input with escapes.
-ghost use Rattle.std.specs.Prelude.{◌≡◌, ◌<◌, length, IsSome, Some};
+ghost use Rattle.std.specs.Prelude.{◌≡◌, ◌<◌, length, Some};
 ghost use Rattle.nom_error.specs.Modes.{modes};
 ghost use Rattle.nom_error.specs.Answers.{size_of};
 ghost use Rattle.nom_bytes_escaped.specs.NextPieces.{IsControlAt, Lacks, ShowsNextPiece};
@@ -124,17 +124,5 @@ where
         Err(Err::Failure(error)) => Err(Err::Failure(error)),
         Err(Err::Incomplete(needed)) => Err(Err::Incomplete(needed)),
         Err(Err::OutOfMemory) => Err(Err::OutOfMemory),
-    }
-}
-
-/// What `piece_at` tells.
-#[inline(always)]
-pub(crate) fn told<T>(next_piece: Option<NextPiece<T>>) -> NextPiece<T>
-    requires { IsSome next_piece }
-    ensures { next_piece ≡ Some result }
-{
-    match next_piece {
-        Some(next_piece) => next_piece,
-        None => unreachable!(),
     }
 }

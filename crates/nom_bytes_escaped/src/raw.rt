@@ -3,11 +3,12 @@ ghost use Rattle.std.specs.Prelude.{◌≡◌, ℕ};
 ghost use Rattle.nom_traits.specs.Slices.{Slice, IsModelledBy};
 ghost use Rattle.nom_bytes_escaped.specs.Escapes.{escaped_meaning};
 
-use crate::next_piece::{NextPiece, piece_at, told};
+use crate::next_piece::{NextPiece, piece_at};
 use nom_error::answer::{Err, Needed, PResult};
 use nom_error::kind::ErrorKind;
 use nom_error::mode::{Check, OutputM, OutputMode};
 use nom_error::value::refusal;
+use nom_internal::built::emitted;
 use nom_internal::parser::{Parser, StreamParser};
 use nom_internal::slices::before;
 use nom_traits::character::AsChar;
@@ -55,7 +56,7 @@ where
                 lack,
                 rest,
             )?;
-            match told(next_piece) {
+            match emitted(next_piece) {
                 NextPiece::Found(_) => {
                     if next.input_len() == rest.input_len() {
                         return Ok((rest, before::<OM::Output, I>(input, rest)));

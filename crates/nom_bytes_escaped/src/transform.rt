@@ -5,11 +5,12 @@ ghost use Rattle.nom_bytes_escaped.specs.declared.next_piece.Piece.{Piece};
 ghost use Rattle.nom_bytes_escaped.specs.Texts.{AddAll, IsAppended, IsExtended};
 ghost use Rattle.nom_bytes_escaped.specs.Escapes.{escaped_transform_meaning};
 
-use crate::next_piece::{NextPiece, Piece, piece_at, told};
+use crate::next_piece::{NextPiece, Piece, piece_at};
 use nom_error::answer::{Err, Needed, PResult};
 use nom_error::kind::ErrorKind;
 use nom_error::mode::{Mode, OutputMode};
 use nom_error::value::refusal;
+use nom_internal::built::emitted;
 use nom_internal::parser::{Parser, StreamParser};
 use nom_search::extend::{Builder, ExtendInto};
 use nom_traits::character::AsChar;
@@ -113,7 +114,7 @@ where
                 Needed::Unknown,
                 rest,
             )?;
-            match told(next_piece) {
+            match emitted(next_piece) {
                 NextPiece::Found(piece) => {
                     if !extend::<A, X, F::Output, G::Output>(&mut text, piece) {
                         return Err(Err::OutOfMemory);

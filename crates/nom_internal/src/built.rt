@@ -1,5 +1,5 @@
 //! Values that are built only where a mode asks for them.
-ghost use Rattle.std.specs.Prelude.{◌≡◌, true, MatchResult};
+ghost use Rattle.std.specs.Prelude.{◌≡◌, true, IsSome, MatchResult, Some};
 ghost use Rattle.nom_error.specs.Modes.{Built};
 
 use nom_error::answer::OutOfMemory;
@@ -25,5 +25,17 @@ pub fn cloned<M: Mode, T: Clone>(value: &T) -> Result<Option<T>, OutOfMemory>
         }
     } else {
         Ok(None)
+    }
+}
+
+/// A value that was built.
+#[inline(always)]
+pub fn emitted<T>(value: Option<T>) -> T
+    requires { IsSome value }
+    ensures { value ≡ Some result }
+{
+    match value {
+        Some(value) => value,
+        None => unreachable!(),
     }
 }

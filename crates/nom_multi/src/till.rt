@@ -1,5 +1,5 @@
 //! Items until an end.
-ghost use Rattle.std.specs.Prelude.{◌≡◌, true, IsSome, Some, List};
+ghost use Rattle.std.specs.Prelude.{◌≡◌, true, Some, List};
 ghost use Rattle.std.specs.List.{AllZip};
 ghost use Rattle.nom_error.specs.Modes.{modes};
 ghost use Rattle.nom_internal.specs.Outcome.{ShowsAnswer};
@@ -9,6 +9,7 @@ use nom_error::answer::{Err, PResult};
 use nom_error::kind::ErrorKind;
 use nom_error::mode::{Check, OutputM, OutputMode};
 use nom_error::value::{ParseError, refusal};
+use nom_internal::built::emitted;
 use nom_internal::choice::close_error;
 use nom_internal::parser::{Parser, StreamParser};
 use nom_internal::sequence::combine;
@@ -62,7 +63,7 @@ impl<
         let mut rest = input;
         loop {
             match end_or_next::<OM, I, F, G>(&mut self.parser, &mut self.end, rest) {
-                Ok((next, stands)) => match told(stands) {
+                Ok((next, stands)) => match emitted(stands) {
                     Step::End(end) => return Ok((next, combine(kept, end))),
                     Step::Item(item) => {
                         if next.input_len() == rest.input_len() {
@@ -133,17 +134,5 @@ fn end_or_next<OM: OutputMode, I: Input, F: Parser<I>, G: Parser<I, Error = F::E
         Err(Err::Failure(error)) => Err(Err::Failure(error)),
         Err(Err::Incomplete(needed)) => Err(Err::Incomplete(needed)),
         Err(Err::OutOfMemory) => Err(Err::OutOfMemory),
-    }
-}
-
-/// What `end_or_next` tells.
-#[inline(always)]
-fn told<T>(stands: Option<T>) -> T
-    requires { IsSome stands }
-    ensures { stands ≡ Some result }
-{
-    match stands {
-        Some(stands) => stands,
-        None => unreachable!(),
     }
 }

@@ -9,12 +9,13 @@ ghost use Rattle.nom_operators.specs.declared.operation.Operation.{Operation};
 ghost use Rattle.nom_operators.specs.declared.operation.Assoc.{Assoc};
 
 use crate::pairs::pairs;
-use crate::read::{Read, told};
+use crate::read::Read;
 use crate::term::term;
 use nom_error::answer::{Err, PResult};
 use nom_error::kind::ErrorKind;
 use nom_error::mode::OutputMode;
 use nom_error::value::{ParseError, refusal};
+use nom_internal::built::emitted;
 use nom_internal::choice::close;
 use nom_internal::parser::{Parser, StreamParser};
 use nom_operators::operation::{Assoc, Operation};
@@ -78,7 +79,7 @@ impl<
             &self.fold,
             input,
         )?;
-        match told(whole) {
+        match emitted(whole) {
             Read::Whole(value) => Ok((end, value)),
             Read::Stuck => Err(refusal::<OM::Error, I, F::Error>(end, ErrorKind::Precedence)),
         }
@@ -154,13 +155,13 @@ fn read<
 {
     let first = term::<OM, I, A, P, F, Q, B, G>(alloc, prefix, operand, postfix, fold, input);
     let (rest, before) = close(first, input, ErrorKind::Precedence)?;
-    match told(before) {
+    match emitted(before) {
         Read::Stuck => Ok((rest, Some(Read::Stuck))),
         Read::Whole(value) => {
             let (end, after) = pairs::<OM, I, A, P, F, Q, B, C, G>(
                 alloc, levels, prefix, operand, postfix, binary, fold, rest, value,
             )?;
-            match told(after) {
+            match emitted(after) {
                 Read::Stuck => Ok((end, Some(Read::Stuck))),
                 Read::Whole(value) => Ok((end, Some(Read::Whole(value)))),
             }

@@ -11,11 +11,12 @@ ghost use Rattle.nom_precedence.specs.Told.{ShowsRead, IsMade, IsOwn, IsPairOf, 
 ghost use Rattle.nom_operators.specs.declared.operation.Operation.{Operation};
 ghost use Rattle.nom_operators.specs.declared.operation.Operation.TheVariants.{Binary, Postfix, Prefix};
 
-use crate::read::{Read, told};
+use crate::read::Read;
 use crate::term::term;
 use nom_error::answer::{Err, PResult};
 use nom_error::kind::ErrorKind;
 use nom_error::mode::{Check, Emit, OutputM, OutputMode};
+use nom_internal::built::emitted;
 use nom_internal::parser::Parser;
 use nom_operators::operation::{Assoc, Operation};
 use nom_operators::waiting::{Held, close_all, put};
@@ -40,7 +41,7 @@ fn operator<OM: OutputMode, I: Input, B: Drop, C: Parser<I, Output = (usize, B)>
     ensures kept { C.state binary.new ≡ C.state binary.old }
 {
     let (rest, read) = binary.process::<OutputM<Emit, OM::Error, OM::Incomplete>>(input)?;
-    let own = told(read);
+    let own = emitted(read);
     if own.0 < levels.len() {
         Ok((rest, Some(own)))
     } else {
@@ -97,11 +98,11 @@ fn pair<
     ensures binary_kept { C.state binary.new ≡ C.state binary.old }
 {
     let (behind, read) = operator::<OM, I, B, C>(binary, levels, input)?;
-    let own = told(read);
+    let own = emitted(read);
     let (end, after) = term::<OM, I, A, P, F, Q, B, G>(
         alloc, prefix, operand, postfix, fold, behind,
     )?;
-    match told(after) {
+    match emitted(after) {
         Read::Stuck => Ok((end, Some(Read::Stuck))),
         Read::Whole(value) => Ok((end, Some(Read::Whole(both(own, value))))),
     }
@@ -218,7 +219,7 @@ pub fn pairs<
         match pair::<OutputM<OM::Output, Check, OM::Incomplete>, I, A, P, F, Q, B, C, G>(
             alloc, levels, prefix, operand, postfix, binary, fold, rest,
         ) {
-            Ok((next, read)) => match told(read) {
+            Ok((next, read)) => match emitted(read) {
                 Read::Stuck => return Ok((next, Some(Read::Stuck))),
                 Read::Whole(item) => {
                     if next.input_len() == rest.input_len() {

@@ -7,9 +7,10 @@ ghost use Rattle.nom_precedence.specs.Told.{ShowsRead, IsHeld, IsTail, IsTerm};
 ghost use Rattle.nom_operators.specs.declared.operation.Operation.{Operation};
 ghost use Rattle.nom_operators.specs.declared.operation.Operation.TheVariants.{Postfix, Prefix};
 
-use crate::read::{Read, affixes, prefixes, told};
+use crate::read::{Read, affixes, prefixes};
 use nom_error::answer::PResult;
 use nom_error::mode::OutputMode;
+use nom_internal::built::emitted;
 use nom_internal::parser::Parser;
 use nom_operators::operation::Operation;
 use nom_repeat::accumulator::Accumulator;
@@ -136,7 +137,7 @@ fn tail<
     let (end, after) = affixes::<OM, I, Q, Applied<'_, P, B, F::Output, G>>(
         postfix, behind, first,
     )?;
-    match told(after) {
+    match emitted(after) {
         Read::Stuck => Ok((end, Some(Read::Stuck))),
         Read::Whole(applied) => Ok((end, Some(Read::Whole(value_of(applied))))),
     }
@@ -174,11 +175,11 @@ pub fn term<
 {
     let mut list: Vec<P::Output, A> = Vec::new(alloc);
     let (rest, before) = prefixes::<OM, I, P, A>(prefix, input, &mut list)?;
-    match told(before) {
+    match emitted(before) {
         Read::Stuck => Ok((rest, Some(Read::Stuck))),
         Read::Whole(_built) => {
             let (end, after) = tail::<OM, I, P::Output, F, Q, B, G>(operand, postfix, fold, rest)?;
-            match told(after) {
+            match emitted(after) {
                 Read::Stuck => Ok((end, Some(Read::Stuck))),
                 Read::Whole(value) => Ok((end, Some(Read::Whole(finished(list, value, fold))))),
             }

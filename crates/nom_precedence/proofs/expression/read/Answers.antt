@@ -85,7 +85,7 @@ returns-in-Stuck-clause-shown g c =
     g.OM.Error.Mode.BUILDS g.OM.Incomplete.IsStreaming.STREAMING c.term-first.ensures.shown c.in_ok-rest.ensures in
     first_stuck g.met.I.Items.lawful (λ t ps. (t, ps)) (first g p f q) (behind g p f q b n) (is_term g p f q fold)
     (Whole g p f q b fold c.args.levels.now) g.OM.Output.Mode.BUILDS g.OM.Error.Mode.BUILDS g.OM.Incomplete.IsStreaming.STREAMING
-    (told_ok c.told.ensures c.in-Stuck.is closed)
+    (told_ok c.emitted.ensures c.in-Stuck.is closed)
 
 pub pairs-requires-clause-before : goal.pairs-requires-clause-before
 pairs-requires-clause-before g c =
@@ -96,7 +96,7 @@ pairs-requires-clause-before g c =
     let errs = g.F.Error.ParseError.errors in
     let closed = closed_read (is_term g p f q fold) (term g p f q) (λ i. errs.appended i Kind.Precedence) errs.grows g.OM.Output.Mode.BUILDS
     g.OM.Error.Mode.BUILDS g.OM.Incomplete.IsStreaming.STREAMING c.term-first.ensures.shown c.in_ok-rest.ensures in
-    let item = accepts (told_ok c.told.ensures c.in-Whole.is closed) in
+    let item = accepts (told_ok c.emitted.ensures c.in-Whole.is closed) in
     let t = is_whole g.OM.Output.Mode.BUILDS (is_term g p f q fold) item.tree item.built_is in
     built_error g.OM.Output.Mode.BUILDS _ _ c.in-Whole.value (λ _ _. tt) t.2
 
@@ -116,10 +116,10 @@ returns-in_err-end-in-Whole-clause-shown g c =
     c.term-first.ensures.operand_kept c.term-first.ensures.postfix_kept refl c.in_err-end-in-Whole.ensures.shown in
     second_err g.met.I.Items.lawful (λ t ps. (t, ps)) (first g p f q) (behind g p f q b n) (is_term g p f q fold)
     (Whole g p f q b fold c.args.levels.now) g.OM.Output.Mode.BUILDS g.OM.Error.Mode.BUILDS g.OM.Incomplete.IsStreaming.STREAMING _
-    (told_ok c.told.ensures c.in-Whole.is closed) others c.from_residual-in_err-end-in-Whole.ensures
+    (told_ok c.emitted.ensures c.in-Whole.is closed) others c.from_residual-in_err-end-in-Whole.ensures
 
-pub returns-in-Stuck-told-clause-shown : goal.returns-in-Stuck-told-clause-shown
-returns-in-Stuck-told-clause-shown g c =
+pub returns-in-Stuck-emitted-clause-shown : goal.returns-in-Stuck-emitted-clause-shown
+returns-in-Stuck-emitted-clause-shown g c =
     let p = g.P.Parser.state c.args.prefix.now in
     let f = g.F.Parser.state c.args.operand.now in
     let q = g.Q.Parser.state c.args.postfix.now in
@@ -134,10 +134,10 @@ returns-in-Stuck-told-clause-shown g c =
     c.term-first.ensures.operand_kept c.term-first.ensures.postfix_kept refl c.in_ok-end-in-Whole.ensures.shown in
     second_stuck g.met.I.Items.lawful (λ t ps. (t, ps)) (first g p f q) (behind g p f q b n) (is_term g p f q fold)
     (Whole g p f q b fold c.args.levels.now) g.OM.Output.Mode.BUILDS g.OM.Error.Mode.BUILDS g.OM.Incomplete.IsStreaming.STREAMING _
-    (told_ok c.told.ensures c.in-Whole.is closed) (told_ok c.told-in-Whole.ensures c.in-Stuck-told.is others)
+    (told_ok c.emitted.ensures c.in-Whole.is closed) (told_ok c.emitted-in-Whole.ensures c.in-Stuck-emitted.is others)
 
-pub returns-in-Whole-told-clause-shown : goal.returns-in-Whole-told-clause-shown
-returns-in-Whole-told-clause-shown g c =
+pub returns-in-Whole-emitted-clause-shown : goal.returns-in-Whole-emitted-clause-shown
+returns-in-Whole-emitted-clause-shown g c =
     let p = g.P.Parser.state c.args.prefix.now in
     let f = g.F.Parser.state c.args.operand.now in
     let q = g.Q.Parser.state c.args.postfix.now in
@@ -154,4 +154,4 @@ returns-in-Whole-told-clause-shown g c =
     (Whole g p f q b fold c.args.levels.now) g.OM.Output.Mode.BUILDS g.OM.Error.Mode.BUILDS g.OM.Incomplete.IsStreaming.STREAMING _ _
     (λ t ps v k. expression_built (g.P.Parser.IsOutput p) (g.F.Parser.IsOutput f) (g.Q.Parser.IsOutput q) (g.C.Parser.IsOutput b)
     (λ o. g.G.Fn.post fold (o, tt)) (groups_left c.args.levels.now) g.OM.Output.Mode.BUILDS t ps _ _ v k)
-    (told_ok c.told.ensures c.in-Whole.is closed) (told_ok c.told-in-Whole.ensures c.in-Whole-told.is others)
+    (told_ok c.emitted.ensures c.in-Whole.is closed) (told_ok c.emitted-in-Whole.ensures c.in-Whole-emitted.is others)

@@ -10,9 +10,9 @@ returns-in_err-rest-clause-shown g c = own_err g.C.Error.ParseError.errors (g.C.
 pub returns-then-own-levels-clause-shown : goal.returns-then-own-levels-clause-shown
 returns-then-own-levels-clause-shown g c = own_ok g.C.Error.ParseError.errors (g.C.Parser.IsOutput (g.C.Parser.state c.args.binary.now))
     (length c.args.levels.now) (g.C.Parser.meaning (g.C.Parser.state c.args.binary.now)) g.OM.Output.Mode.BUILDS g.OM.Error.Mode.BUILDS
-    g.OM.Incomplete.IsStreaming.STREAMING c.told-own.ensures (omega arith) c.in_ok-rest.ensures.shown
+    g.OM.Incomplete.IsStreaming.STREAMING c.emitted-own.ensures (omega arith) c.in_ok-rest.ensures.shown
 
 pub returns-else-own-levels-clause-shown : goal.returns-else-own-levels-clause-shown
 returns-else-own-levels-clause-shown g c = own_no_level g.C.Error.ParseError.errors (g.C.Parser.IsOutput (g.C.Parser.state c.args.binary.now))
     (length c.args.levels.now) (g.C.Parser.meaning (g.C.Parser.state c.args.binary.now)) g.OM.Output.Mode.BUILDS g.OM.Error.Mode.BUILDS
-    g.OM.Incomplete.IsStreaming.STREAMING c.told-own.ensures (omega arith) c.in_ok-rest.ensures.shown c.failure.ensures
+    g.OM.Incomplete.IsStreaming.STREAMING c.emitted-own.ensures (omega arith) c.in_ok-rest.ensures.shown c.failure.ensures

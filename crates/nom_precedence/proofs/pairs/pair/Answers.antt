@@ -44,7 +44,7 @@ returns-in-Stuck-clause-shown g c = own_second_stuck g.met.I.Items.lawful (λ o 
     (IsTerm (g.P.Parser.IsOutput (g.P.Parser.state c.args.prefix.now)) (λ p x y. g.G.Fn.post c.args.fold.now (Prefix p x, tt) y)
     (g.F.Parser.IsOutput (g.F.Parser.state c.args.operand.now)) (g.Q.Parser.IsOutput (g.Q.Parser.state c.args.postfix.now))
     (λ x q y. g.G.Fn.post c.args.fold.now (Postfix x q, tt) y))) g.OM.Output.Mode.BUILDS g.OM.Error.Mode.BUILDS g.OM.Incomplete.IsStreaming.STREAMING _
-    c.in_ok-behind.ensures.shown (told_ok c.told.ensures c.in-Stuck.is c.in_ok-end.ensures.shown)
+    c.in_ok-behind.ensures.shown (told_ok c.emitted.ensures c.in-Stuck.is c.in_ok-end.ensures.shown)
 
 pub returns-in-Whole-clause-shown : goal.returns-in-Whole-clause-shown
 unfolding pair_meaning
@@ -63,10 +63,10 @@ returns-in-Whole-clause-shown g c = own_both g.met.I.Items.lawful (λ o t. (o, t
     ((IsPairOf (g.C.Parser.IsOutput (g.C.Parser.state c.args.binary.now))
     (IsTerm (g.P.Parser.IsOutput (g.P.Parser.state c.args.prefix.now)) (λ p x y. g.G.Fn.post c.args.fold.now (Prefix p x, tt) y)
     (g.F.Parser.IsOutput (g.F.Parser.state c.args.operand.now)) (g.Q.Parser.IsOutput (g.Q.Parser.state c.args.postfix.now))
-    (λ x q y. g.G.Fn.post c.args.fold.now (Postfix x q, tt) y))) (v, t)) (λ x o. o ≡ (c.told-own.result, x)) _ _
+    (λ x q y. g.G.Fn.post c.args.fold.now (Postfix x q, tt) y))) (v, t)) (λ x o. o ≡ (c.emitted-own.result, x)) _ _
     (λ x o h e. subst (λ z. (IsPairOf (g.C.Parser.IsOutput (g.C.Parser.state c.args.binary.now))
     (IsTerm (g.P.Parser.IsOutput (g.P.Parser.state c.args.prefix.now)) (λ p x y. g.G.Fn.post c.args.fold.now (Prefix p x, tt) y)
     (g.F.Parser.IsOutput (g.F.Parser.state c.args.operand.now)) (g.Q.Parser.IsOutput (g.Q.Parser.state c.args.postfix.now))
     (λ x q y. g.G.Fn.post c.args.fold.now (Postfix x q, tt) y))) (v, t) z) (sym e)
-    (own_is (IsOwn (g.C.Parser.IsOutput (g.C.Parser.state c.args.binary.now)) v) c.told-own.ensures p, h)) q c.both.ensures)
-    c.in_ok-behind.ensures.shown (told_ok c.told.ensures c.in-Whole.is c.in_ok-end.ensures.shown)
+    (own_is (IsOwn (g.C.Parser.IsOutput (g.C.Parser.state c.args.binary.now)) v) c.emitted-own.ensures p, h)) q c.both.ensures)
+    c.in_ok-behind.ensures.shown (told_ok c.emitted.ensures c.in-Whole.is c.in_ok-end.ensures.shown)

@@ -44,7 +44,7 @@ returns-in-Stuck-clause-shown g c =
     let b = g.C.Parser.state c.args.binary.now in
     let n = length c.args.levels.now in
     let shown = at_states (Shows g c.args.fold.now n c.loop-next.rest) i.prefix_kept i.operand_kept i.postfix_kept i.binary_kept c.in-Ok.ensures.shown in
-    let item = accepts (told_ok c.told.ensures c.in-Stuck.is shown) in
+    let item = accepts (told_ok c.emitted.ensures c.in-Stuck.is shown) in
     let m = part g p f q b n in
     let is = is_stuck g.OM.Output.Mode.BUILDS (is_pair g p f q b c.args.fold.now) item.tree item.built_is in
     chain_stuck_within (Unit {0}) m _ g.OM.Output.Mode.BUILDS g.OM.Error.Mode.BUILDS g.OM.Incomplete.IsStreaming.STREAMING i.collected
@@ -61,7 +61,7 @@ returns-then-input_len-clause-shown g c =
     let b = g.C.Parser.state c.args.binary.now in
     let n = length c.args.levels.now in
     let shown = at_states (Shows g c.args.fold.now n c.loop-next.rest) i.prefix_kept i.operand_kept i.postfix_kept i.binary_kept c.in-Ok.ensures.shown in
-    let item = accepts (told_ok c.told.ensures c.in-Whole.is shown) in
+    let item = accepts (told_ok c.emitted.ensures c.in-Whole.is shown) in
     let m = part g p f q b n in
     let t = is_whole g.OM.Output.Mode.BUILDS (is_pair g p f q b c.args.fold.now) item.tree item.built_is in
     chain_stuck (Unit {0}) m _ g.OM.Output.Mode.BUILDS g.OM.Error.Mode.BUILDS g.OM.Incomplete.IsStreaming.STREAMING i.collected
@@ -80,7 +80,7 @@ returns-in-None-clause-shown g c =
     let b = g.C.Parser.state c.args.binary.now in
     let n = length c.args.levels.now in
     let shown = at_states (Shows g c.args.fold.now n c.loop-next.rest) i.prefix_kept i.operand_kept i.postfix_kept i.binary_kept c.in-Ok.ensures.shown in
-    let item = accepts (told_ok c.told.ensures c.in-Whole.is shown) in
+    let item = accepts (told_ok c.emitted.ensures c.in-Whole.is shown) in
     let m = part g p f q b n in
     let t = is_whole g.OM.Output.Mode.BUILDS (is_pair g p f q b c.args.fold.now) item.tree item.built_is in
     chain_lacks_room (Unit {0}) m _ g.OM.Output.Mode.BUILDS g.OM.Error.Mode.BUILDS g.OM.Incomplete.IsStreaming.STREAMING i.collected
@@ -104,7 +104,7 @@ loop-next-preserved g c =
     let b = g.C.Parser.state c.args.binary.now in
     let n = length c.args.levels.now in
     let shown = at_states (Shows g c.args.fold.now n c.loop-next.rest) i.prefix_kept i.operand_kept i.postfix_kept i.binary_kept c.in-Ok.ensures.shown in
-    let item = accepts (told_ok c.told.ensures c.in-Whole.is shown) in
+    let item = accepts (told_ok c.emitted.ensures c.in-Whole.is shown) in
     let m = part g p f q b n in
     let t = is_whole g.OM.Output.Mode.BUILDS (is_pair g p f q b c.args.fold.now) item.tree item.built_is in
     record {

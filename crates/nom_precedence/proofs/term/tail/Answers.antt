@@ -45,7 +45,7 @@ returns-in-Stuck-clause-shown g c = second_stuck g.met.I.Items.lawful (λ v qs. 
     (g.Q.Parser.IsOutput (g.Q.Parser.state c.args.postfix.now)) (λ x q y. g.G.Fn.post c.args.fold.now (Postfix x q, tt) y)) g.OM.Output.Mode.BUILDS
     g.OM.Error.Mode.BUILDS g.OM.Incomplete.IsStreaming.STREAMING _ (whole_ok (g.F.Parser.IsOutput (g.F.Parser.state c.args.operand.now))
     (g.F.Parser.meaning (g.F.Parser.state c.args.operand.now)) g.OM.Output.Mode.BUILDS g.OM.Error.Mode.BUILDS g.OM.Incomplete.IsStreaming.STREAMING
-    c.in_ok-behind.ensures.shown) (told_ok c.told.ensures c.in-Stuck.is c.in_ok-end.ensures.shown)
+    c.in_ok-behind.ensures.shown) (told_ok c.emitted.ensures c.in-Stuck.is c.in_ok-end.ensures.shown)
 
 pub returns-in-Whole-clause-shown : goal.returns-in-Whole-clause-shown
 returns-in-Whole-clause-shown g c = both_whole g.met.I.Items.lawful (λ v qs. (v, qs))
@@ -58,4 +58,4 @@ returns-in-Whole-clause-shown g c = both_whole g.met.I.Items.lawful (λ v qs. (v
     (g.Q.Parser.IsOutput (g.Q.Parser.state c.args.postfix.now)) c.args.fold.now g.OM.Output.Mode.BUILDS v u _ _ _ _ c.held-first.ensures
     c.value_of.ensures p q) (whole_ok (g.F.Parser.IsOutput (g.F.Parser.state c.args.operand.now))
     (g.F.Parser.meaning (g.F.Parser.state c.args.operand.now)) g.OM.Output.Mode.BUILDS g.OM.Error.Mode.BUILDS g.OM.Incomplete.IsStreaming.STREAMING
-    c.in_ok-behind.ensures.shown) (told_ok c.told.ensures c.in-Whole.is c.in_ok-end.ensures.shown)
+    c.in_ok-behind.ensures.shown) (told_ok c.emitted.ensures c.in-Whole.is c.in_ok-end.ensures.shown)

@@ -35,7 +35,7 @@ returns-then-input_len-clause-shown g c =
     normal _ _ _ escapable _ _ inv.normal_kept inv.control_kept inv.escapable_kept inv.lack_is c.in_ok-next.ensures.shown in
     escaped_empty _ g.met.I.Items.lawful g.F.Error.ParseError.errors (λ x. g.I.Item.Value.code x ≡ c.args.self.now.control_char)
     (g.F.Parser.meaning normal) (g.G.Parser.meaning escapable) (g.F.Parser.IsOutput normal) (g.G.Parser.IsOutput escapable)
-    (modes g.OM.Output.Mode.BUILDS _ _) _ _ inv.collected _ _ _ c.told.ensures part _ c.in-Found.is _ _ c.input_len.ensures
+    (modes g.OM.Output.Mode.BUILDS _ _) _ _ inv.collected _ _ _ c.emitted.ensures part _ c.in-Found.is _ _ c.input_len.ensures
     c.input_len-in-Found.ensures c.if-input_len.true _ c.before-then-input_len.ensures
 
 pub returns-then-input_len-2-clause-shown : goal.returns-then-input_len-2-clause-shown
@@ -47,7 +47,7 @@ returns-then-input_len-2-clause-shown g c =
     normal _ _ _ escapable _ _ inv.normal_kept inv.control_kept inv.escapable_kept inv.lack_is c.in_ok-next.ensures.shown in
     escaped_none _ g.met.I.Items.lawful g.F.Error.ParseError.errors (λ x. g.I.Item.Value.code x ≡ c.args.self.now.control_char)
     (g.F.Parser.meaning normal) (g.G.Parser.meaning escapable) (g.F.Parser.IsOutput normal) (g.G.Parser.IsOutput escapable)
-    (modes g.OM.Output.Mode.BUILDS _ _) _ _ inv.collected _ _ _ c.told.ensures part c.in-Other.is _ _ c.input_len-in-Other.ensures
+    (modes g.OM.Output.Mode.BUILDS _ _) _ _ inv.collected _ _ _ c.emitted.ensures part c.in-Other.is _ _ c.input_len-in-Other.ensures
     c.input_len-in-Other-2.ensures c.if-input_len-2.true _ c.refusal.ensures
 
 pub returns-in-Other-clause-shown : goal.returns-in-Other-clause-shown
@@ -59,7 +59,7 @@ returns-in-Other-clause-shown g c =
     normal _ _ _ escapable _ _ inv.normal_kept inv.control_kept inv.escapable_kept inv.lack_is c.in_ok-next.ensures.shown in
     escaped_other _ g.met.I.Items.lawful g.F.Error.ParseError.errors (λ x. g.I.Item.Value.code x ≡ c.args.self.now.control_char)
     (g.F.Parser.meaning normal) (g.G.Parser.meaning escapable) (g.F.Parser.IsOutput normal) (g.G.Parser.IsOutput escapable)
-    (modes g.OM.Output.Mode.BUILDS _ _) _ _ inv.collected _ _ _ c.told.ensures part c.in-Other.is _ _ c.input_len-in-Other.ensures
+    (modes g.OM.Output.Mode.BUILDS _ _) _ _ inv.collected _ _ _ c.emitted.ensures part c.in-Other.is _ _ c.input_len-in-Other.ensures
     c.input_len-in-Other-2.ensures c.if-input_len-2.false _ c.before-in-Other.ensures
 
 pub returns-in-Dangling-clause-shown : goal.returns-in-Dangling-clause-shown
@@ -71,7 +71,7 @@ returns-in-Dangling-clause-shown g c =
     normal _ _ _ escapable _ _ inv.normal_kept inv.control_kept inv.escapable_kept inv.lack_is c.in_ok-next.ensures.shown in
     escaped_dangling _ g.met.I.Items.lawful g.F.Error.ParseError.errors (λ x. g.I.Item.Value.code x ≡ c.args.self.now.control_char)
     (g.F.Parser.meaning normal) (g.G.Parser.meaning escapable) (g.F.Parser.IsOutput normal) (g.G.Parser.IsOutput escapable)
-    (modes g.OM.Output.Mode.BUILDS _ _) _ _ inv.collected _ _ _ c.told.ensures part c.in-Dangling.is _ c.refusal-in-Dangling.ensures
+    (modes g.OM.Output.Mode.BUILDS _ _) _ _ inv.collected _ _ _ c.emitted.ensures part c.in-Dangling.is _ c.refusal-in-Dangling.ensures
 
 pub returns-in-Done-clause-shown : goal.returns-in-Done-clause-shown
 returns-in-Done-clause-shown g c =
@@ -82,7 +82,7 @@ returns-in-Done-clause-shown g c =
     normal _ _ _ escapable _ _ inv.normal_kept inv.control_kept inv.escapable_kept inv.lack_is c.in_ok-next.ensures.shown in
     escaped_done _ g.met.I.Items.lawful g.F.Error.ParseError.errors (λ x. g.I.Item.Value.code x ≡ c.args.self.now.control_char)
     (g.F.Parser.meaning normal) (g.G.Parser.meaning escapable) (g.F.Parser.IsOutput normal) (g.G.Parser.IsOutput escapable)
-    (modes g.OM.Output.Mode.BUILDS _ _) _ _ inv.collected _ _ _ c.told.ensures part c.in-Done.is _ c.before-in-Done.ensures
+    (modes g.OM.Output.Mode.BUILDS _ _) _ _ inv.collected _ _ _ c.emitted.ensures part c.in-Done.is _ c.before-in-Done.ensures
 
 pub loop-next-smaller-else-input_len-2 : goal.loop-next-smaller-else-input_len-2
 loop-next-smaller-else-input_len-2 g c =
@@ -103,7 +103,7 @@ loop-next-preserved-else-input_len-2 g c =
       lack_is = inv.lack_is;
       collected = escaped_more _ g.met.I.Items.lawful g.F.Error.ParseError.errors (λ x. g.I.Item.Value.code x ≡ c.args.self.now.control_char)
           (g.F.Parser.meaning normal) (g.G.Parser.meaning escapable) (g.F.Parser.IsOutput normal) (g.G.Parser.IsOutput escapable)
-          (modes g.OM.Output.Mode.BUILDS _ _) _ _ inv.collected _ _ _ c.told.ensures part _ c.in-Found.is _ _ c.input_len.ensures
+          (modes g.OM.Output.Mode.BUILDS _ _) _ _ inv.collected _ _ _ c.emitted.ensures part _ c.in-Found.is _ _ c.input_len.ensures
           c.input_len-in-Found.ensures c.if-input_len.false;
     }
 
@@ -126,6 +126,6 @@ loop-next-preserved-else-input_len-4 g c =
       lack_is = inv.lack_is;
       collected = escaped_more _ g.met.I.Items.lawful g.F.Error.ParseError.errors (λ x. g.I.Item.Value.code x ≡ c.args.self.now.control_char)
           (g.F.Parser.meaning normal) (g.G.Parser.meaning escapable) (g.F.Parser.IsOutput normal) (g.G.Parser.IsOutput escapable)
-          (modes g.OM.Output.Mode.BUILDS _ _) _ _ inv.collected _ _ _ c.told.ensures part _ c.in-Found.is _ _ c.input_len.ensures
+          (modes g.OM.Output.Mode.BUILDS _ _) _ _ inv.collected _ _ _ c.emitted.ensures part _ c.in-Found.is _ _ c.input_len.ensures
           c.input_len-in-Found.ensures c.if-input_len.false;
     }

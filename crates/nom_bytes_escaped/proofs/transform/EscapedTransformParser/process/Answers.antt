@@ -37,7 +37,7 @@ returns-then-not-extend-clause-shown g c =
     transform_full _ g.met.I.Items.lawful g.F.Error.ParseError.errors (λ x. g.C.Value.code x ≡ c.args.self.now.control_char) (g.F.Parser.meaning normal)
     (g.G.Parser.meaning escapable) (g.F.Parser.IsOutput normal)
     (g.G.Parser.IsOutput escapable) g.F.Output.ExtendInto.added g.G.Output.ExtendInto.added g.X.Builder.parts (modes _ g.OM.Error.Mode.BUILDS _) _ _ _
-    inv.collected _ _ _ c.told.ensures part _ c.in-Found.is c.extend.new.text (c.extend.ensures.refused c.if-not-extend.true)
+    inv.collected _ _ _ c.emitted.ensures part _ c.in-Found.is c.extend.new.text (c.extend.ensures.refused c.if-not-extend.true)
 
 pub returns-then-input_len-clause-shown : goal.returns-then-input_len-clause-shown
 returns-then-input_len-clause-shown g c =
@@ -49,7 +49,7 @@ returns-then-input_len-clause-shown g c =
     transform_empty _ g.met.I.Items.lawful g.F.Error.ParseError.errors (λ x. g.C.Value.code x ≡ c.args.self.now.control_char)
     (g.F.Parser.meaning normal) (g.G.Parser.meaning escapable) (g.F.Parser.IsOutput normal)
     (g.G.Parser.IsOutput escapable) g.F.Output.ExtendInto.added g.G.Output.ExtendInto.added g.X.Builder.parts (modes _ g.OM.Error.Mode.BUILDS _) _ _ _
-    inv.collected _ _ _ c.told.ensures part _ c.in-Found.is _ (c.extend.ensures.kept (search rules)) _ _ c.input_len.ensures
+    inv.collected _ _ _ c.emitted.ensures part _ c.in-Found.is _ (c.extend.ensures.kept (search rules)) _ _ c.input_len.ensures
     c.input_len-in-Found.ensures c.if-input_len.true
 
 pub loop-text-smaller : goal.loop-text-smaller
@@ -71,7 +71,7 @@ loop-text-preserved g c =
       collected = transform_more _ g.met.I.Items.lawful g.F.Error.ParseError.errors (λ x. g.C.Value.code x ≡ c.args.self.now.control_char)
           (g.F.Parser.meaning normal) (g.G.Parser.meaning escapable) (g.F.Parser.IsOutput normal)
           (g.G.Parser.IsOutput escapable) g.F.Output.ExtendInto.added g.G.Output.ExtendInto.added g.X.Builder.parts (modes _ g.OM.Error.Mode.BUILDS _) _
-          _ _ inv.collected _ _ _ c.told.ensures part _ c.in-Found.is _ (c.extend.ensures.kept (search rules)) _ _ c.input_len.ensures
+          _ _ inv.collected _ _ _ c.emitted.ensures part _ c.in-Found.is _ (c.extend.ensures.kept (search rules)) _ _ c.input_len.ensures
           c.input_len-in-Found.ensures c.if-input_len.false;
     }
 
@@ -85,7 +85,7 @@ returns-then-input_len-2-clause-shown g c =
     transform_none _ g.met.I.Items.lawful g.F.Error.ParseError.errors (λ x. g.C.Value.code x ≡ c.args.self.now.control_char) (g.F.Parser.meaning normal)
     (g.G.Parser.meaning escapable) (g.F.Parser.IsOutput normal)
     (g.G.Parser.IsOutput escapable) g.F.Output.ExtendInto.added g.G.Output.ExtendInto.added g.X.Builder.parts (modes _ g.OM.Error.Mode.BUILDS _) _ _ _
-    inv.collected _ _ _ c.told.ensures part c.in-Other.is _ _ c.input_len-in-Other.ensures c.input_len-in-Other-2.ensures c.if-input_len-2.true _
+    inv.collected _ _ _ c.emitted.ensures part c.in-Other.is _ _ c.input_len-in-Other.ensures c.input_len-in-Other-2.ensures c.if-input_len-2.true _
     c.refusal.ensures
 
 pub returns-in-Other-clause-shown : goal.returns-in-Other-clause-shown
@@ -98,7 +98,7 @@ returns-in-Other-clause-shown g c =
     transform_other _ g.met.I.Items.lawful g.F.Error.ParseError.errors (λ x. g.C.Value.code x ≡ c.args.self.now.control_char)
     (g.F.Parser.meaning normal) (g.G.Parser.meaning escapable) (g.F.Parser.IsOutput normal)
     (g.G.Parser.IsOutput escapable) g.F.Output.ExtendInto.added g.G.Output.ExtendInto.added g.X.Builder.parts (modes _ g.OM.Error.Mode.BUILDS _) _ _ _
-    inv.collected _ _ _ c.told.ensures part c.in-Other.is _ _ c.input_len-in-Other.ensures c.input_len-in-Other-2.ensures c.if-input_len-2.false
+    inv.collected _ _ _ c.emitted.ensures part c.in-Other.is _ _ c.input_len-in-Other.ensures c.input_len-in-Other-2.ensures c.if-input_len-2.false
 
 pub returns-in-Dangling-clause-shown : goal.returns-in-Dangling-clause-shown
 returns-in-Dangling-clause-shown g c =
@@ -110,7 +110,7 @@ returns-in-Dangling-clause-shown g c =
     transform_dangling _ g.met.I.Items.lawful g.F.Error.ParseError.errors (λ x. g.C.Value.code x ≡ c.args.self.now.control_char)
     (g.F.Parser.meaning normal) (g.G.Parser.meaning escapable) (g.F.Parser.IsOutput normal)
     (g.G.Parser.IsOutput escapable) g.F.Output.ExtendInto.added g.G.Output.ExtendInto.added g.X.Builder.parts (modes _ g.OM.Error.Mode.BUILDS _) _ _ _
-    inv.collected _ _ _ c.told.ensures part c.in-Dangling.is _ c.refusal-in-Dangling.ensures
+    inv.collected _ _ _ c.emitted.ensures part c.in-Dangling.is _ c.refusal-in-Dangling.ensures
 
 pub returns-in-Done-clause-shown : goal.returns-in-Done-clause-shown
 returns-in-Done-clause-shown g c =
@@ -122,4 +122,4 @@ returns-in-Done-clause-shown g c =
     transform_done _ g.met.I.Items.lawful g.F.Error.ParseError.errors (λ x. g.C.Value.code x ≡ c.args.self.now.control_char) (g.F.Parser.meaning normal)
     (g.G.Parser.meaning escapable) (g.F.Parser.IsOutput normal)
     (g.G.Parser.IsOutput escapable) g.F.Output.ExtendInto.added g.G.Output.ExtendInto.added g.X.Builder.parts (modes _ g.OM.Error.Mode.BUILDS _) _ _ _
-    inv.collected _ _ _ c.told.ensures part c.in-Done.is
+    inv.collected _ _ _ c.emitted.ensures part c.in-Done.is

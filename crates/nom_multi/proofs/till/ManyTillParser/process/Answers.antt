@@ -24,7 +24,7 @@ returns-in-End-clause-shown g c =
     (λ s. g.F.Parser.meaning s) i.end_kept i.parser_kept c.in-Ok.ensures.shown in
     let found = accepts told in
     let end = is_end _ (g.G.Parser.IsOutput (g.G.Parser.state c.args.self.now.end))
-    (g.F.Parser.IsOutput (g.F.Parser.state c.args.self.now.parser)) found.tree c.told.ensures c.in-End.is found.built_is in
+    (g.F.Parser.IsOutput (g.F.Parser.state c.args.self.now.parser)) found.tree c.emitted.ensures c.in-End.is found.built_is in
     till_ended g.F.Error.ParseError.errors (g.F.Parser.meaning (g.F.Parser.state c.args.self.now.parser))
     (g.G.Parser.meaning (g.G.Parser.state c.args.self.now.end))
     (λ t o. AllZip (g.F.Parser.IsOutput (g.F.Parser.state c.args.self.now.parser)) t.0 o.0.items ×
@@ -40,7 +40,7 @@ returns-then-input_len-clause-shown g c =
     (λ s. g.F.Parser.meaning s) i.end_kept i.parser_kept c.in-Ok.ensures.shown in
     let found = accepts told in
     let item = is_item _ (g.G.Parser.IsOutput (g.G.Parser.state c.args.self.now.end))
-    (g.F.Parser.IsOutput (g.F.Parser.state c.args.self.now.parser)) found.tree c.told.ensures c.in-Item.is found.built_is in
+    (g.F.Parser.IsOutput (g.F.Parser.state c.args.self.now.parser)) found.tree c.emitted.ensures c.in-Item.is found.built_is in
     till_stuck g.F.Error.ParseError.errors (g.F.Parser.meaning (g.F.Parser.state c.args.self.now.parser))
     (g.G.Parser.meaning (g.G.Parser.state c.args.self.now.end))
     (λ t o. AllZip (g.F.Parser.IsOutput (g.F.Parser.state c.args.self.now.parser)) t.0 o.0.items ×
@@ -54,7 +54,7 @@ push_item-requires-clause-kept g c = built_any _ _ _ c.loop-next.invariant.colle
 pub push_item-requires-clause-item : goal.push_item-requires-clause-item
 push_item-requires-clause-item g c =
     let found = accepts c.in-Ok.ensures.shown in
-    built_any _ _ _ (is_item _ _ _ found.tree c.told.ensures c.in-Item.is found.built_is).2
+    built_any _ _ _ (is_item _ _ _ found.tree c.emitted.ensures c.in-Item.is found.built_is).2
 
 pub returns-then-not-push_item-clause-shown : goal.returns-then-not-push_item-clause-shown
 returns-then-not-push_item-clause-shown g c =
@@ -63,7 +63,7 @@ returns-then-not-push_item-clause-shown g c =
     (λ s. g.F.Parser.meaning s) i.end_kept i.parser_kept c.in-Ok.ensures.shown in
     let found = accepts told in
     let item = is_item _ (g.G.Parser.IsOutput (g.G.Parser.state c.args.self.now.end))
-    (g.F.Parser.IsOutput (g.F.Parser.state c.args.self.now.parser)) found.tree c.told.ensures c.in-Item.is found.built_is in
+    (g.F.Parser.IsOutput (g.F.Parser.state c.args.self.now.parser)) found.tree c.emitted.ensures c.in-Item.is found.built_is in
     till_lacks_room g.F.Error.ParseError.errors (g.F.Parser.meaning (g.F.Parser.state c.args.self.now.parser))
     (g.G.Parser.meaning (g.G.Parser.state c.args.self.now.end))
     (λ t o. AllZip (g.F.Parser.IsOutput (g.F.Parser.state c.args.self.now.parser)) t.0 o.0.items ×
@@ -84,7 +84,7 @@ loop-next-preserved g c =
     (λ s. g.F.Parser.meaning s) i.end_kept i.parser_kept c.in-Ok.ensures.shown in
     let found = accepts told in
     let item = is_item _ (g.G.Parser.IsOutput (g.G.Parser.state c.args.self.now.end))
-    (g.F.Parser.IsOutput (g.F.Parser.state c.args.self.now.parser)) found.tree c.told.ensures c.in-Item.is found.built_is in
+    (g.F.Parser.IsOutput (g.F.Parser.state c.args.self.now.parser)) found.tree c.emitted.ensures c.in-Item.is found.built_is in
     record {
       parser_kept = c.in-Ok.ensures.parser_kept ∙ i.parser_kept;
       end_kept = c.in-Ok.ensures.end_kept ∙ i.end_kept;

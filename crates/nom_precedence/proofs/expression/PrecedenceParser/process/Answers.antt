@@ -31,7 +31,7 @@ returns-in-Whole-clause-shown g c =
     let m = read g (g.P.Parser.state self.prefix) (g.F.Parser.state self.operand) (g.Q.Parser.state self.postfix) (g.C.Parser.state self.binary)
     (length self.levels.now) in
     freed_ok g.F.Error.ParseError.errors _ _ m g.OM.Output.Mode.BUILDS g.OM.Error.Mode.BUILDS g.OM.Incomplete.IsStreaming.STREAMING
-    (λ v b. b) (told_ok c.told.ensures c.in-Whole.is c.in_ok-end.ensures.shown)
+    (λ v b. b) (told_ok c.emitted.ensures c.in-Whole.is c.in_ok-end.ensures.shown)
 
 pub returns-in-Stuck-clause-shown : goal.returns-in-Stuck-clause-shown
 returns-in-Stuck-clause-shown g c =
@@ -39,4 +39,4 @@ returns-in-Stuck-clause-shown g c =
     let m = read g (g.P.Parser.state self.prefix) (g.F.Parser.state self.operand) (g.Q.Parser.state self.postfix) (g.C.Parser.state self.binary)
     (length self.levels.now) in
     freed_stuck g.F.Error.ParseError.errors _ _ m g.OM.Output.Mode.BUILDS g.OM.Error.Mode.BUILDS g.OM.Incomplete.IsStreaming.STREAMING
-    (told_ok c.told.ensures c.in-Stuck.is c.in_ok-end.ensures.shown) c.refusal.ensures
+    (told_ok c.emitted.ensures c.in-Stuck.is c.in_ok-end.ensures.shown) c.refusal.ensures
