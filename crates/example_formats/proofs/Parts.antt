@@ -40,7 +40,7 @@ use Rattle.nom_precedence.specs.Values.{folding}
 use Rattle.example_formats.specs.declared.arithmetic.Fault.{Fault}
 use Rattle.example_formats.specs.declared.arithmetic.Fault.TheVariants.{TooDeep}
 use Rattle.example_formats.specs.Arithmetic.{Any, Applies, Given, Grammar, Inside, IsLeveled, IsNumber, IsPlace, Parses, Sign, Text, Told, Worth, char_of}
-use Rattle.example_formats.specs.Arithmetic.{digits_of, faults, func_of, level_of, levels, minus_of, none_of, number_of, one_of_by, operand_by, operator_of}
+use Rattle.example_formats.specs.Arithmetic.{digits_of, faults, func_of, level_of, levels, minus_of, none_of, one_of_by, operand_by, operator_of}
 use Rattle.example_formats.specs.Arithmetic.{sign_view, Sum, sum_by, sum_in, sum_of, view}
 use Rattle.example_formats.proofs.Alike.{joins_alike, negates_alike, number_alike}
 use Rattle.example_formats.proofs.Functions.{given_itself, is_parser}

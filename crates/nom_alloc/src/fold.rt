@@ -1,5 +1,5 @@
 //! Folds of items by a closure that may take memory.
-ghost use Rattle.std.specs.Prelude.{◌≡◌, List, ℕ, Ok};
+ghost use Rattle.std.specs.Prelude.{List, Ok};
 ghost use Rattle.nom_error.specs.Modes.{Built};
 ghost use Rattle.nom_multi_fold.specs.Folded.{FoldPushes, CanFold, IsStart, IsCarried};
 ghost use Rattle.nom_multi_fold.specs.Folds.{Folds, AreCallable, FoldsAlike};

@@ -1,5 +1,5 @@
 //! Items up to a needle.
-ghost use Rattle.std.specs.Prelude.{◌≡◌, true, false};
+ghost use Rattle.std.specs.Prelude.{true, false};
 ghost use Rattle.nom_traits.specs.Slices.{Slice, IsModelledBy};
 ghost use Rattle.nom_internal.specs.Pinned.{slice_pinned};
 ghost use Rattle.nom_bytes.specs.Untils.{until_meaning};

@@ -1,5 +1,5 @@
 //! Runs of the items of a class.
-ghost use Rattle.std.specs.Prelude.{◌≡◌, Option, Some, None, true, false, MatchOption};
+ghost use Rattle.std.specs.Prelude.{Option, Some, None, true, false, MatchOption};
 ghost use Rattle.nom_error.specs.Modes.{modes};
 ghost use Rattle.nom_error.specs.Answers.{Refuses};
 ghost use Rattle.nom_error.specs.declared.kind.ErrorKind.{ErrorKind};

@@ -1,5 +1,5 @@
 //! Ends of lines, and the items before them.
-ghost use Rattle.std.specs.Prelude.{◌≡◌, Bool, List, true, false};
+ghost use Rattle.std.specs.Prelude.{◌≡◌, Bool, List, true};
 ghost use Rattle.nom_error.specs.Modes.{modes};
 ghost use Rattle.nom_error.specs.Answers.{size_of};
 ghost use Rattle.nom_error.specs.declared.kind.ErrorKind.TheVariants as Kind;

@@ -1,5 +1,5 @@
 //! Tests of the characters of items.
-ghost use Rattle.std.specs.Prelude.{ℕ, ◌≡◌, ◌==◌, ◌↔◌, IsTrue, true, false, not};
+ghost use Rattle.std.specs.Prelude.{ℕ, ◌≡◌, ◌==◌, ◌↔◌, IsTrue, true, not};
 ghost use Rattle.nom_bytes.specs.Predicates.{IsFixed, one_answer};
 ghost use Rattle.nom_character_first.specs.laws.FirstItemLaws.{test_is_fixed};
 

@@ -3,7 +3,7 @@ use Rattle.std.specs.Prelude.{◌≡◌, ◌⊎◌}
 use Rattle.std.proofs.Common.{sym, ◌∙◌, ap, inl, inr}
 use Rattle.nom_traits.specs.Input.{Model, IsSame}
 use Rattle.nom_traits.specs.Slices.{IsModelledBy}
-use Rattle.nom_traits.specs.View.{View, itself, pair_view}
+use Rattle.nom_traits.specs.View.{View, pair_view}
 use Rattle.nom_internal.specs.Choice.{EitherOutput}
 
 -- two outputs of one tree have one view: a record, by which view and outputs are found

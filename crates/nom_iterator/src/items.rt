@@ -1,5 +1,4 @@
 //! The iterator, and what it holds.
-ghost use Rattle.std.specs.Prelude.{◌≡◌};
 ghost use Rattle.nom_iterator.specs.Steps.{IsFinish, IsStep, Moves};
 
 use nom_error::answer::{Err, IResult, Needed};

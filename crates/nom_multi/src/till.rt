@@ -95,7 +95,6 @@ impl<
     G: StreamParser<I, Error = F::Error> + Drop,
 > StreamParser<I> for ManyTill<A, F, G> {
     ghost use Rattle.nom_internal.specs.Pinned.{pair_pinned};
-    ghost use Rattle.nom_traits.specs.View.{vec_view};
     ghost use Rattle.nom_repeat.specs.Lists.{list_pinned};
     ghost use Rattle.nom_multi.specs.laws.TillLaws.{many_till_steady};
 

@@ -1,5 +1,4 @@
 //! Parts whose outputs are never built.
-ghost use Rattle.std.specs.Prelude.{◌≡◌};
 ghost use Rattle.nom_multi_fold.specs.Dropped.{dropped_meaning};
 ghost use Rattle.nom_multi_fold.specs.laws.DroppedLaws.{dropped_lawful};
 

@@ -1,7 +1,7 @@
 //! What folds, counts and lists over a range promise beside what every parser does. These functions do
 //! nothing: their contracts are the promises. The trees are those of the items: a count is their number, a
 //! fold takes their outputs from left to right, a collection holds them.
-ghost use Rattle.std.specs.Prelude.{◌<◌, ◌≤◌, None, Some};
+ghost use Rattle.std.specs.Prelude.{◌<◌, None, Some};
 ghost use Rattle.nom_ranges.specs.Ranges.{fewest, most_items, limit};
 ghost use Rattle.nom_repeat.specs.Accepted.{AcceptsItems, AcceptsOneAndMore};
 ghost use Rattle.nom_multi_fold.specs.Ranges.{IsEmpty};

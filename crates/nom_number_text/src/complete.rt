@@ -1,5 +1,5 @@
 //! Numbers and shapes that are written in digits, where no more input may come.
-ghost use Rattle.std.specs.Prelude.{◌≡◌, true, false};
+ghost use Rattle.std.specs.Prelude.{◌≡◌, false};
 ghost use Rattle.nom_traits.specs.Slices.{IsModelledBy};
 ghost use Rattle.nom_traits.specs.View.{itself, view_4};
 ghost use Rattle.nom_internal.specs.Choice.{EitherOutput};

@@ -1,5 +1,5 @@
 //! Expressions.
-ghost use Rattle.std.specs.Prelude.{◌≡◌, ℕ, List, length};
+ghost use Rattle.std.specs.Prelude.{◌≡◌, List, length};
 ghost use Rattle.nom_precedence.specs.Expressions.{read_meaning, term_meaning};
 ghost use Rattle.nom_precedence.specs.Operators.{HasLevel, operator_meaning};
 ghost use Rattle.nom_precedence.specs.Told.{ShowsRead};

@@ -1,5 +1,5 @@
 //! Pairs of an operator and a term, in turn.
-ghost use Rattle.std.specs.Prelude.{◌≡◌, ◌≤◌, ℕ, [], IfSome, IsSome, None, true, length, vec_capacity, vec_len};
+ghost use Rattle.std.specs.Prelude.{◌≡◌, ◌≤◌, [], IfSome, IsSome, None, true, length, vec_capacity, vec_len};
 ghost use Rattle.nom_error.specs.Modes.{Built, BuiltFrom, BuiltFromBoth, modes};
 ghost use Rattle.nom_internal.specs.Outcome.{ShowsAnswer};
 ghost use Rattle.nom_operators.specs.Groups.{groups_left};

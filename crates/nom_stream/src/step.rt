@@ -1,7 +1,7 @@
 //! One item from what is held.
 ghost use Rattle.std.specs.Prelude.{◌≡◌, MatchOption};
 ghost use Rattle.nom_stream.specs.Held.{held_of, IsWithin};
-ghost use Rattle.nom_stream.specs.Items.{IsStopped, HoldsLast, IsUndecided, Stays, Takes, taken_of};
+ghost use Rattle.nom_stream.specs.Items.{IsStopped, HoldsLast, IsUndecided, Stays, Takes};
 ghost use Rattle.nom_stream.specs.declared.step.Taken.TheVariants.{Undecided};
 
 use crate::grammar::Grammar;

@@ -1,8 +1,7 @@
 //! The items of a reader.
-ghost use Rattle.std.specs.Prelude.{◌≡◌, true, false, ◌<◌, ◌≤◌, ◌+◌, ◌^◌, Err, IfOk, IfSome, IsOk, [], length, vec_capacity, vec_len, ◌⊎◌};
-ghost use Rattle.nom_stream.specs.Held.{held_of, last_of, IsWithin};
-ghost use Rattle.nom_stream.specs.Items.{IsUndecided, Takes};
-ghost use Rattle.nom_stream.specs.Streams.{Decides, Ends, Fills, IsEnough, IsOpen, LacksRoom, ReadsOnce, Tells, counted, stop_of, turns_left};
+ghost use Rattle.std.specs.Prelude.{◌≡◌, true, false, ◌<◌, ◌≤◌, ◌+◌, ◌^◌, Err, IfOk, IfSome, IsOk, [], length, ◌⊎◌};
+ghost use Rattle.nom_stream.specs.Held.{held_of, last_of};
+ghost use Rattle.nom_stream.specs.Streams.{Decides, Ends, Fills, IsEnough, IsOpen, LacksRoom, ReadsOnce, Tells, counted, stop_of};
 ghost use Rattle.nom_stream.specs.Wanted.{most_read};
 ghost use Rattle.nom_stream.specs.declared.step.Taken.TheVariants.{Undecided};
 

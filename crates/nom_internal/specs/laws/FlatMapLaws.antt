@@ -9,7 +9,7 @@ use Rattle.nom_internal.specs.Families.{IsOne, IsLawfulFamily, AnyKey, of_value_
 use Rattle.nom_internal.specs.laws.CaseLaws.{labelled_lawful, labelled_steady}
 use Rattle.nom_internal.specs.laws.SequenceLaws.{then_lawful, then_steady}
 use Rattle.nom_internal.specs.Pinned.{IsPinned}
-use Rattle.nom_internal.specs.FlatMap.{Maker, GivesState, IsMaker, OfEach, OfEachGiven, IsGiven, states_family, given_family, flat_map_meaning}
+use Rattle.nom_internal.specs.FlatMap.{Maker, GivesState, IsMaker, OfEachGiven, IsGiven, states_family, given_family, flat_map_meaning}
 
 module _ {P O H S : Type 0} (IsOutput : P → O → Type 0) (g : Maker O H S) (IsSound : S → Type 0) (k : IsMaker IsOutput g IsSound) where
   one_state : IsOne (GivesState IsOutput g)

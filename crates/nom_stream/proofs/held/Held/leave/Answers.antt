@@ -1,4 +1,4 @@
-use Rattle.std.proofs.Common.{◌≡◌, ℕ, ◌+◌, ◌-◌, ap, ◌∙◌, length, slice_range, arith}
+use Rattle.std.proofs.Common.{◌≡◌, ◌+◌, ◌-◌, ap, ◌∙◌, length, slice_range, arith}
 use Rattle.nom_stream.proofs.Buffer.{consumed, range_length}
 use Rattle.nom_stream.specs.Held.{held_of}
 use Rattle.nom_stream.proofs.held.Held.leave.Goals as goal
