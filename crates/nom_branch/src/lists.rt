@@ -46,7 +46,7 @@ impl<I: Items, A: StreamParser<I>> StreamParser<I> for AnyOf<&mut [A]> {
 
     ghost Pins = { λ p. Each A.Pins p.parsers.now };
 
-    ghost pinned = { λ p. list_pinned A.Error.errors A.meaning A.state A.pinned p.parsers.now };
+    ghost pinned = { λ p. list_pinned A.Error.errors A.meaning A.state A.IsOutput A.Pins A.pinned p.parsers.now };
 
     ghost steady = { list_steady I.model A.Error.errors A.meaning A.steady };
 }
@@ -81,7 +81,7 @@ impl<I: Items, A: StreamParser<I>, const N: usize> StreamParser<I> for AnyOf<[A;
 
     ghost Pins = { λ p. Each A.Pins p.parsers };
 
-    ghost pinned = { λ p. list_pinned A.Error.errors A.meaning A.state A.pinned p.parsers };
+    ghost pinned = { λ p. list_pinned A.Error.errors A.meaning A.state A.IsOutput A.Pins A.pinned p.parsers };
 
     ghost steady = { list_steady I.model A.Error.errors A.meaning A.steady };
 }

@@ -50,7 +50,7 @@ impl<I: Items, F: Parser<I> + Drop> Parser<I> for Cond<F> {
 impl<I: Items, F: StreamParser<I> + Drop> StreamParser<I> for Cond<F> {
     ghost Pins = { λ p. CondPins F.Pins p.parser };
 
-    ghost pinned = { λ p. cond_pinned F.state F.meaning F.pinned p.parser };
+    ghost pinned = { λ p. cond_pinned F.state F.meaning F.IsOutput F.Pins F.pinned p.parser };
 
     ghost steady = { cond_steady I.model F.meaning F.steady };
 }

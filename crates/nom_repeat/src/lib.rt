@@ -2,7 +2,6 @@
 //! run a part again and again, and the loop of those that keep what one part gives.
 #![tactic(auto)]
 
-
 pub mod accumulator;
 pub mod inverted;
 pub mod items;

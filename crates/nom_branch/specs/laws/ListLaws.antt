@@ -77,8 +77,8 @@ fact_at state Fact [] k s h l = absurd l
 fact_at state Fact (p ∷ ps) zero s h l = (p, l, h.0)
 fact_at state Fact (p ∷ ps) (suc k) s h l = fact_at state Fact ps k s h.1 l
 
-module _ {P S I V O E : Type 0} (e : Errors I E) (part : S → Meaning I V E) (state : P → S) {view : View O} {IsOutput : S → V → O → Type 0}
-    {Pins : P → Type 0} where
+module _ {P S I V O E : Type 0} (e : Errors I E) (part : S → Meaning I V E) (state : P → S) (IsOutput : S → V → O → Type 0) (Pins : P → Type 0)
+    {view : View O} where
   -- two outputs of one tree are equal as viewed, where each parser pins
   pub list_pinned : ((p : P) → (part (state p)).IsSound → Pins p → IsPinned view (IsOutput (state p))) → (ps : List P) →
       (list_meaning e part (map state ps)).IsSound → Each Pins ps → IsPinned view (ListOutput IsOutput (map state ps))

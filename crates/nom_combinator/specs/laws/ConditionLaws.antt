@@ -21,7 +21,7 @@ module _ {I A S P E : Type 0} (w : Model I A) (meaning : S → Meaning I P E) wh
   cond_steady l (Some s) k = labelled_steady w (meaning s) (λ t. Some t) (l s k)
   cond_steady l None k = success_steady E w None
 
-module _ {I F S P O E : Type 0} (state : F → S) (meaning : S → Meaning I P E) {view : View O} {IsOutput : S → P → O → Type 0} {Pins : F → Type 0} where
+module _ {I F S P O E : Type 0} (state : F → S) (meaning : S → Meaning I P E) (IsOutput : S → P → O → Type 0) (Pins : F → Type 0) {view : View O} where
   pub cond_pinned : ((f : F) → (meaning (state f)).IsSound → Pins f → IsPinned view (IsOutput (state f))) → (o : Option F) →
       (cond_meaning meaning (state_of state o)).IsSound → CondPins Pins o → IsPinned (option_view view) (CondOutput IsOutput (state_of state o))
   cond_pinned f (Some p) k h = opt_pinned (f p k h)
