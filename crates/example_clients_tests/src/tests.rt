@@ -1,6 +1,8 @@
 //! Vectors of the grammars, by hand, and of the first two from their standards.
 
-use example_clients::closures::{Point, digit, minute, name, number as decimal, place};
+use example_clients::closures::{
+    Count, Point, counted, digit, minute, name, number as decimal, place,
+};
 use example_clients::dates::{
     Date, Duration, Offset, Time, parse_date, parse_date_time, parse_duration,
 };
@@ -207,6 +209,11 @@ fn closures_on_outputs(rt: HostRuntime) {
     assert!(rt; decimal("x") == refused("x", ErrorKind::Digit));
     assert!(rt; place("3x4 ") == Ok((" ", Point { column: 3, row: 4 })));
     assert!(rt; place("3y4") == refused("y4", ErrorKind::Tag));
+    let (places, first_row) = (2, 1);
+    assert!(rt; counted("[3x0;5x2;]!") == Ok(("!", Count { places, first_row })));
+    let (places, first_row) = (1, 1);
+    assert!(rt; counted("[3x0;5y2;]") == Ok(("", Count { places, first_row })));
+    assert!(rt; counted("3x0;") == refused("3x0;", ErrorKind::Tag));
     assert!(rt; minute("59") == Ok(("", 59)));
     assert!(rt; minute("60") == refused("60", ErrorKind::Verify));
     assert!(rt; minute("256") == refused("256", ErrorKind::MapRes));
