@@ -2,6 +2,7 @@
 ghost use Rattle.std.specs.Prelude.{◌≡◌, ◌<◌, ◌*◌, ◌^◌, Bool, true, false, length};
 ghost use Rattle.nom_error.specs.Modes.{Built};
 ghost use Rattle.nom_traits.specs.Slices.{Slice, IsFirst, IsCount};
+ghost use Rattle.nom_internal.specs.Pinned.{value_pinned};
 ghost use Rattle.nom_internal.specs.laws.CaseLaws.{labelled_lawful, labelled_steady};
 ghost use Rattle.nom_bytes.specs.Takes.{take_meaning};
 ghost use Rattle.nom_bytes.specs.laws.TakeLaws.{take_lawful, take_steady};

@@ -1,5 +1,5 @@
 -- The laws of choices among the parsers of a list.
-use Rattle.std.specs.Prelude.{◌≡◌, ℕ, ◌+◌, List, [], ◌∷◌}
+use Rattle.std.specs.Prelude.{◌≡◌, ℕ, ◌+◌, List, [], ◌∷◌, map}
 use Rattle.std.proofs.Common.{sym, ◌∙◌, subst, zero, suc}
 use Rattle.nom_error.specs.declared.kind.ErrorKind.TheVariants.{Alt}
 use Rattle.nom_error.specs.Errors.{Errors}

@@ -7,6 +7,7 @@ use Rattle.nom_traits.specs.declared.character.AsciiClass.TheVariants as Class
 use Rattle.nom_traits.specs.Input.{Model, InputLaws, AreValues, IsSame}
 use Rattle.nom_traits.specs.View.{View, itself, view_4}
 use Rattle.nom_internal.specs.Meaning.{Meaning}
+use Rattle.nom_traits.specs.Slices.{IsModelledBy}
 use Rattle.nom_internal.specs.Pinned.{IsPinned, slice_pinned}
 use Rattle.nom_internal.specs.laws.SequenceLaws.{sequence_lawful, sequence_steady}
 use Rattle.nom_error.specs.Modes.{with_outputs}
