@@ -114,12 +114,27 @@ pub fn try_slot<I: Items, P: Parser<I>, OM: OutputMode>(
         (modes OM.Output.BUILDS OM.Error.BUILDS OM.Incomplete.STREAMING) input slot.old round slot.new result }
     ensures kept { P.state member.new ≡ P.state member.old }
 {
-    if !is_waiting(slot) {
-        return round;
-    }
+    // By what the round answered, and then by the place: so an acceptance passes the members after it by
+    // without a look at their places.
     match round {
-        None => Some(try_first::<I, P, OM>(slot, member, input)),
-        Some(round) => Some(try_after::<I, P, OM>(round, slot, member, input)),
+        None => {
+            if is_waiting(slot) {
+                Some(try_first::<I, P, OM>(slot, member, input))
+            } else {
+                None
+            }
+        }
+        Some(Ok(rest)) => Some(Ok(rest)),
+        Some(Err(Err::Error(error))) => {
+            if is_waiting(slot) {
+                Some(try_next::<I, P, OM>(error, slot, member, input))
+            } else {
+                Some(Err(Err::Error(error)))
+            }
+        }
+        Some(Err(Err::Incomplete(needed))) => Some(Err(Err::Incomplete(needed))),
+        Some(Err(Err::Failure(error))) => Some(Err(Err::Failure(error))),
+        Some(Err(Err::OutOfMemory)) => Some(Err(Err::OutOfMemory)),
     }
 }
 
