@@ -1,12 +1,11 @@
 -- The number of items.
-use Rattle.std.proofs.Common.{◌≡◌, ℕ, ◌+◌, ◌-◌, ◌^◌, ◌≤◌, ◌∷◌, [], List, Option, Some, None, Bool, true, false, length, refl, sym, arith, ◌∙◌}
-use Rattle.std.specs.Prelude.{min}
+use Rattle.std.proofs.Common.{◌≡◌, ℕ, ◌+◌, ◌-◌, ◌%◌, ◌^◌, ◌≤◌, ◌∷◌, [], List, Option, Some, None, Bool, true, false, length, refl, sym, arith, ◌∙◌}
 use Rattle.std.specs.List.{AllZip}
 use Rattle.nom_error.specs.Modes.{Built}
 use Rattle.nom_repeat.specs.Accumulated.{Adds, Accumulated}
 
 abbrev pub CountPushes : {T : Type 0} → ℕ → T → ℕ → Type 0
-CountPushes old x new = new ≡ min (old + 1) (2 ^ 64 - 1)
+CountPushes old x new = new ≡ (old + 1) % 2 ^ 64
 
 zip_length : {V T : Type 0} (P : V → T → Type 0) (vs : List V) (xs : List T) → AllZip P vs xs → length xs ≡ length vs
 zip_length P [] [] h = refl
@@ -14,12 +13,13 @@ zip_length P [] (x ∷ xs) h = absurd h
 zip_length P (v ∷ vs) [] h = absurd h
 zip_length P (v ∷ vs) (x ∷ xs) h = omega (arith, zip_length P vs xs h.1)
 
-count_adds : {T : Type 0} (n : ℕ) (xs : List T) (new : ℕ) → n ≤ 2 ^ 64 - 1 → Adds CountPushes n xs new → new ≡ min (n + length xs) (2 ^ 64 - 1)
-count_adds n [] new h a = omega (arith, h, a)
-count_adds n (x ∷ xs) new h a =
-    let step : a.0 ≡ min (n + 1) (2 ^ 64 - 1) = a.1 in
-    let more = count_adds a.0 xs new (omega (arith, step)) a.2 in
-    omega (arith, step, more, h)
+count_adds : {T : Type 0} (n : ℕ) (xs : List T) (new : ℕ) → n + length xs ≤ 2 ^ 64 - 1 → Adds CountPushes n xs new → new ≡ n + length xs
+count_adds n [] new fits a = omega (arith, a)
+count_adds n (x ∷ xs) new fits a =
+    let pushed : a.0 ≡ (n + 1) % 2 ^ 64 = a.1 in
+    let step : a.0 ≡ n + 1 = omega (arith, pushed, fits) in
+    let more = count_adds a.0 xs new (omega (arith, step, fits)) a.2 in
+    omega (arith, step, more)
 
 module _ {V T : Type 0} (P : V → T → Type 0) where
   -- of none at first, the number of the trees, where it fits
@@ -28,8 +28,8 @@ module _ {V T : Type 0} (P : V → T → Type 0) where
   count_of_none builds {before} b vs k fits h =
       let none : h.first ≡ 0 = first_none builds b in
       let zip : length h.outputs ≡ length vs = zip_length P vs h.outputs h.are_outputs in
-      let sum = count_adds h.first h.outputs k (omega (arith, none)) h.added in
-      omega (arith, none, zip, sum, fits)
+      let sum = count_adds h.first h.outputs k (omega (arith, none, zip, fits)) h.added in
+      omega (arith, none, zip, sum)
     where
       none_some : (x : ℕ) → None ≡ Some x → ⊥
       none_some x e = absurd (cc (e))

@@ -1,5 +1,5 @@
 //! What is accumulated of items.
-ghost use Rattle.std.specs.Prelude.{◌≡◌, ◌+◌, ◌-◌, ◌^◌, ◌≤◌, ◌++◌, ◌∷◌, [], IsTrue, false, min, vec_len, vec_capacity};
+ghost use Rattle.std.specs.Prelude.{◌≡◌, ◌+◌, ◌%◌, ◌^◌, ◌≤◌, ◌++◌, ◌∷◌, [], IsTrue, false, vec_len, vec_capacity};
 ghost use Rattle.nom_error.specs.Modes.{Built};
 ghost use Rattle.nom_repeat.specs.Accumulated.{PushesBoth, LacksRoom};
 
@@ -49,9 +49,10 @@ impl<T: Drop, A: Allocator> Accumulator<T> for Vec<T, A> {
     }
 }
 
-/// The number of the items, up to `usize::MAX`.
+/// The number of the items, modulo 2^64. One that saturates would wait for each sum before the next, and no input has
+/// that many items that consume something.
 impl<T: Drop> Accumulator<T> for usize {
-    ghost Pushes = { λ old _ new. new ≡ min (old + 1) (2 ^ 64 - 1) };
+    ghost Pushes = { λ old _ new. new ≡ (old + 1) % 2 ^ 64 };
 
     ghost CanPush = { λ _. Unit {0} };
 
@@ -63,7 +64,7 @@ impl<T: Drop> Accumulator<T> for usize {
 
     #[inline(always)]
     fn push(&mut self, _item: T) -> bool {
-        *self = self.saturating_add(1);
+        *self = self.wrapping_add(1);
         true
     }
 }
