@@ -1,7 +1,7 @@
 //! The places of a permutation's members, and how a round fills them.
 ghost use Rattle.std.specs.Prelude.{◌≡◌, true, false, Option};
 ghost use Rattle.nom_error.specs.Modes.{modes};
-ghost use Rattle.nom_permutation_slots.specs.Tries.{Fills, TriesFirst, TriesNext, TriesAfter, Tries};
+ghost use Rattle.nom_permutation_slots.specs.Tries.{Fills, TriesFirst, TriesNext, Tries};
 ghost use Rattle.nom_permutation_slots.specs.declared.slots.Slot.TheVariants.{Waiting, Applied};
 
 use nom_error::answer::{Err, PResult};
@@ -65,28 +65,6 @@ fn try_next<I: Items, P: Parser<I>, OM: OutputMode>(
 {
     let answer = join(error, member.process::<OM>(input));
     fill(answer, slot)
-}
-
-/// A try after what the round answered so far.
-#[inline(always)]
-fn try_after<I: Items, P: Parser<I>, OM: OutputMode>(
-    round: Round<I, P::Error>,
-    slot: &mut Slot<P::Output>,
-    member: &mut P,
-    input: I,
-) -> Round<I, P::Error>
-    requires { (P.meaning (P.state member.old)).IsSound }
-    ensures shown { TriesAfter I.model (P.IsOutput (P.state member.old)) P.Error.errors.joined P.Error.errors.grows (P.meaning (P.state member.old))
-        (modes OM.Output.BUILDS OM.Error.BUILDS OM.Incomplete.STREAMING) input round slot.old slot.new result }
-    ensures kept { P.state member.new ≡ P.state member.old }
-{
-    match round {
-        Ok(rest) => Ok(rest),
-        Err(Err::Incomplete(needed)) => Err(Err::Incomplete(needed)),
-        Err(Err::Error(error)) => try_next::<I, P, OM>(error, slot, member, input),
-        Err(Err::Failure(error)) => Err(Err::Failure(error)),
-        Err(Err::OutOfMemory) => Err(Err::OutOfMemory),
-    }
 }
 
 /// Whether a member isn't applied yet.
