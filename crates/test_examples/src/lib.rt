@@ -1,4 +1,4 @@
-//! Tests of the examples.
+//! Tests of the examples, and of streams.
 #![tactic(auto)]
 
 #[cfg(test)]

@@ -1,4 +1,5 @@
-//! Tests of parsers that need few crates: bits, line and column, and precedence.
+//! Tests of what needs few crates: what stands below the parsers, bits, line and column, precedence, and the engine of
+//! `nom_records`.
 #![tactic(auto)]
 
 #[cfg(test)]

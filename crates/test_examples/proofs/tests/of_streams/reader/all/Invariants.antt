@@ -1,6 +1,6 @@
 use Rattle.std.proofs.Common.{◌≡◌}
 use Rattle.nom_stream.specs.Streams.{IsOpen}
-use Rattle.nom_stream_tests.proofs.tests.reader.all.Given as goal
+use Rattle.test_examples.proofs.tests.of_streams.reader.all.Given as goal
 
 abbrev pub invariant-loop-turn : goal.invariant-loop-turn
 invariant-loop-turn g l = record {

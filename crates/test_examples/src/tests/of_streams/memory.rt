@@ -1,7 +1,7 @@
 //! Memory that runs out.
 
-use crate::tests::reader::{all, eager, steps};
-use crate::tests::wholes::{DATA, MESSAGES};
+use crate::tests::of_streams::reader::{all, eager, steps};
+use crate::tests::of_streams::wholes::{DATA, MESSAGES};
 use example_streams::messages::Messages;
 use linked_list_allocator::LocalHeap;
 use nom_stream::settings::Settings;

@@ -1,6 +1,6 @@
 //! The end of the data.
 
-use crate::tests::reader::{all, eager, steps};
+use crate::tests::of_streams::reader::{all, eager, steps};
 use example_streams::fields::Fields;
 use example_streams::records::Records;
 use nom_stream::settings::Settings;

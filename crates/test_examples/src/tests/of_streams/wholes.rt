@@ -1,6 +1,6 @@
 //! The items are those of the whole, however its bytes come.
 
-use crate::tests::reader::{Pieces, all, eager, steps};
+use crate::tests::of_streams::reader::{Pieces, all, eager, steps};
 use example_streams::messages::{Messages, Received};
 use nom_stream::settings::Settings;
 use nom_stream::stream::{Stop, Stream};

@@ -1,8 +1,8 @@
 //! The lines of messages that come one after another.
 ghost use Rattle.nom_stream.specs.Streams.{IsOpen};
 
-use crate::tests::reader::{Pieces, eager, steps};
-use crate::tests::wholes::{DATA, ENDS};
+use crate::tests::of_streams::reader::{Pieces, eager, steps};
+use crate::tests::of_streams::wholes::{DATA, ENDS};
 use linked_list_allocator::LocalHeap;
 use nom_messages_run::pipe::tell_messages;
 use nom_run::counted::Counted;

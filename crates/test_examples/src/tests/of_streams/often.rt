@@ -1,7 +1,7 @@
 //! How often an item is parsed, and how often it is read.
 
-use crate::tests::reader::{Pieces, eager, steps};
-use crate::tests::wholes::DATA;
+use crate::tests::of_streams::reader::{Pieces, eager, steps};
+use crate::tests::of_streams::wholes::DATA;
 use example_streams::fields::Fields;
 use example_streams::messages::Messages;
 use nom::IResult;

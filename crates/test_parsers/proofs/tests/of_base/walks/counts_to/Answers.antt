@@ -1,6 +1,6 @@
 use Rattle.std.proofs.Common.{arith, refl, length-append, [], ◌∷◌}
 use Rattle.nom_ranges.specs.Turns.{count_comes, count_ends}
-use Rattle.test_base.proofs.tests.of_base.walks.counts_to.Goals as goal
+use Rattle.test_parsers.proofs.tests.of_base.walks.counts_to.Goals as goal
 
 pub loop-count-init : goal.loop-count-init
 loop-count-init g c = omega arith
