@@ -17,18 +17,19 @@ abbrev pub at_most : ℕ → ℕ → ℕ
 at_most x y = cond (leb x y) 255 0
 
 -- `simd_ge`, whose sides are turned, of lanes that are computed from v
-at_least : (v a : List ℕ) (f : ℕ → ℕ) (count : ℕ) → length v ≡ 32 → a ≡ map f v → zip2 at_most (replicate 32 count) a ≡ map (λ b. at_most count (f b)) v
-at_least v a f count long e =
-    ap (zip2 at_most (replicate 32 count)) e
-    ∙ zip2_splat_left at_most count 32 (map f v) (length-map v f ∙ long)
+at_least : {n : ℕ} (v a : List ℕ) (f : ℕ → ℕ) (count : ℕ) → length v ≡ n → a ≡ map f v →
+    zip2 at_most (replicate n count) a ≡ map (λ b. at_most count (f b)) v
+at_least {n} v a f count long e =
+    ap (zip2 at_most (replicate n count)) e
+    ∙ zip2_splat_left at_most count n (map f v) (length-map v f ∙ long)
     ∙ map-map (at_most count) f v
 
-pub not_digits : (v a : List ℕ) (count : ℕ) → length v ≡ 32 → a ≡ map (behind 48) v →
-    zip2 at_most (replicate 32 count) a ≡ map (λ b. at_most count (behind 48 b)) v
+pub not_digits : {n : ℕ} (v a : List ℕ) (count : ℕ) → length v ≡ n → a ≡ map (behind 48) v →
+    zip2 at_most (replicate n count) a ≡ map (λ b. at_most count (behind 48 b)) v
 not_digits v a count long e = at_least v a (behind 48) count long e
 
-pub not_letters : (v low a : List ℕ) (count : ℕ) → length v ≡ 32 → low ≡ map lower_case v → a ≡ map (behind 97) low →
-    zip2 at_most (replicate 32 count) a ≡ map (λ b. at_most count (behind 97 (lower_case b))) v
+pub not_letters : {n : ℕ} (v low a : List ℕ) (count : ℕ) → length v ≡ n → low ≡ map lower_case v → a ≡ map (behind 97) low →
+    zip2 at_most (replicate n count) a ≡ map (λ b. at_most count (behind 97 (lower_case b))) v
 not_letters v low a count long e h = at_least v a (λ b. behind 97 (lower_case b)) count long (h ∙ ap (map (behind 97)) e ∙ map-map (behind 97) lower_case v)
 
 module _ (class k : AsciiClass) (is : class ≡ k) (f : ℕ → ℕ) (all : agree_below (λ b. top 7 (f b)) (λ b. not (has_code k b)) 256 ≡ true) where
@@ -37,11 +38,11 @@ module _ (class k : AsciiClass) (is : class ≡ k) (f : ℕ → ℕ) (all : agre
   each_lane (b ∷ v) fits = ap₂ (λ x xs. x ∷ xs) (agree_below_at (λ x. top 7 (f x)) (λ x. not (has_code k x)) 256 b all fits.0.fits) (each_lane v fits.1)
 
   -- the bits of a mask are those of the class, if the lanes are for each of the 256 bytes
-  pub class_marks : (v z : List ℕ) → length v ≡ 32 → Each1 (Fits w8) v → z ≡ map f v →
+  pub class_marks : {n : ℕ} (v z : List ℕ) → (n ≤ 64) → length v ≡ n → Each1 (Fits w8) v → z ≡ map f v →
       mask_l (map (top 7) z) % 2 ^ 64 ≡ mask_l (map (λ b. not (has_code class b)) v)
-  class_marks v z long fits e =
+  class_marks {n} v z few long fits e =
       let fails = λ (b : ℕ). not (has_code k b) in
-      ap (λ l. mask_l l % 2 ^ 64) (ap (map (top 7)) e ∙ each_lane v fits) ∙ mask_l-mod (map fails v) 64 (omega (arith, length-map v fails, long))
+      ap (λ l. mask_l l % 2 ^ 64) (ap (map (top 7)) e ∙ each_lane v fits) ∙ mask_l-mod (map fails v) 64 (omega (arith, length-map v fails, long, few))
       ∙ ap (λ (j : AsciiClass). mask_l (map (λ b. not (has_code j b)) v)) (sym is)
 
 module _ (test : ℕ → Bool) (bytes : List ℕ) (place n : ℕ) (room : place + n ≤ length bytes) where

@@ -1,4 +1,6 @@
-use Rattle.std.proofs.Common.{arith, ◌+◌, ◌≤◌, length}
+use Rattle.std.proofs.Common.{Some, arith, ◌+◌, ◌≤◌, length, subst}
+use Rattle.nom_traits.specs.Bytes.{bytes_model}
+use Rattle.nom_traits.specs.Runs.{IsPosition}
 use Rattle.nom_traits.specs.Classes.{IsInside, IsOutside}
 use Rattle.nom_traits.proofs.ByteLanes.{passed_more}
 use Rattle.nom_traits.proofs.ByteRuns.{byte_ends}
@@ -23,3 +25,14 @@ loop-place-preserved c =
       passed_more (IsInside c.args.class) c.args.bytes.now c.loop-place.place 32 room c.loop-place.invariant.1
           (λ k from to. run.passes k from (omega arith)),
     )
+
+pub returns-then-run-lt-FIRST : goal.returns-then-run-lt-FIRST
+returns-then-run-lt-FIRST c =
+    let run = c.run_in_first-run.ensures in
+    let n = c.run_in_first-run.result in
+    let short = c.if-run-lt-FIRST.true in
+    let long = c.if-bytes-ge-FIRST.true in
+    subst (λ k. IsPosition bytes_model (IsInside c.args.class) (IsOutside c.args.class) c.args.bytes (Some k)) (omega arith)
+    (byte_ends (IsInside c.args.class) (IsOutside c.args.class) c.args.bytes (0 + n) (omega arith)
+    (passed_more (IsInside c.args.class) c.args.bytes.now 0 n (omega arith) (λ k d h. absurd (omega (arith, h))) (λ k from to. run.passes k from (omega arith)))
+    (run.stops (omega arith)))
