@@ -50,7 +50,6 @@ impl<
 > Parser<I> for Precedence<'l, A, P, F, Q, C, B, G> {
     ghost use Rattle.nom_precedence.specs.Expressions.{Term, Pair, precedence_meaning};
     ghost use Rattle.nom_precedence.specs.laws.ExpressionLaws.{precedence_lawful};
-    ghost use Rattle.nom_precedence.specs.laws.ValueLaws.{GivesAlike};
 
     type Output = F::Output;
 
@@ -102,7 +101,7 @@ impl<
     G: Fn(Operation<P::Output, Q::Output, B, F::Output>) -> F::Output,
 > StreamParser<I> for Precedence<'l, A, P, F, Q, C, B, G> {
     ghost use Rattle.nom_precedence.specs.laws.ExpressionLaws.{precedence_steady};
-    ghost use Rattle.nom_precedence.specs.laws.ValueLaws.{folding_pinned};
+    ghost use Rattle.nom_precedence.specs.laws.ValueLaws.{GivesAlike, folding_pinned};
 
     ghost Pins = { λ p. P.Pins p.prefix × F.Pins p.operand × Q.Pins p.postfix × C.Pins p.binary × GivesAlike
         (folding (P.IsOutput (P.state p.prefix)) (F.IsOutput (F.state p.operand)) (Q.IsOutput (Q.state p.postfix)) (C.IsOutput (C.state p.binary))

@@ -1,5 +1,5 @@
 -- Splits of an input after its run.
-use Rattle.std.specs.Prelude.{◌≡◌, ℕ, ◌<◌, Bool, true, false, ◌⊎◌, Option, Some, Result, Ok, List, length}
+use Rattle.std.specs.Prelude.{◌≡◌, ℕ, ◌<◌, Bool, true, ◌⊎◌, Option, Some, Result, Ok, List, length}
 use Rattle.std.specs.Prelude as Std
 use Rattle.std.specs.List.{All}
 use Rattle.nom_error.specs.declared.answer.Needed.{Needed}

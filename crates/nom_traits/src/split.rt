@@ -1,5 +1,5 @@
 //! Splits of inputs after a run of items.
-ghost use Rattle.std.specs.Prelude.{◌≡◌, true, false, MatchOption};
+ghost use Rattle.std.specs.Prelude.{true, false, MatchOption};
 ghost use Rattle.nom_traits.specs.Input.{IsBoundary};
 ghost use Rattle.nom_traits.specs.Splits.{IsRunLength, IsRunOpen, RefusesWith, FrontBuilt};
 

@@ -6,7 +6,8 @@ use Rattle.nom_traits.proofs.lanes.outside_first.Goals as goal
 
 pub returns-in-Alpha : goal.returns-in-Alpha
 returns-in-Alpha c = class_marks c.args.class Class.Alpha c.in-Alpha.is _ refl c.args.block _ (omega arith) c.fits-block.0 c.fits-block.1
-    (not_letters c.args.block c.in_lower_case_first.result c.less_first-letters.result 26 c.fits-block.0 c.in_lower_case_first.ensures c.less_first-letters.ensures)
+    (not_letters c.args.block c.in_lower_case_first.result c.less_first-letters.result 26 c.fits-block.0
+    c.in_lower_case_first.ensures c.less_first-letters.ensures)
 
 pub returns-in-Digit : goal.returns-in-Digit
 returns-in-Digit c = class_marks c.args.class Class.Digit c.in-Digit.is _ refl c.args.block _ (omega arith) c.fits-block.0 c.fits-block.1
@@ -15,7 +16,8 @@ returns-in-Digit c = class_marks c.args.class Class.Digit c.in-Digit.is _ refl c
 pub returns-in-HexDigit : goal.returns-in-HexDigit
 returns-in-HexDigit c = class_marks c.args.class Class.HexDigit c.in-HexDigit.is _ refl c.args.block _ (omega arith) c.fits-block.0 c.fits-block.1
     (zip2_of_maps _ _ _ c.args.block (not_digits c.args.block c.less_first-digits.result 10 c.fits-block.0 c.less_first-digits.ensures)
-    (not_letters c.args.block c.in_lower_case_first.result c.less_first-letters.result 6 c.fits-block.0 c.in_lower_case_first.ensures c.less_first-letters.ensures))
+    (not_letters c.args.block c.in_lower_case_first.result c.less_first-letters.result 6 c.fits-block.0
+    c.in_lower_case_first.ensures c.less_first-letters.ensures))
 
 pub returns-in-OctDigit : goal.returns-in-OctDigit
 returns-in-OctDigit c = class_marks c.args.class Class.OctDigit c.in-OctDigit.is _ refl c.args.block _ (omega arith) c.fits-block.0 c.fits-block.1
@@ -28,7 +30,8 @@ returns-in-BinDigit c = class_marks c.args.class Class.BinDigit c.in-BinDigit.is
 pub returns-in-Alphanumeric : goal.returns-in-Alphanumeric
 returns-in-Alphanumeric c = class_marks c.args.class Class.Alphanumeric c.in-Alphanumeric.is _ refl c.args.block _ (omega arith) c.fits-block.0 c.fits-block.1
     (zip2_of_maps _ _ _ c.args.block (not_digits c.args.block c.less_first-digits.result 10 c.fits-block.0 c.less_first-digits.ensures)
-    (not_letters c.args.block c.in_lower_case_first.result c.less_first-letters.result 26 c.fits-block.0 c.in_lower_case_first.ensures c.less_first-letters.ensures))
+    (not_letters c.args.block c.in_lower_case_first.result c.less_first-letters.result 26 c.fits-block.0
+    c.in_lower_case_first.ensures c.less_first-letters.ensures))
 
 pub returns-in-Space : goal.returns-in-Space
 returns-in-Space c = class_marks c.args.class Class.Space c.in-Space.is _ refl c.args.block _ (omega arith) c.fits-block.0 c.fits-block.1
