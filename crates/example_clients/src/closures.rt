@@ -4,6 +4,7 @@ use nom::bytes::{is_not, tag, take_while1};
 use nom::character::complete::anychar;
 use nom::character::digit1;
 use nom::combinator::{map, map_opt, map_parser, map_res, verify};
+use nom::error::Error;
 use nom::multi::fold_many0;
 use nom::sequence::{delimited, separated_pair, terminated};
 use nom::{IResult, Parser, func};
@@ -50,7 +51,7 @@ pub fn counted(input: &str) -> IResult<&str, Count> {
     let column = map_res(digit1(), |digits: &str| digits.parse::<u32>());
     let row = map_res(digit1(), |digits: &str| digits.parse::<u32>());
     let place = map(
-        separated_pair(column, tag("x"), row),
+        separated_pair(column, tag::<_, &str, Error<&str>>("x"), row),
         |(column, row)| Point { column, row },
     );
     let none = || Count {

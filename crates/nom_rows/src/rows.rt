@@ -4,7 +4,7 @@ ghost use Rattle.std.specs.Prelude.{◌≡◌};
 use nom::error::{Error, ErrorKind};
 use nom::{
     Check, Complete, Emit, Err, Grown, Input, Mode, Needed, OutputM, OutputMode, PResult, Parser,
-    StreamParser, Streaming, parse_growing,
+    StreamParser, Streaming, Viewed, parse_growing,
 };
 
 /// An input of bytes or of a text.
@@ -166,7 +166,7 @@ pub fn wrong_row<
 /// The same, of a parser whose outputs are the same on longer inputs, as they are compared.
 pub fn wrong_pinned_row<
     I: Input + Content,
-    O: PartialEq + Drop,
+    O: Viewed + PartialEq + Drop,
     P: StreamParser<I, Output = O, Error = Error<I>> + Drop,
 >(parser: P, rows: &[Row<I, O>]) -> Option<usize>
     requires sound { (P.Parser.meaning (P.Parser.state parser)).IsSound }

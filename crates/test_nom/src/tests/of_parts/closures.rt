@@ -232,7 +232,7 @@ fn judged_pair_of<
 /// A pair.
 fn both_of<
     I: Input + Content,
-    O: PartialEq + Drop,
+    O: Viewed + PartialEq + Drop,
     P: StreamParser<I, Output = O, Error = Error<I>> + Drop,
     Q: StreamParser<I, Output = O, Error = Error<I>> + Drop,
 >(first: P, second: Q, rows: &[Row<I, (O, O)>]) -> Option<usize>
