@@ -20,7 +20,7 @@ use Rattle.nom_func.specs.Func.{TellsItems, FuncOutcome, IsParser, FuncAnswers, 
 use Rattle.nom_func.specs.Func.FuncBlames.{OfRefusal, OfFailure}
 use Rattle.nom_func.specs.laws.FuncLaws.{agrees}
 use Rattle.nom_func.proofs.FuncSound.{items_func}
-use Rattle.example_basics.specs.Colors.{Text, are_digits, on_pair, pair_of, place_missing, AnswersPair}
+use Rattle.example_basics.specs.Colors.{Text, are_digits, on_pair, pair_of, place_missing, IsFault as IsFaultAt, AnswersPair}
 
 abbrev Fault : Type 0
 Fault = Answer.Err (Error Text) (Error Text) Needed
