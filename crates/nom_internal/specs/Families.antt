@@ -28,8 +28,8 @@ pub record IsLawfulFamily {K I A V E : Type 0} (w : Model I A) (IsKey : K → Ty
 abbrev pub AnyKey : {K : Type 0} → K → Type 0
 AnyKey _ = Unit {0}
 
-pub always_lawful : {K I A V E : Type 0} (w : Model I A) (m : Meaning I V E) → IsLawful w m → IsLawfulFamily {K = K} w AnyKey (always m)
-always_lawful w m l = record {
+pub always_lawful : {K I A V E : Type 0} {w : Model I A} {m : Meaning I V E} → IsLawful w m → IsLawfulFamily {K = K} w AnyKey (always m)
+always_lawful l = record {
   lawful = λ _ _. l;
   frugal = λ mode h _ _. h;
   settles = λ h _ _. h;
@@ -104,5 +104,7 @@ module _ {P V I A Q E : Type 0} (w : Model I A) (IsValue : P → V → Type 0) (
 
 module _ {P V I A Q E : Type 0} (w : Model I A) (IsValue : P → V → Type 0) (f : Family V I Q E) (one : IsOne IsValue) where
   pub of_value_steady : ((v : V) → ((u : P) × IsValue u v) → IsSteady w (f.at v)) → (u : P) → IsSteady w ((of_value IsValue f).at u)
-  of_value_steady l u x y o p kx ky r a k b =
-      l a.value (u, a.is_value) x y o p kx ky r a.fact k (subst (λ n. (f.at n).answers true y p) (one u b.value a.value b.is_value a.is_value) b.fact)
+  of_value_steady l u = record {
+    stays = λ x y o p kx ky r a k b. (l a.value (u, a.is_value)).stays x y o p kx ky r a.fact k
+        (subst (λ n. (f.at n).answers true y p) (one u b.value a.value b.is_value a.is_value) b.fact);
+  }

@@ -108,4 +108,4 @@ module _ {I A V : Type 0} (w : Model I A) (leaf : Leaf I V) (l : LeafLaws w leaf
     }
 
     pub leaf_steady : IsSteady w (leaf_meaning IsSound Blames Grows leaf)
-    leaf_steady = answers_agree true true (λ e. e)
+    leaf_steady = record { stays = answers_agree true true (λ e. e) }

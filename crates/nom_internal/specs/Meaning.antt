@@ -64,8 +64,8 @@ module _ {I A V E : Type 0} (w : Model I A) (m : Meaning I V E) where
     pub never_fails : (large : Bool) → m.NeverFails large → (s : Bool) (i : I) → w.IsKnown i → m.answers s i (failure large) → ⊥
 
   -- the law of a stream parser: a decided streaming outcome stays on every longer input
-  abbrev pub IsSteady : Type 0
-  IsSteady = Agree w true (m.answers true) (m.answers true)
+  pub record IsSteady : Type 0 where
+    pub stays : Agree w true (m.answers true) (m.answers true)
 
 -- what `process` returns of a parser that means m, at i: what is built of outputs and errors, and the mode
 abbrev pub ShowsMeaning : {I A V O E : Type 0} → Model I A → (V → O → Type 0) → Meaning I V E → Modes → I →

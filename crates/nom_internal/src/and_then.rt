@@ -53,8 +53,7 @@ impl<
         Ok((rest, output))
     }
 
-    ghost lawful = { λ s k. and_then_lawful I.model F.Output.model (F.IsOutput s.0) k.1.1 (G.meaning s.1) (G.lawful s.1 k.1.0) I.lawful (F.meaning s.0)
-        (F.lawful s.0 k.0) };
+    ghost lawful = { λ s k. and_then_lawful k.1.1 (G.lawful s.1 k.1.0) I.lawful (F.lawful s.0 k.0) };
 }
 
 impl<
@@ -68,6 +67,5 @@ impl<
 
     ghost pinned = { λ p k h. h };
 
-    ghost steady = { λ s k. and_then_steady I.model F.Output.model (F.IsOutput s.0) k.1.1 (G.meaning s.1) (G.lawful s.1 k.1.0) I.lawful (F.meaning s.0)
-        (F.steady s.0 k.0) };
+    ghost steady = { λ s k. and_then_steady k.1.1 (G.lawful s.1 k.1.0) I.lawful (F.steady s.0 k.0) };
 }

@@ -43,8 +43,7 @@ impl<
         next_branch::<I, G, OM>(answer, &mut self.second, input)
     }
 
-    ghost lawful = { λ s k. either_lawful I.model F.Error.errors.joined F.Error.errors.grows (F.meaning s.0) (G.meaning s.1) (F.lawful s.0 k.0)
-        (G.lawful s.1 k.1) };
+    ghost lawful = { λ s k. either_lawful (F.lawful s.0 k.0) (G.lawful s.1 k.1) };
 }
 
 impl<
@@ -59,6 +58,5 @@ impl<
 
     ghost pinned = { λ p k h. either_pinned (F.pinned p.first k.0 h.0) (G.pinned p.second k.1 h.1) };
 
-    ghost steady = { λ s k. either_steady I.model F.Error.errors.joined F.Error.errors.grows (F.meaning s.0) (G.meaning s.1) (F.steady s.0 k.0)
-        (G.steady s.1 k.1) };
+    ghost steady = { λ s k. either_steady (F.steady s.0 k.0) (G.steady s.1 k.1) };
 }

@@ -39,7 +39,7 @@ impl<I: Items, P: Parser<I> + Drop, S: IsStreaming> Parser<I> for Fixed<P, S> {
             .process::<OutputM<OM::Output, OM::Error, S>>(input)
     }
 
-    ghost lawful = { λ s k. fixed_lawful I.model (P.meaning s) S.STREAMING (P.lawful s k) };
+    ghost lawful = { λ s k. fixed_lawful (P.lawful s k) };
 }
 
 impl<I: Items, P: StreamParser<I> + Drop> StreamParser<I> for Fixed<P, Streaming> {
@@ -47,5 +47,5 @@ impl<I: Items, P: StreamParser<I> + Drop> StreamParser<I> for Fixed<P, Streaming
 
     ghost pinned = { λ p. P.pinned p.parser };
 
-    ghost steady = { λ s k. fixed_steady I.model (P.meaning s) (P.steady s k) };
+    ghost steady = { λ s k. fixed_steady (P.steady s k) };
 }

@@ -49,8 +49,7 @@ impl<
         next.process::<OM>(rest)
     }
 
-    ghost lawful = { λ s k. flat_map_lawful I.model (F.IsOutput s.0)
-        (maker (G.pre s.1) (G.post s.1) H.state) H.meaning k.1 H.lawful I.lawful (F.meaning s.0) (F.lawful s.0 k.0) };
+    ghost lawful = { λ s k. flat_map_lawful k.1 H.lawful I.lawful (F.lawful s.0 k.0) };
 }
 
 impl<
@@ -65,6 +64,5 @@ impl<
 
     ghost pinned = { λ p k h. given_pinned k.1 h H.pinned };
 
-    ghost steady = { λ s k. flat_map_steady I.model (F.IsOutput s.0)
-        (maker (G.pre s.1) (G.post s.1) H.state) H.meaning k.1 H.steady I.lawful (F.meaning s.0) (F.steady s.0 k.0) };
+    ghost steady = { λ s k. flat_map_steady k.1 H.steady I.lawful (F.steady s.0 k.0) };
 }

@@ -76,7 +76,7 @@ impl<
         converted_answer(self.parser.process::<OM>(input))
     }
 
-    ghost lawful = { λ s k. renamed_lawful I.model (λ _. E.from_gives) ⊥ (F.meaning s) (F.lawful s k) };
+    ghost lawful = { λ s k. renamed_lawful (F.lawful s k) };
 }
 
 impl<
@@ -89,5 +89,5 @@ impl<
 
     ghost pinned = { λ p k h. given_pinned (F.pinned p.parser k h.0) h.1 };
 
-    ghost steady = { λ s k. renamed_steady I.model (λ _. E.from_gives) ⊥ (F.meaning s) (F.steady s k) };
+    ghost steady = { λ s k. renamed_steady (F.steady s k) };
 }

@@ -61,8 +61,7 @@ impl<I: Items, F: Parser<I> + Drop, O: Drop, G: Fn(F::Output) -> Option<O>> Pars
         }
     }
 
-    ghost lawful = { λ s k. judged_lawful I.model (F.IsOutput s.0) (G.pre s.1)
-        (G.post s.1) is_some (λ i _. F.Error.errors.of_kind i Kind.MapOpt) F.Error.errors.grows (F.meaning s.0) k.1 (F.lawful s.0 k.0) };
+    ghost lawful = { λ s k. judged_lawful k.1 (F.lawful s.0 k.0) };
 }
 
 impl<
@@ -75,8 +74,7 @@ impl<
 
     ghost pinned = { λ p k h. given_pinned (F.pinned p.parser k.0 h.0) h.1 };
 
-    ghost steady = { λ s k. judged_steady I.model (F.IsOutput s.0) (G.pre s.1)
-        (G.post s.1) is_some (λ i _. F.Error.errors.of_kind i Kind.MapOpt) F.Error.errors.grows (F.meaning s.0) k.1 (F.steady s.0 k.0) };
+    ghost steady = { λ s k. judged_steady k.1 (F.steady s.0 k.0) };
 }
 
 /// A refusal with an error that is made of another, where errors are built.
@@ -147,8 +145,7 @@ where
         }
     }
 
-    ghost lawful = { λ s k. judged_lawful I.model (F.IsOutput s.0) (G.pre s.1)
-        (G.post s.1) is_ok (λ i. OfError (F.Error.externals.of_external i Kind.MapRes)) F.Error.externals.grows (F.meaning s.0) k.1 (F.lawful s.0 k.0) };
+    ghost lawful = { λ s k. judged_lawful k.1 (F.lawful s.0 k.0) };
 }
 
 impl<
@@ -165,6 +162,5 @@ where
 
     ghost pinned = { λ p k h. given_pinned (F.pinned p.parser k.0 h.0) h.1 };
 
-    ghost steady = { λ s k. judged_steady I.model (F.IsOutput s.0) (G.pre s.1)
-        (G.post s.1) is_ok (λ i. OfError (F.Error.externals.of_external i Kind.MapRes)) F.Error.externals.grows (F.meaning s.0) k.1 (F.steady s.0 k.0) };
+    ghost steady = { λ s k. judged_steady k.1 (F.steady s.0 k.0) };
 }

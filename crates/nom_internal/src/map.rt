@@ -43,7 +43,7 @@ impl<I: Items, F: Parser<I> + Drop, O: Drop, G: Fn(F::Output) -> O> Parser<I> fo
         }
     }
 
-    ghost lawful = { λ s k. map_lawful I.model (F.IsOutput s.0) (G.pre s.1) (F.meaning s.0) (F.lawful s.0 k.0) };
+    ghost lawful = { λ s k. map_lawful (F.lawful s.0 k.0) };
 }
 
 impl<I: Items, F: StreamParser<I> + Drop, O: Viewed + Drop, G: Fn(F::Output) -> O> StreamParser<I>
@@ -52,5 +52,5 @@ impl<I: Items, F: StreamParser<I> + Drop, O: Viewed + Drop, G: Fn(F::Output) -> 
 
     ghost pinned = { λ p k h. given_pinned (F.pinned p.parser k.0 h.0) h.1 };
 
-    ghost steady = { λ s k. map_steady I.model (F.IsOutput s.0) (G.pre s.1) (F.meaning s.0) (F.steady s.0 k.0) };
+    ghost steady = { λ s k. map_steady (F.steady s.0 k.0) };
 }

@@ -53,8 +53,7 @@ impl<I: Items, F: Parser<I> + Drop, G: Parser<I, Error = F::Error> + Drop> Parse
         Ok((rest, combine(first, second)))
     }
 
-    ghost lawful = { λ s k. sequence_lawful I.model I.lawful (λ u v. (u, v)) (λ o. o) (λ o. o) (F.meaning s.0) (G.meaning s.1) (F.lawful s.0 k.0)
-        (G.lawful s.1 k.1) };
+    ghost lawful = { λ s k. sequence_lawful I.lawful (F.lawful s.0 k.0) (G.lawful s.1 k.1) };
 }
 
 impl<I: Items, F: StreamParser<I> + Drop, G: StreamParser<I, Error = F::Error> + Drop> StreamParser<
@@ -67,6 +66,5 @@ impl<I: Items, F: StreamParser<I> + Drop, G: StreamParser<I, Error = F::Error> +
 
     ghost pinned = { λ p k h. pair_pinned (F.pinned p.first k.0 h.0) (G.pinned p.second k.1 h.1) };
 
-    ghost steady = { λ s k. sequence_steady I.model I.lawful (λ u v. (u, v)) (λ o. o) (λ o. o) (F.meaning s.0) (G.meaning s.1) (F.steady s.0 k.0)
-        (G.steady s.1 k.1) };
+    ghost steady = { λ s k. sequence_steady I.lawful (F.steady s.0 k.0) (G.steady s.1 k.1) };
 }

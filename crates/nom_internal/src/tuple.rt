@@ -8,7 +8,7 @@ ghost use Rattle.nom_internal.specs.Meaning.{ShowsMeaning};
 ghost use Rattle.nom_internal.specs.Sequence.{pair_meaning};
 ghost use Rattle.nom_internal.specs.Tuples.{built_meaning, OnAccepted, ShowsMember, IsPaired, IsFormed, PairOutput, OneOutput};
 ghost use Rattle.nom_internal.specs.Pinned.{pair_pinned};
-ghost use Rattle.nom_internal.specs.laws.TupleLaws.{built_lawful, pair_lawful, steady_of, and_one_steady, flat_pinned, single_pinned};
+ghost use Rattle.nom_internal.specs.laws.TupleLaws.{built_lawful, pair_lawful, built_steady, pair_steady, flat_pinned, single_pinned};
 
 use crate::flat::{Flat, One, made_flat};
 use crate::parser::{Parser, StreamParser};
@@ -137,7 +137,7 @@ impl<I: Items, A: StreamParser<I>> StreamParser<I> for (A,) {
 
     ghost pinned = { λ p k h. single_pinned (A.pinned p.0 k h) };
 
-    ghost steady = { λ s k. A.steady s k };
+    ghost steady = { λ s k. built_steady (A.steady s k) };
 }
 
 impl<I: Items, A: Parser<I>, B: Parser<I, Error = A::Error>> Parser<I> for (A, B) {
@@ -172,7 +172,7 @@ impl<I: Items, A: StreamParser<I>, B: StreamParser<I, Error = A::Error>> StreamP
     ghost pinned = { λ p k h. flat_pinned (λ v. v) (λ o. (o.0, o.1)) (λ _. refl)
         (pair_pinned (A.pinned p.0 k.0 h.0) (B.pinned p.1 k.1 h.1)) };
 
-    ghost steady = { λ s k. (and_one_steady I.lawful (steady_of I.model (A.meaning s.0) (A.steady s.0 k.0)) (B.meaning s.1) (B.steady s.1 k.1)).steady };
+    ghost steady = { λ s k. built_steady (pair_steady I.lawful (A.steady s.0 k.0) (B.steady s.1 k.1)) };
 }
 
 impl<I: Items, A: Parser<I>, B: Parser<I, Error = A::Error>, C: Parser<I, Error = A::Error>> Parser<
@@ -214,9 +214,7 @@ impl<
     ghost pinned = { λ p k h. flat_pinned (λ v. (v.0.0, v.0.1, v.1)) (λ o. ((o.0, o.1), o.2)) (λ _. refl)
         (pair_pinned (pair_pinned (A.pinned p.0 k.0.0 h.0) (B.pinned p.1 k.0.1 h.1)) (C.pinned p.2 k.1 h.2)) };
 
-    ghost steady = { λ s k. (and_one_steady I.lawful
-        (and_one_steady I.lawful (steady_of I.model (A.meaning s.0) (A.steady s.0 k.0.0)) (B.meaning s.1) (B.steady s.1 k.0.1)) (C.meaning s.2)
-        (C.steady s.2 k.1)).steady };
+    ghost steady = { λ s k. built_steady (pair_steady I.lawful (pair_steady I.lawful (A.steady s.0 k.0.0) (B.steady s.1 k.0.1)) (C.steady s.2 k.1)) };
 }
 
 impl<
@@ -267,7 +265,5 @@ impl<
     ghost pinned = { λ p k h. flat_pinned (λ v. (v.0.0.0, v.0.0.1, v.0.1, v.1)) (λ o. (((o.0, o.1), o.2), o.3)) (λ _. refl)
         (pair_pinned (pair_pinned (pair_pinned (A.pinned p.0 k.0.0.0 h.0) (B.pinned p.1 k.0.0.1 h.1)) (C.pinned p.2 k.0.1 h.2)) (D.pinned p.3 k.1 h.3)) };
 
-    ghost steady = { λ s k. (and_one_steady I.lawful
-        (and_one_steady I.lawful (and_one_steady I.lawful (steady_of I.model (A.meaning s.0) (A.steady s.0 k.0.0.0)) (B.meaning s.1) (B.steady s.1 k.0.0.1))
-        (C.meaning s.2) (C.steady s.2 k.0.1)) (D.meaning s.3) (D.steady s.3 k.1)).steady };
+    ghost steady = { λ s k. built_steady (pair_steady I.lawful (pair_steady I.lawful (pair_steady I.lawful (A.steady s.0 k.0.0.0) (B.steady s.1 k.0.0.1)) (C.steady s.2 k.0.1)) (D.steady s.3 k.1)) };
 }

@@ -3,7 +3,7 @@ ghost use Rattle.std.proofs.Common.{refl};
 ghost use Rattle.nom_internal.specs.Sequence.{pair_meaning};
 ghost use Rattle.nom_internal.specs.Tuples.{built_meaning, PairOutput};
 ghost use Rattle.nom_internal.specs.Pinned.{pair_pinned};
-ghost use Rattle.nom_internal.specs.laws.TupleLaws.{built_lawful, pair_lawful, steady_of, and_one_steady, flat_pinned};
+ghost use Rattle.nom_internal.specs.laws.TupleLaws.{built_lawful, pair_lawful, built_steady, pair_steady, flat_pinned};
 
 use crate::parser::{Parser, StreamParser};
 use crate::tuple::{first_member, formed, next_member};
@@ -64,10 +64,7 @@ impl<
         (pair_pinned (pair_pinned (pair_pinned (pair_pinned (A.pinned p.0 k.0.0.0.0 h.0) (B.pinned p.1 k.0.0.0.1 h.1)) (C.pinned p.2 k.0.0.1 h.2))
         (D.pinned p.3 k.0.1 h.3)) (E.pinned p.4 k.1 h.4)) };
 
-    ghost steady = { λ s k. (and_one_steady I.lawful
-        (and_one_steady I.lawful (and_one_steady I.lawful
-        (and_one_steady I.lawful (steady_of I.model (A.meaning s.0) (A.steady s.0 k.0.0.0.0)) (B.meaning s.1) (B.steady s.1 k.0.0.0.1)) (C.meaning s.2)
-        (C.steady s.2 k.0.0.1)) (D.meaning s.3) (D.steady s.3 k.0.1)) (E.meaning s.4) (E.steady s.4 k.1)).steady };
+    ghost steady = { λ s k. built_steady (pair_steady I.lawful (pair_steady I.lawful (pair_steady I.lawful (pair_steady I.lawful (A.steady s.0 k.0.0.0.0) (B.steady s.1 k.0.0.0.1)) (C.steady s.2 k.0.0.1)) (D.steady s.3 k.0.1)) (E.steady s.4 k.1)) };
 }
 
 impl<
@@ -137,11 +134,7 @@ impl<
         (pair_pinned (pair_pinned (pair_pinned (pair_pinned (pair_pinned (A.pinned p.0 k.0.0.0.0.0 h.0) (B.pinned p.1 k.0.0.0.0.1 h.1))
         (C.pinned p.2 k.0.0.0.1 h.2)) (D.pinned p.3 k.0.0.1 h.3)) (E.pinned p.4 k.0.1 h.4)) (F.pinned p.5 k.1 h.5)) };
 
-    ghost steady = { λ s k. (and_one_steady I.lawful
-        (and_one_steady I.lawful (and_one_steady I.lawful
-        (and_one_steady I.lawful (and_one_steady I.lawful (steady_of I.model (A.meaning s.0) (A.steady s.0 k.0.0.0.0.0)) (B.meaning s.1)
-        (B.steady s.1 k.0.0.0.0.1)) (C.meaning s.2) (C.steady s.2 k.0.0.0.1)) (D.meaning s.3) (D.steady s.3 k.0.0.1)) (E.meaning s.4)
-        (E.steady s.4 k.0.1)) (F.meaning s.5) (F.steady s.5 k.1)).steady };
+    ghost steady = { λ s k. built_steady (pair_steady I.lawful (pair_steady I.lawful (pair_steady I.lawful (pair_steady I.lawful (pair_steady I.lawful (A.steady s.0 k.0.0.0.0.0) (B.steady s.1 k.0.0.0.0.1)) (C.steady s.2 k.0.0.0.1)) (D.steady s.3 k.0.0.1)) (E.steady s.4 k.0.1)) (F.steady s.5 k.1)) };
 }
 
 impl<
@@ -217,12 +210,7 @@ impl<
         (B.pinned p.1 k.0.0.0.0.0.1 h.1)) (C.pinned p.2 k.0.0.0.0.1 h.2)) (D.pinned p.3 k.0.0.0.1 h.3)) (E.pinned p.4 k.0.0.1 h.4))
         (F.pinned p.5 k.0.1 h.5)) (G.pinned p.6 k.1 h.6)) };
 
-    ghost steady = { λ s k. (and_one_steady I.lawful
-        (and_one_steady I.lawful (and_one_steady I.lawful
-        (and_one_steady I.lawful (and_one_steady I.lawful
-        (and_one_steady I.lawful (steady_of I.model (A.meaning s.0) (A.steady s.0 k.0.0.0.0.0.0)) (B.meaning s.1) (B.steady s.1 k.0.0.0.0.0.1))
-        (C.meaning s.2) (C.steady s.2 k.0.0.0.0.1)) (D.meaning s.3) (D.steady s.3 k.0.0.0.1)) (E.meaning s.4) (E.steady s.4 k.0.0.1))
-        (F.meaning s.5) (F.steady s.5 k.0.1)) (G.meaning s.6) (G.steady s.6 k.1)).steady };
+    ghost steady = { λ s k. built_steady (pair_steady I.lawful (pair_steady I.lawful (pair_steady I.lawful (pair_steady I.lawful (pair_steady I.lawful (pair_steady I.lawful (A.steady s.0 k.0.0.0.0.0.0) (B.steady s.1 k.0.0.0.0.0.1)) (C.steady s.2 k.0.0.0.0.1)) (D.steady s.3 k.0.0.0.1)) (E.steady s.4 k.0.0.1)) (F.steady s.5 k.0.1)) (G.steady s.6 k.1)) };
 }
 
 impl<
@@ -303,11 +291,5 @@ impl<
         (B.pinned p.1 k.0.0.0.0.0.0.1 h.1)) (C.pinned p.2 k.0.0.0.0.0.1 h.2)) (D.pinned p.3 k.0.0.0.0.1 h.3)) (E.pinned p.4 k.0.0.0.1 h.4))
         (F.pinned p.5 k.0.0.1 h.5)) (G.pinned p.6 k.0.1 h.6)) (H.pinned p.7 k.1 h.7)) };
 
-    ghost steady = { λ s k. (and_one_steady I.lawful
-        (and_one_steady I.lawful (and_one_steady I.lawful
-        (and_one_steady I.lawful (and_one_steady I.lawful
-        (and_one_steady I.lawful (and_one_steady I.lawful (steady_of I.model (A.meaning s.0) (A.steady s.0 k.0.0.0.0.0.0.0)) (B.meaning s.1)
-        (B.steady s.1 k.0.0.0.0.0.0.1)) (C.meaning s.2) (C.steady s.2 k.0.0.0.0.0.1)) (D.meaning s.3) (D.steady s.3 k.0.0.0.0.1)) (E.meaning s.4)
-        (E.steady s.4 k.0.0.0.1)) (F.meaning s.5) (F.steady s.5 k.0.0.1)) (G.meaning s.6) (G.steady s.6 k.0.1)) (H.meaning s.7)
-        (H.steady s.7 k.1)).steady };
+    ghost steady = { λ s k. built_steady (pair_steady I.lawful (pair_steady I.lawful (pair_steady I.lawful (pair_steady I.lawful (pair_steady I.lawful (pair_steady I.lawful (pair_steady I.lawful (A.steady s.0 k.0.0.0.0.0.0.0) (B.steady s.1 k.0.0.0.0.0.0.1)) (C.steady s.2 k.0.0.0.0.0.1)) (D.steady s.3 k.0.0.0.0.1)) (E.steady s.4 k.0.0.0.1)) (F.steady s.5 k.0.0.1)) (G.steady s.6 k.0.1)) (H.steady s.7 k.1)) };
 }

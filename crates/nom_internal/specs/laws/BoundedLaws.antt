@@ -51,14 +51,17 @@ module _ {I A J B P Q E : Type 0} (w : Model I A) (v : Model J B) (IsOutput : P 
 
   -- whether or not the parser is steady itself: what it answers doesn't depend on the rest
   family_steady : (u : P) → IsSteady w ((bounded_family v IsOutput m).at u)
-  family_steady u x y o p kx ky r a k b =
-      let e = l.one_outcome true a.at b.at a.outcome b.outcome a.at_is.known b.at_is.known (same u a.at b.at a.at_is.is_output b.at_is.is_output)
-      a.answered tt b.answered in
-      a.fact ∙ (ap (λ z. held z) e ∙ sym b.fact)
+  family_steady u = record {
+    stays = λ x y o p kx ky r a k b.
+        let e = l.one_outcome true a.at b.at a.outcome b.outcome a.at_is.known b.at_is.known (same u a.at b.at a.at_is.is_output b.at_is.is_output)
+        a.answered tt b.answered in
+        a.fact ∙ (ap (λ z. held z) e ∙ sym b.fact);
+  }
 
-  module _ (i : InputLaws w) (a : Meaning I P E) where
-    pub and_then_lawful : IsLawful w a → IsLawful w (and_then_meaning w v IsOutput a m)
-    and_then_lawful k = then_lawful w i (λ u t. t) (with_outputs true) (λ o. o) a (bounded_family v IsOutput m) k family_lawful
+module _ {I A J B P Q E : Type 0} {w : Model I A} {v : Model J B} {IsOutput : P → J → Type 0} (same : AreAlike v IsOutput) {m : Meaning J Q E}
+    (l : IsLawful v m) (i : InputLaws w) {a : Meaning I P E} where
+  pub and_then_lawful : IsLawful w a → IsLawful w (and_then_meaning w v IsOutput a m)
+  and_then_lawful k = then_lawful w i (λ u t. t) (with_outputs true) (λ o. o) a (bounded_family v IsOutput m) k (family_lawful w v IsOutput same m l)
 
-    pub and_then_steady : IsSteady w a → IsSteady w (and_then_meaning w v IsOutput a m)
-    and_then_steady k = then_steady w i (λ u t. t) (with_outputs true) (λ o. o) a (bounded_family v IsOutput m) k family_steady
+  pub and_then_steady : IsSteady w a → IsSteady w (and_then_meaning w v IsOutput a m)
+  and_then_steady k = then_steady w i (λ u t. t) (with_outputs true) (λ o. o) a (bounded_family v IsOutput m) k (family_steady w v IsOutput same m l)

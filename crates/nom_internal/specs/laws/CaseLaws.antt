@@ -134,8 +134,10 @@ module _ {I A J B P T E F : Type 0} {stays : Bool} (w : Model I A) (v : Model J 
 
 module _ {I A J B P T E F : Type 0} (w : Model I A) (v : Model J B) (m : Meaning J P E) (c : Case I J P T E F) (l : CaseLaws true w v c) where
   pub case_steady : Streams c.mode → IsSteady v m → IsSteady w (case_meaning c m)
-  case_steady only p = case_agree w v c l true (λ _. only) (λ _. refl) (m.answers (mode_of c.mode true)) (m.answers (mode_of c.mode true))
-      (subst (λ s. Agree v true (m.answers s) (m.answers s)) (sym only) p)
+  case_steady only p = record {
+    stays = case_agree w v c l true (λ _. only) (λ _. refl) (m.answers (mode_of c.mode true)) (m.answers (mode_of c.mode true))
+        (subst (λ s. Agree v true (m.answers s) (m.answers s)) (sym only) p.stays);
+  }
 
 -- nothing is a front
 pub no_place : {I A : Type 0} (w : Model I A) (i : I) → IsBoundary w i 0
@@ -247,21 +249,21 @@ module _ {I A P : Type 0} (w : Model I A) where
     asks_none = λ Part mode i a h g. refused_only ((mode.errors ≡ true) × Grows) a (λ z. h.1 z.0 z.1) g;
   }
 
-module _ {I A P E : Type 0} (w : Model I A) (m : Meaning I P E) where
-  pub labelled_lawful : {T : Type 0} (label : P → T) → IsLawful w m → IsLawful w (labelled_meaning label m)
-  labelled_lawful label l = case_lawful w w m l (plain_case (λ b. b) (λ i a o. o ≡ labelled label a)) (labelled_laws w label)
+module _ {I A P E : Type 0} {w : Model I A} {m : Meaning I P E} where
+  pub labelled_lawful : {T : Type 0} {label : P → T} → IsLawful w m → IsLawful w (labelled_meaning label m)
+  labelled_lawful {label = label} l = case_lawful w w m l (plain_case (λ b. b) (λ i a o. o ≡ labelled label a)) (labelled_laws w label)
 
-  pub labelled_steady : {T : Type 0} (label : P → T) → IsSteady w m → IsSteady w (labelled_meaning label m)
-  labelled_steady label l = case_steady w w m (plain_case (λ b. b) (λ i a o. o ≡ labelled label a)) (labelled_laws w label) refl l
+  pub labelled_steady : {T : Type 0} {label : P → T} → IsSteady w m → IsSteady w (labelled_meaning label m)
+  labelled_steady {label = label} l = case_steady w w m (plain_case (λ b. b) (λ i a o. o ≡ labelled label a)) (labelled_laws w label) refl l
 
-  pub fixed_lawful : (mode : Bool) → IsLawful w m → IsLawful w (fixed_meaning mode m)
-  fixed_lawful mode l = case_lawful w w m l (fixed_case mode) (fixed_laws w mode)
+  pub fixed_lawful : {mode : Bool} → IsLawful w m → IsLawful w (fixed_meaning mode m)
+  fixed_lawful {mode} l = case_lawful w w m l (fixed_case mode) (fixed_laws w mode)
 
   pub fixed_steady : IsSteady w m → IsSteady w (fixed_meaning true m)
   fixed_steady l = case_steady w w m (fixed_case true) (fixed_laws w true) refl l
 
-  pub closed_lawful : (Closes : I → E → E → Type 0) (Grows : Type 0) → IsLawful w m → IsLawful w (closed_meaning Closes Grows m)
-  closed_lawful Closes Grows l = case_lawful w w m l (closed_case Closes Grows) (closed_laws w Closes Grows)
+  pub closed_lawful : {Closes : I → E → E → Type 0} {Grows : Type 0} → IsLawful w m → IsLawful w (closed_meaning Closes Grows m)
+  closed_lawful {Closes} {Grows} l = case_lawful w w m l (closed_case Closes Grows) (closed_laws w Closes Grows)
 
-  pub closed_steady : (Closes : I → E → E → Type 0) (Grows : Type 0) → IsSteady w m → IsSteady w (closed_meaning Closes Grows m)
-  closed_steady Closes Grows l = case_steady w w m (closed_case Closes Grows) (closed_laws w Closes Grows) refl l
+  pub closed_steady : {Closes : I → E → E → Type 0} {Grows : Type 0} → IsSteady w m → IsSteady w (closed_meaning Closes Grows m)
+  closed_steady {Closes} {Grows} l = case_steady w w m (closed_case Closes Grows) (closed_laws w Closes Grows) refl l

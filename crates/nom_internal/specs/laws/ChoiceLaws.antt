@@ -163,14 +163,14 @@ module _ {I A V E : Type 0} (w : Model I A) (a b : Meaning I V E) (p : IsLawful 
 
 module _ {I A V E : Type 0} (w : Model I A) (a b : Meaning I V E) where
   pub or_steady : (Joins : E → E → E → Type 0) (Grows : Type 0) → IsSteady w a → IsSteady w b → IsSteady w (or_meaning Joins Grows a b)
-  or_steady Joins Grows p q = or_agree w (a.answers true) (a.answers true) (b.answers true) (b.answers true) true p q
+  or_steady Joins Grows p q = record { stays = or_agree w (a.answers true) (a.answers true) (b.answers true) (b.answers true) true p.stays q.stays }
 
   pub otherwise_steady : IsSteady w a → IsSteady w b → IsSteady w (otherwise_meaning a b)
-  otherwise_steady p q = or_agree w (a.answers true) (a.answers true) (b.answers true) (b.answers true) true p q
+  otherwise_steady p q = record { stays = or_agree w (a.answers true) (a.answers true) (b.answers true) (b.answers true) true p.stays q.stays }
 
-module _ {I A P Q E : Type 0} (w : Model I A) (Joins : E → E → E → Type 0) (Grows : Type 0) (a : Meaning I P E) (b : Meaning I Q E) where
+module _ {I A P Q E : Type 0} {w : Model I A} {Joins : E → E → E → Type 0} {Grows : Type 0} {a : Meaning I P E} {b : Meaning I Q E} where
   pub either_lawful : IsLawful w a → IsLawful w b → IsLawful w (either_meaning Joins Grows a b)
-  either_lawful p q = or_lawful w (labelled_meaning inl a) (labelled_meaning inr b) (labelled_lawful w a inl p) (labelled_lawful w b inr q) Joins Grows
+  either_lawful p q = or_lawful w (labelled_meaning inl a) (labelled_meaning inr b) (labelled_lawful p) (labelled_lawful q) Joins Grows
 
   pub either_steady : IsSteady w a → IsSteady w b → IsSteady w (either_meaning Joins Grows a b)
-  either_steady p q = or_steady w (labelled_meaning inl a) (labelled_meaning inr b) Joins Grows (labelled_steady w a inl p) (labelled_steady w b inr q)
+  either_steady p q = or_steady w (labelled_meaning inl a) (labelled_meaning inr b) Joins Grows (labelled_steady p) (labelled_steady q)

@@ -18,12 +18,12 @@ module _ {P O H S : Type 0} (IsOutput : P → O → Type 0) (g : Maker O H S) (I
   state_sound : (t : P) (u : S) → GivesState IsOutput g t u → IsSound u
   state_sound t u a = subst IsSound a.state_is (k.sound t a.output a.parser a.is_output a.given)
 
-module _ {I A P O H S Q E : Type 0} (w : Model I A) (IsOutput : P → O → Type 0) (g : Maker O H S) (m : S → Meaning I Q E)
+module _ {I A P O H S Q E : Type 0} {w : Model I A} {IsOutput : P → O → Type 0} {g : Maker O H S} {m : S → Meaning I Q E}
     (k : IsMaker IsOutput g (λ u. (m u).IsSound)) where
   module _ (l : (u : S) → (m u).IsSound → IsLawful w (m u)) where
     states_lawful : IsLawfulFamily w (λ u. (t : P) × GivesState IsOutput g t u) (states_family IsOutput g m)
     states_lawful = record {
-      lawful = λ u key. labelled_lawful w (m u) (λ q. (u, q)) (l u (state_sound IsOutput g (λ u. (m u).IsSound) k key.0 u key.1));
+      lawful = λ u key. labelled_lawful (l u (state_sound IsOutput g (λ u. (m u).IsSound) k key.0 u key.1));
       frugal = λ mode h u key. h key.0 u key.1;
       settles = λ h u key. h key.0 u key.1;
       never_fails = λ large h u key. h key.0 u key.1;
@@ -34,16 +34,16 @@ module _ {I A P O H S Q E : Type 0} (w : Model I A) (IsOutput : P → O → Type
         let f = of_value_lawful w (GivesState IsOutput g) (states_family IsOutput g m) (one_state IsOutput g (λ u. (m u).IsSound) k) states_lawful in
         record { lawful = f.lawful; frugal = f.frugal; settles = f.settles; never_fails = f.never_fails }
 
-    pub flat_map_lawful : InputLaws w → (a : Meaning I P E) → IsLawful w a → IsLawful w (flat_map_meaning w IsOutput g a m)
-    flat_map_lawful i a p = then_lawful w i (λ u t. t) (with_outputs true) (λ o. o) a (given_family IsOutput g m) p given_lawful
+    pub flat_map_lawful : InputLaws w → {a : Meaning I P E} → IsLawful w a → IsLawful w (flat_map_meaning w IsOutput g a m)
+    flat_map_lawful i {a} p = then_lawful w i (λ u t. t) (with_outputs true) (λ o. o) a (given_family IsOutput g m) p given_lawful
 
   module _ (l : (u : S) → (m u).IsSound → IsSteady w (m u)) where
     given_steady : (t : P) → IsSteady w ((given_family IsOutput g m).at t)
     given_steady = of_value_steady w (GivesState IsOutput g) (states_family IsOutput g m) (one_state IsOutput g (λ u. (m u).IsSound) k)
-        (λ u key. labelled_steady w (m u) (λ q. (u, q)) (l u (state_sound IsOutput g (λ u. (m u).IsSound) k key.0 u key.1)))
+        (λ u key. labelled_steady (l u (state_sound IsOutput g (λ u. (m u).IsSound) k key.0 u key.1)))
 
-    pub flat_map_steady : InputLaws w → (a : Meaning I P E) → IsSteady w a → IsSteady w (flat_map_meaning w IsOutput g a m)
-    flat_map_steady i a p = then_steady w i (λ u t. t) (with_outputs true) (λ o. o) a (given_family IsOutput g m) p given_steady
+    pub flat_map_steady : InputLaws w → {a : Meaning I P E} → IsSteady w a → IsSteady w (flat_map_meaning w IsOutput g a m)
+    flat_map_steady i {a} p = then_steady w i (λ u t. t) (with_outputs true) (λ o. o) a (given_family IsOutput g m) p given_steady
 
 -- the outputs of one tree are one, where those of each parser are
 module _ {P O H S Q X : Type 0} {IsOutput : P → O → Type 0} {g : Maker O H S} {IsSound : S → Type 0} {Pins : H → Type 0} {view : View X}

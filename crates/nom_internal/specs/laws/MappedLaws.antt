@@ -15,7 +15,7 @@ given_pinned f s = record {
   one_view = λ t a b g h. s.alike g.output h.output a b (f.one_view t g.output h.output g.is_output h.is_output) g.given h.given;
 }
 
-module _ {I A V P : Type 0} (w : Model I A) (IsOutput : V → P → Type 0) (Takes : P → Type 0) where
+module _ {I A V P : Type 0} {w : Model I A} {IsOutput : V → P → Type 0} {Takes : P → Type 0} where
   map_laws : {E : Type 0} → CaseLaws {E = E} true w w (map_case IsOutput Takes)
   map_laws {E} =
       let l = fixed_laws {P = V} w {E = E} true in
@@ -33,14 +33,14 @@ module _ {I A V P : Type 0} (w : Model I A) (IsOutput : V → P → Type 0) (Tak
         asks_none = λ Part mode i a h g. g;
       }
 
-  module _ {E : Type 0} (m : Meaning I V E) where
+  module _ {E : Type 0} {m : Meaning I V E} where
     pub map_lawful : IsLawful w m → IsLawful w (map_meaning IsOutput Takes m)
     map_lawful l = case_lawful w w m l (map_case IsOutput Takes) map_laws
 
     pub map_steady : IsSteady w m → IsSteady w (map_meaning IsOutput Takes m)
     map_steady l = case_steady w w m (map_case IsOutput Takes) map_laws refl l
 
-module _ {I A V E F : Type 0} (w : Model I A) (Makes : I → E → F → Type 0) (Grows : Type 0) where
+module _ {I A V E F : Type 0} {w : Model I A} {Makes : I → E → F → Type 0} {Grows : Type 0} where
   renamed_laws : CaseLaws true w w (renamed_case {V = V} Makes Grows)
   renamed_laws =
       let l = fixed_laws {P = V} w {E = E} true in
@@ -58,7 +58,7 @@ module _ {I A V E F : Type 0} (w : Model I A) (Makes : I → E → F → Type 0)
         asks_none = λ Part mode i a h g. h.1 g.1;
       }
 
-  module _ (m : Meaning I V E) where
+  module _ {m : Meaning I V E} where
     pub renamed_lawful : IsLawful w m → IsLawful w (renamed_meaning Makes Grows m)
     renamed_lawful l = case_lawful w w m l (renamed_case Makes Grows) renamed_laws
 

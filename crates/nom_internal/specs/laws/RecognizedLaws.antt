@@ -98,7 +98,7 @@ module _ {I A V : Type 0} (w : Model I A) (l : InputLaws w) where
     never_fails = λ large i n u s. never_sliced w large i n s;
   }
 
-module _ {I A V E : Type 0} (w : Model I A) (l : InputLaws w) (m : Meaning I V E) where
+module _ {I A V E : Type 0} {w : Model I A} (l : InputLaws w) {m : Meaning I V E} where
   pub recognized_lawful : IsLawful w m → IsLawful w (recognized_meaning w m)
   recognized_lawful p = case_lawful w w m p (plain_case (λ _. false) (λ i. Passes (λ n (u : V) o. IsSliced w i n o)))
       (plain_laws w (λ i n (u : V). IsSliced w i n) (sliced_laws w l) (λ _. false))

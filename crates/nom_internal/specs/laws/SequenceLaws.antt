@@ -152,13 +152,15 @@ module _ {I A P Q T E : Type 0} (w : Model I A) (l : InputLaws w) (tree : P → 
   }
 
   pub then_steady : IsSteady w a → ((u : P) → IsSteady w (f.at u)) → IsSteady w (then_meaning w tree first_mode next_mode a f)
-  then_steady p q = then_agree w l tree true (a.answers true) (a.answers true) (λ u. (f.at u).answers true) (λ u. (f.at u).answers true) p q
+  then_steady p q = record {
+    stays = then_agree w l tree true (a.answers true) (a.answers true) (λ u. (f.at u).answers true) (λ u. (f.at u).answers true) p.stays (λ u. (q u).stays);
+  }
 
 -- sequences
-module _ {I A P Q T E : Type 0} (w : Model I A) (l : InputLaws w) (tree : P → Q → T) (first_mode second_mode : Modes → Modes) (a : Meaning I P E)
-    (b : Meaning I Q E) where
+module _ {I A P Q T E : Type 0} {w : Model I A} (l : InputLaws w) {tree : P → Q → T} {first_mode second_mode : Modes → Modes} {a : Meaning I P E}
+    {b : Meaning I Q E} where
   pub sequence_lawful : IsLawful w a → IsLawful w b → IsLawful w (sequence_meaning w tree first_mode second_mode a b)
-  sequence_lawful p q = then_lawful w l tree first_mode second_mode a (always b) p (always_lawful w b q)
+  sequence_lawful p q = then_lawful w l tree first_mode second_mode a (always b) p (always_lawful q)
 
   pub sequence_steady : IsSteady w a → IsSteady w b → IsSteady w (sequence_meaning w tree first_mode second_mode a b)
   sequence_steady p q = then_steady w l tree first_mode second_mode a (always b) p (λ _. q)

@@ -23,21 +23,16 @@ module _ {I A V E : Type 0} {w : Model I A} {m : Meaning I V E} where
     never_fails = l.never_fails;
   }
 
+  pub built_steady : IsSteady w m → IsSteady w (built_meaning m)
+  built_steady l = record { stays = l.stays }
+
 -- a pair is lawful and steady where its members are
-module _ {I A P Q E : Type 0} {w : Model I A} (l : InputLaws w) {a : Meaning I P E} where
-  pub pair_lawful : {b : Meaning I Q E} → IsLawful w a → IsLawful w b → IsLawful w (pair_meaning w a b)
-  pair_lawful {b = b} p q = sequence_lawful w l (λ u v. (u, v)) (λ o. o) (λ o. o) a b p q
+module _ {I A P Q E : Type 0} {w : Model I A} (l : InputLaws w) {a : Meaning I P E} {b : Meaning I Q E} where
+  pub pair_lawful : IsLawful w a → IsLawful w b → IsLawful w (pair_meaning w a b)
+  pair_lawful p q = sequence_lawful l p q
 
--- that members are steady: a record, by which they are found
-pub record AreSteady {I A V E : Type 0} (w : Model I A) (m : Meaning I V E) : Type 0 where
-  pub steady : IsSteady w m
-
-pub steady_of : {I A V E : Type 0} (w : Model I A) (m : Meaning I V E) → IsSteady w m → AreSteady w m
-steady_of w m h = record { steady = h }
-
-pub and_one_steady : {I A P Q E : Type 0} {w : Model I A} (l : InputLaws w) {a : Meaning I P E} → AreSteady w a → (b : Meaning I Q E) → IsSteady w b →
-    AreSteady w (pair_meaning w a b)
-and_one_steady {w = w} l {a = a} p b q = record { steady = sequence_steady w l (λ u v. (u, v)) (λ o. o) (λ o. o) a b p.steady q }
+  pub pair_steady : IsSteady w a → IsSteady w b → IsSteady w (pair_meaning w a b)
+  pair_steady p q = sequence_steady l p q
 
 -- the tuple that nested pairs are: its view is a form of theirs
 pub flat_pinned : {V O F : Type 0} {view : View O} {IsOutput : V → O → Type 0} {flat : View F} (form : view.Value → flat.Value) (pairs : F → O) →
