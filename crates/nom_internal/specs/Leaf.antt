@@ -52,7 +52,7 @@ pub record LeafLaws {I A V : Type 0} (w : Model I A) (leaf : Leaf I V) : Type 0 
   pub accepted_settles : (i : I) (n : ℕ) (v : V) → w.IsKnown i → leaf.Accepts true i n v → leaf.Accepts false i n v
   pub refused_settles : (i : I) → w.IsKnown i → leaf.Refuses true i → leaf.Refuses false i
 
-module _ {I A V : Type 0} (w : Model I A) (leaf : Leaf I V) (l : LeafLaws w leaf) where
+module _ {I A V : Type 0} {w : Model I A} {leaf : Leaf I V} (l : LeafLaws w leaf) where
   answers_carry : (longer s : Bool) → (longer ≡ true → s ≡ true) → (x y : I) (o : Outcome V) → w.IsKnown x → w.IsKnown y → Related w longer x y →
       LeafAnswers leaf s x o → Keeps longer o → LeafAnswers leaf s y o
   answers_carry longer s only x y (Accept n v) kx ky r a d = l.accepted_stays longer s only x y n v kx ky r a
@@ -95,7 +95,7 @@ module _ {I A V : Type 0} (w : Model I A) (leaf : Leaf I V) (l : LeafLaws w leaf
   never_answers true s i a = a
   never_answers false s i a = a
 
-  module _ {E : Type 0} (IsSound : Type 0) (Blames : I → E → Type 0) (Grows : Type 0) where
+  module _ {E : Type 0} {IsSound : Type 0} {Blames : I → E → Type 0} {Grows : Type 0} where
     pub leaf_lawful : IsLawful w (leaf_meaning IsSound Blames Grows leaf)
     leaf_lawful = record {
       within = λ s i n v h a. l.place s i n v h a;

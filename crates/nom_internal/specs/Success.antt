@@ -35,9 +35,9 @@ success_laws w v = record {
   refused_settles = λ i h a. a;
 }
 
-module _ {I A V : Type 0} (E : Type 0) (w : Model I A) (v : V) where
+module _ {I A V E : Type 0} {w : Model I A} {v : V} where
   pub success_lawful : IsLawful w (success_meaning {E = E} v)
-  success_lawful = leaf_lawful w (success_leaf v) (success_laws w v) {E = E} (Unit {0}) (λ i e. ⊥) ⊥
+  success_lawful = leaf_lawful (success_laws w v)
 
   pub success_steady : IsSteady w (success_meaning {E = E} v)
-  success_steady = leaf_steady w (success_leaf v) (success_laws w v) {E = E} (Unit {0}) (λ i e. ⊥) ⊥
+  success_steady = leaf_steady (success_laws w v)

@@ -1,7 +1,6 @@
 -- The laws of parsers on what another one gives.
 use Rattle.std.specs.Prelude.{◌≡◌, ℕ, Bool, true, false, refl}
 use Rattle.std.proofs.Common.{sym, ◌∙◌, ap, subst}
-use Rattle.nom_error.specs.Modes.{with_outputs}
 use Rattle.nom_traits.specs.Input.{Model, InputLaws, IsBoundary, IsSame, Related}
 use Rattle.nom_internal.specs.Outcome.{Outcome, IsDecided}
 use Rattle.nom_internal.specs.Outcome.Outcome.{Accept, Refuse, Fail, TooLarge, Undecided}
@@ -43,7 +42,7 @@ module _ {I A J B P Q E : Type 0} (w : Model I A) (v : Model J B) (IsOutput : P 
 
   family_lawful : IsLawfulFamily w AnyKey (bounded_family v IsOutput m)
   family_lawful = record {
-    lawful = λ u _. case_lawful w v m l (bounded_case (IsBound v IsOutput u)) (bounded_laws u);
+    lawful = λ u _. case_lawful (bounded_laws u) l;
     frugal = λ mode h _ _. h;
     settles = λ h _ _. h;
     never_fails = λ large h _ _. h;
@@ -61,7 +60,7 @@ module _ {I A J B P Q E : Type 0} (w : Model I A) (v : Model J B) (IsOutput : P 
 module _ {I A J B P Q E : Type 0} {w : Model I A} {v : Model J B} {IsOutput : P → J → Type 0} (same : AreAlike v IsOutput) {m : Meaning J Q E}
     (l : IsLawful v m) (i : InputLaws w) {a : Meaning I P E} where
   pub and_then_lawful : IsLawful w a → IsLawful w (and_then_meaning w v IsOutput a m)
-  and_then_lawful k = then_lawful w i (λ u t. t) (with_outputs true) (λ o. o) a (bounded_family v IsOutput m) k (family_lawful w v IsOutput same m l)
+  and_then_lawful k = then_lawful i (bounded_family v IsOutput m) k (family_lawful w v IsOutput same m l)
 
   pub and_then_steady : IsSteady w a → IsSteady w (and_then_meaning w v IsOutput a m)
-  and_then_steady k = then_steady w i (λ u t. t) (with_outputs true) (λ o. o) a (bounded_family v IsOutput m) k (family_steady w v IsOutput same m l)
+  and_then_steady k = then_steady i (bounded_family v IsOutput m) k (family_steady w v IsOutput same m l)

@@ -99,8 +99,8 @@ module _ {I A J B P T E F : Type 0} {stays : Bool} (w : Model I A) (v : Model J 
         p.never_fails large n.0 (mode_of c.mode s) a.at (l.at_known i a.at h a.at_is) (subst (λ z. m.answers (mode_of c.mode s) a.at z) n.1 a.answered)
 
 -- how a whole settles, by the mode of its part
-module _ {I A J B P T E F : Type 0} {stays : Bool} (w : Model I A) (v : Model J B) (m : Meaning J P E) (p : IsLawful v m) (c : Case I J P T E F)
-    (l : CaseLaws stays w v c) where
+module _ {I A J B P T E F : Type 0} {stays : Bool} {w : Model I A} {v : Model J B} {c : Case I J P T E F} (l : CaseLaws stays w v c) {m : Meaning J P E}
+    (p : IsLawful v m) where
   abbrev Answers : Bool → I → Outcome T → Type 0
   Answers s i o = OnPart c.At (m.answers s) (λ _ a. c.Becomes i a o) i
 
@@ -132,7 +132,7 @@ module _ {I A J B P T E F : Type 0} {stays : Bool} (w : Model I A) (v : Model J 
     never_fails = case_never w v c l m p;
   }
 
-module _ {I A J B P T E F : Type 0} (w : Model I A) (v : Model J B) (m : Meaning J P E) (c : Case I J P T E F) (l : CaseLaws true w v c) where
+module _ {I A J B P T E F : Type 0} {w : Model I A} {v : Model J B} {c : Case I J P T E F} (l : CaseLaws true w v c) {m : Meaning J P E} where
   pub case_steady : Streams c.mode → IsSteady v m → IsSteady w (case_meaning c m)
   case_steady only p = record {
     stays = case_agree w v c l true (λ _. only) (λ _. refl) (m.answers (mode_of c.mode true)) (m.answers (mode_of c.mode true))
@@ -251,19 +251,19 @@ module _ {I A P : Type 0} (w : Model I A) where
 
 module _ {I A P E : Type 0} {w : Model I A} {m : Meaning I P E} where
   pub labelled_lawful : {T : Type 0} {label : P → T} → IsLawful w m → IsLawful w (labelled_meaning label m)
-  labelled_lawful {label = label} l = case_lawful w w m l (plain_case (λ b. b) (λ i a o. o ≡ labelled label a)) (labelled_laws w label)
+  labelled_lawful {label = label} l = case_lawful (labelled_laws w label) l
 
   pub labelled_steady : {T : Type 0} {label : P → T} → IsSteady w m → IsSteady w (labelled_meaning label m)
-  labelled_steady {label = label} l = case_steady w w m (plain_case (λ b. b) (λ i a o. o ≡ labelled label a)) (labelled_laws w label) refl l
+  labelled_steady {label = label} l = case_steady (labelled_laws w label) refl l
 
   pub fixed_lawful : {mode : Bool} → IsLawful w m → IsLawful w (fixed_meaning mode m)
-  fixed_lawful {mode} l = case_lawful w w m l (fixed_case mode) (fixed_laws w mode)
+  fixed_lawful {mode} l = case_lawful (fixed_laws w mode) l
 
   pub fixed_steady : IsSteady w m → IsSteady w (fixed_meaning true m)
-  fixed_steady l = case_steady w w m (fixed_case true) (fixed_laws w true) refl l
+  fixed_steady l = case_steady (fixed_laws w true) refl l
 
   pub closed_lawful : {Closes : I → E → E → Type 0} {Grows : Type 0} → IsLawful w m → IsLawful w (closed_meaning Closes Grows m)
-  closed_lawful {Closes} {Grows} l = case_lawful w w m l (closed_case Closes Grows) (closed_laws w Closes Grows)
+  closed_lawful {Closes} {Grows} l = case_lawful (closed_laws w Closes Grows) l
 
   pub closed_steady : {Closes : I → E → E → Type 0} {Grows : Type 0} → IsSteady w m → IsSteady w (closed_meaning Closes Grows m)
-  closed_steady {Closes} {Grows} l = case_steady w w m (closed_case Closes Grows) (closed_laws w Closes Grows) refl l
+  closed_steady {Closes} {Grows} l = case_steady (closed_laws w Closes Grows) refl l

@@ -8,7 +8,6 @@ use Rattle.nom_internal.specs.Outcome.{Outcome, IsDecided, IsFailure, IsFault, O
 use Rattle.nom_internal.specs.Outcome.Outcome.{Accept, Refuse, Fail, TooLarge, Undecided}
 use Rattle.nom_internal.specs.Meaning.{Meaning, IsLawful, IsSteady, Keeps, Agree, Carries, Within}
 use Rattle.nom_internal.specs.laws.PartLaws.{one_at, transfers, transferred, blame_transferred}
-use Rattle.nom_internal.specs.Cases.{labelled_meaning}
 use Rattle.nom_internal.specs.laws.CaseLaws.{labelled_lawful, labelled_steady}
 use Rattle.nom_internal.specs.Choice.{GoesOnRefused, OnRefusal, NextBlames, or_meaning, either_meaning, otherwise_meaning, NextRunsOut, OrBlames}
 use Rattle.nom_internal.specs.Choice.{OtherwiseBlames}
@@ -75,7 +74,7 @@ module _ {I A V : Type 0} (w : Model I A) (F N : I → Outcome V → Type 0) whe
     | inr m ↦ g i h m
   ]
 
-module _ {I A V E : Type 0} (w : Model I A) (a b : Meaning I V E) (p : IsLawful w a) (q : IsLawful w b) where
+module _ {I A V E : Type 0} {w : Model I A} {a b : Meaning I V E} (p : IsLawful w a) (q : IsLawful w b) where
   -- what a choice answers, where its first part refuses
   goes_on_refused : (s : Bool) (i : I) (o : Outcome V) → w.IsKnown i → OnRefusal (a.answers s) (b.answers s) i o → a.answers s i Refuse → b.answers s i o
   goes_on_refused s i o h c r = subst (λ z. GoesOnRefused (b.answers s i) z o) (one_at w a p s i c.first Refuse h c.answered r) c.goes_on
@@ -139,8 +138,8 @@ module _ {I A V E : Type 0} (w : Model I A) (a b : Meaning I V E) (p : IsLawful 
   otherwise_frugal mode i h f (inl r) = p.frugal (with_errors false mode) i h f.0 r
   otherwise_frugal mode i h f (inr r) = q.frugal mode i h f.1 r.1
 
-  pub or_lawful : (Joins : E → E → E → Type 0) (Grows : Type 0) → IsLawful w (or_meaning Joins Grows a b)
-  or_lawful Joins Grows = record {
+  pub or_lawful : {Joins : E → E → E → Type 0} {Grows : Type 0} → IsLawful w (or_meaning Joins Grows a b)
+  or_lawful {Joins} {Grows} = record {
     within = λ s. or_within w (a.answers s) (b.answers s) (p.within s) (q.within s);
     one_outcome = λ s. or_agree w (a.answers s) (a.answers s) (b.answers s) (b.answers s) false (p.one_outcome s) (q.one_outcome s);
     alike = λ s. or_carries w (a.answers s) (a.answers s) (b.answers s) (b.answers s) false (p.alike s) (q.alike s);
@@ -161,16 +160,16 @@ module _ {I A V E : Type 0} (w : Model I A) (a b : Meaning I V E) (p : IsLawful 
     never_fails = λ large g s. or_never w (a.answers s) (b.answers s) large (p.never_fails large g.0 s) (q.never_fails large g.1 s);
   }
 
-module _ {I A V E : Type 0} (w : Model I A) (a b : Meaning I V E) where
-  pub or_steady : (Joins : E → E → E → Type 0) (Grows : Type 0) → IsSteady w a → IsSteady w b → IsSteady w (or_meaning Joins Grows a b)
-  or_steady Joins Grows p q = record { stays = or_agree w (a.answers true) (a.answers true) (b.answers true) (b.answers true) true p.stays q.stays }
+module _ {I A V E : Type 0} {w : Model I A} {a b : Meaning I V E} where
+  pub or_steady : {Joins : E → E → E → Type 0} {Grows : Type 0} → IsSteady w a → IsSteady w b → IsSteady w (or_meaning Joins Grows a b)
+  or_steady p q = record { stays = or_agree w (a.answers true) (a.answers true) (b.answers true) (b.answers true) true p.stays q.stays }
 
   pub otherwise_steady : IsSteady w a → IsSteady w b → IsSteady w (otherwise_meaning a b)
   otherwise_steady p q = record { stays = or_agree w (a.answers true) (a.answers true) (b.answers true) (b.answers true) true p.stays q.stays }
 
 module _ {I A P Q E : Type 0} {w : Model I A} {Joins : E → E → E → Type 0} {Grows : Type 0} {a : Meaning I P E} {b : Meaning I Q E} where
   pub either_lawful : IsLawful w a → IsLawful w b → IsLawful w (either_meaning Joins Grows a b)
-  either_lawful p q = or_lawful w (labelled_meaning inl a) (labelled_meaning inr b) (labelled_lawful p) (labelled_lawful q) Joins Grows
+  either_lawful p q = or_lawful (labelled_lawful p) (labelled_lawful q)
 
   pub either_steady : IsSteady w a → IsSteady w b → IsSteady w (either_meaning Joins Grows a b)
-  either_steady p q = or_steady w (labelled_meaning inl a) (labelled_meaning inr b) Joins Grows (labelled_steady p) (labelled_steady q)
+  either_steady p q = or_steady (labelled_steady p) (labelled_steady q)

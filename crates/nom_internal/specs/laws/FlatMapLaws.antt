@@ -1,7 +1,5 @@
 -- The laws of a part and the parser that a closure gives for its output.
-use Rattle.std.specs.Prelude.{true}
 use Rattle.std.proofs.Common.{sym, ◌∙◌, subst}
-use Rattle.nom_error.specs.Modes.{with_outputs}
 use Rattle.nom_traits.specs.Input.{Model, InputLaws}
 use Rattle.nom_traits.specs.View.{View}
 use Rattle.nom_internal.specs.Meaning.{Meaning, IsLawful, IsSteady}
@@ -35,7 +33,7 @@ module _ {I A P O H S Q E : Type 0} {w : Model I A} {IsOutput : P → O → Type
         record { lawful = f.lawful; frugal = f.frugal; settles = f.settles; never_fails = f.never_fails }
 
     pub flat_map_lawful : InputLaws w → {a : Meaning I P E} → IsLawful w a → IsLawful w (flat_map_meaning w IsOutput g a m)
-    flat_map_lawful i {a} p = then_lawful w i (λ u t. t) (with_outputs true) (λ o. o) a (given_family IsOutput g m) p given_lawful
+    flat_map_lawful i p = then_lawful i (given_family IsOutput g m) p given_lawful
 
   module _ (l : (u : S) → (m u).IsSound → IsSteady w (m u)) where
     given_steady : (t : P) → IsSteady w ((given_family IsOutput g m).at t)
@@ -43,7 +41,7 @@ module _ {I A P O H S Q E : Type 0} {w : Model I A} {IsOutput : P → O → Type
         (λ u key. labelled_steady (l u (state_sound IsOutput g (λ u. (m u).IsSound) k key.0 u key.1)))
 
     pub flat_map_steady : InputLaws w → {a : Meaning I P E} → IsSteady w a → IsSteady w (flat_map_meaning w IsOutput g a m)
-    flat_map_steady i {a} p = then_steady w i (λ u t. t) (with_outputs true) (λ o. o) a (given_family IsOutput g m) p given_steady
+    flat_map_steady i p = then_steady i (given_family IsOutput g m) p given_steady
 
 -- the outputs of one tree are one, where those of each parser are
 module _ {P O H S Q X : Type 0} {IsOutput : P → O → Type 0} {g : Maker O H S} {IsSound : S → Type 0} {Pins : H → Type 0} {view : View X}

@@ -68,7 +68,7 @@ module _ {I A V P R E : Type 0} {w : Model I A} {IsOutput : V → P → Type 0} 
 
   module _ {m : Meaning I V E} (j : IsJudge IsOutput Takes Gives fits) where
     pub judged_lawful : IsLawful w m → IsLawful w (judged_meaning IsOutput Takes Gives fits Makes Grows m)
-    judged_lawful l = case_lawful w w m l (judged_case IsOutput Takes Gives fits Makes Grows) (judged_laws j)
+    judged_lawful l = case_lawful (judged_laws j) l
 
     pub judged_steady : IsSteady w m → IsSteady w (judged_meaning IsOutput Takes Gives fits Makes Grows m)
-    judged_steady l = case_steady w w m (judged_case IsOutput Takes Gives fits Makes Grows) (judged_laws j) refl l
+    judged_steady l = case_steady (judged_laws j) refl l

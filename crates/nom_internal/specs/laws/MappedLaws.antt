@@ -35,10 +35,10 @@ module _ {I A V P : Type 0} {w : Model I A} {IsOutput : V → P → Type 0} {Tak
 
   module _ {E : Type 0} {m : Meaning I V E} where
     pub map_lawful : IsLawful w m → IsLawful w (map_meaning IsOutput Takes m)
-    map_lawful l = case_lawful w w m l (map_case IsOutput Takes) map_laws
+    map_lawful l = case_lawful map_laws l
 
     pub map_steady : IsSteady w m → IsSteady w (map_meaning IsOutput Takes m)
-    map_steady l = case_steady w w m (map_case IsOutput Takes) map_laws refl l
+    map_steady l = case_steady map_laws refl l
 
 module _ {I A V E F : Type 0} {w : Model I A} {Makes : I → E → F → Type 0} {Grows : Type 0} where
   renamed_laws : CaseLaws true w w (renamed_case {V = V} Makes Grows)
@@ -60,7 +60,7 @@ module _ {I A V E F : Type 0} {w : Model I A} {Makes : I → E → F → Type 0}
 
   module _ {m : Meaning I V E} where
     pub renamed_lawful : IsLawful w m → IsLawful w (renamed_meaning Makes Grows m)
-    renamed_lawful l = case_lawful w w m l (renamed_case Makes Grows) renamed_laws
+    renamed_lawful l = case_lawful renamed_laws l
 
     pub renamed_steady : IsSteady w m → IsSteady w (renamed_meaning Makes Grows m)
-    renamed_steady l = case_steady w w m (renamed_case Makes Grows) renamed_laws refl l
+    renamed_steady l = case_steady renamed_laws refl l

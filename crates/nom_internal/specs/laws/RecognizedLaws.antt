@@ -100,9 +100,7 @@ module _ {I A V : Type 0} (w : Model I A) (l : InputLaws w) where
 
 module _ {I A V E : Type 0} {w : Model I A} (l : InputLaws w) {m : Meaning I V E} where
   pub recognized_lawful : IsLawful w m → IsLawful w (recognized_meaning w m)
-  recognized_lawful p = case_lawful w w m p (plain_case (λ _. false) (λ i. Passes (λ n (u : V) o. IsSliced w i n o)))
-      (plain_laws w (λ i n (u : V). IsSliced w i n) (sliced_laws w l) (λ _. false))
+  recognized_lawful p = case_lawful (plain_laws w (λ i n (u : V). IsSliced w i n) (sliced_laws w l) (λ _. false)) p
 
   pub recognized_steady : IsSteady w m → IsSteady w (recognized_meaning w m)
-  recognized_steady p = case_steady w w m (plain_case (λ _. false) (λ i. Passes (λ n (u : V) o. IsSliced w i n o)))
-      (plain_laws w (λ i n (u : V). IsSliced w i n) (sliced_laws w l) (λ _. false)) refl p
+  recognized_steady p = case_steady (plain_laws w (λ i n (u : V). IsSliced w i n) (sliced_laws w l) (λ _. false)) refl p

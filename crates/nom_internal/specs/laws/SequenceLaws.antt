@@ -126,14 +126,15 @@ module _ {I A P Q T E : Type 0} (w : Model I A) (l : InputLaws w) (tree : P → 
             (subst (λ z. GoesOn w tree M i z o) (sym yours) t.goes_on) r.fact;
       })
 
-module _ {I A P Q T E : Type 0} (w : Model I A) (l : InputLaws w) (tree : P → Q → T) (first_mode next_mode : Modes → Modes) (a : Meaning I P E)
-    (f : Family P I Q E) where
+module _ {I A P Q T E : Type 0} (w : Model I A) (tree : P → Q → T) (first_mode next_mode : Modes → Modes) (a : Meaning I P E) (f : Family P I Q E) where
   then_frugal : IsLawful w a → IsLawfulFamily w AnyKey f → (mode : Modes) (i : I) → w.IsKnown i → a.IsFrugal (first_mode mode) ×
       f.IsFrugal (next_mode mode) → (then_meaning w tree first_mode next_mode a f).may_run_out mode i → ⊥
   then_frugal p q mode i h g (RunsOutFirst r) = p.frugal (first_mode mode) i h g.0 r
   then_frugal p q mode i h g (RunsOutNext r) =
       (q.lawful r.tree tt).frugal (next_mode mode) r.rest (r.rest_is).known (q.frugal (next_mode mode) g.1 r.tree tt) r.fact
 
+module _ {I A P Q T E : Type 0} {w : Model I A} (l : InputLaws w) {tree : P → Q → T} {first_mode next_mode : Modes → Modes} {a : Meaning I P E}
+    (f : Family P I Q E) where
   pub then_lawful : IsLawful w a → IsLawfulFamily w AnyKey f → IsLawful w (then_meaning w tree first_mode next_mode a f)
   then_lawful p q = record {
     within = λ s. then_within w tree (a.answers s) (λ u. (f.at u).answers s) (λ u. (q.lawful u tt).within s);
@@ -141,7 +142,7 @@ module _ {I A P Q T E : Type 0} (w : Model I A) (l : InputLaws w) (tree : P → 
         (λ u. (q.lawful u tt).one_outcome s);
     alike = λ s. then_carries w tree false (a.answers s) (a.answers s) (λ u. (f.at u).answers s) (λ u. (f.at u).answers s) (p.alike s)
         (λ u. (q.lawful u tt).alike s);
-    frugal = then_frugal p q;
+    frugal = then_frugal w tree first_mode next_mode a f p q;
     settles = λ t. then_carries w tree true (a.answers true) (a.answers false) (λ u. (f.at u).answers true) (λ u. (f.at u).answers false)
         (p.settles t.0) (λ u. (q.lawful u tt).settles (q.settles t.1 u tt));
     blames_alike = λ t s. then_blames w l tree (a.answers s) (a.answers (not s)) (a.blames s) (a.blames (not s)) (λ u. (f.at u).answers s)
@@ -160,7 +161,7 @@ module _ {I A P Q T E : Type 0} (w : Model I A) (l : InputLaws w) (tree : P → 
 module _ {I A P Q T E : Type 0} {w : Model I A} (l : InputLaws w) {tree : P → Q → T} {first_mode second_mode : Modes → Modes} {a : Meaning I P E}
     {b : Meaning I Q E} where
   pub sequence_lawful : IsLawful w a → IsLawful w b → IsLawful w (sequence_meaning w tree first_mode second_mode a b)
-  sequence_lawful p q = then_lawful w l tree first_mode second_mode a (always b) p (always_lawful q)
+  sequence_lawful p q = then_lawful l (always b) p (always_lawful q)
 
   pub sequence_steady : IsSteady w a → IsSteady w b → IsSteady w (sequence_meaning w tree first_mode second_mode a b)
-  sequence_steady p q = then_steady w l tree first_mode second_mode a (always b) p (λ _. q)
+  sequence_steady p q = then_steady l (always b) p (λ _. q)
