@@ -1,12 +1,11 @@
 -- The parts of a sum, and what stands in its brackets.
-use Rattle.std.proofs.Common.{◌≡◌, ℕ, ◌-◌, zero, suc, false, List, length, Err, Some, None, refl, sym, ◌∙◌, ap, subst, arith}
+use Rattle.std.proofs.Common.{◌≡◌, ℕ, ◌-◌, zero, suc, List, length, Err, Some, None, refl, sym, ◌∙◌, ap, subst, arith}
 use mathlib.Core.HProp.{h_prop_ext}
 use mathlib.Core.Path.{fun_ext}
 use Rattle.std.specs.Prelude.{◌==◌, ◌↔◌, chars, codes, Contains, IsTrue, encode_utf8_all}
 use Rattle.std.specs.Int.{w64}
 use Rattle.std.specs.Str.Parse.{ParsesSigned}
 use Rattle.std.specs.Char.{IsScalar, len_utf8}
-use Rattle.nom_error.specs.Modes.{with_outputs}
 use Rattle.nom_error.specs.declared.answer.Err.TheVariants as Answered
 use Rattle.nom_error.specs.declared.kind.ErrorKind.{ErrorKind}
 use Rattle.nom_error.specs.declared.kind.ErrorKind.TheVariants as Kind
@@ -26,9 +25,7 @@ use Rattle.nom_bytes.specs.Predicates.{one_answer}
 use Rattle.nom_character.specs.ClassRuns.{class_lawful}
 use Rattle.nom_character_first.specs.declared.first.Blame.TheVariants.{OfChar, OfKind}
 use Rattle.nom_character_first.specs.laws.FirstItemLaws.{first_item_lawful, test_is_fixed}
-use Rattle.nom_sequence.specs.Sequences.{terminated_meaning}
 use Rattle.nom_branch.specs.laws.AlternativeLaws.{choice_lawful, next_lawful}
-use Rattle.nom_combinator.specs.Verdicts.{cut_meaning}
 use Rattle.nom_combinator.specs.laws.VerdictLaws.{cut_lawful}
 use Rattle.nom_ends.specs.laws.EndLaws.{fail_lawful}
 use Rattle.nom_operators.specs.declared.operation.Assoc.{Assoc}
@@ -82,20 +79,13 @@ one_level = λ t k l p q. sym p.level_is ∙ (ap (λ (z : sign_view.Value). z.0)
 module _ (Gives : Text → Told Worth → Type 0) where
   operand_lawful : IsParser text_model view Gives Any → IsLawful text_model (operand_by 40 41 (func_of view Any Gives)).meaning
   operand_lawful p =
-      let inner = cut_meaning (func_of view Any Gives).meaning in
-      let closes = cut_meaning (char_of 41).meaning in
-      let behind = sequence_lawful text_model text_lawful (λ u v. u) (λ o. o) (with_outputs false) inner closes
-      (cut_lawful text_model (func_of view Any Gives).meaning (func_lawful text_model view Gives Any p))
-      (cut_lawful text_model (char_of 41).meaning (char_lawful 41)) in
-      let brackets = sequence_lawful text_model text_lawful (λ u v. v) (with_outputs false) (λ o. o) (char_of 40).meaning
-      (terminated_meaning text_model inner closes) (char_lawful 40) behind in
+      let behind = sequence_lawful text_lawful (cut_lawful (func_lawful text_model view Gives Any p)) (cut_lawful (char_lawful 41)) in
+      let brackets = sequence_lawful text_lawful (char_lawful 40) behind in
       choice_lawful faults (next_lawful faults brackets (func_lawful text_model view (Given IsNumber digits_of) Any (number_part Any (λ i. tt))))
 
   sum_lawful : IsParser text_model view Gives Any → IsLawful text_model (sum_in Any Gives).meaning
-  sum_lawful p = precedence_lawful text_model text_lawful faults (Unit {0}) (HasLevel operator_of.IsOutput (λ (o : ℕ × Sign). o.0)) (length levels)
-      minus_of.meaning (operand_by 40 41 (func_of view Any Gives)).meaning none_of.meaning operator_of.meaning one_level
-      (func_lawful text_model text_view (Given IsPlace (char_of 45)) Any (minus_part Any (λ i. tt)))
-      (operand_lawful p)
+  sum_lawful p = precedence_lawful text_lawful faults (length levels) one_level
+      (func_lawful text_model text_view (Given IsPlace (char_of 45)) Any (minus_part Any (λ i. tt))) (operand_lawful p)
       (fail_lawful (Unit {0}) text_model faults)
       (func_lawful text_model sign_view (Given IsLeveled (one_of_by (codes "^*/+-") Kind.OneOf)) Any (operator_part Any (λ i. tt)))
 

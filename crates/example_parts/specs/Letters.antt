@@ -92,7 +92,7 @@ module _ {I : Type 0} (w : Model I ℕ) where
 
 module _ {I E : Type 0} (w : Model I ℕ) (errs : Errors I E) where
   pub letter_lawful : IsLawful w (letter_meaning w errs)
-  letter_lawful = leaf_lawful w (letters w) (letter_laws w) (Unit {0}) (λ i. errs.of_kind i Char) errs.grows
+  letter_lawful = leaf_lawful (letter_laws w)
 
   pub letter_steady : IsSteady w (letter_meaning w errs)
-  letter_steady = leaf_steady w (letters w) (letter_laws w) (Unit {0}) (λ i. errs.of_kind i Char) errs.grows
+  letter_steady = leaf_steady (letter_laws w)

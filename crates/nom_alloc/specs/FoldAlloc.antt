@@ -23,13 +23,9 @@ LacksSome {G} Gives = (g : G) × LacksFor (Gives g)
 abbrev pub fold_many0_alloc_meaning : {I A V E : Type 0} → Model I A → Errors I E → (Premise Grows : Type 0) → Meaning I V E → Meaning I (List V) E
 fold_many0_alloc_meaning w errs Premise Grows m = under Premise (items_meaning w errs (any_limits Kind.Many0) Grows m)
 
-module _ {I A V E : Type 0} (w : Model I A) (l : InputLaws w) (errs : Errors I E) (Premise Grows : Type 0) (m : Meaning I V E) where
+module _ {I A V E : Type 0} {w : Model I A} (l : InputLaws w) (errs : Errors I E) {Premise Grows : Type 0} {m : Meaning I V E} where
   pub fold_many0_alloc_lawful : IsLawful w m → IsLawful w (fold_many0_alloc_meaning w errs Premise Grows m)
-  fold_many0_alloc_lawful p =
-      let all = items_meaning w errs (any_limits Kind.Many0) Grows m in
-      under_lawful w Premise all (items_lawful w l errs (any_limits Kind.Many0) Grows m p)
+  fold_many0_alloc_lawful p = under_lawful (items_lawful l errs (any_limits Kind.Many0) p)
 
   pub fold_many0_alloc_steady : IsSteady w m → IsSteady w (fold_many0_alloc_meaning w errs Premise Grows m)
-  fold_many0_alloc_steady p =
-      let all = items_meaning w errs (any_limits Kind.Many0) Grows m in
-      under_steady w Premise all (items_steady w l errs (any_limits Kind.Many0) Grows m p)
+  fold_many0_alloc_steady p = under_steady (items_steady l errs (any_limits Kind.Many0) p)

@@ -132,8 +132,7 @@ impl<
         Ok((rest, carried(last)))
     }
 
-    ghost lawful = { λ s k. fold_many0_alloc_lawful I.model I.lawful F.Error.errors (AreCallable (H.pre s.1) (G.pre s.2)) (LacksSome G.post) (F.meaning s.0)
-        (F.lawful s.0 k.0) };
+    ghost lawful = { λ s k. fold_many0_alloc_lawful I.lawful F.Error.errors (F.lawful s.0 k.0) };
 }
 
 impl<
@@ -150,6 +149,5 @@ impl<
 
     ghost pinned = { λ p k h. folds_pinned (F.pinned p.parser k.0 h.0) h.1 };
 
-    ghost steady = { λ s k. fold_many0_alloc_steady I.model I.lawful F.Error.errors (AreCallable (H.pre s.1) (G.pre s.2)) (LacksSome G.post) (F.meaning s.0)
-        (F.steady s.0 k.0) };
+    ghost steady = { λ s k. fold_many0_alloc_steady I.lawful F.Error.errors (F.steady s.0 k.0) };
 }

@@ -151,7 +151,7 @@ where
         }
     }
 
-    ghost lawful = { λ s k. bits_of_lawful I.model I.lawful P.Error.converts (P.meaning s) (P.lawful s k) };
+    ghost lawful = { λ s k. bits_of_lawful I.lawful P.Error.converts (P.lawful s k) };
 }
 
 impl<I: Input<Item = u8>, P: StreamParser<(I, usize)> + Drop, E: ParseError<I>> StreamParser<I>
@@ -163,7 +163,7 @@ where
 
     ghost pinned = { λ p. P.pinned p.parser };
 
-    ghost steady = { λ s k. bits_of_steady I.model I.lawful P.Error.converts (P.meaning s) (P.steady s k) };
+    ghost steady = { λ s k. bits_of_steady I.lawful P.Error.converts (P.steady s k) };
 }
 
 /// A parser of bytes among parsers of bits; made by `bytes`. `E` is the type of its errors.
@@ -209,7 +209,7 @@ where
         }
     }
 
-    ghost lawful = { λ s k. bytes_of_lawful I.model I.lawful I.values E.errors P.Error.converts (P.meaning s) (P.lawful s k) };
+    ghost lawful = { λ s k. bytes_of_lawful I.lawful I.values E.errors P.Error.converts (P.lawful s k) };
 }
 
 impl<I: Input<Item = u8>, P: StreamParser<I> + Drop, E: ParseError<(I, usize)>> StreamParser<
@@ -222,5 +222,5 @@ where
 
     ghost pinned = { λ p. P.pinned p.parser };
 
-    ghost steady = { λ s k. bytes_of_steady I.model I.lawful I.values E.errors P.Error.converts (P.meaning s) (P.steady s k) };
+    ghost steady = { λ s k. bytes_of_steady I.lawful I.values E.errors P.Error.converts (P.steady s k) };
 }

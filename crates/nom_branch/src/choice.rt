@@ -52,13 +52,12 @@ impl<
     F: StreamParser<I>,
     G: StreamParser<I, Output = F::Output, Error = F::Error>,
 > StreamParser<I> for FirstOf<F, G> {
-    ghost use Rattle.nom_branch.specs.laws.AlternativeLaws.{stays, next_stays, choice_steady};
+    ghost use Rattle.nom_branch.specs.laws.AlternativeLaws.{next_steady, choice_steady};
     ghost use Rattle.nom_internal.specs.Pinned.{either_pinned};
 
     ghost Pins = { λ p. F.Pins p.first × G.Pins p.second };
 
     ghost pinned = { λ p k h. either_pinned (F.pinned p.first k.0 h.0) (G.pinned p.second k.1 h.1) };
 
-    ghost steady = { λ s k. choice_steady F.Error.errors
-        (next_stays F.Error.errors (stays (F.meaning s.0) (F.steady s.0 k.0)) (stays (G.meaning s.1) (G.steady s.1 k.1))) };
+    ghost steady = { λ s k. choice_steady F.Error.errors (next_steady F.Error.errors (F.steady s.0 k.0) (G.steady s.1 k.1)) };
 }

@@ -77,8 +77,7 @@ where
         }
     }
 
-    ghost lawful = { λ s k. escaped_lawful I.model I.lawful F.Error.errors (λ x. I.Item.code x ≡ s.1) (F.meaning s.0) (G.meaning s.2)
-        (F.lawful s.0 k.1.0) (G.lawful s.2 k.1.1.1) };
+    ghost lawful = { λ s k. escaped_lawful I.lawful F.Error.errors (λ x. I.Item.code x ≡ s.1) (F.lawful s.0 k.1.0) (G.lawful s.2 k.1.1.1) };
 }
 
 impl<I: Input, F: StreamParser<I> + Drop, G: StreamParser<I, Error = F::Error> + Drop> StreamParser<
@@ -94,6 +93,5 @@ where
 
     ghost pinned = { λ p k h. slice_pinned I.views };
 
-    ghost steady = { λ s k. escaped_steady I.model I.lawful F.Error.errors (λ x. I.Item.code x ≡ s.1) (F.meaning s.0) (G.meaning s.2)
-        (F.steady s.0 k.1.0) (G.steady s.2 k.1.1.1) };
+    ghost steady = { λ s k. escaped_steady I.lawful F.Error.errors (λ x. I.Item.code x ≡ s.1) (F.steady s.0 k.1.0) (G.steady s.2 k.1.1.1) };
 }

@@ -144,8 +144,7 @@ where
         }
     }
 
-    ghost lawful = { λ s k. escaped_transform_lawful I.model I.lawful F.Error.errors (λ x. C.code x ≡ s.1) (F.meaning s.0) (G.meaning s.2)
-        (F.lawful s.0 k.1.0) (G.lawful s.2 k.1.1.1) };
+    ghost lawful = { λ s k. escaped_transform_lawful I.lawful F.Error.errors (λ x. C.code x ≡ s.1) (F.lawful s.0 k.1.0) (G.lawful s.2 k.1.1.1) };
 }
 
 impl<
@@ -168,6 +167,5 @@ where
     ghost pinned = { λ p k h. texts_pinned X.parts F.Output.added G.Output.added X.views F.Output.views G.Output.views
         (F.pinned p.normal k.1.0 h.0) (G.pinned p.transform k.1.1.1 h.1) };
 
-    ghost steady = { λ s k. escaped_transform_steady I.model I.lawful F.Error.errors (λ x. C.code x ≡ s.1) (F.meaning s.0) (G.meaning s.2)
-        (F.steady s.0 k.1.0) (G.steady s.2 k.1.1.1) };
+    ghost steady = { λ s k. escaped_transform_steady I.lawful F.Error.errors (λ x. C.code x ≡ s.1) (F.steady s.0 k.1.0) (G.steady s.2 k.1.1.1) };
 }

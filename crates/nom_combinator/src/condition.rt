@@ -44,7 +44,7 @@ impl<I: Items, F: Parser<I> + Drop> Parser<I> for Cond<F> {
         }
     }
 
-    ghost lawful = { cond_lawful I.model F.meaning F.lawful };
+    ghost lawful = { cond_lawful F.lawful };
 }
 
 impl<I: Items, F: StreamParser<I> + Drop> StreamParser<I> for Cond<F> {
@@ -52,5 +52,5 @@ impl<I: Items, F: StreamParser<I> + Drop> StreamParser<I> for Cond<F> {
 
     ghost pinned = { λ p. cond_pinned F.state F.meaning F.IsOutput F.Pins F.pinned p.parser };
 
-    ghost steady = { cond_steady I.model F.meaning F.steady };
+    ghost steady = { cond_steady F.steady };
 }

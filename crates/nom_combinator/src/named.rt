@@ -67,7 +67,7 @@ where
         }
     }
 
-    ghost lawful = { λ s k. renamed_lawful I.model (λ i. F.Error.contexts.named i s.0) F.Error.contexts.grows (F.meaning s.1) (F.lawful s.1 k) };
+    ghost lawful = { λ s k. renamed_lawful (F.lawful s.1 k) };
 }
 
 impl<I: Items, F: StreamParser<I> + Drop> StreamParser<I> for Context<F>
@@ -78,5 +78,5 @@ where
 
     ghost pinned = { λ p k h. F.pinned p.parser k h };
 
-    ghost steady = { λ s k. renamed_steady I.model (λ i. F.Error.contexts.named i s.0) F.Error.contexts.grows (F.meaning s.1) (F.steady s.1 k) };
+    ghost steady = { λ s k. renamed_steady (F.steady s.1 k) };
 }

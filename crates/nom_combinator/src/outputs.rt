@@ -68,8 +68,7 @@ impl<I: Items, F: Parser<I> + Drop, G: Fn(&F::Output) -> bool> Parser<I> for Ver
         }
     }
 
-    ghost lawful = { λ s k. judged_lawful I.model (F.IsOutput s.0) (λ o. (p : Bor F.Output) → p.now ≡ o → G.pre s.1 p) (FnReturnsAt G.Fn s.1) (λ b. b)
-        (λ i _. F.Error.errors.of_kind i Kind.Verify) F.Error.errors.grows (F.meaning s.0) k.1 (F.lawful s.0 k.0) };
+    ghost lawful = { λ s k. judged_lawful k.1 (F.lawful s.0 k.0) };
 }
 
 impl<I: Items, F: StreamParser<I> + Drop, G: Fn(&F::Output) -> bool> StreamParser<I>
@@ -78,8 +77,7 @@ impl<I: Items, F: StreamParser<I> + Drop, G: Fn(&F::Output) -> bool> StreamParse
 
     ghost pinned = { λ p k h. tested_pinned (F.pinned p.parser k.0 h) };
 
-    ghost steady = { λ s k. judged_steady I.model (F.IsOutput s.0) (λ o. (p : Bor F.Output) → p.now ≡ o → G.pre s.1 p) (FnReturnsAt G.Fn s.1) (λ b. b)
-        (λ i _. F.Error.errors.of_kind i Kind.Verify) F.Error.errors.grows (F.meaning s.0) k.1 (F.steady s.0 k.0) };
+    ghost steady = { λ s k. judged_steady k.1 (F.steady s.0 k.0) };
 }
 
 /// A value in the place of what a parser accepts; made by `value`. A clone of it is made where outputs
@@ -115,7 +113,7 @@ impl<I: Items, O: Clone, F: Parser<I> + Drop> Parser<I> for Value<O, F> {
         }
     }
 
-    ghost lawful = { λ s k. value_lawful I.model s.0 (O.is_infallible s.0) (F.meaning s.1) (F.lawful s.1 k) };
+    ghost lawful = { λ s k. value_lawful (F.lawful s.1 k) };
 }
 
 impl<I: Items, O: Clone + Viewed, F: StreamParser<I> + Drop> StreamParser<I> for Value<O, F> {
@@ -123,5 +121,5 @@ impl<I: Items, O: Clone + Viewed, F: StreamParser<I> + Drop> StreamParser<I> for
 
     ghost pinned = { λ p k h. clones_pinned h };
 
-    ghost steady = { λ s k. value_steady I.model s.0 (O.is_infallible s.0) (F.meaning s.1) (F.steady s.1 k) };
+    ghost steady = { λ s k. value_steady (F.steady s.1 k) };
 }

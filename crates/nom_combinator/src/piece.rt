@@ -43,7 +43,7 @@ impl<I: Input, F: Parser<I> + Drop> Parser<I> for Recognize<F> {
         Ok((rest, slice))
     }
 
-    ghost lawful = { λ s k. recognized_lawful I.model I.lawful (F.meaning s) (F.lawful s k) };
+    ghost lawful = { λ s k. recognized_lawful I.lawful (F.lawful s k) };
 }
 
 impl<I: Input, F: StreamParser<I> + Drop> StreamParser<I> for Recognize<F> {
@@ -51,7 +51,7 @@ impl<I: Input, F: StreamParser<I> + Drop> StreamParser<I> for Recognize<F> {
 
     ghost pinned = { λ p k h. slice_pinned I.views };
 
-    ghost steady = { λ s k. recognized_steady I.model I.lawful (F.meaning s) (F.steady s k) };
+    ghost steady = { λ s k. recognized_steady I.lawful (F.steady s k) };
 }
 
 /// A parser's output, and what it consumes; made by `consumed`.
@@ -82,7 +82,7 @@ impl<I: Input, F: Parser<I> + Drop> Parser<I> for Consumed<F> {
         Ok((rest, combine(slice, output)))
     }
 
-    ghost lawful = { λ s k. consumed_lawful I.model (F.meaning s) I.lawful (F.lawful s k) };
+    ghost lawful = { λ s k. consumed_lawful I.lawful (F.lawful s k) };
 }
 
 impl<I: Input, F: StreamParser<I> + Drop> StreamParser<I> for Consumed<F> {
@@ -90,5 +90,5 @@ impl<I: Input, F: StreamParser<I> + Drop> StreamParser<I> for Consumed<F> {
 
     ghost pinned = { λ p k h. pair_pinned (slice_pinned I.views) (F.pinned p.parser k h) };
 
-    ghost steady = { λ s k. consumed_steady I.model (F.meaning s) I.lawful (F.steady s k) };
+    ghost steady = { λ s k. consumed_steady I.lawful (F.steady s k) };
 }

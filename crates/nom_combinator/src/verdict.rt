@@ -49,7 +49,7 @@ impl<I: Items, F: Parser<I> + Drop> Parser<I> for Cut<F> {
         }
     }
 
-    ghost lawful = { λ s k. cut_lawful I.model (F.meaning s) (F.lawful s k) };
+    ghost lawful = { λ s k. cut_lawful (F.lawful s k) };
 }
 
 impl<I: Items, F: StreamParser<I> + Drop> StreamParser<I> for Cut<F> {
@@ -57,7 +57,7 @@ impl<I: Items, F: StreamParser<I> + Drop> StreamParser<I> for Cut<F> {
 
     ghost pinned = { λ p. F.pinned p.parser };
 
-    ghost steady = { λ s k. cut_steady I.model (F.meaning s) (F.steady s k) };
+    ghost steady = { λ s k. cut_steady (F.steady s k) };
 }
 
 /// A parser, or nothing where it refuses; made by `opt`.
@@ -96,7 +96,7 @@ impl<I: Items, F: Parser<I> + Drop> Parser<I> for Opt<F> {
         }
     }
 
-    ghost lawful = { λ s k. opt_lawful I.model (F.meaning s) (F.lawful s k) };
+    ghost lawful = { λ s k. opt_lawful (F.lawful s k) };
 }
 
 impl<I: Items, F: StreamParser<I> + Drop> StreamParser<I> for Opt<F> {
@@ -104,7 +104,7 @@ impl<I: Items, F: StreamParser<I> + Drop> StreamParser<I> for Opt<F> {
 
     ghost pinned = { λ p k h. opt_pinned (F.pinned p.parser k h) };
 
-    ghost steady = { λ s k. opt_steady I.model (F.meaning s) (F.steady s k) };
+    ghost steady = { λ s k. opt_steady (F.steady s k) };
 }
 
 /// A parser of which nothing is consumed; made by `peek`.
@@ -135,7 +135,7 @@ impl<I: Items, F: Parser<I> + Drop> Parser<I> for Peek<F> {
         Ok((input, output))
     }
 
-    ghost lawful = { λ s k. peek_lawful I.model (F.meaning s) (F.lawful s k) };
+    ghost lawful = { λ s k. peek_lawful (F.lawful s k) };
 }
 
 impl<I: Items, F: StreamParser<I> + Drop> StreamParser<I> for Peek<F> {
@@ -143,7 +143,7 @@ impl<I: Items, F: StreamParser<I> + Drop> StreamParser<I> for Peek<F> {
 
     ghost pinned = { λ p. F.pinned p.parser };
 
-    ghost steady = { λ s k. peek_steady I.model (F.meaning s) (F.steady s k) };
+    ghost steady = { λ s k. peek_steady (F.steady s k) };
 }
 
 /// A parser that must refuse; made by `not`.
@@ -182,7 +182,7 @@ impl<I: Items, F: Parser<I> + Drop> Parser<I> for Not<F> {
         }
     }
 
-    ghost lawful = { λ s k. not_lawful I.model (F.meaning s) (λ i. F.Error.errors.of_kind i Kind.Not) F.Error.errors.grows (F.lawful s k) };
+    ghost lawful = { λ s k. not_lawful (F.lawful s k) };
 }
 
 impl<I: Items, F: StreamParser<I> + Drop> StreamParser<I> for Not<F> {
@@ -192,7 +192,7 @@ impl<I: Items, F: StreamParser<I> + Drop> StreamParser<I> for Not<F> {
 
     ghost pinned = { λ p k h. value_pinned };
 
-    ghost steady = { λ s k. not_steady I.model (F.meaning s) (λ i. F.Error.errors.of_kind i Kind.Not) F.Error.errors.grows (F.steady s k) };
+    ghost steady = { λ s k. not_steady (F.steady s k) };
 }
 
 /// A parser that runs as on a complete input; made by `complete`.
@@ -232,5 +232,5 @@ impl<I: Items, F: Parser<I> + Drop> Parser<I> for MakeComplete<F> {
         }
     }
 
-    ghost lawful = { λ s k. complete_lawful I.model (F.meaning s) (λ i. F.Error.errors.of_kind i Kind.Complete) F.Error.errors.grows (F.lawful s k) };
+    ghost lawful = { λ s k. complete_lawful (F.lawful s k) };
 }

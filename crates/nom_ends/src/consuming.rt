@@ -1,9 +1,7 @@
 //! A part that leaves nothing.
-ghost use Rattle.std.specs.Prelude.{false};
-ghost use Rattle.nom_error.specs.Modes.{with_outputs};
 ghost use Rattle.nom_internal.specs.laws.SequenceLaws.{sequence_lawful};
 ghost use Rattle.nom_ends.specs.laws.AllLaws.{eof_lawful};
-ghost use Rattle.nom_ends.specs.Ends.{all_consuming_meaning, eof_meaning};
+ghost use Rattle.nom_ends.specs.Ends.{all_consuming_meaning};
 
 use crate::left::Eof;
 use nom_error::answer::PResult;
@@ -40,6 +38,5 @@ impl<I: Input, F: Parser<I> + Drop> Parser<I> for AllConsuming<F> {
         Ok((rest, output))
     }
 
-    ghost lawful = { λ s k. sequence_lawful I.model I.lawful (λ u v. u) (λ o. o) (with_outputs false) (F.meaning s) (eof_meaning I.model F.Error.errors)
-        (F.lawful s k.0) (eof_lawful I.model F.Error.errors) };
+    ghost lawful = { λ s k. sequence_lawful I.lawful (F.lawful s k.0) (eof_lawful I.model F.Error.errors) };
 }

@@ -2,7 +2,6 @@
 ghost use Rattle.std.specs.Prelude.{◌≡◌};
 ghost use Rattle.nom_internal.specs.Cloned.{ClonesEqual, clones_pinned};
 ghost use Rattle.nom_internal.specs.Pinned.{value_pinned};
-ghost use Rattle.nom_internal.specs.Success.{success_steady};
 ghost use Rattle.nom_ends.specs.Ends.{clone_meaning, fail_meaning};
 ghost use Rattle.nom_ends.specs.laws.EndLaws.{clone_lawful, fail_lawful, fail_steady};
 
@@ -56,7 +55,7 @@ impl<I: Items, O: Clone + Viewed, E: ParseError<I>> StreamParser<I> for Success<
 
     ghost pinned = { λ p k h. clones_pinned h };
 
-    ghost steady = { λ value k. success_steady E I.model value };
+    ghost steady = { λ value k. clone_steady E I.model value (O.is_infallible value) };
 }
 
 /// A refusal, made by `fail`.

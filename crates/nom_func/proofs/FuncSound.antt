@@ -152,7 +152,7 @@ module _ {I A V O E : Type 0} {w : Model I A} {view : View O} {IsOutput : V → 
       ((i : I) (r : Result (I × O) (Answer.Err E E Needed)) → w.IsKnown i → Gives i r → ParsesMeaning w IsOutput m true i r) → IsStreamParser w view Gives Takes
   stream_func_sound lawful steady never pinned takes shows =
       stream_parser_by {IsError = λ i. m.blames true i} {RunsOut = λ i. m.may_run_out (modes true true true) i}
-      (lawful.one_outcome true) pinned takes shows steady (λ i h a. lawful.never_fails true never true i h a)
+      (lawful.one_outcome true) pinned takes shows steady.stays (λ i h a. lawful.never_fails true never true i h a)
 
 module _ {I A O E : Type 0} (w : Model I A) (view : View O) where
   -- an answer tells one outcome
@@ -261,6 +261,6 @@ module _ {I A V O E : Type 0} {w : Model I A} {view : View O} {IsOutput : V → 
         let a = meant_by w view IsOutput i (m.answers true i) (m.blames true i) (m.may_run_out (modes true true true) i) r o shown t in
         let b = meant_by w view IsOutput j (m.answers true j) (m.blames true j) (m.may_run_out (modes true true true) j) q p by u in
         let large : a.outcome ≡ TooLarge → ⊥ = λ e. lawful.never_fails true never true i ki (subst (λ z. m.answers true i z) e a.answered) in
-        let one = steady i j a.outcome b.outcome ki kj longer a.answered (retold_decided view IsOutput a.outcome o large a.retold k) b.answered in
+        let one = steady.stays i j a.outcome b.outcome ki kj longer a.answered (retold_decided view IsOutput a.outcome o large a.retold k) b.answered in
         retold_once view IsOutput pinned b.outcome o p (subst (λ z. Retold view IsOutput z o) one a.retold) b.retold);
   }

@@ -129,7 +129,7 @@ module _ {I A V O E : Type 0} (w : Model I A) (IsOutput : V → O → Type 0) (m
       answered = a;
       decided = λ _. not_undecided o s;
       shown = shown_in_whole w IsOutput (m.blames true x) x whole o r r' rest s;
-      stays = λ t z b. steady x whole o z p.known known (record { more = p.rest; added = more p.rest; whole = p.whole; mark_is = sym p.mark_is }) a
+      stays = λ t z b. steady.stays x whole o z p.known known (record { more = p.rest; added = more p.rest; whole = p.whole; mark_is = sym p.mark_is }) a
           (decided_from o t (not_undecided o s)) b;
     })
 

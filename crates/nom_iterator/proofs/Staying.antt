@@ -37,9 +37,9 @@ module _ {I A V E : Type 0} (w : Model I A) (l : InputLaws w) (m : Meaning I V E
       AreItems w (m.answers true) limit x ts → AreItems w (m.answers true) limit y us → (more : List V) × (us ≡ ts ++ more)
   running_stay k zero x y ts us kx ky r a b = ([], b ∙ ap (λ z. z ++ []) (sym a))
   running_stay k (suc n) x y [] us kx ky r a b = (us, refl)
-  running_stay k (suc n) x y (t ∷ ts) [] kx ky r a b = absurd (first_ends w l (m.answers true) true k x y t a.0 a.1 kx ky r a.2 a.3 b.0 b.1 b.2)
+  running_stay k (suc n) x y (t ∷ ts) [] kx ky r a b = absurd (first_ends w l (m.answers true) true k.stays x y t a.0 a.1 kx ky r a.2 a.3 b.0 b.1 b.2)
   running_stay k (suc n) x y (t ∷ ts) (u ∷ us) kx ky r a b =
-      let first = first_kept w l (m.answers true) true k x y t a.0 a.1 kx ky r a.2 a.3 u b.0 b.1 b.2 b.3 in
+      let first = first_kept w l (m.answers true) true k.stays x y t a.0 a.1 kx ky r a.2 a.3 u b.0 b.1 b.2 b.3 in
       let others = running_stay k n a.1 b.1 ts us (a.3).known (b.3).known first.1 a.4 b.4 in
       (others.0, cc (first.0, others.1))
 

@@ -218,7 +218,7 @@ module _ {I A U W E : Type 0} (w : Model I A) (l : InputLaws w) (IsControl : A �
 
   asked : (k : ℕ) (j : I) → w.IsKnown j → Asked k j → (mode.outputs ≡ true) × Piece_at j
   asked k j h (inl r) = asked_by k j r.reply h r.replied r.fact
-  asked k j h (inr r) = absurd ((next_piece_lawful w l IsControl None m g p q).frugal mode j h
+  asked k j h (inr r) = absurd ((next_piece_lawful l IsControl None p q).frugal mode j h
       (λ _ x. x, (frugal.0 (with_outputs mode.outputs (with_errors false mode)), (λ _ x. x, frugal.1 mode))) r.1)
 
   walked : (k : ℕ) (i : I) (vs : List (Piece U W)) (n : ℕ) → w.IsKnown i →

@@ -46,7 +46,7 @@ impl<I: Items, A: Allocator + Copy, F: Parser<I> + Drop> Parser<I> for Count<A, 
         items_exactly::<OM, I, F, Vec<F::Output, A>>(&mut self.parser, input, none, self.count)
     }
 
-    ghost lawful = { λ s k. count_lawful I.model I.lawful F.Error.errors s.0 (F.meaning s.1) (F.lawful s.1 k) };
+    ghost lawful = { λ s k. count_lawful I.lawful F.Error.errors s.0 (F.lawful s.1 k) };
 }
 
 impl<I: Items, A: Allocator + Copy, F: StreamParser<I> + Drop> StreamParser<I> for Count<A, F> {
@@ -57,7 +57,7 @@ impl<I: Items, A: Allocator + Copy, F: StreamParser<I> + Drop> StreamParser<I> f
 
     ghost pinned = { λ p k h. list_pinned (F.pinned p.parser k h) };
 
-    ghost steady = { λ s k. count_steady I.model I.lawful F.Error.errors s.0 (F.meaning s.1) (F.steady s.1 k) };
+    ghost steady = { λ s k. count_steady I.lawful F.Error.errors s.0 (F.steady s.1 k) };
 }
 
 /// Items until one is refused, as many as the bounds say; made by `many_m_n`.
@@ -102,7 +102,7 @@ impl<I: Input, A: Allocator + Copy, F: Parser<I> + Drop> Parser<I> for ManyMN<A,
         items::<OM, OM::Error, I, F, Vec<F::Output, A>>(&mut self.parser, input, none, limits)
     }
 
-    ghost lawful = { λ s k. many_m_n_lawful I.model I.lawful F.Error.errors s.0 s.1 (F.meaning s.2) (F.lawful s.2 k) };
+    ghost lawful = { λ s k. many_m_n_lawful I.lawful F.Error.errors s.0 s.1 (F.lawful s.2 k) };
 }
 
 impl<I: Input, A: Allocator + Copy, F: StreamParser<I> + Drop> StreamParser<I> for ManyMN<A, F> {
@@ -113,5 +113,5 @@ impl<I: Input, A: Allocator + Copy, F: StreamParser<I> + Drop> StreamParser<I> f
 
     ghost pinned = { λ p k h. list_pinned (F.pinned p.parser k h) };
 
-    ghost steady = { λ s k. many_m_n_steady I.model I.lawful F.Error.errors s.0 s.1 (F.meaning s.2) (F.steady s.2 k) };
+    ghost steady = { λ s k. many_m_n_steady I.lawful F.Error.errors s.0 s.1 (F.steady s.2 k) };
 }

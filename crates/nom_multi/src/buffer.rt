@@ -46,7 +46,7 @@ impl<'a, I: Items, T: Drop, F: Parser<I, Output = T> + Drop> Parser<I> for Fill<
         fill_buffer::<OM, I, T, F>(&mut self.parser, self.buffer, input)
     }
 
-    ghost lawful = { λ s k. fill_lawful I.model I.lawful F.Error.errors s.1 (F.meaning s.0) (F.lawful s.0 k) };
+    ghost lawful = { λ s k. fill_lawful I.lawful F.Error.errors s.1 (F.lawful s.0 k) };
 }
 
 impl<'a, I: Items, T: Viewed + Drop, F: StreamParser<I, Output = T> + Drop> StreamParser<I>
@@ -57,7 +57,7 @@ impl<'a, I: Items, T: Viewed + Drop, F: StreamParser<I, Output = T> + Drop> Stre
 
     ghost pinned = { λ p k h. done_pinned };
 
-    ghost steady = { λ s k. fill_steady I.model I.lawful F.Error.errors s.1 (F.meaning s.0) (F.steady s.0 k) };
+    ghost steady = { λ s k. fill_steady I.lawful F.Error.errors s.1 (F.steady s.0 k) };
 }
 
 /// Runs a parser as often as a buffer is long, and writes its outputs at the front of the buffer, one

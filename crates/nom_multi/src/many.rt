@@ -50,7 +50,7 @@ impl<I: Input, A: Allocator + Copy, F: Parser<I> + Drop> Parser<I> for Many0<A, 
         items::<OM, Check, I, F, Vec<F::Output, A>>(&mut self.parser, input, none, limits)
     }
 
-    ghost lawful = { λ s k. many0_lawful I.model I.lawful F.Error.errors (F.meaning s) (F.lawful s k) };
+    ghost lawful = { λ s k. many0_lawful I.lawful F.Error.errors (F.lawful s k) };
 }
 
 impl<I: Input, A: Allocator + Copy, F: StreamParser<I> + Drop> StreamParser<I> for Many0<A, F> {
@@ -61,7 +61,7 @@ impl<I: Input, A: Allocator + Copy, F: StreamParser<I> + Drop> StreamParser<I> f
 
     ghost pinned = { λ p k h. list_pinned (F.pinned p.parser k h) };
 
-    ghost steady = { λ s k. many0_steady I.model I.lawful F.Error.errors (F.meaning s) (F.steady s k) };
+    ghost steady = { λ s k. many0_steady I.lawful F.Error.errors (F.steady s k) };
 }
 
 /// Items until one is refused, and one at least; made by `many1`.
@@ -114,7 +114,7 @@ impl<I: Input, A: Allocator + Copy, F: Parser<I> + Drop> Parser<I> for Many1<A, 
         items::<OM, Check, I, F, Vec<F::Output, A>>(&mut self.parser, rest, first, any)
     }
 
-    ghost lawful = { λ s k. many1_lawful I.model I.lawful F.Error.errors (F.meaning s) (F.lawful s k.0) };
+    ghost lawful = { λ s k. many1_lawful I.lawful F.Error.errors (F.lawful s k.0) };
 }
 
 impl<I: Input, A: Allocator + Copy, F: StreamParser<I> + Drop> StreamParser<I> for Many1<A, F> {
@@ -125,5 +125,5 @@ impl<I: Input, A: Allocator + Copy, F: StreamParser<I> + Drop> StreamParser<I> f
 
     ghost pinned = { λ p k h. list_pinned (F.pinned p.parser k.0 h) };
 
-    ghost steady = { λ s k. many1_steady I.model I.lawful F.Error.errors (F.meaning s) (F.steady s k.0) };
+    ghost steady = { λ s k. many1_steady I.lawful F.Error.errors (F.steady s k.0) };
 }

@@ -85,7 +85,7 @@ impl<
         }
     }
 
-    ghost lawful = { λ s k. many_till_lawful I.model I.lawful F.Error.errors (F.meaning s.0) (G.meaning s.1) (F.lawful s.0 k.1) (G.lawful s.1 k.0) };
+    ghost lawful = { λ s k. many_till_lawful I.lawful F.Error.errors (F.lawful s.0 k.1) (G.lawful s.1 k.0) };
 }
 
 impl<
@@ -100,10 +100,9 @@ impl<
 
     ghost Pins = { λ p. F.Pins p.parser × G.Pins p.end };
 
-    ghost pinned = { λ p k h. pair_pinned
-        (list_pinned (F.pinned p.parser k.1 h.0)) (G.pinned p.end k.0 h.1) };
+    ghost pinned = { λ p k h. pair_pinned (list_pinned (F.pinned p.parser k.1 h.0)) (G.pinned p.end k.0 h.1) };
 
-    ghost steady = { λ s k. many_till_steady I.model I.lawful F.Error.errors (F.meaning s.0) (G.meaning s.1) (F.steady s.0 k.1) (G.steady s.1 k.0) };
+    ghost steady = { λ s k. many_till_steady I.lawful F.Error.errors (F.steady s.0 k.1) (G.steady s.1 k.0) };
 }
 
 /// The end, or else an item.

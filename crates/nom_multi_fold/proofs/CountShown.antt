@@ -76,7 +76,7 @@ module _ {I A V E : Type 0} (w : Model I A) (l : InputLaws w) (errs : Errors I E
       let moves = taken_consumes (any_limits Kind.Many1Count) Kind.Many1Count refl 0 turn.reply p.0 u turn.fact in
       let again = (subst (λ z. Replies (any_limits Kind.Many1Count).most (λ _. (dropped_meaning m).answers s) 0 j z) reply turn.replied).1 in
       let same = rest_related w l false i i 0 i j (same_self w i) (rest_self w l i known) r in
-      let one = (dropped_lawful w m lawful).one_outcome s i j (Accept 0 v) (Accept p.0 u) known r.known same a tt again in
+      let one = (dropped_lawful lawful).one_outcome s i j (Accept 0 v) (Accept p.0 u) known r.known same a tt again in
       absurd (omega (arith, moves, accept_length 0 p.0 v u one))
 
   -- a first item and the later ones fit

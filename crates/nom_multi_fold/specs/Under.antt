@@ -14,7 +14,7 @@ under Premise m = record {
   NeverFails = m.NeverFails;
 }
 
-module _ {I A V E : Type 0} (w : Model I A) (Premise : Type 0) (m : Meaning I V E) where
+module _ {I A V E : Type 0} {w : Model I A} {Premise : Type 0} {m : Meaning I V E} where
   pub under_lawful : IsLawful w m → IsLawful w (under Premise m)
   under_lawful p = record {
     within = p.within;
@@ -27,4 +27,4 @@ module _ {I A V E : Type 0} (w : Model I A) (Premise : Type 0) (m : Meaning I V 
   }
 
   pub under_steady : IsSteady w m → IsSteady w (under Premise m)
-  under_steady p = p
+  under_steady p = record { stays = p.stays }

@@ -51,7 +51,7 @@ impl<I: Input, F: Parser<I> + Drop> Parser<I> for Many0Count<F> {
         items::<OM, Check, I, Dropped<F>, usize>(&mut self.item, input, none, limits)
     }
 
-    ghost lawful = { λ s k. many0_count_lawful I.model I.lawful F.Error.errors (F.meaning s) (F.lawful s k) };
+    ghost lawful = { λ s k. many0_count_lawful I.lawful F.Error.errors (F.lawful s k) };
 }
 
 impl<I: Input, F: StreamParser<I> + Drop> StreamParser<I> for Many0Count<F> {
@@ -61,7 +61,7 @@ impl<I: Input, F: StreamParser<I> + Drop> StreamParser<I> for Many0Count<F> {
 
     ghost pinned = { λ p k h. number_pinned };
 
-    ghost steady = { λ s k. many0_count_steady I.model I.lawful F.Error.errors (F.meaning s) (F.steady s k) };
+    ghost steady = { λ s k. many0_count_steady I.lawful F.Error.errors (F.steady s k) };
 }
 
 /// The number of items until one is refused, one at least; made by `many1_count`.
@@ -114,7 +114,7 @@ impl<I: Input, F: Parser<I> + Drop> Parser<I> for Many1Count<F> {
         items::<OM, Check, I, Dropped<F>, usize>(&mut self.item, rest, first, any)
     }
 
-    ghost lawful = { λ s k. many1_count_lawful I.model I.lawful F.Error.errors (F.meaning s) (F.lawful s k.0) };
+    ghost lawful = { λ s k. many1_count_lawful I.lawful F.Error.errors (F.lawful s k.0) };
 }
 
 impl<I: Input, F: StreamParser<I> + Drop> StreamParser<I> for Many1Count<F> {
@@ -124,7 +124,7 @@ impl<I: Input, F: StreamParser<I> + Drop> StreamParser<I> for Many1Count<F> {
 
     ghost pinned = { λ p k h. number_pinned };
 
-    ghost steady = { λ s k. many1_count_steady I.model I.lawful F.Error.errors (F.meaning s) (F.steady s k.0) };
+    ghost steady = { λ s k. many1_count_steady I.lawful F.Error.errors (F.steady s k.0) };
 }
 
 /// An input is known, and its length is a `usize`.

@@ -37,5 +37,5 @@ impl<I: Items, F: Parser<I> + Drop> Parser<I> for Dropped<F> {
         Ok((rest, built::<OM::Output, ()>(())))
     }
 
-    ghost lawful = { λ s k. dropped_lawful I.model (F.meaning s) (F.lawful s k) };
+    ghost lawful = { λ s k. dropped_lawful (F.lawful s k) };
 }

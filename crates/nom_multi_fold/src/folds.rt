@@ -59,7 +59,7 @@ impl<I: Input, F: Parser<I> + Drop, R: Drop, H: Fn() -> R, G: Fn(R, F::Output) -
         Ok((rest, carried(last)))
     }
 
-    ghost lawful = { λ s k. fold_many0_lawful I.model I.lawful F.Error.errors (AreCallable (H.pre s.1) (G.pre s.2)) (F.meaning s.0) (F.lawful s.0 k.0) };
+    ghost lawful = { λ s k. fold_many0_lawful I.lawful F.Error.errors (F.lawful s.0 k.0) };
 }
 
 impl<
@@ -75,7 +75,7 @@ impl<
 
     ghost pinned = { λ p k h. folds_pinned (F.pinned p.parser k.0 h.0) h.1 };
 
-    ghost steady = { λ s k. fold_many0_steady I.model I.lawful F.Error.errors (AreCallable (H.pre s.1) (G.pre s.2)) (F.meaning s.0) (F.steady s.0 k.0) };
+    ghost steady = { λ s k. fold_many0_steady I.lawful F.Error.errors (F.steady s.0 k.0) };
 }
 
 /// The fold of items until one is refused, one at least; made by `fold_many1`. The closures are called only
@@ -137,7 +137,7 @@ impl<I: Input, F: Parser<I> + Drop, R: Drop, H: Fn() -> R, G: Fn(R, F::Output) -
         Ok((behind, carried(last)))
     }
 
-    ghost lawful = { λ s k. fold_many1_lawful I.model I.lawful F.Error.errors (AreCallable (H.pre s.1) (G.pre s.2)) (F.meaning s.0) (F.lawful s.0 (k.0).0) };
+    ghost lawful = { λ s k. fold_many1_lawful I.lawful F.Error.errors (F.lawful s.0 (k.0).0) };
 }
 
 impl<
@@ -153,7 +153,7 @@ impl<
 
     ghost pinned = { λ p k h. folds_pinned (F.pinned p.parser (k.0).0 h.0) h.1 };
 
-    ghost steady = { λ s k. fold_many1_steady I.model I.lawful F.Error.errors (AreCallable (H.pre s.1) (G.pre s.2)) (F.meaning s.0) (F.steady s.0 (k.0).0) };
+    ghost steady = { λ s k. fold_many1_steady I.lawful F.Error.errors (F.steady s.0 (k.0).0) };
 }
 
 /// The fold of items until one is refused, as many as the bounds say; made by `fold_many_m_n`. The closures
@@ -207,8 +207,7 @@ impl<I: Input, F: Parser<I> + Drop, R: Drop, H: Fn() -> R, G: Fn(R, F::Output) -
         Ok((rest, carried(last)))
     }
 
-    ghost lawful = { λ s k. fold_many_m_n_lawful I.model I.lawful F.Error.errors (AreCallable (H.pre s.1) (G.pre s.2))
-        (F.meaning s.0) s.3 s.4 (F.lawful s.0 k.0) };
+    ghost lawful = { λ s k. fold_many_m_n_lawful I.lawful F.Error.errors s.3 s.4 (F.lawful s.0 k.0) };
 }
 
 impl<
@@ -224,6 +223,5 @@ impl<
 
     ghost pinned = { λ p k h. folds_pinned (F.pinned p.parser k.0 h.0) h.1 };
 
-    ghost steady = { λ s k. fold_many_m_n_steady I.model I.lawful F.Error.errors (AreCallable (H.pre s.1) (G.pre s.2))
-        (F.meaning s.0) s.3 s.4 (F.steady s.0 k.0) };
+    ghost steady = { λ s k. fold_many_m_n_steady I.lawful F.Error.errors s.3 s.4 (F.steady s.0 k.0) };
 }

@@ -78,8 +78,7 @@ impl<
         Ok((rest, collected(all)))
     }
 
-    ghost lawful = { λ s k. range_lawful I.model I.lawful F.Error.errors Kind.Many (R.IsSpent s.1) (R.lower s.1) (R.upper s.1) (Unit {0}) (F.meaning s.0)
-        (F.lawful s.0 k) };
+    ghost lawful = { λ s k. range_lawful I.lawful F.Error.errors Kind.Many (R.IsSpent s.1) (R.lower s.1) (R.upper s.1) (F.lawful s.0 k) };
 }
 
 impl<
@@ -95,8 +94,7 @@ impl<
 
     ghost pinned = { λ p k h. collection_pinned (F.pinned p.parser k h) C.views };
 
-    ghost steady = { λ s k. range_steady I.model I.lawful F.Error.errors Kind.Many (R.IsSpent s.1) (R.lower s.1) (R.upper s.1) (Unit {0}) (F.meaning s.0)
-        (F.steady s.0 k) };
+    ghost steady = { λ s k. range_steady I.lawful F.Error.errors Kind.Many (R.IsSpent s.1) (R.lower s.1) (R.upper s.1) (F.steady s.0 k) };
 }
 
 /// The fold of as many items as a range says, made by `fold`. The closures are called only where outputs are
@@ -156,8 +154,7 @@ impl<
         Ok((rest, carried(last)))
     }
 
-    ghost lawful = { λ s k. range_fold_lawful I.model I.lawful F.Error.errors Kind.Fold (R.IsSpent s.3) (R.lower s.3) (R.upper s.3) ⊥ (F.meaning s.0)
-        (AreCallable (H.pre s.1) (G.pre s.2)) (F.lawful s.0 k.0) };
+    ghost lawful = { λ s k. range_fold_lawful I.lawful F.Error.errors Kind.Fold (R.IsSpent s.3) (R.lower s.3) (R.upper s.3) (F.lawful s.0 k.0) };
 }
 
 impl<
@@ -175,6 +172,5 @@ impl<
 
     ghost pinned = { λ p k h. folds_pinned (F.pinned p.parser k.0 h.0) h.1 };
 
-    ghost steady = { λ s k. range_fold_steady I.model I.lawful F.Error.errors Kind.Fold (R.IsSpent s.3) (R.lower s.3) (R.upper s.3) ⊥ (F.meaning s.0)
-        (AreCallable (H.pre s.1) (G.pre s.2)) (F.steady s.0 k.0) };
+    ghost steady = { λ s k. range_fold_steady I.lawful F.Error.errors Kind.Fold (R.IsSpent s.3) (R.lower s.3) (R.upper s.3) (F.steady s.0 k.0) };
 }

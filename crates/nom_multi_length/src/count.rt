@@ -56,8 +56,7 @@ impl<
         items_exactly::<OM, I, G, Vec<G::Output, A>>(&mut self.parser, rest, none, count)
     }
 
-    ghost lawful = { λ s k. length_count_lawful I.model I.lawful F.Error.errors (HasSize (F.IsOutput s.0) F.Output.size) (F.meaning s.0)
-        (G.meaning s.1) k.1.1 (F.lawful s.0 k.0) (G.lawful s.1 k.1.0) };
+    ghost lawful = { λ s k. length_count_lawful I.lawful F.Error.errors k.1.1 (F.lawful s.0 k.0) (G.lawful s.1 k.1.0) };
 }
 
 impl<
@@ -73,6 +72,5 @@ impl<
 
     ghost pinned = { λ p k h. list_pinned (G.pinned p.parser k.1.0 h) };
 
-    ghost steady = { λ s k. length_count_steady I.model I.lawful F.Error.errors (HasSize (F.IsOutput s.0) F.Output.size) (F.meaning s.0)
-        (G.meaning s.1) k.1.1 (F.steady s.0 k.0) (G.steady s.1 k.1.0) };
+    ghost steady = { λ s k. length_count_steady I.lawful F.Error.errors k.1.1 (F.steady s.0 k.0) (G.steady s.1 k.1.0) };
 }

@@ -48,8 +48,7 @@ impl<I: Input, F: Parser<I, Output: ToUsize> + Drop> Parser<I> for LengthData<F>
         }
     }
 
-    ghost lawful = { λ s k. length_data_lawful I.model I.lawful F.Error.errors I.lack (HasSize (F.IsOutput s) F.Output.size)
-        (F.meaning s) k.1.1 (F.lawful s k.0) };
+    ghost lawful = { λ s k. length_data_lawful I.lawful F.Error.errors I.lack k.1.1 (F.lawful s k.0) };
 }
 
 impl<I: Input, F: StreamParser<I, Output: ToUsize> + Drop> StreamParser<I> for LengthData<F> {
@@ -60,6 +59,5 @@ impl<I: Input, F: StreamParser<I, Output: ToUsize> + Drop> StreamParser<I> for L
 
     ghost pinned = { λ p k h. record { one_view = λ t. (slice_pinned I.views).one_view t.1 } };
 
-    ghost steady = { λ s k. length_data_steady I.model I.lawful F.Error.errors I.lack (HasSize (F.IsOutput s) F.Output.size)
-        (F.meaning s) k.1.1 (F.steady s k.0) };
+    ghost steady = { λ s k. length_data_steady I.lawful F.Error.errors I.lack k.1.1 (F.steady s k.0) };
 }

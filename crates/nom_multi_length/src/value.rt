@@ -112,8 +112,7 @@ impl<I: Input, F: Parser<I, Output: ToUsize> + Drop, G: Parser<I, Error = F::Err
         }
     }
 
-    ghost lawful = { λ s k. length_value_lawful I.model I.lawful F.Error.errors (HasSize (F.IsOutput s.0) F.Output.size) (F.meaning s.0) (G.meaning s.1)
-        (G.lawful s.1 k.1.0) k.1.1 (F.lawful s.0 k.0) };
+    ghost lawful = { λ s k. length_value_lawful I.lawful F.Error.errors (G.lawful s.1 k.1.0) k.1.1 (F.lawful s.0 k.0) };
 }
 
 impl<
@@ -127,6 +126,5 @@ impl<
 
     ghost pinned = { λ p k h. h };
 
-    ghost steady = { λ s k. length_value_steady I.model I.lawful F.Error.errors (HasSize (F.IsOutput s.0) F.Output.size) (F.meaning s.0) (G.meaning s.1)
-        (G.lawful s.1 k.1.0) k.1.1 (F.steady s.0 k.0) };
+    ghost steady = { λ s k. length_value_steady I.lawful F.Error.errors (G.lawful s.1 k.1.0) k.1.1 (F.steady s.0 k.0) };
 }

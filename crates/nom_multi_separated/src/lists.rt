@@ -72,7 +72,7 @@ impl<
         items::<OM, Check, I, Preceded<G, F>, Vec<F::Output, A>>(&mut self.next, rest, first, any)
     }
 
-    ghost lawful = { λ s k. separated1_lawful I.model I.lawful F.Error.errors (G.meaning s.0) (F.meaning s.1) (G.lawful s.0 k.1.0) (F.lawful s.1 k.0) };
+    ghost lawful = { λ s k. separated1_lawful I.lawful F.Error.errors (G.lawful s.0 k.1.0) (F.lawful s.1 k.0) };
 }
 
 impl<
@@ -88,7 +88,7 @@ impl<
 
     ghost pinned = { λ p k h. list_pinned (F.pinned p.next.second k.0 h) };
 
-    ghost steady = { λ s k. separated1_steady I.model I.lawful F.Error.errors (G.meaning s.0) (F.meaning s.1) (G.steady s.0 k.1.0) (F.steady s.1 k.0) };
+    ghost steady = { λ s k. separated1_steady I.lawful F.Error.errors (G.steady s.0 k.1.0) (F.steady s.1 k.0) };
 }
 
 /// Items with a separator between them, made by `separated_list0`.
@@ -152,7 +152,7 @@ impl<
         }
     }
 
-    ghost lawful = { λ s k. separated0_lawful I.model I.lawful F.Error.errors (G.meaning s.0) (F.meaning s.1) (G.lawful s.0 k.1.0) (F.lawful s.1 k.0) };
+    ghost lawful = { λ s k. separated0_lawful I.lawful F.Error.errors (G.lawful s.0 k.1.0) (F.lawful s.1 k.0) };
 }
 
 impl<
@@ -168,7 +168,7 @@ impl<
 
     ghost pinned = { λ p k h. list_pinned (F.pinned p.next.second k.0 h) };
 
-    ghost steady = { λ s k. separated0_steady I.model I.lawful F.Error.errors (G.meaning s.0) (F.meaning s.1) (G.steady s.0 k.1.0) (F.steady s.1 k.0) };
+    ghost steady = { λ s k. separated0_steady I.lawful F.Error.errors (G.steady s.0 k.1.0) (F.steady s.1 k.0) };
 }
 
 /// The first item, if it isn't refused: whether there is one, and what is kept.

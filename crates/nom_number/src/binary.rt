@@ -3,7 +3,6 @@ ghost use Rattle.std.specs.Prelude.{◌≡◌, ◌<◌, ◌∷◌, ℕ, List, le
 ghost use Rattle.nom_error.specs.Modes.{Built};
 ghost use Rattle.nom_internal.specs.laws.CaseLaws.{labelled_lawful, labelled_steady};
 ghost use Rattle.nom_internal.specs.Pinned.{value_pinned};
-ghost use Rattle.nom_bytes.specs.Takes.{take_meaning};
 ghost use Rattle.nom_bytes.specs.laws.TakeLaws.{take_lawful, take_steady};
 ghost use Rattle.nom_traits.specs.Digits.{value_of};
 ghost use Rattle.nom_number.specs.Numbers.{bytes_lack, number_meaning};
@@ -59,8 +58,7 @@ impl<I: Input<Item = u8>, E: ParseError<I>> Parser<I> for BeU8<I, E> {
         }
     }
 
-    ghost lawful = { λ _ k. labelled_lawful I.model (take_meaning I.model E.errors (bytes_lack I.model) 1) (λ t. value_of 256 t.items)
-        (take_lawful I.model E.errors (bytes_lack I.model) 1) };
+    ghost lawful = { λ _ k. labelled_lawful (take_lawful I.model E.errors (bytes_lack I.model) 1) };
 }
 
 impl<I: Input<Item = u8>, E: ParseError<I>> StreamParser<I> for BeU8<I, E> {
@@ -68,6 +66,5 @@ impl<I: Input<Item = u8>, E: ParseError<I>> StreamParser<I> for BeU8<I, E> {
 
     ghost pinned = { λ p k h. value_pinned };
 
-    ghost steady = { λ _ k. labelled_steady I.model (take_meaning I.model E.errors (bytes_lack I.model) 1) (λ t. value_of 256 t.items)
-        (take_steady I.model E.errors (bytes_lack I.model) 1) };
+    ghost steady = { λ _ k. labelled_steady (take_steady I.model E.errors (bytes_lack I.model) 1) };
 }

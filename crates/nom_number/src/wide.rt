@@ -4,7 +4,6 @@ ghost use Rattle.nom_error.specs.Modes.{Built};
 ghost use Rattle.nom_traits.specs.Slices.{Slice, IsFirst, IsCount};
 ghost use Rattle.nom_internal.specs.Pinned.{value_pinned};
 ghost use Rattle.nom_internal.specs.laws.CaseLaws.{labelled_lawful, labelled_steady};
-ghost use Rattle.nom_bytes.specs.Takes.{take_meaning};
 ghost use Rattle.nom_bytes.specs.laws.TakeLaws.{take_lawful, take_steady};
 ghost use Rattle.nom_number.specs.Numbers.{bytes_lack, number_meaning, binary_number};
 
@@ -137,8 +136,7 @@ impl<F: Layout, I: Input<Item = u8>, E: ParseError<I>> Parser<I> for Binary<F, I
         }
     }
 
-    ghost lawful = { λ big k. labelled_lawful I.model (take_meaning I.model E.errors (bytes_lack I.model) F.BYTES) (λ t. F.of_bits (binary_number big t.items))
-        (take_lawful I.model E.errors (bytes_lack I.model) F.BYTES) };
+    ghost lawful = { λ big k. labelled_lawful (take_lawful I.model E.errors (bytes_lack I.model) F.BYTES) };
 }
 
 impl<F: Layout, I: Input<Item = u8>, E: ParseError<I>> StreamParser<I> for Binary<F, I, E> {
@@ -146,6 +144,5 @@ impl<F: Layout, I: Input<Item = u8>, E: ParseError<I>> StreamParser<I> for Binar
 
     ghost pinned = { λ p k h. value_pinned };
 
-    ghost steady = { λ big k. labelled_steady I.model (take_meaning I.model E.errors (bytes_lack I.model) F.BYTES) (λ t. F.of_bits (binary_number big t.items))
-        (take_steady I.model E.errors (bytes_lack I.model) F.BYTES) };
+    ghost steady = { λ big k. labelled_steady (take_steady I.model E.errors (bytes_lack I.model) F.BYTES) };
 }

@@ -62,7 +62,7 @@ where
         close(answer, input, ErrorKind::Alt)
     }
 
-    ghost lawful = { λ s k. exceptions_lawful I.model I.Item.code F.Error.errors (F.meaning s) (F.lawful s k.0.0.0) };
+    ghost lawful = { λ s k. exceptions_lawful I.model I.Item.code F.Error.errors (F.lawful s k.0.0.0) };
 }
 
 impl<I: Input, F: StreamParser<I, Output = I> + Drop> StreamParser<I> for OrExceptions<F>
@@ -73,5 +73,5 @@ where
 
     ghost pinned = { λ p k h. exceptions_pinned I.views (F.pinned p.parser k.0.0.0 h) };
 
-    ghost steady = { λ s k. exceptions_steady I.model I.Item.code F.Error.errors (F.meaning s) (F.steady s k.0.0.0) };
+    ghost steady = { λ s k. exceptions_steady I.model I.Item.code F.Error.errors (F.steady s k.0.0.0) };
 }

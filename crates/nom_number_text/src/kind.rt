@@ -60,7 +60,7 @@ impl<I: Items, F: Parser<I> + Drop> Parser<I> for AsFloat<F> {
         }
     }
 
-    ghost lawful = { λ s k. renamed_lawful I.model (λ i _. F.Error.errors.of_kind i Kind.Float) F.Error.errors.grows (F.meaning s) (F.lawful s k) };
+    ghost lawful = { λ s k. renamed_lawful (F.lawful s k) };
 }
 
 impl<I: Items, F: StreamParser<I> + Drop> StreamParser<I> for AsFloat<F> {
@@ -68,5 +68,5 @@ impl<I: Items, F: StreamParser<I> + Drop> StreamParser<I> for AsFloat<F> {
 
     ghost pinned = { λ p. F.pinned p.parser };
 
-    ghost steady = { λ s k. renamed_steady I.model (λ i _. F.Error.errors.of_kind i Kind.Float) F.Error.errors.grows (F.meaning s) (F.steady s k) };
+    ghost steady = { λ s k. renamed_steady (F.steady s k) };
 }

@@ -29,7 +29,7 @@ pub record Gives {I V E : Type 0} (p : Premises) (m : Meaning I V E) : Type 0 wh
   pub settles : p.Settles → m.Settles
   pub never_fails : (large : Bool) → p.NeverFails large → m.NeverFails large
 
-module _ {I A V E : Type 0} (w : Model I A) (p : Premises) (m : Meaning I V E) where
+module _ {I A V E : Type 0} {w : Model I A} {p : Premises} {m : Meaning I V E} where
   pub told_lawful : Gives p m → IsLawful w m → IsLawful w (with_premises p m)
   told_lawful g l = record {
     within = l.within;
@@ -42,4 +42,4 @@ module _ {I A V E : Type 0} (w : Model I A) (p : Premises) (m : Meaning I V E) w
   }
 
   pub told_steady : IsSteady w m → IsSteady w (with_premises p m)
-  told_steady l = l
+  told_steady l = record { stays = l.stays }

@@ -84,8 +84,7 @@ impl<
         }
     }
 
-    ghost lawful = { λ s k. precedence_lawful I.model I.lawful F.Error.errors ((x : Operation P.Output Q.Output B F.Output) → G.pre s.5 x)
-        (HasLevel (C.IsOutput s.3) (λ o. o.0)) (length s.4) (P.meaning s.0) (F.meaning s.1) (Q.meaning s.2) (C.meaning s.3) k.4 (P.lawful s.0 k.0)
+    ghost lawful = { λ s k. precedence_lawful I.lawful F.Error.errors (length s.4) k.4 (P.lawful s.0 k.0)
         (F.lawful s.1 k.1) (Q.lawful s.2 k.2) (C.lawful s.3 k.3) };
 }
 
@@ -110,8 +109,7 @@ impl<
     ghost pinned = { λ p k h. folding_pinned h.4 (P.pinned p.prefix k.0 h.0) (F.pinned p.operand k.1 h.1) (Q.pinned p.postfix k.2 h.2)
         (C.pinned p.binary k.3 h.3) (groups_left p.levels.now) };
 
-    ghost steady = { λ s k. precedence_steady I.model I.lawful F.Error.errors ((x : Operation P.Output Q.Output B F.Output) → G.pre s.5 x)
-        (HasLevel (C.IsOutput s.3) (λ o. o.0)) (length s.4) (P.meaning s.0) (F.meaning s.1) (Q.meaning s.2) (C.meaning s.3) k.4 (P.steady s.0 k.0)
+    ghost steady = { λ s k. precedence_steady I.lawful F.Error.errors (length s.4) k.4 (P.steady s.0 k.0)
         (F.steady s.1 k.1) (Q.steady s.2 k.2) (C.steady s.3 k.3) };
 }
 

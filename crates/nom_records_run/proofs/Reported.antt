@@ -1,9 +1,8 @@
 -- The report, from the answer on records that come in pieces.
-use Rattle.std.proofs.Common.{◌≡◌, ℕ, Bool, false, true, ◌<◌, ◌≤◌, List, length, slice_index, codes, Vec, Result, Bor, sym, ◌∙◌, ap, subst}
+use Rattle.std.proofs.Common.{◌≡◌, ℕ, Bool, true, ◌<◌, ◌≤◌, List, length, slice_index, codes, Vec, Result, Bor, sym, ◌∙◌, ap, subst}
 use Rattle.nom_error.specs.declared.value.Error.{Error}
 use Rattle.nom_error.specs.declared.answer.Needed.{Needed}
 use Rattle.nom_error.specs.declared.answer.Err as Answer
-use Rattle.nom_error.specs.Modes.{with_outputs}
 use Rattle.nom_traits.specs.Bytes.{bytes_model, bytes_lawful}
 use Rattle.nom_traits.specs.Slices.{IsModelledBy}
 use Rattle.nom_internal.specs.Outcome.{failure}
@@ -12,20 +11,16 @@ use Rattle.nom_internal.specs.laws.SequenceLaws.{sequence_lawful}
 use Rattle.nom_internal.specs.laws.CaseLaws.{labelled_lawful}
 use Rattle.nom_traits.specs.Compares.{ComparesBytes}
 use Rattle.nom_traits.specs.CompareTags.{bytes_comparing}
-use Rattle.nom_bytes.specs.Takes.{take_meaning}
 use Rattle.nom_bytes.specs.laws.TakeLaws.{take_lawful}
 use Rattle.nom_bytes.specs.laws.TagLaws.{tag_lawful}
-use Rattle.nom_multi_length.specs.Lengths.{HasSize, length_data_meaning}
 use Rattle.nom_multi_length.specs.laws.LengthLaws.{length_data_lawful}
-use Rattle.nom_multi.specs.Many.{many0_meaning}
 use Rattle.nom_multi.specs.laws.ManyLaws.{many0_lawful}
-use Rattle.nom_traits.specs.Digits.{value_of}
-use Rattle.nom_number.specs.Numbers.{bytes_lack, number_meaning}
+use Rattle.nom_number.specs.Numbers.{bytes_lack}
 use Rattle.nom_growing.specs.Growing.{IsGrown}
 use Rattle.nom_run.specs.Report.{IsTold}
 use Rattle.nom_run.proofs.Reported.{reported}
 use Rattle.nom_run.proofs.Told.{lines-same}
-use Rattle.nom_records_run.specs.Report.{AreRecords, record_text, records_text, lines_of, IsReport, errors_at, bytes_lacking, tag_of, record_of}
+use Rattle.nom_records_run.specs.Report.{AreRecords, record_text, records_text, lines_of, IsReport, errors_at, bytes_lacking}
 use Rattle.nom_records_run.specs.Report.{grammar_of, record_grammar}
 
 abbrev Bytes : Type 0
@@ -37,16 +32,10 @@ AnswerErr = Answer.Err (Error Bytes) (Error Bytes) Needed
 -- the grammar never fails
 grammar_lawful : (tag end : List ℕ) → IsLawful bytes_model (grammar_of tag end)
 grammar_lawful tag end =
-    let number = labelled_lawful bytes_model (take_meaning bytes_model errors_at (bytes_lack bytes_model) 1) (λ t. value_of 256 t.items)
-    (take_lawful bytes_model errors_at (bytes_lack bytes_model) 1) in
-    let length_data = length_data_lawful bytes_model bytes_lawful errors_at bytes_lacking (HasSize (λ t v. v ≡ t) (λ n. n))
-    (number_meaning bytes_model errors_at (value_of 256) 1) (λ u m n a b. sym a.size_is ∙ (a.is_output ∙ (sym b.is_output ∙ b.size_is))) number in
-    let item = sequence_lawful bytes_model bytes_lawful (λ u v. v) (with_outputs false) (λ o. o) (tag_of tag)
-    (length_data_meaning bytes_model errors_at bytes_lacking (HasSize (λ t v. v ≡ t) (λ n. n))
-    (number_meaning bytes_model errors_at (value_of 256) 1))
-    (tag_lawful bytes_model bytes_lawful errors_at length ComparesBytes bytes_comparing tag) length_data in
-    sequence_lawful bytes_model bytes_lawful (λ u v. u) (λ o. o) (with_outputs false) (many0_meaning bytes_model errors_at (record_of tag))
-    (tag_of end) (many0_lawful bytes_model bytes_lawful errors_at (record_of tag) item)
+    let number = labelled_lawful (take_lawful bytes_model errors_at (bytes_lack bytes_model) 1) in
+    let item = sequence_lawful bytes_lawful (tag_lawful bytes_model bytes_lawful errors_at length ComparesBytes bytes_comparing tag)
+    (length_data_lawful bytes_lawful errors_at bytes_lacking (λ u m n a b. sym a.size_is ∙ (a.is_output ∙ (sym b.is_output ∙ b.size_is))) number) in
+    sequence_lawful bytes_lawful (many0_lawful bytes_lawful errors_at item)
     (tag_lawful bytes_model bytes_lawful errors_at length ComparesBytes bytes_comparing end)
 
 grammar_never_fails : (large : Bool) (i : Bytes) → bytes_model.IsKnown i → record_grammar.answers true i (failure large) → ⊥

@@ -43,8 +43,7 @@ impl<I: Items, F: Parser<I> + Drop, G: Parser<I, Error = F::Error> + Drop> Parse
         self.second.process::<OM>(rest)
     }
 
-    ghost lawful = { λ s k. sequence_lawful I.model I.lawful (λ u v. v) (with_outputs false) (λ o. o) (F.meaning s.0) (G.meaning s.1) (F.lawful s.0 k.0)
-        (G.lawful s.1 k.1) };
+    ghost lawful = { λ s k. sequence_lawful I.lawful (F.lawful s.0 k.0) (G.lawful s.1 k.1) };
 }
 
 impl<I: Items, F: StreamParser<I> + Drop, G: StreamParser<I, Error = F::Error> + Drop> StreamParser<
@@ -54,8 +53,7 @@ impl<I: Items, F: StreamParser<I> + Drop, G: StreamParser<I, Error = F::Error> +
 
     ghost pinned = { λ p k h. G.pinned p.second k.1 h };
 
-    ghost steady = { λ s k. sequence_steady I.model I.lawful (λ u v. v) (with_outputs false) (λ o. o) (F.meaning s.0) (G.meaning s.1) (F.steady s.0 k.0)
-        (G.steady s.1 k.1) };
+    ghost steady = { λ s k. sequence_steady I.lawful (F.steady s.0 k.0) (G.steady s.1 k.1) };
 }
 
 /// One parser after another, with the first's output; made by `terminated`.
@@ -92,8 +90,7 @@ impl<I: Items, F: Parser<I> + Drop, G: Parser<I, Error = F::Error> + Drop> Parse
         Ok((rest, first))
     }
 
-    ghost lawful = { λ s k. sequence_lawful I.model I.lawful (λ u v. u) (λ o. o) (with_outputs false) (F.meaning s.0) (G.meaning s.1) (F.lawful s.0 k.0)
-        (G.lawful s.1 k.1) };
+    ghost lawful = { λ s k. sequence_lawful I.lawful (F.lawful s.0 k.0) (G.lawful s.1 k.1) };
 }
 
 impl<I: Items, F: StreamParser<I> + Drop, G: StreamParser<I, Error = F::Error> + Drop> StreamParser<
@@ -103,6 +100,5 @@ impl<I: Items, F: StreamParser<I> + Drop, G: StreamParser<I, Error = F::Error> +
 
     ghost pinned = { λ p k h. F.pinned p.first k.0 h };
 
-    ghost steady = { λ s k. sequence_steady I.model I.lawful (λ u v. u) (λ o. o) (with_outputs false) (F.meaning s.0) (G.meaning s.1) (F.steady s.0 k.0)
-        (G.steady s.1 k.1) };
+    ghost steady = { λ s k. sequence_steady I.lawful (F.steady s.0 k.0) (G.steady s.1 k.1) };
 }

@@ -45,10 +45,10 @@ module _ {V : Type 0} (m : Meaning Bytes V (Error Bytes)) (lawful : IsLawful byt
   -- what is decided on a beginning is the outcome at the whole
   decided : (steady : Steady) (more : List ℕ) → i.now ≡ x.now ++ more → (complete : Bool) (o p : Outcome V) → m.answers true x o → IsDecided o →
       AtWhole m complete i p → o ≡ p
-  decided steady more e false o p a d b = steady x i o p kx ki (record { more = more; added = tt; whole = e; mark_is = refl }) a d b
-  decided steady more e true o p a d (inl b) = steady x i o p kx ki (record { more = more; added = tt; whole = e; mark_is = refl }) a d b.0
+  decided steady more e false o p a d b = steady.stays x i o p kx ki (record { more = more; added = tt; whole = e; mark_is = refl }) a d b
+  decided steady more e true o p a d (inl b) = steady.stays x i o p kx ki (record { more = more; added = tt; whole = e; mark_is = refl }) a d b.0
   decided steady more e true o p a d (inr b) =
-      let same : o ≡ Undecided b.0 = steady x i o (Undecided b.0) kx ki (record { more = more; added = tt; whole = e; mark_is = refl }) a d b.1 in
+      let same : o ≡ Undecided b.0 = steady.stays x i o (Undecided b.0) kx ki (record { more = more; added = tt; whole = e; mark_is = refl }) a d b.1 in
       absurd (subst IsDecided same d)
 
   -- where all of the whole leaves more needed, that is its outcome, unless it is asked for as a complete input

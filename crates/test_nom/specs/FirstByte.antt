@@ -23,5 +23,4 @@ abbrev pub byte_meaning : Meaning (Bor (List ℕ)) (Slice bytes_model) (Error (B
 byte_meaning = leaf_meaning (Unit {0}) (λ i e. e ≡ record { input = i; code = Eof }) ⊥ (takes bytes_model bytes_missing 1)
 
 pub byte_lawful : IsLawful bytes_model byte_meaning
-byte_lawful = leaf_lawful bytes_model (takes bytes_model bytes_missing 1) (take_laws bytes_model bytes_missing 1) (Unit {0})
-    (λ i e. e ≡ record { input = i; code = Eof }) ⊥
+byte_lawful = leaf_lawful (take_laws bytes_model bytes_missing 1)

@@ -98,13 +98,6 @@ module _ {I : Type 0} (w : Model I ℕ) (l : InputLaws w) {T : Type 0} where
       asks_none = λ Part mode i a h g. g;
     }
 
-    module _ (m : Meaning (I × ℕ) T E) where
-      pub bits_of_lawful : IsLawful (bits_model w) m → IsLawful w (bits_meaning w Converts m)
-      bits_of_lawful p = case_lawful w (bits_model w) m p (bits_case w Converts) bits_laws
-
-      pub bits_of_steady : IsSteady (bits_model w) m → IsSteady w (bits_meaning w Converts m)
-      bits_of_steady p = case_steady w (bits_model w) m (bits_case w Converts) bits_laws refl p
-
   -- of `bytes`
   module _ (values : (i : I) → w.IsKnown i → AreBytes (w.elements i)) where
     bytes_keeps : (i : I × ℕ) (a o : Outcome T) → BytesBecome w i a o → IsDecided o → IsDecided a
@@ -217,9 +210,18 @@ module _ {I : Type 0} (w : Model I ℕ) (l : InputLaws w) {T : Type 0} where
         asks_none = λ Part mode i a h g. not_asked errs.grows a h.1 g;
       }
 
-      module _ (m : Meaning I T E) where
-        pub bytes_of_lawful : IsLawful w m → IsLawful (bits_model w) (bytes_meaning w errs Converts m)
-        bytes_of_lawful p = case_lawful (bits_model w) w m p (bytes_case w errs Converts) bytes_laws
+-- `bits` and `bytes` are lawful and steady where their parts are
+module _ {I T E F : Type 0} {w : Model I ℕ} (l : InputLaws w) (Converts : E → F → Type 0) {m : Meaning (I × ℕ) T E} where
+  pub bits_of_lawful : IsLawful (bits_model w) m → IsLawful w (bits_meaning w Converts m)
+  bits_of_lawful p = case_lawful (bits_laws w l Converts) p
 
-        pub bytes_of_steady : IsSteady w m → IsSteady (bits_model w) (bytes_meaning w errs Converts m)
-        bytes_of_steady p = case_steady (bits_model w) w m (bytes_case w errs Converts) bytes_laws refl p
+  pub bits_of_steady : IsSteady (bits_model w) m → IsSteady w (bits_meaning w Converts m)
+  bits_of_steady p = case_steady (bits_laws w l Converts) refl p
+
+module _ {I T E F : Type 0} {w : Model I ℕ} (l : InputLaws w) (values : (i : I) → w.IsKnown i → AreBytes (w.elements i)) (errs : Errors (I × ℕ) F)
+    (Converts : E → F → Type 0) {m : Meaning I T E} where
+  pub bytes_of_lawful : IsLawful w m → IsLawful (bits_model w) (bytes_meaning w errs Converts m)
+  bytes_of_lawful p = case_lawful (bytes_laws w l values errs Converts) p
+
+  pub bytes_of_steady : IsSteady w m → IsSteady (bits_model w) (bytes_meaning w errs Converts m)
+  bytes_of_steady p = case_steady (bytes_laws w l values errs Converts) refl p

@@ -1,5 +1,5 @@
 -- The laws of bit fields.
-use Rattle.std.specs.Prelude.{◌≡◌, ℕ, ◌<◌, ◌≤◌, nat_eq, Bool, true, false, length, refl}
+use Rattle.std.specs.Prelude.{◌≡◌, ℕ, ◌<◌, Bool, true, false, length, refl}
 use Rattle.std.proofs.Common.{sym, ◌∙◌, ap, subst, inl, inr, arith, length-append}
 use Rattle.nom_error.specs.declared.kind.ErrorKind.TheVariants as Kind
 use Rattle.nom_error.specs.Errors.{Errors}
@@ -8,9 +8,9 @@ use Rattle.nom_traits.specs.Rests.{same_cut, items_len-ones}
 use Rattle.nom_traits.specs.Slices.{Slice, IsFirst, first_related}
 use Rattle.nom_traits.specs.Bits.{bits_model, spelled}
 use Rattle.nom_internal.specs.Meaning.{IsLawful, IsSteady}
-use Rattle.nom_internal.specs.Leaf.{LeafLaws, leaf_meaning, leaf_lawful, leaf_steady}
+use Rattle.nom_internal.specs.Leaf.{LeafLaws, leaf_lawful, leaf_steady}
 use Rattle.nom_internal.specs.laws.CaseLaws.{labelled_lawful, labelled_steady}
-use Rattle.nom_bits.specs.Fields.{IsField, IsShort, fields, tagged_fields, TagBlames, take_meaning, tag_meaning, bool_meaning}
+use Rattle.nom_bits.specs.Fields.{IsField, IsShort, fields, tagged_fields, take_meaning, tag_meaning, bool_meaning}
 
 module _ {I : Type 0} (w : Model I ℕ) where
   field_place : (i : I × ℕ) (n count number : ℕ) → n ≡ count → IsField w i count number → IsBoundary (bits_model w) i n
@@ -92,23 +92,19 @@ module _ {I : Type 0} (w : Model I ℕ) where
 
   module _ {E : Type 0} (errs : Errors (I × ℕ) E) where
     pub take_lawful : (width count : ℕ) → IsLawful (bits_model w) (take_meaning w errs width count)
-    take_lawful width count = leaf_lawful (bits_model w) (fields w count) (field_laws count) (count ≤ width) (λ i. errs.of_kind i Kind.Eof) errs.grows
+    take_lawful width count = leaf_lawful (field_laws count)
 
     pub take_steady : (width count : ℕ) → IsSteady (bits_model w) (take_meaning w errs width count)
-    take_steady width count = leaf_steady (bits_model w) (fields w count) (field_laws count) (count ≤ width) (λ i. errs.of_kind i Kind.Eof) errs.grows
+    take_steady width count = leaf_steady (field_laws count)
 
     pub tag_lawful : (width wanted count : ℕ) → IsLawful (bits_model w) (tag_meaning w errs width wanted count)
-    tag_lawful width wanted count =
-        leaf_lawful (bits_model w) (tagged_fields w wanted count) (tag_laws wanted count) (count ≤ width) (TagBlames w errs count) errs.grows
+    tag_lawful width wanted count = leaf_lawful (tag_laws wanted count)
 
     pub tag_steady : (width wanted count : ℕ) → IsSteady (bits_model w) (tag_meaning w errs width wanted count)
-    tag_steady width wanted count =
-        leaf_steady (bits_model w) (tagged_fields w wanted count) (tag_laws wanted count) (count ≤ width) (TagBlames w errs count) errs.grows
+    tag_steady width wanted count = leaf_steady (tag_laws wanted count)
 
     pub bool_lawful : IsLawful (bits_model w) (bool_meaning w errs)
-    bool_lawful = labelled_lawful (bits_model w) (leaf_meaning (Unit {0}) (λ i. errs.of_kind i Kind.Eof) errs.grows (fields w 1))
-        (λ number. nat_eq number 1) (leaf_lawful (bits_model w) (fields w 1) (field_laws 1) (Unit {0}) (λ i. errs.of_kind i Kind.Eof) errs.grows)
+    bool_lawful = labelled_lawful (leaf_lawful (field_laws 1))
 
     pub bool_steady : IsSteady (bits_model w) (bool_meaning w errs)
-    bool_steady = labelled_steady (bits_model w) (leaf_meaning (Unit {0}) (λ i. errs.of_kind i Kind.Eof) errs.grows (fields w 1))
-        (λ number. nat_eq number 1) (leaf_steady (bits_model w) (fields w 1) (field_laws 1) (Unit {0}) (λ i. errs.of_kind i Kind.Eof) errs.grows)
+    bool_steady = labelled_steady (leaf_steady (field_laws 1))

@@ -1,7 +1,6 @@
 -- The laws of choices among the parsers of a list.
 use Rattle.std.specs.Prelude.{◌≡◌, ℕ, ◌+◌, List, [], ◌∷◌, map}
 use Rattle.std.proofs.Common.{sym, ◌∙◌, subst, zero, suc}
-use Rattle.nom_error.specs.declared.kind.ErrorKind.TheVariants.{Alt}
 use Rattle.nom_error.specs.Errors.{Errors}
 use Rattle.nom_traits.specs.Input.{Model}
 use Rattle.nom_traits.specs.View.{View}
@@ -37,15 +36,14 @@ module _ {S I A V E : Type 0} (w : Model I A) (e : Errors I E) (part : S → Mea
       let b = branch_meaning k (part s) in
       let n = or_meaning e.joined e.grows m b in
       let sound = (sound_before e part n (k + 1) ss h).1 in
-      others_lawful p n (k + 1) ss h (or_lawful w m b l (labelled_lawful w (part s) (λ t. (k, t)) (p s sound)) e.joined e.grows)
+      others_lawful p n (k + 1) ss h (or_lawful l (labelled_lawful (p s sound)))
 
   pub list_lawful : ((s : S) → (part s).IsSound → IsLawful w (part s)) → (ss : List S) → (list_meaning e part ss).IsSound → IsLawful w (list_meaning e part ss)
-  list_lawful p [] h = leaf_lawful w no_branch (no_branch_laws w) (Unit {0}) (λ i. e.of_kind i Alt) e.grows
+  list_lawful p [] h = leaf_lawful (no_branch_laws w)
   list_lawful p (s ∷ ss) h =
       let a = branch_meaning 0 (part s) in
       let sound = sound_before e part a 1 ss h in
-      closed_lawful w (others_meaning e part a 1 ss)
-      (λ i. e.appended i Alt) e.grows (others_lawful p a 1 ss h (labelled_lawful w (part s) (λ t. (0, t)) (p s sound)))
+      closed_lawful (others_lawful p a 1 ss h (labelled_lawful (p s sound)))
 
   others_steady : ((s : S) → (part s).IsSound → IsSteady w (part s)) → (m : Meaning I (ℕ × V) E) (k : ℕ) (ss : List S) →
       (others_meaning e part m k ss).IsSound → IsSteady w m → IsSteady w (others_meaning e part m k ss)
@@ -54,15 +52,14 @@ module _ {S I A V E : Type 0} (w : Model I A) (e : Errors I E) (part : S → Mea
       let b = branch_meaning k (part s) in
       let n = or_meaning e.joined e.grows m b in
       let sound = (sound_before e part n (k + 1) ss h).1 in
-      others_steady p n (k + 1) ss h (or_steady w m b e.joined e.grows l (labelled_steady w (part s) (λ t. (k, t)) (p s sound)))
+      others_steady p n (k + 1) ss h (or_steady l (labelled_steady (p s sound)))
 
   pub list_steady : ((s : S) → (part s).IsSound → IsSteady w (part s)) → (ss : List S) → (list_meaning e part ss).IsSound → IsSteady w (list_meaning e part ss)
-  list_steady p [] h = leaf_steady w no_branch (no_branch_laws w) (Unit {0}) (λ i. e.of_kind i Alt) e.grows
+  list_steady p [] h = leaf_steady (no_branch_laws w)
   list_steady p (s ∷ ss) h =
       let a = branch_meaning 0 (part s) in
       let sound = sound_before e part a 1 ss h in
-      closed_steady w (others_meaning e part a 1 ss)
-      (λ i. e.appended i Alt) e.grows (others_steady p a 1 ss h (labelled_steady w (part s) (λ t. (0, t)) (p s sound)))
+      closed_steady (others_steady p a 1 ss h (labelled_steady (p s sound)))
 
 -- one element stands at a place, and the fact of each is its own
 stands_once : {S : Type 0} (ss : List S) (k : ℕ) (x y : S) → IsElementAt ss k x → IsElementAt ss k y → x ≡ y

@@ -163,7 +163,7 @@ module _ {I A : Type 0} (w : Model I A) (IsValue : A → Type 0) (values : (i : 
 
     module _ {E : Type 0} (IsSound : Type 0) (Blames : I → E → Type 0) (Grows : Type 0) where
       pub run_lawful : IsLawful w (leaf_meaning IsSound Blames Grows (runs w Test bound least))
-      run_lawful = leaf_lawful w (runs w Test bound least) run_laws IsSound Blames Grows
+      run_lawful = leaf_lawful run_laws
 
       pub run_steady : IsSteady w (leaf_meaning IsSound Blames Grows (runs w Test bound least))
-      run_steady = leaf_steady w (runs w Test bound least) run_laws IsSound Blames Grows
+      run_steady = leaf_steady run_laws

@@ -67,7 +67,7 @@ module _ {I A T : Type 0} (w : Model I A) (size : T → ℕ) (Compares : T → L
 module _ {I A T E : Type 0} (w : Model I A) (l : InputLaws w) (errs : Errors I E) (size : T → ℕ) (Compares : T → List A → CompareResult → Type 0)
     (c : CompareLaws w size Compares) (tag : T) where
   pub tag_lawful : IsLawful w (tag_meaning w errs size Compares tag)
-  tag_lawful = leaf_lawful w (tags w size Compares tag) (tag_laws w size Compares c tag l) (Unit {0}) (λ i. errs.of_kind i Kind.Tag) errs.grows
+  tag_lawful = leaf_lawful (tag_laws w size Compares c tag l)
 
   pub tag_steady : IsSteady w (tag_meaning w errs size Compares tag)
-  tag_steady = leaf_steady w (tags w size Compares tag) (tag_laws w size Compares c tag l) (Unit {0}) (λ i. errs.of_kind i Kind.Tag) errs.grows
+  tag_steady = leaf_steady (tag_laws w size Compares c tag l)

@@ -28,7 +28,7 @@ module _ {I A : Type 0} (w : Model I A) (lack : ℕ → List A → Option ℕ) (
 
 module _ {I A E : Type 0} (w : Model I A) (errs : Errors I E) (lack : ℕ → List A → Option ℕ) (count : ℕ) where
   pub take_lawful : IsLawful w (take_meaning w errs lack count)
-  take_lawful = leaf_lawful w (takes w lack count) (take_laws w lack count) (Unit {0}) (λ i. errs.of_kind i Kind.Eof) errs.grows
+  take_lawful = leaf_lawful (take_laws w lack count)
 
   pub take_steady : IsSteady w (take_meaning w errs lack count)
-  take_steady = leaf_steady w (takes w lack count) (take_laws w lack count) (Unit {0}) (λ i. errs.of_kind i Kind.Eof) errs.grows
+  take_steady = leaf_steady (take_laws w lack count)

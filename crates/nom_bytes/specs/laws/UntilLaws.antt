@@ -69,7 +69,7 @@ module _ {I A T : Type 0} (w : Model I A) (Finds : T → List A → Option ℕ �
 module _ {I A T E : Type 0} (w : Model I A) (l : InputLaws w) (errs : Errors I E) (Finds : T → List A → Option ℕ → Type 0) (f : FindLaws w Finds)
     (one : Bool) (needle : T) where
   pub until_lawful : IsLawful w (until_meaning w errs Finds one needle)
-  until_lawful = leaf_lawful w (untils w Finds one needle) (until_laws w Finds f needle one l) (Unit {0}) (λ i. errs.of_kind i Kind.TakeUntil) errs.grows
+  until_lawful = leaf_lawful (until_laws w Finds f needle one l)
 
   pub until_steady : IsSteady w (until_meaning w errs Finds one needle)
-  until_steady = leaf_steady w (untils w Finds one needle) (until_laws w Finds f needle one l) (Unit {0}) (λ i. errs.of_kind i Kind.TakeUntil) errs.grows
+  until_steady = leaf_steady (until_laws w Finds f needle one l)

@@ -9,14 +9,14 @@ use Rattle.nom_internal.specs.Outcome.Outcome.{Accept, Refuse, Fail, TooLarge, U
 use Rattle.nom_internal.specs.Meaning.{Meaning, IsLawful, IsSteady}
 use Rattle.nom_internal.specs.Families.{always, always_lawful}
 use Rattle.nom_internal.specs.laws.RecognizedLaws.{recognized_lawful, recognized_steady}
-use Rattle.nom_repeat.specs.Repeat.{Ran, repeat_meaning}
+use Rattle.nom_repeat.specs.Repeat.{Ran}
 use Rattle.nom_repeat.specs.Repeat.Turn.{Ends}
 use Rattle.nom_repeat.specs.laws.RepeatLaws.{KeepsTurn, KeepsReply, EndsAt, RuleLaws, repeat_lawful, repeat_steady}
 use Rattle.nom_bytes_escaped.specs.declared.next_piece.NextPiece.{NextPiece}
 use Rattle.nom_bytes_escaped.specs.declared.next_piece.NextPiece.TheVariants.{Found, Other, Dangling, Done}
 use Rattle.nom_bytes_escaped.specs.NextPieces.{next_piece_meaning}
 use Rattle.nom_bytes_escaped.specs.laws.NextPieceLaws.{next_piece_lawful, next_piece_steady}
-use Rattle.nom_bytes_escaped.specs.Escapes.{by_next_piece, escape_turn, OnReplied, escape_rule, all_pieces, escaped_meaning, escaped_transform_meaning}
+use Rattle.nom_bytes_escaped.specs.Escapes.{by_next_piece, escape_turn, OnReplied, escape_rule, escaped_meaning, escaped_transform_meaning}
 
 escape_decided : {V : Type 0} (k : ℕ) (a : Option (Outcome (NextPiece V))) → KeepsTurn true (escape_turn k a) → KeepsReply true a
 escape_decided k (Some (Accept n v)) h = tt
@@ -101,29 +101,23 @@ escape_rule_laws Gives Grows at = record {
   never_fails = λ Part large k a h e. (h, escape_fails large k a e);
 }
 
-module _ {I A U W E : Type 0} (w : Model I A) (l : InputLaws w) (errs : Errors I E) (IsControl : A → Type 0) (m : Meaning I U E) (g : Meaning I W E) where
+module _ {I A U W E : Type 0} {w : Model I A} (l : InputLaws w) (errs : Errors I E) (IsControl : A → Type 0) {m : Meaning I U E} {g : Meaning I W E} where
   pub escaped_lawful : IsLawful w m → IsLawful w g → IsLawful w (escaped_meaning w errs IsControl m g)
-  escaped_lawful p q = recognized_lawful w l
-      (repeat_meaning w (escape_rule (λ i. errs.of_kind i Kind.Escaped) errs.grows (λ i j. i)) all_pieces
-      (always (next_piece_meaning w IsControl (Some 1) m g)))
-      (repeat_lawful w l (escape_rule (λ i. errs.of_kind i Kind.Escaped) errs.grows (λ i j. i))
-      (escape_rule_laws _ _ _) all_pieces (always (next_piece_meaning w IsControl (Some 1) m g))
-      (always_lawful w (next_piece_meaning w IsControl (Some 1) m g) (next_piece_lawful w l IsControl (Some 1) m g p q)))
+  escaped_lawful p q =
+      recognized_lawful l (repeat_lawful l (escape_rule_laws (λ i. errs.of_kind i Kind.Escaped) errs.grows (λ i j. i))
+      (always (next_piece_meaning w IsControl (Some 1) m g)) (always_lawful (next_piece_lawful l IsControl (Some 1) p q)))
 
   pub escaped_steady : IsSteady w m → IsSteady w g → IsSteady w (escaped_meaning w errs IsControl m g)
-  escaped_steady p q = recognized_steady w l
-      (repeat_meaning w (escape_rule (λ i. errs.of_kind i Kind.Escaped) errs.grows (λ i j. i)) all_pieces
-      (always (next_piece_meaning w IsControl (Some 1) m g)))
-      (repeat_steady w l (escape_rule (λ i. errs.of_kind i Kind.Escaped) errs.grows (λ i j. i))
-      (escape_rule_laws _ _ _) all_pieces (always (next_piece_meaning w IsControl (Some 1) m g)) (λ _. next_piece_steady w l IsControl (Some 1) m g p q))
+  escaped_steady p q =
+      recognized_steady l (repeat_steady l (escape_rule_laws (λ i. errs.of_kind i Kind.Escaped) errs.grows (λ i j. i))
+      (always (next_piece_meaning w IsControl (Some 1) m g)) (λ _. next_piece_steady l IsControl (Some 1) p q))
 
   pub escaped_transform_lawful : IsLawful w m → IsLawful w g → IsLawful w (escaped_transform_meaning w errs IsControl m g)
   escaped_transform_lawful p q =
-      repeat_lawful w l (escape_rule (λ i. errs.of_kind i Kind.EscapedTransform) errs.grows (λ i j. j))
-      (escape_rule_laws _ _ _) all_pieces (always (next_piece_meaning w IsControl None m g))
-      (always_lawful w (next_piece_meaning w IsControl None m g) (next_piece_lawful w l IsControl None m g p q))
+      repeat_lawful l (escape_rule_laws (λ i. errs.of_kind i Kind.EscapedTransform) errs.grows (λ i j. j))
+      (always (next_piece_meaning w IsControl None m g)) (always_lawful (next_piece_lawful l IsControl None p q))
 
   pub escaped_transform_steady : IsSteady w m → IsSteady w g → IsSteady w (escaped_transform_meaning w errs IsControl m g)
   escaped_transform_steady p q =
-      repeat_steady w l (escape_rule (λ i. errs.of_kind i Kind.EscapedTransform) errs.grows (λ i j. j))
-      (escape_rule_laws _ _ _) all_pieces (always (next_piece_meaning w IsControl None m g)) (λ _. next_piece_steady w l IsControl None m g p q)
+      repeat_steady l (escape_rule_laws (λ i. errs.of_kind i Kind.EscapedTransform) errs.grows (λ i j. j))
+      (always (next_piece_meaning w IsControl None m g)) (λ _. next_piece_steady l IsControl None p q)

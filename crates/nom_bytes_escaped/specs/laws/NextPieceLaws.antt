@@ -9,12 +9,10 @@ use Rattle.nom_internal.specs.Success.{place_zero, success_lawful, success_stead
 use Rattle.nom_internal.specs.Families.{IsLawfulFamily, AnyKey}
 use Rattle.nom_internal.specs.laws.SequenceLaws.{then_lawful, then_steady}
 use Rattle.nom_internal.specs.laws.ChoiceLaws.{otherwise_lawful, otherwise_steady}
-use Rattle.nom_internal.specs.Cases.{labelled_meaning}
 use Rattle.nom_internal.specs.laws.CaseLaws.{labelled_lawful, labelled_steady}
 use Rattle.nom_bytes_escaped.specs.declared.next_piece.Control.{Control}
-use Rattle.nom_bytes_escaped.specs.declared.next_piece.Piece.TheVariants.{Normal, Escapable}
-use Rattle.nom_bytes_escaped.specs.declared.next_piece.NextPiece.TheVariants.{Found, Other, Dangling, Done}
-use Rattle.nom_bytes_escaped.specs.NextPieces.{look, IsLeft, left_leaf, StandsOther, StandsLast, StandsBefore, TellsControl, control_leaf, by_control}
+use Rattle.nom_bytes_escaped.specs.declared.next_piece.NextPiece.TheVariants.{Done}
+use Rattle.nom_bytes_escaped.specs.NextPieces.{IsLeft, left_leaf, StandsOther, StandsLast, StandsBefore, TellsControl, control_leaf, by_control}
 use Rattle.nom_bytes_escaped.specs.NextPieces.{behind_control, escape_meaning, piece_meaning, by_left, where_left, next_piece_meaning}
 
 -- the items of the second of related inputs begin with the first's
@@ -142,16 +140,16 @@ module _ {I A : Type 0} (w : Model I A) (IsControl : A → Type 0) (lack : Optio
   }
 
 -- what follows by what was told
-module _ {I A W E : Type 0} (U : Type 0) (w : Model I A) (g : Meaning I W E) where
+module _ {I A W E : Type 0} (U : Type 0) {w : Model I A} {g : Meaning I W E} where
   control_lawful : IsLawful w g → (c : Control (Unit {0})) → IsLawful w (by_control {U = U} g c)
-  control_lawful q Control.None = success_lawful E w Other
-  control_lawful q Control.Last = success_lawful E w Dangling
-  control_lawful q (Control.Before u) = labelled_lawful w g (λ v. Found (Escapable v)) q
+  control_lawful q Control.None = success_lawful
+  control_lawful q Control.Last = success_lawful
+  control_lawful q (Control.Before u) = labelled_lawful q
 
   control_steady : IsSteady w g → (c : Control (Unit {0})) → IsSteady w (by_control {U = U} g c)
-  control_steady q Control.None = success_steady E w Other
-  control_steady q Control.Last = success_steady E w Dangling
-  control_steady q (Control.Before u) = labelled_steady w g (λ v. Found (Escapable v)) q
+  control_steady q Control.None = success_steady
+  control_steady q Control.Last = success_steady
+  control_steady q (Control.Before u) = labelled_steady q
 
   control_frugal : (mode : Modes) → g.IsFrugal mode → (c : Control (Unit {0})) → (by_control {U = U} g c).IsFrugal mode
   control_frugal mode h Control.None = λ e z. z
@@ -176,14 +174,14 @@ module _ {I A W E : Type 0} (U : Type 0) (w : Model I A) (g : Meaning I W E) whe
     never_fails = λ large h c _. control_never large h c;
   }
 
-module _ {I A V E : Type 0} (w : Model I A) (done : V) (m : Meaning I V E) where
+module _ {I A V E : Type 0} {w : Model I A} (done : V) {m : Meaning I V E} where
   left_lawful : IsLawful w m → (b : Bool) → IsLawful w (by_left done m b)
   left_lawful p true = p
-  left_lawful p false = success_lawful E w done
+  left_lawful p false = success_lawful
 
   pub left_steady : IsSteady w m → (b : Bool) → IsSteady w (by_left done m b)
   left_steady p true = p
-  left_steady p false = success_steady E w done
+  left_steady p false = success_steady
 
   left_frugal : (mode : Modes) → m.IsFrugal mode → (b : Bool) → (by_left done m b).IsFrugal mode
   left_frugal mode h true = h
@@ -205,27 +203,23 @@ module _ {I A V E : Type 0} (w : Model I A) (done : V) (m : Meaning I V E) where
     never_fails = λ large h b _. left_never large h b;
   }
 
-module _ {I A U W E : Type 0} (w : Model I A) (l : InputLaws w) (IsControl : A → Type 0) (lack : Option ℕ) (m : Meaning I U E) (g : Meaning I W E) where
+module _ {I A U W E : Type 0} {w : Model I A} (l : InputLaws w) (IsControl : A → Type 0) (lack : Option ℕ) {m : Meaning I U E} {g : Meaning I W E} where
   escape_lawful : IsLawful w g → IsLawful w (escape_meaning {U = U} w IsControl lack g)
-  escape_lawful q = then_lawful w l (λ _ t. t) (λ b. b) (λ b. b) (look (control_leaf w IsControl lack)) (behind_control g)
-      (leaf_lawful w (control_leaf w IsControl lack) (control_laws w IsControl lack) (Unit {0}) (λ i e. ⊥) ⊥) (behind_lawful U w g q)
+  escape_lawful q = then_lawful l (behind_control g) (leaf_lawful (control_laws w IsControl lack)) (behind_lawful U q)
 
   escape_steady : IsSteady w g → IsSteady w (escape_meaning {U = U} w IsControl lack g)
-  escape_steady q = then_steady w l (λ _ t. t) (λ b. b) (λ b. b) (look (control_leaf w IsControl lack)) (behind_control g)
-      (leaf_steady w (control_leaf w IsControl lack) (control_laws w IsControl lack) {E = E} (Unit {0}) (λ i e. ⊥) ⊥) (control_steady U w g q)
+  escape_steady q = then_steady l (behind_control g) (leaf_steady (control_laws w IsControl lack)) (control_steady U q)
 
   piece_lawful : IsLawful w m → IsLawful w g → IsLawful w (piece_meaning w IsControl lack m g)
-  piece_lawful p q = otherwise_lawful w (labelled_meaning (λ u. Found (Normal u)) m) (escape_meaning w IsControl lack g)
-      (labelled_lawful w m (λ u. Found (Normal u)) p) (escape_lawful q)
+  piece_lawful p q = otherwise_lawful (labelled_lawful p) (escape_lawful q)
 
   piece_steady : IsSteady w m → IsSteady w g → IsSteady w (piece_meaning w IsControl lack m g)
-  piece_steady p q = otherwise_steady w (labelled_meaning (λ u. Found (Normal u)) m) (escape_meaning w IsControl lack g)
-      (labelled_steady w m (λ u. Found (Normal u)) p) (escape_steady q)
+  piece_steady p q = otherwise_steady (labelled_steady p) (escape_steady q)
 
   pub next_piece_lawful : IsLawful w m → IsLawful w g → IsLawful w (next_piece_meaning w IsControl lack m g)
-  next_piece_lawful p q = then_lawful w l (λ _ t. t) (λ b. b) (λ b. b) (look (left_leaf w)) (where_left Done (piece_meaning w IsControl lack m g))
-      (leaf_lawful w (left_leaf w) (left_laws w) (Unit {0}) (λ i e. ⊥) ⊥) (where_left_lawful w Done (piece_meaning w IsControl lack m g) (piece_lawful p q))
+  next_piece_lawful p q =
+      then_lawful l (where_left Done (piece_meaning w IsControl lack m g)) (leaf_lawful (left_laws w)) (where_left_lawful Done (piece_lawful p q))
 
   pub next_piece_steady : IsSteady w m → IsSteady w g → IsSteady w (next_piece_meaning w IsControl lack m g)
-  next_piece_steady p q = then_steady w l (λ _ t. t) (λ b. b) (λ b. b) (look (left_leaf w)) (where_left Done (piece_meaning w IsControl lack m g))
-      (leaf_steady w (left_leaf w) (left_laws w) {E = E} (Unit {0}) (λ i e. ⊥) ⊥) (left_steady w Done (piece_meaning w IsControl lack m g) (piece_steady p q))
+  next_piece_steady p q =
+      then_steady l (where_left Done (piece_meaning w IsControl lack m g)) (leaf_steady (left_laws w)) (left_steady Done (piece_steady p q))

@@ -55,10 +55,10 @@ module _ {I A : Type 0} (w : Model I A) (pattern : Bool → List A → Match) (l
 
   module _ {E : Type 0} (errs : Errors I E) (kind : ErrorKind) where
     pub match_lawful : IsLawful w (match_meaning w pattern errs kind)
-    match_lawful = leaf_lawful w (match_leaf w pattern) match_laws (Unit {0}) (λ i. errs.of_kind i kind) errs.grows
+    match_lawful = leaf_lawful match_laws
 
     pub match_steady : IsSteady w (match_meaning w pattern errs kind)
-    match_steady = leaf_steady w (match_leaf w pattern) match_laws (Unit {0}) (λ i. errs.of_kind i kind) errs.grows
+    match_steady = leaf_steady match_laws
 
 module _ {A : Type 0} (code : A → ℕ) where
   return_stays : (s : Bool) (found : Match) (lack : Option ℕ) (xs more : List A) → IsSettled (after_return code true found lack xs) →

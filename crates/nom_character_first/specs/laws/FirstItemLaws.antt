@@ -8,7 +8,7 @@ use Rattle.nom_internal.specs.Leaf.{LeafLaws, leaf_lawful, leaf_steady}
 use Rattle.nom_bytes.specs.Predicates.{IsFixed}
 use Rattle.nom_bytes.specs.Stays.{closed_stays}
 use Rattle.nom_character_first.specs.declared.first.Blame.{Blame}
-use Rattle.nom_character_first.specs.FirstItem.{IsFirstItem, heads, blamed, first_item_meaning}
+use Rattle.nom_character_first.specs.FirstItem.{IsFirstItem, heads, first_item_meaning}
 
 -- a test that computes answers in one way
 pub test_is_fixed : {A : Type 0} (IsValue : A → Type 0) (test : A → Bool) → IsFixed IsValue (λ x b. b ≡ test x)
@@ -72,7 +72,7 @@ module _ {I A : Type 0} (w : Model I A) (IsValue : A → Type 0) (values : (i : 
 
   module _ {E : Type 0} (IsSound : Type 0) (errs : Errors I E) (blame : Blame) where
     pub first_item_lawful : IsLawful w (first_item_meaning w code Test IsSound errs blame lack)
-    first_item_lawful = leaf_lawful w (heads w code Test lack) first_item_laws IsSound (blamed errs blame) errs.grows
+    first_item_lawful = leaf_lawful first_item_laws
 
     pub first_item_steady : IsSteady w (first_item_meaning w code Test IsSound errs blame lack)
-    first_item_steady = leaf_steady w (heads w code Test lack) first_item_laws IsSound (blamed errs blame) errs.grows
+    first_item_steady = leaf_steady first_item_laws

@@ -227,11 +227,11 @@ module _ {I A : Type 0} (w : Model I A) (code : A → ℕ) (signed : Bool) (fits
 
   module _ {E : Type 0} (errs : Errors I E) where
     pub integer_lawful : IsLawful w (integer_meaning w code signed fits errs)
-    integer_lawful = leaf_lawful w (integers w code signed fits) integer_laws (Unit {0}) (λ i. errs.of_kind i Kind.Digit) errs.grows
+    integer_lawful = leaf_lawful integer_laws
 
     -- a decided streaming answer stays on every longer input
     pub integer_steady : IsSteady w (integer_meaning w code signed fits errs)
-    integer_steady = leaf_steady w (integers w code signed fits) integer_laws (Unit {0}) (λ i. errs.of_kind i Kind.Digit) errs.grows
+    integer_steady = leaf_steady integer_laws
 
 pub unsigned_range : (bits : ℕ) → IsRange (FitsUnsignedBits bits)
 unsigned_range bits = record { zero = pow_pos bits; between = unsigned-between bits }

@@ -10,16 +10,16 @@ use Rattle.nom_internal.specs.Pinned.{IsPinned}
 use Rattle.nom_combinator.specs.Conditions.{state_of, cond_meaning, CondOutput, CondPins}
 use Rattle.nom_combinator.specs.laws.VerdictLaws.{opt_pinned}
 
-module _ {I A S P E : Type 0} (w : Model I A) (meaning : S → Meaning I P E) where
+module _ {I A S P E : Type 0} {w : Model I A} {meaning : S → Meaning I P E} where
   pub cond_lawful : ((s : S) → (meaning s).IsSound → IsLawful w (meaning s)) → (o : Option S) → (cond_meaning meaning o).IsSound →
       IsLawful w (cond_meaning meaning o)
-  cond_lawful l (Some s) k = labelled_lawful w (meaning s) (λ t. Some t) (l s k)
-  cond_lawful l None k = success_lawful E w None
+  cond_lawful l (Some s) k = labelled_lawful (l s k)
+  cond_lawful l None k = success_lawful
 
   pub cond_steady : ((s : S) → (meaning s).IsSound → IsSteady w (meaning s)) → (o : Option S) → (cond_meaning meaning o).IsSound →
       IsSteady w (cond_meaning meaning o)
-  cond_steady l (Some s) k = labelled_steady w (meaning s) (λ t. Some t) (l s k)
-  cond_steady l None k = success_steady E w None
+  cond_steady l (Some s) k = labelled_steady (l s k)
+  cond_steady l None k = success_steady
 
 module _ {I F S P O E : Type 0} (state : F → S) (meaning : S → Meaning I P E) (IsOutput : S → P → O → Type 0) (Pins : F → Type 0) {view : View O} where
   pub cond_pinned : ((f : F) → (meaning (state f)).IsSound → Pins f → IsPinned view (IsOutput (state f))) → (o : Option F) →

@@ -28,7 +28,7 @@ module _ {I A P T : Type 0} (w : Model I A) (v : T) where
     never_fails = λ large i n u s. never_given large n v s;
   }
 
-module _ {I A P T E : Type 0} (w : Model I A) (v : T) (IsSure : Type 0) where
+module _ {I A P T E : Type 0} {w : Model I A} {v : T} {IsSure : Type 0} where
   value_laws : CaseLaws true w w (value_case {P = P} {E = E} v IsSure)
   value_laws =
       let l = plain_laws w (λ i. GivesValue v) (given_laws w v) {E = E} (λ b. b) in
@@ -46,9 +46,9 @@ module _ {I A P T E : Type 0} (w : Model I A) (v : T) (IsSure : Type 0) where
         asks_none = λ Part mode i a h g. g.2 (h.1 g.1);
       }
 
-  module _ (m : Meaning I P E) where
+  module _ {m : Meaning I P E} where
     pub value_lawful : IsLawful w m → IsLawful w (value_meaning v IsSure m)
-    value_lawful l = case_lawful w w m l (value_case v IsSure) value_laws
+    value_lawful l = case_lawful value_laws l
 
     pub value_steady : IsSteady w m → IsSteady w (value_meaning v IsSure m)
-    value_steady l = case_steady w w m (value_case v IsSure) value_laws refl l
+    value_steady l = case_steady value_laws refl l

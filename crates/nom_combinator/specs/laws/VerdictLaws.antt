@@ -8,7 +8,6 @@ use Rattle.nom_internal.specs.Outcome.{Outcome, IsDecided, IsFault, IsFailure, f
 use Rattle.nom_internal.specs.Outcome.Outcome.{Accept, Refuse, Fail, TooLarge, Undecided}
 use Rattle.nom_internal.specs.Meaning.{Meaning, IsLawful, IsSteady}
 use Rattle.nom_internal.specs.laws.CaseLaws.{CaseLaws, here_known, here_related, here_alike, here_place, no_place, case_lawful, case_steady}
-use Rattle.nom_internal.specs.Cases.{Passes, plain_case}
 use Rattle.nom_internal.specs.laws.RecognizedLaws.{AcceptLaws, plain_laws}
 use Rattle.nom_internal.specs.Pinned.{IsPinned}
 use Rattle.nom_combinator.specs.Verdicts.{complete_outcome, IsWant, complete_case, complete_meaning, WithSlice, consumed_meaning, verdict_case}
@@ -239,37 +238,36 @@ module _ {V O : Type 0} {view : View O} {F : V → O → Type 0} (f : IsPinned v
   pub opt_pinned : IsPinned (option_view view) (OptOutput F)
   opt_pinned = record { one_view = one_option }
 
-module _ {I A P E : Type 0} (w : Model I A) (m : Meaning I P E) where
+module _ {I A P E : Type 0} {w : Model I A} {m : Meaning I P E} where
   pub cut_lawful : IsLawful w m → IsLawful w (cut_meaning m)
-  cut_lawful l = case_lawful w w m l (verdict_case cut_outcome (λ _. true) NeverCut) (verdict_laws w cut_outcome NeverCut cut_is (λ _. true))
+  cut_lawful l = case_lawful (verdict_laws w cut_outcome NeverCut cut_is (λ _. true)) l
 
   pub cut_steady : IsSteady w m → IsSteady w (cut_meaning m)
-  cut_steady l = case_steady w w m (verdict_case cut_outcome (λ _. true) NeverCut) (verdict_laws w cut_outcome NeverCut cut_is (λ _. true)) refl l
+  cut_steady l = case_steady (verdict_laws w cut_outcome NeverCut cut_is (λ _. true)) refl l
 
   pub opt_lawful : IsLawful w m → IsLawful w (opt_meaning m)
-  opt_lawful l = case_lawful w w m l (verdict_case opt_outcome (λ _. false) (λ Part. Part)) (verdict_laws w opt_outcome (λ Part. Part) opt_is (λ _. false))
+  opt_lawful l = case_lawful (verdict_laws w opt_outcome (λ Part. Part) opt_is (λ _. false)) l
 
   pub opt_steady : IsSteady w m → IsSteady w (opt_meaning m)
-  opt_steady l = case_steady w w m (verdict_case opt_outcome (λ _. false) (λ Part. Part)) (verdict_laws w opt_outcome (λ Part. Part) opt_is (λ _. false)) refl l
+  opt_steady l = case_steady (verdict_laws w opt_outcome (λ Part. Part) opt_is (λ _. false)) refl l
 
   pub peek_lawful : IsLawful w m → IsLawful w (peek_meaning m)
-  peek_lawful l = case_lawful w w m l (plain_case (λ b. b) (λ i. Passes Looks)) (plain_laws w (λ i. Looks) (looks_laws w) (λ b. b))
+  peek_lawful l = case_lawful (plain_laws w (λ i. Looks) (looks_laws w) (λ b. b)) l
 
   pub peek_steady : IsSteady w m → IsSteady w (peek_meaning m)
-  peek_steady l = case_steady w w m (plain_case (λ b. b) (λ i. Passes Looks)) (plain_laws w (λ i. Looks) (looks_laws w) (λ b. b)) refl l
+  peek_steady l = case_steady (plain_laws w (λ i. Looks) (looks_laws w) (λ b. b)) refl l
 
-  pub not_lawful : (Own : I → E → Type 0) (Grows : Type 0) → IsLawful w m → IsLawful w (not_meaning Own Grows m)
-  not_lawful Own Grows l = case_lawful w w m l (not_case Own Grows) (not_laws w Own Grows)
+  pub not_lawful : {Own : I → E → Type 0} {Grows : Type 0} → IsLawful w m → IsLawful w (not_meaning Own Grows m)
+  not_lawful {Own} {Grows} l = case_lawful (not_laws w Own Grows) l
 
-  pub not_steady : (Own : I → E → Type 0) (Grows : Type 0) → IsSteady w m → IsSteady w (not_meaning Own Grows m)
-  not_steady Own Grows l = case_steady w w m (not_case Own Grows) (not_laws w Own Grows) refl l
+  pub not_steady : {Own : I → E → Type 0} {Grows : Type 0} → IsSteady w m → IsSteady w (not_meaning Own Grows m)
+  not_steady {Own} {Grows} l = case_steady (not_laws w Own Grows) refl l
 
-  pub complete_lawful : (Own : I → E → Type 0) (Grows : Type 0) → IsLawful w m → IsLawful w (complete_meaning Own Grows m)
-  complete_lawful Own Grows l = case_lawful w w m l (complete_case Own Grows) (complete_laws w Own Grows)
+  pub complete_lawful : {Own : I → E → Type 0} {Grows : Type 0} → IsLawful w m → IsLawful w (complete_meaning Own Grows m)
+  complete_lawful {Own} {Grows} l = case_lawful (complete_laws w Own Grows) l
 
   pub consumed_lawful : InputLaws w → IsLawful w m → IsLawful w (consumed_meaning w m)
-  consumed_lawful k l = case_lawful w w m l (plain_case (λ b. b) (λ i. Passes (WithSlice w i))) (plain_laws w (λ i. WithSlice w i) (kept_laws w k) (λ b. b))
+  consumed_lawful k l = case_lawful (plain_laws w (λ i. WithSlice w i) (kept_laws w k) (λ b. b)) l
 
   pub consumed_steady : InputLaws w → IsSteady w m → IsSteady w (consumed_meaning w m)
-  consumed_steady k l = case_steady w w m (plain_case (λ b. b) (λ i. Passes (WithSlice w i)))
-      (plain_laws w (λ i. WithSlice w i) (kept_laws w k) (λ b. b)) refl l
+  consumed_steady k l = case_steady (plain_laws w (λ i. WithSlice w i) (kept_laws w k) (λ b. b)) refl l

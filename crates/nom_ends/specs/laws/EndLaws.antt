@@ -4,13 +4,13 @@ use Rattle.nom_error.specs.Errors.{Errors}
 use Rattle.nom_traits.specs.Input.{Model}
 use Rattle.nom_internal.specs.Meaning.{IsLawful, IsSteady}
 use Rattle.nom_internal.specs.Leaf.{LeafLaws, leaf_lawful, leaf_steady}
-use Rattle.nom_internal.specs.Success.{success_lawful}
+use Rattle.nom_internal.specs.Success.{success_meaning, success_lawful, success_steady}
 use Rattle.nom_ends.specs.Ends.{clone_meaning, fail_leaf, fail_meaning}
 
 -- a clone of a value
 pub clone_lawful : {I A V : Type 0} (E : Type 0) (w : Model I A) (v : V) (IsSure : Type 0) → IsLawful w (clone_meaning {E = E} v IsSure)
 clone_lawful E w v IsSure =
-    let l = success_lawful E w v in
+    let l : IsLawful w (success_meaning {E = E} v) = success_lawful in
     record {
       within = l.within;
       one_outcome = l.one_outcome;
@@ -20,6 +20,11 @@ clone_lawful E w v IsSure =
       blames_alike = l.blames_alike;
       never_fails = l.never_fails;
     }
+
+pub clone_steady : {I A V : Type 0} (E : Type 0) (w : Model I A) (v : V) (IsSure : Type 0) → IsSteady w (clone_meaning {E = E} v IsSure)
+clone_steady E w v IsSure =
+    let l : IsSteady w (success_meaning {E = E} v) = success_steady in
+    record { stays = l.stays }
 
 fail_laws : {I A V : Type 0} (w : Model I A) → LeafLaws w (fail_leaf {I = I} {V = V})
 fail_laws w = record {
@@ -38,7 +43,7 @@ fail_laws w = record {
 
 module _ {I A E : Type 0} (V : Type 0) (w : Model I A) (errs : Errors I E) where
   pub fail_lawful : IsLawful w (fail_meaning {V = V} errs)
-  fail_lawful = leaf_lawful w fail_leaf (fail_laws w) (Unit {0}) (λ i e. errs.of_kind i Kind.Fail e) errs.grows
+  fail_lawful = leaf_lawful (fail_laws w)
 
   pub fail_steady : IsSteady w (fail_meaning {V = V} errs)
-  fail_steady = leaf_steady w fail_leaf (fail_laws w) (Unit {0}) (λ i e. errs.of_kind i Kind.Fail e) errs.grows
+  fail_steady = leaf_steady (fail_laws w)

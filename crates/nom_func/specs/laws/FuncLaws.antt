@@ -95,4 +95,4 @@ module _ {I A : Type 0} (w : Model I A) where
 
       pub stream_func_steady : (Takes : I → Type 0) →
           (let IsSound : Type 0 = IsStreamParser w view Gives Takes in IsSound → IsSteady w (func_meaning w view Gives IsSound))
-      stream_func_steady Takes p = agrees_alike true (agrees true p.stays)
+      stream_func_steady Takes p = record { stays = agrees_alike true (agrees true p.stays) }

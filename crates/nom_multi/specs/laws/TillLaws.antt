@@ -6,14 +6,13 @@ use Rattle.nom_traits.specs.Input.{Model, InputLaws}
 use Rattle.nom_internal.specs.Outcome.{Outcome, failure}
 use Rattle.nom_internal.specs.Outcome.Outcome.{Accept, Refuse, Fail, TooLarge, Undecided}
 use Rattle.nom_internal.specs.Meaning.{Meaning, IsLawful, IsSteady}
-use Rattle.nom_internal.specs.Cases.{labelled_meaning}
 use Rattle.nom_internal.specs.laws.CaseLaws.{labelled_lawful, labelled_steady}
 use Rattle.nom_internal.specs.laws.ChoiceLaws.{otherwise_lawful, otherwise_steady}
 use Rattle.nom_internal.specs.Families.{always, always_lawful}
 use Rattle.nom_repeat.specs.Repeat.{Ran}
 use Rattle.nom_repeat.specs.Repeat.Turn.{Ends}
 use Rattle.nom_repeat.specs.laws.RepeatLaws.{KeepsTurn, KeepsReply, EndsAt, RuleLaws, repeat_lawful, repeat_steady}
-use Rattle.nom_multi.specs.Till.{end_or_item, step_turn, till_turn, OnItem, TillBlames, TillAsks, till_rule, with_end, many_till_meaning}
+use Rattle.nom_multi.specs.Till.{end_or_item, step_turn, till_turn, OnItem, TillBlames, TillAsks, till_rule, many_till_meaning}
 
 till_decided : {T V : Type 0} (a : Option (Outcome (T ⊎ V))) → KeepsTurn true (till_turn a) → KeepsReply true a
 till_decided (Some (Accept n u)) h = tt
@@ -90,15 +89,11 @@ till_rule_laws errs = record {
   never_fails = λ Part large k a h e. (h, till_fails large a e);
 }
 
-module _ {I A T V E : Type 0} (w : Model I A) (l : InputLaws w) (errs : Errors I E) (m : Meaning I V E) (end : Meaning I T E) where
+module _ {I A T V E : Type 0} {w : Model I A} (l : InputLaws w) (errs : Errors I E) {m : Meaning I V E} {end : Meaning I T E} where
   pub many_till_lawful : IsLawful w m → IsLawful w end → IsLawful w (many_till_meaning w errs m end)
   many_till_lawful p q =
-      let part : IsLawful w (end_or_item end m) =
-      otherwise_lawful w (labelled_meaning inl end) (labelled_meaning inr m) (labelled_lawful w end inl q) (labelled_lawful w m inr p) in
-      repeat_lawful w l (till_rule errs) (till_rule_laws errs) with_end (always (end_or_item end m)) (always_lawful w (end_or_item end m) part)
+      repeat_lawful l (till_rule_laws errs) (always (end_or_item end m)) (always_lawful (otherwise_lawful (labelled_lawful q) (labelled_lawful p)))
 
   pub many_till_steady : IsSteady w m → IsSteady w end → IsSteady w (many_till_meaning w errs m end)
   many_till_steady p q =
-      let part : IsSteady w (end_or_item end m) =
-      otherwise_steady w (labelled_meaning inl end) (labelled_meaning inr m) (labelled_steady w end inl q) (labelled_steady w m inr p) in
-      repeat_steady w l (till_rule errs) (till_rule_laws errs) with_end (always (end_or_item end m)) (λ _. part)
+      repeat_steady l (till_rule_laws errs) (always (end_or_item end m)) (λ _. otherwise_steady (labelled_steady q) (labelled_steady p))

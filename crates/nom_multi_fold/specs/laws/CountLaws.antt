@@ -1,15 +1,13 @@
 -- The laws of counts of items.
-use Rattle.std.specs.Prelude.{true, ◌++◌}
+use Rattle.std.specs.Prelude.{true}
 use Rattle.nom_error.specs.Errors.{Errors}
 use Rattle.nom_traits.specs.Input.{Model, InputLaws}
 use Rattle.nom_traits.specs.View.{itself}
 use Rattle.nom_internal.specs.Meaning.{Meaning, IsLawful, IsSteady}
 use Rattle.nom_internal.specs.Pinned.{IsPinned}
 use Rattle.nom_internal.specs.laws.SequenceLaws.{sequence_lawful, sequence_steady}
-use Rattle.nom_repeat.specs.Items.{items_meaning}
 use Rattle.nom_repeat.specs.laws.ItemsLaws.{items_lawful, items_steady}
 use Rattle.std.proofs.Common.{sym, ◌∙◌}
-use Rattle.nom_multi_fold.specs.Dropped.{dropped_meaning}
 use Rattle.nom_multi_fold.specs.laws.DroppedLaws.{dropped_lawful, dropped_steady}
 use Rattle.nom_multi_fold.specs.Counts.{IsNumber, many0_count_meaning, many1_count_meaning}
 use Rattle.nom_repeat.specs.Bounds.{any_limits, one_limits}
@@ -19,23 +17,17 @@ use Rattle.nom_repeat.specs.declared.items.TooFew.TheVariants.{Fresh}
 pub number_pinned : {V : Type 0} → IsPinned itself (IsNumber {V = V})
 number_pinned = record { one_view = λ t a b p q. p ∙ sym q }
 
-module _ {I A V E : Type 0} (w : Model I A) (l : InputLaws w) (errs : Errors I E) (m : Meaning I V E) where
+module _ {I A V E : Type 0} {w : Model I A} (l : InputLaws w) (errs : Errors I E) {m : Meaning I V E} where
   pub many0_count_lawful : IsLawful w m → IsLawful w (many0_count_meaning w errs m)
-  many0_count_lawful p = items_lawful w l errs (any_limits Kind.Many0Count) ⊥ (dropped_meaning m) (dropped_lawful w m p)
+  many0_count_lawful p = items_lawful l errs (any_limits Kind.Many0Count) (dropped_lawful p)
 
   pub many0_count_steady : IsSteady w m → IsSteady w (many0_count_meaning w errs m)
-  many0_count_steady p = items_steady w l errs (any_limits Kind.Many0Count) ⊥ (dropped_meaning m) (dropped_steady w m p)
+  many0_count_steady p = items_steady l errs (any_limits Kind.Many0Count) (dropped_steady p)
 
   pub many1_count_lawful : IsLawful w m → IsLawful w (many1_count_meaning w errs m)
-  many1_count_lawful p = sequence_lawful w l (λ vs us. vs ++ us) (λ o. o) (λ o. o)
-      (items_meaning w errs (one_limits (Fresh Kind.Many1Count) true) ⊥ (dropped_meaning m))
-      (items_meaning w errs (any_limits Kind.Many1Count) ⊥ (dropped_meaning m))
-      (items_lawful w l errs (one_limits (Fresh Kind.Many1Count) true) ⊥ (dropped_meaning m) (dropped_lawful w m p))
-      (items_lawful w l errs (any_limits Kind.Many1Count) ⊥ (dropped_meaning m) (dropped_lawful w m p))
+  many1_count_lawful p = sequence_lawful l (items_lawful l errs (one_limits (Fresh Kind.Many1Count) true) (dropped_lawful p))
+      (items_lawful l errs (any_limits Kind.Many1Count) (dropped_lawful p))
 
   pub many1_count_steady : IsSteady w m → IsSteady w (many1_count_meaning w errs m)
-  many1_count_steady p = sequence_steady w l (λ vs us. vs ++ us) (λ o. o) (λ o. o)
-      (items_meaning w errs (one_limits (Fresh Kind.Many1Count) true) ⊥ (dropped_meaning m))
-      (items_meaning w errs (any_limits Kind.Many1Count) ⊥ (dropped_meaning m))
-      (items_steady w l errs (one_limits (Fresh Kind.Many1Count) true) ⊥ (dropped_meaning m) (dropped_steady w m p))
-      (items_steady w l errs (any_limits Kind.Many1Count) ⊥ (dropped_meaning m) (dropped_steady w m p))
+  many1_count_steady p = sequence_steady l (items_steady l errs (one_limits (Fresh Kind.Many1Count) true) (dropped_steady p))
+      (items_steady l errs (any_limits Kind.Many1Count) (dropped_steady p))

@@ -5,7 +5,6 @@ use Rattle.nom_traits.specs.Input.{Model, IsBoundary}
 use Rattle.nom_internal.specs.Outcome.{failure}
 use Rattle.nom_internal.specs.Outcome.Outcome.{Accept}
 use Rattle.nom_internal.specs.Meaning.{Meaning, IsLawful, IsSteady}
-use Rattle.nom_internal.specs.Cases.{Passes, plain_case}
 use Rattle.nom_internal.specs.laws.CaseLaws.{case_lawful, case_steady}
 use Rattle.nom_internal.specs.laws.RecognizedLaws.{AcceptLaws, plain_laws}
 use Rattle.nom_multi_fold.specs.Dropped.{dropped_meaning}
@@ -23,11 +22,9 @@ module _ {I A V : Type 0} (w : Model I A) where
     never_fails = λ large i n u s. never_dropped large n u s;
   }
 
-  module _ {E : Type 0} (m : Meaning I V E) where
-    pub dropped_lawful : IsLawful w m → IsLawful w (dropped_meaning m)
-    dropped_lawful p = case_lawful w w m p (plain_case (λ _. false) (λ i. Passes (λ n v o. o ≡ Accept n v)))
-        (plain_laws w (λ (i : I) n (v : V) o. o ≡ Accept n v) accept_laws (λ _. false))
+module _ {I A V E : Type 0} {w : Model I A} {m : Meaning I V E} where
+  pub dropped_lawful : IsLawful w m → IsLawful w (dropped_meaning m)
+  dropped_lawful p = case_lawful (plain_laws w (λ (i : I) n (v : V) o. o ≡ Accept n v) (accept_laws w) (λ _. false)) p
 
-    pub dropped_steady : IsSteady w m → IsSteady w (dropped_meaning m)
-    dropped_steady p = case_steady w w m (plain_case (λ _. false) (λ i. Passes (λ n v o. o ≡ Accept n v)))
-        (plain_laws w (λ (i : I) n (v : V) o. o ≡ Accept n v) accept_laws (λ _. false)) refl p
+  pub dropped_steady : IsSteady w m → IsSteady w (dropped_meaning m)
+  dropped_steady p = case_steady (plain_laws w (λ (i : I) n (v : V) o. o ≡ Accept n v) (accept_laws w) (λ _. false)) refl p

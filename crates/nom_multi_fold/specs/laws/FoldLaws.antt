@@ -1,5 +1,5 @@
 -- The laws of folds.
-use Rattle.std.specs.Prelude.{◌≡◌, ℕ, ◌<◌, true, false, List, [], ◌∷◌, ◌++◌}
+use Rattle.std.specs.Prelude.{◌≡◌, ℕ, true, false, List, [], ◌∷◌}
 use Rattle.std.specs.List.{AllZip, FoldsTo}
 use Rattle.std.proofs.Common.{subst}
 use Rattle.nom_error.specs.Errors.{Errors}
@@ -8,12 +8,9 @@ use Rattle.nom_traits.specs.Input.{Model, InputLaws}
 use Rattle.nom_traits.specs.View.{View}
 use Rattle.nom_internal.specs.Meaning.{Meaning, IsLawful, IsSteady}
 use Rattle.nom_internal.specs.Pinned.{IsPinned}
-use Rattle.nom_internal.specs.Sequence.{sequence_meaning}
 use Rattle.nom_internal.specs.laws.SequenceLaws.{sequence_lawful, sequence_steady}
-use Rattle.nom_repeat.specs.Items.{items_meaning}
 use Rattle.nom_repeat.specs.laws.ItemsLaws.{items_lawful, items_steady}
 use Rattle.nom_multi_fold.specs.Under.{under_lawful, under_steady}
-use Rattle.nom_multi_fold.specs.Unfit.{unfit}
 use Rattle.nom_multi_fold.specs.laws.UnfitLaws.{unfit_lawful, unfit_steady}
 use Rattle.nom_multi_fold.specs.Folds.{Folds, FoldsAlike, fold_many0_meaning, fold_many1_meaning, fold_many_m_n_meaning}
 use Rattle.nom_repeat.specs.Bounds.{any_limits, one_limits, bounded_limits}
@@ -38,37 +35,23 @@ module _ {V T R : Type 0} {item : View T} {value : View R} {IsOutput : V → T �
         q.are_outputs p.folded q.folded;
   }
 
-module _ {I A V E : Type 0} (w : Model I A) (l : InputLaws w) (errs : Errors I E) (Premise : Type 0) (m : Meaning I V E) where
+module _ {I A V E : Type 0} {w : Model I A} (l : InputLaws w) (errs : Errors I E) {Premise : Type 0} {m : Meaning I V E} where
   pub fold_many0_lawful : IsLawful w m → IsLawful w (fold_many0_meaning w errs Premise m)
-  fold_many0_lawful p = under_lawful w Premise (items_meaning w errs (any_limits Kind.Many0) ⊥ m) (items_lawful w l errs (any_limits Kind.Many0) ⊥ m p)
+  fold_many0_lawful p = under_lawful (items_lawful l errs (any_limits Kind.Many0) p)
 
   pub fold_many0_steady : IsSteady w m → IsSteady w (fold_many0_meaning w errs Premise m)
-  fold_many0_steady p = under_steady w Premise (items_meaning w errs (any_limits Kind.Many0) ⊥ m) (items_steady w l errs (any_limits Kind.Many0) ⊥ m p)
+  fold_many0_steady p = under_steady (items_steady l errs (any_limits Kind.Many0) p)
 
   pub fold_many1_lawful : IsLawful w m → IsLawful w (fold_many1_meaning w errs Premise m)
-  fold_many1_lawful p = under_lawful w Premise
-      (sequence_meaning w (λ vs us. vs ++ us) (λ o. o) (λ o. o) (items_meaning w errs (one_limits (Fresh Kind.Many1) true) ⊥ m)
-      (items_meaning w errs (any_limits Kind.Many1) ⊥ m))
-      (sequence_lawful w l (λ vs us. vs ++ us) (λ o. o) (λ o. o) (items_meaning w errs (one_limits (Fresh Kind.Many1) true) ⊥ m)
-      (items_meaning w errs (any_limits Kind.Many1) ⊥ m) (items_lawful w l errs (one_limits (Fresh Kind.Many1) true) ⊥ m p)
-      (items_lawful w l errs (any_limits Kind.Many1) ⊥ m p))
+  fold_many1_lawful p =
+      under_lawful (sequence_lawful l (items_lawful l errs (one_limits (Fresh Kind.Many1) true) p) (items_lawful l errs (any_limits Kind.Many1) p))
 
   pub fold_many1_steady : IsSteady w m → IsSteady w (fold_many1_meaning w errs Premise m)
-  fold_many1_steady p = under_steady w Premise
-      (sequence_meaning w (λ vs us. vs ++ us) (λ o. o) (λ o. o) (items_meaning w errs (one_limits (Fresh Kind.Many1) true) ⊥ m)
-      (items_meaning w errs (any_limits Kind.Many1) ⊥ m))
-      (sequence_steady w l (λ vs us. vs ++ us) (λ o. o) (λ o. o) (items_meaning w errs (one_limits (Fresh Kind.Many1) true) ⊥ m)
-      (items_meaning w errs (any_limits Kind.Many1) ⊥ m) (items_steady w l errs (one_limits (Fresh Kind.Many1) true) ⊥ m p)
-      (items_steady w l errs (any_limits Kind.Many1) ⊥ m p))
+  fold_many1_steady p =
+      under_steady (sequence_steady l (items_steady l errs (one_limits (Fresh Kind.Many1) true) p) (items_steady l errs (any_limits Kind.Many1) p))
 
   pub fold_many_m_n_lawful : (least most : ℕ) → IsLawful w m → IsLawful w (fold_many_m_n_meaning w errs least most Premise m)
-  fold_many_m_n_lawful least most p =
-      let bounded = items_meaning w errs (bounded_limits Kind.ManyMN least most) ⊥ m in
-      under_lawful w Premise (unfit errs Kind.ManyMN false (most < least) bounded)
-      (unfit_lawful w errs Kind.ManyMN false (most < least) bounded (items_lawful w l errs (bounded_limits Kind.ManyMN least most) ⊥ m p))
+  fold_many_m_n_lawful least most p = under_lawful (unfit_lawful errs Kind.ManyMN false (items_lawful l errs (bounded_limits Kind.ManyMN least most) p))
 
   pub fold_many_m_n_steady : (least most : ℕ) → IsSteady w m → IsSteady w (fold_many_m_n_meaning w errs least most Premise m)
-  fold_many_m_n_steady least most p =
-      let bounded = items_meaning w errs (bounded_limits Kind.ManyMN least most) ⊥ m in
-      under_steady w Premise (unfit errs Kind.ManyMN false (most < least) bounded)
-      (unfit_steady w errs Kind.ManyMN false (most < least) bounded (items_steady w l errs (bounded_limits Kind.ManyMN least most) ⊥ m p))
+  fold_many_m_n_steady least most p = under_steady (unfit_steady errs Kind.ManyMN false (items_steady l errs (bounded_limits Kind.ManyMN least most) p))

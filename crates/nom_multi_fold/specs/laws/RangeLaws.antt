@@ -8,28 +8,25 @@ use Rattle.nom_traits.specs.Input.{Model, InputLaws}
 use Rattle.nom_traits.specs.View.{View}
 use Rattle.nom_internal.specs.Meaning.{Meaning, IsLawful, IsSteady}
 use Rattle.nom_internal.specs.Pinned.{IsPinned}
-use Rattle.nom_repeat.specs.Items.{items_meaning}
 use Rattle.nom_repeat.specs.Lists.{zip_pinned}
 use Rattle.nom_repeat.specs.laws.ItemsLaws.{items_lawful, items_steady}
-use Rattle.nom_multi_fold.specs.Ranges.{range_limits, IsEmpty, range_meaning}
+use Rattle.nom_multi_fold.specs.Ranges.{range_limits, range_meaning}
 use Rattle.nom_multi_fold.specs.Under.{under, under_lawful, under_steady}
 use Rattle.nom_multi_fold.specs.laws.UnfitLaws.{unfit_lawful, unfit_steady}
 
-module _ {I A V E : Type 0} (w : Model I A) (l : InputLaws w) (errs : Errors I E) (kind : ErrorKind) (IsSpent : Type 0) (lower upper : Bound ℕ)
-    (Grows : Type 0) (m : Meaning I V E) where
+module _ {I A V E : Type 0} {w : Model I A} (l : InputLaws w) (errs : Errors I E) (kind : ErrorKind) (IsSpent : Type 0) (lower upper : Bound ℕ)
+    {Grows : Type 0} {m : Meaning I V E} where
   pub range_lawful : IsLawful w m → IsLawful w (range_meaning w errs kind IsSpent lower upper Grows m)
-  range_lawful p = unfit_lawful w errs kind true (IsEmpty IsSpent lower upper) (items_meaning w errs (range_limits kind lower upper) Grows m)
-      (items_lawful w l errs (range_limits kind lower upper) Grows m p)
+  range_lawful p = unfit_lawful errs kind true (items_lawful l errs (range_limits kind lower upper) p)
 
   pub range_steady : IsSteady w m → IsSteady w (range_meaning w errs kind IsSpent lower upper Grows m)
-  range_steady p = unfit_steady w errs kind true (IsEmpty IsSpent lower upper) (items_meaning w errs (range_limits kind lower upper) Grows m)
-      (items_steady w l errs (range_limits kind lower upper) Grows m p)
+  range_steady p = unfit_steady errs kind true (items_steady l errs (range_limits kind lower upper) p)
 
-  pub range_fold_lawful : (Premise : Type 0) → IsLawful w m → IsLawful w (under Premise (range_meaning w errs kind IsSpent lower upper Grows m))
-  range_fold_lawful Premise p = under_lawful w Premise (range_meaning w errs kind IsSpent lower upper Grows m) (range_lawful p)
+  pub range_fold_lawful : {Premise : Type 0} → IsLawful w m → IsLawful w (under Premise (range_meaning w errs kind IsSpent lower upper Grows m))
+  range_fold_lawful p = under_lawful (range_lawful p)
 
-  pub range_fold_steady : (Premise : Type 0) → IsSteady w m → IsSteady w (under Premise (range_meaning w errs kind IsSpent lower upper Grows m))
-  range_fold_steady Premise p = under_steady w Premise (range_meaning w errs kind IsSpent lower upper Grows m) (range_steady p)
+  pub range_fold_steady : {Premise : Type 0} → IsSteady w m → IsSteady w (under Premise (range_meaning w errs kind IsSpent lower upper Grows m))
+  range_fold_steady p = under_steady (range_steady p)
 
 -- collections of outputs, each of its own tree
 module _ {V T C : Type 0} {item : View T} {collection : View C} {items : C → List T} {IsOutput : V → T → Type 0} (pinned : IsPinned item IsOutput)

@@ -25,7 +25,7 @@ module _ {I A : Type 0} (w : Model I A) {V : Type 0} (IsUnfit : Type 0) (fails :
   where_carries decided P Q f x y o kx ky r (inl a) k = inl a
   where_carries decided P Q f x y o kx ky r (inr a) k = inr (a.0, f x y o kx ky r a.1 k)
 
-module _ {I A V E : Type 0} (w : Model I A) (errs : Errors I E) (kind : ErrorKind) (fails : Bool) (IsUnfit : Type 0) (m : Meaning I V E) where
+module _ {I A V E : Type 0} {w : Model I A} (errs : Errors I E) (kind : ErrorKind) (fails : Bool) {IsUnfit : Type 0} {m : Meaning I V E} where
   pub unfit_lawful : IsLawful w m → IsLawful w (unfit errs kind fails IsUnfit m)
   unfit_lawful p = record {
     within = within;
@@ -58,4 +58,4 @@ module _ {I A V E : Type 0} (w : Model I A) (errs : Errors I E) (kind : ErrorKin
       never large g s i h (inr a) = p.never_fails large (g.1 a.0) s i h a.1
 
   pub unfit_steady : IsSteady w m → IsSteady w (unfit errs kind fails IsUnfit m)
-  unfit_steady p = where_agree w IsUnfit fails true (m.answers true) p
+  unfit_steady p = record { stays = where_agree w IsUnfit fails true (m.answers true) p.stays }

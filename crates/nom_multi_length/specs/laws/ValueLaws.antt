@@ -6,7 +6,7 @@ use Rattle.nom_error.specs.Modes.{Modes}
 use Rattle.nom_error.specs.declared.kind.ErrorKind.TheVariants as Kind
 use Rattle.nom_traits.specs.Input.{Model, InputLaws, items_len, input_len, IsBoundary, Related}
 use Rattle.nom_traits.specs.Rests.{items_len-append}
-use Rattle.nom_traits.specs.Slices.{Slice, IsModelledBy, first_place, first_related, same_length}
+use Rattle.nom_traits.specs.Slices.{IsModelledBy, first_place, first_related, same_length}
 use Rattle.nom_internal.specs.Outcome.{Outcome, failure}
 use Rattle.nom_internal.specs.Outcome.Outcome.{Accept, Refuse, Fail, TooLarge, Undecided}
 use Rattle.nom_internal.specs.Meaning.{Meaning, IsLawful, IsSteady}
@@ -14,7 +14,7 @@ use Rattle.nom_internal.specs.Bounded.{AreAlike}
 use Rattle.nom_internal.specs.laws.BoundedLaws.{and_then_lawful, and_then_steady}
 use Rattle.nom_internal.specs.laws.CaseLaws.{fixed_lawful, fixed_steady}
 use Rattle.nom_internal.specs.Families.{IsLawfulFamily, IsOne}
-use Rattle.nom_internal.specs.Leaf.{LeafLaws, leaf_meaning, leaf_lawful, leaf_steady}
+use Rattle.nom_internal.specs.Leaf.{LeafLaws, leaf_lawful, leaf_steady}
 use Rattle.nom_multi_length.specs.laws.LengthLaws.{behind_lawful, behind_steady}
 use Rattle.nom_multi_length.specs.Values.{cuts, window_meaning, settled, settled_meaning, values_by_length, length_value_meaning}
 
@@ -64,15 +64,12 @@ module _ {I A : Type 0} (w : Model I A) (l : InputLaws w) (n : ℕ) where
     refused_settles = λ i h a. a;
   }
 
-module _ {I A E : Type 0} (w : Model I A) (l : InputLaws w) (errs : Errors I E) (n : ℕ) where
-  abbrev leaf : Meaning I (Slice w) E
-  leaf = leaf_meaning (Unit {0}) (λ i. errs.of_kind i Kind.LengthValue) errs.grows (cuts w n)
-
+module _ {I A E : Type 0} {w : Model I A} (l : InputLaws w) (errs : Errors I E) (n : ℕ) where
   window_lawful : IsLawful w (window_meaning w errs n)
-  window_lawful = fixed_lawful w leaf true (leaf_lawful w (cuts w n) (cut_laws w l n) (Unit {0}) (λ i. errs.of_kind i Kind.LengthValue) errs.grows)
+  window_lawful = fixed_lawful (leaf_lawful (cut_laws w l n))
 
   window_steady : IsSteady w (window_meaning w errs n)
-  window_steady = fixed_steady w leaf (leaf_steady w (cuts w n) (cut_laws w l n) (Unit {0}) (λ i. errs.of_kind i Kind.LengthValue) errs.grows)
+  window_steady = fixed_steady (leaf_steady (cut_laws w l n))
 
 settled_accepts : {V : Type 0} (n : ℕ) (v : V) (a : Outcome V) → Accept n v ≡ settled a → a ≡ Accept n v
 settled_accepts n v (Accept m u) e = sym e
@@ -109,20 +106,18 @@ module _ {I A V E : Type 0} (w : Model I A) (errs : Errors I E) (m : Meaning I V
 slices_alike : {I A : Type 0} (w : Model I A) → AreAlike w (IsModelledBy w)
 slices_alike w u j k a b = record { elements_are = a.elements_are ∙ sym b.elements_are; mark_is = a.mark_is ∙ sym b.mark_is }
 
-module _ {I A P V E : Type 0} (w : Model I A) (i : InputLaws w) (errs : Errors I E) (IsLength : P → ℕ → Type 0) (a : Meaning I P E) (m : Meaning I V E)
+module _ {I A P V E : Type 0} {w : Model I A} (i : InputLaws w) (errs : Errors I E) {IsLength : P → ℕ → Type 0} {a : Meaning I P E} {m : Meaning I V E}
     (l : IsLawful w m) (one : IsOne IsLength) where
   pub length_value_lawful : IsLawful w a → IsLawful w (length_value_meaning w errs IsLength a m)
   length_value_lawful p =
       let values : IsLawfulFamily w (λ n. (u : P) × IsLength u n) (values_by_length w errs m) = record {
-        lawful = λ n _. and_then_lawful w w (IsModelledBy w) (slices_alike w) (settled_meaning errs m) (settled_lawful w errs m l) i (window_meaning w errs n)
-            (window_lawful w i errs n);
+        lawful = λ n _. and_then_lawful (slices_alike w) (settled_lawful w errs m l) i (window_lawful i errs n);
         frugal = λ mode h n _. (h.1, h);
         settles = λ h n _. absurd h;
         never_fails = λ large h n _. (tt, h);
       } in
-      behind_lawful w i (λ u t. t) IsLength one a (values_by_length w errs m) p values
+      behind_lawful i one (values_by_length w errs m) p values
 
   pub length_value_steady : IsSteady w a → IsSteady w (length_value_meaning w errs IsLength a m)
-  length_value_steady p = behind_steady w i (λ u t. t) IsLength one a (values_by_length w errs m) p
-      (λ n. and_then_steady w w (IsModelledBy w) (slices_alike w) (settled_meaning errs m) (settled_lawful w errs m l) i (window_meaning w errs n)
-      (window_steady w i errs n))
+  length_value_steady p = behind_steady i one (values_by_length w errs m) p
+      (λ n. and_then_steady (slices_alike w) (settled_lawful w errs m l) i (window_steady i errs n))

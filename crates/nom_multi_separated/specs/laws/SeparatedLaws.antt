@@ -1,36 +1,30 @@
 -- The laws of items with a separator between them.
-use Rattle.std.specs.Prelude.{Bool, false, List, [], ◌∷◌, ◌++◌}
+use Rattle.std.specs.Prelude.{Bool, false, List, [], ◌∷◌}
 use Rattle.nom_error.specs.Errors.{Errors}
-use Rattle.nom_error.specs.Modes.{Modes, with_outputs}
+use Rattle.nom_error.specs.Modes.{Modes}
 use Rattle.nom_traits.specs.Input.{Model, InputLaws}
 use Rattle.nom_internal.specs.Meaning.{Meaning, IsLawful, IsSteady}
 use Rattle.nom_internal.specs.laws.SequenceLaws.{then_lawful, then_steady, sequence_lawful, sequence_steady}
 use Rattle.nom_internal.specs.Families.{IsLawfulFamily, AnyKey}
 use Rattle.nom_internal.specs.Success.{success_lawful, success_steady}
-use Rattle.nom_repeat.specs.Items.{items_meaning}
 use Rattle.nom_repeat.specs.laws.ItemsLaws.{items_lawful, items_steady}
-use Rattle.nom_sequence.specs.Sequences.{preceded_meaning}
-use Rattle.nom_multi_separated.specs.Separated.{further_meaning, separated1_meaning, optional_limits, optional_meaning, follows, following, separated0_meaning}
+use Rattle.nom_multi_separated.specs.Separated.{further_meaning, separated1_meaning, optional_limits, follows, following, separated0_meaning}
 use Rattle.nom_repeat.specs.Bounds.{any_limits, one_limits}
 use Rattle.nom_error.specs.declared.kind.ErrorKind.TheVariants as Kind
 use Rattle.nom_repeat.specs.declared.items.TooFew.TheVariants.{Passed}
 
-module _ {I A P V E : Type 0} (w : Model I A) (l : InputLaws w) (errs : Errors I E) (separator : Meaning I P E) (m : Meaning I V E) where
+module _ {I A P V E : Type 0} {w : Model I A} (l : InputLaws w) (errs : Errors I E) {separator : Meaning I P E} {m : Meaning I V E} where
   pub further_lawful : IsLawful w separator → IsLawful w m → IsLawful w (further_meaning w errs separator m)
-  further_lawful q p = items_lawful w l errs (any_limits Kind.SeparatedList) (Unit {0}) (preceded_meaning w separator m)
-      (sequence_lawful w l (λ u v. v) (with_outputs false) (λ o. o) separator m q p)
+  further_lawful q p = items_lawful l errs (any_limits Kind.SeparatedList) (sequence_lawful l q p)
 
   pub further_steady : IsSteady w separator → IsSteady w m → IsSteady w (further_meaning w errs separator m)
-  further_steady q p = items_steady w l errs (any_limits Kind.SeparatedList) (Unit {0}) (preceded_meaning w separator m)
-      (sequence_steady w l (λ u v. v) (with_outputs false) (λ o. o) separator m q p)
+  further_steady q p = items_steady l errs (any_limits Kind.SeparatedList) (sequence_steady l q p)
 
   pub separated1_lawful : IsLawful w separator → IsLawful w m → IsLawful w (separated1_meaning w errs separator m)
-  separated1_lawful q p = sequence_lawful w l (λ vs us. vs ++ us) (λ o. o) (λ o. o) (items_meaning w errs (one_limits Passed false) (Unit {0}) m)
-      (further_meaning w errs separator m) (items_lawful w l errs (one_limits Passed false) (Unit {0}) m p) (further_lawful q p)
+  separated1_lawful q p = sequence_lawful l (items_lawful l errs (one_limits Passed false) p) (further_lawful q p)
 
   pub separated1_steady : IsSteady w separator → IsSteady w m → IsSteady w (separated1_meaning w errs separator m)
-  separated1_steady q p = sequence_steady w l (λ vs us. vs ++ us) (λ o. o) (λ o. o) (items_meaning w errs (one_limits Passed false) (Unit {0}) m)
-      (further_meaning w errs separator m) (items_steady w l errs (one_limits Passed false) (Unit {0}) m p) (further_steady q p)
+  separated1_steady q p = sequence_steady l (items_steady l errs (one_limits Passed false) p) (further_steady q p)
 
   following_lawful : IsLawful w separator → IsLawful w m → IsLawfulFamily w AnyKey (following w errs separator m)
   following_lawful q p = record {
@@ -41,7 +35,7 @@ module _ {I A P V E : Type 0} (w : Model I A) (l : InputLaws w) (errs : Errors I
   }
     where
       lawful_at : (vs : List V) → IsLawful w (follows w errs separator m vs)
-      lawful_at [] = success_lawful E w []
+      lawful_at [] = success_lawful
       lawful_at (v ∷ vs) = further_lawful q p
 
       frugal_at : (mode : Modes) → (further_meaning w errs separator m).IsFrugal mode → (vs : List V) → (follows w errs separator m vs).IsFrugal mode
@@ -57,13 +51,11 @@ module _ {I A P V E : Type 0} (w : Model I A) (l : InputLaws w) (errs : Errors I
       never_at large h (v ∷ vs) = h
 
   pub separated0_lawful : IsLawful w separator → IsLawful w m → IsLawful w (separated0_meaning w errs separator m)
-  separated0_lawful q p = then_lawful w l (λ vs us. vs ++ us) (λ o. o) (λ o. o) (optional_meaning w errs (Unit {0}) m) (following w errs separator m)
-      (items_lawful w l errs optional_limits (Unit {0}) m p) (following_lawful q p)
+  separated0_lawful q p = then_lawful l (following w errs separator m) (items_lawful l errs optional_limits p) (following_lawful q p)
 
   pub separated0_steady : IsSteady w separator → IsSteady w m → IsSteady w (separated0_meaning w errs separator m)
-  separated0_steady q p = then_steady w l (λ vs us. vs ++ us) (λ o. o) (λ o. o) (optional_meaning w errs (Unit {0}) m) (following w errs separator m)
-      (items_steady w l errs optional_limits (Unit {0}) m p) steady_at
+  separated0_steady q p = then_steady l (following w errs separator m) (items_steady l errs optional_limits p) steady_at
     where
       steady_at : (vs : List V) → IsSteady w (follows w errs separator m vs)
-      steady_at [] = success_steady E w []
+      steady_at [] = success_steady
       steady_at (v ∷ vs) = further_steady q p

@@ -11,7 +11,7 @@ use Rattle.nom_internal.specs.laws.RecognizedLaws.{recognized_lawful, recognized
 use Rattle.nom_internal.specs.Sequence.{pair_meaning}
 use Rattle.nom_internal.specs.laws.SequenceLaws.{sequence_lawful, sequence_steady}
 use Rattle.nom_branch.specs.Alternatives.{next_meaning, choice_meaning}
-use Rattle.nom_branch.specs.laws.AlternativeLaws.{next_lawful, next_stays, choice_lawful, choice_steady, stays}
+use Rattle.nom_branch.specs.laws.AlternativeLaws.{next_lawful, next_steady, choice_lawful, choice_steady}
 use Rattle.nom_character_first.specs.declared.first.Blame.TheVariants.{OfChar}
 use Rattle.nom_character.specs.ClassRuns.{class_lawful, class_steady}
 use Rattle.nom_character_first.specs.FirstItem.{char_meaning}
@@ -25,29 +25,25 @@ pub record IsStream {I A V E : Type 0} (w : Model I A) (m : Meaning I V E) : Typ
   pub lawful : IsLawful w m
   pub steady : IsSteady w m
 
-module _ {I A E : Type 0} (w : Model I A) where
-  module _ {P : Type 0} (a : Meaning I P E) (p : IsStream w a) where
-    pub opt_stream : IsStream w (opt_meaning a)
-    opt_stream = record { lawful = opt_lawful w a p.lawful; steady = opt_steady w a p.steady }
+module _ {I A P E : Type 0} {w : Model I A} {a : Meaning I P E} (p : IsStream w a) where
+  pub opt_stream : IsStream w (opt_meaning a)
+  opt_stream = record { lawful = opt_lawful p.lawful; steady = opt_steady p.steady }
 
-    pub cut_stream : IsStream w (cut_meaning a)
-    cut_stream = record { lawful = cut_lawful w a p.lawful; steady = cut_steady w a p.steady }
+  pub cut_stream : IsStream w (cut_meaning a)
+  cut_stream = record { lawful = cut_lawful p.lawful; steady = cut_steady p.steady }
 
-    pub recognized_stream : InputLaws w → IsStream w (recognized_meaning w a)
-    recognized_stream l = record { lawful = recognized_lawful w l a p.lawful; steady = recognized_steady w l a p.steady }
+  pub recognized_stream : InputLaws w → IsStream w (recognized_meaning w a)
+  recognized_stream l = record { lawful = recognized_lawful l p.lawful; steady = recognized_steady l p.steady }
 
-    module _ {Q : Type 0} (b : Meaning I Q E) (q : IsStream w b) where
-      pub pair_stream : InputLaws w → IsStream w (pair_meaning w a b)
-      pair_stream l = record {
-        lawful = sequence_lawful w l (λ u v. (u, v)) (λ o. o) (λ o. o) a b p.lawful q.lawful;
-        steady = sequence_steady w l (λ u v. (u, v)) (λ o. o) (λ o. o) a b p.steady q.steady;
-      }
+  module _ {Q : Type 0} {b : Meaning I Q E} (q : IsStream w b) where
+    pub pair_stream : InputLaws w → IsStream w (pair_meaning w a b)
+    pair_stream l = record { lawful = sequence_lawful l p.lawful q.lawful; steady = sequence_steady l p.steady q.steady }
 
-      pub choice_stream : (errs : Errors I E) → IsStream w (choice_meaning errs (next_meaning errs a b))
-      choice_stream errs = record {
-        lawful = choice_lawful errs (next_lawful errs p.lawful q.lawful);
-        steady = choice_steady errs (next_stays errs (stays a p.steady) (stays b q.steady));
-      }
+    pub choice_stream : (errs : Errors I E) → IsStream w (choice_meaning errs (next_meaning errs a b))
+    choice_stream errs = record {
+      lawful = choice_lawful errs (next_lawful errs p.lawful q.lawful);
+      steady = choice_steady errs (next_steady errs p.steady q.steady);
+    }
 
 module _ {I A E : Type 0} (w : Model I A) (l : InputLaws w) (IsValue : A → Type 0) (values : (i : I) → w.IsKnown i → AreValues IsValue (w.elements i))
     (code : A → ℕ) (errs : Errors I E) where
@@ -60,7 +56,7 @@ module _ {I A E : Type 0} (w : Model I A) (l : InputLaws w) (IsValue : A → Typ
   }
 
   pub either_stream : (c d : ℕ) → IsStream w (either_char_meaning w code errs c d)
-  either_stream c d = choice_stream w (char_meaning w code errs c) (char_stream c) (char_meaning w code errs d) (char_stream d) errs
+  either_stream c d = choice_stream (char_stream c) (char_stream d) errs
 
   pub digits_stream : IsStream w (digits_meaning w code errs)
   digits_stream = record {
@@ -70,21 +66,21 @@ module _ {I A E : Type 0} (w : Model I A) (l : InputLaws w) (IsValue : A → Typ
 
   whole_stream : IsStream w (whole_meaning w code errs)
   whole_stream =
-      let behind = pair_stream w _ (char_stream 46) _ (opt_stream w _ digits_stream) l in
-      recognized_stream w _ (pair_stream w _ digits_stream _ (opt_stream w _ behind) l) l
+      let behind = pair_stream (char_stream 46) (opt_stream digits_stream) l in
+      recognized_stream (pair_stream digits_stream (opt_stream behind) l) l
 
   point_stream : IsStream w (point_meaning w code errs)
-  point_stream = recognized_stream w _ (pair_stream w _ (char_stream 46) _ digits_stream l) l
+  point_stream = recognized_stream (pair_stream (char_stream 46) digits_stream l) l
 
   decimal_stream : IsStream w (decimal_meaning w code errs)
-  decimal_stream = choice_stream w _ whole_stream _ point_stream errs
+  decimal_stream = choice_stream whole_stream point_stream errs
 
   exponent_stream : IsStream w (exponent_meaning w code errs)
   exponent_stream =
-      let digits = pair_stream w _ (opt_stream w _ (either_stream 43 45)) _ (cut_stream w _ digits_stream) l in
-      recognized_stream w _ (pair_stream w _ (either_stream 101 69) _ digits l) l
+      let digits = pair_stream (opt_stream (either_stream 43 45)) (cut_stream digits_stream) l in
+      recognized_stream (pair_stream (either_stream 101 69) digits l) l
 
   pub float_stream : IsStream w (float_meaning w code errs)
   float_stream =
-      let behind = pair_stream w _ decimal_stream _ (opt_stream w _ exponent_stream) l in
-      recognized_stream w _ (pair_stream w _ (opt_stream w _ (either_stream 43 45)) _ behind l) l
+      let behind = pair_stream decimal_stream (opt_stream exponent_stream) l in
+      recognized_stream (pair_stream (opt_stream (either_stream 43 45)) behind l) l

@@ -12,7 +12,7 @@ use Rattle.nom_internal.specs.Outcome.Outcome.{Accept}
 use Rattle.nom_internal.specs.Cases.{Passes, plain_case}
 use Rattle.nom_internal.specs.laws.CaseLaws.{CaseLaws, case_lawful, case_steady}
 use Rattle.nom_internal.specs.laws.RecognizedLaws.{AcceptLaws, plain_laws}
-use Rattle.nom_character.specs.ClassRuns.{class_meaning, class_lawful, class_steady}
+use Rattle.nom_character.specs.ClassRuns.{class_lawful, class_steady}
 use Rattle.nom_number_text.specs.laws.FloatLaws.{IsStream}
 use Rattle.nom_number_text.specs.Hex.{FirstEight, hex_meaning}
 
@@ -47,9 +47,7 @@ module _ {I A : Type 0} (w : Model I A) (code : A → ℕ) where
 
     pub hex_stream : IsStream w (hex_meaning w code errs)
     hex_stream =
-        let run = class_meaning w code errs Class.HexDigit (Some Kind.IsA) in
-        let cases = plain_case (λ _. true) (λ i. Passes (FirstEight w code i)) in
         record {
-          lawful = case_lawful w w run (class_lawful w IsValue values code errs Class.HexDigit (Some Kind.IsA)) cases hex_laws;
-          steady = case_steady w w run cases hex_laws refl (class_steady w IsValue values code errs Class.HexDigit (Some Kind.IsA));
+          lawful = case_lawful hex_laws (class_lawful w IsValue values code errs Class.HexDigit (Some Kind.IsA));
+          steady = case_steady hex_laws refl (class_steady w IsValue values code errs Class.HexDigit (Some Kind.IsA));
         }

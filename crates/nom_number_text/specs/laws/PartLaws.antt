@@ -1,5 +1,5 @@
 -- The laws of the parts of a decimal fraction.
-use Rattle.std.specs.Prelude.{◌≡◌, ℕ, false, None}
+use Rattle.std.specs.Prelude.{◌≡◌, ℕ, None}
 use Rattle.std.specs.Int.{w32}
 use Rattle.std.proofs.Common.{sym, ◌∙◌}
 use Rattle.nom_error.specs.Errors.{Errors}
@@ -10,7 +10,6 @@ use Rattle.nom_internal.specs.Meaning.{Meaning}
 use Rattle.nom_traits.specs.Slices.{IsModelledBy}
 use Rattle.nom_internal.specs.Pinned.{IsPinned, slice_pinned}
 use Rattle.nom_internal.specs.laws.SequenceLaws.{sequence_lawful, sequence_steady}
-use Rattle.nom_error.specs.Modes.{with_outputs}
 use Rattle.nom_character.specs.ClassRuns.{class_lawful, class_steady}
 use Rattle.nom_character_first.specs.FirstItem.{char_meaning}
 use Rattle.nom_sequence.specs.Sequences.{preceded_meaning}
@@ -21,12 +20,9 @@ use Rattle.nom_number_text.specs.laws.WordLaws.{as_float_stream}
 use Rattle.nom_number_text.specs.Parts.{digits0_meaning, behind_meaning, both_meaning, mantissa_meaning, power_meaning, parts_meaning, IsParts}
 use Rattle.nom_number_text.specs.Parts.{integer_slice, fraction_slice, before_of, behind_of}
 
-module _ {I A P Q E : Type 0} (w : Model I A) (l : InputLaws w) (a : Meaning I P E) (p : IsStream w a) (b : Meaning I Q E) (q : IsStream w b) where
+module _ {I A P Q E : Type 0} {w : Model I A} (l : InputLaws w) {a : Meaning I P E} (p : IsStream w a) {b : Meaning I Q E} (q : IsStream w b) where
   preceded_stream : IsStream w (preceded_meaning w a b)
-  preceded_stream = record {
-    lawful = sequence_lawful w l (λ u v. v) (with_outputs false) (λ o. o) a b p.lawful q.lawful;
-    steady = sequence_steady w l (λ u v. v) (with_outputs false) (λ o. o) a b p.steady q.steady;
-  }
+  preceded_stream = record { lawful = sequence_lawful l p.lawful q.lawful; steady = sequence_steady l p.steady q.steady }
 
 module _ {I A E : Type 0} (w : Model I A) (l : InputLaws w) (IsValue : A → Type 0) (values : (i : I) → w.IsKnown i → AreValues IsValue (w.elements i))
     (code : A → ℕ) (errs : Errors I E) where
@@ -40,23 +36,23 @@ module _ {I A E : Type 0} (w : Model I A) (l : InputLaws w) (IsValue : A → Typ
   point = char_stream w l IsValue values code errs 46
 
   behind_stream : IsStream w (behind_meaning w code errs)
-  behind_stream = choice_stream w _ (preceded_stream w l _ point _ digits0_stream) _ digits0_stream errs
+  behind_stream = choice_stream (preceded_stream l point digits0_stream) digits0_stream errs
 
   both_stream : IsStream w (both_meaning w code errs)
   both_stream =
       let digits = digits_stream w l IsValue values code errs in
-      choice_stream w _ (pair_stream w _ digits _ behind_stream l) _ (pair_stream w _ digits0_stream _ (preceded_stream w l _ point _ digits) l) errs
+      choice_stream (pair_stream digits behind_stream l) (pair_stream digits0_stream (preceded_stream l point digits) l) errs
 
   mantissa_stream : IsStream w (mantissa_meaning w code errs)
-  mantissa_stream = as_float_stream w code errs _ (pair_stream w _ (opt_stream w _ (either_stream w l IsValue values code errs 43 45)) _ both_stream l)
+  mantissa_stream = as_float_stream w code errs (pair_stream (opt_stream (either_stream w l IsValue values code errs 43 45)) both_stream l)
 
   power_stream : IsStream w (power_meaning w code errs)
   power_stream =
       let number : IsStream w (signed_meaning w code w32 errs) = record { lawful = signed_lawful w code errs w32; steady = signed_steady w code errs w32 } in
-      opt_stream w _ (preceded_stream w l _ (either_stream w l IsValue values code errs 101 69) _ (cut_stream w _ number))
+      opt_stream (preceded_stream l (either_stream w l IsValue values code errs 101 69) (cut_stream number))
 
   pub parts_stream : IsStream w (parts_meaning w code errs)
-  parts_stream = pair_stream w _ mantissa_stream _ power_stream l
+  parts_stream = pair_stream mantissa_stream power_stream l
 
 -- the parts of one tree are one
 pub parts_pinned : {I A : Type 0} (w : Model I A) {view : View I} → ((x y : I) → IsSame w x y → view.value x ≡ view.value y) → (code : A → ℕ) →

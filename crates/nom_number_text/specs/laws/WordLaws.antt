@@ -11,7 +11,7 @@ use Rattle.nom_traits.specs.View.{View}
 use Rattle.nom_internal.specs.Choice.{EitherOutput}
 use Rattle.nom_internal.specs.Pinned.{IsPinned, slice_pinned, either_pinned}
 use Rattle.nom_internal.specs.Meaning.{Meaning, IsLawful, IsSteady}
-use Rattle.nom_branch.specs.laws.AlternativeLaws.{next_lawful, next_stays, choice_lawful, choice_steady, stays}
+use Rattle.nom_branch.specs.laws.AlternativeLaws.{next_lawful, next_steady, choice_lawful, choice_steady}
 use Rattle.nom_character.specs.LineMatches.{Match, one_more}
 use Rattle.nom_character.specs.LineMatches.Match.{Full, Absent, Partial}
 use Rattle.nom_character.specs.laws.LineMatchLaws.{IsSettled, LineMatchLaws, match_lawful, match_steady}
@@ -45,15 +45,11 @@ module _ {I A E : Type 0} (w : Model I A) (code : A → ℕ) (errs : Errors I E)
     steady = match_steady w (word_in code word) (word_laws code word) errs Kind.Float;
   }
 
-  module _ {P : Type 0} (a : Meaning I P E) (p : IsStream w a) where
-    pub as_float_stream : IsStream w (as_float_meaning errs a)
-    as_float_stream = record {
-      lawful = renamed_lawful w (λ i _. errs.of_kind i Kind.Float) errs.grows a p.lawful;
-      steady = renamed_steady w (λ i _. errs.of_kind i Kind.Float) errs.grows a p.steady;
-    }
+  module _ {P : Type 0} {a : Meaning I P E} where
+    pub as_float_stream : IsStream w a → IsStream w (as_float_meaning errs a)
+    as_float_stream p = record { lawful = renamed_lawful p.lawful; steady = renamed_steady p.steady }
 
-  -- a part, and the three words
-  module _ {P : Type 0} (a : Meaning I P E) where
+    -- a part, and the three words
     pub exceptions_lawful : IsLawful w a → IsLawful w (exceptions_meaning w code errs a)
     exceptions_lawful p = choice_lawful errs
         (next_lawful errs (next_lawful errs (next_lawful errs p (word_stream (codes "nan")).lawful) (word_stream (codes "infinity")).lawful)
@@ -61,10 +57,8 @@ module _ {I A E : Type 0} (w : Model I A) (code : A → ℕ) (errs : Errors I E)
 
     pub exceptions_steady : IsSteady w a → IsSteady w (exceptions_meaning w code errs a)
     exceptions_steady p = choice_steady errs
-        (next_stays errs (next_stays errs
-        (next_stays errs (stays a p) (stays (word_meaning w code errs (codes "nan")) (word_stream (codes "nan")).steady))
-        (stays (word_meaning w code errs (codes "infinity")) (word_stream (codes "infinity")).steady))
-        (stays (word_meaning w code errs (codes "inf")) (word_stream (codes "inf")).steady))
+        (next_steady errs (next_steady errs (next_steady errs p (word_stream (codes "nan")).steady) (word_stream (codes "infinity")).steady)
+        (word_stream (codes "inf")).steady)
 
 pub exceptions_pinned : {I A P : Type 0} {w : Model I A} {view : View I} {IsOutput : P → I → Type 0} →
     ((x y : I) → IsSame w x y → view.value x ≡ view.value y) → IsPinned view IsOutput →

@@ -63,12 +63,12 @@ module _ {I A V : Type 0} (w : Model I A) (t : V) where
       never false f s i h a = cc (a)
 
   done_steady : (E : Type 0) → IsSteady w (done_meaning {I = I} {E = E} t)
-  done_steady E x y o q kx ky r a z b = a ∙ sym b
+  done_steady E = record { stays = λ x y o q kx ky r a z b. a ∙ sym b }
 
 module _ {I A T P E : Type 0} (w : Model I A) (Joins : E → E → E → Type 0) (Grows : Type 0) (all : List (Member I T E)) (m : Meaning I P E) (put : P → T) where
   labelled_good : IsGood w Grows all m → IsGood w Grows all (labelled_meaning put m)
   labelled_good k = record {
-    lawful = labelled_lawful w m put k.lawful;
+    lawful = labelled_lawful k.lawful;
     promises =
         record { frugal = k.promises.frugal; settles = k.promises.settles; never_fails = k.promises.never_fails };
   }
@@ -79,7 +79,7 @@ module _ {I A T P E : Type 0} (w : Model I A) (Joins : E → E → E → Type 0)
   waiting_good o (Some v) h k = h
   waiting_good NoChoice None h k = labelled_good k
   waiting_good (Among n) None h k = record {
-    lawful = or_lawful w n (labelled_meaning put m) h.lawful (labelled_lawful w m put k.lawful) Joins Grows;
+    lawful = or_lawful h.lawful (labelled_lawful k.lawful);
     promises = record {
       frugal = λ mode f. (h.promises.frugal mode f, k.promises.frugal mode f, f.1);
       settles = λ t. (h.promises.settles t, k.promises.settles t);
@@ -91,8 +91,8 @@ module _ {I A T P E : Type 0} (w : Model I A) (Joins : E → E → E → Type 0)
   waiting_steady : (o : Choice I T E) (x : Option P) → OfChoice (λ n. IsSteady w n) o → IsSteady w m →
       OfChoice (λ n. IsSteady w n) (or_waiting Joins Grows o m put x)
   waiting_steady o (Some v) h k = h
-  waiting_steady NoChoice None h k = labelled_steady w m put k
-  waiting_steady (Among n) None h k = or_steady w n (labelled_meaning put m) Joins Grows h (labelled_steady w m put k)
+  waiting_steady NoChoice None h k = labelled_steady k
+  waiting_steady (Among n) None h k = or_steady h (labelled_steady k)
 
 module _ {I A T E : Type 0} (w : Model I A) (Joins : E → E → E → Type 0) (Grows : Type 0) (all : List (Member I T E)) where
   -- the choice among members that aren't applied
@@ -128,13 +128,13 @@ module _ {I A T E : Type 0} (w : Model I A) (Closes : I → E → E → Type 0) 
     round_good : (t : T) (o : Choice I T E) → OfChoice (λ n. IsGood w Grows all n) o → IsGood w Grows all (round_meaning Closes Grows t o)
     round_good t NoChoice h = done_good t
     round_good t (Among m) h = record {
-      lawful = closed_lawful w m Closes Grows h.lawful;
+      lawful = closed_lawful h.lawful;
       promises = record { frugal = λ mode f. (h.promises.frugal mode f, f.1); settles = h.promises.settles; never_fails = h.promises.never_fails };
     }
 
   round_steady : (t : T) (o : Choice I T E) → OfChoice (λ n. IsSteady w n) o → IsSteady w (round_meaning Closes Grows t o)
   round_steady t NoChoice h = done_steady w t E
-  round_steady t (Among m) h = closed_steady w m Closes Grows h
+  round_steady t (Among m) h = closed_steady h
 
 module _ {I A T E : Type 0} (w : Model I A) (Joins : E → E → E → Type 0) (Closes : I → E → E → Type 0) (Grows : Type 0) (ms : List (Member I T E)) where
   rounds_promise : (n : ℕ) (t : T) → IsPromised Grows ms (rounds_meaning w Joins Closes Grows ms n t)
@@ -158,7 +158,7 @@ module _ {I A T E : Type 0} (w : Model I A) (Joins : E → E → E → Type 0) (
           never_fails = λ large f u _. (rounds_promise n u).never_fails large f;
         } in
         good_lawful w Grows ms (then_meaning w (λ _ u. u) (λ o. o) (λ o. o) (round_meaning Closes Grows t tried) next) (record {
-          lawful = then_lawful w l (λ _ u. u) (λ o. o) (λ o. o) (round_meaning Closes Grows t tried) next round.lawful family;
+          lawful = then_lawful l next round.lawful family;
           promises = record {
             frugal = λ mode f. (round.promises.frugal mode f, f);
             settles = λ f. (round.promises.settles f, f);
@@ -171,8 +171,7 @@ module _ {I A T E : Type 0} (w : Model I A) (Joins : E → E → E → Type 0) (
     rounds_steady h zero t = done_steady w t E
     rounds_steady h (suc n) t =
         let tried = or_members Joins Grows t NoChoice ms in
-        then_steady w l (λ _ u. u) (λ o. o) (λ o. o) (round_meaning Closes Grows t tried)
-        (promised_family Grows ms (rounds_meaning w Joins Closes Grows ms n))
+        then_steady l (promised_family Grows ms (rounds_meaning w Joins Closes Grows ms n))
         (round_steady w Closes Grows t tried (members_steady w Joins Grows t NoChoice ms tt h)) (λ u. rounds_steady h n u)
 
     pub permutation_lawful : AreLawful w ms → (none : T) → IsLawful w (permutation_meaning w Joins Closes Grows ms none)

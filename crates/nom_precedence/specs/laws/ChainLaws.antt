@@ -11,7 +11,7 @@ use Rattle.nom_repeat.specs.Repeat.Turn.{Ends}
 use Rattle.nom_repeat.specs.laws.RepeatLaws.{KeepsTurn, KeepsReply, EndsAt, RuleLaws, repeat_lawful, repeat_steady}
 use Rattle.nom_precedence.specs.Stuck.{Read}
 use Rattle.nom_precedence.specs.Stuck.Read.{Whole, Stuck}
-use Rattle.nom_precedence.specs.Chains.{read_turn, chain_turn, ChainBlames, IfTaken, ChainAsks, chain_rule, chained, chain_meaning}
+use Rattle.nom_precedence.specs.Chains.{read_turn, chain_turn, ChainBlames, IfTaken, ChainAsks, chain_rule, chain_meaning}
 
 chain_decided : {V : Type 0} (a : Option (Outcome (Read V))) → KeepsTurn true (chain_turn a) → KeepsReply true a
 chain_decided (Some (Accept n u)) h = tt
@@ -86,9 +86,9 @@ chain_rule_laws Grows = record {
   never_fails = λ Part large k a h e. (h, chain_fails large a e);
 }
 
-module _ {I A V E : Type 0} (w : Model I A) (l : InputLaws w) (Grows : Type 0) (m : Meaning I (Read V) E) where
+module _ {I A V E : Type 0} {w : Model I A} (l : InputLaws w) {Grows : Type 0} {m : Meaning I (Read V) E} where
   pub chain_lawful : IsLawful w m → IsLawful w (chain_meaning w Grows m)
-  chain_lawful p = repeat_lawful w l (chain_rule Grows) (chain_rule_laws Grows) chained (always m) (always_lawful w m p)
+  chain_lawful p = repeat_lawful l (chain_rule_laws Grows) (always m) (always_lawful p)
 
   pub chain_steady : IsSteady w m → IsSteady w (chain_meaning w Grows m)
-  chain_steady p = repeat_steady w l (chain_rule Grows) (chain_rule_laws Grows) chained (always m) (λ _. p)
+  chain_steady p = repeat_steady l (chain_rule_laws Grows) (always m) (λ _. p)

@@ -91,12 +91,12 @@ module _ {I A P E : Type 0} (w : Model I A) (errs : Errors I E) (IsLevel : P →
     asks_none = λ Part mode i a h g. asks_none IsLevel levels errs.grows a h.1 g;
   }
 
-  module _ (m : Meaning I P E) where
-    pub operator_lawful : IsLawful w m → IsLawful w (operator_meaning errs IsLevel levels m)
-    operator_lawful p = case_lawful w w m p (operator_case errs IsLevel levels) operator_laws
+module _ {I A P E : Type 0} {w : Model I A} (errs : Errors I E) {IsLevel : P → ℕ → Type 0} (levels : ℕ) (one : IsOne IsLevel) {m : Meaning I P E} where
+  pub operator_lawful : IsLawful w m → IsLawful w (operator_meaning errs IsLevel levels m)
+  operator_lawful p = case_lawful (operator_laws w errs IsLevel levels one) p
 
-    pub operator_steady : IsSteady w m → IsSteady w (operator_meaning errs IsLevel levels m)
-    operator_steady p = case_steady w w m (operator_case errs IsLevel levels) operator_laws refl p
+  pub operator_steady : IsSteady w m → IsSteady w (operator_meaning errs IsLevel levels m)
+  operator_steady p = case_steady (operator_laws w errs IsLevel levels one) refl p
 
 -- Where what a part gives tells the level, and a tree of the part stands for one output, a tree stands for one level.
 pub one_level : {P X B : Type 0} (IsOutput : P → X → Type 0) (Gives : X → ℕ × B → Type 0) (level_of : X → ℕ) → IsPinned itself IsOutput →

@@ -12,13 +12,13 @@ use Rattle.nom_internal.specs.laws.CaseLaws.{CaseLaws, case_lawful, case_steady}
 use Rattle.nom_internal.specs.laws.RecognizedLaws.{AcceptLaws, plain_laws}
 use Rattle.nom_internal.specs.laws.SequenceLaws.{then_lawful, then_steady}
 use Rattle.nom_internal.specs.Success.{success_lawful, success_steady}
-use Rattle.nom_precedence.specs.Stuck.{Read, both, read_behind, unless_stuck, read_both, freed, IfStuck, StuckBlames, StuckAsks, freed_case, freed_meaning}
+use Rattle.nom_precedence.specs.Stuck.{Read, read_behind, unless_stuck, read_both, freed, IfStuck, StuckBlames, StuckAsks, freed_case, freed_meaning}
 use Rattle.nom_precedence.specs.Stuck.Read.{Whole, Stuck}
 
-module _ {I A W E : Type 0} (w : Model I A) (V : Type 0) (m : Meaning I (Read W) E) where
+module _ {I A W E : Type 0} {w : Model I A} (V : Type 0) {m : Meaning I (Read W) E} where
   behind_lawful : IsLawful w m → (u : Read V) → IsLawful w (read_behind m u)
   behind_lawful p (Whole v) = p
-  behind_lawful p Stuck = success_lawful E w Stuck
+  behind_lawful p Stuck = success_lawful
 
   behind_frugal : (mode : Modes) → m.IsFrugal mode → (u : Read V) → (read_behind m u).IsFrugal mode
   behind_frugal mode h (Whole v) = h
@@ -34,7 +34,7 @@ module _ {I A W E : Type 0} (w : Model I A) (V : Type 0) (m : Meaning I (Read W)
 
   behind_steady : IsSteady w m → (u : Read V) → IsSteady w (read_behind m u)
   behind_steady p (Whole v) = p
-  behind_steady p Stuck = success_steady E w Stuck
+  behind_steady p Stuck = success_steady
 
   pub unless_lawful : IsLawful w m → IsLawfulFamily {K = Read V} w AnyKey (unless_stuck m)
   unless_lawful p = record {
@@ -44,12 +44,12 @@ module _ {I A W E : Type 0} (w : Model I A) (V : Type 0) (m : Meaning I (Read W)
     never_fails = λ large h u _. behind_never large h u;
   }
 
-module _ {I A V W T E : Type 0} (w : Model I A) (l : InputLaws w) (tree : V → W → T) (a : Meaning I (Read V) E) (b : Meaning I (Read W) E) where
+module _ {I A V W T E : Type 0} {w : Model I A} (l : InputLaws w) {tree : V → W → T} {a : Meaning I (Read V) E} {b : Meaning I (Read W) E} where
   pub both_lawful : IsLawful w a → IsLawful w b → IsLawful w (read_both w tree a b)
-  both_lawful p q = then_lawful w l (both tree) (λ o. o) (λ o. o) a (unless_stuck b) p (unless_lawful w V b q)
+  both_lawful p q = then_lawful l (unless_stuck b) p (unless_lawful V q)
 
   pub both_steady : IsSteady w a → IsSteady w b → IsSteady w (read_both w tree a b)
-  both_steady p q = then_steady w l (both tree) (λ o. o) (λ o. o) a (unless_stuck b) p (behind_steady w V b q)
+  both_steady p q = then_steady l (unless_stuck b) p (behind_steady V q)
 
 freed_accepts : {V : Type 0} (n m : ℕ) (t : V) (u : Read V) → Accept n t ≡ freed m u → m ≡ n
 freed_accepts n m t (Whole v) e = cc
@@ -106,9 +106,9 @@ module _ {I A V E : Type 0} (w : Model I A) (errs : Errors I E) where
         asks_none = λ Part mode i a h g. stuck_asks_none ((mode.errors ≡ true) × errs.grows) a (λ z. h.1 z.0 z.1) g;
       }
 
-  module _ (m : Meaning I (Read V) E) where
-    pub freed_lawful : IsLawful w m → IsLawful w (freed_meaning w errs m)
-    freed_lawful p = case_lawful w w m p (freed_case w errs) freed_laws
+module _ {I A V E : Type 0} {w : Model I A} (errs : Errors I E) {m : Meaning I (Read V) E} where
+  pub freed_lawful : IsLawful w m → IsLawful w (freed_meaning w errs m)
+  freed_lawful p = case_lawful (freed_laws w errs) p
 
-    pub freed_steady : IsSteady w m → IsSteady w (freed_meaning w errs m)
-    freed_steady p = case_steady w w m (freed_case w errs) freed_laws refl p
+  pub freed_steady : IsSteady w m → IsSteady w (freed_meaning w errs m)
+  freed_steady p = case_steady (freed_laws w errs) refl p

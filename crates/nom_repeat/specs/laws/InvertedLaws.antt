@@ -12,7 +12,7 @@ pub no_accept : {V : Type 0} (fails : Bool) (n : ℕ) (v : V) → Accept n v ≡
 no_accept true n v e = absurd (cc (e))
 no_accept false n v e = absurd (cc (e))
 
-module _ {I A V E : Type 0} (w : Model I A) (errs : Errors I E) (kind : ErrorKind) (fails : Bool) (m : Meaning I V E) where
+module _ {I A V E : Type 0} {w : Model I A} (errs : Errors I E) (kind : ErrorKind) (fails : Bool) {m : Meaning I V E} where
   pub error_if_lawful : (test : Bool) → IsLawful w m → IsLawful w (error_if errs kind fails test m)
   error_if_lawful true p = record {
     within = λ s i n v h a. absurd (no_accept fails n v a);
@@ -34,5 +34,5 @@ module _ {I A V E : Type 0} (w : Model I A) (errs : Errors I E) (kind : ErrorKin
   }
 
   pub error_if_steady : (test : Bool) → IsSteady w m → IsSteady w (error_if errs kind fails test m)
-  error_if_steady true p = λ x y o q kx ky r a d b. a ∙ sym b
-  error_if_steady false p = p
+  error_if_steady true p = record { stays = λ x y o q kx ky r a d b. a ∙ sym b }
+  error_if_steady false p = record { stays = p.stays }

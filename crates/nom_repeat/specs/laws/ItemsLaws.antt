@@ -107,9 +107,9 @@ items_rule_laws errs b Grows = record {
   never_fails = λ Part large k a h e. (h, item_fails b large k a e);
 }
 
-module _ {I A V E : Type 0} (w : Model I A) (l : InputLaws w) (errs : Errors I E) (b : Limits) (Grows : Type 0) (m : Meaning I V E) where
+module _ {I A V E : Type 0} {w : Model I A} (l : InputLaws w) (errs : Errors I E) (b : Limits) {Grows : Type 0} {m : Meaning I V E} where
   pub items_lawful : IsLawful w m → IsLawful w (items_meaning w errs b Grows m)
-  items_lawful p = repeat_lawful w l (items_rule errs b Grows) (items_rule_laws errs b Grows) (λ vs _. vs) (always m) (always_lawful w m p)
+  items_lawful p = repeat_lawful l (items_rule_laws errs b Grows) (always m) (always_lawful p)
 
   pub items_steady : IsSteady w m → IsSteady w (items_meaning w errs b Grows m)
-  items_steady p = repeat_steady w l (items_rule errs b Grows) (items_rule_laws errs b Grows) (λ vs _. vs) (always m) (λ _. p)
+  items_steady p = repeat_steady l (items_rule_laws errs b Grows) (always m) (λ _. p)

@@ -332,8 +332,8 @@ module _ {I A P V T R E : Type 0} (w : Model I A) (l : InputLaws w) (r : Rule I 
         let n = rl.never_fails f.NeverFails large k a.reply g a.fact in
         (q.lawful k tt).never_fails large (q.never_fails large n.0 k tt) s j h (subst (λ z. Replies r.bound (Part s) k j z) n.1 a.replied).1
 
-    pub repeat_lawful : IsLawful w (repeat_meaning w r tree f)
-    repeat_lawful = record {
+    is_lawful : IsLawful w (repeat_meaning w r tree f)
+    is_lawful = record {
       within = λ s. repeats_within w (Turns s) tree
           (λ k j n t kj z. end_place s (λ c. (q.lawful c tt).within s) k j n z.reply kj z.replied (rl.ends k z.reply n t z.fact));
       one_outcome = λ s. repeats_agree w l false (Turns s) (Turns s) tree (agree s);
@@ -346,5 +346,15 @@ module _ {I A P V T R E : Type 0} (w : Model I A) (l : InputLaws w) (r : Rule I 
       never_fails = λ large g s i h. repeats_never w (Turns s) tree large (never large s g) i h;
     }
 
+  are_steady : ((k : ℕ) → IsSteady w (f.at k)) → IsSteady w (repeat_meaning w r tree f)
+  are_steady st = record {
+    stays = repeats_agree w l true (Turns true) (Turns true) tree
+        (turns_agree w r.bound r.turn rl.decided true (Part true) (Part true) (λ k. (st k).stays));
+  }
+
+module _ {I A P V T R E : Type 0} {w : Model I A} (l : InputLaws w) {r : Rule I P V T E} (rl : RuleLaws r) {tree : List V → T → R} (f : Family ℕ I P E) where
+  pub repeat_lawful : IsLawfulFamily w AnyKey f → IsLawful w (repeat_meaning w r tree f)
+  repeat_lawful q = is_lawful w l r rl tree f q
+
   pub repeat_steady : ((k : ℕ) → IsSteady w (f.at k)) → IsSteady w (repeat_meaning w r tree f)
-  repeat_steady st = repeats_agree w l true (Turns true) (Turns true) tree (turns_agree w r.bound r.turn rl.decided true (Part true) (Part true) st)
+  repeat_steady st = are_steady w l r rl tree f st

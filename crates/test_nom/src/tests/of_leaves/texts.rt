@@ -140,7 +140,6 @@ fn length_of_two() -> u8
 struct Two;
 
 impl<'a> Parser<&'a str> for Two {
-    ghost use Rattle.nom_traits.specs.Text.{text_model};
     ghost use Rattle.nom_internal.specs.Success.{success_lawful, success_meaning};
 
     type Output = u8;
@@ -162,7 +161,7 @@ impl<'a> Parser<&'a str> for Two {
         Ok((input, OM::Output::bind(length_of_two)))
     }
 
-    ghost lawful = { λ _ k. success_lawful _ text_model tt };
+    ghost lawful = { λ _ k. success_lawful };
 }
 
 #[test]
