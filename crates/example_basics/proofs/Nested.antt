@@ -1,11 +1,12 @@
 -- What a function of nested brackets answers, from what its parts answered.
-use Rattle.std.proofs.Common.{◌≡◌, ℕ, ◌+◌, ◌≤◌, zero, suc, Bool, true, false, List, [], ◌∷◌, ◌++◌, drop, length, Result, Ok, Err, Bor, refl, sym, ◌∙◌}
+use Rattle.std.proofs.Common.{◌≡◌, ℕ, ◌+◌, ◌≤◌, zero, suc, Bool, true, false, List, [], ◌∷◌, ◌++◌, drop, length, Ok, Err, Bor, refl, sym, ◌∙◌}
 use Rattle.std.proofs.Common.{ap, subst, arith, inl, inr}
 use Rattle.std.specs.Prelude.{◌==◌, cond}
 use Rattle.std.specs.Result.{IsErrAnd, IsErr}
 use Rattle.std.proofs.lemmas.Bool.Decides.{nat_tests}
 use Rattle.std.proofs.Math.Seq.{drop-append_seam}
 use Rattle.std.proofs.lemmas.List.{drop-drop}
+use Rattle.nom_error.specs.Answers.{IResult}
 use Rattle.nom_error.specs.declared.answer.Needed.{Needed}
 use Rattle.nom_error.specs.declared.answer.Err as Answer
 use Rattle.nom_error.specs.declared.answer.Err.TheVariants as Answered
@@ -27,7 +28,7 @@ abbrev Bytes : Type 0
 Bytes = Bor (List ℕ)
 
 abbrev Result_of : Type 0 → Type 0
-Result_of T = Result (Bytes × T) (Answer.Err (Error Bytes) (Error Bytes) Needed)
+Result_of T = IResult Bytes T (Error Bytes)
 
 -- what the error type gives
 abbrev errors : Errors Bytes (Error Bytes)

@@ -3,8 +3,7 @@ use Rattle.std.proofs.Common.{◌≡◌, ℕ, ◌+◌, ◌*◌, Bool, true, fals
 use Rattle.std.specs.Prelude.{chars, encode_utf8_all, Some, is_ok}
 use Rattle.std.specs.Char.{digit_value, is_digit}
 use Rattle.std.specs.Str.Parse.{digits_value, without_leading_plus, ParsesUnsigned}
-use Rattle.nom_error.specs.declared.answer.Needed.{Needed}
-use Rattle.nom_error.specs.declared.answer.Err as Answer
+use Rattle.nom_error.specs.Answers.{IResult}
 use Rattle.nom_error.specs.declared.kind.ErrorKind.TheVariants.{Char, TakeWhileMN}
 use Rattle.nom_error.specs.declared.value.Error.{Error}
 use Rattle.nom_error.specs.Errors.{Errors}
@@ -49,7 +48,7 @@ module _ {X : Type 0} (Test : ℕ → Bool → Type 0) (IsSound : Type 0) (Takes
   mapped_meaning m n = judged_meaning (IsModelledBy text_model) Takes Gives is_ok (λ i. OfError (Makes i)) ⊥ (run_meaning m n)
 
   -- what is answered at i
-  abbrev pub MappedAnswer : (m n : ℕ) → Text → Result (Text × ℕ) (Answer.Err (Error Text) (Error Text) Needed) → Type 0
+  abbrev pub MappedAnswer : (m n : ℕ) → Text → IResult Text ℕ (Error Text) → Type 0
   MappedAnswer m n i r = ParsesMeaning text_model (GivesFor (IsModelledBy text_model) (λ p v. Gives p (Ok v))) (mapped_meaning m n) true i r
 
   run_answered : (i : Text) (a : Outcome (Slice text_model)) → (run_meaning 2 2).answers true i a → LeafAnswers run_leaf false i a
@@ -154,7 +153,7 @@ module _ {X : Type 0} (Test : ℕ → Bool → Type 0) (IsSound : Type 0) (Takes
     mapped_grows mode i (RunsOutInPart j at h) = run_grows (record mode { outputs = true }) j h
     mapped_grows mode i (RunsOutBeside h) = unfit_grows mode i h.outcome h.fact
 
-    two_answer : (i : Text) (r : Result (Text × ℕ) (Answer.Err (Error Text) (Error Text) Needed)) → text_model.IsKnown i → MappedAnswer 2 2 i r →
+    two_answer : (i : Text) (r : IResult Text ℕ (Error Text)) → text_model.IsKnown i → MappedAnswer 2 2 i r →
         AnswersPair i r
     two_answer i r known (ParseRanOut e h) = mapped_grows (modes true true true) i h
     two_answer i r known (Parsed (Accept n t) a p) =
@@ -175,6 +174,6 @@ module _ {X : Type 0} (Test : ℕ → Bool → Type 0) (IsSound : Type 0) (Takes
     two_answer i r known (Parsed TooLarge a p) = cc (mapped_refuses i TooLarge a (λ n t e. cc (e)))
     two_answer i r known (Parsed (Undecided k) a p) = cc (mapped_refuses i (Undecided k) a (λ n t e. cc (e)))
 
-    pub mapped_answer : {m n : ℕ} {i : Text} {r : Result (Text × ℕ) (Answer.Err (Error Text) (Error Text) Needed)} → m ≡ 2 → n ≡ 2 →
+    pub mapped_answer : {m n : ℕ} {i : Text} {r : IResult Text ℕ (Error Text)} → m ≡ 2 → n ≡ 2 →
         text_model.IsKnown i → MappedAnswer m n i r → AnswersPair i r
     mapped_answer {m} {n} {i} {r} e f known h = two_answer i r known (subst (λ k. MappedAnswer k 2 i r) e (subst (λ k. MappedAnswer m k i r) f h))

@@ -1,6 +1,7 @@
 -- Three pairs of digits in a tuple.
-use Rattle.std.proofs.Common.{◌≡◌, ℕ, ◌+◌, List, Result, Ok, Err, sym, ◌∙◌, ap, subst, arith}
+use Rattle.std.proofs.Common.{◌≡◌, ℕ, ◌+◌, List, Ok, Err, sym, ◌∙◌, ap, subst, arith}
 use Rattle.std.specs.Prelude.{chars}
+use Rattle.nom_error.specs.Answers.{IResult}
 use Rattle.nom_error.specs.declared.answer.Needed.{Needed}
 use Rattle.nom_error.specs.declared.answer.Err as Answer
 use Rattle.nom_error.specs.declared.answer.Err.TheVariants as Answered
@@ -47,7 +48,7 @@ abbrev ThreeRunsOut : Text → Type 0
 ThreeRunsOut = ThenRunsOut text_model Two TwoRunsOut (λ _. RanOut)
 
 -- what the tuple of three answers at i
-abbrev pub TripleAnswer : Text → Result (Text × (ℕ × ℕ × ℕ)) (Answer.Err (Error Text) (Error Text) Needed) → Type 0
+abbrev pub TripleAnswer : Text → IResult Text (ℕ × ℕ × ℕ) (Error Text) → Type 0
 TripleAnswer i r = ParsesAnswer text_model (λ t o. PairOutput (PairOutput (IsViewed itself) (IsViewed itself)) (IsViewed itself) t ((o.0, o.1), o.2)) i
     (Three i) (ThreeBlames i) (ThreeRunsOut i) r
 
@@ -209,7 +210,7 @@ pub record IsTripleFault (i : Text) (e : Answer.Err (Error Text) (Error Text) Ne
   pub error : e ≡ Answered.Error held
 
 pub triple_fault : {i : Text} {e : Answer.Err (Error Text) (Error Text) Needed} →
-    (let r : Result (Text × (ℕ × ℕ × ℕ)) (Answer.Err (Error Text) (Error Text) Needed) = Err e in TripleAnswer i r) → IsTripleFault i e
+    (let r : IResult Text (ℕ × ℕ × ℕ) (Error Text) = Err e in TripleAnswer i r) → IsTripleFault i e
 triple_fault {i} (ParseRanOut e h) = absurd (three_frugal i h)
 triple_fault (Parsed (Accept n t) a p) = cc (p.4)
 triple_fault {i} (Parsed Refuse a p) = record { held = p.0; missing = three_none i p.0 p.1; error = cc (p.2) }

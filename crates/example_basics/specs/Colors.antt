@@ -1,8 +1,9 @@
 -- Colours in base 16: a `#`, and two digits each for red, green and blue.
-use Rattle.std.specs.Prelude.{◌≡◌, ℕ, ◌+◌, ◌*◌, ◌==◌, ◌&&◌, cond, chars, Bool, List, [], ◌∷◌, Result}
+use Rattle.std.specs.Prelude.{◌≡◌, ℕ, ◌+◌, ◌*◌, ◌==◌, ◌&&◌, cond, chars, Bool, List, [], ◌∷◌}
 use Rattle.std.specs.Borrow.{Bor}
 use Rattle.std.specs.Char.{digit_value, is_digit}
 use Rattle.std.specs.Result.{IfErr}
+use Rattle.nom_error.specs.Answers.{IResult}
 use Rattle.nom_error.specs.declared.answer.Needed.{Needed}
 use Rattle.nom_error.specs.declared.answer.Err as Answer
 use Rattle.nom_error.specs.declared.answer.Err.TheVariants as Answered
@@ -64,14 +65,14 @@ abbrev pub IsFault : Text → ℕ × ErrorKind → Answer.Err (Error Text) (Erro
 IsFault i fault e = (x : Error Text) × (e ≡ Answered.Error x) × IsSuffixOf text_model i fault.0 x.input × (x.code ≡ fault.1)
 
 module _ {O : Type 0} (outcome : List ℕ → Outcome O) (fault : List ℕ → ℕ × ErrorKind) (i : Text)
-    (r : Result (Text × O) (Answer.Err (Error Text) (Error Text) Needed)) where
+    (r : IResult Text O (Error Text)) where
   -- what is answered is the outcome that the characters have, and its error stands where something is missing
   pub record Answers : Type 0 where
     pub outcome_is : TellsItems text_model itself outcome i r
     pub fault_is : IfErr r (IsFault i (fault (chars i.now)))
 
-abbrev pub AnswersPair : Text → Result (Text × ℕ) (Answer.Err (Error Text) (Error Text) Needed) → Type 0
+abbrev pub AnswersPair : Text → IResult Text ℕ (Error Text) → Type 0
 AnswersPair = Answers pair_of pair_fault
 
-abbrev pub AnswersColor : Text → Result (Text × Color) (Answer.Err (Error Text) (Error Text) Needed) → Type 0
+abbrev pub AnswersColor : Text → IResult Text Color (Error Text) → Type 0
 AnswersColor = Answers color_of color_fault

@@ -1,11 +1,10 @@
 -- What is known where a parser of one character, or of digits, accepts.
-use Rattle.std.proofs.Common.{◌≡◌, ℕ, ◌<◌, ◌≤◌, Bool, true, false, List, [], ◌∷◌, ◌++◌, length, Result, Ok, Bor, sym, ◌∙◌, ap, subst, arith, inl, inr, ◌⊎◌}
+use Rattle.std.proofs.Common.{◌≡◌, ℕ, ◌<◌, ◌≤◌, Bool, true, false, List, [], ◌∷◌, ◌++◌, length, Ok, Bor, sym, ◌∙◌, ap, subst, arith, inl, inr, ◌⊎◌}
 use Rattle.std.specs.Prelude.{◌==◌, chars, Some, None}
 use Rattle.std.specs.Char.{len_utf8}
 use Rattle.std.specs.List.{All}
 use Rattle.std.proofs.lemmas.Bool.Decides.{nat_tests}
-use Rattle.nom_error.specs.declared.answer.Needed.{Needed}
-use Rattle.nom_error.specs.declared.answer.Err as Answer
+use Rattle.nom_error.specs.Answers.{IResult}
 use Rattle.nom_traits.specs.declared.character.AsciiClass.TheVariants.{Digit}
 use Rattle.nom_traits.specs.Input.{IsSuffixOf}
 use Rattle.nom_traits.specs.Rests.{same_cut}
@@ -23,7 +22,7 @@ use Rattle.nom_character_first.specs.FirstItem.{heads}
 abbrev Text : Type 0
 Text = Bor (List ℕ)
 
-abbrev CharAnswer : {E : Type 0} → (E → Type 0) → Type 0 → ℕ → Text → Result (Text × ℕ) (Answer.Err E E Needed) → Type 0
+abbrev CharAnswer : {E : Type 0} → (E → Type 0) → Type 0 → ℕ → Text → IResult Text ℕ E → Type 0
 CharAnswer IsError RunsOut c i r = ParsesAnswer text_model (λ t x. x ≡ t) i
     (LeafAnswers (heads text_model (λ x. x) (λ x b. b ≡ (x == c)) (Some (len_utf8 c))) false i) IsError RunsOut r
 
@@ -77,7 +76,7 @@ run_read Test i d j n t a r s =
       whole = a.0.first.whole ∙ (ap (λ ys. t.items ++ ys) cut.1 ∙ ap (λ xs. xs ++ chars j.now) (sym s.elements_are));
     }
 
-abbrev DigitsAnswer : {E : Type 0} → (E → Type 0) → Type 0 → Text → Result (Text × Text) (Answer.Err E E Needed) → Type 0
+abbrev DigitsAnswer : {E : Type 0} → (E → Type 0) → Type 0 → Text → IResult Text Text E → Type 0
 DigitsAnswer IsError RunsOut i r = ParsesAnswer text_model (IsModelledBy text_model) i (LeafAnswers (runs text_model (IsOf (λ x. x) Digit) None 1) false i)
     IsError RunsOut r
 

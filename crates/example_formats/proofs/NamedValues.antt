@@ -1,10 +1,9 @@
 -- What the parser of a name and its value answers.
-use Rattle.std.proofs.Common.{◌≡◌, ℕ, ◌+◌, Bool, true, false, List, [], ◌∷◌, ◌++◌, Result, Bor, sym, ◌∙◌, ap, subst, arith, append_assoc, refl, rules}
+use Rattle.std.proofs.Common.{◌≡◌, ℕ, ◌+◌, Bool, true, false, List, [], ◌∷◌, ◌++◌, Bor, sym, ◌∙◌, ap, subst, arith, append_assoc, refl, rules}
 use Rattle.std.specs.Prelude.{◌==◌, chars, Some, None, IfOk}
 use Rattle.std.specs.Char.{len_utf8}
 use Rattle.std.specs.List.{All}
-use Rattle.nom_error.specs.declared.answer.Needed.{Needed}
-use Rattle.nom_error.specs.declared.answer.Err as Answer
+use Rattle.nom_error.specs.Answers.{IResult}
 use Rattle.nom_traits.specs.Input.{IsSuffixOf, IsBoundary}
 use Rattle.nom_traits.specs.Rests.{same_cut, items_len-append, rest_rest}
 use Rattle.nom_traits.specs.Runs.{Stops}
@@ -91,7 +90,7 @@ module _ (Names Values : ℕ → Bool → Type 0) (sign : ℕ) (is_sign : sign �
   abbrev IsLine : Text → (Text × (Text × Text)) → Type 0
   IsLine i a = IsNamed (chars i.now) (chars (a.1.0).now) (chars (a.1.1).now) (chars (a.0).now)
 
-  pub named_answer : {E : Type 0} {IsError : E → Type 0} {RunsOut : Type 0} (i : Text) (r : Result (Text × (Text × Text)) (Answer.Err E E Needed)) →
+  pub named_answer : {E : Type 0} {IsError : E → Type 0} {RunsOut : Type 0} (i : Text) (r : IResult Text (Text × Text) E) →
       ParsesAnswer text_model (λ t o. IsModelledBy text_model t.0 o.0 × IsModelledBy text_model t.1 o.1) i (LineAnswers i) IsError RunsOut r → IfOk r (IsLine i)
   named_answer i r (ParseRanOut e h) = subst (λ x. IfOk x (IsLine i)) (sym e) tt
   named_answer i r (Parsed (Accept n t) a p) =

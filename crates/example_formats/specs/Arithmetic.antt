@@ -4,8 +4,7 @@ use Rattle.std.specs.Prelude.{chars, codes, ℤ, pos, neg_ℤ, ◌+ℤ◌, ◌-�
 use Rattle.std.specs.Borrow.{Bor}
 use Rattle.std.specs.Int.{w64, int_pow, IsNonZero}
 use Rattle.std.specs.Str.Parse.{ParsesSigned}
-use Rattle.nom_error.specs.declared.answer.Needed.{Needed}
-use Rattle.nom_error.specs.declared.answer.Err as Answer
+use Rattle.nom_error.specs.Answers.{IResult}
 use Rattle.nom_error.specs.declared.answer.Err.TheVariants as Answered
 use Rattle.nom_error.specs.declared.kind.ErrorKind.{ErrorKind}
 use Rattle.nom_error.specs.declared.kind.ErrorKind.TheVariants as Kind
@@ -47,7 +46,7 @@ abbrev pub Sign : Type 0
 Sign = Text × ℕ
 
 abbrev pub Told : Type 0 → Type 0
-Told O = Result (Text × O) (Answer.Err Fault Fault Needed)
+Told O = IResult Text O Fault
 
 -- values
 

@@ -1,5 +1,6 @@
 -- What functions answer that call each other, by what those answer.
-use Rattle.std.proofs.Common.{◌≡◌, ℕ, ◌+◌, true, false, Result, Ok, Err, refl, sym, ◌∙◌, ap, subst, inl, inr}
+use Rattle.std.proofs.Common.{◌≡◌, ℕ, ◌+◌, true, false, Ok, Err, refl, sym, ◌∙◌, ap, subst, inl, inr}
+use Rattle.nom_error.specs.Answers.{IResult}
 use Rattle.nom_error.specs.declared.answer.Needed.{Needed}
 use Rattle.nom_error.specs.declared.answer.Err as Answer
 use Rattle.nom_error.specs.declared.value.Error.{Error}
@@ -19,7 +20,7 @@ use Rattle.nom.specs.Texts.{Text, TextGrammar, Parses, or_of}
 use Rattle.example_json.specs.Json.{as_of, refuses}
 
 abbrev pub Told : Type 0 → Type 0
-Told O = Result (Text × O) (Answer.Err (Error Text) (Error Text) Needed)
+Told O = IResult Text O (Error Text)
 
 -- an acceptance that was answered
 pub record Taken {V O : Type 0} (IsOutput : V → O → Type 0) (Answers : Outcome V → Type 0) (i j : Text) (x : O) : Type 0 where

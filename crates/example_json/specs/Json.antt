@@ -1,8 +1,7 @@
 -- JSON texts, by their grammar.
-use Rattle.std.specs.Prelude.{◌≡◌, ℕ, zero, suc, ◌⊎◌, Bool, true, false, List, Option, Some, None, Vec, Result, Ok, Err}
+use Rattle.std.specs.Prelude.{◌≡◌, ℕ, zero, suc, ◌⊎◌, Bool, true, false, List, Option, Some, None, Vec, Ok, Err}
 use Rattle.std.specs.List.{AllZip}
-use Rattle.nom_error.specs.declared.answer.Needed.{Needed}
-use Rattle.nom_error.specs.declared.answer.Err as Answer
+use Rattle.nom_error.specs.Answers.{IResult}
 use Rattle.nom_error.specs.declared.answer.Err.TheVariants as Answered
 use Rattle.nom_error.specs.declared.value.Error.{Error}
 use Rattle.nom_traits.specs.Text.{text_model}
@@ -20,7 +19,7 @@ use Rattle.example_json.specs.declared.tree.Json.TheVariants as Value
 use Rattle.example_json.specs.Scalars.{Part, WordTree, deep_of, number_of, spaces_of, text_of, token_of, word_of}
 
 -- an answer after which another branch is tried
-abbrev pub refuses : {T : Type 0} → Result (Text × T) (Answer.Err (Error Text) (Error Text) Needed) → Bool
+abbrev pub refuses : {T : Type 0} → IResult Text T (Error Text) → Bool
 refuses (Ok x) = false
 refuses (Err (Answered.Incomplete k)) = false
 refuses (Err (Answered.Error e)) = true

@@ -1,7 +1,6 @@
 -- What the parser of messages answers.
-use Rattle.std.proofs.Common.{◌≡◌, ℕ, Bool, true, List, [], ◌∷◌, Result, Err, Vec, sym, subst, inl, inr, ◌⊎◌}
-use Rattle.nom_error.specs.declared.answer.Needed.{Needed}
-use Rattle.nom_error.specs.declared.answer.Err as Answer
+use Rattle.std.proofs.Common.{◌≡◌, ℕ, Bool, true, List, [], ◌∷◌, Err, Vec, sym, subst, inl, inr, ◌⊎◌}
+use Rattle.nom_error.specs.Answers.{IResult}
 use Rattle.nom_error.specs.declared.answer.Err.TheVariants.{OutOfMemory}
 use Rattle.nom_error.specs.declared.value.Error.{Error}
 use Rattle.nom_traits.specs.Bytes.{bytes_model}
@@ -32,17 +31,17 @@ module _ {V O : Type 0} (m : Meaning Bytes V (Error Bytes)) (IsOutput : V → O 
   begins_known x (AtCut h p) = p.known
   begins_known x (AtEnd h e) = subst bytes_model.IsKnown (sym e) known
 
-  abbrev Tells : Result (Bytes × O) (Answer.Err (Error Bytes) (Error Bytes) Needed) → Outcome V → Type 0
+  abbrev Tells : IResult Bytes O (Error Bytes) → Outcome V → Type 0
   Tells r o = (r ≡ Err OutOfMemory) ⊎ ((beginning : Bytes) × Parses bytes_model IsOutput whole (m.blames true beginning) o r)
 
   answered : (none : HasNoFailure bytes_model m) (never : m.NeverFails true) (x : Bytes)
-      (r : Result (Bytes × O) (Answer.Err (Error Bytes) (Error Bytes) Needed)) → IsBeginning bytes_model whole cuts index x →
+      (r : IResult Bytes O (Error Bytes)) → IsBeginning bytes_model whole cuts index x →
       AnswersOn bytes_model IsOutput m whole cuts index x r → (o : Outcome V) → m.answers true whole o → Tells r o
   answered none never x r begins (RanOutOn e h) o a = inl e
   answered none never x r begins (ShownOn b) o a =
       let same = b.stays (λ e. none true true x (begins_known x begins) never (subst (λ p. m.answers true x p) e b.answered)) o a in
       inr (x, subst (λ p. Parses bytes_model IsOutput whole (m.blames true x) p r) same b.shown)
 
-  pub of_whole : (r : Result (Bytes × O) (Answer.Err (Error Bytes) (Error Bytes) Needed)) → IsGrown bytes_model IsOutput m whole cuts index r ×
+  pub of_whole : (r : IResult Bytes O (Error Bytes)) → IsGrown bytes_model IsOutput m whole cuts index r ×
       HasNoFailure bytes_model m → m.NeverFails true → (o : Outcome V) → m.answers true whole o → Tells r o
   of_whole r g never = answered g.1 never g.0.beginning r g.0.begins g.0.answer

@@ -1,7 +1,6 @@
 -- Messages after their lengths.
-use Rattle.std.specs.Prelude.{◌≡◌, ℕ, ◌⊎◌, Bool, true, List, [], ◌∷◌, Result, Err, Vec}
-use Rattle.nom_error.specs.declared.answer.Needed.{Needed}
-use Rattle.nom_error.specs.declared.answer.Err as Answer
+use Rattle.std.specs.Prelude.{◌≡◌, ℕ, ◌⊎◌, Bool, true, List, [], ◌∷◌, Err, Vec}
+use Rattle.nom_error.specs.Answers.{IResult}
 use Rattle.nom_error.specs.declared.answer.Err.TheVariants.{OutOfMemory}
 use Rattle.nom_error.specs.declared.value.Error.{Error}
 use Rattle.nom_traits.specs.Bytes.{bytes_model}
@@ -33,6 +32,6 @@ messages_of = written_of (1 ∷ []) (2 ∷ []) (3 ∷ []) (0 ∷ 0 ∷ []) true 
 
 -- What is answered is what the grammar makes of the whole, running out of memory aside: nothing tells where the cuts were, but an error, which
 -- holds the input as it was on a beginning.
-abbrev pub TellsWhole : {M : Type 0} → Bytes → Result (Bytes × Vec Message M) (Answer.Err (Error Bytes) (Error Bytes) Needed) → Type 0
+abbrev pub TellsWhole : {M : Type 0} → Bytes → IResult Bytes (Vec Message M) (Error Bytes) → Type 0
 TellsWhole {M} whole r = (o : Outcome (List Body)) → (messages_of {M = M}).meaning.answers true whole o → (r ≡ Err OutOfMemory) ⊎
     ((beginning : Bytes) × Parses bytes_model (messages_of {M = M}).IsOutput whole ((messages_of {M = M}).meaning.blames true beginning) o r)

@@ -1,8 +1,7 @@
 -- Grammars over slices of bytes, with `Error`: the words of `Grammar` and `Leaves` for `&[u8]`.
-use Rattle.std.specs.Prelude.{◌≡◌, ℕ, ◌-◌, Some, length, Bool, ◌⊎◌, List, Option, Result, Vec}
+use Rattle.std.specs.Prelude.{◌≡◌, ℕ, ◌-◌, Some, length, Bool, ◌⊎◌, List, Option, Vec}
 use Rattle.std.specs.Borrow.{Bor}
-use Rattle.nom_error.specs.declared.answer.Needed.{Needed}
-use Rattle.nom_error.specs.declared.answer.Err as Answer
+use Rattle.nom_error.specs.Answers.{IResult}
 use Rattle.nom_error.specs.declared.kind.ErrorKind.TheVariants.{Char}
 use Rattle.nom_error.specs.declared.value.Error.{Error}
 use Rattle.nom_error.specs.Errors.{Errors}
@@ -31,11 +30,11 @@ abbrev pub BytesGrammar : (V O : Type 0) → Type 1
 BytesGrammar V O = Grammar Bytes V O (Error Bytes)
 
 -- what `parse` (true) and `parse_complete` (false) answer by the grammar
-abbrev pub Parses : {V O : Type 0} → BytesGrammar V O → Bool → Bytes → Result (Bytes × O) (Answer.Err (Error Bytes) (Error Bytes) Needed) → Type 0
+abbrev pub Parses : {V O : Type 0} → BytesGrammar V O → Bool → Bytes → IResult Bytes O (Error Bytes) → Type 0
 Parses = Grammars.Parses bytes_model
 
 -- and as a part of others
-abbrev pub AnswersAsPart : {V O : Type 0} → View O → BytesGrammar V O → Bool → Bytes → Result (Bytes × O) (Answer.Err (Error Bytes) (Error Bytes) Needed) →
+abbrev pub AnswersAsPart : {V O : Type 0} → View O → BytesGrammar V O → Bool → Bytes → IResult Bytes O (Error Bytes) →
     Type 0
 AnswersAsPart = Grammars.AnswersAsPart bytes_model
 

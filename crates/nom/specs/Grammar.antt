@@ -1,9 +1,8 @@
 -- Grammars, for the contracts of functions that parse. A grammar is what a parser means, and which outputs its trees stand for. Each word
 -- mirrors the call of its name; those of leaves stand in `Leaves`, and all of them, at one input type, in `Bytes` and `Texts`.
-use Rattle.std.specs.Prelude.{◌≡◌, ℕ, Bool, ◌⊎◌, List, Option, Result, Vec}
+use Rattle.std.specs.Prelude.{◌≡◌, ℕ, Bool, ◌⊎◌, List, Option, Vec}
 use Rattle.std.specs.List.{AllZip}
-use Rattle.nom_error.specs.declared.answer.Needed.{Needed}
-use Rattle.nom_error.specs.declared.answer.Err as Answer
+use Rattle.nom_error.specs.Answers.{IResult}
 use Rattle.nom_error.specs.Errors.{Errors}
 use Rattle.nom_traits.specs.Input.{Model}
 use Rattle.nom_traits.specs.Slices.{Slice, IsModelledBy}
@@ -29,11 +28,11 @@ pub record Grammar (I V O E : Type 0) : Type 1 where
 
 module _ {I A E : Type 0} (w : Model I A) where
   -- what `parse` (true) and `parse_complete` (false) answer by the grammar
-  abbrev pub Parses : {V O : Type 0} → Grammar I V O E → Bool → I → Result (I × O) (Answer.Err E E Needed) → Type 0
+  abbrev pub Parses : {V O : Type 0} → Grammar I V O E → Bool → I → IResult I O E → Type 0
   Parses g streaming i r = ParsesMeaning w g.IsOutput g.meaning streaming i r
 
   -- the same of a function that others take as a part by `func`, with what its outputs are compared by
-  abbrev pub AnswersAsPart : {V O : Type 0} → View O → Grammar I V O E → Bool → I → Result (I × O) (Answer.Err E E Needed) → Type 0
+  abbrev pub AnswersAsPart : {V O : Type 0} → View O → Grammar I V O E → Bool → I → IResult I O E → Type 0
   AnswersAsPart view g streaming i r = AnswersBy w view g.IsOutput g.meaning streaming i r
 
   -- a leaf that accepts a slice of the input

@@ -1,8 +1,7 @@
 -- Grammars over texts, with `Error`: the words of `Grammar` and `Leaves` for `&str`.
-use Rattle.std.specs.Prelude.{◌≡◌, ℕ, None, Bool, ◌⊎◌, List, Option, Result, Vec, chars}
+use Rattle.std.specs.Prelude.{◌≡◌, ℕ, None, Bool, ◌⊎◌, List, Option, Vec, chars}
 use Rattle.std.specs.Borrow.{Bor}
-use Rattle.nom_error.specs.declared.answer.Needed.{Needed}
-use Rattle.nom_error.specs.declared.answer.Err as Answer
+use Rattle.nom_error.specs.Answers.{IResult}
 use Rattle.nom_error.specs.declared.kind.ErrorKind.TheVariants.{Char}
 use Rattle.nom_error.specs.declared.value.Error.{Error}
 use Rattle.nom_error.specs.Errors.{Errors}
@@ -31,11 +30,11 @@ abbrev pub TextGrammar : (V O : Type 0) → Type 1
 TextGrammar V O = Grammar Text V O (Error Text)
 
 -- what `parse` (true) and `parse_complete` (false) answer by the grammar
-abbrev pub Parses : {V O : Type 0} → TextGrammar V O → Bool → Text → Result (Text × O) (Answer.Err (Error Text) (Error Text) Needed) → Type 0
+abbrev pub Parses : {V O : Type 0} → TextGrammar V O → Bool → Text → IResult Text O (Error Text) → Type 0
 Parses = Grammars.Parses text_model
 
 -- and as a part of others
-abbrev pub AnswersAsPart : {V O : Type 0} → View O → TextGrammar V O → Bool → Text → Result (Text × O) (Answer.Err (Error Text) (Error Text) Needed) → Type 0
+abbrev pub AnswersAsPart : {V O : Type 0} → View O → TextGrammar V O → Bool → Text → IResult Text O (Error Text) → Type 0
 AnswersAsPart = Grammars.AnswersAsPart text_model
 
 abbrev pub tag_of : List ℕ → TextGrammar (Slice text_model) Text

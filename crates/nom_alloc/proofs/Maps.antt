@@ -1,5 +1,6 @@
 -- What a part shows whose outputs a closure maps, which may take memory.
 use Rattle.std.proofs.Common.{◌≡◌, Bool, true, false, Result, Ok, Err, Option, Some, None, refl, sym, subst}
+use Rattle.nom_error.specs.Answers.{PResult}
 use Rattle.nom_error.specs.declared.answer.Needed.{Needed}
 use Rattle.nom_error.specs.declared.answer.OutOfMemory.{OutOfMemory}
 use Rattle.nom_error.specs.declared.answer.Err as Answer
@@ -32,14 +33,14 @@ was_built IsOutput t true x p e h = let same : h.0 ≡ p = cc (h.1, e) in (refl,
 was_built IsOutput t false x p e h = absurd (cc (h, e))
 
 abbrev MapAllocShown : {I A V P R E : Type 0} (w : Model I A) (IsOutput : V → P → Type 0) (Takes : P → Type 0)
-    (Gives : P → Result R OutOfMemory → Type 0) (m : Meaning I V E) (mode : Modes) (i : I) → Result (I × Option R) (Answer.Err E (Option E) Needed) → Type 0
+    (Gives : P → Result R OutOfMemory → Type 0) (m : Meaning I V E) (mode : Modes) (i : I) → PResult I R E → Type 0
 MapAllocShown w IsOutput Takes Gives m mode i = ShowsMeaning w (GivesFor IsOutput (λ p r. Gives p (Ok r))) (map_alloc_meaning IsOutput Takes Gives m) mode i
 
 -- The premise that a closure takes the outputs tells which closure it is.
 module _ {I A V P R E : Type 0} {w : Model I A} {IsOutput : V → P → Type 0} {Takes : P → Type 0} (Gives : P → Result R OutOfMemory → Type 0)
     (m : Meaning I V E) {mode : Modes} {i : I} where
   -- whatever isn't an acceptance passes
-  pub map_err : {f : Answer.Err E (Option E) Needed} {r : Result (I × Option R) (Answer.Err E (Option E) Needed)} → IsCallable IsOutput Takes →
+  pub map_err : {f : Answer.Err E (Option E) Needed} {r : PResult I R E} → IsCallable IsOutput Takes →
       ShowsMeaning w IsOutput m mode i (Err f) → r ≡ Err f → MapAllocShown w IsOutput Takes Gives m mode i r
   map_err k h e =
       subst (MapAllocShown w IsOutput Takes Gives m mode i) (sym e)

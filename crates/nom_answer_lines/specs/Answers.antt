@@ -1,10 +1,8 @@
 -- What an answer says, and what it leaves.
-use Rattle.std.specs.Prelude.{◌≡◌, ℕ, List, [], ◌++◌, Option, Some, None, Result, Ok, Err, codes, string_bytes}
+use Rattle.std.specs.Prelude.{◌≡◌, ℕ, List, [], ◌++◌, Option, Some, None, Ok, Err, codes, string_bytes}
 use Rattle.std.specs.Fmt.{decimal, ◌++?◌}
-use Rattle.nom_error.specs.Answers.{size_of}
+use Rattle.nom_error.specs.Answers.{IResult, size_of}
 use Rattle.nom_error.specs.Kinds.{name_of}
-use Rattle.nom_error.specs.declared.answer.Needed.{Needed}
-use Rattle.nom_error.specs.declared.answer.Err as Answer
 use Rattle.nom_error.specs.declared.answer.Err.TheVariants.{Incomplete, Error, Failure, OutOfMemory}
 use Rattle.nom_error.specs.declared.value.Error as Value
 use Rattle.nom_answer_lines.specs.declared.answer.Answer as Told
@@ -25,7 +23,7 @@ size_text None = codes "unknown"
 
 module _ {I O : Type 0} where
   -- what an answer says, where it is known how its output is written
-  abbrev pub said_of : (O → Option (List ℕ)) → Result (I × O) (Answer.Err (Value.Error I) (Value.Error I) Needed) → Option (List ℕ)
+  abbrev pub said_of : (O → Option (List ℕ)) → IResult I O (Value.Error I) → Option (List ℕ)
   said_of written (Ok a) = Some (codes "value=") ++? written a.1
   said_of written (Err (Incomplete needed)) = Some (codes "incomplete " ++ size_text (size_of needed))
   said_of written (Err (Error e)) = Some (codes "error " ++ name_of e.code)
@@ -33,7 +31,7 @@ module _ {I O : Type 0} where
   said_of written (Err OutOfMemory) = None
 
   -- the bytes of the rest, or of the input that an error holds
-  abbrev pub left_of : (I → List ℕ) → Result (I × O) (Answer.Err (Value.Error I) (Value.Error I) Needed) → List ℕ
+  abbrev pub left_of : (I → List ℕ) → IResult I O (Value.Error I) → List ℕ
   left_of bytes (Ok a) = bytes a.0
   left_of bytes (Err (Incomplete needed)) = []
   left_of bytes (Err (Error e)) = bytes e.input

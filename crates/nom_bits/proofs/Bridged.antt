@@ -4,7 +4,7 @@ use Rattle.std.proofs.Math.Nat.{mod-lt}
 use Rattle.nom_error.specs.declared.answer.Needed.{Needed}
 use Rattle.nom_error.specs.declared.answer.Err as Answer
 use Rattle.nom_error.specs.declared.answer.Err.TheVariants.{Incomplete}
-use Rattle.nom_error.specs.Answers.{size_of}
+use Rattle.nom_error.specs.Answers.{PResult, size_of}
 use Rattle.nom_error.specs.Errors.{Errors}
 use Rattle.nom_error.specs.Modes.{Built, Modes, with_streaming}
 use Rattle.nom_traits.specs.Input.{Model, InputLaws, IsSuffixOf}
@@ -34,10 +34,10 @@ same_err h = cc (h)
 
 module _ {I T O E F : Type 0} (w : Model I ℕ) (IsOutput : T → O → Type 0) (Converts : E → F → Type 0) (m : Meaning (I × ℕ) T E) (mode : Modes) (i : I)
     (bytes : AreBytes (w.elements i)) where
-  abbrev InBits' : Result ((I × ℕ) × Option O) (Answer.Err E (Option E) Needed) → Type 0
+  abbrev InBits' : PResult (I × ℕ) O E → Type 0
   InBits' = ShowsMeaning (bits_model w) IsOutput m (with_streaming true mode) (i, 0)
 
-  abbrev OfBits : Result (I × Option O) (Answer.Err F (Option F) Needed) → Type 0
+  abbrev OfBits : PResult I O F → Type 0
   OfBits = ShowsMeaning w IsOutput (bits_meaning w Converts m) mode i
 
   at_bits : {Fact : I × ℕ → Outcome T → Type 0} (a : Outcome T) → m.answers true (i, 0) a → Fact (i, 0) a →
@@ -79,10 +79,10 @@ module _ {I T O E F : Type 0} (w : Model I ℕ) (IsOutput : T → O → Type 0) 
 
 module _ {I T O E F : Type 0} (w : Model I ℕ) (IsOutput : T → O → Type 0) (errs : Errors (I × ℕ) F) (Converts : E → F → Type 0) (m : Meaning I T E)
     (mode : Modes) (i : I × ℕ) (j : I) (start : IsSuffixOf (bits_model w) i (bits_ahead w i) (j, 0)) where
-  abbrev InBytes' : Result (I × Option O) (Answer.Err E (Option E) Needed) → Type 0
+  abbrev InBytes' : PResult I O E → Type 0
   InBytes' = ShowsMeaning w IsOutput m (with_streaming true mode) j
 
-  abbrev OfBytes : Result ((I × ℕ) × Option O) (Answer.Err F (Option F) Needed) → Type 0
+  abbrev OfBytes : PResult (I × ℕ) O F → Type 0
   OfBytes = ShowsMeaning (bits_model w) IsOutput (bytes_meaning w errs Converts m) mode i
 
   at_bytes : {Fact : I → Outcome T → Type 0} (a : Outcome T) → m.answers true j a → Fact j a →

@@ -1,7 +1,5 @@
 -- How choices among several parsers show their answers.
-use Rattle.std.specs.Prelude.{Result, Option}
-use Rattle.nom_error.specs.declared.answer.Needed.{Needed}
-use Rattle.nom_error.specs.declared.answer.Err as Answer
+use Rattle.nom_error.specs.Answers.{PResult}
 use Rattle.nom_error.specs.declared.kind.ErrorKind.TheVariants.{Alt}
 use Rattle.nom_error.specs.Errors.{Errors}
 use Rattle.nom_error.specs.Modes.{Modes}
@@ -13,13 +11,13 @@ use Rattle.nom_branch.specs.Alternatives.{next_meaning, choice_meaning}
 
 -- the branches before, and the next one
 pub next_shown : {I A P Q O E : Type 0} (w : Model I A) (First : P → O → Type 0) (Second : Q → O → Type 0) (e : Errors I E) (a : Meaning I P E)
-    (b : Meaning I Q E) (mode : Modes) (i : I) (before r : Result (I × Option O) (Answer.Err E (Option E) Needed)) →
+    (b : Meaning I Q E) (mode : Modes) (i : I) (before r : PResult I O E) →
     ShowsMeaning w First a mode i before → OnError (ShowsNext w Second e.joined e.grows b mode i) before r →
     ShowsMeaning w (EitherOutput First Second) (next_meaning e a b) mode i r
 next_shown w First Second e = either_shown w First Second e.joined e.grows
 
 -- all branches, closed
 pub choice_shown : {I A V O E : Type 0} (w : Model I A) (IsOutput : V → O → Type 0) (e : Errors I E) (m : Meaning I V E) (mode : Modes) (i : I)
-    (before r : Result (I × Option O) (Answer.Err E (Option E) Needed)) → ShowsMeaning w IsOutput m mode i before →
+    (before r : PResult I O E) → ShowsMeaning w IsOutput m mode i before →
     ClosesResult (e.appended i Alt) e.grows before r → ShowsMeaning w IsOutput (choice_meaning e m) mode i r
 choice_shown w IsOutput e m mode i = closed_shown w IsOutput mode i m (λ j. e.appended j Alt) e.grows

@@ -1,5 +1,5 @@
 -- How choices among the parsers of a list show their answers.
-use Rattle.std.specs.Prelude.{◌≡◌, ℕ, ◌+◌, ◌<◌, List, [], ◌∷◌, ◌++◌, length, map, Result, Err, Option, refl}
+use Rattle.std.specs.Prelude.{◌≡◌, ℕ, ◌+◌, ◌<◌, List, [], ◌∷◌, ◌++◌, length, map, Err, Option, refl}
 use Rattle.std.proofs.Common.{sym, ap, subst, ◌∙◌, get_or, take, set, suc, zero, arith, add-one}
 use Rattle.std.proofs.lemmas.List.{length-map}
 use Rattle.std.proofs.Math.Seq.{take-suc, take-length, map-set_same}
@@ -7,7 +7,7 @@ use Rattle.std.proofs.Math.ListN.{get_or-map}
 use Rattle.nom_error.specs.declared.answer.Needed.{Needed}
 use Rattle.nom_error.specs.declared.answer.Err as Answer
 use Rattle.nom_error.specs.declared.kind.ErrorKind.TheVariants.{Alt}
-use Rattle.nom_error.specs.Answers.{Refuses}
+use Rattle.nom_error.specs.Answers.{PResult, Refuses}
 use Rattle.nom_error.specs.Errors.{Errors}
 use Rattle.nom_error.specs.Modes.{Modes}
 use Rattle.nom_traits.specs.Input.{Model}
@@ -78,16 +78,16 @@ module _ {B S I V E : Type 0} (e : Errors I E) (part : S → Meaning I V E) (st 
 module _ {B S I A V O E : Type 0} (w : Model I A) (IsOutput : S → V → O → Type 0) (e : Errors I E) (part : S → Meaning I V E) (st : B → S) (mode : Modes)
     (i : I) where
   -- what is shown of the branches before k
-  abbrev pub ShowsBefore : List B → ℕ → Result (I × Option O) (Answer.Err E (Option E) Needed) → Type 0
+  abbrev pub ShowsBefore : List B → ℕ → PResult I O E → Type 0
   ShowsBefore os k r = ShowsMeaning w (ListOutput IsOutput (map st os)) (any_branch_meaning e part (take k (map st os))) mode i r
 
-  pub branch_first : (os : List B) (x : B) (r : Result (I × Option O) (Answer.Err E (Option E) Needed)) → 0 < length os →
+  pub branch_first : (os : List B) (x : B) (r : PResult I O E) → 0 < length os →
       ShowsMeaning w (IsOutput (st (get_or os 0 x))) (part (st (get_or os 0 x))) mode i r → ShowsBefore os 1 r
   branch_first [] x r h t = absurd (omega (arith, h))
   branch_first (o ∷ os) x r h t =
       labelled_shown w (λ t. (0, t)) (IsOutput (st o)) (ListOutput IsOutput (map st (o ∷ os))) (λ t o' k. (st o, refl, k)) (part (st o)) mode i r t
 
-  state_step : (ss : List S) (k : ℕ) (d : S) (before r : Result (I × Option O) (Answer.Err E (Option E) Needed)) → 0 < k → k < length ss →
+  state_step : (ss : List S) (k : ℕ) (d : S) (before r : PResult I O E) → 0 < k → k < length ss →
       ShowsMeaning w (ListOutput IsOutput ss) (any_branch_meaning e part (take k ss)) mode i before →
       OnError (ShowsNext w (IsOutput (get_or ss k d)) e.joined e.grows (part (get_or ss k d)) mode i) before r →
       ShowsMeaning w (ListOutput IsOutput ss) (any_branch_meaning e part (take (k + 1) ss)) mode i r
@@ -102,14 +102,14 @@ module _ {B S I A V O E : Type 0} (w : Model I A) (IsOutput : S → V → O → 
       subst (λ n. ShowsMeaning w out n mode i r) (sym (any_more e part ss k d p h))
       (or_shown w out e.joined e.grows m (branch_meaning k (part z)) mode i before r t next)
 
-  pub branch_step : (bs os : List B) (k : ℕ) (x : B) (before r : Result (I × Option O) (Answer.Err E (Option E) Needed)) → map st bs ≡ map st os →
+  pub branch_step : (bs os : List B) (k : ℕ) (x : B) (before r : PResult I O E) → map st bs ≡ map st os →
       0 < k → k < length bs → ShowsBefore os k before →
       OnError (ShowsNext w (IsOutput (st (get_or bs k x))) e.joined e.grows (part (st (get_or bs k x))) mode i) before r → ShowsBefore os (k + 1) r
   branch_step bs os k x before r same p h t q =
       state_step (map st os) k (st x) before r p (omega (arith, h, ap length same, length-map bs st)) t
       (subst (λ z. OnError (ShowsNext w (IsOutput z) e.joined e.grows (part z) mode i) before r) (state_at st bs (map st os) k x same) q)
 
-  pub branch_close : (os : List B) (k : ℕ) (before r : Result (I × Option O) (Answer.Err E (Option E) Needed)) → 0 < length os → k ≡ length os →
+  pub branch_close : (os : List B) (k : ℕ) (before r : PResult I O E) → 0 < length os → k ≡ length os →
       ShowsBefore os k before → ClosesResult (e.appended i Alt) e.grows before r →
       ShowsMeaning w (ListOutput IsOutput (map st os)) (list_meaning e part (map st os)) mode i r
   branch_close [] k before r h n t q = absurd (omega (arith, h))

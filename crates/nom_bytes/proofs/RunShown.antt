@@ -1,12 +1,12 @@
 -- What a split of an input after its run shows.
-use Rattle.std.proofs.Common.{◌≡◌, ℕ, ◌-◌, ◌<◌, ◌≤◌, max, cond, ◌⊎◌, Bool, true, false, Result, Ok, Option, Some, None, List, [], ◌∷◌, length, refl}
+use Rattle.std.proofs.Common.{◌≡◌, ℕ, ◌-◌, ◌<◌, ◌≤◌, max, cond, ◌⊎◌, Bool, true, false, Ok, Option, Some, None, List, [], ◌∷◌, length, refl}
 use Rattle.std.proofs.Common.{sym, ap, subst, arith, inl, inr}
 use Rattle.std.specs.Prelude as Std
 use Rattle.std.specs.List.{All}
 use Rattle.std.proofs.lemmas.List.Elements.{All-nil}
 use Rattle.nom_error.specs.declared.answer.Needed.{Needed}
 use Rattle.nom_error.specs.declared.answer.Err as Answer
-use Rattle.nom_error.specs.Answers.{Refuses}
+use Rattle.nom_error.specs.Answers.{PResult, Refuses}
 use Rattle.nom_error.specs.Modes.{Modes}
 use Rattle.nom_traits.specs.Input.{Model, InputLaws, items_len}
 use Rattle.nom_traits.specs.Runs.{Stops}
@@ -61,13 +61,13 @@ module _ {I A : Type 0} (w : Model I A) (l : InputLaws w) (Meets Ends : A → Ty
   }
 
   module _ {E : Type 0} (wanted : Bool) (Blames : I → E → Type 0) (Grows : Type 0) (mode : Modes) (i : I) where
-    abbrev Shows : Result (I × Option I) (Answer.Err E (Option E) Needed) → Type 0
+    abbrev Shows : PResult I I E → Type 0
     Shows r = ShowsMeaning w (IsModelledBy w) (leaf_meaning (Unit {0}) Blames Grows (runs w Test None (cond wanted 1 0))) mode i r
 
     -- a split after the run, where one item is wanted at least or none, shows the run's meaning, whatever its premise
     pub split_shown : (IsRefusal : Answer.Err E (Option E) Needed → Type 0) →
         ((e : Answer.Err E (Option E) Needed) → IsRefusal e → Refuses (Blames i) Grows mode.errors e) →
-        (r : Result (I × Option I) (Answer.Err E (Option E) Needed)) →
+        (r : PResult I I E) →
         Splits w Meets Ends mode.streaming i wanted (FrontBuilt w mode.outputs) IsRefusal r → Shows r
     split_shown IsRefusal refuses (Ok p) h =
         let run = run_of mode.streaming i h.0 h.1 in

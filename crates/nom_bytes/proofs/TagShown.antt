@@ -1,9 +1,8 @@
 -- What a comparison of an input with a tag shows.
-use Rattle.std.proofs.Common.{◌≡◌, ℕ, ◌-◌, ◌<◌, true, List, Result, Ok, Err, Option, Some, refl, sym, ◌∙◌, ap, subst, arith}
+use Rattle.std.proofs.Common.{◌≡◌, ℕ, ◌-◌, ◌<◌, true, List, Ok, Err, Option, Some, refl, sym, ◌∙◌, ap, subst, arith}
 use Rattle.nom_error.specs.declared.answer.Needed.{Needed}
-use Rattle.nom_error.specs.declared.answer.Err as Answer
 use Rattle.nom_error.specs.declared.answer.Err.TheVariants.{Incomplete}
-use Rattle.nom_error.specs.Answers.{size_of}
+use Rattle.nom_error.specs.Answers.{PResult, size_of}
 use Rattle.nom_error.specs.Errors.{Errors}
 use Rattle.nom_error.specs.Modes.{Built, Modes}
 use Rattle.nom_traits.specs.declared.compare.CompareResult.{CompareResult}
@@ -17,7 +16,7 @@ use Rattle.nom_bytes.specs.Tags.{tag_meaning}
 
 module _ {I A T E : Type 0} (w : Model I A) (errs : Errors I E) (size : T → ℕ) (Compares : T → List A → CompareResult → Type 0)
     (c : CompareLaws w size Compares) (tag : T) (mode : Modes) (i : I) (known : w.IsKnown i) where
-  abbrev Shows : Result (I × Option I) (Answer.Err E (Option E) Needed) → Type 0
+  abbrev Shows : PResult I I E → Type 0
   Shows r = ShowsMeaning w (IsModelledBy w) (tag_meaning w errs size Compares tag) mode i r
 
   pub tag_found : (n : ℕ) (j : I) (x : Option I) → n ≡ size tag → Compares tag (w.elements i) Compared.Ok → IsSuffixOf w i n j →

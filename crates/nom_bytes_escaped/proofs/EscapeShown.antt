@@ -1,12 +1,12 @@
 -- What a list of pieces shows.
-use Rattle.std.proofs.Common.{◌≡◌, ℕ, ◌<◌, Bool, true, Result, Ok, Err, Option, Some, None, List, [], ◌∷◌, ◌++◌, length, refl, sym, ap, subst, zero}
+use Rattle.std.proofs.Common.{◌≡◌, ℕ, ◌<◌, Bool, true, Ok, Err, Option, Some, None, List, [], ◌∷◌, ◌++◌, length, refl, sym, ap, subst, zero}
 use Rattle.std.proofs.Common.{suc, arith, inl, inr}
 use Rattle.std.specs.Prelude.{IsSome}
 use Rattle.nom_error.specs.declared.answer.Needed.{Needed}
 use Rattle.nom_error.specs.declared.answer.Err as Answer
 use Rattle.nom_error.specs.declared.answer.Err.TheVariants.{OutOfMemory}
 use Rattle.nom_error.specs.Modes.{Built, Modes, with_outputs}
-use Rattle.nom_error.specs.Answers.{Refuses}
+use Rattle.nom_error.specs.Answers.{PResult, Refuses}
 use Rattle.nom_traits.specs.Input.{Model, InputLaws, IsSuffixOf, input_len}
 use Rattle.nom_internal.specs.Outcome.{Outcome, Shows, ShowsAnswer}
 use Rattle.nom_internal.specs.Outcome.Outcome.{Accept, Refuse, Fail, TooLarge, Undecided}
@@ -72,7 +72,7 @@ module _ {I A V : Type 0} (w : Model I A) (Part : I → Outcome (NextPiece V) �
 module _ {I A V O E : Type 0} (w : Model I A) (l : InputLaws w) (Gives : I → E → Type 0) (Grows : Type 0) (at : I → I → I) (m : Meaning I (NextPiece V) E)
     (IsOutput : List V → O → Type 0) (mode : Modes) {Held : List V → Type 0} (i j : I)
     (c : Collected w (TurnsBy None escape_turn (λ _. m.answers mode.streaming)) Held i j) where
-  abbrev Goal : Result (I × Option O) (Answer.Err E (Option E) Needed) → Type 0
+  abbrev Goal : PResult I O E → Type 0
   Goal = ShowsMeaning w IsOutput (repeat_meaning w (escape_rule Gives Grows at) all_pieces (always m)) mode i
 
   -- no item is left
@@ -215,7 +215,7 @@ module _ {I A U W O X : Type 0} (w : Model I A) (outputs : Bool) (IsNormal : U �
 -- the same at equal states of the parts, an equal control character and an equal size that lacks
 pub same_next_piece : {S T I A U W O X E : Type 0} (w : Model I A) (IsNormal : S → U → O → Type 0) (IsEscapable : T → W → X → Type 0) (mode : Modes)
     (IsControl : ℕ → A → Type 0) (m : S → Meaning I U E) (g : T → Meaning I W E) (i : I)
-    (r : Result (I × Option (NextPiece (Piece (Option O) (Option X)))) (Answer.Err E (Option E) Needed)) (a b : S) (x y : ℕ) (c d : T) (e f : Option ℕ) →
+    (r : PResult I (NextPiece (Piece (Option O) (Option X))) E) (a b : S) (x y : ℕ) (c d : T) (e f : Option ℕ) →
     a ≡ b → x ≡ y → c ≡ d → e ≡ f → ShowsNextPiece w (IsNormal a) (IsEscapable c) mode (IsControl x) e (m a) (g c) i r →
     ShowsNextPiece w (IsNormal b) (IsEscapable d) mode (IsControl y) f (m b) (g d) i r
 same_next_piece w IsNormal IsEscapable mode IsControl m g i r a b x y c d e f p q t u h =

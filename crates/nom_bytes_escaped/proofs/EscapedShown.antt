@@ -1,11 +1,11 @@
 -- What `escaped` shows.
-use Rattle.std.proofs.Common.{◌≡◌, ℕ, false, Result, Ok, Err, Option, Some, None, refl, sym, subst}
+use Rattle.std.proofs.Common.{◌≡◌, ℕ, false, Ok, Err, Option, Some, None, refl, sym, subst}
 use Rattle.nom_error.specs.declared.answer.Needed.{Needed}
 use Rattle.nom_error.specs.declared.answer.Err as Answer
 use Rattle.nom_error.specs.Errors.{Errors}
 use Rattle.nom_error.specs.declared.kind.ErrorKind.TheVariants as Kind
 use Rattle.nom_error.specs.Modes.{Built, Modes, with_outputs}
-use Rattle.nom_error.specs.Answers.{Refuses}
+use Rattle.nom_error.specs.Answers.{PResult, Refuses}
 use Rattle.nom_traits.specs.Input.{Model, InputLaws, IsSuffixOf, input_len}
 use Rattle.nom_traits.specs.Slices.{Slice, IsFirst, IsModelledBy}
 use Rattle.nom_internal.specs.Meaning.{Meaning, ShowsMeaning}
@@ -26,7 +26,7 @@ use Rattle.nom_bytes_escaped.proofs.EscapeShown.{piece_taken, passed_on, piece_f
 module _ {I A U W O X E : Type 0} (w : Model I A) (l : InputLaws w) (errs : Errors I E) (IsControl : A → Type 0) (m : Meaning I U E) (g : Meaning I W E)
     (IsNormal : U → O → Type 0) (IsEscapable : W → X → Type 0) (mode : Modes) (i j : I)
     (c : Collected w (TurnsBy None escape_turn (λ _. (next_piece_meaning w IsControl (Some 1) m g).answers mode.streaming)) AnyPieces i j) where
-  abbrev Goal : Result (I × Option I) (Answer.Err E (Option E) Needed) → Type 0
+  abbrev Goal : PResult I I E → Type 0
   Goal = ShowsMeaning w (IsModelledBy w) (escaped_meaning w errs IsControl m g) mode i
 
   -- the slice before a place
@@ -36,7 +36,7 @@ module _ {I A U W O X E : Type 0} (w : Model I A) (l : InputLaws w) (errs : Erro
   abbrev Stood : I → NextPiece (Piece (Option O) (Option X)) → Type 0
   Stood = Told w false IsNormal IsEscapable j ((next_piece_meaning w IsControl (Some 1) m g).answers mode.streaming j)
 
-  abbrev Inner : Result (I × Option (Unit {0})) (Answer.Err E (Option E) Needed) → Type 0
+  abbrev Inner : PResult I (Unit {0}) E → Type 0
   Inner = ShowsMeaning w NoValue
       (repeat_meaning w (escape_rule (λ k. errs.of_kind k Kind.Escaped) errs.grows (λ x y. x)) all_pieces
       (always (next_piece_meaning w IsControl (Some 1) m g))) (with_outputs false mode) i
@@ -51,7 +51,7 @@ module _ {I A U W O X E : Type 0} (w : Model I A) (l : InputLaws w) (errs : Erro
       (repeat_meaning w (escape_rule (λ k. errs.of_kind k Kind.Escaped) errs.grows (λ x y. x)) all_pieces
       (always (next_piece_meaning w IsControl (Some 1) m g))) mode i f h
 
-  pub escaped_passed : (f : Answer.Err E (Option E) Needed) (r : Result (I × Option I) (Answer.Err E (Option E) Needed)) →
+  pub escaped_passed : (f : Answer.Err E (Option E) Needed) (r : PResult I I E) →
       ShowsNextPiece w IsNormal IsEscapable (with_outputs false mode) IsControl (Some 1) m g j (Err f) → r ≡ Err f → Goal r
   escaped_passed f r h e = subst (λ z. Goal z) (sym e)
       (fault f (passed_on w l (λ k. errs.of_kind k Kind.Escaped) errs.grows (λ x y. x)

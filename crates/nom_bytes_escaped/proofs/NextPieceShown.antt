@@ -1,10 +1,10 @@
 -- What is shown of what stands at a place.
-use Rattle.std.proofs.Common.{◌≡◌, ℕ, ◌<◌, Bool, true, false, List, [], length, Result, Ok, Err, Option, Some, None, refl, sym, ◌∙◌, subst}
+use Rattle.std.proofs.Common.{◌≡◌, ℕ, ◌<◌, Bool, true, false, List, [], length, Ok, Err, Option, Some, None, refl, sym, ◌∙◌, subst}
 use Rattle.nom_error.specs.declared.answer.Needed.{Needed}
 use Rattle.nom_error.specs.declared.answer.Needed.TheVariants.{Unknown}
 use Rattle.nom_error.specs.declared.answer.Err as Answer
 use Rattle.nom_error.specs.declared.answer.Err.TheVariants.{Error}
-use Rattle.nom_error.specs.Answers.{size_of}
+use Rattle.nom_error.specs.Answers.{PResult, size_of}
 use Rattle.nom_error.specs.Modes.{modes}
 use Rattle.nom_traits.specs.Input.{Model, InputLaws, IsSuffixOf, input_len}
 use Rattle.nom_internal.specs.Outcome.{ShowsAnswer}
@@ -30,7 +30,7 @@ use Rattle.nom_bytes_escaped.proofs.Controls.{no_items, some_items}
 module _ {I A U W O X E : Type 0} (w : Model I A) (l : InputLaws w) (IsNormal : U → O → Type 0) (IsEscapable : W → X → Type 0) (outputs errors : Bool)
     (IsControl : A → Type 0) (lack : Option ℕ) (m : Meaning I U E) (g : Meaning I W E) (i : I) (known : w.IsKnown i) where
   abbrev Told : Type 0
-  Told = Result (I × Option (NextPiece (Piece (Option O) (Option X)))) (Answer.Err E (Option E) Needed)
+  Told = PResult I (NextPiece (Piece (Option O) (Option X))) E
 
   -- what a part that tells the next piece shows at a place
   abbrev Tells : Meaning I (NextPiece (Piece U W)) E → Bool → I → Told → Type 0

@@ -1,5 +1,5 @@
 -- What `escaped_transform` shows.
-use Rattle.std.proofs.Common.{◌≡◌, ℕ, Result, Ok, Err, Option, Some, None, List, ◌∷◌, [], ◌++◌, sym, subst}
+use Rattle.std.proofs.Common.{◌≡◌, ℕ, Ok, Err, Option, Some, None, List, ◌∷◌, [], ◌++◌, sym, subst}
 use Rattle.std.specs.Prelude.{IsSome}
 use Rattle.nom_error.specs.declared.answer.Needed.{Needed}
 use Rattle.nom_error.specs.declared.answer.Err as Answer
@@ -7,7 +7,7 @@ use Rattle.nom_error.specs.declared.answer.Err.TheVariants.{OutOfMemory}
 use Rattle.nom_error.specs.Errors.{Errors}
 use Rattle.nom_error.specs.declared.kind.ErrorKind.TheVariants as Kind
 use Rattle.nom_error.specs.Modes.{Built, Modes}
-use Rattle.nom_error.specs.Answers.{Refuses}
+use Rattle.nom_error.specs.Answers.{PResult, Refuses}
 use Rattle.nom_traits.specs.Input.{Model, InputLaws, input_len}
 use Rattle.nom_internal.specs.Meaning.{Meaning, ShowsMeaning}
 use Rattle.nom_internal.proofs.Shown.{accepts}
@@ -37,10 +37,10 @@ module _ {I A U W O X E T P : Type 0} (w : Model I A) (l : InputLaws w) (errs : 
   AllAdded vs t = AddAll IsNormal IsEscapable normal_adds escapable_adds vs (parts t)
 
   module _ (i j : I) (text : Option T) (c : Gathered w IsControl m g IsNormal IsEscapable normal_adds escapable_adds parts mode i j text) where
-    abbrev Goal : Result (I × Option T) (Answer.Err E (Option E) Needed) → Type 0
+    abbrev Goal : PResult I T E → Type 0
     Goal = ShowsMeaning w AllAdded (escaped_transform_meaning w errs IsControl m g) mode i
 
-    pub transform_passed : (f : Answer.Err E (Option E) Needed) (r : Result (I × Option T) (Answer.Err E (Option E) Needed)) →
+    pub transform_passed : (f : Answer.Err E (Option E) Needed) (r : PResult I T E) →
         ShowsNextPiece w IsNormal IsEscapable mode IsControl None m g j (Err f) → r ≡ Err f → Goal r
     transform_passed f r h e = subst (λ z. Goal z) (sym e)
         (passed_on w l (λ k. errs.of_kind k Kind.EscapedTransform) errs.grows (λ x y. y) (next_piece_meaning w IsControl None m g) AllAdded mode i j c _ f h)

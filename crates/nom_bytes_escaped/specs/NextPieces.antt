@@ -1,8 +1,8 @@
 -- What stands next in a text with escapes: where an item is left, a normal piece, otherwise the control character and after
 -- it an escapable piece.
-use Rattle.std.specs.Prelude.{◌≡◌, ℕ, ◌<◌, Bool, true, false, List, [], ◌∷◌, length, Option, Some, None, Result, Ok, Err}
+use Rattle.std.specs.Prelude.{◌≡◌, ℕ, ◌<◌, Bool, true, false, List, [], ◌∷◌, length, Option, Some, None, Ok, Err}
+use Rattle.nom_error.specs.Answers.{PResult}
 use Rattle.nom_error.specs.declared.answer.Needed.{Needed}
-use Rattle.nom_error.specs.declared.answer.Err as Answer
 use Rattle.nom_error.specs.declared.answer.Err.TheVariants.{Incomplete}
 use Rattle.nom_error.specs.Modes.{Built, Modes, with_outputs}
 use Rattle.nom_traits.specs.Input.{Model, IsSuffixOf}
@@ -140,13 +140,13 @@ module _ {U W O X : Type 0} (outputs : Bool) (IsNormal : U → O → Type 0) (Is
 
 -- what is returned for what stands at i: it is told always, and its values where outputs are built
 abbrev pub ShowsNextPiece : {I A U W O X E : Type 0} → Model I A → (U → O → Type 0) → (W → X → Type 0) → Modes → (A → Type 0) → Option ℕ → Meaning I U E →
-    Meaning I W E → I → Result (I × Option (NextPiece (Piece (Option O) (Option X)))) (Answer.Err E (Option E) Needed) → Type 0
+    Meaning I W E → I → PResult I (NextPiece (Piece (Option O) (Option X))) E → Type 0
 ShowsNextPiece w IsNormal IsEscapable mode IsControl lack m g i r =
     ShowsAnswer w (IsNextPiece mode.outputs IsNormal IsEscapable) (with_outputs true mode) i
     ((next_piece_meaning w IsControl lack m g).answers mode.streaming i)
     ((next_piece_meaning w IsControl lack m g).blames mode.streaming i) ((next_piece_meaning w IsControl lack m g).may_run_out mode i) r
 
 -- what is returned where an input ends at i
-abbrev pub Lacks : {I T E : Type 0} → Bool → Needed → I → T → Result (I × Option T) (Answer.Err E (Option E) Needed) → Type 0
+abbrev pub Lacks : {I T E : Type 0} → Bool → Needed → I → T → PResult I T E → Type 0
 Lacks true size i next_piece r = r ≡ Err (Incomplete size)
 Lacks false size i next_piece r = r ≡ Ok (i, Some next_piece)

@@ -1,8 +1,7 @@
 -- The first item that an input gives.
-use Rattle.std.proofs.Common.{◌≡◌, ℕ, Bool, Result, Option, Some, None, List, [], ◌∷◌, refl, sym, ap, subst, MatchOption}
+use Rattle.std.proofs.Common.{◌≡◌, ℕ, Bool, Option, Some, None, List, [], ◌∷◌, refl, sym, ap, subst, MatchOption}
 use Rattle.std.specs.Iterator.{AlwaysYields}
-use Rattle.nom_error.specs.declared.answer.Needed.{Needed}
-use Rattle.nom_error.specs.declared.answer.Err as Answer
+use Rattle.nom_error.specs.Answers.{PResult}
 use Rattle.nom_error.specs.Errors.{Errors}
 use Rattle.nom_error.specs.Modes.{Modes}
 use Rattle.nom_traits.specs.Input.{Model}
@@ -29,7 +28,7 @@ first_given w steps s t i (Some x) g k = let r = some_given steps s t x (w.eleme
 -- what is lacking, told in another way
 module _ {I A E : Type 0} {w : Model I A} (code : A → ℕ) (Test : A → Bool → Type 0) (IsSound : Type 0) (errs : Errors I E) (blame : Blame) {mode : Modes}
     {i : I} where
-  pub head_lacking : {k l : Option ℕ} {r : Result (I × Option ℕ) (Answer.Err E (Option E) Needed)} → k ≡ l →
+  pub head_lacking : {k l : Option ℕ} {r : PResult I ℕ E} → k ≡ l →
       ShowsMeaning w (λ t c. c ≡ t) (first_item_meaning w code Test IsSound errs blame k) mode i r →
       ShowsMeaning w (λ t c. c ≡ t) (first_item_meaning w code Test IsSound errs blame l) mode i r
   head_lacking {r = r} e h = subst (λ z. ShowsMeaning w (λ t c. c ≡ t) (first_item_meaning w code Test IsSound errs blame z) mode i r) e h

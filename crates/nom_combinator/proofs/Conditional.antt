@@ -1,5 +1,6 @@
 -- What is shown of a part that runs on a condition.
-use Rattle.std.proofs.Common.{◌≡◌, Result, Ok, Err, Option, Some, None, refl, sym, subst}
+use Rattle.std.proofs.Common.{◌≡◌, Ok, Err, Option, Some, None, refl, sym, subst}
+use Rattle.nom_error.specs.Answers.{PResult}
 use Rattle.nom_error.specs.declared.answer.Needed.{Needed}
 use Rattle.nom_error.specs.declared.answer.Err as Answer
 use Rattle.nom_error.specs.Modes.{Built, Modes}
@@ -13,14 +14,14 @@ use Rattle.nom_internal.proofs.Consumed.{rest_self}
 use Rattle.nom_combinator.proofs.Judged.{option_built}
 
 module _ {I A F S P O E : Type 0} (w : Model I A) (state : F → S) (IsOutput : S → P → O → Type 0) (meaning : S → Meaning I P E) (mode : Modes) (i : I) where
-  abbrev CondShown : Option F → Result (I × Option (Option O)) (Answer.Err E (Option E) Needed) → Type 0
+  abbrev CondShown : Option F → PResult I (Option O) E → Type 0
   CondShown p = ShowsMeaning w (CondOutput IsOutput (state_of state p)) (cond_meaning meaning (state_of state p)) mode i
 
-  abbrev PartShown : F → Result (I × Option O) (Answer.Err E (Option E) Needed) → Type 0
+  abbrev PartShown : F → PResult I O E → Type 0
   PartShown f = ShowsMeaning w (IsOutput (state f)) (meaning (state f)) mode i
 
   pub cond_err : (p : Option F) (f : F) → p ≡ Some f →
-      (e : Answer.Err E (Option E) Needed) (r : Result (I × Option (Option O)) (Answer.Err E (Option E) Needed)) → PartShown f (Err e) →
+      (e : Answer.Err E (Option E) Needed) (r : PResult I (Option O) E) → PartShown f (Err e) →
       r ≡ Err e → CondShown p r
   cond_err p f q e r h is =
       let shown = labels_err w (λ t. Some t) (IsOutput (state f)) (OptOutput (IsOutput (state f))) (meaning (state f)) mode.outputs mode i e h in

@@ -1,5 +1,6 @@
 -- What is shown of a part whose errors are made into others.
-use Rattle.std.proofs.Common.{◌≡◌, Bool, true, false, Result, Ok, Err, Option, Some, None, refl, sym, subst, ap, inl, inr}
+use Rattle.std.proofs.Common.{◌≡◌, Bool, true, false, Ok, Err, Option, Some, None, refl, sym, subst, ap, inl, inr}
+use Rattle.nom_error.specs.Answers.{PResult}
 use Rattle.nom_error.specs.declared.answer.Needed.{Needed}
 use Rattle.nom_error.specs.declared.answer.Err as Answer
 use Rattle.nom_error.specs.declared.answer.Err.TheVariants.{Incomplete, Error, Failure, OutOfMemory}
@@ -17,7 +18,7 @@ use Rattle.nom_combinator.specs.Contexts.{Makes, IsRenamed}
 
 module _ {I A P O E : Type 0} (w : Model I A) (IsOutput : P → O → Type 0) (Named : I → E → E → Type 0) (Grows : Type 0) (m : Meaning I P E)
     (mode : Modes) (i : I) where
-  abbrev RenamedShown : Result (I × Option O) (Answer.Err E (Option E) Needed) → Type 0
+  abbrev RenamedShown : PResult I O E → Type 0
   RenamedShown = ShowsMeaning w IsOutput (renamed_meaning Named Grows m) mode i
 
   pub renamed_ok : (p : I × Option O) → ShowsMeaning w IsOutput m mode i (Ok p) → RenamedShown (Ok p)

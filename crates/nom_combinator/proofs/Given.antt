@@ -1,5 +1,6 @@
 -- What is shown of a value in the place of what a part accepts.
-use Rattle.std.proofs.Common.{◌≡◌, Result, Ok, Err, Option, refl, sym, subst}
+use Rattle.std.proofs.Common.{◌≡◌, Ok, Err, Option, refl, sym, subst}
+use Rattle.nom_error.specs.Answers.{PResult}
 use Rattle.nom_error.specs.declared.answer.Needed.{Needed}
 use Rattle.nom_error.specs.declared.answer.Err as Answer
 use Rattle.nom_error.specs.Modes.{Built, Modes}
@@ -13,11 +14,11 @@ use Rattle.nom_combinator.specs.Outputs.{value_case, value_meaning}
 
 module _ {I A P O T E : Type 0} (w : Model I A) (IsOutput : P → O → Type 0) (IsClone : T → Type 0) (v : T) (IsSure : Type 0) (m : Meaning I P E)
     (mode : Modes) (i : I) where
-  abbrev ValueShown : Result (I × Option T) (Answer.Err E (Option E) Needed) → Type 0
+  abbrev ValueShown : PResult I T E → Type 0
   ValueShown = ShowsMeaning w (λ _. IsClone) (value_meaning v IsSure m) mode i
 
   -- whatever isn't an acceptance passes
-  pub value_err : (f : Answer.Err E (Option E) Needed) (r : Result (I × Option T) (Answer.Err E (Option E) Needed)) →
+  pub value_err : (f : Answer.Err E (Option E) Needed) (r : PResult I T E) →
       ShowsMeaning w IsOutput m mode i (Err f) → r ≡ Err f → ValueShown r
   value_err f r h e = subst (λ z. ValueShown z) (sym e)
       (passing_err w IsOutput (λ _. IsClone)

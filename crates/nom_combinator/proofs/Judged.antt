@@ -1,9 +1,9 @@
 -- What is shown of what becomes of a part's outcome.
-use Rattle.std.proofs.Common.{◌≡◌, ℕ, Bool, true, false, Result, Ok, Err, Option, Some, None, refl, sym, ◌∙◌, ap, subst, inl, inr}
+use Rattle.std.proofs.Common.{◌≡◌, ℕ, Bool, true, false, Ok, Err, Option, Some, None, refl, sym, ◌∙◌, ap, subst, inl, inr}
 use Rattle.nom_error.specs.declared.answer.Needed.{Needed}
 use Rattle.nom_error.specs.declared.answer.Err as Answer
 use Rattle.nom_error.specs.declared.answer.Err.TheVariants.{Incomplete, Error, Failure}
-use Rattle.nom_error.specs.Answers.{Refuses}
+use Rattle.nom_error.specs.Answers.{PResult, Refuses}
 use Rattle.nom_error.specs.Modes.{with_outputs, Built, Modes, modes}
 use Rattle.nom_traits.specs.Input.{Model, InputLaws, IsSuffixOf}
 use Rattle.nom_traits.specs.Slices.{Slice, IsFirst, IsModelledBy}
@@ -65,10 +65,10 @@ module _ {I A P O E : Type 0} (w : Model I A) (IsOutput : P → O → Type 0) (m
 
 -- a refusal that is final
 module _ {I A P O E : Type 0} (w : Model I A) (IsOutput : P → O → Type 0) (m : Meaning I P E) (mode : Modes) (i : I) where
-  abbrev CutShown : Result (I × Option O) (Answer.Err E (Option E) Needed) → Type 0
+  abbrev CutShown : PResult I O E → Type 0
   CutShown = ShowsMeaning w IsOutput (cut_meaning m) mode i
 
-  abbrev CutPart : Result (I × Option O) (Answer.Err E (Option E) Needed) → Type 0
+  abbrev CutPart : PResult I O E → Type 0
   CutPart = ShowsMeaning w IsOutput m (modes mode.outputs true mode.streaming) i
 
   pub cut_passes : (f k : Answer.Err E (Option E) Needed) → f ≡ k → ((x : Option E) → k ≡ Error x → ⊥) → CutPart (Err f) → CutShown (Err k)
@@ -92,10 +92,10 @@ module _ {P O : Type 0} (IsOutput : P → O → Type 0) where
 
 -- an option
 module _ {I A P O E : Type 0} (w : Model I A) (l : InputLaws w) (IsOutput : P → O → Type 0) (m : Meaning I P E) (mode : Modes) (i : I) where
-  abbrev OptShown : Result (I × Option (Option O)) (Answer.Err E (Option E) Needed) → Type 0
+  abbrev OptShown : PResult I (Option O) E → Type 0
   OptShown = ShowsMeaning w (OptOutput IsOutput) (opt_meaning m) mode i
 
-  abbrev OptPart : Result (I × Option O) (Answer.Err E (Option E) Needed) → Type 0
+  abbrev OptPart : PResult I O E → Type 0
   OptPart = ShowsMeaning w IsOutput m (modes mode.outputs false mode.streaming) i
 
   pub opt_passes : (f k : Answer.Err E (Option E) Needed) → f ≡ k → ((x : Option E) → k ≡ Error x → ⊥) → OptPart (Err f) → OptShown (Err k)
@@ -115,10 +115,10 @@ module _ {I A P O E : Type 0} (w : Model I A) (l : InputLaws w) (IsOutput : P �
 
 -- a look ahead
 module _ {I A P O E : Type 0} (w : Model I A) (l : InputLaws w) (IsOutput : P → O → Type 0) (m : Meaning I P E) (mode : Modes) (i : I) where
-  abbrev PeekShown : Result (I × Option O) (Answer.Err E (Option E) Needed) → Type 0
+  abbrev PeekShown : PResult I O E → Type 0
   PeekShown = ShowsMeaning w IsOutput (peek_meaning m) mode i
 
-  pub peek_err : (f : Answer.Err E (Option E) Needed) (r : Result (I × Option O) (Answer.Err E (Option E) Needed)) →
+  pub peek_err : (f : Answer.Err E (Option E) Needed) (r : PResult I O E) →
       ShowsMeaning w IsOutput m mode i (Err f) → r ≡ Err f → PeekShown r
   peek_err f r h e = subst (λ z. PeekShown z) (sym e) (plain_err w IsOutput IsOutput (λ b. b) (λ i. Looks) m mode i f h)
 
@@ -130,10 +130,10 @@ module _ {I A P O E : Type 0} (w : Model I A) (l : InputLaws w) (IsOutput : P �
 -- a part that must refuse
 module _ {I A P O E : Type 0} (w : Model I A) (l : InputLaws w) (IsOutput : P → O → Type 0) (Own : I → E → Type 0) (Grows : Type 0) (m : Meaning I P E)
     (mode : Modes) (i : I) where
-  abbrev NotShown : Result (I × Option (Unit {0})) (Answer.Err E (Option E) Needed) → Type 0
+  abbrev NotShown : PResult I (Unit {0}) E → Type 0
   NotShown = ShowsMeaning w (λ t o. o ≡ t) (not_meaning Own Grows m) mode i
 
-  abbrev NotPart : Result (I × Option O) (Answer.Err E (Option E) Needed) → Type 0
+  abbrev NotPart : PResult I O E → Type 0
   NotPart = ShowsMeaning w IsOutput m (modes false false mode.streaming) i
 
   pub not_passes : (f k : Answer.Err E (Option E) Needed) → f ≡ k → ((x : Option E) → k ≡ Error x → ⊥) → NotPart (Err f) → NotShown (Err k)
@@ -167,10 +167,10 @@ module _ {I A P O E : Type 0} (w : Model I A) (l : InputLaws w) (IsOutput : P �
 -- a part that runs as on a complete input
 module _ {I A P O E : Type 0} (w : Model I A) (IsOutput : P → O → Type 0) (Own : I → E → Type 0) (Grows : Type 0) (m : Meaning I P E) (mode : Modes)
     (i : I) where
-  abbrev CompleteShown : Result (I × Option O) (Answer.Err E (Option E) Needed) → Type 0
+  abbrev CompleteShown : PResult I O E → Type 0
   CompleteShown = ShowsMeaning w IsOutput (complete_meaning Own Grows m) mode i
 
-  abbrev CompletePart : Result (I × Option O) (Answer.Err E (Option E) Needed) → Type 0
+  abbrev CompletePart : PResult I O E → Type 0
   CompletePart = ShowsMeaning w IsOutput m (modes mode.outputs mode.errors false) i
 
   pub complete_passes : (f k : Answer.Err E (Option E) Needed) → f ≡ k → ((x : Needed) → k ≡ Incomplete x → ⊥) → CompletePart (Err f) → CompleteShown (Err k)
@@ -214,17 +214,17 @@ module _ {I A P O E : Type 0} (w : Model I A) (IsOutput : P → O → Type 0) (O
 
 -- what a part consumes
 module _ {I A P O E : Type 0} (w : Model I A) (IsOutput : P → O → Type 0) (m : Meaning I P E) (mode : Modes) (i : I) where
-  pub recognize_err : (f : Answer.Err E (Option E) Needed) (r : Result (I × Option I) (Answer.Err E (Option E) Needed)) →
+  pub recognize_err : (f : Answer.Err E (Option E) Needed) (r : PResult I I E) →
       ShowsMeaning w IsOutput m (with_outputs false mode) i (Err f) → r ≡ Err f → ShowsMeaning w (IsModelledBy w) (recognized_meaning w m) mode i r
   recognize_err f r h e = subst (λ z. ShowsMeaning w (IsModelledBy w) (recognized_meaning w m) mode i z) (sym e) (recognized_err w IsOutput m mode i f h)
 
   pub has_rest : (j : I) (x : Option O) → ShowsMeaning w IsOutput m mode i (Ok (j, x)) → (n : ℕ) × IsSuffixOf w i n j
   has_rest j x h = let a = accepts h in (a.length, a.rest_is)
 
-  abbrev ConsumedShown : Result (I × Option (I × O)) (Answer.Err E (Option E) Needed) → Type 0
+  abbrev ConsumedShown : PResult I (I × O) E → Type 0
   ConsumedShown = ShowsMeaning w (λ t o. IsModelledBy w t.0 o.0 × IsOutput t.1 o.1) (consumed_meaning w m) mode i
 
-  pub consumed_err : (f : Answer.Err E (Option E) Needed) (r : Result (I × Option (I × O)) (Answer.Err E (Option E) Needed)) →
+  pub consumed_err : (f : Answer.Err E (Option E) Needed) (r : PResult I (I × O) E) →
       ShowsMeaning w IsOutput m mode i (Err f) → r ≡ Err f → ConsumedShown r
   consumed_err f r h e = subst (λ z. ConsumedShown z) (sym e)
       (plain_err w IsOutput (λ t o. IsModelledBy w t.0 o.0 × IsOutput t.1 o.1) (λ b. b) (λ i. WithSlice w i) m mode i f h)

@@ -12,6 +12,14 @@ use Rattle.nom_error.specs.declared.finish.FinishError.{FinishError}
 use Rattle.nom_error.specs.declared.finish.FinishError.TheVariants as Finish
 use Rattle.nom_error.specs.Modes.{Built}
 
+-- what `process` returns: the rest, and what is built of the output; or what is built of the error
+abbrev pub PResult : Type 0 → Type 0 → Type 0 → Type 0
+PResult I O E = Result (I × Option O) (Answer.Err E (Option E) Needed)
+
+-- what `parse` and `parse_complete` return, and nom's plain functions: the rest and the output, or the error
+abbrev pub IResult : Type 0 → Type 0 → Type 0 → Type 0
+IResult I O E = Result (I × O) (Answer.Err E E Needed)
+
 -- the size that is needed, or none where it is unknown
 abbrev pub size_of : Needed → Option ℕ
 size_of Unknown = None

@@ -1,9 +1,9 @@
 -- What `process` shows of a function.
-use Rattle.std.proofs.Common.{◌≡◌, Result, Ok, Err, Option, refl, sym, subst, ap}
+use Rattle.std.proofs.Common.{◌≡◌, Ok, Err, Option, refl, sym, subst, ap}
 use Rattle.nom_error.specs.declared.answer.Needed.{Needed}
 use Rattle.nom_error.specs.declared.answer.Err as Answer
 use Rattle.nom_error.specs.declared.answer.Err.TheVariants.{Incomplete, Error, Failure}
-use Rattle.nom_error.specs.Answers.{size_of}
+use Rattle.nom_error.specs.Answers.{IResult, size_of}
 use Rattle.nom_error.specs.Modes.{Built, Modes}
 use Rattle.nom_traits.specs.Input.{Model}
 use Rattle.nom_traits.specs.Rests.{same_self}
@@ -15,12 +15,12 @@ use Rattle.nom_func.specs.Func.{IsViewed, Tells, FuncAnswers, FuncBlames, IsPars
 use Rattle.nom_func.specs.Func.FuncBlames.{OfRefusal, OfFailure}
 use Rattle.nom_internal.proofs.Shown.{built_error}
 
-module _ {I A O E : Type 0} {w : Model I A} {view : View O} {Gives : I → Result (I × O) (Answer.Err E E Needed) → Type 0} {i : I} where
+module _ {I A O E : Type 0} {w : Model I A} {view : View O} {Gives : I → IResult I O E → Type 0} {i : I} where
   -- the outcome that the function's answer tells
-  answered : (o : Outcome view.Value) (r : Result (I × O) (Answer.Err E E Needed)) → w.IsKnown i → Gives i r → Tells w view i r o → FuncAnswers w view Gives i o
+  answered : (o : Outcome view.Value) (r : IResult I O E) → w.IsKnown i → Gives i r → Tells w view i r o → FuncAnswers w view Gives i o
   answered o r h g t = record { at = i; known = h; alike = same_self w i; outcome = record { answer = r; given = g; told = t } }
 
-module _ {I A O E : Type 0} {w : Model I A} {view : View O} {Gives : I → Result (I × O) (Answer.Err E E Needed) → Type 0} {mode : Modes}
+module _ {I A O E : Type 0} {w : Model I A} {view : View O} {Gives : I → IResult I O E → Type 0} {mode : Modes}
     {RunsOut : Type 0} {i : I} where
   pub func_ok : {Takes : I → Type 0} {j : I} {v : O} {b : Option O} → IsParser w view Gives Takes → w.IsKnown i → Gives i (Ok (j, v)) →
       Built mode.outputs (λ u. u ≡ v) b → ShowsAnswer w (IsViewed view) mode i (FuncAnswers w view Gives i) (FuncBlames Gives i) RunsOut (Ok (j, b))

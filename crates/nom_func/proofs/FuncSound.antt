@@ -1,9 +1,7 @@
 -- Functions that answer as a meaning says are parsers.
-use Rattle.std.proofs.Common.{◌≡◌, ℕ, Bool, true, false, List, [], ◌++◌, Result, Ok, Err, arith, refl, sym, ◌∙◌, subst, ap}
-use Rattle.nom_error.specs.declared.answer.Needed.{Needed}
-use Rattle.nom_error.specs.declared.answer.Err as Answer
+use Rattle.std.proofs.Common.{◌≡◌, ℕ, Bool, true, false, List, [], ◌++◌, Ok, Err, arith, refl, sym, ◌∙◌, subst, ap}
 use Rattle.nom_error.specs.declared.answer.Err.TheVariants.{Incomplete, Error, Failure, OutOfMemory}
-use Rattle.nom_error.specs.Answers.{size_of}
+use Rattle.nom_error.specs.Answers.{IResult, size_of}
 use Rattle.nom_error.specs.Modes.{modes}
 use Rattle.nom_traits.specs.Input.{Model, InputLaws, IsSuffixOf, Related, items_len}
 use Rattle.nom_traits.specs.Rests.{items_len-append}
@@ -51,7 +49,7 @@ module _ {V O : Type 0} (view : View O) (IsOutput : V → O → Type 0) where
   retold_decided (Undecided d) o never h k = subst (Keeps true) h k
 
   module _ {I A E : Type 0} (w : Model I A) (i : I) (IsError : E → Type 0) where
-    retold_of : (a : Outcome V) (r : Result (I × O) (Answer.Err E E Needed)) (o : Outcome view.Value) → Parses w IsOutput i IsError a r →
+    retold_of : (a : Outcome V) (r : IResult I O E) (o : Outcome view.Value) → Parses w IsOutput i IsError a r →
         Tells w view i r o → Retold a o
     retold_of (Accept n t) r o p h =
         let told = subst (λ x. Tells w view i x o) p.4 h in
@@ -62,7 +60,7 @@ module _ {V O : Type 0} (view : View O) (IsOutput : V → O → Type 0) where
     retold_of (Undecided k) r o p h = (let told : o ≡ Undecided (size_of p.0) = subst (λ x. Tells w view i x o) p.2 h in told ∙ ap Undecided p.1)
 
     rest_of : (a : Outcome V) (j : I) (v : O) →
-        (let r : Result (I × O) (Answer.Err E E Needed) = Ok (j, v) in Parses w IsOutput i IsError a r → (n : ℕ) × IsSuffixOf w i n j)
+        (let r : IResult I O E = Ok (j, v) in Parses w IsOutput i IsError a r → (n : ℕ) × IsSuffixOf w i n j)
     rest_of (Accept n t) j v p =
         let same : ◌≡◌ {A = I × O} (j, v) (p.0, p.1) = cc (p.4) in
         (n, subst (λ k. IsSuffixOf w i n k) (sym (ap (λ q. q.0) same)) p.2)
@@ -79,12 +77,12 @@ record Meant {V O : Type 0} (view : View O) (IsOutput : V → O → Type 0) (Ans
 
 module _ {I A V O E : Type 0} (w : Model I A) (view : View O) (IsOutput : V → O → Type 0) (i : I) (Answers : Outcome V → Type 0) (IsError : E → Type 0)
     (RunsOut : Type 0) where
-  meant_by : (r : Result (I × O) (Answer.Err E E Needed)) (o : Outcome view.Value) → ParsesAnswer w IsOutput i Answers IsError RunsOut r →
+  meant_by : (r : IResult I O E) (o : Outcome view.Value) → ParsesAnswer w IsOutput i Answers IsError RunsOut r →
       Tells w view i r o → Meant view IsOutput Answers o
   meant_by r o (ParseRanOut e h) t = absurd (subst (λ x. Tells w view i x o) e t)
   meant_by r o (Parsed a h p) t = record { outcome = a; answered = h; retold = retold_of view IsOutput w i IsError a r o p t }
 
-  rest_by : (j : I) (v : O) → (let r : Result (I × O) (Answer.Err E E Needed) = Ok (j, v) in ParsesAnswer w IsOutput i Answers IsError RunsOut r →
+  rest_by : (j : I) (v : O) → (let r : IResult I O E = Ok (j, v) in ParsesAnswer w IsOutput i Answers IsError RunsOut r →
       (n : ℕ) × IsSuffixOf w i n j)
   rest_by j v (ParseRanOut e h) = cc (e)
   rest_by j v (Parsed a h p) = rest_of view IsOutput w i IsError a j v p
@@ -92,11 +90,11 @@ module _ {I A V O E : Type 0} (w : Model I A) (view : View O) (IsOutput : V → 
 -- The function takes every input, and answers as a relation of inputs to outcomes says, under which inputs that are equal as models
 -- have one outcome; and one tree stands for one output.
 module _ {I A V O E : Type 0} {w : Model I A} {view : View O} {IsOutput : V → O → Type 0} {Answers : I → Outcome V → Type 0} {IsError : I → E → Type 0}
-    {RunsOut : I → Type 0} {Gives : I → Result (I × O) (Answer.Err E E Needed) → Type 0} {Takes : I → Type 0} (one : Agree w false Answers Answers)
+    {RunsOut : I → Type 0} {Gives : I → IResult I O E → Type 0} {Takes : I → Type 0} (one : Agree w false Answers Answers)
     (pinned : IsPinned view IsOutput) (takes : (i : I) → w.IsKnown i → Takes i)
-    (shows : (i : I) (r : Result (I × O) (Answer.Err E E Needed)) → w.IsKnown i → Gives i r →
+    (shows : (i : I) (r : IResult I O E) → w.IsKnown i → Gives i r →
     ParsesAnswer w IsOutput i (Answers i) (IsError i) (RunsOut i) r) where
-  meant : (i : I) (r : Result (I × O) (Answer.Err E E Needed)) (o : Outcome view.Value) → w.IsKnown i → Gives i r → Tells w view i r o →
+  meant : (i : I) (r : IResult I O E) (o : Outcome view.Value) → w.IsKnown i → Gives i r → Tells w view i r o →
       Meant view IsOutput (Answers i) o
   meant i r o h g t = meant_by w view IsOutput i (Answers i) (IsError i) (RunsOut i) r o (shows i r h g) t
 
@@ -128,7 +126,7 @@ module _ {I A V O E : Type 0} {w : Model I A} {view : View O} {IsOutput : V → 
   }
 
 -- by the outcomes that the answers tell
-module _ {I A O E : Type 0} {w : Model I A} {view : View O} {Gives : I → Result (I × O) (Answer.Err E E Needed) → Type 0} {Takes : I → Type 0} where
+module _ {I A O E : Type 0} {w : Model I A} {view : View O} {Gives : I → IResult I O E → Type 0} {Takes : I → Type 0} where
   pub parser_of : ((i : I) → w.IsKnown i → Takes i) → ((i j : I) (v : O) → w.IsKnown i → Gives i (Ok (j, v)) → (n : ℕ) × IsSuffixOf w i n j) →
       Agree w false (FuncOutcome w view Gives) (FuncOutcome w view Gives) → IsParser w view Gives Takes
   unfolding TellOne
@@ -140,23 +138,23 @@ module _ {I A O E : Type 0} {w : Model I A} {view : View O} {Gives : I → Resul
   }
 
 module _ {I A V O E : Type 0} {w : Model I A} {view : View O} {IsOutput : V → O → Type 0} {m : Meaning I V E}
-    {Gives : I → Result (I × O) (Answer.Err E E Needed) → Type 0} {Takes : I → Type 0} where
+    {Gives : I → IResult I O E → Type 0} {Takes : I → Type 0} where
   -- a function that answers as a lawful meaning says in one mode is a parser, where one tree stands for one output
   pub func_sound : (s : Bool) → IsLawful w m → IsPinned view IsOutput → ((i : I) → w.IsKnown i → Takes i) →
-      ((i : I) (r : Result (I × O) (Answer.Err E E Needed)) → w.IsKnown i → Gives i r → ParsesMeaning w IsOutput m s i r) → IsParser w view Gives Takes
+      ((i : I) (r : IResult I O E) → w.IsKnown i → Gives i r → ParsesMeaning w IsOutput m s i r) → IsParser w view Gives Takes
   func_sound s lawful pinned takes shows =
       parser_by {IsError = λ i. m.blames s i} {RunsOut = λ i. m.may_run_out (modes true true s) i} (lawful.one_outcome s) pinned takes shows
 
   -- and a stream parser where that mode is the streaming one, the meaning is steady, and what it lacks is never too large
   pub stream_func_sound : IsLawful w m → IsSteady w m → NeverTooLarge m → IsPinned view IsOutput → ((i : I) → w.IsKnown i → Takes i) →
-      ((i : I) (r : Result (I × O) (Answer.Err E E Needed)) → w.IsKnown i → Gives i r → ParsesMeaning w IsOutput m true i r) → IsStreamParser w view Gives Takes
+      ((i : I) (r : IResult I O E) → w.IsKnown i → Gives i r → ParsesMeaning w IsOutput m true i r) → IsStreamParser w view Gives Takes
   stream_func_sound lawful steady never pinned takes shows =
       stream_parser_by {IsError = λ i. m.blames true i} {RunsOut = λ i. m.may_run_out (modes true true true) i}
       (lawful.one_outcome true) pinned takes shows steady.stays (λ i h a. lawful.never_fails true never true i h a)
 
 module _ {I A O E : Type 0} (w : Model I A) (view : View O) where
   -- an answer tells one outcome
-  tells_once : (i : I) (r : Result (I × O) (Answer.Err E E Needed)) (o p : Outcome view.Value) → Tells w view i r o → Tells w view i r p → o ≡ p
+  tells_once : (i : I) (r : IResult I O E) (o p : Outcome view.Value) → Tells w view i r o → Tells w view i r p → o ≡ p
   tells_once i (Ok (j, v)) o p h k = h.2 ∙ (ap (λ n. Accept n (view.value v)) (one_length w i j h.0 k.0 h.1 k.1) ∙ sym k.2)
   tells_once i (Err (Incomplete d)) o p h k = h ∙ sym k
   tells_once i (Err (Error e)) o p h k = h ∙ sym k
@@ -164,11 +162,11 @@ module _ {I A O E : Type 0} (w : Model I A) (view : View O) where
   tells_once i (Err OutOfMemory) o p h k = absurd h
 
 module _ {I A O E : Type 0} (w : Model I A) (view : View O) (outcome : List A → Outcome view.Value) where
-  items_outcome : (i : I) (r : Result (I × O) (Answer.Err E E Needed)) (o : Outcome view.Value) → TellsItems w view outcome i r → Tells w view i r o →
+  items_outcome : (i : I) (r : IResult I O E) (o : Outcome view.Value) → TellsItems w view outcome i r → Tells w view i r o →
       o ≡ outcome (w.elements i)
   items_outcome i r o g t = tells_once w view i r o (outcome (w.elements i)) t g
 
-  items_rest : (i : I) (r : Result (I × O) (Answer.Err E E Needed)) (j : I) (v : O) → r ≡ Ok (j, v) → TellsItems w view outcome i r → (n : ℕ) ×
+  items_rest : (i : I) (r : IResult I O E) (j : I) (v : O) → r ≡ Ok (j, v) → TellsItems w view outcome i r → (n : ℕ) ×
       IsSuffixOf w i n j
   items_rest i r j v e g = let told = subst (λ x. TellsItems w view outcome i x) e g in (told.0, told.1)
 
@@ -198,22 +196,22 @@ module _ {I A : Type 0} (w : Model I A) (l : InputLaws w) where
   all_left : (i : I) → w.IsKnown i → IsSuffixOf w i 0 i
   all_left i k = record { known = k; front = []; whole = refl; length_is = refl; mark_is = sym (l.mark_none (w.mark i)) }
 
-  left_with : {O E : Type 0} (i j : I) (v x : O) (r : Result (I × O) (Answer.Err E E Needed)) → w.IsKnown i → r ≡ Ok (j, v) → r ≡ Ok (i, x) →
+  left_with : {O E : Type 0} (i j : I) (v x : O) (r : IResult I O E) → w.IsKnown i → r ≡ Ok (j, v) → r ≡ Ok (i, x) →
       (n : ℕ) × IsSuffixOf w i n j
   left_with {O} i j v x r k e f =
       let same : ◌≡◌ {A = I × O} (j, v) (i, x) = cc (e, f) in
       (0, subst (λ y. IsSuffixOf w i 0 y) (sym (ap (λ q. q.0) same)) (all_left i k))
 
-  told_with : {O E : Type 0} (view : View O) (i : I) (x : O) (r : Result (I × O) (Answer.Err E E Needed)) (o : Outcome view.Value) → w.IsKnown i →
+  told_with : {O E : Type 0} (view : View O) (i : I) (x : O) (r : IResult I O E) (o : Outcome view.Value) → w.IsKnown i →
       r ≡ Ok (i, x) → Tells w view i r o → o ≡ Accept 0 (view.value x)
   told_with view i x r o k e t =
       let t = subst (λ y. Tells w view i y o) e t in
       t.2 ∙ ap (λ n. Accept n (view.value x)) (one_length w i i t.0 0 t.1 (all_left i k))
 
 -- Of a function that tells its answer outright: it leaves all of its input, with an output of it.
-module _ {I A O E : Type 0} {w : Model I A} (l : InputLaws w) {view : View O} {Gives : I → Result (I × O) (Answer.Err E E Needed) → Type 0}
+module _ {I A O E : Type 0} {w : Model I A} (l : InputLaws w) {view : View O} {Gives : I → IResult I O E → Type 0}
     {Takes : I → Type 0} (value : I → O) (takes : (i : I) → w.IsKnown i → Takes i)
-    (outright : (i : I) (r : Result (I × O) (Answer.Err E E Needed)) → Gives i r → r ≡ Ok (i, value i)) where
+    (outright : (i : I) (r : IResult I O E) → Gives i r → r ≡ Ok (i, value i)) where
   -- the outputs of inputs that are equal as models are
   pub outright_func : ((i j : I) → Related w false i j → view.value (value i) ≡ view.value (value j)) → IsParser w view Gives Takes
   unfolding TellOne
@@ -236,7 +234,7 @@ module _ {I A O E : Type 0} {w : Model I A} (l : InputLaws w) {view : View O} {G
 
 -- What answers by a lawful meaning, whose trees stand for one output each, answers so alike.
 module _ {I A V O E : Type 0} {w : Model I A} {view : View O} {IsOutput : V → O → Type 0} {m : Meaning I V E} {i : I}
-    {r : Result (I × O) (Answer.Err E E Needed)} where
+    {r : IResult I O E} where
   pub answers_by : {s : Bool} → IsLawful w m → IsPinned view IsOutput → ParsesMeaning w IsOutput m s i r → AnswersBy w view IsOutput m s i r
   unfolding TellOne Answers
   answers_by {s} lawful pinned shown = record {

@@ -1,10 +1,8 @@
 -- A function as a parser.
-use Rattle.std.specs.Prelude.{◌≡◌, ℕ, Bool, true, false, List, Result, Ok, Err}
+use Rattle.std.specs.Prelude.{◌≡◌, ℕ, Bool, true, false, List, Ok, Err}
 use Rattle.std.proofs.Common.{sym, ◌∙◌}
-use Rattle.nom_error.specs.declared.answer.Needed.{Needed}
-use Rattle.nom_error.specs.declared.answer.Err as Answer
 use Rattle.nom_error.specs.declared.answer.Err.TheVariants.{Incomplete, Error, Failure, OutOfMemory}
-use Rattle.nom_error.specs.Answers.{size_of}
+use Rattle.nom_error.specs.Answers.{IResult, size_of}
 use Rattle.nom_traits.specs.Input.{Model, IsSuffixOf, IsSame, Related}
 use Rattle.nom_traits.specs.View.{View}
 use Rattle.nom_internal.specs.Outcome.{Outcome}
@@ -20,12 +18,12 @@ pub viewed_pinned : {O : Type 0} {view : View O} → IsPinned view (IsViewed vie
 viewed_pinned = record { one_view = λ t a b p q. p ∙ sym q }
 
 -- the error that the function's refusal or failure holds
-pub data FuncBlames {I O E : Type 0} (Gives : I → Result (I × O) (Answer.Err E E Needed) → Type 0) (i : I) (e : E) : Type 0 where
+pub data FuncBlames {I O E : Type 0} (Gives : I → IResult I O E → Type 0) (i : I) (e : E) : Type 0 where
   OfRefusal : Gives i (Err (Error e)) → FuncBlames Gives i e
   OfFailure : Gives i (Err (Failure e)) → FuncBlames Gives i e
 
 -- The function never answers a failure (false). That what it lacks is too large (true), its answers never tell.
-abbrev pub FuncNeverFails : {I A O E : Type 0} → Model I A → (I → Result (I × O) (Answer.Err E E Needed) → Type 0) → Bool → Type 0
+abbrev pub FuncNeverFails : {I A O E : Type 0} → Model I A → (I → IResult I O E → Type 0) → Bool → Type 0
 FuncNeverFails {I} {E = E} w Gives false = (i : I) (e : E) → w.IsKnown i → Gives i (Err (Failure e)) → ⊥
 FuncNeverFails w Gives true = Unit {0}
 
@@ -36,13 +34,13 @@ pub record AreRelated {I A : Type 0} (w : Model I A) (longer : Bool) (i j : I) :
   pub related : Related w longer i j
 
 -- what an acceptance leaves is a rest of the input
-pub record LeavesRest {I A O E : Type 0} (w : Model I A) (i : I) (r : Result (I × O) (Answer.Err E E Needed)) : Type 0 where
+pub record LeavesRest {I A O E : Type 0} (w : Model I A) (i : I) (r : IResult I O E) : Type 0 where
   pub rest : (j : I) (v : O) → r ≡ Ok (j, v) → (n : ℕ) × IsSuffixOf w i n j
 
 module _ {I A O E : Type 0} (w : Model I A) (view : View O) where
   -- The outcome that an answer at i tells: its tree is the view of the output, and a failure is one of the function's own. Want
   -- of memory tells none.
-  abbrev pub Tells : I → Result (I × O) (Answer.Err E E Needed) → Outcome view.Value → Type 0
+  abbrev pub Tells : I → IResult I O E → Outcome view.Value → Type 0
   Tells i (Ok (j, v)) o = (n : ℕ) × IsSuffixOf w i n j × (o ≡ Accept n (view.value v))
   Tells i (Err (Incomplete k)) o = o ≡ Undecided (size_of k)
   Tells i (Err (Error e)) o = o ≡ Refuse
@@ -50,31 +48,31 @@ module _ {I A O E : Type 0} (w : Model I A) (view : View O) where
   Tells i (Err OutOfMemory) o = ⊥
 
   -- it tells the outcome that the input's items have
-  abbrev pub TellsItems : (List A → Outcome view.Value) → I → Result (I × O) (Answer.Err E E Needed) → Type 0
+  abbrev pub TellsItems : (List A → Outcome view.Value) → I → IResult I O E → Type 0
   TellsItems outcome i r = Tells i r (outcome (w.elements i))
 
   -- the answers r at i and q at j tell one outcome, where r's is kept: always (false), or on a longer input (true)
-  unfoldable pub TellOne : (longer : Bool) (i j : I) (r q : Result (I × O) (Answer.Err E E Needed)) → Type 0
+  unfoldable pub TellOne : (longer : Bool) (i j : I) (r q : IResult I O E) → Type 0
   TellOne longer i j r q = (o p : Outcome view.Value) → Tells i r o → Keeps longer o → Tells j q p → o ≡ p
 
-  module _ (Gives : I → Result (I × O) (Answer.Err E E Needed) → Type 0) where
+  module _ (Gives : I → IResult I O E → Type 0) where
     -- What makes a function a parser: it takes every input; what it leaves of one is a rest of it; and at inputs of equal models
     -- its answers tell one outcome.
     pub record IsParser (Takes : I → Type 0) : Type 0 where
       pub takes : (i : I) → w.IsKnown i → Takes i
-      pub rests : (i : I) (r : Result (I × O) (Answer.Err E E Needed)) → w.IsKnown i → Gives i r → LeavesRest w i r
-      pub alike : (i j : I) (r q : Result (I × O) (Answer.Err E E Needed)) → AreRelated w false i j →
+      pub rests : (i : I) (r : IResult I O E) → w.IsKnown i → Gives i r → LeavesRest w i r
+      pub alike : (i j : I) (r q : IResult I O E) → AreRelated w false i j →
           Gives i r → Gives j q → TellOne false i j r q
 
     -- and a stream parser: an acceptance, a refusal or a failure stays on every longer input
     pub record IsStreamParser (Takes : I → Type 0) : Type 0 where
       pub parser : IsParser Takes
-      pub stays : (i j : I) (r q : Result (I × O) (Answer.Err E E Needed)) → AreRelated w true i j →
+      pub stays : (i j : I) (r q : IResult I O E) → AreRelated w true i j →
           Gives i r → Gives j q → TellOne true i j r q
 
     -- the function's outcome at i: what an answer of it tells
     pub record FuncOutcome (i : I) (o : Outcome view.Value) : Type 0 where
-      pub answer : Result (I × O) (Answer.Err E E Needed)
+      pub answer : IResult I O E
       pub given : Gives i answer
       pub told : Tells i answer o
 
@@ -99,20 +97,20 @@ module _ {I A O E : Type 0} (w : Model I A) (view : View O) where
 
 -- the answer r at i is what a meaning says in one mode
 unfoldable pub Answers : {I A V O E : Type 0} (w : Model I A) (IsOutput : V → O → Type 0) (m : Meaning I V E) (s : Bool) (i : I)
-    (r : Result (I × O) (Answer.Err E E Needed)) → Type 0
+    (r : IResult I O E) → Type 0
 Answers w IsOutput m s i r = ParsesMeaning w IsOutput m s i r
 
 -- What a plain function ensures of its answer r at i: what a meaning says in one mode. The meaning is lawful, so it pins the
 -- function's answers everywhere; `rests` and `alike` say so in the words of `IsParser`, by which `func` takes the function.
 module _ {I A V O E : Type 0} (w : Model I A) (view : View O) (IsOutput : V → O → Type 0) (m : Meaning I V E) (s : Bool) (i : I)
-    (r : Result (I × O) (Answer.Err E E Needed)) where
+    (r : IResult I O E) where
   pub record AnswersBy : Type 0 where
     pub shown : Answers w IsOutput m s i r
     pub rests : LeavesRest w i r
     -- each answer by the meaning at an input whose model is i's
-    pub alike : (j : I) (q : Result (I × O) (Answer.Err E E Needed)) → AreRelated w false i j → Answers w IsOutput m s j q → TellOne w view false i j r q
+    pub alike : (j : I) (q : IResult I O E) → AreRelated w false i j → Answers w IsOutput m s j q → TellOne w view false i j r q
 
   -- and of a function of `streaming`, by which `stream_func` takes it: on each longer input what is decided stays
   pub record StreamsBy : Type 0 where
     pub answer : AnswersBy
-    pub stays : (j : I) (q : Result (I × O) (Answer.Err E E Needed)) → AreRelated w true i j → Answers w IsOutput m s j q → TellOne w view true i j r q
+    pub stays : (j : I) (q : IResult I O E) → AreRelated w true i j → Answers w IsOutput m s j q → TellOne w view true i j r q

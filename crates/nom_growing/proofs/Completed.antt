@@ -1,7 +1,6 @@
 -- What is answered on a complete input, by what was answered where more might have come.
-use Rattle.std.proofs.Common.{◌≡◌, true, false, Result, Ok, Err, sym, subst, ◌⊎◌, inl, inr}
-use Rattle.nom_error.specs.declared.answer.Needed.{Needed}
-use Rattle.nom_error.specs.declared.answer.Err as Answer
+use Rattle.std.proofs.Common.{◌≡◌, true, false, Ok, Err, sym, subst, ◌⊎◌, inl, inr}
+use Rattle.nom_error.specs.Answers.{IResult}
 use Rattle.nom_error.specs.declared.answer.Err.TheVariants.{OutOfMemory}
 use Rattle.nom_traits.specs.Input.{Model, InputLaws}
 use Rattle.nom_traits.specs.Rests.{same_self, rest_related}
@@ -15,7 +14,7 @@ use Rattle.nom_growing.specs.Promises.{IsBlamed, Completes}
 
 module _ {I A V O E : Type 0} (w : Model I A) (l : InputLaws w) (view : View O) (Pins : Type 0) (IsOutput : V → O → Type 0)
     (pinned : Pins → IsPinned view IsOutput) (m : Meaning I V E) (laws : IsLawful w m) (settles : m.Settles) (x : I) (known : w.IsKnown x) where
-  abbrev Shown : Result (I × O) (Answer.Err E E Needed) → Result (I × O) (Answer.Err E E Needed) → Type 0
+  abbrev Shown : IResult I O E → IResult I O E → Type 0
   Shown r s = Completes w view Pins IsOutput m x r s
 
   -- of one decided outcome the errors of either mode are those of both
@@ -26,7 +25,7 @@ module _ {I A V O E : Type 0} (w : Model I A) (l : InputLaws w) (view : View O) 
     second_blamed : m.blames false x e → IsBlamed w view Pins IsOutput m x e
     second_blamed h = (laws.blames_alike settles false x o e known b a d h, h)
 
-  of_one : (o : Outcome V) (r s : Result (I × O) (Answer.Err E E Needed)) → m.answers true x o → m.answers false x o → IsDecided o →
+  of_one : (o : Outcome V) (r s : IResult I O E) → m.answers true x o → m.answers false x o → IsDecided o →
       Parses w IsOutput x (m.blames true x) o r → Parses w IsOutput x (m.blames false x) o s → Shown r s
   of_one (Accept n v) r s a b d h t =
       let same = rest_related w l false x x n h.0 t.0 (same_self w x) h.2 t.2 in
@@ -37,14 +36,14 @@ module _ {I A V O E : Type 0} (w : Model I A) (l : InputLaws w) (view : View O) 
   of_one TooLarge r s a b d h t = absurd d
   of_one (Undecided k) r s a b d h t = absurd d
 
-  of_decided : (o p : Outcome V) (r s : Result (I × O) (Answer.Err E E Needed)) → m.answers true x o → m.answers false x p → IsDecided o →
+  of_decided : (o p : Outcome V) (r s : IResult I O E) → m.answers true x o → m.answers false x p → IsDecided o →
       Parses w IsOutput x (m.blames true x) o r → Parses w IsOutput x (m.blames false x) p s → Shown r s
   of_decided o p r s a b d h t =
       let c = laws.settles settles x x o known known (same_self w x) a d in
       let e = laws.one_outcome false x x o p known known (same_self w x) c tt b in
       of_one o r s a c d h (subst (λ z. Parses w IsOutput x (m.blames false x) z s) (sym e) t)
 
-  of_outcomes : (o p : Outcome V) (r s : Result (I × O) (Answer.Err E E Needed)) → m.answers true x o → m.answers false x p →
+  of_outcomes : (o p : Outcome V) (r s : IResult I O E) → m.answers true x o → m.answers false x p →
       Parses w IsOutput x (m.blames true x) o r → Parses w IsOutput x (m.blames false x) p s → Shown r s
   of_outcomes (Accept n v) p r s a b h t = of_decided (Accept n v) p r s a b tt h t
   of_outcomes Refuse p r s a b h t = of_decided Refuse p r s a b tt h t
@@ -52,7 +51,7 @@ module _ {I A V O E : Type 0} (w : Model I A) (l : InputLaws w) (view : View O) 
   of_outcomes TooLarge p r s a b h t = subst (λ z. Shown z s) (sym h.2) (inl a)
   of_outcomes (Undecided k) p r s a b h t = subst (λ z. Shown z s) (sym h.2) tt
 
-  pub completes : (r s : Result (I × O) (Answer.Err E E Needed)) → ParsesMeaning w IsOutput m true x r → ParsesMeaning w IsOutput m false x s →
+  pub completes : (r s : IResult I O E) → ParsesMeaning w IsOutput m true x r → ParsesMeaning w IsOutput m false x s →
       (s ≡ Err OutOfMemory) ⊎ Shown r s
   completes r s (ParseRanOut e h) t = inr (subst (λ z. Shown z s) (sym e) tt)
   completes r s (Parsed o a h) (ParseRanOut e f) = inl e

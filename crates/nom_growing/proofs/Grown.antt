@@ -1,10 +1,9 @@
 -- What is shown of an input that grows.
-use Rattle.std.proofs.Common.{◌≡◌, ℕ, ◌-◌, ◌<◌, ◌++◌, true, false, List, length, slice_index, Result, Ok, Err, Option, sym, ◌∙◌, ap, subst, refl}
+use Rattle.std.proofs.Common.{◌≡◌, ℕ, ◌-◌, ◌<◌, ◌++◌, true, false, List, length, slice_index, Ok, Err, Option, sym, ◌∙◌, ap, subst, refl}
 use Rattle.std.proofs.Common.{arith, append_assoc, ◌⊎◌, inl, inr}
 use Rattle.nom_error.specs.declared.answer.Needed.{Needed}
-use Rattle.nom_error.specs.declared.answer.Err as Answer
 use Rattle.nom_error.specs.declared.answer.Err.TheVariants.{Incomplete, OutOfMemory}
-use Rattle.nom_error.specs.Answers.{size_of}
+use Rattle.nom_error.specs.Answers.{IResult, size_of}
 use Rattle.nom_internal.specs.Results.{AsksForMore, HasRests, WithRest}
 use Rattle.nom_traits.specs.Input.{Model, InputLaws, IsBoundary, IsPrefixOf, IsSuffixOf, input_len}
 use Rattle.nom_traits.specs.Rests.{same_self, same_front, rest_related}
@@ -31,7 +30,7 @@ rest_place_in {w = w} {j = j} p e f q = record {
 }
 
 -- the acceptance on a beginning, with the rest of the whole at its place
-pub accepts_in_whole : {I A O E : Type 0} {w : Model I A} {x whole rest k : I} {output : O} {a b : ℕ} {r : Result (I × O) (Answer.Err E E Needed)} →
+pub accepts_in_whole : {I A O E : Type 0} {w : Model I A} {x whole rest k : I} {output : O} {a b : ℕ} {r : IResult I O E} →
     r ≡ Ok (rest, output) → a ≡ input_len w x → b ≡ input_len w rest → IsSuffixOf w whole (a - b) k →
     WithRest (IsSuffixOf w x) (IsSuffixOf w whole) r (Ok (k, output))
 accepts_in_whole {I = I} {O = O} {w = w} {x = x} {whole = whole} {rest = rest} {k = k} {output = output} was e f q = record {
@@ -60,7 +59,7 @@ module _ {I A V O E : Type 0} (w : Model I A) (IsOutput : V → O → Type 0) (I
       ap Undecided (sym s.1 ∙ ap size_of (sym same))
 
   -- what is shown on a beginning is shown on the whole, with the rest there
-  shown_in_whole : (whole : I) (o : Outcome V) (r r' : Result (I × O) (Answer.Err E E Needed)) → WithRest (IsSuffixOf w x) (IsSuffixOf w whole) r r' →
+  shown_in_whole : (whole : I) (o : Outcome V) (r r' : IResult I O E) → WithRest (IsSuffixOf w x) (IsSuffixOf w whole) r r' →
       Parses w IsOutput x IsError o r → Parses w IsOutput whole IsError o r'
   shown_in_whole whole (Accept n v) r r' t s = let k = t.accepts s.0 s.1 n s.4 s.2 in (k.0, s.1, k.1, s.3, k.2)
   shown_in_whole whole Refuse r r' t s = (s.0, s.1, t.else_same _ s.2)
@@ -83,14 +82,14 @@ module _ {I A V O E : Type 0} (w : Model I A) (IsOutput : V → O → Type 0) (I
   rest_answered Answers RunsOut j v (Parsed o a s) = rest_of o j v s
 
 pub rest_shown : {I A V O E : Type 0} {w : Model I A} {IsOutput : V → O → Type 0} {IsError : E → Type 0} {x : I} {Answers : Outcome V → Type 0}
-    {RunsOut : Type 0} {r : Result (I × O) (Answer.Err E E Needed)} → ParsesAnswer w IsOutput x Answers IsError RunsOut r →
+    {RunsOut : Type 0} {r : IResult I O E} → ParsesAnswer w IsOutput x Answers IsError RunsOut r →
     HasRests (λ j. (n : ℕ) × IsSuffixOf w x n j) r
 rest_shown {w = w} {IsOutput = IsOutput} {IsError = IsError} {x = x} {Answers = Answers} {RunsOut = RunsOut} s j v e =
     rest_answered w IsOutput IsError x Answers RunsOut j v (subst (λ t. ParsesAnswer w IsOutput x Answers IsError RunsOut t) e s)
 
 -- what is shown at one state is shown at an equal one
 pub shown_along : {I A V O E State : Type 0} (w : Model I A) (IsOutput : State → V → O → Type 0) (meaning : State → Meaning I V E) (x : I)
-    (r : Result (I × O) (Answer.Err E E Needed)) (s t : State) → s ≡ t → ParsesMeaning w (IsOutput s) (meaning s) true x r →
+    (r : IResult I O E) (s t : State) → s ≡ t → ParsesMeaning w (IsOutput s) (meaning s) true x r →
     ParsesMeaning w (IsOutput t) (meaning t) true x r
 shown_along w IsOutput meaning x r s t e h = subst (λ u. ParsesMeaning w (IsOutput u) (meaning u) true x r) e h
 
@@ -107,14 +106,14 @@ module _ {I A V O E : Type 0} (w : Model I A) (l : InputLaws w) (IsOutput : V �
         only = λ y z q c. laws.one_outcome true x y (Undecided (size_of k)) z p.known q.known (same_front w l whole cut x y p q) b tt c;
       }
 
-  pub waits : (cut : ℕ) (x : I) (r : Result (I × O) (Answer.Err E E Needed)) → IsPrefixOf w whole cut x → AsksForMore r →
+  pub waits : (cut : ℕ) (x : I) (r : IResult I O E) → IsPrefixOf w whole cut x → AsksForMore r →
       ParsesMeaning w IsOutput m true x r → Waits w m whole cut
   waits cut x r p e s = waits_shown cut x e.0 p (subst (λ t. ParsesMeaning w IsOutput m true x t) e.1 s)
 
 module _ {I A V O E : Type 0} (w : Model I A) (IsOutput : V → O → Type 0) (m : Meaning I V E) (laws : IsLawful w m) (whole : I) (known : w.IsKnown whole)
     (cuts : List ℕ) (index : ℕ) (before : (k : ℕ) → k < index → Waits w m whole (slice_index cuts k)) where
   module _ (more : (xs : List A) → w.IsMore xs) (steady : IsSteady w m) (inside : index < length cuts) (x : I)
-      (p : IsPrefixOf w whole (slice_index cuts index) x) (r r' : Result (I × O) (Answer.Err E E Needed)) (decided : AsksForMore r → ⊥)
+      (p : IsPrefixOf w whole (slice_index cuts index) x) (r r' : IResult I O E) (decided : AsksForMore r → ⊥)
       (rest : WithRest (IsSuffixOf w x) (IsSuffixOf w whole) r r') where
     asks : (k : Option ℕ) → Parses w IsOutput x (m.blames true x) (Undecided k) r → AsksForMore r
     asks k s = (s.0, s.2)
@@ -142,7 +141,7 @@ module _ {I A V O E : Type 0} (w : Model I A) (IsOutput : V → O → Type 0) (m
       answer = answer_at s;
     }
 
-  module _ (r : Result (I × O) (Answer.Err E E Needed)) (at_end : index ≡ length cuts) where
+  module _ (r : IResult I O E) (at_end : index ≡ length cuts) where
     answer_whole : ParsesMeaning w IsOutput m true whole r → AnswersOn w IsOutput m whole cuts index whole r
     answer_whole (ParseRanOut e h) = RanOutOn e h
     answer_whole (Parsed o a s) = ShownOn (record {
@@ -172,7 +171,7 @@ is_too_large (Undecided k) = inr (λ e. cc)
 -- one `parse` of the whole, beside the answer on a beginning with the rest of the whole
 module _ {I A V O E : Type 0} (w : Model I A) (l : InputLaws w) (view : View O) (Pins : Type 0) (IsOutput : V → O → Type 0)
     (pinned : Pins → IsPinned view IsOutput) (m : Meaning I V E) (whole beginning : I) where
-  of_outcome : (o : Outcome V) (r s : Result (I × O) (Answer.Err E E Needed)) → m.answers true beginning o →
+  of_outcome : (o : Outcome V) (r s : IResult I O E) → m.answers true beginning o →
       Parses w IsOutput whole (m.blames true beginning) o r → (o ≡ TooLarge → ⊥) → Parses w IsOutput whole (m.blames true whole) o s →
       IsOfWhole w view Pins IsOutput m beginning r s
   of_outcome (Accept n v) r s a h f t =
@@ -184,11 +183,11 @@ module _ {I A V O E : Type 0} (w : Model I A) (l : InputLaws w) (view : View O) 
   of_outcome TooLarge r s a h f t = absurd (f refl)
   of_outcome (Undecided k) r s a h f t = subst (λ z. IsOfWhole w view Pins IsOutput m beginning z s) (sym h.2) (t.0, t.1 ∙ sym h.1, t.2)
 
-  large_failure : (r s : Result (I × O) (Answer.Err E E Needed)) → m.answers true beginning TooLarge →
+  large_failure : (r s : IResult I O E) → m.answers true beginning TooLarge →
       Parses w IsOutput whole (m.blames true beginning) TooLarge r → IsOfWhole w view Pins IsOutput m beginning r s
   large_failure r s a h = subst (λ z. IsOfWhole w view Pins IsOutput m beginning z s) (sym h.2) (inl a)
 
-  of_shown : (o p : Outcome V) (r s : Result (I × O) (Answer.Err E E Needed)) → m.answers true beginning o →
+  of_shown : (o p : Outcome V) (r s : IResult I O E) → m.answers true beginning o →
       Parses w IsOutput whole (m.blames true beginning) o r → ((o ≡ TooLarge → ⊥) → o ≡ p) → Parses w IsOutput whole (m.blames true whole) p s →
       IsOfWhole w view Pins IsOutput m beginning r s
   of_shown o p r s a h f t = elim (is_too_large o) as (λ _. IsOfWhole w view Pins IsOutput m beginning r s) [
@@ -196,7 +195,7 @@ module _ {I A V O E : Type 0} (w : Model I A) (l : InputLaws w) (view : View O) 
     | inr other ↦ of_outcome o r s a h other (subst (λ z. Parses w IsOutput whole (m.blames true whole) z s) (sym (f other)) t)
   ]
 
-  module _ (cuts : List ℕ) (index : ℕ) (r s : Result (I × O) (Answer.Err E E Needed)) where
+  module _ (cuts : List ℕ) (index : ℕ) (r s : IResult I O E) where
     of_answer : AnswersOn w IsOutput m whole cuts index beginning r → ParsesMeaning w IsOutput m true whole s → (s ≡ Err OutOfMemory) ⊎
         IsOfWhole w view Pins IsOutput m beginning r s
     of_answer (RanOutOn e h) t = inr (subst (λ z. IsOfWhole w view Pins IsOutput m beginning z s) (sym e) tt)
@@ -204,7 +203,7 @@ module _ {I A V O E : Type 0} (w : Model I A) (l : InputLaws w) (view : View O) 
     of_answer (ShownOn a) (Parsed p b t) = inr (of_shown a.outcome p r s a.answered a.shown (λ f. a.stays f p b) t)
 
 pub agrees : {I A V O E : Type 0} (w : Model I A) (l : InputLaws w) (view : View O) (Pins : Type 0) (IsOutput : V → O → Type 0) (m : Meaning I V E)
-    (whole : I) (cuts : List ℕ) (index : ℕ) (r : Result (I × O) (Answer.Err E E Needed)) → (Pins → IsPinned view IsOutput) →
+    (whole : I) (cuts : List ℕ) (index : ℕ) (r : IResult I O E) → (Pins → IsPinned view IsOutput) →
     IsGrown w IsOutput m whole cuts index r → AgreesWithWhole w view Pins IsOutput m whole cuts index r
 agrees w l view Pins IsOutput m whole cuts index r pinned g = record {
   beginning = g.beginning;

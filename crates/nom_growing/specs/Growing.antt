@@ -1,7 +1,6 @@
 -- What a parser answers on an input that grows.
-use Rattle.std.specs.Prelude.{◌≡◌, ℕ, ◌<◌, ◌≤◌, true, ◌⊎◌, List, length, slice_index, Result, Err, Option}
-use Rattle.nom_error.specs.declared.answer.Needed.{Needed}
-use Rattle.nom_error.specs.declared.answer.Err as Answer
+use Rattle.std.specs.Prelude.{◌≡◌, ℕ, ◌<◌, ◌≤◌, true, ◌⊎◌, List, length, slice_index, Err, Option}
+use Rattle.nom_error.specs.Answers.{IResult}
 use Rattle.nom_error.specs.declared.answer.Err.TheVariants.{OutOfMemory}
 use Rattle.nom_error.specs.Modes.{modes}
 use Rattle.nom_traits.specs.Input.{Model, IsBoundary, IsPrefixOf}
@@ -31,7 +30,7 @@ pub record Waits {I A V E : Type 0} (w : Model I A) (m : Meaning I V E) (whole :
 
 module _ {I A V O E : Type 0} (w : Model I A) (IsOutput : V → O → Type 0) (m : Meaning I V E) (whole : I) (cuts : List ℕ) (index : ℕ) where
   -- the outcome on a beginning, shown with the rest in the whole
-  pub record ShowsBeginning (beginning : I) (r : Result (I × O) (Answer.Err E E Needed)) : Type 0 where
+  pub record ShowsBeginning (beginning : I) (r : IResult I O E) : Type 0 where
     pub outcome : Outcome V
     pub answered : m.answers true beginning outcome
     pub decided : index < length cuts → (k : Option ℕ) → outcome ≡ Undecided k → ⊥
@@ -40,12 +39,12 @@ module _ {I A V O E : Type 0} (w : Model I A) (IsOutput : V → O → Type 0) (m
     pub stays : (outcome ≡ TooLarge → ⊥) → (o : Outcome V) → m.answers true whole o → outcome ≡ o
 
   -- memory ran out on a beginning, where it may, or its outcome is shown
-  pub data AnswersOn (beginning : I) (r : Result (I × O) (Answer.Err E E Needed)) : Type 0 where
+  pub data AnswersOn (beginning : I) (r : IResult I O E) : Type 0 where
     RanOutOn : r ≡ Err OutOfMemory → m.may_run_out (modes true true true) beginning → AnswersOn beginning r
     ShownOn : ShowsBeginning beginning r → AnswersOn beginning r
 
   -- the answer at the least cut whose beginning does not wait, or at the end
-  pub record IsGrown (r : Result (I × O) (Answer.Err E E Needed)) : Type 0 where
+  pub record IsGrown (r : IResult I O E) : Type 0 where
     pub in_range : index ≤ length cuts
     pub waited : (k : ℕ) → k < index → Waits w m whole (slice_index cuts k)
     pub beginning : I
@@ -55,8 +54,8 @@ module _ {I A V O E : Type 0} (w : Model I A) (IsOutput : V → O → Type 0) (m
 -- Verdict, view of the output, and rest are those of one `parse` of the whole, running out of memory aside, where the parser pins;
 -- unless what is lacking on the beginning is too large.
 pub record AgreesWithWhole {I A V O E : Type 0} (w : Model I A) (view : View O) (Pins : Type 0) (IsOutput : V → O → Type 0) (m : Meaning I V E)
-    (whole : I) (cuts : List ℕ) (index : ℕ) (r : Result (I × O) (Answer.Err E E Needed)) : Type 0 where
+    (whole : I) (cuts : List ℕ) (index : ℕ) (r : IResult I O E) : Type 0 where
   pub beginning : I
   pub begins : IsBeginning w whole cuts index beginning
-  pub of_whole : (s : Result (I × O) (Answer.Err E E Needed)) → ParsesMeaning w IsOutput m true whole s → (s ≡ Err OutOfMemory) ⊎
+  pub of_whole : (s : IResult I O E) → ParsesMeaning w IsOutput m true whole s → (s ≡ Err OutOfMemory) ⊎
       IsOfWhole w view Pins IsOutput m beginning r s

@@ -1,9 +1,8 @@
 -- What every parser promises, said of its meaning and of its answers.
-use Rattle.std.specs.Prelude.{◌≡◌, ℕ, Bool, true, false, ◌⊎◌, Result, Ok, Err}
+use Rattle.std.specs.Prelude.{◌≡◌, ℕ, Bool, true, false, ◌⊎◌, Ok, Err}
 use Rattle.nom_error.specs.declared.answer.Needed.{Needed}
-use Rattle.nom_error.specs.declared.answer.Err as Answer
 use Rattle.nom_error.specs.declared.answer.Err.TheVariants.{Incomplete, Error, Failure, OutOfMemory}
-use Rattle.nom_error.specs.Answers.{size_of}
+use Rattle.nom_error.specs.Answers.{IResult, size_of}
 use Rattle.nom_error.specs.Modes.{Modes}
 use Rattle.nom_traits.specs.Input.{Model, Extends, IsSame, IsBoundary, IsSuffixOf}
 use Rattle.nom_traits.specs.View.{View}
@@ -41,7 +40,7 @@ module _ {I A V E : Type 0} (w : Model I A) (m : Meaning I V E) where
 module _ {I A V O E : Type 0} (w : Model I A) (view : View O) (Pins : Type 0) (IsOutput : V → O → Type 0) (m : Meaning I V E) where
   -- What is answered on y, which extends x, by what was answered on x: an acceptance of one length, with an output equal as viewed
   -- where the parser pins; a refusal; a failure, unless it is one that what is lacking is too large.
-  abbrev pub StaysLonger : I → I → Result (I × O) (Answer.Err E E Needed) → Result (I × O) (Answer.Err E E Needed) → Type 0
+  abbrev pub StaysLonger : I → I → IResult I O E → IResult I O E → Type 0
   StaysLonger x y (Ok (j, a)) s = (n : ℕ) × (k : I) × (b : O) × IsSuffixOf w x n j × IsSuffixOf w y n k × (Pins → view.value a ≡ view.value b) × (s ≡ Ok (k, b))
   StaysLonger x y (Err (Incomplete k)) s = Unit {0}
   StaysLonger x y (Err (Error e)) s = (f : E) × (s ≡ Err (Error f))
@@ -50,11 +49,11 @@ module _ {I A V O E : Type 0} (w : Model I A) (view : View O) (Pins : Type 0) (I
 
   -- of two answers of `parse`, on an input and on one that extends it, running out of memory aside
   abbrev pub AnswersStay : Type 0
-  AnswersStay = (x y : I) (r s : Result (I × O) (Answer.Err E E Needed)) → w.IsKnown x → w.IsKnown y → Extends w x y →
+  AnswersStay = (x y : I) (r s : IResult I O E) → w.IsKnown x → w.IsKnown y → Extends w x y →
       ParsesMeaning w IsOutput m true x r → ParsesMeaning w IsOutput m true y s → (s ≡ Err OutOfMemory) ⊎ StaysLonger x y r s
 
   -- what one `parse` of the whole answers, by what was answered on a beginning with the rest of the whole
-  abbrev pub IsOfWhole : I → Result (I × O) (Answer.Err E E Needed) → Result (I × O) (Answer.Err E E Needed) → Type 0
+  abbrev pub IsOfWhole : I → IResult I O E → IResult I O E → Type 0
   IsOfWhole beginning (Ok (j, a)) s = (k : I) × (b : O) × IsSame w j k × (Pins → view.value a ≡ view.value b) × (s ≡ Ok (k, b))
   IsOfWhole beginning (Err (Incomplete k)) s = (n : Needed) × (size_of n ≡ size_of k) × (s ≡ Err (Incomplete n))
   IsOfWhole beginning (Err (Error e)) s = (f : E) × (s ≡ Err (Error f))
@@ -67,7 +66,7 @@ module _ {I A V O E : Type 0} (w : Model I A) (view : View O) (Pins : Type 0) (I
 
   -- What `parse_complete` answers on x, by what `parse` answered on it: an acceptance with a rest and, where the parser pins, an output
   -- that are equal as viewed; a refusal; a failure, unless it is one that what is lacking is too large; each error blamed in either mode.
-  abbrev pub Completes : I → Result (I × O) (Answer.Err E E Needed) → Result (I × O) (Answer.Err E E Needed) → Type 0
+  abbrev pub Completes : I → IResult I O E → IResult I O E → Type 0
   Completes x (Ok (j, a)) s = (k : I) × (b : O) × IsSame w j k × (Pins → view.value a ≡ view.value b) × (s ≡ Ok (k, b))
   Completes x (Err (Incomplete k)) s = Unit {0}
   Completes x (Err (Error e)) s = (f : E) × (s ≡ Err (Error f)) × IsBlamed x e × IsBlamed x f
@@ -76,5 +75,5 @@ module _ {I A V O E : Type 0} (w : Model I A) (view : View O) (Pins : Type 0) (I
 
   -- of the answers of `parse` and of `parse_complete` on one input, that memory runs out aside
   abbrev pub AnswersComplete : Type 0
-  AnswersComplete = (x : I) (r s : Result (I × O) (Answer.Err E E Needed)) → w.IsKnown x → ParsesMeaning w IsOutput m true x r →
+  AnswersComplete = (x : I) (r s : IResult I O E) → w.IsKnown x → ParsesMeaning w IsOutput m true x r →
       ParsesMeaning w IsOutput m false x s → (s ≡ Err OutOfMemory) ⊎ Completes x r s

@@ -1,5 +1,6 @@
 -- What a parser shows on what another one gives.
-use Rattle.std.proofs.Common.{◌≡◌, sym, subst, true, Result, Ok, Err, Option, Some, refl}
+use Rattle.std.proofs.Common.{◌≡◌, sym, subst, true, Ok, Err, Option, Some, refl}
+use Rattle.nom_error.specs.Answers.{PResult}
 use Rattle.nom_error.specs.declared.answer.Needed.{Needed}
 use Rattle.nom_error.specs.declared.answer.Err as Answer
 use Rattle.nom_error.specs.Modes.{Built, Modes}
@@ -21,7 +22,7 @@ bound_of v IsOutput u x j b e known = record { is_output = built_fact true (IsOu
 
 module _ {I A J B P Q O E : Type 0} (w : Model I A) (v : Model J B) (IsOutput : P → J → Type 0) (IsResult : Q → O → Type 0) (m : Meaning J Q E)
     (mode : Modes) (i : I) (u : P) (j : J) (b : IsBound v IsOutput u j) where
-  abbrev BoundShown : Result (I × Option O) (Answer.Err E (Option E) Needed) → Type 0
+  abbrev BoundShown : PResult I O E → Type 0
   BoundShown = ShowsMeaning w IsResult ((bounded_family v IsOutput m).at u) mode i
 
   blamed : (a : Outcome Q) → m.answers mode.streaming j a → (e : E) → m.blames mode.streaming j e →
@@ -42,7 +43,7 @@ module _ {I A J B P Q O E : Type 0} (w : Model I A) (v : Model J B) (IsOutput : 
   err_shown f (RanOut e h) = RanOut (cc (e)) (RunsOutInPart j b h)
   err_shown f (Shown o a h) = err_of f o a h
 
-  pub bounded_err : (f : Answer.Err E (Option E) Needed) (r : Result (I × Option O) (Answer.Err E (Option E) Needed)) → r ≡ Err f →
+  pub bounded_err : (f : Answer.Err E (Option E) Needed) (r : PResult I O E) → r ≡ Err f →
       ShowsMeaning v IsResult m mode j (Err f) → BoundShown r
   bounded_err f r e h = subst (λ z. BoundShown z) (sym e) (err_shown f h)
 

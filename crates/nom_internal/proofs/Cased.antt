@@ -1,5 +1,6 @@
 -- What cases over a part's outcome show, from what the part showed.
-use Rattle.std.proofs.Common.{◌≡◌, ℕ, Bool, Result, Ok, Err, Option, refl, subst}
+use Rattle.std.proofs.Common.{◌≡◌, ℕ, Bool, Ok, Err, Option, refl, subst}
+use Rattle.nom_error.specs.Answers.{PResult}
 use Rattle.nom_error.specs.declared.answer.Needed.{Needed}
 use Rattle.nom_error.specs.declared.answer.Err as Answer
 use Rattle.nom_error.specs.declared.answer.Err.TheVariants.{Incomplete, Error}
@@ -31,11 +32,11 @@ pub record Passing {I P T E : Type 0} (c : Case I I P T E E) (m : Meaning I P E)
 
 module _ {I A P T O X E : Type 0} (w : Model I A) (IsOutput : P → O → Type 0) (IsResult : T → X → Type 0) (c : Case I I P T E E) (m : Meaning I P E)
     (mode : Modes) (i : I) where
-  abbrev InPart : Result (I × Option O) (Answer.Err E (Option E) Needed) → Type 0
+  abbrev InPart : PResult I O E → Type 0
   InPart = ShowsAnswer w IsOutput (c.part mode) i (m.answers (mode_of c.mode mode.streaming) i) (m.blames (mode_of c.mode mode.streaming) i)
       (m.may_run_out (c.part mode) i)
 
-  abbrev Whole : Result (I × Option X) (Answer.Err E (Option E) Needed) → Type 0
+  abbrev Whole : PResult I X E → Type 0
   Whole = ShowsMeaning w IsResult (case_meaning c m) mode i
 
   module _ {k : Answer.Err E (Option E) Needed} (p : Passing c m mode i k) where
@@ -83,7 +84,7 @@ module _ {I A P T O X E : Type 0} (w : Model I A) (IsOutput : P → O → Type 0
 
 module _ {I A P T O E : Type 0} (w : Model I A) (label : P → T) (IsOutput : P → O → Type 0) (IsLabelled : T → O → Type 0)
     (same : (t : P) (o : O) → IsOutput t o → IsLabelled (label t) o) (m : Meaning I P E) (mode : Modes) (i : I) where
-  labelled_of : (o : Outcome P) (r : Result (I × Option O) (Answer.Err E (Option E) Needed)) → m.answers mode.streaming i o →
+  labelled_of : (o : Outcome P) (r : PResult I O E) → m.answers mode.streaming i o →
       Shows w IsOutput mode i (m.blames mode.streaming i) o r → Shows w IsLabelled mode i ((labelled_meaning label m).blames mode.streaming i)
       (labelled label o) r
   labelled_of (Accept n v) r a h = (h.0, h.1, h.2, built_error mode.outputs _ _ h.1 (λ x p. same v x p) h.3, h.4)
@@ -93,13 +94,13 @@ module _ {I A P T O E : Type 0} (w : Model I A) (label : P → T) (IsOutput : P 
   labelled_of (Undecided k) r a h = h
 
   -- a part, with its trees labelled
-  pub labelled_shown : (r : Result (I × Option O) (Answer.Err E (Option E) Needed)) → ShowsMeaning w IsOutput m mode i r →
+  pub labelled_shown : (r : PResult I O E) → ShowsMeaning w IsOutput m mode i r →
       ShowsMeaning w IsLabelled (labelled_meaning label m) mode i r
   labelled_shown r (RanOut e h) = RanOut e (RunsOutInPart i refl h)
   labelled_shown r (Shown o a h) = Shown (labelled label o) (here o a refl) (labelled_of o r a h)
 
 module _ {I A P O E : Type 0} (w : Model I A) (IsOutput : P → O → Type 0) (streaming : Bool) (m : Meaning I P E) (mode : Modes) (i : I) where
-  fixed_of : (o : Outcome P) (r : Result (I × Option O) (Answer.Err E (Option E) Needed)) → m.answers streaming i o →
+  fixed_of : (o : Outcome P) (r : PResult I O E) → m.answers streaming i o →
       Shows w IsOutput mode i (m.blames streaming i) o r → Shows w IsOutput mode i ((fixed_meaning streaming m).blames mode.streaming i) o r
   fixed_of (Accept n v) r a h = h
   fixed_of Refuse r a h = (h.0, built_error mode.errors _ _ h.0 (λ e b. here Refuse a b) h.1, h.2)
@@ -108,7 +109,7 @@ module _ {I A P O E : Type 0} (w : Model I A) (IsOutput : P → O → Type 0) (s
   fixed_of (Undecided k) r a h = h
 
   -- a part in its one mode
-  pub fixed_shown : (r : Result (I × Option O) (Answer.Err E (Option E) Needed)) → ShowsMeaning w IsOutput m (with_streaming streaming mode) i r →
+  pub fixed_shown : (r : PResult I O E) → ShowsMeaning w IsOutput m (with_streaming streaming mode) i r →
       ShowsMeaning w IsOutput (fixed_meaning streaming m) mode i r
   fixed_shown r (RanOut e h) = RanOut e (RunsOutInPart i refl h)
   fixed_shown r (Shown o a h) = Shown o (here o a refl) (fixed_of o r a h)
@@ -116,7 +117,7 @@ module _ {I A P O E : Type 0} (w : Model I A) (IsOutput : P → O → Type 0) (s
 -- a part with its trees labelled, whose value is told in another form
 module _ {I A P T O X E : Type 0} (w : Model I A) (label : P → T) (IsOutput : P → O → Type 0) (IsLabelled : T → X → Type 0) (m : Meaning I P E)
     (built : Bool) (mode : Modes) (i : I) where
-  abbrev Labels : Result (I × Option X) (Answer.Err E (Option E) Needed) → Type 0
+  abbrev Labels : PResult I X E → Type 0
   Labels = ShowsAnswer w IsLabelled (with_outputs built mode) i ((labelled_meaning label m).answers mode.streaming i)
       ((labelled_meaning label m).blames mode.streaming i) ((labelled_meaning label m).may_run_out mode i)
 

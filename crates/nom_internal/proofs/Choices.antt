@@ -4,7 +4,7 @@ use Rattle.std.proofs.Common.{inl, inr, ◌∙◌, ap, subst}
 use Rattle.nom_error.specs.declared.answer.Needed.{Needed}
 use Rattle.nom_error.specs.declared.answer.Err as Answer
 use Rattle.nom_error.specs.declared.answer.Err.TheVariants.{Incomplete, Error, Failure, OutOfMemory}
-use Rattle.nom_error.specs.Answers.{Refuses}
+use Rattle.nom_error.specs.Answers.{PResult, Refuses}
 use Rattle.nom_error.specs.Modes.{Built, Modes, modes, with_outputs, with_errors}
 use Rattle.nom_traits.specs.Input.{Model}
 use Rattle.nom_internal.specs.Outcome.{Outcome, Shows, ShowsAnswer, IsFailure, IsFault, OnOutcome}
@@ -79,7 +79,7 @@ module _ {T E : Type 0} (Q R : Option E → Result T (Answer.Err E (Option E) Ne
 
 module _ {I A V O E : Type 0} (w : Model I A) (IsOutput : V → O → Type 0) (mode : Modes) (i : I) where
   -- what is shown, of an error of which more is known
-  pub shows_map : (P Q : E → Type 0) (o : Outcome V) (r : Result (I × Option O) (Answer.Err E (Option E) Needed)) → ((e : E) → P e → Q e) →
+  pub shows_map : (P Q : E → Type 0) (o : Outcome V) (r : PResult I O E) → ((e : E) → P e → Q e) →
       Shows w IsOutput mode i P o r → Shows w IsOutput mode i Q o r
   shows_map P Q (Accept n v) r f h = h
   shows_map P Q Refuse r f h = (h.0, built_map mode.errors P Q h.0 (λ e _ p. f e p) h.1, h.2)
@@ -89,14 +89,14 @@ module _ {I A V O E : Type 0} (w : Model I A) (IsOutput : V → O → Type 0) (m
 
   -- a refusal, with an error that is made
   pub refusal_shown : (Answers : Outcome V → Type 0) (Gives IsError : E → Type 0) (Grows RunsOut : Type 0) (f : Answer.Err E (Option E) Needed)
-      (r : Result (I × Option O) (Answer.Err E (Option E) Needed)) → Answers Refuse → ((e : E) → Gives e → IsError e) →
+      (r : PResult I O E) → Answers Refuse → ((e : E) → Gives e → IsError e) →
       (mode.errors ≡ true → Grows → RunsOut) → Refuses Gives Grows mode.errors f → r ≡ Err f → ShowsAnswer w IsOutput mode i Answers IsError RunsOut r
   refusal_shown Answers Gives IsError Grows RunsOut f r a g k (inl h) e = RanOut (e ∙ ap Err h.0) (k h.1 h.2)
   refusal_shown Answers Gives IsError Grows RunsOut f r a g k (inr h) e = Shown Refuse a (h.0, built_error mode.errors Gives IsError h.0 g h.1, e ∙ ap Err h.2)
 
 module _ {I A V O E : Type 0} (w : Model I A) (IsOutput : V → O → Type 0) (mode : Modes) (i : I) (m : Meaning I V E) where
   -- a branch after a refusal
-  pub next_shown : (Joins : E → E → E → Type 0) (Grows : Type 0) (x : Option E) (before r : Result (I × Option O) (Answer.Err E (Option E) Needed)) →
+  pub next_shown : (Joins : E → E → E → Type 0) (Grows : Type 0) (x : Option E) (before r : PResult I O E) →
       Built mode.errors (λ _. Unit {0}) x → ShowsMeaning w IsOutput m mode i before → JoinsResult Joins Grows x before r →
       ShowsAnswer w IsOutput mode i (m.answers mode.streaming i) (NextBlames Joins m mode.streaming i (λ a. x ≡ Some a)) (NextRunsOut Grows m mode i) r
   next_shown Joins Grows x before r b (RanOut e h) g = RanOut (rw e at g) (inl h)
@@ -114,7 +114,7 @@ module _ {I A V O E : Type 0} (w : Model I A) (IsOutput : V → O → Type 0) (m
   next_shown Joins Grows x before r b (Shown (Undecided k) a h) g = Shown (Undecided k) a (h.0, h.1, rw h.2 at g)
 
   -- a parser, closed
-  pub closed_shown : (Closes : I → E → E → Type 0) (Grows : Type 0) (before r : Result (I × Option O) (Answer.Err E (Option E) Needed)) →
+  pub closed_shown : (Closes : I → E → E → Type 0) (Grows : Type 0) (before r : PResult I O E) →
       ShowsMeaning w IsOutput m mode i before → ClosesResult (Closes i) Grows before r → ShowsMeaning w IsOutput (closed_meaning Closes Grows m) mode i r
   closed_shown Closes Grows before r (RanOut e h) g = RanOut (rw e at g) (RunsOutInPart i refl h)
   closed_shown Closes Grows before r (Shown (Accept n v) a h) g = Shown (Accept n v) (here (Accept n v) a refl) (h.0, h.1, h.2, h.3, rw h.4 at g)
@@ -130,7 +130,7 @@ module _ {I A V O E : Type 0} (w : Model I A) (IsOutput : V → O → Type 0) (m
 
 module _ {I A V O E : Type 0} (w : Model I A) (IsOutput : V → O → Type 0) (mode : Modes) (i : I) where
   -- what is shown, where the answers, the errors and where memory runs out are more
-  pub shown_map : (F G : Outcome V → Type 0) (P Q : E → Type 0) (R S : Type 0) (r : Result (I × Option O) (Answer.Err E (Option E) Needed)) →
+  pub shown_map : (F G : Outcome V → Type 0) (P Q : E → Type 0) (R S : Type 0) (r : PResult I O E) →
       ((o : Outcome V) → F o → G o) → ((e : E) → P e → Q e) → (R → S) → ShowsAnswer w IsOutput mode i F P R r → ShowsAnswer w IsOutput mode i G Q S r
   shown_map F G P Q R S r f g k (RanOut e h) = RanOut e (k h)
   shown_map F G P Q R S r f g k (Shown o a h) = Shown o (f o a) (shows_map w IsOutput mode i P Q o r g h)
@@ -165,7 +165,7 @@ module _ {I A V T O E : Type 0} (w : Model I A) (label : V → T) (IsOutput : V 
   next_runs_out_labelled (inl h) = inl (RunsOutInPart i refl h)
   next_runs_out_labelled (inr h) = inr (here Refuse h.0 refl, h.1, h.2)
 
-  next_of : (x : Option E) (r : Result (I × Option O) (Answer.Err E (Option E) Needed)) (o : Outcome V) → m.answers mode.streaming i o →
+  next_of : (x : Option E) (r : PResult I O E) (o : Outcome V) → m.answers mode.streaming i o →
       Shows w IsOutput mode i (NextBlames Joins m mode.streaming i (λ a. x ≡ Some a)) o r →
       Shows w IsLabelled mode i (NextBlames Joins (labelled_meaning label m) mode.streaming i (λ a. x ≡ Some a)) (labelled label o) r
   next_of x r (Accept n v) a h = (h.0, h.1, h.2, built_map mode.outputs (IsOutput v) (IsLabelled (label v)) h.1 (λ o _ p. same v o p) h.3, h.4)
@@ -175,7 +175,7 @@ module _ {I A V T O E : Type 0} (w : Model I A) (label : V → T) (IsOutput : V 
   next_of x r (Undecided k) a h = h
 
   -- a branch after a refusal, with its trees labelled
-  pub next_labelled : (x : Option E) (r : Result (I × Option O) (Answer.Err E (Option E) Needed)) → ShowsNext w IsOutput Joins Grows m mode i x r →
+  pub next_labelled : (x : Option E) (r : PResult I O E) → ShowsNext w IsOutput Joins Grows m mode i x r →
       ShowsNext w IsLabelled Joins Grows (labelled_meaning label m) mode i x r
   next_labelled x r h b = labelled_next (h b)
     where
@@ -201,7 +201,7 @@ module _ {I A V O E : Type 0} (w : Model I A) (IsOutput : V → O → Type 0) (J
       })
 
   -- a first part's result, and what becomes of its refusal
-  pub or_shown : (before r : Result (I × Option O) (Answer.Err E (Option E) Needed)) → ShowsMeaning w IsOutput a mode i before →
+  pub or_shown : (before r : PResult I O E) → ShowsMeaning w IsOutput a mode i before →
       OnError (ShowsNext w IsOutput Joins Grows b mode i) before r → ShowsMeaning w IsOutput (or_meaning Joins Grows a b) mode i r
   or_shown before r (RanOut e h) g = RanOut (rw e at g) (inl h)
   or_shown before r (Shown (Accept n v) c h) g =
@@ -224,7 +224,7 @@ module _ {I A V O E : Type 0} (w : Model I A) (IsOutput : V → O → Type 0) (J
 
 -- one of two parsers, with a tree that says which
 pub either_shown : {I A P Q O E : Type 0} (w : Model I A) (First : P → O → Type 0) (Second : Q → O → Type 0) (Joins : E → E → E → Type 0)
-    (Grows : Type 0) (a : Meaning I P E) (b : Meaning I Q E) (mode : Modes) (i : I) (before r : Result (I × Option O) (Answer.Err E (Option E) Needed)) →
+    (Grows : Type 0) (a : Meaning I P E) (b : Meaning I Q E) (mode : Modes) (i : I) (before r : PResult I O E) →
     ShowsMeaning w First a mode i before → OnError (ShowsNext w Second Joins Grows b mode i) before r →
     ShowsMeaning w (EitherOutput First Second) (either_meaning Joins Grows a b) mode i r
 either_shown w First Second Joins Grows a b mode i before r h g =
@@ -236,11 +236,11 @@ either_shown w First Second Joins Grows a b mode i before r h g =
 
 -- a parser that stands in where the first refuses, whose error is dropped
 module _ {I A V O E : Type 0} (w : Model I A) (IsOutput : V → O → Type 0) (a b : Meaning I V E) (built : Bool) (mode : Modes) (i : I) where
-  abbrev Otherwise : Result (I × Option O) (Answer.Err E (Option E) Needed) → Type 0
+  abbrev Otherwise : PResult I O E → Type 0
   Otherwise = ShowsAnswer w IsOutput (with_outputs built mode) i ((otherwise_meaning a b).answers mode.streaming i)
       ((otherwise_meaning a b).blames mode.streaming i) ((otherwise_meaning a b).may_run_out mode i)
 
-  first_of : (o : Outcome V) (r : Result (I × Option O) (Answer.Err E (Option E) Needed)) → a.answers mode.streaming i o →
+  first_of : (o : Outcome V) (r : PResult I O E) → a.answers mode.streaming i o →
       ((x : Option E) → r ≡ Err (Error x) → ⊥) → Shows w IsOutput (modes built false mode.streaming) i (a.blames mode.streaming i) o r → Otherwise r
   first_of (Accept n v) r c f h = Shown (Accept n v) (record { first = Accept n v; answered = c; goes_on = refl }) h
   first_of Refuse r c f h = absurd (f h.0 h.2)
@@ -251,7 +251,7 @@ module _ {I A V O E : Type 0} (w : Model I A) (IsOutput : V → O → Type 0) (a
   first_of (Undecided k) r c f h = Shown (Undecided k) (record { first = Undecided k; answered = c; goes_on = refl }) h
 
   -- whatever the first answers but a refusal
-  pub otherwise_first : (r : Result (I × Option O) (Answer.Err E (Option E) Needed)) → ((x : Option E) → r ≡ Err (Error x) → ⊥) →
+  pub otherwise_first : (r : PResult I O E) → ((x : Option E) → r ≡ Err (Error x) → ⊥) →
       ShowsAnswer w IsOutput (modes built false mode.streaming) i (a.answers mode.streaming i) (a.blames mode.streaming i)
       (a.may_run_out (with_errors false mode) i) r → Otherwise r
   otherwise_first r f (RanOut e h) = RanOut e (inl h)
@@ -262,7 +262,7 @@ module _ {I A V O E : Type 0} (w : Model I A) (IsOutput : V → O → Type 0) (a
         (otherwise_meaning a b).blames mode.streaming i e
     next_fact o c k e h = NextFaults refused (record { outcome = o; answered = c; kind_is = k; fact = h })
 
-    otherwise_of : (o : Outcome V) (r : Result (I × Option O) (Answer.Err E (Option E) Needed)) → b.answers mode.streaming i o →
+    otherwise_of : (o : Outcome V) (r : PResult I O E) → b.answers mode.streaming i o →
         Shows w IsOutput (with_outputs built mode) i (b.blames mode.streaming i) o r →
         Shows w IsOutput (with_outputs built mode) i ((otherwise_meaning a b).blames mode.streaming i) o r
     otherwise_of (Accept n v) r c h = h
@@ -272,7 +272,7 @@ module _ {I A V O E : Type 0} (w : Model I A) (IsOutput : V → O → Type 0) (a
     otherwise_of (Undecided k) r c h = h
 
     -- where the first refuses, what the second answers
-    pub otherwise_next : (r : Result (I × Option O) (Answer.Err E (Option E) Needed)) →
+    pub otherwise_next : (r : PResult I O E) →
         ShowsAnswer w IsOutput (with_outputs built mode) i (b.answers mode.streaming i) (b.blames mode.streaming i) (b.may_run_out mode i) r → Otherwise r
     otherwise_next r (RanOut e h) = RanOut e (inr (refused, h))
     otherwise_next r (Shown o c h) = Shown o (record { first = Refuse; answered = refused; goes_on = c }) (otherwise_of o r c h)

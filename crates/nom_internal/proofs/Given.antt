@@ -1,7 +1,6 @@
 -- What the parser shows that a closure gives.
-use Rattle.std.proofs.Common.{◌≡◌, true, Result, Option, Some, refl}
-use Rattle.nom_error.specs.declared.answer.Needed.{Needed}
-use Rattle.nom_error.specs.declared.answer.Err as Answer
+use Rattle.std.proofs.Common.{◌≡◌, true, Option, Some, refl}
+use Rattle.nom_error.specs.Answers.{PResult}
 use Rattle.nom_error.specs.Modes.{Built, Modes}
 use Rattle.nom_traits.specs.Input.{Model}
 use Rattle.nom_internal.specs.Outcome.ShowsAnswer.{RanOut, Shown}
@@ -14,7 +13,7 @@ use Rattle.nom_internal.proofs.Choices.{built_fact, shows_map}
 -- what is shown of the value that a tree stands for is shown of the tree
 module _ {P V I A Q X E : Type 0} (w : Model I A) (IsValue : P → V → Type 0) (f : Family V I Q E) (IsResult : Q → X → Type 0) (mode : Modes) (i : I)
     (u : P) (v : V) (is : IsValue u v) where
-  pub of_value_shown : (r : Result (I × Option X) (Answer.Err E (Option E) Needed)) → ShowsMeaning w IsResult (f.at v) mode i r →
+  pub of_value_shown : (r : PResult I X E) → ShowsMeaning w IsResult (f.at v) mode i r →
       ShowsMeaning w IsResult ((of_value IsValue f).at u) mode i r
   of_value_shown r (RanOut e h) = RanOut e (record { value = v; is_value = is; fact = h })
   of_value_shown r (Shown o a h) =
@@ -24,7 +23,7 @@ module _ {P V I A Q X E : Type 0} (w : Model I A) (IsValue : P → V → Type 0)
 
 module _ {I A P O H S Q X E : Type 0} (w : Model I A) (IsOutput : P → O → Type 0) (g : Maker O H S) (IsResult : S → Q → X → Type 0)
     (m : S → Meaning I Q E) (mode : Modes) (i : I) (u : P) where
-  pub given_shown : (x : Option O) (o : O) (h : H) (r : Result (I × Option X) (Answer.Err E (Option E) Needed)) → Built true (IsOutput u) x →
+  pub given_shown : (x : Option O) (o : O) (h : H) (r : PResult I X E) → Built true (IsOutput u) x →
       x ≡ Some o → g.Gives o h → ShowsMeaning w (IsResult (g.state h)) (m (g.state h)) mode i r →
       ShowsMeaning w (IsGiven IsOutput g IsResult) ((given_family IsOutput g m).at u) mode i r
   given_shown x o h r b e k s =

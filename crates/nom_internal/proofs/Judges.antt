@@ -1,8 +1,8 @@
 -- What parts show whose acceptances closures judge.
-use Rattle.std.proofs.Common.{◌≡◌, ℕ, Bool, true, false, Result, Ok, Err, Option, Some, refl, sym, ap, subst, inl, inr}
+use Rattle.std.proofs.Common.{◌≡◌, ℕ, Bool, true, false, Ok, Err, Option, Some, refl, sym, ap, subst, inl, inr}
 use Rattle.nom_error.specs.declared.answer.Needed.{Needed}
 use Rattle.nom_error.specs.declared.answer.Err as Answer
-use Rattle.nom_error.specs.Answers.{Refuses}
+use Rattle.nom_error.specs.Answers.{PResult, Refuses}
 use Rattle.nom_error.specs.Modes.{Built, Modes, with_outputs}
 use Rattle.nom_traits.specs.Input.{Model}
 use Rattle.nom_internal.specs.Outcome.{Outcome}
@@ -17,12 +17,12 @@ use Rattle.nom_internal.proofs.Cased.{here, passing_err}
 
 abbrev JudgedShown : {I A V P R O E : Type 0} (w : Model I A) (IsOutput : V → P → Type 0) (Takes : P → Type 0) (Gives : P → R → Type 0) (fits : R → Bool)
     (Makes : I → R → E → Type 0) (Grows : Type 0) (IsResult : V → O → Type 0) (m : Meaning I V E) (mode : Modes) (i : I) →
-    Result (I × Option O) (Answer.Err E (Option E) Needed) → Type 0
+    PResult I O E → Type 0
 JudgedShown w IsOutput Takes Gives fits Makes Grows IsResult m mode i = ShowsMeaning w IsResult (judged_meaning IsOutput Takes Gives fits Makes Grows m) mode i
 
 module _ {I A V P R O E : Type 0} (w : Model I A) (IsOutput : V → P → Type 0) (Takes : P → Type 0) (Gives : P → R → Type 0) (fits : R → Bool)
     (Makes : I → R → E → Type 0) (Grows : Type 0) (IsResult : V → O → Type 0) (m : Meaning I V E) (mode : Modes) (i : I) where
-  abbrev Goal : Result (I × Option O) (Answer.Err E (Option E) Needed) → Type 0
+  abbrev Goal : PResult I O E → Type 0
   Goal = JudgedShown w IsOutput Takes Gives fits Makes Grows IsResult m mode i
 
   err_shown : (f : Answer.Err E (Option E) Needed) → ShowsMeaning w IsOutput m (with_outputs true mode) i (Err f) → Goal (Err f)
@@ -54,7 +54,7 @@ output_is {IsOutput = IsOutput} {p = p} e a = let same : a.built_is.0 ≡ p = cc
 module _ {I A V P R O E : Type 0} {w : Model I A} {IsOutput : V → P → Type 0} {Takes : P → Type 0} {Gives : P → R → Type 0} {fits : R → Bool}
     (Makes : I → R → E → Type 0) {Grows : Type 0} {IsResult : V → O → Type 0} (m : Meaning I V E) {mode : Modes} {i : I} where
   -- whatever isn't an acceptance passes
-  pub judged_err : {f : Answer.Err E (Option E) Needed} {r : Result (I × Option O) (Answer.Err E (Option E) Needed)} →
+  pub judged_err : {f : Answer.Err E (Option E) Needed} {r : PResult I O E} →
       IsJudge IsOutput Takes Gives fits → ShowsMeaning w IsOutput m (with_outputs true mode) i (Err f) → r ≡ Err f →
       JudgedShown w IsOutput Takes Gives fits Makes Grows IsResult m mode i r
   judged_err {f = f} k h e = subst (λ z. JudgedShown w IsOutput Takes Gives fits Makes Grows IsResult m mode i z) (sym e)

@@ -1,5 +1,6 @@
 -- What parts show whose outputs or errors become others.
-use Rattle.std.proofs.Common.{◌≡◌, Bool, true, false, Result, Ok, Err, Option, Some, None, refl, sym, subst}
+use Rattle.std.proofs.Common.{◌≡◌, Bool, true, false, Ok, Err, Option, Some, None, refl, sym, subst}
+use Rattle.nom_error.specs.Answers.{PResult}
 use Rattle.nom_error.specs.declared.answer.Needed.{Needed}
 use Rattle.nom_error.specs.declared.answer.Err as Answer
 use Rattle.nom_error.specs.Modes.{Built, Modes}
@@ -26,14 +27,14 @@ module _ {V P R : Type 0} (IsOutput : V → P → Type 0) (Gives : P → R → T
   none_given false x e h = refl
 
 abbrev MapShown : {I A V P R E : Type 0} (w : Model I A) (IsOutput : V → P → Type 0) (Takes : P → Type 0) (Gives : P → R → Type 0) (m : Meaning I V E)
-    (mode : Modes) (i : I) → Result (I × Option R) (Answer.Err E (Option E) Needed) → Type 0
+    (mode : Modes) (i : I) → PResult I R E → Type 0
 MapShown w IsOutput Takes Gives m mode i = ShowsMeaning w (GivesFor IsOutput Gives) (map_meaning IsOutput Takes m) mode i
 
 -- The premise that a closure takes the outputs tells which closure it is.
 module _ {I A V P R E : Type 0} {w : Model I A} {IsOutput : V → P → Type 0} {Takes : P → Type 0} {Gives : P → R → Type 0} (m : Meaning I V E)
     {mode : Modes} {i : I} where
   -- whatever isn't an acceptance passes
-  pub map_err : {f : Answer.Err E (Option E) Needed} {r : Result (I × Option R) (Answer.Err E (Option E) Needed)} → IsCallable IsOutput Takes →
+  pub map_err : {f : Answer.Err E (Option E) Needed} {r : PResult I R E} → IsCallable IsOutput Takes →
       ShowsMeaning w IsOutput m mode i (Err f) → r ≡ Err f → MapShown w IsOutput Takes Gives m mode i r
   map_err k h e = subst (λ z. MapShown w IsOutput Takes Gives m mode i z) (sym e)
       (passing_err w IsOutput (GivesFor IsOutput Gives)
@@ -72,7 +73,7 @@ converts_built false Converts P Q x y f c h = subst (λ z. ConvertsSome Converts
 
 module _ {I A V P R E F : Type 0} (w : Model I A) (IsOutput : V → P → Type 0) (Gives : P → R → Type 0) (Converts : E → F → Type 0) (m : Meaning I V E)
     (mode : Modes) (i : I) where
-  abbrev IntoShown : Result (I × Option R) (Answer.Err F (Option F) Needed) → Type 0
+  abbrev IntoShown : PResult I R F → Type 0
   IntoShown = ShowsMeaning w (GivesFor IsOutput Gives) (into_meaning Converts m) mode i
 
   -- the part's error, converted
@@ -80,7 +81,7 @@ module _ {I A V P R E F : Type 0} (w : Model I A) (IsOutput : V → P → Type 0
       (into_meaning Converts m).blames mode.streaming i f
   blamed o a fault e f b c = here o a (e, fault, b, c)
 
-  into_of : (o : Outcome V) (r : Result (I × Option P) (Answer.Err E (Option E) Needed)) (s : Result (I × Option R) (Answer.Err F (Option F) Needed)) →
+  into_of : (o : Outcome V) (r : PResult I P E) (s : PResult I R F) →
       m.answers mode.streaming i o → Shows w IsOutput mode i (m.blames mode.streaming i) o r → ConvertsResult Gives Converts r s → IntoShown s
   into_of (Accept n v) r s a h c =
       let d = subst (λ z. ConvertsResult Gives Converts z s) h.4 c in
@@ -108,7 +109,7 @@ module _ {I A V P R E F : Type 0} (w : Model I A) (IsOutput : V → P → Type 0
       Shown TooLarge (here TooLarge a refl) (d.0, blamed TooLarge a tt h.0 d.0 h.1 d.1, d.2)
   into_of (Undecided k) r s a h c = Shown (Undecided k) (here (Undecided k) a refl) (h.0, h.1, subst (λ z. ConvertsResult Gives Converts z s) h.2 c)
 
-  pub into_shown : (r : Result (I × Option P) (Answer.Err E (Option E) Needed)) (s : Result (I × Option R) (Answer.Err F (Option F) Needed)) →
+  pub into_shown : (r : PResult I P E) (s : PResult I R F) →
       ShowsMeaning w IsOutput m mode i r → ConvertsResult Gives Converts r s → IntoShown s
   into_shown r s (RanOut e h) c = RanOut (subst (λ z. ConvertsResult Gives Converts z s) e c) (RunsOutInPart i refl h)
   into_shown r s (Shown o a h) c = into_of o r s a h c

@@ -6,7 +6,7 @@ use Rattle.nom_error.specs.declared.answer.Needed.{Needed}
 use Rattle.nom_error.specs.declared.answer.Err as Answer
 use Rattle.nom_error.specs.declared.answer.Err.TheVariants.{Incomplete, Error, Failure, OutOfMemory}
 use Rattle.nom_error.specs.Modes.{Built, Modes, modes, with_outputs}
-use Rattle.nom_error.specs.Answers.{Refuses, size_of}
+use Rattle.nom_error.specs.Answers.{PResult, IResult, Refuses, size_of}
 use Rattle.nom_internal.specs.Results.{IsFull, HoldsSame, rest_of}
 use Rattle.nom_traits.specs.Input.{Model, InputLaws, IsSuffixOf}
 use Rattle.nom_traits.specs.Rests.{rest_rest}
@@ -25,7 +25,7 @@ err_from_residual {r = r} h =
     p.1 ∙ ap Err p.2
 
 -- the rest of what `parse` returns is that of what `process` does
-pub same_rest : {I O E : Type 0} (p : Result (I × Option O) (Answer.Err E (Option E) Needed)) (r : Result (I × O) (Answer.Err E E Needed)) →
+pub same_rest : {I O E : Type 0} (p : PResult I O E) (r : IResult I O E) →
     HoldsSame p r → rest_of p ≡ rest_of r
 same_rest (Ok (j, Some v)) r h = sym (ap rest_of h)
 same_rest (Ok (j, None)) r h = absurd h
@@ -86,7 +86,7 @@ module _ {I A V O P E : Type 0} (w : Model I A) (IsOutput : V → O → Type 0) 
 module _ {I A V O P E : Type 0} {w : Model I A} {IsOutput : V → O → Type 0} {IsResult : V → P → Type 0} {built : Bool} {mode : Modes} {i : I}
     {Answers : Outcome V → Type 0} {IsError : E → Type 0} {RunsOut : Type 0} where
   -- no acceptance, and a `?` returns what was answered: whatever an acceptance would have built
-  pub output_err : {e : Answer.Err E (Option E) Needed} {r : Result (I × Option P) (Answer.Err E (Option E) Needed)} →
+  pub output_err : {e : Answer.Err E (Option E) Needed} {r : PResult I P E} →
       ShowsAnswer w IsOutput (with_outputs built mode) i Answers IsError RunsOut (Err e) → IsErr r × IsErrAnd r (λ y. y ≡ e) →
       ShowsAnswer w IsResult mode i Answers IsError RunsOut r
   output_err (RanOut f h) q = let is = err_from_residual q in RanOut (cc (is, f)) h
@@ -103,7 +103,7 @@ module _ {I A V O P E : Type 0} {w : Model I A} {IsOutput : V → O → Type 0} 
 -- what two parts in sequence show
 abbrev pub ShowsThen : {I A P Q T Y E : Type 0} (w : Model I A) (tree : P → Q → T) (First : I → Outcome P → Type 0) (FirstBlames : I → E → Type 0)
     (FirstRunsOut : I → Type 0) (Next : P → I → Outcome Q → Type 0) (NextBlames : P → I → E → Type 0) (NextRunsOut : P → I → Type 0)
-    (IsResult : T → Y → Type 0) (mode : Modes) (i : I) → Result (I × Option Y) (Answer.Err E (Option E) Needed) → Type 0
+    (IsResult : T → Y → Type 0) (mode : Modes) (i : I) → PResult I Y E → Type 0
 ShowsThen w tree First FirstBlames FirstRunsOut Next NextBlames NextRunsOut IsResult mode i r =
     ShowsAnswer w IsResult mode i (Then w tree First Next i) (ThenBlames w First FirstBlames Next NextBlames i)
     (ThenRunsOut w First FirstRunsOut NextRunsOut i) r
@@ -116,7 +116,7 @@ module _ {I A P Q T Y E : Type 0} (w : Model I A) (l : InputLaws w) (tree : P �
     next_fact o b f e h = BlamesNext
         (record { length = n; tree = u; rest = j; accepted = a; rest_is = p; fact = record { outcome = o; answered = b; kind_is = f; fact = h } })
 
-    shows_after : (o : Outcome Q) (r : Result (I × Option Y) (Answer.Err E (Option E) Needed)) → Next u j o →
+    shows_after : (o : Outcome Q) (r : PResult I Y E) → Next u j o →
         Shows w (λ v. IsResult (tree u v)) mode j (NextBlames u j) o r → Shows w IsResult mode i (ThenBlames w First FirstBlames Next NextBlames i)
         (after n (tree u) o) r
     shows_after (Accept m v) r b s = (s.0, s.1, rest_rest w l i n j m s.0 p s.2, s.3, s.4)
@@ -126,7 +126,7 @@ module _ {I A P Q T Y E : Type 0} (w : Model I A) (l : InputLaws w) (tree : P �
     shows_after (Undecided k) r b s = s
 
     -- where a first part accepts, what follows answers for both
-    pub next_shown : (r : Result (I × Option Y) (Answer.Err E (Option E) Needed)) →
+    pub next_shown : (r : PResult I Y E) →
         ShowsAnswer w (λ v. IsResult (tree u v)) mode j (Next u j) (NextBlames u j) (NextRunsOut u j) r →
         ShowsThen w tree First FirstBlames FirstRunsOut Next NextBlames NextRunsOut IsResult mode i r
     next_shown r (RanOut f h) = RanOut f (RunsOutNext (record { length = n; tree = u; rest = j; accepted = a; rest_is = p; fact = h }))
@@ -151,7 +151,7 @@ module _ {I A P Q T X Y E : Type 0} {w : Model I A} (l : InputLaws w) {tree : P 
     {FirstRunsOut : I → Type 0} {Next : P → I → Outcome Q → Type 0} {NextBlames : P → I → E → Type 0} {NextRunsOut : P → I → Type 0}
     {IsFirst : P → X → Type 0} {IsResult : T → Y → Type 0} {built : Bool} {mode : Modes} {i : I} where
   -- a first part that does not accept, and a `?` returns what it answered
-  pub then_err : {e : Answer.Err E (Option E) Needed} {r : Result (I × Option Y) (Answer.Err E (Option E) Needed)} →
+  pub then_err : {e : Answer.Err E (Option E) Needed} {r : PResult I Y E} →
       ShowsAnswer w IsFirst (with_outputs built mode) i (First i) (FirstBlames i) (FirstRunsOut i) (Err e) → IsErr r × IsErrAnd r (λ y. y ≡ e) →
       ShowsThen w tree First FirstBlames FirstRunsOut Next NextBlames NextRunsOut IsResult mode i r
   then_err (RanOut f h) q = let is = err_from_residual q in RanOut (cc (is, f)) (RunsOutFirst h)
@@ -160,7 +160,7 @@ module _ {I A P Q T X Y E : Type 0} {w : Model I A} (l : InputLaws w) {tree : P 
       (first_err w tree First FirstBlames FirstRunsOut Next NextBlames NextRunsOut IsFirst IsResult built mode i e o a s)
 
   -- a first part accepts, and what follows answers for both
-  pub then_ok : {j : I} {x : Option X} {r : Result (I × Option Y) (Answer.Err E (Option E) Needed)} →
+  pub then_ok : {j : I} {x : Option X} {r : PResult I Y E} →
       ShowsAnswer w IsFirst (with_outputs built mode) i (First i) (FirstBlames i) (FirstRunsOut i) (Ok (j, x)) →
       ((u : P) → Built built (IsFirst u) x → ShowsAnswer w (λ v. IsResult (tree u v)) mode j (Next u j) (NextBlames u j) (NextRunsOut u j) r) →
       ShowsThen w tree First FirstBlames FirstRunsOut Next NextBlames NextRunsOut IsResult mode i r
@@ -178,14 +178,14 @@ both_built IsFirst IsSecond false x y z p q both none = none p
 
 -- what `process` shows is shown by a result without its options
 module _ {I A V O E : Type 0} (w : Model I A) (IsOutput : V → O → Type 0) (streaming : Bool) (i : I) (IsError : E → Type 0) where
-  full_of : (o : Outcome V) (r : Result (I × Option O) (Answer.Err E (Option E) Needed)) → Shows w IsOutput (modes true true streaming) i IsError o r → IsFull r
+  full_of : (o : Outcome V) (r : PResult I O E) → Shows w IsOutput (modes true true streaming) i IsError o r → IsFull r
   full_of (Accept n v) r s = subst (λ x. IsFull x) (sym (s.4 ∙ ap (λ b. Ok (s.0, b)) s.3.1)) tt
   full_of Refuse r s = subst (λ x. IsFull x) (sym (s.2 ∙ ap (λ b. Err (Error b)) s.1.1)) tt
   full_of Fail r s = subst (λ x. IsFull x) (sym s.2) tt
   full_of TooLarge r s = subst (λ x. IsFull x) (sym s.2) tt
   full_of (Undecided k) r s = subst (λ x. IsFull x) (sym s.2) tt
 
-  parses_of : (o : Outcome V) (p : Result (I × Option O) (Answer.Err E (Option E) Needed)) (r : Result (I × O) (Answer.Err E E Needed)) →
+  parses_of : (o : Outcome V) (p : PResult I O E) (r : IResult I O E) →
       HoldsSame p r → Shows w IsOutput (modes true true streaming) i IsError o p → Parses w IsOutput i IsError o r
   parses_of (Accept n v) p r h s = (s.0, s.3.0, s.2, s.3.2, subst (λ x. HoldsSame x r) (s.4 ∙ ap (λ b. Ok (s.0, b)) s.3.1) h)
   parses_of Refuse p r h s = (s.1.0, s.1.2, subst (λ x. HoldsSame x r) (s.2 ∙ ap (λ b. Err (Error b)) s.1.1) h)
@@ -194,12 +194,12 @@ module _ {I A V O E : Type 0} (w : Model I A) (IsOutput : V → O → Type 0) (s
   parses_of (Undecided k) p r h s = (s.0, s.1, subst (λ x. HoldsSame x r) s.2 h)
 
 module _ {I A V O E : Type 0} {w : Model I A} {IsOutput : V → O → Type 0} {streaming : Bool} {i : I} {Answers : Outcome V → Type 0} {IsError : E → Type 0} where
-  pub answer_full : {RunsOut : Type 0} {r : Result (I × Option O) (Answer.Err E (Option E) Needed)} →
+  pub answer_full : {RunsOut : Type 0} {r : PResult I O E} →
       ShowsAnswer w IsOutput (modes true true streaming) i Answers IsError RunsOut r → IsFull r
   answer_full (RanOut e h) = subst (λ x. IsFull x) (sym e) tt
   answer_full {r = r} (Shown o a s) = full_of w IsOutput streaming i IsError o r s
 
-  pub parsed : {RunsOut : Type 0} {p : Result (I × Option O) (Answer.Err E (Option E) Needed)} {r : Result (I × O) (Answer.Err E E Needed)} →
+  pub parsed : {RunsOut : Type 0} {p : PResult I O E} {r : IResult I O E} →
       HoldsSame p r → ShowsAnswer w IsOutput (modes true true streaming) i Answers IsError RunsOut p → ParsesAnswer w IsOutput i Answers IsError RunsOut r
   parsed {r = r} h (RanOut e k) = ParseRanOut (subst (λ x. HoldsSame x r) e h) k
   parsed {p = p} {r = r} h (Shown o a s) = Parsed o a (parses_of w IsOutput streaming i IsError o p r h s)

@@ -1,7 +1,6 @@
 -- What tuples show, from what their members showed.
-use Rattle.std.proofs.Common.{◌≡◌, Bool, true, false, Result, Ok, Err, Option, Some, None, cond, refl, sym, subst}
-use Rattle.nom_error.specs.declared.answer.Needed.{Needed}
-use Rattle.nom_error.specs.declared.answer.Err as Answer
+use Rattle.std.proofs.Common.{◌≡◌, Bool, true, false, Ok, Err, Option, Some, None, cond, refl, sym, subst}
+use Rattle.nom_error.specs.Answers.{PResult}
 use Rattle.nom_error.specs.Modes.{Built, Modes, with_outputs}
 use Rattle.nom_traits.specs.Input.{Model, InputLaws}
 use Rattle.nom_internal.specs.declared.flat.One.{One}
@@ -14,19 +13,19 @@ use Rattle.nom_internal.specs.Tuples.{built_meaning, OnAccepted, ShowsMember, Is
 use Rattle.nom_internal.proofs.Shown.{built_error, then_err, then_ok}
 
 -- of an acceptance, what is said of its rest and its value
-pub on_accepted : {I T U E : Type 0} (Next : I → Option T → Result (I × Option U) (Answer.Err E (Option E) Needed) → Type 0)
-    (before : Result (I × Option T) (Answer.Err E (Option E) Needed)) (j : I) (x : Option T)
-    (r : Result (I × Option U) (Answer.Err E (Option E) Needed)) → before ≡ Ok (j, x) → Next j x r → OnAccepted Next before r
+pub on_accepted : {I T U E : Type 0} (Next : I → Option T → PResult I U E → Type 0)
+    (before : PResult I T E) (j : I) (x : Option T)
+    (r : PResult I U E) → before ≡ Ok (j, x) → Next j x r → OnAccepted Next before r
 on_accepted Next before j x r h k = rw h k
 
 -- a member's answer, with its output after others
 module _ {I A V T O E : Type 0} (w : Model I A) (IsOutput : V → O → Type 0) (m : Meaning I V E) (mode : Modes) (j : I) (t : T) where
-  abbrev Behind : Result (I × Option (T × O)) (Answer.Err E (Option E) Needed) → Type 0
+  abbrev Behind : PResult I (T × O) E → Type 0
   Behind r = ShowsAnswer w (λ v o. (o.0 ≡ t) × IsOutput v o.1) (with_outputs true mode) j (m.answers mode.streaming j) (m.blames mode.streaming j)
       (m.may_run_out (with_outputs true mode) j) r
 
-  pub paired_shown : (answer : Result (I × Option O) (Answer.Err E (Option E) Needed))
-      (r : Result (I × Option (T × O)) (Answer.Err E (Option E) Needed)) → ShowsMeaning w IsOutput m (with_outputs true mode) j answer →
+  pub paired_shown : (answer : PResult I O E)
+      (r : PResult I (T × O) E) → ShowsMeaning w IsOutput m (with_outputs true mode) j answer →
       OnAccepted (IsPaired t) answer r → Behind r
   paired_shown answer r (RanOut e h) g = RanOut (rw e at g) h
   paired_shown answer r (Shown (Accept n v) a h) g =
@@ -39,13 +38,13 @@ module _ {I A V T O E : Type 0} (w : Model I A) (IsOutput : V → O → Type 0) 
 
 -- what some members showed, with their outputs in nested pairs: a record, by which the members are found
 pub record MembersShown {I A V O E : Type 0} (w : Model I A) (IsOutput : V → O → Type 0) (m : Meaning I V E) (mode : Modes) (i : I)
-    (r : Result (I × Option O) (Answer.Err E (Option E) Needed)) : Type 0 where
+    (r : PResult I O E) : Type 0 where
   pub shown : ShowsMeaning w IsOutput m (with_outputs true mode) i r
 
 -- one more member, after those before it
 module _ {I A P Q O R E : Type 0} (w : Model I A) (l : InputLaws w) (IsBefore : P → O → Type 0) (a : Meaning I P E) (IsLast : Q → R → Type 0)
     (b : Meaning I Q E) (mode : Modes) (i : I) where
-  behind_as : (u : P) (t : O) (j : I) → IsBefore u t → (r : Result (I × Option (O × R)) (Answer.Err E (Option E) Needed)) → Behind w IsLast b mode j t r →
+  behind_as : (u : P) (t : O) (j : I) → IsBefore u t → (r : PResult I (O × R) E) → Behind w IsLast b mode j t r →
       ShowsAnswer w (λ v. PairOutput IsBefore IsLast (u, v)) (with_outputs true mode) j (b.answers mode.streaming j) (b.blames mode.streaming j)
       (b.may_run_out (with_outputs true mode) j) r
   behind_as u t j p r (RanOut e h) = RanOut e h
@@ -56,15 +55,15 @@ module _ {I A P Q O R E : Type 0} (w : Model I A) (l : InputLaws w) (IsBefore : 
   behind_as u t j p r (Shown TooLarge a h) = Shown TooLarge a h
   behind_as u t j p r (Shown (Undecided k) a h) = Shown (Undecided k) a h
 
-  member_shown : (before : Result (I × Option O) (Answer.Err E (Option E) Needed)) (r : Result (I × Option (O × R)) (Answer.Err E (Option E) Needed)) →
+  member_shown : (before : PResult I O E) (r : PResult I (O × R) E) →
       ShowsMeaning w IsBefore a (with_outputs true mode) i before → OnAccepted (ShowsMember w IsLast b mode) before r →
       ShowsMeaning w (PairOutput IsBefore IsLast) (pair_meaning w a b) (with_outputs true mode) i r
   member_shown (Ok (j, x)) r h g = then_ok l h (λ u d. behind_as u d.0 j d.2 r (g d.0 d.1))
   member_shown (Err f) r h g = rw g (then_err l {r = Err f} h (refl, refl))
 
 pub and_member : {I A P Q O R E : Type 0} {w : Model I A} (l : InputLaws w) {IsBefore : P → O → Type 0} {a : Meaning I P E} {mode : Modes} {i : I}
-    {before : Result (I × Option O) (Answer.Err E (Option E) Needed)} (IsLast : Q → R → Type 0) (b : Meaning I Q E) →
-    MembersShown w IsBefore a mode i before → (r : Result (I × Option (O × R)) (Answer.Err E (Option E) Needed)) →
+    {before : PResult I O E} (IsLast : Q → R → Type 0) (b : Meaning I Q E) →
+    MembersShown w IsBefore a mode i before → (r : PResult I (O × R) E) →
     OnAccepted (ShowsMember w IsLast b mode) before r → MembersShown w (PairOutput IsBefore IsLast) (pair_meaning w a b) mode i r
 and_member {w = w} l {IsBefore = IsBefore} {a = a} {mode = mode} {i = i} {before = before} IsLast b h r g = record {
   shown = member_shown w l IsBefore a IsLast b mode i before r h.shown g;
@@ -77,7 +76,7 @@ built_cond false P v h = refl
 -- outputs that are built, in another form where they are asked for
 module _ {I A V T O E : Type 0} (w : Model I A) (IsOutput : V → T → Type 0) (IsForm : V → O → Type 0) (form : T → O)
     (same : (v : V) (t : T) → IsOutput v t → IsForm v (form t)) (m : Meaning I V E) (mode : Modes) (i : I) where
-  pub formed_shown : (before : Result (I × Option T) (Answer.Err E (Option E) Needed)) (r : Result (I × Option O) (Answer.Err E (Option E) Needed)) →
+  pub formed_shown : (before : PResult I T E) (r : PResult I O E) →
       ShowsMeaning w IsOutput m (with_outputs true mode) i before → OnAccepted (IsFormed mode.outputs form) before r →
       ShowsMeaning w IsForm (built_meaning m) mode i r
   formed_shown before r (RanOut e h) g = RanOut (rw e at g) h
@@ -97,20 +96,20 @@ module _ {I A V T O E : Type 0} (w : Model I A) (IsOutput : V → T → Type 0) 
 
 -- the first member, with its output as the first of nested pairs
 pub first_shown : {I A V O E : Type 0} (w : Model I A) (IsOutput : V → O → Type 0) (m : Meaning I V E) (mode : Modes) (i : I)
-    (answer : Result (I × Option O) (Answer.Err E (Option E) Needed)) (r : Result (I × Option (One O)) (Answer.Err E (Option E) Needed)) →
+    (answer : PResult I O E) (r : PResult I (One O) E) →
     ShowsMeaning w IsOutput m (with_outputs true mode) i answer → OnAccepted (IsFormed true (λ o. record { member = o })) answer r →
     ShowsMeaning w (OneOutput IsOutput) m (with_outputs true mode) i r
 first_shown w IsOutput m mode i answer r h g =
     formed_shown w IsOutput (OneOutput IsOutput) (λ o. record { member = o }) (λ t o p. p) m (with_outputs true mode) i answer r h g
 
 pub first_of_members : {I A V O E : Type 0} (w : Model I A) (IsOutput : V → O → Type 0) (m : Meaning I V E) (mode : Modes) (i : I)
-    (r : Result (I × Option (One O)) (Answer.Err E (Option E) Needed)) → ShowsMeaning w (OneOutput IsOutput) m (with_outputs true mode) i r →
+    (r : PResult I (One O) E) → ShowsMeaning w (OneOutput IsOutput) m (with_outputs true mode) i r →
     MembersShown w (OneOutput IsOutput) m mode i r
 first_of_members w IsOutput m mode i r h = record { shown = h }
 
 -- a tuple, by its members
 pub tuple_shown : {I A V T O E : Type 0} {w : Model I A} {IsOutput : V → T → Type 0} {m : Meaning I V E} {mode : Modes} {i : I}
-    {before : Result (I × Option T) (Answer.Err E (Option E) Needed)} {r : Result (I × Option O) (Answer.Err E (Option E) Needed)}
+    {before : PResult I T E} {r : PResult I O E}
     (form : T → O) (IsForm : V → O → Type 0) → ((v : V) (t : T) → IsOutput v t → IsForm v (form t)) →
     MembersShown w IsOutput m mode i before → OnAccepted (IsFormed mode.outputs form) before r → ShowsMeaning w IsForm (built_meaning m) mode i r
 tuple_shown {w = w} {IsOutput = IsOutput} {m = m} {mode = mode} {i = i} {before = before} {r = r} form IsForm same h g =

@@ -5,7 +5,7 @@ use Rattle.std.proofs.Common.{inl, inr}
 use Rattle.nom_error.specs.declared.answer.Needed.{Needed}
 use Rattle.nom_error.specs.declared.answer.Err as Answer
 use Rattle.nom_error.specs.declared.answer.Err.TheVariants.{Incomplete, Error, Failure, OutOfMemory}
-use Rattle.nom_error.specs.Answers.{Refuses}
+use Rattle.nom_error.specs.Answers.{PResult, Refuses}
 use Rattle.nom_error.specs.Modes.{Built, Modes, with_errors}
 use Rattle.nom_traits.specs.Input.{Model}
 use Rattle.nom_internal.specs.Outcome.{Outcome, ShowsAnswer, IsFailure, IsFault, OnOutcome}
@@ -120,6 +120,6 @@ ClosesResult {E = E} Closes Grows = OnError (λ x r. (f : Answer.Err E (Option E
 
 -- what a part shows after a refusal with an error, where errors are built
 abbrev pub ShowsNext : {I A V O E : Type 0} → Model I A → (V → O → Type 0) → (E → E → E → Type 0) → Type 0 → Meaning I V E → Modes → I → Option E →
-    Result (I × Option O) (Answer.Err E (Option E) Needed) → Type 0
+    PResult I O E → Type 0
 ShowsNext w IsOutput Joins Grows m mode i x r = Built mode.errors (λ _. Unit {0}) x →
     ShowsAnswer w IsOutput mode i (m.answers mode.streaming i) (NextBlames Joins m mode.streaming i (λ a. x ≡ Some a)) (NextRunsOut Grows m mode i) r

@@ -1,7 +1,6 @@
 -- A part whose outputs, or whose errors too, become others.
-use Rattle.std.specs.Prelude.{◌≡◌, Bool, true, Option, Some, None, Result, Ok, Err}
-use Rattle.nom_error.specs.declared.answer.Needed.{Needed}
-use Rattle.nom_error.specs.declared.answer.Err as Answer
+use Rattle.std.specs.Prelude.{◌≡◌, Bool, true, Option, Some, None, Ok, Err}
+use Rattle.nom_error.specs.Answers.{PResult}
 use Rattle.nom_error.specs.declared.answer.Err.TheVariants.{Incomplete, Error, Failure, OutOfMemory}
 use Rattle.nom_internal.specs.Outcome.{Outcome, IsFault}
 use Rattle.nom_internal.specs.Outcome.Outcome.{Accept, Refuse, Fail, TooLarge, Undecided}
@@ -63,8 +62,8 @@ ConvertsSome {U = U} Converts (Some x) y = (z : U) × Converts x z × (y ≡ Som
 ConvertsSome Converts None y = y ≡ None
 
 -- the output and the error that an answer holds are converted, and all else stays
-abbrev pub ConvertsResult : {I T U E F : Type 0} → (T → U → Type 0) → (E → F → Type 0) → Result (I × Option T) (Answer.Err E (Option E) Needed) →
-    Result (I × Option U) (Answer.Err F (Option F) Needed) → Type 0
+abbrev pub ConvertsResult : {I T U E F : Type 0} → (T → U → Type 0) → (E → F → Type 0) → PResult I T E →
+    PResult I U F → Type 0
 ConvertsResult {U = U} Gives Converts (Ok (j, x)) r = (y : Option U) × ConvertsSome Gives x y × (r ≡ Ok (j, y))
 ConvertsResult Gives Converts (Err (Incomplete k)) r = r ≡ Err (Incomplete k)
 ConvertsResult {F = F} Gives Converts (Err (Error x)) r = (y : Option F) × ConvertsSome Converts x y × (r ≡ Err (Error y))

@@ -1,7 +1,6 @@
 -- What a parser means, and the laws of meanings.
-use Rattle.std.specs.Prelude.{◌≡◌, ℕ, Bool, true, false, not, Result, Option}
-use Rattle.nom_error.specs.declared.answer.Needed.{Needed}
-use Rattle.nom_error.specs.declared.answer.Err as Answer
+use Rattle.std.specs.Prelude.{◌≡◌, ℕ, Bool, true, false, not}
+use Rattle.nom_error.specs.Answers.{PResult, IResult}
 use Rattle.nom_error.specs.Modes.{Modes, modes}
 use Rattle.nom_traits.specs.Input.{Model, IsBoundary, IsSame, Related}
 use Rattle.nom_internal.specs.Outcome.{Outcome, IsDecided, ShowsAnswer, ParsesAnswer, failure}
@@ -69,9 +68,9 @@ module _ {I A V E : Type 0} (w : Model I A) (m : Meaning I V E) where
 
 -- what `process` returns of a parser that means m, at i: what is built of outputs and errors, and the mode
 abbrev pub ShowsMeaning : {I A V O E : Type 0} → Model I A → (V → O → Type 0) → Meaning I V E → Modes → I →
-    Result (I × Option O) (Answer.Err E (Option E) Needed) → Type 0
+    PResult I O E → Type 0
 ShowsMeaning w IsOutput m mode i r = ShowsAnswer w IsOutput mode i (m.answers mode.streaming i) (m.blames mode.streaming i) (m.may_run_out mode i) r
 
 -- what `parse` (true) and `parse_complete` (false) return of it
-abbrev pub ParsesMeaning : {I A V O E : Type 0} → Model I A → (V → O → Type 0) → Meaning I V E → Bool → I → Result (I × O) (Answer.Err E E Needed) → Type 0
+abbrev pub ParsesMeaning : {I A V O E : Type 0} → Model I A → (V → O → Type 0) → Meaning I V E → Bool → I → IResult I O E → Type 0
 ParsesMeaning w IsOutput m s i r = ParsesAnswer w IsOutput i (m.answers s i) (m.blames s i) (m.may_run_out (modes true true s) i) r

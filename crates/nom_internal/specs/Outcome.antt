@@ -1,9 +1,8 @@
 -- What a parser answers at an input, and what `process` and `parse` return for it.
-use Rattle.std.specs.Prelude.{◌≡◌, ℕ, Bool, true, false, Result, Ok, Err, Option}
-use Rattle.nom_error.specs.declared.answer.Err as Answer
+use Rattle.std.specs.Prelude.{◌≡◌, ℕ, Bool, true, false, Ok, Err, Option}
 use Rattle.nom_error.specs.declared.answer.Err.TheVariants.{Incomplete, Error, Failure, OutOfMemory}
 use Rattle.nom_error.specs.declared.answer.Needed.{Needed}
-use Rattle.nom_error.specs.Answers.{size_of}
+use Rattle.nom_error.specs.Answers.{PResult, IResult, size_of}
 use Rattle.nom_error.specs.Modes.{Built, Modes}
 use Rattle.nom_traits.specs.Input.{Model, IsSuffixOf}
 
@@ -62,7 +61,7 @@ pub record OnOutcome {I V : Type 0} (IsKind : Outcome V → Type 0) (Part : I �
 
 module _ {I A V O E : Type 0} (w : Model I A) (IsOutput : V → O → Type 0) (mode : Modes) (i : I) where
   -- what `process` returns at i for an outcome, with an error of which the fact holds
-  abbrev pub Shows : (E → Type 0) → Outcome V → Result (I × Option O) (Answer.Err E (Option E) Needed) → Type 0
+  abbrev pub Shows : (E → Type 0) → Outcome V → PResult I O E → Type 0
   Shows IsError (Accept n v) r = (j : I) × (b : Option O) × IsSuffixOf w i n j × Built mode.outputs (IsOutput v) b × (r ≡ Ok (j, b))
   Shows IsError Refuse r = (b : Option E) × Built mode.errors IsError b × (r ≡ Err (Error b))
   Shows IsError Fail r = (e : E) × IsError e × (r ≡ Err (Failure e))
@@ -71,13 +70,13 @@ module _ {I A V O E : Type 0} (w : Model I A) (IsOutput : V → O → Type 0) (m
 
   -- memory ran out, where it may, or an outcome is shown
   pub data ShowsAnswer (Answers : Outcome V → Type 0) (IsError : E → Type 0) (RunsOut : Type 0)
-      (r : Result (I × Option O) (Answer.Err E (Option E) Needed)) : Type 0 where
+      (r : PResult I O E) : Type 0 where
     RanOut : r ≡ Err OutOfMemory → RunsOut → ShowsAnswer Answers IsError RunsOut r
     Shown : (o : Outcome V) → Answers o → Shows IsError o r → ShowsAnswer Answers IsError RunsOut r
 
 module _ {I A V O E : Type 0} (w : Model I A) (IsOutput : V → O → Type 0) (i : I) where
   -- what `parse` returns at i for an outcome: mode.outputs and mode.errors are built
-  abbrev pub Parses : (E → Type 0) → Outcome V → Result (I × O) (Answer.Err E E Needed) → Type 0
+  abbrev pub Parses : (E → Type 0) → Outcome V → IResult I O E → Type 0
   Parses IsError (Accept n v) r = (j : I) × (b : O) × IsSuffixOf w i n j × IsOutput v b × (r ≡ Ok (j, b))
   Parses IsError Refuse r = (e : E) × IsError e × (r ≡ Err (Error e))
   Parses IsError Fail r = (e : E) × IsError e × (r ≡ Err (Failure e))
@@ -85,6 +84,6 @@ module _ {I A V O E : Type 0} (w : Model I A) (IsOutput : V → O → Type 0) (i
   Parses IsError (Undecided k) r = (n : Needed) × (size_of n ≡ k) × (r ≡ Err (Incomplete n))
 
   -- memory ran out, where it may, or an outcome is shown
-  pub data ParsesAnswer (Answers : Outcome V → Type 0) (IsError : E → Type 0) (RunsOut : Type 0) (r : Result (I × O) (Answer.Err E E Needed)) : Type 0 where
+  pub data ParsesAnswer (Answers : Outcome V → Type 0) (IsError : E → Type 0) (RunsOut : Type 0) (r : IResult I O E) : Type 0 where
     ParseRanOut : r ≡ Err OutOfMemory → RunsOut → ParsesAnswer Answers IsError RunsOut r
     Parsed : (o : Outcome V) → Answers o → Parses IsError o r → ParsesAnswer Answers IsError RunsOut r

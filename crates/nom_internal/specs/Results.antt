@@ -1,11 +1,12 @@
 -- The results of `process` and of `parse`, side by side.
 use Rattle.std.specs.Prelude.{◌≡◌, ℕ, Result, Ok, Err, Option, Some, None}
+use Rattle.nom_error.specs.Answers.{PResult, IResult}
 use Rattle.nom_error.specs.declared.answer.Needed.{Needed}
 use Rattle.nom_error.specs.declared.answer.Err as Answer
 use Rattle.nom_error.specs.declared.answer.Err.TheVariants.{Incomplete, Error, Failure, OutOfMemory}
 
 -- an acceptance has its output, and a refusal its error
-abbrev pub IsFull : {I O E : Type 0} → Result (I × Option O) (Answer.Err E (Option E) Needed) → Type 0
+abbrev pub IsFull : {I O E : Type 0} → PResult I O E → Type 0
 IsFull (Ok (j, Some v)) = Unit {0}
 IsFull (Ok (j, None)) = ⊥
 IsFull (Err (Incomplete k)) = Unit {0}
@@ -15,7 +16,7 @@ IsFull (Err (Failure e)) = Unit {0}
 IsFull (Err OutOfMemory) = Unit {0}
 
 -- the second holds what the first does
-abbrev pub HoldsSame : {I O E : Type 0} → Result (I × Option O) (Answer.Err E (Option E) Needed) → Result (I × O) (Answer.Err E E Needed) → Type 0
+abbrev pub HoldsSame : {I O E : Type 0} → PResult I O E → IResult I O E → Type 0
 HoldsSame (Ok (j, Some v)) r = r ≡ Ok (j, v)
 HoldsSame (Ok (j, None)) r = ⊥
 HoldsSame (Err (Incomplete k)) r = r ≡ Err (Incomplete k)
@@ -48,10 +49,10 @@ abbrev pub AsksForMore : {T E : Type 0} → Result T (Answer.Err E E Needed) →
 AsksForMore r = (k : Needed) × (r ≡ Err (Incomplete k))
 
 -- each rest that is accepted has the fact
-abbrev pub HasRests : {I O E : Type 0} → (I → Type 0) → Result (I × O) (Answer.Err E E Needed) → Type 0
+abbrev pub HasRests : {I O E : Type 0} → (I → Type 0) → IResult I O E → Type 0
 HasRests {I} {O} {E} Fact r = (j : I) (v : O) → r ≡ Ok (j, v) → Fact j
 
 -- an acceptance is answered with another rest, of which the fact holds for each length of what was consumed, and else the same
-pub record WithRest {I O E : Type 0} (Before After : ℕ → I → Type 0) (answer result : Result (I × O) (Answer.Err E E Needed)) : Type 0 where
+pub record WithRest {I O E : Type 0} (Before After : ℕ → I → Type 0) (answer result : IResult I O E) : Type 0 where
   pub accepts : (j : I) (v : O) (n : ℕ) → answer ≡ Ok (j, v) → Before n j → (k : I) × After n k × (result ≡ Ok (k, v))
   pub else_same : (e : Answer.Err E E Needed) → answer ≡ Err e → result ≡ Err e

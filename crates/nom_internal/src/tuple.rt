@@ -265,5 +265,6 @@ impl<
     ghost pinned = { λ p k h. flat_pinned (λ v. (v.0.0.0, v.0.0.1, v.0.1, v.1)) (λ o. (((o.0, o.1), o.2), o.3)) (λ _. refl)
         (pair_pinned (pair_pinned (pair_pinned (A.pinned p.0 k.0.0.0 h.0) (B.pinned p.1 k.0.0.1 h.1)) (C.pinned p.2 k.0.1 h.2)) (D.pinned p.3 k.1 h.3)) };
 
-    ghost steady = { λ s k. built_steady (pair_steady I.lawful (pair_steady I.lawful (pair_steady I.lawful (A.steady s.0 k.0.0.0) (B.steady s.1 k.0.0.1)) (C.steady s.2 k.0.1)) (D.steady s.3 k.1)) };
+    ghost steady = { λ s k. built_steady (pair_steady I.lawful (pair_steady I.lawful (pair_steady I.lawful (A.steady s.0 k.0.0.0) (B.steady s.1 k.0.0.1))
+        (C.steady s.2 k.0.1)) (D.steady s.3 k.1)) };
 }

@@ -64,7 +64,8 @@ impl<
         (pair_pinned (pair_pinned (pair_pinned (pair_pinned (A.pinned p.0 k.0.0.0.0 h.0) (B.pinned p.1 k.0.0.0.1 h.1)) (C.pinned p.2 k.0.0.1 h.2))
         (D.pinned p.3 k.0.1 h.3)) (E.pinned p.4 k.1 h.4)) };
 
-    ghost steady = { λ s k. built_steady (pair_steady I.lawful (pair_steady I.lawful (pair_steady I.lawful (pair_steady I.lawful (A.steady s.0 k.0.0.0.0) (B.steady s.1 k.0.0.0.1)) (C.steady s.2 k.0.0.1)) (D.steady s.3 k.0.1)) (E.steady s.4 k.1)) };
+    ghost steady = { λ s k. built_steady (pair_steady I.lawful (pair_steady I.lawful (pair_steady I.lawful (pair_steady I.lawful (A.steady s.0 k.0.0.0.0)
+        (B.steady s.1 k.0.0.0.1)) (C.steady s.2 k.0.0.1)) (D.steady s.3 k.0.1)) (E.steady s.4 k.1)) };
 }
 
 impl<
@@ -134,7 +135,9 @@ impl<
         (pair_pinned (pair_pinned (pair_pinned (pair_pinned (pair_pinned (A.pinned p.0 k.0.0.0.0.0 h.0) (B.pinned p.1 k.0.0.0.0.1 h.1))
         (C.pinned p.2 k.0.0.0.1 h.2)) (D.pinned p.3 k.0.0.1 h.3)) (E.pinned p.4 k.0.1 h.4)) (F.pinned p.5 k.1 h.5)) };
 
-    ghost steady = { λ s k. built_steady (pair_steady I.lawful (pair_steady I.lawful (pair_steady I.lawful (pair_steady I.lawful (pair_steady I.lawful (A.steady s.0 k.0.0.0.0.0) (B.steady s.1 k.0.0.0.0.1)) (C.steady s.2 k.0.0.0.1)) (D.steady s.3 k.0.0.1)) (E.steady s.4 k.0.1)) (F.steady s.5 k.1)) };
+    ghost steady = { λ s k. built_steady (pair_steady I.lawful (pair_steady I.lawful (pair_steady I.lawful (pair_steady I.lawful (pair_steady I.lawful
+        (A.steady s.0 k.0.0.0.0.0) (B.steady s.1 k.0.0.0.0.1)) (C.steady s.2 k.0.0.0.1)) (D.steady s.3 k.0.0.1)) (E.steady s.4 k.0.1))
+        (F.steady s.5 k.1)) };
 }
 
 impl<
@@ -210,7 +213,9 @@ impl<
         (B.pinned p.1 k.0.0.0.0.0.1 h.1)) (C.pinned p.2 k.0.0.0.0.1 h.2)) (D.pinned p.3 k.0.0.0.1 h.3)) (E.pinned p.4 k.0.0.1 h.4))
         (F.pinned p.5 k.0.1 h.5)) (G.pinned p.6 k.1 h.6)) };
 
-    ghost steady = { λ s k. built_steady (pair_steady I.lawful (pair_steady I.lawful (pair_steady I.lawful (pair_steady I.lawful (pair_steady I.lawful (pair_steady I.lawful (A.steady s.0 k.0.0.0.0.0.0) (B.steady s.1 k.0.0.0.0.0.1)) (C.steady s.2 k.0.0.0.0.1)) (D.steady s.3 k.0.0.0.1)) (E.steady s.4 k.0.0.1)) (F.steady s.5 k.0.1)) (G.steady s.6 k.1)) };
+    ghost steady = { λ s k. built_steady (pair_steady I.lawful (pair_steady I.lawful (pair_steady I.lawful (pair_steady I.lawful (pair_steady I.lawful
+        (pair_steady I.lawful (A.steady s.0 k.0.0.0.0.0.0) (B.steady s.1 k.0.0.0.0.0.1)) (C.steady s.2 k.0.0.0.0.1)) (D.steady s.3 k.0.0.0.1))
+        (E.steady s.4 k.0.0.1)) (F.steady s.5 k.0.1)) (G.steady s.6 k.1)) };
 }
 
 impl<
@@ -291,5 +296,7 @@ impl<
         (B.pinned p.1 k.0.0.0.0.0.0.1 h.1)) (C.pinned p.2 k.0.0.0.0.0.1 h.2)) (D.pinned p.3 k.0.0.0.0.1 h.3)) (E.pinned p.4 k.0.0.0.1 h.4))
         (F.pinned p.5 k.0.0.1 h.5)) (G.pinned p.6 k.0.1 h.6)) (H.pinned p.7 k.1 h.7)) };
 
-    ghost steady = { λ s k. built_steady (pair_steady I.lawful (pair_steady I.lawful (pair_steady I.lawful (pair_steady I.lawful (pair_steady I.lawful (pair_steady I.lawful (pair_steady I.lawful (A.steady s.0 k.0.0.0.0.0.0.0) (B.steady s.1 k.0.0.0.0.0.0.1)) (C.steady s.2 k.0.0.0.0.0.1)) (D.steady s.3 k.0.0.0.0.1)) (E.steady s.4 k.0.0.0.1)) (F.steady s.5 k.0.0.1)) (G.steady s.6 k.0.1)) (H.steady s.7 k.1)) };
+    ghost steady = { λ s k. built_steady (pair_steady I.lawful (pair_steady I.lawful (pair_steady I.lawful (pair_steady I.lawful (pair_steady I.lawful
+        (pair_steady I.lawful (pair_steady I.lawful (A.steady s.0 k.0.0.0.0.0.0.0) (B.steady s.1 k.0.0.0.0.0.0.1)) (C.steady s.2 k.0.0.0.0.0.1))
+        (D.steady s.3 k.0.0.0.0.1)) (E.steady s.4 k.0.0.0.1)) (F.steady s.5 k.0.0.1)) (G.steady s.6 k.0.1)) (H.steady s.7 k.1)) };
 }

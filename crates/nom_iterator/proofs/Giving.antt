@@ -1,9 +1,8 @@
 -- What calls of `next` give, one after another.
-use Rattle.std.proofs.Common.{◌≡◌, ℕ, true, List, [], ◌∷◌, length, Result, Ok, Err, Option, Some, None, refl, sym, ◌∙◌, ap, subst, inl, inr}
+use Rattle.std.proofs.Common.{◌≡◌, ℕ, true, List, [], ◌∷◌, length, Ok, Err, Option, Some, None, refl, sym, ◌∙◌, ap, subst, inl, inr}
 use Rattle.std.specs.Iterator.{Yields}
 use Rattle.std.specs.List.{AllZip}
-use Rattle.nom_error.specs.declared.answer.Needed.{Needed}
-use Rattle.nom_error.specs.declared.answer.Err as Answer
+use Rattle.nom_error.specs.Answers.{IResult}
 use Rattle.nom_error.specs.declared.answer.Err.TheVariants as Variant
 use Rattle.nom_traits.specs.Input.{Model, IsSuffixOf}
 use Rattle.nom_internal.specs.Outcome.{Outcome, Parses}
@@ -27,7 +26,7 @@ record IsItem {I A V O E : Type 0} (w : Model I A) (IsOutput : V → O → Type 
 
 module _ {I A V O E : Type 0} (w : Model I A) (IsOutput : V → O → Type 0) (m : Meaning I V E) (i : I) where
   -- what an answer is, by what was given for it
-  item_of_answer : (q : Result (I × O) (Answer.Err E E Needed)) (v : O) (j : I) (s : State E) → Moves i q (Some v) j s → (o : Outcome V) →
+  item_of_answer : (q : IResult I O E) (v : O) (j : I) (s : State E) → Moves i q (Some v) j s → (o : Outcome V) →
       m.answers true i o → Parses w IsOutput i (m.blames true i) o q → IsItem w IsOutput m i v j s
   item_of_answer (Ok (k, u)) v j s g (Accept n t) a h =
       let both : ◌≡◌ {A = I × O} (h.0, h.1) (k, u) = cc (h.4) in
@@ -51,7 +50,7 @@ module _ {I A V O E : Type 0} (w : Model I A) (IsOutput : V → O → Type 0) (m
   item_of_answer (Err (Variant.Incomplete k)) v j s g o a h = absurd (cc (g.0))
   item_of_answer (Err Variant.OutOfMemory) v j s g o a h = absurd (cc (g.0))
 
-  item_of : (q : Result (I × O) (Answer.Err E E Needed)) (v : O) (j : I) (s : State E) → Moves i q (Some v) j s → ParsesMeaning w IsOutput m true i q →
+  item_of : (q : IResult I O E) (v : O) (j : I) (s : State E) → Moves i q (Some v) j s → ParsesMeaning w IsOutput m true i q →
       IsItem w IsOutput m i v j s
   item_of q v j s g (ParseRanOut e h) = absurd (cc ((subst (λ z. Moves i z (Some v) j s) e g).0))
   item_of q v j s g (Parsed o a h) = item_of_answer q v j s g o a h
@@ -63,7 +62,7 @@ module _ {I A V O E : Type 0} (w : Model I A) (IsOutput : V → O → Type 0) (m
   given_item (Incomplete k) v j s e g = absurd (cc (e))
   given_item OutOfMemory v j s e g = absurd (cc (e))
 
-  end_of_answer : (q : Result (I × O) (Answer.Err E E Needed)) (j : I) (s : State E) → Moves i q None j s → (o : Outcome V) → m.answers true i o →
+  end_of_answer : (q : IResult I O E) (j : I) (s : State E) → Moves i q None j s → (o : Outcome V) → m.answers true i o →
       Parses w IsOutput i (m.blames true i) o q → EndsHolding m i s × (j ≡ i)
   end_of_answer q j s g (Accept n t) a h = absurd (cc ((subst (λ z. Moves i z None j s) h.4 g).0))
   end_of_answer q j s g Refuse a h = let k = subst (λ z. Moves i z None j s) h.2 g in (inl (Refuse, a, k.2), k.1)
@@ -71,7 +70,7 @@ module _ {I A V O E : Type 0} (w : Model I A) (IsOutput : V → O → Type 0) (m
   end_of_answer q j s g TooLarge a h = let k = subst (λ z. Moves i z None j s) h.2 g in (inl (TooLarge, a, (h.0, h.1, k.2)), k.1)
   end_of_answer q j s g (Undecided n) a h = let k = subst (λ z. Moves i z None j s) h.2 g in (inl (Undecided n, a, (h.0, h.1, k.2)), k.1)
 
-  end_of : (q : Result (I × O) (Answer.Err E E Needed)) (j : I) (s : State E) → Moves i q None j s → ParsesMeaning w IsOutput m true i q →
+  end_of : (q : IResult I O E) (j : I) (s : State E) → Moves i q None j s → ParsesMeaning w IsOutput m true i q →
       EndsHolding m i s × (j ≡ i)
   end_of q j s g (ParseRanOut e h) = let k = subst (λ z. Moves i z None j s) e g in (inr (h, k.2), k.1)
   end_of q j s g (Parsed o a h) = end_of_answer q j s g o a h
@@ -84,7 +83,7 @@ module _ {I A V O E : Type 0} (w : Model I A) (IsOutput : V → O → Type 0) (m
   given_end OutOfMemory j s e g = absurd (cc (e))
 
   -- what ended gives nothing
-  nothing_moves : (q : Result (I × O) (Answer.Err E E Needed)) (j : I) (s : State E) → Moves i q None j s → s ≡ Running → ⊥
+  nothing_moves : (q : IResult I O E) (j : I) (s : State E) → Moves i q None j s → s ≡ Running → ⊥
   nothing_moves (Ok (k, u)) j s g e = cc (g.0)
   nothing_moves (Err (Variant.Error x)) j s g e = cc (e, g.2)
   nothing_moves (Err (Variant.Failure x)) j s g e = cc (e, g.2)
@@ -107,14 +106,14 @@ module _ {I A V O E : Type 0} (w : Model I A) (IsOutput : V → O → Type 0) (m
 
 -- what `finish` answers of what is held
 module _ {I V E : Type 0} (m : Meaning I V E) (i : I) where
-  ended_finishes : (o : Outcome V) (s : State E) (r : Result (I × Unit {0}) (Answer.Err E E Needed)) → HoldsEnd m i o s → IsFinish i s r → Finishes m i o r
+  ended_finishes : (o : Outcome V) (s : State E) (r : IResult I (Unit {0}) E) → HoldsEnd m i o s → IsFinish i s r → Finishes m i o r
   ended_finishes (Accept n v) s r h f = absurd h
   ended_finishes Refuse s r h f = subst (λ z. IsFinish i z r) h f
   ended_finishes Fail s r h f = (h.0, h.1, subst (λ z. IsFinish i z r) h.2 f)
   ended_finishes TooLarge s r h f = (h.0, h.1, subst (λ z. IsFinish i z r) h.2 f)
   ended_finishes (Undecided k) s r h f = (h.0, h.1, subst (λ z. IsFinish i z r) h.2 f)
 
-  finishes_there : (s : State E) (r : Result (I × Unit {0}) (Answer.Err E E Needed)) → EndsHolding m i s → IsFinish i s r → FinishesThere m i r
+  finishes_there : (s : State E) (r : IResult I (Unit {0}) E) → EndsHolding m i s → IsFinish i s r → FinishesThere m i r
   finishes_there s r (inl h) f = inl (h.0, h.1, ended_finishes h.0 s r h.2 f)
   finishes_there s r (inr h) f = inr (h.0, subst (λ z. IsFinish i z r) h.1 f)
 

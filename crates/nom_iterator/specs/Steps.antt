@@ -1,11 +1,10 @@
 -- What `next` and `finish` answer, by the place that is reached and by what is held.
-use Rattle.std.specs.Prelude.{◌≡◌, Bool, true, false, ◌⊎◌, List, length, Result, Ok, Err, Option, Some, None}
+use Rattle.std.specs.Prelude.{◌≡◌, Bool, true, false, ◌⊎◌, List, length, Ok, Err, Option, Some, None}
 use Rattle.std.specs.Iterator.{Yields}
 use Rattle.std.specs.List.{AllZip}
-use Rattle.nom_error.specs.Answers.{size_of}
+use Rattle.nom_error.specs.Answers.{IResult, size_of}
 use Rattle.nom_error.specs.Modes.{modes}
 use Rattle.nom_error.specs.declared.answer.Needed.{Needed}
-use Rattle.nom_error.specs.declared.answer.Err as Answer
 use Rattle.nom_error.specs.declared.answer.Err.TheVariants as Variant
 use Rattle.nom_traits.specs.Input.{Model}
 use Rattle.nom_internal.specs.Outcome.{Outcome}
@@ -16,7 +15,7 @@ use Rattle.nom_iterator.specs.declared.items.State.{State}
 use Rattle.nom_iterator.specs.declared.items.State.TheVariants as Held
 
 -- what `next` gives for an answer of the parser at i, the place j after it, and what is held then
-abbrev pub Moves : {I O E : Type 0} → I → Result (I × O) (Answer.Err E E Needed) → Option O → I → State E → Type 0
+abbrev pub Moves : {I O E : Type 0} → I → IResult I O E → Option O → I → State E → Type 0
 Moves i (Ok (k, v)) r j s = (r ≡ Some v) × (j ≡ k) × (s ≡ Held.Running)
 Moves i (Err (Variant.Error e)) r j s = (r ≡ None) × (j ≡ i) × (s ≡ Held.Done)
 Moves i (Err (Variant.Failure e)) r j s = (r ≡ None) × (j ≡ i) × (s ≡ Held.Failure e)
@@ -30,7 +29,7 @@ Rests i s r j t = (r ≡ None) × (j ≡ i) × (t ≡ s)
 module _ {I A V O E : Type 0} (w : Model I A) (IsOutput : V → O → Type 0) (m : Meaning I V E) where
   -- One `next` at the place i: while it runs, by what `parse` answers there; after it ended, nothing is given.
   abbrev pub Gives : I → State E → Option O → I → State E → Type 0
-  Gives i Held.Running r j t = (q : Result (I × O) (Answer.Err E E Needed)) × ParsesMeaning w IsOutput m true i q × Moves i q r j t
+  Gives i Held.Running r j t = (q : IResult I O E) × ParsesMeaning w IsOutput m true i q × Moves i q r j t
   Gives i Held.Done r j t = Rests i Held.Done r j t
   Gives i (Held.Failure e) r j t = Rests i (Held.Failure e) r j t
   Gives i (Held.Incomplete k) r j t = Rests i (Held.Incomplete k) r j t
@@ -42,7 +41,7 @@ module _ {I A V O E : Type 0} (w : Model I A) (IsOutput : V → O → Type 0) (m
     pub gives : Gives i s r j t
 
 -- `finish`, by the place that is reached and by what is held
-abbrev pub IsFinish : {I E : Type 0} → I → State E → Result (I × Unit {0}) (Answer.Err E E Needed) → Type 0
+abbrev pub IsFinish : {I E : Type 0} → I → State E → IResult I (Unit {0}) E → Type 0
 IsFinish i Held.Running r = r ≡ Ok (i, tt)
 IsFinish i Held.Done r = r ≡ Ok (i, tt)
 IsFinish i (Held.Failure e) r = r ≡ Err (Variant.Failure e)
@@ -71,7 +70,7 @@ module _ {I V E : Type 0} (m : Meaning I V E) (i : I) where
   EndsHolding s = ((o : Outcome V) × m.answers true i o × HoldsEnd o s) ⊎ (m.may_run_out (modes true true true) i × (s ≡ Held.OutOfMemory))
 
   -- what `finish` answers where the items ended at i with an outcome
-  abbrev pub Finishes : Outcome V → Result (I × Unit {0}) (Answer.Err E E Needed) → Type 0
+  abbrev pub Finishes : Outcome V → IResult I (Unit {0}) E → Type 0
   Finishes (Accept n v) r = ⊥
   Finishes Refuse r = r ≡ Ok (i, tt)
   Finishes Fail r = (e : E) × m.blames true i e × (r ≡ Err (Variant.Failure e))
@@ -79,7 +78,7 @@ module _ {I V E : Type 0} (m : Meaning I V E) (i : I) where
   Finishes (Undecided k) r = (needed : Needed) × (size_of needed ≡ k) × (r ≡ Err (Variant.Incomplete needed))
 
   -- and where they ended there
-  abbrev pub FinishesThere : Result (I × Unit {0}) (Answer.Err E E Needed) → Type 0
+  abbrev pub FinishesThere : IResult I (Unit {0}) E → Type 0
   FinishesThere r = ((o : Outcome V) × m.answers true i o × Finishes o r) ⊎ (m.may_run_out (modes true true true) i × (r ≡ Err Variant.OutOfMemory))
 
 -- iterators X, by the parser's state, the place reached and what is held
@@ -109,5 +108,5 @@ module _ {X S I A V O E : Type 0} (w : Model I A) (IsOutput : S → V → O → 
   abbrev pub FinishesSo : X → Type 0
   FinishesSo s =
       held s ≡ Held.Running → (vs : List O) (t : X) → Yields Next s vs t →
-      ((r : Result (I × Unit {0}) (Answer.Err E E Needed)) → IsFinish (place t) (held t) r → r ≡ Ok (place t, tt))
-      × ((u : X) (r : Result (I × Unit {0}) (Answer.Err E E Needed)) → Next t None u → IsFinish (place u) (held u) r → FinishesThere (m (state s)) (place t) r)
+      ((r : IResult I (Unit {0}) E) → IsFinish (place t) (held t) r → r ≡ Ok (place t, tt))
+      × ((u : X) (r : IResult I (Unit {0}) E) → Next t None u → IsFinish (place u) (held u) r → FinishesThere (m (state s)) (place t) r)

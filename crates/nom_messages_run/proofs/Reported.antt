@@ -1,9 +1,8 @@
 -- The report, from the answer on messages that come in pieces.
-use Rattle.std.proofs.Common.{◌≡◌, ℕ, Bool, true, ◌<◌, ◌≤◌, List, [], ◌∷◌, length, slice_index, Vec, Result, ◌∙◌, ap, inl, inr}
+use Rattle.std.proofs.Common.{◌≡◌, ℕ, Bool, true, ◌<◌, ◌≤◌, List, [], ◌∷◌, length, slice_index, Vec, ◌∙◌, ap, inl, inr}
 use Rattle.nom_error.specs.declared.value.Error.{Error}
-use Rattle.nom_error.specs.declared.answer.Needed.{Needed}
-use Rattle.nom_error.specs.declared.answer.Err as Answer
 use Rattle.std.specs.Prelude.{codes}
+use Rattle.nom_error.specs.Answers.{IResult}
 use Rattle.nom_traits.specs.Bytes.{bytes_model}
 use Rattle.nom_growing.specs.Growing.{IsGrown}
 use Rattle.nom_growing.specs.Promises.{HasNoFailure}
@@ -33,7 +32,7 @@ never_fails large = search
 
 pub reported_messages : {A : Type 0} (whole : Bytes) (cuts : List ℕ) (index start : ℕ) →
     (index < length cuts → start ≡ slice_index cuts index) → (length cuts ≤ index → start ≡ length whole.now) → bytes_model.IsKnown whole →
-    (answer : Result (Bytes × Vec Message A) (Answer.Err (Error Bytes) (Error Bytes) Needed)) (text : List ℕ) (status : ℕ) →
+    (answer : IResult Bytes (Vec Message A) (Error Bytes)) (text : List ℕ) (status : ℕ) →
     IsGrown bytes_model AreBodies message_grammar whole cuts index answer → HasNoFailure bytes_model message_grammar →
     IsTold lines_of index start answer text status → IsReport whole.now cuts text status
 unfolding IsReport

@@ -1,11 +1,11 @@
 -- What items until an end show.
-use Rattle.std.proofs.Common.{◌≡◌, ℕ, ◌<◌, Bool, true, false, Result, Ok, Err, Option, Some, None, ◌⊎◌, List, [], ◌∷◌, ◌++◌, inl, inr, refl, sym}
+use Rattle.std.proofs.Common.{◌≡◌, ℕ, ◌<◌, Bool, true, false, Ok, Err, Option, Some, None, ◌⊎◌, List, [], ◌∷◌, ◌++◌, inl, inr, refl, sym}
 use Rattle.std.proofs.Common.{subst, arith, zero, suc}
 use Rattle.std.specs.Prelude.{IsSome, IfSome}
 use Rattle.std.specs.List.{AllZip}
 use Rattle.std.specs.declared.vec.Vec.{Vec}
 use Rattle.nom_error.specs.Errors.{Errors}
-use Rattle.nom_error.specs.Answers.{Refuses, size_of}
+use Rattle.nom_error.specs.Answers.{PResult, Refuses, size_of}
 use Rattle.nom_error.specs.declared.answer.Needed.{Needed}
 use Rattle.nom_error.specs.declared.answer.Err as Answer
 use Rattle.nom_error.specs.declared.answer.Err.TheVariants.{Incomplete, Error, Failure, OutOfMemory}
@@ -33,7 +33,7 @@ use Rattle.nom_multi.specs.declared.till.Step.TheVariants.{End, Item}
 
 -- what is told of an end or an item
 abbrev pub ShowsStep : {I A T V O P E : Type 0} (w : Model I A) (IsEnd : T → O → Type 0) (IsItem : V → P → Type 0) (end : Meaning I T E)
-    (m : Meaning I V E) (outputs errors streaming : Bool) (i : I) → Result (I × Option (Step (Option O) (Option P))) (Answer.Err E (Option E) Needed) → Type 0
+    (m : Meaning I V E) (outputs errors streaming : Bool) (i : I) → PResult I (Step (Option O) (Option P)) E → Type 0
 ShowsStep w IsEnd IsItem end m outputs errors streaming i r =
     ShowsAnswer w (IsStep outputs IsEnd IsItem) (modes true errors streaming) i ((end_or_item end m).answers streaming i)
     ((end_or_item end m).blames streaming i) ((end_or_item end m).may_run_out (modes outputs errors streaming) i) r
@@ -41,7 +41,7 @@ ShowsStep w IsEnd IsItem end m outputs errors streaming i r =
 module _ {I A T V O P E : Type 0} (w : Model I A) (IsEnd : T → O → Type 0) (IsItem : V → P → Type 0) (end : Meaning I T E) (m : Meaning I V E)
     (outputs errors streaming : Bool) (i : I) where
   -- whatever the end answers but a refusal
-  first : (r : Result (I × Option (Step (Option O) (Option P))) (Answer.Err E (Option E) Needed)) → ((x : Option E) → r ≡ Err (Error x) → ⊥) →
+  first : (r : PResult I (Step (Option O) (Option P)) E) → ((x : Option E) → r ≡ Err (Error x) → ⊥) →
       ShowsAnswer w (IsStep outputs IsEnd IsItem) (modes true false streaming) i ((labelled_meaning {T = T ⊎ V} inl end).answers streaming i)
       ((labelled_meaning {T = T ⊎ V} inl end).blames streaming i) ((labelled_meaning {T = T ⊎ V} inl end).may_run_out (modes outputs false streaming) i)
       r → ShowsStep w IsEnd IsItem end m outputs errors streaming i r
@@ -61,7 +61,7 @@ module _ {I A T V O P E : Type 0} (w : Model I A) (IsEnd : T → O → Type 0) (
 
   -- the end is refused
   module _ (f : Answer.Err E (Option E) Needed) (b : Option E) (is : f ≡ Error b) (h : ShowsMeaning w IsEnd end (modes outputs false streaming) i (Err f)) where
-    next : (r : Result (I × Option (Step (Option O) (Option P))) (Answer.Err E (Option E) Needed)) →
+    next : (r : PResult I (Step (Option O) (Option P)) E) →
         ShowsAnswer w (IsStep outputs IsEnd IsItem) (modes true errors streaming) i ((labelled_meaning {T = T ⊎ V} inr m).answers streaming i)
         ((labelled_meaning {T = T ⊎ V} inr m).blames streaming i) ((labelled_meaning {T = T ⊎ V} inr m).may_run_out (modes outputs errors streaming) i) r →
         ShowsStep w IsEnd IsItem end m outputs errors streaming i r
@@ -73,7 +73,7 @@ module _ {I A T V O P E : Type 0} (w : Model I A) (IsEnd : T → O → Type 0) (
     item_stands j x k = next (Ok (j, Some (Item x)))
         (labels_ok w inr IsItem (IsStep outputs IsEnd IsItem) m true (modes outputs errors streaming) i j x (Some (Item x)) k (λ u b. (Item x, refl, b)))
 
-    pub item_stops : (e : Answer.Err E (Option E) Needed) (r : Result (I × Option (Step (Option O) (Option P))) (Answer.Err E (Option E) Needed)) →
+    pub item_stops : (e : Answer.Err E (Option E) Needed) (r : PResult I (Step (Option O) (Option P)) E) →
         ShowsMeaning w IsItem m (modes outputs errors streaming) i (Err e) → r ≡ Err e → ShowsStep w IsEnd IsItem end m outputs errors streaming i r
     item_stops e r k y = subst (λ q. ShowsStep w IsEnd IsItem end m outputs errors streaming i q) (sym y)
         (next (Err e) (labels_err w inr IsItem (IsStep outputs IsEnd IsItem) m true (modes outputs errors streaming) i e k))
@@ -118,7 +118,7 @@ Till w Part Held i j = Collected w (TurnsBy None (λ _ a. till_turn a) (λ _. Pa
 
 -- what items until an end show
 abbrev pub ShowsTill : {I A T V O E : Type 0} (w : Model I A) (errs : Errors I E) (m : Meaning I V E) (end : Meaning I T E)
-    (IsOutput : List V × T → O → Type 0) (mode : Modes) (i : I) → Result (I × Option O) (Answer.Err E (Option E) Needed) → Type 0
+    (IsOutput : List V × T → O → Type 0) (mode : Modes) (i : I) → PResult I O E → Type 0
 ShowsTill w errs m end IsOutput mode i r = ShowsMeaning w IsOutput (many_till_meaning w errs m end) mode i r
 
 module _ {I A T V O E : Type 0} {w : Model I A} (errs : Errors I E) (m : Meaning I V E) (end : Meaning I T E) (IsOutput : List V × T → O → Type 0)
@@ -214,7 +214,7 @@ may_grow None = tt
 -- what is told, at the states before
 pub stands_at : {S R I A T V O P E : Type 0} {w : Model I A} (IsEnd : S → T → O → Type 0) (IsItem : R → V → P → Type 0) (end : S → Meaning I T E)
     (m : R → Meaning I V E) {outputs errors streaming : Bool} {i : I}
-    {r : Result (I × Option (Step (Option O) (Option P))) (Answer.Err E (Option E) Needed)} {a b : S} {x y : R} → a ≡ b → x ≡ y →
+    {r : PResult I (Step (Option O) (Option P)) E} {a b : S} {x y : R} → a ≡ b → x ≡ y →
     ShowsStep w (IsEnd a) (IsItem x) (end a) (m x) outputs errors streaming i r → ShowsStep w (IsEnd b) (IsItem y) (end b) (m y) outputs errors streaming i r
 stands_at {w = w} IsEnd IsItem end m {outputs} {errors} {streaming} {i} {r} {a} {b} {x} {y} e f h =
     subst (λ z. ShowsStep w (IsEnd b) (IsItem z) (end b) (m z) outputs errors streaming i r) f

@@ -1,8 +1,7 @@
 -- Items in a buffer.
-use Rattle.std.specs.Prelude.{◌≡◌, ℕ, Bool, true, false, Option, Some, None, Result, Err, List, ◌++◌, ◌⊎◌, drop, length, set}
+use Rattle.std.specs.Prelude.{◌≡◌, ℕ, Bool, true, false, Option, Some, None, Err, List, ◌++◌, ◌⊎◌, drop, length, set}
 use Rattle.std.specs.List.{AllZip}
-use Rattle.nom_error.specs.declared.answer.Needed.{Needed}
-use Rattle.nom_error.specs.declared.answer.Err as Answer
+use Rattle.nom_error.specs.Answers.{PResult}
 use Rattle.nom_error.specs.declared.answer.Err.TheVariants.{OutOfMemory}
 use Rattle.nom_error.specs.Errors.{Errors}
 use Rattle.nom_traits.specs.Input.{Model}
@@ -35,7 +34,7 @@ StopsFilling {V = V} m n mode RanOut k j =
     ⊎ (m.may_run_out mode j × RanOut)
 
 -- that memory ran out is answered
-abbrev pub IsRanOut : {I O E : Type 0} → Result (I × Option O) (Answer.Err E (Option E) Needed) → Type 0
+abbrev pub IsRanOut : {I O E : Type 0} → PResult I O E → Type 0
 IsRanOut r = r ≡ Err OutOfMemory
 
 -- What a buffer holds afterwards, by whether it was answered that memory ran out: the outputs of all items that were accepted in turn,

@@ -1,9 +1,8 @@
 -- What counts of items show: the number fits, since each item but a first one consumes.
-use Rattle.std.proofs.Common.{◌≡◌, ℕ, ◌+◌, ◌-◌, ◌^◌, ◌<◌, ◌≤◌, Bool, true, false, Result, Ok, Option, Some, ◌⊎◌, inl, inr, List, [], ◌∷◌, ◌++◌}
+use Rattle.std.proofs.Common.{◌≡◌, ℕ, ◌+◌, ◌-◌, ◌^◌, ◌<◌, ◌≤◌, Bool, true, false, Ok, Option, Some, ◌⊎◌, inl, inr, List, [], ◌∷◌, ◌++◌}
 use Rattle.std.proofs.Common.{length, zero, suc, refl, arith, ap, subst}
+use Rattle.nom_error.specs.Answers.{PResult}
 use Rattle.nom_error.specs.declared.kind.ErrorKind.TheVariants as Kind
-use Rattle.nom_error.specs.declared.answer.Needed.{Needed}
-use Rattle.nom_error.specs.declared.answer.Err as Answer
 use Rattle.nom_error.specs.Errors.{Errors}
 use Rattle.nom_error.specs.Modes.{Built, Modes}
 use Rattle.nom_traits.specs.Input.{Model, InputLaws, IsSuffixOf, input_len}
@@ -32,7 +31,7 @@ CountAccumulated before vs n = Accumulated {T = Unit {0}} CountPushes (λ _. Uni
 
 module _ {I A V E : Type 0} {w : Model I A} (errs : Errors I E) (m : Meaning I V E) {mode : Modes} {i : I} (fits : input_len w i < 2 ^ 64)
     {before : Option ℕ} (none : Built mode.outputs (λ n. n ≡ 0) before) where
-  pub count0_shown : {r : Result (I × Option ℕ) (Answer.Err E (Option E) Needed)} →
+  pub count0_shown : {r : PResult I ℕ E} →
       ShowsMeaning w (CountAccumulated before) (many0_count_meaning w errs m) mode i r → ShowsMeaning w IsNumber (many0_count_meaning w errs m) mode i r
   count0_shown h = shown_by (λ n vs x a k. count_of_none (λ _ _. Unit {0}) mode.outputs none vs x
       (omega (arith, fits, few_accepted w errs (any_limits Kind.Many0Count) ⊥ (dropped_meaning m) Kind.Many0Count refl mode.streaming i n vs a)) k) h
@@ -103,7 +102,7 @@ module _ {I A V E : Type 0} (w : Model I A) (l : InputLaws w) (errs : Errors I E
 
 module _ {I A V E : Type 0} {w : Model I A} (l : InputLaws w) (errs : Errors I E) (m : Meaning I V E) (lawful : IsLawful w m) {mode : Modes} {i : I}
     (known : w.IsKnown i) (fits : input_len w i < 2 ^ 64) {before : Option ℕ} (none : Built mode.outputs (λ n. n ≡ 0) before) where
-  pub count1_shown : {j : I} {x : Option ℕ} {r : Result (I × Option ℕ) (Answer.Err E (Option E) Needed)} →
+  pub count1_shown : {j : I} {x : Option ℕ} {r : PResult I ℕ E} →
       ShowsMeaning w (CountAccumulated before) (items_meaning w errs (one_limits (Fresh Kind.Many1Count) true) ⊥ (dropped_meaning m)) mode i (Ok (j, x)) →
       ShowsMeaning w (CountAccumulated x) (items_meaning w errs (any_limits Kind.Many1Count) ⊥ (dropped_meaning m)) mode j r →
       ShowsMeaning w IsNumber (many1_count_meaning w errs m) mode i r

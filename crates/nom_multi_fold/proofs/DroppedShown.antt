@@ -1,7 +1,8 @@
 -- What is shown of a part whose outputs are never built.
-use Rattle.std.proofs.Common.{◌≡◌, Result, Ok, Err, Option, refl, sym, subst}
+use Rattle.std.proofs.Common.{◌≡◌, Ok, Err, Option, refl, sym, subst}
 use Rattle.std.specs.Result.{IsErrAnd, IsErr}
 use Rattle.std.specs.Prelude.{false}
+use Rattle.nom_error.specs.Answers.{PResult}
 use Rattle.nom_error.specs.declared.answer.Needed.{Needed}
 use Rattle.nom_error.specs.declared.answer.Err as Answer
 use Rattle.nom_error.specs.Modes.{Built, Modes, with_outputs}
@@ -14,7 +15,7 @@ use Rattle.nom_internal.proofs.Shown.{accepts, built_error, err_from_residual}
 use Rattle.nom_multi_fold.specs.Dropped.{dropped_meaning}
 
 module _ {I A V O E : Type 0} {w : Model I A} (IsOutput : V → O → Type 0) (m : Meaning I V E) {mode : Modes} {i : I} where
-  pub dropped_err : {e : Answer.Err E (Option E) Needed} {r : Result (I × Option (Unit {0})) (Answer.Err E (Option E) Needed)} →
+  pub dropped_err : {e : Answer.Err E (Option E) Needed} {r : PResult I (Unit {0}) E} →
       ShowsMeaning w IsOutput m (with_outputs false mode) i (Err e) → IsErr r × IsErrAnd r (λ y. y ≡ e) →
       ShowsMeaning w (λ _ _. Unit {0}) (dropped_meaning m) mode i r
   dropped_err {e = e} h q = subst (ShowsMeaning w (λ _ _. Unit {0}) (dropped_meaning m) mode i) (sym (err_from_residual q))

@@ -1,8 +1,7 @@
 -- What folds show, by what is accumulated of items.
-use Rattle.std.proofs.Common.{◌≡◌, Bool, true, false, Result, Option, Some, None, List, [], ◌∷◌, ◌++◌, sym, ◌∙◌, ap, subst}
+use Rattle.std.proofs.Common.{◌≡◌, Bool, true, false, Option, Some, None, List, [], ◌∷◌, ◌++◌, sym, ◌∙◌, ap, subst}
 use Rattle.std.specs.List.{FoldsTo}
-use Rattle.nom_error.specs.declared.answer.Needed.{Needed}
-use Rattle.nom_error.specs.declared.answer.Err as Answer
+use Rattle.nom_error.specs.Answers.{PResult}
 use Rattle.nom_error.specs.Modes.{Built, Modes}
 use Rattle.nom_traits.specs.Input.{Model}
 use Rattle.nom_internal.proofs.Shown.{built_error}
@@ -68,7 +67,7 @@ module _ {K B R T : Type 0} (value : K → Option R) (fold : K → B) (Gives : B
 -- what items show, at an equal state of their part
 pub items_at : {S I A V T K E : Type 0} {w : Model I A} {Pushes : K → T → K → Type 0} {CanPush : K → Type 0} {before : Option K}
     (IsOutput : S → V → T → Type 0) (meaning : S → Meaning I V E) (errs : Errors I E) (limits : Limits) {mode : Modes} {i : I}
-    {r : Result (I × Option K) (Answer.Err E (Option E) Needed)} {a b : S} → a ≡ b →
+    {r : PResult I K E} {a b : S} → a ≡ b →
     ShowsMeaning w (Accumulated Pushes CanPush (IsOutput a) before) (items_meaning w errs limits ⊥ (meaning a)) mode i r →
     ShowsMeaning w (Accumulated Pushes CanPush (IsOutput b) before) (items_meaning w errs limits ⊥ (meaning b)) mode i r
 items_at {w = w} {Pushes} {CanPush} {before} IsOutput meaning errs limits {mode} {i} {r} e h =

@@ -1,12 +1,11 @@
 -- What items by a range of counts show.
-use Rattle.std.proofs.Common.{◌≡◌, ℕ, Bool, true, false, Result, Option, List, subst}
+use Rattle.std.proofs.Common.{◌≡◌, ℕ, Bool, true, false, List, subst}
 use Rattle.std.specs.Prelude.{IsTrue}
 use Rattle.std.specs.declared.ops.Bound.{Bound}
+use Rattle.nom_error.specs.Answers.{PResult}
 use Rattle.nom_error.specs.Errors.{Errors}
 use Rattle.nom_error.specs.Modes.{Modes}
 use Rattle.nom_error.specs.declared.kind.ErrorKind.{ErrorKind}
-use Rattle.nom_error.specs.declared.answer.Needed.{Needed}
-use Rattle.nom_error.specs.declared.answer.Err as Answer
 use Rattle.nom_traits.specs.Input.{Model}
 use Rattle.nom_internal.specs.Meaning.{Meaning, ShowsMeaning}
 use Rattle.nom_repeat.specs.Items.{items_meaning}
@@ -23,7 +22,7 @@ not_so false e f x = let t = f x in absurd (cc (t))
 -- the items that were asked for, by the numbers of the range
 pub range_shown : {I A V O E : Type 0} {w : Model I A} {IsOutput : List V → O → Type 0} {mode : Modes} {i : I} (errs : Errors I E) (kind : ErrorKind)
     (IsSpent : Type 0) (lower upper : Bound ℕ) (Grows : Type 0) (m : Meaning I V E) {a b : ℕ} → a ≡ fewest lower → b ≡ limit (most_items upper) →
-    (IsEmpty IsSpent lower upper → ⊥) → {r : Result (I × Option O) (Answer.Err E (Option E) Needed)} →
+    (IsEmpty IsSpent lower upper → ⊥) → {r : PResult I O E} →
     ShowsMeaning w IsOutput (items_meaning w errs (bounded_limits kind a b) Grows m) mode i r →
     ShowsMeaning w IsOutput (range_meaning w errs kind IsSpent lower upper Grows m) mode i r
 range_shown {w = w} {IsOutput} {mode} {i} errs kind IsSpent lower upper Grows m {a} {b} least most fit {r} h =

@@ -1,7 +1,7 @@
 -- What bounds that don't fit each other show.
-use Rattle.std.proofs.Common.{Bool, true, false, Result, Err, Option, inl, inr, refl, ap}
+use Rattle.std.proofs.Common.{Bool, true, false, Err, Option, inl, inr, refl, ap}
 use Rattle.nom_error.specs.Errors.{Errors}
-use Rattle.nom_error.specs.Answers.{Refuses}
+use Rattle.nom_error.specs.Answers.{PResult, Refuses}
 use Rattle.nom_error.specs.Modes.{Modes}
 use Rattle.nom_error.specs.declared.kind.ErrorKind.{ErrorKind}
 use Rattle.nom_error.specs.declared.answer.Needed.{Needed}
@@ -31,7 +31,7 @@ module _ {I A V O E : Type 0} {w : Model I A} {IsOutput : V → O → Type 0} {m
 
 module _ {I A V O E : Type 0} (w : Model I A) (IsOutput : V → O → Type 0) (mode : Modes) (i : I) (errs : Errors I E) (kind : ErrorKind) (fails : Bool)
     (IsUnfit : Type 0) (m : Meaning I V E) (fit : IsUnfit → ⊥) where
-  fit_of : (o : Outcome V) (r : Result (I × Option O) (Answer.Err E (Option E) Needed)) → Shows w IsOutput mode i (m.blames mode.streaming i) o r →
+  fit_of : (o : Outcome V) (r : PResult I O E) → Shows w IsOutput mode i (m.blames mode.streaming i) o r →
       Shows w IsOutput mode i ((unfit errs kind fails IsUnfit m).blames mode.streaming i) o r
   fit_of (Accept n v) r s = s
   fit_of Refuse r s = (s.0, built_error mode.errors _ _ s.0 (λ e h. inr (fit, h)) s.1, s.2)
@@ -41,7 +41,7 @@ module _ {I A V O E : Type 0} (w : Model I A) (IsOutput : V → O → Type 0) (m
 
 -- they fit, and the part answers
 pub fit_shown : {I A V O E : Type 0} {w : Model I A} {IsOutput : V → O → Type 0} {mode : Modes} {i : I} (errs : Errors I E) (kind : ErrorKind)
-    (fails : Bool) (IsUnfit : Type 0) (m : Meaning I V E) → (IsUnfit → ⊥) → {r : Result (I × Option O) (Answer.Err E (Option E) Needed)} →
+    (fails : Bool) (IsUnfit : Type 0) (m : Meaning I V E) → (IsUnfit → ⊥) → {r : PResult I O E} →
     ShowsMeaning w IsOutput m mode i r → ShowsMeaning w IsOutput (unfit errs kind fails IsUnfit m) mode i r
 fit_shown errs kind fails IsUnfit m fit (RanOut e h) = RanOut e (inr (fit, h))
 fit_shown {w = w} {IsOutput} {mode} {i} errs kind fails IsUnfit m fit {r} (Shown o a s) =

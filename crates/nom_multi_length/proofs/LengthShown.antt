@@ -1,7 +1,6 @@
 -- What is shown after a length.
-use Rattle.std.proofs.Common.{◌≡◌, ℕ, true, Result, Ok, Option, Some, sym}
-use Rattle.nom_error.specs.declared.answer.Needed.{Needed}
-use Rattle.nom_error.specs.declared.answer.Err as Answer
+use Rattle.std.proofs.Common.{◌≡◌, ℕ, true, Ok, Option, Some, sym}
+use Rattle.nom_error.specs.Answers.{PResult}
 use Rattle.nom_error.specs.Modes.{Modes, with_outputs}
 use Rattle.nom_traits.specs.Input.{Model, InputLaws}
 use Rattle.nom_internal.specs.Outcome.{Outcome, Shows, ShowsAnswer}
@@ -15,7 +14,7 @@ use Rattle.nom_multi_length.specs.Lengths.{HasSize, behind_length}
 
 -- what is shown by the number that a length stands for
 module _ {I A V O E : Type 0} (w : Model I A) (IsOutput : V → O → Type 0) (mode : Modes) (i : I) (IsLength : ℕ → Type 0) (n : ℕ) (h : IsLength n) where
-  shows_of : (B : ℕ → E → Type 0) (o : Outcome V) (r : Result (I × Option O) (Answer.Err E (Option E) Needed)) → Shows w IsOutput mode i (B n) o r →
+  shows_of : (B : ℕ → E → Type 0) (o : Outcome V) (r : PResult I O E) → Shows w IsOutput mode i (B n) o r →
       Shows w IsOutput mode i (λ e. OfValue IsLength (λ k. B k e)) o r
   shows_of B (Accept m v) r s = s
   shows_of B Refuse r s = (s.0, built_error mode.errors _ _ s.0 (λ e f. record { value = n; is_value = h; fact = f }) s.1, s.2)
@@ -23,7 +22,7 @@ module _ {I A V O E : Type 0} (w : Model I A) (IsOutput : V → O → Type 0) (m
   shows_of B TooLarge r s = (s.0, record { value = n; is_value = h; fact = s.1 }, s.2)
   shows_of B (Undecided k) r s = s
 
-  length_shown : (N : ℕ → Outcome V → Type 0) (B : ℕ → E → Type 0) (R : ℕ → Type 0) (r : Result (I × Option O) (Answer.Err E (Option E) Needed)) →
+  length_shown : (N : ℕ → Outcome V → Type 0) (B : ℕ → E → Type 0) (R : ℕ → Type 0) (r : PResult I O E) →
       ShowsAnswer w IsOutput mode i (N n) (B n) (R n) r →
       ShowsAnswer w IsOutput mode i (λ o. OfValue IsLength (λ k. N k o)) (λ e. OfValue IsLength (λ k. B k e)) (OfValue IsLength R) r
   length_shown N B R r (RanOut e f) = RanOut e (record { value = n; is_value = h; fact = f })
@@ -32,7 +31,7 @@ module _ {I A V O E : Type 0} (w : Model I A) (IsOutput : V → O → Type 0) (m
 -- a length is read, and what is meant by its number is shown on the rest
 module _ {I A P Q T X Y E : Type 0} (w : Model I A) (l : InputLaws w) (tree : P → Q → T) (IsFirst : P → X → Type 0) (size : X → ℕ)
     (IsResult : T → Y → Type 0) (a : Meaning I P E) (f : Family ℕ I Q E) (mode : Modes) (i : I) where
-  pub behind_ok : (j : I) (x : Option X) (o : X) (n : ℕ) (r : Result (I × Option Y) (Answer.Err E (Option E) Needed)) →
+  pub behind_ok : (j : I) (x : Option X) (o : X) (n : ℕ) (r : PResult I Y E) →
       ShowsMeaning w IsFirst a (with_outputs true mode) i (Ok (j, x)) → x ≡ Some o → n ≡ size o →
       ((u : P) → ShowsMeaning w (λ q. IsResult (tree u q)) (f.at n) mode j r) →
       ShowsMeaning w IsResult (behind_length w tree (HasSize IsFirst size) a f) mode i r

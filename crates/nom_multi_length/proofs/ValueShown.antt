@@ -1,10 +1,10 @@
 -- What is shown on exactly so much of an input.
-use Rattle.std.proofs.Common.{◌≡◌, ℕ, ◌-◌, ◌<◌, ◌≤◌, true, Result, Ok, Err, Option, Some, inl, inr, arith, ◌∙◌, ap, subst, refl}
+use Rattle.std.proofs.Common.{◌≡◌, ℕ, ◌-◌, ◌<◌, ◌≤◌, true, Ok, Err, Option, Some, inl, inr, arith, ◌∙◌, ap, subst, refl}
 use Rattle.nom_error.specs.declared.answer.Needed.{Needed}
 use Rattle.nom_error.specs.declared.answer.Err as Answer
 use Rattle.nom_error.specs.declared.answer.Err.TheVariants.{Incomplete}
 use Rattle.nom_error.specs.declared.kind.ErrorKind.TheVariants as Kind
-use Rattle.nom_error.specs.Answers.{size_of, Refuses}
+use Rattle.nom_error.specs.Answers.{PResult, size_of, Refuses}
 use Rattle.nom_error.specs.Errors.{Errors}
 use Rattle.nom_error.specs.Modes.{Built, Modes, with_streaming}
 use Rattle.nom_traits.specs.Input.{Model, IsBoundary, IsSuffixOf, input_len}
@@ -22,10 +22,10 @@ module _ {I A E : Type 0} (w : Model I A) (errs : Errors I E) (n : ℕ) (mode : 
   abbrev leaf : Meaning I (Slice w) E
   leaf = leaf_meaning (Unit {0}) (λ i. errs.of_kind i Kind.LengthValue) errs.grows (cuts w n)
 
-  abbrev Cut : Result (I × Option I) (Answer.Err E (Option E) Needed) → Type 0
+  abbrev Cut : PResult I I E → Type 0
   Cut = ShowsMeaning w (IsModelledBy w) (window_meaning w errs n) mode i
 
-  abbrev CutLeaf : Result (I × Option I) (Answer.Err E (Option E) Needed) → Type 0
+  abbrev CutLeaf : PResult I I E → Type 0
   CutLeaf = ShowsMeaning w (IsModelledBy w) leaf (with_streaming true mode) i
 
   pub cut_lacks : (whole s : ℕ) (k : Needed) → whole ≡ input_len w i → whole < n → s ≡ n - whole → (0 < s → size_of k ≡ Some s) → Cut (Err (Incomplete k))
@@ -48,18 +48,18 @@ module _ {I A E : Type 0} (w : Model I A) (errs : Errors I E) (n : ℕ) (mode : 
       fixed_shown w (IsModelledBy w) true leaf mode i (Ok (j, x)) shown
 
 module _ {I A V O E : Type 0} (w : Model I A) (IsOutput : V → O → Type 0) (errs : Errors I E) (m : Meaning I V E) (mode : Modes) (i : I) where
-  abbrev Settles : Result (I × Option O) (Answer.Err E (Option E) Needed) → Result (I × Option O) (Answer.Err E (Option E) Needed) → Type 0
+  abbrev Settles : PResult I O E → PResult I O E → Type 0
   Settles = SettlesResult (errs.of_kind i Kind.Complete) errs.grows mode.errors
 
-  abbrev Settled : Result (I × Option O) (Answer.Err E (Option E) Needed) → Type 0
+  abbrev Settled : PResult I O E → Type 0
   Settled = ShowsMeaning w IsOutput (settled_meaning errs m) mode i
 
-  wanting : (k : Option ℕ) (r : Result (I × Option O) (Answer.Err E (Option E) Needed)) (f : Answer.Err E (Option E) Needed) →
+  wanting : (k : Option ℕ) (r : PResult I O E) (f : Answer.Err E (Option E) Needed) →
       m.answers mode.streaming i (Undecided k) → Refuses (errs.of_kind i Kind.Complete) errs.grows mode.errors f → r ≡ Err f → Settled r
   wanting k r f a (inl h) e = RanOut (e ∙ ap Err h.0) (inr (k, a, h.1, h.2))
   wanting k r f a (inr h) e = Shown Refuse (Undecided k, a, refl) (h.0, built_error mode.errors _ _ h.0 (λ y b. (Undecided k, a, b)) h.1, e ∙ ap Err h.2)
 
-  settled_of : (p r : Result (I × Option O) (Answer.Err E (Option E) Needed)) (o : Outcome V) → Settles p r → m.answers mode.streaming i o →
+  settled_of : (p r : PResult I O E) (o : Outcome V) → Settles p r → m.answers mode.streaming i o →
       Shows w IsOutput mode i (m.blames mode.streaming i) o p → Settled r
   settled_of p r (Accept n v) q a s = Shown (Accept n v) (Accept n v, a, refl) (s.0, s.1, s.2, s.3, subst (λ z. Settles z r) s.4 q)
   settled_of p r Refuse q a s = Shown Refuse (Refuse, a, refl)
@@ -68,6 +68,6 @@ module _ {I A V O E : Type 0} (w : Model I A) (IsOutput : V → O → Type 0) (e
   settled_of p r TooLarge q a s = Shown TooLarge (TooLarge, a, refl) (s.0, (TooLarge, a, s.1), subst (λ z. Settles z r) s.2 q)
   settled_of p r (Undecided k) q a s = let t = subst (λ z. Settles z r) s.2 q in wanting k r t.0 a t.1 t.2
 
-  pub settled_shown : (p r : Result (I × Option O) (Answer.Err E (Option E) Needed)) → Settles p r → ShowsMeaning w IsOutput m mode i p → Settled r
+  pub settled_shown : (p r : PResult I O E) → Settles p r → ShowsMeaning w IsOutput m mode i p → Settled r
   settled_shown p r q (RanOut e h) = RanOut (subst (λ z. Settles z r) e q) (inl h)
   settled_shown p r q (Shown o a s) = settled_of p r o q a s

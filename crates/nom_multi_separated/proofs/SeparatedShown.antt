@@ -1,7 +1,8 @@
 -- What a first item shows that may be missing.
-use Rattle.std.proofs.Common.{◌≡◌, ◌<◌, Bool, true, false, Result, Ok, Err, Option, Some, None, List, [], ◌∷◌, ◌++◌, length, inl, refl, sym, ap, subst, arith}
+use Rattle.std.proofs.Common.{◌≡◌, ◌<◌, Bool, true, false, Ok, Err, Option, Some, None, List, [], ◌∷◌, ◌++◌, length, inl, refl, sym, ap, subst, arith}
 use Rattle.std.specs.Prelude.{ltb}
 use Rattle.std.proofs.lemmas.Bool.{le-ltb}
+use Rattle.nom_error.specs.Answers.{PResult}
 use Rattle.nom_error.specs.Errors.{Errors}
 use Rattle.nom_error.specs.declared.answer.Needed.{Needed}
 use Rattle.nom_error.specs.declared.answer.Err as Answer
@@ -32,7 +33,7 @@ accepted_anyway (Shown o a s) = Shown o a s
 -- what is shown of the first item, as it is told
 abbrev pub ShowsFirst : {I A V T K E : Type 0} (w : Model I A) (errs : Errors I E) (Grows : Type 0) (m : Meaning I V E) (Pushes : K → T → K → Type 0)
     (CanPush : K → Type 0) (IsItem : V → T → Type 0) (before : Option K) (outputs errors streaming : Bool) (i : I) →
-    Result (I × Option (Bool × Option K)) (Answer.Err E (Option E) Needed) → Type 0
+    PResult I (Bool × Option K) E → Type 0
 ShowsFirst w errs Grows m Pushes CanPush IsItem before outputs errors streaming i r =
     ShowsAnswer w (Found Pushes CanPush IsItem outputs before) (modes true errors streaming) i ((optional_meaning w errs Grows m).answers streaming i)
     ((optional_meaning w errs Grows m).blames streaming i) ((optional_meaning w errs Grows m).may_run_out (modes outputs errors streaming) i) r
@@ -52,7 +53,7 @@ enough vs = le-ltb (length vs) 0 (omega arith)
 
 module _ {I A V T K E : Type 0} {w : Model I A} (l : InputLaws w) (errs : Errors I E) (Grows : Type 0) (m : Meaning I V E) (Pushes : K → T → K → Type 0)
     (CanPush : K → Type 0) (IsItem : V → T → Type 0) (before : Option K) (outputs errors streaming : Bool) {i : I} (c : NoneYet w (m.answers streaming) i) where
-  abbrev First : Result (I × Option (Bool × Option K)) (Answer.Err E (Option E) Needed) → Type 0
+  abbrev First : PResult I (Bool × Option K) E → Type 0
   First r = ShowsFirst w errs Grows m Pushes CanPush IsItem before outputs errors streaming i r
 
   pub first_missing : {f : Answer.Err E (Option E) Needed} {x : Option E} → f ≡ Error x →
@@ -113,7 +114,7 @@ module _ {I A P V O E : Type 0} {w : Model I A} (l : InputLaws w) (errs : Errors
   nothing_follows known (v ∷ vs) h list built = absurd (cc (h))
 
   -- after one item the further ones follow
-  pub items_follow : (vs : List V) → HasFirstItem true vs → {r : Result (I × Option O) (Answer.Err E (Option E) Needed)} →
+  pub items_follow : (vs : List V) → HasFirstItem true vs → {r : PResult I O E} →
       ShowsMeaning w (λ us. IsResult (vs ++ us)) (further_meaning w errs separator m) mode j r →
       ShowsMeaning w (λ us. IsResult (vs ++ us)) (follows w errs separator m vs) mode j r
   items_follow [] f h = absurd (cc (f.1))

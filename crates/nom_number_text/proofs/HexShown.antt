@@ -1,6 +1,7 @@
 -- What is shown of a number in base 16.
-use Rattle.std.proofs.Common.{◌≡◌, ℕ, true, Option, Some, Result, Ok, Err, take, refl, sym, ◌∙◌, ap, subst, arith}
+use Rattle.std.proofs.Common.{◌≡◌, ℕ, true, Option, Some, Ok, Err, take, refl, sym, ◌∙◌, ap, subst, arith}
 use Rattle.std.proofs.lemmas.List.{take-append-le, take_all}
+use Rattle.nom_error.specs.Answers.{PResult}
 use Rattle.nom_error.specs.declared.kind.ErrorKind.TheVariants as Kind
 use Rattle.nom_error.specs.declared.answer.Needed.{Needed}
 use Rattle.nom_error.specs.declared.answer.Err as Answer
@@ -29,13 +30,13 @@ module _ {I A : Type 0} (w : Model I A) (l : InputLaws w) where
       cut.0 ∙ (sym all ∙ (sym (take-append-le count c.place.front c.place.rest (omega (arith, c.count_is))) ∙ ap (take count) (sym c.place.whole)))
 
 module _ {I A E : Type 0} (w : Model I A) (code : A → ℕ) (errs : Errors I E) (mode : Modes) (i : I) where
-  abbrev RunShown : Result (I × Option I) (Answer.Err E (Option E) Needed) → Type 0
+  abbrev RunShown : PResult I I E → Type 0
   RunShown = ShowsMeaning w (IsModelledBy w) (class_meaning w code errs Class.HexDigit (Some Kind.IsA)) (with_outputs true mode) i
 
-  abbrev HexShown : Result (I × Option ℕ) (Answer.Err E (Option E) Needed) → Type 0
+  abbrev HexShown : PResult I ℕ E → Type 0
   HexShown = ShowsMeaning w (λ t v. v ≡ t) (hex_meaning w code errs) mode i
 
-  pub hex_err : (f : Answer.Err E (Option E) Needed) (r : Result (I × Option ℕ) (Answer.Err E (Option E) Needed)) → RunShown (Err f) → r ≡ Err f → HexShown r
+  pub hex_err : (f : Answer.Err E (Option E) Needed) (r : PResult I ℕ E) → RunShown (Err f) → r ≡ Err f → HexShown r
   hex_err f r h e = subst HexShown (sym e)
       (plain_err w (IsModelledBy w) (λ t v. v ≡ t) (λ _. true) (FirstEight w code) (class_meaning w code errs Class.HexDigit (Some Kind.IsA)) mode i f h)
 

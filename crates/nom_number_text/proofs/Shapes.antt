@@ -1,7 +1,5 @@
 -- The shape of decimal fractions, by the characters that its parsers want.
-use Rattle.std.proofs.Common.{◌≡◌, ℕ, Bool, true, Result, Option, None, subst}
-use Rattle.nom_error.specs.declared.answer.Needed.{Needed}
-use Rattle.nom_error.specs.declared.answer.Err as Answer
+use Rattle.std.proofs.Common.{◌≡◌, ℕ, Bool, true, Option, None, subst}
 use Rattle.nom_error.specs.Errors.{Errors}
 use Rattle.nom_error.specs.Modes.{Modes}
 use Rattle.nom_traits.specs.Input.{Model}
@@ -14,6 +12,7 @@ use Rattle.nom_character_first.specs.FirstItem.{char_meaning}
 use Rattle.nom_combinator.specs.Verdicts.{cut_meaning, opt_meaning}
 use Rattle.std.specs.Prelude.{◌⊎◌, ℤ, FitsSigned}
 use Rattle.std.specs.Int.{w32}
+use Rattle.nom_error.specs.Answers.{PResult}
 use Rattle.nom_error.specs.declared.kind.ErrorKind.{ErrorKind}
 use Rattle.nom_traits.specs.declared.character.AsciiClass.{AsciiClass}
 use Rattle.nom_traits.specs.declared.character.AsciiClass.TheVariants as Class
@@ -52,7 +51,7 @@ module _ {I A E : Type 0} (w : Model I A) (code : A → ℕ) (errs : Errors I E)
       recognized_meaning w (pair_meaning w (opt_meaning (either_char_meaning w code errs s.plus s.minus))
       (pair_meaning w (choice_meaning errs (next_meaning errs whole part)) (opt_meaning exponent)))
 
-  pub shape_shown : (s : Wants) (mode : Modes) (i : I) (r : Result (I × Option I) (Answer.Err E (Option E) Needed)) → s ≡ fraction_wants →
+  pub shape_shown : (s : Wants) (mode : Modes) (i : I) (r : PResult I I E) → s ≡ fraction_wants →
       ShowsMeaning w (IsModelledBy w) (shape_of s) mode i r → ShowsMeaning w (IsModelledBy w) (float_meaning w code errs) mode i r
   shape_shown s mode i r e = subst (λ z. ShowsMeaning w (IsModelledBy w) (shape_of z) mode i r) e
 
@@ -109,6 +108,6 @@ module _ {I A E : Type 0} (w : Model I A) (code : A → ℕ) (errs : Errors I E)
       (preceded_meaning w (either_char_meaning w code errs s.small s.large) (cut_meaning (integer_meaning w code s.signed (λ z. FitsSigned w32 z) errs))))
 
   pub parts_shown : (s : PartWants) (mode : Modes) (i : I)
-      (r : Result (I × Option ((Option ℕ × (I × I)) × Option ℤ)) (Answer.Err E (Option E) Needed)) → s ≡ parts_want →
+      (r : PResult I ((Option ℕ × (I × I)) × Option ℤ) E) → s ≡ parts_want →
       ShowsMeaning w (IsRaw w) (parts_of s) mode i r → ShowsMeaning w (IsRaw w) (parts_meaning w code errs) mode i r
   parts_shown s mode i r e = subst (λ z. ShowsMeaning w (IsRaw w) (parts_of z) mode i r) e

@@ -1,5 +1,5 @@
 -- What was found of a word at the start of an input.
-use Rattle.std.proofs.Common.{◌≡◌, ℕ, ◌+◌, ◌-◌, ◌==◌, ◌<◌, ◌≤◌, Bool, true, false, cond, Option, Some, Result, Ok, Err, List, [], ◌∷◌, ◌++◌, drop}
+use Rattle.std.proofs.Common.{◌≡◌, ℕ, ◌+◌, ◌-◌, ◌==◌, ◌<◌, ◌≤◌, Bool, true, false, cond, Option, Some, Ok, Err, List, [], ◌∷◌, ◌++◌, drop}
 use Rattle.std.proofs.Common.{get_or, length, refl, sym, ◌∙◌, ap, subst, arith, length-append, append_assoc}
 use Rattle.std.specs.Char.{to_ascii_lowercase}
 use Rattle.std.proofs.lemmas.Bool.Decides.{nat_tests}
@@ -8,7 +8,7 @@ use Rattle.nom_error.specs.declared.kind.ErrorKind.TheVariants as Kind
 use Rattle.nom_error.specs.declared.answer.Needed.{Needed}
 use Rattle.nom_error.specs.declared.answer.Err as Answer
 use Rattle.nom_error.specs.declared.answer.Err.TheVariants.{Incomplete}
-use Rattle.nom_error.specs.Answers.{Refuses, size_of}
+use Rattle.nom_error.specs.Answers.{PResult, Refuses, size_of}
 use Rattle.nom_error.specs.Errors.{Errors}
 use Rattle.nom_error.specs.Modes.{Built, Modes}
 use Rattle.nom_traits.specs.Slices.{Slice, IsFirst, IsModelledBy}
@@ -131,7 +131,7 @@ module _ {I A : Type 0} (w : Model I A) (code : A → ℕ) (word : List ℕ) (i 
             }
 
 module _ {I A E : Type 0} (w : Model I A) (code : A → ℕ) (errs : Errors I E) (mode : Modes) (i : I) (word letters : List ℕ) (same : letters ≡ word) where
-  abbrev WordShown : Result (I × Option I) (Answer.Err E (Option E) Needed) → Type 0
+  abbrev WordShown : PResult I I E → Type 0
   WordShown = ShowsMeaning w (IsModelledBy w) (word_meaning w code errs word) mode i
 
   pub word_stands : (j : I) (x : Option I) → (f : IsWordAt w code letters i (Found.Stands j)) →

@@ -1,6 +1,7 @@
 -- A member's part in a round of a permutation.
 use Rattle.std.specs.Prelude.{◌≡◌, ◌+◌, Bool, true, false, Result, Ok, Err, Option, Some, None, refl}
 use Rattle.std.proofs.Common.{sym, ◌∙◌, ap, subst}
+use Rattle.nom_error.specs.Answers.{PResult}
 use Rattle.nom_error.specs.declared.answer.Needed.{Needed}
 use Rattle.nom_error.specs.declared.answer.Err as Answer
 use Rattle.nom_error.specs.declared.answer.Err.TheVariants.{Incomplete, Error, Failure, OutOfMemory}
@@ -46,7 +47,7 @@ module _ {I A V O E : Type 0} (w : Model I A) (IsOutput : V → O → Type 0) (o
     (IsError : E → Type 0) (RunsOut : Type 0) (Held : V → Type 0) (before slot : Slot O) (fills : (v : V) → SlotHolds outputs IsOutput (Some v) slot → Held v)
   where
     -- a member's answer, and the place that it fills
-    pub fills_shown : (q : Result (I × Option O) (Answer.Err E (Option E) Needed)) (r : Result I (Answer.Err E (Option E) Needed)) →
+    pub fills_shown : (q : PResult I O E) (r : Result I (Answer.Err E (Option E) Needed)) →
         ShowsAnswer w IsOutput (modes outputs errors s) i Answers IsError RunsOut q → Fills before q slot r →
         ShowsAnswer w (λ v _. Held v) (modes true errors s) i Answers IsError RunsOut (as_answer r)
     fills_shown q r (RanOut e h) f = let g = rw e at f in RanOut (ap as_answer g.1) h
@@ -91,7 +92,7 @@ module _ {I A T E : Type 0} (w : Model I A) (Held Held' : T → Type 0) (mode : 
   kept_shown j f (Shown o a h) = Shown o a (kept_of j f o h)
 
 -- a place that isn't filled stays
-fills_refused : {I O E : Type 0} (Fact : Type 0) (before slot : Slot O) (q : Result (I × Option O) (Answer.Err E (Option E) Needed))
+fills_refused : {I O E : Type 0} (Fact : Type 0) (before slot : Slot O) (q : PResult I O E)
     (r : Result I (Answer.Err E (Option E) Needed)) → (slot ≡ before → Fact) → Fills before q slot r → WhereRefused Fact r
 fills_refused Fact before slot (Ok a) r f h = subst (λ z. WhereRefused Fact z) (sym h.1) tt
 fills_refused {I = I} {E = E} Fact before slot (Err e) r f h = subst (λ z. WhereRefused Fact z) (sym h.1) (of e)
@@ -218,7 +219,7 @@ taken_built outputs IsOutput x v slot r e h f =
 
 module _ {I A V O E : Type 0} (w : Model I A) (IsOutput : V → O → Type 0) (Joins : E → E → E → Type 0) (Grows : Type 0) (m : Meaning I V E)
     (outputs errors s : Bool) (i : I) (slot : Slot O) where
-  fill_counted : (q : Result (I × Option O) (Answer.Err E (Option E) Needed)) (r : Result I (Answer.Err E (Option E) Needed)) → Fills Waiting q slot r →
+  fill_counted : (q : PResult I O E) (r : Result I (Answer.Err E (Option E) Needed)) → Fills Waiting q slot r →
       waits slot + applies (Some r) ≡ 1
   fill_counted (Ok a) r h = rw (h.0, h.1) refl
   fill_counted (Err f) r h = rw (h.0, h.1) refl

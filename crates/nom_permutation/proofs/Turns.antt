@@ -1,6 +1,7 @@
 -- How a permutation runs its rounds.
 use Rattle.std.specs.Prelude.{◌≡◌, ℕ, Bool, true, List, [], Result, Ok, Err, Option, Some, None, refl}
 use Rattle.std.proofs.Common.{sym, ap, subst, zero, suc}
+use Rattle.nom_error.specs.Answers.{PResult}
 use Rattle.nom_error.specs.declared.answer.Needed.{Needed}
 use Rattle.nom_error.specs.declared.answer.Err as Answer
 use Rattle.nom_error.specs.declared.answer.Err.TheVariants.{Incomplete, Error, Failure, OutOfMemory}
@@ -86,12 +87,12 @@ module _ {I A T E : Type 0} (w : Model I A) (l : InputLaws w) (Joins : E → E �
 module _ {I A T O E : Type 0} (w : Model I A) (Joins : E → E → E → Type 0) (Closes : I → E → E → Type 0) (Grows : Type 0) (ms : List (Member I T E))
     (IsOutput : T → O → Type 0) (outputs errors s : Bool) where
   -- what n rounds after the trees t show
-  abbrev pub ShowsRounds : ℕ → T → I → Result (I × Option O) (Answer.Err E (Option E) Needed) → Type 0
+  abbrev pub ShowsRounds : ℕ → T → I → PResult I O E → Type 0
   ShowsRounds n t i r = ShowsMeaning w IsOutput (rounds_meaning w Joins Closes Grows ms n t) (modes outputs errors s) i r
 
 module _ {I A T O E : Type 0} (w : Model I A) (l : InputLaws w) (Joins : E → E → E → Type 0) (Closes : I → E → E → Type 0) (Grows : Type 0)
     (ms : List (Member I T E)) (IsOutput : T → O → Type 0) (outputs errors s : Bool) where
-  abbrev Rounds : ℕ → T → I → Result (I × Option O) (Answer.Err E (Option E) Needed) → Type 0
+  abbrev Rounds : ℕ → T → I → PResult I O E → Type 0
   Rounds n t i r = ShowsRounds w Joins Closes Grows ms IsOutput outputs errors s n t i r
 
   -- once every member is applied, the rounds accept where they stand
@@ -103,7 +104,7 @@ module _ {I A T O E : Type 0} (w : Model I A) (l : InputLaws w) (Joins : E → E
     -- a round accepts: what the rounds after it show, they show with it
     pub rounds_more : (n m : ℕ) (j : I) → n ≡ suc m →
         ShowsRound w (modes outputs errors s) i Held (round_meaning Closes Grows t (tried Joins Grows ms t)) (Ok j) → w.IsKnown j × (u : T) × Held u ×
-        ((r : Result (I × Option O) (Answer.Err E (Option E) Needed)) → Rounds m u j r → Rounds n t i r)
+        ((r : PResult I O E) → Rounds m u j r → Rounds n t i r)
     rounds_more n m j e h =
         let a = round_meaning Closes Grows t (tried Joins Grows ms t) in
         let next = rounds_meaning w Joins Closes Grows ms m in

@@ -1,6 +1,7 @@
 -- A round of some members, as a round of these and of one more that isn't tried yet.
 use Rattle.std.specs.Prelude.{◌≡◌, Bool, true, Result, Ok, Err, Option, Some, None, List, [], ◌∷◌, refl}
 use Rattle.std.proofs.Common.{ap, ◌∙◌, inl, inr}
+use Rattle.nom_error.specs.Answers.{PResult}
 use Rattle.nom_error.specs.declared.answer.Needed.{Needed}
 use Rattle.nom_error.specs.declared.answer.Err as Answer
 use Rattle.nom_error.specs.declared.answer.Err.TheVariants.{Incomplete, Error, Failure, OutOfMemory}
@@ -145,7 +146,7 @@ where_refused f (Err OutOfMemory) h = tt
 module _ {I A T U E : Type 0} (w : Model I A) (mode : Modes) (i : I) (Held : T → Type 0) (Wide : U → Type 0) (put : T → U)
     (held : (v : T) → Held v → Wide (put v)) where
   wider_shown : (F : Outcome T → Type 0) (G : Outcome U → Type 0) (Q : E → Type 0) (S : Type 0) → ((o : Outcome T) → F o → G (labelled put o)) →
-      (r : Result (I × Option (Unit {0})) (Answer.Err E (Option E) Needed)) → ShowsAnswer w (λ v _. Held v) (with_outputs true mode) i F Q S r →
+      (r : PResult I (Unit {0}) E) → ShowsAnswer w (λ v _. Held v) (with_outputs true mode) i F Q S r →
       ShowsAnswer w (λ v _. Wide v) (with_outputs true mode) i G Q S r
   wider_shown F G Q S f r (RanOut e h) = RanOut e h
   wider_shown F G Q S f r (Shown (Accept n v) a h) =

@@ -1,5 +1,6 @@
 -- What a round of a permutation shows of its members.
 use Rattle.std.specs.Prelude.{◌≡◌, ℕ, Bool, true, Result, Ok, Err, Option, Some, None}
+use Rattle.nom_error.specs.Answers.{PResult}
 use Rattle.nom_error.specs.declared.answer.Needed.{Needed}
 use Rattle.nom_error.specs.declared.answer.Err as Answer
 use Rattle.nom_error.specs.declared.answer.Err.TheVariants.{Incomplete, Error, Failure, OutOfMemory}
@@ -34,7 +35,7 @@ applies (Some (Ok j)) = 1
 applies (Some (Err f)) = 0
 
 -- what a round answers, as an answer with nothing built
-abbrev pub as_answer : {I E : Type 0} → Result I (Answer.Err E (Option E) Needed) → Result (I × Option (Unit {0})) (Answer.Err E (Option E) Needed)
+abbrev pub as_answer : {I E : Type 0} → Result I (Answer.Err E (Option E) Needed) → PResult I (Unit {0}) E
 as_answer (Ok j) = Ok (j, Some tt)
 as_answer (Err f) = Err f
 

@@ -1,5 +1,6 @@
 -- How a member of a permutation is tried, and how its answer fills its place.
 use Rattle.std.specs.Prelude.{◌≡◌, Result, Ok, Err, Option, Some, None}
+use Rattle.nom_error.specs.Answers.{PResult}
 use Rattle.nom_error.specs.declared.answer.Needed.{Needed}
 use Rattle.nom_error.specs.declared.answer.Err as Answer
 use Rattle.nom_error.specs.declared.answer.Err.TheVariants.{Incomplete, Error, Failure, OutOfMemory}
@@ -11,7 +12,7 @@ use Rattle.nom_internal.specs.Meaning.{Meaning, ShowsMeaning}
 use Rattle.nom_internal.specs.Choice.{ShowsNext}
 
 -- a member's answer fills its place: an acceptance with its output; else the place stays
-abbrev pub Fills : {I O E : Type 0} → Slot O → Result (I × Option O) (Answer.Err E (Option E) Needed) → Slot O →
+abbrev pub Fills : {I O E : Type 0} → Slot O → PResult I O E → Slot O →
     Result I (Answer.Err E (Option E) Needed) → Type 0
 Fills before (Ok a) slot r = (slot ≡ Applied a.1) × (r ≡ Ok a.0)
 Fills before (Err f) slot r = (slot ≡ before) × (r ≡ Err f)
@@ -20,13 +21,13 @@ Fills before (Err f) slot r = (slot ≡ before) × (r ≡ Err f)
 abbrev pub TriesFirst : {I A V O E : Type 0} → Model I A → (V → O → Type 0) → Meaning I V E → Modes → I → Slot O → Slot O →
     Result I (Answer.Err E (Option E) Needed) → Type 0
 TriesFirst {I} {A} {V} {O} {E} w IsOutput m mode i before slot r =
-    (q : Result (I × Option O) (Answer.Err E (Option E) Needed)) × ShowsMeaning w IsOutput m mode i q × Fills before q slot r
+    (q : PResult I O E) × ShowsMeaning w IsOutput m mode i q × Fills before q slot r
 
 module _ {I A V O E : Type 0} (w : Model I A) (IsOutput : V → O → Type 0) (Joins : E → E → E → Type 0) (Grows : Type 0) (m : Meaning I V E)
     (mode : Modes) (i : I) where
   -- a try after refusals with the error x
   abbrev pub TriesNext : Option E → Slot O → Slot O → Result I (Answer.Err E (Option E) Needed) → Type 0
-  TriesNext x before slot r = (q : Result (I × Option O) (Answer.Err E (Option E) Needed)) × ShowsNext w IsOutput Joins Grows m mode i x q ×
+  TriesNext x before slot r = (q : PResult I O E) × ShowsNext w IsOutput Joins Grows m mode i x q ×
       Fills before q slot r
 
   -- a waiting member's try, after what the round answered so far: only a refusal is gone on from

@@ -1,6 +1,6 @@
 -- What items in turn show, of which one may be stuck.
-use Rattle.std.proofs.Common.{◌≡◌, ℕ, ◌<◌, Bool, true, false, Result, Ok, Err, Option, Some, None, ◌⊎◌, List, [], ◌∷◌, ◌++◌, inl, inr, refl, arith, zero, suc}
-use Rattle.nom_error.specs.Answers.{size_of}
+use Rattle.std.proofs.Common.{◌≡◌, ℕ, ◌<◌, Bool, true, false, Ok, Err, Option, Some, None, ◌⊎◌, List, [], ◌∷◌, ◌++◌, inl, inr, refl, arith, zero, suc}
+use Rattle.nom_error.specs.Answers.{PResult, size_of}
 use Rattle.nom_error.specs.declared.answer.Needed.{Needed}
 use Rattle.nom_error.specs.declared.answer.Err as Answer
 use Rattle.nom_error.specs.declared.answer.Err.TheVariants.{Incomplete, Failure, OutOfMemory}
@@ -52,7 +52,7 @@ Chain w Part Held i j = Collected w (TurnsBy None (λ _ a. chain_turn a) (λ _. 
 
 module _ {I A V X E : Type 0} {w : Model I A} (Grows : Type 0) (m : Meaning I (Read V) E) (IsOutput : List V → X → Type 0)
     (outputs errors streaming : Bool) {Held : List V → Type 0} {i j : I} (c : Chain w (m.answers streaming) Held i j) where
-  abbrev ShowsIt : Result (I × Option (Told.Read (Option X))) (Answer.Err E (Option E) Needed) → Type 0
+  abbrev ShowsIt : PResult I (Told.Read (Option X)) E → Type 0
   ShowsIt = ShowsRead w IsOutput (chain_meaning w Grows m) outputs errors streaming i
 
   -- the next one is refused

@@ -1,7 +1,7 @@
 -- What operators with levels show, and what is stuck or closed.
-use Rattle.std.proofs.Common.{◌≡◌, ℕ, ◌<◌, ◌≤◌, ltb, lt-ltb, le-ltb, Bool, true, false, Result, Ok, Err, Option, Some, inl, inr, refl, sym, ap, subst}
+use Rattle.std.proofs.Common.{◌≡◌, ℕ, ◌<◌, ◌≤◌, ltb, lt-ltb, le-ltb, Bool, true, false, Ok, Err, Option, Some, inl, inr, refl, sym, ap, subst}
 use Rattle.std.specs.Result.{IsErrAnd, IsErr}
-use Rattle.nom_error.specs.Answers.{Refuses}
+use Rattle.nom_error.specs.Answers.{PResult, Refuses}
 use Rattle.nom_error.specs.Errors.{Errors}
 use Rattle.nom_error.specs.Modes.{Built, modes}
 use Rattle.nom_error.specs.declared.answer.Needed.{Needed}
@@ -29,7 +29,7 @@ use Rattle.nom_precedence.proofs.ReadShown.{is_whole, is_stuck}
 
 -- what an operator shows, which is built in every mode
 abbrev pub ShowsOwn : {I A P H E : Type 0} (w : Model I A) (errs : Errors I E) (IsBinary : P → ℕ × H → Type 0) (levels : ℕ) (m : Meaning I P E)
-    (outputs errors streaming : Bool) (i : I) → Result (I × Option (ℕ × H)) (Answer.Err E (Option E) Needed) → Type 0
+    (outputs errors streaming : Bool) (i : I) → PResult I (ℕ × H) E → Type 0
 ShowsOwn w errs IsBinary levels m outputs errors streaming i r = ShowsAnswer w (IsOwn IsBinary) (modes true errors streaming) i
     ((operator_meaning errs (HasLevel IsBinary (λ o. o.0)) levels m).answers streaming i)
     ((operator_meaning errs (HasLevel IsBinary (λ o. o.0)) levels m).blames streaming i)
@@ -74,7 +74,7 @@ module _ {I A P H E : Type 0} {w : Model I A} (errs : Errors I E) (IsBinary : P 
             ap Err g.2,
           )
 
-  pub own_err : {f : Answer.Err E (Option E) Needed} {r : Result (I × Option (ℕ × H)) (Answer.Err E (Option E) Needed)} →
+  pub own_err : {f : Answer.Err E (Option E) Needed} {r : PResult I (ℕ × H) E} →
       ShowsMeaning w IsBinary m (modes true errors streaming) i (Err f) → IsErr r × IsErrAnd r (λ y. y ≡ f) →
       ShowsOwn w errs IsBinary levels m outputs errors streaming i r
   own_err {f} {r} h q = output_err (passing_err w IsBinary (λ _ (_ : ℕ × H). Unit {0}) (operator_case errs (HasLevel IsBinary (λ o. o.0)) levels) m
@@ -109,13 +109,13 @@ IsWholeOf IsOutput Stuck x = ⊥
 -- a part whose output is built in every mode, and another after it
 module _ {I A V W T X Z E : Type 0} {w : Model I A} (l : InputLaws w) (tree : V → W → T) (m : Meaning I V E) (b : Meaning I (Read W) E)
     (IsFirst : V → X → Type 0) (IsResult : T → Z → Type 0) (outputs errors streaming : Bool) {i : I} where
-  pub own_first_err : {f : Answer.Err E (Option E) Needed} {r : Result (I × Option (Told.Read (Option Z))) (Answer.Err E (Option E) Needed)} →
+  pub own_first_err : {f : Answer.Err E (Option E) Needed} {r : PResult I (Told.Read (Option Z)) E} →
       ShowsAnswer w IsFirst (modes true errors streaming) i (m.answers streaming i) (m.blames streaming i)
       (m.may_run_out (modes outputs errors streaming) i) (Err f) → IsErr r × IsErrAnd r (λ y. y ≡ f) →
       ShowsRead w IsResult (read_both w tree (labelled_meaning Whole m) b) outputs errors streaming i r
   own_first_err {f} h q = then_err l (labels_err w Whole IsFirst (IsWholeOf IsFirst) (with_want outputs m) true (modes true errors streaming) i f h) q
 
-  pub own_goes : {j : I} {x : Option X} {r : Result (I × Option (Told.Read (Option Z))) (Answer.Err E (Option E) Needed)} →
+  pub own_goes : {j : I} {x : Option X} {r : PResult I (Told.Read (Option Z)) E} →
       ShowsAnswer w IsFirst (modes true errors streaming) i (m.answers streaming i) (m.blames streaming i)
       (m.may_run_out (modes outputs errors streaming) i) (Ok (j, x)) → ((v : V) → Built true (IsFirst v) x →
       ShowsAnswer w (λ u. IsRead outputs IsResult (both tree (Whole v) u)) (modes true errors streaming) j (b.answers streaming j)
@@ -132,7 +132,7 @@ module _ {I A V W T X Z E : Type 0} {w : Model I A} (l : InputLaws w) (tree : V 
 
   module _ {Y : Type 0} (IsSecond : W → Y → Type 0) where
     pub own_second_err : {j : I} {x : Option X} {f : Answer.Err E (Option E) Needed}
-        {r : Result (I × Option (Told.Read (Option Z))) (Answer.Err E (Option E) Needed)} →
+        {r : PResult I (Told.Read (Option Z)) E} →
         ShowsAnswer w IsFirst (modes true errors streaming) i (m.answers streaming i) (m.blames streaming i)
         (m.may_run_out (modes outputs errors streaming) i) (Ok (j, x)) → ShowsRead w IsSecond b outputs errors streaming j (Err f) →
         IsErr r × IsErrAnd r (λ y. y ≡ f) → ShowsRead w IsResult (read_both w tree (labelled_meaning Whole m) b) outputs errors streaming i r
@@ -166,7 +166,7 @@ own_is P {x} {y} e b = let same : b.0 ≡ y = cc (b.1, e) in subst P same b.2
 
 -- a part that is told, closed
 pub closed_read : {I A V X E : Type 0} {w : Model I A} (IsOutput : V → X → Type 0) (m : Meaning I (Read V) E) (Closes : I → E → E → Type 0)
-    (Grows : Type 0) (outputs errors streaming : Bool) {i : I} {before r : Result (I × Option (Told.Read (Option X))) (Answer.Err E (Option E) Needed)}
+    (Grows : Type 0) (outputs errors streaming : Bool) {i : I} {before r : PResult I (Told.Read (Option X)) E}
     → ShowsRead w IsOutput m outputs errors streaming i before → ClosesResult (Closes i) Grows before r →
     ShowsRead w IsOutput (closed_meaning Closes Grows m) outputs errors streaming i r
 closed_read {w = w} IsOutput m Closes Grows outputs errors streaming {i} {before} {r} h g =
@@ -201,7 +201,7 @@ module _ {I A V X Z E : Type 0} {w : Model I A} (errs : Errors I E) (IsOutput : 
         ap Err g.2,
       )
 
-  pub freed_err : {f : Answer.Err E (Option E) Needed} {r : Result (I × Option Z) (Answer.Err E (Option E) Needed)} →
+  pub freed_err : {f : Answer.Err E (Option E) Needed} {r : PResult I Z E} →
       ShowsRead w IsOutput m outputs errors streaming i (Err f) → IsErr r × IsErrAnd r (λ y. y ≡ f) →
       ShowsMeaning w IsResult (freed_meaning w errs m) (modes outputs errors streaming) i r
   freed_err {f} {r} h q = subst (λ y. ShowsMeaning w IsResult (freed_meaning w errs m) (modes outputs errors streaming) i y) (sym (err_from_residual q))

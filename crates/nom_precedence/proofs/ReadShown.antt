@@ -1,6 +1,7 @@
 -- What parts show in sequence, of which one may be stuck.
-use Rattle.std.proofs.Common.{◌≡◌, Bool, true, false, Result, Ok, Err, Option, Some, None, refl, sym, subst, []}
+use Rattle.std.proofs.Common.{◌≡◌, Bool, true, false, Ok, Err, Option, Some, None, refl, sym, subst, []}
 use Rattle.std.specs.Result.{IsErrAnd, IsErr}
+use Rattle.nom_error.specs.Answers.{PResult}
 use Rattle.nom_error.specs.declared.answer.Needed.{Needed}
 use Rattle.nom_error.specs.declared.answer.Err as Answer
 use Rattle.nom_error.specs.declared.answer.Err.TheVariants.{OutOfMemory}
@@ -21,7 +22,7 @@ use Rattle.nom_precedence.specs.declared.read.Read.TheVariants as Is
 
 -- where memory didn't run out, it doesn't matter where it may
 pub not_ran_out : {I A V O E : Type 0} {w : Model I A} {IsOutput : V → O → Type 0} {mode : Modes} {i : I} {Answers : Outcome V → Type 0}
-    {IsError : E → Type 0} {RunsOut : Type 0} (Other : Type 0) {r : Result (I × Option O) (Answer.Err E (Option E) Needed)} →
+    {IsError : E → Type 0} {RunsOut : Type 0} (Other : Type 0) {r : PResult I O E} →
     (r ≡ Err OutOfMemory → ⊥) → ShowsAnswer w IsOutput mode i Answers IsError RunsOut r → ShowsAnswer w IsOutput mode i Answers IsError Other r
 not_ran_out Other f (RanOut e h) = absurd (f e)
 not_ran_out Other f (Shown o a s) = Shown o a s
@@ -91,7 +92,7 @@ is_stuck outputs IsOutput Stuck b = refl
 module _ {I A V W T X Z E : Type 0} {w : Model I A} (l : InputLaws w) (tree : V → W → T) (a : Meaning I (Read V) E) (b : Meaning I (Read W) E)
     (IsFirst : V → X → Type 0) (IsResult : T → Z → Type 0) (outputs errors streaming : Bool) {i : I} where
   -- the first part isn't accepted
-  pub first_err : {f : Answer.Err E (Option E) Needed} {r : Result (I × Option (Told.Read (Option Z))) (Answer.Err E (Option E) Needed)} →
+  pub first_err : {f : Answer.Err E (Option E) Needed} {r : PResult I (Told.Read (Option Z)) E} →
       ShowsRead w IsFirst a outputs errors streaming i (Err f) → IsErr r × IsErrAnd r (λ y. y ≡ f) →
       ShowsRead w IsResult (read_both w tree a b) outputs errors streaming i r
   first_err h q = then_err l h q
@@ -114,7 +115,7 @@ module _ {I A V W T X Z E : Type 0} {w : Model I A} (l : InputLaws w) (tree : V 
       )
 
   -- it is whole, and what follows answers for both
-  pub first_whole : {j : I} {x : Option X} {r : Result (I × Option (Told.Read (Option Z))) (Answer.Err E (Option E) Needed)} →
+  pub first_whole : {j : I} {x : Option X} {r : PResult I (Told.Read (Option Z)) E} →
       ShowsRead w IsFirst a outputs errors streaming i (Ok (j, Some (Is.Whole x))) →
       ((v : V) → Built outputs (IsFirst v) x → ShowsAnswer w (λ u. IsRead outputs IsResult (both tree (Whole v) u)) (modes true errors streaming) j
       (b.answers streaming j) (b.blames streaming j) (b.may_run_out (modes outputs errors streaming) j) r) →
@@ -130,7 +131,7 @@ module _ {I A V W T X Z E : Type 0} {w : Model I A} (l : InputLaws w) (tree : V 
   module _ {Y : Type 0} (IsSecond : W → Y → Type 0) where
     -- what follows it isn't accepted
     pub second_err : {j : I} {x : Option X} {f : Answer.Err E (Option E) Needed}
-        {r : Result (I × Option (Told.Read (Option Z))) (Answer.Err E (Option E) Needed)} →
+        {r : PResult I (Told.Read (Option Z)) E} →
         ShowsRead w IsFirst a outputs errors streaming i (Ok (j, Some (Is.Whole x))) → ShowsRead w IsSecond b outputs errors streaming j (Err f) →
         IsErr r × IsErrAnd r (λ y. y ≡ f) → ShowsRead w IsResult (read_both w tree a b) outputs errors streaming i r
     second_err h k q = first_whole h (λ v p. output_err k q)

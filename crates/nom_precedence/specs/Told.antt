@@ -1,9 +1,8 @@
 -- What is told of what was read.
-use Rattle.std.specs.Prelude.{◌≡◌, ℕ, Bool, true, List, [], ◌∷◌, Option, Some, Result}
+use Rattle.std.specs.Prelude.{◌≡◌, ℕ, Bool, true, List, [], ◌∷◌, Option, Some}
 use Rattle.std.specs.List.{AllZip}
+use Rattle.nom_error.specs.Answers.{PResult}
 use Rattle.nom_error.specs.Modes.{Built, modes}
-use Rattle.nom_error.specs.declared.answer.Needed.{Needed}
-use Rattle.nom_error.specs.declared.answer.Err as Answer
 use Rattle.nom_traits.specs.Input.{Model}
 use Rattle.nom_internal.specs.Outcome.{ShowsAnswer}
 use Rattle.nom_internal.specs.Meaning.{Meaning}
@@ -24,7 +23,7 @@ IsRead builds IsOutput Stuck Is.Stuck = Unit {0}
 
 -- what a part answers that may be stuck: that is told in every mode
 abbrev pub ShowsRead : {I A V X E : Type 0} → Model I A → (V → X → Type 0) → Meaning I (Read V) E → (outputs errors streaming : Bool) → I →
-    Result (I × Option (Told.Read (Option X))) (Answer.Err E (Option E) Needed) → Type 0
+    PResult I (Told.Read (Option X)) E → Type 0
 ShowsRead w IsOutput m outputs errors streaming i r = ShowsAnswer w (IsRead outputs IsOutput) (modes true errors streaming) i (m.answers streaming i)
     (m.blames streaming i) (m.may_run_out (modes outputs errors streaming) i) r
 

@@ -1,7 +1,7 @@
 -- What bounds that don't fit each other show.
-use Rattle.std.proofs.Common.{◌≡◌, Bool, true, false, Result, Err, Option, inl, inr, refl, ap}
+use Rattle.std.proofs.Common.{◌≡◌, Bool, true, false, Err, Option, inl, inr, refl, ap}
 use Rattle.nom_error.specs.Errors.{Errors}
-use Rattle.nom_error.specs.Answers.{Refuses}
+use Rattle.nom_error.specs.Answers.{PResult, Refuses}
 use Rattle.nom_error.specs.Modes.{Modes}
 use Rattle.nom_error.specs.declared.kind.ErrorKind.{ErrorKind}
 use Rattle.nom_error.specs.declared.answer.Needed.{Needed}
@@ -29,7 +29,7 @@ module _ {I A V O E : Type 0} {w : Model I A} {IsOutput : V → O → Type 0} {m
     inverted_refuses false t g = absurd (cc (t))
 
     -- they fit, and the part answers
-    pub not_inverted : (fails test : Bool) → test ≡ false → {r : Result (I × Option O) (Answer.Err E (Option E) Needed)} →
+    pub not_inverted : (fails test : Bool) → test ≡ false → {r : PResult I O E} →
         ShowsMeaning w IsOutput m mode i r → ShowsMeaning w IsOutput (error_if errs kind fails test m) mode i r
     not_inverted fails true t h = absurd (cc (t))
     not_inverted fails false t h = h

@@ -1,5 +1,5 @@
 -- What items within limits show.
-use Rattle.std.proofs.Common.{◌≡◌, ℕ, ◌<◌, Bool, true, false, Result, Ok, Err, Option, Some, None, ◌⊎◌, List, ◌∷◌, [], ◌++◌, length, refl, zero, suc}
+use Rattle.std.proofs.Common.{◌≡◌, ℕ, ◌<◌, Bool, true, false, Ok, Err, Option, Some, None, ◌⊎◌, List, ◌∷◌, [], ◌++◌, length, refl, zero, suc}
 use Rattle.std.proofs.Common.{arith, inl, inr, ap, subst, sym}
 use Rattle.std.specs.Prelude.{ltb, if◌then◌else◌}
 use Rattle.nom_error.specs.Errors.{Errors}
@@ -8,7 +8,7 @@ use Rattle.nom_error.specs.declared.answer.Err as Answer
 use Rattle.nom_error.specs.declared.answer.Err.TheVariants.{Incomplete, Error, Failure, OutOfMemory}
 use Rattle.nom_error.specs.declared.kind.ErrorKind.{ErrorKind}
 use Rattle.nom_error.specs.Modes.{Built, Modes, modes}
-use Rattle.nom_error.specs.Answers.{Refuses, size_of}
+use Rattle.nom_error.specs.Answers.{PResult, Refuses, size_of}
 use Rattle.nom_traits.specs.Input.{Model, InputLaws, IsSuffixOf, input_len}
 use Rattle.nom_internal.specs.Outcome.{Outcome}
 use Rattle.nom_internal.specs.Outcome.Outcome.{Accept, Refuse, Fail, TooLarge, Undecided}
@@ -56,11 +56,11 @@ stuck_blames errs b i j (suc n) v P kind is z e h = absurd (omega (arith, z))
 
 -- what items show, and what their part does
 abbrev pub ShowsItems : {I A V E O : Type 0} (w : Model I A) (errs : Errors I E) (b : Limits) (Grows : Type 0) (m : Meaning I V E)
-    (IsOutput : List V → O → Type 0) (mode : Modes) (i : I) → Result (I × Option O) (Answer.Err E (Option E) Needed) → Type 0
+    (IsOutput : List V → O → Type 0) (mode : Modes) (i : I) → PResult I O E → Type 0
 ShowsItems w errs b Grows m IsOutput mode i r = ShowsMeaning w IsOutput (items_meaning w errs b Grows m) mode i r
 
 abbrev pub ShowsItem : {I A V E X : Type 0} (w : Model I A) (b : Limits) (m : Meaning I V E) (IsItem : V → X → Type 0) (mode : Modes) (j : I) →
-    Result (I × Option X) (Answer.Err E (Option E) Needed) → Type 0
+    PResult I X E → Type 0
 ShowsItem w b m IsItem mode j r = ShowsMeaning w IsItem m (modes mode.outputs (item_errors b.too_few mode.errors) mode.streaming) j r
 
 module _ {I A V E O : Type 0} {w : Model I A} (errs : Errors I E) (b : Limits) (Grows : Type 0) (m : Meaning I V E) {IsOutput : List V → O → Type 0}
@@ -164,7 +164,7 @@ items_more l b {Item = Item} c below a p z =
 
 -- the part's answer, at the state before and in the mode in which it ran
 pub part_at : {S I A V E O : Type 0} {w : Model I A} (IsOutput : S → V → O → Type 0) (meaning : S → Meaning I V E)
-    {outputs errors asked streaming : Bool} {i : I} {r : Result (I × Option O) (Answer.Err E (Option E) Needed)} {a b : S} → errors ≡ asked → a ≡ b →
+    {outputs errors asked streaming : Bool} {i : I} {r : PResult I O E} {a b : S} → errors ≡ asked → a ≡ b →
     ShowsMeaning w (IsOutput a) (meaning a) (modes outputs errors streaming) i r → ShowsMeaning w (IsOutput b) (meaning b) (modes outputs asked streaming) i r
 part_at {w = w} IsOutput meaning {outputs} {errors} {asked} {streaming} {i} {r} {a} {b} e h s =
     subst (λ z. ShowsMeaning w (IsOutput b) (meaning b) (modes outputs z streaming) i r) e (shown_at IsOutput meaning h s)

@@ -1,9 +1,9 @@
 -- What the answer of a part tells.
-use Rattle.std.proofs.Common.{◌≡◌, ℕ, Result, Err, Option, ◌⊎◌, inl, inr, subst, sym}
+use Rattle.std.proofs.Common.{◌≡◌, ℕ, Err, Option, ◌⊎◌, inl, inr, subst, sym}
 use Rattle.nom_error.specs.declared.answer.Needed.{Needed}
 use Rattle.nom_error.specs.declared.answer.Err as Answer
 use Rattle.nom_error.specs.declared.answer.Err.TheVariants.{Incomplete, Error, Failure, OutOfMemory}
-use Rattle.nom_error.specs.Answers.{size_of}
+use Rattle.nom_error.specs.Answers.{PResult, size_of}
 use Rattle.nom_error.specs.Modes.{Built, Modes}
 use Rattle.nom_traits.specs.Input.{Model}
 use Rattle.nom_internal.specs.Outcome.{Outcome, Shows, ShowsAnswer}
@@ -60,13 +60,13 @@ module _ {I A V O E : Type 0} {w : Model I A} {IsOutput : V → O → Type 0} {m
 
 -- the same at an equal state
 pub shown_at : {S I A V O E : Type 0} {w : Model I A} (IsOutput : S → V → O → Type 0) (meaning : S → Meaning I V E) {mode : Modes} {i : I}
-    {r : Result (I × Option O) (Answer.Err E (Option E) Needed)} {a b : S} → a ≡ b → ShowsMeaning w (IsOutput a) (meaning a) mode i r →
+    {r : PResult I O E} {a b : S} → a ≡ b → ShowsMeaning w (IsOutput a) (meaning a) mode i r →
     ShowsMeaning w (IsOutput b) (meaning b) mode i r
 shown_at {w = w} IsOutput meaning {mode = mode} {i = i} {r = r} e h = subst (λ z. ShowsMeaning w (IsOutput z) (meaning z) mode i r) e h
 
 -- the same, with outputs viewed as something else
 module _ {I A V O E : Type 0} (w : Model I A) (IsOutput IsResult : V → O → Type 0) (mode : Modes) (i : I) (IsError : E → Type 0) where
-  shows_as : (o : Outcome V) (r : Result (I × Option O) (Answer.Err E (Option E) Needed)) → ((v : V) (x : O) → IsOutput v x → IsResult v x) →
+  shows_as : (o : Outcome V) (r : PResult I O E) → ((v : V) (x : O) → IsOutput v x → IsResult v x) →
       Shows w IsOutput mode i IsError o r → Shows w IsResult mode i IsError o r
   shows_as (Accept n v) r f s = (s.0, s.1, s.2, built_error mode.outputs _ _ s.1 (f v) s.3, s.4)
   shows_as Refuse r f s = s
@@ -75,7 +75,7 @@ module _ {I A V O E : Type 0} (w : Model I A) (IsOutput IsResult : V → O → T
   shows_as (Undecided k) r f s = s
 
 pub shown_as : {I A V O E : Type 0} {w : Model I A} {IsOutput IsResult : V → O → Type 0} {mode : Modes} {i : I} {Answers : Outcome V → Type 0}
-    {IsError : E → Type 0} {RunsOut : Type 0} {r : Result (I × Option O) (Answer.Err E (Option E) Needed)} →
+    {IsError : E → Type 0} {RunsOut : Type 0} {r : PResult I O E} →
     ((v : V) (x : O) → IsOutput v x → IsResult v x) → ShowsAnswer w IsOutput mode i Answers IsError RunsOut r →
     ShowsAnswer w IsResult mode i Answers IsError RunsOut r
 shown_as f (RanOut e h) = RanOut e h
@@ -85,7 +85,7 @@ shown_as {w = w} {IsOutput} {IsResult} {mode} {i} {Answers} {IsError} {RunsOut} 
 -- the same, of what is accepted
 module _ {I A V O E : Type 0} (w : Model I A) (IsOutput IsResult : V → O → Type 0) (mode : Modes) (i : I) (Answers : Outcome V → Type 0)
     (IsError : E → Type 0) where
-  shows_by : (o : Outcome V) (r : Result (I × Option O) (Answer.Err E (Option E) Needed)) →
+  shows_by : (o : Outcome V) (r : PResult I O E) →
       ((n : ℕ) (v : V) (x : O) → Answers (Accept n v) → IsOutput v x → IsResult v x) → Answers o → Shows w IsOutput mode i IsError o r →
       Shows w IsResult mode i IsError o r
   shows_by (Accept n v) r f a s = (s.0, s.1, s.2, built_error mode.outputs _ _ s.1 (λ x. f n v x a) s.3, s.4)
@@ -95,7 +95,7 @@ module _ {I A V O E : Type 0} (w : Model I A) (IsOutput IsResult : V → O → T
   shows_by (Undecided k) r f a s = s
 
 pub shown_by : {I A V O E : Type 0} {w : Model I A} {IsOutput IsResult : V → O → Type 0} {mode : Modes} {i : I} {Answers : Outcome V → Type 0}
-    {IsError : E → Type 0} {RunsOut : Type 0} {r : Result (I × Option O) (Answer.Err E (Option E) Needed)} →
+    {IsError : E → Type 0} {RunsOut : Type 0} {r : PResult I O E} →
     ((n : ℕ) (v : V) (x : O) → Answers (Accept n v) → IsOutput v x → IsResult v x) → ShowsAnswer w IsOutput mode i Answers IsError RunsOut r →
     ShowsAnswer w IsResult mode i Answers IsError RunsOut r
 shown_by f (RanOut e h) = RanOut e h

@@ -1,11 +1,11 @@
 -- The report on the bytes of a file that comes in pieces.
-use Rattle.std.specs.Prelude.{◌≡◌, ℕ, ◌-◌, ◌<◌, ◌≤◌, true, List, ◌++◌, length, slice_index, Result, Ok, Err, Option}
+use Rattle.std.specs.Prelude.{◌≡◌, ℕ, ◌-◌, ◌<◌, ◌≤◌, true, List, ◌++◌, length, slice_index, Ok, Err, Option}
 use Rattle.std.specs.Borrow.{Bor}
 use Rattle.nom_error.specs.declared.value.Error.{Error}
 use Rattle.nom_error.specs.declared.answer.Needed.{Needed}
 use Rattle.nom_error.specs.declared.answer.Err as Answer
 use Rattle.nom_error.specs.declared.answer.Err.TheVariants as Stop
-use Rattle.nom_error.specs.Answers.{size_of}
+use Rattle.nom_error.specs.Answers.{IResult, size_of}
 use Rattle.nom_traits.specs.Bytes.{bytes_model}
 use Rattle.nom_internal.specs.Outcome.{Outcome}
 use Rattle.nom_internal.specs.Outcome.Outcome.{Accept, Refuse, Fail, TooLarge, Undecided}
@@ -50,7 +50,7 @@ IsToldStop beginning (Stop.Failure e) text status = (text ≡ failure_text e.cod
 IsToldStop beginning Stop.OutOfMemory text status = ⊥
 
 -- the text and the status for an answer on a beginning of a length, by the lines of an output
-abbrev pub IsTold : {O : Type 0} → (O → List ℕ) → (index beginning : ℕ) → Result (Bytes × O) (Answer.Err (Error Bytes) (Error Bytes) Needed) → List ℕ →
+abbrev pub IsTold : {O : Type 0} → (O → List ℕ) → (index beginning : ℕ) → IResult Bytes O (Error Bytes) → List ℕ →
     ℕ → Type 0
 IsTold lines index beginning (Ok (rest, o)) text status = (text ≡ decided_text index ++ lines o ++ rest_text (length rest.now)) × (status ≡ 0)
 IsTold lines index beginning (Err e) text status = IsToldStop beginning e text status

@@ -1,6 +1,7 @@
 -- One item from what is held.
-use Rattle.std.specs.Prelude.{◌≡◌, ℕ, zero, suc, ◌+◌, ◌≤◌, Bool, List, length, take, Result, Ok, Err}
+use Rattle.std.specs.Prelude.{◌≡◌, ℕ, zero, suc, ◌+◌, ◌≤◌, Bool, List, length, take, Ok, Err}
 use Rattle.std.specs.Borrow.{Bor}
+use Rattle.nom_error.specs.Answers.{IResult}
 use Rattle.nom_error.specs.declared.answer.Needed.{Needed}
 use Rattle.nom_error.specs.declared.answer.Err as Answer
 use Rattle.nom_error.specs.declared.answer.Err.TheVariants as Stop
@@ -17,7 +18,7 @@ Bytes = Bor (List ℕ)
 
 -- an answer of a parser over bytes
 abbrev pub Answered : Type 0 → Type 0
-Answered O = Result (Bytes × O) (Answer.Err (Error Bytes) (Error Bytes) Needed)
+Answered O = IResult Bytes O (Error Bytes)
 
 -- What is answered at an input, by whether more may come, is what the grammar means there; and the laws of its meaning: one outcome
 -- for each input, and what is decided stays on every longer one.

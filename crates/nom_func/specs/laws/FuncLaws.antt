@@ -1,8 +1,7 @@
 -- The laws of functions as parsers.
-use Rattle.std.specs.Prelude.{◌≡◌, ℕ, Bool, true, false, ◌++◌, Result, Ok, Err}
+use Rattle.std.specs.Prelude.{◌≡◌, ℕ, Bool, true, false, ◌++◌, Ok, Err}
 use Rattle.std.proofs.Common.{sym, ◌∙◌, ap, subst}
-use Rattle.nom_error.specs.declared.answer.Needed.{Needed}
-use Rattle.nom_error.specs.declared.answer.Err as Answer
+use Rattle.nom_error.specs.Answers.{IResult}
 use Rattle.nom_error.specs.declared.answer.Err.TheVariants.{Incomplete, Error, Failure, OutOfMemory}
 use Rattle.nom_traits.specs.Input.{Model, IsBoundary, IsSame, Related}
 use Rattle.nom_traits.specs.Rests.{rest_place, same_then, same_sym}
@@ -27,14 +26,14 @@ module _ {I A : Type 0} (w : Model I A) where
   place_alike x y n r p = record { front = p.front; rest = p.rest; whole = sym r.elements_are ∙ p.whole; length_is = p.length_is }
 
   module _ {O E : Type 0} (view : View O) where
-    accepts_within : (i : I) (r : Result (I × O) (Answer.Err E E Needed)) (n : ℕ) (t : view.Value) → Tells w view i r (Accept n t) → IsBoundary w i n
+    accepts_within : (i : I) (r : IResult I O E) (n : ℕ) (t : view.Value) → Tells w view i r (Accept n t) → IsBoundary w i n
     accepts_within i (Ok (j, v)) n t h = let same : h.0 ≡ n = cc (h.2) in subst (IsBoundary w i) same (rest_place w i h.0 j h.1)
     accepts_within i (Err (Incomplete k)) n t h = cc
     accepts_within i (Err (Error e)) n t h = cc
     accepts_within i (Err (Failure e)) n t h = cc
     accepts_within i (Err OutOfMemory) n t h = absurd h
 
-    never_too_large : (i : I) (r : Result (I × O) (Answer.Err E E Needed)) → Tells w view i r (failure true) → ⊥
+    never_too_large : (i : I) (r : IResult I O E) → Tells w view i r (failure true) → ⊥
     never_too_large i (Ok (j, v)) h = cc (h.2)
     never_too_large i (Err (Incomplete k)) h = cc
     never_too_large i (Err (Error e)) h = cc
@@ -42,13 +41,13 @@ module _ {I A : Type 0} (w : Model I A) where
     never_too_large i (Err OutOfMemory) h = h
 
     -- what answers that tell one outcome tell
-    told_one : (longer : Bool) (i j : I) (r q : Result (I × O) (Answer.Err E E Needed)) → TellOne w view longer i j r q → (o p : Outcome view.Value) →
+    told_one : (longer : Bool) (i j : I) (r q : IResult I O E) → TellOne w view longer i j r q → (o p : Outcome view.Value) →
         Tells w view i r o → Keeps longer o → Tells w view j q p → o ≡ p
     unfolding TellOne
     told_one longer i j r q h = h
 
-    module _ (Gives : I → Result (I × O) (Answer.Err E E Needed) → Type 0) where
-      fails_by_error : (i : I) (r : Result (I × O) (Answer.Err E E Needed)) → ((e : E) → Gives i (Err (Failure e)) → ⊥) → Gives i r →
+    module _ (Gives : I → IResult I O E → Type 0) where
+      fails_by_error : (i : I) (r : IResult I O E) → ((e : E) → Gives i (Err (Failure e)) → ⊥) → Gives i r →
           Tells w view i r (failure false) → ⊥
       fails_by_error i (Ok (j, v)) f g h = cc (h.2)
       fails_by_error i (Err (Incomplete k)) f g h = cc
@@ -80,7 +79,7 @@ module _ {I A : Type 0} (w : Model I A) where
       }
 
       -- the outcomes of answers that tell one
-      pub agrees : (longer : Bool) → ((i j : I) (r q : Result (I × O) (Answer.Err E E Needed)) → AreRelated w longer i j →
+      pub agrees : (longer : Bool) → ((i j : I) (r q : IResult I O E) → AreRelated w longer i j →
           Gives i r → Gives j q → TellOne w view longer i j r q) → Agree w longer (FuncOutcome w view Gives) (FuncOutcome w view Gives)
       agrees longer f x y o p kx ky r a k b =
           let related = f x y a.answer b.answer (record { from_known = kx; to_known = ky; related = r }) a.given b.given in
