@@ -3,7 +3,8 @@ ghost use Rattle.std.specs.Prelude.{◌≡◌, ◌↔◌, IsTrue, IfSome, string
 ghost use Rattle.nom_answer_lines.specs.Answers.{IsKnownAs, AreSameAnswers, left_of, said_of};
 
 use crate::literal::literal_of;
-use nom::{AsBytes, Err, IResult, Needed};
+use nom_error::answer::{Err, IResult, Needed};
+use nom_search::bytes::AsBytes;
 use std::alloc::Global;
 use std::fmt::Debug;
 

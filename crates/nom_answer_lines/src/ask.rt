@@ -1,9 +1,13 @@
 //! Parsers that are asked.
 
 use crate::answer::{Answer, answer_of};
-use nom::bytes::Fixed;
-use nom::error::Error;
-use nom::{AsBytes, Complete, IResult, Input, Parser, Streaming};
+use nom_error::answer::IResult;
+use nom_error::mode::{Complete, Streaming};
+use nom_error::value::Error;
+use nom_internal::fixed::Fixed;
+use nom_internal::parser::Parser;
+use nom_search::bytes::AsBytes;
+use nom_traits::input::Input;
 use std::alloc::Global;
 use std::fmt::Debug;
 

@@ -1,11 +1,14 @@
 //! What the rows of a test say of a parser.
 ghost use Rattle.std.specs.Prelude.{◌≡◌};
 
-use nom::error::{Error, ErrorKind};
-use nom::{
-    Check, Complete, Emit, Err, Grown, Input, Mode, Needed, OutputM, OutputMode, PResult, Parser,
-    StreamParser, Streaming, Viewed, parse_growing,
-};
+use nom_error::answer::{Err, Needed, PResult};
+use nom_error::kind::ErrorKind;
+use nom_error::mode::{Check, Complete, Emit, Mode, OutputM, OutputMode, Streaming};
+use nom_error::value::Error;
+use nom_growing::growing::{Grown, parse_growing};
+use nom_internal::parser::{Parser, StreamParser};
+use nom_traits::input::Input;
+use nom_traits::view::Viewed;
 
 /// An input of bytes or of a text.
 pub trait Content {
