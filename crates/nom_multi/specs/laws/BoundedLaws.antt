@@ -18,7 +18,7 @@ module _ {I A V E : Type 0} {w : Model I A} (l : InputLaws w) (errs : Errors I E
 
 module _ {I A V E : Type 0} {w : Model I A} (l : InputLaws w) (errs : Errors I E) (least most : ℕ) {m : Meaning I V E} where
   pub many_m_n_lawful : IsLawful w m → IsLawful w (many_m_n_meaning w errs least most m)
-  many_m_n_lawful p = error_if_lawful Kind.ManyMN true (ltb most least)
+  many_m_n_lawful p = error_if_lawful errs Kind.ManyMN true (ltb most least) (items_lawful l errs (bounded_limits Kind.ManyMN least most) p)
 
   pub many_m_n_steady : IsSteady w m → IsSteady w (many_m_n_meaning w errs least most m)
-  many_m_n_steady p = error_if_steady Kind.ManyMN true (ltb most least)
+  many_m_n_steady p = error_if_steady errs Kind.ManyMN true (ltb most least) (items_steady l errs (bounded_limits Kind.ManyMN least most) p)

@@ -46,6 +46,9 @@ module _ {I A T W E : Type 0} (w : Model I A) (Grows : Type 0) (all : List (Memb
     never_fails = λ large f. h.lawful.never_fails large (h.promises.never_fails large f);
   }
 
+  promised_steady : {m : Meaning I W E} → IsSteady w m → IsSteady w (promised Grows all m)
+  promised_steady h = record { stays = h.stays }
+
 module _ {I A V : Type 0} (w : Model I A) (t : V) where
   done_lawful : {E : Type 0} → IsLawful w (done_meaning {I = I} {E = E} t)
   done_lawful = record {
@@ -168,11 +171,11 @@ module _ {I A T E : Type 0} (w : Model I A) (Joins : E → E → E → Type 0) (
         })
 
     rounds_steady : AreSteady w ms → (n : ℕ) (t : T) → IsSteady w (rounds_meaning w Joins Closes Grows ms n t)
-    rounds_steady h zero t = done_steady w t E
+    rounds_steady h zero t = promised_steady w Grows ms (done_steady w t E)
     rounds_steady h (suc n) t =
         let tried = or_members Joins Grows t NoChoice ms in
-        then_steady l (promised_family Grows ms (rounds_meaning w Joins Closes Grows ms n))
-        (round_steady w Closes Grows t tried (members_steady w Joins Grows t NoChoice ms tt h)) (λ u. rounds_steady h n u)
+        promised_steady w Grows ms (then_steady l (promised_family Grows ms (rounds_meaning w Joins Closes Grows ms n))
+        (round_steady w Closes Grows t tried (members_steady w Joins Grows t NoChoice ms tt h)) (λ u. rounds_steady h n u))
 
     pub permutation_lawful : AreLawful w ms → (none : T) → IsLawful w (permutation_meaning w Joins Closes Grows ms none)
     permutation_lawful h none = good_lawful w Grows ms (rounds_meaning w Joins Closes Grows ms (length ms) none)
