@@ -140,7 +140,7 @@ module _ {I A : Type 0} (w : Model I A) (IsControl : A → Type 0) (lack : Optio
   }
 
 -- what follows by what was told
-module _ {I A W E : Type 0} (U : Type 0) {w : Model I A} {g : Meaning I W E} where
+module _ {I A W E : Type 0} (U : Type 0) (w : Model I A) (g : Meaning I W E) where
   control_lawful : IsLawful w g → (c : Control (Unit {0})) → IsLawful w (by_control {U = U} g c)
   control_lawful q Control.None = success_lawful
   control_lawful q Control.Last = success_lawful
@@ -174,7 +174,7 @@ module _ {I A W E : Type 0} (U : Type 0) {w : Model I A} {g : Meaning I W E} whe
     never_fails = λ large h c _. control_never large h c;
   }
 
-module _ {I A V E : Type 0} {w : Model I A} (done : V) {m : Meaning I V E} where
+module _ {I A V E : Type 0} (w : Model I A) (done : V) (m : Meaning I V E) where
   left_lawful : IsLawful w m → (b : Bool) → IsLawful w (by_left done m b)
   left_lawful p true = p
   left_lawful p false = success_lawful
@@ -203,23 +203,26 @@ module _ {I A V E : Type 0} {w : Model I A} (done : V) {m : Meaning I V E} where
     never_fails = λ large h b _. left_never large h b;
   }
 
-module _ {I A U W E : Type 0} {w : Model I A} (l : InputLaws w) (IsControl : A → Type 0) (lack : Option ℕ) {m : Meaning I U E} {g : Meaning I W E} where
+module _ {I A U W E : Type 0} {w : Model I A} (l : InputLaws w) (IsControl : A → Type 0) (lack : Option ℕ) {g : Meaning I W E} where
   escape_lawful : IsLawful w g → IsLawful w (escape_meaning {U = U} w IsControl lack g)
-  escape_lawful q = then_lawful l (behind_control g) (leaf_lawful (control_laws w IsControl lack)) (behind_lawful U q)
+  escape_lawful q = then_lawful l (behind_control g) (leaf_lawful (control_laws w IsControl lack)) (behind_lawful U w g q)
 
   escape_steady : IsSteady w g → IsSteady w (escape_meaning {U = U} w IsControl lack g)
-  escape_steady q = then_steady l (behind_control g) (leaf_steady (control_laws w IsControl lack)) (control_steady U q)
+  escape_steady q = then_steady l (behind_control g) (leaf_steady (control_laws w IsControl lack)) (control_steady U w g q)
 
+module _ {I A U W E : Type 0} {w : Model I A} (l : InputLaws w) (IsControl : A → Type 0) (lack : Option ℕ) {m : Meaning I U E} {g : Meaning I W E} where
   piece_lawful : IsLawful w m → IsLawful w g → IsLawful w (piece_meaning w IsControl lack m g)
-  piece_lawful p q = otherwise_lawful (labelled_lawful p) (escape_lawful q)
+  piece_lawful p q = otherwise_lawful (labelled_lawful p) (escape_lawful l IsControl lack q)
 
   piece_steady : IsSteady w m → IsSteady w g → IsSteady w (piece_meaning w IsControl lack m g)
-  piece_steady p q = otherwise_steady (labelled_steady p) (escape_steady q)
+  piece_steady p q = otherwise_steady (labelled_steady p) (escape_steady l IsControl lack q)
 
   pub next_piece_lawful : IsLawful w m → IsLawful w g → IsLawful w (next_piece_meaning w IsControl lack m g)
   next_piece_lawful p q =
-      then_lawful l (where_left Done (piece_meaning w IsControl lack m g)) (leaf_lawful (left_laws w)) (where_left_lawful Done (piece_lawful p q))
+      let left = where_left_lawful w Done (piece_meaning w IsControl lack m g) (piece_lawful p q) in
+      then_lawful l (where_left Done (piece_meaning w IsControl lack m g)) (leaf_lawful (left_laws w)) left
 
   pub next_piece_steady : IsSteady w m → IsSteady w g → IsSteady w (next_piece_meaning w IsControl lack m g)
   next_piece_steady p q =
-      then_steady l (where_left Done (piece_meaning w IsControl lack m g)) (leaf_steady (left_laws w)) (left_steady Done (piece_steady p q))
+      let left = left_steady w Done (piece_meaning w IsControl lack m g) (piece_steady p q) in
+      then_steady l (where_left Done (piece_meaning w IsControl lack m g)) (leaf_steady (left_laws w)) left

@@ -11,7 +11,7 @@ use Rattle.nom_precedence.specs.laws.StuckLaws.{both_lawful, both_steady, freed_
 use Rattle.nom_precedence.specs.laws.ChainLaws.{chain_lawful, chain_steady}
 use Rattle.nom_precedence.specs.Operators.{operator_meaning}
 use Rattle.nom_precedence.specs.laws.OperatorLaws.{operator_lawful, operator_steady}
-use Rattle.nom_precedence.specs.Premises.{Gives, told_lawful}
+use Rattle.nom_precedence.specs.Premises.{Gives, told_lawful, told_steady}
 use Rattle.nom_precedence.specs.Expressions.{term_meaning, pair_meaning, expression_meaning, premises, precedence_meaning}
 
 module _ {I A P V Q E : Type 0} {w : Model I A} (l : InputLaws w) {prefix : Meaning I P E} {operand : Meaning I V E} {postfix : Meaning I Q E} where

@@ -15,7 +15,7 @@ use Rattle.nom_internal.specs.Success.{success_lawful, success_steady}
 use Rattle.nom_precedence.specs.Stuck.{Read, read_behind, unless_stuck, read_both, freed, IfStuck, StuckBlames, StuckAsks, freed_case, freed_meaning}
 use Rattle.nom_precedence.specs.Stuck.Read.{Whole, Stuck}
 
-module _ {I A W E : Type 0} {w : Model I A} (V : Type 0) {m : Meaning I (Read W) E} where
+module _ {I A W E : Type 0} (w : Model I A) (V : Type 0) (m : Meaning I (Read W) E) where
   behind_lawful : IsLawful w m → (u : Read V) → IsLawful w (read_behind m u)
   behind_lawful p (Whole v) = p
   behind_lawful p Stuck = success_lawful
@@ -46,10 +46,10 @@ module _ {I A W E : Type 0} {w : Model I A} (V : Type 0) {m : Meaning I (Read W)
 
 module _ {I A V W T E : Type 0} {w : Model I A} (l : InputLaws w) {tree : V → W → T} {a : Meaning I (Read V) E} {b : Meaning I (Read W) E} where
   pub both_lawful : IsLawful w a → IsLawful w b → IsLawful w (read_both w tree a b)
-  both_lawful p q = then_lawful l (unless_stuck b) p (unless_lawful V q)
+  both_lawful p q = then_lawful l (unless_stuck b) p (unless_lawful w V b q)
 
   pub both_steady : IsSteady w a → IsSteady w b → IsSteady w (read_both w tree a b)
-  both_steady p q = then_steady l (unless_stuck b) p (behind_steady V q)
+  both_steady p q = then_steady l (unless_stuck b) p (behind_steady w V b q)
 
 freed_accepts : {V : Type 0} (n m : ℕ) (t : V) (u : Read V) → Accept n t ≡ freed m u → m ≡ n
 freed_accepts n m t (Whole v) e = cc
