@@ -72,7 +72,7 @@ module _ {I A P V E : Type 0} (w : Model I A) (l : InputLaws w) (errs : Errors I
   further_grow : AlwaysFrugal separator × AlwaysFrugal m → (errs.grows → ⊥) → (mode : Modes) (j : I) → w.IsKnown j →
       (further_meaning w errs separator m).may_run_out mode j → mode.outputs ≡ true
   further_grow frugal none mode j h r =
-      let part = sequence_lawful l separates lawful in
+      let part : IsLawful w (preceded_meaning w separator m) = sequence_lawful l separates lawful in
       (items_grow w errs (any_limits Kind.SeparatedList) (Unit {0}) (preceded_meaning w separator m) part
       (λ z. (frugal.0 (with_outputs false z), frugal.1 z)) none mode j h r).0.0
 

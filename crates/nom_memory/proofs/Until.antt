@@ -96,7 +96,7 @@ module _ {I A V T E : Type 0} (w : Model I A) (errs : Errors I E) (m : Meaning I
   asked : AlwaysFrugal m × AlwaysFrugal end → (k : ℕ) (j : I) → w.IsKnown j → Asked k j → (mode.outputs ≡ true) × IsItem m end mode.streaming j
   asked frugal k j h (inl r) = asked_by k j r.reply r.replied r.fact
   asked frugal k j h (inr r) =
-      let part = otherwise_lawful (labelled_lawful q) (labelled_lawful p) in
+      let part : IsLawful w (end_or_item end m) = otherwise_lawful (labelled_lawful q) (labelled_lawful p) in
       absurd (part.frugal mode j h (frugal.1 (with_errors false mode), frugal.0 mode) r.1)
 
   walked : AlwaysFrugal m × AlwaysFrugal end → (k : ℕ) (i : I) (vs : List V) (n : ℕ) → w.IsKnown i →

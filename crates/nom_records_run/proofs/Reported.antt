@@ -7,20 +7,23 @@ use Rattle.nom_traits.specs.Bytes.{bytes_model, bytes_lawful}
 use Rattle.nom_traits.specs.Slices.{IsModelledBy}
 use Rattle.nom_internal.specs.Outcome.{failure}
 use Rattle.nom_internal.specs.Meaning.{IsLawful}
+use Rattle.nom_internal.specs.Families.{IsOne}
 use Rattle.nom_internal.specs.laws.SequenceLaws.{sequence_lawful}
 use Rattle.nom_internal.specs.laws.CaseLaws.{labelled_lawful}
 use Rattle.nom_traits.specs.Compares.{ComparesBytes}
 use Rattle.nom_traits.specs.CompareTags.{bytes_comparing}
 use Rattle.nom_bytes.specs.laws.TakeLaws.{take_lawful}
 use Rattle.nom_bytes.specs.laws.TagLaws.{tag_lawful}
+use Rattle.nom_multi_length.specs.Lengths.{HasSize}
 use Rattle.nom_multi_length.specs.laws.LengthLaws.{length_data_lawful}
 use Rattle.nom_multi.specs.laws.ManyLaws.{many0_lawful}
-use Rattle.nom_number.specs.Numbers.{bytes_lack}
+use Rattle.nom_traits.specs.Digits.{value_of}
+use Rattle.nom_number.specs.Numbers.{bytes_lack, number_meaning}
 use Rattle.nom_growing.specs.Growing.{IsGrown}
 use Rattle.nom_run.specs.Report.{IsTold}
 use Rattle.nom_run.proofs.Reported.{reported}
 use Rattle.nom_run.proofs.Told.{lines-same}
-use Rattle.nom_records_run.specs.Report.{AreRecords, record_text, records_text, lines_of, IsReport, errors_at, bytes_lacking}
+use Rattle.nom_records_run.specs.Report.{AreRecords, record_text, records_text, lines_of, IsReport, errors_at, bytes_lacking, record_of}
 use Rattle.nom_records_run.specs.Report.{grammar_of, record_grammar}
 
 abbrev Bytes : Type 0
@@ -32,9 +35,12 @@ AnswerErr = Answer.Err (Error Bytes) (Error Bytes) Needed
 -- the grammar never fails
 grammar_lawful : (tag end : List ℕ) → IsLawful bytes_model (grammar_of tag end)
 grammar_lawful tag end =
-    let number = labelled_lawful (take_lawful bytes_model errors_at (bytes_lack bytes_model) 1) in
-    let item = sequence_lawful bytes_lawful (tag_lawful bytes_model bytes_lawful errors_at length ComparesBytes bytes_comparing tag)
-    (length_data_lawful bytes_lawful errors_at bytes_lacking (λ u m n a b. sym a.size_is ∙ (a.is_output ∙ (sym b.is_output ∙ b.size_is))) number) in
+    let number : IsLawful bytes_model (number_meaning bytes_model errors_at (value_of 256) 1) =
+    labelled_lawful (take_lawful bytes_model errors_at (bytes_lack bytes_model) 1) in
+    let one : IsOne (HasSize {P = ℕ} {O = ℕ} (λ t v. v ≡ t) (λ n. n)) = λ u m n a b. sym a.size_is ∙ (a.is_output ∙ (sym b.is_output ∙ b.size_is)) in
+    let item : IsLawful bytes_model (record_of tag) =
+    sequence_lawful bytes_lawful (tag_lawful bytes_model bytes_lawful errors_at length ComparesBytes bytes_comparing tag)
+    (length_data_lawful bytes_lawful errors_at bytes_lacking one number) in
     sequence_lawful bytes_lawful (many0_lawful bytes_lawful errors_at item)
     (tag_lawful bytes_model bytes_lawful errors_at length ComparesBytes bytes_comparing end)
 

@@ -205,10 +205,10 @@ module _ {I A V E : Type 0} (w : Model I A) (done : V) (m : Meaning I V E) where
 
 module _ {I A U W E : Type 0} {w : Model I A} (l : InputLaws w) (IsControl : A → Type 0) (lack : Option ℕ) {g : Meaning I W E} where
   escape_lawful : IsLawful w g → IsLawful w (escape_meaning {U = U} w IsControl lack g)
-  escape_lawful q = then_lawful l (behind_control g) (leaf_lawful (control_laws w IsControl lack)) (behind_lawful U w g q)
+  escape_lawful q = then_lawful l {first_mode = λ o. o} (behind_control g) (leaf_lawful (control_laws w IsControl lack)) (behind_lawful U w g q)
 
   escape_steady : IsSteady w g → IsSteady w (escape_meaning {U = U} w IsControl lack g)
-  escape_steady q = then_steady l (behind_control g) (leaf_steady (control_laws w IsControl lack)) (control_steady U w g q)
+  escape_steady q = then_steady l {first_mode = λ o. o} (behind_control g) (leaf_steady (control_laws w IsControl lack)) (control_steady U w g q)
 
 module _ {I A U W E : Type 0} {w : Model I A} (l : InputLaws w) (IsControl : A → Type 0) (lack : Option ℕ) {m : Meaning I U E} {g : Meaning I W E} where
   piece_lawful : IsLawful w m → IsLawful w g → IsLawful w (piece_meaning w IsControl lack m g)
@@ -220,9 +220,9 @@ module _ {I A U W E : Type 0} {w : Model I A} (l : InputLaws w) (IsControl : A �
   pub next_piece_lawful : IsLawful w m → IsLawful w g → IsLawful w (next_piece_meaning w IsControl lack m g)
   next_piece_lawful p q =
       let left = where_left_lawful w Done (piece_meaning w IsControl lack m g) (piece_lawful p q) in
-      then_lawful l (where_left Done (piece_meaning w IsControl lack m g)) (leaf_lawful (left_laws w)) left
+      then_lawful l {first_mode = λ o. o} (where_left Done (piece_meaning w IsControl lack m g)) (leaf_lawful (left_laws w)) left
 
   pub next_piece_steady : IsSteady w m → IsSteady w g → IsSteady w (next_piece_meaning w IsControl lack m g)
   next_piece_steady p q =
       let left = left_steady w Done (piece_meaning w IsControl lack m g) (piece_steady p q) in
-      then_steady l (where_left Done (piece_meaning w IsControl lack m g)) (leaf_steady (left_laws w)) left
+      then_steady l {first_mode = λ o. o} (where_left Done (piece_meaning w IsControl lack m g)) (leaf_steady (left_laws w)) left

@@ -7,7 +7,7 @@ use Rattle.nom_internal.specs.Meaning.{Meaning, IsLawful, IsSteady}
 use Rattle.nom_repeat.specs.laws.InvertedLaws.{error_if_lawful, error_if_steady}
 use Rattle.nom_repeat.specs.laws.ItemsLaws.{items_lawful, items_steady}
 use Rattle.nom_multi.specs.Bounded.{count_meaning, many_m_n_meaning}
-use Rattle.nom_repeat.specs.Bounds.{exact_limits}
+use Rattle.nom_repeat.specs.Bounds.{exact_limits, bounded_limits}
 
 module _ {I A V E : Type 0} {w : Model I A} (l : InputLaws w) (errs : Errors I E) (n : ℕ) {m : Meaning I V E} where
   pub count_lawful : IsLawful w m → IsLawful w (count_meaning w errs n m)

@@ -1,7 +1,7 @@
 -- The laws of items with a separator between them.
 use Rattle.std.specs.Prelude.{Bool, false, List, [], ◌∷◌}
 use Rattle.nom_error.specs.Errors.{Errors}
-use Rattle.nom_error.specs.Modes.{Modes}
+use Rattle.nom_error.specs.Modes.{Modes, with_outputs}
 use Rattle.nom_traits.specs.Input.{Model, InputLaws}
 use Rattle.nom_internal.specs.Meaning.{Meaning, IsLawful, IsSteady}
 use Rattle.nom_internal.specs.laws.SequenceLaws.{then_lawful, then_steady, sequence_lawful, sequence_steady}
@@ -15,10 +15,10 @@ use Rattle.nom_repeat.specs.declared.items.TooFew.TheVariants.{Passed}
 
 module _ {I A P V E : Type 0} {w : Model I A} (l : InputLaws w) (errs : Errors I E) {separator : Meaning I P E} {m : Meaning I V E} where
   pub further_lawful : IsLawful w separator → IsLawful w m → IsLawful w (further_meaning w errs separator m)
-  further_lawful q p = items_lawful l errs (any_limits Kind.SeparatedList) (sequence_lawful l q p)
+  further_lawful q p = items_lawful l errs (any_limits Kind.SeparatedList) (sequence_lawful l {first_mode = with_outputs false} {second_mode = λ o. o} q p)
 
   pub further_steady : IsSteady w separator → IsSteady w m → IsSteady w (further_meaning w errs separator m)
-  further_steady q p = items_steady l errs (any_limits Kind.SeparatedList) (sequence_steady l q p)
+  further_steady q p = items_steady l errs (any_limits Kind.SeparatedList) (sequence_steady l {first_mode = with_outputs false} {second_mode = λ o. o} q p)
 
   pub separated1_lawful : IsLawful w separator → IsLawful w m → IsLawful w (separated1_meaning w errs separator m)
   separated1_lawful q p = sequence_lawful l (items_lawful l errs (one_limits Passed false) p) (further_lawful q p)

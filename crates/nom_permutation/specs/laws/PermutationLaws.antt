@@ -182,4 +182,4 @@ module _ {I A T E : Type 0} (w : Model I A) (Joins : E → E → E → Type 0) (
         (record { lawful = rounds_lawful h (length ms) none; promises = rounds_promise (length ms) none })
 
     pub permutation_steady : AreSteady w ms → (none : T) → IsSteady w (permutation_meaning w Joins Closes Grows ms none)
-    permutation_steady h none = rounds_steady h (length ms) none
+    permutation_steady h none = promised_steady w Grows ms (rounds_steady h (length ms) none)
