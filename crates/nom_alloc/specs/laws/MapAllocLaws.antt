@@ -16,7 +16,7 @@ never_lacks IsOutput Gives Fail f h = h
 never_lacks IsOutput Gives TooLarge f h = h
 never_lacks IsOutput Gives (Undecided k) f h = h
 
-module _ {I A V P R : Type 0} {w : Model I A} {IsOutput : V → P → Type 0} {Takes : P → Type 0} {Gives : P → Result R OutOfMemory → Type 0} where
+module _ {I A V P R : Type 0} (w : Model I A) (IsOutput : V → P → Type 0) (Takes : P → Type 0) (Gives : P → Result R OutOfMemory → Type 0) where
   map_alloc_laws : {E : Type 0} → CaseLaws {E = E} true w w (map_alloc_case IsOutput Takes Gives)
   map_alloc_laws {E} =
       let l = fixed_laws {P = V} w {E = E} true in
@@ -34,9 +34,10 @@ module _ {I A V P R : Type 0} {w : Model I A} {IsOutput : V → P → Type 0} {T
         asks_none = λ Part mode i a h g. never_lacks IsOutput Gives a (h.1 g.0) g.1;
       }
 
-  module _ {E : Type 0} {m : Meaning I V E} where
-    pub map_alloc_lawful : IsLawful w m → IsLawful w (map_alloc_meaning IsOutput Takes Gives m)
-    map_alloc_lawful l = case_lawful map_alloc_laws l
+module _ {I A V P R E : Type 0} {w : Model I A} {IsOutput : V → P → Type 0} {Takes : P → Type 0} (Gives : P → Result R OutOfMemory → Type 0)
+    {m : Meaning I V E} where
+  pub map_alloc_lawful : IsLawful w m → IsLawful w (map_alloc_meaning IsOutput Takes Gives m)
+  map_alloc_lawful l = case_lawful (map_alloc_laws w IsOutput Takes Gives) l
 
-    pub map_alloc_steady : IsSteady w m → IsSteady w (map_alloc_meaning IsOutput Takes Gives m)
-    map_alloc_steady l = case_steady map_alloc_laws refl l
+  pub map_alloc_steady : IsSteady w m → IsSteady w (map_alloc_meaning IsOutput Takes Gives m)
+  map_alloc_steady l = case_steady (map_alloc_laws w IsOutput Takes Gives) refl l
