@@ -1,4 +1,6 @@
 //! A part that leaves nothing.
+ghost use Rattle.std.specs.Prelude.{false};
+ghost use Rattle.nom_error.specs.Modes.{with_outputs};
 ghost use Rattle.nom_internal.specs.laws.SequenceLaws.{sequence_lawful};
 ghost use Rattle.nom_ends.specs.laws.AllLaws.{eof_lawful};
 ghost use Rattle.nom_ends.specs.Ends.{all_consuming_meaning};
@@ -38,5 +40,5 @@ impl<I: Input, F: Parser<I> + Drop> Parser<I> for AllConsuming<F> {
         Ok((rest, output))
     }
 
-    ghost lawful = { λ s k. sequence_lawful I.lawful (F.lawful s k.0) (eof_lawful I.model F.Error.errors) };
+    ghost lawful = { λ s k. sequence_lawful I.lawful {second_mode = with_outputs false} (F.lawful s k.0) (eof_lawful I.model F.Error.errors) };
 }

@@ -3,7 +3,7 @@ ghost use Rattle.std.specs.Prelude.{◌≡◌};
 ghost use Rattle.nom_internal.specs.Cloned.{ClonesEqual, clones_pinned};
 ghost use Rattle.nom_internal.specs.Pinned.{value_pinned};
 ghost use Rattle.nom_ends.specs.Ends.{clone_meaning, fail_meaning};
-ghost use Rattle.nom_ends.specs.laws.EndLaws.{clone_lawful, fail_lawful, fail_steady};
+ghost use Rattle.nom_ends.specs.laws.EndLaws.{clone_lawful, clone_steady, fail_lawful, fail_steady};
 
 use nom_error::answer::{Err, PResult};
 use nom_error::kind::ErrorKind;
