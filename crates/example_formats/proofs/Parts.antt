@@ -17,7 +17,6 @@ use Rattle.nom_internal.specs.Meaning.{IsLawful}
 use Rattle.nom_internal.specs.Outcome.{Outcome}
 use Rattle.nom_internal.specs.Outcome.Outcome.{Fail}
 use Rattle.nom_internal.specs.Pinned.{IsPinned, either_pinned, value_pinned}
-use Rattle.nom_internal.specs.laws.SequenceLaws.{sequence_lawful}
 use Rattle.nom_func.specs.Func.{IsParser, Tells, viewed_pinned}
 use Rattle.nom_func.proofs.FuncSound.{parser_of}
 use Rattle.nom_func.specs.laws.FuncLaws.{func_lawful}
@@ -26,8 +25,7 @@ use Rattle.nom_character.specs.ClassRuns.{class_lawful}
 use Rattle.nom_character_first.specs.declared.first.Blame.TheVariants.{OfChar, OfKind}
 use Rattle.nom_character_first.specs.laws.FirstItemLaws.{first_item_lawful, test_is_fixed}
 use Rattle.nom_branch.specs.laws.AlternativeLaws.{choice_lawful, next_lawful}
-use Rattle.nom_sequence.specs.Sequences.{preceded_meaning, terminated_meaning}
-use Rattle.nom_combinator.specs.Verdicts.{cut_meaning}
+use Rattle.nom_sequence.specs.laws.SequenceLaws.{preceded_lawful, terminated_lawful}
 use Rattle.nom_combinator.specs.laws.VerdictLaws.{cut_lawful}
 use Rattle.nom_ends.specs.laws.EndLaws.{fail_lawful}
 use Rattle.nom_operators.specs.declared.operation.Assoc.{Assoc}
@@ -81,11 +79,8 @@ one_level = λ t k l p q. sym p.level_is ∙ (ap (λ (z : sign_view.Value). z.0)
 module _ (Gives : Text → Told Worth → Type 0) where
   operand_lawful : IsParser text_model view Gives Any → IsLawful text_model (operand_by 40 41 (func_of view Any Gives)).meaning
   operand_lawful p =
-      let behind = terminated_meaning text_model (cut_meaning (func_of view Any Gives).meaning) (cut_meaning (char_of 41).meaning) in
-      let is_behind : IsLawful text_model behind =
-      sequence_lawful text_lawful (cut_lawful (func_lawful text_model view Gives Any p)) (cut_lawful (char_lawful 41)) in
-      let brackets : IsLawful text_model (preceded_meaning text_model (char_of 40).meaning behind) =
-      sequence_lawful text_lawful (char_lawful 40) is_behind in
+      let behind = terminated_lawful text_lawful (cut_lawful (func_lawful text_model view Gives Any p)) (cut_lawful (char_lawful 41)) in
+      let brackets = preceded_lawful text_lawful (char_lawful 40) behind in
       choice_lawful faults (next_lawful faults brackets (func_lawful text_model view (Given IsNumber digits_of) Any (number_part Any (λ i. tt))))
 
   sum_lawful : IsParser text_model view Gives Any → IsLawful text_model (sum_in Any Gives).meaning

@@ -1,8 +1,8 @@
 //! A combinator of a user's own: a parser between two runs of another, as what stands between quotes. Its meaning is
 //! that of two sequences, and its laws are those of sequences, of the laws of its parts.
 ghost use Rattle.std.specs.Prelude.{◌≡◌};
-ghost use Rattle.nom_internal.specs.laws.SequenceLaws.{sequence_lawful, sequence_steady};
 ghost use Rattle.nom_sequence.specs.Sequences.{preceded_meaning, terminated_meaning};
+ghost use Rattle.nom_sequence.specs.laws.SequenceLaws.{preceded_lawful, preceded_steady, terminated_lawful, terminated_steady};
 
 use nom::{Check, Items, OutputM, OutputMode, PResult, Parser, StreamParser};
 
@@ -48,7 +48,7 @@ impl<I: Items, F: Parser<I> + Drop, G: Parser<I, Error = F::Error> + Drop> Parse
         Ok((rest, output))
     }
 
-    ghost lawful = { λ s k. sequence_lawful I.lawful (F.lawful s.0 k.0) (sequence_lawful I.lawful (G.lawful s.1 k.1.0) (F.lawful s.0 k.1.1)) };
+    ghost lawful = { λ s k. preceded_lawful I.lawful (F.lawful s.0 k.0) (terminated_lawful I.lawful (G.lawful s.1 k.1.0) (F.lawful s.0 k.1.1)) };
 }
 
 impl<I: Items, F: StreamParser<I> + Drop, G: StreamParser<I, Error = F::Error> + Drop> StreamParser<
@@ -58,5 +58,5 @@ impl<I: Items, F: StreamParser<I> + Drop, G: StreamParser<I, Error = F::Error> +
 
     ghost pinned = { λ p k h. G.pinned p.parser k.1.0 h };
 
-    ghost steady = { λ s k. sequence_steady I.lawful (F.steady s.0 k.0) (sequence_steady I.lawful (G.steady s.1 k.1.0) (F.steady s.0 k.1.1)) };
+    ghost steady = { λ s k. preceded_steady I.lawful (F.steady s.0 k.0) (terminated_steady I.lawful (G.steady s.1 k.1.0) (F.steady s.0 k.1.1)) };
 }

@@ -7,13 +7,13 @@ use Rattle.nom_error.specs.declared.kind.ErrorKind.TheVariants as Kind
 use Rattle.nom_traits.specs.Input.{Model, InputLaws}
 use Rattle.nom_internal.specs.Meaning.{Meaning, IsLawful}
 use Rattle.nom_internal.specs.Sequence.ThenRunsOut.{RunsOutFirst, RunsOutNext}
-use Rattle.nom_internal.specs.laws.SequenceLaws.{sequence_lawful}
 use Rattle.nom_repeat.specs.Bounds.{any_limits, one_limits, exact_limits, bounded_limits}
 use Rattle.nom_repeat.specs.Inverted.{Either}
 use Rattle.nom_repeat.specs.Items.{items_meaning}
 use Rattle.nom_repeat.specs.declared.items.Limits.{Limits}
 use Rattle.nom_repeat.specs.declared.items.TooFew.TheVariants.{Added, Passed}
 use Rattle.nom_sequence.specs.Sequences.{preceded_meaning}
+use Rattle.nom_sequence.specs.laws.SequenceLaws.{preceded_lawful}
 use Rattle.nom_multi.specs.Bounded.{count_meaning, many_m_n_meaning}
 use Rattle.nom_multi.specs.Many.{many0_meaning, many1_meaning}
 use Rattle.nom_multi_separated.specs.Separated.{further_meaning, optional_limits, follows, separated0_meaning, separated1_meaning}
@@ -72,8 +72,7 @@ module _ {I A P V E : Type 0} (w : Model I A) (l : InputLaws w) (errs : Errors I
   further_grow : AlwaysFrugal separator × AlwaysFrugal m → (errs.grows → ⊥) → (mode : Modes) (j : I) → w.IsKnown j →
       (further_meaning w errs separator m).may_run_out mode j → mode.outputs ≡ true
   further_grow frugal none mode j h r =
-      let part : IsLawful w (preceded_meaning w separator m) = sequence_lawful l separates lawful in
-      (items_grow w errs (any_limits Kind.SeparatedList) (Unit {0}) (preceded_meaning w separator m) part
+      (items_grow w errs (any_limits Kind.SeparatedList) (Unit {0}) (preceded_meaning w separator m) (preceded_lawful l separates lawful)
       (λ z. (frugal.0 (with_outputs false z), frugal.1 z)) none mode j h r).0.0
 
   pub separated1_grow : GrowsBySeparated w errs separator m (separated1_meaning w errs separator m)

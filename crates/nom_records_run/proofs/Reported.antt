@@ -8,12 +8,12 @@ use Rattle.nom_traits.specs.Slices.{IsModelledBy}
 use Rattle.nom_internal.specs.Outcome.{failure}
 use Rattle.nom_internal.specs.Meaning.{IsLawful}
 use Rattle.nom_internal.specs.Families.{IsOne}
-use Rattle.nom_internal.specs.laws.SequenceLaws.{sequence_lawful}
 use Rattle.nom_internal.specs.laws.CaseLaws.{labelled_lawful}
 use Rattle.nom_traits.specs.Compares.{ComparesBytes}
 use Rattle.nom_traits.specs.CompareTags.{bytes_comparing}
 use Rattle.nom_bytes.specs.laws.TakeLaws.{take_lawful}
 use Rattle.nom_bytes.specs.laws.TagLaws.{tag_lawful}
+use Rattle.nom_sequence.specs.laws.SequenceLaws.{preceded_lawful, terminated_lawful}
 use Rattle.nom_multi_length.specs.Lengths.{HasSize}
 use Rattle.nom_multi_length.specs.laws.LengthLaws.{length_data_lawful}
 use Rattle.nom_multi.specs.laws.ManyLaws.{many0_lawful}
@@ -39,9 +39,9 @@ grammar_lawful tag end =
     labelled_lawful (take_lawful bytes_model errors_at (bytes_lack bytes_model) 1) in
     let one : IsOne (HasSize {P = ℕ} {O = ℕ} (λ t v. v ≡ t) (λ n. n)) = λ u m n a b. sym a.size_is ∙ (a.is_output ∙ (sym b.is_output ∙ b.size_is)) in
     let item : IsLawful bytes_model (record_of tag) =
-    sequence_lawful bytes_lawful (tag_lawful bytes_model bytes_lawful errors_at length ComparesBytes bytes_comparing tag)
+    preceded_lawful bytes_lawful (tag_lawful bytes_model bytes_lawful errors_at length ComparesBytes bytes_comparing tag)
     (length_data_lawful bytes_lawful errors_at bytes_lacking one number) in
-    sequence_lawful bytes_lawful (many0_lawful bytes_lawful errors_at item)
+    terminated_lawful bytes_lawful (many0_lawful bytes_lawful errors_at item)
     (tag_lawful bytes_model bytes_lawful errors_at length ComparesBytes bytes_comparing end)
 
 grammar_never_fails : (large : Bool) (i : Bytes) → bytes_model.IsKnown i → record_grammar.answers true i (failure large) → ⊥

@@ -2,8 +2,8 @@
 ghost use Rattle.std.specs.Prelude.{false};
 ghost use Rattle.nom_error.specs.Modes.{with_outputs};
 ghost use Rattle.nom_internal.specs.Results.{ThenBesides};
-ghost use Rattle.nom_internal.specs.laws.SequenceLaws.{sequence_lawful, sequence_steady};
 ghost use Rattle.nom_sequence.specs.Sequences.{preceded_meaning, terminated_meaning};
+ghost use Rattle.nom_sequence.specs.laws.SequenceLaws.{preceded_lawful, preceded_steady, terminated_lawful, terminated_steady};
 
 use nom_error::answer::PResult;
 use nom_error::mode::{Check, OutputM, OutputMode};
@@ -43,7 +43,7 @@ impl<I: Items, F: Parser<I> + Drop, G: Parser<I, Error = F::Error> + Drop> Parse
         self.second.process::<OM>(rest)
     }
 
-    ghost lawful = { λ s k. sequence_lawful I.lawful (F.lawful s.0 k.0) (G.lawful s.1 k.1) };
+    ghost lawful = { λ s k. preceded_lawful I.lawful (F.lawful s.0 k.0) (G.lawful s.1 k.1) };
 }
 
 impl<I: Items, F: StreamParser<I> + Drop, G: StreamParser<I, Error = F::Error> + Drop> StreamParser<
@@ -53,7 +53,7 @@ impl<I: Items, F: StreamParser<I> + Drop, G: StreamParser<I, Error = F::Error> +
 
     ghost pinned = { λ p k h. G.pinned p.second k.1 h };
 
-    ghost steady = { λ s k. sequence_steady I.lawful (F.steady s.0 k.0) (G.steady s.1 k.1) };
+    ghost steady = { λ s k. preceded_steady I.lawful (F.steady s.0 k.0) (G.steady s.1 k.1) };
 }
 
 /// One parser after another, with the first's output; made by `terminated`.
@@ -90,7 +90,7 @@ impl<I: Items, F: Parser<I> + Drop, G: Parser<I, Error = F::Error> + Drop> Parse
         Ok((rest, first))
     }
 
-    ghost lawful = { λ s k. sequence_lawful I.lawful (F.lawful s.0 k.0) (G.lawful s.1 k.1) };
+    ghost lawful = { λ s k. terminated_lawful I.lawful (F.lawful s.0 k.0) (G.lawful s.1 k.1) };
 }
 
 impl<I: Items, F: StreamParser<I> + Drop, G: StreamParser<I, Error = F::Error> + Drop> StreamParser<
@@ -100,5 +100,5 @@ impl<I: Items, F: StreamParser<I> + Drop, G: StreamParser<I, Error = F::Error> +
 
     ghost pinned = { λ p k h. F.pinned p.first k.0 h };
 
-    ghost steady = { λ s k. sequence_steady I.lawful (F.steady s.0 k.0) (G.steady s.1 k.1) };
+    ghost steady = { λ s k. terminated_steady I.lawful (F.steady s.0 k.0) (G.steady s.1 k.1) };
 }

@@ -1,13 +1,14 @@
 -- The laws of items with a separator between them.
 use Rattle.std.specs.Prelude.{Bool, false, List, [], ◌∷◌}
 use Rattle.nom_error.specs.Errors.{Errors}
-use Rattle.nom_error.specs.Modes.{Modes, with_outputs}
+use Rattle.nom_error.specs.Modes.{Modes}
 use Rattle.nom_traits.specs.Input.{Model, InputLaws}
 use Rattle.nom_internal.specs.Meaning.{Meaning, IsLawful, IsSteady}
 use Rattle.nom_internal.specs.laws.SequenceLaws.{then_lawful, then_steady, sequence_lawful, sequence_steady}
 use Rattle.nom_internal.specs.Families.{IsLawfulFamily, AnyKey}
 use Rattle.nom_internal.specs.Success.{success_lawful, success_steady}
 use Rattle.nom_repeat.specs.laws.ItemsLaws.{items_lawful, items_steady}
+use Rattle.nom_sequence.specs.laws.SequenceLaws.{preceded_lawful, preceded_steady}
 use Rattle.nom_multi_separated.specs.Separated.{further_meaning, separated1_meaning, optional_limits, follows, following, separated0_meaning}
 use Rattle.nom_repeat.specs.Bounds.{any_limits, one_limits}
 use Rattle.nom_error.specs.declared.kind.ErrorKind.TheVariants as Kind
@@ -15,10 +16,10 @@ use Rattle.nom_repeat.specs.declared.items.TooFew.TheVariants.{Passed}
 
 module _ {I A P V E : Type 0} {w : Model I A} (l : InputLaws w) (errs : Errors I E) {separator : Meaning I P E} {m : Meaning I V E} where
   pub further_lawful : IsLawful w separator → IsLawful w m → IsLawful w (further_meaning w errs separator m)
-  further_lawful q p = items_lawful l errs (any_limits Kind.SeparatedList) (sequence_lawful l {first_mode = with_outputs false} {second_mode = λ o. o} q p)
+  further_lawful q p = items_lawful l errs (any_limits Kind.SeparatedList) (preceded_lawful l q p)
 
   pub further_steady : IsSteady w separator → IsSteady w m → IsSteady w (further_meaning w errs separator m)
-  further_steady q p = items_steady l errs (any_limits Kind.SeparatedList) (sequence_steady l {first_mode = with_outputs false} {second_mode = λ o. o} q p)
+  further_steady q p = items_steady l errs (any_limits Kind.SeparatedList) (preceded_steady l q p)
 
   pub separated1_lawful : IsLawful w separator → IsLawful w m → IsLawful w (separated1_meaning w errs separator m)
   separated1_lawful q p = sequence_lawful l (items_lawful l errs (one_limits Passed false) p) (further_lawful q p)

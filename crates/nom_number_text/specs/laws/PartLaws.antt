@@ -9,10 +9,10 @@ use Rattle.nom_traits.specs.View.{View, itself, view_4}
 use Rattle.nom_internal.specs.Meaning.{Meaning}
 use Rattle.nom_traits.specs.Slices.{IsModelledBy}
 use Rattle.nom_internal.specs.Pinned.{IsPinned, slice_pinned}
-use Rattle.nom_internal.specs.laws.SequenceLaws.{sequence_lawful, sequence_steady}
 use Rattle.nom_character.specs.ClassRuns.{class_lawful, class_steady}
 use Rattle.nom_character_first.specs.FirstItem.{char_meaning}
 use Rattle.nom_sequence.specs.Sequences.{preceded_meaning}
+use Rattle.nom_sequence.specs.laws.SequenceLaws.{preceded_lawful, preceded_steady}
 use Rattle.nom_character_integer.specs.Integers.{signed_meaning}
 use Rattle.nom_character_integer.specs.laws.IntegerLaws.{signed_lawful, signed_steady}
 use Rattle.nom_number_text.specs.laws.FloatLaws.{IsStream, opt_stream, cut_stream, pair_stream, choice_stream, char_stream, either_stream, digits_stream}
@@ -22,7 +22,7 @@ use Rattle.nom_number_text.specs.Parts.{integer_slice, fraction_slice, before_of
 
 module _ {I A P Q E : Type 0} {w : Model I A} (l : InputLaws w) {a : Meaning I P E} (p : IsStream w a) {b : Meaning I Q E} (q : IsStream w b) where
   preceded_stream : IsStream w (preceded_meaning w a b)
-  preceded_stream = record { lawful = sequence_lawful l p.lawful q.lawful; steady = sequence_steady l p.steady q.steady }
+  preceded_stream = record { lawful = preceded_lawful l p.lawful q.lawful; steady = preceded_steady l p.steady q.steady }
 
 module _ {I A E : Type 0} (w : Model I A) (l : InputLaws w) (IsValue : A → Type 0) (values : (i : I) → w.IsKnown i → AreValues IsValue (w.elements i))
     (code : A → ℕ) (errs : Errors I E) where

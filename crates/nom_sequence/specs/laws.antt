@@ -1,0 +1,2 @@
+-- The laws that impls cite.
+pub mod SequenceLaws
