@@ -1,8 +1,8 @@
-//! Lists of words in brackets, nested brackets, letters, colours, settings, and a composed parser that keeps
+//! Lists of words in brackets, nested brackets, letters, a letter between marks, colours, settings, and a composed parser that keeps
 //! nom's promises.
 use example_basics::{Color, brackets_line, hex_color, promised};
 use example_grammars::{Line, setting, settings};
-use example_parts::{Refusal, Token, Tokens, one_letter};
+use example_parts::{Refusal, Token, Tokens, around, one_letter};
 use nom::branch::alt;
 use nom::bytes::{tag, take};
 use nom::error::{Error, ErrorKind};
@@ -127,6 +127,25 @@ fn letters(rt: HostRuntime) {
         assert!(rt; is_letter(first.parse(input), streaming), "at {input:?}");
         assert!(rt;
             is_letter(first.parse_complete(input), complete),
+            "at {input:?}"
+        );
+    }
+}
+
+#[test]
+fn a_letter_between_marks(rt: HostRuntime) {
+    let no_mark = Err(Some(ErrorKind::Tag));
+    let no_letter = Err(Some(ErrorKind::Char));
+    for (input, streaming, complete) in [
+        (&b"'Z'"[..], Ok(b'Z'), Ok(b'Z')),
+        (&b"'Z"[..], Err(None), no_mark),
+        (&b"'4'"[..], no_letter, no_letter),
+        (&b"Z'"[..], no_mark, no_mark),
+    ] {
+        let mut quoted = around(tag::<_, _, Fail>("'"), one_letter());
+        assert!(rt; is_letter(quoted.parse(input), streaming), "at {input:?}");
+        assert!(rt;
+            is_letter(quoted.parse_complete(input), complete),
             "at {input:?}"
         );
     }

@@ -8,21 +8,21 @@ use nom::{Check, Items, OutputM, OutputMode, PResult, Parser, StreamParser};
 
 /// A parser between two runs of another, with its output; made by `around`.
 #[derive(Drop)]
-pub struct Around<F, G> {
+pub struct Enclosed<F, G> {
     pub mark: F,
     pub parser: G,
 }
 
 /// A parser between two runs of another, with its output; of the marks nothing is built.
-pub fn around<F, G>(mark: F, parser: G) -> Around<F, G>
+pub fn around<F, G>(mark: F, parser: G) -> Enclosed<F, G>
     ensures mark { result.mark ≡ mark }
     ensures parser { result.parser ≡ parser }
 {
-    Around { mark, parser }
+    Enclosed { mark, parser }
 }
 
 impl<I: Items, F: Parser<I> + Drop, G: Parser<I, Error = F::Error> + Drop> Parser<I>
-    for Around<F, G> {
+    for Enclosed<F, G> {
     type Output = G::Output;
 
     type Error = F::Error;
@@ -53,7 +53,7 @@ impl<I: Items, F: Parser<I> + Drop, G: Parser<I, Error = F::Error> + Drop> Parse
 
 impl<I: Items, F: StreamParser<I> + Drop, G: StreamParser<I, Error = F::Error> + Drop> StreamParser<
     I,
-> for Around<F, G> {
+> for Enclosed<F, G> {
     ghost Pins = { λ p. G.Pins p.parser };
 
     ghost pinned = { λ p k h. G.pinned p.parser k.1.0 h };
