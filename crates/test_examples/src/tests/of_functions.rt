@@ -36,7 +36,7 @@ fn a_closure(rt: HostRuntime) {
 }
 
 #[test]
-fn want_of_memory(rt: HostRuntime) {
+fn out_of_memory(rt: HostRuntime) {
     let mut none = func(starved);
     match none.parse(b"ab".as_slice()) {
         Err(Err::OutOfMemory) => {}

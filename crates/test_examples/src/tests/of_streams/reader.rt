@@ -8,7 +8,7 @@ use std::alloc::{Allocator, Global};
 use std::io;
 use std::io::Read;
 
-/// Gives `step` bytes at a time at the most. The read with the number `fails` fails, and `every` so many is interrupted,
+/// Gives at most `step` bytes at a time. The read with the number `fails` fails, and one in `every` reads is interrupted,
 /// unless these are 0.
 #[derive(Clone, Copy)]
 pub struct Pieces<'b> {
@@ -19,7 +19,7 @@ pub struct Pieces<'b> {
     pub reads: usize,
 }
 
-/// So many bytes at a time, and no fault.
+/// `step` bytes at a time, and no fault.
 pub fn steps(left: &[u8], step: usize) -> Pieces<'_> {
     Pieces {
         left,
