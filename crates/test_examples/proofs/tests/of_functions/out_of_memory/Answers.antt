@@ -3,7 +3,7 @@ use Rattle.nom_traits.specs.Bytes.{bytes_model}
 use Rattle.nom_traits.specs.View.{itself}
 use Rattle.nom_func.specs.Func.{Tells}
 use Rattle.nom_func.proofs.FuncSound.{parser_of}
-use Rattle.test_examples.proofs.tests.of_functions.want_of_memory.Goals as goal
+use Rattle.test_examples.proofs.tests.of_functions.out_of_memory.Goals as goal
 
 pub parse-requires : goal.parse-requires
 parse-requires g c = record {
