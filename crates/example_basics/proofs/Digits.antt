@@ -8,12 +8,7 @@ use Rattle.std.specs.Str.Parse.{ParsesUnsigned, IsNumeral, digits_value, without
 use Rattle.std.proofs.lemmas.Bool.{and_parts, and_from, and_left, and_right, cases_lt, ltb-true, ne_eqb}
 use Rattle.std.proofs.lemmas.List.Elements.{All-head, All-tail}
 use Rattle.std.proofs.lemmas.Str.{encode_ascii}
-use Rattle.nom_traits.specs.Input.{items_len}
-use Rattle.nom_traits.specs.Slices.{Slice, IsModelledBy}
-use Rattle.nom_traits.specs.Runs.{Stops}
-use Rattle.nom_traits.specs.Text.{text_model}
-use Rattle.nom_internal.specs.Closures.{IsJudge}
-use Rattle.nom_internal.specs.Outcome.Outcome.{Accept, Refuse}
+use Rattle.nom_internal.specs.Prelude.{items_len, Slice, IsModelledBy, Stops, text_model, IsJudge, Accept, Refuse}
 use Rattle.nom_bytes.specs.ParsedRuns.{IsRunSlice, IsEnough}
 use Rattle.example_basics.specs.Colors.{Text, are_digits, pair_of}
 use Rattle.example_basics.proofs.Pairs.{digit_code, pair_span}

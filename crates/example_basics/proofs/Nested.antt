@@ -6,19 +6,12 @@ use Rattle.std.specs.Result.{IsErrAnd, IsErr}
 use Rattle.std.proofs.lemmas.Bool.Decides.{nat_tests}
 use Rattle.std.proofs.Math.Seq.{drop-append_seam}
 use Rattle.std.proofs.lemmas.List.{drop-drop}
-use Rattle.nom_error.specs.Answers.{IResult}
-use Rattle.nom_error.specs.declared.answer.Needed.{Needed}
+use Rattle.nom_internal.specs.Prelude.{IResult, Needed, Errors, bytes_model, bytes_lawful, IsSuffixOf, items_len, rest_rest, items_len-ones, Accept, Refuse}
+use Rattle.nom_internal.specs.Prelude.{Stop, Fails, Needs, ParseRanOut, Parsed, ParsesMeaning}
 use Rattle.nom_error.specs.declared.answer.Err as Answer
 use Rattle.nom_error.specs.declared.answer.Err.TheVariants as Answered
 use Rattle.nom_error.specs.declared.kind.ErrorKind.TheVariants.{Char}
 use Rattle.nom_error.specs.declared.value.Error.{Error}
-use Rattle.nom_error.specs.Errors.{Errors}
-use Rattle.nom_traits.specs.Bytes.{bytes_model, bytes_lawful}
-use Rattle.nom_traits.specs.Input.{IsSuffixOf, items_len}
-use Rattle.nom_traits.specs.Rests.{rest_rest, items_len-ones}
-use Rattle.nom_internal.specs.Outcome.ParsesAnswer.{ParseRanOut, Parsed}
-use Rattle.nom_internal.specs.Outcome.Outcome.{Accept, Refuse, Fail, TooLarge, Undecided}
-use Rattle.nom_internal.specs.Meaning.{ParsesMeaning}
 use Rattle.nom_internal.proofs.Consumed.{rest_self}
 use Rattle.nom_internal.proofs.Shown.{err_from_residual}
 use Rattle.nom_character_first.specs.FirstItem.{IsFirstItem, char_meaning}
@@ -75,9 +68,8 @@ taken {c} {i} {j} {x} (Parsed (Accept n t) a p) =
     let same : ◌≡◌ {A = Bytes × ℕ} (j, x) (p.0, p.1) = cc (p.4) in
     taken_by c n a.0 i j a.1 a.2 a.3 (subst (λ k. IsSuffixOf bytes_model i n k) (sym (ap (λ q. q.0) same)) p.2)
 taken (Parsed Refuse a p) = cc (p.2)
-taken (Parsed Fail a p) = absurd a
-taken (Parsed TooLarge a p) = absurd a
-taken (Parsed (Undecided k) a p) = cc (p.2)
+taken (Parsed (Stop (Fails cause)) a p) = absurd a
+taken (Parsed (Stop (Needs k)) a p) = cc (p.2)
 
 pub char_taken : (c k : ℕ) {i j : Bytes} {x : ℕ} → c ≡ k → CharAnswer c i (Ok (j, x)) → IsTaken k i j
 char_taken c k {i} {j} e h = subst (λ z. IsTaken z i j) e (taken {c = c} h)
@@ -99,9 +91,8 @@ missed (ParseRanOut e h) = absurd h.2
 missed (Parsed (Accept n t) a p) = cc (p.4)
 missed {c} {i} {e} (Parsed Refuse (inl a) p) = record { none = other_first c a.0 i.now a.1.rest a.1.whole a.2; error = error_by p.2 p.1 }
 missed {c} {i} {e} (Parsed Refuse (inr a) p) = record { none = ap (run_of c) a.1; error = error_by p.2 p.1 }
-missed (Parsed Fail a p) = absurd a
-missed (Parsed TooLarge a p) = absurd a
-missed (Parsed (Undecided k) a p) = cc (a.0)
+missed (Parsed (Stop (Fails cause)) a p) = absurd a
+missed (Parsed (Stop (Needs k)) a p) = cc (a.0)
 
 pub char_missed : (c k : ℕ) {i : Bytes} {e : Answer.Err (Error Bytes) (Error Bytes) Needed} → c ≡ k →
     (let r : Result_of ℕ = Err e in CharAnswer c i r) → IsMissed k i e
@@ -123,9 +114,8 @@ inner_taken {i} {j} {d} (Parsed (Accept n t) a p) =
     let depth : t ≡ d = sym p.3 ∙ sym (ap (λ q. q.1) same) in
     inner_by i j n d (subst (λ k. IsNested i n k) depth a) (subst (λ k. IsSuffixOf bytes_model i n k) (sym (ap (λ q. q.0) same)) p.2)
 inner_taken (Parsed Refuse a p) = cc (p.2)
-inner_taken (Parsed Fail a p) = absurd a
-inner_taken (Parsed TooLarge a p) = absurd a
-inner_taken (Parsed (Undecided k) a p) = cc (p.2)
+inner_taken (Parsed (Stop (Fails cause)) a p) = absurd a
+inner_taken (Parsed (Stop (Needs k)) a p) = cc (p.2)
 
 -- and refusing
 pub record IsInnerOpen (i : Bytes) (e : Answer.Err (Error Bytes) (Error Bytes) Needed) : Type 0 where
@@ -138,9 +128,8 @@ pub inner_open : {i : Bytes} {e : Answer.Err (Error Bytes) (Error Bytes) Needed}
 inner_open (ParseRanOut e h) = absurd h.2
 inner_open (Parsed (Accept n t) a p) = cc (p.4)
 inner_open {i} {e} (Parsed Refuse a p) = record { held = p.0; unclosed = a; misses = p.1; error = cc (p.2) }
-inner_open (Parsed Fail a p) = absurd a
-inner_open (Parsed TooLarge a p) = absurd a
-inner_open (Parsed (Undecided k) a p) = absurd (cc (a.0))
+inner_open (Parsed (Stop (Fails cause)) a p) = absurd a
+inner_open (Parsed (Stop (Needs k)) a p) = absurd (cc (a.0))
 
 drop_next : (x n : ℕ) (xs : List ℕ) → drop (1 + n) (x ∷ xs) ≡ drop n xs
 drop_next x n xs = let e : 1 + n ≡ suc n = omega arith in ap (λ k. drop k (x ∷ xs)) e

@@ -6,25 +6,13 @@ use Rattle.std.specs.Result.{IsErrAnd, IsErr}
 use Rattle.std.proofs.Common.{length-append}
 use Rattle.std.proofs.lemmas.Bool.{cases_lt, le-ltb, ne_eqb}
 use Rattle.std.proofs.lemmas.Str.{encode_ascii, length-encode}
-use Rattle.nom_error.specs.declared.answer.Needed.{Needed}
+use Rattle.nom_internal.specs.Prelude.{Needed, modes, IsSuffixOf, same_cut, rest_rest, Slice, IsModelledBy, text_model, text_lawful, IsFound, ComparesText}
+use Rattle.nom_internal.specs.Prelude.{itself_form, text_is_bytes, found_not_begun, Outcome, Accept, Refuse, Stop, Fails, Needs, ParseRanOut, Parsed, Meaning}
+use Rattle.nom_internal.specs.Prelude.{ParsesMeaning, LeafAnswers, fixed_meaning, RunsOutInPart, RunsOutBeside}
 use Rattle.nom_error.specs.declared.answer.Err as Answer
 use Rattle.nom_error.specs.declared.answer.Err.TheVariants as Answered
 use Rattle.nom_error.specs.declared.kind.ErrorKind.TheVariants.{Tag, TakeWhileMN}
 use Rattle.nom_error.specs.declared.value.Error.{Error}
-use Rattle.nom_error.specs.Modes.{modes}
-use Rattle.nom_traits.specs.Input.{IsSuffixOf}
-use Rattle.nom_traits.specs.Rests.{same_cut, rest_rest}
-use Rattle.nom_traits.specs.Slices.{Slice, IsModelledBy}
-use Rattle.nom_traits.specs.Text.{text_model, text_lawful}
-use Rattle.nom_traits.specs.Compares.{IsFound, ComparesText}
-use Rattle.nom_traits.specs.CompareTags.{itself_form, text_is_bytes, found_not_begun}
-use Rattle.nom_internal.specs.Outcome.{Outcome}
-use Rattle.nom_internal.specs.Outcome.Outcome.{Accept, Refuse, Fail, TooLarge, Undecided}
-use Rattle.nom_internal.specs.Outcome.ParsesAnswer.{ParseRanOut, Parsed}
-use Rattle.nom_internal.specs.Meaning.{Meaning, ParsesMeaning}
-use Rattle.nom_internal.specs.Leaf.{LeafAnswers}
-use Rattle.nom_internal.specs.Cases.{fixed_meaning}
-use Rattle.nom_internal.specs.Cases.CaseRunsOut.{RunsOutInPart, RunsOutBeside}
 use Rattle.nom_internal.proofs.Shown.{err_from_residual}
 use Rattle.nom_bytes.specs.Tags.{tags, tag_meaning}
 use Rattle.nom_internal.proofs.Consumed.{rest_self}
@@ -104,9 +92,8 @@ module _ (t : List ℕ) (is_mark : t ≡ 35 ∷ []) where
       let same : ◌≡◌ {A = Text × Text} (j, u) (p.0, p.1) = cc (p.4) in
       tag_taken i j n v (tag_answered i (Accept n v) a) (subst (λ k. IsSuffixOf text_model i n k) (sym (ap (λ q. q.0) same)) p.2)
   mark_taken (Parsed Refuse a p) = cc (p.2)
-  mark_taken (Parsed Fail a p) = cc (p.2)
-  mark_taken (Parsed TooLarge a p) = cc (p.2)
-  mark_taken (Parsed (Undecided k) a p) = cc (p.2)
+  mark_taken (Parsed (Stop (Fails cause)) a p) = cc (p.2)
+  mark_taken (Parsed (Stop (Needs k)) a p) = cc (p.2)
 
   unmarked : (i : Text) (e : Fault) (x : Error Text) → LeafAnswers (tags text_model length ComparesText t) false i Refuse →
       x ≡ record { input = i; code = Tag } → (let r : Result (Text × Text) Fault = Err e in r ≡ Err (Answered.Error x)) → IsUnmarked i e
@@ -123,9 +110,8 @@ module _ (t : List ℕ) (is_mark : t ≡ 35 ∷ []) where
   mark_missed (Parsed (Accept n v) a p) = cc (p.4)
   mark_missed {i} {e} (Parsed Refuse a p) =
       unmarked i e p.0 (tag_answered i Refuse a) (p.1.fact ∙ ap (λ j. record { input = j; code = Tag }) (sym p.1.at_is)) p.2
-  mark_missed {i} (Parsed Fail a p) = absurd (tag_answered i Fail a)
-  mark_missed {i} (Parsed TooLarge a p) = absurd (tag_answered i TooLarge a)
-  mark_missed {i} (Parsed (Undecided k) a p) = let none = tag_answered i (Undecided k) a in cc (none.0)
+  mark_missed {i} (Parsed (Stop (Fails cause)) a p) = absurd (tag_answered i (Stop (Fails cause)) a)
+  mark_missed {i} (Parsed (Stop (Needs k)) a p) = let none = tag_answered i (Stop (Needs k)) a in cc (none.0)
 
 color_marked : {i j : Text} → IsMarked i j → color_of (chars i.now) ≡ parts_of (chars j.now)
 color_marked m = ap color_of m.whole

@@ -4,18 +4,12 @@ use Rattle.std.specs.Prelude.{cond, chars, nat_lt}
 use Rattle.std.specs.Char.{digit_value, is_digit, len_utf8}
 use Rattle.std.proofs.lemmas.Bool.{and_parts, ltb-true, lt-ltb}
 use Rattle.std.proofs.lemmas.Bool.Decides.{nat_tests}
-use Rattle.nom_error.specs.declared.answer.Needed.{Needed}
+use Rattle.nom_internal.specs.Prelude.{Needed, Model, IsBoundary, IsSuffixOf, items_len, same_cut, same_self, items_len-append, text_model, text_lawful, itself}
+use Rattle.nom_internal.specs.Prelude.{Outcome, Accept, Refuse, Stop, after, GoesOn, Then}
 use Rattle.nom_error.specs.declared.answer.Err as Answer
 use Rattle.nom_error.specs.declared.answer.Err.TheVariants as Answered
 use Rattle.nom_error.specs.declared.kind.ErrorKind.TheVariants.{TakeWhileMN}
 use Rattle.nom_error.specs.declared.value.Error.{Error}
-use Rattle.nom_traits.specs.Input.{Model, IsBoundary, IsSuffixOf, items_len}
-use Rattle.nom_traits.specs.Rests.{same_cut, same_self, items_len-append}
-use Rattle.nom_traits.specs.Text.{text_model, text_lawful}
-use Rattle.nom_traits.specs.View.{itself}
-use Rattle.nom_internal.specs.Outcome.{Outcome}
-use Rattle.nom_internal.specs.Outcome.Outcome.{Accept, Refuse, Fail, TooLarge, Undecided}
-use Rattle.nom_internal.specs.Sequence.{after, GoesOn, Then}
 use Rattle.nom_func.specs.Func.{TellsItems, FuncOutcome, IsParser, FuncAnswers, FuncBlames}
 use Rattle.nom_func.specs.Func.FuncBlames.{OfRefusal, OfFailure}
 use Rattle.nom_func.specs.laws.FuncLaws.{agrees}
@@ -140,9 +134,7 @@ pair_missed i e (OfFailure g) = absurd (never_failed i e g.fault_is)
 abbrev pub IsPlain : {V : Type 0} → Outcome V → Type 0
 IsPlain (Accept n v) = Unit {0}
 IsPlain Refuse = Unit {0}
-IsPlain Fail = ⊥
-IsPlain TooLarge = ⊥
-IsPlain (Undecided k) = ⊥
+IsPlain (Stop why) = ⊥
 
 plain_by : (d : Bool) (k : ℕ) → IsPlain (cond d (Accept 2 k) Refuse)
 plain_by true k = tt
@@ -177,16 +169,12 @@ module _ {I A P Q T : Type 0} (w : Model I A) (tree : P → Q → T) (First : I 
       let trees : t ≡ tree u v = cc (e) in
       record { size = m; more = k; left = u; right = v; rest = j; first = h; rest_is = r; next = g; tree_is = trees; length_is = length }
   both_next n m t u j Refuse h r g e = cc (e)
-  both_next n m t u j Fail h r g e = cc (e)
-  both_next n m t u j TooLarge h r g e = cc (e)
-  both_next n m t u j (Undecided k) h r g e = cc (e)
+  both_next n m t u j (Stop why) h r g e = cc (e)
 
   both_by : (n : ℕ) (t : T) (o : Outcome P) → First i o → GoesOn w tree Next i o (Accept n t) → Both n t
   both_by n t (Accept m u) h g = both_next n m t u g.0 g.1 h g.2 g.3 g.4
   both_by n t Refuse h g = cc (g)
-  both_by n t Fail h g = cc (g)
-  both_by n t TooLarge h g = cc (g)
-  both_by n t (Undecided k) h g = cc (g)
+  both_by n t (Stop why) h g = cc (g)
 
   pub both : (n : ℕ) (t : T) → Then w tree First Next i (Accept n t) → Both n t
   both n t a = both_by n t a.first a.answered a.goes_on
@@ -194,17 +182,13 @@ module _ {I A P Q T : Type 0} (w : Model I A) (tree : P → Q → T) (First : I 
   after_plain : (m : ℕ) (u : P) (p : Outcome Q) → IsPlain p → IsPlain (after m (tree u) p)
   after_plain m u (Accept k v) h = tt
   after_plain m u Refuse h = tt
-  after_plain m u Fail h = h
-  after_plain m u TooLarge h = h
-  after_plain m u (Undecided k) h = h
+  after_plain m u (Stop why) h = h
 
   module _ (first_plain : (o : Outcome P) → First i o → IsPlain o) (next_plain : (u : P) (j : I) (o : Outcome Q) → Next u j o → IsPlain o) where
     sequence_by : (o : Outcome T) (a : Outcome P) → First i a → GoesOn w tree Next i a o → IsPlain o
     sequence_by o (Accept m u) h g = subst IsPlain (sym g.4) (after_plain m u g.1 (next_plain u g.0 g.1 g.3))
     sequence_by o Refuse h g = subst IsPlain (sym g) tt
-    sequence_by o Fail h g = absurd (first_plain Fail h)
-    sequence_by o TooLarge h g = absurd (first_plain TooLarge h)
-    sequence_by o (Undecided k) h g = absurd (first_plain (Undecided k) h)
+    sequence_by o (Stop why) h g = absurd (first_plain (Stop why) h)
 
     pub sequence_plain : (o : Outcome T) → Then w tree First Next i o → IsPlain o
     sequence_plain o a = sequence_by o a.first a.answered a.goes_on

@@ -3,23 +3,11 @@ use Rattle.std.proofs.Common.{◌≡◌, ℕ, ◌+◌, ◌*◌, Bool, true, fals
 use Rattle.std.specs.Prelude.{chars, encode_utf8_all, Some, is_ok}
 use Rattle.std.specs.Char.{digit_value, is_digit}
 use Rattle.std.specs.Str.Parse.{digits_value, without_leading_plus, ParsesUnsigned}
-use Rattle.nom_error.specs.Answers.{IResult}
+use Rattle.nom_internal.specs.Prelude.{IResult, Errors, Modes, modes, IsSuffixOf, Slice, IsModelledBy, text_model, text_lawful, Outcome, Accept, Refuse, Stop}
+use Rattle.nom_internal.specs.Prelude.{Fails, Needs, ParseRanOut, Parsed, Meaning, ParsesMeaning, Leaf, LeafAnswers, GivesFor, Passes, fixed_meaning}
+use Rattle.nom_internal.specs.Prelude.{RunsOutInPart, RunsOutBeside, judged_meaning, kept_if, Judged, OnUnfit, JudgedBlames, OfError}
 use Rattle.nom_error.specs.declared.kind.ErrorKind.TheVariants.{Char, TakeWhileMN}
 use Rattle.nom_error.specs.declared.value.Error.{Error}
-use Rattle.nom_error.specs.Errors.{Errors}
-use Rattle.nom_error.specs.Modes.{Modes, modes}
-use Rattle.nom_traits.specs.Input.{IsSuffixOf}
-use Rattle.nom_traits.specs.Slices.{Slice, IsModelledBy}
-use Rattle.nom_traits.specs.Text.{text_model, text_lawful}
-use Rattle.nom_internal.specs.Outcome.{Outcome}
-use Rattle.nom_internal.specs.Outcome.Outcome.{Accept, Refuse, Fail, TooLarge, Undecided}
-use Rattle.nom_internal.specs.Outcome.ParsesAnswer.{ParseRanOut, Parsed}
-use Rattle.nom_internal.specs.Meaning.{Meaning, ParsesMeaning}
-use Rattle.nom_internal.specs.Leaf.{Leaf, LeafAnswers}
-use Rattle.nom_internal.specs.Closures.{GivesFor}
-use Rattle.nom_internal.specs.Cases.{Passes, fixed_meaning}
-use Rattle.nom_internal.specs.Cases.CaseRunsOut.{RunsOutInPart, RunsOutBeside}
-use Rattle.nom_internal.specs.Judged.{judged_meaning, kept_if, Judged, OnUnfit, JudgedBlames, OfError}
 use Rattle.nom_bytes.specs.ParsedRuns.{runs, bounded_meaning}
 use Rattle.nom_internal.proofs.Consumed.{rest_self}
 use Rattle.example_basics.specs.Colors.{Text, pair_of, AnswersPair}
@@ -62,9 +50,8 @@ module _ {X : Type 0} (Test : ℕ → Bool → Type 0) (IsSound : Type 0) (Takes
       Passes (Judged (GivesFor (IsModelledBy text_model) Gives) is_ok) a (Accept n t) → run_leaf.Accepts false i n t
   passed i n t (Accept k u) h f = subst (λ o. LeafAnswers run_leaf false i o) (sym (kept (is_ok f.0) n k t u f.2)) h
   passed i n t Refuse h f = cc (f)
-  passed i n t Fail h f = absurd h
-  passed i n t TooLarge h f = absurd h
-  passed i n t (Undecided k) h f = cc (f)
+  passed i n t (Stop (Fails cause)) h f = absurd h
+  passed i n t (Stop (Needs k)) h f = cc (f)
 
   mapped_accepts : (i : Text) (n : ℕ) (t : Slice text_model) → (mapped_meaning 2 2).answers true i (Accept n t) → run_leaf.Accepts false i n t
   mapped_accepts i n t h = passed i n t h.outcome
@@ -80,9 +67,8 @@ module _ {X : Type 0} (Test : ℕ → Bool → Type 0) (IsSound : Type 0) (Takes
       Passes (Judged (GivesFor (IsModelledBy text_model) Gives) is_ok) a o → ((n : ℕ) (t : Slice text_model) → o ≡ Accept n t → ⊥) → o ≡ Refuse
   refused_by i o (Accept n t) h f never = not_kept (is_ok f.0) o n t (λ e. absurd (never n t e)) (λ e. e) f.2
   refused_by i o Refuse h f never = f
-  refused_by i o Fail h f never = absurd h
-  refused_by i o TooLarge h f never = absurd h
-  refused_by i o (Undecided k) h f never = cc (h.0)
+  refused_by i o (Stop (Fails cause)) h f never = absurd h
+  refused_by i o (Stop (Needs k)) h f never = cc (h.0)
 
   mapped_refuses : (i : Text) (o : Outcome (Slice text_model)) → (mapped_meaning 2 2).answers true i o →
       ((n : ℕ) (t : Slice text_model) → o ≡ Accept n t → ⊥) → o ≡ Refuse
@@ -126,9 +112,8 @@ module _ {X : Type 0} (Test : ℕ → Bool → Type 0) (IsSound : Type 0) (Takes
       error = f.fact ∙
           ap (λ j. record { input = j; code = TakeWhileMN }) (sym f.at_is);
     }
-    blamed_by i e Fail h f = absurd h
-    blamed_by i e TooLarge h f = absurd h
-    blamed_by i e (Undecided k) h f = absurd f
+    blamed_by i e (Stop (Fails cause)) h f = absurd h
+    blamed_by i e (Stop (Needs k)) h f = absurd f
 
     mapped_blames : (i : Text) (e : Error Text) → (mapped_meaning 2 2).blames true i e → IsMissing i e
     mapped_blames i e h =
@@ -141,9 +126,7 @@ module _ {X : Type 0} (Test : ℕ → Bool → Type 0) (IsSound : Type 0) (Takes
         OnUnfit (GivesFor (IsModelledBy text_model) Gives) is_ok (λ _. (mode.errors ≡ true) × ⊥) a → O
     unfit_grows mode i (Accept n t) f = absurd f.3.1
     unfit_grows mode i Refuse f = absurd f
-    unfit_grows mode i Fail f = absurd f
-    unfit_grows mode i TooLarge f = absurd f
-    unfit_grows mode i (Undecided k) f = absurd f
+    unfit_grows mode i (Stop why) f = absurd f
 
     run_grows : {O : Type 0} (mode : Modes) (i : Text) → (run_meaning 2 2).may_run_out mode i → O
     run_grows mode i (RunsOutInPart j at h) = absurd h.2
@@ -170,9 +153,7 @@ module _ {X : Type 0} (Test : ℕ → Bool → Type 0) (IsSound : Type 0) (Takes
             ap (λ e. e.code) missing.error,
           );
         })
-    two_answer i r known (Parsed Fail a p) = cc (mapped_refuses i Fail a (λ n t e. cc (e)))
-    two_answer i r known (Parsed TooLarge a p) = cc (mapped_refuses i TooLarge a (λ n t e. cc (e)))
-    two_answer i r known (Parsed (Undecided k) a p) = cc (mapped_refuses i (Undecided k) a (λ n t e. cc (e)))
+    two_answer i r known (Parsed (Stop why) a p) = cc (mapped_refuses i (Stop why) a (λ n t e. cc (e)))
 
     pub mapped_answer : {m n : ℕ} {i : Text} {r : IResult Text ℕ (Error Text)} → m ≡ 2 → n ≡ 2 →
         text_model.IsKnown i → MappedAnswer m n i r → AnswersPair i r

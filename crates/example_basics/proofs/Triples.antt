@@ -1,22 +1,13 @@
 -- Three pairs of digits in a tuple.
 use Rattle.std.proofs.Common.{◌≡◌, ℕ, ◌+◌, List, Ok, Err, sym, ◌∙◌, ap, subst, arith}
 use Rattle.std.specs.Prelude.{chars}
-use Rattle.nom_error.specs.Answers.{IResult}
-use Rattle.nom_error.specs.declared.answer.Needed.{Needed}
+use Rattle.nom_internal.specs.Prelude.{IResult, Needed, IsBoundary, IsSuffixOf, rest_rest, text_model, text_lawful, itself, Outcome, Accept, Refuse, Stop}
+use Rattle.nom_internal.specs.Prelude.{ParsesAnswer, ParseRanOut, Parsed, Then, ThenBlames, ThenRunsOut, RunsOutFirst, RunsOutNext, Fails, Needs}
 use Rattle.nom_error.specs.declared.answer.Err as Answer
 use Rattle.nom_error.specs.declared.answer.Err.TheVariants as Answered
 use Rattle.nom_error.specs.declared.kind.ErrorKind.TheVariants.{TakeWhileMN}
 use Rattle.nom_error.specs.declared.value.Error.{Error}
-use Rattle.nom_traits.specs.Input.{IsBoundary, IsSuffixOf}
-use Rattle.nom_traits.specs.Rests.{rest_rest}
-use Rattle.nom_traits.specs.Text.{text_model, text_lawful}
-use Rattle.nom_traits.specs.View.{itself}
-use Rattle.nom_internal.specs.Outcome.{Outcome, ParsesAnswer}
-use Rattle.nom_internal.specs.Outcome.Outcome.{Accept, Refuse, Fail, TooLarge, Undecided}
-use Rattle.nom_internal.specs.Outcome.ParsesAnswer.{ParseRanOut, Parsed}
-use Rattle.nom_internal.specs.Sequence.{Then, ThenBlames, ThenRunsOut}
 use Rattle.nom_internal.specs.Sequence.ThenBlames.{BlamesFirst, BlamesNext}
-use Rattle.nom_internal.specs.Sequence.ThenRunsOut.{RunsOutFirst, RunsOutNext}
 use Rattle.nom_func.specs.Func.{FuncAnswers, FuncBlames, IsViewed}
 use Rattle.nom_internal.specs.Tuples.{PairOutput}
 use Rattle.example_basics.specs.Colors.{Text, on_pair, parts_of, place_missing, AnswersPair}
@@ -199,9 +190,8 @@ triple_read {i} {j} {t} (Parsed (Accept n u) a p) =
     three_read i j n ((t.0, t.1), t.2) (subst (λ x. Three i (Accept n x)) (sym outputs) a)
     (subst (λ k. IsSuffixOf text_model i n k) (sym (ap (λ q. q.0) same)) p.2)
 triple_read (Parsed Refuse a p) = cc (p.2)
-triple_read (Parsed Fail a p) = cc (p.2)
-triple_read (Parsed TooLarge a p) = cc (p.2)
-triple_read (Parsed (Undecided k) a p) = cc (p.2)
+triple_read (Parsed (Stop (Fails cause)) a p) = cc (p.2)
+triple_read (Parsed (Stop (Needs k)) a p) = cc (p.2)
 
 -- and what it refuses
 pub record IsTripleFault (i : Text) (e : Answer.Err (Error Text) (Error Text) Needed) : Type 0 where
@@ -214,6 +204,4 @@ pub triple_fault : {i : Text} {e : Answer.Err (Error Text) (Error Text) Needed} 
 triple_fault {i} (ParseRanOut e h) = absurd (three_frugal i h)
 triple_fault (Parsed (Accept n t) a p) = cc (p.4)
 triple_fault {i} (Parsed Refuse a p) = record { held = p.0; missing = three_none i p.0 p.1; error = cc (p.2) }
-triple_fault {i} (Parsed Fail a p) = absurd (three_plain i Fail a)
-triple_fault {i} (Parsed TooLarge a p) = absurd (three_plain i TooLarge a)
-triple_fault {i} (Parsed (Undecided k) a p) = absurd (three_plain i (Undecided k) a)
+triple_fault {i} (Parsed (Stop why) a p) = absurd (three_plain i (Stop why) a)

@@ -4,11 +4,8 @@ use Rattle.std.specs.Borrow.{Bor}
 use Rattle.std.proofs.Common.{arith, sym, ◌∙◌, ap, subst, length-drop}
 use Rattle.nom_error.specs.declared.kind.ErrorKind.TheVariants.{Char}
 use Rattle.nom_error.specs.declared.value.Error.{Error}
-use Rattle.nom_traits.specs.Bytes.{bytes_model}
-use Rattle.nom_traits.specs.Input.{IsSuffixOf}
+use Rattle.nom_internal.specs.Prelude.{bytes_model, IsSuffixOf, Meaning, IsLawful, leaf_meaning}
 use Rattle.nom_traits.proofs.ByteCuts.{byte_place}
-use Rattle.nom_internal.specs.Meaning.{Meaning, IsLawful}
-use Rattle.nom_internal.specs.Leaf.{leaf_meaning}
 use Rattle.nom_ends.specs.Ends.{plain_leaf}
 use Rattle.nom_ends.specs.laws.AllLaws.{PlainLaws, plain_lawful}
 

@@ -3,19 +3,12 @@ use Rattle.std.specs.Prelude.{◌≡◌, ℕ, ◌+◌, ◌*◌, ◌==◌, ◌&&�
 use Rattle.std.specs.Borrow.{Bor}
 use Rattle.std.specs.Char.{digit_value, is_digit}
 use Rattle.std.specs.Result.{IfErr}
-use Rattle.nom_error.specs.Answers.{IResult}
-use Rattle.nom_error.specs.declared.answer.Needed.{Needed}
+use Rattle.nom_internal.specs.Prelude.{IResult, Needed, ErrorKind, IsSuffixOf, text_model, itself, Outcome, Accept, Refuse}
 use Rattle.nom_error.specs.declared.answer.Err as Answer
 use Rattle.nom_error.specs.declared.answer.Err.TheVariants as Answered
-use Rattle.nom_error.specs.declared.kind.ErrorKind.{ErrorKind}
 use Rattle.nom_error.specs.declared.kind.ErrorKind.TheVariants.{Tag, TakeWhileMN}
 use Rattle.nom_error.specs.declared.value.Error.{Error}
-use Rattle.nom_traits.specs.Input.{IsSuffixOf}
-use Rattle.nom_traits.specs.Text.{text_model}
-use Rattle.nom_traits.specs.View.{itself}
 use Rattle.nom_func.specs.Func.{TellsItems}
-use Rattle.nom_internal.specs.Outcome.{Outcome}
-use Rattle.nom_internal.specs.Outcome.Outcome.{Accept, Refuse}
 use Rattle.example_basics.specs.declared.hex.Color.{Color}
 
 abbrev pub Text : Type 0

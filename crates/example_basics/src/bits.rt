@@ -1,6 +1,5 @@
 //! What bit fields leave.
-ghost use Rattle.nom_traits.specs.Bytes.{bytes_model};
-ghost use Rattle.nom_internal.specs.Results.{OfRest, rest_of};
+ghost use Rattle.nom_internal.specs.Prelude.{bytes_model, OfRest, rest_of};
 ghost use Rattle.nom_bits.specs.BitRests.{StandsBehind};
 
 use nom::bits::complete::take;

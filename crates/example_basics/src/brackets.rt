@@ -1,8 +1,7 @@
 //! A recursive function of a user's own, which `func` makes a parser. A function can't hand itself to `func`,
 //! so it calls itself, and its other parts by `parse_complete`.
 ghost use Rattle.std.specs.Prelude.{◌≡◌, false};
-ghost use Rattle.nom_traits.specs.Bytes.{bytes_model};
-ghost use Rattle.nom_internal.specs.Meaning.{ParsesMeaning};
+ghost use Rattle.nom_internal.specs.Prelude.{bytes_model, ParsesMeaning};
 ghost use Rattle.example_basics.specs.Brackets.{brackets_meaning};
 
 use nom::bytes::tag;

@@ -85,13 +85,33 @@ pub struct UdpHeader {
     pub checksum: u16,
 }
 
+/// A byte, where more may come.
+fn byte(input: Bytes<'_>) -> IResult<Bytes<'_>, u8> {
+    be_u8().parse(input)
+}
+
+/// A number of two bytes, the highest first.
+fn two_bytes(input: Bytes<'_>) -> IResult<Bytes<'_>, u16> {
+    be_u16().parse(input)
+}
+
+/// A number of four bytes, the highest first.
+fn four_bytes(input: Bytes<'_>) -> IResult<Bytes<'_>, u32> {
+    be_u32().parse(input)
+}
+
+/// So many bytes, where more may come.
+fn some_bytes(input: Bytes<'_>, count: usize) -> IResult<Bytes<'_>, Bytes<'_>> {
+    take(count).parse(input)
+}
+
 fn mac_address(input: Bytes<'_>) -> IResult<Bytes<'_>, MacAddress> {
-    let (input, a) = be_u8().parse(input)?;
-    let (input, b) = be_u8().parse(input)?;
-    let (input, c) = be_u8().parse(input)?;
-    let (input, d) = be_u8().parse(input)?;
-    let (input, e) = be_u8().parse(input)?;
-    let (input, f) = be_u8().parse(input)?;
+    let (input, a) = byte(input)?;
+    let (input, b) = byte(input)?;
+    let (input, c) = byte(input)?;
+    let (input, d) = byte(input)?;
+    let (input, e) = byte(input)?;
+    let (input, f) = byte(input)?;
     Ok((input, MacAddress(a, b, c, d, e, f)))
 }
 
@@ -99,7 +119,7 @@ fn mac_address(input: Bytes<'_>) -> IResult<Bytes<'_>, MacAddress> {
 pub fn ethernet(input: Bytes<'_>) -> IResult<Bytes<'_>, EthernetHeader> {
     let (input, destination) = mac_address(input)?;
     let (input, source) = mac_address(input)?;
-    let (input, kind) = be_u16().parse(input)?;
+    let (input, kind) = two_bytes(input)?;
     let head = EthernetHeader {
         destination,
         source,
@@ -109,10 +129,10 @@ pub fn ethernet(input: Bytes<'_>) -> IResult<Bytes<'_>, EthernetHeader> {
 }
 
 fn address(input: Bytes<'_>) -> IResult<Bytes<'_>, Ipv4Addr> {
-    let (input, a) = be_u8().parse(input)?;
-    let (input, b) = be_u8().parse(input)?;
-    let (input, c) = be_u8().parse(input)?;
-    let (input, d) = be_u8().parse(input)?;
+    let (input, a) = byte(input)?;
+    let (input, b) = byte(input)?;
+    let (input, c) = byte(input)?;
+    let (input, d) = byte(input)?;
     Ok((input, Ipv4Addr::new(a, b, c, d)))
 }
 
@@ -128,17 +148,17 @@ pub fn ipv4(start: Bytes<'_>) -> IResult<Bytes<'_>, Ipv4Header<'_>> {
     if version != 4 || words < 5 {
         return Err(Err::Error(Error::new(start, ErrorKind::Verify)));
     }
-    let (input, service) = be_u8().parse(input)?;
-    let (input, total_length) = be_u16().parse(input)?;
-    let (input, identification) = be_u16().parse(input)?;
-    let (input, fragment) = be_u16().parse(input)?;
-    let (input, time_to_live) = be_u8().parse(input)?;
-    let (input, protocol) = be_u8().parse(input)?;
-    let (input, checksum) = be_u16().parse(input)?;
+    let (input, service) = byte(input)?;
+    let (input, total_length) = two_bytes(input)?;
+    let (input, identification) = two_bytes(input)?;
+    let (input, fragment) = two_bytes(input)?;
+    let (input, time_to_live) = byte(input)?;
+    let (input, protocol) = byte(input)?;
+    let (input, checksum) = two_bytes(input)?;
     let (input, source) = address(input)?;
     let (input, destination) = address(input)?;
     let header_length = 4 * words as usize;
-    let (input, options) = take(header_length - 20).parse(input)?;
+    let (input, options) = some_bytes(input, header_length - 20)?;
     let head = Ipv4Header {
         header_length,
         service,
@@ -159,20 +179,20 @@ pub fn ipv4(start: Bytes<'_>) -> IResult<Bytes<'_>, Ipv4Header<'_>> {
 
 /// The header of a TCP segment, with the bytes of its options.
 pub fn tcp(start: Bytes<'_>) -> IResult<Bytes<'_>, TcpHeader<'_>> {
-    let (input, source) = be_u16().parse(start)?;
-    let (input, destination) = be_u16().parse(input)?;
-    let (input, sequence) = be_u32().parse(input)?;
-    let (input, acknowledgment) = be_u32().parse(input)?;
+    let (input, source) = two_bytes(start)?;
+    let (input, destination) = two_bytes(input)?;
+    let (input, sequence) = four_bytes(input)?;
+    let (input, acknowledgment) = four_bytes(input)?;
     let (input, (words, _reserved)) = nibbles(input)?;
     if words < 5 {
         return Err(Err::Error(Error::new(start, ErrorKind::Verify)));
     }
-    let (input, flags) = be_u8().parse(input)?;
-    let (input, window) = be_u16().parse(input)?;
-    let (input, checksum) = be_u16().parse(input)?;
-    let (input, urgent) = be_u16().parse(input)?;
+    let (input, flags) = byte(input)?;
+    let (input, window) = two_bytes(input)?;
+    let (input, checksum) = two_bytes(input)?;
+    let (input, urgent) = two_bytes(input)?;
     let header_length = 4 * words as usize;
-    let (input, options) = take(header_length - 20).parse(input)?;
+    let (input, options) = some_bytes(input, header_length - 20)?;
     let head = TcpHeader {
         source,
         destination,
@@ -230,10 +250,10 @@ fn option_of(kind: u8, body: Bytes<'_>) -> Result<TcpOption<'_>, Err<Error<Bytes
 
 /// The header of a UDP datagram, whose length is 8 bytes at least.
 pub fn udp(start: Bytes<'_>) -> IResult<Bytes<'_>, UdpHeader> {
-    let (input, source) = be_u16().parse(start)?;
-    let (input, destination) = be_u16().parse(input)?;
-    let (input, length) = be_u16().parse(input)?;
-    let (input, checksum) = be_u16().parse(input)?;
+    let (input, source) = two_bytes(start)?;
+    let (input, destination) = two_bytes(input)?;
+    let (input, length) = two_bytes(input)?;
+    let (input, checksum) = two_bytes(input)?;
     if length < 8 {
         return Err(Err::Error(Error::new(start, ErrorKind::Verify)));
     }

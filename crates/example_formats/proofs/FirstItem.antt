@@ -4,17 +4,9 @@ use Rattle.std.specs.Prelude.{◌==◌, chars, Some, None}
 use Rattle.std.specs.Char.{len_utf8}
 use Rattle.std.specs.List.{All}
 use Rattle.std.proofs.lemmas.Bool.Decides.{nat_tests}
-use Rattle.nom_error.specs.Answers.{IResult}
+use Rattle.nom_internal.specs.Prelude.{IResult, IsSuffixOf, same_cut, Stops, Slice, IsModelledBy, text_model, text_lawful, Accept, Refuse, Stop, Fails, Needs}
+use Rattle.nom_internal.specs.Prelude.{ParsesAnswer, ParseRanOut, Parsed, LeafAnswers}
 use Rattle.nom_traits.specs.declared.character.AsciiClass.TheVariants.{Digit}
-use Rattle.nom_traits.specs.Input.{IsSuffixOf}
-use Rattle.nom_traits.specs.Rests.{same_cut}
-use Rattle.nom_traits.specs.Runs.{Stops}
-use Rattle.nom_traits.specs.Slices.{Slice, IsModelledBy}
-use Rattle.nom_traits.specs.Text.{text_model, text_lawful}
-use Rattle.nom_internal.specs.Outcome.{ParsesAnswer}
-use Rattle.nom_internal.specs.Outcome.Outcome.{Accept, Refuse, Fail, TooLarge, Undecided}
-use Rattle.nom_internal.specs.Outcome.ParsesAnswer.{ParseRanOut, Parsed}
-use Rattle.nom_internal.specs.Leaf.{LeafAnswers}
 use Rattle.nom_bytes.specs.ParsedRuns.{runs}
 use Rattle.nom_character.specs.ClassRuns.{IsOf}
 use Rattle.nom_character_first.specs.FirstItem.{heads}
@@ -43,9 +35,8 @@ char_read IsError RunsOut c i j x (Parsed (Accept n t) a p) =
     let same : ◌≡◌ {A = Text × ℕ} (j, x) (p.0, p.1) = cc (p.4) in
     behind_head c a.0 n a.1.rest i j a.1.whole a.2 a.3 (subst (λ k. IsSuffixOf text_model i n k) (sym (ap (λ q. q.0) same)) p.2)
 char_read IsError RunsOut c i j x (Parsed Refuse a p) = cc (p.2)
-char_read IsError RunsOut c i j x (Parsed Fail a p) = absurd a
-char_read IsError RunsOut c i j x (Parsed TooLarge a p) = absurd a
-char_read IsError RunsOut c i j x (Parsed (Undecided k) a p) = cc (p.2)
+char_read IsError RunsOut c i j x (Parsed (Stop (Fails cause)) a p) = absurd a
+char_read IsError RunsOut c i j x (Parsed (Stop (Needs k)) a p) = cc (p.2)
 
 pub char_taken : (k : ℕ) {E : Type 0} {IsError : E → Type 0} {RunsOut : Type 0} (c : ℕ) {i j : Text} {x : ℕ} → k ≡ c →
     CharAnswer IsError RunsOut k i (Ok (j, x)) → chars i.now ≡ c ∷ chars j.now
@@ -88,6 +79,5 @@ digits_taken {i = i} {d = d} {j = j} (Parsed (Accept n t) a p) =
     run_read (IsOf (λ x. x) Digit) i d j n t a (subst (λ k. IsSuffixOf text_model i n k) (sym (ap (λ q. q.0) same)) p.2)
     (subst (λ k. IsModelledBy text_model t k) (sym (ap (λ q. q.1) same)) p.3)
 digits_taken (Parsed Refuse a p) = cc (p.2)
-digits_taken (Parsed Fail a p) = absurd a
-digits_taken (Parsed TooLarge a p) = absurd a
-digits_taken (Parsed (Undecided k) a p) = cc (p.2)
+digits_taken (Parsed (Stop (Fails cause)) a p) = absurd a
+digits_taken (Parsed (Stop (Needs k)) a p) = cc (p.2)

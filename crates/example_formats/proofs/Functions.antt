@@ -1,18 +1,9 @@
 -- Functions as parts of a grammar.
 use Rattle.std.proofs.Common.{◌≡◌, ℕ, false, true, List, Ok, Err, refl, sym, ◌∙◌, ap, subst, arith}
-use Rattle.nom_error.specs.declared.answer.Needed.{Needed}
+use Rattle.nom_internal.specs.Prelude.{Needed, size_of, modes, ErrorKind, IsSuffixOf, IsSame, text_model, View, IsLawful, Outcome, Accept, Refuse, Stop, Fails}
+use Rattle.nom_internal.specs.Prelude.{Needs, Outright, ParsesAnswer, ParseRanOut, Parsed}
 use Rattle.nom_error.specs.declared.answer.Err as Answer
 use Rattle.nom_error.specs.declared.answer.Err.TheVariants as Answered
-use Rattle.nom_error.specs.Answers.{size_of}
-use Rattle.nom_error.specs.Modes.{modes}
-use Rattle.nom_error.specs.declared.kind.ErrorKind.{ErrorKind}
-use Rattle.nom_traits.specs.Input.{IsSuffixOf, IsSame}
-use Rattle.nom_traits.specs.Text.{text_model}
-use Rattle.nom_traits.specs.View.{View}
-use Rattle.nom_internal.specs.Meaning.{IsLawful}
-use Rattle.nom_internal.specs.Outcome.{Outcome, ParsesAnswer}
-use Rattle.nom_internal.specs.Outcome.Outcome.{Accept, Refuse, Fail, TooLarge, Undecided}
-use Rattle.nom_internal.specs.Outcome.ParsesAnswer.{ParseRanOut, Parsed}
 use Rattle.nom_internal.proofs.Consumed.{rest_length}
 use Rattle.nom_func.specs.Func.{IsParser, Tells}
 use Rattle.nom_func.proofs.FuncSound.{parser_of}
@@ -38,17 +29,15 @@ given_itself g i (Err e) h = record { found = Err e; parsed = h; given = refl }
 abbrev IsModelled : {V P : Type 0} (model : View P) → (V → P → Type 0) → Outcome V → Outcome model.Value → Type 0
 IsModelled {P = P} model Holds (Accept n t) o = (y : P) × Holds t y × (o ≡ Accept n (model.value y))
 IsModelled model Holds Refuse o = o ≡ Refuse
-IsModelled model Holds Fail o = o ≡ Fail
-IsModelled model Holds TooLarge o = o ≡ Fail
-IsModelled model Holds (Undecided k) o = o ≡ Undecided k
+IsModelled model Holds (Stop (Fails cause)) o = o ≡ Stop (Fails Outright)
+IsModelled model Holds (Stop (Needs k)) o = o ≡ Stop (Needs k)
 
 same_seen : {V P : Type 0} (model : View P) (F G : V → P → Type 0) → ((t : V) (x y : P) → F t x → G t y → model.value x ≡ model.value y) →
     (a : Outcome V) (o p : Outcome model.Value) → IsModelled model F a o → IsModelled model G a p → o ≡ p
 same_seen model F G f (Accept n t) o p x y = x.2 ∙ (ap (Accept n) (f t x.0 y.0 x.1 y.1) ∙ sym y.2)
 same_seen model F G f Refuse o p x y = x ∙ sym y
-same_seen model F G f Fail o p x y = x ∙ sym y
-same_seen model F G f TooLarge o p x y = x ∙ sym y
-same_seen model F G f (Undecided k) o p x y = x ∙ sym y
+same_seen model F G f (Stop (Fails cause)) o p x y = x ∙ sym y
+same_seen model F G f (Stop (Needs k)) o p x y = x ∙ sym y
 
 -- what a function answers that gives something for what a grammar accepts
 module _ {V O P : Type 0} (g : Grammar V O) (model : View P) (Gives : Text → O → P → Type 0) where
@@ -78,23 +67,20 @@ module _ {V O P : Type 0} (g : Grammar V O) (model : View P) (Gives : Text → O
         );
       }
   accepted i j x y o k t (Parsed Refuse a p) = cc (p.2)
-  accepted i j x y o k t (Parsed Fail a p) = cc (p.2)
-  accepted i j x y o k t (Parsed TooLarge a p) = cc (p.2)
-  accepted i j x y o k t (Parsed (Undecided d) a p) = cc (p.2)
+  accepted i j x y o k t (Parsed (Stop (Fails cause)) a p) = cc (p.2)
+  accepted i j x y o k t (Parsed (Stop (Needs d)) a p) = cc (p.2)
 
   stopped : (i : Text) (e : Answer.Err Fault Fault Needed) (o : Outcome model.Value) → Tells text_model model i (Err e) o → Parses g i (Err e) → Model i o
   stopped i e o t (ParseRanOut q h) = let same : e ≡ Answered.OutOfMemory = cc (q) in absurd (subst (λ z. Tells text_model model i (Err z) o) same t)
   stopped i e o t (Parsed (Accept n u) a p) = cc (p.4)
   stopped i e o t (Parsed Refuse a p) = let same : e ≡ Answered.Error p.0 = cc (p.2) in
       record { outcome = Refuse; answered = a; seen_so = subst (λ z. Tells text_model model i (Err z) o) same t }
-  stopped i e o t (Parsed Fail a p) = let same : e ≡ Answered.Failure p.0 = cc (p.2) in
-      record { outcome = Fail; answered = a; seen_so = subst (λ z. Tells text_model model i (Err z) o) same t }
-  stopped i e o t (Parsed TooLarge a p) = let same : e ≡ Answered.Failure p.0 = cc (p.2) in
-      record { outcome = TooLarge; answered = a; seen_so = subst (λ z. Tells text_model model i (Err z) o) same t }
-  stopped i e o t (Parsed (Undecided d) a p) =
+  stopped i e o t (Parsed (Stop (Fails cause)) a p) = let same : e ≡ Answered.Failure p.0 = cc (p.2) in
+      record { outcome = Stop (Fails cause); answered = a; seen_so = subst (λ z. Tells text_model model i (Err z) o) same t }
+  stopped i e o t (Parsed (Stop (Needs d)) a p) =
       let same : e ≡ Answered.Incomplete p.0 = cc (p.2) in
-      let told : o ≡ Undecided (size_of p.0) = subst (λ z. Tells text_model model i (Err z) o) same t in
-      record { outcome = Undecided d; answered = a; seen_so = told ∙ ap Undecided p.1 }
+      let told : o ≡ Stop (Needs (size_of p.0)) = subst (λ z. Tells text_model model i (Err z) o) same t in
+      record { outcome = Stop (Needs d); answered = a; seen_so = told ∙ ap (λ d. Stop (Needs d)) p.1 }
 
   given_seen : (i : Text) (found : Told O) (r : Told P) (o : Outcome model.Value) → Parses g i found → IsGiven Gives i found r →
       Tells text_model model i r o → Model i o
@@ -107,9 +93,8 @@ module _ {V O P : Type 0} (g : Grammar V O) (model : View P) (Gives : Text → O
       let same : ◌≡◌ {A = Text × O} (j, x) (p.0, p.1) = cc (p.4) in
       (n, subst (λ z. IsSuffixOf text_model i n z) (sym (ap (λ q. q.0) same)) p.2)
   found_rest i j x (Parsed Refuse a p) = cc (p.2)
-  found_rest i j x (Parsed Fail a p) = cc (p.2)
-  found_rest i j x (Parsed TooLarge a p) = cc (p.2)
-  found_rest i j x (Parsed (Undecided d) a p) = cc (p.2)
+  found_rest i j x (Parsed (Stop (Fails cause)) a p) = cc (p.2)
+  found_rest i j x (Parsed (Stop (Needs k)) a p) = cc (p.2)
 
   given_rest : (i j : Text) (y : P) (found : Told O) → Parses g i found → IsGiven Gives i found (Ok (j, y)) → (n : ℕ) × IsSuffixOf text_model i n j
   given_rest i j y (Ok (k, x)) h t =
@@ -141,6 +126,5 @@ pub parses_by : {V O : Type 0} (g : Grammar V O) {F : V → O → Type 0} {A : O
 parses_by g (ParseRanOut e h) f a x s = ParseRanOut e (s h)
 parses_by g (Parsed (Accept n t) h p) f a x s = Parsed (Accept n t) (a (Accept n t) h) (p.0, p.1, p.2, f t p.1 p.3, p.4)
 parses_by g (Parsed Refuse h p) f a x s = Parsed Refuse (a Refuse h) (p.0, x p.0 p.1, p.2)
-parses_by g (Parsed Fail h p) f a x s = Parsed Fail (a Fail h) (p.0, x p.0 p.1, p.2)
-parses_by g (Parsed TooLarge h p) f a x s = Parsed TooLarge (a TooLarge h) (p.0, x p.0 p.1, p.2)
-parses_by g (Parsed (Undecided k) h p) f a x s = Parsed (Undecided k) (a (Undecided k) h) (p.0, p.1, p.2)
+parses_by g (Parsed (Stop (Fails cause)) h p) f a x s = Parsed (Stop (Fails cause)) (a (Stop (Fails cause)) h) (p.0, x p.0 p.1, p.2)
+parses_by g (Parsed (Stop (Needs k)) h p) f a x s = Parsed (Stop (Needs k)) (a (Stop (Needs k)) h) (p.0, p.1, p.2)

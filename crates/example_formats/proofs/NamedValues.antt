@@ -3,17 +3,9 @@ use Rattle.std.proofs.Common.{◌≡◌, ℕ, ◌+◌, Bool, true, false, List, 
 use Rattle.std.specs.Prelude.{◌==◌, chars, Some, None, IfOk}
 use Rattle.std.specs.Char.{len_utf8}
 use Rattle.std.specs.List.{All}
-use Rattle.nom_error.specs.Answers.{IResult}
-use Rattle.nom_traits.specs.Input.{IsSuffixOf, IsBoundary}
-use Rattle.nom_traits.specs.Rests.{same_cut, items_len-append, rest_rest}
-use Rattle.nom_traits.specs.Runs.{Stops}
-use Rattle.nom_traits.specs.Slices.{Slice, IsModelledBy, first_place}
-use Rattle.nom_traits.specs.Text.{text_model, text_lawful}
-use Rattle.nom_internal.specs.Outcome.{Outcome, ParsesAnswer}
-use Rattle.nom_internal.specs.Outcome.Outcome.{Accept, Refuse, Fail, TooLarge, Undecided}
-use Rattle.nom_internal.specs.Outcome.ParsesAnswer.{ParseRanOut, Parsed}
-use Rattle.nom_internal.specs.Leaf.{LeafAnswers}
-use Rattle.nom_internal.specs.Sequence.{Then}
+use Rattle.nom_internal.specs.Prelude.{IResult, IsSuffixOf, IsBoundary, same_cut, items_len-append, rest_rest, Stops, Slice, IsModelledBy, first_place}
+use Rattle.nom_internal.specs.Prelude.{text_model, text_lawful, Outcome, Accept, Refuse, Stop, ParsesAnswer, ParseRanOut, Parsed, LeafAnswers, Then}
+use Rattle.nom_internal.specs.Prelude.{Fails, Needs}
 use Rattle.nom_bytes.specs.ParsedRuns.{runs}
 use Rattle.nom_character_first.specs.FirstItem.{heads}
 use Rattle.example_formats.specs.Named.{IsNamed, in_name, in_value}
@@ -98,6 +90,5 @@ module _ (Names Values : ℕ → Bool → Type 0) (sign : ℕ) (is_sign : sign �
       let behind = both text_model (λ u v. v) SignAnswers (λ _. ValueAnswers) line.between line.second_length line.second line.second_accepts in
       subst (λ x. IfOk x (IsLine i)) (sym p.4) (named_by i p.0 (p.1).0 (p.1).1 n t line behind p.2 (p.3).0 (p.3).1)
   named_answer i r (Parsed Refuse a p) = subst (λ x. IfOk x (IsLine i)) (sym p.2) tt
-  named_answer i r (Parsed Fail a p) = subst (λ x. IfOk x (IsLine i)) (sym p.2) tt
-  named_answer i r (Parsed TooLarge a p) = subst (λ x. IfOk x (IsLine i)) (sym p.2) tt
-  named_answer i r (Parsed (Undecided k) a p) = subst (λ x. IfOk x (IsLine i)) (sym p.2) tt
+  named_answer i r (Parsed (Stop (Fails cause)) a p) = subst (λ x. IfOk x (IsLine i)) (sym p.2) tt
+  named_answer i r (Parsed (Stop (Needs k)) a p) = subst (λ x. IfOk x (IsLine i)) (sym p.2) tt

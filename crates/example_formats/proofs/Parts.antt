@@ -7,16 +7,10 @@ use Rattle.std.specs.Int.{w64}
 use Rattle.std.specs.Str.Parse.{ParsesSigned}
 use Rattle.std.specs.Char.{IsScalar, len_utf8}
 use Rattle.nom_error.specs.declared.answer.Err.TheVariants as Answered
-use Rattle.nom_error.specs.declared.kind.ErrorKind.{ErrorKind}
+use Rattle.nom_internal.specs.Prelude.{ErrorKind, text_model, text_lawful, text_values, itself, pair_view, text_view, IsOne, IsLawful, Outcome, Stop, Fails}
+use Rattle.nom_internal.specs.Prelude.{Outright, IsPinned, either_pinned, value_pinned}
 use Rattle.nom_error.specs.declared.kind.ErrorKind.TheVariants as Kind
 use Rattle.nom_traits.specs.declared.character.AsciiClass.TheVariants.{Digit}
-use Rattle.nom_traits.specs.Text.{text_model, text_lawful, text_values}
-use Rattle.nom_traits.specs.View.{itself, pair_view, text_view}
-use Rattle.nom_internal.specs.Families.{IsOne}
-use Rattle.nom_internal.specs.Meaning.{IsLawful}
-use Rattle.nom_internal.specs.Outcome.{Outcome}
-use Rattle.nom_internal.specs.Outcome.Outcome.{Fail}
-use Rattle.nom_internal.specs.Pinned.{IsPinned, either_pinned, value_pinned}
 use Rattle.nom_func.specs.Func.{IsParser, Tells, viewed_pinned}
 use Rattle.nom_func.proofs.FuncSound.{parser_of}
 use Rattle.nom_func.specs.laws.FuncLaws.{func_lawful}
@@ -100,7 +94,8 @@ module _ (Gives : Text → Told Worth → Type 0) where
   sum_pinned : IsPinned view (sum_in Any Gives).IsOutput
   sum_pinned = folding_pinned applies_alike viewed_pinned (either_pinned viewed_pinned viewed_pinned) value_pinned viewed_pinned (groups_left levels)
 
-fails : (i : Text) (e : Fault) (r : Told Worth) (o : Outcome view.Value) → r ≡ Err (Answered.Failure e) → Tells text_model view i r o → o ≡ Fail
+fails : (i : Text) (e : Fault) (r : Told Worth) (o : Outcome view.Value) → r ≡ Err (Answered.Failure e) → Tells text_model view i r o →
+    o ≡ Stop (Fails Outright)
 fails i e r o q t = subst (λ z. Tells text_model view i z o) q t
 
 pub inside_part : (d : ℕ) → IsParser text_model view (Inside d) Any

@@ -1,9 +1,6 @@
 -- What is known where a sequence accepts.
 use Rattle.std.proofs.Common.{◌≡◌, ℕ, ◌+◌}
-use Rattle.nom_traits.specs.Input.{Model, IsSuffixOf}
-use Rattle.nom_internal.specs.Outcome.{Outcome}
-use Rattle.nom_internal.specs.Outcome.Outcome.{Accept, Refuse, Fail, TooLarge, Undecided}
-use Rattle.nom_internal.specs.Sequence.{Then, GoesOn, after}
+use Rattle.nom_internal.specs.Prelude.{Model, IsSuffixOf, Outcome, Accept, Refuse, Stop, Then, GoesOn, after}
 
 module _ {I A P Q T : Type 0} (w : Model I A) (tree : P → Q → T) (First : I → Outcome P → Type 0) (Next : P → I → Outcome Q → Type 0) (i : I) (n : ℕ)
     (t : T) where
@@ -34,16 +31,12 @@ module _ {I A P Q T : Type 0} (w : Model I A) (tree : P → Q → T) (First : I 
     tree_is = cc (e);
   }
   second_accepted k u j Refuse a r b e = cc (e)
-  second_accepted k u j Fail a r b e = cc (e)
-  second_accepted k u j TooLarge a r b e = cc (e)
-  second_accepted k u j (Undecided l) a r b e = cc (e)
+  second_accepted k u j (Stop why) a r b e = cc (e)
 
   both_accepted : (o : Outcome P) → First i o → GoesOn w tree Next i o (Accept n t) → AreBoth
   both_accepted (Accept k u) a g = second_accepted k u g.0 g.1 a g.2 g.3 g.4
   both_accepted Refuse a g = cc (g)
-  both_accepted Fail a g = cc (g)
-  both_accepted TooLarge a g = cc (g)
-  both_accepted (Undecided k) a g = cc (g)
+  both_accepted (Stop why) a g = cc (g)
 
   pub both : Then w tree First Next i (Accept n t) → AreBoth
   both h = both_accepted h.first h.answered h.goes_on

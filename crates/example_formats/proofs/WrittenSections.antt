@@ -1,6 +1,6 @@
 -- What the parser of sections answers.
 use Rattle.std.proofs.Common.{◌≡◌, ℕ, List, Vec, codes, subst}
-use Rattle.nom_error.specs.declared.kind.ErrorKind.{ErrorKind}
+use Rattle.nom_internal.specs.Prelude.{ErrorKind}
 use Rattle.nom_error.specs.declared.kind.ErrorKind.TheVariants.{IsNot}
 use Rattle.nom.specs.Texts.{TextGrammar}
 use Rattle.example_formats.specs.declared.ini.Section.{Section}

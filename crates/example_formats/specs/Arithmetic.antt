@@ -4,17 +4,11 @@ use Rattle.std.specs.Prelude.{chars, codes, ℤ, pos, neg_ℤ, ◌+ℤ◌, ◌-�
 use Rattle.std.specs.Borrow.{Bor}
 use Rattle.std.specs.Int.{w64, int_pow, IsNonZero}
 use Rattle.std.specs.Str.Parse.{ParsesSigned}
-use Rattle.nom_error.specs.Answers.{IResult}
+use Rattle.nom_internal.specs.Prelude.{IResult, ErrorKind, Errors, View, itself, pair_view, text_view, result_view, Slice, IsModelledBy, text_model}
+use Rattle.nom_internal.specs.Prelude.{EitherOutput, Meaning, ParsesMeaning}
 use Rattle.nom_error.specs.declared.answer.Err.TheVariants as Answered
-use Rattle.nom_error.specs.declared.kind.ErrorKind.{ErrorKind}
 use Rattle.nom_error.specs.declared.kind.ErrorKind.TheVariants as Kind
-use Rattle.nom_error.specs.Errors.{Errors}
-use Rattle.nom_traits.specs.View.{View, itself, pair_view, text_view, result_view}
-use Rattle.nom_traits.specs.Slices.{Slice, IsModelledBy}
-use Rattle.nom_traits.specs.Text.{text_model}
 use Rattle.nom_traits.specs.declared.character.AsciiClass.TheVariants.{Digit}
-use Rattle.nom_internal.specs.Choice.{EitherOutput}
-use Rattle.nom_internal.specs.Meaning.{Meaning, ParsesMeaning}
 use Rattle.nom_func.specs.Func.{IsParser, IsViewed, func_meaning}
 use Rattle.nom_character.specs.ClassRuns.{class_meaning}
 use Rattle.nom_character_first.specs.FirstItem.{char_meaning, satisfy_meaning}

@@ -3,10 +3,7 @@ use Rattle.std.specs.Prelude.{◌≡◌, ℕ, ◌<◌, ◌==◌, ◌||◌, ◌&&
 use Rattle.std.specs.Borrow.{Bor}
 use Rattle.std.specs.Char.{is_ascii_alphanumeric}
 use Rattle.std.specs.List.{All}
-use Rattle.nom_error.specs.Errors.{Errors}
-use Rattle.nom_traits.specs.Runs.{Stops}
-use Rattle.nom_traits.specs.Slices.{Slice}
-use Rattle.nom_traits.specs.Text.{text_model}
+use Rattle.nom_internal.specs.Prelude.{Errors, Stops, Slice, text_model}
 use Rattle.nom.specs.Grammar.{Grammar, separated_pair_of}
 use Rattle.nom.specs.Leaves.{char_of, take_while1_of}
 

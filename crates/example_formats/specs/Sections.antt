@@ -1,9 +1,7 @@
 -- Sections of settings.
 use Rattle.std.specs.Prelude.{◌≡◌, ℕ, not, ◌↔◌, IsTrue, Contains, List, Option, Vec, chars, codes}
-use Rattle.nom_error.specs.declared.kind.ErrorKind.{ErrorKind}
+use Rattle.nom_internal.specs.Prelude.{ErrorKind, Slice, text_model}
 use Rattle.nom_error.specs.declared.kind.ErrorKind.TheVariants.{IsNot}
-use Rattle.nom_traits.specs.Slices.{Slice}
-use Rattle.nom_traits.specs.Text.{text_model}
 use Rattle.nom_bytes.specs.ParsedRuns.{run_meaning, run1_meaning}
 use Rattle.nom.specs.Grammar.{sliced}
 use Rattle.nom.specs.Texts.{Text, TextGrammar, char_of, delimited_of, plain_errors, many0_of, map_of, opt_of, pair_of, separated_pair_of, terminated_of}

@@ -1,6 +1,6 @@
 //! Whole numbers with operators between them, and brackets, to their value: by `precedence`.
 ghost use Rattle.std.specs.Prelude.{◌≡◌, codes};
-ghost use Rattle.nom_traits.specs.Text.{text_model};
+ghost use Rattle.nom_internal.specs.Prelude.{text_model};
 ghost use Rattle.nom_func.specs.Func.{IsParser};
 ghost use Rattle.example_formats.specs.Arithmetic.{
   Answers,

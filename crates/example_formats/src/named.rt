@@ -1,6 +1,6 @@
 //! A name and its value, as `color=dark red`.
 ghost use Rattle.std.specs.Prelude.{◌≡◌, false, chars, IfOk};
-ghost use Rattle.nom_traits.specs.Text.{text_model};
+ghost use Rattle.nom_internal.specs.Prelude.{text_model};
 ghost use Rattle.nom.specs.Grammar.{Parses};
 ghost use Rattle.example_formats.specs.Named.{IsNamed, in_name, in_value, line_of};
 

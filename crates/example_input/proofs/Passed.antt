@@ -1,7 +1,6 @@
 -- The mark after the items that a rest lies after.
 use Rattle.std.proofs.Common.{◌≡◌, ℕ, sym, ◌∙◌}
-use Rattle.nom_traits.specs.Input.{Model, InputLaws, IsPrefixOf, IsSuffixOf}
-use Rattle.nom_traits.specs.Rests.{same_cut}
+use Rattle.nom_internal.specs.Prelude.{Model, InputLaws, IsPrefixOf, IsSuffixOf, same_cut}
 
 -- the items of a front are those that its rest lies after
 pub passed : {I A : Type 0} (w : Model I A) → InputLaws w → (i : I) (n : ℕ) (f j : I) → IsPrefixOf w i n f → (q : IsSuffixOf w i n j) → w.elements f ≡ q.front

@@ -1,8 +1,7 @@
 -- The model of a text with its depth in brackets: the text's, with the depth as a mark, which each character moves.
 use Rattle.std.specs.Prelude.{ℕ, ◌+◌, ◌-◌, ◌^◌, ◌==◌, min, if◌then◌else◌, List}
 use Rattle.std.specs.Borrow.{Bor}
-use Rattle.nom_traits.specs.Input.{Model}
-use Rattle.nom_traits.specs.Text.{text_model}
+use Rattle.nom_internal.specs.Prelude.{Model, text_model}
 use Rattle.nom.specs.Moving.{Moving, always, moving_model}
 use Rattle.example_input.specs.declared.nested.Nested.{Nested}
 

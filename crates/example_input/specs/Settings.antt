@@ -1,8 +1,6 @@
 -- Settings of a file.
 use Rattle.std.specs.Prelude.{codes, chars}
-use Rattle.nom_error.specs.Errors.{Errors}
-use Rattle.nom_traits.specs.Compares.{ComparesText}
-use Rattle.nom_traits.specs.Slices.{Slice}
+use Rattle.nom_internal.specs.Prelude.{Errors, ComparesText, Slice}
 use Rattle.nom.specs.Grammar.{Grammar, separated_pair_of}
 use Rattle.nom.specs.Leaves.{is_not_of, tag_of}
 use Rattle.example_input.specs.declared.source.Source.{Source}

@@ -1,7 +1,6 @@
 -- The model of a text with the name of its file: the text's, with the name as its mark.
 use Rattle.std.specs.Prelude.{ℕ, List}
-use Rattle.nom_traits.specs.Input.{Model}
-use Rattle.nom_traits.specs.Text.{text_model}
+use Rattle.nom_internal.specs.Prelude.{Model, text_model}
 use Rattle.nom.specs.Wrapped.{wrapped_model}
 use Rattle.example_input.specs.declared.source.Source.{Source}
 

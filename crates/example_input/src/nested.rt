@@ -1,9 +1,7 @@
 //! A text that knows how deep in brackets it stands.
 ghost use Rattle.std.specs.Prelude.{◌≡◌, ℕ, List, chars, length, None, refl};
-ghost use Rattle.nom_traits.specs.Text.{text_model, text_lawful, text_values};
-ghost use Rattle.nom_traits.specs.View.{text_view};
-ghost use Rattle.nom_traits.specs.Compares.{ComparesText, ComparesTextNoCase};
-ghost use Rattle.nom_traits.specs.CompareTags.{text_comparing, text_comparing_no_case};
+ghost use Rattle.nom_internal.specs.Prelude.{text_model, text_lawful, text_values, text_view, ComparesText, ComparesTextNoCase, text_comparing};
+ghost use Rattle.nom_internal.specs.Prelude.{text_comparing_no_case};
 ghost use Rattle.nom.specs.Moving.{moved, moving_comparing, moving_lawful, moving_injective, moving_view, moving_views};
 ghost use Rattle.example_input.specs.Nestings.{depth_after, depths, nested_model};
 

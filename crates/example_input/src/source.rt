@@ -1,9 +1,7 @@
 //! A text that knows its file.
 ghost use Rattle.std.specs.Prelude.{◌≡◌, ℕ, List, length, None, refl};
-ghost use Rattle.nom_traits.specs.Text.{text_model, text_lawful, text_values};
-ghost use Rattle.nom_traits.specs.View.{text_view};
-ghost use Rattle.nom_traits.specs.Compares.{ComparesText, ComparesTextNoCase};
-ghost use Rattle.nom_traits.specs.CompareTags.{text_comparing, text_comparing_no_case};
+ghost use Rattle.nom_internal.specs.Prelude.{text_model, text_lawful, text_values, text_view, ComparesText, ComparesTextNoCase, text_comparing};
+ghost use Rattle.nom_internal.specs.Prelude.{text_comparing_no_case};
 ghost use Rattle.nom.specs.Wrapped.{wrapped_comparing, wrapped_lawful, wrapped_injective, wrapped_view, wrapped_views};
 ghost use Rattle.example_input.specs.Sources.{name, source_model};
 

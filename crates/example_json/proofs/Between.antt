@@ -1,7 +1,6 @@
 -- What functions answer that read one part after another.
 use Rattle.std.proofs.Common.{◌≡◌, false, Err, refl}
-use Rattle.nom_error.specs.Modes.{Modes}
-use Rattle.nom_error.specs.declared.answer.Needed.{Needed}
+use Rattle.nom_internal.specs.Prelude.{Modes, Needed}
 use Rattle.nom_error.specs.declared.answer.Err as Answer
 use Rattle.nom_error.specs.declared.value.Error.{Error}
 use Rattle.nom.specs.Texts.{Text, TextGrammar, Parses, delimited_of, preceded_of, separated_pair_of}

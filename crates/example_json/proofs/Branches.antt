@@ -1,13 +1,9 @@
 -- What a value answers, by which branch it is.
 use Rattle.std.proofs.Common.{◌≡◌, ℕ, zero, suc, ◌-◌, ◌<◌, false, Err, arith, sym, subst}
 use Rattle.std.specs.Prelude.{IfOk}
-use Rattle.nom_error.specs.declared.answer.Needed.{Needed}
+use Rattle.nom_internal.specs.Prelude.{Needed, input_len, text_model, Accept, Refuse, Stop, ParseRanOut, Parsed, Fails, Needs}
 use Rattle.nom_error.specs.declared.answer.Err as Answer
 use Rattle.nom_error.specs.declared.value.Error.{Error}
-use Rattle.nom_traits.specs.Input.{input_len}
-use Rattle.nom_traits.specs.Text.{text_model}
-use Rattle.nom_internal.specs.Outcome.Outcome.{Accept, Refuse, Fail, TooLarge, Undecided}
-use Rattle.nom_internal.specs.Outcome.ParsesAnswer.{ParseRanOut, Parsed}
 use Rattle.nom.specs.Texts.{Text, TextGrammar, Parses, or_of}
 use Rattle.example_json.specs.declared.tree.Json.{Json}
 use Rattle.example_json.specs.Json.{array_of, object_of, refuses, scalar_of, value_of}
@@ -49,9 +45,8 @@ pub moved : (c : ℕ) {V O : Type 0} (g : TextGrammar V O) {i j : Text} {x : ℕ
 moved c g {i} t (ParseRanOut e h) = subst (λ z. IfOk z (λ a. input_len text_model a.0 < input_len text_model i)) (sym e) tt
 moved c g {i} t (Parsed (Accept n v) a p) = subst (λ z. IfOk z (λ a. input_len text_model a.0 < input_len text_model i)) (sym p.4) (token_moves c t p.2)
 moved c g {i} t (Parsed Refuse a p) = subst (λ z. IfOk z (λ a. input_len text_model a.0 < input_len text_model i)) (sym p.2) tt
-moved c g {i} t (Parsed Fail a p) = subst (λ z. IfOk z (λ a. input_len text_model a.0 < input_len text_model i)) (sym p.2) tt
-moved c g {i} t (Parsed TooLarge a p) = subst (λ z. IfOk z (λ a. input_len text_model a.0 < input_len text_model i)) (sym p.2) tt
-moved c g {i} t (Parsed (Undecided k) a p) = subst (λ z. IfOk z (λ a. input_len text_model a.0 < input_len text_model i)) (sym p.2) tt
+moved c g {i} t (Parsed (Stop (Fails cause)) a p) = subst (λ z. IfOk z (λ a. input_len text_model a.0 < input_len text_model i)) (sym p.2) tt
+moved c g {i} t (Parsed (Stop (Needs k)) a p) = subst (λ z. IfOk z (λ a. input_len text_model a.0 < input_len text_model i)) (sym p.2) tt
 
 pub moved_not : {O : Type 0} (i : Text) {r : Told O} {e : Answer.Err (Error Text) (Error Text) Needed} → r ≡ Err e →
     IfOk r (λ a. input_len text_model a.0 < input_len text_model i)

@@ -1,6 +1,6 @@
 -- What is answered of a part with nothing after it.
 use Rattle.std.proofs.Common.{◌≡◌, false, Err}
-use Rattle.nom_error.specs.declared.answer.Needed.{Needed}
+use Rattle.nom_internal.specs.Prelude.{Needed}
 use Rattle.nom_error.specs.declared.answer.Err as Answer
 use Rattle.nom_error.specs.declared.value.Error.{Error}
 use Rattle.nom.specs.Texts.{Text, TextGrammar, Parses, terminated_of}

@@ -3,18 +3,11 @@ use Rattle.std.proofs.Common.{◌≡◌, ℕ, ◌+◌, ◌<◌, zero, suc, ◌�
 use Rattle.std.proofs.Common.{Vec, refl, sym, ◌∙◌, ap, subst, inl, inr, arith}
 use Rattle.std.specs.Prelude.{if◌then◌else◌, is_err, is_ok}
 use Rattle.std.specs.List.{AllZip}
-use Rattle.nom_error.specs.declared.answer.Needed.{Needed}
+use Rattle.nom_internal.specs.Prelude.{Needed, modes, IsSuffixOf, text_model, text_lawful, Outcome, Accept, Refuse, Stop, Fails, Needs, ParseRanOut, Parsed}
+use Rattle.nom_internal.specs.Prelude.{Meaning, ParsesMeaning, after}
 use Rattle.nom_error.specs.declared.answer.Err as Answer
 use Rattle.nom_error.specs.declared.answer.Err.TheVariants as Answered
 use Rattle.nom_error.specs.declared.value.Error.{Error}
-use Rattle.nom_error.specs.Modes.{modes}
-use Rattle.nom_traits.specs.Input.{IsSuffixOf}
-use Rattle.nom_traits.specs.Text.{text_model, text_lawful}
-use Rattle.nom_internal.specs.Outcome.{Outcome}
-use Rattle.nom_internal.specs.Outcome.Outcome.{Accept, Refuse, Fail, TooLarge, Undecided}
-use Rattle.nom_internal.specs.Outcome.ParsesAnswer.{ParseRanOut, Parsed}
-use Rattle.nom_internal.specs.Meaning.{Meaning, ParsesMeaning}
-use Rattle.nom_internal.specs.Sequence.{after}
 use Rattle.nom_internal.proofs.Consumed.{rest_self}
 use Rattle.nom_repeat.specs.Repeat.{Turn, Reaches, Repeats, OnReply, TurnsBy}
 use Rattle.nom_repeat.specs.Repeat.Turn.{Ends}
@@ -88,9 +81,9 @@ module _ {V O : Type 0} (g : TextGrammar V O) {Held : List V → Type 0} {i j : 
         (Unit {0} × (PartAt g k).may_run_out (modes true true false) x)) (inr (tt, h)))
     list_stops is q stays (Parsed (Accept n v) a p) = absurd (cc (is, p.4))
     list_stops is q stays (Parsed Refuse a p) = let never : false ≡ true = stays ∙ ap refuses p.2 in absurd (cc (never))
-    list_stops is q stays (Parsed Fail a p) = Parsed Fail (ends Fail a Fail refl) (p.0, blames Fail a p.0 p.1, cc (is, q, p.2))
-    list_stops is q stays (Parsed TooLarge a p) = Parsed TooLarge (ends TooLarge a TooLarge refl) (p.0, blames TooLarge a p.0 p.1, cc (is, q, p.2))
-    list_stops is q stays (Parsed (Undecided k) a p) = Parsed (Undecided k) (ends (Undecided k) a (Undecided k) refl) (p.0, p.1, cc (is, q, p.2))
+    list_stops is q stays (Parsed (Stop (Fails cause)) a p) =
+        Parsed (Stop (Fails cause)) (ends (Stop (Fails cause)) a (Stop (Fails cause)) refl) (p.0, blames (Stop (Fails cause)) a p.0 p.1, cc (is, q, p.2))
+    list_stops is q stays (Parsed (Stop (Needs k)) a p) = Parsed (Stop (Needs k)) (ends (Stop (Needs k)) a (Stop (Needs k)) refl) (p.0, p.1, cc (is, q, p.2))
 
     -- there is no memory to keep an item
     list_lacks : (n : ℕ) (v : V) → (PartAt g (length c.trees)).answers false j (Accept n v) → r ≡ Err Answered.OutOfMemory → Parses (list_of g) false i r

@@ -3,9 +3,7 @@ use Rattle.std.proofs.Common.{◌≡◌, ℕ, ◌+◌, ◌-◌, ◌*◌, List, O
 use Rattle.std.specs.Prelude.{chars, encode_utf8_all}
 use Rattle.std.specs.Char.{IsScalar}
 use Rattle.std.specs.Option.{SomeIff, is_some}
-use Rattle.nom_traits.specs.Slices.{IsModelledBy}
-use Rattle.nom_traits.specs.Text.{text_model}
-use Rattle.nom_internal.specs.Closures.{IsJudge}
+use Rattle.nom_internal.specs.Prelude.{IsModelledBy, text_model, IsJudge}
 use Rattle.nom.specs.Texts.{Text}
 use Rattle.example_json.specs.Scalars.{Part}
 use Rattle.example_json.specs.Strings.{IsAlone, IsHigh, IsJoined, IsLow, number_of_four}

@@ -8,18 +8,11 @@ use Rattle.std.proofs.lemmas.List.Elements.{All-head, All-tail}
 use Rattle.std.proofs.lemmas.Str.{chars-nil, encodes-chars}
 use Rattle.std.specs.declared.borrow.CowStr.{CowStr}
 use Rattle.std.specs.declared.borrow.CowStr.TheVariants.{Borrowed, Owned}
-use Rattle.nom_error.specs.declared.answer.Needed.{Needed}
+use Rattle.nom_internal.specs.Prelude.{Needed, IsSuffixOf, items_len, same_cut, Stops, IsModelledBy, text_model, text_lawful, Accept, Refuse, Stop, Fails}
+use Rattle.nom_internal.specs.Prelude.{Needs, ParseRanOut, Parsed, Meaning}
 use Rattle.nom_error.specs.declared.answer.Err as Answer
 use Rattle.nom_error.specs.declared.kind.ErrorKind.TheVariants.{TakeWhile1}
 use Rattle.nom_error.specs.declared.value.Error.{Error}
-use Rattle.nom_traits.specs.Input.{IsSuffixOf, items_len}
-use Rattle.nom_traits.specs.Rests.{same_cut}
-use Rattle.nom_traits.specs.Runs.{Stops}
-use Rattle.nom_traits.specs.Slices.{IsModelledBy}
-use Rattle.nom_traits.specs.Text.{text_model, text_lawful}
-use Rattle.nom_internal.specs.Outcome.Outcome.{Accept, Refuse, Fail, TooLarge, Undecided}
-use Rattle.nom_internal.specs.Outcome.ParsesAnswer.{ParseRanOut, Parsed}
-use Rattle.nom_internal.specs.Meaning.{Meaning}
 use Rattle.nom_internal.proofs.Consumed.{rest_self}
 use Rattle.nom_bytes.specs.ParsedRuns.{IsRunSlice, run_meaning}
 use Rattle.nom_bytes_escaped.specs.declared.next_piece.Piece.{Piece}
@@ -42,9 +35,8 @@ pub never_stops : {i : Text} {s : Told Text} {e : Answer.Err (Error Text) (Error
 never_stops is (ParseRanOut e h) = absurd h.2
 never_stops is (Parsed (Accept n v) a p) = cc (is, p.4)
 never_stops is (Parsed Refuse a p) = p.1
-never_stops is (Parsed Fail a p) = a
-never_stops is (Parsed TooLarge a p) = a
-never_stops is (Parsed (Undecided k) a p) = cc (a.0)
+never_stops is (Parsed (Stop (Fails cause)) a p) = a
+never_stops is (Parsed (Stop (Needs k)) a p) = cc (a.0)
 
 abbrev Pieces : Type 0
 Pieces = List (Piece Part EscapeTree)
@@ -180,9 +172,8 @@ module _ {M : Type 0} {i : Text} where
   owned_stops is q (ParseRanOut e z) = ParseRanOut (cc (is, q, e)) z
   owned_stops is q (Parsed (Accept n v) a p) = absurd (cc (is, p.4))
   owned_stops is q (Parsed Refuse a p) = Parsed Refuse a (p.0, p.1, cc (is, q, p.2))
-  owned_stops is q (Parsed Fail a p) = Parsed Fail a (p.0, p.1, cc (is, q, p.2))
-  owned_stops is q (Parsed TooLarge a p) = Parsed TooLarge a (p.0, p.1, cc (is, q, p.2))
-  owned_stops is q (Parsed (Undecided k) a p) = Parsed (Undecided k) a (p.0, p.1, cc (is, q, p.2))
+  owned_stops is q (Parsed (Stop (Fails cause)) a p) = Parsed (Stop (Fails cause)) a (p.0, p.1, cc (is, q, p.2))
+  owned_stops is q (Parsed (Stop (Needs k)) a p) = Parsed (Stop (Needs k)) a (p.0, p.1, cc (is, q, p.2))
 
 -- no byte, and so no character
 pub none_left : (bytes : List ℕ) (b : Bool) → b ≡ (length bytes == 0) → b ≡ true → chars bytes ≡ []

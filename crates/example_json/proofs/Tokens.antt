@@ -1,12 +1,7 @@
 -- What is known of characters with white space after them.
 use Rattle.std.proofs.Common.{◌≡◌, ℕ, ◌+◌, ◌<◌, false, arith, sym, subst}
-use Rattle.nom_error.specs.Modes.{Modes}
-use Rattle.nom_traits.specs.Input.{IsSuffixOf, input_len}
-use Rattle.nom_traits.specs.Text.{text_model, text_lawful}
-use Rattle.nom_internal.specs.Outcome.{Outcome}
-use Rattle.nom_internal.specs.Outcome.Outcome.{Accept, Refuse, Fail, TooLarge, Undecided}
-use Rattle.nom_internal.specs.Sequence.{after, GoesOn}
-use Rattle.nom_internal.specs.Sequence.ThenRunsOut.{RunsOutFirst, RunsOutNext}
+use Rattle.nom_internal.specs.Prelude.{Modes, IsSuffixOf, input_len, text_model, text_lawful, Outcome, Accept, Refuse, Stop, after, GoesOn, RunsOutFirst}
+use Rattle.nom_internal.specs.Prelude.{RunsOutNext}
 use Rattle.nom_internal.proofs.Consumed.{rest_length}
 use Rattle.nom.specs.Texts.{Text, char_of}
 use Rattle.example_json.specs.Scalars.{Part, spaces_of, token_of}
@@ -26,17 +21,13 @@ token_frugal c mode i (RunsOutNext h) = absurd h.fact.2
 behind_more : (n m t u : ℕ) (p : Outcome Part) → 0 < n → Accept m t ≡ after n (λ _. u) p → 0 < m
 behind_more n m t u (Accept k v) h e = let same : m ≡ n + k = cc (e) in omega (arith, h, same)
 behind_more n m t u Refuse h e = cc (e)
-behind_more n m t u Fail h e = cc (e)
-behind_more n m t u TooLarge h e = cc (e)
-behind_more n m t u (Undecided k) h e = cc (e)
+behind_more n m t u (Stop why) h e = cc (e)
 
 token_length : (c : ℕ) (i : Text) (n t : ℕ) (o : Outcome ℕ) → (char_of c).meaning.answers false i o →
     GoesOn text_model (λ u v. u) (λ _. spaces_of.meaning.answers false) i o (Accept n t) → 0 < n
 token_length c i n t (Accept k u) a g = behind_more k n t u g.1 (subst (λ m. 0 < m) (sym a.3) (text_lawful.positive a.0)) g.4
 token_length c i n t Refuse a g = cc (g)
-token_length c i n t Fail a g = cc (g)
-token_length c i n t TooLarge a g = cc (g)
-token_length c i n t (Undecided k) a g = cc (g)
+token_length c i n t (Stop why) a g = cc (g)
 
 -- what is left after a character, and after what follows it, is shorter
 pub token_moves : (c : ℕ) {i j k : Text} {x n : ℕ} → (t : Taken (token_of c).IsOutput ((token_of c).meaning.answers false i) i j x) →

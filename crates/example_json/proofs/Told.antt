@@ -1,21 +1,11 @@
 -- What functions answer that call each other, by what those answer.
 use Rattle.std.proofs.Common.{◌≡◌, ℕ, ◌+◌, true, false, Ok, Err, refl, sym, ◌∙◌, ap, subst, inl, inr}
-use Rattle.nom_error.specs.Answers.{IResult}
-use Rattle.nom_error.specs.declared.answer.Needed.{Needed}
+use Rattle.nom_internal.specs.Prelude.{IResult, Needed, IsSuffixOf, rest_rest, text_model, text_lawful, Outcome, Accept, Refuse, Stop, Fails, Needs}
+use Rattle.nom_internal.specs.Prelude.{ParsesAnswer, ParseRanOut, Parsed, FirstFails, FirstRefuses, NextFails, NextRefuses, Then, ThenBlames, ThenRunsOut}
+use Rattle.nom_internal.specs.Prelude.{RunsOutFirst, RunsOutNext, RunsOutInPart}
 use Rattle.nom_error.specs.declared.answer.Err as Answer
 use Rattle.nom_error.specs.declared.value.Error.{Error}
-use Rattle.nom_traits.specs.Input.{IsSuffixOf}
-use Rattle.nom_traits.specs.Rests.{rest_rest}
-use Rattle.nom_traits.specs.Text.{text_model, text_lawful}
-use Rattle.nom_internal.specs.Outcome.{Outcome, ParsesAnswer}
-use Rattle.nom_internal.specs.Outcome.Outcome.{Accept, Refuse, Fail, TooLarge, Undecided}
-use Rattle.nom_internal.specs.Outcome.ParsesAnswer.{ParseRanOut, Parsed}
-use Rattle.nom_internal.specs.Choice.OrBlames.{FirstFails, FirstRefuses}
-use Rattle.nom_internal.specs.Choice.NextBlames.{NextFails, NextRefuses}
-use Rattle.nom_internal.specs.Sequence.{Then, ThenBlames, ThenRunsOut}
 use Rattle.nom_internal.specs.Sequence.ThenBlames.{BlamesFirst, BlamesNext}
-use Rattle.nom_internal.specs.Sequence.ThenRunsOut.{RunsOutFirst, RunsOutNext}
-use Rattle.nom_internal.specs.Cases.CaseRunsOut.{RunsOutInPart}
 use Rattle.nom.specs.Texts.{Text, TextGrammar, Parses, or_of}
 use Rattle.example_json.specs.Json.{as_of, refuses}
 
@@ -43,9 +33,8 @@ module _ {V O : Type 0} {IsOutput : V → O → Type 0} {Answers : Outcome V →
         output_is = subst (λ y. IsOutput v y) (sym (ap (λ q. q.1) same)) p.3;
       }
   taken is (Parsed Refuse a p) = absurd (cc (is, p.2))
-  taken is (Parsed Fail a p) = absurd (cc (is, p.2))
-  taken is (Parsed TooLarge a p) = absurd (cc (is, p.2))
-  taken is (Parsed (Undecided k) a p) = absurd (cc (is, p.2))
+  taken is (Parsed (Stop (Fails cause)) a p) = absurd (cc (is, p.2))
+  taken is (Parsed (Stop (Needs k)) a p) = absurd (cc (is, p.2))
 
   pub told : {r : Told O} → r ≡ Ok (j, x) → Taken IsOutput Answers i j x → ParsesAnswer text_model IsOutput i Answers IsError RunsOut r
   told is t = Parsed (Accept t.length t.tree) t.answered (j, x, t.rest_is, t.output_is, is)
@@ -71,14 +60,11 @@ module _ {P Q T X Z : Type 0} {tree : P → Q → T} {First : Text → Outcome P
   first_stops f is q (Parsed Refuse a p) =
       Parsed Refuse (record { first = Refuse; answered = a; goes_on = refl })
       (p.0, BlamesFirst (record { outcome = Refuse; answered = a; kind_is = tt; fact = p.1 }), cc (is, q, p.2))
-  first_stops f is q (Parsed Fail a p) =
-      Parsed Fail (record { first = Fail; answered = a; goes_on = refl })
-      (p.0, BlamesFirst (record { outcome = Fail; answered = a; kind_is = tt; fact = p.1 }), cc (is, q, p.2))
-  first_stops f is q (Parsed TooLarge a p) =
-      Parsed TooLarge (record { first = TooLarge; answered = a; goes_on = refl })
-      (p.0, BlamesFirst (record { outcome = TooLarge; answered = a; kind_is = tt; fact = p.1 }), cc (is, q, p.2))
-  first_stops f is q (Parsed (Undecided k) a p) =
-      Parsed (Undecided k) (record { first = Undecided k; answered = a; goes_on = refl }) (p.0, p.1, cc (is, q, p.2))
+  first_stops f is q (Parsed (Stop (Fails cause)) a p) =
+      Parsed (Stop (Fails cause)) (record { first = Stop (Fails cause); answered = a; goes_on = refl })
+      (p.0, BlamesFirst (record { outcome = Stop (Fails cause); answered = a; kind_is = tt; fact = p.1 }), cc (is, q, p.2))
+  first_stops f is q (Parsed (Stop (Needs k)) a p) =
+      Parsed (Stop (Needs k)) (record { first = Stop (Needs k); answered = a; goes_on = refl }) (p.0, p.1, cc (is, q, p.2))
 
   module _ {j : Text} {x : X} (t : Taken IsFirst (First i) i j x) where
     -- the first accepts, and what follows it stops
@@ -104,8 +90,8 @@ module _ {P Q T X Z : Type 0} {tree : P → Q → T} {First : Text → Outcome P
           }),
           cc (is, q, p.2),
         )
-    next_stops f is q (Parsed Fail a p) =
-        Parsed Fail (record { first = Accept t.length t.tree; answered = t.answered; goes_on = (j, Fail, t.rest_is, a, refl) }) (
+    next_stops f is q (Parsed (Stop (Fails cause)) a p) =
+        Parsed (Stop (Fails cause)) (record { first = Accept t.length t.tree; answered = t.answered; goes_on = (j, Stop (Fails cause), t.rest_is, a, refl) }) (
           p.0,
           BlamesNext (record {
             length = t.length;
@@ -114,26 +100,12 @@ module _ {P Q T X Z : Type 0} {tree : P → Q → T} {First : Text → Outcome P
             accepted = t.answered;
             rest_is = t.rest_is;
             fact =
-                record { outcome = Fail; answered = a; kind_is = tt; fact = p.1 };
+                record { outcome = Stop (Fails cause); answered = a; kind_is = tt; fact = p.1 };
           }),
           cc (is, q, p.2),
         )
-    next_stops f is q (Parsed TooLarge a p) =
-        Parsed TooLarge (record { first = Accept t.length t.tree; answered = t.answered; goes_on = (j, TooLarge, t.rest_is, a, refl) }) (
-          p.0,
-          BlamesNext (record {
-            length = t.length;
-            tree = t.tree;
-            rest = j;
-            accepted = t.answered;
-            rest_is = t.rest_is;
-            fact =
-                record { outcome = TooLarge; answered = a; kind_is = tt; fact = p.1 };
-          }),
-          cc (is, q, p.2),
-        )
-    next_stops f is q (Parsed (Undecided k) a p) =
-        Parsed (Undecided k) (record { first = Accept t.length t.tree; answered = t.answered; goes_on = (j, Undecided k, t.rest_is, a, refl) })
+    next_stops f is q (Parsed (Stop (Needs k)) a p) =
+        Parsed (Stop (Needs k)) (record { first = Accept t.length t.tree; answered = t.answered; goes_on = (j, Stop (Needs k), t.rest_is, a, refl) })
         (p.0, p.1, cc (is, q, p.2))
 
 -- both accept
@@ -163,9 +135,8 @@ module _ {P Q T X Y : Type 0} {tree : P → Q → T} {First : Text → Outcome P
       (record { first = Accept t.length t.tree; answered = t.answered; goes_on = (j, Accept n v, t.rest_is, a, refl) })
       (p.0, p.1, rest_rest text_model text_lawful i t.length j n p.0 t.rest_is p.2, f v p.1 p.3, p.4)
   follows t f (Parsed Refuse a p) = next_stops t {IsNext = IsNext} (λ z. z) p.2 p.2 (Parsed Refuse a p)
-  follows t f (Parsed Fail a p) = next_stops t {IsNext = IsNext} (λ z. z) p.2 p.2 (Parsed Fail a p)
-  follows t f (Parsed TooLarge a p) = next_stops t {IsNext = IsNext} (λ z. z) p.2 p.2 (Parsed TooLarge a p)
-  follows t f (Parsed (Undecided k) a p) = next_stops t {IsNext = IsNext} (λ z. z) p.2 p.2 (Parsed (Undecided k) a p)
+  follows t f (Parsed (Stop (Fails cause)) a p) = next_stops t {IsNext = IsNext} (λ z. z) p.2 p.2 (Parsed (Stop (Fails cause)) a p)
+  follows t f (Parsed (Stop (Needs k)) a p) = next_stops t {IsNext = IsNext} (λ z. z) p.2 p.2 (Parsed (Stop (Needs k)) a p)
 
 -- one of two branches
 module _ {V U O : Type 0} (g : TextGrammar V O) (h : TextGrammar U O) {i : Text} {r : Told O} where
@@ -180,43 +151,27 @@ module _ {V U O : Type 0} (g : TextGrammar V O) (h : TextGrammar U O) {i : Text}
         goes_on = refl;
       }) p
   first_tells (Parsed Refuse a p) q = let no : false ≡ true = q ∙ ap refuses p.2 in absurd (cc (no))
-  first_tells (Parsed Fail a p) q =
-      Parsed Fail (record {
-        first = Fail;
-        answered = record { at = i; at_is = refl; outcome = Fail; answered = a; fact = refl };
+  first_tells (Parsed (Stop (Fails cause)) a p) q =
+      Parsed (Stop (Fails cause)) (record {
+        first = Stop (Fails cause);
+        answered = record { at = i; at_is = refl; outcome = Stop (Fails cause); answered = a; fact = refl };
         goes_on =
             refl;
       }) (
         p.0,
         FirstFails (record {
-          outcome = Fail;
-          answered = record { at = i; at_is = refl; outcome = Fail; answered = a; fact = refl };
+          outcome = Stop (Fails cause);
+          answered = record { at = i; at_is = refl; outcome = Stop (Fails cause); answered = a; fact = refl };
           kind_is = tt;
-          fact = record { at = i; at_is = refl; outcome = Fail; answered = a; fact = p.1 };
+          fact = record { at = i; at_is = refl; outcome = Stop (Fails cause); answered = a; fact = p.1 };
         }),
         p.2,
       )
-  first_tells (Parsed TooLarge a p) q =
-      Parsed TooLarge (record {
-        first = TooLarge;
-        answered = record { at = i; at_is = refl; outcome = TooLarge; answered = a; fact = refl };
-        goes_on = refl;
-      }) (
-        p.0,
-        FirstFails
-            (record {
-              outcome = TooLarge;
-              answered = record { at = i; at_is = refl; outcome = TooLarge; answered = a; fact = refl };
-              kind_is = tt;
-              fact = record { at = i; at_is = refl; outcome = TooLarge; answered = a; fact = p.1 };
-            }),
-        p.2,
-      )
-  first_tells (Parsed (Undecided k) a p) q =
-      Parsed (Undecided k) (record {
-        first = Undecided k;
+  first_tells (Parsed (Stop (Needs k)) a p) q =
+      Parsed (Stop (Needs k)) (record {
+        first = Stop (Needs k);
         answered =
-            record { at = i; at_is = refl; outcome = Undecided k; answered = a; fact = refl };
+            record { at = i; at_is = refl; outcome = Stop (Needs k); answered = a; fact = refl };
         goes_on = refl;
       }) p
 
@@ -230,9 +185,8 @@ pub refused : {V O : Type 0} (g : TextGrammar V O) {i : Text} {r : Told O} → P
 refused g (ParseRanOut e z) q = let no : true ≡ false = q ∙ ap refuses e in absurd (cc (no))
 refused g (Parsed (Accept n v) a p) q = let no : true ≡ false = q ∙ ap refuses p.4 in absurd (cc (no))
 refused g (Parsed Refuse a p) q = record { answered = a; error = p.0; blamed = p.1 }
-refused g (Parsed Fail a p) q = let no : true ≡ false = q ∙ ap refuses p.2 in absurd (cc (no))
-refused g (Parsed TooLarge a p) q = let no : true ≡ false = q ∙ ap refuses p.2 in absurd (cc (no))
-refused g (Parsed (Undecided k) a p) q = let no : true ≡ false = q ∙ ap refuses p.2 in absurd (cc (no))
+refused g (Parsed (Stop (Fails cause)) a p) q = let no : true ≡ false = q ∙ ap refuses p.2 in absurd (cc (no))
+refused g (Parsed (Stop (Needs k)) a p) q = let no : true ≡ false = q ∙ ap refuses p.2 in absurd (cc (no))
 
 -- the second, where the first refused
 module _ {V U O : Type 0} (g : TextGrammar V O) (h : TextGrammar U O) {i : Text} {r : Told O} (f : HasRefused g i) where
@@ -266,47 +220,29 @@ module _ {V U O : Type 0} (g : TextGrammar V O) (h : TextGrammar U O) {i : Text}
             })),
         p.2,
       )
-  next_tells (Parsed Fail a p) =
-      Parsed Fail (record {
+  next_tells (Parsed (Stop (Fails cause)) a p) =
+      Parsed (Stop (Fails cause)) (record {
         first = Refuse;
         answered = record { at = i; at_is = refl; outcome = Refuse; answered = f.answered; fact = refl };
-        goes_on = record { at = i; at_is = refl; outcome = Fail; answered = a; fact = refl };
+        goes_on = record { at = i; at_is = refl; outcome = Stop (Fails cause); answered = a; fact = refl };
       }) (
         p.0,
         FirstRefuses (record { at = i; at_is = refl; outcome = Refuse; answered = f.answered; fact = refl })
             (NextFails (record {
-              outcome = Fail;
-              answered = record { at = i; at_is = refl; outcome = Fail; answered = a; fact = refl };
+              outcome = Stop (Fails cause);
+              answered = record { at = i; at_is = refl; outcome = Stop (Fails cause); answered = a; fact = refl };
               kind_is = tt;
-              fact = record { at = i; at_is = refl; outcome = Fail; answered = a; fact = p.1 };
+              fact = record { at = i; at_is = refl; outcome = Stop (Fails cause); answered = a; fact = p.1 };
             })),
         p.2,
       )
-  next_tells (Parsed TooLarge a p) =
-      Parsed TooLarge (record {
+  next_tells (Parsed (Stop (Needs k)) a p) =
+      Parsed (Stop (Needs k)) (record {
         first = Refuse;
         answered =
             record { at = i; at_is = refl; outcome = Refuse; answered = f.answered; fact = refl };
         goes_on =
-            record { at = i; at_is = refl; outcome = TooLarge; answered = a; fact = refl };
-      }) (
-        p.0,
-        FirstRefuses (record { at = i; at_is = refl; outcome = Refuse; answered = f.answered; fact = refl })
-            (NextFails (record {
-              outcome = TooLarge;
-              answered = record { at = i; at_is = refl; outcome = TooLarge; answered = a; fact = refl };
-              kind_is = tt;
-              fact = record { at = i; at_is = refl; outcome = TooLarge; answered = a; fact = p.1 };
-            })),
-        p.2,
-      )
-  next_tells (Parsed (Undecided k) a p) =
-      Parsed (Undecided k) (record {
-        first = Refuse;
-        answered =
-            record { at = i; at_is = refl; outcome = Refuse; answered = f.answered; fact = refl };
-        goes_on =
-            record { at = i; at_is = refl; outcome = Undecided k; answered = a; fact = refl };
+            record { at = i; at_is = refl; outcome = Stop (Needs k); answered = a; fact = refl };
       }) p
 
 -- both refused, with the second's error
@@ -342,6 +278,5 @@ module _ {V O P : Type 0} {Makes : O → P → Type 0} (g : TextGrammar V O) {i 
   as_stops is q (ParseRanOut e z) = ParseRanOut (cc (is, q, e)) z
   as_stops is q (Parsed (Accept n v) a p) = absurd (cc (is, p.4))
   as_stops is q (Parsed Refuse a p) = Parsed Refuse a (p.0, p.1, cc (is, q, p.2))
-  as_stops is q (Parsed Fail a p) = Parsed Fail a (p.0, p.1, cc (is, q, p.2))
-  as_stops is q (Parsed TooLarge a p) = Parsed TooLarge a (p.0, p.1, cc (is, q, p.2))
-  as_stops is q (Parsed (Undecided k) a p) = Parsed (Undecided k) a (p.0, p.1, cc (is, q, p.2))
+  as_stops is q (Parsed (Stop (Fails cause)) a p) = Parsed (Stop (Fails cause)) a (p.0, p.1, cc (is, q, p.2))
+  as_stops is q (Parsed (Stop (Needs k)) a p) = Parsed (Stop (Needs k)) a (p.0, p.1, cc (is, q, p.2))

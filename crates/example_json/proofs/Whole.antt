@@ -1,13 +1,8 @@
 -- That a look at a whole number takes no memory.
 use Rattle.std.proofs.Common.{◌≡◌, ℕ, false, true, ◌⊎◌, List, Option, codes, subst, inl, inr}
-use Rattle.nom_error.specs.Modes.{Modes, with_outputs}
+use Rattle.nom_internal.specs.Prelude.{Modes, with_outputs, OnRefused, labelled_meaning, RunsOutInPart, RunsOutBeside, Meaning, Outcome, Accept, Refuse, Stop}
+use Rattle.nom_internal.specs.Prelude.{RunsOutFirst, RunsOutNext}
 use Rattle.nom_error.specs.declared.value.Error.{Error}
-use Rattle.nom_internal.specs.Cases.{OnRefused, labelled_meaning}
-use Rattle.nom_internal.specs.Cases.CaseRunsOut.{RunsOutInPart, RunsOutBeside}
-use Rattle.nom_internal.specs.Meaning.{Meaning}
-use Rattle.nom_internal.specs.Outcome.{Outcome}
-use Rattle.nom_internal.specs.Outcome.Outcome.{Accept, Refuse, Fail, TooLarge, Undecided}
-use Rattle.nom_internal.specs.Sequence.ThenRunsOut.{RunsOutFirst, RunsOutNext}
 use Rattle.nom.specs.Texts.{Parses, Text, all_consuming_of, alt_of, char_of, digit1_of, opt_of, or_of, pair_of, tag_of}
 use Rattle.example_json.specs.Numbers.{whole_by}
 use Rattle.example_json.specs.Scalars.{Part}
@@ -25,9 +20,7 @@ labelled_frugal label m f mode i (RunsOutBeside p) = absurd p.fact
 never_closed : {V : Type 0} (X : Type 0) (o : Outcome V) → OnRefused (X × ⊥) o → ⊥
 never_closed X (Accept n v) h = h
 never_closed X Refuse h = h.1
-never_closed X Fail h = h
-never_closed X TooLarge h = h
-never_closed X (Undecided k) h = h
+never_closed X (Stop why) h = h
 
 opt_frugal : (c : ℕ) → Frugal (opt_of (char_of c)).meaning
 opt_frugal c mode i (RunsOutInPart j e h) = absurd h.2

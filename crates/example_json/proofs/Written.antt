@@ -1,6 +1,6 @@
 -- What the parsers of words, numbers and texts answer: what holds of a grammar by its parts holds of the grammar.
 use Rattle.std.proofs.Common.{◌≡◌, ℕ, List, codes, subst}
-use Rattle.nom_error.specs.declared.kind.ErrorKind.{ErrorKind}
+use Rattle.nom_internal.specs.Prelude.{ErrorKind}
 use Rattle.nom_error.specs.declared.kind.ErrorKind.TheVariants.{OneOf, TakeWhile1}
 use Rattle.nom.specs.Texts.{Text, TextGrammar}
 use Rattle.example_json.specs.declared.tree.Json.{Json}

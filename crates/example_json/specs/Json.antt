@@ -1,14 +1,9 @@
 -- JSON texts, by their grammar.
 use Rattle.std.specs.Prelude.{◌≡◌, ℕ, zero, suc, ◌⊎◌, Bool, true, false, List, Option, Some, None, Vec, Ok, Err}
 use Rattle.std.specs.List.{AllZip}
-use Rattle.nom_error.specs.Answers.{IResult}
+use Rattle.nom_internal.specs.Prelude.{IResult, text_model, Outcome, Accept, Refuse, Stop, Meaning, Family}
 use Rattle.nom_error.specs.declared.answer.Err.TheVariants as Answered
 use Rattle.nom_error.specs.declared.value.Error.{Error}
-use Rattle.nom_traits.specs.Text.{text_model}
-use Rattle.nom_internal.specs.Outcome.{Outcome}
-use Rattle.nom_internal.specs.Outcome.Outcome.{Accept, Refuse, Fail, TooLarge, Undecided}
-use Rattle.nom_internal.specs.Meaning.{Meaning}
-use Rattle.nom_internal.specs.Families.{Family}
 use Rattle.nom_repeat.specs.Repeat.{Turn, Rule, repeat_meaning}
 use Rattle.nom_repeat.specs.Repeat.Turn.{Takes, Ends}
 use Rattle.nom_ends.specs.Ends.{eof_meaning}
@@ -43,17 +38,13 @@ scalar_of = or_of (or_of word_of number_of) string_of
 abbrev pub list_turn : {V : Type 0} → ℕ → Option (Outcome V) → Turn V (Unit {0})
 list_turn k (Some (Accept n v)) = Takes n v
 list_turn k (Some Refuse) = Ends (Accept 0 tt)
-list_turn k (Some Fail) = Ends Fail
-list_turn k (Some TooLarge) = Ends TooLarge
-list_turn k (Some (Undecided n)) = Ends (Undecided n)
+list_turn k (Some (Stop why)) = Ends (Stop why)
 list_turn k None = Ends (Accept 0 tt)
 
 abbrev pub IsTaken : {V : Type 0} → Option (Outcome V) → Type 0
 IsTaken (Some (Accept n v)) = Unit {0}
 IsTaken (Some Refuse) = ⊥
-IsTaken (Some Fail) = ⊥
-IsTaken (Some TooLarge) = ⊥
-IsTaken (Some (Undecided n)) = ⊥
+IsTaken (Some (Stop why)) = ⊥
 IsTaken None = ⊥
 
 abbrev pub list_rule : {V : Type 0} → Rule Text V V (Unit {0}) (Error Text)
@@ -79,7 +70,7 @@ items_at first further = record {
   IsSound = first.IsSound × further.IsSound;
   IsFrugal = λ _. ⊥;
   Settles = first.Settles × further.Settles;
-  NeverFails = λ large. first.NeverFails large × further.NeverFails large;
+  NeverFails = λ cause. first.NeverFails cause × further.NeverFails cause;
 }
 
 abbrev pub behind_comma : {V O : Type 0} → TextGrammar V O → TextGrammar V O

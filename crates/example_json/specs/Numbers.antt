@@ -1,7 +1,7 @@
 -- Numbers, as they are meant.
 use Rattle.std.specs.Prelude.{ℕ, ◌⊎◌, List, Option, codes, ℤ}
 use Rattle.std.specs.Int.{w64}
-use Rattle.nom_traits.specs.Text.{text_model}
+use Rattle.nom_internal.specs.Prelude.{text_model}
 use Rattle.nom_combinator.specs.Verdicts.{peek_meaning}
 use Rattle.nom_character_integer.specs.Integers.{signed_meaning}
 use Rattle.nom.specs.Grammar.{valued}

@@ -1,13 +1,9 @@
 -- What has no value in it, by the grammar of JSON: words, numbers, texts, and the white space between them.
 use Rattle.std.specs.Prelude.{◌≡◌, ℕ, ◌↔◌, ◌⊎◌, Bool, true, false, not, ltb, ◌==◌, ◌&&◌, IsTrue, None, List, Contains, chars, codes}
 use Rattle.std.specs.Char.{IsScalar, is_digit}
-use Rattle.nom_error.specs.declared.kind.ErrorKind.{ErrorKind}
+use Rattle.nom_internal.specs.Prelude.{ErrorKind, Slice, text_model, recognized_meaning, pair_meaning}
 use Rattle.nom_error.specs.declared.kind.ErrorKind.TheVariants as Kind
 use Rattle.nom_traits.specs.declared.character.AsciiClass.TheVariants.{MultiSpace}
-use Rattle.nom_traits.specs.Slices.{Slice}
-use Rattle.nom_traits.specs.Text.{text_model}
-use Rattle.nom_internal.specs.Recognized.{recognized_meaning}
-use Rattle.nom_internal.specs.Sequence.{pair_meaning}
 use Rattle.nom_bytes.specs.ParsedRuns.{bounded_meaning, run1_meaning}
 use Rattle.nom_bytes.specs.Predicates.{IsFixed}
 use Rattle.nom_character.specs.ClassRuns.{class_meaning}

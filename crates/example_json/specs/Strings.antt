@@ -7,11 +7,8 @@ use Rattle.std.specs.Char.{IsScalar}
 use Rattle.std.specs.Str.Parse.{digits_value}
 use Rattle.std.specs.Cow.{IsBorrowedStr, cow_str_bytes}
 use Rattle.std.specs.declared.borrow.CowStr.{CowStr}
-use Rattle.nom_error.specs.declared.kind.ErrorKind.{ErrorKind}
+use Rattle.nom_internal.specs.Prelude.{ErrorKind, text_model, GivesFor, judged_meaning}
 use Rattle.nom_error.specs.declared.kind.ErrorKind.TheVariants as Kind
-use Rattle.nom_traits.specs.Text.{text_model}
-use Rattle.nom_internal.specs.Closures.{GivesFor}
-use Rattle.nom_internal.specs.Judged.{judged_meaning}
 use Rattle.nom_bytes_escaped.specs.declared.next_piece.Piece.{Piece}
 use Rattle.nom_bytes_escaped.specs.Escapes.{escaped_transform_meaning}
 use Rattle.nom_bytes_escaped.specs.Texts.{AddAll}

@@ -1,7 +1,6 @@
 //! Values, which hold values: functions that call each other, down to a depth.
 ghost use Rattle.std.specs.Prelude.{◌≡◌, ◌+◌, ◌<◌, false, IfOk};
-ghost use Rattle.nom_traits.specs.Input.{input_len};
-ghost use Rattle.nom_traits.specs.Text.{text_model};
+ghost use Rattle.nom_internal.specs.Prelude.{input_len, text_model};
 ghost use Rattle.nom.specs.Texts.{Parses};
 ghost use Rattle.example_json.specs.Json.{array_of, behind_comma, json_of, json_text_of, list_of, member_of, object_of, refuses, scalar_of, value_of};
 

@@ -2,10 +2,8 @@
 use Rattle.std.specs.Prelude.{cond, nat_lt, true}
 use Rattle.std.proofs.Common.{◌≡◌, ℕ, ◌<◌, List, [], ◌∷◌, length, Bor, arith, refl, subst, ap, ◌∙◌}
 use Rattle.std.proofs.lemmas.Bool.Decides.{nat_tests}
-use Rattle.nom_internal.specs.Outcome.Outcome.{Accept, Fail}
+use Rattle.nom_internal.specs.Prelude.{Accept, Stop, Fails, Outright, bytes_model, AreValues, IsSuffixOf}
 use Rattle.example_parts.specs.Firsts.{small_outcome}
-use Rattle.nom_traits.specs.Bytes.{bytes_model}
-use Rattle.nom_traits.specs.Input.{AreValues, IsSuffixOf}
 
 pub behind_first : {i j : Bor (List ℕ)} {x : ℕ} → bytes_model.IsKnown i → i.now ≡ x ∷ j.now → IsSuffixOf bytes_model i 1 j
 behind_first {i} {j} {x} h e = record {
@@ -20,4 +18,4 @@ below_128 : (x : ℕ) → x < 128 → nat_lt x 128 ≡ true
 below_128 x h = grind (arith, nat_tests)
 
 pub small_first : {x : ℕ} {xs ys : List ℕ} → ys ≡ x ∷ xs → x < 128 → small_outcome ys ≡ Accept 1 x
-small_first {x} {xs} e h = ap small_outcome e ∙ ap (λ b. cond b (Accept 1 x) Fail) (below_128 x h)
+small_first {x} {xs} e h = ap small_outcome e ∙ ap (λ b. cond b (Accept 1 x) (Stop (Fails Outright))) (below_128 x h)

@@ -2,11 +2,8 @@
 use Rattle.std.specs.Prelude.{◌≡◌, ℕ, Bool, true, false, ◌⊎◌, List, [], ◌∷◌, ◌++◌, Some}
 use Rattle.std.proofs.Common.{arith, sym, ◌∙◌, ap, subst, inl, inr}
 use Rattle.nom_error.specs.declared.kind.ErrorKind.TheVariants.{Char}
-use Rattle.nom_error.specs.Errors.{Errors}
-use Rattle.nom_traits.specs.Classes.{is_alpha_code}
-use Rattle.nom_traits.specs.Input.{Model, IsBoundary, Related}
-use Rattle.nom_internal.specs.Meaning.{Meaning, IsLawful, IsSteady}
-use Rattle.nom_internal.specs.Leaf.{Leaf, LeafLaws, leaf_meaning, leaf_lawful, leaf_steady}
+use Rattle.nom_internal.specs.Prelude.{Errors, is_alpha_code, Model, IsBoundary, Related, Meaning, IsLawful, IsSteady, Leaf, LeafLaws, leaf_meaning}
+use Rattle.nom_internal.specs.Prelude.{leaf_lawful, leaf_steady}
 use Rattle.nom_bytes.specs.Stays.{closed_stays, open_stays}
 
 -- the items begin with one

@@ -4,13 +4,9 @@ use Rattle.std.specs.Borrow.{Bor}
 use Rattle.std.proofs.Common.{arith, lit<, sym, ◌∙◌, ap, subst, length-append}
 use Rattle.std.proofs.Math.Seq.{take-append_seam, drop-append_seam}
 use Rattle.std.proofs.lemmas.List.{length-take-le, take-append-drop}
-use Rattle.nom_traits.specs.declared.compare.CompareResult.{CompareResult}
+use Rattle.nom_internal.specs.Prelude.{CompareResult, Model, AreValues, InputLaws, IsBoundary, IsPrefixOf, IsSuffixOf, IsSame, items_len-ones, IsCount, View}
+use Rattle.nom_internal.specs.Prelude.{CompareLaws}
 use Rattle.nom_traits.specs.declared.compare.CompareResult.TheVariants as Compared
-use Rattle.nom_traits.specs.Input.{Model, AreValues, InputLaws, IsBoundary, IsPrefixOf, IsSuffixOf, IsSame}
-use Rattle.nom_traits.specs.Rests.{items_len-ones}
-use Rattle.nom_traits.specs.Slices.{IsCount}
-use Rattle.nom_traits.specs.View.{View}
-use Rattle.nom_traits.specs.Compares.{CompareLaws}
 
 -- a list of tokens against one token: the list begins with it; or is empty; or begins with another
 abbrev pub Begins : {A : Type 0} → A → List A → CompareResult → Type 0

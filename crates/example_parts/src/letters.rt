@@ -2,7 +2,7 @@
 //! `specs/Letters.antt`); the laws of that (`letter_laws`), which give those of its meaning; `process`; and
 //! the two implementations.
 ghost use Rattle.std.specs.Prelude.{◌≡◌, ℕ, [], MatchOption};
-ghost use Rattle.nom_internal.specs.Pinned.{value_pinned};
+ghost use Rattle.nom_internal.specs.Prelude.{value_pinned};
 ghost use Rattle.example_parts.specs.Letters.{BeginsWith, letter_lawful, letter_meaning, letter_steady};
 
 use nom::error::{ErrorKind, ParseError};

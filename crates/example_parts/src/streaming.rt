@@ -1,5 +1,5 @@
 //! Functions of the library as stream parsers of inputs that grow.
-ghost use Rattle.nom_traits.specs.Bytes.{bytes_model};
+ghost use Rattle.nom_internal.specs.Prelude.{bytes_model};
 ghost use Rattle.nom_growing.specs.Growing.{AreCuts};
 
 use crate::functions::grown;

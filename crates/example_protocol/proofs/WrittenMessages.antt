@@ -1,28 +1,24 @@
 -- What the parser of messages answers.
-use Rattle.std.proofs.Common.{◌≡◌, ℕ, Bool, true, List, [], ◌∷◌, Err, Vec, sym, subst, inl, inr, ◌⊎◌}
-use Rattle.nom_error.specs.Answers.{IResult}
-use Rattle.nom_error.specs.declared.answer.Err.TheVariants.{OutOfMemory}
+use Rattle.std.proofs.Common.{◌≡◌, ℕ, true, List, [], ◌∷◌, Err, Vec, sym, subst, inl, inr, ◌⊎◌}
+use Rattle.nom_internal.specs.Prelude.{IResult, OutOfMemory, bytes_model, Meaning, Outcome, TooLarge, Parses}
 use Rattle.nom_error.specs.declared.value.Error.{Error}
-use Rattle.nom_traits.specs.Bytes.{bytes_model}
-use Rattle.nom_internal.specs.Meaning.{Meaning}
-use Rattle.nom_internal.specs.Outcome.{Outcome, Parses}
 use Rattle.nom_growing.specs.Growing.{AnswersOn, IsBeginning, IsGrown}
 use Rattle.nom_growing.specs.Growing.AnswersOn.{RanOutOn, ShownOn}
 use Rattle.nom_growing.specs.Growing.IsBeginning.{AtCut, AtEnd}
 use Rattle.nom_growing.specs.Promises.{HasNoFailure}
-use Rattle.nom.specs.Bytes.{Bytes, BytesGrammar}
+use Rattle.nom.specs.Bytes.{Bytes, BytesGrammar, Endianness, Big}
 use Rattle.example_protocol.specs.declared.message.Message.{Message}
 use Rattle.example_protocol.specs.Messages.{Body, messages_of, written_of}
 
 -- what holds of the grammar by its parts holds of the grammar
-pub by_its_parts : {M : Type 0} (P : BytesGrammar (List Body) (Vec Message M) → Type 0) (ping text close end : List ℕ) (l n : Bool) →
-    ping ≡ 1 ∷ [] → text ≡ 2 ∷ [] → close ≡ 3 ∷ [] → end ≡ 0 ∷ 0 ∷ [] → l ≡ true → n ≡ true → P (written_of ping text close end l n) → P messages_of
+pub by_its_parts : {M : Type 0} (P : BytesGrammar (List Body) (Vec Message M) → Type 0) (ping text close end : List ℕ) (l n : Endianness) →
+    ping ≡ 1 ∷ [] → text ≡ 2 ∷ [] → close ≡ 3 ∷ [] → end ≡ 0 ∷ 0 ∷ [] → l ≡ Big → n ≡ Big → P (written_of ping text close end l n) → P messages_of
 by_its_parts P ping text close end l n p t c e f g h =
-    subst (λ x. P (written_of x (2 ∷ []) (3 ∷ []) (0 ∷ 0 ∷ []) true true)) p (
-    subst (λ x. P (written_of ping x (3 ∷ []) (0 ∷ 0 ∷ []) true true)) t (
-    subst (λ x. P (written_of ping text x (0 ∷ 0 ∷ []) true true)) c (
-    subst (λ x. P (written_of ping text close x true true)) e (
-    subst (λ x. P (written_of ping text close end x true)) f (
+    subst (λ x. P (written_of x (2 ∷ []) (3 ∷ []) (0 ∷ 0 ∷ []) Big Big)) p (
+    subst (λ x. P (written_of ping x (3 ∷ []) (0 ∷ 0 ∷ []) Big Big)) t (
+    subst (λ x. P (written_of ping text x (0 ∷ 0 ∷ []) Big Big)) c (
+    subst (λ x. P (written_of ping text close x Big Big)) e (
+    subst (λ x. P (written_of ping text close end x Big)) f (
     subst (λ x. P (written_of ping text close end l x)) g h)))))
 
 module _ {V O : Type 0} (m : Meaning Bytes V (Error Bytes)) (IsOutput : V → O → Type 0) (whole : Bytes) (cuts : List ℕ) (index : ℕ)
@@ -34,14 +30,14 @@ module _ {V O : Type 0} (m : Meaning Bytes V (Error Bytes)) (IsOutput : V → O 
   abbrev Tells : IResult Bytes O (Error Bytes) → Outcome V → Type 0
   Tells r o = (r ≡ Err OutOfMemory) ⊎ ((beginning : Bytes) × Parses bytes_model IsOutput whole (m.blames true beginning) o r)
 
-  answered : (none : HasNoFailure bytes_model m) (never : m.NeverFails true) (x : Bytes)
+  answered : (none : HasNoFailure bytes_model m) (never : m.NeverFails TooLarge) (x : Bytes)
       (r : IResult Bytes O (Error Bytes)) → IsBeginning bytes_model whole cuts index x →
       AnswersOn bytes_model IsOutput m whole cuts index x r → (o : Outcome V) → m.answers true whole o → Tells r o
   answered none never x r begins (RanOutOn e h) o a = inl e
   answered none never x r begins (ShownOn b) o a =
-      let same = b.stays (λ e. none true true x (begins_known x begins) never (subst (λ p. m.answers true x p) e b.answered)) o a in
+      let same = b.stays (λ e. none TooLarge true x (begins_known x begins) never (subst (λ p. m.answers true x p) e b.answered)) o a in
       inr (x, subst (λ p. Parses bytes_model IsOutput whole (m.blames true x) p r) same b.shown)
 
   pub of_whole : (r : IResult Bytes O (Error Bytes)) → IsGrown bytes_model IsOutput m whole cuts index r ×
-      HasNoFailure bytes_model m → m.NeverFails true → (o : Outcome V) → m.answers true whole o → Tells r o
+      HasNoFailure bytes_model m → m.NeverFails TooLarge → (o : Outcome V) → m.answers true whole o → Tells r o
   of_whole r g never = answered g.1 never g.0.beginning r g.0.begins g.0.answer

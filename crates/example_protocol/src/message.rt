@@ -1,6 +1,6 @@
 //! Messages after their lengths, which come in pieces.
 ghost use Rattle.std.specs.Prelude.{◌≡◌};
-ghost use Rattle.nom_traits.specs.Bytes.{bytes_model};
+ghost use Rattle.nom_internal.specs.Prelude.{bytes_model};
 ghost use Rattle.nom_growing.specs.Growing.{AreCuts, IsGrown};
 ghost use Rattle.nom_growing.specs.Promises.{HasNoFailure};
 ghost use Rattle.example_protocol.specs.Messages.{TellsWhole, messages_of};

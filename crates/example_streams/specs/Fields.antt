@@ -1,7 +1,6 @@
 -- A field.
 use Rattle.std.specs.Prelude.{ℕ, List, [], ◌∷◌, length}
-use Rattle.nom_traits.specs.Bytes.{bytes_model}
-use Rattle.nom_traits.specs.Slices.{Slice}
+use Rattle.nom_internal.specs.Prelude.{bytes_model, Slice}
 use Rattle.nom.specs.Bytes.{BytesGrammar, is_not_of, map_of, preceded_of, tag_of}
 
 -- by which byte a field begins, and which it hasn't

@@ -1,21 +1,22 @@
 -- The messages of `example_protocol`, as they are received.
-use Rattle.std.specs.Prelude.{ℕ, Bool, true, List, [], ◌∷◌, length}
-use Rattle.nom.specs.Bytes.{BytesGrammar, all_consuming_of, alt_of, length_data_of, length_value_of, map_of, number_of, or_of, pair_of, preceded_of, tag_of}
+use Rattle.std.specs.Prelude.{ℕ, List, [], ◌∷◌, length}
+use Rattle.nom.specs.Bytes.{BytesGrammar, Endianness, Big, all_consuming_of, alt_of, length_data_of, length_value_of, map_of, number_of, or_of}
+use Rattle.nom.specs.Bytes.{pair_of, preceded_of, tag_of}
 use Rattle.example_protocol.specs.Messages.{Body}
 use Rattle.example_streams.specs.declared.messages.Received.{Received}
 use Rattle.example_streams.specs.declared.messages.Received.TheVariants.{Ping, Text, Close}
 
--- By which bytes each kind begins. Numbers of several bytes have the highest first (true), or last.
-module _ (ping text close : List ℕ) (length_first number_first : Bool) where
+-- By which bytes each kind begins, and the orders of numbers of several bytes.
+module _ (ping text close : List ℕ) (length_endian number_endian : Endianness) where
   abbrev pub body_of : BytesGrammar Body Received
   body_of = alt_of (or_of (or_of
-      (map_of (λ o. Ping o.1) (pair_of (tag_of ping) (number_of number_first 4)))
-      (map_of (λ bytes. Text (length bytes.now)) (preceded_of (tag_of text) (length_data_of (number_of true 1)))))
+      (map_of (λ o. Ping o.1) (pair_of (tag_of ping) (number_of number_endian 4)))
+      (map_of (λ bytes. Text (length bytes.now)) (preceded_of (tag_of text) (length_data_of (number_of Big 1)))))
       (map_of (λ _. Close) (tag_of close)))
 
   -- a body after its length
   abbrev pub written_of : BytesGrammar Body Received
-  written_of = length_value_of (number_of length_first 2) (all_consuming_of body_of)
+  written_of = length_value_of (number_of length_endian 2) (all_consuming_of body_of)
 
 abbrev pub message_of : BytesGrammar Body Received
-message_of = written_of (1 ∷ []) (2 ∷ []) (3 ∷ []) true true
+message_of = written_of (1 ∷ []) (2 ∷ []) (3 ∷ []) Big Big

@@ -1,7 +1,6 @@
 //! Fields: each some bytes after a semicolon, up to the next one.
 ghost use Rattle.std.specs.Prelude.{◌≡◌, length};
-ghost use Rattle.nom_traits.specs.Bytes.{bytes_model};
-ghost use Rattle.nom_traits.specs.Slices.{Slice};
+ghost use Rattle.nom_internal.specs.Prelude.{bytes_model, Slice};
 ghost use Rattle.example_streams.specs.Fields.{field_of};
 
 use nom::IResult;

@@ -1,7 +1,6 @@
 //! Records: an `R`, a byte that says how many bytes follow, and these.
 ghost use Rattle.std.specs.Prelude.{◌≡◌, ℕ, length};
-ghost use Rattle.nom_traits.specs.Bytes.{bytes_model};
-ghost use Rattle.nom_traits.specs.Slices.{Slice};
+ghost use Rattle.nom_internal.specs.Prelude.{bytes_model, Slice};
 ghost use Rattle.example_streams.specs.Records.{record_of};
 
 use nom::IResult;

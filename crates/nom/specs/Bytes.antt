@@ -1,14 +1,11 @@
 -- Grammars over slices of bytes, with `Error`: the words of `Grammar` and `Leaves` for `&[u8]`.
 use Rattle.std.specs.Prelude.{◌≡◌, ℕ, ◌-◌, Some, length, Bool, ◌⊎◌, List, Option, Vec}
 use Rattle.std.specs.Borrow.{Bor}
-use Rattle.nom_error.specs.Answers.{IResult}
+use Rattle.nom_internal.specs.Prelude.{IResult, Errors, bytes_model, Slice, ComparesBytes, View}
 use Rattle.nom_error.specs.declared.kind.ErrorKind.TheVariants.{Char}
 use Rattle.nom_error.specs.declared.value.Error.{Error}
-use Rattle.nom_error.specs.Errors.{Errors}
-use Rattle.nom_traits.specs.Bytes.{bytes_model}
-use Rattle.nom_traits.specs.Compares.{ComparesBytes}
-use Rattle.nom_traits.specs.Slices.{Slice}
-use Rattle.nom_traits.specs.View.{View}
+pub use Rattle.nom_number.specs.declared.order.Endianness.{Endianness}
+pub use Rattle.nom_number.specs.declared.order.Endianness.TheVariants.{Big, Little, Native}
 use Rattle.nom.specs.Grammar as Grammars
 use Rattle.nom.specs.Grammar.{Grammar}
 use Rattle.nom.specs.Leaves as Leaves
@@ -93,8 +90,8 @@ take_while1_of = Leaves.take_while1_of bytes_model plain_errors
 abbrev pub all_consuming_of : {V O : Type 0} → BytesGrammar V O → BytesGrammar V O
 all_consuming_of = Grammars.all_consuming_of bytes_model plain_errors
 
--- a number of that many bytes, the highest first (true), or last
-abbrev pub number_of : (big : Bool) → ℕ → BytesGrammar ℕ ℕ
+-- a number of that many bytes, in an order
+abbrev pub number_of : Endianness → ℕ → BytesGrammar ℕ ℕ
 number_of = Leaves.number_of bytes_model plain_errors
 
 abbrev pub length_data_of : {V : Type 0} → BytesGrammar V ℕ → BytesGrammar (V × Slice bytes_model) Bytes

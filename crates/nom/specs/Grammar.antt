@@ -2,16 +2,8 @@
 -- mirrors the call of its name; those of leaves stand in `Leaves`, and all of them, at one input type, in `Bytes` and `Texts`.
 use Rattle.std.specs.Prelude.{◌≡◌, ℕ, Bool, ◌⊎◌, List, Option, Vec}
 use Rattle.std.specs.List.{AllZip}
-use Rattle.nom_error.specs.Answers.{IResult}
-use Rattle.nom_error.specs.Errors.{Errors}
-use Rattle.nom_traits.specs.Input.{Model}
-use Rattle.nom_traits.specs.Slices.{Slice, IsModelledBy}
-use Rattle.nom_traits.specs.View.{View}
-use Rattle.nom_internal.specs.Meaning.{Meaning, ParsesMeaning}
-use Rattle.nom_internal.specs.Choice.{EitherOutput}
-use Rattle.nom_internal.specs.Closures.{GivesFor}
-use Rattle.nom_internal.specs.Mapped.{map_meaning}
-use Rattle.nom_internal.specs.Sequence.{pair_meaning}
+use Rattle.nom_internal.specs.Prelude.{IResult, Errors, Model, Slice, IsModelledBy, View, Meaning, ParsesMeaning, EitherOutput, GivesFor, map_meaning}
+use Rattle.nom_internal.specs.Prelude.{pair_meaning}
 use Rattle.nom_func.specs.Func.{AnswersBy}
 use Rattle.nom_sequence.specs.Sequences.{preceded_meaning, terminated_meaning}
 use Rattle.nom_branch.specs.Alternatives.{next_meaning, choice_meaning}

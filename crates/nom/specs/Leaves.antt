@@ -1,16 +1,14 @@
 -- The leaves of grammars over inputs whose items are bytes or characters, as code points.
 use Rattle.std.specs.Prelude.{◌≡◌, ℕ, Bool, not, ◌↔◌, IsTrue, List, Option, Some, length, Contains}
 use Rattle.nom_error.specs.declared.kind.ErrorKind.TheVariants as Kind
-use Rattle.nom_error.specs.Errors.{Errors}
+use Rattle.nom_internal.specs.Prelude.{Errors, CompareResult, Model, Slice}
 use Rattle.nom_traits.specs.declared.character.AsciiClass.TheVariants as Class
-use Rattle.nom_traits.specs.declared.compare.CompareResult.{CompareResult}
-use Rattle.nom_traits.specs.Input.{Model}
-use Rattle.nom_traits.specs.Slices.{Slice}
 use Rattle.nom_bytes.specs.Tags.{tag_meaning}
 use Rattle.nom_bytes.specs.Takes.{take_meaning}
 use Rattle.nom_bytes.specs.ParsedRuns.{run1_meaning}
 use Rattle.nom_character_first.specs.FirstItem.{char_meaning}
 use Rattle.nom_character.specs.ClassRuns.{class_meaning}
+use Rattle.nom_number.specs.declared.order.Endianness.{Endianness}
 use Rattle.nom_number.specs.Numbers.{unsigned_meaning}
 use Rattle.nom.specs.Grammar.{Grammar, sliced, valued}
 
@@ -38,6 +36,6 @@ module _ {I E : Type 0} (w : Model I ℕ) (errs : Errors I E) where
   abbrev pub take_while1_of : (ℕ → Bool) → Grammar I (Slice w) I E
   take_while1_of test = sliced w (run1_meaning w (λ item b. b ≡ test item) (Unit {0}) errs Kind.TakeWhile1)
 
-  -- a number of that many bytes, the highest first (true), or last
-  abbrev pub number_of : (big : Bool) → ℕ → Grammar I ℕ ℕ E
-  number_of big count = valued (unsigned_meaning w errs big count)
+  -- a number of that many bytes, in an order
+  abbrev pub number_of : Endianness → ℕ → Grammar I ℕ ℕ E
+  number_of endian count = valued (unsigned_meaning w errs endian count)

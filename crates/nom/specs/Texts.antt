@@ -1,14 +1,9 @@
 -- Grammars over texts, with `Error`: the words of `Grammar` and `Leaves` for `&str`.
 use Rattle.std.specs.Prelude.{◌≡◌, ℕ, None, Bool, ◌⊎◌, List, Option, Vec, chars}
 use Rattle.std.specs.Borrow.{Bor}
-use Rattle.nom_error.specs.Answers.{IResult}
+use Rattle.nom_internal.specs.Prelude.{IResult, Errors, text_model, ComparesText, Slice, View}
 use Rattle.nom_error.specs.declared.kind.ErrorKind.TheVariants.{Char}
 use Rattle.nom_error.specs.declared.value.Error.{Error}
-use Rattle.nom_error.specs.Errors.{Errors}
-use Rattle.nom_traits.specs.Text.{text_model}
-use Rattle.nom_traits.specs.Compares.{ComparesText}
-use Rattle.nom_traits.specs.Slices.{Slice}
-use Rattle.nom_traits.specs.View.{View}
 use Rattle.nom.specs.Grammar as Grammars
 use Rattle.nom.specs.Grammar.{Grammar}
 use Rattle.nom.specs.Leaves as Leaves

@@ -2,13 +2,8 @@
 -- or nothing (`no_label`). Their model is that of what they hold, with the label as a part of the mark.
 use Rattle.std.specs.Prelude.{◌≡◌, ℕ, ◌<◌, List, [], ◌++◌, length, Option, Result, Ok, Err, MatchResult}
 use Rattle.std.proofs.Common.{ap, ◌∙◌}
-use Rattle.nom_error.specs.declared.answer.Needed.{Needed}
-use Rattle.nom_error.specs.Answers.{size_of}
-use Rattle.nom_traits.specs.declared.compare.CompareResult.{CompareResult}
-use Rattle.nom_traits.specs.Input.{Model, InputLaws, IsBoundary, IsPrefixOf, IsSuffixOf, IsSame, Extends}
-use Rattle.nom_traits.specs.Slices.{IsCount}
-use Rattle.nom_traits.specs.View.{View}
-use Rattle.nom_traits.specs.Compares.{CompareLaws}
+use Rattle.nom_internal.specs.Prelude.{Needed, size_of, CompareResult, Model, InputLaws, IsBoundary, IsPrefixOf, IsSuffixOf, IsSame, Extends, IsCount, View}
+use Rattle.nom_internal.specs.Prelude.{CompareLaws}
 
 labelled : {M L : Type 0} (l : L) (m n : M) → m ≡ n → ◌≡◌ {A = M × L} (m, l) (n, l)
 labelled {M} {L} l m n e =

@@ -1,16 +1,8 @@
 -- What a part shows whose outputs a closure maps, which may take memory.
 use Rattle.std.proofs.Common.{◌≡◌, Bool, true, false, Result, Ok, Err, Option, Some, None, refl, sym, subst}
-use Rattle.nom_error.specs.Answers.{PResult}
-use Rattle.nom_error.specs.declared.answer.Needed.{Needed}
+use Rattle.nom_internal.specs.Prelude.{PResult, Needed, Built, Modes, Model, Accept, RanOut, Shown, Meaning, ShowsMeaning, RunsOutBeside, GivesFor, IsCallable}
 use Rattle.nom_error.specs.declared.answer.OutOfMemory.{OutOfMemory}
 use Rattle.nom_error.specs.declared.answer.Err as Answer
-use Rattle.nom_error.specs.Modes.{Built, Modes}
-use Rattle.nom_traits.specs.Input.{Model}
-use Rattle.nom_internal.specs.Outcome.Outcome.{Accept}
-use Rattle.nom_internal.specs.Outcome.ShowsAnswer.{RanOut, Shown}
-use Rattle.nom_internal.specs.Meaning.{Meaning, ShowsMeaning}
-use Rattle.nom_internal.specs.Cases.CaseRunsOut.{RunsOutBeside}
-use Rattle.nom_internal.specs.Closures.{GivesFor, IsCallable}
 use Rattle.nom_internal.proofs.Shown.{accepts}
 use Rattle.nom_internal.proofs.Cased.{here, passing_err}
 use Rattle.nom_alloc.specs.MapAlloc.{map_alloc_case, map_alloc_meaning}
@@ -50,11 +42,8 @@ module _ {I A V P R E : Type 0} {w : Model I A} {IsOutput : V → P → Type 0} 
         at_is = refl;
         refuses = λ b q. (refl, refl, λ z h. h);
         undecided = λ n q d. refl;
-        fails = refl;
-        too_large = refl;
-        blames_failure =
-            λ z h. h;
-        blames_large = λ z h. h;
+        fails = λ _. refl;
+        blames_failure = λ _ z h. h;
       }) refl h)
 
   -- an output that was built is mapped, and none elsewhere

@@ -1,10 +1,8 @@
 -- Folds of items by a closure that may take memory.
 use Rattle.std.specs.Prelude.{List, Result, Err}
 use Rattle.nom_error.specs.declared.answer.OutOfMemory.{OutOfMemory}
-use Rattle.nom_error.specs.Errors.{Errors}
+use Rattle.nom_internal.specs.Prelude.{Errors, Model, InputLaws, Meaning, IsLawful, IsSteady}
 use Rattle.nom_error.specs.declared.kind.ErrorKind.TheVariants as Kind
-use Rattle.nom_traits.specs.Input.{Model, InputLaws}
-use Rattle.nom_internal.specs.Meaning.{Meaning, IsLawful, IsSteady}
 use Rattle.nom_repeat.specs.Items.{items_meaning}
 use Rattle.nom_repeat.specs.laws.ItemsLaws.{items_lawful, items_steady}
 use Rattle.nom_repeat.specs.Bounds.{any_limits}

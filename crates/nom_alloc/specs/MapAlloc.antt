@@ -1,20 +1,13 @@
 -- A part whose outputs a closure maps, which may take memory.
 use Rattle.std.specs.Prelude.{◌≡◌, true, Result, Err}
 use Rattle.nom_error.specs.declared.answer.OutOfMemory.{OutOfMemory}
-use Rattle.nom_internal.specs.Outcome.{Outcome}
-use Rattle.nom_internal.specs.Outcome.Outcome.{Accept, Refuse, Fail, TooLarge, Undecided}
-use Rattle.nom_internal.specs.Meaning.{Meaning}
-use Rattle.nom_internal.specs.Cases.{Case, case_meaning}
-use Rattle.nom_internal.specs.Cases.PartMode.{AsAsked}
-use Rattle.nom_internal.specs.Closures.{IsCallable}
+use Rattle.nom_internal.specs.Prelude.{Outcome, Accept, Refuse, Stop, Meaning, Case, case_meaning, AsAsked, IsCallable}
 
 -- the part accepts, and the closure finds no memory for an output
 abbrev pub LacksMemory : {V P R : Type 0} → (V → P → Type 0) → (P → Result R OutOfMemory → Type 0) → Outcome V → Type 0
 LacksMemory {P = P} IsOutput Gives (Accept n v) = (p : P) × (e : OutOfMemory) × IsOutput v p × Gives p (Err e)
 LacksMemory IsOutput Gives Refuse = ⊥
-LacksMemory IsOutput Gives Fail = ⊥
-LacksMemory IsOutput Gives TooLarge = ⊥
-LacksMemory IsOutput Gives (Undecided k) = ⊥
+LacksMemory IsOutput Gives (Stop why) = ⊥
 
 -- the closure takes no memory, so it never lacks any
 abbrev pub TakesNoMemory : {P R : Type 0} → (P → Result R OutOfMemory → Type 0) → Type 0

@@ -1,6 +1,6 @@
 //! Folds of items by a closure that may take memory.
 ghost use Rattle.std.specs.Prelude.{List, Ok};
-ghost use Rattle.nom_error.specs.Modes.{Built};
+ghost use Rattle.nom_internal.specs.Prelude.{Built};
 ghost use Rattle.nom_multi_fold.specs.Folded.{FoldPushes, CanFold, IsStart, IsCarried};
 ghost use Rattle.nom_multi_fold.specs.Folds.{Folds, AreCallable, FoldsAlike};
 ghost use Rattle.nom_alloc.specs.FoldAlloc.{LacksFor, LacksSome, fold_many0_alloc_meaning};

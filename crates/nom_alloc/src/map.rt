@@ -1,6 +1,6 @@
 //! A parser whose outputs a closure maps, which may take memory.
 ghost use Rattle.std.specs.Prelude.{Ok};
-ghost use Rattle.nom_internal.specs.Closures.{GivesFor, SeesAlike};
+ghost use Rattle.nom_internal.specs.Prelude.{GivesFor, SeesAlike};
 ghost use Rattle.nom_internal.specs.laws.MappedLaws.{given_pinned};
 ghost use Rattle.nom_alloc.specs.MapAlloc.{map_alloc_meaning};
 ghost use Rattle.nom_alloc.specs.laws.MapAllocLaws.{map_alloc_lawful, map_alloc_steady};

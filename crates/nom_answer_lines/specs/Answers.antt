@@ -1,9 +1,8 @@
 -- What an answer says, and what it leaves.
 use Rattle.std.specs.Prelude.{◌≡◌, ℕ, List, [], ◌++◌, Option, Some, None, Ok, Err, codes, string_bytes}
 use Rattle.std.specs.Fmt.{decimal, ◌++?◌}
-use Rattle.nom_error.specs.Answers.{IResult, size_of}
+use Rattle.nom_internal.specs.Prelude.{IResult, size_of, Incomplete, Error, Failure, OutOfMemory}
 use Rattle.nom_error.specs.Kinds.{name_of}
-use Rattle.nom_error.specs.declared.answer.Err.TheVariants.{Incomplete, Error, Failure, OutOfMemory}
 use Rattle.nom_error.specs.declared.value.Error as Value
 use Rattle.nom_answer_lines.specs.declared.answer.Answer as Told
 

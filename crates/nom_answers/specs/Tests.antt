@@ -2,7 +2,7 @@
 use Rattle.std.specs.Prelude.{Bool, ℕ, not, ◌==◌}
 use Rattle.nom_answers.specs.declared.test.Test.{Test}
 use Rattle.nom_answers.specs.declared.test.Test.TheVariants.{IsAlpha, IsDecDigit, IsNoDigit, IsFf}
-use Rattle.nom_traits.specs.Classes.{is_alpha_code, is_dec_digit_code}
+use Rattle.nom_internal.specs.Prelude.{is_alpha_code, is_dec_digit_code}
 
 -- what a test answers at the character of a code point
 abbrev pub meets_code : Test → ℕ → Bool

@@ -1,5 +1,5 @@
 //! The grammars of `example_formats`, `example_json` and `example_protocol`, by their names.
-ghost use Rattle.nom_traits.specs.Bytes.{bytes_model};
+ghost use Rattle.nom_internal.specs.Prelude.{bytes_model};
 ghost use Rattle.nom_growing.specs.Growing.{AreCuts};
 
 use example_formats::{expression, named_value, sections};

@@ -1,23 +1,10 @@
 -- What parsers of bits show among parsers of bytes, and parsers of bytes among parsers of bits.
 use Rattle.std.proofs.Common.{◌≡◌, ℕ, ◌+◌, ◌*◌, Bool, true, false, inl, inr, length, Result, Ok, Err, Option, refl, ◌∙◌, ap, subst, lit<, arith}
 use Rattle.std.proofs.Math.Nat.{mod-lt}
-use Rattle.nom_error.specs.declared.answer.Needed.{Needed}
+use Rattle.nom_internal.specs.Prelude.{Needed, Incomplete, PResult, size_of, Errors, Built, Modes, with_streaming, Model, InputLaws, IsSuffixOf, rest_rest}
+use Rattle.nom_internal.specs.Prelude.{IsCount, AreBytes, bits_model, bits_lawful, Outcome, Accept, Refuse, Stop, Fails, Needs, TooLarge, Shows, RanOut, Shown}
+use Rattle.nom_internal.specs.Prelude.{Meaning, ShowsMeaning, OnPart, RunsOutInPart, RunsOutBeside, ConvertsSome}
 use Rattle.nom_error.specs.declared.answer.Err as Answer
-use Rattle.nom_error.specs.declared.answer.Err.TheVariants.{Incomplete}
-use Rattle.nom_error.specs.Answers.{PResult, size_of}
-use Rattle.nom_error.specs.Errors.{Errors}
-use Rattle.nom_error.specs.Modes.{Built, Modes, with_streaming}
-use Rattle.nom_traits.specs.Input.{Model, InputLaws, IsSuffixOf}
-use Rattle.nom_traits.specs.Rests.{rest_rest}
-use Rattle.nom_traits.specs.Slices.{IsCount}
-use Rattle.nom_traits.specs.Bits.{AreBytes, bits_model, bits_lawful}
-use Rattle.nom_internal.specs.Outcome.{Outcome, Shows}
-use Rattle.nom_internal.specs.Outcome.Outcome.{Accept, Refuse, Fail, TooLarge, Undecided}
-use Rattle.nom_internal.specs.Outcome.ShowsAnswer.{RanOut, Shown}
-use Rattle.nom_internal.specs.Meaning.{Meaning, ShowsMeaning}
-use Rattle.nom_internal.specs.Cases.{OnPart}
-use Rattle.nom_internal.specs.Cases.CaseRunsOut.{RunsOutInPart, RunsOutBeside}
-use Rattle.nom_internal.specs.Mapped.{ConvertsSome}
 use Rattle.nom_internal.proofs.Shown.{accepts}
 use Rattle.nom_bits.specs.BitRests.{bits_ahead, bytes_passed, bits_passed}
 use Rattle.nom_bits.specs.Bridges.{bytes_needed, rounded_up, bits_meaning, bytes_meaning, IsTooLarge, BitsNeeded, InBytes, InBits}
@@ -63,15 +50,12 @@ module _ {I T O E F : Type 0} (w : Model I ℕ) (IsOutput : T → O → Type 0) 
       let d = subst (λ z. InBytes Converts z r) (same_err h.2) c in
       Shown Refuse (at_bits Refuse a refl)
       (d.0, converts_built mode.errors Converts _ _ h.0 d.0 (λ x y p q. at_bits Refuse a (x, tt, p, q)) d.1 h.1, ap Err d.2)
-  bits_of Fail e r a h c =
+  bits_of (Stop (Fails cause)) e r a h c =
       let d = subst (λ z. InBytes Converts z r) (same_err h.2) c in
-      Shown Fail (at_bits Fail a refl) (d.0, at_bits Fail a (h.0, tt, h.1, d.1), ap Err d.2)
-  bits_of TooLarge e r a h c =
+      Shown (Stop (Fails cause)) (at_bits (Stop (Fails cause)) a refl) (d.0, at_bits (Stop (Fails cause)) a (h.0, tt, h.1, d.1), ap Err d.2)
+  bits_of (Stop (Needs k)) e r a h c =
       let d = subst (λ z. InBytes Converts z r) (same_err h.2) c in
-      Shown TooLarge (at_bits TooLarge a refl) (d.0, at_bits TooLarge a (h.0, tt, h.1, d.1), ap Err d.2)
-  bits_of (Undecided k) e r a h c =
-      let d = subst (λ z. InBytes Converts z r) (same_err h.2) c in
-      Shown (Undecided (bytes_needed k)) (at_bits (Undecided k) a refl) (d.0, d.1 ∙ ap (λ z. bytes_needed z) h.1, ap Err d.2)
+      Shown (Stop (Needs (bytes_needed k))) (at_bits (Stop (Needs k)) a refl) (d.0, d.1 ∙ ap (λ z. bytes_needed z) h.1, ap Err d.2)
 
   pub bits_err : (e : Answer.Err E (Option E) Needed) (r : Answer.Err F (Option F) Needed) → InBits' (Err e) → InBytes Converts e r → OfBits (Err r)
   bits_err e r (RanOut q h) c = RanOut (ap Err (subst (λ z. InBytes Converts z r) (same_err q) c)) (RunsOutInPart (i, 0) (refl, bytes) h)
@@ -110,14 +94,14 @@ module _ {I T O E F : Type 0} (w : Model I ℕ) (IsOutput : T → O → Type 0) 
         outcome_is = refl;
       })) ((k, 0), x, rest, a.built_is, refl)
 
-  needs_of : (k : Option ℕ) (n : Needed) (r : Answer.Err F (Option F) Needed) → m.answers true j (Undecided k) → size_of n ≡ k →
+  needs_of : (k : Option ℕ) (n : Needed) (r : Answer.Err F (Option F) Needed) → m.answers true j (Stop (Needs k)) → size_of n ≡ k →
       InBits Converts errs i (Incomplete n) r → OfBytes (Err r)
   needs_of k n r a e (inl (c, inl d)) =
       let large = subst IsTooLarge e c in
-      Shown TooLarge (at_bytes (Undecided k) a (inl (large, refl))) (d.0, at_bytes (Undecided k) a (inr (large, d.1)), ap Err d.2)
-  needs_of k n r a e (inl (c, inr d)) = RanOut (ap Err d.1) (RunsOutBeside (at_bytes (Undecided k) a (subst IsTooLarge e c, d.0)))
-  needs_of k n r a e (inr c) = Shown (Undecided (size_of c.0))
-      (at_bytes (Undecided k) a (inr (size_of c.0, subst (λ z. BitsNeeded z (size_of c.0)) e c.1, refl))) (c.0, refl, ap Err c.2)
+      Shown (Stop (Fails TooLarge)) (at_bytes (Stop (Needs k)) a (inl (large, refl))) (d.0, at_bytes (Stop (Needs k)) a (inr (large, d.1)), ap Err d.2)
+  needs_of k n r a e (inl (c, inr d)) = RanOut (ap Err d.1) (RunsOutBeside (at_bytes (Stop (Needs k)) a (subst IsTooLarge e c, d.0)))
+  needs_of k n r a e (inr c) = Shown (Stop (Needs (size_of c.0)))
+      (at_bytes (Stop (Needs k)) a (inr (size_of c.0, subst (λ z. BitsNeeded z (size_of c.0)) e c.1, refl))) (c.0, refl, ap Err c.2)
 
   bytes_of : (o : Outcome T) (e : Answer.Err E (Option E) Needed) (r : Answer.Err F (Option F) Needed) → m.answers true j o →
       Shows w IsOutput (with_streaming true mode) j (m.blames true j) o (Err e) → InBits Converts errs i e r → OfBytes (Err r)
@@ -126,13 +110,10 @@ module _ {I T O E F : Type 0} (w : Model I ℕ) (IsOutput : T → O → Type 0) 
       let d = subst (λ z. InBits Converts errs i z r) (same_err h.2) c in
       Shown Refuse (at_bytes Refuse a refl)
       (d.0, converts_built mode.errors Converts _ _ h.0 d.0 (λ x y p q. at_bytes Refuse a (inl (x, tt, p, q))) d.1 h.1, ap Err d.2)
-  bytes_of Fail e r a h c =
+  bytes_of (Stop (Fails cause)) e r a h c =
       let d = subst (λ z. InBits Converts errs i z r) (same_err h.2) c in
-      Shown Fail (at_bytes Fail a refl) (d.0, at_bytes Fail a (inl (h.0, tt, h.1, d.1)), ap Err d.2)
-  bytes_of TooLarge e r a h c =
-      let d = subst (λ z. InBits Converts errs i z r) (same_err h.2) c in
-      Shown TooLarge (at_bytes TooLarge a refl) (d.0, at_bytes TooLarge a (inl (h.0, tt, h.1, d.1)), ap Err d.2)
-  bytes_of (Undecided k) e r a h c = needs_of k h.0 r a h.1 (subst (λ z. InBits Converts errs i z r) (same_err h.2) c)
+      Shown (Stop (Fails cause)) (at_bytes (Stop (Fails cause)) a refl) (d.0, at_bytes (Stop (Fails cause)) a (inl (h.0, tt, h.1, d.1)), ap Err d.2)
+  bytes_of (Stop (Needs k)) e r a h c = needs_of k h.0 r a h.1 (subst (λ z. InBits Converts errs i z r) (same_err h.2) c)
 
   pub bytes_err : (e : Answer.Err E (Option E) Needed) (r : Answer.Err F (Option F) Needed) → InBytes' (Err e) → InBits Converts errs i e r → OfBytes (Err r)
   bytes_err e r (RanOut q h) c = RanOut (ap Err (subst (λ z. InBits Converts errs i z r) (same_err q) c)) (RunsOutInPart j start h)

@@ -5,9 +5,8 @@ use Rattle.std.proofs.lemmas.List.{take-append-drop}
 use Rattle.std.proofs.Math.ListN.{drop_of_length-le}
 use Rattle.std.proofs.Math.Nat.{mod-lt}
 use Rattle.std.proofs.Math.Path.{fun_ext}
-use Rattle.nom_traits.specs.Input.{Model, InputLaws, items_len, IsBoundary, IsSuffixOf, input_len}
-use Rattle.nom_traits.specs.Rests.{rest_rest, items_len-append}
-use Rattle.nom_traits.specs.Bits.{all_bits, AreBytes, past_bits, bits_model, bits_lawful}
+use Rattle.nom_internal.specs.Prelude.{Model, InputLaws, items_len, IsBoundary, IsSuffixOf, input_len, rest_rest, items_len-append, all_bits, AreBytes}
+use Rattle.nom_internal.specs.Prelude.{past_bits, bits_model, bits_lawful}
 use Rattle.nom_traits.specs.BitLists.{length-all_bits}
 use Rattle.nom_traits.specs.BitPlaces.{passes_bits, past_all_bits}
 use Rattle.nom_bits.specs.BitRests.{Skips, StandsBehind, SplitsAt, bits_ahead, bits_left, bits_place, skips_length}

@@ -2,12 +2,8 @@
 use Rattle.std.proofs.Common.{◌≡◌, ℕ, ◌<◌, ◌≤◌, ◌^◌, Bool, length, Option, take, drop, sym, ◌∙◌, ap, inl, inr, arith, length-append}
 use Rattle.std.proofs.lemmas.List.{length-take-le, take-append-drop}
 use Rattle.std.proofs.Math.Pow.{pow_mono}
-use Rattle.nom_error.specs.declared.answer.Needed.{Needed}
+use Rattle.nom_internal.specs.Prelude.{Needed, Refuses, Model, items_len-ones, bits_model, spelled}
 use Rattle.nom_error.specs.declared.answer.Err as Answer
-use Rattle.nom_error.specs.Answers.{Refuses}
-use Rattle.nom_traits.specs.Input.{Model}
-use Rattle.nom_traits.specs.Rests.{items_len-ones}
-use Rattle.nom_traits.specs.Bits.{bits_model, spelled}
 use Rattle.nom_internal.proofs.Shown.{built_error}
 use Rattle.nom_bits.specs.BitRests.{SplitsAt}
 use Rattle.nom_bits.specs.Fields.{IsField}

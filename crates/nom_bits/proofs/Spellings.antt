@@ -6,7 +6,7 @@ use Rattle.std.proofs.lemmas.List.{drop-append-le, take-append-le, length-drop, 
 use Rattle.std.proofs.lemmas.Nat.{pow-add, one_shl}
 use Rattle.std.proofs.Math.Nat.{pow-suc, mul-le-mul_left, div-div-eq-div-mul, mod-eq_of_lt}
 use Rattle.std.proofs.Math.Seq.{take-append-add, take-length}
-use Rattle.nom_traits.specs.Bits.{is_bit, low_bits, byte_bits, all_bits, spelled_after, spelled}
+use Rattle.nom_internal.specs.Prelude.{is_bit, low_bits, byte_bits, all_bits, spelled_after, spelled}
 use Rattle.nom_traits.specs.BitLists.{spelled-low_bits, length-byte_bits, length-all_bits}
 
 -- bits after those of a number

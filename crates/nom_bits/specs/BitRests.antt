@@ -3,10 +3,9 @@ use Rattle.std.specs.Prelude.{◌≡◌, ℕ, ◌+◌, ◌-◌, ◌*◌, ◌/◌
 use Rattle.std.proofs.Common.{arith, sym, ◌∙◌, ap, subst, lit<, drop, take, append-nil, length-append}
 use Rattle.std.proofs.lemmas.Grind.{flat_map-append}
 use Rattle.std.proofs.lemmas.List.{length-drop, length-take-le, take-append-drop}
-use Rattle.nom_traits.specs.Input.{Model, items_len, IsBoundary, IsSuffixOf, Related, InputLaws}
-use Rattle.nom_traits.specs.Rests.{same_cut, items_len-ones, rest_related}
-use Rattle.nom_traits.specs.Slices.{IsCount, place_slice, place_first, first_related, same_count, same_length}
-use Rattle.nom_traits.specs.Bits.{byte_bits, all_bits, whole_bytes, AreBytes, past_bits, bits_model, bits_lawful}
+use Rattle.nom_internal.specs.Prelude.{Model, items_len, IsBoundary, IsSuffixOf, Related, InputLaws, same_cut, items_len-ones, rest_related, IsCount}
+use Rattle.nom_internal.specs.Prelude.{place_slice, place_first, first_related, same_count, same_length, byte_bits, all_bits, whole_bytes, AreBytes, past_bits}
+use Rattle.nom_internal.specs.Prelude.{bits_model, bits_lawful}
 use Rattle.nom_traits.specs.BitLists.{length-all_bits, whole-all_bits, few_bits}
 use Rattle.nom_traits.specs.BitPlaces.{passes_bits}
 

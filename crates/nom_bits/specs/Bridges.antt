@@ -1,21 +1,10 @@
 -- Parsers of bits among parsers of bytes, and of bytes among parsers of bits.
 use Rattle.std.specs.Prelude.{◌≡◌, ℕ, ◌+◌, ◌*◌, ◌/◌, ◌^◌, ◌<◌, ◌≤◌, ◌⊎◌, true, false, Option, Some, None}
-use Rattle.nom_error.specs.declared.answer.Needed.{Needed}
+use Rattle.nom_internal.specs.Prelude.{Needed, Incomplete, Error, Failure, OutOfMemory, size_of, Errors, with_streaming, Model, IsSuffixOf, IsCount, AreBytes}
+use Rattle.nom_internal.specs.Prelude.{bits_model, Outcome, Accept, Refuse, Stop, Fails, Needs, TooLarge, IsFault, Meaning, Case, case_meaning, Always}
+use Rattle.nom_internal.specs.Prelude.{ConvertsSome, Outright}
 use Rattle.nom_error.specs.declared.answer.Err as Answer
-use Rattle.nom_error.specs.declared.answer.Err.TheVariants.{Incomplete, Error, Failure, OutOfMemory}
 use Rattle.nom_error.specs.declared.kind.ErrorKind.TheVariants as Kind
-use Rattle.nom_error.specs.Answers.{size_of}
-use Rattle.nom_error.specs.Errors.{Errors}
-use Rattle.nom_error.specs.Modes.{with_streaming}
-use Rattle.nom_traits.specs.Input.{Model, IsSuffixOf}
-use Rattle.nom_traits.specs.Slices.{IsCount}
-use Rattle.nom_traits.specs.Bits.{AreBytes, bits_model}
-use Rattle.nom_internal.specs.Outcome.{Outcome, IsFault}
-use Rattle.nom_internal.specs.Outcome.Outcome.{Accept, Refuse, Fail, TooLarge, Undecided}
-use Rattle.nom_internal.specs.Meaning.{Meaning}
-use Rattle.nom_internal.specs.Cases.{Case, case_meaning}
-use Rattle.nom_internal.specs.Cases.PartMode.{Always}
-use Rattle.nom_internal.specs.Mapped.{ConvertsSome}
 use Rattle.nom_bits.specs.BitRests.{bits_ahead}
 
 -- a count of bits in bytes, rounded up
@@ -36,9 +25,8 @@ module _ {I T : Type 0} (w : Model I ℕ) where
   abbrev pub BitsBecome : I → Outcome T → Outcome T → Type 0
   BitsBecome i (Accept n t) o = (m : ℕ) × IsCount w i (rounded_up n) m × (o ≡ Accept m t)
   BitsBecome i Refuse o = o ≡ Refuse
-  BitsBecome i Fail o = o ≡ Fail
-  BitsBecome i TooLarge o = o ≡ TooLarge
-  BitsBecome i (Undecided k) o = o ≡ Undecided (bytes_needed k)
+  BitsBecome i (Stop (Fails cause)) o = o ≡ Stop (Fails cause)
+  BitsBecome i (Stop (Needs k)) o = o ≡ Stop (Needs (bytes_needed k))
 
   -- The bits up to the next whole byte are consumed, and the bits of the bytes that the part consumes, as many as eight times
   -- their count.
@@ -63,17 +51,15 @@ module _ {I T : Type 0} (w : Model I ℕ) where
   abbrev pub BytesBecome : I × ℕ → Outcome T → Outcome T → Type 0
   BytesBecome i (Accept n t) o = BytesAccept w i n t o
   BytesBecome i Refuse o = o ≡ Refuse
-  BytesBecome i Fail o = o ≡ Fail
-  BytesBecome i TooLarge o = o ≡ TooLarge
-  BytesBecome i (Undecided k) o = (IsTooLarge k × (o ≡ TooLarge)) ⊎ ((j : Option ℕ) × BitsNeeded k j × (o ≡ Undecided j))
+  BytesBecome i (Stop (Fails cause)) o = o ≡ Stop (Fails cause)
+  BytesBecome i (Stop (Needs k)) o = (IsTooLarge k × (o ≡ Stop (Fails TooLarge))) ⊎ ((j : Option ℕ) × BitsNeeded k j × (o ≡ Stop (Needs j)))
 
 -- what is needed is too large, and the fact holds
 abbrev pub OnTooLarge : {T : Type 0} → Type 0 → Outcome T → Type 0
 OnTooLarge Fact (Accept n t) = ⊥
 OnTooLarge Fact Refuse = ⊥
-OnTooLarge Fact Fail = ⊥
-OnTooLarge Fact TooLarge = ⊥
-OnTooLarge Fact (Undecided k) = IsTooLarge k × Fact
+OnTooLarge Fact (Stop (Fails cause)) = ⊥
+OnTooLarge Fact (Stop (Needs k)) = IsTooLarge k × Fact
 
 module _ {I T E F : Type 0} (w : Model I ℕ) (Converts : E → F → Type 0) where
   -- A parser of bits runs, streaming, at the first bit of an input of bytes; what it answers, in bytes. That the items are
@@ -110,7 +96,7 @@ module _ {I T E F : Type 0} (w : Model I ℕ) (errs : Errors (I × ℕ) F) (Conv
     Asks = λ _ i. OnTooLarge errs.grows;
     IsSound = λ Part. Part;
     IsFrugal = λ Part mode. Part (with_streaming true mode) × (errs.grows → ⊥);
-    NeverFails = λ Part large. Part large × (large ≡ false);
+    NeverFails = λ Part cause. Part cause × (cause ≡ Outright);
   }
 
   abbrev pub bytes_meaning : Meaning I T E → Meaning (I × ℕ) T F

@@ -1,12 +1,7 @@
 -- Bit fields.
 use Rattle.std.specs.Prelude.{◌≡◌, ℕ, ◌<◌, ◌≤◌, nat_eq, ◌⊎◌, Bool, false, List, ◌++◌, length, Some}
 use Rattle.nom_error.specs.declared.kind.ErrorKind.TheVariants as Kind
-use Rattle.nom_error.specs.Errors.{Errors}
-use Rattle.nom_traits.specs.Input.{Model}
-use Rattle.nom_traits.specs.Bits.{bits_model, spelled}
-use Rattle.nom_internal.specs.Meaning.{Meaning}
-use Rattle.nom_internal.specs.Leaf.{Leaf, leaf_meaning}
-use Rattle.nom_internal.specs.Cases.{labelled_meaning}
+use Rattle.nom_internal.specs.Prelude.{Errors, Model, bits_model, spelled, Meaning, Leaf, leaf_meaning, labelled_meaning}
 
 module _ {I : Type 0} (w : Model I ℕ) where
   -- the next bits, as many as count, spell a number

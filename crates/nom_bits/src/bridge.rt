@@ -1,13 +1,9 @@
 //! Parsers of bits among parsers of bytes, and of bytes among parsers of bits.
 ghost use Rattle.std.specs.Prelude.{◌≡◌};
-ghost use Rattle.nom_error.specs.Answers.{size_of};
-ghost use Rattle.nom_traits.specs.Bits.{bits_model};
-ghost use Rattle.nom_traits.specs.Input.{IsSuffixOf};
+ghost use Rattle.nom_internal.specs.Prelude.{size_of, bits_model, IsSuffixOf, ConvertsSome, OfRest};
 ghost use Rattle.nom_bits.specs.BitRests.{bits_ahead};
 ghost use Rattle.nom_bits.specs.Bridges.{bits_meaning, bytes_meaning, bytes_needed, InBytes, InBits, IsNeed, IsTooLargeAt};
 ghost use Rattle.nom_bits.specs.laws.BridgeLaws.{bits_of_lawful, bits_of_steady, bytes_of_lawful, bytes_of_steady};
-ghost use Rattle.nom_internal.specs.Mapped.{ConvertsSome};
-ghost use Rattle.nom_internal.specs.Results.{OfRest};
 
 use crate::convert::ErrorConvert;
 use crate::field::skipped;

@@ -1,8 +1,7 @@
 //! Bit fields of an input of bytes, from a position among its bits on.
 ghost use Rattle.std.specs.Prelude.{◌≡◌, ◌<◌, ◌≤◌, ◌+◌, ◌^◌, length, MatchOption};
 ghost use Rattle.std.proofs.Common.{take, drop};
-ghost use Rattle.nom_traits.specs.Bits.{bits_model, byte_bits, spelled, spelled_after};
-ghost use Rattle.nom_traits.specs.Input.{IsSuffixOf};
+ghost use Rattle.nom_internal.specs.Prelude.{bits_model, byte_bits, spelled, spelled_after, IsSuffixOf};
 ghost use Rattle.nom_bits.specs.BitRests.{Skips, StandsBehind, SplitsAt};
 
 use nom_traits::input::Input;

@@ -2,11 +2,7 @@
 ghost use Rattle.std.specs.Prelude.{◌≡◌, ℕ, Bool};
 ghost use Rattle.std.specs.Result.{IfOk};
 ghost use Rattle.std.proofs.Common.{sym, ◌∙◌, ap};
-ghost use Rattle.nom_error.specs.Modes.{modes};
-ghost use Rattle.nom_traits.specs.Bits.{bits_model};
-ghost use Rattle.nom_internal.specs.Meaning.{ShowsMeaning};
-ghost use Rattle.nom_internal.specs.Pinned.{value_pinned};
-ghost use Rattle.nom_internal.specs.Results.{OfRest};
+ghost use Rattle.nom_internal.specs.Prelude.{modes, bits_model, ShowsMeaning, value_pinned, OfRest};
 ghost use Rattle.nom_bits.specs.BitRests.{StandsBehind};
 ghost use Rattle.nom_bits.specs.Fields.{take_meaning, tag_meaning, bool_meaning};
 ghost use Rattle.nom_bits.specs.laws.FieldLaws.{take_lawful, take_steady, tag_lawful, tag_steady, bool_lawful, bool_steady};

@@ -1,7 +1,7 @@
 //! Numbers that bits spell.
 ghost use Rattle.std.specs.Prelude.{◌≡◌, ◌<◌, ◌≤◌, ◌^◌, ℕ, refl};
 ghost use Rattle.std.proofs.Common.{arith};
-ghost use Rattle.nom_error.specs.Modes.{Built};
+ghost use Rattle.nom_internal.specs.Prelude.{Built};
 
 use nom_error::mode::Mode;
 use nom_traits::view::Viewed;

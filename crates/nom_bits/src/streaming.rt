@@ -3,8 +3,7 @@
 //! Where there are fewer bits, each needs as many as it takes.
 ghost use Rattle.std.specs.Prelude.{◌≡◌, ◌≤◌, true};
 ghost use Rattle.std.specs.Result.{IfOk};
-ghost use Rattle.nom_traits.specs.Bits.{bits_model};
-ghost use Rattle.nom_traits.specs.View.{itself};
+ghost use Rattle.nom_internal.specs.Prelude.{bits_model, itself};
 ghost use Rattle.nom_func.specs.Func.{StreamsBy};
 ghost use Rattle.nom_bits.specs.BitRests.{StandsBehind};
 ghost use Rattle.nom_bits.specs.Fields.{bool_meaning};

@@ -1,11 +1,6 @@
 -- How choices among several parsers show their answers.
-use Rattle.nom_error.specs.Answers.{PResult}
+use Rattle.nom_internal.specs.Prelude.{PResult, Errors, Modes, Model, Meaning, ShowsMeaning, EitherOutput, OnError, ClosesResult, ShowsNext}
 use Rattle.nom_error.specs.declared.kind.ErrorKind.TheVariants.{Alt}
-use Rattle.nom_error.specs.Errors.{Errors}
-use Rattle.nom_error.specs.Modes.{Modes}
-use Rattle.nom_traits.specs.Input.{Model}
-use Rattle.nom_internal.specs.Meaning.{Meaning, ShowsMeaning}
-use Rattle.nom_internal.specs.Choice.{EitherOutput, OnError, ClosesResult, ShowsNext}
 use Rattle.nom_internal.proofs.Choices.{either_shown, closed_shown}
 use Rattle.nom_branch.specs.Alternatives.{next_meaning, choice_meaning}
 

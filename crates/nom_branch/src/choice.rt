@@ -1,7 +1,7 @@
 //! Choices among parsers of several types: one of two, closed once.
 ghost use Rattle.std.specs.Prelude.{◌⊎◌};
 ghost use Rattle.nom_branch.specs.Alternatives.{next_meaning, choice_meaning};
-ghost use Rattle.nom_internal.specs.Choice.{EitherOutput};
+ghost use Rattle.nom_internal.specs.Prelude.{EitherOutput};
 
 use nom_error::answer::PResult;
 use nom_error::kind::ErrorKind;

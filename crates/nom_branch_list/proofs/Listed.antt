@@ -4,15 +4,9 @@ use Rattle.std.proofs.Common.{sym, ap, subst, ◌∙◌, get_or, take, set, suc,
 use Rattle.std.proofs.lemmas.List.{length-map}
 use Rattle.std.proofs.Math.Seq.{take-suc, take-length, map-set_same}
 use Rattle.std.proofs.Math.ListN.{get_or-map}
-use Rattle.nom_error.specs.declared.answer.Needed.{Needed}
+use Rattle.nom_internal.specs.Prelude.{Needed, PResult, Refuses, Errors, Modes, Model, Meaning, ShowsMeaning, or_meaning, OnError, ClosesResult, ShowsNext}
 use Rattle.nom_error.specs.declared.answer.Err as Answer
 use Rattle.nom_error.specs.declared.kind.ErrorKind.TheVariants.{Alt}
-use Rattle.nom_error.specs.Answers.{PResult, Refuses}
-use Rattle.nom_error.specs.Errors.{Errors}
-use Rattle.nom_error.specs.Modes.{Modes}
-use Rattle.nom_traits.specs.Input.{Model}
-use Rattle.nom_internal.specs.Meaning.{Meaning, ShowsMeaning}
-use Rattle.nom_internal.specs.Choice.{or_meaning, OnError, ClosesResult, ShowsNext}
 use Rattle.nom_internal.proofs.Cased.{labelled_shown}
 use Rattle.nom_internal.proofs.Choices.{next_labelled, on_error_map, or_shown, closed_shown}
 use Rattle.nom_internal.proofs.Shown.{refused}

@@ -2,11 +2,7 @@
 use Rattle.std.specs.Prelude.{◌≡◌, ℕ, ◌+◌, List, [], ◌∷◌}
 use Rattle.std.proofs.Common.{zero, suc}
 use Rattle.nom_error.specs.declared.kind.ErrorKind.TheVariants.{Alt}
-use Rattle.nom_error.specs.Errors.{Errors}
-use Rattle.nom_internal.specs.Meaning.{Meaning}
-use Rattle.nom_internal.specs.Leaf.{Leaf, leaf_meaning}
-use Rattle.nom_internal.specs.Cases.{labelled_meaning, closed_meaning}
-use Rattle.nom_internal.specs.Choice.{or_meaning}
+use Rattle.nom_internal.specs.Prelude.{Errors, Meaning, Leaf, leaf_meaning, labelled_meaning, closed_meaning, or_meaning}
 
 -- a parser that always refuses
 abbrev pub no_branch : {I V : Type 0} → Leaf I V

@@ -1,9 +1,7 @@
 -- Where a choice among the parsers of a list is sound, so is each of them.
 use Rattle.std.specs.Prelude.{ℕ, ◌+◌, List, [], ◌∷◌}
 use Rattle.std.proofs.Common.{subst, zero, suc}
-use Rattle.nom_error.specs.Errors.{Errors}
-use Rattle.nom_internal.specs.Meaning.{Meaning}
-use Rattle.nom_internal.specs.Choice.{or_meaning}
+use Rattle.nom_internal.specs.Prelude.{Errors, Meaning, or_meaning}
 use Rattle.nom_branch_list.specs.Lists.{branch_meaning, others_meaning, list_meaning, IsElementAt}
 
 module _ {S I V E : Type 0} (e : Errors I E) (part : S → Meaning I V E) where

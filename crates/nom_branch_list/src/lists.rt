@@ -1,7 +1,6 @@
 //! The choice among the branches of a list.
 ghost use Rattle.std.specs.Prelude.{◌≡◌, map};
-ghost use Rattle.nom_error.specs.Modes.{modes};
-ghost use Rattle.nom_internal.specs.Meaning.{ShowsMeaning};
+ghost use Rattle.nom_internal.specs.Prelude.{modes, ShowsMeaning};
 ghost use Rattle.nom_branch_list.specs.Lists.{list_meaning, ListOutput};
 
 use nom_error::answer::PResult;

@@ -2,11 +2,7 @@
 use Rattle.std.proofs.Common.{◌≡◌, ℕ, ◌-◌, ◌<◌, ◌≤◌, min, max, ◌⊎◌, Option, Some, None, Bool, true, false, [], length, refl, sym, ◌∙◌, ap, subst}
 use Rattle.std.proofs.Common.{arith, append-nil, inl, inr}
 use Rattle.std.proofs.lemmas.Bool.{cases_lt}
-use Rattle.nom_traits.specs.Input.{Model, input_len}
-use Rattle.nom_traits.specs.Slices.{Slice}
-use Rattle.nom_internal.specs.Leaf.{LeafAnswers}
-use Rattle.nom_internal.specs.Outcome.{Outcome}
-use Rattle.nom_internal.specs.Outcome.Outcome.{Accept, Refuse, Undecided}
+use Rattle.nom_internal.specs.Prelude.{Model, input_len, Slice, LeafAnswers, Outcome, Accept, Refuse, Stop, Needs}
 use Rattle.nom_bytes.specs.ParsedRuns.{IsEnough, IsRunSlice, runs, Reaches}
 use Rattle.nom_bytes.specs.laws.RunLaws.{run_closed}
 
@@ -80,7 +76,7 @@ module _ {I A : Type 0} (w : Model I A) (Test : A → Bool → Type 0) (most lea
       (input_len w i, all_items i, all_run w Test most i (input_len w i) count refl h, all_few least most (length (w.elements i)) (omega (arith, h.1, k)))
 
   pub more_needed : (s : Bool) (i : I) (o : Option ℕ) (count n size : ℕ) → s ≡ true → o ≡ None → n ≡ input_len w i → size ≡ max 1 (least - n) →
-      Reaches w Test most i o count → Answers s i (Undecided (Some size))
+      Reaches w Test most i o count → Answers s i (Stop (Needs (Some size)))
   more_needed s i o count n size e q f g a =
       let h = subst (λ z. Reaches w Test most i z count) q a in
       (e, (h.0, omega (arith, h.1, h.2), ap Some (g ∙ ap (λ m. max 1 (least - m)) f)))

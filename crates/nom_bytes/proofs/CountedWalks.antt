@@ -4,9 +4,7 @@ use Rattle.std.proofs.Common.{append_assoc, append-nil, length-append, ◌⊎◌
 use Rattle.std.specs.Iterator.{AlwaysYields}
 use Rattle.std.specs.List.{All}
 use Rattle.std.proofs.lemmas.List.Elements.{All-nil, All-cons, All-append}
-use Rattle.nom_traits.specs.Input.{Model, items_len, placed}
-use Rattle.nom_traits.specs.Rests.{items_len-append}
-use Rattle.nom_traits.specs.Slices.{Slice}
+use Rattle.nom_internal.specs.Prelude.{Model, items_len, placed, items_len-append, Slice}
 use Rattle.nom_bytes.specs.ParsedRuns.{IsRunSlice}
 
 -- why a count stops

@@ -4,16 +4,10 @@ use Rattle.std.proofs.Common.{sym, ap, subst, arith, inl, inr}
 use Rattle.std.specs.Prelude as Std
 use Rattle.std.specs.List.{All}
 use Rattle.std.proofs.lemmas.List.Elements.{All-nil}
-use Rattle.nom_error.specs.declared.answer.Needed.{Needed}
+use Rattle.nom_internal.specs.Prelude.{Needed, PResult, Refuses, Modes, Model, InputLaws, items_len, Stops, Slice, IsModelledBy, front_seen, leaf_meaning}
+use Rattle.nom_internal.specs.Prelude.{ShowsMeaning}
 use Rattle.nom_error.specs.declared.answer.Err as Answer
-use Rattle.nom_error.specs.Answers.{PResult, Refuses}
-use Rattle.nom_error.specs.Modes.{Modes}
-use Rattle.nom_traits.specs.Input.{Model, InputLaws, items_len}
-use Rattle.nom_traits.specs.Runs.{Stops}
-use Rattle.nom_traits.specs.Slices.{Slice, IsModelledBy, front_seen}
 use Rattle.nom_traits.specs.Splits.{IsRunLength, IsRunEmpty, FrontBuilt, Splits}
-use Rattle.nom_internal.specs.Leaf.{leaf_meaning}
-use Rattle.nom_internal.specs.Meaning.{ShowsMeaning}
 use Rattle.nom_internal.proofs.Shown.{accepted, undecided, refused, built_error}
 use Rattle.nom_bytes.specs.ParsedRuns.{IsEnough, IsRunSlice, runs}
 

@@ -1,16 +1,8 @@
 -- What a comparison of an input with a tag shows.
 use Rattle.std.proofs.Common.{◌≡◌, ℕ, ◌-◌, ◌<◌, true, List, Ok, Err, Option, Some, refl, sym, ◌∙◌, ap, subst, arith}
-use Rattle.nom_error.specs.declared.answer.Needed.{Needed}
-use Rattle.nom_error.specs.declared.answer.Err.TheVariants.{Incomplete}
-use Rattle.nom_error.specs.Answers.{PResult, size_of}
-use Rattle.nom_error.specs.Errors.{Errors}
-use Rattle.nom_error.specs.Modes.{Built, Modes}
-use Rattle.nom_traits.specs.declared.compare.CompareResult.{CompareResult}
+use Rattle.nom_internal.specs.Prelude.{Needed, Incomplete, PResult, size_of, Errors, Built, Modes, CompareResult, Model, IsBoundary, IsSuffixOf, input_len}
+use Rattle.nom_internal.specs.Prelude.{Slice, IsFirst, IsModelledBy, place_first, CompareLaws, ShowsMeaning}
 use Rattle.nom_traits.specs.declared.compare.CompareResult.TheVariants as Compared
-use Rattle.nom_traits.specs.Input.{Model, IsBoundary, IsSuffixOf, input_len}
-use Rattle.nom_traits.specs.Slices.{Slice, IsFirst, IsModelledBy, place_first}
-use Rattle.nom_traits.specs.Compares.{CompareLaws}
-use Rattle.nom_internal.specs.Meaning.{ShowsMeaning}
 use Rattle.nom_internal.proofs.Shown.{accepted, undecided}
 use Rattle.nom_bytes.specs.Tags.{tag_meaning}
 

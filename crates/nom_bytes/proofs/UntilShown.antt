@@ -1,13 +1,7 @@
 -- What a search for a needle shows.
 use Rattle.std.proofs.Common.{◌≡◌, ℕ, ◌<◌, Bool, true, false, List, Ok, Err, Option, Some, None, refl, arith}
-use Rattle.nom_error.specs.declared.answer.Needed.TheVariants.{Unknown}
-use Rattle.nom_error.specs.declared.answer.Err.TheVariants.{Incomplete}
-use Rattle.nom_error.specs.Errors.{Errors}
-use Rattle.nom_error.specs.Modes.{Built, Modes}
-use Rattle.nom_traits.specs.Input.{Model, IsSuffixOf}
-use Rattle.nom_traits.specs.Slices.{Slice, IsFirst, IsModelledBy, place_first}
+use Rattle.nom_internal.specs.Prelude.{Unknown, Incomplete, Errors, Built, Modes, Model, IsSuffixOf, Slice, IsFirst, IsModelledBy, place_first, ShowsMeaning}
 use Rattle.nom_search.specs.Substrings.{FindLaws}
-use Rattle.nom_internal.specs.Meaning.{ShowsMeaning}
 use Rattle.nom_internal.proofs.Shown.{accepted, undecided}
 use Rattle.nom_bytes.specs.Untils.{until_meaning}
 

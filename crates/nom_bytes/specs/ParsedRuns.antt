@@ -1,14 +1,8 @@
 -- The run of an input, parsed. How many items it may have is a bound: Some of a number, or None, as many as there are.
 use Rattle.std.specs.Prelude.{◌≡◌, ℕ, ◌-◌, ◌<◌, ◌≤◌, max, Bool, true, false, ◌⊎◌, length, Option, Some, None}
 use Rattle.std.specs.List.{All}
-use Rattle.nom_error.specs.declared.kind.ErrorKind.{ErrorKind}
+use Rattle.nom_internal.specs.Prelude.{ErrorKind, Errors, Model, input_len, Slice, IsFirst, Stops, Meaning, Leaf, leaf_meaning}
 use Rattle.nom_error.specs.declared.kind.ErrorKind.TheVariants as Kind
-use Rattle.nom_error.specs.Errors.{Errors}
-use Rattle.nom_traits.specs.Input.{Model, input_len}
-use Rattle.nom_traits.specs.Slices.{Slice, IsFirst}
-use Rattle.nom_traits.specs.Runs.{Stops}
-use Rattle.nom_internal.specs.Meaning.{Meaning}
-use Rattle.nom_internal.specs.Leaf.{Leaf, leaf_meaning}
 
 -- no more than the bound
 abbrev pub IsWithin : Option ℕ → ℕ → Type 0

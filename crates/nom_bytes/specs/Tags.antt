@@ -1,13 +1,8 @@
 -- Tags.
 use Rattle.std.specs.Prelude.{◌≡◌, ℕ, ◌-◌, false, ◌⊎◌, List, Some}
 use Rattle.nom_error.specs.declared.kind.ErrorKind.TheVariants as Kind
-use Rattle.nom_error.specs.Errors.{Errors}
-use Rattle.nom_traits.specs.declared.compare.CompareResult.{CompareResult}
+use Rattle.nom_internal.specs.Prelude.{Errors, CompareResult, Model, input_len, Slice, IsFirst, Meaning, Leaf, leaf_meaning}
 use Rattle.nom_traits.specs.declared.compare.CompareResult.TheVariants as Compared
-use Rattle.nom_traits.specs.Input.{Model, input_len}
-use Rattle.nom_traits.specs.Slices.{Slice, IsFirst}
-use Rattle.nom_internal.specs.Meaning.{Meaning}
-use Rattle.nom_internal.specs.Leaf.{Leaf, leaf_meaning}
 
 module _ {I A : Type 0} (w : Model I A) where
   -- a tag that is a front; where the input is a proper front of the tag, what is lacking is needed, or in the complete mode it is refused; else it is refused

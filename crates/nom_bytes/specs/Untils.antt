@@ -1,11 +1,7 @@
 -- Items up to the first place of a needle.
 use Rattle.std.specs.Prelude.{◌≡◌, ℕ, ◌<◌, Bool, true, false, ◌⊎◌, List, Option, Some, None}
 use Rattle.nom_error.specs.declared.kind.ErrorKind.TheVariants as Kind
-use Rattle.nom_error.specs.Errors.{Errors}
-use Rattle.nom_traits.specs.Input.{Model}
-use Rattle.nom_traits.specs.Slices.{Slice, IsFirst}
-use Rattle.nom_internal.specs.Meaning.{Meaning}
-use Rattle.nom_internal.specs.Leaf.{Leaf, leaf_meaning}
+use Rattle.nom_internal.specs.Prelude.{Errors, Model, Slice, IsFirst, Meaning, Leaf, leaf_meaning}
 
 module _ {I A : Type 0} (w : Model I A) where
   -- The items before the first place of a needle, and at least one where that is asked for: else it is refused. Where there

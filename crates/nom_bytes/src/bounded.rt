@@ -1,8 +1,7 @@
 //! The parser of runs with a bound.
 ghost use Rattle.std.specs.Prelude.{◌≡◌, ◌-◌, ℕ, max, Some};
 ghost use Rattle.nom_error.specs.declared.kind.ErrorKind.TheVariants as Kind;
-ghost use Rattle.nom_traits.specs.Slices.{Slice, IsModelledBy};
-ghost use Rattle.nom_internal.specs.Pinned.{slice_pinned};
+ghost use Rattle.nom_internal.specs.Prelude.{Slice, IsModelledBy, slice_pinned};
 ghost use Rattle.nom_bytes.specs.ParsedRuns.{Reaches, bounded_meaning};
 ghost use Rattle.nom_bytes.specs.laws.RunLaws.{run_lawful, run_steady};
 

@@ -1,6 +1,5 @@
 //! Tags without the case of ASCII letters.
-ghost use Rattle.nom_traits.specs.Slices.{Slice, IsModelledBy};
-ghost use Rattle.nom_internal.specs.Pinned.{slice_pinned};
+ghost use Rattle.nom_internal.specs.Prelude.{Slice, IsModelledBy, slice_pinned};
 ghost use Rattle.nom_bytes.specs.Tags.{tag_meaning};
 ghost use Rattle.nom_bytes.specs.laws.TagLaws.{tag_lawful, tag_steady};
 

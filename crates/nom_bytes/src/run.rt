@@ -1,7 +1,6 @@
 //! The parsers of runs that may be empty.
 ghost use Rattle.std.specs.Prelude.{◌≡◌, None};
-ghost use Rattle.nom_traits.specs.Slices.{Slice, IsModelledBy};
-ghost use Rattle.nom_internal.specs.Pinned.{slice_pinned};
+ghost use Rattle.nom_internal.specs.Prelude.{Slice, IsModelledBy, slice_pinned};
 ghost use Rattle.nom_bytes.specs.ParsedRuns.{run_meaning};
 ghost use Rattle.nom_bytes.specs.laws.RunLaws.{run_lawful, run_steady};
 

@@ -1,8 +1,6 @@
 //! The parsers of runs of one item at least.
 ghost use Rattle.std.specs.Prelude.{◌≡◌, None};
-ghost use Rattle.nom_error.specs.declared.kind.ErrorKind.{ErrorKind};
-ghost use Rattle.nom_traits.specs.Slices.{Slice, IsModelledBy};
-ghost use Rattle.nom_internal.specs.Pinned.{slice_pinned};
+ghost use Rattle.nom_internal.specs.Prelude.{ErrorKind, Slice, IsModelledBy, slice_pinned};
 ghost use Rattle.nom_bytes.specs.ParsedRuns.{run1_meaning};
 ghost use Rattle.nom_bytes.specs.laws.RunLaws.{run_lawful, run_steady};
 

@@ -1,7 +1,6 @@
 //! Items up to a needle.
 ghost use Rattle.std.specs.Prelude.{true, false};
-ghost use Rattle.nom_traits.specs.Slices.{Slice, IsModelledBy};
-ghost use Rattle.nom_internal.specs.Pinned.{slice_pinned};
+ghost use Rattle.nom_internal.specs.Prelude.{Slice, IsModelledBy, slice_pinned};
 ghost use Rattle.nom_bytes.specs.Untils.{until_meaning};
 ghost use Rattle.nom_bytes.specs.laws.UntilLaws.{until_lawful, until_steady};
 

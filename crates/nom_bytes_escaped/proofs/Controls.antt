@@ -1,9 +1,7 @@
 -- The first item of an input, and the rest after it.
 use Rattle.std.proofs.Common.{◌≡◌, ℕ, ◌<◌, List, [], ◌∷◌, ◌++◌, length, Option, Some, None, refl, sym, ◌∙◌, ap, subst, arith}
 use Rattle.std.specs.Iterator.{AlwaysYields}
-use Rattle.nom_traits.specs.Input.{Model, InputLaws, IsSuffixOf, input_len, items_len}
-use Rattle.nom_traits.specs.Rests.{same_cut}
-use Rattle.nom_traits.specs.Slices.{IsCount}
+use Rattle.nom_internal.specs.Prelude.{Model, InputLaws, IsSuffixOf, input_len, items_len, same_cut, IsCount}
 use Rattle.nom_bytes_escaped.specs.NextPieces.{BehindControl, StandsLast}
 
 module _ {A S : Type 0} (steps : S → Option A → S → Type 0) where

@@ -2,22 +2,14 @@
 use Rattle.std.proofs.Common.{◌≡◌, ℕ, ◌<◌, Bool, true, Ok, Err, Option, Some, None, List, [], ◌∷◌, ◌++◌, length, refl, sym, ap, subst, zero}
 use Rattle.std.proofs.Common.{suc, arith, inl, inr}
 use Rattle.std.specs.Prelude.{IsSome}
-use Rattle.nom_error.specs.declared.answer.Needed.{Needed}
+use Rattle.nom_internal.specs.Prelude.{Needed, OutOfMemory, Built, Modes, with_outputs, PResult, Refuses, Model, InputLaws, IsSuffixOf, input_len, Outcome}
+use Rattle.nom_internal.specs.Prelude.{Accept, Refuse, Stop, Fails, Needs, Shows, ShowsAnswer, RanOut, Shown, Meaning, ShowsMeaning, always}
 use Rattle.nom_error.specs.declared.answer.Err as Answer
-use Rattle.nom_error.specs.declared.answer.Err.TheVariants.{OutOfMemory}
-use Rattle.nom_error.specs.Modes.{Built, Modes, with_outputs}
-use Rattle.nom_error.specs.Answers.{PResult, Refuses}
-use Rattle.nom_traits.specs.Input.{Model, InputLaws, IsSuffixOf, input_len}
-use Rattle.nom_internal.specs.Outcome.{Outcome, Shows, ShowsAnswer}
-use Rattle.nom_internal.specs.Outcome.Outcome.{Accept, Refuse, Fail, TooLarge, Undecided}
-use Rattle.nom_internal.specs.Outcome.ShowsAnswer.{RanOut, Shown}
-use Rattle.nom_internal.specs.Meaning.{Meaning, ShowsMeaning}
-use Rattle.nom_internal.specs.Families.{always}
 use Rattle.nom_internal.proofs.Consumed.{rest_length}
 use Rattle.nom_internal.proofs.Shown.{Accepts, built_error}
 use Rattle.nom_repeat.specs.Repeat.{Pieces, TurnsBy, repeat_meaning}
 use Rattle.nom_repeat.specs.Repeat.Turn.{Takes, Ends}
-use Rattle.nom_repeat.proofs.Repeated.{Collected, collected_more, ended, refused, failed, too_large, lacking, ran_out, ran_out_within}
+use Rattle.nom_repeat.proofs.Repeated.{Collected, collected_more, ended, refused, failed, lacking, ran_out, ran_out_within}
 use Rattle.nom_bytes_escaped.specs.declared.next_piece.Piece.{Piece}
 use Rattle.nom_bytes_escaped.specs.declared.next_piece.NextPiece.{NextPiece}
 use Rattle.nom_bytes_escaped.specs.declared.next_piece.NextPiece.TheVariants.{Found, Other, Dangling, Done}
@@ -54,9 +46,7 @@ takes_some k n a v Done e = absurd (cc (e))
 turn_some : {V : Type 0} (k a : ℕ) (v : V) (o : Option (Outcome (NextPiece V))) → Takes a v ≡ escape_turn k o → 0 < a
 turn_some k a v (Some (Accept n x)) e = takes_some k n a v x e
 turn_some k a v (Some Refuse) e = absurd (cc (e))
-turn_some k a v (Some Fail) e = absurd (cc (e))
-turn_some k a v (Some TooLarge) e = absurd (cc (e))
-turn_some k a v (Some (Undecided d)) e = absurd (cc (e))
+turn_some k a v (Some (Stop why)) e = absurd (cc (e))
 turn_some k a v None e = absurd (cc (e))
 
 module _ {I A V : Type 0} (w : Model I A) (Part : I → Outcome (NextPiece V) → Type 0) where
@@ -129,11 +119,10 @@ module _ {I A V O E : Type 0} (w : Model I A) (l : InputLaws w) (Gives : I → E
         Shows w IsX (with_outputs true mode) j (m.blames mode.streaming j) o (Err f) → Goal (Err f)
     passed f (Accept n v) a h = absurd (cc (h.4))
     passed f Refuse a h = subst (λ y. Goal (Err y)) (cc (h.2)) (refused (escape_rule Gives Grows at) all_pieces (always m) c (Some Refuse) (tt, a) refl h.0 h.1)
-    passed f Fail a h = subst (λ y. Goal (Err y)) (cc (h.2)) (failed (escape_rule Gives Grows at) all_pieces (always m) c (Some Fail) (tt, a) refl h.0 h.1)
-    passed f TooLarge a h = subst (λ y. Goal (Err y)) (cc (h.2))
-        (too_large (escape_rule Gives Grows at) all_pieces (always m) c (Some TooLarge) (tt, a) refl h.0 h.1)
-    passed f (Undecided k) a h = subst (λ y. Goal (Err y)) (cc (h.2))
-        (lacking (escape_rule Gives Grows at) all_pieces (always m) c (Some (Undecided k)) (tt, a) (ap (λ z. Ends (Undecided z)) h.1))
+    passed f (Stop (Fails cause)) a h = subst (λ y. Goal (Err y)) (cc (h.2))
+        (failed (escape_rule Gives Grows at) all_pieces (always m) c (Some (Stop (Fails cause))) (tt, a) cause refl h.0 h.1)
+    passed f (Stop (Needs k)) a h = subst (λ y. Goal (Err y)) (cc (h.2))
+        (lacking (escape_rule Gives Grows at) all_pieces (always m) c (Some (Stop (Needs k))) (tt, a) (ap (λ z. Ends (Stop (Needs z))) h.1))
 
     pub passed_on : (f : Answer.Err E (Option E) Needed) → ShowsAnswer w IsX (with_outputs true mode) j (m.answers mode.streaming j)
         (m.blames mode.streaming j) (m.may_run_out mode j) (Err f) → Goal (Err f)

@@ -1,15 +1,9 @@
 -- What `escaped` shows.
 use Rattle.std.proofs.Common.{◌≡◌, ℕ, false, Ok, Err, Option, Some, None, refl, sym, subst}
-use Rattle.nom_error.specs.declared.answer.Needed.{Needed}
+use Rattle.nom_internal.specs.Prelude.{Needed, Errors, Built, Modes, with_outputs, PResult, Refuses, Model, InputLaws, IsSuffixOf, input_len, Slice, IsFirst}
+use Rattle.nom_internal.specs.Prelude.{IsModelledBy, Meaning, ShowsMeaning, always}
 use Rattle.nom_error.specs.declared.answer.Err as Answer
-use Rattle.nom_error.specs.Errors.{Errors}
 use Rattle.nom_error.specs.declared.kind.ErrorKind.TheVariants as Kind
-use Rattle.nom_error.specs.Modes.{Built, Modes, with_outputs}
-use Rattle.nom_error.specs.Answers.{PResult, Refuses}
-use Rattle.nom_traits.specs.Input.{Model, InputLaws, IsSuffixOf, input_len}
-use Rattle.nom_traits.specs.Slices.{Slice, IsFirst, IsModelledBy}
-use Rattle.nom_internal.specs.Meaning.{Meaning, ShowsMeaning}
-use Rattle.nom_internal.specs.Families.{always}
 use Rattle.nom_internal.proofs.Shown.{accepts}
 use Rattle.nom_internal.proofs.Consumed.{recognized_err, recognized_ok}
 use Rattle.nom_repeat.specs.Repeat.{TurnsBy, repeat_meaning}

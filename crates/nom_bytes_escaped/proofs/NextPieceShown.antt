@@ -1,18 +1,8 @@
 -- What is shown of what stands at a place.
 use Rattle.std.proofs.Common.{◌≡◌, ℕ, ◌<◌, Bool, true, false, List, [], length, Ok, Err, Option, Some, None, refl, sym, ◌∙◌, subst}
-use Rattle.nom_error.specs.declared.answer.Needed.{Needed}
-use Rattle.nom_error.specs.declared.answer.Needed.TheVariants.{Unknown}
+use Rattle.nom_internal.specs.Prelude.{Needed, Unknown, Error, PResult, size_of, modes, Model, InputLaws, IsSuffixOf, input_len, Accept, Refuse, Stop, Needs}
+use Rattle.nom_internal.specs.Prelude.{ShowsAnswer, Shown, Meaning, ShowsMeaning, LeafAnswers, labelled_meaning}
 use Rattle.nom_error.specs.declared.answer.Err as Answer
-use Rattle.nom_error.specs.declared.answer.Err.TheVariants.{Error}
-use Rattle.nom_error.specs.Answers.{PResult, size_of}
-use Rattle.nom_error.specs.Modes.{modes}
-use Rattle.nom_traits.specs.Input.{Model, InputLaws, IsSuffixOf, input_len}
-use Rattle.nom_internal.specs.Outcome.{ShowsAnswer}
-use Rattle.nom_internal.specs.Outcome.Outcome.{Accept, Refuse, Undecided}
-use Rattle.nom_internal.specs.Outcome.ShowsAnswer.{Shown}
-use Rattle.nom_internal.specs.Meaning.{Meaning, ShowsMeaning}
-use Rattle.nom_internal.specs.Leaf.{LeafAnswers}
-use Rattle.nom_internal.specs.Cases.{labelled_meaning}
 use Rattle.nom_internal.proofs.Shown.{next_shown}
 use Rattle.nom_internal.proofs.Cased.{here, labels_err, labels_ok}
 use Rattle.nom_internal.proofs.Choices.{otherwise_first, otherwise_next}
@@ -52,7 +42,7 @@ module _ {I A U W O X E : Type 0} (w : Model I A) (l : InputLaws w) (IsNormal : 
 
   -- no item is left
   end_by : (s : Bool) → length (w.elements i) ≡ 0 → (r : Told) → Lacks s Unknown i Done r → Goal s r
-  end_by true e r h = Shown (Undecided None) (record { first = Undecided None; answered = (refl, (e, refl)); goes_on = refl }) (Unknown, refl, h)
+  end_by true e r h = Shown (Stop (Needs None)) (record { first = Stop (Needs None); answered = (refl, (e, refl)); goes_on = refl }) (Unknown, refl, h)
   end_by false e r h = goes false false (refl, e) r (Shown (Accept 0 Done) (refl, refl) (i, Some Done, rest_self w l i known, (Done, refl, refl), h))
 
   pub end_shown : (s : Bool) (n : ℕ) → n ≡ input_len w i → n ≡ 0 → (r : Told) → Lacks s Unknown i Done r → Goal s r
@@ -132,7 +122,7 @@ module _ {I A U W O X E : Type 0} (w : Model I A) (l : InputLaws w) (IsNormal : 
         ShowsMeaning w IsNormal m (modes outputs false s) i (Err f) → (size : Needed) → size_of size ≡ lack → StandsLast w IsControl i → (r : Told) →
         Lacks s size i Dangling r → Goal s r
     last_shown true f b is h size c a r k =
-        next true n e z f b is h r (Shown (Undecided lack) (record { first = Undecided lack; answered = (refl, (a, refl)); goes_on = refl }) (size, c, k))
+        next true n e z f b is h r (Shown (Stop (Needs lack)) (record { first = Stop (Needs lack); answered = (refl, (a, refl)); goes_on = refl }) (size, c, k))
     last_shown false f b is h size c a r k =
         told false n e z f b is h Control.Last 0 i (refl, refl, a)
         (rest_self w l i known) r (Shown (Accept 0 Dangling) (refl, refl) (i, Some Dangling, rest_self w l i known, (Dangling, refl, refl), k))

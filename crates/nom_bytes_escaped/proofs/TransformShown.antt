@@ -1,15 +1,9 @@
 -- What `escaped_transform` shows.
 use Rattle.std.proofs.Common.{◌≡◌, ℕ, Ok, Err, Option, Some, None, List, ◌∷◌, [], ◌++◌, sym, subst}
 use Rattle.std.specs.Prelude.{IsSome}
-use Rattle.nom_error.specs.declared.answer.Needed.{Needed}
+use Rattle.nom_internal.specs.Prelude.{Needed, OutOfMemory, Errors, Built, Modes, PResult, Refuses, Model, InputLaws, input_len, Meaning, ShowsMeaning}
 use Rattle.nom_error.specs.declared.answer.Err as Answer
-use Rattle.nom_error.specs.declared.answer.Err.TheVariants.{OutOfMemory}
-use Rattle.nom_error.specs.Errors.{Errors}
 use Rattle.nom_error.specs.declared.kind.ErrorKind.TheVariants as Kind
-use Rattle.nom_error.specs.Modes.{Built, Modes}
-use Rattle.nom_error.specs.Answers.{PResult, Refuses}
-use Rattle.nom_traits.specs.Input.{Model, InputLaws, input_len}
-use Rattle.nom_internal.specs.Meaning.{Meaning, ShowsMeaning}
 use Rattle.nom_internal.proofs.Shown.{accepts}
 use Rattle.nom_repeat.specs.Repeat.{TurnsBy}
 use Rattle.nom_repeat.proofs.Repeated.{Collected, is_empty, consumes}

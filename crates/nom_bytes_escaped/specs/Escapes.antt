@@ -8,15 +8,8 @@
 -- - All else that a part answers is passed on.
 -- Where no items are left, the list ends, or more is needed.
 use Rattle.std.specs.Prelude.{◌≡◌, ℕ, true, List, [], ◌∷◌, ◌++◌, Option, Some, None, zero, suc}
-use Rattle.nom_error.specs.Errors.{Errors}
+use Rattle.nom_internal.specs.Prelude.{Errors, Model, Slice, Outcome, Accept, Refuse, Stop, Fails, Needs, Meaning, always, recognized_meaning}
 use Rattle.nom_error.specs.declared.kind.ErrorKind.TheVariants as Kind
-use Rattle.nom_traits.specs.Input.{Model}
-use Rattle.nom_traits.specs.Slices.{Slice}
-use Rattle.nom_internal.specs.Outcome.{Outcome}
-use Rattle.nom_internal.specs.Outcome.Outcome.{Accept, Refuse, Fail, TooLarge, Undecided}
-use Rattle.nom_internal.specs.Meaning.{Meaning}
-use Rattle.nom_internal.specs.Families.{always}
-use Rattle.nom_internal.specs.Recognized.{recognized_meaning}
 use Rattle.nom_repeat.specs.Repeat.{Turn, Rule, repeat_meaning}
 use Rattle.nom_repeat.specs.Repeat.Turn.{Takes, Ends}
 use Rattle.nom_bytes_escaped.specs.declared.next_piece.Piece.{Piece}
@@ -36,9 +29,7 @@ by_next_piece Done k n = Ends (Accept 0 None)
 abbrev pub escape_turn : {V : Type 0} → ℕ → Option (Outcome (NextPiece V)) → Turn V (Option V)
 escape_turn k (Some (Accept n v)) = by_next_piece v k n
 escape_turn k (Some Refuse) = Ends Refuse
-escape_turn k (Some Fail) = Ends Fail
-escape_turn k (Some TooLarge) = Ends TooLarge
-escape_turn k (Some (Undecided d)) = Ends (Undecided d)
+escape_turn k (Some (Stop why)) = Ends (Stop why)
 escape_turn k None = Ends (Accept 0 None)
 
 -- by cases: a piece, an item that begins none, the control character as the last item, no item
@@ -52,9 +43,8 @@ OnNextPiece Taken Unknown Last Done = ⊥
 abbrev pub OnReplied : {V : Type 0} → Type 0 → Type 0 → Type 0 → Type 0 → Option (Outcome (NextPiece V)) → Type 0
 OnReplied Taken Unknown Last Fault (Some (Accept n v)) = OnNextPiece Taken Unknown Last v
 OnReplied Taken Unknown Last Fault (Some Refuse) = Fault
-OnReplied Taken Unknown Last Fault (Some Fail) = Fault
-OnReplied Taken Unknown Last Fault (Some TooLarge) = Fault
-OnReplied Taken Unknown Last Fault (Some (Undecided d)) = ⊥
+OnReplied Taken Unknown Last Fault (Some (Stop (Fails cause))) = Fault
+OnReplied Taken Unknown Last Fault (Some (Stop (Needs d))) = ⊥
 OnReplied Taken Unknown Last Fault None = ⊥
 
 -- Where a list is refused, the error of a kind stands at its start; for the control character as the last item at the start, or at the

@@ -1,19 +1,8 @@
 -- What stands next in a text with escapes: where an item is left, a normal piece, otherwise the control character and after
 -- it an escapable piece.
 use Rattle.std.specs.Prelude.{◌≡◌, ℕ, ◌<◌, Bool, true, false, List, [], ◌∷◌, length, Option, Some, None, Ok, Err}
-use Rattle.nom_error.specs.Answers.{PResult}
-use Rattle.nom_error.specs.declared.answer.Needed.{Needed}
-use Rattle.nom_error.specs.declared.answer.Err.TheVariants.{Incomplete}
-use Rattle.nom_error.specs.Modes.{Built, Modes, with_outputs}
-use Rattle.nom_traits.specs.Input.{Model, IsSuffixOf}
-use Rattle.nom_internal.specs.Outcome.{ShowsAnswer}
-use Rattle.nom_internal.specs.Meaning.{Meaning}
-use Rattle.nom_internal.specs.Leaf.{Leaf, leaf_meaning}
-use Rattle.nom_internal.specs.Success.{success_meaning}
-use Rattle.nom_internal.specs.Families.{Family}
-use Rattle.nom_internal.specs.Sequence.{then_meaning}
-use Rattle.nom_internal.specs.Choice.{otherwise_meaning}
-use Rattle.nom_internal.specs.Cases.{labelled_meaning}
+use Rattle.nom_internal.specs.Prelude.{PResult, Needed, Incomplete, Built, Modes, with_outputs, Model, IsSuffixOf, ShowsAnswer, Meaning, Leaf, leaf_meaning}
+use Rattle.nom_internal.specs.Prelude.{success_meaning, Family, then_meaning, otherwise_meaning, labelled_meaning}
 use Rattle.nom_bytes_escaped.specs.declared.next_piece.Control.{Control}
 use Rattle.nom_bytes_escaped.specs.declared.next_piece.Piece.{Piece}
 use Rattle.nom_bytes_escaped.specs.declared.next_piece.Piece.TheVariants.{Normal, Escapable}

@@ -1,7 +1,6 @@
 //! The next piece of an input with escapes.
 ghost use Rattle.std.specs.Prelude.{◌≡◌, ◌<◌, length, Some};
-ghost use Rattle.nom_error.specs.Modes.{modes};
-ghost use Rattle.nom_error.specs.Answers.{size_of};
+ghost use Rattle.nom_internal.specs.Prelude.{modes, size_of};
 ghost use Rattle.nom_bytes_escaped.specs.NextPieces.{IsControlAt, Lacks, ShowsNextPiece};
 
 use nom_error::answer::{Err, Needed, PResult};

@@ -1,6 +1,6 @@
 //! Texts with escapes, as they stand.
 ghost use Rattle.std.specs.Prelude.{◌≡◌, ℕ};
-ghost use Rattle.nom_traits.specs.Slices.{Slice, IsModelledBy};
+ghost use Rattle.nom_internal.specs.Prelude.{Slice, IsModelledBy};
 ghost use Rattle.nom_bytes_escaped.specs.Escapes.{escaped_meaning};
 
 use crate::next_piece::{NextPiece, piece_at};

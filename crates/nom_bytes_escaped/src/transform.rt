@@ -1,6 +1,6 @@
 //! Texts with escapes, as they are meant.
 ghost use Rattle.std.specs.Prelude.{◌≡◌, ℕ, List, [], IsTrue, IsSome, false};
-ghost use Rattle.nom_error.specs.Modes.{Built};
+ghost use Rattle.nom_internal.specs.Prelude.{Built};
 ghost use Rattle.nom_bytes_escaped.specs.declared.next_piece.Piece.{Piece};
 ghost use Rattle.nom_bytes_escaped.specs.Texts.{AddAll, IsAppended, IsExtended};
 ghost use Rattle.nom_bytes_escaped.specs.Escapes.{escaped_transform_meaning};

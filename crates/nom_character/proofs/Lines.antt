@@ -3,13 +3,8 @@ use Rattle.std.proofs.Common.{◌≡◌, ℕ, ◌+◌, ◌==◌, Bool, true, fal
 use Rattle.std.proofs.Common.{ap, subst, arith, append-nil}
 use Rattle.std.specs.List.{All}
 use Rattle.std.proofs.lemmas.List.Elements.{All-head, All-tail}
-use Rattle.nom_error.specs.declared.answer.Needed.{Needed}
-use Rattle.nom_error.specs.declared.answer.Needed.TheVariants.{Unknown}
-use Rattle.nom_error.specs.Answers.{size_of}
+use Rattle.nom_internal.specs.Prelude.{Needed, Unknown, size_of, Model, InputLaws, IsSuffixOf, items_len, input_len, EndsAt, same_cut, rest_rest}
 use Rattle.std.proofs.lemmas.Bool.Decides.{nat_tests}
-use Rattle.nom_traits.specs.Input.{Model, InputLaws, IsSuffixOf, items_len, input_len}
-use Rattle.nom_traits.specs.Runs.{EndsAt}
-use Rattle.nom_traits.specs.Rests.{same_cut, rest_rest}
 use Rattle.nom_character.specs.declared.line.Matched.{Matched}
 use Rattle.nom_character.specs.declared.line.Matched.TheVariants as Found
 use Rattle.nom_character_first.specs.FirstItem.{IsFirstItem}

@@ -1,13 +1,7 @@
 -- Runs of the items of a class. How many are wanted is None, where there may be none, or Some of the kind of the refusal, where one is wanted at least.
 use Rattle.std.specs.Prelude.{◌≡◌, ℕ, Bool, Option, Some, None}
-use Rattle.nom_error.specs.declared.kind.ErrorKind.{ErrorKind}
-use Rattle.nom_error.specs.Errors.{Errors}
+use Rattle.nom_internal.specs.Prelude.{ErrorKind, Errors, has_code, Model, AreValues, Slice, Meaning, IsLawful, IsSteady, leaf_meaning}
 use Rattle.nom_traits.specs.declared.character.AsciiClass.{AsciiClass}
-use Rattle.nom_traits.specs.Classes.{has_code}
-use Rattle.nom_traits.specs.Input.{Model, AreValues}
-use Rattle.nom_traits.specs.Slices.{Slice}
-use Rattle.nom_internal.specs.Meaning.{Meaning, IsLawful, IsSteady}
-use Rattle.nom_internal.specs.Leaf.{leaf_meaning}
 use Rattle.nom_bytes.specs.Predicates.{IsFixed}
 use Rattle.nom_bytes.specs.ParsedRuns.{runs}
 use Rattle.nom_bytes.specs.laws.RunLaws.{run_lawful, run_steady}

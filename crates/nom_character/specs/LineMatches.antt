@@ -1,13 +1,7 @@
 -- What is matched at the first items of an input, by a function of the list of items.
 use Rattle.std.specs.Prelude.{◌≡◌, ℕ, ◌+◌, ◌==◌, ◌||◌, Bool, true, false, cond, List, [], ◌∷◌, length, Option, Some, None}
-use Rattle.nom_error.specs.declared.kind.ErrorKind.{ErrorKind}
+use Rattle.nom_internal.specs.Prelude.{ErrorKind, Errors, size_of, Model, IsSuffixOf, Slice, IsFirst, Meaning, Leaf, leaf_meaning}
 use Rattle.nom_error.specs.declared.kind.ErrorKind.TheVariants as Kind
-use Rattle.nom_error.specs.Errors.{Errors}
-use Rattle.nom_error.specs.Answers.{size_of}
-use Rattle.nom_traits.specs.Input.{Model, IsSuffixOf}
-use Rattle.nom_traits.specs.Slices.{Slice, IsFirst}
-use Rattle.nom_internal.specs.Meaning.{Meaning}
-use Rattle.nom_internal.specs.Leaf.{Leaf, leaf_meaning}
 use Rattle.nom_character.specs.declared.line.Matched.{Matched}
 use Rattle.nom_character.specs.declared.line.Matched.TheVariants as Found
 use Rattle.nom_character_first.specs.FirstItem.{IsFirstItem}

@@ -1,17 +1,10 @@
 //! Runs of the items of a class.
 ghost use Rattle.std.specs.Prelude.{Option, Some, None, true, false, MatchOption};
-ghost use Rattle.nom_error.specs.Modes.{modes};
-ghost use Rattle.nom_error.specs.Answers.{Refuses};
-ghost use Rattle.nom_error.specs.declared.kind.ErrorKind.{ErrorKind};
+ghost use Rattle.nom_internal.specs.Prelude.{modes, Refuses, ErrorKind, IsInside, IsOutside, IsBoundary, Slice, IsModelledBy, ShowsMeaning, slice_pinned};
 ghost use Rattle.nom_error.specs.declared.kind.ErrorKind.TheVariants as Kind;
 ghost use Rattle.nom_traits.specs.declared.character.AsciiClass.{AsciiClass};
 ghost use Rattle.nom_traits.specs.declared.character.AsciiClass.TheVariants as Class;
-ghost use Rattle.nom_traits.specs.Classes.{IsInside, IsOutside};
-ghost use Rattle.nom_traits.specs.Input.{IsBoundary};
-ghost use Rattle.nom_traits.specs.Slices.{Slice, IsModelledBy};
 ghost use Rattle.nom_traits.specs.Splits.{Splits, Never, FrontBuilt, IsRunLength, IsRunOpen};
-ghost use Rattle.nom_internal.specs.Meaning.{ShowsMeaning};
-ghost use Rattle.nom_internal.specs.Pinned.{slice_pinned};
 ghost use Rattle.nom_character.specs.ClassRuns.{class_meaning, class_lawful, class_steady};
 
 use nom_error::answer::{Err, Needed, PResult};

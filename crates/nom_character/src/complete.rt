@@ -1,7 +1,6 @@
 //! Parsers of characters in one mode: no more input may come, whatever mode is asked for.
 ghost use Rattle.std.specs.Prelude.{◌≡◌, Some, None, false};
-ghost use Rattle.nom_traits.specs.Slices.{IsModelledBy};
-ghost use Rattle.nom_traits.specs.View.{itself};
+ghost use Rattle.nom_internal.specs.Prelude.{IsModelledBy, itself};
 ghost use Rattle.nom_func.specs.Func.{AnswersBy};
 ghost use Rattle.nom_character.specs.ClassRuns.{class_meaning};
 ghost use Rattle.nom_character_first.specs.FirstItem.{anychar_meaning, char_meaning};

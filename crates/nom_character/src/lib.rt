@@ -2,9 +2,8 @@
 #![tactic(auto)]
 
 ghost use Rattle.std.specs.Prelude.{◌≡◌, false};
-ghost use Rattle.nom_traits.specs.Classes.{is_alpha_code, is_alphanum_code, is_bin_digit_code, is_dec_digit_code, is_hex_digit_code, is_newline_code};
-ghost use Rattle.nom_traits.specs.Classes.{is_oct_digit_code, is_space_code};
-ghost use Rattle.nom_traits.specs.View.{itself};
+ghost use Rattle.nom_internal.specs.Prelude.{is_alpha_code, is_alphanum_code, is_bin_digit_code, is_dec_digit_code, is_hex_digit_code, is_newline_code};
+ghost use Rattle.nom_internal.specs.Prelude.{is_oct_digit_code, is_space_code, itself};
 ghost use Rattle.nom_func.specs.Func.{AnswersBy};
 ghost use Rattle.nom_character_first.specs.FirstItem.{anychar_meaning};
 

@@ -1,11 +1,7 @@
 //! Ends of lines, and the items before them.
 ghost use Rattle.std.specs.Prelude.{◌≡◌, Bool, List, true};
-ghost use Rattle.nom_error.specs.Modes.{modes};
-ghost use Rattle.nom_error.specs.Answers.{size_of};
+ghost use Rattle.nom_internal.specs.Prelude.{modes, size_of, Slice, IsModelledBy, ShowsMeaning, slice_pinned};
 ghost use Rattle.nom_error.specs.declared.kind.ErrorKind.TheVariants as Kind;
-ghost use Rattle.nom_traits.specs.Slices.{Slice, IsModelledBy};
-ghost use Rattle.nom_internal.specs.Meaning.{ShowsMeaning};
-ghost use Rattle.nom_internal.specs.Pinned.{slice_pinned};
 ghost use Rattle.nom_character_first.specs.FirstItem.{IsFirstItem};
 ghost use Rattle.nom_character.specs.LineMatches.{Match, IsMatched, IsNewline, IsLineEnd, is_line_code, match_meaning, crlf_in, crlf_meaning};
 ghost use Rattle.nom_character.specs.LineMatches.{line_ending_in, line_ending_meaning, line_in, line_meaning};

@@ -1,9 +1,8 @@
 //! The parsers of one character.
 ghost use Rattle.std.specs.Prelude.{◌≡◌, ℕ, true, ◌==◌, Some, None};
 ghost use Rattle.std.specs.Char.{len_utf8};
-ghost use Rattle.nom_error.specs.declared.kind.ErrorKind.{ErrorKind};
+ghost use Rattle.nom_internal.specs.Prelude.{ErrorKind, value_pinned};
 ghost use Rattle.nom_error.specs.declared.kind.ErrorKind.TheVariants as Kind;
-ghost use Rattle.nom_internal.specs.Pinned.{value_pinned};
 ghost use Rattle.nom_character_first.specs.declared.first.Blame.TheVariants.{OfKind, OfChar};
 ghost use Rattle.nom_character_first.specs.FirstItem.{char_meaning, satisfy_meaning, anychar_meaning};
 ghost use Rattle.nom_character_first.specs.laws.FirstItemLaws.{test_is_fixed, first_item_lawful, first_item_steady};

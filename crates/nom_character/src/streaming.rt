@@ -1,7 +1,6 @@
 //! Parsers of characters in one mode: more input may come, whatever mode is asked for.
 ghost use Rattle.std.specs.Prelude.{◌≡◌, Some, None, true};
-ghost use Rattle.nom_traits.specs.Slices.{IsModelledBy};
-ghost use Rattle.nom_traits.specs.View.{itself};
+ghost use Rattle.nom_internal.specs.Prelude.{IsModelledBy, itself};
 ghost use Rattle.nom_func.specs.Func.{StreamsBy};
 ghost use Rattle.nom_character.specs.ClassRuns.{class_meaning};
 ghost use Rattle.nom_character_first.specs.FirstItem.{anychar_meaning, char_meaning};

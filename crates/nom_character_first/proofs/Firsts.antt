@@ -1,11 +1,7 @@
 -- The first item that an input gives.
 use Rattle.std.proofs.Common.{◌≡◌, ℕ, Bool, Option, Some, None, List, [], ◌∷◌, refl, sym, ap, subst, MatchOption}
 use Rattle.std.specs.Iterator.{AlwaysYields}
-use Rattle.nom_error.specs.Answers.{PResult}
-use Rattle.nom_error.specs.Errors.{Errors}
-use Rattle.nom_error.specs.Modes.{Modes}
-use Rattle.nom_traits.specs.Input.{Model}
-use Rattle.nom_internal.specs.Meaning.{ShowsMeaning}
+use Rattle.nom_internal.specs.Prelude.{PResult, Errors, Modes, Model, ShowsMeaning}
 use Rattle.nom_character_first.specs.declared.first.Blame.{Blame}
 use Rattle.nom_character_first.specs.FirstItem.{IsFirstItem, first_item_meaning}
 

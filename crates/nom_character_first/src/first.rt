@@ -1,9 +1,6 @@
 //! The first item of an input, under a test.
 ghost use Rattle.std.specs.Prelude.{◌≡◌, [], MatchOption};
-ghost use Rattle.nom_error.specs.Answers.{Refuses, size_of};
-ghost use Rattle.nom_error.specs.Modes.{Built, modes};
-ghost use Rattle.nom_traits.specs.Input.{IsSuffixOf};
-ghost use Rattle.nom_internal.specs.Meaning.{ShowsMeaning};
+ghost use Rattle.nom_internal.specs.Prelude.{Refuses, size_of, Built, modes, IsSuffixOf, ShowsMeaning};
 ghost use Rattle.nom_character_first.specs.FirstItem.{IsFirstItem, blamed, first_item_meaning};
 
 use nom_bytes::predicate::Predicate;

@@ -4,10 +4,8 @@ use Rattle.std.proofs.Common.{length, refl, sym, ◌∙◌, ap, subst, arith, ap
 use Rattle.std.specs.Prelude.{ℤ, pos}
 use Rattle.std.specs.Iterator.{AlwaysYields}
 use Rattle.std.proofs.lemmas.List.{map-append}
-use Rattle.nom_traits.specs.Classes.{is_dec_digit_code}
-use Rattle.nom_traits.specs.Digits.{value_of, value_more}
-use Rattle.nom_traits.specs.Input.{Model, items_len, placed, input_len, IsBoundary, IsSuffixOf, InputLaws}
-use Rattle.nom_traits.specs.Rests.{items_len-append, same_cut}
+use Rattle.nom_internal.specs.Prelude.{is_dec_digit_code, value_of, value_more, Model, items_len, placed, input_len, IsBoundary, IsSuffixOf, InputLaws}
+use Rattle.nom_internal.specs.Prelude.{items_len-append, same_cut}
 use Rattle.nom_character_integer.specs.Integers.{digits_of, after_digits, decimal_number, with_sign, sign_of, after_sign, is_negative, IsRange}
 use Rattle.nom_character_integer.specs.laws.IntegerLaws.{number_grows, nearer, sign_whole}
 use Rattle.nom_character_integer.specs.Read.{BehindSign, IsRead, IsUnfit}

@@ -1,11 +1,7 @@
 -- What is shown of a decimal integer.
 use Rattle.std.proofs.Common.{◌≡◌, ℕ, ◌+◌, ◌<◌, Bool, true, false, Option, Ok, List, [], ◌∷◌, ◌++◌, length, refl, sym, ◌∙◌, ap, subst, arith}
 use Rattle.std.specs.Prelude.{ℤ}
-use Rattle.nom_error.specs.Modes.{Modes, Built}
-use Rattle.nom_error.specs.Errors.{Errors}
-use Rattle.nom_traits.specs.Input.{Model, items_len, IsBoundary, IsSuffixOf, InputLaws}
-use Rattle.nom_traits.specs.Rests.{items_len-append, rest_rest}
-use Rattle.nom_internal.specs.Meaning.{ShowsMeaning}
+use Rattle.nom_internal.specs.Prelude.{Modes, Built, Errors, Model, items_len, IsBoundary, IsSuffixOf, InputLaws, items_len-append, rest_rest, ShowsMeaning}
 use Rattle.nom_internal.proofs.Shown.{accepted}
 use Rattle.nom_character_integer.specs.declared.integer.Unsigned.{Unsigned}
 use Rattle.nom_character_integer.specs.declared.integer.Number.{Number}

@@ -3,12 +3,7 @@ use Rattle.std.specs.Prelude.{◌≡◌, ℕ, ◌-◌, ◌<◌, ◌==◌, ◌||�
 use Rattle.std.specs.Prelude.{◌≤ℤ◌, FitsSigned}
 use Rattle.std.specs.Int.{Width, FitsUnsignedBits}
 use Rattle.nom_error.specs.declared.kind.ErrorKind.TheVariants as Kind
-use Rattle.nom_error.specs.Errors.{Errors}
-use Rattle.nom_traits.specs.Classes.{is_dec_digit_code}
-use Rattle.nom_traits.specs.Digits.{value_of}
-use Rattle.nom_traits.specs.Input.{Model, items_len}
-use Rattle.nom_internal.specs.Meaning.{Meaning}
-use Rattle.nom_internal.specs.Leaf.{Leaf, leaf_meaning}
+use Rattle.nom_internal.specs.Prelude.{Errors, is_dec_digit_code, value_of, Model, items_len, Meaning, Leaf, leaf_meaning}
 
 -- A list of items is one of code points: 43 is '+', 45 is '-' and 48 is '0'.
 module _ {A : Type 0} (code : A → ℕ) where

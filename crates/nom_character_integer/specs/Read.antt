@@ -1,6 +1,6 @@
 -- What is read of a decimal integer, part by part.
 use Rattle.std.specs.Prelude.{◌≡◌, ℕ, ◌<◌, Bool, true, ℤ, length, ◌↔◌}
-use Rattle.nom_traits.specs.Input.{Model, items_len, IsSuffixOf}
+use Rattle.nom_internal.specs.Prelude.{Model, items_len, IsSuffixOf}
 use Rattle.nom_character_integer.specs.declared.integer.Unsigned.{Unsigned}
 use Rattle.nom_character_integer.specs.declared.integer.Number.{Number}
 use Rattle.nom_character_integer.specs.Integers.{digits_of, after_digits, decimal_number, with_sign, sign_of, after_sign, is_negative}

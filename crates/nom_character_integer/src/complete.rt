@@ -4,7 +4,7 @@
 //! is none, and at the digit with which the number leaves its type.
 ghost use Rattle.std.specs.Prelude.{◌≡◌, pos, false};
 ghost use Rattle.std.specs.Int.{w8, w16, w32, w64, w128};
-ghost use Rattle.nom_traits.specs.View.{itself};
+ghost use Rattle.nom_internal.specs.Prelude.{itself};
 ghost use Rattle.nom_func.specs.Func.{AnswersBy};
 ghost use Rattle.nom_character_integer.specs.Integers.{integer_meaning, signed_meaning, unsigned_meaning};
 

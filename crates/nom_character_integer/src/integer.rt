@@ -1,8 +1,7 @@
 //! Whole numbers in decimal digits.
 ghost use Rattle.std.specs.Prelude.{◌≡◌, ◌<◌, ◌+◌, ◌-◌, ◌*◌, ℕ, Bool, ℤ, pos, true, false, [], ◌∷◌, MatchOption};
 ghost use Rattle.std.proofs.Common.{sym, ◌∙◌};
-ghost use Rattle.nom_traits.specs.Classes.{is_dec_digit_code};
-ghost use Rattle.nom_error.specs.Modes.{Built};
+ghost use Rattle.nom_internal.specs.Prelude.{is_dec_digit_code, Built};
 ghost use Rattle.num_traits.specs.Laws.{Checks};
 ghost use Rattle.nom_character_integer.specs.Integers.{with_sign, sign_of, integer_meaning};
 ghost use Rattle.nom_character_integer.specs.laws.IntegerLaws.{integer_lawful, integer_steady, range_of};

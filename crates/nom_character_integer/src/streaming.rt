@@ -5,7 +5,7 @@
 //! needs 1 more.
 ghost use Rattle.std.specs.Prelude.{◌≡◌, pos, true};
 ghost use Rattle.std.specs.Int.{w8, w16, w32, w64, w128};
-ghost use Rattle.nom_traits.specs.View.{itself};
+ghost use Rattle.nom_internal.specs.Prelude.{itself};
 ghost use Rattle.nom_func.specs.Func.{StreamsBy};
 ghost use Rattle.nom_character_integer.specs.Integers.{integer_meaning, signed_meaning, unsigned_meaning};
 

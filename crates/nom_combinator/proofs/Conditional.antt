@@ -1,11 +1,7 @@
 -- What is shown of a part that runs on a condition.
 use Rattle.std.proofs.Common.{◌≡◌, Ok, Err, Option, Some, None, refl, sym, subst}
-use Rattle.nom_error.specs.Answers.{PResult}
-use Rattle.nom_error.specs.declared.answer.Needed.{Needed}
+use Rattle.nom_internal.specs.Prelude.{PResult, Needed, Built, Modes, Model, InputLaws, Meaning, ShowsMeaning}
 use Rattle.nom_error.specs.declared.answer.Err as Answer
-use Rattle.nom_error.specs.Modes.{Built, Modes}
-use Rattle.nom_traits.specs.Input.{Model, InputLaws}
-use Rattle.nom_internal.specs.Meaning.{Meaning, ShowsMeaning}
 use Rattle.nom_internal.proofs.Cased.{labels_err, labels_ok}
 use Rattle.nom_internal.proofs.Shown.{accepted}
 use Rattle.nom_combinator.specs.Conditions.{state_of, cond_meaning, CondOutput}

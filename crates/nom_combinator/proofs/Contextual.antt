@@ -1,19 +1,10 @@
 -- What is shown of a part whose errors are made into others.
 use Rattle.std.proofs.Common.{◌≡◌, Bool, true, false, Ok, Err, Option, Some, None, refl, sym, subst, ap, inl, inr}
-use Rattle.nom_error.specs.Answers.{PResult}
-use Rattle.nom_error.specs.declared.answer.Needed.{Needed}
+use Rattle.nom_internal.specs.Prelude.{PResult, Needed, Incomplete, Error, Failure, OutOfMemory, Built, Modes, Model, Outcome, Accept, Refuse, Stop, Fails}
+use Rattle.nom_internal.specs.Prelude.{Needs, IsFault, Shows, RanOut, Shown, Meaning, ShowsMeaning, RunsOutInPart, RunsOutBeside, BuildsError, renamed_meaning}
 use Rattle.nom_error.specs.declared.answer.Err as Answer
-use Rattle.nom_error.specs.declared.answer.Err.TheVariants.{Incomplete, Error, Failure, OutOfMemory}
-use Rattle.nom_error.specs.Modes.{Built, Modes}
-use Rattle.nom_traits.specs.Input.{Model}
-use Rattle.nom_internal.specs.Outcome.{Outcome, IsFault, Shows}
-use Rattle.nom_internal.specs.Outcome.Outcome.{Accept, Refuse, Fail, TooLarge, Undecided}
-use Rattle.nom_internal.specs.Outcome.ShowsAnswer.{RanOut, Shown}
-use Rattle.nom_internal.specs.Meaning.{Meaning, ShowsMeaning}
-use Rattle.nom_internal.specs.Cases.CaseRunsOut.{RunsOutInPart, RunsOutBeside}
 use Rattle.nom_internal.proofs.Cased.{here}
 use Rattle.nom_internal.proofs.Shown.{accepts}
-use Rattle.nom_internal.specs.Mapped.{BuildsError, renamed_meaning}
 use Rattle.nom_combinator.specs.Contexts.{Makes, IsRenamed}
 
 module _ {I A P O E : Type 0} (w : Model I A) (IsOutput : P → O → Type 0) (Named : I → E → E → Type 0) (Grows : Type 0) (m : Meaning I P E)
@@ -61,14 +52,11 @@ module _ {I A P O E : Type 0} (w : Model I A) (IsOutput : P → O → Type 0) (N
       Shows w IsOutput mode i (m.blames mode.streaming i) o (Err f) → RenamedShown (Err r)
   renamed_of f r k (Accept n v) a h = absurd (cc (h.4))
   renamed_of f r k Refuse a h = let is : f ≡ Error h.0 = cc (h.2) in refusal_of mode.errors refl a h.0 h.1 r (subst (λ z. IsRenamed (Named i) Grows z r) is k)
-  renamed_of f r k Fail a h = let is : f ≡ Failure h.0 =
-      cc (h.2) in failure_of Fail a tt tt (λ e z b q. Shown Fail (here Fail a refl) (e, b, ap Err q)) h.0 h.1 r
+  renamed_of f r k (Stop (Fails cause)) a h = let is : f ≡ Failure h.0 =
+      cc (h.2) in failure_of (Stop (Fails cause)) a tt tt (λ e z b q. Shown (Stop (Fails cause)) (here (Stop (Fails cause)) a refl) (e, b, ap Err q)) h.0 h.1 r
       (subst (λ z. IsRenamed (Named i) Grows z r) is k)
-  renamed_of f r k TooLarge a h = let is : f ≡ Failure h.0 =
-      cc (h.2) in failure_of TooLarge a tt tt (λ e z b q. Shown TooLarge (here TooLarge a refl) (e, b, ap Err q)) h.0 h.1 r
-      (subst (λ z. IsRenamed (Named i) Grows z r) is k)
-  renamed_of f r k (Undecided d) a h = let is : f ≡ Incomplete h.0 =
-      cc (h.2) in Shown (Undecided d) (here (Undecided d) a refl) (h.0, h.1, ap Err (subst (λ z. IsRenamed (Named i) Grows z r) is k))
+  renamed_of f r k (Stop (Needs d)) a h = let is : f ≡ Incomplete h.0 =
+      cc (h.2) in Shown (Stop (Needs d)) (here (Stop (Needs d)) a refl) (h.0, h.1, ap Err (subst (λ z. IsRenamed (Named i) Grows z r) is k))
 
   pub renamed_err : (f r : Answer.Err E (Option E) Needed) → ShowsMeaning w IsOutput m mode i (Err f) → IsRenamed (Named i) Grows f r → RenamedShown (Err r)
   renamed_err f r (RanOut e h) k = let is : f ≡ OutOfMemory =

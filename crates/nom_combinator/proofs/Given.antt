@@ -1,13 +1,7 @@
 -- What is shown of a value in the place of what a part accepts.
 use Rattle.std.proofs.Common.{◌≡◌, Ok, Err, Option, refl, sym, subst}
-use Rattle.nom_error.specs.Answers.{PResult}
-use Rattle.nom_error.specs.declared.answer.Needed.{Needed}
+use Rattle.nom_internal.specs.Prelude.{PResult, Needed, Built, Modes, Model, Accept, Shown, Meaning, ShowsMeaning}
 use Rattle.nom_error.specs.declared.answer.Err as Answer
-use Rattle.nom_error.specs.Modes.{Built, Modes}
-use Rattle.nom_traits.specs.Input.{Model}
-use Rattle.nom_internal.specs.Outcome.Outcome.{Accept}
-use Rattle.nom_internal.specs.Outcome.ShowsAnswer.{Shown}
-use Rattle.nom_internal.specs.Meaning.{Meaning, ShowsMeaning}
 use Rattle.nom_internal.proofs.Shown.{accepts}
 use Rattle.nom_internal.proofs.Cased.{here, passing_err}
 use Rattle.nom_combinator.specs.Outputs.{value_case, value_meaning}
@@ -26,12 +20,9 @@ module _ {I A P O T E : Type 0} (w : Model I A) (IsOutput : P → O → Type 0) 
       (record {
         at_is = refl;
         refuses = λ b e. (refl, refl, λ z h. h);
-        fails = refl;
-        too_large = refl;
+        fails = λ _. refl;
         undecided = λ n e k. refl;
-        blames_failure =
-            λ z h. h;
-        blames_large = λ z h. h;
+        blames_failure = λ _ z h. h;
       }) refl h)
 
   -- an acceptance gives a clone

@@ -1,28 +1,18 @@
 -- What is shown of what becomes of a part's outcome.
 use Rattle.std.proofs.Common.{◌≡◌, ℕ, Bool, true, false, Ok, Err, Option, Some, None, refl, sym, ◌∙◌, ap, subst, inl, inr}
-use Rattle.nom_error.specs.declared.answer.Needed.{Needed}
+use Rattle.nom_internal.specs.Prelude.{Needed, Incomplete, Error, Failure, PResult, Refuses, with_outputs, Built, Modes, modes, Model, InputLaws, IsSuffixOf}
+use Rattle.nom_internal.specs.Prelude.{Slice, IsFirst, IsModelledBy, recognized_meaning, Outcome, Accept, Refuse, Stop, Fails, Needs, Outright, Shows}
+use Rattle.nom_internal.specs.Prelude.{RanOut, Shown, Meaning, ShowsMeaning, case_meaning, RunsOutBeside, Cause, Reason}
 use Rattle.nom_error.specs.declared.answer.Err as Answer
-use Rattle.nom_error.specs.declared.answer.Err.TheVariants.{Incomplete, Error, Failure}
-use Rattle.nom_error.specs.Answers.{PResult, Refuses}
-use Rattle.nom_error.specs.Modes.{with_outputs, Built, Modes, modes}
-use Rattle.nom_traits.specs.Input.{Model, InputLaws, IsSuffixOf}
-use Rattle.nom_traits.specs.Slices.{Slice, IsFirst, IsModelledBy}
-use Rattle.nom_internal.specs.Recognized.{recognized_meaning}
 use Rattle.nom_internal.proofs.Consumed.{rest_self, slice_before, recognized_err}
-use Rattle.nom_internal.specs.Outcome.{Outcome, Shows}
-use Rattle.nom_internal.specs.Outcome.Outcome.{Accept, Refuse, Fail, TooLarge, Undecided}
-use Rattle.nom_internal.specs.Outcome.ShowsAnswer.{RanOut, Shown}
-use Rattle.nom_internal.specs.Meaning.{Meaning, ShowsMeaning}
-use Rattle.nom_internal.specs.Cases.{case_meaning}
-use Rattle.nom_internal.specs.Cases.CaseRunsOut.{RunsOutBeside}
 use Rattle.nom_internal.proofs.Shown.{both_built, accepts, built_error}
 use Rattle.nom_internal.proofs.Cased.{here, passing_err, plain_err}
 use Rattle.nom_combinator.specs.Verdicts.{complete_case, complete_meaning, WithSlice, consumed_meaning, verdict_case, cut_outcome, NeverCut}
 use Rattle.nom_combinator.specs.Verdicts.{cut_meaning, opt_outcome, opt_meaning, OptOutput, Looks, peek_meaning, not_case, not_meaning}
 
 -- what neither accepts nor refuses passes
-module _ {I A P T O X E : Type 0} (w : Model I A) (becomes : Outcome P → Outcome T) (errors : Bool → Bool) (Never : (Bool → Type 0) → Bool → Type 0)
-    (fails : Fail ≡ becomes Fail) (larges : TooLarge ≡ becomes TooLarge) (waits : (k : Option ℕ) → Undecided k ≡ becomes (Undecided k))
+module _ {I A P T O X E : Type 0} (w : Model I A) (becomes : Outcome P → Outcome T) (errors : Bool → Bool) (Never : (Cause → Type 0) → Cause → Type 0)
+    (stops : (why : Reason) → Stop why ≡ becomes (Stop why))
     (IsOutput : P → O → Type 0) (IsResult : T → X → Type 0) (m : Meaning I P E) (mode : Modes) (i : I) where
   pub verdict_passes : (f k : Answer.Err E (Option E) Needed) → f ≡ k → ((x : Option E) → k ≡ Error x → ⊥) →
       ShowsMeaning w IsOutput m (modes mode.outputs (errors mode.errors) mode.streaming) i (Err f) →
@@ -32,12 +22,9 @@ module _ {I A P T O X E : Type 0} (w : Model I A) (becomes : Outcome P → Outco
       (record {
         at_is = refl;
         refuses = λ b e. absurd (other b e);
-        fails = fails;
-        too_large = larges;
-        undecided = λ n e. waits;
-        blames_failure =
-            λ e b. b;
-        blames_large = λ e b. b;
+        fails = λ cause. stops (Fails cause);
+        undecided = λ n e d. stops (Needs d);
+        blames_failure = λ _ e b. b;
       }) q h
 
 -- a refusal that was shown, with its error where that is built
@@ -51,9 +38,8 @@ module _ {I A P O E : Type 0} (w : Model I A) (IsOutput : P → O → Type 0) (m
   refusal_of (Accept n v) a h = cc (h.4)
   refusal_of Refuse a h = let same : h.0 ≡ b =
       cc (h.2) in record { answered = a; error_is = subst (λ z. Built mode.errors (m.blames mode.streaming i) z) same h.1 }
-  refusal_of Fail a h = cc (h.2)
-  refusal_of TooLarge a h = cc (h.2)
-  refusal_of (Undecided k) a h = cc (h.2)
+  refusal_of (Stop (Fails cause)) a h = cc (h.2)
+  refusal_of (Stop (Needs k)) a h = cc (h.2)
 
   shown_refusal : ShowsMeaning w IsOutput m mode i (Err (Error b)) → Refusal (m.answers mode.streaming i Refuse) (m.blames mode.streaming i) mode.errors b
   shown_refusal (RanOut e h) = cc (e)
@@ -72,7 +58,7 @@ module _ {I A P O E : Type 0} (w : Model I A) (IsOutput : P → O → Type 0) (m
   CutPart = ShowsMeaning w IsOutput m (modes mode.outputs true mode.streaming) i
 
   pub cut_passes : (f k : Answer.Err E (Option E) Needed) → f ≡ k → ((x : Option E) → k ≡ Error x → ⊥) → CutPart (Err f) → CutShown (Err k)
-  cut_passes = verdict_passes w cut_outcome (λ _. true) NeverCut refl refl (λ k. refl) IsOutput IsOutput m mode i
+  cut_passes = verdict_passes w cut_outcome (λ _. true) NeverCut (λ why. refl) IsOutput IsOutput m mode i
 
   pub cut_ok : (p : I × Option O) → CutPart (Ok p) → CutShown (Ok p)
   cut_ok p h = let a = accepts h in Shown (Accept a.length a.tree) (here (Accept a.length a.tree) a.answered refl) (p.0, p.1, a.rest_is, a.built_is, refl)
@@ -81,7 +67,7 @@ module _ {I A P O E : Type 0} (w : Model I A) (IsOutput : P → O → Type 0) (m
   cut_refused f b e q is h =
       let r = refuses w IsOutput m (modes mode.outputs true mode.streaming) i b f q h in
       let same : r.error_is.0 ≡ e = cc (r.error_is.1, is) in
-      Shown Fail (here Refuse r.answered refl) (e, here Refuse r.answered (subst (λ z. m.blames mode.streaming i z) same r.error_is.2), refl)
+      Shown (Stop (Fails Outright)) (here Refuse r.answered refl) (e, here Refuse r.answered (subst (λ z. m.blames mode.streaming i z) same r.error_is.2), refl)
 
 -- an option that is built of what was built
 module _ {P O : Type 0} (IsOutput : P → O → Type 0) where
@@ -99,7 +85,7 @@ module _ {I A P O E : Type 0} (w : Model I A) (l : InputLaws w) (IsOutput : P �
   OptPart = ShowsMeaning w IsOutput m (modes mode.outputs false mode.streaming) i
 
   pub opt_passes : (f k : Answer.Err E (Option E) Needed) → f ≡ k → ((x : Option E) → k ≡ Error x → ⊥) → OptPart (Err f) → OptShown (Err k)
-  opt_passes = verdict_passes w opt_outcome (λ _. false) (λ Part. Part) refl refl (λ k. refl) IsOutput (OptOutput IsOutput) m mode i
+  opt_passes = verdict_passes w opt_outcome (λ _. false) (λ Part. Part) (λ why. refl) IsOutput (OptOutput IsOutput) m mode i
 
   pub opt_ok : (j : I) (x : Option O) (y : Option (Option O)) → OptPart (Ok (j, x)) → Built mode.outputs (λ z. z ≡ x) y → OptShown (Ok (j, y))
   opt_ok j x y h k =
@@ -141,12 +127,10 @@ module _ {I A P O E : Type 0} (w : Model I A) (l : InputLaws w) (IsOutput : P �
       (not_case Own Grows) m mode i (record {
         at_is = refl;
         refuses = λ b e. absurd (other b e);
-        fails = refl;
-        too_large = refl;
+        fails = λ _. refl;
         undecided =
             λ n e d. refl;
-        blames_failure = λ e b. inr (tt, b);
-        blames_large = λ e b. inr (tt, b);
+        blames_failure = λ _ e b. inr (tt, b);
       }) q h
 
   pub not_refused : w.IsKnown i → (f : Answer.Err E (Option E) Needed) (b : Option E) (y : Option (Unit {0})) → f ≡ Error b → NotPart (Err f) →
@@ -179,30 +163,27 @@ module _ {I A P O E : Type 0} (w : Model I A) (IsOutput : P → O → Type 0) (O
       (record {
         at_is = refl;
         refuses = λ b e. (refl, refl, λ z g. inr (tt, g));
-        fails = refl;
-        too_large = refl;
+        fails = λ _. refl;
         undecided = λ n e. absurd (other n e);
-        blames_failure = λ e b. inr (tt, b);
-        blames_large = λ e b. inr (tt, b);
+        blames_failure = λ _ e b. inr (tt, b);
       }) q h
 
   pub complete_ok : (p : I × Option O) → CompletePart (Ok p) → CompleteShown (Ok p)
   complete_ok p h = let a = accepts h in Shown (Accept a.length a.tree) (here (Accept a.length a.tree) a.answered refl) (p.0, p.1, a.rest_is, a.built_is, refl)
 
-  wanted_refusal : (d : Option ℕ) → m.answers false i (Undecided d) → (r : Answer.Err E (Option E) Needed) → Refuses (Own i) Grows mode.errors r →
+  wanted_refusal : (d : Option ℕ) → m.answers false i (Stop (Needs d)) → (r : Answer.Err E (Option E) Needed) → Refuses (Own i) Grows mode.errors r →
       CompleteShown (Err r)
-  wanted_refusal d a r (inl h) = RanOut (ap Err h.0) (RunsOutBeside (here (Undecided d) a (tt, h.1, h.2)))
+  wanted_refusal d a r (inl h) = RanOut (ap Err h.0) (RunsOutBeside (here (Stop (Needs d)) a (tt, h.1, h.2)))
   wanted_refusal d a r (inr h) =
-      Shown Refuse (here (Undecided d) a refl) (h.0, built_error mode.errors _ _ h.0 (λ e g. here (Undecided d) a (inl (tt, g))) h.1, ap Err h.2)
+      Shown Refuse (here (Stop (Needs d)) a refl) (h.0, built_error mode.errors _ _ h.0 (λ e g. here (Stop (Needs d)) a (inl (tt, g))) h.1, ap Err h.2)
 
   wanted_of : (x : Needed) (o : Outcome P) → m.answers false i o →
       Shows w IsOutput (modes mode.outputs mode.errors false) i (m.blames false i) o (Err (Incomplete x)) → (r : Answer.Err E (Option E) Needed) →
       Refuses (Own i) Grows mode.errors r → CompleteShown (Err r)
   wanted_of x (Accept n v) a h r g = absurd (cc (h.4))
   wanted_of x Refuse a h r g = absurd (cc (h.2))
-  wanted_of x Fail a h r g = absurd (cc (h.2))
-  wanted_of x TooLarge a h r g = absurd (cc (h.2))
-  wanted_of x (Undecided d) a h r g = wanted_refusal d a r g
+  wanted_of x (Stop (Fails cause)) a h r g = absurd (cc (h.2))
+  wanted_of x (Stop (Needs d)) a h r g = wanted_refusal d a r g
 
   wanted : (x : Needed) → CompletePart (Err (Incomplete x)) → (r : Answer.Err E (Option E) Needed) → Refuses (Own i) Grows mode.errors r → CompleteShown (Err r)
   wanted x (RanOut e h) r g = absurd (cc (e))

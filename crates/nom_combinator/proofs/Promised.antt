@@ -1,14 +1,7 @@
 -- What is answered of what a part consumes.
 use Rattle.std.proofs.Common.{◌≡◌, ℕ, ◌++◌, Bool, Ok, refl, sym, ◌∙◌, ap, subst}
-use Rattle.nom_traits.specs.Input.{Model, InputLaws, IsSuffixOf}
-use Rattle.nom_traits.specs.Rests.{same_cut}
-use Rattle.nom_traits.specs.Slices.{Slice, IsModelledBy, IsFirst}
-use Rattle.nom_internal.specs.Outcome.{Outcome, Parses}
-use Rattle.nom_internal.specs.Outcome.Outcome.{Accept, Refuse, Fail, TooLarge, Undecided}
-use Rattle.nom_internal.specs.Outcome.ParsesAnswer.{ParseRanOut, Parsed}
-use Rattle.nom_internal.specs.Meaning.{Meaning, ParsesMeaning}
-use Rattle.nom_internal.specs.Cases.{Passes}
-use Rattle.nom_internal.specs.Recognized.{IsSliced, recognized_meaning}
+use Rattle.nom_internal.specs.Prelude.{Model, InputLaws, IsSuffixOf, same_cut, Slice, IsModelledBy, IsFirst, Outcome, Accept, Refuse, Stop, Parses, ParseRanOut}
+use Rattle.nom_internal.specs.Prelude.{Parsed, Meaning, ParsesMeaning, Passes, IsSliced, recognized_meaning, Fails, Needs}
 use Rattle.nom_combinator.specs.Verdicts.{WithSlice, consumed_meaning}
 use Rattle.nom_combinator.specs.Promises.{AreParts, GivesFront, GivesFrontAndOutput}
 
@@ -28,18 +21,14 @@ module _ {I A : Type 0} (w : Model I A) (l : InputLaws w) (i : I) where
       let same : ◌≡◌ {A = ℕ × Slice w} (k, f.0) (n, t) = cc (f.2) in
       subst (λ p. IsFirst w i p.0 p.1) same f.1
   sliced_first Refuse n t f = absurd (cc (f))
-  sliced_first Fail n t f = absurd (cc (f))
-  sliced_first TooLarge n t f = absurd (cc (f))
-  sliced_first (Undecided k) n t f = absurd (cc (f))
+  sliced_first (Stop why) n t f = absurd (cc (f))
 
   consumed_first : {V : Type 0} (a : Outcome V) (n : ℕ) (t : Slice w) (v : V) → Passes (WithSlice w i) a (Accept n (t, v)) → IsFirst w i n t × (a ≡ Accept n v)
   consumed_first (Accept k u) n t v f =
       let same : ◌≡◌ {A = ℕ × (Slice w × _)} (k, (f.0, u)) (n, (t, v)) = cc (f.2) in
       (subst (λ p. IsFirst w i p.0 p.1.0) same f.1, ap (λ p. Accept p.0 p.1.1) same)
   consumed_first Refuse n t v f = absurd (cc (f))
-  consumed_first Fail n t v f = absurd (cc (f))
-  consumed_first TooLarge n t v f = absurd (cc (f))
-  consumed_first (Undecided k) n t v f = absurd (cc (f))
+  consumed_first (Stop why) n t v f = absurd (cc (f))
 
 -- an answer that is an acceptance shows one
 module _ {I A T O E : Type 0} (w : Model I A) (IsOutput : T → O → Type 0) (i j : I) (IsError : E → Type 0) (o : O) where
@@ -55,9 +44,8 @@ module _ {I A T O E : Type 0} (w : Model I A) (IsOutput : T → O → Type 0) (i
       let same : ◌≡◌ {A = I × O} (s.0, s.1) (j, o) = cc (s.4) in
       record { length = n; tree = t; accepts = refl; rest = subst (λ p. IsSuffixOf w i n p.0) same s.2; output = subst (λ p. IsOutput t p.1) same s.3 }
   accepted_by Refuse s = cc (s.2)
-  accepted_by Fail s = cc (s.2)
-  accepted_by TooLarge s = cc (s.2)
-  accepted_by (Undecided k) s = cc (s.2)
+  accepted_by (Stop (Fails cause)) s = cc (s.2)
+  accepted_by (Stop (Needs k)) s = cc (s.2)
 
 module _ {I A V E : Type 0} (w : Model I A) (l : InputLaws w) (m : Meaning I V E) where
   recognizes : (s : Bool) (i j o : I) → ParsesMeaning w (IsModelledBy w) (recognized_meaning w m) s i (Ok (j, o)) → AreParts w i o j

@@ -1,8 +1,6 @@
 -- A part that runs on a condition, or an acceptance of nothing in its place.
 use Rattle.std.specs.Prelude.{◌≡◌, Option, Some, None}
-use Rattle.nom_internal.specs.Meaning.{Meaning}
-use Rattle.nom_internal.specs.Cases.{labelled_meaning}
-use Rattle.nom_internal.specs.Success.{success_meaning}
+use Rattle.nom_internal.specs.Prelude.{Meaning, labelled_meaning, success_meaning}
 use Rattle.nom_combinator.specs.Verdicts.{OptOutput}
 
 -- the state of a part, where there is one

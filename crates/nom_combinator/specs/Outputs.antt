@@ -1,10 +1,6 @@
 -- A value in the place of what a part accepts.
 use Rattle.std.specs.Prelude.{◌≡◌, ℕ, true}
-use Rattle.nom_internal.specs.Outcome.{Outcome}
-use Rattle.nom_internal.specs.Outcome.Outcome.{Accept}
-use Rattle.nom_internal.specs.Meaning.{Meaning}
-use Rattle.nom_internal.specs.Cases.{Case, case_meaning, Passes}
-use Rattle.nom_internal.specs.Cases.PartMode.{AsAsked}
+use Rattle.nom_internal.specs.Prelude.{Outcome, Accept, Meaning, Case, case_meaning, Passes, AsAsked}
 use Rattle.nom_combinator.specs.Verdicts.{IsAcceptance}
 
 -- an acceptance, with the value in place of the part's tree

@@ -1,9 +1,6 @@
 -- What combinators promise, said of what they mean and of what they answer.
 use Rattle.std.specs.Prelude.{◌≡◌, ℕ, Bool, ◌++◌, Option, Ok}
-use Rattle.nom_traits.specs.Input.{Model}
-use Rattle.nom_traits.specs.Slices.{Slice, IsModelledBy}
-use Rattle.nom_internal.specs.Outcome.Outcome.{Accept, Refuse, Undecided}
-use Rattle.nom_internal.specs.Meaning.{Meaning, ParsesMeaning}
+use Rattle.nom_internal.specs.Prelude.{Model, Slice, IsModelledBy, Accept, Refuse, Stop, Needs, Meaning, ParsesMeaning}
 
 module _ {I A V E : Type 0} (w : Model I A) (m : Meaning I V E) where
   -- it never refuses
@@ -11,8 +8,8 @@ module _ {I A V E : Type 0} (w : Model I A) (m : Meaning I V E) where
   NeverRefuses = (s : Bool) (i : I) → w.IsKnown i → m.answers s i Refuse → ⊥
 
   -- it never asks for more
-  abbrev pub NeverUndecided : Type 0
-  NeverUndecided = (s : Bool) (i : I) (k : Option ℕ) → w.IsKnown i → m.answers s i (Undecided k) → ⊥
+  abbrev pub NeverWaits : Type 0
+  NeverWaits = (s : Bool) (i : I) (k : Option ℕ) → w.IsKnown i → m.answers s i (Stop (Needs k)) → ⊥
 
   -- what it accepts is of no length
   abbrev pub ConsumesNothing : Type 0

@@ -1,17 +1,11 @@
 -- What becomes of a part's outcome: a refusal that is final, an option, a look ahead, and a part that must refuse.
 use Rattle.std.specs.Prelude.{◌≡◌, ◌⊎◌, ℕ, Bool, true, false, Option, Some, None}
-use Rattle.nom_error.specs.Modes.{with_streaming, modes}
-use Rattle.nom_traits.specs.Input.{Model}
-use Rattle.nom_traits.specs.Slices.{Slice, IsFirst}
-use Rattle.nom_internal.specs.Outcome.{Outcome, IsFault, IsFailure}
-use Rattle.nom_internal.specs.Outcome.Outcome.{Accept, Refuse, Fail, TooLarge, Undecided}
-use Rattle.nom_internal.specs.Meaning.{Meaning}
-use Rattle.nom_internal.specs.Cases.{Case, case_meaning, Passes, plain_case}
-use Rattle.nom_internal.specs.Cases.PartMode.{AsAsked, Always}
+use Rattle.nom_internal.specs.Prelude.{with_streaming, modes, Model, Slice, IsFirst, Outcome, Accept, Refuse, Stop, Fails, Needs, Outright, TooLarge, IsFault}
+use Rattle.nom_internal.specs.Prelude.{Meaning, Case, case_meaning, Passes, plain_case, AsAsked, Always, Cause, IsFailure}
 
 -- Of a part at the same input, in the mode that is asked for, whose errors stand for themselves: what its outcome becomes,
 -- whether its refusals' errors are built, and when it never fails.
-abbrev pub verdict_case : {I P T E : Type 0} → (Outcome P → Outcome T) → (Bool → Bool) → ((Bool → Type 0) → Bool → Type 0) → Case I I P T E E
+abbrev pub verdict_case : {I P T E : Type 0} → (Outcome P → Outcome T) → (Bool → Bool) → ((Cause → Type 0) → Cause → Type 0) → Case I I P T E E
 verdict_case becomes errors Never = record {
   At = λ i j. i ≡ j;
   mode = AsAsked;
@@ -27,15 +21,13 @@ verdict_case becomes errors Never = record {
 -- a refusal becomes a failure
 abbrev pub cut_outcome : {P : Type 0} → Outcome P → Outcome P
 cut_outcome (Accept n v) = Accept n v
-cut_outcome Refuse = Fail
-cut_outcome Fail = Fail
-cut_outcome TooLarge = TooLarge
-cut_outcome (Undecided k) = Undecided k
+cut_outcome Refuse = Stop (Fails Outright)
+cut_outcome (Stop why) = Stop why
 
 -- any part may refuse, so only that what it lacks is never too large can be said
-abbrev pub NeverCut : (Bool → Type 0) → Bool → Type 0
-NeverCut Part true = Part true
-NeverCut Part false = ⊥
+abbrev pub NeverCut : (Cause → Type 0) → Cause → Type 0
+NeverCut Part TooLarge = Part TooLarge
+NeverCut Part Outright = ⊥
 
 -- a part whose refusals are failures, so their errors are always built
 abbrev pub cut_meaning : {I P E : Type 0} → Meaning I P E → Meaning I P E
@@ -45,9 +37,7 @@ cut_meaning = case_meaning (verdict_case cut_outcome (λ _. true) NeverCut)
 abbrev pub opt_outcome : {P : Type 0} → Outcome P → Outcome (Option P)
 opt_outcome (Accept n v) = Accept n (Some v)
 opt_outcome Refuse = Accept 0 None
-opt_outcome Fail = Fail
-opt_outcome TooLarge = TooLarge
-opt_outcome (Undecided k) = Undecided k
+opt_outcome (Stop why) = Stop why
 
 -- a part, or nothing where it refuses; the errors of its refusals aren't built
 abbrev pub opt_meaning : {I P E : Type 0} → Meaning I P E → Meaning I (Option P) E
@@ -70,17 +60,13 @@ peek_meaning = case_meaning (plain_case (λ b. b) (λ i. Passes Looks))
 abbrev pub not_outcome : {P : Type 0} → Outcome P → Outcome (Unit {0})
 not_outcome (Accept n v) = Refuse
 not_outcome Refuse = Accept 0 tt
-not_outcome Fail = Fail
-not_outcome TooLarge = TooLarge
-not_outcome (Undecided k) = Undecided k
+not_outcome (Stop why) = Stop why
 
 -- an acceptance
 abbrev pub IsAcceptance : {P : Type 0} → Outcome P → Type 0
 IsAcceptance (Accept n v) = Unit {0}
 IsAcceptance Refuse = ⊥
-IsAcceptance Fail = ⊥
-IsAcceptance TooLarge = ⊥
-IsAcceptance (Undecided k) = ⊥
+IsAcceptance (Stop why) = ⊥
 
 -- an error of its own for outcomes of one kind, and the part's for those of another
 abbrev pub EitherBlames : {P E : Type 0} → (Outcome P → Type 0) → (Outcome P → Type 0) → (E → Type 0) → Outcome P → (E → Type 0) → E → Type 0
@@ -108,17 +94,15 @@ not_meaning Own Grows = case_meaning (not_case Own Grows)
 abbrev pub complete_outcome : {P : Type 0} → Outcome P → Outcome P
 complete_outcome (Accept n v) = Accept n v
 complete_outcome Refuse = Refuse
-complete_outcome Fail = Fail
-complete_outcome TooLarge = TooLarge
-complete_outcome (Undecided k) = Refuse
+complete_outcome (Stop (Fails cause)) = Stop (Fails cause)
+complete_outcome (Stop (Needs k)) = Refuse
 
 -- want of more
 abbrev pub IsWant : {P : Type 0} → Outcome P → Type 0
 IsWant (Accept n v) = ⊥
 IsWant Refuse = ⊥
-IsWant Fail = ⊥
-IsWant TooLarge = ⊥
-IsWant (Undecided k) = Unit {0}
+IsWant (Stop (Fails cause)) = ⊥
+IsWant (Stop (Needs k)) = Unit {0}
 
 -- A part that runs as on a complete input, where want of more is refused all the same. The error of that is made at the start,
 -- which may take memory where errors are built; any other is the part's.

@@ -1,6 +1,6 @@
 //! A part whose errors are told with a name.
 ghost use Rattle.std.specs.Prelude.{ℕ, List};
-ghost use Rattle.nom_internal.specs.Mapped.{renamed_meaning};
+ghost use Rattle.nom_internal.specs.Prelude.{renamed_meaning};
 ghost use Rattle.nom_internal.specs.laws.MappedLaws.{renamed_lawful, renamed_steady};
 ghost use Rattle.nom_combinator.specs.Contexts.{IsRenamed};
 

@@ -4,7 +4,7 @@ ghost use Rattle.std.specs.Borrow.{Bor};
 ghost use Rattle.std.specs.Fn.{FnReturnsAt};
 ghost use Rattle.nom_error.specs.declared.kind.ErrorKind.TheVariants as Kind;
 ghost use Rattle.nom_internal.specs.Cloned.{ClonesEqual, clones_pinned};
-ghost use Rattle.nom_internal.specs.Judged.{judged_meaning};
+ghost use Rattle.nom_internal.specs.Prelude.{judged_meaning};
 ghost use Rattle.nom_internal.specs.laws.JudgedLaws.{judged_lawful, judged_steady};
 ghost use Rattle.nom_combinator.specs.Outputs.{value_meaning};
 ghost use Rattle.nom_combinator.specs.laws.OutputLaws.{tested_pinned, value_lawful, value_steady};

@@ -1,8 +1,6 @@
 //! The parsers that give what a part consumes.
-ghost use Rattle.nom_traits.specs.Slices.{Slice, IsModelledBy};
-ghost use Rattle.nom_internal.specs.Recognized.{recognized_meaning};
+ghost use Rattle.nom_internal.specs.Prelude.{Slice, IsModelledBy, recognized_meaning, slice_pinned, pair_pinned};
 ghost use Rattle.nom_internal.specs.laws.RecognizedLaws.{recognized_lawful, recognized_steady};
-ghost use Rattle.nom_internal.specs.Pinned.{slice_pinned, pair_pinned};
 ghost use Rattle.nom_combinator.specs.Verdicts.{consumed_meaning};
 ghost use Rattle.nom_combinator.specs.laws.VerdictLaws.{consumed_lawful, consumed_steady};
 

@@ -1,5 +1,5 @@
 //! What combinators promise beside what every parser does. These functions do nothing: their contracts are the promises.
-ghost use Rattle.nom_combinator.specs.Promises.{ConsumesNothing, GivesFront, GivesFrontAndOutput, NeverRefuses, NeverUndecided};
+ghost use Rattle.nom_combinator.specs.Promises.{ConsumesNothing, GivesFront, GivesFrontAndOutput, NeverRefuses, NeverWaits};
 
 use crate::piece::{Consumed, Recognize};
 use crate::verdict::{Cut, MakeComplete, Not, Opt, Peek};
@@ -18,7 +18,7 @@ pub fn opt_never_refuses<I: Items, F: Parser<I> + Drop>(_parser: &Opt<F>)
 
 /// `complete` never answers `Incomplete`.
 pub fn complete_never_waits<I: Items, F: Parser<I> + Drop>(_parser: &MakeComplete<F>)
-    ensures { NeverUndecided I.model (⟦<MakeComplete<F> as Parser<I>>⟧.meaning (F.state _parser.now.parser)) }
+    ensures { NeverWaits I.model (⟦<MakeComplete<F> as Parser<I>>⟧.meaning (F.state _parser.now.parser)) }
 {}
 
 /// What `peek` accepts, it doesn't consume.

@@ -1,7 +1,6 @@
 //! The loop of exactly n items.
 ghost use Rattle.std.specs.Prelude.{◌≡◌};
-ghost use Rattle.nom_error.specs.Modes.{Built, modes};
-ghost use Rattle.nom_internal.specs.Meaning.{ShowsMeaning};
+ghost use Rattle.nom_internal.specs.Prelude.{Built, modes, ShowsMeaning};
 ghost use Rattle.nom_repeat.specs.Bounds.{exact_limits};
 ghost use Rattle.nom_repeat.specs.Items.{items_meaning};
 ghost use Rattle.nom_repeat.specs.Accumulated.{Accumulated};

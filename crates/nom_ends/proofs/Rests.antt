@@ -1,7 +1,7 @@
 -- An input of which nothing is left.
 use Rattle.std.specs.Prelude.{◌≡◌, ℕ, ◌<◌, List, [], ◌∷◌, refl}
 use Rattle.std.proofs.Common.{arith, ap}
-use Rattle.nom_traits.specs.Input.{Model, items_len, input_len}
+use Rattle.nom_internal.specs.Prelude.{Model, items_len, input_len}
 
 -- items of no length are none
 pub no_length : {A : Type 0} (item_len : A → ℕ) → ((a : A) → 0 < item_len a) → (xs : List A) → items_len item_len xs ≡ 0 → xs ≡ []

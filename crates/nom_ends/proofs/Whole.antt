@@ -1,9 +1,7 @@
 -- An input that is given as it is.
 use Rattle.std.specs.Prelude.{◌≡◌, Bool, Option}
 use Rattle.std.proofs.Common.{ap, subst, sym}
-use Rattle.nom_error.specs.Modes.{Built}
-use Rattle.nom_traits.specs.Input.{Model}
-use Rattle.nom_traits.specs.Slices.{IsModelledBy}
+use Rattle.nom_internal.specs.Prelude.{Built, Model, IsModelledBy}
 use Rattle.nom_internal.proofs.Shown.{built_error}
 use Rattle.nom_ends.specs.Ends.{all_of}
 

@@ -1,14 +1,7 @@
 -- Parsers that look at no item, and those of all that is left.
 use Rattle.std.specs.Prelude.{◌≡◌, ℕ, true, false, []}
-use Rattle.nom_error.specs.Modes.{with_outputs}
+use Rattle.nom_internal.specs.Prelude.{with_outputs, Errors, Model, input_len, Slice, Meaning, Leaf, leaf_meaning, sequence_meaning, success_meaning}
 use Rattle.nom_error.specs.declared.kind.ErrorKind.TheVariants as Kind
-use Rattle.nom_error.specs.Errors.{Errors}
-use Rattle.nom_traits.specs.Input.{Model, input_len}
-use Rattle.nom_traits.specs.Slices.{Slice}
-use Rattle.nom_internal.specs.Meaning.{Meaning}
-use Rattle.nom_internal.specs.Leaf.{Leaf, leaf_meaning}
-use Rattle.nom_internal.specs.Sequence.{sequence_meaning}
-use Rattle.nom_internal.specs.Success.{success_meaning}
 
 -- Nothing is consumed, and a value is given, of which a clone is made where outputs are built; that may take memory, where it
 -- isn't sure to be there.

@@ -1,6 +1,6 @@
 //! A part that leaves nothing.
 ghost use Rattle.std.specs.Prelude.{false};
-ghost use Rattle.nom_error.specs.Modes.{with_outputs};
+ghost use Rattle.nom_internal.specs.Prelude.{with_outputs};
 ghost use Rattle.nom_internal.specs.laws.SequenceLaws.{sequence_lawful};
 ghost use Rattle.nom_ends.specs.laws.AllLaws.{eof_lawful};
 ghost use Rattle.nom_ends.specs.Ends.{all_consuming_meaning};

@@ -1,7 +1,7 @@
 //! Parsers whose answer is fixed, whatever the input.
 ghost use Rattle.std.specs.Prelude.{◌≡◌};
 ghost use Rattle.nom_internal.specs.Cloned.{ClonesEqual, clones_pinned};
-ghost use Rattle.nom_internal.specs.Pinned.{value_pinned};
+ghost use Rattle.nom_internal.specs.Prelude.{value_pinned};
 ghost use Rattle.nom_ends.specs.Ends.{clone_meaning, fail_meaning};
 ghost use Rattle.nom_ends.specs.laws.EndLaws.{clone_lawful, clone_steady, fail_lawful, fail_steady};
 

@@ -1,6 +1,6 @@
 //! Parsers of all that is left, alike in both modes.
 ghost use Rattle.std.specs.Prelude.{◌≡◌, ℕ};
-ghost use Rattle.nom_traits.specs.Slices.{Slice, IsModelledBy};
+ghost use Rattle.nom_internal.specs.Prelude.{Slice, IsModelledBy};
 ghost use Rattle.nom_ends.specs.Ends.{eof_meaning, rest_meaning, rest_len_meaning};
 ghost use Rattle.nom_ends.specs.laws.AllLaws.{eof_lawful, rest_lawful, rest_len_lawful};
 

@@ -2,8 +2,7 @@
 #![tactic(auto)]
 
 ghost use Rattle.std.specs.Prelude.{◌≡◌, false};
-ghost use Rattle.nom_traits.specs.Slices.{IsModelledBy};
-ghost use Rattle.nom_traits.specs.View.{itself};
+ghost use Rattle.nom_internal.specs.Prelude.{IsModelledBy, itself};
 ghost use Rattle.nom_func.specs.Func.{AnswersBy};
 ghost use Rattle.nom_ends.specs.Ends.{eof_meaning, rest_meaning, rest_len_meaning};
 

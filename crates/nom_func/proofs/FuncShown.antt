@@ -1,16 +1,8 @@
 -- What `process` shows of a function.
 use Rattle.std.proofs.Common.{◌≡◌, Ok, Err, Option, refl, sym, subst, ap}
-use Rattle.nom_error.specs.declared.answer.Needed.{Needed}
+use Rattle.nom_internal.specs.Prelude.{Needed, Incomplete, Error, Failure, IResult, size_of, Built, Modes, Model, same_self, View, Outcome, Accept, Refuse}
+use Rattle.nom_internal.specs.Prelude.{Stop, Fails, Needs, Outright, ShowsAnswer, Shown}
 use Rattle.nom_error.specs.declared.answer.Err as Answer
-use Rattle.nom_error.specs.declared.answer.Err.TheVariants.{Incomplete, Error, Failure}
-use Rattle.nom_error.specs.Answers.{IResult, size_of}
-use Rattle.nom_error.specs.Modes.{Built, Modes}
-use Rattle.nom_traits.specs.Input.{Model}
-use Rattle.nom_traits.specs.Rests.{same_self}
-use Rattle.nom_traits.specs.View.{View}
-use Rattle.nom_internal.specs.Outcome.{Outcome, ShowsAnswer}
-use Rattle.nom_internal.specs.Outcome.ShowsAnswer.{Shown}
-use Rattle.nom_internal.specs.Outcome.Outcome.{Accept, Refuse, Fail, Undecided}
 use Rattle.nom_func.specs.Func.{IsViewed, Tells, FuncAnswers, FuncBlames, IsParser}
 use Rattle.nom_func.specs.Func.FuncBlames.{OfRefusal, OfFailure}
 use Rattle.nom_internal.proofs.Shown.{built_error}
@@ -32,7 +24,7 @@ module _ {I A O E : Type 0} {w : Model I A} {view : View O} {Gives : I → IResu
   pub func_incomplete : {k : Needed} {f : Answer.Err E E Needed} → w.IsKnown i → Gives i (Err f) → f ≡ Incomplete k →
       ShowsAnswer w (IsViewed view) mode i (FuncAnswers w view Gives i) (FuncBlames Gives i) RunsOut (Err (Incomplete k))
   func_incomplete {k = k} h g is =
-      Shown (Undecided (size_of k)) (answered (Undecided (size_of k)) (Err (Incomplete k)) h (subst (λ x. Gives i (Err x)) is g) refl) (k, refl, refl)
+      Shown (Stop (Needs (size_of k))) (answered (Stop (Needs (size_of k))) (Err (Incomplete k)) h (subst (λ x. Gives i (Err x)) is g) refl) (k, refl, refl)
 
   pub func_error : {e : E} {f : Answer.Err E E Needed} {b : Option E} → w.IsKnown i → Gives i (Err f) → f ≡ Error e → Built mode.errors (λ x. x ≡ e) b →
       ShowsAnswer w (IsViewed view) mode i (FuncAnswers w view Gives i) (FuncBlames Gives i) RunsOut (Err (Error b))
@@ -45,4 +37,4 @@ module _ {I A O E : Type 0} {w : Model I A} {view : View O} {Gives : I → IResu
       ShowsAnswer w (IsViewed view) mode i (FuncAnswers w view Gives i) (FuncBlames Gives i) RunsOut (Err (Failure e))
   func_failure {e = e} h g is =
       let given = subst (λ x. Gives i (Err x)) is g in
-      Shown Fail (answered Fail (Err (Failure e)) h given refl) (e, OfFailure given, refl)
+      Shown (Stop (Fails Outright)) (answered (Stop (Fails Outright)) (Err (Failure e)) h given refl) (e, OfFailure given, refl)

@@ -1,16 +1,8 @@
 -- Functions that answer as a meaning says are parsers.
 use Rattle.std.proofs.Common.{◌≡◌, ℕ, Bool, true, false, List, [], ◌++◌, Ok, Err, arith, refl, sym, ◌∙◌, subst, ap}
-use Rattle.nom_error.specs.declared.answer.Err.TheVariants.{Incomplete, Error, Failure, OutOfMemory}
-use Rattle.nom_error.specs.Answers.{IResult, size_of}
-use Rattle.nom_error.specs.Modes.{modes}
-use Rattle.nom_traits.specs.Input.{Model, InputLaws, IsSuffixOf, Related, items_len}
-use Rattle.nom_traits.specs.Rests.{items_len-append}
-use Rattle.nom_traits.specs.View.{View}
-use Rattle.nom_internal.specs.Outcome.{Outcome, IsDecided, Parses, ParsesAnswer}
-use Rattle.nom_internal.specs.Outcome.ParsesAnswer.{ParseRanOut, Parsed}
-use Rattle.nom_internal.specs.Outcome.Outcome.{Accept, Refuse, Fail, TooLarge, Undecided}
-use Rattle.nom_internal.specs.Meaning.{Meaning, IsLawful, IsSteady, NeverTooLarge, Agree, Keeps, ParsesMeaning}
-use Rattle.nom_internal.specs.Pinned.{IsPinned}
+use Rattle.nom_internal.specs.Prelude.{Incomplete, Error, Failure, OutOfMemory, IResult, size_of, modes, Model, InputLaws, IsSuffixOf, Related, items_len}
+use Rattle.nom_internal.specs.Prelude.{items_len-append, View, Outcome, Accept, Refuse, Stop, Fails, Needs, Outright, TooLarge, IsDecided, Parses, ParsesAnswer}
+use Rattle.nom_internal.specs.Prelude.{ParseRanOut, Parsed, Meaning, IsLawful, IsSteady, NeverTooLarge, Agree, Keeps, ParsesMeaning, IsPinned}
 use Rattle.nom_func.specs.Func.{Tells, TellOne, TellsItems, FuncOutcome, IsParser, IsStreamParser, Answers, AnswersBy, StreamsBy}
 
 module _ {I A : Type 0} (w : Model I A) where
@@ -30,23 +22,21 @@ module _ {V O : Type 0} (view : View O) (IsOutput : V → O → Type 0) where
   abbrev Retold : Outcome V → Outcome view.Value → Type 0
   Retold (Accept n t) o = (b : O) × IsOutput t b × (o ≡ Accept n (view.value b))
   Retold Refuse o = o ≡ Refuse
-  Retold Fail o = o ≡ Fail
-  Retold TooLarge o = o ≡ Fail
-  Retold (Undecided k) o = o ≡ Undecided k
+  Retold (Stop (Fails cause)) o = o ≡ Stop (Fails Outright)
+  Retold (Stop (Needs k)) o = o ≡ Stop (Needs k)
 
   retold_once : IsPinned view IsOutput → (a : Outcome V) (o p : Outcome view.Value) → Retold a o → Retold a p → o ≡ p
   retold_once one (Accept n t) o p h k = h.2 ∙ (ap (λ v. Accept n v) (one.one_view t h.0 k.0 h.1 k.1) ∙ sym k.2)
   retold_once one Refuse o p h k = h ∙ sym k
-  retold_once one Fail o p h k = h ∙ sym k
-  retold_once one TooLarge o p h k = h ∙ sym k
-  retold_once one (Undecided d) o p h k = h ∙ sym k
+  retold_once one (Stop (Fails cause)) o p h k = h ∙ sym k
+  retold_once one (Stop (Needs d)) o p h k = h ∙ sym k
 
-  retold_decided : (a : Outcome V) (o : Outcome view.Value) → (a ≡ TooLarge → ⊥) → Retold a o → Keeps true o → Keeps true a
+  retold_decided : (a : Outcome V) (o : Outcome view.Value) → (a ≡ Stop (Fails TooLarge) → ⊥) → Retold a o → Keeps true o → Keeps true a
   retold_decided (Accept n t) o never h k = tt
   retold_decided Refuse o never h k = tt
-  retold_decided Fail o never h k = tt
-  retold_decided TooLarge o never h k = absurd (never refl)
-  retold_decided (Undecided d) o never h k = subst (Keeps true) h k
+  retold_decided (Stop (Fails Outright)) o never h k = tt
+  retold_decided (Stop (Fails TooLarge)) o never h k = absurd (never refl)
+  retold_decided (Stop (Needs d)) o never h k = subst (Keeps true) h k
 
   module _ {I A E : Type 0} (w : Model I A) (i : I) (IsError : E → Type 0) where
     retold_of : (a : Outcome V) (r : IResult I O E) (o : Outcome view.Value) → Parses w IsOutput i IsError a r →
@@ -55,9 +45,9 @@ module _ {V O : Type 0} (view : View O) (IsOutput : V → O → Type 0) where
         let told = subst (λ x. Tells w view i x o) p.4 h in
         (p.1, p.3, told.2 ∙ ap (λ m. Accept m (view.value p.1)) (one_length w i p.0 told.0 n told.1 p.2))
     retold_of Refuse r o p h = subst (λ x. Tells w view i x o) p.2 h
-    retold_of Fail r o p h = subst (λ x. Tells w view i x o) p.2 h
-    retold_of TooLarge r o p h = subst (λ x. Tells w view i x o) p.2 h
-    retold_of (Undecided k) r o p h = (let told : o ≡ Undecided (size_of p.0) = subst (λ x. Tells w view i x o) p.2 h in told ∙ ap Undecided p.1)
+    retold_of (Stop (Fails cause)) r o p h = subst (λ x. Tells w view i x o) p.2 h
+    retold_of (Stop (Needs k)) r o p h =
+        (let told : o ≡ Stop (Needs (size_of p.0)) = subst (λ x. Tells w view i x o) p.2 h in told ∙ ap (λ d. Stop (Needs d)) p.1)
 
     rest_of : (a : Outcome V) (j : I) (v : O) →
         (let r : IResult I O E = Ok (j, v) in Parses w IsOutput i IsError a r → (n : ℕ) × IsSuffixOf w i n j)
@@ -65,9 +55,8 @@ module _ {V O : Type 0} (view : View O) (IsOutput : V → O → Type 0) where
         let same : ◌≡◌ {A = I × O} (j, v) (p.0, p.1) = cc (p.4) in
         (n, subst (λ k. IsSuffixOf w i n k) (sym (ap (λ q. q.0) same)) p.2)
     rest_of Refuse j v p = cc (p.2)
-    rest_of Fail j v p = cc (p.2)
-    rest_of TooLarge j v p = cc (p.2)
-    rest_of (Undecided k) j v p = cc (p.2)
+    rest_of (Stop (Fails cause)) j v p = cc (p.2)
+    rest_of (Stop (Needs k)) j v p = cc (p.2)
 
 -- the outcome of a meaning that an answer of the function retells
 record Meant {V O : Type 0} (view : View O) (IsOutput : V → O → Type 0) (Answers : Outcome V → Type 0) (o : Outcome view.Value) : Type 0 where
@@ -113,14 +102,14 @@ module _ {I A V O E : Type 0} {w : Model I A} {view : View O} {IsOutput : V → 
         retold_once view IsOutput pinned d.outcome o p (subst (λ z. Retold view IsOutput z o) same c.retold) d.retold);
   }
 
-  stream_parser_by : Agree w true Answers Answers → ((i : I) → w.IsKnown i → Answers i TooLarge → ⊥) → IsStreamParser w view Gives Takes
+  stream_parser_by : Agree w true Answers Answers → ((i : I) → w.IsKnown i → Answers i (Stop (Fails TooLarge)) → ⊥) → IsStreamParser w view Gives Takes
   unfolding TellOne
   stream_parser_by steady never = record {
     parser = parser_by;
     stays = λ x y f g record { from_known = kx; to_known = ky; related = r } a b. (λ o p t k u.
         let c = meant x f o kx a t in
         let d = meant y g p ky b u in
-        let large : c.outcome ≡ TooLarge → ⊥ = λ e. never x kx (subst (λ z. Answers x z) e c.answered) in
+        let large : c.outcome ≡ Stop (Fails TooLarge) → ⊥ = λ e. never x kx (subst (λ z. Answers x z) e c.answered) in
         let same = steady x y c.outcome d.outcome kx ky r c.answered (retold_decided view IsOutput c.outcome o large c.retold k) d.answered in
         retold_once view IsOutput pinned d.outcome o p (subst (λ z. Retold view IsOutput z o) same c.retold) d.retold);
   }
@@ -150,7 +139,7 @@ module _ {I A V O E : Type 0} {w : Model I A} {view : View O} {IsOutput : V → 
       ((i : I) (r : IResult I O E) → w.IsKnown i → Gives i r → ParsesMeaning w IsOutput m true i r) → IsStreamParser w view Gives Takes
   stream_func_sound lawful steady never pinned takes shows =
       stream_parser_by {IsError = λ i. m.blames true i} {RunsOut = λ i. m.may_run_out (modes true true true) i}
-      (lawful.one_outcome true) pinned takes shows steady.stays (λ i h a. lawful.never_fails true never true i h a)
+      (lawful.one_outcome true) pinned takes shows steady.stays (λ i h a. lawful.never_fails TooLarge never true i h a)
 
 module _ {I A O E : Type 0} (w : Model I A) (view : View O) where
   -- an answer tells one outcome
@@ -258,7 +247,7 @@ module _ {I A V O E : Type 0} {w : Model I A} {view : View O} {IsOutput : V → 
     stays = λ j q record { from_known = ki; to_known = kj; related = longer } by. (λ o p t k u.
         let a = meant_by w view IsOutput i (m.answers true i) (m.blames true i) (m.may_run_out (modes true true true) i) r o shown t in
         let b = meant_by w view IsOutput j (m.answers true j) (m.blames true j) (m.may_run_out (modes true true true) j) q p by u in
-        let large : a.outcome ≡ TooLarge → ⊥ = λ e. lawful.never_fails true never true i ki (subst (λ z. m.answers true i z) e a.answered) in
+        let large : a.outcome ≡ Stop (Fails TooLarge) → ⊥ = λ e. lawful.never_fails TooLarge never true i ki (subst (λ z. m.answers true i z) e a.answered) in
         let one = steady.stays i j a.outcome b.outcome ki kj longer a.answered (retold_decided view IsOutput a.outcome o large a.retold k) b.answered in
         retold_once view IsOutput pinned b.outcome o p (subst (λ z. Retold view IsOutput z o) one a.retold) b.retold);
   }

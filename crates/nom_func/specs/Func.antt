@@ -1,14 +1,8 @@
 -- A function as a parser.
 use Rattle.std.specs.Prelude.{◌≡◌, ℕ, Bool, true, false, List, Ok, Err}
 use Rattle.std.proofs.Common.{sym, ◌∙◌}
-use Rattle.nom_error.specs.declared.answer.Err.TheVariants.{Incomplete, Error, Failure, OutOfMemory}
-use Rattle.nom_error.specs.Answers.{IResult, size_of}
-use Rattle.nom_traits.specs.Input.{Model, IsSuffixOf, IsSame, Related}
-use Rattle.nom_traits.specs.View.{View}
-use Rattle.nom_internal.specs.Outcome.{Outcome}
-use Rattle.nom_internal.specs.Outcome.Outcome.{Accept, Refuse, Fail, Undecided}
-use Rattle.nom_internal.specs.Meaning.{Meaning, Keeps, ParsesMeaning}
-use Rattle.nom_internal.specs.Pinned.{IsPinned}
+use Rattle.nom_internal.specs.Prelude.{Incomplete, Error, Failure, OutOfMemory, IResult, size_of, Model, IsSuffixOf, IsSame, Related, View, Outcome, Accept}
+use Rattle.nom_internal.specs.Prelude.{Refuse, Stop, Fails, Needs, Outright, Meaning, Keeps, ParsesMeaning, IsPinned, Cause, TooLarge}
 
 -- an output stands for its view
 abbrev pub IsViewed : {O : Type 0} (view : View O) → view.Value → O → Type 0
@@ -23,9 +17,9 @@ pub data FuncBlames {I O E : Type 0} (Gives : I → IResult I O E → Type 0) (i
   OfFailure : Gives i (Err (Failure e)) → FuncBlames Gives i e
 
 -- The function never answers a failure (false). That what it lacks is too large (true), its answers never tell.
-abbrev pub FuncNeverFails : {I A O E : Type 0} → Model I A → (I → IResult I O E → Type 0) → Bool → Type 0
-FuncNeverFails {I} {E = E} w Gives false = (i : I) (e : E) → w.IsKnown i → Gives i (Err (Failure e)) → ⊥
-FuncNeverFails w Gives true = Unit {0}
+abbrev pub FuncNeverFails : {I A O E : Type 0} → Model I A → (I → IResult I O E → Type 0) → Cause → Type 0
+FuncNeverFails {I} {E = E} w Gives Outright = (i : I) (e : E) → w.IsKnown i → Gives i (Err (Failure e)) → ⊥
+FuncNeverFails w Gives TooLarge = Unit {0}
 
 -- two inputs, the second longer than the first (true), or equal as models (false)
 pub record AreRelated {I A : Type 0} (w : Model I A) (longer : Bool) (i j : I) : Type 0 where
@@ -42,9 +36,9 @@ module _ {I A O E : Type 0} (w : Model I A) (view : View O) where
   -- of memory tells none.
   abbrev pub Tells : I → IResult I O E → Outcome view.Value → Type 0
   Tells i (Ok (j, v)) o = (n : ℕ) × IsSuffixOf w i n j × (o ≡ Accept n (view.value v))
-  Tells i (Err (Incomplete k)) o = o ≡ Undecided (size_of k)
+  Tells i (Err (Incomplete k)) o = o ≡ Stop (Needs (size_of k))
   Tells i (Err (Error e)) o = o ≡ Refuse
-  Tells i (Err (Failure e)) o = o ≡ Fail
+  Tells i (Err (Failure e)) o = o ≡ Stop (Fails Outright)
   Tells i (Err OutOfMemory) o = ⊥
 
   -- it tells the outcome that the input's items have

@@ -1,8 +1,6 @@
 //! The answers of parsers, with what makes a function of them a parser again.
 ghost use Rattle.std.specs.Prelude.{◌≡◌, true, false};
-ghost use Rattle.nom_error.specs.Modes.{modes};
-ghost use Rattle.nom_internal.specs.Meaning.{NeverTooLarge};
-ghost use Rattle.nom_internal.specs.Results.{rest_of};
+ghost use Rattle.nom_internal.specs.Prelude.{modes, NeverTooLarge, rest_of};
 ghost use Rattle.nom_func.specs.Func.{AnswersBy, StreamsBy};
 
 use nom_error::answer::IResult;

@@ -1,15 +1,7 @@
 -- What is answered on a complete input, by what was answered where more might have come.
 use Rattle.std.proofs.Common.{◌≡◌, true, false, Ok, Err, sym, subst, ◌⊎◌, inl, inr}
-use Rattle.nom_error.specs.Answers.{IResult}
-use Rattle.nom_error.specs.declared.answer.Err.TheVariants.{OutOfMemory}
-use Rattle.nom_traits.specs.Input.{Model, InputLaws}
-use Rattle.nom_traits.specs.Rests.{same_self, rest_related}
-use Rattle.nom_traits.specs.View.{View}
-use Rattle.nom_internal.specs.Pinned.{IsPinned}
-use Rattle.nom_internal.specs.Outcome.{Outcome, Parses, IsDecided}
-use Rattle.nom_internal.specs.Outcome.Outcome.{Accept, Refuse, Fail, TooLarge, Undecided}
-use Rattle.nom_internal.specs.Outcome.ParsesAnswer.{ParseRanOut, Parsed}
-use Rattle.nom_internal.specs.Meaning.{Meaning, IsLawful, ParsesMeaning}
+use Rattle.nom_internal.specs.Prelude.{IResult, OutOfMemory, Model, InputLaws, same_self, rest_related, View, IsPinned, Outcome, Accept, Refuse, Stop, Fails}
+use Rattle.nom_internal.specs.Prelude.{Needs, Outright, TooLarge, Parses, IsDecided, ParseRanOut, Parsed, Meaning, IsLawful, ParsesMeaning}
 use Rattle.nom_growing.specs.Promises.{IsBlamed, Completes}
 
 module _ {I A V O E : Type 0} (w : Model I A) (l : InputLaws w) (view : View O) (Pins : Type 0) (IsOutput : V → O → Type 0)
@@ -32,9 +24,10 @@ module _ {I A V O E : Type 0} (w : Model I A) (l : InputLaws w) (view : View O) 
       let answer : Shown (Ok (h.0, h.1)) s = (t.0, t.1, same, (λ p. (pinned p).one_view v h.1 t.1 h.3 t.3), t.4) in
       subst (λ z. Shown z s) (sym h.4) answer
   of_one Refuse r s a b d h t = subst (λ z. Shown z s) (sym h.2) (t.0, t.2, first_blamed Refuse a b d h.0 h.1, second_blamed Refuse a b d t.0 t.1)
-  of_one Fail r s a b d h t = subst (λ z. Shown z s) (sym h.2) (inr (t.0, t.2, first_blamed Fail a b d h.0 h.1, second_blamed Fail a b d t.0 t.1))
-  of_one TooLarge r s a b d h t = absurd d
-  of_one (Undecided k) r s a b d h t = absurd d
+  of_one (Stop (Fails Outright)) r s a b d h t =
+      subst (λ z. Shown z s) (sym h.2) (inr (t.0, t.2, first_blamed (Stop (Fails Outright)) a b d h.0 h.1, second_blamed (Stop (Fails Outright)) a b d t.0 t.1))
+  of_one (Stop (Fails TooLarge)) r s a b d h t = absurd d
+  of_one (Stop (Needs k)) r s a b d h t = absurd d
 
   of_decided : (o p : Outcome V) (r s : IResult I O E) → m.answers true x o → m.answers false x p → IsDecided o →
       Parses w IsOutput x (m.blames true x) o r → Parses w IsOutput x (m.blames false x) p s → Shown r s
@@ -47,9 +40,9 @@ module _ {I A V O E : Type 0} (w : Model I A) (l : InputLaws w) (view : View O) 
       Parses w IsOutput x (m.blames true x) o r → Parses w IsOutput x (m.blames false x) p s → Shown r s
   of_outcomes (Accept n v) p r s a b h t = of_decided (Accept n v) p r s a b tt h t
   of_outcomes Refuse p r s a b h t = of_decided Refuse p r s a b tt h t
-  of_outcomes Fail p r s a b h t = of_decided Fail p r s a b tt h t
-  of_outcomes TooLarge p r s a b h t = subst (λ z. Shown z s) (sym h.2) (inl a)
-  of_outcomes (Undecided k) p r s a b h t = subst (λ z. Shown z s) (sym h.2) tt
+  of_outcomes (Stop (Fails Outright)) p r s a b h t = of_decided (Stop (Fails Outright)) p r s a b tt h t
+  of_outcomes (Stop (Fails TooLarge)) p r s a b h t = subst (λ z. Shown z s) (sym h.2) (inl a)
+  of_outcomes (Stop (Needs k)) p r s a b h t = subst (λ z. Shown z s) (sym h.2) tt
 
   pub completes : (r s : IResult I O E) → ParsesMeaning w IsOutput m true x r → ParsesMeaning w IsOutput m false x s →
       (s ≡ Err OutOfMemory) ⊎ Shown r s

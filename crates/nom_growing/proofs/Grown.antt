@@ -1,19 +1,11 @@
 -- What is shown of an input that grows.
 use Rattle.std.proofs.Common.{◌≡◌, ℕ, ◌-◌, ◌<◌, ◌++◌, true, false, List, length, slice_index, Ok, Err, Option, sym, ◌∙◌, ap, subst, refl}
 use Rattle.std.proofs.Common.{arith, append_assoc, ◌⊎◌, inl, inr}
-use Rattle.nom_error.specs.declared.answer.Needed.{Needed}
-use Rattle.nom_error.specs.declared.answer.Err.TheVariants.{Incomplete, OutOfMemory}
-use Rattle.nom_error.specs.Answers.{IResult, size_of}
-use Rattle.nom_internal.specs.Results.{AsksForMore, HasRests, WithRest}
-use Rattle.nom_traits.specs.Input.{Model, InputLaws, IsBoundary, IsPrefixOf, IsSuffixOf, input_len}
-use Rattle.nom_traits.specs.Rests.{same_self, same_front, rest_related}
-use Rattle.nom_traits.specs.View.{View}
-use Rattle.nom_internal.specs.Pinned.{IsPinned}
+use Rattle.nom_internal.specs.Prelude.{Needed, Incomplete, OutOfMemory, IResult, size_of, AsksForMore, HasRests, WithRest, Model, InputLaws, IsBoundary}
+use Rattle.nom_internal.specs.Prelude.{IsPrefixOf, IsSuffixOf, input_len, same_self, same_front, rest_related, View, IsPinned, Outcome, Accept, Refuse, Stop}
+use Rattle.nom_internal.specs.Prelude.{Fails, Needs, Outright, TooLarge, Parses, ParsesAnswer, IsDecided, ParseRanOut, Parsed, Meaning, IsLawful, IsSteady}
+use Rattle.nom_internal.specs.Prelude.{ParsesMeaning}
 use Rattle.nom_growing.specs.Promises.{IsOfWhole}
-use Rattle.nom_internal.specs.Outcome.{Outcome, Parses, ParsesAnswer, IsDecided}
-use Rattle.nom_internal.specs.Outcome.Outcome.{Accept, Refuse, Fail, TooLarge, Undecided}
-use Rattle.nom_internal.specs.Outcome.ParsesAnswer.{ParseRanOut, Parsed}
-use Rattle.nom_internal.specs.Meaning.{Meaning, IsLawful, IsSteady, ParsesMeaning}
 use Rattle.nom_internal.proofs.Consumed.{before_length}
 use Rattle.nom_growing.specs.Growing.{Waits, AnswersOn, IsGrown, AgreesWithWhole}
 use Rattle.nom_growing.specs.Growing.IsBeginning.{AtCut, AtEnd}
@@ -41,40 +33,37 @@ accepts_in_whole {I = I} {O = O} {w = w} {x = x} {whole = whole} {rest = rest} {
   else_same = λ u h. cc (was, h);
 }
 
-decided_from : {V : Type 0} (o : Outcome V) → (o ≡ TooLarge → ⊥) → ((k : Option ℕ) → o ≡ Undecided k → ⊥) → IsDecided o
+decided_from : {V : Type 0} (o : Outcome V) → (o ≡ Stop (Fails TooLarge) → ⊥) → ((k : Option ℕ) → o ≡ Stop (Needs k) → ⊥) → IsDecided o
 decided_from (Accept n v) h k = tt
 decided_from Refuse h k = tt
-decided_from Fail h k = tt
-decided_from TooLarge h k = h refl
-decided_from (Undecided n) h k = k n refl
+decided_from (Stop (Fails Outright)) h k = tt
+decided_from (Stop (Fails TooLarge)) h k = h refl
+decided_from (Stop (Needs n)) h k = k n refl
 
 module _ {I A V O E : Type 0} (w : Model I A) (IsOutput : V → O → Type 0) (IsError : E → Type 0) (x : I) where
-  undecided_of : (k : Needed) (o : Outcome V) → Parses w IsOutput x IsError o (Err (Incomplete k)) → o ≡ Undecided (size_of k)
+  undecided_of : (k : Needed) (o : Outcome V) → Parses w IsOutput x IsError o (Err (Incomplete k)) → o ≡ Stop (Needs (size_of k))
   undecided_of k (Accept n v) s = cc (s.4)
   undecided_of k Refuse s = cc (s.2)
-  undecided_of k Fail s = cc (s.2)
-  undecided_of k TooLarge s = cc (s.2)
-  undecided_of k (Undecided n) s =
+  undecided_of k (Stop (Fails cause)) s = cc (s.2)
+  undecided_of k (Stop (Needs n)) s =
       let same : k ≡ s.0 = cc (s.2) in
-      ap Undecided (sym s.1 ∙ ap size_of (sym same))
+      ap (λ d. Stop (Needs d)) (sym s.1 ∙ ap size_of (sym same))
 
   -- what is shown on a beginning is shown on the whole, with the rest there
   shown_in_whole : (whole : I) (o : Outcome V) (r r' : IResult I O E) → WithRest (IsSuffixOf w x) (IsSuffixOf w whole) r r' →
       Parses w IsOutput x IsError o r → Parses w IsOutput whole IsError o r'
   shown_in_whole whole (Accept n v) r r' t s = let k = t.accepts s.0 s.1 n s.4 s.2 in (k.0, s.1, k.1, s.3, k.2)
   shown_in_whole whole Refuse r r' t s = (s.0, s.1, t.else_same _ s.2)
-  shown_in_whole whole Fail r r' t s = (s.0, s.1, t.else_same _ s.2)
-  shown_in_whole whole TooLarge r r' t s = (s.0, s.1, t.else_same _ s.2)
-  shown_in_whole whole (Undecided k) r r' t s = (s.0, s.1, t.else_same _ s.2)
+  shown_in_whole whole (Stop (Fails cause)) r r' t s = (s.0, s.1, t.else_same _ s.2)
+  shown_in_whole whole (Stop (Needs k)) r r' t s = (s.0, s.1, t.else_same _ s.2)
 
   rest_of : (o : Outcome V) (j : I) (v : O) → Parses {E = E} w IsOutput x IsError o (Ok (j, v)) → (n : ℕ) × IsSuffixOf w x n j
   rest_of (Accept n u) j v s =
       let same : ◌≡◌ {A = I × O} (j, v) (s.0, s.1) = cc (s.4) in
       (n, subst (λ i. IsSuffixOf w x n i) (sym (ap (λ t. t.0) same)) s.2)
   rest_of Refuse j v s = cc (s.2)
-  rest_of Fail j v s = cc (s.2)
-  rest_of TooLarge j v s = cc (s.2)
-  rest_of (Undecided k) j v s = cc (s.2)
+  rest_of (Stop (Fails cause)) j v s = cc (s.2)
+  rest_of (Stop (Needs k)) j v s = cc (s.2)
 
   rest_answered : (Answers : Outcome V → Type 0) (RunsOut : Type 0) (j : I) (v : O) → ParsesAnswer w IsOutput x Answers IsError RunsOut (Ok (j, v)) →
       (n : ℕ) × IsSuffixOf w x n j
@@ -103,7 +92,7 @@ module _ {I A V O E : Type 0} (w : Model I A) (l : InputLaws w) (IsOutput : V �
         begins = p;
         needed = size_of k;
         answered = b;
-        only = λ y z q c. laws.one_outcome true x y (Undecided (size_of k)) z p.known q.known (same_front w l whole cut x y p q) b tt c;
+        only = λ y z q c. laws.one_outcome true x y (Stop (Needs (size_of k))) z p.known q.known (same_front w l whole cut x y p q) b tt c;
       }
 
   pub waits : (cut : ℕ) (x : I) (r : IResult I O E) → IsPrefixOf w whole cut x → AsksForMore r →
@@ -115,10 +104,10 @@ module _ {I A V O E : Type 0} (w : Model I A) (IsOutput : V → O → Type 0) (m
   module _ (more : (xs : List A) → w.IsMore xs) (steady : IsSteady w m) (inside : index < length cuts) (x : I)
       (p : IsPrefixOf w whole (slice_index cuts index) x) (r r' : IResult I O E) (decided : AsksForMore r → ⊥)
       (rest : WithRest (IsSuffixOf w x) (IsSuffixOf w whole) r r') where
-    asks : (k : Option ℕ) → Parses w IsOutput x (m.blames true x) (Undecided k) r → AsksForMore r
+    asks : (k : Option ℕ) → Parses w IsOutput x (m.blames true x) (Stop (Needs k)) r → AsksForMore r
     asks k s = (s.0, s.2)
 
-    not_undecided : (o : Outcome V) → Parses w IsOutput x (m.blames true x) o r → (k : Option ℕ) → o ≡ Undecided k → ⊥
+    not_undecided : (o : Outcome V) → Parses w IsOutput x (m.blames true x) o r → (k : Option ℕ) → o ≡ Stop (Needs k) → ⊥
     not_undecided o s k e = decided (asks k (subst (λ z. Parses w IsOutput x (m.blames true x) z r) e s))
 
     answer_at : ParsesMeaning w IsOutput m true x r → AnswersOn w IsOutput m whole cuts index x r'
@@ -161,34 +150,34 @@ module _ {I A V O E : Type 0} (w : Model I A) (IsOutput : V → O → Type 0) (m
       answer = answer_whole s;
     }
 
-is_too_large : {V : Type 0} (o : Outcome V) → (o ≡ TooLarge) ⊎ (o ≡ TooLarge → ⊥)
+is_too_large : {V : Type 0} (o : Outcome V) → (o ≡ Stop (Fails TooLarge)) ⊎ (o ≡ Stop (Fails TooLarge) → ⊥)
 is_too_large (Accept n v) = inr (λ e. cc)
 is_too_large Refuse = inr (λ e. cc)
-is_too_large Fail = inr (λ e. cc)
-is_too_large TooLarge = inl refl
-is_too_large (Undecided k) = inr (λ e. cc)
+is_too_large (Stop (Fails Outright)) = inr (λ e. cc)
+is_too_large (Stop (Fails TooLarge)) = inl refl
+is_too_large (Stop (Needs k)) = inr (λ e. cc)
 
 -- one `parse` of the whole, beside the answer on a beginning with the rest of the whole
 module _ {I A V O E : Type 0} (w : Model I A) (l : InputLaws w) (view : View O) (Pins : Type 0) (IsOutput : V → O → Type 0)
     (pinned : Pins → IsPinned view IsOutput) (m : Meaning I V E) (whole beginning : I) where
   of_outcome : (o : Outcome V) (r s : IResult I O E) → m.answers true beginning o →
-      Parses w IsOutput whole (m.blames true beginning) o r → (o ≡ TooLarge → ⊥) → Parses w IsOutput whole (m.blames true whole) o s →
+      Parses w IsOutput whole (m.blames true beginning) o r → (o ≡ Stop (Fails TooLarge) → ⊥) → Parses w IsOutput whole (m.blames true whole) o s →
       IsOfWhole w view Pins IsOutput m beginning r s
   of_outcome (Accept n v) r s a h f t =
       let answer : IsOfWhole w view Pins IsOutput m beginning (Ok (h.0, h.1)) s =
       (t.0, t.1, rest_related w l false whole whole n h.0 t.0 (same_self w whole) h.2 t.2, (λ p. (pinned p).one_view v h.1 t.1 h.3 t.3), t.4) in
       subst (λ z. IsOfWhole w view Pins IsOutput m beginning z s) (sym h.4) answer
   of_outcome Refuse r s a h f t = subst (λ z. IsOfWhole w view Pins IsOutput m beginning z s) (sym h.2) (t.0, t.2)
-  of_outcome Fail r s a h f t = subst (λ z. IsOfWhole w view Pins IsOutput m beginning z s) (sym h.2) (inr (t.0, t.2))
-  of_outcome TooLarge r s a h f t = absurd (f refl)
-  of_outcome (Undecided k) r s a h f t = subst (λ z. IsOfWhole w view Pins IsOutput m beginning z s) (sym h.2) (t.0, t.1 ∙ sym h.1, t.2)
+  of_outcome (Stop (Fails Outright)) r s a h f t = subst (λ z. IsOfWhole w view Pins IsOutput m beginning z s) (sym h.2) (inr (t.0, t.2))
+  of_outcome (Stop (Fails TooLarge)) r s a h f t = absurd (f refl)
+  of_outcome (Stop (Needs k)) r s a h f t = subst (λ z. IsOfWhole w view Pins IsOutput m beginning z s) (sym h.2) (t.0, t.1 ∙ sym h.1, t.2)
 
-  large_failure : (r s : IResult I O E) → m.answers true beginning TooLarge →
-      Parses w IsOutput whole (m.blames true beginning) TooLarge r → IsOfWhole w view Pins IsOutput m beginning r s
+  large_failure : (r s : IResult I O E) → m.answers true beginning (Stop (Fails TooLarge)) →
+      Parses w IsOutput whole (m.blames true beginning) (Stop (Fails TooLarge)) r → IsOfWhole w view Pins IsOutput m beginning r s
   large_failure r s a h = subst (λ z. IsOfWhole w view Pins IsOutput m beginning z s) (sym h.2) (inl a)
 
   of_shown : (o p : Outcome V) (r s : IResult I O E) → m.answers true beginning o →
-      Parses w IsOutput whole (m.blames true beginning) o r → ((o ≡ TooLarge → ⊥) → o ≡ p) → Parses w IsOutput whole (m.blames true whole) p s →
+      Parses w IsOutput whole (m.blames true beginning) o r → ((o ≡ Stop (Fails TooLarge) → ⊥) → o ≡ p) → Parses w IsOutput whole (m.blames true whole) p s →
       IsOfWhole w view Pins IsOutput m beginning r s
   of_shown o p r s a h f t = elim (is_too_large o) as (λ _. IsOfWhole w view Pins IsOutput m beginning r s) [
     | inl e ↦ large_failure r s (subst (λ z. m.answers true beginning z) e a) (subst (λ z. Parses w IsOutput whole (m.blames true beginning) z r) e h)

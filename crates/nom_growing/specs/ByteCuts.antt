@@ -2,7 +2,7 @@
 use Rattle.std.specs.Prelude.{ℕ, ◌<◌, ◌≤◌, List, [], ◌∷◌, length, slice_index, zero, suc}
 use Rattle.std.specs.Borrow.{Bor}
 use Rattle.std.proofs.Common.{arith}
-use Rattle.nom_traits.specs.Bytes.{bytes_model}
+use Rattle.nom_internal.specs.Prelude.{bytes_model}
 use Rattle.nom_traits.proofs.ByteCuts.{byte_place}
 use Rattle.nom_growing.specs.Growing.{AreCuts}
 

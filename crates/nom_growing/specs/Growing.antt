@@ -1,13 +1,7 @@
 -- What a parser answers on an input that grows.
 use Rattle.std.specs.Prelude.{◌≡◌, ℕ, ◌<◌, ◌≤◌, true, ◌⊎◌, List, length, slice_index, Err, Option}
-use Rattle.nom_error.specs.Answers.{IResult}
-use Rattle.nom_error.specs.declared.answer.Err.TheVariants.{OutOfMemory}
-use Rattle.nom_error.specs.Modes.{modes}
-use Rattle.nom_traits.specs.Input.{Model, IsBoundary, IsPrefixOf}
-use Rattle.nom_traits.specs.View.{View}
-use Rattle.nom_internal.specs.Outcome.{Outcome, Parses}
-use Rattle.nom_internal.specs.Outcome.Outcome.{TooLarge, Undecided}
-use Rattle.nom_internal.specs.Meaning.{Meaning, ParsesMeaning}
+use Rattle.nom_internal.specs.Prelude.{IResult, OutOfMemory, modes, Model, IsBoundary, IsPrefixOf, View, Outcome, Stop, Fails, Needs, TooLarge, Parses, Meaning}
+use Rattle.nom_internal.specs.Prelude.{ParsesMeaning}
 use Rattle.nom_growing.specs.Promises.{IsOfWhole}
 
 module _ {I A : Type 0} (w : Model I A) (whole : I) (cuts : List ℕ) where
@@ -25,18 +19,18 @@ pub record Waits {I A V E : Type 0} (w : Model I A) (m : Meaning I V E) (whole :
   pub beginning : I
   pub begins : IsPrefixOf w whole cut beginning
   pub needed : Option ℕ
-  pub answered : m.answers true beginning (Undecided needed)
-  pub only : (x : I) (o : Outcome V) → IsPrefixOf w whole cut x → m.answers true x o → Undecided needed ≡ o
+  pub answered : m.answers true beginning (Stop (Needs needed))
+  pub only : (x : I) (o : Outcome V) → IsPrefixOf w whole cut x → m.answers true x o → Stop (Needs needed) ≡ o
 
 module _ {I A V O E : Type 0} (w : Model I A) (IsOutput : V → O → Type 0) (m : Meaning I V E) (whole : I) (cuts : List ℕ) (index : ℕ) where
   -- the outcome on a beginning, shown with the rest in the whole
   pub record ShowsBeginning (beginning : I) (r : IResult I O E) : Type 0 where
     pub outcome : Outcome V
     pub answered : m.answers true beginning outcome
-    pub decided : index < length cuts → (k : Option ℕ) → outcome ≡ Undecided k → ⊥
+    pub decided : index < length cuts → (k : Option ℕ) → outcome ≡ Stop (Needs k) → ⊥
     pub shown : Parses w IsOutput whole (m.blames true beginning) outcome r
     -- unless what is lacking is too large, it is the outcome on the whole
-    pub stays : (outcome ≡ TooLarge → ⊥) → (o : Outcome V) → m.answers true whole o → outcome ≡ o
+    pub stays : (outcome ≡ Stop (Fails TooLarge) → ⊥) → (o : Outcome V) → m.answers true whole o → outcome ≡ o
 
   -- memory ran out on a beginning, where it may, or its outcome is shown
   pub data AnswersOn (beginning : I) (r : IResult I O E) : Type 0 where

@@ -1,14 +1,7 @@
 -- What every parser promises, said of its meaning and of its answers.
 use Rattle.std.specs.Prelude.{◌≡◌, ℕ, Bool, true, false, ◌⊎◌, Ok, Err}
-use Rattle.nom_error.specs.declared.answer.Needed.{Needed}
-use Rattle.nom_error.specs.declared.answer.Err.TheVariants.{Incomplete, Error, Failure, OutOfMemory}
-use Rattle.nom_error.specs.Answers.{IResult, size_of}
-use Rattle.nom_error.specs.Modes.{Modes}
-use Rattle.nom_traits.specs.Input.{Model, Extends, IsSame, IsBoundary, IsSuffixOf}
-use Rattle.nom_traits.specs.View.{View}
-use Rattle.nom_internal.specs.Outcome.{Outcome, IsDecided, failure}
-use Rattle.nom_internal.specs.Outcome.Outcome.{Accept, TooLarge}
-use Rattle.nom_internal.specs.Meaning.{Meaning, ParsesMeaning}
+use Rattle.nom_internal.specs.Prelude.{Needed, Incomplete, Error, Failure, OutOfMemory, IResult, size_of, Modes, Model, Extends, IsSame, IsBoundary, IsSuffixOf}
+use Rattle.nom_internal.specs.Prelude.{View, Outcome, Accept, Stop, Fails, TooLarge, IsDecided, Meaning, ParsesMeaning, Cause}
 
 module _ {I A V E : Type 0} (w : Model I A) (m : Meaning I V E) where
   -- a decided streaming outcome on an input is the one outcome on every input that extends it
@@ -35,7 +28,7 @@ module _ {I A V E : Type 0} (w : Model I A) (m : Meaning I V E) where
 
   -- where a parser never fails so, by itself or since what is lacking is too large, it has no such outcome
   abbrev pub HasNoFailure : Type 0
-  HasNoFailure = (large s : Bool) (i : I) → w.IsKnown i → m.NeverFails large → m.answers s i (failure large) → ⊥
+  HasNoFailure = (cause : Cause) (s : Bool) (i : I) → w.IsKnown i → m.NeverFails cause → m.answers s i (Stop (Fails cause)) → ⊥
 
 module _ {I A V O E : Type 0} (w : Model I A) (view : View O) (Pins : Type 0) (IsOutput : V → O → Type 0) (m : Meaning I V E) where
   -- What is answered on y, which extends x, by what was answered on x: an acceptance of one length, with an output equal as viewed
@@ -44,7 +37,7 @@ module _ {I A V O E : Type 0} (w : Model I A) (view : View O) (Pins : Type 0) (I
   StaysLonger x y (Ok (j, a)) s = (n : ℕ) × (k : I) × (b : O) × IsSuffixOf w x n j × IsSuffixOf w y n k × (Pins → view.value a ≡ view.value b) × (s ≡ Ok (k, b))
   StaysLonger x y (Err (Incomplete k)) s = Unit {0}
   StaysLonger x y (Err (Error e)) s = (f : E) × (s ≡ Err (Error f))
-  StaysLonger x y (Err (Failure e)) s = m.answers true x TooLarge ⊎ ((f : E) × (s ≡ Err (Failure f)))
+  StaysLonger x y (Err (Failure e)) s = m.answers true x (Stop (Fails TooLarge)) ⊎ ((f : E) × (s ≡ Err (Failure f)))
   StaysLonger x y (Err OutOfMemory) s = Unit {0}
 
   -- of two answers of `parse`, on an input and on one that extends it, running out of memory aside
@@ -57,7 +50,7 @@ module _ {I A V O E : Type 0} (w : Model I A) (view : View O) (Pins : Type 0) (I
   IsOfWhole beginning (Ok (j, a)) s = (k : I) × (b : O) × IsSame w j k × (Pins → view.value a ≡ view.value b) × (s ≡ Ok (k, b))
   IsOfWhole beginning (Err (Incomplete k)) s = (n : Needed) × (size_of n ≡ size_of k) × (s ≡ Err (Incomplete n))
   IsOfWhole beginning (Err (Error e)) s = (f : E) × (s ≡ Err (Error f))
-  IsOfWhole beginning (Err (Failure e)) s = m.answers true beginning TooLarge ⊎ ((f : E) × (s ≡ Err (Failure f)))
+  IsOfWhole beginning (Err (Failure e)) s = m.answers true beginning (Stop (Fails TooLarge)) ⊎ ((f : E) × (s ≡ Err (Failure f)))
   IsOfWhole beginning (Err OutOfMemory) s = Unit {0}
 
   -- an error that the parser blames in either mode
@@ -70,7 +63,7 @@ module _ {I A V O E : Type 0} (w : Model I A) (view : View O) (Pins : Type 0) (I
   Completes x (Ok (j, a)) s = (k : I) × (b : O) × IsSame w j k × (Pins → view.value a ≡ view.value b) × (s ≡ Ok (k, b))
   Completes x (Err (Incomplete k)) s = Unit {0}
   Completes x (Err (Error e)) s = (f : E) × (s ≡ Err (Error f)) × IsBlamed x e × IsBlamed x f
-  Completes x (Err (Failure e)) s = m.answers true x TooLarge ⊎ ((f : E) × (s ≡ Err (Failure f)) × IsBlamed x e × IsBlamed x f)
+  Completes x (Err (Failure e)) s = m.answers true x (Stop (Fails TooLarge)) ⊎ ((f : E) × (s ≡ Err (Failure f)) × IsBlamed x e × IsBlamed x f)
   Completes x (Err OutOfMemory) s = Unit {0}
 
   -- of the answers of `parse` and of `parse_complete` on one input, that memory runs out aside

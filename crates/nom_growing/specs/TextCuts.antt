@@ -4,8 +4,7 @@ use Rattle.std.specs.Borrow.{Bor}
 use Rattle.std.specs.Char.{len_utf8}
 use Rattle.std.proofs.Common.{arith, sym, subst}
 use Rattle.std.proofs.lemmas.List.{take-append-drop}
-use Rattle.nom_traits.specs.Input.{items_len, IsBoundary}
-use Rattle.nom_traits.specs.Text.{text_model}
+use Rattle.nom_internal.specs.Prelude.{items_len, IsBoundary, text_model}
 use Rattle.nom_growing.specs.Growing.{AreCuts}
 
 -- each number of a list is the length of so many first characters

@@ -1,8 +1,7 @@
 //! Inputs that grow.
 ghost use Rattle.std.specs.Prelude.{ℕ, MatchBool};
-ghost use Rattle.nom_traits.specs.Input.{IsSuffixOf, IsPrefixOf};
+ghost use Rattle.nom_internal.specs.Prelude.{IsSuffixOf, IsPrefixOf, AsksForMore, HasRests, WithRest};
 ghost use Rattle.nom_growing.specs.Growing.{AreCuts, IsGrown, AgreesWithWhole};
-ghost use Rattle.nom_internal.specs.Results.{AsksForMore, HasRests, WithRest};
 
 use nom_error::answer::{Err, IResult};
 use nom_internal::parser::StreamParser;

@@ -1,15 +1,8 @@
 -- What a parser shows on what another one gives.
 use Rattle.std.proofs.Common.{◌≡◌, sym, subst, true, Ok, Err, Option, Some, refl}
-use Rattle.nom_error.specs.Answers.{PResult}
-use Rattle.nom_error.specs.declared.answer.Needed.{Needed}
+use Rattle.nom_internal.specs.Prelude.{PResult, Needed, Built, Modes, Model, InputLaws, Outcome, Accept, Refuse, Stop, Fails, Needs, Shows, RanOut, Shown}
+use Rattle.nom_internal.specs.Prelude.{Meaning, ShowsMeaning, RunsOutInPart}
 use Rattle.nom_error.specs.declared.answer.Err as Answer
-use Rattle.nom_error.specs.Modes.{Built, Modes}
-use Rattle.nom_traits.specs.Input.{Model, InputLaws}
-use Rattle.nom_internal.specs.Outcome.{Outcome, Shows}
-use Rattle.nom_internal.specs.Outcome.Outcome.{Accept, Refuse, Fail, TooLarge, Undecided}
-use Rattle.nom_internal.specs.Outcome.ShowsAnswer.{RanOut, Shown}
-use Rattle.nom_internal.specs.Meaning.{Meaning, ShowsMeaning}
-use Rattle.nom_internal.specs.Cases.CaseRunsOut.{RunsOutInPart}
 use Rattle.nom_internal.specs.Bounded.{IsBound, bounded_family}
 use Rattle.nom_internal.proofs.Choices.{built_fact}
 use Rattle.nom_internal.proofs.Consumed.{rest_self}
@@ -34,10 +27,10 @@ module _ {I A J B P Q O E : Type 0} (w : Model I A) (v : Model J B) (IsOutput : 
   err_of f (Accept n t) a h = absurd (cc (h.4))
   err_of f Refuse a h = Shown Refuse (record { at = j; at_is = b; outcome = Refuse; answered = a; fact = refl })
       (h.0, built_error mode.errors _ _ h.0 (blamed Refuse a) h.1, cc (h.2))
-  err_of f Fail a h = Shown Fail (record { at = j; at_is = b; outcome = Fail; answered = a; fact = refl }) (h.0, blamed Fail a h.0 h.1, cc (h.2))
-  err_of f TooLarge a h = Shown TooLarge (record { at = j; at_is = b; outcome = TooLarge; answered = a; fact = refl })
-      (h.0, blamed TooLarge a h.0 h.1, cc (h.2))
-  err_of f (Undecided k) a h = Shown (Undecided k) (record { at = j; at_is = b; outcome = Undecided k; answered = a; fact = refl }) (h.0, h.1, cc (h.2))
+  err_of f (Stop (Fails cause)) a h = Shown (Stop (Fails cause)) (record { at = j; at_is = b; outcome = Stop (Fails cause); answered = a; fact = refl })
+      (h.0, blamed (Stop (Fails cause)) a h.0 h.1, cc (h.2))
+  err_of f (Stop (Needs k)) a h =
+      Shown (Stop (Needs k)) (record { at = j; at_is = b; outcome = Stop (Needs k); answered = a; fact = refl }) (h.0, h.1, cc (h.2))
 
   err_shown : (f : Answer.Err E (Option E) Needed) → ShowsMeaning v IsResult m mode j (Err f) → BoundShown (Err f)
   err_shown f (RanOut e h) = RanOut (cc (e)) (RunsOutInPart j b h)

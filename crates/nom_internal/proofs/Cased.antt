@@ -1,17 +1,9 @@
 -- What cases over a part's outcome show, from what the part showed.
 use Rattle.std.proofs.Common.{◌≡◌, ℕ, Bool, Ok, Err, Option, refl, subst}
-use Rattle.nom_error.specs.Answers.{PResult}
-use Rattle.nom_error.specs.declared.answer.Needed.{Needed}
+use Rattle.nom_internal.specs.Prelude.{PResult, Needed, Incomplete, Error, Built, Modes, with_outputs, with_streaming, Model, Outcome, Accept, Refuse, Stop}
+use Rattle.nom_internal.specs.Prelude.{Fails, Needs, Shows, ShowsAnswer, RanOut, Shown, Meaning, ShowsMeaning, mode_of, Case, OnPart}
+use Rattle.nom_internal.specs.Prelude.{case_meaning, Passes, plain_case, labelled, labelled_meaning, fixed_meaning, RunsOutInPart, Cause}
 use Rattle.nom_error.specs.declared.answer.Err as Answer
-use Rattle.nom_error.specs.declared.answer.Err.TheVariants.{Incomplete, Error}
-use Rattle.nom_error.specs.Modes.{Built, Modes, with_outputs, with_streaming}
-use Rattle.nom_traits.specs.Input.{Model}
-use Rattle.nom_internal.specs.Outcome.{Outcome, Shows, ShowsAnswer}
-use Rattle.nom_internal.specs.Outcome.Outcome.{Accept, Refuse, Fail, TooLarge, Undecided}
-use Rattle.nom_internal.specs.Outcome.ShowsAnswer.{RanOut, Shown}
-use Rattle.nom_internal.specs.Meaning.{Meaning, ShowsMeaning}
-use Rattle.nom_internal.specs.Cases.{mode_of, Case, OnPart, case_meaning, Passes, plain_case, labelled, labelled_meaning, fixed_meaning}
-use Rattle.nom_internal.specs.Cases.CaseRunsOut.{RunsOutInPart}
 use Rattle.nom_internal.proofs.Shown.{accepts, built_error}
 
 -- a part at the same input
@@ -24,11 +16,10 @@ pub record Passing {I P T E : Type 0} (c : Case I I P T E E) (m : Meaning I P E)
   pub at_is : c.At i i
   pub refuses : (b : Option E) → k ≡ Error b → ((c.part mode).errors ≡ mode.errors) × c.Becomes i Refuse Refuse ×
       ((e : E) → m.blames (mode_of c.mode mode.streaming) i e → c.Blames i Refuse (m.blames (mode_of c.mode mode.streaming) i) e)
-  pub undecided : (n : Needed) → k ≡ Incomplete n → (d : Option ℕ) → c.Becomes i (Undecided d) (Undecided d)
-  pub fails : c.Becomes i Fail Fail
-  pub too_large : c.Becomes i TooLarge TooLarge
-  pub blames_failure : (e : E) → m.blames (mode_of c.mode mode.streaming) i e → c.Blames i Fail (m.blames (mode_of c.mode mode.streaming) i) e
-  pub blames_large : (e : E) → m.blames (mode_of c.mode mode.streaming) i e → c.Blames i TooLarge (m.blames (mode_of c.mode mode.streaming) i) e
+  pub undecided : (n : Needed) → k ≡ Incomplete n → (d : Option ℕ) → c.Becomes i (Stop (Needs d)) (Stop (Needs d))
+  pub fails : (cause : Cause) → c.Becomes i (Stop (Fails cause)) (Stop (Fails cause))
+  pub blames_failure : (cause : Cause) (e : E) → m.blames (mode_of c.mode mode.streaming) i e →
+      c.Blames i (Stop (Fails cause)) (m.blames (mode_of c.mode mode.streaming) i) e
 
 module _ {I A P T O X E : Type 0} (w : Model I A) (IsOutput : P → O → Type 0) (IsResult : T → X → Type 0) (c : Case I I P T E E) (m : Meaning I P E)
     (mode : Modes) (i : I) where
@@ -54,9 +45,8 @@ module _ {I A P T O X E : Type 0} (w : Model I A) (IsOutput : P → O → Type 0
               (subst (λ z. Built z (m.blames (mode_of c.mode mode.streaming) i) h.0) r.0 h.1),
           cc (h.2),
         )
-    passing_of Fail a h = Shown Fail (there Fail a p.fails) (h.0, there Fail a (p.blames_failure h.0 h.1), cc (h.2))
-    passing_of TooLarge a h = Shown TooLarge (there TooLarge a p.too_large) (h.0, there TooLarge a (p.blames_large h.0 h.1), cc (h.2))
-    passing_of (Undecided d) a h = Shown (Undecided d) (there (Undecided d) a (p.undecided h.0 (cc (h.2)) d)) (h.0, h.1, cc (h.2))
+    passing_of (Stop (Fails cause)) a h = Shown (Stop (Fails cause)) (there _ a (p.fails cause)) (h.0, there _ a (p.blames_failure cause h.0 h.1), cc (h.2))
+    passing_of (Stop (Needs d)) a h = Shown (Stop (Needs d)) (there (Stop (Needs d)) a (p.undecided h.0 (cc (h.2)) d)) (h.0, h.1, cc (h.2))
 
     passed : InPart (Err k) → Whole (Err k)
     passed (RanOut e h) = RanOut (cc (e)) (RunsOutInPart i p.at_is h)
@@ -75,11 +65,8 @@ module _ {I A P T O X E : Type 0} (w : Model I A) (IsOutput : P → O → Type 0
         at_is = refl;
         refuses = λ b e. (refl, refl, λ z h. h);
         undecided = λ n e d. refl;
-        fails = refl;
-        too_large = refl;
-        blames_failure =
-            λ z h. h;
-        blames_large = λ z h. h;
+        fails = λ _. refl;
+        blames_failure = λ _ z h. h;
       }) refl
 
 module _ {I A P T O E : Type 0} (w : Model I A) (label : P → T) (IsOutput : P → O → Type 0) (IsLabelled : T → O → Type 0)
@@ -89,9 +76,8 @@ module _ {I A P T O E : Type 0} (w : Model I A) (label : P → T) (IsOutput : P 
       (labelled label o) r
   labelled_of (Accept n v) r a h = (h.0, h.1, h.2, built_error mode.outputs _ _ h.1 (λ x p. same v x p) h.3, h.4)
   labelled_of Refuse r a h = (h.0, built_error mode.errors _ _ h.0 (λ e b. here Refuse a b) h.1, h.2)
-  labelled_of Fail r a h = (h.0, here Fail a h.1, h.2)
-  labelled_of TooLarge r a h = (h.0, here TooLarge a h.1, h.2)
-  labelled_of (Undecided k) r a h = h
+  labelled_of (Stop (Fails cause)) r a h = (h.0, here (Stop (Fails cause)) a h.1, h.2)
+  labelled_of (Stop (Needs k)) r a h = h
 
   -- a part, with its trees labelled
   pub labelled_shown : (r : PResult I O E) → ShowsMeaning w IsOutput m mode i r →
@@ -104,9 +90,8 @@ module _ {I A P O E : Type 0} (w : Model I A) (IsOutput : P → O → Type 0) (s
       Shows w IsOutput mode i (m.blames streaming i) o r → Shows w IsOutput mode i ((fixed_meaning streaming m).blames mode.streaming i) o r
   fixed_of (Accept n v) r a h = h
   fixed_of Refuse r a h = (h.0, built_error mode.errors _ _ h.0 (λ e b. here Refuse a b) h.1, h.2)
-  fixed_of Fail r a h = (h.0, here Fail a h.1, h.2)
-  fixed_of TooLarge r a h = (h.0, here TooLarge a h.1, h.2)
-  fixed_of (Undecided k) r a h = h
+  fixed_of (Stop (Fails cause)) r a h = (h.0, here (Stop (Fails cause)) a h.1, h.2)
+  fixed_of (Stop (Needs k)) r a h = h
 
   -- a part in its one mode
   pub fixed_shown : (r : PResult I O E) → ShowsMeaning w IsOutput m (with_streaming streaming mode) i r →
@@ -125,9 +110,8 @@ module _ {I A P T O X E : Type 0} (w : Model I A) (label : P → T) (IsOutput : 
       Shows w IsOutput mode i (m.blames mode.streaming i) o (Err f) → Labels (Err f)
   labels_passed f (Accept n v) a h = absurd (cc (h.4))
   labels_passed f Refuse a h = Shown Refuse (here Refuse a refl) (h.0, built_error mode.errors _ _ h.0 (λ e b. here Refuse a b) h.1, cc (h.2))
-  labels_passed f Fail a h = Shown Fail (here Fail a refl) (h.0, here Fail a h.1, cc (h.2))
-  labels_passed f TooLarge a h = Shown TooLarge (here TooLarge a refl) (h.0, here TooLarge a h.1, cc (h.2))
-  labels_passed f (Undecided k) a h = Shown (Undecided k) (here (Undecided k) a refl) (h.0, h.1, cc (h.2))
+  labels_passed f (Stop (Fails cause)) a h = Shown (Stop (Fails cause)) (here (Stop (Fails cause)) a refl) (h.0, here (Stop (Fails cause)) a h.1, cc (h.2))
+  labels_passed f (Stop (Needs k)) a h = Shown (Stop (Needs k)) (here (Stop (Needs k)) a refl) (h.0, h.1, cc (h.2))
 
   pub labels_err : (f : Answer.Err E (Option E) Needed) → ShowsMeaning w IsOutput m mode i (Err f) → Labels (Err f)
   labels_err f (RanOut e h) = RanOut (cc (e)) (RunsOutInPart i refl h)

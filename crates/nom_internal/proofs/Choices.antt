@@ -1,23 +1,13 @@
 -- How choices show their answers.
 use Rattle.std.specs.Prelude.{◌≡◌, Bool, true, false, Result, Ok, Err, Option, Some, None, refl}
 use Rattle.std.proofs.Common.{inl, inr, ◌∙◌, ap, subst}
-use Rattle.nom_error.specs.declared.answer.Needed.{Needed}
+use Rattle.nom_internal.specs.Prelude.{Needed, Incomplete, Error, Failure, OutOfMemory, PResult, Refuses, Built, Modes, modes, with_outputs, with_errors, Model}
+use Rattle.nom_internal.specs.Prelude.{Outcome, Accept, Refuse, Stop, Fails, Needs, Shows, ShowsAnswer, IsFailure, IsFault, OnOutcome, RanOut, Shown, Meaning}
+use Rattle.nom_internal.specs.Prelude.{ShowsMeaning, Joined, NextBlames, NextRunsOut, or_meaning, either_meaning, otherwise_meaning, EitherOutput, OnError}
+use Rattle.nom_internal.specs.Prelude.{JoinsErrors, ClosesError, JoinsResult, ClosesResult, ShowsNext, NextFails, NextRefuses, FirstFails, FirstRefuses}
+use Rattle.nom_internal.specs.Prelude.{labelled, labelled_meaning, closed_meaning, RunsOutInPart, RunsOutBeside}
 use Rattle.nom_error.specs.declared.answer.Err as Answer
-use Rattle.nom_error.specs.declared.answer.Err.TheVariants.{Incomplete, Error, Failure, OutOfMemory}
-use Rattle.nom_error.specs.Answers.{PResult, Refuses}
-use Rattle.nom_error.specs.Modes.{Built, Modes, modes, with_outputs, with_errors}
-use Rattle.nom_traits.specs.Input.{Model}
-use Rattle.nom_internal.specs.Outcome.{Outcome, Shows, ShowsAnswer, IsFailure, IsFault, OnOutcome}
-use Rattle.nom_internal.specs.Outcome.Outcome.{Accept, Refuse, Fail, TooLarge, Undecided}
-use Rattle.nom_internal.specs.Outcome.ShowsAnswer.{RanOut, Shown}
-use Rattle.nom_internal.specs.Meaning.{Meaning, ShowsMeaning}
-use Rattle.nom_internal.specs.Choice.{Joined, NextBlames, NextRunsOut, or_meaning, either_meaning, otherwise_meaning, EitherOutput, OnError}
-use Rattle.nom_internal.specs.Choice.{JoinsErrors, ClosesError, JoinsResult, ClosesResult, ShowsNext}
-use Rattle.nom_internal.specs.Choice.NextBlames.{NextFails, NextRefuses}
-use Rattle.nom_internal.specs.Choice.OrBlames.{FirstFails, FirstRefuses}
 use Rattle.nom_internal.specs.Choice.OtherwiseBlames.{FirstFaults, NextFaults}
-use Rattle.nom_internal.specs.Cases.{labelled, labelled_meaning, closed_meaning}
-use Rattle.nom_internal.specs.Cases.CaseRunsOut.{RunsOutInPart, RunsOutBeside}
 use Rattle.nom_internal.proofs.Shown.{built_error}
 use Rattle.nom_internal.proofs.Cased.{here, labelled_shown}
 
@@ -83,9 +73,8 @@ module _ {I A V O E : Type 0} (w : Model I A) (IsOutput : V → O → Type 0) (m
       Shows w IsOutput mode i P o r → Shows w IsOutput mode i Q o r
   shows_map P Q (Accept n v) r f h = h
   shows_map P Q Refuse r f h = (h.0, built_map mode.errors P Q h.0 (λ e _ p. f e p) h.1, h.2)
-  shows_map P Q Fail r f h = (h.0, f h.0 h.1, h.2)
-  shows_map P Q TooLarge r f h = (h.0, f h.0 h.1, h.2)
-  shows_map P Q (Undecided k) r f h = h
+  shows_map P Q (Stop (Fails cause)) r f h = (h.0, f h.0 h.1, h.2)
+  shows_map P Q (Stop (Needs k)) r f h = h
 
   -- a refusal, with an error that is made
   pub refusal_shown : (Answers : Outcome V → Type 0) (Gives IsError : E → Type 0) (Grows RunsOut : Type 0) (f : Answer.Err E (Option E) Needed)
@@ -107,11 +96,9 @@ module _ {I A V O E : Type 0} (w : Model I A) (IsOutput : V → O → Type 0) (m
       refusal_shown w IsOutput mode i (m.answers mode.streaming i) (Joined Joins (λ e. x ≡ Some e) (m.blames mode.streaming i))
       (NextBlames Joins m mode.streaming i (λ e. x ≡ Some e)) Grows (NextRunsOut Grows m mode i) made.0 r a (λ e j. NextRefuses a j)
       (λ e z. inr (a, e, z)) (joins_built Grows Joins (λ e. x ≡ Some e) (m.blames mode.streaming i) mode.errors x h.0 made.0 first h.1 made.1) made.2
-  next_shown Joins Grows x before r b (Shown Fail a h) g =
-      Shown Fail a (h.0, NextFails (record { outcome = Fail; answered = a; kind_is = tt; fact = h.1 }), rw h.2 at g)
-  next_shown Joins Grows x before r b (Shown TooLarge a h) g =
-      Shown TooLarge a (h.0, NextFails (record { outcome = TooLarge; answered = a; kind_is = tt; fact = h.1 }), rw h.2 at g)
-  next_shown Joins Grows x before r b (Shown (Undecided k) a h) g = Shown (Undecided k) a (h.0, h.1, rw h.2 at g)
+  next_shown Joins Grows x before r b (Shown (Stop (Fails cause)) a h) g =
+      Shown (Stop (Fails cause)) a (h.0, NextFails (record { outcome = Stop (Fails cause); answered = a; kind_is = tt; fact = h.1 }), rw h.2 at g)
+  next_shown Joins Grows x before r b (Shown (Stop (Needs k)) a h) g = Shown (Stop (Needs k)) a (h.0, h.1, rw h.2 at g)
 
   -- a parser, closed
   pub closed_shown : (Closes : I → E → E → Type 0) (Grows : Type 0) (before r : PResult I O E) →
@@ -124,9 +111,9 @@ module _ {I A V O E : Type 0} (w : Model I A) (IsOutput : V → O → Type 0) (m
       refusal_shown w IsOutput mode i (closed.answers mode.streaming i) (λ e. (x : E) × m.blames mode.streaming i x × Closes i x e)
       (closed.blames mode.streaming i) Grows (closed.may_run_out mode i) made.0 r (here Refuse a refl) (λ e c. here Refuse a c)
       (λ e z. RunsOutBeside (here Refuse a (e, z))) (closes_built Grows (Closes i) (m.blames mode.streaming i) mode.errors h.0 made.0 h.1 made.1) made.2
-  closed_shown Closes Grows before r (Shown Fail a h) g = Shown Fail (here Fail a refl) (h.0, here Fail a h.1, rw h.2 at g)
-  closed_shown Closes Grows before r (Shown TooLarge a h) g = Shown TooLarge (here TooLarge a refl) (h.0, here TooLarge a h.1, rw h.2 at g)
-  closed_shown Closes Grows before r (Shown (Undecided k) a h) g = Shown (Undecided k) (here (Undecided k) a refl) (h.0, h.1, rw h.2 at g)
+  closed_shown Closes Grows before r (Shown (Stop (Fails cause)) a h) g =
+      Shown (Stop (Fails cause)) (here (Stop (Fails cause)) a refl) (h.0, here (Stop (Fails cause)) a h.1, rw h.2 at g)
+  closed_shown Closes Grows before r (Shown (Stop (Needs k)) a h) g = Shown (Stop (Needs k)) (here (Stop (Needs k)) a refl) (h.0, h.1, rw h.2 at g)
 
 module _ {I A V O E : Type 0} (w : Model I A) (IsOutput : V → O → Type 0) (mode : Modes) (i : I) where
   -- what is shown, where the answers, the errors and where memory runs out are more
@@ -150,9 +137,7 @@ module _ {I A V T O E : Type 0} (w : Model I A) (label : V → T) (IsOutput : V 
       still : (o : Outcome V) → IsFailure o → IsFailure (labelled label o)
       still (Accept n v) h = h
       still Refuse h = h
-      still Fail h = h
-      still TooLarge h = h
-      still (Undecided k) h = h
+      still (Stop why) h = h
 
   next_blames_labelled : (First : E → Type 0) (e : E) → NextBlames Joins m mode.streaming i First e →
       NextBlames Joins (labelled_meaning label m) mode.streaming i First e
@@ -170,9 +155,8 @@ module _ {I A V T O E : Type 0} (w : Model I A) (label : V → T) (IsOutput : V 
       Shows w IsLabelled mode i (NextBlames Joins (labelled_meaning label m) mode.streaming i (λ a. x ≡ Some a)) (labelled label o) r
   next_of x r (Accept n v) a h = (h.0, h.1, h.2, built_map mode.outputs (IsOutput v) (IsLabelled (label v)) h.1 (λ o _ p. same v o p) h.3, h.4)
   next_of x r Refuse a h = (h.0, built_map mode.errors _ _ h.0 (λ e _ n. next_blames_labelled (λ a. x ≡ Some a) e n) h.1, h.2)
-  next_of x r Fail a h = (h.0, next_blames_labelled (λ a. x ≡ Some a) h.0 h.1, h.2)
-  next_of x r TooLarge a h = (h.0, next_blames_labelled (λ a. x ≡ Some a) h.0 h.1, h.2)
-  next_of x r (Undecided k) a h = h
+  next_of x r (Stop (Fails cause)) a h = (h.0, next_blames_labelled (λ a. x ≡ Some a) h.0 h.1, h.2)
+  next_of x r (Stop (Needs k)) a h = h
 
   -- a branch after a refusal, with its trees labelled
   pub next_labelled : (x : Option E) (r : PResult I O E) → ShowsNext w IsOutput Joins Grows m mode i x r →
@@ -214,13 +198,11 @@ module _ {I A V O E : Type 0} (w : Model I A) (IsOutput : V → O → Type 0) (J
       (both.may_run_out mode i) r (λ o d. record { first = Refuse; answered = c; goes_on = d }) (λ e n. FirstRefuses c (next_blames_first h.0 e h.1 n))
       (λ k. inr (c, k))
       (next (built_map mode.errors (a.blames mode.streaming i) (λ _. Unit {0}) h.0 (λ _ _ _. tt) h.1))
-  or_shown before r (Shown Fail c h) g =
-      Shown Fail (record { first = Fail; answered = c; goes_on = refl })
-      (h.0, FirstFails (record { outcome = Fail; answered = c; kind_is = tt; fact = h.1 }), rw h.2 at g)
-  or_shown before r (Shown TooLarge c h) g =
-      Shown TooLarge (record { first = TooLarge; answered = c; goes_on = refl })
-      (h.0, FirstFails (record { outcome = TooLarge; answered = c; kind_is = tt; fact = h.1 }), rw h.2 at g)
-  or_shown before r (Shown (Undecided k) c h) g = Shown (Undecided k) (record { first = Undecided k; answered = c; goes_on = refl }) (h.0, h.1, rw h.2 at g)
+  or_shown before r (Shown (Stop (Fails cause)) c h) g =
+      Shown (Stop (Fails cause)) (record { first = Stop (Fails cause); answered = c; goes_on = refl })
+      (h.0, FirstFails (record { outcome = Stop (Fails cause); answered = c; kind_is = tt; fact = h.1 }), rw h.2 at g)
+  or_shown before r (Shown (Stop (Needs k)) c h) g =
+      Shown (Stop (Needs k)) (record { first = Stop (Needs k); answered = c; goes_on = refl }) (h.0, h.1, rw h.2 at g)
 
 -- one of two parsers, with a tree that says which
 pub either_shown : {I A P Q O E : Type 0} (w : Model I A) (First : P → O → Type 0) (Second : Q → O → Type 0) (Joins : E → E → E → Type 0)
@@ -244,11 +226,9 @@ module _ {I A V O E : Type 0} (w : Model I A) (IsOutput : V → O → Type 0) (a
       ((x : Option E) → r ≡ Err (Error x) → ⊥) → Shows w IsOutput (modes built false mode.streaming) i (a.blames mode.streaming i) o r → Otherwise r
   first_of (Accept n v) r c f h = Shown (Accept n v) (record { first = Accept n v; answered = c; goes_on = refl }) h
   first_of Refuse r c f h = absurd (f h.0 h.2)
-  first_of Fail r c f h = Shown Fail (record { first = Fail; answered = c; goes_on = refl })
-      (h.0, FirstFaults (record { outcome = Fail; answered = c; kind_is = tt; fact = h.1 }), h.2)
-  first_of TooLarge r c f h = Shown TooLarge (record { first = TooLarge; answered = c; goes_on = refl })
-      (h.0, FirstFaults (record { outcome = TooLarge; answered = c; kind_is = tt; fact = h.1 }), h.2)
-  first_of (Undecided k) r c f h = Shown (Undecided k) (record { first = Undecided k; answered = c; goes_on = refl }) h
+  first_of (Stop (Fails cause)) r c f h = Shown (Stop (Fails cause)) (record { first = Stop (Fails cause); answered = c; goes_on = refl })
+      (h.0, FirstFaults (record { outcome = Stop (Fails cause); answered = c; kind_is = tt; fact = h.1 }), h.2)
+  first_of (Stop (Needs k)) r c f h = Shown (Stop (Needs k)) (record { first = Stop (Needs k); answered = c; goes_on = refl }) h
 
   -- whatever the first answers but a refusal
   pub otherwise_first : (r : PResult I O E) → ((x : Option E) → r ≡ Err (Error x) → ⊥) →
@@ -267,9 +247,8 @@ module _ {I A V O E : Type 0} (w : Model I A) (IsOutput : V → O → Type 0) (a
         Shows w IsOutput (with_outputs built mode) i ((otherwise_meaning a b).blames mode.streaming i) o r
     otherwise_of (Accept n v) r c h = h
     otherwise_of Refuse r c h = (h.0, built_error mode.errors _ _ h.0 (next_fact Refuse c tt) h.1, h.2)
-    otherwise_of Fail r c h = (h.0, next_fact Fail c tt h.0 h.1, h.2)
-    otherwise_of TooLarge r c h = (h.0, next_fact TooLarge c tt h.0 h.1, h.2)
-    otherwise_of (Undecided k) r c h = h
+    otherwise_of (Stop (Fails cause)) r c h = (h.0, next_fact (Stop (Fails cause)) c tt h.0 h.1, h.2)
+    otherwise_of (Stop (Needs k)) r c h = h
 
     -- where the first refuses, what the second answers
     pub otherwise_next : (r : PResult I O E) →

@@ -1,15 +1,8 @@
 -- How much of an input lies before a rest of it, and what is shown of the slice before it.
 use Rattle.std.proofs.Common.{◌≡◌, ℕ, ◌+◌, ◌-◌, ◌≤◌, false, [], Ok, Err, Option, refl, sym, ap, arith}
-use Rattle.nom_error.specs.declared.answer.Needed.{Needed}
+use Rattle.nom_internal.specs.Prelude.{Needed, Built, Modes, with_outputs, Model, InputLaws, IsSuffixOf, input_len, items_len, items_len-append, Slice, IsFirst}
+use Rattle.nom_internal.specs.Prelude.{IsModelledBy, Accept, Shown, Meaning, ShowsMeaning, IsSliced, recognized_meaning}
 use Rattle.nom_error.specs.declared.answer.Err as Answer
-use Rattle.nom_error.specs.Modes.{Built, Modes, with_outputs}
-use Rattle.nom_traits.specs.Input.{Model, InputLaws, IsSuffixOf, input_len, items_len}
-use Rattle.nom_traits.specs.Rests.{items_len-append}
-use Rattle.nom_traits.specs.Slices.{Slice, IsFirst, IsModelledBy}
-use Rattle.nom_internal.specs.Outcome.Outcome.{Accept}
-use Rattle.nom_internal.specs.Outcome.ShowsAnswer.{Shown}
-use Rattle.nom_internal.specs.Meaning.{Meaning, ShowsMeaning}
-use Rattle.nom_internal.specs.Recognized.{IsSliced, recognized_meaning}
 use Rattle.nom_internal.proofs.Cased.{here, plain_err}
 use Rattle.nom_internal.proofs.Shown.{accepts}
 

@@ -1,11 +1,6 @@
 -- What the parser shows that a closure gives.
 use Rattle.std.proofs.Common.{◌≡◌, true, Option, Some, refl}
-use Rattle.nom_error.specs.Answers.{PResult}
-use Rattle.nom_error.specs.Modes.{Built, Modes}
-use Rattle.nom_traits.specs.Input.{Model}
-use Rattle.nom_internal.specs.Outcome.ShowsAnswer.{RanOut, Shown}
-use Rattle.nom_internal.specs.Meaning.{Meaning, ShowsMeaning}
-use Rattle.nom_internal.specs.Families.{Family, of_value}
+use Rattle.nom_internal.specs.Prelude.{PResult, Built, Modes, Model, RanOut, Shown, Meaning, ShowsMeaning, Family, of_value}
 use Rattle.nom_internal.specs.FlatMap.{Maker, GivesState, IsGiven, states_family, given_family}
 use Rattle.nom_internal.proofs.Cased.{labelled_shown}
 use Rattle.nom_internal.proofs.Choices.{built_fact, shows_map}

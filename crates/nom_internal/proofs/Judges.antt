@@ -1,17 +1,8 @@
 -- What parts show whose acceptances closures judge.
 use Rattle.std.proofs.Common.{◌≡◌, ℕ, Bool, true, false, Ok, Err, Option, Some, refl, sym, ap, subst, inl, inr}
-use Rattle.nom_error.specs.declared.answer.Needed.{Needed}
+use Rattle.nom_internal.specs.Prelude.{Needed, PResult, Refuses, Built, Modes, with_outputs, Model, Outcome, Accept, Refuse, RanOut, Shown, Meaning}
+use Rattle.nom_internal.specs.Prelude.{ShowsMeaning, RunsOutBeside, GivesFor, IsJudge, kept_if, judged_case, judged_meaning}
 use Rattle.nom_error.specs.declared.answer.Err as Answer
-use Rattle.nom_error.specs.Answers.{PResult, Refuses}
-use Rattle.nom_error.specs.Modes.{Built, Modes, with_outputs}
-use Rattle.nom_traits.specs.Input.{Model}
-use Rattle.nom_internal.specs.Outcome.{Outcome}
-use Rattle.nom_internal.specs.Outcome.Outcome.{Accept, Refuse}
-use Rattle.nom_internal.specs.Outcome.ShowsAnswer.{RanOut, Shown}
-use Rattle.nom_internal.specs.Meaning.{Meaning, ShowsMeaning}
-use Rattle.nom_internal.specs.Cases.CaseRunsOut.{RunsOutBeside}
-use Rattle.nom_internal.specs.Closures.{GivesFor, IsJudge}
-use Rattle.nom_internal.specs.Judged.{kept_if, judged_case, judged_meaning}
 use Rattle.nom_internal.proofs.Shown.{Accepts, accepts, built_error}
 use Rattle.nom_internal.proofs.Cased.{here, passing_err}
 
@@ -31,11 +22,8 @@ module _ {I A V P R O E : Type 0} (w : Model I A) (IsOutput : V → P → Type 0
         at_is = refl;
         refuses = λ b e. (refl, refl, λ z h. h);
         undecided = λ n e d. refl;
-        fails = refl;
-        too_large = refl;
-        blames_failure =
-            λ z h. h;
-        blames_large = λ z h. h;
+        fails = λ _. refl;
+        blames_failure = λ _ z h. h;
       }) refl
 
   refusal_shown : (n : ℕ) (t : V) (r : R) → m.answers mode.streaming i (Accept n t) → GivesFor IsOutput Gives t r → fits r ≡ false →

@@ -1,17 +1,9 @@
 -- What parts show whose outputs or errors become others.
 use Rattle.std.proofs.Common.{◌≡◌, Bool, true, false, Ok, Err, Option, Some, None, refl, sym, subst}
-use Rattle.nom_error.specs.Answers.{PResult}
-use Rattle.nom_error.specs.declared.answer.Needed.{Needed}
+use Rattle.nom_internal.specs.Prelude.{PResult, Needed, Built, Modes, Model, Outcome, Accept, Refuse, Stop, Fails, Needs, IsFault, Shows, RanOut, Shown}
+use Rattle.nom_internal.specs.Prelude.{Meaning, ShowsMeaning, RunsOutInPart, GivesFor, IsCallable, map_case, map_meaning, into_meaning, ConvertsSome}
+use Rattle.nom_internal.specs.Prelude.{ConvertsResult}
 use Rattle.nom_error.specs.declared.answer.Err as Answer
-use Rattle.nom_error.specs.Modes.{Built, Modes}
-use Rattle.nom_traits.specs.Input.{Model}
-use Rattle.nom_internal.specs.Outcome.{Outcome, IsFault, Shows}
-use Rattle.nom_internal.specs.Outcome.Outcome.{Accept, Refuse, Fail, TooLarge, Undecided}
-use Rattle.nom_internal.specs.Outcome.ShowsAnswer.{RanOut, Shown}
-use Rattle.nom_internal.specs.Meaning.{Meaning, ShowsMeaning}
-use Rattle.nom_internal.specs.Cases.CaseRunsOut.{RunsOutInPart}
-use Rattle.nom_internal.specs.Closures.{GivesFor, IsCallable}
-use Rattle.nom_internal.specs.Mapped.{map_case, map_meaning, into_meaning, ConvertsSome, ConvertsResult}
 use Rattle.nom_internal.proofs.Shown.{accepts}
 use Rattle.nom_internal.proofs.Cased.{here, passing_err}
 
@@ -43,11 +35,8 @@ module _ {I A V P R E : Type 0} {w : Model I A} {IsOutput : V → P → Type 0} 
         at_is = refl;
         refuses = λ b q. (refl, refl, λ z h. h);
         undecided = λ n q d. refl;
-        fails = refl;
-        too_large = refl;
-        blames_failure =
-            λ z h. h;
-        blames_large = λ z h. h;
+        fails = λ _. refl;
+        blames_failure = λ _ z h. h;
       }) refl h)
 
   -- an output that was built is mapped, and none elsewhere
@@ -101,13 +90,10 @@ module _ {I A V P R E F : Type 0} (w : Model I A) (IsOutput : V → P → Type 0
             ((into_meaning Converts m).blames mode.streaming i) h.0 d.0 (blamed Refuse a tt) d.1 h.1,
         d.2,
       )
-  into_of Fail r s a h c =
+  into_of (Stop (Fails cause)) r s a h c =
       let d = subst (λ z. ConvertsResult Gives Converts z s) h.2 c in
-      Shown Fail (here Fail a refl) (d.0, blamed Fail a tt h.0 d.0 h.1 d.1, d.2)
-  into_of TooLarge r s a h c =
-      let d = subst (λ z. ConvertsResult Gives Converts z s) h.2 c in
-      Shown TooLarge (here TooLarge a refl) (d.0, blamed TooLarge a tt h.0 d.0 h.1 d.1, d.2)
-  into_of (Undecided k) r s a h c = Shown (Undecided k) (here (Undecided k) a refl) (h.0, h.1, subst (λ z. ConvertsResult Gives Converts z s) h.2 c)
+      Shown (Stop (Fails cause)) (here (Stop (Fails cause)) a refl) (d.0, blamed (Stop (Fails cause)) a tt h.0 d.0 h.1 d.1, d.2)
+  into_of (Stop (Needs k)) r s a h c = Shown (Stop (Needs k)) (here (Stop (Needs k)) a refl) (h.0, h.1, subst (λ z. ConvertsResult Gives Converts z s) h.2 c)
 
   pub into_shown : (r : PResult I P E) (s : PResult I R F) →
       ShowsMeaning w IsOutput m mode i r → ConvertsResult Gives Converts r s → IntoShown s

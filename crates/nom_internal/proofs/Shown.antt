@@ -2,21 +2,12 @@
 use Rattle.std.proofs.Common.{◌≡◌, ℕ, Bool, true, false, Result, Ok, Err, Option, Some, None, refl, sym, ◌∙◌, ap, subst, inl, inr}
 use Rattle.std.specs.Result.{IsErrAnd, IsErr}
 use Rattle.std.proofs.lemmas.Result.{err_from_is_err_and}
-use Rattle.nom_error.specs.declared.answer.Needed.{Needed}
+use Rattle.nom_internal.specs.Prelude.{Needed, Incomplete, Error, Failure, OutOfMemory, Built, Modes, modes, with_outputs, PResult, IResult, Refuses, size_of}
+use Rattle.nom_internal.specs.Prelude.{IsFull, HoldsSame, rest_of, Model, InputLaws, IsSuffixOf, rest_rest, Outcome, Accept, Refuse, Stop, Fails, Needs}
+use Rattle.nom_internal.specs.Prelude.{IsFault, Shows, ShowsAnswer, Parses, ParsesAnswer, RanOut, Shown, ParseRanOut, Parsed, after, Then, ThenBlames}
+use Rattle.nom_internal.specs.Prelude.{ThenRunsOut, RunsOutFirst, RunsOutNext}
 use Rattle.nom_error.specs.declared.answer.Err as Answer
-use Rattle.nom_error.specs.declared.answer.Err.TheVariants.{Incomplete, Error, Failure, OutOfMemory}
-use Rattle.nom_error.specs.Modes.{Built, Modes, modes, with_outputs}
-use Rattle.nom_error.specs.Answers.{PResult, IResult, Refuses, size_of}
-use Rattle.nom_internal.specs.Results.{IsFull, HoldsSame, rest_of}
-use Rattle.nom_traits.specs.Input.{Model, InputLaws, IsSuffixOf}
-use Rattle.nom_traits.specs.Rests.{rest_rest}
-use Rattle.nom_internal.specs.Outcome.{Outcome, IsFault, Shows, ShowsAnswer, Parses, ParsesAnswer}
-use Rattle.nom_internal.specs.Outcome.Outcome.{Accept, Refuse, Fail, TooLarge, Undecided}
-use Rattle.nom_internal.specs.Outcome.ShowsAnswer.{RanOut, Shown}
-use Rattle.nom_internal.specs.Outcome.ParsesAnswer.{ParseRanOut, Parsed}
-use Rattle.nom_internal.specs.Sequence.{after, Then, ThenBlames, ThenRunsOut}
 use Rattle.nom_internal.specs.Sequence.ThenBlames.{BlamesFirst, BlamesNext}
-use Rattle.nom_internal.specs.Sequence.ThenRunsOut.{RunsOutFirst, RunsOutNext}
 
 -- what a `?` returns
 pub err_from_residual : {T E : Type 0} {r : Result T E} {e : E} → IsErr r × IsErrAnd r (λ y. y ≡ e) → r ≡ Err e
@@ -62,9 +53,8 @@ module _ {I A V O E : Type 0} (w : Model I A) (IsOutput : V → O → Type 0) (m
         built_is = subst (λ y. Built mode.outputs (IsOutput v) y) (sym (ap (λ p. p.1) same)) s.3;
       }
   some_accepts j x Refuse a s = cc (s.2)
-  some_accepts j x Fail a s = cc (s.2)
-  some_accepts j x TooLarge a s = cc (s.2)
-  some_accepts j x (Undecided k) a s = cc (s.2)
+  some_accepts j x (Stop (Fails cause)) a s = cc (s.2)
+  some_accepts j x (Stop (Needs k)) a s = cc (s.2)
 
 pub accepts : {I A V O E : Type 0} {w : Model I A} {IsOutput : V → O → Type 0} {mode : Modes} {i : I} {Answers : Outcome V → Type 0}
     {IsError : E → Type 0} {RunsOut : Type 0} {j : I} {x : Option O} → ShowsAnswer w IsOutput mode i Answers IsError RunsOut (Ok (j, x)) →
@@ -79,9 +69,8 @@ module _ {I A V O P E : Type 0} (w : Model I A) (IsOutput : V → O → Type 0) 
       Shows w IsResult mode i IsError o (Err e)
   err_shown e (Accept n v) s = cc (s.4)
   err_shown e Refuse s = (s.0, s.1, cc (s.2))
-  err_shown e Fail s = (s.0, s.1, cc (s.2))
-  err_shown e TooLarge s = (s.0, s.1, cc (s.2))
-  err_shown e (Undecided k) s = (s.0, s.1, cc (s.2))
+  err_shown e (Stop (Fails cause)) s = (s.0, s.1, cc (s.2))
+  err_shown e (Stop (Needs k)) s = (s.0, s.1, cc (s.2))
 
 module _ {I A V O P E : Type 0} {w : Model I A} {IsOutput : V → O → Type 0} {IsResult : V → P → Type 0} {built : Bool} {mode : Modes} {i : I}
     {Answers : Outcome V → Type 0} {IsError : E → Type 0} {RunsOut : Type 0} where
@@ -121,9 +110,8 @@ module _ {I A P Q T Y E : Type 0} (w : Model I A) (l : InputLaws w) (tree : P �
         (after n (tree u) o) r
     shows_after (Accept m v) r b s = (s.0, s.1, rest_rest w l i n j m s.0 p s.2, s.3, s.4)
     shows_after Refuse r b s = (s.0, built_error mode.errors _ _ s.0 (next_fact Refuse b tt) s.1, s.2)
-    shows_after Fail r b s = (s.0, next_fact Fail b tt s.0 s.1, s.2)
-    shows_after TooLarge r b s = (s.0, next_fact TooLarge b tt s.0 s.1, s.2)
-    shows_after (Undecided k) r b s = s
+    shows_after (Stop (Fails cause)) r b s = (s.0, next_fact (Stop (Fails cause)) b tt s.0 s.1, s.2)
+    shows_after (Stop (Needs k)) r b s = s
 
     -- where a first part accepts, what follows answers for both
     pub next_shown : (r : PResult I Y E) →
@@ -143,9 +131,9 @@ module _ {I A P Q T X Y E : Type 0} (w : Model I A) (tree : P → Q → T) (Firs
   first_err e (Accept n v) a s = cc (s.4)
   first_err e Refuse a s = Shown Refuse (record { first = Refuse; answered = a; goes_on = refl })
       (s.0, built_error mode.errors _ _ s.0 (first_fact Refuse a tt) s.1, cc (s.2))
-  first_err e Fail a s = Shown Fail (record { first = Fail; answered = a; goes_on = refl }) (s.0, first_fact Fail a tt s.0 s.1, cc (s.2))
-  first_err e TooLarge a s = Shown TooLarge (record { first = TooLarge; answered = a; goes_on = refl }) (s.0, first_fact TooLarge a tt s.0 s.1, cc (s.2))
-  first_err e (Undecided k) a s = Shown (Undecided k) (record { first = Undecided k; answered = a; goes_on = refl }) (s.0, s.1, cc (s.2))
+  first_err e (Stop (Fails cause)) a s = Shown (Stop (Fails cause)) (record { first = Stop (Fails cause); answered = a; goes_on = refl })
+      (s.0, first_fact (Stop (Fails cause)) a tt s.0 s.1, cc (s.2))
+  first_err e (Stop (Needs k)) a s = Shown (Stop (Needs k)) (record { first = Stop (Needs k); answered = a; goes_on = refl }) (s.0, s.1, cc (s.2))
 
 module _ {I A P Q T X Y E : Type 0} {w : Model I A} (l : InputLaws w) {tree : P → Q → T} {First : I → Outcome P → Type 0} {FirstBlames : I → E → Type 0}
     {FirstRunsOut : I → Type 0} {Next : P → I → Outcome Q → Type 0} {NextBlames : P → I → E → Type 0} {NextRunsOut : P → I → Type 0}
@@ -181,17 +169,15 @@ module _ {I A V O E : Type 0} (w : Model I A) (IsOutput : V → O → Type 0) (s
   full_of : (o : Outcome V) (r : PResult I O E) → Shows w IsOutput (modes true true streaming) i IsError o r → IsFull r
   full_of (Accept n v) r s = subst (λ x. IsFull x) (sym (s.4 ∙ ap (λ b. Ok (s.0, b)) s.3.1)) tt
   full_of Refuse r s = subst (λ x. IsFull x) (sym (s.2 ∙ ap (λ b. Err (Error b)) s.1.1)) tt
-  full_of Fail r s = subst (λ x. IsFull x) (sym s.2) tt
-  full_of TooLarge r s = subst (λ x. IsFull x) (sym s.2) tt
-  full_of (Undecided k) r s = subst (λ x. IsFull x) (sym s.2) tt
+  full_of (Stop (Fails cause)) r s = subst (λ x. IsFull x) (sym s.2) tt
+  full_of (Stop (Needs k)) r s = subst (λ x. IsFull x) (sym s.2) tt
 
   parses_of : (o : Outcome V) (p : PResult I O E) (r : IResult I O E) →
       HoldsSame p r → Shows w IsOutput (modes true true streaming) i IsError o p → Parses w IsOutput i IsError o r
   parses_of (Accept n v) p r h s = (s.0, s.3.0, s.2, s.3.2, subst (λ x. HoldsSame x r) (s.4 ∙ ap (λ b. Ok (s.0, b)) s.3.1) h)
   parses_of Refuse p r h s = (s.1.0, s.1.2, subst (λ x. HoldsSame x r) (s.2 ∙ ap (λ b. Err (Error b)) s.1.1) h)
-  parses_of Fail p r h s = (s.0, s.1, subst (λ x. HoldsSame x r) s.2 h)
-  parses_of TooLarge p r h s = (s.0, s.1, subst (λ x. HoldsSame x r) s.2 h)
-  parses_of (Undecided k) p r h s = (s.0, s.1, subst (λ x. HoldsSame x r) s.2 h)
+  parses_of (Stop (Fails cause)) p r h s = (s.0, s.1, subst (λ x. HoldsSame x r) s.2 h)
+  parses_of (Stop (Needs k)) p r h s = (s.0, s.1, subst (λ x. HoldsSame x r) s.2 h)
 
 module _ {I A V O E : Type 0} {w : Model I A} {IsOutput : V → O → Type 0} {streaming : Bool} {i : I} {Answers : Outcome V → Type 0} {IsError : E → Type 0} where
   pub answer_full : {RunsOut : Type 0} {r : PResult I O E} →
@@ -222,6 +208,6 @@ module _ {I A V O E : Type 0} {w : Model I A} {IsOutput : V → O → Type 0} {m
       ShowsAnswer w IsOutput mode i Answers IsError RunsOut (Ok (j, x))
   accepted {n = n} v {j = j} {x = x} p a b = Shown (Accept n v) a (j, x, p, b, refl)
 
-  pub undecided : {k : Option ℕ} {n : Needed} → size_of n ≡ k → Answers (Undecided k) →
+  pub undecided : {k : Option ℕ} {n : Needed} → size_of n ≡ k → Answers (Stop (Needs k)) →
       ShowsAnswer w IsOutput mode i Answers IsError RunsOut (Err (Incomplete n))
-  undecided {k = k} {n = n} e a = Shown (Undecided k) a (n, e, refl)
+  undecided {k = k} {n = n} e a = Shown (Stop (Needs k)) a (n, e, refl)

@@ -1,14 +1,8 @@
 -- What tuples show, from what their members showed.
 use Rattle.std.proofs.Common.{◌≡◌, Bool, true, false, Ok, Err, Option, Some, None, cond, refl, sym, subst}
-use Rattle.nom_error.specs.Answers.{PResult}
-use Rattle.nom_error.specs.Modes.{Built, Modes, with_outputs}
-use Rattle.nom_traits.specs.Input.{Model, InputLaws}
+use Rattle.nom_internal.specs.Prelude.{PResult, Built, Modes, with_outputs, Model, InputLaws, Accept, Refuse, Stop, ShowsAnswer, RanOut, Shown, Meaning}
+use Rattle.nom_internal.specs.Prelude.{ShowsMeaning, pair_meaning, Fails, Needs}
 use Rattle.nom_internal.specs.declared.flat.One.{One}
-use Rattle.nom_internal.specs.Outcome.{ShowsAnswer}
-use Rattle.nom_internal.specs.Outcome.Outcome.{Accept, Refuse, Fail, TooLarge, Undecided}
-use Rattle.nom_internal.specs.Outcome.ShowsAnswer.{RanOut, Shown}
-use Rattle.nom_internal.specs.Meaning.{Meaning, ShowsMeaning}
-use Rattle.nom_internal.specs.Sequence.{pair_meaning}
 use Rattle.nom_internal.specs.Tuples.{built_meaning, OnAccepted, ShowsMember, IsPaired, IsFormed, PairOutput, OneOutput}
 use Rattle.nom_internal.proofs.Shown.{built_error, then_err, then_ok}
 
@@ -32,9 +26,8 @@ module _ {I A V T O E : Type 0} (w : Model I A) (IsOutput : V → O → Type 0) 
       let q = rw h.4 at g in
       Shown (Accept n v) a (h.0, Some (t, h.3.0), h.2, ((t, h.3.0), refl, (refl, h.3.2)), q h.3.0 h.3.1)
   paired_shown answer r (Shown Refuse a h) g = Shown Refuse a (h.0, h.1, rw h.2 at g)
-  paired_shown answer r (Shown Fail a h) g = Shown Fail a (h.0, h.1, rw h.2 at g)
-  paired_shown answer r (Shown TooLarge a h) g = Shown TooLarge a (h.0, h.1, rw h.2 at g)
-  paired_shown answer r (Shown (Undecided k) a h) g = Shown (Undecided k) a (h.0, h.1, rw h.2 at g)
+  paired_shown answer r (Shown (Stop (Fails cause)) a h) g = Shown (Stop (Fails cause)) a (h.0, h.1, rw h.2 at g)
+  paired_shown answer r (Shown (Stop (Needs k)) a h) g = Shown (Stop (Needs k)) a (h.0, h.1, rw h.2 at g)
 
 -- what some members showed, with their outputs in nested pairs: a record, by which the members are found
 pub record MembersShown {I A V O E : Type 0} (w : Model I A) (IsOutput : V → O → Type 0) (m : Meaning I V E) (mode : Modes) (i : I)
@@ -51,9 +44,7 @@ module _ {I A P Q O R E : Type 0} (w : Model I A) (l : InputLaws w) (IsBefore : 
   behind_as u t j p r (Shown (Accept n v) a h) =
       Shown (Accept n v) a (h.0, h.1, h.2, built_error true _ _ h.1 (λ o q. (subst (λ x. IsBefore u x) (sym q.0) p, q.1)) h.3, h.4)
   behind_as u t j p r (Shown Refuse a h) = Shown Refuse a h
-  behind_as u t j p r (Shown Fail a h) = Shown Fail a h
-  behind_as u t j p r (Shown TooLarge a h) = Shown TooLarge a h
-  behind_as u t j p r (Shown (Undecided k) a h) = Shown (Undecided k) a h
+  behind_as u t j p r (Shown (Stop why) a h) = Shown (Stop why) a h
 
   member_shown : (before : PResult I O E) (r : PResult I (O × R) E) →
       ShowsMeaning w IsBefore a (with_outputs true mode) i before → OnAccepted (ShowsMember w IsLast b mode) before r →
@@ -90,9 +81,8 @@ module _ {I A V T O E : Type 0} (w : Model I A) (IsOutput : V → T → Type 0) 
         q h.3.0 h.3.1,
       )
   formed_shown before r (Shown Refuse a h) g = Shown Refuse a (h.0, h.1, rw h.2 at g)
-  formed_shown before r (Shown Fail a h) g = Shown Fail a (h.0, h.1, rw h.2 at g)
-  formed_shown before r (Shown TooLarge a h) g = Shown TooLarge a (h.0, h.1, rw h.2 at g)
-  formed_shown before r (Shown (Undecided k) a h) g = Shown (Undecided k) a (h.0, h.1, rw h.2 at g)
+  formed_shown before r (Shown (Stop (Fails cause)) a h) g = Shown (Stop (Fails cause)) a (h.0, h.1, rw h.2 at g)
+  formed_shown before r (Shown (Stop (Needs k)) a h) g = Shown (Stop (Needs k)) a (h.0, h.1, rw h.2 at g)
 
 -- the first member, with its output as the first of nested pairs
 pub first_shown : {I A V O E : Type 0} (w : Model I A) (IsOutput : V → O → Type 0) (m : Meaning I V E) (mode : Modes) (i : I)

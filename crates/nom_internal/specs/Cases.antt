@@ -1,8 +1,9 @@
 -- Cases over one part's outcome: what it becomes, with which error, where memory is asked for, what is built, in which mode.
 use Rattle.std.specs.Prelude.{◌≡◌, ℕ, Bool, true}
 use Rattle.nom_error.specs.Modes.{Modes, with_outputs, with_streaming}
-use Rattle.nom_internal.specs.Outcome.{Outcome, mapped}
-use Rattle.nom_internal.specs.Outcome.Outcome.{Accept, Refuse, Fail, TooLarge, Undecided}
+use Rattle.nom_internal.specs.Outcome.{Outcome, mapped, Cause}
+use Rattle.nom_internal.specs.Outcome.Outcome.{Accept, Refuse, Stop}
+use Rattle.nom_internal.specs.Outcome.Reason.{Fails, Needs}
 use Rattle.nom_internal.specs.Meaning.{Meaning}
 
 -- the mode of a part: the one that is asked for, or always streaming (true) or complete (false)
@@ -35,7 +36,7 @@ pub record Case (I J P T E F : Type 0) : Type 1 where
   -- by what holds of the part
   pub IsSound : Type 0 → Type 0
   pub IsFrugal : (Modes → Type 0) → Modes → Type 0
-  pub NeverFails : (Bool → Type 0) → Bool → Type 0
+  pub NeverFails : (Cause → Type 0) → Cause → Type 0
 
 -- the part runs at an input of its own, and of that and its outcome the fact holds
 pub record OnPart {I J P : Type 0} (At : I → J → Type 0) (Part : J → Outcome P → Type 0) (Fact : J → Outcome P → Type 0) (i : I) : Type 0 where
@@ -66,9 +67,7 @@ case_meaning c m = record {
 abbrev pub Passes : {P T : Type 0} → (ℕ → P → Outcome T → Type 0) → Outcome P → Outcome T → Type 0
 Passes OnAccept (Accept n u) o = OnAccept n u o
 Passes OnAccept Refuse o = o ≡ Refuse
-Passes OnAccept Fail o = o ≡ Fail
-Passes OnAccept TooLarge o = o ≡ TooLarge
-Passes OnAccept (Undecided k) o = o ≡ Undecided k
+Passes OnAccept (Stop why) o = o ≡ Stop why
 
 -- Of a part at the same input, in the mode that is asked for, whose errors stand for themselves: what its outcome becomes,
 -- and whether its outputs are built.
@@ -114,17 +113,14 @@ fixed_meaning mode = case_meaning (fixed_case mode)
 abbrev pub Closed : {P E : Type 0} → (E → E → Type 0) → Outcome P → (E → Type 0) → E → Type 0
 Closed Closes (Accept n v) P e = ⊥
 Closed {E = E} Closes Refuse P e = (x : E) × P x × Closes x e
-Closed Closes Fail P e = P e
-Closed Closes TooLarge P e = P e
-Closed Closes (Undecided k) P e = ⊥
+Closed Closes (Stop (Fails cause)) P e = P e
+Closed Closes (Stop (Needs k)) P e = ⊥
 
 -- of a refusal alone
 abbrev pub OnRefused : {P : Type 0} → Type 0 → Outcome P → Type 0
 OnRefused Fact (Accept n v) = ⊥
 OnRefused Fact Refuse = Fact
-OnRefused Fact Fail = ⊥
-OnRefused Fact TooLarge = ⊥
-OnRefused Fact (Undecided k) = ⊥
+OnRefused Fact (Stop why) = ⊥
 
 -- a part whose refusals' errors are closed at the start, which may take memory where errors are built
 abbrev pub closed_case : {I P E : Type 0} → (I → E → E → Type 0) → Type 0 → Case I I P P E E

@@ -9,7 +9,7 @@ use Rattle.nom_error.specs.Answers.{PResult, Refuses}
 use Rattle.nom_error.specs.Modes.{Built, Modes, with_errors}
 use Rattle.nom_traits.specs.Input.{Model}
 use Rattle.nom_internal.specs.Outcome.{Outcome, ShowsAnswer, IsFailure, IsFault, OnOutcome}
-use Rattle.nom_internal.specs.Outcome.Outcome.{Accept, Refuse, Fail, TooLarge, Undecided}
+use Rattle.nom_internal.specs.Outcome.Outcome.{Accept, Refuse, Stop}
 use Rattle.nom_internal.specs.Meaning.{Meaning}
 use Rattle.nom_internal.specs.Cases.{labelled_meaning}
 
@@ -17,9 +17,7 @@ use Rattle.nom_internal.specs.Cases.{labelled_meaning}
 abbrev pub GoesOnRefused : {V : Type 0} → (Outcome V → Type 0) → Outcome V → Outcome V → Type 0
 GoesOnRefused Next (Accept n v) o = o ≡ Accept n v
 GoesOnRefused Next Refuse o = Next o
-GoesOnRefused Next Fail o = o ≡ Fail
-GoesOnRefused Next TooLarge o = o ≡ TooLarge
-GoesOnRefused Next (Undecided k) o = o ≡ Undecided k
+GoesOnRefused Next (Stop why) o = o ≡ Stop why
 
 -- a first part, and where it refuses the next one, on the same input
 pub record OnRefusal {I V : Type 0} (First Next : I → Outcome V → Type 0) (i : I) (o : Outcome V) : Type 0 where
@@ -59,7 +57,7 @@ or_meaning Joins Grows a b = record {
   may_run_out = λ mode i. a.may_run_out mode i ⊎ (a.answers mode.streaming i Refuse × NextRunsOut Grows b mode i);
   IsFrugal = λ mode. a.IsFrugal mode × b.IsFrugal mode × (mode.errors ≡ true → Grows → ⊥);
   Settles = a.Settles × b.Settles;
-  NeverFails = λ large. a.NeverFails large × b.NeverFails large;
+  NeverFails = λ cause. a.NeverFails cause × b.NeverFails cause;
 }
 
 -- one of two parsers, with a tree that says which
@@ -80,7 +78,7 @@ otherwise_meaning a b = record {
   may_run_out = λ mode i. a.may_run_out (with_errors false mode) i ⊎ (a.answers mode.streaming i Refuse × b.may_run_out mode i);
   IsFrugal = λ mode. a.IsFrugal (with_errors false mode) × b.IsFrugal mode;
   Settles = a.Settles × b.Settles;
-  NeverFails = λ large. a.NeverFails large × b.NeverFails large;
+  NeverFails = λ cause. a.NeverFails cause × b.NeverFails cause;
 }
 
 -- which output a tree of one of two parsers stands for: one of the branch that it names

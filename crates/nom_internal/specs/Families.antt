@@ -4,6 +4,7 @@ use Rattle.std.proofs.Common.{subst}
 use Rattle.nom_error.specs.Modes.{Modes}
 use Rattle.nom_traits.specs.Input.{Model}
 use Rattle.nom_internal.specs.Meaning.{Meaning, IsLawful, IsSteady, SameBlame}
+use Rattle.nom_internal.specs.Outcome.{Cause}
 
 pub record Family (K I V E : Type 0) : Type 1 where
   pub at : K → Meaning I V E
@@ -11,7 +12,7 @@ pub record Family (K I V E : Type 0) : Type 1 where
   pub IsSound : Type 0
   pub IsFrugal : Modes → Type 0
   pub Settles : Type 0
-  pub NeverFails : Bool → Type 0
+  pub NeverFails : Cause → Type 0
 
 -- one meaning, whatever the key
 abbrev pub always : {K I V E : Type 0} → Meaning I V E → Family K I V E
@@ -22,7 +23,7 @@ pub record IsLawfulFamily {K I A V E : Type 0} (w : Model I A) (IsKey : K → Ty
   pub lawful : (k : K) → IsKey k → IsLawful w (f.at k)
   pub frugal : (mode : Modes) → f.IsFrugal mode → (k : K) → IsKey k → (f.at k).IsFrugal mode
   pub settles : f.Settles → (k : K) → IsKey k → (f.at k).Settles
-  pub never_fails : (large : Bool) → f.NeverFails large → (k : K) → IsKey k → (f.at k).NeverFails large
+  pub never_fails : (cause : Cause) → f.NeverFails cause → (k : K) → IsKey k → (f.at k).NeverFails cause
 
 -- of any key
 abbrev pub AnyKey : {K : Type 0} → K → Type 0
@@ -33,7 +34,7 @@ always_lawful l = record {
   lawful = λ _ _. l;
   frugal = λ mode h _ _. h;
   settles = λ h _ _. h;
-  never_fails = λ large h _ _. h;
+  never_fails = λ cause h _ _. h;
 }
 
 -- the value that was read, and a fact of it
@@ -91,7 +92,7 @@ module _ {P V I A Q E : Type 0} (w : Model I A) (IsValue : P → V → Type 0) (
           (l.lawful a.value (u, a.is_value)).settles (l.settles t a.value (u, a.is_value)) x y o kx ky r a.fact k;
     };
     blames_alike = same_blame u;
-    never_fails = λ large g s i h a. (l.lawful a.value (u, a.is_value)).never_fails large (l.never_fails large g a.value (u, a.is_value)) s i h a.fact;
+    never_fails = λ cause g s i h a. (l.lawful a.value (u, a.is_value)).never_fails cause (l.never_fails cause g a.value (u, a.is_value)) s i h a.fact;
   }
 
   pub of_value_lawful : IsLawfulFamily w AnyKey (of_value IsValue f)
@@ -99,7 +100,7 @@ module _ {P V I A Q E : Type 0} (w : Model I A) (IsValue : P → V → Type 0) (
     lawful = λ u _. at_lawful u;
     frugal = λ mode h _ _. h;
     settles = λ h _ _. h;
-    never_fails = λ large h _ _. h;
+    never_fails = λ cause h _ _. h;
   }
 
 module _ {P V I A Q E : Type 0} (w : Model I A) (IsValue : P → V → Type 0) (f : Family V I Q E) (one : IsOne IsValue) where

@@ -52,7 +52,7 @@ module _ {P O H S : Type 0} (IsOutput : P → O → Type 0) (g : Maker O H S) wh
     IsSound = IsMaker (λ u. (m u).IsSound);
     IsFrugal = λ mode. OfEach (λ u. (m u).IsFrugal mode);
     Settles = OfEach (λ u. (m u).Settles);
-    NeverFails = λ large. OfEach (λ u. (m u).NeverFails large);
+    NeverFails = λ cause. OfEach (λ u. (m u).NeverFails cause);
   }
 
   -- the meaning of the parser that is given for a tree
@@ -62,7 +62,7 @@ module _ {P O H S : Type 0} (IsOutput : P → O → Type 0) (g : Maker O H S) wh
     IsSound = IsMaker (λ u. (m u).IsSound);
     IsFrugal = λ mode. OfEach (λ u. (m u).IsFrugal mode);
     Settles = OfEach (λ u. (m u).Settles);
-    NeverFails = λ large. OfEach (λ u. (m u).NeverFails large);
+    NeverFails = λ cause. OfEach (λ u. (m u).NeverFails cause);
   }
 
 -- A part, whose outputs are built, and then the parser that is given for its output.

@@ -2,7 +2,8 @@
 use Rattle.std.specs.Prelude.{◌≡◌, ℕ, Bool, true, false, Result, Ok, Err}
 use Rattle.nom_error.specs.Modes.{with_outputs}
 use Rattle.nom_internal.specs.Outcome.{Outcome}
-use Rattle.nom_internal.specs.Outcome.Outcome.{Accept, Refuse, Fail, TooLarge, Undecided}
+use Rattle.nom_internal.specs.Outcome.Outcome.{Accept, Refuse, Stop}
+use Rattle.nom_internal.specs.Outcome.Reason.{Fails, Needs}
 use Rattle.nom_internal.specs.Meaning.{Meaning}
 use Rattle.nom_internal.specs.Cases.{Case, case_meaning, Passes}
 use Rattle.nom_internal.specs.Cases.PartMode.{AsAsked}
@@ -22,17 +23,14 @@ module _ {V R : Type 0} (Says : V → R → Type 0) (fits : R → Bool) where
   abbrev pub OnUnfit : (R → Type 0) → Outcome V → Type 0
   OnUnfit Fact (Accept n t) = (r : R) × Says t r × (fits r ≡ false) × Fact r
   OnUnfit Fact Refuse = ⊥
-  OnUnfit Fact Fail = ⊥
-  OnUnfit Fact TooLarge = ⊥
-  OnUnfit Fact (Undecided k) = ⊥
+  OnUnfit Fact (Stop why) = ⊥
 
   -- the error of what doesn't fit is made of what was said; any other is the part's
   abbrev pub JudgedBlames : {E : Type 0} → (R → E → Type 0) → Outcome V → (E → Type 0) → E → Type 0
   JudgedBlames Makes (Accept n t) Part e = OnUnfit (λ r. Makes r e) (Accept n t)
   JudgedBlames Makes Refuse Part e = Part e
-  JudgedBlames Makes Fail Part e = Part e
-  JudgedBlames Makes TooLarge Part e = Part e
-  JudgedBlames Makes (Undecided k) Part e = ⊥
+  JudgedBlames Makes (Stop (Fails cause)) Part e = Part e
+  JudgedBlames Makes (Stop (Needs k)) Part e = ⊥
 
 -- A part whose outputs are always built, since a closure judges them by what it gives for them. The error where that doesn't
 -- fit is made at the start, which may take memory where errors are built.

@@ -2,8 +2,9 @@
 use Rattle.std.specs.Prelude.{◌≡◌, ℕ, Bool, true, false, Option, refl}
 use Rattle.std.proofs.Common.{ap, subst}
 use Rattle.nom_traits.specs.Input.{Model, IsBoundary, IsSame, Related}
-use Rattle.nom_internal.specs.Outcome.{Outcome, failure}
-use Rattle.nom_internal.specs.Outcome.Outcome.{Accept, Refuse, Fail, TooLarge, Undecided}
+use Rattle.nom_internal.specs.Outcome.{Outcome}
+use Rattle.nom_internal.specs.Outcome.Outcome.{Accept, Refuse, Stop}
+use Rattle.nom_internal.specs.Outcome.Reason.{Fails, Needs}
 use Rattle.nom_internal.specs.Meaning.{Meaning, IsLawful, IsSteady, Keeps, Agree}
 
 -- what a leaf does, by mode and input
@@ -17,9 +18,8 @@ pub record Leaf (I V : Type 0) : Type 1 where
 abbrev pub LeafAnswers : {I V : Type 0} → Leaf I V → Bool → I → Outcome V → Type 0
 LeafAnswers leaf s i (Accept n v) = leaf.Accepts s i n v
 LeafAnswers leaf s i Refuse = leaf.Refuses s i
-LeafAnswers leaf s i Fail = ⊥
-LeafAnswers leaf s i TooLarge = ⊥
-LeafAnswers leaf s i (Undecided k) = (s ≡ true) × leaf.Lacks i k
+LeafAnswers leaf s i (Stop (Fails cause)) = ⊥
+LeafAnswers leaf s i (Stop (Needs k)) = (s ≡ true) × leaf.Lacks i k
 
 -- a leaf with a premise and with the error of its refusals, for which alone it takes memory
 abbrev pub leaf_meaning : {I V E : Type 0} → Type 0 → (I → E → Type 0) → Type 0 → Leaf I V → Meaning I V E
@@ -30,7 +30,7 @@ leaf_meaning IsSound Blames Grows leaf = record {
   may_run_out = λ mode i. leaf.Refuses mode.streaming i × (mode.errors ≡ true) × Grows;
   IsFrugal = λ mode. mode.errors ≡ true → Grows → ⊥;
   Settles = Unit {0};
-  NeverFails = λ large. Unit {0};
+  NeverFails = λ cause. Unit {0};
 }
 
 -- What a leaf must keep. Where it is said of two inputs, the second is longer than the first, and more may come, or equal as models.
@@ -57,29 +57,24 @@ module _ {I A V : Type 0} {w : Model I A} {leaf : Leaf I V} (l : LeafLaws w leaf
       LeafAnswers leaf s x o → Keeps longer o → LeafAnswers leaf s y o
   answers_carry longer s only x y (Accept n v) kx ky r a d = l.accepted_stays longer s only x y n v kx ky r a
   answers_carry longer s only x y Refuse kx ky r a d = l.refused_stays longer s only x y kx ky r a
-  answers_carry longer s only x y Fail kx ky r a d = absurd a
-  answers_carry longer s only x y TooLarge kx ky r a d = absurd a
-  answers_carry true s only x y (Undecided k) kx ky r a d = absurd d
-  answers_carry false s only x y (Undecided k) kx ky r a d = (a.0, l.lack_alike x y k kx ky r a.1)
+  answers_carry longer s only x y (Stop (Fails cause)) kx ky r a d = absurd a
+  answers_carry true s only x y (Stop (Needs k)) kx ky r a d = absurd d
+  answers_carry false s only x y (Stop (Needs k)) kx ky r a d = (a.0, l.lack_alike x y k kx ky r a.1)
 
   one_answer : (s : Bool) (i : I) (o p : Outcome V) → w.IsKnown i → LeafAnswers leaf s i o → LeafAnswers leaf s i p → o ≡ p
   one_answer s i (Accept n u) (Accept m v) h a b = let e = l.one_accepted s i n m u v h a b in cc (e.0, e.1)
   one_answer s i (Accept n u) Refuse h a b = absurd (l.accepted_refused s i n u h a b)
-  one_answer s i (Accept n u) (Undecided k) h a b = absurd (l.accepted_lacks i n u k h (subst (λ z. leaf.Accepts z i n u) b.0 a) b.1)
+  one_answer s i (Accept n u) (Stop (Needs k)) h a b = absurd (l.accepted_lacks i n u k h (subst (λ z. leaf.Accepts z i n u) b.0 a) b.1)
   one_answer s i Refuse (Accept n v) h a b = absurd (l.accepted_refused s i n v h b a)
   one_answer s i Refuse Refuse h a b = refl
-  one_answer s i Refuse (Undecided k) h a b = absurd (l.refused_lacks i k h (subst (λ z. leaf.Refuses z i) b.0 a) b.1)
-  one_answer s i (Undecided j) (Accept n v) h a b = absurd (l.accepted_lacks i n v j h (subst (λ z. leaf.Accepts z i n v) a.0 b) a.1)
-  one_answer s i (Undecided j) Refuse h a b = absurd (l.refused_lacks i j h (subst (λ z. leaf.Refuses z i) a.0 b) a.1)
-  one_answer s i (Undecided j) (Undecided k) h a b = ap Undecided (l.one_lack i j k h a.1 b.1)
-  one_answer s i Fail p h a b = absurd a
-  one_answer s i TooLarge p h a b = absurd a
-  one_answer s i (Accept n u) Fail h a b = absurd b
-  one_answer s i (Accept n u) TooLarge h a b = absurd b
-  one_answer s i Refuse Fail h a b = absurd b
-  one_answer s i Refuse TooLarge h a b = absurd b
-  one_answer s i (Undecided j) Fail h a b = absurd b
-  one_answer s i (Undecided j) TooLarge h a b = absurd b
+  one_answer s i Refuse (Stop (Needs k)) h a b = absurd (l.refused_lacks i k h (subst (λ z. leaf.Refuses z i) b.0 a) b.1)
+  one_answer s i (Stop (Needs j)) (Accept n v) h a b = absurd (l.accepted_lacks i n v j h (subst (λ z. leaf.Accepts z i n v) a.0 b) a.1)
+  one_answer s i (Stop (Needs j)) Refuse h a b = absurd (l.refused_lacks i j h (subst (λ z. leaf.Refuses z i) a.0 b) a.1)
+  one_answer s i (Stop (Needs j)) (Stop (Needs k)) h a b = ap (λ d. Stop (Needs d)) (l.one_lack i j k h a.1 b.1)
+  one_answer s i (Stop (Fails cause)) p h a b = absurd a
+  one_answer s i (Accept n u) (Stop (Fails cause)) h a b = absurd b
+  one_answer s i Refuse (Stop (Fails cause)) h a b = absurd b
+  one_answer s i (Stop (Needs j)) (Stop (Fails cause)) h a b = absurd b
 
   answers_agree : (longer s : Bool) → (longer ≡ true → s ≡ true) → Agree w longer (LeafAnswers leaf s) (LeafAnswers leaf s)
   answers_agree longer s only x y o p kx ky r a d b = one_answer s y o p ky (answers_carry longer s only x y o kx ky r a d) b
@@ -87,13 +82,8 @@ module _ {I A V : Type 0} {w : Model I A} {leaf : Leaf I V} (l : LeafLaws w leaf
   answers_settle : (i : I) (o : Outcome V) → w.IsKnown i → LeafAnswers leaf true i o → Keeps true o → LeafAnswers leaf false i o
   answers_settle i (Accept n v) h a d = l.accepted_settles i n v h a
   answers_settle i Refuse h a d = l.refused_settles i h a
-  answers_settle i Fail h a d = a
-  answers_settle i TooLarge h a d = a
-  answers_settle i (Undecided k) h a d = absurd d
-
-  never_answers : (large s : Bool) (i : I) → LeafAnswers leaf s i (failure large) → ⊥
-  never_answers true s i a = a
-  never_answers false s i a = a
+  answers_settle i (Stop (Fails cause)) h a d = a
+  answers_settle i (Stop (Needs k)) h a d = absurd d
 
   module _ {E : Type 0} {IsSound : Type 0} {Blames : I → E → Type 0} {Grows : Type 0} where
     pub leaf_lawful : IsLawful w (leaf_meaning IsSound Blames Grows leaf)
@@ -104,7 +94,7 @@ module _ {I A V : Type 0} {w : Model I A} {leaf : Leaf I V} (l : LeafLaws w leaf
       frugal = λ mode i h f r. f r.1 r.2;
       settles = λ t x y o kx ky r a d. answers_settle y o ky (answers_carry false true (λ e. refl) x y o kx ky r a tt) d;
       blames_alike = λ t s i o e h a b d z. z;
-      never_fails = λ large g s i h a. never_answers large s i a;
+      never_fails = λ cause g s i h a. a;
     }
 
     pub leaf_steady : IsSteady w (leaf_meaning IsSound Blames Grows leaf)

@@ -11,6 +11,7 @@ pub mod Mapped
 pub mod Meaning
 pub mod Outcome
 pub mod Pinned
+pub mod Prelude
 pub mod Recognized
 pub mod Results
 pub mod Sequence

@@ -3,7 +3,8 @@ use Rattle.std.specs.Prelude.{◌≡◌, Bool, true, Option, Some, None, Ok, Err
 use Rattle.nom_error.specs.Answers.{PResult}
 use Rattle.nom_error.specs.declared.answer.Err.TheVariants.{Incomplete, Error, Failure, OutOfMemory}
 use Rattle.nom_internal.specs.Outcome.{Outcome, IsFault}
-use Rattle.nom_internal.specs.Outcome.Outcome.{Accept, Refuse, Fail, TooLarge, Undecided}
+use Rattle.nom_internal.specs.Outcome.Outcome.{Accept, Refuse, Stop}
+use Rattle.nom_internal.specs.Outcome.Reason.{Fails, Needs}
 use Rattle.nom_internal.specs.Meaning.{Meaning}
 use Rattle.nom_internal.specs.Cases.{Case, case_meaning}
 use Rattle.nom_internal.specs.Cases.PartMode.{AsAsked}
@@ -31,9 +32,8 @@ map_meaning IsOutput Takes = case_meaning (map_case IsOutput Takes)
 abbrev pub BuildsError : {P : Type 0} → Bool → Outcome P → Type 0
 BuildsError errors (Accept n v) = ⊥
 BuildsError errors Refuse = errors ≡ true
-BuildsError errors Fail = Unit {0}
-BuildsError errors TooLarge = Unit {0}
-BuildsError errors (Undecided k) = ⊥
+BuildsError errors (Stop (Fails cause)) = Unit {0}
+BuildsError errors (Stop (Needs k)) = ⊥
 
 -- The outcome is the part's, with its tree: each error is made of the part's, which may take memory where the error is built.
 abbrev pub renamed_case : {I V E F : Type 0} → (I → E → F → Type 0) → Type 0 → Case I I V V E F

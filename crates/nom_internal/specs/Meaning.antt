@@ -3,8 +3,10 @@ use Rattle.std.specs.Prelude.{◌≡◌, ℕ, Bool, true, false, not}
 use Rattle.nom_error.specs.Answers.{PResult, IResult}
 use Rattle.nom_error.specs.Modes.{Modes, modes}
 use Rattle.nom_traits.specs.Input.{Model, IsBoundary, IsSame, Related}
-use Rattle.nom_internal.specs.Outcome.{Outcome, IsDecided, ShowsAnswer, ParsesAnswer, failure}
-use Rattle.nom_internal.specs.Outcome.Outcome.{Accept}
+use Rattle.nom_internal.specs.Outcome.{Outcome, IsDecided, ShowsAnswer, ParsesAnswer, Cause}
+use Rattle.nom_internal.specs.Outcome.Outcome.{Accept, Stop}
+use Rattle.nom_internal.specs.Outcome.Reason.{Fails}
+use Rattle.nom_internal.specs.Outcome.Cause.{TooLarge}
 
 -- what a parser over I means, with parse trees V and errors E; its mode is streaming (true) or complete (false)
 pub record Meaning (I V E : Type 0) : Type 1 where
@@ -20,12 +22,12 @@ pub record Meaning (I V E : Type 0) : Type 1 where
   pub IsFrugal : Modes → Type 0
   -- a decided streaming outcome is the complete one too
   pub Settles : Type 0
-  -- it never fails by itself (false), and what it lacks is never too large (true)
-  pub NeverFails : Bool → Type 0
+  -- it never fails by this cause
+  pub NeverFails : Cause → Type 0
 
 -- what a parser lacks is never too large, so that a failure is final
 abbrev pub NeverTooLarge : {I V E : Type 0} → Meaning I V E → Type 0
-NeverTooLarge m = m.NeverFails true
+NeverTooLarge m = m.NeverFails TooLarge
 
 -- which outcomes a longer input keeps (true), and one equal as a model (false)
 abbrev pub Keeps : {V : Type 0} → Bool → Outcome V → Type 0
@@ -60,7 +62,7 @@ module _ {I A V E : Type 0} (w : Model I A) (m : Meaning I V E) where
     -- where it settles, a decided streaming outcome is the complete one, and the errors of either mode are the other's
     pub settles : m.Settles → Carries w true (m.answers true) (m.answers false)
     pub blames_alike : m.Settles → (s : Bool) → SameBlame w (m.answers s) (m.answers (not s)) (m.blames s) (m.blames (not s))
-    pub never_fails : (large : Bool) → m.NeverFails large → (s : Bool) (i : I) → w.IsKnown i → m.answers s i (failure large) → ⊥
+    pub never_fails : (cause : Cause) → m.NeverFails cause → (s : Bool) (i : I) → w.IsKnown i → m.answers s i (Stop (Fails cause)) → ⊥
 
   -- the law of a stream parser: a decided streaming outcome stays on every longer input
   pub record IsSteady : Type 0 where

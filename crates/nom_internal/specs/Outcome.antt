@@ -1,56 +1,55 @@
 -- What a parser answers at an input, and what `process` and `parse` return for it.
-use Rattle.std.specs.Prelude.{◌≡◌, ℕ, Bool, true, false, Ok, Err, Option}
+use Rattle.std.specs.Prelude.{◌≡◌, ℕ, Ok, Err, Option}
 use Rattle.nom_error.specs.declared.answer.Err.TheVariants.{Incomplete, Error, Failure, OutOfMemory}
 use Rattle.nom_error.specs.declared.answer.Needed.{Needed}
 use Rattle.nom_error.specs.Answers.{PResult, IResult, size_of}
 use Rattle.nom_error.specs.Modes.{Built, Modes}
 use Rattle.nom_traits.specs.Input.{Model, IsSuffixOf}
 
--- An acceptance of the first items, of a length, with a parse tree; a refusal; a failure; a failure since what is lacking
--- doesn't fit a size; or more is needed, of a size or, by None, of an unknown one.
+-- why a parser fails: by itself, or since what is lacking doesn't fit a size
+pub data Cause : Type 0 where
+  Outright : Cause
+  TooLarge : Cause
+
+-- why a parser stops: it fails, or more is needed, of a size or, by None, of an unknown one
+pub data Reason : Type 0 where
+  Fails : Cause → Reason
+  Needs : Option ℕ → Reason
+
+-- An acceptance of the first items, of a length, with a parse tree; a refusal, after which another parser may be tried; or a
+-- stop, after which none is.
 pub data Outcome (V : Type 0) : Type 0 where
   Accept : ℕ → V → Outcome V
   Refuse : Outcome V
-  Fail : Outcome V
-  TooLarge : Outcome V
-  Undecided : Option ℕ → Outcome V
+  Stop : Reason → Outcome V
 
 -- the outcome with a length and a tree that are made of its own
 abbrev pub mapped : {V W : Type 0} → (ℕ → ℕ) → (V → W) → Outcome V → Outcome W
 mapped l f (Accept n v) = Accept (l n) (f v)
 mapped l f Refuse = Refuse
-mapped l f Fail = Fail
-mapped l f TooLarge = TooLarge
-mapped l f (Undecided k) = Undecided k
+mapped l f (Stop why) = Stop why
 
--- settled, whatever more may come: an acceptance, a refusal or a failure
+-- settled, whatever more may come: an acceptance, a refusal or an outright failure
 abbrev pub IsDecided : {V : Type 0} → Outcome V → Type 0
 IsDecided (Accept n v) = Unit {0}
 IsDecided Refuse = Unit {0}
-IsDecided Fail = Unit {0}
-IsDecided TooLarge = ⊥
-IsDecided (Undecided k) = ⊥
-
--- a failure: by the parser itself (false), or since what is lacking is too large (true)
-abbrev pub failure : {V : Type 0} → Bool → Outcome V
-failure false = Fail
-failure true = TooLarge
+IsDecided (Stop (Fails Outright)) = Unit {0}
+IsDecided (Stop (Fails TooLarge)) = ⊥
+IsDecided (Stop (Needs k)) = ⊥
 
 -- an outcome that holds an error
 abbrev pub IsFault : {V : Type 0} → Outcome V → Type 0
 IsFault (Accept n v) = ⊥
 IsFault Refuse = Unit {0}
-IsFault Fail = Unit {0}
-IsFault TooLarge = Unit {0}
-IsFault (Undecided k) = ⊥
+IsFault (Stop (Fails cause)) = Unit {0}
+IsFault (Stop (Needs k)) = ⊥
 
--- an outcome whose error is told whether mode.errors are built or not
+-- an outcome whose error is told whether errors are built or not
 abbrev pub IsFailure : {V : Type 0} → Outcome V → Type 0
 IsFailure (Accept n v) = ⊥
 IsFailure Refuse = ⊥
-IsFailure Fail = Unit {0}
-IsFailure TooLarge = Unit {0}
-IsFailure (Undecided k) = ⊥
+IsFailure (Stop (Fails cause)) = Unit {0}
+IsFailure (Stop (Needs k)) = ⊥
 
 -- a part has an outcome of a kind, and the fact holds
 pub record OnOutcome {I V : Type 0} (IsKind : Outcome V → Type 0) (Part : I → Outcome V → Type 0) (Fact : Type 0) (i : I) : Type 0 where
@@ -64,9 +63,8 @@ module _ {I A V O E : Type 0} (w : Model I A) (IsOutput : V → O → Type 0) (m
   abbrev pub Shows : (E → Type 0) → Outcome V → PResult I O E → Type 0
   Shows IsError (Accept n v) r = (j : I) × (b : Option O) × IsSuffixOf w i n j × Built mode.outputs (IsOutput v) b × (r ≡ Ok (j, b))
   Shows IsError Refuse r = (b : Option E) × Built mode.errors IsError b × (r ≡ Err (Error b))
-  Shows IsError Fail r = (e : E) × IsError e × (r ≡ Err (Failure e))
-  Shows IsError TooLarge r = (e : E) × IsError e × (r ≡ Err (Failure e))
-  Shows IsError (Undecided k) r = (n : Needed) × (size_of n ≡ k) × (r ≡ Err (Incomplete n))
+  Shows IsError (Stop (Fails cause)) r = (e : E) × IsError e × (r ≡ Err (Failure e))
+  Shows IsError (Stop (Needs k)) r = (n : Needed) × (size_of n ≡ k) × (r ≡ Err (Incomplete n))
 
   -- memory ran out, where it may, or an outcome is shown
   pub data ShowsAnswer (Answers : Outcome V → Type 0) (IsError : E → Type 0) (RunsOut : Type 0)
@@ -75,13 +73,12 @@ module _ {I A V O E : Type 0} (w : Model I A) (IsOutput : V → O → Type 0) (m
     Shown : (o : Outcome V) → Answers o → Shows IsError o r → ShowsAnswer Answers IsError RunsOut r
 
 module _ {I A V O E : Type 0} (w : Model I A) (IsOutput : V → O → Type 0) (i : I) where
-  -- what `parse` returns at i for an outcome: mode.outputs and mode.errors are built
+  -- what `parse` returns at i for an outcome: outputs and errors are built
   abbrev pub Parses : (E → Type 0) → Outcome V → IResult I O E → Type 0
   Parses IsError (Accept n v) r = (j : I) × (b : O) × IsSuffixOf w i n j × IsOutput v b × (r ≡ Ok (j, b))
   Parses IsError Refuse r = (e : E) × IsError e × (r ≡ Err (Error e))
-  Parses IsError Fail r = (e : E) × IsError e × (r ≡ Err (Failure e))
-  Parses IsError TooLarge r = (e : E) × IsError e × (r ≡ Err (Failure e))
-  Parses IsError (Undecided k) r = (n : Needed) × (size_of n ≡ k) × (r ≡ Err (Incomplete n))
+  Parses IsError (Stop (Fails cause)) r = (e : E) × IsError e × (r ≡ Err (Failure e))
+  Parses IsError (Stop (Needs k)) r = (n : Needed) × (size_of n ≡ k) × (r ≡ Err (Incomplete n))
 
   -- memory ran out, where it may, or an outcome is shown
   pub data ParsesAnswer (Answers : Outcome V → Type 0) (IsError : E → Type 0) (RunsOut : Type 0) (r : IResult I O E) : Type 0 where

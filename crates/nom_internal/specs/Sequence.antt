@@ -3,7 +3,7 @@ use Rattle.std.specs.Prelude.{◌≡◌, ℕ, ◌+◌}
 use Rattle.nom_error.specs.Modes.{Modes}
 use Rattle.nom_traits.specs.Input.{Model, IsSuffixOf}
 use Rattle.nom_internal.specs.Outcome.{Outcome, mapped, IsFault, OnOutcome}
-use Rattle.nom_internal.specs.Outcome.Outcome.{Accept, Refuse, Fail, TooLarge, Undecided}
+use Rattle.nom_internal.specs.Outcome.Outcome.{Accept, Refuse, Stop}
 use Rattle.nom_internal.specs.Meaning.{Meaning}
 use Rattle.nom_internal.specs.Families.{Family, always}
 
@@ -16,9 +16,7 @@ module _ {I A P Q T : Type 0} (w : Model I A) (tree : P → Q → T) where
   abbrev pub GoesOn : (P → I → Outcome Q → Type 0) → I → Outcome P → Outcome T → Type 0
   GoesOn Next i (Accept n u) o = (j : I) × (p : Outcome Q) × IsSuffixOf w i n j × Next u j p × (o ≡ after n (tree u) p)
   GoesOn _ _ Refuse o = o ≡ Refuse
-  GoesOn _ _ Fail o = o ≡ Fail
-  GoesOn _ _ TooLarge o = o ≡ TooLarge
-  GoesOn _ _ (Undecided k) o = o ≡ Undecided k
+  GoesOn _ _ (Stop why) o = o ≡ Stop why
 
   -- a first part, and then what follows its tree
   pub record Then (First : I → Outcome P → Type 0) (Next : P → I → Outcome Q → Type 0) (i : I) (o : Outcome T) : Type 0 where
@@ -58,7 +56,7 @@ then_meaning w tree first_mode next_mode a f = record {
   may_run_out = λ mode. ThenRunsOut w (a.answers mode.streaming) (a.may_run_out (first_mode mode)) (λ u. (f.at u).may_run_out (next_mode mode));
   IsFrugal = λ mode. a.IsFrugal (first_mode mode) × f.IsFrugal (next_mode mode);
   Settles = a.Settles × f.Settles;
-  NeverFails = λ large. a.NeverFails large × f.NeverFails large;
+  NeverFails = λ cause. a.NeverFails cause × f.NeverFails cause;
 }
 
 -- two parts in sequence: whatever the first's tree, the second follows

@@ -2,13 +2,9 @@
 use Rattle.std.proofs.Common.{◌≡◌, ℕ, true, List, [], ◌∷◌, length, Ok, Err, Option, Some, None, refl, sym, ◌∙◌, ap, subst, inl, inr}
 use Rattle.std.specs.Iterator.{Yields}
 use Rattle.std.specs.List.{AllZip}
-use Rattle.nom_error.specs.Answers.{IResult}
+use Rattle.nom_internal.specs.Prelude.{IResult, Model, IsSuffixOf, Outcome, Accept, Refuse, Stop, Parses, ParseRanOut, Parsed, Meaning, ParsesMeaning}
+use Rattle.nom_internal.specs.Prelude.{Fails, Needs}
 use Rattle.nom_error.specs.declared.answer.Err.TheVariants as Variant
-use Rattle.nom_traits.specs.Input.{Model, IsSuffixOf}
-use Rattle.nom_internal.specs.Outcome.{Outcome, Parses}
-use Rattle.nom_internal.specs.Outcome.Outcome.{Accept, Refuse, Fail, TooLarge, Undecided}
-use Rattle.nom_internal.specs.Outcome.ParsesAnswer.{ParseRanOut, Parsed}
-use Rattle.nom_internal.specs.Meaning.{Meaning, ParsesMeaning}
 use Rattle.nom_iterator.specs.Iterated.{AreItems, CanGive}
 use Rattle.nom_iterator.specs.Steps.{Moves, Gives, Next, GivesItems, EndsThere, StaysEnded, FinishesSo, IsFinish, has_ended, HoldsEnd, EndsHolding}
 use Rattle.nom_iterator.specs.Steps.{Finishes, FinishesThere}
@@ -42,9 +38,8 @@ module _ {I A V O E : Type 0} (w : Model I A) (IsOutput : V → O → Type 0) (m
             g.2;
       }
   item_of_answer (Ok (k, u)) v j s g Refuse a h = absurd (cc (h.2))
-  item_of_answer (Ok (k, u)) v j s g Fail a h = absurd (cc (h.2))
-  item_of_answer (Ok (k, u)) v j s g TooLarge a h = absurd (cc (h.2))
-  item_of_answer (Ok (k, u)) v j s g (Undecided d) a h = absurd (cc (h.2))
+  item_of_answer (Ok (k, u)) v j s g (Stop (Fails cause)) a h = absurd (cc (h.2))
+  item_of_answer (Ok (k, u)) v j s g (Stop (Needs d)) a h = absurd (cc (h.2))
   item_of_answer (Err (Variant.Error e)) v j s g o a h = absurd (cc (g.0))
   item_of_answer (Err (Variant.Failure e)) v j s g o a h = absurd (cc (g.0))
   item_of_answer (Err (Variant.Incomplete k)) v j s g o a h = absurd (cc (g.0))
@@ -66,9 +61,8 @@ module _ {I A V O E : Type 0} (w : Model I A) (IsOutput : V → O → Type 0) (m
       Parses w IsOutput i (m.blames true i) o q → EndsHolding m i s × (j ≡ i)
   end_of_answer q j s g (Accept n t) a h = absurd (cc ((subst (λ z. Moves i z None j s) h.4 g).0))
   end_of_answer q j s g Refuse a h = let k = subst (λ z. Moves i z None j s) h.2 g in (inl (Refuse, a, k.2), k.1)
-  end_of_answer q j s g Fail a h = let k = subst (λ z. Moves i z None j s) h.2 g in (inl (Fail, a, (h.0, h.1, k.2)), k.1)
-  end_of_answer q j s g TooLarge a h = let k = subst (λ z. Moves i z None j s) h.2 g in (inl (TooLarge, a, (h.0, h.1, k.2)), k.1)
-  end_of_answer q j s g (Undecided n) a h = let k = subst (λ z. Moves i z None j s) h.2 g in (inl (Undecided n, a, (h.0, h.1, k.2)), k.1)
+  end_of_answer q j s g (Stop (Fails cause)) a h = let k = subst (λ z. Moves i z None j s) h.2 g in (inl (Stop (Fails cause), a, (h.0, h.1, k.2)), k.1)
+  end_of_answer q j s g (Stop (Needs d)) a h = let k = subst (λ z. Moves i z None j s) h.2 g in (inl (Stop (Needs d), a, (h.0, h.1, k.2)), k.1)
 
   end_of : (q : IResult I O E) (j : I) (s : State E) → Moves i q None j s → ParsesMeaning w IsOutput m true i q →
       EndsHolding m i s × (j ≡ i)
@@ -109,9 +103,8 @@ module _ {I V E : Type 0} (m : Meaning I V E) (i : I) where
   ended_finishes : (o : Outcome V) (s : State E) (r : IResult I (Unit {0}) E) → HoldsEnd m i o s → IsFinish i s r → Finishes m i o r
   ended_finishes (Accept n v) s r h f = absurd h
   ended_finishes Refuse s r h f = subst (λ z. IsFinish i z r) h f
-  ended_finishes Fail s r h f = (h.0, h.1, subst (λ z. IsFinish i z r) h.2 f)
-  ended_finishes TooLarge s r h f = (h.0, h.1, subst (λ z. IsFinish i z r) h.2 f)
-  ended_finishes (Undecided k) s r h f = (h.0, h.1, subst (λ z. IsFinish i z r) h.2 f)
+  ended_finishes (Stop (Fails cause)) s r h f = (h.0, h.1, subst (λ z. IsFinish i z r) h.2 f)
+  ended_finishes (Stop (Needs k)) s r h f = (h.0, h.1, subst (λ z. IsFinish i z r) h.2 f)
 
   finishes_there : (s : State E) (r : IResult I (Unit {0}) E) → EndsHolding m i s → IsFinish i s r → FinishesThere m i r
   finishes_there s r (inl h) f = inl (h.0, h.1, ended_finishes h.0 s r h.2 f)

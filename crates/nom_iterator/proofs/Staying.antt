@@ -1,13 +1,8 @@
 -- Items stay on longer inputs, and are the same on inputs that are equal as models.
 use Rattle.std.proofs.Common.{arith, ◌≡◌, ℕ, suc, zero, ◌<◌, ◌≤◌, Bool, true, false, List, [], ◌∷◌, ◌++◌, length, map, refl, sym, ◌∙◌, ap, subst}
 use Rattle.std.specs.List.{AllZip}
-use Rattle.nom_traits.specs.Input.{Model, InputLaws, IsSuffixOf, Related, Extends, IsSame, input_len, items_len}
-use Rattle.nom_traits.specs.Rests.{rest_related, items_len-append}
-use Rattle.nom_traits.specs.View.{View}
-use Rattle.nom_internal.specs.Pinned.{IsPinned}
-use Rattle.nom_internal.specs.Outcome.{Outcome}
-use Rattle.nom_internal.specs.Outcome.Outcome.{Accept}
-use Rattle.nom_internal.specs.Meaning.{Meaning, IsLawful, IsSteady, Keeps, Agree}
+use Rattle.nom_internal.specs.Prelude.{Model, InputLaws, IsSuffixOf, Related, Extends, IsSame, input_len, items_len, rest_related, items_len-append, View}
+use Rattle.nom_internal.specs.Prelude.{IsPinned, Outcome, Accept, Meaning, IsLawful, IsSteady, Keeps, Agree}
 use Rattle.nom_iterator.specs.Iterated.{Ends, AreItems, ItemsStay, ItemsAreOne, ItemsFit, OutputsStay}
 
 module _ {V : Type 0} where

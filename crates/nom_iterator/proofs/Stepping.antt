@@ -1,9 +1,7 @@
 -- What one call of `next` shows.
 use Rattle.std.proofs.Common.{◌≡◌, Option, sym, subst}
-use Rattle.nom_traits.specs.Input.{Model}
-use Rattle.nom_internal.specs.Meaning.{Meaning, ParsesMeaning}
+use Rattle.nom_internal.specs.Prelude.{Model, Meaning, ParsesMeaning, IResult}
 use Rattle.std.specs.Prelude.{true}
-use Rattle.nom_error.specs.Answers.{IResult}
 use Rattle.nom_iterator.specs.Steps.{Moves, Gives, IsStep}
 use Rattle.nom_iterator.specs.declared.items.State.{State}
 use Rattle.nom_iterator.specs.declared.items.State.TheVariants.{Running}

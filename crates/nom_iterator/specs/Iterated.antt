@@ -1,19 +1,13 @@
 -- The items that a parser accepts one after another.
 use Rattle.std.specs.Prelude.{◌≡◌, ℕ, suc, zero, ◌<◌, ◌≤◌, Bool, true, false, List, [], ◌∷◌, ◌++◌, length, map}
 use Rattle.std.specs.List.{AllZip}
-use Rattle.nom_traits.specs.Input.{Model, IsSuffixOf, Extends, IsSame, input_len}
-use Rattle.nom_traits.specs.View.{View}
-use Rattle.nom_internal.specs.Outcome.{Outcome}
-use Rattle.nom_internal.specs.Outcome.Outcome.{Accept, Refuse, Fail, TooLarge, Undecided}
-use Rattle.nom_internal.specs.Meaning.{Meaning}
+use Rattle.nom_internal.specs.Prelude.{Model, IsSuffixOf, Extends, IsSame, input_len, View, Outcome, Accept, Refuse, Stop, Meaning}
 
 -- the outcome is no acceptance
 abbrev pub Ends : {V : Type 0} → Outcome V → Type 0
 Ends (Accept n v) = ⊥
 Ends Refuse = Unit {0}
-Ends Fail = Unit {0}
-Ends TooLarge = Unit {0}
-Ends (Undecided k) = Unit {0}
+Ends (Stop why) = Unit {0}
 
 module _ {I A V : Type 0} (w : Model I A) (Answers : I → Outcome V → Type 0) where
   -- The trees of the items from an input on, up to a limit: each of a piece that is accepted, and each begun where the one before

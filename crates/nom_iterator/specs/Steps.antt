@@ -2,14 +2,8 @@
 use Rattle.std.specs.Prelude.{◌≡◌, Bool, true, false, ◌⊎◌, List, length, Ok, Err, Option, Some, None}
 use Rattle.std.specs.Iterator.{Yields}
 use Rattle.std.specs.List.{AllZip}
-use Rattle.nom_error.specs.Answers.{IResult, size_of}
-use Rattle.nom_error.specs.Modes.{modes}
-use Rattle.nom_error.specs.declared.answer.Needed.{Needed}
+use Rattle.nom_internal.specs.Prelude.{IResult, size_of, modes, Needed, Model, Outcome, Accept, Refuse, Stop, Fails, Needs, Meaning, ParsesMeaning}
 use Rattle.nom_error.specs.declared.answer.Err.TheVariants as Variant
-use Rattle.nom_traits.specs.Input.{Model}
-use Rattle.nom_internal.specs.Outcome.{Outcome}
-use Rattle.nom_internal.specs.Outcome.Outcome.{Accept, Refuse, Fail, TooLarge, Undecided}
-use Rattle.nom_internal.specs.Meaning.{Meaning, ParsesMeaning}
 use Rattle.nom_iterator.specs.Iterated.{CanGive}
 use Rattle.nom_iterator.specs.declared.items.State.{State}
 use Rattle.nom_iterator.specs.declared.items.State.TheVariants as Held
@@ -61,9 +55,8 @@ module _ {I V E : Type 0} (m : Meaning I V E) (i : I) where
   abbrev pub HoldsEnd : Outcome V → State E → Type 0
   HoldsEnd (Accept n v) s = ⊥
   HoldsEnd Refuse s = s ≡ Held.Done
-  HoldsEnd Fail s = (e : E) × m.blames true i e × (s ≡ Held.Failure e)
-  HoldsEnd TooLarge s = (e : E) × m.blames true i e × (s ≡ Held.Failure e)
-  HoldsEnd (Undecided k) s = (needed : Needed) × (size_of needed ≡ k) × (s ≡ Held.Incomplete needed)
+  HoldsEnd (Stop (Fails cause)) s = (e : E) × m.blames true i e × (s ≡ Held.Failure e)
+  HoldsEnd (Stop (Needs k)) s = (needed : Needed) × (size_of needed ≡ k) × (s ≡ Held.Incomplete needed)
 
   -- the items end at i, since something else than an acceptance is answered there, or since memory runs out: then that is held
   abbrev pub EndsHolding : State E → Type 0
@@ -73,9 +66,8 @@ module _ {I V E : Type 0} (m : Meaning I V E) (i : I) where
   abbrev pub Finishes : Outcome V → IResult I (Unit {0}) E → Type 0
   Finishes (Accept n v) r = ⊥
   Finishes Refuse r = r ≡ Ok (i, tt)
-  Finishes Fail r = (e : E) × m.blames true i e × (r ≡ Err (Variant.Failure e))
-  Finishes TooLarge r = (e : E) × m.blames true i e × (r ≡ Err (Variant.Failure e))
-  Finishes (Undecided k) r = (needed : Needed) × (size_of needed ≡ k) × (r ≡ Err (Variant.Incomplete needed))
+  Finishes (Stop (Fails cause)) r = (e : E) × m.blames true i e × (r ≡ Err (Variant.Failure e))
+  Finishes (Stop (Needs k)) r = (needed : Needed) × (size_of needed ≡ k) × (r ≡ Err (Variant.Incomplete needed))
 
   -- and where they ended there
   abbrev pub FinishesThere : IResult I (Unit {0}) E → Type 0

@@ -58,11 +58,11 @@ impl<I: Items> Clone for Located<I> {
     }
 }
 
-impl<I: Input + ByteItems> Viewed for Located<I> {
+impl<I: Viewed + ByteItems> Viewed for Located<I> {
     ghost view = { moving_view (located (λ x. x.fragment) (λ x. place x.offset x.line x.column) I.read) I.view };
 }
 
-impl<I: Input + ByteItems> Items for Located<I> {
+impl<I: ByteItems> Items for Located<I> {
     type Item = I::Item;
 
     ghost model = { located_model (λ x. x.fragment) (λ x. place x.offset x.line x.column) I.read I.model };
@@ -180,7 +180,7 @@ fn next_end(bytes: &[u8], start: usize) -> Option<usize>
     }
 }
 
-impl<I: Input + ByteItems> Located<I> {
+impl<I: ByteItems> Located<I> {
     /// An input at its start: offset 0, line 1, column 1.
     #[inline(always)]
     pub fn new(fragment: I) -> Located<I>
@@ -229,7 +229,7 @@ impl<I: Input + ByteItems> Located<I> {
     }
 }
 
-impl<I: Input + ByteItems> AsBytes for Located<I> {
+impl<I: ByteItems> AsBytes for Located<I> {
     ghost bytes = { λ x. I.bytes x.fragment };
 
     #[inline(always)]
@@ -238,20 +238,20 @@ impl<I: Input + ByteItems> AsBytes for Located<I> {
     }
 }
 
-impl<I: Input + ByteItems> ByteItems for Located<I> {
+impl<I: ByteItems> ByteItems for Located<I> {
     ghost read = { I.read };
 
     ghost reading = { moving_reads (located (λ x. x.fragment) (λ x. place x.offset x.line x.column) I.read) I.model I.reading };
 }
 
-impl<I: Input + ByteItems> Offset for Located<I> {
+impl<I: ByteItems> Offset for Located<I> {
     #[inline(always)]
     fn offset(&self, second: &Self) -> usize {
         second.offset - self.offset
     }
 }
 
-impl<T, I: Input + ByteItems + Compare<T>> Compare<T> for Located<I> {
+impl<T, I: ByteItems + Compare<T>> Compare<T> for Located<I> {
     ghost Tag = { I.Tag };
 
     ghost tag_model = { I.tag_model };
@@ -282,7 +282,7 @@ impl<T, I: Input + ByteItems + Compare<T>> Compare<T> for Located<I> {
     ghost comparing_no_case = { moving_comparing (located (λ x. x.fragment) (λ x. place x.offset x.line x.column) I.read) I.model I.comparing_no_case };
 }
 
-impl<T, I: Input + ByteItems + FindSubstring<T>> FindSubstring<T> for Located<I> {
+impl<T, I: ByteItems + FindSubstring<T>> FindSubstring<T> for Located<I> {
     ghost Needle = { I.Needle };
 
     ghost needle_model = { I.needle_model };
@@ -297,7 +297,7 @@ impl<T, I: Input + ByteItems + FindSubstring<T>> FindSubstring<T> for Located<I>
     ghost finding = { moving_finding (located (λ x. x.fragment) (λ x. place x.offset x.line x.column) I.read) I.model I.finding };
 }
 
-impl<R, I: Input + ByteItems + ParseTo<R>> ParseTo<R> for Located<I> {
+impl<R, I: ByteItems + ParseTo<R>> ParseTo<R> for Located<I> {
     ghost parses = { λ x. I.parses x.fragment };
 
     #[inline(always)]
@@ -306,7 +306,7 @@ impl<R, I: Input + ByteItems + ParseTo<R>> ParseTo<R> for Located<I> {
     }
 }
 
-impl<A: Allocator + Copy, I: Input + ByteItems + ExtendInto<A>> ExtendInto<A> for Located<I> {
+impl<A: Allocator + Copy, I: ByteItems + ExtendInto<A>> ExtendInto<A> for Located<I> {
     type Item = <I as ExtendInto<A>>::Item;
 
     type Extender = <I as ExtendInto<A>>::Extender;

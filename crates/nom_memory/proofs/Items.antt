@@ -1,14 +1,7 @@
 -- Where items within limits run out of memory, and what is accepted where they are.
 use Rattle.std.proofs.Common.{◌≡◌, ℕ, ◌+◌, Bool, true, false, Option, Some, None, ◌⊎◌, inl, inr, List, [], ◌∷◌, zero, suc, lit<, subst}
 use Rattle.std.specs.Prelude.{ltb}
-use Rattle.nom_error.specs.Errors.{Errors}
-use Rattle.nom_error.specs.Modes.{Modes, modes}
-use Rattle.nom_error.specs.declared.kind.ErrorKind.{ErrorKind}
-use Rattle.nom_traits.specs.Input.{Model}
-use Rattle.nom_internal.specs.Outcome.{Outcome}
-use Rattle.nom_internal.specs.Outcome.Outcome.{Accept, Refuse, Fail, TooLarge, Undecided}
-use Rattle.nom_internal.specs.Meaning.{Meaning, IsLawful}
-use Rattle.nom_internal.specs.Sequence.{after}
+use Rattle.nom_internal.specs.Prelude.{Errors, Modes, modes, ErrorKind, Model, Outcome, Accept, Refuse, Stop, Meaning, IsLawful, after}
 use Rattle.nom_repeat.specs.Repeat.{IsBelow, OnReply, Pieces, Replies, TurnsBy}
 use Rattle.nom_repeat.specs.Repeat.Turn.{Takes, Ends}
 use Rattle.nom_repeat.specs.Items.{item_turn, refused_turn, item_errors, EmptyAsks, ItemAsks, items_meaning}
@@ -27,9 +20,7 @@ module _ {I V : Type 0} (b : Limits) (Item : I → Outcome V → Type 0) where
       IsAccepted Item i
   taken_by k i a v (Some (Accept n u)) h e = (n, u, h.1)
   taken_by k i a v (Some Refuse) h e = absurd (refused_takes_none (ltb k b.least) a v e)
-  taken_by k i a v (Some Fail) h e = absurd (cc (e))
-  taken_by k i a v (Some TooLarge) h e = absurd (cc (e))
-  taken_by k i a v (Some (Undecided d)) h e = absurd (cc (e))
+  taken_by k i a v (Some (Stop why)) h e = absurd (cc (e))
   taken_by k i a v None h e = absurd (cc (e))
 
   pub taken_accepted : (k : ℕ) (i : I) (a : ℕ) (v : V) → TurnsBy b.most (item_turn b) (λ _. Item) k i (Takes a v) → IsAccepted Item i
@@ -56,9 +47,7 @@ module _ {I A V E : Type 0} (w : Model I A) (errs : Errors I E) (b : Limits) (Gr
   asked_by k j (Some (Accept zero v)) h q = (empty_kept b.empty q, (0, v, h.1))
   asked_by k j (Some (Accept (suc n) v)) h q = (q, (suc n, v, h.1))
   asked_by k j (Some Refuse) h q = absurd (no q.2.1)
-  asked_by k j (Some Fail) h q = absurd q
-  asked_by k j (Some TooLarge) h q = absurd q
-  asked_by k j (Some (Undecided d)) h q = absurd q
+  asked_by k j (Some (Stop why)) h q = absurd q
   asked_by k j None h q = absurd q
 
   asked : (k : ℕ) (j : I) → w.IsKnown j → Asked k j → Accumulated × IsAccepted (m.answers mode.streaming) j
@@ -80,9 +69,7 @@ module _ {I A V E : Type 0} (w : Model I A) (errs : Errors I E) (b : Limits) (Gr
   no_items : (n : ℕ) (v : V) (us : List V) (taken : ℕ) (ending : Outcome (Unit {0})) → Accept n (v ∷ us) ≡ after taken (λ _. []) ending → ⊥
   no_items n v us taken (Accept k t) e = absurd (cc (e))
   no_items n v us taken Refuse e = absurd (cc (e))
-  no_items n v us taken Fail e = absurd (cc (e))
-  no_items n v us taken TooLarge e = absurd (cc (e))
-  no_items n v us taken (Undecided k) e = absurd (cc (e))
+  no_items n v us taken (Stop why) e = absurd (cc (e))
 
   some_by : (n : ℕ) (v : V) (us trees : List V) (taken : ℕ) (ending : Outcome (Unit {0})) →
       Pieces w (TurnsBy b.most (item_turn b) (λ _. m.answers s)) (λ k j. TurnsBy b.most (item_turn b) (λ _. m.answers s) k j (Ends ending)) 0 i trees taken →
@@ -104,9 +91,7 @@ module _ {I A V E : Type 0} (w : Model I A) (errs : Errors I E) (few : TooFew) (
   unended n vs taken ending (Some (Accept zero v)) h e q = absurd (cc (e))
   unended n vs taken ending (Some (Accept (suc k) v)) h e q = absurd (cc (e))
   unended n vs taken ending (Some Refuse) h e q = not_ended n vs taken (λ _. []) ending Refuse (cc (e)) (λ z. absurd (cc (z))) q
-  unended n vs taken ending (Some Fail) h e q = not_ended n vs taken (λ _. []) ending Fail (cc (e)) (λ z. absurd (cc (z))) q
-  unended n vs taken ending (Some TooLarge) h e q = not_ended n vs taken (λ _. []) ending TooLarge (cc (e)) (λ z. absurd (cc (z))) q
-  unended n vs taken ending (Some (Undecided d)) h e q = not_ended n vs taken (λ _. []) ending (Undecided d) (cc (e)) (λ z. absurd (cc (z))) q
+  unended n vs taken ending (Some (Stop why)) h e q = not_ended n vs taken (λ _. []) ending (Stop why) (cc (e)) (λ z. absurd (cc (z))) q
   unended n vs taken ending None h e q = h (lit< tt)
 
   one_by : (n : ℕ) (vs trees : List V) (taken : ℕ) (ending : Outcome (Unit {0})) →

@@ -1,12 +1,7 @@
 -- Where lists run out of memory.
 use Rattle.std.proofs.Common.{◌≡◌, ℕ, Bool, true, false, inl, inr, List, [], ◌∷◌}
-use Rattle.nom_error.specs.Errors.{Errors}
-use Rattle.nom_error.specs.Modes.{Modes, with_outputs}
-use Rattle.nom_error.specs.declared.kind.ErrorKind.{ErrorKind}
+use Rattle.nom_internal.specs.Prelude.{Errors, Modes, with_outputs, ErrorKind, Model, InputLaws, Meaning, IsLawful, RunsOutFirst, RunsOutNext, Accept}
 use Rattle.nom_error.specs.declared.kind.ErrorKind.TheVariants as Kind
-use Rattle.nom_traits.specs.Input.{Model, InputLaws}
-use Rattle.nom_internal.specs.Meaning.{Meaning, IsLawful}
-use Rattle.nom_internal.specs.Sequence.ThenRunsOut.{RunsOutFirst, RunsOutNext}
 use Rattle.nom_repeat.specs.Bounds.{any_limits, one_limits, exact_limits, bounded_limits}
 use Rattle.nom_repeat.specs.Inverted.{Either}
 use Rattle.nom_repeat.specs.Items.{items_meaning}
@@ -21,7 +16,6 @@ use Rattle.nom_multi_fold.specs.Ranges.{range_limits, range_meaning}
 use Rattle.nom_multi_length.specs.Lengths.{length_count_meaning}
 use Rattle.std.specs.Prelude.{ltb}
 use Rattle.std.specs.declared.ops.Bound.{Bound}
-use Rattle.nom_internal.specs.Outcome.Outcome.{Accept}
 use Rattle.nom_memory.specs.Growths.{AlwaysFrugal, IsAccepted, GrowsByItems, GrowsBySeparated, GrowsByCounted}
 use Rattle.nom_memory.proofs.Items.{items_grow, some_accepted, one_accepted}
 

@@ -1,16 +1,8 @@
 -- Where texts of pieces run out of memory.
 use Rattle.std.proofs.Common.{◌≡◌, ℕ, ◌+◌, Bool, true, false, Option, Some, None, ◌⊎◌, inl, inr, List, [], ◌∷◌, ◌++◌, zero, suc, refl, sym, ◌∙◌, subst}
 use Rattle.std.proofs.Common.{ap, arith}
-use Rattle.nom_error.specs.Errors.{Errors}
-use Rattle.nom_error.specs.Modes.{Modes, with_errors, with_outputs}
-use Rattle.nom_traits.specs.Input.{Model, InputLaws, IsSuffixOf, IsSame, items_len}
-use Rattle.nom_traits.specs.Rests.{rest_alike}
-use Rattle.nom_internal.specs.Outcome.{Outcome}
-use Rattle.nom_internal.specs.Outcome.Outcome.{Accept, Refuse, Fail, TooLarge, Undecided}
-use Rattle.nom_internal.specs.Meaning.{Meaning, IsLawful}
-use Rattle.nom_internal.specs.Cases.{labelled, labelled_meaning}
-use Rattle.nom_internal.specs.Choice.{GoesOnRefused}
-use Rattle.nom_internal.specs.Sequence.{GoesOn, after}
+use Rattle.nom_internal.specs.Prelude.{Errors, Modes, with_errors, with_outputs, Model, InputLaws, IsSuffixOf, IsSame, items_len, rest_alike, Outcome, Accept}
+use Rattle.nom_internal.specs.Prelude.{Refuse, Stop, Meaning, IsLawful, labelled, labelled_meaning, GoesOnRefused, GoesOn, after, Fails, Needs}
 use Rattle.nom_repeat.specs.Repeat.{IsBelow, OnReply, Pieces, Replies, TurnsBy}
 use Rattle.nom_repeat.specs.Repeat.Turn.{Takes}
 use Rattle.nom_bytes_escaped.specs.declared.next_piece.Control.{Control}
@@ -29,24 +21,18 @@ after_accept : {P Q : Type 0} (n k : ℕ) (t : Q) (tree : P → Q) (o : Outcome 
     (m : ℕ) × (u : P) × (o ≡ Accept m u) × (t ≡ tree u)
 after_accept n k t tree (Accept m u) e = (m, u, refl, cc (e))
 after_accept n k t tree Refuse e = absurd (cc (e))
-after_accept n k t tree Fail e = absurd (cc (e))
-after_accept n k t tree TooLarge e = absurd (cc (e))
-after_accept n k t tree (Undecided d) e = absurd (cc (e))
+after_accept n k t tree (Stop why) e = absurd (cc (e))
 
 refuse_of : {P Q : Type 0} (label : P → Q) (a : Outcome P) → Refuse ≡ labelled label a → a ≡ Refuse
 refuse_of label (Accept k t) e = absurd (cc (e))
 refuse_of label Refuse e = refl
-refuse_of label Fail e = absurd (cc (e))
-refuse_of label TooLarge e = absurd (cc (e))
-refuse_of label (Undecided d) e = absurd (cc (e))
+refuse_of label (Stop why) e = absurd (cc (e))
 
 accept_of : {P Q : Type 0} (n : ℕ) (u : Q) (label : P → Q) (a : Outcome P) → Accept n u ≡ labelled label a →
     (k : ℕ) × (t : P) × (a ≡ Accept k t) × (u ≡ label t)
 accept_of n u label (Accept k t) e = (k, t, refl, cc (e))
 accept_of n u label Refuse e = absurd (cc (e))
-accept_of n u label Fail e = absurd (cc (e))
-accept_of n u label TooLarge e = absurd (cc (e))
-accept_of n u label (Undecided d) e = absurd (cc (e))
+accept_of n u label (Stop why) e = absurd (cc (e))
 
 -- a rest after nothing is the input
 same_rest : {I A : Type 0} (w : Model I A) → InputLaws w → (i j : I) (n : ℕ) → n ≡ 0 → IsSuffixOf w i n j → IsSame w j i
@@ -106,9 +92,7 @@ module _ {I A U W E : Type 0} (w : Model I A) (l : InputLaws w) (IsControl : A �
           BehindControl w IsControl (IsAccepted (g.answers s)) i
       by (Accept k c) b x = behind k c b x.0 x.2 x.1 x.3 x.4
       by Refuse b x = absurd (cc (x))
-      by Fail b x = absurd (cc (x))
-      by TooLarge b x = absurd (cc (x))
-      by (Undecided d) b x = absurd (cc (x))
+      by (Stop why) b x = absurd (cc (x))
 
   piece_at : (i : I) (n : ℕ) (v : Piece U W) → (piece_meaning w IsControl lack m g).answers s i (Accept n (Found v)) → HasPiece i
   piece_at i n v a = by a.first a.answered a.goes_on
@@ -124,9 +108,7 @@ module _ {I A U W E : Type 0} (w : Model I A) (l : InputLaws w) (IsControl : A �
                 b.answered),
             escaped_at i n v e,
           )
-      by Fail b e = absurd (cc (e))
-      by TooLarge b e = absurd (cc (e))
-      by (Undecided d) b e = absurd (cc (e))
+      by (Stop why) b e = absurd (cc (e))
 
   -- at an input that is equal as models
   piece_alike : (i j : I) → w.IsKnown i → w.IsKnown j → IsSame w j i → HasPiece j → HasPiece i
@@ -164,9 +146,7 @@ module _ {I A U W E : Type 0} (w : Model I A) (l : InputLaws w) (IsControl : A �
           GoesOn w (λ _ t. t) (λ b. (by_left Done (piece_meaning w IsControl lack m g) b).answers s) i first (Accept n (Found v)) → HasPiece i
       by (Accept k b) c x = on_left k b c.0 x.0 x.2 x.1 x.3 x.4
       by Refuse c x = absurd (cc (x))
-      by Fail c x = absurd (cc (x))
-      by TooLarge c x = absurd (cc (x))
-      by (Undecided d) c x = absurd (cc (x))
+      by (Stop why) c x = absurd (cc (x))
 
   next_piece_taken : (i : I) (u : NextPiece (Piece U W)) (n k a : ℕ) (v : Piece U W) → Takes a v ≡ by_next_piece u k n → (x : Piece U W) × (u ≡ Found x)
   next_piece_taken i (Found x) n k a v e = (x, refl)
@@ -181,9 +161,7 @@ module _ {I A U W E : Type 0} (w : Model I A) (l : InputLaws w) (IsControl : A �
       let x = next_piece_taken i u n k a v e in
       next_piece_at i n x.0 h (subst (λ z. (next_piece_meaning w IsControl lack m g).answers s i (Accept n z)) x.1 r.1)
   taken_by k i a v (Some Refuse) h r e = absurd (cc (e))
-  taken_by k i a v (Some Fail) h r e = absurd (cc (e))
-  taken_by k i a v (Some TooLarge) h r e = absurd (cc (e))
-  taken_by k i a v (Some (Undecided d)) h r e = absurd (cc (e))
+  taken_by k i a v (Some (Stop why)) h r e = absurd (cc (e))
   taken_by k i a v None h r e = absurd (cc (e))
 
 module _ {I A U W E : Type 0} (w : Model I A) (l : InputLaws w) (IsControl : A → Type 0) (errs : Errors I E) (m : Meaning I U E) (g : Meaning I W E)
@@ -211,9 +189,8 @@ module _ {I A U W E : Type 0} (w : Model I A) (l : InputLaws w) (IsControl : A �
       (mode.outputs ≡ true) × Piece_at j
   asked_by k j (Some (Accept n u)) h r z = on_next_piece k j n u h r.1 z
   asked_by k j (Some Refuse) h r z = absurd z
-  asked_by k j (Some Fail) h r z = absurd z
-  asked_by k j (Some TooLarge) h r z = absurd z
-  asked_by k j (Some (Undecided d)) h r z = absurd z
+  asked_by k j (Some (Stop (Fails cause))) h r z = absurd z
+  asked_by k j (Some (Stop (Needs d))) h r z = absurd z
   asked_by k j None h r z = absurd z
 
   asked : (k : ℕ) (j : I) → w.IsKnown j → Asked k j → (mode.outputs ≡ true) × Piece_at j

@@ -1,14 +1,8 @@
 -- Where items until an end run out of memory.
 use Rattle.std.proofs.Common.{◌≡◌, ℕ, ◌+◌, Bool, true, false, Option, Some, None, ◌⊎◌, inl, inr, List, [], ◌∷◌, zero, suc, refl, sym, ◌∙◌, subst}
-use Rattle.nom_error.specs.Errors.{Errors}
-use Rattle.nom_error.specs.Modes.{Modes, with_errors}
-use Rattle.nom_traits.specs.Input.{Model}
-use Rattle.nom_internal.specs.Outcome.{Outcome}
-use Rattle.nom_internal.specs.Outcome.Outcome.{Accept, Refuse, Fail, TooLarge, Undecided}
-use Rattle.nom_internal.specs.Meaning.{Meaning, IsLawful}
-use Rattle.nom_internal.specs.Cases.{labelled, labelled_meaning}
+use Rattle.nom_internal.specs.Prelude.{Errors, Modes, with_errors, Model, Outcome, Accept, Refuse, Stop, Meaning, IsLawful, labelled, labelled_meaning}
+use Rattle.nom_internal.specs.Prelude.{GoesOnRefused}
 use Rattle.nom_internal.specs.laws.CaseLaws.{labelled_lawful}
-use Rattle.nom_internal.specs.Choice.{GoesOnRefused}
 use Rattle.nom_internal.specs.laws.ChoiceLaws.{otherwise_lawful}
 use Rattle.nom_repeat.specs.Repeat.{IsBelow, OnReply, Pieces, Replies, TurnsBy}
 use Rattle.nom_repeat.specs.Repeat.Turn.{Takes}
@@ -24,16 +18,12 @@ module _ {I V T E : Type 0} (m : Meaning I V E) (end : Meaning I T E) (s : Bool)
       (k : ℕ) × (t : P) × (a ≡ Accept k t) × (u ≡ label t)
   label_of n u label (Accept k t) e = (k, t, refl, cc (e))
   label_of n u label Refuse e = absurd (cc (e))
-  label_of n u label Fail e = absurd (cc (e))
-  label_of n u label TooLarge e = absurd (cc (e))
-  label_of n u label (Undecided d) e = absurd (cc (e))
+  label_of n u label (Stop why) e = absurd (cc (e))
 
   refused_of : {P : Type 0} (label : P → T ⊎ V) (a : Outcome P) → Refuse ≡ labelled label a → a ≡ Refuse
   refused_of label (Accept k t) e = absurd (cc (e))
   refused_of label Refuse e = refl
-  refused_of label Fail e = absurd (cc (e))
-  refused_of label TooLarge e = absurd (cc (e))
-  refused_of label (Undecided d) e = absurd (cc (e))
+  refused_of label (Stop why) e = absurd (cc (e))
 
   end_is_no_item : (v : V) (t : T) → ◌≡◌ {A = T ⊎ V} (inr v) (inl t) → ⊥
   end_is_no_item v t e = absurd (cc (e))
@@ -53,9 +43,7 @@ module _ {I V T E : Type 0} (m : Meaning I V E) (end : Meaning I T E) (s : Bool)
             subst (λ z. end.answers s z Refuse) (sym b.at_is) (subst (end.answers s b.at) (refused_of inl b.outcome b.fact) b.answered),
             (c.0, c.1, subst (λ z. m.answers s z (Accept c.0 c.1)) (sym e.at_is) (subst (m.answers s e.at) c.2 e.answered)),
           )
-      by Fail b e = absurd (cc (e))
-      by TooLarge b e = absurd (cc (e))
-      by (Undecided d) b e = absurd (cc (e))
+      by (Stop why) b e = absurd (cc (e))
 
   step_taken : (u : T ⊎ V) (n a : ℕ) (v : V) → Takes a v ≡ step_turn u n → (x : V) × (u ≡ inr x)
   step_taken (inl t) n a v e = absurd (cc (e))
@@ -66,9 +54,7 @@ module _ {I V T E : Type 0} (m : Meaning I V E) (end : Meaning I T E) (s : Bool)
   taken_by i a v (Some (Accept n u)) h e =
       let x = step_taken u n a v e in item_of i n x.0 (subst (λ z. (end_or_item end m).answers s i (Accept n z)) x.1 h.1)
   taken_by i a v (Some Refuse) h e = absurd (cc (e))
-  taken_by i a v (Some Fail) h e = absurd (cc (e))
-  taken_by i a v (Some TooLarge) h e = absurd (cc (e))
-  taken_by i a v (Some (Undecided d)) h e = absurd (cc (e))
+  taken_by i a v (Some (Stop why)) h e = absurd (cc (e))
   taken_by i a v None h e = absurd (cc (e))
 
 module _ {I A V T E : Type 0} (w : Model I A) (errs : Errors I E) (m : Meaning I V E) (end : Meaning I T E) (p : IsLawful w m) (q : IsLawful w end)
@@ -88,9 +74,7 @@ module _ {I A V T E : Type 0} (w : Model I A) (errs : Errors I E) (m : Meaning I
       TillAsks ((mode.errors ≡ true) × errs.grows) (mode.outputs ≡ true) reply → (mode.outputs ≡ true) × IsItem m end mode.streaming j
   asked_by k j (Some (Accept n u)) h z = item_asks j u n h.1 z
   asked_by k j (Some Refuse) h z = absurd (none z.1)
-  asked_by k j (Some Fail) h z = absurd z
-  asked_by k j (Some TooLarge) h z = absurd z
-  asked_by k j (Some (Undecided d)) h z = absurd z
+  asked_by k j (Some (Stop why)) h z = absurd z
   asked_by k j None h z = absurd z
 
   asked : AlwaysFrugal m × AlwaysFrugal end → (k : ℕ) (j : I) → w.IsKnown j → Asked k j → (mode.outputs ≡ true) × IsItem m end mode.streaming j

@@ -3,13 +3,7 @@
 -- Its parts are frugal and its errors take no memory. Then the only growth is that of the list or text itself, and it grows by what was
 -- accepted: so memory runs out only where outputs are built, and a first item or piece is accepted.
 use Rattle.std.specs.Prelude.{◌≡◌, ℕ, Bool, true, ◌⊎◌}
-use Rattle.nom_error.specs.Errors.{Errors}
-use Rattle.nom_error.specs.Modes.{Modes}
-use Rattle.nom_traits.specs.Input.{Model}
-use Rattle.nom_internal.specs.Outcome.{Outcome}
-use Rattle.nom_internal.specs.Outcome.Outcome.{Accept, Refuse}
-use Rattle.nom_internal.specs.Meaning.{Meaning}
-use Rattle.nom_internal.specs.Sequence.{OnRest}
+use Rattle.nom_internal.specs.Prelude.{Errors, Modes, Model, Outcome, Accept, Refuse, Meaning, OnRest}
 use Rattle.nom_bytes_escaped.specs.NextPieces.{BehindControl}
 
 -- frugal, whatever is built, in both modes

@@ -5,18 +5,13 @@
 use nom_messages_run::pipe::tell_messages;
 use nom_messages_run::report::Messages;
 use nom_run::counted::Counted;
-use nom_run::error::RunError;
-use nom_run::program::status_of;
-use nom_run::run::write_all;
+use nom_run::program::{status_of, tell_fault};
 use nom_stream::settings::Settings;
 use nom_stream::stream::Stream;
 use std::alloc::Global;
 use std::process::ExitCode;
 use std::rt::{Env, Files};
 use std::{env, io};
-
-// The status where there is no report.
-const NO_REPORT: u8 = 3;
 
 // How standard input is read.
 const SETTINGS: Settings = Settings {
@@ -40,26 +35,13 @@ fn asks_for_input(rt: &(impl Env + Alloc<A = Global>)) -> bool {
     }
 }
 
-// The line that tells why there is no status; none where a write failed.
-fn fault(error: RunError) -> &'static str {
-    match error {
-        RunError::OutOfMemory => "out of memory\n",
-        RunError::Read => "file fault\n",
-        RunError::Write => "",
-        RunError::Usage => "",
-    }
-}
-
 // The lines of standard input, and the status.
 fn tell_input(rt: &(impl Input + Print + Alloc<A = Global>)) -> u8 {
     let mut stream = Stream::new(rt.alloc(), rt.reader(), SETTINGS);
     let mut sink = Counted::new(io::writer(rt));
     match tell_messages(rt.alloc(), &mut stream, &mut sink) {
         Ok(status) => status,
-        Err(error) => {
-            let _ = write_all(&mut sink, fault(error).as_bytes());
-            NO_REPORT
-        }
+        Err(error) => tell_fault(rt, error),
     }
 }
 

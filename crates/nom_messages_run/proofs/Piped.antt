@@ -3,7 +3,7 @@ use Rattle.std.proofs.Common.{arith, ◌≡◌, ℕ, ◌+◌, List, [], ◌∷�
 use Rattle.std.proofs.Common.{IfErr, IfOk, inl, inr, length-append, take, drop}
 use Rattle.std.specs.Io.KnownBytes.{Appends}
 use Rattle.nom_error.specs.declared.value.Error.{Error}
-use Rattle.nom_internal.specs.Meaning.{Meaning}
+use Rattle.nom_internal.specs.Prelude.{Meaning}
 use Rattle.std.proofs.lemmas.List.{take-append-drop}
 use Rattle.nom_run.proofs.Known.{appends-more, appends-none}
 use Rattle.nom_run.specs.declared.error.RunError.{RunError}

@@ -2,11 +2,10 @@
 use Rattle.std.proofs.Common.{◌≡◌, ℕ, Bool, true, ◌<◌, ◌≤◌, List, [], ◌∷◌, length, slice_index, Vec, ◌∙◌, ap, inl, inr}
 use Rattle.nom_error.specs.declared.value.Error.{Error}
 use Rattle.std.specs.Prelude.{codes}
-use Rattle.nom_error.specs.Answers.{IResult}
-use Rattle.nom_traits.specs.Bytes.{bytes_model}
+use Rattle.nom_internal.specs.Prelude.{IResult, bytes_model, Cause}
 use Rattle.nom_growing.specs.Growing.{IsGrown}
 use Rattle.nom_growing.specs.Promises.{HasNoFailure}
-use Rattle.nom.specs.Bytes.{Bytes}
+use Rattle.nom.specs.Bytes.{Bytes, Big}
 use Rattle.example_protocol.specs.declared.message.Message.{Message}
 use Rattle.example_protocol.specs.Messages.{Body, body_of, messages_of}
 use Rattle.nom_run.specs.Report.{IsTold}
@@ -19,7 +18,7 @@ abbrev AreBodies : {A : Type 0} → List Body → Vec Message A → Type 0
 AreBodies {A} = (messages_of {M = A}).IsOutput
 
 abbrev IsBody : Body → Message → Type 0
-IsBody = (body_of (1 ∷ []) (2 ∷ []) (3 ∷ []) (0 ∷ 0 ∷ []) true true).IsOutput
+IsBody = (body_of (1 ∷ []) (2 ∷ []) (3 ∷ []) (0 ∷ 0 ∷ []) Big Big).IsOutput
 
 -- a message has the line of its tree
 same_line : (t : Body) (m : Message) → IsBody t m → message_text m ≡ body_text t
@@ -27,8 +26,8 @@ same_line (inl (inl t)) m h = ap message_text h.given ∙ ap ping_text h.is_outp
 same_line (inl (inr t)) m h = ap message_text h.given ∙ ap (bytes_text (codes "text ")) h.is_output.elements_are
 same_line (inr t) m h = ap message_text h.given
 
-never_fails : (large : Bool) → message_grammar.NeverFails large
-never_fails large = search
+never_fails : (cause : Cause) → message_grammar.NeverFails cause
+never_fails cause = search
 
 pub reported_messages : {A : Type 0} (whole : Bytes) (cuts : List ℕ) (index start : ℕ) →
     (index < length cuts → start ≡ slice_index cuts index) → (length cuts ≤ index → start ≡ length whole.now) → bytes_model.IsKnown whole →
@@ -38,4 +37,4 @@ pub reported_messages : {A : Type 0} (whole : Bytes) (cuts : List ℕ) (index st
 unfolding IsReport
 reported_messages whole cuts index start at_cut at_end known answer text status g none t =
     reported message_grammar bodies_text AreBodies lines_of (λ ts v h. lines-same IsBody body_text message_text same_line ts v.items h) whole
-    cuts index start at_cut at_end known (λ large i k a. none large true i k (never_fails large) a) answer text status g t
+    cuts index start at_cut at_end known (λ cause i k a. none cause true i k (never_fails cause) a) answer text status g t

@@ -4,12 +4,7 @@ use Rattle.std.proofs.Common.{Ok, refl, sym, ◌∙◌, ap, subst, take}
 use Rattle.std.specs.Io.KnownBytes.{Appends}
 use Rattle.std.specs.List.{AllZip}
 use Rattle.nom_error.specs.declared.value.Error.{Error}
-use Rattle.nom_traits.specs.Bytes.{bytes_model, bytes_lawful}
-use Rattle.nom_traits.specs.Input.{IsSuffixOf}
-use Rattle.nom_traits.specs.Rests.{rest_rest}
-use Rattle.nom_internal.specs.Outcome.{Outcome}
-use Rattle.nom_internal.specs.Outcome.Outcome.{Accept, Undecided}
-use Rattle.nom_internal.specs.Meaning.{Meaning, IsLawful}
+use Rattle.nom_internal.specs.Prelude.{bytes_model, bytes_lawful, IsSuffixOf, rest_rest, Outcome, Accept, Stop, Needs, Meaning, IsLawful}
 use Rattle.nom_iterator.specs.Iterated.{AreItems}
 use Rattle.nom_iterator.specs.Iterated as Iterated
 use Rattle.nom_stream.specs.declared.stream.Stop as Why
@@ -77,7 +72,7 @@ module _ {R A V : Type 0} (left : R → Option (List ℕ)) (IsItem : V → Recei
       (why : Option Why.Stop) (k : ℕ) (v : V) → AtWhole m complete place (Accept k v) → TellsWhole IsItem m t (stopped why) place (Accept k v) →
       IsTheEnd complete why → ⊥
   none_accepted lawful t false place known None k v a told end =
-      let same : Accept k v ≡ Undecided told.1 = lawful.one_outcome true place place (Accept k v) (Undecided told.1) known known
+      let same : Accept k v ≡ Stop (Needs told.1) = lawful.one_outcome true place place (Accept k v) (Stop (Needs told.1)) known known
       (record { elements_are = refl; mark_is = refl }) a tt told.2 in
       cc (same)
   none_accepted lawful t true place known None k v a told end = cc (end)

@@ -3,7 +3,7 @@ use Rattle.std.proofs.Common.{inl, inr}
 use Rattle.std.specs.Prelude.{ℕ, List, ◌++◌, codes, Vec}
 use Rattle.std.specs.Fmt.{decimal}
 use Rattle.nom_error.specs.declared.value.Error.{Error}
-use Rattle.nom_internal.specs.Meaning.{Meaning}
+use Rattle.nom_internal.specs.Prelude.{Meaning}
 use Rattle.nom.specs.Bytes.{Bytes}
 use Rattle.example_protocol.specs.declared.message.Message.{Message}
 use Rattle.example_protocol.specs.declared.message.Message.TheVariants.{Ping, Text, Close}

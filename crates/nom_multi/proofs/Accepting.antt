@@ -2,11 +2,8 @@
 use Rattle.std.specs.Prelude.{ltb}
 use Rattle.std.proofs.lemmas.Bool.{le-ltb, ltb-false}
 use Rattle.std.proofs.Common.{◌≡◌, Bool, true, false, ℕ, ◌<◌, ◌≤◌, Some, None, refl}
-use Rattle.nom_error.specs.Errors.{Errors}
+use Rattle.nom_internal.specs.Prelude.{Errors, Model, Accept, Meaning}
 use Rattle.nom_error.specs.declared.kind.ErrorKind.TheVariants as Kind
-use Rattle.nom_traits.specs.Input.{Model}
-use Rattle.nom_internal.specs.Outcome.Outcome.{Accept}
-use Rattle.nom_internal.specs.Meaning.{Meaning}
 use Rattle.nom_repeat.specs.Inverted.{Either, error_outcome}
 use Rattle.nom_repeat.specs.laws.InvertedLaws.{no_accept}
 use Rattle.nom_repeat.specs.Items.{items_meaning}

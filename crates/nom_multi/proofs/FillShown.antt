@@ -5,14 +5,9 @@ use Rattle.std.specs.Prelude.{drop, set}
 use Rattle.std.specs.List.{AllZip}
 use Rattle.std.proofs.lemmas.Bool.{lt-ltb}
 use Rattle.std.proofs.lemmas.List.{length-set}
-use Rattle.nom_error.specs.declared.answer.Needed.{Needed}
+use Rattle.nom_internal.specs.Prelude.{Needed, Incomplete, Error, Failure, OutOfMemory, size_of, Built, Modes, Model, Accept, Refuse, Stop, Fails, Needs}
+use Rattle.nom_internal.specs.Prelude.{Meaning, ShowsMeaning}
 use Rattle.nom_error.specs.declared.answer.Err as Answer
-use Rattle.nom_error.specs.declared.answer.Err.TheVariants.{Incomplete, Error, Failure, OutOfMemory}
-use Rattle.nom_error.specs.Answers.{size_of}
-use Rattle.nom_error.specs.Modes.{Built, Modes}
-use Rattle.nom_traits.specs.Input.{Model}
-use Rattle.nom_internal.specs.Outcome.Outcome.{Accept, Refuse, Fail, TooLarge, Undecided}
-use Rattle.nom_internal.specs.Meaning.{Meaning, ShowsMeaning}
 use Rattle.nom_repeat.specs.Repeat.{TurnsBy, Pieces}
 use Rattle.nom_repeat.specs.Items.{item_turn, refused_turn}
 use Rattle.nom_repeat.proofs.Accumulating.{zip_push}
@@ -93,14 +88,12 @@ module _ {I A V E : Type 0} {w : Model I A} (m : Meaning I V E) (n : ℕ) (mode 
     )
 
     pub stops_failed : {x : E} → f ≡ Failure x → ShowsMeaning w IsItem m mode j (Err f) → StopsFilling m n mode RanOut (length c.trees) j
-    stops_failed e h = by (part_failed e h).0
-      where
-        by : m.answers mode.streaming j Fail ⊎ m.answers mode.streaming j TooLarge → StopsFilling m n mode RanOut (length c.trees) j
-        by (inl a) = inl (Fail, record { reply = Some Fail; replied = (below, a); fact = refl })
-        by (inr a) = inl (TooLarge, record { reply = Some TooLarge; replied = (below, a); fact = refl })
+    stops_failed e h = let t = part_failed e h in
+        inl (Stop (Fails t.0), record { reply = Some (Stop (Fails t.0)); replied = (below, t.1); fact = refl })
 
     pub stops_undecided : {k : Needed} → f ≡ Incomplete k → ShowsMeaning w IsItem m mode j (Err f) → StopsFilling m n mode RanOut (length c.trees) j
-    stops_undecided {k = k} e h = inl (Undecided (size_of k), record { reply = Some (Undecided (size_of k)); replied = (below, part_lacks e h); fact = refl })
+    stops_undecided {k = k} e h =
+        inl (Stop (Needs (size_of k)), record { reply = Some (Stop (Needs (size_of k))); replied = (below, part_lacks e h); fact = refl })
 
     pub stops_without_memory : f ≡ OutOfMemory → ShowsMeaning w IsItem m mode j (Err f) → RanOut → StopsFilling m n mode RanOut (length c.trees) j
     stops_without_memory e h r = inr (part_ran_out e h, r)

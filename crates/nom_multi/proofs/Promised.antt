@@ -2,13 +2,7 @@
 use Rattle.std.specs.Prelude.{ltb}
 use Rattle.std.proofs.lemmas.Bool.{le-ltb}
 use Rattle.std.proofs.Common.{◌≡◌, Bool, true, false, ℕ, ◌+◌, Option, Some, None, List, [], ◌∷◌, zero, suc, refl, arith, sym, subst}
-use Rattle.nom_error.specs.Errors.{Errors}
-use Rattle.nom_traits.specs.Input.{Model, InputLaws}
-use Rattle.nom_traits.specs.Rests.{rest_rest}
-use Rattle.nom_internal.specs.Outcome.{Outcome}
-use Rattle.nom_internal.specs.Outcome.Outcome.{Accept, Refuse, Fail, TooLarge, Undecided}
-use Rattle.nom_internal.specs.Meaning.{Meaning}
-use Rattle.nom_internal.specs.Sequence.{after}
+use Rattle.nom_internal.specs.Prelude.{Errors, Model, InputLaws, rest_rest, Outcome, Accept, Refuse, Stop, Meaning, after}
 use Rattle.nom_repeat.specs.Repeat.{Pieces, Replies, TurnsBy}
 use Rattle.nom_repeat.specs.Repeat.Turn.{Ends}
 use Rattle.nom_repeat.specs.Items.{refused_turn, item_turn}
@@ -28,17 +22,13 @@ refused_empty Item k i (Some Refuse) p e = absurd (enough (ltb k 0) (le-ltb k 0 
     enough : {V : Type 0} (few : Bool) → few ≡ false → Ends Refuse ≡ refused_turn {V = V} few → ⊥
     enough true z e = absurd (cc (z))
     enough false z e = absurd (cc (e))
-refused_empty Item k i (Some Fail) p e = absurd (cc)
-refused_empty Item k i (Some TooLarge) p e = absurd (cc)
-refused_empty Item k i (Some (Undecided d)) p e = absurd (cc)
+refused_empty Item k i (Some (Stop why)) p e = absurd (cc)
 refused_empty Item k i None p e = absurd (cc)
 
 ends_refused : {T R : Type 0} (n : ℕ) (f : T → R) (o : Outcome T) → Refuse ≡ after n f o → o ≡ Refuse
 ends_refused n f (Accept m v) e = absurd (cc)
 ends_refused n f Refuse e = refl
-ends_refused n f Fail e = absurd (cc)
-ends_refused n f TooLarge e = absurd (cc)
-ends_refused n f (Undecided k) e = absurd (cc)
+ends_refused n f (Stop why) e = absurd (cc)
 
 module _ {I A V : Type 0} (w : Model I A) (Item : I → Outcome V → Type 0) where
   pieces_empty : InputLaws w → (o : Outcome (Unit {0})) → o ≡ Refuse → (k : ℕ) (i : I) (vs : List V) (n : ℕ) → w.IsKnown i →

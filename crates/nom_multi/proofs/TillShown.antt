@@ -4,20 +4,11 @@ use Rattle.std.proofs.Common.{subst, arith, zero, suc}
 use Rattle.std.specs.Prelude.{IsSome, IfSome}
 use Rattle.std.specs.List.{AllZip}
 use Rattle.std.specs.declared.vec.Vec.{Vec}
-use Rattle.nom_error.specs.Errors.{Errors}
-use Rattle.nom_error.specs.Answers.{PResult, Refuses, size_of}
-use Rattle.nom_error.specs.declared.answer.Needed.{Needed}
+use Rattle.nom_internal.specs.Prelude.{Errors, PResult, Refuses, size_of, Needed, Incomplete, Error, Failure, OutOfMemory, Built, Modes, modes, Model}
+use Rattle.nom_internal.specs.Prelude.{InputLaws, IsSuffixOf, Outcome, Accept, Refuse, Stop, Fails, Needs, ShowsAnswer, Meaning}
+use Rattle.nom_internal.specs.Prelude.{ShowsMeaning, labelled_meaning, ClosesError, always}
 use Rattle.nom_error.specs.declared.answer.Err as Answer
-use Rattle.nom_error.specs.declared.answer.Err.TheVariants.{Incomplete, Error, Failure, OutOfMemory}
 use Rattle.nom_error.specs.declared.kind.ErrorKind.TheVariants as Kind
-use Rattle.nom_error.specs.Modes.{Built, Modes, modes}
-use Rattle.nom_traits.specs.Input.{Model, InputLaws, IsSuffixOf}
-use Rattle.nom_internal.specs.Outcome.{Outcome, ShowsAnswer}
-use Rattle.nom_internal.specs.Outcome.Outcome.{Accept, Refuse, Fail, TooLarge, Undecided}
-use Rattle.nom_internal.specs.Meaning.{Meaning, ShowsMeaning}
-use Rattle.nom_internal.specs.Cases.{labelled_meaning}
-use Rattle.nom_internal.specs.Choice.{ClosesError}
-use Rattle.nom_internal.specs.Families.{always}
 use Rattle.nom_internal.proofs.Cased.{here, labels_err, labels_ok}
 use Rattle.nom_internal.proofs.Choices.{otherwise_first, otherwise_next, closes_built}
 use Rattle.nom_internal.proofs.Shown.{built_error}
@@ -26,7 +17,7 @@ use Rattle.nom_repeat.specs.Repeat.{TurnsBy}
 use Rattle.nom_repeat.specs.Repeat.Turn.{Takes, Ends}
 use Rattle.nom_repeat.proofs.Accumulating.{zip_push}
 use Rattle.nom_repeat.proofs.Parts.{part_refused, part_refusal, part_failed, part_lacks, part_ran_out}
-use Rattle.nom_repeat.proofs.Repeated.{Collected, collected_more, ended_behind, refused, failed, too_large, lacking, ran_out, ran_out_within}
+use Rattle.nom_repeat.proofs.Repeated.{Collected, collected_more, ended_behind, refused, failed, lacking, ran_out, ran_out_within}
 use Rattle.nom_multi.specs.Till.{end_or_item, step_turn, till_turn, OnItem, till_rule, many_till_meaning, with_end, IsStep}
 use Rattle.nom_multi.specs.declared.till.Step.{Step}
 use Rattle.nom_multi.specs.declared.till.Step.TheVariants.{End, Item}
@@ -167,15 +158,11 @@ module _ {I A T V O E : Type 0} {w : Model I A} (errs : Errors I E) (m : Meaning
             (refused (till_rule errs) with_end (always (end_or_item end m)) c (Some Refuse) (tt, a) refl y.0 y.1)
 
     pub till_failed : {x : E} → f ≡ Failure x → ShowsTill w errs m end IsOutput mode i (Err (Failure x))
-    till_failed {x} e = let p = part_failed e h in by p.0 p.1
-      where
-        by : (end_or_item end m).answers mode.streaming j Fail ⊎ (end_or_item end m).answers mode.streaming j TooLarge →
-            (end_or_item end m).blames mode.streaming j x → ShowsTill w errs m end IsOutput mode i (Err (Failure x))
-        by (inl a) b = failed (till_rule errs) with_end (always (end_or_item end m)) c (Some Fail) (tt, a) refl x b
-        by (inr a) b = too_large (till_rule errs) with_end (always (end_or_item end m)) c (Some TooLarge) (tt, a) refl x b
+    till_failed {x} e = let p = part_failed e h in
+        failed (till_rule errs) with_end (always (end_or_item end m)) c (Some (Stop (Fails p.0))) (tt, p.1) p.0 refl x p.2
 
     pub till_lacks : {k : Needed} → f ≡ Incomplete k → ShowsTill w errs m end IsOutput mode i (Err (Incomplete k))
-    till_lacks {k} e = lacking (till_rule errs) with_end (always (end_or_item end m)) c (Some (Undecided (size_of k))) (tt, part_lacks e h) refl
+    till_lacks {k} e = lacking (till_rule errs) with_end (always (end_or_item end m)) c (Some (Stop (Needs (size_of k)))) (tt, part_lacks e h) refl
 
     pub till_ran_out : f ≡ OutOfMemory → ShowsTill w errs m end IsOutput mode i (Err OutOfMemory)
     till_ran_out e = ran_out_within (till_rule errs) with_end (always (end_or_item end m)) c tt (part_ran_out e h)

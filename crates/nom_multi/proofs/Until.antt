@@ -1,12 +1,6 @@
 -- What lists until an end accept.
 use Rattle.std.proofs.Common.{◌≡◌, Bool, ℕ, ◌+◌, ◌<◌, ◌⊎◌, Option, Some, None, List, [], ◌∷◌, zero, suc, refl, arith, ap, subst, sym, inl, inr}
-use Rattle.nom_error.specs.Errors.{Errors}
-use Rattle.nom_traits.specs.Input.{Model}
-use Rattle.nom_internal.specs.Outcome.{Outcome}
-use Rattle.nom_internal.specs.Outcome.Outcome.{Accept, Refuse, Fail, TooLarge, Undecided}
-use Rattle.nom_internal.specs.Meaning.{Meaning}
-use Rattle.nom_internal.specs.Cases.{labelled, labelled_meaning}
-use Rattle.nom_internal.specs.Choice.{GoesOnRefused}
+use Rattle.nom_internal.specs.Prelude.{Errors, Model, Outcome, Accept, Refuse, Stop, Meaning, labelled, labelled_meaning, GoesOnRefused}
 use Rattle.nom_repeat.specs.Repeat.{Turn, Pieces, Replies, TurnsBy}
 use Rattle.nom_repeat.specs.Repeat.Turn.{Takes, Ends}
 use Rattle.nom_repeat.proofs.AcceptedMore.{after_accepts}
@@ -28,9 +22,7 @@ module _ {I T V E : Type 0} (m : Meaning I V E) (end : Meaning I T E) (s : Bool)
       let long : k ≡ n = cc (e) in
       subst (λ x. Stands (end.answers s) (m.answers s) j n x) (sym tree) (r, subst (λ c. m.answers s j (Accept c v)) long h)
   an_item u r Refuse h e = absurd (cc (e))
-  an_item u r Fail h e = absurd (cc (e))
-  an_item u r TooLarge h e = absurd (cc (e))
-  an_item u r (Undecided k) h e = absurd (cc (e))
+  an_item u r (Stop why) h e = absurd (cc (e))
 
   first_of : (u : T ⊎ V) → (a : Outcome T) → Last a → GoesOnRefused ((labelled_meaning inr m).answers s j) (labelled inl a) (Accept n u) →
       Stands (end.answers s) (m.answers s) j n u
@@ -39,9 +31,7 @@ module _ {I T V E : Type 0} (m : Meaning I V E) (end : Meaning I T E) (s : Bool)
       let long : k ≡ n = cc (e) in
       subst (λ x. Stands (end.answers s) (m.answers s) j n x) (sym tree) (subst (λ c. end.answers s j (Accept c t)) long h)
   first_of u Refuse h z = an_item u h z.outcome (subst (λ x. m.answers s x z.outcome) (sym z.at_is) z.answered) z.fact
-  first_of u Fail h e = absurd (cc (e))
-  first_of u TooLarge h e = absurd (cc (e))
-  first_of u (Undecided k) h e = absurd (cc (e))
+  first_of u (Stop why) h e = absurd (cc (e))
 
   stands : (u : T ⊎ V) → (end_or_item end m).answers s j (Accept n u) → Stands (end.answers s) (m.answers s) j n u
   stands u z =
@@ -71,9 +61,7 @@ module _ {T V : Type 0} where
       let tree : v ≡ u = cc (e) in
       (cc (long, tree), omega (arith, long))
   taken_item (Some Refuse) n v e = absurd (cc (e))
-  taken_item (Some Fail) n v e = absurd (cc (e))
-  taken_item (Some TooLarge) n v e = absurd (cc (e))
-  taken_item (Some (Undecided k)) n v e = absurd (cc (e))
+  taken_item (Some (Stop why)) n v e = absurd (cc (e))
   taken_item None n v e = absurd (cc (e))
 
   taken_end : (r : Option (Outcome (T ⊎ V))) (n : ℕ) (t : T) → Ends (Accept n t) ≡ till_turn r → r ≡ Some (Accept n (inl t))
@@ -84,9 +72,7 @@ module _ {T V : Type 0} where
   taken_end (Some (Accept zero (inr u))) n t e = absurd (cc (e))
   taken_end (Some (Accept (suc k) (inr u))) n t e = absurd (cc (e))
   taken_end (Some Refuse) n t e = absurd (cc (e))
-  taken_end (Some Fail) n t e = absurd (cc (e))
-  taken_end (Some TooLarge) n t e = absurd (cc (e))
-  taken_end (Some (Undecided k)) n t e = absurd (cc (e))
+  taken_end (Some (Stop why)) n t e = absurd (cc (e))
   taken_end None n t e = absurd (cc (e))
 
   takes_item : (n : ℕ) (v : V) → 0 < n → ◌≡◌ {A = Turn V T} (Takes n v) (till_turn (Some (Accept n (inr v))))

@@ -1,13 +1,7 @@
 -- Items in a buffer.
 use Rattle.std.specs.Prelude.{◌≡◌, ℕ, Bool, true, false, Option, Some, None, Err, List, ◌++◌, ◌⊎◌, drop, length, set}
 use Rattle.std.specs.List.{AllZip}
-use Rattle.nom_error.specs.Answers.{PResult}
-use Rattle.nom_error.specs.declared.answer.Err.TheVariants.{OutOfMemory}
-use Rattle.nom_error.specs.Errors.{Errors}
-use Rattle.nom_traits.specs.Input.{Model}
-use Rattle.nom_internal.specs.Meaning.{Meaning}
-use Rattle.nom_error.specs.Modes.{Modes}
-use Rattle.nom_internal.specs.Outcome.{Outcome}
+use Rattle.nom_internal.specs.Prelude.{PResult, OutOfMemory, Errors, Model, Meaning, Modes, Outcome}
 use Rattle.nom_repeat.specs.Repeat.{TurnsBy, Pieces}
 use Rattle.nom_repeat.specs.Repeat.Turn.{Ends}
 use Rattle.nom_repeat.specs.Items.{item_turn, items_meaning}

@@ -1,9 +1,6 @@
 -- What the repetitions promise, said of their meanings.
 use Rattle.std.specs.Prelude.{◌≡◌, ℕ, ◌+◌, ◌<◌, ◌≤◌, ◌↔◌, Bool, List, length}
-use Rattle.nom_traits.specs.Input.{Model, IsSuffixOf, input_len}
-use Rattle.nom_internal.specs.Outcome.{Outcome}
-use Rattle.nom_internal.specs.Outcome.Outcome.{Accept, Refuse}
-use Rattle.nom_internal.specs.Meaning.{Meaning}
+use Rattle.nom_internal.specs.Prelude.{Model, IsSuffixOf, input_len, Outcome, Accept, Refuse, Meaning}
 use Rattle.nom_repeat.specs.Repeat.{Turn, Pieces}
 use Rattle.nom_repeat.specs.Repeat.Turn.{Takes, Ends}
 

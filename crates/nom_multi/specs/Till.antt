@@ -1,16 +1,8 @@
 -- Items until an end.
 use Rattle.std.specs.Prelude.{◌≡◌, ℕ, ◌⊎◌, Bool, true, Option, Some, None, List, zero, suc}
 use Rattle.std.proofs.Common.{inl, inr}
-use Rattle.nom_error.specs.Errors.{Errors}
-use Rattle.nom_error.specs.Modes.{Built}
+use Rattle.nom_internal.specs.Prelude.{Errors, Built, Model, Outcome, Accept, Refuse, Stop, Fails, Needs, Meaning, labelled_meaning, otherwise_meaning, always}
 use Rattle.nom_error.specs.declared.kind.ErrorKind.TheVariants as Kind
-use Rattle.nom_traits.specs.Input.{Model}
-use Rattle.nom_internal.specs.Outcome.{Outcome}
-use Rattle.nom_internal.specs.Outcome.Outcome.{Accept, Refuse, Fail, TooLarge, Undecided}
-use Rattle.nom_internal.specs.Meaning.{Meaning}
-use Rattle.nom_internal.specs.Cases.{labelled_meaning}
-use Rattle.nom_internal.specs.Choice.{otherwise_meaning}
-use Rattle.nom_internal.specs.Families.{always}
 use Rattle.nom_repeat.specs.Repeat.{Turn, Rule, repeat_meaning}
 use Rattle.nom_repeat.specs.Repeat.Turn.{Takes, Ends}
 use Rattle.nom_multi.specs.declared.till.Step.{Step}
@@ -30,9 +22,7 @@ step_turn (inr v) (suc n) = Takes (suc n) v
 abbrev pub till_turn : {T V : Type 0} → Option (Outcome (T ⊎ V)) → Turn V T
 till_turn (Some (Accept n u)) = step_turn u n
 till_turn (Some Refuse) = Ends Refuse
-till_turn (Some Fail) = Ends Fail
-till_turn (Some TooLarge) = Ends TooLarge
-till_turn (Some (Undecided n)) = Ends (Undecided n)
+till_turn (Some (Stop why)) = Ends (Stop why)
 till_turn None = Ends Refuse
 
 -- the first where it is an item that consumes nothing, and the second where it is another item
@@ -45,18 +35,15 @@ OnItem Empty Taken (inr v) (suc n) = Taken
 abbrev pub TillBlames : {I T V E : Type 0} → Errors I E → I → Option (Outcome (T ⊎ V)) → (E → Type 0) → E → Type 0
 TillBlames errs j (Some (Accept n u)) P e = OnItem (errs.of_kind j Kind.Many0 e) ⊥ u n
 TillBlames {E = E} errs j (Some Refuse) P e = (x : E) × P x × errs.appended j Kind.ManyTill x e
-TillBlames errs j (Some Fail) P e = P e
-TillBlames errs j (Some TooLarge) P e = P e
-TillBlames errs j (Some (Undecided n)) P e = ⊥
+TillBlames errs j (Some (Stop (Fails cause))) P e = P e
+TillBlames errs j (Some (Stop (Needs n))) P e = ⊥
 TillBlames errs j None P e = ⊥
 
 -- where memory is needed: for an error, or to keep an item
 abbrev pub TillAsks : {T V : Type 0} → Type 0 → Type 0 → Option (Outcome (T ⊎ V)) → Type 0
 TillAsks Refused Accumulated (Some (Accept n u)) = OnItem Refused Accumulated u n
 TillAsks Refused Accumulated (Some Refuse) = Refused
-TillAsks Refused Accumulated (Some Fail) = ⊥
-TillAsks Refused Accumulated (Some TooLarge) = ⊥
-TillAsks Refused Accumulated (Some (Undecided n)) = ⊥
+TillAsks Refused Accumulated (Some (Stop why)) = ⊥
 TillAsks Refused Accumulated None = ⊥
 
 abbrev pub till_rule : {I T V E : Type 0} → Errors I E → Rule I (T ⊎ V) V T E

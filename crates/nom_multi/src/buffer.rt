@@ -1,7 +1,6 @@
 //! Items in a buffer.
 ghost use Rattle.std.specs.Prelude.{◌≡◌, ◌<◌, ℕ, List, length, None};
-ghost use Rattle.nom_error.specs.Modes.{Built, modes};
-ghost use Rattle.nom_internal.specs.Meaning.{ShowsMeaning};
+ghost use Rattle.nom_internal.specs.Prelude.{Built, modes, ShowsMeaning};
 ghost use Rattle.nom_multi.specs.Fill.{fill_meaning, IsDone, IsFilled, IsPut, IsRanOut};
 
 use nom_error::answer::{Err, PResult};

@@ -1,8 +1,7 @@
 //! Items until an end.
 ghost use Rattle.std.specs.Prelude.{◌≡◌, true, Some, List};
 ghost use Rattle.std.specs.List.{AllZip};
-ghost use Rattle.nom_error.specs.Modes.{modes};
-ghost use Rattle.nom_internal.specs.Outcome.{ShowsAnswer};
+ghost use Rattle.nom_internal.specs.Prelude.{modes, ShowsAnswer};
 ghost use Rattle.nom_multi.specs.Till.{IsStep, end_or_item, many_till_meaning};
 
 use nom_error::answer::{Err, PResult};

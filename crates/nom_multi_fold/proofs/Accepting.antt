@@ -2,14 +2,8 @@
 use Rattle.std.specs.Prelude.{◌↔◌}
 use Rattle.std.specs.declared.ops.Bound.{Bound}
 use Rattle.std.proofs.Common.{◌≡◌, Bool, true, false, ℕ, ◌+◌, ◌<◌, Option, Some, None, List, [], ◌∷◌, refl, subst, sym, inl, inr}
-use Rattle.nom_error.specs.Errors.{Errors}
-use Rattle.nom_error.specs.declared.kind.ErrorKind.{ErrorKind}
+use Rattle.nom_internal.specs.Prelude.{Errors, ErrorKind, Model, Outcome, Accept, Refuse, Stop, Meaning, Passes}
 use Rattle.nom_error.specs.declared.kind.ErrorKind.TheVariants as Kind
-use Rattle.nom_traits.specs.Input.{Model}
-use Rattle.nom_internal.specs.Outcome.{Outcome}
-use Rattle.nom_internal.specs.Outcome.Outcome.{Accept, Refuse, Fail, TooLarge, Undecided}
-use Rattle.nom_internal.specs.Meaning.{Meaning}
-use Rattle.nom_internal.specs.Cases.{Passes}
 use Rattle.nom_ranges.specs.Ranges.{fewest, most_items, limit}
 use Rattle.nom_repeat.specs.Repeat.{Pieces}
 use Rattle.nom_repeat.specs.Items.{items_meaning}
@@ -57,16 +51,12 @@ module _ {I V E : Type 0} (m : Meaning I V E) (s : Bool) (i : I) where
   passed : (a o : Outcome V) → Passes (λ n v z. z ≡ Accept n v) a o → o ≡ a
   passed (Accept n v) o e = e
   passed Refuse o e = e
-  passed Fail o e = e
-  passed TooLarge o e = e
-  passed (Undecided k) o e = e
+  passed (Stop why) o e = e
 
   passes : (o : Outcome V) → Passes (λ n v z. z ≡ Accept n v) o o
   passes (Accept n v) = refl
   passes Refuse = refl
-  passes Fail = refl
-  passes TooLarge = refl
-  passes (Undecided k) = refl
+  passes (Stop why) = refl
 
   -- a part of which nothing is built answers as it does
   undropped : (o : Outcome V) → (dropped_meaning m).answers s i o → m.answers s i o

@@ -1,15 +1,9 @@
 -- What counts of items show: the number fits, since each item but a first one consumes.
 use Rattle.std.proofs.Common.{◌≡◌, ℕ, ◌+◌, ◌-◌, ◌^◌, ◌<◌, ◌≤◌, Bool, true, false, Ok, Option, Some, ◌⊎◌, inl, inr, List, [], ◌∷◌, ◌++◌}
 use Rattle.std.proofs.Common.{length, zero, suc, refl, arith, ap, subst}
-use Rattle.nom_error.specs.Answers.{PResult}
+use Rattle.nom_internal.specs.Prelude.{PResult, Errors, Built, Modes, Model, InputLaws, IsSuffixOf, input_len, same_self, rest_related, Outcome, Accept}
+use Rattle.nom_internal.specs.Prelude.{Meaning, IsLawful, ShowsMeaning}
 use Rattle.nom_error.specs.declared.kind.ErrorKind.TheVariants as Kind
-use Rattle.nom_error.specs.Errors.{Errors}
-use Rattle.nom_error.specs.Modes.{Built, Modes}
-use Rattle.nom_traits.specs.Input.{Model, InputLaws, IsSuffixOf, input_len}
-use Rattle.nom_traits.specs.Rests.{same_self, rest_related}
-use Rattle.nom_internal.specs.Outcome.{Outcome}
-use Rattle.nom_internal.specs.Outcome.Outcome.{Accept}
-use Rattle.nom_internal.specs.Meaning.{Meaning, IsLawful, ShowsMeaning}
 use Rattle.nom_internal.proofs.Consumed.{rest_self, rest_length}
 use Rattle.nom_internal.proofs.Shown.{Accepts, accepts, next_shown}
 use Rattle.nom_repeat.specs.Repeat.{Pieces, Replies, TurnsBy}

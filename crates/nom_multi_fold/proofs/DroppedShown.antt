@@ -2,14 +2,8 @@
 use Rattle.std.proofs.Common.{◌≡◌, Ok, Err, Option, refl, sym, subst}
 use Rattle.std.specs.Result.{IsErrAnd, IsErr}
 use Rattle.std.specs.Prelude.{false}
-use Rattle.nom_error.specs.Answers.{PResult}
-use Rattle.nom_error.specs.declared.answer.Needed.{Needed}
+use Rattle.nom_internal.specs.Prelude.{PResult, Needed, Built, Modes, with_outputs, Model, Accept, Shown, Meaning, ShowsMeaning}
 use Rattle.nom_error.specs.declared.answer.Err as Answer
-use Rattle.nom_error.specs.Modes.{Built, Modes, with_outputs}
-use Rattle.nom_traits.specs.Input.{Model}
-use Rattle.nom_internal.specs.Outcome.Outcome.{Accept}
-use Rattle.nom_internal.specs.Outcome.ShowsAnswer.{Shown}
-use Rattle.nom_internal.specs.Meaning.{Meaning, ShowsMeaning}
 use Rattle.nom_internal.proofs.Cased.{here, plain_err}
 use Rattle.nom_internal.proofs.Shown.{accepts, built_error, err_from_residual}
 use Rattle.nom_multi_fold.specs.Dropped.{dropped_meaning}

@@ -1,13 +1,9 @@
 -- What folds show, by what is accumulated of items.
 use Rattle.std.proofs.Common.{◌≡◌, Bool, true, false, Option, Some, None, List, [], ◌∷◌, ◌++◌, sym, ◌∙◌, ap, subst}
 use Rattle.std.specs.List.{FoldsTo}
-use Rattle.nom_error.specs.Answers.{PResult}
-use Rattle.nom_error.specs.Modes.{Built, Modes}
-use Rattle.nom_traits.specs.Input.{Model}
+use Rattle.nom_internal.specs.Prelude.{PResult, Built, Modes, Model, Errors, Meaning, ShowsMeaning}
 use Rattle.nom_internal.proofs.Shown.{built_error}
 use Rattle.nom_repeat.proofs.Accumulating.{kept_both}
-use Rattle.nom_error.specs.Errors.{Errors}
-use Rattle.nom_internal.specs.Meaning.{Meaning, ShowsMeaning}
 use Rattle.nom_repeat.specs.Items.{items_meaning}
 use Rattle.nom_repeat.specs.declared.items.Limits.{Limits}
 use Rattle.nom_repeat.specs.Accumulated.{Adds, Accumulated}

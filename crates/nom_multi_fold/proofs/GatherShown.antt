@@ -1,7 +1,7 @@
 -- A collection as an accumulator of items.
 use Rattle.std.proofs.Common.{◌≡◌, ◌++◌, ◌∷◌, [], List, Option, Some, None, Bool, true, false, refl, sym, ◌∙◌, ap, subst}
 use Rattle.std.specs.List.{AllZip}
-use Rattle.nom_error.specs.Modes.{Built}
+use Rattle.nom_internal.specs.Prelude.{Built}
 use Rattle.nom_repeat.specs.Accumulated.{Adds, Accumulated}
 use Rattle.nom_multi_fold.specs.Ranges.{Gathers, IsGathered}
 

@@ -2,12 +2,7 @@
 use Rattle.std.proofs.Common.{◌≡◌, ℕ, Bool, true, false, List, subst}
 use Rattle.std.specs.Prelude.{IsTrue}
 use Rattle.std.specs.declared.ops.Bound.{Bound}
-use Rattle.nom_error.specs.Answers.{PResult}
-use Rattle.nom_error.specs.Errors.{Errors}
-use Rattle.nom_error.specs.Modes.{Modes}
-use Rattle.nom_error.specs.declared.kind.ErrorKind.{ErrorKind}
-use Rattle.nom_traits.specs.Input.{Model}
-use Rattle.nom_internal.specs.Meaning.{Meaning, ShowsMeaning}
+use Rattle.nom_internal.specs.Prelude.{PResult, Errors, Modes, ErrorKind, Model, Meaning, ShowsMeaning}
 use Rattle.nom_repeat.specs.Items.{items_meaning}
 use Rattle.nom_ranges.specs.Ranges.{fewest, most_items, limit}
 use Rattle.nom_multi_fold.specs.Ranges.{range_limits, IsEmpty, range_meaning}

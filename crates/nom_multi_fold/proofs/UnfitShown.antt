@@ -1,16 +1,8 @@
 -- What bounds that don't fit each other show.
 use Rattle.std.proofs.Common.{Bool, true, false, Err, Option, inl, inr, refl, ap}
-use Rattle.nom_error.specs.Errors.{Errors}
-use Rattle.nom_error.specs.Answers.{PResult, Refuses}
-use Rattle.nom_error.specs.Modes.{Modes}
-use Rattle.nom_error.specs.declared.kind.ErrorKind.{ErrorKind}
-use Rattle.nom_error.specs.declared.answer.Needed.{Needed}
+use Rattle.nom_internal.specs.Prelude.{Errors, PResult, Refuses, Modes, ErrorKind, Needed, Model, Outcome, Accept, Refuse, Stop, Fails, Needs, Outright, Shows}
+use Rattle.nom_internal.specs.Prelude.{RanOut, Shown, Meaning, ShowsMeaning}
 use Rattle.nom_error.specs.declared.answer.Err as Answer
-use Rattle.nom_traits.specs.Input.{Model}
-use Rattle.nom_internal.specs.Outcome.{Outcome, Shows}
-use Rattle.nom_internal.specs.Outcome.Outcome.{Accept, Refuse, Fail, TooLarge, Undecided}
-use Rattle.nom_internal.specs.Outcome.ShowsAnswer.{RanOut, Shown}
-use Rattle.nom_internal.specs.Meaning.{Meaning, ShowsMeaning}
 use Rattle.nom_internal.proofs.Shown.{built_error}
 use Rattle.nom_repeat.specs.Inverted.{GivesFailure}
 use Rattle.nom_multi_fold.specs.Unfit.{unfit}
@@ -21,7 +13,7 @@ module _ {I A V O E : Type 0} {w : Model I A} {IsOutput : V → O → Type 0} {m
   pub unfit_fails : IsUnfit → {f : Answer.Err E (Option E) Needed} → GivesFailure (errs.of_kind i kind) errs.grows f →
       ShowsMeaning w IsOutput (unfit errs kind true IsUnfit m) mode i (Err f)
   unfit_fails u (inl g) = RanOut (ap Err g.0) (inl (u, (tt, g.1)))
-  unfit_fails u (inr g) = Shown Fail (inl (u, refl)) (g.0, inl (u, g.1), ap Err g.2)
+  unfit_fails u (inr g) = Shown (Stop (Fails Outright)) (inl (u, refl)) (g.0, inl (u, g.1), ap Err g.2)
 
   -- they refuse
   pub unfit_refuses : IsUnfit → {f : Answer.Err E (Option E) Needed} → Refuses (errs.of_kind i kind) errs.grows mode.errors f →
@@ -35,9 +27,8 @@ module _ {I A V O E : Type 0} (w : Model I A) (IsOutput : V → O → Type 0) (m
       Shows w IsOutput mode i ((unfit errs kind fails IsUnfit m).blames mode.streaming i) o r
   fit_of (Accept n v) r s = s
   fit_of Refuse r s = (s.0, built_error mode.errors _ _ s.0 (λ e h. inr (fit, h)) s.1, s.2)
-  fit_of Fail r s = (s.0, inr (fit, s.1), s.2)
-  fit_of TooLarge r s = (s.0, inr (fit, s.1), s.2)
-  fit_of (Undecided k) r s = s
+  fit_of (Stop (Fails cause)) r s = (s.0, inr (fit, s.1), s.2)
+  fit_of (Stop (Needs k)) r s = s
 
 -- they fit, and the part answers
 pub fit_shown : {I A V O E : Type 0} {w : Model I A} {IsOutput : V → O → Type 0} {mode : Modes} {i : I} (errs : Errors I E) (kind : ErrorKind)

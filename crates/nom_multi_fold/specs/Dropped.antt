@@ -1,8 +1,6 @@
 -- A part whose outputs are never built.
 use Rattle.std.specs.Prelude.{◌≡◌, false}
-use Rattle.nom_internal.specs.Outcome.Outcome.{Accept}
-use Rattle.nom_internal.specs.Meaning.{Meaning}
-use Rattle.nom_internal.specs.Cases.{Passes, plain_case, case_meaning}
+use Rattle.nom_internal.specs.Prelude.{Accept, Meaning, Passes, plain_case, case_meaning}
 
 -- the part's outcome, with its tree, while nothing is built of it
 abbrev pub dropped_meaning : {I V E : Type 0} → Meaning I V E → Meaning I V E

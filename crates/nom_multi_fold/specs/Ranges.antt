@@ -1,10 +1,7 @@
 -- As many items as a range of counts says.
 use Rattle.std.specs.Prelude.{◌≡◌, ℕ, ◌++◌, ◌∷◌, [], true, Some, None, Option, List, ◌⊎◌}
 use Rattle.std.specs.declared.ops.Bound.{Bound}
-use Rattle.nom_error.specs.Errors.{Errors}
-use Rattle.nom_error.specs.declared.kind.ErrorKind.{ErrorKind}
-use Rattle.nom_traits.specs.Input.{Model}
-use Rattle.nom_internal.specs.Meaning.{Meaning}
+use Rattle.nom_internal.specs.Prelude.{Errors, ErrorKind, Model, Meaning}
 use Rattle.nom_repeat.specs.Items.{items_meaning}
 use Rattle.nom_repeat.specs.declared.items.Limits.{Limits}
 use Rattle.nom_ranges.specs.Ranges.{IsInverted, fewest, most_items, limit}

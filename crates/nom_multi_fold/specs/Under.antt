@@ -1,6 +1,5 @@
 -- A meaning under a premise, as of closures, and its laws.
-use Rattle.nom_traits.specs.Input.{Model}
-use Rattle.nom_internal.specs.Meaning.{Meaning, IsLawful, IsSteady}
+use Rattle.nom_internal.specs.Prelude.{Model, Meaning, IsLawful, IsSteady}
 
 -- what the part means, where the premise holds beside the part's own
 abbrev pub under : {I V E : Type 0} → Type 0 → Meaning I V E → Meaning I V E

@@ -1,9 +1,6 @@
 -- Bounds that don't fit each other: an error of a kind, at the input, before a part runs.
 use Rattle.std.specs.Prelude.{◌≡◌, Bool, ◌⊎◌}
-use Rattle.nom_error.specs.Errors.{Errors}
-use Rattle.nom_error.specs.declared.kind.ErrorKind.{ErrorKind}
-use Rattle.nom_internal.specs.Outcome.{failure}
-use Rattle.nom_internal.specs.Meaning.{Meaning}
+use Rattle.nom_internal.specs.Prelude.{Errors, ErrorKind, Stop, Fails, Meaning}
 use Rattle.nom_repeat.specs.Inverted.{HasError, error_outcome}
 
 -- the first fact where the bounds don't fit, and else the second
@@ -20,5 +17,5 @@ unfit {V = V} errs kind fails IsUnfit m = record {
   may_run_out = λ mode i. Where IsUnfit (HasError fails mode × errs.grows) (m.may_run_out mode i);
   IsFrugal = λ mode. (IsUnfit → HasError fails mode → errs.grows → ⊥) × ((IsUnfit → ⊥) → m.IsFrugal mode);
   Settles = m.Settles;
-  NeverFails = λ large. (IsUnfit → error_outcome {V = V} fails ≡ failure large → ⊥) × ((IsUnfit → ⊥) → m.NeverFails large);
+  NeverFails = λ cause. (IsUnfit → error_outcome {V = V} fails ≡ Stop (Fails cause) → ⊥) × ((IsUnfit → ⊥) → m.NeverFails cause);
 }

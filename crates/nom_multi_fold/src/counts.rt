@@ -1,6 +1,6 @@
 //! How many items there are.
 ghost use Rattle.std.specs.Prelude.{◌^◌, ◌<◌, List};
-ghost use Rattle.nom_traits.specs.Input.{input_len};
+ghost use Rattle.nom_internal.specs.Prelude.{input_len};
 ghost use Rattle.nom_multi_fold.specs.Counts.{IsNumber, many0_count_meaning, many1_count_meaning};
 
 use crate::dropped::Dropped;

@@ -1,5 +1,5 @@
 //! The value of a fold, as it is carried from item to item.
-ghost use Rattle.nom_error.specs.Modes.{Built};
+ghost use Rattle.nom_internal.specs.Prelude.{Built};
 ghost use Rattle.nom_multi_fold.specs.Folded.{FoldPushes, CanFold, IsStart, IsCarried};
 
 use nom_error::mode::Mode;

@@ -1,6 +1,6 @@
 //! A collection that items are appended to.
 ghost use Rattle.std.specs.Prelude.{◌≡◌, []};
-ghost use Rattle.nom_error.specs.Modes.{Built};
+ghost use Rattle.nom_internal.specs.Prelude.{Built};
 ghost use Rattle.nom_multi_fold.specs.Ranges.{Gathers, IsGathered};
 
 use nom_build::collection::Collection;

@@ -1,10 +1,6 @@
 -- What a list after its length accepts.
 use Rattle.std.proofs.Common.{ℕ, Some, ap, sym, subst}
-use Rattle.nom_error.specs.Errors.{Errors}
-use Rattle.nom_traits.specs.Input.{Model}
-use Rattle.nom_internal.specs.Outcome.Outcome.{Accept}
-use Rattle.nom_internal.specs.Meaning.{Meaning}
-use Rattle.nom_internal.specs.Families.{of_value}
+use Rattle.nom_internal.specs.Prelude.{Errors, Model, Accept, Meaning, of_value}
 use Rattle.nom_repeat.specs.Accepted.{InTurn}
 use Rattle.nom_repeat.specs.Bounds.{exact_limits}
 use Rattle.nom_repeat.proofs.AcceptedItems.{accepted_in_turn, in_turn_accepted}

@@ -1,13 +1,7 @@
 -- What is shown after a length.
 use Rattle.std.proofs.Common.{◌≡◌, ℕ, true, Ok, Option, Some, sym}
-use Rattle.nom_error.specs.Answers.{PResult}
-use Rattle.nom_error.specs.Modes.{Modes, with_outputs}
-use Rattle.nom_traits.specs.Input.{Model, InputLaws}
-use Rattle.nom_internal.specs.Outcome.{Outcome, Shows, ShowsAnswer}
-use Rattle.nom_internal.specs.Outcome.Outcome.{Accept, Refuse, Fail, TooLarge, Undecided}
-use Rattle.nom_internal.specs.Outcome.ShowsAnswer.{RanOut, Shown}
-use Rattle.nom_internal.specs.Meaning.{Meaning, ShowsMeaning}
-use Rattle.nom_internal.specs.Families.{Family, OfValue}
+use Rattle.nom_internal.specs.Prelude.{PResult, Modes, with_outputs, Model, InputLaws, Outcome, Accept, Refuse, Stop, Fails, Needs, Shows, ShowsAnswer, RanOut}
+use Rattle.nom_internal.specs.Prelude.{Shown, Meaning, ShowsMeaning, Family, OfValue}
 use Rattle.nom_internal.proofs.Choices.{built_fact}
 use Rattle.nom_internal.proofs.Shown.{then_ok, built_error}
 use Rattle.nom_multi_length.specs.Lengths.{HasSize, behind_length}
@@ -18,9 +12,8 @@ module _ {I A V O E : Type 0} (w : Model I A) (IsOutput : V → O → Type 0) (m
       Shows w IsOutput mode i (λ e. OfValue IsLength (λ k. B k e)) o r
   shows_of B (Accept m v) r s = s
   shows_of B Refuse r s = (s.0, built_error mode.errors _ _ s.0 (λ e f. record { value = n; is_value = h; fact = f }) s.1, s.2)
-  shows_of B Fail r s = (s.0, record { value = n; is_value = h; fact = s.1 }, s.2)
-  shows_of B TooLarge r s = (s.0, record { value = n; is_value = h; fact = s.1 }, s.2)
-  shows_of B (Undecided k) r s = s
+  shows_of B (Stop (Fails cause)) r s = (s.0, record { value = n; is_value = h; fact = s.1 }, s.2)
+  shows_of B (Stop (Needs k)) r s = s
 
   length_shown : (N : ℕ → Outcome V → Type 0) (B : ℕ → E → Type 0) (R : ℕ → Type 0) (r : PResult I O E) →
       ShowsAnswer w IsOutput mode i (N n) (B n) (R n) r →

@@ -1,8 +1,6 @@
 -- Whether a length is a place, item by item.
 use Rattle.std.proofs.Common.{◌≡◌, ℕ, ◌+◌, ◌<◌, List, [], ◌∷◌, ◌++◌, length, arith, sym, ◌∙◌, ap, subst}
-use Rattle.nom_traits.specs.Input.{Model, InputLaws, items_len, IsBoundary, IsSuffixOf}
-use Rattle.nom_traits.specs.Rests.{place_more}
-use Rattle.nom_traits.specs.Slices.{IsCount}
+use Rattle.nom_internal.specs.Prelude.{Model, InputLaws, items_len, IsBoundary, IsSuffixOf, place_more, IsCount}
 use Rattle.nom_internal.specs.laws.CaseLaws.{no_place}
 
 module _ {A : Type 0} (item_len : A → ℕ) (pos : (a : A) → 0 < item_len a) where

@@ -1,19 +1,10 @@
 -- What is shown on exactly so much of an input.
 use Rattle.std.proofs.Common.{◌≡◌, ℕ, ◌-◌, ◌<◌, ◌≤◌, true, Ok, Err, Option, Some, inl, inr, arith, ◌∙◌, ap, subst, refl}
-use Rattle.nom_error.specs.declared.answer.Needed.{Needed}
+use Rattle.nom_internal.specs.Prelude.{Needed, Incomplete, PResult, size_of, Refuses, Errors, Built, Modes, with_streaming, Model, IsBoundary, IsSuffixOf}
+use Rattle.nom_internal.specs.Prelude.{input_len, Slice, IsFirst, IsModelledBy, place_first, leaf_meaning, Outcome, Accept, Refuse, Stop, Fails, Needs, Shows}
+use Rattle.nom_internal.specs.Prelude.{RanOut, Shown, Meaning, ShowsMeaning}
 use Rattle.nom_error.specs.declared.answer.Err as Answer
-use Rattle.nom_error.specs.declared.answer.Err.TheVariants.{Incomplete}
 use Rattle.nom_error.specs.declared.kind.ErrorKind.TheVariants as Kind
-use Rattle.nom_error.specs.Answers.{PResult, size_of, Refuses}
-use Rattle.nom_error.specs.Errors.{Errors}
-use Rattle.nom_error.specs.Modes.{Built, Modes, with_streaming}
-use Rattle.nom_traits.specs.Input.{Model, IsBoundary, IsSuffixOf, input_len}
-use Rattle.nom_traits.specs.Slices.{Slice, IsFirst, IsModelledBy, place_first}
-use Rattle.nom_internal.specs.Leaf.{leaf_meaning}
-use Rattle.nom_internal.specs.Outcome.{Outcome, Shows}
-use Rattle.nom_internal.specs.Outcome.Outcome.{Accept, Refuse, Fail, TooLarge, Undecided}
-use Rattle.nom_internal.specs.Outcome.ShowsAnswer.{RanOut, Shown}
-use Rattle.nom_internal.specs.Meaning.{Meaning, ShowsMeaning}
 use Rattle.nom_internal.proofs.Cased.{fixed_shown}
 use Rattle.nom_internal.proofs.Shown.{accepted, undecided, refused, built_error}
 use Rattle.nom_multi_length.specs.Values.{cuts, window_meaning, settled_meaning, SettlesResult}
@@ -55,18 +46,18 @@ module _ {I A V O E : Type 0} (w : Model I A) (IsOutput : V → O → Type 0) (e
   Settled = ShowsMeaning w IsOutput (settled_meaning errs m) mode i
 
   wanting : (k : Option ℕ) (r : PResult I O E) (f : Answer.Err E (Option E) Needed) →
-      m.answers mode.streaming i (Undecided k) → Refuses (errs.of_kind i Kind.Complete) errs.grows mode.errors f → r ≡ Err f → Settled r
+      m.answers mode.streaming i (Stop (Needs k)) → Refuses (errs.of_kind i Kind.Complete) errs.grows mode.errors f → r ≡ Err f → Settled r
   wanting k r f a (inl h) e = RanOut (e ∙ ap Err h.0) (inr (k, a, h.1, h.2))
-  wanting k r f a (inr h) e = Shown Refuse (Undecided k, a, refl) (h.0, built_error mode.errors _ _ h.0 (λ y b. (Undecided k, a, b)) h.1, e ∙ ap Err h.2)
+  wanting k r f a (inr h) e = Shown Refuse (Stop (Needs k), a, refl) (h.0, built_error mode.errors _ _ h.0 (λ y b. (Stop (Needs k), a, b)) h.1, e ∙ ap Err h.2)
 
   settled_of : (p r : PResult I O E) (o : Outcome V) → Settles p r → m.answers mode.streaming i o →
       Shows w IsOutput mode i (m.blames mode.streaming i) o p → Settled r
   settled_of p r (Accept n v) q a s = Shown (Accept n v) (Accept n v, a, refl) (s.0, s.1, s.2, s.3, subst (λ z. Settles z r) s.4 q)
   settled_of p r Refuse q a s = Shown Refuse (Refuse, a, refl)
       (s.0, built_error mode.errors _ _ s.0 (λ y b. (Refuse, a, b)) s.1, subst (λ z. Settles z r) s.2 q)
-  settled_of p r Fail q a s = Shown Fail (Fail, a, refl) (s.0, (Fail, a, s.1), subst (λ z. Settles z r) s.2 q)
-  settled_of p r TooLarge q a s = Shown TooLarge (TooLarge, a, refl) (s.0, (TooLarge, a, s.1), subst (λ z. Settles z r) s.2 q)
-  settled_of p r (Undecided k) q a s = let t = subst (λ z. Settles z r) s.2 q in wanting k r t.0 a t.1 t.2
+  settled_of p r (Stop (Fails cause)) q a s =
+      Shown (Stop (Fails cause)) (Stop (Fails cause), a, refl) (s.0, (Stop (Fails cause), a, s.1), subst (λ z. Settles z r) s.2 q)
+  settled_of p r (Stop (Needs k)) q a s = let t = subst (λ z. Settles z r) s.2 q in wanting k r t.0 a t.1 t.2
 
   pub settled_shown : (p r : PResult I O E) → Settles p r → ShowsMeaning w IsOutput m mode i p → Settled r
   settled_shown p r q (RanOut e h) = RanOut (subst (λ z. Settles z r) e q) (inl h)

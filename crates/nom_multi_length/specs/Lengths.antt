@@ -1,12 +1,6 @@
 -- What stands after a length.
 use Rattle.std.specs.Prelude.{◌≡◌, ℕ, true, List, Option}
-use Rattle.nom_error.specs.Errors.{Errors}
-use Rattle.nom_error.specs.Modes.{modes, with_outputs}
-use Rattle.nom_traits.specs.Input.{Model}
-use Rattle.nom_traits.specs.Slices.{Slice}
-use Rattle.nom_internal.specs.Meaning.{Meaning}
-use Rattle.nom_internal.specs.Families.{Family, of_value}
-use Rattle.nom_internal.specs.Sequence.{then_meaning}
+use Rattle.nom_internal.specs.Prelude.{Errors, modes, with_outputs, Model, Slice, Meaning, Family, of_value, then_meaning}
 use Rattle.nom_bytes.specs.Takes.{take_meaning}
 use Rattle.nom_repeat.specs.Items.{items_meaning}
 use Rattle.nom_repeat.specs.Bounds.{exact_limits}
@@ -29,7 +23,7 @@ takes_by_count w errs lack = record {
   IsSound = Unit {0};
   IsFrugal = λ mode. mode.errors ≡ true → errs.grows → ⊥;
   Settles = Unit {0};
-  NeverFails = λ large. Unit {0};
+  NeverFails = λ cause. Unit {0};
 }
 
 -- a length, and after it that many items, as `take` takes them

@@ -1,9 +1,6 @@
 -- What a list after its length promises, said of the meanings.
 use Rattle.std.specs.Prelude.{◌≡◌, ℕ, ◌+◌, ◌↔◌, Bool, Some, List}
-use Rattle.nom_traits.specs.Input.{Model, IsSuffixOf}
-use Rattle.nom_internal.specs.Outcome.{Outcome}
-use Rattle.nom_internal.specs.Outcome.Outcome.{Accept}
-use Rattle.nom_internal.specs.Meaning.{Meaning}
+use Rattle.nom_internal.specs.Prelude.{Model, IsSuffixOf, Outcome, Accept, Meaning}
 use Rattle.nom_repeat.specs.Accepted.{InTurn}
 
 -- a length, and after it just that many items in turn, of any length

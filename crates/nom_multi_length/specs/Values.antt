@@ -1,20 +1,10 @@
 -- A value after a length, on exactly so much of the input.
 use Rattle.std.specs.Prelude.{◌≡◌, ℕ, ◌-◌, ◌<◌, ◌≤◌, Bool, true, ◌⊎◌, Option, Some, Result, Ok, Err}
-use Rattle.nom_error.specs.Errors.{Errors}
-use Rattle.nom_error.specs.Answers.{Refuses}
-use Rattle.nom_error.specs.declared.answer.Needed.{Needed}
+use Rattle.nom_internal.specs.Prelude.{Errors, Refuses, Needed, Incomplete, Error, Failure, OutOfMemory, Model, IsBoundary, input_len, Slice, IsFirst}
+use Rattle.nom_internal.specs.Prelude.{IsModelledBy, Outcome, Accept, Refuse, Stop, Fails, Needs, Meaning, fixed_meaning, Family, Leaf, leaf_meaning}
 use Rattle.nom_error.specs.declared.answer.Err as Answer
-use Rattle.nom_error.specs.declared.answer.Err.TheVariants.{Incomplete, Error, Failure, OutOfMemory}
 use Rattle.nom_error.specs.declared.kind.ErrorKind.TheVariants as Kind
-use Rattle.nom_traits.specs.Input.{Model, IsBoundary, input_len}
-use Rattle.nom_traits.specs.Slices.{Slice, IsFirst, IsModelledBy}
-use Rattle.nom_internal.specs.Outcome.{Outcome}
-use Rattle.nom_internal.specs.Outcome.Outcome.{Accept, Refuse, Fail, TooLarge, Undecided}
-use Rattle.nom_internal.specs.Meaning.{Meaning}
 use Rattle.nom_internal.specs.Bounded.{and_then_meaning}
-use Rattle.nom_internal.specs.Cases.{fixed_meaning}
-use Rattle.nom_internal.specs.Families.{Family}
-use Rattle.nom_internal.specs.Leaf.{Leaf, leaf_meaning}
 use Rattle.nom_multi_length.specs.Lengths.{behind_length}
 
 -- the first items, of the length n together; a refusal, where that is no place; and what is lacking is needed
@@ -33,17 +23,15 @@ window_meaning w errs n = fixed_meaning true (leaf_meaning (Unit {0}) (λ i. err
 abbrev pub settled : {V : Type 0} → Outcome V → Outcome V
 settled (Accept n v) = Accept n v
 settled Refuse = Refuse
-settled Fail = Fail
-settled TooLarge = TooLarge
-settled (Undecided k) = Refuse
+settled (Stop (Fails cause)) = Stop (Fails cause)
+settled (Stop (Needs k)) = Refuse
 
 -- that refusal's error is of its own, and every other the part's
 abbrev pub SettledBlames : {V E : Type 0} → (E → Type 0) → (E → Type 0) → Outcome V → E → Type 0
 SettledBlames Own Part (Accept n v) e = Part e
 SettledBlames Own Part Refuse e = Part e
-SettledBlames Own Part Fail e = Part e
-SettledBlames Own Part TooLarge e = Part e
-SettledBlames Own Part (Undecided k) e = Own e
+SettledBlames Own Part (Stop (Fails cause)) e = Part e
+SettledBlames Own Part (Stop (Needs k)) e = Own e
 
 -- A part on all that there is, in the mode that is asked for. What it refuses for want of more where more may come, it may
 -- accept in the complete mode: so it doesn't settle.
@@ -52,7 +40,7 @@ settled_meaning {V = V} errs m = record {
   IsSound = m.IsSound;
   answers = λ s i o. (a : Outcome V) × m.answers s i a × (o ≡ settled a);
   blames = λ s i e. (a : Outcome V) × m.answers s i a × SettledBlames (errs.of_kind i Kind.Complete) (m.blames s i) a e;
-  may_run_out = λ mode i. m.may_run_out mode i ⊎ ((k : Option ℕ) × m.answers mode.streaming i (Undecided k) × (mode.errors ≡ true) × errs.grows);
+  may_run_out = λ mode i. m.may_run_out mode i ⊎ ((k : Option ℕ) × m.answers mode.streaming i (Stop (Needs k)) × (mode.errors ≡ true) × errs.grows);
   IsFrugal = λ mode. m.IsFrugal mode × (mode.errors ≡ true → errs.grows → ⊥);
   Settles = ⊥;
   NeverFails = m.NeverFails;

@@ -1,9 +1,6 @@
 //! The first items of an input, by their length.
 ghost use Rattle.std.specs.Prelude.{MatchBool};
-ghost use Rattle.nom_error.specs.Modes.{modes};
-ghost use Rattle.nom_traits.specs.Input.{IsBoundary};
-ghost use Rattle.nom_traits.specs.Slices.{IsModelledBy};
-ghost use Rattle.nom_internal.specs.Meaning.{ShowsMeaning};
+ghost use Rattle.nom_internal.specs.Prelude.{modes, IsBoundary, IsModelledBy, ShowsMeaning};
 ghost use Rattle.nom_multi_length.specs.Values.{window_meaning};
 
 use nom_error::answer::{Err, Needed, PResult};

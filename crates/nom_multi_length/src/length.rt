@@ -1,5 +1,5 @@
 //! Data after a length.
-ghost use Rattle.nom_traits.specs.Slices.{Slice, IsModelledBy};
+ghost use Rattle.nom_internal.specs.Prelude.{Slice, IsModelledBy};
 ghost use Rattle.nom_multi_length.specs.Lengths.{HasSize, length_data_meaning};
 
 use nom_bytes::take;

@@ -1,9 +1,7 @@
 //! A value after the length of what it is read from.
 ghost use Rattle.std.specs.Prelude.{◌≡◌};
 ghost use Rattle.nom_error.specs.declared.kind.ErrorKind.TheVariants as Kind;
-ghost use Rattle.nom_error.specs.Modes.{modes};
-ghost use Rattle.nom_internal.specs.Meaning.{ShowsMeaning};
-ghost use Rattle.nom_internal.specs.Pinned.{IsPinned};
+ghost use Rattle.nom_internal.specs.Prelude.{modes, ShowsMeaning, IsPinned};
 ghost use Rattle.nom_multi_length.specs.Lengths.{HasSize};
 ghost use Rattle.nom_multi_length.specs.Values.{SettlesResult, settled_meaning, values_by_length, length_value_meaning};
 

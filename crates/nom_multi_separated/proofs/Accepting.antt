@@ -1,10 +1,7 @@
 -- What lists with a separator between their items accept.
 use Rattle.std.proofs.Common.{◌≡◌, ◌∙◌, Bool, false, ℕ, ◌+◌, ◌<◌, ◌⊎◌, Some, None, List, [], ◌∷◌, ◌++◌, refl, arith, ap, subst, sym, inl, inr}
-use Rattle.nom_error.specs.Errors.{Errors}
+use Rattle.nom_internal.specs.Prelude.{Errors, Model, InputLaws, IsSuffixOf, Accept, Refuse, Meaning}
 use Rattle.nom_error.specs.declared.kind.ErrorKind.TheVariants as Kind
-use Rattle.nom_traits.specs.Input.{Model, InputLaws, IsSuffixOf}
-use Rattle.nom_internal.specs.Outcome.Outcome.{Accept, Refuse}
-use Rattle.nom_internal.specs.Meaning.{Meaning}
 use Rattle.nom_repeat.specs.Accepted.{InTurn, AcceptsOneAndMore, OneAndMore}
 use Rattle.nom_repeat.specs.declared.items.TooFew.TheVariants.{Passed}
 use Rattle.nom_repeat.proofs.AcceptedItems.{accepted_in_turn, in_turn_accepted}

@@ -2,18 +2,9 @@
 use Rattle.std.proofs.Common.{◌≡◌, ◌<◌, Bool, true, false, Ok, Err, Option, Some, None, List, [], ◌∷◌, ◌++◌, length, inl, refl, sym, ap, subst, arith}
 use Rattle.std.specs.Prelude.{ltb}
 use Rattle.std.proofs.lemmas.Bool.{le-ltb}
-use Rattle.nom_error.specs.Answers.{PResult}
-use Rattle.nom_error.specs.Errors.{Errors}
-use Rattle.nom_error.specs.declared.answer.Needed.{Needed}
+use Rattle.nom_internal.specs.Prelude.{PResult, Errors, Needed, Incomplete, Error, Failure, OutOfMemory, Built, Modes, modes, Model, InputLaws, Outcome, Accept}
+use Rattle.nom_internal.specs.Prelude.{Refuse, ShowsAnswer, RanOut, Shown, Meaning, ShowsMeaning, always}
 use Rattle.nom_error.specs.declared.answer.Err as Answer
-use Rattle.nom_error.specs.declared.answer.Err.TheVariants.{Incomplete, Error, Failure, OutOfMemory}
-use Rattle.nom_error.specs.Modes.{Built, Modes, modes}
-use Rattle.nom_traits.specs.Input.{Model, InputLaws}
-use Rattle.nom_internal.specs.Outcome.{Outcome, ShowsAnswer}
-use Rattle.nom_internal.specs.Outcome.ShowsAnswer.{RanOut, Shown}
-use Rattle.nom_internal.specs.Outcome.Outcome.{Accept, Refuse}
-use Rattle.nom_internal.specs.Meaning.{Meaning, ShowsMeaning}
-use Rattle.nom_internal.specs.Families.{always}
 use Rattle.nom_internal.proofs.Shown.{Accepts, output_err}
 use Rattle.nom_repeat.specs.Repeat.{TurnsBy}
 use Rattle.nom_repeat.specs.Items.{item_turn, refused_turn, items_rule}

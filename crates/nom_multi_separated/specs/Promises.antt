@@ -1,8 +1,6 @@
 -- What lists with a separator promise, said of their meanings.
 use Rattle.std.specs.Prelude.{◌≡◌, ℕ, ◌<◌, ◌⊎◌, ◌↔◌, Bool, None, List, []}
-use Rattle.nom_traits.specs.Input.{Model}
-use Rattle.nom_internal.specs.Outcome.Outcome.{Accept, Refuse}
-use Rattle.nom_internal.specs.Meaning.{Meaning}
+use Rattle.nom_internal.specs.Prelude.{Model, Accept, Refuse, Meaning}
 use Rattle.nom_repeat.specs.Accepted.{InTurn, OneAndMore}
 
 -- What a list of the part m accepts that may be empty: none, where the part refuses; or a first item, and after it just the items

@@ -1,13 +1,7 @@
 -- Items with a separator between them.
 use Rattle.std.specs.Prelude.{◌≡◌, Bool, true, false, Option, Some, None, List, [], ◌∷◌, ◌++◌}
-use Rattle.nom_error.specs.Errors.{Errors}
+use Rattle.nom_internal.specs.Prelude.{Errors, Built, Model, Meaning, Family, then_meaning, sequence_meaning, success_meaning}
 use Rattle.nom_error.specs.declared.kind.ErrorKind.TheVariants as Kind
-use Rattle.nom_error.specs.Modes.{Built}
-use Rattle.nom_traits.specs.Input.{Model}
-use Rattle.nom_internal.specs.Meaning.{Meaning}
-use Rattle.nom_internal.specs.Families.{Family}
-use Rattle.nom_internal.specs.Sequence.{then_meaning, sequence_meaning}
-use Rattle.nom_internal.specs.Success.{success_meaning}
 use Rattle.nom_repeat.specs.Accumulated.{Accumulated}
 use Rattle.nom_repeat.specs.Items.{items_meaning}
 use Rattle.nom_repeat.specs.declared.items.Limits.{Limits}

@@ -1,8 +1,7 @@
 //! Items with a separator between them.
 ghost use Rattle.std.specs.Prelude.{◌≡◌, true, List};
 ghost use Rattle.std.specs.List.{AllZip};
-ghost use Rattle.nom_error.specs.Modes.{Built, modes};
-ghost use Rattle.nom_internal.specs.Outcome.{ShowsAnswer};
+ghost use Rattle.nom_internal.specs.Prelude.{Built, modes, ShowsAnswer};
 ghost use Rattle.nom_multi_separated.specs.Separated.{Found, optional_meaning, separated0_meaning, separated1_meaning};
 
 use nom_error::answer::{Err, PResult};

@@ -2,13 +2,8 @@
 use Rattle.std.proofs.Common.{◌≡◌, ℕ, ◌<◌, ◌-◌, Bool, true, false, suc, zero, List, [], ◌∷◌, ◌++◌, length, Option, Some, None, refl, sym, ◌∙◌, ap}
 use Rattle.std.proofs.Common.{arith, length-append}
 use Rattle.std.specs.Iterator.{AlwaysYields}
-use Rattle.nom_error.specs.Answers.{size_of}
-use Rattle.nom_error.specs.declared.answer.Needed.{Needed}
-use Rattle.nom_error.specs.declared.answer.Needed.TheVariants.{Unknown}
-use Rattle.nom_error.specs.Modes.{Built}
-use Rattle.nom_traits.specs.Input.{Model, items_len, IsPrefixOf, InputLaws}
-use Rattle.nom_traits.specs.Slices.{IsCount, front_seen, place_slice, place_first}
-use Rattle.nom_traits.specs.Digits.{value_of}
+use Rattle.nom_internal.specs.Prelude.{size_of, Needed, Unknown, Built, Model, items_len, IsPrefixOf, InputLaws, IsCount, front_seen, place_slice, place_first}
+use Rattle.nom_internal.specs.Prelude.{value_of}
 use Rattle.nom_number.specs.Numbers.{lacking}
 
 -- what the first call of an iterator over some items gives

@@ -1,22 +1,24 @@
 -- The number that bytes write, byte by byte.
-use Rattle.std.proofs.Common.{◌≡◌, ℕ, ◌<◌, ◌≤◌, ◌+◌, ◌*◌, ◌^◌, Bool, true, false, suc, zero, List, [], ◌∷◌, ◌++◌, length, reverse, Option, Some, None}
+use Rattle.std.proofs.Common.{◌≡◌, ℕ, ◌<◌, ◌≤◌, ◌+◌, ◌*◌, ◌^◌, suc, zero, List, [], ◌∷◌, ◌++◌, length, reverse, Option, Some, None}
 use Rattle.std.proofs.Common.{refl, sym, ◌∙◌, ap, subst, arith, append_assoc, append-nil, length-append}
 use Rattle.std.specs.Iterator.{AlwaysYields}
 use Rattle.std.proofs.lemmas.List.{reverse-append, length-reverse}
 use Rattle.std.proofs.lemmas.Nat.{pow-add}
 use Rattle.std.proofs.Math.Nat.{pow-suc, mul-le-mul}
 use Rattle.std.proofs.Math.Pow.{pow_mono}
-use Rattle.nom_traits.specs.Digits.{digits_after, value_of, value_more}
+use Rattle.nom_internal.specs.Prelude.{digits_after, value_of, value_more}
+use Rattle.nom_number.specs.declared.order.Endianness.{Endianness}
+use Rattle.nom_number.specs.declared.order.Endianness.TheVariants.{Big, Little, Native}
 use Rattle.nom_number.specs.Numbers.{binary_number}
 
 -- what iterates over the bytes xs has given n of them, which write the number
-pub record IsSummed {S : Type 0} (big : Bool) (steps : S → Option ℕ → S → Type 0) (xs : List ℕ) (n number : ℕ) (s : S) : Type 0 where
+pub record IsSummed {S : Type 0} (endian : Endianness) (steps : S → Option ℕ → S → Type 0) (xs : List ℕ) (n number : ℕ) (s : S) : Type 0 where
   pub passed : List ℕ
   pub rest : List ℕ
   pub whole : xs ≡ passed ++ rest
   pub gives : AlwaysYields steps (λ x. x) s rest
   pub count_is : length passed ≡ n
-  pub number_is : number ≡ binary_number big passed
+  pub number_is : number ≡ binary_number endian passed
   pub below : number < 2 ^ (8 * n)
 
 -- one more byte
@@ -49,11 +51,11 @@ after v (d ∷ ds) = after_step v d (256 ^ length ds) (256 ^ suc (length ds)) _ 
     (pow-suc 256 (length ds))
 
 -- bytes, and one more that is lower than all: it is their number's lowest digit
-big_more : (passed : List ℕ) (x : ℕ) → binary_number true (passed ++ x ∷ []) ≡ 256 * binary_number true passed + x
+big_more : (passed : List ℕ) (x : ℕ) → binary_number Big (passed ++ x ∷ []) ≡ 256 * binary_number Big passed + x
 big_more passed x = value_more 256 0 x passed
 
 -- and one that is higher than all
-little_more : (passed : List ℕ) (x : ℕ) → binary_number false (passed ++ x ∷ []) ≡ binary_number false passed + x * 2 ^ (8 * length passed)
+little_more : (passed : List ℕ) (x : ℕ) → binary_number Little (passed ++ x ∷ []) ≡ binary_number Little passed + x * 2 ^ (8 * length passed)
 little_more passed x = ap (value_of 256) (reverse-append passed (x ∷ [])) ∙ (after (256 * 0 + x) (reverse passed) ∙ omega (arith, width))
   where
     width : x * 256 ^ length (reverse passed) ≡ x * 2 ^ (8 * length passed)
@@ -69,20 +71,18 @@ none_left : {S : Type 0} (steps : S → Option ℕ → S → Type 0) (s t : S) (
 none_left steps s t [] h k = refl
 none_left steps s t (y ∷ ys) h k = absurd (h.0 t k)
 
-module _ {S : Type 0} (big : Bool) (steps : S → Option ℕ → S → Type 0) (xs : List ℕ) where
-  pub begins : (s : S) → AlwaysYields steps (λ x. x) s xs → IsSummed big steps xs 0 0 s
-  begins s h = record { passed = []; rest = xs; whole = refl; gives = h; count_is = refl; number_is = none big; below = omega arith }
-    where
-      none : (b : Bool) → 0 ≡ binary_number b []
-      none true = refl
-      none false = refl
+module _ {S : Type 0} (endian : Endianness) (steps : S → Option ℕ → S → Type 0) (xs : List ℕ) where
+  pub begins : (s : S) → AlwaysYields steps (λ x. x) s xs → IsSummed endian steps xs 0 0 s
+  begins s h =
+      let none = elim endian as (λ e. 0 ≡ binary_number e []) [ Big ↦ refl | Little ↦ refl | Native ↦ refl ] in
+      record { passed = []; rest = xs; whole = refl; gives = h; count_is = refl; number_is = none; below = omega arith }
 
-  module _ (n number : ℕ) (s t : S) (r : IsSummed big steps xs n number s) where
+  module _ (n number : ℕ) (s t : S) (r : IsSummed endian steps xs n number s) where
     -- all are given
-    pub ends : steps s None t → (number ≡ binary_number big xs) × (number < 2 ^ (8 * length xs))
+    pub ends : steps s None t → (number ≡ binary_number endian xs) × (number < 2 ^ (8 * length xs))
     ends k =
         let whole : xs ≡ r.passed = r.whole ∙ (ap (λ ys. r.passed ++ ys) (none_left steps s t r.rest r.gives k) ∙ append-nil r.passed) in
-        (r.number_is ∙ ap (binary_number big) (sym whole), subst (λ m. number < 2 ^ (8 * m)) (sym r.count_is ∙ ap length (sym whole)) r.below)
+        (r.number_is ∙ ap (binary_number endian) (sym whole), subst (λ m. number < 2 ^ (8 * m)) (sym r.count_is ∙ ap length (sym whole)) r.below)
 
     module _ (x : ℕ) (k : steps s (Some x) t) where
       next : (ys : List ℕ) × (r.rest ≡ x ∷ ys) × AlwaysYields steps (λ x. x) t ys
@@ -95,7 +95,7 @@ module _ {S : Type 0} (big : Bool) (steps : S → Option ℕ → S → Type 0) (
       pub one_left : n < length xs
       one_left = omega (arith, r.count_is, ap length whole_next, length-append r.passed (x ∷ next.0))
 
-      pub goes_on : (more : ℕ) → more ≡ binary_number big (r.passed ++ x ∷ []) → more < 2 ^ (8 * (n + 1)) → IsSummed big steps xs (n + 1) more t
+      pub goes_on : (more : ℕ) → more ≡ binary_number endian (r.passed ++ x ∷ []) → more < 2 ^ (8 * (n + 1)) → IsSummed endian steps xs (n + 1) more t
       goes_on more e b = record {
         passed = r.passed ++ x ∷ [];
         rest = next.0;
@@ -107,16 +107,16 @@ module _ {S : Type 0} (big : Bool) (steps : S → Option ℕ → S → Type 0) (
       }
 
 -- the highest byte first
-module _ {S : Type 0} (steps : S → Option ℕ → S → Type 0) (xs : List ℕ) (n number : ℕ) (s t : S) (r : IsSummed true steps xs n number s) (x : ℕ)
+module _ {S : Type 0} (steps : S → Option ℕ → S → Type 0) (xs : List ℕ) (n number : ℕ) (s t : S) (r : IsSummed Big steps xs n number s) (x : ℕ)
     (byte : x < 256) (k : steps s (Some x) t) where
   big_below : 256 * number + x < 2 ^ (8 * (n + 1))
   big_below = omega (arith, byte, r.below, one_byte n)
 
   pub big_fits : length xs < 17 → 256 * number + x < 2 ^ 128
-  big_fits h = omega (arith, big_below, sixteen n (omega (arith, h, one_left true steps xs n number s t r x k)))
+  big_fits h = omega (arith, big_below, sixteen n (omega (arith, h, one_left Big steps xs n number s t r x k)))
 
-  pub big_goes_on : IsSummed true steps xs (n + 1) (256 * number + x) t
-  big_goes_on = goes_on true steps xs n number s t r x k (256 * number + x) (ap (λ m. 256 * m + x) r.number_is ∙ sym (big_more r.passed x)) big_below
+  pub big_goes_on : IsSummed Big steps xs (n + 1) (256 * number + x) t
+  big_goes_on = goes_on Big steps xs n number s t r x k (256 * number + x) (ap (λ m. 256 * m + x) r.number_is ∙ sym (big_more r.passed x)) big_below
 
 -- a byte above a number
 within : (v x p : ℕ) → v < p → x < 256 → v + x * p < 256 * p
@@ -126,15 +126,15 @@ within v x p h b = omega (arith, h, most)
     most = mul-le-mul {n₁ = x} {m₁ = p} {n₂ = 255} {m₂ = p} (omega (arith, b)) (omega arith)
 
 -- the highest byte last
-module _ {S : Type 0} (steps : S → Option ℕ → S → Type 0) (xs : List ℕ) (n number : ℕ) (s t : S) (r : IsSummed false steps xs n number s) (x : ℕ)
+module _ {S : Type 0} (steps : S → Option ℕ → S → Type 0) (xs : List ℕ) (n number : ℕ) (s t : S) (r : IsSummed Little steps xs n number s) (x : ℕ)
     (byte : x < 256) (k : steps s (Some x) t) where
   little_below : number + x * 2 ^ (8 * n) < 2 ^ (8 * (n + 1))
   little_below = subst (λ p. number + x * 2 ^ (8 * n) < p) (sym (one_byte n)) (within number x (2 ^ (8 * n)) r.below byte)
 
   pub little_fits : length xs < 17 → number + x * 2 ^ (8 * n) < 2 ^ 128
-  little_fits h = omega (arith, little_below, sixteen n (omega (arith, h, one_left false steps xs n number s t r x k)))
+  little_fits h = omega (arith, little_below, sixteen n (omega (arith, h, one_left Little steps xs n number s t r x k)))
 
-  pub little_goes_on : IsSummed false steps xs (n + 1) (number + x * 2 ^ (8 * n)) t
-  little_goes_on = goes_on false steps xs n number s t r x k (number + x * 2 ^ (8 * n))
+  pub little_goes_on : IsSummed Little steps xs (n + 1) (number + x * 2 ^ (8 * n)) t
+  little_goes_on = goes_on Little steps xs n number s t r x k (number + x * 2 ^ (8 * n))
       (ap (λ m. m + x * 2 ^ (8 * n)) r.number_is ∙
-      (ap (λ m. binary_number false r.passed + x * 2 ^ (8 * m)) (sym r.count_is) ∙ sym (little_more r.passed x))) little_below
+      (ap (λ m. binary_number Little r.passed + x * 2 ^ (8 * m)) (sym r.count_is) ∙ sym (little_more r.passed x))) little_below

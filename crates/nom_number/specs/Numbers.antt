@@ -1,11 +1,9 @@
 -- Numbers that are written as items of an input.
-use Rattle.std.specs.Prelude.{ℕ, ◌-◌, ◌*◌, ◌^◌, nat_lt, Bool, true, false, cond, List, reverse, Option, Some, None, suc, zero, ℤ, pos, ◌-ℤ◌}
-use Rattle.nom_error.specs.Errors.{Errors}
-use Rattle.nom_traits.specs.Digits.{value_of}
-use Rattle.nom_traits.specs.Input.{Model, items_len}
-use Rattle.nom_internal.specs.Meaning.{Meaning}
-use Rattle.nom_internal.specs.Cases.{labelled_meaning}
+use Rattle.std.specs.Prelude.{ℕ, ◌-◌, ◌*◌, ◌^◌, nat_lt, cond, List, reverse, Option, Some, None, suc, zero, ℤ, pos, ◌-ℤ◌}
+use Rattle.nom_internal.specs.Prelude.{Errors, value_of, Model, items_len, Meaning, labelled_meaning}
 use Rattle.nom_bytes.specs.Takes.{take_meaning}
+use Rattle.nom_number.specs.declared.order.Endianness.{Endianness}
+use Rattle.nom_number.specs.Orders.{is_big}
 
 -- a size that lacks; where it is 0, it is unknown
 abbrev pub lacking : ℕ → Option ℕ
@@ -20,18 +18,17 @@ bytes_lack w count xs = lacking (count - items_len w.item_len xs)
 abbrev pub number_meaning : {I A N E : Type 0} → (w : Model I A) → Errors I E → (List A → N) → ℕ → Meaning I N E
 number_meaning w errs value count = labelled_meaning (λ t. value t.items) (take_meaning w errs (bytes_lack w) count)
 
--- the number that bytes write: the highest first (true), or last
-abbrev pub binary_number : (big : Bool) → List ℕ → ℕ
-binary_number true bytes = value_of 256 bytes
-binary_number false bytes = value_of 256 (reverse bytes)
+-- the number that bytes write in an order
+abbrev pub binary_number : Endianness → List ℕ → ℕ
+binary_number endian bytes = value_of 256 (cond (is_big endian) bytes (reverse bytes))
 
 -- the signed number of that many bits: less 2^bits, where the highest of them is set
 abbrev pub signed_of : (bits : ℕ) → ℕ → ℤ
 signed_of bits n = cond (nat_lt n (2 ^ (bits - 1))) (pos n) (pos n -ℤ pos (2 ^ bits))
 
 -- a number of that many bytes
-abbrev pub unsigned_meaning : {I E : Type 0} → Model I ℕ → Errors I E → (big : Bool) → ℕ → Meaning I ℕ E
-unsigned_meaning w errs big count = number_meaning w errs (binary_number big) count
+abbrev pub unsigned_meaning : {I E : Type 0} → Model I ℕ → Errors I E → Endianness → ℕ → Meaning I ℕ E
+unsigned_meaning w errs endian count = number_meaning w errs (binary_number endian) count
 
-abbrev pub signed_meaning : {I E : Type 0} → Model I ℕ → Errors I E → (big : Bool) → ℕ → Meaning I ℤ E
-signed_meaning w errs big count = number_meaning w errs (λ bytes. signed_of (8 * count) (binary_number big bytes)) count
+abbrev pub signed_meaning : {I E : Type 0} → Model I ℕ → Errors I E → Endianness → ℕ → Meaning I ℤ E
+signed_meaning w errs endian count = number_meaning w errs (λ bytes. signed_of (8 * count) (binary_number endian bytes)) count

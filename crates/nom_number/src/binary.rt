@@ -1,10 +1,8 @@
 //! Binary integers.
 ghost use Rattle.std.specs.Prelude.{◌≡◌, ◌<◌, ◌∷◌, ℕ, List, length};
-ghost use Rattle.nom_error.specs.Modes.{Built};
+ghost use Rattle.nom_internal.specs.Prelude.{Built, value_pinned, value_of};
 ghost use Rattle.nom_internal.specs.laws.CaseLaws.{labelled_lawful, labelled_steady};
-ghost use Rattle.nom_internal.specs.Pinned.{value_pinned};
 ghost use Rattle.nom_bytes.specs.laws.TakeLaws.{take_lawful, take_steady};
-ghost use Rattle.nom_traits.specs.Digits.{value_of};
 ghost use Rattle.nom_number.specs.Numbers.{bytes_lack, number_meaning};
 
 use nom_error::answer::{Err, Needed, PResult};

@@ -1,8 +1,7 @@
 //! Numbers.
 #![tactic(auto)]
 
-ghost use Rattle.std.specs.Prelude.{◌≡◌, true, false};
-ghost use Rattle.nom_number.specs.Orders.{is_big};
+ghost use Rattle.std.specs.Prelude.{◌≡◌};
 
 mod binary;
 pub mod complete;
@@ -27,11 +26,11 @@ pub fn be_u8<I, E>() -> BeU8<I, E> {
 
 /// A number in the order that is given.
 #[inline(always)]
-fn in_order<F, I, E>(big: bool) -> Binary<F, I, E>
-    ensures { result.big ≡ big }
+fn in_order<F, I, E>(endian: Endianness) -> Binary<F, I, E>
+    ensures { result.endian ≡ endian }
 {
     Binary {
-        big,
+        endian,
         types: PhantomData,
     }
 }
@@ -41,9 +40,9 @@ fn in_order<F, I, E>(big: bool) -> Binary<F, I, E>
 /// Where there are fewer bytes, streaming asks for the rest, and complete refuses with `Eof`.
 #[inline(always)]
 pub fn be_u16<I, E>() -> Binary<layout::U16, I, E>
-    ensures { result.big ≡ true }
+    ensures { result.endian ≡ Endianness.Big }
 {
-    in_order(true)
+    in_order(Endianness::Big)
 }
 
 /// A number of three bytes, the highest first.
@@ -51,9 +50,9 @@ pub fn be_u16<I, E>() -> Binary<layout::U16, I, E>
 /// Where there are fewer bytes, streaming asks for the rest, and complete refuses with `Eof`.
 #[inline(always)]
 pub fn be_u24<I, E>() -> Binary<layout::U24, I, E>
-    ensures { result.big ≡ true }
+    ensures { result.endian ≡ Endianness.Big }
 {
-    in_order(true)
+    in_order(Endianness::Big)
 }
 
 /// A number of four bytes, the highest first.
@@ -61,9 +60,9 @@ pub fn be_u24<I, E>() -> Binary<layout::U24, I, E>
 /// Where there are fewer bytes, streaming asks for the rest, and complete refuses with `Eof`.
 #[inline(always)]
 pub fn be_u32<I, E>() -> Binary<layout::U32, I, E>
-    ensures { result.big ≡ true }
+    ensures { result.endian ≡ Endianness.Big }
 {
-    in_order(true)
+    in_order(Endianness::Big)
 }
 
 /// A number of eight bytes, the highest first.
@@ -71,9 +70,9 @@ pub fn be_u32<I, E>() -> Binary<layout::U32, I, E>
 /// Where there are fewer bytes, streaming asks for the rest, and complete refuses with `Eof`.
 #[inline(always)]
 pub fn be_u64<I, E>() -> Binary<layout::U64, I, E>
-    ensures { result.big ≡ true }
+    ensures { result.endian ≡ Endianness.Big }
 {
-    in_order(true)
+    in_order(Endianness::Big)
 }
 
 /// A number of sixteen bytes, the highest first.
@@ -81,9 +80,9 @@ pub fn be_u64<I, E>() -> Binary<layout::U64, I, E>
 /// Where there are fewer bytes, streaming asks for the rest, and complete refuses with `Eof`.
 #[inline(always)]
 pub fn be_u128<I, E>() -> Binary<layout::U128, I, E>
-    ensures { result.big ≡ true }
+    ensures { result.endian ≡ Endianness.Big }
 {
-    in_order(true)
+    in_order(Endianness::Big)
 }
 
 /// A signed number of one byte.
@@ -91,9 +90,9 @@ pub fn be_u128<I, E>() -> Binary<layout::U128, I, E>
 /// Where there are fewer bytes, streaming asks for the rest, and complete refuses with `Eof`.
 #[inline(always)]
 pub fn be_i8<I, E>() -> Binary<layout::I8, I, E>
-    ensures { result.big ≡ true }
+    ensures { result.endian ≡ Endianness.Big }
 {
-    in_order(true)
+    in_order(Endianness::Big)
 }
 
 /// A signed number of two bytes, the highest first.
@@ -101,9 +100,9 @@ pub fn be_i8<I, E>() -> Binary<layout::I8, I, E>
 /// Where there are fewer bytes, streaming asks for the rest, and complete refuses with `Eof`.
 #[inline(always)]
 pub fn be_i16<I, E>() -> Binary<layout::I16, I, E>
-    ensures { result.big ≡ true }
+    ensures { result.endian ≡ Endianness.Big }
 {
-    in_order(true)
+    in_order(Endianness::Big)
 }
 
 /// A signed number of three bytes, the highest first.
@@ -111,9 +110,9 @@ pub fn be_i16<I, E>() -> Binary<layout::I16, I, E>
 /// Where there are fewer bytes, streaming asks for the rest, and complete refuses with `Eof`.
 #[inline(always)]
 pub fn be_i24<I, E>() -> Binary<layout::I24, I, E>
-    ensures { result.big ≡ true }
+    ensures { result.endian ≡ Endianness.Big }
 {
-    in_order(true)
+    in_order(Endianness::Big)
 }
 
 /// A signed number of four bytes, the highest first.
@@ -121,9 +120,9 @@ pub fn be_i24<I, E>() -> Binary<layout::I24, I, E>
 /// Where there are fewer bytes, streaming asks for the rest, and complete refuses with `Eof`.
 #[inline(always)]
 pub fn be_i32<I, E>() -> Binary<layout::I32, I, E>
-    ensures { result.big ≡ true }
+    ensures { result.endian ≡ Endianness.Big }
 {
-    in_order(true)
+    in_order(Endianness::Big)
 }
 
 /// A signed number of eight bytes, the highest first.
@@ -131,9 +130,9 @@ pub fn be_i32<I, E>() -> Binary<layout::I32, I, E>
 /// Where there are fewer bytes, streaming asks for the rest, and complete refuses with `Eof`.
 #[inline(always)]
 pub fn be_i64<I, E>() -> Binary<layout::I64, I, E>
-    ensures { result.big ≡ true }
+    ensures { result.endian ≡ Endianness.Big }
 {
-    in_order(true)
+    in_order(Endianness::Big)
 }
 
 /// A signed number of sixteen bytes, the highest first.
@@ -141,9 +140,9 @@ pub fn be_i64<I, E>() -> Binary<layout::I64, I, E>
 /// Where there are fewer bytes, streaming asks for the rest, and complete refuses with `Eof`.
 #[inline(always)]
 pub fn be_i128<I, E>() -> Binary<layout::I128, I, E>
-    ensures { result.big ≡ true }
+    ensures { result.endian ≡ Endianness.Big }
 {
-    in_order(true)
+    in_order(Endianness::Big)
 }
 
 /// A number of one byte.
@@ -151,9 +150,9 @@ pub fn be_i128<I, E>() -> Binary<layout::I128, I, E>
 /// Where there are fewer bytes, streaming asks for the rest, and complete refuses with `Eof`.
 #[inline(always)]
 pub fn le_u8<I, E>() -> Binary<layout::U8, I, E>
-    ensures { result.big ≡ false }
+    ensures { result.endian ≡ Endianness.Little }
 {
-    in_order(false)
+    in_order(Endianness::Little)
 }
 
 /// A number of two bytes, the lowest first.
@@ -161,9 +160,9 @@ pub fn le_u8<I, E>() -> Binary<layout::U8, I, E>
 /// Where there are fewer bytes, streaming asks for the rest, and complete refuses with `Eof`.
 #[inline(always)]
 pub fn le_u16<I, E>() -> Binary<layout::U16, I, E>
-    ensures { result.big ≡ false }
+    ensures { result.endian ≡ Endianness.Little }
 {
-    in_order(false)
+    in_order(Endianness::Little)
 }
 
 /// A number of three bytes, the lowest first.
@@ -171,9 +170,9 @@ pub fn le_u16<I, E>() -> Binary<layout::U16, I, E>
 /// Where there are fewer bytes, streaming asks for the rest, and complete refuses with `Eof`.
 #[inline(always)]
 pub fn le_u24<I, E>() -> Binary<layout::U24, I, E>
-    ensures { result.big ≡ false }
+    ensures { result.endian ≡ Endianness.Little }
 {
-    in_order(false)
+    in_order(Endianness::Little)
 }
 
 /// A number of four bytes, the lowest first.
@@ -181,9 +180,9 @@ pub fn le_u24<I, E>() -> Binary<layout::U24, I, E>
 /// Where there are fewer bytes, streaming asks for the rest, and complete refuses with `Eof`.
 #[inline(always)]
 pub fn le_u32<I, E>() -> Binary<layout::U32, I, E>
-    ensures { result.big ≡ false }
+    ensures { result.endian ≡ Endianness.Little }
 {
-    in_order(false)
+    in_order(Endianness::Little)
 }
 
 /// A number of eight bytes, the lowest first.
@@ -191,9 +190,9 @@ pub fn le_u32<I, E>() -> Binary<layout::U32, I, E>
 /// Where there are fewer bytes, streaming asks for the rest, and complete refuses with `Eof`.
 #[inline(always)]
 pub fn le_u64<I, E>() -> Binary<layout::U64, I, E>
-    ensures { result.big ≡ false }
+    ensures { result.endian ≡ Endianness.Little }
 {
-    in_order(false)
+    in_order(Endianness::Little)
 }
 
 /// A number of sixteen bytes, the lowest first.
@@ -201,9 +200,9 @@ pub fn le_u64<I, E>() -> Binary<layout::U64, I, E>
 /// Where there are fewer bytes, streaming asks for the rest, and complete refuses with `Eof`.
 #[inline(always)]
 pub fn le_u128<I, E>() -> Binary<layout::U128, I, E>
-    ensures { result.big ≡ false }
+    ensures { result.endian ≡ Endianness.Little }
 {
-    in_order(false)
+    in_order(Endianness::Little)
 }
 
 /// A signed number of one byte.
@@ -211,9 +210,9 @@ pub fn le_u128<I, E>() -> Binary<layout::U128, I, E>
 /// Where there are fewer bytes, streaming asks for the rest, and complete refuses with `Eof`.
 #[inline(always)]
 pub fn le_i8<I, E>() -> Binary<layout::I8, I, E>
-    ensures { result.big ≡ false }
+    ensures { result.endian ≡ Endianness.Little }
 {
-    in_order(false)
+    in_order(Endianness::Little)
 }
 
 /// A signed number of two bytes, the lowest first.
@@ -221,9 +220,9 @@ pub fn le_i8<I, E>() -> Binary<layout::I8, I, E>
 /// Where there are fewer bytes, streaming asks for the rest, and complete refuses with `Eof`.
 #[inline(always)]
 pub fn le_i16<I, E>() -> Binary<layout::I16, I, E>
-    ensures { result.big ≡ false }
+    ensures { result.endian ≡ Endianness.Little }
 {
-    in_order(false)
+    in_order(Endianness::Little)
 }
 
 /// A signed number of three bytes, the lowest first.
@@ -231,9 +230,9 @@ pub fn le_i16<I, E>() -> Binary<layout::I16, I, E>
 /// Where there are fewer bytes, streaming asks for the rest, and complete refuses with `Eof`.
 #[inline(always)]
 pub fn le_i24<I, E>() -> Binary<layout::I24, I, E>
-    ensures { result.big ≡ false }
+    ensures { result.endian ≡ Endianness.Little }
 {
-    in_order(false)
+    in_order(Endianness::Little)
 }
 
 /// A signed number of four bytes, the lowest first.
@@ -241,9 +240,9 @@ pub fn le_i24<I, E>() -> Binary<layout::I24, I, E>
 /// Where there are fewer bytes, streaming asks for the rest, and complete refuses with `Eof`.
 #[inline(always)]
 pub fn le_i32<I, E>() -> Binary<layout::I32, I, E>
-    ensures { result.big ≡ false }
+    ensures { result.endian ≡ Endianness.Little }
 {
-    in_order(false)
+    in_order(Endianness::Little)
 }
 
 /// A signed number of eight bytes, the lowest first.
@@ -251,9 +250,9 @@ pub fn le_i32<I, E>() -> Binary<layout::I32, I, E>
 /// Where there are fewer bytes, streaming asks for the rest, and complete refuses with `Eof`.
 #[inline(always)]
 pub fn le_i64<I, E>() -> Binary<layout::I64, I, E>
-    ensures { result.big ≡ false }
+    ensures { result.endian ≡ Endianness.Little }
 {
-    in_order(false)
+    in_order(Endianness::Little)
 }
 
 /// A signed number of sixteen bytes, the lowest first.
@@ -261,9 +260,9 @@ pub fn le_i64<I, E>() -> Binary<layout::I64, I, E>
 /// Where there are fewer bytes, streaming asks for the rest, and complete refuses with `Eof`.
 #[inline(always)]
 pub fn le_i128<I, E>() -> Binary<layout::I128, I, E>
-    ensures { result.big ≡ false }
+    ensures { result.endian ≡ Endianness.Little }
 {
-    in_order(false)
+    in_order(Endianness::Little)
 }
 
 /// `be_u8`: one byte has no order.
@@ -275,7 +274,7 @@ pub fn u8<I, E>() -> BeU8<I, E> {
 /// `be_i8`: one byte has no order.
 #[inline(always)]
 pub fn i8<I, E>() -> Binary<layout::I8, I, E>
-    ensures { result.big ≡ true }
+    ensures { result.endian ≡ Endianness.Big }
 {
     be_i8()
 }
@@ -285,9 +284,9 @@ pub fn i8<I, E>() -> Binary<layout::I8, I, E>
 /// Where there are fewer bytes, streaming asks for the rest, and complete refuses with `Eof`.
 #[inline(always)]
 pub fn u16<I, E>(endian: Endianness) -> Binary<layout::U16, I, E>
-    ensures { result.big ≡ is_big endian }
+    ensures { result.endian ≡ endian }
 {
-    in_order(endian.is_big())
+    in_order(endian)
 }
 
 /// A number of three bytes, in the order that is given.
@@ -295,9 +294,9 @@ pub fn u16<I, E>(endian: Endianness) -> Binary<layout::U16, I, E>
 /// Where there are fewer bytes, streaming asks for the rest, and complete refuses with `Eof`.
 #[inline(always)]
 pub fn u24<I, E>(endian: Endianness) -> Binary<layout::U24, I, E>
-    ensures { result.big ≡ is_big endian }
+    ensures { result.endian ≡ endian }
 {
-    in_order(endian.is_big())
+    in_order(endian)
 }
 
 /// A number of four bytes, in the order that is given.
@@ -305,9 +304,9 @@ pub fn u24<I, E>(endian: Endianness) -> Binary<layout::U24, I, E>
 /// Where there are fewer bytes, streaming asks for the rest, and complete refuses with `Eof`.
 #[inline(always)]
 pub fn u32<I, E>(endian: Endianness) -> Binary<layout::U32, I, E>
-    ensures { result.big ≡ is_big endian }
+    ensures { result.endian ≡ endian }
 {
-    in_order(endian.is_big())
+    in_order(endian)
 }
 
 /// A number of eight bytes, in the order that is given.
@@ -315,9 +314,9 @@ pub fn u32<I, E>(endian: Endianness) -> Binary<layout::U32, I, E>
 /// Where there are fewer bytes, streaming asks for the rest, and complete refuses with `Eof`.
 #[inline(always)]
 pub fn u64<I, E>(endian: Endianness) -> Binary<layout::U64, I, E>
-    ensures { result.big ≡ is_big endian }
+    ensures { result.endian ≡ endian }
 {
-    in_order(endian.is_big())
+    in_order(endian)
 }
 
 /// A number of sixteen bytes, in the order that is given.
@@ -325,9 +324,9 @@ pub fn u64<I, E>(endian: Endianness) -> Binary<layout::U64, I, E>
 /// Where there are fewer bytes, streaming asks for the rest, and complete refuses with `Eof`.
 #[inline(always)]
 pub fn u128<I, E>(endian: Endianness) -> Binary<layout::U128, I, E>
-    ensures { result.big ≡ is_big endian }
+    ensures { result.endian ≡ endian }
 {
-    in_order(endian.is_big())
+    in_order(endian)
 }
 
 /// A signed number of two bytes, in the order that is given.
@@ -335,9 +334,9 @@ pub fn u128<I, E>(endian: Endianness) -> Binary<layout::U128, I, E>
 /// Where there are fewer bytes, streaming asks for the rest, and complete refuses with `Eof`.
 #[inline(always)]
 pub fn i16<I, E>(endian: Endianness) -> Binary<layout::I16, I, E>
-    ensures { result.big ≡ is_big endian }
+    ensures { result.endian ≡ endian }
 {
-    in_order(endian.is_big())
+    in_order(endian)
 }
 
 /// A signed number of three bytes, in the order that is given.
@@ -345,9 +344,9 @@ pub fn i16<I, E>(endian: Endianness) -> Binary<layout::I16, I, E>
 /// Where there are fewer bytes, streaming asks for the rest, and complete refuses with `Eof`.
 #[inline(always)]
 pub fn i24<I, E>(endian: Endianness) -> Binary<layout::I24, I, E>
-    ensures { result.big ≡ is_big endian }
+    ensures { result.endian ≡ endian }
 {
-    in_order(endian.is_big())
+    in_order(endian)
 }
 
 /// A signed number of four bytes, in the order that is given.
@@ -355,9 +354,9 @@ pub fn i24<I, E>(endian: Endianness) -> Binary<layout::I24, I, E>
 /// Where there are fewer bytes, streaming asks for the rest, and complete refuses with `Eof`.
 #[inline(always)]
 pub fn i32<I, E>(endian: Endianness) -> Binary<layout::I32, I, E>
-    ensures { result.big ≡ is_big endian }
+    ensures { result.endian ≡ endian }
 {
-    in_order(endian.is_big())
+    in_order(endian)
 }
 
 /// A signed number of eight bytes, in the order that is given.
@@ -365,9 +364,9 @@ pub fn i32<I, E>(endian: Endianness) -> Binary<layout::I32, I, E>
 /// Where there are fewer bytes, streaming asks for the rest, and complete refuses with `Eof`.
 #[inline(always)]
 pub fn i64<I, E>(endian: Endianness) -> Binary<layout::I64, I, E>
-    ensures { result.big ≡ is_big endian }
+    ensures { result.endian ≡ endian }
 {
-    in_order(endian.is_big())
+    in_order(endian)
 }
 
 /// A signed number of sixteen bytes, in the order that is given.
@@ -375,7 +374,7 @@ pub fn i64<I, E>(endian: Endianness) -> Binary<layout::I64, I, E>
 /// Where there are fewer bytes, streaming asks for the rest, and complete refuses with `Eof`.
 #[inline(always)]
 pub fn i128<I, E>(endian: Endianness) -> Binary<layout::I128, I, E>
-    ensures { result.big ≡ is_big endian }
+    ensures { result.endian ≡ endian }
 {
-    in_order(endian.is_big())
+    in_order(endian)
 }

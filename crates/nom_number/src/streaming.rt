@@ -1,11 +1,10 @@
 //! Binary integers, where more input may come.
 //!
 //! Where there are fewer bytes, each asks for the rest.
-ghost use Rattle.std.specs.Prelude.{◌≡◌, true, false};
-ghost use Rattle.nom_traits.specs.View.{itself};
+ghost use Rattle.std.specs.Prelude.{◌≡◌, true};
+ghost use Rattle.nom_internal.specs.Prelude.{itself};
 ghost use Rattle.nom_func.specs.Func.{StreamsBy};
 ghost use Rattle.nom_number.specs.Numbers.{number_meaning, binary_number, unsigned_meaning, signed_meaning};
-ghost use Rattle.nom_number.specs.Orders.{is_big};
 
 use crate::layout;
 use crate::layout::Layout;
@@ -24,13 +23,13 @@ use std::marker::PhantomData;
 #[inline(always)]
 fn of_layout<F: Layout, I: Input<Item = u8>, E: ParseError<I>>(
     input: I,
-    big: bool,
+    endian: Endianness,
 ) -> IResult<I, F::Number, E>
-    ensures { StreamsBy I.model F.Number.view (λ t v. v ≡ t) (number_meaning I.model E.errors (λ bytes. F.of_bits (binary_number big bytes)) F.BYTES) true
+    ensures { StreamsBy I.model F.Number.view (λ t v. v ≡ t) (number_meaning I.model E.errors (λ bytes. F.of_bits (binary_number endian bytes)) F.BYTES) true
         input result }
 {
     let mut parser = Binary::<F, I, E> {
-        big,
+        endian,
         types: PhantomData,
     };
     stream_answer(&mut parser, input)
@@ -39,215 +38,215 @@ fn of_layout<F: Layout, I: Input<Item = u8>, E: ParseError<I>>(
 /// A number of one byte.
 #[inline(always)]
 pub fn be_u8<I: Input<Item = u8>, E: ParseError<I>>(input: I) -> IResult<I, u8, E>
-    ensures { StreamsBy I.model itself (λ t v. v ≡ t) (unsigned_meaning I.model E.errors true 1) true input result }
+    ensures { StreamsBy I.model itself (λ t v. v ≡ t) (unsigned_meaning I.model E.errors Endianness.Big 1) true input result }
 {
-    of_layout::<layout::U8, I, E>(input, true)
+    of_layout::<layout::U8, I, E>(input, Endianness::Big)
 }
 
 /// A number of two bytes, the highest first.
 #[inline(always)]
 pub fn be_u16<I: Input<Item = u8>, E: ParseError<I>>(input: I) -> IResult<I, u16, E>
-    ensures { StreamsBy I.model itself (λ t v. v ≡ t) (unsigned_meaning I.model E.errors true 2) true input result }
+    ensures { StreamsBy I.model itself (λ t v. v ≡ t) (unsigned_meaning I.model E.errors Endianness.Big 2) true input result }
 {
-    of_layout::<layout::U16, I, E>(input, true)
+    of_layout::<layout::U16, I, E>(input, Endianness::Big)
 }
 
 /// A number of three bytes, the highest first.
 #[inline(always)]
 pub fn be_u24<I: Input<Item = u8>, E: ParseError<I>>(input: I) -> IResult<I, u32, E>
-    ensures { StreamsBy I.model itself (λ t v. v ≡ t) (unsigned_meaning I.model E.errors true 3) true input result }
+    ensures { StreamsBy I.model itself (λ t v. v ≡ t) (unsigned_meaning I.model E.errors Endianness.Big 3) true input result }
 {
-    of_layout::<layout::U24, I, E>(input, true)
+    of_layout::<layout::U24, I, E>(input, Endianness::Big)
 }
 
 /// A number of four bytes, the highest first.
 #[inline(always)]
 pub fn be_u32<I: Input<Item = u8>, E: ParseError<I>>(input: I) -> IResult<I, u32, E>
-    ensures { StreamsBy I.model itself (λ t v. v ≡ t) (unsigned_meaning I.model E.errors true 4) true input result }
+    ensures { StreamsBy I.model itself (λ t v. v ≡ t) (unsigned_meaning I.model E.errors Endianness.Big 4) true input result }
 {
-    of_layout::<layout::U32, I, E>(input, true)
+    of_layout::<layout::U32, I, E>(input, Endianness::Big)
 }
 
 /// A number of eight bytes, the highest first.
 #[inline(always)]
 pub fn be_u64<I: Input<Item = u8>, E: ParseError<I>>(input: I) -> IResult<I, u64, E>
-    ensures { StreamsBy I.model itself (λ t v. v ≡ t) (unsigned_meaning I.model E.errors true 8) true input result }
+    ensures { StreamsBy I.model itself (λ t v. v ≡ t) (unsigned_meaning I.model E.errors Endianness.Big 8) true input result }
 {
-    of_layout::<layout::U64, I, E>(input, true)
+    of_layout::<layout::U64, I, E>(input, Endianness::Big)
 }
 
 /// A number of sixteen bytes, the highest first.
 #[inline(always)]
 pub fn be_u128<I: Input<Item = u8>, E: ParseError<I>>(input: I) -> IResult<I, u128, E>
-    ensures { StreamsBy I.model itself (λ t v. v ≡ t) (unsigned_meaning I.model E.errors true 16) true input result }
+    ensures { StreamsBy I.model itself (λ t v. v ≡ t) (unsigned_meaning I.model E.errors Endianness.Big 16) true input result }
 {
-    of_layout::<layout::U128, I, E>(input, true)
+    of_layout::<layout::U128, I, E>(input, Endianness::Big)
 }
 
 /// A signed number of one byte.
 #[inline(always)]
 pub fn be_i8<I: Input<Item = u8>, E: ParseError<I>>(input: I) -> IResult<I, i8, E>
-    ensures { StreamsBy I.model itself (λ t v. v ≡ t) (signed_meaning I.model E.errors true 1) true input result }
+    ensures { StreamsBy I.model itself (λ t v. v ≡ t) (signed_meaning I.model E.errors Endianness.Big 1) true input result }
 {
-    of_layout::<layout::I8, I, E>(input, true)
+    of_layout::<layout::I8, I, E>(input, Endianness::Big)
 }
 
 /// A signed number of two bytes, the highest first.
 #[inline(always)]
 pub fn be_i16<I: Input<Item = u8>, E: ParseError<I>>(input: I) -> IResult<I, i16, E>
-    ensures { StreamsBy I.model itself (λ t v. v ≡ t) (signed_meaning I.model E.errors true 2) true input result }
+    ensures { StreamsBy I.model itself (λ t v. v ≡ t) (signed_meaning I.model E.errors Endianness.Big 2) true input result }
 {
-    of_layout::<layout::I16, I, E>(input, true)
+    of_layout::<layout::I16, I, E>(input, Endianness::Big)
 }
 
 /// A signed number of three bytes, the highest first.
 #[inline(always)]
 pub fn be_i24<I: Input<Item = u8>, E: ParseError<I>>(input: I) -> IResult<I, i32, E>
-    ensures { StreamsBy I.model itself (λ t v. v ≡ t) (signed_meaning I.model E.errors true 3) true input result }
+    ensures { StreamsBy I.model itself (λ t v. v ≡ t) (signed_meaning I.model E.errors Endianness.Big 3) true input result }
 {
-    of_layout::<layout::I24, I, E>(input, true)
+    of_layout::<layout::I24, I, E>(input, Endianness::Big)
 }
 
 /// A signed number of four bytes, the highest first.
 #[inline(always)]
 pub fn be_i32<I: Input<Item = u8>, E: ParseError<I>>(input: I) -> IResult<I, i32, E>
-    ensures { StreamsBy I.model itself (λ t v. v ≡ t) (signed_meaning I.model E.errors true 4) true input result }
+    ensures { StreamsBy I.model itself (λ t v. v ≡ t) (signed_meaning I.model E.errors Endianness.Big 4) true input result }
 {
-    of_layout::<layout::I32, I, E>(input, true)
+    of_layout::<layout::I32, I, E>(input, Endianness::Big)
 }
 
 /// A signed number of eight bytes, the highest first.
 #[inline(always)]
 pub fn be_i64<I: Input<Item = u8>, E: ParseError<I>>(input: I) -> IResult<I, i64, E>
-    ensures { StreamsBy I.model itself (λ t v. v ≡ t) (signed_meaning I.model E.errors true 8) true input result }
+    ensures { StreamsBy I.model itself (λ t v. v ≡ t) (signed_meaning I.model E.errors Endianness.Big 8) true input result }
 {
-    of_layout::<layout::I64, I, E>(input, true)
+    of_layout::<layout::I64, I, E>(input, Endianness::Big)
 }
 
 /// A signed number of sixteen bytes, the highest first.
 #[inline(always)]
 pub fn be_i128<I: Input<Item = u8>, E: ParseError<I>>(input: I) -> IResult<I, i128, E>
-    ensures { StreamsBy I.model itself (λ t v. v ≡ t) (signed_meaning I.model E.errors true 16) true input result }
+    ensures { StreamsBy I.model itself (λ t v. v ≡ t) (signed_meaning I.model E.errors Endianness.Big 16) true input result }
 {
-    of_layout::<layout::I128, I, E>(input, true)
+    of_layout::<layout::I128, I, E>(input, Endianness::Big)
 }
 
 /// A number of one byte.
 #[inline(always)]
 pub fn le_u8<I: Input<Item = u8>, E: ParseError<I>>(input: I) -> IResult<I, u8, E>
-    ensures { StreamsBy I.model itself (λ t v. v ≡ t) (unsigned_meaning I.model E.errors false 1) true input result }
+    ensures { StreamsBy I.model itself (λ t v. v ≡ t) (unsigned_meaning I.model E.errors Endianness.Little 1) true input result }
 {
-    of_layout::<layout::U8, I, E>(input, false)
+    of_layout::<layout::U8, I, E>(input, Endianness::Little)
 }
 
 /// A number of two bytes, the lowest first.
 #[inline(always)]
 pub fn le_u16<I: Input<Item = u8>, E: ParseError<I>>(input: I) -> IResult<I, u16, E>
-    ensures { StreamsBy I.model itself (λ t v. v ≡ t) (unsigned_meaning I.model E.errors false 2) true input result }
+    ensures { StreamsBy I.model itself (λ t v. v ≡ t) (unsigned_meaning I.model E.errors Endianness.Little 2) true input result }
 {
-    of_layout::<layout::U16, I, E>(input, false)
+    of_layout::<layout::U16, I, E>(input, Endianness::Little)
 }
 
 /// A number of three bytes, the lowest first.
 #[inline(always)]
 pub fn le_u24<I: Input<Item = u8>, E: ParseError<I>>(input: I) -> IResult<I, u32, E>
-    ensures { StreamsBy I.model itself (λ t v. v ≡ t) (unsigned_meaning I.model E.errors false 3) true input result }
+    ensures { StreamsBy I.model itself (λ t v. v ≡ t) (unsigned_meaning I.model E.errors Endianness.Little 3) true input result }
 {
-    of_layout::<layout::U24, I, E>(input, false)
+    of_layout::<layout::U24, I, E>(input, Endianness::Little)
 }
 
 /// A number of four bytes, the lowest first.
 #[inline(always)]
 pub fn le_u32<I: Input<Item = u8>, E: ParseError<I>>(input: I) -> IResult<I, u32, E>
-    ensures { StreamsBy I.model itself (λ t v. v ≡ t) (unsigned_meaning I.model E.errors false 4) true input result }
+    ensures { StreamsBy I.model itself (λ t v. v ≡ t) (unsigned_meaning I.model E.errors Endianness.Little 4) true input result }
 {
-    of_layout::<layout::U32, I, E>(input, false)
+    of_layout::<layout::U32, I, E>(input, Endianness::Little)
 }
 
 /// A number of eight bytes, the lowest first.
 #[inline(always)]
 pub fn le_u64<I: Input<Item = u8>, E: ParseError<I>>(input: I) -> IResult<I, u64, E>
-    ensures { StreamsBy I.model itself (λ t v. v ≡ t) (unsigned_meaning I.model E.errors false 8) true input result }
+    ensures { StreamsBy I.model itself (λ t v. v ≡ t) (unsigned_meaning I.model E.errors Endianness.Little 8) true input result }
 {
-    of_layout::<layout::U64, I, E>(input, false)
+    of_layout::<layout::U64, I, E>(input, Endianness::Little)
 }
 
 /// A number of sixteen bytes, the lowest first.
 #[inline(always)]
 pub fn le_u128<I: Input<Item = u8>, E: ParseError<I>>(input: I) -> IResult<I, u128, E>
-    ensures { StreamsBy I.model itself (λ t v. v ≡ t) (unsigned_meaning I.model E.errors false 16) true input result }
+    ensures { StreamsBy I.model itself (λ t v. v ≡ t) (unsigned_meaning I.model E.errors Endianness.Little 16) true input result }
 {
-    of_layout::<layout::U128, I, E>(input, false)
+    of_layout::<layout::U128, I, E>(input, Endianness::Little)
 }
 
 /// A signed number of one byte.
 #[inline(always)]
 pub fn le_i8<I: Input<Item = u8>, E: ParseError<I>>(input: I) -> IResult<I, i8, E>
-    ensures { StreamsBy I.model itself (λ t v. v ≡ t) (signed_meaning I.model E.errors false 1) true input result }
+    ensures { StreamsBy I.model itself (λ t v. v ≡ t) (signed_meaning I.model E.errors Endianness.Little 1) true input result }
 {
-    of_layout::<layout::I8, I, E>(input, false)
+    of_layout::<layout::I8, I, E>(input, Endianness::Little)
 }
 
 /// A signed number of two bytes, the lowest first.
 #[inline(always)]
 pub fn le_i16<I: Input<Item = u8>, E: ParseError<I>>(input: I) -> IResult<I, i16, E>
-    ensures { StreamsBy I.model itself (λ t v. v ≡ t) (signed_meaning I.model E.errors false 2) true input result }
+    ensures { StreamsBy I.model itself (λ t v. v ≡ t) (signed_meaning I.model E.errors Endianness.Little 2) true input result }
 {
-    of_layout::<layout::I16, I, E>(input, false)
+    of_layout::<layout::I16, I, E>(input, Endianness::Little)
 }
 
 /// A signed number of three bytes, the lowest first.
 #[inline(always)]
 pub fn le_i24<I: Input<Item = u8>, E: ParseError<I>>(input: I) -> IResult<I, i32, E>
-    ensures { StreamsBy I.model itself (λ t v. v ≡ t) (signed_meaning I.model E.errors false 3) true input result }
+    ensures { StreamsBy I.model itself (λ t v. v ≡ t) (signed_meaning I.model E.errors Endianness.Little 3) true input result }
 {
-    of_layout::<layout::I24, I, E>(input, false)
+    of_layout::<layout::I24, I, E>(input, Endianness::Little)
 }
 
 /// A signed number of four bytes, the lowest first.
 #[inline(always)]
 pub fn le_i32<I: Input<Item = u8>, E: ParseError<I>>(input: I) -> IResult<I, i32, E>
-    ensures { StreamsBy I.model itself (λ t v. v ≡ t) (signed_meaning I.model E.errors false 4) true input result }
+    ensures { StreamsBy I.model itself (λ t v. v ≡ t) (signed_meaning I.model E.errors Endianness.Little 4) true input result }
 {
-    of_layout::<layout::I32, I, E>(input, false)
+    of_layout::<layout::I32, I, E>(input, Endianness::Little)
 }
 
 /// A signed number of eight bytes, the lowest first.
 #[inline(always)]
 pub fn le_i64<I: Input<Item = u8>, E: ParseError<I>>(input: I) -> IResult<I, i64, E>
-    ensures { StreamsBy I.model itself (λ t v. v ≡ t) (signed_meaning I.model E.errors false 8) true input result }
+    ensures { StreamsBy I.model itself (λ t v. v ≡ t) (signed_meaning I.model E.errors Endianness.Little 8) true input result }
 {
-    of_layout::<layout::I64, I, E>(input, false)
+    of_layout::<layout::I64, I, E>(input, Endianness::Little)
 }
 
 /// A signed number of sixteen bytes, the lowest first.
 #[inline(always)]
 pub fn le_i128<I: Input<Item = u8>, E: ParseError<I>>(input: I) -> IResult<I, i128, E>
-    ensures { StreamsBy I.model itself (λ t v. v ≡ t) (signed_meaning I.model E.errors false 16) true input result }
+    ensures { StreamsBy I.model itself (λ t v. v ≡ t) (signed_meaning I.model E.errors Endianness.Little 16) true input result }
 {
-    of_layout::<layout::I128, I, E>(input, false)
+    of_layout::<layout::I128, I, E>(input, Endianness::Little)
 }
 
 /// `be_u8`: one byte has no order.
 #[inline(always)]
 pub fn u8<I: Input<Item = u8>, E: ParseError<I>>(input: I) -> IResult<I, u8, E>
-    ensures { StreamsBy I.model itself (λ t v. v ≡ t) (unsigned_meaning I.model E.errors true 1) true input result }
+    ensures { StreamsBy I.model itself (λ t v. v ≡ t) (unsigned_meaning I.model E.errors Endianness.Big 1) true input result }
 {
-    of_layout::<layout::U8, I, E>(input, true)
+    of_layout::<layout::U8, I, E>(input, Endianness::Big)
 }
 
 /// `be_i8`: one byte has no order.
 #[inline(always)]
 pub fn i8<I: Input<Item = u8>, E: ParseError<I>>(input: I) -> IResult<I, i8, E>
-    ensures { StreamsBy I.model itself (λ t v. v ≡ t) (signed_meaning I.model E.errors true 1) true input result }
+    ensures { StreamsBy I.model itself (λ t v. v ≡ t) (signed_meaning I.model E.errors Endianness.Big 1) true input result }
 {
-    of_layout::<layout::I8, I, E>(input, true)
+    of_layout::<layout::I8, I, E>(input, Endianness::Big)
 }
 
 /// A number of two bytes, in the order that is given.
 #[inline(always)]
 pub fn u16<I, E>(endian: Endianness) -> Fixed<Binary<layout::U16, I, E>, Streaming>
-    ensures { result.parser.big ≡ is_big endian }
+    ensures { result.parser.endian ≡ endian }
 {
     fixed(crate::u16(endian))
 }
@@ -255,7 +254,7 @@ pub fn u16<I, E>(endian: Endianness) -> Fixed<Binary<layout::U16, I, E>, Streami
 /// A number of three bytes, in the order that is given.
 #[inline(always)]
 pub fn u24<I, E>(endian: Endianness) -> Fixed<Binary<layout::U24, I, E>, Streaming>
-    ensures { result.parser.big ≡ is_big endian }
+    ensures { result.parser.endian ≡ endian }
 {
     fixed(crate::u24(endian))
 }
@@ -263,7 +262,7 @@ pub fn u24<I, E>(endian: Endianness) -> Fixed<Binary<layout::U24, I, E>, Streami
 /// A number of four bytes, in the order that is given.
 #[inline(always)]
 pub fn u32<I, E>(endian: Endianness) -> Fixed<Binary<layout::U32, I, E>, Streaming>
-    ensures { result.parser.big ≡ is_big endian }
+    ensures { result.parser.endian ≡ endian }
 {
     fixed(crate::u32(endian))
 }
@@ -271,7 +270,7 @@ pub fn u32<I, E>(endian: Endianness) -> Fixed<Binary<layout::U32, I, E>, Streami
 /// A number of eight bytes, in the order that is given.
 #[inline(always)]
 pub fn u64<I, E>(endian: Endianness) -> Fixed<Binary<layout::U64, I, E>, Streaming>
-    ensures { result.parser.big ≡ is_big endian }
+    ensures { result.parser.endian ≡ endian }
 {
     fixed(crate::u64(endian))
 }
@@ -279,7 +278,7 @@ pub fn u64<I, E>(endian: Endianness) -> Fixed<Binary<layout::U64, I, E>, Streami
 /// A number of sixteen bytes, in the order that is given.
 #[inline(always)]
 pub fn u128<I, E>(endian: Endianness) -> Fixed<Binary<layout::U128, I, E>, Streaming>
-    ensures { result.parser.big ≡ is_big endian }
+    ensures { result.parser.endian ≡ endian }
 {
     fixed(crate::u128(endian))
 }
@@ -287,7 +286,7 @@ pub fn u128<I, E>(endian: Endianness) -> Fixed<Binary<layout::U128, I, E>, Strea
 /// A signed number of two bytes, in the order that is given.
 #[inline(always)]
 pub fn i16<I, E>(endian: Endianness) -> Fixed<Binary<layout::I16, I, E>, Streaming>
-    ensures { result.parser.big ≡ is_big endian }
+    ensures { result.parser.endian ≡ endian }
 {
     fixed(crate::i16(endian))
 }
@@ -295,7 +294,7 @@ pub fn i16<I, E>(endian: Endianness) -> Fixed<Binary<layout::I16, I, E>, Streami
 /// A signed number of three bytes, in the order that is given.
 #[inline(always)]
 pub fn i24<I, E>(endian: Endianness) -> Fixed<Binary<layout::I24, I, E>, Streaming>
-    ensures { result.parser.big ≡ is_big endian }
+    ensures { result.parser.endian ≡ endian }
 {
     fixed(crate::i24(endian))
 }
@@ -303,7 +302,7 @@ pub fn i24<I, E>(endian: Endianness) -> Fixed<Binary<layout::I24, I, E>, Streami
 /// A signed number of four bytes, in the order that is given.
 #[inline(always)]
 pub fn i32<I, E>(endian: Endianness) -> Fixed<Binary<layout::I32, I, E>, Streaming>
-    ensures { result.parser.big ≡ is_big endian }
+    ensures { result.parser.endian ≡ endian }
 {
     fixed(crate::i32(endian))
 }
@@ -311,7 +310,7 @@ pub fn i32<I, E>(endian: Endianness) -> Fixed<Binary<layout::I32, I, E>, Streami
 /// A signed number of eight bytes, in the order that is given.
 #[inline(always)]
 pub fn i64<I, E>(endian: Endianness) -> Fixed<Binary<layout::I64, I, E>, Streaming>
-    ensures { result.parser.big ≡ is_big endian }
+    ensures { result.parser.endian ≡ endian }
 {
     fixed(crate::i64(endian))
 }
@@ -319,7 +318,7 @@ pub fn i64<I, E>(endian: Endianness) -> Fixed<Binary<layout::I64, I, E>, Streami
 /// A signed number of sixteen bytes, in the order that is given.
 #[inline(always)]
 pub fn i128<I, E>(endian: Endianness) -> Fixed<Binary<layout::I128, I, E>, Streaming>
-    ensures { result.parser.big ≡ is_big endian }
+    ensures { result.parser.endian ≡ endian }
 {
     fixed(crate::i128(endian))
 }

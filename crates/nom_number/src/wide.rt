@@ -1,13 +1,13 @@
 //! Binary integers of any width.
-ghost use Rattle.std.specs.Prelude.{◌≡◌, ◌<◌, ◌*◌, ◌^◌, Bool, true, false, length};
-ghost use Rattle.nom_error.specs.Modes.{Built};
-ghost use Rattle.nom_traits.specs.Slices.{Slice, IsFirst, IsCount};
-ghost use Rattle.nom_internal.specs.Pinned.{value_pinned};
+ghost use Rattle.std.specs.Prelude.{◌≡◌, ◌<◌, ◌*◌, ◌^◌, length};
+ghost use Rattle.nom_internal.specs.Prelude.{Built, Slice, IsFirst, IsCount, value_pinned};
 ghost use Rattle.nom_internal.specs.laws.CaseLaws.{labelled_lawful, labelled_steady};
 ghost use Rattle.nom_bytes.specs.laws.TakeLaws.{take_lawful, take_steady};
+ghost use Rattle.nom_number.specs.declared.order.Endianness.{Endianness};
 ghost use Rattle.nom_number.specs.Numbers.{bytes_lack, number_meaning, binary_number};
 
 use crate::layout::Layout;
+use crate::order::Endianness;
 use nom_error::answer::{Err, Needed, PResult};
 use nom_error::kind::ErrorKind;
 use nom_error::mode::{IsStreaming, Mode, OutputMode};
@@ -29,7 +29,7 @@ fn widened(byte: u8) -> u128
 #[inline(always)]
 fn big_number<I: Input<Item = u8>>(bytes: I) -> u128
     requires { length (I.model.elements bytes) < 17 }
-    ensures value { result ≡ binary_number true (I.model.elements bytes) }
+    ensures value { result ≡ binary_number Endianness.Big (I.model.elements bytes) }
     ensures bits { result < 2 ^ (8 * length (I.model.elements bytes)) }
 {
     let mut value = 0u128;
@@ -54,7 +54,7 @@ fn at_place(byte: u8, place: usize) -> u128
 #[inline(always)]
 fn little_number<I: Input<Item = u8>>(bytes: I) -> u128
     requires { length (I.model.elements bytes) < 17 }
-    ensures value { result ≡ binary_number false (I.model.elements bytes) }
+    ensures value { result ≡ binary_number Endianness.Little (I.model.elements bytes) }
     ensures bits { result < 2 ^ (8 * length (I.model.elements bytes)) }
 {
     let mut value = 0u128;
@@ -66,14 +66,14 @@ fn little_number<I: Input<Item = u8>>(bytes: I) -> u128
     value
 }
 
-/// The number that the bytes of an input write, the highest first or last.
+/// The number that the bytes of an input write in an order.
 #[inline(always)]
-fn number<I: Input<Item = u8>>(bytes: I, big: bool) -> u128
+fn number<I: Input<Item = u8>>(bytes: I, endian: Endianness) -> u128
     requires { length (I.model.elements bytes) < 17 }
-    ensures value { result ≡ binary_number big (I.model.elements bytes) }
+    ensures value { result ≡ binary_number endian (I.model.elements bytes) }
     ensures bits { result < 2 ^ (8 * length (I.model.elements bytes)) }
 {
-    if big {
+    if endian.is_big() {
         big_number(bytes)
     } else {
         little_number(bytes)
@@ -85,13 +85,13 @@ fn number<I: Input<Item = u8>>(bytes: I, big: bool) -> u128
 fn first_number<M: Mode, F: Layout, I: Input<Item = u8>>(
     input: I,
     n: usize,
-    big: bool,
+    endian: Endianness,
 ) -> Option<F::Number>
     requires { IsCount I.model input F.BYTES n }
-    ensures { (t : Slice I.model) → IsFirst I.model input n t → Built M.BUILDS (λ v. v ≡ F.of_bits (binary_number big t.items)) result }
+    ensures { (t : Slice I.model) → IsFirst I.model input n t → Built M.BUILDS (λ v. v ≡ F.of_bits (binary_number endian t.items)) result }
 {
     if M::BUILDS {
-        Some(F::from_bits(number(input.take(n), big)))
+        Some(F::from_bits(number(input.take(n), endian)))
     } else {
         None
     }
@@ -100,8 +100,8 @@ fn first_number<M: Mode, F: Layout, I: Input<Item = u8>>(
 /// A number that `F::BYTES` bytes write, in one order.
 #[derive(Drop)]
 pub struct Binary<F, I, E> {
-    /// Whether the highest byte is the first one.
-    pub big: bool,
+    /// The order of the bytes.
+    pub endian: Endianness,
     /// The layout of the number, and the types of the input and of the error.
     pub types: PhantomData<(F, I, E)>,
 }
@@ -111,22 +111,22 @@ impl<F: Layout, I: Input<Item = u8>, E: ParseError<I>> Parser<I> for Binary<F, I
 
     type Error = E;
 
-    ghost State = { Bool };
+    ghost State = { Endianness };
 
-    ghost state = { λ p. p.big };
+    ghost state = { λ p. p.endian };
 
     ghost Tree = { F.Number };
 
     ghost IsOutput = { λ _ t v. v ≡ t };
 
-    ghost meaning = { λ big. number_meaning I.model E.errors (λ bytes. F.of_bits (binary_number big bytes)) F.BYTES };
+    ghost meaning = { λ endian. number_meaning I.model E.errors (λ bytes. F.of_bits (binary_number endian bytes)) F.BYTES };
 
     #[inline(always)]
     fn process<OM: OutputMode>(&mut self, input: I) -> PResult<I, F::Number, E> {
         match input.slice_index(F::BYTES) {
             Ok(n) => Ok((
                 input.take_from(n),
-                first_number::<OM::Output, F, I>(input, n, self.big),
+                first_number::<OM::Output, F, I>(input, n, self.endian),
             )),
             Err(_) if OM::Incomplete::STREAMING => {
                 let lack = F::BYTES.saturating_sub(input.input_len());
@@ -136,7 +136,7 @@ impl<F: Layout, I: Input<Item = u8>, E: ParseError<I>> Parser<I> for Binary<F, I
         }
     }
 
-    ghost lawful = { λ big k. labelled_lawful (take_lawful I.model E.errors (bytes_lack I.model) F.BYTES) };
+    ghost lawful = { λ endian k. labelled_lawful (take_lawful I.model E.errors (bytes_lack I.model) F.BYTES) };
 }
 
 impl<F: Layout, I: Input<Item = u8>, E: ParseError<I>> StreamParser<I> for Binary<F, I, E> {
@@ -144,5 +144,5 @@ impl<F: Layout, I: Input<Item = u8>, E: ParseError<I>> StreamParser<I> for Binar
 
     ghost pinned = { λ p k h. value_pinned };
 
-    ghost steady = { λ big k. labelled_steady (take_steady I.model E.errors (bytes_lack I.model) F.BYTES) };
+    ghost steady = { λ endian k. labelled_steady (take_steady I.model E.errors (bytes_lack I.model) F.BYTES) };
 }

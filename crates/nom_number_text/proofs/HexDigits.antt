@@ -4,7 +4,7 @@ use Rattle.std.proofs.Common.{arith, append_assoc, append-nil, length-append}
 use Rattle.std.specs.Iterator.{AlwaysYields}
 use Rattle.std.proofs.lemmas.Bool.Decides.{nat_tests}
 use Rattle.std.proofs.lemmas.List.{map-append}
-use Rattle.nom_traits.specs.Digits.{digits_after, value_of, value_more}
+use Rattle.nom_internal.specs.Prelude.{digits_after, value_of, value_more}
 use Rattle.nom_character_first.proofs.Firsts.{some_given, none_given}
 use Rattle.nom_number_text.specs.Hex.{hex_value, hex_number}
 

@@ -1,19 +1,11 @@
 -- What is shown of a number in base 16.
 use Rattle.std.proofs.Common.{◌≡◌, ℕ, true, Option, Some, Ok, Err, take, refl, sym, ◌∙◌, ap, subst, arith}
 use Rattle.std.proofs.lemmas.List.{take-append-le, take_all}
-use Rattle.nom_error.specs.Answers.{PResult}
+use Rattle.nom_internal.specs.Prelude.{PResult, Needed, Errors, Built, Modes, with_outputs, Model, InputLaws, IsPrefixOf, IsBoundary, IsSuffixOf, input_len}
+use Rattle.nom_internal.specs.Prelude.{items_len, same_cut, Slice, IsModelledBy, IsCount, Accept, Shown, ShowsMeaning}
 use Rattle.nom_error.specs.declared.kind.ErrorKind.TheVariants as Kind
-use Rattle.nom_error.specs.declared.answer.Needed.{Needed}
 use Rattle.nom_error.specs.declared.answer.Err as Answer
-use Rattle.nom_error.specs.Errors.{Errors}
-use Rattle.nom_error.specs.Modes.{Built, Modes, with_outputs}
 use Rattle.nom_traits.specs.declared.character.AsciiClass.TheVariants as Class
-use Rattle.nom_traits.specs.Input.{Model, InputLaws, IsPrefixOf, IsBoundary, IsSuffixOf, input_len, items_len}
-use Rattle.nom_traits.specs.Rests.{same_cut}
-use Rattle.nom_traits.specs.Slices.{Slice, IsModelledBy, IsCount}
-use Rattle.nom_internal.specs.Outcome.ShowsAnswer.{Shown}
-use Rattle.nom_internal.specs.Outcome.Outcome.{Accept}
-use Rattle.nom_internal.specs.Meaning.{ShowsMeaning}
 use Rattle.nom_internal.proofs.Cased.{here, plain_err}
 use Rattle.nom_internal.proofs.Shown.{accepts}
 use Rattle.nom_character.specs.ClassRuns.{class_meaning}

@@ -3,9 +3,7 @@ use Rattle.std.proofs.Common.{◌≡◌, ℕ, ◌+◌, ◌<◌, ◌≤◌, ◌==
 use Rattle.std.proofs.Common.{ap, arith, append_assoc, append-nil, length-append}
 use Rattle.std.specs.Iterator.{AlwaysYields}
 use Rattle.std.proofs.lemmas.Bool.Decides.{nat_tests}
-use Rattle.nom_traits.specs.Input.{Model, InputLaws, IsPrefixOf, IsBoundary, IsSuffixOf, items_len}
-use Rattle.nom_traits.specs.Rests.{same_cut, items_len-append}
-use Rattle.nom_traits.specs.Slices.{Slice, IsModelledBy}
+use Rattle.nom_internal.specs.Prelude.{Model, InputLaws, IsPrefixOf, IsBoundary, IsSuffixOf, items_len, same_cut, items_len-append, Slice, IsModelledBy}
 use Rattle.nom_character_first.proofs.Firsts.{some_given, none_given}
 use Rattle.nom_number_text.specs.Parts.{integer_of, zeros_of, kept_before, trimmed, fraction_of, integer_slice, fraction_slice}
 

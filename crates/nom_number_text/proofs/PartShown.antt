@@ -1,10 +1,7 @@
 -- The parts that are shown for what was read.
 use Rattle.std.proofs.Common.{◌≡◌, ℕ, Bool, true, false, Option, Some, None, refl, ◌∙◌, ap, subst, inl, inr}
 use Rattle.std.specs.Prelude.{◌⊎◌, ℤ}
-use Rattle.nom_error.specs.Modes.{Built}
-use Rattle.nom_traits.specs.Input.{Model}
-use Rattle.nom_traits.specs.Slices.{Slice, IsModelledBy}
-use Rattle.nom_internal.specs.Choice.{EitherOutput}
+use Rattle.nom_internal.specs.Prelude.{Built, Model, Slice, IsModelledBy, EitherOutput}
 use Rattle.nom_combinator.specs.Verdicts.{OptOutput}
 use Rattle.nom_number_text.specs.Parts.{Both, before_of, behind_of, either_of, integer_slice, fraction_slice, is_plus, sign_read, power_read, IsParts, IsRaw}
 

@@ -1,19 +1,11 @@
 -- The shape of decimal fractions, by the characters that its parsers want.
 use Rattle.std.proofs.Common.{◌≡◌, ℕ, Bool, true, Option, None, subst}
-use Rattle.nom_error.specs.Errors.{Errors}
-use Rattle.nom_error.specs.Modes.{Modes}
-use Rattle.nom_traits.specs.Input.{Model}
-use Rattle.nom_traits.specs.Slices.{Slice, IsModelledBy}
-use Rattle.nom_internal.specs.Meaning.{Meaning, ShowsMeaning}
-use Rattle.nom_internal.specs.Recognized.{recognized_meaning}
-use Rattle.nom_internal.specs.Sequence.{pair_meaning}
+use Rattle.nom_internal.specs.Prelude.{Errors, Modes, Model, Slice, IsModelledBy, Meaning, ShowsMeaning, recognized_meaning, pair_meaning, PResult, ErrorKind}
 use Rattle.nom_branch.specs.Alternatives.{next_meaning, choice_meaning}
 use Rattle.nom_character_first.specs.FirstItem.{char_meaning}
 use Rattle.nom_combinator.specs.Verdicts.{cut_meaning, opt_meaning}
 use Rattle.std.specs.Prelude.{◌⊎◌, ℤ, FitsSigned}
 use Rattle.std.specs.Int.{w32}
-use Rattle.nom_error.specs.Answers.{PResult}
-use Rattle.nom_error.specs.declared.kind.ErrorKind.{ErrorKind}
 use Rattle.nom_traits.specs.declared.character.AsciiClass.{AsciiClass}
 use Rattle.nom_traits.specs.declared.character.AsciiClass.TheVariants as Class
 use Rattle.nom_character.specs.ClassRuns.{class_meaning}

@@ -5,17 +5,10 @@ use Rattle.std.specs.Char.{to_ascii_lowercase}
 use Rattle.std.proofs.lemmas.Bool.Decides.{nat_tests}
 use Rattle.std.proofs.lemmas.List.{drop_more, drop_all, length-drop}
 use Rattle.nom_error.specs.declared.kind.ErrorKind.TheVariants as Kind
-use Rattle.nom_error.specs.declared.answer.Needed.{Needed}
+use Rattle.nom_internal.specs.Prelude.{Needed, Incomplete, PResult, Refuses, size_of, Errors, Built, Modes, Slice, IsFirst, IsModelledBy, ShowsMeaning, Model}
+use Rattle.nom_internal.specs.Prelude.{InputLaws, IsSuffixOf, items_len, rest_rest, items_len-append}
 use Rattle.nom_error.specs.declared.answer.Err as Answer
-use Rattle.nom_error.specs.declared.answer.Err.TheVariants.{Incomplete}
-use Rattle.nom_error.specs.Answers.{PResult, Refuses, size_of}
-use Rattle.nom_error.specs.Errors.{Errors}
-use Rattle.nom_error.specs.Modes.{Built, Modes}
-use Rattle.nom_traits.specs.Slices.{Slice, IsFirst, IsModelledBy}
-use Rattle.nom_internal.specs.Meaning.{ShowsMeaning}
 use Rattle.nom_internal.proofs.Shown.{accepted, undecided, refused}
-use Rattle.nom_traits.specs.Input.{Model, InputLaws, IsSuffixOf, items_len}
-use Rattle.nom_traits.specs.Rests.{rest_rest, items_len-append}
 use Rattle.nom_character_first.specs.FirstItem.{IsFirstItem}
 use Rattle.nom_character.specs.LineMatches.{Match, at_end, one_more}
 use Rattle.nom_character.specs.LineMatches.Match.{Full, Absent, Partial}

@@ -1,13 +1,8 @@
 -- Shapes of decimal fractions. Of code points 43 is '+', 45 is '-', 46 is '.', 69 is 'E' and 101 is 'e'.
 use Rattle.std.specs.Prelude.{ℕ, ◌⊎◌, Some}
 use Rattle.nom_error.specs.declared.kind.ErrorKind.TheVariants as Kind
-use Rattle.nom_error.specs.Errors.{Errors}
+use Rattle.nom_internal.specs.Prelude.{Errors, Model, Slice, Meaning, recognized_meaning, pair_meaning}
 use Rattle.nom_traits.specs.declared.character.AsciiClass.TheVariants as Class
-use Rattle.nom_traits.specs.Input.{Model}
-use Rattle.nom_traits.specs.Slices.{Slice}
-use Rattle.nom_internal.specs.Meaning.{Meaning}
-use Rattle.nom_internal.specs.Recognized.{recognized_meaning}
-use Rattle.nom_internal.specs.Sequence.{pair_meaning}
 use Rattle.nom_branch.specs.Alternatives.{next_meaning, choice_meaning}
 use Rattle.nom_character.specs.ClassRuns.{class_meaning}
 use Rattle.nom_character_first.specs.FirstItem.{char_meaning}

@@ -2,16 +2,9 @@
 use Rattle.std.specs.Prelude.{◌≡◌, ℕ, ◌-◌, true, cond, List, map, take, Some}
 use Rattle.std.specs.Int.{is_in_range}
 use Rattle.nom_error.specs.declared.kind.ErrorKind.TheVariants as Kind
-use Rattle.nom_error.specs.Errors.{Errors}
+use Rattle.nom_internal.specs.Prelude.{Errors, is_dec_digit_code, value_of, Model, items_len, Slice, IsFirst, Outcome, Accept, Meaning, Passes, plain_case}
+use Rattle.nom_internal.specs.Prelude.{case_meaning}
 use Rattle.nom_traits.specs.declared.character.AsciiClass.TheVariants as Class
-use Rattle.nom_traits.specs.Classes.{is_dec_digit_code}
-use Rattle.nom_traits.specs.Digits.{value_of}
-use Rattle.nom_traits.specs.Input.{Model, items_len}
-use Rattle.nom_traits.specs.Slices.{Slice, IsFirst}
-use Rattle.nom_internal.specs.Outcome.{Outcome}
-use Rattle.nom_internal.specs.Outcome.Outcome.{Accept}
-use Rattle.nom_internal.specs.Meaning.{Meaning}
-use Rattle.nom_internal.specs.Cases.{Passes, plain_case, case_meaning}
 use Rattle.nom_character.specs.ClassRuns.{class_meaning}
 
 -- the value of a digit in base 16, by its code point: 48 is '0', 65 is 'A' and 97 is 'a'

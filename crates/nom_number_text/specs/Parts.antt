@@ -2,17 +2,12 @@
 use Rattle.std.specs.Prelude.{◌≡◌, ◌⊎◌, ℕ, ◌==◌, Bool, true, not, cond, List, [], ◌∷◌, Option, Some, None, ℤ, pos}
 use Rattle.std.proofs.Common.{inl, inr}
 use Rattle.std.specs.Int.{w32}
-use Rattle.nom_error.specs.Errors.{Errors}
+use Rattle.nom_internal.specs.Prelude.{Errors, Model, Slice, IsModelledBy, Meaning, pair_meaning, EitherOutput}
 use Rattle.nom_traits.specs.declared.character.AsciiClass.TheVariants as Class
-use Rattle.nom_traits.specs.Input.{Model}
-use Rattle.nom_traits.specs.Slices.{Slice, IsModelledBy}
-use Rattle.nom_internal.specs.Meaning.{Meaning}
-use Rattle.nom_internal.specs.Sequence.{pair_meaning}
 use Rattle.nom_branch.specs.Alternatives.{next_meaning, choice_meaning}
 use Rattle.nom_character.specs.ClassRuns.{class_meaning}
 use Rattle.nom_character_first.specs.FirstItem.{char_meaning}
 use Rattle.nom_combinator.specs.Verdicts.{cut_meaning, opt_meaning, OptOutput}
-use Rattle.nom_internal.specs.Choice.{EitherOutput}
 use Rattle.nom_sequence.specs.Sequences.{preceded_meaning}
 use Rattle.nom_character_integer.specs.Integers.{signed_meaning}
 use Rattle.nom_number_text.specs.Floats.{either_char_meaning, digits_meaning}

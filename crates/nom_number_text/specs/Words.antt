@@ -2,11 +2,7 @@
 use Rattle.std.specs.Prelude.{◌≡◌, ◌⊎◌, ℕ, ◌+◌, ◌<◌, ◌==◌, Bool, cond, List, [], ◌∷◌, length, codes, Some}
 use Rattle.std.specs.Char.{to_ascii_lowercase}
 use Rattle.nom_error.specs.declared.kind.ErrorKind.TheVariants as Kind
-use Rattle.nom_error.specs.Errors.{Errors}
-use Rattle.nom_traits.specs.Input.{Model, IsSuffixOf}
-use Rattle.nom_traits.specs.Slices.{Slice}
-use Rattle.nom_internal.specs.Mapped.{renamed_meaning}
-use Rattle.nom_internal.specs.Meaning.{Meaning}
+use Rattle.nom_internal.specs.Prelude.{Errors, Model, IsSuffixOf, Slice, renamed_meaning, Meaning}
 use Rattle.nom_branch.specs.Alternatives.{next_meaning, choice_meaning}
 use Rattle.nom_character.specs.LineMatches.{Match, at_end, one_more, match_meaning}
 use Rattle.nom_character.specs.LineMatches.Match.{Full, Absent}

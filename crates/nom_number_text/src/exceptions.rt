@@ -1,7 +1,6 @@
 //! Words in the place of a decimal fraction.
 ghost use Rattle.std.specs.Prelude.{◌⊎◌};
-ghost use Rattle.nom_traits.specs.Slices.{Slice, IsModelledBy};
-ghost use Rattle.nom_internal.specs.Choice.{EitherOutput};
+ghost use Rattle.nom_internal.specs.Prelude.{Slice, IsModelledBy, EitherOutput};
 ghost use Rattle.nom_number_text.specs.Words.{exceptions_meaning};
 ghost use Rattle.nom_number_text.specs.laws.WordLaws.{exceptions_lawful, exceptions_steady, exceptions_pinned};
 

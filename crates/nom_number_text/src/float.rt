@@ -1,7 +1,6 @@
 //! Shapes of decimal fractions.
 ghost use Rattle.std.specs.Prelude.{◌≡◌};
-ghost use Rattle.nom_traits.specs.Slices.{Slice, IsModelledBy};
-ghost use Rattle.nom_internal.specs.Pinned.{slice_pinned};
+ghost use Rattle.nom_internal.specs.Prelude.{Slice, IsModelledBy, slice_pinned};
 ghost use Rattle.nom_number_text.specs.Floats.{float_meaning};
 ghost use Rattle.nom_number_text.specs.laws.FloatLaws.{float_stream};
 

@@ -1,7 +1,6 @@
 //! Numbers in base 16.
 ghost use Rattle.std.specs.Prelude.{◌≡◌, ◌≤◌, ◌<◌, ℕ, length, take};
-ghost use Rattle.nom_error.specs.Modes.{Built};
-ghost use Rattle.nom_internal.specs.Pinned.{value_pinned};
+ghost use Rattle.nom_internal.specs.Prelude.{Built, value_pinned};
 ghost use Rattle.nom_number_text.specs.Hex.{hex_value, hex_number, hex_meaning};
 ghost use Rattle.nom_number_text.specs.laws.HexLaws.{hex_stream};
 

@@ -1,9 +1,6 @@
 //! The parts of a decimal fraction.
 ghost use Rattle.std.specs.Prelude.{◌≡◌, ◌⊎◌, ℕ, Option, ℤ};
-ghost use Rattle.nom_error.specs.Modes.{modes};
-ghost use Rattle.nom_traits.specs.Input.{items_len};
-ghost use Rattle.nom_traits.specs.Slices.{Slice, IsModelledBy};
-ghost use Rattle.nom_internal.specs.Meaning.{ShowsMeaning};
+ghost use Rattle.nom_internal.specs.Prelude.{modes, items_len, Slice, IsModelledBy, ShowsMeaning};
 ghost use Rattle.nom_number_text.specs.Parts.{zeros_of, fraction_of, integer_slice, fraction_slice, is_plus, power_read, Both, parts_meaning, IsParts, IsRaw};
 ghost use Rattle.nom_number_text.specs.laws.PartLaws.{parts_stream, parts_pinned};
 

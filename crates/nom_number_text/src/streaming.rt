@@ -1,8 +1,6 @@
 //! Numbers and shapes that are written in digits, where more input may come.
 ghost use Rattle.std.specs.Prelude.{◌≡◌, true, false};
-ghost use Rattle.nom_traits.specs.Slices.{IsModelledBy};
-ghost use Rattle.nom_traits.specs.View.{itself, view_4};
-ghost use Rattle.nom_internal.specs.Choice.{EitherOutput};
+ghost use Rattle.nom_internal.specs.Prelude.{IsModelledBy, itself, view_4, EitherOutput};
 ghost use Rattle.nom_func.specs.Func.{StreamsBy};
 ghost use Rattle.nom_number_text.specs.Floats.{float_meaning};
 ghost use Rattle.nom_number_text.specs.Hex.{hex_meaning};

@@ -1,7 +1,6 @@
 //! Words without the case of ASCII letters.
 ghost use Rattle.std.specs.Prelude.{◌≡◌};
-ghost use Rattle.nom_traits.specs.Slices.{Slice, IsModelledBy};
-ghost use Rattle.nom_internal.specs.Pinned.{slice_pinned};
+ghost use Rattle.nom_internal.specs.Prelude.{Slice, IsModelledBy, slice_pinned};
 ghost use Rattle.nom_number_text.specs.declared.word.Exception.{Exception};
 ghost use Rattle.nom_number_text.specs.Words.{IsWordAt, letters_of, word_meaning};
 ghost use Rattle.nom_number_text.specs.laws.WordLaws.{word_stream};

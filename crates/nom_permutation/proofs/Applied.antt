@@ -1,7 +1,7 @@
 -- Turns that leave one member fewer each apply all.
 use Rattle.std.specs.Prelude.{◌≡◌, ℕ, ◌+◌, ◌≤◌, Bool, List, [], ◌∷◌, length, Option, None}
 use Rattle.std.proofs.Common.{arith, sym, ap, subst, inl, inr, zero, suc}
-use Rattle.nom_traits.specs.Input.{Model, InputLaws}
+use Rattle.nom_internal.specs.Prelude.{Model, InputLaws}
 use Rattle.nom_permutation.specs.Members.{Member, EachMember}
 use Rattle.nom_permutation.specs.Left.{is_left, left, LeavesOneFewer}
 use Rattle.nom_permutation.specs.Permutation.{permutation_meaning}

@@ -1,13 +1,8 @@
 -- What the rounds accept is what an order of the members accepts.
 use Rattle.std.specs.Prelude.{◌≡◌, ℕ, ◌+◌, Bool, List, [], ◌∷◌, length, Option, Some, None, ◌⊎◌, refl}
 use Rattle.std.proofs.Common.{arith, sym, ap, subst, inl, inr, zero, suc}
-use Rattle.nom_traits.specs.Input.{Model, InputLaws, IsSuffixOf}
-use Rattle.nom_internal.specs.Outcome.{Outcome}
-use Rattle.nom_internal.specs.Outcome.Outcome.{Accept, Refuse, Fail, TooLarge, Undecided}
-use Rattle.nom_internal.specs.Meaning.{Meaning}
-use Rattle.nom_internal.specs.Cases.{labelled, labelled_meaning}
-use Rattle.nom_internal.specs.Choice.{GoesOnRefused}
-use Rattle.nom_internal.specs.Sequence.{GoesOn, after}
+use Rattle.nom_internal.specs.Prelude.{Model, InputLaws, IsSuffixOf, Outcome, Accept, Refuse, Stop, Meaning, labelled, labelled_meaning, GoesOnRefused, GoesOn}
+use Rattle.nom_internal.specs.Prelude.{after}
 use Rattle.nom_permutation.specs.Members.{Member, Choice, IsOver, or_waiting, or_members, tried}
 use Rattle.nom_permutation.specs.Members.Choice.{NoChoice, Among}
 use Rattle.nom_permutation.specs.Permutation.{round_meaning, rounds_meaning, permutation_meaning}
@@ -30,32 +25,24 @@ module _ {I T P E : Type 0} (s : Bool) (m : Meaning I P E) (put : P → T) (i : 
       let same : n ≡ k = cc (q) in
       (v, subst (λ z. m.answers s z (Accept n v)) (sym e) (subst (λ z. m.answers s j (Accept z v)) (sym same) h), cc (q))
   accept_of n u j Refuse e h q = absurd (cc (q))
-  accept_of n u j Fail e h q = absurd (cc (q))
-  accept_of n u j TooLarge e h q = absurd (cc (q))
-  accept_of n u j (Undecided k) e h q = absurd (cc (q))
+  accept_of n u j (Stop why) e h q = absurd (cc (q))
 
   refuse_of : (j : I) (a : Outcome P) → i ≡ j → m.answers s j a → ◌≡◌ {A = Outcome T} Refuse (labelled put a) → m.answers s i Refuse
   refuse_of j (Accept k v) e h q = absurd (cc (q))
   refuse_of j Refuse e h q = subst (λ z. m.answers s z Refuse) (sym e) h
-  refuse_of j Fail e h q = absurd (cc (q))
-  refuse_of j TooLarge e h q = absurd (cc (q))
-  refuse_of j (Undecided k) e h q = absurd (cc (q))
+  refuse_of j (Stop why) e h q = absurd (cc (q))
 
 -- how a choice of two decides
 module _ {V : Type 0} (N : Outcome V → Type 0) where
   next_accepts : (a : Outcome V) (n : ℕ) (v : V) → GoesOnRefused N a (Accept n v) → (a ≡ Accept n v) ⊎ ((a ≡ Refuse) × N (Accept n v))
   next_accepts (Accept m u) n v h = inl (sym h)
   next_accepts Refuse n v h = inr (refl, h)
-  next_accepts Fail n v h = absurd (cc (h))
-  next_accepts TooLarge n v h = absurd (cc (h))
-  next_accepts (Undecided k) n v h = absurd (cc (h))
+  next_accepts (Stop why) n v h = absurd (cc (h))
 
   next_refuses : (a : Outcome V) → GoesOnRefused N a Refuse → (a ≡ Refuse) × N Refuse
   next_refuses (Accept m u) h = absurd (cc (h))
   next_refuses Refuse h = (refl, h)
-  next_refuses Fail h = absurd (cc (h))
-  next_refuses TooLarge h = absurd (cc (h))
-  next_refuses (Undecided k) h = absurd (cc (h))
+  next_refuses (Stop why) h = absurd (cc (h))
 
 module _ {I T P E : Type 0} (s : Bool) (Joins : E → E → E → Type 0) (Grows : Type 0) (m : Meaning I P E) (put : P → T) (i : I) where
   -- one more member: the others accept, or refuse while it accepts
@@ -133,16 +120,12 @@ module _ {I A T : Type 0} (w : Model I A) (Next : T → I → Outcome T → Type
       let same : u ≡ t = cc (e) in
       record { length = k; trees = v; is = refl; rest = j; rest_is = r; more = m; next = subst (λ z. Next v j (Accept m z)) (sym same) h; lengths = cc (e) }
   after_next k v j Refuse r h e = absurd (cc (e))
-  after_next k v j Fail r h e = absurd (cc (e))
-  after_next k v j TooLarge r h e = absurd (cc (e))
-  after_next k v j (Undecided d) r h e = absurd (cc (e))
+  after_next k v j (Stop why) r h e = absurd (cc (e))
 
   goes_on_from : (a : Outcome T) → GoesOn w (λ _ t. t) Next i a (Accept n u) → GoesOnFrom a
   goes_on_from (Accept k v) h = after_next k v h.0 h.1 h.2 h.3 h.4
   goes_on_from Refuse h = absurd (cc (h))
-  goes_on_from Fail h = absurd (cc (h))
-  goes_on_from TooLarge h = absurd (cc (h))
-  goes_on_from (Undecided d) h = absurd (cc (h))
+  goes_on_from (Stop why) h = absurd (cc (h))
 
 module _ {I A T E : Type 0} (w : Model I A) (Joins : E → E → E → Type 0) (Closes : I → E → E → Type 0) (Grows : Type 0) (ms : List (Member I T E))
     (s : Bool) where

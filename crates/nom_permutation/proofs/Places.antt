@@ -1,22 +1,12 @@
 -- A member's part in a round of a permutation.
 use Rattle.std.specs.Prelude.{◌≡◌, ◌+◌, Bool, true, false, Result, Ok, Err, Option, Some, None, refl}
 use Rattle.std.proofs.Common.{sym, ◌∙◌, ap, subst}
-use Rattle.nom_error.specs.Answers.{PResult}
-use Rattle.nom_error.specs.declared.answer.Needed.{Needed}
+use Rattle.nom_internal.specs.Prelude.{PResult, Needed, Incomplete, Error, Failure, OutOfMemory, Model, Built, Modes, modes, with_outputs, Outcome, Accept}
+use Rattle.nom_internal.specs.Prelude.{Refuse, Stop, Shows, ShowsAnswer, RanOut, Shown, Meaning, labelled_meaning, NextBlames, NextRunsOut, OrBlames}
+use Rattle.nom_internal.specs.Prelude.{or_meaning, OnError, ShowsNext, FirstFails, FirstRefuses, NextFails, NextRefuses, Fails, Needs}
 use Rattle.nom_error.specs.declared.answer.Err as Answer
-use Rattle.nom_error.specs.declared.answer.Err.TheVariants.{Incomplete, Error, Failure, OutOfMemory}
 use Rattle.nom_permutation_slots.specs.declared.slots.Slot.{Slot}
 use Rattle.nom_permutation_slots.specs.declared.slots.Slot.TheVariants.{Waiting, Applied}
-use Rattle.nom_traits.specs.Input.{Model}
-use Rattle.nom_error.specs.Modes.{Built, Modes, modes, with_outputs}
-use Rattle.nom_internal.specs.Outcome.{Outcome, Shows, ShowsAnswer}
-use Rattle.nom_internal.specs.Outcome.Outcome.{Accept, Refuse, Fail, TooLarge, Undecided}
-use Rattle.nom_internal.specs.Outcome.ShowsAnswer.{RanOut, Shown}
-use Rattle.nom_internal.specs.Meaning.{Meaning}
-use Rattle.nom_internal.specs.Cases.{labelled_meaning}
-use Rattle.nom_internal.specs.Choice.{NextBlames, NextRunsOut, OrBlames, or_meaning, OnError, ShowsNext}
-use Rattle.nom_internal.specs.Choice.OrBlames.{FirstFails, FirstRefuses}
-use Rattle.nom_internal.specs.Choice.NextBlames.{NextFails, NextRefuses}
 use Rattle.nom_permutation.specs.Members.{Choice, IsOver, or_waiting}
 use Rattle.nom_permutation.specs.Members.Choice.{NoChoice, Among}
 use Rattle.nom_permutation_slots.specs.Tries.{Fills, TriesFirst, TriesAfter, Tries}
@@ -55,9 +45,8 @@ module _ {I A V O E : Type 0} (w : Model I A) (IsOutput : V → O → Type 0) (o
         let g = rw h.4 at f in
         Shown (Accept n v) a (h.0, Some tt, h.2, (tt, refl, fills v (h.1, g.0, h.3)), ap as_answer g.1)
     fills_shown q r (Shown Refuse a h) f = let g = rw h.2 at f in Shown Refuse a (h.0, h.1, ap as_answer g.1)
-    fills_shown q r (Shown Fail a h) f = let g = rw h.2 at f in Shown Fail a (h.0, h.1, ap as_answer g.1)
-    fills_shown q r (Shown TooLarge a h) f = let g = rw h.2 at f in Shown TooLarge a (h.0, h.1, ap as_answer g.1)
-    fills_shown q r (Shown (Undecided k) a h) f = let g = rw h.2 at f in Shown (Undecided k) a (h.0, h.1, ap as_answer g.1)
+    fills_shown q r (Shown (Stop (Fails cause)) a h) f = let g = rw h.2 at f in Shown (Stop (Fails cause)) a (h.0, h.1, ap as_answer g.1)
+    fills_shown q r (Shown (Stop (Needs k)) a h) f = let g = rw h.2 at f in Shown (Stop (Needs k)) a (h.0, h.1, ap as_answer g.1)
 
 module _ {I A T E : Type 0} (w : Model I A) (Held Held' : T → Type 0) (mode : Modes) (i : I) (Answers : Outcome T → Type 0) (IsError : E → Type 0)
     (RunsOut : Type 0) where
@@ -65,9 +54,7 @@ module _ {I A T E : Type 0} (w : Model I A) (Held Held' : T → Type 0) (mode : 
       Shows w (λ u _. Held' u) (with_outputs true mode) i IsError o (as_answer (Err f))
   lost_of f (Accept n v) h = absurd (cc (h.4))
   lost_of f Refuse h = h
-  lost_of f Fail h = h
-  lost_of f TooLarge h = h
-  lost_of f (Undecided k) h = h
+  lost_of f (Stop why) h = h
 
   -- a round that applied none, whatever the places hold
   lost_shown : (f : Answer.Err E (Option E) Needed) →
@@ -80,9 +67,8 @@ module _ {I A T E : Type 0} (w : Model I A) (Held Held' : T → Type 0) (mode : 
       Shows w (λ u _. Held' u) (with_outputs true mode) i IsError o (as_answer (Ok j))
   kept_of j f (Accept n v) h = (h.0, h.1, h.2, (h.3.0, h.3.1, f v h.3.2), h.4)
   kept_of j f Refuse h = absurd (cc (h.2))
-  kept_of j f Fail h = absurd (cc (h.2))
-  kept_of j f TooLarge h = absurd (cc (h.2))
-  kept_of j f (Undecided k) h = absurd (cc (h.2))
+  kept_of j f (Stop (Fails cause)) h = absurd (cc (h.2))
+  kept_of j f (Stop (Needs k)) h = absurd (cc (h.2))
 
   -- a round that applied a member, with places that hold as much
   kept_shown : (j : I) → ((u : T) → Held u → Held' u) →

@@ -1,17 +1,9 @@
 -- How a permutation runs its rounds.
 use Rattle.std.specs.Prelude.{◌≡◌, ℕ, Bool, true, List, [], Result, Ok, Err, Option, Some, None, refl}
 use Rattle.std.proofs.Common.{sym, ap, subst, zero, suc}
-use Rattle.nom_error.specs.Answers.{PResult}
-use Rattle.nom_error.specs.declared.answer.Needed.{Needed}
+use Rattle.nom_internal.specs.Prelude.{PResult, Needed, Incomplete, Error, Failure, OutOfMemory, Model, InputLaws, IsSuffixOf, Built, modes, Accept, Shown}
+use Rattle.nom_internal.specs.Prelude.{Meaning, ShowsMeaning, closed_meaning, OnError, ClosesResult}
 use Rattle.nom_error.specs.declared.answer.Err as Answer
-use Rattle.nom_error.specs.declared.answer.Err.TheVariants.{Incomplete, Error, Failure, OutOfMemory}
-use Rattle.nom_traits.specs.Input.{Model, InputLaws, IsSuffixOf}
-use Rattle.nom_error.specs.Modes.{Built, modes}
-use Rattle.nom_internal.specs.Outcome.Outcome.{Accept}
-use Rattle.nom_internal.specs.Outcome.ShowsAnswer.{Shown}
-use Rattle.nom_internal.specs.Meaning.{Meaning, ShowsMeaning}
-use Rattle.nom_internal.specs.Cases.{closed_meaning}
-use Rattle.nom_internal.specs.Choice.{OnError, ClosesResult}
 use Rattle.nom_permutation.specs.Members.{Member, Choice, IsOver, tried}
 use Rattle.nom_permutation.specs.Members.Choice.{NoChoice, Among}
 use Rattle.nom_permutation.specs.Rounds.{applies, as_answer, ShowsRound, HasTried}

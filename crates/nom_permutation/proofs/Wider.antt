@@ -1,20 +1,10 @@
 -- A round of some members, as a round of these and of one more that isn't tried yet.
 use Rattle.std.specs.Prelude.{◌≡◌, Bool, true, Result, Ok, Err, Option, Some, None, List, [], ◌∷◌, refl}
 use Rattle.std.proofs.Common.{ap, ◌∙◌, inl, inr}
-use Rattle.nom_error.specs.Answers.{PResult}
-use Rattle.nom_error.specs.declared.answer.Needed.{Needed}
+use Rattle.nom_internal.specs.Prelude.{PResult, Needed, Incomplete, Error, Failure, OutOfMemory, Modes, with_outputs, Model, Outcome, Accept, Refuse, Stop}
+use Rattle.nom_internal.specs.Prelude.{Fails, Needs, ShowsAnswer, IsFailure, RanOut, Shown, Meaning, labelled, labelled_meaning, GoesOnRefused, NextBlames}
+use Rattle.nom_internal.specs.Prelude.{NextRunsOut, OrBlames, or_meaning, FirstFails, FirstRefuses, NextFails, NextRefuses}
 use Rattle.nom_error.specs.declared.answer.Err as Answer
-use Rattle.nom_error.specs.declared.answer.Err.TheVariants.{Incomplete, Error, Failure, OutOfMemory}
-use Rattle.nom_error.specs.Modes.{Modes, with_outputs}
-use Rattle.nom_traits.specs.Input.{Model}
-use Rattle.nom_internal.specs.Outcome.{Outcome, ShowsAnswer, IsFailure}
-use Rattle.nom_internal.specs.Outcome.Outcome.{Accept, Refuse, Fail, TooLarge, Undecided}
-use Rattle.nom_internal.specs.Outcome.ShowsAnswer.{RanOut, Shown}
-use Rattle.nom_internal.specs.Meaning.{Meaning}
-use Rattle.nom_internal.specs.Cases.{labelled, labelled_meaning}
-use Rattle.nom_internal.specs.Choice.{GoesOnRefused, NextBlames, NextRunsOut, OrBlames, or_meaning}
-use Rattle.nom_internal.specs.Choice.OrBlames.{FirstFails, FirstRefuses}
-use Rattle.nom_internal.specs.Choice.NextBlames.{NextFails, NextRefuses}
 use Rattle.nom_internal.proofs.Choices.{shown_map}
 use Rattle.nom_permutation.specs.Members.{Member, Choice, or_waiting, or_members}
 use Rattle.nom_permutation.specs.Members.Choice.{NoChoice, Among}
@@ -25,17 +15,14 @@ module _ {T U : Type 0} (put : T → U) where
   failure_kept : (o : Outcome T) → IsFailure o → IsFailure (labelled put o)
   failure_kept (Accept n v) h = absurd h
   failure_kept Refuse h = absurd h
-  failure_kept Fail h = tt
-  failure_kept TooLarge h = tt
-  failure_kept (Undecided k) h = absurd h
+  failure_kept (Stop (Fails cause)) h = tt
+  failure_kept (Stop (Needs k)) h = absurd h
 
   module _ {Q : Type 0} (label : Q → T) where
     labelled_twice : (o : Outcome Q) → labelled put (labelled label o) ≡ labelled (λ v. put (label v)) o
     labelled_twice (Accept n v) = refl
     labelled_twice Refuse = refl
-    labelled_twice Fail = refl
-    labelled_twice TooLarge = refl
-    labelled_twice (Undecided k) = refl
+    labelled_twice (Stop why) = refl
 
 module _ {I T U E : Type 0} (put : T → U) where
   -- what one meaning has, with its trees labelled the other has
@@ -70,9 +57,7 @@ module _ {I T U E : Type 0} (put : T → U) where
         GoesOnRefused (d.answers s i) (labelled put first) (labelled put o)
     goes_on s i (Accept n v) o h = ap (labelled put) h
     goes_on s i Refuse o h = q.answers s i o h
-    goes_on s i Fail o h = ap (labelled put) h
-    goes_on s i TooLarge o h = ap (labelled put) h
-    goes_on s i (Undecided k) o h = ap (labelled put) h
+    goes_on s i (Stop why) o h = ap (labelled put) h
 
     next_blames : (s : Bool) (i : I) (e : E) → NextBlames Joins b s i (a.blames s i) e → NextBlames Joins d s i (c.blames s i) e
     next_blames s i e (NextFails f) = NextFails (record {
@@ -152,9 +137,7 @@ module _ {I A T U E : Type 0} (w : Model I A) (mode : Modes) (i : I) (Held : T �
   wider_shown F G Q S f r (Shown (Accept n v) a h) =
       Shown (Accept n (put v)) (f (Accept n v) a) (h.0, h.1, h.2, (h.3.0, h.3.1, held v h.3.2), h.4)
   wider_shown F G Q S f r (Shown Refuse a h) = Shown Refuse (f Refuse a) h
-  wider_shown F G Q S f r (Shown Fail a h) = Shown Fail (f Fail a) h
-  wider_shown F G Q S f r (Shown TooLarge a h) = Shown TooLarge (f TooLarge a) h
-  wider_shown F G Q S f r (Shown (Undecided k) a h) = Shown (Undecided k) (f (Undecided k) a) h
+  wider_shown F G Q S f r (Shown (Stop why) a h) = Shown (Stop why) (f (Stop why) a) h
 
   wider_round : (m : Meaning I T E) (n : Meaning I U E) (r : Result I (Answer.Err E (Option E) Needed)) → Covers put m n → ShowsRound w mode i Held m r →
       ShowsRound w mode i Wide n r

@@ -1,9 +1,6 @@
 -- The members of a permutation, and the choice among those that aren't applied.
 use Rattle.std.specs.Prelude.{List, [], ◌∷◌, Option, Some, None}
-use Rattle.nom_traits.specs.Input.{Model}
-use Rattle.nom_internal.specs.Meaning.{Meaning, IsLawful, IsSteady}
-use Rattle.nom_internal.specs.Cases.{labelled_meaning}
-use Rattle.nom_internal.specs.Choice.{or_meaning}
+use Rattle.nom_internal.specs.Prelude.{Model, Meaning, IsLawful, IsSteady, labelled_meaning, or_meaning}
 
 -- a member, of members whose trees together are T: each is there once it is applied
 pub record Member (I T E : Type 0) : Type 1 where

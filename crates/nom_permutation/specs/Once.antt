@@ -1,8 +1,6 @@
 -- Each member of a permutation is applied once.
 use Rattle.std.specs.Prelude.{ℕ, Bool, List, length}
-use Rattle.nom_traits.specs.Input.{Model}
-use Rattle.nom_internal.specs.Outcome.Outcome.{Accept}
-use Rattle.nom_internal.specs.Meaning.{Meaning}
+use Rattle.nom_internal.specs.Prelude.{Model, Accept, Meaning}
 use Rattle.nom_permutation.specs.Members.{Member}
 use Rattle.nom_permutation.specs.Order.{AllApplied, InOrder}
 

@@ -2,8 +2,7 @@
 -- applied yet refuses there.
 use Rattle.std.specs.Prelude.{◌≡◌, ℕ, ◌+◌, Bool, List, [], ◌∷◌, None, ◌⊎◌}
 use Rattle.std.proofs.Common.{zero, suc}
-use Rattle.nom_traits.specs.Input.{Model, IsSuffixOf}
-use Rattle.nom_internal.specs.Outcome.Outcome.{Accept, Refuse}
+use Rattle.nom_internal.specs.Prelude.{Model, IsSuffixOf, Accept, Refuse}
 use Rattle.nom_permutation.specs.Members.{Member}
 
 -- after the trees t, the member isn't applied and accepts the first n items of i, which gives the trees u

@@ -2,13 +2,7 @@
 -- applied; where all that are left refuse, so does the permutation, with their errors joined from left to right and closed there.
 use Rattle.std.specs.Prelude.{◌≡◌, ℕ, Bool, true, List, length}
 use Rattle.std.proofs.Common.{zero, suc}
-use Rattle.nom_error.specs.Modes.{Modes}
-use Rattle.nom_traits.specs.Input.{Model}
-use Rattle.nom_internal.specs.Outcome.Outcome.{Accept}
-use Rattle.nom_internal.specs.Meaning.{Meaning}
-use Rattle.nom_internal.specs.Cases.{closed_meaning}
-use Rattle.nom_internal.specs.Families.{Family}
-use Rattle.nom_internal.specs.Sequence.{then_meaning}
+use Rattle.nom_internal.specs.Prelude.{Modes, Model, Accept, Meaning, closed_meaning, Family, then_meaning, Cause}
 use Rattle.nom_permutation.specs.Members.{Member, EachMember, AreSound, Choice, tried}
 use Rattle.nom_permutation.specs.Members.Choice.{NoChoice, Among}
 
@@ -21,7 +15,7 @@ done_meaning t = record {
   may_run_out = λ mode i. ⊥;
   IsFrugal = λ mode. Unit {0};
   Settles = Unit {0};
-  NeverFails = λ large. Unit {0};
+  NeverFails = λ cause. Unit {0};
 }
 
 -- they are frugal and, where errors are built, making one takes no memory
@@ -31,8 +25,8 @@ AreFrugal Grows ms mode = EachMember (λ m. m.meaning.IsFrugal mode) ms × (mode
 abbrev pub AllSettle : {I T E : Type 0} → List (Member I T E) → Type 0
 AllSettle = EachMember (λ m. m.meaning.Settles)
 
-abbrev pub NoneFails : {I T E : Type 0} → List (Member I T E) → Bool → Type 0
-NoneFails ms large = EachMember (λ m. m.meaning.NeverFails large) ms
+abbrev pub NoneFails : {I T E : Type 0} → List (Member I T E) → Cause → Type 0
+NoneFails ms cause = EachMember (λ m. m.meaning.NeverFails cause) ms
 
 -- a meaning that promises what all members do
 abbrev pub promised : {I T V E : Type 0} → Type 0 → List (Member I T E) → Meaning I V E → Meaning I V E

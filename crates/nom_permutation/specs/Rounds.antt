@@ -1,15 +1,9 @@
 -- What a round of a permutation shows of its members.
 use Rattle.std.specs.Prelude.{◌≡◌, ℕ, Bool, true, Result, Ok, Err, Option, Some, None}
-use Rattle.nom_error.specs.Answers.{PResult}
-use Rattle.nom_error.specs.declared.answer.Needed.{Needed}
+use Rattle.nom_internal.specs.Prelude.{PResult, Needed, Incomplete, Error, Failure, OutOfMemory, Model, Built, Modes, with_outputs, ShowsAnswer, Meaning}
 use Rattle.nom_error.specs.declared.answer.Err as Answer
-use Rattle.nom_error.specs.declared.answer.Err.TheVariants.{Incomplete, Error, Failure, OutOfMemory}
 use Rattle.nom_permutation_slots.specs.declared.slots.Slot.{Slot}
 use Rattle.nom_permutation_slots.specs.declared.slots.Slot.TheVariants.{Waiting, Applied}
-use Rattle.nom_traits.specs.Input.{Model}
-use Rattle.nom_error.specs.Modes.{Built, Modes, with_outputs}
-use Rattle.nom_internal.specs.Outcome.{ShowsAnswer}
-use Rattle.nom_internal.specs.Meaning.{Meaning}
 use Rattle.nom_permutation.specs.Members.{Choice}
 use Rattle.nom_permutation.specs.Members.Choice.{NoChoice, Among}
 

@@ -1,7 +1,6 @@
 //! The members of a permutation, nested: a first one, or some and one more after them.
 ghost use Rattle.std.specs.Prelude.{◌≡◌, ◌+◌, ◌∷◌, [], ℕ, Bool, List, Option, Some, None, length};
-ghost use Rattle.nom_error.specs.Modes.{Built, modes};
-ghost use Rattle.nom_traits.specs.View.{View};
+ghost use Rattle.nom_internal.specs.Prelude.{Built, modes, View};
 ghost use Rattle.nom_permutation.specs.Members.{Member, AreSound, IsOver, member, tried, with_last};
 ghost use Rattle.nom_permutation.specs.laws.NestedLaws.{AreGood, ArePinned, AreStream};
 ghost use Rattle.nom_permutation.specs.Rounds.{HasTried, SlotHolds, IsApplied, applies, waits};

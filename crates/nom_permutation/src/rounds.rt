@@ -1,8 +1,7 @@
 //! The rounds of a permutation.
 ghost use Rattle.std.specs.Prelude.{◌≡◌};
 ghost use Rattle.nom_error.specs.declared.kind.ErrorKind.TheVariants as Kind;
-ghost use Rattle.nom_error.specs.Modes.{modes};
-ghost use Rattle.nom_internal.specs.Meaning.{ShowsMeaning};
+ghost use Rattle.nom_internal.specs.Prelude.{modes, ShowsMeaning};
 ghost use Rattle.nom_permutation.specs.Members.{AreSound};
 ghost use Rattle.nom_permutation.specs.Permutation.{permutation_meaning};
 ghost use Rattle.nom_permutation.specs.Rounds.{FlatOutput};

@@ -1,14 +1,10 @@
 -- The tries of a round's members that wait.
 use Rattle.std.specs.Prelude.{◌≡◌, Bool, Result, Err, Option, Some, None, refl}
 use Rattle.std.proofs.Common.{subst}
-use Rattle.nom_error.specs.declared.answer.Needed.{Needed}
+use Rattle.nom_internal.specs.Prelude.{Needed, Error, Model, modes, Meaning}
 use Rattle.nom_error.specs.declared.answer.Err as Answer
-use Rattle.nom_error.specs.declared.answer.Err.TheVariants.{Error}
 use Rattle.nom_permutation_slots.specs.declared.slots.Slot.{Slot}
 use Rattle.nom_permutation_slots.specs.declared.slots.Slot.TheVariants.{Waiting}
-use Rattle.nom_traits.specs.Input.{Model}
-use Rattle.nom_error.specs.Modes.{modes}
-use Rattle.nom_internal.specs.Meaning.{Meaning}
 use Rattle.nom_permutation_slots.specs.Tries.{TriesFirst, TriesNext, Tries}
 
 module _ {I A V O E : Type 0} (w : Model I A) (IsOutput : V → O → Type 0) (Joins : E → E → E → Type 0) (Grows : Type 0) (m : Meaning I V E)

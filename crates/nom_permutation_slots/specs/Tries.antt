@@ -1,15 +1,9 @@
 -- How a member of a permutation is tried, and how its answer fills its place.
 use Rattle.std.specs.Prelude.{◌≡◌, Result, Ok, Err, Option, Some, None}
-use Rattle.nom_error.specs.Answers.{PResult}
-use Rattle.nom_error.specs.declared.answer.Needed.{Needed}
+use Rattle.nom_internal.specs.Prelude.{PResult, Needed, Incomplete, Error, Failure, OutOfMemory, Model, Modes, Meaning, ShowsMeaning, ShowsNext}
 use Rattle.nom_error.specs.declared.answer.Err as Answer
-use Rattle.nom_error.specs.declared.answer.Err.TheVariants.{Incomplete, Error, Failure, OutOfMemory}
 use Rattle.nom_permutation_slots.specs.declared.slots.Slot.{Slot}
 use Rattle.nom_permutation_slots.specs.declared.slots.Slot.TheVariants.{Waiting, Applied}
-use Rattle.nom_traits.specs.Input.{Model}
-use Rattle.nom_error.specs.Modes.{Modes}
-use Rattle.nom_internal.specs.Meaning.{Meaning, ShowsMeaning}
-use Rattle.nom_internal.specs.Choice.{ShowsNext}
 
 -- a member's answer fills its place: an acceptance with its output; else the place stays
 abbrev pub Fills : {I O E : Type 0} → Slot O → PResult I O E → Slot O →

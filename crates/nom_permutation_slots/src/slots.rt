@@ -1,6 +1,6 @@
 //! The places of a permutation's members, and how a round fills them.
 ghost use Rattle.std.specs.Prelude.{◌≡◌, true, false, Option};
-ghost use Rattle.nom_error.specs.Modes.{modes};
+ghost use Rattle.nom_internal.specs.Prelude.{modes};
 ghost use Rattle.nom_permutation_slots.specs.Tries.{Fills, TriesFirst, TriesNext, Tries};
 ghost use Rattle.nom_permutation_slots.specs.declared.slots.Slot.TheVariants.{Waiting, Applied};
 

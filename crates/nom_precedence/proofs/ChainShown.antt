@@ -1,22 +1,13 @@
 -- What items in turn show, of which one may be stuck.
 use Rattle.std.proofs.Common.{◌≡◌, ℕ, ◌<◌, Bool, true, false, Ok, Err, Option, Some, None, ◌⊎◌, List, [], ◌∷◌, ◌++◌, inl, inr, refl, arith, zero, suc}
-use Rattle.nom_error.specs.Answers.{PResult, size_of}
-use Rattle.nom_error.specs.declared.answer.Needed.{Needed}
+use Rattle.nom_internal.specs.Prelude.{PResult, size_of, Needed, Incomplete, Failure, OutOfMemory, Built, modes, Model, InputLaws, IsSuffixOf, Outcome, Accept}
+use Rattle.nom_internal.specs.Prelude.{Refuse, Stop, Fails, Needs, ShowsAnswer, RanOut, Meaning, labelled_meaning, always}
 use Rattle.nom_error.specs.declared.answer.Err as Answer
-use Rattle.nom_error.specs.declared.answer.Err.TheVariants.{Incomplete, Failure, OutOfMemory}
-use Rattle.nom_error.specs.Modes.{Built, modes}
-use Rattle.nom_traits.specs.Input.{Model, InputLaws, IsSuffixOf}
-use Rattle.nom_internal.specs.Outcome.{Outcome, ShowsAnswer}
-use Rattle.nom_internal.specs.Outcome.Outcome.{Accept, Refuse, Fail, TooLarge, Undecided}
-use Rattle.nom_internal.specs.Outcome.ShowsAnswer.{RanOut}
-use Rattle.nom_internal.specs.Meaning.{Meaning}
-use Rattle.nom_internal.specs.Cases.{labelled_meaning}
-use Rattle.nom_internal.specs.Families.{always}
 use Rattle.nom_internal.proofs.Cased.{here}
 use Rattle.nom_repeat.specs.Repeat.{TurnsBy}
 use Rattle.nom_repeat.specs.Repeat.Turn.{Takes, Ends}
 use Rattle.nom_repeat.proofs.Parts.{part_failed, part_lacks, part_ran_out}
-use Rattle.nom_repeat.proofs.Repeated.{Collected, collected_more, ended, ended_behind, failed, too_large, lacking, ran_out, ran_out_within}
+use Rattle.nom_repeat.proofs.Repeated.{Collected, collected_more, ended, ended_behind, failed, lacking, ran_out, ran_out_within}
 use Rattle.nom_precedence.specs.Stuck.{Read}
 use Rattle.nom_precedence.specs.Stuck.Read.{Whole, Stuck}
 use Rattle.nom_precedence.specs.Chains.{read_turn, chain_turn, IfTaken, chain_rule, chained, chain_meaning}
@@ -80,17 +71,13 @@ module _ {I A V X E : Type 0} {w : Model I A} (Grows : Type 0) (m : Meaning I (R
       (h : ShowsAnswer w IsTold (modes b false streaming) j (m.answers streaming j) (m.blames streaming j)
       (m.may_run_out (modes outputs false streaming) j) (Err f)) where
     pub chain_failed : {x : E} → f ≡ Failure x → ShowsIt (Err (Failure x))
-    chain_failed {x} e = let p = part_failed e h in by p.0 p.1
-      where
-        by : m.answers streaming j Fail ⊎ m.answers streaming j TooLarge → m.blames streaming j x → ShowsIt (Err (Failure x))
-        by (inl a) q = not_ran_out _ (λ y. cc (y)) (failed (chain_rule Grows) chained (always m) {IsOutput = IsRead outputs IsOutput}
-            {mode = modes true errors streaming} c (Some Fail) (tt, a) refl x q)
-        by (inr a) q = not_ran_out _ (λ y. cc (y)) (too_large (chain_rule Grows) chained (always m) {IsOutput = IsRead outputs IsOutput}
-            {mode = modes true errors streaming} c (Some TooLarge) (tt, a) refl x q)
+    chain_failed {x} e = let p = part_failed e h in
+        not_ran_out _ (λ y. cc (y)) (failed (chain_rule Grows) chained (always m) {IsOutput = IsRead outputs IsOutput}
+        {mode = modes true errors streaming} c (Some (Stop (Fails p.0))) (tt, p.1) p.0 refl x p.2)
 
     pub chain_lacks : {k : Needed} → f ≡ Incomplete k → ShowsIt (Err (Incomplete k))
     chain_lacks {k} e = not_ran_out _ (λ y. cc (y)) (lacking (chain_rule Grows) chained (always m) {IsOutput = IsRead outputs IsOutput}
-        {mode = modes true errors streaming} c (Some (Undecided (size_of k))) (tt, part_lacks e h) refl)
+        {mode = modes true errors streaming} c (Some (Stop (Needs (size_of k)))) (tt, part_lacks e h) refl)
 
     pub chain_ran_out : f ≡ OutOfMemory → ShowsIt (Err OutOfMemory)
     chain_ran_out e = RanOut refl (part_ran_out refl (ran_out_within (chain_rule Grows) chained (always m) {IsOutput = IsRead outputs IsOutput}

@@ -2,7 +2,7 @@
 use Rattle.std.proofs.Common.{◌≡◌, Bool, true, false, Option, Some, None, List, [], ◌∷◌, ◌++◌, sym, subst}
 use Rattle.std.specs.List.{AllZip}
 use Rattle.std.specs.Prelude.{option_to_list}
-use Rattle.nom_error.specs.Modes.{Built}
+use Rattle.nom_internal.specs.Prelude.{Built}
 use Rattle.nom_repeat.proofs.Accumulating.{zip_push}
 
 -- one more

@@ -1,20 +1,10 @@
 -- What operators with levels show, and what is stuck or closed.
 use Rattle.std.proofs.Common.{◌≡◌, ℕ, ◌<◌, ◌≤◌, ltb, lt-ltb, le-ltb, Bool, true, false, Ok, Err, Option, Some, inl, inr, refl, sym, ap, subst}
 use Rattle.std.specs.Result.{IsErrAnd, IsErr}
-use Rattle.nom_error.specs.Answers.{PResult, Refuses}
-use Rattle.nom_error.specs.Errors.{Errors}
-use Rattle.nom_error.specs.Modes.{Built, modes}
-use Rattle.nom_error.specs.declared.answer.Needed.{Needed}
+use Rattle.nom_internal.specs.Prelude.{PResult, Refuses, Errors, Built, modes, Needed, Model, InputLaws, IsSuffixOf, Accept, Refuse, Stop, Fails, Outright}
+use Rattle.nom_internal.specs.Prelude.{ShowsAnswer, RanOut, Shown, Meaning, ShowsMeaning, closed_meaning, labelled_meaning, RunsOutBeside, ClosesResult}
 use Rattle.nom_error.specs.declared.answer.Err as Answer
 use Rattle.nom_error.specs.declared.kind.ErrorKind.TheVariants as Kind
-use Rattle.nom_traits.specs.Input.{Model, InputLaws, IsSuffixOf}
-use Rattle.nom_internal.specs.Outcome.{ShowsAnswer}
-use Rattle.nom_internal.specs.Outcome.Outcome.{Accept, Refuse, Fail}
-use Rattle.nom_internal.specs.Outcome.ShowsAnswer.{RanOut, Shown}
-use Rattle.nom_internal.specs.Meaning.{Meaning, ShowsMeaning}
-use Rattle.nom_internal.specs.Cases.{closed_meaning, labelled_meaning}
-use Rattle.nom_internal.specs.Cases.CaseRunsOut.{RunsOutBeside}
-use Rattle.nom_internal.specs.Choice.{ClosesResult}
 use Rattle.nom_internal.proofs.Cased.{here, passing_err, labels_err, labels_ok}
 use Rattle.nom_internal.proofs.Choices.{closed_shown}
 use Rattle.nom_internal.proofs.Shown.{accepts, then_err, then_ok, output_err, output_ok, err_from_residual, built_error}
@@ -67,7 +57,7 @@ module _ {I A P H E : Type 0} {w : Model I A} (errs : Errors I E) (IsBinary : P 
           GivesFailure (errs.of_kind i Kind.Precedence) errs.grows f → ShowsOwn w errs IsBinary levels m outputs errors streaming i (Err f)
       by n u a is away (inl g) = RanOut (ap Err g.0) (RunsOutBeside (here (Accept n u) a
           (record { value = own.0; is_value = record { output = own; is_output = is; level_is = refl }; fact = (away, g.1) })))
-      by n u a is away (inr g) = Shown Fail (here (Accept n u) a (record
+      by n u a is away (inr g) = Shown (Stop (Fails Outright)) (here (Accept n u) a (record
           { value = own.0; is_value = record { output = own; is_output = is; level_is = refl }; fact = ap (λ b. if_level b n own.0 u) (sym away) })) (
             g.0,
             here (Accept n u) a (record { value = own.0; is_value = record { output = own; is_output = is; level_is = refl }; fact = (away, g.1) }),
@@ -82,10 +72,8 @@ module _ {I A P H E : Type 0} {w : Model I A} (errs : Errors I E) (IsBinary : P 
         at_is = refl;
         refuses = λ b e. (refl, refl, λ z h. h);
         undecided = λ n e d. refl;
-        fails = refl;
-        too_large = refl;
-        blames_failure = λ z h. h;
-        blames_large = λ z h. h;
+        fails = λ _. refl;
+        blames_failure = λ _ z h. h;
       }) refl h) q
 
 -- the same meaning, which runs out of memory as where outputs are built, or aren't
@@ -210,9 +198,6 @@ module _ {I A V X Z E : Type 0} {w : Model I A} (errs : Errors I E) (IsOutput : 
         at_is = refl;
         refuses = λ b e. (refl, refl, λ z h. h);
         undecided = λ n e d. refl;
-        fails = refl;
-        too_large = refl;
-        blames_failure =
-            λ z h. h;
-        blames_large = λ z h. h;
+        fails = λ _. refl;
+        blames_failure = λ _ z h. h;
       }) refl (output_err {r = Err f} h (refl, refl)))

@@ -1,17 +1,9 @@
 -- What parts show in sequence, of which one may be stuck.
 use Rattle.std.proofs.Common.{◌≡◌, Bool, true, false, Ok, Err, Option, Some, None, refl, sym, subst, []}
 use Rattle.std.specs.Result.{IsErrAnd, IsErr}
-use Rattle.nom_error.specs.Answers.{PResult}
-use Rattle.nom_error.specs.declared.answer.Needed.{Needed}
+use Rattle.nom_internal.specs.Prelude.{PResult, Needed, OutOfMemory, Built, BuiltFrom, BuiltFromBoth, Modes, modes, Model, InputLaws, Outcome, Accept}
+use Rattle.nom_internal.specs.Prelude.{ShowsAnswer, RanOut, Shown, Meaning, ShowsMeaning, labelled_meaning}
 use Rattle.nom_error.specs.declared.answer.Err as Answer
-use Rattle.nom_error.specs.declared.answer.Err.TheVariants.{OutOfMemory}
-use Rattle.nom_error.specs.Modes.{Built, BuiltFrom, BuiltFromBoth, Modes, modes}
-use Rattle.nom_traits.specs.Input.{Model, InputLaws}
-use Rattle.nom_internal.specs.Outcome.{Outcome, ShowsAnswer}
-use Rattle.nom_internal.specs.Outcome.Outcome.{Accept}
-use Rattle.nom_internal.specs.Outcome.ShowsAnswer.{RanOut, Shown}
-use Rattle.nom_internal.specs.Meaning.{Meaning, ShowsMeaning}
-use Rattle.nom_internal.specs.Cases.{labelled_meaning}
 use Rattle.nom_internal.proofs.Cased.{labels_err, labels_ok}
 use Rattle.nom_internal.proofs.Shown.{accepts, then_err, then_ok, output_err, output_ok}
 use Rattle.nom_precedence.specs.Stuck.{Read, both, read_behind, read_both}

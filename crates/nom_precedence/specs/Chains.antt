@@ -1,12 +1,7 @@
 -- Items of one part in turn, until one is refused. The items are read whole, with the list of their trees; or one is stuck: it
 -- consumes nothing, or is stuck itself.
 use Rattle.std.specs.Prelude.{◌≡◌, ℕ, true, false, Option, Some, None, List, zero, suc}
-use Rattle.nom_error.specs.Modes.{with_errors}
-use Rattle.nom_traits.specs.Input.{Model}
-use Rattle.nom_internal.specs.Outcome.{Outcome}
-use Rattle.nom_internal.specs.Outcome.Outcome.{Accept, Refuse, Fail, TooLarge, Undecided}
-use Rattle.nom_internal.specs.Meaning.{Meaning}
-use Rattle.nom_internal.specs.Families.{always}
+use Rattle.nom_internal.specs.Prelude.{with_errors, Model, Outcome, Accept, Refuse, Stop, Fails, Needs, Meaning, always}
 use Rattle.nom_repeat.specs.Repeat.{Turn, Rule, repeat_meaning}
 use Rattle.nom_repeat.specs.Repeat.Turn.{Takes, Ends}
 use Rattle.nom_precedence.specs.Stuck.{Read}
@@ -22,18 +17,15 @@ read_turn (Whole v) (suc n) = Takes (suc n) v
 abbrev pub chain_turn : {V : Type 0} → Option (Outcome (Read V)) → Turn V (Read (Unit {0}))
 chain_turn (Some (Accept n u)) = read_turn u n
 chain_turn (Some Refuse) = Ends (Accept 0 (Whole tt))
-chain_turn (Some Fail) = Ends Fail
-chain_turn (Some TooLarge) = Ends TooLarge
-chain_turn (Some (Undecided d)) = Ends (Undecided d)
+chain_turn (Some (Stop why)) = Ends (Stop why)
 chain_turn None = Ends (Accept 0 (Whole tt))
 
 -- the errors are the part's
 abbrev pub ChainBlames : {V E : Type 0} → Option (Outcome V) → (E → Type 0) → E → Type 0
 ChainBlames (Some (Accept n u)) P e = ⊥
 ChainBlames (Some Refuse) P e = ⊥
-ChainBlames (Some Fail) P e = P e
-ChainBlames (Some TooLarge) P e = P e
-ChainBlames (Some (Undecided d)) P e = ⊥
+ChainBlames (Some (Stop (Fails cause))) P e = P e
+ChainBlames (Some (Stop (Needs d))) P e = ⊥
 ChainBlames None P e = ⊥
 
 abbrev pub IfTaken : {V : Type 0} → Type 0 → Read V → ℕ → Type 0
@@ -45,9 +37,7 @@ IfTaken Fact (Whole v) (suc n) = Fact
 abbrev pub ChainAsks : {V : Type 0} → Type 0 → Option (Outcome (Read V)) → Type 0
 ChainAsks Fact (Some (Accept n u)) = IfTaken Fact u n
 ChainAsks Fact (Some Refuse) = ⊥
-ChainAsks Fact (Some Fail) = ⊥
-ChainAsks Fact (Some TooLarge) = ⊥
-ChainAsks Fact (Some (Undecided d)) = ⊥
+ChainAsks Fact (Some (Stop why)) = ⊥
 ChainAsks Fact None = ⊥
 
 -- The errors of the part's refusals aren't built. Accumulating an item may take memory where outputs are built.

@@ -1,12 +1,7 @@
 -- Expressions: terms with operators between them.
 use Rattle.std.specs.Prelude.{◌≡◌, ℕ, true, false, List}
-use Rattle.nom_error.specs.Errors.{Errors}
-use Rattle.nom_error.specs.Modes.{with_errors, with_outputs}
+use Rattle.nom_internal.specs.Prelude.{Errors, with_errors, with_outputs, Model, Meaning, IsOne, labelled_meaning, closed_meaning, TooLarge}
 use Rattle.nom_error.specs.declared.kind.ErrorKind.TheVariants as Kind
-use Rattle.nom_traits.specs.Input.{Model}
-use Rattle.nom_internal.specs.Meaning.{Meaning}
-use Rattle.nom_internal.specs.Families.{IsOne}
-use Rattle.nom_internal.specs.Cases.{labelled_meaning, closed_meaning}
 use Rattle.nom_precedence.specs.Premises.{Premises, with_premises}
 use Rattle.nom_precedence.specs.Stuck.{Read, read_both, freed_meaning}
 use Rattle.nom_precedence.specs.Stuck.Read.{Whole}
@@ -70,7 +65,7 @@ premises errs CanFold IsLevel prefix operand postfix binary = record {
       × postfix.IsFrugal (with_errors false mode)
       × binary.IsFrugal (with_outputs true (with_errors false mode));
   Settles = prefix.Settles × operand.Settles × postfix.Settles × binary.Settles;
-  NeverFails = λ large. prefix.NeverFails large × operand.NeverFails large × postfix.NeverFails large × binary.NeverFails large × (large ≡ true);
+  NeverFails = λ cause. prefix.NeverFails cause × operand.NeverFails cause × postfix.NeverFails cause × binary.NeverFails cause × (cause ≡ TooLarge);
 }
 
 -- What `precedence` means, by the number of levels.

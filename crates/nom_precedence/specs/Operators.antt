@@ -1,14 +1,8 @@
 -- An operator with its level.
 use Rattle.std.specs.Prelude.{◌≡◌, ℕ, Bool, true, false, ltb}
-use Rattle.nom_error.specs.Errors.{Errors}
-use Rattle.nom_error.specs.Modes.{with_outputs}
+use Rattle.nom_internal.specs.Prelude.{Errors, with_outputs, Outcome, Accept, Refuse, Stop, Fails, Needs, Outright, Meaning, OfValue, IsOne, Case, case_meaning}
+use Rattle.nom_internal.specs.Prelude.{Passes, AsAsked, TooLarge}
 use Rattle.nom_error.specs.declared.kind.ErrorKind.TheVariants as Kind
-use Rattle.nom_internal.specs.Outcome.{Outcome}
-use Rattle.nom_internal.specs.Outcome.Outcome.{Accept, Refuse, Fail, TooLarge, Undecided}
-use Rattle.nom_internal.specs.Meaning.{Meaning}
-use Rattle.nom_internal.specs.Families.{OfValue, IsOne}
-use Rattle.nom_internal.specs.Cases.{Case, case_meaning, Passes}
-use Rattle.nom_internal.specs.Cases.PartMode.{AsAsked}
 
 -- a tree stands for a level: an output of it has that level
 pub record HasLevel {P O : Type 0} (IsOutput : P → O → Type 0) (level : O → ℕ) (u : P) (k : ℕ) : Type 0 where
@@ -19,7 +13,7 @@ pub record HasLevel {P O : Type 0} (IsOutput : P → O → Type 0) (level : O �
 -- the operator with its level, where there is that level, and else a failure
 abbrev pub if_level : {P : Type 0} → Bool → ℕ → ℕ → P → Outcome (ℕ × P)
 if_level true n k u = Accept n (k, u)
-if_level false n k u = Fail
+if_level false n k u = Stop (Fails Outright)
 
 -- of an acceptance of a level that isn't there the fact holds
 abbrev pub NoLevel : {P : Type 0} → (P → ℕ → Type 0) → ℕ → Type 0 → P → Type 0
@@ -28,16 +22,13 @@ NoLevel IsLevel levels Fact u = OfValue (IsLevel u) (λ k. (ltb k levels ≡ fal
 abbrev pub OperatorBlames : {P E : Type 0} → (P → ℕ → Type 0) → ℕ → (E → Type 0) → Outcome P → (E → Type 0) → E → Type 0
 OperatorBlames IsLevel levels Makes (Accept n u) Part e = NoLevel IsLevel levels (Makes e) u
 OperatorBlames IsLevel levels Makes Refuse Part e = Part e
-OperatorBlames IsLevel levels Makes Fail Part e = Part e
-OperatorBlames IsLevel levels Makes TooLarge Part e = Part e
-OperatorBlames IsLevel levels Makes (Undecided d) Part e = ⊥
+OperatorBlames IsLevel levels Makes (Stop (Fails cause)) Part e = Part e
+OperatorBlames IsLevel levels Makes (Stop (Needs d)) Part e = ⊥
 
 abbrev pub OperatorAsks : {P : Type 0} → (P → ℕ → Type 0) → ℕ → Type 0 → Outcome P → Type 0
 OperatorAsks IsLevel levels Grows (Accept n u) = NoLevel IsLevel levels Grows u
 OperatorAsks IsLevel levels Grows Refuse = ⊥
-OperatorAsks IsLevel levels Grows Fail = ⊥
-OperatorAsks IsLevel levels Grows TooLarge = ⊥
-OperatorAsks IsLevel levels Grows (Undecided d) = ⊥
+OperatorAsks IsLevel levels Grows (Stop why) = ⊥
 
 -- An operator is read with its level, so its output is always built. A level that isn't there is a failure at the operator, with its
 -- error, whatever is built. It is a premise that each tree stands for one level.
@@ -51,7 +42,7 @@ operator_case errs IsLevel levels = record {
   Asks = λ mode i. OperatorAsks IsLevel levels errs.grows;
   IsSound = λ Part. Part × IsOne IsLevel;
   IsFrugal = λ Part mode. Part (with_outputs true mode) × (errs.grows → ⊥);
-  NeverFails = λ Part large. Part large × (large ≡ true);
+  NeverFails = λ Part cause. Part cause × (cause ≡ TooLarge);
 }
 
 abbrev pub operator_meaning : {I P E : Type 0} → Errors I E → (P → ℕ → Type 0) → ℕ → Meaning I P E → Meaning I (ℕ × P) E

@@ -1,15 +1,13 @@
 -- A meaning whose premises are told at once, in place of those that its definition gathers.
 use Rattle.std.specs.Prelude.{Bool}
-use Rattle.nom_error.specs.Modes.{Modes}
-use Rattle.nom_traits.specs.Input.{Model}
-use Rattle.nom_internal.specs.Meaning.{Meaning, IsLawful, IsSteady}
+use Rattle.nom_internal.specs.Prelude.{Modes, Model, Meaning, IsLawful, IsSteady, Cause}
 
 -- when a parser is sound, frugal, settles, and never fails
 pub record Premises : Type 1 where
   pub IsSound : Type 0
   pub IsFrugal : Modes → Type 0
   pub Settles : Type 0
-  pub NeverFails : Bool → Type 0
+  pub NeverFails : Cause → Type 0
 
 -- the same answers, errors and running out of memory
 abbrev pub with_premises : {I V E : Type 0} → Premises → Meaning I V E → Meaning I V E
@@ -27,7 +25,7 @@ with_premises p m = record {
 pub record Gives {I V E : Type 0} (p : Premises) (m : Meaning I V E) : Type 0 where
   pub frugal : (mode : Modes) → p.IsFrugal mode → m.IsFrugal mode
   pub settles : p.Settles → m.Settles
-  pub never_fails : (large : Bool) → p.NeverFails large → m.NeverFails large
+  pub never_fails : (cause : Cause) → p.NeverFails cause → m.NeverFails cause
 
 module _ {I A V E : Type 0} {w : Model I A} {p : Premises} {m : Meaning I V E} where
   pub told_lawful : Gives p m → IsLawful w m → IsLawful w (with_premises p m)
@@ -38,7 +36,7 @@ module _ {I A V E : Type 0} {w : Model I A} {p : Premises} {m : Meaning I V E} w
     frugal = λ mode i k h. l.frugal mode i k (g.frugal mode h);
     settles = λ h. l.settles (g.settles h);
     blames_alike = λ h. l.blames_alike (g.settles h);
-    never_fails = λ large h. l.never_fails large (g.never_fails large h);
+    never_fails = λ cause h. l.never_fails cause (g.never_fails cause h);
   }
 
   pub told_steady : IsSteady w m → IsSteady w (with_premises p m)

@@ -1,17 +1,9 @@
 -- What may be stuck: a part that consumed nothing, where each of its kind must consume. It is a refusal of the whole, at the place
 -- where it is stuck; but below the whole it is told from the refusals of parts, which end what they end, so it is a tree of its own.
 use Rattle.std.specs.Prelude.{◌≡◌, ℕ, true}
-use Rattle.nom_error.specs.Errors.{Errors}
+use Rattle.nom_internal.specs.Prelude.{Errors, Model, IsSuffixOf, Outcome, Accept, Refuse, Stop, Fails, Needs, Meaning, Family, Case, case_meaning, Passes}
+use Rattle.nom_internal.specs.Prelude.{AsAsked, then_meaning, success_meaning}
 use Rattle.nom_error.specs.declared.kind.ErrorKind.TheVariants as Kind
-use Rattle.nom_traits.specs.Input.{Model, IsSuffixOf}
-use Rattle.nom_internal.specs.Outcome.{Outcome}
-use Rattle.nom_internal.specs.Outcome.Outcome.{Accept, Refuse, Fail, TooLarge, Undecided}
-use Rattle.nom_internal.specs.Meaning.{Meaning}
-use Rattle.nom_internal.specs.Families.{Family}
-use Rattle.nom_internal.specs.Cases.{Case, case_meaning, Passes}
-use Rattle.nom_internal.specs.Cases.PartMode.{AsAsked}
-use Rattle.nom_internal.specs.Sequence.{then_meaning}
-use Rattle.nom_internal.specs.Success.{success_meaning}
 
 -- it was read whole, with a tree; or it is stuck after what was consumed
 pub data Read (V : Type 0) : Type 0 where
@@ -55,16 +47,13 @@ pub record StuckAt {I A E : Type 0} (w : Model I A) (errs : Errors I E) (i : I) 
 abbrev pub StuckBlames : {I A V E : Type 0} → Model I A → Errors I E → I → Outcome (Read V) → (E → Type 0) → E → Type 0
 StuckBlames w errs i (Accept n u) P e = IfStuck (StuckAt w errs i n e) u
 StuckBlames w errs i Refuse P e = P e
-StuckBlames w errs i Fail P e = P e
-StuckBlames w errs i TooLarge P e = P e
-StuckBlames w errs i (Undecided d) P e = ⊥
+StuckBlames w errs i (Stop (Fails cause)) P e = P e
+StuckBlames w errs i (Stop (Needs d)) P e = ⊥
 
 abbrev pub StuckAsks : {V : Type 0} → Type 0 → Outcome (Read V) → Type 0
 StuckAsks Fact (Accept n u) = IfStuck Fact u
 StuckAsks Fact Refuse = ⊥
-StuckAsks Fact Fail = ⊥
-StuckAsks Fact TooLarge = ⊥
-StuckAsks Fact (Undecided d) = ⊥
+StuckAsks Fact (Stop why) = ⊥
 
 abbrev pub freed_case : {I A V E : Type 0} → Model I A → Errors I E → Case I I (Read V) V E E
 freed_case w errs = record {

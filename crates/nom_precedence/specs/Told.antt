@@ -1,11 +1,7 @@
 -- What is told of what was read.
 use Rattle.std.specs.Prelude.{◌≡◌, ℕ, Bool, true, List, [], ◌∷◌, Option, Some}
 use Rattle.std.specs.List.{AllZip}
-use Rattle.nom_error.specs.Answers.{PResult}
-use Rattle.nom_error.specs.Modes.{Built, modes}
-use Rattle.nom_traits.specs.Input.{Model}
-use Rattle.nom_internal.specs.Outcome.{ShowsAnswer}
-use Rattle.nom_internal.specs.Meaning.{Meaning}
+use Rattle.nom_internal.specs.Prelude.{PResult, Built, modes, Model, ShowsAnswer, Meaning}
 use Rattle.nom_precedence.specs.Stuck.{Read}
 use Rattle.nom_precedence.specs.Stuck.Read.{Whole, Stuck}
 use Rattle.nom_precedence.specs.Expressions.{Term}

@@ -84,7 +84,8 @@ impl<
         }
     }
 
-    ghost lawful = { λ s k. precedence_lawful I.lawful F.Error.errors (length s.4) k.4 (P.lawful s.0 k.0) (F.lawful s.1 k.1) (Q.lawful s.2 k.2) (C.lawful s.3 k.3) };
+    ghost lawful = { λ s k. precedence_lawful I.lawful F.Error.errors (length s.4) k.4
+        (P.lawful s.0 k.0) (F.lawful s.1 k.1) (Q.lawful s.2 k.2) (C.lawful s.3 k.3) };
 }
 
 impl<
@@ -108,7 +109,8 @@ impl<
     ghost pinned = { λ p k h. folding_pinned h.4 (P.pinned p.prefix k.0 h.0) (F.pinned p.operand k.1 h.1) (Q.pinned p.postfix k.2 h.2)
         (C.pinned p.binary k.3 h.3) (groups_left p.levels.now) };
 
-    ghost steady = { λ s k. precedence_steady I.lawful F.Error.errors (length s.4) k.4 (P.steady s.0 k.0) (F.steady s.1 k.1) (Q.steady s.2 k.2) (C.steady s.3 k.3) };
+    ghost steady = { λ s k. precedence_steady I.lawful F.Error.errors (length s.4) k.4
+        (P.steady s.0 k.0) (F.steady s.1 k.1) (Q.steady s.2 k.2) (C.steady s.3 k.3) };
 }
 
 /// A first term, to whose refusal `Precedence` is added at the start, and then pairs, with the value of

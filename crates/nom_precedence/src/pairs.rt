@@ -1,7 +1,6 @@
 //! Pairs of an operator and a term, in turn.
 ghost use Rattle.std.specs.Prelude.{◌≡◌, ◌≤◌, [], IfSome, IsSome, None, true, length, vec_capacity, vec_len};
-ghost use Rattle.nom_error.specs.Modes.{Built, BuiltFrom, BuiltFromBoth, modes};
-ghost use Rattle.nom_internal.specs.Outcome.{ShowsAnswer};
+ghost use Rattle.nom_internal.specs.Prelude.{Built, BuiltFrom, BuiltFromBoth, modes, ShowsAnswer};
 ghost use Rattle.nom_operators.specs.Groups.{groups_left};
 ghost use Rattle.nom_operators.specs.Steps.{IsNested, Joined, Pushed, waiting};
 ghost use Rattle.nom_precedence.specs.Chains.{chain_meaning};

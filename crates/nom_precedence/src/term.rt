@@ -1,6 +1,6 @@
 //! Terms: prefixes, an operand, postfixes.
 ghost use Rattle.std.specs.Prelude.{◌≡◌, IsSome, None, true, MatchOption};
-ghost use Rattle.nom_error.specs.Modes.{BuiltFrom};
+ghost use Rattle.nom_internal.specs.Prelude.{BuiltFrom};
 ghost use Rattle.nom_precedence.specs.Expressions.{tail_meaning, term_meaning};
 ghost use Rattle.nom_precedence.specs.Steps.{AppliedPushes, Before};
 ghost use Rattle.nom_precedence.specs.Told.{ShowsRead, IsHeld, IsTail, IsTerm};

@@ -1,23 +1,16 @@
 -- The report, from the answer on records that come in pieces.
 use Rattle.std.proofs.Common.{◌≡◌, ℕ, Bool, true, ◌<◌, ◌≤◌, List, length, slice_index, codes, Vec, Result, Bor, sym, ◌∙◌, ap, subst}
 use Rattle.nom_error.specs.declared.value.Error.{Error}
-use Rattle.nom_error.specs.declared.answer.Needed.{Needed}
+use Rattle.nom_internal.specs.Prelude.{Needed, bytes_model, bytes_lawful, IsModelledBy, Cause, Stop, Fails, IsLawful, IsOne, ComparesBytes, bytes_comparing}
+use Rattle.nom_internal.specs.Prelude.{value_of}
 use Rattle.nom_error.specs.declared.answer.Err as Answer
-use Rattle.nom_traits.specs.Bytes.{bytes_model, bytes_lawful}
-use Rattle.nom_traits.specs.Slices.{IsModelledBy}
-use Rattle.nom_internal.specs.Outcome.{failure}
-use Rattle.nom_internal.specs.Meaning.{IsLawful}
-use Rattle.nom_internal.specs.Families.{IsOne}
 use Rattle.nom_internal.specs.laws.CaseLaws.{labelled_lawful}
-use Rattle.nom_traits.specs.Compares.{ComparesBytes}
-use Rattle.nom_traits.specs.CompareTags.{bytes_comparing}
 use Rattle.nom_bytes.specs.laws.TakeLaws.{take_lawful}
 use Rattle.nom_bytes.specs.laws.TagLaws.{tag_lawful}
 use Rattle.nom_sequence.specs.laws.SequenceLaws.{preceded_lawful, terminated_lawful}
 use Rattle.nom_multi_length.specs.Lengths.{HasSize}
 use Rattle.nom_multi_length.specs.laws.LengthLaws.{length_data_lawful}
 use Rattle.nom_multi.specs.laws.ManyLaws.{many0_lawful}
-use Rattle.nom_traits.specs.Digits.{value_of}
 use Rattle.nom_number.specs.Numbers.{bytes_lack, number_meaning}
 use Rattle.nom_growing.specs.Growing.{IsGrown}
 use Rattle.nom_run.specs.Report.{IsTold}
@@ -44,8 +37,8 @@ grammar_lawful tag end =
     terminated_lawful bytes_lawful (many0_lawful bytes_lawful errors_at item)
     (tag_lawful bytes_model bytes_lawful errors_at length ComparesBytes bytes_comparing end)
 
-grammar_never_fails : (large : Bool) (i : Bytes) → bytes_model.IsKnown i → record_grammar.answers true i (failure large) → ⊥
-grammar_never_fails large i h = (grammar_lawful (codes "R") (codes ".")).never_fails large ((tt, (tt, tt)), tt) true i h
+grammar_never_fails : (cause : Cause) (i : Bytes) → bytes_model.IsKnown i → record_grammar.answers true i (Stop (Fails cause)) → ⊥
+grammar_never_fails cause i h = (grammar_lawful (codes "R") (codes ".")).never_fails cause ((tt, (tt, tt)), tt) true i h
 
 -- the grammar of two tags is that of the report, where these are its own
 pub by_its_tags : {A : Type 0} (tag end : List ℕ) → tag ≡ codes "R" → end ≡ codes "." →

@@ -2,19 +2,13 @@
 use Rattle.std.specs.Prelude.{◌≡◌, ℕ, ◌-◌, List, length, codes, Option, Some, Vec}
 use Rattle.std.specs.Borrow.{Bor}
 use Rattle.std.specs.List.{AllZip}
-use Rattle.nom_error.specs.declared.kind.ErrorKind.{ErrorKind}
+use Rattle.nom_internal.specs.Prelude.{ErrorKind, Errors, bytes_model, ComparesBytes, Slice, IsModelledBy, Meaning, value_of}
 use Rattle.nom_error.specs.declared.kind.ErrorKind.TheVariants.{Char}
-use Rattle.nom_error.specs.Errors.{Errors}
 use Rattle.nom_error.specs.declared.value.Error.{Error}
-use Rattle.nom_traits.specs.Bytes.{bytes_model}
-use Rattle.nom_traits.specs.Compares.{ComparesBytes}
-use Rattle.nom_traits.specs.Slices.{Slice, IsModelledBy}
-use Rattle.nom_internal.specs.Meaning.{Meaning}
 use Rattle.nom_bytes.specs.Tags.{tag_meaning}
 use Rattle.nom_sequence.specs.Sequences.{preceded_meaning, terminated_meaning}
 use Rattle.nom_multi.specs.Many.{many0_meaning}
 use Rattle.nom_multi_length.specs.Lengths.{HasSize, length_data_meaning}
-use Rattle.nom_traits.specs.Digits.{value_of}
 use Rattle.nom_number.specs.Numbers.{number_meaning}
 use Rattle.nom_run.specs.Report.{IsReportBy}
 use Rattle.nom_run.specs.Texts.{bytes_text, lines_text}

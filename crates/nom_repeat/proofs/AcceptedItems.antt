@@ -3,13 +3,7 @@ use Rattle.std.specs.Prelude.{ltb}
 use Rattle.std.proofs.lemmas.Bool.{le-ltb, ltb-false}
 use Rattle.std.proofs.Common.{◌≡◌, Bool, true, false, ℕ, ◌+◌, ◌<◌, ◌≤◌, ◌⊎◌, Option, Some, None, List, [], ◌∷◌, zero, suc, refl, arith, ap, subst}
 use Rattle.std.proofs.Common.{sym, inl, inr}
-use Rattle.nom_error.specs.Errors.{Errors}
-use Rattle.nom_error.specs.declared.kind.ErrorKind.{ErrorKind}
-use Rattle.nom_traits.specs.Input.{Model}
-use Rattle.nom_internal.specs.Outcome.{Outcome}
-use Rattle.nom_internal.specs.Outcome.Outcome.{Accept, Refuse, Fail, TooLarge, Undecided}
-use Rattle.nom_internal.specs.Meaning.{Meaning}
-use Rattle.nom_internal.specs.Sequence.{after}
+use Rattle.nom_internal.specs.Prelude.{Errors, ErrorKind, Model, Outcome, Accept, Refuse, Stop, Meaning, after}
 use Rattle.nom_repeat.specs.Repeat.{Pieces, Replies, TurnsBy}
 use Rattle.nom_repeat.specs.Repeat.Turn.{Takes, Ends}
 use Rattle.nom_repeat.specs.Items.{refused_turn, item_turn, items_meaning}
@@ -23,9 +17,7 @@ use Rattle.nom_repeat.proofs.ItemsShown.{taken_turn}
 pub ending_accepts : {T R : Type 0} (n m : ℕ) (t v : R) (o : Outcome T) → Accept n v ≡ after m (λ _. t) o → (d : ℕ) × (u : T) × (o ≡ Accept d u) × (n ≡ m + d)
 ending_accepts n m t v (Accept d u) e = (d, u, refl, cc (e))
 ending_accepts n m t v Refuse e = absurd (cc (e))
-ending_accepts n m t v Fail e = absurd (cc (e))
-ending_accepts n m t v TooLarge e = absurd (cc (e))
-ending_accepts n m t v (Undecided k) e = absurd (cc (e))
+ending_accepts n m t v (Stop why) e = absurd (cc (e))
 
 refused_ends : {V : Type 0} (few : Bool) (k least d : ℕ) (t : Unit {0}) → ltb k least ≡ few → Ends (Accept d t) ≡ refused_turn {V = V} few → (d ≡ 0) ×
     (least ≤ k)
@@ -39,9 +31,7 @@ module _ {I V : Type 0} (b : Limits) (Item : I → Outcome V → Type 0) where
   ends_items k i (Some (Accept zero v)) p d t e = absurd (empty_never_ends b.empty v d t e)
   ends_items k i (Some (Accept (suc m) v)) p d t e = absurd (cc (e))
   ends_items k i (Some Refuse) p d t e = let h = refused_ends (ltb k b.least) k b.least d t refl e in (h.0, inl (p.0, p.1, h.1))
-  ends_items k i (Some Fail) p d t e = absurd (cc (e))
-  ends_items k i (Some TooLarge) p d t e = absurd (cc (e))
-  ends_items k i (Some (Undecided m)) p d t e = absurd (cc (e))
+  ends_items k i (Some (Stop why)) p d t e = absurd (cc (e))
   ends_items k i None p d t e = (cc (e), inr p)
 
   may_take : (kind : Option ErrorKind) → b.empty ≡ kind → (k : ℕ) (a : Option (Outcome V)) (n : ℕ) (v : V) → Takes n v ≡ item_turn b k a → MayTake kind n

@@ -1,12 +1,6 @@
 -- What a first item and those after it accept.
 use Rattle.std.proofs.Common.{◌≡◌, ◌∙◌, Bool, ℕ, ◌+◌, ◌<◌, ◌≤◌, ◌⊎◌, Some, None, List, [], ◌∷◌, ◌++◌, refl, arith, ap, subst, inl, inr}
-use Rattle.nom_error.specs.Errors.{Errors}
-use Rattle.nom_error.specs.declared.kind.ErrorKind.{ErrorKind}
-use Rattle.nom_traits.specs.Input.{Model, IsSuffixOf}
-use Rattle.nom_internal.specs.Outcome.{Outcome}
-use Rattle.nom_internal.specs.Outcome.Outcome.{Accept, Refuse, Fail, TooLarge, Undecided}
-use Rattle.nom_internal.specs.Meaning.{Meaning}
-use Rattle.nom_internal.specs.Sequence.{after, GoesOn, Then, sequence_meaning}
+use Rattle.nom_internal.specs.Prelude.{Errors, ErrorKind, Model, IsSuffixOf, Outcome, Accept, Refuse, Stop, Meaning, after, GoesOn, Then, sequence_meaning}
 use Rattle.nom_repeat.specs.Items.{items_meaning}
 use Rattle.nom_repeat.specs.Bounds.{any_limits, one_limits}
 use Rattle.nom_repeat.specs.Accepted.{InTurn, OneAndMore, AcceptsOneAndMore}
@@ -18,9 +12,7 @@ pub after_accepts : {P T : Type 0} (a n : ℕ) (f : P → T) (v : T) (o : Outcom
     (n ≡ a + c) × (v ≡ f u)
 after_accepts a n f v (Accept c u) e = (c, u, refl, cc (e), cc (e))
 after_accepts a n f v Refuse e = absurd (cc (e))
-after_accepts a n f v Fail e = absurd (cc (e))
-after_accepts a n f v TooLarge e = absurd (cc (e))
-after_accepts a n f v (Undecided k) e = absurd (cc (e))
+after_accepts a n f v (Stop why) e = absurd (cc (e))
 
 -- a sequence accepts what its first part accepts, and then what follows
 pub first_accepts : {I A P Q T : Type 0} (w : Model I A) (tree : P → Q → T) (First : I → Outcome P → Type 0) (Next : P → I → Outcome Q → Type 0) (i : I)
@@ -34,9 +26,7 @@ first_accepts {I} {P = P} {Q = Q} {T = T} w tree First Next i n v t = of t.first
         let e = after_accepts a n (tree u) v g.1 g.4 in
         (a, e.0, u, g.0, e.1, h, g.2, subst (λ o. Next u g.0 o) e.2 g.3, e.3, e.4)
     of Refuse h g = absurd (cc (g))
-    of Fail h g = absurd (cc (g))
-    of TooLarge h g = absurd (cc (g))
-    of (Undecided k) h g = absurd (cc (g))
+    of (Stop why) h g = absurd (cc (g))
 
 module _ {I A V : Type 0} (w : Model I A) (Item : I → Outcome V → Type 0) where
   -- one item

@@ -1,7 +1,7 @@
 -- What is accumulated of items, as they come.
 use Rattle.std.proofs.Common.{◌≡◌, ◌++◌, ◌∷◌, [], List, Option, Some, None, Bool, true, false, refl, sym, ◌∙◌, subst}
 use Rattle.std.specs.List.{AllZip}
-use Rattle.nom_error.specs.Modes.{Built}
+use Rattle.nom_internal.specs.Prelude.{Built}
 use Rattle.nom_internal.proofs.Shown.{built_error}
 use Rattle.nom_repeat.specs.Accumulated.{PushesBoth, LacksRoom, Adds, Accumulated}
 

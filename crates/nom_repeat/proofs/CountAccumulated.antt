@@ -1,7 +1,7 @@
 -- The number of items.
 use Rattle.std.proofs.Common.{◌≡◌, ℕ, ◌+◌, ◌-◌, ◌%◌, ◌^◌, ◌≤◌, ◌∷◌, [], List, Option, Some, None, Bool, true, false, length, refl, sym, arith, ◌∙◌}
 use Rattle.std.specs.List.{AllZip}
-use Rattle.nom_error.specs.Modes.{Built}
+use Rattle.nom_internal.specs.Prelude.{Built}
 use Rattle.nom_repeat.specs.Accumulated.{Adds, Accumulated}
 
 abbrev pub CountPushes : {T : Type 0} → ℕ → T → ℕ → Type 0

@@ -2,7 +2,7 @@
 use Rattle.std.proofs.Common.{◌≡◌, ℕ, ◌+◌, ◌-◌, ◌<◌, ◌≤◌, true, false, Option, Some, None, ◌⊎◌, List, [], ◌∷◌, ◌++◌, length, refl, arith, inl, inr, subst, sym}
 use Rattle.std.specs.Prelude.{ltb}
 use Rattle.std.proofs.lemmas.Bool.{lt-ltb, le-ltb}
-use Rattle.nom_error.specs.declared.kind.ErrorKind.{ErrorKind}
+use Rattle.nom_internal.specs.Prelude.{ErrorKind}
 use Rattle.nom_repeat.specs.Repeat.{IsBelow}
 use Rattle.nom_repeat.specs.Items.{IsBounded, NeedsNone, IsOneMore}
 

@@ -1,13 +1,7 @@
 -- How many items an input holds.
 use Rattle.std.specs.Prelude.{ltb}
 use Rattle.std.proofs.Common.{◌≡◌, Bool, true, false, ℕ, ◌+◌, ◌<◌, ◌≤◌, Option, Some, None, List, [], ◌∷◌, length, zero, suc, refl, arith, ap}
-use Rattle.nom_error.specs.Errors.{Errors}
-use Rattle.nom_error.specs.declared.kind.ErrorKind.{ErrorKind}
-use Rattle.nom_traits.specs.Input.{Model, input_len}
-use Rattle.nom_internal.specs.Outcome.{Outcome}
-use Rattle.nom_internal.specs.Outcome.Outcome.{Accept, Refuse, Fail, TooLarge, Undecided}
-use Rattle.nom_internal.specs.Meaning.{Meaning}
-use Rattle.nom_internal.specs.Sequence.{after}
+use Rattle.nom_internal.specs.Prelude.{Errors, ErrorKind, Model, input_len, Outcome, Accept, Refuse, Stop, Meaning, after}
 use Rattle.nom_internal.proofs.Consumed.{rest_length}
 use Rattle.nom_repeat.specs.Repeat.{Pieces, TurnsBy}
 use Rattle.nom_repeat.specs.Repeat.Turn.{Takes}
@@ -30,9 +24,7 @@ taken_accepted b k (Some (Accept (suc m) u)) n v e =
     let tree : v ≡ u = cc (e) in
     cc (same, tree)
 taken_accepted b k (Some Refuse) n v e = absurd (refused_takes_none (ltb k b.least) e)
-taken_accepted b k (Some Fail) n v e = absurd (cc (e))
-taken_accepted b k (Some TooLarge) n v e = absurd (cc (e))
-taken_accepted b k (Some (Undecided d)) n v e = absurd (cc (e))
+taken_accepted b k (Some (Stop why)) n v e = absurd (cc (e))
 taken_accepted b k None n v e = absurd (cc (e))
 
 -- and consumes, where an empty item is refused
@@ -44,25 +36,19 @@ taken_consumes b kind is k (Some (Accept (suc m) u)) n v e =
     let same : n ≡ suc m = cc (e) in
     omega (arith, same)
 taken_consumes b kind is k (Some Refuse) n v e = absurd (refused_takes_none (ltb k b.least) e)
-taken_consumes b kind is k (Some Fail) n v e = absurd (cc (e))
-taken_consumes b kind is k (Some TooLarge) n v e = absurd (cc (e))
-taken_consumes b kind is k (Some (Undecided d)) n v e = absurd (cc (e))
+taken_consumes b kind is k (Some (Stop why)) n v e = absurd (cc (e))
 taken_consumes b kind is k None n v e = absurd (cc (e))
 
 pub accepted_tree : {T R : Type 0} (n m : ℕ) (t v : R) (o : Outcome T) → Accept n v ≡ after m (λ _. t) o → v ≡ t
 accepted_tree n m t v (Accept k u) e = cc (e)
 accepted_tree n m t v Refuse e = absurd (cc (e))
-accepted_tree n m t v Fail e = absurd (cc (e))
-accepted_tree n m t v TooLarge e = absurd (cc (e))
-accepted_tree n m t v (Undecided d) e = absurd (cc (e))
+accepted_tree n m t v (Stop why) e = absurd (cc (e))
 
 -- the items before an end are no more than all that is accepted
 pub taken_within : {T R : Type 0} (n m : ℕ) (t v : R) (o : Outcome T) → Accept n v ≡ after m (λ _. t) o → m ≤ n
 taken_within n m t v (Accept k u) e = let sum : n ≡ m + k = cc (e) in omega (arith, sum)
 taken_within n m t v Refuse e = absurd (cc (e))
-taken_within n m t v Fail e = absurd (cc (e))
-taken_within n m t v TooLarge e = absurd (cc (e))
-taken_within n m t v (Undecided d) e = absurd (cc (e))
+taken_within n m t v (Stop why) e = absurd (cc (e))
 
 module _ {I A V : Type 0} (w : Model I A) (b : Limits) (kind : ErrorKind) (is : b.empty ≡ Some kind) (Item : I → Outcome V → Type 0) where
   -- no more than the input is long, where each consumes

@@ -1,15 +1,8 @@
 -- What bounds that don't fit each other show.
 use Rattle.std.proofs.Common.{◌≡◌, Bool, true, false, Err, Option, inl, inr, refl, ap}
-use Rattle.nom_error.specs.Errors.{Errors}
-use Rattle.nom_error.specs.Answers.{PResult, Refuses}
-use Rattle.nom_error.specs.Modes.{Modes}
-use Rattle.nom_error.specs.declared.kind.ErrorKind.{ErrorKind}
-use Rattle.nom_error.specs.declared.answer.Needed.{Needed}
+use Rattle.nom_internal.specs.Prelude.{Errors, PResult, Refuses, Modes, ErrorKind, Needed, Model, Refuse, Stop, Fails, Outright, RanOut, Shown, Meaning}
+use Rattle.nom_internal.specs.Prelude.{ShowsMeaning}
 use Rattle.nom_error.specs.declared.answer.Err as Answer
-use Rattle.nom_traits.specs.Input.{Model}
-use Rattle.nom_internal.specs.Outcome.Outcome.{Refuse, Fail}
-use Rattle.nom_internal.specs.Outcome.ShowsAnswer.{RanOut, Shown}
-use Rattle.nom_internal.specs.Meaning.{Meaning, ShowsMeaning}
 use Rattle.nom_repeat.specs.Inverted.{error_if, GivesFailure}
 
 module _ {I A V O E : Type 0} {w : Model I A} {IsOutput : V → O → Type 0} {mode : Modes} {i : I} (errs : Errors I E) (kind : ErrorKind) (m : Meaning I V E)
@@ -18,7 +11,7 @@ module _ {I A V O E : Type 0} {w : Model I A} {IsOutput : V → O → Type 0} {m
     pub inverted_fails : (test : Bool) → test ≡ true → {f : Answer.Err E (Option E) Needed} → GivesFailure (errs.of_kind i kind) errs.grows f →
         ShowsMeaning w IsOutput (error_if errs kind true test m) mode i (Err f)
     inverted_fails true t (inl g) = RanOut (ap Err g.0) (tt, g.1)
-    inverted_fails true t (inr g) = Shown Fail refl (g.0, g.1, ap Err g.2)
+    inverted_fails true t (inr g) = Shown (Stop (Fails Outright)) refl (g.0, g.1, ap Err g.2)
     inverted_fails false t g = absurd (cc (t))
 
     -- they refuse

@@ -2,19 +2,10 @@
 use Rattle.std.proofs.Common.{◌≡◌, ℕ, ◌<◌, Bool, true, false, Ok, Err, Option, Some, None, ◌⊎◌, List, ◌∷◌, [], ◌++◌, length, refl, zero, suc}
 use Rattle.std.proofs.Common.{arith, inl, inr, ap, subst, sym}
 use Rattle.std.specs.Prelude.{ltb, if◌then◌else◌}
-use Rattle.nom_error.specs.Errors.{Errors}
-use Rattle.nom_error.specs.declared.answer.Needed.{Needed}
+use Rattle.nom_internal.specs.Prelude.{Errors, Needed, Incomplete, Error, Failure, OutOfMemory, ErrorKind, Built, Modes, modes, PResult, Refuses, size_of}
+use Rattle.nom_internal.specs.Prelude.{Model, InputLaws, IsSuffixOf, input_len, Outcome, Accept, Refuse, Stop, Fails, Needs, Meaning}
+use Rattle.nom_internal.specs.Prelude.{ShowsMeaning, always, ClosesError}
 use Rattle.nom_error.specs.declared.answer.Err as Answer
-use Rattle.nom_error.specs.declared.answer.Err.TheVariants.{Incomplete, Error, Failure, OutOfMemory}
-use Rattle.nom_error.specs.declared.kind.ErrorKind.{ErrorKind}
-use Rattle.nom_error.specs.Modes.{Built, Modes, modes}
-use Rattle.nom_error.specs.Answers.{PResult, Refuses, size_of}
-use Rattle.nom_traits.specs.Input.{Model, InputLaws, IsSuffixOf, input_len}
-use Rattle.nom_internal.specs.Outcome.{Outcome}
-use Rattle.nom_internal.specs.Outcome.Outcome.{Accept, Refuse, Fail, TooLarge, Undecided}
-use Rattle.nom_internal.specs.Meaning.{Meaning, ShowsMeaning}
-use Rattle.nom_internal.specs.Families.{always}
-use Rattle.nom_internal.specs.Choice.{ClosesError}
 use Rattle.nom_internal.proofs.Shown.{Accepts, built_error}
 use Rattle.nom_internal.proofs.Choices.{closes_built}
 use Rattle.nom_repeat.specs.Repeat.{IsBelow, TurnsBy}
@@ -25,7 +16,7 @@ use Rattle.nom_repeat.specs.declared.items.Limits.{Limits}
 use Rattle.nom_repeat.specs.declared.items.TooFew.{TooFew}
 use Rattle.nom_repeat.specs.declared.items.TooFew.TheVariants.{Never, Passed, Added, Fresh}
 use Rattle.nom_repeat.proofs.Parts.{shown_at, part_refused, part_refusal, part_failed, part_lacks, part_ran_out}
-use Rattle.nom_repeat.proofs.Repeated.{Collected, collected_more, ended, refused, failed, too_large, lacking, ran_out, ran_out_within, consumes}
+use Rattle.nom_repeat.proofs.Repeated.{Collected, collected_more, ended, refused, failed, lacking, ran_out, ran_out_within, consumes}
 
 -- an item is taken where it may be empty, and where it consumes
 pub taken_turn : {V : Type 0} (b : Limits) (k n : ℕ) (v : V) → (b.empty ≡ None) ⊎ (0 < n) → Takes n v ≡ item_turn b k (Some (Accept n v))
@@ -71,11 +62,6 @@ module _ {I A V E O : Type 0} {w : Model I A} (errs : Errors I E) (b : Limits) (
   items_full h q = ended (items_rule errs b Grows) (λ vs _. vs) (always m) c None h tt refl q
 
   module _ (below : IsBelow b.most (length c.trees)) where
-    stopped : {x : E} → m.answers mode.streaming j Fail ⊎ m.answers mode.streaming j TooLarge → m.blames mode.streaming j x →
-        ShowsItems w errs b Grows m IsOutput mode i (Err (Failure x))
-    stopped {x = x} (inl t) h = failed (items_rule errs b Grows) (λ vs _. vs) (always m) c (Some Fail) (below, t) refl x h
-    stopped {x = x} (inr t) h = too_large (items_rule errs b Grows) (λ vs _. vs) (always m) c (Some TooLarge) (below, t) refl x h
-
     too_few_shown : ltb (length c.trees) b.least ≡ true → m.answers mode.streaming j Refuse → (Gives : E → Type 0) →
         ((e : E) → Gives e → FewBlames errs b.too_few (if b.at_start then i else j) (m.blames mode.streaming j) e) → MakesError b.too_few →
         {g : Answer.Err E (Option E) Needed} → Refuses Gives errs.grows mode.errors g → ShowsItems w errs b Grows m IsOutput mode i (Err g)
@@ -124,11 +110,12 @@ module _ {I A V E O : Type 0} {w : Model I A} (errs : Errors I E) (b : Limits) (
       -- all else is passed on
       pub items_failed : {f : Answer.Err E (Option E) Needed} {x : E} → f ≡ Failure x → ShowsItem w b m IsItem mode j (Err f) →
           ShowsItems w errs b Grows m IsOutput mode i (Err (Failure x))
-      items_failed e h = let t = part_failed e h in stopped t.0 t.1
+      items_failed {x = x} e h = let t = part_failed e h in
+          failed (items_rule errs b Grows) (λ vs _. vs) (always m) c (Some (Stop (Fails t.0))) (below, t.1) t.0 refl x t.2
 
       pub items_lack : {f : Answer.Err E (Option E) Needed} {k : Needed} → f ≡ Incomplete k → ShowsItem w b m IsItem mode j (Err f) →
           ShowsItems w errs b Grows m IsOutput mode i (Err (Incomplete k))
-      items_lack {k = k} e h = lacking (items_rule errs b Grows) (λ vs _. vs) (always m) c (Some (Undecided (size_of k))) (below, part_lacks e h) refl
+      items_lack {k = k} e h = lacking (items_rule errs b Grows) (λ vs _. vs) (always m) c (Some (Stop (Needs (size_of k)))) (below, part_lacks e h) refl
 
       pub items_part_ran_out : {f : Answer.Err E (Option E) Needed} → f ≡ OutOfMemory → ShowsItem w b m IsItem mode j (Err f) →
           ShowsItems w errs b Grows m IsOutput mode i (Err OutOfMemory)

@@ -1,15 +1,8 @@
 -- What the answer of a part tells.
 use Rattle.std.proofs.Common.{◌≡◌, ℕ, Err, Option, ◌⊎◌, inl, inr, subst, sym}
-use Rattle.nom_error.specs.declared.answer.Needed.{Needed}
+use Rattle.nom_internal.specs.Prelude.{Needed, Incomplete, Error, Failure, OutOfMemory, PResult, size_of, Built, Modes, Model, Outcome, Accept, Refuse, Stop}
+use Rattle.nom_internal.specs.Prelude.{Fails, Needs, Shows, ShowsAnswer, RanOut, Shown, Meaning, ShowsMeaning, Cause}
 use Rattle.nom_error.specs.declared.answer.Err as Answer
-use Rattle.nom_error.specs.declared.answer.Err.TheVariants.{Incomplete, Error, Failure, OutOfMemory}
-use Rattle.nom_error.specs.Answers.{PResult, size_of}
-use Rattle.nom_error.specs.Modes.{Built, Modes}
-use Rattle.nom_traits.specs.Input.{Model}
-use Rattle.nom_internal.specs.Outcome.{Outcome, Shows, ShowsAnswer}
-use Rattle.nom_internal.specs.Outcome.Outcome.{Accept, Refuse, Fail, TooLarge, Undecided}
-use Rattle.nom_internal.specs.Outcome.ShowsAnswer.{RanOut, Shown}
-use Rattle.nom_internal.specs.Meaning.{Meaning, ShowsMeaning}
 use Rattle.nom_internal.proofs.Shown.{built_error}
 
 module _ {I A V O E : Type 0} {w : Model I A} {IsOutput : V → O → Type 0} {mode : Modes} {i : I} {Answers : Outcome V → Type 0} {IsError : E → Type 0}
@@ -18,45 +11,41 @@ module _ {I A V O E : Type 0} {w : Model I A} {IsOutput : V → O → Type 0} {m
   part_refused is (RanOut e h) = absurd (cc (e, is))
   part_refused is (Shown (Accept n v) a s) = absurd (cc (s.4))
   part_refused is (Shown Refuse a s) = a
-  part_refused is (Shown Fail a s) = absurd (cc (is, s.2))
-  part_refused is (Shown TooLarge a s) = absurd (cc (is, s.2))
-  part_refused is (Shown (Undecided k) a s) = absurd (cc (is, s.2))
+  part_refused is (Shown (Stop (Fails cause)) a s) = absurd (cc (is, s.2))
+  part_refused is (Shown (Stop (Needs k)) a s) = absurd (cc (is, s.2))
 
   -- a refusal, with its error where errors are built
   pub part_refusal : {b : Option E} → f ≡ Error b → ShowsAnswer w IsOutput mode i Answers IsError RunsOut (Err f) → Answers Refuse × Built mode.errors IsError b
   part_refusal is (RanOut e h) = absurd (cc (e, is))
   part_refusal is (Shown (Accept n v) a s) = absurd (cc (s.4))
   part_refusal {b = b} is (Shown Refuse a s) = let e : b ≡ s.0 = cc (is, s.2) in (a, subst (λ z. Built mode.errors IsError z) (sym e) s.1)
-  part_refusal is (Shown Fail a s) = absurd (cc (is, s.2))
-  part_refusal is (Shown TooLarge a s) = absurd (cc (is, s.2))
-  part_refusal is (Shown (Undecided k) a s) = absurd (cc (is, s.2))
+  part_refusal is (Shown (Stop (Fails cause)) a s) = absurd (cc (is, s.2))
+  part_refusal is (Shown (Stop (Needs k)) a s) = absurd (cc (is, s.2))
 
-  pub part_failed : {x : E} → f ≡ Failure x → ShowsAnswer w IsOutput mode i Answers IsError RunsOut (Err f) → (Answers Fail ⊎ Answers TooLarge) × IsError x
+  pub part_failed : {x : E} → f ≡ Failure x → ShowsAnswer w IsOutput mode i Answers IsError RunsOut (Err f) →
+      (cause : Cause) × Answers (Stop (Fails cause)) × IsError x
   part_failed is (RanOut e h) = absurd (cc (e, is))
   part_failed is (Shown (Accept n v) a s) = absurd (cc (s.4))
   part_failed is (Shown Refuse a s) = absurd (cc (is, s.2))
-  part_failed {x = x} is (Shown Fail a s) = let e : x ≡ s.0 = cc (is, s.2) in (inl a, subst (λ z. IsError z) (sym e) s.1)
-  part_failed {x = x} is (Shown TooLarge a s) = let e : x ≡ s.0 = cc (is, s.2) in (inr a, subst (λ z. IsError z) (sym e) s.1)
-  part_failed is (Shown (Undecided k) a s) = absurd (cc (is, s.2))
+  part_failed {x = x} is (Shown (Stop (Fails cause)) a s) = let e : x ≡ s.0 = cc (is, s.2) in (cause, a, subst (λ z. IsError z) (sym e) s.1)
+  part_failed is (Shown (Stop (Needs k)) a s) = absurd (cc (is, s.2))
 
-  pub part_lacks : {x : Needed} → f ≡ Incomplete x → ShowsAnswer w IsOutput mode i Answers IsError RunsOut (Err f) → Answers (Undecided (size_of x))
+  pub part_lacks : {x : Needed} → f ≡ Incomplete x → ShowsAnswer w IsOutput mode i Answers IsError RunsOut (Err f) → Answers (Stop (Needs (size_of x)))
   part_lacks is (RanOut e h) = absurd (cc (e, is))
   part_lacks is (Shown (Accept n v) a s) = absurd (cc (s.4))
   part_lacks is (Shown Refuse a s) = absurd (cc (is, s.2))
-  part_lacks is (Shown Fail a s) = absurd (cc (is, s.2))
-  part_lacks is (Shown TooLarge a s) = absurd (cc (is, s.2))
-  part_lacks {x = x} is (Shown (Undecided k) a s) =
+  part_lacks is (Shown (Stop (Fails cause)) a s) = absurd (cc (is, s.2))
+  part_lacks {x = x} is (Shown (Stop (Needs k)) a s) =
       let e : s.0 ≡ x = cc (is, s.2) in
       let size : k ≡ size_of x = subst (λ z. k ≡ size_of z) e (sym s.1) in
-      subst (λ z. Answers (Undecided z)) size a
+      subst (λ z. Answers (Stop (Needs z))) size a
 
   pub part_ran_out : f ≡ OutOfMemory → ShowsAnswer w IsOutput mode i Answers IsError RunsOut (Err f) → RunsOut
   part_ran_out is (RanOut e h) = h
   part_ran_out is (Shown (Accept n v) a s) = absurd (cc (s.4))
   part_ran_out is (Shown Refuse a s) = absurd (cc (is, s.2))
-  part_ran_out is (Shown Fail a s) = absurd (cc (is, s.2))
-  part_ran_out is (Shown TooLarge a s) = absurd (cc (is, s.2))
-  part_ran_out is (Shown (Undecided k) a s) = absurd (cc (is, s.2))
+  part_ran_out is (Shown (Stop (Fails cause)) a s) = absurd (cc (is, s.2))
+  part_ran_out is (Shown (Stop (Needs k)) a s) = absurd (cc (is, s.2))
 
 -- the same at an equal state
 pub shown_at : {S I A V O E : Type 0} {w : Model I A} (IsOutput : S → V → O → Type 0) (meaning : S → Meaning I V E) {mode : Modes} {i : I}
@@ -70,9 +59,7 @@ module _ {I A V O E : Type 0} (w : Model I A) (IsOutput IsResult : V → O → T
       Shows w IsOutput mode i IsError o r → Shows w IsResult mode i IsError o r
   shows_as (Accept n v) r f s = (s.0, s.1, s.2, built_error mode.outputs _ _ s.1 (f v) s.3, s.4)
   shows_as Refuse r f s = s
-  shows_as Fail r f s = s
-  shows_as TooLarge r f s = s
-  shows_as (Undecided k) r f s = s
+  shows_as (Stop why) r f s = s
 
 pub shown_as : {I A V O E : Type 0} {w : Model I A} {IsOutput IsResult : V → O → Type 0} {mode : Modes} {i : I} {Answers : Outcome V → Type 0}
     {IsError : E → Type 0} {RunsOut : Type 0} {r : PResult I O E} →
@@ -90,9 +77,7 @@ module _ {I A V O E : Type 0} (w : Model I A) (IsOutput IsResult : V → O → T
       Shows w IsResult mode i IsError o r
   shows_by (Accept n v) r f a s = (s.0, s.1, s.2, built_error mode.outputs _ _ s.1 (λ x. f n v x a) s.3, s.4)
   shows_by Refuse r f a s = s
-  shows_by Fail r f a s = s
-  shows_by TooLarge r f a s = s
-  shows_by (Undecided k) r f a s = s
+  shows_by (Stop why) r f a s = s
 
 pub shown_by : {I A V O E : Type 0} {w : Model I A} {IsOutput IsResult : V → O → Type 0} {mode : Modes} {i : I} {Answers : Outcome V → Type 0}
     {IsError : E → Type 0} {RunsOut : Type 0} {r : PResult I O E} →

@@ -1,17 +1,7 @@
 -- What a repetition shows.
 use Rattle.std.proofs.Common.{◌≡◌, ℕ, ◌+◌, ◌<◌, Bool, Ok, Err, Option, ◌⊎◌, List, [], ◌∷◌, ◌++◌, length, refl, zero, suc, arith, inl, inr, subst, sym}
-use Rattle.nom_error.specs.declared.answer.Needed.{Needed}
-use Rattle.nom_error.specs.declared.answer.Err.TheVariants.{Incomplete, Error, Failure, OutOfMemory}
-use Rattle.nom_error.specs.Modes.{Built, Modes}
-use Rattle.nom_error.specs.Answers.{size_of}
-use Rattle.nom_traits.specs.Input.{Model, InputLaws, IsSuffixOf, input_len}
-use Rattle.nom_traits.specs.Rests.{rest_rest}
-use Rattle.nom_internal.specs.Outcome.{Outcome}
-use Rattle.nom_internal.specs.Outcome.Outcome.{Accept, Refuse, Fail, TooLarge, Undecided}
-use Rattle.nom_internal.specs.Outcome.ShowsAnswer.{RanOut, Shown}
-use Rattle.nom_internal.specs.Meaning.{ShowsMeaning}
-use Rattle.nom_internal.specs.Families.{Family}
-use Rattle.nom_internal.specs.Sequence.{after}
+use Rattle.nom_internal.specs.Prelude.{Needed, Incomplete, Error, Failure, OutOfMemory, Built, Modes, size_of, Model, InputLaws, IsSuffixOf, input_len}
+use Rattle.nom_internal.specs.Prelude.{rest_rest, Outcome, Accept, Refuse, Stop, Fails, Needs, RanOut, Shown, ShowsMeaning, Family, after, Cause}
 use Rattle.nom_internal.proofs.Consumed.{rest_length}
 use Rattle.nom_internal.proofs.Shown.{built_error}
 use Rattle.nom_repeat.specs.Repeat.{Turn, Pieces, Reaches, Repeats, IsBelow, Replies, OnReply, TurnsBy, Rule, repeat_meaning}
@@ -120,18 +110,15 @@ module _ {I A P V T R O E : Type 0} {w : Model I A} (r : Rule I P V T E) (tree :
     refused e b h = Shown Refuse (ends w r tree f mode.streaming i j c a p Refuse e)
         (b, built_error mode.errors _ _ b (blamed w r tree f mode.streaming i j c a p) h, refl)
 
-    pub failed : Ends Fail ≡ r.turn (length c.trees) a → (x : E) → r.Blames i (length c.trees) j a ((f.at (length c.trees)).blames mode.streaming j) x →
-        ShowsMeaning w IsOutput (repeat_meaning w r tree f) mode i (Err (Failure x))
-    failed e x h = Shown Fail (ends w r tree f mode.streaming i j c a p Fail e) (x, blamed w r tree f mode.streaming i j c a p x h, refl)
-
-    pub too_large : Ends TooLarge ≡ r.turn (length c.trees) a → (x : E) →
+    pub failed : (cause : Cause) → Ends (Stop (Fails cause)) ≡ r.turn (length c.trees) a → (x : E) →
         r.Blames i (length c.trees) j a ((f.at (length c.trees)).blames mode.streaming j) x →
         ShowsMeaning w IsOutput (repeat_meaning w r tree f) mode i (Err (Failure x))
-    too_large e x h = Shown TooLarge (ends w r tree f mode.streaming i j c a p TooLarge e) (x, blamed w r tree f mode.streaming i j c a p x h, refl)
+    failed cause e x h = Shown (Stop (Fails cause)) (ends w r tree f mode.streaming i j c a p (Stop (Fails cause)) e)
+        (x, blamed w r tree f mode.streaming i j c a p x h, refl)
 
-    pub lacking : {k : Needed} → Ends (Undecided (size_of k)) ≡ r.turn (length c.trees) a →
+    pub lacking : {k : Needed} → Ends (Stop (Needs (size_of k))) ≡ r.turn (length c.trees) a →
         ShowsMeaning w IsOutput (repeat_meaning w r tree f) mode i (Err (Incomplete k))
-    lacking {k = k} e = Shown (Undecided (size_of k)) (ends w r tree f mode.streaming i j c a p (Undecided (size_of k)) e) (k, refl, refl)
+    lacking {k = k} e = Shown (Stop (Needs (size_of k))) (ends w r tree f mode.streaming i j c a p (Stop (Needs (size_of k))) e) (k, refl, refl)
 
     -- memory ran out at what the part replies
     pub ran_out : r.Asks mode (length c.trees) a → ShowsMeaning w IsOutput (repeat_meaning w r tree f) mode i (Err OutOfMemory)

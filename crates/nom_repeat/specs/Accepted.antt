@@ -1,10 +1,6 @@
 -- What a repetition accepts, said of what its part accepts.
 use Rattle.std.specs.Prelude.{◌≡◌, ℕ, ◌+◌, ◌<◌, ◌≤◌, ◌⊎◌, ◌↔◌, Bool, Option, Some, None, List, ◌∷◌}
-use Rattle.nom_error.specs.declared.kind.ErrorKind.{ErrorKind}
-use Rattle.nom_traits.specs.Input.{Model, IsSuffixOf}
-use Rattle.nom_internal.specs.Outcome.{Outcome}
-use Rattle.nom_internal.specs.Outcome.Outcome.{Accept, Refuse}
-use Rattle.nom_internal.specs.Meaning.{Meaning}
+use Rattle.nom_internal.specs.Prelude.{ErrorKind, Model, IsSuffixOf, Outcome, Accept, Refuse, Meaning}
 use Rattle.nom_repeat.specs.Repeat.{Turn, Pieces, IsBelow}
 use Rattle.nom_repeat.specs.Repeat.Turn.{Takes, Ends}
 

@@ -1,6 +1,6 @@
 -- The limits of repetitions.
 use Rattle.std.specs.Prelude.{ℕ, Bool, true, false, Some, None}
-use Rattle.nom_error.specs.declared.kind.ErrorKind.{ErrorKind}
+use Rattle.nom_internal.specs.Prelude.{ErrorKind}
 use Rattle.nom_error.specs.declared.kind.ErrorKind.TheVariants as Kind
 use Rattle.nom_repeat.specs.declared.items.Limits.{Limits}
 use Rattle.nom_repeat.specs.declared.items.TooFew.{TooFew}

@@ -1,14 +1,7 @@
 -- Bounds that don't fit each other: an error of a kind, at the input, before a part runs.
 use Rattle.std.specs.Prelude.{◌≡◌, Bool, true, false, ◌⊎◌, Option}
-use Rattle.nom_error.specs.Errors.{Errors}
-use Rattle.nom_error.specs.Modes.{Modes}
-use Rattle.nom_error.specs.declared.kind.ErrorKind.{ErrorKind}
-use Rattle.nom_error.specs.declared.answer.Needed.{Needed}
+use Rattle.nom_internal.specs.Prelude.{Errors, Modes, ErrorKind, Needed, Failure, OutOfMemory, Outcome, Refuse, Stop, Fails, Outright, Meaning}
 use Rattle.nom_error.specs.declared.answer.Err as Answer
-use Rattle.nom_error.specs.declared.answer.Err.TheVariants.{Failure, OutOfMemory}
-use Rattle.nom_internal.specs.Outcome.{Outcome, failure}
-use Rattle.nom_internal.specs.Outcome.Outcome.{Refuse, Fail}
-use Rattle.nom_internal.specs.Meaning.{Meaning}
 
 -- the first fact where the test holds, and else the second
 abbrev pub Either : Bool → Type 0 → Type 0 → Type 0
@@ -17,7 +10,7 @@ Either false P Q = Q
 
 -- a failure (true) or a refusal (false)
 abbrev pub error_outcome : {V : Type 0} → Bool → Outcome V
-error_outcome true = Fail
+error_outcome true = Stop (Fails Outright)
 error_outcome false = Refuse
 
 -- its error is built: a failure's always
@@ -34,7 +27,7 @@ error_if {V = V} errs kind fails test m = record {
   may_run_out = λ mode i. Either test (HasError fails mode × errs.grows) (m.may_run_out mode i);
   IsFrugal = λ mode. Either test (HasError fails mode → errs.grows → ⊥) (m.IsFrugal mode);
   Settles = m.Settles;
-  NeverFails = λ large. Either test (error_outcome {V = V} fails ≡ failure large → ⊥) (m.NeverFails large);
+  NeverFails = λ cause. Either test (error_outcome {V = V} fails ≡ Stop (Fails cause) → ⊥) (m.NeverFails cause);
 }
 
 -- a failure, with its error, or there is no memory for it

@@ -1,18 +1,8 @@
 -- Items of one part, one after another, between a least and a greatest number of them, until one is refused.
 use Rattle.std.specs.Prelude.{◌≡◌, ℕ, ◌+◌, ◌⊎◌, Bool, true, false, ltb, if◌then◌else◌, Option, Some, None, List, zero, suc}
-use Rattle.nom_error.specs.Errors.{Errors}
-use Rattle.nom_error.specs.declared.kind.ErrorKind.{ErrorKind}
-use Rattle.nom_error.specs.declared.answer.Needed.{Needed}
+use Rattle.nom_internal.specs.Prelude.{Errors, ErrorKind, Needed, Error, Refuses, modes, Model, Outcome, Accept, Refuse, Stop, Fails, Needs, Meaning, always}
+use Rattle.nom_internal.specs.Prelude.{ClosesError}
 use Rattle.nom_error.specs.declared.answer.Err as Answer
-use Rattle.nom_error.specs.declared.answer.Err.TheVariants.{Error}
-use Rattle.nom_error.specs.Answers.{Refuses}
-use Rattle.nom_error.specs.Modes.{modes}
-use Rattle.nom_traits.specs.Input.{Model}
-use Rattle.nom_internal.specs.Outcome.{Outcome}
-use Rattle.nom_internal.specs.Outcome.Outcome.{Accept, Refuse, Fail, TooLarge, Undecided}
-use Rattle.nom_internal.specs.Meaning.{Meaning}
-use Rattle.nom_internal.specs.Families.{always}
-use Rattle.nom_internal.specs.Choice.{ClosesError}
 use Rattle.nom_repeat.specs.Repeat.{Turn, Rule, repeat_meaning}
 use Rattle.nom_repeat.specs.Repeat.Turn.{Takes, Ends}
 use Rattle.nom_repeat.specs.declared.items.Limits.{Limits}
@@ -35,9 +25,7 @@ abbrev pub item_turn : {V : Type 0} → Limits → ℕ → Option (Outcome V) �
 item_turn b k (Some (Accept zero v)) = empty_turn b.empty v
 item_turn b k (Some (Accept (suc n) v)) = Takes (suc n) v
 item_turn b k (Some Refuse) = refused_turn (ltb k b.least)
-item_turn b k (Some Fail) = Ends Fail
-item_turn b k (Some TooLarge) = Ends TooLarge
-item_turn b k (Some (Undecided n)) = Ends (Undecided n)
+item_turn b k (Some (Stop why)) = Ends (Stop why)
 item_turn b k None = Ends (Accept 0 tt)
 
 -- the fact of a kind, where there is one
@@ -57,9 +45,8 @@ abbrev pub ItemBlames : {I V E : Type 0} → Errors I E → Limits → I → I �
 ItemBlames errs b i j (Some (Accept zero v)) P e = OfKind b.empty (λ kind. errs.of_kind j kind e)
 ItemBlames errs b i j (Some (Accept (suc n) v)) P e = ⊥
 ItemBlames errs b i j (Some Refuse) P e = FewBlames errs b.too_few (if b.at_start then i else j) P e
-ItemBlames errs b i j (Some Fail) P e = P e
-ItemBlames errs b i j (Some TooLarge) P e = P e
-ItemBlames errs b i j (Some (Undecided n)) P e = ⊥
+ItemBlames errs b i j (Some (Stop (Fails cause))) P e = P e
+ItemBlames errs b i j (Some (Stop (Needs n))) P e = ⊥
 ItemBlames errs b i j None P e = ⊥
 
 -- an empty item needs memory for its error, or is kept
@@ -79,9 +66,7 @@ abbrev pub ItemAsks : {V : Type 0} → Limits → Type 0 → Type 0 → ℕ → 
 ItemAsks b Refused Accumulated k (Some (Accept zero v)) = EmptyAsks b.empty Refused Accumulated
 ItemAsks b Refused Accumulated k (Some (Accept (suc n) v)) = Accumulated
 ItemAsks b Refused Accumulated k (Some Refuse) = (ltb k b.least ≡ true) × MakesError b.too_few × Refused
-ItemAsks b Refused Accumulated k (Some Fail) = ⊥
-ItemAsks b Refused Accumulated k (Some TooLarge) = ⊥
-ItemAsks b Refused Accumulated k (Some (Undecided n)) = ⊥
+ItemAsks b Refused Accumulated k (Some (Stop why)) = ⊥
 ItemAsks b Refused Accumulated k None = ⊥
 
 -- an item's error is built where that of too few is made of it, and errors are built at all

@@ -1,8 +1,7 @@
 -- Lists of outputs.
 use Rattle.std.specs.Prelude.{◌≡◌, ◌∷◌, [], List, map, refl}
 use Rattle.std.specs.List.{AllZip}
-use Rattle.nom_traits.specs.View.{View, vec_view}
-use Rattle.nom_internal.specs.Pinned.{IsPinned}
+use Rattle.nom_internal.specs.Prelude.{View, vec_view, IsPinned}
 use Rattle.std.specs.declared.vec.Vec.{Vec}
 
 module _ {V O : Type 0} {view : View O} {IsOutput : V → O → Type 0} (pinned : IsPinned view IsOutput) where

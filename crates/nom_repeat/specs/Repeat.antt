@@ -11,12 +11,7 @@
 -- - An end that is tried first, or else an item, are one part, whose tree is of the one or of the other, and whose errors are
 --   the item's. An accepted end ends the repetition with its tree, and consumes; an accepted item is taken.
 use Rattle.std.specs.Prelude.{◌≡◌, ℕ, ◌+◌, ◌<◌, Bool, ◌⊎◌, Option, Some, None, List, [], ◌∷◌}
-use Rattle.nom_error.specs.Modes.{Modes}
-use Rattle.nom_traits.specs.Input.{Model, IsSuffixOf}
-use Rattle.nom_internal.specs.Outcome.{Outcome}
-use Rattle.nom_internal.specs.Meaning.{Meaning}
-use Rattle.nom_internal.specs.Families.{Family}
-use Rattle.nom_internal.specs.Sequence.{after}
+use Rattle.nom_internal.specs.Prelude.{Modes, Model, IsSuffixOf, Outcome, Meaning, Family, after, Cause}
 
 -- a turn of a repetition: it takes an item, of a length, with a tree; or it ends, by an outcome of its own
 pub data Turn (V T : Type 0) : Type 0 where
@@ -84,7 +79,7 @@ pub record Rule (I P V T E : Type 0) : Type 1 where
   -- by what holds of the parts: its premise, that it is frugal, that it never fails
   pub IsSound : Type 0 → Type 0
   pub IsFrugal : (Modes → Type 0) → Modes → Type 0
-  pub NeverFails : (Bool → Type 0) → Bool → Type 0
+  pub NeverFails : (Cause → Type 0) → Cause → Type 0
 
 -- The repetition, by a rule, of a part for each count of items before it, with a tree made of its items' trees and its end's.
 abbrev pub repeat_meaning : {I A P V T R E : Type 0} → Model I A → Rule I P V T E → (List V → T → R) → Family ℕ I P E → Meaning I R E

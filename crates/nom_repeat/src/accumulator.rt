@@ -1,6 +1,6 @@
 //! What is accumulated of items.
 ghost use Rattle.std.specs.Prelude.{◌≡◌, ◌+◌, ◌%◌, ◌^◌, ◌≤◌, ◌++◌, ◌∷◌, [], IsTrue, false, vec_len, vec_capacity};
-ghost use Rattle.nom_error.specs.Modes.{Built};
+ghost use Rattle.nom_internal.specs.Prelude.{Built};
 ghost use Rattle.nom_repeat.specs.Accumulated.{PushesBoth, LacksRoom};
 
 use nom_error::mode::Mode;

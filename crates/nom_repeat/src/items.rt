@@ -1,7 +1,6 @@
 //! The loop of all repetitions of one part.
 ghost use Rattle.std.specs.Prelude.{◌≡◌, if◌then◌else◌, IsTrue, false};
-ghost use Rattle.nom_error.specs.Modes.{Built, modes};
-ghost use Rattle.nom_internal.specs.Meaning.{ShowsMeaning};
+ghost use Rattle.nom_internal.specs.Prelude.{Built, modes, ShowsMeaning};
 ghost use Rattle.nom_repeat.specs.Items.{items_meaning, item_errors, AreLimits, GivesFew, IsNever, IsOneMore, IsStuck};
 ghost use Rattle.nom_repeat.specs.Accumulated.{Accumulated};
 ghost use Rattle.nom_repeat.specs.Repeat.{IsBelow};

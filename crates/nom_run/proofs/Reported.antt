@@ -2,14 +2,9 @@
 use Rattle.std.proofs.Common.{◌≡◌, ℕ, Bool, true, false, ◌-◌, ◌<◌, ◌≤◌, List, ◌++◌, length, slice_index, Result, Ok, Err, Bor, IfOk, refl, sym, ◌∙◌}
 use Rattle.std.proofs.Common.{ap, subst, arith, length-append}
 use Rattle.nom_error.specs.declared.value.Error.{Error}
-use Rattle.nom_error.specs.declared.answer.Needed.{Needed}
+use Rattle.nom_internal.specs.Prelude.{Needed, IsSuffixOf, items_len-ones, bytes_model, Outcome, Cause, Accept, Refuse, Stop, Fails, Needs}
+use Rattle.nom_internal.specs.Prelude.{Parses, Meaning}
 use Rattle.nom_error.specs.declared.answer.Err as Answer
-use Rattle.nom_traits.specs.Input.{IsSuffixOf}
-use Rattle.nom_traits.specs.Rests.{items_len-ones}
-use Rattle.nom_traits.specs.Bytes.{bytes_model}
-use Rattle.nom_internal.specs.Outcome.{Outcome, Parses, failure}
-use Rattle.nom_internal.specs.Outcome.Outcome.{Accept, Refuse, Fail, TooLarge, Undecided}
-use Rattle.nom_internal.specs.Meaning.{Meaning}
 use Rattle.nom_growing.specs.Growing.{IsBeginning, AnswersOn, IsGrown}
 use Rattle.nom_growing.specs.Growing.IsBeginning.{AtCut, AtEnd}
 use Rattle.nom_growing.specs.Growing.AnswersOn.{RanOutOn, ShownOn}
@@ -40,7 +35,7 @@ rest_len whole j n p = omega (arith, ap length p.whole, length-append p.front j.
 module _ {V O : Type 0} (lines : V → List ℕ) (IsOutput : V → O → Type 0) (given : O → List ℕ)
     (same : (v : V) (o : O) → IsOutput v o → given o ≡ lines v) (Blames : Error Bytes → Type 0) (index start : ℕ) (whole x : Bytes)
     (begins : start ≡ length x.now) where
-  says : (o : Outcome V) → ((large : Bool) → o ≡ failure large → ⊥) → (answer : Result (Bytes × O) AnswerErr) (text : List ℕ) (status : ℕ) →
+  says : (o : Outcome V) → ((cause : Cause) → o ≡ Stop (Fails cause) → ⊥) → (answer : Result (Bytes × O) AnswerErr) (text : List ℕ) (status : ℕ) →
       Parses bytes_model IsOutput whole Blames o answer → IsTold given index start answer text status → Says lines Blames index whole.now x.now o text status
   says (Accept n v) never answer text status p t =
       let told = subst (λ a. IsTold given index start a text status) p.4 t in
@@ -51,16 +46,15 @@ module _ {V O : Type 0} (lines : V → List ℕ) (IsOutput : V → O → Type 0)
   says Refuse never answer text status p t =
       let told = subst (λ a. IsTold given index start a text status) p.2 t in
       (p.0, p.1, told.0 ∙ ap (λ k. error_text (p.0).code (k - length (p.0).input.now)) begins, told.1)
-  says Fail never answer text status p t = never false refl
-  says TooLarge never answer text status p t = never true refl
-  says (Undecided k) never answer text status p t =
+  says (Stop (Fails cause)) never answer text status p t = never cause refl
+  says (Stop (Needs k)) never answer text status p t =
       let told = subst (λ a. IsTold given index start a text status) p.2 t in
       (told.0 ∙ ap need_text p.1, told.1)
 
 module _ {V O : Type 0} (m : Meaning Bytes V (Error Bytes)) (lines : V → List ℕ) (IsOutput : V → O → Type 0) (given : O → List ℕ)
     (same : (v : V) (o : O) → IsOutput v o → given o ≡ lines v) (whole : Bytes) (cuts : List ℕ) (index start : ℕ)
     (at_cut : index < length cuts → start ≡ slice_index cuts index) (at_end : length cuts ≤ index → start ≡ length whole.now)
-    (known : bytes_model.IsKnown whole) (never : (large : Bool) (i : Bytes) → bytes_model.IsKnown i → m.answers true i (failure large) → ⊥) where
+    (known : bytes_model.IsKnown whole) (never : (cause : Cause) (i : Bytes) → bytes_model.IsKnown i → m.answers true i (Stop (Fails cause)) → ⊥) where
   begins_known : (x : Bytes) → IsBeginning bytes_model whole cuts index x → bytes_model.IsKnown x
   begins_known x (AtCut h p) = p.known
   begins_known x (AtEnd h e) = subst bytes_model.IsKnown (sym e) known
@@ -82,7 +76,7 @@ module _ {V O : Type 0} (m : Meaning Bytes V (Error Bytes)) (lines : V → List 
     decided = b.decided;
     says = says lines IsOutput given same (m.blames true g.beginning) index start whole g.beginning
         (start_is whole cuts index start g.beginning at_cut at_end g.begins) b.outcome
-        (λ large e. never large g.beginning (begins_known g.beginning g.begins) (subst (λ o. m.answers true g.beginning o) e b.answered)) answer text
+        (λ cause e. never cause g.beginning (begins_known g.beginning g.begins) (subst (λ o. m.answers true g.beginning o) e b.answered)) answer text
         status b.shown t;
   }
 

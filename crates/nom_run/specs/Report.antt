@@ -2,14 +2,9 @@
 use Rattle.std.specs.Prelude.{◌≡◌, ℕ, ◌-◌, ◌<◌, ◌≤◌, true, List, ◌++◌, length, slice_index, Ok, Err, Option}
 use Rattle.std.specs.Borrow.{Bor}
 use Rattle.nom_error.specs.declared.value.Error.{Error}
-use Rattle.nom_error.specs.declared.answer.Needed.{Needed}
+use Rattle.nom_internal.specs.Prelude.{Needed, IResult, size_of, bytes_model, Outcome, Accept, Refuse, Stop, Fails, Needs, Meaning}
 use Rattle.nom_error.specs.declared.answer.Err as Answer
 use Rattle.nom_error.specs.declared.answer.Err.TheVariants as Stop
-use Rattle.nom_error.specs.Answers.{IResult, size_of}
-use Rattle.nom_traits.specs.Bytes.{bytes_model}
-use Rattle.nom_internal.specs.Outcome.{Outcome}
-use Rattle.nom_internal.specs.Outcome.Outcome.{Accept, Refuse, Fail, TooLarge, Undecided}
-use Rattle.nom_internal.specs.Meaning.{Meaning}
 use Rattle.nom_growing.specs.Growing.{IsBeginning, Waits}
 use Rattle.nom_run.specs.Texts.{decided_text, rest_text, error_text, failure_text, need_text}
 
@@ -23,9 +18,8 @@ abbrev pub Says : {V : Type 0} → (V → List ℕ) → (Error Bytes → Type 0)
 Says lines Blames index whole beginning (Accept n v) text status = (text ≡ decided_text index ++ lines v ++ rest_text (length whole - n)) × (status ≡ 0)
 Says lines Blames index whole beginning Refuse text status =
     (e : Error Bytes) × Blames e × (text ≡ error_text e.code (length beginning - length e.input.now)) × (status ≡ 1)
-Says lines Blames index whole beginning Fail text status = ⊥
-Says lines Blames index whole beginning TooLarge text status = ⊥
-Says lines Blames index whole beginning (Undecided k) text status = (text ≡ need_text k) × (status ≡ 2)
+Says lines Blames index whole beginning (Stop (Fails cause)) text status = ⊥
+Says lines Blames index whole beginning (Stop (Needs k)) text status = (text ≡ need_text k) × (status ≡ 2)
 
 -- The report by a grammar: the streaming outcome on the first of the beginnings at the cuts, and then of the whole, that
 -- does not wait for more, is told by the text and the status.
@@ -39,7 +33,7 @@ pub record IsReportBy {V : Type 0} (m : Meaning Bytes V (Error Bytes)) (lines : 
   pub begins : IsBeginning bytes_model whole cuts index beginning
   pub outcome : Outcome V
   pub answered : m.answers true beginning outcome
-  pub decided : index < length cuts → (k : Option ℕ) → outcome ≡ Undecided k → ⊥
+  pub decided : index < length cuts → (k : Option ℕ) → outcome ≡ Stop (Needs k) → ⊥
   pub says : Says lines (m.blames true beginning) index whole.now beginning.now outcome text status
 
 -- the text and the status where a beginning of a length isn't accepted

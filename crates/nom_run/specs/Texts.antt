@@ -2,7 +2,7 @@
 use Rattle.std.specs.Prelude.{ℕ, ◌+◌, ◌/◌, ◌%◌, nat_lt, if◌then◌else◌, List, [], ◌∷◌, ◌++◌, length, Option, Some, None, codes}
 use Rattle.std.specs.Fmt.{decimal}
 use Rattle.nom_error.specs.Kinds.{description_of}
-use Rattle.nom_error.specs.declared.kind.ErrorKind.{ErrorKind}
+use Rattle.nom_internal.specs.Prelude.{ErrorKind}
 
 -- a digit in base 16: `0` to `9`, then `a` to `f`
 abbrev pub hex_digit : ℕ → ℕ

@@ -99,10 +99,13 @@ fn fault(error: RunError) -> &'static str
     }
 }
 
-// Writes the line of an error, in the way in which a report is written.
-fn tell(rt: &impl Print, error: RunError) {
+/// Writes the line that tells why there is no report, in the way in which a report is written; answers the status.
+pub fn tell_fault(rt: &impl Print, error: RunError) -> u8
+    ensures { result ≡ 3 }
+{
     let mut sink = Counted::new(io::writer(rt));
     let _ = write_all(&mut sink, fault(error).as_bytes());
+    NO_REPORT
 }
 
 /// Writes the report on the file that the command line names, or the line that tells why there is none; answers
@@ -110,9 +113,6 @@ fn tell(rt: &impl Print, error: RunError) {
 pub fn status_of<R: Report>(rt: &(impl Env + Files + Print + Alloc<A = Global>), report: &R) -> u8 {
     match answer(rt, report) {
         Ok(status) => status,
-        Err(error) => {
-            tell(rt, error);
-            NO_REPORT
-        }
+        Err(error) => tell_fault(rt, error),
     }
 }

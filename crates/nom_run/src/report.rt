@@ -1,10 +1,11 @@
 //! Reports on bytes, and what is common to them.
-ghost use Rattle.std.specs.Prelude.{◌≡◌, ℕ, ◌<◌, ◌≤◌, List, IfOk, length, slice_index, string_bytes};
-ghost use Rattle.nom_run.specs.Report.{IsToldStop};
+ghost use Rattle.std.specs.Prelude.{◌≡◌, ◌++◌, ℕ, ◌<◌, ◌≤◌, List, IfOk, length, slice_index, string_bytes};
+ghost use Rattle.nom_run.specs.Report.{IsTold, IsToldStop};
 ghost use Rattle.nom_run.specs.Stream.{NoneAbove};
+ghost use Rattle.nom_run.specs.Texts.{decided_text, lines_text, rest_text};
 
-use crate::text::{add_error, add_failure, add_need};
-use nom_error::answer::{Err, OutOfMemory};
+use crate::text::{add_decided, add_error, add_failure, add_need, add_rest};
+use nom_error::answer::{Err, IResult, OutOfMemory};
 use nom_error::value::Error;
 use std::alloc::Allocator;
 
@@ -25,6 +26,65 @@ pub trait Report {
         ensures { IfOk result (λ r. is_report bytes.now cuts.now (string_bytes r.0) r.1) };
 }
 
+/// Which lines a report has of an item that a grammar gives.
+pub trait Lines<T> {
+    ghost lines: { Self → T → List ℕ };
+
+    /// Adds the lines of an item to a text.
+    fn add<A: Allocator + Copy>(&self, text: &mut String<A>, item: &T) -> Result<(), OutOfMemory>
+        ensures { IfOk result (λ _. string_bytes text.new ≡ string_bytes text.old ++ lines self.now item.now) };
+}
+
+/// Adds the lines of items, in their order.
+pub fn add_lines<A: Allocator + Copy, T, L: Lines<T>>(
+    text: &mut String<A>,
+    report: &L,
+    items: &[T],
+) -> Result<(), OutOfMemory>
+    ensures { IfOk result (λ _. string_bytes text.new ≡ string_bytes text.old ++ lines_text (L.lines report.now) items.now) }
+{
+    for item in items {
+        report.add(text, item)?;
+    }
+    Ok(())
+}
+
+// Adds the lines for an acceptance.
+fn add_accepted<A: Allocator + Copy, T, L: Lines<T>>(
+    text: &mut String<A>,
+    report: &L,
+    index: usize,
+    items: &[T],
+    rest: usize,
+) -> Result<(), OutOfMemory>
+    ensures { IfOk result (λ _. string_bytes text.new ≡ string_bytes text.old ++
+        (decided_text index ++ lines_text (L.lines report.now) items.now ++ rest_text rest)) }
+{
+    add_decided(text, index)?;
+    add_lines(text, report, items)?;
+    add_rest(text, rest)
+}
+
+/// The text and the status for an answer on a beginning of a length, at the cut of an index.
+pub fn tell<'a, A: Allocator + Copy, T: Drop, L: Lines<T>>(
+    alloc: A,
+    report: &L,
+    index: usize,
+    beginning: usize,
+    answer: IResult<&'a [u8], Vec<T, A>>,
+) -> Result<(String<A>, u8), OutOfMemory>
+    ensures { IfOk result (λ r. IsTold (λ v. lines_text (L.lines report.now) v.items) index beginning answer.entry (string_bytes r.0) r.1) }
+{
+    match answer {
+        Ok((rest, items)) => {
+            let mut text = String::new(alloc);
+            add_accepted(&mut text, report, index, &items, rest.len())?;
+            Ok((text, 0))
+        }
+        Err(stop) => tell_stop(alloc, beginning, stop),
+    }
+}
+
 /// The length of the beginning at the cut of an index; the number of cuts stands for the whole.
 pub fn beginning_len(whole: usize, cuts: &[usize], index: usize) -> usize
     ensures at_cut { index < length cuts.now → result ≡ slice_index cuts.now index }
@@ -37,8 +97,8 @@ pub fn beginning_len(whole: usize, cuts: &[usize], index: usize) -> usize
     }
 }
 
-/// The text and the status where a beginning of a length isn't accepted.
-pub fn tell_stop<A: Allocator + Copy>(
+// The text and the status where a beginning of a length isn't accepted.
+fn tell_stop<A: Allocator + Copy>(
     alloc: A,
     beginning: usize,
     stop: Err<Error<&[u8]>>,

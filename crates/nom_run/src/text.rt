@@ -2,7 +2,7 @@
 //! part of it.
 ghost use Rattle.std.specs.Prelude.{◌≡◌, ◌++◌, ◌/◌, ◌%◌, [], ◌∷◌, IfOk, codes, string_bytes};
 ghost use Rattle.std.specs.Fmt.{decimal};
-ghost use Rattle.nom_error.specs.Answers.{size_of};
+ghost use Rattle.nom_internal.specs.Prelude.{size_of};
 ghost use Rattle.nom_run.specs.Texts.{decided_text, digits_text, error_text, failure_text, hex_digit, hex_of, need_text, bytes_text, rest_text};
 
 use nom_error::answer::{Needed, OutOfMemory};

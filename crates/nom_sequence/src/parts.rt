@@ -1,7 +1,6 @@
 //! The parsers that run two parts in sequence.
 ghost use Rattle.std.specs.Prelude.{false};
-ghost use Rattle.nom_error.specs.Modes.{with_outputs};
-ghost use Rattle.nom_internal.specs.Results.{ThenBesides};
+ghost use Rattle.nom_internal.specs.Prelude.{with_outputs, ThenBesides};
 ghost use Rattle.nom_sequence.specs.Sequences.{preceded_meaning, terminated_meaning};
 ghost use Rattle.nom_sequence.specs.laws.SequenceLaws.{preceded_lawful, preceded_steady, terminated_lawful, terminated_steady};
 

@@ -1,7 +1,8 @@
 //! `nom_settings FILE`: the settings of a file, each with its line and column, its section, its name and its value.
 #![tactic(auto)]
 
-use nom_run::program::status_of;
+use nom_run::error::RunError;
+use nom_run::program::{status_of, tell_fault};
 use nom_settings_run::report::Settings;
 use std::alloc::Global;
 use std::env;
@@ -18,8 +19,7 @@ fn has_more(rt: &(impl Env + Alloc<A = Global>)) -> bool {
 
 fn main(rt: HostRuntime) -> ExitCode {
     if has_more(&rt) {
-        let _ = print!(rt; "usage\n");
-        return ExitCode::from(3);
+        return ExitCode::from(tell_fault(&rt, RunError::Usage));
     }
     ExitCode::from(status_of(&rt, &Settings))
 }

@@ -2,14 +2,9 @@
 use Rattle.std.specs.Str.{IsValidUpTo}
 use Rattle.std.proofs.Common.{inl, inr, ◌≡◌, ℕ, false, List, take, Vec, Result, refl, sym, ◌∙◌, ap, subst}
 use Rattle.std.specs.Prelude.{encode_utf8_all, IsUtf8, Option}
-use Rattle.nom_error.specs.declared.answer.Needed.{Needed}
+use Rattle.nom_internal.specs.Prelude.{Needed, Slice, IsModelledBy, Outcome, Accept, Refuse, Stop, Fails, Needs, Parses, ParseRanOut, Parsed, ParsesMeaning}
 use Rattle.nom_error.specs.declared.answer.Err as Answer
 use Rattle.nom_error.specs.declared.value.Error.{Error}
-use Rattle.nom_traits.specs.Slices.{Slice, IsModelledBy}
-use Rattle.nom_internal.specs.Outcome.{Outcome, Parses}
-use Rattle.nom_internal.specs.Outcome.Outcome.{Accept, Refuse, Fail, TooLarge, Undecided}
-use Rattle.nom_internal.specs.Outcome.ParsesAnswer.{ParseRanOut, Parsed}
-use Rattle.nom_internal.specs.Meaning.{ParsesMeaning}
 use Rattle.nom_combinator.specs.Verdicts.{complete_outcome}
 use Rattle.nom_run.proofs.Told.{lines-same}
 use Rattle.nom_settings_run.specs.Settings.{AreSections, IsSection, IsSetting, SectionTree, SettingTree, settings_grammar}
@@ -40,26 +35,24 @@ sections_same : {A : Type 0} (ts : List (SectionTree seen_there)) (v : Vec (Text
     sections_text v.items ≡ trees_text ts
 sections_same ts v h = lines-same (IsSection seen_there) section_tree_text (λ o. section_text o.0 o.1.items) section_same ts v.items h
 
-never_waits : {V : Type 0} (a : Outcome V) (k : Option ℕ) → Undecided k ≡ complete_outcome a → ⊥
+never_waits : {V : Type 0} (a : Outcome V) (k : Option ℕ) → Stop (Needs k) ≡ complete_outcome a → ⊥
 never_waits (Accept n v) k h = cc (h)
 never_waits Refuse k h = cc (h)
-never_waits Fail k h = cc (h)
-never_waits TooLarge k h = cc (h)
-never_waits (Undecided j) k h = cc (h)
+never_waits (Stop (Fails cause)) k h = cc (h)
+never_waits (Stop (Needs d)) k h = cc (h)
 
 abbrev AnswerErr : Type 0
 AnswerErr = Answer.Err (Error Text) (Error Text) Needed
 
 module _ {A : Type 0} (whole : Text) (answer : Result (Text × Vec (Text × Vec (Text × Text) A) A) AnswerErr) (text : List ℕ) (status : ℕ) where
-  says : (Blames : Error Text → Type 0) (o : Outcome (List (SectionTree seen_there))) → ((k : Option ℕ) → o ≡ Undecided k → ⊥) →
+  says : (Blames : Error Text → Type 0) (o : Outcome (List (SectionTree seen_there))) → ((k : Option ℕ) → o ≡ Stop (Needs k) → ⊥) →
       Parses seen_there (AreSections seen_there) whole Blames o answer → IsTold answer text status → Says Blames o text status
   says Blames (Accept n ts) never p t =
       let told = subst (λ a. IsTold a text status) p.4 t in
       (told.0 ∙ sections_same ts p.1 p.3, told.1)
   says Blames Refuse never p t = let told = subst (λ a. IsTold a text status) p.2 t in (p.0, p.1, told.0, told.1)
-  says Blames Fail never p t = let told = subst (λ a. IsTold a text status) p.2 t in (p.0, p.1, told.0, told.1)
-  says Blames TooLarge never p t = let told = subst (λ a. IsTold a text status) p.2 t in (p.0, p.1, told.0, told.1)
-  says Blames (Undecided k) never p t = never k refl
+  says Blames (Stop (Fails cause)) never p t = let told = subst (λ a. IsTold a text status) p.2 t in (p.0, p.1, told.0, told.1)
+  says Blames (Stop (Needs k)) never p t = never k refl
 
   pub of_text : (bytes : List ℕ) → IsUtf8 bytes → whole.fragment.now ≡ bytes → place_of whole ≡ place 0 1 1 →
       ParsesMeaning seen_there (AreSections seen_there) (settings_grammar seen_there) false whole answer → IsTold answer text status →

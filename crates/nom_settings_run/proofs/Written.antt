@@ -1,10 +1,8 @@
 -- What the parser of settings answers.
 use Rattle.std.proofs.Common.{◌≡◌, ℕ, List, codes, subst}
-use Rattle.nom_error.specs.declared.kind.ErrorKind.{ErrorKind}
+use Rattle.nom_internal.specs.Prelude.{ErrorKind, Model, Meaning}
 use Rattle.nom_error.specs.declared.kind.ErrorKind.TheVariants.{IsNot}
 use Rattle.nom_error.specs.declared.value.Error.{Error}
-use Rattle.nom_traits.specs.Input.{Model}
-use Rattle.nom_internal.specs.Meaning.{Meaning}
 use Rattle.nom_settings_run.specs.Settings.{SectionTree, settings_grammar, written_of}
 
 -- what holds of the grammar by its parts holds of the grammar

@@ -4,21 +4,15 @@ use Rattle.std.specs.Borrow.{Bor}
 use Rattle.std.specs.Fmt.{decimal}
 use Rattle.std.specs.Str.{IsValidUpTo}
 use Rattle.nom_error.specs.Kinds.{description_of}
-use Rattle.nom_error.specs.declared.answer.Needed.{Needed}
+use Rattle.nom_internal.specs.Prelude.{Needed, ErrorKind, Model, Slice, text_model, Outcome, Accept, Refuse, Stop, Fails, Needs}
 use Rattle.nom_error.specs.declared.answer.Err as Answer
 use Rattle.nom_error.specs.declared.answer.Err.TheVariants as Stop
-use Rattle.nom_error.specs.declared.kind.ErrorKind.{ErrorKind}
 use Rattle.nom_error.specs.declared.kind.ErrorKind.TheVariants as Kind
 use Rattle.nom_error.specs.declared.value.Error.{Error}
-use Rattle.nom_traits.specs.Input.{Model}
-use Rattle.nom_traits.specs.Slices.{Slice}
-use Rattle.nom_traits.specs.Text.{text_model}
 use Rattle.nom_traits.specs.contracts.text.RefStrItems.TheImpl as TextItems
 use Rattle.nom_traits.specs.contracts.input.CharValue.TheImpl as CharValue
 use Rattle.nom_located.specs.declared.located.Located.{Located}
 use Rattle.nom_located.specs.Located.{IsAfter, Place, place, located_model}
-use Rattle.nom_internal.specs.Outcome.{Outcome}
-use Rattle.nom_internal.specs.Outcome.Outcome.{Accept, Refuse, Fail, TooLarge, Undecided}
 use Rattle.nom_run.specs.Texts.{lines_text}
 use Rattle.nom_settings_run.specs.Settings.{SectionTree, SettingTree, settings_grammar}
 
@@ -64,9 +58,8 @@ Tells Blames text status = (e : Error Text) × Blames e × (text ≡ fault_text 
 abbrev pub Says : (Error Text → Type 0) → Outcome (List (SectionTree seen_there)) → List ℕ → ℕ → Type 0
 Says Blames (Accept n ts) text status = (text ≡ trees_text ts) × (status ≡ 0)
 Says Blames Refuse text status = Tells Blames text status
-Says Blames Fail text status = Tells Blames text status
-Says Blames TooLarge text status = Tells Blames text status
-Says Blames (Undecided k) text status = ⊥
+Says Blames (Stop (Fails cause)) text status = Tells Blames text status
+Says Blames (Stop (Needs k)) text status = ⊥
 
 -- of bytes that are text: the grammar's outcome on them, from line 1 and column 1 on, is told
 pub record OfText (bytes text : List ℕ) (status : ℕ) : Type 0 where

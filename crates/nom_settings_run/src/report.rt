@@ -1,7 +1,6 @@
 //! The report on a file of settings.
-ghost use Rattle.std.specs.Prelude.{◌≡◌, ◌++◌, ◌≤◌, IfOk, List, length, string_bytes, take, ℕ};
+ghost use Rattle.std.specs.Prelude.{◌≡◌, ◌++◌, ◌≤◌, IfOk, length, string_bytes, take};
 ghost use Rattle.nom_settings_run.specs.Report.{IsReport, IsTold, IsToldBytes, IsToldStop, fault_text, line_text, section_text, setting_text};
-ghost use Rattle.nom_run.specs.Texts.{lines_text};
 
 use crate::settings::{Section, settings};
 use nom_error::answer::{Err, IResult, OutOfMemory};
@@ -9,7 +8,7 @@ use nom_error::kind::ErrorKind;
 use nom_error::value::Error;
 use nom_located::Located;
 use nom_located::promises::stands_after;
-use nom_run::report::Report;
+use nom_run::report::{Lines, Report, add_lines};
 use nom_traits::input::{Input, Items};
 use std::alloc::Allocator;
 use std::fmt::Write;
@@ -50,48 +49,34 @@ fn add_setting<'a, A: Allocator + Copy>(
     add_line(text, name.line(), name.column(), title, key, held)
 }
 
-// Adds the lines of a section.
-fn add_section<'a, A: Allocator + Copy>(
-    text: &mut String<A>,
+// The settings of a section, which is named in the line of each.
+#[derive(Drop)]
+struct Under<'a> {
     section: Text<'a>,
-    found: &[(Text<'a>, Text<'a>)],
-) -> Result<(), OutOfMemory>
-    ensures { IfOk result (λ _. string_bytes text.new ≡ string_bytes text.old ++ section_text section.entry found.now) }
-{
-    for setting in found {
-        add_setting(text, section, *setting)?;
-    }
-    Ok(())
 }
 
-/// What has lines in a report.
-trait Lines {
-    ghost lines: { Self → List ℕ };
+impl<'a> Lines<(Text<'a>, Text<'a>)> for Under<'a> {
+    ghost lines = { λ s o. setting_text s.section o };
 
-    /// Adds the lines to a text.
-    fn add_to<A: Allocator + Copy>(&self, text: &mut String<A>) -> Result<(), OutOfMemory>
-        ensures { IfOk result (λ _. string_bytes text.new ≡ string_bytes text.old ++ lines self.now) };
-}
-
-impl<'a, A: Allocator + Copy> Lines for Section<Text<'a>, A> {
-    ghost lines = { λ o. section_text o.0 o.1.items };
-
-    fn add_to<B: Allocator + Copy>(&self, text: &mut String<B>) -> Result<(), OutOfMemory> {
-        add_section(text, self.0, &self.1)
+    fn add<A: Allocator + Copy>(
+        &self,
+        text: &mut String<A>,
+        setting: &(Text<'a>, Text<'a>),
+    ) -> Result<(), OutOfMemory> {
+        add_setting(text, self.section, *setting)
     }
 }
 
-// Adds the lines of all.
-fn add_all<A: Allocator + Copy, T: Lines>(
-    text: &mut String<A>,
-    found: &[T],
-) -> Result<(), OutOfMemory>
-    ensures { IfOk result (λ _. string_bytes text.new ≡ string_bytes text.old ++ lines_text T.lines found.now) }
-{
-    for item in found {
-        item.add_to(text)?;
+impl<'a, A: Allocator + Copy> Lines<Section<Text<'a>, A>> for Settings {
+    ghost lines = { λ _ o. section_text o.0 o.1.items };
+
+    fn add<B: Allocator + Copy>(
+        &self,
+        text: &mut String<B>,
+        found: &Section<Text<'a>, A>,
+    ) -> Result<(), OutOfMemory> {
+        add_lines(text, &Under { section: found.0 }, &found.1)
     }
-    Ok(())
 }
 
 // Adds the line of a fault: where it stands, and its kind.
@@ -154,7 +139,7 @@ fn tell<'a, A: Allocator + Copy>(
     match answer {
         Ok((_rest, found)) => {
             let mut text = String::new(alloc);
-            add_all(&mut text, &found)?;
+            add_lines(&mut text, &Settings, &found)?;
             Ok((text, 0))
         }
         Err(stop) => tell_stop(alloc, stop),

@@ -1,6 +1,6 @@
 //! Settings in sections, as INI files have them.
 ghost use Rattle.std.specs.Prelude.{◌≡◌, false};
-ghost use Rattle.nom_internal.specs.Meaning.{ParsesMeaning};
+ghost use Rattle.nom_internal.specs.Prelude.{ParsesMeaning};
 ghost use Rattle.nom_settings_run.specs.Settings.{AreSections, in_value, settings_grammar};
 
 use nom_bytes::{is_not, take_while};

@@ -3,11 +3,7 @@ use Rattle.std.proofs.Common.{arith, ◌≡◌, ℕ, suc, ◌+◌, ◌-◌, ◌^
 use Rattle.std.proofs.Common.{◌∙◌, ap, subst}
 use Rattle.std.specs.List.{AllZip}
 use Rattle.nom_error.specs.declared.value.Error.{Error}
-use Rattle.nom_traits.specs.Bytes.{bytes_model, bytes_lawful}
-use Rattle.nom_traits.specs.Input.{IsSuffixOf}
-use Rattle.nom_traits.specs.Rests.{rest_rest, same_cut, items_len-ones}
-use Rattle.nom_internal.specs.Outcome.Outcome.{Accept}
-use Rattle.nom_internal.specs.Meaning.{Meaning}
+use Rattle.nom_internal.specs.Prelude.{bytes_model, bytes_lawful, IsSuffixOf, rest_rest, same_cut, items_len-ones, Accept, Meaning}
 use Rattle.nom_iterator.specs.Iterated.{AreItems, Ends}
 use Rattle.nom_stream.specs.declared.stream.Stream.{Stream}
 use Rattle.nom_stream.specs.Items.{Bytes}

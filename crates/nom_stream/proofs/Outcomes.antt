@@ -1,17 +1,10 @@
 -- The outcome that stands after what was taken.
 use Rattle.std.proofs.Common.{arith, ◌≡◌, ℕ, zero, suc, ◌+◌, Bool, List, [], ◌∷◌, ◌++◌, length, Ok, Err, refl, sym, ◌∙◌, ap, subst, length-append}
 use Rattle.std.proofs.Common.{◌⊎◌, inl, inr}
-use Rattle.nom_error.specs.Answers.{size_of}
-use Rattle.nom_error.specs.declared.answer.Needed.{Needed}
-use Rattle.nom_error.specs.declared.answer.Err.TheVariants as Stop
+use Rattle.nom_internal.specs.Prelude.{size_of, Needed, bytes_model, IsSuffixOf, items_len-ones, Outcome, Accept, Refuse, Stop, Fails, Needs}
+use Rattle.nom_internal.specs.Prelude.{Parses, ParseRanOut, Parsed, Meaning, ParsesMeaning, Cause}
+use Rattle.nom_error.specs.declared.answer.Err.TheVariants as Stopped
 use Rattle.nom_error.specs.declared.value.Error.{Error}
-use Rattle.nom_traits.specs.Bytes.{bytes_model}
-use Rattle.nom_traits.specs.Input.{IsSuffixOf}
-use Rattle.nom_traits.specs.Rests.{items_len-ones}
-use Rattle.nom_internal.specs.Outcome.{Outcome, Parses}
-use Rattle.nom_internal.specs.Outcome.Outcome.{Accept, Refuse, Fail, TooLarge, Undecided}
-use Rattle.nom_internal.specs.Outcome.ParsesAnswer.{ParseRanOut, Parsed}
-use Rattle.nom_internal.specs.Meaning.{Meaning, ParsesMeaning}
 use Rattle.nom_stream.specs.declared.step.Taken.{Taken}
 use Rattle.nom_stream.specs.declared.step.Taken.TheVariants as Took
 use Rattle.nom_stream.specs.Items.{Bytes, Answered, Takes, taken_of}
@@ -38,52 +31,48 @@ module _ {V O : Type 0} (IsItem : V → O → Type 0) (m : Meaning Bytes V (Erro
       let value : h.1 ≡ o = ap (λ (z : Bytes × O). z.1) both in
       record { size = n; tree = v; accepted = a; rest = subst (IsSuffixOf bytes_model x n) place h.2; item = subst (λ z. IsItem v z) value h.3 }
   accepts_of j o Refuse a h = absurd (cc (h.2))
-  accepts_of j o Fail a h = absurd (cc (h.2))
-  accepts_of j o TooLarge a h = absurd (cc (h.2))
-  accepts_of j o (Undecided k) a h = absurd (cc (h.2))
+  accepts_of j o (Stop (Fails cause)) a h = absurd (cc (h.2))
+  accepts_of j o (Stop (Needs k)) a h = absurd (cc (h.2))
 
   pub accepts : (j : Bytes) (o : O) → ParsesMeaning bytes_model IsItem m more x (Ok (j, o)) → Accepts j o
   accepts j o (ParseRanOut e r) = absurd (cc (e))
   accepts j o (Parsed p a h) = accepts_of j o p a h
 
   lacks_of : (k : Needed) (p : Outcome V) → m.answers more x p →
-      Parses {E = Error Bytes} bytes_model IsItem x (m.blames more x) p (Err (Stop.Incomplete k)) → m.answers more x (Undecided (size_of k))
+      Parses {E = Error Bytes} bytes_model IsItem x (m.blames more x) p (Err (Stopped.Incomplete k)) → m.answers more x (Stop (Needs (size_of k)))
   lacks_of k (Accept n v) a h = absurd (cc (h.4))
   lacks_of k Refuse a h = absurd (cc (h.2))
-  lacks_of k Fail a h = absurd (cc (h.2))
-  lacks_of k TooLarge a h = absurd (cc (h.2))
-  lacks_of k (Undecided n) a h =
+  lacks_of k (Stop (Fails cause)) a h = absurd (cc (h.2))
+  lacks_of k (Stop (Needs n)) a h =
       let same : h.0 ≡ k = cc (h.2) in
-      subst (λ z. m.answers more x (Undecided z)) (sym h.1 ∙ ap size_of same) a
+      subst (λ z. m.answers more x (Stop (Needs z))) (sym h.1 ∙ ap size_of same) a
 
-  lacks : (k : Needed) → ParsesMeaning bytes_model IsItem m more x (Err (Stop.Incomplete k)) → m.answers more x (Undecided (size_of k))
+  lacks : (k : Needed) → ParsesMeaning bytes_model IsItem m more x (Err (Stopped.Incomplete k)) → m.answers more x (Stop (Needs (size_of k)))
   lacks k (ParseRanOut e r) = absurd (cc (e))
   lacks k (Parsed p a h) = lacks_of k p a h
 
   refuses_of : (e : Error Bytes) (p : Outcome V) → m.answers more x p →
-      Parses {E = Error Bytes} bytes_model IsItem x (m.blames more x) p (Err (Stop.Error e)) → m.answers more x Refuse
+      Parses {E = Error Bytes} bytes_model IsItem x (m.blames more x) p (Err (Stopped.Error e)) → m.answers more x Refuse
   refuses_of e (Accept n v) a h = absurd (cc (h.4))
   refuses_of e Refuse a h = a
-  refuses_of e Fail a h = absurd (cc (h.2))
-  refuses_of e TooLarge a h = absurd (cc (h.2))
-  refuses_of e (Undecided k) a h = absurd (cc (h.2))
+  refuses_of e (Stop (Fails cause)) a h = absurd (cc (h.2))
+  refuses_of e (Stop (Needs k)) a h = absurd (cc (h.2))
 
-  refuses : (e : Error Bytes) → ParsesMeaning bytes_model IsItem m more x (Err (Stop.Error e)) → m.answers more x Refuse
+  refuses : (e : Error Bytes) → ParsesMeaning bytes_model IsItem m more x (Err (Stopped.Error e)) → m.answers more x Refuse
   refuses e (ParseRanOut u r) = absurd (cc (u))
   refuses e (Parsed p a h) = refuses_of e p a h
 
-  abbrev Fails : Type 0
-  Fails = m.answers more x Fail ⊎ m.answers more x TooLarge
+  abbrev HasFailed : Type 0
+  HasFailed = (cause : Cause) × m.answers more x (Stop (Fails cause))
 
   fails_of : (e : Error Bytes) (p : Outcome V) → m.answers more x p →
-      Parses {E = Error Bytes} bytes_model IsItem x (m.blames more x) p (Err (Stop.Failure e)) → Fails
+      Parses {E = Error Bytes} bytes_model IsItem x (m.blames more x) p (Err (Stopped.Failure e)) → HasFailed
   fails_of e (Accept n v) a h = absurd (cc (h.4))
   fails_of e Refuse a h = absurd (cc (h.2))
-  fails_of e Fail a h = inl a
-  fails_of e TooLarge a h = inr a
-  fails_of e (Undecided k) a h = absurd (cc (h.2))
+  fails_of e (Stop (Fails cause)) a h = (cause, a)
+  fails_of e (Stop (Needs k)) a h = absurd (cc (h.2))
 
-  fails : (e : Error Bytes) → ParsesMeaning bytes_model IsItem m more x (Err (Stop.Failure e)) → Fails
+  fails : (e : Error Bytes) → ParsesMeaning bytes_model IsItem m more x (Err (Stopped.Failure e)) → HasFailed
   fails e (ParseRanOut u r) = absurd (cc (u))
   fails e (Parsed p a h) = fails_of e p a h
 
@@ -91,9 +80,9 @@ module _ {V O : Type 0} (IsItem : V → O → Type 0) (m : Meaning Bytes V (Erro
   abbrev pub Means : List ℕ → Taken O → Type 0
   Means new (Took.Item n o) = (v : V) × IsItem v o × m.answers more x (Accept n v) × ((front : List ℕ) × (length front ≡ n) × (x.now ≡ front ++ new))
   Means new Took.Nothing = ((v : V) × m.answers more x (Accept 0 v)) × (new ≡ x.now)
-  Means new (Took.Undecided k) = m.answers more x (Undecided (size_of k)) × (new ≡ x.now)
+  Means new (Took.Undecided k) = m.answers more x (Stop (Needs (size_of k))) × (new ≡ x.now)
   Means new (Took.Refused e at) = m.answers more x Refuse × (new ≡ x.now)
-  Means new (Took.Failed e at) = Fails × (new ≡ x.now)
+  Means new (Took.Failed e at) = HasFailed × (new ≡ x.now)
   Means new Took.OutOfMemory = new ≡ x.now
 
   -- the length that was accepted is how many bytes were taken
@@ -117,10 +106,10 @@ module _ {V O : Type 0} (IsItem : V → O → Type 0) (m : Meaning Bytes V (Erro
 
   by_answer : (new : List ℕ) (answer : Answered O) (r : Taken O) → ParsesMeaning bytes_model IsItem m more x answer → Items.Took x new answer r → Means new r
   by_answer new (Ok (j, o)) r p h = subst (Means new) (sym h.3) (accepted h.0 j o new h.1 h.2 (accepts j o p))
-  by_answer new (Err (Stop.Incomplete k)) r p h = subst (Means new) (sym h.1) (lacks k p, h.0)
-  by_answer new (Err (Stop.Error e)) r p h = subst (Means new) (sym h.1) (refuses e p, h.0)
-  by_answer new (Err (Stop.Failure e)) r p h = subst (Means new) (sym h.1) (fails e p, h.0)
-  by_answer new (Err Stop.OutOfMemory) r p h = subst (Means new) (sym h.1) h.0
+  by_answer new (Err (Stopped.Incomplete k)) r p h = subst (Means new) (sym h.1) (lacks k p, h.0)
+  by_answer new (Err (Stopped.Error e)) r p h = subst (Means new) (sym h.1) (refuses e p, h.0)
+  by_answer new (Err (Stopped.Failure e)) r p h = subst (Means new) (sym h.1) (fails e p, h.0)
+  by_answer new (Err Stopped.OutOfMemory) r p h = subst (Means new) (sym h.1) h.0
 
 pub meant : {V O : Type 0} (IsItem : V → O → Type 0) (m : Meaning Bytes V (Error Bytes)) (more : Bool) (old new : List ℕ) (r : Taken O) →
     (t : Takes IsItem m more old new r) → Means IsItem m more t.input new r

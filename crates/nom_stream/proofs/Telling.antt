@@ -1,13 +1,12 @@
 -- What is told of what is held.
 use Rattle.std.proofs.Common.{arith, ◌≡◌, ℕ, ◌+◌, ◌<◌, ◌≤◌, true, false, List, ◌++◌, length, Option, Err, refl, sym, ◌∙◌, ap, subst}
 use Rattle.std.proofs.Common.{length-append, inl, inr}
-use Rattle.nom_error.specs.declared.answer.Needed.{Needed}
+use Rattle.nom_internal.specs.Prelude.{Needed, Meaning}
 use Rattle.nom_error.specs.declared.value.Error.{Error}
-use Rattle.nom_internal.specs.Meaning.{Meaning}
 use Rattle.nom_stream.specs.declared.held.Held.{Held}
 use Rattle.nom_stream.specs.declared.step.Taken.{Taken}
 use Rattle.nom_stream.specs.declared.step.Taken.TheVariants.{Undecided}
-use Rattle.nom_stream.specs.declared.stream.Stop.TheVariants as Stop
+use Rattle.nom_stream.specs.declared.stream.Stop.TheVariants as Stopped
 use Rattle.nom_stream.specs.declared.stream.Stream.{Stream}
 use Rattle.nom_stream.specs.declared.stream.Unread.{Unread}
 use Rattle.nom_stream.specs.Held.{held_of}
@@ -88,10 +87,10 @@ module _ {R A State V O : Type 0} (left : R → Option (List ℕ)) (IsItem : Sta
     }
 
     -- no more may be held
-    pub decides_full : u.settings.most ≤ length (held_of u.held) → Decides left (IsItem q) (m q) s u (Err Stop.TooLong)
+    pub decides_full : u.settings.most ≤ length (held_of u.held) → Decides left (IsItem q) (m q) s u (Err Stopped.TooLong)
     decides_full full = record {
       filled = u;
-      reads = reads_so_far (IsUnread (Err Stop.TooLong));
+      reads = reads_so_far (IsUnread (Err Stopped.TooLong));
       open_then = opened;
       answers = Full full refl (k, undecided) refl;
       source = refl;

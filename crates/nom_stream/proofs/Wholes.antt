@@ -2,13 +2,9 @@
 use Rattle.std.proofs.Common.{◌≡◌, ℕ, ◌≤◌, Bool, true, false, List, [], ◌++◌, length, Option, Some, None, Err, refl, sym, ◌∙◌, ap, subst}
 use Rattle.std.proofs.Common.{append_assoc, append-nil, ◌⊎◌, inl, inr}
 use Rattle.std.specs.Io.KnownBytes.{Consumes, IsAtEnd}
-use Rattle.nom_error.specs.Answers.{size_of}
-use Rattle.nom_error.specs.declared.answer.Needed.{Needed}
+use Rattle.nom_internal.specs.Prelude.{size_of, Needed, bytes_model, Outcome, Accept, Refuse, Stop, Fails, Needs, Outright, TooLarge, IsDecided, Meaning}
+use Rattle.nom_internal.specs.Prelude.{IsLawful, IsSteady, Cause}
 use Rattle.nom_error.specs.declared.value.Error.{Error}
-use Rattle.nom_traits.specs.Bytes.{bytes_model}
-use Rattle.nom_internal.specs.Outcome.{Outcome, IsDecided}
-use Rattle.nom_internal.specs.Outcome.Outcome.{Accept, Refuse, Fail, TooLarge, Undecided}
-use Rattle.nom_internal.specs.Meaning.{Meaning, IsLawful, IsSteady}
 use Rattle.nom_stream.specs.declared.step.Taken.{Taken}
 use Rattle.nom_stream.specs.declared.step.Taken.TheVariants as Took
 use Rattle.nom_stream.specs.declared.stream.Stream.{Stream}
@@ -18,7 +14,7 @@ use Rattle.nom_stream.specs.Items.{Bytes, IsUndecided, Takes}
 use Rattle.nom_stream.specs.Streams.{Answers, Decides, Ends, Gives, IsOpen, Tells, Told, stop_of}
 use Rattle.nom_stream.specs.Streams.Answers.{Decided, AtEnd, Full, Unfilled}
 use Rattle.nom_stream.specs.Streams.Ends.{Clean, Within, Completed}
-use Rattle.nom_stream.specs.Wholes.{AtWhole, Fails, HasLeft, IsLacking, TellsWhole, AnswersWhole, used_of}
+use Rattle.nom_stream.specs.Wholes.{AtWhole, TellsFailure, HasLeft, IsLacking, TellsWhole, AnswersWhole, used_of}
 use Rattle.nom_stream.proofs.Outcomes.{Means, meant}
 
 consumes_known : (a b : Option (List ℕ)) (xs given : List ℕ) → a ≡ Some xs → Consumes a b given → (ys : List ℕ) × (b ≡ Some ys) × (xs ≡ given ++ ys)
@@ -48,27 +44,27 @@ module _ {V : Type 0} (m : Meaning Bytes V (Error Bytes)) (lawful : IsLawful byt
   decided steady more e false o p a d b = steady.stays x i o p kx ki (record { more = more; added = tt; whole = e; mark_is = refl }) a d b
   decided steady more e true o p a d (inl b) = steady.stays x i o p kx ki (record { more = more; added = tt; whole = e; mark_is = refl }) a d b.0
   decided steady more e true o p a d (inr b) =
-      let same : o ≡ Undecided b.0 = steady.stays x i o (Undecided b.0) kx ki (record { more = more; added = tt; whole = e; mark_is = refl }) a d b.1 in
+      let same : o ≡ Stop (Needs b.0) = steady.stays x i o (Stop (Needs b.0)) kx ki (record { more = more; added = tt; whole = e; mark_is = refl }) a d b.1 in
       absurd (subst IsDecided same d)
 
   -- where all of the whole leaves more needed, that is its outcome, unless it is asked for as a complete input
-  lacking : i.now ≡ x.now → (complete : Bool) → complete ≡ false → (k : Option ℕ) (p : Outcome V) → m.answers true x (Undecided k) →
-      AtWhole m complete i p → Undecided k ≡ p
-  lacking e false f k p a b = lawful.one_outcome true x i (Undecided k) p kx ki (record { elements_are = sym e; mark_is = refl }) a tt b
+  lacking : i.now ≡ x.now → (complete : Bool) → complete ≡ false → (k : Option ℕ) (p : Outcome V) → m.answers true x (Stop (Needs k)) →
+      AtWhole m complete i p → Stop (Needs k) ≡ p
+  lacking e false f k p a b = lawful.one_outcome true x i (Stop (Needs k)) p kx ki (record { elements_are = sym e; mark_is = refl }) a tt b
   lacking e true f k p a b = absurd (cc (f))
 
   -- and then it is the complete one
   completed : i.now ≡ x.now → (complete : Bool) → complete ≡ true → (y : Bytes) → bytes_model.IsKnown y → i.now ≡ y.now →
-      (k : Option ℕ) (o p : Outcome V) → m.answers true x (Undecided k) → m.answers false y o → AtWhole m complete i p → o ≡ p
+      (k : Option ℕ) (o p : Outcome V) → m.answers true x (Stop (Needs k)) → m.answers false y o → AtWhole m complete i p → o ≡ p
   completed e false f y ky d k o p a c b = absurd (cc (f))
   completed e true f y ky d k o p a c (inl b) =
-      let same : Undecided k ≡ p = lawful.one_outcome true x i (Undecided k) p kx ki (record { elements_are = sym e; mark_is = refl }) a tt b.0 in
+      let same : Stop (Needs k) ≡ p = lawful.one_outcome true x i (Stop (Needs k)) p kx ki (record { elements_are = sym e; mark_is = refl }) a tt b.0 in
       absurd (b.1 (subst IsLacking same tt))
   completed e true f y ky d k o p a c (inr b) = lawful.one_outcome false y i o p ky ki (record { elements_are = sym d; mark_is = refl }) c tt b.2
 
   -- what is needed at an input is needed at each that is equal as models
-  lacking_alike : i.now ≡ x.now → (k : Option ℕ) → m.answers true x (Undecided k) → m.answers true i (Undecided k)
-  lacking_alike e k a = lawful.alike true x i (Undecided k) kx ki (record { elements_are = sym e; mark_is = refl }) a tt
+  lacking_alike : i.now ≡ x.now → (k : Option ℕ) → m.answers true x (Stop (Needs k)) → m.answers true i (Stop (Needs k))
+  lacking_alike e k a = lawful.alike true x i (Stop (Needs k)) kx ki (record { elements_are = sym e; mark_is = refl }) a tt
 
 module _ {R A V O : Type 0} (IsItem : V → O → Type 0) (m : Meaning Bytes V (Error Bytes)) (t : Stream R A) (i : Bytes) (p : Outcome V) where
   abbrev Tellings : Told O → Type 0
@@ -76,18 +72,18 @@ module _ {R A V O : Type 0} (IsItem : V → O → Type 0) (m : Meaning Bytes V (
 
   -- of a parse that decides: its outcome is that of the whole
   module _ (more : Bool) (x : Bytes) (same : (o : Outcome V) → m.answers more x o → (more ≡ true → IsDecided o) → o ≡ p)
-      (large : m.answers more x TooLarge → Fails m i p) where
-    tells_failure : (m.answers more x Fail ⊎ m.answers more x TooLarge) → Fails m i p
-    tells_failure (inl a) = inl (sym (same Fail a (λ _. tt)))
-    tells_failure (inr a) = large a
+      (large : m.answers more x (Stop (Fails TooLarge)) → TellsFailure m i p) where
+    tells_failure : (cause : Cause) → m.answers more x (Stop (Fails cause)) → TellsFailure m i p
+    tells_failure Outright a = inl (sym (same (Stop (Fails Outright)) a (λ _. tt)))
+    tells_failure TooLarge a = large a
 
     tells : (held : (more ≡ true → ⊥) → held_of t.held ≡ x.now → held_of t.held ≡ i.now) (taken : Taken O) →
         (more ≡ true → IsUndecided taken → ⊥) → Means IsItem m more x (held_of t.held) taken → (r : Told O) → Tells taken r → Tellings r
     tells held (Took.Item n o) d h r e = subst Tellings (sym e) (h.0, h.1, same (Accept n h.0) h.2 (λ _. tt))
     tells held Took.Nothing d h r e = subst Tellings (sym e) ((h.0).0, same (Accept 0 (h.0).0) (h.0).1 (λ _. tt))
-    tells held (Took.Undecided k) d h r e = subst Tellings (sym e) (held (λ f. d f tt) h.1, same (Undecided (size_of k)) h.0 (λ f. absurd (d f tt)))
+    tells held (Took.Undecided k) d h r e = subst Tellings (sym e) (held (λ f. d f tt) h.1, same (Stop (Needs (size_of k))) h.0 (λ f. absurd (d f tt)))
     tells held (Took.Refused k at) d h r e = subst Tellings (sym e) (sym (same Refuse h.0 (λ _. tt)))
-    tells held (Took.Failed k at) d h r e = subst Tellings (sym e) (tells_failure h.0)
+    tells held (Took.Failed k at) d h r e = subst Tellings (sym e) (tells_failure (h.0).0 (h.0).1)
     tells held Took.OutOfMemory d h r e = subst Tellings (sym e) tt
 
 -- how many bytes an item had: they are no longer among those that no item had
@@ -160,7 +156,7 @@ module _ {R A V O : Type 0} (left : R → Option (List ℕ)) (IsItem : V → O �
       let all_too : i.now ≡ y.now = at_end ended ∙ sym q.is_held in
       let one : (o : Outcome V) → m.answers false y o → o ≡ p =
       λ o c. completed m g.parses.lawful x i g.known ki all u.settings.complete a y q.known all_too (size_of k) o p h.0 c b in
-      tells IsItem m t i p false y (λ o c f. one o c) (λ c. inr (inl (sym (one TooLarge c))))
+      tells IsItem m t i p false y (λ o c f. one o c) (λ c. inr (inl (sym (one (Stop (Fails TooLarge)) c))))
       (λ f c. c ∙ sym all_too) taken (λ f. absurd (cc (f))) (meant IsItem m false (held_of u.held) (held_of t.held) taken q) r e
 
   of_unread : (why : Unread) → TellsWhole {O = O} IsItem m t (Err (stop_of why)) i p

@@ -1,13 +1,10 @@
 -- One item from what is held.
 use Rattle.std.specs.Prelude.{◌≡◌, ℕ, zero, suc, ◌+◌, ◌≤◌, Bool, List, length, take, Ok, Err}
 use Rattle.std.specs.Borrow.{Bor}
-use Rattle.nom_error.specs.Answers.{IResult}
-use Rattle.nom_error.specs.declared.answer.Needed.{Needed}
+use Rattle.nom_internal.specs.Prelude.{IResult, Needed, bytes_model, Meaning, IsLawful, IsSteady, ParsesMeaning}
 use Rattle.nom_error.specs.declared.answer.Err as Answer
-use Rattle.nom_error.specs.declared.answer.Err.TheVariants as Stop
+use Rattle.nom_error.specs.declared.answer.Err.TheVariants as Stopped
 use Rattle.nom_error.specs.declared.value.Error.{Error}
-use Rattle.nom_traits.specs.Bytes.{bytes_model}
-use Rattle.nom_internal.specs.Meaning.{Meaning, IsLawful, IsSteady, ParsesMeaning}
 use Rattle.nom_stream.specs.declared.held.Held.{Held}
 use Rattle.nom_stream.specs.declared.step.Taken.{Taken}
 use Rattle.nom_stream.specs.declared.step.Taken.TheVariants.{Item, Nothing, Undecided, Refused, Failed, OutOfMemory}
@@ -29,10 +26,10 @@ pub record ParsesItem {V O : Type 0} (IsItem : V → O → Type 0) (m : Meaning 
 
 -- what is told where nothing is accepted: of an error its kind, and the length of the input that it holds
 abbrev pub IsStopped : {O : Type 0} → Answer.Err (Error Bytes) (Error Bytes) Needed → Taken O → Type 0
-IsStopped (Stop.Incomplete k) r = r ≡ Undecided k
-IsStopped (Stop.Error e) r = r ≡ Refused e.code (length e.input.now)
-IsStopped (Stop.Failure e) r = r ≡ Failed e.code (length e.input.now)
-IsStopped Stop.OutOfMemory r = r ≡ OutOfMemory
+IsStopped (Stopped.Incomplete k) r = r ≡ Undecided k
+IsStopped (Stopped.Error e) r = r ≡ Refused e.code (length e.input.now)
+IsStopped (Stopped.Failure e) r = r ≡ Failed e.code (length e.input.now)
+IsStopped Stopped.OutOfMemory r = r ≡ OutOfMemory
 
 -- an item of a length, or that it has none
 abbrev pub taken_of : {O : Type 0} → ℕ → O → Taken O

@@ -2,11 +2,10 @@
 use Rattle.std.specs.Prelude.{◌≡◌, ℕ, zero, suc, ◌+◌, ◌-◌, ◌^◌, ◌<◌, ◌≤◌, ◌⊎◌, min, Bool, true, false}
 use Rattle.std.specs.Prelude.{List, [], ◌++◌, length, Option, Some, None, Result, Ok, Err, vec_capacity, vec_len}
 use Rattle.std.specs.Io.KnownBytes.{Consumes, IsAtEnd}
-use Rattle.nom_error.specs.declared.answer.Needed.{Needed}
+use Rattle.nom_internal.specs.Prelude.{Needed, Meaning}
 use Rattle.nom_error.specs.declared.value.Error.{Error}
-use Rattle.nom_internal.specs.Meaning.{Meaning}
 use Rattle.nom_stream.specs.declared.stream.Stop as Why
-use Rattle.nom_stream.specs.declared.stream.Stop.TheVariants as Stop
+use Rattle.nom_stream.specs.declared.stream.Stop.TheVariants as Stopped
 use Rattle.nom_stream.specs.declared.stream.Unread.{Unread}
 use Rattle.nom_stream.specs.declared.settings.Settings.{Settings}
 use Rattle.nom_stream.specs.declared.stream.Stream.{Stream}
@@ -23,16 +22,16 @@ Told O = Result (Option (ℕ × O)) Why.Stop
 -- what is told of what was taken
 abbrev pub Tells : {O : Type 0} → Taken O → Told O → Type 0
 Tells (Took.Item n o) r = r ≡ Ok (Some (n, o))
-Tells Took.Nothing r = r ≡ Err Stop.Nothing
-Tells (Took.Undecided k) r = r ≡ Err (Stop.Incomplete k)
-Tells (Took.Refused e n) r = r ≡ Err (Stop.Refused e n)
-Tells (Took.Failed e n) r = r ≡ Err (Stop.Failed e n)
-Tells Took.OutOfMemory r = r ≡ Err Stop.OutOfMemory
+Tells Took.Nothing r = r ≡ Err Stopped.Nothing
+Tells (Took.Undecided k) r = r ≡ Err (Stopped.Incomplete k)
+Tells (Took.Refused e n) r = r ≡ Err (Stopped.Refused e n)
+Tells (Took.Failed e n) r = r ≡ Err (Stopped.Failed e n)
+Tells Took.OutOfMemory r = r ≡ Err Stopped.OutOfMemory
 
 -- what is told where bytes couldn't be read
 abbrev pub stop_of : Unread → Why.Stop
-stop_of (Unread.Fault e) = Stop.Fault e
-stop_of Unread.OutOfMemory = Stop.OutOfMemory
+stop_of (Unread.Fault e) = Stopped.Fault e
+stop_of Unread.OutOfMemory = Stopped.OutOfMemory
 
 -- the offset after an answer: an item's bytes are counted, up to the greatest `u64`
 abbrev pub counted : {O : Type 0} → ℕ → Told O → ℕ
@@ -115,7 +114,7 @@ module _ {R A V O : Type 0} (IsItem : V → O → Type 0) (m : Meaning Bytes V (
     -- nothing is held
     Clean : held_of s.held ≡ [] → held_of t.held ≡ [] → r ≡ Ok None → Ends k r
     -- the data ended within an item
-    Within : 0 < length (held_of s.held) → s.settings.complete ≡ false → held_of t.held ≡ held_of s.held → r ≡ Err (Stop.Incomplete k) → Ends k r
+    Within : 0 < length (held_of s.held) → s.settings.complete ≡ false → held_of t.held ≡ held_of s.held → r ≡ Err (Stopped.Incomplete k) → Ends k r
     -- or what is held is parsed as a complete input
     Completed : 0 < length (held_of s.held) → s.settings.complete ≡ true → (taken : Taken O) → Takes IsItem m false (held_of s.held) (held_of t.held) taken →
         HoldsLast (held_of s.held) t.held taken → Tells taken r → Ends k r
@@ -128,7 +127,7 @@ module _ {R A V O : Type 0} (IsItem : V → O → Type 0) (m : Meaning Bytes V (
     -- the reader is at its end
     AtEnd : s.ended ≡ true → (k : Needed) → Takes IsItem m true (held_of s.held) (held_of s.held) (Took.Undecided k) → Ends k r → Answers r
     -- as many bytes are held as may be, and don't decide
-    Full : s.settings.most ≤ length (held_of s.held) → held_of t.held ≡ held_of s.held → Waits IsItem m (held_of s.held) → r ≡ Err Stop.TooLong → Answers r
+    Full : s.settings.most ≤ length (held_of s.held) → held_of t.held ≡ held_of s.held → Waits IsItem m (held_of s.held) → r ≡ Err Stopped.TooLong → Answers r
     -- it wasn't decided by the bytes before the last ones, and more couldn't be read
     Unfilled : (why : Unread) → (why ≡ Unread.OutOfMemory → LacksRoom s) → held_of t.held ≡ held_of s.held → (before last : List ℕ) →
         held_of s.held ≡ before ++ last → Waits IsItem m before → r ≡ Err (stop_of why) → Answers r

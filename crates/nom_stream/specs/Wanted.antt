@@ -1,8 +1,7 @@
 -- How many bytes are waited for.
 use Rattle.std.specs.Prelude.{ℕ, max, if◌then◌else◌}
 use Rattle.std.specs.Int.NonZero.{non_zero_usize_get}
-use Rattle.nom_error.specs.declared.answer.Needed.{Needed}
-use Rattle.nom_error.specs.declared.answer.Needed.TheVariants.{Unknown, Size}
+use Rattle.nom_internal.specs.Prelude.{Needed, Unknown, Size}
 use Rattle.nom_stream.specs.declared.settings.Settings.{Settings}
 
 -- Where some bytes are held and don't decide: as many as the parser needs. Where it doesn't tell, as many as are held, so that they

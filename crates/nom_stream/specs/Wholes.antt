@@ -1,15 +1,10 @@
 -- What the items of a stream are of the whole of its data.
 use Rattle.std.specs.Prelude.{◌≡◌, ℕ, ◌+◌, ◌-◌, ◌^◌, ◌≤◌, min, ◌⊎◌, Bool, true, false, List, [], ◌∷◌, ◌++◌, length, take, Option, Some, None, Ok, Err}
 use Rattle.std.specs.List.{AllZip}
-use Rattle.nom_error.specs.Answers.{size_of}
+use Rattle.nom_internal.specs.Prelude.{size_of, bytes_model, IsSuffixOf, Outcome, Accept, Refuse, Stop, Fails, Needs, Outright, TooLarge, Meaning}
 use Rattle.nom_error.specs.declared.value.Error.{Error}
-use Rattle.nom_traits.specs.Bytes.{bytes_model}
-use Rattle.nom_traits.specs.Input.{IsSuffixOf}
-use Rattle.nom_internal.specs.Outcome.{Outcome}
-use Rattle.nom_internal.specs.Outcome.Outcome.{Accept, Refuse, Fail, TooLarge, Undecided}
-use Rattle.nom_internal.specs.Meaning.{Meaning}
 use Rattle.nom_iterator.specs.Iterated.{AreItems}
-use Rattle.nom_stream.specs.declared.stream.Stop.TheVariants as Stop
+use Rattle.nom_stream.specs.declared.stream.Stop.TheVariants as Stopped
 use Rattle.nom_stream.specs.declared.stream.Stream.{Stream}
 use Rattle.nom_stream.specs.Held.{held_of, last_of}
 use Rattle.nom_stream.specs.Items.{Bytes}
@@ -39,32 +34,32 @@ used_by (r ∷ rs) = used_of r + used_by rs
 abbrev pub IsLacking : {V : Type 0} → Outcome V → Type 0
 IsLacking (Accept n v) = ⊥
 IsLacking Refuse = ⊥
-IsLacking Fail = ⊥
-IsLacking TooLarge = ⊥
-IsLacking (Undecided k) = Unit {0}
+IsLacking (Stop (Fails cause)) = ⊥
+IsLacking (Stop (Needs k)) = Unit {0}
 
 module _ {V : Type 0} (m : Meaning Bytes V (Error Bytes)) where
   -- The outcome at an input after which nothing comes: the streaming one, as `iterator` has it; or (true) where more is needed, the
   -- complete one.
   abbrev pub AtWhole : (complete : Bool) → Bytes → Outcome V → Type 0
   AtWhole false i p = m.answers true i p
-  AtWhole true i p = (m.answers true i p × (IsLacking p → ⊥)) ⊎ ((k : Option ℕ) × m.answers true i (Undecided k) × m.answers false i p)
+  AtWhole true i p = (m.answers true i p × (IsLacking p → ⊥)) ⊎ ((k : Option ℕ) × m.answers true i (Stop (Needs k)) × m.answers false i p)
 
   -- a failure: of the whole, or since what is lacking of a beginning is too large
-  abbrev pub Fails : Bytes → Outcome V → Type 0
-  Fails i p = (p ≡ Fail) ⊎ (p ≡ TooLarge) ⊎ ((x : Bytes) × (more : List ℕ) × (i.now ≡ x.now ++ more) × m.answers true x TooLarge)
+  abbrev pub TellsFailure : Bytes → Outcome V → Type 0
+  TellsFailure i p = (p ≡ Stop (Fails Outright)) ⊎ (p ≡ Stop (Fails TooLarge)) ⊎
+      ((x : Bytes) × (more : List ℕ) × (i.now ≡ x.now ++ more) × m.answers true x (Stop (Fails TooLarge)))
 
 -- What an answer tells of the outcome p at i, the bytes that no item had before; t is the stream after it.
 abbrev pub TellsWhole : {R A V O : Type 0} → (V → O → Type 0) → Meaning Bytes V (Error Bytes) → Stream R A → Told O → Bytes → Outcome V → Type 0
 TellsWhole {V = V} IsItem m t (Ok (Some (n, o))) i p = (v : V) × IsItem v o × (Accept n v ≡ p)
-TellsWhole IsItem m t (Ok None) i p = (i.now ≡ []) × (k : Option ℕ) × m.answers true i (Undecided k)
-TellsWhole IsItem m t (Err (Stop.Refused e at)) i p = p ≡ Refuse
-TellsWhole IsItem m t (Err (Stop.Failed e at)) i p = Fails m i p
-TellsWhole {V = V} IsItem m t (Err Stop.Nothing) i p = (v : V) × (Accept 0 v ≡ p)
-TellsWhole IsItem m t (Err (Stop.Incomplete k)) i p = (held_of t.held ≡ i.now) × (Undecided (size_of k) ≡ p)
-TellsWhole IsItem m t (Err Stop.TooLong) i p = t.settings.most ≤ length (held_of t.held)
-TellsWhole IsItem m t (Err (Stop.Fault e)) i p = Unit {0}
-TellsWhole IsItem m t (Err Stop.OutOfMemory) i p = Unit {0}
+TellsWhole IsItem m t (Ok None) i p = (i.now ≡ []) × (k : Option ℕ) × m.answers true i (Stop (Needs k))
+TellsWhole IsItem m t (Err (Stopped.Refused e at)) i p = p ≡ Refuse
+TellsWhole IsItem m t (Err (Stopped.Failed e at)) i p = TellsFailure m i p
+TellsWhole {V = V} IsItem m t (Err Stopped.Nothing) i p = (v : V) × (Accept 0 v ≡ p)
+TellsWhole IsItem m t (Err (Stopped.Incomplete k)) i p = (held_of t.held ≡ i.now) × (Stop (Needs (size_of k)) ≡ p)
+TellsWhole IsItem m t (Err Stopped.TooLong) i p = t.settings.most ≤ length (held_of t.held)
+TellsWhole IsItem m t (Err (Stopped.Fault e)) i p = Unit {0}
+TellsWhole IsItem m t (Err Stopped.OutOfMemory) i p = Unit {0}
 
 module _ {R A V O : Type 0} (left : R → Option (List ℕ)) (IsItem : V → O → Type 0) (m : Meaning Bytes V (Error Bytes)) where
   -- calls of `next_item`, one after another, and what each answered

@@ -2,7 +2,7 @@
 ghost use Rattle.std.specs.Prelude.{◌≡◌, ℕ, List};
 ghost use Rattle.std.specs.Borrow.{Bor};
 ghost use Rattle.nom_error.specs.declared.value.Error.{Error};
-ghost use Rattle.nom_internal.specs.Meaning.{Meaning, IsLawful, IsSteady};
+ghost use Rattle.nom_internal.specs.Prelude.{Meaning, IsLawful, IsSteady};
 ghost use Rattle.nom_stream.specs.Items.{ParsesItem};
 
 use nom_error::answer::IResult;

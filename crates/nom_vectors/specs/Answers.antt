@@ -1,9 +1,7 @@
 -- What a row says of an answer that isn't an acceptance.
 use Rattle.std.specs.Prelude.{◌≡◌, ℕ, Option}
-use Rattle.nom_error.specs.Answers.{size_of}
-use Rattle.nom_error.specs.declared.answer.Needed.{Needed}
+use Rattle.nom_internal.specs.Prelude.{size_of, Needed, Incomplete, Error, Failure, OutOfMemory}
 use Rattle.nom_error.specs.declared.answer.Err.{Err}
-use Rattle.nom_error.specs.declared.answer.Err.TheVariants.{Incomplete, Error, Failure, OutOfMemory}
 
 -- a refusal whose error is such
 abbrev pub IsRefusal : {E : Type 0} → (E → Type 0) → Err E E Needed → Type 0

@@ -1,6 +1,6 @@
 //! What a row says of an answer.
 ghost use Rattle.std.specs.Prelude.{◌≡◌, ◌↔◌, IsTrue, MatchResult};
-ghost use Rattle.nom_error.specs.Answers.{size_of};
+ghost use Rattle.nom_internal.specs.Prelude.{size_of};
 ghost use Rattle.nom_error.specs.Kinds.{kind_number};
 ghost use Rattle.nom_vectors.specs.Answers.{AsksFor, IsFailure, IsRefusal};
 

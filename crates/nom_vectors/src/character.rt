@@ -1,6 +1,6 @@
 //! Rows of characters and decimal integers.
 
-ghost use Rattle.nom_traits.specs.Text.{text_model};
+ghost use Rattle.nom_internal.specs.Prelude.{text_model};
 ghost use Rattle.nom_growing.specs.Growing.{AreCuts};
 
 use crate::answers::{Answers, answers_of, needs, of_function, refuses};

@@ -3,11 +3,8 @@ use Rattle.std.specs.Prelude.{◌≡◌, ◌==◌, Some}
 use Rattle.std.specs.Char.{IsScalar, len_utf8}
 use Rattle.std.proofs.Common.{sym, ◌∙◌}
 use Rattle.std.proofs.lemmas.Slice.Zip.{AllZip-long}
-use Rattle.nom_traits.specs.Text.{text_model, text_lawful, text_values}
-use Rattle.nom_traits.specs.View.{itself}
-use Rattle.nom_internal.specs.Meaning.{IsLawful}
+use Rattle.nom_internal.specs.Prelude.{text_model, text_lawful, text_values, itself, IsLawful, IsPinned}
 use Rattle.nom_internal.specs.laws.MappedLaws.{map_lawful}
-use Rattle.nom_internal.specs.Pinned.{IsPinned}
 use Rattle.nom_character_first.specs.declared.first.Blame.TheVariants.{OfChar}
 use Rattle.nom_character_first.specs.laws.FirstItemLaws.{test_is_fixed, first_item_lawful}
 use Rattle.nom_multi.specs.laws.ManyLaws.{many0_lawful}

@@ -4,11 +4,7 @@ use Rattle.std.specs.Borrow.{Bor}
 use Rattle.std.specs.List.{AllZip}
 use Rattle.nom_error.specs.declared.kind.ErrorKind.TheVariants.{Char}
 use Rattle.nom_error.specs.declared.value.Error.{Error}
-use Rattle.nom_error.specs.Errors.{Errors}
-use Rattle.nom_traits.specs.Text.{text_model}
-use Rattle.nom_internal.specs.Meaning.{Meaning}
-use Rattle.nom_internal.specs.Closures.{GivesFor}
-use Rattle.nom_internal.specs.Mapped.{map_meaning}
+use Rattle.nom_internal.specs.Prelude.{Errors, text_model, Meaning, GivesFor, map_meaning}
 use Rattle.nom_character_first.specs.FirstItem.{char_meaning}
 use Rattle.nom_multi.specs.Many.{many0_meaning}
 

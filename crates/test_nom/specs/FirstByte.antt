@@ -3,10 +3,7 @@ use Rattle.std.specs.Prelude.{◌≡◌, ℕ, ◌-◌, List, ◌∷◌, Option, 
 use Rattle.std.specs.Borrow.{Bor}
 use Rattle.nom_error.specs.declared.kind.ErrorKind.TheVariants.{Eof}
 use Rattle.nom_error.specs.declared.value.Error.{Error}
-use Rattle.nom_traits.specs.Bytes.{bytes_model}
-use Rattle.nom_traits.specs.Slices.{Slice}
-use Rattle.nom_internal.specs.Meaning.{Meaning, IsLawful}
-use Rattle.nom_internal.specs.Leaf.{leaf_meaning, leaf_lawful}
+use Rattle.nom_internal.specs.Prelude.{bytes_model, Slice, Meaning, IsLawful, leaf_meaning, leaf_lawful}
 use Rattle.nom_bytes.specs.Takes.{takes}
 use Rattle.nom_bytes.specs.laws.TakeLaws.{take_laws}
 

@@ -1,7 +1,7 @@
 -- The rest after a parser that consumes nothing.
 use Rattle.std.specs.Prelude.{[], refl}
 use Rattle.std.proofs.Common.{sym}
-use Rattle.nom_traits.specs.Input.{Model, InputLaws, IsSuffixOf}
+use Rattle.nom_internal.specs.Prelude.{Model, InputLaws, IsSuffixOf}
 
 -- an input is its own rest, where nothing was consumed
 pub rest_here : {I A : Type 0} (w : Model I A) → InputLaws w → (i : I) → w.IsKnown i → IsSuffixOf w i 0 i

@@ -1,10 +1,7 @@
 -- The laws of a part whose outputs a closure maps, which may take memory.
 use Rattle.std.specs.Prelude.{true, refl, Result}
 use Rattle.nom_error.specs.declared.answer.OutOfMemory.{OutOfMemory}
-use Rattle.nom_traits.specs.Input.{Model}
-use Rattle.nom_internal.specs.Outcome.{Outcome}
-use Rattle.nom_internal.specs.Outcome.Outcome.{Accept, Refuse, Fail, TooLarge, Undecided}
-use Rattle.nom_internal.specs.Meaning.{Meaning, IsLawful, IsSteady}
+use Rattle.nom_internal.specs.Prelude.{Model, Outcome, Accept, Refuse, Stop, Meaning, IsLawful, IsSteady}
 use Rattle.nom_internal.specs.laws.CaseLaws.{CaseLaws, fixed_laws, case_lawful, case_steady}
 use Rattle.nom_alloc.specs.MapAlloc.{LacksMemory, TakesNoMemory, map_alloc_case, map_alloc_meaning}
 
@@ -12,9 +9,7 @@ never_lacks : {V P R : Type 0} (IsOutput : V → P → Type 0) (Gives : P → Re
     LacksMemory IsOutput Gives a → ⊥
 never_lacks IsOutput Gives (Accept n v) f h = f h.0 h.1 h.3
 never_lacks IsOutput Gives Refuse f h = h
-never_lacks IsOutput Gives Fail f h = h
-never_lacks IsOutput Gives TooLarge f h = h
-never_lacks IsOutput Gives (Undecided k) f h = h
+never_lacks IsOutput Gives (Stop why) f h = h
 
 module _ {I A V P R : Type 0} (w : Model I A) (IsOutput : V → P → Type 0) (Takes : P → Type 0) (Gives : P → Result R OutOfMemory → Type 0) where
   map_alloc_laws : {E : Type 0} → CaseLaws {E = E} true w w (map_alloc_case IsOutput Takes Gives)

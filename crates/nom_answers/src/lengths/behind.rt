@@ -1,5 +1,5 @@
 //! What stands after a length of any kind.
-ghost use Rattle.nom_internal.specs.Families.{IsOne};
+ghost use Rattle.nom_internal.specs.Prelude.{IsOne};
 ghost use Rattle.nom_multi_length.specs.Lengths.{HasSize};
 
 use crate::lengths::calls::{Call, Kind, Part};

@@ -252,19 +252,21 @@ fn untold<I: Input<Item = u8> + AsBytes>(question: Question<I>, kind: &str) -> O
     }
 }
 
-/// What a number of a type answers in an order, by the type's place.
-fn placed<I: Input<Item = u8> + AsBytes>(
-    question: Question<I>,
-    big: bool,
-    kind: usize,
-) -> Option<Answer> {
-    match (question.module, big) {
-        (Module::Top, true) => big_top(question, kind),
-        (Module::Complete, true) => big_complete(question, kind),
-        (Module::Streaming, true) => big_streaming(question, kind),
-        (Module::Top, false) => little_top(question, kind),
-        (Module::Complete, false) => little_complete(question, kind),
-        (Module::Streaming, false) => little_streaming(question, kind),
+/// What a number of a type answers, by the type's place, the highest byte first, in the module of the question.
+fn big<I: Input<Item = u8> + AsBytes>(question: Question<I>, kind: usize) -> Option<Answer> {
+    match question.module {
+        Module::Top => big_top(question, kind),
+        Module::Complete => big_complete(question, kind),
+        Module::Streaming => big_streaming(question, kind),
+    }
+}
+
+/// The same, the lowest byte first.
+fn little<I: Input<Item = u8> + AsBytes>(question: Question<I>, kind: usize) -> Option<Answer> {
+    match question.module {
+        Module::Top => little_top(question, kind),
+        Module::Complete => little_complete(question, kind),
+        Module::Streaming => little_streaming(question, kind),
     }
 }
 
@@ -275,8 +277,8 @@ pub fn integer<I: Input<Item = u8> + AsBytes>(question: Question<I>, call: &str)
     let question = Question { module, ..question };
     let kinds = "u8 u16 u24 u32 u64 u128 i8 i16 i24 i32 i64 i128";
     match order {
-        Order::Big => placed(question, true, place_of(kinds, kind)?),
-        Order::Little => placed(question, false, place_of(kinds, kind)?),
+        Order::Big => big(question, place_of(kinds, kind)?),
+        Order::Little => little(question, place_of(kinds, kind)?),
         Order::Given(endian) => given(question, kind, endian),
         Order::Untold => untold(question, kind),
     }

@@ -1,15 +1,10 @@
 -- The laws of parsers of bits among parsers of bytes, and of bytes among parsers of bits.
 use Rattle.std.specs.Prelude.{◌≡◌, ℕ, ◌+◌, ◌*◌, Bool, true, false, ◌++◌, Option, Some, None, refl}
 use Rattle.std.proofs.Common.{arith, sym, ◌∙◌, ap, subst, inl, inr, append_assoc}
-use Rattle.nom_error.specs.Errors.{Errors}
-use Rattle.nom_traits.specs.Input.{Model, InputLaws, IsBoundary, IsSuffixOf, IsSame, Related}
-use Rattle.nom_traits.specs.Rests.{rest_alike, items_len-append, items_len-ones}
-use Rattle.nom_traits.specs.Slices.{IsCount}
-use Rattle.nom_traits.specs.Bits.{all_bits, AreBytes, bits_model}
+use Rattle.nom_internal.specs.Prelude.{Errors, Model, InputLaws, IsBoundary, IsSuffixOf, IsSame, Related, rest_alike, items_len-append, items_len-ones, IsCount}
+use Rattle.nom_internal.specs.Prelude.{all_bits, AreBytes, bits_model, Outcome, Cause, Accept, Refuse, Stop, Fails, Needs, Outright, TooLarge, IsDecided}
+use Rattle.nom_internal.specs.Prelude.{Meaning, IsLawful, IsSteady}
 use Rattle.nom_traits.specs.BitLists.{length-all_bits}
-use Rattle.nom_internal.specs.Outcome.{Outcome, IsDecided, failure}
-use Rattle.nom_internal.specs.Outcome.Outcome.{Accept, Refuse, Fail, TooLarge, Undecided}
-use Rattle.nom_internal.specs.Meaning.{Meaning, IsLawful, IsSteady}
 use Rattle.nom_internal.specs.laws.CaseLaws.{CaseLaws, case_lawful, case_steady}
 use Rattle.nom_bits.specs.BitRests.{all_bits-append, bits_ahead, same_counts, same_lengths, as_bits, same_ahead, ahead_related}
 use Rattle.nom_bits.specs.Bridges.{BitsBecome, BytesAccept, BytesBecome, IsTooLarge, BitsNeeded, OnTooLarge, bits_case, bits_meaning, BytesBlame}
@@ -19,9 +14,8 @@ use Rattle.nom_bits.specs.Bridges.{bytes_case, bytes_meaning}
 not_asked : {T : Type 0} (Fact : Type 0) (a : Outcome T) → (Fact → ⊥) → OnTooLarge Fact a → ⊥
 not_asked Fact (Accept n t) f h = h
 not_asked Fact Refuse f h = h
-not_asked Fact Fail f h = h
-not_asked Fact TooLarge f h = h
-not_asked Fact (Undecided k) f h = f h.1
+not_asked Fact (Stop (Fails cause)) f h = h
+not_asked Fact (Stop (Needs k)) f h = f h.1
 
 -- one need in bits, which isn't too large
 one_need : (k i j : Option ℕ) → BitsNeeded k i → BitsNeeded k j → i ≡ j
@@ -44,42 +38,31 @@ module _ {I : Type 0} (w : Model I ℕ) (l : InputLaws w) {T : Type 0} where
   bits_keeps : (i : I) (a o : Outcome T) → BitsBecome w i a o → IsDecided o → IsDecided a
   bits_keeps i (Accept n t) o b d = tt
   bits_keeps i Refuse o b d = tt
-  bits_keeps i Fail o b d = tt
-  bits_keeps i TooLarge o b d = subst (λ z. IsDecided z) b d
-  bits_keeps i (Undecided k) o b d = subst (λ z. IsDecided z) b d
+  bits_keeps i (Stop (Fails cause)) o b d = subst (λ z. IsDecided z) b d
+  bits_keeps i (Stop (Needs k)) o b d = subst (λ z. IsDecided z) b d
 
   bits_same : (longer : Bool) (x y : I) (a o p : Outcome T) → Related w longer x y → BitsBecome w x a o → BitsBecome w y a p → o ≡ p
   bits_same longer x y (Accept n t) o p r s u = s.2 ∙ (ap (λ m. Accept m t) (same_lengths w l longer x y _ s.0 u.0 r s.1 u.1) ∙ sym u.2)
   bits_same longer x y Refuse o p r s u = s ∙ sym u
-  bits_same longer x y Fail o p r s u = s ∙ sym u
-  bits_same longer x y TooLarge o p r s u = s ∙ sym u
-  bits_same longer x y (Undecided k) o p r s u = s ∙ sym u
+  bits_same longer x y (Stop (Fails cause)) o p r s u = s ∙ sym u
+  bits_same longer x y (Stop (Needs k)) o p r s u = s ∙ sym u
 
   bits_alike : (x y : I) (a o : Outcome T) → IsSame w x y → BitsBecome w x a o → BitsBecome w y a o
   bits_alike x y (Accept n t) o r s = (s.0, count_alike w x y _ s.0 r s.1, s.2)
   bits_alike x y Refuse o r s = s
-  bits_alike x y Fail o r s = s
-  bits_alike x y TooLarge o r s = s
-  bits_alike x y (Undecided k) o r s = s
+  bits_alike x y (Stop why) o r s = s
 
   bits_place_of : (i : I) (a : Outcome T) (n : ℕ) (t : T) → BitsBecome w i a (Accept n t) → IsBoundary w i n
   bits_place_of i (Accept m u) n t s = let same : s.0 ≡ n = cc (s.2) in subst (λ k. IsBoundary w i k) same s.1.place
   bits_place_of i Refuse n t s = absurd (cc (s))
-  bits_place_of i Fail n t s = absurd (cc (s))
-  bits_place_of i TooLarge n t s = absurd (cc (s))
-  bits_place_of i (Undecided k) n t s = absurd (cc (s))
+  bits_place_of i (Stop (Fails cause)) n t s = absurd (cc (s))
+  bits_place_of i (Stop (Needs k)) n t s = absurd (cc (s))
 
-  bits_fails : (large : Bool) (i : I) (a : Outcome T) → BitsBecome w i a (failure large) → a ≡ failure large
-  bits_fails true i (Accept n t) s = absurd (cc (s.2))
-  bits_fails true i Refuse s = absurd (cc (s))
-  bits_fails true i Fail s = absurd (cc (s))
-  bits_fails true i TooLarge s = refl
-  bits_fails true i (Undecided k) s = absurd (cc (s))
-  bits_fails false i (Accept n t) s = absurd (cc (s.2))
-  bits_fails false i Refuse s = absurd (cc (s))
-  bits_fails false i Fail s = refl
-  bits_fails false i TooLarge s = absurd (cc (s))
-  bits_fails false i (Undecided k) s = absurd (cc (s))
+  bits_fails : (cause : Cause) (i : I) (a : Outcome T) → BitsBecome w i a (Stop (Fails cause)) → a ≡ Stop (Fails cause)
+  bits_fails cause i (Accept n t) s = absurd (cc (s.2))
+  bits_fails cause i Refuse s = absurd (cc (s))
+  bits_fails cause i (Stop (Fails x)) s = cc (s)
+  bits_fails cause i (Stop (Needs k)) s = cc (s)
 
   module _ {E F : Type 0} (Converts : E → F → Type 0) where
     bits_laws : CaseLaws true w (bits_model w) (bits_case {T = T} w Converts)
@@ -92,7 +75,7 @@ module _ {I : Type 0} (w : Model I ℕ) (l : InputLaws w) {T : Type 0} where
       same = λ longer stays x y a o p kx ky r s k u. bits_same longer x y a o p r s u;
       alike = λ x y a o kx ky r s. bits_alike x y a o r s;
       place = λ i j a n t h e place s. bits_place_of i a n t s;
-      never_fails = λ Part large i a g s. (g, bits_fails large i a s);
+      never_fails = λ Part cause i a g s. (g, bits_fails cause i a s);
       blames = λ i a X Y f h b. (b.0, b.1, h b.0 b.2, b.3);
       part_frugal = λ Part mode h. h;
       asks_none = λ Part mode i a h g. g;
@@ -103,10 +86,10 @@ module _ {I : Type 0} (w : Model I ℕ) (l : InputLaws w) {T : Type 0} where
     bytes_keeps : (i : I × ℕ) (a o : Outcome T) → BytesBecome w i a o → IsDecided o → IsDecided a
     bytes_keeps i (Accept n t) o b d = tt
     bytes_keeps i Refuse o b d = tt
-    bytes_keeps i Fail o b d = tt
-    bytes_keeps i TooLarge o b d = subst (λ z. IsDecided z) b d
-    bytes_keeps i (Undecided k) o (inl b) d = subst (λ z. IsDecided z) b.1 d
-    bytes_keeps i (Undecided k) o (inr b) d = subst (λ z. IsDecided z) b.2 d
+    bytes_keeps i (Stop (Fails Outright)) o b d = tt
+    bytes_keeps i (Stop (Fails TooLarge)) o b d = subst (λ z. IsDecided z) b d
+    bytes_keeps i (Stop (Needs k)) o (inl b) d = subst (λ z. IsDecided z) b.1 d
+    bytes_keeps i (Stop (Needs k)) o (inr b) d = subst (λ z. IsDecided z) b.2 d
 
     accept_same : (longer : Bool) (x y : I × ℕ) (n : ℕ) (t : T) (o p : Outcome T) → Related (bits_model w) longer x y → BytesAccept w x n t o →
         BytesAccept w y n t p → o ≡ p
@@ -118,12 +101,11 @@ module _ {I : Type 0} (w : Model I ℕ) (l : InputLaws w) {T : Type 0} where
     bytes_same : (longer : Bool) (x y : I × ℕ) (a o p : Outcome T) → Related (bits_model w) longer x y → BytesBecome w x a o → BytesBecome w y a p → o ≡ p
     bytes_same longer x y (Accept n t) o p r s u = accept_same longer x y n t o p r s u
     bytes_same longer x y Refuse o p r s u = s ∙ sym u
-    bytes_same longer x y Fail o p r s u = s ∙ sym u
-    bytes_same longer x y TooLarge o p r s u = s ∙ sym u
-    bytes_same longer x y (Undecided k) o p r (inl s) (inl u) = s.1 ∙ sym u.1
-    bytes_same longer x y (Undecided k) o p r (inl s) (inr u) = absurd (too_many k u.0 s.0 u.1)
-    bytes_same longer x y (Undecided k) o p r (inr s) (inl u) = absurd (too_many k s.0 u.0 s.1)
-    bytes_same longer x y (Undecided k) o p r (inr s) (inr u) = s.2 ∙ (ap (λ j. Undecided j) (one_need k s.0 u.0 s.1 u.1) ∙ sym u.2)
+    bytes_same longer x y (Stop (Fails cause)) o p r s u = s ∙ sym u
+    bytes_same longer x y (Stop (Needs k)) o p r (inl s) (inl u) = s.1 ∙ sym u.1
+    bytes_same longer x y (Stop (Needs k)) o p r (inl s) (inr u) = absurd (too_many k u.0 s.0 u.1)
+    bytes_same longer x y (Stop (Needs k)) o p r (inr s) (inl u) = absurd (too_many k s.0 u.0 s.1)
+    bytes_same longer x y (Stop (Needs k)) o p r (inr s) (inr u) = s.2 ∙ (ap (λ j. Stop (Needs j)) (one_need k s.0 u.0 s.1 u.1) ∙ sym u.2)
 
     accept_alike : (x y : I × ℕ) (n : ℕ) (t : T) (o : Outcome T) → IsSame (bits_model w) x y → BytesAccept w x n t o → BytesAccept w y n t o
     accept_alike x y n t o r s =
@@ -139,9 +121,7 @@ module _ {I : Type 0} (w : Model I ℕ) (l : InputLaws w) {T : Type 0} where
     bytes_alike : (x y : I × ℕ) (a o : Outcome T) → IsSame (bits_model w) x y → BytesBecome w x a o → BytesBecome w y a o
     bytes_alike x y (Accept n t) o r s = accept_alike x y n t o r s
     bytes_alike x y Refuse o r s = s
-    bytes_alike x y Fail o r s = s
-    bytes_alike x y TooLarge o r s = s
-    bytes_alike x y (Undecided k) o r s = s
+    bytes_alike x y (Stop why) o r s = s
 
     accept_place : (i : I × ℕ) (m n : ℕ) (u t : T) → BytesAccept w i m u (Accept n t) → IsBoundary (bits_model w) i n
     accept_place i m n u t s =
@@ -167,23 +147,22 @@ module _ {I : Type 0} (w : Model I ℕ) (l : InputLaws w) {T : Type 0} where
     bytes_place : (i : I × ℕ) (a : Outcome T) (n : ℕ) (t : T) → BytesBecome w i a (Accept n t) → IsBoundary (bits_model w) i n
     bytes_place i (Accept m u) n t s = accept_place i m n u t s
     bytes_place i Refuse n t s = absurd (cc (s))
-    bytes_place i Fail n t s = absurd (cc (s))
-    bytes_place i TooLarge n t s = absurd (cc (s))
-    bytes_place i (Undecided k) n t (inl s) = absurd (cc (s.1))
-    bytes_place i (Undecided k) n t (inr s) = absurd (cc (s.2))
+    bytes_place i (Stop (Fails cause)) n t s = absurd (cc (s))
+    bytes_place i (Stop (Needs k)) n t (inl s) = absurd (cc (s.1))
+    bytes_place i (Stop (Needs k)) n t (inr s) = absurd (cc (s.2))
 
-    bytes_fails : (i : I × ℕ) (a : Outcome T) → BytesBecome w i a Fail → a ≡ Fail
+    bytes_fails : (i : I × ℕ) (a : Outcome T) → BytesBecome w i a (Stop (Fails Outright)) → a ≡ Stop (Fails Outright)
     bytes_fails i (Accept n t) s = absurd (cc (s.outcome_is))
     bytes_fails i Refuse s = absurd (cc (s))
-    bytes_fails i Fail s = refl
-    bytes_fails i TooLarge s = absurd (cc (s))
-    bytes_fails i (Undecided k) (inl s) = absurd (cc (s.1))
-    bytes_fails i (Undecided k) (inr s) = absurd (cc (s.2))
+    bytes_fails i (Stop (Fails cause)) s = cc (s)
+    bytes_fails i (Stop (Needs k)) (inl s) = absurd (cc (s.1))
+    bytes_fails i (Stop (Needs k)) (inr s) = absurd (cc (s.2))
 
-    only_fails : (Part : Bool → Type 0) (large : Bool) (i : I × ℕ) (a : Outcome T) → Part large × (large ≡ false) → BytesBecome w i a (failure large) →
-        Part large × (a ≡ failure large)
-    only_fails Part true i a g s = absurd (cc (g.1))
-    only_fails Part false i a g s = (g.0, bytes_fails i a s)
+    only_fails : (Part : Cause → Type 0) (cause : Cause) (i : I × ℕ) (a : Outcome T) → Part cause × (cause ≡ Outright) →
+        BytesBecome w i a (Stop (Fails cause)) →
+        Part cause × (a ≡ Stop (Fails cause))
+    only_fails Part TooLarge i a g s = absurd (cc (g.1))
+    only_fails Part Outright i a g s = (g.0, bytes_fails i a s)
 
     module _ {E F : Type 0} (errs : Errors (I × ℕ) F) (Converts : E → F → Type 0) where
       blames_more : (i : I × ℕ) (a : Outcome T) (X Y : E → Type 0) (f : F) → ((e : E) → X e → Y e) → BytesBlame w errs Converts i a X f →

@@ -2,13 +2,8 @@
 use Rattle.std.specs.Prelude.{◌≡◌, ℕ, ◌<◌, Bool, true, false, length, refl}
 use Rattle.std.proofs.Common.{sym, ◌∙◌, ap, subst, inl, inr, arith, length-append}
 use Rattle.nom_error.specs.declared.kind.ErrorKind.TheVariants as Kind
-use Rattle.nom_error.specs.Errors.{Errors}
-use Rattle.nom_traits.specs.Input.{Model, IsBoundary, Related}
-use Rattle.nom_traits.specs.Rests.{same_cut, items_len-ones}
-use Rattle.nom_traits.specs.Slices.{Slice, IsFirst, first_related}
-use Rattle.nom_traits.specs.Bits.{bits_model, spelled}
-use Rattle.nom_internal.specs.Meaning.{IsLawful, IsSteady}
-use Rattle.nom_internal.specs.Leaf.{LeafLaws, leaf_lawful, leaf_steady}
+use Rattle.nom_internal.specs.Prelude.{Errors, Model, IsBoundary, Related, same_cut, items_len-ones, Slice, IsFirst, first_related, bits_model, spelled}
+use Rattle.nom_internal.specs.Prelude.{IsLawful, IsSteady, LeafLaws, leaf_lawful, leaf_steady}
 use Rattle.nom_internal.specs.laws.CaseLaws.{labelled_lawful, labelled_steady}
 use Rattle.nom_bits.specs.Fields.{IsField, IsShort, fields, tagged_fields, take_meaning, tag_meaning, bool_meaning}
 

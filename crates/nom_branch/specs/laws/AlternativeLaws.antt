@@ -1,7 +1,5 @@
 -- The laws of choices among several parsers.
-use Rattle.nom_error.specs.Errors.{Errors}
-use Rattle.nom_traits.specs.Input.{Model}
-use Rattle.nom_internal.specs.Meaning.{Meaning, IsLawful, IsSteady}
+use Rattle.nom_internal.specs.Prelude.{Errors, Model, Meaning, IsLawful, IsSteady}
 use Rattle.nom_internal.specs.laws.CaseLaws.{closed_lawful, closed_steady}
 use Rattle.nom_internal.specs.laws.ChoiceLaws.{either_lawful, either_steady}
 use Rattle.nom_branch.specs.Alternatives.{next_meaning, choice_meaning}

@@ -1,14 +1,8 @@
 -- The laws of choices among the parsers of a list.
 use Rattle.std.specs.Prelude.{◌≡◌, ℕ, ◌+◌, List, [], ◌∷◌, map}
 use Rattle.std.proofs.Common.{sym, ◌∙◌, subst, zero, suc}
-use Rattle.nom_error.specs.Errors.{Errors}
-use Rattle.nom_traits.specs.Input.{Model}
-use Rattle.nom_traits.specs.View.{View}
-use Rattle.nom_internal.specs.Meaning.{Meaning, IsLawful, IsSteady}
-use Rattle.nom_internal.specs.Pinned.{IsPinned}
-use Rattle.nom_internal.specs.Leaf.{LeafLaws, leaf_lawful, leaf_steady}
+use Rattle.nom_internal.specs.Prelude.{Errors, Model, View, Meaning, IsLawful, IsSteady, IsPinned, LeafLaws, leaf_lawful, leaf_steady, or_meaning}
 use Rattle.nom_internal.specs.laws.CaseLaws.{labelled_lawful, labelled_steady, closed_lawful, closed_steady}
-use Rattle.nom_internal.specs.Choice.{or_meaning}
 use Rattle.nom_internal.specs.laws.ChoiceLaws.{or_lawful, or_steady}
 use Rattle.nom_branch_list.specs.Sound.{sound_before, sound_at}
 use Rattle.nom_branch_list.specs.Lists.{no_branch, branch_meaning, others_meaning, list_meaning, IsElementAt, Each, ListOutput}

@@ -3,11 +3,8 @@ use Rattle.std.specs.Prelude.{◌≡◌, ℕ, ◌-◌, ◌<◌, ◌≤◌, max, 
 use Rattle.std.specs.List.{All}
 use Rattle.std.proofs.Common.{arith, sym, ◌∙◌, ap, subst, append_assoc, append-nil, length-append, inl, inr}
 use Rattle.std.proofs.lemmas.List.Elements.{All-head, All-tail}
-use Rattle.nom_traits.specs.Input.{Model, Related, AreValues, items_len}
-use Rattle.nom_traits.specs.Runs.{Stops}
-use Rattle.nom_traits.specs.Slices.{Slice, first_place, same_count}
-use Rattle.nom_internal.specs.Meaning.{IsLawful, IsSteady}
-use Rattle.nom_internal.specs.Leaf.{LeafLaws, leaf_meaning, leaf_lawful, leaf_steady}
+use Rattle.nom_internal.specs.Prelude.{Model, Related, AreValues, items_len, Stops, Slice, first_place, same_count, IsLawful, IsSteady, LeafLaws, leaf_meaning}
+use Rattle.nom_internal.specs.Prelude.{leaf_lawful, leaf_steady}
 use Rattle.nom_bytes.specs.Predicates.{IsFixed}
 use Rattle.nom_bytes.specs.ParsedRuns.{IsWithin, IsAtBound, IsEnough, IsRunSlice, runs}
 

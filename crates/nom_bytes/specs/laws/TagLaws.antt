@@ -2,14 +2,9 @@
 use Rattle.std.specs.Prelude.{◌≡◌, ℕ, ◌-◌, Bool, true, false, ◌⊎◌, List, Some}
 use Rattle.std.proofs.Common.{sym, ◌∙◌, subst, inl, inr}
 use Rattle.nom_error.specs.declared.kind.ErrorKind.TheVariants as Kind
-use Rattle.nom_error.specs.Errors.{Errors}
-use Rattle.nom_traits.specs.declared.compare.CompareResult.{CompareResult}
+use Rattle.nom_internal.specs.Prelude.{Errors, CompareResult, Model, InputLaws, Related, items_len, first_place, first_related, same_length, CompareLaws}
+use Rattle.nom_internal.specs.Prelude.{IsLawful, IsSteady, LeafLaws, leaf_lawful, leaf_steady}
 use Rattle.nom_traits.specs.declared.compare.CompareResult.TheVariants as Compared
-use Rattle.nom_traits.specs.Input.{Model, InputLaws, Related, items_len}
-use Rattle.nom_traits.specs.Slices.{first_place, first_related, same_length}
-use Rattle.nom_traits.specs.Compares.{CompareLaws}
-use Rattle.nom_internal.specs.Meaning.{IsLawful, IsSteady}
-use Rattle.nom_internal.specs.Leaf.{LeafLaws, leaf_lawful, leaf_steady}
 use Rattle.nom_bytes.specs.Stays.{closed_stays, open_stays}
 use Rattle.nom_bytes.specs.Tags.{tags, tag_meaning}
 

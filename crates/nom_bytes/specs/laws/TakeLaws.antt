@@ -2,11 +2,8 @@
 use Rattle.std.specs.Prelude.{◌≡◌, ℕ, ◌<◌, List, length, Option}
 use Rattle.std.proofs.Common.{sym, ◌∙◌, subst}
 use Rattle.nom_error.specs.declared.kind.ErrorKind.TheVariants as Kind
-use Rattle.nom_error.specs.Errors.{Errors}
-use Rattle.nom_traits.specs.Input.{Model}
-use Rattle.nom_traits.specs.Slices.{first_place, first_related, first_fewer, same_count}
-use Rattle.nom_internal.specs.Meaning.{IsLawful, IsSteady}
-use Rattle.nom_internal.specs.Leaf.{LeafLaws, leaf_lawful, leaf_steady}
+use Rattle.nom_internal.specs.Prelude.{Errors, Model, first_place, first_related, first_fewer, same_count, IsLawful, IsSteady, LeafLaws, leaf_lawful}
+use Rattle.nom_internal.specs.Prelude.{leaf_steady}
 use Rattle.nom_bytes.specs.Stays.{closed_stays}
 use Rattle.nom_bytes.specs.Takes.{takes, take_meaning}
 

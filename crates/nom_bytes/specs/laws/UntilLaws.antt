@@ -2,12 +2,9 @@
 use Rattle.std.specs.Prelude.{◌≡◌, ℕ, ◌<◌, Bool, true, false, ◌⊎◌, List, Option, Some, None}
 use Rattle.std.proofs.Common.{sym, ◌∙◌, subst, inl, inr, arith}
 use Rattle.nom_error.specs.declared.kind.ErrorKind.TheVariants as Kind
-use Rattle.nom_error.specs.Errors.{Errors}
-use Rattle.nom_traits.specs.Input.{Model, InputLaws, Related}
-use Rattle.nom_traits.specs.Slices.{Slice, IsFirst, first_place, first_related, same_length}
+use Rattle.nom_internal.specs.Prelude.{Errors, Model, InputLaws, Related, Slice, IsFirst, first_place, first_related, same_length, IsLawful, IsSteady, LeafLaws}
+use Rattle.nom_internal.specs.Prelude.{leaf_lawful, leaf_steady}
 use Rattle.nom_search.specs.Substrings.{FindLaws}
-use Rattle.nom_internal.specs.Meaning.{IsLawful, IsSteady}
-use Rattle.nom_internal.specs.Leaf.{LeafLaws, leaf_lawful, leaf_steady}
 use Rattle.nom_bytes.specs.Stays.{closed_stays, open_stays}
 use Rattle.nom_bytes.specs.Untils.{untils, until_meaning}
 

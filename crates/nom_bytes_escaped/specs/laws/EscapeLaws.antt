@@ -1,13 +1,9 @@
 -- The laws of escapes.
 use Rattle.std.specs.Prelude.{◌≡◌, ℕ, Bool, true, false, Option, Some, None, zero, suc, refl}
 use Rattle.std.proofs.Common.{inl}
-use Rattle.nom_error.specs.Errors.{Errors}
+use Rattle.nom_internal.specs.Prelude.{Errors, Model, InputLaws, Outcome, Cause, Accept, Refuse, Stop, Fails, Needs, Meaning, IsLawful}
+use Rattle.nom_internal.specs.Prelude.{IsSteady, always, always_lawful}
 use Rattle.nom_error.specs.declared.kind.ErrorKind.TheVariants as Kind
-use Rattle.nom_traits.specs.Input.{Model, InputLaws}
-use Rattle.nom_internal.specs.Outcome.{Outcome, failure}
-use Rattle.nom_internal.specs.Outcome.Outcome.{Accept, Refuse, Fail, TooLarge, Undecided}
-use Rattle.nom_internal.specs.Meaning.{Meaning, IsLawful, IsSteady}
-use Rattle.nom_internal.specs.Families.{always, always_lawful}
 use Rattle.nom_internal.specs.laws.RecognizedLaws.{recognized_lawful, recognized_steady}
 use Rattle.nom_repeat.specs.Repeat.{Ran}
 use Rattle.nom_repeat.specs.Repeat.Turn.{Ends}
@@ -21,9 +17,7 @@ use Rattle.nom_bytes_escaped.specs.Escapes.{by_next_piece, escape_turn, OnReplie
 escape_decided : {V : Type 0} (k : ℕ) (a : Option (Outcome (NextPiece V))) → KeepsTurn true (escape_turn k a) → KeepsReply true a
 escape_decided k (Some (Accept n v)) h = tt
 escape_decided k (Some Refuse) h = tt
-escape_decided k (Some Fail) h = tt
-escape_decided k (Some TooLarge) h = h
-escape_decided k (Some (Undecided d)) h = h
+escape_decided k (Some (Stop why)) h = h
 escape_decided k None h = tt
 
 next_piece_ends : {V : Type 0} (v : NextPiece V) (k m : ℕ) (n : ℕ) (t : Option V) → Ends (Accept n t) ≡ by_next_piece v k m → n ≡ 0
@@ -37,18 +31,15 @@ next_piece_ends Done k m n t e = cc
 escape_ends : {V : Type 0} (k : ℕ) (a : Option (Outcome (NextPiece V))) (n : ℕ) (t : Option V) → Ends (Accept n t) ≡ escape_turn k a → EndsAt n a
 escape_ends k (Some (Accept m v)) n t e = inl (next_piece_ends v k m n t e)
 escape_ends k (Some Refuse) n t e = absurd (cc)
-escape_ends k (Some Fail) n t e = absurd (cc)
-escape_ends k (Some TooLarge) n t e = absurd (cc)
-escape_ends k (Some (Undecided d)) n t e = absurd (cc)
+escape_ends k (Some (Stop why)) n t e = absurd (cc)
 escape_ends k None n t e = cc
 
 on_fault : {V : Type 0} (Taken Unknown Last : Type 0) {P Q : Type 0} (a : Option (Outcome (NextPiece V))) → (Ran a → P → Q) →
     OnReplied Taken Unknown Last P a → OnReplied Taken Unknown Last Q a
 on_fault Taken Unknown Last (Some (Accept n v)) f h = h
 on_fault Taken Unknown Last (Some Refuse) f h = f tt h
-on_fault Taken Unknown Last (Some Fail) f h = f tt h
-on_fault Taken Unknown Last (Some TooLarge) f h = f tt h
-on_fault Taken Unknown Last (Some (Undecided d)) f h = h
+on_fault Taken Unknown Last (Some (Stop (Fails cause))) f h = f tt h
+on_fault Taken Unknown Last (Some (Stop (Needs d))) f h = h
 on_fault Taken Unknown Last None f h = h
 
 on_none : {V : Type 0} (Taken Unknown Last : Type 0) (a : Option (Outcome (NextPiece V))) → (Taken → ⊥) → (Unknown → ⊥) → (Last → ⊥) →
@@ -58,37 +49,24 @@ on_none Taken Unknown Last (Some (Accept n Other)) f g k h = g h
 on_none Taken Unknown Last (Some (Accept n Dangling)) f g k h = k h
 on_none Taken Unknown Last (Some (Accept n Done)) f g k h = h
 on_none Taken Unknown Last (Some Refuse) f g k h = h
-on_none Taken Unknown Last (Some Fail) f g k h = h
-on_none Taken Unknown Last (Some TooLarge) f g k h = h
-on_none Taken Unknown Last (Some (Undecided d)) f g k h = h
+on_none Taken Unknown Last (Some (Stop (Fails cause))) f g k h = h
+on_none Taken Unknown Last (Some (Stop (Needs d))) f g k h = h
 on_none Taken Unknown Last None f g k h = h
 
-next_piece_fails : {V : Type 0} (large : Bool) (v : NextPiece V) (k n : ℕ) → Ends (failure large) ≡ by_next_piece v k n → ⊥
-next_piece_fails true (Found v) k zero e = cc (e)
-next_piece_fails true (Found v) k (suc n) e = cc (e)
-next_piece_fails true Other zero n e = cc (e)
-next_piece_fails true Other (suc k) n e = cc (e)
-next_piece_fails true Dangling k n e = cc (e)
-next_piece_fails true Done k n e = cc (e)
-next_piece_fails false (Found v) k zero e = cc (e)
-next_piece_fails false (Found v) k (suc n) e = cc (e)
-next_piece_fails false Other zero n e = cc (e)
-next_piece_fails false Other (suc k) n e = cc (e)
-next_piece_fails false Dangling k n e = cc (e)
-next_piece_fails false Done k n e = cc (e)
+next_piece_fails : {V : Type 0} (cause : Cause) (v : NextPiece V) (k n : ℕ) → Ends (Stop (Fails cause)) ≡ by_next_piece v k n → ⊥
+next_piece_fails cause (Found v) k zero e = cc (e)
+next_piece_fails cause (Found v) k (suc n) e = cc (e)
+next_piece_fails cause Other zero n e = cc (e)
+next_piece_fails cause Other (suc k) n e = cc (e)
+next_piece_fails cause Dangling k n e = cc (e)
+next_piece_fails cause Done k n e = cc (e)
 
-escape_fails : {V : Type 0} (large : Bool) (k : ℕ) (a : Option (Outcome (NextPiece V))) → Ends (failure large) ≡ escape_turn k a → a ≡ Some (failure large)
-escape_fails large k (Some (Accept n v)) e = absurd (next_piece_fails large v k n e)
-escape_fails true k (Some Refuse) e = absurd (cc (e))
-escape_fails true k (Some Fail) e = absurd (cc (e))
-escape_fails true k (Some TooLarge) e = refl
-escape_fails true k (Some (Undecided d)) e = absurd (cc (e))
-escape_fails true k None e = absurd (cc (e))
-escape_fails false k (Some Refuse) e = absurd (cc (e))
-escape_fails false k (Some Fail) e = refl
-escape_fails false k (Some TooLarge) e = absurd (cc (e))
-escape_fails false k (Some (Undecided d)) e = absurd (cc (e))
-escape_fails false k None e = absurd (cc (e))
+escape_fails : {V : Type 0} (cause : Cause) (k : ℕ) (a : Option (Outcome (NextPiece V))) → Ends (Stop (Fails cause)) ≡ escape_turn k a →
+    a ≡ Some (Stop (Fails cause))
+escape_fails cause k (Some (Accept n v)) e = absurd (next_piece_fails cause v k n e)
+escape_fails cause k (Some Refuse) e = absurd (cc (e))
+escape_fails cause k (Some (Stop why)) e = cc (e)
+escape_fails cause k None e = absurd (cc (e))
 
 escape_rule_laws : {I V E : Type 0} (Gives : I → E → Type 0) (Grows : Type 0) (at : I → I → I) → RuleLaws (escape_rule {V = V} Gives Grows at)
 escape_rule_laws Gives Grows at = record {
@@ -98,7 +76,7 @@ escape_rule_laws Gives Grows at = record {
   part_frugal = λ Part mode k h. h.0;
   asks_none = λ Part mode k a h. on_none (mode.outputs ≡ true) ((k ≡ 0) × (mode.errors ≡ true) × Grows)
       ((mode.errors ≡ true) × Grows) a h.1 (λ p. h.2 p.1 p.2) (λ p. h.2 p.0 p.1);
-  never_fails = λ Part large k a h e. (h, escape_fails large k a e);
+  never_fails = λ Part cause k a h e. (h, escape_fails cause k a e);
 }
 
 module _ {I A U W E : Type 0} {w : Model I A} (l : InputLaws w) (errs : Errors I E) (IsControl : A → Type 0) {m : Meaning I U E} {g : Meaning I W E} where

@@ -1,12 +1,8 @@
 -- The laws of what stands at a place.
 use Rattle.std.specs.Prelude.{◌≡◌, ℕ, Bool, true, false, List, [], ◌∷◌, ◌++◌, length, Option, refl}
 use Rattle.std.proofs.Common.{arith, sym, ◌∙◌, ap, subst, length-append}
-use Rattle.nom_error.specs.Modes.{Modes}
-use Rattle.nom_traits.specs.Input.{Model, InputLaws, IsBoundary, Related}
-use Rattle.nom_internal.specs.Meaning.{Meaning, IsLawful, IsSteady}
-use Rattle.nom_internal.specs.Leaf.{LeafLaws, leaf_lawful, leaf_steady}
-use Rattle.nom_internal.specs.Success.{place_zero, success_lawful, success_steady}
-use Rattle.nom_internal.specs.Families.{IsLawfulFamily, AnyKey}
+use Rattle.nom_internal.specs.Prelude.{Modes, Model, InputLaws, IsBoundary, Related, Meaning, IsLawful, IsSteady, LeafLaws, leaf_lawful, leaf_steady}
+use Rattle.nom_internal.specs.Prelude.{place_zero, success_lawful, success_steady, IsLawfulFamily, AnyKey, Cause}
 use Rattle.nom_internal.specs.laws.SequenceLaws.{then_lawful, then_steady}
 use Rattle.nom_internal.specs.laws.ChoiceLaws.{otherwise_lawful, otherwise_steady}
 use Rattle.nom_internal.specs.laws.CaseLaws.{labelled_lawful, labelled_steady}
@@ -161,17 +157,17 @@ module _ {I A W E : Type 0} (U : Type 0) (w : Model I A) (g : Meaning I W E) whe
   control_settles h Control.Last = tt
   control_settles h (Control.Before u) = h
 
-  control_never : (large : Bool) → g.NeverFails large → (c : Control (Unit {0})) → (by_control {U = U} g c).NeverFails large
-  control_never large h Control.None = tt
-  control_never large h Control.Last = tt
-  control_never large h (Control.Before u) = h
+  control_never : (cause : Cause) → g.NeverFails cause → (c : Control (Unit {0})) → (by_control {U = U} g c).NeverFails cause
+  control_never cause h Control.None = tt
+  control_never cause h Control.Last = tt
+  control_never cause h (Control.Before u) = h
 
   pub behind_lawful : IsLawful w g → IsLawfulFamily w AnyKey (behind_control {U = U} g)
   behind_lawful q = record {
     lawful = λ c _. control_lawful q c;
     frugal = λ mode h c _. control_frugal mode h c;
     settles = λ h c _. control_settles h c;
-    never_fails = λ large h c _. control_never large h c;
+    never_fails = λ cause h c _. control_never cause h c;
   }
 
 module _ {I A V E : Type 0} (w : Model I A) (done : V) (m : Meaning I V E) where
@@ -191,16 +187,16 @@ module _ {I A V E : Type 0} (w : Model I A) (done : V) (m : Meaning I V E) where
   left_settled h true = h
   left_settled h false = tt
 
-  left_never : (large : Bool) → m.NeverFails large → (b : Bool) → (by_left done m b).NeverFails large
-  left_never large h true = h
-  left_never large h false = tt
+  left_never : (cause : Cause) → m.NeverFails cause → (b : Bool) → (by_left done m b).NeverFails cause
+  left_never cause h true = h
+  left_never cause h false = tt
 
   pub where_left_lawful : IsLawful w m → IsLawfulFamily w AnyKey (where_left done m)
   where_left_lawful p = record {
     lawful = λ b _. left_lawful p b;
     frugal = λ mode h b _. left_frugal mode h b;
     settles = λ h b _. left_settled h b;
-    never_fails = λ large h b _. left_never large h b;
+    never_fails = λ cause h b _. left_never cause h b;
   }
 
 module _ {I A U W E : Type 0} {w : Model I A} (l : InputLaws w) (IsControl : A → Type 0) (lack : Option ℕ) {g : Meaning I W E} where

@@ -1,12 +1,8 @@
 -- The laws of what is sought at the first items of an input.
 use Rattle.std.specs.Prelude.{◌≡◌, ℕ, ◌==◌, Bool, true, false, cond, List, [], ◌∷◌, ◌++◌, length, Option, Some, None, refl}
 use Rattle.std.proofs.Common.{sym, ◌∙◌, ap, subst, append-nil}
-use Rattle.nom_error.specs.declared.kind.ErrorKind.{ErrorKind}
-use Rattle.nom_error.specs.Errors.{Errors}
-use Rattle.nom_traits.specs.Input.{Model, Related}
-use Rattle.nom_traits.specs.Slices.{first_place, first_related, same_count}
-use Rattle.nom_internal.specs.Meaning.{IsLawful, IsSteady}
-use Rattle.nom_internal.specs.Leaf.{LeafLaws, leaf_lawful, leaf_steady}
+use Rattle.nom_internal.specs.Prelude.{ErrorKind, Errors, Model, Related, first_place, first_related, same_count, IsLawful, IsSteady, LeafLaws, leaf_lawful}
+use Rattle.nom_internal.specs.Prelude.{leaf_steady}
 use Rattle.nom_character.specs.LineMatches.{Match, one_more, after_return, crlf_in, line_ending_in, line_in, match_leaf, match_meaning}
 use Rattle.nom_character.specs.LineMatches.Match.{Full, Absent, Partial}
 

@@ -1,10 +1,7 @@
 -- The laws of parsers of a first item.
 use Rattle.std.specs.Prelude.{◌≡◌, ℕ, Bool, true, false, [], ◌∷◌, ◌++◌, Option}
 use Rattle.std.proofs.Common.{arith, sym, ◌∙◌, ap, subst, inl, inr}
-use Rattle.nom_error.specs.Errors.{Errors}
-use Rattle.nom_traits.specs.Input.{Model, AreValues, IsBoundary, Related}
-use Rattle.nom_internal.specs.Meaning.{IsLawful, IsSteady}
-use Rattle.nom_internal.specs.Leaf.{LeafLaws, leaf_lawful, leaf_steady}
+use Rattle.nom_internal.specs.Prelude.{Errors, Model, AreValues, IsBoundary, Related, IsLawful, IsSteady, LeafLaws, leaf_lawful, leaf_steady}
 use Rattle.nom_bytes.specs.Predicates.{IsFixed}
 use Rattle.nom_bytes.specs.Stays.{closed_stays}
 use Rattle.nom_character_first.specs.declared.first.Blame.{Blame}

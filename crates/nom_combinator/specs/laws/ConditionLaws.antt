@@ -1,12 +1,8 @@
 -- The laws of a part that runs on a condition.
 use Rattle.std.specs.Prelude.{Option, Some, None}
 use Rattle.std.proofs.Common.{sym, ◌∙◌, ap}
-use Rattle.nom_traits.specs.Input.{Model}
-use Rattle.nom_traits.specs.View.{View, option_view}
-use Rattle.nom_internal.specs.Meaning.{Meaning, IsLawful, IsSteady}
+use Rattle.nom_internal.specs.Prelude.{Model, View, option_view, Meaning, IsLawful, IsSteady, success_lawful, success_steady, IsPinned}
 use Rattle.nom_internal.specs.laws.CaseLaws.{labelled_lawful, labelled_steady}
-use Rattle.nom_internal.specs.Success.{success_lawful, success_steady}
-use Rattle.nom_internal.specs.Pinned.{IsPinned}
 use Rattle.nom_combinator.specs.Conditions.{state_of, cond_meaning, CondOutput, CondPins}
 use Rattle.nom_combinator.specs.laws.VerdictLaws.{opt_pinned}
 

@@ -1,12 +1,7 @@
 -- The laws of a value in the place of what a part accepts.
 use Rattle.std.specs.Prelude.{◌≡◌, ℕ, Bool, true, false, refl}
 use Rattle.std.proofs.Common.{sym, ◌∙◌, subst}
-use Rattle.nom_traits.specs.Input.{Model, IsBoundary}
-use Rattle.nom_traits.specs.View.{View}
-use Rattle.nom_internal.specs.Outcome.{failure}
-use Rattle.nom_internal.specs.Outcome.Outcome.{Accept}
-use Rattle.nom_internal.specs.Meaning.{Meaning, IsLawful, IsSteady}
-use Rattle.nom_internal.specs.Pinned.{IsPinned}
+use Rattle.nom_internal.specs.Prelude.{Model, IsBoundary, View, Cause, Accept, Stop, Fails, Meaning, IsLawful, IsSteady, IsPinned}
 use Rattle.nom_internal.specs.laws.CaseLaws.{CaseLaws, case_lawful, case_steady}
 use Rattle.nom_internal.specs.laws.RecognizedLaws.{AcceptLaws, plain_laws}
 use Rattle.nom_combinator.specs.Outputs.{GivesValue, value_case, value_meaning}
@@ -15,9 +10,8 @@ use Rattle.nom_combinator.specs.Outputs.{GivesValue, value_case, value_meaning}
 pub tested_pinned : {V O : Type 0} {view : View O} {F : V → O → Type 0} {Passes : O → Type 0} → IsPinned view F → IsPinned view (λ t o. F t o × Passes o)
 tested_pinned f = record { one_view = λ t a b p q. f.one_view t a b p.0 q.0 }
 
-never_given : {T : Type 0} (large : Bool) (n : ℕ) (v : T) → failure large ≡ Accept n v → ⊥
-never_given true n v e = cc
-never_given false n v e = cc
+never_given : {T : Type 0} (cause : Cause) (n : ℕ) (v : T) → Stop (Fails cause) ≡ Accept n v → ⊥
+never_given cause n v e = cc
 
 module _ {I A P T : Type 0} (w : Model I A) (v : T) where
   given_laws : AcceptLaws w (λ i. GivesValue {P = P} v)
@@ -25,7 +19,7 @@ module _ {I A P T : Type 0} (w : Model I A) (v : T) where
     same = λ longer x y n u o p kx ky r s k t. s ∙ sym t;
     alike = λ x y n u o kx ky r s. s;
     place = λ i m n u t h p s. let same : m ≡ n = cc (s) in subst (λ k. IsBoundary w i k) same p;
-    never_fails = λ large i n u s. never_given large n v s;
+    never_fails = λ cause i n u s. never_given cause n v s;
   }
 
 module _ {I A P T E : Type 0} {w : Model I A} {v : T} {IsSure : Type 0} where

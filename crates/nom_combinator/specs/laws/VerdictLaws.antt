@@ -1,15 +1,11 @@
 -- The laws of what becomes of a part's outcome.
 use Rattle.std.specs.Prelude.{◌≡◌, ℕ, Bool, true, false, Option, Some, None, ◌⊎◌, refl}
 use Rattle.std.proofs.Common.{sym, ◌∙◌, ap, subst, inl, inr}
-use Rattle.nom_traits.specs.Slices.{Slice, first_place, first_related, same_length}
-use Rattle.nom_traits.specs.Input.{InputLaws, Related, Model, IsBoundary}
-use Rattle.nom_traits.specs.View.{View, option_view, view_some}
-use Rattle.nom_internal.specs.Outcome.{Outcome, IsDecided, IsFault, IsFailure, failure}
-use Rattle.nom_internal.specs.Outcome.Outcome.{Accept, Refuse, Fail, TooLarge, Undecided}
-use Rattle.nom_internal.specs.Meaning.{Meaning, IsLawful, IsSteady}
+use Rattle.nom_internal.specs.Prelude.{Slice, first_place, first_related, same_length, InputLaws, Related, Model, IsBoundary, View, option_view, view_some}
+use Rattle.nom_internal.specs.Prelude.{Outcome, Cause, Accept, Refuse, Stop, Fails, Outright, TooLarge, IsDecided, IsFault, IsFailure, Meaning, IsLawful}
+use Rattle.nom_internal.specs.Prelude.{IsSteady, IsPinned, Needs}
 use Rattle.nom_internal.specs.laws.CaseLaws.{CaseLaws, here_known, here_related, here_alike, here_place, no_place, case_lawful, case_steady}
 use Rattle.nom_internal.specs.laws.RecognizedLaws.{AcceptLaws, plain_laws}
-use Rattle.nom_internal.specs.Pinned.{IsPinned}
 use Rattle.nom_combinator.specs.Verdicts.{complete_outcome, IsWant, complete_case, complete_meaning, WithSlice, consumed_meaning, verdict_case}
 use Rattle.nom_combinator.specs.Verdicts.{cut_outcome, NeverCut, cut_meaning, opt_outcome, opt_meaning, OptOutput, Looks, peek_meaning, not_outcome}
 use Rattle.nom_combinator.specs.Verdicts.{IsAcceptance, EitherBlames, not_case, not_meaning}
@@ -19,17 +15,17 @@ abbrev IsAccepted : {P : Type 0} → ℕ → Outcome P → Type 0
 IsAccepted {P} n a = (n ≡ 0) ⊎ ((u : P) × (a ≡ Accept n u))
 
 -- what becomes of an outcome: it is decided as the part is, accepts no more, and fails as the part fails, where that is said
-record IsVerdict {P T : Type 0} (becomes : Outcome P → Outcome T) (Never : (Bool → Type 0) → Bool → Type 0) : Type 1 where
+record IsVerdict {P T : Type 0} (becomes : Outcome P → Outcome T) (Never : (Cause → Type 0) → Cause → Type 0) : Type 1 where
   keeps : (a : Outcome P) → IsDecided (becomes a) → IsDecided a
   accepts : (a : Outcome P) (n : ℕ) (t : T) → Accept n t ≡ becomes a → IsAccepted n a
-  never : (Part : Bool → Type 0) (large : Bool) (a : Outcome P) → Never Part large → failure large ≡ becomes a → Part large × (a ≡ failure large)
+  never : (Part : Cause → Type 0) (cause : Cause) (a : Outcome P) → Never Part cause → Stop (Fails cause) ≡ becomes a → Part cause × (a ≡ Stop (Fails cause))
 
 module _ {I A P : Type 0} (w : Model I A) where
   accepted_place : (i j : I) (a : Outcome P) (n : ℕ) → i ≡ j → ((m : ℕ) (u : P) → a ≡ Accept m u → IsBoundary w j m) → IsAccepted n a → IsBoundary w i n
   accepted_place i j a n e place (inl z) = subst (λ k. IsBoundary w i k) (sym z) (no_place w i)
   accepted_place i j a n e place (inr k) = here_place w i j n e (place n k.0 k.1)
 
-module _ {I A P T : Type 0} (w : Model I A) (becomes : Outcome P → Outcome T) (Never : (Bool → Type 0) → Bool → Type 0) (is : IsVerdict becomes Never) where
+module _ {I A P T : Type 0} (w : Model I A) (becomes : Outcome P → Outcome T) (Never : (Cause → Type 0) → Cause → Type 0) (is : IsVerdict becomes Never) where
   verdict_keeps : (a : Outcome P) (o : Outcome T) → o ≡ becomes a → IsDecided o → IsDecided a
   verdict_keeps a o e d = is.keeps a (subst (λ z. IsDecided z) e d)
 
@@ -42,7 +38,7 @@ module _ {I A P T : Type 0} (w : Model I A) (becomes : Outcome P → Outcome T) 
     same = λ longer stays x y a o p kx ky r s k t. s ∙ sym t;
     alike = λ x y a o kx ky r b. b;
     place = λ i j a n t h e place b. accepted_place w i j a n e place (is.accepts a n t b);
-    never_fails = λ Part large i a g e. is.never Part large a g e;
+    never_fails = λ Part cause i a g e. is.never Part cause a g e;
     blames = λ i a X Y e f. f e;
     part_frugal = λ Part mode h. h;
     asks_none = λ Part mode i a h g. g;
@@ -55,87 +51,59 @@ module _ {P : Type 0} where
       keeps : (a : Outcome P) → IsDecided (cut_outcome a) → IsDecided a
       keeps (Accept n v) d = tt
       keeps Refuse d = tt
-      keeps Fail d = tt
-      keeps TooLarge d = d
-      keeps (Undecided k) d = d
+      keeps (Stop why) d = d
 
       accepts : (a : Outcome P) (n : ℕ) (t : P) → Accept n t ≡ cut_outcome a → IsAccepted n a
       accepts (Accept m u) n t e = inr (t, sym e)
       accepts Refuse n t e = cc
-      accepts Fail n t e = cc
-      accepts TooLarge n t e = cc
-      accepts (Undecided k) n t e = cc
+      accepts (Stop why) n t e = cc
 
-      large : (a : Outcome P) → TooLarge ≡ cut_outcome a → a ≡ TooLarge
+      large : (a : Outcome P) → Stop (Fails TooLarge) ≡ cut_outcome a → a ≡ Stop (Fails TooLarge)
       large (Accept m u) e = cc
       large Refuse e = cc
-      large Fail e = cc
-      large TooLarge e = refl
-      large (Undecided k) e = cc
+      large (Stop why) e = cc (e)
 
-      never : (Part : Bool → Type 0) (is_large : Bool) (a : Outcome P) → NeverCut Part is_large → failure is_large ≡ cut_outcome a → Part is_large ×
-          (a ≡ failure is_large)
-      never Part true a g e = (g, large a e)
-      never Part false a g e = absurd g
+      never : (Part : Cause → Type 0) (cause : Cause) (a : Outcome P) → NeverCut Part cause → Stop (Fails cause) ≡ cut_outcome a → Part cause ×
+          (a ≡ Stop (Fails cause))
+      never Part TooLarge a g e = (g, large a e)
+      never Part Outright a g e = absurd g
 
 module _ {P : Type 0} where
   opt_is : IsVerdict {P = P} opt_outcome (λ Part. Part)
-  opt_is = record { keeps = keeps; accepts = accepts; never = λ Part is_large a g e. (g, fails is_large a e) }
+  opt_is = record { keeps = keeps; accepts = accepts; never = λ Part cause a g e. (g, fails cause a e) }
     where
       keeps : (a : Outcome P) → IsDecided (opt_outcome a) → IsDecided a
       keeps (Accept n v) d = tt
       keeps Refuse d = tt
-      keeps Fail d = tt
-      keeps TooLarge d = d
-      keeps (Undecided k) d = d
+      keeps (Stop why) d = d
 
       accepts : (a : Outcome P) (n : ℕ) (t : Option P) → Accept n t ≡ opt_outcome a → IsAccepted n a
       accepts (Accept m u) n t e = let same : n ≡ m = cc in inr (u, ap (λ z. Accept z u) (sym same))
       accepts Refuse n t e = inl (cc)
-      accepts Fail n t e = cc
-      accepts TooLarge n t e = cc
-      accepts (Undecided k) n t e = cc
+      accepts (Stop why) n t e = cc
 
-      fails : (is_large : Bool) (a : Outcome P) → failure is_large ≡ opt_outcome a → a ≡ failure is_large
-      fails true (Accept m u) e = cc
-      fails true Refuse e = cc
-      fails true Fail e = cc
-      fails true TooLarge e = refl
-      fails true (Undecided k) e = cc
-      fails false (Accept m u) e = cc
-      fails false Refuse e = cc
-      fails false Fail e = refl
-      fails false TooLarge e = cc
-      fails false (Undecided k) e = cc
+      fails : (cause : Cause) (a : Outcome P) → Stop (Fails cause) ≡ opt_outcome a → a ≡ Stop (Fails cause)
+      fails cause (Accept m u) e = cc
+      fails cause Refuse e = cc
+      fails cause (Stop why) e = cc (e)
 
   not_is : IsVerdict {P = P} not_outcome (λ Part. Part)
-  not_is = record { keeps = keeps; accepts = accepts; never = λ Part is_large a g e. (g, fails is_large a e) }
+  not_is = record { keeps = keeps; accepts = accepts; never = λ Part cause a g e. (g, fails cause a e) }
     where
       keeps : (a : Outcome P) → IsDecided (not_outcome a) → IsDecided a
       keeps (Accept n v) d = tt
       keeps Refuse d = tt
-      keeps Fail d = tt
-      keeps TooLarge d = d
-      keeps (Undecided k) d = d
+      keeps (Stop why) d = d
 
       accepts : (a : Outcome P) (n : ℕ) (t : Unit {0}) → Accept n t ≡ not_outcome a → IsAccepted n a
       accepts (Accept m u) n t e = cc
       accepts Refuse n t e = inl (cc)
-      accepts Fail n t e = cc
-      accepts TooLarge n t e = cc
-      accepts (Undecided k) n t e = cc
+      accepts (Stop why) n t e = cc
 
-      fails : (is_large : Bool) (a : Outcome P) → failure is_large ≡ not_outcome a → a ≡ failure is_large
-      fails true (Accept m u) e = cc
-      fails true Refuse e = cc
-      fails true Fail e = cc
-      fails true TooLarge e = refl
-      fails true (Undecided k) e = cc
-      fails false (Accept m u) e = cc
-      fails false Refuse e = cc
-      fails false Fail e = refl
-      fails false TooLarge e = cc
-      fails false (Undecided k) e = cc
+      fails : (cause : Cause) (a : Outcome P) → Stop (Fails cause) ≡ not_outcome a → a ≡ Stop (Fails cause)
+      fails cause (Accept m u) e = cc
+      fails cause Refuse e = cc
+      fails cause (Stop why) e = cc (e)
 
 -- the part's errors stand for themselves
 blames_more : {P E : Type 0} (HasOwn HasParts : Outcome P → Type 0) (Own : E → Type 0) (a : Outcome P) (X Y : E → Type 0) (e : E) →
@@ -152,9 +120,8 @@ module _ {I A P : Type 0} (w : Model I A) where
     never_fails = never;
   }
     where
-      never : (is_large : Bool) (i : I) (n : ℕ) (u : P) → Looks n u (failure is_large) → ⊥
-      never true i n u e = cc
-      never false i n u e = cc
+      never : (cause : Cause) (i : I) (n : ℕ) (u : P) → Looks n u (Stop (Fails cause)) → ⊥
+      never cause i n u e = cc
 
   module _ {E : Type 0} where
     not_laws : (Own : I → E → Type 0) (Grows : Type 0) → CaseLaws true w w (not_case {P = P} Own Grows)
@@ -166,7 +133,7 @@ module _ {I A P : Type 0} (w : Model I A) where
       same = λ longer stays x y a o p kx ky r s k t. s ∙ sym t;
       alike = λ x y a o kx ky r b. b;
       place = λ i j a n t h e place b. accepted_place w i j a n e place (not_is.accepts a n t b);
-      never_fails = λ Part large i a g e. not_is.never Part large a g e;
+      never_fails = λ Part cause i a g e. not_is.never Part cause a g e;
       blames = λ i. blames_more IsAcceptance IsFailure (Own i);
       part_frugal = λ Part mode h. h.0;
       asks_none = λ Part mode i a h g. h.1 g.1 g.2;
@@ -176,21 +143,14 @@ module _ {I A P : Type 0} (w : Model I A) where
   complete_accepts : (a : Outcome P) (n : ℕ) (t : P) → Accept n t ≡ complete_outcome a → IsAccepted n a
   complete_accepts (Accept m u) n t e = inr (t, sym e)
   complete_accepts Refuse n t e = cc
-  complete_accepts Fail n t e = cc
-  complete_accepts TooLarge n t e = cc
-  complete_accepts (Undecided k) n t e = cc
+  complete_accepts (Stop (Fails cause)) n t e = cc
+  complete_accepts (Stop (Needs k)) n t e = cc
 
-  complete_fails : (is_large : Bool) (a : Outcome P) → failure is_large ≡ complete_outcome a → a ≡ failure is_large
-  complete_fails true (Accept m u) e = cc
-  complete_fails true Refuse e = cc
-  complete_fails true Fail e = cc
-  complete_fails true TooLarge e = refl
-  complete_fails true (Undecided k) e = cc
-  complete_fails false (Accept m u) e = cc
-  complete_fails false Refuse e = cc
-  complete_fails false Fail e = refl
-  complete_fails false TooLarge e = cc
-  complete_fails false (Undecided k) e = cc
+  complete_fails : (cause : Cause) (a : Outcome P) → Stop (Fails cause) ≡ complete_outcome a → a ≡ Stop (Fails cause)
+  complete_fails cause (Accept m u) e = cc
+  complete_fails cause Refuse e = cc
+  complete_fails cause (Stop (Fails own)) e = cc (e)
+  complete_fails cause (Stop (Needs k)) e = cc
 
   module _ {E : Type 0} where
     complete_laws : (Own : I → E → Type 0) (Grows : Type 0) → CaseLaws true w w (complete_case {P = P} Own Grows)
@@ -202,7 +162,7 @@ module _ {I A P : Type 0} (w : Model I A) where
       same = λ longer stays x y a o p kx ky r s k t. s ∙ sym t;
       alike = λ x y a o kx ky r b. b;
       place = λ i j a n t h e place b. accepted_place w i j a n e place (complete_accepts a n t b);
-      never_fails = λ Part large i a g e. (g, complete_fails large a e);
+      never_fails = λ Part cause i a g e. (g, complete_fails cause a e);
       blames = λ i. blames_more IsWant IsFault (Own i);
       part_frugal = λ Part mode h. h.0;
       asks_none = λ Part mode i a h g. h.1 g.1 g.2;
@@ -217,9 +177,8 @@ module _ {I A P : Type 0} (w : Model I A) (l : InputLaws w) where
   kept_place : (i : I) (n m : ℕ) (u : P) (t : Slice w × P) → WithSlice w i n u (Accept m t) → IsBoundary w i m
   kept_place i n m u t s = let same : n ≡ m = cc (s.2) in subst (λ z. IsBoundary w i z) same (first_place w i n s.0 s.1)
 
-  never_kept : (is_large : Bool) (i : I) (n : ℕ) (u : P) → WithSlice w i n u (failure is_large) → ⊥
-  never_kept true i n u s = absurd (cc (s.2))
-  never_kept false i n u s = absurd (cc (s.2))
+  never_kept : (cause : Cause) (i : I) (n : ℕ) (u : P) → WithSlice w i n u (Stop (Fails cause)) → ⊥
+  never_kept cause i n u s = absurd (cc (s.2))
 
   kept_laws : AcceptLaws w (λ i. WithSlice {P = P} w i)
   kept_laws = record {

@@ -1,4 +1,4 @@
-use Rattle.nom_internal.specs.Pinned.{slice_pinned}
+use Rattle.nom_internal.specs.Prelude.{slice_pinned}
 use Rattle.nom_func.proofs.FuncSound.{answers_by}
 use Rattle.nom_ends.specs.laws.AllLaws.{rest_lawful}
 use Rattle.nom_ends.proofs.rest.Goals as goal

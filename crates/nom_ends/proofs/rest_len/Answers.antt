@@ -1,4 +1,4 @@
-use Rattle.nom_internal.specs.Pinned.{value_pinned}
+use Rattle.nom_internal.specs.Prelude.{value_pinned}
 use Rattle.nom_func.proofs.FuncSound.{answers_by}
 use Rattle.nom_ends.specs.laws.AllLaws.{rest_len_lawful}
 use Rattle.nom_ends.proofs.rest_len.Goals as goal

@@ -2,13 +2,8 @@
 use Rattle.std.specs.Prelude.{◌≡◌, ℕ, Bool, true, false, List, [], refl}
 use Rattle.std.proofs.Common.{sym, ◌∙◌, ap, append-nil}
 use Rattle.nom_error.specs.declared.kind.ErrorKind.TheVariants as Kind
-use Rattle.nom_error.specs.Errors.{Errors}
-use Rattle.nom_traits.specs.Input.{Model, IsBoundary, IsSame, input_len}
-use Rattle.nom_traits.specs.Slices.{Slice}
-use Rattle.nom_internal.specs.Outcome.{Outcome, failure}
-use Rattle.nom_internal.specs.Outcome.Outcome.{Accept, Refuse, Fail, TooLarge, Undecided}
-use Rattle.nom_internal.specs.Meaning.{IsLawful}
-use Rattle.nom_internal.specs.Leaf.{LeafAnswers, leaf_meaning}
+use Rattle.nom_internal.specs.Prelude.{Errors, Model, IsBoundary, IsSame, input_len, Slice, Outcome, Accept, Refuse, Stop, Fails, Needs, IsLawful, LeafAnswers}
+use Rattle.nom_internal.specs.Prelude.{leaf_meaning}
 use Rattle.nom_ends.specs.Ends.{plain_leaf, all_of, IsEnd, IsAll, IsLength, eof_meaning, rest_meaning, rest_len_meaning}
 
 -- what the answers of a plain leaf must keep
@@ -25,28 +20,20 @@ module _ {I A V : Type 0} (w : Model I A) (Accepts : I → ℕ → V → Type 0)
       LeafAnswers (plain_leaf Accepts Refuses) t y o
   answers_alike s t x y (Accept n v) r a = l.accepted_alike x y n v r a
   answers_alike s t x y Refuse r a = l.refused_alike x y r a
-  answers_alike s t x y Fail r a = a
-  answers_alike s t x y TooLarge r a = a
-  answers_alike s t x y (Undecided k) r a = absurd a.1
+  answers_alike s t x y (Stop (Fails cause)) r a = a
+  answers_alike s t x y (Stop (Needs k)) r a = absurd a.1
 
   one_answer : (s : Bool) (i : I) (o p : Outcome V) → LeafAnswers (plain_leaf Accepts Refuses) s i o → LeafAnswers (plain_leaf Accepts Refuses) s i p → o ≡ p
   one_answer s i (Accept n u) (Accept m v) a b = let e = l.one_accepted i n m u v a b in cc (e.0, e.1)
   one_answer s i (Accept n u) Refuse a b = absurd (l.never_both i n u a b)
-  one_answer s i (Accept n u) Fail a b = absurd b
-  one_answer s i (Accept n u) TooLarge a b = absurd b
-  one_answer s i (Accept n u) (Undecided k) a b = absurd b.1
+  one_answer s i (Accept n u) (Stop (Fails cause)) a b = absurd b
+  one_answer s i (Accept n u) (Stop (Needs k)) a b = absurd b.1
   one_answer s i Refuse (Accept n v) a b = absurd (l.never_both i n v b a)
   one_answer s i Refuse Refuse a b = refl
-  one_answer s i Refuse Fail a b = absurd b
-  one_answer s i Refuse TooLarge a b = absurd b
-  one_answer s i Refuse (Undecided k) a b = absurd b.1
-  one_answer s i Fail p a b = absurd a
-  one_answer s i TooLarge p a b = absurd a
-  one_answer s i (Undecided j) p a b = absurd a.1
-
-  never_answers : (large s : Bool) (i : I) → LeafAnswers (plain_leaf Accepts Refuses) s i (failure large) → ⊥
-  never_answers true s i a = a
-  never_answers false s i a = a
+  one_answer s i Refuse (Stop (Fails cause)) a b = absurd b
+  one_answer s i Refuse (Stop (Needs k)) a b = absurd b.1
+  one_answer s i (Stop (Fails cause)) p a b = absurd a
+  one_answer s i (Stop (Needs j)) p a b = absurd a.1
 
   module _ {E : Type 0} (Blames : I → E → Type 0) (Grows : Type 0) where
     pub plain_lawful : IsLawful w (leaf_meaning (Unit {0}) Blames Grows (plain_leaf Accepts Refuses))
@@ -57,7 +44,7 @@ module _ {I A V : Type 0} (w : Model I A) (Accepts : I → ℕ → V → Type 0)
       frugal = λ mode i h f r. f r.1 r.2;
       settles = λ t x y o kx ky r a d. answers_alike true false x y o r a;
       blames_alike = λ t s i o e h a b d z. z;
-      never_fails = λ large g s i h a. never_answers large s i a;
+      never_fails = λ cause g s i h a. a;
     }
 
 module _ {I A : Type 0} (w : Model I A) where

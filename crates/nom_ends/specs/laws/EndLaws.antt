@@ -1,10 +1,6 @@
 -- The laws of parsers that look at no item.
 use Rattle.nom_error.specs.declared.kind.ErrorKind.TheVariants as Kind
-use Rattle.nom_error.specs.Errors.{Errors}
-use Rattle.nom_traits.specs.Input.{Model}
-use Rattle.nom_internal.specs.Meaning.{IsLawful, IsSteady}
-use Rattle.nom_internal.specs.Leaf.{LeafLaws, leaf_lawful, leaf_steady}
-use Rattle.nom_internal.specs.Success.{success_meaning, success_lawful, success_steady}
+use Rattle.nom_internal.specs.Prelude.{Errors, Model, IsLawful, IsSteady, LeafLaws, leaf_lawful, leaf_steady, success_meaning, success_lawful, success_steady}
 use Rattle.nom_ends.specs.Ends.{clone_meaning, fail_leaf, fail_meaning}
 
 -- a clone of a value

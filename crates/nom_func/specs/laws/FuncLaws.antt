@@ -1,14 +1,8 @@
 -- The laws of functions as parsers.
 use Rattle.std.specs.Prelude.{◌≡◌, ℕ, Bool, true, false, ◌++◌, Ok, Err}
 use Rattle.std.proofs.Common.{sym, ◌∙◌, ap, subst}
-use Rattle.nom_error.specs.Answers.{IResult}
-use Rattle.nom_error.specs.declared.answer.Err.TheVariants.{Incomplete, Error, Failure, OutOfMemory}
-use Rattle.nom_traits.specs.Input.{Model, IsBoundary, IsSame, Related}
-use Rattle.nom_traits.specs.Rests.{rest_place, same_then, same_sym}
-use Rattle.nom_traits.specs.View.{View}
-use Rattle.nom_internal.specs.Outcome.{Outcome, failure}
-use Rattle.nom_internal.specs.Outcome.Outcome.{Accept}
-use Rattle.nom_internal.specs.Meaning.{IsLawful, IsSteady, Agree, Keeps}
+use Rattle.nom_internal.specs.Prelude.{IResult, Incomplete, Error, Failure, OutOfMemory, Model, IsBoundary, IsSame, Related, rest_place, same_then, same_sym}
+use Rattle.nom_internal.specs.Prelude.{View, Outcome, Cause, Accept, Stop, Fails, Outright, TooLarge, IsLawful, IsSteady, Agree, Keeps}
 use Rattle.nom_func.specs.Func.{AreRelated, Tells, TellOne, FuncOutcome, FuncAnswers, FuncNeverFails, IsParser, IsStreamParser, func_meaning}
 
 module _ {I A : Type 0} (w : Model I A) where
@@ -33,7 +27,7 @@ module _ {I A : Type 0} (w : Model I A) where
     accepts_within i (Err (Failure e)) n t h = cc
     accepts_within i (Err OutOfMemory) n t h = absurd h
 
-    never_too_large : (i : I) (r : IResult I O E) → Tells w view i r (failure true) → ⊥
+    never_too_large : (i : I) (r : IResult I O E) → Tells w view i r (Stop (Fails TooLarge)) → ⊥
     never_too_large i (Ok (j, v)) h = cc (h.2)
     never_too_large i (Err (Incomplete k)) h = cc
     never_too_large i (Err (Error e)) h = cc
@@ -48,16 +42,16 @@ module _ {I A : Type 0} (w : Model I A) where
 
     module _ (Gives : I → IResult I O E → Type 0) where
       fails_by_error : (i : I) (r : IResult I O E) → ((e : E) → Gives i (Err (Failure e)) → ⊥) → Gives i r →
-          Tells w view i r (failure false) → ⊥
+          Tells w view i r (Stop (Fails Outright)) → ⊥
       fails_by_error i (Ok (j, v)) f g h = cc (h.2)
       fails_by_error i (Err (Incomplete k)) f g h = cc
       fails_by_error i (Err (Error e)) f g h = cc
       fails_by_error i (Err (Failure e)) f g h = f e g
       fails_by_error i (Err OutOfMemory) f g h = h
 
-      never_fails : (large : Bool) → FuncNeverFails w Gives large → (i : I) → FuncAnswers w view Gives i (failure large) → ⊥
-      never_fails true h i a = never_too_large a.at a.outcome.answer a.outcome.told
-      never_fails false h i a = fails_by_error a.at a.outcome.answer (λ e. h a.at e a.known) a.outcome.given a.outcome.told
+      never_fails : (cause : Cause) → FuncNeverFails w Gives cause → (i : I) → FuncAnswers w view Gives i (Stop (Fails cause)) → ⊥
+      never_fails TooLarge h i a = never_too_large a.at a.outcome.answer a.outcome.told
+      never_fails Outright h i a = fails_by_error a.at a.outcome.answer (λ e. h a.at e a.known) a.outcome.given a.outcome.told
 
       -- what the function's outcomes at an input keep, those at inputs of its model keep
       agrees_alike : (longer : Bool) → Agree w longer (FuncOutcome w view Gives) (FuncOutcome w view Gives) →
@@ -75,7 +69,7 @@ module _ {I A : Type 0} (w : Model I A) where
         frugal = λ mode i h f g. f i h g;
         settles = λ t x y o kx ky r a k. alike x y o r a;
         blames_alike = λ t s i o e h a b d z. z;
-        never_fails = λ large h s i k a. never_fails large h i a;
+        never_fails = λ cause h s i k a. never_fails cause h i a;
       }
 
       -- the outcomes of answers that tell one

@@ -1,12 +1,9 @@
 -- The laws of parsers on what another one gives.
 use Rattle.std.specs.Prelude.{◌≡◌, ℕ, Bool, true, false, refl}
 use Rattle.std.proofs.Common.{sym, ◌∙◌, ap, subst}
-use Rattle.nom_traits.specs.Input.{Model, InputLaws, IsBoundary, IsSame, Related}
-use Rattle.nom_internal.specs.Outcome.{Outcome, IsDecided}
-use Rattle.nom_internal.specs.Outcome.Outcome.{Accept, Refuse, Fail, TooLarge, Undecided}
-use Rattle.nom_internal.specs.Meaning.{Meaning, IsLawful, IsSteady}
+use Rattle.nom_internal.specs.Prelude.{Model, InputLaws, IsBoundary, IsSame, Related, Outcome, Accept, Refuse, Stop, IsDecided, Meaning, IsLawful, IsSteady}
+use Rattle.nom_internal.specs.Prelude.{IsLawfulFamily, AnyKey}
 use Rattle.nom_internal.specs.laws.PartLaws.{keeps_mapped, failure_mapped}
-use Rattle.nom_internal.specs.Families.{IsLawfulFamily, AnyKey}
 use Rattle.nom_internal.specs.laws.SequenceLaws.{then_lawful, then_steady}
 use Rattle.nom_internal.specs.laws.CaseLaws.{CaseLaws, no_place, case_lawful}
 use Rattle.nom_internal.specs.Bounded.{IsBound, AreAlike, held, bounded_case, bounded_family, and_then_meaning}
@@ -19,9 +16,7 @@ alike_related v false stays j k r = r
 held_place : {I A V : Type 0} (w : Model I A) (i : I) (a : Outcome V) (n : ℕ) (t : V) → Accept n t ≡ held a → IsBoundary w i n
 held_place w i (Accept m u) n t e = let none : n ≡ 0 = cc in subst (λ k. IsBoundary w i k) (sym none) (no_place w i)
 held_place w i Refuse n t e = cc
-held_place w i Fail n t e = cc
-held_place w i TooLarge n t e = cc
-held_place w i (Undecided k) n t e = cc
+held_place w i (Stop why) n t e = cc
 
 module _ {I A J B P Q E : Type 0} (w : Model I A) (v : Model J B) (IsOutput : P → J → Type 0) (same : AreAlike v IsOutput) (m : Meaning J Q E)
     (l : IsLawful v m) where
@@ -34,7 +29,7 @@ module _ {I A J B P Q E : Type 0} (w : Model I A) (v : Model J B) (IsOutput : P 
     same = λ longer stays x y a o p kx ky r s k t. s ∙ sym t;
     alike = λ x y a o kx ky r b. b;
     place = λ i j a n t h b place e. held_place w i a n t e;
-    never_fails = λ Part large i a g e. (g, failure_mapped large (λ _. 0) (λ t. t) a e);
+    never_fails = λ Part cause i a g e. (g, failure_mapped cause (λ _. 0) (λ t. t) a e);
     blames = λ i a X Y e f. f e;
     part_frugal = λ Part mode h. h;
     asks_none = λ Part mode i a h g. g;
@@ -45,7 +40,7 @@ module _ {I A J B P Q E : Type 0} (w : Model I A) (v : Model J B) (IsOutput : P 
     lawful = λ u _. case_lawful (bounded_laws u) l;
     frugal = λ mode h _ _. h;
     settles = λ h _ _. h;
-    never_fails = λ large h _ _. h;
+    never_fails = λ cause h _ _. h;
   }
 
   -- whether or not the parser is steady itself: what it answers doesn't depend on the rest

@@ -1,17 +1,11 @@
 -- The laws of cases over one part's outcome.
 use Rattle.std.specs.Prelude.{◌≡◌, ℕ, Bool, true, false, not, [], refl}
 use Rattle.std.proofs.Common.{sym, ◌∙◌, ap, subst}
-use Rattle.nom_error.specs.Modes.{Modes}
-use Rattle.nom_traits.specs.Input.{Model, IsBoundary, IsSame, Related}
-use Rattle.nom_traits.specs.Rests.{same_self}
-use Rattle.nom_internal.specs.Outcome.{Outcome, IsDecided, failure}
-use Rattle.nom_internal.specs.Outcome.Outcome.{Accept, Refuse, Fail, TooLarge, Undecided}
-use Rattle.nom_internal.specs.Meaning.{Meaning, IsLawful, IsSteady, Keeps, Agree, Carries, Within, SameBlame}
+use Rattle.nom_internal.specs.Prelude.{Modes, Model, IsBoundary, IsSame, Related, same_self, Outcome, Cause, Accept, Refuse, Stop, Fails, Needs, IsDecided}
+use Rattle.nom_internal.specs.Prelude.{Meaning, IsLawful, IsSteady, Keeps, Agree, Carries, Within, SameBlame, PartMode, mode_of, SettlesIn, Case, OnPart}
+use Rattle.nom_internal.specs.Prelude.{case_meaning, plain_case, labelled, labelled_meaning, fixed_case, fixed_meaning, Closed, OnRefused, closed_case}
+use Rattle.nom_internal.specs.Prelude.{closed_meaning, AsAsked, Always, RunsOutInPart, RunsOutBeside}
 use Rattle.nom_internal.specs.laws.PartLaws.{keeps_mapped, failure_mapped, Transfers, transfers, transferred}
-use Rattle.nom_internal.specs.Cases.{PartMode, mode_of, SettlesIn, Case, OnPart, case_meaning, plain_case, labelled, labelled_meaning, fixed_case}
-use Rattle.nom_internal.specs.Cases.{fixed_meaning, Closed, OnRefused, closed_case, closed_meaning}
-use Rattle.nom_internal.specs.Cases.PartMode.{AsAsked, Always}
-use Rattle.nom_internal.specs.Cases.CaseRunsOut.{RunsOutInPart, RunsOutBeside}
 
 -- the part runs in the streaming mode where the whole does
 abbrev pub Streams : PartMode → Type 0
@@ -33,8 +27,8 @@ pub record CaseLaws {I A J B P T E F : Type 0} (stays : Bool) (w : Model I A) (v
   -- what is accepted is a front, where what the part accepts is one
   pub place : (i : I) (j : J) (a : Outcome P) (n : ℕ) (t : T) → w.IsKnown i → c.At i j → ((m : ℕ) (u : P) → a ≡ Accept m u → IsBoundary v j m) →
       c.Becomes i a (Accept n t) → IsBoundary w i n
-  pub never_fails : (Part : Bool → Type 0) (large : Bool) (i : I) (a : Outcome P) → c.NeverFails Part large → c.Becomes i a (failure large) →
-      Part large × (a ≡ failure large)
+  pub never_fails : (Part : Cause → Type 0) (cause : Cause) (i : I) (a : Outcome P) → c.NeverFails Part cause → c.Becomes i a (Stop (Fails cause)) →
+      Part cause × (a ≡ Stop (Fails cause))
   -- the part's errors stand for themselves
   pub blames : (i : I) (a : Outcome P) (X Y : E → Type 0) (e : F) → ((f : E) → X f → Y f) → c.Blames i a X e → c.Blames i a Y e
   pub part_frugal : (Part : Modes → Type 0) (mode : Modes) → c.IsFrugal Part mode → Part (c.part mode)
@@ -93,10 +87,10 @@ module _ {I A J B P T E F : Type 0} {stays : Bool} (w : Model I A) (v : Model J 
     case_frugal mode i h g (RunsOutInPart j q r) = p.frugal (c.part mode) j (l.at_known i j h q) (l.part_frugal m.IsFrugal mode g) r
     case_frugal mode i h g (RunsOutBeside r) = l.asks_none m.IsFrugal mode i r.outcome g r.fact
 
-    case_never : (large : Bool) → c.NeverFails m.NeverFails large → (s : Bool) (i : I) → w.IsKnown i → (case_meaning c m).answers s i (failure large) → ⊥
-    case_never large g s i h a =
-        let n = l.never_fails m.NeverFails large i a.outcome g a.fact in
-        p.never_fails large n.0 (mode_of c.mode s) a.at (l.at_known i a.at h a.at_is) (subst (λ z. m.answers (mode_of c.mode s) a.at z) n.1 a.answered)
+    case_never : (cause : Cause) → c.NeverFails m.NeverFails cause → (s : Bool) (i : I) → w.IsKnown i → (case_meaning c m).answers s i (Stop (Fails cause)) → ⊥
+    case_never cause g s i h a =
+        let n = l.never_fails m.NeverFails cause i a.outcome g a.fact in
+        p.never_fails cause n.0 (mode_of c.mode s) a.at (l.at_known i a.at h a.at_is) (subst (λ z. m.answers (mode_of c.mode s) a.at z) n.1 a.answered)
 
 -- how a whole settles, by the mode of its part
 module _ {I A J B P T E F : Type 0} {stays : Bool} {w : Model I A} {v : Model J B} {c : Case I J P T E F} (l : CaseLaws stays w v c) {m : Meaning J P E}
@@ -161,23 +155,21 @@ module _ {I A : Type 0} (w : Model I A) where
 pub record IsOutcomeMap {P T : Type 0} (f : Outcome P → Outcome T) : Type 0 where
   pub keeps : (a : Outcome P) → IsDecided (f a) → IsDecided a
   pub accepts : (a : Outcome P) (n : ℕ) (t : T) → Accept n t ≡ f a → (u : P) × (a ≡ Accept n u)
-  pub fails : (large : Bool) (a : Outcome P) → failure large ≡ f a → a ≡ failure large
+  pub fails : (cause : Cause) (a : Outcome P) → Stop (Fails cause) ≡ f a → a ≡ Stop (Fails cause)
 
 pub labels : {P T : Type 0} (label : P → T) → IsOutcomeMap (labelled label)
-labels {P} {T} label = record { keeps = λ a. keeps_mapped true (λ n. n) label a; accepts = accepts; fails = λ large a. failure_mapped large (λ n. n) label a }
+labels {P} {T} label = record { keeps = λ a. keeps_mapped true (λ n. n) label a; accepts = accepts; fails = λ cause a. failure_mapped cause (λ n. n) label a }
   where
     accepts : (a : Outcome P) (n : ℕ) (t : T) → Accept n t ≡ labelled label a → (u : P) × (a ≡ Accept n u)
     accepts (Accept m u) n t e = let same : n ≡ m = cc in (u, ap (λ z. Accept z u) (sym same))
     accepts Refuse n t e = cc
-    accepts Fail n t e = cc
-    accepts TooLarge n t e = cc
-    accepts (Undecided k) n t e = cc
+    accepts (Stop why) n t e = cc
 
 pub passes_all : {P : Type 0} → IsOutcomeMap {P = P} (λ a. a)
 passes_all = record {
   keeps = λ a d. d;
   accepts = λ a n t e. (t, sym e);
-  fails = λ large a e. sym e;
+  fails = λ cause a e. sym e;
 }
 
 module _ {I A P T : Type 0} (w : Model I A) (f : Outcome P → Outcome T) (is : IsOutcomeMap f) where
@@ -198,7 +190,7 @@ module _ {I A P : Type 0} (w : Model I A) where
     same = λ longer stays x y a o p kx ky r s k t. s ∙ sym t;
     alike = λ x y a o kx ky r b. b;
     place = λ i j a n t h e place b. map_place w (labelled label) (labels label) i j a n t e place b;
-    never_fails = λ Part large i a g e. (g, (labels label).fails large a e);
+    never_fails = λ Part cause i a g e. (g, (labels label).fails cause a e);
     blames = λ i a X Y e f. f e;
     part_frugal = λ Part mode h. h;
     asks_none = λ Part mode i a h g. g;
@@ -213,7 +205,7 @@ module _ {I A P : Type 0} (w : Model I A) where
     same = λ longer stays x y a o p kx ky r s k t. s ∙ sym t;
     alike = λ x y a o kx ky r b. b;
     place = λ i j a n t h e place b. map_place w (λ a. a) passes_all i j a n t e place b;
-    never_fails = λ Part large i a g e. (g, sym e);
+    never_fails = λ Part cause i a g e. (g, sym e);
     blames = λ i a X Y e f. f e;
     part_frugal = λ Part mode h. h;
     asks_none = λ Part mode i a h g. g;
@@ -223,16 +215,13 @@ module _ {I A P : Type 0} (w : Model I A) where
       Closed Closes a Y e
   closed_more Closes (Accept n v) X Y e f h = h
   closed_more Closes Refuse X Y e f h = (h.0, f h.0 h.1, h.2)
-  closed_more Closes Fail X Y e f h = f e h
-  closed_more Closes TooLarge X Y e f h = f e h
-  closed_more Closes (Undecided k) X Y e f h = h
+  closed_more Closes (Stop (Fails cause)) X Y e f h = f e h
+  closed_more Closes (Stop (Needs k)) X Y e f h = h
 
   refused_only : (Fact : Type 0) (a : Outcome P) → (Fact → ⊥) → OnRefused Fact a → ⊥
   refused_only Fact (Accept n v) f h = h
   refused_only Fact Refuse f h = f h
-  refused_only Fact Fail f h = h
-  refused_only Fact TooLarge f h = h
-  refused_only Fact (Undecided k) f h = h
+  refused_only Fact (Stop why) f h = h
 
   pub closed_laws : {E : Type 0} (Closes : I → E → E → Type 0) (Grows : Type 0) → CaseLaws true w w (closed_case {P = P} Closes Grows)
   closed_laws Closes Grows = record {
@@ -243,7 +232,7 @@ module _ {I A P : Type 0} (w : Model I A) where
     same = λ longer stays x y a o p kx ky r s k t. s ∙ sym t;
     alike = λ x y a o kx ky r b. b;
     place = λ i j a n t h e place b. map_place w (λ a. a) passes_all i j a n t e place b;
-    never_fails = λ Part large i a g e. (g, sym e);
+    never_fails = λ Part cause i a g e. (g, sym e);
     blames = λ i a X Y e f. closed_more (Closes i) a X Y e f;
     part_frugal = λ Part mode h. h.0;
     asks_none = λ Part mode i a h g. refused_only ((mode.errors ≡ true) × Grows) a (λ z. h.1 z.0 z.1) g;

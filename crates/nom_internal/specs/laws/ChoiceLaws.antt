@@ -1,18 +1,12 @@
 -- The laws of choices.
 use Rattle.std.specs.Prelude.{◌≡◌, Bool, true, false, not, ◌⊎◌}
 use Rattle.std.proofs.Common.{sym, ◌∙◌, subst, inl, inr}
-use Rattle.nom_error.specs.Modes.{Modes, with_errors}
-use Rattle.nom_traits.specs.Input.{Model, IsBoundary}
-use Rattle.nom_traits.specs.Rests.{same_self}
-use Rattle.nom_internal.specs.Outcome.{Outcome, IsDecided, IsFailure, IsFault, OnOutcome, failure}
-use Rattle.nom_internal.specs.Outcome.Outcome.{Accept, Refuse, Fail, TooLarge, Undecided}
-use Rattle.nom_internal.specs.Meaning.{Meaning, IsLawful, IsSteady, Keeps, Agree, Carries, Within}
+use Rattle.nom_internal.specs.Prelude.{Modes, with_errors, Model, IsBoundary, same_self, Outcome, Cause, Accept, Refuse, Stop, Fails, IsDecided, IsFailure}
+use Rattle.nom_internal.specs.Prelude.{IsFault, OnOutcome, Meaning, IsLawful, IsSteady, Keeps, Agree, Carries, Within, GoesOnRefused, OnRefusal, NextBlames}
+use Rattle.nom_internal.specs.Prelude.{or_meaning, either_meaning, otherwise_meaning, NextRunsOut, OrBlames, OtherwiseBlames, NextFails, NextRefuses}
+use Rattle.nom_internal.specs.Prelude.{FirstFails, FirstRefuses}
 use Rattle.nom_internal.specs.laws.PartLaws.{one_at, transfers, transferred, blame_transferred}
 use Rattle.nom_internal.specs.laws.CaseLaws.{labelled_lawful, labelled_steady}
-use Rattle.nom_internal.specs.Choice.{GoesOnRefused, OnRefusal, NextBlames, or_meaning, either_meaning, otherwise_meaning, NextRunsOut, OrBlames}
-use Rattle.nom_internal.specs.Choice.{OtherwiseBlames}
-use Rattle.nom_internal.specs.Choice.NextBlames.{NextFails, NextRefuses}
-use Rattle.nom_internal.specs.Choice.OrBlames.{FirstFails, FirstRefuses}
 use Rattle.nom_internal.specs.Choice.OtherwiseBlames.{FirstFaults, NextFaults}
 
 module _ {V : Type 0} (N : Outcome V → Type 0) where
@@ -20,32 +14,24 @@ module _ {V : Type 0} (N : Outcome V → Type 0) where
   pub keeps_refused : (longer : Bool) (a o : Outcome V) → Keeps longer o → GoesOnRefused N a o → Keeps longer a
   keeps_refused true (Accept n v) o k s = tt
   keeps_refused true Refuse o k s = tt
-  keeps_refused true Fail o k s = tt
-  keeps_refused true TooLarge o k s = subst (λ z. IsDecided z) s k
-  keeps_refused true (Undecided d) o k s = subst (λ z. IsDecided z) s k
+  keeps_refused true (Stop why) o k s = subst (λ z. IsDecided z) s k
   keeps_refused false a o k s = tt
 
   goes_agree : (M : Outcome V → Type 0) (a o p : Outcome V) → (N o → M p → o ≡ p) → GoesOnRefused N a o → GoesOnRefused M a p → o ≡ p
   goes_agree M (Accept n v) o p f s t = s ∙ sym t
   goes_agree M Refuse o p f s t = f s t
-  goes_agree M Fail o p f s t = s ∙ sym t
-  goes_agree M TooLarge o p f s t = s ∙ sym t
-  goes_agree M (Undecided d) o p f s t = s ∙ sym t
+  goes_agree M (Stop why) o p f s t = s ∙ sym t
 
   goes_map : (M : Outcome V → Type 0) (a o : Outcome V) → (N o → M o) → GoesOnRefused N a o → GoesOnRefused M a o
   goes_map M (Accept n v) o f s = s
   goes_map M Refuse o f s = f s
-  goes_map M Fail o f s = s
-  goes_map M TooLarge o f s = s
-  goes_map M (Undecided d) o f s = s
+  goes_map M (Stop why) o f s = s
 
   -- an outcome other than a refusal is the first's or the next one's
   goes_by : (a o : Outcome V) → GoesOnRefused N a o → (a ≡ o) ⊎ N o
   goes_by (Accept m u) o s = inl (sym s)
   goes_by Refuse o s = inr s
-  goes_by Fail o s = inl (sym s)
-  goes_by TooLarge o s = inl (sym s)
-  goes_by (Undecided d) o s = inl (sym s)
+  goes_by (Stop why) o s = inl (sym s)
 
 module _ {I A V : Type 0} (w : Model I A) (F G N M : I → Outcome V → Type 0) where
   pub or_agree : (longer : Bool) → Agree w longer F G → Agree w longer N M → Agree w longer (OnRefusal F N) (OnRefusal G M)
@@ -67,9 +53,9 @@ module _ {I A V : Type 0} (w : Model I A) (F N : I → Outcome V → Type 0) whe
     | inr m ↦ g i n v h m
   ]
 
-  or_never : (large : Bool) → ((i : I) → w.IsKnown i → F i (failure large) → ⊥) → ((i : I) → w.IsKnown i → N i (failure large) → ⊥) → (i : I) →
-      w.IsKnown i → OnRefusal F N i (failure large) → ⊥
-  or_never large f g i h t = elim (goes_by (N i) t.first (failure large) t.goes_on) as (λ _. ⊥) [
+  or_never : (cause : Cause) → ((i : I) → w.IsKnown i → F i (Stop (Fails cause)) → ⊥) → ((i : I) → w.IsKnown i → N i (Stop (Fails cause)) → ⊥) → (i : I) →
+      w.IsKnown i → OnRefusal F N i (Stop (Fails cause)) → ⊥
+  or_never cause f g i h t = elim (goes_by (N i) t.first (Stop (Fails cause)) t.goes_on) as (λ _. ⊥) [
     | inl e ↦ f i h (subst (λ o. F i o) e t.answered)
     | inr m ↦ g i h m
   ]
@@ -146,7 +132,7 @@ module _ {I A V E : Type 0} {w : Model I A} {a b : Meaning I V E} (p : IsLawful 
     frugal = or_frugal Joins Grows;
     settles = λ t. or_carries w (a.answers true) (a.answers false) (b.answers true) (b.answers false) true (p.settles t.0) (q.settles t.1);
     blames_alike = λ t s i o e h c c' d. or_blames_too t s i o h c c' d Joins e;
-    never_fails = λ large g s. or_never w (a.answers s) (b.answers s) large (p.never_fails large g.0 s) (q.never_fails large g.1 s);
+    never_fails = λ cause g s. or_never w (a.answers s) (b.answers s) cause (p.never_fails cause g.0 s) (q.never_fails cause g.1 s);
   }
 
   pub otherwise_lawful : IsLawful w (otherwise_meaning a b)
@@ -157,7 +143,7 @@ module _ {I A V E : Type 0} {w : Model I A} {a b : Meaning I V E} (p : IsLawful 
     frugal = otherwise_frugal;
     settles = λ t. or_carries w (a.answers true) (a.answers false) (b.answers true) (b.answers false) true (p.settles t.0) (q.settles t.1);
     blames_alike = λ t s i o e h c c' d. otherwise_blames_too t s i o h c c' d e;
-    never_fails = λ large g s. or_never w (a.answers s) (b.answers s) large (p.never_fails large g.0 s) (q.never_fails large g.1 s);
+    never_fails = λ cause g s. or_never w (a.answers s) (b.answers s) cause (p.never_fails cause g.0 s) (q.never_fails cause g.1 s);
   }
 
 module _ {I A V E : Type 0} {w : Model I A} {a b : Meaning I V E} where

@@ -1,12 +1,9 @@
 -- The laws of a part and the parser that a closure gives for its output.
 use Rattle.std.proofs.Common.{sym, ◌∙◌, subst}
-use Rattle.nom_traits.specs.Input.{Model, InputLaws}
-use Rattle.nom_traits.specs.View.{View}
-use Rattle.nom_internal.specs.Meaning.{Meaning, IsLawful, IsSteady}
-use Rattle.nom_internal.specs.Families.{IsOne, IsLawfulFamily, AnyKey, of_value_lawful, of_value_steady}
+use Rattle.nom_internal.specs.Prelude.{Model, InputLaws, View, Meaning, IsLawful, IsSteady, IsOne, IsLawfulFamily, AnyKey, of_value_lawful, of_value_steady}
+use Rattle.nom_internal.specs.Prelude.{IsPinned}
 use Rattle.nom_internal.specs.laws.CaseLaws.{labelled_lawful, labelled_steady}
 use Rattle.nom_internal.specs.laws.SequenceLaws.{then_lawful, then_steady}
-use Rattle.nom_internal.specs.Pinned.{IsPinned}
 use Rattle.nom_internal.specs.FlatMap.{Maker, GivesState, IsMaker, OfEachGiven, IsGiven, states_family, given_family, flat_map_meaning}
 
 module _ {P O H S : Type 0} (IsOutput : P → O → Type 0) (g : Maker O H S) (IsSound : S → Type 0) (k : IsMaker IsOutput g IsSound) where
@@ -24,7 +21,7 @@ module _ {I A P O H S Q E : Type 0} {w : Model I A} {IsOutput : P → O → Type
       lawful = λ u key. labelled_lawful (l u (state_sound IsOutput g (λ u. (m u).IsSound) k key.0 u key.1));
       frugal = λ mode h u key. h key.0 u key.1;
       settles = λ h u key. h key.0 u key.1;
-      never_fails = λ large h u key. h key.0 u key.1;
+      never_fails = λ cause h u key. h key.0 u key.1;
     }
 
     given_lawful : IsLawfulFamily w AnyKey (given_family IsOutput g m)

@@ -1,24 +1,18 @@
 -- The laws of parts whose acceptances closures judge.
 use Rattle.std.specs.Prelude.{◌≡◌, ℕ, Bool, true, false, refl}
 use Rattle.std.proofs.Common.{sym, ◌∙◌, ap, subst}
-use Rattle.nom_traits.specs.Input.{Model, IsBoundary}
-use Rattle.nom_internal.specs.Outcome.{Outcome, failure}
-use Rattle.nom_internal.specs.Outcome.Outcome.{Accept, Refuse, Fail, TooLarge, Undecided}
-use Rattle.nom_internal.specs.Meaning.{Meaning, IsLawful, IsSteady}
+use Rattle.nom_internal.specs.Prelude.{Model, IsBoundary, Outcome, Accept, Refuse, Stop, Fails, Needs, Meaning, IsLawful, IsSteady, GivesFor, IsJudge, kept_if}
+use Rattle.nom_internal.specs.Prelude.{Judged, OnUnfit, JudgedBlames, judged_case, judged_meaning, Cause}
 use Rattle.nom_internal.specs.laws.CaseLaws.{CaseLaws, case_lawful, case_steady}
 use Rattle.nom_internal.specs.laws.RecognizedLaws.{AcceptLaws, plain_laws}
-use Rattle.nom_internal.specs.Closures.{GivesFor, IsJudge}
-use Rattle.nom_internal.specs.Judged.{kept_if, Judged, OnUnfit, JudgedBlames, judged_case, judged_meaning}
 
 kept_accepts : {V : Type 0} (b : Bool) (n m : ℕ) (t u : V) → Accept n t ≡ kept_if b (Accept m u) → m ≡ n
 kept_accepts true n m t u e = cc
 kept_accepts false n m t u e = cc
 
-never_kept : {V : Type 0} (large b : Bool) (m : ℕ) (u : V) → failure large ≡ kept_if b (Accept m u) → ⊥
-never_kept true true m u e = cc
-never_kept true false m u e = cc
-never_kept false true m u e = cc
-never_kept false false m u e = cc
+never_kept : {V : Type 0} (cause : Cause) (b : Bool) (m : ℕ) (u : V) → Stop (Fails cause) ≡ kept_if b (Accept m u) → ⊥
+never_kept cause true m u e = cc
+never_kept cause false m u e = cc
 
 module _ {V R : Type 0} (Says : V → R → Type 0) (fits : R → Bool) where
   -- what is judged alike becomes one outcome
@@ -27,23 +21,20 @@ module _ {V R : Type 0} (Says : V → R → Type 0) (fits : R → Bool) where
     same = λ longer x y n u o p kx ky r s k t. s.2 ∙ (ap (λ b. kept_if b (Accept n u)) (one u s.0 t.0 s.1 t.1) ∙ sym t.2);
     alike = λ x y n u o kx ky r s. s;
     place = λ i m n u t h p s. subst (λ k. IsBoundary w i k) (kept_accepts (fits s.0) n m t u s.2) p;
-    never_fails = λ large i n u s. never_kept large (fits s.0) n u s.2;
+    never_fails = λ cause i n u s. never_kept cause (fits s.0) n u s.2;
   }
 
   blames_more : {E : Type 0} (Makes : R → E → Type 0) (a : Outcome V) (X Y : E → Type 0) (e : E) → ((f : E) → X f → Y f) →
       JudgedBlames Says fits Makes a X e → JudgedBlames Says fits Makes a Y e
   blames_more Makes (Accept n t) X Y e f h = h
   blames_more Makes Refuse X Y e f h = f e h
-  blames_more Makes Fail X Y e f h = f e h
-  blames_more Makes TooLarge X Y e f h = f e h
-  blames_more Makes (Undecided k) X Y e f h = h
+  blames_more Makes (Stop (Fails cause)) X Y e f h = f e h
+  blames_more Makes (Stop (Needs k)) X Y e f h = h
 
   unfit_only : (Fact : Type 0) (a : Outcome V) → (Fact → ⊥) → OnUnfit Says fits (λ _. Fact) a → ⊥
   unfit_only Fact (Accept n t) f h = f h.3
   unfit_only Fact Refuse f h = h
-  unfit_only Fact Fail f h = h
-  unfit_only Fact TooLarge f h = h
-  unfit_only Fact (Undecided k) f h = h
+  unfit_only Fact (Stop why) f h = h
 
 module _ {I A V P R E : Type 0} {w : Model I A} {IsOutput : V → P → Type 0} {Takes : P → Type 0} {Gives : P → R → Type 0} {fits : R → Bool}
     {Makes : I → R → E → Type 0} {Grows : Type 0} where

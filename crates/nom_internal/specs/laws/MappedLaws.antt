@@ -1,12 +1,8 @@
 -- The laws of parts whose outputs or errors become others.
 use Rattle.std.specs.Prelude.{true, refl}
-use Rattle.nom_traits.specs.Input.{Model}
-use Rattle.nom_traits.specs.View.{View}
-use Rattle.nom_internal.specs.Meaning.{Meaning, IsLawful, IsSteady}
+use Rattle.nom_internal.specs.Prelude.{Model, View, Meaning, IsLawful, IsSteady, GivesFor, SeesAlike, map_case, map_meaning, renamed_case, renamed_meaning}
+use Rattle.nom_internal.specs.Prelude.{IsPinned}
 use Rattle.nom_internal.specs.laws.CaseLaws.{CaseLaws, fixed_laws, case_lawful, case_steady}
-use Rattle.nom_internal.specs.Closures.{GivesFor, SeesAlike}
-use Rattle.nom_internal.specs.Mapped.{map_case, map_meaning, renamed_case, renamed_meaning}
-use Rattle.nom_internal.specs.Pinned.{IsPinned}
 
 -- what a closure gives for the outputs of one tree is equal as viewed, where they are
 pub given_pinned : {V P R : Type 0} {argument : View P} {result : View R} {IsOutput : V → P → Type 0} {Gives : P → R → Type 0} →

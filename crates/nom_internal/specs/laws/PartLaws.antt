@@ -1,32 +1,20 @@
 -- What the laws of a part give at one input, and from one mode to the other.
 use Rattle.std.specs.Prelude.{◌≡◌, ℕ, Bool, true, false, not}
 use Rattle.std.proofs.Common.{sym, subst}
-use Rattle.nom_traits.specs.Input.{Model, IsSame}
-use Rattle.nom_traits.specs.Rests.{same_self, same_sym}
-use Rattle.nom_internal.specs.Outcome.{Outcome, mapped, failure, IsDecided, OnOutcome}
-use Rattle.nom_internal.specs.Outcome.Outcome.{Accept, Refuse, Fail, TooLarge, Undecided}
-use Rattle.nom_internal.specs.Meaning.{Meaning, IsLawful, Keeps, Agree, Carries, SameBlame}
+use Rattle.nom_internal.specs.Prelude.{Model, IsSame, same_self, same_sym, Outcome, Cause, Accept, Refuse, Stop, Fails, mapped, IsDecided, OnOutcome, Meaning}
+use Rattle.nom_internal.specs.Prelude.{IsLawful, Keeps, Agree, Carries, SameBlame}
 
 -- an outcome with another length and another tree is kept, and fails, as its own does
 pub keeps_mapped : {V W : Type 0} (longer : Bool) (l : ℕ → ℕ) (f : V → W) (o : Outcome V) → Keeps longer (mapped l f o) → Keeps longer o
 keeps_mapped true l f (Accept m v) k = tt
 keeps_mapped true l f Refuse k = tt
-keeps_mapped true l f Fail k = tt
-keeps_mapped true l f TooLarge k = k
-keeps_mapped true l f (Undecided d) k = k
+keeps_mapped true l f (Stop why) k = k
 keeps_mapped false l f o k = tt
 
-pub failure_mapped : {V W : Type 0} (large : Bool) (l : ℕ → ℕ) (f : V → W) (o : Outcome V) → failure large ≡ mapped l f o → o ≡ failure large
-failure_mapped true l f (Accept m v) e = cc
-failure_mapped true l f Refuse e = cc
-failure_mapped true l f Fail e = cc
-failure_mapped true l f TooLarge e = cc
-failure_mapped true l f (Undecided d) e = cc
-failure_mapped false l f (Accept m v) e = cc
-failure_mapped false l f Refuse e = cc
-failure_mapped false l f Fail e = cc
-failure_mapped false l f TooLarge e = cc
-failure_mapped false l f (Undecided d) e = cc
+pub failure_mapped : {V W : Type 0} (cause : Cause) (l : ℕ → ℕ) (f : V → W) (o : Outcome V) → Stop (Fails cause) ≡ mapped l f o → o ≡ Stop (Fails cause)
+failure_mapped cause l f (Accept m v) e = cc
+failure_mapped cause l f Refuse e = cc
+failure_mapped cause l f (Stop why) e = cc (e)
 
 -- two modes of a part, of which the second's decided outcomes are the first's: what is said of the one, said of the other
 pub record Transfers {I A V E : Type 0} (w : Model I A) (P Q : I → Outcome V → Type 0) (B C : I → E → Type 0) : Type 0 where

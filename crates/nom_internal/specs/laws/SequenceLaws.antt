@@ -1,26 +1,19 @@
 -- The laws of a part that is followed by another.
 use Rattle.std.specs.Prelude.{◌≡◌, ℕ, ◌+◌, Bool, true, false, not}
 use Rattle.std.proofs.Common.{sym, ◌∙◌, ap, subst}
-use Rattle.nom_error.specs.Modes.{Modes}
-use Rattle.nom_traits.specs.Input.{Model, InputLaws, IsSuffixOf, IsBoundary, IsSame, Related}
-use Rattle.nom_traits.specs.Rests.{same_self, rest_related, rest_alike, place_more}
-use Rattle.nom_internal.specs.Outcome.{Outcome, IsDecided, IsFault, OnOutcome, failure}
-use Rattle.nom_internal.specs.Outcome.Outcome.{Accept, Refuse, Fail, TooLarge, Undecided}
-use Rattle.nom_internal.specs.Meaning.{Meaning, IsLawful, IsSteady, Keeps, Agree, Carries, Within, SameBlame}
+use Rattle.nom_internal.specs.Prelude.{Modes, Model, InputLaws, IsSuffixOf, IsBoundary, IsSame, Related, same_self, rest_related, rest_alike, place_more}
+use Rattle.nom_internal.specs.Prelude.{Outcome, Cause, Accept, Refuse, Stop, Fails, IsDecided, IsFault, OnOutcome, Meaning, IsLawful}
+use Rattle.nom_internal.specs.Prelude.{IsSteady, Keeps, Agree, Carries, Within, SameBlame, Family, IsLawfulFamily, AnyKey, always, always_lawful, after, GoesOn}
+use Rattle.nom_internal.specs.Prelude.{Then, ThenBlames, then_meaning, sequence_meaning, RunsOutFirst, RunsOutNext}
 use Rattle.nom_internal.specs.laws.PartLaws.{keeps_mapped, failure_mapped, Transfers, transfers, blame_transferred}
-use Rattle.nom_internal.specs.Families.{Family, IsLawfulFamily, AnyKey, always, always_lawful}
-use Rattle.nom_internal.specs.Sequence.{after, GoesOn, Then, ThenBlames, then_meaning, sequence_meaning}
 use Rattle.nom_internal.specs.Sequence.ThenBlames.{BlamesFirst, BlamesNext}
-use Rattle.nom_internal.specs.Sequence.ThenRunsOut.{RunsOutFirst, RunsOutNext}
 
 -- where what follows is kept, so is the first part
 module _ {I A P Q T : Type 0} (w : Model I A) (tree : P → Q → T) (N : P → I → Outcome Q → Type 0) where
   pub keeps_first : (longer : Bool) (x : I) (a : Outcome P) (o : Outcome T) → Keeps longer o → GoesOn w tree N x a o → Keeps longer a
   keeps_first true x (Accept n u) o k s = tt
   keeps_first true x Refuse o k s = tt
-  keeps_first true x Fail o k s = tt
-  keeps_first true x TooLarge o k s = subst (λ y. IsDecided y) s k
-  keeps_first true x (Undecided d) o k s = subst (λ y. IsDecided y) s k
+  keeps_first true x (Stop why) o k s = subst (λ y. IsDecided y) s k
   keeps_first false x a o k s = tt
 
 module _ {I A P Q T : Type 0} (w : Model I A) (l : InputLaws w) (tree : P → Q → T) (longer : Bool) (F G : I → Outcome P → Type 0)
@@ -33,9 +26,7 @@ module _ {I A P Q T : Type 0} (w : Model I A) (l : InputLaws w) (tree : P → Q 
       (keeps_mapped longer (λ m. n + m) (tree u) q (subst (λ z. Keeps longer z) s.4 k)) t.3 in
       s.4 ∙ (ap (λ z. after n (tree u) z) e ∙ sym t.4)
   goes_agree h x y Refuse o p kx ky r k s t = s ∙ sym t
-  goes_agree h x y Fail o p kx ky r k s t = s ∙ sym t
-  goes_agree h x y TooLarge o p kx ky r k s t = s ∙ sym t
-  goes_agree h x y (Undecided d) o p kx ky r k s t = s ∙ sym t
+  goes_agree h x y (Stop why) o p kx ky r k s t = s ∙ sym t
 
   pub then_agree : Agree w longer F G → ((u : P) → Agree w longer (N u) (M u)) → Agree w longer (Then w tree F N) (Then w tree G M)
   then_agree f h x y o p kx ky r s k t =
@@ -53,9 +44,7 @@ module _ {I A P Q T : Type 0} (w : Model I A) (tree : P → Q → T) (decided : 
     t.4,
   )
   goes_carries g x y Refuse o r k t = t
-  goes_carries g x y Fail o r k t = t
-  goes_carries g x y TooLarge o r k t = t
-  goes_carries g x y (Undecided d) o r k t = t
+  goes_carries g x y (Stop why) o r k t = t
 
   pub then_carries : Carries w decided F G → ((u : P) → Carries w decided (N u) (M u)) → Carries w decided (Then w tree F N) (Then w tree G M)
   then_carries f g x y o kx ky r t k = record {
@@ -71,31 +60,21 @@ module _ {I A P Q T : Type 0} (w : Model I A) (tree : P → Q → T) (F : I → 
       let same : m + k ≡ n = cc in
       subst (λ t. IsBoundary w i t) same (place_more w i m j k r (g u j k x r.known b))
   goes_within g i n m v u j Refuse r b e = cc
-  goes_within g i n m v u j Fail r b e = cc
-  goes_within g i n m v u j TooLarge r b e = cc
-  goes_within g i n m v u j (Undecided x) r b e = cc
+  goes_within g i n m v u j (Stop why) r b e = cc
 
   first_within : ((u : P) → Within w (N u)) → (i : I) (n : ℕ) (v : T) (a : Outcome P) → GoesOn w tree N i a (Accept n v) → IsBoundary w i n
   first_within g i n v (Accept m u) t = goes_within g i n m v u t.0 t.1 t.2 t.3 t.4
   first_within g i n v Refuse t = cc
-  first_within g i n v Fail t = cc
-  first_within g i n v TooLarge t = cc
-  first_within g i n v (Undecided x) t = cc
+  first_within g i n v (Stop why) t = cc
 
   pub then_within : ((u : P) → Within w (N u)) → Within w (Then w tree F N)
   then_within g i n v h t = first_within g i n v t.first t.goes_on
 
-  never_goes : (large : Bool) → ((i : I) → w.IsKnown i → F i (failure large) → ⊥) → ((u : P) (i : I) → w.IsKnown i → N u i (failure large) → ⊥) →
-      (i : I) → w.IsKnown i → (a : Outcome P) → F i a → GoesOn w tree N i a (failure large) → ⊥
-  never_goes large f g i h (Accept n u) b t = g u t.0 (t.2).known (subst (λ z. N u t.0 z) (failure_mapped large (λ m. n + m) (tree u) t.1 t.4) t.3)
-  never_goes true f g i h Refuse b t = absurd (cc (t))
-  never_goes true f g i h Fail b t = absurd (cc (t))
-  never_goes true f g i h TooLarge b t = f i h b
-  never_goes true f g i h (Undecided d) b t = absurd (cc (t))
-  never_goes false f g i h Refuse b t = absurd (cc (t))
-  never_goes false f g i h Fail b t = f i h b
-  never_goes false f g i h TooLarge b t = absurd (cc (t))
-  never_goes false f g i h (Undecided d) b t = absurd (cc (t))
+  never_goes : (cause : Cause) → ((i : I) → w.IsKnown i → F i (Stop (Fails cause)) → ⊥) → ((u : P) (i : I) → w.IsKnown i → N u i (Stop (Fails cause)) → ⊥) →
+      (i : I) → w.IsKnown i → (a : Outcome P) → F i a → GoesOn w tree N i a (Stop (Fails cause)) → ⊥
+  never_goes cause f g i h (Accept n u) b t = g u t.0 (t.2).known (subst (λ z. N u t.0 z) (failure_mapped cause (λ m. n + m) (tree u) t.1 t.4) t.3)
+  never_goes cause f g i h Refuse b t = absurd (cc (t))
+  never_goes cause f g i h (Stop why) b t = f i h (subst (λ z. F i z) (cc (t)) b)
 
 module _ {I A P Q T E : Type 0} (w : Model I A) (l : InputLaws w) (tree : P → Q → T) (F G : I → Outcome P → Type 0) (B C : I → E → Type 0)
     (N M : P → I → Outcome Q → Type 0) (D H : P → I → E → Type 0) (f : Transfers w F G B C) (g : (u : P) → Transfers w (N u) (M u) (D u) (H u)) where
@@ -148,8 +127,8 @@ module _ {I A P Q T E : Type 0} {w : Model I A} (l : InputLaws w) {tree : P → 
     blames_alike = λ t s. then_blames w l tree (a.answers s) (a.answers (not s)) (a.blames s) (a.blames (not s)) (λ u. (f.at u).answers s)
         (λ u. (f.at u).answers (not s)) (λ u. (f.at u).blames s) (λ u. (f.at u).blames (not s)) (transfers w a p t.0 s)
         (λ u. transfers w (f.at u) (q.lawful u tt) (q.settles t.1 u tt) s);
-    never_fails = λ large g s i h t. never_goes w tree (a.answers s) (λ u. (f.at u).answers s) large (p.never_fails large g.0 s)
-        (λ u. (q.lawful u tt).never_fails large (q.never_fails large g.1 u tt) s) i h t.first t.answered t.goes_on;
+    never_fails = λ cause g s i h t. never_goes w tree (a.answers s) (λ u. (f.at u).answers s) cause (p.never_fails cause g.0 s)
+        (λ u. (q.lawful u tt).never_fails cause (q.never_fails cause g.1 u tt) s) i h t.first t.answered t.goes_on;
   }
 
   pub then_steady : IsSteady w a → ((u : P) → IsSteady w (f.at u)) → IsSteady w (then_meaning w tree first_mode next_mode a f)

@@ -1,12 +1,7 @@
 -- The laws of tuples, by those of pairs.
 use Rattle.std.specs.Prelude.{◌≡◌, true}
 use Rattle.std.proofs.Common.{sym, ◌∙◌, ap}
-use Rattle.nom_error.specs.Modes.{with_outputs}
-use Rattle.nom_traits.specs.Input.{Model, InputLaws}
-use Rattle.nom_traits.specs.View.{View, single_view}
-use Rattle.nom_internal.specs.Meaning.{Meaning, IsLawful, IsSteady}
-use Rattle.nom_internal.specs.Pinned.{IsPinned}
-use Rattle.nom_internal.specs.Sequence.{pair_meaning}
+use Rattle.nom_internal.specs.Prelude.{with_outputs, Model, InputLaws, View, single_view, Meaning, IsLawful, IsSteady, IsPinned, pair_meaning}
 use Rattle.nom_internal.specs.Tuples.{built_meaning}
 use Rattle.nom_internal.specs.laws.SequenceLaws.{sequence_lawful, sequence_steady}
 

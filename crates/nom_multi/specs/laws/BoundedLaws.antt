@@ -1,9 +1,7 @@
 -- The laws of that many items, or within bounds.
 use Rattle.std.specs.Prelude.{ℕ, true, ltb}
-use Rattle.nom_error.specs.Errors.{Errors}
+use Rattle.nom_internal.specs.Prelude.{Errors, Model, InputLaws, Meaning, IsLawful, IsSteady}
 use Rattle.nom_error.specs.declared.kind.ErrorKind.TheVariants as Kind
-use Rattle.nom_traits.specs.Input.{Model, InputLaws}
-use Rattle.nom_internal.specs.Meaning.{Meaning, IsLawful, IsSteady}
 use Rattle.nom_repeat.specs.laws.InvertedLaws.{error_if_lawful, error_if_steady}
 use Rattle.nom_repeat.specs.laws.ItemsLaws.{items_lawful, items_steady}
 use Rattle.nom_multi.specs.Bounded.{count_meaning, many_m_n_meaning}

@@ -1,14 +1,10 @@
 -- The laws of items until an end.
 use Rattle.std.specs.Prelude.{◌≡◌, ℕ, ◌⊎◌, Bool, true, false, Option, Some, None, zero, suc, refl}
 use Rattle.std.proofs.Common.{inl, inr}
-use Rattle.nom_error.specs.Errors.{Errors}
-use Rattle.nom_traits.specs.Input.{Model, InputLaws}
-use Rattle.nom_internal.specs.Outcome.{Outcome, failure}
-use Rattle.nom_internal.specs.Outcome.Outcome.{Accept, Refuse, Fail, TooLarge, Undecided}
-use Rattle.nom_internal.specs.Meaning.{Meaning, IsLawful, IsSteady}
+use Rattle.nom_internal.specs.Prelude.{Errors, Model, InputLaws, Outcome, Cause, Accept, Refuse, Stop, Fails, Needs, Meaning, IsLawful}
+use Rattle.nom_internal.specs.Prelude.{IsSteady, always, always_lawful}
 use Rattle.nom_internal.specs.laws.CaseLaws.{labelled_lawful, labelled_steady}
 use Rattle.nom_internal.specs.laws.ChoiceLaws.{otherwise_lawful, otherwise_steady}
-use Rattle.nom_internal.specs.Families.{always, always_lawful}
 use Rattle.nom_repeat.specs.Repeat.{Ran}
 use Rattle.nom_repeat.specs.Repeat.Turn.{Ends}
 use Rattle.nom_repeat.specs.laws.RepeatLaws.{KeepsTurn, KeepsReply, EndsAt, RuleLaws, repeat_lawful, repeat_steady}
@@ -17,9 +13,7 @@ use Rattle.nom_multi.specs.Till.{end_or_item, step_turn, till_turn, OnItem, Till
 till_decided : {T V : Type 0} (a : Option (Outcome (T ⊎ V))) → KeepsTurn true (till_turn a) → KeepsReply true a
 till_decided (Some (Accept n u)) h = tt
 till_decided (Some Refuse) h = tt
-till_decided (Some Fail) h = tt
-till_decided (Some TooLarge) h = h
-till_decided (Some (Undecided n)) h = h
+till_decided (Some (Stop why)) h = h
 till_decided None h = tt
 
 step_ends : {T V : Type 0} (u : T ⊎ V) (m n : ℕ) (t : T) → Ends (Accept n t) ≡ step_turn u m → n ≡ m
@@ -30,18 +24,15 @@ step_ends (inr v) (suc m) n t e = absurd (cc (e))
 till_ends : {T V : Type 0} (a : Option (Outcome (T ⊎ V))) (n : ℕ) (t : T) → Ends (Accept n t) ≡ till_turn a → EndsAt n a
 till_ends (Some (Accept m u)) n t e = inr (step_ends u m n t e)
 till_ends (Some Refuse) n t e = absurd (cc (e))
-till_ends (Some Fail) n t e = absurd (cc (e))
-till_ends (Some TooLarge) n t e = absurd (cc (e))
-till_ends (Some (Undecided m)) n t e = absurd (cc (e))
+till_ends (Some (Stop why)) n t e = absurd (cc (e))
 till_ends None n t e = absurd (cc (e))
 
 till_blames : {I T V E : Type 0} (errs : Errors I E) (j : I) (a : Option (Outcome (T ⊎ V))) (X Y : E → Type 0) (e : E) → (Ran a → (f : E) → X f → Y f) →
     TillBlames errs j a X e → TillBlames errs j a Y e
 till_blames errs j (Some (Accept n u)) X Y e f h = h
 till_blames errs j (Some Refuse) X Y e f h = (h.0, f tt h.0 h.1, h.2)
-till_blames errs j (Some Fail) X Y e f h = f tt e h
-till_blames errs j (Some TooLarge) X Y e f h = f tt e h
-till_blames errs j (Some (Undecided n)) X Y e f h = h
+till_blames errs j (Some (Stop (Fails cause))) X Y e f h = f tt e h
+till_blames errs j (Some (Stop (Needs n))) X Y e f h = h
 till_blames errs j None X Y e f h = h
 
 item_asks_none : {T V : Type 0} (Refused Accumulated : Type 0) (u : T ⊎ V) (n : ℕ) → (Refused → ⊥) → (Accumulated → ⊥) → OnItem Refused Accumulated u n → ⊥
@@ -53,31 +44,19 @@ till_asks_none : {T V : Type 0} (Refused Accumulated : Type 0) (a : Option (Outc
     TillAsks Refused Accumulated a → ⊥
 till_asks_none Refused Accumulated (Some (Accept n u)) f g h = item_asks_none Refused Accumulated u n f g h
 till_asks_none Refused Accumulated (Some Refuse) f g h = f h
-till_asks_none Refused Accumulated (Some Fail) f g h = h
-till_asks_none Refused Accumulated (Some TooLarge) f g h = h
-till_asks_none Refused Accumulated (Some (Undecided n)) f g h = h
+till_asks_none Refused Accumulated (Some (Stop why)) f g h = h
 till_asks_none Refused Accumulated None f g h = h
 
-step_never_fails : {T V : Type 0} (large : Bool) (u : T ⊎ V) (n : ℕ) → Ends (failure large) ≡ step_turn u n → ⊥
-step_never_fails true (inl t) n e = absurd (cc (e))
-step_never_fails false (inl t) n e = absurd (cc (e))
-step_never_fails true (inr v) zero e = absurd (cc (e))
-step_never_fails false (inr v) zero e = absurd (cc (e))
-step_never_fails true (inr v) (suc n) e = absurd (cc (e))
-step_never_fails false (inr v) (suc n) e = absurd (cc (e))
+step_never_fails : {T V : Type 0} (cause : Cause) (u : T ⊎ V) (n : ℕ) → Ends (Stop (Fails cause)) ≡ step_turn u n → ⊥
+step_never_fails cause (inl t) n e = absurd (cc (e))
+step_never_fails cause (inr v) zero e = absurd (cc (e))
+step_never_fails cause (inr v) (suc n) e = absurd (cc (e))
 
-till_fails : {T V : Type 0} (large : Bool) (a : Option (Outcome (T ⊎ V))) → Ends (failure large) ≡ till_turn a → a ≡ Some (failure large)
-till_fails large (Some (Accept n u)) e = absurd (step_never_fails large u n e)
-till_fails true (Some Refuse) e = absurd (cc (e))
-till_fails true (Some Fail) e = absurd (cc (e))
-till_fails true (Some TooLarge) e = refl
-till_fails true (Some (Undecided n)) e = absurd (cc (e))
-till_fails true None e = absurd (cc (e))
-till_fails false (Some Refuse) e = absurd (cc (e))
-till_fails false (Some Fail) e = refl
-till_fails false (Some TooLarge) e = absurd (cc (e))
-till_fails false (Some (Undecided n)) e = absurd (cc (e))
-till_fails false None e = absurd (cc (e))
+till_fails : {T V : Type 0} (cause : Cause) (a : Option (Outcome (T ⊎ V))) → Ends (Stop (Fails cause)) ≡ till_turn a → a ≡ Some (Stop (Fails cause))
+till_fails cause (Some (Accept n u)) e = absurd (step_never_fails cause u n e)
+till_fails cause (Some Refuse) e = absurd (cc (e))
+till_fails cause (Some (Stop why)) e = cc (e)
+till_fails cause None e = absurd (cc (e))
 
 till_rule_laws : {I T V E : Type 0} (errs : Errors I E) → RuleLaws (till_rule {T = T} {V = V} errs)
 till_rule_laws errs = record {
@@ -86,7 +65,7 @@ till_rule_laws errs = record {
   blames = λ i k j a P Q e. till_blames errs j a P Q e;
   part_frugal = λ Part mode k h. h.0;
   asks_none = λ Part mode k a h. till_asks_none ((mode.errors ≡ true) × errs.grows) (mode.outputs ≡ true) a (λ p. h.2 p.0 p.1) h.1;
-  never_fails = λ Part large k a h e. (h, till_fails large a e);
+  never_fails = λ Part cause k a h e. (h, till_fails cause a e);
 }
 
 module _ {I A T V E : Type 0} {w : Model I A} (l : InputLaws w) (errs : Errors I E) {m : Meaning I V E} {end : Meaning I T E} where

@@ -1,10 +1,6 @@
 -- The laws of counts of items.
 use Rattle.std.specs.Prelude.{true}
-use Rattle.nom_error.specs.Errors.{Errors}
-use Rattle.nom_traits.specs.Input.{Model, InputLaws}
-use Rattle.nom_traits.specs.View.{itself}
-use Rattle.nom_internal.specs.Meaning.{Meaning, IsLawful, IsSteady}
-use Rattle.nom_internal.specs.Pinned.{IsPinned}
+use Rattle.nom_internal.specs.Prelude.{Errors, Model, InputLaws, itself, Meaning, IsLawful, IsSteady, IsPinned}
 use Rattle.nom_internal.specs.laws.SequenceLaws.{sequence_lawful, sequence_steady}
 use Rattle.nom_repeat.specs.laws.ItemsLaws.{items_lawful, items_steady}
 use Rattle.std.proofs.Common.{sym, ◌∙◌}

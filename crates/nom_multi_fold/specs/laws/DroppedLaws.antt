@@ -1,17 +1,13 @@
 -- The laws of parts whose outputs are never built.
 use Rattle.std.specs.Prelude.{◌≡◌, ℕ, Bool, true, false, refl}
 use Rattle.std.proofs.Common.{sym, ◌∙◌, subst}
-use Rattle.nom_traits.specs.Input.{Model, IsBoundary}
-use Rattle.nom_internal.specs.Outcome.{failure}
-use Rattle.nom_internal.specs.Outcome.Outcome.{Accept}
-use Rattle.nom_internal.specs.Meaning.{Meaning, IsLawful, IsSteady}
+use Rattle.nom_internal.specs.Prelude.{Model, IsBoundary, Cause, Accept, Stop, Fails, Meaning, IsLawful, IsSteady}
 use Rattle.nom_internal.specs.laws.CaseLaws.{case_lawful, case_steady}
 use Rattle.nom_internal.specs.laws.RecognizedLaws.{AcceptLaws, plain_laws}
 use Rattle.nom_multi_fold.specs.Dropped.{dropped_meaning}
 
-never_dropped : {V : Type 0} (large : Bool) (n : ℕ) (v : V) → failure large ≡ Accept n v → ⊥
-never_dropped true n v e = absurd (cc (e))
-never_dropped false n v e = absurd (cc (e))
+never_dropped : {V : Type 0} (cause : Cause) (n : ℕ) (v : V) → Stop (Fails cause) ≡ Accept n v → ⊥
+never_dropped cause n v e = absurd (cc (e))
 
 module _ {I A V : Type 0} (w : Model I A) where
   accept_laws : AcceptLaws w (λ (i : I) n (v : V) o. o ≡ Accept n v)
@@ -19,7 +15,7 @@ module _ {I A V : Type 0} (w : Model I A) where
     same = λ longer x y n u o p kx ky r s k t. s ∙ sym t;
     alike = λ x y n u o kx ky r s. s;
     place = λ i m n u t h p s. let same : m ≡ n = cc (s) in subst (λ z. IsBoundary w i z) same p;
-    never_fails = λ large i n u s. never_dropped large n u s;
+    never_fails = λ cause i n u s. never_dropped cause n u s;
   }
 
 module _ {I A V E : Type 0} {w : Model I A} {m : Meaning I V E} where

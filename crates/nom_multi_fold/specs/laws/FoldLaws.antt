@@ -2,12 +2,8 @@
 use Rattle.std.specs.Prelude.{◌≡◌, ℕ, true, false, List, [], ◌∷◌}
 use Rattle.std.specs.List.{AllZip, FoldsTo}
 use Rattle.std.proofs.Common.{subst}
-use Rattle.nom_error.specs.Errors.{Errors}
+use Rattle.nom_internal.specs.Prelude.{Errors, Model, InputLaws, View, Meaning, IsLawful, IsSteady, IsPinned}
 use Rattle.nom_error.specs.declared.kind.ErrorKind.TheVariants as Kind
-use Rattle.nom_traits.specs.Input.{Model, InputLaws}
-use Rattle.nom_traits.specs.View.{View}
-use Rattle.nom_internal.specs.Meaning.{Meaning, IsLawful, IsSteady}
-use Rattle.nom_internal.specs.Pinned.{IsPinned}
 use Rattle.nom_internal.specs.laws.SequenceLaws.{sequence_lawful, sequence_steady}
 use Rattle.nom_repeat.specs.laws.ItemsLaws.{items_lawful, items_steady}
 use Rattle.nom_multi_fold.specs.Under.{under_lawful, under_steady}

@@ -1,13 +1,8 @@
 -- The laws of bounds that don't fit each other.
 use Rattle.std.specs.Prelude.{◌≡◌, ℕ, Bool, true, false, not}
 use Rattle.std.proofs.Common.{sym, ◌∙◌, inl, inr}
-use Rattle.nom_error.specs.Errors.{Errors}
-use Rattle.nom_error.specs.Modes.{Modes}
-use Rattle.nom_error.specs.declared.kind.ErrorKind.{ErrorKind}
-use Rattle.nom_traits.specs.Input.{Model, IsBoundary}
-use Rattle.nom_internal.specs.Outcome.{Outcome, failure}
-use Rattle.nom_internal.specs.Outcome.Outcome.{Accept}
-use Rattle.nom_internal.specs.Meaning.{Meaning, IsLawful, IsSteady, Agree, Carries, SameBlame}
+use Rattle.nom_internal.specs.Prelude.{Errors, Modes, ErrorKind, Model, IsBoundary, Outcome, Cause, Accept, Stop, Fails, Meaning, IsLawful, IsSteady, Agree}
+use Rattle.nom_internal.specs.Prelude.{Carries, SameBlame}
 use Rattle.nom_repeat.specs.Inverted.{error_outcome}
 use Rattle.nom_repeat.specs.laws.InvertedLaws.{no_accept}
 use Rattle.nom_multi_fold.specs.Unfit.{Where, unfit}
@@ -52,10 +47,10 @@ module _ {I A V E : Type 0} {w : Model I A} (errs : Errors I E) (kind : ErrorKin
       blames t s i o e h (inr a) (inl b) d (inr z) = absurd (z.0 b.0)
       blames t s i o e h (inr a) (inr b) d (inr z) = inr (z.0, p.blames_alike t s i o e h a.1 b.1 d z.1)
 
-      never : (large : Bool) → (unfit errs kind fails IsUnfit m).NeverFails large → (s : Bool) (i : I) → w.IsKnown i →
-          (unfit errs kind fails IsUnfit m).answers s i (failure large) → ⊥
-      never large g s i h (inl a) = g.0 a.0 (sym a.1)
-      never large g s i h (inr a) = p.never_fails large (g.1 a.0) s i h a.1
+      never : (cause : Cause) → (unfit errs kind fails IsUnfit m).NeverFails cause → (s : Bool) (i : I) → w.IsKnown i →
+          (unfit errs kind fails IsUnfit m).answers s i (Stop (Fails cause)) → ⊥
+      never cause g s i h (inl a) = g.0 a.0 (sym a.1)
+      never cause g s i h (inr a) = p.never_fails cause (g.1 a.0) s i h a.1
 
   pub unfit_steady : IsSteady w m → IsSteady w (unfit errs kind fails IsUnfit m)
   unfit_steady p = record { stays = where_agree w IsUnfit fails true (m.answers true) p.stays }

@@ -1,9 +1,7 @@
 -- The laws of what stands after a length.
 use Rattle.std.specs.Prelude.{ℕ, List, Option}
-use Rattle.nom_error.specs.Errors.{Errors}
-use Rattle.nom_traits.specs.Input.{Model, InputLaws}
-use Rattle.nom_internal.specs.Meaning.{Meaning, IsLawful, IsSteady}
-use Rattle.nom_internal.specs.Families.{Family, IsLawfulFamily, IsOne, of_value, of_value_lawful, of_value_steady}
+use Rattle.nom_internal.specs.Prelude.{Errors, Model, InputLaws, Meaning, IsLawful, IsSteady, Family, IsLawfulFamily, IsOne, of_value, of_value_lawful}
+use Rattle.nom_internal.specs.Prelude.{of_value_steady}
 use Rattle.nom_internal.specs.laws.SequenceLaws.{then_lawful, then_steady}
 use Rattle.nom_bytes.specs.laws.TakeLaws.{take_lawful, take_steady}
 use Rattle.nom_repeat.specs.laws.ItemsLaws.{items_lawful, items_steady}
@@ -26,7 +24,7 @@ module _ {I A P E : Type 0} {w : Model I A} (l : InputLaws w) (errs : Errors I E
         lawful = λ n _. take_lawful w errs lack n;
         frugal = λ mode h n _. h;
         settles = λ h n _. h;
-        never_fails = λ large h n _. h;
+        never_fails = λ cause h n _. h;
       } in
       behind_lawful l one (takes_by_count w errs lack) p takes
 
@@ -41,7 +39,7 @@ module _ {I A P V E : Type 0} {w : Model I A} (l : InputLaws w) (errs : Errors I
         lawful = λ n _. items_lawful l errs (exact_limits n) q;
         frugal = λ mode h n _. (h.0, (λ e _. h.1 e), h.2);
         settles = λ h n _. h;
-        never_fails = λ large h n _. h;
+        never_fails = λ cause h n _. h;
       } in
       behind_lawful l one (items_by_count w errs m) p items
 

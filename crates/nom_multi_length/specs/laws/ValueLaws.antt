@@ -1,20 +1,13 @@
 -- The laws of a value after a length.
 use Rattle.std.specs.Prelude.{◌≡◌, ℕ, ◌-◌, ◌<◌, ◌≤◌, Bool, true, false, List, [], ◌∷◌, ◌++◌, Some, refl}
 use Rattle.std.proofs.Common.{arith, inl, inr, sym, ◌∙◌, ap, subst}
-use Rattle.nom_error.specs.Errors.{Errors}
-use Rattle.nom_error.specs.Modes.{Modes}
+use Rattle.nom_internal.specs.Prelude.{Errors, Modes, Model, InputLaws, items_len, input_len, IsBoundary, Related, items_len-append, IsModelledBy, first_place}
+use Rattle.nom_internal.specs.Prelude.{first_related, same_length, Outcome, Cause, Accept, Refuse, Stop, Fails, Needs, Meaning, IsLawful, IsSteady}
+use Rattle.nom_internal.specs.Prelude.{IsLawfulFamily, IsOne, LeafLaws, leaf_lawful, leaf_steady}
 use Rattle.nom_error.specs.declared.kind.ErrorKind.TheVariants as Kind
-use Rattle.nom_traits.specs.Input.{Model, InputLaws, items_len, input_len, IsBoundary, Related}
-use Rattle.nom_traits.specs.Rests.{items_len-append}
-use Rattle.nom_traits.specs.Slices.{IsModelledBy, first_place, first_related, same_length}
-use Rattle.nom_internal.specs.Outcome.{Outcome, failure}
-use Rattle.nom_internal.specs.Outcome.Outcome.{Accept, Refuse, Fail, TooLarge, Undecided}
-use Rattle.nom_internal.specs.Meaning.{Meaning, IsLawful, IsSteady}
 use Rattle.nom_internal.specs.Bounded.{AreAlike}
 use Rattle.nom_internal.specs.laws.BoundedLaws.{and_then_lawful, and_then_steady}
 use Rattle.nom_internal.specs.laws.CaseLaws.{fixed_lawful, fixed_steady}
-use Rattle.nom_internal.specs.Families.{IsLawfulFamily, IsOne}
-use Rattle.nom_internal.specs.Leaf.{LeafLaws, leaf_lawful, leaf_steady}
 use Rattle.nom_multi_length.specs.laws.LengthLaws.{behind_lawful, behind_steady}
 use Rattle.nom_multi_length.specs.Values.{cuts, window_meaning, settled, settled_meaning, values_by_length, length_value_meaning}
 
@@ -74,17 +67,14 @@ module _ {I A E : Type 0} {w : Model I A} (l : InputLaws w) (errs : Errors I E) 
 settled_accepts : {V : Type 0} (n : ℕ) (v : V) (a : Outcome V) → Accept n v ≡ settled a → a ≡ Accept n v
 settled_accepts n v (Accept m u) e = sym e
 settled_accepts n v Refuse e = absurd (cc (e))
-settled_accepts n v Fail e = absurd (cc (e))
-settled_accepts n v TooLarge e = absurd (cc (e))
-settled_accepts n v (Undecided k) e = absurd (cc (e))
+settled_accepts n v (Stop (Fails cause)) e = absurd (cc (e))
+settled_accepts n v (Stop (Needs k)) e = absurd (cc (e))
 
-settled_fails : {V : Type 0} (large : Bool) (a : Outcome V) → failure large ≡ settled a → a ≡ failure large
-settled_fails large (Accept m u) e = sym e
-settled_fails large Refuse e = sym e
-settled_fails large Fail e = sym e
-settled_fails large TooLarge e = sym e
-settled_fails true (Undecided k) e = absurd (cc (e))
-settled_fails false (Undecided k) e = absurd (cc (e))
+settled_fails : {V : Type 0} (cause : Cause) (a : Outcome V) → Stop (Fails cause) ≡ settled a → a ≡ Stop (Fails cause)
+settled_fails cause (Accept m u) e = sym e
+settled_fails cause Refuse e = sym e
+settled_fails cause (Stop (Fails own)) e = sym e
+settled_fails cause (Stop (Needs k)) e = absurd (cc (e))
 
 module _ {I A V E : Type 0} (w : Model I A) (errs : Errors I E) (m : Meaning I V E) (l : IsLawful w m) where
   settled_frugal : (mode : Modes) (i : I) → w.IsKnown i → (settled_meaning errs m).IsFrugal mode → (settled_meaning errs m).may_run_out mode i → ⊥
@@ -99,7 +89,7 @@ module _ {I A V E : Type 0} (w : Model I A) (errs : Errors I E) (m : Meaning I V
     frugal = settled_frugal;
     settles = λ t. absurd t;
     blames_alike = λ t. absurd t;
-    never_fails = λ large g s i h a. l.never_fails large g s i h (subst (λ z. m.answers s i z) (settled_fails large a.0 a.2) a.1);
+    never_fails = λ cause g s i h a. l.never_fails cause g s i h (subst (λ z. m.answers s i z) (settled_fails cause a.0 a.2) a.1);
   }
 
 -- what is modelled by one slice is equal as models
@@ -114,7 +104,7 @@ module _ {I A P V E : Type 0} {w : Model I A} (i : InputLaws w) (errs : Errors I
         lawful = λ n _. and_then_lawful (slices_alike w) (settled_lawful w errs m l) i (window_lawful i errs n);
         frugal = λ mode h n _. (h.1, h);
         settles = λ h n _. absurd h;
-        never_fails = λ large h n _. (tt, h);
+        never_fails = λ cause h n _. (tt, h);
       } in
       behind_lawful i one (values_by_length w errs m) p values
 

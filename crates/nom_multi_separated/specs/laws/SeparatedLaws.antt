@@ -1,12 +1,8 @@
 -- The laws of items with a separator between them.
 use Rattle.std.specs.Prelude.{Bool, false, List, [], ◌∷◌}
-use Rattle.nom_error.specs.Errors.{Errors}
-use Rattle.nom_error.specs.Modes.{Modes}
-use Rattle.nom_traits.specs.Input.{Model, InputLaws}
-use Rattle.nom_internal.specs.Meaning.{Meaning, IsLawful, IsSteady}
+use Rattle.nom_internal.specs.Prelude.{Errors, Modes, Model, InputLaws, Meaning, IsLawful, IsSteady, IsLawfulFamily, AnyKey, success_lawful, success_steady}
+use Rattle.nom_internal.specs.Prelude.{Cause}
 use Rattle.nom_internal.specs.laws.SequenceLaws.{then_lawful, then_steady, sequence_lawful, sequence_steady}
-use Rattle.nom_internal.specs.Families.{IsLawfulFamily, AnyKey}
-use Rattle.nom_internal.specs.Success.{success_lawful, success_steady}
 use Rattle.nom_repeat.specs.laws.ItemsLaws.{items_lawful, items_steady}
 use Rattle.nom_sequence.specs.laws.SequenceLaws.{preceded_lawful, preceded_steady}
 use Rattle.nom_multi_separated.specs.Separated.{further_meaning, separated1_meaning, optional_limits, follows, following, separated0_meaning}
@@ -32,7 +28,7 @@ module _ {I A P V E : Type 0} {w : Model I A} (l : InputLaws w) (errs : Errors I
     lawful = λ vs _. lawful_at vs;
     frugal = λ mode h vs _. frugal_at mode h vs;
     settles = λ h vs _. settles_at h vs;
-    never_fails = λ large h vs _. never_at large h vs;
+    never_fails = λ cause h vs _. never_at cause h vs;
   }
     where
       lawful_at : (vs : List V) → IsLawful w (follows w errs separator m vs)
@@ -47,9 +43,9 @@ module _ {I A P V E : Type 0} {w : Model I A} (l : InputLaws w) (errs : Errors I
       settles_at h [] = tt
       settles_at h (v ∷ vs) = h
 
-      never_at : (large : Bool) → (further_meaning w errs separator m).NeverFails large → (vs : List V) → (follows w errs separator m vs).NeverFails large
-      never_at large h [] = tt
-      never_at large h (v ∷ vs) = h
+      never_at : (cause : Cause) → (further_meaning w errs separator m).NeverFails cause → (vs : List V) → (follows w errs separator m vs).NeverFails cause
+      never_at cause h [] = tt
+      never_at cause h (v ∷ vs) = h
 
   pub separated0_lawful : IsLawful w separator → IsLawful w m → IsLawful w (separated0_meaning w errs separator m)
   separated0_lawful q p = then_lawful l (following w errs separator m) (items_lawful l errs optional_limits p) (following_lawful q p)

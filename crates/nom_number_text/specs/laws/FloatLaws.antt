@@ -2,13 +2,9 @@
 use Rattle.std.specs.Prelude.{◌≡◌, ℕ, ◌==◌, Some}
 use Rattle.std.specs.Char.{len_utf8}
 use Rattle.nom_error.specs.declared.kind.ErrorKind.TheVariants as Kind
-use Rattle.nom_error.specs.Errors.{Errors}
+use Rattle.nom_internal.specs.Prelude.{Errors, Model, InputLaws, AreValues, Meaning, IsLawful, IsSteady, recognized_meaning, pair_meaning}
 use Rattle.nom_traits.specs.declared.character.AsciiClass.TheVariants as Class
-use Rattle.nom_traits.specs.Input.{Model, InputLaws, AreValues}
-use Rattle.nom_internal.specs.Meaning.{Meaning, IsLawful, IsSteady}
-use Rattle.nom_internal.specs.Recognized.{recognized_meaning}
 use Rattle.nom_internal.specs.laws.RecognizedLaws.{recognized_lawful, recognized_steady}
-use Rattle.nom_internal.specs.Sequence.{pair_meaning}
 use Rattle.nom_internal.specs.laws.SequenceLaws.{sequence_lawful, sequence_steady}
 use Rattle.nom_branch.specs.Alternatives.{next_meaning, choice_meaning}
 use Rattle.nom_branch.specs.laws.AlternativeLaws.{next_lawful, next_steady, choice_lawful, choice_steady}

@@ -3,13 +3,9 @@ use Rattle.std.specs.Prelude.{◌≡◌, ℕ, Bool, true, false, ◌++◌, take,
 use Rattle.std.proofs.Common.{sym, ◌∙◌, ap, subst, append_assoc}
 use Rattle.std.proofs.lemmas.List.{take-append-drop}
 use Rattle.nom_error.specs.declared.kind.ErrorKind.TheVariants as Kind
-use Rattle.nom_error.specs.Errors.{Errors}
+use Rattle.nom_internal.specs.Prelude.{Errors, Model, AreValues, IsBoundary, items_len, Slice, IsFirst, first_related, Cause, Accept, Stop, Fails, Passes}
+use Rattle.nom_internal.specs.Prelude.{plain_case}
 use Rattle.nom_traits.specs.declared.character.AsciiClass.TheVariants as Class
-use Rattle.nom_traits.specs.Input.{Model, AreValues, IsBoundary, items_len}
-use Rattle.nom_traits.specs.Slices.{Slice, IsFirst, first_related}
-use Rattle.nom_internal.specs.Outcome.{failure}
-use Rattle.nom_internal.specs.Outcome.Outcome.{Accept}
-use Rattle.nom_internal.specs.Cases.{Passes, plain_case}
 use Rattle.nom_internal.specs.laws.CaseLaws.{CaseLaws, case_lawful, case_steady}
 use Rattle.nom_internal.specs.laws.RecognizedLaws.{AcceptLaws, plain_laws}
 use Rattle.nom_character.specs.ClassRuns.{class_lawful, class_steady}
@@ -26,9 +22,8 @@ module _ {I A : Type 0} (w : Model I A) (code : A → ℕ) where
     length_is = refl;
   }
 
-  never_eight : (large : Bool) (i : I) (n : ℕ) (t : Slice w) → FirstEight w code i n t (failure large) → ⊥
-  never_eight true i n t s = absurd (cc (s.1))
-  never_eight false i n t s = absurd (cc (s.1))
+  never_eight : (cause : Cause) (i : I) (n : ℕ) (t : Slice w) → FirstEight w code i n t (Stop (Fails cause)) → ⊥
+  never_eight cause i n t s = absurd (cc (s.1))
 
   accepted_place : (i : I) (m n : ℕ) (t : Slice w) (v : ℕ) → FirstEight w code i m t (Accept n v) → IsBoundary w i n
   accepted_place i m n t v s = let same : items_len w.item_len (take 8 t.items) ≡ n = cc (s.1) in subst (λ z. IsBoundary w i z) same (eight_place i m t s.0)
@@ -38,7 +33,7 @@ module _ {I A : Type 0} (w : Model I A) (code : A → ℕ) where
     same = λ longer x y n t o p kx ky r s k u. s.1 ∙ sym u.1;
     alike = λ x y n t o kx ky r s. (first_related w false x y n t r s.0, s.1);
     place = λ i m n t v h p s. accepted_place i m n t v s;
-    never_fails = λ large i n t s. never_eight large i n t s;
+    never_fails = λ cause i n t s. never_eight cause i n t s;
   }
 
   module _ (IsValue : A → Type 0) (values : (i : I) → w.IsKnown i → AreValues IsValue (w.elements i)) {E : Type 0} (errs : Errors I E) where

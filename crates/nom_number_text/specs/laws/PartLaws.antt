@@ -2,13 +2,8 @@
 use Rattle.std.specs.Prelude.{◌≡◌, ℕ, None}
 use Rattle.std.specs.Int.{w32}
 use Rattle.std.proofs.Common.{sym, ◌∙◌}
-use Rattle.nom_error.specs.Errors.{Errors}
+use Rattle.nom_internal.specs.Prelude.{Errors, Model, InputLaws, AreValues, IsSame, View, itself, view_4, Meaning, IsModelledBy, IsPinned, slice_pinned}
 use Rattle.nom_traits.specs.declared.character.AsciiClass.TheVariants as Class
-use Rattle.nom_traits.specs.Input.{Model, InputLaws, AreValues, IsSame}
-use Rattle.nom_traits.specs.View.{View, itself, view_4}
-use Rattle.nom_internal.specs.Meaning.{Meaning}
-use Rattle.nom_traits.specs.Slices.{IsModelledBy}
-use Rattle.nom_internal.specs.Pinned.{IsPinned, slice_pinned}
 use Rattle.nom_character.specs.ClassRuns.{class_lawful, class_steady}
 use Rattle.nom_character_first.specs.FirstItem.{char_meaning}
 use Rattle.nom_sequence.specs.Sequences.{preceded_meaning}

@@ -3,14 +3,9 @@ use Rattle.std.specs.Prelude.{◌≡◌, ℕ, ◌==◌, Bool, true, false, cond,
 use Rattle.std.proofs.Common.{ap}
 use Rattle.std.specs.Char.{to_ascii_lowercase}
 use Rattle.nom_error.specs.declared.kind.ErrorKind.TheVariants as Kind
-use Rattle.nom_error.specs.Errors.{Errors}
-use Rattle.nom_traits.specs.Input.{Model, IsSame}
+use Rattle.nom_internal.specs.Prelude.{Errors, Model, IsSame, IsModelledBy, View, EitherOutput, IsPinned, slice_pinned, either_pinned, Meaning, IsLawful}
+use Rattle.nom_internal.specs.Prelude.{IsSteady}
 use Rattle.nom_internal.specs.laws.MappedLaws.{renamed_lawful, renamed_steady}
-use Rattle.nom_traits.specs.Slices.{IsModelledBy}
-use Rattle.nom_traits.specs.View.{View}
-use Rattle.nom_internal.specs.Choice.{EitherOutput}
-use Rattle.nom_internal.specs.Pinned.{IsPinned, slice_pinned, either_pinned}
-use Rattle.nom_internal.specs.Meaning.{Meaning, IsLawful, IsSteady}
 use Rattle.nom_branch.specs.laws.AlternativeLaws.{next_lawful, next_steady, choice_lawful, choice_steady}
 use Rattle.nom_character.specs.LineMatches.{Match, one_more}
 use Rattle.nom_character.specs.LineMatches.Match.{Full, Absent, Partial}

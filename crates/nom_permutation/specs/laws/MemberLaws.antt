@@ -1,7 +1,6 @@
 -- How the outputs of a permutation's members are compared.
 use Rattle.std.specs.Prelude.{◌≡◌, Option, Some, None}
-use Rattle.nom_traits.specs.View.{View}
-use Rattle.nom_internal.specs.Pinned.{IsPinned}
+use Rattle.nom_internal.specs.Prelude.{View, IsPinned}
 use Rattle.nom_permutation.specs.Rounds.{IsApplied}
 
 -- an output of an applied member, as it is compared

@@ -1,12 +1,9 @@
 -- The laws of members, by those before the last and by the last.
 use Rattle.std.specs.Prelude.{◌≡◌, ℕ, ◌+◌, Bool, List, [], ◌∷◌, length, Option, Some, None, refl}
 use Rattle.std.proofs.Common.{◌∙◌, arith, ap, subst, sym}
-use Rattle.nom_traits.specs.Input.{Model}
-use Rattle.nom_traits.specs.View.{View, pair_view}
-use Rattle.nom_internal.specs.Pinned.{IsPinned, pair_pinned}
+use Rattle.nom_internal.specs.Prelude.{Model, View, pair_view, IsPinned, pair_pinned, Meaning, IsLawful, IsSteady}
 use Rattle.nom_permutation_slots.specs.declared.slots.Slot.{Slot}
 use Rattle.nom_internal.specs.declared.flat.One.{One}
-use Rattle.nom_internal.specs.Meaning.{Meaning, IsLawful, IsSteady}
 use Rattle.nom_permutation.specs.Members.{Member, member, EachMember, AreSound, AreLawful, AreSteady, Choice, IsOver, or_waiting, or_members, tried}
 use Rattle.nom_permutation.specs.Members.{among_more, with_last}
 use Rattle.nom_permutation.specs.Members.Choice.{NoChoice, Among}

@@ -1,16 +1,10 @@
 -- The laws of permutations.
 use Rattle.std.specs.Prelude.{◌≡◌, ℕ, Bool, true, false, List, [], ◌∷◌, length, Option, Some, None}
 use Rattle.std.proofs.Common.{sym, ◌∙◌, subst, zero, suc}
-use Rattle.nom_error.specs.Modes.{Modes}
-use Rattle.nom_traits.specs.Input.{Model, InputLaws, IsBoundary}
-use Rattle.nom_internal.specs.Outcome.{failure}
-use Rattle.nom_internal.specs.Outcome.Outcome.{Accept}
-use Rattle.nom_internal.specs.Meaning.{Meaning, IsLawful, IsSteady}
-use Rattle.nom_internal.specs.Cases.{labelled_meaning}
+use Rattle.nom_internal.specs.Prelude.{Modes, Model, InputLaws, IsBoundary, Cause, Accept, Stop, Fails, Meaning, IsLawful, IsSteady, labelled_meaning}
+use Rattle.nom_internal.specs.Prelude.{IsLawfulFamily, AnyKey, then_meaning}
 use Rattle.nom_internal.specs.laws.CaseLaws.{no_place, labelled_lawful, labelled_steady, closed_lawful, closed_steady}
 use Rattle.nom_internal.specs.laws.ChoiceLaws.{or_lawful, or_steady}
-use Rattle.nom_internal.specs.Families.{IsLawfulFamily, AnyKey}
-use Rattle.nom_internal.specs.Sequence.{then_meaning}
 use Rattle.nom_internal.specs.laws.SequenceLaws.{then_lawful, then_steady}
 use Rattle.nom_permutation.specs.Members.Choice.{NoChoice, Among}
 use Rattle.nom_permutation.specs.Members.{Member, EachMember, AreLawful, AreSteady, Choice, or_waiting, or_members}
@@ -26,7 +20,7 @@ OfChoice Law (Among m) = Law m
 pub record IsPromised {I T W E : Type 0} (Grows : Type 0) (ms : List (Member I T E)) (m : Meaning I W E) : Type 0 where
   pub frugal : (mode : Modes) → AreFrugal Grows ms mode → m.IsFrugal mode
   pub settles : AllSettle ms → m.Settles
-  pub never_fails : (large : Bool) → NoneFails ms large → m.NeverFails large
+  pub never_fails : (cause : Cause) → NoneFails ms cause → m.NeverFails cause
 
 -- a lawful meaning that promises what all members do
 pub record IsGood {I A T W E : Type 0} (w : Model I A) (Grows : Type 0) (ms : List (Member I T E)) (m : Meaning I W E) : Type 0 where
@@ -43,7 +37,7 @@ module _ {I A T W E : Type 0} (w : Model I A) (Grows : Type 0) (all : List (Memb
     frugal = λ mode i k f. h.lawful.frugal mode i k (h.promises.frugal mode f);
     settles = λ t. h.lawful.settles (h.promises.settles t);
     blames_alike = λ t. h.lawful.blames_alike (h.promises.settles t);
-    never_fails = λ large f. h.lawful.never_fails large (h.promises.never_fails large f);
+    never_fails = λ cause f. h.lawful.never_fails cause (h.promises.never_fails cause f);
   }
 
   promised_steady : {m : Meaning I W E} → IsSteady w m → IsSteady w (promised Grows all m)
@@ -61,9 +55,8 @@ module _ {I A V : Type 0} (w : Model I A) (t : V) where
     never_fails = never;
   }
     where
-      never : (large : Bool) → Unit {0} → (s : Bool) (i : I) → w.IsKnown i → failure large ≡ Accept 0 t → ⊥
-      never true f s i h a = cc (a)
-      never false f s i h a = cc (a)
+      never : (cause : Cause) → Unit {0} → (s : Bool) (i : I) → w.IsKnown i → Stop (Fails cause) ≡ Accept 0 t → ⊥
+      never cause f s i h a = cc (a)
 
   done_steady : (E : Type 0) → IsSteady w (done_meaning {I = I} {E = E} t)
   done_steady E = record { stays = λ x y o q kx ky r a z b. a ∙ sym b }
@@ -86,7 +79,7 @@ module _ {I A T P E : Type 0} (w : Model I A) (Joins : E → E → E → Type 0)
     promises = record {
       frugal = λ mode f. (h.promises.frugal mode f, k.promises.frugal mode f, f.1);
       settles = λ t. (h.promises.settles t, k.promises.settles t);
-      never_fails = λ large f. (h.promises.never_fails large f, k.promises.never_fails large f);
+      never_fails = λ cause f. (h.promises.never_fails cause f, k.promises.never_fails cause f);
     };
   }
 
@@ -116,17 +109,17 @@ module _ {I A T E : Type 0} (w : Model I A) (Joins : E → E → E → Type 0) (
 module _ {I A T E : Type 0} (w : Model I A) (Grows : Type 0) (all : List (Member I T E)) where
   each_good : (ms : List (Member I T E)) → EachMember (λ a. IsLawful w a.meaning) ms →
       ((mode : Modes) → AreFrugal Grows all mode → EachMember (λ a. a.meaning.IsFrugal mode) ms) → (AllSettle all → AllSettle ms) →
-      ((large : Bool) → NoneFails all large → NoneFails ms large) → EachMember (λ a. IsGood w Grows all a.meaning) ms
+      ((cause : Cause) → NoneFails all cause → NoneFails ms cause) → EachMember (λ a. IsGood w Grows all a.meaning) ms
   each_good [] h f g k = tt
   each_good (m ∷ ms) h f g k = (
-    record { lawful = h.0; promises = record { frugal = λ mode x. (f mode x).0; settles = λ x. (g x).0; never_fails = λ large x. (k large x).0 } },
-    each_good ms h.1 (λ mode x. (f mode x).1) (λ x. (g x).1) (λ large x. (k large x).1),
+    record { lawful = h.0; promises = record { frugal = λ mode x. (f mode x).0; settles = λ x. (g x).0; never_fails = λ cause x. (k cause x).0 } },
+    each_good ms h.1 (λ mode x. (f mode x).1) (λ x. (g x).1) (λ cause x. (k cause x).1),
   )
 
 module _ {I A T E : Type 0} (w : Model I A) (Closes : I → E → E → Type 0) (Grows : Type 0) where
   module _ (all : List (Member I T E)) where
     done_good : (t : T) → IsGood w Grows all (done_meaning {I = I} {E = E} t)
-    done_good t = record { lawful = done_lawful w t; promises = record { frugal = λ mode f. tt; settles = λ f. tt; never_fails = λ large f. tt } }
+    done_good t = record { lawful = done_lawful w t; promises = record { frugal = λ mode f. tt; settles = λ f. tt; never_fails = λ cause f. tt } }
 
     round_good : (t : T) (o : Choice I T E) → OfChoice (λ n. IsGood w Grows all n) o → IsGood w Grows all (round_meaning Closes Grows t o)
     round_good t NoChoice h = done_good t
@@ -141,15 +134,15 @@ module _ {I A T E : Type 0} (w : Model I A) (Closes : I → E → E → Type 0) 
 
 module _ {I A T E : Type 0} (w : Model I A) (Joins : E → E → E → Type 0) (Closes : I → E → E → Type 0) (Grows : Type 0) (ms : List (Member I T E)) where
   rounds_promise : (n : ℕ) (t : T) → IsPromised Grows ms (rounds_meaning w Joins Closes Grows ms n t)
-  rounds_promise zero t = record { frugal = λ mode f. f; settles = λ f. f; never_fails = λ large f. f }
-  rounds_promise (suc n) t = record { frugal = λ mode f. f; settles = λ f. f; never_fails = λ large f. f }
+  rounds_promise zero t = record { frugal = λ mode f. f; settles = λ f. f; never_fails = λ cause f. f }
+  rounds_promise (suc n) t = record { frugal = λ mode f. f; settles = λ f. f; never_fails = λ cause f. f }
 
   module _ (l : InputLaws w) where
     rounds_lawful : AreLawful w ms → (n : ℕ) (t : T) → IsLawful w (rounds_meaning w Joins Closes Grows ms n t)
     rounds_lawful h zero t = good_lawful w Grows ms (done_meaning t) (done_good w Closes Grows ms t)
     rounds_lawful h (suc n) t =
         let tried = or_members Joins Grows t NoChoice ms in
-        let good = members_good w Joins Grows ms t NoChoice ms tt (each_good w Grows ms ms h (λ mode f. f.0) (λ f. f) (λ large f. f)) in
+        let good = members_good w Joins Grows ms t NoChoice ms tt (each_good w Grows ms ms h (λ mode f. f.0) (λ f. f) (λ cause f. f)) in
         let round = round_good w Closes Grows ms t tried good in
         let next = promised_family Grows ms (rounds_meaning w Joins Closes Grows ms n) in
         let family : IsLawfulFamily w AnyKey next =
@@ -158,7 +151,7 @@ module _ {I A T E : Type 0} (w : Model I A) (Joins : E → E → E → Type 0) (
           frugal = λ mode f u _. (rounds_promise n u).frugal mode f;
           settles =
               λ f u _. (rounds_promise n u).settles f;
-          never_fails = λ large f u _. (rounds_promise n u).never_fails large f;
+          never_fails = λ cause f u _. (rounds_promise n u).never_fails cause f;
         } in
         good_lawful w Grows ms (then_meaning w (λ _ u. u) (λ o. o) (λ o. o) (round_meaning Closes Grows t tried) next) (record {
           lawful = then_lawful l next round.lawful family;
@@ -166,7 +159,7 @@ module _ {I A T E : Type 0} (w : Model I A) (Joins : E → E → E → Type 0) (
             frugal = λ mode f. (round.promises.frugal mode f, f);
             settles = λ f. (round.promises.settles f, f);
             never_fails =
-                λ large f. (round.promises.never_fails large f, f);
+                λ cause f. (round.promises.never_fails cause f, f);
           };
         })
 

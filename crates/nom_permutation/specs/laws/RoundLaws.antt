@@ -2,7 +2,7 @@
 use Rattle.std.specs.Prelude.{◌≡◌, ℕ, ◌+◌, Bool, Option, Some, None}
 use Rattle.std.proofs.Common.{arith, ap}
 use Rattle.nom_permutation_slots.specs.declared.slots.Slot.{Slot}
-use Rattle.nom_internal.specs.Meaning.{Meaning}
+use Rattle.nom_internal.specs.Prelude.{Meaning}
 use Rattle.nom_permutation.specs.Members.{Choice, IsOver, or_waiting}
 use Rattle.nom_permutation.specs.Members.Choice.{NoChoice}
 use Rattle.nom_permutation.specs.Rounds.{SlotHolds, waits}

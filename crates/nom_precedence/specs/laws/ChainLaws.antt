@@ -1,11 +1,8 @@
 -- The laws of items in turn, of which one may be stuck.
 use Rattle.std.specs.Prelude.{◌≡◌, ℕ, ◌⊎◌, Bool, true, false, Option, Some, None, zero, suc, refl}
 use Rattle.std.proofs.Common.{inl, inr}
-use Rattle.nom_traits.specs.Input.{Model, InputLaws}
-use Rattle.nom_internal.specs.Outcome.{Outcome, failure}
-use Rattle.nom_internal.specs.Outcome.Outcome.{Accept, Refuse, Fail, TooLarge, Undecided}
-use Rattle.nom_internal.specs.Meaning.{Meaning, IsLawful, IsSteady}
-use Rattle.nom_internal.specs.Families.{always, always_lawful}
+use Rattle.nom_internal.specs.Prelude.{Model, InputLaws, Outcome, Cause, Accept, Refuse, Stop, Fails, Needs, Meaning, IsLawful, IsSteady}
+use Rattle.nom_internal.specs.Prelude.{always, always_lawful}
 use Rattle.nom_repeat.specs.Repeat.{Ran}
 use Rattle.nom_repeat.specs.Repeat.Turn.{Ends}
 use Rattle.nom_repeat.specs.laws.RepeatLaws.{KeepsTurn, KeepsReply, EndsAt, RuleLaws, repeat_lawful, repeat_steady}
@@ -16,9 +13,7 @@ use Rattle.nom_precedence.specs.Chains.{read_turn, chain_turn, ChainBlames, IfTa
 chain_decided : {V : Type 0} (a : Option (Outcome (Read V))) → KeepsTurn true (chain_turn a) → KeepsReply true a
 chain_decided (Some (Accept n u)) h = tt
 chain_decided (Some Refuse) h = tt
-chain_decided (Some Fail) h = tt
-chain_decided (Some TooLarge) h = h
-chain_decided (Some (Undecided d)) h = h
+chain_decided (Some (Stop why)) h = h
 chain_decided None h = tt
 
 read_ends : {V : Type 0} (u : Read V) (m n : ℕ) (t : Read (Unit {0})) → Ends (Accept n t) ≡ read_turn u m → (n ≡ 0) ⊎ (n ≡ m)
@@ -29,17 +24,14 @@ read_ends (Whole v) (suc m) n t e = absurd (cc (e))
 chain_ends : {V : Type 0} (a : Option (Outcome (Read V))) (n : ℕ) (t : Read (Unit {0})) → Ends (Accept n t) ≡ chain_turn a → EndsAt n a
 chain_ends (Some (Accept m u)) n t e = read_ends u m n t e
 chain_ends (Some Refuse) n t e = cc (e)
-chain_ends (Some Fail) n t e = absurd (cc (e))
-chain_ends (Some TooLarge) n t e = absurd (cc (e))
-chain_ends (Some (Undecided d)) n t e = absurd (cc (e))
+chain_ends (Some (Stop why)) n t e = absurd (cc (e))
 chain_ends None n t e = cc (e)
 
 chain_blames : {V E : Type 0} (a : Option (Outcome V)) (X Y : E → Type 0) (e : E) → (Ran a → (f : E) → X f → Y f) → ChainBlames a X e → ChainBlames a Y e
 chain_blames (Some (Accept n u)) X Y e f h = h
 chain_blames (Some Refuse) X Y e f h = h
-chain_blames (Some Fail) X Y e f h = f tt e h
-chain_blames (Some TooLarge) X Y e f h = f tt e h
-chain_blames (Some (Undecided d)) X Y e f h = h
+chain_blames (Some (Stop (Fails cause))) X Y e f h = f tt e h
+chain_blames (Some (Stop (Needs d))) X Y e f h = h
 chain_blames None X Y e f h = h
 
 taken_none : {V : Type 0} (Fact : Type 0) (u : Read V) (n : ℕ) → (Fact → ⊥) → IfTaken Fact u n → ⊥
@@ -50,31 +42,19 @@ taken_none Fact (Whole v) (suc n) f h = f h
 chain_asks_none : {V : Type 0} (Fact : Type 0) (a : Option (Outcome (Read V))) → (Fact → ⊥) → ChainAsks Fact a → ⊥
 chain_asks_none Fact (Some (Accept n u)) f h = taken_none Fact u n f h
 chain_asks_none Fact (Some Refuse) f h = h
-chain_asks_none Fact (Some Fail) f h = h
-chain_asks_none Fact (Some TooLarge) f h = h
-chain_asks_none Fact (Some (Undecided d)) f h = h
+chain_asks_none Fact (Some (Stop why)) f h = h
 chain_asks_none Fact None f h = h
 
-read_never_fails : {V : Type 0} (large : Bool) (u : Read V) (n : ℕ) → Ends (failure large) ≡ read_turn u n → ⊥
-read_never_fails true Stuck n e = absurd (cc (e))
-read_never_fails false Stuck n e = absurd (cc (e))
-read_never_fails true (Whole v) zero e = absurd (cc (e))
-read_never_fails false (Whole v) zero e = absurd (cc (e))
-read_never_fails true (Whole v) (suc n) e = absurd (cc (e))
-read_never_fails false (Whole v) (suc n) e = absurd (cc (e))
+read_never_fails : {V : Type 0} (cause : Cause) (u : Read V) (n : ℕ) → Ends (Stop (Fails cause)) ≡ read_turn u n → ⊥
+read_never_fails cause Stuck n e = absurd (cc (e))
+read_never_fails cause (Whole v) zero e = absurd (cc (e))
+read_never_fails cause (Whole v) (suc n) e = absurd (cc (e))
 
-chain_fails : {V : Type 0} (large : Bool) (a : Option (Outcome (Read V))) → Ends (failure large) ≡ chain_turn a → a ≡ Some (failure large)
-chain_fails large (Some (Accept n u)) e = absurd (read_never_fails large u n e)
-chain_fails true (Some Refuse) e = absurd (cc (e))
-chain_fails true (Some Fail) e = absurd (cc (e))
-chain_fails true (Some TooLarge) e = refl
-chain_fails true (Some (Undecided d)) e = absurd (cc (e))
-chain_fails true None e = absurd (cc (e))
-chain_fails false (Some Refuse) e = absurd (cc (e))
-chain_fails false (Some Fail) e = refl
-chain_fails false (Some TooLarge) e = absurd (cc (e))
-chain_fails false (Some (Undecided d)) e = absurd (cc (e))
-chain_fails false None e = absurd (cc (e))
+chain_fails : {V : Type 0} (cause : Cause) (a : Option (Outcome (Read V))) → Ends (Stop (Fails cause)) ≡ chain_turn a → a ≡ Some (Stop (Fails cause))
+chain_fails cause (Some (Accept n u)) e = absurd (read_never_fails cause u n e)
+chain_fails cause (Some Refuse) e = absurd (cc (e))
+chain_fails cause (Some (Stop why)) e = cc (e)
+chain_fails cause None e = absurd (cc (e))
 
 chain_rule_laws : {I V E : Type 0} (Grows : Type 0) → RuleLaws (chain_rule {I = I} {V = V} {E = E} Grows)
 chain_rule_laws Grows = record {
@@ -83,7 +63,7 @@ chain_rule_laws Grows = record {
   blames = λ i k j a X Y e. chain_blames a X Y e;
   part_frugal = λ Part mode k h. h.0;
   asks_none = λ Part mode k a h. chain_asks_none ((mode.outputs ≡ true) × Grows) a (λ p. h.1 p.0 p.1);
-  never_fails = λ Part large k a h e. (h, chain_fails large a e);
+  never_fails = λ Part cause k a h e. (h, chain_fails cause a e);
 }
 
 module _ {I A V E : Type 0} {w : Model I A} (l : InputLaws w) {Grows : Type 0} {m : Meaning I (Read V) E} where

@@ -1,10 +1,7 @@
 -- The laws of expressions, by those of their parts.
 use Rattle.std.specs.Prelude.{◌≡◌, ℕ, true}
-use Rattle.nom_error.specs.Errors.{Errors}
+use Rattle.nom_internal.specs.Prelude.{Errors, Model, InputLaws, Meaning, IsLawful, IsSteady, IsOne}
 use Rattle.nom_error.specs.declared.kind.ErrorKind.TheVariants as Kind
-use Rattle.nom_traits.specs.Input.{Model, InputLaws}
-use Rattle.nom_internal.specs.Meaning.{Meaning, IsLawful, IsSteady}
-use Rattle.nom_internal.specs.Families.{IsOne}
 use Rattle.nom_internal.specs.laws.CaseLaws.{labelled_lawful, labelled_steady, closed_lawful, closed_steady}
 use Rattle.nom_precedence.specs.Stuck.{Read}
 use Rattle.nom_precedence.specs.laws.StuckLaws.{both_lawful, both_steady, freed_lawful, freed_steady}
@@ -49,7 +46,7 @@ module _ {I A P V Q B E : Type 0} (w : Model I A) (l : InputLaws w) (errs : Erro
         let grows : mode.errors ≡ true → errs.grows → ⊥ = λ _ g. h.1 g in
         (((((h.2, no), (h.3, (h.5, none))), grows), (((h.6, h.1), ((h.2, no), (h.4, (h.5, none)))), no)), grows);
     settles = λ h. ((h.0, (h.1, h.2)), (h.3, (h.0, (h.1, h.2))));
-    never_fails = λ large h. ((h.0, (h.1, h.2)), ((h.3, h.4), (h.0, (h.1, h.2))));
+    never_fails = λ cause h. ((h.0, (h.1, h.2)), ((h.3, h.4), (h.0, (h.1, h.2))));
   }
 
 module _ {I A P V Q B E : Type 0} {w : Model I A} (l : InputLaws w) (errs : Errors I E) {CanFold : Type 0} {IsLevel : B → ℕ → Type 0} (levels : ℕ)

@@ -1,16 +1,8 @@
 -- The laws of operators with levels.
 use Rattle.std.specs.Prelude.{◌≡◌, ℕ, Bool, true, false, ltb, refl}
 use Rattle.std.proofs.Common.{sym, ◌∙◌, ap, subst}
-use Rattle.nom_error.specs.Errors.{Errors}
-use Rattle.nom_traits.specs.Input.{Model, IsBoundary}
-use Rattle.nom_traits.specs.View.{itself}
-use Rattle.nom_internal.specs.Outcome.{Outcome, failure, IsDecided}
-use Rattle.nom_internal.specs.Outcome.Outcome.{Accept, Refuse, Fail, TooLarge, Undecided}
-use Rattle.nom_internal.specs.Meaning.{Meaning, IsLawful, IsSteady}
-use Rattle.nom_internal.specs.Families.{OfValue, IsOne}
-use Rattle.nom_internal.specs.Cases.{Passes}
-use Rattle.nom_internal.specs.Closures.{GivesFor}
-use Rattle.nom_internal.specs.Pinned.{IsPinned}
+use Rattle.nom_internal.specs.Prelude.{Errors, Model, IsBoundary, itself, Outcome, Cause, Accept, Refuse, Stop, Fails, Needs, Outright, TooLarge, IsDecided}
+use Rattle.nom_internal.specs.Prelude.{Meaning, IsLawful, IsSteady, OfValue, IsOne, Passes, GivesFor, IsPinned}
 use Rattle.nom_internal.specs.laws.CaseLaws.{CaseLaws, here_known, here_related, here_alike, here_place, case_lawful, case_steady}
 use Rattle.nom_precedence.specs.Operators.{HasLevel, if_level, OperatorBlames, OperatorAsks, operator_case, operator_meaning}
 
@@ -18,11 +10,9 @@ level_accepts : {P : Type 0} (b : Bool) (n m k : ℕ) (t : ℕ × P) (u : P) →
 level_accepts true n m k t u e = cc
 level_accepts false n m k t u e = cc
 
-level_fails : {P : Type 0} (b large : Bool) (m k : ℕ) (u : P) → failure large ≡ if_level b m k u → large ≡ false
-level_fails true true m k u e = cc
-level_fails true false m k u e = cc
-level_fails false true m k u e = cc
-level_fails false false m k u e = refl
+level_fails : {P : Type 0} (b : Bool) (m k : ℕ) (u : P) → Stop (Fails TooLarge) ≡ if_level b m k u → ⊥
+level_fails true m k u e = cc
+level_fails false m k u e = cc
 
 module _ {P : Type 0} (IsLevel : P → ℕ → Type 0) (levels : ℕ) where
   -- what a part's outcome becomes
@@ -32,48 +22,37 @@ module _ {P : Type 0} (IsLevel : P → ℕ → Type 0) (levels : ℕ) where
   keeps : (a : Outcome P) (o : Outcome (ℕ × P)) → Becomes a o → IsDecided o → IsDecided a
   keeps (Accept n u) o b d = tt
   keeps Refuse o b d = tt
-  keeps Fail o b d = tt
-  keeps TooLarge o b d = subst (λ z. IsDecided z) b d
-  keeps (Undecided k) o b d = subst (λ z. IsDecided z) b d
+  keeps (Stop why) o b d = subst (λ z. IsDecided z) b d
 
   same : IsOne IsLevel → (a : Outcome P) (o p : Outcome (ℕ × P)) → Becomes a o → Becomes a p → o ≡ p
   same one (Accept n u) o p s t = s.fact ∙ (ap (λ k. if_level (ltb k levels) n k u) (one u s.value t.value s.is_value t.is_value) ∙ sym t.fact)
   same one Refuse o p s t = s ∙ sym t
-  same one Fail o p s t = s ∙ sym t
-  same one TooLarge o p s t = s ∙ sym t
-  same one (Undecided k) o p s t = s ∙ sym t
+  same one (Stop why) o p s t = s ∙ sym t
 
   place : {I A : Type 0} (w : Model I A) (i j : I) (a : Outcome P) (n : ℕ) (t : ℕ × P) → i ≡ j → ((m : ℕ) (u : P) → a ≡ Accept m u → IsBoundary w j m) →
       Becomes a (Accept n t) → IsBoundary w i n
   place w i j (Accept m u) n t e f b = subst (λ z. IsBoundary w i z) (level_accepts (ltb b.value levels) n m b.value t u b.fact)
       (here_place w i j m e (f m u refl))
   place w i j Refuse n t e f b = absurd (cc (b))
-  place w i j Fail n t e f b = absurd (cc (b))
-  place w i j TooLarge n t e f b = absurd (cc (b))
-  place w i j (Undecided k) n t e f b = absurd (cc (b))
+  place w i j (Stop why) n t e f b = absurd (cc (b))
 
-  fails : (large : Bool) (a : Outcome P) → large ≡ true → Becomes a (failure large) → a ≡ failure large
-  fails true (Accept n u) e b = let no : true ≡ false = level_fails (ltb b.value levels) true n b.value u b.fact in absurd (cc)
-  fails true Refuse e b = absurd (cc (b))
-  fails true Fail e b = absurd (cc (b))
-  fails true TooLarge e b = refl
-  fails true (Undecided k) e b = absurd (cc (b))
-  fails false a e b = absurd (cc)
+  fails : (cause : Cause) (a : Outcome P) → cause ≡ TooLarge → Becomes a (Stop (Fails cause)) → a ≡ Stop (Fails cause)
+  fails TooLarge (Accept n u) e b = absurd (level_fails (ltb b.value levels) n b.value u b.fact)
+  fails TooLarge Refuse e b = absurd (cc (b))
+  fails TooLarge (Stop why) e b = cc (b)
+  fails Outright a e b = absurd (cc)
 
   operator_blames : {E : Type 0} (Makes : E → Type 0) (a : Outcome P) (X Y : E → Type 0) (e : E) → ((f : E) → X f → Y f) →
       OperatorBlames IsLevel levels Makes a X e → OperatorBlames IsLevel levels Makes a Y e
   operator_blames Makes (Accept n u) X Y e f h = h
   operator_blames Makes Refuse X Y e f h = f e h
-  operator_blames Makes Fail X Y e f h = f e h
-  operator_blames Makes TooLarge X Y e f h = f e h
-  operator_blames Makes (Undecided k) X Y e f h = h
+  operator_blames Makes (Stop (Fails cause)) X Y e f h = f e h
+  operator_blames Makes (Stop (Needs k)) X Y e f h = h
 
   asks_none : (Grows : Type 0) (a : Outcome P) → (Grows → ⊥) → OperatorAsks IsLevel levels Grows a → ⊥
   asks_none Grows (Accept n u) f h = f (h.fact).1
   asks_none Grows Refuse f h = h
-  asks_none Grows Fail f h = h
-  asks_none Grows TooLarge f h = h
-  asks_none Grows (Undecided k) f h = h
+  asks_none Grows (Stop why) f h = h
 
 module _ {I A P E : Type 0} (w : Model I A) (errs : Errors I E) (IsLevel : P → ℕ → Type 0) (levels : ℕ) (one : IsOne IsLevel) where
   operator_laws : CaseLaws true w w (operator_case errs IsLevel levels)
@@ -85,7 +64,7 @@ module _ {I A P E : Type 0} (w : Model I A) (errs : Errors I E) (IsLevel : P →
     same = λ longer stays x y a o p kx ky r s k t. same IsLevel levels one a o p s t;
     alike = λ x y a o kx ky r b. b;
     place = λ i j a n t h e f b. place IsLevel levels w i j a n t e f b;
-    never_fails = λ Part large i a g e. (g.0, fails IsLevel levels large a g.1 e);
+    never_fails = λ Part cause i a g e. (g.0, fails IsLevel levels cause a g.1 e);
     blames = λ i a X Y e f. operator_blames IsLevel levels (errs.of_kind i _) a X Y e f;
     part_frugal = λ Part mode h. h.0;
     asks_none = λ Part mode i a h g. asks_none IsLevel levels errs.grows a h.1 g;

@@ -1,17 +1,11 @@
 -- The laws of what may be stuck.
 use Rattle.std.specs.Prelude.{◌≡◌, ℕ, Bool, true, false, refl}
 use Rattle.std.proofs.Common.{sym, ◌∙◌, subst}
-use Rattle.nom_error.specs.Errors.{Errors}
-use Rattle.nom_error.specs.Modes.{Modes}
-use Rattle.nom_traits.specs.Input.{Model, InputLaws, IsBoundary}
-use Rattle.nom_internal.specs.Outcome.{Outcome, failure}
-use Rattle.nom_internal.specs.Outcome.Outcome.{Accept, Refuse, Fail, TooLarge, Undecided}
-use Rattle.nom_internal.specs.Meaning.{Meaning, IsLawful, IsSteady}
-use Rattle.nom_internal.specs.Families.{IsLawfulFamily, AnyKey}
+use Rattle.nom_internal.specs.Prelude.{Errors, Modes, Model, InputLaws, IsBoundary, Outcome, Cause, Accept, Refuse, Stop, Fails, Needs, Meaning, IsLawful}
+use Rattle.nom_internal.specs.Prelude.{IsSteady, IsLawfulFamily, AnyKey, success_lawful, success_steady}
 use Rattle.nom_internal.specs.laws.CaseLaws.{CaseLaws, case_lawful, case_steady}
 use Rattle.nom_internal.specs.laws.RecognizedLaws.{AcceptLaws, plain_laws}
 use Rattle.nom_internal.specs.laws.SequenceLaws.{then_lawful, then_steady}
-use Rattle.nom_internal.specs.Success.{success_lawful, success_steady}
 use Rattle.nom_precedence.specs.Stuck.{Read, read_behind, unless_stuck, read_both, freed, IfStuck, StuckBlames, StuckAsks, freed_case, freed_meaning}
 use Rattle.nom_precedence.specs.Stuck.Read.{Whole, Stuck}
 
@@ -28,9 +22,9 @@ module _ {I A W E : Type 0} (w : Model I A) (V : Type 0) (m : Meaning I (Read W)
   behind_settles h (Whole v) = h
   behind_settles h Stuck = tt
 
-  behind_never : (large : Bool) → m.NeverFails large → (u : Read V) → (read_behind m u).NeverFails large
-  behind_never large h (Whole v) = h
-  behind_never large h Stuck = tt
+  behind_never : (cause : Cause) → m.NeverFails cause → (u : Read V) → (read_behind m u).NeverFails cause
+  behind_never cause h (Whole v) = h
+  behind_never cause h Stuck = tt
 
   behind_steady : IsSteady w m → (u : Read V) → IsSteady w (read_behind m u)
   behind_steady p (Whole v) = p
@@ -41,7 +35,7 @@ module _ {I A W E : Type 0} (w : Model I A) (V : Type 0) (m : Meaning I (Read W)
     lawful = λ u _. behind_lawful p u;
     frugal = λ mode h u _. behind_frugal mode h u;
     settles = λ h u _. behind_settles h u;
-    never_fails = λ large h u _. behind_never large h u;
+    never_fails = λ cause h u _. behind_never cause h u;
   }
 
 module _ {I A V W T E : Type 0} {w : Model I A} (l : InputLaws w) {tree : V → W → T} {a : Meaning I (Read V) E} {b : Meaning I (Read W) E} where
@@ -55,11 +49,9 @@ freed_accepts : {V : Type 0} (n m : ℕ) (t : V) (u : Read V) → Accept n t ≡
 freed_accepts n m t (Whole v) e = cc
 freed_accepts n m t Stuck e = cc
 
-never_freed : {V : Type 0} (large : Bool) (m : ℕ) (u : Read V) → failure large ≡ freed m u → ⊥
-never_freed true m (Whole v) e = cc
-never_freed true m Stuck e = cc
-never_freed false m (Whole v) e = cc
-never_freed false m Stuck e = cc
+never_freed : {V : Type 0} (cause : Cause) (m : ℕ) (u : Read V) → Stop (Fails cause) ≡ freed m u → ⊥
+never_freed cause m (Whole v) e = cc
+never_freed cause m Stuck e = cc
 
 module _ {I A V E : Type 0} (w : Model I A) (errs : Errors I E) where
   freed_accept_laws : AcceptLaws w (λ i n (u : Read V) o. o ≡ freed n u)
@@ -67,15 +59,14 @@ module _ {I A V E : Type 0} (w : Model I A) (errs : Errors I E) where
     same = λ longer x y n u o p kx ky r s k t. s ∙ sym t;
     alike = λ x y n u o kx ky r s. s;
     place = λ i m n u t h p s. subst (λ k. IsBoundary w i k) (freed_accepts n m t u s) p;
-    never_fails = λ large i n u s. never_freed large n u s;
+    never_fails = λ cause i n u s. never_freed cause n u s;
   }
 
   stuck_blames : (i : I) (a : Outcome (Read V)) (X Y : E → Type 0) (e : E) → ((f : E) → X f → Y f) → StuckBlames w errs i a X e → StuckBlames w errs i a Y e
   stuck_blames i (Accept n u) X Y e f h = h
   stuck_blames i Refuse X Y e f h = f e h
-  stuck_blames i Fail X Y e f h = f e h
-  stuck_blames i TooLarge X Y e f h = f e h
-  stuck_blames i (Undecided d) X Y e f h = h
+  stuck_blames i (Stop (Fails cause)) X Y e f h = f e h
+  stuck_blames i (Stop (Needs d)) X Y e f h = h
 
 if_stuck_none : {V : Type 0} (Fact : Type 0) (u : Read V) → (Fact → ⊥) → IfStuck Fact u → ⊥
 if_stuck_none Fact (Whole v) f h = h
@@ -84,9 +75,7 @@ if_stuck_none Fact Stuck f h = f h
 stuck_asks_none : {V : Type 0} (Fact : Type 0) (a : Outcome (Read V)) → (Fact → ⊥) → StuckAsks Fact a → ⊥
 stuck_asks_none Fact (Accept n u) f h = if_stuck_none Fact u f h
 stuck_asks_none Fact Refuse f h = h
-stuck_asks_none Fact Fail f h = h
-stuck_asks_none Fact TooLarge f h = h
-stuck_asks_none Fact (Undecided d) f h = h
+stuck_asks_none Fact (Stop why) f h = h
 
 module _ {I A V E : Type 0} (w : Model I A) (errs : Errors I E) where
   freed_laws : CaseLaws true w w (freed_case {V = V} w errs)

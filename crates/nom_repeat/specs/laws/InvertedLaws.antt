@@ -1,11 +1,7 @@
 -- The laws of bounds that don't fit each other.
 use Rattle.std.specs.Prelude.{◌≡◌, ℕ, Bool, true, false}
 use Rattle.std.proofs.Common.{sym, ◌∙◌}
-use Rattle.nom_error.specs.Errors.{Errors}
-use Rattle.nom_error.specs.declared.kind.ErrorKind.{ErrorKind}
-use Rattle.nom_traits.specs.Input.{Model}
-use Rattle.nom_internal.specs.Outcome.Outcome.{Accept}
-use Rattle.nom_internal.specs.Meaning.{Meaning, IsLawful, IsSteady}
+use Rattle.nom_internal.specs.Prelude.{Errors, ErrorKind, Model, Accept, Meaning, IsLawful, IsSteady}
 use Rattle.nom_repeat.specs.Inverted.{error_outcome, error_if}
 
 pub no_accept : {V : Type 0} (fails : Bool) (n : ℕ) (v : V) → Accept n v ≡ error_outcome fails → ⊥
@@ -21,7 +17,7 @@ module _ {I A V E : Type 0} {w : Model I A} (errs : Errors I E) (kind : ErrorKin
     frugal = λ mode i h f r. f r.0 r.1;
     settles = λ t x y o kx ky r a d. a;
     blames_alike = λ t s i o e h a b d z. z;
-    never_fails = λ large g s i h a. g (sym a);
+    never_fails = λ cause g s i h a. g (sym a);
   }
   error_if_lawful false p = record {
     within = p.within;

@@ -1,16 +1,10 @@
 -- The laws of repetitions.
 use Rattle.std.specs.Prelude.{◌≡◌, ℕ, ◌+◌, Bool, true, false, not, ◌⊎◌, Option, Some, None, List, [], ◌∷◌, refl}
 use Rattle.std.proofs.Common.{arith, sym, ◌∙◌, ap, subst, inl, inr}
-use Rattle.nom_error.specs.Modes.{Modes}
-use Rattle.nom_traits.specs.Input.{Model, InputLaws, IsSuffixOf, IsBoundary, IsSame, Related}
-use Rattle.nom_traits.specs.Rests.{same_self, rest_related, rest_alike, place_more}
-use Rattle.nom_internal.specs.Outcome.{Outcome, IsDecided, failure}
-use Rattle.nom_internal.specs.Outcome.Outcome.{Accept, Refuse, Fail, TooLarge, Undecided}
-use Rattle.nom_internal.specs.Meaning.{IsLawful, IsSteady, Keeps, Agree, Carries, Within, SameBlame}
+use Rattle.nom_internal.specs.Prelude.{Modes, Model, InputLaws, IsSuffixOf, IsBoundary, IsSame, Related, same_self, rest_related, rest_alike, place_more}
+use Rattle.nom_internal.specs.Prelude.{Outcome, Cause, Accept, Refuse, Stop, Fails, IsDecided, IsLawful, IsSteady, Keeps, Agree, Carries, Within, SameBlame}
+use Rattle.nom_internal.specs.Prelude.{place_zero, Family, IsLawfulFamily, AnyKey, after}
 use Rattle.nom_internal.specs.laws.PartLaws.{keeps_mapped, failure_mapped, transfers}
-use Rattle.nom_internal.specs.Success.{place_zero}
-use Rattle.nom_internal.specs.Families.{Family, IsLawfulFamily, AnyKey}
-use Rattle.nom_internal.specs.Sequence.{after}
 use Rattle.nom_repeat.specs.Repeat.{Turn, Pieces, Reaches, Repeats, IsBelow, Replies, Ran, OnReply, TurnsBy, Rule, repeat_meaning}
 use Rattle.nom_repeat.specs.Repeat.Turn.{Takes, Ends}
 
@@ -28,9 +22,7 @@ KeepsReply longer None = Unit {0}
 abbrev pub EndsAt : {P : Type 0} → ℕ → Option (Outcome P) → Type 0
 EndsAt n (Some (Accept m u)) = (n ≡ 0) ⊎ (n ≡ m)
 EndsAt n (Some Refuse) = n ≡ 0
-EndsAt n (Some Fail) = n ≡ 0
-EndsAt n (Some TooLarge) = n ≡ 0
-EndsAt n (Some (Undecided k)) = n ≡ 0
+EndsAt n (Some (Stop why)) = n ≡ 0
 EndsAt n None = n ≡ 0
 
 -- two lists of items that end alike
@@ -87,9 +79,7 @@ module _ {I A V T : Type 0} (w : Model I A) (F : ℕ → I → Turn V T → Type
       let same : taken + m ≡ n = cc in
       subst (λ z. IsBoundary w i z) same (pieces_place m (λ k j kj z. f k j m t kj z) 0 i vs taken h p)
   repeats_place tree f i n v vs taken Refuse h p e = absurd (cc)
-  repeats_place tree f i n v vs taken Fail h p e = absurd (cc)
-  repeats_place tree f i n v vs taken TooLarge h p e = absurd (cc)
-  repeats_place tree f i n v vs taken (Undecided d) h p e = absurd (cc)
+  repeats_place tree f i n v vs taken (Stop why) h p e = absurd (cc)
 
   pub repeats_within : {R : Type 0} (tree : List V → T → R) →
       ((k : ℕ) (j : I) (n : ℕ) (t : T) → w.IsKnown j → F k j (Ends (Accept n t)) → IsBoundary w j n) → Within w (Repeats w F tree)
@@ -104,11 +94,11 @@ module _ {I A V T : Type 0} (w : Model I A) (F : ℕ → I → Turn V T → Type
   pub reaches_never : (Fact : ℕ → I → Type 0) → ((k : ℕ) (j : I) → w.IsKnown j → Fact k j → ⊥) → (i : I) → w.IsKnown i → Reaches w F Fact i → ⊥
   reaches_never Fact f i h r = pieces_never Fact f 0 i r.trees r.taken h r.pieces
 
-  pub repeats_never : {R : Type 0} (tree : List V → T → R) (large : Bool) → ((k : ℕ) (j : I) → w.IsKnown j → F k j (Ends (failure large)) → ⊥) →
-      (i : I) → w.IsKnown i → Repeats w F tree i (failure large) → ⊥
-  repeats_never tree large f i h a =
-      let e = failure_mapped large (λ m. a.taken + m) (tree a.trees) a.ending a.outcome_is in
-      pieces_never (λ k j. F k j (Ends (failure large))) f 0 i a.trees a.taken h
+  pub repeats_never : {R : Type 0} (tree : List V → T → R) (cause : Cause) → ((k : ℕ) (j : I) → w.IsKnown j → F k j (Ends (Stop (Fails cause))) → ⊥) →
+      (i : I) → w.IsKnown i → Repeats w F tree i (Stop (Fails cause)) → ⊥
+  repeats_never tree cause f i h a =
+      let e = failure_mapped cause (λ m. a.taken + m) (tree a.trees) a.ending a.outcome_is in
+      pieces_never (λ k j. F k j (Ends (Stop (Fails cause)))) f 0 i a.trees a.taken h
       (subst (λ z. Pieces w F (λ k j. F k j (Ends z)) 0 i a.trees a.taken) e a.pieces)
 
 module _ {I A V T : Type 0} (w : Model I A) (F G : ℕ → I → Turn V T → Type 0) where
@@ -189,8 +179,8 @@ pub record RuleLaws {I P V T E : Type 0} (r : Rule I P V T E) : Type 1 where
   pub part_frugal : (PartIs : Modes → Type 0) (mode : Modes) (k : ℕ) → r.IsFrugal PartIs mode → PartIs (r.part k mode)
   pub asks_none : (PartIs : Modes → Type 0) (mode : Modes) (k : ℕ) (a : Option (Outcome P)) → r.IsFrugal PartIs mode → r.Asks mode k a → ⊥
   -- where it never fails, nor does the part, and it fails where the part does
-  pub never_fails : (Part : Bool → Type 0) (large : Bool) (k : ℕ) (a : Option (Outcome P)) → r.NeverFails Part large →
-      Ends (failure large) ≡ r.turn k a → Part large × (a ≡ Some (failure large))
+  pub never_fails : (Part : Cause → Type 0) (cause : Cause) (k : ℕ) (a : Option (Outcome P)) → r.NeverFails Part cause →
+      Ends (Stop (Fails cause)) ≡ r.turn k a → Part cause × (a ≡ Some (Stop (Fails cause)))
 
 -- related inputs have one reply
 module _ {I A P : Type 0} (w : Model I A) (bound : Option ℕ) where
@@ -249,9 +239,7 @@ module _ {I A P V T R E : Type 0} (w : Model I A) (l : InputLaws w) (r : Rule I 
   end_place s g k j n (Some (Accept x u)) h p (inl e) = place_zero w j n e
   end_place s g k j n (Some (Accept x u)) h p (inr e) = subst (λ z. IsBoundary w j z) (sym e) (g k j x u h p.1)
   end_place s g k j n (Some Refuse) h p e = place_zero w j n e
-  end_place s g k j n (Some Fail) h p e = place_zero w j n e
-  end_place s g k j n (Some TooLarge) h p e = place_zero w j n e
-  end_place s g k j n (Some (Undecided d)) h p e = place_zero w j n e
+  end_place s g k j n (Some (Stop why)) h p e = place_zero w j n e
   end_place s g k j n None h p e = place_zero w j n e
 
   -- what the part replies at a place is blamed by an error
@@ -327,10 +315,10 @@ module _ {I A P V T R E : Type 0} (w : Model I A) (l : InputLaws w) (r : Rule I 
     never_asks mode g k j h (inl a) = rl.asks_none f.IsFrugal mode k a.reply g a.fact
     never_asks mode g k j h (inr a) = (q.lawful k tt).frugal (r.part k mode) j h (q.frugal (r.part k mode) (rl.part_frugal f.IsFrugal mode k g) k tt) a.1
 
-    never : (large s : Bool) → r.NeverFails f.NeverFails large → (k : ℕ) (j : I) → w.IsKnown j → Turns s k j (Ends (failure large)) → ⊥
-    never large s g k j h a =
-        let n = rl.never_fails f.NeverFails large k a.reply g a.fact in
-        (q.lawful k tt).never_fails large (q.never_fails large n.0 k tt) s j h (subst (λ z. Replies r.bound (Part s) k j z) n.1 a.replied).1
+    never : (cause : Cause) (s : Bool) → r.NeverFails f.NeverFails cause → (k : ℕ) (j : I) → w.IsKnown j → Turns s k j (Ends (Stop (Fails cause))) → ⊥
+    never cause s g k j h a =
+        let n = rl.never_fails f.NeverFails cause k a.reply g a.fact in
+        (q.lawful k tt).never_fails cause (q.never_fails cause n.0 k tt) s j h (subst (λ z. Replies r.bound (Part s) k j z) n.1 a.replied).1
 
     is_lawful : IsLawful w (repeat_meaning w r tree f)
     is_lawful = record {
@@ -343,7 +331,7 @@ module _ {I A P V T R E : Type 0} (w : Model I A) (l : InputLaws w) (r : Rule I 
           (never_asks mode g) i h;
       settles = λ t. repeats_carry w true (Turns true) (Turns false) tree (settle t);
       blames_alike = both_blames;
-      never_fails = λ large g s i h. repeats_never w (Turns s) tree large (never large s g) i h;
+      never_fails = λ cause g s i h. repeats_never w (Turns s) tree cause (never cause s g) i h;
     }
 
   are_steady : ((k : ℕ) → IsSteady w (f.at k)) → IsSteady w (repeat_meaning w r tree f)

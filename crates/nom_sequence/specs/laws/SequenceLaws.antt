@@ -1,8 +1,6 @@
 -- The laws of two parts in sequence, one of them for its place alone.
 use Rattle.std.specs.Prelude.{false}
-use Rattle.nom_error.specs.Modes.{with_outputs}
-use Rattle.nom_traits.specs.Input.{Model, InputLaws}
-use Rattle.nom_internal.specs.Meaning.{Meaning, IsLawful, IsSteady}
+use Rattle.nom_internal.specs.Prelude.{with_outputs, Model, InputLaws, Meaning, IsLawful, IsSteady}
 use Rattle.nom_internal.specs.laws.SequenceLaws.{sequence_lawful, sequence_steady}
 use Rattle.nom_sequence.specs.Sequences.{preceded_meaning, terminated_meaning}
 

@@ -1,14 +1,17 @@
 //! Where outputs, rests and refused inputs stand.
+ghost use Rattle.nom_growing.specs.Growing.{AreCuts};
+
 use nom_bits::{bits, bytes, take as take_bits};
 use nom_bytes::{tag, take, take_until};
 use nom_error::answer::{Err, IResult};
 use nom_error::kind::ErrorKind;
 use nom_error::value::Error;
-use nom_growing::growing::parse_growing;
-use nom_internal::parser::Parser;
+use nom_growing::growing::{Grown, parse_growing};
+use nom_internal::parser::{Parser, StreamParser};
 use nom_located::Located;
 use nom_search::bytes::ByteItems;
 use nom_sequence::{preceded, separated_pair};
+use nom_traits::compare::Compare;
 use nom_traits::input::Input;
 
 type Text<'a> = Located<&'a str>;
@@ -113,15 +116,42 @@ fn bytes_after_bits(rt: HostRuntime) {
     }
 }
 
+/// What a pair answers in an input that grows, of parts with another between them.
+fn grown_pair<I: Input, P: StreamParser<I> + Drop>(
+    first: P,
+    between: P,
+    second: P,
+    input: I,
+    cuts: &[usize],
+) -> Grown<I, (P::Output, P::Output), P::Error>
+    requires first { (P.meaning (P.state first)).IsSound }
+    requires between { (P.meaning (P.state between)).IsSound }
+    requires second { (P.meaning (P.state second)).IsSound }
+    requires cuts { AreCuts I.model input cuts.now }
+{
+    parse_growing(separated_pair(first, between, second), input, cuts)
+}
+
+/// An `a` and a `b` with the end of a line between them, in an input that grows.
+fn grown_lines<I: Input + Compare<&'static [u8]>>(
+    input: I,
+    cuts: &[usize],
+) -> Grown<I, (I, I), Error<I>>
+    requires { AreCuts I.model input cuts.now }
+{
+    grown_pair(
+        tag(b"a".as_slice()),
+        tag(b"\n".as_slice()),
+        tag(b"b".as_slice()),
+        input,
+        cuts,
+    )
+}
+
 #[test]
 fn a_pair_that_grows(rt: HostRuntime) {
     let input = Located::new(b"a\nb".as_slice());
-    let pair = separated_pair(
-        tag::<_, _, Error<Bytes<'_>>>(b"a".as_slice()),
-        tag(b"\n".as_slice()),
-        tag(b"b".as_slice()),
-    );
-    let grown = parse_growing(pair, input, &[1, 2]);
+    let grown = grown_lines(input, &[1, 2]);
     assert!(rt; grown.index == 2);
     match grown.result {
         Ok((rest, (a, b))) => {

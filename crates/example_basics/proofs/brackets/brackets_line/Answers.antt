@@ -1,5 +1,5 @@
 use Rattle.std.specs.Prelude.{false}
-use Rattle.nom_internal.specs.Pinned.{value_pinned}
+use Rattle.nom_internal.specs.Prelude.{value_pinned}
 use Rattle.nom_func.proofs.FuncSound.{func_sound}
 use Rattle.example_basics.specs.Brackets.{brackets_lawful}
 use Rattle.example_basics.proofs.brackets.brackets_line.Goals as goal

@@ -1,6 +1,5 @@
 use Rattle.std.proofs.Common.{◌+◌, ◌*◌}
-use Rattle.nom_traits.specs.Input.{input_len}
-use Rattle.nom_traits.specs.Text.{text_model}
+use Rattle.nom_internal.specs.Prelude.{input_len, text_model}
 use Rattle.example_json.specs.Json.{member_of, value_of}
 use Rattle.example_json.proofs.Lists.{Listed}
 use Rattle.example_json.proofs.values.+values.Given as goal

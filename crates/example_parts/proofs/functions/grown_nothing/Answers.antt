@@ -1,5 +1,5 @@
 use Rattle.std.proofs.Common.{refl}
-use Rattle.nom_traits.specs.Bytes.{bytes_lawful}
+use Rattle.nom_internal.specs.Prelude.{bytes_lawful}
 use Rattle.nom_func.proofs.FuncSound.{outright_stream_func}
 use Rattle.example_parts.proofs.functions.grown_nothing.Goals as goal
 

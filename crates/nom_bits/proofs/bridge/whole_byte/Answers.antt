@@ -1,5 +1,5 @@
 use Rattle.std.proofs.Common.{subst}
-use Rattle.nom_traits.specs.Input.{IsSuffixOf}
+use Rattle.nom_internal.specs.Prelude.{IsSuffixOf}
 use Rattle.nom_bits.proofs.Positions.{to_whole_byte, to_end}
 use Rattle.nom_bits.proofs.bridge.whole_byte.Goals as goal
 

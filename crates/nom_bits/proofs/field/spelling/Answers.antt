@@ -1,7 +1,7 @@
 use Rattle.std.proofs.Common.{rules, arith, sym, subst, drop, ◌^◌, ◌<◌}
 use Rattle.std.specs.Iterator.{AlwaysYields}
 use Rattle.std.proofs.Math.Pow.{pow_mono}
-use Rattle.nom_traits.specs.Bits.{all_bits}
+use Rattle.nom_internal.specs.Prelude.{all_bits}
 use Rattle.nom_bits.proofs.Spellings.{begins, ends, all_read, part_below, goes_on, total_below}
 use Rattle.nom_bits.proofs.field.spelling.Goals as goal
 

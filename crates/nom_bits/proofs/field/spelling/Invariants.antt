@@ -1,5 +1,5 @@
 use Rattle.std.proofs.Common.{take}
-use Rattle.nom_traits.specs.Bits.{bits_model, spelled}
+use Rattle.nom_internal.specs.Prelude.{bits_model, spelled}
 use Rattle.nom_bits.proofs.Spellings.{IsSpelling}
 use Rattle.nom_bits.proofs.field.spelling.Given as goal
 

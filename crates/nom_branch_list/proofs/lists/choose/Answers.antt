@@ -1,7 +1,7 @@
 use Rattle.std.proofs.Common.{◌≡◌, ◌<◌, length, map, ap, arith}
 use Rattle.std.proofs.lemmas.List.{length-map}
 use Rattle.std.proofs.lemmas.Bool.Decides.{nat_tests}
-use Rattle.nom_error.specs.Modes.{modes}
+use Rattle.nom_internal.specs.Prelude.{modes}
 use Rattle.nom_branch_list.proofs.Listed.{branch_sound, branch_kept, branch_first, branch_step, branch_close, branch_none}
 use Rattle.nom_branch_list.proofs.lists.choose.Goals as goal
 

@@ -1,5 +1,5 @@
 use Rattle.std.proofs.Common.{◌≡◌, map}
-use Rattle.nom_error.specs.Modes.{modes}
+use Rattle.nom_internal.specs.Prelude.{modes}
 use Rattle.nom_branch_list.proofs.Listed.{ShowsBefore}
 use Rattle.nom_branch_list.proofs.lists.choose.Given as goal
 

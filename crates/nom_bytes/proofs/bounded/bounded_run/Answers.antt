@@ -1,6 +1,6 @@
 use Rattle.std.proofs.Common.{rules, arith, sym, subst}
 use Rattle.std.specs.Iterator.{AlwaysYields}
-use Rattle.nom_traits.specs.Input.{placed}
+use Rattle.nom_internal.specs.Prelude.{placed}
 use Rattle.nom_bytes.proofs.CountedWalks.{stop_of, count_begins, count_goes_on, count_stops, count_ends}
 use Rattle.nom_bytes.proofs.bounded.bounded_run.Goals as goal
 

@@ -1,10 +1,6 @@
 use Rattle.std.proofs.Common.{true, false, sym, subst}
-use Rattle.nom_error.specs.Answers.{Refuses}
-use Rattle.nom_error.specs.Modes.{modes}
-use Rattle.nom_traits.specs.Classes.{IsInside, IsOutside}
-use Rattle.nom_traits.specs.Slices.{IsModelledBy}
+use Rattle.nom_internal.specs.Prelude.{Refuses, modes, IsInside, IsOutside, IsModelledBy, ShowsMeaning}
 use Rattle.nom_traits.specs.Splits.{Never}
-use Rattle.nom_internal.specs.Meaning.{ShowsMeaning}
 use Rattle.nom_bytes.proofs.RunShown.{split_shown}
 use Rattle.nom_character.specs.ClassRuns.{IsOf, class_meaning}
 use Rattle.nom_character.proofs.class.class_run.Goals as goal

@@ -1,5 +1,5 @@
 use Rattle.std.proofs.Common.{refl, subst}
-use Rattle.nom_traits.specs.Slices.{Slice, IsFirst}
+use Rattle.nom_internal.specs.Prelude.{Slice, IsFirst}
 use Rattle.nom_internal.proofs.Shown.{accepted, undecided, refused}
 use Rattle.nom_character.specs.LineMatches.{IsMatched}
 use Rattle.nom_character.proofs.line.answer.Goals as goal

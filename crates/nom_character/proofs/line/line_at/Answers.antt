@@ -1,5 +1,5 @@
 use Rattle.std.proofs.Common.{◌≡◌, false, rules, sym, ◌∙◌, subst}
-use Rattle.nom_traits.specs.Input.{IsSuffixOf}
+use Rattle.nom_internal.specs.Prelude.{IsSuffixOf}
 use Rattle.nom_character.specs.LineMatches.{is_line_code}
 use Rattle.nom_character.proofs.Lines.{end_head, line_shown, all_stands, all_begins}
 use Rattle.nom_character.proofs.line.line_at.Goals as goal

@@ -1,5 +1,5 @@
 use Rattle.std.proofs.Common.{subst}
-use Rattle.nom_traits.specs.Input.{IsSuffixOf}
+use Rattle.nom_internal.specs.Prelude.{IsSuffixOf}
 use Rattle.nom_character_first.specs.laws.FirstItemLaws.{head_place}
 use Rattle.nom_character_first.proofs.first.behind.Goals as goal
 

@@ -1,6 +1,6 @@
 use Rattle.std.proofs.Common.{◌∙◌, rules, arith, sym, ap, subst}
 use Rattle.std.specs.Iterator.{AlwaysYields}
-use Rattle.nom_traits.specs.Input.{placed}
+use Rattle.nom_internal.specs.Prelude.{placed}
 use Rattle.nom_character_integer.specs.laws.IntegerLaws.{range_of}
 use Rattle.nom_character_integer.proofs.Readings.{reading_begins, reading_ends, reading_stops, reading_unfit, reading_goes_on}
 use Rattle.nom_character_integer.proofs.integer.number_at.Goals as goal

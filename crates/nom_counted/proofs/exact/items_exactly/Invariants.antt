@@ -1,5 +1,5 @@
 use Rattle.std.proofs.Common.{◌≡◌, ◌-◌, Some, length}
-use Rattle.nom_error.specs.Modes.{Built}
+use Rattle.nom_internal.specs.Prelude.{Built}
 use Rattle.nom_repeat.specs.Repeat.{TurnsBy}
 use Rattle.nom_repeat.specs.Items.{item_turn}
 use Rattle.nom_repeat.specs.Bounds.{exact_limits}

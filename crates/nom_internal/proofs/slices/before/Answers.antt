@@ -1,7 +1,5 @@
 use Rattle.std.proofs.Common.{subst}
-use Rattle.nom_traits.specs.Input.{IsBoundary}
-use Rattle.nom_traits.specs.Rests.{rest_place}
-use Rattle.nom_traits.specs.Slices.{IsFirst}
+use Rattle.nom_internal.specs.Prelude.{IsBoundary, rest_place, IsFirst}
 use Rattle.nom_internal.proofs.Consumed.{rest_within, before_length}
 use Rattle.nom_internal.proofs.slices.before.Goals as goal
 

@@ -1,5 +1,5 @@
 use Rattle.std.proofs.Common.{sym, ◌∙◌}
-use Rattle.nom_traits.specs.Slices.{front_seen}
+use Rattle.nom_internal.specs.Prelude.{front_seen}
 use Rattle.nom_internal.proofs.Shown.{some_built}
 use Rattle.nom_internal.proofs.slices.front.Goals as goal
 

@@ -1,4 +1,4 @@
-use Rattle.nom_error.specs.Modes.{modes}
+use Rattle.nom_internal.specs.Prelude.{modes}
 use Rattle.nom_internal.proofs.Tuples.{first_shown}
 use Rattle.nom_internal.proofs.tuple.first_member.Goals as goal
 

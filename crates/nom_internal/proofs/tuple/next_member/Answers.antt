@@ -1,4 +1,4 @@
-use Rattle.nom_error.specs.Modes.{modes}
+use Rattle.nom_internal.specs.Prelude.{modes}
 use Rattle.nom_internal.proofs.Tuples.{on_accepted, paired_shown}
 use Rattle.nom_internal.proofs.tuple.next_member.Goals as goal
 

@@ -1,4 +1,4 @@
-use Rattle.nom_traits.specs.Slices.{IsModelledBy}
+use Rattle.nom_internal.specs.Prelude.{IsModelledBy}
 use Rattle.nom_internal.proofs.Shown.{accepts, err_from_residual, then_err, then_ok}
 use Rattle.nom_internal.proofs.Bounded.{bound_of, bounded_err, bounded_ok}
 use Rattle.nom_multi_length.specs.Values.{settled_meaning}

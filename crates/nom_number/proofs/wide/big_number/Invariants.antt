@@ -1,4 +1,5 @@
-use Rattle.std.proofs.Common.{ℕ, true}
+use Rattle.std.proofs.Common.{ℕ}
+use Rattle.nom_number.specs.declared.order.Endianness.TheVariants.{Big}
 use Rattle.nom_number.proofs.Sums.{IsSummed}
 use Rattle.nom_number.proofs.wide.big_number.Given as goal
 
@@ -6,4 +7,4 @@ abbrev pub invariant-loop-byte : goal.invariant-loop-byte
 invariant-loop-byte g l =
     (goal.iterator-loop-byte g).can_next l.byte-iterator
     × (goal.iterator-loop-byte g).is_finite l.byte-iterator
-    × ((n : ℕ) × IsSummed true (goal.iterator-loop-byte g).next_gives (g.I.Items.model.elements l.fn.bytes) n l.value l.byte-iterator)
+    × ((n : ℕ) × IsSummed Big (goal.iterator-loop-byte g).next_gives (g.I.Items.model.elements l.fn.bytes) n l.value l.byte-iterator)

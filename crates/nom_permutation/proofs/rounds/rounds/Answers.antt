@@ -1,8 +1,7 @@
 use Rattle.std.specs.Prelude.{◌≡◌, Ok, Err, refl}
 use Rattle.std.proofs.Common.{arith, sym, ◌∙◌, ap, subst, suc}
-use Rattle.nom_error.specs.Modes.{modes}
+use Rattle.nom_internal.specs.Prelude.{modes, ClosesError}
 use Rattle.nom_error.specs.declared.kind.ErrorKind.TheVariants as Kind
-use Rattle.nom_internal.specs.Choice.{ClosesError}
 use Rattle.nom_permutation.specs.Members.{AreSound, tried}
 use Rattle.nom_permutation.specs.Permutation.{round_meaning}
 use Rattle.nom_permutation.specs.Rounds.{applies, HasTried, ShowsRound, FlatOutput}

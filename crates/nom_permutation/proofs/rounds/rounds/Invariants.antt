@@ -1,5 +1,5 @@
 use Rattle.std.specs.Prelude.{◌≡◌, length, Result, Option}
-use Rattle.nom_error.specs.declared.answer.Needed.{Needed}
+use Rattle.nom_internal.specs.Prelude.{Needed}
 use Rattle.nom_error.specs.declared.answer.Err as Answer
 use Rattle.nom_error.specs.declared.kind.ErrorKind.TheVariants as Kind
 use Rattle.nom_permutation.specs.Rounds.{FlatOutput}

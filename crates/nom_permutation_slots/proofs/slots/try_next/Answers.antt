@@ -1,4 +1,4 @@
-use Rattle.nom_error.specs.Modes.{modes}
+use Rattle.nom_internal.specs.Prelude.{modes}
 use Rattle.nom_internal.proofs.Choices.{next_shown}
 use Rattle.nom_permutation_slots.proofs.slots.try_next.Goals as goal
 

@@ -1,7 +1,6 @@
 use Rattle.std.proofs.Common.{ℕ, refl, length, List, Option}
 use Rattle.nom_error.specs.declared.kind.ErrorKind.TheVariants as Kind
-use Rattle.nom_internal.specs.Meaning.{Meaning}
-use Rattle.nom_internal.specs.Cases.{closed_meaning}
+use Rattle.nom_internal.specs.Prelude.{Meaning, closed_meaning}
 use Rattle.nom_internal.proofs.Shown.{accepts, built_error}
 use Rattle.nom_precedence.specs.Stuck.{Read}
 use Rattle.nom_precedence.specs.Chains.{chain_meaning}

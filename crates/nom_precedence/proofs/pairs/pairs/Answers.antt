@@ -1,7 +1,6 @@
 use Rattle.std.proofs.Common.{ℕ, refl, ◌∙◌, false, length, subst, Option, Result}
-use Rattle.nom_error.specs.declared.answer.Needed.{Needed}
+use Rattle.nom_internal.specs.Prelude.{Needed, Accept}
 use Rattle.nom_error.specs.declared.answer.Err as Answer
-use Rattle.nom_internal.specs.Outcome.Outcome.{Accept}
 use Rattle.nom_internal.proofs.Shown.{accepts}
 use Rattle.nom_repeat.proofs.Parts.{part_refused}
 use Rattle.nom_repeat.proofs.Repeated.{collected_none, is_empty, consumes, is_shorter}

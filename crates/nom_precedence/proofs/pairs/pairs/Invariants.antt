@@ -1,7 +1,5 @@
 use Rattle.std.proofs.Common.{◌≡◌, ℕ, length}
-use Rattle.nom_error.specs.Modes.{Built}
-use Rattle.nom_traits.specs.Input.{input_len}
-use Rattle.nom_internal.specs.Meaning.{Meaning}
+use Rattle.nom_internal.specs.Prelude.{Built, input_len, Meaning}
 use Rattle.nom_precedence.specs.Stuck.{Read}
 use Rattle.nom_precedence.specs.Expressions.{Pair, Term, pair_meaning, term_meaning}
 use Rattle.nom_precedence.specs.Operators.{HasLevel, operator_meaning}

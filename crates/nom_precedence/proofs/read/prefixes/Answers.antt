@@ -1,5 +1,5 @@
 use Rattle.std.proofs.Common.{rules, refl, ◌∙◌, false, subst, sym, []}
-use Rattle.nom_internal.specs.Cases.{labelled_meaning}
+use Rattle.nom_internal.specs.Prelude.{labelled_meaning}
 use Rattle.nom_internal.proofs.Shown.{accepts}
 use Rattle.std.specs.List.{AllZip}
 use Rattle.nom_precedence.proofs.HeldShown.{held_built}

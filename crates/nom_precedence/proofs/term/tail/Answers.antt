@@ -1,6 +1,6 @@
 use Rattle.std.proofs.Common.{refl, sym, subst}
 use Rattle.std.specs.Prelude.{IsSome}
-use Rattle.nom_internal.specs.Cases.{labelled_meaning}
+use Rattle.nom_internal.specs.Prelude.{labelled_meaning}
 use Rattle.nom_internal.proofs.Shown.{accepts}
 use Rattle.nom_precedence.specs.Expressions.{affixes_meaning}
 use Rattle.nom_precedence.specs.Stuck.Read.{Whole}

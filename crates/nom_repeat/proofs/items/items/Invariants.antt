@@ -1,6 +1,5 @@
 use Rattle.std.proofs.Common.{◌≡◌}
-use Rattle.nom_error.specs.Modes.{Built}
-use Rattle.nom_traits.specs.Input.{input_len}
+use Rattle.nom_internal.specs.Prelude.{Built, input_len}
 use Rattle.nom_repeat.specs.Repeat.{TurnsBy}
 use Rattle.nom_repeat.specs.Items.{item_turn}
 use Rattle.nom_repeat.specs.Accumulated.{Accumulated}

@@ -1,5 +1,5 @@
 use Rattle.std.proofs.Common.{[], ◌∷◌, ap, arith, length}
-use Rattle.nom_traits.specs.Bytes.{bytes_model}
+use Rattle.nom_internal.specs.Prelude.{bytes_model}
 use Rattle.nom_growing.specs.ByteCuts.{byte_cuts}
 use Rattle.nom_located.specs.Located.{located, place}
 use Rattle.nom_located.specs.laws.MovingLaws.{place_moving}

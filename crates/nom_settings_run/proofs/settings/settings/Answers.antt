@@ -1,5 +1,5 @@
 use Rattle.std.proofs.Common.{false, ◌∙◌, ap}
-use Rattle.nom_internal.specs.Meaning.{ParsesMeaning}
+use Rattle.nom_internal.specs.Prelude.{ParsesMeaning}
 use Rattle.nom_settings_run.specs.Settings.{AreSections}
 use Rattle.nom_settings_run.proofs.Written.{by_its_parts}
 use Rattle.nom_settings_run.proofs.settings.settings.Goals as goal

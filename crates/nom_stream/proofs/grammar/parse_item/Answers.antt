@@ -1,6 +1,5 @@
 use Rattle.std.proofs.Common.{Bool, sym, subst}
-use Rattle.nom_traits.specs.Bytes.{bytes_model}
-use Rattle.nom_internal.specs.Meaning.{ParsesMeaning}
+use Rattle.nom_internal.specs.Prelude.{bytes_model, ParsesMeaning}
 use Rattle.nom_stream.proofs.grammar.parse_item.Goals as goal
 
 pub returns-then-more : goal.returns-then-more

@@ -1,11 +1,9 @@
 //! Memory runs out in a function's list: every parser around it answers just that, and tries nothing more.
 ghost use Rattle.std.specs.Prelude.{◌≡◌, length, false};
 ghost use Rattle.std.specs.Borrow.{Bor};
-ghost use Rattle.nom_internal.specs.Families.{IsOne};
+ghost use Rattle.nom_internal.specs.Prelude.{IsOne, text_model, ParsesMeaning};
 ghost use Rattle.nom_multi_length.specs.Lengths.{HasSize};
 ghost use Rattle.linked_list_allocator.specs.declared.local.LocalHeap.{LocalHeap};
-ghost use Rattle.nom_traits.specs.Text.{text_model};
-ghost use Rattle.nom_internal.specs.Meaning.{ParsesMeaning};
 ghost use Rattle.test_lists.specs.Listed.{IsNumber, numbered};
 
 use super::heap::{free_heap, hold};

@@ -1,5 +1,5 @@
 //! Records that come in pieces.
-ghost use Rattle.nom_traits.specs.Bytes.{bytes_model};
+ghost use Rattle.nom_internal.specs.Prelude.{bytes_model};
 ghost use Rattle.nom_growing.specs.Growing.{AreCuts};
 
 use nom::bytes::{tag, take};

@@ -1,8 +1,6 @@
 //! Data after a length, by a parser of one byte of a user's own.
 ghost use Rattle.std.specs.Prelude.{ℕ, ◌<◌, length};
-ghost use Rattle.nom_error.specs.Modes.{Built};
-ghost use Rattle.nom_traits.specs.Bytes.{bytes_model};
-ghost use Rattle.nom_traits.specs.Slices.{Slice};
+ghost use Rattle.nom_internal.specs.Prelude.{Built, bytes_model, Slice};
 ghost use Rattle.test_nom.specs.FirstByte.{IsFirstByte, byte_meaning, byte_lawful};
 
 use nom::error::{Error, ErrorKind};

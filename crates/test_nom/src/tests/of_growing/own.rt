@@ -1,9 +1,7 @@
 //! Parsers over an input type and an error type of a user's own.
 ghost use Rattle.std.specs.Prelude.{◌≡◌, ℕ, ◌-◌, List, length, Some, MatchResult, refl};
-ghost use Rattle.nom_traits.specs.Compares.{ComparesBytes, ComparesBytesNoCase};
-ghost use Rattle.nom_traits.specs.CompareTags.{bytes_comparing, bytes_comparing_no_case};
-ghost use Rattle.nom_traits.specs.Bytes.{bytes_model, bytes_lawful};
-ghost use Rattle.nom_traits.specs.View.{behind_view};
+ghost use Rattle.nom_internal.specs.Prelude.{ComparesBytes, ComparesBytesNoCase, bytes_comparing, bytes_comparing_no_case, bytes_model, bytes_lawful};
+ghost use Rattle.nom_internal.specs.Prelude.{behind_view};
 ghost use Rattle.nom.specs.Wrapped.{no_label, wrapped_model, wrapped_view, wrapped_views, wrapped_injective, wrapped_lawful, wrapped_comparing};
 
 use nom::bytes::{tag, take};

@@ -3,8 +3,7 @@
 //! parsers over parts and closures of any type says in its clauses what it takes of them.
 
 ghost use Rattle.std.specs.Prelude.{◌≡◌, ℕ, List, Option, Some, Ok, is_some, is_ok};
-ghost use Rattle.nom_traits.specs.View.{pair_view};
-ghost use Rattle.nom_internal.specs.Closures.{IsCallable, IsJudge, SeesAlike};
+ghost use Rattle.nom_internal.specs.Prelude.{pair_view, IsCallable, IsJudge, SeesAlike};
 
 use nom::bytes::take;
 use nom::combinator::{map, map_opt, map_res, success, value, verify};

@@ -1,5 +1,5 @@
 //! What no clause says: printed texts, derives, the members of a mode, and each call once.
-ghost use Rattle.nom_error.specs.Answers.{WantsMore};
+ghost use Rattle.nom_internal.specs.Prelude.{WantsMore};
 
 use nom_error::answer::{Err, IResult, Needed, OutOfMemory, PResult};
 use nom_error::finish::{Finish, FinishError};

@@ -1,7 +1,6 @@
 //! Inputs, classes of items, and comparisons with tags.
 ghost use Rattle.std.specs.Prelude.{◌≡◌};
-ghost use Rattle.nom_traits.specs.Classes.{IsInside, IsOutside};
-ghost use Rattle.nom_traits.specs.Runs.{IsPosition};
+ghost use Rattle.nom_internal.specs.Prelude.{IsInside, IsOutside, IsPosition};
 
 use nom_error::answer::{Err, Needed, PResult};
 use nom_error::kind::ErrorKind;

@@ -1,8 +1,7 @@
 //! Classes, tokens, searches, bytes and builders.
 ghost use Rattle.std.specs.Prelude.{◌≡◌, ℕ, ◌<◌, ◌∷◌, ◌++◌, [], Some, IfOk, IfSome};
-ghost use Rattle.nom_traits.specs.Input.{IsPrefixOf, input_len};
-ghost use Rattle.nom_traits.specs.Classes.{is_alpha_code, is_alphanum_code, is_bin_digit_code, is_dec_digit_code, is_hex_digit_code, is_newline_code};
-ghost use Rattle.nom_traits.specs.Classes.{is_oct_digit_code, is_space_code};
+ghost use Rattle.nom_internal.specs.Prelude.{IsPrefixOf, input_len, is_alpha_code, is_alphanum_code, is_bin_digit_code, is_dec_digit_code, is_hex_digit_code};
+ghost use Rattle.nom_internal.specs.Prelude.{is_newline_code, is_oct_digit_code, is_space_code};
 
 use nom_error::answer::OutOfMemory;
 use nom_search::bytes::{AsBytes, ByteItems};

@@ -2,6 +2,7 @@
 //!
 //! The parsers are called by functions that promise nothing, so that what a parser means isn't unfolded where
 //! its answers are compared.
+ghost use Rattle.nom_growing.specs.Growing.{AreCuts};
 
 use crate::tests::of_bits::ended::{Bits, Ended, Fail, how};
 use nom_bits::{ErrorConvert, bits, bytes, complete, take};
@@ -14,6 +15,7 @@ use nom_error::value::Error;
 use nom_func::function::stream_func;
 use nom_growing::growing::{Grown, parse_growing};
 use nom_internal::parser::{Parser, StreamParser};
+use nom_traits::input::Input;
 
 type Bad<'a> = Error<&'a [u8]>;
 
@@ -149,10 +151,17 @@ fn converted_errors(rt: HostRuntime) {
     assert!(rt; nothing == ());
 }
 
-/// The first bit of an input that grows from nothing, by a function.
+/// The first bit of bytes that grow, by a function.
+fn first_bit<I: Input<Item = u8>>(input: I, cuts: &[usize]) -> Grown<I, bool, Error<I>>
+    requires { AreCuts I.model input cuts.now }
+{
+    let bit = stream_func(nom_bits::streaming::bool::<I, Error<(I, usize)>>);
+    parse_growing(bits(bit), input, cuts)
+}
+
+/// The first bit of an input that grows from nothing.
 fn grown_bit<'a>(input: &'a [u8]) -> Grown<&'a [u8], bool, Bad<'a>> {
-    let bit = stream_func(nom_bits::streaming::bool::<&[u8], Fail<'_>>);
-    parse_growing(bits(bit), input, &[0])
+    first_bit(input, &[0])
 }
 
 #[test]

@@ -8,7 +8,7 @@ use nom_character::{char, one_of};
 use nom_ends::{fail, success};
 use nom_error::mode::{Complete, Streaming};
 use nom_error::value::{Error, ParseError};
-use nom_internal::parser::{Parser, StreamParser};
+use nom_internal::parser::Parser;
 use nom_precedence::{Assoc, Operation, precedence};
 use nom_sequence::delimited;
 use nom_traits::character::AsChar;
@@ -64,7 +64,7 @@ fn power(x: i64, y: i64) -> i64 {
 fn in_both<I, P>(mut parser: P, input: I) -> Both
 where
     I: Input,
-    P: StreamParser<I, Output = i64, Error: Tells> + Drop,
+    P: Parser<I, Output = i64, Error: Tells> + Drop,
     requires { (P.meaning (P.state parser)).IsSound }
 {
     Both {
@@ -79,7 +79,7 @@ where
     I: Input<Item: AsChar>,
     A: Allocator + Copy,
     E: ParseError<I> + Tells,
-    F: StreamParser<I, Output = i64, Error = E> + Drop,
+    F: Parser<I, Output = i64, Error = E> + Drop,
     requires { (F.meaning (F.state operand)).IsSound }
 {
     let levels = levels(last);
@@ -133,7 +133,7 @@ where
     I: Input<Item: AsChar>,
     A: Allocator + Copy,
     E: ParseError<I> + Tells,
-    F: StreamParser<I, Output = i64, Error = E> + Drop,
+    F: Parser<I, Output = i64, Error = E> + Drop,
     requires { (F.meaning (F.state inner)).IsSound }
 {
     let digit = one_of("0123456789").map(digit);
@@ -145,9 +145,9 @@ where
 fn of_parts<I, P, F, Q>(alloc: Global, prefix: P, operand: F, postfix: Q, input: I) -> Both
 where
     I: Input,
-    P: StreamParser<I, Output = char, Error = Error<I>> + Drop,
-    F: StreamParser<I, Output = i64, Error = Error<I>> + Drop,
-    Q: StreamParser<I, Output = char, Error = Error<I>> + Drop,
+    P: Parser<I, Output = char, Error = Error<I>> + Drop,
+    F: Parser<I, Output = i64, Error = Error<I>> + Drop,
+    Q: Parser<I, Output = char, Error = Error<I>> + Drop,
     requires prefix { (P.meaning (P.state prefix)).IsSound }
     requires operand { (F.meaning (F.state operand)).IsSound }
     requires postfix { (Q.meaning (Q.state postfix)).IsSound }

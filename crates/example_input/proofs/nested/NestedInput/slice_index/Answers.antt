@@ -1,5 +1,5 @@
 use Rattle.std.proofs.Common.{None}
-use Rattle.nom_traits.specs.Text.{text_model}
+use Rattle.nom_internal.specs.Prelude.{text_model}
 use Rattle.nom.specs.Moving.{counts_moving}
 use Rattle.example_input.specs.Nestings.{depths}
 use Rattle.example_input.proofs.nested.NestedInput.slice_index.Goals as goal

@@ -1,5 +1,5 @@
 use Rattle.std.proofs.Common.{◌∙◌, ap}
-use Rattle.nom_traits.specs.Text.{text_model, text_lawful}
+use Rattle.nom_internal.specs.Prelude.{text_model, text_lawful}
 use Rattle.nom.specs.Moving.{always_fitting, moved, rest_moving}
 use Rattle.example_input.specs.Nestings.{depth_after, depths}
 use Rattle.example_input.proofs.Passed.{passed}

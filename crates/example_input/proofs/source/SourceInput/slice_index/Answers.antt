@@ -1,5 +1,5 @@
 use Rattle.std.proofs.Common.{None}
-use Rattle.nom_traits.specs.Text.{text_model}
+use Rattle.nom_internal.specs.Prelude.{text_model}
 use Rattle.nom.specs.Wrapped.{counts_wrapped}
 use Rattle.example_input.specs.Sources.{name}
 use Rattle.example_input.proofs.source.SourceInput.slice_index.Goals as goal

@@ -1,5 +1,5 @@
 use Rattle.std.proofs.Common.{sym}
-use Rattle.nom_traits.specs.Rests.{items_len-ones}
+use Rattle.nom_internal.specs.Prelude.{items_len-ones}
 use Rattle.example_parts.proofs.tokens.TokensInput.input_len.Goals as goal
 
 pub returns : goal.returns

@@ -8,11 +8,11 @@ returns-clause-parses c =
     let list = ap (λ p. p.parser) c.length_value.ensures.parser ∙ (c.all_consuming-body.ensures ∙ c.alt.ensures) in
     let ping = ap (λ l. l.first.first.parser.first.tag.now) list ∙
     (ap (λ p. p.first.tag.now) c.map.ensures.parser ∙ (ap (λ p. p.tag.now) c.pair-number.ensures.first ∙ ap (λ t. t.now) c.tag.ensures)) in
-    let number = ap (λ l. l.first.first.parser.second.big) list ∙
-    (ap (λ p. p.second.big) c.map.ensures.parser ∙ (ap (λ p. p.big) c.pair-number.ensures.second ∙ c.be_u32.ensures)) in
+    let number = ap (λ l. l.first.first.parser.second.endian) list ∙
+    (ap (λ p. p.second.endian) c.map.ensures.parser ∙ (ap (λ p. p.endian) c.pair-number.ensures.second ∙ c.be_u32.ensures)) in
     let text = ap (λ l. l.first.second.parser.first.tag.now) list ∙
     (ap (λ p. p.first.tag.now) c.map-2.ensures.parser ∙ (ap (λ p. p.tag.now) c.preceded-string.ensures.first ∙ ap (λ t. t.now) c.tag-2.ensures)) in
     let close = ap (λ l. l.second.parser.tag.now) list ∙ (ap (λ p. p.tag.now) c.map-3.ensures.parser ∙ ap (λ t. t.now) c.tag-leave.ensures) in
-    let length = ap (λ p. p.big) c.length_value.ensures.length ∙ c.be_u16.ensures in
+    let length = ap (λ p. p.endian) c.length_value.ensures.length ∙ c.be_u16.ensures in
     message_by_parts (λ h. ParsesItem h.IsOutput h.meaning c.args.more c.args.input c.parse_item.result) _ _ _ _ _ ping text close length number
     c.parse_item.ensures.parses

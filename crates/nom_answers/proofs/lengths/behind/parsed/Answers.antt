@@ -1,5 +1,5 @@
 use Rattle.std.proofs.Common.{subst, sym}
-use Rattle.nom_internal.specs.Families.{IsOne}
+use Rattle.nom_internal.specs.Prelude.{IsOne}
 use Rattle.nom_multi_length.specs.Lengths.{HasSize}
 use Rattle.nom_answers.proofs.lengths.behind.parsed.Goals as goal
 

@@ -1,7 +1,6 @@
 use Rattle.std.proofs.Common.{◌≡◌, refl, sym, ◌∙◌, nat_eq, arith}
 use Rattle.nom_error.specs.declared.kind.ErrorKind.TheVariants as Kind
-use Rattle.nom_traits.specs.Bits.{bits_model}
-use Rattle.nom_internal.specs.Leaf.{leaf_meaning}
+use Rattle.nom_internal.specs.Prelude.{bits_model, leaf_meaning}
 use Rattle.nom_internal.proofs.Cased.{labelled_shown}
 use Rattle.nom_internal.proofs.Shown.{accepted, undecided, refused}
 use Rattle.nom_bits.specs.Fields.{fields}

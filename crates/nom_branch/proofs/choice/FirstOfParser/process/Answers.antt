@@ -1,5 +1,4 @@
-use Rattle.nom_error.specs.Modes.{modes}
-use Rattle.nom_internal.specs.Choice.{EitherOutput}
+use Rattle.nom_internal.specs.Prelude.{modes, EitherOutput}
 use Rattle.nom_branch.specs.Alternatives.{next_meaning}
 use Rattle.nom_branch.proofs.Alternatives.{next_shown, choice_shown}
 use Rattle.nom_branch.proofs.choice.FirstOfParser.process.Goals as goal

@@ -1,5 +1,5 @@
 use Rattle.std.proofs.Common.{sym, ◌∙◌, refl}
-use Rattle.nom_traits.specs.Slices.{place_first}
+use Rattle.nom_internal.specs.Prelude.{place_first}
 use Rattle.nom_internal.proofs.Shown.{accepted, undecided, refused}
 use Rattle.nom_bytes.proofs.leaf.TakeParser.process.Goals as goal
 

@@ -1,6 +1,5 @@
 use Rattle.std.proofs.Common.{◌≡◌, None, Some}
-use Rattle.nom_error.specs.Answers.{size_of}
-use Rattle.nom_traits.specs.Input.{input_len}
+use Rattle.nom_internal.specs.Prelude.{size_of, input_len}
 use Rattle.nom_repeat.specs.Repeat.{TurnsBy}
 use Rattle.nom_repeat.proofs.Repeated.{Collected}
 use Rattle.nom_bytes_escaped.specs.NextPieces.{next_piece_meaning}

@@ -1,6 +1,5 @@
 use Rattle.std.proofs.Common.{◌≡◌}
-use Rattle.nom_error.specs.Modes.{modes}
-use Rattle.nom_traits.specs.Input.{input_len}
+use Rattle.nom_internal.specs.Prelude.{modes, input_len}
 use Rattle.nom_bytes_escaped.proofs.TransformShown.{Gathered}
 use Rattle.nom_bytes_escaped.proofs.transform.EscapedTransformParser.process.Given as goal
 

@@ -1,5 +1,5 @@
 use Rattle.std.proofs.Common.{◌≡◌, false, rules, refl, sym, ◌∙◌, inl, inr}
-use Rattle.nom_error.specs.Modes.{modes}
+use Rattle.nom_internal.specs.Prelude.{modes}
 use Rattle.nom_internal.proofs.Shown.{undecided, refused}
 use Rattle.nom_character_integer.proofs.Shown.{unfit, integer_fits, digits_place, unfollowed, ended, no_digits, integer_shown}
 use Rattle.nom_character_integer.proofs.integer.IntegerParser.process.Goals.{then-not-this+else-STREAMING, else-not-this}

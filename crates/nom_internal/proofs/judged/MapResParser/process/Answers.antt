@@ -1,6 +1,6 @@
 use Rattle.std.specs.Prelude.{refl}
 use Rattle.nom_error.specs.declared.kind.ErrorKind.TheVariants as Kind
-use Rattle.nom_internal.specs.Judged.{OfError}
+use Rattle.nom_internal.specs.Prelude.{OfError}
 use Rattle.nom_internal.proofs.Shown.{err_from_residual}
 use Rattle.nom_internal.proofs.Judges.{judged_err, judged_fit, judged_unfit, kept_given}
 use Rattle.nom_internal.proofs.judged.MapResParser.process.Goals as goal

@@ -1,5 +1,5 @@
 use Rattle.std.proofs.Common.{ap}
-use Rattle.nom_internal.specs.Results.{rest_of}
+use Rattle.nom_internal.specs.Prelude.{rest_of}
 use Rattle.nom_internal.specs.Results.ThenBesides.{Stopped, Both}
 use Rattle.nom_internal.proofs.Shown.{err_from_residual, then_err, then_ok, output_err, output_ok, both_built}
 use Rattle.nom_internal.proofs.sequence.AndParser.process.Goals as goal

@@ -1,4 +1,4 @@
-use Rattle.nom_error.specs.Modes.{modes}
+use Rattle.nom_internal.specs.Prelude.{modes}
 use Rattle.nom_internal.proofs.Tuples.{and_member, first_of_members, tuple_shown}
 use Rattle.nom_internal.proofs.tuple.Tuple2Parser.process.Goals as goal
 

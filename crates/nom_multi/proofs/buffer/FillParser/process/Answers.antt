@@ -1,5 +1,5 @@
 use Rattle.std.proofs.Common.{ap}
-use Rattle.nom_internal.specs.Results.{rest_of}
+use Rattle.nom_internal.specs.Prelude.{rest_of}
 use Rattle.nom_multi.proofs.FillShown.{filled_then}
 use Rattle.nom_multi.proofs.buffer.FillParser.process.Goals as goal
 

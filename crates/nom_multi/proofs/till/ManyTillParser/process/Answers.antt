@@ -1,7 +1,7 @@
 use Rattle.std.proofs.Common.{◌≤◌, rules, refl, ◌∙◌}
 use Rattle.std.specs.Prelude.{vec_len, vec_capacity}
 use Rattle.std.specs.List.{AllZip}
-use Rattle.nom_error.specs.Modes.{modes}
+use Rattle.nom_internal.specs.Prelude.{modes}
 use Rattle.nom_internal.proofs.Shown.{accepts, both_built, built_error}
 use Rattle.nom_repeat.proofs.Accumulating.{built_any, room_built}
 use Rattle.nom_repeat.proofs.Repeated.{collected_none, is_empty, consumes, is_shorter}

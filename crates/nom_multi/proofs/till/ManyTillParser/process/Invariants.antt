@@ -1,7 +1,6 @@
 use Rattle.std.proofs.Common.{◌≡◌}
 use Rattle.std.specs.List.{AllZip}
-use Rattle.nom_error.specs.Modes.{Built}
-use Rattle.nom_traits.specs.Input.{input_len}
+use Rattle.nom_internal.specs.Prelude.{Built, input_len}
 use Rattle.nom_multi.specs.Till.{end_or_item}
 use Rattle.nom_multi.proofs.TillShown.{Till}
 use Rattle.nom_multi.proofs.till.ManyTillParser.process.Given as goal

@@ -1,9 +1,8 @@
 use Rattle.std.proofs.Common.{◌≡◌, sym, ◌∙◌, arith}
-use Rattle.nom_traits.specs.Slices.{place_first}
+use Rattle.nom_internal.specs.Prelude.{place_first, value_of}
 use Rattle.nom_internal.proofs.Shown.{accepted, undecided, refused, built_error}
 use Rattle.nom_internal.proofs.Cased.{labelled_shown}
 use Rattle.nom_bytes.specs.Takes.{take_meaning}
-use Rattle.nom_traits.specs.Digits.{value_of}
 use Rattle.nom_number.specs.Numbers.{bytes_lack}
 use Rattle.nom_number.proofs.Bytes.{value_first, some_more, lacks_one}
 use Rattle.nom_number.proofs.binary.BeU8Parser.process.Goals as goal

@@ -1,7 +1,5 @@
 use Rattle.std.specs.Prelude.{codes}
-use Rattle.nom_error.specs.Modes.{modes}
-use Rattle.nom_traits.specs.Slices.{IsModelledBy}
-use Rattle.nom_internal.specs.Choice.{EitherOutput}
+use Rattle.nom_internal.specs.Prelude.{modes, IsModelledBy, EitherOutput}
 use Rattle.nom_branch.specs.Alternatives.{next_meaning}
 use Rattle.nom_branch.proofs.Alternatives.{next_shown, choice_shown}
 use Rattle.nom_number_text.specs.Words.{word_meaning}

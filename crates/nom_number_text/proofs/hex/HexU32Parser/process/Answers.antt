@@ -1,4 +1,4 @@
-use Rattle.nom_error.specs.Modes.{modes}
+use Rattle.nom_internal.specs.Prelude.{modes}
 use Rattle.nom_internal.proofs.Shown.{err_from_residual}
 use Rattle.nom_number_text.proofs.HexShown.{hex_err, hex_place, hex_ok}
 use Rattle.nom_number_text.proofs.hex.HexU32Parser.process.Goals as goal

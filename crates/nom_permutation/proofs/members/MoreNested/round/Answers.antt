@@ -1,6 +1,6 @@
 use Rattle.std.specs.Prelude.{Some}
 use Rattle.std.proofs.Common.{arith, sym, subst}
-use Rattle.nom_error.specs.Modes.{modes}
+use Rattle.nom_internal.specs.Prelude.{modes}
 use Rattle.nom_permutation.specs.Members.Choice.{NoChoice}
 use Rattle.nom_permutation.specs.laws.NestedLaws.{others_sound, last_sound, or_others, last_tried}
 use Rattle.nom_permutation.specs.Rounds.{SlotHolds, HasTried}

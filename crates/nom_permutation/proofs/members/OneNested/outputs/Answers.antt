@@ -1,5 +1,5 @@
 use Rattle.std.specs.Prelude.{◌≡◌, Bool, Option, Some, refl}
-use Rattle.nom_error.specs.Modes.{Built}
+use Rattle.nom_internal.specs.Prelude.{Built}
 use Rattle.nom_internal.specs.declared.flat.One.{One}
 use Rattle.nom_permutation.specs.Members.Choice.{NoChoice}
 use Rattle.nom_permutation.specs.Rounds.{IsApplied}

@@ -1,5 +1,5 @@
 use Rattle.std.proofs.Common.{ap}
-use Rattle.nom_internal.specs.Results.{rest_of}
+use Rattle.nom_internal.specs.Prelude.{rest_of}
 use Rattle.nom_internal.specs.Results.ThenBesides.{Stopped, Both}
 use Rattle.nom_internal.proofs.Shown.{err_from_residual, then_err, then_ok}
 use Rattle.nom_sequence.proofs.parts.PrecededParser.process.Goals as goal

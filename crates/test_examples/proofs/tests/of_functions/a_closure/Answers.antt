@@ -1,5 +1,5 @@
 use Rattle.std.proofs.Common.{length, ap, rules}
-use Rattle.nom_traits.specs.Bytes.{bytes_lawful}
+use Rattle.nom_internal.specs.Prelude.{bytes_lawful}
 use Rattle.nom_func.proofs.FuncSound.{outright_func}
 use Rattle.test_examples.proofs.tests.of_functions.a_closure.Goals as goal
 

@@ -1,6 +1,5 @@
 use Rattle.std.proofs.Common.{subst}
-use Rattle.nom_traits.specs.Bytes.{bytes_model}
-use Rattle.nom_traits.specs.View.{itself}
+use Rattle.nom_internal.specs.Prelude.{bytes_model, itself}
 use Rattle.nom_func.specs.Func.{Tells}
 use Rattle.nom_func.proofs.FuncSound.{parser_of}
 use Rattle.test_examples.proofs.tests.of_functions.out_of_memory.Goals as goal

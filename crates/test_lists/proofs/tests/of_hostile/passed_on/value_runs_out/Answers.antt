@@ -1,5 +1,5 @@
 use Rattle.std.proofs.Common.{subst, sym}
-use Rattle.nom_internal.specs.Families.{IsOne}
+use Rattle.nom_internal.specs.Prelude.{IsOne}
 use Rattle.nom_multi_length.specs.Lengths.{HasSize}
 use Rattle.test_lists.proofs.tests.of_hostile.passed_on.value_runs_out.Goals as goal
 

@@ -1,6 +1,5 @@
 use Rattle.std.proofs.Common.{◌≡◌, ℕ, List, [], ◌∷◌, ◌++◌, length, sym, ◌∙◌, refl, arith}
-use Rattle.nom_traits.specs.Bytes.{bytes_model}
-use Rattle.nom_traits.specs.Slices.{place_first}
+use Rattle.nom_internal.specs.Prelude.{bytes_model, place_first}
 use Rattle.nom_internal.proofs.Shown.{accepted, undecided, refused, built_error}
 use Rattle.test_nom.specs.FirstByte.{IsFirstByte}
 use Rattle.test_nom.proofs.tests.of_growing.lists.ByteParserRefSliceU8.process.Goals as goal

@@ -1,5 +1,5 @@
 use Rattle.std.proofs.Common.{Some, ◌-◌, length}
-use Rattle.nom_traits.specs.Bytes.{bytes_model}
+use Rattle.nom_internal.specs.Prelude.{bytes_model}
 use Rattle.nom.specs.Wrapped.{counts_wrapped, no_label}
 use Rattle.test_nom.proofs.tests.of_growing.own.PacketInput.slice_index.Goals as goal
 

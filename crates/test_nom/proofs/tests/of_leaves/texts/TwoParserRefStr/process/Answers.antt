@@ -1,5 +1,5 @@
 use Rattle.std.proofs.Common.{refl}
-use Rattle.nom_traits.specs.Text.{text_model, text_lawful}
+use Rattle.nom_internal.specs.Prelude.{text_model, text_lawful}
 use Rattle.nom_internal.proofs.Shown.{accepted}
 use Rattle.test_nom.specs.Nothing.{rest_here}
 use Rattle.test_nom.proofs.tests.of_leaves.texts.TwoParserRefStr.process.Goals as goal

@@ -1,6 +1,4 @@
-//! `nom_json_answers FILE ..`: replays JSON texts that stand in files, and tells where `example_json` answers otherwise.
-//!
-//! Each line is a text and what the grammar of JSON makes of it, as it was written down by hand. There are two columns:
+//! JSON texts, and what the grammar of JSON makes of them, as it was written down by hand. There are two columns:
 //!
 //! ```text
 //! " null " | null
@@ -19,18 +17,14 @@
 //!    that a string means, put together or as it stands, or that a surrogate in it has no other half; how many values a
 //!    list has; how many members an object has, and what their names mean, one after another. Or `refused`, or
 //!    `too deep` where more than 100 brackets lie in each other.
-//!
-//! It prints and ends as `nom_answers` does.
-#![tactic(auto)]
 
 use example_json::{Json, decoded, integer, json_text};
 use nom::Err;
 use nom_answer_lines::answer::Answer;
 use nom_answer_lines::literal::{Literal, literal_of};
-use nom_answer_lines::replay::{Verdict, replay_all};
+use nom_answer_lines::replay::Verdict;
 use std::alloc::Global;
 use std::borrow::CowStr;
-use std::process::ExitCode;
 
 /// How many brackets may lie in each other.
 const DEPTH: usize = 100;
@@ -158,7 +152,7 @@ fn read_answer(alloc: Global, line: &str) -> Option<Answer> {
 }
 
 /// What a line comes to; none where it can't be read, or memory runs out.
-fn compared(alloc: Global, line: &str) -> Option<Verdict> {
+pub fn compared(alloc: Global, line: &str) -> Option<Verdict> {
     let (input, wanted) = line.rsplit_once(" | ")?;
     match literal_of(alloc, input)? {
         Literal::Text(text) => {
@@ -166,12 +160,5 @@ fn compared(alloc: Global, line: &str) -> Option<Verdict> {
             Some(Verdict::of(found(alloc, text.as_str())?, &wanted))
         }
         Literal::Bytes(_) => None,
-    }
-}
-
-fn main(rt: HostRuntime) -> ExitCode {
-    match replay_all(&rt, compared) {
-        Ok(status) => ExitCode::from(status),
-        Err(_) => ExitCode::from(1),
     }
 }

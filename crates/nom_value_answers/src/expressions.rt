@@ -1,8 +1,5 @@
-//! `nom_precedence_answers FILE ..`: replays values of expressions that stand in files, and tells where
-//! `precedence` answers otherwise.
-//!
-//! Each line is one answer of the rule as a program of another language reads it: it reads all terms and operators,
-//! and then parts them at the root, and both sides again. There are three columns:
+//! Values of expressions, each one answer of the rule as a program of another language reads it: it reads all terms and
+//! operators, and then parts them at the root, and both sides again. There are three columns:
 //!
 //! ```text
 //! "1-2-3*4;" | streaming | rest=";" value=6906
@@ -19,25 +16,18 @@
 //! An operand is a digit. Before it may stand `~` and `+`, after it `!` and a single quote, and between terms the
 //! operators `^`, `*`, `-`, `&` and `|`, of the levels 0 to 4, of which those of 0 and 3 are grouped from the right;
 //! the level of `?` isn't there. The value of an operation tells one tree from another.
-//!
-//! For each file it prints its name; for each line to which the answer here is another `differs`, the number of
-//! the line, what was found and how many bytes it leaves, and for each that can't be read `unread` and its
-//! number; then how many lines there were, and how many of them were wrong. The status is 0 where none was; 1
-//! where one was, or a write fails; 3 where a file can't be read.
-#![tactic(auto)]
 
 ghost use Rattle.std.specs.Prelude.{◌≡◌};
-ghost use Rattle.nom_precedence_answers.specs.Levels.{level_of};
+ghost use Rattle.nom_value_answers.specs.Levels.{level_of};
 
 use nom::Parser;
 use nom::character::one_of;
 use nom_answer_lines::answer::{Answer, read_answer};
 use nom_answer_lines::ask::{Module, Question, Way};
 use nom_answer_lines::literal::{Literal, literal_of};
-use nom_answer_lines::replay::{Verdict, replay_all};
+use nom_answer_lines::replay::Verdict;
 use nom_precedence::{Assoc, Operation, precedence};
 use std::alloc::Global;
-use std::process::ExitCode;
 
 /// An operator with its level.
 fn leveled(operator: char) -> (usize, char)
@@ -107,27 +97,13 @@ fn found(alloc: Global, way: Way, input: &str) -> Option<Answer> {
     ))
 }
 
-/// What a line comes to; none where it can't be read, or memory runs out.
-fn compared(alloc: Global, line: &str) -> Option<Verdict> {
-    let (input, asked) = line.split_once(" | ")?;
-    let (way, answer) = asked.split_once(" | ")?;
-    let way = if way == "streaming" {
-        Way::Streaming
-    } else {
-        Way::Complete
-    };
+/// What a line of an input in a mode comes to; none where it can't be read, or memory runs out.
+pub fn compared(alloc: Global, way: Way, input: &str, answer: &str) -> Option<Verdict> {
     match literal_of(alloc, input)? {
         Literal::Text(text) => {
             let wanted = read_answer(alloc, answer, text.as_bytes())?;
             Some(Verdict::of(found(alloc, way, text.as_str())?, &wanted))
         }
         Literal::Bytes(_) => None,
-    }
-}
-
-fn main(rt: HostRuntime) -> ExitCode {
-    match replay_all(&rt, compared) {
-        Ok(status) => ExitCode::from(status),
-        Err(_) => ExitCode::from(1),
     }
 }
