@@ -71,15 +71,15 @@ pub record IsTwo (i : Text) (n : ℕ) (items : List ℕ) : Type 0 where
   pub whole : chars i.now ≡ first ∷ (second ∷ rest)
   pub length_is : n ≡ 2
 
-enough_two : (count behind : ℕ) → count ≤ 2 → IsEnough 2 (Some 2) count behind → count ≡ 2
-enough_two count behind h (inl k) = omega (arith, h, k)
-enough_two count behind h (inr k) = k.0
+enough_two : (count after : ℕ) → count ≤ 2 → IsEnough 2 (Some 2) count after → count ≡ 2
+enough_two count after h (inl k) = omega (arith, h, k)
+enough_two count after h (inr k) = k.0
 
 none_at : (d : Bool) (x y : ℕ) → d ≡ false → cond d (Accept x y) Refuse ≡ Refuse
 none_at d x y h = ap (λ b. cond b (Accept x y) Refuse) h
 
-few : (count behind : ℕ) → (IsEnough 2 (Some 2) count behind → ⊥) → count < 2
-few count behind h = elim (cases_lt count 2) [ inl k ↦ k | inr k ↦ absurd (h (inl k)) ]
+few : (count after : ℕ) → (IsEnough 2 (Some 2) count after → ⊥) → count < 2
+few count after h = elim (cases_lt count 2) [ inl k ↦ k | inr k ↦ absurd (h (inl k)) ]
 
 -- The run of two at most, in the complete mode.
 module _ (Test : ℕ → Bool → Type 0) (tests : (c : ℕ) (b : Bool) → Test c b → b ≡ is_digit c 16) where

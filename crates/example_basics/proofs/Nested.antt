@@ -44,10 +44,10 @@ same_code : (x c : ℕ) → true ≡ (x == c) → x ≡ c
 same_code x c h = grind (arith, nat_tests)
 
 -- the items after the first one
-behind_one : (xs front ys : List ℕ) (x : ℕ) (rest : List ℕ) → xs ≡ front ++ ys → items_len (λ _. 1) front ≡ 1 → xs ≡ x ∷ rest → xs ≡ x ∷ ys
-behind_one xs [] ys x rest e h f = absurd (omega (arith, h))
-behind_one xs (y ∷ []) ys x rest e h f = let same : y ∷ ys ≡ x ∷ rest = sym e ∙ f in let head : y ≡ x = cc (same) in e ∙ ap (λ z. z ∷ ys) head
-behind_one xs (y ∷ (z ∷ zs)) ys x rest e h f = absurd (omega (arith, h))
+after_one : (xs front ys : List ℕ) (x : ℕ) (rest : List ℕ) → xs ≡ front ++ ys → items_len (λ _. 1) front ≡ 1 → xs ≡ x ∷ rest → xs ≡ x ∷ ys
+after_one xs [] ys x rest e h f = absurd (omega (arith, h))
+after_one xs (y ∷ []) ys x rest e h f = let same : y ∷ ys ≡ x ∷ rest = sym e ∙ f in let head : y ≡ x = cc (same) in e ∙ ap (λ z. z ∷ ys) head
+after_one xs (y ∷ (z ∷ zs)) ys x rest e h f = absurd (omega (arith, h))
 
 -- a character that was read
 pub record IsTaken (c : ℕ) (i j : Bytes) : Type 0 where
@@ -58,7 +58,7 @@ taken_by : (c n x : ℕ) (i j : Bytes) → IsFirstItem bytes_model i x → true 
 taken_by c n x i j h t e p =
     let one = subst (λ m. IsSuffixOf bytes_model i m j) e p in
     record {
-      whole = behind_one i.now one.front j.now x h.rest one.whole one.length_is h.whole ∙ ap (λ z. z ∷ j.now) (same_code x c t);
+      whole = after_one i.now one.front j.now x h.rest one.whole one.length_is h.whole ∙ ap (λ z. z ∷ j.now) (same_code x c t);
       rest = one;
     }
 
@@ -151,29 +151,29 @@ run_past byte zero zs h = omega arith
 run_past byte (suc k) [] h = absurd (omega (arith, h))
 run_past byte (suc k) (z ∷ zs) h = past_head (z == byte) k (run_of byte zs) (run_of byte (drop k zs)) h (run_past byte k zs)
 
--- how many close, where so many did and the others are after
+-- how many close, where that many did and the others are after
 closed_past : (ys front bs : List ℕ) (d : ℕ) → d ≡ opened ys → d ≤ closed ys → ys ≡ front ++ bs → items_len (λ _. 1) front ≡ d + d →
     closed ys ≡ d + run_of 41 bs
 closed_past ys front bs d e h f l =
-    let behind : drop d (drop d ys) ≡ bs =
+    let after : drop d (drop d ys) ≡ bs =
     drop-drop d d ys ∙ (ap (λ n. drop n ys) (sym l ∙ items_len-ones front) ∙ (ap (drop (length front)) f ∙ drop-append_seam front bs)) in
-    run_past 41 d (drop (opened ys) ys) h ∙ ap (λ zs. d + run_of 41 zs) (ap (λ n. drop d (drop n ys)) (sym e) ∙ behind)
+    run_past 41 d (drop (opened ys) ys) h ∙ ap (λ zs. d + run_of 41 zs) (ap (λ n. drop d (drop n ys)) (sym e) ∙ after)
 
 -- nothing opens
 pub nested_none : {i : Bytes} {e : Answer.Err (Error Bytes) (Error Bytes) Needed} → bytes_model.IsKnown i → IsMissed 40 i e → NestedAnswer i (Ok (i, 0))
 nested_none {i} h m = Parsed (Accept 0 0) (sym m.none, omega arith, refl) (i, 0, rest_self bytes_model bytes_lawful i h, refl, refl)
 
 -- as many close as opened
-pub nested_taken : {i inside behind rest : Bytes} {d : ℕ} → IsTaken 40 i inside → IsInner inside behind d → IsTaken 41 behind rest →
+pub nested_taken : {i inside after rest : Bytes} {d : ℕ} → IsTaken 40 i inside → IsInner inside after d → IsTaken 41 after rest →
     NestedAnswer i (Ok (rest, d + 1))
-nested_taken {i} {inside} {behind} {rest} {d} o n c =
-    let past = closed_past inside.now n.rest.front behind.now d n.deep n.closes n.rest.whole n.rest.length_is in
-    let one : run_of 41 behind.now ≡ 1 + run_of 41 rest.now = ap (run_of 41) c.whole in
+nested_taken {i} {inside} {after} {rest} {d} o n c =
+    let past = closed_past inside.now n.rest.front after.now d n.deep n.closes n.rest.whole n.rest.length_is in
+    let one : run_of 41 after.now ≡ 1 + run_of 41 rest.now = ap (run_of 41) c.whole in
     let deep : d + 1 ≡ opened i.now = omega (arith, n.deep, opened_more i.now inside.now o.whole) in
     let closes : d + 1 ≤ closed i.now = omega (arith, past, one, closed_more i.now inside.now o.whole) in
-    let behind_all = rest_rest bytes_model bytes_lawful i 1 inside (d + d + 1) rest o.rest
-    (rest_rest bytes_model bytes_lawful inside (d + d) behind 1 rest n.rest c.rest) in
-    Parsed (Accept (1 + (d + d + 1)) (d + 1)) (deep, closes, omega arith) (rest, d + 1, behind_all, refl, refl)
+    let after_all = rest_rest bytes_model bytes_lawful i 1 inside (d + d + 1) rest o.rest
+    (rest_rest bytes_model bytes_lawful inside (d + d) after 1 rest n.rest c.rest) in
+    Parsed (Accept (1 + (d + d + 1)) (d + 1)) (deep, closes, omega arith) (rest, d + 1, after_all, refl, refl)
 
 -- an error at a rest, of what opened and closed before it
 refused_at : {i : Bytes} {e : Answer.Err (Error Bytes) (Error Bytes) Needed} {r : Result_of ℕ} (x : Error Bytes) → IsOpen i → MissesBracket i x →
@@ -194,12 +194,12 @@ nested_inner {i} {inside} o n q =
     ) n.error q
 
 -- the last one is missing
-pub nested_missed : {i inside behind : Bytes} {d : ℕ} {e : Answer.Err (Error Bytes) (Error Bytes) Needed} {r : Result_of ℕ} → IsTaken 40 i inside →
-    IsInner inside behind d → IsMissed 41 behind e → IsErr r × IsErrAnd r (λ y. y ≡ e) → NestedAnswer i r
-nested_missed {i} {inside} {behind} {d} o n m q =
+pub nested_missed : {i inside after : Bytes} {d : ℕ} {e : Answer.Err (Error Bytes) (Error Bytes) Needed} {r : Result_of ℕ} → IsTaken 40 i inside →
+    IsInner inside after d → IsMissed 41 after e → IsErr r × IsErrAnd r (λ y. y ≡ e) → NestedAnswer i r
+nested_missed {i} {inside} {after} {d} o n m q =
     let more = opened_more i.now inside.now o.whole in
     let same = closed_more i.now inside.now o.whole in
-    let past = closed_past inside.now n.rest.front behind.now d n.deep n.closes n.rest.whole n.rest.length_is in
+    let past = closed_past inside.now n.rest.front after.now d n.deep n.closes n.rest.whole n.rest.length_is in
     let count : 1 + (d + d) ≡ opened i.now + closed i.now = omega (arith, more, same, past, n.deep, m.none) in
-    refused_at (record { input = behind; code = Char }) (omega (arith, more, same, past, n.deep, m.none))
-    (subst (λ k. IsSuffixOf bytes_model i k behind) count (rest_rest bytes_model bytes_lawful i 1 inside (d + d) behind o.rest n.rest), refl) m.error q
+    refused_at (record { input = after; code = Char }) (omega (arith, more, same, past, n.deep, m.none))
+    (subst (λ k. IsSuffixOf bytes_model i k after) count (rest_rest bytes_model bytes_lawful i 1 inside (d + d) after o.rest n.rest), refl) m.error q

@@ -72,8 +72,8 @@ one_byte c h = ap (λ b. cond b 1 (cond (nat_lt c 0x800) 2 (cond (nat_lt c 0x1_0
 pub pair_span : (a b : ℕ) → are_digits a b ≡ true → items_len len_utf8 (a ∷ (b ∷ [])) ≡ 2
 pair_span a b h = let d = and_parts (is_digit a 16) (is_digit b 16) h in omega (arith, one_byte a d.0, one_byte b d.1)
 
-pub behind_pair : {i j : Text} {v : ℕ} (p : IsPair (chars i.now) v) → IsSuffixOf text_model i 2 j → chars j.now ≡ p.rest
-behind_pair {i} {j} p q = (same_cut len_utf8 text_lawful.positive q.front (chars j.now) (p.first ∷ (p.second ∷ [])) p.rest (sym q.whole ∙ p.whole)
+pub after_pair : {i j : Text} {v : ℕ} (p : IsPair (chars i.now) v) → IsSuffixOf text_model i 2 j → chars j.now ≡ p.rest
+after_pair {i} {j} p q = (same_cut len_utf8 text_lawful.positive q.front (chars j.now) (p.first ∷ (p.second ∷ [])) p.rest (sym q.whole ∙ p.whole)
     (q.length_is ∙ sym (pair_span p.first p.second p.digits))).1
 
 -- of a rest, and of a rest further on, the second is one of the first

@@ -12,7 +12,7 @@ use Rattle.nom_func.specs.Func.{FuncAnswers, FuncBlames, IsViewed}
 use Rattle.nom_internal.specs.Tuples.{PairOutput}
 use Rattle.example_basics.specs.Colors.{Text, on_pair, parts_of, place_missing, AnswersPair}
 use Rattle.example_basics.proofs.Pairs.{IsPair, IsMissed, IsPlain, Both, both, sequence_plain, pair_accepted, on_pair_at, on_pair_none, missing_at}
-use Rattle.example_basics.proofs.Pairs.{missing_none, behind_pair, text_between, pair_place, pair_answered, pair_missed, pair_plain}
+use Rattle.example_basics.proofs.Pairs.{missing_none, after_pair, text_between, pair_place, pair_answered, pair_missed, pair_plain}
 
 abbrev Pair : Text → Outcome ℕ → Type 0
 Pair = FuncAnswers text_model itself AnswersPair
@@ -46,21 +46,21 @@ TripleAnswer i r = ParsesAnswer text_model (λ t o. PairOutput (PairOutput (IsVi
 -- a pair that was read
 record IsRead (i j : Text) (v : ℕ) : Type 0 where
   pair : IsPair (chars i.now) v
-  behind : chars j.now ≡ pair.rest
+  after : chars j.now ≡ pair.rest
   rest : IsSuffixOf text_model i 2 j
 
 read_by : (i j : Text) (n v : ℕ) → Pair i (Accept n v) → IsSuffixOf text_model i n j → IsRead i j v
 read_by i j n v a r =
     let p = pair_accepted (chars i.now) n v (pair_answered i (Accept n v) a) in
     let two = subst (λ k. IsSuffixOf text_model i k j) p.1 r in
-    record { pair = p.0; behind = behind_pair p.0 two; rest = two }
+    record { pair = p.0; after = after_pair p.0 two; rest = two }
 
 -- characters with a pair, and what comes of what is after it
 after_read : {V : Type 0} {i j : Text} {v : ℕ} (r : IsRead i j v) (next : ℕ → List ℕ → Outcome V) → on_pair (chars i.now) next ≡ next v (chars j.now)
-after_read {v = v} r next = on_pair_at r.pair next ∙ ap (next v) (sym r.behind)
+after_read {v = v} r next = on_pair_at r.pair next ∙ ap (next v) (sym r.after)
 
 missing_after : {i j : Text} {v : ℕ} → IsRead i j v → (n : ℕ) → place_missing n (chars i.now) ≡ place_missing (n + 2) (chars j.now)
-missing_after r n = missing_at r.pair n ∙ ap (place_missing (n + 2)) (sym r.behind)
+missing_after r n = missing_at r.pair n ∙ ap (place_missing (n + 2)) (sym r.after)
 
 -- all three, with the colour that they are the parts of
 pub record IsTriple (i j : Text) (t : ℕ × ℕ × ℕ) : Type 0 where

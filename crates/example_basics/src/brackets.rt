@@ -20,9 +20,9 @@ pub fn nested_brackets(input: &[u8]) -> IResult<&[u8], usize>
     match open.parse_complete(input) {
         Ok(accepted) => {
             let (inside, _) = accepted;
-            let (behind, depth) = nested_brackets(inside)?;
+            let (after, depth) = nested_brackets(inside)?;
             let mut close = char::<&[u8], Error<&[u8]>>(')');
-            let (rest, _) = close.parse_complete(behind)?;
+            let (rest, _) = close.parse_complete(after)?;
             Ok((rest, depth + 1))
         }
         Err(_) => Ok((input, 0)),

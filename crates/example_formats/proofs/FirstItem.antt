@@ -22,9 +22,9 @@ same_code : (x c : ℕ) → true ≡ (x == c) → x ≡ c
 same_code x c h = grind (arith, nat_tests)
 
 -- after a front as long as the first character stands what follows it
-pub behind_head : (c x n : ℕ) (cs : List ℕ) (i j : Text) → chars i.now ≡ x ∷ cs → true ≡ (x == c) → n ≡ len_utf8 x → IsSuffixOf text_model i n j →
+pub after_head : (c x n : ℕ) (cs : List ℕ) (i j : Text) → chars i.now ≡ x ∷ cs → true ≡ (x == c) → n ≡ len_utf8 x → IsSuffixOf text_model i n j →
     chars i.now ≡ c ∷ chars j.now
-behind_head c x n cs i j e t l r =
+after_head c x n cs i j e t l r =
     let cut = same_cut len_utf8 text_lawful.positive (x ∷ []) cs r.front (chars j.now) (sym e ∙ r.whole) (omega (arith, l, r.length_is)) in
     e ∙ (ap (λ ys. x ∷ ys) cut.1 ∙ ap (λ y. y ∷ chars j.now) (same_code x c t))
 
@@ -33,7 +33,7 @@ char_read : {E : Type 0} (IsError : E → Type 0) (RunsOut : Type 0) (c : ℕ) (
 char_read IsError RunsOut c i j x (ParseRanOut e h) = cc (e)
 char_read IsError RunsOut c i j x (Parsed (Accept n t) a p) =
     let same : ◌≡◌ {A = Text × ℕ} (j, x) (p.0, p.1) = cc (p.4) in
-    behind_head c a.0 n a.1.rest i j a.1.whole a.2 a.3 (subst (λ k. IsSuffixOf text_model i n k) (sym (ap (λ q. q.0) same)) p.2)
+    after_head c a.0 n a.1.rest i j a.1.whole a.2 a.3 (subst (λ k. IsSuffixOf text_model i n k) (sym (ap (λ q. q.0) same)) p.2)
 char_read IsError RunsOut c i j x (Parsed Refuse a p) = cc (p.2)
 char_read IsError RunsOut c i j x (Parsed (Stop (Fails cause)) a p) = absurd a
 char_read IsError RunsOut c i j x (Parsed (Stop (Needs k)) a p) = cc (p.2)

@@ -23,9 +23,9 @@ module _ {P V Q B F G H O : Type 0} (IsPrefix : P → F → Type 0) (IsOperand :
   term_by t y h = record {
     operand = h.operand;
     is_operand = h.is_operand;
-    behind = h.behind;
-    postfixes_give = postfixes_by h.operand t.postfixes h.behind h.postfixes_give;
-    prefixes_give = prefixes_by t.prefixes h.behind y h.prefixes_give;
+    rest = h.rest;
+    postfixes_give = postfixes_by h.operand t.postfixes h.rest h.postfixes_give;
+    prefixes_give = prefixes_by t.prefixes h.rest y h.prefixes_give;
   }
 
   tree_by : (t : Tree (Term P V Q) (ℕ × B)) (y : O) → TreeGives (folding IsPrefix IsOperand IsPostfix IsBinary First) t y →

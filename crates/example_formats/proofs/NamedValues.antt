@@ -9,7 +9,7 @@ use Rattle.nom_internal.specs.Prelude.{Fails, Needs}
 use Rattle.nom_bytes.specs.ParsedRuns.{runs}
 use Rattle.nom_character_first.specs.FirstItem.{heads}
 use Rattle.example_formats.specs.Named.{IsNamed, in_name, in_value}
-use Rattle.example_formats.proofs.FirstItem.{run_read, behind_head}
+use Rattle.example_formats.proofs.FirstItem.{run_read, after_head}
 use Rattle.example_formats.proofs.Sequences.{AreBoth, both}
 
 abbrev Text : Type 0
@@ -49,29 +49,29 @@ module _ (Names Values : ℕ → Bool → Type 0) (sign : ℕ) (is_sign : sign �
   abbrev ValueAnswers : Text → Outcome (Slice text_model) → Type 0
   ValueAnswers = LeafAnswers (runs text_model Values None 1) false
 
-  abbrev BehindName : Text → Outcome (Slice text_model) → Type 0
-  BehindName = Then text_model (λ u v. v) SignAnswers (λ _. ValueAnswers)
+  abbrev AfterName : Text → Outcome (Slice text_model) → Type 0
+  AfterName = Then text_model (λ u v. v) SignAnswers (λ _. ValueAnswers)
 
   abbrev LineAnswers : Text → Outcome (Slice text_model × Slice text_model) → Type 0
-  LineAnswers = Then text_model (λ u v. (u, v)) NameAnswers (λ _. BehindName)
+  LineAnswers = Then text_model (λ u v. (u, v)) NameAnswers (λ _. AfterName)
 
   named_by : (i j d v : Text) (n : ℕ) (t : Slice text_model × Slice text_model) →
-      (line : AreBoth text_model (λ u v. (u, v)) NameAnswers (λ _. BehindName) i n t) →
+      (line : AreBoth text_model (λ u v. (u, v)) NameAnswers (λ _. AfterName) i n t) →
       AreBoth text_model (λ u v. v) SignAnswers (λ _. ValueAnswers) line.between line.second_length line.second → IsSuffixOf text_model i n j →
       IsModelledBy text_model t.0 d → IsModelledBy text_model t.1 v → IsNamed (chars i.now) (chars d.now) (chars v.now) (chars j.now)
-  named_by i j d v n t line behind r sd sv =
-      let name = run_read Names i d line.between line.first_length line.first line.first_accepts line.behind
+  named_by i j d v n t line after r sd sv =
+      let name = run_read Names i d line.between line.first_length line.first line.first_accepts line.rest_is
       (subst (λ s. IsModelledBy text_model s d) (ap (λ x. x.0) line.tree_is) sd) in
-      let at = behind.first_accepts in
-      let equals = behind_head sign at.0 behind.first_length at.1.rest line.between behind.between at.1.whole at.2 at.3 behind.behind in
-      let place = first_place text_model behind.between behind.second_length behind.second behind.second_accepts.0.first in
-      let before = rest_rest text_model text_lawful i line.first_length line.between behind.first_length behind.between line.behind behind.behind in
-      let rest = rest_between i behind.between j n (line.first_length + behind.first_length) behind.second_length before r
-      (omega (arith, line.length_is, behind.length_is)) place in
-      let value = run_read Values behind.between v j behind.second_length behind.second behind.second_accepts rest
-      (subst (λ s. IsModelledBy text_model s v) (ap (λ x. x.1) line.tree_is ∙ behind.tree_is) sv) in
+      let at = after.first_accepts in
+      let equals = after_head sign at.0 after.first_length at.1.rest line.between after.between at.1.whole at.2 at.3 after.rest_is in
+      let place = first_place text_model after.between after.second_length after.second after.second_accepts.0.first in
+      let before = rest_rest text_model text_lawful i line.first_length line.between after.first_length after.between line.rest_is after.rest_is in
+      let rest = rest_between i after.between j n (line.first_length + after.first_length) after.second_length before r
+      (omega (arith, line.length_is, after.length_is)) place in
+      let value = run_read Values after.between v j after.second_length after.second after.second_accepts rest
+      (subst (λ s. IsModelledBy text_model s v) (ap (λ x. x.1) line.tree_is ∙ after.tree_is) sv) in
       record {
-        whole = name.whole ∙ ap (λ xs. chars d.now ++ xs) (equals ∙ (ap (λ c. c ∷ chars behind.between.now) is_sign ∙ ap (λ xs. 61 ∷ xs) value.whole));
+        whole = name.whole ∙ ap (λ xs. chars d.now ++ xs) (equals ∙ (ap (λ c. c ∷ chars after.between.now) is_sign ∙ ap (λ xs. 61 ∷ xs) value.whole));
         some_name = name.some;
         is_name = all_as (chars d.now) (λ c h. sym (names c true h)) name.meets;
         some_value = value.some;
@@ -86,9 +86,9 @@ module _ (Names Values : ℕ → Bool → Type 0) (sign : ℕ) (is_sign : sign �
       ParsesAnswer text_model (λ t o. IsModelledBy text_model t.0 o.0 × IsModelledBy text_model t.1 o.1) i (LineAnswers i) IsError RunsOut r → IfOk r (IsLine i)
   named_answer i r (ParseRanOut e h) = subst (λ x. IfOk x (IsLine i)) (sym e) tt
   named_answer i r (Parsed (Accept n t) a p) =
-      let line = both text_model (λ u v. (u, v)) NameAnswers (λ _. BehindName) i n t a in
-      let behind = both text_model (λ u v. v) SignAnswers (λ _. ValueAnswers) line.between line.second_length line.second line.second_accepts in
-      subst (λ x. IfOk x (IsLine i)) (sym p.4) (named_by i p.0 (p.1).0 (p.1).1 n t line behind p.2 (p.3).0 (p.3).1)
+      let line = both text_model (λ u v. (u, v)) NameAnswers (λ _. AfterName) i n t a in
+      let after = both text_model (λ u v. v) SignAnswers (λ _. ValueAnswers) line.between line.second_length line.second line.second_accepts in
+      subst (λ x. IfOk x (IsLine i)) (sym p.4) (named_by i p.0 (p.1).0 (p.1).1 n t line after p.2 (p.3).0 (p.3).1)
   named_answer i r (Parsed Refuse a p) = subst (λ x. IfOk x (IsLine i)) (sym p.2) tt
   named_answer i r (Parsed (Stop (Fails cause)) a p) = subst (λ x. IfOk x (IsLine i)) (sym p.2) tt
   named_answer i r (Parsed (Stop (Needs k)) a p) = subst (λ x. IfOk x (IsLine i)) (sym p.2) tt

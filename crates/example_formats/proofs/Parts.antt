@@ -73,8 +73,8 @@ one_level = λ t k l p q. sym p.level_is ∙ (ap (λ (z : sign_view.Value). z.0)
 module _ (Gives : Text → Told Worth → Type 0) where
   operand_lawful : IsParser text_model view Gives Any → IsLawful text_model (operand_by 40 41 (func_of view Any Gives)).meaning
   operand_lawful p =
-      let behind = terminated_lawful text_lawful (cut_lawful (func_lawful text_model view Gives Any p)) (cut_lawful (char_lawful 41)) in
-      let brackets = preceded_lawful text_lawful (char_lawful 40) behind in
+      let after = terminated_lawful text_lawful (cut_lawful (func_lawful text_model view Gives Any p)) (cut_lawful (char_lawful 41)) in
+      let brackets = preceded_lawful text_lawful (char_lawful 40) after in
       choice_lawful faults (next_lawful faults brackets (func_lawful text_model view (Given IsNumber digits_of) Any (number_part Any (λ i. tt))))
 
   sum_lawful : IsParser text_model view Gives Any → IsLawful text_model (sum_in Any Gives).meaning

@@ -12,7 +12,7 @@ module _ {I A P Q T : Type 0} (w : Model I A) (tree : P → Q → T) (First : I 
     pub second : Q
     pub between : I
     pub first_accepts : First i (Accept first_length first)
-    pub behind : IsSuffixOf w i first_length between
+    pub rest_is : IsSuffixOf w i first_length between
     pub second_accepts : Next first between (Accept second_length second)
     pub length_is : n ≡ first_length + second_length
     pub tree_is : t ≡ tree first second
@@ -25,7 +25,7 @@ module _ {I A P Q T : Type 0} (w : Model I A) (tree : P → Q → T) (First : I 
     second = v;
     between = j;
     first_accepts = a;
-    behind = r;
+    rest_is = r;
     second_accepts = b;
     length_is = cc (e);
     tree_is = cc (e);

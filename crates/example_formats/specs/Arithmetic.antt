@@ -209,7 +209,7 @@ sum_by groups opens closes inside = record {
 abbrev pub sum_in : (Text → Type 0) → (Text → Told Worth → Type 0) → Grammar Sum Worth
 sum_in Takes Gives = sum_by levels 40 41 (func_of view Takes Gives)
 
--- What stands in a bracket, in which so many more may lie in each other: where there are none, a failure.
+-- What stands in a bracket, in which that many more may be nested: where none may, a failure.
 abbrev pub Inside : ℕ → Text → Told Worth → Type 0
 Inside zero i r = r ≡ Err (Answered.Failure (Fault.TooDeep i))
 Inside (suc d) i r = Parses (sum_in Any (Inside d)) i r

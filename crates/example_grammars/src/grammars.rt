@@ -1,6 +1,6 @@
 //! Functions whose contracts are their grammars, in the words of `Rattle.nom.specs.Bytes`.
 ghost use Rattle.std.specs.Prelude.{codes, true, false};
-ghost use Rattle.nom_traits.specs.View.{behind_view};
+ghost use Rattle.nom.specs.Prelude.{behind_view};
 ghost use Rattle.nom.specs.Bytes.{AnswersAsPart, Parses, alt_of, char_of, delimited_of, digit1_of, is_a_of, is_not_of, many0_of, opt_of, or_of};
 ghost use Rattle.nom.specs.Bytes.{preceded_of, tag_of, take_of, terminated_of};
 

@@ -37,8 +37,8 @@ module _ {V O U P : Type 0} (a : TextGrammar V O) (b : TextGrammar U P) {i : Tex
       Parses (preceded_of a b) false i r
   before_stops f is q h = first_stops (λ z. absurd (f _ _ z)) is q h
 
-  pub behind : {j : Text} {x : O} → TakenBy a i j x → Parses b false j r → Parses (preceded_of a b) false i r
-  behind t h = follows t (λ v z o. o) h
+  pub after : {j : Text} {x : O} → TakenBy a i j x → Parses b false j r → Parses (preceded_of a b) false i r
+  after t h = follows t (λ v z o. o) h
 
 -- two parts with a third between them
 module _ {V O U P W Q : Type 0} (a : TextGrammar V O) (d : TextGrammar W Q) (b : TextGrammar U P)
@@ -47,15 +47,15 @@ module _ {V O U P W Q : Type 0} (a : TextGrammar V O) (d : TextGrammar W Q) (b :
   name_stops is q h = first_stops (λ z. z) is q h
 
   module _ {j : Text} {x : O} (t : TakenBy a i j x) where
-    behind_name : (s : Told P) → s ≡ Err e → r ≡ Err e → Parses (preceded_of d b) false j s → Parses (separated_pair_of a d b) false i r
-    behind_name s is q h = next_stops t (λ z. z) is q h
+    after_name : (s : Told P) → s ≡ Err e → r ≡ Err e → Parses (preceded_of d b) false j s → Parses (separated_pair_of a d b) false i r
+    after_name s is q h = next_stops t (λ z. z) is q h
 
     pub sign_stops : IsFrugal d → {s : Told Q} → s ≡ Err e → r ≡ Err e → Parses d false j s → Parses (separated_pair_of a d b) false i r
-    sign_stops f is q h = behind_name (Err e) refl q (before_stops d b f is refl h)
+    sign_stops f is q h = after_name (Err e) refl q (before_stops d b f is refl h)
 
     pub value_stops : {k : Text} {y : Q} → TakenBy d j k y → {s : Told P} → s ≡ Err e → r ≡ Err e → Parses b false k s →
         Parses (separated_pair_of a d b) false i r
-    value_stops u {s} is q h = behind_name s is q (behind d b u h)
+    value_stops u {s} is q h = after_name s is q (after d b u h)
 
 pub paired : {V O U P W Q : Type 0} (a : TextGrammar V O) (d : TextGrammar W Q) (b : TextGrammar U P) {i j k l : Text} {x : O} {y : Q} {z : P} →
     TakenBy a i j x → TakenBy d j k y → TakenBy b k l z → TakenBy (separated_pair_of a d b) i l (x, z)

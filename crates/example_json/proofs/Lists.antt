@@ -14,7 +14,7 @@ use Rattle.nom_repeat.specs.Repeat.Turn.{Ends}
 use Rattle.nom_repeat.proofs.Repeated.{Collected, collected_more, pieces_end}
 use Rattle.nom_repeat.proofs.Accumulating.{zip_push}
 use Rattle.nom.specs.Texts.{Text, TextGrammar, Parses}
-use Rattle.example_json.specs.Json.{IsTaken, behind_comma, item_at, list_of, list_turn, refuses}
+use Rattle.example_json.specs.Json.{IsTaken, after_comma, item_at, list_of, list_turn, refuses}
 use Rattle.example_json.proofs.Told.{Told, taken, refused}
 
 -- the turns of a list
@@ -23,12 +23,12 @@ Turns first further = TurnsBy None list_turn (λ k. (item_at first further k).an
 
 -- items that were taken up to a place, and their outputs
 abbrev pub Listed : {V O : Type 0} → TextGrammar V O → (start place : Text) → List O → Type 0
-Listed g start place outputs = Collected text_model (Turns g.meaning (behind_comma g).meaning) (λ vs. AllZip g.IsOutput vs outputs × (0 < length vs)) start
+Listed g start place outputs = Collected text_model (Turns g.meaning (after_comma g).meaning) (λ vs. AllZip g.IsOutput vs outputs × (0 < length vs)) start
     place
 
 -- the part for that many items before it
 abbrev PartAt : {V O : Type 0} → TextGrammar V O → ℕ → Meaning Text V (Error Text)
-PartAt g n = item_at g.meaning (behind_comma g).meaning n
+PartAt g n = item_at g.meaning (after_comma g).meaning n
 
 -- after the first item are the further ones
 further_at : {V : Type 0} (first further : Meaning Text V (Error Text)) (k : ℕ) → 0 < k → further ≡ item_at first further k
@@ -37,31 +37,31 @@ further_at first further (suc k) h = refl
 
 -- A place is reached, and what the part for it replies ends the list.
 module _ {V O : Type 0} (g : TextGrammar V O) {Held : List V → Type 0} {i j : Text}
-    (c : Collected text_model (Turns g.meaning (behind_comma g).meaning) Held i j) where
-  reaches : (Fact : ℕ → Text → Type 0) → Fact (length c.trees) j → Reaches text_model (Turns g.meaning (behind_comma g).meaning) Fact i
+    (c : Collected text_model (Turns g.meaning (after_comma g).meaning) Held i j) where
+  reaches : (Fact : ℕ → Text → Type 0) → Fact (length c.trees) j → Reaches text_model (Turns g.meaning (after_comma g).meaning) Fact i
   reaches Fact h = record {
     trees = c.trees;
     taken = c.taken;
     pieces =
-        pieces_end text_model (Turns g.meaning (behind_comma g).meaning) Fact j (length c.trees) h 0 i c.trees c.taken (omega arith) c.pieces;
+        pieces_end text_model (Turns g.meaning (after_comma g).meaning) Fact j (length c.trees) h 0 i c.trees c.taken (omega arith) c.pieces;
   }
 
   ends : (a : Outcome V) → (PartAt g (length c.trees)).answers false j a → (o : Outcome (Unit {0})) →
       Ends o ≡ list_turn (length c.trees) (Some a) →
-      Repeats text_model (Turns g.meaning (behind_comma g).meaning) (λ vs _. vs) i (after c.taken (λ _. c.trees) o)
+      Repeats text_model (Turns g.meaning (after_comma g).meaning) (λ vs _. vs) i (after c.taken (λ _. c.trees) o)
   ends a p o t = record {
     trees = c.trees;
     taken = c.taken;
     ending = o;
     pieces =
-        pieces_end text_model (Turns g.meaning (behind_comma g).meaning)
-        (λ k x. Turns g.meaning (behind_comma g).meaning k x (Ends o)) j (length c.trees)
+        pieces_end text_model (Turns g.meaning (after_comma g).meaning)
+        (λ k x. Turns g.meaning (after_comma g).meaning k x (Ends o)) j (length c.trees)
         (record { reply = Some a; replied = (tt, p); fact = t }) 0 i c.trees c.taken (omega arith) c.pieces;
     outcome_is = refl;
   }
 
   blames : (a : Outcome V) → (PartAt g (length c.trees)).answers false j a → (e : Error Text) → (PartAt g (length c.trees)).blames false j e →
-      Reaches text_model (Turns g.meaning (behind_comma g).meaning)
+      Reaches text_model (Turns g.meaning (after_comma g).meaning)
       (λ k x. OnReply None (λ k. (PartAt g k).answers false) (λ _. (PartAt g k).blames false x e) k x) i
   blames a p e h = reaches (λ k x. OnReply None (λ k. (PartAt g k).answers false) (λ _. (PartAt g k).blames false x e) k x)
       (record { reply = Some a; replied = (tt, p); fact = h })
@@ -93,7 +93,7 @@ module _ {V O : Type 0} (g : TextGrammar V O) {Held : List V → Type 0} {i j : 
 
 -- no item yet
 module _ {V O : Type 0} (g : TextGrammar V O) {i : Text} (known : text_model.IsKnown i) where
-  abbrev none_yet : Collected text_model (Turns g.meaning (behind_comma g).meaning) (λ vs. vs ≡ []) i i
+  abbrev none_yet : Collected text_model (Turns g.meaning (after_comma g).meaning) (λ vs. vs ≡ []) i i
   none_yet = record { trees = []; taken = 0; pieces = (refl, refl); rest_is = rest_self text_model text_lawful i known; held = refl }
 
   module _ {M : Type 0} {r : Told (Vec O M)} {s : Told O} where
@@ -111,35 +111,35 @@ module _ {V O : Type 0} (g : TextGrammar V O) {i : Text} (known : text_model.IsK
   pub first_kept : {j : Text} {x : O} {s : Told O} → s ≡ Ok (j, x) → Parses g false i s → {outputs : List O} → outputs ≡ x ∷ [] → Listed g i j outputs
   first_kept {j} {x} is h e =
       let t = taken is h in
-      collected_more text_lawful (Turns g.meaning (behind_comma g).meaning) t.tree none_yet
+      collected_more text_lawful (Turns g.meaning (after_comma g).meaning) t.tree none_yet
       (record { reply = Some (Accept t.length t.tree); replied = (tt, t.answered); fact = refl }) t.rest_is
       (subst (λ xs. AllZip g.IsOutput (t.tree ∷ []) xs) (sym e) (t.output_is, tt), omega arith)
 
 -- some items
 module _ {V O : Type 0} (g : TextGrammar V O) {i j : Text} {outputs : List O} (c : Listed g i j outputs) where
-  here : (behind_comma g).meaning ≡ PartAt g (length c.trees)
-  here = further_at g.meaning (behind_comma g).meaning (length c.trees) c.held.1
+  here : (after_comma g).meaning ≡ PartAt g (length c.trees)
+  here = further_at g.meaning (after_comma g).meaning (length c.trees) c.held.1
 
   module _ {M : Type 0} {r : Told (Vec O M)} {s : Told O} where
     -- a further item is refused
-    pub further_refused : true ≡ refuses s → Parses (behind_comma g) false j s → {list : Vec O M} → list.items ≡ outputs → r ≡ Ok (j, list) →
+    pub further_refused : true ≡ refuses s → Parses (after_comma g) false j s → {list : Vec O M} → list.items ≡ outputs → r ≡ Ok (j, list) →
         Parses (list_of g) false i r
     further_refused is h e q = list_ends g c (subst (λ xs. AllZip g.IsOutput c.trees xs) (sym e) c.held.0)
-        (subst (λ m. m.answers false j Refuse) here (refused (behind_comma g) h is).answered) q
+        (subst (λ m. m.answers false j Refuse) here (refused (after_comma g) h is).answered) q
 
     pub further_stopped : {e : Answer.Err (Error Text) (Error Text) Needed} → s ≡ Err e → r ≡ Err e → false ≡ refuses s →
-        Parses (behind_comma g) false j s → Parses (list_of g) false i r
+        Parses (after_comma g) false j s → Parses (list_of g) false i r
     further_stopped is q stays h = list_stops g c {IsItem = g.IsOutput} is q stays (subst (λ m. ParsesMeaning text_model g.IsOutput m false j s) here h)
 
-    pub further_lacks : {k : Text} {x : O} → s ≡ Ok (k, x) → Parses (behind_comma g) false j s → r ≡ Err Answered.OutOfMemory → Parses (list_of g) false i r
+    pub further_lacks : {k : Text} {x : O} → s ≡ Ok (k, x) → Parses (after_comma g) false j s → r ≡ Err Answered.OutOfMemory → Parses (list_of g) false i r
     further_lacks is h q = let t = taken is h in list_lacks g c t.length t.tree (subst (λ m. m.answers false j (Accept t.length t.tree)) here t.answered) q
 
-  pub further_kept : {k : Text} {x : O} {s : Told O} → s ≡ Ok (k, x) → Parses (behind_comma g) false j s → {more : List O} → more ≡ outputs ++
+  pub further_kept : {k : Text} {x : O} {s : Told O} → s ≡ Ok (k, x) → Parses (after_comma g) false j s → {more : List O} → more ≡ outputs ++
       x ∷ [] → Listed g i k more
   further_kept {k} {x} is h e =
       let t = taken is h in
       let reply = subst (λ m. m.answers false j (Accept t.length t.tree)) here t.answered in
-      collected_more text_lawful (Turns g.meaning (behind_comma g).meaning) t.tree c
+      collected_more text_lawful (Turns g.meaning (after_comma g).meaning) t.tree c
       (record { reply = Some (Accept t.length t.tree); replied = (tt, reply); fact = refl }) t.rest_is (
         subst (λ xs. AllZip g.IsOutput (c.trees ++ t.tree ∷ []) xs) (sym e)
             (zip_push g.IsOutput c.trees outputs t.tree x c.held.0 t.output_is),

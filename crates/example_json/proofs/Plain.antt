@@ -181,9 +181,9 @@ none_left [] b e h = chars-nil
 none_left (c ∷ bytes) b e h = let never : false ≡ true = sym (ne_eqb (length (c ∷ bytes)) 0 (λ z. omega (arith, z))) ∙ (sym e ∙ h) in absurd (cc (never))
 
 -- all after a front meets what all meets
-all_behind : (P : ℕ → Type 0) (xs ys : List ℕ) → All P (xs ++ ys) → All P ys
-all_behind P [] ys h = h
-all_behind P (x ∷ xs) ys h = all_behind P xs ys (All-tail P x (xs ++ ys) h)
+all_after : (P : ℕ → Type 0) (xs ys : List ℕ) → All P (xs ++ ys) → All P ys
+all_after P [] ys h = h
+all_after P (x ∷ xs) ys h = all_after P xs ys (All-tail P x (xs ++ ys) h)
 
 some_left : (bytes : List ℕ) → IsUtf8 bytes → (length bytes == 0) ≡ false → chars bytes ≡ [] → ⊥
 some_left bytes k e h =
@@ -204,5 +204,5 @@ not_plain {i} {j} t b e f all =
     let q = t.rest_is in
     let c = same_cut text_model.item_len text_lawful.positive q.front (chars j.now) t.tree.items r.first.rest (sym q.whole ∙ r.first.whole)
     (q.length_is ∙ sym r.first.length_is) in
-    let behind = all_behind (λ x. in_text x ≡ true) q.front (chars j.now) (subst (All (λ x. in_text x ≡ true)) q.whole all) in
-    stopped_there (chars j.now) (some_left j.now q.known.0 (sym e ∙ f)) (subst (Stops (λ x. ⊥ ⊎ (false ≡ in_text x))) (sym c.1) r.stops) behind
+    let after = all_after (λ x. in_text x ≡ true) q.front (chars j.now) (subst (All (λ x. in_text x ≡ true)) q.whole all) in
+    stopped_there (chars j.now) (some_left j.now q.known.0 (sym e ∙ f)) (subst (Stops (λ x. ⊥ ⊎ (false ≡ in_text x))) (sym c.1) r.stops) after

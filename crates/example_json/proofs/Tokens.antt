@@ -18,14 +18,14 @@ pub token_frugal : (c : ℕ) (mode : Modes) (i : Text) → (token_of c).meaning.
 token_frugal c mode i (RunsOutFirst h) = absurd h.2
 token_frugal c mode i (RunsOutNext h) = absurd h.fact.2
 
-behind_more : (n m t u : ℕ) (p : Outcome Part) → 0 < n → Accept m t ≡ after n (λ _. u) p → 0 < m
-behind_more n m t u (Accept k v) h e = let same : m ≡ n + k = cc (e) in omega (arith, h, same)
-behind_more n m t u Refuse h e = cc (e)
-behind_more n m t u (Stop why) h e = cc (e)
+after_more : (n m t u : ℕ) (p : Outcome Part) → 0 < n → Accept m t ≡ after n (λ _. u) p → 0 < m
+after_more n m t u (Accept k v) h e = let same : m ≡ n + k = cc (e) in omega (arith, h, same)
+after_more n m t u Refuse h e = cc (e)
+after_more n m t u (Stop why) h e = cc (e)
 
 token_length : (c : ℕ) (i : Text) (n t : ℕ) (o : Outcome ℕ) → (char_of c).meaning.answers false i o →
     GoesOn text_model (λ u v. u) (λ _. spaces_of.meaning.answers false) i o (Accept n t) → 0 < n
-token_length c i n t (Accept k u) a g = behind_more k n t u g.1 (subst (λ m. 0 < m) (sym a.3) (text_lawful.positive a.0)) g.4
+token_length c i n t (Accept k u) a g = after_more k n t u g.1 (subst (λ m. 0 < m) (sym a.3) (text_lawful.positive a.0)) g.4
 token_length c i n t Refuse a g = cc (g)
 token_length c i n t (Stop why) a g = cc (g)
 

@@ -73,13 +73,13 @@ items_at first further = record {
   NeverFails = λ cause. first.NeverFails cause × further.NeverFails cause;
 }
 
-abbrev pub behind_comma : {V O : Type 0} → TextGrammar V O → TextGrammar V O
-behind_comma g = preceded_of (token_of 44) g
+abbrev pub after_comma : {V O : Type 0} → TextGrammar V O → TextGrammar V O
+after_comma g = preceded_of (token_of 44) g
 
 -- any number of items, with commas between them; where a comma or what stands after it is refused, the list ends before the comma
 abbrev pub list_of : {V O M : Type 0} → TextGrammar V O → TextGrammar (List V) (Vec O M)
 list_of g = record {
-  meaning = repeat_meaning text_model list_rule (λ vs _. vs) (items_at g.meaning (behind_comma g).meaning);
+  meaning = repeat_meaning text_model list_rule (λ vs _. vs) (items_at g.meaning (after_comma g).meaning);
   IsOutput = λ ts o. AllZip g.IsOutput ts o.items;
 }
 
@@ -96,7 +96,7 @@ abbrev pub Tree : ℕ → Type 0
 Tree zero = ScalarTree ⊎ Json
 Tree (suc d) = (ScalarTree ⊎ List (Tree d)) ⊎ List (Part × Tree d)
 
--- a value in which so many brackets may lie in each other
+-- a value in which that many brackets may be nested
 abbrev pub value_of : (d : ℕ) → TextGrammar (Tree d) Json
 value_of zero = or_of scalar_of deep_of
 value_of (suc d) = or_of (or_of scalar_of (array_of (value_of d))) (object_of (value_of d))

@@ -70,7 +70,7 @@ abbrev pub plain_by : ErrorKind → TextGrammar Part Text
 plain_by kind = sliced text_model (run1_meaning text_model (λ c b. b ≡ in_text c) (((c : ℕ) → Unit {0}) × IsFixed IsScalar (λ c b. b ≡ in_text c))
     plain_errors kind)
 
--- digits in base 16, so many at least and at most
+-- digits in base 16, that many at least and at most
 abbrev pub hexes_by : (least most : ℕ) → TextGrammar Part Text
 hexes_by least most =
     sliced text_model (bounded_meaning text_model (λ c b. b ≡ is_digit c 16) (((c : ℕ) → Unit {0}) × IsFixed IsScalar (λ c b. b ≡ is_digit c 16)) plain_errors

@@ -82,8 +82,8 @@ pub fn text<'a>(input: &'a str) -> Answer<'a, &'a str>
 {
     let mut quote = char::<&'a str, Error<&'a str>>('"');
     let (inside, _) = quote.parse_complete(input)?;
-    let (behind, text) = characters(inside)?;
-    let (rest, _) = token(behind, '"')?;
+    let (after, text) = characters(inside)?;
+    let (rest, _) = token(after, '"')?;
     Ok((rest, text))
 }
 

@@ -2,7 +2,7 @@
 ghost use Rattle.std.specs.Prelude.{◌≡◌, ◌+◌, ◌<◌, false, IfOk};
 ghost use Rattle.nom_internal.specs.Prelude.{input_len, text_model};
 ghost use Rattle.nom.specs.Texts.{Parses};
-ghost use Rattle.example_json.specs.Json.{array_of, behind_comma, json_of, json_text_of, list_of, member_of, object_of, refuses, scalar_of, value_of};
+ghost use Rattle.example_json.specs.Json.{array_of, after_comma, json_of, json_text_of, list_of, member_of, object_of, refuses, scalar_of, value_of};
 
 use crate::scalars::{Answer, number, spaces, text, token, too_deep, word};
 use crate::tree::Json;
@@ -67,8 +67,8 @@ fn array<'a>(alloc: Global, depth: usize, input: &'a str) -> Answer<'a, Json<'a>
     ensures { Parses (array_of (value_of depth)) false input.entry result }
 {
     let (inside, _) = token(input, '[')?;
-    let (behind, list) = elements(alloc, depth, Place { text: inside })?;
-    let (rest, _) = token(behind, ']')?;
+    let (after, list) = elements(alloc, depth, Place { text: inside })?;
+    let (rest, _) = token(after, ']')?;
     Ok((rest, Json::Array(list)))
 }
 
@@ -78,8 +78,8 @@ fn object<'a>(alloc: Global, depth: usize, input: &'a str) -> Answer<'a, Json<'a
     ensures { Parses (object_of (value_of depth)) false input.entry result }
 {
     let (inside, _) = token(input, '{')?;
-    let (behind, list) = members(alloc, depth, Place { text: inside })?;
-    let (rest, _) = token(behind, '}')?;
+    let (after, list) = members(alloc, depth, Place { text: inside })?;
+    let (rest, _) = token(after, '}')?;
     Ok((rest, Json::Object(list)))
 }
 
@@ -148,21 +148,21 @@ fn members<'a>(
 /// A comma, and a value after it.
 #[cycle(values)]
 fn next_element<'a>(alloc: Global, depth: usize, input: &'a str) -> Answer<'a, Json<'a>>
-    ensures shown { Parses (behind_comma (value_of depth)) false input.entry result }
+    ensures shown { Parses (after_comma (value_of depth)) false input.entry result }
     ensures moves { IfOk result (λ a. input_len text_model a.0 < input_len text_model input.entry) }
 {
-    let (behind, _) = token(input, ',')?;
-    value(alloc, depth, behind)
+    let (after, _) = token(input, ',')?;
+    value(alloc, depth, after)
 }
 
 /// A comma, and a member after it.
 #[cycle(values)]
 fn next_member<'a>(alloc: Global, depth: usize, input: &'a str) -> Answer<'a, (&'a str, Json<'a>)>
-    ensures shown { Parses (behind_comma (member_of (value_of depth))) false input.entry result }
+    ensures shown { Parses (after_comma (member_of (value_of depth))) false input.entry result }
     ensures moves { IfOk result (λ a. input_len text_model a.0 < input_len text_model input.entry) }
 {
-    let (behind, _) = token(input, ',')?;
-    member(alloc, depth, behind)
+    let (after, _) = token(input, ',')?;
+    member(alloc, depth, after)
 }
 
 /// A name and its value.
@@ -170,8 +170,8 @@ fn next_member<'a>(alloc: Global, depth: usize, input: &'a str) -> Answer<'a, (&
 fn member<'a>(alloc: Global, depth: usize, input: &'a str) -> Answer<'a, (&'a str, Json<'a>)>
     ensures { Parses (member_of (value_of depth)) false input.entry result }
 {
-    let (behind, name) = text(input)?;
-    let (inside, _) = token(behind, ':')?;
+    let (after, name) = text(input)?;
+    let (inside, _) = token(after, ':')?;
     let (rest, item) = value(alloc, depth, inside)?;
     Ok((rest, (name, item)))
 }
@@ -208,7 +208,7 @@ pub fn json<'a>(alloc: Global, depth: usize, input: &'a str) -> Answer<'a, Json<
 pub fn json_text<'a>(alloc: Global, depth: usize, input: &'a str) -> Answer<'a, Json<'a>>
     ensures { Parses (json_text_of depth) false input.entry result }
 {
-    let (behind, value) = json(alloc, depth, input)?;
-    let (rest, _) = eof(behind)?;
+    let (after, value) = json(alloc, depth, input)?;
+    let (rest, _) = eof(after)?;
     Ok((rest, value))
 }

@@ -5,8 +5,8 @@ use Rattle.std.proofs.lemmas.Bool.Decides.{nat_tests}
 use Rattle.nom_internal.specs.Prelude.{Accept, Stop, Fails, Outright, bytes_model, AreValues, IsSuffixOf}
 use Rattle.example_parts.specs.Firsts.{small_outcome}
 
-pub behind_first : {i j : Bor (List ℕ)} {x : ℕ} → bytes_model.IsKnown i → i.now ≡ x ∷ j.now → IsSuffixOf bytes_model i 1 j
-behind_first {i} {j} {x} h e = record {
+pub after_first : {i j : Bor (List ℕ)} {x : ℕ} → bytes_model.IsKnown i → i.now ≡ x ∷ j.now → IsSuffixOf bytes_model i 1 j
+after_first {i} {j} {x} h e = record {
   known = ((subst (AreValues (λ b. b < 256)) e h.0).1, omega (arith, h.1, ap length e));
   front = x ∷ [];
   whole = e;

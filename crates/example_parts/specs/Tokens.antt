@@ -14,7 +14,7 @@ Begins {A} t xs Compared.Ok = (rest : List A) × (xs ≡ t ∷ rest)
 Begins t xs Compared.Incomplete = xs ≡ []
 Begins {A} t xs Compared.Error = (x : A) × (rest : List A) × (xs ≡ x ∷ rest) × (x ≡ t → ⊥)
 
--- so many tokens are missing
+-- that many tokens are missing
 abbrev pub tokens_lacking : {A : Type 0} → ℕ → List A → Option ℕ
 tokens_lacking count xs = Some (count - length xs)
 

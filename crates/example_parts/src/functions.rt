@@ -23,7 +23,7 @@ pub fn first(input: &[u8]) -> IResult<&[u8], u8>
 {
     input.prove_known();
     match input.split_first() {
-        Some((byte, behind)) => Ok((behind, *byte)),
+        Some((byte, after)) => Ok((after, *byte)),
         None => Err(Err::Incomplete(Needed::Unknown)),
     }
 }
@@ -34,9 +34,9 @@ pub fn small(input: &[u8]) -> IResult<&[u8], u8>
 {
     input.prove_known();
     match input.split_first() {
-        Some((byte, behind)) => {
+        Some((byte, after)) => {
             if *byte < 128 {
-                Ok((behind, *byte))
+                Ok((after, *byte))
             } else {
                 Err(Err::Failure(Error {
                     input,

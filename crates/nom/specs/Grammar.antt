@@ -82,7 +82,7 @@ module _ {I A E : Type 0} (w : Model I A) (errs : Errors I E) where
     IsOutput = λ t o. IsModelledBy w t.1 o;
   }
 
-  -- a length, and a grammar on exactly so much
+  -- a length, and a grammar on exactly that much
   abbrev pub length_value_of : {V U O : Type 0} → Grammar I V ℕ E → Grammar I U O E → Grammar I U O E
   length_value_of g h = record {
     meaning = length_value_meaning w errs (HasSize g.IsOutput (λ n. n)) g.meaning h.meaning;

@@ -1,5 +1,5 @@
 //! What stands after a length.
 
-pub mod behind;
+pub mod after;
 pub mod calls;
 pub mod read;

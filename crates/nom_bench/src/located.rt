@@ -5,7 +5,7 @@ use nom_located::Located;
 use nom_settings_run::settings::settings;
 use std::alloc::Global;
 
-/// What is told of so many sections of a whole text; nothing where it has none.
+/// What is told of that many sections of a whole text; nothing where it has none.
 #[inline(always)]
 fn told(sections: usize, text: &str) -> Option<Round> {
     if sections == 0 {

@@ -11,7 +11,7 @@
 //! and over that text with line and column; and sums of products of decimal numbers run by `precedence`, and
 //! by a fold of each level. Of texts run rows of fields, sections of `name = value`, quoted strings with escapes, as
 //! they stand and as they are meant, words of a language, and the JSON of example_json; of bytes shapes of decimal
-//! fractions, numbers and pairs of digits in base 16, permutations of `abc`, values behind a length, lines up to a
+//! fractions, numbers and pairs of digits in base 16, permutations of `abc`, values after a length, lines up to a
 //! `\r\n`, and heads of HTTP requests. Then come messages as those of nom_messages, and records, up to the first place that
 //! has none: by `parse` over the whole, and by a stream whose reader gives 1, 64, 4096 and 65536 bytes a read.
 //!

@@ -1,4 +1,4 @@
-//! What stands in bytes: numbers, digits, lines, permutations, values behind a length, and heads of HTTP.
+//! What stands in bytes: numbers, digits, lines, permutations, values after a length, and heads of HTTP.
 
 use crate::{Case, Contents, Fail, Round, list};
 use nom::branch::permutation;

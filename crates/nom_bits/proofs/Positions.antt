@@ -9,7 +9,7 @@ use Rattle.nom_internal.specs.Prelude.{Model, InputLaws, items_len, IsBoundary, 
 use Rattle.nom_internal.specs.Prelude.{past_bits, bits_model, bits_lawful}
 use Rattle.nom_traits.specs.BitLists.{length-all_bits}
 use Rattle.nom_traits.specs.BitPlaces.{passes_bits, past_all_bits}
-use Rattle.nom_bits.specs.BitRests.{Skips, StandsBehind, SplitsAt, bits_ahead, bits_left, bits_place, skips_length}
+use Rattle.nom_bits.specs.BitRests.{Skips, StandsAfter, SplitsAt, bits_ahead, bits_left, bits_place, skips_length}
 
 -- items of no length are none
 pub no_length : {A : Type 0} (item_len : A → ℕ) → ((a : A) → 0 < item_len a) → (xs : List A) → items_len item_len xs ≡ 0 → xs ≡ []
@@ -87,8 +87,8 @@ module _ {I : Type 0} (w : Model I ℕ) (l : InputLaws w) where
         subst (λ m. IsSuffixOf (bits_model w) (x, o) 0 (j, m % 8)) none (passed_within x o 0 j h (omega arith) (subst (λ m. Skips w x (m / 8) j) (sym none) s))
 
     -- the pair after a field that begins in its first byte, after the position that begins there
-    stands_behind : (x : I) (o n : ℕ) (j : I) (rest : I × ℕ) → 0 < n → Skips w x (o / 8) j → StandsBehind w (j, o % 8) n rest → StandsBehind w (x, o) n rest
-    stands_behind x o n j rest some s b = record {
+    stands_after : (x : I) (o n : ℕ) (j : I) (rest : I × ℕ) → 0 < n → Skips w x (o / 8) j → StandsAfter w (j, o % 8) n rest → StandsAfter w (x, o) n rest
+    stands_after x o n j rest some s b = record {
       none = λ e. absurd (omega (arith, some, e));
       bytes = λ h. subst (λ m. Skips w x m rest.0) (omega arith) (skips_both x (o / 8) j ((o % 8 + n) / 8) rest.0 s (b.bytes h));
       bit = λ h. b.bit h ∙ omega arith;
@@ -96,11 +96,11 @@ module _ {I : Type 0} (w : Model I ℕ) (l : InputLaws w) where
 
     -- a field after a position
     pub splits : (x : I) (o n : ℕ) (j : I) (rest : I × ℕ) → 0 < n → w.IsKnown x → Skips w x (o / 8) j → IsSuffixOf (bits_model w) (j, o % 8) n rest →
-        StandsBehind w (j, o % 8) n rest → SplitsAt w (x, o) n (j, o % 8) rest
+        StandsAfter w (j, o % 8) n rest → SplitsAt w (x, o) n (j, o % 8) rest
     splits x o n j rest some h s r b =
         let there = at_byte x o j h s in
         record {
-          stands = stands_behind x o n j rest some s b;
+          stands = stands_after x o n j rest some s b;
           bits_are = at_once (x, o) (j, o % 8) there;
           begins = λ some. mod-lt o {m = 8} (lit< tt);
           rest_is = subst (λ m. IsSuffixOf (bits_model w) (x, o) m rest) (omega arith)
@@ -108,9 +108,9 @@ module _ {I : Type 0} (w : Model I ℕ) (l : InputLaws w) where
         }
 
     -- fewer bits after a position
-    pub few_behind : (x : I) (o n : ℕ) (j : I) → w.IsKnown x → Skips w x (o / 8) j → length ((bits_model w).elements (j, o % 8)) < n →
+    pub few_after : (x : I) (o n : ℕ) (j : I) → w.IsKnown x → Skips w x (o / 8) j → length ((bits_model w).elements (j, o % 8)) < n →
         length ((bits_model w).elements (x, o)) < n
-    few_behind x o n j h s k = subst (λ bs. length bs < n) (at_once (x, o) (j, o % 8) (at_byte x o j h s)) k
+    few_after x o n j h s k = subst (λ bs. length bs < n) (at_once (x, o) (j, o % 8) (at_byte x o j h s)) k
 
     -- no bits are a field, wherever the position is
     pub no_field : (i : I × ℕ) → w.IsKnown i.0 → SplitsAt w i 0 i i

@@ -22,9 +22,9 @@ bytes_of_bits xs h = ap whole_bytes (sym (append-nil (all_bits xs))) ∙ (whole-
 pub same_bytes : (xs ys : List ℕ) → AreBytes xs → AreBytes ys → all_bits xs ≡ all_bits ys → xs ≡ ys
 same_bytes xs ys h k e = sym (bytes_of_bits xs h) ∙ (ap whole_bytes e ∙ bytes_of_bits ys k)
 
-pub bytes_behind : (xs ys : List ℕ) → AreBytes (xs ++ ys) → AreBytes ys
-bytes_behind [] ys h = h
-bytes_behind (x ∷ xs) ys h = bytes_behind xs ys h.1
+pub bytes_after : (xs ys : List ℕ) → AreBytes (xs ++ ys) → AreBytes ys
+bytes_after [] ys h = h
+bytes_after (x ∷ xs) ys h = bytes_after xs ys h.1
 
 pub bytes_before : (xs ys : List ℕ) → AreBytes (xs ++ ys) → AreBytes xs
 bytes_before [] ys h = tt
@@ -39,7 +39,7 @@ module _ {I : Type 0} (w : Model I ℕ) where
 
   -- The pair after the next bits of i, as many as count: after none i itself, and else that many bytes on, at the bit that is
   -- next in its byte.
-  pub record StandsBehind (i : I × ℕ) (count : ℕ) (rest : I × ℕ) : Type 0 where
+  pub record StandsAfter (i : I × ℕ) (count : ℕ) (rest : I × ℕ) : Type 0 where
     pub none : count ≡ 0 → rest ≡ i
     pub bytes : 0 < count → Skips i.0 ((i.1 + count) / 8) rest.0
     pub bit : 0 < count → rest.1 ≡ (i.1 + count) % 8
@@ -50,7 +50,7 @@ module _ {I : Type 0} (w : Model I ℕ) where
     pub bits_are : (bits_model w).elements start ≡ (bits_model w).elements i
     pub begins : 0 < count → start.1 < 8
     pub rest_is : IsSuffixOf (bits_model w) i count rest
-    pub stands : StandsBehind i count rest
+    pub stands : StandsAfter i count rest
 
   pub bits_left : (x : I) (o : ℕ) → length ((bits_model w).elements (x, o)) ≡ 8 * length (w.elements x) - o
   bits_left x o = length-drop o (all_bits (w.elements x)) ∙ ap (λ n. n - o) (length-all_bits (w.elements x))
@@ -94,7 +94,7 @@ module _ {I : Type 0} (w : Model I ℕ) where
     pub as_bits : (longer : Bool) (x y : I) → AreBytes (w.elements y) → Related w longer x y → Related (bits_model w) longer (x, 0) (y, 0)
     as_bits true x y h e = record {
       more = all_bits e.more;
-      added = record { bytes = e.more; more = e.added; are_bytes = bytes_behind (w.elements x) e.more (subst AreBytes e.whole h); bits_are = refl };
+      added = record { bytes = e.more; more = e.added; are_bytes = bytes_after (w.elements x) e.more (subst AreBytes e.whole h); bits_are = refl };
       whole = ap all_bits e.whole ∙ all_bits-append (w.elements x) e.more;
       mark_is = ap (λ m bs. past_bits w m bs) e.mark_is;
     }
@@ -169,7 +169,7 @@ module _ {I : Type 0} (w : Model I ℕ) where
           let cut = same_cut (λ _. 1) (λ _. omega arith) r.front (all_bits js) (all_bits (take c xs)) (all_bits (drop c xs)) (sym r.whole ∙ parts)
           (r.length_is ∙ (eight ∙ (omega (arith, length-all_bits (take c xs), counted, items_len-ones (all_bits (take c xs)))))) in
           let known : AreBytes (take c xs ++ drop c xs) = subst AreBytes (sym (take-append-drop c xs)) (values x h) in
-          let rest : js ≡ drop c xs = same_bytes js (drop c xs) (values j r.known) (bytes_behind (take c xs) (drop c xs) known) cut.1 in
+          let rest : js ≡ drop c xs = same_bytes js (drop c xs) (values j r.known) (bytes_after (take c xs) (drop c xs) known) cut.1 in
           let whole : xs ≡ take c xs ++ js = sym (take-append-drop c xs) ∙ ap (λ ys. take c xs ++ ys) (sym rest) in
           let bytes : whole_bytes (r.front ++ []) ≡ take c xs =
           ap whole_bytes (append-nil r.front ∙ cut.0) ∙ bytes_of_bits (take c xs) (bytes_before (take c xs) (drop c xs) known) in

@@ -32,7 +32,7 @@ module _ {I : Type 0} (w : Model I ℕ) where
     Lacks = λ i k. IsShort i count × (k ≡ Some count);
   }
 
-  -- a refusal is for want of bits, or since another number stands there
+  -- a refusal: bits are missing, or another number stands there
   abbrev pub TagBlames : {E : Type 0} → Errors (I × ℕ) E → ℕ → I × ℕ → E → Type 0
   TagBlames errs count i e = (IsShort i count × errs.of_kind i Kind.Eof e) ⊎ ((count ≤ length ((bits_model w).elements i)) × errs.of_kind i Kind.TagBits e)
 

@@ -5,7 +5,7 @@ ghost use Rattle.std.specs.Prelude.{◌≡◌, ◌≤◌, false};
 ghost use Rattle.std.specs.Result.{IfOk};
 ghost use Rattle.nom_internal.specs.Prelude.{bits_model, itself};
 ghost use Rattle.nom_func.specs.Func.{AnswersBy};
-ghost use Rattle.nom_bits.specs.BitRests.{StandsBehind};
+ghost use Rattle.nom_bits.specs.BitRests.{StandsAfter};
 ghost use Rattle.nom_bits.specs.Fields.{bool_meaning};
 
 use crate::leaf::{Bool, Tag, Take};
@@ -50,7 +50,7 @@ pub fn bool<I: Input<Item = u8>, E: ParseError<(I, usize)>>(
 ) -> IResult<(I, usize), bool, E>
     ensures shown { AnswersBy (bits_model I.model) itself (λ t v. v ≡ t) (bool_meaning I.model E.errors) false input result }
     // The pair that is left.
-    ensures pair { IfOk result (λ accepted. StandsBehind I.model input 1 accepted.0) }
+    ensures pair { IfOk result (λ accepted. StandsAfter I.model input 1 accepted.0) }
 {
     let mut parser = Bool::<I, E> { types: PhantomData };
     full(parser.process::<OutputM<Emit, Emit, Complete>>(input))

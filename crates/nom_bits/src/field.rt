@@ -2,7 +2,7 @@
 ghost use Rattle.std.specs.Prelude.{◌≡◌, ◌<◌, ◌≤◌, ◌+◌, ◌^◌, length, MatchOption};
 ghost use Rattle.std.proofs.Common.{take, drop};
 ghost use Rattle.nom_internal.specs.Prelude.{bits_model, byte_bits, spelled, spelled_after, IsSuffixOf};
-ghost use Rattle.nom_bits.specs.BitRests.{Skips, StandsBehind, SplitsAt};
+ghost use Rattle.nom_bits.specs.BitRests.{Skips, StandsAfter, SplitsAt};
 
 use nom_traits::input::Input;
 
@@ -24,7 +24,7 @@ fn following<I: Input<Item = u8>>(start: (I, usize), count: usize) -> Option<(I,
     requires some { 0 < count }
     requires count { count ≤ 128 }
     ensures { MatchOption result (length ((bits_model I.model).elements start) < count)
-        (λ rest. IsSuffixOf (bits_model I.model) start count rest × StandsBehind I.model start count rest) }
+        (λ rest. IsSuffixOf (bits_model I.model) start count rest × StandsAfter I.model start count rest) }
 {
     let (bytes, offset) = start;
     bytes.prove_known();

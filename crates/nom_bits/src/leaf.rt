@@ -3,7 +3,7 @@ ghost use Rattle.std.specs.Prelude.{◌≡◌, ℕ, Bool};
 ghost use Rattle.std.specs.Result.{IfOk};
 ghost use Rattle.std.proofs.Common.{sym, ◌∙◌, ap};
 ghost use Rattle.nom_internal.specs.Prelude.{modes, bits_model, ShowsMeaning, value_pinned, OfRest};
-ghost use Rattle.nom_bits.specs.BitRests.{StandsBehind};
+ghost use Rattle.nom_bits.specs.BitRests.{StandsAfter};
 ghost use Rattle.nom_bits.specs.Fields.{take_meaning, tag_meaning, bool_meaning};
 ghost use Rattle.nom_bits.specs.laws.FieldLaws.{take_lawful, take_steady, tag_lawful, tag_steady, bool_lawful, bool_steady};
 
@@ -40,7 +40,7 @@ impl<I: Input<Item = u8>, O: BitUint, E: ParseError<(I, usize)>> Parser<(I, usiz
     ghost IsOutput = { λ _ t v. v ≡ O.of_bits t };
 
     /// The pair that is left.
-    ghost Besides = { λ _ old _ i. OfRest (StandsBehind I.model i old.count) };
+    ghost Besides = { λ _ old _ i. OfRest (StandsAfter I.model i old.count) };
 
     ghost meaning = { λ count. take_meaning I.model E.errors O.WIDTH count };
 
@@ -51,7 +51,7 @@ impl<I: Input<Item = u8>, O: BitUint, E: ParseError<(I, usize)>> Parser<(I, usiz
             (modes OM.Output.BUILDS OM.Error.BUILDS OM.Incomplete.STREAMING) input result }
         ensures kept { self.new.count ≡ self.old.count }
         // The pair that is left.
-        ensures pair { IfOk result (λ accepted. StandsBehind I.model input self.old.count accepted.0) }
+        ensures pair { IfOk result (λ accepted. StandsAfter I.model input self.old.count accepted.0) }
     {
         match next_field(input, self.count) {
             Some(found) => {
@@ -99,7 +99,7 @@ impl<I: Input<Item = u8>, O: BitUint, E: ParseError<(I, usize)>> Parser<(I, usiz
     ghost IsOutput = { λ _ t v. v ≡ O.of_bits t };
 
     /// The pair that is left.
-    ghost Besides = { λ _ old _ i. OfRest (StandsBehind I.model i old.count) };
+    ghost Besides = { λ _ old _ i. OfRest (StandsAfter I.model i old.count) };
 
     ghost meaning = { λ s. tag_meaning I.model E.errors O.WIDTH s.0 s.1 };
 
@@ -110,7 +110,7 @@ impl<I: Input<Item = u8>, O: BitUint, E: ParseError<(I, usize)>> Parser<(I, usiz
             (modes OM.Output.BUILDS OM.Error.BUILDS OM.Incomplete.STREAMING) input result }
         ensures kept { ◌≡◌ {A = ℕ × ℕ} (self.new.pattern, self.new.count) (self.old.pattern, self.old.count) }
         // The pair that is left.
-        ensures pair { IfOk result (λ accepted. StandsBehind I.model input self.old.count accepted.0) }
+        ensures pair { IfOk result (λ accepted. StandsAfter I.model input self.old.count accepted.0) }
     {
         match next_field(input, self.count) {
             Some(found) => {
@@ -158,7 +158,7 @@ impl<I: Input<Item = u8>, E: ParseError<(I, usize)>> Parser<(I, usize)> for Bool
     ghost IsOutput = { λ _ t v. v ≡ t };
 
     /// The pair that is left.
-    ghost Besides = { λ _ _ _ i. OfRest (StandsBehind I.model i 1) };
+    ghost Besides = { λ _ _ _ i. OfRest (StandsAfter I.model i 1) };
 
     ghost meaning = { λ _. bool_meaning I.model E.errors };
 
@@ -168,7 +168,7 @@ impl<I: Input<Item = u8>, E: ParseError<(I, usize)>> Parser<(I, usize)> for Bool
         ensures shown { ShowsMeaning (bits_model I.model) (λ t v. v ≡ t) (bool_meaning I.model E.errors)
             (modes OM.Output.BUILDS OM.Error.BUILDS OM.Incomplete.STREAMING) input result }
         // The pair that is left.
-        ensures pair { IfOk result (λ accepted. StandsBehind I.model input 1 accepted.0) }
+        ensures pair { IfOk result (λ accepted. StandsAfter I.model input 1 accepted.0) }
     {
         match next_field(input, 1) {
             Some(found) => {

@@ -30,9 +30,9 @@ one_reached : (least most count : ℕ) → min least most ≤ count → count �
 one_reached least most count h b = by_order least most count h b (cases_lt count least)
 
 -- a run that an item follows, with fewer than either number, isn't enough
-none_enough : (least most count behind : ℕ) → count < min least most → IsEnough least (Some most) count behind → ⊥
-none_enough least most count behind h (inl k) = omega (arith, h, k)
-none_enough least most count behind h (inr k) = omega (arith, h, k.0)
+none_enough : (least most count after : ℕ) → count < min least most → IsEnough least (Some most) count after → ⊥
+none_enough least most count after h (inl k) = omega (arith, h, k)
+none_enough least most count after h (inr k) = omega (arith, h, k.0)
 
 -- all of an input, with fewer than the least number, isn't enough
 all_few : (least most count : ℕ) → count < least → IsEnough least (Some most) count 0 → ⊥

@@ -13,7 +13,7 @@ stop_of (inl h) f = inl h
 stop_of (inr h) f = inr (f h.1)
 
 module _ {I A S : Type 0} (w : Model I A) (Test : A → Bool → Type 0) (steps : S → Option (ℕ × A) → S → Type 0) where
-  -- the items that were passed, which are so many, all meet the test, and s gives the others
+  -- the items that were passed, that many, all meet the test, and s gives the others
   pub record IsCounting (i : I) (count : ℕ) (s : S) : Type 0 where
     pub passed : List A
     pub rest : List A

@@ -22,10 +22,10 @@ enough_items item_len false xs n e h = omega arith
 enough_items item_len true [] n e h = absurd (omega (arith, e, h refl))
 enough_items item_len true (x ∷ xs) n e h = omega arith
 
-none_enough : (wanted : Bool) (behind : ℕ) → wanted ≡ true → IsEnough (cond wanted 1 0) None 0 behind → ⊥
-none_enough true behind e (inl h) = omega (arith, h)
-none_enough true behind e (inr h) = h.0
-none_enough false behind e h = absurd (cc (e))
+none_enough : (wanted : Bool) (after : ℕ) → wanted ≡ true → IsEnough (cond wanted 1 0) None 0 after → ⊥
+none_enough true after e (inl h) = omega (arith, h)
+none_enough true after e (inr h) = h.0
+none_enough false after e h = absurd (cc (e))
 
 one_lacks : (wanted : Bool) (n : ℕ) → Some 1 ≡ Some (max 1 (cond wanted 1 0 - n))
 one_lacks true n = let one : 1 ≡ max 1 (1 - n) = omega arith in ap Some one

@@ -14,9 +14,9 @@ abbrev pub IsAtBound : Option ℕ → ℕ → Type 0
 IsAtBound (Some most) count = count ≡ most
 IsAtBound None count = ⊥
 
--- a number of items, with so many after them, is enough: as many as are wanted at least, or as many as the bound, and an item after
-abbrev pub IsEnough : (least : ℕ) (bound : Option ℕ) (count behind : ℕ) → Type 0
-IsEnough least bound count behind = (least ≤ count) ⊎ (IsAtBound bound count × (0 < behind))
+-- a number of items, with that many after them, is enough: as many as are wanted at least, or as many as the bound, and an item after
+abbrev pub IsEnough : (least : ℕ) (bound : Option ℕ) (count after : ℕ) → Type 0
+IsEnough least bound count after = (least ≤ count) ⊎ (IsAtBound bound count × (0 < after))
 
 -- Test is what the test answers at an item: true where the item meets it.
 module _ {I A : Type 0} (w : Model I A) (Test : A → Bool → Type 0) (bound : Option ℕ) where

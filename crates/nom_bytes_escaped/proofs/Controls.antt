@@ -2,7 +2,7 @@
 use Rattle.std.proofs.Common.{◌≡◌, ℕ, ◌<◌, List, [], ◌∷◌, ◌++◌, length, Option, Some, None, refl, sym, ◌∙◌, ap, subst, arith}
 use Rattle.std.specs.Iterator.{AlwaysYields}
 use Rattle.nom_internal.specs.Prelude.{Model, InputLaws, IsSuffixOf, input_len, items_len, same_cut, IsCount}
-use Rattle.nom_bytes_escaped.specs.NextPieces.{BehindControl, StandsLast}
+use Rattle.nom_bytes_escaped.specs.NextPieces.{AfterControl, StandsLast}
 
 module _ {A S : Type 0} (steps : S → Option A → S → Type 0) where
   -- the first item that is given is the first of the list
@@ -32,9 +32,9 @@ module _ {I A : Type 0} (w : Model I A) (l : InputLaws w) where
   one_weight x xs (a ∷ b ∷ front) rest n e c h = absurd (omega (arith, c))
 
   -- the rest after the first item has all the others
-  behind_first : (i j : I) (x : A) (xs : List A) (n : ℕ) → w.elements i ≡ x ∷ xs → IsCount w i 1 n → IsSuffixOf w i n j → (n ≡ w.item_len x) ×
+  after_first : (i j : I) (x : A) (xs : List A) (n : ℕ) → w.elements i ≡ x ∷ xs → IsCount w i 1 n → IsSuffixOf w i n j → (n ≡ w.item_len x) ×
       (w.elements j ≡ xs)
-  behind_first i j x xs n e c r =
+  after_first i j x xs n e c r =
       let item_len = one_weight x xs c.place.front c.place.rest n (sym e ∙ c.place.whole) c.count_is c.place.length_is in
       let cut = same_cut w.item_len l.positive r.front (w.elements j) (x ∷ []) xs (sym r.whole ∙ e) (omega (arith, r.length_is, item_len)) in
       (item_len, cut.1)
@@ -46,13 +46,13 @@ module _ {I A : Type 0} (w : Model I A) (l : InputLaws w) where
         let none = no_items w.item_len l.positive (w.elements j) (sym h ∙ z) in
         record {
           item = x;
-          elements_are = e ∙ ap (λ ys. x ∷ ys) (sym (behind_first i j x xs n e c r).1 ∙ none);
+          elements_are = e ∙ ap (λ ys. x ∷ ys) (sym (after_first i j x xs n e c r).1 ∙ none);
           is_control = is;
         }
 
-    pub stands_before : (m ≡ 0 → ⊥) → BehindControl w IsControl (λ y. y ≡ j) i
+    pub stands_before : (m ≡ 0 → ⊥) → AfterControl w IsControl (λ y. y ≡ j) i
     stands_before z =
-        let first = behind_first i j x xs n e c r in
+        let first = after_first i j x xs n e c r in
         record {
           item = x;
           items = xs;

@@ -13,7 +13,7 @@ use Rattle.nom_bytes_escaped.specs.declared.next_piece.Piece.{Piece}
 use Rattle.nom_bytes_escaped.specs.declared.next_piece.Piece.TheVariants.{Normal, Escapable}
 use Rattle.nom_bytes_escaped.specs.declared.next_piece.NextPiece.{NextPiece}
 use Rattle.nom_bytes_escaped.specs.declared.next_piece.NextPiece.TheVariants.{Found, Other, Dangling, Done}
-use Rattle.nom_bytes_escaped.specs.NextPieces.{Lacks, left_leaf, IsLeft, BehindControl, StandsOther, StandsLast, TellsControl, control_leaf, by_control}
+use Rattle.nom_bytes_escaped.specs.NextPieces.{Lacks, left_leaf, IsLeft, AfterControl, StandsOther, StandsLast, TellsControl, control_leaf, by_control}
 use Rattle.nom_bytes_escaped.specs.NextPieces.{escape_meaning, piece_meaning, by_left, IsNextPiece, ShowsNextPiece}
 use Rattle.nom_bytes_escaped.proofs.Controls.{no_items, some_items}
 
@@ -92,9 +92,9 @@ module _ {I A U W O X E : Type 0} (w : Model I A) (l : InputLaws w) (IsNormal : 
           (Shown (Accept 0 Other) (refl, refl) (i, Some Other, rest_self w l i known, (Other, refl, refl), refl))
 
       -- an escapable piece is sought after the control character
-      module _ (j : I) (c : BehindControl w IsControl (λ y. y ≡ j) i) where
-        behind : (r : Told) → Tells (labelled_meaning (λ v. Found (Escapable v)) g) s j r → Goal s r
-        behind r k = told (Control.Before tt)
+      module _ (j : I) (c : AfterControl w IsControl (λ y. y ≡ j) i) where
+        after : (r : Told) → Tells (labelled_meaning (λ v. Found (Escapable v)) g) s j r → Goal s r
+        after r k = told (Control.Before tt)
             (w.item_len c.item) j (record {
               item = c.item;
               items = c.items;
@@ -107,12 +107,12 @@ module _ {I A U W O X E : Type 0} (w : Model I A) (l : InputLaws w) (IsNormal : 
         pub escapable_faults : (e : Answer.Err E (Option E) Needed) (r : Told) → ShowsMeaning w IsEscapable g (modes outputs errors s) j (Err e) →
             r ≡ Err e → Goal s r
         escapable_faults e r k y = subst (λ q. Goal s q) (sym y)
-            (behind (Err e) (labels_err w (λ v. Found (Escapable v)) IsEscapable (IsNextPiece outputs IsNormal IsEscapable) g true (modes outputs errors s) j
+            (after (Err e) (labels_err w (λ v. Found (Escapable v)) IsEscapable (IsNextPiece outputs IsNormal IsEscapable) g true (modes outputs errors s) j
             e k))
 
         pub escapable_found : (h : I) (x : Option X) → ShowsMeaning w IsEscapable g (modes outputs errors s) j (Ok (h, x)) →
             Goal s (Ok (h, Some (Found (Escapable x))))
-        escapable_found h x k = behind (Ok (h, Some (Found (Escapable x))))
+        escapable_found h x k = after (Ok (h, Some (Found (Escapable x))))
             (labels_ok w (λ v. Found (Escapable v)) IsEscapable (IsNextPiece outputs IsNormal IsEscapable) g true (modes outputs errors s) j h x
             (Some (Found (Escapable x))) k (λ u b. (Found (Escapable x), refl, b)))
 

@@ -28,7 +28,7 @@ left_leaf w = record {
 
 module _ {I A : Type 0} (w : Model I A) (IsControl : A → Type 0) where
   -- at i the control character stands, items follow it, and of the rest after it the fact holds
-  pub record BehindControl (Fact : I → Type 0) (i : I) : Type 0 where
+  pub record AfterControl (Fact : I → Type 0) (i : I) : Type 0 where
     pub item : A
     pub items : List A
     pub elements_are : w.elements i ≡ item ∷ items
@@ -55,7 +55,7 @@ pub record StandsLast {I A : Type 0} (w : Model I A) (IsControl : A → Type 0) 
 abbrev pub IsControlAt : {I A : Type 0} → Model I A → (A → Type 0) → I → Control I → Type 0
 IsControlAt w IsControl i Control.None = StandsOther w IsControl i
 IsControlAt w IsControl i Control.Last = StandsLast w IsControl i
-IsControlAt w IsControl i (Control.Before j) = BehindControl w IsControl (λ x. x ≡ j) i
+IsControlAt w IsControl i (Control.Before j) = AfterControl w IsControl (λ x. x ≡ j) i
 
 -- the first item of i, of length n, is the control character, and items follow it
 pub record StandsBefore {I A : Type 0} (w : Model I A) (IsControl : A → Type 0) (i : I) (n : ℕ) : Type 0 where
@@ -86,12 +86,12 @@ by_control g Control.None = success_meaning Other
 by_control g Control.Last = success_meaning Dangling
 by_control g (Control.Before u) = labelled_meaning (λ v. Found (Escapable v)) g
 
-abbrev pub behind_control : {I U W E : Type 0} → Meaning I W E → Family (Control (Unit {0})) I (NextPiece (Piece U W)) E
-behind_control g = record { at = by_control g; IsSound = g.IsSound; IsFrugal = g.IsFrugal; Settles = g.Settles; NeverFails = g.NeverFails }
+abbrev pub after_control : {I U W E : Type 0} → Meaning I W E → Family (Control (Unit {0})) I (NextPiece (Piece U W)) E
+after_control g = record { at = by_control g; IsSound = g.IsSound; IsFrugal = g.IsFrugal; Settles = g.Settles; NeverFails = g.NeverFails }
 
 -- the control character, and after it an escapable piece
 abbrev pub escape_meaning : {I A U W E : Type 0} → Model I A → (A → Type 0) → Option ℕ → Meaning I W E → Meaning I (NextPiece (Piece U W)) E
-escape_meaning w IsControl lack g = then_meaning w (λ _ t. t) (λ b. b) (λ b. b) (look (control_leaf w IsControl lack)) (behind_control g)
+escape_meaning w IsControl lack g = then_meaning w (λ _ t. t) (λ b. b) (λ b. b) (look (control_leaf w IsControl lack)) (after_control g)
 
 -- a normal piece, otherwise the control character and after it an escapable piece
 abbrev pub piece_meaning : {I A U W E : Type 0} → Model I A → (A → Type 0) → Option ℕ → Meaning I U E → Meaning I W E → Meaning I (NextPiece (Piece U W)) E

@@ -52,11 +52,11 @@ where
     match input.iter_elements().next() {
         Some(item) if item.as_char() == control_char => match input.slice_index(1) {
             Ok(index) => {
-                let behind = input.take_from(index);
-                if behind.input_len() == 0 {
+                let after = input.take_from(index);
+                if after.input_len() == 0 {
                     Control::Last
                 } else {
-                    Control::Before(behind)
+                    Control::Before(after)
                 }
             }
             Err(_) => unreachable!(),
@@ -115,8 +115,8 @@ where
                 lack,
                 NextPiece::Dangling,
             ),
-            Control::Before(behind) => {
-                let (rest, piece) = escapable.process::<OM>(behind)?;
+            Control::Before(after) => {
+                let (rest, piece) = escapable.process::<OM>(after)?;
                 Ok((rest, Some(NextPiece::Found(Piece::Escapable(piece)))))
             }
         },

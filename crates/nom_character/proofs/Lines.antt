@@ -52,8 +52,8 @@ pub other_code : (c x k : ℕ) → c ≡ x → (c ≡ k → ⊥) → (x == k) �
 other_code c x k e f = let g : x ≡ k → ⊥ = λ h. f (e ∙ h) in grind (arith, nat_tests, g)
 
 module _ {I A : Type 0} (w : Model I A) (l : InputLaws w) where
-  pub behind_head : (i j : I) (x : A) → IsFirstItem w i x → IsSuffixOf w i (w.item_len x) j → w.elements i ≡ x ∷ w.elements j
-  behind_head i j x p r =
+  pub after_head : (i j : I) (x : A) → IsFirstItem w i x → IsSuffixOf w i (w.item_len x) j → w.elements i ≡ x ∷ w.elements j
+  after_head i j x p r =
       let one : items_len w.item_len (x ∷ []) ≡ w.item_len x = omega arith in
       let cut = same_cut w.item_len l.positive r.front (w.elements j) (x ∷ []) p.rest (sym r.whole ∙ p.whole) (r.length_is ∙ sym one) in
       p.whole ∙ ap (λ xs. x ∷ xs) (sym cut.1)
@@ -66,7 +66,7 @@ module _ {I A : Type 0} (w : Model I A) (l : InputLaws w) where
     -- the first item alone
     pub one_stands : pattern s (w.elements i) ≡ Full 1 → IsMatched w pattern s i (Found.Full j)
     one_stands e =
-        let whole = behind_head i j x p r in
+        let whole = after_head i j x p r in
         let one : items_len w.item_len (x ∷ []) ≡ w.item_len x = omega arith in
         let front = before_rest i j (w.item_len x) (x ∷ []) r whole one in
         (w.item_len x, r, e ∙ ap Full (sym (ap length front)))
@@ -75,11 +75,11 @@ module _ {I A : Type 0} (w : Model I A) (l : InputLaws w) where
     pub return_shown : (lack : Option ℕ) → pattern s (w.elements i) ≡ after_return code s (Full 2) lack (w.elements j) → (found : Matched I) →
         IsNewline w code s lack j found → IsMatched w pattern s i found
     return_shown lack e (Found.Full k) h =
-        let whole = behind_head i j x p r in
-        let behind = behind_head j k h.0 h.1 h.2 in
+        let whole = after_head i j x p r in
+        let after = after_head j k h.0 h.1 h.2 in
         let both = rest_rest w l i (w.item_len x) j (w.item_len h.0) k r h.2 in
         let two : items_len w.item_len (x ∷ (h.0 ∷ [])) ≡ w.item_len x + w.item_len h.0 = omega arith in
-        let front = before_rest i k (w.item_len x + w.item_len h.0) (x ∷ (h.0 ∷ [])) both (whole ∙ ap (λ xs. x ∷ xs) behind) two in
+        let front = before_rest i k (w.item_len x + w.item_len h.0) (x ∷ (h.0 ∷ [])) both (whole ∙ ap (λ xs. x ∷ xs) after) two in
         (w.item_len x + w.item_len h.0, both, e ∙ (h.3 (Full 2) ∙ ap Full (sym (ap length front))))
     return_shown lack e Found.Absent h = e ∙ h (Full 2)
     return_shown lack e (Found.Partial k) h = (h.0, subst (λ b. pattern b (w.elements i) ≡ Partial (size_of k)) h.0 (e ∙ h.1 (Full 2)))
@@ -88,20 +88,20 @@ module _ {I A : Type 0} (w : Model I A) (l : InputLaws w) where
       (found : Matched I) (h : IsNewline w code s lack j found) where
     pub crlf_shown : (code x == 13) ≡ true → IsMatched w (crlf_in code) s i found
     crlf_shown t =
-        let e = ap (crlf_in code s) (behind_head i j x p r) ∙ by_true (code x == 13) (after_return code s (Full 2) (Some 2) (w.elements j)) Absent t in
+        let e = ap (crlf_in code s) (after_head i j x p r) ∙ by_true (code x == 13) (after_return code s (Full 2) (Some 2) (w.elements j)) Absent t in
         return_shown code s (crlf_in code) i j x p r (Some 2) e found (subst (λ z. IsNewline w code s z j found) two h)
 
     pub line_ending_shown : (code x == 10) ≡ false → (code x == 13) ≡ true → IsMatched w (line_ending_in code) s i found
     line_ending_shown f t =
         let after = after_return code s (Full 2) (Some 2) (w.elements j) in
-        let e = ap (line_ending_in code s) (behind_head i j x p r) ∙
+        let e = ap (line_ending_in code s) (after_head i j x p r) ∙
         (by_false (code x == 10) (Full 1) (cond (code x == 13) after Absent) f ∙ by_true (code x == 13) after Absent t) in
         return_shown code s (line_ending_in code) i j x p r (Some 2) e found (subst (λ z. IsNewline w code s z j found) two h)
 
   pub newline_first : (code : A → ℕ) (s : Bool) (i j : I) (x : A) → (p : IsFirstItem w i x) → (r : IsSuffixOf w i (w.item_len x) j) → (code x == 10) ≡ true →
       IsMatched w (line_ending_in code) s i (Found.Full j)
   newline_first code s i j x p r t =
-      let e = ap (line_ending_in code s) (behind_head i j x p r) ∙
+      let e = ap (line_ending_in code s) (after_head i j x p r) ∙
       by_true (code x == 10) (Full 1) (cond (code x == 13) (after_return code s (Full 2) (Some 2) (w.elements j)) Absent) t in
       one_stands code s (line_ending_in code) i j x p r e
 
@@ -169,7 +169,7 @@ module _ {I A : Type 0} (w : Model I A) (l : InputLaws w) (code : A → ℕ) (s 
           let is = other_one (code x) (subst (λ z. is_line_code (code z) ≡ true) (sym same) t) f in
           let after = after_return code s (Full 0) None (w.elements j) in
           let line = one_more (line_in code s (w.elements j)) in
-          ap (line_in code s) (behind_head w l i j x p r) ∙
+          ap (line_in code s) (after_head w l i j x p r) ∙
           (by_false (code x == 10) (Full 0) (cond (code x == 13) after line) f ∙ by_true (code x == 13) after line is)
 
       pub return_stands : (found : Matched I) (k : I) → found ≡ Found.Full k → IsNewline w code s None j found → IsLineEnd w code s i (Found.Full i)

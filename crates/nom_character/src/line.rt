@@ -7,7 +7,7 @@ ghost use Rattle.nom_character.specs.LineMatches.{Match, IsMatched, IsNewline, I
 ghost use Rattle.nom_character.specs.LineMatches.{line_ending_in, line_ending_meaning, line_in, line_meaning};
 ghost use Rattle.nom_character.specs.laws.LineMatchLaws.{match_lawful, match_steady, crlf_laws, line_ending_laws, line_laws};
 
-use nom_character_first::first::{behind, first};
+use nom_character_first::first::{after, first};
 use nom_error::answer::{Err, Needed, PResult};
 use nom_error::kind::ErrorKind;
 use nom_error::mode::{IsStreaming, OutputMode};
@@ -56,7 +56,7 @@ where
     ensures { IsNewline I.model I.Item.code S.STREAMING (size_of lack) input result }
 {
     match first(input) {
-        Some(item) if item.as_char() == '\n' => Matched::Full(behind(input, item)),
+        Some(item) if item.as_char() == '\n' => Matched::Full(after(input, item)),
         Some(_) => Matched::Absent,
         None if S::STREAMING => Matched::Partial(lack),
         None => Matched::Absent,
@@ -72,7 +72,7 @@ where
 {
     match first(input) {
         Some(item) if item.as_char() == '\r' => {
-            newline_at::<I, S>(behind(input, item), Needed::new(2))
+            newline_at::<I, S>(after(input, item), Needed::new(2))
         }
         Some(_) => Matched::Absent,
         None if S::STREAMING => Matched::Partial(Needed::new(2)),
@@ -88,9 +88,9 @@ where
     ensures { IsMatched I.model (line_ending_in I.Item.code) S.STREAMING input result }
 {
     match first(input) {
-        Some(item) if item.as_char() == '\n' => Matched::Full(behind(input, item)),
+        Some(item) if item.as_char() == '\n' => Matched::Full(after(input, item)),
         Some(item) if item.as_char() == '\r' => {
-            newline_at::<I, S>(behind(input, item), Needed::new(2))
+            newline_at::<I, S>(after(input, item), Needed::new(2))
         }
         Some(_) => Matched::Absent,
         None if S::STREAMING => Matched::Partial(Needed::new(1)),
@@ -109,7 +109,7 @@ where
 {
     match first(input) {
         Some(item) if item.as_char() == '\n' => Matched::Full(input),
-        Some(item) => match newline_at::<I, S>(behind(input, item), Needed::Unknown) {
+        Some(item) => match newline_at::<I, S>(after(input, item), Needed::Unknown) {
             Matched::Full(_) => Matched::Full(input),
             Matched::Absent => Matched::Absent,
             Matched::Partial(needed) => Matched::Partial(needed),

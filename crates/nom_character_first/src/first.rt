@@ -68,7 +68,7 @@ fn character<M: Mode, C: AsChar>(item: C) -> Option<char>
 
 /// The input after its first item.
 #[inline(always)]
-pub fn behind<I: Input>(input: I, item: I::Item) -> I
+pub fn after<I: Input>(input: I, item: I::Item) -> I
 where
     I::Item: AsChar,
     requires { IsFirstItem I.model input item }
@@ -94,7 +94,7 @@ where
 {
     match first(input) {
         Some(item) if test.meets(item) => Ok((
-            behind::<I>(input, item),
+            after::<I>(input, item),
             character::<OM::Output, I::Item>(item),
         )),
         Some(_) => Err(refused::<OM::Error, I, E>(input, blame)),

@@ -8,7 +8,7 @@ use Rattle.nom_internal.specs.Prelude.{is_dec_digit_code, value_of, value_more, 
 use Rattle.nom_internal.specs.Prelude.{items_len-append, same_cut}
 use Rattle.nom_character_integer.specs.Integers.{digits_of, after_digits, decimal_number, with_sign, sign_of, after_sign, is_negative, IsRange}
 use Rattle.nom_character_integer.specs.laws.IntegerLaws.{number_grows, nearer, sign_whole}
-use Rattle.nom_character_integer.specs.Read.{BehindSign, IsRead, IsUnfit}
+use Rattle.nom_character_integer.specs.Read.{AfterSign, IsRead, IsUnfit}
 
 module _ {A : Type 0} (code : A → ℕ) (signed : Bool) where
   -- where no sign stands, there is no minus
@@ -43,9 +43,9 @@ module _ {I A : Type 0} (w : Model I A) (code : A → ℕ) (signed : Bool) (i : 
     pub sign_place : (n : ℕ) → n ≡ w.item_len x → IsBoundary w i n
     sign_place n h = record { front = x ∷ []; rest = after_sign code signed (w.elements i); whole = whole; length_is = one ∙ sym h }
 
-    pub behind_a_sign : (n : ℕ) (j : I) → n ≡ w.item_len x → (r : IsSuffixOf w i n j) → InputLaws w →
-        BehindSign w code signed i (record { negative = code x == 45; digits = j })
-    behind_a_sign n j h r l =
+    pub after_a_sign : (n : ℕ) (j : I) → n ≡ w.item_len x → (r : IsSuffixOf w i n j) → InputLaws w →
+        AfterSign w code signed i (record { negative = code x == 45; digits = j })
+    after_a_sign n j h r l =
         let cut = same_cut w.item_len l.positive r.front (w.elements j) (x ∷ []) (after_sign code signed (w.elements i)) (sym r.whole ∙ whole)
         (r.length_is ∙ (h ∙ sym one)) in
         record {
@@ -54,9 +54,9 @@ module _ {I A : Type 0} (w : Model I A) (code : A → ℕ) (signed : Bool) (i : 
           negative_is = sym (a_sign code signed x (w.elements i) e);
         }
 
-  pub behind_no_sign : sign_of code signed (w.elements i) ≡ [] → w.IsKnown i → InputLaws w →
-      BehindSign w code signed i (record { negative = false; digits = i })
-  behind_no_sign e k l = record {
+  pub after_no_sign : sign_of code signed (w.elements i) ≡ [] → w.IsKnown i → InputLaws w →
+      AfterSign w code signed i (record { negative = false; digits = i })
+  after_no_sign e k l = record {
     rest_is = subst (λ ys. IsSuffixOf w i (items_len w.item_len ys) i) (sym e)
         (record { known = k; front = []; whole = refl; length_is = refl; mark_is = sym (l.mark_none (w.mark i)) });
     elements_are = sign_whole code signed (w.elements i) ∙ ap (λ ys. ys ++ after_sign code signed (w.elements i)) e;

@@ -9,10 +9,10 @@ use Rattle.nom_character_integer.specs.Integers.{digits_of, after_digits, decima
 use Rattle.nom_character_integer.specs.Integers.{after_integer}
 use Rattle.nom_character_integer.specs.Integers.{IsEnded, integer_meaning}
 use Rattle.nom_character_integer.specs.laws.IntegerLaws.{digits_whole}
-use Rattle.nom_character_integer.specs.Read.{BehindSign, IsRead, IsUnfit}
+use Rattle.nom_character_integer.specs.Read.{AfterSign, IsRead, IsUnfit}
 
 module _ {I A T : Type 0} (w : Model I A) (l : InputLaws w) (code : A → ℕ) (signed : Bool) (value : T → ℤ) (fits : ℤ → Type 0) (i : I) (u : Unsigned I)
-    (b : BehindSign w code signed i u) where
+    (b : AfterSign w code signed i u) where
   -- what is said of the list after the sign is said of the input
   same_integer : with_sign u.negative (decimal_number code (digits_of code (w.elements u.digits))) ≡ integer_of code signed (w.elements i)
   same_integer = ap (λ s. with_sign s (decimal_number code (digits_of code (w.elements u.digits)))) b.negative_is ∙

@@ -6,7 +6,7 @@ use Rattle.nom_character_integer.specs.declared.integer.Number.{Number}
 use Rattle.nom_character_integer.specs.Integers.{digits_of, after_digits, decimal_number, with_sign, sign_of, after_sign, is_negative}
 
 -- the input after its sign, and whether that is a minus
-pub record BehindSign {I A : Type 0} (w : Model I A) (code : A → ℕ) (signed : Bool) (i : I) (u : Unsigned I) : Type 0 where
+pub record AfterSign {I A : Type 0} (w : Model I A) (code : A → ℕ) (signed : Bool) (i : I) (u : Unsigned I) : Type 0 where
   pub rest_is : IsSuffixOf w i (items_len w.item_len (sign_of code signed (w.elements i))) u.digits
   pub elements_are : w.elements u.digits ≡ after_sign code signed (w.elements i)
   pub negative_is : u.negative ≡ is_negative code signed (w.elements i)

@@ -5,7 +5,7 @@ ghost use Rattle.nom_internal.specs.Prelude.{is_dec_digit_code, Built};
 ghost use Rattle.num_traits.specs.Laws.{Checks};
 ghost use Rattle.nom_character_integer.specs.Integers.{with_sign, sign_of, integer_meaning};
 ghost use Rattle.nom_character_integer.specs.laws.IntegerLaws.{integer_lawful, integer_steady, range_of};
-ghost use Rattle.nom_character_integer.specs.Read.{BehindSign, IsRead, IsUnfit};
+ghost use Rattle.nom_character_integer.specs.Read.{AfterSign, IsRead, IsUnfit};
 
 use nom_character_first::first::first;
 use nom_error::answer::{Err, Needed, PResult};
@@ -85,10 +85,10 @@ pub struct Unsigned<I> {
 
 /// The input after its sign, where one may stand first.
 #[inline(always)]
-fn behind_sign<I: Input>(input: I, signed: bool) -> Unsigned<I>
+fn after_sign<I: Input>(input: I, signed: bool) -> Unsigned<I>
 where
     I::Item: AsChar,
-    ensures { BehindSign I.model I.Item.code signed input result }
+    ensures { AfterSign I.model I.Item.code signed input result }
 {
     input.prove_known();
     match sign_at(input, signed) {
@@ -182,8 +182,8 @@ where
 
     #[inline(always)]
     fn process<OM: OutputMode>(&mut self, input: I) -> PResult<I, T, E> {
-        let behind = behind_sign(input, self.signed);
-        match number_at::<I, T>(behind.digits, behind.negative) {
+        let after = after_sign(input, self.signed);
+        match number_at::<I, T>(after.digits, after.negative) {
             None => Err(refusal::<OM::Error, I, E>(input, ErrorKind::Digit)),
             Some(number) if !number.followed && OM::Incomplete::STREAMING => {
                 Err(Err::Incomplete(Needed::new(1)))
@@ -192,7 +192,7 @@ where
                 Err(refusal::<OM::Error, I, E>(input, ErrorKind::Digit))
             }
             Some(number) => Ok((
-                behind.digits.take_from(number.length),
+                after.digits.take_from(number.length),
                 built::<OM::Output, T>(number.value),
             )),
         }

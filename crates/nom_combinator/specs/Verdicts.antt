@@ -90,21 +90,21 @@ not_case Own Grows = record {
 abbrev pub not_meaning : {I P E : Type 0} → (I → E → Type 0) → Type 0 → Meaning I P E → Meaning I (Unit {0}) E
 not_meaning Own Grows = case_meaning (not_case Own Grows)
 
--- want of more becomes a refusal
+-- a need for more becomes a refusal
 abbrev pub complete_outcome : {P : Type 0} → Outcome P → Outcome P
 complete_outcome (Accept n v) = Accept n v
 complete_outcome Refuse = Refuse
 complete_outcome (Stop (Fails cause)) = Stop (Fails cause)
 complete_outcome (Stop (Needs k)) = Refuse
 
--- want of more
+-- a need for more
 abbrev pub IsWant : {P : Type 0} → Outcome P → Type 0
 IsWant (Accept n v) = ⊥
 IsWant Refuse = ⊥
 IsWant (Stop (Fails cause)) = ⊥
 IsWant (Stop (Needs k)) = Unit {0}
 
--- A part that runs as on a complete input, where want of more is refused all the same. The error of that is made at the start,
+-- A part that runs as on a complete input, where a need for more is refused all the same. The error of that is made at the start,
 -- which may take memory where errors are built; any other is the part's.
 abbrev pub complete_case : {I P E : Type 0} → (I → E → Type 0) → Type 0 → Case I I P P E E
 complete_case Own Grows = record {

@@ -52,7 +52,7 @@ pub fn peek<F>(parser: F) -> Peek<F>
 }
 
 /// Accepts nothing where a parser refuses, and refuses with `Not` at the start where it accepts. Its
-/// failures stay, and so does its want of more input.
+/// failures stay, and so does its need for more input.
 #[inline(always)]
 pub fn not<F>(parser: F) -> Not<F>
     ensures { result.parser ≡ parser }

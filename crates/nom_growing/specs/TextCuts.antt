@@ -7,7 +7,7 @@ use Rattle.std.proofs.lemmas.List.{take-append-drop}
 use Rattle.nom_internal.specs.Prelude.{items_len, IsBoundary, text_model}
 use Rattle.nom_growing.specs.Growing.{AreCuts}
 
--- each number of a list is the length of so many first characters
+-- each number of a list is the length of that many first characters
 abbrev pub AreLengths : (characters cuts : List ℕ) → Type 0
 AreLengths cs [] = Unit {0}
 AreLengths cs (x ∷ xs) = ((count : ℕ) × (items_len len_utf8 (take count cs) ≡ x)) × AreLengths cs xs

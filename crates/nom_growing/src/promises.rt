@@ -13,8 +13,8 @@ pub fn stays_on_longer<I: Items, P: StreamParser<I>>(_parser: &P)
 
 /// Of two answers of `parse`, the second on an input that extends the first's: an acceptance stays one,
 /// of one length and, where the parser pins, with an output equal as viewed; a refusal stays one; and so does a
-/// failure, unless it is one that what is lacking is too large, as `has_no_failure` can rule out. Want of
-/// memory aside.
+/// failure, unless it is one that what is lacking is too large, as `has_no_failure` can rule out.
+/// `OutOfMemory` aside.
 pub fn answers_stay<I: Items, P: StreamParser<I>>(_parser: &P)
     requires { (P.meaning (P.state _parser.now)).IsSound }
     ensures { AnswersStay I.model P.Output.view (P.Pins _parser.now) (P.IsOutput (P.state _parser.now)) (P.meaning (P.state _parser.now)) }

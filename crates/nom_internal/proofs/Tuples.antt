@@ -14,13 +14,13 @@ on_accepted Next before j x r h k = rw h k
 
 -- a member's answer, with its output after others
 module _ {I A V T O E : Type 0} (w : Model I A) (IsOutput : V → O → Type 0) (m : Meaning I V E) (mode : Modes) (j : I) (t : T) where
-  abbrev Behind : PResult I (T × O) E → Type 0
-  Behind r = ShowsAnswer w (λ v o. (o.0 ≡ t) × IsOutput v o.1) (with_outputs true mode) j (m.answers mode.streaming j) (m.blames mode.streaming j)
+  abbrev After : PResult I (T × O) E → Type 0
+  After r = ShowsAnswer w (λ v o. (o.0 ≡ t) × IsOutput v o.1) (with_outputs true mode) j (m.answers mode.streaming j) (m.blames mode.streaming j)
       (m.may_run_out (with_outputs true mode) j) r
 
   pub paired_shown : (answer : PResult I O E)
       (r : PResult I (T × O) E) → ShowsMeaning w IsOutput m (with_outputs true mode) j answer →
-      OnAccepted (IsPaired t) answer r → Behind r
+      OnAccepted (IsPaired t) answer r → After r
   paired_shown answer r (RanOut e h) g = RanOut (rw e at g) h
   paired_shown answer r (Shown (Accept n v) a h) g =
       let q = rw h.4 at g in
@@ -37,19 +37,19 @@ pub record MembersShown {I A V O E : Type 0} (w : Model I A) (IsOutput : V → O
 -- one more member, after those before it
 module _ {I A P Q O R E : Type 0} (w : Model I A) (l : InputLaws w) (IsBefore : P → O → Type 0) (a : Meaning I P E) (IsLast : Q → R → Type 0)
     (b : Meaning I Q E) (mode : Modes) (i : I) where
-  behind_as : (u : P) (t : O) (j : I) → IsBefore u t → (r : PResult I (O × R) E) → Behind w IsLast b mode j t r →
+  after_as : (u : P) (t : O) (j : I) → IsBefore u t → (r : PResult I (O × R) E) → After w IsLast b mode j t r →
       ShowsAnswer w (λ v. PairOutput IsBefore IsLast (u, v)) (with_outputs true mode) j (b.answers mode.streaming j) (b.blames mode.streaming j)
       (b.may_run_out (with_outputs true mode) j) r
-  behind_as u t j p r (RanOut e h) = RanOut e h
-  behind_as u t j p r (Shown (Accept n v) a h) =
+  after_as u t j p r (RanOut e h) = RanOut e h
+  after_as u t j p r (Shown (Accept n v) a h) =
       Shown (Accept n v) a (h.0, h.1, h.2, built_error true _ _ h.1 (λ o q. (subst (λ x. IsBefore u x) (sym q.0) p, q.1)) h.3, h.4)
-  behind_as u t j p r (Shown Refuse a h) = Shown Refuse a h
-  behind_as u t j p r (Shown (Stop why) a h) = Shown (Stop why) a h
+  after_as u t j p r (Shown Refuse a h) = Shown Refuse a h
+  after_as u t j p r (Shown (Stop why) a h) = Shown (Stop why) a h
 
   member_shown : (before : PResult I O E) (r : PResult I (O × R) E) →
       ShowsMeaning w IsBefore a (with_outputs true mode) i before → OnAccepted (ShowsMember w IsLast b mode) before r →
       ShowsMeaning w (PairOutput IsBefore IsLast) (pair_meaning w a b) (with_outputs true mode) i r
-  member_shown (Ok (j, x)) r h g = then_ok l h (λ u d. behind_as u d.0 j d.2 r (g d.0 d.1))
+  member_shown (Ok (j, x)) r h g = then_ok l h (λ u d. after_as u d.0 j d.2 r (g d.0 d.1))
   member_shown (Err f) r h g = rw g (then_err l {r = Err f} h (refl, refl))
 
 pub and_member : {I A P Q O R E : Type 0} {w : Model I A} (l : InputLaws w) {IsBefore : P → O → Type 0} {a : Meaning I P E} {mode : Modes} {i : I}

@@ -10,7 +10,7 @@ use Rattle.nom_bytes_escaped.specs.declared.next_piece.Piece.{Piece}
 use Rattle.nom_bytes_escaped.specs.declared.next_piece.Piece.TheVariants.{Normal, Escapable}
 use Rattle.nom_bytes_escaped.specs.declared.next_piece.NextPiece.{NextPiece}
 use Rattle.nom_bytes_escaped.specs.declared.next_piece.NextPiece.TheVariants.{Found, Other, Dangling, Done}
-use Rattle.nom_bytes_escaped.specs.NextPieces.{BehindControl, by_control, by_left, control_leaf, escape_meaning, left_leaf, look, piece_meaning}
+use Rattle.nom_bytes_escaped.specs.NextPieces.{AfterControl, by_control, by_left, control_leaf, escape_meaning, left_leaf, look, piece_meaning}
 use Rattle.nom_bytes_escaped.specs.NextPieces.{next_piece_meaning}
 use Rattle.nom_bytes_escaped.specs.laws.NextPieceLaws.{next_piece_lawful}
 use Rattle.nom_bytes_escaped.specs.Escapes.{by_next_piece, escape_turn, OnReplied, OnNextPiece, escaped_transform_meaning}
@@ -46,7 +46,7 @@ module _ {I A U W E : Type 0} (w : Model I A) (l : InputLaws w) (IsControl : A �
     (p : IsLawful w m) (s : Bool) where
   -- a piece stands at i
   abbrev pub HasPiece : I → Type 0
-  HasPiece i = IsAccepted (m.answers s) i ⊎ (m.answers s i Refuse × BehindControl w IsControl (IsAccepted (g.answers s)) i)
+  HasPiece i = IsAccepted (m.answers s) i ⊎ (m.answers s i Refuse × AfterControl w IsControl (IsAccepted (g.answers s)) i)
 
   found_other : (v : Piece U W) → ◌≡◌ {A = NextPiece (Piece U W)} (Found v) Other → ⊥
   found_other v e = absurd (cc (e))
@@ -59,21 +59,21 @@ module _ {I A U W E : Type 0} (w : Model I A) (l : InputLaws w) (IsControl : A �
 
   -- after the control character
   escaped_at : (i : I) (n : ℕ) (v : Piece U W) → (escape_meaning {U = U} w IsControl lack g).answers s i (Accept n (Found v)) →
-      BehindControl w IsControl (IsAccepted (g.answers s)) i
+      AfterControl w IsControl (IsAccepted (g.answers s)) i
   escaped_at i n v a = by a.first a.answered a.goes_on
     where
-      behind : (k : ℕ) (c : Control (Unit {0})) → (look {E = E} (control_leaf w IsControl lack)).answers s i (Accept k c) → (j : I) → IsSuffixOf w i k j →
+      piece_after : (k : ℕ) (c : Control (Unit {0})) → (look {E = E} (control_leaf w IsControl lack)).answers s i (Accept k c) → (j : I) → IsSuffixOf w i k j →
           (o : Outcome (NextPiece (Piece U W))) → (by_control {U = U} g c).answers s j o → Accept n (Found v) ≡ after k (λ t. t) o →
-          BehindControl w IsControl (IsAccepted (g.answers s)) i
-      behind k Control.None b j r o x e =
+          AfterControl w IsControl (IsAccepted (g.answers s)) i
+      piece_after k Control.None b j r o x e =
           let f = after_accept k n (Found v) (λ t. t) o e in
           let y = subst (λ z. (by_control {U = U} g Control.None).answers s j z) f.2 x in
           absurd (found_other v (f.3 ∙ y.1))
-      behind k Control.Last b j r o x e =
+      piece_after k Control.Last b j r o x e =
           let f = after_accept k n (Found v) (λ t. t) o e in
           let y = subst (λ z. (by_control {U = U} g Control.Last).answers s j z) f.2 x in
           absurd (found_dangling v (f.3 ∙ y.1))
-      behind k (Control.Before u) b j r o x e =
+      piece_after k (Control.Before u) b j r o x e =
           let f = after_accept k n (Found v) (λ t. t) o e in
           let c = accept_of f.0 f.1 (λ z. Found (Escapable z)) x.outcome (sym f.2 ∙ x.fact) in
           record {
@@ -89,8 +89,8 @@ module _ {I A U W E : Type 0} (w : Model I A) (l : InputLaws w) (IsControl : A �
 
       by : (first : Outcome (Control (Unit {0}))) → (look {E = E} (control_leaf w IsControl lack)).answers s i first →
           GoesOn w (λ _ t. t) (λ c. (by_control {U = U} g c).answers s) i first (Accept n (Found v)) →
-          BehindControl w IsControl (IsAccepted (g.answers s)) i
-      by (Accept k c) b x = behind k c b x.0 x.2 x.1 x.3 x.4
+          AfterControl w IsControl (IsAccepted (g.answers s)) i
+      by (Accept k c) b x = piece_after k c b x.0 x.2 x.1 x.3 x.4
       by Refuse b x = absurd (cc (x))
       by (Stop why) b x = absurd (cc (x))
 

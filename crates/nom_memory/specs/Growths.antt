@@ -4,7 +4,7 @@
 -- accepted: so memory runs out only where outputs are built, and a first item or piece is accepted.
 use Rattle.std.specs.Prelude.{◌≡◌, ℕ, Bool, true, ◌⊎◌}
 use Rattle.nom_internal.specs.Prelude.{Errors, Modes, Model, Outcome, Accept, Refuse, Meaning, OnRest}
-use Rattle.nom_bytes_escaped.specs.NextPieces.{BehindControl}
+use Rattle.nom_bytes_escaped.specs.NextPieces.{AfterControl}
 
 -- frugal, whatever is built, in both modes
 abbrev pub AlwaysFrugal : {I V E : Type 0} → Meaning I V E → Type 0
@@ -41,4 +41,4 @@ GrowsByCounted w errs length m whole =
 abbrev pub GrowsByPieces : {I A P V T E : Type 0} → Model I A → (A → Type 0) → Errors I E → Meaning I P E → Meaning I V E → Meaning I T E → Type 0
 GrowsByPieces w IsControl errs m g whole =
     GrowsWhere w errs (AlwaysFrugal m × AlwaysFrugal g)
-    (λ s i. IsAccepted (m.answers s) i ⊎ (m.answers s i Refuse × BehindControl w IsControl (IsAccepted (g.answers s)) i)) whole
+    (λ s i. IsAccepted (m.answers s) i ⊎ (m.answers s i Refuse × AfterControl w IsControl (IsAccepted (g.answers s)) i)) whole

@@ -42,7 +42,7 @@ module _ {R A V : Type 0} (left : R → Option (List ℕ)) (IsItem : V → Recei
         ),
       )
 
-  -- so many messages came, and of their lines all but the text was written
+  -- that many messages came, and of their lines all but the text was written
   pub record Going (s t : Stream R A) (held held' : Option (List ℕ)) (text : List ℕ) (count : ℕ) : Type 0 where
     pub written : List ℕ
     pub wrote : Appends held held' written

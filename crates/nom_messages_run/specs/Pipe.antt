@@ -60,7 +60,7 @@ module _ {R A V : Type 0} (left : R → Option (List ℕ)) (IsItem : V → Recei
       ((rest : List ℕ) × (text ≡ received_text message (last_of n u.held) ++ rest) × Lines rs u t rest)
 
   module _ (s t : Stream R A) (text : List ℕ) where
-    -- so many messages came, and these are their lines
+    -- that many messages came, and these are their lines
     pub record Lists (count : ℕ) : Type 0 where
       pub messages : List (ℕ × Received)
       pub lines : Lines messages s t text
@@ -77,7 +77,7 @@ module _ {R A V : Type 0} (left : R → Option (List ℕ)) (IsItem : V → Recei
       pub text_is : text ≡ lines ++ ending_text why t.offset
       pub status_is : status ≡ ending_status why
 
-  -- What was written: the lines and the last line; the lines of so many messages; or a beginning of either.
+  -- What was written: the lines and the last line; the lines of that many messages; or a beginning of either.
   module _ (s t : Stream R A) (held held' : Option (List ℕ)) where
     abbrev pub WroteAll : (status : ℕ) → Type 0
     WroteAll status = (text : List ℕ) × Ends s t text status × Appends held held' text

@@ -17,7 +17,7 @@ use Rattle.nom_repeat.specs.Repeat.{TurnsBy}
 use Rattle.nom_repeat.specs.Repeat.Turn.{Takes, Ends}
 use Rattle.nom_repeat.proofs.Accumulating.{zip_push}
 use Rattle.nom_repeat.proofs.Parts.{part_refused, part_refusal, part_failed, part_lacks, part_ran_out}
-use Rattle.nom_repeat.proofs.Repeated.{Collected, collected_more, ended_behind, refused, failed, lacking, ran_out, ran_out_within}
+use Rattle.nom_repeat.proofs.Repeated.{Collected, collected_more, ended_after, refused, failed, lacking, ran_out, ran_out_within}
 use Rattle.nom_multi.specs.Till.{end_or_item, step_turn, till_turn, OnItem, till_rule, many_till_meaning, with_end, IsStep}
 use Rattle.nom_multi.specs.declared.till.Step.{Step}
 use Rattle.nom_multi.specs.declared.till.Step.TheVariants.{End, Item}
@@ -117,7 +117,7 @@ module _ {I A T V O E : Type 0} {w : Model I A} (errs : Errors I E) (m : Meaning
   pub till_ended : InputLaws w → {n : ℕ} {u : T ⊎ V} (t : T) → (end_or_item end m).answers mode.streaming j (Accept n u) → u ≡ inl t → {h : I} →
       IsSuffixOf w j n h → (x : Option O) → Built mode.outputs (IsOutput (c.trees, t)) x → ShowsTill w errs m end IsOutput mode i (Ok (h, x))
   till_ended l {n} {u} t a is q x z =
-      ended_behind (till_rule errs) with_end (always (end_or_item end m)) c (Some (Accept n (inl t)))
+      ended_after (till_rule errs) with_end (always (end_or_item end m)) c (Some (Accept n (inl t)))
       (tt, subst (λ y. (end_or_item end m).answers mode.streaming j (Accept n y)) is a) l n t q refl z
 
   pub till_stuck : {n : ℕ} {u : T ⊎ V} (v : V) → (end_or_item end m).answers mode.streaming j (Accept n u) → u ≡ inr v → n ≡ 0 →

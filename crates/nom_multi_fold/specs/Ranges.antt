@@ -9,7 +9,7 @@ use Rattle.nom_multi_fold.specs.Unfit.{unfit}
 use Rattle.nom_repeat.specs.Bounds.{bounded_limits}
 
 -- The items that a range with these two ends allows. Before as many as it allows at most, a count is outside the range just
--- where it is below the fewest. With no second end, so many are taken as a `usize` can count.
+-- where it is below the fewest. With no second end, as many are taken as a `usize` can count.
 abbrev pub range_limits : ErrorKind → Bound ℕ → Bound ℕ → Limits
 range_limits kind lower upper = bounded_limits kind (fewest lower) (limit (most_items upper))
 

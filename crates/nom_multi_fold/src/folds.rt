@@ -128,13 +128,13 @@ impl<I: Input, F: Parser<I> + Drop, R: Drop, H: Fn() -> R, G: Fn(R, F::Output) -
             at_start: false,
             empty: Some(ErrorKind::Many1),
         };
-        let (behind, last) = items::<OM, Check, I, F, Folded<R, G>>(
+        let (after, last) = items::<OM, Check, I, F, Folded<R, G>>(
             &mut self.parser,
             rest,
             first,
             any,
         )?;
-        Ok((behind, carried(last)))
+        Ok((after, carried(last)))
     }
 
     ghost lawful = { λ s k. fold_many1_lawful I.lawful F.Error.errors (F.lawful s.0 (k.0).0) };

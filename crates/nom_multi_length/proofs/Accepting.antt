@@ -15,18 +15,18 @@ module _ {I A P V E : Type 0} (w : Model I A) (errs : Errors I E) (IsCount : P �
       forward : (length_count_meaning w errs IsCount a m).answers s i (Accept n vs) → CountedItems w (a.answers s) IsCount (m.answers s) i n vs
       forward t =
           let f = first_accepts w (λ u us. us) (a.answers s) (λ u. ((of_value IsCount (items_by_count w errs m)).at u).answers s) i n vs t in
-          let behind = f.7 in
+          let after = f.7 in
           record {
             first_length = f.0;
             tree = f.2;
-            count = behind.value;
+            count = after.value;
             rest = f.3;
             items_length = f.1;
             accepted = f.5;
-            count_is = behind.is_value;
+            count_is = after.is_value;
             rest_is = f.6;
-            items = subst (λ us. InTurn w (m.answers s) (λ _. Unit {0}) behind.value (Some behind.value) f.3 f.1 us) (sym f.9)
-                (accepted_in_turn w errs (exact_limits behind.value) (Unit {0}) m s f.3 f.1 f.4 behind.fact);
+            items = subst (λ us. InTurn w (m.answers s) (λ _. Unit {0}) after.value (Some after.value) f.3 f.1 us) (sym f.9)
+                (accepted_in_turn w errs (exact_limits after.value) (Unit {0}) m s f.3 f.1 f.4 after.fact);
             length_is = f.8;
           }
 

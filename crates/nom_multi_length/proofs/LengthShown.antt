@@ -4,7 +4,7 @@ use Rattle.nom_internal.specs.Prelude.{PResult, Modes, with_outputs, Model, Inpu
 use Rattle.nom_internal.specs.Prelude.{Shown, Meaning, ShowsMeaning, Family, OfValue}
 use Rattle.nom_internal.proofs.Choices.{built_fact}
 use Rattle.nom_internal.proofs.Shown.{then_ok, built_error}
-use Rattle.nom_multi_length.specs.Lengths.{HasSize, behind_length}
+use Rattle.nom_multi_length.specs.Lengths.{HasSize, after_length}
 
 -- what is shown by the number that a length stands for
 module _ {I A V O E : Type 0} (w : Model I A) (IsOutput : V → O → Type 0) (mode : Modes) (i : I) (IsLength : ℕ → Type 0) (n : ℕ) (h : IsLength n) where
@@ -24,11 +24,11 @@ module _ {I A V O E : Type 0} (w : Model I A) (IsOutput : V → O → Type 0) (m
 -- a length is read, and what is meant by its number is shown on the rest
 module _ {I A P Q T X Y E : Type 0} (w : Model I A) (l : InputLaws w) (tree : P → Q → T) (IsFirst : P → X → Type 0) (size : X → ℕ)
     (IsResult : T → Y → Type 0) (a : Meaning I P E) (f : Family ℕ I Q E) (mode : Modes) (i : I) where
-  pub behind_ok : (j : I) (x : Option X) (o : X) (n : ℕ) (r : PResult I Y E) →
+  pub after_ok : (j : I) (x : Option X) (o : X) (n : ℕ) (r : PResult I Y E) →
       ShowsMeaning w IsFirst a (with_outputs true mode) i (Ok (j, x)) → x ≡ Some o → n ≡ size o →
       ((u : P) → ShowsMeaning w (λ q. IsResult (tree u q)) (f.at n) mode j r) →
-      ShowsMeaning w IsResult (behind_length w tree (HasSize IsFirst size) a f) mode i r
-  behind_ok j x o n r h q e t =
+      ShowsMeaning w IsResult (after_length w tree (HasSize IsFirst size) a f) mode i r
+  after_ok j x o n r h q e t =
       then_ok l h (λ u b.
       length_shown w (λ v. IsResult (tree u v)) mode j (HasSize IsFirst size u) n
       (record { output = o; is_output = built_fact true (IsFirst u) x o b q; size_is = sym e })

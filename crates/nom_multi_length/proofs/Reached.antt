@@ -5,14 +5,14 @@ use Rattle.nom_internal.specs.laws.CaseLaws.{no_place}
 
 module _ {A : Type 0} (item_len : A → ℕ) (pos : (a : A) → 0 < item_len a) where
   -- what a longer front holds after a front
-  front_behind : (f r g h : List A) (m : ℕ) → f ++ r ≡ g ++ h → items_len item_len g ≡ items_len item_len f + m → (k : List A) × (r ≡ k ++ h) ×
+  front_after : (f r g h : List A) (m : ℕ) → f ++ r ≡ g ++ h → items_len item_len g ≡ items_len item_len f + m → (k : List A) × (r ≡ k ++ h) ×
       (items_len item_len k ≡ m)
-  front_behind [] r g h m e s = (g, e, omega (arith, s))
-  front_behind (x ∷ f) r [] h m e s = absurd (omega (arith, s, pos x))
-  front_behind (x ∷ f) r (y ∷ g) h m e s =
+  front_after [] r g h m e s = (g, e, omega (arith, s))
+  front_after (x ∷ f) r [] h m e s = absurd (omega (arith, s, pos x))
+  front_after (x ∷ f) r (y ∷ g) h m e s =
       let heads : x ≡ y = cc in
       let tails : f ++ r ≡ g ++ h = cc in
-      front_behind f r g h m tails (omega (arith, s, ap item_len heads))
+      front_after f r g h m tails (omega (arith, s, ap item_len heads))
 
   -- no front ends inside the first item
   none_inside : (f r g h : List A) → length f ≡ 1 → f ++ r ≡ g ++ h → 0 < items_len item_len g → items_len item_len g < items_len item_len f → ⊥
@@ -56,7 +56,7 @@ module _ {I A : Type 0} {w : Model I A} (l : InputLaws w) {i j : I} {n m : ℕ} 
     back = λ p. h.back (subst (λ z. IsBoundary w j z) (sym e) (place_more w j k x d r p));
     forth = λ p.
         let q = h.forth p in
-        let c = front_behind w.item_len l.positive r.front (w.elements x) q.front q.rest d (sym r.whole ∙ q.whole)
+        let c = front_after w.item_len l.positive r.front (w.elements x) q.front q.rest d (sym r.whole ∙ q.whole)
         (omega (arith, q.length_is, r.length_is, e)) in
         record { front = c.0; rest = q.rest; whole = c.1; length_is = c.2 };
   }

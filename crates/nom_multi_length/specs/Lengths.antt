@@ -13,8 +13,8 @@ pub record HasSize {P O : Type 0} (IsOutput : P → O → Type 0) (size : O → 
 
 -- A length, and after it what is meant by its number. What the tree of the length stands for is told by its output, so the
 -- length is built in every mode.
-abbrev pub behind_length : {I A P Q T E : Type 0} → (w : Model I A) → (P → Q → T) → (P → ℕ → Type 0) → Meaning I P E → Family ℕ I Q E → Meaning I T E
-behind_length w tree IsLength a f = then_meaning w tree (with_outputs true) (λ o. o) a (of_value IsLength f)
+abbrev pub after_length : {I A P Q T E : Type 0} → (w : Model I A) → (P → Q → T) → (P → ℕ → Type 0) → Meaning I P E → Family ℕ I Q E → Meaning I T E
+after_length w tree IsLength a f = then_meaning w tree (with_outputs true) (λ o. o) a (of_value IsLength f)
 
 -- `take` of each number of items
 abbrev pub takes_by_count : {I A E : Type 0} → (w : Model I A) → Errors I E → (ℕ → List A → Option ℕ) → Family ℕ I (Slice w) E
@@ -29,7 +29,7 @@ takes_by_count w errs lack = record {
 -- a length, and after it that many items, as `take` takes them
 abbrev pub length_data_meaning : {I A P E : Type 0} → (w : Model I A) → Errors I E → (ℕ → List A → Option ℕ) → (P → ℕ → Type 0) → Meaning I P E →
     Meaning I (P × Slice w) E
-length_data_meaning w errs lack IsLength a = behind_length w (λ u t. (u, t)) IsLength a (takes_by_count w errs lack)
+length_data_meaning w errs lack IsLength a = after_length w (λ u t. (u, t)) IsLength a (takes_by_count w errs lack)
 
 -- the items of a part, by their number: a list, which grows by each where outputs are built
 abbrev pub items_by_count : {I A V E : Type 0} → (w : Model I A) → Errors I E → Meaning I V E → Family ℕ I (List V) E
@@ -43,4 +43,4 @@ items_by_count w errs m = record {
 
 -- A length, and after it exactly that many items, which may be empty. Where one is refused, the kind is added after the length.
 abbrev pub length_count_meaning : {I A P V E : Type 0} → (w : Model I A) → Errors I E → (P → ℕ → Type 0) → Meaning I P E → Meaning I V E → Meaning I (List V) E
-length_count_meaning w errs IsLength a m = behind_length w (λ u vs. vs) IsLength a (items_by_count w errs m)
+length_count_meaning w errs IsLength a m = after_length w (λ u vs. vs) IsLength a (items_by_count w errs m)

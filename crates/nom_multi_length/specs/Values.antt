@@ -1,11 +1,11 @@
--- A value after a length, on exactly so much of the input.
+-- A value after a length, on exactly that much of the input.
 use Rattle.std.specs.Prelude.{◌≡◌, ℕ, ◌-◌, ◌<◌, ◌≤◌, Bool, true, ◌⊎◌, Option, Some, Result, Ok, Err}
 use Rattle.nom_internal.specs.Prelude.{Errors, Refuses, Needed, Incomplete, Error, Failure, OutOfMemory, Model, IsBoundary, input_len, Slice, IsFirst}
 use Rattle.nom_internal.specs.Prelude.{IsModelledBy, Outcome, Accept, Refuse, Stop, Fails, Needs, Meaning, fixed_meaning, Family, Leaf, leaf_meaning}
 use Rattle.nom_error.specs.declared.answer.Err as Answer
 use Rattle.nom_error.specs.declared.kind.ErrorKind.TheVariants as Kind
 use Rattle.nom_internal.specs.Bounded.{and_then_meaning}
-use Rattle.nom_multi_length.specs.Lengths.{behind_length}
+use Rattle.nom_multi_length.specs.Lengths.{after_length}
 
 -- the first items, of the length n together; a refusal, where that is no place; and what is lacking is needed
 abbrev pub cuts : {I A : Type 0} (w : Model I A) → ℕ → Leaf I (Slice w)
@@ -33,7 +33,7 @@ SettledBlames Own Part Refuse e = Part e
 SettledBlames Own Part (Stop (Fails cause)) e = Part e
 SettledBlames Own Part (Stop (Needs k)) e = Own e
 
--- A part on all that there is, in the mode that is asked for. What it refuses for want of more where more may come, it may
+-- A part on all that there is, in the mode that is asked for. What it refuses since more is missing, where more may come, it may
 -- accept in the complete mode: so it doesn't settle.
 abbrev pub settled_meaning : {I V E : Type 0} → Errors I E → Meaning I V E → Meaning I V E
 settled_meaning {V = V} errs m = record {
@@ -65,6 +65,6 @@ values_by_length w errs m = record {
   NeverFails = m.NeverFails;
 }
 
--- a length, and after it a part on exactly so much
+-- a length, and after it a part on exactly that much
 abbrev pub length_value_meaning : {I A P V E : Type 0} → (w : Model I A) → Errors I E → (P → ℕ → Type 0) → Meaning I P E → Meaning I V E → Meaning I V E
-length_value_meaning w errs IsLength a m = behind_length w (λ u t. t) IsLength a (values_by_length w errs m)
+length_value_meaning w errs IsLength a m = after_length w (λ u t. t) IsLength a (values_by_length w errs m)

@@ -50,7 +50,7 @@ pub fn length_count<A: Allocator + Copy, F, G>(
     }
 }
 
-/// A length, as `length` reads it, and `parser` on exactly so much of the input after it. The length is
+/// A length, as `length` reads it, and `parser` on exactly that much of the input after it. The length is
 /// in the units of `input_len`: bytes, of a byte slice and of a text. The output is that of `parser`,
 /// whatever it leaves of those bytes, and the rest stands after them.
 ///

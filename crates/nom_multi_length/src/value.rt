@@ -15,7 +15,7 @@ use nom_traits::convert::ToUsize;
 use nom_traits::input::{Input, Items};
 use nom_traits::view::Viewed;
 
-/// A length and a parser on exactly so much of the input after it, made by `length_value`.
+/// A length and a parser on exactly that much of the input after it, made by `length_value`.
 #[derive(Drop)]
 pub struct LengthValue<F, G> {
     pub length: F,

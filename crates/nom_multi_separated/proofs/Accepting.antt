@@ -33,7 +33,7 @@ module _ {I A P V E : Type 0} (w : Model I A) (errs : Errors I E) (separator : M
       inl (none.0, omega (arith, e, none.1, f.0), g ∙ f.1)
   more_items s i j n a c (u ∷ us) xs vs h r f e g =
       let one = optional_item i a s u us h in
-      let behind : us ++ xs ≡ xs = ap (λ z. z ++ xs) one.0 in
+      let after : us ++ xs ≡ xs = ap (λ z. z ++ xs) one.0 in
       inr (record {
         first_length = a;
         tree = u;
@@ -44,7 +44,7 @@ module _ {I A P V E : Type 0} (w : Model I A) (errs : Errors I E) (separator : M
         rest_is = r;
         more = accepted_in_turn w errs (any_limits Kind.SeparatedList) (Unit {0}) (preceded_meaning w separator m) s j c xs f;
         length_is = e;
-        trees_are = g ∙ ap (λ z. u ∷ z) behind;
+        trees_are = g ∙ ap (λ z. u ∷ z) after;
       })
 
   pub separated0_accepts_more : InputLaws w → AcceptsNoneOrMore w m (preceded_meaning w separator m) (separated0_meaning w errs separator m)

@@ -40,7 +40,7 @@ pub lacking_is : (k : Needed) (n : ℕ) → (n ≡ 0 → k ≡ Unknown) → (0 <
 lacking_is k zero a b = ap size_of (a refl)
 lacking_is k (suc n) a b = b (omega arith)
 
--- what is taken of a count of items has so many
+-- what is taken of a count of items has that many
 pub taken_count : {I A : Type 0} (w : Model I A) → InputLaws w → (i : I) (count n : ℕ) (v : I) → IsCount w i count n → IsPrefixOf w i n v →
     length (w.elements v) ≡ count
 taken_count w l i count n v c f = ap length (front_seen w l i n v (place_slice w i n c.place) f (place_first w i n c.place)).elements_are ∙ c.count_is

@@ -44,8 +44,8 @@ module _ {A : Type 0} (code : A → ℕ) where
   kept_some x [] h = absurd (omega (arith, h))
   kept_some x (y ∷ xs) h = refl
 
-  some_behind : (xs : List A) (x : A) → 0 < length (xs ++ x ∷ [])
-  some_behind xs x = omega (arith, length-append xs (x ∷ []))
+  some_after : (xs : List A) (x : A) → 0 < length (xs ++ x ∷ [])
+  some_after xs x = omega (arith, length-append xs (x ∷ []))
 
   one_left : (b : Bool) (x : A) → b ≡ false → cond b [] (x ∷ []) ≡ x ∷ []
   one_left true x e = absurd (cc (e))
@@ -57,7 +57,7 @@ module _ {A : Type 0} (code : A → ℕ) where
 
   trimmed_more : (xs : List A) (x : A) → (code x == 48) ≡ false → trimmed code (xs ++ x ∷ []) ≡ xs ++ x ∷ []
   trimmed_more [] x e = one_left (code x == 48) x e
-  trimmed_more (y ∷ xs) x e = ap (kept_before code y) (trimmed_more xs x e) ∙ kept_some y (xs ++ x ∷ []) (some_behind xs x)
+  trimmed_more (y ∷ xs) x e = ap (kept_before code y) (trimmed_more xs x e) ∙ kept_some y (xs ++ x ∷ []) (some_after xs x)
 
   trimmed_zero : (xs : List A) (x : A) → (code x == 48) ≡ true → trimmed code (xs ++ x ∷ []) ≡ trimmed code xs
   trimmed_zero [] x e = none_left (code x == 48) x e
@@ -71,17 +71,17 @@ module _ {A : Type 0} (code : A → ℕ) where
   fraction_zero [] x h e = absurd (omega (arith, h))
   fraction_zero (y ∷ xs) x h e = ap (λ ys. y ∷ ys) (trimmed_zero xs x e)
 
-  behind_kept : (x : A) (xs ys rest : List A) → xs ≡ ys ++ rest → (more : List A) × (x ∷ xs ≡ kept_before code x ys ++ more)
-  behind_kept x xs [] rest e = by (code x == 48)
+  after_kept : (x : A) (xs ys rest : List A) → xs ≡ ys ++ rest → (more : List A) × (x ∷ xs ≡ kept_before code x ys ++ more)
+  after_kept x xs [] rest e = by (code x == 48)
     where
       by : (b : Bool) → (more : List A) × (x ∷ xs ≡ cond b [] (x ∷ []) ++ more)
       by true = (x ∷ xs, refl)
       by false = (xs, refl)
-  behind_kept x xs (y ∷ ys) rest e = (rest, ap (λ zs. x ∷ zs) e)
+  after_kept x xs (y ∷ ys) rest e = (rest, ap (λ zs. x ∷ zs) e)
 
   trimmed_whole : (xs : List A) → (rest : List A) × (xs ≡ trimmed code xs ++ rest)
   trimmed_whole [] = ([], refl)
-  trimmed_whole (x ∷ xs) = let r = trimmed_whole xs in behind_kept x xs (trimmed code xs) r.0 r.1
+  trimmed_whole (x ∷ xs) = let r = trimmed_whole xs in after_kept x xs (trimmed code xs) r.0 r.1
 
   pub fraction_whole : (xs : List A) → (rest : List A) × (xs ≡ fraction_of code xs ++ rest)
   fraction_whole [] = ([], refl)
@@ -100,7 +100,7 @@ pub record IsZeros {A S : Type 0} (item_len : A → ℕ) (code : A → ℕ) (ste
   pub before : IsPassed item_len steps xs place s
   pub zeros_are : zeros_of code xs ≡ before.passed ++ zeros_of code before.rest
 
--- of the items that were passed so many are kept
+-- of the items that were passed that many are kept
 pub record IsKept {A S : Type 0} (item_len : A → ℕ) (code : A → ℕ) (steps : S → Option A → S → Type 0) (xs : List A) (place kept : ℕ) (s : S) : Type 0 where
   pub before : IsPassed item_len steps xs place s
   pub kept_is : kept ≡ items_len item_len (fraction_of code before.passed)
@@ -162,9 +162,9 @@ module _ {A S : Type 0} (item_len : A → ℕ) (positive : (a : A) → 0 < item_
         pub zeros_stopped : (code x ≡ 48 → ⊥) → place ≡ items_len item_len (zeros_of code xs)
         zeros_stopped h = zeros_here (zeros_stop code x (next place s t z.before x k).0 (no_zero (code x) h))
 
-        none_behind : (ys : List A) → items_len item_len ys ≡ 0 → ys ≡ []
-        none_behind [] e = refl
-        none_behind (y ∷ ys) e = absurd (omega (arith, e, positive y))
+        none_after : (ys : List A) → items_len item_len ys ≡ 0 → ys ≡ []
+        none_after [] e = refl
+        none_after (y ∷ ys) e = absurd (omega (arith, e, positive y))
 
         some_there : (ys : List A) → (items_len item_len ys ≡ 0 → ⊥) → 0 < length ys
         some_there [] h = absurd (h refl)
@@ -172,7 +172,7 @@ module _ {A S : Type 0} (item_len : A → ℕ) (positive : (a : A) → 0 < item_
 
         pub zeros_last : (m : ℕ) → m ≡ item_len x → place + m ≡ items_len item_len xs → place ≡ items_len item_len (zeros_of code xs)
         zeros_last m e h =
-            let none = none_behind (next place s t z.before x k).0 (omega (arith, h, length_next place s t z.before x k m e)) in
+            let none = none_after (next place s t z.before x k).0 (omega (arith, h, length_next place s t z.before x k m e)) in
             zeros_here (ap (λ ys. zeros_of code (x ∷ ys)) none)
 
         pub zeros_more : (m : ℕ) → m ≡ item_len x → code x ≡ 48 → (place + m ≡ items_len item_len xs → ⊥) → IsZeros item_len code steps xs (place + m) t

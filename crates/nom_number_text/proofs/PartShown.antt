@@ -3,7 +3,7 @@ use Rattle.std.proofs.Common.{◌≡◌, ℕ, Bool, true, false, Option, Some, N
 use Rattle.std.specs.Prelude.{◌⊎◌, ℤ}
 use Rattle.nom_internal.specs.Prelude.{Built, Model, Slice, IsModelledBy, EitherOutput}
 use Rattle.nom_combinator.specs.Verdicts.{OptOutput}
-use Rattle.nom_number_text.specs.Parts.{Both, before_of, behind_of, either_of, integer_slice, fraction_slice, is_plus, sign_read, power_read, IsParts, IsRaw}
+use Rattle.nom_number_text.specs.Parts.{Both, before_of, after_of, either_of, integer_slice, fraction_slice, is_plus, sign_read, power_read, IsParts, IsRaw}
 
 sign_same : (t : Option (ℕ ⊎ ℕ)) (o : Option ℕ) → OptOutput (EitherOutput (λ c x. x ≡ c) (λ c x. x ≡ c)) t o → is_plus o ≡ is_plus (sign_read t)
 sign_same None o h = ap is_plus h
@@ -20,7 +20,7 @@ module _ {I A : Type 0} (w : Model I A) where
   either_seen (inr t) x h = h
 
   both_seen : (t : Both w) (x : I × I) → EitherOutput (λ u x. IsModelledBy w u.0 x.0 × EitherOutput (IsModelledBy w) (IsModelledBy w) u.1 x.1)
-      (λ u x. IsModelledBy w u.0 x.0 × IsModelledBy w u.1 x.1) t x → IsModelledBy w (before_of w t) x.0 × IsModelledBy w (behind_of w t) x.1
+      (λ u x. IsModelledBy w u.0 x.0 × IsModelledBy w u.1 x.1) t x → IsModelledBy w (before_of w t) x.0 × IsModelledBy w (after_of w t) x.1
   both_seen (inl t) x h = (h.0, either_seen t.1 x.1 h.1)
   both_seen (inr t) x h = h
 
@@ -31,7 +31,7 @@ module _ {I A : Type 0} (w : Model I A) where
       (t : (Option (ℕ ⊎ ℕ) × Both w) × Option ℤ) → IsRaw w t o → IsParts w code t (plus, integer, fraction, number)
   parts_made code o plus integer fraction number p f g n t r =
       let both = both_seen t.0.1 o.0.1 r.0.1 in
-      (p ∙ sign_same t.0.0 o.0.0 r.0.0, f (before_of w t.0.1) both.0, g (behind_of w t.0.1) both.1, n ∙ power_same t.1 o.1 r.1)
+      (p ∙ sign_same t.0.0 o.0.0 r.0.0, f (before_of w t.0.1) both.0, g (after_of w t.0.1) both.1, n ∙ power_same t.1 o.1 r.1)
 
 -- an output in another form, where outputs are built
 pub some_built : {O X : Type 0} (IsRead : O → Type 0) (IsMade : X → Type 0) (built : Bool) (x : Option O) (o : O) (y : X) → x ≡ Some o →

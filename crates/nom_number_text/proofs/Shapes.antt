@@ -38,8 +38,8 @@ module _ {I A E : Type 0} (w : Model I A) (code : A → ℕ) (errs : Errors I E)
       let digits = digits_meaning w code errs in
       let whole = recognized_meaning w (pair_meaning w digits (opt_meaning (pair_meaning w (char_meaning w code errs s.point) (opt_meaning digits)))) in
       let part = recognized_meaning w (pair_meaning w (char_meaning w code errs s.first_point) digits) in
-      let behind = pair_meaning w (opt_meaning (either_char_meaning w code errs s.exponent_plus s.exponent_minus)) (cut_meaning digits) in
-      let exponent = recognized_meaning w (pair_meaning w (either_char_meaning w code errs s.small s.large) behind) in
+      let after = pair_meaning w (opt_meaning (either_char_meaning w code errs s.exponent_plus s.exponent_minus)) (cut_meaning digits) in
+      let exponent = recognized_meaning w (pair_meaning w (either_char_meaning w code errs s.small s.large) after) in
       recognized_meaning w (pair_meaning w (opt_meaning (either_char_meaning w code errs s.plus s.minus))
       (pair_meaning w (choice_meaning errs (next_meaning errs whole part)) (opt_meaning exponent)))
 
@@ -55,8 +55,8 @@ pub record PartWants : Type 0 where
   pub first_point : ℕ
   pub small : ℕ
   pub large : ℕ
-  pub behind_class : AsciiClass
-  pub behind_wanted : Option ErrorKind
+  pub after_class : AsciiClass
+  pub after_wanted : Option ErrorKind
   pub none_class : AsciiClass
   pub none_wanted : Option ErrorKind
   pub alone_class : AsciiClass
@@ -72,8 +72,8 @@ part_wants a b c d e f g h k l m n o =
       first_point = d;
       small = e;
       large = f;
-      behind_class = g;
-      behind_wanted = h;
+      after_class = g;
+      after_wanted = h;
       none_class = k;
       none_wanted =
           l;
@@ -89,12 +89,12 @@ module _ {I A E : Type 0} (w : Model I A) (code : A → ℕ) (errs : Errors I E)
   abbrev parts_of : PartWants → Meaning I ((Option (ℕ ⊎ ℕ) × Both w) × Option ℤ) E
   parts_of s =
       let digits = digits_meaning w code errs in
-      let behind = choice_meaning errs
-      (next_meaning errs (preceded_meaning w (char_meaning w code errs s.point) (class_meaning w code errs s.behind_class s.behind_wanted))
+      let after = choice_meaning errs
+      (next_meaning errs (preceded_meaning w (char_meaning w code errs s.point) (class_meaning w code errs s.after_class s.after_wanted))
       (class_meaning w code errs s.none_class s.none_wanted)) in
       let alone = pair_meaning w (class_meaning w code errs s.alone_class s.alone_wanted)
       (preceded_meaning w (char_meaning w code errs s.first_point) digits) in
-      let both = choice_meaning errs (next_meaning errs (pair_meaning w digits behind) alone) in
+      let both = choice_meaning errs (next_meaning errs (pair_meaning w digits after) alone) in
       let mantissa = as_float_meaning errs (pair_meaning w (opt_meaning (either_char_meaning w code errs s.plus s.minus)) both) in
       pair_meaning w mantissa (opt_meaning
       (preceded_meaning w (either_char_meaning w code errs s.small s.large) (cut_meaning (integer_meaning w code s.signed (λ z. FitsSigned w32 z) errs))))

@@ -12,7 +12,7 @@ use Rattle.nom_internal.proofs.Shown.{accepted, undecided, refused}
 use Rattle.nom_character_first.specs.FirstItem.{IsFirstItem}
 use Rattle.nom_character.specs.LineMatches.{Match, at_end, one_more}
 use Rattle.nom_character.specs.LineMatches.Match.{Full, Absent, Partial}
-use Rattle.nom_character.proofs.Lines.{behind_head, before_rest}
+use Rattle.nom_character.proofs.Lines.{after_head, before_rest}
 use Rattle.nom_number_text.specs.declared.word.WordAt.TheVariants as Found
 use Rattle.nom_number_text.specs.Words.{word_in, word_meaning, IsWordAt}
 
@@ -73,11 +73,11 @@ module _ {I A : Type 0} (w : Model I A) (code : A → ℕ) (word : List ℕ) (i 
       f.place,
       f.rest_is,
       λ s. f.word_is s ∙
-          (ap (λ cs. later k (word_in code cs s (w.elements j))) (drop_all k word h) ∙ ap Full (behind f.count_is)),
+          (ap (λ cs. later k (word_in code cs s (w.elements j))) (drop_all k word h) ∙ ap Full (after f.count_is)),
     )
       where
-        behind : length f.rest_is.front ≡ k → 0 + k ≡ length f.rest_is.front
-        behind e = omega (arith, e)
+        after : length f.rest_is.front ≡ k → 0 + k ≡ length f.rest_is.front
+        after e = omega (arith, e)
 
     module _ (c d : ℕ) (within : k < length word) (letter : c ≡ get_or word k d) where
       next_letter : drop k word ≡ c ∷ drop (k + 1) word
@@ -106,7 +106,7 @@ module _ {I A : Type 0} (w : Model I A) (code : A → ℕ) (word : List ℕ) (i 
         found_more l n m e rest same =
             let r = subst (λ z. IsSuffixOf w j z m) e rest in
             let both = rest_rest w l i f.place j (w.item_len x) m f.rest_is r in
-            let items = behind_head w l j m x p r in
+            let items = after_head w l j m x p r in
             let one : items_len w.item_len (x ∷ []) ≡ w.item_len x = omega arith in
             let letters = f.rest_is.front ++ x ∷ [] in
             let whole : w.elements i ≡ letters ++ w.elements m =

@@ -62,9 +62,9 @@ module _ {I A : Type 0} (w : Model I A) where
   either_of (inl t) = t
   either_of (inr t) = t
 
-  abbrev pub behind_of : Both → Slice w
-  behind_of (inl t) = either_of t.1
-  behind_of (inr t) = t.1
+  abbrev pub after_of : Both → Slice w
+  after_of (inl t) = either_of t.1
+  after_of (inr t) = t.1
 
 module _ {I A E : Type 0} (w : Model I A) (code : A → ℕ) (errs : Errors I E) where
   -- decimal digits, of which there may be none
@@ -72,13 +72,13 @@ module _ {I A E : Type 0} (w : Model I A) (code : A → ℕ) (errs : Errors I E)
   digits0_meaning = class_meaning w code errs Class.Digit None
 
   -- a point with the digits after it, or none, since none follow those before it
-  abbrev pub behind_meaning : Meaning I (Slice w ⊎ Slice w) E
-  behind_meaning = choice_meaning errs (next_meaning errs (preceded_meaning w (char_meaning w code errs 46) digits0_meaning) digits0_meaning)
+  abbrev pub after_meaning : Meaning I (Slice w ⊎ Slice w) E
+  after_meaning = choice_meaning errs (next_meaning errs (preceded_meaning w (char_meaning w code errs 46) digits0_meaning) digits0_meaning)
 
   -- digits before the point and after it: one at least before it, or else after it
   abbrev pub both_meaning : Meaning I (Both w) E
   both_meaning = choice_meaning errs
-      (next_meaning errs (pair_meaning w (digits_meaning w code errs) behind_meaning)
+      (next_meaning errs (pair_meaning w (digits_meaning w code errs) after_meaning)
       (pair_meaning w digits0_meaning (preceded_meaning w (char_meaning w code errs 46) (digits_meaning w code errs))))
 
   -- an optional sign, and the digits; each refusal is one of `Float` at the start
@@ -111,7 +111,7 @@ power_read (Some z) = z
 -- What a tree stands for: the sign, the integer, the fraction and the power of ten.
 abbrev pub IsParts : {I A : Type 0} (w : Model I A) → (code : A → ℕ) → (Option (ℕ ⊎ ℕ) × Both w) × Option ℤ → Bool × I × I × ℤ → Type 0
 IsParts w code t o = (o.0 ≡ is_plus (sign_read t.0.0)) × IsModelledBy w (integer_slice w code (before_of w t.0.1)) o.1 ×
-    IsModelledBy w (fraction_slice w code (behind_of w t.0.1)) o.2 × (o.3 ≡ power_read t.1)
+    IsModelledBy w (fraction_slice w code (after_of w t.0.1)) o.2 × (o.3 ≡ power_read t.1)
 
 -- the digits and signs that were read, before zeros are left out
 abbrev pub IsRaw : {I A : Type 0} (w : Model I A) → (Option (ℕ ⊎ ℕ) × Both w) × Option ℤ → (Option ℕ × (I × I)) × Option ℤ → Type 0

@@ -51,11 +51,11 @@ where
     let length = digits.input_len();
     let mut place = 0;
     for item in digits.iter_elements() {
-        let behind = place + digits.item_len(&item);
-        if item.as_char() != '0' || behind == length {
+        let after = place + digits.item_len(&item);
+        if item.as_char() != '0' || after == length {
             return place;
         }
-        place = behind;
+        place = after;
     }
     place
 }
@@ -107,11 +107,11 @@ where
     I::Item: AsChar,
     ensures { (t : (Option (ℕ ⊎ ℕ) × Both I.model) × Option ℤ) → IsRaw I.model t read → IsParts I.model I.Item.code t result }
 {
-    let ((sign, (before, behind)), power) = read;
+    let ((sign, (before, after)), power) = read;
     (
         no_minus(sign),
         integer_part(before),
-        fraction_part(behind),
+        fraction_part(after),
         power_of(power),
     )
 }
@@ -139,9 +139,9 @@ where
     ensures { ShowsMeaning I.model (IsRaw I.model) (parts_meaning I.model I.Item.code E.errors)
         (modes OM.Output.BUILDS OM.Error.BUILDS OM.Incomplete.STREAMING) input result }
 {
-    let behind = alt((preceded(char('.'), digit0()), digit0()));
+    let after = alt((preceded(char('.'), digit0()), digit0()));
     let alone = pair(digit0(), preceded(char('.'), digit1()));
-    let both = alt((pair(digit1(), behind), alone));
+    let both = alt((pair(digit1(), after), alone));
     let mantissa = AsFloat {
         parser: pair(opt(either('+', '-')), both),
     };

@@ -52,8 +52,8 @@ module _ {T B : Type 0} (level : B → ℕ) (left : ℕ → Bool) where
   -- trees stand for a term and pairs, and a root joins the trees on its sides
   pub trees_join : Joins {T = T} {B = B} {X = Tree T B} {C = B} level left (IsTree level left) IsSame IsJoined
   trees_join = record {
-    joins = λ t before o u behind x c y z root l is r e. subst (λ n. IsTree level left t (before ++ (o, u) ∷ behind) n) (sym e)
-        (subst (λ n. IsTree level left t (before ++ (o, u) ∷ behind) (Node x n y)) is (before, u, behind, refl, root, l, r));
+    joins = λ t before o u after x c y z root l is r e. subst (λ n. IsTree level left t (before ++ (o, u) ∷ after) n) (sym e)
+        (subst (λ n. IsTree level left t (before ++ (o, u) ∷ after) (Node x n y)) is (before, u, after, refl, root, l, r));
   }
 
   -- closing leaves the spine, with nothing that is closed

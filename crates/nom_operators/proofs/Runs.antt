@@ -63,8 +63,8 @@ module _ {T B X C : Type 0} (level : B → ℕ) (left : ℕ → Bool) (StandsFor
     -- the value at the end stands for the first term and all pairs
     pub made_stands : (t : T) (vs : List (B × T)) (items : List (C × X)) (x y : X) → StandsFor t [] x → AllZip IsPair vs items →
         Made left of Gives x items y → StandsFor t vs y
-    made_stands t vs items x y h z m = reads_all (λ _. Unit {0}) t vs m.stack m.behind y
-        (reads_runs t [] vs [] x items m.stack m.behind (reads_first level left StandsFor IsOperator t x h) z m.runs) m.joined
+    made_stands t vs items x y h z m = reads_all (λ _. Unit {0}) t vs m.stack m.after y
+        (reads_runs t [] vs [] x items m.stack m.after (reads_first level left StandsFor IsOperator t x h) z m.runs) m.joined
 
 -- one step more
 pub runs_more : {X C : Type 0} (left : ℕ → Bool) (of : C → ℕ) (Gives : X → C → X → X → Type 0) (s : List (X × C)) (x : X) (ps : List (C × X))

@@ -14,8 +14,8 @@ use Rattle.nom_operators.specs.laws.TreeLaws.{level_of, levels_append, levels_ma
 -- What values stand for: a term and pairs. Values of both sides of a root, joined by it, give one of the whole.
 pub record Joins {T B X C : Type 0} (level : B → ℕ) (left : ℕ → Bool) (StandsFor : T → List (B × T) → X → Type 0) (IsOperator : B → C → Type 0)
     (Gives : X → C → X → X → Type 0) : Type 0 where
-  pub joins : (t : T) (before : List (B × T)) (o : B) (u : T) (behind : List (B × T)) (x : X) (c : C) (y z : X) → IsRoot level left before o behind →
-      StandsFor t before x → IsOperator o c → StandsFor u behind y → Gives x c y z → StandsFor t (before ++ (o, u) ∷ behind) z
+  pub joins : (t : T) (before : List (B × T)) (o : B) (u : T) (after : List (B × T)) (x : X) (c : C) (y z : X) → IsRoot level left before o after →
+      StandsFor t before x → IsOperator o c → StandsFor u after y → Gives x c y z → StandsFor t (before ++ (o, u) ∷ after) z
 
 module _ {T B X C : Type 0} (level : B → ℕ) (left : ℕ → Bool) (StandsFor : T → List (B × T) → X → Type 0) (IsOperator : B → C → Type 0) where
   -- Of the term t and the pairs ps that were read, those after the innermost operator of the stack are the term v and the pairs qs.
@@ -74,11 +74,11 @@ module _ {T B X C : Type 0} (level : B → ℕ) (left : ℕ → Bool) (StandsFor
   parts_none false k = (tt, tt)
 
   -- no operator has a greater level than the root
-  root_greatest : (b : Bool) (j : ℕ) (o : B) (u : T) (before behind : List (B × T)) → level o ≡ j → Parts level b j before behind →
-      Levels level (λ i. i ≤ j) (before ++ (o, u) ∷ behind)
-  root_greatest true j o u before behind e h = levels_append level (λ i. i ≤ j) before ((o, u) ∷ behind) h.0
-      (omega (arith, e), levels_map level (λ i. i < j) (λ i. i ≤ j) (λ i z. omega (arith, z)) behind h.1)
-  root_greatest false j o u before behind e h = levels_append level (λ i. i ≤ j) before ((o, u) ∷ behind)
+  root_greatest : (b : Bool) (j : ℕ) (o : B) (u : T) (before after : List (B × T)) → level o ≡ j → Parts level b j before after →
+      Levels level (λ i. i ≤ j) (before ++ (o, u) ∷ after)
+  root_greatest true j o u before after e h = levels_append level (λ i. i ≤ j) before ((o, u) ∷ after) h.0
+      (omega (arith, e), levels_map level (λ i. i < j) (λ i. i ≤ j) (λ i z. omega (arith, z)) after h.1)
+  root_greatest false j o u before after e h = levels_append level (λ i. i ≤ j) before ((o, u) ∷ after)
       (levels_map level (λ i. i < j) (λ i. i ≤ j) (λ i z. omega (arith, z)) before h.0) (omega (arith, e), h.1)
 
   -- after all those that it closes an operator is a root
@@ -89,12 +89,12 @@ module _ {T B X C : Type 0} (level : B → ℕ) (left : ℕ → Bool) (StandsFor
   closes_parts false k j ps p (inr c) h = let no : false ≡ true = sym p ∙ c.1 in absurd (cc)
 
   -- a root stays it, where another operator goes under it
-  under_parts : (b : Bool) (k j : ℕ) (q : B) (u : T) (before behind : List (B × T)) → level q ≡ k → left j ≡ b → GoesUnder left k j →
-      Parts level b j before behind → Parts level b j before (behind ++ (q, u) ∷ [])
-  under_parts true k j q u before behind e p (inl c) h = (h.0, levels_append level (λ i. i < j) behind ((q, u) ∷ []) h.1 (omega (arith, e, c), tt))
-  under_parts true k j q u before behind e p (inr c) h = let no : true ≡ false = sym p ∙ (ap left c.0 ∙ c.1) in absurd (cc)
-  under_parts false k j q u before behind e p (inl c) h = (h.0, levels_append level (λ i. i ≤ j) behind ((q, u) ∷ []) h.1 (omega (arith, e, c), tt))
-  under_parts false k j q u before behind e p (inr c) h = (h.0, levels_append level (λ i. i ≤ j) behind ((q, u) ∷ []) h.1 (omega (arith, e, c.0), tt))
+  under_parts : (b : Bool) (k j : ℕ) (q : B) (u : T) (before after : List (B × T)) → level q ≡ k → left j ≡ b → GoesUnder left k j →
+      Parts level b j before after → Parts level b j before (after ++ (q, u) ∷ [])
+  under_parts true k j q u before after e p (inl c) h = (h.0, levels_append level (λ i. i < j) after ((q, u) ∷ []) h.1 (omega (arith, e, c), tt))
+  under_parts true k j q u before after e p (inr c) h = let no : true ≡ false = sym p ∙ (ap left c.0 ∙ c.1) in absurd (cc)
+  under_parts false k j q u before after e p (inl c) h = (h.0, levels_append level (λ i. i ≤ j) after ((q, u) ∷ []) h.1 (omega (arith, e, c), tt))
+  under_parts false k j q u before after e p (inr c) h = (h.0, levels_append level (λ i. i ≤ j) after ((q, u) ∷ []) h.1 (omega (arith, e, c.0), tt))
 
   -- what goes under an operator goes under the one outside it too
   under_outer : (b : Bool) (k i j : ℕ) (o : B) (v : T) (before m d : List (B × T)) → level o ≡ j → left i ≡ b → GoesUnder left k j →

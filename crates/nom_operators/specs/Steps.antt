@@ -39,6 +39,6 @@ Runs {X} {C} left of Gives s x (p ∷ ps) r y = (t : List (X × C)) × (z : X) �
 -- The value of a first term's value and of operators with their terms: they come in turn, and at the end all that wait are joined.
 pub record Made {X C : Type 0} (left : ℕ → Bool) (of : C → ℕ) (Gives : X → C → X → X → Type 0) (x : X) (ps : List (C × X)) (y : X) : Type 0 where
   pub stack : List (X × C)
-  pub behind : X
-  pub runs : Runs left of Gives [] x ps stack behind
-  pub joined : Joined Gives (λ _. Unit {0}) stack behind [] y
+  pub after : X
+  pub runs : Runs left of Gives [] x ps stack after
+  pub joined : Joined Gives (λ _. Unit {0}) stack after [] y

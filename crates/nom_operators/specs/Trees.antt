@@ -17,19 +17,19 @@ module _ {T B : Type 0} (level : B → ℕ) where
   -- An operator of the level k is the root: none before or after it has a greater level; and of its own level, grouped from the left,
   -- it is the last, and grouped from the right the first.
   abbrev pub Parts : Bool → ℕ → List (B × T) → List (B × T) → Type 0
-  Parts true k before behind = Levels (λ j. j ≤ k) before × Levels (λ j. j < k) behind
-  Parts false k before behind = Levels (λ j. j < k) before × Levels (λ j. j ≤ k) behind
+  Parts true k before after = Levels (λ j. j ≤ k) before × Levels (λ j. j < k) after
+  Parts false k before after = Levels (λ j. j < k) before × Levels (λ j. j ≤ k) after
 
 module _ {T B : Type 0} (level : B → ℕ) (left : ℕ → Bool) where
   abbrev pub IsRoot : List (B × T) → B → List (B × T) → Type 0
-  IsRoot before o behind = Parts level (left (level o)) (level o) before behind
+  IsRoot before o after = Parts level (left (level o)) (level o) before after
 
   -- The tree of a term and pairs: with no operator, the term; else the root between the tree of what stands before it and that of what
   -- stands after it.
   abbrev pub IsTree : T → List (B × T) → Tree T B → Type 0
   IsTree t ps (Leaf u) = (ps ≡ []) × (u ≡ t)
-  IsTree t ps (Node l o r) = (before : List (B × T)) × (u : T) × (behind : List (B × T)) × (ps ≡ before ++ (o, u) ∷ behind) × IsRoot before o behind ×
-      IsTree t before l × IsTree u behind r
+  IsTree t ps (Node l o r) = (before : List (B × T)) × (u : T) × (after : List (B × T)) × (ps ≡ before ++ (o, u) ∷ after) × IsRoot before o after ×
+      IsTree t before l × IsTree u after r
 
 -- there is a tree of each term and pairs of operators with their levels, and no other
 abbrev pub HasOneTree : (T B : Type 0) → (ℕ → Bool) → Type 0

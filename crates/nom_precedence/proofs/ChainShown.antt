@@ -7,7 +7,7 @@ use Rattle.nom_internal.proofs.Cased.{here}
 use Rattle.nom_repeat.specs.Repeat.{TurnsBy}
 use Rattle.nom_repeat.specs.Repeat.Turn.{Takes, Ends}
 use Rattle.nom_repeat.proofs.Parts.{part_failed, part_lacks, part_ran_out}
-use Rattle.nom_repeat.proofs.Repeated.{Collected, collected_more, ended, ended_behind, failed, lacking, ran_out, ran_out_within}
+use Rattle.nom_repeat.proofs.Repeated.{Collected, collected_more, ended, ended_after, failed, lacking, ran_out, ran_out_within}
 use Rattle.nom_precedence.specs.Stuck.{Read}
 use Rattle.nom_precedence.specs.Stuck.Read.{Whole, Stuck}
 use Rattle.nom_precedence.specs.Chains.{read_turn, chain_turn, IfTaken, chain_rule, chained, chain_meaning}
@@ -54,12 +54,12 @@ module _ {I A V X E : Type 0} {w : Model I A} (Grows : Type 0) (m : Meaning I (R
   -- it consumes nothing
   pub chain_stuck : InputLaws w → {n : ℕ} (v : V) → m.answers streaming j (Accept n (Whole v)) → n ≡ 0 → {h : I} → IsSuffixOf w j n h →
       ShowsIt (Ok (h, Some Is.Stuck))
-  chain_stuck l {n} v a z q = not_ran_out _ (λ e. cc (e)) (ended_behind (chain_rule Grows) chained (always m) {IsOutput = IsRead outputs IsOutput}
+  chain_stuck l {n} v a z q = not_ran_out _ (λ e. cc (e)) (ended_after (chain_rule Grows) chained (always m) {IsOutput = IsRead outputs IsOutput}
       {mode = modes true errors streaming} c (Some (Accept n (Whole v))) (tt, a) l n Stuck q (stuck_turn v n z) {b = Some Is.Stuck} (Is.Stuck, refl, tt))
 
   -- it is stuck itself
   pub chain_stuck_within : InputLaws w → {n : ℕ} → m.answers streaming j (Accept n Stuck) → {h : I} → IsSuffixOf w j n h → ShowsIt (Ok (h, Some Is.Stuck))
-  chain_stuck_within l {n} a q = not_ran_out _ (λ e. cc (e)) (ended_behind (chain_rule Grows) chained (always m) {IsOutput = IsRead outputs IsOutput}
+  chain_stuck_within l {n} a q = not_ran_out _ (λ e. cc (e)) (ended_after (chain_rule Grows) chained (always m) {IsOutput = IsRead outputs IsOutput}
       {mode = modes true errors streaming} c (Some (Accept n Stuck)) (tt, a) l n Stuck q refl {b = Some Is.Stuck} (Is.Stuck, refl, tt))
 
   -- there is no memory to keep it

@@ -92,5 +92,5 @@ module _ {X C V K : Type 0} (left : ℕ → Bool) (of : C → ℕ) (Gives : X �
         first_is = h.first_is;
         outputs = h.outputs;
         are_outputs = h.are_outputs;
-        made = record { stack = waiting (innermost k) outer; behind = value k; runs = h.runs; joined = j };
+        made = record { stack = waiting (innermost k) outer; after = value k; runs = h.runs; joined = j };
       }) b g

@@ -10,7 +10,7 @@ use Rattle.nom_internal.proofs.Choices.{closed_shown}
 use Rattle.nom_internal.proofs.Shown.{accepts, then_err, then_ok, output_err, output_ok, err_from_residual, built_error}
 use Rattle.nom_repeat.specs.Inverted.{GivesFailure}
 use Rattle.nom_precedence.specs.Operators.{HasLevel, if_level, operator_case, operator_meaning}
-use Rattle.nom_precedence.specs.Stuck.{Read, both, read_behind, read_both, freed_case, freed_meaning}
+use Rattle.nom_precedence.specs.Stuck.{Read, both, read_after, read_both, freed_case, freed_meaning}
 use Rattle.nom_precedence.specs.Stuck.Read.{Whole, Stuck}
 use Rattle.nom_precedence.specs.Told.{IsOwn, IsRead, ShowsRead}
 use Rattle.nom_precedence.specs.declared.read.Read as Told
@@ -110,13 +110,13 @@ module _ {I A V W T X Z E : Type 0} {w : Model I A} (l : InputLaws w) (tree : V 
       (b.blames streaming j) (b.may_run_out (modes outputs errors streaming) j) r) →
       ShowsRead w IsResult (read_both w tree (labelled_meaning Whole m) b) outputs errors streaming i r
   own_goes {j} {x} {r} h k = then_ok l (labels_ok w Whole IsFirst (IsWholeOf IsFirst) (with_want outputs m) true (modes true errors streaming) i j x x h
-      (λ u p. p)) (λ u p. behind u p)
+      (λ u p. p)) (λ u p. rest u p)
     where
-      behind : (u : Read V) → Built true (IsWholeOf IsFirst u) x → ShowsAnswer w (λ v. IsRead outputs IsResult (both tree u v))
-          (modes true errors streaming) j ((read_behind b u).answers streaming j) ((read_behind b u).blames streaming j)
-          ((read_behind b u).may_run_out (modes outputs errors streaming) j) r
-      behind (Whole v) p = k v p
-      behind Stuck p = absurd (p.2)
+      rest : (u : Read V) → Built true (IsWholeOf IsFirst u) x → ShowsAnswer w (λ v. IsRead outputs IsResult (both tree u v))
+          (modes true errors streaming) j ((read_after b u).answers streaming j) ((read_after b u).blames streaming j)
+          ((read_after b u).may_run_out (modes outputs errors streaming) j) r
+      rest (Whole v) p = k v p
+      rest Stuck p = absurd (p.2)
 
   module _ {Y : Type 0} (IsSecond : W → Y → Type 0) where
     pub own_second_err : {j : I} {x : Option X} {f : Answer.Err E (Option E) Needed}

@@ -6,7 +6,7 @@ use Rattle.nom_internal.specs.Prelude.{ShowsAnswer, RanOut, Shown, Meaning, Show
 use Rattle.nom_error.specs.declared.answer.Err as Answer
 use Rattle.nom_internal.proofs.Cased.{labels_err, labels_ok}
 use Rattle.nom_internal.proofs.Shown.{accepts, then_err, then_ok, output_err, output_ok}
-use Rattle.nom_precedence.specs.Stuck.{Read, both, read_behind, read_both}
+use Rattle.nom_precedence.specs.Stuck.{Read, both, read_after, read_both}
 use Rattle.nom_precedence.specs.Stuck.Read.{Whole, Stuck}
 use Rattle.nom_precedence.specs.Told.{IsRead, ShowsRead}
 use Rattle.nom_precedence.specs.declared.read.Read as Told
@@ -92,13 +92,13 @@ module _ {I A V W T X Z E : Type 0} {w : Model I A} (l : InputLaws w) (tree : V 
   -- it is stuck
   pub first_stuck : {j : I} → ShowsRead w IsFirst a outputs errors streaming i (Ok (j, Some Is.Stuck)) →
       ShowsRead w IsResult (read_both w tree a b) outputs errors streaming i (Ok (j, Some Is.Stuck))
-  first_stuck {j} h = then_ok l h (λ u p. behind u (is_stuck outputs IsFirst u p))
+  first_stuck {j} h = then_ok l h (λ u p. rest u (is_stuck outputs IsFirst u p))
     where
-      behind : (u : Read V) → u ≡ Stuck → ShowsAnswer w (λ v. IsRead outputs IsResult (both tree u v)) (modes true errors streaming) j
-          ((read_behind b u).answers streaming j) ((read_behind b u).blames streaming j) ((read_behind b u).may_run_out (modes outputs errors streaming) j)
+      rest : (u : Read V) → u ≡ Stuck → ShowsAnswer w (λ v. IsRead outputs IsResult (both tree u v)) (modes true errors streaming) j
+          ((read_after b u).answers streaming j) ((read_after b u).blames streaming j) ((read_after b u).may_run_out (modes outputs errors streaming) j)
           (Ok (j, Some Is.Stuck))
-      behind (Whole v) e = absurd (cc (e))
-      behind Stuck e = Shown (Accept 0 Stuck) (refl, refl) (
+      rest (Whole v) e = absurd (cc (e))
+      rest Stuck e = Shown (Accept 0 Stuck) (refl, refl) (
         j,
         Some Is.Stuck,
         record { known = (accepts h).rest_is.known; front = []; whole = refl; length_is = refl; mark_is = sym (l.mark_none (w.mark j)) },
@@ -112,13 +112,13 @@ module _ {I A V W T X Z E : Type 0} {w : Model I A} (l : InputLaws w) (tree : V 
       ((v : V) → Built outputs (IsFirst v) x → ShowsAnswer w (λ u. IsRead outputs IsResult (both tree (Whole v) u)) (modes true errors streaming) j
       (b.answers streaming j) (b.blames streaming j) (b.may_run_out (modes outputs errors streaming) j) r) →
       ShowsRead w IsResult (read_both w tree a b) outputs errors streaming i r
-  first_whole {j} {x} {r} h k = then_ok l h (λ u p. behind u (is_whole outputs IsFirst u p))
+  first_whole {j} {x} {r} h k = then_ok l h (λ u p. rest u (is_whole outputs IsFirst u p))
     where
-      behind : (u : Read V) → ((v : V) × (u ≡ Whole v) × Built outputs (IsFirst v) x) →
-          ShowsAnswer w (λ v. IsRead outputs IsResult (both tree u v)) (modes true errors streaming) j ((read_behind b u).answers streaming j)
-          ((read_behind b u).blames streaming j) ((read_behind b u).may_run_out (modes outputs errors streaming) j) r
-      behind (Whole v) p = let same : v ≡ p.0 = cc (p.1) in k v (subst (λ z. Built outputs (IsFirst z) x) (sym same) p.2)
-      behind Stuck p = absurd (cc (p.1))
+      rest : (u : Read V) → ((v : V) × (u ≡ Whole v) × Built outputs (IsFirst v) x) →
+          ShowsAnswer w (λ v. IsRead outputs IsResult (both tree u v)) (modes true errors streaming) j ((read_after b u).answers streaming j)
+          ((read_after b u).blames streaming j) ((read_after b u).may_run_out (modes outputs errors streaming) j) r
+      rest (Whole v) p = let same : v ≡ p.0 = cc (p.1) in k v (subst (λ z. Built outputs (IsFirst z) x) (sym same) p.2)
+      rest Stuck p = absurd (cc (p.1))
 
   module _ {Y : Type 0} (IsSecond : W → Y → Type 0) where
     -- what follows it isn't accepted

@@ -5,27 +5,27 @@ use Rattle.nom_internal.specs.Prelude.{Built, BuiltFrom}
 use Rattle.nom_repeat.specs.Accumulated.{Adds, Accumulated}
 use Rattle.nom_precedence.specs.Expressions.{Tail, term_of}
 use Rattle.nom_precedence.specs.Steps.{AppliedPushes, Before}
-use Rattle.nom_precedence.specs.Told.{Behind, IsHeld, IsTail, IsTerm}
+use Rattle.nom_precedence.specs.Told.{After, IsHeld, IsTail, IsTerm}
 use Rattle.nom_precedence.proofs.ReadShown.{built_from}
 
 module _ {K L O G : Type 0} (value : K → Option O) (fold : K → L) (Gives : L → O → G → O → Type 0) where
   -- the value under all postfixes
   pub record HasApplied (x : O) (cs : List G) (f : L) (k : K) : Type 0 where
-    pub behind : O
-    pub value_is : value k ≡ Some behind
-    pub given : Behind (Gives f) x cs behind
+    pub rest : O
+    pub value_is : value k ≡ Some rest
+    pub given : After (Gives f) x cs rest
 
-  pub adds_behind : (k : K) (cs : List G) (new : K) (x : O) → value k ≡ Some x → Adds (AppliedPushes value fold Gives) k cs new → HasApplied x cs (fold k) new
-  adds_behind k [] new x e a = record { behind = x; value_is = ap value a ∙ e; given = refl }
-  adds_behind k (c ∷ cs) new x e a =
+  pub adds_after : (k : K) (cs : List G) (new : K) (x : O) → value k ≡ Some x → Adds (AppliedPushes value fold Gives) k cs new → HasApplied x cs (fold k) new
+  adds_after k [] new x e a = record { rest = x; value_is = ap value a ∙ e; given = refl }
+  adds_after k (c ∷ cs) new x e a =
       let next = a.0 in
       let g = a.1 in
-      let r = adds_behind next cs new g.behind g.behind_is a.2 in
+      let r = adds_after next cs new g.rest g.after_is a.2 in
       let same : g.before ≡ x = cc (g.before_is, e) in
       record {
-        behind = r.behind;
+        rest = r.rest;
         value_is = r.value_is;
-        given = (g.behind, subst (λ z. Gives (fold k) z c g.behind) same g.given, subst (λ z. Behind (Gives z) g.behind cs r.behind) g.fold_is r.given);
+        given = (g.rest, subst (λ z. Gives (fold k) z c g.rest) same g.given, subst (λ z. After (Gives z) g.rest cs r.rest) g.fold_is r.given);
       }
 
   module _ {V Q : Type 0} (CanPush : K → Type 0) (IsOperand : V → O → Type 0) (IsPostfix : Q → G → Type 0) (f : L) where
@@ -40,15 +40,15 @@ module _ {K L O G : Type 0} (value : K → Option O) (fold : K → L) (Gives : L
         let kept = d.2 in
         let start : kept.first ≡ c.0 = cc (kept.first_is, c.1) in
         let held = c.2 in
-        let r = adds_behind kept.first kept.outputs d.0 a (ap value start ∙ held.value_is) kept.added in (
-          r.behind,
+        let r = adds_after kept.first kept.outputs d.0 a (ap value start ∙ held.value_is) kept.added in (
+          r.rest,
           e ∙ (ap value one ∙ r.value_is),
           record {
             operand = a;
             is_operand = subst (λ q. IsOperand v q) (sym is) b.2;
             postfixes = kept.outputs;
             are_postfixes = kept.are_outputs;
-            given = subst (λ h. Behind (Gives h) a kept.outputs r.behind) (ap fold start ∙ held.fold_is) r.given;
+            given = subst (λ h. After (Gives h) a kept.outputs r.rest) (ap fold start ∙ held.fold_is) r.given;
           },
         )
     tail_built true v qs (Some a) first None z c e b d = absurd (cc (d.1))
@@ -70,7 +70,7 @@ pub term_built : {P V Q F O G : Type 0} (IsPrefix : P → F → Type 0) (OnPrefi
     (IsPostfix : Q → G → Type 0) (OnPostfix : O → G → O → Type 0) (ps : List P) (t : Tail V Q) (cs : List F) (x y : O) → AllZip IsPrefix ps cs →
     IsTail IsOperand IsPostfix OnPostfix t x → Before OnPrefix cs x y → IsTerm IsPrefix OnPrefix IsOperand IsPostfix OnPostfix (term_of ps t) y
 term_built IsPrefix OnPrefix IsOperand IsPostfix OnPostfix ps t cs x y k h b = record {
-  behind = x;
+  rest = x;
   is_tail = record { operand = h.operand; is_operand = h.is_operand; postfixes = h.postfixes; are_postfixes = h.are_postfixes; given = h.given };
   prefixes = cs;
   are_prefixes = k;

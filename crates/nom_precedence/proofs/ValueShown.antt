@@ -9,16 +9,16 @@ use Rattle.nom_operators.specs.declared.operation.Operation.{Operation}
 use Rattle.nom_operators.specs.declared.operation.Operation.TheVariants.{Prefix, Postfix, Binary}
 use Rattle.nom_precedence.specs.Expressions.{Term}
 use Rattle.nom_precedence.specs.Steps.{Before}
-use Rattle.nom_precedence.specs.Told.{Behind, IsTerm, IsPairOf, IsMade}
+use Rattle.nom_precedence.specs.Told.{After, IsTerm, IsPairOf, IsMade}
 use Rattle.nom_precedence.specs.Values.{Folding, folding, PostfixesGive, PrefixesGive, TermGives, IsOperator, StandsFor}
 
 module _ {P V Q B F G H O : Type 0} (f : Folding P V Q B F G H O) where
-  behind_gives : (x : O) (qs : List Q) (cs : List G) (y : O) → AllZip f.IsPostfix qs cs → Behind (λ a c b. f.Gives (Postfix a c) b) x cs y →
+  after_gives : (x : O) (qs : List Q) (cs : List G) (y : O) → AllZip f.IsPostfix qs cs → After (λ a c b. f.Gives (Postfix a c) b) x cs y →
       PostfixesGive f x qs y
-  behind_gives x [] [] y z h = h
-  behind_gives x [] (c ∷ cs) y z h = absurd z
-  behind_gives x (q ∷ qs) [] y z h = absurd z
-  behind_gives x (q ∷ qs) (c ∷ cs) y z h = (c, h.0, z.0, h.1, behind_gives h.0 qs cs y z.1 h.2)
+  after_gives x [] [] y z h = h
+  after_gives x [] (c ∷ cs) y z h = absurd z
+  after_gives x (q ∷ qs) [] y z h = absurd z
+  after_gives x (q ∷ qs) (c ∷ cs) y z h = (c, h.0, z.0, h.1, after_gives h.0 qs cs y z.1 h.2)
 
   before_gives : (ps : List P) (cs : List F) (x y : O) → AllZip f.IsPrefix ps cs → Before (λ p a b. f.Gives (Prefix p a) b) cs x y → PrefixesGive f ps x y
   before_gives [] [] x y z h = h
@@ -32,9 +32,9 @@ module _ {P V Q B F G H O : Type 0} (f : Folding P V Q B F G H O) where
   term_gives t y h = record {
     operand = h.is_tail.operand;
     is_operand = h.is_tail.is_operand;
-    behind = h.behind;
-    postfixes_give = behind_gives h.is_tail.operand t.postfixes h.is_tail.postfixes h.behind h.is_tail.are_postfixes h.is_tail.given;
-    prefixes_give = before_gives t.prefixes h.prefixes h.behind y h.are_prefixes h.given;
+    rest = h.rest;
+    postfixes_give = after_gives h.is_tail.operand t.postfixes h.is_tail.postfixes h.rest h.is_tail.are_postfixes h.is_tail.given;
+    prefixes_give = before_gives t.prefixes h.prefixes h.rest y h.are_prefixes h.given;
   }
 
 module _ {P V Q B F G H O : Type 0} (f : Folding P V Q B F G H O) (left : ℕ → Bool) where
@@ -45,9 +45,9 @@ module _ {P V Q B F G H O : Type 0} (f : Folding P V Q B F G H O) (left : ℕ �
   -- what stands on both sides of a root, joined by the fold, stands for the whole
   pub stands_join : Joins (λ (o : ℕ × B). o.0) left (StandsFor f left) (IsOperator f) (λ x c y z. f.Gives (Binary x c.1 y) z)
   stands_join = record {
-    joins = λ t before o u behind x c y z root l is r g. record {
+    joins = λ t before o u rest x c y z root l is r g. record {
       tree = Node l.tree o r.tree;
-      is_tree = (before, u, behind, refl, root, l.is_tree, r.is_tree);
+      is_tree = (before, u, rest, refl, root, l.is_tree, r.is_tree);
       gives = (x, c, y, l.gives, is, r.gives, g);
     };
   }

@@ -17,12 +17,12 @@ both f (Whole v) Stuck = Stuck
 both f Stuck r = Stuck
 
 -- after what is stuck nothing is read
-abbrev pub read_behind : {I V W E : Type 0} → Meaning I (Read W) E → Read V → Meaning I (Read W) E
-read_behind m (Whole v) = m
-read_behind m Stuck = success_meaning Stuck
+abbrev pub read_after : {I V W E : Type 0} → Meaning I (Read W) E → Read V → Meaning I (Read W) E
+read_after m (Whole v) = m
+read_after m Stuck = success_meaning Stuck
 
 abbrev pub unless_stuck : {I V W E : Type 0} → Meaning I (Read W) E → Family (Read V) I (Read W) E
-unless_stuck m = record { at = read_behind m; IsSound = m.IsSound; IsFrugal = m.IsFrugal; Settles = m.Settles; NeverFails = m.NeverFails }
+unless_stuck m = record { at = read_after m; IsSound = m.IsSound; IsFrugal = m.IsFrugal; Settles = m.Settles; NeverFails = m.NeverFails }
 
 -- a part, and another after it, unless it is stuck
 abbrev pub read_both : {I A V W T E : Type 0} → Model I A → (V → W → T) → Meaning I (Read V) E → Meaning I (Read W) E → Meaning I (Read T) E

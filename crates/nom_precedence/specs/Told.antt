@@ -24,9 +24,9 @@ ShowsRead w IsOutput m outputs errors streaming i r = ShowsAnswer w (IsRead outp
     (m.blames streaming i) (m.may_run_out (modes outputs errors streaming) i) r
 
 -- postfixes are applied to a value, from left to right
-abbrev pub Behind : {X Q : Type 0} → (X → Q → X → Type 0) → X → List Q → X → Type 0
-Behind Gives x [] y = y ≡ x
-Behind {X = X} Gives x (c ∷ cs) y = (z : X) × Gives x c z × Behind Gives z cs y
+abbrev pub After : {X Q : Type 0} → (X → Q → X → Type 0) → X → List Q → X → Type 0
+After Gives x [] y = y ≡ x
+After {X = X} Gives x (c ∷ cs) y = (z : X) × Gives x c z × After Gives z cs y
 
 -- the value of an operand under the postfixes after it
 pub record IsTail {V Q O G : Type 0} (IsOperand : V → O → Type 0) (IsPostfix : Q → G → Type 0) (OnPostfix : O → G → O → Type 0) (t : V × List Q) (y : O)
@@ -35,16 +35,16 @@ pub record IsTail {V Q O G : Type 0} (IsOperand : V → O → Type 0) (IsPostfix
   pub is_operand : IsOperand t.0 operand
   pub postfixes : List G
   pub are_postfixes : AllZip IsPostfix t.1 postfixes
-  pub given : Behind OnPostfix operand postfixes y
+  pub given : After OnPostfix operand postfixes y
 
 -- and that of a term: the prefixes are applied to it, the last first
 pub record IsTerm {P V Q F O G : Type 0} (IsPrefix : P → F → Type 0) (OnPrefix : F → O → O → Type 0) (IsOperand : V → O → Type 0)
     (IsPostfix : Q → G → Type 0) (OnPostfix : O → G → O → Type 0) (t : Term P V Q) (y : O) : Type 0 where
-  pub behind : O
-  pub is_tail : IsTail IsOperand IsPostfix OnPostfix (t.operand, t.postfixes) behind
+  pub rest : O
+  pub is_tail : IsTail IsOperand IsPostfix OnPostfix (t.operand, t.postfixes) rest
   pub prefixes : List F
   pub are_prefixes : AllZip IsPrefix t.prefixes prefixes
-  pub given : Before OnPrefix prefixes behind y
+  pub given : Before OnPrefix prefixes rest y
 
 -- an operator with its level
 abbrev pub IsOwn : {B H : Type 0} → (B → ℕ × H → Type 0) → ℕ × B → ℕ × H → Type 0

@@ -96,10 +96,10 @@ fn pair<
     ensures postfix_kept { Q.state postfix.new ≡ Q.state postfix.old }
     ensures binary_kept { C.state binary.new ≡ C.state binary.old }
 {
-    let (behind, read) = operator::<OM, I, B, C>(binary, levels, input)?;
+    let (rest, read) = operator::<OM, I, B, C>(binary, levels, input)?;
     let own = emitted(read);
     let (end, after) = term::<OM, I, A, P, F, Q, B, G>(
-        alloc, prefix, operand, postfix, fold, behind,
+        alloc, prefix, operand, postfix, fold, rest,
     )?;
     match emitted(after) {
         Read::Stuck => Ok((end, Some(Read::Stuck))),

@@ -132,11 +132,9 @@ fn tail<
     ensures operand_kept { F.state operand.new ≡ F.state operand.old }
     ensures postfix_kept { Q.state postfix.new ≡ Q.state postfix.old }
 {
-    let (behind, value) = operand.process::<OM>(input)?;
+    let (rest, value) = operand.process::<OM>(input)?;
     let first = held::<P, B, F::Output, G>(value, fold);
-    let (end, after) = affixes::<OM, I, Q, Applied<'_, P, B, F::Output, G>>(
-        postfix, behind, first,
-    )?;
+    let (end, after) = affixes::<OM, I, Q, Applied<'_, P, B, F::Output, G>>(postfix, rest, first)?;
     match emitted(after) {
         Read::Stuck => Ok((end, Some(Read::Stuck))),
         Read::Whole(applied) => Ok((end, Some(Read::Whole(value_of(applied))))),

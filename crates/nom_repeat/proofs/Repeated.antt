@@ -99,9 +99,9 @@ module _ {I A P V T R O E : Type 0} {w : Model I A} (r : Rule I P V T E) (tree :
         (j, b, subst (λ n. IsSuffixOf w i n j) (omega arith) c.rest_is, h, refl)
 
     -- or after it
-    pub ended_behind : InputLaws w → (n : ℕ) (t : T) {h : I} → IsSuffixOf w j n h → Ends (Accept n t) ≡ r.turn (length c.trees) a → {b : Option O} →
+    pub ended_after : InputLaws w → (n : ℕ) (t : T) {h : I} → IsSuffixOf w j n h → Ends (Accept n t) ≡ r.turn (length c.trees) a → {b : Option O} →
         Built mode.outputs (IsOutput (tree c.trees t)) b → ShowsMeaning w IsOutput (repeat_meaning w r tree f) mode i (Ok (h, b))
-    ended_behind l n t {h} q e {b = b} z = Shown (Accept (c.taken + n) (tree c.trees t)) (ends w r tree f mode.streaming i j c a p (Accept n t) e)
+    ended_after l n t {h} q e {b = b} z = Shown (Accept (c.taken + n) (tree c.trees t)) (ends w r tree f mode.streaming i j c a p (Accept n t) e)
         (h, b, rest_rest w l i c.taken j n h c.rest_is q, z, refl)
 
     pub refused : Ends Refuse ≡ r.turn (length c.trees) a → (b : Option E) →

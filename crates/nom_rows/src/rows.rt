@@ -196,7 +196,7 @@ pub fn grown<'a, P: StreamParser<&'a [u8]> + Drop>(
     }
 }
 
-/// Whether an input that comes in such pieces is decided at this cut, with an acceptance that leaves so many
+/// Whether an input that comes in such pieces is decided at this cut, with an acceptance that leaves that many
 /// bytes. The outputs are the same on longer inputs.
 pub fn is_grown<'a, P: StreamParser<&'a [u8]> + Drop>(
     parser: P,

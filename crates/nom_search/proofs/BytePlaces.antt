@@ -46,8 +46,8 @@ module _ (bs t : List ℕ) where
     }
 
     -- a place where the needle stands is as far after the start
-    behind : (m : ℕ) → OccursAt bs t m → (n : ℕ) × (m ≡ start + n) × OccursAt (drop start bs) t n
-    behind m h =
+    after : (m : ℕ) → OccursAt bs t m → (n : ℕ) × (m ≡ start + n) × OccursAt (drop start bs) t n
+    after m h =
         elim (cases_lt m start) [
           | inl k ↦ absurd (none m (omega arith) k h)
           | inr k ↦
@@ -59,20 +59,20 @@ module _ (bs t : List ℕ) where
     found_there h =
         let same : start + 0 ≡ start = omega arith in (
           stands start (subst (OccursAt bs t) same (occurs_on 0 h)),
-          λ m s. let b = behind m (occurs m s) in omega (arith, b.1),
+          λ m s. let b = after m (occurs m s) in omega (arith, b.1),
         )
 
-    pub found_behind : (n : ℕ) → FindsNeedle (drop start bs) t 0 (Some n) → FindsBytes t bs (Some (start + n))
-    found_behind n h = (
+    pub found_after : (n : ℕ) → FindsNeedle (drop start bs) t 0 (Some n) → FindsBytes t bs (Some (start + n))
+    found_after n h = (
       stands (start + n) (occurs_on n h.1),
       λ m s.
-          let b = behind m (occurs m s) in
+          let b = after m (occurs m s) in
           elim (cases_lt b.0 n) [ inl k ↦ absurd ((h.0).before b.0 (omega arith) k b.2) | inr k ↦ omega (arith, k, b.1) ],
     )
 
-    pub none_behind : FindsNeedle (drop start bs) t 0 None → FindsBytes t bs None
-    none_behind h = λ m s.
-        let b = behind m (occurs m s) in
+    pub none_after : FindsNeedle (drop start bs) t 0 None → FindsBytes t bs None
+    none_after h = λ m s.
+        let b = after m (occurs m s) in
         let o = b.2 in
         h b.0 (omega arith) (omega (arith, o.fits)) o
 

@@ -83,14 +83,14 @@ fn find_bytes(bytes: &[u8], needle: &[u8]) -> Option<usize>
     ensures { FindsBytes needle.now bytes.now result }
 {
     match first_candidate(bytes, needle) {
-        Some(start) => first_behind(bytes, needle, start),
+        Some(start) => first_after(bytes, needle, start),
         None => None,
     }
 }
 
 /// The same, where the needle stands nowhere before `start`.
 #[inline(always)]
-fn first_behind(bytes: &[u8], needle: &[u8], start: usize) -> Option<usize>
+fn first_after(bytes: &[u8], needle: &[u8], start: usize) -> Option<usize>
     requires room { start ≤ length bytes.now }
     requires none { Nowhere (OccursAt bytes.now needle.now) 0 start }
     ensures { FindsBytes needle.now bytes.now result }

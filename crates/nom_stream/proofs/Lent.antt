@@ -16,9 +16,9 @@ use Rattle.nom_stream.specs.Wholes.{BytesOfWhole}
 use Rattle.nom_stream.proofs.Outcomes.{meant}
 use Rattle.nom_stream.proofs.Wholes.{left_read}
 
-module _ {A V O : Type 0} (IsItem : V → O → Type 0) (m : Meaning Bytes V (Error Bytes)) (h : Held A) (n : ℕ) (o : O) (behind : List ℕ) where
+module _ {A V O : Type 0} (IsItem : V → O → Type 0) (m : Meaning Bytes V (Error Bytes)) (h : Held A) (n : ℕ) (o : O) (after : List ℕ) where
   abbrev AreFirst : List ℕ → Type 0
-  AreFirst old = last_of n h ≡ take n (old ++ behind)
+  AreFirst old = last_of n h ≡ take n (old ++ after)
 
   -- an item has no more bytes than were held
   fits : (more : Bool) (old : List ℕ) (k : ℕ) (p : O) → Takes IsItem m more old (held_of h) (Took.Item k p) → k ≤ length old
@@ -32,24 +32,24 @@ module _ {A V O : Type 0} (IsItem : V → O → Type 0) (m : Meaning Bytes V (Er
   of_taken more old (Took.Item k p) t l e =
       let both : ◌≡◌ {A = ℕ × O} (n, o) (k, p) = cc (e) in
       let same : n ≡ k = ap (λ (z : ℕ × O). z.0) both in
-      subst (λ z. last_of z h ≡ take z (old ++ behind)) (sym same) (l.1 ∙ sym (take-append-le k old behind (fits more old k p t)))
+      subst (λ z. last_of z h ≡ take z (old ++ after)) (sym same) (l.1 ∙ sym (take-append-le k old after (fits more old k p t)))
   of_taken more old Took.Nothing t l e = absurd (cc (e))
   of_taken more old (Took.Undecided k) t l e = absurd (cc (e))
   of_taken more old (Took.Refused k at) t l e = absurd (cc (e))
   of_taken more old (Took.Failed k at) t l e = absurd (cc (e))
   of_taken more old Took.OutOfMemory t l e = absurd (cc (e))
 
-module _ {R A V O : Type 0} (IsItem : V → O → Type 0) (m : Meaning Bytes V (Error Bytes)) (u t : Stream R A) (n : ℕ) (o : O) (behind : List ℕ) where
+module _ {R A V O : Type 0} (IsItem : V → O → Type 0) (m : Meaning Bytes V (Error Bytes)) (u t : Stream R A) (n : ℕ) (o : O) (after : List ℕ) where
   abbrev Lends : Type 0
-  Lends = last_of n t.held ≡ take n (held_of u.held ++ behind)
+  Lends = last_of n t.held ≡ take n (held_of u.held ++ after)
 
   of_ends : (k : Needed) → Ends IsItem m u t k (Ok (Some (n, o))) → Lends
   of_ends k (Clean a b e) = absurd (cc (e))
   of_ends k (Within s a b e) = absurd (cc (e))
-  of_ends k (Completed s a taken g l e) = of_taken IsItem m t.held n o behind false (held_of u.held) taken g l e
+  of_ends k (Completed s a taken g l e) = of_taken IsItem m t.held n o after false (held_of u.held) taken g l e
 
   lends : Answers IsItem m u t (Ok (Some (n, o))) → Lends
-  lends (Decided taken d g l e) = of_taken IsItem m t.held n o behind true (held_of u.held) taken g l e
+  lends (Decided taken d g l e) = of_taken IsItem m t.held n o after true (held_of u.held) taken g l e
   lends (AtEnd e k g h) = of_ends k h
   lends (Full a b w e) = absurd (cc (e))
   lends (Unfilled why l b before last d w e) = absurd (cc (e))

@@ -100,7 +100,7 @@ impl<A: Allocator> Held<A> {
         self.start += count;
     }
 
-    /// All but the last bytes are used: so many are left. The start follows from the end, which stays, with no step by way
+    /// All but the last bytes are used: that many are left. The start follows from the end, which stays, with no step by way
     /// of the bytes that are used: the next parse waits for it.
     #[inline(always)]
     pub fn leave(&mut self, left: usize)
@@ -131,7 +131,7 @@ impl<A: Allocator> Held<A> {
         self.end = end - start;
     }
 
-    /// Makes room for so many more bytes after them. The buffer never gets shorter.
+    /// Makes room for that many more bytes after them. The buffer never gets shorter.
     pub fn make_room(&mut self, count: usize) -> Result<(), OutOfMemory>
         requires within { IsWithin self.old }
         requires fits { self.old.end + count < 2 ^ 64 }
@@ -157,7 +157,7 @@ impl<A: Allocator> Held<A> {
         }
     }
 
-    /// Makes room for so many more bytes after them, and may move them to the front. The buffer gets longer than `most` only
+    /// Makes room for that many more bytes after them, and may move them to the front. The buffer gets longer than `most` only
     /// where these bytes make it so.
     #[inline(always)]
     pub fn find_room(&mut self, count: usize, most: usize) -> Result<(), OutOfMemory>
@@ -175,7 +175,7 @@ impl<A: Allocator> Held<A> {
         Ok(())
     }
 
-    // The same, where there is no room behind them. A buffer too short for them grows to `SMALL` bytes, if it may be that
+    // The same, where there is no room after them. A buffer too short for them grows to `SMALL` bytes, if it may be that
     // long, so that small reads seldom move bytes.
     #[inline(never)]
     fn clear_room(&mut self, count: usize, most: usize) -> Result<(), OutOfMemory>

@@ -11,7 +11,7 @@ use lib.Count.{count_trailing_zeros}
 use lib.Lanes.{chunk, zip2, mask_l, top, Each1}
 use Rattle.nom_traits.specs.declared.character.AsciiClass.{AsciiClass}
 use Rattle.nom_traits.specs.Classes.{has_code}
-use Rattle.nom_traits.specs.Lanes.{behind, lower_case, IsRunWithin}
+use Rattle.nom_traits.specs.Lanes.{above, lower_case, IsRunWithin}
 
 abbrev pub at_most : ℕ → ℕ → ℕ
 at_most x y = cond (leb x y) 255 0
@@ -24,13 +24,13 @@ at_least {n} v a f count long e =
     ∙ zip2_splat_left at_most count n (map f v) (length-map v f ∙ long)
     ∙ map-map (at_most count) f v
 
-pub not_digits : {n : ℕ} (v a : List ℕ) (count : ℕ) → length v ≡ n → a ≡ map (behind 48) v →
-    zip2 at_most (replicate n count) a ≡ map (λ b. at_most count (behind 48 b)) v
-not_digits v a count long e = at_least v a (behind 48) count long e
+pub not_digits : {n : ℕ} (v a : List ℕ) (count : ℕ) → length v ≡ n → a ≡ map (above 48) v →
+    zip2 at_most (replicate n count) a ≡ map (λ b. at_most count (above 48 b)) v
+not_digits v a count long e = at_least v a (above 48) count long e
 
-pub not_letters : {n : ℕ} (v low a : List ℕ) (count : ℕ) → length v ≡ n → low ≡ map lower_case v → a ≡ map (behind 97) low →
-    zip2 at_most (replicate n count) a ≡ map (λ b. at_most count (behind 97 (lower_case b))) v
-not_letters v low a count long e h = at_least v a (λ b. behind 97 (lower_case b)) count long (h ∙ ap (map (behind 97)) e ∙ map-map (behind 97) lower_case v)
+pub not_letters : {n : ℕ} (v low a : List ℕ) (count : ℕ) → length v ≡ n → low ≡ map lower_case v → a ≡ map (above 97) low →
+    zip2 at_most (replicate n count) a ≡ map (λ b. at_most count (above 97 (lower_case b))) v
+not_letters v low a count long e h = at_least v a (λ b. above 97 (lower_case b)) count long (h ∙ ap (map (above 97)) e ∙ map-map (above 97) lower_case v)
 
 module _ (class k : AsciiClass) (is : class ≡ k) (f : ℕ → ℕ) (all : agree_below (λ b. top 7 (f b)) (λ b. not (has_code k b)) 256 ≡ true) where
   each_lane : (v : List ℕ) → Each1 (Fits w8) v → map (top 7) (map f v) ≡ map (λ b. not (has_code k b)) v

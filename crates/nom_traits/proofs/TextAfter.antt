@@ -8,7 +8,7 @@ use Rattle.nom_traits.specs.Rests.{items_len-append}
 use Rattle.nom_traits.specs.Slices.{IsCount}
 use Rattle.nom_traits.specs.Text.{text_model}
 
--- where the first characters, so many, are looked for: those passed, and what is left
+-- where the first characters, that many, are looked for: those passed, and what is left
 pub record IsAfter (bs rest passed : List ℕ) (index left count : ℕ) : Type 0 where
   pub whole : chars bs ≡ passed ++ chars rest
   pub utf8 : IsUtf8 rest

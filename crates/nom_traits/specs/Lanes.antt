@@ -2,8 +2,8 @@
 use Rattle.std.specs.Prelude.{◌≡◌, ℕ, ◌+◌, ◌-◌, ◌%◌, ◌<◌, ◌≤◌, Bool, true, false, List, slice_index, bit_or}
 
 -- how far a byte lies after another; past 256 it starts again
-abbrev pub behind : ℕ → ℕ → ℕ
-behind low b = (b + (256 - low)) % 256
+abbrev pub above : ℕ → ℕ → ℕ
+above low b = (b + (256 - low)) % 256
 
 -- letters in lower case
 abbrev pub lower_case : ℕ → ℕ

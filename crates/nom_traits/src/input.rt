@@ -310,11 +310,11 @@ fn length_before<I: Input, P: Fn(I::Item) -> bool>(input: &I, predicate: P) -> O
     let _length = input.input_len();
     let mut place = 0;
     for item in input.iter_elements() {
-        let behind = place + input.item_len(&item);
+        let after = place + input.item_len(&item);
         if predicate(item) {
             return Some(place);
         }
-        place = behind;
+        place = after;
     }
     None
 }

@@ -4,7 +4,7 @@ ghost use Rattle.std.specs.List.{All};
 ghost use Rattle.std.specs.Simd.Lanes.{mask_l};
 ghost use Rattle.nom_traits.specs.Bytes.{bytes_model};
 ghost use Rattle.nom_traits.specs.Classes.{has_code, IsInside, IsOutside};
-ghost use Rattle.nom_traits.specs.Lanes.{behind, lower_case, IsRunWithin};
+ghost use Rattle.nom_traits.specs.Lanes.{above, lower_case, IsRunWithin};
 ghost use Rattle.nom_traits.specs.Runs.{IsPosition};
 
 use crate::character::AsciiClass;
@@ -119,7 +119,7 @@ fn in_lower_case(block: u8x32) -> u8x32
 /// How far each byte lies after `low`; past 256 it starts again.
 #[inline(always)]
 fn less(block: u8x32, low: u8) -> u8x32
-    ensures { result ≡ map (behind low) block }
+    ensures { result ≡ map (above low) block }
 {
     block - u8x32::splat(low)
 }
@@ -160,7 +160,7 @@ fn in_lower_case_first(block: u8x16) -> u8x16
 /// How far each byte lies after `low`; past 256 it starts again.
 #[inline(always)]
 fn less_first(block: u8x16, low: u8) -> u8x16
-    ensures { result ≡ map (behind low) block }
+    ensures { result ≡ map (above low) block }
 {
     block - u8x16::splat(low)
 }

@@ -24,7 +24,7 @@ pub struct Answers<I, O, E = Error<I>> {
 
 /// An error that tells how much of the input is left at its place.
 pub trait Fault {
-    /// Whether it is of the same kind as another, and at the same place of an input of which so much more is there.
+    /// Whether it is of the same kind as another, and at the same place of an input of which that much more is there.
     fn is_as(&self, other: &Self, lack: usize) -> bool;
 }
 

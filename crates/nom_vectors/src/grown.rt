@@ -23,7 +23,7 @@ fn places_of<I: Input>(alloc: Global, input: I) -> Option<Vec<usize>>
     Some(places)
 }
 
-/// Whether an answer on a beginning that lacks so much of the input is as the one on the whole: of one verdict, with
+/// Whether an answer on a beginning that lacks that much of the input is as the one on the whole: of one verdict, with
 /// equal outputs and rests, and with errors alike and at one place.
 fn is_alike<I: AsBytes, O: PartialEq, E: Fault>(
     whole: &IResult<I, O, E>,

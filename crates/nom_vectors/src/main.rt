@@ -1,8 +1,8 @@
 //! `nom_vectors`: runs the worked rows of nom, each by the parsers that it names, and prints for each
 //! whether it holds, in the order of their numbers, and then how many don't.
 //!
-//! The status is 0 where each row holds; 1 where one is wrong, or a write fails. A row that meets want of
-//! memory is wrong.
+//! The status is 0 where each row holds; 1 where one is wrong, or a write fails. A row that runs
+//! out of memory is wrong.
 #![tactic(auto)]
 
 ghost use Rattle.std.specs.Prelude.{◌≡◌, ◌==◌, if◌then◌else◌, count_by};

@@ -23,7 +23,7 @@ pub enum Kind {
 pub enum Length {
     /// A digit up to 3.
     Digit,
-    /// A character `1`, which stands for so many.
+    /// A character `1`, which stands for that many.
     Char(usize),
     /// The same, with a final refusal.
     CutChar,
@@ -79,7 +79,7 @@ fn kind_of(call: &str) -> Option<(Kind, &str)> {
 fn length_of(text: &str) -> Option<(Length, &str)> {
     let forms = "map(one_of(\"0123\"), digit_value)*|map(char('1'), one)*|map(char('1'), three)*|\
         cut(map(char('1'), one))*|be_u8()*|cut(be_u8())*|be_u16()*|be_u64()*|tag(\"a\").map(one)*";
-    let (number, behind) = form_of(forms, text)?;
+    let (number, after) = form_of(forms, text)?;
     let length = match number {
         0 => Length::Digit,
         1 => Length::Char(1),
@@ -91,7 +91,7 @@ fn length_of(text: &str) -> Option<(Length, &str)> {
         7 => Length::U64,
         _ => Length::Tag,
     };
-    Some((length, behind))
+    Some((length, after))
 }
 
 /// A part, and the text of its tag.
@@ -122,15 +122,15 @@ fn part_of(text: &str) -> Option<(Part, &str)> {
 /// A call by its text; none where it isn't known.
 pub fn call_of(text: &str) -> Option<Call<&str>> {
     let (kind, inner) = kind_of(text)?;
-    let (length, behind) = length_of(inner)?;
+    let (length, after) = length_of(inner)?;
     let (part, text) = match (kind, length) {
-        (Kind::Data, Length::Tag) if behind.is_empty() => (Part::Rest, "a"),
-        (Kind::Data | Kind::DataMany0, _) if behind.is_empty() => (Part::Rest, ""),
-        (Kind::RecordsMany0 | Kind::RecordsMany1, Length::U8) if behind.is_empty() => {
+        (Kind::Data, Length::Tag) if after.is_empty() => (Part::Rest, "a"),
+        (Kind::Data | Kind::DataMany0, _) if after.is_empty() => (Part::Rest, ""),
+        (Kind::RecordsMany0 | Kind::RecordsMany1, Length::U8) if after.is_empty() => {
             (Part::Rest, "R")
         }
         (Kind::RecordsMany0 | Kind::RecordsMany1, _) => return None,
-        _ => part_of(behind.strip_prefix(", ")?)?,
+        _ => part_of(after.strip_prefix(", ")?)?,
     };
     Some(Call {
         kind,

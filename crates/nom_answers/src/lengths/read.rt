@@ -1,6 +1,6 @@
 //! Lengths, as a call has them.
 
-use crate::lengths::behind::{behind, data, parsed};
+use crate::lengths::after::{after, data, parsed};
 use crate::lengths::calls::{Call, Kind, Length, Part};
 use crate::lists::calls::Shape;
 use crate::lists::plain::list;
@@ -25,12 +25,12 @@ where
 {
     let digit = |c: char| (c as u32).saturating_sub(48);
     match call.length {
-        Length::Digit => behind(
+        Length::Digit => after(
             question,
             call,
             map(one_of::<I, &str, Error<I>>("0123"), digit),
         ),
-        Length::Char(n) => behind(
+        Length::Char(n) => after(
             question,
             call,
             map(char::<I, Error<I>>('1'), move |_c: char| n),
@@ -68,8 +68,8 @@ where
         (Length::U8, _, Part::U8) => {
             parsed(question, call.kind, be_u8(), be_u8::<I, Error<I>>())
         }
-        (Length::U8, _, _) => behind(question, call, be_u8::<I, Error<I>>()),
-        (Length::U64, _, _) => behind(question, call, be_u64::<I, Error<I>>()),
+        (Length::U8, _, _) => after(question, call, be_u8::<I, Error<I>>()),
+        (Length::U64, _, _) => after(question, call, be_u64::<I, Error<I>>()),
         (Length::CutU8, Kind::Data, _) => data(question, cut(be_u8::<I, Error<I>>())),
         (Length::U16, Kind::Data, _) => data(question, be_u16::<I, Error<I>>()),
         (Length::Tag, Kind::Data, _) => {

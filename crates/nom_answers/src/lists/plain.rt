@@ -28,7 +28,7 @@ where
     }
 }
 
-/// What a list of all items, or of so many, answers; none where the shape is of another kind.
+/// What a list of all items, or of that many, answers; none where the shape is of another kind.
 pub fn list<I, P>(question: Question<I>, shape: &Shape, item: P) -> Option<Answer>
 where
     I: Input + AsBytes + Debug,

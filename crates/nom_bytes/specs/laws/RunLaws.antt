@@ -49,10 +49,10 @@ module _ {A : Type 0} (IsValue : A → Type 0) (Test : A → Bool → Type 0) (f
 
 module _ {I A : Type 0} (w : Model I A) (Test : A → Bool → Type 0) (bound : Option ℕ) where
   -- a run of the first of related inputs, as one of the second
-  record IsCarried (s : Bool) (y : I) (n : ℕ) (t : Slice w) (behind : ℕ) : Type 0 where
+  record IsCarried (s : Bool) (y : I) (n : ℕ) (t : Slice w) (after : ℕ) : Type 0 where
     is_run : IsRunSlice w Test bound s y n t
-    longer_behind : 0 < behind → 0 < length is_run.first.rest
-    behind_longer : 0 < length is_run.first.rest → 0 < behind
+    longer_after : 0 < after → 0 < length is_run.first.rest
+    after_longer : 0 < length is_run.first.rest → 0 < after
 
   carried : (longer s : Bool) → (longer ≡ true → s ≡ true) → (x y : I) (n : ℕ) (t : Slice w) → Related w longer x y →
       (r : IsRunSlice w Test bound s x n t) → IsCarried s y n t (length r.first.rest)
@@ -72,8 +72,8 @@ module _ {I A : Type 0} (w : Model I A) (Test : A → Bool → Type 0) (bound : 
           stops = stops_longer (λ z. IsAtBound bound (length t.items) ⊎ Test z false) r.first.rest e.more followed r.stops;
           followed = λ _. after;
         };
-        longer_behind = λ _. after;
-        behind_longer = λ _. followed;
+        longer_after = λ _. after;
+        after_longer = λ _. followed;
       }
   carried false s only x y n t e r = record {
     is_run = record {
@@ -88,8 +88,8 @@ module _ {I A : Type 0} (w : Model I A) (Test : A → Bool → Type 0) (bound : 
       stops = r.stops;
       followed = r.followed;
     };
-    longer_behind = λ h. h;
-    behind_longer = λ h. h;
+    longer_after = λ h. h;
+    after_longer = λ h. h;
   }
 
   -- a run that an item follows is one in either mode
@@ -134,13 +134,13 @@ module _ {I A : Type 0} (w : Model I A) (IsValue : A → Type 0) (values : (i : 
         (runs w Test bound least).Accepts s x n t → (runs w Test bound least).Accepts s y n t
     accepted_stays longer s only x y n t e a =
         let c = carried w Test bound longer s only x y n t e a.0 in
-        (c.is_run, enough_with least bound (length t.items) (length a.0.first.rest) (length c.is_run.first.rest) c.longer_behind a.1)
+        (c.is_run, enough_with least bound (length t.items) (length a.0.first.rest) (length c.is_run.first.rest) c.longer_after a.1)
 
     refused_stays : (longer s : Bool) → (longer ≡ true → s ≡ true) → (x y : I) → Related w longer x y → (runs w Test bound least).Refuses s x →
         (runs w Test bound least).Refuses s y
     refused_stays longer s only x y e a =
         let c = carried w Test bound longer s only x y a.0 a.1 e a.2 in
-        (a.0, a.1, c.is_run, λ h. a.3 (enough_with least bound (length a.1.items) (length c.is_run.first.rest) (length a.2.first.rest) c.behind_longer h))
+        (a.0, a.1, c.is_run, λ h. a.3 (enough_with least bound (length a.1.items) (length c.is_run.first.rest) (length a.2.first.rest) c.after_longer h))
 
     pub run_laws : LeafLaws w (runs w Test bound least)
     run_laws = record {

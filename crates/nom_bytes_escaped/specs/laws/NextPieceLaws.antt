@@ -9,7 +9,7 @@ use Rattle.nom_internal.specs.laws.CaseLaws.{labelled_lawful, labelled_steady}
 use Rattle.nom_bytes_escaped.specs.declared.next_piece.Control.{Control}
 use Rattle.nom_bytes_escaped.specs.declared.next_piece.NextPiece.TheVariants.{Done}
 use Rattle.nom_bytes_escaped.specs.NextPieces.{IsLeft, left_leaf, StandsOther, StandsLast, StandsBefore, TellsControl, control_leaf, by_control}
-use Rattle.nom_bytes_escaped.specs.NextPieces.{behind_control, escape_meaning, piece_meaning, by_left, where_left, next_piece_meaning}
+use Rattle.nom_bytes_escaped.specs.NextPieces.{after_control, escape_meaning, piece_meaning, by_left, where_left, next_piece_meaning}
 
 -- the items of the second of related inputs begin with the first's
 module _ {I A : Type 0} (w : Model I A) where
@@ -162,8 +162,8 @@ module _ {I A W E : Type 0} (U : Type 0) (w : Model I A) (g : Meaning I W E) whe
   control_never cause h Control.Last = tt
   control_never cause h (Control.Before u) = h
 
-  pub behind_lawful : IsLawful w g → IsLawfulFamily w AnyKey (behind_control {U = U} g)
-  behind_lawful q = record {
+  pub after_lawful : IsLawful w g → IsLawfulFamily w AnyKey (after_control {U = U} g)
+  after_lawful q = record {
     lawful = λ c _. control_lawful q c;
     frugal = λ mode h c _. control_frugal mode h c;
     settles = λ h c _. control_settles h c;
@@ -201,10 +201,10 @@ module _ {I A V E : Type 0} (w : Model I A) (done : V) (m : Meaning I V E) where
 
 module _ {I A U W E : Type 0} {w : Model I A} (l : InputLaws w) (IsControl : A → Type 0) (lack : Option ℕ) {g : Meaning I W E} where
   escape_lawful : IsLawful w g → IsLawful w (escape_meaning {U = U} w IsControl lack g)
-  escape_lawful q = then_lawful l {first_mode = λ o. o} (behind_control g) (leaf_lawful (control_laws w IsControl lack)) (behind_lawful U w g q)
+  escape_lawful q = then_lawful l {first_mode = λ o. o} (after_control g) (leaf_lawful (control_laws w IsControl lack)) (after_lawful U w g q)
 
   escape_steady : IsSteady w g → IsSteady w (escape_meaning {U = U} w IsControl lack g)
-  escape_steady q = then_steady l {first_mode = λ o. o} (behind_control g) (leaf_steady (control_laws w IsControl lack)) (control_steady U w g q)
+  escape_steady q = then_steady l {first_mode = λ o. o} (after_control g) (leaf_steady (control_laws w IsControl lack)) (control_steady U w g q)
 
 module _ {I A U W E : Type 0} {w : Model I A} (l : InputLaws w) (IsControl : A → Type 0) (lack : Option ℕ) {m : Meaning I U E} {g : Meaning I W E} where
   piece_lawful : IsLawful w m → IsLawful w g → IsLawful w (piece_meaning w IsControl lack m g)

@@ -8,7 +8,7 @@ use Rattle.nom_error.specs.declared.kind.ErrorKind.TheVariants as Kind
 use Rattle.nom_internal.specs.Bounded.{AreAlike}
 use Rattle.nom_internal.specs.laws.BoundedLaws.{and_then_lawful, and_then_steady}
 use Rattle.nom_internal.specs.laws.CaseLaws.{fixed_lawful, fixed_steady}
-use Rattle.nom_multi_length.specs.laws.LengthLaws.{behind_lawful, behind_steady}
+use Rattle.nom_multi_length.specs.laws.LengthLaws.{after_lawful, after_steady}
 use Rattle.nom_multi_length.specs.Values.{cuts, window_meaning, settled, settled_meaning, values_by_length, length_value_meaning}
 
 -- a front of a longer list that isn't longer than a list is a front of that
@@ -106,8 +106,8 @@ module _ {I A P V E : Type 0} {w : Model I A} (i : InputLaws w) (errs : Errors I
         settles = λ h n _. absurd h;
         never_fails = λ cause h n _. (tt, h);
       } in
-      behind_lawful i one (values_by_length w errs m) p values
+      after_lawful i one (values_by_length w errs m) p values
 
   pub length_value_steady : IsSteady w a → IsSteady w (length_value_meaning w errs IsLength a m)
-  length_value_steady p = behind_steady i one (values_by_length w errs m) p
+  length_value_steady p = after_steady i one (values_by_length w errs m) p
       (λ n. and_then_steady (slices_alike w) (settled_lawful w errs m l) i (window_steady i errs n))

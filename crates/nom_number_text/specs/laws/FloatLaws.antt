@@ -62,8 +62,8 @@ module _ {I A E : Type 0} (w : Model I A) (l : InputLaws w) (IsValue : A → Typ
 
   whole_stream : IsStream w (whole_meaning w code errs)
   whole_stream =
-      let behind = pair_stream (char_stream 46) (opt_stream digits_stream) l in
-      recognized_stream (pair_stream digits_stream (opt_stream behind) l) l
+      let after = pair_stream (char_stream 46) (opt_stream digits_stream) l in
+      recognized_stream (pair_stream digits_stream (opt_stream after) l) l
 
   point_stream : IsStream w (point_meaning w code errs)
   point_stream = recognized_stream (pair_stream (char_stream 46) digits_stream l) l
@@ -78,5 +78,5 @@ module _ {I A E : Type 0} (w : Model I A) (l : InputLaws w) (IsValue : A → Typ
 
   pub float_stream : IsStream w (float_meaning w code errs)
   float_stream =
-      let behind = pair_stream decimal_stream (opt_stream exponent_stream) l in
-      recognized_stream (pair_stream (opt_stream (either_stream 43 45)) behind l) l
+      let after = pair_stream decimal_stream (opt_stream exponent_stream) l in
+      recognized_stream (pair_stream (opt_stream (either_stream 43 45)) after l) l

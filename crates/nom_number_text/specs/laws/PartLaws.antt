@@ -12,8 +12,8 @@ use Rattle.nom_character_integer.specs.Integers.{signed_meaning}
 use Rattle.nom_character_integer.specs.laws.IntegerLaws.{signed_lawful, signed_steady}
 use Rattle.nom_number_text.specs.laws.FloatLaws.{IsStream, opt_stream, cut_stream, pair_stream, choice_stream, char_stream, either_stream, digits_stream}
 use Rattle.nom_number_text.specs.laws.WordLaws.{as_float_stream}
-use Rattle.nom_number_text.specs.Parts.{digits0_meaning, behind_meaning, both_meaning, mantissa_meaning, power_meaning, parts_meaning, IsParts}
-use Rattle.nom_number_text.specs.Parts.{integer_slice, fraction_slice, before_of, behind_of}
+use Rattle.nom_number_text.specs.Parts.{digits0_meaning, after_meaning, both_meaning, mantissa_meaning, power_meaning, parts_meaning, IsParts}
+use Rattle.nom_number_text.specs.Parts.{integer_slice, fraction_slice, before_of, after_of}
 
 module _ {I A P Q E : Type 0} {w : Model I A} (l : InputLaws w) {a : Meaning I P E} (p : IsStream w a) {b : Meaning I Q E} (q : IsStream w b) where
   preceded_stream : IsStream w (preceded_meaning w a b)
@@ -30,13 +30,13 @@ module _ {I A E : Type 0} (w : Model I A) (l : InputLaws w) (IsValue : A → Typ
   point : IsStream w (char_meaning w code errs 46)
   point = char_stream w l IsValue values code errs 46
 
-  behind_stream : IsStream w (behind_meaning w code errs)
-  behind_stream = choice_stream (preceded_stream l point digits0_stream) digits0_stream errs
+  after_stream : IsStream w (after_meaning w code errs)
+  after_stream = choice_stream (preceded_stream l point digits0_stream) digits0_stream errs
 
   both_stream : IsStream w (both_meaning w code errs)
   both_stream =
       let digits = digits_stream w l IsValue values code errs in
-      choice_stream (pair_stream digits behind_stream l) (pair_stream digits0_stream (preceded_stream l point digits) l) errs
+      choice_stream (pair_stream digits after_stream l) (pair_stream digits0_stream (preceded_stream l point digits) l) errs
 
   mantissa_stream : IsStream w (mantissa_meaning w code errs)
   mantissa_stream = as_float_stream w code errs (pair_stream (opt_stream (either_stream w l IsValue values code errs 43 45)) both_stream l)
@@ -58,7 +58,7 @@ parts_pinned w {view = view} views code = record {
       cc (
         p.0 ∙ sym q.0,
         slice.one_view (integer_slice w code (before_of w t.0.1)) o.1 n.1 p.1 q.1,
-        slice.one_view (fraction_slice w code (behind_of w t.0.1)) o.2 n.2 p.2 q.2,
+        slice.one_view (fraction_slice w code (after_of w t.0.1)) o.2 n.2 p.2 q.2,
         p.3 ∙ sym q.3,
       );
 }

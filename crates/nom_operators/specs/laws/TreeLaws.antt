@@ -7,17 +7,17 @@ use Rattle.nom_operators.specs.Trees.Tree.{Leaf, Node}
 -- two places in a list: the same, or the second after the first, or before it
 pub data TwoPlaces {A : Type 0} (b c : List A) (x y : A) (a d : List A) : Type 0 where
   Same : b ≡ c → x ≡ y → a ≡ d → TwoPlaces b c x y a d
-  Behind : (m : List A) → c ≡ b ++ x ∷ m → a ≡ m ++ y ∷ d → TwoPlaces b c x y a d
+  After : (m : List A) → c ≡ b ++ x ∷ m → a ≡ m ++ y ∷ d → TwoPlaces b c x y a d
   Before : (m : List A) → b ≡ c ++ y ∷ m → d ≡ m ++ x ∷ a → TwoPlaces b c x y a d
 
 one_more : {A : Type 0} (z z' : A) (b c : List A) (x y : A) (a d : List A) → z ≡ z' → TwoPlaces b c x y a d → TwoPlaces (z ∷ b) (z' ∷ c) x y a d
 one_more z z' b c x y a d e (Same p q r) = Same (cc (e, p)) q r
-one_more z z' b c x y a d e (Behind m p q) = Behind m (cc (e, p)) q
+one_more z z' b c x y a d e (After m p q) = After m (cc (e, p)) q
 one_more z z' b c x y a d e (Before m p q) = Before m (cc (e, p)) q
 
 pub two_places : {A : Type 0} (b c : List A) (x y : A) (a d : List A) → b ++ x ∷ a ≡ c ++ y ∷ d → TwoPlaces b c x y a d
 two_places [] [] x y a d e = Same refl (cc) (cc)
-two_places [] (z ∷ c) x y a d e = Behind c (cc) (cc)
+two_places [] (z ∷ c) x y a d e = After c (cc) (cc)
 two_places (z ∷ b) [] x y a d e = Before b (cc) (cc)
 two_places (z ∷ b) (z' ∷ c) x y a d e =
     let heads : z ≡ z' = cc in
@@ -59,7 +59,7 @@ module _ {T B : Type 0} (level : B → ℕ) (left : ℕ → Bool) where
     where
       by : TwoPlaces b c x y a d → (b ≡ c) × (x ≡ y) × (a ≡ d)
       by (Same p q r) = (p, q, r)
-      by (Behind m p q) = absurd (root_clash b m d x y (subst (λ z. IsRoot level left b x.0 z) q g) (subst (λ z. IsRoot level left z y.0 d) p h))
+      by (After m p q) = absurd (root_clash b m d x y (subst (λ z. IsRoot level left b x.0 z) q g) (subst (λ z. IsRoot level left z y.0 d) p h))
       by (Before m p q) = absurd (root_clash c m a y x (subst (λ z. IsRoot level left c y.0 z) q h) (subst (λ z. IsRoot level left z x.0 a) p g))
 
   not_empty : (b : List (B × T)) (x : B × T) (a : List (B × T)) → [] ≡ b ++ x ∷ a → ⊥

@@ -6,36 +6,36 @@ use Rattle.nom_internal.specs.Prelude.{IsSteady, IsLawfulFamily, AnyKey, success
 use Rattle.nom_internal.specs.laws.CaseLaws.{CaseLaws, case_lawful, case_steady}
 use Rattle.nom_internal.specs.laws.RecognizedLaws.{AcceptLaws, plain_laws}
 use Rattle.nom_internal.specs.laws.SequenceLaws.{then_lawful, then_steady}
-use Rattle.nom_precedence.specs.Stuck.{Read, read_behind, unless_stuck, read_both, freed, IfStuck, StuckBlames, StuckAsks, freed_case, freed_meaning}
+use Rattle.nom_precedence.specs.Stuck.{Read, read_after, unless_stuck, read_both, freed, IfStuck, StuckBlames, StuckAsks, freed_case, freed_meaning}
 use Rattle.nom_precedence.specs.Stuck.Read.{Whole, Stuck}
 
 module _ {I A W E : Type 0} (w : Model I A) (V : Type 0) (m : Meaning I (Read W) E) where
-  behind_lawful : IsLawful w m → (u : Read V) → IsLawful w (read_behind m u)
-  behind_lawful p (Whole v) = p
-  behind_lawful p Stuck = success_lawful
+  after_lawful : IsLawful w m → (u : Read V) → IsLawful w (read_after m u)
+  after_lawful p (Whole v) = p
+  after_lawful p Stuck = success_lawful
 
-  behind_frugal : (mode : Modes) → m.IsFrugal mode → (u : Read V) → (read_behind m u).IsFrugal mode
-  behind_frugal mode h (Whole v) = h
-  behind_frugal mode h Stuck = λ _ x. x
+  after_frugal : (mode : Modes) → m.IsFrugal mode → (u : Read V) → (read_after m u).IsFrugal mode
+  after_frugal mode h (Whole v) = h
+  after_frugal mode h Stuck = λ _ x. x
 
-  behind_settles : m.Settles → (u : Read V) → (read_behind m u).Settles
-  behind_settles h (Whole v) = h
-  behind_settles h Stuck = tt
+  after_settles : m.Settles → (u : Read V) → (read_after m u).Settles
+  after_settles h (Whole v) = h
+  after_settles h Stuck = tt
 
-  behind_never : (cause : Cause) → m.NeverFails cause → (u : Read V) → (read_behind m u).NeverFails cause
-  behind_never cause h (Whole v) = h
-  behind_never cause h Stuck = tt
+  after_never : (cause : Cause) → m.NeverFails cause → (u : Read V) → (read_after m u).NeverFails cause
+  after_never cause h (Whole v) = h
+  after_never cause h Stuck = tt
 
-  behind_steady : IsSteady w m → (u : Read V) → IsSteady w (read_behind m u)
-  behind_steady p (Whole v) = p
-  behind_steady p Stuck = success_steady
+  after_steady : IsSteady w m → (u : Read V) → IsSteady w (read_after m u)
+  after_steady p (Whole v) = p
+  after_steady p Stuck = success_steady
 
   pub unless_lawful : IsLawful w m → IsLawfulFamily {K = Read V} w AnyKey (unless_stuck m)
   unless_lawful p = record {
-    lawful = λ u _. behind_lawful p u;
-    frugal = λ mode h u _. behind_frugal mode h u;
-    settles = λ h u _. behind_settles h u;
-    never_fails = λ cause h u _. behind_never cause h u;
+    lawful = λ u _. after_lawful p u;
+    frugal = λ mode h u _. after_frugal mode h u;
+    settles = λ h u _. after_settles h u;
+    never_fails = λ cause h u _. after_never cause h u;
   }
 
 module _ {I A V W T E : Type 0} {w : Model I A} (l : InputLaws w) {tree : V → W → T} {a : Meaning I (Read V) E} {b : Meaning I (Read W) E} where
@@ -43,7 +43,7 @@ module _ {I A V W T E : Type 0} {w : Model I A} (l : InputLaws w) {tree : V → 
   both_lawful p q = then_lawful l (unless_stuck b) p (unless_lawful w V b q)
 
   pub both_steady : IsSteady w a → IsSteady w b → IsSteady w (read_both w tree a b)
-  both_steady p q = then_steady l (unless_stuck b) p (behind_steady w V b q)
+  both_steady p q = then_steady l (unless_stuck b) p (after_steady w V b q)
 
 freed_accepts : {V : Type 0} (n m : ℕ) (t : V) (u : Read V) → Accept n t ≡ freed m u → m ≡ n
 freed_accepts n m t (Whole v) e = cc

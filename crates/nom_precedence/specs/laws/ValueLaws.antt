@@ -43,8 +43,8 @@ module _ {P V Q B F G H O : Type 0} (f : Folding P V Q B F G H O) (prefix : View
       (prefixes_alike cs x y p.1 q.1 e p.3 q.3) p.4 q.4
 
   term_alike : (t : Term P V Q) (u v : O) → TermGives f t u → TermGives f t v → value.value u ≡ value.value v
-  term_alike t u v p q = prefixes_alike t.prefixes p.behind q.behind u v
-      (postfixes_alike p.operand q.operand t.postfixes p.behind q.behind (pinned.operands.one_view t.operand p.operand q.operand p.is_operand q.is_operand)
+  term_alike t u v p q = prefixes_alike t.prefixes p.rest q.rest u v
+      (postfixes_alike p.operand q.operand t.postfixes p.rest q.rest (pinned.operands.one_view t.operand p.operand q.operand p.is_operand q.is_operand)
       p.postfixes_give q.postfixes_give) p.prefixes_give q.prefixes_give
 
   tree_alike : (t : Tree (Term P V Q) (ℕ × B)) (u v : O) → TreeGives f t u → TreeGives f t v → value.value u ≡ value.value v

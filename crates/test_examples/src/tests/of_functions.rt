@@ -15,9 +15,9 @@ fn a_named_function(rt: HostRuntime) {
     for (input, wanted) in [(&b"ab"[..], Some(b'a')), (&b""[..], None)] {
         let mut byte = func(first);
         match byte.parse_complete(input) {
-            Ok((behind, found)) => {
+            Ok((after, found)) => {
                 assert!(rt; wanted == Some(found));
-                assert!(rt; behind == b"b".as_slice());
+                assert!(rt; after == b"b".as_slice());
             }
             Err(Err::Incomplete(Needed::Unknown)) => assert!(rt; wanted.is_none()),
             _ => panic!(rt; "another answer"),
@@ -30,7 +30,7 @@ fn a_named_function(rt: HostRuntime) {
 fn a_closure(rt: HostRuntime) {
     let mut length = func::<&[u8], usize, (), _>(|input| Ok((input, input.len())));
     match length.parse(b"ab".as_slice()) {
-        Ok((behind, found)) => assert!(rt; found == 2 && behind.len() == 2),
+        Ok((after, found)) => assert!(rt; found == 2 && after.len() == 2),
         _ => panic!(rt; "refused"),
     }
 }
@@ -99,7 +99,7 @@ fn build_modes(rt: HostRuntime) {
 fn letters(rt: HostRuntime) {
     let mut word = recognize(func(complete::alpha0::<&[u8], Fail>));
     match word.parse(b"abc".as_slice()) {
-        Ok((behind, found)) => assert!(rt; behind.is_empty() && found == b"abc".as_slice()),
+        Ok((after, found)) => assert!(rt; after.is_empty() && found == b"abc".as_slice()),
         _ => panic!(rt; "refused"),
     }
 }
@@ -109,12 +109,12 @@ fn ends(rt: HostRuntime) {
     let mut end = func(eof::<&[u8], Fail>);
     assert!(rt; end.parse(b"".as_slice()).is_ok());
     match measured(b"ab".as_slice()) {
-        Ok((behind, found)) => assert!(rt; behind.len() == 2 && found == 2),
+        Ok((after, found)) => assert!(rt; after.len() == 2 && found == 2),
         _ => panic!(rt; "refused"),
     }
     let mut all = func(rest::<&[u8], Fail>);
     match all.parse(b"ab".as_slice()) {
-        Ok((behind, found)) => assert!(rt; behind.is_empty() && found == b"ab".as_slice()),
+        Ok((after, found)) => assert!(rt; after.is_empty() && found == b"ab".as_slice()),
         _ => panic!(rt; "refused"),
     }
 }
@@ -123,7 +123,7 @@ fn ends(rt: HostRuntime) {
 fn a_number(rt: HostRuntime) {
     let mut number = func(complete::u8::<&[u8], Fail>);
     match number.parse(b"255,".as_slice()) {
-        Ok((behind, found)) => assert!(rt; behind.len() == 1 && found == 255),
+        Ok((after, found)) => assert!(rt; after.len() == 1 && found == 255),
         _ => panic!(rt; "refused"),
     }
 }
@@ -133,7 +133,7 @@ fn digits_that_grow(rt: HostRuntime) {
     let grown = grown_digits(&b"12a"[..], &[1]);
     assert!(rt; grown.index == 1);
     match grown.result {
-        Ok((behind, found)) => assert!(rt; behind.len() == 1 && found == b"12".as_slice()),
+        Ok((after, found)) => assert!(rt; after.len() == 1 && found == b"12".as_slice()),
         _ => panic!(rt; "refused"),
     }
 }
@@ -143,7 +143,7 @@ fn a_byte_that_grows(rt: HostRuntime) {
     let grown = grown_byte(&b"ab"[..], &[0, 1]);
     assert!(rt; grown.index == 1);
     match grown.result {
-        Ok((behind, found)) => assert!(rt; behind.len() == 1 && found == b'a'),
+        Ok((after, found)) => assert!(rt; after.len() == 1 && found == b'a'),
         _ => panic!(rt; "refused"),
     }
 }

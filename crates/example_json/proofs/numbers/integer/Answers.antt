@@ -2,7 +2,7 @@ use Rattle.std.proofs.Common.{codes, refl, ◌∙◌, ap}
 use Rattle.nom_internal.proofs.Shown.{err_from_residual}
 use Rattle.nom_func.specs.Func.{Answers}
 use Rattle.example_json.specs.Numbers.{i64_of, whole_by}
-use Rattle.example_json.proofs.Between.{before_stops, behind}
+use Rattle.example_json.proofs.Between.{before_stops, after}
 use Rattle.example_json.proofs.Told.{taken}
 use Rattle.example_json.proofs.Whole.{whole_frugal, whole_told}
 use Rattle.example_json.proofs.numbers.integer.Goals as goal
@@ -26,4 +26,4 @@ returns c =
     let zero = ap (λ p. p.second.first.tag.now) inner ∙
     (ap (λ p. p.first.tag.now) c.pair-whole.ensures.second ∙ (ap (λ l. l.first.tag.now) c.alt.ensures ∙ ap (λ t. t.now) c.tag.ensures)) in
     let look = whole_told _ _ minus zero c.in_ok-place.ensures.shown in
-    behind (whole_by 45 (codes "0")) i64_of (taken refl look) c.i64.ensures.shown
+    after (whole_by 45 (codes "0")) i64_of (taken refl look) c.i64.ensures.shown

@@ -5,7 +5,7 @@ use Rattle.nom.specs.Texts.{delimited_of}
 use Rattle.nom_internal.proofs.Shown.{err_from_residual}
 use Rattle.example_json.specs.Json.{array_of, list_of, member_of, scalar_of, value_of}
 use Rattle.example_json.specs.Scalars.{text_of, token_of}
-use Rattle.example_json.proofs.Between.{before_stops, behind, body_stops, close_stops, closed, name_stops, open_stops, paired, sign_stops, value_stops}
+use Rattle.example_json.proofs.Between.{before_stops, after, body_stops, close_stops, closed, name_stops, open_stops, paired, sign_stops, value_stops}
 use Rattle.example_json.proofs.Lists.{first_kept, first_lacks, first_refused, first_stopped, further_kept, further_lacks, further_refused, further_stopped}
 use Rattle.example_json.proofs.Lists.{grown}
 use Rattle.example_json.proofs.Told.{as_stops, as_told, refused, taken, told}
@@ -19,23 +19,23 @@ array-returns-in_err-inside t c =
     as_stops (delimited_of (token_of 91) (list_of (value_of c.args.depth)) (token_of 93)) refl stops
     (open_stops (token_of 91) (list_of (value_of c.args.depth)) (token_of 93) (token_frugal 91) refl refl c.in_err-inside.ensures)
 
-pub array-returns-in_err-behind : goal.array-returns-in_err-behind
-array-returns-in_err-behind t c =
-    let stops = err_from_residual c.from_residual-in_err-behind.ensures in
+pub array-returns-in_err-after : goal.array-returns-in_err-after
+array-returns-in_err-after t c =
+    let stops = err_from_residual c.from_residual-in_err-after.ensures in
     as_stops (delimited_of (token_of 91) (list_of (value_of c.args.depth)) (token_of 93)) refl stops
-    (body_stops (token_of 91) (list_of (value_of c.args.depth)) (token_of 93) (taken refl c.in_ok-inside.ensures) refl refl c.in_err-behind.ensures)
+    (body_stops (token_of 91) (list_of (value_of c.args.depth)) (token_of 93) (taken refl c.in_ok-inside.ensures) refl refl c.in_err-after.ensures)
 
 pub array-returns-in_err-rest : goal.array-returns-in_err-rest
 array-returns-in_err-rest t c =
     let stops = err_from_residual c.from_residual-in_err-rest.ensures in
     as_stops (delimited_of (token_of 91) (list_of (value_of c.args.depth)) (token_of 93)) refl stops
     (close_stops (token_of 91) (list_of (value_of c.args.depth)) (token_of 93) (token_frugal 93) (taken refl c.in_ok-inside.ensures)
-    (taken refl c.in_ok-behind.ensures) refl refl c.in_err-rest.ensures)
+    (taken refl c.in_ok-after.ensures) refl refl c.in_err-rest.ensures)
 
 pub array-returns : goal.array-returns
 array-returns t c = told refl (as_told (delimited_of (token_of 91) (list_of (value_of c.args.depth)) (token_of 93))
     (closed (token_of 91) (list_of (value_of c.args.depth)) (token_of 93) (taken refl c.in_ok-inside.ensures)
-    (taken refl c.in_ok-behind.ensures) (taken refl c.in_ok-rest.ensures)) refl)
+    (taken refl c.in_ok-after.ensures) (taken refl c.in_ok-rest.ensures)) refl)
 
 pub object-returns-in_err-inside : goal.object-returns-in_err-inside
 object-returns-in_err-inside t c =
@@ -43,71 +43,71 @@ object-returns-in_err-inside t c =
     as_stops (delimited_of (token_of 123) (list_of (member_of (value_of c.args.depth))) (token_of 125)) refl stops
     (open_stops (token_of 123) (list_of (member_of (value_of c.args.depth))) (token_of 125) (token_frugal 123) refl refl c.in_err-inside.ensures)
 
-pub object-returns-in_err-behind : goal.object-returns-in_err-behind
-object-returns-in_err-behind t c =
-    let stops = err_from_residual c.from_residual-in_err-behind.ensures in
+pub object-returns-in_err-after : goal.object-returns-in_err-after
+object-returns-in_err-after t c =
+    let stops = err_from_residual c.from_residual-in_err-after.ensures in
     as_stops (delimited_of (token_of 123) (list_of (member_of (value_of c.args.depth))) (token_of 125)) refl stops
     (body_stops (token_of 123) (list_of (member_of (value_of c.args.depth))) (token_of 125)
-    (taken refl c.in_ok-inside.ensures) refl refl c.in_err-behind.ensures)
+    (taken refl c.in_ok-inside.ensures) refl refl c.in_err-after.ensures)
 
 pub object-returns-in_err-rest : goal.object-returns-in_err-rest
 object-returns-in_err-rest t c =
     let stops = err_from_residual c.from_residual-in_err-rest.ensures in
     as_stops (delimited_of (token_of 123) (list_of (member_of (value_of c.args.depth))) (token_of 125)) refl stops
     (close_stops (token_of 123) (list_of (member_of (value_of c.args.depth))) (token_of 125) (token_frugal 125)
-    (taken refl c.in_ok-inside.ensures) (taken refl c.in_ok-behind.ensures) refl refl c.in_err-rest.ensures)
+    (taken refl c.in_ok-inside.ensures) (taken refl c.in_ok-after.ensures) refl refl c.in_err-rest.ensures)
 
 pub object-returns : goal.object-returns
 object-returns t c = told refl
     (as_told (delimited_of (token_of 123) (list_of (member_of (value_of c.args.depth))) (token_of 125))
     (closed (token_of 123) (list_of (member_of (value_of c.args.depth))) (token_of 125) (taken refl c.in_ok-inside.ensures)
-    (taken refl c.in_ok-behind.ensures) (taken refl c.in_ok-rest.ensures)) refl)
+    (taken refl c.in_ok-after.ensures) (taken refl c.in_ok-rest.ensures)) refl)
 
-pub member-returns-in_err-behind : goal.member-returns-in_err-behind
-member-returns-in_err-behind t c =
-    name_stops text_of (token_of 58) (value_of c.args.depth) refl (err_from_residual c.from_residual.ensures) c.in_err-behind.ensures
+pub member-returns-in_err-after : goal.member-returns-in_err-after
+member-returns-in_err-after t c =
+    name_stops text_of (token_of 58) (value_of c.args.depth) refl (err_from_residual c.from_residual.ensures) c.in_err-after.ensures
 
 pub member-returns-in_err-inside : goal.member-returns-in_err-inside
 member-returns-in_err-inside t c =
-    sign_stops text_of (token_of 58) (value_of c.args.depth) (taken refl c.in_ok-behind.ensures)
+    sign_stops text_of (token_of 58) (value_of c.args.depth) (taken refl c.in_ok-after.ensures)
     (token_frugal 58) refl (err_from_residual c.from_residual-in_err-inside.ensures) c.in_err-inside.ensures
 
 pub member-returns-in_err-rest : goal.member-returns-in_err-rest
 member-returns-in_err-rest t c =
-    value_stops text_of (token_of 58) (value_of c.args.depth) (taken refl c.in_ok-behind.ensures)
+    value_stops text_of (token_of 58) (value_of c.args.depth) (taken refl c.in_ok-after.ensures)
     (taken refl c.in_ok-inside.ensures) refl (err_from_residual c.from_residual-in_err-rest.ensures) c.in_err-rest.ensures
 
 pub member-returns : goal.member-returns
 member-returns t c = told refl
-    (paired text_of (token_of 58) (value_of c.args.depth) (taken refl c.in_ok-behind.ensures) (taken refl c.in_ok-inside.ensures)
+    (paired text_of (token_of 58) (value_of c.args.depth) (taken refl c.in_ok-after.ensures) (taken refl c.in_ok-inside.ensures)
     (taken refl c.in_ok-rest.ensures))
 
-pub next_element-returns-in_err-behind-clause-shown : goal.next_element-returns-in_err-behind-clause-shown
-next_element-returns-in_err-behind-clause-shown t c =
-    before_stops (token_of 44) (value_of c.args.depth) (token_frugal 44) refl (err_from_residual c.from_residual.ensures) c.in_err-behind.ensures
+pub next_element-returns-in_err-after-clause-shown : goal.next_element-returns-in_err-after-clause-shown
+next_element-returns-in_err-after-clause-shown t c =
+    before_stops (token_of 44) (value_of c.args.depth) (token_frugal 44) refl (err_from_residual c.from_residual.ensures) c.in_err-after.ensures
 
-pub next_element-returns-in_err-behind-clause-moves : goal.next_element-returns-in_err-behind-clause-moves
-next_element-returns-in_err-behind-clause-moves t c = moved_not c.args.input (err_from_residual c.from_residual.ensures)
+pub next_element-returns-in_err-after-clause-moves : goal.next_element-returns-in_err-after-clause-moves
+next_element-returns-in_err-after-clause-moves t c = moved_not c.args.input (err_from_residual c.from_residual.ensures)
 
 pub next_element-returns-clause-shown : goal.next_element-returns-clause-shown
-next_element-returns-clause-shown t c = behind (token_of 44) (value_of c.args.depth) (taken refl c.in_ok-behind.ensures) c.value.ensures
+next_element-returns-clause-shown t c = after (token_of 44) (value_of c.args.depth) (taken refl c.in_ok-after.ensures) c.value.ensures
 
 pub next_element-returns-clause-moves : goal.next_element-returns-clause-moves
-next_element-returns-clause-moves t c = moved 44 (value_of c.args.depth) (taken refl c.in_ok-behind.ensures) c.value.ensures
+next_element-returns-clause-moves t c = moved 44 (value_of c.args.depth) (taken refl c.in_ok-after.ensures) c.value.ensures
 
-pub next_member-returns-in_err-behind-clause-shown : goal.next_member-returns-in_err-behind-clause-shown
-next_member-returns-in_err-behind-clause-shown t c =
+pub next_member-returns-in_err-after-clause-shown : goal.next_member-returns-in_err-after-clause-shown
+next_member-returns-in_err-after-clause-shown t c =
     before_stops (token_of 44) (member_of (value_of c.args.depth))
-    (token_frugal 44) refl (err_from_residual c.from_residual.ensures) c.in_err-behind.ensures
+    (token_frugal 44) refl (err_from_residual c.from_residual.ensures) c.in_err-after.ensures
 
-pub next_member-returns-in_err-behind-clause-moves : goal.next_member-returns-in_err-behind-clause-moves
-next_member-returns-in_err-behind-clause-moves t c = moved_not c.args.input (err_from_residual c.from_residual.ensures)
+pub next_member-returns-in_err-after-clause-moves : goal.next_member-returns-in_err-after-clause-moves
+next_member-returns-in_err-after-clause-moves t c = moved_not c.args.input (err_from_residual c.from_residual.ensures)
 
 pub next_member-returns-clause-shown : goal.next_member-returns-clause-shown
-next_member-returns-clause-shown t c = behind (token_of 44) (member_of (value_of c.args.depth)) (taken refl c.in_ok-behind.ensures) c.member.ensures
+next_member-returns-clause-shown t c = after (token_of 44) (member_of (value_of c.args.depth)) (taken refl c.in_ok-after.ensures) c.member.ensures
 
 pub next_member-returns-clause-moves : goal.next_member-returns-clause-moves
-next_member-returns-clause-moves t c = moved 44 (member_of (value_of c.args.depth)) (taken refl c.in_ok-behind.ensures) c.member.ensures
+next_member-returns-clause-moves t c = moved 44 (member_of (value_of c.args.depth)) (taken refl c.in_ok-after.ensures) c.member.ensures
 
 pub value-returns-then-not-is_refused : goal.value-returns-then-not-is_refused
 value-returns-then-not-is_refused t c = a_scalar c.args.depth c.scalar-answer.ensures (sym c.if-not-is_refused.true ∙ c.is_refused.ensures)

@@ -6,14 +6,14 @@ use Rattle.example_json.proofs.Ended.{end_stops, ended, value_stops}
 use Rattle.example_json.proofs.Told.{taken, told}
 use Rattle.example_json.proofs.values.json_text.Goals as goal
 
-pub returns-in_err-behind : goal.returns-in_err-behind
-returns-in_err-behind c = value_stops (json_of c.args.depth) refl (err_from_residual c.from_residual.ensures) c.in_err-behind.ensures
+pub returns-in_err-after : goal.returns-in_err-after
+returns-in_err-after c = value_stops (json_of c.args.depth) refl (err_from_residual c.from_residual.ensures) c.in_err-after.ensures
 
 pub returns-in_err-rest : goal.returns-in_err-rest
 unfolding Answers
 returns-in_err-rest c = end_stops (json_of c.args.depth)
-    (taken refl c.in_ok-behind.ensures) refl (err_from_residual c.from_residual-in_err-rest.ensures) c.in_err-rest.ensures.shown
+    (taken refl c.in_ok-after.ensures) refl (err_from_residual c.from_residual-in_err-rest.ensures) c.in_err-rest.ensures.shown
 
 pub returns : goal.returns
 unfolding Answers
-returns c = told refl (ended (json_of c.args.depth) (taken refl c.in_ok-behind.ensures) (taken refl c.in_ok-rest.ensures.shown))
+returns c = told refl (ended (json_of c.args.depth) (taken refl c.in_ok-after.ensures) (taken refl c.in_ok-rest.ensures.shown))

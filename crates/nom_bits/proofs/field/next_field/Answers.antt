@@ -1,5 +1,5 @@
 use Rattle.std.proofs.Common.{arith}
-use Rattle.nom_bits.proofs.Positions.{past_all, splits, few_behind}
+use Rattle.nom_bits.proofs.Positions.{past_all, splits, few_after}
 use Rattle.nom_bits.proofs.field.next_field.Goals as goal
 
 pub returns-in-Some-following : goal.returns-in-Some-following
@@ -9,7 +9,7 @@ returns-in-Some-following g c =
 
 pub returns-in-None-following : goal.returns-in-None-following
 returns-in-None-following g c =
-    few_behind g.I.Items.model g.met.I.Items.lawful g.met.I.Items.values c.args.input.0 c.args.input.1 c.args.count c.in-Some.bytes c.prove_known.ensures
+    few_after g.I.Items.model g.met.I.Items.lawful g.met.I.Items.values c.args.input.0 c.args.input.1 c.args.count c.in-Some.bytes c.prove_known.ensures
     c.in-Some.ensures c.in-None-following.ensures
 
 pub returns-in-None : goal.returns-in-None

@@ -7,14 +7,14 @@ returns-then-input_len-eq0 g c =
     let first = first_given g.I.Iter.Iterator.next_gives c.iter_elements.result c.next.new.self c.in-Some.item (g.I.Items.model.elements c.args.input)
     c.iter_elements.ensures.gives c.in-Some.ensures.steps in
     stands_last _ g.met.I.Items.lawful (λ x. g.I.Item.Value.code x ≡ c.args.control_char) first.1
-    (sym c.as_char.ensures ∙ c.if-as_char-control_char.true) c.in-Ok.ensures c.take_from-behind.ensures c.input_len.ensures c.if-input_len-eq0.true
+    (sym c.as_char.ensures ∙ c.if-as_char-control_char.true) c.in-Ok.ensures c.take_from-after.ensures c.input_len.ensures c.if-input_len-eq0.true
 
 pub returns-in-Ok : goal.returns-in-Ok
 returns-in-Ok g c =
     let first = first_given g.I.Iter.Iterator.next_gives c.iter_elements.result c.next.new.self c.in-Some.item (g.I.Items.model.elements c.args.input)
     c.iter_elements.ensures.gives c.in-Some.ensures.steps in
     stands_before _ g.met.I.Items.lawful (λ x. g.I.Item.Value.code x ≡ c.args.control_char) first.1
-    (sym c.as_char.ensures ∙ c.if-as_char-control_char.true) c.in-Ok.ensures c.take_from-behind.ensures c.input_len.ensures c.if-input_len-eq0.false
+    (sym c.as_char.ensures ∙ c.if-as_char-control_char.true) c.in-Ok.ensures c.take_from-after.ensures c.input_len.ensures c.if-input_len-eq0.false
 
 pub returns-in-Some-2 : goal.returns-in-Some-2
 returns-in-Some-2 g c =

@@ -3,8 +3,8 @@ use Rattle.nom_character.proofs.Lines.{newline_stands, newline_absent, newline_e
 use Rattle.nom_character.proofs.line.newline_at.Goals as goal
 
 pub returns-in-Some : goal.returns-in-Some
-returns-in-Some g c = newline_stands g.I.Items.model g.I.Item.Value.code g.S.IsStreaming.STREAMING _ c.args.input c.in-Some.item c.behind.result
-    c.in-Some.ensures c.behind.ensures (is_code _ _ 10 c.as_char.ensures c.if-as_char-eq10.true)
+returns-in-Some g c = newline_stands g.I.Items.model g.I.Item.Value.code g.S.IsStreaming.STREAMING _ c.args.input c.in-Some.item c.after.result
+    c.in-Some.ensures c.after.ensures (is_code _ _ 10 c.as_char.ensures c.if-as_char-eq10.true)
 
 pub returns-in-Some-2 : goal.returns-in-Some-2
 returns-in-Some-2 g c = newline_absent g.I.Items.model g.I.Item.Value.code g.S.IsStreaming.STREAMING _ c.args.input c.in-Some.item c.in-Some.ensures

@@ -5,7 +5,7 @@ use Rattle.nom_character_first.proofs.first.first_where.Goals as goal
 pub returns-in-Some : goal.returns-in-Some
 returns-in-Some g c =
     let meets = subst (g.P.Predicate.answers (g.P.Predicate.state c.args.test.now) c.in-Some.item) c.if-meets.true c.meets.ensures in
-    accepted (g.I.Item.Value.code c.in-Some.item) c.behind.ensures (c.in-Some.item, c.in-Some.ensures, meets, refl, refl) c.character.ensures
+    accepted (g.I.Item.Value.code c.in-Some.item) c.after.ensures (c.in-Some.item, c.in-Some.ensures, meets, refl, refl) c.character.ensures
 
 pub returns-in-Some-2 : goal.returns-in-Some-2
 returns-in-Some-2 g c =

@@ -7,11 +7,11 @@ returns g c =
     let mantissa = c.pair-shape.result.first.parser in
     let sign = mantissa.first.parser in
     let both = mantissa.second in
-    let behind = both.first.second in
+    let after = both.first.second in
     let alone = both.second in
     let power = c.pair-shape.result.second.parser in
-    let found = part_wants sign.first.wanted sign.second.wanted behind.first.first.wanted alone.second.first.wanted power.first.first.wanted
-    power.first.second.wanted behind.first.second.class behind.first.second.wanted behind.second.class behind.second.wanted alone.first.class alone.first.wanted
+    let found = part_wants sign.first.wanted sign.second.wanted after.first.first.wanted alone.second.first.wanted power.first.first.wanted
+    power.first.second.wanted after.first.second.class after.first.second.wanted after.second.class after.second.wanted alone.first.class alone.first.wanted
     power.second.parser.signed in
     let same : found ≡ parts_want =
     rw (
@@ -30,7 +30,7 @@ returns g c =
       c.char-2.ensures,
       c.digit0-3.ensures.class,
       c.digit0-3.ensures.wanted,
-      c.alt-behind.ensures,
+      c.alt-after.ensures,
       c.preceded.ensures.first,
       c.preceded.ensures.second,
       c.char.ensures,

@@ -29,9 +29,9 @@ abbrev first : (g : given.Over) → g.P.Parser.State → g.F.Parser.State → g.
     Meaning g.row.I.Denot (Read (Term g.P.Parser.Tree g.F.Parser.Tree g.Q.Parser.Tree)) g.row.F-Error.Denot
 first g p f q = closed_meaning (λ i. g.F.Error.ParseError.errors.appended i Kind.Precedence) g.F.Error.ParseError.errors.grows (term g p f q)
 
-abbrev behind : (g : given.Over) → g.P.Parser.State → g.F.Parser.State → g.Q.Parser.State → g.C.Parser.State → ℕ →
+abbrev rest : (g : given.Over) → g.P.Parser.State → g.F.Parser.State → g.Q.Parser.State → g.C.Parser.State → ℕ →
     Meaning g.row.I.Denot (Read (List (Pair g.C.Parser.Tree (Term g.P.Parser.Tree g.F.Parser.Tree g.Q.Parser.Tree)))) g.row.F-Error.Denot
-behind g p f q b n = chain_meaning g.I.Items.model (Unit {0}) (pair_meaning g.I.Items.model (operator g b n) (term g p f q))
+rest g p f q b n = chain_meaning g.I.Items.model (Unit {0}) (pair_meaning g.I.Items.model (operator g b n) (term g p f q))
 
 -- and their outputs, by the fold
 abbrev is_term : (g : given.Over) → g.P.Parser.State → g.F.Parser.State → g.Q.Parser.State → g.row.G.Denot →
@@ -67,7 +67,7 @@ returns-in_err-rest-clause-shown g c =
     let errs = g.F.Error.ParseError.errors in
     let closed = closed_read (is_term g p f q fold) (term g p f q) (λ i. errs.appended i Kind.Precedence) errs.grows g.OM.Output.Mode.BUILDS
     g.OM.Error.Mode.BUILDS g.OM.Incomplete.IsStreaming.STREAMING c.term-first.ensures.shown c.in_err-rest.ensures in
-    first_err g.met.I.Items.lawful (λ t ps. (t, ps)) (first g p f q) (behind g p f q b n) (is_term g p f q fold)
+    first_err g.met.I.Items.lawful (λ t ps. (t, ps)) (first g p f q) (rest g p f q b n) (is_term g p f q fold)
     (Whole g p f q b fold c.args.levels.now) g.OM.Output.Mode.BUILDS g.OM.Error.Mode.BUILDS g.OM.Incomplete.IsStreaming.STREAMING closed
     c.from_residual.ensures
 
@@ -82,7 +82,7 @@ returns-in-Stuck-clause-shown g c =
     let errs = g.F.Error.ParseError.errors in
     let closed = closed_read (is_term g p f q fold) (term g p f q) (λ i. errs.appended i Kind.Precedence) errs.grows g.OM.Output.Mode.BUILDS
     g.OM.Error.Mode.BUILDS g.OM.Incomplete.IsStreaming.STREAMING c.term-first.ensures.shown c.in_ok-rest.ensures in
-    first_stuck g.met.I.Items.lawful (λ t ps. (t, ps)) (first g p f q) (behind g p f q b n) (is_term g p f q fold)
+    first_stuck g.met.I.Items.lawful (λ t ps. (t, ps)) (first g p f q) (rest g p f q b n) (is_term g p f q fold)
     (Whole g p f q b fold c.args.levels.now) g.OM.Output.Mode.BUILDS g.OM.Error.Mode.BUILDS g.OM.Incomplete.IsStreaming.STREAMING
     (told_ok c.emitted.ensures c.in-Stuck.is closed)
 
@@ -110,10 +110,10 @@ returns-in_err-end-in-Whole-clause-shown g c =
     let errs = g.F.Error.ParseError.errors in
     let closed = closed_read (is_term g p f q fold) (term g p f q) (λ i. errs.appended i Kind.Precedence) errs.grows g.OM.Output.Mode.BUILDS
     g.OM.Error.Mode.BUILDS g.OM.Incomplete.IsStreaming.STREAMING c.term-first.ensures.shown c.in_ok-rest.ensures in
-    let others = at_states (λ x y z d r. ShowsRead g.I.Items.model (Pairs g x y z d fold c.args.levels.now c.in-Whole.value) (behind g x y z d n)
+    let others = at_states (λ x y z d r. ShowsRead g.I.Items.model (Pairs g x y z d fold c.args.levels.now c.in-Whole.value) (rest g x y z d n)
     g.OM.Output.Mode.BUILDS g.OM.Error.Mode.BUILDS g.OM.Incomplete.IsStreaming.STREAMING c.in_ok-rest.rest r) c.term-first.ensures.prefix_kept
     c.term-first.ensures.operand_kept c.term-first.ensures.postfix_kept refl c.in_err-end-in-Whole.ensures.shown in
-    second_err g.met.I.Items.lawful (λ t ps. (t, ps)) (first g p f q) (behind g p f q b n) (is_term g p f q fold)
+    second_err g.met.I.Items.lawful (λ t ps. (t, ps)) (first g p f q) (rest g p f q b n) (is_term g p f q fold)
     (Whole g p f q b fold c.args.levels.now) g.OM.Output.Mode.BUILDS g.OM.Error.Mode.BUILDS g.OM.Incomplete.IsStreaming.STREAMING _
     (told_ok c.emitted.ensures c.in-Whole.is closed) others c.from_residual-in_err-end-in-Whole.ensures
 
@@ -128,10 +128,10 @@ returns-in-Stuck-emitted-clause-shown g c =
     let errs = g.F.Error.ParseError.errors in
     let closed = closed_read (is_term g p f q fold) (term g p f q) (λ i. errs.appended i Kind.Precedence) errs.grows g.OM.Output.Mode.BUILDS
     g.OM.Error.Mode.BUILDS g.OM.Incomplete.IsStreaming.STREAMING c.term-first.ensures.shown c.in_ok-rest.ensures in
-    let others = at_states (λ x y z d r. ShowsRead g.I.Items.model (Pairs g x y z d fold c.args.levels.now c.in-Whole.value) (behind g x y z d n)
+    let others = at_states (λ x y z d r. ShowsRead g.I.Items.model (Pairs g x y z d fold c.args.levels.now c.in-Whole.value) (rest g x y z d n)
     g.OM.Output.Mode.BUILDS g.OM.Error.Mode.BUILDS g.OM.Incomplete.IsStreaming.STREAMING c.in_ok-rest.rest r) c.term-first.ensures.prefix_kept
     c.term-first.ensures.operand_kept c.term-first.ensures.postfix_kept refl c.in_ok-end-in-Whole.ensures.shown in
-    second_stuck g.met.I.Items.lawful (λ t ps. (t, ps)) (first g p f q) (behind g p f q b n) (is_term g p f q fold)
+    second_stuck g.met.I.Items.lawful (λ t ps. (t, ps)) (first g p f q) (rest g p f q b n) (is_term g p f q fold)
     (Whole g p f q b fold c.args.levels.now) g.OM.Output.Mode.BUILDS g.OM.Error.Mode.BUILDS g.OM.Incomplete.IsStreaming.STREAMING _
     (told_ok c.emitted.ensures c.in-Whole.is closed) (told_ok c.emitted-in-Whole.ensures c.in-Stuck-emitted.is others)
 
@@ -146,10 +146,10 @@ returns-in-Whole-emitted-clause-shown g c =
     let errs = g.F.Error.ParseError.errors in
     let closed = closed_read (is_term g p f q fold) (term g p f q) (λ i. errs.appended i Kind.Precedence) errs.grows g.OM.Output.Mode.BUILDS
     g.OM.Error.Mode.BUILDS g.OM.Incomplete.IsStreaming.STREAMING c.term-first.ensures.shown c.in_ok-rest.ensures in
-    let others = at_states (λ x y z d r. ShowsRead g.I.Items.model (Pairs g x y z d fold c.args.levels.now c.in-Whole.value) (behind g x y z d n)
+    let others = at_states (λ x y z d r. ShowsRead g.I.Items.model (Pairs g x y z d fold c.args.levels.now c.in-Whole.value) (rest g x y z d n)
     g.OM.Output.Mode.BUILDS g.OM.Error.Mode.BUILDS g.OM.Incomplete.IsStreaming.STREAMING c.in_ok-rest.rest r) c.term-first.ensures.prefix_kept
     c.term-first.ensures.operand_kept c.term-first.ensures.postfix_kept refl c.in_ok-end-in-Whole.ensures.shown in
-    both_whole g.met.I.Items.lawful (λ t ps. (t, ps)) (first g p f q) (behind g p f q b n) (is_term g p f q fold)
+    both_whole g.met.I.Items.lawful (λ t ps. (t, ps)) (first g p f q) (rest g p f q b n) (is_term g p f q fold)
     (Whole g p f q b fold c.args.levels.now) g.OM.Output.Mode.BUILDS g.OM.Error.Mode.BUILDS g.OM.Incomplete.IsStreaming.STREAMING _ _
     (λ t ps v k. expression_built (g.P.Parser.IsOutput p) (g.F.Parser.IsOutput f) (g.Q.Parser.IsOutput q) (g.C.Parser.IsOutput b)
     (λ o. g.G.Fn.post fold (o, tt)) (groups_left c.args.levels.now) g.OM.Output.Mode.BUILDS t ps _ _ v k)

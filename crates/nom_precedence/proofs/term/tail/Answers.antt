@@ -10,19 +10,19 @@ use Rattle.nom_precedence.proofs.ReadShown.{whole_ok, whole_err, told_ok, first_
 use Rattle.nom_precedence.proofs.TermShown.{tail_built, held_ready}
 use Rattle.nom_precedence.proofs.term.tail.Goals as goal
 
-pub returns-in_err-behind-clause-shown : goal.returns-in_err-behind-clause-shown
-returns-in_err-behind-clause-shown g c = first_err g.met.I.Items.lawful (λ v qs. (v, qs))
+pub returns-in_err-rest-clause-shown : goal.returns-in_err-rest-clause-shown
+returns-in_err-rest-clause-shown g c = first_err g.met.I.Items.lawful (λ v qs. (v, qs))
     (labelled_meaning Whole (g.F.Parser.meaning (g.F.Parser.state c.args.operand.now)))
     (affixes_meaning g.I.Items.model ⊥ (g.Q.Parser.meaning (g.Q.Parser.state c.args.postfix.now)))
     (g.F.Parser.IsOutput (g.F.Parser.state c.args.operand.now)) (IsTail (g.F.Parser.IsOutput (g.F.Parser.state c.args.operand.now))
     (g.Q.Parser.IsOutput (g.Q.Parser.state c.args.postfix.now)) (λ x q y. g.G.Fn.post c.args.fold.now (Postfix x q, tt) y)) g.OM.Output.Mode.BUILDS
     g.OM.Error.Mode.BUILDS g.OM.Incomplete.IsStreaming.STREAMING (whole_err (g.F.Parser.IsOutput (g.F.Parser.state c.args.operand.now))
     (g.F.Parser.meaning (g.F.Parser.state c.args.operand.now)) g.OM.Output.Mode.BUILDS g.OM.Error.Mode.BUILDS g.OM.Incomplete.IsStreaming.STREAMING
-    c.in_err-behind.ensures.shown) c.from_residual.ensures
+    c.in_err-rest.ensures.shown) c.from_residual.ensures
 
 pub affixes-requires-clause-before : goal.affixes-requires-clause-before
 affixes-requires-clause-before g c =
-    let a = accepts c.in_ok-behind.ensures.shown in
+    let a = accepts c.in_ok-rest.ensures.shown in
     held_ready (λ k. k.value) (λ k. k.fold.now) _ c.args.fold.now g.OM.Output.Mode.BUILDS _ _ _
     (λ k x p q. (subst (λ z. IsSome z) (sym p) refl, λ o. subst (λ f. g.G.Fn.pre f (o, tt)) (sym q) (c.requires.fold o))) a.built_is
     c.held-first.ensures
@@ -35,7 +35,7 @@ returns-in_err-end-clause-shown g c = second_err g.met.I.Items.lawful (λ v qs. 
     (g.Q.Parser.IsOutput (g.Q.Parser.state c.args.postfix.now)) (λ x q y. g.G.Fn.post c.args.fold.now (Postfix x q, tt) y)) g.OM.Output.Mode.BUILDS
     g.OM.Error.Mode.BUILDS g.OM.Incomplete.IsStreaming.STREAMING _ (whole_ok (g.F.Parser.IsOutput (g.F.Parser.state c.args.operand.now))
     (g.F.Parser.meaning (g.F.Parser.state c.args.operand.now)) g.OM.Output.Mode.BUILDS g.OM.Error.Mode.BUILDS g.OM.Incomplete.IsStreaming.STREAMING
-    c.in_ok-behind.ensures.shown) c.in_err-end.ensures.shown c.from_residual-in_err-end.ensures
+    c.in_ok-rest.ensures.shown) c.in_err-end.ensures.shown c.from_residual-in_err-end.ensures
 
 pub returns-in-Stuck-clause-shown : goal.returns-in-Stuck-clause-shown
 returns-in-Stuck-clause-shown g c = second_stuck g.met.I.Items.lawful (λ v qs. (v, qs))
@@ -45,7 +45,7 @@ returns-in-Stuck-clause-shown g c = second_stuck g.met.I.Items.lawful (λ v qs. 
     (g.Q.Parser.IsOutput (g.Q.Parser.state c.args.postfix.now)) (λ x q y. g.G.Fn.post c.args.fold.now (Postfix x q, tt) y)) g.OM.Output.Mode.BUILDS
     g.OM.Error.Mode.BUILDS g.OM.Incomplete.IsStreaming.STREAMING _ (whole_ok (g.F.Parser.IsOutput (g.F.Parser.state c.args.operand.now))
     (g.F.Parser.meaning (g.F.Parser.state c.args.operand.now)) g.OM.Output.Mode.BUILDS g.OM.Error.Mode.BUILDS g.OM.Incomplete.IsStreaming.STREAMING
-    c.in_ok-behind.ensures.shown) (told_ok c.emitted.ensures c.in-Stuck.is c.in_ok-end.ensures.shown)
+    c.in_ok-rest.ensures.shown) (told_ok c.emitted.ensures c.in-Stuck.is c.in_ok-end.ensures.shown)
 
 pub returns-in-Whole-clause-shown : goal.returns-in-Whole-clause-shown
 returns-in-Whole-clause-shown g c = both_whole g.met.I.Items.lawful (λ v qs. (v, qs))
@@ -58,4 +58,4 @@ returns-in-Whole-clause-shown g c = both_whole g.met.I.Items.lawful (λ v qs. (v
     (g.Q.Parser.IsOutput (g.Q.Parser.state c.args.postfix.now)) c.args.fold.now g.OM.Output.Mode.BUILDS v u _ _ _ _ c.held-first.ensures
     c.value_of.ensures p q) (whole_ok (g.F.Parser.IsOutput (g.F.Parser.state c.args.operand.now))
     (g.F.Parser.meaning (g.F.Parser.state c.args.operand.now)) g.OM.Output.Mode.BUILDS g.OM.Error.Mode.BUILDS g.OM.Incomplete.IsStreaming.STREAMING
-    c.in_ok-behind.ensures.shown) (told_ok c.emitted.ensures c.in-Whole.is c.in_ok-end.ensures.shown)
+    c.in_ok-rest.ensures.shown) (told_ok c.emitted.ensures c.in-Whole.is c.in_ok-end.ensures.shown)

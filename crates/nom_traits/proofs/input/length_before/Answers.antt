@@ -9,8 +9,8 @@ loop-item-init g c =
     (sym c.into_iter-item-iterator.ensures.into_iter_gives) c.iter_elements-item-items.ensures.gives in
     (search rules, search rules, walk_begins gives)
 
-pub overflow_add-behind : goal.overflow_add-behind
-overflow_add-behind g c =
+pub overflow_add-after : goal.overflow_add-after
+overflow_add-after g c =
     let fits = walk_fits c.next.new.self c.in-Some.item c.loop-item.invariant.2 c.in-Some.ensures.steps c.item_len.ensures in
     omega (arith, fits, c.input_len-length.ensures, c.input_len-length.type_inv)
 

@@ -11,7 +11,7 @@ pub fn free_heap(alloc: Global) -> Result<LocalHeap, AllocError> {
     LocalHeap::new(alloc, UNITS * 16)
 }
 
-/// Holds all of a heap but so many units.
+/// Holds all of a heap but that many units.
 pub fn hold<'h>(heap: &'h LocalHeap, free: usize) -> Result<Vec<u8, &'h LocalHeap>, AllocError> {
     Vec::with_capacity(heap, UNITS.saturating_sub(free) * 16)
 }

@@ -21,7 +21,7 @@ fn both<I: Items, P: Parser<I> + Drop>(
 }
 
 /// What is answered of that many bytes after a `1`.
-fn behind_one(length: usize) -> [IResult<&'static str, &'static str>; 2] {
+fn after_one(length: usize) -> [IResult<&'static str, &'static str>; 2] {
     let length = map(char::<_, Error<&str>>('1'), move |_one: char| length);
     both(length_value(length, Rest::new()), "1é")
 }
@@ -33,7 +33,7 @@ fn lengths_of_a_character(rt: HostRuntime) {
         (2, Ok(("", "é"))),
         (3, Err(Err::Incomplete(Needed::new(1)))),
     ] {
-        let [streaming, complete] = behind_one(length);
+        let [streaming, complete] = after_one(length);
         assert!(rt; streaming == answer, "of {length}");
         assert!(rt; complete == answer, "of {length}");
     }

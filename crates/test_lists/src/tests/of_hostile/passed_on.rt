@@ -85,7 +85,7 @@ enum Shape {
     Completed,
     Listed,
     ItemBeforeAnEnd,
-    EndBehindItems,
+    EndAfterItems,
     FirstMember,
     SecondMember,
     SeparatedItem,
@@ -187,7 +187,7 @@ where
 {
     match shape {
         Shape::ItemBeforeAnEnd => may_run_out(many_till(alloc, part, other), input),
-        Shape::EndBehindItems => may_run_out(many_till(alloc, other, part), input),
+        Shape::EndAfterItems => may_run_out(many_till(alloc, other, part), input),
         Shape::FirstMember => may_run_out(permutation((part, other)), input),
         Shape::SecondMember => may_run_out(permutation((other, part)), input),
         Shape::SeparatedItem => may_run_out(separated_list0(alloc, other, part), input),
@@ -246,7 +246,7 @@ fn nothing_more_is_tried(rt: HostRuntime) -> Result<(), AllocError> {
         (Shape::Completed, "a;", 0),
         (Shape::Listed, "a;", 0),
         (Shape::ItemBeforeAnEnd, "a;", 1),
-        (Shape::EndBehindItems, "a;", 0),
+        (Shape::EndAfterItems, "a;", 0),
         (Shape::FirstMember, "a;", 0),
         (Shape::SecondMember, "1a;", 1),
         (Shape::SeparatedItem, "a;", 0),

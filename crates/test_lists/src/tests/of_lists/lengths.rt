@@ -17,7 +17,7 @@ where
     parser.parse(input)
 }
 
-// The value's want of more is a refusal, at what it had of the input.
+// The value's need for more is a refusal, at what it had of the input.
 #[test]
 fn a_value_that_wants_more(rt: HostRuntime) {
     let value = length_value(be_u8(), tag(&b"abc"[..]));

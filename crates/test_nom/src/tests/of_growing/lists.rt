@@ -60,7 +60,7 @@ fn data<OM: OutputMode>(input: &[u8]) -> PResult<&[u8], &[u8], At> {
 }
 
 #[test]
-fn data_behind_a_length(rt: HostRuntime) {
+fn data_after_a_length(rt: HostRuntime) {
     let input = &[2, b'a', b'b', b'c'][..];
     let rest = &b"c"[..];
     let built = data::<OutputM<Emit, Emit, Complete>>(input);

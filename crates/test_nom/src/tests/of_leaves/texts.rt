@@ -44,7 +44,7 @@ fn a_transformed_text_that_is_checked(rt: HostRuntime) {
     assert!(rt; left == Some((";", false)));
 }
 
-/// Whether a parser leaves so much of an input and gives this text, in both modes. It promises nothing.
+/// Whether a parser leaves that much of an input and gives this text, in both modes. It promises nothing.
 fn gives<'a, P: Parser<&'a str, Output = String, Error = Fail<'a>> + Drop>(
     mut parser: P,
     input: &'a str,
@@ -87,7 +87,7 @@ fn are_items(found: IResult<&str, (Vec<&str>, &str)>, count: usize, left: &str) 
     }
 }
 
-/// Whether so many more are needed.
+/// Whether that many more are needed.
 fn needs(found: IResult<&str, (Vec<&str>, &str)>, size: usize) -> bool {
     match found {
         Err(Err::Incomplete(needed)) => needed == Needed::new(size),
@@ -165,7 +165,7 @@ impl<'a> Parser<&'a str> for Two {
 }
 
 #[test]
-fn characters_behind_a_length(rt: HostRuntime) {
+fn characters_after_a_length(rt: HostRuntime) {
     let rows = [
         ("é💢¡", Answer::Accepts(2, "é💢"), None),
         (

@@ -29,7 +29,7 @@ fn all_of_a_slice() -> Option<usize> {
     )
 }
 
-// What the second leaves is dropped; its refusal is at the slice; and its want of more is passed on, though
+// What the second leaves is dropped; its refusal is at the slice; and its need for more is passed on, though
 // more of the input is there.
 fn tag_in_a_slice<'a>(length: usize, rows: &[Row<&'a str, &'a str>]) -> Option<usize> {
     wrong_row(take::<_, &str, Fail>(length).and_then(tag("ab")), rows)

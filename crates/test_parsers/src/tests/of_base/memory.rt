@@ -239,7 +239,7 @@ fn appended<'h, C: Collection<char, &'h LocalHeap> + Held>(heap: &'h LocalHeap) 
     None
 }
 
-/// How many values a builder has once memory runs out, each of so many letters; none where others are there, or where it
+/// How many values a builder has once memory runs out, each of that many letters; none where others are there, or where it
 /// doesn't run out.
 fn extended<'h, X: ExtendInto<&'h LocalHeap, Extender: Held + Drop> + Drop>(
     heap: &'h LocalHeap,

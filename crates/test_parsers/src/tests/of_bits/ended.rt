@@ -9,7 +9,7 @@ pub type Bits<'a> = (&'a [u8], usize);
 pub type Fail<'a> = Error<(&'a [u8], usize)>;
 
 /// With a value and a rest of that many bytes, from a position on; with a refusal before that many bytes, at a
-/// position; or for want of more. What is needed is a type argument, since the check covers an enum that holds
+/// position; or since more is needed. What that is is a type argument, since the check covers an enum that holds
 /// both references and a `NonZeroUsize` only so.
 #[derive(Drop, PartialEq)]
 pub enum Ended<T, N = Needed> {

@@ -79,7 +79,7 @@ fn refuses_cuts(rt: HostRuntime) {
     assert!(rt; sink.called.inner().is_empty());
 }
 
-/// What a sink has that fails at its last call of so many, and how often it failed.
+/// What a sink has that fails at its last call of that many, and how often it failed.
 fn written(alloc: Global, calls: u64) -> (Result<u8, RunError>, Vec<u8>, u64) {
     let mut source = Counted::new(FILE.as_slice());
     let mut sink = Counted::new(Fails {
@@ -101,7 +101,7 @@ fn stops_at_each_write(rt: HostRuntime) {
     }
 }
 
-/// How many bytes are left in a source that fails at its last call of so many, how often it failed, and how
+/// How many bytes are left in a source that fails at its last call of that many, how often it failed, and how
 /// many bytes were written.
 fn unread(alloc: Global, calls: u64) -> (Result<u8, RunError>, usize, u64, usize) {
     let mut source = Counted::new(Fails {

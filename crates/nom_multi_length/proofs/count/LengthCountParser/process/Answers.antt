@@ -2,7 +2,7 @@ use Rattle.std.specs.List.{AllZip}
 use Rattle.nom_internal.proofs.Shown.{then_err}
 use Rattle.nom_repeat.proofs.Parts.{shown_as}
 use Rattle.nom_repeat.proofs.ListAccumulated.{list_of_none}
-use Rattle.nom_multi_length.proofs.LengthShown.{behind_ok}
+use Rattle.nom_multi_length.proofs.LengthShown.{after_ok}
 use Rattle.nom_multi_length.specs.Lengths.{items_by_count}
 use Rattle.nom_multi_length.proofs.count.LengthCountParser.process.Goals as goal
 
@@ -12,7 +12,7 @@ returns-in_err-rest-clause-shown g c = then_err g.met.I.Items.lawful c.in_err-re
 pub returns-clause-shown : goal.returns-clause-shown
 returns-clause-shown g c =
     let is_item = g.G.Parser.IsOutput (g.G.Parser.state c.args.self.now.parser) in
-    behind_ok _ g.met.I.Items.lawful (λ u vs. vs) (g.F.Parser.IsOutput (g.F.Parser.state c.args.self.now.length)) _ (λ vs o. AllZip is_item vs o.items)
+    after_ok _ g.met.I.Items.lawful (λ u vs. vs) (g.F.Parser.IsOutput (g.F.Parser.state c.args.self.now.length)) _ (λ vs o. AllZip is_item vs o.items)
     (g.F.Parser.meaning (g.F.Parser.state c.args.self.now.length))
     (items_by_count g.I.Items.model g.F.Error.ParseError.errors (g.G.Parser.meaning (g.G.Parser.state c.args.self.now.parser))) _ c.args.input _ _
     c.in-Some.length c.to_usize-count.result _ c.in_ok-rest.ensures.shown c.in-Some.is c.to_usize-count.ensures

@@ -1,5 +1,5 @@
 use Rattle.nom_internal.proofs.Shown.{then_err}
-use Rattle.nom_multi_length.proofs.LengthShown.{behind_ok}
+use Rattle.nom_multi_length.proofs.LengthShown.{after_ok}
 use Rattle.nom_multi_length.specs.Lengths.{takes_by_count}
 use Rattle.nom_multi_length.proofs.length.LengthDataParser.process.Goals as goal
 
@@ -8,7 +8,7 @@ returns-in_err-rest-clause-shown g c = then_err g.met.I.Items.lawful c.in_err-re
 
 pub returns-clause-shown : goal.returns-clause-shown
 returns-clause-shown g c =
-    behind_ok _ g.met.I.Items.lawful (λ u t. (u, t))
+    after_ok _ g.met.I.Items.lawful (λ u t. (u, t))
     (g.F.Parser.IsOutput (g.F.Parser.state c.args.self.now.parser)) _ _ (g.F.Parser.meaning (g.F.Parser.state c.args.self.now.parser))
     (takes_by_count g.I.Items.model g.F.Error.ParseError.errors g.I.Input.lack) _ c.args.input _ _ c.in-Some.length c.take-data.result.count _
     c.in_ok-rest.ensures.shown c.in-Some.is c.take-data.ensures (λ u. c.process-in-Some.ensures.shown)

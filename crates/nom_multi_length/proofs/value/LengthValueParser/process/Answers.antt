@@ -1,5 +1,5 @@
 use Rattle.nom_internal.proofs.Shown.{then_err}
-use Rattle.nom_multi_length.proofs.LengthShown.{behind_ok}
+use Rattle.nom_multi_length.proofs.LengthShown.{after_ok}
 use Rattle.nom_multi_length.specs.Values.{values_by_length}
 use Rattle.nom_multi_length.proofs.value.LengthValueParser.process.Goals as goal
 
@@ -8,7 +8,7 @@ returns-in_err-rest-clause-shown g c = then_err g.met.I.Items.lawful c.in_err-re
 
 pub returns-clause-shown : goal.returns-clause-shown
 returns-clause-shown g c =
-    behind_ok _ g.met.I.Items.lawful (λ u t. t)
+    after_ok _ g.met.I.Items.lawful (λ u t. t)
     (g.F.Parser.IsOutput (g.F.Parser.state c.args.self.now.length)) _ (g.G.Parser.IsOutput (g.G.Parser.state c.args.self.now.parser))
     (g.F.Parser.meaning (g.F.Parser.state c.args.self.now.length))
     (values_by_length g.I.Items.model g.F.Error.ParseError.errors (g.G.Parser.meaning (g.G.Parser.state c.args.self.now.parser))) _ c.args.input _ _

@@ -9,9 +9,9 @@ returns-clause-shown g c =
     let whole = shape.second.first.first.parser in
     let part = shape.second.first.second.parser in
     let exponent = shape.second.second.parser.parser in
-    let behind = exponent.second.first.parser in
+    let after = exponent.second.first.parser in
     let found = wants sign.first.wanted sign.second.wanted whole.second.parser.first.wanted part.first.wanted exponent.first.first.wanted
-    exponent.first.second.wanted behind.first.wanted behind.second.wanted in
+    exponent.first.second.wanted after.first.wanted after.second.wanted in
     let same : found ≡ fraction_wants =
     rw (
       c.recognize-shape.ensures,

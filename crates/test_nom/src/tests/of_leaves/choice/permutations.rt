@@ -140,7 +140,7 @@ fn permutations(rt: HostRuntime) {
     assert!(rt; eight_members().is_none());
 }
 
-/// Whether the error lists so many refusals of tags, and that the permutation is closed.
+/// Whether the error lists that many refusals of tags, and that the permutation is closed.
 fn is_closed(input: &[u8], tags: usize) -> bool {
     let parts = (
         tag::<_, _, Trail>(bytes("a")),

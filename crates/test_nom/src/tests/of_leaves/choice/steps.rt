@@ -21,7 +21,7 @@ pub enum Answer<I> {
     Needs(usize),
 }
 
-/// Whether an error lists so many refusals of tags, and a last step after them.
+/// Whether an error lists that many refusals of tags, and a last step after them.
 pub fn are_steps(trail: &Trail, tags: usize, last: Option<ErrorKind>) -> bool {
     let steps = trail.steps();
     let front = steps

@@ -1,11 +1,11 @@
-use Rattle.std.proofs.Common.{ap, subst, sym, ◌∙◌}
+use Rattle.std.proofs.Common.{subst, sym}
 use Rattle.nom_internal.specs.Prelude.{IsOne}
 use Rattle.nom_multi_length.specs.Lengths.{HasSize}
-use Rattle.nom_answers.proofs.lengths.behind.behind.Goals as goal
+use Rattle.nom_answers.proofs.lengths.after.data.Goals as goal
 
 pub ask-requires : goal.ask-requires
 ask-requires g c =
-    let e = ap (λ x. x.parser) c.many0.ensures.parser ∙ c.length_data.ensures in (
+    let e = c.length_data.ensures in (
       subst (λ x. (g.L.Parser.meaning (g.L.Parser.state x)).IsSound) (sym e) c.requires.length,
       (tt, subst (λ x. IsOne (HasSize (g.L.Parser.IsOutput (g.L.Parser.state x)) g.L.Output.ToUsize.size)) (sym e) c.requires.one),
     )

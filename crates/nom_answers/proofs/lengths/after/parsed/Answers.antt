@@ -1,7 +1,7 @@
 use Rattle.std.proofs.Common.{subst, sym}
 use Rattle.nom_internal.specs.Prelude.{IsOne}
 use Rattle.nom_multi_length.specs.Lengths.{HasSize}
-use Rattle.nom_answers.proofs.lengths.behind.parsed.Goals as goal
+use Rattle.nom_answers.proofs.lengths.after.parsed.Goals as goal
 
 pub ask-requires : goal.ask-requires
 ask-requires g c = (

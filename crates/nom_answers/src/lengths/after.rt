@@ -69,7 +69,7 @@ where
 }
 
 /// What a call answers, by its length.
-pub fn behind<I, T, L>(question: Question<I>, call: Call<T>, length: L) -> Option<Answer>
+pub fn after<I, T, L>(question: Question<I>, call: Call<T>, length: L) -> Option<Answer>
 where
     I: Input + AsBytes + Debug + Viewed + Compare<T>,
     I::Item: AsChar,
