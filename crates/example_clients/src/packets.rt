@@ -100,7 +100,7 @@ fn four_bytes(input: Bytes<'_>) -> IResult<Bytes<'_>, u32> {
     be_u32().parse(input)
 }
 
-/// So many bytes, where more may come.
+/// `count` bytes, where more may come.
 fn some_bytes(input: Bytes<'_>, count: usize) -> IResult<Bytes<'_>, Bytes<'_>> {
     take(count).parse(input)
 }

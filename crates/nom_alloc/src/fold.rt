@@ -35,15 +35,12 @@ impl<'a, T: Drop, R: Drop, G: Fn(R, T) -> Result<R, OutOfMemory>> Accumulator<T>
     ghost fills = { λ k h. (k.fold.now, h) };
 
     #[inline(always)]
-    fn push(&mut self, item: T) -> bool {
+    fn push(&mut self, item: T) -> Result<(), OutOfMemory> {
         match self.value.take() {
-            Some(value) => match (self.fold)(value, item) {
-                Ok(next) => {
-                    self.value = Some(next);
-                    true
-                }
-                Err(_) => false,
-            },
+            Some(value) => {
+                self.value = Some((self.fold)(value, item)?);
+                Ok(())
+            }
             None => unreachable!(),
         }
     }

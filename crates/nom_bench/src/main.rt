@@ -12,7 +12,8 @@
 //! by a fold of each level. Of texts run rows of fields, sections of `name = value`, quoted strings with escapes, as
 //! they stand and as they are meant, words of a language, and the JSON of example_json; of bytes shapes of decimal
 //! fractions, numbers and pairs of digits in base 16, permutations of `abc`, values after a length, lines up to a
-//! `\r\n`, and heads of HTTP requests. Then come messages as those of nom_messages, and records, up to the first place that
+//! `\r\n`, heads of HTTP requests, and the records at the end of the file, as they grow. Then come messages as those of
+//! nom_messages, and records, up to the first place that
 //! has none: by `parse` over the whole, and by a stream whose reader gives 1, 64, 4096 and 65536 bytes a read.
 //!
 //! Each runs ROUNDS times (7 where none are named), and a line for each tells how many items a list has, or the value
@@ -25,6 +26,7 @@
 //! With no argument nothing is printed.
 #![tactic(auto)]
 
+mod growing;
 mod located;
 mod precedence;
 mod streams;
@@ -451,6 +453,7 @@ fn run(rt: &(impl Clock + Env + Files + Print + Alloc<A = Global>)) -> io::Resul
         Wire::Values,
         Wire::Lines,
         Wire::Heads,
+        Wire::Growing,
     ] {
         bench(rt, wire, contents, rounds)?;
     }

@@ -1,5 +1,6 @@
 //! What stands in bytes: numbers, digits, lines, permutations, values after a length, and heads of HTTP.
 
+use crate::growing::by_growing;
 use crate::{Case, Contents, Fail, Round, list};
 use nom::branch::permutation;
 use nom::bytes::{is_not, tag, take_while_m_n, take_while1};
@@ -88,6 +89,7 @@ pub enum Wire {
     Values,
     Lines,
     Heads,
+    Growing,
 }
 
 impl Case for Wire {
@@ -100,6 +102,7 @@ impl Case for Wire {
             Wire::Values => "length_value",
             Wire::Lines => "many_till",
             Wire::Heads => "http",
+            Wire::Growing => "parse_growing",
         }
     }
 
@@ -112,6 +115,7 @@ impl Case for Wire {
             Wire::Values => "values",
             Wire::Lines => "lines",
             Wire::Heads => "heads",
+            Wire::Growing => "records",
         }
     }
 
@@ -124,6 +128,7 @@ impl Case for Wire {
             Wire::Values => "no values",
             Wire::Lines => "no lines",
             Wire::Heads => "no heads",
+            Wire::Growing => "no records",
         }
     }
 
@@ -137,6 +142,7 @@ impl Case for Wire {
             Wire::Values => by_values(alloc, bytes),
             Wire::Lines => by_lines(alloc, bytes),
             Wire::Heads => by_heads(alloc, bytes),
+            Wire::Growing => by_growing(alloc, bytes),
         }
     }
 }

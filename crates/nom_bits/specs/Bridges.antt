@@ -1,5 +1,5 @@
 -- Parsers of bits among parsers of bytes, and of bytes among parsers of bits.
-use Rattle.std.specs.Prelude.{◌≡◌, ℕ, ◌+◌, ◌*◌, ◌/◌, ◌^◌, ◌<◌, ◌≤◌, ◌⊎◌, true, false, Option, Some, None}
+use Rattle.std.specs.Prelude.{◌≡◌, ℕ, ◌+◌, ◌*◌, ◌/◌, ◌^◌, ◌<◌, ◌≤◌, ◌⊎◌, true, Option, Some, None}
 use Rattle.nom_internal.specs.Prelude.{Needed, Incomplete, Error, Failure, OutOfMemory, size_of, Errors, with_streaming, Model, IsSuffixOf, IsCount, AreBytes}
 use Rattle.nom_internal.specs.Prelude.{bits_model, Outcome, Accept, Refuse, Stop, Fails, Needs, TooLarge, IsFault, Meaning, Case, case_meaning, Always}
 use Rattle.nom_internal.specs.Prelude.{ConvertsSome, Outright}

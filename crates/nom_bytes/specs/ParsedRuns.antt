@@ -14,7 +14,7 @@ abbrev pub IsAtBound : Option ℕ → ℕ → Type 0
 IsAtBound (Some most) count = count ≡ most
 IsAtBound None count = ⊥
 
--- a number of items, with that many after them, is enough: as many as are wanted at least, or as many as the bound, and an item after
+-- Whether a run of `count` items is enough, where `after` more stand after it: it has the least number, or it ends at the bound before an item.
 abbrev pub IsEnough : (least : ℕ) (bound : Option ℕ) (count after : ℕ) → Type 0
 IsEnough least bound count after = (least ≤ count) ⊎ (IsAtBound bound count × (0 < after))
 

@@ -1,12 +1,12 @@
 //! Texts with escapes, as they are meant.
-ghost use Rattle.std.specs.Prelude.{◌≡◌, ℕ, List, [], IsTrue, IsSome, false};
+ghost use Rattle.std.specs.Prelude.{◌≡◌, ℕ, List, [], IsSome, OnOk, OnErr};
 ghost use Rattle.nom_internal.specs.Prelude.{Built};
 ghost use Rattle.nom_bytes_escaped.specs.declared.next_piece.Piece.{Piece};
 ghost use Rattle.nom_bytes_escaped.specs.Texts.{AddAll, IsAppended, IsExtended};
 ghost use Rattle.nom_bytes_escaped.specs.Escapes.{escaped_transform_meaning};
 
 use crate::next_piece::{NextPiece, Piece, piece_at};
-use nom_error::answer::{Err, Needed, PResult};
+use nom_error::answer::{Err, Needed, OutOfMemory, PResult};
 use nom_error::kind::ErrorKind;
 use nom_error::mode::{Mode, OutputMode};
 use nom_error::value::refusal;
@@ -41,18 +41,18 @@ fn no_text<M: Mode, A: Allocator + Copy, X: Builder + Drop, I: ExtendInto<A, Ext
     }
 }
 
-/// Appends a value, where texts are built, and tells whether there was memory for it.
+/// Appends a value, where texts are built.
 #[inline(always)]
 fn append<A: Allocator + Copy, X: Builder + Drop, O: ExtendInto<A, Extender = X> + Drop>(
     text: &mut Option<X>,
     value: Option<O>,
-) -> bool
-    ensures kept { IsTrue result → IsAppended X.parts O.added text.old value text.new }
-    ensures refused { result ≡ false → IsSome text.old }
+) -> Result<(), OutOfMemory>
+    ensures kept { OnOk result (IsAppended X.parts O.added text.old value text.new) }
+    ensures refused { OnErr result (IsSome text.old) }
 {
     match (text, value) {
-        (Some(text), Some(value)) => value.extend_into(text).is_ok(),
-        _ => true,
+        (Some(text), Some(value)) => value.extend_into(text),
+        _ => Ok(()),
     }
 }
 
@@ -63,9 +63,9 @@ fn extend<
     X: Builder + Drop,
     O: ExtendInto<A, Extender = X> + Drop,
     P: ExtendInto<A, Extender = X> + Drop,
->(text: &mut Option<X>, piece: Piece<Option<O>, Option<P>>) -> bool
-    ensures kept { IsTrue result → IsExtended X.parts O.added P.added text.old piece text.new }
-    ensures refused { result ≡ false → IsSome text.old }
+>(text: &mut Option<X>, piece: Piece<Option<O>, Option<P>>) -> Result<(), OutOfMemory>
+    ensures kept { OnOk result (IsExtended X.parts O.added P.added text.old piece text.new) }
+    ensures refused { OnErr result (IsSome text.old) }
 {
     match piece {
         Piece::Normal(value) => append::<A, X, O>(text, value),
@@ -116,9 +116,7 @@ where
             )?;
             match emitted(next_piece) {
                 NextPiece::Found(piece) => {
-                    if !extend::<A, X, F::Output, G::Output>(&mut text, piece) {
-                        return Err(Err::OutOfMemory);
-                    }
+                    extend::<A, X, F::Output, G::Output>(&mut text, piece)?;
                     if next.input_len() == rest.input_len() {
                         return Ok((rest, text));
                     }

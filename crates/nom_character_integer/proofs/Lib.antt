@@ -1,3 +1,4 @@
 pub mod Readings
 pub mod Shown
 pub mod Signs
+pub mod Tenths

@@ -1,5 +1,5 @@
 //! Whole numbers in decimal digits.
-ghost use Rattle.std.specs.Prelude.{◌≡◌, ◌<◌, ◌+◌, ◌-◌, ◌*◌, ℕ, Bool, ℤ, pos, true, false, [], ◌∷◌, MatchOption};
+ghost use Rattle.std.specs.Prelude.{◌≡◌, ◌<◌, ◌+◌, ◌-◌, ◌*◌, ◌+ℤ◌, ◌*ℤ◌, ◌≤ℤ◌, ℕ, Bool, ℤ, pos, int_div, true, false, [], ◌∷◌, MatchOption};
 ghost use Rattle.std.proofs.Common.{sym, ◌∙◌};
 ghost use Rattle.nom_internal.specs.Prelude.{is_dec_digit_code, Built};
 ghost use Rattle.num_traits.specs.Laws.{Checks};
@@ -34,14 +34,39 @@ fn ten_times_and<T: PrimInt>(number: T, ten: T, ones: T, negative: bool) -> Opti
     }
 }
 
-/// The number with one more digit after its own; `None` where the type doesn't have it.
+/// A tenth of the type's greatest number, rounded down.
+#[inline(always)]
+fn tenth_of_greatest<T: PrimInt>(ten: T) -> T
+    requires { T.value ten ≡ pos 10 }
+    ensures { T.value result ≡ int_div T.high (pos 10) }
+{
+    T::max_value() / ten
+}
+
+/// Ten times a number and some ones more, which the type has.
+#[inline(always)]
+fn ten_times_more<T: PrimInt>(number: T, ten: T, ones: T) -> T
+    requires tens { T.fits (T.value number *ℤ T.value ten) }
+    requires sum { T.fits (T.value number *ℤ T.value ten +ℤ T.value ones) }
+    ensures fits { T.fits (T.value result) }
+    ensures value { T.value result ≡ T.value number *ℤ T.value ten +ℤ T.value ones }
+{
+    number * ten + ones
+}
+
+/// The number with one more digit after its own; `None` where the type doesn't have it. After a number below a
+/// tenth of the greatest one any digit may follow, so no sum is tested.
 #[inline(always)]
 fn followed_by<T: PrimInt>(number: T, digit: u8, negative: bool) -> Option<T>
     requires digit { digit < 10 }
+    requires sign { negative ≡ false → pos 0 ≤ℤ T.value number }
     ensures { (n : ℕ) → T.value number ≡ with_sign negative n → Checks T.value T.fits (with_sign negative (10 * n + digit)) result }
 {
     let ten = <T as NumCast>::from(10u8)?;
     let ones = <T as NumCast>::from(digit)?;
+    if !negative && number < tenth_of_greatest(ten) {
+        return Some(ten_times_more(number, ten, ones));
+    }
     ten_times_and(number, ten, ones, negative)
 }
 

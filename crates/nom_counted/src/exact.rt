@@ -37,9 +37,7 @@ pub fn items_exactly<OM: OutputMode, I: Items, F: Parser<I>, K: Accumulator<F::O
     while done < count {
         match parser.process::<OutputM<OM::Output, OM::Error, OM::Incomplete>>(rest) {
             Ok((next, item)) => {
-                if !push_item::<OM::Output, _, _>(&mut kept, item) {
-                    return Err(Err::OutOfMemory);
-                }
+                push_item::<OM::Output, _, _>(&mut kept, item)?;
                 rest = next;
                 done += 1;
             }

@@ -1,5 +1,5 @@
 -- The report, from the answer on messages that come in pieces.
-use Rattle.std.proofs.Common.{◌≡◌, ℕ, Bool, true, ◌<◌, ◌≤◌, List, [], ◌∷◌, length, slice_index, Vec, ◌∙◌, ap, inl, inr}
+use Rattle.std.proofs.Common.{◌≡◌, ℕ, true, ◌<◌, ◌≤◌, List, [], ◌∷◌, length, slice_index, Vec, ◌∙◌, ap, inl, inr}
 use Rattle.nom_error.specs.declared.value.Error.{Error}
 use Rattle.std.specs.Prelude.{codes}
 use Rattle.nom_internal.specs.Prelude.{IResult, bytes_model, Cause}

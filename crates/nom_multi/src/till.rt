@@ -68,9 +68,7 @@ impl<
                         if next.input_len() == rest.input_len() {
                             return Err(refusal::<OM::Error, I, F::Error>(rest, ErrorKind::Many0));
                         }
-                        if !push_item::<OM::Output, _, _>(&mut kept, item) {
-                            return Err(Err::OutOfMemory);
-                        }
+                        push_item::<OM::Output, _, _>(&mut kept, item)?;
                         rest = next;
                     }
                 },

@@ -2,6 +2,7 @@
 ghost use Rattle.nom_internal.specs.Prelude.{Built};
 ghost use Rattle.nom_multi_fold.specs.Folded.{FoldPushes, CanFold, IsStart, IsCarried};
 
+use nom_error::answer::OutOfMemory;
 use nom_error::mode::Mode;
 use nom_repeat::accumulator::Accumulator;
 
@@ -25,11 +26,11 @@ impl<'a, T: Drop, R: Drop, G: Fn(R, T) -> R> Accumulator<T> for Folded<'a, R, G>
     ghost fills = { λ _ h. h };
 
     #[inline(always)]
-    fn push(&mut self, item: T) -> bool {
+    fn push(&mut self, item: T) -> Result<(), OutOfMemory> {
         match self.value.take() {
             Some(value) => {
                 self.value = Some((self.fold)(value, item));
-                true
+                Ok(())
             }
             None => unreachable!(),
         }

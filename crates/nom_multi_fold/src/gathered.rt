@@ -4,6 +4,7 @@ ghost use Rattle.nom_internal.specs.Prelude.{Built};
 ghost use Rattle.nom_multi_fold.specs.Ranges.{Gathers, IsGathered};
 
 use nom_build::collection::Collection;
+use nom_error::answer::OutOfMemory;
 use nom_error::mode::Mode;
 use nom_repeat::accumulator::Accumulator;
 use std::alloc::Allocator;
@@ -28,8 +29,8 @@ impl<T, A: Allocator, C: Collection<T, A>> Accumulator<T> for Gathered<C, A> {
     ghost fills = { λ _ _. tt };
 
     #[inline(always)]
-    fn push(&mut self, item: T) -> bool {
-        self.collection.append(item).is_ok()
+    fn push(&mut self, item: T) -> Result<(), OutOfMemory> {
+        self.collection.append(item)
     }
 }
 

@@ -191,9 +191,7 @@ fn first_item<OM: OutputMode, I: Input, F: Parser<I>, K: Accumulator<F::Output> 
     let mut kept = before;
     match parser.process::<OutputM<OM::Output, Check, OM::Incomplete>>(input) {
         Ok((rest, item)) => {
-            if !push_item::<OM::Output, _, _>(&mut kept, item) {
-                return Err(Err::OutOfMemory);
-            }
+            push_item::<OM::Output, _, _>(&mut kept, item)?;
             Ok((rest, Some((true, kept))))
         }
         Err(Err::Error(_)) => Ok((input, Some((false, kept)))),

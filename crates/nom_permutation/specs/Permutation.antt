@@ -1,6 +1,6 @@
 -- Permutation: each member once, in any order. Round by round, the first member that isn't applied and doesn't refuse is
 -- applied; where all that are left refuse, so does the permutation, with their errors joined from left to right and closed there.
-use Rattle.std.specs.Prelude.{◌≡◌, ℕ, Bool, true, List, length}
+use Rattle.std.specs.Prelude.{◌≡◌, ℕ, true, List, length}
 use Rattle.std.proofs.Common.{zero, suc}
 use Rattle.nom_internal.specs.Prelude.{Modes, Model, Accept, Meaning, closed_meaning, Family, then_meaning, Cause}
 use Rattle.nom_permutation.specs.Members.{Member, EachMember, AreSound, Choice, tried}

@@ -1,5 +1,5 @@
 -- What items in turn show, of which one may be stuck.
-use Rattle.std.proofs.Common.{◌≡◌, ℕ, ◌<◌, Bool, true, false, Ok, Err, Option, Some, None, ◌⊎◌, List, [], ◌∷◌, ◌++◌, inl, inr, refl, arith, zero, suc}
+use Rattle.std.proofs.Common.{◌≡◌, ℕ, ◌<◌, Bool, true, false, Ok, Err, Option, Some, None, List, [], ◌∷◌, ◌++◌, refl, arith, zero, suc}
 use Rattle.nom_internal.specs.Prelude.{PResult, size_of, Needed, Incomplete, Failure, OutOfMemory, Built, modes, Model, InputLaws, IsSuffixOf, Outcome, Accept}
 use Rattle.nom_internal.specs.Prelude.{Refuse, Stop, Fails, Needs, ShowsAnswer, RanOut, Meaning, labelled_meaning, always}
 use Rattle.nom_error.specs.declared.answer.Err as Answer

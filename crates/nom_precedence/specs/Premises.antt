@@ -1,5 +1,4 @@
 -- A meaning whose premises are told at once, in place of those that its definition gathers.
-use Rattle.std.specs.Prelude.{Bool}
 use Rattle.nom_internal.specs.Prelude.{Modes, Model, Meaning, IsLawful, IsSteady, Cause}
 
 -- when a parser is sound, frugal, settles, and never fails

@@ -8,7 +8,7 @@ ghost use Rattle.nom_operators.specs.declared.operation.Operation.{Operation};
 ghost use Rattle.nom_operators.specs.declared.operation.Operation.TheVariants.{Postfix, Prefix};
 
 use crate::read::{Read, affixes, prefixes};
-use nom_error::answer::PResult;
+use nom_error::answer::{OutOfMemory, PResult};
 use nom_error::mode::OutputMode;
 use nom_internal::built::emitted;
 use nom_internal::parser::Parser;
@@ -39,11 +39,11 @@ impl<'a, P: Drop, Q: Drop, B: Drop, O: Drop, G: Fn(Operation<P, Q, B, O>) -> O> 
     ghost fills = { λ _ h. h };
 
     #[inline(always)]
-    fn push(&mut self, item: Q) -> bool {
+    fn push(&mut self, item: Q) -> Result<(), OutOfMemory> {
         match self.value.take() {
             Some(value) => {
                 self.value = Some((self.fold)(Operation::Postfix(value, item)));
-                true
+                Ok(())
             }
             None => unreachable!(),
         }

@@ -1,5 +1,5 @@
 -- The report, from the answer on records that come in pieces.
-use Rattle.std.proofs.Common.{◌≡◌, ℕ, Bool, true, ◌<◌, ◌≤◌, List, length, slice_index, codes, Vec, Result, Bor, sym, ◌∙◌, ap, subst}
+use Rattle.std.proofs.Common.{◌≡◌, ℕ, true, ◌<◌, ◌≤◌, List, length, slice_index, codes, Vec, Result, Bor, sym, ◌∙◌, ap, subst}
 use Rattle.nom_error.specs.declared.value.Error.{Error}
 use Rattle.nom_internal.specs.Prelude.{Needed, bytes_model, bytes_lawful, IsModelledBy, Cause, Stop, Fails, IsLawful, IsOne, ComparesBytes, bytes_comparing}
 use Rattle.nom_internal.specs.Prelude.{value_of}

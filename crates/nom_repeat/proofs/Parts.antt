@@ -1,5 +1,5 @@
 -- What the answer of a part tells.
-use Rattle.std.proofs.Common.{◌≡◌, ℕ, Err, Option, ◌⊎◌, inl, inr, subst, sym}
+use Rattle.std.proofs.Common.{◌≡◌, ℕ, Err, Option, subst, sym}
 use Rattle.nom_internal.specs.Prelude.{Needed, Incomplete, Error, Failure, OutOfMemory, PResult, size_of, Built, Modes, Model, Outcome, Accept, Refuse, Stop}
 use Rattle.nom_internal.specs.Prelude.{Fails, Needs, Shows, ShowsAnswer, RanOut, Shown, Meaning, ShowsMeaning, Cause}
 use Rattle.nom_error.specs.declared.answer.Err as Answer

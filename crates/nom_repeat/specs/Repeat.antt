@@ -10,7 +10,7 @@
 --   the part for no item before it.
 -- - An end that is tried first, or else an item, are one part, whose tree is of the one or of the other, and whose errors are
 --   the item's. An accepted end ends the repetition with its tree, and consumes; an accepted item is taken.
-use Rattle.std.specs.Prelude.{◌≡◌, ℕ, ◌+◌, ◌<◌, Bool, ◌⊎◌, Option, Some, None, List, [], ◌∷◌}
+use Rattle.std.specs.Prelude.{◌≡◌, ℕ, ◌+◌, ◌<◌, ◌⊎◌, Option, Some, None, List, [], ◌∷◌}
 use Rattle.nom_internal.specs.Prelude.{Modes, Model, IsSuffixOf, Outcome, Meaning, Family, after, Cause}
 
 -- a turn of a repetition: it takes an item, of a length, with a tree; or it ends, by an outcome of its own

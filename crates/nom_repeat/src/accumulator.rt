@@ -1,10 +1,16 @@
 //! What is accumulated of items.
-ghost use Rattle.std.specs.Prelude.{◌≡◌, ◌+◌, ◌%◌, ◌^◌, ◌≤◌, ◌++◌, ◌∷◌, [], IsTrue, false, vec_len, vec_capacity};
+ghost use Rattle.std.specs.Prelude.{◌≡◌, ◌+◌, ◌%◌, ◌^◌, ◌≤◌, ◌++◌, ◌∷◌, [], OnOk, OnErr, vec_len, vec_capacity};
 ghost use Rattle.nom_internal.specs.Prelude.{Built};
 ghost use Rattle.nom_repeat.specs.Accumulated.{PushesBoth, LacksRoom};
 
+use nom_error::answer::OutOfMemory;
 use nom_error::mode::Mode;
 use std::alloc::Allocator;
+use std::mem::size_of_val;
+
+/// How many bytes of room a list gets with its first item. So a short list of small items is allocated once, where a
+/// list that doubles from 4 items is allocated again and again.
+const FIRST_ROOM: usize = 64;
 
 /// An accumulator of items of type `T`: a list, a number, the value of a fold.
 pub trait Accumulator<T> {
@@ -22,13 +28,12 @@ pub trait Accumulator<T> {
 
     ghost fills: { (k : Self) → IsFull k → Grows };
 
-    /// Pushes an item, and tells whether there was memory for it; there may be none only where there is no
-    /// room.
-    fn push(&mut self, item: T) -> bool
+    /// Pushes an item. Memory may run out only where there is no room.
+    fn push(&mut self, item: T) -> Result<(), OutOfMemory>
         requires { CanPush self.old }
-        ensures kept { IsTrue result → Pushes self.old item self.new }
-        ensures next { IsTrue result → CanPush self.new }
-        ensures full { result ≡ false → IsFull self.old };
+        ensures kept { OnOk result (Pushes self.old item self.new) }
+        ensures next { OnOk result (CanPush self.new) }
+        ensures full { OnErr result (IsFull self.old) };
 }
 
 /// A list of the items, in their order.
@@ -44,8 +49,12 @@ impl<T: Drop, A: Allocator> Accumulator<T> for Vec<T, A> {
     ghost fills = { λ _ _. tt };
 
     #[inline(always)]
-    fn push(&mut self, item: T) -> bool {
-        self.push(item).is_ok()
+    fn push(&mut self, item: T) -> Result<(), OutOfMemory> {
+        if self.len() == self.capacity() {
+            make_room(self, size_of_val(&item));
+        }
+        self.push(item)?;
+        Ok(())
     }
 }
 
@@ -63,22 +72,38 @@ impl<T: Drop> Accumulator<T> for usize {
     ghost fills = { λ _ h. h };
 
     #[inline(always)]
-    fn push(&mut self, _item: T) -> bool {
+    fn push(&mut self, _item: T) -> Result<(), OutOfMemory> {
         *self = self.wrapping_add(1);
-        true
+        Ok(())
     }
 }
 
-/// Pushes an item, where outputs are built, and tells whether there was memory for it.
+/// Makes room in an empty list for as many items as `FIRST_ROOM` bytes hold. Without the memory for it nothing changes,
+/// and the push asks for less.
+// Apart and cold, so that the test alone stands where items are pushed.
+#[cold]
+#[inline(never)]
+fn make_room<T, A: Allocator>(list: &mut Vec<T, A>, item_size: usize)
+    ensures items { list.new.items ≡ list.old.items }
+{
+    if list.is_empty() && item_size > 0 {
+        let _ = list.reserve(FIRST_ROOM / item_size);
+    }
+}
+
+/// Pushes an item, where outputs are built.
 #[inline(always)]
-pub fn push_item<M: Mode, T: Drop, K: Accumulator<T>>(kept: &mut Option<K>, item: Option<T>) -> bool
+pub fn push_item<M: Mode, T: Drop, K: Accumulator<T>>(
+    kept: &mut Option<K>,
+    item: Option<T>,
+) -> Result<(), OutOfMemory>
     requires kept { Built M.BUILDS K.CanPush kept.old }
     requires item { Built M.BUILDS (λ _. Unit {0}) item }
-    ensures kept { IsTrue result → PushesBoth K.Pushes K.CanPush kept.old item kept.new }
-    ensures full { result ≡ false → LacksRoom K.IsFull kept.old }
+    ensures kept { OnOk result (PushesBoth K.Pushes K.CanPush kept.old item kept.new) }
+    ensures full { OnErr result (LacksRoom K.IsFull kept.old) }
 {
     if !M::BUILDS {
-        return true;
+        return Ok(());
     }
     match (kept, item) {
         (Some(kept), Some(item)) => kept.push(item),

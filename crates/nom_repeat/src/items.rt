@@ -73,9 +73,7 @@ pub fn items<OM: OutputMode, EM: Mode, I: Input, F: Parser<I>, K: Accumulator<F:
             Ok((next, item)) => match stuck(limits.empty, rest.input_len(), next.input_len()) {
                 Some(kind) => return Err(refusal::<OM::Error, I, F::Error>(rest, kind)),
                 None => {
-                    if !push_item::<OM::Output, _, _>(&mut kept, item) {
-                        return Err(Err::OutOfMemory);
-                    }
+                    push_item::<OM::Output, _, _>(&mut kept, item)?;
                     rest = next;
                     count = one_more(limits.most, count);
                 }

@@ -1,5 +1,5 @@
 -- The report, from the answer on an input that grows.
-use Rattle.std.proofs.Common.{◌≡◌, ℕ, Bool, true, false, ◌-◌, ◌<◌, ◌≤◌, List, ◌++◌, length, slice_index, Result, Ok, Err, Bor, IfOk, refl, sym, ◌∙◌}
+use Rattle.std.proofs.Common.{◌≡◌, ℕ, true, ◌-◌, ◌<◌, ◌≤◌, List, ◌++◌, length, slice_index, Result, Ok, Err, Bor, IfOk, refl, sym, ◌∙◌}
 use Rattle.std.proofs.Common.{ap, subst, arith, length-append}
 use Rattle.nom_error.specs.declared.value.Error.{Error}
 use Rattle.nom_internal.specs.Prelude.{Needed, IsSuffixOf, items_len-ones, bytes_model, Outcome, Cause, Accept, Refuse, Stop, Fails, Needs}

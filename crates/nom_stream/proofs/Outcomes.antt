@@ -1,6 +1,5 @@
 -- The outcome that stands after what was taken.
 use Rattle.std.proofs.Common.{arith, ◌≡◌, ℕ, zero, suc, ◌+◌, Bool, List, [], ◌∷◌, ◌++◌, length, Ok, Err, refl, sym, ◌∙◌, ap, subst, length-append}
-use Rattle.std.proofs.Common.{◌⊎◌, inl, inr}
 use Rattle.nom_internal.specs.Prelude.{size_of, Needed, bytes_model, IsSuffixOf, items_len-ones, Outcome, Accept, Refuse, Stop, Fails, Needs}
 use Rattle.nom_internal.specs.Prelude.{Parses, ParseRanOut, Parsed, Meaning, ParsesMeaning, Cause}
 use Rattle.nom_error.specs.declared.answer.Err.TheVariants as Stopped

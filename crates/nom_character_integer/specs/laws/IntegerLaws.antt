@@ -8,7 +8,6 @@ use Rattle.num_traits.specs.Ints.{unsigned-between, signed-between}
 use Rattle.std.proofs.lemmas.Int.{ints}
 use Rattle.std.proofs.lemmas.Nat.{pow_pos}
 use Rattle.std.proofs.lemmas.List.{map-append}
-use Rattle.nom_error.specs.declared.kind.ErrorKind.TheVariants as Kind
 use Rattle.nom_internal.specs.Prelude.{Errors, is_dec_digit_code, digits_after, Model, items_len, IsBoundary, Related, IsLawful, IsSteady, LeafLaws}
 use Rattle.nom_internal.specs.Prelude.{leaf_lawful, leaf_steady}
 use Rattle.nom_character_integer.specs.Integers.{digits_of, after_digits, decimal_number, with_sign, is_sign, sign_of, after_sign, is_negative, integer_digits}

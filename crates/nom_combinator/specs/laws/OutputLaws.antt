@@ -1,5 +1,5 @@
 -- The laws of a value in the place of what a part accepts.
-use Rattle.std.specs.Prelude.{◌≡◌, ℕ, Bool, true, false, refl}
+use Rattle.std.specs.Prelude.{◌≡◌, ℕ, true, refl}
 use Rattle.std.proofs.Common.{sym, ◌∙◌, subst}
 use Rattle.nom_internal.specs.Prelude.{Model, IsBoundary, View, Cause, Accept, Stop, Fails, Meaning, IsLawful, IsSteady, IsPinned}
 use Rattle.nom_internal.specs.laws.CaseLaws.{CaseLaws, case_lawful, case_steady}

@@ -1,5 +1,5 @@
 -- The laws of items until an end.
-use Rattle.std.specs.Prelude.{◌≡◌, ℕ, ◌⊎◌, Bool, true, false, Option, Some, None, zero, suc, refl}
+use Rattle.std.specs.Prelude.{◌≡◌, ℕ, ◌⊎◌, true, Option, Some, None, zero, suc}
 use Rattle.std.proofs.Common.{inl, inr}
 use Rattle.nom_internal.specs.Prelude.{Errors, Model, InputLaws, Outcome, Cause, Accept, Refuse, Stop, Fails, Needs, Meaning, IsLawful}
 use Rattle.nom_internal.specs.Prelude.{IsSteady, always, always_lawful}

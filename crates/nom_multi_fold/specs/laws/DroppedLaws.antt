@@ -1,5 +1,5 @@
 -- The laws of parts whose outputs are never built.
-use Rattle.std.specs.Prelude.{◌≡◌, ℕ, Bool, true, false, refl}
+use Rattle.std.specs.Prelude.{◌≡◌, ℕ, false, refl}
 use Rattle.std.proofs.Common.{sym, ◌∙◌, subst}
 use Rattle.nom_internal.specs.Prelude.{Model, IsBoundary, Cause, Accept, Stop, Fails, Meaning, IsLawful, IsSteady}
 use Rattle.nom_internal.specs.laws.CaseLaws.{case_lawful, case_steady}

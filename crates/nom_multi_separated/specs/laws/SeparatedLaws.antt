@@ -1,5 +1,5 @@
 -- The laws of items with a separator between them.
-use Rattle.std.specs.Prelude.{Bool, false, List, [], ◌∷◌}
+use Rattle.std.specs.Prelude.{false, List, [], ◌∷◌}
 use Rattle.nom_internal.specs.Prelude.{Errors, Modes, Model, InputLaws, Meaning, IsLawful, IsSteady, IsLawfulFamily, AnyKey, success_lawful, success_steady}
 use Rattle.nom_internal.specs.Prelude.{Cause}
 use Rattle.nom_internal.specs.laws.SequenceLaws.{then_lawful, then_steady, sequence_lawful, sequence_steady}

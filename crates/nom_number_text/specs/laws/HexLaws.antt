@@ -1,5 +1,5 @@
 -- The laws of numbers in base 16.
-use Rattle.std.specs.Prelude.{◌≡◌, ℕ, Bool, true, false, ◌++◌, take, drop, Some, refl}
+use Rattle.std.specs.Prelude.{◌≡◌, ℕ, true, false, ◌++◌, take, drop, Some, refl}
 use Rattle.std.proofs.Common.{sym, ◌∙◌, ap, subst, append_assoc}
 use Rattle.std.proofs.lemmas.List.{take-append-drop}
 use Rattle.nom_error.specs.declared.kind.ErrorKind.TheVariants as Kind

@@ -1,5 +1,5 @@
 -- The laws of permutations.
-use Rattle.std.specs.Prelude.{◌≡◌, ℕ, Bool, true, false, List, [], ◌∷◌, length, Option, Some, None}
+use Rattle.std.specs.Prelude.{◌≡◌, ℕ, Bool, List, [], ◌∷◌, length, Option, Some, None}
 use Rattle.std.proofs.Common.{sym, ◌∙◌, subst, zero, suc}
 use Rattle.nom_internal.specs.Prelude.{Modes, Model, InputLaws, IsBoundary, Cause, Accept, Stop, Fails, Meaning, IsLawful, IsSteady, labelled_meaning}
 use Rattle.nom_internal.specs.Prelude.{IsLawfulFamily, AnyKey, then_meaning}

@@ -1,5 +1,5 @@
 -- The laws of what may be stuck.
-use Rattle.std.specs.Prelude.{◌≡◌, ℕ, Bool, true, false, refl}
+use Rattle.std.specs.Prelude.{◌≡◌, ℕ, true, refl}
 use Rattle.std.proofs.Common.{sym, ◌∙◌, subst}
 use Rattle.nom_internal.specs.Prelude.{Errors, Modes, Model, InputLaws, IsBoundary, Outcome, Cause, Accept, Refuse, Stop, Fails, Needs, Meaning, IsLawful}
 use Rattle.nom_internal.specs.Prelude.{IsSteady, IsLawfulFamily, AnyKey, success_lawful, success_steady}

@@ -1,5 +1,5 @@
 -- The laws of items within limits.
-use Rattle.std.specs.Prelude.{◌≡◌, ℕ, Bool, true, false, ltb, Option, Some, None, zero, suc, refl}
+use Rattle.std.specs.Prelude.{◌≡◌, ℕ, Bool, true, false, ltb, Option, Some, None, zero, suc}
 use Rattle.nom_internal.specs.Prelude.{Errors, ErrorKind, Model, InputLaws, Outcome, Cause, Accept, Refuse, Stop, Fails, Needs, Meaning}
 use Rattle.nom_internal.specs.Prelude.{IsLawful, IsSteady, always, always_lawful}
 use Rattle.nom_repeat.specs.Repeat.{Ran}

@@ -1,7 +1,7 @@
-use Rattle.std.proofs.Common.{refl, inl, rules}
+use Rattle.std.proofs.Common.{refl, inl}
 use Rattle.std.proofs.lemmas.Bool.{lt-ltb}
 use Rattle.nom_error.specs.declared.kind.ErrorKind.TheVariants as Kind
-use Rattle.nom_internal.proofs.Shown.{accepts}
+use Rattle.nom_internal.proofs.Shown.{accepts, err_from_residual}
 use Rattle.nom_repeat.specs.Bounds.{exact_limits}
 use Rattle.nom_repeat.specs.declared.items.TooFew.TheVariants.{Added}
 use Rattle.nom_repeat.proofs.Parts.{shown_at}
@@ -23,7 +23,7 @@ loop-done-preserved g c =
     let i = c.loop-done.invariant in
     let part = shown_at g.F.Parser.IsOutput g.F.Parser.meaning i.state_kept c.in-Ok.ensures.shown in
     let item = accepts part in
-    let pushes = c.push_item.ensures.kept (search rules) in
+    let pushes = c.in_ok-push_item-in-Ok.ensures.kept in
     record {
       state_kept = cc;
       collected = items_more g.met.I.Items.lawful (exact_limits c.args.count) i.collected (is_below c.loop-done-test.true i.collected.held.1) item (inl refl) (
@@ -42,15 +42,16 @@ push_item-requires-clause-kept g c =
 pub push_item-requires-clause-item : goal.push_item-requires-clause-item
 push_item-requires-clause-item g c = built_any _ _ _ (accepts c.in-Ok.ensures.shown).built_is
 
-pub returns-then-not-push_item-clause-shown : goal.returns-then-not-push_item-clause-shown
-returns-then-not-push_item-clause-shown g c =
+pub returns-in_err-push_item-in-Ok-clause-shown : goal.returns-in_err-push_item-in-Ok-clause-shown
+returns-in_err-push_item-in-Ok-clause-shown g c =
     let i = c.loop-done.invariant in
     let part = shown_at g.F.Parser.IsOutput g.F.Parser.meaning i.state_kept c.in-Ok.ensures.shown in
+    rw (err_from_residual c.from_residual.ensures) (
     items_lack_room g.F.Error.ParseError.errors (exact_limits c.args.count) g.K.Accumulator.Grows (g.F.Parser.meaning (g.F.Parser.state c.args.parser.now))
     i.collected
     (is_below c.loop-done-test.true i.collected.held.1) (accepts part) (inl refl)
-    (room_built g.K.Accumulator.IsFull _ _ _ i.collected.held.0 (c.push_item.ensures.full c.if-not-push_item.true))
-    (room_grows g.K.Accumulator.IsFull g.K.Accumulator.Grows g.K.Accumulator.fills _ (c.push_item.ensures.full c.if-not-push_item.true))
+    (room_built g.K.Accumulator.IsFull _ _ _ i.collected.held.0 c.in_err-push_item-in-Ok.ensures.full)
+    (room_grows g.K.Accumulator.IsFull g.K.Accumulator.Grows g.K.Accumulator.fills _ c.in_err-push_item-in-Ok.ensures.full))
 
 pub returns-in-Err-Error-clause-shown : goal.returns-in-Err-Error-clause-shown
 returns-in-Err-Error-clause-shown g c =

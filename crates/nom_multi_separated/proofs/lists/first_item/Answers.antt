@@ -1,5 +1,5 @@
-use Rattle.std.proofs.Common.{rules, []}
-use Rattle.nom_internal.proofs.Shown.{accepts}
+use Rattle.std.proofs.Common.{[]}
+use Rattle.nom_internal.proofs.Shown.{accepts, err_from_residual}
 use Rattle.nom_repeat.proofs.Accumulating.{built_any, kept_none, pushed, room_built, room_grows}
 use Rattle.nom_multi_separated.proofs.SeparatedShown.{first_missing, first_found, first_failed, first_lacks, first_lacks_room, nothing_yet}
 use Rattle.nom_multi_separated.proofs.lists.first_item.Goals as goal
@@ -7,18 +7,19 @@ use Rattle.nom_multi_separated.proofs.lists.first_item.Goals as goal
 pub push_item-requires-clause-item : goal.push_item-requires-clause-item
 push_item-requires-clause-item g c = built_any _ _ _ (accepts c.in-Ok.ensures.shown).built_is
 
-pub returns-then-not-push_item-clause-shown : goal.returns-then-not-push_item-clause-shown
-returns-then-not-push_item-clause-shown g c =
-    let full = c.push_item.ensures.full c.if-not-push_item.true in
+pub returns-in_err-push_item-in-Ok-clause-shown : goal.returns-in_err-push_item-in-Ok-clause-shown
+returns-in_err-push_item-in-Ok-clause-shown g c =
+    let full = c.in_err-push_item-in-Ok.ensures.full in
     let first = kept_none g.K.Accumulator.Pushes g.K.Accumulator.CanPush (g.F.Parser.IsOutput (g.F.Parser.state c.args.parser.now)) _ _ c.requires.built in
+    rw (err_from_residual c.from_residual.ensures) (
     first_lacks_room g.met.I.Items.lawful g.F.Error.ParseError.errors g.K.Accumulator.Grows (g.F.Parser.meaning (g.F.Parser.state c.args.parser.now))
     g.K.Accumulator.Pushes g.K.Accumulator.CanPush (g.F.Parser.IsOutput (g.F.Parser.state c.args.parser.now)) c.args.before _ _ _
     (nothing_yet g.met.I.Items.lawful ((g.F.Parser.meaning (g.F.Parser.state c.args.parser.now)).answers g.OM.Incomplete.IsStreaming.STREAMING)
     c.prove_known.ensures) (accepts c.in-Ok.ensures.shown) (room_built g.K.Accumulator.IsFull _ _ _ first full)
-    (room_grows g.K.Accumulator.IsFull g.K.Accumulator.Grows g.K.Accumulator.fills _ full)
+    (room_grows g.K.Accumulator.IsFull g.K.Accumulator.Grows g.K.Accumulator.fills _ full))
 
-pub returns-else-not-push_item-clause-shown : goal.returns-else-not-push_item-clause-shown
-returns-else-not-push_item-clause-shown g c =
+pub returns-in_ok-push_item-in-Ok-clause-shown : goal.returns-in_ok-push_item-in-Ok-clause-shown
+returns-in_ok-push_item-in-Ok-clause-shown g c =
     let first = kept_none g.K.Accumulator.Pushes g.K.Accumulator.CanPush (g.F.Parser.IsOutput (g.F.Parser.state c.args.parser.now)) _ _ c.requires.built in
     let item = accepts c.in-Ok.ensures.shown in
     first_found g.met.I.Items.lawful g.F.Error.ParseError.errors g.K.Accumulator.Grows (g.F.Parser.meaning (g.F.Parser.state c.args.parser.now))
@@ -27,7 +28,7 @@ returns-else-not-push_item-clause-shown g c =
     (nothing_yet g.met.I.Items.lawful ((g.F.Parser.meaning (g.F.Parser.state c.args.parser.now)).answers g.OM.Incomplete.IsStreaming.STREAMING)
     c.prove_known.ensures) item _ (pushed g.K.Accumulator.Pushes g.K.Accumulator.CanPush (g.F.Parser.IsOutput (g.F.Parser.state c.args.parser.now)) _ _ [] _ _
     _ _
-    (c.push_item.ensures.kept (search rules)) first item.built_is)
+    c.in_ok-push_item-in-Ok.ensures.kept first item.built_is)
 
 pub returns-in-Err-Error-clause-shown : goal.returns-in-Err-Error-clause-shown
 returns-in-Err-Error-clause-shown g c =

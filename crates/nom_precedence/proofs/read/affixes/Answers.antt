@@ -1,6 +1,6 @@
-use Rattle.std.proofs.Common.{rules, refl, ◌∙◌, false}
+use Rattle.std.proofs.Common.{refl, ◌∙◌, false}
 use Rattle.nom_internal.specs.Prelude.{labelled_meaning}
-use Rattle.nom_internal.proofs.Shown.{accepts}
+use Rattle.nom_internal.proofs.Shown.{accepts, err_from_residual}
 use Rattle.nom_repeat.specs.Accumulated.{Accumulated}
 use Rattle.nom_repeat.proofs.Accumulating.{kept_none, kept_ready, built_any, pushed, room_built, room_grows}
 use Rattle.nom_repeat.proofs.Parts.{part_refused, shown_at}
@@ -38,18 +38,19 @@ returns-then-input_len-clause-shown g c =
     (accepts_whole (g.F.Parser.meaning (g.F.Parser.state c.args.parser.now)) item.answered)
     (is_empty item.rest_is c.input_len.ensures c.input_len-in-Ok.ensures c.if-input_len.true) item.rest_is
 
-pub returns-then-not-push_item-clause-shown : goal.returns-then-not-push_item-clause-shown
-returns-then-not-push_item-clause-shown g c =
+pub returns-in_err-push_item-in-Ok-clause-shown : goal.returns-in_err-push_item-in-Ok-clause-shown
+returns-in_err-push_item-in-Ok-clause-shown g c =
     let i = c.loop-next.invariant in
     let item = accepts (shown_at g.F.Parser.IsOutput g.F.Parser.meaning i.state_kept c.in-Ok.ensures.shown) in
+    rw (err_from_residual c.from_residual.ensures) (
     chain_lacks_room g.K.Accumulator.Grows (labelled_meaning Whole (g.F.Parser.meaning (g.F.Parser.state c.args.parser.now)))
     (Accumulated g.K.Accumulator.Pushes g.K.Accumulator.CanPush (g.F.Parser.IsOutput (g.F.Parser.state c.args.parser.now)) c.args.before)
     g.OM.Output.Mode.BUILDS
     g.OM.Error.Mode.BUILDS g.OM.Incomplete.IsStreaming.STREAMING i.collected item.tree
     (accepts_whole (g.F.Parser.meaning (g.F.Parser.state c.args.parser.now)) item.answered)
     (consumes item.rest_is c.input_len.ensures c.input_len-in-Ok.ensures c.if-input_len.false)
-    (room_built g.K.Accumulator.IsFull _ _ _ i.collected.held (c.push_item.ensures.full c.if-not-push_item.true))
-    (room_grows g.K.Accumulator.IsFull g.K.Accumulator.Grows g.K.Accumulator.fills _ (c.push_item.ensures.full c.if-not-push_item.true))
+    (room_built g.K.Accumulator.IsFull _ _ _ i.collected.held c.in_err-push_item-in-Ok.ensures.full)
+    (room_grows g.K.Accumulator.IsFull g.K.Accumulator.Grows g.K.Accumulator.fills _ c.in_err-push_item-in-Ok.ensures.full))
 
 pub loop-next-smaller : goal.loop-next-smaller
 loop-next-smaller g c =
@@ -66,7 +67,7 @@ loop-next-preserved g c =
           g.OM.Incomplete.IsStreaming.STREAMING) i.collected item.tree (accepts_whole (g.F.Parser.meaning (g.F.Parser.state c.args.parser.now))
           item.answered) (consumes item.rest_is c.input_len.ensures c.input_len-in-Ok.ensures c.if-input_len.false) item.rest_is
           (pushed g.K.Accumulator.Pushes g.K.Accumulator.CanPush (g.F.Parser.IsOutput (g.F.Parser.state c.args.parser.now)) _ _ _ _ _ _ _
-          (c.push_item.ensures.kept (search rules)) i.collected.held item.built_is);
+          c.in_ok-push_item-in-Ok.ensures.kept i.collected.held item.built_is);
     }
 
 pub returns-in-Err-Error-clause-shown : goal.returns-in-Err-Error-clause-shown

@@ -1,6 +1,6 @@
-use Rattle.std.proofs.Common.{rules, refl, ◌∙◌, false, subst, sym, []}
+use Rattle.std.proofs.Common.{refl, ◌∙◌, false, subst, sym, []}
 use Rattle.nom_internal.specs.Prelude.{labelled_meaning}
-use Rattle.nom_internal.proofs.Shown.{accepts}
+use Rattle.nom_internal.proofs.Shown.{accepts, err_from_residual}
 use Rattle.std.specs.List.{AllZip}
 use Rattle.nom_precedence.proofs.HeldShown.{held_built}
 use Rattle.nom_precedence.proofs.ListShown.{listed, all_listed}
@@ -29,16 +29,17 @@ returns-then-input_len-clause-shown g c =
     (accepts_whole (g.F.Parser.meaning (g.F.Parser.state c.args.parser.now)) item.answered)
     (is_empty item.rest_is c.input_len.ensures c.input_len-in-Ok.ensures c.if-input_len.true) item.rest_is
 
-pub returns-then-not-put-clause-shown : goal.returns-then-not-put-clause-shown
-returns-then-not-put-clause-shown g c =
+pub returns-in_err-put-in-Ok-clause-shown : goal.returns-in_err-put-in-Ok-clause-shown
+returns-in_err-put-in-Ok-clause-shown g c =
     let i = c.loop-next.invariant in
     let item = accepts (shown_at g.F.Parser.IsOutput g.F.Parser.meaning i.state_kept c.in-Ok.ensures.shown) in
+    rw (err_from_residual c.from_residual.ensures) (
     chain_lacks_room (Unit {0}) (labelled_meaning Whole (g.F.Parser.meaning (g.F.Parser.state c.args.parser.now)))
     _ g.OM.Output.Mode.BUILDS
     g.OM.Error.Mode.BUILDS g.OM.Incomplete.IsStreaming.STREAMING i.collected item.tree
     (accepts_whole (g.F.Parser.meaning (g.F.Parser.state c.args.parser.now)) item.answered)
     (consumes item.rest_is c.input_len.ensures c.input_len-in-Ok.ensures c.if-input_len.false)
-    (held_built _ _ _ item.built_is (c.put.ensures.full c.if-not-put.true)) tt
+    (held_built _ _ _ item.built_is c.in_err-put-in-Ok.ensures.full) tt)
 
 pub loop-next-smaller : goal.loop-next-smaller
 loop-next-smaller g c =
@@ -55,7 +56,7 @@ loop-next-preserved g c =
           g.OM.Incomplete.IsStreaming.STREAMING) i.collected item.tree (accepts_whole (g.F.Parser.meaning (g.F.Parser.state c.args.parser.now))
           item.answered) (consumes item.rest_is c.input_len.ensures c.input_len-in-Ok.ensures c.if-input_len.false) item.rest_is
           (listed (g.F.Parser.IsOutput (g.F.Parser.state c.args.parser.now)) g.OM.Output.Mode.BUILDS _ _ _ _ _ i.collected.held item.built_is
-          (c.put.ensures.put (search rules)));
+          c.in_ok-put-in-Ok.ensures.put);
     }
 
 pub returns-in-Err-Error-clause-shown : goal.returns-in-Err-Error-clause-shown

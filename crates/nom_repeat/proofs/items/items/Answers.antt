@@ -1,5 +1,5 @@
 use Rattle.std.proofs.Common.{rules, refl}
-use Rattle.nom_internal.proofs.Shown.{accepts}
+use Rattle.nom_internal.proofs.Shown.{accepts, err_from_residual}
 use Rattle.nom_repeat.proofs.Repeated.{collected_none, is_empty}
 use Rattle.nom_repeat.proofs.Counted.{counts_none, counts_more, below, at_bound, few_items, enough_items, left_falls}
 use Rattle.nom_repeat.proofs.Accumulating.{kept_none, kept_ready, built_any, pushed, room_built, room_grows}
@@ -41,16 +41,17 @@ push_item-requires-clause-kept g c =
 pub push_item-requires-clause-item : goal.push_item-requires-clause-item
 push_item-requires-clause-item g c = built_any _ _ _ (accepts c.in-Ok.ensures.shown).built_is
 
-pub returns-then-not-push_item-clause-shown : goal.returns-then-not-push_item-clause-shown
-returns-then-not-push_item-clause-shown g c =
+pub returns-in_err-push_item-in-None-clause-shown : goal.returns-in_err-push_item-in-None-clause-shown
+returns-in_err-push_item-in-None-clause-shown g c =
     let i = c.loop-input.invariant in
     let part = part_at g.F.Parser.IsOutput g.F.Parser.meaning c.requires.errors i.state_kept c.in-Ok.ensures.shown in
     let is_below = below _ _ _ i.collected.held.1 (c.is_full.ensures.below c.if-is_full.false) in
     let item = accepts part in
-    items_lack_room g.F.Error.ParseError.errors c.args.limits g.K.Accumulator.Grows (g.F.Parser.meaning (g.F.Parser.state c.args.parser.now)) i.collected
-    is_below item (moves item.rest_is c.input_len.ensures c.input_len-in-Ok.ensures c.in-None.ensures)
-    (room_built g.K.Accumulator.IsFull _ _ _ i.collected.held.0 (c.push_item.ensures.full c.if-not-push_item.true))
-    (room_grows g.K.Accumulator.IsFull g.K.Accumulator.Grows g.K.Accumulator.fills _ (c.push_item.ensures.full c.if-not-push_item.true))
+    let full = c.in_err-push_item-in-None.ensures.full in
+    rw (err_from_residual c.from_residual.ensures) (
+    items_lack_room g.F.Error.ParseError.errors c.args.limits g.K.Accumulator.Grows (g.F.Parser.meaning (g.F.Parser.state c.args.parser.now))
+    i.collected is_below item (moves item.rest_is c.input_len.ensures c.input_len-in-Ok.ensures c.in-None.ensures)
+    (room_built g.K.Accumulator.IsFull _ _ _ i.collected.held.0 full) (room_grows g.K.Accumulator.IsFull g.K.Accumulator.Grows g.K.Accumulator.fills _ full))
 
 pub loop-input-smaller : goal.loop-input-smaller
 loop-input-smaller g c =
@@ -65,7 +66,7 @@ loop-input-preserved g c =
     let part = part_at g.F.Parser.IsOutput g.F.Parser.meaning c.requires.errors i.state_kept c.in-Ok.ensures.shown in
     let is_below = below _ _ _ i.collected.held.1 (c.is_full.ensures.below c.if-is_full.false) in
     let item = accepts part in
-    let pushes = c.push_item.ensures.kept (search rules) in
+    let pushes = c.in_ok-push_item-in-None.ensures.kept in
     record {
       state_kept = cc;
       collected = items_more g.met.I.Items.lawful c.args.limits i.collected is_below item

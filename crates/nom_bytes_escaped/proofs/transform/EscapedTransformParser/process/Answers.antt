@@ -1,4 +1,4 @@
-use Rattle.std.proofs.Common.{◌≡◌, ◌∙◌, None, refl, rules}
+use Rattle.std.proofs.Common.{◌≡◌, ◌∙◌, None, refl}
 use Rattle.nom_internal.specs.Prelude.{modes}
 use Rattle.nom_internal.proofs.Shown.{accepts, err_from_residual}
 use Rattle.nom_repeat.proofs.Repeated.{collected_none, consumes, is_shorter}
@@ -27,17 +27,18 @@ returns-in_err-next-clause-shown g c =
     (g.G.Parser.IsOutput escapable) g.F.Output.ExtendInto.added g.G.Output.ExtendInto.added g.X.Builder.parts (modes _ g.OM.Error.Mode.BUILDS _) _ _ _
     inv.collected _ _ part (err_from_residual c.from_residual.ensures)
 
-pub returns-then-not-extend-clause-shown : goal.returns-then-not-extend-clause-shown
-returns-then-not-extend-clause-shown g c =
+pub returns-in_err-extend-in-Found-clause-shown : goal.returns-in_err-extend-in-Found-clause-shown
+returns-in_err-extend-in-Found-clause-shown g c =
     let inv = c.loop-text.invariant in
     let normal = g.F.Parser.state c.args.self.now.normal in
     let escapable = g.G.Parser.state c.args.self.now.transform in
     let part = same_next_piece _ g.F.Parser.IsOutput g.G.Parser.IsOutput _ (λ y x. g.C.Value.code x ≡ y) g.F.Parser.meaning g.G.Parser.meaning _ _ _ normal _
     _ _ escapable None None inv.normal_kept inv.control_kept inv.transform_kept refl c.in_ok-next.ensures.shown in
+    rw (err_from_residual c.from_residual-in_err-extend-in-Found.ensures) (
     transform_full _ g.met.I.Items.lawful g.F.Error.ParseError.errors (λ x. g.C.Value.code x ≡ c.args.self.now.control_char) (g.F.Parser.meaning normal)
     (g.G.Parser.meaning escapable) (g.F.Parser.IsOutput normal)
     (g.G.Parser.IsOutput escapable) g.F.Output.ExtendInto.added g.G.Output.ExtendInto.added g.X.Builder.parts (modes _ g.OM.Error.Mode.BUILDS _) _ _ _
-    inv.collected _ _ _ c.emitted.ensures part _ c.in-Found.is c.extend.new.text (c.extend.ensures.refused c.if-not-extend.true)
+    inv.collected _ _ _ c.emitted.ensures part _ c.in-Found.is c.extend.new.text c.in_err-extend-in-Found.ensures.refused)
 
 pub returns-then-input_len-clause-shown : goal.returns-then-input_len-clause-shown
 returns-then-input_len-clause-shown g c =
@@ -49,7 +50,7 @@ returns-then-input_len-clause-shown g c =
     transform_empty _ g.met.I.Items.lawful g.F.Error.ParseError.errors (λ x. g.C.Value.code x ≡ c.args.self.now.control_char)
     (g.F.Parser.meaning normal) (g.G.Parser.meaning escapable) (g.F.Parser.IsOutput normal)
     (g.G.Parser.IsOutput escapable) g.F.Output.ExtendInto.added g.G.Output.ExtendInto.added g.X.Builder.parts (modes _ g.OM.Error.Mode.BUILDS _) _ _ _
-    inv.collected _ _ _ c.emitted.ensures part _ c.in-Found.is _ (c.extend.ensures.kept (search rules)) _ _ c.input_len.ensures
+    inv.collected _ _ _ c.emitted.ensures part _ c.in-Found.is _ c.in_ok-extend-in-Found.ensures.kept _ _ c.input_len.ensures
     c.input_len-in-Found.ensures c.if-input_len.true
 
 pub loop-text-smaller : goal.loop-text-smaller
@@ -71,7 +72,7 @@ loop-text-preserved g c =
       collected = transform_more _ g.met.I.Items.lawful g.F.Error.ParseError.errors (λ x. g.C.Value.code x ≡ c.args.self.now.control_char)
           (g.F.Parser.meaning normal) (g.G.Parser.meaning escapable) (g.F.Parser.IsOutput normal)
           (g.G.Parser.IsOutput escapable) g.F.Output.ExtendInto.added g.G.Output.ExtendInto.added g.X.Builder.parts (modes _ g.OM.Error.Mode.BUILDS _) _
-          _ _ inv.collected _ _ _ c.emitted.ensures part _ c.in-Found.is _ (c.extend.ensures.kept (search rules)) _ _ c.input_len.ensures
+          _ _ inv.collected _ _ _ c.emitted.ensures part _ c.in-Found.is _ c.in_ok-extend-in-Found.ensures.kept _ _ c.input_len.ensures
           c.input_len-in-Found.ensures c.if-input_len.false;
     }
 

@@ -1,8 +1,8 @@
-use Rattle.std.proofs.Common.{◌≤◌, rules, refl, ◌∙◌}
+use Rattle.std.proofs.Common.{◌≤◌, refl, ◌∙◌}
 use Rattle.std.specs.Prelude.{vec_len, vec_capacity}
 use Rattle.std.specs.List.{AllZip}
 use Rattle.nom_internal.specs.Prelude.{modes}
-use Rattle.nom_internal.proofs.Shown.{accepts, both_built, built_error}
+use Rattle.nom_internal.proofs.Shown.{accepts, both_built, built_error, err_from_residual}
 use Rattle.nom_repeat.proofs.Accumulating.{built_any, room_built}
 use Rattle.nom_repeat.proofs.Repeated.{collected_none, is_empty, consumes, is_shorter}
 use Rattle.nom_multi.specs.Till.{end_or_item}
@@ -56,21 +56,22 @@ push_item-requires-clause-item g c =
     let found = accepts c.in-Ok.ensures.shown in
     built_any _ _ _ (is_item _ _ _ found.tree c.emitted.ensures c.in-Item.is found.built_is).2
 
-pub returns-then-not-push_item-clause-shown : goal.returns-then-not-push_item-clause-shown
-returns-then-not-push_item-clause-shown g c =
+pub returns-in_err-push_item-in-Item-clause-shown : goal.returns-in_err-push_item-in-Item-clause-shown
+returns-in_err-push_item-in-Item-clause-shown g c =
     let i = c.loop-next.invariant in
     let told = stands_at (λ s. g.G.Parser.IsOutput s) (λ s. g.F.Parser.IsOutput s) (λ s. g.G.Parser.meaning s)
     (λ s. g.F.Parser.meaning s) i.end_kept i.parser_kept c.in-Ok.ensures.shown in
     let found = accepts told in
     let item = is_item _ (g.G.Parser.IsOutput (g.G.Parser.state c.args.self.now.end))
     (g.F.Parser.IsOutput (g.F.Parser.state c.args.self.now.parser)) found.tree c.emitted.ensures c.in-Item.is found.built_is in
+    rw (err_from_residual c.from_residual.ensures) (
     till_lacks_room g.F.Error.ParseError.errors (g.F.Parser.meaning (g.F.Parser.state c.args.self.now.parser))
     (g.G.Parser.meaning (g.G.Parser.state c.args.self.now.end))
     (λ t o. AllZip (g.F.Parser.IsOutput (g.F.Parser.state c.args.self.now.parser)) t.0 o.0.items ×
     (g.G.Parser.IsOutput (g.G.Parser.state c.args.self.now.end)) t.1 o.1)
     (modes g.OM.Output.Mode.BUILDS g.OM.Error.Mode.BUILDS g.OM.Incomplete.IsStreaming.STREAMING) i.collected item.0 found.answered item.1
     (consumes found.rest_is c.input_len.ensures c.input_len-in-Item.ensures c.if-input_len.false)
-    (room_built (λ list. vec_capacity list ≤ vec_len list) _ _ _ i.collected.held (c.push_item.ensures.full c.if-not-push_item.true))
+    (room_built (λ list. vec_capacity list ≤ vec_len list) _ _ _ i.collected.held c.in_err-push_item-in-Item.ensures.full))
 
 pub loop-next-smaller : goal.loop-next-smaller
 loop-next-smaller g c =
@@ -92,7 +93,7 @@ loop-next-preserved g c =
           ((end_or_item (g.G.Parser.meaning (g.G.Parser.state c.args.self.now.end))
           (g.F.Parser.meaning (g.F.Parser.state c.args.self.now.parser))).answers g.OM.Incomplete.IsStreaming.STREAMING) i.collected item.0
           found.answered item.1 (consumes found.rest_is c.input_len.ensures c.input_len-in-Item.ensures c.if-input_len.false) found.rest_is
-          (list_pushed (g.F.Parser.IsOutput (g.F.Parser.state c.args.self.now.parser)) _ _ _ _ _ _ (c.push_item.ensures.kept (search rules)) i.collected.held
+          (list_pushed (g.F.Parser.IsOutput (g.F.Parser.state c.args.self.now.parser)) _ _ _ _ _ _ c.in_ok-push_item-in-Item.ensures.kept i.collected.held
           item.2);
     }
 
