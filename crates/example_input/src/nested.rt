@@ -5,7 +5,7 @@ ghost use Rattle.nom_internal.specs.Prelude.{text_comparing_no_case};
 ghost use Rattle.nom.specs.Moving.{moved, moving_comparing, moving_lawful, moving_injective, moving_view, moving_views};
 ghost use Rattle.example_input.specs.Nestings.{depth_after, depths, nested_model};
 
-use nom::{AsciiClass, Compare, CompareResult, Input, Items, Needed, Viewed};
+use nom::{CodeSet, Compare, CompareResult, Input, Items, Needed, Viewed};
 use std::str::{CharIndices, Chars};
 
 /// A text, with its depth: how many brackets `(` before it aren't closed. A `)` where none is open changes nothing, and the
@@ -99,8 +99,8 @@ impl<'a> Input for Nested<'a> {
         self.text.iter_indices()
     }
 
-    fn class_end(&self, class: AsciiClass) -> Option<Option<usize>> {
-        self.text.class_end(class)
+    fn run_end(&self, set: CodeSet<'_>) -> Option<Option<usize>> {
+        self.text.run_end(set)
     }
 
     ghost more = { λ _. tt };

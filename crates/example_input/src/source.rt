@@ -5,7 +5,7 @@ ghost use Rattle.nom_internal.specs.Prelude.{text_comparing_no_case};
 ghost use Rattle.nom.specs.Wrapped.{wrapped_comparing, wrapped_lawful, wrapped_injective, wrapped_view, wrapped_views};
 ghost use Rattle.example_input.specs.Sources.{name, source_model};
 
-use nom::{AsciiClass, Compare, CompareResult, Input, Items, Needed, Viewed};
+use nom::{CodeSet, Compare, CompareResult, Input, Items, Needed, Viewed};
 use std::str::{CharIndices, Chars};
 
 /// A text, with the name of the file that it is from. Each front and rest of it has that name too, and so has the
@@ -75,8 +75,8 @@ impl<'a> Input for Source<'a> {
         self.text.iter_indices()
     }
 
-    fn class_end(&self, class: AsciiClass) -> Option<Option<usize>> {
-        self.text.class_end(class)
+    fn run_end(&self, set: CodeSet<'_>) -> Option<Option<usize>> {
+        self.text.run_end(set)
     }
 
     ghost more = { λ _. tt };

@@ -44,7 +44,7 @@ pub use nom_search::bytes::{AsBytes, ByteItems};
 pub use nom_search::extend::{Builder, ExtendInto};
 pub use nom_search::substring::FindSubstring;
 pub use nom_search::token::FindToken;
-pub use nom_traits::character::{AsChar, AsciiClass};
+pub use nom_traits::character::{AsChar, AsciiClass, CodeSet};
 pub use nom_traits::compare::{Compare, CompareResult};
 pub use nom_traits::convert::ToUsize;
 pub use nom_traits::input::{Input, Items, Value};

@@ -1,5 +1,6 @@
 pub mod BoundedShown
 pub mod CountedWalks
+pub mod Ends
 pub mod RunShown
 pub mod TagShown
 pub mod UntilShown

@@ -1,9 +1,11 @@
 //! Tests that the items of a run meet.
 ghost use Rattle.std.specs.Prelude.{◌↔◌, IsTrue, Bool, true, false, not};
+ghost use Rattle.nom_traits.specs.Runs.{IsPosition};
 ghost use Rattle.nom_bytes.specs.Predicates.{IsFixed, one_answer};
 
 use nom_search::token::FindToken;
-use nom_traits::input::Value;
+use nom_traits::character::CodeSet;
+use nom_traits::input::{Input, Value};
 
 /// A test of items: a closure, or a set of items.
 pub trait Predicate<T: Value> {
@@ -22,6 +24,19 @@ pub trait Predicate<T: Value> {
     fn meets(&self, item: T) -> bool
         requires { IsSound (state self.now) }
         ensures { answers (state self.now) item result };
+
+    /// The place of the first item that doesn't meet the test; `None` where all do.
+    #[inline(always)]
+    fn end<I: Input<Item = T>>(&self, input: I) -> Option<usize>
+        requires { IsSound (state self.now) }
+        ensures { IsPosition I.model (λ x. answers (state self.now) x true) (λ x. answers (state self.now) x false) input result }
+    {
+        let fails = |item: T| -> bool
+            requires { IsSound (state self.now) }
+            ensures { answers (state self.entry.now) item (not result) }
+        { !self.meets(item) };
+        input.position(fails)
+    }
 
     /// No item is answered in both ways.
     ghost fixed: { (s : State) → IsSound s → IsFixed T.IsValue (answers s) };
@@ -93,6 +108,19 @@ impl<T: Value, L: FindToken<T>> Predicate<T> for Within<L> {
         self.list.find_token(item)
     }
 
+    #[inline(always)]
+    fn end<I: Input<Item = T>>(&self, input: I) -> Option<usize> {
+        if let Some(list) = self.list.codes() {
+            if let Some(end) = input.run_end(CodeSet::OneOf(list)) {
+                return end;
+            }
+        }
+        let is_outside = |item: T| -> bool
+            ensures { IsTrue (not result) ↔ L.finds self.entry.now.list item }
+        { !self.meets(item) };
+        input.position(is_outside)
+    }
+
     ghost fixed = { λ list h x v meets fails. one_answer meets fails };
 }
 
@@ -114,6 +142,19 @@ impl<T: Value, L: FindToken<T>> Predicate<T> for Outside<L> {
     #[inline(always)]
     fn meets(&self, item: T) -> bool {
         !self.list.find_token(item)
+    }
+
+    #[inline(always)]
+    fn end<I: Input<Item = T>>(&self, input: I) -> Option<usize> {
+        if let Some(list) = self.list.codes() {
+            if let Some(end) = input.run_end(CodeSet::NoneOf(list)) {
+                return end;
+            }
+        }
+        let is_inside = |item: T| -> bool
+            ensures { IsTrue result ↔ L.finds self.entry.now.list item }
+        { !self.meets(item) };
+        input.position(is_inside)
     }
 
     ghost fixed = { λ list h x v meets fails. one_answer fails meets };

@@ -1,17 +1,56 @@
 //! The parsers of runs of one item at least.
-ghost use Rattle.std.specs.Prelude.{◌≡◌, None};
-ghost use Rattle.nom_internal.specs.Prelude.{ErrorKind, Slice, IsModelledBy, slice_pinned};
+ghost use Rattle.std.specs.Prelude.{◌≡◌, None, true, false, MatchOption};
+ghost use Rattle.nom_internal.specs.Prelude.{ErrorKind, Refuses, Slice, IsModelledBy, slice_pinned};
+ghost use Rattle.nom_traits.specs.Splits.{FrontBuilt, IsRunLength, IsRunOpen, Splits};
 ghost use Rattle.nom_bytes.specs.ParsedRuns.{run1_meaning};
 ghost use Rattle.nom_bytes.specs.laws.RunLaws.{run_lawful, run_steady};
 
 use crate::predicate::{Outside, Predicate, Unless, Where, Within};
-use nom_error::answer::PResult;
+use nom_error::answer::{Err, Needed, PResult};
 use nom_error::kind::ErrorKind;
-use nom_error::mode::OutputMode;
-use nom_error::value::ParseError;
+use nom_error::mode::{IsStreaming, OutputMode};
+use nom_error::value::{ParseError, refusal};
 use nom_internal::parser::{Parser, StreamParser};
 use nom_traits::input::Input;
+use nom_traits::split::front_built;
 use std::marker::PhantomData;
+
+/// The length of the first items that meet the test; `None` where more may come and all do.
+#[inline(always)]
+fn met_len<I: Input, S: IsStreaming, P: Predicate<I::Item>>(
+    predicate: &P,
+    input: I,
+) -> Option<usize>
+    requires { P.IsSound (P.state predicate.now) }
+    ensures { MatchOption result
+        (IsRunOpen I.model (λ x. P.answers (P.state predicate.now) x true) (λ x. P.answers (P.state predicate.now) x false) S.STREAMING input)
+        (IsRunLength I.model (λ x. P.answers (P.state predicate.now) x true) (λ x. P.answers (P.state predicate.now) x false) S.STREAMING input) }
+{
+    match predicate.end(input) {
+        Some(n) => Some(n),
+        None if S::STREAMING => None,
+        None => Some(input.input_len()),
+    }
+}
+
+/// The first items that meet the test, one at least: where there is none, it refuses with the kind.
+#[inline(always)]
+fn split1<OM: OutputMode, I: Input, P: Predicate<I::Item>, E: ParseError<I>>(
+    predicate: &P,
+    kind: ErrorKind,
+    input: I,
+) -> PResult<I, I, E>
+    requires { P.IsSound (P.state predicate.now) }
+    ensures { Splits I.model (λ x. P.answers (P.state predicate.now) x true)
+        (λ x. P.answers (P.state predicate.now) x false) OM.Incomplete.STREAMING input true (FrontBuilt I.model OM.Output.BUILDS)
+        (Refuses (E.errors.of_kind input kind) E.errors.grows OM.Error.BUILDS) result }
+{
+    match met_len::<I, OM::Incomplete, P>(predicate, input) {
+        Some(n) if n == 0 => Err(refusal::<OM::Error, I, E>(input, kind)),
+        Some(n) => Ok((input.take_from(n), front_built::<OM::Output, I>(input, n))),
+        None => Err(Err::Incomplete(Needed::new(1))),
+    }
+}
 
 /// A run of one item at least, made by `take_while1`, `take_till1`, `is_a` and `is_not`.
 #[derive(Drop)]
@@ -38,8 +77,7 @@ impl<I: Input, P: Predicate<I::Item>, E: ParseError<I>> Parser<I> for SplitPosit
 
     #[inline(always)]
     fn process<OM: OutputMode>(&mut self, input: I) -> PResult<I, I, E> {
-        let predicate = &self.predicate;
-        input.split_at_position_mode1::<OM, _, E>(|item| !predicate.meets(item), self.kind)
+        split1::<OM, I, P, E>(&self.predicate, self.kind, input)
     }
 
     ghost lawful = { λ s k. run_lawful I.model I.Item.IsValue I.values (P.answers s.0) (P.fixed s.0 k) None 1 (P.IsSound s.0)

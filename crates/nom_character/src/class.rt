@@ -1,6 +1,6 @@
 //! Runs of the items of a class.
 ghost use Rattle.std.specs.Prelude.{Option, Some, None, true, false, MatchOption};
-ghost use Rattle.nom_internal.specs.Prelude.{modes, Refuses, ErrorKind, IsInside, IsOutside, IsBoundary, Slice, IsModelledBy, ShowsMeaning, slice_pinned};
+ghost use Rattle.nom_internal.specs.Prelude.{modes, Refuses, ErrorKind, IsInside, IsOutside, Slice, IsModelledBy, ShowsMeaning, slice_pinned};
 ghost use Rattle.nom_error.specs.declared.kind.ErrorKind.TheVariants as Kind;
 ghost use Rattle.nom_traits.specs.declared.character.AsciiClass.{AsciiClass};
 ghost use Rattle.nom_traits.specs.declared.character.AsciiClass.TheVariants as Class;
@@ -9,11 +9,12 @@ ghost use Rattle.nom_character.specs.ClassRuns.{class_meaning, class_lawful, cla
 
 use nom_error::answer::{Err, Needed, PResult};
 use nom_error::kind::ErrorKind;
-use nom_error::mode::{IsStreaming, Mode, OutputMode};
+use nom_error::mode::{IsStreaming, OutputMode};
 use nom_error::value::{ParseError, refusal};
 use nom_internal::parser::{Parser, StreamParser};
 use nom_traits::character::{AsChar, AsciiClass};
 use nom_traits::input::Input;
+use nom_traits::split::front_built;
 use std::marker::PhantomData;
 
 /// The length of the first items that are of the class; `None` where more may come and all are.
@@ -32,15 +33,6 @@ where
     }
 }
 
-/// The first items of an input, of length `n`, where outputs are built.
-#[inline(always)]
-fn first_items<M: Mode, I: Input>(input: I, n: usize) -> Option<I>
-    requires { IsBoundary I.model input n }
-    ensures { FrontBuilt I.model M.BUILDS input n result }
-{
-    if M::BUILDS { Some(input.take(n)) } else { None }
-}
-
 /// The first items that are of the class; there may be none.
 #[inline(always)]
 fn class_split<OM: OutputMode, I: Input, E: ParseError<I>>(
@@ -53,7 +45,7 @@ where
         (FrontBuilt I.model OM.Output.BUILDS) Never result }
 {
     match class_len::<I, OM::Incomplete>(input, class) {
-        Some(n) => Ok((input.take_from(n), first_items::<OM::Output, I>(input, n))),
+        Some(n) => Ok((input.take_from(n), front_built::<OM::Output, I>(input, n))),
         None => Err(Err::Incomplete(Needed::new(1))),
     }
 }
@@ -73,7 +65,7 @@ where
 {
     match class_len::<I, OM::Incomplete>(input, class) {
         Some(n) if n == 0 => Err(refusal::<OM::Error, I, E>(input, kind)),
-        Some(n) => Ok((input.take_from(n), first_items::<OM::Output, I>(input, n))),
+        Some(n) => Ok((input.take_from(n), front_built::<OM::Output, I>(input, n))),
         None => Err(Err::Incomplete(Needed::new(1))),
     }
 }

@@ -38,12 +38,10 @@ module _ {T : Type 0} (value : T → ℤ) (fits : ℤ → Type 0) (l : IsRange f
   is_below : value number <ℤ int_div high (pos 10)
   is_below = subst (λ z. value number <ℤ z) tenth_is (is_less order number tenth (value number) (value tenth) ranks below)
 
-  pub tens_fit : fits (value number *ℤ value ten)
-  tens_fit =
+  pub ten_times_fit : (one : T) (d : ℕ) → d < 10 → value one ≡ pos d → fits (value number *ℤ value ten) × fits (value number *ℤ value ten +ℤ value one)
+  ten_times_fit one d c one_is =
       let is : value number *ℤ pos 10 +ℤ pos 0 ≡ value number *ℤ pos 10 = omega (arith, ints) in
-      subst (λ t. fits (value number *ℤ t)) (sym ten_is) (subst fits is (fits_digit (value number) 0 up is_below (omega arith)))
-
-  pub digit_fits : (one : T) (d : ℕ) → d < 10 → value one ≡ pos d → fits (value number *ℤ value ten +ℤ value one)
-  digit_fits one d c one_is =
-      subst (λ t. fits (value number *ℤ t +ℤ value one)) (sym ten_is)
-      (subst (λ o. fits (value number *ℤ pos 10 +ℤ o)) (sym one_is) (fits_digit (value number) d up is_below c))
+      subst (λ t. fits (value number *ℤ t) × fits (value number *ℤ t +ℤ value one)) (sym ten_is) (
+        subst fits is (fits_digit (value number) 0 up is_below (omega arith)),
+        subst (λ o. fits (value number *ℤ pos 10 +ℤ o)) (sym one_is) (fits_digit (value number) d up is_below c),
+      )

@@ -46,8 +46,7 @@ fn tenth_of_greatest<T: PrimInt>(ten: T) -> T
 /// Ten times a number and some ones more, which the type has.
 #[inline(always)]
 fn ten_times_more<T: PrimInt>(number: T, ten: T, ones: T) -> T
-    requires tens { T.fits (T.value number *ℤ T.value ten) }
-    requires sum { T.fits (T.value number *ℤ T.value ten +ℤ T.value ones) }
+    requires { T.fits (T.value number *ℤ T.value ten) × T.fits (T.value number *ℤ T.value ten +ℤ T.value ones) }
     ensures fits { T.fits (T.value result) }
     ensures value { T.value result ≡ T.value number *ℤ T.value ten +ℤ T.value ones }
 {

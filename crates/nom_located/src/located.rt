@@ -14,7 +14,7 @@ use nom_parse_to::parse::ParseTo;
 use nom_search::bytes::{AsBytes, ByteItems};
 use nom_search::extend::ExtendInto;
 use nom_search::substring::FindSubstring;
-use nom_traits::character::AsciiClass;
+use nom_traits::character::CodeSet;
 use nom_traits::compare::{Compare, CompareResult};
 use nom_traits::input::{Input, Items};
 use nom_traits::offset::Offset;
@@ -134,8 +134,8 @@ impl<I: Input + ByteItems> Input for Located<I> {
     }
 
     #[inline(always)]
-    fn class_end(&self, class: AsciiClass) -> Option<Option<usize>> {
-        self.fragment.class_end(class)
+    fn run_end(&self, set: CodeSet<'_>) -> Option<Option<usize>> {
+        self.fragment.run_end(set)
     }
 
     #[inline(always)]

@@ -12,6 +12,9 @@ use std::mem::size_of_val;
 /// list that doubles from 4 items is allocated again and again.
 const FIRST_ROOM: usize = 64;
 
+/// How many items a list gets room for at its first push anyway.
+const LEAST_ROOM: usize = 4;
+
 /// An accumulator of items of type `T`: a list, a number, the value of a fold.
 pub trait Accumulator<T> {
     /// What one more item makes of it.
@@ -50,8 +53,9 @@ impl<T: Drop, A: Allocator> Accumulator<T> for Vec<T, A> {
 
     #[inline(always)]
     fn push(&mut self, item: T) -> Result<(), OutOfMemory> {
-        if self.len() == self.capacity() {
-            make_room(self, size_of_val(&item));
+        let room = first_room(size_of_val(&item));
+        if room > LEAST_ROOM && self.len() == self.capacity() {
+            make_room(self, room);
         }
         self.push(item)?;
         Ok(())
@@ -78,16 +82,28 @@ impl<T: Drop> Accumulator<T> for usize {
     }
 }
 
-/// Makes room in an empty list for as many items as `FIRST_ROOM` bytes hold. Without the memory for it nothing changes,
-/// and the push asks for less.
+/// How many items `FIRST_ROOM` bytes hold; 0 where an item takes none.
+// The size is a constant of the item's type, so this is one too once it is compiled, and a list of large items isn't
+// tested for it at each push.
+#[inline(always)]
+fn first_room(item_size: usize) -> usize {
+    if item_size == 0 {
+        0
+    } else {
+        FIRST_ROOM / item_size
+    }
+}
+
+/// Makes room for `room` items in a list that is empty. Without the memory for it nothing changes, and the push asks
+/// for less.
 // Apart and cold, so that the test alone stands where items are pushed.
 #[cold]
 #[inline(never)]
-fn make_room<T, A: Allocator>(list: &mut Vec<T, A>, item_size: usize)
+fn make_room<T, A: Allocator>(list: &mut Vec<T, A>, room: usize)
     ensures items { list.new.items ≡ list.old.items }
 {
-    if list.is_empty() && item_size > 0 {
-        let _ = list.reserve(FIRST_ROOM / item_size);
+    if list.is_empty() {
+        let _ = list.reserve(room);
     }
 }
 

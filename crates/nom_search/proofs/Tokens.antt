@@ -1,12 +1,13 @@
 -- Tokens in lists.
-use Rattle.std.proofs.Common.{◌≡◌, ℕ, ◌<◌, ◌≤◌, ◌⊎◌, inl, inr, List, [], ◌∷◌, length, Bool, true, false, ◌||◌, nat_eq, get_or, refl, sym, ◌∙◌, ap, subst, arith}
-use Rattle.std.specs.Prelude.{Option, Some, None, is_some, slice_index, chars, encode_utf8, encode_utf8_all, IsUtf8}
+use Rattle.std.proofs.Common.{◌≡◌, ℕ, zero, suc, ◌<◌, ◌≤◌, ◌⊎◌, inl, inr, List, [], ◌∷◌, length, Bool, true, false, ◌||◌, nat_eq, get_or, refl, sym, ◌∙◌, ap, subst, arith}
+use Rattle.std.specs.Prelude.{Option, Some, None, is_some, slice_index, chars, encode_utf8, encode_utf8_all, IsUtf8, nat_lt}
 use Rattle.std.specs.Char.{len_utf8}
-use Rattle.std.specs.List.{Contains, list_any}
+use Rattle.std.specs.Str.{IsAscii}
+use Rattle.std.specs.List.{Contains, list_all, list_any}
 use Rattle.memchr.specs.Find.{IsFirstByte, is_byte}
 use Rattle.std.proofs.lemmas.List.{get_or_default}
-use Rattle.std.proofs.lemmas.Bool.{eqb-true, eq-eqb, ne_eqb, cases_lt, le-ltb}
-use Rattle.std.proofs.lemmas.Str.{encode_ascii, encodes-chars, length-encode}
+use Rattle.std.proofs.lemmas.Bool.{and_parts, ltb-true, eqb-true, eq-eqb, ne_eqb, cases_lt, le-ltb}
+use Rattle.std.proofs.lemmas.Str.{encode_ascii, encodes-chars, length-encode, chars-IsAscii}
 use Rattle.std.proofs.lemmas.List.Folds.{Any-from_list_any, list_any_at, list_any-append}
 use Rattle.nom_search.specs.Reads.{char_alone}
 
@@ -29,6 +30,11 @@ byte_contained bs t (Some k) f h =
 pub byte_containing : (bs : List ℕ) (t : ℕ) (r : Option ℕ) → IsFirstByte (is_byte t) bs r → Contains bs t → is_some r ≡ true
 byte_containing bs t None f h = absurd (f h.0 (omega arith) h.1 (eq-eqb (get_or bs h.0 0) t (get_or_default bs h.0 0 t h.1 ∙ h.2)))
 byte_containing bs t (Some k) f h = refl
+
+all_ascii : (bs : List ℕ) → list_all (λ b. nat_lt b 128) bs ≡ true → IsAscii bs
+all_ascii [] h i = omega arith
+all_ascii (b ∷ bs) h zero = ltb-true b 128 (and_parts (nat_lt b 128) (list_all (λ x. nat_lt x 128) bs) h).0
+all_ascii (b ∷ bs) h (suc i) = all_ascii bs (and_parts (nat_lt b 128) (list_all (λ x. nat_lt x 128) bs) h).1 i
 
 long_code : (c : ℕ) → 128 ≤ c → 2 ≤ len_utf8 c
 long_code c h = grind (arith, le-ltb c 128 h)
@@ -63,3 +69,7 @@ module _ (t : ℕ) (ascii : t < 128) where
 
   pub ascii_in_text : (bs : List ℕ) → IsUtf8 bs → list_any (λ x. nat_eq x t) bs ≡ list_any (λ x. nat_eq x t) (chars bs)
   ascii_in_text bs u = ap (list_any (λ x. nat_eq x t)) (sym (encodes-chars bs u)) ∙ in_all (chars bs)
+
+-- a text of ASCII is its characters
+pub ascii_chars : (bs : List ℕ) → list_all (λ b. nat_lt b 128) bs ≡ true → bs ≡ chars bs
+ascii_chars bs h = sym (chars-IsAscii bs (all_ascii bs h))

@@ -1,18 +1,28 @@
 //! Tokens that are looked for.
-ghost use Rattle.std.specs.Prelude.{◌≡◌, ◌==◌, ◌↔◌, IsTrue, chars};
+ghost use Rattle.std.specs.Prelude.{◌≡◌, ◌==◌, ◌↔◌, IsTrue, MatchOption, chars};
 ghost use Rattle.std.specs.List.{Contains, list_any};
 ghost use Rattle.memchr.specs.Find.{IsFirstByte, is_byte};
 
 use memchr::memchr;
+use nom_traits::input::Value;
+use nom_traits::text::are_ascii;
 
 /// A list in which tokens of type `T` are looked for.
-pub trait FindToken<T> {
+pub trait FindToken<T: Value> {
     /// That a token stands in the list.
     ghost finds: { Self → T → Type 0 };
 
     /// Whether the token stands in the list.
     fn find_token(&self, token: T) -> bool
         ensures { IsTrue result ↔ finds self.now token };
+
+    /// Bytes that are the codes of the tokens in the list, and of no other: a hint, by which a run is sought in blocks.
+    #[inline(always)]
+    fn codes(&self) -> Option<&[u8]>
+        ensures { MatchOption result (Unit {0}) (λ list. (t : T) → finds self.now t ↔ Contains list.now (T.code t)) }
+    {
+        None
+    }
 }
 
 impl FindToken<u8> for &[u8] {
@@ -21,6 +31,11 @@ impl FindToken<u8> for &[u8] {
     #[inline(always)]
     fn find_token(&self, token: u8) -> bool {
         has_byte(self, token)
+    }
+
+    #[inline(always)]
+    fn codes(&self) -> Option<&[u8]> {
+        Some(self)
     }
 }
 
@@ -41,6 +56,11 @@ impl FindToken<u8> for &str {
     fn find_token(&self, token: u8) -> bool {
         has_byte(self.as_bytes(), token)
     }
+
+    #[inline(always)]
+    fn codes(&self) -> Option<&[u8]> {
+        Some(self.as_bytes())
+    }
 }
 
 impl<'a> FindToken<&'a u8> for &str {
@@ -58,6 +78,11 @@ impl<const N: usize> FindToken<u8> for [u8; N] {
     #[inline(always)]
     fn find_token(&self, token: u8) -> bool {
         has_byte(self, token)
+    }
+
+    #[inline(always)]
+    fn codes(&self) -> Option<&[u8]> {
+        Some(self)
     }
 }
 
@@ -78,6 +103,11 @@ impl FindToken<char> for &[u8] {
     fn find_token(&self, token: char) -> bool {
         has_code(self, token)
     }
+
+    #[inline(always)]
+    fn codes(&self) -> Option<&[u8]> {
+        Some(self)
+    }
 }
 
 impl FindToken<char> for &str {
@@ -86,6 +116,11 @@ impl FindToken<char> for &str {
     #[inline(always)]
     fn find_token(&self, token: char) -> bool {
         has_char_in_text(self, token)
+    }
+
+    #[inline(always)]
+    fn codes(&self) -> Option<&[u8]> {
+        ascii_bytes(self)
     }
 }
 
@@ -161,4 +196,13 @@ fn any_char_is(text: &str, token: char) -> bool
     ensures { result ≡ list_any (λ c. c == token) (chars text.now) }
 {
     text.chars().any(|c| c == token)
+}
+
+/// The bytes of a text, where all are ASCII: they are its characters.
+#[inline(always)]
+fn ascii_bytes(text: &str) -> Option<&[u8]>
+    ensures { MatchOption result (Unit {0}) (λ list. list.now ≡ chars text.now) }
+{
+    let bytes = text.as_bytes();
+    if are_ascii(bytes) { Some(bytes) } else { None }
 }

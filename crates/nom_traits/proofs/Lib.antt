@@ -2,6 +2,7 @@ pub mod ByteCompared
 pub mod ByteCuts
 pub mod ByteLanes
 pub mod ByteRuns
+pub mod Nearest
 pub mod PlaceWalks
 pub mod Splitting
 pub mod TextAfter

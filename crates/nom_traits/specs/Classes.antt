@@ -1,8 +1,11 @@
 -- The classes of characters, by the code point: 48 is '0', 65 is 'A' and 97 is 'a'. All are ASCII.
-use Rattle.std.specs.Prelude.{◌≡◌, ℕ, Bool, true, false, ◌||◌, ◌==◌}
+use Rattle.std.specs.Prelude.{◌≡◌, ℕ, nat_lt, Bool, true, false, not, ◌||◌, ◌==◌, List}
+use Rattle.std.specs.List.{list_all, list_any}
 use Rattle.std.specs.Int.{is_in_range}
 use Rattle.nom_traits.specs.declared.character.AsciiClass.{AsciiClass}
 use Rattle.nom_traits.specs.declared.character.AsciiClass.TheVariants as Class
+use Rattle.nom_traits.specs.declared.character.CodeSet.{CodeSet}
+use Rattle.nom_traits.specs.declared.character.CodeSet.TheVariants as Set
 
 -- 'A' to 'Z' and 'a' to 'z'
 abbrev pub is_alpha_code : ℕ → Bool
@@ -56,3 +59,25 @@ IsInside class c = has_code class c ≡ true
 
 abbrev pub IsOutside : AsciiClass → ℕ → Type 0
 IsOutside class c = has_code class c ≡ false
+
+-- whether a list of bytes has a code point
+abbrev pub is_listed : List ℕ → ℕ → Bool
+is_listed list c = list_any (λ b. b == c) list
+
+-- the code points of a set
+abbrev pub in_set : CodeSet → ℕ → Bool
+in_set (Set.Class class) = has_code class
+in_set (Set.OneOf list) = is_listed list.now
+in_set (Set.NoneOf list) = λ c. not (is_listed list.now c)
+
+abbrev pub IsIn : CodeSet → ℕ → Type 0
+IsIn set c = in_set set c ≡ true
+
+abbrev pub IsNotIn : CodeSet → ℕ → Type 0
+IsNotIn set c = in_set set c ≡ false
+
+-- whether ASCII characters alone tell what is in the set: those in it are ASCII, or those outside it
+abbrev pub of_ascii : CodeSet → Bool
+of_ascii (Set.Class class) = true
+of_ascii (Set.OneOf list) = list_all (λ b. nat_lt b 128) list.now
+of_ascii (Set.NoneOf list) = list_all (λ b. nat_lt b 128) list.now

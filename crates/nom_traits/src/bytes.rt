@@ -2,7 +2,7 @@
 ghost use Rattle.std.specs.Prelude.{◌-◌, length, Some, refl};
 ghost use Rattle.nom_traits.specs.Bytes.{bytes_model, bytes_lawful};
 
-use crate::character::AsciiClass;
+use crate::character::CodeSet;
 use crate::elements::{ByteIndices, Bytes};
 use crate::input::{Input, Items};
 use crate::lanes::bytes_outside;
@@ -74,8 +74,8 @@ impl<'a> Input for &'a [u8] {
     }
 
     #[inline(always)]
-    fn class_end(&self, class: AsciiClass) -> Option<Option<usize>> {
-        Some(bytes_outside(self, class))
+    fn run_end(&self, set: CodeSet<'_>) -> Option<Option<usize>> {
+        Some(bytes_outside(self, set))
     }
 
     ghost more = { λ _. tt };

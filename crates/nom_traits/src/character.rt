@@ -1,7 +1,7 @@
 //! Items as characters, and their classes.
 ghost use Rattle.std.specs.Prelude.{◌≡◌, ℕ};
 ghost use Rattle.std.specs.Char.{len_utf8};
-ghost use Rattle.nom_traits.specs.Classes.{has_code, is_alpha_code, is_alphanum_code, is_bin_digit_code, is_dec_digit_code, is_hex_digit_code};
+ghost use Rattle.nom_traits.specs.Classes.{has_code, in_set, is_listed, is_alpha_code, is_alphanum_code, is_bin_digit_code, is_dec_digit_code, is_hex_digit_code};
 ghost use Rattle.nom_traits.specs.Classes.{is_newline_code, is_oct_digit_code, is_space_code};
 
 use crate::input::Value;
@@ -46,6 +46,36 @@ impl AsciiClass {
             }
         }
     }
+}
+
+/// A set of code points, as brackets give one in a regular expression: those of a class, `[0-9]`, those of a list,
+/// `[abc]`, or all that aren't in the list, `[^abc]`. A list is one of bytes, each of which stands for its number.
+#[derive(Clone, Copy)]
+pub enum CodeSet<'a> {
+    Class(AsciiClass),
+    OneOf(&'a [u8]),
+    NoneOf(&'a [u8]),
+}
+
+impl<'a> CodeSet<'a> {
+    /// Whether a byte is in the set.
+    #[inline(always)]
+    pub(crate) fn has_byte(self, byte: u8) -> bool
+        ensures { result ≡ in_set self.entry byte }
+    {
+        match self {
+            CodeSet::Class(class) => class.has(byte),
+            CodeSet::OneOf(list) => is_listed(list, byte),
+            CodeSet::NoneOf(list) => !is_listed(list, byte),
+        }
+    }
+}
+
+#[inline(always)]
+fn is_listed(list: &[u8], byte: u8) -> bool
+    ensures { result ≡ is_listed list.now byte }
+{
+    list.iter().any(|listed| *listed == byte)
 }
 
 /// An item that stands for a character: a byte is the character of the same number. Each class has

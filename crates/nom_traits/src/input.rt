@@ -3,13 +3,13 @@ ghost use Rattle.std.specs.Prelude.{◌≡◌, ◌<◌, ℕ, List, length, Optio
 ghost use Rattle.std.specs.Char.{IsScalar};
 ghost use Rattle.std.specs.Iterator.{AlwaysYields, IsFinite};
 ghost use Rattle.nom_error.specs.Answers.{size_of, Refuses};
-ghost use Rattle.nom_traits.specs.Classes.{has_code, IsInside, IsOutside};
+ghost use Rattle.nom_traits.specs.Classes.{has_code, IsIn, IsInside, IsNotIn, IsOutside};
 ghost use Rattle.nom_traits.specs.Input.{Model, InputLaws, AreValues, placed, IsBoundary, IsPrefixOf, IsSuffixOf, IsSame, input_len};
 ghost use Rattle.nom_traits.specs.Slices.{IsCount};
 ghost use Rattle.nom_traits.specs.Runs.{IsPosition};
 ghost use Rattle.nom_traits.specs.Splits.{Splits, Never, RefusesWith, FrontBuilt};
 
-use crate::character::{AsChar, AsciiClass};
+use crate::character::{AsChar, AsciiClass, CodeSet};
 use crate::split::{front_built, refused, run_len};
 use crate::view::Viewed;
 use nom_error::answer::{Err, IResult, Needed, PResult};
@@ -121,10 +121,11 @@ pub trait Input: Items + Viewed {
         false
     }
 
-    /// What `position_outside` answers, where the input knows a quicker way than item by item.
-    fn class_end(&self, class: AsciiClass) -> Option<Option<usize>>
+    /// The place of the first item whose code isn't in the set, or `None` where all are in it: an answer where the input
+    /// knows a quicker way than item by item.
+    fn run_end(&self, set: CodeSet<'_>) -> Option<Option<usize>>
         ensures { MatchOption result (Unit {0})
-            (λ place. IsPosition Self.model (λ x. IsInside class (Self.Item.code x)) (λ x. IsOutside class (Self.Item.code x)) self.now place) }
+            (λ place. IsPosition Self.model (λ x. IsIn set.entry (Self.Item.code x)) (λ x. IsNotIn set.entry (Self.Item.code x)) self.now place) }
     {
         None
     }
@@ -169,7 +170,7 @@ pub trait Input: Items + Viewed {
         Self::Item: AsChar,
         ensures { IsPosition Self.model (λ x. IsInside class (Self.Item.code x)) (λ x. IsOutside class (Self.Item.code x)) self.now result }
     {
-        match self.class_end(class) {
+        match self.run_end(CodeSet::Class(class)) {
             Some(place) => place,
             None => {
                 let is_outside = |item: Self::Item| -> bool

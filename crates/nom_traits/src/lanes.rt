@@ -1,13 +1,13 @@
-//! Runs of a class of bytes, in blocks of 32.
-ghost use Rattle.std.specs.Prelude.{◌≡◌, ◌+◌, ◌≤◌, length, take, map, not};
+//! Runs of the bytes of a set, in blocks of 32.
+ghost use Rattle.std.specs.Prelude.{◌≡◌, ℕ, ◌+◌, ◌<◌, ◌≤◌, length, take, map, not, slice_index};
 ghost use Rattle.std.specs.List.{All};
 ghost use Rattle.std.specs.Simd.Lanes.{mask_l};
 ghost use Rattle.nom_traits.specs.Bytes.{bytes_model};
-ghost use Rattle.nom_traits.specs.Classes.{has_code, IsInside, IsOutside};
-ghost use Rattle.nom_traits.specs.Lanes.{above, lower_case, IsRunWithin};
+ghost use Rattle.nom_traits.specs.Classes.{has_code, in_set, IsIn, IsNotIn};
+ghost use Rattle.nom_traits.specs.Lanes.{above, lower_case, nearest, IsRunWithin};
 ghost use Rattle.nom_traits.specs.Runs.{IsPosition};
 
-use crate::character::AsciiClass;
+use crate::character::{AsciiClass, CodeSet};
 use std::simd::prelude::*;
 
 /// How many bytes a block has.
@@ -17,56 +17,56 @@ const BLOCK: usize = 32;
 /// for its length.
 const FIRST: usize = 16;
 
-/// The place of the first byte that isn't of the class; `None` where all are.
-// Inlined, since the class is known where it is called. Whether anything is left is asked first, though the blocks
+/// The place of the first byte that isn't in the set; `None` where all are in it.
+// Inlined, since the set is known where it is called. Whether anything is left is asked first, though the blocks
 // would tell it too: after an item that may be absent, as a sign, the question keeps two paths apart. Without it the
 // compiler adds 1 or 0 to the place, and the load of the block waits for the sum.
 #[inline(always)]
-pub(crate) fn bytes_outside(bytes: &[u8], class: AsciiClass) -> Option<usize>
-    ensures { IsPosition bytes_model (IsInside class) (IsOutside class) bytes.entry result }
+pub(crate) fn bytes_outside(bytes: &[u8], set: CodeSet<'_>) -> Option<usize>
+    ensures { IsPosition bytes_model (IsIn set.entry) (IsNotIn set.entry) bytes.entry result }
 {
     if bytes.is_empty() {
         return None;
     }
     let mut place = 0;
     if bytes.len() >= FIRST {
-        let run = run_in_first(bytes, class);
+        let run = run_in_first(bytes, set);
         if run < FIRST {
             return Some(run);
         }
         place = FIRST;
     }
     while bytes.len() - place >= BLOCK {
-        let run = run_in_block(bytes, place, class);
+        let run = run_in_block(bytes, place, set);
         if run < BLOCK {
             return Some(place + run);
         }
         place += BLOCK;
     }
-    rest_outside(bytes, place, class)
+    rest_outside(bytes, place, set)
 }
 
-/// The same, where all bytes before `start` are of the class.
+/// The same, where all bytes before `start` are in the set.
 #[inline(always)]
-fn rest_outside(bytes: &[u8], start: usize, class: AsciiClass) -> Option<usize>
-    requires { All (IsInside class) (take start bytes.now) }
-    ensures { IsPosition bytes_model (IsInside class) (IsOutside class) bytes.entry result }
+fn rest_outside(bytes: &[u8], start: usize, set: CodeSet<'_>) -> Option<usize>
+    requires { All (IsIn set) (take start bytes.now) }
+    ensures { IsPosition bytes_model (IsIn set.entry) (IsNotIn set.entry) bytes.entry result }
 {
     for place in start..bytes.len() {
-        if !class.has(bytes[place]) {
+        if !set.has_byte(bytes[place]) {
             return Some(place);
         }
     }
     None
 }
 
-/// How many bytes of the block at a place come before the first that isn't of the class.
+/// How many bytes of the block at a place come before the first that isn't in the set.
 #[inline(always)]
-fn run_in_block(bytes: &[u8], place: usize, class: AsciiClass) -> usize
+fn run_in_block(bytes: &[u8], place: usize, set: CodeSet<'_>) -> usize
     requires { place + BLOCK ≤ length bytes.now }
-    ensures { IsRunWithin (has_code class) bytes.now place BLOCK result }
+    ensures { IsRunWithin (in_set set.entry) bytes.now place BLOCK result }
 {
-    let marks = outside(u8x32::from_slice(&bytes[place..]), class);
+    let marks = outside(u8x32::from_slice(&bytes[place..]), set);
     if marks == 0 {
         BLOCK
     } else {
@@ -74,13 +74,13 @@ fn run_in_block(bytes: &[u8], place: usize, class: AsciiClass) -> usize
     }
 }
 
-/// How many of the first bytes come before the first that isn't of the class.
+/// How many of the first bytes come before the first that isn't in the set.
 #[inline(always)]
-fn run_in_first(bytes: &[u8], class: AsciiClass) -> usize
+fn run_in_first(bytes: &[u8], set: CodeSet<'_>) -> usize
     requires { FIRST ≤ length bytes.now }
-    ensures { IsRunWithin (has_code class) bytes.now 0 FIRST result }
+    ensures { IsRunWithin (in_set set.entry) bytes.now 0 FIRST result }
 {
-    let marks = outside_first(u8x16::from_slice(bytes), class);
+    let marks = outside_first(u8x16::from_slice(bytes), set);
     if marks == 0 {
         FIRST
     } else {
@@ -88,9 +88,34 @@ fn run_in_first(bytes: &[u8], class: AsciiClass) -> usize
     }
 }
 
+/// Which bytes of a block aren't in the set: bit k stands for byte k.
+#[inline(always)]
+fn outside(block: u8x32, set: CodeSet<'_>) -> u64
+    ensures { result ≡ mask_l (map (λ b. not (in_set set.entry b)) block) }
+{
+    match set {
+        CodeSet::Class(class) => outside_class(block, class),
+        CodeSet::OneOf(list) => nearest(block, list).simd_ne(u8x32::splat(0)).to_bitmask(),
+        CodeSet::NoneOf(list) => nearest(block, list).simd_eq(u8x32::splat(0)).to_bitmask(),
+    }
+}
+
+/// How far each byte lies after the nearest one of a list: 0 for those of the list alone.
+#[inline(always)]
+fn nearest(block: u8x32, list: &[u8]) -> u8x32
+    ensures nearest { result ≡ map (nearest list.now) block }
+    ensures bytes { (i : ℕ) → slice_index list.now i < 256 }
+{
+    let mut nearest = u8x32::splat(255);
+    for k in 0..list.len() {
+        nearest = nearest.simd_min(less(block, list[k]));
+    }
+    nearest
+}
+
 /// Which bytes of a block aren't of the class: bit k stands for byte k.
 #[inline(always)]
-fn outside(block: u8x32, class: AsciiClass) -> u64
+fn outside_class(block: u8x32, class: AsciiClass) -> u64
     ensures { result ≡ mask_l (map (λ b. not (has_code class b)) block) }
 {
     let digits = less(block, b'0');
@@ -129,9 +154,38 @@ fn less(block: u8x32, low: u8) -> u8x32
     block - u8x32::splat(low)
 }
 
+/// Which bytes of the first block aren't in the set: bit k stands for byte k.
+#[inline(always)]
+fn outside_first(block: u8x16, set: CodeSet<'_>) -> u64
+    ensures { result ≡ mask_l (map (λ b. not (in_set set.entry b)) block) }
+{
+    match set {
+        CodeSet::Class(class) => outside_class_first(block, class),
+        CodeSet::OneOf(list) => nearest_first(block, list)
+            .simd_ne(u8x16::splat(0))
+            .to_bitmask(),
+        CodeSet::NoneOf(list) => nearest_first(block, list)
+            .simd_eq(u8x16::splat(0))
+            .to_bitmask(),
+    }
+}
+
+/// How far each byte lies after the nearest one of a list: 0 for those of the list alone.
+#[inline(always)]
+fn nearest_first(block: u8x16, list: &[u8]) -> u8x16
+    ensures nearest { result ≡ map (nearest list.now) block }
+    ensures bytes { (i : ℕ) → slice_index list.now i < 256 }
+{
+    let mut nearest = u8x16::splat(255);
+    for k in 0..list.len() {
+        nearest = nearest.simd_min(less_first(block, list[k]));
+    }
+    nearest
+}
+
 /// Which bytes of the first block aren't of the class: bit k stands for byte k.
 #[inline(always)]
-fn outside_first(block: u8x16, class: AsciiClass) -> u64
+fn outside_class_first(block: u8x16, class: AsciiClass) -> u64
     ensures { result ≡ mask_l (map (λ b. not (has_code class b)) block) }
 {
     let digits = less_first(block, b'0');

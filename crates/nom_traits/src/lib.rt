@@ -11,6 +11,6 @@ pub mod elements;
 pub mod input;
 mod lanes;
 pub mod offset;
-mod split;
+pub mod split;
 pub mod text;
 pub mod view;

@@ -1,12 +1,13 @@
 //! Texts as inputs: the items are the characters, each as long as its UTF-8 form.
-ghost use Rattle.std.specs.Prelude.{◌≡◌, ◌<◌, length, chars, None, MatchResult, refl};
+ghost use Rattle.std.specs.Prelude.{◌≡◌, ◌<◌, true, nat_lt, length, chars, None, MatchResult, refl};
+ghost use Rattle.std.specs.List.{list_all};
 ghost use Rattle.nom_error.specs.Answers.{size_of};
-ghost use Rattle.nom_traits.specs.Classes.{IsInside, IsOutside};
+ghost use Rattle.nom_traits.specs.Classes.{IsIn, IsNotIn, of_ascii};
 ghost use Rattle.nom_traits.specs.Runs.{IsPosition};
 ghost use Rattle.nom_traits.specs.Slices.{IsCount};
 ghost use Rattle.nom_traits.specs.Text.{text_model, text_lawful, text_values};
 
-use crate::character::AsciiClass;
+use crate::character::CodeSet;
 use crate::input::{Input, Items};
 use crate::lanes::bytes_outside;
 use crate::offset::Offset;
@@ -80,8 +81,12 @@ impl<'a> Input for &'a str {
     }
 
     #[inline(always)]
-    fn class_end(&self, class: AsciiClass) -> Option<Option<usize>> {
-        Some(text_outside(self, class))
+    fn run_end(&self, set: CodeSet<'_>) -> Option<Option<usize>> {
+        if is_of_ascii(set) {
+            Some(text_outside(self, set))
+        } else {
+            None
+        }
     }
 
     #[inline(always)]
@@ -105,14 +110,36 @@ impl Offset for &str {
     }
 }
 
-/// The place of the first character that isn't of the class; `None` where all are.
-// The classes are ASCII, so the first byte outside one begins the first character outside it.
+/// Whether ASCII characters alone tell what is in a set.
 #[inline(always)]
-fn text_outside(text: &str, class: AsciiClass) -> Option<usize>
-    ensures { IsPosition text_model (IsInside class) (IsOutside class) text.entry result }
+fn is_of_ascii(set: CodeSet<'_>) -> bool
+    ensures { result ≡ of_ascii set.entry }
+{
+    match set {
+        CodeSet::Class(_) => true,
+        CodeSet::OneOf(list) | CodeSet::NoneOf(list) => are_ascii(list),
+    }
+}
+
+/// Whether all bytes are ASCII. The loop is in place, since a list that is known where a parser is built is then
+/// tested by the compiler.
+#[inline(always)]
+pub fn are_ascii(bytes: &[u8]) -> bool
+    ensures { result ≡ list_all (λ b. nat_lt b 128) bytes.now }
+{
+    bytes.iter().all(|byte| *byte < 128)
+}
+
+/// The place of the first character that isn't in the set; `None` where all are.
+// A byte below 128 is a character, and no part of a longer one. So the first byte outside a set of such characters begins
+// the first character outside it, and the first byte inside is the first character inside it.
+#[inline(always)]
+fn text_outside(text: &str, set: CodeSet<'_>) -> Option<usize>
+    requires { of_ascii set ≡ true }
+    ensures { IsPosition text_model (IsIn set.entry) (IsNotIn set.entry) text.entry result }
 {
     text.prove_known();
-    bytes_outside(text.as_bytes(), class)
+    bytes_outside(text.as_bytes(), set)
 }
 
 /// The place after the first `count` characters.

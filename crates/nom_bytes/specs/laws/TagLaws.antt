@@ -1,7 +1,6 @@
 -- The laws of `tag`.
 use Rattle.std.specs.Prelude.{◌≡◌, ℕ, ◌-◌, Bool, true, false, ◌⊎◌, List, Some}
 use Rattle.std.proofs.Common.{sym, ◌∙◌, subst, inl, inr}
-use Rattle.nom_error.specs.declared.kind.ErrorKind.TheVariants as Kind
 use Rattle.nom_internal.specs.Prelude.{Errors, CompareResult, Model, InputLaws, Related, items_len, first_place, first_related, same_length, CompareLaws}
 use Rattle.nom_internal.specs.Prelude.{IsLawful, IsSteady, LeafLaws, leaf_lawful, leaf_steady}
 use Rattle.nom_traits.specs.declared.compare.CompareResult.TheVariants as Compared

@@ -1,7 +1,6 @@
 -- The laws of `take`.
 use Rattle.std.specs.Prelude.{◌≡◌, ℕ, ◌<◌, List, length, Option}
 use Rattle.std.proofs.Common.{sym, ◌∙◌, subst}
-use Rattle.nom_error.specs.declared.kind.ErrorKind.TheVariants as Kind
 use Rattle.nom_internal.specs.Prelude.{Errors, Model, first_place, first_related, first_fewer, same_count, IsLawful, IsSteady, LeafLaws, leaf_lawful}
 use Rattle.nom_internal.specs.Prelude.{leaf_steady}
 use Rattle.nom_bytes.specs.Stays.{closed_stays}

@@ -1,7 +1,6 @@
 -- The laws of `take_until`.
 use Rattle.std.specs.Prelude.{◌≡◌, ℕ, ◌<◌, Bool, true, false, ◌⊎◌, List, Option, Some, None}
 use Rattle.std.proofs.Common.{sym, ◌∙◌, subst, inl, inr, arith}
-use Rattle.nom_error.specs.declared.kind.ErrorKind.TheVariants as Kind
 use Rattle.nom_internal.specs.Prelude.{Errors, Model, InputLaws, Related, Slice, IsFirst, first_place, first_related, same_length, IsLawful, IsSteady, LeafLaws}
 use Rattle.nom_internal.specs.Prelude.{leaf_lawful, leaf_steady}
 use Rattle.nom_search.specs.Substrings.{FindLaws}

@@ -1,45 +1,11 @@
-use Rattle.std.proofs.Common.{arith, refl}
-use Rattle.std.proofs.lemmas.Simd.{zip2_splat, zip2_of_maps}
-use Rattle.nom_traits.specs.declared.character.AsciiClass.TheVariants as Class
-use Rattle.nom_traits.proofs.ByteLanes.{not_digits, not_letters, class_marks}
+use Rattle.std.proofs.Common.{arith}
+use Rattle.nom_traits.proofs.Nearest.{listed_marks, unlisted_marks}
 use Rattle.nom_traits.proofs.lanes.outside_first.Goals as goal
 
-pub returns-in-Alpha : goal.returns-in-Alpha
-returns-in-Alpha c = class_marks c.args.class Class.Alpha c.in-Alpha.is _ refl c.args.block _ (omega arith) c.fits-block.0 c.fits-block.1
-    (not_letters c.args.block c.in_lower_case_first.result c.less_first-letters.result 26 c.fits-block.0
-    c.in_lower_case_first.ensures c.less_first-letters.ensures)
+pub returns-in-OneOf : goal.returns-in-OneOf
+returns-in-OneOf c = unlisted_marks c.in-OneOf.list c.nearest_first.ensures.bytes 16 c.args.block c.nearest_first.result (omega arith)
+    c.fits-block.0 c.fits-block.1 c.nearest_first.ensures.nearest c.args.set c.in-OneOf.is
 
-pub returns-in-Digit : goal.returns-in-Digit
-returns-in-Digit c = class_marks c.args.class Class.Digit c.in-Digit.is _ refl c.args.block _ (omega arith) c.fits-block.0 c.fits-block.1
-    (not_digits c.args.block c.less_first-digits.result 10 c.fits-block.0 c.less_first-digits.ensures)
-
-pub returns-in-HexDigit : goal.returns-in-HexDigit
-returns-in-HexDigit c = class_marks c.args.class Class.HexDigit c.in-HexDigit.is _ refl c.args.block _ (omega arith) c.fits-block.0 c.fits-block.1
-    (zip2_of_maps _ _ _ c.args.block (not_digits c.args.block c.less_first-digits.result 10 c.fits-block.0 c.less_first-digits.ensures)
-    (not_letters c.args.block c.in_lower_case_first.result c.less_first-letters.result 6 c.fits-block.0
-    c.in_lower_case_first.ensures c.less_first-letters.ensures))
-
-pub returns-in-OctDigit : goal.returns-in-OctDigit
-returns-in-OctDigit c = class_marks c.args.class Class.OctDigit c.in-OctDigit.is _ refl c.args.block _ (omega arith) c.fits-block.0 c.fits-block.1
-    (not_digits c.args.block c.less_first-digits.result 8 c.fits-block.0 c.less_first-digits.ensures)
-
-pub returns-in-BinDigit : goal.returns-in-BinDigit
-returns-in-BinDigit c = class_marks c.args.class Class.BinDigit c.in-BinDigit.is _ refl c.args.block _ (omega arith) c.fits-block.0 c.fits-block.1
-    (not_digits c.args.block c.less_first-digits.result 2 c.fits-block.0 c.less_first-digits.ensures)
-
-pub returns-in-Alphanumeric : goal.returns-in-Alphanumeric
-returns-in-Alphanumeric c = class_marks c.args.class Class.Alphanumeric c.in-Alphanumeric.is _ refl c.args.block _ (omega arith) c.fits-block.0 c.fits-block.1
-    (zip2_of_maps _ _ _ c.args.block (not_digits c.args.block c.less_first-digits.result 10 c.fits-block.0 c.less_first-digits.ensures)
-    (not_letters c.args.block c.in_lower_case_first.result c.less_first-letters.result 26 c.fits-block.0
-    c.in_lower_case_first.ensures c.less_first-letters.ensures))
-
-pub returns-in-Space : goal.returns-in-Space
-returns-in-Space c = class_marks c.args.class Class.Space c.in-Space.is _ refl c.args.block _ (omega arith) c.fits-block.0 c.fits-block.1
-    (zip2_of_maps _ _ _ c.args.block (zip2_splat _ c.args.block 16 32 c.fits-block.0) (zip2_splat _ c.args.block 16 9 c.fits-block.0))
-
-pub returns-in-MultiSpace : goal.returns-in-MultiSpace
-returns-in-MultiSpace c = class_marks c.args.class Class.MultiSpace c.in-MultiSpace.is _ refl c.args.block _ (omega arith) c.fits-block.0 c.fits-block.1
-    (zip2_of_maps _ _ _ c.args.block
-    (zip2_of_maps _ _ _ c.args.block
-    (zip2_of_maps _ _ _ c.args.block (zip2_splat _ c.args.block 16 32 c.fits-block.0) (zip2_splat _ c.args.block 16 9 c.fits-block.0))
-    (zip2_splat _ c.args.block 16 13 c.fits-block.0)) (zip2_splat _ c.args.block 16 10 c.fits-block.0))
+pub returns-in-NoneOf : goal.returns-in-NoneOf
+returns-in-NoneOf c = listed_marks c.in-NoneOf.list c.nearest_first-in-NoneOf.ensures.bytes 16 c.args.block c.nearest_first-in-NoneOf.result (omega arith)
+    c.fits-block.0 c.fits-block.1 c.nearest_first-in-NoneOf.ensures.nearest c.args.set c.in-NoneOf.is

@@ -1,7 +1,7 @@
 use Rattle.std.proofs.Common.{take}
 use Rattle.std.specs.List.{All}
-use Rattle.nom_traits.specs.Classes.{IsInside}
+use Rattle.nom_traits.specs.Classes.{IsIn}
 use Rattle.nom_traits.proofs.lanes.rest_outside.Given as goal
 
 abbrev pub invariant-loop-place : goal.invariant-loop-place
-invariant-loop-place l = All (IsInside l.class) (take l.place l.bytes)
+invariant-loop-place l = All (IsIn l.set) (take l.place l.bytes)

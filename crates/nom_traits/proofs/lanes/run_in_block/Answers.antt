@@ -1,12 +1,12 @@
 use Rattle.std.proofs.Common.{arith}
-use Rattle.nom_traits.specs.Classes.{has_code}
+use Rattle.nom_traits.specs.Classes.{in_set}
 use Rattle.nom_traits.proofs.ByteLanes.{block_passes, block_stops}
 use Rattle.nom_traits.proofs.lanes.run_in_block.Goals as goal
 
 pub returns-then-marks-eq0 : goal.returns-then-marks-eq0
-returns-then-marks-eq0 c = block_passes (has_code c.args.class) c.args.bytes.now c.args.place 32 c.requires c.outside-marks.result
+returns-then-marks-eq0 c = block_passes (in_set c.args.set) c.args.bytes.now c.args.place 32 c.requires c.outside-marks.result
     c.outside-marks.ensures (let h = c.if-marks-eq0.true in omega arith)
 
 pub returns-else-marks-eq0 : goal.returns-else-marks-eq0
-returns-else-marks-eq0 c = block_stops (has_code c.args.class) c.args.bytes.now c.args.place 32 c.requires c.outside-marks.result (omega arith)
+returns-else-marks-eq0 c = block_stops (in_set c.args.set) c.args.bytes.now c.args.place 32 c.requires c.outside-marks.result (omega arith)
     c.outside-marks.ensures (let h = c.if-marks-eq0.false in omega arith)

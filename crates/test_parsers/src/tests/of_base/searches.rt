@@ -9,7 +9,7 @@ use nom_search::extend::{Builder, ExtendInto};
 use nom_search::substring::FindSubstring;
 use nom_search::token::FindToken;
 use nom_traits::character::AsChar;
-use nom_traits::input::Input;
+use nom_traits::input::{Input, Value};
 use std::alloc::{AllocError, Allocator};
 
 /// Whether an item is a letter, a letter or digit, a decimal, hexadecimal, octal and binary digit, a
@@ -104,7 +104,7 @@ impl FindToken<u8> for Below {
 }
 
 /// Whether a token stands in a list.
-fn has<T, S: FindToken<T> + Drop>(list: S, token: T) -> bool {
+fn has<T: Value, S: FindToken<T> + Drop>(list: S, token: T) -> bool {
     list.find_token(token)
 }
 
