@@ -9,7 +9,7 @@ use Rattle.nom_error.specs.declared.kind.ErrorKind.TheVariants.{TakeWhileMN}
 use Rattle.nom_error.specs.declared.value.Error.{Error}
 use Rattle.nom_internal.specs.Sequence.ThenBlames.{BlamesFirst, BlamesNext}
 use Rattle.nom_func.specs.Func.{FuncAnswers, FuncBlames, IsViewed}
-use Rattle.nom_internal.specs.Tuples.{PairOutput}
+use Rattle.nom_internal.specs.Sequence.{PairOutput}
 use Rattle.example_basics.specs.Colors.{Text, on_pair, parts_of, place_missing, AnswersPair}
 use Rattle.example_basics.proofs.Pairs.{IsPair, IsMissed, IsPlain, Both, both, sequence_plain, pair_accepted, on_pair_at, on_pair_none, missing_at}
 use Rattle.example_basics.proofs.Pairs.{missing_none, after_pair, text_between, pair_place, pair_answered, pair_missed, pair_plain}

@@ -9,16 +9,16 @@ use nom::{Items, StreamParser};
 
 /// Does nothing: its contract is all that nom promises of the parser.
 pub fn promised<I: Items, P: StreamParser<I>>(parser: &P)
-    requires sound { (P.meaning (P.state parser.now)).IsSound }
-    requires settles { (P.meaning (P.state parser.now)).Settles }
-    ensures decided { StaysOnLonger I.model (P.meaning (P.state parser.now)) }
-    ensures answers { AnswersStay I.model P.Output.view (P.Pins parser.now) (P.IsOutput (P.state parser.now))
-        (P.meaning (P.state parser.now)) }
-    ensures alike { HasOneOutcome I.model (P.meaning (P.state parser.now)) }
-    ensures fronts { AcceptsFronts I.model (P.meaning (P.state parser.now)) }
-    ensures complete { IsCompleteToo I.model (P.meaning (P.state parser.now)) }
-    ensures frugal { NeverRunsOut I.model (P.meaning (P.state parser.now)) }
-    ensures failures { HasNoFailure I.model (P.meaning (P.state parser.now)) }
+    requires sound { (P.grammar (P.state parser.now)).meaning.IsSound }
+    requires settles { (P.grammar (P.state parser.now)).meaning.Settles }
+    ensures decided { StaysOnLonger I.model (P.grammar (P.state parser.now)).meaning }
+    ensures answers { AnswersStay I.model P.Output.view (P.Pins parser.now) (P.grammar (P.state parser.now)).IsOutput
+        (P.grammar (P.state parser.now)).meaning }
+    ensures alike { HasOneOutcome I.model (P.grammar (P.state parser.now)).meaning }
+    ensures fronts { AcceptsFronts I.model (P.grammar (P.state parser.now)).meaning }
+    ensures complete { IsCompleteToo I.model (P.grammar (P.state parser.now)).meaning }
+    ensures frugal { NeverRunsOut I.model (P.grammar (P.state parser.now)).meaning }
+    ensures failures { HasNoFailure I.model (P.grammar (P.state parser.now)).meaning }
 {
     stays_on_longer(parser);
     answers_stay(parser);

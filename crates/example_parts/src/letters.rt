@@ -2,7 +2,7 @@
 //! `specs/Letters.antt`); the laws of that (`letter_laws`), which give those of its meaning; `process`; and
 //! the two implementations.
 ghost use Rattle.std.specs.Prelude.{◌≡◌, ℕ, [], MatchOption};
-ghost use Rattle.nom_internal.specs.Prelude.{value_pinned};
+ghost use Rattle.nom_internal.specs.Prelude.{value_pinned, valued};
 ghost use Rattle.example_parts.specs.Letters.{BeginsWith, letter_lawful, letter_meaning, letter_steady};
 
 use nom::error::{ErrorKind, ParseError};
@@ -44,9 +44,7 @@ impl<I: Input<Item = u8>, E: ParseError<I>> Parser<I> for Letter<I, E> {
 
     ghost Tree = { ℕ };
 
-    ghost IsOutput = { λ _ t v. v ≡ t };
-
-    ghost meaning = { λ _. letter_meaning I.model E.errors };
+    ghost grammar = { λ _. valued (letter_meaning I.model E.errors) };
 
     // A letter is its own tree.
 

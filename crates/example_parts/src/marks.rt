@@ -1,7 +1,7 @@
 //! A combinator of a user's own: a parser between two runs of another, as what stands between quotes. Its meaning is
 //! that of two sequences, and its laws are those of sequences, of the laws of its parts.
 ghost use Rattle.std.specs.Prelude.{◌≡◌};
-ghost use Rattle.nom_sequence.specs.Sequences.{preceded_meaning, terminated_meaning};
+ghost use Rattle.nom_sequence.specs.Sequences.{preceded_of, terminated_of};
 ghost use Rattle.nom_sequence.specs.laws.SequenceLaws.{preceded_lawful, preceded_steady, terminated_lawful, terminated_steady};
 
 use nom::{Check, Items, OutputM, OutputMode, PResult, Parser, StreamParser};
@@ -33,9 +33,7 @@ impl<I: Items, F: Parser<I> + Drop, G: Parser<I, Error = F::Error> + Drop> Parse
 
     ghost Tree = { G.Tree };
 
-    ghost IsOutput = { λ s. G.IsOutput s.1 };
-
-    ghost meaning = { λ s. preceded_meaning I.model (F.meaning s.0) (terminated_meaning I.model (G.meaning s.1) (F.meaning s.0)) };
+    ghost grammar = { λ s. preceded_of I.model (F.grammar s.0) (terminated_of I.model (G.grammar s.1) (F.grammar s.0)) };
 
     fn process<OM: OutputMode>(&mut self, input: I) -> PResult<I, Self::Output, Self::Error> {
         let (rest, _) = self

@@ -1,6 +1,6 @@
 -- What the parser of messages answers.
 use Rattle.std.proofs.Common.{◌≡◌, ℕ, true, List, [], ◌∷◌, Err, Vec, sym, subst, inl, inr, ◌⊎◌}
-use Rattle.nom_internal.specs.Prelude.{IResult, OutOfMemory, bytes_model, Meaning, Outcome, TooLarge, Parses}
+use Rattle.nom_internal.specs.Prelude.{IResult, OutOfMemory, bytes_model, Meaning, Outcome, TooLarge, ParsesOutcome}
 use Rattle.nom_error.specs.declared.value.Error.{Error}
 use Rattle.nom_growing.specs.Growing.{AnswersOn, IsBeginning, IsGrown}
 use Rattle.nom_growing.specs.Growing.AnswersOn.{RanOutOn, ShownOn}
@@ -28,7 +28,7 @@ module _ {V O : Type 0} (m : Meaning Bytes V (Error Bytes)) (IsOutput : V → O 
   begins_known x (AtEnd h e) = subst bytes_model.IsKnown (sym e) known
 
   abbrev Tells : IResult Bytes O (Error Bytes) → Outcome V → Type 0
-  Tells r o = (r ≡ Err OutOfMemory) ⊎ ((beginning : Bytes) × Parses bytes_model IsOutput whole (m.blames true beginning) o r)
+  Tells r o = (r ≡ Err OutOfMemory) ⊎ ((beginning : Bytes) × ParsesOutcome bytes_model IsOutput whole (m.blames true beginning) o r)
 
   answered : (none : HasNoFailure bytes_model m) (never : m.NeverFails TooLarge) (x : Bytes)
       (r : IResult Bytes O (Error Bytes)) → IsBeginning bytes_model whole cuts index x →
@@ -36,7 +36,7 @@ module _ {V O : Type 0} (m : Meaning Bytes V (Error Bytes)) (IsOutput : V → O 
   answered none never x r begins (RanOutOn e h) o a = inl e
   answered none never x r begins (ShownOn b) o a =
       let same = b.stays (λ e. none TooLarge true x (begins_known x begins) never (subst (λ p. m.answers true x p) e b.answered)) o a in
-      inr (x, subst (λ p. Parses bytes_model IsOutput whole (m.blames true x) p r) same b.shown)
+      inr (x, subst (λ p. ParsesOutcome bytes_model IsOutput whole (m.blames true x) p r) same b.shown)
 
   pub of_whole : (r : IResult Bytes O (Error Bytes)) → IsGrown bytes_model IsOutput m whole cuts index r ×
       HasNoFailure bytes_model m → m.NeverFails TooLarge → (o : Outcome V) → m.answers true whole o → Tells r o

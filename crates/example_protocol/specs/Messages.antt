@@ -1,6 +1,6 @@
 -- Messages after their lengths.
 use Rattle.std.specs.Prelude.{◌≡◌, ℕ, ◌⊎◌, true, List, [], ◌∷◌, Err, Vec}
-use Rattle.nom_internal.specs.Prelude.{IResult, OutOfMemory, bytes_model, Slice, Outcome, Parses}
+use Rattle.nom_internal.specs.Prelude.{IResult, OutOfMemory, bytes_model, Slice, Outcome, ParsesOutcome}
 use Rattle.nom_error.specs.declared.value.Error.{Error}
 use Rattle.nom.specs.Bytes.{Bytes, BytesGrammar, all_consuming_of, alt_of, length_data_of, length_value_of, many0_of, map_of, number_of, or_of}
 use Rattle.nom.specs.Bytes.{pair_of, preceded_of, tag_of, terminated_of, Endianness, Big}
@@ -30,4 +30,4 @@ messages_of = written_of (1 ∷ []) (2 ∷ []) (3 ∷ []) (0 ∷ 0 ∷ []) Big B
 -- holds the input as it was on a beginning.
 abbrev pub TellsWhole : {M : Type 0} → Bytes → IResult Bytes (Vec Message M) (Error Bytes) → Type 0
 TellsWhole {M} whole r = (o : Outcome (List Body)) → (messages_of {M = M}).meaning.answers true whole o → (r ≡ Err OutOfMemory) ⊎
-    ((beginning : Bytes) × Parses bytes_model (messages_of {M = M}).IsOutput whole ((messages_of {M = M}).meaning.blames true beginning) o r)
+    ((beginning : Bytes) × ParsesOutcome bytes_model (messages_of {M = M}).IsOutput whole ((messages_of {M = M}).meaning.blames true beginning) o r)

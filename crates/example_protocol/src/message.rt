@@ -55,10 +55,10 @@ fn unfailing<I: Input, P: StreamParser<I> + Drop>(
     input: I,
     cuts: &[usize],
 ) -> Grown<I, P::Output, P::Error>
-    requires sound { (P.meaning (P.state parser)).IsSound }
+    requires sound { (P.grammar (P.state parser)).meaning.IsSound }
     requires cuts { AreCuts I.model input cuts.now }
-    ensures grown { IsGrown I.model (P.IsOutput (P.state parser)) (P.meaning (P.state parser)) input cuts.now result.index result.result }
-    ensures failures { HasNoFailure I.model (P.meaning (P.state parser)) }
+    ensures grown { IsGrown I.model (P.grammar (P.state parser)).IsOutput (P.grammar (P.state parser)).meaning input cuts.now result.index result.result }
+    ensures failures { HasNoFailure I.model (P.grammar (P.state parser)).meaning }
 {
     has_no_failure(&parser);
     parse_growing(parser, input, cuts)

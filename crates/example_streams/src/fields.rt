@@ -30,9 +30,7 @@ impl Grammar for Fields {
 
     ghost Tree = { Slice bytes_model };
 
-    ghost IsItem = { λ _. field_of.IsOutput };
-
-    ghost meaning = { λ _. field_of.meaning };
+    ghost grammar = { λ _. field_of };
 
     fn item<'a>(&mut self, input: &'a [u8], more: bool) -> IResult<&'a [u8], usize> {
         let field = preceded(tag::<_, _, Error<&[u8]>>(&b";"[..]), is_not(&b";"[..]));

@@ -63,9 +63,7 @@ impl Grammar for Messages {
 
     ghost Tree = { Body };
 
-    ghost IsItem = { λ _. message_of.IsOutput };
-
-    ghost meaning = { λ _. message_of.meaning };
+    ghost grammar = { λ _. message_of };
 
     fn item<'a>(&mut self, input: &'a [u8], more: bool) -> IResult<&'a [u8], Received> {
         let number = pair(tag::<_, _, Error<&[u8]>>(&b"\x01"[..]), be_u32());

@@ -31,9 +31,7 @@ impl Grammar for Records {
 
     ghost Tree = { ℕ × Slice bytes_model };
 
-    ghost IsItem = { λ _. record_of.IsOutput };
-
-    ghost meaning = { λ _. record_of.meaning };
+    ghost grammar = { λ _. record_of };
 
     fn item<'a>(&mut self, input: &'a [u8], more: bool) -> IResult<&'a [u8], usize> {
         let record = preceded(tag::<_, _, Error<&[u8]>>(&b"R"[..]), length_data(be_u8()));

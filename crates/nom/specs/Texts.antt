@@ -68,6 +68,24 @@ delimited_of = Grammars.delimited_of text_model
 abbrev pub opt_of : {V O : Type 0} → TextGrammar V O → TextGrammar (Option V) (Option O)
 opt_of = Grammars.opt_of
 
+abbrev pub cut_of : {V O : Type 0} → TextGrammar V O → TextGrammar V O
+cut_of = Grammars.cut_of
+
+abbrev pub peek_of : {V O : Type 0} → TextGrammar V O → TextGrammar V O
+peek_of = Grammars.peek_of
+
+abbrev pub not_of : {V O : Type 0} → TextGrammar V O → TextGrammar (Unit {0}) (Unit {0})
+not_of = Grammars.not_of plain_errors
+
+abbrev pub complete_of : {V O : Type 0} → TextGrammar V O → TextGrammar V O
+complete_of = Grammars.complete_of plain_errors
+
+abbrev pub recognize_of : {V O : Type 0} → TextGrammar V O → TextGrammar (Slice text_model) Text
+recognize_of = Grammars.recognize_of text_model
+
+abbrev pub consumed_of : {V O : Type 0} → TextGrammar V O → TextGrammar (Slice text_model × V) (Text × O)
+consumed_of = Grammars.consumed_of text_model
+
 -- `alt_of (or_of (or_of g h) k)` is `alt((g, h, k))`
 abbrev pub or_of : {V U O : Type 0} → TextGrammar V O → TextGrammar U O → TextGrammar (V ⊎ U) O
 or_of = Grammars.or_of plain_errors
@@ -77,6 +95,31 @@ alt_of = Grammars.alt_of plain_errors
 
 abbrev pub many0_of : {V O M : Type 0} → TextGrammar V O → TextGrammar (List V) (Vec O M)
 many0_of = Grammars.many0_of text_model plain_errors
+
+abbrev pub many1_of : {V O M : Type 0} → TextGrammar V O → TextGrammar (List V) (Vec O M)
+many1_of = Grammars.many1_of text_model plain_errors
+
+abbrev pub count_of : {V O M : Type 0} → ℕ → TextGrammar V O → TextGrammar (List V) (Vec O M)
+count_of = Grammars.count_of text_model plain_errors
+
+abbrev pub many_m_n_of : {V O M : Type 0} → ℕ → ℕ → TextGrammar V O → TextGrammar (List V) (Vec O M)
+many_m_n_of = Grammars.many_m_n_of text_model plain_errors
+
+abbrev pub many_till_of : {V T O P M : Type 0} → TextGrammar V O → TextGrammar T P → TextGrammar (List V × T) (Vec O M × P)
+many_till_of = Grammars.many_till_of text_model plain_errors
+
+-- the separator comes first
+abbrev pub separated_list0_of : {P Q V O M : Type 0} → TextGrammar P Q → TextGrammar V O → TextGrammar (List V) (Vec O M)
+separated_list0_of = Grammars.separated_list0_of text_model plain_errors
+
+abbrev pub separated_list1_of : {P Q V O M : Type 0} → TextGrammar P Q → TextGrammar V O → TextGrammar (List V) (Vec O M)
+separated_list1_of = Grammars.separated_list1_of text_model plain_errors
+
+abbrev pub many0_count_of : {V O : Type 0} → TextGrammar V O → TextGrammar (List V) ℕ
+many0_count_of = Grammars.many0_count_of text_model plain_errors
+
+abbrev pub many1_count_of : {V O : Type 0} → TextGrammar V O → TextGrammar (List V) ℕ
+many1_count_of = Grammars.many1_count_of text_model plain_errors
 
 abbrev pub map_of : {V O P : Type 0} → (O → P) → TextGrammar V O → TextGrammar V P
 map_of = Grammars.map_of

@@ -1,7 +1,7 @@
 -- A part whose outputs a closure maps, which may take memory.
-use Rattle.std.specs.Prelude.{◌≡◌, true, Result, Err}
+use Rattle.std.specs.Prelude.{◌≡◌, true, Result, Err, Ok}
 use Rattle.nom_error.specs.declared.answer.OutOfMemory.{OutOfMemory}
-use Rattle.nom_internal.specs.Prelude.{Outcome, Accept, Refuse, Stop, Meaning, Case, case_meaning, AsAsked, IsCallable}
+use Rattle.nom_internal.specs.Prelude.{Outcome, Accept, Refuse, Stop, Meaning, Case, case_meaning, AsAsked, IsCallable, Grammar, GivesFor}
 
 -- the part accepts, and the closure finds no memory for an output
 abbrev pub LacksMemory : {V P R : Type 0} → (V → P → Type 0) → (P → Result R OutOfMemory → Type 0) → Outcome V → Type 0
@@ -30,3 +30,10 @@ map_alloc_case IsOutput Takes Gives = record {
 
 abbrev pub map_alloc_meaning : {I V P R E : Type 0} → (V → P → Type 0) → (P → Type 0) → (P → Result R OutOfMemory → Type 0) → Meaning I V E → Meaning I V E
 map_alloc_meaning IsOutput Takes Gives = case_meaning (map_alloc_case IsOutput Takes Gives)
+
+-- a grammar whose outputs a closure maps, which may take memory
+abbrev pub map_alloc_by : {I V O P E : Type 0} → (O → Type 0) → (O → Result P OutOfMemory → Type 0) → Grammar I V O E → Grammar I V P E
+map_alloc_by Takes Gives g = record {
+  meaning = map_alloc_meaning g.IsOutput Takes Gives g.meaning;
+  IsOutput = GivesFor g.IsOutput (λ a o. Gives a (Ok o));
+}

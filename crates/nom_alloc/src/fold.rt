@@ -3,14 +3,14 @@ ghost use Rattle.std.specs.Prelude.{List, Ok};
 ghost use Rattle.nom_internal.specs.Prelude.{Built};
 ghost use Rattle.nom_multi_fold.specs.Folded.{FoldPushes, CanFold, IsStart, IsCarried};
 ghost use Rattle.nom_multi_fold.specs.Folds.{Folds, AreCallable, FoldsAlike};
-ghost use Rattle.nom_alloc.specs.FoldAlloc.{LacksFor, LacksSome, fold_many0_alloc_meaning};
+ghost use Rattle.nom_alloc.specs.FoldAlloc.{LacksFor, LacksSome, fold_many0_alloc_by};
 
 use nom_error::answer::{OutOfMemory, PResult};
 use nom_error::kind::ErrorKind;
-use nom_error::mode::{Check, Mode, OutputMode};
+use nom_error::mode::{Mode, OutputMode};
 use nom_internal::parser::{Parser, StreamParser};
 use nom_repeat::accumulator::Accumulator;
-use nom_repeat::items::{Limits, TooFew, items};
+use nom_repeat::bounds::any_items;
 use nom_traits::input::Input;
 use nom_traits::view::Viewed;
 
@@ -106,25 +106,17 @@ impl<
 
     ghost Tree = { List F.Tree };
 
-    ghost IsOutput = { λ s. Folds (F.IsOutput s.0) (H.post s.1) (λ r x y. G.post s.2 r x (Ok y)) };
-
-    ghost meaning = { λ s. fold_many0_alloc_meaning I.model F.Error.errors (AreCallable (H.pre s.1) (G.pre s.2)) (LacksSome G.post) (F.meaning s.0) };
+    ghost grammar = { λ s. fold_many0_alloc_by I.model F.Error.errors (AreCallable (H.pre s.1) (G.pre s.2)) (LacksSome G.post) (H.post s.1) (G.post s.2)
+        (F.grammar s.0) };
 
     #[inline]
     fn process<OM: OutputMode>(&mut self, input: I) -> PResult<I, R, F::Error> {
         let first = start::<OM::Output, F::Output, R, H, G>(&self.init, &self.fold);
-        let limits = Limits {
-            least: 0,
-            most: None,
-            too_few: TooFew::Never,
-            at_start: false,
-            empty: Some(ErrorKind::Many0),
-        };
-        let (rest, last) = items::<OM, Check, I, F, Folded<R, G>>(
+        let (rest, last) = any_items::<OM, I, F, Folded<R, G>>(
             &mut self.parser,
             input,
             first,
-            limits,
+            ErrorKind::Many0,
         )?;
         Ok((rest, carried(last)))
     }

@@ -1,8 +1,8 @@
 //! A parser whose outputs a closure maps, which may take memory.
 ghost use Rattle.std.specs.Prelude.{Ok};
-ghost use Rattle.nom_internal.specs.Prelude.{GivesFor, SeesAlike};
+ghost use Rattle.nom_internal.specs.Prelude.{SeesAlike};
 ghost use Rattle.nom_internal.specs.laws.MappedLaws.{given_pinned};
-ghost use Rattle.nom_alloc.specs.MapAlloc.{map_alloc_meaning};
+ghost use Rattle.nom_alloc.specs.MapAlloc.{map_alloc_by};
 ghost use Rattle.nom_alloc.specs.laws.MapAllocLaws.{map_alloc_lawful, map_alloc_steady};
 
 use nom_error::answer::{Err, OutOfMemory, PResult};
@@ -31,9 +31,7 @@ impl<I: Items, F: Parser<I> + Drop, O: Drop, G: Fn(F::Output) -> Result<O, OutOf
 
     ghost Tree = { F.Tree };
 
-    ghost IsOutput = { λ s. GivesFor (F.IsOutput s.0) (λ a o. G.post s.1 a (Ok o)) };
-
-    ghost meaning = { λ s. map_alloc_meaning (F.IsOutput s.0) (G.pre s.1) (G.post s.1) (F.meaning s.0) };
+    ghost grammar = { λ s. map_alloc_by (G.pre s.1) (G.post s.1) (F.grammar s.0) };
 
     #[inline(always)]
     fn process<OM: OutputMode>(&mut self, input: I) -> PResult<I, O, F::Error> {

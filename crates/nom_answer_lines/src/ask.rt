@@ -42,7 +42,7 @@ impl<I: Input + AsBytes> Question<I> {
         self,
         mut parser: P,
     ) -> Option<Answer>
-        requires { (P.meaning (P.state parser)).IsSound }
+        requires { (P.grammar (P.state parser)).meaning.IsSound }
     {
         let found: IResult<I, O> = match self.way {
             Way::Streaming => parser.parse(self.input),
@@ -57,9 +57,9 @@ impl<I: Input + AsBytes> Question<I> {
         complete: Fixed<P, Complete>,
         streaming: Fixed<P, Streaming>,
     ) -> Option<Answer>
-        requires top { (P.meaning (P.state top)).IsSound }
-        requires complete { (P.meaning (P.state complete.parser)).IsSound }
-        requires streaming { (P.meaning (P.state streaming.parser)).IsSound }
+        requires top { (P.grammar (P.state top)).meaning.IsSound }
+        requires complete { (P.grammar (P.state complete.parser)).meaning.IsSound }
+        requires streaming { (P.grammar (P.state streaming.parser)).meaning.IsSound }
     {
         match self.module {
             Module::Top => self.ask(top),

@@ -123,8 +123,8 @@ where
     I: Input<Item = C> + AsBytes + Debug,
     F: Parser<I, Error = Error<I>> + Drop,
     G: Parser<I, Error = Error<I>> + Drop,
-    requires normal { (F.meaning (F.state normal)).IsSound }
-    requires escapable { (G.meaning (G.state escapable)).IsSound }
+    requires normal { (F.grammar (F.state normal)).meaning.IsSound }
+    requires escapable { (G.grammar (G.state escapable)).meaning.IsSound }
 {
     question.ask(bytes::escaped(normal, control_char, escapable))
 }
@@ -142,8 +142,8 @@ where
     I::Extender: Debug + Drop,
     F: Parser<I, Output = I, Error = Error<I>> + Drop,
     G: Parser<I, Output = I, Error = Error<I>> + Drop,
-    requires normal { (F.meaning (F.state normal)).IsSound }
-    requires escapable { (G.meaning (G.state escapable)).IsSound }
+    requires normal { (F.grammar (F.state normal)).meaning.IsSound }
+    requires escapable { (G.grammar (G.state escapable)).meaning.IsSound }
 {
     question.ask(bytes::escaped_transform(question.alloc, normal, control_char, escapable))
 }
@@ -161,8 +161,8 @@ where
     I::Extender: Debug + Drop,
     F: Parser<I, Output = I, Error = Error<I>> + Drop,
     G: Parser<I, Output = I, Error = Error<I>> + Drop,
-    requires normal { (F.meaning (F.state normal)).IsSound }
-    requires escapable { (G.meaning (G.state escapable)).IsSound }
+    requires normal { (F.grammar (F.state normal)).meaning.IsSound }
+    requires escapable { (G.grammar (G.state escapable)).meaning.IsSound }
 {
     let alloc = question.alloc;
     match question.module {
@@ -189,7 +189,7 @@ where
     I::Extender: Debug + Drop,
     T: Copy,
     F: Parser<I, Output = I, Error = Error<I>> + Drop,
-    requires { (F.meaning (F.state normal)).IsSound }
+    requires { (F.grammar (F.state normal)).meaning.IsSound }
 {
     transformed(question, normal, control_char, bytes::tag(escapable))
 }
@@ -207,7 +207,7 @@ where
     I::Extender: Debug + Drop,
     T: Copy,
     F: Parser<I, Output = I, Error = Error<I>> + Drop,
-    requires { (F.meaning (F.state normal)).IsSound }
+    requires { (F.grammar (F.state normal)).meaning.IsSound }
 {
     transformed_in(question, normal, control_char, complete::tag(escapable))
 }
@@ -225,7 +225,7 @@ where
     I::Extender: Debug + Drop,
     T: Copy,
     F: Parser<I, Output = I, Error = Error<I>> + Drop,
-    requires { (F.meaning (F.state normal)).IsSound }
+    requires { (F.grammar (F.state normal)).meaning.IsSound }
 {
     transformed_in(question, normal, control_char, streaming::tag(escapable))
 }

@@ -43,7 +43,7 @@ where
     T: Copy,
     P: Parser<I, Error = Error<I>> + Drop,
     P::Output: Debug,
-    requires inner { (P.meaning (P.state inner)).IsSound }
+    requires inner { (P.grammar (P.state inner)).meaning.IsSound }
 {
     match number {
         0 => question.ask(recognize(inner)),
@@ -72,7 +72,7 @@ where
     I: Input + AsBytes + Debug + Compare<T>,
     T: Copy,
     P: Parser<I, Output = I, Error = Error<I>> + Drop,
-    requires part { (P.meaning (P.state part)).IsSound }
+    requires part { (P.grammar (P.state part)).meaning.IsSound }
 {
     let alloc = question.alloc;
     match shape {
@@ -103,7 +103,7 @@ where
     I: Input + AsBytes + Debug + Compare<T>,
     T: Copy,
     P: Parser<I, Output = I, Error = Error<I>> + Drop,
-    requires part { (P.meaning (P.state part)).IsSound }
+    requires part { (P.grammar (P.state part)).meaning.IsSound }
 {
     match shape {
         6 => outer(question, tags, number, opt(part)),
@@ -119,7 +119,7 @@ fn completed<I, P>(question: Question<I>, shape: usize, part: P) -> Option<Answe
 where
     I: Input + AsBytes + Debug,
     P: Parser<I, Output = I, Error = Error<I>> + Drop,
-    requires part { (P.meaning (P.state part)).IsSound }
+    requires part { (P.grammar (P.state part)).meaning.IsSound }
 {
     match shape {
         6 => question.ask(complete(opt(part))),

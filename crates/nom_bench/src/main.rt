@@ -110,7 +110,7 @@ fn records<'a, T: Drop, P: Parser<&'a [u8], Output = Vec<T>> + Drop>(
     bytes: &'a [u8],
     way: Way,
 ) -> Option<Round>
-    requires { (P.meaning (P.state parser)).IsSound }
+    requires { (P.grammar (P.state parser)).meaning.IsSound }
 {
     let (rest, items) = match way {
         Way::Parse => {
@@ -138,7 +138,7 @@ fn slice<'a, P: Parser<&'a [u8], Output = &'a [u8]> + Drop>(
     mut parser: P,
     bytes: &'a [u8],
 ) -> Option<Round>
-    requires { (P.meaning (P.state parser)).IsSound }
+    requires { (P.grammar (P.state parser)).meaning.IsSound }
 {
     let (rest, _slice) = parser.parse_complete(bytes).ok()?;
     Some(Round {
@@ -153,7 +153,7 @@ pub fn list<'a, T: Drop, P: Parser<&'a [u8], Output = Vec<T>> + Drop>(
     mut parser: P,
     bytes: &'a [u8],
 ) -> Option<Round>
-    requires { (P.meaning (P.state parser)).IsSound }
+    requires { (P.grammar (P.state parser)).meaning.IsSound }
 {
     let (rest, items) = parser.parse_complete(bytes).ok()?;
     if items.is_empty() {

@@ -17,7 +17,7 @@ fn value<'a, P: Parser<&'a [u8], Output = i64> + Drop>(
     mut parser: P,
     bytes: &'a [u8],
 ) -> Option<Round>
-    requires { (P.meaning (P.state parser)).IsSound }
+    requires { (P.grammar (P.state parser)).meaning.IsSound }
 {
     let (rest, value) = parser.parse_complete(bytes).ok()?;
     Some(Round {

@@ -85,7 +85,7 @@ fn streamed<T: Weighs + Drop, R: Read + Drop, A: Allocator + Copy + Drop, G: Gra
     mut stream: Stream<R, A>,
     grammar: &mut G,
 ) -> Found
-    requires sound { (G.meaning (G.state grammar.old)).IsSound }
+    requires sound { (G.grammar (G.state grammar.old)).meaning.IsSound }
     requires open { IsOpen R.remaining stream }
 {
     let mut found = NONE;
@@ -104,7 +104,7 @@ fn whole<'a, T: Weighs + Drop, P: Parser<&'a [u8], Output = T, Error = Fail<'a>>
     mut parser: P,
     bytes: &'a [u8],
 ) -> Found
-    requires sound { (P.meaning (P.state parser)).IsSound }
+    requires sound { (P.grammar (P.state parser)).meaning.IsSound }
 {
     let mut rest = bytes;
     let mut found = NONE;

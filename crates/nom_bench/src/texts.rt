@@ -26,7 +26,7 @@ fn list<'a, T: Drop, P: Parser<&'a str, Output = Vec<T>> + Drop>(
     mut parser: P,
     text: &'a str,
 ) -> Option<Round>
-    requires { (P.meaning (P.state parser)).IsSound }
+    requires { (P.grammar (P.state parser)).meaning.IsSound }
 {
     let (rest, items) = parser.parse_complete(text).ok()?;
     if items.is_empty() {

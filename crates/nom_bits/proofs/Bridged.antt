@@ -2,7 +2,8 @@
 use Rattle.std.proofs.Common.{◌≡◌, ℕ, ◌+◌, ◌*◌, Bool, true, false, inl, inr, length, Result, Ok, Err, Option, refl, ◌∙◌, ap, subst, lit<, arith}
 use Rattle.std.proofs.Math.Nat.{mod-lt}
 use Rattle.nom_internal.specs.Prelude.{Needed, Incomplete, PResult, size_of, Errors, Built, Modes, with_streaming, Model, InputLaws, IsSuffixOf, rest_rest}
-use Rattle.nom_internal.specs.Prelude.{IsCount, AreBytes, bits_model, bits_lawful, Outcome, Accept, Refuse, Stop, Fails, Needs, TooLarge, Shows, RanOut, Shown}
+use Rattle.nom_internal.specs.Prelude.{IsCount, AreBytes, bits_model, bits_lawful, Outcome, Accept, Refuse, Stop, Fails, Needs, TooLarge, ShowsOutcome}
+use Rattle.nom_internal.specs.Prelude.{RanOut, Shown}
 use Rattle.nom_internal.specs.Prelude.{Meaning, ShowsMeaning, OnPart, RunsOutInPart, RunsOutBeside, ConvertsSome}
 use Rattle.nom_error.specs.declared.answer.Err as Answer
 use Rattle.nom_internal.proofs.Shown.{accepts}
@@ -44,7 +45,7 @@ module _ {I T O E F : Type 0} (w : Model I ℕ) (IsOutput : T → O → Type 0) 
       (j, x, whole.3, a.built_is, refl)
 
   bits_of : (o : Outcome T) (e : Answer.Err E (Option E) Needed) (r : Answer.Err F (Option F) Needed) → m.answers true (i, 0) o →
-      Shows (bits_model w) IsOutput (with_streaming true mode) (i, 0) (m.blames true (i, 0)) o (Err e) → InBytes Converts e r → OfBits (Err r)
+      ShowsOutcome (bits_model w) IsOutput (with_streaming true mode) (i, 0) (m.blames true (i, 0)) o (Err e) → InBytes Converts e r → OfBits (Err r)
   bits_of (Accept n v) e r a h c = absurd (cc (h.4))
   bits_of Refuse e r a h c =
       let d = subst (λ z. InBytes Converts z r) (same_err h.2) c in
@@ -104,7 +105,7 @@ module _ {I T O E F : Type 0} (w : Model I ℕ) (IsOutput : T → O → Type 0) 
       (at_bytes (Stop (Needs k)) a (inr (size_of c.0, subst (λ z. BitsNeeded z (size_of c.0)) e c.1, refl))) (c.0, refl, ap Err c.2)
 
   bytes_of : (o : Outcome T) (e : Answer.Err E (Option E) Needed) (r : Answer.Err F (Option F) Needed) → m.answers true j o →
-      Shows w IsOutput (with_streaming true mode) j (m.blames true j) o (Err e) → InBits Converts errs i e r → OfBytes (Err r)
+      ShowsOutcome w IsOutput (with_streaming true mode) j (m.blames true j) o (Err e) → InBits Converts errs i e r → OfBytes (Err r)
   bytes_of (Accept n v) e r a h c = absurd (cc (h.4))
   bytes_of Refuse e r a h c =
       let d = subst (λ z. InBits Converts errs i z r) (same_err h.2) c in

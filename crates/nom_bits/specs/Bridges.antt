@@ -1,6 +1,7 @@
 -- Parsers of bits among parsers of bytes, and of bytes among parsers of bits.
 use Rattle.std.specs.Prelude.{◌≡◌, ℕ, ◌+◌, ◌*◌, ◌/◌, ◌^◌, ◌<◌, ◌≤◌, ◌⊎◌, true, Option, Some, None}
-use Rattle.nom_internal.specs.Prelude.{Needed, Incomplete, Error, Failure, OutOfMemory, size_of, Errors, with_streaming, Model, IsSuffixOf, IsCount, AreBytes}
+use Rattle.nom_internal.specs.Prelude.{Needed, Incomplete, Error, Failure, OutOfMemory, size_of, Errors, with_streaming, Model, IsSuffixOf, IsCount}
+use Rattle.nom_internal.specs.Prelude.{AreBytes, Grammar}
 use Rattle.nom_internal.specs.Prelude.{bits_model, Outcome, Accept, Refuse, Stop, Fails, Needs, TooLarge, IsFault, Meaning, Case, case_meaning, Always}
 use Rattle.nom_internal.specs.Prelude.{ConvertsSome, Outright}
 use Rattle.nom_error.specs.declared.answer.Err as Answer
@@ -126,3 +127,11 @@ module _ {I E F : Type 0} (Converts : E → F → Type 0) (errs : Errors I F) (i
   InBits (Error x) r = (y : Option F) × ConvertsSome Converts x y × (r ≡ Error y)
   InBits (Failure e) r = (f : F) × Converts e f × (r ≡ Failure f)
   InBits OutOfMemory r = r ≡ OutOfMemory
+
+-- a grammar of bits among bytes
+abbrev pub bits_of : {I V O E F : Type 0} → Model I ℕ → (E → F → Type 0) → Grammar (I × ℕ) V O E → Grammar I V O F
+bits_of w Converts g = record { meaning = bits_meaning w Converts g.meaning; IsOutput = g.IsOutput }
+
+-- a grammar of bytes among bits
+abbrev pub bytes_of : {I V O E F : Type 0} → Model I ℕ → Errors (I × ℕ) F → (E → F → Type 0) → Grammar I V O E → Grammar (I × ℕ) V O F
+bytes_of w errs Converts g = record { meaning = bytes_meaning w errs Converts g.meaning; IsOutput = g.IsOutput }

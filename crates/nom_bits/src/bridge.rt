@@ -2,7 +2,7 @@
 ghost use Rattle.std.specs.Prelude.{◌≡◌};
 ghost use Rattle.nom_internal.specs.Prelude.{size_of, bits_model, IsSuffixOf, ConvertsSome, OfRest};
 ghost use Rattle.nom_bits.specs.BitRests.{bits_ahead};
-ghost use Rattle.nom_bits.specs.Bridges.{bits_meaning, bytes_meaning, bytes_needed, InBytes, InBits, IsNeed, IsTooLargeAt};
+ghost use Rattle.nom_bits.specs.Bridges.{bytes_needed, InBytes, InBits, IsNeed, IsTooLargeAt, bits_of, bytes_of};
 ghost use Rattle.nom_bits.specs.laws.BridgeLaws.{bits_of_lawful, bits_of_steady, bytes_of_lawful, bytes_of_steady};
 
 use crate::convert::ErrorConvert;
@@ -128,9 +128,7 @@ where
 
     ghost Tree = { P.Tree };
 
-    ghost IsOutput = { P.IsOutput };
-
-    ghost meaning = { λ s. bits_meaning I.model P.Error.converts (P.meaning s) };
+    ghost grammar = { λ s. bits_of I.model P.Error.converts (P.grammar s) };
 
     #[inline(always)]
     fn process<OM: OutputMode>(&mut self, input: I) -> PResult<I, P::Output, E> {
@@ -184,12 +182,10 @@ where
 
     ghost Tree = { P.Tree };
 
-    ghost IsOutput = { P.IsOutput };
-
     /// It rests at a whole byte.
     ghost Besides = { λ _ _ _ _. OfRest (λ rest. rest.1 ≡ 0) };
 
-    ghost meaning = { λ s. bytes_meaning I.model E.errors P.Error.converts (P.meaning s) };
+    ghost grammar = { λ s. bytes_of I.model E.errors P.Error.converts (P.grammar s) };
 
     #[inline(always)]
     fn process<OM: OutputMode>(&mut self, input: (I, usize)) -> PResult<(I, usize), P::Output, E> {

@@ -2,7 +2,7 @@
 ghost use Rattle.std.specs.Prelude.{◌≡◌, ℕ, Bool};
 ghost use Rattle.std.specs.Result.{IfOk};
 ghost use Rattle.std.proofs.Common.{sym, ◌∙◌, ap};
-ghost use Rattle.nom_internal.specs.Prelude.{modes, bits_model, ShowsMeaning, value_pinned, OfRest};
+ghost use Rattle.nom_internal.specs.Prelude.{modes, bits_model, ShowsMeaning, value_pinned, OfRest, valued};
 ghost use Rattle.nom_bits.specs.BitRests.{StandsAfter};
 ghost use Rattle.nom_bits.specs.Fields.{take_meaning, tag_meaning, bool_meaning};
 ghost use Rattle.nom_bits.specs.laws.FieldLaws.{take_lawful, take_steady, tag_lawful, tag_steady, bool_lawful, bool_steady};
@@ -37,12 +37,13 @@ impl<I: Input<Item = u8>, O: BitUint, E: ParseError<(I, usize)>> Parser<(I, usiz
 
     ghost Tree = { ℕ };
 
-    ghost IsOutput = { λ _ t v. v ≡ O.of_bits t };
-
     /// The pair that is left.
     ghost Besides = { λ _ old _ i. OfRest (StandsAfter I.model i old.count) };
 
-    ghost meaning = { λ count. take_meaning I.model E.errors O.WIDTH count };
+    ghost grammar = { λ count. record {
+      meaning = take_meaning I.model E.errors O.WIDTH count;
+      IsOutput = λ t v. v ≡ O.of_bits t;
+    } };
 
     #[inline(always)]
     fn process<OM: OutputMode>(&mut self, input: (I, usize)) -> PResult<(I, usize), O, E>
@@ -96,12 +97,13 @@ impl<I: Input<Item = u8>, O: BitUint, E: ParseError<(I, usize)>> Parser<(I, usiz
 
     ghost Tree = { ℕ };
 
-    ghost IsOutput = { λ _ t v. v ≡ O.of_bits t };
-
     /// The pair that is left.
     ghost Besides = { λ _ old _ i. OfRest (StandsAfter I.model i old.count) };
 
-    ghost meaning = { λ s. tag_meaning I.model E.errors O.WIDTH s.0 s.1 };
+    ghost grammar = { λ s. record {
+      meaning = tag_meaning I.model E.errors O.WIDTH s.0 s.1;
+      IsOutput = λ t v. v ≡ O.of_bits t;
+    } };
 
     #[inline(always)]
     fn process<OM: OutputMode>(&mut self, input: (I, usize)) -> PResult<(I, usize), O, E>
@@ -155,12 +157,10 @@ impl<I: Input<Item = u8>, E: ParseError<(I, usize)>> Parser<(I, usize)> for Bool
 
     ghost Tree = { Bool };
 
-    ghost IsOutput = { λ _ t v. v ≡ t };
-
     /// The pair that is left.
     ghost Besides = { λ _ _ _ i. OfRest (StandsAfter I.model i 1) };
 
-    ghost meaning = { λ _. bool_meaning I.model E.errors };
+    ghost grammar = { λ _. valued (bool_meaning I.model E.errors) };
 
     #[inline(always)]
     fn process<OM: OutputMode>(&mut self, input: (I, usize)) -> PResult<(I, usize), bool, E>

@@ -1,7 +1,6 @@
 //! Choices among parsers of several types: one of two, closed once.
 ghost use Rattle.std.specs.Prelude.{◌⊎◌};
-ghost use Rattle.nom_branch.specs.Alternatives.{next_meaning, choice_meaning};
-ghost use Rattle.nom_internal.specs.Prelude.{EitherOutput};
+ghost use Rattle.nom_branch.specs.Alternatives.{alt_of, or_of};
 
 use nom_error::answer::PResult;
 use nom_error::kind::ErrorKind;
@@ -33,9 +32,7 @@ impl<I: Items, F: Parser<I>, G: Parser<I, Output = F::Output, Error = F::Error>>
     // The branch that is taken, and its tree.
     ghost Tree = { F.Tree ⊎ G.Tree };
 
-    ghost IsOutput = { λ s. EitherOutput (F.IsOutput s.0) (G.IsOutput s.1) };
-
-    ghost meaning = { λ s. choice_meaning F.Error.errors (next_meaning F.Error.errors (F.meaning s.0) (G.meaning s.1)) };
+    ghost grammar = { λ s. alt_of F.Error.errors (or_of F.Error.errors (F.grammar s.0) (G.grammar s.1)) };
 
     #[inline(always)]
     fn process<OM: OutputMode>(&mut self, input: I) -> PResult<I, Self::Output, Self::Error> {

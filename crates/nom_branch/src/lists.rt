@@ -1,6 +1,6 @@
 //! Choices among parsers of one type, in an array or a slice.
 ghost use Rattle.std.specs.Prelude.{ℕ, List, map};
-ghost use Rattle.nom_branch_list.specs.Lists.{list_meaning, ListOutput, Each};
+ghost use Rattle.nom_branch_list.specs.Lists.{Each, list_of};
 
 use nom_branch_list::choose;
 use nom_error::answer::PResult;
@@ -28,9 +28,7 @@ impl<I: Items, A: Parser<I>> Parser<I> for AnyOf<&mut [A]> {
     // The place of the branch that is taken, and its tree.
     ghost Tree = { ℕ × A.Tree };
 
-    ghost IsOutput = { ListOutput A.IsOutput };
-
-    ghost meaning = { list_meaning A.Error.errors A.meaning };
+    ghost grammar = { list_of A.Error.errors A.grammar };
 
     #[inline(always)]
     fn process<OM: OutputMode>(&mut self, input: I) -> PResult<I, Self::Output, Self::Error> {
@@ -38,7 +36,7 @@ impl<I: Items, A: Parser<I>> Parser<I> for AnyOf<&mut [A]> {
         choose::<I, A, OM>(branches, input)
     }
 
-    ghost lawful = { list_lawful I.model A.Error.errors A.meaning A.lawful };
+    ghost lawful = { list_lawful I.model A.Error.errors (λ s. (A.grammar s).meaning) A.lawful };
 }
 
 impl<I: Items, A: StreamParser<I>> StreamParser<I> for AnyOf<&mut [A]> {
@@ -46,9 +44,9 @@ impl<I: Items, A: StreamParser<I>> StreamParser<I> for AnyOf<&mut [A]> {
 
     ghost Pins = { λ p. Each A.Pins p.parsers.now };
 
-    ghost pinned = { λ p. list_pinned A.Error.errors A.meaning A.state A.IsOutput A.Pins A.pinned p.parsers.now };
+    ghost pinned = { λ p. list_pinned A.Error.errors (λ s. (A.grammar s).meaning) A.state (λ s. (A.grammar s).IsOutput) A.Pins A.pinned p.parsers.now };
 
-    ghost steady = { list_steady I.model A.Error.errors A.meaning A.steady };
+    ghost steady = { list_steady I.model A.Error.errors (λ s. (A.grammar s).meaning) A.steady };
 }
 
 impl<I: Items, A: Parser<I>, const N: usize> Parser<I> for AnyOf<[A; N]> {
@@ -64,16 +62,14 @@ impl<I: Items, A: Parser<I>, const N: usize> Parser<I> for AnyOf<[A; N]> {
 
     ghost Tree = { ℕ × A.Tree };
 
-    ghost IsOutput = { ListOutput A.IsOutput };
-
-    ghost meaning = { list_meaning A.Error.errors A.meaning };
+    ghost grammar = { list_of A.Error.errors A.grammar };
 
     #[inline(always)]
     fn process<OM: OutputMode>(&mut self, input: I) -> PResult<I, Self::Output, Self::Error> {
         choose::<I, A, OM>(&mut self.parsers, input)
     }
 
-    ghost lawful = { list_lawful I.model A.Error.errors A.meaning A.lawful };
+    ghost lawful = { list_lawful I.model A.Error.errors (λ s. (A.grammar s).meaning) A.lawful };
 }
 
 impl<I: Items, A: StreamParser<I>, const N: usize> StreamParser<I> for AnyOf<[A; N]> {
@@ -81,7 +77,7 @@ impl<I: Items, A: StreamParser<I>, const N: usize> StreamParser<I> for AnyOf<[A;
 
     ghost Pins = { λ p. Each A.Pins p.parsers };
 
-    ghost pinned = { λ p. list_pinned A.Error.errors A.meaning A.state A.IsOutput A.Pins A.pinned p.parsers };
+    ghost pinned = { λ p. list_pinned A.Error.errors (λ s. (A.grammar s).meaning) A.state (λ s. (A.grammar s).IsOutput) A.Pins A.pinned p.parsers };
 
-    ghost steady = { list_steady I.model A.Error.errors A.meaning A.steady };
+    ghost steady = { list_steady I.model A.Error.errors (λ s. (A.grammar s).meaning) A.steady };
 }

@@ -5,6 +5,7 @@ use Rattle.std.proofs.lemmas.List.{length-map}
 use Rattle.std.proofs.Math.Seq.{take-suc, take-length, map-set_same}
 use Rattle.std.proofs.Math.ListN.{get_or-map}
 use Rattle.nom_internal.specs.Prelude.{Needed, PResult, Refuses, Errors, Modes, Model, Meaning, ShowsMeaning, or_meaning, OnError, ClosesResult, ShowsNext}
+use Rattle.nom_internal.specs.Prelude.{Grammar, Shows}
 use Rattle.nom_error.specs.declared.answer.Err as Answer
 use Rattle.nom_error.specs.declared.kind.ErrorKind.TheVariants.{Alt}
 use Rattle.nom_internal.proofs.Cased.{labelled_shown}
@@ -69,52 +70,58 @@ module _ {B S I V E : Type 0} (e : Errors I E) (part : S → Meaning I V E) (st 
       let there : k < length (map st os) = omega (arith, h, ap length same, length-map bs st) in
       rw (state_at st bs (map st os) k x same) (sound_at e part (map st os) k (get_or (map st os) k (st x)) (stands_at (map st os) k (st x) there) p)
 
-module _ {B S I A V O E : Type 0} (w : Model I A) (IsOutput : S → V → O → Type 0) (e : Errors I E) (part : S → Meaning I V E) (st : B → S) (mode : Modes)
-    (i : I) where
+module _ {B S I A V O E : Type 0} (w : Model I A) (e : Errors I E) (part : S → Grammar I V O E) (st : B → S) (mode : Modes) (i : I) where
+  abbrev means : S → Meaning I V E
+  means s = (part s).meaning
+
+  -- which outputs a tree of one of the branches stands for
+  abbrev AnyOutput : List S → ℕ × V → O → Type 0
+  AnyOutput = ListOutput (λ s. (part s).IsOutput)
+
   -- what is shown of the branches before k
   abbrev pub ShowsBefore : List B → ℕ → PResult I O E → Type 0
-  ShowsBefore os k r = ShowsMeaning w (ListOutput IsOutput (map st os)) (any_branch_meaning e part (take k (map st os))) mode i r
+  ShowsBefore os k r = ShowsMeaning w (AnyOutput (map st os)) (any_branch_meaning e means (take k (map st os))) mode i r
 
   pub branch_first : (os : List B) (x : B) (r : PResult I O E) → 0 < length os →
-      ShowsMeaning w (IsOutput (st (get_or os 0 x))) (part (st (get_or os 0 x))) mode i r → ShowsBefore os 1 r
+      Shows w (part (st (get_or os 0 x))) mode i r → ShowsBefore os 1 r
   branch_first [] x r h t = absurd (omega (arith, h))
   branch_first (o ∷ os) x r h t =
-      labelled_shown w (λ t. (0, t)) (IsOutput (st o)) (ListOutput IsOutput (map st (o ∷ os))) (λ t o' k. (st o, refl, k)) (part (st o)) mode i r t
+      labelled_shown w (λ t. (0, t)) (part (st o)).IsOutput (AnyOutput (map st (o ∷ os))) (λ t o' k. (st o, refl, k)) (means (st o)) mode i r t
 
   state_step : (ss : List S) (k : ℕ) (d : S) (before r : PResult I O E) → 0 < k → k < length ss →
-      ShowsMeaning w (ListOutput IsOutput ss) (any_branch_meaning e part (take k ss)) mode i before →
-      OnError (ShowsNext w (IsOutput (get_or ss k d)) e.joined e.grows (part (get_or ss k d)) mode i) before r →
-      ShowsMeaning w (ListOutput IsOutput ss) (any_branch_meaning e part (take (k + 1) ss)) mode i r
+      ShowsMeaning w (AnyOutput ss) (any_branch_meaning e means (take k ss)) mode i before →
+      OnError (ShowsNext w (part (get_or ss k d)).IsOutput e.joined e.grows (means (get_or ss k d)) mode i) before r →
+      ShowsMeaning w (AnyOutput ss) (any_branch_meaning e means (take (k + 1) ss)) mode i r
   state_step ss k d before r p h t q =
       let z = get_or ss k d in
       let label : V → ℕ × V = λ t. (k, t) in
-      let out = ListOutput IsOutput ss in
-      let m = any_branch_meaning e part (take k ss) in
-      let next = on_error_map (ShowsNext w (IsOutput z) e.joined e.grows (part z) mode i)
-      (ShowsNext w out e.joined e.grows (branch_meaning k (part z)) mode i) before r
-      (λ x u. next_labelled w label (IsOutput z) out (λ t o u. (z, stands_at ss k d h, u)) e.joined e.grows (part z) mode i x r u) q in
-      subst (λ n. ShowsMeaning w out n mode i r) (sym (any_more e part ss k d p h))
-      (or_shown w out e.joined e.grows m (branch_meaning k (part z)) mode i before r t next)
+      let out = AnyOutput ss in
+      let m = any_branch_meaning e means (take k ss) in
+      let next = on_error_map (ShowsNext w (part z).IsOutput e.joined e.grows (means z) mode i)
+      (ShowsNext w out e.joined e.grows (branch_meaning k (means z)) mode i) before r
+      (λ x u. next_labelled w label (part z).IsOutput out (λ t o u. (z, stands_at ss k d h, u)) e.joined e.grows (means z) mode i x r u) q in
+      subst (λ n. ShowsMeaning w out n mode i r) (sym (any_more e means ss k d p h))
+      (or_shown w out e.joined e.grows m (branch_meaning k (means z)) mode i before r t next)
 
   pub branch_step : (bs os : List B) (k : ℕ) (x : B) (before r : PResult I O E) → map st bs ≡ map st os →
       0 < k → k < length bs → ShowsBefore os k before →
-      OnError (ShowsNext w (IsOutput (st (get_or bs k x))) e.joined e.grows (part (st (get_or bs k x))) mode i) before r → ShowsBefore os (k + 1) r
+      OnError (ShowsNext w (part (st (get_or bs k x))).IsOutput e.joined e.grows (means (st (get_or bs k x))) mode i) before r → ShowsBefore os (k + 1) r
   branch_step bs os k x before r same p h t q =
       state_step (map st os) k (st x) before r p (omega (arith, h, ap length same, length-map bs st)) t
-      (subst (λ z. OnError (ShowsNext w (IsOutput z) e.joined e.grows (part z) mode i) before r) (state_at st bs (map st os) k x same) q)
+      (subst (λ z. OnError (ShowsNext w (part z).IsOutput e.joined e.grows (means z) mode i) before r) (state_at st bs (map st os) k x same) q)
 
   pub branch_close : (os : List B) (k : ℕ) (before r : PResult I O E) → 0 < length os → k ≡ length os →
       ShowsBefore os k before → ClosesResult (e.appended i Alt) e.grows before r →
-      ShowsMeaning w (ListOutput IsOutput (map st os)) (list_meaning e part (map st os)) mode i r
+      ShowsMeaning w (AnyOutput (map st os)) (list_meaning e means (map st os)) mode i r
   branch_close [] k before r h n t q = absurd (omega (arith, h))
   branch_close (o ∷ os) k before r h n t q =
       let ss = map st (o ∷ os) in
       let whole = take_whole ss k (n ∙ sym (length-map (o ∷ os) st)) in
-      closed_shown w (ListOutput IsOutput ss) mode i (any_branch_meaning e part ss)
-      (λ j. e.appended j Alt) e.grows before r (subst (λ l. ShowsMeaning w (ListOutput IsOutput ss) (any_branch_meaning e part l) mode i before) whole t) q
+      closed_shown w (AnyOutput ss) mode i (any_branch_meaning e means ss)
+      (λ j. e.appended j Alt) e.grows before r (subst (λ l. ShowsMeaning w (AnyOutput ss) (any_branch_meaning e means l) mode i before) whole t) q
 
   pub branch_none : (os : List B) (f : Answer.Err E (Option E) Needed) → length os ≡ 0 → Refuses (e.of_kind i Alt) e.grows mode.errors f →
-      ShowsMeaning w (ListOutput IsOutput (map st os)) (list_meaning e part (map st os)) mode i (Err f)
+      ShowsMeaning w (AnyOutput (map st os)) (list_meaning e means (map st os)) mode i (Err f)
   branch_none [] f h m = refused m tt
   branch_none (o ∷ os) f h m = absurd (omega (arith, h))
 

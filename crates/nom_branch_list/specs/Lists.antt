@@ -2,7 +2,7 @@
 use Rattle.std.specs.Prelude.{◌≡◌, ℕ, ◌+◌, List, [], ◌∷◌}
 use Rattle.std.proofs.Common.{zero, suc}
 use Rattle.nom_error.specs.declared.kind.ErrorKind.TheVariants.{Alt}
-use Rattle.nom_internal.specs.Prelude.{Errors, Meaning, Leaf, leaf_meaning, labelled_meaning, closed_meaning, or_meaning}
+use Rattle.nom_internal.specs.Prelude.{Errors, Meaning, Leaf, leaf_meaning, labelled_meaning, closed_meaning, or_meaning, Grammar}
 
 -- a parser that always refuses
 abbrev pub no_branch : {I V : Type 0} → Leaf I V
@@ -50,3 +50,7 @@ Each P (x ∷ xs) = P x × Each P xs
 -- which output a tree of one of a list of parsers stands for: one of the parser at the place that it tells
 abbrev pub ListOutput : {S V O : Type 0} → (S → V → O → Type 0) → List S → ℕ × V → O → Type 0
 ListOutput {S} IsOutput ss t o = (s : S) × IsElementAt ss t.0 s × IsOutput s t.1 o
+
+-- the grammars of a list of parsers, by their states
+abbrev pub list_of : {I S V O E : Type 0} → Errors I E → (S → Grammar I V O E) → List S → Grammar I (ℕ × V) O E
+list_of e g ss = record { meaning = list_meaning e (λ s. (g s).meaning) ss; IsOutput = ListOutput (λ s. (g s).IsOutput) ss }

@@ -1,7 +1,7 @@
 //! The choice among the branches of a list.
 ghost use Rattle.std.specs.Prelude.{◌≡◌, map};
-ghost use Rattle.nom_internal.specs.Prelude.{modes, ShowsMeaning};
-ghost use Rattle.nom_branch_list.specs.Lists.{list_meaning, ListOutput};
+ghost use Rattle.nom_internal.specs.Prelude.{modes, Shows};
+ghost use Rattle.nom_branch_list.specs.Lists.{list_of};
 
 use nom_error::answer::PResult;
 use nom_error::kind::ErrorKind;
@@ -17,9 +17,9 @@ pub fn choose<I: Items, A: Parser<I>, OM: OutputMode>(
     branches: &mut [A],
     input: I,
 ) -> PResult<I, A::Output, A::Error>
-    requires { (list_meaning A.Error.errors A.meaning (map A.state branches.old)).IsSound }
-    ensures shown { ShowsMeaning I.model (ListOutput A.IsOutput (map A.state branches.old))
-        (list_meaning A.Error.errors A.meaning (map A.state branches.old)) (modes OM.Output.BUILDS OM.Error.BUILDS OM.Incomplete.STREAMING) input result }
+    requires { (list_of A.Error.errors A.grammar (map A.state branches.old)).meaning.IsSound }
+    ensures shown { Shows I.model (list_of A.Error.errors A.grammar (map A.state branches.old))
+        (modes OM.Output.BUILDS OM.Error.BUILDS OM.Incomplete.STREAMING) input result }
     ensures kept { map A.state branches.new ≡ map A.state branches.old }
 {
     if branches.is_empty() {

@@ -1,7 +1,7 @@
 //! The parser of runs with a bound.
 ghost use Rattle.std.specs.Prelude.{◌≡◌, ◌-◌, ℕ, max, Some};
 ghost use Rattle.nom_error.specs.declared.kind.ErrorKind.TheVariants as Kind;
-ghost use Rattle.nom_internal.specs.Prelude.{Slice, IsModelledBy, slice_pinned};
+ghost use Rattle.nom_internal.specs.Prelude.{Slice, slice_pinned, sliced};
 ghost use Rattle.nom_bytes.specs.ParsedRuns.{Reaches, bounded_meaning};
 ghost use Rattle.nom_bytes.specs.laws.RunLaws.{run_lawful, run_steady};
 
@@ -66,9 +66,7 @@ impl<I: Input, P: Predicate<I::Item>, E: ParseError<I>> Parser<I> for TakeWhileM
 
     ghost Tree = { Slice I.model };
 
-    ghost IsOutput = { λ _. IsModelledBy I.model };
-
-    ghost meaning = { λ s. bounded_meaning I.model (P.answers s.0) (P.IsSound s.0) E.errors s.1 s.2 };
+    ghost grammar = { λ s. sliced I.model (bounded_meaning I.model (P.answers s.0) (P.IsSound s.0) E.errors s.1 s.2) };
 
     #[inline(always)]
     fn process<OM: OutputMode>(&mut self, input: I) -> PResult<I, I, E> {

@@ -1,6 +1,6 @@
 //! The parsers of items.
 ghost use Rattle.std.specs.Prelude.{ℕ};
-ghost use Rattle.nom_internal.specs.Prelude.{Slice, IsModelledBy, slice_pinned};
+ghost use Rattle.nom_internal.specs.Prelude.{Slice, slice_pinned, sliced};
 ghost use Rattle.nom_bytes.specs.Takes.{take_meaning};
 ghost use Rattle.nom_bytes.specs.laws.TakeLaws.{take_lawful, take_steady};
 ghost use Rattle.nom_bytes.specs.Tags.{tag_meaning};
@@ -34,9 +34,7 @@ impl<I: Input, E: ParseError<I>> Parser<I> for Take<I, E> {
 
     ghost Tree = { Slice I.model };
 
-    ghost IsOutput = { λ _. IsModelledBy I.model };
-
-    ghost meaning = { λ count. take_meaning I.model E.errors I.lack count };
+    ghost grammar = { λ count. sliced I.model (take_meaning I.model E.errors I.lack count) };
 
     #[inline(always)]
     fn process<OM: OutputMode>(&mut self, input: I) -> PResult<I, I, E> {
@@ -77,9 +75,7 @@ impl<T: Copy, I: Input + Compare<T>, E: ParseError<I>> Parser<I> for Tag<T, I, E
 
     ghost Tree = { Slice I.model };
 
-    ghost IsOutput = { λ _. IsModelledBy I.model };
-
-    ghost meaning = { λ tag. tag_meaning I.model E.errors I.tag_size I.compares tag };
+    ghost grammar = { λ tag. sliced I.model (tag_meaning I.model E.errors I.tag_size I.compares tag) };
 
     #[inline(always)]
     fn process<OM: OutputMode>(&mut self, input: I) -> PResult<I, I, E> {

@@ -1,5 +1,5 @@
 //! Tags without the case of ASCII letters.
-ghost use Rattle.nom_internal.specs.Prelude.{Slice, IsModelledBy, slice_pinned};
+ghost use Rattle.nom_internal.specs.Prelude.{Slice, slice_pinned, sliced};
 ghost use Rattle.nom_bytes.specs.Tags.{tag_meaning};
 ghost use Rattle.nom_bytes.specs.laws.TagLaws.{tag_lawful, tag_steady};
 
@@ -32,9 +32,7 @@ impl<T: Copy, I: Input + Compare<T>, E: ParseError<I>> Parser<I> for TagNoCase<T
 
     ghost Tree = { Slice I.model };
 
-    ghost IsOutput = { λ _. IsModelledBy I.model };
-
-    ghost meaning = { λ tag. tag_meaning I.model E.errors I.tag_size I.compares_no_case tag };
+    ghost grammar = { λ tag. sliced I.model (tag_meaning I.model E.errors I.tag_size I.compares_no_case tag) };
 
     #[inline(always)]
     fn process<OM: OutputMode>(&mut self, input: I) -> PResult<I, I, E> {

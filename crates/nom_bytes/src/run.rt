@@ -1,6 +1,6 @@
 //! The parsers of runs that may be empty.
 ghost use Rattle.std.specs.Prelude.{◌≡◌, None};
-ghost use Rattle.nom_internal.specs.Prelude.{Slice, IsModelledBy, slice_pinned};
+ghost use Rattle.nom_internal.specs.Prelude.{Slice, slice_pinned, sliced};
 ghost use Rattle.nom_bytes.specs.ParsedRuns.{run_meaning};
 ghost use Rattle.nom_bytes.specs.laws.RunLaws.{run_lawful, run_steady};
 
@@ -30,9 +30,7 @@ impl<I: Input, P: Predicate<I::Item>, E: ParseError<I>> Parser<I> for SplitPosit
 
     ghost Tree = { Slice I.model };
 
-    ghost IsOutput = { λ _. IsModelledBy I.model };
-
-    ghost meaning = { λ s. run_meaning I.model (P.answers s) (P.IsSound s) };
+    ghost grammar = { λ s. sliced I.model (run_meaning I.model (P.answers s) (P.IsSound s)) };
 
     #[inline(always)]
     fn process<OM: OutputMode>(&mut self, input: I) -> PResult<I, I, E> {

@@ -1,6 +1,6 @@
 //! The parsers of runs of one item at least.
 ghost use Rattle.std.specs.Prelude.{◌≡◌, None, true, false, MatchOption};
-ghost use Rattle.nom_internal.specs.Prelude.{ErrorKind, Refuses, Slice, IsModelledBy, slice_pinned};
+ghost use Rattle.nom_internal.specs.Prelude.{ErrorKind, Refuses, Slice, slice_pinned, sliced};
 ghost use Rattle.nom_traits.specs.Splits.{FrontBuilt, IsRunLength, IsRunOpen, Splits};
 ghost use Rattle.nom_bytes.specs.ParsedRuns.{run1_meaning};
 ghost use Rattle.nom_bytes.specs.laws.RunLaws.{run_lawful, run_steady};
@@ -71,9 +71,7 @@ impl<I: Input, P: Predicate<I::Item>, E: ParseError<I>> Parser<I> for SplitPosit
 
     ghost Tree = { Slice I.model };
 
-    ghost IsOutput = { λ _. IsModelledBy I.model };
-
-    ghost meaning = { λ s. run1_meaning I.model (P.answers s.0) (P.IsSound s.0) E.errors s.1 };
+    ghost grammar = { λ s. sliced I.model (run1_meaning I.model (P.answers s.0) (P.IsSound s.0) E.errors s.1) };
 
     #[inline(always)]
     fn process<OM: OutputMode>(&mut self, input: I) -> PResult<I, I, E> {

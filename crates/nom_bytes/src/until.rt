@@ -1,6 +1,6 @@
 //! Items up to a needle.
 ghost use Rattle.std.specs.Prelude.{true, false};
-ghost use Rattle.nom_internal.specs.Prelude.{Slice, IsModelledBy, slice_pinned};
+ghost use Rattle.nom_internal.specs.Prelude.{Slice, slice_pinned, sliced};
 ghost use Rattle.nom_bytes.specs.Untils.{until_meaning};
 ghost use Rattle.nom_bytes.specs.laws.UntilLaws.{until_lawful, until_steady};
 
@@ -33,9 +33,7 @@ impl<T: Copy, I: Input + FindSubstring<T>, E: ParseError<I>> Parser<I> for TakeU
 
     ghost Tree = { Slice I.model };
 
-    ghost IsOutput = { λ _. IsModelledBy I.model };
-
-    ghost meaning = { λ needle. until_meaning I.model E.errors I.finds false needle };
+    ghost grammar = { λ needle. sliced I.model (until_meaning I.model E.errors I.finds false needle) };
 
     #[inline(always)]
     fn process<OM: OutputMode>(&mut self, input: I) -> PResult<I, I, E> {
@@ -78,9 +76,7 @@ impl<T: Copy, I: Input + FindSubstring<T>, E: ParseError<I>> Parser<I> for TakeU
 
     ghost Tree = { Slice I.model };
 
-    ghost IsOutput = { λ _. IsModelledBy I.model };
-
-    ghost meaning = { λ needle. until_meaning I.model E.errors I.finds true needle };
+    ghost grammar = { λ needle. sliced I.model (until_meaning I.model E.errors I.finds true needle) };
 
     #[inline(always)]
     fn process<OM: OutputMode>(&mut self, input: I) -> PResult<I, I, E> {

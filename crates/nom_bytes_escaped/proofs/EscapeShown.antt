@@ -3,7 +3,8 @@ use Rattle.std.proofs.Common.{◌≡◌, ℕ, ◌<◌, Bool, true, Ok, Err, Opti
 use Rattle.std.proofs.Common.{suc, arith, inl, inr}
 use Rattle.std.specs.Prelude.{IsSome}
 use Rattle.nom_internal.specs.Prelude.{Needed, OutOfMemory, Built, Modes, with_outputs, PResult, Refuses, Model, InputLaws, IsSuffixOf, input_len, Outcome}
-use Rattle.nom_internal.specs.Prelude.{Accept, Refuse, Stop, Fails, Needs, Shows, ShowsAnswer, RanOut, Shown, Meaning, ShowsMeaning, always}
+use Rattle.nom_internal.specs.Prelude.{Grammar}
+use Rattle.nom_internal.specs.Prelude.{Accept, Refuse, Stop, Fails, Needs, ShowsOutcome, ShowsAnswer, RanOut, Shown, Meaning, ShowsMeaning, always}
 use Rattle.nom_error.specs.declared.answer.Err as Answer
 use Rattle.nom_internal.proofs.Consumed.{rest_length}
 use Rattle.nom_internal.proofs.Shown.{Accepts, built_error}
@@ -116,7 +117,7 @@ module _ {I A V O E : Type 0} (w : Model I A) (l : InputLaws w) (Gives : I → E
   -- all else is passed on
   module _ {X : Type 0} (IsX : NextPiece V → X → Type 0) where
     passed : (f : Answer.Err E (Option E) Needed) (o : Outcome (NextPiece V)) → m.answers mode.streaming j o →
-        Shows w IsX (with_outputs true mode) j (m.blames mode.streaming j) o (Err f) → Goal (Err f)
+        ShowsOutcome w IsX (with_outputs true mode) j (m.blames mode.streaming j) o (Err f) → Goal (Err f)
     passed f (Accept n v) a h = absurd (cc (h.4))
     passed f Refuse a h = subst (λ y. Goal (Err y)) (cc (h.2)) (refused (escape_rule Gives Grows at) all_pieces (always m) c (Some Refuse) (tt, a) refl h.0 h.1)
     passed f (Stop (Fails cause)) a h = subst (λ y. Goal (Err y)) (cc (h.2))
@@ -202,16 +203,19 @@ module _ {I A U W O X : Type 0} (w : Model I A) (outputs : Bool) (IsNormal : U �
   next_piece_there j b a = subst (λ z. IsSome z) (sym (a.built_is).1) refl
 
 -- the same at equal states of the parts, an equal control character and an equal size that lacks
-pub same_next_piece : {S T I A U W O X E : Type 0} (w : Model I A) (IsNormal : S → U → O → Type 0) (IsEscapable : T → W → X → Type 0) (mode : Modes)
-    (IsControl : ℕ → A → Type 0) (m : S → Meaning I U E) (g : T → Meaning I W E) (i : I)
-    (r : PResult I (NextPiece (Piece (Option O) (Option X))) E) (a b : S) (x y : ℕ) (c d : T) (e f : Option ℕ) →
-    a ≡ b → x ≡ y → c ≡ d → e ≡ f → ShowsNextPiece w (IsNormal a) (IsEscapable c) mode (IsControl x) e (m a) (g c) i r →
-    ShowsNextPiece w (IsNormal b) (IsEscapable d) mode (IsControl y) f (m b) (g d) i r
-same_next_piece w IsNormal IsEscapable mode IsControl m g i r a b x y c d e f p q t u h =
-    let first = subst (λ z. ShowsNextPiece w (IsNormal z) (IsEscapable c) mode (IsControl x) e (m z) (g c) i r) p h in
-    let second = subst (λ z. ShowsNextPiece w (IsNormal b) (IsEscapable c) mode (IsControl z) e (m b) (g c) i r) q first in
-    let third = subst (λ z. ShowsNextPiece w (IsNormal b) (IsEscapable z) mode (IsControl y) e (m b) (g z) i r) t second in
-    subst (λ z. ShowsNextPiece w (IsNormal b) (IsEscapable d) mode (IsControl y) z (m b) (g d) i r) u third
+pub same_next_piece : {S T I A U W O X E : Type 0} (w : Model I A) (normal : S → Grammar I U O E) (escapable : T → Grammar I W X E) (mode : Modes)
+    (IsControl : ℕ → A → Type 0) (i : I) (r : PResult I (NextPiece (Piece (Option O) (Option X))) E) (a b : S) (x y : ℕ) (c d : T) (e f : Option ℕ) →
+    a ≡ b → x ≡ y → c ≡ d → e ≡ f → ShowsNextPiece w (normal a).IsOutput (escapable c).IsOutput mode (IsControl x) e (normal a).meaning
+    (escapable c).meaning i r →
+    ShowsNextPiece w (normal b).IsOutput (escapable d).IsOutput mode (IsControl y) f (normal b).meaning (escapable d).meaning i r
+same_next_piece w normal escapable mode IsControl i r a b x y c d e f p q t u h =
+    let first = subst (λ z. ShowsNextPiece w (normal z).IsOutput (escapable c).IsOutput mode (IsControl x) e (normal z).meaning (escapable c).meaning i r)
+    p h in
+    let second = subst (λ z. ShowsNextPiece w (normal b).IsOutput (escapable c).IsOutput mode (IsControl z) e (normal b).meaning (escapable c).meaning i r)
+    q first in
+    let third = subst (λ z. ShowsNextPiece w (normal b).IsOutput (escapable z).IsOutput mode (IsControl y) e (normal b).meaning (escapable z).meaning i r)
+    t second in
+    subst (λ z. ShowsNextPiece w (normal b).IsOutput (escapable d).IsOutput mode (IsControl y) z (normal b).meaning (escapable d).meaning i r) u third
 
 -- of the pieces nothing is asked
 abbrev pub AnyPieces : {V : Type 0} → List V → Type 0

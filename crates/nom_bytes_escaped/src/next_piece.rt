@@ -94,11 +94,11 @@ pub(crate) fn piece_at<OM: OutputMode, I: Input, F: Parser<I>, G: Parser<I, Erro
 ) -> PResult<I, NextPiece<Piece<Option<F::Output>, Option<G::Output>>>, F::Error>
 where
     I::Item: AsChar,
-    requires normal { (F.meaning (F.state normal.old)).IsSound }
-    requires escapable { (G.meaning (G.state escapable.old)).IsSound }
-    ensures shown { ShowsNextPiece I.model (F.IsOutput (F.state normal.old)) (G.IsOutput (G.state escapable.old))
+    requires normal { (F.grammar (F.state normal.old)).meaning.IsSound }
+    requires escapable { (G.grammar (G.state escapable.old)).meaning.IsSound }
+    ensures shown { ShowsNextPiece I.model (F.grammar (F.state normal.old)).IsOutput (G.grammar (G.state escapable.old)).IsOutput
         (modes OM.Output.BUILDS OM.Error.BUILDS OM.Incomplete.STREAMING) (λ x. I.Item.code x ≡ control_char) (size_of lack)
-        (F.meaning (F.state normal.old)) (G.meaning (G.state escapable.old)) input result }
+        (F.grammar (F.state normal.old)).meaning (G.grammar (G.state escapable.old)).meaning input result }
     ensures normal_kept { F.state normal.new ≡ F.state normal.old }
     ensures escapable_kept { G.state escapable.new ≡ G.state escapable.old }
 {

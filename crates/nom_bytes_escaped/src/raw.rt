@@ -1,6 +1,6 @@
 //! Texts with escapes, as they stand.
 ghost use Rattle.std.specs.Prelude.{◌≡◌, ℕ};
-ghost use Rattle.nom_internal.specs.Prelude.{Slice, IsModelledBy};
+ghost use Rattle.nom_internal.specs.Prelude.{Slice, sliced};
 ghost use Rattle.nom_bytes_escaped.specs.Escapes.{escaped_meaning};
 
 use crate::next_piece::{NextPiece, piece_at};
@@ -39,9 +39,7 @@ where
 
     ghost Tree = { Slice I.model };
 
-    ghost IsOutput = { λ _. IsModelledBy I.model };
-
-    ghost meaning = { λ s. escaped_meaning I.model F.Error.errors (λ x. I.Item.code x ≡ s.1) (F.meaning s.0) (G.meaning s.2) };
+    ghost grammar = { λ s. sliced I.model (escaped_meaning I.model F.Error.errors (λ x. I.Item.code x ≡ s.1) (F.grammar s.0).meaning (G.grammar s.2).meaning) };
 
     #[inline]
     fn process<OM: OutputMode>(&mut self, input: I) -> PResult<I, I, F::Error> {

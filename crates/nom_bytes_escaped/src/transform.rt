@@ -97,9 +97,10 @@ where
 
     ghost Tree = { List (Piece F.Tree G.Tree) };
 
-    ghost IsOutput = { λ s vs text. AddAll (F.IsOutput s.0) (G.IsOutput s.2) F.Output.added G.Output.added vs (X.parts text) };
-
-    ghost meaning = { λ s. escaped_transform_meaning I.model F.Error.errors (λ x. C.code x ≡ s.1) (F.meaning s.0) (G.meaning s.2) };
+    ghost grammar = { λ s. record {
+      meaning = escaped_transform_meaning I.model F.Error.errors (λ x. C.code x ≡ s.1) (F.grammar s.0).meaning (G.grammar s.2).meaning;
+      IsOutput = λ vs text. AddAll (F.grammar s.0).IsOutput (G.grammar s.2).IsOutput F.Output.added G.Output.added vs (X.parts text);
+    } };
 
     #[inline]
     fn process<OM: OutputMode>(&mut self, input: I) -> PResult<I, X, F::Error> {

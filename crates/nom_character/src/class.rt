@@ -1,6 +1,6 @@
 //! Runs of the items of a class.
 ghost use Rattle.std.specs.Prelude.{Option, Some, None, true, false, MatchOption};
-ghost use Rattle.nom_internal.specs.Prelude.{modes, Refuses, ErrorKind, IsInside, IsOutside, Slice, IsModelledBy, ShowsMeaning, slice_pinned};
+ghost use Rattle.nom_internal.specs.Prelude.{modes, Refuses, ErrorKind, IsInside, IsOutside, Slice, IsModelledBy, ShowsMeaning, slice_pinned, sliced};
 ghost use Rattle.nom_error.specs.declared.kind.ErrorKind.TheVariants as Kind;
 ghost use Rattle.nom_traits.specs.declared.character.AsciiClass.{AsciiClass};
 ghost use Rattle.nom_traits.specs.declared.character.AsciiClass.TheVariants as Class;
@@ -110,9 +110,7 @@ where
 
     ghost Tree = { Slice I.model };
 
-    ghost IsOutput = { λ _. IsModelledBy I.model };
-
-    ghost meaning = { λ s. class_meaning I.model I.Item.code E.errors s.0 s.1 };
+    ghost grammar = { λ s. sliced I.model (class_meaning I.model I.Item.code E.errors s.0 s.1) };
 
     #[inline(always)]
     fn process<OM: OutputMode>(&mut self, input: I) -> PResult<I, I, E> {
@@ -153,9 +151,7 @@ where
 
     ghost Tree = { Slice I.model };
 
-    ghost IsOutput = { λ _. IsModelledBy I.model };
-
-    ghost meaning = { λ _. class_meaning I.model I.Item.code E.errors Class.Digit (Some Kind.Digit) };
+    ghost grammar = { λ _. sliced I.model (class_meaning I.model I.Item.code E.errors Class.Digit (Some Kind.Digit)) };
 
     #[inline(always)]
     fn process<OM: OutputMode>(&mut self, input: I) -> PResult<I, I, E> {
@@ -196,9 +192,7 @@ where
 
     ghost Tree = { Slice I.model };
 
-    ghost IsOutput = { λ _. IsModelledBy I.model };
-
-    ghost meaning = { λ _. class_meaning I.model I.Item.code E.errors Class.MultiSpace None };
+    ghost grammar = { λ _. sliced I.model (class_meaning I.model I.Item.code E.errors Class.MultiSpace None) };
 
     #[inline(always)]
     fn process<OM: OutputMode>(&mut self, input: I) -> PResult<I, I, E> {

@@ -1,6 +1,6 @@
 //! Ends of lines, and the items before them.
 ghost use Rattle.std.specs.Prelude.{◌≡◌, Bool, List, true};
-ghost use Rattle.nom_internal.specs.Prelude.{modes, size_of, Slice, IsModelledBy, ShowsMeaning, slice_pinned};
+ghost use Rattle.nom_internal.specs.Prelude.{modes, size_of, Slice, IsModelledBy, ShowsMeaning, slice_pinned, sliced};
 ghost use Rattle.nom_error.specs.declared.kind.ErrorKind.TheVariants as Kind;
 ghost use Rattle.nom_character_first.specs.FirstItem.{IsFirstItem};
 ghost use Rattle.nom_character.specs.LineMatches.{Match, IsMatched, IsNewline, IsLineEnd, is_line_code, match_meaning, crlf_in, crlf_meaning};
@@ -158,9 +158,7 @@ where
 
     ghost Tree = { Slice I.model };
 
-    ghost IsOutput = { λ _. IsModelledBy I.model };
-
-    ghost meaning = { λ _. crlf_meaning I.model I.Item.code E.errors };
+    ghost grammar = { λ _. sliced I.model (crlf_meaning I.model I.Item.code E.errors) };
 
     #[inline(always)]
     fn process<OM: OutputMode>(&mut self, input: I) -> PResult<I, I, E> {
@@ -202,9 +200,7 @@ where
 
     ghost Tree = { Slice I.model };
 
-    ghost IsOutput = { λ _. IsModelledBy I.model };
-
-    ghost meaning = { λ _. line_ending_meaning I.model I.Item.code E.errors };
+    ghost grammar = { λ _. sliced I.model (line_ending_meaning I.model I.Item.code E.errors) };
 
     #[inline(always)]
     fn process<OM: OutputMode>(&mut self, input: I) -> PResult<I, I, E> {
@@ -246,9 +242,7 @@ where
 
     ghost Tree = { Slice I.model };
 
-    ghost IsOutput = { λ _. IsModelledBy I.model };
-
-    ghost meaning = { λ _. line_meaning I.model I.Item.code E.errors };
+    ghost grammar = { λ _. sliced I.model (line_meaning I.model I.Item.code E.errors) };
 
     #[inline(always)]
     fn process<OM: OutputMode>(&mut self, input: I) -> PResult<I, I, E> {

@@ -1,7 +1,7 @@
 //! The parsers of one character.
 ghost use Rattle.std.specs.Prelude.{◌≡◌, ℕ, true, ◌==◌, Some, None};
 ghost use Rattle.std.specs.Char.{len_utf8};
-ghost use Rattle.nom_internal.specs.Prelude.{ErrorKind, value_pinned};
+ghost use Rattle.nom_internal.specs.Prelude.{ErrorKind, value_pinned, valued};
 ghost use Rattle.nom_error.specs.declared.kind.ErrorKind.TheVariants as Kind;
 ghost use Rattle.nom_character_first.specs.declared.first.Blame.TheVariants.{OfKind, OfChar};
 ghost use Rattle.nom_character_first.specs.FirstItem.{char_meaning, satisfy_meaning, anychar_meaning};
@@ -40,9 +40,7 @@ where
 
     ghost Tree = { ℕ };
 
-    ghost IsOutput = { λ _ t c. c ≡ t };
-
-    ghost meaning = { λ wanted. char_meaning I.model I.Item.code E.errors wanted };
+    ghost grammar = { λ wanted. valued (char_meaning I.model I.Item.code E.errors wanted) };
 
     #[inline(always)]
     fn process<OM: OutputMode>(&mut self, input: I) -> PResult<I, char, E> {
@@ -91,9 +89,7 @@ where
 
     ghost Tree = { ℕ };
 
-    ghost IsOutput = { λ _ t c. c ≡ t };
-
-    ghost meaning = { λ s. satisfy_meaning I.model I.Item.code (P.answers s.0) (P.IsSound s.0) E.errors s.1 };
+    ghost grammar = { λ s. valued (satisfy_meaning I.model I.Item.code (P.answers s.0) (P.IsSound s.0) E.errors s.1) };
 
     #[inline(always)]
     fn process<OM: OutputMode>(&mut self, input: I) -> PResult<I, char, E> {
@@ -151,9 +147,7 @@ where
 
     ghost Tree = { ℕ };
 
-    ghost IsOutput = { λ _ t c. c ≡ t };
-
-    ghost meaning = { λ _. anychar_meaning I.model I.Item.code E.errors };
+    ghost grammar = { λ _. valued (anychar_meaning I.model I.Item.code E.errors) };
 
     #[inline(always)]
     fn process<OM: OutputMode>(&mut self, input: I) -> PResult<I, char, E> {

@@ -200,9 +200,10 @@ where
 
     ghost Tree = { ℤ };
 
-    ghost IsOutput = { λ _ z x. T.value x ≡ z };
-
-    ghost meaning = { λ signed. integer_meaning I.model I.Item.code signed T.fits E.errors };
+    ghost grammar = { λ signed. record {
+      meaning = integer_meaning I.model I.Item.code signed T.fits E.errors;
+      IsOutput = λ z x. T.value x ≡ z;
+    } };
 
     #[inline(always)]
     fn process<OM: OutputMode>(&mut self, input: I) -> PResult<I, T, E> {

@@ -1,7 +1,8 @@
 -- What is shown of a part whose errors are made into others.
 use Rattle.std.proofs.Common.{◌≡◌, Bool, true, false, Ok, Err, Option, Some, None, refl, sym, subst, ap, inl, inr}
 use Rattle.nom_internal.specs.Prelude.{PResult, Needed, Incomplete, Error, Failure, OutOfMemory, Built, Modes, Model, Outcome, Accept, Refuse, Stop, Fails}
-use Rattle.nom_internal.specs.Prelude.{Needs, IsFault, Shows, RanOut, Shown, Meaning, ShowsMeaning, RunsOutInPart, RunsOutBeside, BuildsError, renamed_meaning}
+use Rattle.nom_internal.specs.Prelude.{Needs, IsFault, ShowsOutcome, RanOut, Shown, Meaning, ShowsMeaning, RunsOutInPart, RunsOutBeside, BuildsError}
+use Rattle.nom_internal.specs.Prelude.{renamed_meaning}
 use Rattle.nom_error.specs.declared.answer.Err as Answer
 use Rattle.nom_internal.proofs.Cased.{here}
 use Rattle.nom_internal.proofs.Shown.{accepts}
@@ -49,7 +50,7 @@ module _ {I A P O E : Type 0} (w : Model I A) (IsOutput : P → O → Type 0) (N
   failure_of o a fault built shown x h r (inr g) = shown g.0 r (blamed o a fault x h g.0 g.1) g.2
 
   renamed_of : (f r : Answer.Err E (Option E) Needed) → IsRenamed (Named i) Grows f r → (o : Outcome P) → m.answers mode.streaming i o →
-      Shows w IsOutput mode i (m.blames mode.streaming i) o (Err f) → RenamedShown (Err r)
+      ShowsOutcome w IsOutput mode i (m.blames mode.streaming i) o (Err f) → RenamedShown (Err r)
   renamed_of f r k (Accept n v) a h = absurd (cc (h.4))
   renamed_of f r k Refuse a h = let is : f ≡ Error h.0 = cc (h.2) in refusal_of mode.errors refl a h.0 h.1 r (subst (λ z. IsRenamed (Named i) Grows z r) is k)
   renamed_of f r k (Stop (Fails cause)) a h = let is : f ≡ Failure h.0 =

@@ -1,7 +1,7 @@
 -- What is shown of what becomes of a part's outcome.
 use Rattle.std.proofs.Common.{◌≡◌, ℕ, Bool, true, false, Ok, Err, Option, Some, None, refl, sym, ◌∙◌, ap, subst, inl, inr}
 use Rattle.nom_internal.specs.Prelude.{Needed, Incomplete, Error, Failure, PResult, Refuses, with_outputs, Built, Modes, modes, Model, InputLaws, IsSuffixOf}
-use Rattle.nom_internal.specs.Prelude.{Slice, IsFirst, IsModelledBy, recognized_meaning, Outcome, Accept, Refuse, Stop, Fails, Needs, Outright, Shows}
+use Rattle.nom_internal.specs.Prelude.{Slice, IsFirst, IsModelledBy, recognized_meaning, Outcome, Accept, Refuse, Stop, Fails, Needs, Outright, ShowsOutcome}
 use Rattle.nom_internal.specs.Prelude.{RanOut, Shown, Meaning, ShowsMeaning, case_meaning, RunsOutBeside, Cause, Reason}
 use Rattle.nom_error.specs.declared.answer.Err as Answer
 use Rattle.nom_internal.proofs.Consumed.{rest_self, slice_before, recognized_err}
@@ -33,7 +33,7 @@ pub record Refusal {E : Type 0} (Answered : Type 0) (IsError : E → Type 0) (er
   pub error_is : Built errors IsError b
 
 module _ {I A P O E : Type 0} (w : Model I A) (IsOutput : P → O → Type 0) (m : Meaning I P E) (mode : Modes) (i : I) (b : Option E) where
-  refusal_of : (o : Outcome P) → m.answers mode.streaming i o → Shows w IsOutput mode i (m.blames mode.streaming i) o (Err (Error b)) →
+  refusal_of : (o : Outcome P) → m.answers mode.streaming i o → ShowsOutcome w IsOutput mode i (m.blames mode.streaming i) o (Err (Error b)) →
       Refusal (m.answers mode.streaming i Refuse) (m.blames mode.streaming i) mode.errors b
   refusal_of (Accept n v) a h = cc (h.4)
   refusal_of Refuse a h = let same : h.0 ≡ b =
@@ -178,7 +178,7 @@ module _ {I A P O E : Type 0} (w : Model I A) (IsOutput : P → O → Type 0) (O
       Shown Refuse (here (Stop (Needs d)) a refl) (h.0, built_error mode.errors _ _ h.0 (λ e g. here (Stop (Needs d)) a (inl (tt, g))) h.1, ap Err h.2)
 
   wanted_of : (x : Needed) (o : Outcome P) → m.answers false i o →
-      Shows w IsOutput (modes mode.outputs mode.errors false) i (m.blames false i) o (Err (Incomplete x)) → (r : Answer.Err E (Option E) Needed) →
+      ShowsOutcome w IsOutput (modes mode.outputs mode.errors false) i (m.blames false i) o (Err (Incomplete x)) → (r : Answer.Err E (Option E) Needed) →
       Refuses (Own i) Grows mode.errors r → CompleteShown (Err r)
   wanted_of x (Accept n v) a h r g = absurd (cc (h.4))
   wanted_of x Refuse a h r g = absurd (cc (h.2))

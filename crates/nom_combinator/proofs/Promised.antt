@@ -1,6 +1,7 @@
 -- What is answered of what a part consumes.
 use Rattle.std.proofs.Common.{◌≡◌, ℕ, ◌++◌, Bool, Ok, refl, sym, ◌∙◌, ap, subst}
-use Rattle.nom_internal.specs.Prelude.{Model, InputLaws, IsSuffixOf, same_cut, Slice, IsModelledBy, IsFirst, Outcome, Accept, Refuse, Stop, Parses, ParseRanOut}
+use Rattle.nom_internal.specs.Prelude.{Model, InputLaws, IsSuffixOf, same_cut, Slice, IsModelledBy, IsFirst, Outcome, Accept, Refuse, Stop, ParsesOutcome}
+use Rattle.nom_internal.specs.Prelude.{ParseRanOut}
 use Rattle.nom_internal.specs.Prelude.{Parsed, Meaning, ParsesMeaning, Passes, IsSliced, recognized_meaning, Fails, Needs}
 use Rattle.nom_combinator.specs.Verdicts.{WithSlice, consumed_meaning}
 use Rattle.nom_combinator.specs.Promises.{AreParts, GivesFront, GivesFrontAndOutput}
@@ -39,7 +40,7 @@ module _ {I A T O E : Type 0} (w : Model I A) (IsOutput : T → O → Type 0) (i
     pub rest : IsSuffixOf w i length j
     pub output : IsOutput tree o
 
-  accepted_by : (a : Outcome T) → Parses w IsOutput i IsError a (Ok (j, o)) → IsAccepted a
+  accepted_by : (a : Outcome T) → ParsesOutcome w IsOutput i IsError a (Ok (j, o)) → IsAccepted a
   accepted_by (Accept n t) s =
       let same : ◌≡◌ {A = I × O} (s.0, s.1) (j, o) = cc (s.4) in
       record { length = n; tree = t; accepts = refl; rest = subst (λ p. IsSuffixOf w i n p.0) same s.2; output = subst (λ p. IsOutput t p.1) same s.3 }

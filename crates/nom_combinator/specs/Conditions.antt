@@ -1,6 +1,6 @@
 -- A part that runs on a condition, or an acceptance of nothing in its place.
 use Rattle.std.specs.Prelude.{◌≡◌, Option, Some, None}
-use Rattle.nom_internal.specs.Prelude.{Meaning, labelled_meaning, success_meaning}
+use Rattle.nom_internal.specs.Prelude.{Meaning, labelled_meaning, success_meaning, Grammar}
 use Rattle.nom_combinator.specs.Verdicts.{OptOutput}
 
 -- the state of a part, where there is one
@@ -22,3 +22,7 @@ CondOutput IsOutput None t o = o ≡ None
 abbrev pub CondPins : {F : Type 0} → (F → Type 0) → Option F → Type 0
 CondPins Pins (Some f) = Pins f
 CondPins Pins None = Unit {0}
+
+-- a grammar on a condition
+abbrev pub cond_of : {I S V O E : Type 0} → (S → Grammar I V O E) → Option S → Grammar I (Option V) (Option O) E
+cond_of g s = record { meaning = cond_meaning (λ u. (g u).meaning) s; IsOutput = CondOutput (λ u. (g u).IsOutput) s }

@@ -1,6 +1,6 @@
 //! A part that runs on a condition.
 ghost use Rattle.std.specs.Prelude.{Option};
-ghost use Rattle.nom_combinator.specs.Conditions.{state_of, cond_meaning, CondOutput, CondPins};
+ghost use Rattle.nom_combinator.specs.Conditions.{state_of, CondPins, cond_of};
 ghost use Rattle.nom_combinator.specs.laws.ConditionLaws.{cond_lawful, cond_steady, cond_pinned};
 
 use nom_error::answer::PResult;
@@ -26,9 +26,7 @@ impl<I: Items, F: Parser<I> + Drop> Parser<I> for Cond<F> {
 
     ghost Tree = { Option F.Tree };
 
-    ghost IsOutput = { CondOutput F.IsOutput };
-
-    ghost meaning = { cond_meaning F.meaning };
+    ghost grammar = { cond_of F.grammar };
 
     #[inline(always)]
     fn process<OM: OutputMode>(&mut self, input: I) -> PResult<I, Self::Output, Self::Error> {
@@ -44,13 +42,13 @@ impl<I: Items, F: Parser<I> + Drop> Parser<I> for Cond<F> {
         }
     }
 
-    ghost lawful = { cond_lawful F.lawful };
+    ghost lawful = { cond_lawful F.grammar F.lawful };
 }
 
 impl<I: Items, F: StreamParser<I> + Drop> StreamParser<I> for Cond<F> {
     ghost Pins = { λ p. CondPins F.Pins p.parser };
 
-    ghost pinned = { λ p. cond_pinned F.state F.meaning F.IsOutput F.Pins F.pinned p.parser };
+    ghost pinned = { λ p. cond_pinned F.state F.grammar F.Pins F.pinned p.parser };
 
-    ghost steady = { cond_steady F.steady };
+    ghost steady = { cond_steady F.grammar F.steady };
 }

@@ -1,8 +1,7 @@
 //! A part whose errors are told with a name.
 ghost use Rattle.std.specs.Prelude.{ℕ, List};
-ghost use Rattle.nom_internal.specs.Prelude.{renamed_meaning};
 ghost use Rattle.nom_internal.specs.laws.MappedLaws.{renamed_lawful, renamed_steady};
-ghost use Rattle.nom_combinator.specs.Contexts.{IsRenamed};
+ghost use Rattle.nom_combinator.specs.Contexts.{IsRenamed, context_of};
 
 use nom_error::answer::{Err, PResult};
 use nom_error::mode::OutputMode;
@@ -55,9 +54,7 @@ where
 
     ghost Tree = { F.Tree };
 
-    ghost IsOutput = { λ s. F.IsOutput s.1 };
-
-    ghost meaning = { λ s. renamed_meaning (λ i. F.Error.contexts.named i s.0) F.Error.contexts.grows (F.meaning s.1) };
+    ghost grammar = { λ s. context_of F.Error.contexts s.0 (F.grammar s.1) };
 
     #[inline(always)]
     fn process<OM: OutputMode>(&mut self, input: I) -> PResult<I, Self::Output, Self::Error> {

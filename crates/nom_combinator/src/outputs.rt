@@ -1,12 +1,10 @@
 //! Parsers whose outputs are tested, or replaced.
-ghost use Rattle.std.specs.Prelude.{◌≡◌, true};
+ghost use Rattle.std.specs.Prelude.{◌≡◌};
 ghost use Rattle.std.specs.Borrow.{Bor};
 ghost use Rattle.std.specs.Fn.{FnReturnsAt};
-ghost use Rattle.nom_error.specs.declared.kind.ErrorKind.TheVariants as Kind;
 ghost use Rattle.nom_internal.specs.Cloned.{ClonesEqual, clones_pinned};
-ghost use Rattle.nom_internal.specs.Prelude.{judged_meaning};
 ghost use Rattle.nom_internal.specs.laws.JudgedLaws.{judged_lawful, judged_steady};
-ghost use Rattle.nom_combinator.specs.Outputs.{value_meaning};
+ghost use Rattle.nom_combinator.specs.Outputs.{value_by, verify_by};
 ghost use Rattle.nom_combinator.specs.laws.OutputLaws.{tested_pinned, value_lawful, value_steady};
 
 use nom_error::answer::{Err, PResult};
@@ -46,10 +44,7 @@ impl<I: Items, F: Parser<I> + Drop, G: Fn(&F::Output) -> bool> Parser<I> for Ver
 
     ghost Tree = { F.Tree };
 
-    ghost IsOutput = { λ s t o. F.IsOutput s.0 t o × FnReturnsAt G.Fn s.1 o true };
-
-    ghost meaning = { λ s. judged_meaning (F.IsOutput s.0) (λ o. (p : Bor F.Output) → p.now ≡ o → G.pre s.1 p) (FnReturnsAt G.Fn s.1) (λ b. b)
-        (λ i _. F.Error.errors.of_kind i Kind.Verify) F.Error.errors.grows (F.meaning s.0) };
+    ghost grammar = { λ s. verify_by F.Error.errors (λ o. (p : Bor F.Output) → p.now ≡ o → G.pre s.1 p) (FnReturnsAt G.Fn s.1) (F.grammar s.0) };
 
     #[inline(always)]
     fn process<OM: OutputMode>(&mut self, input: I) -> PResult<I, F::Output, F::Error> {
@@ -100,9 +95,7 @@ impl<I: Items, O: Clone, F: Parser<I> + Drop> Parser<I> for Value<O, F> {
     ghost Tree = { O };
 
     // a clone of the value
-    ghost IsOutput = { λ s _. O.is_clone s.0 };
-
-    ghost meaning = { λ s. value_meaning s.0 (O.is_infallible s.0) (F.meaning s.1) };
+    ghost grammar = { λ s. value_by s.0 (O.is_infallible s.0) (O.is_clone s.0) (F.grammar s.1) };
 
     #[inline(always)]
     fn process<OM: OutputMode>(&mut self, input: I) -> PResult<I, O, F::Error> {

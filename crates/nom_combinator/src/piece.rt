@@ -1,7 +1,7 @@
 //! The parsers that give what a part consumes.
-ghost use Rattle.nom_internal.specs.Prelude.{Slice, IsModelledBy, recognized_meaning, slice_pinned, pair_pinned};
+ghost use Rattle.nom_internal.specs.Prelude.{Slice, slice_pinned, pair_pinned};
 ghost use Rattle.nom_internal.specs.laws.RecognizedLaws.{recognized_lawful, recognized_steady};
-ghost use Rattle.nom_combinator.specs.Verdicts.{consumed_meaning};
+ghost use Rattle.nom_combinator.specs.Verdicts.{recognize_of, consumed_of};
 ghost use Rattle.nom_combinator.specs.laws.VerdictLaws.{consumed_lawful, consumed_steady};
 
 use nom_error::answer::PResult;
@@ -28,9 +28,7 @@ impl<I: Input, F: Parser<I> + Drop> Parser<I> for Recognize<F> {
 
     ghost Tree = { Slice I.model };
 
-    ghost IsOutput = { λ _. IsModelledBy I.model };
-
-    ghost meaning = { λ s. recognized_meaning I.model (F.meaning s) };
+    ghost grammar = { λ s. recognize_of I.model (F.grammar s) };
 
     #[inline(always)]
     fn process<OM: OutputMode>(&mut self, input: I) -> PResult<I, I, F::Error> {
@@ -69,9 +67,7 @@ impl<I: Input, F: Parser<I> + Drop> Parser<I> for Consumed<F> {
 
     ghost Tree = { Slice I.model × F.Tree };
 
-    ghost IsOutput = { λ s t o. IsModelledBy I.model t.0 o.0 × F.IsOutput s t.1 o.1 };
-
-    ghost meaning = { λ s. consumed_meaning I.model (F.meaning s) };
+    ghost grammar = { λ s. consumed_of I.model (F.grammar s) };
 
     #[inline(always)]
     fn process<OM: OutputMode>(&mut self, input: I) -> PResult<I, Self::Output, Self::Error> {

@@ -8,37 +8,37 @@ use nom_traits::input::{Input, Items};
 
 /// `cut` never answers an `Error`.
 pub fn cut_never_refuses<I: Items, F: Parser<I> + Drop>(_parser: &Cut<F>)
-    ensures { NeverRefuses I.model (⟦<Cut<F> as Parser<I>>⟧.meaning (F.state _parser.now.parser)) }
+    ensures { NeverRefuses I.model (⟦<Cut<F> as Parser<I>>⟧.grammar (F.state _parser.now.parser)).meaning }
 {}
 
 /// `opt` never answers an `Error`.
 pub fn opt_never_refuses<I: Items, F: Parser<I> + Drop>(_parser: &Opt<F>)
-    ensures { NeverRefuses I.model (⟦<Opt<F> as Parser<I>>⟧.meaning (F.state _parser.now.parser)) }
+    ensures { NeverRefuses I.model (⟦<Opt<F> as Parser<I>>⟧.grammar (F.state _parser.now.parser)).meaning }
 {}
 
 /// `complete` never answers `Incomplete`.
 pub fn complete_never_waits<I: Items, F: Parser<I> + Drop>(_parser: &MakeComplete<F>)
-    ensures { NeverWaits I.model (⟦<MakeComplete<F> as Parser<I>>⟧.meaning (F.state _parser.now.parser)) }
+    ensures { NeverWaits I.model (⟦<MakeComplete<F> as Parser<I>>⟧.grammar (F.state _parser.now.parser)).meaning }
 {}
 
 /// What `peek` accepts, it doesn't consume.
 pub fn peek_consumes_nothing<I: Items, F: Parser<I> + Drop>(_parser: &Peek<F>)
-    ensures { ConsumesNothing I.model (⟦<Peek<F> as Parser<I>>⟧.meaning (F.state _parser.now.parser)) }
+    ensures { ConsumesNothing I.model (⟦<Peek<F> as Parser<I>>⟧.grammar (F.state _parser.now.parser)).meaning }
 {}
 
 /// Where `not` accepts, it consumes nothing.
 pub fn not_consumes_nothing<I: Items, F: Parser<I> + Drop>(_parser: &Not<F>)
-    ensures { ConsumesNothing I.model (⟦<Not<F> as Parser<I>>⟧.meaning (F.state _parser.now.parser)) }
+    ensures { ConsumesNothing I.model (⟦<Not<F> as Parser<I>>⟧.grammar (F.state _parser.now.parser)).meaning }
 {}
 
 /// The output of `recognize`, followed by the rest, is the input.
 pub fn recognize_gives_front<I: Input, F: Parser<I> + Drop>(_parser: &Recognize<F>)
-    ensures { GivesFront I.model (⟦<Recognize<F> as Parser<I>>⟧.meaning (F.state _parser.now.parser)) }
+    ensures { GivesFront I.model (⟦<Recognize<F> as Parser<I>>⟧.grammar (F.state _parser.now.parser)).meaning }
 {}
 
 /// The slice that `consumed` gives, followed by the rest, is the input, and its other output is one that the part answers
 /// with the same rest.
 pub fn consumed_gives_front<I: Input, F: Parser<I> + Drop>(_parser: &Consumed<F>)
-    ensures { GivesFrontAndOutput I.model (F.IsOutput (F.state _parser.now.parser)) (F.meaning (F.state _parser.now.parser))
-        (⟦<Consumed<F> as Parser<I>>⟧.meaning (F.state _parser.now.parser)) }
+    ensures { GivesFrontAndOutput I.model (F.grammar (F.state _parser.now.parser)).IsOutput (F.grammar (F.state _parser.now.parser)).meaning
+        (⟦<Consumed<F> as Parser<I>>⟧.grammar (F.state _parser.now.parser)).meaning }
 {}

@@ -1,7 +1,7 @@
 //! The parsers that tell something of a part's outcome.
 ghost use Rattle.std.specs.Prelude.{◌≡◌, Option};
-ghost use Rattle.nom_error.specs.declared.kind.ErrorKind.TheVariants as Kind;
-ghost use Rattle.nom_combinator.specs.Verdicts.{complete_meaning, cut_meaning, OptOutput, opt_meaning, peek_meaning, not_meaning};
+ghost use Rattle.nom_combinator.specs.Verdicts.{cut_of, opt_of, peek_of};
+ghost use Rattle.nom_combinator.specs.Verdicts.{not_of, complete_of};
 ghost use Rattle.nom_combinator.specs.laws.VerdictLaws.{complete_lawful, cut_lawful, cut_steady, opt_pinned, opt_lawful, opt_steady, peek_lawful};
 ghost use Rattle.nom_combinator.specs.laws.VerdictLaws.{peek_steady, not_lawful, not_steady};
 
@@ -30,9 +30,7 @@ impl<I: Items, F: Parser<I> + Drop> Parser<I> for Cut<F> {
 
     ghost Tree = { F.Tree };
 
-    ghost IsOutput = { F.IsOutput };
-
-    ghost meaning = { λ s. cut_meaning (F.meaning s) };
+    ghost grammar = { λ s. cut_of (F.grammar s) };
 
     #[inline(always)]
     fn process<OM: OutputMode>(&mut self, input: I) -> PResult<I, Self::Output, Self::Error> {
@@ -77,9 +75,7 @@ impl<I: Items, F: Parser<I> + Drop> Parser<I> for Opt<F> {
 
     ghost Tree = { Option F.Tree };
 
-    ghost IsOutput = { λ s. OptOutput (F.IsOutput s) };
-
-    ghost meaning = { λ s. opt_meaning (F.meaning s) };
+    ghost grammar = { λ s. opt_of (F.grammar s) };
 
     #[inline(always)]
     fn process<OM: OutputMode>(&mut self, input: I) -> PResult<I, Self::Output, Self::Error> {
@@ -124,9 +120,7 @@ impl<I: Items, F: Parser<I> + Drop> Parser<I> for Peek<F> {
 
     ghost Tree = { F.Tree };
 
-    ghost IsOutput = { F.IsOutput };
-
-    ghost meaning = { λ s. peek_meaning (F.meaning s) };
+    ghost grammar = { λ s. peek_of (F.grammar s) };
 
     #[inline(always)]
     fn process<OM: OutputMode>(&mut self, input: I) -> PResult<I, Self::Output, Self::Error> {
@@ -163,9 +157,7 @@ impl<I: Items, F: Parser<I> + Drop> Parser<I> for Not<F> {
 
     ghost Tree = { Unit {0} };
 
-    ghost IsOutput = { λ _ t o. o ≡ t };
-
-    ghost meaning = { λ s. not_meaning (λ i. F.Error.errors.of_kind i Kind.Not) F.Error.errors.grows (F.meaning s) };
+    ghost grammar = { λ s. not_of F.Error.errors (F.grammar s) };
 
     #[inline(always)]
     fn process<OM: OutputMode>(&mut self, input: I) -> PResult<I, Self::Output, Self::Error> {
@@ -212,9 +204,7 @@ impl<I: Items, F: Parser<I> + Drop> Parser<I> for MakeComplete<F> {
 
     ghost Tree = { F.Tree };
 
-    ghost IsOutput = { F.IsOutput };
-
-    ghost meaning = { λ s. complete_meaning (λ i. F.Error.errors.of_kind i Kind.Complete) F.Error.errors.grows (F.meaning s) };
+    ghost grammar = { λ s. complete_of F.Error.errors (F.grammar s) };
 
     #[inline(always)]
     fn process<OM: OutputMode>(&mut self, input: I) -> PResult<I, Self::Output, Self::Error> {

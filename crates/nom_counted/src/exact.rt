@@ -23,10 +23,10 @@ pub fn items_exactly<OM: OutputMode, I: Items, F: Parser<I>, K: Accumulator<F::O
     before: Option<K>,
     count: usize,
 ) -> PResult<I, K, F::Error>
-    requires sound { (F.meaning (F.state parser.old)).IsSound }
+    requires sound { (F.grammar (F.state parser.old)).meaning.IsSound }
     requires built { Built OM.Output.BUILDS K.CanPush before }
-    ensures shown { ShowsMeaning I.model (Accumulated K.Pushes K.CanPush (F.IsOutput (F.state parser.old)) before)
-        (items_meaning I.model F.Error.errors (exact_limits count) K.Grows (F.meaning (F.state parser.old)))
+    ensures shown { ShowsMeaning I.model (Accumulated K.Pushes K.CanPush (F.grammar (F.state parser.old)).IsOutput before)
+        (items_meaning I.model F.Error.errors (exact_limits count) K.Grows (F.grammar (F.state parser.old)).meaning)
         (modes OM.Output.BUILDS OM.Error.BUILDS OM.Incomplete.STREAMING) input result }
     ensures kept { F.state parser.new ≡ F.state parser.old }
 {

@@ -1,6 +1,6 @@
 -- Parsers that look at no item, and those of all that is left.
 use Rattle.std.specs.Prelude.{◌≡◌, ℕ, true, false, []}
-use Rattle.nom_internal.specs.Prelude.{with_outputs, Errors, Model, input_len, Slice, Meaning, Leaf, leaf_meaning, sequence_meaning, success_meaning}
+use Rattle.nom_internal.specs.Prelude.{with_outputs, Errors, Model, input_len, Slice, Meaning, Leaf, leaf_meaning, sequence_meaning, success_meaning, Grammar}
 use Rattle.nom_error.specs.declared.kind.ErrorKind.TheVariants as Kind
 
 -- Nothing is consumed, and a value is given, of which a clone is made where outputs are built; that may take memory, where it
@@ -61,3 +61,7 @@ module _ {I A : Type 0} (w : Model I A) where
 
   abbrev pub rest_len_meaning : {E : Type 0} → Meaning I ℕ E
   rest_len_meaning = leaf_meaning (Unit {0}) (λ i e. ⊥) ⊥ (plain_leaf IsLength (λ i. ⊥))
+
+-- a grammar, and then the end
+abbrev pub all_consuming_of : {I A V O E : Type 0} → Model I A → Errors I E → Grammar I V O E → Grammar I V O E
+all_consuming_of w errs g = record { meaning = all_consuming_meaning w errs g.meaning; IsOutput = g.IsOutput }

@@ -3,7 +3,7 @@ ghost use Rattle.std.specs.Prelude.{false};
 ghost use Rattle.nom_internal.specs.Prelude.{with_outputs};
 ghost use Rattle.nom_internal.specs.laws.SequenceLaws.{sequence_lawful};
 ghost use Rattle.nom_ends.specs.laws.AllLaws.{eof_lawful};
-ghost use Rattle.nom_ends.specs.Ends.{all_consuming_meaning};
+ghost use Rattle.nom_ends.specs.Ends.{all_consuming_of};
 
 use crate::left::Eof;
 use nom_error::answer::PResult;
@@ -28,9 +28,7 @@ impl<I: Input, F: Parser<I> + Drop> Parser<I> for AllConsuming<F> {
 
     ghost Tree = { F.Tree };
 
-    ghost IsOutput = { F.IsOutput };
-
-    ghost meaning = { λ s. all_consuming_meaning I.model F.Error.errors (F.meaning s) };
+    ghost grammar = { λ s. all_consuming_of I.model F.Error.errors (F.grammar s) };
 
     #[inline(always)]
     fn process<OM: OutputMode>(&mut self, input: I) -> PResult<I, Self::Output, Self::Error> {

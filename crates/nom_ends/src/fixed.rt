@@ -1,7 +1,7 @@
 //! Parsers whose answer is fixed, whatever the input.
 ghost use Rattle.std.specs.Prelude.{◌≡◌};
 ghost use Rattle.nom_internal.specs.Cloned.{ClonesEqual, clones_pinned};
-ghost use Rattle.nom_internal.specs.Prelude.{value_pinned};
+ghost use Rattle.nom_internal.specs.Prelude.{value_pinned, valued};
 ghost use Rattle.nom_ends.specs.Ends.{clone_meaning, fail_meaning};
 ghost use Rattle.nom_ends.specs.laws.EndLaws.{clone_lawful, clone_steady, fail_lawful, fail_steady};
 
@@ -34,9 +34,10 @@ impl<I: Items, O: Clone, E: ParseError<I>> Parser<I> for Success<O, I, E> {
     ghost Tree = { O };
 
     // a clone of the value
-    ghost IsOutput = { λ value _. O.is_clone value };
-
-    ghost meaning = { λ value. clone_meaning value (O.is_infallible value) };
+    ghost grammar = { λ value. record {
+      meaning = clone_meaning value (O.is_infallible value);
+      IsOutput = λ _. O.is_clone value;
+    } };
 
     #[inline(always)]
     fn process<OM: OutputMode>(&mut self, input: I) -> PResult<I, O, E> {
@@ -75,9 +76,7 @@ impl<I: Items, O: Drop, E: ParseError<I>> Parser<I> for Fail<O, I, E> {
 
     ghost Tree = { O };
 
-    ghost IsOutput = { λ _ t o. o ≡ t };
-
-    ghost meaning = { λ _. fail_meaning E.errors };
+    ghost grammar = { λ _. valued (fail_meaning E.errors) };
 
     #[inline(always)]
     fn process<OM: OutputMode>(&mut self, input: I) -> PResult<I, O, E> {

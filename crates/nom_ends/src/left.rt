@@ -1,6 +1,6 @@
 //! Parsers of all that is left, alike in both modes.
 ghost use Rattle.std.specs.Prelude.{◌≡◌, ℕ};
-ghost use Rattle.nom_internal.specs.Prelude.{Slice, IsModelledBy};
+ghost use Rattle.nom_internal.specs.Prelude.{Slice, sliced, valued};
 ghost use Rattle.nom_ends.specs.Ends.{eof_meaning, rest_meaning, rest_len_meaning};
 ghost use Rattle.nom_ends.specs.laws.AllLaws.{eof_lawful, rest_lawful, rest_len_lawful};
 
@@ -38,9 +38,7 @@ impl<I: Input, E: ParseError<I>> Parser<I> for Eof<I, E> {
 
     ghost Tree = { Slice I.model };
 
-    ghost IsOutput = { λ _. IsModelledBy I.model };
-
-    ghost meaning = { λ _. eof_meaning I.model E.errors };
+    ghost grammar = { λ _. sliced I.model (eof_meaning I.model E.errors) };
 
     #[inline(always)]
     fn process<OM: OutputMode>(&mut self, input: I) -> PResult<I, I, E> {
@@ -80,9 +78,7 @@ impl<I: Input, E: ParseError<I>> Parser<I> for Rest<I, E> {
 
     ghost Tree = { Slice I.model };
 
-    ghost IsOutput = { λ _. IsModelledBy I.model };
-
-    ghost meaning = { λ _. rest_meaning I.model };
+    ghost grammar = { λ _. sliced I.model (rest_meaning I.model) };
 
     #[inline(always)]
     fn process<OM: OutputMode>(&mut self, input: I) -> PResult<I, I, E> {
@@ -121,9 +117,7 @@ impl<I: Input, E: ParseError<I>> Parser<I> for RestLen<I, E> {
 
     ghost Tree = { ℕ };
 
-    ghost IsOutput = { λ _ t n. n ≡ t };
-
-    ghost meaning = { λ _. rest_len_meaning I.model };
+    ghost grammar = { λ _. valued (rest_len_meaning I.model) };
 
     #[inline(always)]
     fn process<OM: OutputMode>(&mut self, input: I) -> PResult<I, usize, E> {

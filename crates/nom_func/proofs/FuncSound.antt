@@ -1,7 +1,8 @@
 -- Functions that answer as a meaning says are parsers.
 use Rattle.std.proofs.Common.{◌≡◌, ℕ, Bool, true, false, List, [], ◌++◌, Ok, Err, arith, refl, sym, ◌∙◌, subst, ap}
 use Rattle.nom_internal.specs.Prelude.{Incomplete, Error, Failure, OutOfMemory, IResult, size_of, modes, Model, InputLaws, IsSuffixOf, Related, items_len}
-use Rattle.nom_internal.specs.Prelude.{items_len-append, View, Outcome, Accept, Refuse, Stop, Fails, Needs, Outright, TooLarge, IsDecided, Parses, ParsesAnswer}
+use Rattle.nom_internal.specs.Prelude.{items_len-append, View, Outcome, Accept, Refuse, Stop, Fails, Needs, Outright, TooLarge, IsDecided, ParsesOutcome}
+use Rattle.nom_internal.specs.Prelude.{ParsesAnswer}
 use Rattle.nom_internal.specs.Prelude.{ParseRanOut, Parsed, Meaning, IsLawful, IsSteady, NeverTooLarge, Agree, Keeps, ParsesMeaning, IsPinned}
 use Rattle.nom_func.specs.Func.{Tells, TellOne, TellsItems, FuncOutcome, IsParser, IsStreamParser, Answers, AnswersBy, StreamsBy}
 
@@ -39,7 +40,7 @@ module _ {V O : Type 0} (view : View O) (IsOutput : V → O → Type 0) where
   retold_decided (Stop (Needs d)) o never h k = subst (Keeps true) h k
 
   module _ {I A E : Type 0} (w : Model I A) (i : I) (IsError : E → Type 0) where
-    retold_of : (a : Outcome V) (r : IResult I O E) (o : Outcome view.Value) → Parses w IsOutput i IsError a r →
+    retold_of : (a : Outcome V) (r : IResult I O E) (o : Outcome view.Value) → ParsesOutcome w IsOutput i IsError a r →
         Tells w view i r o → Retold a o
     retold_of (Accept n t) r o p h =
         let told = subst (λ x. Tells w view i x o) p.4 h in
@@ -50,7 +51,7 @@ module _ {V O : Type 0} (view : View O) (IsOutput : V → O → Type 0) where
         (let told : o ≡ Stop (Needs (size_of p.0)) = subst (λ x. Tells w view i x o) p.2 h in told ∙ ap (λ d. Stop (Needs d)) p.1)
 
     rest_of : (a : Outcome V) (j : I) (v : O) →
-        (let r : IResult I O E = Ok (j, v) in Parses w IsOutput i IsError a r → (n : ℕ) × IsSuffixOf w i n j)
+        (let r : IResult I O E = Ok (j, v) in ParsesOutcome w IsOutput i IsError a r → (n : ℕ) × IsSuffixOf w i n j)
     rest_of (Accept n t) j v p =
         let same : ◌≡◌ {A = I × O} (j, v) (p.0, p.1) = cc (p.4) in
         (n, subst (λ k. IsSuffixOf w i n k) (sym (ap (λ q. q.0) same)) p.2)

@@ -1,7 +1,8 @@
 -- A function as a parser.
 use Rattle.std.specs.Prelude.{◌≡◌, ℕ, Bool, true, false, List, Ok, Err}
 use Rattle.std.proofs.Common.{sym, ◌∙◌}
-use Rattle.nom_internal.specs.Prelude.{Incomplete, Error, Failure, OutOfMemory, IResult, size_of, Model, IsSuffixOf, IsSame, Related, View, Outcome, Accept}
+use Rattle.nom_internal.specs.Prelude.{Incomplete, Error, Failure, OutOfMemory, IResult, size_of, Model, IsSuffixOf, IsSame, Related, View, Outcome}
+use Rattle.nom_internal.specs.Prelude.{Accept, Grammar}
 use Rattle.nom_internal.specs.Prelude.{Refuse, Stop, Fails, Needs, Outright, Meaning, Keeps, ParsesMeaning, IsPinned, Cause, TooLarge}
 
 -- an output stands for its view
@@ -108,3 +109,7 @@ module _ {I A V O E : Type 0} (w : Model I A) (view : View O) (IsOutput : V → 
   pub record StreamsBy : Type 0 where
     pub answer : AnswersBy
     pub stays : (j : I) (q : IResult I O E) → AreRelated w true i j → Answers w IsOutput m s j q → TellOne w view true i j r q
+
+-- a function, as a grammar with its premise: which inputs it takes, and what it answers, is in its contract
+abbrev pub func_of : {I A O E : Type 0} → Model I A → (view : View O) → (I → IResult I O E → Type 0) → Type 0 → Grammar I view.Value O E
+func_of w view Gives IsSound = record { meaning = func_meaning w view Gives IsSound; IsOutput = IsViewed view }

@@ -13,9 +13,9 @@ pub fn answer<I: Items, P: StreamParser<I>>(
     parser: &mut P,
     input: I,
 ) -> IResult<I, P::Output, P::Error>
-    requires sound { (P.meaning (P.state parser.old)).IsSound }
+    requires sound { (P.grammar (P.state parser.old)).meaning.IsSound }
     requires pins { P.Pins parser.old }
-    ensures answer { AnswersBy I.model P.Output.view (P.IsOutput (P.state parser.old)) (P.meaning (P.state parser.old)) false input result }
+    ensures answer { AnswersBy I.model P.Output.view (P.grammar (P.state parser.old)).IsOutput (P.grammar (P.state parser.old)).meaning false input result }
     ensures kept { P.state parser.new ≡ P.state parser.old }
     ensures besides { P.Besides (modes true true false) parser.old parser.new input (rest_of result) }
 {
@@ -29,10 +29,10 @@ pub fn stream_answer<I: Items, P: StreamParser<I>>(
     parser: &mut P,
     input: I,
 ) -> IResult<I, P::Output, P::Error>
-    requires sound { (P.meaning (P.state parser.old)).IsSound }
+    requires sound { (P.grammar (P.state parser.old)).meaning.IsSound }
     requires pins { P.Pins parser.old }
-    requires never_too_large { NeverTooLarge (P.meaning (P.state parser.old)) }
-    ensures answer { StreamsBy I.model P.Output.view (P.IsOutput (P.state parser.old)) (P.meaning (P.state parser.old)) true input result }
+    requires never_too_large { NeverTooLarge (P.grammar (P.state parser.old)).meaning }
+    ensures answer { StreamsBy I.model P.Output.view (P.grammar (P.state parser.old)).IsOutput (P.grammar (P.state parser.old)).meaning true input result }
     ensures kept { P.state parser.new ≡ P.state parser.old }
     ensures besides { P.Besides (modes true true true) parser.old parser.new input (rest_of result) }
 {

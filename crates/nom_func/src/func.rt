@@ -1,5 +1,5 @@
 //! Functions as parsers.
-ghost use Rattle.nom_func.specs.Func.{IsViewed, viewed_pinned, IsParser, IsStreamParser, func_meaning};
+ghost use Rattle.nom_func.specs.Func.{viewed_pinned, IsParser, IsStreamParser, func_of};
 ghost use Rattle.nom_func.specs.laws.FuncLaws.{func_lawful, stream_func_lawful, stream_func_steady};
 
 use nom_error::answer::{Err, IResult, PResult};
@@ -30,9 +30,7 @@ impl<I: Items, O: Viewed + Drop, E: ParseError<I>, F: Fn(I) -> IResult<I, O, E>>
 
     ghost Tree = { O.view.Value };
 
-    ghost IsOutput = { λ _. IsViewed O.view };
-
-    ghost meaning = { λ f. func_meaning I.model O.view (F.post f) (IsParser I.model O.view (F.post f) (F.pre f)) };
+    ghost grammar = { λ f. func_of I.model O.view (F.post f) (IsParser I.model O.view (F.post f) (F.pre f)) };
 
     #[inline(always)]
     fn process<OM: OutputMode>(&mut self, input: I) -> PResult<I, O, E> {
@@ -67,9 +65,7 @@ impl<I: Items, O: Viewed + Drop, E: ParseError<I>, F: Fn(I) -> IResult<I, O, E>>
 
     ghost Tree = { O.view.Value };
 
-    ghost IsOutput = { λ _. IsViewed O.view };
-
-    ghost meaning = { λ f. func_meaning I.model O.view (F.post f) (IsStreamParser I.model O.view (F.post f) (F.pre f)) };
+    ghost grammar = { λ f. func_of I.model O.view (F.post f) (IsStreamParser I.model O.view (F.post f) (F.pre f)) };
 
     #[inline(always)]
     fn process<OM: OutputMode>(&mut self, input: I) -> PResult<I, O, E> {

@@ -1,7 +1,7 @@
 -- What is answered on a complete input, by what was answered where more might have come.
 use Rattle.std.proofs.Common.{◌≡◌, true, false, Ok, Err, sym, subst, ◌⊎◌, inl, inr}
 use Rattle.nom_internal.specs.Prelude.{IResult, OutOfMemory, Model, InputLaws, same_self, rest_related, View, IsPinned, Outcome, Accept, Refuse, Stop, Fails}
-use Rattle.nom_internal.specs.Prelude.{Needs, Outright, TooLarge, Parses, IsDecided, ParseRanOut, Parsed, Meaning, IsLawful, ParsesMeaning}
+use Rattle.nom_internal.specs.Prelude.{Needs, Outright, TooLarge, ParsesOutcome, IsDecided, ParseRanOut, Parsed, Meaning, IsLawful, ParsesMeaning}
 use Rattle.nom_growing.specs.Promises.{IsBlamed, Completes}
 
 module _ {I A V O E : Type 0} (w : Model I A) (l : InputLaws w) (view : View O) (Pins : Type 0) (IsOutput : V → O → Type 0)
@@ -18,7 +18,7 @@ module _ {I A V O E : Type 0} (w : Model I A) (l : InputLaws w) (view : View O) 
     second_blamed h = (laws.blames_alike settles false x o e known b a d h, h)
 
   of_one : (o : Outcome V) (r s : IResult I O E) → m.answers true x o → m.answers false x o → IsDecided o →
-      Parses w IsOutput x (m.blames true x) o r → Parses w IsOutput x (m.blames false x) o s → Shown r s
+      ParsesOutcome w IsOutput x (m.blames true x) o r → ParsesOutcome w IsOutput x (m.blames false x) o s → Shown r s
   of_one (Accept n v) r s a b d h t =
       let same = rest_related w l false x x n h.0 t.0 (same_self w x) h.2 t.2 in
       let answer : Shown (Ok (h.0, h.1)) s = (t.0, t.1, same, (λ p. (pinned p).one_view v h.1 t.1 h.3 t.3), t.4) in
@@ -30,14 +30,14 @@ module _ {I A V O E : Type 0} (w : Model I A) (l : InputLaws w) (view : View O) 
   of_one (Stop (Needs k)) r s a b d h t = absurd d
 
   of_decided : (o p : Outcome V) (r s : IResult I O E) → m.answers true x o → m.answers false x p → IsDecided o →
-      Parses w IsOutput x (m.blames true x) o r → Parses w IsOutput x (m.blames false x) p s → Shown r s
+      ParsesOutcome w IsOutput x (m.blames true x) o r → ParsesOutcome w IsOutput x (m.blames false x) p s → Shown r s
   of_decided o p r s a b d h t =
       let c = laws.settles settles x x o known known (same_self w x) a d in
       let e = laws.one_outcome false x x o p known known (same_self w x) c tt b in
-      of_one o r s a c d h (subst (λ z. Parses w IsOutput x (m.blames false x) z s) (sym e) t)
+      of_one o r s a c d h (subst (λ z. ParsesOutcome w IsOutput x (m.blames false x) z s) (sym e) t)
 
   of_outcomes : (o p : Outcome V) (r s : IResult I O E) → m.answers true x o → m.answers false x p →
-      Parses w IsOutput x (m.blames true x) o r → Parses w IsOutput x (m.blames false x) p s → Shown r s
+      ParsesOutcome w IsOutput x (m.blames true x) o r → ParsesOutcome w IsOutput x (m.blames false x) p s → Shown r s
   of_outcomes (Accept n v) p r s a b h t = of_decided (Accept n v) p r s a b tt h t
   of_outcomes Refuse p r s a b h t = of_decided Refuse p r s a b tt h t
   of_outcomes (Stop (Fails Outright)) p r s a b h t = of_decided (Stop (Fails Outright)) p r s a b tt h t

@@ -2,8 +2,10 @@
 use Rattle.std.proofs.Common.{◌≡◌, ℕ, ◌-◌, ◌<◌, ◌++◌, true, false, List, length, slice_index, Ok, Err, Option, sym, ◌∙◌, ap, subst, refl}
 use Rattle.std.proofs.Common.{arith, append_assoc, ◌⊎◌, inl, inr}
 use Rattle.nom_internal.specs.Prelude.{Needed, Incomplete, OutOfMemory, IResult, size_of, AsksForMore, HasRests, WithRest, Model, InputLaws, IsBoundary}
+use Rattle.nom_internal.specs.Prelude.{Grammar, Parses}
 use Rattle.nom_internal.specs.Prelude.{IsPrefixOf, IsSuffixOf, input_len, same_self, same_front, rest_related, View, IsPinned, Outcome, Accept, Refuse, Stop}
-use Rattle.nom_internal.specs.Prelude.{Fails, Needs, Outright, TooLarge, Parses, ParsesAnswer, IsDecided, ParseRanOut, Parsed, Meaning, IsLawful, IsSteady}
+use Rattle.nom_internal.specs.Prelude.{Fails, Needs, Outright, TooLarge, ParsesOutcome, ParsesAnswer, IsDecided, ParseRanOut, Parsed, Meaning, IsLawful}
+use Rattle.nom_internal.specs.Prelude.{IsSteady}
 use Rattle.nom_internal.specs.Prelude.{ParsesMeaning}
 use Rattle.nom_growing.specs.Promises.{IsOfWhole}
 use Rattle.nom_internal.proofs.Consumed.{before_length}
@@ -41,7 +43,7 @@ decided_from (Stop (Fails TooLarge)) h k = h refl
 decided_from (Stop (Needs n)) h k = k n refl
 
 module _ {I A V O E : Type 0} (w : Model I A) (IsOutput : V → O → Type 0) (IsError : E → Type 0) (x : I) where
-  undecided_of : (k : Needed) (o : Outcome V) → Parses w IsOutput x IsError o (Err (Incomplete k)) → o ≡ Stop (Needs (size_of k))
+  undecided_of : (k : Needed) (o : Outcome V) → ParsesOutcome w IsOutput x IsError o (Err (Incomplete k)) → o ≡ Stop (Needs (size_of k))
   undecided_of k (Accept n v) s = cc (s.4)
   undecided_of k Refuse s = cc (s.2)
   undecided_of k (Stop (Fails cause)) s = cc (s.2)
@@ -51,13 +53,13 @@ module _ {I A V O E : Type 0} (w : Model I A) (IsOutput : V → O → Type 0) (I
 
   -- what is shown on a beginning is shown on the whole, with the rest there
   shown_in_whole : (whole : I) (o : Outcome V) (r r' : IResult I O E) → WithRest (IsSuffixOf w x) (IsSuffixOf w whole) r r' →
-      Parses w IsOutput x IsError o r → Parses w IsOutput whole IsError o r'
+      ParsesOutcome w IsOutput x IsError o r → ParsesOutcome w IsOutput whole IsError o r'
   shown_in_whole whole (Accept n v) r r' t s = let k = t.accepts s.0 s.1 n s.4 s.2 in (k.0, s.1, k.1, s.3, k.2)
   shown_in_whole whole Refuse r r' t s = (s.0, s.1, t.else_same _ s.2)
   shown_in_whole whole (Stop (Fails cause)) r r' t s = (s.0, s.1, t.else_same _ s.2)
   shown_in_whole whole (Stop (Needs k)) r r' t s = (s.0, s.1, t.else_same _ s.2)
 
-  rest_of : (o : Outcome V) (j : I) (v : O) → Parses {E = E} w IsOutput x IsError o (Ok (j, v)) → (n : ℕ) × IsSuffixOf w x n j
+  rest_of : (o : Outcome V) (j : I) (v : O) → ParsesOutcome {E = E} w IsOutput x IsError o (Ok (j, v)) → (n : ℕ) × IsSuffixOf w x n j
   rest_of (Accept n u) j v s =
       let same : ◌≡◌ {A = I × O} (j, v) (s.0, s.1) = cc (s.4) in
       (n, subst (λ i. IsSuffixOf w x n i) (sym (ap (λ t. t.0) same)) s.2)
@@ -77,10 +79,9 @@ rest_shown {w = w} {IsOutput = IsOutput} {IsError = IsError} {x = x} {Answers = 
     rest_answered w IsOutput IsError x Answers RunsOut j v (subst (λ t. ParsesAnswer w IsOutput x Answers IsError RunsOut t) e s)
 
 -- what is shown at one state is shown at an equal one
-pub shown_along : {I A V O E State : Type 0} (w : Model I A) (IsOutput : State → V → O → Type 0) (meaning : State → Meaning I V E) (x : I)
-    (r : IResult I O E) (s t : State) → s ≡ t → ParsesMeaning w (IsOutput s) (meaning s) true x r →
-    ParsesMeaning w (IsOutput t) (meaning t) true x r
-shown_along w IsOutput meaning x r s t e h = subst (λ u. ParsesMeaning w (IsOutput u) (meaning u) true x r) e h
+pub shown_along : {I A V O E State : Type 0} (w : Model I A) (grammar : State → Grammar I V O E) (x : I) (r : IResult I O E) (s t : State) →
+    s ≡ t → Parses w (grammar s) true x r → Parses w (grammar t) true x r
+shown_along w grammar x r s t e h = subst (λ u. Parses w (grammar u) true x r) e h
 
 module _ {I A V O E : Type 0} (w : Model I A) (l : InputLaws w) (IsOutput : V → O → Type 0) (m : Meaning I V E) (laws : IsLawful w m) (whole : I) where
   waits_shown : (cut : ℕ) (x : I) (k : Needed) → IsPrefixOf w whole cut x → ParsesMeaning w IsOutput m true x (Err (Incomplete k)) → Waits w m whole cut
@@ -104,11 +105,11 @@ module _ {I A V O E : Type 0} (w : Model I A) (IsOutput : V → O → Type 0) (m
   module _ (more : (xs : List A) → w.IsMore xs) (steady : IsSteady w m) (inside : index < length cuts) (x : I)
       (p : IsPrefixOf w whole (slice_index cuts index) x) (r r' : IResult I O E) (decided : AsksForMore r → ⊥)
       (rest : WithRest (IsSuffixOf w x) (IsSuffixOf w whole) r r') where
-    asks : (k : Option ℕ) → Parses w IsOutput x (m.blames true x) (Stop (Needs k)) r → AsksForMore r
+    asks : (k : Option ℕ) → ParsesOutcome w IsOutput x (m.blames true x) (Stop (Needs k)) r → AsksForMore r
     asks k s = (s.0, s.2)
 
-    not_undecided : (o : Outcome V) → Parses w IsOutput x (m.blames true x) o r → (k : Option ℕ) → o ≡ Stop (Needs k) → ⊥
-    not_undecided o s k e = decided (asks k (subst (λ z. Parses w IsOutput x (m.blames true x) z r) e s))
+    not_undecided : (o : Outcome V) → ParsesOutcome w IsOutput x (m.blames true x) o r → (k : Option ℕ) → o ≡ Stop (Needs k) → ⊥
+    not_undecided o s k e = decided (asks k (subst (λ z. ParsesOutcome w IsOutput x (m.blames true x) z r) e s))
 
     answer_at : ParsesMeaning w IsOutput m true x r → AnswersOn w IsOutput m whole cuts index x r'
     answer_at (ParseRanOut e h) = RanOutOn (rest.else_same OutOfMemory e) h
@@ -161,7 +162,8 @@ is_too_large (Stop (Needs k)) = inr (λ e. cc)
 module _ {I A V O E : Type 0} (w : Model I A) (l : InputLaws w) (view : View O) (Pins : Type 0) (IsOutput : V → O → Type 0)
     (pinned : Pins → IsPinned view IsOutput) (m : Meaning I V E) (whole beginning : I) where
   of_outcome : (o : Outcome V) (r s : IResult I O E) → m.answers true beginning o →
-      Parses w IsOutput whole (m.blames true beginning) o r → (o ≡ Stop (Fails TooLarge) → ⊥) → Parses w IsOutput whole (m.blames true whole) o s →
+      ParsesOutcome w IsOutput whole (m.blames true beginning) o r → (o ≡ Stop (Fails TooLarge) → ⊥) → ParsesOutcome w IsOutput whole (m.blames true whole)
+      o s →
       IsOfWhole w view Pins IsOutput m beginning r s
   of_outcome (Accept n v) r s a h f t =
       let answer : IsOfWhole w view Pins IsOutput m beginning (Ok (h.0, h.1)) s =
@@ -173,15 +175,16 @@ module _ {I A V O E : Type 0} (w : Model I A) (l : InputLaws w) (view : View O) 
   of_outcome (Stop (Needs k)) r s a h f t = subst (λ z. IsOfWhole w view Pins IsOutput m beginning z s) (sym h.2) (t.0, t.1 ∙ sym h.1, t.2)
 
   large_failure : (r s : IResult I O E) → m.answers true beginning (Stop (Fails TooLarge)) →
-      Parses w IsOutput whole (m.blames true beginning) (Stop (Fails TooLarge)) r → IsOfWhole w view Pins IsOutput m beginning r s
+      ParsesOutcome w IsOutput whole (m.blames true beginning) (Stop (Fails TooLarge)) r → IsOfWhole w view Pins IsOutput m beginning r s
   large_failure r s a h = subst (λ z. IsOfWhole w view Pins IsOutput m beginning z s) (sym h.2) (inl a)
 
   of_shown : (o p : Outcome V) (r s : IResult I O E) → m.answers true beginning o →
-      Parses w IsOutput whole (m.blames true beginning) o r → ((o ≡ Stop (Fails TooLarge) → ⊥) → o ≡ p) → Parses w IsOutput whole (m.blames true whole) p s →
+      ParsesOutcome w IsOutput whole (m.blames true beginning) o r → ((o ≡ Stop (Fails TooLarge) → ⊥) → o ≡ p) → ParsesOutcome w IsOutput whole
+      (m.blames true whole) p s →
       IsOfWhole w view Pins IsOutput m beginning r s
   of_shown o p r s a h f t = elim (is_too_large o) as (λ _. IsOfWhole w view Pins IsOutput m beginning r s) [
-    | inl e ↦ large_failure r s (subst (λ z. m.answers true beginning z) e a) (subst (λ z. Parses w IsOutput whole (m.blames true beginning) z r) e h)
-    | inr other ↦ of_outcome o r s a h other (subst (λ z. Parses w IsOutput whole (m.blames true whole) z s) (sym (f other)) t)
+    | inl e ↦ large_failure r s (subst (λ z. m.answers true beginning z) e a) (subst (λ z. ParsesOutcome w IsOutput whole (m.blames true beginning) z r) e h)
+    | inr other ↦ of_outcome o r s a h other (subst (λ z. ParsesOutcome w IsOutput whole (m.blames true whole) z s) (sym (f other)) t)
   ]
 
   module _ (cuts : List ℕ) (index : ℕ) (r s : IResult I O E) where

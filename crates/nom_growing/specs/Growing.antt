@@ -1,6 +1,7 @@
 -- What a parser answers on an input that grows.
 use Rattle.std.specs.Prelude.{◌≡◌, ℕ, ◌<◌, ◌≤◌, true, ◌⊎◌, List, length, slice_index, Err, Option}
-use Rattle.nom_internal.specs.Prelude.{IResult, OutOfMemory, modes, Model, IsBoundary, IsPrefixOf, View, Outcome, Stop, Fails, Needs, TooLarge, Parses, Meaning}
+use Rattle.nom_internal.specs.Prelude.{IResult, OutOfMemory, modes, Model, IsBoundary, IsPrefixOf, View, Outcome, Stop, Fails, Needs, TooLarge}
+use Rattle.nom_internal.specs.Prelude.{ParsesOutcome, Meaning}
 use Rattle.nom_internal.specs.Prelude.{ParsesMeaning}
 use Rattle.nom_growing.specs.Promises.{IsOfWhole}
 
@@ -28,7 +29,7 @@ module _ {I A V O E : Type 0} (w : Model I A) (IsOutput : V → O → Type 0) (m
     pub outcome : Outcome V
     pub answered : m.answers true beginning outcome
     pub decided : index < length cuts → (k : Option ℕ) → outcome ≡ Stop (Needs k) → ⊥
-    pub shown : Parses w IsOutput whole (m.blames true beginning) outcome r
+    pub shown : ParsesOutcome w IsOutput whole (m.blames true beginning) outcome r
     -- unless what is lacking is too large, it is the outcome on the whole
     pub stays : (outcome ≡ Stop (Fails TooLarge) → ⊥) → (o : Outcome V) → m.answers true whole o → outcome ≡ o
 

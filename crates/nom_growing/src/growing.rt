@@ -50,12 +50,12 @@ pub fn parse_growing<I: Input, P: StreamParser<I> + Drop>(
     whole: I,
     cuts: &[usize],
 ) -> Grown<I, P::Output, P::Error>
-    requires sound { (P.meaning (P.state parser)).IsSound }
+    requires sound { (P.grammar (P.state parser)).meaning.IsSound }
     requires cuts { AreCuts I.model whole cuts.now }
-    ensures grown { IsGrown I.model (P.IsOutput (P.state parser)) (P.meaning (P.state parser)) whole cuts.now result.index result.result }
+    ensures grown { IsGrown I.model (P.grammar (P.state parser)).IsOutput (P.grammar (P.state parser)).meaning whole cuts.now result.index result.result }
     // Where the parser pins, one parse of the whole answers the same.
-    ensures whole { AgreesWithWhole I.model P.Output.view (P.Pins parser) (P.IsOutput (P.state parser))
-        (P.meaning (P.state parser)) whole cuts.now result.index result.result }
+    ensures whole { AgreesWithWhole I.model P.Output.view (P.Pins parser) (P.grammar (P.state parser)).IsOutput
+        (P.grammar (P.state parser)).meaning whole cuts.now result.index result.result }
 {
     whole.prove_known();
     for (index, cut) in cuts.iter().enumerate() {

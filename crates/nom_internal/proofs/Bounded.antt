@@ -1,6 +1,7 @@
 -- What a parser shows on what another one gives.
 use Rattle.std.proofs.Common.{◌≡◌, sym, subst, true, Ok, Err, Option, Some, refl}
-use Rattle.nom_internal.specs.Prelude.{PResult, Needed, Built, Modes, Model, InputLaws, Outcome, Accept, Refuse, Stop, Fails, Needs, Shows, RanOut, Shown}
+use Rattle.nom_internal.specs.Prelude.{PResult, Needed, Built, Modes, Model, InputLaws, Outcome, Accept, Refuse, Stop, Fails, Needs, ShowsOutcome, RanOut}
+use Rattle.nom_internal.specs.Prelude.{Shown}
 use Rattle.nom_internal.specs.Prelude.{Meaning, ShowsMeaning, RunsOutInPart}
 use Rattle.nom_error.specs.declared.answer.Err as Answer
 use Rattle.nom_internal.specs.Bounded.{IsBound, bounded_family}
@@ -23,7 +24,7 @@ module _ {I A J B P Q O E : Type 0} (w : Model I A) (v : Model J B) (IsOutput : 
   blamed a p e h = record { at = j; at_is = b; outcome = a; answered = p; fact = h }
 
   err_of : (f : Answer.Err E (Option E) Needed) (o : Outcome Q) → m.answers mode.streaming j o →
-      Shows v IsResult mode j (m.blames mode.streaming j) o (Err f) → BoundShown (Err f)
+      ShowsOutcome v IsResult mode j (m.blames mode.streaming j) o (Err f) → BoundShown (Err f)
   err_of f (Accept n t) a h = absurd (cc (h.4))
   err_of f Refuse a h = Shown Refuse (record { at = j; at_is = b; outcome = Refuse; answered = a; fact = refl })
       (h.0, built_error mode.errors _ _ h.0 (blamed Refuse a) h.1, cc (h.2))

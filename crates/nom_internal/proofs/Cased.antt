@@ -1,7 +1,7 @@
 -- What cases over a part's outcome show, from what the part showed.
 use Rattle.std.proofs.Common.{◌≡◌, ℕ, Bool, Ok, Err, Option, refl, subst}
 use Rattle.nom_internal.specs.Prelude.{PResult, Needed, Incomplete, Error, Built, Modes, with_outputs, with_streaming, Model, Outcome, Accept, Refuse, Stop}
-use Rattle.nom_internal.specs.Prelude.{Fails, Needs, Shows, ShowsAnswer, RanOut, Shown, Meaning, ShowsMeaning, mode_of, Case, OnPart}
+use Rattle.nom_internal.specs.Prelude.{Fails, Needs, ShowsOutcome, ShowsAnswer, RanOut, Shown, Meaning, ShowsMeaning, mode_of, Case, OnPart}
 use Rattle.nom_internal.specs.Prelude.{case_meaning, Passes, plain_case, labelled, labelled_meaning, fixed_meaning, RunsOutInPart, Cause}
 use Rattle.nom_error.specs.declared.answer.Err as Answer
 use Rattle.nom_internal.proofs.Shown.{accepts, built_error}
@@ -36,7 +36,7 @@ module _ {I A P T O X E : Type 0} (w : Model I A) (IsOutput : P → O → Type 0
     there o a f = record { at = i; at_is = p.at_is; outcome = o; answered = a; fact = f }
 
     passing_of : (o : Outcome P) → m.answers (mode_of c.mode mode.streaming) i o →
-        Shows w IsOutput (c.part mode) i (m.blames (mode_of c.mode mode.streaming) i) o (Err k) → Whole (Err k)
+        ShowsOutcome w IsOutput (c.part mode) i (m.blames (mode_of c.mode mode.streaming) i) o (Err k) → Whole (Err k)
     passing_of (Accept n v) a h = absurd (cc (h.4))
     passing_of Refuse a h = let r = p.refuses h.0 (cc (h.2)) in
         Shown Refuse (there Refuse a r.1) (
@@ -72,7 +72,7 @@ module _ {I A P T O X E : Type 0} (w : Model I A) (IsOutput : P → O → Type 0
 module _ {I A P T O E : Type 0} (w : Model I A) (label : P → T) (IsOutput : P → O → Type 0) (IsLabelled : T → O → Type 0)
     (same : (t : P) (o : O) → IsOutput t o → IsLabelled (label t) o) (m : Meaning I P E) (mode : Modes) (i : I) where
   labelled_of : (o : Outcome P) (r : PResult I O E) → m.answers mode.streaming i o →
-      Shows w IsOutput mode i (m.blames mode.streaming i) o r → Shows w IsLabelled mode i ((labelled_meaning label m).blames mode.streaming i)
+      ShowsOutcome w IsOutput mode i (m.blames mode.streaming i) o r → ShowsOutcome w IsLabelled mode i ((labelled_meaning label m).blames mode.streaming i)
       (labelled label o) r
   labelled_of (Accept n v) r a h = (h.0, h.1, h.2, built_error mode.outputs _ _ h.1 (λ x p. same v x p) h.3, h.4)
   labelled_of Refuse r a h = (h.0, built_error mode.errors _ _ h.0 (λ e b. here Refuse a b) h.1, h.2)
@@ -87,7 +87,7 @@ module _ {I A P T O E : Type 0} (w : Model I A) (label : P → T) (IsOutput : P 
 
 module _ {I A P O E : Type 0} (w : Model I A) (IsOutput : P → O → Type 0) (streaming : Bool) (m : Meaning I P E) (mode : Modes) (i : I) where
   fixed_of : (o : Outcome P) (r : PResult I O E) → m.answers streaming i o →
-      Shows w IsOutput mode i (m.blames streaming i) o r → Shows w IsOutput mode i ((fixed_meaning streaming m).blames mode.streaming i) o r
+      ShowsOutcome w IsOutput mode i (m.blames streaming i) o r → ShowsOutcome w IsOutput mode i ((fixed_meaning streaming m).blames mode.streaming i) o r
   fixed_of (Accept n v) r a h = h
   fixed_of Refuse r a h = (h.0, built_error mode.errors _ _ h.0 (λ e b. here Refuse a b) h.1, h.2)
   fixed_of (Stop (Fails cause)) r a h = (h.0, here (Stop (Fails cause)) a h.1, h.2)
@@ -107,7 +107,7 @@ module _ {I A P T O X E : Type 0} (w : Model I A) (label : P → T) (IsOutput : 
       ((labelled_meaning label m).blames mode.streaming i) ((labelled_meaning label m).may_run_out mode i)
 
   labels_passed : (f : Answer.Err E (Option E) Needed) (o : Outcome P) → m.answers mode.streaming i o →
-      Shows w IsOutput mode i (m.blames mode.streaming i) o (Err f) → Labels (Err f)
+      ShowsOutcome w IsOutput mode i (m.blames mode.streaming i) o (Err f) → Labels (Err f)
   labels_passed f (Accept n v) a h = absurd (cc (h.4))
   labels_passed f Refuse a h = Shown Refuse (here Refuse a refl) (h.0, built_error mode.errors _ _ h.0 (λ e b. here Refuse a b) h.1, cc (h.2))
   labels_passed f (Stop (Fails cause)) a h = Shown (Stop (Fails cause)) (here (Stop (Fails cause)) a refl) (h.0, here (Stop (Fails cause)) a h.1, cc (h.2))

@@ -2,7 +2,8 @@
 use Rattle.std.specs.Prelude.{◌≡◌, Bool, true, false, Result, Ok, Err, Option, Some, None, refl}
 use Rattle.std.proofs.Common.{inl, inr, ◌∙◌, ap, subst}
 use Rattle.nom_internal.specs.Prelude.{Needed, Incomplete, Error, Failure, OutOfMemory, PResult, Refuses, Built, Modes, modes, with_outputs, with_errors, Model}
-use Rattle.nom_internal.specs.Prelude.{Outcome, Accept, Refuse, Stop, Fails, Needs, Shows, ShowsAnswer, IsFailure, IsFault, OnOutcome, RanOut, Shown, Meaning}
+use Rattle.nom_internal.specs.Prelude.{Outcome, Accept, Refuse, Stop, Fails, Needs, ShowsOutcome, ShowsAnswer, IsFailure, IsFault, OnOutcome, RanOut}
+use Rattle.nom_internal.specs.Prelude.{Shown, Meaning}
 use Rattle.nom_internal.specs.Prelude.{ShowsMeaning, Joined, NextBlames, NextRunsOut, or_meaning, either_meaning, otherwise_meaning, EitherOutput, OnError}
 use Rattle.nom_internal.specs.Prelude.{JoinsErrors, ClosesError, JoinsResult, ClosesResult, ShowsNext, NextFails, NextRefuses, FirstFails, FirstRefuses}
 use Rattle.nom_internal.specs.Prelude.{labelled, labelled_meaning, closed_meaning, RunsOutInPart, RunsOutBeside}
@@ -70,7 +71,7 @@ module _ {T E : Type 0} (Q R : Option E → Result T (Answer.Err E (Option E) Ne
 module _ {I A V O E : Type 0} (w : Model I A) (IsOutput : V → O → Type 0) (mode : Modes) (i : I) where
   -- what is shown, of an error of which more is known
   pub shows_map : (P Q : E → Type 0) (o : Outcome V) (r : PResult I O E) → ((e : E) → P e → Q e) →
-      Shows w IsOutput mode i P o r → Shows w IsOutput mode i Q o r
+      ShowsOutcome w IsOutput mode i P o r → ShowsOutcome w IsOutput mode i Q o r
   shows_map P Q (Accept n v) r f h = h
   shows_map P Q Refuse r f h = (h.0, built_map mode.errors P Q h.0 (λ e _ p. f e p) h.1, h.2)
   shows_map P Q (Stop (Fails cause)) r f h = (h.0, f h.0 h.1, h.2)
@@ -151,8 +152,8 @@ module _ {I A V T O E : Type 0} (w : Model I A) (label : V → T) (IsOutput : V 
   next_runs_out_labelled (inr h) = inr (here Refuse h.0 refl, h.1, h.2)
 
   next_of : (x : Option E) (r : PResult I O E) (o : Outcome V) → m.answers mode.streaming i o →
-      Shows w IsOutput mode i (NextBlames Joins m mode.streaming i (λ a. x ≡ Some a)) o r →
-      Shows w IsLabelled mode i (NextBlames Joins (labelled_meaning label m) mode.streaming i (λ a. x ≡ Some a)) (labelled label o) r
+      ShowsOutcome w IsOutput mode i (NextBlames Joins m mode.streaming i (λ a. x ≡ Some a)) o r →
+      ShowsOutcome w IsLabelled mode i (NextBlames Joins (labelled_meaning label m) mode.streaming i (λ a. x ≡ Some a)) (labelled label o) r
   next_of x r (Accept n v) a h = (h.0, h.1, h.2, built_map mode.outputs (IsOutput v) (IsLabelled (label v)) h.1 (λ o _ p. same v o p) h.3, h.4)
   next_of x r Refuse a h = (h.0, built_map mode.errors _ _ h.0 (λ e _ n. next_blames_labelled (λ a. x ≡ Some a) e n) h.1, h.2)
   next_of x r (Stop (Fails cause)) a h = (h.0, next_blames_labelled (λ a. x ≡ Some a) h.0 h.1, h.2)
@@ -223,7 +224,7 @@ module _ {I A V O E : Type 0} (w : Model I A) (IsOutput : V → O → Type 0) (a
       ((otherwise_meaning a b).blames mode.streaming i) ((otherwise_meaning a b).may_run_out mode i)
 
   first_of : (o : Outcome V) (r : PResult I O E) → a.answers mode.streaming i o →
-      ((x : Option E) → r ≡ Err (Error x) → ⊥) → Shows w IsOutput (modes built false mode.streaming) i (a.blames mode.streaming i) o r → Otherwise r
+      ((x : Option E) → r ≡ Err (Error x) → ⊥) → ShowsOutcome w IsOutput (modes built false mode.streaming) i (a.blames mode.streaming i) o r → Otherwise r
   first_of (Accept n v) r c f h = Shown (Accept n v) (record { first = Accept n v; answered = c; goes_on = refl }) h
   first_of Refuse r c f h = absurd (f h.0 h.2)
   first_of (Stop (Fails cause)) r c f h = Shown (Stop (Fails cause)) (record { first = Stop (Fails cause); answered = c; goes_on = refl })
@@ -243,8 +244,8 @@ module _ {I A V O E : Type 0} (w : Model I A) (IsOutput : V → O → Type 0) (a
     next_fact o c k e h = NextFaults refused (record { outcome = o; answered = c; kind_is = k; fact = h })
 
     otherwise_of : (o : Outcome V) (r : PResult I O E) → b.answers mode.streaming i o →
-        Shows w IsOutput (with_outputs built mode) i (b.blames mode.streaming i) o r →
-        Shows w IsOutput (with_outputs built mode) i ((otherwise_meaning a b).blames mode.streaming i) o r
+        ShowsOutcome w IsOutput (with_outputs built mode) i (b.blames mode.streaming i) o r →
+        ShowsOutcome w IsOutput (with_outputs built mode) i ((otherwise_meaning a b).blames mode.streaming i) o r
     otherwise_of (Accept n v) r c h = h
     otherwise_of Refuse r c h = (h.0, built_error mode.errors _ _ h.0 (next_fact Refuse c tt) h.1, h.2)
     otherwise_of (Stop (Fails cause)) r c h = (h.0, next_fact (Stop (Fails cause)) c tt h.0 h.1, h.2)

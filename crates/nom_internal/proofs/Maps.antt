@@ -1,6 +1,6 @@
 -- What parts show whose outputs or errors become others.
 use Rattle.std.proofs.Common.{◌≡◌, Bool, true, false, Ok, Err, Option, Some, None, refl, sym, subst}
-use Rattle.nom_internal.specs.Prelude.{PResult, Needed, Built, Modes, Model, Outcome, Accept, Refuse, Stop, Fails, Needs, IsFault, Shows, RanOut, Shown}
+use Rattle.nom_internal.specs.Prelude.{PResult, Needed, Built, Modes, Model, Outcome, Accept, Refuse, Stop, Fails, Needs, IsFault, ShowsOutcome, RanOut, Shown}
 use Rattle.nom_internal.specs.Prelude.{Meaning, ShowsMeaning, RunsOutInPart, GivesFor, IsCallable, map_case, map_meaning, into_meaning, ConvertsSome}
 use Rattle.nom_internal.specs.Prelude.{ConvertsResult}
 use Rattle.nom_error.specs.declared.answer.Err as Answer
@@ -71,7 +71,7 @@ module _ {I A V P R E F : Type 0} (w : Model I A) (IsOutput : V → P → Type 0
   blamed o a fault e f b c = here o a (e, fault, b, c)
 
   into_of : (o : Outcome V) (r : PResult I P E) (s : PResult I R F) →
-      m.answers mode.streaming i o → Shows w IsOutput mode i (m.blames mode.streaming i) o r → ConvertsResult Gives Converts r s → IntoShown s
+      m.answers mode.streaming i o → ShowsOutcome w IsOutput mode i (m.blames mode.streaming i) o r → ConvertsResult Gives Converts r s → IntoShown s
   into_of (Accept n v) r s a h c =
       let d = subst (λ z. ConvertsResult Gives Converts z s) h.4 c in
       Shown (Accept n v) (here (Accept n v) a refl) (

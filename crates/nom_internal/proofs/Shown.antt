@@ -4,7 +4,8 @@ use Rattle.std.specs.Result.{IsErrAnd, IsErr}
 use Rattle.std.proofs.lemmas.Result.{err_from_is_err_and}
 use Rattle.nom_internal.specs.Prelude.{Needed, Incomplete, Error, Failure, OutOfMemory, Built, Modes, modes, with_outputs, PResult, IResult, Refuses, size_of}
 use Rattle.nom_internal.specs.Prelude.{IsFull, HoldsSame, rest_of, Model, InputLaws, IsSuffixOf, rest_rest, Outcome, Accept, Refuse, Stop, Fails, Needs}
-use Rattle.nom_internal.specs.Prelude.{IsFault, Shows, ShowsAnswer, Parses, ParsesAnswer, RanOut, Shown, ParseRanOut, Parsed, after, Then, ThenBlames}
+use Rattle.nom_internal.specs.Prelude.{IsFault, ShowsOutcome, ShowsAnswer, ParsesOutcome, ParsesAnswer, RanOut, Shown, ParseRanOut, Parsed, after, Then}
+use Rattle.nom_internal.specs.Prelude.{ThenBlames}
 use Rattle.nom_internal.specs.Prelude.{ThenRunsOut, RunsOutFirst, RunsOutNext}
 use Rattle.nom_error.specs.declared.answer.Err as Answer
 use Rattle.nom_internal.specs.Sequence.ThenBlames.{BlamesFirst, BlamesNext}
@@ -41,7 +42,7 @@ pub record Accepts {I A V O : Type 0} (w : Model I A) (IsOutput : V → O → Ty
   pub built_is : Built built (IsOutput tree) x
 
 module _ {I A V O E : Type 0} (w : Model I A) (IsOutput : V → O → Type 0) (mode : Modes) (i : I) (Answers : Outcome V → Type 0) (IsError : E → Type 0) where
-  some_accepts : (j : I) (x : Option O) (o : Outcome V) → Answers o → Shows w IsOutput mode i IsError o (Ok (j, x)) →
+  some_accepts : (j : I) (x : Option O) (o : Outcome V) → Answers o → ShowsOutcome w IsOutput mode i IsError o (Ok (j, x)) →
       Accepts w IsOutput mode.outputs i Answers j x
   some_accepts j x (Accept n v) a s =
       let same : ◌≡◌ {A = I × Option O} (j, x) (s.0, s.1) = cc (s.4) in
@@ -65,8 +66,8 @@ accepts {w = w} {IsOutput = IsOutput} {mode = mode} {i = i} {Answers = Answers} 
 
 module _ {I A V O P E : Type 0} (w : Model I A) (IsOutput : V → O → Type 0) (IsResult : V → P → Type 0) (built : Bool) (mode : Modes) (i : I)
     (IsError : E → Type 0) where
-  err_shown : (e : Answer.Err E (Option E) Needed) (o : Outcome V) → Shows w IsOutput (with_outputs built mode) i IsError o (Err e) →
-      Shows w IsResult mode i IsError o (Err e)
+  err_shown : (e : Answer.Err E (Option E) Needed) (o : Outcome V) → ShowsOutcome w IsOutput (with_outputs built mode) i IsError o (Err e) →
+      ShowsOutcome w IsResult mode i IsError o (Err e)
   err_shown e (Accept n v) s = cc (s.4)
   err_shown e Refuse s = (s.0, s.1, cc (s.2))
   err_shown e (Stop (Fails cause)) s = (s.0, s.1, cc (s.2))
@@ -80,7 +81,7 @@ module _ {I A V O P E : Type 0} {w : Model I A} {IsOutput : V → O → Type 0} 
       ShowsAnswer w IsResult mode i Answers IsError RunsOut r
   output_err (RanOut f h) q = let is = err_from_residual q in RanOut (cc (is, f)) h
   output_err {e = e} (Shown o a s) q =
-      Shown o a (subst (λ x. Shows w IsResult mode i IsError o x) (sym (err_from_residual q)) (err_shown w IsOutput IsResult built mode i IsError e o s))
+      Shown o a (subst (λ x. ShowsOutcome w IsResult mode i IsError o x) (sym (err_from_residual q)) (err_shown w IsOutput IsResult built mode i IsError e o s))
 
   -- an acceptance, with something else built of its tree
   pub output_ok : {j : I} {x : Option O} {y : Option P} → ShowsAnswer w IsOutput (with_outputs built mode) i Answers IsError RunsOut (Ok (j, x)) →
@@ -106,7 +107,8 @@ module _ {I A P Q T Y E : Type 0} (w : Model I A) (l : InputLaws w) (tree : P �
         (record { length = n; tree = u; rest = j; accepted = a; rest_is = p; fact = record { outcome = o; answered = b; kind_is = f; fact = h } })
 
     shows_after : (o : Outcome Q) (r : PResult I Y E) → Next u j o →
-        Shows w (λ v. IsResult (tree u v)) mode j (NextBlames u j) o r → Shows w IsResult mode i (ThenBlames w First FirstBlames Next NextBlames i)
+        ShowsOutcome w (λ v. IsResult (tree u v)) mode j (NextBlames u j) o r → ShowsOutcome w IsResult mode i
+        (ThenBlames w First FirstBlames Next NextBlames i)
         (after n (tree u) o) r
     shows_after (Accept m v) r b s = (s.0, s.1, rest_rest w l i n j m s.0 p s.2, s.3, s.4)
     shows_after Refuse r b s = (s.0, built_error mode.errors _ _ s.0 (next_fact Refuse b tt) s.1, s.2)
@@ -126,7 +128,7 @@ module _ {I A P Q T X Y E : Type 0} (w : Model I A) (tree : P → Q → T) (Firs
   first_fact : (o : Outcome P) → First i o → IsFault o → (e : E) → FirstBlames i e → ThenBlames w First FirstBlames Next NextBlames i e
   first_fact o a f e h = BlamesFirst (record { outcome = o; answered = a; kind_is = f; fact = h })
 
-  first_err : (e : Answer.Err E (Option E) Needed) (o : Outcome P) → First i o → Shows w IsFirst (with_outputs built mode) i (FirstBlames i) o (Err e) →
+  first_err : (e : Answer.Err E (Option E) Needed) (o : Outcome P) → First i o → ShowsOutcome w IsFirst (with_outputs built mode) i (FirstBlames i) o (Err e) →
       ShowsThen w tree First FirstBlames FirstRunsOut Next NextBlames NextRunsOut IsResult mode i (Err e)
   first_err e (Accept n v) a s = cc (s.4)
   first_err e Refuse a s = Shown Refuse (record { first = Refuse; answered = a; goes_on = refl })
@@ -166,14 +168,14 @@ both_built IsFirst IsSecond false x y z p q both none = none p
 
 -- what `process` shows is shown by a result without its options
 module _ {I A V O E : Type 0} (w : Model I A) (IsOutput : V → O → Type 0) (streaming : Bool) (i : I) (IsError : E → Type 0) where
-  full_of : (o : Outcome V) (r : PResult I O E) → Shows w IsOutput (modes true true streaming) i IsError o r → IsFull r
+  full_of : (o : Outcome V) (r : PResult I O E) → ShowsOutcome w IsOutput (modes true true streaming) i IsError o r → IsFull r
   full_of (Accept n v) r s = subst (λ x. IsFull x) (sym (s.4 ∙ ap (λ b. Ok (s.0, b)) s.3.1)) tt
   full_of Refuse r s = subst (λ x. IsFull x) (sym (s.2 ∙ ap (λ b. Err (Error b)) s.1.1)) tt
   full_of (Stop (Fails cause)) r s = subst (λ x. IsFull x) (sym s.2) tt
   full_of (Stop (Needs k)) r s = subst (λ x. IsFull x) (sym s.2) tt
 
   parses_of : (o : Outcome V) (p : PResult I O E) (r : IResult I O E) →
-      HoldsSame p r → Shows w IsOutput (modes true true streaming) i IsError o p → Parses w IsOutput i IsError o r
+      HoldsSame p r → ShowsOutcome w IsOutput (modes true true streaming) i IsError o p → ParsesOutcome w IsOutput i IsError o r
   parses_of (Accept n v) p r h s = (s.0, s.3.0, s.2, s.3.2, subst (λ x. HoldsSame x r) (s.4 ∙ ap (λ b. Ok (s.0, b)) s.3.1) h)
   parses_of Refuse p r h s = (s.1.0, s.1.2, subst (λ x. HoldsSame x r) (s.2 ∙ ap (λ b. Err (Error b)) s.1.1) h)
   parses_of (Stop (Fails cause)) p r h s = (s.0, s.1, subst (λ x. HoldsSame x r) s.2 h)

@@ -1,9 +1,9 @@
 -- What tuples show, from what their members showed.
 use Rattle.std.proofs.Common.{◌≡◌, Bool, true, false, Ok, Err, Option, Some, None, cond, refl, sym, subst}
 use Rattle.nom_internal.specs.Prelude.{PResult, Built, Modes, with_outputs, Model, InputLaws, Accept, Refuse, Stop, ShowsAnswer, RanOut, Shown, Meaning}
-use Rattle.nom_internal.specs.Prelude.{ShowsMeaning, pair_meaning, Fails, Needs}
+use Rattle.nom_internal.specs.Prelude.{ShowsMeaning, PairOutput, pair_meaning, Fails, Needs}
 use Rattle.nom_internal.specs.declared.flat.One.{One}
-use Rattle.nom_internal.specs.Tuples.{built_meaning, OnAccepted, ShowsMember, IsPaired, IsFormed, PairOutput, OneOutput}
+use Rattle.nom_internal.specs.Tuples.{built_meaning, OnAccepted, ShowsMember, IsPaired, IsFormed, OneOutput}
 use Rattle.nom_internal.proofs.Shown.{built_error, then_err, then_ok}
 
 -- of an acceptance, what is said of its rest and its value

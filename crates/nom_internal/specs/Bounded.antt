@@ -4,6 +4,7 @@ use Rattle.nom_error.specs.Modes.{with_outputs}
 use Rattle.nom_traits.specs.Input.{Model, IsSame}
 use Rattle.nom_internal.specs.Outcome.{Outcome, mapped}
 use Rattle.nom_internal.specs.Meaning.{Meaning}
+use Rattle.nom_internal.specs.Grammar.{Grammar}
 use Rattle.nom_internal.specs.Cases.{Case, case_meaning}
 use Rattle.nom_internal.specs.Cases.PartMode.{AsAsked}
 use Rattle.nom_internal.specs.Families.{Family}
@@ -51,3 +52,7 @@ bounded_family v IsOutput m = record {
 -- is consumed, and the second's tree is the tree.
 abbrev pub and_then_meaning : {I A J B P Q E : Type 0} → Model I A → Model J B → (P → J → Type 0) → Meaning I P E → Meaning J Q E → Meaning I Q E
 and_then_meaning w v IsOutput a m = then_meaning w (λ u t. t) (with_outputs true) (λ o. o) a (bounded_family v IsOutput m)
+
+-- a grammar, and another on its output alone
+abbrev pub and_then_of : {I A J B P Q O E : Type 0} → Model I A → Model J B → Grammar I P J E → Grammar J Q O E → Grammar I Q O E
+and_then_of w v g h = record { meaning = and_then_meaning w v g.IsOutput g.meaning h.meaning; IsOutput = h.IsOutput }

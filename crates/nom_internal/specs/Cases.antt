@@ -5,6 +5,7 @@ use Rattle.nom_internal.specs.Outcome.{Outcome, mapped, Cause}
 use Rattle.nom_internal.specs.Outcome.Outcome.{Accept, Refuse, Stop}
 use Rattle.nom_internal.specs.Outcome.Reason.{Fails, Needs}
 use Rattle.nom_internal.specs.Meaning.{Meaning}
+use Rattle.nom_internal.specs.Grammar.{Grammar}
 
 -- the mode of a part: the one that is asked for, or always streaming (true) or complete (false)
 pub data PartMode : Type 0 where
@@ -138,3 +139,7 @@ closed_case Closes Grows = record {
 
 abbrev pub closed_meaning : {I P E : Type 0} → (I → E → E → Type 0) → Type 0 → Meaning I P E → Meaning I P E
 closed_meaning Closes Grows = case_meaning (closed_case Closes Grows)
+
+-- a grammar in one mode
+abbrev pub fixed_of : {I P O E : Type 0} → Bool → Grammar I P O E → Grammar I P O E
+fixed_of mode g = record { meaning = fixed_meaning mode g.meaning; IsOutput = g.IsOutput }

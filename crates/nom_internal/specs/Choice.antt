@@ -11,6 +11,7 @@ use Rattle.nom_traits.specs.Input.{Model}
 use Rattle.nom_internal.specs.Outcome.{Outcome, ShowsAnswer, IsFailure, IsFault, OnOutcome}
 use Rattle.nom_internal.specs.Outcome.Outcome.{Accept, Refuse, Stop}
 use Rattle.nom_internal.specs.Meaning.{Meaning}
+use Rattle.nom_internal.specs.Grammar.{Grammar}
 use Rattle.nom_internal.specs.Cases.{labelled_meaning}
 
 -- how a first outcome goes on: a refusal by what follows it, and else as it is
@@ -121,3 +122,10 @@ abbrev pub ShowsNext : {I A V O E : Type 0} → Model I A → (V → O → Type 
     PResult I O E → Type 0
 ShowsNext w IsOutput Joins Grows m mode i x r = Built mode.errors (λ _. Unit {0}) x →
     ShowsAnswer w IsOutput mode i (m.answers mode.streaming i) (NextBlames Joins m mode.streaming i (λ a. x ≡ Some a)) (NextRunsOut Grows m mode i) r
+
+-- the first grammar, and where it refuses, the second
+abbrev pub either_of : {I P Q O E : Type 0} → (E → E → E → Type 0) → Type 0 → Grammar I P O E → Grammar I Q O E → Grammar I (P ⊎ Q) O E
+either_of Joins Grows g h = record {
+  meaning = either_meaning Joins Grows g.meaning h.meaning;
+  IsOutput = EitherOutput g.IsOutput h.IsOutput;
+}

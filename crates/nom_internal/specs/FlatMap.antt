@@ -3,6 +3,7 @@ use Rattle.std.specs.Prelude.{◌≡◌, true}
 use Rattle.nom_error.specs.Modes.{with_outputs}
 use Rattle.nom_traits.specs.Input.{Model}
 use Rattle.nom_internal.specs.Meaning.{Meaning}
+use Rattle.nom_internal.specs.Grammar.{Grammar}
 use Rattle.nom_internal.specs.Cases.{labelled_meaning}
 use Rattle.nom_internal.specs.Families.{Family, of_value}
 use Rattle.nom_internal.specs.Sequence.{then_meaning}
@@ -69,3 +70,11 @@ module _ {P O H S : Type 0} (IsOutput : P → O → Type 0) (g : Maker O H S) wh
 abbrev pub flat_map_meaning : {I A P O H S Q E : Type 0} → Model I A → (P → O → Type 0) → Maker O H S → Meaning I P E → (S → Meaning I Q E) →
     Meaning I (S × Q) E
 flat_map_meaning w IsOutput g a m = then_meaning w (λ u t. t) (with_outputs true) (λ o. o) a (given_family IsOutput g m)
+
+-- a grammar, and the one of the parser that is given for its output
+abbrev pub flat_map_by : {I A P O H S Q X E : Type 0} → Model I A → Maker O H S → Grammar I P O E → (S → Grammar I Q X E) →
+    Grammar I (S × Q) X E
+flat_map_by w give g h = record {
+  meaning = flat_map_meaning w g.IsOutput give g.meaning (λ s. (h s).meaning);
+  IsOutput = IsGiven g.IsOutput give (λ s. (h s).IsOutput);
+}

@@ -1,10 +1,13 @@
 -- A part whose acceptances a closure judges.
-use Rattle.std.specs.Prelude.{◌≡◌, ℕ, Bool, true, false, Result, Ok, Err}
+use Rattle.std.specs.Prelude.{◌≡◌, ℕ, Bool, true, false, Option, Some, Result, Ok, Err, is_some, is_ok}
+use Rattle.nom_error.specs.Errors.{Errors, Externals}
 use Rattle.nom_error.specs.Modes.{with_outputs}
+use Rattle.nom_error.specs.declared.kind.ErrorKind.TheVariants as Kind
 use Rattle.nom_internal.specs.Outcome.{Outcome}
 use Rattle.nom_internal.specs.Outcome.Outcome.{Accept, Refuse, Stop}
 use Rattle.nom_internal.specs.Outcome.Reason.{Fails, Needs}
 use Rattle.nom_internal.specs.Meaning.{Meaning}
+use Rattle.nom_internal.specs.Grammar.{Grammar}
 use Rattle.nom_internal.specs.Cases.{Case, case_meaning, Passes}
 use Rattle.nom_internal.specs.Cases.PartMode.{AsAsked}
 use Rattle.nom_internal.specs.Closures.{GivesFor, IsJudge}
@@ -56,3 +59,17 @@ judged_meaning IsOutput Takes Gives fits Makes Grows = case_meaning (judged_case
 abbrev pub OfError : {O X E : Type 0} → (X → E → Type 0) → Result O X → E → Type 0
 OfError Makes (Ok v) e = ⊥
 OfError Makes (Err x) e = Makes x e
+
+-- a grammar whose outputs a closure maps, or refuses by giving none
+abbrev pub map_opt_by : {I V O P E : Type 0} → Errors I E → (O → Type 0) → (O → Option P → Type 0) → Grammar I V O E → Grammar I V P E
+map_opt_by errs Takes Gives g = record {
+  meaning = judged_meaning g.IsOutput Takes Gives is_some (λ i _. errs.of_kind i Kind.MapOpt) errs.grows g.meaning;
+  IsOutput = GivesFor g.IsOutput (λ a o. Gives a (Some o));
+}
+
+-- a grammar whose outputs a closure maps, or refuses by giving an error, of which the refusal's is made
+abbrev pub map_res_by : {I V O P X E : Type 0} → Externals I X E → (O → Type 0) → (O → Result P X → Type 0) → Grammar I V O E → Grammar I V P E
+map_res_by externals Takes Gives g = record {
+  meaning = judged_meaning g.IsOutput Takes Gives is_ok (λ i. OfError (externals.of_external i Kind.MapRes)) externals.grows g.meaning;
+  IsOutput = GivesFor g.IsOutput (λ a o. Gives a (Ok o));
+}

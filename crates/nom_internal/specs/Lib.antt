@@ -5,6 +5,7 @@ pub mod Cloned
 pub mod Closures
 pub mod Families
 pub mod FlatMap
+pub mod Grammar
 pub mod Judged
 pub mod Leaf
 pub mod Mapped

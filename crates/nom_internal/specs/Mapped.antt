@@ -6,9 +6,10 @@ use Rattle.nom_internal.specs.Outcome.{Outcome, IsFault}
 use Rattle.nom_internal.specs.Outcome.Outcome.{Accept, Refuse, Stop}
 use Rattle.nom_internal.specs.Outcome.Reason.{Fails, Needs}
 use Rattle.nom_internal.specs.Meaning.{Meaning}
+use Rattle.nom_internal.specs.Grammar.{Grammar}
 use Rattle.nom_internal.specs.Cases.{Case, case_meaning}
 use Rattle.nom_internal.specs.Cases.PartMode.{AsAsked}
-use Rattle.nom_internal.specs.Closures.{IsCallable}
+use Rattle.nom_internal.specs.Closures.{GivesFor, IsCallable}
 
 -- The outcome is the part's, with its tree: only what the tree stands for is mapped, by a closure that takes each output of
 -- the part.
@@ -69,3 +70,11 @@ ConvertsResult Gives Converts (Err (Incomplete k)) r = r ≡ Err (Incomplete k)
 ConvertsResult {F = F} Gives Converts (Err (Error x)) r = (y : Option F) × ConvertsSome Converts x y × (r ≡ Err (Error y))
 ConvertsResult {F = F} Gives Converts (Err (Failure e)) r = (f : F) × Converts e f × (r ≡ Err (Failure f))
 ConvertsResult Gives Converts (Err OutOfMemory) r = r ≡ Err OutOfMemory
+
+-- a grammar whose outputs a closure maps
+abbrev pub map_by : {I V O P E : Type 0} → (O → Type 0) → (O → P → Type 0) → Grammar I V O E → Grammar I V P E
+map_by Takes Gives g = record { meaning = map_meaning g.IsOutput Takes g.meaning; IsOutput = GivesFor g.IsOutput Gives }
+
+-- a grammar whose outputs and errors are converted
+abbrev pub into_by : {I V O P E F : Type 0} → (O → P → Type 0) → (E → F → Type 0) → Grammar I V O E → Grammar I V P F
+into_by Gives Converts g = record { meaning = into_meaning Converts g.meaning; IsOutput = GivesFor g.IsOutput Gives }

@@ -60,27 +60,27 @@ pub record OnOutcome {I V : Type 0} (IsKind : Outcome V → Type 0) (Part : I �
 
 module _ {I A V O E : Type 0} (w : Model I A) (IsOutput : V → O → Type 0) (mode : Modes) (i : I) where
   -- what `process` returns at i for an outcome, with an error of which the fact holds
-  abbrev pub Shows : (E → Type 0) → Outcome V → PResult I O E → Type 0
-  Shows IsError (Accept n v) r = (j : I) × (b : Option O) × IsSuffixOf w i n j × Built mode.outputs (IsOutput v) b × (r ≡ Ok (j, b))
-  Shows IsError Refuse r = (b : Option E) × Built mode.errors IsError b × (r ≡ Err (Error b))
-  Shows IsError (Stop (Fails cause)) r = (e : E) × IsError e × (r ≡ Err (Failure e))
-  Shows IsError (Stop (Needs k)) r = (n : Needed) × (size_of n ≡ k) × (r ≡ Err (Incomplete n))
+  abbrev pub ShowsOutcome : (E → Type 0) → Outcome V → PResult I O E → Type 0
+  ShowsOutcome IsError (Accept n v) r = (j : I) × (b : Option O) × IsSuffixOf w i n j × Built mode.outputs (IsOutput v) b × (r ≡ Ok (j, b))
+  ShowsOutcome IsError Refuse r = (b : Option E) × Built mode.errors IsError b × (r ≡ Err (Error b))
+  ShowsOutcome IsError (Stop (Fails cause)) r = (e : E) × IsError e × (r ≡ Err (Failure e))
+  ShowsOutcome IsError (Stop (Needs k)) r = (n : Needed) × (size_of n ≡ k) × (r ≡ Err (Incomplete n))
 
   -- memory ran out, where it may, or an outcome is shown
   pub data ShowsAnswer (Answers : Outcome V → Type 0) (IsError : E → Type 0) (RunsOut : Type 0)
       (r : PResult I O E) : Type 0 where
     RanOut : r ≡ Err OutOfMemory → RunsOut → ShowsAnswer Answers IsError RunsOut r
-    Shown : (o : Outcome V) → Answers o → Shows IsError o r → ShowsAnswer Answers IsError RunsOut r
+    Shown : (o : Outcome V) → Answers o → ShowsOutcome IsError o r → ShowsAnswer Answers IsError RunsOut r
 
 module _ {I A V O E : Type 0} (w : Model I A) (IsOutput : V → O → Type 0) (i : I) where
   -- what `parse` returns at i for an outcome: outputs and errors are built
-  abbrev pub Parses : (E → Type 0) → Outcome V → IResult I O E → Type 0
-  Parses IsError (Accept n v) r = (j : I) × (b : O) × IsSuffixOf w i n j × IsOutput v b × (r ≡ Ok (j, b))
-  Parses IsError Refuse r = (e : E) × IsError e × (r ≡ Err (Error e))
-  Parses IsError (Stop (Fails cause)) r = (e : E) × IsError e × (r ≡ Err (Failure e))
-  Parses IsError (Stop (Needs k)) r = (n : Needed) × (size_of n ≡ k) × (r ≡ Err (Incomplete n))
+  abbrev pub ParsesOutcome : (E → Type 0) → Outcome V → IResult I O E → Type 0
+  ParsesOutcome IsError (Accept n v) r = (j : I) × (b : O) × IsSuffixOf w i n j × IsOutput v b × (r ≡ Ok (j, b))
+  ParsesOutcome IsError Refuse r = (e : E) × IsError e × (r ≡ Err (Error e))
+  ParsesOutcome IsError (Stop (Fails cause)) r = (e : E) × IsError e × (r ≡ Err (Failure e))
+  ParsesOutcome IsError (Stop (Needs k)) r = (n : Needed) × (size_of n ≡ k) × (r ≡ Err (Incomplete n))
 
   -- memory ran out, where it may, or an outcome is shown
   pub data ParsesAnswer (Answers : Outcome V → Type 0) (IsError : E → Type 0) (RunsOut : Type 0) (r : IResult I O E) : Type 0 where
     ParseRanOut : r ≡ Err OutOfMemory → RunsOut → ParsesAnswer Answers IsError RunsOut r
-    Parsed : (o : Outcome V) → Answers o → Parses IsError o r → ParsesAnswer Answers IsError RunsOut r
+    Parsed : (o : Outcome V) → Answers o → ParsesOutcome IsError o r → ParsesAnswer Answers IsError RunsOut r

@@ -25,20 +25,23 @@ pub use Rattle.nom_traits.specs.Text.{text_lawful, text_model, text_values}
 pub use Rattle.nom_traits.specs.View.{View, behind_view, itself, option_view, pair_view, result_view, single_view, text_view, vec_view, view_4, view_some}
 pub use Rattle.nom_traits.specs.declared.compare.CompareResult.{CompareResult}
 pub use Rattle.nom_internal.specs.Cases.{Case, Closed, OnPart, OnRefused, PartMode, Passes, SettlesIn, case_meaning, closed_case, closed_meaning, fixed_case}
-pub use Rattle.nom_internal.specs.Cases.{fixed_meaning, labelled, labelled_meaning, mode_of, plain_case}
+pub use Rattle.nom_internal.specs.Cases.{fixed_meaning, fixed_of, labelled, labelled_meaning, mode_of, plain_case}
 pub use Rattle.nom_internal.specs.Cases.CaseRunsOut.{RunsOutBeside, RunsOutInPart}
 pub use Rattle.nom_internal.specs.Cases.PartMode.{Always, AsAsked}
 pub use Rattle.nom_internal.specs.Choice.{ClosesError, ClosesResult, EitherOutput, GoesOnRefused, Joined, JoinsErrors, JoinsResult, NextBlames, NextRunsOut}
-pub use Rattle.nom_internal.specs.Choice.{OnError, OnRefusal, OrBlames, OtherwiseBlames, ShowsNext, either_meaning, or_meaning, otherwise_meaning}
+pub use Rattle.nom_internal.specs.Choice.{OnError, OnRefusal, OrBlames, OtherwiseBlames, ShowsNext, either_meaning, either_of, or_meaning, otherwise_meaning}
 pub use Rattle.nom_internal.specs.Choice.NextBlames.{NextFails, NextRefuses}
 pub use Rattle.nom_internal.specs.Choice.OrBlames.{FirstFails, FirstRefuses}
 pub use Rattle.nom_internal.specs.Closures.{GivesFor, IsCallable, IsJudge, SeesAlike}
 pub use Rattle.nom_internal.specs.Families.{AnyKey, Family, IsLawfulFamily, IsOne, OfValue, always, always_lawful, of_value, of_value_lawful, of_value_steady}
+pub use Rattle.nom_internal.specs.Grammar.{Grammar, Parses, Shows, sliced, valued}
 pub use Rattle.nom_internal.specs.Judged.{Judged, JudgedBlames, OfError, OnUnfit, judged_case, judged_meaning, kept_if}
 pub use Rattle.nom_internal.specs.Leaf.{Leaf, LeafAnswers, LeafLaws, leaf_lawful, leaf_meaning, leaf_steady}
-pub use Rattle.nom_internal.specs.Mapped.{BuildsError, ConvertsResult, ConvertsSome, into_meaning, map_case, map_meaning, renamed_case, renamed_meaning}
+pub use Rattle.nom_internal.specs.Mapped.{BuildsError, ConvertsResult, ConvertsSome, into_by, into_meaning, map_by, map_case, map_meaning, renamed_case}
+pub use Rattle.nom_internal.specs.Mapped.{renamed_meaning}
 pub use Rattle.nom_internal.specs.Meaning.{Agree, Carries, IsLawful, IsSteady, Keeps, Meaning, NeverTooLarge, ParsesMeaning, SameBlame, ShowsMeaning, Within}
-pub use Rattle.nom_internal.specs.Outcome.{Cause, Reason, IsDecided, IsFailure, IsFault, OnOutcome, Outcome, Parses, ParsesAnswer, Shows, ShowsAnswer, mapped}
+pub use Rattle.nom_internal.specs.Outcome.{Cause, Reason, IsDecided, IsFailure, IsFault, OnOutcome, Outcome, ParsesOutcome, ParsesAnswer, ShowsOutcome}
+pub use Rattle.nom_internal.specs.Outcome.{ShowsAnswer, mapped}
 pub use Rattle.nom_internal.specs.Outcome.Cause.{Outright, TooLarge}
 pub use Rattle.nom_internal.specs.Outcome.Outcome.{Accept, Refuse, Stop}
 pub use Rattle.nom_internal.specs.Outcome.ParsesAnswer.{ParseRanOut, Parsed}
@@ -47,6 +50,7 @@ pub use Rattle.nom_internal.specs.Outcome.ShowsAnswer.{RanOut, Shown}
 pub use Rattle.nom_internal.specs.Pinned.{IsPinned, either_pinned, pair_pinned, slice_pinned, value_pinned}
 pub use Rattle.nom_internal.specs.Recognized.{IsSliced, recognized_meaning}
 pub use Rattle.nom_internal.specs.Results.{AsksForMore, HasRests, HoldsSame, IsFull, OfRest, ThenBesides, WithRest, rest_of}
-pub use Rattle.nom_internal.specs.Sequence.{GoesOn, OnRest, Then, ThenBlames, ThenRunsOut, after, pair_meaning, sequence_meaning, then_meaning}
+pub use Rattle.nom_internal.specs.Sequence.{GoesOn, OnRest, PairOutput, Then, ThenBlames, ThenRunsOut, after, pair_meaning, pair_of, sequence_meaning}
+pub use Rattle.nom_internal.specs.Sequence.{then_meaning}
 pub use Rattle.nom_internal.specs.Sequence.ThenRunsOut.{RunsOutFirst, RunsOutNext}
 pub use Rattle.nom_internal.specs.Success.{place_zero, success_lawful, success_meaning, success_steady}

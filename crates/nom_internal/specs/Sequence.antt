@@ -6,6 +6,7 @@ use Rattle.nom_internal.specs.Outcome.{Outcome, mapped, IsFault, OnOutcome}
 use Rattle.nom_internal.specs.Outcome.Outcome.{Accept, Refuse, Stop}
 use Rattle.nom_internal.specs.Meaning.{Meaning}
 use Rattle.nom_internal.specs.Families.{Family, always}
+use Rattle.nom_internal.specs.Grammar.{Grammar}
 
 -- the outcome after n items that were accepted before, with a tree made of its own
 abbrev pub after : {V W : Type 0} → ℕ → (V → W) → Outcome V → Outcome W
@@ -67,3 +68,11 @@ sequence_meaning w tree first_mode second_mode a b = then_meaning w tree first_m
 -- two parts in sequence, with the pair of their trees
 abbrev pub pair_meaning : {I A P Q E : Type 0} → Model I A → Meaning I P E → Meaning I Q E → Meaning I (P × Q) E
 pair_meaning w a b = sequence_meaning w (λ u v. (u, v)) (λ o. o) (λ o. o) a b
+
+-- which outputs a pair of trees stands for
+abbrev pub PairOutput : {V W O P : Type 0} → (V → O → Type 0) → (W → P → Type 0) → V × W → O × P → Type 0
+PairOutput IsFirst IsSecond t o = IsFirst t.0 o.0 × IsSecond t.1 o.1
+
+-- two grammars in sequence, with the pair of their outputs
+abbrev pub pair_of : {I A V W O P E : Type 0} → Model I A → Grammar I V O E → Grammar I W P E → Grammar I (V × W) (O × P) E
+pair_of w g h = record { meaning = pair_meaning w g.meaning h.meaning; IsOutput = PairOutput g.IsOutput h.IsOutput }

@@ -1,5 +1,5 @@
 -- Tuples of parsers: members in sequence, each on the rest that those before it leave. A tuple is the pair of the members
--- before its last and of its last, by `pair_meaning`: so trees are nested pairs, and outputs alone are flat. The outputs of
+-- before its last and of its last, by `pair_of`: so trees are nested pairs, and outputs alone are flat. The outputs of
 -- the members are built in every mode; where none is asked for, the tuple drops them.
 use Rattle.std.specs.Prelude.{◌≡◌, Bool, true, Ok, Err, Option, Some, None, cond}
 use Rattle.nom_error.specs.Answers.{PResult}
@@ -7,15 +7,16 @@ use Rattle.nom_error.specs.Modes.{Modes, with_outputs}
 use Rattle.nom_traits.specs.Input.{Model}
 use Rattle.nom_internal.specs.Outcome.{ShowsAnswer}
 use Rattle.nom_internal.specs.Meaning.{Meaning}
+use Rattle.nom_internal.specs.Grammar.{Grammar}
 use Rattle.nom_internal.specs.declared.flat.One.{One}
 
 -- a part whose outputs are built in every mode
 abbrev pub built_meaning : {I V E : Type 0} → Meaning I V E → Meaning I V E
 built_meaning m = record m { may_run_out = λ mode. m.may_run_out (with_outputs true mode); IsFrugal = λ mode. m.IsFrugal (with_outputs true mode) }
 
--- which outputs a pair of trees stands for
-abbrev pub PairOutput : {V W O P : Type 0} → (V → O → Type 0) → (W → P → Type 0) → V × W → O × P → Type 0
-PairOutput IsFirst IsSecond t o = IsFirst t.0 o.0 × IsSecond t.1 o.1
+-- a tuple, by the nested pairs of its outputs
+abbrev pub tuple_of : {I V O F E : Type 0} → (F → O) → Grammar I V O E → Grammar I V F E
+tuple_of pairs g = record { meaning = built_meaning g.meaning; IsOutput = λ t o. g.IsOutput t (pairs o) }
 
 -- which first output a tree stands for
 abbrev pub OneOutput : {V O : Type 0} → (V → O → Type 0) → V → One O → Type 0

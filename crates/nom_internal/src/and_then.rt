@@ -1,5 +1,5 @@
 //! One parser on what another one gives.
-ghost use Rattle.nom_internal.specs.Bounded.{and_then_meaning};
+ghost use Rattle.nom_internal.specs.Bounded.{and_then_of};
 ghost use Rattle.nom_internal.specs.Pinned.{IsPinned};
 
 use crate::parser::{Parser, StreamParser};
@@ -33,9 +33,7 @@ impl<
 
     ghost Tree = { G.Tree };
 
-    ghost IsOutput = { λ s. G.IsOutput s.1 };
-
-    ghost meaning = { λ s. and_then_meaning I.model F.Output.model (F.IsOutput s.0) (F.meaning s.0) (G.meaning s.1) };
+    ghost grammar = { λ s. and_then_of I.model F.Output.model (F.grammar s.0) (G.grammar s.1) };
 
     // The second needn't be a stream parser, which alone has a law of what it pins.
 
@@ -63,7 +61,7 @@ impl<
 > StreamParser<I> for AndThen<F, G> {
     ghost use Rattle.nom_internal.specs.laws.BoundedLaws.{and_then_steady};
 
-    ghost Pins = { λ p. IsPinned G.Output.view (G.IsOutput (G.state p.second)) };
+    ghost Pins = { λ p. IsPinned G.Output.view (G.grammar (G.state p.second)).IsOutput };
 
     ghost pinned = { λ p k h. h };
 

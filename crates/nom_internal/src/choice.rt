@@ -51,8 +51,8 @@ pub fn after_refusal<I: Items, P: Parser<I>, OM: OutputMode>(
     next: &mut P,
     input: I,
 ) -> PResult<I, P::Output, P::Error>
-    requires { (P.meaning (P.state next.old)).IsSound }
-    ensures shown { ShowsNext I.model (P.IsOutput (P.state next.old)) P.Error.errors.joined P.Error.errors.grows (P.meaning (P.state next.old))
+    requires { (P.grammar (P.state next.old)).meaning.IsSound }
+    ensures shown { ShowsNext I.model (P.grammar (P.state next.old)).IsOutput P.Error.errors.joined P.Error.errors.grows (P.grammar (P.state next.old)).meaning
         (modes OM.Output.BUILDS OM.Error.BUILDS OM.Incomplete.STREAMING) input error result }
     ensures kept { P.state next.new ≡ P.state next.old }
 {
@@ -66,8 +66,9 @@ pub fn next_branch<I: Items, P: Parser<I>, OM: OutputMode>(
     next: &mut P,
     input: I,
 ) -> PResult<I, P::Output, P::Error>
-    requires { (P.meaning (P.state next.old)).IsSound }
-    ensures shown { OnError (ShowsNext I.model (P.IsOutput (P.state next.old)) P.Error.errors.joined P.Error.errors.grows (P.meaning (P.state next.old))
+    requires { (P.grammar (P.state next.old)).meaning.IsSound }
+    ensures shown { OnError (ShowsNext I.model (P.grammar (P.state next.old)).IsOutput P.Error.errors.joined P.Error.errors.grows
+        (P.grammar (P.state next.old)).meaning
         (modes OM.Output.BUILDS OM.Error.BUILDS OM.Incomplete.STREAMING) input) before result }
     ensures kept { P.state next.new ≡ P.state next.old }
 {

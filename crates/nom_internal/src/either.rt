@@ -1,6 +1,6 @@
 //! One of two parsers.
 ghost use Rattle.std.specs.Prelude.{◌⊎◌};
-ghost use Rattle.nom_internal.specs.Choice.{either_meaning, EitherOutput};
+ghost use Rattle.nom_internal.specs.Choice.{either_of};
 
 use crate::choice::next_branch;
 use crate::parser::{Parser, StreamParser};
@@ -33,9 +33,7 @@ impl<
     // The parser that decides, and its tree.
     ghost Tree = { F.Tree ⊎ G.Tree };
 
-    ghost IsOutput = { λ s. EitherOutput (F.IsOutput s.0) (G.IsOutput s.1) };
-
-    ghost meaning = { λ s. either_meaning F.Error.errors.joined F.Error.errors.grows (F.meaning s.0) (G.meaning s.1) };
+    ghost grammar = { λ s. either_of F.Error.errors.joined F.Error.errors.grows (F.grammar s.0) (G.grammar s.1) };
 
     #[inline(always)]
     fn process<OM: OutputMode>(&mut self, input: I) -> PResult<I, Self::Output, Self::Error> {

@@ -1,6 +1,6 @@
 //! Parsers in one mode.
 ghost use Rattle.nom_error.specs.Modes.{with_streaming};
-ghost use Rattle.nom_internal.specs.Cases.{fixed_meaning};
+ghost use Rattle.nom_internal.specs.Cases.{fixed_of};
 ghost use Rattle.nom_internal.specs.laws.CaseLaws.{fixed_lawful, fixed_steady};
 
 use crate::parser::{Parser, StreamParser};
@@ -27,9 +27,7 @@ impl<I: Items, P: Parser<I> + Drop, S: IsStreaming> Parser<I> for Fixed<P, S> {
 
     ghost Tree = { P.Tree };
 
-    ghost IsOutput = { P.IsOutput };
-
-    ghost meaning = { λ s. fixed_meaning S.STREAMING (P.meaning s) };
+    ghost grammar = { λ s. fixed_of S.STREAMING (P.grammar s) };
 
     ghost Besides = { λ mode old new. P.Besides (with_streaming S.STREAMING mode) old.parser new.parser };
 

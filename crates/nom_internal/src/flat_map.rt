@@ -1,5 +1,5 @@
 //! Parsers that closures give.
-ghost use Rattle.nom_internal.specs.FlatMap.{maker, OfEachGiven, IsGiven, flat_map_meaning};
+ghost use Rattle.nom_internal.specs.FlatMap.{maker, OfEachGiven, flat_map_by};
 
 use crate::parser::{Parser, StreamParser};
 use nom_error::answer::PResult;
@@ -32,9 +32,7 @@ impl<
     // The state of the parser that is given, and its tree.
     ghost Tree = { H.State × H.Tree };
 
-    ghost IsOutput = { λ s. IsGiven (F.IsOutput s.0) (maker (G.pre s.1) (G.post s.1) H.state) H.IsOutput };
-
-    ghost meaning = { λ s. flat_map_meaning I.model (F.IsOutput s.0) (maker (G.pre s.1) (G.post s.1) H.state) (F.meaning s.0) H.meaning };
+    ghost grammar = { λ s. flat_map_by I.model (maker (G.pre s.1) (G.post s.1) H.state) (F.grammar s.0) H.grammar };
 
     #[inline(always)]
     fn process<OM: OutputMode>(&mut self, input: I) -> PResult<I, H::Output, F::Error> {
@@ -60,7 +58,7 @@ impl<
 > StreamParser<I> for FlatMap<F, G> {
     ghost use Rattle.nom_internal.specs.laws.FlatMapLaws.{flat_map_steady, given_pinned};
 
-    ghost Pins = { λ p. OfEachGiven (F.IsOutput (F.state p.first)) (maker (G.pre p.make) (G.post p.make) H.state) H.Pins };
+    ghost Pins = { λ p. OfEachGiven (F.grammar (F.state p.first)).IsOutput (maker (G.pre p.make) (G.post p.make) H.state) H.Pins };
 
     ghost pinned = { λ p k h. given_pinned k.1 h H.pinned };
 

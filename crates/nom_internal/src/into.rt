@@ -1,6 +1,6 @@
 //! A parser whose outputs and errors are converted.
-ghost use Rattle.nom_internal.specs.Closures.{GivesFor, SeesAlike};
-ghost use Rattle.nom_internal.specs.Mapped.{into_meaning, ConvertsSome, ConvertsResult};
+ghost use Rattle.nom_internal.specs.Closures.{SeesAlike};
+ghost use Rattle.nom_internal.specs.Mapped.{into_by, ConvertsSome, ConvertsResult};
 ghost use Rattle.nom_internal.specs.laws.MappedLaws.{given_pinned, renamed_lawful, renamed_steady};
 
 use crate::parser::{Parser, StreamParser};
@@ -65,9 +65,7 @@ impl<
 
     ghost Tree = { F.Tree };
 
-    ghost IsOutput = { λ s. GivesFor (F.IsOutput s) O.from_gives };
-
-    ghost meaning = { λ s. into_meaning E.from_gives (F.meaning s) };
+    ghost grammar = { λ s. into_by O.from_gives E.from_gives (F.grammar s) };
 
     ghost Besides = { λ mode old new. F.Besides mode old.parser new.parser };
 

@@ -1,10 +1,9 @@
 //! Parsers whose acceptances a closure judges by what it makes of the output.
-ghost use Rattle.std.specs.Prelude.{true, Some, Ok, is_some, is_ok};
+ghost use Rattle.std.specs.Prelude.{true, Some, Ok};
 ghost use Rattle.nom_error.specs.Answers.{Refuses};
 ghost use Rattle.nom_error.specs.Modes.{with_outputs};
-ghost use Rattle.nom_error.specs.declared.kind.ErrorKind.TheVariants as Kind;
-ghost use Rattle.nom_internal.specs.Closures.{GivesFor, SeesAlike};
-ghost use Rattle.nom_internal.specs.Judged.{judged_meaning, OfError};
+ghost use Rattle.nom_internal.specs.Closures.{SeesAlike};
+ghost use Rattle.nom_internal.specs.Judged.{map_opt_by, map_res_by};
 ghost use Rattle.nom_internal.specs.Results.{WhereAccepted};
 ghost use Rattle.nom_internal.specs.laws.JudgedLaws.{judged_lawful, judged_steady};
 ghost use Rattle.nom_internal.specs.laws.MappedLaws.{given_pinned};
@@ -39,10 +38,7 @@ impl<I: Items, F: Parser<I> + Drop, O: Drop, G: Fn(F::Output) -> Option<O>> Pars
 
     ghost Tree = { F.Tree };
 
-    ghost IsOutput = { λ s. GivesFor (F.IsOutput s.0) (λ a o. G.post s.1 a (Some o)) };
-
-    ghost meaning = { λ s. judged_meaning (F.IsOutput s.0) (G.pre s.1)
-        (G.post s.1) is_some (λ i _. F.Error.errors.of_kind i Kind.MapOpt) F.Error.errors.grows (F.meaning s.0) };
+    ghost grammar = { λ s. map_opt_by F.Error.errors (G.pre s.1) (G.post s.1) (F.grammar s.0) };
 
     ghost Besides = { λ mode old new i. WhereAccepted (F.Besides (with_outputs true mode) old.parser new.parser i) };
 
@@ -119,10 +115,7 @@ where
 
     ghost Tree = { F.Tree };
 
-    ghost IsOutput = { λ s. GivesFor (F.IsOutput s.0) (λ a o. G.post s.1 a (Ok o)) };
-
-    ghost meaning = { λ s. judged_meaning (F.IsOutput s.0) (G.pre s.1) (G.post s.1) is_ok (λ i. OfError (F.Error.externals.of_external i Kind.MapRes))
-        F.Error.externals.grows (F.meaning s.0) };
+    ghost grammar = { λ s. map_res_by F.Error.externals (G.pre s.1) (G.post s.1) (F.grammar s.0) };
 
     ghost Besides = { λ mode old new i. WhereAccepted (F.Besides (with_outputs true mode) old.parser new.parser i) };
 

@@ -1,6 +1,6 @@
 //! A parser whose outputs a closure maps.
-ghost use Rattle.nom_internal.specs.Closures.{GivesFor, SeesAlike};
-ghost use Rattle.nom_internal.specs.Mapped.{map_meaning};
+ghost use Rattle.nom_internal.specs.Closures.{SeesAlike};
+ghost use Rattle.nom_internal.specs.Mapped.{map_by};
 ghost use Rattle.nom_internal.specs.laws.MappedLaws.{given_pinned, map_lawful, map_steady};
 
 use crate::parser::{Parser, StreamParser};
@@ -28,9 +28,7 @@ impl<I: Items, F: Parser<I> + Drop, O: Drop, G: Fn(F::Output) -> O> Parser<I> fo
 
     ghost Tree = { F.Tree };
 
-    ghost IsOutput = { λ s. GivesFor (F.IsOutput s.0) (G.post s.1) };
-
-    ghost meaning = { λ s. map_meaning (F.IsOutput s.0) (G.pre s.1) (F.meaning s.0) };
+    ghost grammar = { λ s. map_by (G.pre s.1) (G.post s.1) (F.grammar s.0) };
 
     ghost Besides = { λ mode old new. F.Besides mode old.parser new.parser };
 

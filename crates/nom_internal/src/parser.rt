@@ -1,7 +1,8 @@
 //! Parsers.
 ghost use Rattle.std.specs.Prelude.{◌≡◌, true, false, Option};
 ghost use Rattle.nom_error.specs.Modes.{Modes, modes};
-ghost use Rattle.nom_internal.specs.Meaning.{Meaning, IsLawful, IsSteady, ShowsMeaning, ParsesMeaning};
+ghost use Rattle.nom_internal.specs.Grammar.{Grammar, Shows, Parses};
+ghost use Rattle.nom_internal.specs.Meaning.{IsLawful, IsSteady};
 ghost use Rattle.nom_internal.specs.Pinned.{IsPinned};
 ghost use Rattle.nom_internal.specs.Results.{IsFull, HoldsSame, rest_of};
 
@@ -37,11 +38,8 @@ pub trait Parser<I: Items>: Sized {
     /// The parse trees of what is accepted.
     ghost Tree: { Type 0 };
 
-    /// Which output a tree stands for.
-    ghost IsOutput: { State → Tree → Self.Output → Type 0 };
-
-    /// What the parser means.
-    ghost meaning: { State → Meaning I Tree Self.Error };
+    /// Its grammar: what it means, and which outputs a tree stands for.
+    ghost grammar: { State → Grammar I Tree Self.Output Self.Error };
 
     /// What a call owes besides its outcome, by the mode, the parser before and after, the input, and the
     /// rest that is accepted.
@@ -50,9 +48,8 @@ pub trait Parser<I: Items>: Sized {
     /// Runs the parser in the mode `OM`: builds the output and the error only where it asks for them,
     /// and answers as it says whether more input may come.
     fn process<OM: OutputMode>(&mut self, input: I) -> PResult<I, Self::Output, Self::Error>
-        requires sound { (meaning (state self.old)).IsSound }
-        ensures shown { ShowsMeaning I.model (IsOutput (state self.old)) (meaning (state self.old))
-            (modes OM.Output.BUILDS OM.Error.BUILDS OM.Incomplete.STREAMING) input result }
+        requires sound { (grammar (state self.old)).meaning.IsSound }
+        ensures shown { Shows I.model (grammar (state self.old)) (modes OM.Output.BUILDS OM.Error.BUILDS OM.Incomplete.STREAMING) input result }
         // A call keeps the meaning.
         ensures kept { state self.new ≡ state self.old }
         ensures besides { Besides (modes OM.Output.BUILDS OM.Error.BUILDS OM.Incomplete.STREAMING) self.old self.new input (rest_of result) };
@@ -60,13 +57,13 @@ pub trait Parser<I: Items>: Sized {
     /// Of a sound parser: one outcome for each mode and input, fronts alone accepted, memory that never runs out
     /// where it is frugal, where it settles, decided streaming outcomes that are the complete ones, and no
     /// failure where it never fails.
-    ghost lawful: { (s : State) → (meaning s).IsSound → IsLawful I.model (meaning s) };
+    ghost lawful: { (s : State) → (grammar s).meaning.IsSound → IsLawful I.model (grammar s).meaning };
 
     /// Parses an input of which more may come.
     #[inline(always)]
     final fn parse(&mut self, input: I) -> IResult<I, Self::Output, Self::Error>
-        requires sound { (meaning (state self.old)).IsSound }
-        ensures shown { ParsesMeaning I.model (IsOutput (state self.old)) (meaning (state self.old)) true input result }
+        requires sound { (grammar (state self.old)).meaning.IsSound }
+        ensures shown { Parses I.model (grammar (state self.old)) true input result }
         ensures kept { state self.new ≡ state self.old }
         ensures besides { Besides (modes true true true) self.old self.new input (rest_of result) }
     {
@@ -76,8 +73,8 @@ pub trait Parser<I: Items>: Sized {
     /// Parses an input that is complete.
     #[inline(always)]
     final fn parse_complete(&mut self, input: I) -> IResult<I, Self::Output, Self::Error>
-        requires sound { (meaning (state self.old)).IsSound }
-        ensures shown { ParsesMeaning I.model (IsOutput (state self.old)) (meaning (state self.old)) false input result }
+        requires sound { (grammar (state self.old)).meaning.IsSound }
+        ensures shown { Parses I.model (grammar (state self.old)) false input result }
         ensures kept { state self.new ≡ state self.old }
         ensures besides { Besides (modes true true false) self.old self.new input (rest_of result) }
     {
@@ -199,10 +196,11 @@ pub trait StreamParser<I: Items>: Parser<I, Output: Viewed> {
     fn streams(&self) {}
 
     /// Where it pins, two outputs of one tree are equal as viewed.
-    ghost pinned: { (p : Self) → (Self.meaning (Self.state p)).IsSound → Self.StreamParser.Pins p → IsPinned Self.Output.view (Self.IsOutput (Self.state p)) };
+    ghost pinned: { (p : Self) → (Self.grammar (Self.state p)).meaning.IsSound → Self.StreamParser.Pins p →
+        IsPinned Self.Output.view (Self.grammar (Self.state p)).IsOutput };
 
     /// A decided streaming outcome stays on every longer input.
-    ghost steady: { (s : Self.State) → (Self.meaning s).IsSound → IsSteady I.model (Self.meaning s) };
+    ghost steady: { (s : Self.State) → (Self.grammar s).meaning.IsSound → IsSteady I.model (Self.grammar s).meaning };
 }
 
 /// A result in which outputs and errors are built, without their options.

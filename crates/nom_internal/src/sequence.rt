@@ -1,7 +1,7 @@
 //! One parser after another.
 ghost use Rattle.std.specs.Prelude.{◌≡◌, Some, None};
 ghost use Rattle.nom_internal.specs.Results.{ThenBesides};
-ghost use Rattle.nom_internal.specs.Sequence.{pair_meaning};
+ghost use Rattle.nom_internal.specs.Sequence.{pair_of};
 
 use crate::parser::{Parser, StreamParser};
 use nom_error::answer::PResult;
@@ -40,9 +40,7 @@ impl<I: Items, F: Parser<I> + Drop, G: Parser<I, Error = F::Error> + Drop> Parse
 
     ghost Tree = { F.Tree × G.Tree };
 
-    ghost IsOutput = { λ s t o. F.IsOutput s.0 t.0 o.0 × G.IsOutput s.1 t.1 o.1 };
-
-    ghost meaning = { λ s. pair_meaning I.model (F.meaning s.0) (G.meaning s.1) };
+    ghost grammar = { λ s. pair_of I.model (F.grammar s.0) (G.grammar s.1) };
 
     ghost Besides = { λ mode old new i. ThenBesides (F.Besides mode old.first new.first i) (G.Besides mode old.second new.second) };
 

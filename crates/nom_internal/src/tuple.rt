@@ -5,8 +5,8 @@ ghost use Rattle.std.specs.Prelude.{◌≡◌, Some, None, cond, true};
 ghost use Rattle.std.proofs.Common.{refl};
 ghost use Rattle.nom_error.specs.Modes.{modes};
 ghost use Rattle.nom_internal.specs.Meaning.{ShowsMeaning};
-ghost use Rattle.nom_internal.specs.Sequence.{pair_meaning};
-ghost use Rattle.nom_internal.specs.Tuples.{built_meaning, OnAccepted, ShowsMember, IsPaired, IsFormed, PairOutput, OneOutput};
+ghost use Rattle.nom_internal.specs.Sequence.{pair_of};
+ghost use Rattle.nom_internal.specs.Tuples.{tuple_of, OnAccepted, ShowsMember, IsPaired, IsFormed, OneOutput};
 ghost use Rattle.nom_internal.specs.Pinned.{pair_pinned};
 ghost use Rattle.nom_internal.specs.laws.TupleLaws.{built_lawful, pair_lawful, built_steady, pair_steady, flat_pinned, single_pinned};
 
@@ -40,8 +40,8 @@ pub fn first_member<I: Items, P: Parser<I>, OM: OutputMode>(
     first: &mut P,
     input: I,
 ) -> PResult<I, One<P::Output>, P::Error>
-    requires { (P.meaning (P.state first.old)).IsSound }
-    ensures shown { ShowsMeaning I.model (OneOutput (P.IsOutput (P.state first.old))) (P.meaning (P.state first.old))
+    requires { (P.grammar (P.state first.old)).meaning.IsSound }
+    ensures shown { ShowsMeaning I.model (OneOutput (P.grammar (P.state first.old)).IsOutput) (P.grammar (P.state first.old)).meaning
         (modes true OM.Error.BUILDS OM.Incomplete.STREAMING) input result }
     ensures kept { P.state first.new ≡ P.state first.old }
 {
@@ -71,8 +71,8 @@ pub fn next_member<I: Items, T: Drop, P: Parser<I>, OM: OutputMode>(
     before: PResult<I, T, P::Error>,
     next: &mut P,
 ) -> PResult<I, (T, P::Output), P::Error>
-    requires { (P.meaning (P.state next.old)).IsSound }
-    ensures shown { OnAccepted (ShowsMember I.model (P.IsOutput (P.state next.old)) (P.meaning (P.state next.old))
+    requires { (P.grammar (P.state next.old)).meaning.IsSound }
+    ensures shown { OnAccepted (ShowsMember I.model (P.grammar (P.state next.old)).IsOutput (P.grammar (P.state next.old)).meaning
         (modes OM.Output.BUILDS OM.Error.BUILDS OM.Incomplete.STREAMING)) before result }
     ensures kept { P.state next.new ≡ P.state next.old }
 {
@@ -119,9 +119,7 @@ impl<I: Items, A: Parser<I>> Parser<I> for (A,) {
 
     ghost Tree = { A.Tree };
 
-    ghost IsOutput = { λ s t o. A.IsOutput s t o.0 };
-
-    ghost meaning = { λ s. built_meaning (A.meaning s) };
+    ghost grammar = { λ s. tuple_of (λ o. o.0) (A.grammar s) };
 
     #[inline(always)]
     fn process<OM: OutputMode>(&mut self, input: I) -> PResult<I, Self::Output, Self::Error> {
@@ -151,9 +149,7 @@ impl<I: Items, A: Parser<I>, B: Parser<I, Error = A::Error>> Parser<I> for (A, B
 
     ghost Tree = { A.Tree × B.Tree };
 
-    ghost IsOutput = { λ s t o. PairOutput (A.IsOutput s.0) (B.IsOutput s.1) t (o.0, o.1) };
-
-    ghost meaning = { λ s. built_meaning (pair_meaning I.model (A.meaning s.0) (B.meaning s.1)) };
+    ghost grammar = { λ s. tuple_of (λ o. (o.0, o.1)) (pair_of I.model (A.grammar s.0) (B.grammar s.1)) };
 
     #[inline(always)]
     fn process<OM: OutputMode>(&mut self, input: I) -> PResult<I, Self::Output, Self::Error> {
@@ -188,9 +184,7 @@ impl<I: Items, A: Parser<I>, B: Parser<I, Error = A::Error>, C: Parser<I, Error 
 
     ghost Tree = { (A.Tree × B.Tree) × C.Tree };
 
-    ghost IsOutput = { λ s t o. PairOutput (PairOutput (A.IsOutput s.0) (B.IsOutput s.1)) (C.IsOutput s.2) t ((o.0, o.1), o.2) };
-
-    ghost meaning = { λ s. built_meaning (pair_meaning I.model (pair_meaning I.model (A.meaning s.0) (B.meaning s.1)) (C.meaning s.2)) };
+    ghost grammar = { λ s. tuple_of (λ o. ((o.0, o.1), o.2)) (pair_of I.model (pair_of I.model (A.grammar s.0) (B.grammar s.1)) (C.grammar s.2)) };
 
     #[inline(always)]
     fn process<OM: OutputMode>(&mut self, input: I) -> PResult<I, Self::Output, Self::Error> {
@@ -234,11 +228,8 @@ impl<
 
     ghost Tree = { ((A.Tree × B.Tree) × C.Tree) × D.Tree };
 
-    ghost IsOutput = { λ s t o. PairOutput (PairOutput (PairOutput (A.IsOutput s.0) (B.IsOutput s.1)) (C.IsOutput s.2)) (D.IsOutput s.3) t
-        (((o.0, o.1), o.2), o.3) };
-
-    ghost meaning = { λ s. built_meaning (pair_meaning I.model (pair_meaning I.model (pair_meaning I.model (A.meaning s.0) (B.meaning s.1)) (C.meaning s.2))
-        (D.meaning s.3)) };
+    ghost grammar = { λ s. tuple_of (λ o. (((o.0, o.1), o.2), o.3))
+        (pair_of I.model (pair_of I.model (pair_of I.model (A.grammar s.0) (B.grammar s.1)) (C.grammar s.2)) (D.grammar s.3)) };
 
     #[inline(always)]
     fn process<OM: OutputMode>(&mut self, input: I) -> PResult<I, Self::Output, Self::Error> {

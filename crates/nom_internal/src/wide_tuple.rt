@@ -1,7 +1,7 @@
 //! Tuples of five to eight parsers.
 ghost use Rattle.std.proofs.Common.{refl};
-ghost use Rattle.nom_internal.specs.Sequence.{pair_meaning};
-ghost use Rattle.nom_internal.specs.Tuples.{built_meaning, PairOutput};
+ghost use Rattle.nom_internal.specs.Sequence.{pair_of};
+ghost use Rattle.nom_internal.specs.Tuples.{tuple_of};
 ghost use Rattle.nom_internal.specs.Pinned.{pair_pinned};
 ghost use Rattle.nom_internal.specs.laws.TupleLaws.{built_lawful, pair_lawful, built_steady, pair_steady, flat_pinned};
 
@@ -29,11 +29,9 @@ impl<
 
     ghost Tree = { (((A.Tree × B.Tree) × C.Tree) × D.Tree) × E.Tree };
 
-    ghost IsOutput = { λ s t o. PairOutput (PairOutput (PairOutput (PairOutput (A.IsOutput s.0) (B.IsOutput s.1)) (C.IsOutput s.2)) (D.IsOutput s.3))
-        (E.IsOutput s.4) t ((((o.0, o.1), o.2), o.3), o.4) };
-
-    ghost meaning = { λ s. built_meaning (pair_meaning I.model
-        (pair_meaning I.model (pair_meaning I.model (pair_meaning I.model (A.meaning s.0) (B.meaning s.1)) (C.meaning s.2)) (D.meaning s.3)) (E.meaning s.4)) };
+    ghost grammar = { λ s. tuple_of (λ o. ((((o.0, o.1), o.2), o.3), o.4))
+        (pair_of I.model (pair_of I.model (pair_of I.model (pair_of I.model (A.grammar s.0) (B.grammar s.1)) (C.grammar s.2)) (D.grammar s.3))
+        (E.grammar s.4)) };
 
     #[inline(always)]
     fn process<OM: OutputMode>(&mut self, input: I) -> PResult<I, Self::Output, Self::Error> {
@@ -94,13 +92,9 @@ impl<
 
     ghost Tree = { ((((A.Tree × B.Tree) × C.Tree) × D.Tree) × E.Tree) × F.Tree };
 
-    ghost IsOutput = { λ s t o. PairOutput (PairOutput
-        (PairOutput (PairOutput (PairOutput (A.IsOutput s.0) (B.IsOutput s.1)) (C.IsOutput s.2)) (D.IsOutput s.3)) (E.IsOutput s.4)) (F.IsOutput s.5) t
-        (((((o.0, o.1), o.2), o.3), o.4), o.5) };
-
-    ghost meaning = { λ s. built_meaning (pair_meaning I.model
-        (pair_meaning I.model (pair_meaning I.model (pair_meaning I.model (pair_meaning I.model (A.meaning s.0) (B.meaning s.1)) (C.meaning s.2))
-        (D.meaning s.3)) (E.meaning s.4)) (F.meaning s.5)) };
+    ghost grammar = { λ s. tuple_of (λ o. (((((o.0, o.1), o.2), o.3), o.4), o.5))
+        (pair_of I.model (pair_of I.model (pair_of I.model (pair_of I.model (pair_of I.model (A.grammar s.0) (B.grammar s.1)) (C.grammar s.2))
+        (D.grammar s.3)) (E.grammar s.4)) (F.grammar s.5)) };
 
     #[inline(always)]
     fn process<OM: OutputMode>(&mut self, input: I) -> PResult<I, Self::Output, Self::Error> {
@@ -168,14 +162,9 @@ impl<
 
     ghost Tree = { (((((A.Tree × B.Tree) × C.Tree) × D.Tree) × E.Tree) × F.Tree) × G.Tree };
 
-    ghost IsOutput = { λ s t o. PairOutput (PairOutput
-        (PairOutput (PairOutput (PairOutput (PairOutput (A.IsOutput s.0) (B.IsOutput s.1)) (C.IsOutput s.2)) (D.IsOutput s.3)) (E.IsOutput s.4))
-        (F.IsOutput s.5)) (G.IsOutput s.6) t ((((((o.0, o.1), o.2), o.3), o.4), o.5), o.6) };
-
-    ghost meaning = { λ s. built_meaning (pair_meaning I.model
-        (pair_meaning I.model (pair_meaning I.model
-        (pair_meaning I.model (pair_meaning I.model (pair_meaning I.model (A.meaning s.0) (B.meaning s.1)) (C.meaning s.2)) (D.meaning s.3))
-        (E.meaning s.4)) (F.meaning s.5)) (G.meaning s.6)) };
+    ghost grammar = { λ s. tuple_of (λ o. ((((((o.0, o.1), o.2), o.3), o.4), o.5), o.6))
+        (pair_of I.model (pair_of I.model (pair_of I.model (pair_of I.model (pair_of I.model (pair_of I.model (A.grammar s.0) (B.grammar s.1))
+        (C.grammar s.2)) (D.grammar s.3)) (E.grammar s.4)) (F.grammar s.5)) (G.grammar s.6)) };
 
     #[inline(always)]
     fn process<OM: OutputMode>(&mut self, input: I) -> PResult<I, Self::Output, Self::Error> {
@@ -248,14 +237,9 @@ impl<
 
     ghost Tree = { ((((((A.Tree × B.Tree) × C.Tree) × D.Tree) × E.Tree) × F.Tree) × G.Tree) × H.Tree };
 
-    ghost IsOutput = { λ s t o. PairOutput (PairOutput
-        (PairOutput (PairOutput (PairOutput (PairOutput (PairOutput (A.IsOutput s.0) (B.IsOutput s.1)) (C.IsOutput s.2)) (D.IsOutput s.3)) (E.IsOutput s.4))
-        (F.IsOutput s.5)) (G.IsOutput s.6)) (H.IsOutput s.7) t (((((((o.0, o.1), o.2), o.3), o.4), o.5), o.6), o.7) };
-
-    ghost meaning = { λ s. built_meaning (pair_meaning I.model
-        (pair_meaning I.model (pair_meaning I.model
-        (pair_meaning I.model (pair_meaning I.model (pair_meaning I.model (pair_meaning I.model (A.meaning s.0) (B.meaning s.1)) (C.meaning s.2))
-        (D.meaning s.3)) (E.meaning s.4)) (F.meaning s.5)) (G.meaning s.6)) (H.meaning s.7)) };
+    ghost grammar = { λ s. tuple_of (λ o. (((((((o.0, o.1), o.2), o.3), o.4), o.5), o.6), o.7))
+        (pair_of I.model (pair_of I.model (pair_of I.model (pair_of I.model (pair_of I.model (pair_of I.model (pair_of I.model (A.grammar s.0)
+        (B.grammar s.1)) (C.grammar s.2)) (D.grammar s.3)) (E.grammar s.4)) (F.grammar s.5)) (G.grammar s.6)) (H.grammar s.7)) };
 
     #[inline(always)]
     fn process<OM: OutputMode>(&mut self, input: I) -> PResult<I, Self::Output, Self::Error> {

@@ -2,7 +2,8 @@
 use Rattle.std.proofs.Common.{◌≡◌, ℕ, true, List, [], ◌∷◌, length, Ok, Err, Option, Some, None, refl, sym, ◌∙◌, ap, subst, inl, inr}
 use Rattle.std.specs.Iterator.{Yields}
 use Rattle.std.specs.List.{AllZip}
-use Rattle.nom_internal.specs.Prelude.{IResult, Model, IsSuffixOf, Outcome, Accept, Refuse, Stop, Parses, ParseRanOut, Parsed, Meaning, ParsesMeaning}
+use Rattle.nom_internal.specs.Prelude.{IResult, Model, IsSuffixOf, Outcome, Accept, Refuse, Stop, ParsesOutcome, ParseRanOut, Parsed, Meaning}
+use Rattle.nom_internal.specs.Prelude.{ParsesMeaning, Grammar}
 use Rattle.nom_internal.specs.Prelude.{Fails, Needs}
 use Rattle.nom_error.specs.declared.answer.Err.TheVariants as Variant
 use Rattle.nom_iterator.specs.Iterated.{AreItems, CanGive}
@@ -23,7 +24,7 @@ record IsItem {I A V O E : Type 0} (w : Model I A) (IsOutput : V → O → Type 
 module _ {I A V O E : Type 0} (w : Model I A) (IsOutput : V → O → Type 0) (m : Meaning I V E) (i : I) where
   -- what an answer is, by what was given for it
   item_of_answer : (q : IResult I O E) (v : O) (j : I) (s : State E) → Moves i q (Some v) j s → (o : Outcome V) →
-      m.answers true i o → Parses w IsOutput i (m.blames true i) o q → IsItem w IsOutput m i v j s
+      m.answers true i o → ParsesOutcome w IsOutput i (m.blames true i) o q → IsItem w IsOutput m i v j s
   item_of_answer (Ok (k, u)) v j s g (Accept n t) a h =
       let both : ◌≡◌ {A = I × O} (h.0, h.1) (k, u) = cc (h.4) in
       let value : h.1 ≡ v = ap (λ (z : I × O). z.1) both ∙ cc (g.0) in
@@ -58,7 +59,7 @@ module _ {I A V O E : Type 0} (w : Model I A) (IsOutput : V → O → Type 0) (m
   given_item OutOfMemory v j s e g = absurd (cc (e))
 
   end_of_answer : (q : IResult I O E) (j : I) (s : State E) → Moves i q None j s → (o : Outcome V) → m.answers true i o →
-      Parses w IsOutput i (m.blames true i) o q → EndsHolding m i s × (j ≡ i)
+      ParsesOutcome w IsOutput i (m.blames true i) o q → EndsHolding m i s × (j ≡ i)
   end_of_answer q j s g (Accept n t) a h = absurd (cc ((subst (λ z. Moves i z None j s) h.4 g).0))
   end_of_answer q j s g Refuse a h = let k = subst (λ z. Moves i z None j s) h.2 g in (inl (Refuse, a, k.2), k.1)
   end_of_answer q j s g (Stop (Fails cause)) a h = let k = subst (λ z. Moves i z None j s) h.2 g in (inl (Stop (Fails cause), a, (h.0, h.1, k.2)), k.1)
@@ -110,30 +111,37 @@ module _ {I V E : Type 0} (m : Meaning I V E) (i : I) where
   finishes_there s r (inl h) f = inl (h.0, h.1, ended_finishes h.0 s r h.2 f)
   finishes_there s r (inr h) f = inr (h.0, subst (λ z. IsFinish i z r) h.1 f)
 
-module _ {X S I A V O E : Type 0} (w : Model I A) (IsOutput : S → V → O → Type 0) (m : S → Meaning I V E) (state : X → S) (place : X → I)
+module _ {X S I A V O E : Type 0} (w : Model I A) (grammar : S → Grammar I V O E) (state : X → S) (place : X → I)
     (held : X → State E) where
   abbrev Steps : X → Option O → X → Type 0
-  Steps = Next w IsOutput m state place held
+  Steps = Next w grammar state place held
 
   -- after items it runs on, with the parser's state
   pub still_runs : (vs : List O) (s t : X) → held s ≡ Running → Yields Steps s vs t → (held t ≡ Running) × (state t ≡ state s)
   still_runs [] s t e y = (subst (λ z. held z ≡ Running) y e, ap state (sym y))
   still_runs (v ∷ vs) s t e y =
       let step : Steps s (Some v) y.0 = y.1 in
-      let item = given_item w (IsOutput (state s)) (m (state s)) (place s) (held s) v (place y.0) (held y.0) e step.gives in
+      let item = given_item w (grammar (state s)).IsOutput (grammar (state s)).meaning (place s) (held s) v (place y.0) (held y.0) e step.gives in
       let others = still_runs vs y.0 t item.runs y.2 in
       (others.0, others.1 ∙ step.kept)
 
-  gives_running : (s : X) (vs : List O) (t : X) → held s ≡ Running → Yields Steps s vs t → (ts : List V) × AllZip (IsOutput (state s)) ts vs ×
-      AreItems w ((m (state s)).answers true) (length vs) (place s) ts
+  gives_running : (s : X) (vs : List O) (t : X) → held s ≡ Running → Yields Steps s vs t → (ts : List V) × AllZip (grammar (state s)).IsOutput ts vs ×
+      AreItems w ((grammar (state s)).meaning.answers true) (length vs) (place s) ts
   gives_running s [] t e y = ([], tt, refl)
   gives_running s (v ∷ vs) t e y =
       let step : Steps s (Some v) y.0 = y.1 in
-      let item = given_item w (IsOutput (state s)) (m (state s)) (place s) (held s) v (place y.0) (held y.0) e step.gives in
+      let item = given_item w (grammar (state s)).IsOutput (grammar (state s)).meaning (place s) (held s) v (place y.0) (held y.0) e step.gives in
       let others = gives_running y.0 vs t item.runs y.2 in (
         item.tree ∷ others.0,
-        (item.output_is, subst (λ z. AllZip (IsOutput z) others.0 vs) step.kept others.1),
-        (item.size, place y.0, item.accepted, item.rest_is, subst (λ z. AreItems w ((m z).answers true) (length vs) (place y.0) others.0) step.kept others.2),
+        (item.output_is, subst (λ z. AllZip (grammar z).IsOutput others.0 vs) step.kept others.1),
+        (
+          item.size,
+          place y.0,
+          item.accepted,
+          item.rest_is,
+          subst (λ z. AreItems w ((grammar z).meaning.answers true) (length vs) (place y.0) others.0)
+              step.kept others.2,
+        ),
       )
 
   -- one that ended gives no items
@@ -141,34 +149,34 @@ module _ {X S I A V O E : Type 0} (w : Model I A) (IsOutput : S → V → O → 
   gives_none s [] t e y = refl
   gives_none s (v ∷ vs) t e y =
       let step : Steps s (Some v) y.0 = y.1 in
-      absurd (cc ((ended_gives w (IsOutput (state s)) (m (state s)) (place s) (held s) (Some v) (place y.0) (held y.0) e step.gives).0))
+      absurd (cc ((ended_gives w (grammar (state s)).IsOutput (grammar (state s)).meaning (place s) (held s) (Some v) (place y.0) (held y.0) e step.gives).0))
 
-  gives_by : (s : X) (h : State E) → held s ≡ h → (vs : List O) (t : X) → Yields Steps s vs t → (ts : List V) × AllZip (IsOutput (state s)) ts vs ×
-      CanGive w ((m (state s)).answers true) (has_ended h) (length vs) (place s) ts
+  gives_by : (s : X) (h : State E) → held s ≡ h → (vs : List O) (t : X) → Yields Steps s vs t → (ts : List V) × AllZip (grammar (state s)).IsOutput ts vs ×
+      CanGive w ((grammar (state s)).meaning.answers true) (has_ended h) (length vs) (place s) ts
   gives_by s Running e vs t y = gives_running s vs t e y
-  gives_by s Done e vs t y = ([], subst (λ z. AllZip (IsOutput (state s)) [] z) (sym (gives_none s vs t (λ r. cc (e, r)) y)) tt, refl)
-  gives_by s (Failure x) e vs t y = ([], subst (λ z. AllZip (IsOutput (state s)) [] z) (sym (gives_none s vs t (λ r. cc (e, r)) y)) tt, refl)
-  gives_by s (Incomplete k) e vs t y = ([], subst (λ z. AllZip (IsOutput (state s)) [] z) (sym (gives_none s vs t (λ r. cc (e, r)) y)) tt, refl)
-  gives_by s OutOfMemory e vs t y = ([], subst (λ z. AllZip (IsOutput (state s)) [] z) (sym (gives_none s vs t (λ r. cc (e, r)) y)) tt, refl)
+  gives_by s Done e vs t y = ([], subst (λ z. AllZip (grammar (state s)).IsOutput [] z) (sym (gives_none s vs t (λ r. cc (e, r)) y)) tt, refl)
+  gives_by s (Failure x) e vs t y = ([], subst (λ z. AllZip (grammar (state s)).IsOutput [] z) (sym (gives_none s vs t (λ r. cc (e, r)) y)) tt, refl)
+  gives_by s (Incomplete k) e vs t y = ([], subst (λ z. AllZip (grammar (state s)).IsOutput [] z) (sym (gives_none s vs t (λ r. cc (e, r)) y)) tt, refl)
+  gives_by s OutOfMemory e vs t y = ([], subst (λ z. AllZip (grammar (state s)).IsOutput [] z) (sym (gives_none s vs t (λ r. cc (e, r)) y)) tt, refl)
 
-  pub gives_items : (s : X) → GivesItems w IsOutput m state place held s
+  pub gives_items : (s : X) → GivesItems w grammar state place held s
   gives_items s vs t y = gives_by s (held s) refl vs t y
 
-  pub ends_there : (s : X) → EndsThere w IsOutput m state place held s
+  pub ends_there : (s : X) → EndsThere w grammar state place held s
   ends_there s e vs t u y n =
       let runs = still_runs vs s t e y in
-      let ends = given_end w (IsOutput (state t)) (m (state t)) (place t) (held t) (place u) (held u) runs.0 n.gives in
-      (subst (λ z. EndsHolding (m z) (place t) (held u)) runs.1 ends.0, ends.1)
+      let ends = given_end w (grammar (state t)).IsOutput (grammar (state t)).meaning (place t) (held t) (place u) (held u) runs.0 n.gives in
+      (subst (λ z. EndsHolding (grammar z).meaning (place t) (held u)) runs.1 ends.0, ends.1)
 
-  pub stays_ended : (s : X) → StaysEnded w IsOutput m state place held s
+  pub stays_ended : (s : X) → StaysEnded w grammar state place held s
   stays_ended s vs t u v r y n o =
-      ended_gives w (IsOutput (state u)) (m (state u)) (place u) (held u) r (place v) (held v)
-      (ended_holds w (IsOutput (state t)) (m (state t)) (place t) (held t) (place u) (held u) n.gives) o.gives
+      ended_gives w (grammar (state u)).IsOutput (grammar (state u)).meaning (place u) (held u) r (place v) (held v)
+      (ended_holds w (grammar (state t)).IsOutput (grammar (state t)).meaning (place t) (held t) (place u) (held u) n.gives) o.gives
 
-  pub finishes_so : (s : X) → FinishesSo w IsOutput m state place held s
+  pub finishes_so : (s : X) → FinishesSo w grammar state place held s
   finishes_so s e vs t y = (
     (λ r f. subst (λ z. IsFinish (place t) z r) (still_runs vs s t e y).0 f),
     (λ u r n f.
         let ends = ends_there s e vs t u y n in
-        finishes_there (m (state s)) (place t) (held u) r ends.0 (subst (λ z. IsFinish z (held u) r) ends.1 f)),
+        finishes_there (grammar (state s)).meaning (place t) (held u) r ends.0 (subst (λ z. IsFinish z (held u) r) ends.1 f)),
   )

@@ -2,7 +2,7 @@
 use Rattle.std.specs.Prelude.{◌≡◌, Bool, true, false, ◌⊎◌, List, length, Ok, Err, Option, Some, None}
 use Rattle.std.specs.Iterator.{Yields}
 use Rattle.std.specs.List.{AllZip}
-use Rattle.nom_internal.specs.Prelude.{IResult, size_of, modes, Needed, Model, Outcome, Accept, Refuse, Stop, Fails, Needs, Meaning, ParsesMeaning}
+use Rattle.nom_internal.specs.Prelude.{IResult, size_of, modes, Needed, Model, Outcome, Accept, Refuse, Stop, Fails, Needs, Meaning, ParsesMeaning, Grammar}
 use Rattle.nom_error.specs.declared.answer.Err.TheVariants as Variant
 use Rattle.nom_iterator.specs.Iterated.{CanGive}
 use Rattle.nom_iterator.specs.declared.items.State.{State}
@@ -74,22 +74,24 @@ module _ {I V E : Type 0} (m : Meaning I V E) (i : I) where
   FinishesThere r = ((o : Outcome V) × m.answers true i o × Finishes o r) ⊎ (m.may_run_out (modes true true true) i × (r ≡ Err Variant.OutOfMemory))
 
 -- iterators X, by the parser's state, the place reached and what is held
-module _ {X S I A V O E : Type 0} (w : Model I A) (IsOutput : S → V → O → Type 0) (m : S → Meaning I V E) (state : X → S) (place : X → I)
+module _ {X S I A V O E : Type 0} (w : Model I A) (grammar : S → Grammar I V O E) (state : X → S) (place : X → I)
     (held : X → State E) where
   abbrev pub Next : X → Option O → X → Type 0
-  Next s r t = IsStep w (IsOutput (state s)) (m (state s)) (state s) (state t) (place s) (held s) r (place t) (held t)
+  Next s r t = IsStep w (grammar (state s)).IsOutput (grammar (state s)).meaning (state s) (state t) (place s) (held s) r (place t) (held t)
 
   -- What calls of `next` give: the outputs of items, each begun where the one before ended, and none after they ended.
   abbrev pub GivesItems : X → Type 0
   GivesItems s =
       (vs : List O) (t : X) → Yields Next s vs t →
-      (ts : List V) × AllZip (IsOutput (state s)) ts vs × CanGive w ((m (state s)).answers true) (has_ended (held s)) (length vs) (place s) ts
+      (ts : List V) × AllZip (grammar (state s)).IsOutput ts vs × CanGive w ((grammar (state s)).meaning.answers true) (has_ended (held s)) (length vs)
+      (place s) ts
 
   -- A call that gives nothing, of one that ran, stands at a place where something else than an acceptance is answered, or where memory
   -- runs out; that is held then, at this place.
   abbrev pub EndsThere : X → Type 0
   EndsThere s =
-      held s ≡ Held.Running → (vs : List O) (t u : X) → Yields Next s vs t → Next t None u → EndsHolding (m (state s)) (place t) (held u) × (place u ≡ place t)
+      held s ≡ Held.Running → (vs : List O) (t u : X) → Yields Next s vs t → Next t None u → EndsHolding (grammar (state s)).meaning (place t) (held u) ×
+      (place u ≡ place t)
 
   -- and from then on nothing is given, and all stays
   abbrev pub StaysEnded : X → Type 0
@@ -101,4 +103,4 @@ module _ {X S I A V O E : Type 0} (w : Model I A) (IsOutput : S → V → O → 
   FinishesSo s =
       held s ≡ Held.Running → (vs : List O) (t : X) → Yields Next s vs t →
       ((r : IResult I (Unit {0}) E) → IsFinish (place t) (held t) r → r ≡ Ok (place t, tt))
-      × ((u : X) (r : IResult I (Unit {0}) E) → Next t None u → IsFinish (place u) (held u) r → FinishesThere (m (state s)) (place t) r)
+      × ((u : X) (r : IResult I (Unit {0}) E) → Next t None u → IsFinish (place u) (held u) r → FinishesThere (grammar (state s)).meaning (place t) r)

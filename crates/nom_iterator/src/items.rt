@@ -43,9 +43,9 @@ impl<I: Items, E: ParseError<I>, F: Parser<I, Error = E> + Drop> Iterator
     type Item = F::Output;
 
     // The parser is sound.
-    ghost can_next = { λ s. (F.meaning (F.state s.parser)).IsSound };
+    ghost can_next = { λ s. (F.grammar (F.state s.parser)).meaning.IsSound };
 
-    ghost next_gives = { λ s r t. IsStep I.model (F.IsOutput (F.state s.parser)) (F.meaning (F.state s.parser)) (F.state s.parser)
+    ghost next_gives = { λ s r t. IsStep I.model (F.grammar (F.state s.parser)).IsOutput (F.grammar (F.state s.parser)).meaning (F.state s.parser)
         (F.state t.parser) s.input s.state r t.input t.state };
 
     #[inline(always)]

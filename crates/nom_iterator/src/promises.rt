@@ -10,22 +10,22 @@ use nom_traits::input::Items;
 /// The items that can be given on an input, up to any limit, are a beginning of those on every input that
 /// extends it, and where the parser pins, so are the views of their outputs.
 pub fn items_stay<I: Items, P: StreamParser<I>>(_parser: &P)
-    requires { (P.meaning (P.state _parser.now)).IsSound }
-    ensures items { ItemsStay I.model (P.meaning (P.state _parser.now)) }
-    ensures outputs { OutputsStay I.model (P.meaning (P.state _parser.now)) P.Output.view (P.Pins _parser.now)
-        (P.IsOutput (P.state _parser.now)) }
+    requires { (P.grammar (P.state _parser.now)).meaning.IsSound }
+    ensures items { ItemsStay I.model (P.grammar (P.state _parser.now)).meaning }
+    ensures outputs { OutputsStay I.model (P.grammar (P.state _parser.now)).meaning P.Output.view (P.Pins _parser.now)
+        (P.grammar (P.state _parser.now)).IsOutput }
 {}
 
 /// The items that can be given on an input, up to any limit, are those on every input that is equal as models.
 pub fn items_are_one<I: Items, P: Parser<I>>(_parser: &P)
-    requires { (P.meaning (P.state _parser.now)).IsSound }
-    ensures { ItemsAreOne I.model (P.meaning (P.state _parser.now)) }
+    requires { (P.grammar (P.state _parser.now)).meaning.IsSound }
+    ensures { ItemsAreOne I.model (P.grammar (P.state _parser.now)).meaning }
 {}
 
 /// Where each acceptance consumes something, no more items can be given than the input is long: so a limit
 /// of its length gives them all.
 pub fn items_fit<I: Items, P: Parser<I>>(_parser: &P)
-    ensures { ItemsFit I.model (P.meaning (P.state _parser.now)) }
+    ensures { ItemsFit I.model (P.grammar (P.state _parser.now)).meaning }
 {}
 
 /// What calls of `next` give are the outputs of items, each begun where the one before ended. Of an iterator that
@@ -34,10 +34,10 @@ pub fn items_fit<I: Items, P: Parser<I>>(_parser: &P)
 pub fn gives_items<I: Items, E: ParseError<I>, F: Parser<I, Error = E> + Drop>(
     _iterator: &ParserIterator<I, E, F>,
 )
-    requires { (F.meaning (F.state _iterator.now.parser)).IsSound }
-    ensures items { GivesItems I.model F.IsOutput F.meaning (λ s. F.state s.parser) (λ s. s.input) (λ s. s.state) _iterator.now }
-    ensures ends { EndsThere I.model F.IsOutput F.meaning (λ s. F.state s.parser) (λ s. s.input) (λ s. s.state) _iterator.now }
-    ensures stays { StaysEnded I.model F.IsOutput F.meaning (λ s. F.state s.parser) (λ s. s.input) (λ s. s.state) _iterator.now }
+    requires { (F.grammar (F.state _iterator.now.parser)).meaning.IsSound }
+    ensures items { GivesItems I.model F.grammar (λ s. F.state s.parser) (λ s. s.input) (λ s. s.state) _iterator.now }
+    ensures ends { EndsThere I.model F.grammar (λ s. F.state s.parser) (λ s. s.input) (λ s. s.state) _iterator.now }
+    ensures stays { StaysEnded I.model F.grammar (λ s. F.state s.parser) (λ s. s.input) (λ s. s.state) _iterator.now }
 {}
 
 /// Of an iterator that runs: as long as items are given, `finish` answers the place that is reached. After a call that
@@ -46,6 +46,6 @@ pub fn gives_items<I: Items, E: ParseError<I>, F: Parser<I, Error = E> + Drop>(
 pub fn finishes_so<I: Items, E: ParseError<I>, F: Parser<I, Error = E> + Drop>(
     _iterator: &ParserIterator<I, E, F>,
 )
-    requires { (F.meaning (F.state _iterator.now.parser)).IsSound }
-    ensures { FinishesSo I.model F.IsOutput F.meaning (λ s. F.state s.parser) (λ s. s.input) (λ s. s.state) _iterator.now }
+    requires { (F.grammar (F.state _iterator.now.parser)).meaning.IsSound }
+    ensures { FinishesSo I.model F.grammar (λ s. F.state s.parser) (λ s. s.input) (λ s. s.state) _iterator.now }
 {}

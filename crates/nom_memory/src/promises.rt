@@ -24,34 +24,36 @@ use std::alloc::Allocator;
 pub fn many0_grows_by_items<I: Input, A: Allocator + Copy, F: Parser<I> + Drop>(
     _parser: &Many0<A, F>,
 )
-    requires { (F.meaning (F.state _parser.now.parser)).IsSound }
-    ensures { GrowsByItems I.model F.Error.errors (F.meaning (F.state _parser.now.parser)) (⟦<Many0<A, F> as Parser<I>>⟧.meaning (F.state _parser.now.parser)) }
+    requires { (F.grammar (F.state _parser.now.parser)).meaning.IsSound }
+    ensures { GrowsByItems I.model F.Error.errors (F.grammar (F.state _parser.now.parser)).meaning
+        (⟦<Many0<A, F> as Parser<I>>⟧.grammar (F.state _parser.now.parser)).meaning }
 {}
 
 /// `many1` runs out of memory only for an item: its first is accepted.
 pub fn many1_grows_by_items<I: Input, A: Allocator + Copy, F: Parser<I> + Drop>(
     _parser: &Many1<A, F>,
 )
-    requires { (F.meaning (F.state _parser.now.parser)).IsSound }
-    ensures { GrowsByItems I.model F.Error.errors (F.meaning (F.state _parser.now.parser)) (⟦<Many1<A, F> as Parser<I>>⟧.meaning (F.state _parser.now.parser)) }
+    requires { (F.grammar (F.state _parser.now.parser)).meaning.IsSound }
+    ensures { GrowsByItems I.model F.Error.errors (F.grammar (F.state _parser.now.parser)).meaning
+        (⟦<Many1<A, F> as Parser<I>>⟧.grammar (F.state _parser.now.parser)).meaning }
 {}
 
 /// `count` runs out of memory only for an item: its first is accepted.
 pub fn count_grows_by_items<I: Items, A: Allocator + Copy, F: Parser<I> + Drop>(
     _parser: &Count<A, F>,
 )
-    requires { (F.meaning (F.state _parser.now.parser)).IsSound }
-    ensures { GrowsByItems I.model F.Error.errors (F.meaning (F.state _parser.now.parser))
-        (⟦<Count<A, F> as Parser<I>>⟧.meaning (_parser.now.count, F.state _parser.now.parser)) }
+    requires { (F.grammar (F.state _parser.now.parser)).meaning.IsSound }
+    ensures { GrowsByItems I.model F.Error.errors (F.grammar (F.state _parser.now.parser)).meaning
+        (⟦<Count<A, F> as Parser<I>>⟧.grammar (_parser.now.count, F.state _parser.now.parser)).meaning }
 {}
 
 /// `many_m_n` runs out of memory only for an item: its first is accepted.
 pub fn many_m_n_grows_by_items<I: Input, A: Allocator + Copy, F: Parser<I> + Drop>(
     _parser: &ManyMN<A, F>,
 )
-    requires { (F.meaning (F.state _parser.now.parser)).IsSound }
-    ensures { GrowsByItems I.model F.Error.errors (F.meaning (F.state _parser.now.parser))
-        (⟦<ManyMN<A, F> as Parser<I>>⟧.meaning (_parser.now.min, _parser.now.max, F.state _parser.now.parser)) }
+    requires { (F.grammar (F.state _parser.now.parser)).meaning.IsSound }
+    ensures { GrowsByItems I.model F.Error.errors (F.grammar (F.state _parser.now.parser)).meaning
+        (⟦<ManyMN<A, F> as Parser<I>>⟧.grammar (_parser.now.min, _parser.now.max, F.state _parser.now.parser)).meaning }
 {}
 
 /// `many` runs out of memory only for an item: its first is accepted.
@@ -62,9 +64,9 @@ pub fn many_grows_by_items<
     F: Parser<I> + Drop,
     C: Collection<F::Output, A>,
 >(_parser: &Many<A, R, F, C>)
-    requires { (F.meaning (F.state _parser.now.parser)).IsSound }
-    ensures { GrowsByItems I.model F.Error.errors (F.meaning (F.state _parser.now.parser))
-        (⟦<Many<A, R, F, C> as Parser<I>>⟧.meaning (F.state _parser.now.parser, _parser.now.range)) }
+    requires { (F.grammar (F.state _parser.now.parser)).meaning.IsSound }
+    ensures { GrowsByItems I.model F.Error.errors (F.grammar (F.state _parser.now.parser)).meaning
+        (⟦<Many<A, R, F, C> as Parser<I>>⟧.grammar (F.state _parser.now.parser, _parser.now.range)).meaning }
 {}
 
 /// `separated_list1` runs out of memory only for an item: its first is accepted.
@@ -74,10 +76,10 @@ pub fn separated_list1_grows_by_items<
     F: Parser<I> + Drop,
     G: Parser<I, Error = F::Error> + Drop,
 >(_parser: &SeparatedList1<A, G, F>)
-    requires separator { (G.meaning (G.state _parser.now.next.first)).IsSound }
-    requires item { (F.meaning (F.state _parser.now.next.second)).IsSound }
-    ensures { GrowsBySeparated I.model F.Error.errors (G.meaning (G.state _parser.now.next.first)) (F.meaning (F.state _parser.now.next.second))
-        (⟦<SeparatedList1<A, G, F> as Parser<I>>⟧.meaning (G.state _parser.now.next.first, F.state _parser.now.next.second)) }
+    requires separator { (G.grammar (G.state _parser.now.next.first)).meaning.IsSound }
+    requires item { (F.grammar (F.state _parser.now.next.second)).meaning.IsSound }
+    ensures { GrowsBySeparated I.model F.Error.errors (G.grammar (G.state _parser.now.next.first)).meaning (F.grammar (F.state _parser.now.next.second)).meaning
+        (⟦<SeparatedList1<A, G, F> as Parser<I>>⟧.grammar (G.state _parser.now.next.first, F.state _parser.now.next.second)).meaning }
 {}
 
 /// `separated_list0` runs out of memory only for an item: its first is accepted.
@@ -87,10 +89,10 @@ pub fn separated_list0_grows_by_items<
     F: Parser<I> + Drop,
     G: Parser<I, Error = F::Error> + Drop,
 >(_parser: &SeparatedList0<A, G, F>)
-    requires separator { (G.meaning (G.state _parser.now.next.first)).IsSound }
-    requires item { (F.meaning (F.state _parser.now.next.second)).IsSound }
-    ensures { GrowsBySeparated I.model F.Error.errors (G.meaning (G.state _parser.now.next.first)) (F.meaning (F.state _parser.now.next.second))
-        (⟦<SeparatedList0<A, G, F> as Parser<I>>⟧.meaning (G.state _parser.now.next.first, F.state _parser.now.next.second)) }
+    requires separator { (G.grammar (G.state _parser.now.next.first)).meaning.IsSound }
+    requires item { (F.grammar (F.state _parser.now.next.second)).meaning.IsSound }
+    ensures { GrowsBySeparated I.model F.Error.errors (G.grammar (G.state _parser.now.next.first)).meaning (F.grammar (F.state _parser.now.next.second)).meaning
+        (⟦<SeparatedList0<A, G, F> as Parser<I>>⟧.grammar (G.state _parser.now.next.first, F.state _parser.now.next.second)).meaning }
 {}
 
 /// `many_till` runs out of memory only for an item: its end refuses at the start, and its first item is accepted.
@@ -100,10 +102,10 @@ pub fn many_till_grows_by_items<
     F: Parser<I> + Drop,
     G: Parser<I, Error = F::Error> + Drop,
 >(_parser: &ManyTill<A, F, G>)
-    requires item { (F.meaning (F.state _parser.now.parser)).IsSound }
-    requires end { (G.meaning (G.state _parser.now.end)).IsSound }
-    ensures { GrowsUntil I.model F.Error.errors (F.meaning (F.state _parser.now.parser)) (G.meaning (G.state _parser.now.end))
-        (⟦<ManyTill<A, F, G> as Parser<I>>⟧.meaning (F.state _parser.now.parser, G.state _parser.now.end)) }
+    requires item { (F.grammar (F.state _parser.now.parser)).meaning.IsSound }
+    requires end { (G.grammar (G.state _parser.now.end)).meaning.IsSound }
+    ensures { GrowsUntil I.model F.Error.errors (F.grammar (F.state _parser.now.parser)).meaning (G.grammar (G.state _parser.now.end)).meaning
+        (⟦<ManyTill<A, F, G> as Parser<I>>⟧.grammar (F.state _parser.now.parser, G.state _parser.now.end)).meaning }
 {}
 
 /// `length_count` runs out of memory only for an item: its length is accepted, and on the rest its first item.
@@ -113,10 +115,10 @@ pub fn length_count_grows_by_items<
     F: Parser<I, Output: ToUsize> + Drop,
     G: Parser<I, Error = F::Error> + Drop,
 >(_parser: &LengthCount<A, F, G>)
-    requires length { (F.meaning (F.state _parser.now.length)).IsSound }
-    requires item { (G.meaning (G.state _parser.now.parser)).IsSound }
-    ensures { GrowsByCounted I.model F.Error.errors (F.meaning (F.state _parser.now.length)) (G.meaning (G.state _parser.now.parser))
-        (⟦<LengthCount<A, F, G> as Parser<I>>⟧.meaning (F.state _parser.now.length, G.state _parser.now.parser)) }
+    requires length { (F.grammar (F.state _parser.now.length)).meaning.IsSound }
+    requires item { (G.grammar (G.state _parser.now.parser)).meaning.IsSound }
+    ensures { GrowsByCounted I.model F.Error.errors (F.grammar (F.state _parser.now.length)).meaning (G.grammar (G.state _parser.now.parser)).meaning
+        (⟦<LengthCount<A, F, G> as Parser<I>>⟧.grammar (F.state _parser.now.length, G.state _parser.now.parser)).meaning }
 {}
 
 /// `escaped_transform` runs out of memory only for a piece: its normal part accepts at the start, or, where that
@@ -132,9 +134,12 @@ pub fn escaped_transform_grows_by_pieces<
 where
     F::Output: ExtendInto<A, Extender = X>,
     G::Output: ExtendInto<A, Extender = X>,
-    requires normal { (F.meaning (F.state _parser.now.normal)).IsSound }
-    requires transform { (G.meaning (G.state _parser.now.transform)).IsSound }
-    ensures { GrowsByPieces I.model (λ x. C.code x ≡ _parser.now.control_char) F.Error.errors (F.meaning (F.state _parser.now.normal))
-        (G.meaning (G.state _parser.now.transform)) (⟦<EscapedTransform<A, F, G> as Parser<I>>⟧.meaning
-        (F.state _parser.now.normal, _parser.now.control_char, G.state _parser.now.transform)) }
+    requires normal { (F.grammar (F.state _parser.now.normal)).meaning.IsSound }
+    requires transform { (G.grammar (G.state _parser.now.transform)).meaning.IsSound }
+    ensures { GrowsByPieces I.model (λ x. C.code x ≡ _parser.now.control_char) F.Error.errors (F.grammar (F.state _parser.now.normal)).meaning
+        (G.grammar (G.state _parser.now.transform)).meaning (⟦<EscapedTransform<A, F, G> as Parser<I>>⟧.grammar (
+          F.state _parser.now.normal,
+          _parser.now.control_char,
+          G.state _parser.now.transform,
+        )).meaning }
 {}

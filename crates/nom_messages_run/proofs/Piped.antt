@@ -3,7 +3,7 @@ use Rattle.std.proofs.Common.{arith, ◌≡◌, ℕ, ◌+◌, List, [], ◌∷�
 use Rattle.std.proofs.Common.{IfErr, IfOk, inl, inr, length-append, take, drop}
 use Rattle.std.specs.Io.KnownBytes.{Appends}
 use Rattle.nom_error.specs.declared.value.Error.{Error}
-use Rattle.nom_internal.specs.Prelude.{Meaning}
+use Rattle.nom_internal.specs.Prelude.{Grammar}
 use Rattle.std.proofs.lemmas.List.{take-append-drop}
 use Rattle.nom_run.proofs.Known.{appends-more, appends-none}
 use Rattle.nom_run.specs.declared.error.RunError.{RunError}
@@ -19,15 +19,15 @@ use Rattle.example_streams.specs.declared.messages.Received.{Received}
 use Rattle.nom_messages_run.specs.Pipe.{Ends, Lines, Lists, Wrote, WroteAll, WroteFront, WroteLines, WroteSome}
 use Rattle.nom_messages_run.specs.Pipe.{ending_status, ending_text, received_text, stopped}
 
-module _ {R A V : Type 0} (left : R → Option (List ℕ)) (IsItem : V → Received → Type 0) (m : Meaning Bytes V (Error Bytes)) where
+module _ {R A V : Type 0} (left : R → Option (List ℕ)) (grammar : Grammar Bytes V Received (Error Bytes)) where
   -- one more message, and its line
   one_more : (messages : List (ℕ × Received)) (s t u : Stream R A) (text : List ℕ) (n : ℕ) (message : Received) →
-      Lines left IsItem m messages s t text → Decides left IsItem m t u (Ok (Some (n, message))) →
-      Lines left IsItem m (messages ++ (n, message) ∷ []) s u (text ++ received_text message (last_of n u.held))
+      Lines left grammar messages s t text → Decides left grammar t u (Ok (Some (n, message))) →
+      Lines left grammar (messages ++ (n, message) ∷ []) s u (text ++ received_text message (last_of n u.held))
   one_more [] s t u text n message h d =
       let line = received_text message (last_of n u.held) in (
         u,
-        subst (λ z. Decides left IsItem m z u (Ok (Some (n, message)))) h.0 d,
+        subst (λ z. Decides left grammar z u (Ok (Some (n, message)))) h.0 d,
         ([], ap (λ z. z ++ line) h.1 ∙ sym (append-nil line), (refl, refl)),
       )
   one_more ((k, first) ∷ messages) s t u text n message h d =
@@ -46,7 +46,7 @@ module _ {R A V : Type 0} (left : R → Option (List ℕ)) (IsItem : V → Recei
   pub record Going (s t : Stream R A) (held held' : Option (List ℕ)) (text : List ℕ) (count : ℕ) : Type 0 where
     pub written : List ℕ
     pub wrote : Appends held held' written
-    pub lists : Lists left IsItem m s t (written ++ text) count
+    pub lists : Lists left grammar s t (written ++ text) count
 
   pub none_yet : (s : Stream R A) (held : Option (List ℕ)) (text : List ℕ) → text ≡ [] → Going s s held held text 0
   none_yet s held text e = record {
@@ -57,14 +57,14 @@ module _ {R A V : Type 0} (left : R → Option (List ℕ)) (IsItem : V → Recei
 
   module _ (s t : Stream R A) (held now : Option (List ℕ)) (text : List ℕ) (count : ℕ) (g : Going s t held now text count) where
     module _ (u : Stream R A) (n : ℕ) (message : Received) (given : Option (ℕ × Received)) (is : given ≡ Some (n, message))
-        (decides : Decides left IsItem m t u (Ok given)) where
-      d : Decides left IsItem m t u (Ok (Some (n, message)))
-      d = subst (λ z. Decides left IsItem m t u (Ok z)) is decides
+        (decides : Decides left grammar t u (Ok given)) where
+      d : Decides left grammar t u (Ok (Some (n, message)))
+      d = subst (λ z. Decides left grammar t u (Ok z)) is decides
 
-      all_lines : Lists left IsItem m s u (g.written ++ (text ++ received_text message (last_of n u.held))) (count + 1)
+      all_lines : Lists left grammar s u (g.written ++ (text ++ received_text message (last_of n u.held))) (count + 1)
       all_lines = record {
         messages = g.lists.messages ++ (n, message) ∷ [];
-        lines = subst (Lines left IsItem m (g.lists.messages ++ (n, message) ∷ []) s u)
+        lines = subst (Lines left grammar (g.lists.messages ++ (n, message) ∷ []) s u)
             (append_assoc g.written text (received_text message (last_of n u.held)))
             (one_more g.lists.messages s t u (g.written ++ text) n message g.lists.lines d);
         counted = simp length-append (omega (arith, g.lists.counted));
@@ -75,12 +75,12 @@ module _ {R A V : Type 0} (left : R → Option (List ℕ)) (IsItem : V → Recei
       goes_on then new w = record {
         written = g.written ++ w.0;
         wrote = appends-more held now then g.written w.0 g.wrote w.2;
-        lists = subst (λ z. Lists left IsItem m s u z (count + 1))
+        lists = subst (λ z. Lists left grammar s u z (count + 1))
             (ap (λ z. g.written ++ z) w.1 ∙ sym (append_assoc g.written w.0 new)) all_lines;
       }
 
       pub line_begun : (then : Option (List ℕ)) → WroteFront now then (text ++ received_text message (last_of n u.held)) →
-          WroteSome left IsItem m s u held then
+          WroteSome left grammar s u held then
       line_begun then w =
           let all = text ++ received_text message (last_of n u.held) in
           let wrote = w.1 in
@@ -94,10 +94,10 @@ module _ {R A V : Type 0} (left : R → Option (List ℕ)) (IsItem : V → Recei
           }
 
     -- all is written, or some
-    pub all_written : (then : Option (List ℕ)) → Appends now then text → WroteLines left IsItem m s t held then count
+    pub all_written : (then : Option (List ℕ)) → Appends now then text → WroteLines left grammar s t held then count
     all_written then w = (g.written ++ text, g.lists, appends-more held now then g.written text g.wrote w)
 
-    pub some_written : (then : Option (List ℕ)) → WroteFront now then text → WroteSome left IsItem m s t held then
+    pub some_written : (then : Option (List ℕ)) → WroteFront now then text → WroteSome left grammar s t held then
     some_written then w =
         let wrote = w.1 in
         record {
@@ -110,8 +110,8 @@ module _ {R A V : Type 0} (left : R → Option (List ℕ)) (IsItem : V → Recei
         }
 
     -- and the end
-    module _ (u : Stream R A) (why : Option Why.Stop) (d : Decides left IsItem m t u (stopped why)) where
-      all_ends : Ends left IsItem m s u (g.written ++ (text ++ ending_text why u.offset)) (ending_status why)
+    module _ (u : Stream R A) (why : Option Why.Stop) (d : Decides left grammar t u (stopped why)) where
+      all_ends : Ends left grammar s u (g.written ++ (text ++ ending_text why u.offset)) (ending_status why)
       all_ends = record {
         before = t;
         lines = g.written ++ text;
@@ -124,15 +124,15 @@ module _ {R A V : Type 0} (left : R → Option (List ℕ)) (IsItem : V → Recei
       }
 
       pub ended : (then : Option (List ℕ)) (status : ℕ) → (status ≡ ending_status why) × Appends now then (text ++ ending_text why u.offset) →
-          WroteAll left IsItem m s u held then status
+          WroteAll left grammar s u held then status
       ended then status w =
           let all = text ++ ending_text why u.offset in (
             g.written ++ all,
-            subst (Ends left IsItem m s u (g.written ++ all)) (sym w.0) all_ends,
+            subst (Ends left grammar s u (g.written ++ all)) (sym w.0) all_ends,
             appends-more held now then g.written all g.wrote w.1,
           )
 
-      pub end_begun : (then : Option (List ℕ)) → WroteFront now then (text ++ ending_text why u.offset) → WroteSome left IsItem m s u held then
+      pub end_begun : (then : Option (List ℕ)) → WroteFront now then (text ++ ending_text why u.offset) → WroteSome left grammar s u held then
       end_begun then w =
           let all = text ++ ending_text why u.offset in
           let wrote = w.1 in

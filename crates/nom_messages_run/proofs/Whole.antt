@@ -4,7 +4,7 @@ use Rattle.std.proofs.Common.{Ok, refl, sym, ◌∙◌, ap, subst, take}
 use Rattle.std.specs.Io.KnownBytes.{Appends}
 use Rattle.std.specs.List.{AllZip}
 use Rattle.nom_error.specs.declared.value.Error.{Error}
-use Rattle.nom_internal.specs.Prelude.{bytes_model, bytes_lawful, IsSuffixOf, rest_rest, Outcome, Accept, Stop, Needs, Meaning, IsLawful}
+use Rattle.nom_internal.specs.Prelude.{bytes_model, bytes_lawful, IsSuffixOf, rest_rest, Outcome, Accept, Stop, Needs, Meaning, IsLawful, Grammar}
 use Rattle.nom_iterator.specs.Iterated.{AreItems}
 use Rattle.nom_iterator.specs.Iterated as Iterated
 use Rattle.nom_stream.specs.declared.stream.Stop as Why
@@ -44,7 +44,7 @@ still : (offset : ℕ) (why : Option Why.Stop) → counted offset (stopped why) 
 still offset None = refl
 still offset (Some why) = refl
 
-module _ {R A V : Type 0} (left : R → Option (List ℕ)) (IsItem : V → Received → Type 0) (m : Meaning Bytes V (Error Bytes)) where
+module _ {R A V : Type 0} (left : R → Option (List ℕ)) (grammar : Grammar Bytes V Received (Error Bytes)) where
   -- the lines of the first items, and what is after them
   record Listed (s t : Stream R A) (whole : Bytes) (limit : ℕ) (trees : List V) (text : List ℕ) : Type 0 where
     pub first : List V
@@ -52,24 +52,24 @@ module _ {R A V : Type 0} (left : R → Option (List ℕ)) (IsItem : V → Recei
     pub trees_are : trees ≡ first ++ others
     pub place : Bytes
     pub known : bytes_model.IsKnown place
-    pub lines_are : LinesOf IsItem m s.settings.complete first whole place text
+    pub lines_are : LinesOf grammar s.settings.complete first whole place text
     pub used : ℕ
     pub begins : IsSuffixOf bytes_model whole used place
     pub left_then : HasLeft left t place.now
-    pub go_on : AllItems m s.settings.complete limit place others
+    pub go_on : AllItems grammar.meaning s.settings.complete limit place others
     pub offset : t.offset ≡ min (s.offset + used) (2 ^ 64 - 1)
     pub settings : t.settings ≡ s.settings
 
   -- every answer rests on lawful meanings
-  lawful_of : (u t : Stream R A) (r : Told Received) → Answers IsItem m u t r → IsLawful bytes_model m
+  lawful_of : (u t : Stream R A) (r : Told Received) → Answers grammar u t r → IsLawful bytes_model grammar.meaning
   lawful_of u t r (Decided taken d g l e) = g.parses.lawful
   lawful_of u t r (AtEnd e k g h) = g.parses.lawful
   lawful_of u t r (Full a b w e) = (w.1).parses.lawful
   lawful_of u t r (Unfilled why l b before last d w e) = (w.1).parses.lawful
 
   -- where the last line tells that there is no further item, none is accepted
-  none_accepted : (lawful : IsLawful bytes_model m) (t : Stream R A) (complete : Bool) (place : Bytes) → bytes_model.IsKnown place →
-      (why : Option Why.Stop) (k : ℕ) (v : V) → AtWhole m complete place (Accept k v) → TellsWhole IsItem m t (stopped why) place (Accept k v) →
+  none_accepted : (lawful : IsLawful bytes_model grammar.meaning) (t : Stream R A) (complete : Bool) (place : Bytes) → bytes_model.IsKnown place →
+      (why : Option Why.Stop) (k : ℕ) (v : V) → AtWhole grammar.meaning complete place (Accept k v) → TellsWhole grammar t (stopped why) place (Accept k v) →
       IsTheEnd complete why → ⊥
   none_accepted lawful t false place known None k v a told end =
       let same : Accept k v ≡ Stop (Needs told.1) = lawful.one_outcome true place place (Accept k v) (Stop (Needs told.1)) known known
@@ -86,7 +86,7 @@ module _ {R A V : Type 0} (left : R → Option (List ℕ)) (IsItem : V → Recei
 
   -- an item before those that follow
   prepend : (s u t : Stream R A) (n : ℕ) (o : Received) (bytes rest : List ℕ) (whole next : Bytes) (limit : ℕ) (v : V) (vs : List V) →
-      bytes ≡ take n whole.now → AtWhole m s.settings.complete whole (Accept n v) → IsItem v o → IsSuffixOf bytes_model whole n next →
+      bytes ≡ take n whole.now → AtWhole grammar.meaning s.settings.complete whole (Accept n v) → grammar.IsOutput v o → IsSuffixOf bytes_model whole n next →
       u.offset ≡ min (s.offset + n) (2 ^ 64 - 1) → u.settings ≡ s.settings →
       Listed u t next limit vs rest → Listed s t whole limit (v ∷ vs) (received_text o bytes ++ rest)
   prepend s u t n o bytes rest whole next limit v vs first a item begins offset settings k = record {
@@ -104,28 +104,28 @@ module _ {R A V : Type 0} (left : R → Option (List ℕ)) (IsItem : V → Recei
         (
           next,
           begins,
-          (rest, ap (λ z. received_text o z ++ rest) first, subst (λ z. LinesOf IsItem m z.complete k.first next k.place rest) settings k.lines_are),
+          (rest, ap (λ z. received_text o z ++ rest) first, subst (λ z. LinesOf grammar z.complete k.first next k.place rest) settings k.lines_are),
         ),
       ),
     );
     used = n + k.used;
     begins = rest_rest bytes_model bytes_lawful whole n next k.used k.place begins k.begins;
     left_then = k.left_then;
-    go_on = subst (λ z. AllItems m z.complete limit k.place k.others) settings k.go_on;
+    go_on = subst (λ z. AllItems grammar.meaning z.complete limit k.place k.others) settings k.go_on;
     offset = omega (arith, k.offset, offset);
     settings = k.settings ∙ settings;
   }
 
-  module _ (answers : AnswersWhole A left IsItem m) (items : ItemsOfWhole A left IsItem m) (bytes : BytesOfWhole A left IsItem m) where
+  module _ (answers : AnswersWhole A left grammar) (items : ItemsOfWhole A left grammar) (bytes : BytesOfWhole A left grammar) where
     abbrev AreListed : Stream R A → Stream R A → ℕ → List ℕ → Type 0
     AreListed s t count text =
         (whole : Bytes) → bytes_model.IsKnown whole → HasLeft left s whole.now → s.offset ≤ 2 ^ 64 - 1 →
-        (limit : ℕ) (trees : List V) → AllItems m s.settings.complete (count + limit) whole trees → Listed s t whole limit trees text
+        (limit : ℕ) (trees : List V) → AllItems grammar.meaning s.settings.complete (count + limit) whole trees → Listed s t whole limit trees text
 
     -- an item that a call gave
-    item_first : (s u t : Stream R A) (n : ℕ) (o : Received) (count : ℕ) (rest : List ℕ) → Decides left IsItem m s u (Ok (Some (n, o))) →
+    item_first : (s u t : Stream R A) (n : ℕ) (o : Received) (count : ℕ) (rest : List ℕ) → Decides left grammar s u (Ok (Some (n, o))) →
         AreListed u t count rest → (whole : Bytes) → bytes_model.IsKnown whole → HasLeft left s whole.now → s.offset ≤ 2 ^ 64 - 1 →
-        (limit : ℕ) (trees : List V) → AllItems m s.settings.complete (suc (count + limit)) whole trees →
+        (limit : ℕ) (trees : List V) → AllItems grammar.meaning s.settings.complete (suc (count + limit)) whole trees →
         Listed s t whole limit trees (received_text o (last_of n u.held) ++ rest)
     item_first s u t n o count rest d others whole known has low limit [] a =
         let told = answers s u (Ok (Some (n, o))) d whole known has a.0 a.1 in
@@ -136,20 +136,20 @@ module _ {R A V : Type 0} (left : R → Option (List ℕ)) (IsItem : V → Recei
         let size : a.0 ≡ n = cc (told.2) in
         let one : suc (count + limit) ≡ 1 + (count + limit) = omega arith in
         let w = items s u (Ok (Some (n, o)) ∷ []) (u, d, refl) whole known has low (count + limit) (v ∷ vs)
-        (subst (λ z. AllItems m s.settings.complete z whole (v ∷ vs)) one a) in
+        (subst (λ z. AllItems grammar.meaning s.settings.complete z whole (v ∷ vs)) one a) in
         let all : n + 0 ≡ n = omega arith in
         let next = w.place in
-        let same : w.others ≡ vs = one_tree IsItem o v vs w.first w.others w.items w.trees_are in
+        let same : w.others ≡ vs = one_tree grammar.IsOutput o v vs w.first w.others w.items w.trees_are in
         let begins : IsSuffixOf bytes_model whole n next = subst (λ z. IsSuffixOf bytes_model whole z next) all w.begins in
         let offset : u.offset ≡ min (s.offset + n) (2 ^ 64 - 1) = omega (arith, w.offset) in
         prepend s u t n o (last_of n u.held) rest whole next limit v vs (bytes s u n o d whole.now has)
-        (subst (λ z. AtWhole m s.settings.complete whole (Accept z v)) size a.2)
-        (subst (λ z. IsItem z o) tree told.1) begins offset w.settings
+        (subst (λ z. AtWhole grammar.meaning s.settings.complete whole (Accept z v)) size a.2)
+        (subst (λ z. grammar.IsOutput z o) tree told.1) begins offset w.settings
         (others next begins.known w.left_then (omega (arith, offset)) limit vs
-        (subst (λ z. AllItems m z.complete (count + limit) next vs) (sym w.settings)
-        (subst (AllItems m s.settings.complete (count + limit) next) same w.go_on)))
+        (subst (λ z. AllItems grammar.meaning z.complete (count + limit) next vs) (sym w.settings)
+        (subst (AllItems grammar.meaning s.settings.complete (count + limit) next) same w.go_on)))
 
-    are_listed : (messages : List (ℕ × Received)) (s t : Stream R A) (text : List ℕ) → Lines left IsItem m messages s t text →
+    are_listed : (messages : List (ℕ × Received)) (s t : Stream R A) (text : List ℕ) → Lines left grammar messages s t text →
         AreListed s t (length messages) text
     are_listed [] s t text h whole known has low limit trees a =
         let none : 0 + limit ≡ limit = omega arith in
@@ -163,7 +163,7 @@ module _ {R A V : Type 0} (left : R → Option (List ℕ)) (IsItem : V → Recei
           used = 0;
           begins = record { known = known; front = []; whole = refl; length_is = refl; mark_is = refl };
           left_then = subst (λ z. HasLeft left z whole.now) (sym h.0) has;
-          go_on = subst (λ z. AllItems m s.settings.complete z whole trees) none a;
+          go_on = subst (λ z. AllItems grammar.meaning s.settings.complete z whole trees) none a;
           offset = omega (arith, low, ap (λ z. z.offset) h.0);
           settings = ap (λ z. z.settings) h.0;
         }
@@ -172,18 +172,18 @@ module _ {R A V : Type 0} (left : R → Option (List ℕ)) (IsItem : V → Recei
         let rest = h.2 in
         subst (Listed s t whole limit trees) (sym rest.1)
         (item_first s h.0 t n o (length messages) rest.0 h.1 (are_listed messages h.0 t rest.0 rest.2) whole known has low limit trees
-        (subst (λ z. AllItems m s.settings.complete z whole trees) one_more a))
+        (subst (λ z. AllItems grammar.meaning s.settings.complete z whole trees) one_more a))
 
     -- the last line after the others
-    module _ (s t : Stream R A) (held held' : Option (List ℕ)) (status : ℕ) (text : List ℕ) (e : Ends left IsItem m s t text status)
+    module _ (s t : Stream R A) (held held' : Option (List ℕ)) (status : ℕ) (text : List ℕ) (e : Ends left grammar s t text status)
         (wrote : Appends held held' text) (whole : Bytes) (limit : ℕ) (trees : List V)
         (k : Listed s e.before whole (suc limit) trees e.lines) where
-      told : (outcome : Outcome V) → AtWhole m s.settings.complete k.place outcome → TellsWhole IsItem m t (stopped e.why) k.place outcome
+      told : (outcome : Outcome V) → AtWhole grammar.meaning s.settings.complete k.place outcome → TellsWhole grammar t (stopped e.why) k.place outcome
       told outcome a = answers e.before t (stopped e.why) e.last k.place k.known k.left_then outcome
-          (subst (λ z. AtWhole m z.complete k.place outcome) (sym k.settings) a)
+          (subst (λ z. AtWhole grammar.meaning z.complete k.place outcome) (sym k.settings) a)
 
-      with_last : (outcome : Outcome V) → AtWhole m s.settings.complete k.place outcome → (IsTheEnd s.settings.complete e.why → k.others ≡ []) →
-          WroteWhole IsItem m s t held held' status whole trees
+      with_last : (outcome : Outcome V) → AtWhole grammar.meaning s.settings.complete k.place outcome → (IsTheEnd s.settings.complete e.why → k.others ≡ []) →
+          WroteWhole grammar s t held held' status whole trees
       with_last outcome a all = record {
         first = k.first;
         others = k.others;
@@ -203,19 +203,19 @@ module _ {R A V : Type 0} (left : R → Option (List ℕ)) (IsItem : V → Recei
         are_all = all;
       }
 
-      last_line : (others : List V) → k.others ≡ others → WroteWhole IsItem m s t held held' status whole trees
+      last_line : (others : List V) → k.others ≡ others → WroteWhole grammar s t held held' status whole trees
       last_line [] is =
-          let p = subst (AllItems m s.settings.complete (suc limit) k.place) is k.go_on in
+          let p = subst (AllItems grammar.meaning s.settings.complete (suc limit) k.place) is k.go_on in
           with_last p.0 p.1 (λ _. is)
       last_line (v ∷ vs) is =
-          let p = subst (AllItems m s.settings.complete (suc limit) k.place) is k.go_on in
+          let p = subst (AllItems grammar.meaning s.settings.complete (suc limit) k.place) is k.go_on in
           let lawful = lawful_of (e.last).filled t (stopped e.why) (e.last).answers in
           with_last (Accept p.0 v) p.2
           (λ end. absurd (none_accepted lawful t s.settings.complete k.place k.known e.why p.0 v p.2 (told (Accept p.0 v) p.2) end))
 
-    pub lines_whole : LinesOfWhole A left IsItem m
+    pub lines_whole : LinesOfWhole A left grammar
     lines_whole s t held held' status w whole known has low limit trees a below =
         let e = w.1 in
-        let more = other_limit m s.settings.complete limit (length e.messages + suc (length trees)) whole trees below (omega arith) a in
+        let more = other_limit grammar.meaning s.settings.complete limit (length e.messages + suc (length trees)) whole trees below (omega arith) a in
         let k = are_listed e.messages s e.before e.lines e.listed whole known has low (suc (length trees)) trees more in
         last_line s t held held' status w.0 e w.2 whole (length trees) trees k k.others refl

@@ -2,7 +2,7 @@
 use Rattle.std.specs.Prelude.{◌≡◌, ℕ, ◌-◌, ◌⊎◌, List, [], ◌∷◌, ◌++◌, length, drop, codes, Option, Some, None, Ok, Err}
 use Rattle.std.specs.Fmt.{decimal}
 use Rattle.std.specs.Io.KnownBytes.{Appends}
-use Rattle.nom_internal.specs.Prelude.{size_of, Meaning}
+use Rattle.nom_internal.specs.Prelude.{size_of, Grammar}
 use Rattle.nom_error.specs.declared.value.Error.{Error}
 use Rattle.nom_run.specs.Texts.{bytes_text, error_text, failure_text, need_text}
 use Rattle.nom_stream.specs.declared.stream.Stop as Why
@@ -52,11 +52,11 @@ abbrev pub stopped : Option Why.Stop → Told Received
 stopped None = Ok None
 stopped (Some why) = Err why
 
-module _ {R A V : Type 0} (left : R → Option (List ℕ)) (IsItem : V → Received → Type 0) (m : Meaning Bytes V (Error Bytes)) where
+module _ {R A V : Type 0} (left : R → Option (List ℕ)) (grammar : Grammar Bytes V Received (Error Bytes)) where
   -- calls of `next_item` gave these messages, one after another, and these are their lines
   abbrev pub Lines : List (ℕ × Received) → (s t : Stream R A) → (text : List ℕ) → Type 0
   Lines [] s t text = (t ≡ s) × (text ≡ [])
-  Lines ((n, message) ∷ rs) s t text = (u : Stream R A) × Decides left IsItem m s u (Ok (Some (n, message))) ×
+  Lines ((n, message) ∷ rs) s t text = (u : Stream R A) × Decides left grammar s u (Ok (Some (n, message))) ×
       ((rest : List ℕ) × (text ≡ received_text message (last_of n u.held) ++ rest) × Lines rs u t rest)
 
   module _ (s t : Stream R A) (text : List ℕ) where
@@ -73,7 +73,7 @@ module _ {R A V : Type 0} (left : R → Option (List ℕ)) (IsItem : V → Recei
       pub messages : List (ℕ × Received)
       pub listed : Lines messages s before lines
       pub why : Option Why.Stop
-      pub last : Decides left IsItem m before t (stopped why)
+      pub last : Decides left grammar before t (stopped why)
       pub text_is : text ≡ lines ++ ending_text why t.offset
       pub status_is : status ≡ ending_status why
 

@@ -2,7 +2,7 @@
 use Rattle.std.specs.Prelude.{◌≡◌, ℕ, ◌+◌, ◌-◌, ◌^◌, ◌<◌, ◌≤◌, min, Bool, false, List, [], ◌∷◌, ◌++◌, length, take, Option, Some, None}
 use Rattle.std.specs.Io.KnownBytes.{Appends}
 use Rattle.nom_error.specs.declared.value.Error.{Error}
-use Rattle.nom_internal.specs.Prelude.{bytes_model, IsSuffixOf, Outcome, Accept, Stop, Meaning}
+use Rattle.nom_internal.specs.Prelude.{bytes_model, IsSuffixOf, Outcome, Accept, Stop, Grammar}
 use Rattle.nom_iterator.specs.Iterated.{AreItems}
 use Rattle.nom_stream.specs.declared.stream.Stop as Why
 use Rattle.nom_stream.specs.declared.stream.Stop.TheVariants as Stop
@@ -23,16 +23,16 @@ IsTheEnd complete (Some Stop.TooLong) = ⊥
 IsTheEnd complete (Some (Stop.Fault error)) = ⊥
 IsTheEnd complete (Some Stop.OutOfMemory) = ⊥
 
-module _ {V : Type 0} (IsItem : V → Received → Type 0) (m : Meaning Bytes V (Error Bytes)) (complete : Bool) where
+module _ {V : Type 0} (grammar : Grammar Bytes V Received (Error Bytes)) (complete : Bool) where
   -- The lines of the messages of these trees, from an input on up to a place: each is accepted where the one before ended, and its line
   -- has its bytes, which are the first ones there.
   abbrev pub LinesOf : List V → (i place : Bytes) → (text : List ℕ) → Type 0
   LinesOf [] i place text = (i ≡ place) × (text ≡ [])
-  LinesOf (v ∷ vs) i place text = (n : ℕ) × AtWhole m complete i (Accept n v) × ((message : Received) × IsItem v message ×
+  LinesOf (v ∷ vs) i place text = (n : ℕ) × AtWhole grammar.meaning complete i (Accept n v) × ((message : Received) × grammar.IsOutput v message ×
       ((next : Bytes) × IsSuffixOf bytes_model i n next × ((rest : List ℕ) ×
       (text ≡ received_text message (take n i.now) ++ rest) × LinesOf vs next place rest)))
 
-module _ {R A V : Type 0} (IsItem : V → Received → Type 0) (m : Meaning Bytes V (Error Bytes)) where
+module _ {R A V : Type 0} (grammar : Grammar Bytes V Received (Error Bytes)) where
   -- What was written, of data that is `whole`, and of which these are the trees of the items: the lines of the first of them, and the
   -- last line, which tells of the outcome after these. Where it tells that there is no further message, they are all.
   pub record WroteWhole (s t : Stream R A) (held held' : Option (List ℕ)) (status : ℕ) (whole : Bytes) (trees : List V) : Type 0 where
@@ -41,7 +41,7 @@ module _ {R A V : Type 0} (IsItem : V → Received → Type 0) (m : Meaning Byte
     pub trees_are : trees ≡ first ++ others
     pub place : Bytes
     pub lines : List ℕ
-    pub lines_are : LinesOf IsItem m s.settings.complete first whole place lines
+    pub lines_are : LinesOf grammar s.settings.complete first whole place lines
     pub why : Option Why.Stop
     pub wrote : Appends held held' (lines ++ ending_text why t.offset)
     pub status_is : status ≡ ending_status why
@@ -50,15 +50,15 @@ module _ {R A V : Type 0} (IsItem : V → Received → Type 0) (m : Meaning Byte
     pub begins : IsSuffixOf bytes_model whole used place
     pub offset : t.offset ≡ min (s.offset + used) (2 ^ 64 - 1)
     pub outcome : Outcome V
-    pub answers : AtWhole m s.settings.complete place outcome
-    pub told : TellsWhole IsItem m t (stopped why) place outcome
+    pub answers : AtWhole grammar.meaning s.settings.complete place outcome
+    pub told : TellsWhole grammar t (stopped why) place outcome
     pub are_all : IsTheEnd s.settings.complete why → others ≡ []
 
-module _ (A : Type 0) {R V : Type 0} (left : R → Option (List ℕ)) (IsItem : V → Received → Type 0) (m : Meaning Bytes V (Error Bytes)) where
+module _ (A : Type 0) {R V : Type 0} (left : R → Option (List ℕ)) (grammar : Grammar Bytes V Received (Error Bytes)) where
   -- What is written is that of the whole, for every way in which its bytes came.
   abbrev pub LinesOfWhole : Type 0
   LinesOfWhole =
-      (s t : Stream R A) (held held' : Option (List ℕ)) (status : ℕ) → WroteAll left IsItem m s t held held' status →
+      (s t : Stream R A) (held held' : Option (List ℕ)) (status : ℕ) → WroteAll left grammar s t held held' status →
       (whole : Bytes) → bytes_model.IsKnown whole → HasLeft left s whole.now → s.offset ≤ 2 ^ 64 - 1 →
-      (limit : ℕ) (trees : List V) → AreItems bytes_model (AtWhole m s.settings.complete) limit whole trees → length trees < limit →
-      WroteWhole IsItem m s t held held' status whole trees
+      (limit : ℕ) (trees : List V) → AreItems bytes_model (AtWhole grammar.meaning s.settings.complete) limit whole trees → length trees < limit →
+      WroteWhole grammar s t held held' status whole trees

@@ -170,18 +170,18 @@ pub fn tell_items<R: Read, A: Allocator + Copy, G: Grammar<Item = Received>, W: 
     grammar: &mut G,
     sink: &mut W,
 ) -> Result<u8, RunError>
-    requires sound { (G.meaning (G.state grammar.old)).IsSound }
+    requires sound { (G.grammar (G.state grammar.old)).meaning.IsSound }
     requires open { IsOpen R.remaining stream.old }
     ensures kept { G.state grammar.new ≡ G.state grammar.old }
     ensures open { IsOpen R.remaining stream.new }
-    ensures status { IfOk result (λ status. WroteAll R.remaining (G.IsItem (G.state grammar.old)) (G.meaning (G.state grammar.old))
+    ensures status { IfOk result (λ status. WroteAll R.remaining (G.grammar (G.state grammar.old))
         stream.old stream.new (W.held sink.old) (W.held sink.new) status) }
     ensures error { IfErr result (λ e. MatchRunError e
-        (WroteLines R.remaining (G.IsItem (G.state grammar.old)) (G.meaning (G.state grammar.old))
+        (WroteLines R.remaining (G.grammar (G.state grammar.old))
         stream.old stream.new (W.held sink.old) (W.held sink.new) (2 ^ 64 - 1))
-        (WroteSome R.remaining (G.IsItem (G.state grammar.old)) (G.meaning (G.state grammar.old))
+        (WroteSome R.remaining (G.grammar (G.state grammar.old))
         stream.old stream.new (W.held sink.old) (W.held sink.new))
-        (WroteSome R.remaining (G.IsItem (G.state grammar.old)) (G.meaning (G.state grammar.old))
+        (WroteSome R.remaining (G.grammar (G.state grammar.old))
         stream.old stream.new (W.held sink.old) (W.held sink.new)) ⊥) }
 {
     let mut text = match make_room(alloc) {
@@ -214,12 +214,12 @@ pub fn tell_messages<R: Read, A: Allocator + Copy, W: Sink>(
 ) -> Result<u8, RunError>
     requires { IsOpen R.remaining stream.old }
     ensures open { IsOpen R.remaining stream.new }
-    ensures status { IfOk result (λ status. WroteAll R.remaining message_of.IsOutput message_of.meaning
+    ensures status { IfOk result (λ status. WroteAll R.remaining message_of
         stream.old stream.new (W.held sink.old) (W.held sink.new) status) }
     ensures error { IfErr result (λ e. MatchRunError e
-        (WroteLines R.remaining message_of.IsOutput message_of.meaning stream.old stream.new (W.held sink.old) (W.held sink.new) (2 ^ 64 - 1))
-        (WroteSome R.remaining message_of.IsOutput message_of.meaning stream.old stream.new (W.held sink.old) (W.held sink.new))
-        (WroteSome R.remaining message_of.IsOutput message_of.meaning stream.old stream.new (W.held sink.old) (W.held sink.new)) ⊥) }
+        (WroteLines R.remaining message_of stream.old stream.new (W.held sink.old) (W.held sink.new) (2 ^ 64 - 1))
+        (WroteSome R.remaining message_of stream.old stream.new (W.held sink.old) (W.held sink.new))
+        (WroteSome R.remaining message_of stream.old stream.new (W.held sink.old) (W.held sink.new)) ⊥) }
 {
     tell_items(alloc, stream, &mut Messages, sink)
 }

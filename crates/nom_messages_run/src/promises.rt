@@ -15,7 +15,7 @@ pub fn lines_of_whole<R: Read, A: Allocator + Copy, G: Grammar<Item = Received>>
     stream: &Stream<R, A>,
     grammar: &G,
 )
-    ensures { LinesOfWhole A R.remaining (G.IsItem (G.state grammar.now)) (G.meaning (G.state grammar.now)) }
+    ensures { LinesOfWhole A R.remaining (G.grammar (G.state grammar.now)) }
 {
     answers_of_whole(stream, grammar);
     items_of_whole(stream, grammar);

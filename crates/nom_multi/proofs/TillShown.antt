@@ -4,7 +4,7 @@ use Rattle.std.proofs.Common.{subst, arith, zero, suc}
 use Rattle.std.specs.Prelude.{IsSome, IfSome}
 use Rattle.std.specs.List.{AllZip}
 use Rattle.std.specs.declared.vec.Vec.{Vec}
-use Rattle.nom_internal.specs.Prelude.{Errors, PResult, Refuses, size_of, Needed, Incomplete, Error, Failure, OutOfMemory, Built, Modes, modes, Model}
+use Rattle.nom_internal.specs.Prelude.{Errors, PResult, Refuses, size_of, Needed, Incomplete, Error, Failure, OutOfMemory, Built, Modes, modes, Model, Grammar}
 use Rattle.nom_internal.specs.Prelude.{InputLaws, IsSuffixOf, Outcome, Accept, Refuse, Stop, Fails, Needs, ShowsAnswer, Meaning}
 use Rattle.nom_internal.specs.Prelude.{ShowsMeaning, labelled_meaning, ClosesError, always}
 use Rattle.nom_error.specs.declared.answer.Err as Answer
@@ -199,10 +199,11 @@ may_grow (Some k) = tt
 may_grow None = tt
 
 -- what is told, at the states before
-pub stands_at : {S R I A T V O P E : Type 0} {w : Model I A} (IsEnd : S → T → O → Type 0) (IsItem : R → V → P → Type 0) (end : S → Meaning I T E)
-    (m : R → Meaning I V E) {outputs errors streaming : Bool} {i : I}
+pub stands_at : {S R I A T V O P E : Type 0} {w : Model I A} (end : S → Grammar I T O E) (item : R → Grammar I V P E)
+    {outputs errors streaming : Bool} {i : I}
     {r : PResult I (Step (Option O) (Option P)) E} {a b : S} {x y : R} → a ≡ b → x ≡ y →
-    ShowsStep w (IsEnd a) (IsItem x) (end a) (m x) outputs errors streaming i r → ShowsStep w (IsEnd b) (IsItem y) (end b) (m y) outputs errors streaming i r
-stands_at {w = w} IsEnd IsItem end m {outputs} {errors} {streaming} {i} {r} {a} {b} {x} {y} e f h =
-    subst (λ z. ShowsStep w (IsEnd b) (IsItem z) (end b) (m z) outputs errors streaming i r) f
-    (subst (λ z. ShowsStep w (IsEnd z) (IsItem x) (end z) (m x) outputs errors streaming i r) e h)
+    ShowsStep w (end a).IsOutput (item x).IsOutput (end a).meaning (item x).meaning outputs errors streaming i r →
+    ShowsStep w (end b).IsOutput (item y).IsOutput (end b).meaning (item y).meaning outputs errors streaming i r
+stands_at {w = w} end item {outputs} {errors} {streaming} {i} {r} {a} {b} {x} {y} e f h =
+    subst (λ z. ShowsStep w (end b).IsOutput (item z).IsOutput (end b).meaning (item z).meaning outputs errors streaming i r) f
+    (subst (λ z. ShowsStep w (end z).IsOutput (item x).IsOutput (end z).meaning (item x).meaning outputs errors streaming i r) e h)

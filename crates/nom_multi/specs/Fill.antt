@@ -1,7 +1,7 @@
 -- Items in a buffer.
 use Rattle.std.specs.Prelude.{◌≡◌, ℕ, Bool, true, false, Option, Some, None, Err, List, ◌++◌, ◌⊎◌, drop, length, set}
 use Rattle.std.specs.List.{AllZip}
-use Rattle.nom_internal.specs.Prelude.{PResult, OutOfMemory, Errors, Model, Meaning, Modes, Outcome}
+use Rattle.nom_internal.specs.Prelude.{PResult, OutOfMemory, Errors, Model, Meaning, Modes, Outcome, Grammar}
 use Rattle.nom_repeat.specs.Repeat.{TurnsBy, Pieces}
 use Rattle.nom_repeat.specs.Repeat.Turn.{Ends}
 use Rattle.nom_repeat.specs.Items.{item_turn, items_meaning}
@@ -45,3 +45,7 @@ pub record IsFilled {I A V T E : Type 0} (w : Model I A) (IsOutput : V → T →
 abbrev pub IsPut : {T : Type 0} → List T → ℕ → Option T → List T → Type 0
 IsPut old place (Some item) new = new ≡ set old place item
 IsPut old place None new = new ≡ old
+
+-- items of a grammar, as many as a buffer has room for
+abbrev pub fill_of : {I A V O E : Type 0} → Model I A → Errors I E → ℕ → Grammar I V O E → Grammar I (List V) (Unit {0}) E
+fill_of w errs n g = record { meaning = fill_meaning w errs n g.meaning; IsOutput = IsDone }

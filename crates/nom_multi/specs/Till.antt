@@ -1,12 +1,14 @@
 -- Items until an end.
-use Rattle.std.specs.Prelude.{◌≡◌, ℕ, ◌⊎◌, Bool, true, Option, Some, None, List, zero, suc}
+use Rattle.std.specs.Prelude.{◌≡◌, ℕ, ◌⊎◌, Bool, true, Option, Some, None, List, zero, suc, Vec}
 use Rattle.std.proofs.Common.{inl, inr}
-use Rattle.nom_internal.specs.Prelude.{Errors, Built, Model, Outcome, Accept, Refuse, Stop, Fails, Needs, Meaning, labelled_meaning, otherwise_meaning, always}
+use Rattle.nom_internal.specs.Prelude.{Errors, Built, Model, Outcome, Accept, Refuse, Stop, Fails, Needs, Meaning, labelled_meaning, otherwise_meaning}
+use Rattle.nom_internal.specs.Prelude.{always, Grammar}
 use Rattle.nom_error.specs.declared.kind.ErrorKind.TheVariants as Kind
 use Rattle.nom_repeat.specs.Repeat.{Turn, Rule, repeat_meaning}
 use Rattle.nom_repeat.specs.Repeat.Turn.{Takes, Ends}
 use Rattle.nom_multi.specs.declared.till.Step.{Step}
 use Rattle.nom_multi.specs.declared.till.Step.TheVariants.{End, Item}
+use Rattle.std.specs.List.{AllZip}
 
 -- an end, which is tried first, or else an item
 abbrev pub end_or_item : {I T V E : Type 0} → Meaning I T E → Meaning I V E → Meaning I (T ⊎ V) E
@@ -72,3 +74,11 @@ IsStep builds IsEnd IsItem (inl t) (End x) = Built builds (IsEnd t) x
 IsStep builds IsEnd IsItem (inl t) (Item x) = ⊥
 IsStep builds IsEnd IsItem (inr v) (End x) = ⊥
 IsStep builds IsEnd IsItem (inr v) (Item x) = Built builds (IsItem v) x
+
+-- items of a grammar until an end
+abbrev pub many_till_of : {I A V T O P M E : Type 0} → Model I A → Errors I E → Grammar I V O E → Grammar I T P E →
+    Grammar I (List V × T) (Vec O M × P) E
+many_till_of w errs g end = record {
+  meaning = many_till_meaning w errs g.meaning end.meaning;
+  IsOutput = λ t o. AllZip g.IsOutput t.0 o.0.items × end.IsOutput t.1 o.1;
+}

@@ -1,7 +1,6 @@
 //! Exactly n items, or as many as bounds say.
 ghost use Rattle.std.specs.Prelude.{ℕ, List};
-ghost use Rattle.std.specs.List.{AllZip};
-ghost use Rattle.nom_multi.specs.Bounded.{count_meaning, many_m_n_meaning};
+ghost use Rattle.nom_multi.specs.Bounded.{count_of, many_m_n_of};
 
 use nom_counted::exact::items_exactly;
 use nom_error::answer::PResult;
@@ -10,8 +9,8 @@ use nom_error::mode::OutputMode;
 use nom_error::value::ParseError;
 use nom_internal::parser::{Parser, StreamParser};
 use nom_repeat::accumulator::none_yet;
+use nom_repeat::bounds::bounded_items;
 use nom_repeat::inverted::failure;
-use nom_repeat::items::{Limits, TooFew, items};
 use nom_traits::input::{Input, Items};
 use std::alloc::Allocator;
 
@@ -36,9 +35,7 @@ impl<I: Items, A: Allocator + Copy, F: Parser<I> + Drop> Parser<I> for Count<A, 
 
     ghost Tree = { List F.Tree };
 
-    ghost IsOutput = { λ s vs o. AllZip (F.IsOutput s.1) vs o.items };
-
-    ghost meaning = { λ s. count_meaning I.model F.Error.errors s.0 (F.meaning s.1) };
+    ghost grammar = { λ s. count_of I.model F.Error.errors s.0 (F.grammar s.1) };
 
     #[inline]
     fn process<OM: OutputMode>(&mut self, input: I) -> PResult<I, Self::Output, Self::Error> {
@@ -82,9 +79,7 @@ impl<I: Input, A: Allocator + Copy, F: Parser<I> + Drop> Parser<I> for ManyMN<A,
 
     ghost Tree = { List F.Tree };
 
-    ghost IsOutput = { λ s vs o. AllZip (F.IsOutput s.2) vs o.items };
-
-    ghost meaning = { λ s. many_m_n_meaning I.model F.Error.errors s.0 s.1 (F.meaning s.2) };
+    ghost grammar = { λ s. many_m_n_of I.model F.Error.errors s.0 s.1 (F.grammar s.2) };
 
     #[inline]
     fn process<OM: OutputMode>(&mut self, input: I) -> PResult<I, Self::Output, Self::Error> {
@@ -92,14 +87,14 @@ impl<I: Input, A: Allocator + Copy, F: Parser<I> + Drop> Parser<I> for ManyMN<A,
             return Err(failure(input, ErrorKind::ManyMN));
         }
         let none = none_yet::<OM::Output, F::Output, A>(self.alloc);
-        let limits = Limits {
-            least: self.min,
-            most: Some(self.max),
-            too_few: TooFew::Added(ErrorKind::ManyMN),
-            at_start: false,
-            empty: Some(ErrorKind::ManyMN),
-        };
-        items::<OM, OM::Error, I, F, Vec<F::Output, A>>(&mut self.parser, input, none, limits)
+        bounded_items::<OM, I, F, Vec<F::Output, A>>(
+            &mut self.parser,
+            input,
+            none,
+            ErrorKind::ManyMN,
+            self.min,
+            self.max,
+        )
     }
 
     ghost lawful = { λ s k. many_m_n_lawful I.lawful F.Error.errors s.0 s.1 (F.lawful s.2 k) };

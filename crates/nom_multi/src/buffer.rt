@@ -1,7 +1,7 @@
 //! Items in a buffer.
 ghost use Rattle.std.specs.Prelude.{◌≡◌, ◌<◌, ℕ, List, length, None};
 ghost use Rattle.nom_internal.specs.Prelude.{Built, modes, ShowsMeaning};
-ghost use Rattle.nom_multi.specs.Fill.{fill_meaning, IsDone, IsFilled, IsPut, IsRanOut};
+ghost use Rattle.nom_multi.specs.Fill.{fill_meaning, IsDone, IsFilled, IsPut, IsRanOut, fill_of};
 
 use nom_error::answer::{Err, PResult};
 use nom_error::kind::ErrorKind;
@@ -32,13 +32,11 @@ impl<'a, I: Items, T: Drop, F: Parser<I, Output = T> + Drop> Parser<I> for Fill<
 
     ghost Tree = { List F.Tree };
 
-    ghost IsOutput = { λ _. IsDone };
-
     /// What the buffer holds.
-    ghost Besides = { λ mode old new i rest. IsFilled I.model (F.IsOutput (F.state old.parser)) (F.meaning (F.state old.parser)) mode i
+    ghost Besides = { λ mode old new i rest. IsFilled I.model (F.grammar (F.state old.parser)).IsOutput (F.grammar (F.state old.parser)).meaning mode i
         old.buffer.now new.buffer.now (rest ≡ None) };
 
-    ghost meaning = { λ s. fill_meaning I.model F.Error.errors s.1 (F.meaning s.0) };
+    ghost grammar = { λ s. fill_of I.model F.Error.errors s.1 (F.grammar s.0) };
 
     #[inline]
     fn process<OM: OutputMode>(&mut self, input: I) -> PResult<I, (), F::Error> {
@@ -67,12 +65,12 @@ pub fn fill_buffer<OM: OutputMode, I: Items, T: Drop, F: Parser<I, Output = T>>(
     buffer: &mut [T],
     input: I,
 ) -> PResult<I, (), F::Error>
-    requires { (F.meaning (F.state parser.old)).IsSound }
-    ensures shown { ShowsMeaning I.model IsDone (fill_meaning I.model F.Error.errors (length buffer.old) (F.meaning (F.state parser.old)))
+    requires { (F.grammar (F.state parser.old)).meaning.IsSound }
+    ensures shown { ShowsMeaning I.model IsDone (fill_meaning I.model F.Error.errors (length buffer.old) (F.grammar (F.state parser.old)).meaning)
         (modes OM.Output.BUILDS OM.Error.BUILDS OM.Incomplete.STREAMING) input result }
     ensures kept { F.state parser.new ≡ F.state parser.old }
     ensures long { length buffer.new ≡ length buffer.old }
-    ensures filled { IsFilled I.model (F.IsOutput (F.state parser.old)) (F.meaning (F.state parser.old))
+    ensures filled { IsFilled I.model (F.grammar (F.state parser.old)).IsOutput (F.grammar (F.state parser.old)).meaning
         (modes OM.Output.BUILDS OM.Error.BUILDS OM.Incomplete.STREAMING) input buffer.old buffer.new (IsRanOut result) }
 {
     input.prove_known();

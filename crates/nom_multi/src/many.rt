@@ -1,15 +1,15 @@
 //! Items until one is refused.
 ghost use Rattle.std.specs.Prelude.{List};
-ghost use Rattle.std.specs.List.{AllZip};
-ghost use Rattle.nom_multi.specs.Many.{many0_meaning, many1_meaning};
+ghost use Rattle.nom_multi.specs.Many.{many0_of, many1_of};
 
 use nom_error::answer::PResult;
 use nom_error::kind::ErrorKind;
-use nom_error::mode::{Check, OutputMode};
+use nom_error::mode::OutputMode;
 use nom_error::value::ParseError;
 use nom_internal::parser::{Parser, StreamParser};
 use nom_repeat::accumulator::none_yet;
-use nom_repeat::items::{Limits, TooFew, items};
+use nom_repeat::bounds::{any_items, one_item};
+use nom_repeat::items::TooFew;
 use nom_traits::input::{Input, Items};
 use std::alloc::Allocator;
 
@@ -33,21 +33,12 @@ impl<I: Input, A: Allocator + Copy, F: Parser<I> + Drop> Parser<I> for Many0<A, 
 
     ghost Tree = { List F.Tree };
 
-    ghost IsOutput = { λ s vs o. AllZip (F.IsOutput s) vs o.items };
-
-    ghost meaning = { λ s. many0_meaning I.model F.Error.errors (F.meaning s) };
+    ghost grammar = { λ s. many0_of I.model F.Error.errors (F.grammar s) };
 
     #[inline]
     fn process<OM: OutputMode>(&mut self, input: I) -> PResult<I, Self::Output, Self::Error> {
         let none = none_yet::<OM::Output, F::Output, A>(self.alloc);
-        let limits = Limits {
-            least: 0,
-            most: None,
-            too_few: TooFew::Never,
-            at_start: false,
-            empty: Some(ErrorKind::Many0),
-        };
-        items::<OM, Check, I, F, Vec<F::Output, A>>(&mut self.parser, input, none, limits)
+        any_items::<OM, I, F, Vec<F::Output, A>>(&mut self.parser, input, none, ErrorKind::Many0)
     }
 
     ghost lawful = { λ s k. many0_lawful I.lawful F.Error.errors (F.lawful s k) };
@@ -84,34 +75,19 @@ impl<I: Input, A: Allocator + Copy, F: Parser<I> + Drop> Parser<I> for Many1<A, 
 
     ghost Tree = { List F.Tree };
 
-    ghost IsOutput = { λ s vs o. AllZip (F.IsOutput s) vs o.items };
-
-    ghost meaning = { λ s. many1_meaning I.model F.Error.errors (F.meaning s) };
+    ghost grammar = { λ s. many1_of I.model F.Error.errors (F.grammar s) };
 
     #[inline]
     fn process<OM: OutputMode>(&mut self, input: I) -> PResult<I, Self::Output, Self::Error> {
         let none = none_yet::<OM::Output, F::Output, A>(self.alloc);
-        let one = Limits {
-            least: 1,
-            most: Some(1),
-            too_few: TooFew::Added(ErrorKind::Many1),
-            at_start: true,
-            empty: None,
-        };
-        let (rest, first) = items::<OM, OM::Error, I, F, Vec<F::Output, A>>(
+        let (rest, first) = one_item::<OM, OM::Error, I, F, Vec<F::Output, A>>(
             &mut self.parser,
             input,
             none,
-            one,
+            TooFew::Added(ErrorKind::Many1),
+            true,
         )?;
-        let any = Limits {
-            least: 0,
-            most: None,
-            too_few: TooFew::Never,
-            at_start: false,
-            empty: Some(ErrorKind::Many0),
-        };
-        items::<OM, Check, I, F, Vec<F::Output, A>>(&mut self.parser, rest, first, any)
+        any_items::<OM, I, F, Vec<F::Output, A>>(&mut self.parser, rest, first, ErrorKind::Many0)
     }
 
     ghost lawful = { λ s k. many1_lawful I.lawful F.Error.errors (F.lawful s k.0) };

@@ -13,31 +13,32 @@ use std::alloc::Allocator;
 
 /// `many0` answers an `Error` only where an item was accepted without consuming.
 pub fn refuses_at_empty<I: Input, A: Allocator + Copy, F: Parser<I> + Drop>(_parser: &Many0<A, F>)
-    ensures { RefusesAtEmpty I.model (F.meaning (F.state _parser.now.parser)) (⟦<Many0<A, F> as Parser<I>>⟧.meaning (F.state _parser.now.parser)) }
+    ensures { RefusesAtEmpty I.model (F.grammar (F.state _parser.now.parser)).meaning
+        (⟦<Many0<A, F> as Parser<I>>⟧.grammar (F.state _parser.now.parser)).meaning }
 {}
 
 /// `many0` gives at most as many items as the input is long.
 pub fn has_few_items<I: Input, A: Allocator + Copy, F: Parser<I> + Drop>(_parser: &Many0<A, F>)
-    ensures { HasFewItems I.model (⟦<Many0<A, F> as Parser<I>>⟧.meaning (F.state _parser.now.parser)) }
+    ensures { HasFewItems I.model (⟦<Many0<A, F> as Parser<I>>⟧.grammar (F.state _parser.now.parser)).meaning }
 {}
 
 /// `many0` accepts just the items that its part accepts, one after the other, none of them empty, up to
 /// where the part refuses.
 pub fn many0_accepts<I: Input, A: Allocator + Copy, F: Parser<I> + Drop>(_parser: &Many0<A, F>)
-    ensures { AcceptsItems I.model (Unit {0}) (λ a. 0 < a) 0 None (F.meaning (F.state _parser.now.parser))
-        (⟦<Many0<A, F> as Parser<I>>⟧.meaning (F.state _parser.now.parser)) }
+    ensures { AcceptsItems I.model (Unit {0}) (λ a. 0 < a) 0 None (F.grammar (F.state _parser.now.parser)).meaning
+        (⟦<Many0<A, F> as Parser<I>>⟧.grammar (F.state _parser.now.parser)).meaning }
 {}
 
 /// `many1` accepts a first item, and after it just what `many0` accepts.
 pub fn many1_accepts<I: Input, A: Allocator + Copy, F: Parser<I> + Drop>(_parser: &Many1<A, F>)
-    ensures { AcceptsOneAndMore I.model (F.meaning (F.state _parser.now.parser)) (F.meaning (F.state _parser.now.parser))
-        (⟦<Many1<A, F> as Parser<I>>⟧.meaning (F.state _parser.now.parser)) }
+    ensures { AcceptsOneAndMore I.model (F.grammar (F.state _parser.now.parser)).meaning (F.grammar (F.state _parser.now.parser)).meaning
+        (⟦<Many1<A, F> as Parser<I>>⟧.grammar (F.state _parser.now.parser)).meaning }
 {}
 
 /// `count` accepts just that many items that its part accepts, one after the other, of any length.
 pub fn count_accepts<I: Items, A: Allocator + Copy, F: Parser<I> + Drop>(_parser: &Count<A, F>)
-    ensures { AcceptsItems I.model (Unit {0}) (λ _. Unit {0}) _parser.now.count (Some _parser.now.count) (F.meaning (F.state _parser.now.parser))
-        (⟦<Count<A, F> as Parser<I>>⟧.meaning (_parser.now.count, F.state _parser.now.parser)) }
+    ensures { AcceptsItems I.model (Unit {0}) (λ _. Unit {0}) _parser.now.count (Some _parser.now.count) (F.grammar (F.state _parser.now.parser)).meaning
+        (⟦<Count<A, F> as Parser<I>>⟧.grammar (_parser.now.count, F.state _parser.now.parser)).meaning }
 {}
 
 /// `many_m_n`, where its bounds fit each other, accepts just the items that its part accepts, one after the
@@ -45,7 +46,8 @@ pub fn count_accepts<I: Items, A: Allocator + Copy, F: Parser<I> + Drop>(_parser
 /// most.
 pub fn many_m_n_accepts<I: Input, A: Allocator + Copy, F: Parser<I> + Drop>(_parser: &ManyMN<A, F>)
     ensures { AcceptsItems I.model (_parser.now.min ≤ _parser.now.max) (λ a. 0 < a) _parser.now.min (Some _parser.now.max)
-        (F.meaning (F.state _parser.now.parser)) (⟦<ManyMN<A, F> as Parser<I>>⟧.meaning (_parser.now.min, _parser.now.max, F.state _parser.now.parser)) }
+        (F.grammar (F.state _parser.now.parser)).meaning
+        (⟦<ManyMN<A, F> as Parser<I>>⟧.grammar (_parser.now.min, _parser.now.max, F.state _parser.now.parser)).meaning }
 {}
 
 /// `many_till` accepts just the items that its part accepts, one after the other, none of them empty, each
@@ -56,6 +58,6 @@ pub fn many_till_accepts<
     F: Parser<I> + Drop,
     G: Parser<I, Error = F::Error> + Drop,
 >(_parser: &ManyTill<A, F, G>)
-    ensures { AcceptsUntil I.model (F.meaning (F.state _parser.now.parser)) (G.meaning (G.state _parser.now.end))
-        (⟦<ManyTill<A, F, G> as Parser<I>>⟧.meaning (F.state _parser.now.parser, G.state _parser.now.end)) }
+    ensures { AcceptsUntil I.model (F.grammar (F.state _parser.now.parser)).meaning (G.grammar (G.state _parser.now.end)).meaning
+        (⟦<ManyTill<A, F, G> as Parser<I>>⟧.grammar (F.state _parser.now.parser, G.state _parser.now.end)).meaning }
 {}

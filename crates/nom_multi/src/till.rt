@@ -1,8 +1,7 @@
 //! Items until an end.
 ghost use Rattle.std.specs.Prelude.{◌≡◌, true, Some, List};
-ghost use Rattle.std.specs.List.{AllZip};
 ghost use Rattle.nom_internal.specs.Prelude.{modes, ShowsAnswer};
-ghost use Rattle.nom_multi.specs.Till.{IsStep, end_or_item, many_till_meaning};
+ghost use Rattle.nom_multi.specs.Till.{IsStep, end_or_item, many_till_of};
 
 use nom_error::answer::{Err, PResult};
 use nom_error::kind::ErrorKind;
@@ -51,9 +50,7 @@ impl<
 
     ghost Tree = { List F.Tree × G.Tree };
 
-    ghost IsOutput = { λ s t o. AllZip (F.IsOutput s.0) t.0 o.0.items × G.IsOutput s.1 t.1 o.1 };
-
-    ghost meaning = { λ s. many_till_meaning I.model F.Error.errors (F.meaning s.0) (G.meaning s.1) };
+    ghost grammar = { λ s. many_till_of I.model F.Error.errors (F.grammar s.0) (G.grammar s.1) };
 
     #[inline]
     fn process<OM: OutputMode>(&mut self, input: I) -> PResult<I, Self::Output, Self::Error> {
@@ -109,13 +106,13 @@ fn end_or_next<OM: OutputMode, I: Input, F: Parser<I>, G: Parser<I, Error = F::E
     end: &mut G,
     input: I,
 ) -> PResult<I, Step<Option<G::Output>, Option<F::Output>>, F::Error>
-    requires parser { (F.meaning (F.state parser.old)).IsSound }
-    requires end { (G.meaning (G.state end.old)).IsSound }
-    ensures shown { ShowsAnswer I.model (IsStep OM.Output.BUILDS (G.IsOutput (G.state end.old)) (F.IsOutput (F.state parser.old)))
+    requires parser { (F.grammar (F.state parser.old)).meaning.IsSound }
+    requires end { (G.grammar (G.state end.old)).meaning.IsSound }
+    ensures shown { ShowsAnswer I.model (IsStep OM.Output.BUILDS (G.grammar (G.state end.old)).IsOutput (F.grammar (F.state parser.old)).IsOutput)
         (modes true OM.Error.BUILDS OM.Incomplete.STREAMING) input
-        ((end_or_item (G.meaning (G.state end.old)) (F.meaning (F.state parser.old))).answers OM.Incomplete.STREAMING input)
-        ((end_or_item (G.meaning (G.state end.old)) (F.meaning (F.state parser.old))).blames OM.Incomplete.STREAMING input)
-        ((end_or_item (G.meaning (G.state end.old)) (F.meaning (F.state parser.old))).may_run_out
+        ((end_or_item (G.grammar (G.state end.old)).meaning (F.grammar (F.state parser.old)).meaning).answers OM.Incomplete.STREAMING input)
+        ((end_or_item (G.grammar (G.state end.old)).meaning (F.grammar (F.state parser.old)).meaning).blames OM.Incomplete.STREAMING input)
+        ((end_or_item (G.grammar (G.state end.old)).meaning (F.grammar (F.state parser.old)).meaning).may_run_out
         (modes OM.Output.BUILDS OM.Error.BUILDS OM.Incomplete.STREAMING) input) result }
     ensures parser_kept { F.state parser.new ≡ F.state parser.old }
     ensures end_kept { G.state end.new ≡ G.state end.old }

@@ -1,7 +1,7 @@
 -- What folds show, by what is accumulated of items.
 use Rattle.std.proofs.Common.{◌≡◌, Bool, true, false, Option, Some, None, List, [], ◌∷◌, ◌++◌, sym, ◌∙◌, ap, subst}
 use Rattle.std.specs.List.{FoldsTo}
-use Rattle.nom_internal.specs.Prelude.{PResult, Built, Modes, Model, Errors, Meaning, ShowsMeaning}
+use Rattle.nom_internal.specs.Prelude.{PResult, Built, Modes, Model, Errors, ShowsMeaning, Grammar}
 use Rattle.nom_internal.proofs.Shown.{built_error}
 use Rattle.nom_repeat.proofs.Accumulating.{kept_both}
 use Rattle.nom_repeat.specs.Items.{items_meaning}
@@ -62,9 +62,9 @@ module _ {K B R T : Type 0} (value : K → Option R) (fold : K → B) (Gives : B
 
 -- what items show, at an equal state of their part
 pub items_at : {S I A V T K E : Type 0} {w : Model I A} {Pushes : K → T → K → Type 0} {CanPush : K → Type 0} {before : Option K}
-    (IsOutput : S → V → T → Type 0) (meaning : S → Meaning I V E) (errs : Errors I E) (limits : Limits) {mode : Modes} {i : I}
+    (grammar : S → Grammar I V T E) (errs : Errors I E) (limits : Limits) {mode : Modes} {i : I}
     {r : PResult I K E} {a b : S} → a ≡ b →
-    ShowsMeaning w (Accumulated Pushes CanPush (IsOutput a) before) (items_meaning w errs limits ⊥ (meaning a)) mode i r →
-    ShowsMeaning w (Accumulated Pushes CanPush (IsOutput b) before) (items_meaning w errs limits ⊥ (meaning b)) mode i r
-items_at {w = w} {Pushes} {CanPush} {before} IsOutput meaning errs limits {mode} {i} {r} e h =
-    subst (λ z. ShowsMeaning w (Accumulated Pushes CanPush (IsOutput z) before) (items_meaning w errs limits ⊥ (meaning z)) mode i r) e h
+    ShowsMeaning w (Accumulated Pushes CanPush (grammar a).IsOutput before) (items_meaning w errs limits ⊥ (grammar a).meaning) mode i r →
+    ShowsMeaning w (Accumulated Pushes CanPush (grammar b).IsOutput before) (items_meaning w errs limits ⊥ (grammar b).meaning) mode i r
+items_at {w = w} {Pushes} {CanPush} {before} grammar errs limits {mode} {i} {r} e h =
+    subst (λ z. ShowsMeaning w (Accumulated Pushes CanPush (grammar z).IsOutput before) (items_meaning w errs limits ⊥ (grammar z).meaning) mode i r) e h

@@ -1,6 +1,7 @@
 -- What bounds that don't fit each other show.
 use Rattle.std.proofs.Common.{Bool, true, false, Err, Option, inl, inr, refl, ap}
-use Rattle.nom_internal.specs.Prelude.{Errors, PResult, Refuses, Modes, ErrorKind, Needed, Model, Outcome, Accept, Refuse, Stop, Fails, Needs, Outright, Shows}
+use Rattle.nom_internal.specs.Prelude.{Errors, PResult, Refuses, Modes, ErrorKind, Needed, Model, Outcome, Accept, Refuse, Stop, Fails, Needs, Outright}
+use Rattle.nom_internal.specs.Prelude.{ShowsOutcome}
 use Rattle.nom_internal.specs.Prelude.{RanOut, Shown, Meaning, ShowsMeaning}
 use Rattle.nom_error.specs.declared.answer.Err as Answer
 use Rattle.nom_internal.proofs.Shown.{built_error}
@@ -23,8 +24,8 @@ module _ {I A V O E : Type 0} {w : Model I A} {IsOutput : V → O → Type 0} {m
 
 module _ {I A V O E : Type 0} (w : Model I A) (IsOutput : V → O → Type 0) (mode : Modes) (i : I) (errs : Errors I E) (kind : ErrorKind) (fails : Bool)
     (IsUnfit : Type 0) (m : Meaning I V E) (fit : IsUnfit → ⊥) where
-  fit_of : (o : Outcome V) (r : PResult I O E) → Shows w IsOutput mode i (m.blames mode.streaming i) o r →
-      Shows w IsOutput mode i ((unfit errs kind fails IsUnfit m).blames mode.streaming i) o r
+  fit_of : (o : Outcome V) (r : PResult I O E) → ShowsOutcome w IsOutput mode i (m.blames mode.streaming i) o r →
+      ShowsOutcome w IsOutput mode i ((unfit errs kind fails IsUnfit m).blames mode.streaming i) o r
   fit_of (Accept n v) r s = s
   fit_of Refuse r s = (s.0, built_error mode.errors _ _ s.0 (λ e h. inr (fit, h)) s.1, s.2)
   fit_of (Stop (Fails cause)) r s = (s.0, inr (fit, s.1), s.2)

@@ -1,6 +1,6 @@
 -- How many items there are.
 use Rattle.std.specs.Prelude.{◌≡◌, ℕ, true, List, ◌++◌, length}
-use Rattle.nom_internal.specs.Prelude.{Errors, Model, Meaning, sequence_meaning}
+use Rattle.nom_internal.specs.Prelude.{Errors, Model, Meaning, sequence_meaning, Grammar}
 use Rattle.nom_error.specs.declared.kind.ErrorKind.TheVariants as Kind
 use Rattle.nom_repeat.specs.Items.{items_meaning}
 use Rattle.nom_repeat.specs.declared.items.TooFew.TheVariants.{Fresh}
@@ -20,3 +20,10 @@ abbrev pub many1_count_meaning : {I A V E : Type 0} → Model I A → Errors I E
 many1_count_meaning w errs m =
     sequence_meaning w (λ vs us. vs ++ us) (λ o. o) (λ o. o) (items_meaning w errs (one_limits (Fresh Kind.Many1Count) true) ⊥ (dropped_meaning m))
     (items_meaning w errs (any_limits Kind.Many1Count) ⊥ (dropped_meaning m))
+
+-- the number of items of a grammar, of any number or of one at least
+abbrev pub many0_count_of : {I A V O E : Type 0} → Model I A → Errors I E → Grammar I V O E → Grammar I (List V) ℕ E
+many0_count_of w errs g = record { meaning = many0_count_meaning w errs g.meaning; IsOutput = IsNumber }
+
+abbrev pub many1_count_of : {I A V O E : Type 0} → Model I A → Errors I E → Grammar I V O E → Grammar I (List V) ℕ E
+many1_count_of w errs g = record { meaning = many1_count_meaning w errs g.meaning; IsOutput = IsNumber }

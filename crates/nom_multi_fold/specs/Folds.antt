@@ -1,7 +1,7 @@
 -- Folds of items.
 use Rattle.std.specs.Prelude.{◌≡◌, ℕ, ◌<◌, false, true, List, ◌++◌}
 use Rattle.std.specs.List.{AllZip, FoldsTo}
-use Rattle.nom_internal.specs.Prelude.{Errors, Model, View, Meaning, sequence_meaning}
+use Rattle.nom_internal.specs.Prelude.{Errors, Model, View, Meaning, sequence_meaning, Grammar}
 use Rattle.nom_error.specs.declared.kind.ErrorKind.TheVariants as Kind
 use Rattle.nom_repeat.specs.Items.{items_meaning}
 use Rattle.nom_repeat.specs.declared.items.TooFew.TheVariants.{Fresh}
@@ -44,3 +44,18 @@ fold_many1_meaning w errs Premise m =
 abbrev pub fold_many_m_n_meaning : {I A V E : Type 0} → Model I A → Errors I E → ℕ → ℕ → Type 0 → Meaning I V E → Meaning I (List V) E
 fold_many_m_n_meaning w errs least most Premise m =
     under Premise (unfit errs Kind.ManyMN false (most < least) (items_meaning w errs (bounded_limits Kind.ManyMN least most) ⊥ m))
+
+-- items of a grammar, folded by closures: which items and values they take, which first value they make, and what they give
+module _ {I A V O R E : Type 0} (w : Model I A) (errs : Errors I E) (Premise : Type 0) (Inits : R → Type 0) (Gives : R → O → R → Type 0)
+    (g : Grammar I V O E) where
+  abbrev pub fold_many0_by : Grammar I (List V) R E
+  fold_many0_by = record { meaning = fold_many0_meaning w errs Premise g.meaning; IsOutput = Folds g.IsOutput Inits Gives }
+
+  abbrev pub fold_many1_by : Grammar I (List V) R E
+  fold_many1_by = record { meaning = fold_many1_meaning w errs Premise g.meaning; IsOutput = Folds g.IsOutput Inits Gives }
+
+  abbrev pub fold_many_m_n_by : ℕ → ℕ → Grammar I (List V) R E
+  fold_many_m_n_by least most = record {
+    meaning = fold_many_m_n_meaning w errs least most Premise g.meaning;
+    IsOutput = Folds g.IsOutput Inits Gives;
+  }

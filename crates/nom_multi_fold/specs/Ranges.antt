@@ -1,12 +1,16 @@
 -- As many items as a range of counts says.
 use Rattle.std.specs.Prelude.{◌≡◌, ℕ, ◌++◌, ◌∷◌, [], true, Some, None, Option, List, ◌⊎◌}
 use Rattle.std.specs.declared.ops.Bound.{Bound}
-use Rattle.nom_internal.specs.Prelude.{Errors, ErrorKind, Model, Meaning}
+use Rattle.nom_error.specs.declared.kind.ErrorKind.TheVariants as Kind
+use Rattle.nom_internal.specs.Prelude.{Errors, ErrorKind, Model, Meaning, Grammar}
 use Rattle.nom_repeat.specs.Items.{items_meaning}
 use Rattle.nom_repeat.specs.declared.items.Limits.{Limits}
 use Rattle.nom_ranges.specs.Ranges.{IsInverted, fewest, most_items, limit}
 use Rattle.nom_multi_fold.specs.Unfit.{unfit}
 use Rattle.nom_repeat.specs.Bounds.{bounded_limits}
+use Rattle.std.specs.List.{AllZip}
+use Rattle.nom_multi_fold.specs.Folds.{Folds}
+use Rattle.nom_multi_fold.specs.Under.{under}
 
 -- The items that a range with these two ends allows. Before as many as it allows at most, a count is outside the range just
 -- where it is below the fewest. With no second end, as many are taken as a `usize` can count.
@@ -30,3 +34,19 @@ Gathers items old x new = items new ≡ items old ++ x ∷ []
 abbrev pub IsGathered : {K C : Type 0} → (K → C) → Option K → Option C → Type 0
 IsGathered collection (Some k) r = r ≡ Some (collection k)
 IsGathered collection None r = r ≡ None
+
+-- items of a grammar, as many as a range says, in a collection
+abbrev pub many_of : {I A V O C E : Type 0} → Model I A → Errors I E → Type 0 → Bound ℕ → Bound ℕ → (C → List O) → Grammar I V O E →
+    Grammar I (List V) C E
+many_of w errs IsSpent lower upper items g = record {
+  meaning = range_meaning w errs Kind.Many IsSpent lower upper (Unit {0}) g.meaning;
+  IsOutput = λ ts o. AllZip g.IsOutput ts (items o);
+}
+
+-- and folded by closures
+abbrev pub fold_by : {I A V O R E : Type 0} → Model I A → Errors I E → Type 0 → Bound ℕ → Bound ℕ → (Premise : Type 0) → (R → Type 0) →
+    (R → O → R → Type 0) → Grammar I V O E → Grammar I (List V) R E
+fold_by w errs IsSpent lower upper Premise Inits Gives g = record {
+  meaning = under Premise (range_meaning w errs Kind.Fold IsSpent lower upper ⊥ g.meaning);
+  IsOutput = Folds g.IsOutput Inits Gives;
+}

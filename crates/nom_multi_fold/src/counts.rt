@@ -1,7 +1,7 @@
 //! How many items there are.
 ghost use Rattle.std.specs.Prelude.{◌^◌, ◌<◌, List};
 ghost use Rattle.nom_internal.specs.Prelude.{input_len};
-ghost use Rattle.nom_multi_fold.specs.Counts.{IsNumber, many0_count_meaning, many1_count_meaning};
+ghost use Rattle.nom_multi_fold.specs.Counts.{many0_count_of, many1_count_of};
 
 use crate::dropped::Dropped;
 use nom_error::answer::PResult;
@@ -11,7 +11,8 @@ use nom_error::value::ParseError;
 use nom_internal::built::built;
 use nom_internal::parser::{Parser, StreamParser};
 use nom_repeat::accumulator::Accumulator;
-use nom_repeat::items::{Limits, TooFew, items};
+use nom_repeat::bounds::{any_items, one_item};
+use nom_repeat::items::TooFew;
 use nom_traits::input::{Input, Items};
 
 /// The number of items until one is refused, made by `many0_count`.
@@ -33,22 +34,13 @@ impl<I: Input, F: Parser<I> + Drop> Parser<I> for Many0Count<F> {
 
     ghost Tree = { List F.Tree };
 
-    ghost IsOutput = { λ _. IsNumber };
-
-    ghost meaning = { λ s. many0_count_meaning I.model F.Error.errors (F.meaning s) };
+    ghost grammar = { λ s. many0_count_of I.model F.Error.errors (F.grammar s) };
 
     #[inline]
     fn process<OM: OutputMode>(&mut self, input: I) -> PResult<I, usize, F::Error> {
         fits(input);
         let none = built::<OM::Output, usize>(0);
-        let limits = Limits {
-            least: 0,
-            most: None,
-            too_few: TooFew::Never,
-            at_start: false,
-            empty: Some(ErrorKind::Many0Count),
-        };
-        items::<OM, Check, I, Dropped<F>, usize>(&mut self.item, input, none, limits)
+        any_items::<OM, I, Dropped<F>, usize>(&mut self.item, input, none, ErrorKind::Many0Count)
     }
 
     ghost lawful = { λ s k. many0_count_lawful I.lawful F.Error.errors (F.lawful s k) };
@@ -83,35 +75,20 @@ impl<I: Input, F: Parser<I> + Drop> Parser<I> for Many1Count<F> {
 
     ghost Tree = { List F.Tree };
 
-    ghost IsOutput = { λ _. IsNumber };
-
-    ghost meaning = { λ s. many1_count_meaning I.model F.Error.errors (F.meaning s) };
+    ghost grammar = { λ s. many1_count_of I.model F.Error.errors (F.grammar s) };
 
     #[inline]
     fn process<OM: OutputMode>(&mut self, input: I) -> PResult<I, usize, F::Error> {
         fits(input);
         let none = built::<OM::Output, usize>(0);
-        let one = Limits {
-            least: 1,
-            most: Some(1),
-            too_few: TooFew::Fresh(ErrorKind::Many1Count),
-            at_start: true,
-            empty: None,
-        };
-        let (rest, first) = items::<OM, Check, I, Dropped<F>, usize>(
+        let (rest, first) = one_item::<OM, Check, I, Dropped<F>, usize>(
             &mut self.item,
             input,
             none,
-            one,
+            TooFew::Fresh(ErrorKind::Many1Count),
+            true,
         )?;
-        let any = Limits {
-            least: 0,
-            most: None,
-            too_few: TooFew::Never,
-            at_start: false,
-            empty: Some(ErrorKind::Many1Count),
-        };
-        items::<OM, Check, I, Dropped<F>, usize>(&mut self.item, rest, first, any)
+        any_items::<OM, I, Dropped<F>, usize>(&mut self.item, rest, first, ErrorKind::Many1Count)
     }
 
     ghost lawful = { λ s k. many1_count_lawful I.lawful F.Error.errors (F.lawful s k.0) };

@@ -25,9 +25,7 @@ impl<I: Items, F: Parser<I> + Drop> Parser<I> for Dropped<F> {
 
     ghost Tree = { F.Tree };
 
-    ghost IsOutput = { λ _ _ _. Unit {0} };
-
-    ghost meaning = { λ s. dropped_meaning (F.meaning s) };
+    ghost grammar = { λ s. record { meaning = dropped_meaning (F.grammar s).meaning; IsOutput = λ _ _. Unit {0} } };
 
     #[inline(always)]
     fn process<OM: OutputMode>(&mut self, input: I) -> PResult<I, (), F::Error> {

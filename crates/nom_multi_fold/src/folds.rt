@@ -1,6 +1,7 @@
 //! Folds of the items until one is refused.
 ghost use Rattle.std.specs.Prelude.{List, ℕ};
-ghost use Rattle.nom_multi_fold.specs.Folds.{Folds, AreCallable, FoldsAlike, fold_many0_meaning, fold_many1_meaning, fold_many_m_n_meaning};
+ghost use Rattle.nom_multi_fold.specs.Folds.{Folds, AreCallable, FoldsAlike, fold_many0_by};
+ghost use Rattle.nom_multi_fold.specs.Folds.{fold_many1_by, fold_many_m_n_by};
 
 use crate::folded::{Folded, carried, start};
 use nom_error::answer::PResult;
@@ -9,7 +10,8 @@ use nom_error::mode::{Check, OutputMode};
 use nom_error::value::{ParseError, refusal};
 use nom_internal::parser::{Parser, StreamParser};
 use nom_repeat::accumulator::Accumulator;
-use nom_repeat::items::{Limits, TooFew, items};
+use nom_repeat::bounds::{any_items, bounded_items, one_item};
+use nom_repeat::items::TooFew;
 use nom_traits::input::{Input, Items};
 use nom_traits::view::Viewed;
 
@@ -36,25 +38,16 @@ impl<I: Input, F: Parser<I> + Drop, R: Drop, H: Fn() -> R, G: Fn(R, F::Output) -
 
     ghost Tree = { List F.Tree };
 
-    ghost IsOutput = { λ s. Folds (F.IsOutput s.0) (H.post s.1) (G.post s.2) };
-
-    ghost meaning = { λ s. fold_many0_meaning I.model F.Error.errors (AreCallable (H.pre s.1) (G.pre s.2)) (F.meaning s.0) };
+    ghost grammar = { λ s. fold_many0_by I.model F.Error.errors (AreCallable (H.pre s.1) (G.pre s.2)) (H.post s.1) (G.post s.2) (F.grammar s.0) };
 
     #[inline]
     fn process<OM: OutputMode>(&mut self, input: I) -> PResult<I, R, F::Error> {
         let first = start::<OM::Output, F::Output, R, H, G>(&self.init, &self.fold);
-        let limits = Limits {
-            least: 0,
-            most: None,
-            too_few: TooFew::Never,
-            at_start: false,
-            empty: Some(ErrorKind::Many0),
-        };
-        let (rest, last) = items::<OM, Check, I, F, Folded<R, G>>(
+        let (rest, last) = any_items::<OM, I, F, Folded<R, G>>(
             &mut self.parser,
             input,
             first,
-            limits,
+            ErrorKind::Many0,
         )?;
         Ok((rest, carried(last)))
     }
@@ -101,38 +94,23 @@ impl<I: Input, F: Parser<I> + Drop, R: Drop, H: Fn() -> R, G: Fn(R, F::Output) -
 
     ghost Tree = { List F.Tree };
 
-    ghost IsOutput = { λ s. Folds (F.IsOutput s.0) (H.post s.1) (G.post s.2) };
-
-    ghost meaning = { λ s. fold_many1_meaning I.model F.Error.errors (AreCallable (H.pre s.1) (G.pre s.2)) (F.meaning s.0) };
+    ghost grammar = { λ s. fold_many1_by I.model F.Error.errors (AreCallable (H.pre s.1) (G.pre s.2)) (H.post s.1) (G.post s.2) (F.grammar s.0) };
 
     #[inline]
     fn process<OM: OutputMode>(&mut self, input: I) -> PResult<I, R, F::Error> {
         let none = start::<OM::Output, F::Output, R, H, G>(&self.init, &self.fold);
-        let one = Limits {
-            least: 1,
-            most: Some(1),
-            too_few: TooFew::Fresh(ErrorKind::Many1),
-            at_start: true,
-            empty: None,
-        };
-        let (rest, first) = items::<OM, Check, I, F, Folded<R, G>>(
+        let (rest, first) = one_item::<OM, Check, I, F, Folded<R, G>>(
             &mut self.parser,
             input,
             none,
-            one,
+            TooFew::Fresh(ErrorKind::Many1),
+            true,
         )?;
-        let any = Limits {
-            least: 0,
-            most: None,
-            too_few: TooFew::Never,
-            at_start: false,
-            empty: Some(ErrorKind::Many1),
-        };
-        let (after, last) = items::<OM, Check, I, F, Folded<R, G>>(
+        let (after, last) = any_items::<OM, I, F, Folded<R, G>>(
             &mut self.parser,
             rest,
             first,
-            any,
+            ErrorKind::Many1,
         )?;
         Ok((after, carried(last)))
     }
@@ -181,9 +159,7 @@ impl<I: Input, F: Parser<I> + Drop, R: Drop, H: Fn() -> R, G: Fn(R, F::Output) -
 
     ghost Tree = { List F.Tree };
 
-    ghost IsOutput = { λ s. Folds (F.IsOutput s.0) (H.post s.1) (G.post s.2) };
-
-    ghost meaning = { λ s. fold_many_m_n_meaning I.model F.Error.errors s.3 s.4 (AreCallable (H.pre s.1) (G.pre s.2)) (F.meaning s.0) };
+    ghost grammar = { λ s. fold_many_m_n_by I.model F.Error.errors (AreCallable (H.pre s.1) (G.pre s.2)) (H.post s.1) (G.post s.2) (F.grammar s.0) s.3 s.4 };
 
     #[inline]
     fn process<OM: OutputMode>(&mut self, input: I) -> PResult<I, R, F::Error> {
@@ -191,18 +167,13 @@ impl<I: Input, F: Parser<I> + Drop, R: Drop, H: Fn() -> R, G: Fn(R, F::Output) -
             return Err(refusal::<OM::Error, I, F::Error>(input, ErrorKind::ManyMN));
         }
         let first = start::<OM::Output, F::Output, R, H, G>(&self.init, &self.fold);
-        let limits = Limits {
-            least: self.min,
-            most: Some(self.max),
-            too_few: TooFew::Added(ErrorKind::ManyMN),
-            at_start: false,
-            empty: Some(ErrorKind::ManyMN),
-        };
-        let (rest, last) = items::<OM, OM::Error, I, F, Folded<R, G>>(
+        let (rest, last) = bounded_items::<OM, I, F, Folded<R, G>>(
             &mut self.parser,
             input,
             first,
-            limits,
+            ErrorKind::ManyMN,
+            self.min,
+            self.max,
         )?;
         Ok((rest, carried(last)))
     }

@@ -19,14 +19,14 @@ use std::alloc::Allocator;
 /// `many0_count` accepts just the items that its part accepts, one after the other, none of them empty, up to
 /// where the part refuses.
 pub fn many0_count_accepts<I: Input, F: Parser<I> + Drop>(_parser: &Many0Count<F>)
-    ensures { AcceptsItems I.model (Unit {0}) (λ a. 0 < a) 0 None (F.meaning (F.state _parser.now.item.parser))
-        (⟦<Many0Count<F> as Parser<I>>⟧.meaning (F.state _parser.now.item.parser)) }
+    ensures { AcceptsItems I.model (Unit {0}) (λ a. 0 < a) 0 None (F.grammar (F.state _parser.now.item.parser)).meaning
+        (⟦<Many0Count<F> as Parser<I>>⟧.grammar (F.state _parser.now.item.parser)).meaning }
 {}
 
 /// `many1_count` accepts a first item, and after it just what `many0_count` accepts.
 pub fn many1_count_accepts<I: Input, F: Parser<I> + Drop>(_parser: &Many1Count<F>)
-    ensures { AcceptsOneAndMore I.model (F.meaning (F.state _parser.now.item.parser)) (F.meaning (F.state _parser.now.item.parser))
-        (⟦<Many1Count<F> as Parser<I>>⟧.meaning (F.state _parser.now.item.parser)) }
+    ensures { AcceptsOneAndMore I.model (F.grammar (F.state _parser.now.item.parser)).meaning (F.grammar (F.state _parser.now.item.parser)).meaning
+        (⟦<Many1Count<F> as Parser<I>>⟧.grammar (F.state _parser.now.item.parser)).meaning }
 {}
 
 /// `fold_many0` accepts just the items that its part accepts, one after the other, none of them empty, up to
@@ -38,8 +38,8 @@ pub fn fold_many0_accepts<
     H: Fn() -> R,
     G: Fn(R, F::Output) -> R,
 >(_parser: &FoldMany0<F, H, G>)
-    ensures { AcceptsItems I.model (Unit {0}) (λ a. 0 < a) 0 None (F.meaning (F.state _parser.now.parser))
-        (⟦<FoldMany0<F, H, G> as Parser<I>>⟧.meaning (F.state _parser.now.parser, _parser.now.init, _parser.now.fold)) }
+    ensures { AcceptsItems I.model (Unit {0}) (λ a. 0 < a) 0 None (F.grammar (F.state _parser.now.parser)).meaning
+        (⟦<FoldMany0<F, H, G> as Parser<I>>⟧.grammar (F.state _parser.now.parser, _parser.now.init, _parser.now.fold)).meaning }
 {}
 
 /// `fold_many1` accepts a first item, and after it just what `fold_many0` accepts.
@@ -50,8 +50,8 @@ pub fn fold_many1_accepts<
     H: Fn() -> R,
     G: Fn(R, F::Output) -> R,
 >(_parser: &FoldMany1<F, H, G>)
-    ensures { AcceptsOneAndMore I.model (F.meaning (F.state _parser.now.parser)) (F.meaning (F.state _parser.now.parser))
-        (⟦<FoldMany1<F, H, G> as Parser<I>>⟧.meaning (F.state _parser.now.parser, _parser.now.init, _parser.now.fold)) }
+    ensures { AcceptsOneAndMore I.model (F.grammar (F.state _parser.now.parser)).meaning (F.grammar (F.state _parser.now.parser)).meaning
+        (⟦<FoldMany1<F, H, G> as Parser<I>>⟧.grammar (F.state _parser.now.parser, _parser.now.init, _parser.now.fold)).meaning }
 {}
 
 /// `fold_many_m_n`, where its bounds fit each other, accepts just the items that its part accepts, one after
@@ -65,8 +65,14 @@ pub fn fold_many_m_n_accepts<
     G: Fn(R, F::Output) -> R,
 >(_parser: &FoldManyMN<F, H, G>)
     ensures { AcceptsItems I.model (_parser.now.max < _parser.now.min → ⊥) (λ a. 0 < a) _parser.now.min (Some _parser.now.max)
-        (F.meaning (F.state _parser.now.parser))
-        (⟦<FoldManyMN<F, H, G> as Parser<I>>⟧.meaning (F.state _parser.now.parser, _parser.now.init, _parser.now.fold, _parser.now.min, _parser.now.max)) }
+        (F.grammar (F.state _parser.now.parser)).meaning
+        (⟦<FoldManyMN<F, H, G> as Parser<I>>⟧.grammar (
+          F.state _parser.now.parser,
+          _parser.now.init,
+          _parser.now.fold,
+          _parser.now.min,
+          _parser.now.max,
+        )).meaning }
 {}
 
 /// `many`, where its range isn't empty, accepts just the items that its part accepts, one after the other,
@@ -80,8 +86,8 @@ pub fn many_accepts<
     C: Collection<F::Output, A>,
 >(_parser: &Many<A, R, F, C>)
     ensures { AcceptsItems I.model (IsEmpty (R.IsSpent _parser.now.range) (R.lower _parser.now.range) (R.upper _parser.now.range) → ⊥) (λ a. 0 < a)
-        (fewest (R.lower _parser.now.range)) (Some (limit (most_items (R.upper _parser.now.range)))) (F.meaning (F.state _parser.now.parser))
-        (⟦<Many<A, R, F, C> as Parser<I>>⟧.meaning (F.state _parser.now.parser, _parser.now.range)) }
+        (fewest (R.lower _parser.now.range)) (Some (limit (most_items (R.upper _parser.now.range)))) (F.grammar (F.state _parser.now.parser)).meaning
+        (⟦<Many<A, R, F, C> as Parser<I>>⟧.grammar (F.state _parser.now.parser, _parser.now.range)).meaning }
 {}
 
 /// `fold` accepts just what `many` accepts.
@@ -94,6 +100,6 @@ pub fn fold_accepts<
     G: Fn(T, F::Output) -> T,
 >(_parser: &Fold<R, F, H, G>)
     ensures { AcceptsItems I.model (IsEmpty (R.IsSpent _parser.now.range) (R.lower _parser.now.range) (R.upper _parser.now.range) → ⊥) (λ a. 0 < a)
-        (fewest (R.lower _parser.now.range)) (Some (limit (most_items (R.upper _parser.now.range)))) (F.meaning (F.state _parser.now.parser))
-        (⟦<Fold<R, F, H, G> as Parser<I>>⟧.meaning (F.state _parser.now.parser, _parser.now.init, _parser.now.fold, _parser.now.range)) }
+        (fewest (R.lower _parser.now.range)) (Some (limit (most_items (R.upper _parser.now.range)))) (F.grammar (F.state _parser.now.parser)).meaning
+        (⟦<Fold<R, F, H, G> as Parser<I>>⟧.grammar (F.state _parser.now.parser, _parser.now.init, _parser.now.fold, _parser.now.range)).meaning }
 {}

@@ -1,10 +1,8 @@
 //! As many items as a range of counts says.
 ghost use Rattle.std.specs.Prelude.{List};
-ghost use Rattle.std.specs.List.{AllZip};
 ghost use Rattle.nom_error.specs.declared.kind.ErrorKind.TheVariants as Kind;
-ghost use Rattle.nom_multi_fold.specs.Folds.{Folds, AreCallable, FoldsAlike};
-ghost use Rattle.nom_multi_fold.specs.Ranges.{range_meaning};
-ghost use Rattle.nom_multi_fold.specs.Under.{under};
+ghost use Rattle.nom_multi_fold.specs.Folds.{AreCallable, FoldsAlike};
+ghost use Rattle.nom_multi_fold.specs.Ranges.{many_of, fold_by};
 
 use crate::folded::{Folded, carried, start};
 use crate::gathered::{Gathered, collected, gather};
@@ -17,8 +15,8 @@ use nom_internal::parser::{Parser, StreamParser};
 use nom_ranges::counts::{least, most};
 use nom_ranges::range::NomRange;
 use nom_repeat::accumulator::Accumulator;
+use nom_repeat::bounds::bounded_items;
 use nom_repeat::inverted::failure;
-use nom_repeat::items::{Limits, TooFew, items};
 use nom_traits::input::{Input, Items};
 use nom_traits::view::Viewed;
 use std::alloc::Allocator;
@@ -52,9 +50,7 @@ impl<
 
     ghost Tree = { List F.Tree };
 
-    ghost IsOutput = { λ s vs o. AllZip (F.IsOutput s.0) vs (C.items o) };
-
-    ghost meaning = { λ s. range_meaning I.model F.Error.errors Kind.Many (R.IsSpent s.1) (R.lower s.1) (R.upper s.1) (Unit {0}) (F.meaning s.0) };
+    ghost grammar = { λ s. many_of I.model F.Error.errors (R.IsSpent s.1) (R.lower s.1) (R.upper s.1) C.items (F.grammar s.0) };
 
     #[inline]
     fn process<OM: OutputMode>(&mut self, input: I) -> PResult<I, C, F::Error> {
@@ -62,18 +58,13 @@ impl<
             return Err(failure(input, ErrorKind::Many));
         }
         let none = gather::<OM::Output, F::Output, A, C>(self.alloc);
-        let limits = Limits {
-            least: least(&self.range),
-            most: Some(most(&self.range)),
-            too_few: TooFew::Added(ErrorKind::Many),
-            at_start: false,
-            empty: Some(ErrorKind::Many),
-        };
-        let (rest, all) = items::<OM, OM::Error, I, F, Gathered<C, A>>(
+        let (rest, all) = bounded_items::<OM, I, F, Gathered<C, A>>(
             &mut self.parser,
             input,
             none,
-            limits,
+            ErrorKind::Many,
+            least(&self.range),
+            most(&self.range),
         )?;
         Ok((rest, collected(all)))
     }
@@ -127,10 +118,8 @@ impl<
 
     ghost Tree = { List F.Tree };
 
-    ghost IsOutput = { λ s. Folds (F.IsOutput s.0) (H.post s.1) (G.post s.2) };
-
-    ghost meaning = { λ s. under (AreCallable (H.pre s.1) (G.pre s.2))
-        (range_meaning I.model F.Error.errors Kind.Fold (R.IsSpent s.3) (R.lower s.3) (R.upper s.3) ⊥ (F.meaning s.0)) };
+    ghost grammar = { λ s. fold_by I.model F.Error.errors (R.IsSpent s.3) (R.lower s.3) (R.upper s.3) (AreCallable (H.pre s.1) (G.pre s.2))
+        (H.post s.1) (G.post s.2) (F.grammar s.0) };
 
     #[inline]
     fn process<OM: OutputMode>(&mut self, input: I) -> PResult<I, T, F::Error> {
@@ -138,18 +127,13 @@ impl<
             return Err(failure(input, ErrorKind::Fold));
         }
         let first = start::<OM::Output, F::Output, T, H, G>(&self.init, &self.fold);
-        let limits = Limits {
-            least: least(&self.range),
-            most: Some(most(&self.range)),
-            too_few: TooFew::Added(ErrorKind::Fold),
-            at_start: false,
-            empty: Some(ErrorKind::Fold),
-        };
-        let (rest, last) = items::<OM, OM::Error, I, F, Folded<T, G>>(
+        let (rest, last) = bounded_items::<OM, I, F, Folded<T, G>>(
             &mut self.parser,
             input,
             first,
-            limits,
+            ErrorKind::Fold,
+            least(&self.range),
+            most(&self.range),
         )?;
         Ok((rest, carried(last)))
     }

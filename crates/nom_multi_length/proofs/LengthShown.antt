@@ -1,6 +1,7 @@
 -- What is shown after a length.
 use Rattle.std.proofs.Common.{◌≡◌, ℕ, true, Ok, Option, Some, sym}
-use Rattle.nom_internal.specs.Prelude.{PResult, Modes, with_outputs, Model, InputLaws, Outcome, Accept, Refuse, Stop, Fails, Needs, Shows, ShowsAnswer, RanOut}
+use Rattle.nom_internal.specs.Prelude.{PResult, Modes, with_outputs, Model, InputLaws, Outcome, Accept, Refuse, Stop, Fails, Needs, ShowsOutcome}
+use Rattle.nom_internal.specs.Prelude.{ShowsAnswer, RanOut}
 use Rattle.nom_internal.specs.Prelude.{Shown, Meaning, ShowsMeaning, Family, OfValue}
 use Rattle.nom_internal.proofs.Choices.{built_fact}
 use Rattle.nom_internal.proofs.Shown.{then_ok, built_error}
@@ -8,8 +9,8 @@ use Rattle.nom_multi_length.specs.Lengths.{HasSize, after_length}
 
 -- what is shown by the number that a length stands for
 module _ {I A V O E : Type 0} (w : Model I A) (IsOutput : V → O → Type 0) (mode : Modes) (i : I) (IsLength : ℕ → Type 0) (n : ℕ) (h : IsLength n) where
-  shows_of : (B : ℕ → E → Type 0) (o : Outcome V) (r : PResult I O E) → Shows w IsOutput mode i (B n) o r →
-      Shows w IsOutput mode i (λ e. OfValue IsLength (λ k. B k e)) o r
+  shows_of : (B : ℕ → E → Type 0) (o : Outcome V) (r : PResult I O E) → ShowsOutcome w IsOutput mode i (B n) o r →
+      ShowsOutcome w IsOutput mode i (λ e. OfValue IsLength (λ k. B k e)) o r
   shows_of B (Accept m v) r s = s
   shows_of B Refuse r s = (s.0, built_error mode.errors _ _ s.0 (λ e f. record { value = n; is_value = h; fact = f }) s.1, s.2)
   shows_of B (Stop (Fails cause)) r s = (s.0, record { value = n; is_value = h; fact = s.1 }, s.2)

@@ -1,7 +1,8 @@
 -- What is shown on exactly that much of an input.
 use Rattle.std.proofs.Common.{◌≡◌, ℕ, ◌-◌, ◌<◌, ◌≤◌, true, Ok, Err, Option, Some, inl, inr, arith, ◌∙◌, ap, subst, refl}
 use Rattle.nom_internal.specs.Prelude.{Needed, Incomplete, PResult, size_of, Refuses, Errors, Built, Modes, with_streaming, Model, IsBoundary, IsSuffixOf}
-use Rattle.nom_internal.specs.Prelude.{input_len, Slice, IsFirst, IsModelledBy, place_first, leaf_meaning, Outcome, Accept, Refuse, Stop, Fails, Needs, Shows}
+use Rattle.nom_internal.specs.Prelude.{input_len, Slice, IsFirst, IsModelledBy, place_first, leaf_meaning, Outcome, Accept, Refuse, Stop, Fails, Needs}
+use Rattle.nom_internal.specs.Prelude.{ShowsOutcome}
 use Rattle.nom_internal.specs.Prelude.{RanOut, Shown, Meaning, ShowsMeaning}
 use Rattle.nom_error.specs.declared.answer.Err as Answer
 use Rattle.nom_error.specs.declared.kind.ErrorKind.TheVariants as Kind
@@ -51,7 +52,7 @@ module _ {I A V O E : Type 0} (w : Model I A) (IsOutput : V → O → Type 0) (e
   wanting k r f a (inr h) e = Shown Refuse (Stop (Needs k), a, refl) (h.0, built_error mode.errors _ _ h.0 (λ y b. (Stop (Needs k), a, b)) h.1, e ∙ ap Err h.2)
 
   settled_of : (p r : PResult I O E) (o : Outcome V) → Settles p r → m.answers mode.streaming i o →
-      Shows w IsOutput mode i (m.blames mode.streaming i) o p → Settled r
+      ShowsOutcome w IsOutput mode i (m.blames mode.streaming i) o p → Settled r
   settled_of p r (Accept n v) q a s = Shown (Accept n v) (Accept n v, a, refl) (s.0, s.1, s.2, s.3, subst (λ z. Settles z r) s.4 q)
   settled_of p r Refuse q a s = Shown Refuse (Refuse, a, refl)
       (s.0, built_error mode.errors _ _ s.0 (λ y b. (Refuse, a, b)) s.1, subst (λ z. Settles z r) s.2 q)

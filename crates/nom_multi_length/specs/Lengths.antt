@@ -1,9 +1,10 @@
 -- What stands after a length.
-use Rattle.std.specs.Prelude.{◌≡◌, ℕ, true, List, Option}
-use Rattle.nom_internal.specs.Prelude.{Errors, modes, with_outputs, Model, Slice, Meaning, Family, of_value, then_meaning}
+use Rattle.std.specs.Prelude.{◌≡◌, ℕ, true, List, Option, Vec}
+use Rattle.nom_internal.specs.Prelude.{Errors, modes, with_outputs, Model, Slice, Meaning, Family, of_value, then_meaning, Grammar, IsModelledBy}
 use Rattle.nom_bytes.specs.Takes.{take_meaning}
 use Rattle.nom_repeat.specs.Items.{items_meaning}
 use Rattle.nom_repeat.specs.Bounds.{exact_limits}
+use Rattle.std.specs.List.{AllZip}
 
 -- a tree stands for a length: an output of it has that size
 pub record HasSize {P O : Type 0} (IsOutput : P → O → Type 0) (size : O → ℕ) (u : P) (n : ℕ) : Type 0 where
@@ -44,3 +45,19 @@ items_by_count w errs m = record {
 -- A length, and after it exactly that many items, which may be empty. Where one is refused, the kind is added after the length.
 abbrev pub length_count_meaning : {I A P V E : Type 0} → (w : Model I A) → Errors I E → (P → ℕ → Type 0) → Meaning I P E → Meaning I V E → Meaning I (List V) E
 length_count_meaning w errs IsLength a m = after_length w (λ u vs. vs) IsLength a (items_by_count w errs m)
+
+-- a grammar of lengths, and that many items; `size` is what an output of it counts, `lack` what is needed where there are fewer
+abbrev pub length_data_of : {I A V O E : Type 0} → (w : Model I A) → Errors I E → (ℕ → List A → Option ℕ) → (O → ℕ) → Grammar I V O E →
+    Grammar I (V × Slice w) I E
+length_data_of w errs lack size g = record {
+  meaning = length_data_meaning w errs lack (HasSize g.IsOutput size) g.meaning;
+  IsOutput = λ t o. IsModelledBy w t.1 o;
+}
+
+-- a grammar of lengths, and that many items of another
+abbrev pub length_count_of : {I A V O U P M E : Type 0} → Model I A → Errors I E → (O → ℕ) → Grammar I V O E → Grammar I U P E →
+    Grammar I (List U) (Vec P M) E
+length_count_of w errs size g h = record {
+  meaning = length_count_meaning w errs (HasSize g.IsOutput size) g.meaning h.meaning;
+  IsOutput = λ ts o. AllZip h.IsOutput ts o.items;
+}

@@ -1,11 +1,11 @@
 -- A value after a length, on exactly that much of the input.
 use Rattle.std.specs.Prelude.{◌≡◌, ℕ, ◌-◌, ◌<◌, ◌≤◌, Bool, true, ◌⊎◌, Option, Some, Result, Ok, Err}
-use Rattle.nom_internal.specs.Prelude.{Errors, Refuses, Needed, Incomplete, Error, Failure, OutOfMemory, Model, IsBoundary, input_len, Slice, IsFirst}
+use Rattle.nom_internal.specs.Prelude.{Errors, Refuses, Needed, Incomplete, Error, Failure, OutOfMemory, Model, IsBoundary, input_len, Slice, IsFirst, Grammar}
 use Rattle.nom_internal.specs.Prelude.{IsModelledBy, Outcome, Accept, Refuse, Stop, Fails, Needs, Meaning, fixed_meaning, Family, Leaf, leaf_meaning}
 use Rattle.nom_error.specs.declared.answer.Err as Answer
 use Rattle.nom_error.specs.declared.kind.ErrorKind.TheVariants as Kind
 use Rattle.nom_internal.specs.Bounded.{and_then_meaning}
-use Rattle.nom_multi_length.specs.Lengths.{after_length}
+use Rattle.nom_multi_length.specs.Lengths.{after_length, HasSize}
 
 -- the first items, of the length n together; a refusal, where that is no place; and what is lacking is needed
 abbrev pub cuts : {I A : Type 0} (w : Model I A) → ℕ → Leaf I (Slice w)
@@ -68,3 +68,10 @@ values_by_length w errs m = record {
 -- a length, and after it a part on exactly that much
 abbrev pub length_value_meaning : {I A P V E : Type 0} → (w : Model I A) → Errors I E → (P → ℕ → Type 0) → Meaning I P E → Meaning I V E → Meaning I V E
 length_value_meaning w errs IsLength a m = after_length w (λ u t. t) IsLength a (values_by_length w errs m)
+
+-- a grammar of lengths, and another on exactly that much
+abbrev pub length_value_of : {I A V O U P E : Type 0} → Model I A → Errors I E → (O → ℕ) → Grammar I V O E → Grammar I U P E → Grammar I U P E
+length_value_of w errs size g h = record {
+  meaning = length_value_meaning w errs (HasSize g.IsOutput size) g.meaning h.meaning;
+  IsOutput = h.IsOutput;
+}

@@ -1,7 +1,6 @@
 //! A list after its length.
 ghost use Rattle.std.specs.Prelude.{List};
-ghost use Rattle.std.specs.List.{AllZip};
-ghost use Rattle.nom_multi_length.specs.Lengths.{HasSize, length_count_meaning};
+ghost use Rattle.nom_multi_length.specs.Lengths.{length_count_of};
 
 use nom_counted::exact::items_exactly;
 use nom_error::answer::PResult;
@@ -39,9 +38,7 @@ impl<
 
     ghost Tree = { List G.Tree };
 
-    ghost IsOutput = { λ s vs o. AllZip (G.IsOutput s.1) vs o.items };
-
-    ghost meaning = { λ s. length_count_meaning I.model F.Error.errors (HasSize (F.IsOutput s.0) F.Output.size) (F.meaning s.0) (G.meaning s.1) };
+    ghost grammar = { λ s. length_count_of I.model F.Error.errors F.Output.size (F.grammar s.0) (G.grammar s.1) };
 
     #[inline]
     fn process<OM: OutputMode>(&mut self, input: I) -> PResult<I, Self::Output, Self::Error> {

@@ -1,6 +1,6 @@
 //! Data after a length.
-ghost use Rattle.nom_internal.specs.Prelude.{Slice, IsModelledBy};
-ghost use Rattle.nom_multi_length.specs.Lengths.{HasSize, length_data_meaning};
+ghost use Rattle.nom_internal.specs.Prelude.{Slice};
+ghost use Rattle.nom_multi_length.specs.Lengths.{length_data_of};
 
 use nom_bytes::take;
 use nom_error::answer::PResult;
@@ -30,9 +30,7 @@ impl<I: Input, F: Parser<I, Output: ToUsize> + Drop> Parser<I> for LengthData<F>
     // The tree of the length, and the items.
     ghost Tree = { F.Tree × Slice I.model };
 
-    ghost IsOutput = { λ s t o. IsModelledBy I.model t.1 o };
-
-    ghost meaning = { λ s. length_data_meaning I.model F.Error.errors I.lack (HasSize (F.IsOutput s) F.Output.size) (F.meaning s) };
+    ghost grammar = { λ s. length_data_of I.model F.Error.errors I.lack F.Output.size (F.grammar s) };
 
     #[inline(always)]
     fn process<OM: OutputMode>(&mut self, input: I) -> PResult<I, I, F::Error> {

@@ -17,6 +17,7 @@ pub fn length_count_accepts<
     F: Parser<I, Output: ToUsize> + Drop,
     G: Parser<I, Error = F::Error> + Drop,
 >(_parser: &LengthCount<A, F, G>)
-    ensures { AcceptsCounted I.model (HasSize (F.IsOutput (F.state _parser.now.length)) F.Output.size) (F.meaning (F.state _parser.now.length))
-        (G.meaning (G.state _parser.now.parser)) (⟦<LengthCount<A, F, G> as Parser<I>>⟧.meaning (F.state _parser.now.length, G.state _parser.now.parser)) }
+    ensures { AcceptsCounted I.model (HasSize (F.grammar (F.state _parser.now.length)).IsOutput F.Output.size) (F.grammar (F.state _parser.now.length)).meaning
+        (G.grammar (G.state _parser.now.parser)).meaning
+        (⟦<LengthCount<A, F, G> as Parser<I>>⟧.grammar (F.state _parser.now.length, G.state _parser.now.parser)).meaning }
 {}

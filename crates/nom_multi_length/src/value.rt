@@ -2,8 +2,7 @@
 ghost use Rattle.std.specs.Prelude.{◌≡◌};
 ghost use Rattle.nom_error.specs.declared.kind.ErrorKind.TheVariants as Kind;
 ghost use Rattle.nom_internal.specs.Prelude.{modes, ShowsMeaning, IsPinned};
-ghost use Rattle.nom_multi_length.specs.Lengths.{HasSize};
-ghost use Rattle.nom_multi_length.specs.Values.{SettlesResult, settled_meaning, values_by_length, length_value_meaning};
+ghost use Rattle.nom_multi_length.specs.Values.{SettlesResult, settled_meaning, values_by_length, length_value_of};
 
 use crate::cut::cut;
 use nom_error::answer::{Err, PResult};
@@ -45,8 +44,8 @@ fn settled<OM: OutputMode, I: Input, G: Parser<I>>(
     parser: &mut G,
     input: I,
 ) -> PResult<I, G::Output, G::Error>
-    requires sound { (G.meaning (G.state parser.old)).IsSound }
-    ensures shown { ShowsMeaning I.model (G.IsOutput (G.state parser.old)) (settled_meaning G.Error.errors (G.meaning (G.state parser.old)))
+    requires sound { (G.grammar (G.state parser.old)).meaning.IsSound }
+    ensures shown { ShowsMeaning I.model (G.grammar (G.state parser.old)).IsOutput (settled_meaning G.Error.errors (G.grammar (G.state parser.old)).meaning)
         (modes OM.Output.BUILDS OM.Error.BUILDS OM.Incomplete.STREAMING) input result }
     ensures kept { G.state parser.new ≡ G.state parser.old }
 {
@@ -60,9 +59,9 @@ fn within<OM: OutputMode, I: Input, G: Parser<I>>(
     input: I,
     length: usize,
 ) -> PResult<I, G::Output, G::Error>
-    requires sound { (G.meaning (G.state parser.old)).IsSound }
-    ensures shown { ShowsMeaning I.model (G.IsOutput (G.state parser.old))
-        ((values_by_length I.model G.Error.errors (G.meaning (G.state parser.old))).at length)
+    requires sound { (G.grammar (G.state parser.old)).meaning.IsSound }
+    ensures shown { ShowsMeaning I.model (G.grammar (G.state parser.old)).IsOutput
+        ((values_by_length I.model G.Error.errors (G.grammar (G.state parser.old)).meaning).at length)
         (modes OM.Output.BUILDS OM.Error.BUILDS OM.Incomplete.STREAMING) input result }
     ensures kept { G.state parser.new ≡ G.state parser.old }
 {
@@ -93,9 +92,7 @@ impl<I: Input, F: Parser<I, Output: ToUsize> + Drop, G: Parser<I, Error = F::Err
 
     ghost Tree = { G.Tree };
 
-    ghost IsOutput = { λ s. G.IsOutput s.1 };
-
-    ghost meaning = { λ s. length_value_meaning I.model F.Error.errors (HasSize (F.IsOutput s.0) F.Output.size) (F.meaning s.0) (G.meaning s.1) };
+    ghost grammar = { λ s. length_value_of I.model F.Error.errors F.Output.size (F.grammar s.0) (G.grammar s.1) };
 
     // The second needn't be a stream parser, which alone has a law of what it pins.
 
@@ -120,7 +117,7 @@ impl<
 > StreamParser<I> for LengthValue<F, G> {
     ghost use Rattle.nom_multi_length.specs.laws.ValueLaws.{length_value_steady};
 
-    ghost Pins = { λ p. IsPinned G.Output.view (G.IsOutput (G.state p.parser)) };
+    ghost Pins = { λ p. IsPinned G.Output.view (G.grammar (G.state p.parser)).IsOutput };
 
     ghost pinned = { λ p k h. h };
 

@@ -1,6 +1,6 @@
 -- Items with a separator between them.
-use Rattle.std.specs.Prelude.{◌≡◌, Bool, true, false, Option, Some, None, List, [], ◌∷◌, ◌++◌}
-use Rattle.nom_internal.specs.Prelude.{Errors, Built, Model, Meaning, Family, then_meaning, sequence_meaning, success_meaning}
+use Rattle.std.specs.Prelude.{◌≡◌, Bool, true, false, Option, Some, None, List, [], ◌∷◌, ◌++◌, Vec}
+use Rattle.nom_internal.specs.Prelude.{Errors, Built, Model, Meaning, Family, then_meaning, sequence_meaning, success_meaning, Grammar}
 use Rattle.nom_error.specs.declared.kind.ErrorKind.TheVariants as Kind
 use Rattle.nom_repeat.specs.Accumulated.{Accumulated}
 use Rattle.nom_repeat.specs.Items.{items_meaning}
@@ -8,6 +8,7 @@ use Rattle.nom_repeat.specs.declared.items.Limits.{Limits}
 use Rattle.nom_repeat.specs.declared.items.TooFew.TheVariants.{Never, Passed}
 use Rattle.nom_sequence.specs.Sequences.{preceded_meaning}
 use Rattle.nom_repeat.specs.Bounds.{any_limits, one_limits}
+use Rattle.std.specs.List.{AllZip}
 
 -- Any number of further items, each after a separator. Where either is refused, the list ends before the separator. Both
 -- together may not be empty.
@@ -53,3 +54,18 @@ HasFirstItem false vs = vs ≡ []
 -- what is told of it: whether there is one, and what is kept, where outputs are built
 abbrev pub Found : {V T K : Type 0} → (K → T → K → Type 0) → (K → Type 0) → (V → T → Type 0) → Bool → Option K → List V → Bool × Option K → Type 0
 Found Pushes CanPush IsOutput builds before vs x = HasFirstItem x.0 vs × Built builds (Accumulated Pushes CanPush IsOutput before vs) x.1
+
+-- items of a grammar with another's between them, any number or one at least
+abbrev pub separated_list0_of : {I A P Q V O M E : Type 0} → Model I A → Errors I E → Grammar I P Q E → Grammar I V O E →
+    Grammar I (List V) (Vec O M) E
+separated_list0_of w errs sep g = record {
+  meaning = separated0_meaning w errs sep.meaning g.meaning;
+  IsOutput = λ ts o. AllZip g.IsOutput ts o.items;
+}
+
+abbrev pub separated_list1_of : {I A P Q V O M E : Type 0} → Model I A → Errors I E → Grammar I P Q E → Grammar I V O E →
+    Grammar I (List V) (Vec O M) E
+separated_list1_of w errs sep g = record {
+  meaning = separated1_meaning w errs sep.meaning g.meaning;
+  IsOutput = λ ts o. AllZip g.IsOutput ts o.items;
+}

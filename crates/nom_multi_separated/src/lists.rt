@@ -1,8 +1,7 @@
 //! Items with a separator between them.
 ghost use Rattle.std.specs.Prelude.{◌≡◌, true, List};
-ghost use Rattle.std.specs.List.{AllZip};
 ghost use Rattle.nom_internal.specs.Prelude.{Built, modes, ShowsAnswer};
-ghost use Rattle.nom_multi_separated.specs.Separated.{Found, optional_meaning, separated0_meaning, separated1_meaning};
+ghost use Rattle.nom_multi_separated.specs.Separated.{Found, optional_meaning, separated_list0_of, separated_list1_of};
 
 use nom_error::answer::{Err, PResult};
 use nom_error::kind::ErrorKind;
@@ -10,7 +9,8 @@ use nom_error::mode::{Check, OutputM, OutputMode};
 use nom_error::value::ParseError;
 use nom_internal::parser::{Parser, StreamParser};
 use nom_repeat::accumulator::{Accumulator, none_yet, push_item};
-use nom_repeat::items::{Limits, TooFew, items};
+use nom_repeat::bounds::{any_items, one_item};
+use nom_repeat::items::TooFew;
 use nom_sequence::Preceded;
 use nom_traits::input::{Input, Items};
 use std::alloc::Allocator;
@@ -41,34 +41,24 @@ impl<
 
     ghost Tree = { List F.Tree };
 
-    ghost IsOutput = { λ s vs o. AllZip (F.IsOutput s.1) vs o.items };
-
-    ghost meaning = { λ s. separated1_meaning I.model F.Error.errors (G.meaning s.0) (F.meaning s.1) };
+    ghost grammar = { λ s. separated_list1_of I.model F.Error.errors (G.grammar s.0) (F.grammar s.1) };
 
     #[inline]
     fn process<OM: OutputMode>(&mut self, input: I) -> PResult<I, Self::Output, Self::Error> {
         let none = none_yet::<OM::Output, F::Output, A>(self.alloc);
-        let one = Limits {
-            least: 1,
-            most: Some(1),
-            too_few: TooFew::Passed,
-            at_start: false,
-            empty: None,
-        };
-        let (rest, first) = items::<OM, OM::Error, I, F, Vec<F::Output, A>>(
+        let (rest, first) = one_item::<OM, OM::Error, I, F, Vec<F::Output, A>>(
             &mut self.next.second,
             input,
             none,
-            one,
+            TooFew::Passed,
+            false,
         )?;
-        let any = Limits {
-            least: 0,
-            most: None,
-            too_few: TooFew::Never,
-            at_start: false,
-            empty: Some(ErrorKind::SeparatedList),
-        };
-        items::<OM, Check, I, Preceded<G, F>, Vec<F::Output, A>>(&mut self.next, rest, first, any)
+        any_items::<OM, I, Preceded<G, F>, Vec<F::Output, A>>(
+            &mut self.next,
+            rest,
+            first,
+            ErrorKind::SeparatedList,
+        )
     }
 
     ghost lawful = { λ s k. separated1_lawful I.lawful F.Error.errors (G.lawful s.0 k.1.0) (F.lawful s.1 k.0) };
@@ -116,9 +106,7 @@ impl<
 
     ghost Tree = { List F.Tree };
 
-    ghost IsOutput = { λ s vs o. AllZip (F.IsOutput s.1) vs o.items };
-
-    ghost meaning = { λ s. separated0_meaning I.model F.Error.errors (G.meaning s.0) (F.meaning s.1) };
+    ghost grammar = { λ s. separated_list0_of I.model F.Error.errors (G.grammar s.0) (F.grammar s.1) };
 
     #[inline]
     fn process<OM: OutputMode>(&mut self, input: I) -> PResult<I, Self::Output, Self::Error> {
@@ -133,18 +121,11 @@ impl<
                 if !found {
                     return Ok((rest, list));
                 }
-                let any = Limits {
-                    least: 0,
-                    most: None,
-                    too_few: TooFew::Never,
-                    at_start: false,
-                    empty: Some(ErrorKind::SeparatedList),
-                };
-                items::<OM, Check, I, Preceded<G, F>, Vec<F::Output, A>>(
+                any_items::<OM, I, Preceded<G, F>, Vec<F::Output, A>>(
                     &mut self.next,
                     rest,
                     list,
-                    any,
+                    ErrorKind::SeparatedList,
                 )
             }
             None => unreachable!(),
@@ -177,13 +158,13 @@ fn first_item<OM: OutputMode, I: Input, F: Parser<I>, K: Accumulator<F::Output> 
     input: I,
     before: Option<K>,
 ) -> PResult<I, (bool, Option<K>), F::Error>
-    requires sound { (F.meaning (F.state parser.old)).IsSound }
+    requires sound { (F.grammar (F.state parser.old)).meaning.IsSound }
     requires built { Built OM.Output.BUILDS K.CanPush before }
-    ensures shown { ShowsAnswer I.model (Found K.Pushes K.CanPush (F.IsOutput (F.state parser.old)) OM.Output.BUILDS before)
+    ensures shown { ShowsAnswer I.model (Found K.Pushes K.CanPush (F.grammar (F.state parser.old)).IsOutput OM.Output.BUILDS before)
         (modes true OM.Error.BUILDS OM.Incomplete.STREAMING) input
-        ((optional_meaning I.model F.Error.errors K.Grows (F.meaning (F.state parser.old))).answers OM.Incomplete.STREAMING input)
-        ((optional_meaning I.model F.Error.errors K.Grows (F.meaning (F.state parser.old))).blames OM.Incomplete.STREAMING input)
-        ((optional_meaning I.model F.Error.errors K.Grows (F.meaning (F.state parser.old))).may_run_out
+        ((optional_meaning I.model F.Error.errors K.Grows (F.grammar (F.state parser.old)).meaning).answers OM.Incomplete.STREAMING input)
+        ((optional_meaning I.model F.Error.errors K.Grows (F.grammar (F.state parser.old)).meaning).blames OM.Incomplete.STREAMING input)
+        ((optional_meaning I.model F.Error.errors K.Grows (F.grammar (F.state parser.old)).meaning).may_run_out
         (modes OM.Output.BUILDS OM.Error.BUILDS OM.Incomplete.STREAMING) input) result }
     ensures kept { F.state parser.new ≡ F.state parser.old }
 {

@@ -17,9 +17,9 @@ pub fn separated_list1_accepts<
     F: Parser<I> + Drop,
     G: Parser<I, Error = F::Error> + Drop,
 >(_parser: &SeparatedList1<A, G, F>)
-    ensures { AcceptsOneAndMore I.model (F.meaning (F.state _parser.now.next.second))
-        (preceded_meaning I.model (G.meaning (G.state _parser.now.next.first)) (F.meaning (F.state _parser.now.next.second)))
-        (⟦<SeparatedList1<A, G, F> as Parser<I>>⟧.meaning (G.state _parser.now.next.first, F.state _parser.now.next.second)) }
+    ensures { AcceptsOneAndMore I.model (F.grammar (F.state _parser.now.next.second)).meaning
+        (preceded_meaning I.model (G.grammar (G.state _parser.now.next.first)).meaning (F.grammar (F.state _parser.now.next.second)).meaning)
+        (⟦<SeparatedList1<A, G, F> as Parser<I>>⟧.grammar (G.state _parser.now.next.first, F.state _parser.now.next.second)).meaning }
 {}
 
 /// `separated_list0` accepts nothing, with no items, where the first item is refused; and else just what
@@ -30,7 +30,7 @@ pub fn separated_list0_accepts<
     F: Parser<I> + Drop,
     G: Parser<I, Error = F::Error> + Drop,
 >(_parser: &SeparatedList0<A, G, F>)
-    ensures { AcceptsNoneOrMore I.model (F.meaning (F.state _parser.now.next.second))
-        (preceded_meaning I.model (G.meaning (G.state _parser.now.next.first)) (F.meaning (F.state _parser.now.next.second)))
-        (⟦<SeparatedList0<A, G, F> as Parser<I>>⟧.meaning (G.state _parser.now.next.first, F.state _parser.now.next.second)) }
+    ensures { AcceptsNoneOrMore I.model (F.grammar (F.state _parser.now.next.second)).meaning
+        (preceded_meaning I.model (G.grammar (G.state _parser.now.next.first)).meaning (F.grammar (F.state _parser.now.next.second)).meaning)
+        (⟦<SeparatedList0<A, G, F> as Parser<I>>⟧.grammar (G.state _parser.now.next.first, F.state _parser.now.next.second)).meaning }
 {}

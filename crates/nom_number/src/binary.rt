@@ -1,6 +1,6 @@
 //! Binary integers.
 ghost use Rattle.std.specs.Prelude.{◌≡◌, ◌<◌, ◌∷◌, ℕ, List, length};
-ghost use Rattle.nom_internal.specs.Prelude.{Built, value_pinned, value_of};
+ghost use Rattle.nom_internal.specs.Prelude.{Built, value_pinned, value_of, valued};
 ghost use Rattle.nom_internal.specs.laws.CaseLaws.{labelled_lawful, labelled_steady};
 ghost use Rattle.nom_bytes.specs.laws.TakeLaws.{take_lawful, take_steady};
 ghost use Rattle.nom_number.specs.Numbers.{bytes_lack, number_meaning};
@@ -43,9 +43,7 @@ impl<I: Input<Item = u8>, E: ParseError<I>> Parser<I> for BeU8<I, E> {
 
     ghost Tree = { ℕ };
 
-    ghost IsOutput = { λ _ t v. v ≡ t };
-
-    ghost meaning = { λ _. number_meaning I.model E.errors (value_of 256) 1 };
+    ghost grammar = { λ _. valued (number_meaning I.model E.errors (value_of 256) 1) };
 
     #[inline(always)]
     fn process<OM: OutputMode>(&mut self, input: I) -> PResult<I, u8, E> {

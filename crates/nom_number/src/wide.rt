@@ -1,6 +1,6 @@
 //! Binary integers of any width.
 ghost use Rattle.std.specs.Prelude.{◌≡◌, ◌<◌, ◌*◌, ◌^◌, length};
-ghost use Rattle.nom_internal.specs.Prelude.{Built, Slice, IsFirst, IsCount, value_pinned};
+ghost use Rattle.nom_internal.specs.Prelude.{Built, Slice, IsFirst, IsCount, value_pinned, valued};
 ghost use Rattle.nom_internal.specs.laws.CaseLaws.{labelled_lawful, labelled_steady};
 ghost use Rattle.nom_bytes.specs.laws.TakeLaws.{take_lawful, take_steady};
 ghost use Rattle.nom_number.specs.declared.order.Endianness.{Endianness};
@@ -117,9 +117,7 @@ impl<F: Layout, I: Input<Item = u8>, E: ParseError<I>> Parser<I> for Binary<F, I
 
     ghost Tree = { F.Number };
 
-    ghost IsOutput = { λ _ t v. v ≡ t };
-
-    ghost meaning = { λ endian. number_meaning I.model E.errors (λ bytes. F.of_bits (binary_number endian bytes)) F.BYTES };
+    ghost grammar = { λ endian. valued (number_meaning I.model E.errors (λ bytes. F.of_bits (binary_number endian bytes)) F.BYTES) };
 
     #[inline(always)]
     fn process<OM: OutputMode>(&mut self, input: I) -> PResult<I, F::Number, E> {

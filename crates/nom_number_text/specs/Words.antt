@@ -2,8 +2,8 @@
 use Rattle.std.specs.Prelude.{◌≡◌, ◌⊎◌, ℕ, ◌+◌, ◌<◌, ◌==◌, Bool, cond, List, [], ◌∷◌, length, codes, Some}
 use Rattle.std.specs.Char.{to_ascii_lowercase}
 use Rattle.nom_error.specs.declared.kind.ErrorKind.TheVariants as Kind
-use Rattle.nom_internal.specs.Prelude.{Errors, Model, IsSuffixOf, Slice, renamed_meaning, Meaning}
-use Rattle.nom_branch.specs.Alternatives.{next_meaning, choice_meaning}
+use Rattle.nom_internal.specs.Prelude.{Errors, Model, IsSuffixOf, Slice, renamed_meaning, Meaning, Grammar, sliced}
+use Rattle.nom_branch.specs.Alternatives.{next_meaning, choice_meaning, alt_of, or_of}
 use Rattle.nom_character.specs.LineMatches.{Match, at_end, one_more, match_meaning}
 use Rattle.nom_character.specs.LineMatches.Match.{Full, Absent}
 use Rattle.nom_number_text.specs.declared.word.WordAt.{WordAt}
@@ -46,3 +46,15 @@ exceptions_meaning w code errs first =
 -- a part whose errors become those of `Float` at the start
 abbrev pub as_float_meaning : {I P E : Type 0} → Errors I E → Meaning I P E → Meaning I P E
 as_float_meaning errs = renamed_meaning (λ i _. errs.of_kind i Kind.Float) errs.grows
+
+-- a grammar, and where it refuses `nan`, `infinity` or `inf`
+abbrev pub exceptions_of : {I A V E : Type 0} (w : Model I A) → (code : A → ℕ) → Errors I E → Grammar I V I E →
+    Grammar I (((V ⊎ Slice w) ⊎ Slice w) ⊎ Slice w) I E
+exceptions_of w code errs g =
+    alt_of errs (or_of errs (or_of errs (or_of errs g (sliced w (word_meaning w code errs (codes "nan")))) (sliced w (word_meaning w code errs
+    (codes "infinity"))))
+    (sliced w (word_meaning w code errs (codes "inf"))))
+
+-- a grammar whose errors become those of `Float` at the start
+abbrev pub as_float_of : {I V O E : Type 0} → Errors I E → Grammar I V O E → Grammar I V O E
+as_float_of errs g = record { meaning = as_float_meaning errs g.meaning; IsOutput = g.IsOutput }

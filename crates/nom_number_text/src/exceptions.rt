@@ -1,7 +1,7 @@
 //! Words in the place of a decimal fraction.
 ghost use Rattle.std.specs.Prelude.{◌⊎◌};
-ghost use Rattle.nom_internal.specs.Prelude.{Slice, IsModelledBy, EitherOutput};
-ghost use Rattle.nom_number_text.specs.Words.{exceptions_meaning};
+ghost use Rattle.nom_internal.specs.Prelude.{Slice};
+ghost use Rattle.nom_number_text.specs.Words.{exceptions_of};
 ghost use Rattle.nom_number_text.specs.laws.WordLaws.{exceptions_lawful, exceptions_steady, exceptions_pinned};
 
 use crate::word::{Exception, Word};
@@ -36,9 +36,7 @@ where
     // The branch that is taken, and its tree.
     ghost Tree = { ((F.Tree ⊎ Slice I.model) ⊎ Slice I.model) ⊎ Slice I.model };
 
-    ghost IsOutput = { λ s. EitherOutput (EitherOutput (EitherOutput (F.IsOutput s) (IsModelledBy I.model)) (IsModelledBy I.model)) (IsModelledBy I.model) };
-
-    ghost meaning = { λ s. exceptions_meaning I.model I.Item.code F.Error.errors (F.meaning s) };
+    ghost grammar = { λ s. exceptions_of I.model I.Item.code F.Error.errors (F.grammar s) };
 
     #[inline(always)]
     fn process<OM: OutputMode>(&mut self, input: I) -> PResult<I, I, F::Error> {

@@ -1,6 +1,6 @@
 //! Shapes of decimal fractions.
 ghost use Rattle.std.specs.Prelude.{◌≡◌};
-ghost use Rattle.nom_internal.specs.Prelude.{Slice, IsModelledBy, slice_pinned};
+ghost use Rattle.nom_internal.specs.Prelude.{Slice, slice_pinned, sliced};
 ghost use Rattle.nom_number_text.specs.Floats.{float_meaning};
 ghost use Rattle.nom_number_text.specs.laws.FloatLaws.{float_stream};
 
@@ -45,9 +45,7 @@ where
 
     ghost Tree = { Slice I.model };
 
-    ghost IsOutput = { λ _. IsModelledBy I.model };
-
-    ghost meaning = { λ _. float_meaning I.model I.Item.code E.errors };
+    ghost grammar = { λ _. sliced I.model (float_meaning I.model I.Item.code E.errors) };
 
     #[inline(always)]
     fn process<OM: OutputMode>(&mut self, input: I) -> PResult<I, I, E> {

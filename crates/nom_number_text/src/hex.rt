@@ -1,6 +1,6 @@
 //! Numbers in base 16.
 ghost use Rattle.std.specs.Prelude.{◌≡◌, ◌≤◌, ◌<◌, ℕ, length, take};
-ghost use Rattle.nom_internal.specs.Prelude.{Built, value_pinned};
+ghost use Rattle.nom_internal.specs.Prelude.{Built, value_pinned, valued};
 ghost use Rattle.nom_number_text.specs.Hex.{hex_value, hex_number, hex_meaning};
 ghost use Rattle.nom_number_text.specs.laws.HexLaws.{hex_stream};
 
@@ -93,9 +93,7 @@ where
 
     ghost Tree = { ℕ };
 
-    ghost IsOutput = { λ _ t v. v ≡ t };
-
-    ghost meaning = { λ _. hex_meaning I.model I.Item.code E.errors };
+    ghost grammar = { λ _. valued (hex_meaning I.model I.Item.code E.errors) };
 
     #[inline(always)]
     fn process<OM: OutputMode>(&mut self, input: I) -> PResult<I, u32, E> {

@@ -1,7 +1,7 @@
 //! A part whose errors become those of one kind.
 ghost use Rattle.nom_error.specs.declared.kind.ErrorKind.TheVariants as Kind;
 ghost use Rattle.nom_combinator.specs.Contexts.{IsRenamed};
-ghost use Rattle.nom_number_text.specs.Words.{as_float_meaning};
+ghost use Rattle.nom_number_text.specs.Words.{as_float_of};
 ghost use Rattle.nom_internal.specs.laws.MappedLaws.{renamed_lawful, renamed_steady};
 
 use nom_error::answer::{Err, PResult};
@@ -48,9 +48,7 @@ impl<I: Items, F: Parser<I> + Drop> Parser<I> for AsFloat<F> {
 
     ghost Tree = { F.Tree };
 
-    ghost IsOutput = { F.IsOutput };
-
-    ghost meaning = { λ s. as_float_meaning F.Error.errors (F.meaning s) };
+    ghost grammar = { λ s. as_float_of F.Error.errors (F.grammar s) };
 
     #[inline(always)]
     fn process<OM: OutputMode>(&mut self, input: I) -> PResult<I, Self::Output, Self::Error> {

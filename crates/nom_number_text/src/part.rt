@@ -174,9 +174,7 @@ where
 
     ghost Tree = { (Option (ℕ ⊎ ℕ) × Both I.model) × Option ℤ };
 
-    ghost IsOutput = { λ _. IsParts I.model I.Item.code };
-
-    ghost meaning = { λ _. parts_meaning I.model I.Item.code E.errors };
+    ghost grammar = { λ _. record { meaning = parts_meaning I.model I.Item.code E.errors; IsOutput = IsParts I.model I.Item.code } };
 
     #[inline(always)]
     fn process<OM: OutputMode>(&mut self, input: I) -> PResult<I, Self::Output, E> {

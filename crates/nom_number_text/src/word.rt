@@ -1,6 +1,6 @@
 //! Words without the case of ASCII letters.
 ghost use Rattle.std.specs.Prelude.{◌≡◌};
-ghost use Rattle.nom_internal.specs.Prelude.{Slice, IsModelledBy, slice_pinned};
+ghost use Rattle.nom_internal.specs.Prelude.{Slice, slice_pinned, sliced};
 ghost use Rattle.nom_number_text.specs.declared.word.Exception.{Exception};
 ghost use Rattle.nom_number_text.specs.Words.{IsWordAt, letters_of, word_meaning};
 ghost use Rattle.nom_number_text.specs.laws.WordLaws.{word_stream};
@@ -94,9 +94,7 @@ where
 
     ghost Tree = { Slice I.model };
 
-    ghost IsOutput = { λ _. IsModelledBy I.model };
-
-    ghost meaning = { λ word. word_meaning I.model I.Item.code E.errors (letters_of word) };
+    ghost grammar = { λ word. sliced I.model (word_meaning I.model I.Item.code E.errors (letters_of word)) };
 
     #[inline(always)]
     fn process<OM: OutputMode>(&mut self, input: I) -> PResult<I, I, E> {

@@ -2,7 +2,7 @@
 use Rattle.std.specs.Prelude.{◌≡◌, ◌+◌, Bool, true, false, Result, Ok, Err, Option, Some, None, refl}
 use Rattle.std.proofs.Common.{sym, ◌∙◌, ap, subst}
 use Rattle.nom_internal.specs.Prelude.{PResult, Needed, Incomplete, Error, Failure, OutOfMemory, Model, Built, Modes, modes, with_outputs, Outcome, Accept}
-use Rattle.nom_internal.specs.Prelude.{Refuse, Stop, Shows, ShowsAnswer, RanOut, Shown, Meaning, labelled_meaning, NextBlames, NextRunsOut, OrBlames}
+use Rattle.nom_internal.specs.Prelude.{Refuse, Stop, ShowsOutcome, ShowsAnswer, RanOut, Shown, Meaning, labelled_meaning, NextBlames, NextRunsOut, OrBlames}
 use Rattle.nom_internal.specs.Prelude.{or_meaning, OnError, ShowsNext, FirstFails, FirstRefuses, NextFails, NextRefuses, Fails, Needs}
 use Rattle.nom_error.specs.declared.answer.Err as Answer
 use Rattle.nom_permutation_slots.specs.declared.slots.Slot.{Slot}
@@ -50,8 +50,8 @@ module _ {I A V O E : Type 0} (w : Model I A) (IsOutput : V → O → Type 0) (o
 
 module _ {I A T E : Type 0} (w : Model I A) (Held Held' : T → Type 0) (mode : Modes) (i : I) (Answers : Outcome T → Type 0) (IsError : E → Type 0)
     (RunsOut : Type 0) where
-  lost_of : (f : Answer.Err E (Option E) Needed) (o : Outcome T) → Shows w (λ u _. Held u) (with_outputs true mode) i IsError o (as_answer (Err f)) →
-      Shows w (λ u _. Held' u) (with_outputs true mode) i IsError o (as_answer (Err f))
+  lost_of : (f : Answer.Err E (Option E) Needed) (o : Outcome T) → ShowsOutcome w (λ u _. Held u) (with_outputs true mode) i IsError o (as_answer (Err f)) →
+      ShowsOutcome w (λ u _. Held' u) (with_outputs true mode) i IsError o (as_answer (Err f))
   lost_of f (Accept n v) h = absurd (cc (h.4))
   lost_of f Refuse h = h
   lost_of f (Stop why) h = h
@@ -63,8 +63,8 @@ module _ {I A T E : Type 0} (w : Model I A) (Held Held' : T → Type 0) (mode : 
   lost_shown f (RanOut e h) = RanOut e h
   lost_shown f (Shown o a h) = Shown o a (lost_of f o h)
 
-  kept_of : (j : I) → ((u : T) → Held u → Held' u) → (o : Outcome T) → Shows w (λ u _. Held u) (with_outputs true mode) i IsError o (as_answer (Ok j)) →
-      Shows w (λ u _. Held' u) (with_outputs true mode) i IsError o (as_answer (Ok j))
+  kept_of : (j : I) → ((u : T) → Held u → Held' u) → (o : Outcome T) → ShowsOutcome w (λ u _. Held u) (with_outputs true mode) i IsError o (as_answer (Ok j)) →
+      ShowsOutcome w (λ u _. Held' u) (with_outputs true mode) i IsError o (as_answer (Ok j))
   kept_of j f (Accept n v) h = (h.0, h.1, h.2, (h.3.0, h.3.1, f v h.3.2), h.4)
   kept_of j f Refuse h = absurd (cc (h.2))
   kept_of j f (Stop (Fails cause)) h = absurd (cc (h.2))

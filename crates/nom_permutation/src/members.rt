@@ -108,13 +108,13 @@ impl<I: Items, A: Parser<I>> Nested<I> for One<A> {
 
     ghost none = { None };
 
-    ghost members = { λ s. member (A.meaning s) (λ t. t) (λ _ v. Some v) ∷ [] };
+    ghost members = { λ s. member (A.grammar s).meaning (λ t. t) (λ _ v. Some v) ∷ [] };
 
-    ghost AreHeld = { λ outputs s t slot. SlotHolds outputs (A.IsOutput s) t slot };
+    ghost AreHeld = { λ outputs s t slot. SlotHolds outputs (A.grammar s).IsOutput t slot };
 
     ghost waiting = { waits };
 
-    ghost AreOutputs = { λ s t o. IsApplied (A.IsOutput s) t o.member };
+    ghost AreOutputs = { λ s t o. IsApplied (A.grammar s).IsOutput t o.member };
 
     #[inline(always)]
     fn slots() -> Self::Slots {
@@ -141,10 +141,11 @@ impl<I: Items, A: Parser<I>> Nested<I> for One<A> {
     #[inline(always)]
     fn discard(_slots: Self::Slots) {}
 
-    ghost over = { λ outputs s t slot h z. first_over A.Error.errors.joined A.Error.errors.grows (A.meaning s) (λ v. Some v) outputs (A.IsOutput s)
+    ghost over = { λ outputs s t slot h z. first_over A.Error.errors.joined A.Error.errors.grows (A.grammar s).meaning (λ v. Some v) outputs
+        (A.grammar s).IsOutput
         t slot h z };
 
-    ghost good = { λ s. one_good (A.meaning s) (A.lawful s) };
+    ghost good = { λ s. one_good (A.grammar s).meaning (A.lawful s) };
 }
 
 impl<I: Items, A: StreamParser<I>> StreamNested<I> for One<A> {
@@ -154,9 +155,9 @@ impl<I: Items, A: StreamParser<I>> StreamNested<I> for One<A> {
 
     ghost Pins = { λ p. A.Pins p.member };
 
-    ghost pinned = { λ p. one_pinned (A.meaning (A.state p.member)) (A.IsOutput (A.state p.member)) (A.pinned p.member) };
+    ghost pinned = { λ p. one_pinned (A.grammar (A.state p.member)).meaning (A.grammar (A.state p.member)).IsOutput (A.pinned p.member) };
 
-    ghost stream = { λ s. one_stream (A.meaning s) (A.steady s) };
+    ghost stream = { λ s. one_stream (A.grammar s).meaning (A.steady s) };
 }
 
 impl<I: Items, M: Nested<I>, A: Parser<I, Error = M::Error>> Nested<I> for More<M, A> {
@@ -176,13 +177,13 @@ impl<I: Items, M: Nested<I>, A: Parser<I, Error = M::Error>> Nested<I> for More<
 
     ghost none = { (M.none, None) };
 
-    ghost members = { λ s. with_last (M.members s.0) (A.meaning s.1) };
+    ghost members = { λ s. with_last (M.members s.0) (A.grammar s.1).meaning };
 
-    ghost AreHeld = { λ outputs s t slots. M.AreHeld outputs s.0 t.0 slots.0 × SlotHolds outputs (A.IsOutput s.1) t.1 slots.1 };
+    ghost AreHeld = { λ outputs s t slots. M.AreHeld outputs s.0 t.0 slots.0 × SlotHolds outputs (A.grammar s.1).IsOutput t.1 slots.1 };
 
     ghost waiting = { λ slots. M.waiting slots.0 + waits slots.1 };
 
-    ghost AreOutputs = { λ s t o. M.AreOutputs s.0 t.0 o.0 × IsApplied (A.IsOutput s.1) t.1 o.1 };
+    ghost AreOutputs = { λ s t o. M.AreOutputs s.0 t.0 o.0 × IsApplied (A.grammar s.1).IsOutput t.1 o.1 };
 
     #[inline(always)]
     fn slots() -> Self::Slots {
@@ -220,10 +221,10 @@ impl<I: Items, M: Nested<I>, A: Parser<I, Error = M::Error>> Nested<I> for More<
         M::discard(others);
     }
 
-    ghost over = { λ outputs s t slots h z. last_over M.Error.errors.joined M.Error.errors.grows (A.meaning s.1) t outputs (A.IsOutput s.1)
+    ghost over = { λ outputs s t slots h z. last_over M.Error.errors.joined M.Error.errors.grows (A.grammar s.1).meaning t outputs (A.grammar s.1).IsOutput
         (M.waiting slots.0) slots.1 (M.members s.0) (λ k. M.over outputs s.0 t.0 slots.0 h.0 k) h.1 z };
 
-    ghost good = { λ s. more_good (A.meaning s.1) (M.good s.0) (A.lawful s.1) };
+    ghost good = { λ s. more_good (A.grammar s.1).meaning (M.good s.0) (A.lawful s.1) };
 }
 
 impl<I: Items, M: StreamNested<I>, A: StreamParser<I, Error = M::Error>> StreamNested<I>
@@ -235,7 +236,7 @@ impl<I: Items, M: StreamNested<I>, A: StreamParser<I, Error = M::Error>> StreamN
 
     ghost Pins = { λ p. M.Pins p.others × A.Pins p.member };
 
-    ghost pinned = { λ p. more_pinned (A.meaning (A.state p.member)) (A.IsOutput (A.state p.member)) (M.pinned p.others) (A.pinned p.member) };
+    ghost pinned = { λ p. more_pinned (A.grammar (A.state p.member)).meaning (A.grammar (A.state p.member)).IsOutput (M.pinned p.others) (A.pinned p.member) };
 
-    ghost stream = { λ s. more_stream (A.meaning s.1) (M.stream s.0) (A.steady s.1) };
+    ghost stream = { λ s. more_stream (A.grammar s.1).meaning (M.stream s.0) (A.steady s.1) };
 }

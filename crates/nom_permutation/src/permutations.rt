@@ -39,10 +39,11 @@ where
     // The members' trees.
     ghost Tree = { N.Tree };
 
-    ghost IsOutput = { λ s. FlatOutput (N.AreOutputs s) N.Outputs.pairs };
-
-    ghost meaning = { λ s. permutation_meaning I.model N.Error.errors.joined (λ i. N.Error.errors.appended i Kind.Permutation) N.Error.errors.grows
-        (N.members s) N.none };
+    ghost grammar = { λ s. record {
+      meaning = permutation_meaning I.model N.Error.errors.joined (λ i. N.Error.errors.appended i Kind.Permutation) N.Error.errors.grows
+          (N.members s) N.none;
+      IsOutput = FlatOutput (N.AreOutputs s) N.Outputs.pairs;
+    } };
 
     #[inline(always)]
     fn process<OM: OutputMode>(&mut self, input: I) -> PResult<I, Self::Output, Self::Error> {

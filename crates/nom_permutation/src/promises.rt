@@ -14,7 +14,7 @@ pub fn applies_each_once<I: Items, N: Nested<I>>(_parser: &OnceEach<N>)
 where
     N::Outputs: Flat,
     ensures once { AppliesEachOnce I.model (N.members (N.state _parser.now.members)) N.none
-        (⟦<OnceEach<N> as Parser<I>>⟧.meaning (N.state _parser.now.members)) }
+        (⟦<OnceEach<N> as Parser<I>>⟧.grammar (N.state _parser.now.members)).meaning }
     ensures every { AcceptsEachOrder I.model (N.members (N.state _parser.now.members)) N.none
-        (⟦<OnceEach<N> as Parser<I>>⟧.meaning (N.state _parser.now.members)) }
+        (⟦<OnceEach<N> as Parser<I>>⟧.grammar (N.state _parser.now.members)).meaning }
 {}

@@ -41,8 +41,8 @@ fn try_first<I: Items, P: Parser<I>, OM: OutputMode>(
     member: &mut P,
     input: I,
 ) -> Round<I, P::Error>
-    requires { (P.meaning (P.state member.old)).IsSound }
-    ensures shown { TriesFirst I.model (P.IsOutput (P.state member.old)) (P.meaning (P.state member.old))
+    requires { (P.grammar (P.state member.old)).meaning.IsSound }
+    ensures shown { TriesFirst I.model (P.grammar (P.state member.old)).IsOutput (P.grammar (P.state member.old)).meaning
         (modes OM.Output.BUILDS OM.Error.BUILDS OM.Incomplete.STREAMING) input slot.old slot.new result }
     ensures kept { P.state member.new ≡ P.state member.old }
 {
@@ -58,8 +58,9 @@ fn try_next<I: Items, P: Parser<I>, OM: OutputMode>(
     member: &mut P,
     input: I,
 ) -> Round<I, P::Error>
-    requires { (P.meaning (P.state member.old)).IsSound }
-    ensures shown { TriesNext I.model (P.IsOutput (P.state member.old)) P.Error.errors.joined P.Error.errors.grows (P.meaning (P.state member.old))
+    requires { (P.grammar (P.state member.old)).meaning.IsSound }
+    ensures shown { TriesNext I.model (P.grammar (P.state member.old)).IsOutput P.Error.errors.joined P.Error.errors.grows
+        (P.grammar (P.state member.old)).meaning
         (modes OM.Output.BUILDS OM.Error.BUILDS OM.Incomplete.STREAMING) input error slot.old slot.new result }
     ensures kept { P.state member.new ≡ P.state member.old }
 {
@@ -87,8 +88,8 @@ pub fn try_slot<I: Items, P: Parser<I>, OM: OutputMode>(
     member: &mut P,
     input: I,
 ) -> Option<Round<I, P::Error>>
-    requires { (P.meaning (P.state member.old)).IsSound }
-    ensures shown { Tries I.model (P.IsOutput (P.state member.old)) P.Error.errors.joined P.Error.errors.grows (P.meaning (P.state member.old))
+    requires { (P.grammar (P.state member.old)).meaning.IsSound }
+    ensures shown { Tries I.model (P.grammar (P.state member.old)).IsOutput P.Error.errors.joined P.Error.errors.grows (P.grammar (P.state member.old)).meaning
         (modes OM.Output.BUILDS OM.Error.BUILDS OM.Incomplete.STREAMING) input slot.old round slot.new result }
     ensures kept { P.state member.new ≡ P.state member.old }
 {

@@ -3,7 +3,7 @@ ghost use Rattle.std.specs.Prelude.{◌≡◌, List, length};
 ghost use Rattle.nom_precedence.specs.Expressions.{read_meaning, term_meaning};
 ghost use Rattle.nom_precedence.specs.Operators.{HasLevel, operator_meaning};
 ghost use Rattle.nom_precedence.specs.Told.{ShowsRead};
-ghost use Rattle.nom_precedence.specs.Values.{StandsFor, folding};
+ghost use Rattle.nom_precedence.specs.Values.{StandsFor, folding, precedence_by};
 ghost use Rattle.nom_operators.specs.Groups.{groups_left};
 ghost use Rattle.nom_operators.specs.declared.operation.Operation.{Operation};
 ghost use Rattle.nom_operators.specs.declared.operation.Assoc.{Assoc};
@@ -48,7 +48,7 @@ impl<
     B: Drop,
     G: Fn(Operation<P::Output, Q::Output, B, F::Output>) -> F::Output,
 > Parser<I> for Precedence<'l, A, P, F, Q, C, B, G> {
-    ghost use Rattle.nom_precedence.specs.Expressions.{Term, Pair, precedence_meaning};
+    ghost use Rattle.nom_precedence.specs.Expressions.{Term, Pair};
     ghost use Rattle.nom_precedence.specs.laws.ExpressionLaws.{precedence_lawful};
 
     type Output = F::Output;
@@ -61,11 +61,8 @@ impl<
 
     ghost Tree = { Term P.Tree F.Tree Q.Tree × List (Pair C.Tree (Term P.Tree F.Tree Q.Tree)) };
 
-    ghost IsOutput = { λ s e y. StandsFor (folding (P.IsOutput s.0) (F.IsOutput s.1) (Q.IsOutput s.2) (C.IsOutput s.3) (G.post s.5)) (groups_left s.4) e.0 e.1
-        y };
-
-    ghost meaning = { λ s. precedence_meaning I.model F.Error.errors ((x : Operation P.Output Q.Output B F.Output) → G.pre s.5 x)
-        (HasLevel (C.IsOutput s.3) (λ o. o.0)) (length s.4) (P.meaning s.0) (F.meaning s.1) (Q.meaning s.2) (C.meaning s.3) };
+    ghost grammar = { λ s. precedence_by I.model F.Error.errors ((x : Operation P.Output Q.Output B F.Output) → G.pre s.5 x) (G.post s.5) s.4
+        (P.grammar s.0) (F.grammar s.1) (Q.grammar s.2) (C.grammar s.3) };
 
     fn process<OM: OutputMode>(&mut self, input: I) -> PResult<I, F::Output, F::Error> {
         let (end, whole) = read::<OM, I, A, P, F, Q, B, C, G>(
@@ -103,8 +100,8 @@ impl<
     ghost use Rattle.nom_precedence.specs.laws.ValueLaws.{GivesAlike, folding_pinned};
 
     ghost Pins = { λ p. P.Pins p.prefix × F.Pins p.operand × Q.Pins p.postfix × C.Pins p.binary × GivesAlike
-        (folding (P.IsOutput (P.state p.prefix)) (F.IsOutput (F.state p.operand)) (Q.IsOutput (Q.state p.postfix)) (C.IsOutput (C.state p.binary))
-        (G.post p.fold)) P.Output.view Q.Output.view B.view F.Output.view };
+        (folding (P.grammar (P.state p.prefix)).IsOutput (F.grammar (F.state p.operand)).IsOutput (Q.grammar (Q.state p.postfix)).IsOutput
+        (C.grammar (C.state p.binary)).IsOutput (G.post p.fold)) P.Output.view Q.Output.view B.view F.Output.view };
 
     ghost pinned = { λ p k h. folding_pinned h.4 (P.pinned p.prefix k.0 h.0) (F.pinned p.operand k.1 h.1) (Q.pinned p.postfix k.2 h.2)
         (C.pinned p.binary k.3 h.3) (groups_left p.levels.now) };
@@ -135,16 +132,17 @@ fn read<
     fold: &G,
     input: I,
 ) -> PResult<I, Read<Option<F::Output>>, F::Error>
-    requires prefix { (P.meaning (P.state prefix.old)).IsSound }
-    requires operand { (F.meaning (F.state operand.old)).IsSound }
-    requires postfix { (Q.meaning (Q.state postfix.old)).IsSound }
-    requires binary { (C.meaning (C.state binary.old)).IsSound }
+    requires prefix { (P.grammar (P.state prefix.old)).meaning.IsSound }
+    requires operand { (F.grammar (F.state operand.old)).meaning.IsSound }
+    requires postfix { (Q.grammar (Q.state postfix.old)).meaning.IsSound }
+    requires binary { (C.grammar (C.state binary.old)).meaning.IsSound }
     requires fold { (x : Operation P.Output Q.Output B F.Output) → G.pre fold.now x }
-    ensures shown { ShowsRead I.model (λ e y. StandsFor (folding (P.IsOutput (P.state prefix.old)) (F.IsOutput (F.state operand.old))
-        (Q.IsOutput (Q.state postfix.old)) (C.IsOutput (C.state binary.old)) (G.post fold.now)) (groups_left levels.now) e.0 e.1 y)
-        (read_meaning I.model F.Error.errors (operator_meaning F.Error.errors (HasLevel (C.IsOutput (C.state binary.old)) (λ o. o.0))
-        (length levels.now) (C.meaning (C.state binary.old))) (term_meaning I.model (P.meaning (P.state prefix.old))
-        (F.meaning (F.state operand.old)) (Q.meaning (Q.state postfix.old)))) OM.Output.BUILDS OM.Error.BUILDS OM.Incomplete.STREAMING input result }
+    ensures shown { ShowsRead I.model (λ e y. StandsFor (folding (P.grammar (P.state prefix.old)).IsOutput (F.grammar (F.state operand.old)).IsOutput
+        (Q.grammar (Q.state postfix.old)).IsOutput (C.grammar (C.state binary.old)).IsOutput (G.post fold.now)) (groups_left levels.now) e.0 e.1 y)
+        (read_meaning I.model F.Error.errors (operator_meaning F.Error.errors (HasLevel (C.grammar (C.state binary.old)).IsOutput (λ o. o.0))
+        (length levels.now) (C.grammar (C.state binary.old)).meaning) (term_meaning I.model (P.grammar (P.state prefix.old)).meaning
+        (F.grammar (F.state operand.old)).meaning (Q.grammar (Q.state postfix.old)).meaning))
+        OM.Output.BUILDS OM.Error.BUILDS OM.Incomplete.STREAMING input result }
     ensures prefix_kept { P.state prefix.new ≡ P.state prefix.old }
     ensures operand_kept { F.state operand.new ≡ F.state operand.old }
     ensures postfix_kept { Q.state postfix.new ≡ Q.state postfix.old }

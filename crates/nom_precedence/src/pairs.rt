@@ -29,14 +29,14 @@ fn operator<OM: OutputMode, I: Input, B: Drop, C: Parser<I, Output = (usize, B)>
     levels: &[Assoc],
     input: I,
 ) -> PResult<I, (usize, B), C::Error>
-    requires { (C.meaning (C.state binary.old)).IsSound }
-    ensures shown { ShowsAnswer I.model (IsOwn (C.IsOutput (C.state binary.old))) (modes true OM.Error.BUILDS OM.Incomplete.STREAMING) input
-        ((operator_meaning C.Error.errors (HasLevel (C.IsOutput (C.state binary.old)) (λ o. o.0)) (length levels.now)
-        (C.meaning (C.state binary.old))).answers OM.Incomplete.STREAMING input)
-        ((operator_meaning C.Error.errors (HasLevel (C.IsOutput (C.state binary.old)) (λ o. o.0)) (length levels.now)
-        (C.meaning (C.state binary.old))).blames OM.Incomplete.STREAMING input)
-        ((operator_meaning C.Error.errors (HasLevel (C.IsOutput (C.state binary.old)) (λ o. o.0)) (length levels.now)
-        (C.meaning (C.state binary.old))).may_run_out (modes OM.Output.BUILDS OM.Error.BUILDS OM.Incomplete.STREAMING) input) result }
+    requires { (C.grammar (C.state binary.old)).meaning.IsSound }
+    ensures shown { ShowsAnswer I.model (IsOwn (C.grammar (C.state binary.old)).IsOutput) (modes true OM.Error.BUILDS OM.Incomplete.STREAMING) input
+        ((operator_meaning C.Error.errors (HasLevel (C.grammar (C.state binary.old)).IsOutput (λ o. o.0)) (length levels.now)
+        (C.grammar (C.state binary.old)).meaning).answers OM.Incomplete.STREAMING input)
+        ((operator_meaning C.Error.errors (HasLevel (C.grammar (C.state binary.old)).IsOutput (λ o. o.0)) (length levels.now)
+        (C.grammar (C.state binary.old)).meaning).blames OM.Incomplete.STREAMING input)
+        ((operator_meaning C.Error.errors (HasLevel (C.grammar (C.state binary.old)).IsOutput (λ o. o.0)) (length levels.now)
+        (C.grammar (C.state binary.old)).meaning).may_run_out (modes OM.Output.BUILDS OM.Error.BUILDS OM.Incomplete.STREAMING) input) result }
     ensures kept { C.state binary.new ≡ C.state binary.old }
 {
     let (rest, read) = binary.process::<OutputM<Emit, OM::Error, OM::Incomplete>>(input)?;
@@ -80,17 +80,17 @@ fn pair<
     fold: &G,
     input: I,
 ) -> PResult<I, Read<Option<((usize, B), F::Output)>>, F::Error>
-    requires prefix { (P.meaning (P.state prefix.old)).IsSound }
-    requires operand { (F.meaning (F.state operand.old)).IsSound }
-    requires postfix { (Q.meaning (Q.state postfix.old)).IsSound }
-    requires binary { (C.meaning (C.state binary.old)).IsSound }
+    requires prefix { (P.grammar (P.state prefix.old)).meaning.IsSound }
+    requires operand { (F.grammar (F.state operand.old)).meaning.IsSound }
+    requires postfix { (Q.grammar (Q.state postfix.old)).meaning.IsSound }
+    requires binary { (C.grammar (C.state binary.old)).meaning.IsSound }
     requires fold { (x : Operation P.Output Q.Output B F.Output) → G.pre fold.now x }
-    ensures shown { ShowsRead I.model (IsPairOf (C.IsOutput (C.state binary.old))
-        (IsTerm (P.IsOutput (P.state prefix.old)) (λ p x y. G.post fold.now (Prefix p x) y) (F.IsOutput (F.state operand.old))
-        (Q.IsOutput (Q.state postfix.old)) (λ x c y. G.post fold.now (Postfix x c) y)))
-        (pair_meaning I.model (operator_meaning F.Error.errors (HasLevel (C.IsOutput (C.state binary.old)) (λ o. o.0)) (length levels.now)
-        (C.meaning (C.state binary.old))) (term_meaning I.model (P.meaning (P.state prefix.old)) (F.meaning (F.state operand.old))
-        (Q.meaning (Q.state postfix.old)))) OM.Output.BUILDS OM.Error.BUILDS OM.Incomplete.STREAMING input result }
+    ensures shown { ShowsRead I.model (IsPairOf (C.grammar (C.state binary.old)).IsOutput
+        (IsTerm (P.grammar (P.state prefix.old)).IsOutput (λ p x y. G.post fold.now (Prefix p x) y) (F.grammar (F.state operand.old)).IsOutput
+        (Q.grammar (Q.state postfix.old)).IsOutput (λ x c y. G.post fold.now (Postfix x c) y)))
+        (pair_meaning I.model (operator_meaning F.Error.errors (HasLevel (C.grammar (C.state binary.old)).IsOutput (λ o. o.0)) (length levels.now)
+        (C.grammar (C.state binary.old)).meaning) (term_meaning I.model (P.grammar (P.state prefix.old)).meaning (F.grammar (F.state operand.old)).meaning
+        (Q.grammar (Q.state postfix.old)).meaning)) OM.Output.BUILDS OM.Error.BUILDS OM.Incomplete.STREAMING input result }
     ensures prefix_kept { P.state prefix.new ≡ P.state prefix.old }
     ensures operand_kept { F.state operand.new ≡ F.state operand.old }
     ensures postfix_kept { Q.state postfix.new ≡ Q.state postfix.old }
@@ -191,18 +191,18 @@ pub fn pairs<
     input: I,
     before: Option<F::Output>,
 ) -> PResult<I, Read<Option<F::Output>>, F::Error>
-    requires prefix { (P.meaning (P.state prefix.old)).IsSound }
-    requires operand { (F.meaning (F.state operand.old)).IsSound }
-    requires postfix { (Q.meaning (Q.state postfix.old)).IsSound }
-    requires binary { (C.meaning (C.state binary.old)).IsSound }
+    requires prefix { (P.grammar (P.state prefix.old)).meaning.IsSound }
+    requires operand { (F.grammar (F.state operand.old)).meaning.IsSound }
+    requires postfix { (Q.grammar (Q.state postfix.old)).meaning.IsSound }
+    requires binary { (C.grammar (C.state binary.old)).meaning.IsSound }
     requires fold { (x : Operation P.Output Q.Output B F.Output) → G.pre fold.now x }
     requires before { Built OM.Output.BUILDS (λ _. Unit {0}) before }
     ensures shown { ShowsRead I.model (IsMade (groups_left levels.now) (λ c. c.0) (λ x c y z. G.post fold.now (Binary x c.1 y) z)
-        (IsPairOf (C.IsOutput (C.state binary.old)) (IsTerm (P.IsOutput (P.state prefix.old)) (λ p x y. G.post fold.now (Prefix p x) y)
-        (F.IsOutput (F.state operand.old)) (Q.IsOutput (Q.state postfix.old)) (λ x c y. G.post fold.now (Postfix x c) y))) before)
+        (IsPairOf (C.grammar (C.state binary.old)).IsOutput (IsTerm (P.grammar (P.state prefix.old)).IsOutput (λ p x y. G.post fold.now (Prefix p x) y)
+        (F.grammar (F.state operand.old)).IsOutput (Q.grammar (Q.state postfix.old)).IsOutput (λ x c y. G.post fold.now (Postfix x c) y))) before)
         (chain_meaning I.model (Unit {0}) (pair_meaning I.model (operator_meaning F.Error.errors
-        (HasLevel (C.IsOutput (C.state binary.old)) (λ o. o.0)) (length levels.now) (C.meaning (C.state binary.old)))
-        (term_meaning I.model (P.meaning (P.state prefix.old)) (F.meaning (F.state operand.old)) (Q.meaning (Q.state postfix.old)))))
+        (HasLevel (C.grammar (C.state binary.old)).IsOutput (λ o. o.0)) (length levels.now) (C.grammar (C.state binary.old)).meaning)
+        (term_meaning I.model (P.grammar (P.state prefix.old)).meaning (F.grammar (F.state operand.old)).meaning (Q.grammar (Q.state postfix.old)).meaning)))
         OM.Output.BUILDS OM.Error.BUILDS OM.Incomplete.STREAMING input result }
     ensures prefix_kept { P.state prefix.new ≡ P.state prefix.old }
     ensures operand_kept { F.state operand.new ≡ F.state operand.old }

@@ -123,11 +123,11 @@ fn tail<
     fold: &G,
     input: I,
 ) -> PResult<I, Read<Option<F::Output>>, F::Error>
-    requires operand { (F.meaning (F.state operand.old)).IsSound }
-    requires postfix { (Q.meaning (Q.state postfix.old)).IsSound }
+    requires operand { (F.grammar (F.state operand.old)).meaning.IsSound }
+    requires postfix { (Q.grammar (Q.state postfix.old)).meaning.IsSound }
     requires fold { (x : Operation P Q.Output B F.Output) → G.pre fold.now x }
-    ensures shown { ShowsRead I.model (IsTail (F.IsOutput (F.state operand.old)) (Q.IsOutput (Q.state postfix.old))
-        (λ x c y. G.post fold.now (Postfix x c) y)) (tail_meaning I.model (F.meaning (F.state operand.old)) (Q.meaning (Q.state postfix.old)))
+    ensures shown { ShowsRead I.model (IsTail (F.grammar (F.state operand.old)).IsOutput (Q.grammar (Q.state postfix.old)).IsOutput
+        (λ x c y. G.post fold.now (Postfix x c) y)) (tail_meaning I.model (F.grammar (F.state operand.old)).meaning (Q.grammar (Q.state postfix.old)).meaning)
         OM.Output.BUILDS OM.Error.BUILDS OM.Incomplete.STREAMING input result }
     ensures operand_kept { F.state operand.new ≡ F.state operand.old }
     ensures postfix_kept { Q.state postfix.new ≡ Q.state postfix.old }
@@ -159,14 +159,14 @@ pub fn term<
     fold: &G,
     input: I,
 ) -> PResult<I, Read<Option<F::Output>>, F::Error>
-    requires prefix { (P.meaning (P.state prefix.old)).IsSound }
-    requires operand { (F.meaning (F.state operand.old)).IsSound }
-    requires postfix { (Q.meaning (Q.state postfix.old)).IsSound }
+    requires prefix { (P.grammar (P.state prefix.old)).meaning.IsSound }
+    requires operand { (F.grammar (F.state operand.old)).meaning.IsSound }
+    requires postfix { (Q.grammar (Q.state postfix.old)).meaning.IsSound }
     requires fold { (x : Operation P.Output Q.Output B F.Output) → G.pre fold.now x }
-    ensures shown { ShowsRead I.model (IsTerm (P.IsOutput (P.state prefix.old)) (λ p x y. G.post fold.now (Prefix p x) y)
-        (F.IsOutput (F.state operand.old)) (Q.IsOutput (Q.state postfix.old)) (λ x c y. G.post fold.now (Postfix x c) y))
-        (term_meaning I.model (P.meaning (P.state prefix.old)) (F.meaning (F.state operand.old)) (Q.meaning (Q.state postfix.old))) OM.Output.BUILDS
-        OM.Error.BUILDS OM.Incomplete.STREAMING input result }
+    ensures shown { ShowsRead I.model (IsTerm (P.grammar (P.state prefix.old)).IsOutput (λ p x y. G.post fold.now (Prefix p x) y)
+        (F.grammar (F.state operand.old)).IsOutput (Q.grammar (Q.state postfix.old)).IsOutput (λ x c y. G.post fold.now (Postfix x c) y))
+        (term_meaning I.model (P.grammar (P.state prefix.old)).meaning (F.grammar (F.state operand.old)).meaning (Q.grammar (Q.state postfix.old)).meaning)
+        OM.Output.BUILDS OM.Error.BUILDS OM.Incomplete.STREAMING input result }
     ensures prefix_kept { P.state prefix.new ≡ P.state prefix.old }
     ensures operand_kept { F.state operand.new ≡ F.state operand.old }
     ensures postfix_kept { Q.state postfix.new ≡ Q.state postfix.old }

@@ -3,6 +3,7 @@ use Rattle.std.proofs.Common.{◌≡◌, ℕ, ◌<◌, Bool, true, false, Ok, Er
 use Rattle.std.proofs.Common.{arith, inl, inr, ap, subst, sym}
 use Rattle.std.specs.Prelude.{ltb, if◌then◌else◌}
 use Rattle.nom_internal.specs.Prelude.{Errors, Needed, Incomplete, Error, Failure, OutOfMemory, ErrorKind, Built, Modes, modes, PResult, Refuses, size_of}
+use Rattle.nom_internal.specs.Prelude.{Grammar, Shows}
 use Rattle.nom_internal.specs.Prelude.{Model, InputLaws, IsSuffixOf, input_len, Outcome, Accept, Refuse, Stop, Fails, Needs, Meaning}
 use Rattle.nom_internal.specs.Prelude.{ShowsMeaning, always, ClosesError}
 use Rattle.nom_error.specs.declared.answer.Err as Answer
@@ -150,11 +151,11 @@ items_more l b {Item = Item} c below a p z =
     (record { reply = Some (Accept a.length a.tree); replied = (below, a.answered); fact = taken_turn b (length c.trees) a.length a.tree p }) a.rest_is z
 
 -- the part's answer, at the state before and in the mode in which it ran
-pub part_at : {S I A V E O : Type 0} {w : Model I A} (IsOutput : S → V → O → Type 0) (meaning : S → Meaning I V E)
+pub part_at : {S I A V E O : Type 0} {w : Model I A} (grammar : S → Grammar I V O E)
     {outputs errors asked streaming : Bool} {i : I} {r : PResult I O E} {a b : S} → errors ≡ asked → a ≡ b →
-    ShowsMeaning w (IsOutput a) (meaning a) (modes outputs errors streaming) i r → ShowsMeaning w (IsOutput b) (meaning b) (modes outputs asked streaming) i r
-part_at {w = w} IsOutput meaning {outputs} {errors} {asked} {streaming} {i} {r} {a} {b} e h s =
-    subst (λ z. ShowsMeaning w (IsOutput b) (meaning b) (modes outputs z streaming) i r) e (shown_at IsOutput meaning h s)
+    Shows w (grammar a) (modes outputs errors streaming) i r → Shows w (grammar b) (modes outputs asked streaming) i r
+part_at {w = w} grammar {outputs} {errors} {asked} {streaming} {i} {r} {a} {b} e h s =
+    subst (λ z. Shows w (grammar b) (modes outputs z streaming) i r) e (shown_at grammar h s)
 
 -- an item consumes, where it must
 pub moves : {I A : Type 0} {w : Model I A} {i j : I} {n a b : ℕ} {kind : Option ErrorKind} → IsSuffixOf w i n j → a ≡ input_len w i → b ≡ input_len w j →

@@ -1,7 +1,8 @@
 -- What the answer of a part tells.
 use Rattle.std.proofs.Common.{◌≡◌, ℕ, Err, Option, subst, sym}
-use Rattle.nom_internal.specs.Prelude.{Needed, Incomplete, Error, Failure, OutOfMemory, PResult, size_of, Built, Modes, Model, Outcome, Accept, Refuse, Stop}
-use Rattle.nom_internal.specs.Prelude.{Fails, Needs, Shows, ShowsAnswer, RanOut, Shown, Meaning, ShowsMeaning, Cause}
+use Rattle.nom_internal.specs.Prelude.{Needed, Incomplete, Error, Failure, OutOfMemory, PResult, size_of, Built, Modes, Model, Outcome, Accept, Refuse}
+use Rattle.nom_internal.specs.Prelude.{Stop, Grammar, Shows}
+use Rattle.nom_internal.specs.Prelude.{Fails, Needs, ShowsOutcome, ShowsAnswer, RanOut, Shown, Cause}
 use Rattle.nom_error.specs.declared.answer.Err as Answer
 use Rattle.nom_internal.proofs.Shown.{built_error}
 
@@ -48,15 +49,14 @@ module _ {I A V O E : Type 0} {w : Model I A} {IsOutput : V → O → Type 0} {m
   part_ran_out is (Shown (Stop (Needs k)) a s) = absurd (cc (is, s.2))
 
 -- the same at an equal state
-pub shown_at : {S I A V O E : Type 0} {w : Model I A} (IsOutput : S → V → O → Type 0) (meaning : S → Meaning I V E) {mode : Modes} {i : I}
-    {r : PResult I O E} {a b : S} → a ≡ b → ShowsMeaning w (IsOutput a) (meaning a) mode i r →
-    ShowsMeaning w (IsOutput b) (meaning b) mode i r
-shown_at {w = w} IsOutput meaning {mode = mode} {i = i} {r = r} e h = subst (λ z. ShowsMeaning w (IsOutput z) (meaning z) mode i r) e h
+pub shown_at : {S I A V O E : Type 0} {w : Model I A} (grammar : S → Grammar I V O E) {mode : Modes} {i : I} {r : PResult I O E} {a b : S} →
+    a ≡ b → Shows w (grammar a) mode i r → Shows w (grammar b) mode i r
+shown_at {w = w} grammar {mode = mode} {i = i} {r = r} e h = subst (λ z. Shows w (grammar z) mode i r) e h
 
 -- the same, with outputs viewed as something else
 module _ {I A V O E : Type 0} (w : Model I A) (IsOutput IsResult : V → O → Type 0) (mode : Modes) (i : I) (IsError : E → Type 0) where
   shows_as : (o : Outcome V) (r : PResult I O E) → ((v : V) (x : O) → IsOutput v x → IsResult v x) →
-      Shows w IsOutput mode i IsError o r → Shows w IsResult mode i IsError o r
+      ShowsOutcome w IsOutput mode i IsError o r → ShowsOutcome w IsResult mode i IsError o r
   shows_as (Accept n v) r f s = (s.0, s.1, s.2, built_error mode.outputs _ _ s.1 (f v) s.3, s.4)
   shows_as Refuse r f s = s
   shows_as (Stop why) r f s = s
@@ -73,8 +73,8 @@ shown_as {w = w} {IsOutput} {IsResult} {mode} {i} {Answers} {IsError} {RunsOut} 
 module _ {I A V O E : Type 0} (w : Model I A) (IsOutput IsResult : V → O → Type 0) (mode : Modes) (i : I) (Answers : Outcome V → Type 0)
     (IsError : E → Type 0) where
   shows_by : (o : Outcome V) (r : PResult I O E) →
-      ((n : ℕ) (v : V) (x : O) → Answers (Accept n v) → IsOutput v x → IsResult v x) → Answers o → Shows w IsOutput mode i IsError o r →
-      Shows w IsResult mode i IsError o r
+      ((n : ℕ) (v : V) (x : O) → Answers (Accept n v) → IsOutput v x → IsResult v x) → Answers o → ShowsOutcome w IsOutput mode i IsError o r →
+      ShowsOutcome w IsResult mode i IsError o r
   shows_by (Accept n v) r f a s = (s.0, s.1, s.2, built_error mode.outputs _ _ s.1 (λ x. f n v x a) s.3, s.4)
   shows_by Refuse r f a s = s
   shows_by (Stop why) r f a s = s

@@ -52,12 +52,12 @@ pub fn items<OM: OutputMode, EM: Mode, I: Input, F: Parser<I>, K: Accumulator<F:
     before: Option<K>,
     limits: Limits,
 ) -> PResult<I, K, F::Error>
-    requires sound { (F.meaning (F.state parser.old)).IsSound }
+    requires sound { (F.grammar (F.state parser.old)).meaning.IsSound }
     requires built { Built OM.Output.BUILDS K.CanPush before }
     requires errors { EM.BUILDS ≡ item_errors limits.too_few OM.Error.BUILDS }
     requires limits { AreLimits limits }
-    ensures shown { ShowsMeaning I.model (Accumulated K.Pushes K.CanPush (F.IsOutput (F.state parser.old)) before)
-        (items_meaning I.model F.Error.errors limits K.Grows (F.meaning (F.state parser.old)))
+    ensures shown { ShowsMeaning I.model (Accumulated K.Pushes K.CanPush (F.grammar (F.state parser.old)).IsOutput before)
+        (items_meaning I.model F.Error.errors limits K.Grows (F.grammar (F.state parser.old)).meaning)
         (modes OM.Output.BUILDS OM.Error.BUILDS OM.Incomplete.STREAMING) input result }
     ensures kept { F.state parser.new ≡ F.state parser.old }
 {

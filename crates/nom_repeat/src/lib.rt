@@ -3,5 +3,6 @@
 #![tactic(auto)]
 
 pub mod accumulator;
+pub mod bounds;
 pub mod inverted;
 pub mod items;

@@ -111,7 +111,7 @@ fn answers<
     O: PartialEq + Drop,
     P: Parser<I, Output = O, Error = Error<I>>,
 >(parser: &mut P, input: I, wanted: &Answer<O>) -> bool
-    requires { (P.meaning (P.state parser.old)).IsSound }
+    requires { (P.grammar (P.state parser.old)).meaning.IsSound }
     ensures { P.state parser.new ≡ P.state parser.old }
 {
     let found = parser.process::<OM>(input);
@@ -132,7 +132,7 @@ fn holds<I: Input + Content, O: PartialEq + Drop, P: Parser<I, Output = O, Error
     parser: &mut P,
     row: &Row<I, O>,
 ) -> bool
-    requires { (P.meaning (P.state parser.old)).IsSound }
+    requires { (P.grammar (P.state parser.old)).meaning.IsSound }
     ensures { P.state parser.new ≡ P.state parser.old }
 {
     let complete = match &row.2 {
@@ -156,7 +156,7 @@ pub fn wrong_row<
     O: PartialEq + Drop,
     P: Parser<I, Output = O, Error = Error<I>> + Drop,
 >(mut parser: P, rows: &[Row<I, O>]) -> Option<usize>
-    requires { (P.meaning (P.state parser)).IsSound }
+    requires { (P.grammar (P.state parser)).meaning.IsSound }
 {
     for (index, row) in rows.iter().enumerate() {
         if !holds(&mut parser, row) {
@@ -172,7 +172,7 @@ pub fn wrong_pinned_row<
     O: Viewed + PartialEq + Drop,
     P: StreamParser<I, Output = O, Error = Error<I>> + Drop,
 >(parser: P, rows: &[Row<I, O>]) -> Option<usize>
-    requires sound { (P.Parser.meaning (P.Parser.state parser)).IsSound }
+    requires sound { (P.Parser.grammar (P.Parser.state parser)).meaning.IsSound }
     requires pins { P.Pins parser }
 {
     wrong_row(parser, rows)
@@ -185,7 +185,7 @@ pub fn grown<'a, P: StreamParser<&'a [u8]> + Drop>(
     whole: &'a [u8],
     cuts: [usize; 4],
 ) -> Option<Grown<&'a [u8], P::Output, P::Error>>
-    requires { (P.Parser.meaning (P.Parser.state parser)).IsSound }
+    requires { (P.Parser.grammar (P.Parser.state parser)).meaning.IsSound }
 {
     let [a, b, c, d] = cuts;
     let end = whole.len();
@@ -207,7 +207,7 @@ pub fn is_grown<'a, P: StreamParser<&'a [u8]> + Drop>(
 ) -> bool
 where
     P::Output: PartialEq,
-    requires sound { (P.Parser.meaning (P.Parser.state parser)).IsSound }
+    requires sound { (P.Parser.grammar (P.Parser.state parser)).meaning.IsSound }
     requires pins { P.Pins parser }
 {
     let Some(grown) = grown(parser, whole, cuts) else {

@@ -3,7 +3,7 @@ use Rattle.std.proofs.Common.{◌≡◌, ℕ, true, ◌-◌, ◌<◌, ◌≤◌,
 use Rattle.std.proofs.Common.{ap, subst, arith, length-append}
 use Rattle.nom_error.specs.declared.value.Error.{Error}
 use Rattle.nom_internal.specs.Prelude.{Needed, IsSuffixOf, items_len-ones, bytes_model, Outcome, Cause, Accept, Refuse, Stop, Fails, Needs}
-use Rattle.nom_internal.specs.Prelude.{Parses, Meaning}
+use Rattle.nom_internal.specs.Prelude.{ParsesOutcome, Meaning}
 use Rattle.nom_error.specs.declared.answer.Err as Answer
 use Rattle.nom_growing.specs.Growing.{IsBeginning, AnswersOn, IsGrown}
 use Rattle.nom_growing.specs.Growing.IsBeginning.{AtCut, AtEnd}
@@ -36,7 +36,8 @@ module _ {V O : Type 0} (lines : V → List ℕ) (IsOutput : V → O → Type 0)
     (same : (v : V) (o : O) → IsOutput v o → given o ≡ lines v) (Blames : Error Bytes → Type 0) (index start : ℕ) (whole x : Bytes)
     (begins : start ≡ length x.now) where
   says : (o : Outcome V) → ((cause : Cause) → o ≡ Stop (Fails cause) → ⊥) → (answer : Result (Bytes × O) AnswerErr) (text : List ℕ) (status : ℕ) →
-      Parses bytes_model IsOutput whole Blames o answer → IsTold given index start answer text status → Says lines Blames index whole.now x.now o text status
+      ParsesOutcome bytes_model IsOutput whole Blames o answer → IsTold given index start answer text status →
+      Says lines Blames index whole.now x.now o text status
   says (Accept n v) never answer text status p t =
       let told = subst (λ a. IsTold given index start a text status) p.4 t in
       let parts : decided_text index ++ given p.1 ++ rest_text (length (p.0).now) ≡ decided_text index ++ lines v ++ rest_text (length whole.now - n) =

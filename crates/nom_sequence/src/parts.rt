@@ -1,7 +1,7 @@
 //! The parsers that run two parts in sequence.
 ghost use Rattle.std.specs.Prelude.{false};
 ghost use Rattle.nom_internal.specs.Prelude.{with_outputs, ThenBesides};
-ghost use Rattle.nom_sequence.specs.Sequences.{preceded_meaning, terminated_meaning};
+ghost use Rattle.nom_sequence.specs.Sequences.{preceded_of, terminated_of};
 ghost use Rattle.nom_sequence.specs.laws.SequenceLaws.{preceded_lawful, preceded_steady, terminated_lawful, terminated_steady};
 
 use nom_error::answer::PResult;
@@ -28,9 +28,7 @@ impl<I: Items, F: Parser<I> + Drop, G: Parser<I, Error = F::Error> + Drop> Parse
 
     ghost Tree = { G.Tree };
 
-    ghost IsOutput = { λ s. G.IsOutput s.1 };
-
-    ghost meaning = { λ s. preceded_meaning I.model (F.meaning s.0) (G.meaning s.1) };
+    ghost grammar = { λ s. preceded_of I.model (F.grammar s.0) (G.grammar s.1) };
 
     ghost Besides = { λ mode old new i. ThenBesides (F.Besides (with_outputs false mode) old.first new.first i) (G.Besides mode old.second new.second) };
 
@@ -74,9 +72,7 @@ impl<I: Items, F: Parser<I> + Drop, G: Parser<I, Error = F::Error> + Drop> Parse
 
     ghost Tree = { F.Tree };
 
-    ghost IsOutput = { λ s. F.IsOutput s.0 };
-
-    ghost meaning = { λ s. terminated_meaning I.model (F.meaning s.0) (G.meaning s.1) };
+    ghost grammar = { λ s. terminated_of I.model (F.grammar s.0) (G.grammar s.1) };
 
     ghost Besides = { λ mode old new i. ThenBesides (F.Besides mode old.first new.first i) (G.Besides (with_outputs false mode) old.second new.second) };
 

@@ -2,7 +2,8 @@
 use Rattle.std.specs.Str.{IsValidUpTo}
 use Rattle.std.proofs.Common.{inl, inr, ◌≡◌, ℕ, false, List, take, Vec, Result, refl, sym, ◌∙◌, ap, subst}
 use Rattle.std.specs.Prelude.{encode_utf8_all, IsUtf8, Option}
-use Rattle.nom_internal.specs.Prelude.{Needed, Slice, IsModelledBy, Outcome, Accept, Refuse, Stop, Fails, Needs, Parses, ParseRanOut, Parsed, ParsesMeaning}
+use Rattle.nom_internal.specs.Prelude.{Needed, Slice, IsModelledBy, Outcome, Accept, Refuse, Stop, Fails, Needs, ParsesOutcome, ParseRanOut, Parsed}
+use Rattle.nom_internal.specs.Prelude.{ParsesMeaning}
 use Rattle.nom_error.specs.declared.answer.Err as Answer
 use Rattle.nom_error.specs.declared.value.Error.{Error}
 use Rattle.nom_combinator.specs.Verdicts.{complete_outcome}
@@ -46,7 +47,7 @@ AnswerErr = Answer.Err (Error Text) (Error Text) Needed
 
 module _ {A : Type 0} (whole : Text) (answer : Result (Text × Vec (Text × Vec (Text × Text) A) A) AnswerErr) (text : List ℕ) (status : ℕ) where
   says : (Blames : Error Text → Type 0) (o : Outcome (List (SectionTree seen_there))) → ((k : Option ℕ) → o ≡ Stop (Needs k) → ⊥) →
-      Parses seen_there (AreSections seen_there) whole Blames o answer → IsTold answer text status → Says Blames o text status
+      ParsesOutcome seen_there (AreSections seen_there) whole Blames o answer → IsTold answer text status → Says Blames o text status
   says Blames (Accept n ts) never p t =
       let told = subst (λ a. IsTold a text status) p.4 t in
       (told.0 ∙ sections_same ts p.1 p.3, told.1)

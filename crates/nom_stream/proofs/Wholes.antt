@@ -3,6 +3,7 @@ use Rattle.std.proofs.Common.{◌≡◌, ℕ, ◌≤◌, Bool, true, false, List
 use Rattle.std.proofs.Common.{append_assoc, append-nil, inl, inr}
 use Rattle.std.specs.Io.KnownBytes.{Consumes, IsAtEnd}
 use Rattle.nom_internal.specs.Prelude.{size_of, Needed, bytes_model, Outcome, Accept, Refuse, Stop, Fails, Needs, Outright, TooLarge, IsDecided, Meaning}
+use Rattle.nom_internal.specs.Prelude.{Grammar}
 use Rattle.nom_internal.specs.Prelude.{IsLawful, IsSteady, Cause}
 use Rattle.nom_error.specs.declared.value.Error.{Error}
 use Rattle.nom_stream.specs.declared.step.Taken.{Taken}
@@ -66,19 +67,19 @@ module _ {V : Type 0} (m : Meaning Bytes V (Error Bytes)) (lawful : IsLawful byt
   lacking_alike : i.now ≡ x.now → (k : Option ℕ) → m.answers true x (Stop (Needs k)) → m.answers true i (Stop (Needs k))
   lacking_alike e k a = lawful.alike true x i (Stop (Needs k)) kx ki (record { elements_are = sym e; mark_is = refl }) a tt
 
-module _ {R A V O : Type 0} (IsItem : V → O → Type 0) (m : Meaning Bytes V (Error Bytes)) (t : Stream R A) (i : Bytes) (p : Outcome V) where
+module _ {R A V O : Type 0} (grammar : Grammar Bytes V O (Error Bytes)) (t : Stream R A) (i : Bytes) (p : Outcome V) where
   abbrev Tellings : Told O → Type 0
-  Tellings r = TellsWhole IsItem m t r i p
+  Tellings r = TellsWhole grammar t r i p
 
   -- of a parse that decides: its outcome is that of the whole
-  module _ (more : Bool) (x : Bytes) (same : (o : Outcome V) → m.answers more x o → (more ≡ true → IsDecided o) → o ≡ p)
-      (large : m.answers more x (Stop (Fails TooLarge)) → TellsFailure m i p) where
-    tells_failure : (cause : Cause) → m.answers more x (Stop (Fails cause)) → TellsFailure m i p
+  module _ (more : Bool) (x : Bytes) (same : (o : Outcome V) → grammar.meaning.answers more x o → (more ≡ true → IsDecided o) → o ≡ p)
+      (large : grammar.meaning.answers more x (Stop (Fails TooLarge)) → TellsFailure grammar.meaning i p) where
+    tells_failure : (cause : Cause) → grammar.meaning.answers more x (Stop (Fails cause)) → TellsFailure grammar.meaning i p
     tells_failure Outright a = inl (sym (same (Stop (Fails Outright)) a (λ _. tt)))
     tells_failure TooLarge a = large a
 
     tells : (held : (more ≡ true → ⊥) → held_of t.held ≡ x.now → held_of t.held ≡ i.now) (taken : Taken O) →
-        (more ≡ true → IsUndecided taken → ⊥) → Means IsItem m more x (held_of t.held) taken → (r : Told O) → Tells taken r → Tellings r
+        (more ≡ true → IsUndecided taken → ⊥) → Means grammar more x (held_of t.held) taken → (r : Told O) → Tells taken r → Tellings r
     tells held (Took.Item n o) d h r e = subst Tellings (sym e) (h.0, h.1, same (Accept n h.0) h.2 (λ _. tt))
     tells held Took.Nothing d h r e = subst Tellings (sym e) ((h.0).0, same (Accept 0 (h.0).0) (h.0).1 (λ _. tt))
     tells held (Took.Undecided k) d h r e = subst Tellings (sym e) (held (λ f. d f tt) h.1, same (Stop (Needs (size_of k))) h.0 (λ f. absurd (d f tt)))
@@ -87,14 +88,14 @@ module _ {R A V O : Type 0} (IsItem : V → O → Type 0) (m : Meaning Bytes V (
     tells held Took.OutOfMemory d h r e = subst Tellings (sym e) tt
 
 -- how many bytes an item had: they are no longer among those that no item had
-module _ {R A V O : Type 0} (IsItem : V → O → Type 0) (m : Meaning Bytes V (Error Bytes)) (t : Stream R A) where
+module _ {R A V O : Type 0} (grammar : Grammar Bytes V O (Error Bytes)) (t : Stream R A) where
   abbrev Moves : List ℕ → Told O → Type 0
   Moves old r = (front : List ℕ) × (length front ≡ used_of r) × (old ≡ front ++ held_of t.held)
 
   stays : (old : List ℕ) (r : Told O) → used_of r ≡ 0 → held_of t.held ≡ old → Moves old r
   stays old r e h = ([], sym e, sym h)
 
-  pub moves : (more : Bool) (x : Bytes) (taken : Taken O) → Means IsItem m more x (held_of t.held) taken → (r : Told O) → Tells taken r → Moves x.now r
+  pub moves : (more : Bool) (x : Bytes) (taken : Taken O) → Means grammar more x (held_of t.held) taken → (r : Told O) → Tells taken r → Moves x.now r
   moves more x (Took.Item n o) h r e = subst (Moves x.now) (sym e) (h.3)
   moves more x Took.Nothing h r e = stays x.now r (ap used_of e) h.1
   moves more x (Took.Undecided k) h r e = stays x.now r (ap used_of e) h.1
@@ -106,85 +107,90 @@ module _ {R A V O : Type 0} (IsItem : V → O → Type 0) (m : Meaning Bytes V (
   unread_used (Unread.Fault e) = refl
   unread_used Unread.OutOfMemory = refl
 
-  moves_taken : (more : Bool) (old : List ℕ) (taken : Taken O) (r : Told O) → Takes IsItem m more old (held_of t.held) taken → Tells taken r → Moves old r
-  moves_taken more old taken r k e = subst (λ z. Moves z r) k.is_held (moves more k.input taken (meant IsItem m more old (held_of t.held) taken k) r e)
+  moves_taken : (more : Bool) (old : List ℕ) (taken : Taken O) (r : Told O) → Takes grammar more old (held_of t.held) taken → Tells taken r → Moves old r
+  moves_taken more old taken r k e = subst (λ z. Moves z r) k.is_held (moves more k.input taken (meant grammar more old (held_of t.held) taken k) r e)
 
-  moves_ends : (u : Stream R A) (k : Needed) (r : Told O) → Ends IsItem m u t k r → Moves (held_of u.held) r
+  moves_ends : (u : Stream R A) (k : Needed) (r : Told O) → Ends grammar u t k r → Moves (held_of u.held) r
   moves_ends u k r (Clean a b e) = stays (held_of u.held) r (ap used_of e) (b ∙ sym a)
   moves_ends u k r (Within s a b e) = stays (held_of u.held) r (ap used_of e) b
   moves_ends u k r (Completed s a taken g l e) = moves_taken false (held_of u.held) taken r g e
 
-  pub moves_answer : (u : Stream R A) (r : Told O) → Answers IsItem m u t r → Moves (held_of u.held) r
+  pub moves_answer : (u : Stream R A) (r : Told O) → Answers grammar u t r → Moves (held_of u.held) r
   moves_answer u r (Decided taken d g l e) = moves_taken true (held_of u.held) taken r g e
   moves_answer u r (AtEnd e k g h) = moves_ends u k r h
   moves_answer u r (Full a b w e) = stays (held_of u.held) r (ap used_of e) b
   moves_answer u r (Unfilled why l b before last d w e) = stays (held_of u.held) r (ap used_of e ∙ unread_used why) b
 
-module _ {R A V O : Type 0} (left : R → Option (List ℕ)) (IsItem : V → O → Type 0) (m : Meaning Bytes V (Error Bytes)) (u t : Stream R A)
+module _ {R A V O : Type 0} (left : R → Option (List ℕ)) (grammar : Grammar Bytes V O (Error Bytes)) (u t : Stream R A)
     (opened : IsOpen left u) (same_source : t.source ≡ u.source) (same_settings : t.settings ≡ u.settings) (i : Bytes) (ki : bytes_model.IsKnown i)
-    (has : HasLeft left u i.now) (p : Outcome V) (b : AtWhole m u.settings.complete i p) where
+    (has : HasLeft left u i.now) (p : Outcome V) (b : AtWhole grammar.meaning u.settings.complete i p) where
   at_end : u.ended ≡ true → i.now ≡ held_of u.held
   at_end e = has.2 ∙ ap (λ z. held_of u.held ++ z) (end_known (left u.source) has.0 has.1 (opened.at_end e)) ∙ append-nil (held_of u.held)
 
-  of_decided : (taken : Taken O) (r : Told O) → (IsUndecided taken → ⊥) → Takes IsItem m true (held_of u.held) (held_of t.held) taken →
-      Tells taken r → TellsWhole IsItem m t r i p
+  of_decided : (taken : Taken O) (r : Told O) → (IsUndecided taken → ⊥) → Takes grammar true (held_of u.held) (held_of t.held) taken →
+      Tells taken r → TellsWhole grammar t r i p
   of_decided taken r d g e =
       let x = g.input in
       let longer : i.now ≡ x.now ++ has.0 = has.2 ∙ ap (λ z. z ++ has.0) (sym g.is_held) in
-      tells IsItem m t i p true x (λ o a f. decided m g.parses.lawful x i g.known ki g.parses.steady has.0 longer u.settings.complete o p a
+      tells grammar t i p true x (λ o a f. decided grammar.meaning g.parses.lawful x i g.known ki g.parses.steady has.0 longer u.settings.complete o p a
       (f refl) b) (λ a. inr (inr (x, has.0, longer, a)))
-      (λ f. absurd (f refl)) taken (λ _. d) (meant IsItem m true (held_of u.held) (held_of t.held) taken g) r e
+      (λ f. absurd (f refl)) taken (λ _. d) (meant grammar true (held_of u.held) (held_of t.held) taken g) r e
 
-  of_ends : u.ended ≡ true → (k : Needed) (r : Told O) → Takes IsItem m true (held_of u.held) (held_of u.held) (Took.Undecided k) →
-      Ends IsItem m u t k r → TellsWhole IsItem m t r i p
+  of_ends : u.ended ≡ true → (k : Needed) (r : Told O) → Takes grammar true (held_of u.held) (held_of u.held) (Took.Undecided k) →
+      Ends grammar u t k r → TellsWhole grammar t r i p
   of_ends ended k r g (Clean a c e) =
       let x = g.input in
-      let h = meant IsItem m true (held_of u.held) (held_of u.held) (Took.Undecided k) g in
+      let h = meant grammar true (held_of u.held) (held_of u.held) (Took.Undecided k) g in
       let all : i.now ≡ x.now = at_end ended ∙ sym g.is_held in
-      subst (λ z. TellsWhole IsItem m t z i p) (sym e) (at_end ended ∙ a, size_of k, lacking_alike m g.parses.lawful x i g.known ki all (size_of k) h.0)
+      subst (λ z. TellsWhole grammar t z i p) (sym e) (
+        at_end ended ∙ a,
+        size_of k,
+        lacking_alike grammar.meaning g.parses.lawful x i g.known ki all
+            (size_of k) h.0,
+      )
   of_ends ended k r g (Within s a c e) =
       let x = g.input in
-      let h = meant IsItem m true (held_of u.held) (held_of u.held) (Took.Undecided k) g in
+      let h = meant grammar true (held_of u.held) (held_of u.held) (Took.Undecided k) g in
       let all : i.now ≡ x.now = at_end ended ∙ sym g.is_held in
-      subst (λ z. TellsWhole IsItem m t z i p) (sym e)
-      (c ∙ sym (at_end ended), lacking m g.parses.lawful x i g.known ki all u.settings.complete a (size_of k) p h.0 b)
+      subst (λ z. TellsWhole grammar t z i p) (sym e)
+      (c ∙ sym (at_end ended), lacking grammar.meaning g.parses.lawful x i g.known ki all u.settings.complete a (size_of k) p h.0 b)
   of_ends ended k r g (Completed s a taken q l e) =
       let x = g.input in
       let y = q.input in
-      let h = meant IsItem m true (held_of u.held) (held_of u.held) (Took.Undecided k) g in
+      let h = meant grammar true (held_of u.held) (held_of u.held) (Took.Undecided k) g in
       let all : i.now ≡ x.now = at_end ended ∙ sym g.is_held in
       let all_too : i.now ≡ y.now = at_end ended ∙ sym q.is_held in
-      let one : (o : Outcome V) → m.answers false y o → o ≡ p =
-      λ o c. completed m g.parses.lawful x i g.known ki all u.settings.complete a y q.known all_too (size_of k) o p h.0 c b in
-      tells IsItem m t i p false y (λ o c f. one o c) (λ c. inr (inl (sym (one (Stop (Fails TooLarge)) c))))
-      (λ f c. c ∙ sym all_too) taken (λ f. absurd (cc (f))) (meant IsItem m false (held_of u.held) (held_of t.held) taken q) r e
+      let one : (o : Outcome V) → grammar.meaning.answers false y o → o ≡ p =
+      λ o c. completed grammar.meaning g.parses.lawful x i g.known ki all u.settings.complete a y q.known all_too (size_of k) o p h.0 c b in
+      tells grammar t i p false y (λ o c f. one o c) (λ c. inr (inl (sym (one (Stop (Fails TooLarge)) c))))
+      (λ f c. c ∙ sym all_too) taken (λ f. absurd (cc (f))) (meant grammar false (held_of u.held) (held_of t.held) taken q) r e
 
-  of_unread : (why : Unread) → TellsWhole {O = O} IsItem m t (Err (stop_of why)) i p
+  of_unread : (why : Unread) → TellsWhole {O = O} grammar t (Err (stop_of why)) i p
   of_unread (Unread.Fault e) = tt
   of_unread Unread.OutOfMemory = tt
 
-  pub of_answer : (r : Told O) → Answers IsItem m u t r → TellsWhole IsItem m t r i p
+  pub of_answer : (r : Told O) → Answers grammar u t r → TellsWhole grammar t r i p
   of_answer r (Decided taken d g l e) = of_decided taken r d g e
   of_answer r (AtEnd e k g h) = of_ends e k r g h
-  of_answer r (Full a c w e) = subst (λ z. TellsWhole IsItem m t z i p) (sym e)
+  of_answer r (Full a c w e) = subst (λ z. TellsWhole grammar t z i p) (sym e)
       (subst (λ z. z ≤ length (held_of t.held)) (ap (λ z. z.most) (sym same_settings)) (subst (λ z. u.settings.most ≤ length z) (sym c) a))
-  of_answer r (Unfilled why l c before last d w e) = subst (λ z. TellsWhole IsItem m t z i p) (sym e) (of_unread why)
+  of_answer r (Unfilled why l c before last d w e) = subst (λ z. TellsWhole grammar t z i p) (sym e) (of_unread why)
 
-module _ {R A V O : Type 0} (left : R → Option (List ℕ)) (IsItem : V → O → Type 0) (m : Meaning Bytes V (Error Bytes)) where
-  pub answers_whole : AnswersWhole A left IsItem m
+module _ {R A V O : Type 0} (left : R → Option (List ℕ)) (grammar : Grammar Bytes V O (Error Bytes)) where
+  pub answers_whole : AnswersWhole A left grammar
   answers_whole s t r d whole known has p b =
       let u = d.filled in
       let then = left_read left s u d.reads.given whole.now d.reads.gives has in
-      of_answer left IsItem m u t d.open_then d.source (d.settings.1 ∙ sym d.settings.0) whole known then p
-      (subst (λ z. AtWhole m z.complete whole p) (sym d.settings.0) b) r d.answers
+      of_answer left grammar u t d.open_then d.source (d.settings.1 ∙ sym d.settings.0) whole known then p
+      (subst (λ z. AtWhole grammar.meaning z.complete whole p) (sym d.settings.0) b) r d.answers
 
   -- and the bytes that no item had are a rest of the whole
-  pub left_after : (s t : Stream R A) (r : Told O) (xs : List ℕ) → Decides left IsItem m s t r → HasLeft left s xs → (front : List ℕ) ×
+  pub left_after : (s t : Stream R A) (r : Told O) (xs : List ℕ) → Decides left grammar s t r → HasLeft left s xs → (front : List ℕ) ×
       (length front ≡ used_of r) × ((rest : List ℕ) × HasLeft left t rest × (xs ≡ front ++ rest))
   left_after s t r xs d has =
       let u = d.filled in
       let then = left_read left s u d.reads.given xs d.reads.gives has in
-      let f = moves_answer IsItem m t u r d.answers in (
+      let f = moves_answer grammar t u r d.answers in (
         f.0,
         f.1,
         (

@@ -1,7 +1,7 @@
 -- One item from what is held.
 use Rattle.std.specs.Prelude.{◌≡◌, ℕ, zero, suc, ◌+◌, ◌≤◌, Bool, List, length, take, Ok, Err}
 use Rattle.std.specs.Borrow.{Bor}
-use Rattle.nom_internal.specs.Prelude.{IResult, Needed, bytes_model, Meaning, IsLawful, IsSteady, ParsesMeaning}
+use Rattle.nom_internal.specs.Prelude.{IResult, Needed, bytes_model, IsLawful, IsSteady, Grammar, Parses}
 use Rattle.nom_error.specs.declared.answer.Err as Answer
 use Rattle.nom_error.specs.declared.answer.Err.TheVariants as Stopped
 use Rattle.nom_error.specs.declared.value.Error.{Error}
@@ -19,10 +19,10 @@ Answered O = IResult Bytes O (Error Bytes)
 
 -- What is answered at an input, by whether more may come, is what the grammar means there; and the laws of its meaning: one outcome
 -- for each input, and what is decided stays on every longer one.
-pub record ParsesItem {V O : Type 0} (IsItem : V → O → Type 0) (m : Meaning Bytes V (Error Bytes)) (more : Bool) (x : Bytes) (r : Answered O) : Type 0 where
-  pub shown : ParsesMeaning bytes_model IsItem m more x r
-  pub lawful : IsLawful bytes_model m
-  pub steady : IsSteady bytes_model m
+pub record ParsesItem {V O : Type 0} (grammar : Grammar Bytes V O (Error Bytes)) (more : Bool) (x : Bytes) (r : Answered O) : Type 0 where
+  pub shown : Parses bytes_model grammar more x r
+  pub lawful : IsLawful bytes_model grammar.meaning
+  pub steady : IsSteady bytes_model grammar.meaning
 
 -- what is told where nothing is accepted: of an error its kind, and the length of the input that it holds
 abbrev pub IsStopped : {O : Type 0} → Answer.Err (Error Bytes) (Error Bytes) Needed → Taken O → Type 0
@@ -42,12 +42,12 @@ Took x new (Ok (j, o)) r = (n : ℕ) × (n + length j.now ≡ length x.now) × (
 Took x new (Err e) r = (new ≡ x.now) × IsStopped e r
 
 -- What is held is parsed once, by whether more may come: an accepted item is taken off its front, and else it stays.
-pub record Takes {V O : Type 0} (IsItem : V → O → Type 0) (m : Meaning Bytes V (Error Bytes)) (more : Bool) (old new : List ℕ) (r : Taken O) : Type 0 where
+pub record Takes {V O : Type 0} (grammar : Grammar Bytes V O (Error Bytes)) (more : Bool) (old new : List ℕ) (r : Taken O) : Type 0 where
   pub input : Bytes
   pub known : bytes_model.IsKnown input
   pub is_held : input.now ≡ old
   pub answer : Answered O
-  pub parses : ParsesItem IsItem m more input answer
+  pub parses : ParsesItem grammar more input answer
   pub took : Took input new answer r
 
 -- an item's bytes, of those that were held, are the last that were used

@@ -2,7 +2,7 @@
 use Rattle.std.specs.Prelude.{◌≡◌, ℕ, zero, suc, ◌+◌, ◌-◌, ◌^◌, ◌<◌, ◌≤◌, ◌⊎◌, min, Bool, true, false}
 use Rattle.std.specs.Prelude.{List, [], ◌++◌, length, Option, Some, None, Result, Ok, Err, vec_capacity, vec_len}
 use Rattle.std.specs.Io.KnownBytes.{Consumes, IsAtEnd}
-use Rattle.nom_internal.specs.Prelude.{Needed, Meaning}
+use Rattle.nom_internal.specs.Prelude.{Needed, Grammar}
 use Rattle.nom_error.specs.declared.value.Error.{Error}
 use Rattle.nom_stream.specs.declared.stream.Stop as Why
 use Rattle.nom_stream.specs.declared.stream.Stop.TheVariants as Stopped
@@ -81,15 +81,15 @@ abbrev pub IsUnread : {O : Type 0} → Told O → Type 0
 IsUnread r = (why : Unread) × (r ≡ Err (stop_of why))
 
 -- these bytes leave the item undecided
-abbrev pub Waits : {V O : Type 0} → (V → O → Type 0) → Meaning Bytes V (Error Bytes) → List ℕ → Type 0
-Waits IsItem m xs = (k : Needed) × Takes IsItem m true xs xs (Took.Undecided k)
+abbrev pub Waits : {V O : Type 0} → Grammar Bytes V O (Error Bytes) → List ℕ → Type 0
+Waits grammar xs = (k : Needed) × Takes grammar true xs xs (Took.Undecided k)
 
-module _ {V O : Type 0} (IsItem : V → O → Type 0) (m : Meaning Bytes V (Error Bytes)) (settings : Settings) (held : List ℕ) where
+module _ {V O : Type 0} (grammar : Grammar Bytes V O (Error Bytes)) (settings : Settings) (held : List ℕ) where
   -- A filling: bytes that were read after those that were held and those of earlier fillings. These were parsed before it, and left the
   -- item undecided; and it has less than one read more than what was wanted then.
   pub record IsFilling (earlier last : List ℕ) : Type 0 where
     pub needed : Needed
-    pub waits : Takes IsItem m true (held ++ earlier) (held ++ earlier) (Took.Undecided needed)
+    pub waits : Takes grammar true (held ++ earlier) (held ++ earlier) (Took.Undecided needed)
     pub no_more : length last < wanted_of settings needed (length (held ++ earlier)) + most_read settings
 
   -- bytes that were read by fillings, each of which gave as many as were wanted, or more
@@ -98,17 +98,17 @@ module _ {V O : Type 0} (IsItem : V → O → Type 0) (m : Meaning Bytes V (Erro
     OneMore : {given : List ℕ} (earlier last : List ℕ) → AreFillings earlier → (f : IsFilling earlier last) →
         wanted_of settings f.needed (length (held ++ earlier)) ≤ length last → given ≡ earlier ++ last → AreFillings given
 
-module _ {R A V O : Type 0} (IsItem : V → O → Type 0) (m : Meaning Bytes V (Error Bytes)) (s t : Stream R A) (Unreadable : Type 0) where
+module _ {R A V O : Type 0} (grammar : Grammar Bytes V O (Error Bytes)) (s t : Stream R A) (Unreadable : Type 0) where
   -- Nothing was read, or bytes were, by fillings. The last one alone may have given fewer than were wanted: where the reader is at its
   -- end, no more may be held, or bytes couldn't be read.
   pub data ReadAsNeeded (given : List ℕ) : Type 0 where
     NoneRead : given ≡ [] → t.source ≡ s.source → ReadAsNeeded given
-    MoreRead : (earlier last : List ℕ) → given ≡ earlier ++ last → AreFillings IsItem m s.settings (held_of s.held) earlier →
-        (f : IsFilling IsItem m s.settings (held_of s.held) earlier last) →
+    MoreRead : (earlier last : List ℕ) → given ≡ earlier ++ last → AreFillings grammar s.settings (held_of s.held) earlier →
+        (f : IsFilling grammar s.settings (held_of s.held) earlier last) →
         IsEnough (wanted_of s.settings f.needed (length (held_of s.held ++ earlier)) + length (held_of s.held ++ earlier)) t Unreadable →
         ReadAsNeeded given
 
-module _ {R A V O : Type 0} (IsItem : V → O → Type 0) (m : Meaning Bytes V (Error Bytes)) (s t : Stream R A) where
+module _ {R A V O : Type 0} (grammar : Grammar Bytes V O (Error Bytes)) (s t : Stream R A) where
   -- what is told at the end of the reader, where what is held isn't decided
   pub data Ends (k : Needed) (r : Told O) : Type 0 where
     -- nothing is held
@@ -116,37 +116,36 @@ module _ {R A V O : Type 0} (IsItem : V → O → Type 0) (m : Meaning Bytes V (
     -- the data ended within an item
     Within : 0 < length (held_of s.held) → s.settings.complete ≡ false → held_of t.held ≡ held_of s.held → r ≡ Err (Stopped.Incomplete k) → Ends k r
     -- or what is held is parsed as a complete input
-    Completed : 0 < length (held_of s.held) → s.settings.complete ≡ true → (taken : Taken O) → Takes IsItem m false (held_of s.held) (held_of t.held) taken →
+    Completed : 0 < length (held_of s.held) → s.settings.complete ≡ true → (taken : Taken O) → Takes grammar false (held_of s.held) (held_of t.held) taken →
         HoldsLast (held_of s.held) t.held taken → Tells taken r → Ends k r
 
   -- what is told of what is held
   pub data Answers (r : Told O) : Type 0 where
     -- it is decided
-    Decided : (taken : Taken O) → (IsUndecided taken → ⊥) → Takes IsItem m true (held_of s.held) (held_of t.held) taken →
+    Decided : (taken : Taken O) → (IsUndecided taken → ⊥) → Takes grammar true (held_of s.held) (held_of t.held) taken →
         HoldsLast (held_of s.held) t.held taken → Tells taken r → Answers r
     -- the reader is at its end
-    AtEnd : s.ended ≡ true → (k : Needed) → Takes IsItem m true (held_of s.held) (held_of s.held) (Took.Undecided k) → Ends k r → Answers r
+    AtEnd : s.ended ≡ true → (k : Needed) → Takes grammar true (held_of s.held) (held_of s.held) (Took.Undecided k) → Ends k r → Answers r
     -- as many bytes are held as may be, and don't decide
-    Full : s.settings.most ≤ length (held_of s.held) → held_of t.held ≡ held_of s.held → Waits IsItem m (held_of s.held) → r ≡ Err Stopped.TooLong → Answers r
+    Full : s.settings.most ≤ length (held_of s.held) → held_of t.held ≡ held_of s.held → Waits grammar (held_of s.held) → r ≡ Err Stopped.TooLong → Answers r
     -- it wasn't decided by the bytes before the last ones, and more couldn't be read
     Unfilled : (why : Unread) → (why ≡ Unread.OutOfMemory → LacksRoom s) → held_of t.held ≡ held_of s.held → (before last : List ℕ) →
-        held_of s.held ≡ before ++ last → Waits IsItem m before → r ≡ Err (stop_of why) → Answers r
+        held_of s.held ≡ before ++ last → Waits grammar before → r ≡ Err (stop_of why) → Answers r
 
-module _ {R A V O : Type 0} (left : R → Option (List ℕ)) (IsItem : V → O → Type 0) (m : Meaning Bytes V (Error Bytes)) (s t : Stream R A) where
+module _ {R A V O : Type 0} (left : R → Option (List ℕ)) (grammar : Grammar Bytes V O (Error Bytes)) (s t : Stream R A) where
   -- bytes were read as they were needed
   pub record Reads (Unreadable : Type 0) : Type 0 where
     pub given : List ℕ
     pub gives : Gives left s t given
-    pub as_needed : ReadAsNeeded IsItem m s t Unreadable given
+    pub as_needed : ReadAsNeeded grammar s t Unreadable given
 
 -- One answer: some bytes were read, as they were needed, and of what is held then an answer is told.
-pub record Decides {R A V O : Type 0} (left : R → Option (List ℕ)) (IsItem : V → O →
-    Type 0) (m : Meaning Bytes V (Error Bytes)) (s t : Stream R A) (r : Told O) : Type 0 where
+pub record Decides {R A V O : Type 0} (left : R → Option (List ℕ)) (grammar : Grammar Bytes V O (Error Bytes)) (s t : Stream R A) (r : Told O) : Type 0 where
   -- the stream as it stood then
   pub filled : Stream R A
-  pub reads : Reads left IsItem m s filled (IsUnread r)
+  pub reads : Reads left grammar s filled (IsUnread r)
   pub open_then : IsOpen left filled
-  pub answers : Answers IsItem m filled t r
+  pub answers : Answers grammar filled t r
   pub source : t.source ≡ filled.source
   pub settings : (filled.settings ≡ s.settings) × (t.settings ≡ s.settings)
   pub offset : t.offset ≡ counted s.offset r

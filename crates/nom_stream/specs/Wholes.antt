@@ -1,7 +1,7 @@
 -- What the items of a stream are of the whole of its data.
 use Rattle.std.specs.Prelude.{◌≡◌, ℕ, ◌+◌, ◌-◌, ◌^◌, ◌≤◌, min, ◌⊎◌, Bool, true, false, List, [], ◌∷◌, ◌++◌, length, take, Option, Some, None, Ok, Err}
 use Rattle.std.specs.List.{AllZip}
-use Rattle.nom_internal.specs.Prelude.{size_of, bytes_model, IsSuffixOf, Outcome, Accept, Refuse, Stop, Fails, Needs, Outright, TooLarge, Meaning}
+use Rattle.nom_internal.specs.Prelude.{size_of, bytes_model, IsSuffixOf, Outcome, Accept, Refuse, Stop, Fails, Needs, Outright, TooLarge, Meaning, Grammar}
 use Rattle.nom_error.specs.declared.value.Error.{Error}
 use Rattle.nom_iterator.specs.Iterated.{AreItems}
 use Rattle.nom_stream.specs.declared.stream.Stop.TheVariants as Stopped
@@ -50,54 +50,54 @@ module _ {V : Type 0} (m : Meaning Bytes V (Error Bytes)) where
       ((x : Bytes) × (more : List ℕ) × (i.now ≡ x.now ++ more) × m.answers true x (Stop (Fails TooLarge)))
 
 -- What an answer tells of the outcome p at i, the bytes that no item had before; t is the stream after it.
-abbrev pub TellsWhole : {R A V O : Type 0} → (V → O → Type 0) → Meaning Bytes V (Error Bytes) → Stream R A → Told O → Bytes → Outcome V → Type 0
-TellsWhole {V = V} IsItem m t (Ok (Some (n, o))) i p = (v : V) × IsItem v o × (Accept n v ≡ p)
-TellsWhole IsItem m t (Ok None) i p = (i.now ≡ []) × (k : Option ℕ) × m.answers true i (Stop (Needs k))
-TellsWhole IsItem m t (Err (Stopped.Refused e at)) i p = p ≡ Refuse
-TellsWhole IsItem m t (Err (Stopped.Failed e at)) i p = TellsFailure m i p
-TellsWhole {V = V} IsItem m t (Err Stopped.Nothing) i p = (v : V) × (Accept 0 v ≡ p)
-TellsWhole IsItem m t (Err (Stopped.Incomplete k)) i p = (held_of t.held ≡ i.now) × (Stop (Needs (size_of k)) ≡ p)
-TellsWhole IsItem m t (Err Stopped.TooLong) i p = t.settings.most ≤ length (held_of t.held)
-TellsWhole IsItem m t (Err (Stopped.Fault e)) i p = Unit {0}
-TellsWhole IsItem m t (Err Stopped.OutOfMemory) i p = Unit {0}
+abbrev pub TellsWhole : {R A V O : Type 0} → Grammar Bytes V O (Error Bytes) → Stream R A → Told O → Bytes → Outcome V → Type 0
+TellsWhole {V = V} grammar t (Ok (Some (n, o))) i p = (v : V) × grammar.IsOutput v o × (Accept n v ≡ p)
+TellsWhole grammar t (Ok None) i p = (i.now ≡ []) × (k : Option ℕ) × grammar.meaning.answers true i (Stop (Needs k))
+TellsWhole grammar t (Err (Stopped.Refused e at)) i p = p ≡ Refuse
+TellsWhole grammar t (Err (Stopped.Failed e at)) i p = TellsFailure grammar.meaning i p
+TellsWhole {V = V} grammar t (Err Stopped.Nothing) i p = (v : V) × (Accept 0 v ≡ p)
+TellsWhole grammar t (Err (Stopped.Incomplete k)) i p = (held_of t.held ≡ i.now) × (Stop (Needs (size_of k)) ≡ p)
+TellsWhole grammar t (Err Stopped.TooLong) i p = t.settings.most ≤ length (held_of t.held)
+TellsWhole grammar t (Err (Stopped.Fault e)) i p = Unit {0}
+TellsWhole grammar t (Err Stopped.OutOfMemory) i p = Unit {0}
 
-module _ {R A V O : Type 0} (left : R → Option (List ℕ)) (IsItem : V → O → Type 0) (m : Meaning Bytes V (Error Bytes)) where
+module _ {R A V O : Type 0} (left : R → Option (List ℕ)) (grammar : Grammar Bytes V O (Error Bytes)) where
   -- calls of `next_item`, one after another, and what each answered
   abbrev pub Calls : List (Told O) → Stream R A → Stream R A → Type 0
   Calls [] s t = t ≡ s
-  Calls (r ∷ rs) s t = (u : Stream R A) × Decides left IsItem m s u r × Calls rs u t
+  Calls (r ∷ rs) s t = (u : Stream R A) × Decides left grammar s u r × Calls rs u t
 
   -- The answers rs, of which the items are the first of those that the whole has; place is where the next one begins.
   pub record AreOfWhole (s t : Stream R A) (rs : List (Told O)) (whole : Bytes) (limit : ℕ) (trees : List V) : Type 0 where
     pub first : List V
     pub others : List V
     pub trees_are : trees ≡ first ++ others
-    pub items : AllZip IsItem first (items_of rs)
+    pub items : AllZip grammar.IsOutput first (items_of rs)
     pub place : Bytes
     pub begins : IsSuffixOf bytes_model whole (used_by rs) place
     pub left_then : HasLeft left t place.now
-    pub go_on : AreItems bytes_model (AtWhole m s.settings.complete) limit place others
+    pub go_on : AreItems bytes_model (AtWhole grammar.meaning s.settings.complete) limit place others
     pub offset : t.offset ≡ min (s.offset + used_by rs) (2 ^ 64 - 1)
     pub settings : t.settings ≡ s.settings
 
-module _ (A : Type 0) {R V O : Type 0} (left : R → Option (List ℕ)) (IsItem : V → O → Type 0) (m : Meaning Bytes V (Error Bytes)) where
+module _ (A : Type 0) {R V O : Type 0} (left : R → Option (List ℕ)) (grammar : Grammar Bytes V O (Error Bytes)) where
   -- One answer is that of the whole, however its bytes came.
   abbrev pub AnswersWhole : Type 0
   AnswersWhole =
-      (s t : Stream R A) (r : Told O) → Decides left IsItem m s t r → (whole : Bytes) → bytes_model.IsKnown whole → HasLeft left s whole.now →
-      (p : Outcome V) → AtWhole m s.settings.complete whole p → TellsWhole IsItem m t r whole p
+      (s t : Stream R A) (r : Told O) → Decides left grammar s t r → (whole : Bytes) → bytes_model.IsKnown whole → HasLeft left s whole.now →
+      (p : Outcome V) → AtWhole grammar.meaning s.settings.complete whole p → TellsWhole grammar t r whole p
 
   -- The bytes of an item, as they are lent after the call, are the first of those that no item had before it.
   abbrev pub BytesOfWhole : Type 0
   BytesOfWhole =
-      (s t : Stream R A) (n : ℕ) (o : O) → Decides left IsItem m s t (Ok (Some (n, o))) → (whole : List ℕ) → HasLeft left s whole →
+      (s t : Stream R A) (n : ℕ) (o : O) → Decides left grammar s t (Ok (Some (n, o))) → (whole : List ℕ) → HasLeft left s whole →
       last_of n t.held ≡ take n whole
 
   -- The items that calls give are those of the whole, in order, each where the one before ended, however its bytes came, and also
   -- where calls between them gave none.
   abbrev pub ItemsOfWhole : Type 0
   ItemsOfWhole =
-      (s t : Stream R A) (rs : List (Told O)) → Calls left IsItem m rs s t → (whole : Bytes) → bytes_model.IsKnown whole → HasLeft left s whole.now →
+      (s t : Stream R A) (rs : List (Told O)) → Calls left grammar rs s t → (whole : Bytes) → bytes_model.IsKnown whole → HasLeft left s whole.now →
       s.offset ≤ 2 ^ 64 - 1 →
-      (limit : ℕ) (trees : List V) → AreItems bytes_model (AtWhole m s.settings.complete) (length (items_of rs) + limit) whole trees →
-      AreOfWhole left IsItem m s t rs whole limit trees
+      (limit : ℕ) (trees : List V) → AreItems bytes_model (AtWhole grammar.meaning s.settings.complete) (length (items_of rs) + limit) whole trees →
+      AreOfWhole left grammar s t rs whole limit trees

@@ -2,7 +2,8 @@
 ghost use Rattle.std.specs.Prelude.{◌≡◌, ℕ, List};
 ghost use Rattle.std.specs.Borrow.{Bor};
 ghost use Rattle.nom_error.specs.declared.value.Error.{Error};
-ghost use Rattle.nom_internal.specs.Prelude.{Meaning, IsLawful, IsSteady};
+ghost use Rattle.nom_internal.specs.Grammar as Grammars;
+ghost use Rattle.nom_internal.specs.Prelude.{IsLawful, IsSteady};
 ghost use Rattle.nom_stream.specs.Items.{ParsesItem};
 
 use nom_error::answer::IResult;
@@ -24,25 +25,22 @@ pub trait Grammar {
     /// The parse trees of items.
     ghost Tree: { Type 0 };
 
-    /// Which item a tree stands for.
-    ghost IsItem: { State → Tree → Self.Item → Type 0 };
-
-    /// What the grammar means, as a parser over bytes does.
-    ghost meaning: { State → Meaning (Bor (List ℕ)) Tree (Error (Bor (List ℕ))) };
+    /// The grammar over bytes: what it means, and which item a tree stands for.
+    ghost grammar: { State → Grammars.Grammar (Bor (List ℕ)) Tree Self.Item (Error (Bor (List ℕ))) };
 
     /// Parses one item at the start of the input, by whether more input may come. The laws of the meaning come with the
     /// answer: `parse_item` gives them for every stream parser.
     fn item<'a>(&mut self, input: &'a [u8], more: bool) -> IResult<&'a [u8], Self::Item>
-        requires sound { (meaning (state self.old)).IsSound }
-        ensures parses { ParsesItem (IsItem (state self.old)) (meaning (state self.old)) more input.entry result }
+        requires sound { (grammar (state self.old)).meaning.IsSound }
+        ensures parses { ParsesItem (grammar (state self.old)) more input.entry result }
         ensures kept { state self.new ≡ state self.old };
 }
 
 // The laws of a sound stream parser.
 fn laws_of<I: Items, P: StreamParser<I>>(_parser: &P)
-    requires { (P.meaning (P.state _parser.now)).IsSound }
-    ensures lawful { IsLawful I.model (P.meaning (P.state _parser.now)) }
-    ensures steady { IsSteady I.model (P.meaning (P.state _parser.now)) }
+    requires { (P.grammar (P.state _parser.now)).meaning.IsSound }
+    ensures lawful { IsLawful I.model (P.grammar (P.state _parser.now)).meaning }
+    ensures steady { IsSteady I.model (P.grammar (P.state _parser.now)).meaning }
 {}
 
 /// What a stream parser answers at an input, by whether more may come: the body of `Grammar::item` for any parser of this
@@ -53,8 +51,8 @@ pub fn parse_item<'a, P: StreamParser<&'a [u8], Error = Error<&'a [u8]>> + Drop>
     input: &'a [u8],
     more: bool,
 ) -> IResult<&'a [u8], P::Output>
-    requires sound { (P.meaning (P.state parser)).IsSound }
-    ensures parses { ParsesItem (P.IsOutput (P.state parser)) (P.meaning (P.state parser)) more input.entry result }
+    requires sound { (P.grammar (P.state parser)).meaning.IsSound }
+    ensures parses { ParsesItem (P.grammar (P.state parser)) more input.entry result }
 {
     laws_of(&parser);
     if more {

@@ -15,7 +15,7 @@ pub fn answers_of_whole<R: Read, A: Allocator + Copy, G: Grammar>(
     _stream: &Stream<R, A>,
     _grammar: &G,
 )
-    ensures { AnswersWhole A R.remaining (G.IsItem (G.state _grammar.now)) (G.meaning (G.state _grammar.now)) }
+    ensures { AnswersWhole A R.remaining (G.grammar (G.state _grammar.now)) }
 {}
 
 /// For every way in which a reader gives its bytes: the items that calls of `next_item` give, one after another, are
@@ -25,7 +25,7 @@ pub fn items_of_whole<R: Read, A: Allocator + Copy, G: Grammar>(
     _stream: &Stream<R, A>,
     _grammar: &G,
 )
-    ensures { ItemsOfWhole A R.remaining (G.IsItem (G.state _grammar.now)) (G.meaning (G.state _grammar.now)) }
+    ensures { ItemsOfWhole A R.remaining (G.grammar (G.state _grammar.now)) }
 {}
 
 /// For every way in which a reader gives its bytes: those of an item, which `last` lends after the call that gave it, are
@@ -34,5 +34,5 @@ pub fn bytes_of_whole<R: Read, A: Allocator + Copy, G: Grammar>(
     _stream: &Stream<R, A>,
     _grammar: &G,
 )
-    ensures { BytesOfWhole A R.remaining (G.IsItem (G.state _grammar.now)) (G.meaning (G.state _grammar.now)) }
+    ensures { BytesOfWhole A R.remaining (G.grammar (G.state _grammar.now)) }
 {}

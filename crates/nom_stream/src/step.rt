@@ -48,11 +48,11 @@ pub fn take<A: Allocator, G: Grammar>(
     grammar: &mut G,
     more: bool,
 ) -> Taken<G::Item>
-    requires sound { (G.meaning (G.state grammar.old)).IsSound }
+    requires sound { (G.grammar (G.state grammar.old)).meaning.IsSound }
     requires within { IsWithin held.old }
     ensures kept { G.state grammar.new ≡ G.state grammar.old }
     ensures within { IsWithin held.new }
-    ensures takes { Takes (G.IsItem (G.state grammar.old)) (G.meaning (G.state grammar.old)) more (held_of held.old) (held_of held.new) result }
+    ensures takes { Takes (G.grammar (G.state grammar.old)) more (held_of held.old) (held_of held.new) result }
     ensures last { HoldsLast (held_of held.old) held.new result }
     ensures bytes { held.new.bytes ≡ held.old.bytes }
     ensures stays { Stays held.old held.new result }

@@ -186,11 +186,11 @@ impl<R: Read, A: Allocator + Copy> Stream<R, A> {
         needed: Needed,
         grammar: &mut G,
     ) -> Result<Option<(usize, G::Item)>, Stop>
-        requires sound { (G.meaning (G.state grammar.old)).IsSound }
+        requires sound { (G.grammar (G.state grammar.old)).meaning.IsSound }
         requires open { IsOpen R.remaining self.old }
         ensures kept { G.state grammar.new ≡ G.state grammar.old }
         ensures open { IsOpen R.remaining self.new }
-        ensures ends { Ends (G.IsItem (G.state grammar.old)) (G.meaning (G.state grammar.old)) self.old self.new needed result }
+        ensures ends { Ends (G.grammar (G.state grammar.old)) self.old self.new needed result }
         ensures offset { self.new.offset ≡ counted self.old.offset result }
         ensures last { IfOk result (λ r. IfSome r (λ p. p.0 ≤ self.new.held.start)) }
         ensures others { (self.new.source ≡ self.old.source) × (self.new.settings ≡ self.old.settings) }
@@ -212,11 +212,11 @@ impl<R: Read, A: Allocator + Copy> Stream<R, A> {
         needed: Needed,
         grammar: &mut G,
     ) -> Result<Option<(usize, G::Item)>, Stop>
-        requires sound { (G.meaning (G.state grammar.old)).IsSound }
+        requires sound { (G.grammar (G.state grammar.old)).meaning.IsSound }
         requires open { IsOpen R.remaining self.old }
         ensures kept { G.state grammar.new ≡ G.state grammar.old }
         ensures open { IsOpen R.remaining self.new }
-        ensures ends { Ends (G.IsItem (G.state grammar.old)) (G.meaning (G.state grammar.old)) self.old self.new needed result }
+        ensures ends { Ends (G.grammar (G.state grammar.old)) self.old self.new needed result }
         ensures offset { self.new.offset ≡ counted self.old.offset result }
         ensures last { IfOk result (λ r. IfSome r (λ p. p.0 ≤ self.new.held.start)) }
         ensures others { (self.new.source ≡ self.old.source) × (self.new.settings ≡ self.old.settings) }
@@ -233,11 +233,11 @@ impl<R: Read, A: Allocator + Copy> Stream<R, A> {
         &mut self,
         grammar: &mut G,
     ) -> Result<Option<(usize, G::Item)>, Stop>
-        requires sound { (G.meaning (G.state grammar.old)).IsSound }
+        requires sound { (G.grammar (G.state grammar.old)).meaning.IsSound }
         requires open { IsOpen R.remaining self.old }
         ensures kept { G.state grammar.new ≡ G.state grammar.old }
         ensures open { IsOpen R.remaining self.new }
-        ensures decides { Decides R.remaining (G.IsItem (G.state grammar.old)) (G.meaning (G.state grammar.old)) self.old self.new result }
+        ensures decides { Decides R.remaining (G.grammar (G.state grammar.old)) self.old self.new result }
         ensures offset { self.new.offset ≡ counted self.old.offset result }
         ensures last { IfOk result (λ r. IfSome r (λ p. p.0 ≤ self.new.held.start)) }
         ensures settings { self.new.settings ≡ self.old.settings }

@@ -1,7 +1,8 @@
 //! Items as characters, and their classes.
 ghost use Rattle.std.specs.Prelude.{◌≡◌, ℕ};
 ghost use Rattle.std.specs.Char.{len_utf8};
-ghost use Rattle.nom_traits.specs.Classes.{has_code, in_set, is_listed, is_alpha_code, is_alphanum_code, is_bin_digit_code, is_dec_digit_code, is_hex_digit_code};
+ghost use Rattle.nom_traits.specs.Classes.{has_code, in_set, is_listed};
+ghost use Rattle.nom_traits.specs.Classes.{is_alpha_code, is_alphanum_code, is_bin_digit_code, is_dec_digit_code, is_hex_digit_code};
 ghost use Rattle.nom_traits.specs.Classes.{is_newline_code, is_oct_digit_code, is_space_code};
 
 use crate::input::Value;

@@ -42,7 +42,7 @@ where
     P: StreamParser<I> + Drop,
     P::Output: PartialEq,
     P::Error: Fault,
-    requires { (P.Parser.meaning (P.Parser.state parser)).IsSound }
+    requires { (P.Parser.grammar (P.Parser.state parser)).meaning.IsSound }
 {
     let streaming = parser.parse(input);
     let complete = parser.parse_complete(input);
@@ -61,7 +61,7 @@ where
     O: Viewed + PartialEq + Drop,
     E: ParseError<I> + Fault,
     F: Fn(I) -> IResult<I, O, E> + Drop,
-    requires { (⟦<StreamFunc<F, I, O, E> as Parser<I>>⟧.meaning f).IsSound }
+    requires { (⟦<StreamFunc<F, I, O, E> as Parser<I>>⟧.grammar f).meaning.IsSound }
 {
     answers_of(alloc, stream_func(f), input)
 }

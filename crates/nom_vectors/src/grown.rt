@@ -63,7 +63,7 @@ where
     P: StreamParser<I> + Drop,
     P::Output: PartialEq,
     P::Error: Fault,
-    requires { (P.Parser.meaning (P.Parser.state parser)).IsSound }
+    requires { (P.Parser.grammar (P.Parser.state parser)).meaning.IsSound }
 {
     let Some(places) = places_of(alloc, input) else {
         return false;

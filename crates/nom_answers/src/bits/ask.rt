@@ -63,7 +63,7 @@ impl<I: Input<Item = u8> + AsBytes> BitQuestion<I> {
         O: Debug + Drop,
         P: Parser<(I, usize), Output = O, Error = Error<(I, usize)>> + Drop,
     >(self, mut parser: P) -> Option<Answer>
-        requires { (P.meaning (P.state parser)).IsSound }
+        requires { (P.grammar (P.state parser)).meaning.IsSound }
     {
         let BitQuestion { bytes, position } = self;
         let Some(position) = position else {

@@ -34,7 +34,7 @@ where
     I: Input<Item = u8> + AsBytes,
     P: Parser<(I, usize), Error = Fail<I>> + Drop,
     P::Output: Debug,
-    requires { (P.meaning (P.state parser)).IsSound }
+    requires { (P.grammar (P.state parser)).meaning.IsSound }
 {
     question.ask(bits::<P, Error<I>>(parser))
 }
@@ -45,8 +45,8 @@ where
     I: Input<Item = u8> + AsBytes,
     P: Parser<(I, usize), Error = Fail<I>> + Drop,
     P::Output: Debug,
-    requires first { (P.meaning (P.state first)).IsSound }
-    requires second { (P.meaning (P.state second)).IsSound }
+    requires first { (P.grammar (P.state first)).meaning.IsSound }
+    requires second { (P.grammar (P.state second)).meaning.IsSound }
 {
     if is_choice {
         within(question, alt((first, second)))
@@ -103,7 +103,7 @@ where
     I: Input<Item = u8> + AsBytes,
     P: Parser<I, Error = Error<I>> + Drop,
     P::Output: Debug,
-    requires { (P.meaning (P.state part)).IsSound }
+    requires { (P.grammar (P.state part)).meaning.IsSound }
 {
     within(question, bytes::<P, Fail<I>>(part))
 }
@@ -137,9 +137,9 @@ where
     F::Output: Debug,
     P: Parser<I, Error = Error<I>> + Drop,
     P::Output: Debug,
-    requires first { (F.meaning (F.state first)).IsSound }
-    requires second { (F.meaning (F.state second)).IsSound }
-    requires part { (P.meaning (P.state part)).IsSound }
+    requires first { (F.grammar (F.state first)).meaning.IsSound }
+    requires second { (F.grammar (F.state second)).meaning.IsSound }
+    requires part { (P.grammar (P.state part)).meaning.IsSound }
 {
     let part = bytes::<P, Fail<I>>(part);
     match place {
@@ -250,8 +250,8 @@ where
     F::Output: Debug,
     P: Parser<I, Error = Error<I>> + Drop,
     P::Output: Debug,
-    requires field { (F.meaning (F.state field)).IsSound }
-    requires part { (P.meaning (P.state part)).IsSound }
+    requires field { (F.grammar (F.state field)).meaning.IsSound }
+    requires part { (P.grammar (P.state part)).meaning.IsSound }
 {
     question.ask(pair(bits::<F, Error<I>>(field), part))
 }
@@ -262,7 +262,7 @@ where
     I: Input<Item = u8> + AsBytes,
     P: Parser<(I, usize), Error = Fail<I>> + Drop,
     P::Output: Debug,
-    requires { (P.meaning (P.state field)).IsSound }
+    requires { (P.grammar (P.state field)).meaning.IsSound }
 {
     question.ask(opt(bits::<P, Error<I>>(field)))
 }

@@ -42,8 +42,8 @@ where
     I: Input + AsBytes + Debug,
     A: Parser<I, Output = I, Error = Error<I>> + Drop,
     B: Parser<I, Output = I, Error = Error<I>> + Drop,
-    requires first { (A.meaning (A.state first)).IsSound }
-    requires second { (B.meaning (B.state second)).IsSound }
+    requires first { (A.grammar (A.state first)).meaning.IsSound }
+    requires second { (B.grammar (B.state second)).meaning.IsSound }
 {
     match shape {
         Shape::Alt => question.ask(alt((first, second))),
@@ -61,8 +61,8 @@ where
     A::Output: Debug,
     B: Parser<I, Error = Error<I>> + Drop,
     B::Output: Debug,
-    requires first { (A.meaning (A.state first)).IsSound }
-    requires second { (B.meaning (B.state second)).IsSound }
+    requires first { (A.grammar (A.state first)).meaning.IsSound }
+    requires second { (B.grammar (B.state second)).meaning.IsSound }
 {
     question.ask(permutation((first, second)))
 }
@@ -79,8 +79,8 @@ where
     I: Input + AsBytes + Debug,
     A: Parser<I, Output = I, Error = Error<I>> + Drop,
     B: Parser<I, Output = I, Error = Error<I>> + Drop,
-    requires part { (A.meaning (A.state part)).IsSound }
-    requires second { (B.meaning (B.state second)).IsSound }
+    requires part { (A.grammar (A.state part)).meaning.IsSound }
+    requires second { (B.grammar (B.state second)).meaning.IsSound }
 {
     match (kind, shape) {
         (0, _) => of_two(question, shape, part, second),
@@ -104,7 +104,7 @@ where
     I: Input + AsBytes + Debug + Compare<T>,
     T: FindToken<I::Item> + Copy,
     B: Parser<I, Output = I, Error = Error<I>> + Drop,
-    requires second { (B.meaning (B.state second)).IsSound }
+    requires second { (B.grammar (B.state second)).meaning.IsSound }
 {
     match kind {
         5 => of_two(question, shape, is_a(text), second),

@@ -16,7 +16,7 @@ where
     I: Input + AsBytes + Debug,
     P: Parser<I, Error = Error<I>> + Drop,
     P::Output: Debug,
-    requires { (P.meaning (P.state a)).IsSound }
+    requires { (P.grammar (P.state a)).meaning.IsSound }
 {
     match shape {
         Shape::Alt => question.ask(alt((a,))),
@@ -31,9 +31,9 @@ where
     I: Input + AsBytes + Debug,
     P: Parser<I, Error = Error<I>> + Drop,
     P::Output: Debug,
-    requires a { (P.meaning (P.state a)).IsSound }
-    requires b { (P.meaning (P.state b)).IsSound }
-    requires c { (P.meaning (P.state c)).IsSound }
+    requires a { (P.grammar (P.state a)).meaning.IsSound }
+    requires b { (P.grammar (P.state b)).meaning.IsSound }
+    requires c { (P.grammar (P.state c)).meaning.IsSound }
 {
     match shape {
         Shape::Alt => question.ask(alt((a, b, c))),
@@ -49,10 +49,10 @@ where
     I: Input + AsBytes + Debug,
     P: Parser<I, Error = Error<I>> + Drop,
     P::Output: Debug,
-    requires a { (P.meaning (P.state a)).IsSound }
-    requires b { (P.meaning (P.state b)).IsSound }
-    requires c { (P.meaning (P.state c)).IsSound }
-    requires d { (P.meaning (P.state d)).IsSound }
+    requires a { (P.grammar (P.state a)).meaning.IsSound }
+    requires b { (P.grammar (P.state b)).meaning.IsSound }
+    requires c { (P.grammar (P.state c)).meaning.IsSound }
+    requires d { (P.grammar (P.state d)).meaning.IsSound }
 {
     match shape {
         Shape::Permutation => question.ask(permutation((a, b, c, d))),

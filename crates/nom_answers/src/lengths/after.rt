@@ -21,9 +21,9 @@ where
     L::Output: ToUsize,
     P: Parser<I, Error = Error<I>> + Drop,
     P::Output: Viewed + Debug,
-    requires length { (L.meaning (L.state length)).IsSound }
-    requires one { IsOne (HasSize (L.IsOutput (L.state length)) L.Output.size) }
-    requires part { (P.meaning (P.state part)).IsSound }
+    requires length { (L.grammar (L.state length)).meaning.IsSound }
+    requires one { IsOne (HasSize (L.grammar (L.state length)).IsOutput L.Output.size) }
+    requires part { (P.grammar (P.state part)).meaning.IsSound }
 {
     match kind {
         Kind::Value => question.ask(length_value(length, part)),
@@ -37,8 +37,8 @@ where
     I: Input + AsBytes + Debug,
     L: Parser<I, Error = Error<I>> + Drop,
     L::Output: ToUsize,
-    requires length { (L.meaning (L.state length)).IsSound }
-    requires one { IsOne (HasSize (L.IsOutput (L.state length)) L.Output.size) }
+    requires length { (L.grammar (L.state length)).meaning.IsSound }
+    requires one { IsOne (HasSize (L.grammar (L.state length)).IsOutput L.Output.size) }
 {
     question.ask(length_data(length))
 }
@@ -56,9 +56,9 @@ where
     L: Parser<I, Error = Error<I>> + Drop,
     L::Output: ToUsize,
     P: Parser<I, Output = I, Error = Error<I>> + Drop,
-    requires length { (L.meaning (L.state length)).IsSound }
-    requires one { IsOne (HasSize (L.IsOutput (L.state length)) L.Output.size) }
-    requires part { (P.meaning (P.state part)).IsSound }
+    requires length { (L.grammar (L.state length)).meaning.IsSound }
+    requires one { IsOne (HasSize (L.grammar (L.state length)).IsOutput L.Output.size) }
+    requires part { (P.grammar (P.state part)).meaning.IsSound }
 {
     match around {
         Part::CutTag => parsed(question, kind, length, cut(part)),
@@ -76,8 +76,8 @@ where
     T: Copy,
     L: Parser<I, Error = Error<I>> + Drop,
     L::Output: ToUsize,
-    requires length { (L.meaning (L.state length)).IsSound }
-    requires one { IsOne (HasSize (L.IsOutput (L.state length)) L.Output.size) }
+    requires length { (L.grammar (L.state length)).meaning.IsSound }
+    requires one { IsOne (HasSize (L.grammar (L.state length)).IsOutput L.Output.size) }
 {
     let kind = call.kind;
     let is_alpha = |c: I::Item| c.is_alpha();

@@ -23,8 +23,8 @@ where
     P: Parser<I, Error = Error<I>> + Drop,
     P::Output: Debug,
     S: Parser<I, Error = Error<I>> + Drop,
-    requires item { (P.meaning (P.state item)).IsSound }
-    requires separator { (S.meaning (S.state separator)).IsSound }
+    requires item { (P.grammar (P.state item)).meaning.IsSound }
+    requires separator { (S.grammar (S.state separator)).meaning.IsSound }
 {
     let alloc = question.alloc;
     match shape {
@@ -46,8 +46,8 @@ where
     P: Parser<I, Error = Error<I>> + Drop,
     P::Output: Debug,
     S: Parser<I, Error = Error<I>> + Drop,
-    requires item { (P.meaning (P.state item)).IsSound }
-    requires part { (S.meaning (S.state part)).IsSound }
+    requires item { (P.grammar (P.state item)).meaning.IsSound }
+    requires part { (S.grammar (S.state part)).meaning.IsSound }
 {
     match other {
         Other::Tag => separated(question, shape, part, item),
@@ -65,7 +65,7 @@ where
     T: Copy,
     P: Parser<I, Error = Error<I>> + Drop,
     P::Output: Debug,
-    requires { (P.meaning (P.state item)).IsSound }
+    requires { (P.grammar (P.state item)).meaning.IsSound }
 {
     separated_by(
         question,
@@ -84,8 +84,8 @@ where
     P::Output: Debug,
     G: Parser<I, Error = Error<I>> + Drop,
     G::Output: Debug,
-    requires item { (P.meaning (P.state item)).IsSound }
-    requires end { (G.meaning (G.state end)).IsSound }
+    requires item { (P.grammar (P.state item)).meaning.IsSound }
+    requires end { (G.grammar (G.state end)).meaning.IsSound }
 {
     question.ask(many_till(question.alloc, item, end))
 }
@@ -97,7 +97,7 @@ where
     T: Copy,
     P: Parser<I, Error = Error<I>> + Drop,
     P::Output: Debug,
-    requires { (P.meaning (P.state item)).IsSound }
+    requires { (P.grammar (P.state item)).meaning.IsSound }
 {
     let text = call.other_text;
     match call.other {

@@ -35,7 +35,7 @@ fn folded<I, P>(question: Question<I>, number: usize, item: P) -> Option<Answer>
 where
     I: Input + AsBytes + Debug,
     P: Parser<I, Output = char, Error = Error<I>> + Drop,
-    requires { (P.meaning (P.state item)).IsSound }
+    requires { (P.grammar (P.state item)).meaning.IsSound }
 {
     let alloc = question.alloc;
     let empty = || String::new(alloc);

@@ -28,7 +28,7 @@ where
     T: Copy,
     P: Parser<I, Error = Error<I>> + Drop,
     P::Output: Viewed + Debug,
-    requires { (P.meaning (P.state item)).IsSound }
+    requires { (P.grammar (P.state item)).meaning.IsSound }
 {
     match &call.shape {
         Shape::SeparatedList0 | Shape::SeparatedList1 => between(question, call, item),
@@ -44,7 +44,7 @@ where
     T: Copy,
     P: Parser<I, Error = Error<I>> + Drop,
     P::Output: Viewed + Debug,
-    requires { (P.meaning (P.state item)).IsSound }
+    requires { (P.grammar (P.state item)).meaning.IsSound }
 {
     match &call.shape {
         Shape::Fold(counts) => fold_over(question, counts, item),
@@ -58,7 +58,7 @@ where
     I: Input + AsBytes + Debug + Viewed + Compare<T>,
     T: Copy,
     P: Parser<I, Output = I, Error = Error<I>> + Drop,
-    requires { (P.meaning (P.state part)).IsSound }
+    requires { (P.grammar (P.state part)).meaning.IsSound }
 {
     let alloc = question.alloc;
     match call.item {
@@ -79,8 +79,8 @@ where
     I: Input + AsBytes + Debug,
     P: Parser<I, Error = Error<I>> + Drop,
     P::Output: Viewed + Debug,
-    requires separator { (P.meaning (P.state separator)).IsSound }
-    requires item { (P.meaning (P.state item)).IsSound }
+    requires separator { (P.grammar (P.state separator)).meaning.IsSound }
+    requires item { (P.grammar (P.state item)).meaning.IsSound }
 {
     match shape {
         Shape::SeparatedList0 | Shape::SeparatedList1 => {
@@ -133,7 +133,7 @@ fn with_buffer(alloc: Global, answer: Answer, held: &[&str]) -> Option<Answer> {
 fn filled<'a, P>(question: Question<&'a str>, places: usize, item: P) -> Option<Answer>
 where
     P: Parser<&'a str, Output = &'a str, Error = Error<&'a str>> + Drop,
-    requires { (P.meaning (P.state item)).IsSound }
+    requires { (P.grammar (P.state item)).meaning.IsSound }
 {
     let mut buffer = ["x", "x", "x"];
     let places = places.min(3);

@@ -16,7 +16,7 @@ where
     I: Input + AsBytes + Debug,
     P: Parser<I, Error = Error<I>> + Drop,
     P::Output: Viewed + Debug,
-    requires { (P.meaning (P.state item)).IsSound }
+    requires { (P.grammar (P.state item)).meaning.IsSound }
 {
     let init = || 0usize;
     let inc = |n: usize, _item: P::Output| n.saturating_add(1);
@@ -34,7 +34,7 @@ where
     I: Input + AsBytes + Debug,
     P: Parser<I, Error = Error<I>> + Drop,
     P::Output: Debug,
-    requires { (P.meaning (P.state item)).IsSound }
+    requires { (P.grammar (P.state item)).meaning.IsSound }
 {
     let alloc = question.alloc;
     match shape {
@@ -51,7 +51,7 @@ where
     I: Input + AsBytes + Debug,
     P: Parser<I, Error = Error<I>> + Drop,
     P::Output: Viewed + Debug,
-    requires { (P.meaning (P.state item)).IsSound }
+    requires { (P.grammar (P.state item)).meaning.IsSound }
 {
     match shape {
         Shape::Many0Count => question.ask(many0_count(item)),

@@ -17,7 +17,7 @@ where
     P: Parser<I, Error = Error<I>> + Drop,
     P::Output: Viewed,
     R: NomRange<usize> + Drop,
-    requires { (P.meaning (P.state item)).IsSound }
+    requires { (P.grammar (P.state item)).meaning.IsSound }
 {
     question.ask(fold(
         range,
@@ -33,7 +33,7 @@ where
     I: Input + AsBytes + Debug,
     P: Parser<I, Error = Error<I>> + Drop,
     P::Output: Viewed,
-    requires { (P.meaning (P.state item)).IsSound }
+    requires { (P.grammar (P.state item)).meaning.IsSound }
 {
     match counts {
         Counts::Between(first, end) => folded(question, *first..*end, item),
@@ -52,7 +52,7 @@ where
     I: Input + AsBytes + Debug,
     P: Parser<I, Output = I, Error = Error<I>> + Drop,
     R: NomRange<usize> + Drop,
-    requires { (P.meaning (P.state item)).IsSound }
+    requires { (P.grammar (P.state item)).meaning.IsSound }
 {
     question.ask(many::<_, _, _, Vec<I>>(question.alloc, range, item))
 }
@@ -62,7 +62,7 @@ fn list_over<I, P>(question: Question<I>, counts: &Counts, item: P) -> Option<An
 where
     I: Input + AsBytes + Debug,
     P: Parser<I, Output = I, Error = Error<I>> + Drop,
-    requires { (P.meaning (P.state item)).IsSound }
+    requires { (P.grammar (P.state item)).meaning.IsSound }
 {
     match counts {
         Counts::Between(first, end) => listed(question, *first..*end, item),

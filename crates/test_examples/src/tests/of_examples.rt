@@ -83,8 +83,8 @@ fn promised_answer<'a, P: StreamParser<&'a [u8]> + Drop>(
     mut parser: P,
     input: &'a [u8],
 ) -> IResult<&'a [u8], P::Output, P::Error>
-    requires sound { (P.Parser.meaning (P.Parser.state parser)).IsSound }
-    requires settles { (P.Parser.meaning (P.Parser.state parser)).Settles }
+    requires sound { (P.Parser.grammar (P.Parser.state parser)).meaning.IsSound }
+    requires settles { (P.Parser.grammar (P.Parser.state parser)).meaning.Settles }
 {
     promised(&parser);
     parser.parse(input)

@@ -124,9 +124,9 @@ fn grown_pair<I: Input, P: StreamParser<I> + Drop>(
     input: I,
     cuts: &[usize],
 ) -> Grown<I, (P::Output, P::Output), P::Error>
-    requires first { (P.meaning (P.state first)).IsSound }
-    requires between { (P.meaning (P.state between)).IsSound }
-    requires second { (P.meaning (P.state second)).IsSound }
+    requires first { (P.grammar (P.state first)).meaning.IsSound }
+    requires between { (P.grammar (P.state between)).meaning.IsSound }
+    requires second { (P.grammar (P.state second)).meaning.IsSound }
     requires cuts { AreCuts I.model input cuts.now }
 {
     parse_growing(separated_pair(first, between, second), input, cuts)

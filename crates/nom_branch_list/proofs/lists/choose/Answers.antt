@@ -8,7 +8,7 @@ use Rattle.nom_branch_list.proofs.lists.choose.Goals as goal
 pub returns-then-is_empty-clause-shown : goal.returns-then-is_empty-clause-shown
 returns-then-is_empty-clause-shown g c =
     let none : length c.args.branches.now ≡ 0 = grind (arith, nat_tests) in
-    branch_none g.I.Items.model g.A.Parser.IsOutput g.A.Error.ParseError.errors g.A.Parser.meaning g.A.Parser.state
+    branch_none g.I.Items.model g.A.Error.ParseError.errors g.A.Parser.grammar g.A.Parser.state
     (modes g.OM.Output.Mode.BUILDS g.OM.Error.Mode.BUILDS g.OM.Incomplete.IsStreaming.STREAMING) c.args.input c.args.branches.now c.refusal.result
     none c.refusal.ensures
 
@@ -16,7 +16,7 @@ pub process-answer-requires : goal.process-answer-requires
 process-answer-requires g c =
     let some : 0 < length c.args.branches.now = grind (arith, nat_tests) in
     record {
-      sound = branch_sound g.A.Error.ParseError.errors g.A.Parser.meaning g.A.Parser.state c.args.branches.now c.args.branches.now 0
+      sound = branch_sound g.A.Error.ParseError.errors (λ s. (g.A.Parser.grammar s).meaning) g.A.Parser.state c.args.branches.now c.args.branches.now 0
           c.index-branches-0.result (λ _. map g.A.Parser.state c.args.branches.now) some c.requires;
     }
 
@@ -26,7 +26,7 @@ loop-k-init g c =
     record {
       kept = branch_kept g.A.Parser.state c.args.branches.now c.args.branches.now 0 c.index-branches-0.result c.process-answer.new.self
           (λ _. map g.A.Parser.state c.args.branches.now) c.process-answer.ensures.kept;
-      shown = branch_first g.I.Items.model g.A.Parser.IsOutput g.A.Error.ParseError.errors g.A.Parser.meaning g.A.Parser.state
+      shown = branch_first g.I.Items.model g.A.Error.ParseError.errors g.A.Parser.grammar g.A.Parser.state
           (modes g.OM.Output.Mode.BUILDS g.OM.Error.Mode.BUILDS g.OM.Incomplete.IsStreaming.STREAMING) c.args.input c.args.branches.now
           c.index-branches-0.result c.process-answer.result some c.process-answer.ensures.shown;
     }
@@ -34,7 +34,7 @@ loop-k-init g c =
 pub next_branch-answer-requires : goal.next_branch-answer-requires
 next_branch-answer-requires g c =
     let k : c.loop-k.k < length c.loop-k.branches = omega arith in
-    branch_sound g.A.Error.ParseError.errors g.A.Parser.meaning g.A.Parser.state c.loop-k.branches c.args.branches.now c.loop-k.k
+    branch_sound g.A.Error.ParseError.errors (λ s. (g.A.Parser.grammar s).meaning) g.A.Parser.state c.loop-k.branches c.args.branches.now c.loop-k.k
     c.index-branches-k.result c.loop-k.invariant.kept k c.requires
 
 pub loop-k-preserved : goal.loop-k-preserved
@@ -44,7 +44,7 @@ loop-k-preserved g c =
     record {
       kept = branch_kept g.A.Parser.state c.loop-k.branches c.args.branches.now c.loop-k.k c.index-branches-k.result c.next_branch-answer.new.next
           c.loop-k.invariant.kept c.next_branch-answer.ensures.kept;
-      shown = branch_step g.I.Items.model g.A.Parser.IsOutput g.A.Error.ParseError.errors g.A.Parser.meaning g.A.Parser.state
+      shown = branch_step g.I.Items.model g.A.Error.ParseError.errors g.A.Parser.grammar g.A.Parser.state
           (modes g.OM.Output.Mode.BUILDS g.OM.Error.Mode.BUILDS g.OM.Incomplete.IsStreaming.STREAMING) c.args.input c.loop-k.branches
           c.args.branches.now c.loop-k.k c.index-branches-k.result c.loop-k.answer c.next_branch-answer.result c.loop-k.invariant.kept some k
           c.loop-k.invariant.shown c.next_branch-answer.ensures.shown;
@@ -56,7 +56,7 @@ returns-clause-shown g c =
     let same = ap length c.loop-k.invariant.kept in
     let whole : c.loop-k.k ≡ length c.args.branches.now =
     omega (arith, length-map c.loop-k.branches g.A.Parser.state, length-map c.args.branches.now g.A.Parser.state, same) in
-    branch_close g.I.Items.model g.A.Parser.IsOutput g.A.Error.ParseError.errors g.A.Parser.meaning g.A.Parser.state
+    branch_close g.I.Items.model g.A.Error.ParseError.errors g.A.Parser.grammar g.A.Parser.state
     (modes g.OM.Output.Mode.BUILDS g.OM.Error.Mode.BUILDS g.OM.Incomplete.IsStreaming.STREAMING) c.args.input c.args.branches.now c.loop-k.k
     c.loop-k.answer c.close.result some whole c.loop-k.invariant.shown c.close.ensures
 

@@ -7,6 +7,6 @@ use Rattle.nom_branch_list.proofs.lists.choose.Given as goal
 abbrev pub invariant-loop-k : goal.invariant-loop-k
 invariant-loop-k g l = record {
   kept : map g.A.Parser.state l.branches ≡ map g.A.Parser.state l.fn.branches;
-  shown : ShowsBefore g.I.Items.model g.A.Parser.IsOutput g.A.Error.ParseError.errors g.A.Parser.meaning g.A.Parser.state
+  shown : ShowsBefore g.I.Items.model g.A.Error.ParseError.errors g.A.Parser.grammar g.A.Parser.state
       (modes g.OM.Output.Mode.BUILDS g.OM.Error.Mode.BUILDS g.OM.Incomplete.IsStreaming.STREAMING) l.input l.fn.branches l.k l.answer;
 }

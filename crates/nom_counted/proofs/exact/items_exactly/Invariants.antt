@@ -11,9 +11,10 @@ abbrev pub invariant-loop-done : goal.invariant-loop-done
 invariant-loop-done g l = record {
   state_kept : g.F.Parser.state l.parser ≡ g.F.Parser.state l.fn.parser;
   collected : Collected g.I.Items.model
-      (TurnsBy (Some l.fn.count) (item_turn (exact_limits l.fn.count)) (λ _. (g.F.Parser.meaning (g.F.Parser.state l.fn.parser)).answers
+      (TurnsBy (Some l.fn.count) (item_turn (exact_limits l.fn.count)) (λ _. (g.F.Parser.grammar (g.F.Parser.state l.fn.parser)).meaning.answers
       g.OM.Incomplete.IsStreaming.STREAMING))
-      (λ vs. Built g.OM.Output.Mode.BUILDS (Accumulated g.K.Accumulator.Pushes g.K.Accumulator.CanPush (g.F.Parser.IsOutput (g.F.Parser.state l.fn.parser))
+      (λ vs. Built g.OM.Output.Mode.BUILDS (Accumulated g.K.Accumulator.Pushes g.K.Accumulator.CanPush
+      (g.F.Parser.grammar (g.F.Parser.state l.fn.parser)).IsOutput
       l.fn.before vs)
       l.kept × (l.done ≡ length vs))
       l.fn.input l.rest;

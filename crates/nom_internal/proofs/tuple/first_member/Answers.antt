@@ -6,5 +6,5 @@ pub returns-clause-shown : goal.returns-clause-shown
 returns-clause-shown g c =
     let mode = modes g.OM.Output.Mode.BUILDS g.OM.Error.Mode.BUILDS g.OM.Incomplete.IsStreaming.STREAMING in
     let s = g.P.Parser.state c.args.first.now in
-    first_shown g.I.Items.model (g.P.Parser.IsOutput s) (g.P.Parser.meaning s) mode c.args.input c.process.result c.begun.result
+    first_shown g.I.Items.model (g.P.Parser.grammar s).IsOutput (g.P.Parser.grammar s).meaning mode c.args.input c.process.result c.begun.result
     c.process.ensures.shown c.begun.ensures

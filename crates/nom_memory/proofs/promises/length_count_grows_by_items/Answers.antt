@@ -6,5 +6,5 @@ pub returns : goal.returns
 returns g c =
     let s = g.F.Parser.state c.args._parser.now.length in
     let t = g.G.Parser.state c.args._parser.now.parser in
-    length_count_grow g.I.Items.model g.F.Error.ParseError.errors (g.G.Parser.meaning t) (g.met.G.Parser.lawful t c.requires.item)
-    (HasSize (g.F.Parser.IsOutput s) g.F.Output.ToUsize.size) (g.F.Parser.meaning s) (g.met.F.Parser.lawful s c.requires.length)
+    length_count_grow g.I.Items.model g.F.Error.ParseError.errors (g.G.Parser.grammar t).meaning (g.met.G.Parser.lawful t c.requires.item)
+    (HasSize (g.F.Parser.grammar s).IsOutput g.F.Output.ToUsize.size) (g.F.Parser.grammar s).meaning (g.met.F.Parser.lawful s c.requires.length)

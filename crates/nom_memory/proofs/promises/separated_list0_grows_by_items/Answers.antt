@@ -5,5 +5,5 @@ pub returns : goal.returns
 returns g c =
     let s = g.G.Parser.state c.args._parser.now.next.first in
     let t = g.F.Parser.state c.args._parser.now.next.second in
-    separated0_grow g.I.Items.model g.met.I.Items.lawful g.F.Error.ParseError.errors (g.G.Parser.meaning s) (g.F.Parser.meaning t)
+    separated0_grow g.I.Items.model g.met.I.Items.lawful g.F.Error.ParseError.errors (g.G.Parser.grammar s).meaning (g.F.Parser.grammar t).meaning
     (g.met.G.Parser.lawful s c.requires.separator) (g.met.F.Parser.lawful t c.requires.item)

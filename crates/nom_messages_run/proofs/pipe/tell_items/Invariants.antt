@@ -7,7 +7,6 @@ abbrev pub invariant-loop-turn : goal.invariant-loop-turn
 invariant-loop-turn g l = record {
   kept : g.G.Grammar.state l.grammar ≡ g.G.Grammar.state l.fn.grammar;
   opened : IsOpen g.R.Read.remaining l.stream;
-  going : Going g.R.Read.remaining (g.G.Grammar.IsItem (g.G.Grammar.state l.fn.grammar))
-      (g.G.Grammar.meaning (g.G.Grammar.state l.fn.grammar)) l.fn.stream l.stream (g.W.Sink.held l.fn.sink) (g.W.Sink.held l.sink)
+  going : Going g.R.Read.remaining (g.G.Grammar.grammar (g.G.Grammar.state l.fn.grammar)) l.fn.stream l.stream (g.W.Sink.held l.fn.sink) (g.W.Sink.held l.sink)
       (string_bytes l.text) l._turn;
 }

@@ -12,8 +12,8 @@ invariant-loop-count g l = record {
   length_kept : length l.buffer ≡ length l.fn.buffer;
   collected : Collected g.I.Items.model
       (TurnsBy (Some (length l.fn.buffer)) (item_turn (exact_limits (length l.fn.buffer)))
-      (λ _. (g.F.Parser.meaning (g.F.Parser.state l.fn.parser)).answers g.OM.Incomplete.IsStreaming.STREAMING))
-      (λ vs. HoldsItems (g.F.Parser.IsOutput (g.F.Parser.state l.fn.parser)) g.OM.Output.Mode.BUILDS l.fn.buffer vs l.buffer × (l.count ≡ length vs))
+      (λ _. (g.F.Parser.grammar (g.F.Parser.state l.fn.parser)).meaning.answers g.OM.Incomplete.IsStreaming.STREAMING))
+      (λ vs. HoldsItems (g.F.Parser.grammar (g.F.Parser.state l.fn.parser)).IsOutput g.OM.Output.Mode.BUILDS l.fn.buffer vs l.buffer × (l.count ≡ length vs))
       l.fn.input l.rest;
 }
 

@@ -2,4 +2,5 @@ use Rattle.nom_multi.proofs.Accepting.{count_accepts_items}
 use Rattle.nom_multi.proofs.promises.count_accepts.Goals as goal
 
 pub returns : goal.returns
-returns g c = count_accepts_items _ g.F.Error.ParseError.errors (g.F.Parser.meaning (g.F.Parser.state c.args._parser.now.parser)) c.args._parser.now.count
+returns g c = count_accepts_items _ g.F.Error.ParseError.errors (g.F.Parser.grammar (g.F.Parser.state c.args._parser.now.parser)).meaning
+    c.args._parser.now.count

@@ -2,4 +2,4 @@ use Rattle.nom_multi.proofs.Accepting.{many1_accepts_more}
 use Rattle.nom_multi.proofs.promises.many1_accepts.Goals as goal
 
 pub returns : goal.returns
-returns g c = many1_accepts_more _ g.F.Error.ParseError.errors (g.F.Parser.meaning (g.F.Parser.state c.args._parser.now.parser))
+returns g c = many1_accepts_more _ g.F.Error.ParseError.errors (g.F.Parser.grammar (g.F.Parser.state c.args._parser.now.parser)).meaning

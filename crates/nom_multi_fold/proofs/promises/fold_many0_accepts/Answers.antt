@@ -2,4 +2,4 @@ use Rattle.nom_multi_fold.proofs.Accepting.{fold_many0_accepts_items}
 use Rattle.nom_multi_fold.proofs.promises.fold_many0_accepts.Goals as goal
 
 pub returns : goal.returns
-returns g c = fold_many0_accepts_items _ g.F.Error.ParseError.errors (g.F.Parser.meaning (g.F.Parser.state c.args._parser.now.parser)) (Unit {0})
+returns g c = fold_many0_accepts_items _ g.F.Error.ParseError.errors (g.F.Parser.grammar (g.F.Parser.state c.args._parser.now.parser)).meaning (Unit {0})

@@ -2,4 +2,4 @@ use Rattle.nom_multi_fold.proofs.Accepting.{many0_count_accepts_items}
 use Rattle.nom_multi_fold.proofs.promises.many0_count_accepts.Goals as goal
 
 pub returns : goal.returns
-returns g c = many0_count_accepts_items _ g.F.Error.ParseError.errors (g.F.Parser.meaning (g.F.Parser.state c.args._parser.now.item.parser))
+returns g c = many0_count_accepts_items _ g.F.Error.ParseError.errors (g.F.Parser.grammar (g.F.Parser.state c.args._parser.now.item.parser)).meaning

@@ -4,5 +4,5 @@ use Rattle.nom_multi_length.proofs.promises.length_count_accepts.Goals as goal
 
 pub returns : goal.returns
 returns g c = length_count_accepts_items _ g.F.Error.ParseError.errors
-    (HasSize (g.F.Parser.IsOutput (g.F.Parser.state c.args._parser.now.length)) g.F.Output.ToUsize.size)
-    (g.F.Parser.meaning (g.F.Parser.state c.args._parser.now.length)) (g.G.Parser.meaning (g.G.Parser.state c.args._parser.now.parser))
+    (HasSize (g.F.Parser.grammar (g.F.Parser.state c.args._parser.now.length)).IsOutput g.F.Output.ToUsize.size)
+    (g.F.Parser.grammar (g.F.Parser.state c.args._parser.now.length)).meaning (g.G.Parser.grammar (g.G.Parser.state c.args._parser.now.parser)).meaning

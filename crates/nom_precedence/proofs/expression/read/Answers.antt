@@ -19,11 +19,11 @@ use Rattle.nom_precedence.proofs.expression.read.Goals as goal
 
 -- the parts' meanings, by their states
 abbrev operator : (g : given.Over) → g.C.Parser.State → ℕ → Meaning g.row.I.Denot (ℕ × g.C.Parser.Tree) g.row.F-Error.Denot
-operator g b n = operator_meaning g.F.Error.ParseError.errors (HasLevel (g.C.Parser.IsOutput b) (λ o. o.0)) n (g.C.Parser.meaning b)
+operator g b n = operator_meaning g.F.Error.ParseError.errors (HasLevel (g.C.Parser.grammar b).IsOutput (λ o. o.0)) n (g.C.Parser.grammar b).meaning
 
 abbrev term : (g : given.Over) → g.P.Parser.State → g.F.Parser.State → g.Q.Parser.State →
     Meaning g.row.I.Denot (Read (Term g.P.Parser.Tree g.F.Parser.Tree g.Q.Parser.Tree)) g.row.F-Error.Denot
-term g p f q = term_meaning g.I.Items.model (g.P.Parser.meaning p) (g.F.Parser.meaning f) (g.Q.Parser.meaning q)
+term g p f q = term_meaning g.I.Items.model (g.P.Parser.grammar p).meaning (g.F.Parser.grammar f).meaning (g.Q.Parser.grammar q).meaning
 
 abbrev first : (g : given.Over) → g.P.Parser.State → g.F.Parser.State → g.Q.Parser.State →
     Meaning g.row.I.Denot (Read (Term g.P.Parser.Tree g.F.Parser.Tree g.Q.Parser.Tree)) g.row.F-Error.Denot
@@ -37,12 +37,12 @@ rest g p f q b n = chain_meaning g.I.Items.model (Unit {0}) (pair_meaning g.I.It
 abbrev is_term : (g : given.Over) → g.P.Parser.State → g.F.Parser.State → g.Q.Parser.State → g.row.G.Denot →
     Term g.P.Parser.Tree g.F.Parser.Tree g.Q.Parser.Tree → g.row.F-Output.Denot → Type 0
 is_term g p f q fold =
-    IsTerm (g.P.Parser.IsOutput p) (λ c x y. g.G.Fn.post fold (Prefix c x, tt) y) (g.F.Parser.IsOutput f) (g.Q.Parser.IsOutput q)
+    IsTerm (g.P.Parser.grammar p).IsOutput (λ c x y. g.G.Fn.post fold (Prefix c x, tt) y) (g.F.Parser.grammar f).IsOutput (g.Q.Parser.grammar q).IsOutput
     (λ x c y. g.G.Fn.post fold (Postfix x c, tt) y)
 
 abbrev is_pair : (g : given.Over) → g.P.Parser.State → g.F.Parser.State → g.Q.Parser.State → g.C.Parser.State → g.row.G.Denot →
     Pair g.C.Parser.Tree (Term g.P.Parser.Tree g.F.Parser.Tree g.Q.Parser.Tree) → (ℕ × g.row.B.Denot) × g.row.F-Output.Denot → Type 0
-is_pair g p f q b fold = IsPairOf (g.C.Parser.IsOutput b) (is_term g p f q fold)
+is_pair g p f q b fold = IsPairOf (g.C.Parser.grammar b).IsOutput (is_term g p f q fold)
 
 -- and what is made of pairs after a first value
 abbrev Pairs : (g : given.Over) → g.P.Parser.State → g.F.Parser.State → g.Q.Parser.State → g.C.Parser.State → g.row.G.Denot → List Assoc →
@@ -53,7 +53,8 @@ abbrev Whole : (g : given.Over) → g.P.Parser.State → g.F.Parser.State → g.
     Term g.P.Parser.Tree g.F.Parser.Tree g.Q.Parser.Tree × List (Pair g.C.Parser.Tree (Term g.P.Parser.Tree g.F.Parser.Tree g.Q.Parser.Tree)) →
     g.row.F-Output.Denot → Type 0
 Whole g p f q b fold levels e y =
-    StandsFor (folding (g.P.Parser.IsOutput p) (g.F.Parser.IsOutput f) (g.Q.Parser.IsOutput q) (g.C.Parser.IsOutput b) (λ o. g.G.Fn.post fold (o, tt)))
+    StandsFor (folding (g.P.Parser.grammar p).IsOutput (g.F.Parser.grammar f).IsOutput (g.Q.Parser.grammar q).IsOutput (g.C.Parser.grammar b).IsOutput
+    (λ o. g.G.Fn.post fold (o, tt)))
     (groups_left levels) e.0 e.1 y
 
 pub returns-in_err-rest-clause-shown : goal.returns-in_err-rest-clause-shown
@@ -151,6 +152,7 @@ returns-in-Whole-emitted-clause-shown g c =
     c.term-first.ensures.operand_kept c.term-first.ensures.postfix_kept refl c.in_ok-end-in-Whole.ensures.shown in
     both_whole g.met.I.Items.lawful (λ t ps. (t, ps)) (first g p f q) (rest g p f q b n) (is_term g p f q fold)
     (Whole g p f q b fold c.args.levels.now) g.OM.Output.Mode.BUILDS g.OM.Error.Mode.BUILDS g.OM.Incomplete.IsStreaming.STREAMING _ _
-    (λ t ps v k. expression_built (g.P.Parser.IsOutput p) (g.F.Parser.IsOutput f) (g.Q.Parser.IsOutput q) (g.C.Parser.IsOutput b)
+    (λ t ps v k. expression_built (g.P.Parser.grammar p).IsOutput (g.F.Parser.grammar f).IsOutput (g.Q.Parser.grammar q).IsOutput
+    (g.C.Parser.grammar b).IsOutput
     (λ o. g.G.Fn.post fold (o, tt)) (groups_left c.args.levels.now) g.OM.Output.Mode.BUILDS t ps _ _ v k)
     (told_ok c.emitted.ensures c.in-Whole.is closed) (told_ok c.emitted-in-Whole.ensures c.in-Whole-emitted.is others)

@@ -15,15 +15,15 @@ abbrev pub part : (g : goal.Over) → g.P.Parser.State → g.F.Parser.State → 
     Meaning g.row.I.Denot (Read (Pair g.C.Parser.Tree (Term g.P.Parser.Tree g.F.Parser.Tree g.Q.Parser.Tree))) g.row.F-Error.Denot
 part g p f q b n =
     pair_meaning g.I.Items.model
-    (operator_meaning g.F.Error.ParseError.errors (HasLevel (g.C.Parser.IsOutput b) (λ o. o.0)) n (g.C.Parser.meaning b))
-    (term_meaning g.I.Items.model (g.P.Parser.meaning p) (g.F.Parser.meaning f) (g.Q.Parser.meaning q))
+    (operator_meaning g.F.Error.ParseError.errors (HasLevel (g.C.Parser.grammar b).IsOutput (λ o. o.0)) n (g.C.Parser.grammar b).meaning)
+    (term_meaning g.I.Items.model (g.P.Parser.grammar p).meaning (g.F.Parser.grammar f).meaning (g.Q.Parser.grammar q).meaning)
 
 -- an output of it, by the fold
 abbrev pub is_pair : (g : goal.Over) → g.P.Parser.State → g.F.Parser.State → g.Q.Parser.State → g.C.Parser.State → g.row.G.Denot →
     Pair g.C.Parser.Tree (Term g.P.Parser.Tree g.F.Parser.Tree g.Q.Parser.Tree) → (ℕ × g.row.B.Denot) × g.row.F-Output.Denot → Type 0
 is_pair g p f q b fold =
-    IsPairOf (g.C.Parser.IsOutput b)
-    (IsTerm (g.P.Parser.IsOutput p) (λ c x y. g.G.Fn.post fold (Prefix c x, tt) y) (g.F.Parser.IsOutput f) (g.Q.Parser.IsOutput q)
+    IsPairOf (g.C.Parser.grammar b).IsOutput
+    (IsTerm (g.P.Parser.grammar p).IsOutput (λ c x y. g.G.Fn.post fold (Prefix c x, tt) y) (g.F.Parser.grammar f).IsOutput (g.Q.Parser.grammar q).IsOutput
     (λ x c y. g.G.Fn.post fold (Postfix x c, tt) y))
 
 abbrev pub invariant-loop-next : goal.invariant-loop-next

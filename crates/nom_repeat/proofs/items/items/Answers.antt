@@ -12,7 +12,7 @@ pub loop-input-init : goal.loop-input-init
 loop-input-init g c = record {
   state_kept = refl;
   collected = collected_none g.met.I.Items.lawful c.prove_known.ensures (
-    kept_none g.K.Accumulator.Pushes g.K.Accumulator.CanPush (g.F.Parser.IsOutput (g.F.Parser.state c.args.parser.now)) _ _ c.requires.built,
+    kept_none g.K.Accumulator.Pushes g.K.Accumulator.CanPush (g.F.Parser.grammar (g.F.Parser.state c.args.parser.now)).IsOutput _ _ c.requires.built,
     counts_none _ c.args.limits.most,
   );
 }
@@ -20,22 +20,23 @@ loop-input-init g c = record {
 pub returns-then-is_full-clause-shown : goal.returns-then-is_full-clause-shown
 returns-then-is_full-clause-shown g c =
     let i = c.loop-input.invariant in
-    items_full g.F.Error.ParseError.errors c.args.limits g.K.Accumulator.Grows (g.F.Parser.meaning (g.F.Parser.state c.args.parser.now)) i.collected
+    items_full g.F.Error.ParseError.errors c.args.limits g.K.Accumulator.Grows (g.F.Parser.grammar (g.F.Parser.state c.args.parser.now)).meaning i.collected
     (at_bound _ _ _ i.collected.held.1 (c.is_full.ensures.full (search rules))) i.collected.held.0
 
 pub returns-in-Some-clause-shown : goal.returns-in-Some-clause-shown
 returns-in-Some-clause-shown g c =
     let i = c.loop-input.invariant in
-    let part = part_at g.F.Parser.IsOutput g.F.Parser.meaning c.requires.errors i.state_kept c.in-Ok.ensures.shown in
+    let part = part_at g.F.Parser.grammar c.requires.errors i.state_kept c.in-Ok.ensures.shown in
     let is_below = below _ _ _ i.collected.held.1 (c.is_full.ensures.below c.if-is_full.false) in
     let item = accepts part in
-    items_stuck g.F.Error.ParseError.errors c.args.limits g.K.Accumulator.Grows (g.F.Parser.meaning (g.F.Parser.state c.args.parser.now)) i.collected is_below
+    items_stuck g.F.Error.ParseError.errors c.args.limits g.K.Accumulator.Grows (g.F.Parser.grammar (g.F.Parser.state c.args.parser.now)).meaning
+    i.collected is_below
     item c.in-Some.kind c.in-Some.ensures.0 (is_empty item.rest_is c.input_len-in-Ok.ensures c.input_len.ensures c.in-Some.ensures.1) c.refusal.ensures
 
 pub push_item-requires-clause-kept : goal.push_item-requires-clause-kept
 push_item-requires-clause-kept g c =
     let i = c.loop-input.invariant in
-    kept_ready g.K.Accumulator.Pushes g.K.Accumulator.CanPush (g.F.Parser.IsOutput (g.F.Parser.state c.args.parser.now)) _ _ _ i.collected.trees
+    kept_ready g.K.Accumulator.Pushes g.K.Accumulator.CanPush (g.F.Parser.grammar (g.F.Parser.state c.args.parser.now)).IsOutput _ _ _ i.collected.trees
     i.collected.held.0
 
 pub push_item-requires-clause-item : goal.push_item-requires-clause-item
@@ -44,12 +45,12 @@ push_item-requires-clause-item g c = built_any _ _ _ (accepts c.in-Ok.ensures.sh
 pub returns-in_err-push_item-in-None-clause-shown : goal.returns-in_err-push_item-in-None-clause-shown
 returns-in_err-push_item-in-None-clause-shown g c =
     let i = c.loop-input.invariant in
-    let part = part_at g.F.Parser.IsOutput g.F.Parser.meaning c.requires.errors i.state_kept c.in-Ok.ensures.shown in
+    let part = part_at g.F.Parser.grammar c.requires.errors i.state_kept c.in-Ok.ensures.shown in
     let is_below = below _ _ _ i.collected.held.1 (c.is_full.ensures.below c.if-is_full.false) in
     let item = accepts part in
     let full = c.in_err-push_item-in-None.ensures.full in
     rw (err_from_residual c.from_residual.ensures) (
-    items_lack_room g.F.Error.ParseError.errors c.args.limits g.K.Accumulator.Grows (g.F.Parser.meaning (g.F.Parser.state c.args.parser.now))
+    items_lack_room g.F.Error.ParseError.errors c.args.limits g.K.Accumulator.Grows (g.F.Parser.grammar (g.F.Parser.state c.args.parser.now)).meaning
     i.collected is_below item (moves item.rest_is c.input_len.ensures c.input_len-in-Ok.ensures c.in-None.ensures)
     (room_built g.K.Accumulator.IsFull _ _ _ i.collected.held.0 full) (room_grows g.K.Accumulator.IsFull g.K.Accumulator.Grows g.K.Accumulator.fills _ full))
 
@@ -63,7 +64,7 @@ loop-input-smaller g c =
 pub loop-input-preserved : goal.loop-input-preserved
 loop-input-preserved g c =
     let i = c.loop-input.invariant in
-    let part = part_at g.F.Parser.IsOutput g.F.Parser.meaning c.requires.errors i.state_kept c.in-Ok.ensures.shown in
+    let part = part_at g.F.Parser.grammar c.requires.errors i.state_kept c.in-Ok.ensures.shown in
     let is_below = below _ _ _ i.collected.held.1 (c.is_full.ensures.below c.if-is_full.false) in
     let item = accepts part in
     let pushes = c.in_ok-push_item-in-None.ensures.kept in
@@ -71,7 +72,7 @@ loop-input-preserved g c =
       state_kept = cc;
       collected = items_more g.met.I.Items.lawful c.args.limits i.collected is_below item
           (moves item.rest_is c.input_len.ensures c.input_len-in-Ok.ensures c.in-None.ensures) (
-            pushed g.K.Accumulator.Pushes g.K.Accumulator.CanPush (g.F.Parser.IsOutput (g.F.Parser.state c.args.parser.now)) _ _ _ _ _ _ _ pushes
+            pushed g.K.Accumulator.Pushes g.K.Accumulator.CanPush (g.F.Parser.grammar (g.F.Parser.state c.args.parser.now)).IsOutput _ _ _ _ _ _ _ pushes
                 i.collected.held.0
                 item.built_is,
             counts_more c.args.limits.most _ _ _ _ i.collected.held.1 c.one_more-count.ensures,
@@ -84,37 +85,38 @@ few-requires g c = some_few c.args.limits c.loop-input.count c.requires.limits (
 pub returns-then-count-limits-clause-shown : goal.returns-then-count-limits-clause-shown
 returns-then-count-limits-clause-shown g c =
     let i = c.loop-input.invariant in
-    let part = part_at g.F.Parser.IsOutput g.F.Parser.meaning c.requires.errors i.state_kept c.in-Err-Error.ensures.shown in
+    let part = part_at g.F.Parser.grammar c.requires.errors i.state_kept c.in-Err-Error.ensures.shown in
     let is_below = below _ _ _ i.collected.held.1 (c.is_full.ensures.below c.if-is_full.false) in
-    items_too_few g.F.Error.ParseError.errors c.args.limits g.K.Accumulator.Grows (g.F.Parser.meaning (g.F.Parser.state c.args.parser.now)) i.collected
+    items_too_few g.F.Error.ParseError.errors c.args.limits g.K.Accumulator.Grows (g.F.Parser.grammar (g.F.Parser.state c.args.parser.now)).meaning i.collected
     is_below (few_items _ _ _ _ i.collected.held.1 c.requires.limits.has_bound (search rules)) c.args.limits.too_few refl c.in-Err-Error.field-0-is
     part c.place-at.ensures c.few.ensures
 
 pub returns-in-Err-Error-clause-shown : goal.returns-in-Err-Error-clause-shown
 returns-in-Err-Error-clause-shown g c =
     let i = c.loop-input.invariant in
-    let part = part_at g.F.Parser.IsOutput g.F.Parser.meaning c.requires.errors i.state_kept c.in-Err-Error.ensures.shown in
+    let part = part_at g.F.Parser.grammar c.requires.errors i.state_kept c.in-Err-Error.ensures.shown in
     let is_below = below _ _ _ i.collected.held.1 (c.is_full.ensures.below c.if-is_full.false) in
-    items_refused g.F.Error.ParseError.errors c.args.limits g.K.Accumulator.Grows (g.F.Parser.meaning (g.F.Parser.state c.args.parser.now)) i.collected
+    items_refused g.F.Error.ParseError.errors c.args.limits g.K.Accumulator.Grows (g.F.Parser.grammar (g.F.Parser.state c.args.parser.now)).meaning i.collected
     is_below (enough_items _ _ _ _ i.collected.held.1 c.requires.limits.has_bound (search rules)) c.in-Err-Error.field-0-is part i.collected.held.0
 
 pub returns-in-Err-Failure-clause-shown : goal.returns-in-Err-Failure-clause-shown
 returns-in-Err-Failure-clause-shown g c =
     let i = c.loop-input.invariant in
-    let part = part_at g.F.Parser.IsOutput g.F.Parser.meaning c.requires.errors i.state_kept c.in-Err-Failure.ensures.shown in
-    items_failed g.F.Error.ParseError.errors c.args.limits g.K.Accumulator.Grows (g.F.Parser.meaning (g.F.Parser.state c.args.parser.now)) i.collected
+    let part = part_at g.F.Parser.grammar c.requires.errors i.state_kept c.in-Err-Failure.ensures.shown in
+    items_failed g.F.Error.ParseError.errors c.args.limits g.K.Accumulator.Grows (g.F.Parser.grammar (g.F.Parser.state c.args.parser.now)).meaning i.collected
     (below _ _ _ i.collected.held.1 (c.is_full.ensures.below c.if-is_full.false)) c.in-Err-Failure.field-0-is part
 
 pub returns-in-Err-Incomplete-clause-shown : goal.returns-in-Err-Incomplete-clause-shown
 returns-in-Err-Incomplete-clause-shown g c =
     let i = c.loop-input.invariant in
-    let part = part_at g.F.Parser.IsOutput g.F.Parser.meaning c.requires.errors i.state_kept c.in-Err-Incomplete.ensures.shown in
-    items_lack g.F.Error.ParseError.errors c.args.limits g.K.Accumulator.Grows (g.F.Parser.meaning (g.F.Parser.state c.args.parser.now)) i.collected
+    let part = part_at g.F.Parser.grammar c.requires.errors i.state_kept c.in-Err-Incomplete.ensures.shown in
+    items_lack g.F.Error.ParseError.errors c.args.limits g.K.Accumulator.Grows (g.F.Parser.grammar (g.F.Parser.state c.args.parser.now)).meaning i.collected
     (below _ _ _ i.collected.held.1 (c.is_full.ensures.below c.if-is_full.false)) c.in-Err-Incomplete.field-0-is part
 
 pub returns-in-Err-OutOfMemory-clause-shown : goal.returns-in-Err-OutOfMemory-clause-shown
 returns-in-Err-OutOfMemory-clause-shown g c =
     let i = c.loop-input.invariant in
-    let part = part_at g.F.Parser.IsOutput g.F.Parser.meaning c.requires.errors i.state_kept c.in-Err-OutOfMemory.ensures.shown in
-    items_part_ran_out g.F.Error.ParseError.errors c.args.limits g.K.Accumulator.Grows (g.F.Parser.meaning (g.F.Parser.state c.args.parser.now)) i.collected
+    let part = part_at g.F.Parser.grammar c.requires.errors i.state_kept c.in-Err-OutOfMemory.ensures.shown in
+    items_part_ran_out g.F.Error.ParseError.errors c.args.limits g.K.Accumulator.Grows (g.F.Parser.grammar (g.F.Parser.state c.args.parser.now)).meaning
+    i.collected
     (below _ _ _ i.collected.held.1 (c.is_full.ensures.below c.if-is_full.false)) c.in-Err-OutOfMemory.field-0-is part

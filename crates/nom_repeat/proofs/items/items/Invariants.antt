@@ -12,8 +12,9 @@ invariant-loop-input g l = record {
   state_kept : g.F.Parser.state l.parser ≡ g.F.Parser.state l.fn.parser;
   collected : Collected g.I.Items.model
       (TurnsBy l.fn.limits.most (item_turn l.fn.limits)
-      (λ _. (g.F.Parser.meaning (g.F.Parser.state l.fn.parser)).answers g.OM.Incomplete.IsStreaming.STREAMING))
-      (λ vs. Built g.OM.Output.Mode.BUILDS (Accumulated g.K.Accumulator.Pushes g.K.Accumulator.CanPush (g.F.Parser.IsOutput (g.F.Parser.state l.fn.parser))
+      (λ _. (g.F.Parser.grammar (g.F.Parser.state l.fn.parser)).meaning.answers g.OM.Incomplete.IsStreaming.STREAMING))
+      (λ vs. Built g.OM.Output.Mode.BUILDS (Accumulated g.K.Accumulator.Pushes g.K.Accumulator.CanPush
+      (g.F.Parser.grammar (g.F.Parser.state l.fn.parser)).IsOutput
       l.fn.before vs)
       l.kept × Counts l.fn.limits.most l.count vs) l.fn.input l.rest;
 }

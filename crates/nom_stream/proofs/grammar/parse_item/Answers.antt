@@ -4,10 +4,10 @@ use Rattle.nom_stream.proofs.grammar.parse_item.Goals as goal
 
 pub returns-then-more : goal.returns-then-more
 returns-then-more g c =
-    let m = g.P.Parser.meaning (g.P.Parser.state c.args.parser) in
+    let m = (g.P.Parser.grammar (g.P.Parser.state c.args.parser)).meaning in
     record {
       parses = record {
-        shown = subst (λ (b : Bool). ParsesMeaning bytes_model (g.P.Parser.IsOutput (g.P.Parser.state c.args.parser)) m b c.args.input
+        shown = subst (λ (b : Bool). ParsesMeaning bytes_model (g.P.Parser.grammar (g.P.Parser.state c.args.parser)).IsOutput m b c.args.input
             c.parse.result) (sym c.if-more.true) c.parse.ensures.shown;
         lawful = c.laws_of.ensures.lawful;
         steady = c.laws_of.ensures.steady;
@@ -16,10 +16,10 @@ returns-then-more g c =
 
 pub returns : goal.returns
 returns g c =
-    let m = g.P.Parser.meaning (g.P.Parser.state c.args.parser) in
+    let m = (g.P.Parser.grammar (g.P.Parser.state c.args.parser)).meaning in
     record {
       parses = record {
-        shown = subst (λ (b : Bool). ParsesMeaning bytes_model (g.P.Parser.IsOutput (g.P.Parser.state c.args.parser)) m b c.args.input
+        shown = subst (λ (b : Bool). ParsesMeaning bytes_model (g.P.Parser.grammar (g.P.Parser.state c.args.parser)).IsOutput m b c.args.input
             c.parse_complete.result) (sym c.if-more.false) c.parse_complete.ensures.shown;
         lawful = c.laws_of.ensures.lawful;
         steady = c.laws_of.ensures.steady;

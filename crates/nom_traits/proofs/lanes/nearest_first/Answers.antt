@@ -9,4 +9,5 @@ pub loop-k-init : goal.loop-k-init
 loop-k-init c = splat_is_map c.args.block 16 255 c.fits-block.0
 
 pub loop-k-preserved : goal.loop-k-preserved
-loop-k-preserved c = nearer c.args.list.now c.args.block c.loop-k.nearest c.less_first.result c.loop-k.k c.loop-k-test.true c.loop-k.invariant c.less_first.ensures
+loop-k-preserved c =
+    nearer c.args.list.now c.args.block c.loop-k.nearest c.less_first.result c.loop-k.k c.loop-k-test.true c.loop-k.invariant c.less_first.ensures

@@ -26,9 +26,7 @@ impl<G: Grammar + Drop> Grammar for Parses<G> {
 
     ghost Tree = { G.Tree };
 
-    ghost IsItem = { G.IsItem };
-
-    ghost meaning = { G.meaning };
+    ghost grammar = { G.grammar };
 
     fn item<'a>(&mut self, input: &'a [u8], more: bool) -> IResult<&'a [u8], G::Item> {
         self.count = self.count.saturating_add(1);
@@ -43,7 +41,7 @@ fn counts<G: Grammar + Drop>(
     settings: Settings,
     grammar: G,
 ) -> (usize, usize, usize)
-    requires { (G.meaning (G.state grammar)).IsSound }
+    requires { (G.grammar (G.state grammar)).meaning.IsSound }
 {
     let mut stream = Stream::new(alloc, source, settings);
     let mut parses = Parses { grammar, count: 0 };

@@ -76,7 +76,7 @@ pub fn all<R: Read + Drop, A: Allocator + Copy + Drop, G: Grammar>(
     mut stream: Stream<R, A>,
     grammar: &mut G,
 ) -> Given<G::Item>
-    requires sound { (G.meaning (G.state grammar.old)).IsSound }
+    requires sound { (G.grammar (G.state grammar.old)).meaning.IsSound }
     requires open { IsOpen R.remaining stream }
 {
     let mut all = Given {

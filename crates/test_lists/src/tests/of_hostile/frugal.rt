@@ -41,7 +41,7 @@ fn told<I, P>(mut parser: P, input: I) -> IResult<I, P::Output, Error<I>>
 where
     I: Items,
     P: Parser<I, Error = Error<I>> + Drop,
-    requires { (P.meaning (P.state parser)).IsSound }
+    requires { (P.grammar (P.state parser)).meaning.IsSound }
 {
     parser.parse(input)
 }
@@ -108,8 +108,8 @@ where
     I: Input<Item: AsChar> + AsBytes,
     P: Parser<I, Output = char, Error = Error<I>> + Drop,
     Q: Parser<I, Output = char, Error = Error<I>> + Drop,
-    requires item { (P.meaning (P.state item)).IsSound }
-    requires other { (Q.meaning (Q.state other)).IsSound }
+    requires item { (P.grammar (P.state item)).meaning.IsSound }
+    requires other { (Q.grammar (Q.state other)).meaning.IsSound }
 {
     match shape {
         Shape::Preceded => accepts(told(preceded(many1(heap, item), other), input), "", 'b'),
@@ -133,8 +133,8 @@ where
     I: Input<Item: AsChar> + AsBytes,
     P: Parser<I, Output = char, Error = Error<I>> + Drop,
     Q: Parser<I, Output = char, Error = Error<I>> + Drop,
-    requires item { (P.meaning (P.state item)).IsSound }
-    requires other { (Q.meaning (Q.state other)).IsSound }
+    requires item { (P.grammar (P.state item)).meaning.IsSound }
+    requires other { (Q.grammar (Q.state other)).meaning.IsSound }
 {
     match shape {
         Shape::Counted => accepts(told(many0_count(many1(heap, item)), input), "b", 1),
@@ -152,8 +152,8 @@ where
     I: Input<Item: AsChar> + AsBytes,
     P: Parser<I, Output = char, Error = Error<I>> + Drop,
     Q: Parser<I, Output = char, Error = Error<I>> + Drop,
-    requires item { (P.meaning (P.state item)).IsSound }
-    requires other { (Q.meaning (Q.state other)).IsSound }
+    requires item { (P.grammar (P.state item)).meaning.IsSound }
+    requires other { (Q.grammar (Q.state other)).meaning.IsSound }
 {
     match shape {
         Shape::Optional => accepts_none(told(opt(many1(heap, item)), input), "b"),

@@ -15,7 +15,7 @@ fn both<I: Items, P: Parser<I> + Drop>(
     mut parser: P,
     input: I,
 ) -> [IResult<I, P::Output, P::Error>; 2]
-    requires { (P.meaning (P.state parser)).IsSound }
+    requires { (P.grammar (P.state parser)).meaning.IsSound }
 {
     [parser.parse(input), parser.parse_complete(input)]
 }

@@ -138,7 +138,7 @@ fn times_refused<I, P>(
 where
     I: Items + AsBytes,
     P: Parser<I, Output: Held, Error = Error<I>> + Drop,
-    requires { (P.meaning (P.state parser)).IsSound }
+    requires { (P.grammar (P.state parser)).meaning.IsSound }
 {
     let mut refused = 0usize;
     if told_of(parser.parse_complete(input), left, items) != Told::Right {
@@ -177,7 +177,7 @@ fn of_list<I, P>(heap: &LocalHeap, list: List, item: P, input: I) -> Option<usiz
 where
     I: Input<Item: AsChar> + AsBytes,
     P: Parser<I, Output = char, Error = Error<I>> + Drop,
-    requires { (P.meaning (P.state item)).IsSound }
+    requires { (P.grammar (P.state item)).meaning.IsSound }
 {
     let two = ["a", "a"];
     match list {
@@ -227,8 +227,8 @@ where
     P: Parser<I, Output = I, Error = Error<I>> + Drop,
     Q: Parser<I, Output = I, Error = Error<I>> + Drop,
     I: Item,
-    requires separator { (P.meaning (P.state separator)).IsSound }
-    requires item { (Q.meaning (Q.state item)).IsSound }
+    requires separator { (P.grammar (P.state separator)).meaning.IsSound }
+    requires item { (Q.grammar (Q.state item)).meaning.IsSound }
 {
     let list = separated_list0(heap, separator, item);
     times_refused(heap, list, input, ",", &["abc", "abc"])
@@ -240,8 +240,8 @@ where
     I: Input<Item: AsChar> + AsBytes + ExtendInto<&'h LocalHeap, Extender: Held + Drop>,
     P: Parser<I, Output = I, Error = Error<I>> + Drop,
     Q: Parser<I, Output = I, Error = Error<I>> + Drop,
-    requires piece { (P.meaning (P.state piece)).IsSound }
-    requires escape { (Q.meaning (Q.state escape)).IsSound }
+    requires piece { (P.grammar (P.state piece)).meaning.IsSound }
+    requires escape { (Q.grammar (Q.state escape)).meaning.IsSound }
 {
     let text = escaped_transform(heap, piece, '\\', escape);
     times_refused(heap, text, input, "7", &["a", "b"])

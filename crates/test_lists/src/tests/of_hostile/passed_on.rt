@@ -62,9 +62,7 @@ impl<'c, I: Items, P: Parser<I> + Drop> Parser<I> for Tried<'c, P> {
 
     ghost Tree = { P.Tree };
 
-    ghost IsOutput = { P.IsOutput };
-
-    ghost meaning = { P.meaning };
+    ghost grammar = { P.grammar };
 
     fn process<OM: OutputMode>(&mut self, input: I) -> PResult<I, P::Output, P::Error> {
         self.calls.set(self.calls.get().saturating_add(1));
@@ -106,7 +104,7 @@ fn is_out<I: Drop, O: Drop, E: Drop>(found: IResult<I, O, E>) -> bool {
 
 /// Whether memory runs out in a parser.
 fn may_run_out<I: Items, P: Parser<I> + Drop>(mut parser: P, input: I) -> bool
-    requires { (P.meaning (P.state parser)).IsSound }
+    requires { (P.grammar (P.state parser)).meaning.IsSound }
 {
     is_out(parser.parse(input))
 }
@@ -116,7 +114,7 @@ fn ends<I, P>(part: P, input: I) -> bool
 where
     I: Input<Item: AsChar>,
     P: Parser<I, Output = usize, Error = Error<I>> + Drop,
-    requires { (P.meaning (P.state part)).IsSound }
+    requires { (P.grammar (P.state part)).meaning.IsSound }
 {
     let mut items = iterator(input, terminated(part, char(';')));
     let first = items.next() == Some(0);
@@ -132,7 +130,7 @@ fn fills<I, P>(part: P, input: I) -> bool
 where
     I: Input<Item: AsChar>,
     P: Parser<I, Output = usize, Error = Error<I>> + Drop,
-    requires { (P.meaning (P.state part)).IsSound }
+    requires { (P.grammar (P.state part)).meaning.IsSound }
 {
     let mut buffer = [99, 99, 99];
     let is_out = may_run_out(fill(terminated(part, char(';')), &mut buffer), input);
@@ -145,9 +143,9 @@ where
     I: Input,
     L: Parser<I, Output = usize, Error = Error<I>> + Drop,
     P: Parser<I, Output = usize, Error = Error<I>> + Drop,
-    requires length { (L.meaning (L.state length)).IsSound }
-    requires one { IsOne (HasSize (L.IsOutput (L.state length)) (λ n. n)) }
-    requires part { (P.meaning (P.state part)).IsSound }
+    requires length { (L.grammar (L.state length)).meaning.IsSound }
+    requires one { IsOne (HasSize (L.grammar (L.state length)).IsOutput (λ n. n)) }
+    requires part { (P.grammar (P.state part)).meaning.IsSound }
 {
     may_run_out(length_value(length, part), input)
 }
@@ -158,9 +156,9 @@ where
     I: Input<Item: AsChar>,
     P: Parser<I, Output = usize, Error = Error<I>> + Drop,
     Q: Parser<I, Output = usize, Error = Error<I>> + Drop,
-    requires part { (P.meaning (P.state part)).IsSound }
-    requires other { (Q.meaning (Q.state other)).IsSound }
-    requires one { IsOne (HasSize (Q.IsOutput (Q.state other)) (λ n. n)) }
+    requires part { (P.grammar (P.state part)).meaning.IsSound }
+    requires other { (Q.grammar (Q.state other)).meaning.IsSound }
+    requires one { IsOne (HasSize (Q.grammar (Q.state other)).IsOutput (λ n. n)) }
 {
     match shape {
         Shape::Alone => may_run_out(part, input),
@@ -182,8 +180,8 @@ where
     I: Input,
     P: Parser<I, Output = usize, Error = Error<I>> + Drop,
     Q: Parser<I, Output = usize, Error = Error<I>> + Drop,
-    requires part { (P.meaning (P.state part)).IsSound }
-    requires other { (Q.meaning (Q.state other)).IsSound }
+    requires part { (P.grammar (P.state part)).meaning.IsSound }
+    requires other { (Q.grammar (Q.state other)).meaning.IsSound }
 {
     match shape {
         Shape::ItemBeforeAnEnd => may_run_out(many_till(alloc, part, other), input),
@@ -208,7 +206,7 @@ fn tried_beside<I, P>(alloc: Global, shape: Shape, part: P, input: I) -> (bool, 
 where
     I: Input<Item: AsChar>,
     P: Parser<I, Output = usize, Error = Error<I>> + Drop,
-    requires { (P.meaning (P.state part)).IsSound }
+    requires { (P.grammar (P.state part)).meaning.IsSound }
 {
     let calls = Cell::new(0usize);
     let other = Tried {

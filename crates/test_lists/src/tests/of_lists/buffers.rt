@@ -12,7 +12,7 @@ use nom_trail::trail::Trail;
 fn is_refused<'a, P>(item: P, buffer: &mut [&'a [u8]], input: &'a [u8], steps: &[ErrorKind]) -> bool
 where
     P: Parser<&'a [u8], Output = &'a [u8], Error = Trail> + Drop,
-    requires { (P.meaning (P.state item)).IsSound }
+    requires { (P.grammar (P.state item)).meaning.IsSound }
 {
     match fill(item, buffer).process::<OutputM<Check, Emit, Complete>>(input) {
         Err(Err::Error(Some(trail))) => trail.steps() == steps,

@@ -12,7 +12,7 @@ fn accepted<I, P>(mut parser: P, input: I) -> Option<(I, P::Output)>
 where
     I: Input,
     P: Parser<I, Error = Error<I>> + Drop,
-    requires { (P.meaning (P.state parser)).IsSound }
+    requires { (P.grammar (P.state parser)).meaning.IsSound }
 {
     parser.parse_complete(input).ok()
 }

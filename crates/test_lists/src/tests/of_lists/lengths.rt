@@ -12,7 +12,7 @@ use nom_number::be_u8;
 fn streamed<'a, P>(mut parser: P, input: &'a [u8]) -> IResult<&'a [u8], P::Output>
 where
     P: Parser<&'a [u8], Error = Error<&'a [u8]>> + Drop,
-    requires { (P.meaning (P.state parser)).IsSound }
+    requires { (P.grammar (P.state parser)).meaning.IsSound }
 {
     parser.parse(input)
 }

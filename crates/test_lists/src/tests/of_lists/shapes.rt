@@ -44,7 +44,7 @@ where
     S: IsStreaming,
     I: Input<Item = u8> + AsBytes + Viewed,
     P: Parser<I, Output = I, Error = Trail> + Drop,
-    requires { (P.meaning (P.state item)).IsSound }
+    requires { (P.grammar (P.state item)).meaning.IsSound }
 {
     match shape {
         Shape::Many0 => in_modes::<S, _, _>(many0(heap, item), input),
@@ -66,8 +66,8 @@ where
     I: Input + AsBytes,
     P: Parser<I, Output = I, Error = Trail> + Drop,
     Q: Parser<I, Output = I, Error = Trail> + Drop,
-    requires item { (P.meaning (P.state item)).IsSound }
-    requires end { (Q.meaning (Q.state end)).IsSound }
+    requires item { (P.grammar (P.state item)).meaning.IsSound }
+    requires end { (Q.grammar (Q.state end)).meaning.IsSound }
 {
     in_modes::<S, _, _>(many_till(heap, item, end), input)
 }
@@ -78,7 +78,7 @@ where
     S: IsStreaming,
     I: Input<Item = u8> + AsBytes + Viewed,
     P: Parser<I, Output = I, Error = Trail> + Drop,
-    requires { (P.meaning (P.state item)).IsSound }
+    requires { (P.grammar (P.state item)).meaning.IsSound }
 {
     match shape {
         Shape::SeparatedList0 => {
@@ -98,7 +98,7 @@ where
     S: IsStreaming,
     I: Input + AsBytes,
     P: Parser<I, Output: Viewed, Error = Trail> + Drop,
-    requires { (P.meaning (P.state item)).IsSound }
+    requires { (P.grammar (P.state item)).meaning.IsSound }
 {
     let init = || 0usize;
     let inc = |n: usize, _item: P::Output| n.wrapping_add(1);

@@ -97,7 +97,7 @@ where
     S: IsStreaming,
     I: Items + AsBytes,
     P: Parser<I, Output: Counted, Error = Trail> + Drop,
-    requires { (P.meaning (P.state list)).IsSound }
+    requires { (P.grammar (P.state list)).meaning.IsSound }
 {
     [
         told_of(list.process::<OutputM<Emit, Emit, S>>(input)),

@@ -33,7 +33,7 @@ fn grown_of<'a, P: StreamParser<&'a [u8]> + Drop>(
     input: &'a [u8],
     cuts: &[usize],
 ) -> Grown<&'a [u8], P::Output, P::Error>
-    requires sound { (P.meaning (P.state parser)).IsSound }
+    requires sound { (P.grammar (P.state parser)).meaning.IsSound }
     requires cuts { AreCuts bytes_model input cuts.now }
 {
     parse_growing(parser, input, cuts)

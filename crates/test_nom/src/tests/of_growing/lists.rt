@@ -28,9 +28,10 @@ impl<'a> Parser<&'a [u8]> for Byte {
 
     ghost Tree = { Slice bytes_model };
 
-    ghost IsOutput = { λ _ t. IsFirstByte t.items };
-
-    ghost meaning = { λ _. byte_meaning };
+    ghost grammar = { λ _. record {
+      meaning = byte_meaning;
+      IsOutput = λ t. IsFirstByte t.items;
+    } };
 
     fn process<OM: OutputMode>(
         &mut self,

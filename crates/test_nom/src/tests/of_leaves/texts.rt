@@ -19,7 +19,7 @@ fn left_in<'a, OM: OutputMode, P: Parser<&'a str, Error = Fail<'a>> + Drop>(
     mut parser: P,
     input: &'a str,
 ) -> Option<(&'a str, bool)>
-    requires { (P.meaning (P.state parser)).IsSound }
+    requires { (P.grammar (P.state parser)).meaning.IsSound }
 {
     match parser.process::<OM>(input) {
         Ok((rest, output)) => Some((rest, output.is_some())),
@@ -51,7 +51,7 @@ fn gives<'a, P: Parser<&'a str, Output = String, Error = Fail<'a>> + Drop>(
     left: &str,
     text: &str,
 ) -> bool
-    requires { (P.meaning (P.state parser)).IsSound }
+    requires { (P.grammar (P.state parser)).meaning.IsSound }
 {
     is_text(parser.parse(input), left, text) && is_text(parser.parse_complete(input), left, text)
 }
@@ -100,7 +100,7 @@ fn answer_of<I: Input, P: Parser<I, Error = Error<I>>>(
     parser: &mut P,
     input: I,
 ) -> IResult<I, P::Output>
-    requires { (P.meaning (P.state parser.old)).IsSound }
+    requires { (P.grammar (P.state parser.old)).meaning.IsSound }
 {
     parser.parse(input)
 }
@@ -112,9 +112,9 @@ fn list_of<
     O: Drop,
     P: Parser<I, Output = O, Error = Error<I>> + Drop,
 >(alloc: A, one: P, other: P, end: P, input: I) -> IResult<I, (Vec<O, A>, O)>
-    requires one { (P.meaning (P.state one)).IsSound }
-    requires other { (P.meaning (P.state other)).IsSound }
-    requires end { (P.meaning (P.state end)).IsSound }
+    requires one { (P.grammar (P.state one)).meaning.IsSound }
+    requires other { (P.grammar (P.state other)).meaning.IsSound }
+    requires end { (P.grammar (P.state end)).meaning.IsSound }
 {
     let mut list = many0(alloc, alt((one, other))).and(end);
     answer_of(&mut list, input)
@@ -152,9 +152,10 @@ impl<'a> Parser<&'a str> for Two {
 
     ghost Tree = { Unit {0} };
 
-    ghost IsOutput = { λ _ _ n. n ≡ 2 };
-
-    ghost meaning = { λ _. success_meaning tt };
+    ghost grammar = { λ _. record {
+      meaning = success_meaning tt;
+      IsOutput = λ _ n. n ≡ 2;
+    } };
 
     fn process<OM: OutputMode>(&mut self, input: &'a str) -> PResult<&'a str, u8, Error<&'a str>> {
         input.prove_known();

@@ -69,8 +69,8 @@ fn either_of<
     O: PartialEq + Drop,
     P: Parser<I, Output = O, Error = Error<I>> + Drop,
 >(first: P, second: P, rows: &[Row<I, O>]) -> Option<usize>
-    requires first { (P.meaning (P.state first)).IsSound }
-    requires second { (P.meaning (P.state second)).IsSound }
+    requires first { (P.grammar (P.state first)).meaning.IsSound }
+    requires second { (P.grammar (P.state second)).meaning.IsSound }
 {
     wrong_row(first.or(second), rows)
 }
@@ -157,7 +157,7 @@ fn refusal_of<'a, P: Parser<&'a str, Output = &'a str, Error = Joined> + Drop>(
     mut parser: P,
     input: &'a str,
 ) -> Option<Joined>
-    requires { (P.meaning (P.state parser)).IsSound }
+    requires { (P.grammar (P.state parser)).meaning.IsSound }
 {
     match parser.parse_complete(input) {
         Err(Err::Error(found)) => Some(found),

@@ -58,9 +58,9 @@ fn mapped_of<
     P: StreamParser<I, Output = A, Error = Error<I>> + Drop,
     G: Fn(A) -> O + Drop,
 >(part: P, by: G, rows: &[Row<I, O>]) -> Option<usize>
-    requires part { (P.meaning (P.state part)).IsSound }
+    requires part { (P.grammar (P.state part)).meaning.IsSound }
     requires pins { P.Pins part }
-    requires takes { IsCallable (P.IsOutput (P.state part)) (G.pre by) }
+    requires takes { IsCallable (P.grammar (P.state part)).IsOutput (G.pre by) }
     requires alike { SeesAlike A.view O.view (G.post by) }
 {
     wrong_pinned_row(map(part, by), rows)
@@ -82,8 +82,8 @@ fn mapped_pair<
     P: StreamParser<I, Output = A, Error = Error<I>> + Drop,
     G: Fn((A, A)) -> O + Drop,
 >(first: P, second: P, by: G, rows: &[Row<I, O>]) -> Option<usize>
-    requires first { (P.meaning (P.state first)).IsSound }
-    requires second { (P.meaning (P.state second)).IsSound }
+    requires first { (P.grammar (P.state first)).meaning.IsSound }
+    requires second { (P.grammar (P.state second)).meaning.IsSound }
     requires pins { P.Pins first }
     requires second_pins { P.Pins second }
     requires takes { (o : A × A) → G.pre by o }
@@ -148,9 +148,9 @@ fn mapped_twice<
     F: Fn(A) -> B + Drop,
     G: Fn(B) -> O + Drop,
 >(part: P, first: F, second: G, rows: &[Row<I, O>]) -> Option<usize>
-    requires part { (P.meaning (P.state part)).IsSound }
+    requires part { (P.grammar (P.state part)).meaning.IsSound }
     requires pins { P.Pins part }
-    requires takes { IsCallable (P.IsOutput (P.state part)) (F.pre first) }
+    requires takes { IsCallable (P.grammar (P.state part)).IsOutput (F.pre first) }
     requires alike { SeesAlike A.view B.view (F.post first) }
     requires second_takes { (b : B) → G.pre second b }
     requires second_alike { SeesAlike B.view O.view (G.post second) }
@@ -216,12 +216,12 @@ fn judged_pair_of<
     F: Fn(A) -> Option<O> + Drop,
     G: Fn(A) -> Result<O, X> + Drop,
 >(a: P, first: F, b: P, second: G, rows: &[Row<I, (O, O)>]) -> Option<usize>
-    requires a { (P.meaning (P.state a)).IsSound }
-    requires b { (P.meaning (P.state b)).IsSound }
+    requires a { (P.grammar (P.state a)).meaning.IsSound }
+    requires b { (P.grammar (P.state b)).meaning.IsSound }
     requires a_pins { P.Pins a }
     requires b_pins { P.Pins b }
-    requires first { IsJudge (P.IsOutput (P.state a)) (F.pre first) (F.post first) is_some }
-    requires second { IsJudge (P.IsOutput (P.state b)) (G.pre second) (G.post second) is_ok }
+    requires first { IsJudge (P.grammar (P.state a)).IsOutput (F.pre first) (F.post first) is_some }
+    requires second { IsJudge (P.grammar (P.state b)).IsOutput (G.pre second) (G.post second) is_ok }
     requires first_alike { SeesAlike A.view O.view (λ v o. F.post first v (Some o)) }
     requires second_alike { SeesAlike A.view O.view (λ v o. G.post second v (Ok o)) }
 {
@@ -235,8 +235,8 @@ fn both_of<
     P: StreamParser<I, Output = O, Error = Error<I>> + Drop,
     Q: StreamParser<I, Output = O, Error = Error<I>> + Drop,
 >(first: P, second: Q, rows: &[Row<I, (O, O)>]) -> Option<usize>
-    requires first { (P.meaning (P.state first)).IsSound }
-    requires second { (Q.meaning (Q.state second)).IsSound }
+    requires first { (P.grammar (P.state first)).meaning.IsSound }
+    requires second { (Q.grammar (Q.state second)).meaning.IsSound }
     requires pins { P.Pins first }
     requires second_pins { Q.Pins second }
 {
@@ -286,7 +286,7 @@ fn answer_of<I: Input, P: Parser<I, Error = Error<I>>>(
     parser: &mut P,
     input: I,
 ) -> IResult<I, P::Output>
-    requires { (P.meaning (P.state parser.old)).IsSound }
+    requires { (P.grammar (P.state parser.old)).meaning.IsSound }
 {
     parser.parse(input)
 }
@@ -298,7 +298,7 @@ fn lists_of<I: Input, B: Drop, P: Parser<I, Output = B, Error = Error<I>> + Drop
     part: P,
     input: I,
 ) -> IResult<I, (Vec<u8>, Vec<u8>)>
-    requires part { (P.meaning (P.state part)).IsSound }
+    requires part { (P.grammar (P.state part)).meaning.IsSound }
 {
     let mut lists = success::<_, _, Error<I>>(first).and(value(second, part));
     answer_of(&mut lists, input)

@@ -84,7 +84,7 @@ fn told_of<'a, OM: OutputMode, P: Parser<&'a [u8], Output = Wide, Error = Why>>(
     parser: &mut P,
     input: &'a [u8],
 ) -> Told
-    requires { (P.meaning (P.state parser.old)).IsSound }
+    requires { (P.grammar (P.state parser.old)).meaning.IsSound }
     ensures { P.state parser.new ≡ P.state parser.old }
 {
     match parser.process::<OM>(input) {
@@ -101,7 +101,7 @@ fn is_told<'a, P: StreamParser<&'a [u8], Output = Wide, Error = Why> + Drop>(
     input: &'a [u8],
     wanted: Result<Wide, Why>,
 ) -> bool
-    requires sound { (P.meaning (P.state parser)).IsSound }
+    requires sound { (P.grammar (P.state parser)).meaning.IsSound }
     requires pins { P.Pins parser }
 {
     let (full, checked) = match wanted {

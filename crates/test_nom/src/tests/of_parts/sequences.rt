@@ -95,11 +95,11 @@ fn five_of<
     O: PartialEq + Drop,
     P: Parser<I, Output = O, Error = Error<I>> + Drop,
 >(a: P, b: P, c: P, d: P, e: P, rows: &[Row<I, (O, O, O, O, O)>]) -> Option<usize>
-    requires a { (P.meaning (P.state a)).IsSound }
-    requires b { (P.meaning (P.state b)).IsSound }
-    requires c { (P.meaning (P.state c)).IsSound }
-    requires d { (P.meaning (P.state d)).IsSound }
-    requires e { (P.meaning (P.state e)).IsSound }
+    requires a { (P.grammar (P.state a)).meaning.IsSound }
+    requires b { (P.grammar (P.state b)).meaning.IsSound }
+    requires c { (P.grammar (P.state c)).meaning.IsSound }
+    requires d { (P.grammar (P.state d)).meaning.IsSound }
+    requires e { (P.grammar (P.state e)).meaning.IsSound }
 {
     wrong_row((a, b, c, d, e), rows)
 }
@@ -117,12 +117,12 @@ fn six_of<
     O: PartialEq + Drop,
     P: Parser<I, Output = O, Error = Error<I>> + Drop,
 >(a: P, b: P, c: P, d: P, e: P, f: P, rows: &[Row<I, (O, O, O, O, O, O)>]) -> Option<usize>
-    requires a { (P.meaning (P.state a)).IsSound }
-    requires b { (P.meaning (P.state b)).IsSound }
-    requires c { (P.meaning (P.state c)).IsSound }
-    requires d { (P.meaning (P.state d)).IsSound }
-    requires e { (P.meaning (P.state e)).IsSound }
-    requires f { (P.meaning (P.state f)).IsSound }
+    requires a { (P.grammar (P.state a)).meaning.IsSound }
+    requires b { (P.grammar (P.state b)).meaning.IsSound }
+    requires c { (P.grammar (P.state c)).meaning.IsSound }
+    requires d { (P.grammar (P.state d)).meaning.IsSound }
+    requires e { (P.grammar (P.state e)).meaning.IsSound }
+    requires f { (P.grammar (P.state f)).meaning.IsSound }
 {
     wrong_row((a, b, c, d, e, f), rows)
 }
@@ -140,13 +140,13 @@ fn seven_of<
     O: PartialEq + Drop,
     P: Parser<I, Output = O, Error = Error<I>> + Drop,
 >(a: P, b: P, c: P, d: P, e: P, f: P, g: P, rows: &[Row<I, (O, O, O, O, O, O, O)>]) -> Option<usize>
-    requires a { (P.meaning (P.state a)).IsSound }
-    requires b { (P.meaning (P.state b)).IsSound }
-    requires c { (P.meaning (P.state c)).IsSound }
-    requires d { (P.meaning (P.state d)).IsSound }
-    requires e { (P.meaning (P.state e)).IsSound }
-    requires f { (P.meaning (P.state f)).IsSound }
-    requires g { (P.meaning (P.state g)).IsSound }
+    requires a { (P.grammar (P.state a)).meaning.IsSound }
+    requires b { (P.grammar (P.state b)).meaning.IsSound }
+    requires c { (P.grammar (P.state c)).meaning.IsSound }
+    requires d { (P.grammar (P.state d)).meaning.IsSound }
+    requires e { (P.grammar (P.state e)).meaning.IsSound }
+    requires f { (P.grammar (P.state f)).meaning.IsSound }
+    requires g { (P.grammar (P.state g)).meaning.IsSound }
 {
     wrong_row((a, b, c, d, e, f, g), rows)
 }
@@ -191,14 +191,14 @@ fn eight_of<
     h: P,
     rows: &[Row<I, (O, O, O, O, O, O, O, O)>],
 ) -> Option<usize>
-    requires a { (P.meaning (P.state a)).IsSound }
-    requires b { (P.meaning (P.state b)).IsSound }
-    requires c { (P.meaning (P.state c)).IsSound }
-    requires d { (P.meaning (P.state d)).IsSound }
-    requires e { (P.meaning (P.state e)).IsSound }
-    requires f { (P.meaning (P.state f)).IsSound }
-    requires g { (P.meaning (P.state g)).IsSound }
-    requires h { (P.meaning (P.state h)).IsSound }
+    requires a { (P.grammar (P.state a)).meaning.IsSound }
+    requires b { (P.grammar (P.state b)).meaning.IsSound }
+    requires c { (P.grammar (P.state c)).meaning.IsSound }
+    requires d { (P.grammar (P.state d)).meaning.IsSound }
+    requires e { (P.grammar (P.state e)).meaning.IsSound }
+    requires f { (P.grammar (P.state f)).meaning.IsSound }
+    requires g { (P.grammar (P.state g)).meaning.IsSound }
+    requires h { (P.grammar (P.state h)).meaning.IsSound }
 {
     wrong_row((a, b, c, d, e, f, g, h), rows)
 }

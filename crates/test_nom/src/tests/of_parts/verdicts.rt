@@ -24,7 +24,7 @@ fn whole_of<
     O: Drop,
     P: Parser<I, Output = O, Error = Error<I>> + Drop,
 >(part: P, rows: &[Row<I, I>]) -> Option<usize>
-    requires part { (P.meaning (P.state part)).IsSound }
+    requires part { (P.grammar (P.state part)).meaning.IsSound }
 {
     wrong_row(all_consuming(context("letter", recognize(part))), rows)
 }
@@ -46,8 +46,8 @@ fn ahead_of<
     O: PartialEq + Drop,
     P: Parser<I, Output = O, Error = Error<I>> + Drop,
 >(first: P, second: P, rows: &[Row<I, (O, (I, O))>]) -> Option<usize>
-    requires first { (P.meaning (P.state first)).IsSound }
-    requires second { (P.meaning (P.state second)).IsSound }
+    requires first { (P.grammar (P.state first)).meaning.IsSound }
+    requires second { (P.grammar (P.state second)).meaning.IsSound }
 {
     wrong_row(pair(peek(first), consumed(second)), rows)
 }
@@ -67,8 +67,8 @@ fn absent_of<
     O: PartialEq + Drop,
     P: Parser<I, Output = O, Error = Error<I>> + Drop,
 >(first: P, second: P, rows: &[Row<I, (Option<O>, ())>]) -> Option<usize>
-    requires first { (P.meaning (P.state first)).IsSound }
-    requires second { (P.meaning (P.state second)).IsSound }
+    requires first { (P.grammar (P.state first)).meaning.IsSound }
+    requires second { (P.grammar (P.state second)).meaning.IsSound }
 {
     wrong_row(pair(opt(first), not(second)), rows)
 }
@@ -91,7 +91,7 @@ fn final_of<
     O: PartialEq + Drop,
     P: Parser<I, Output = O, Error = Error<I>> + Drop,
 >(part: P, rows: &[Row<I, Option<O>>]) -> Option<usize>
-    requires part { (P.meaning (P.state part)).IsSound }
+    requires part { (P.grammar (P.state part)).meaning.IsSound }
 {
     wrong_row(opt(cut(part)), rows)
 }
@@ -114,7 +114,7 @@ fn complete_of<
     O: PartialEq + Drop,
     P: Parser<I, Output = O, Error = Error<I>> + Drop,
 >(part: P, rows: &[Row<I, O>]) -> Option<usize>
-    requires part { (P.meaning (P.state part)).IsSound }
+    requires part { (P.grammar (P.state part)).meaning.IsSound }
 {
     wrong_row(complete(part), rows)
 }

@@ -42,7 +42,7 @@ fn refusals<'a, P: Parser<&'a [u8], Error = Bad<'a>> + Drop>(
     mut parser: P,
     input: &'a [u8],
 ) -> (Option<Bad<'a>>, bool)
-    requires { (P.meaning (P.state parser)).IsSound }
+    requires { (P.grammar (P.state parser)).meaning.IsSound }
 {
     let full = match parser.parse(input) {
         Err(Err::Error(error)) => Some(error),
@@ -118,7 +118,7 @@ fn thrice<'a, P: StreamParser<&'a [u8]> + Drop>(
     IResult<&'a [u8], P::Output, P::Error>,
     Grown<&'a [u8], P::Output, P::Error>,
 )
-    requires { (P.Parser.meaning (P.Parser.state parser)).IsSound }
+    requires { (P.Parser.grammar (P.Parser.state parser)).meaning.IsSound }
 {
     let one = parser.parse_complete(first);
     let two = parser.parse_complete(second);

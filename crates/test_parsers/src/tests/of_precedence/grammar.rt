@@ -65,7 +65,7 @@ fn in_both<I, P>(mut parser: P, input: I) -> Both
 where
     I: Input,
     P: Parser<I, Output = i64, Error: Tells> + Drop,
-    requires { (P.meaning (P.state parser)).IsSound }
+    requires { (P.grammar (P.state parser)).meaning.IsSound }
 {
     Both {
         streaming: in_modes::<Streaming, _, _>(&mut parser, input),
@@ -80,7 +80,7 @@ where
     A: Allocator + Copy,
     E: ParseError<I> + Tells,
     F: Parser<I, Output = i64, Error = E> + Drop,
-    requires { (F.meaning (F.state operand)).IsSound }
+    requires { (F.grammar (F.state operand)).meaning.IsSound }
 {
     let levels = levels(last);
     let operator = alt([char('^'), char('*'), char('-'), char('?')]).map(leveled);
@@ -134,7 +134,7 @@ where
     A: Allocator + Copy,
     E: ParseError<I> + Tells,
     F: Parser<I, Output = i64, Error = E> + Drop,
-    requires { (F.meaning (F.state inner)).IsSound }
+    requires { (F.grammar (F.state inner)).meaning.IsSound }
 {
     let digit = one_of("0123456789").map(digit);
     let operand = alt((digit, delimited(char('('), inner, char(')'))));
@@ -148,9 +148,9 @@ where
     P: Parser<I, Output = char, Error = Error<I>> + Drop,
     F: Parser<I, Output = i64, Error = Error<I>> + Drop,
     Q: Parser<I, Output = char, Error = Error<I>> + Drop,
-    requires prefix { (P.meaning (P.state prefix)).IsSound }
-    requires operand { (F.meaning (F.state operand)).IsSound }
-    requires postfix { (Q.meaning (Q.state postfix)).IsSound }
+    requires prefix { (P.grammar (P.state prefix)).meaning.IsSound }
+    requires operand { (F.grammar (F.state operand)).meaning.IsSound }
+    requires postfix { (Q.grammar (Q.state postfix)).meaning.IsSound }
 {
     let levels = [Assoc::Left];
     let operator = success((0usize, '-'));

@@ -19,7 +19,7 @@ fn grown_of<I: Input, P: StreamParser<I> + Drop>(
     input: I,
     cuts: &[usize],
 ) -> Grown<I, P::Output, P::Error>
-    requires sound { (P.meaning (P.state parser)).IsSound }
+    requires sound { (P.grammar (P.state parser)).meaning.IsSound }
     requires cuts { AreCuts I.model input cuts.now }
 {
     parse_growing(parser, input, cuts)

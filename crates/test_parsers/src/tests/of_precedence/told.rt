@@ -106,7 +106,7 @@ where
     S: IsStreaming,
     I: Input,
     P: Parser<I, Output = i64, Error: Tells>,
-    requires { (P.meaning (P.state parser.old)).IsSound }
+    requires { (P.grammar (P.state parser.old)).meaning.IsSound }
     ensures { P.state parser.new ≡ P.state parser.old }
 {
     [

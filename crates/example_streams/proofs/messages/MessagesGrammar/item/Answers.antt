@@ -14,5 +14,5 @@ returns-clause-parses c =
     (ap (λ p. p.first.tag.now) c.map-2.ensures.parser ∙ (ap (λ p. p.tag.now) c.preceded-string.ensures.first ∙ ap (λ t. t.now) c.tag-2.ensures)) in
     let close = ap (λ l. l.second.parser.tag.now) list ∙ (ap (λ p. p.tag.now) c.map-3.ensures.parser ∙ ap (λ t. t.now) c.tag-leave.ensures) in
     let length = ap (λ p. p.endian) c.length_value.ensures.length ∙ c.be_u16.ensures in
-    message_by_parts (λ h. ParsesItem h.IsOutput h.meaning c.args.more c.args.input c.parse_item.result) _ _ _ _ _ ping text close length number
+    message_by_parts (λ h. ParsesItem h c.args.more c.args.input c.parse_item.result) _ _ _ _ _ ping text close length number
     c.parse_item.ensures.parses

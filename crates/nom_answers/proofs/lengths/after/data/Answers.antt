@@ -6,6 +6,6 @@ use Rattle.nom_answers.proofs.lengths.after.data.Goals as goal
 pub ask-requires : goal.ask-requires
 ask-requires g c =
     let e = c.length_data.ensures in (
-      subst (λ x. (g.L.Parser.meaning (g.L.Parser.state x)).IsSound) (sym e) c.requires.length,
-      (tt, subst (λ x. IsOne (HasSize (g.L.Parser.IsOutput (g.L.Parser.state x)) g.L.Output.ToUsize.size)) (sym e) c.requires.one),
+      subst (λ x. (g.L.Parser.grammar (g.L.Parser.state x)).meaning.IsSound) (sym e) c.requires.length,
+      (tt, subst (λ x. IsOne (HasSize (g.L.Parser.grammar (g.L.Parser.state x)).IsOutput g.L.Output.ToUsize.size)) (sym e) c.requires.one),
     )

@@ -5,18 +5,18 @@ use Rattle.nom_answers.proofs.lengths.after.parsed.Goals as goal
 
 pub ask-requires : goal.ask-requires
 ask-requires g c = (
-  subst (λ x. (g.L.Parser.meaning (g.L.Parser.state x)).IsSound) (sym c.length_value.ensures.length) c.requires.length,
+  subst (λ x. (g.L.Parser.grammar (g.L.Parser.state x)).meaning.IsSound) (sym c.length_value.ensures.length) c.requires.length,
   (
-    subst (λ x. (g.P.Parser.meaning (g.P.Parser.state x)).IsSound) (sym c.length_value.ensures.parser) c.requires.part,
-    subst (λ x. IsOne (HasSize (g.L.Parser.IsOutput (g.L.Parser.state x)) g.L.Output.ToUsize.size)) (sym c.length_value.ensures.length) c.requires.one,
+    subst (λ x. (g.P.Parser.grammar (g.P.Parser.state x)).meaning.IsSound) (sym c.length_value.ensures.parser) c.requires.part,
+    subst (λ x. IsOne (HasSize (g.L.Parser.grammar (g.L.Parser.state x)).IsOutput g.L.Output.ToUsize.size)) (sym c.length_value.ensures.length) c.requires.one,
   ),
 )
 
 pub ask-requires-in_default : goal.ask-requires-in_default
 ask-requires-in_default g c = (
-  subst (λ x. (g.L.Parser.meaning (g.L.Parser.state x)).IsSound) (sym c.length_count.ensures.length) c.requires.length,
+  subst (λ x. (g.L.Parser.grammar (g.L.Parser.state x)).meaning.IsSound) (sym c.length_count.ensures.length) c.requires.length,
   (
-    subst (λ x. (g.P.Parser.meaning (g.P.Parser.state x)).IsSound) (sym c.length_count.ensures.parser) c.requires.part,
-    subst (λ x. IsOne (HasSize (g.L.Parser.IsOutput (g.L.Parser.state x)) g.L.Output.ToUsize.size)) (sym c.length_count.ensures.length) c.requires.one,
+    subst (λ x. (g.P.Parser.grammar (g.P.Parser.state x)).meaning.IsSound) (sym c.length_count.ensures.parser) c.requires.part,
+    subst (λ x. IsOne (HasSize (g.L.Parser.grammar (g.L.Parser.state x)).IsOutput g.L.Output.ToUsize.size)) (sym c.length_count.ensures.length) c.requires.one,
   ),
 )

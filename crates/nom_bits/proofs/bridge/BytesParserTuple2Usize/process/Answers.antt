@@ -3,10 +3,10 @@ use Rattle.nom_bits.proofs.bridge.BytesParserTuple2Usize.process.Goals as goal
 
 pub returns-in-Ok-clause-shown : goal.returns-in-Ok-clause-shown
 returns-in-Ok-clause-shown g c =
-    bytes_ok g.I.Items.model _ g.E.ParseError.errors g.P.Error.ErrorConvert.converts (g.P.Parser.meaning (g.P.Parser.state c.args.self.now.parser)) _
+    bytes_ok g.I.Items.model _ g.E.ParseError.errors g.P.Error.ErrorConvert.converts (g.P.Parser.grammar (g.P.Parser.state c.args.self.now.parser)).meaning _
     c.args.input _ c.whole_byte.ensures g.met.I.Items.lawful g.met.I.Items.values _ _ c.in-Ok.ensures.shown
 
 pub returns-in-Err-clause-shown : goal.returns-in-Err-clause-shown
 returns-in-Err-clause-shown g c =
-    bytes_err g.I.Items.model _ g.E.ParseError.errors g.P.Error.ErrorConvert.converts (g.P.Parser.meaning (g.P.Parser.state c.args.self.now.parser)) _
+    bytes_err g.I.Items.model _ g.E.ParseError.errors g.P.Error.ErrorConvert.converts (g.P.Parser.grammar (g.P.Parser.state c.args.self.now.parser)).meaning _
     c.args.input _ c.whole_byte.ensures _ _ c.in-Err.ensures.shown c.in_bits.ensures

@@ -11,9 +11,9 @@ returns-clause-shown g c =
     let i = c.args.input in
     let s = g.F.Parser.state c.args.self.now.first in
     let t = g.G.Parser.state c.args.self.now.second in
-    let m = g.F.Parser.meaning s in
-    let n = g.G.Parser.meaning t in
-    let either = next_shown w (g.F.Parser.IsOutput s) (g.G.Parser.IsOutput t) e m n mode i c.process-answer.result c.next_branch-answer.result
+    let m = (g.F.Parser.grammar s).meaning in
+    let n = (g.G.Parser.grammar t).meaning in
+    let either = next_shown w (g.F.Parser.grammar s).IsOutput (g.G.Parser.grammar t).IsOutput e m n mode i c.process-answer.result c.next_branch-answer.result
     c.process-answer.ensures.shown c.next_branch-answer.ensures.shown in
-    choice_shown w (EitherOutput (g.F.Parser.IsOutput s) (g.G.Parser.IsOutput t)) e (next_meaning e m n) mode i c.next_branch-answer.result
+    choice_shown w (EitherOutput (g.F.Parser.grammar s).IsOutput (g.G.Parser.grammar t).IsOutput) e (next_meaning e m n) mode i c.next_branch-answer.result
     c.close.result either c.close.ensures

@@ -20,10 +20,10 @@ returns-in_err-next-clause-shown g c =
     let inv = c.loop-next.invariant in
     let normal = g.F.Parser.state c.args.self.now.normal in
     let escapable = g.G.Parser.state c.args.self.now.escapable in
-    let part = same_next_piece _ g.F.Parser.IsOutput g.G.Parser.IsOutput _ (λ y x. g.I.Item.Value.code x ≡ y) g.F.Parser.meaning g.G.Parser.meaning _ _ _
+    let part = same_next_piece _ g.F.Parser.grammar g.G.Parser.grammar _ (λ y x. g.I.Item.Value.code x ≡ y) _ _ _
     normal _ _ _ escapable _ _ inv.normal_kept inv.control_kept inv.escapable_kept inv.lack_is c.in_err-next.ensures.shown in
     escaped_passed _ g.met.I.Items.lawful g.F.Error.ParseError.errors (λ x. g.I.Item.Value.code x ≡ c.args.self.now.control_char)
-    (g.F.Parser.meaning normal) (g.G.Parser.meaning escapable) (g.F.Parser.IsOutput normal) (g.G.Parser.IsOutput escapable)
+    (g.F.Parser.grammar normal).meaning (g.G.Parser.grammar escapable).meaning (g.F.Parser.grammar normal).IsOutput (g.G.Parser.grammar escapable).IsOutput
     (modes g.OM.Output.Mode.BUILDS _ _) _ _ inv.collected _ _ part (err_from_residual c.from_residual.ensures)
 
 pub returns-then-input_len-clause-shown : goal.returns-then-input_len-clause-shown
@@ -31,10 +31,10 @@ returns-then-input_len-clause-shown g c =
     let inv = c.loop-next.invariant in
     let normal = g.F.Parser.state c.args.self.now.normal in
     let escapable = g.G.Parser.state c.args.self.now.escapable in
-    let part = same_next_piece _ g.F.Parser.IsOutput g.G.Parser.IsOutput _ (λ y x. g.I.Item.Value.code x ≡ y) g.F.Parser.meaning g.G.Parser.meaning _ _ _
+    let part = same_next_piece _ g.F.Parser.grammar g.G.Parser.grammar _ (λ y x. g.I.Item.Value.code x ≡ y) _ _ _
     normal _ _ _ escapable _ _ inv.normal_kept inv.control_kept inv.escapable_kept inv.lack_is c.in_ok-next.ensures.shown in
     escaped_empty _ g.met.I.Items.lawful g.F.Error.ParseError.errors (λ x. g.I.Item.Value.code x ≡ c.args.self.now.control_char)
-    (g.F.Parser.meaning normal) (g.G.Parser.meaning escapable) (g.F.Parser.IsOutput normal) (g.G.Parser.IsOutput escapable)
+    (g.F.Parser.grammar normal).meaning (g.G.Parser.grammar escapable).meaning (g.F.Parser.grammar normal).IsOutput (g.G.Parser.grammar escapable).IsOutput
     (modes g.OM.Output.Mode.BUILDS _ _) _ _ inv.collected _ _ _ c.emitted.ensures part _ c.in-Found.is _ _ c.input_len.ensures
     c.input_len-in-Found.ensures c.if-input_len.true _ c.before-then-input_len.ensures
 
@@ -43,10 +43,10 @@ returns-then-input_len-2-clause-shown g c =
     let inv = c.loop-next.invariant in
     let normal = g.F.Parser.state c.args.self.now.normal in
     let escapable = g.G.Parser.state c.args.self.now.escapable in
-    let part = same_next_piece _ g.F.Parser.IsOutput g.G.Parser.IsOutput _ (λ y x. g.I.Item.Value.code x ≡ y) g.F.Parser.meaning g.G.Parser.meaning _ _ _
+    let part = same_next_piece _ g.F.Parser.grammar g.G.Parser.grammar _ (λ y x. g.I.Item.Value.code x ≡ y) _ _ _
     normal _ _ _ escapable _ _ inv.normal_kept inv.control_kept inv.escapable_kept inv.lack_is c.in_ok-next.ensures.shown in
     escaped_none _ g.met.I.Items.lawful g.F.Error.ParseError.errors (λ x. g.I.Item.Value.code x ≡ c.args.self.now.control_char)
-    (g.F.Parser.meaning normal) (g.G.Parser.meaning escapable) (g.F.Parser.IsOutput normal) (g.G.Parser.IsOutput escapable)
+    (g.F.Parser.grammar normal).meaning (g.G.Parser.grammar escapable).meaning (g.F.Parser.grammar normal).IsOutput (g.G.Parser.grammar escapable).IsOutput
     (modes g.OM.Output.Mode.BUILDS _ _) _ _ inv.collected _ _ _ c.emitted.ensures part c.in-Other.is _ _ c.input_len-in-Other.ensures
     c.input_len-in-Other-2.ensures c.if-input_len-2.true _ c.refusal.ensures
 
@@ -55,10 +55,10 @@ returns-in-Other-clause-shown g c =
     let inv = c.loop-next.invariant in
     let normal = g.F.Parser.state c.args.self.now.normal in
     let escapable = g.G.Parser.state c.args.self.now.escapable in
-    let part = same_next_piece _ g.F.Parser.IsOutput g.G.Parser.IsOutput _ (λ y x. g.I.Item.Value.code x ≡ y) g.F.Parser.meaning g.G.Parser.meaning _ _ _
+    let part = same_next_piece _ g.F.Parser.grammar g.G.Parser.grammar _ (λ y x. g.I.Item.Value.code x ≡ y) _ _ _
     normal _ _ _ escapable _ _ inv.normal_kept inv.control_kept inv.escapable_kept inv.lack_is c.in_ok-next.ensures.shown in
     escaped_other _ g.met.I.Items.lawful g.F.Error.ParseError.errors (λ x. g.I.Item.Value.code x ≡ c.args.self.now.control_char)
-    (g.F.Parser.meaning normal) (g.G.Parser.meaning escapable) (g.F.Parser.IsOutput normal) (g.G.Parser.IsOutput escapable)
+    (g.F.Parser.grammar normal).meaning (g.G.Parser.grammar escapable).meaning (g.F.Parser.grammar normal).IsOutput (g.G.Parser.grammar escapable).IsOutput
     (modes g.OM.Output.Mode.BUILDS _ _) _ _ inv.collected _ _ _ c.emitted.ensures part c.in-Other.is _ _ c.input_len-in-Other.ensures
     c.input_len-in-Other-2.ensures c.if-input_len-2.false _ c.before-in-Other.ensures
 
@@ -67,10 +67,10 @@ returns-in-Dangling-clause-shown g c =
     let inv = c.loop-next.invariant in
     let normal = g.F.Parser.state c.args.self.now.normal in
     let escapable = g.G.Parser.state c.args.self.now.escapable in
-    let part = same_next_piece _ g.F.Parser.IsOutput g.G.Parser.IsOutput _ (λ y x. g.I.Item.Value.code x ≡ y) g.F.Parser.meaning g.G.Parser.meaning _ _ _
+    let part = same_next_piece _ g.F.Parser.grammar g.G.Parser.grammar _ (λ y x. g.I.Item.Value.code x ≡ y) _ _ _
     normal _ _ _ escapable _ _ inv.normal_kept inv.control_kept inv.escapable_kept inv.lack_is c.in_ok-next.ensures.shown in
     escaped_dangling _ g.met.I.Items.lawful g.F.Error.ParseError.errors (λ x. g.I.Item.Value.code x ≡ c.args.self.now.control_char)
-    (g.F.Parser.meaning normal) (g.G.Parser.meaning escapable) (g.F.Parser.IsOutput normal) (g.G.Parser.IsOutput escapable)
+    (g.F.Parser.grammar normal).meaning (g.G.Parser.grammar escapable).meaning (g.F.Parser.grammar normal).IsOutput (g.G.Parser.grammar escapable).IsOutput
     (modes g.OM.Output.Mode.BUILDS _ _) _ _ inv.collected _ _ _ c.emitted.ensures part c.in-Dangling.is _ c.refusal-in-Dangling.ensures
 
 pub returns-in-Done-clause-shown : goal.returns-in-Done-clause-shown
@@ -78,10 +78,10 @@ returns-in-Done-clause-shown g c =
     let inv = c.loop-next.invariant in
     let normal = g.F.Parser.state c.args.self.now.normal in
     let escapable = g.G.Parser.state c.args.self.now.escapable in
-    let part = same_next_piece _ g.F.Parser.IsOutput g.G.Parser.IsOutput _ (λ y x. g.I.Item.Value.code x ≡ y) g.F.Parser.meaning g.G.Parser.meaning _ _ _
+    let part = same_next_piece _ g.F.Parser.grammar g.G.Parser.grammar _ (λ y x. g.I.Item.Value.code x ≡ y) _ _ _
     normal _ _ _ escapable _ _ inv.normal_kept inv.control_kept inv.escapable_kept inv.lack_is c.in_ok-next.ensures.shown in
     escaped_done _ g.met.I.Items.lawful g.F.Error.ParseError.errors (λ x. g.I.Item.Value.code x ≡ c.args.self.now.control_char)
-    (g.F.Parser.meaning normal) (g.G.Parser.meaning escapable) (g.F.Parser.IsOutput normal) (g.G.Parser.IsOutput escapable)
+    (g.F.Parser.grammar normal).meaning (g.G.Parser.grammar escapable).meaning (g.F.Parser.grammar normal).IsOutput (g.G.Parser.grammar escapable).IsOutput
     (modes g.OM.Output.Mode.BUILDS _ _) _ _ inv.collected _ _ _ c.emitted.ensures part c.in-Done.is _ c.before-in-Done.ensures
 
 pub loop-next-smaller-else-input_len-2 : goal.loop-next-smaller-else-input_len-2
@@ -94,7 +94,7 @@ loop-next-preserved-else-input_len-2 g c =
     let inv = c.loop-next.invariant in
     let normal = g.F.Parser.state c.args.self.now.normal in
     let escapable = g.G.Parser.state c.args.self.now.escapable in
-    let part = same_next_piece _ g.F.Parser.IsOutput g.G.Parser.IsOutput _ (λ y x. g.I.Item.Value.code x ≡ y) g.F.Parser.meaning g.G.Parser.meaning _ _ _
+    let part = same_next_piece _ g.F.Parser.grammar g.G.Parser.grammar _ (λ y x. g.I.Item.Value.code x ≡ y) _ _ _
     normal _ _ _ escapable _ _ inv.normal_kept inv.control_kept inv.escapable_kept inv.lack_is c.in_ok-next.ensures.shown in
     record {
       normal_kept = c.in_ok-next.ensures.normal_kept ∙ inv.normal_kept;
@@ -102,7 +102,8 @@ loop-next-preserved-else-input_len-2 g c =
       escapable_kept = c.in_ok-next.ensures.escapable_kept ∙ inv.escapable_kept;
       lack_is = inv.lack_is;
       collected = escaped_more _ g.met.I.Items.lawful g.F.Error.ParseError.errors (λ x. g.I.Item.Value.code x ≡ c.args.self.now.control_char)
-          (g.F.Parser.meaning normal) (g.G.Parser.meaning escapable) (g.F.Parser.IsOutput normal) (g.G.Parser.IsOutput escapable)
+          (g.F.Parser.grammar normal).meaning (g.G.Parser.grammar escapable).meaning (g.F.Parser.grammar normal).IsOutput
+          (g.G.Parser.grammar escapable).IsOutput
           (modes g.OM.Output.Mode.BUILDS _ _) _ _ inv.collected _ _ _ c.emitted.ensures part _ c.in-Found.is _ _ c.input_len.ensures
           c.input_len-in-Found.ensures c.if-input_len.false;
     }
@@ -117,7 +118,7 @@ loop-next-preserved-else-input_len-4 g c =
     let inv = c.loop-next.invariant in
     let normal = g.F.Parser.state c.args.self.now.normal in
     let escapable = g.G.Parser.state c.args.self.now.escapable in
-    let part = same_next_piece _ g.F.Parser.IsOutput g.G.Parser.IsOutput _ (λ y x. g.I.Item.Value.code x ≡ y) g.F.Parser.meaning g.G.Parser.meaning _ _ _
+    let part = same_next_piece _ g.F.Parser.grammar g.G.Parser.grammar _ (λ y x. g.I.Item.Value.code x ≡ y) _ _ _
     normal _ _ _ escapable _ _ inv.normal_kept inv.control_kept inv.escapable_kept inv.lack_is c.in_ok-next.ensures.shown in
     record {
       normal_kept = c.in_ok-next.ensures.normal_kept ∙ inv.normal_kept;
@@ -125,7 +126,8 @@ loop-next-preserved-else-input_len-4 g c =
       escapable_kept = c.in_ok-next.ensures.escapable_kept ∙ inv.escapable_kept;
       lack_is = inv.lack_is;
       collected = escaped_more _ g.met.I.Items.lawful g.F.Error.ParseError.errors (λ x. g.I.Item.Value.code x ≡ c.args.self.now.control_char)
-          (g.F.Parser.meaning normal) (g.G.Parser.meaning escapable) (g.F.Parser.IsOutput normal) (g.G.Parser.IsOutput escapable)
+          (g.F.Parser.grammar normal).meaning (g.G.Parser.grammar escapable).meaning (g.F.Parser.grammar normal).IsOutput
+          (g.G.Parser.grammar escapable).IsOutput
           (modes g.OM.Output.Mode.BUILDS _ _) _ _ inv.collected _ _ _ c.emitted.ensures part _ c.in-Found.is _ _ c.input_len.ensures
           c.input_len-in-Found.ensures c.if-input_len.false;
     }

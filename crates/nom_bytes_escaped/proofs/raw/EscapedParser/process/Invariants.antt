@@ -16,8 +16,8 @@ invariant-loop-next g l = record {
   collected : Collected g.I.Items.model
       (TurnsBy None escape_turn (λ _.
       (next_piece_meaning g.I.Items.model (λ x. g.I.Item.Value.code x ≡ l.fn.self.control_char) (Some 1)
-      (g.F.Parser.meaning (g.F.Parser.state l.fn.self.normal))
-      (g.G.Parser.meaning (g.G.Parser.state l.fn.self.escapable))).answers g.OM.Incomplete.IsStreaming.STREAMING)) AnyPieces l.fn.input l.rest;
+      (g.F.Parser.grammar (g.F.Parser.state l.fn.self.normal)).meaning
+      (g.G.Parser.grammar (g.G.Parser.state l.fn.self.escapable)).meaning).answers g.OM.Incomplete.IsStreaming.STREAMING)) AnyPieces l.fn.input l.rest;
 }
 
 abbrev pub decreases-loop-next : goal.decreases-loop-next

@@ -20,11 +20,11 @@ returns-in_err-next-clause-shown g c =
     let inv = c.loop-text.invariant in
     let normal = g.F.Parser.state c.args.self.now.normal in
     let escapable = g.G.Parser.state c.args.self.now.transform in
-    let part = same_next_piece _ g.F.Parser.IsOutput g.G.Parser.IsOutput _ (λ y x. g.C.Value.code x ≡ y) g.F.Parser.meaning g.G.Parser.meaning _ _ _ normal _
+    let part = same_next_piece _ g.F.Parser.grammar g.G.Parser.grammar _ (λ y x. g.C.Value.code x ≡ y) _ _ _ normal _
     _ _ escapable None None inv.normal_kept inv.control_kept inv.transform_kept refl c.in_err-next.ensures.shown in
     transform_passed _ g.met.I.Items.lawful g.F.Error.ParseError.errors (λ x. g.C.Value.code x ≡ c.args.self.now.control_char)
-    (g.F.Parser.meaning normal) (g.G.Parser.meaning escapable) (g.F.Parser.IsOutput normal)
-    (g.G.Parser.IsOutput escapable) g.F.Output.ExtendInto.added g.G.Output.ExtendInto.added g.X.Builder.parts (modes _ g.OM.Error.Mode.BUILDS _) _ _ _
+    (g.F.Parser.grammar normal).meaning (g.G.Parser.grammar escapable).meaning (g.F.Parser.grammar normal).IsOutput
+    (g.G.Parser.grammar escapable).IsOutput g.F.Output.ExtendInto.added g.G.Output.ExtendInto.added g.X.Builder.parts (modes _ g.OM.Error.Mode.BUILDS _) _ _ _
     inv.collected _ _ part (err_from_residual c.from_residual.ensures)
 
 pub returns-in_err-extend-in-Found-clause-shown : goal.returns-in_err-extend-in-Found-clause-shown
@@ -32,12 +32,12 @@ returns-in_err-extend-in-Found-clause-shown g c =
     let inv = c.loop-text.invariant in
     let normal = g.F.Parser.state c.args.self.now.normal in
     let escapable = g.G.Parser.state c.args.self.now.transform in
-    let part = same_next_piece _ g.F.Parser.IsOutput g.G.Parser.IsOutput _ (λ y x. g.C.Value.code x ≡ y) g.F.Parser.meaning g.G.Parser.meaning _ _ _ normal _
+    let part = same_next_piece _ g.F.Parser.grammar g.G.Parser.grammar _ (λ y x. g.C.Value.code x ≡ y) _ _ _ normal _
     _ _ escapable None None inv.normal_kept inv.control_kept inv.transform_kept refl c.in_ok-next.ensures.shown in
     rw (err_from_residual c.from_residual-in_err-extend-in-Found.ensures) (
-    transform_full _ g.met.I.Items.lawful g.F.Error.ParseError.errors (λ x. g.C.Value.code x ≡ c.args.self.now.control_char) (g.F.Parser.meaning normal)
-    (g.G.Parser.meaning escapable) (g.F.Parser.IsOutput normal)
-    (g.G.Parser.IsOutput escapable) g.F.Output.ExtendInto.added g.G.Output.ExtendInto.added g.X.Builder.parts (modes _ g.OM.Error.Mode.BUILDS _) _ _ _
+    transform_full _ g.met.I.Items.lawful g.F.Error.ParseError.errors (λ x. g.C.Value.code x ≡ c.args.self.now.control_char) (g.F.Parser.grammar normal).meaning
+    (g.G.Parser.grammar escapable).meaning (g.F.Parser.grammar normal).IsOutput
+    (g.G.Parser.grammar escapable).IsOutput g.F.Output.ExtendInto.added g.G.Output.ExtendInto.added g.X.Builder.parts (modes _ g.OM.Error.Mode.BUILDS _) _ _ _
     inv.collected _ _ _ c.emitted.ensures part _ c.in-Found.is c.extend.new.text c.in_err-extend-in-Found.ensures.refused)
 
 pub returns-then-input_len-clause-shown : goal.returns-then-input_len-clause-shown
@@ -45,11 +45,11 @@ returns-then-input_len-clause-shown g c =
     let inv = c.loop-text.invariant in
     let normal = g.F.Parser.state c.args.self.now.normal in
     let escapable = g.G.Parser.state c.args.self.now.transform in
-    let part = same_next_piece _ g.F.Parser.IsOutput g.G.Parser.IsOutput _ (λ y x. g.C.Value.code x ≡ y) g.F.Parser.meaning g.G.Parser.meaning _ _ _ normal _
+    let part = same_next_piece _ g.F.Parser.grammar g.G.Parser.grammar _ (λ y x. g.C.Value.code x ≡ y) _ _ _ normal _
     _ _ escapable None None inv.normal_kept inv.control_kept inv.transform_kept refl c.in_ok-next.ensures.shown in
     transform_empty _ g.met.I.Items.lawful g.F.Error.ParseError.errors (λ x. g.C.Value.code x ≡ c.args.self.now.control_char)
-    (g.F.Parser.meaning normal) (g.G.Parser.meaning escapable) (g.F.Parser.IsOutput normal)
-    (g.G.Parser.IsOutput escapable) g.F.Output.ExtendInto.added g.G.Output.ExtendInto.added g.X.Builder.parts (modes _ g.OM.Error.Mode.BUILDS _) _ _ _
+    (g.F.Parser.grammar normal).meaning (g.G.Parser.grammar escapable).meaning (g.F.Parser.grammar normal).IsOutput
+    (g.G.Parser.grammar escapable).IsOutput g.F.Output.ExtendInto.added g.G.Output.ExtendInto.added g.X.Builder.parts (modes _ g.OM.Error.Mode.BUILDS _) _ _ _
     inv.collected _ _ _ c.emitted.ensures part _ c.in-Found.is _ c.in_ok-extend-in-Found.ensures.kept _ _ c.input_len.ensures
     c.input_len-in-Found.ensures c.if-input_len.true
 
@@ -63,15 +63,15 @@ loop-text-preserved g c =
     let inv = c.loop-text.invariant in
     let normal = g.F.Parser.state c.args.self.now.normal in
     let escapable = g.G.Parser.state c.args.self.now.transform in
-    let part = same_next_piece _ g.F.Parser.IsOutput g.G.Parser.IsOutput _ (λ y x. g.C.Value.code x ≡ y) g.F.Parser.meaning g.G.Parser.meaning _ _ _ normal _
+    let part = same_next_piece _ g.F.Parser.grammar g.G.Parser.grammar _ (λ y x. g.C.Value.code x ≡ y) _ _ _ normal _
     _ _ escapable None None inv.normal_kept inv.control_kept inv.transform_kept refl c.in_ok-next.ensures.shown in
     record {
       normal_kept = c.in_ok-next.ensures.normal_kept ∙ inv.normal_kept;
       control_kept = inv.control_kept;
       transform_kept = c.in_ok-next.ensures.escapable_kept ∙ inv.transform_kept;
       collected = transform_more _ g.met.I.Items.lawful g.F.Error.ParseError.errors (λ x. g.C.Value.code x ≡ c.args.self.now.control_char)
-          (g.F.Parser.meaning normal) (g.G.Parser.meaning escapable) (g.F.Parser.IsOutput normal)
-          (g.G.Parser.IsOutput escapable) g.F.Output.ExtendInto.added g.G.Output.ExtendInto.added g.X.Builder.parts (modes _ g.OM.Error.Mode.BUILDS _) _
+          (g.F.Parser.grammar normal).meaning (g.G.Parser.grammar escapable).meaning (g.F.Parser.grammar normal).IsOutput
+          (g.G.Parser.grammar escapable).IsOutput g.F.Output.ExtendInto.added g.G.Output.ExtendInto.added g.X.Builder.parts (modes _ g.OM.Error.Mode.BUILDS _) _
           _ _ inv.collected _ _ _ c.emitted.ensures part _ c.in-Found.is _ c.in_ok-extend-in-Found.ensures.kept _ _ c.input_len.ensures
           c.input_len-in-Found.ensures c.if-input_len.false;
     }
@@ -81,11 +81,11 @@ returns-then-input_len-2-clause-shown g c =
     let inv = c.loop-text.invariant in
     let normal = g.F.Parser.state c.args.self.now.normal in
     let escapable = g.G.Parser.state c.args.self.now.transform in
-    let part = same_next_piece _ g.F.Parser.IsOutput g.G.Parser.IsOutput _ (λ y x. g.C.Value.code x ≡ y) g.F.Parser.meaning g.G.Parser.meaning _ _ _ normal _
+    let part = same_next_piece _ g.F.Parser.grammar g.G.Parser.grammar _ (λ y x. g.C.Value.code x ≡ y) _ _ _ normal _
     _ _ escapable None None inv.normal_kept inv.control_kept inv.transform_kept refl c.in_ok-next.ensures.shown in
-    transform_none _ g.met.I.Items.lawful g.F.Error.ParseError.errors (λ x. g.C.Value.code x ≡ c.args.self.now.control_char) (g.F.Parser.meaning normal)
-    (g.G.Parser.meaning escapable) (g.F.Parser.IsOutput normal)
-    (g.G.Parser.IsOutput escapable) g.F.Output.ExtendInto.added g.G.Output.ExtendInto.added g.X.Builder.parts (modes _ g.OM.Error.Mode.BUILDS _) _ _ _
+    transform_none _ g.met.I.Items.lawful g.F.Error.ParseError.errors (λ x. g.C.Value.code x ≡ c.args.self.now.control_char) (g.F.Parser.grammar normal).meaning
+    (g.G.Parser.grammar escapable).meaning (g.F.Parser.grammar normal).IsOutput
+    (g.G.Parser.grammar escapable).IsOutput g.F.Output.ExtendInto.added g.G.Output.ExtendInto.added g.X.Builder.parts (modes _ g.OM.Error.Mode.BUILDS _) _ _ _
     inv.collected _ _ _ c.emitted.ensures part c.in-Other.is _ _ c.input_len-in-Other.ensures c.input_len-in-Other-2.ensures c.if-input_len-2.true _
     c.refusal.ensures
 
@@ -94,11 +94,11 @@ returns-in-Other-clause-shown g c =
     let inv = c.loop-text.invariant in
     let normal = g.F.Parser.state c.args.self.now.normal in
     let escapable = g.G.Parser.state c.args.self.now.transform in
-    let part = same_next_piece _ g.F.Parser.IsOutput g.G.Parser.IsOutput _ (λ y x. g.C.Value.code x ≡ y) g.F.Parser.meaning g.G.Parser.meaning _ _ _ normal _
+    let part = same_next_piece _ g.F.Parser.grammar g.G.Parser.grammar _ (λ y x. g.C.Value.code x ≡ y) _ _ _ normal _
     _ _ escapable None None inv.normal_kept inv.control_kept inv.transform_kept refl c.in_ok-next.ensures.shown in
     transform_other _ g.met.I.Items.lawful g.F.Error.ParseError.errors (λ x. g.C.Value.code x ≡ c.args.self.now.control_char)
-    (g.F.Parser.meaning normal) (g.G.Parser.meaning escapable) (g.F.Parser.IsOutput normal)
-    (g.G.Parser.IsOutput escapable) g.F.Output.ExtendInto.added g.G.Output.ExtendInto.added g.X.Builder.parts (modes _ g.OM.Error.Mode.BUILDS _) _ _ _
+    (g.F.Parser.grammar normal).meaning (g.G.Parser.grammar escapable).meaning (g.F.Parser.grammar normal).IsOutput
+    (g.G.Parser.grammar escapable).IsOutput g.F.Output.ExtendInto.added g.G.Output.ExtendInto.added g.X.Builder.parts (modes _ g.OM.Error.Mode.BUILDS _) _ _ _
     inv.collected _ _ _ c.emitted.ensures part c.in-Other.is _ _ c.input_len-in-Other.ensures c.input_len-in-Other-2.ensures c.if-input_len-2.false
 
 pub returns-in-Dangling-clause-shown : goal.returns-in-Dangling-clause-shown
@@ -106,11 +106,11 @@ returns-in-Dangling-clause-shown g c =
     let inv = c.loop-text.invariant in
     let normal = g.F.Parser.state c.args.self.now.normal in
     let escapable = g.G.Parser.state c.args.self.now.transform in
-    let part = same_next_piece _ g.F.Parser.IsOutput g.G.Parser.IsOutput _ (λ y x. g.C.Value.code x ≡ y) g.F.Parser.meaning g.G.Parser.meaning _ _ _ normal _
+    let part = same_next_piece _ g.F.Parser.grammar g.G.Parser.grammar _ (λ y x. g.C.Value.code x ≡ y) _ _ _ normal _
     _ _ escapable None None inv.normal_kept inv.control_kept inv.transform_kept refl c.in_ok-next.ensures.shown in
     transform_dangling _ g.met.I.Items.lawful g.F.Error.ParseError.errors (λ x. g.C.Value.code x ≡ c.args.self.now.control_char)
-    (g.F.Parser.meaning normal) (g.G.Parser.meaning escapable) (g.F.Parser.IsOutput normal)
-    (g.G.Parser.IsOutput escapable) g.F.Output.ExtendInto.added g.G.Output.ExtendInto.added g.X.Builder.parts (modes _ g.OM.Error.Mode.BUILDS _) _ _ _
+    (g.F.Parser.grammar normal).meaning (g.G.Parser.grammar escapable).meaning (g.F.Parser.grammar normal).IsOutput
+    (g.G.Parser.grammar escapable).IsOutput g.F.Output.ExtendInto.added g.G.Output.ExtendInto.added g.X.Builder.parts (modes _ g.OM.Error.Mode.BUILDS _) _ _ _
     inv.collected _ _ _ c.emitted.ensures part c.in-Dangling.is _ c.refusal-in-Dangling.ensures
 
 pub returns-in-Done-clause-shown : goal.returns-in-Done-clause-shown
@@ -118,9 +118,9 @@ returns-in-Done-clause-shown g c =
     let inv = c.loop-text.invariant in
     let normal = g.F.Parser.state c.args.self.now.normal in
     let escapable = g.G.Parser.state c.args.self.now.transform in
-    let part = same_next_piece _ g.F.Parser.IsOutput g.G.Parser.IsOutput _ (λ y x. g.C.Value.code x ≡ y) g.F.Parser.meaning g.G.Parser.meaning _ _ _ normal _
+    let part = same_next_piece _ g.F.Parser.grammar g.G.Parser.grammar _ (λ y x. g.C.Value.code x ≡ y) _ _ _ normal _
     _ _ escapable None None inv.normal_kept inv.control_kept inv.transform_kept refl c.in_ok-next.ensures.shown in
-    transform_done _ g.met.I.Items.lawful g.F.Error.ParseError.errors (λ x. g.C.Value.code x ≡ c.args.self.now.control_char) (g.F.Parser.meaning normal)
-    (g.G.Parser.meaning escapable) (g.F.Parser.IsOutput normal)
-    (g.G.Parser.IsOutput escapable) g.F.Output.ExtendInto.added g.G.Output.ExtendInto.added g.X.Builder.parts (modes _ g.OM.Error.Mode.BUILDS _) _ _ _
+    transform_done _ g.met.I.Items.lawful g.F.Error.ParseError.errors (λ x. g.C.Value.code x ≡ c.args.self.now.control_char) (g.F.Parser.grammar normal).meaning
+    (g.G.Parser.grammar escapable).meaning (g.F.Parser.grammar normal).IsOutput
+    (g.G.Parser.grammar escapable).IsOutput g.F.Output.ExtendInto.added g.G.Output.ExtendInto.added g.X.Builder.parts (modes _ g.OM.Error.Mode.BUILDS _) _ _ _
     inv.collected _ _ _ c.emitted.ensures part c.in-Done.is

@@ -4,9 +4,9 @@ use Rattle.nom_combinator.proofs.verdict.PeekParser.process.Goals as goal
 
 pub returns-in_err-output-clause-shown : goal.returns-in_err-output-clause-shown
 returns-in_err-output-clause-shown g c =
-    peek_err _ g.met.I.Items.lawful _ (g.F.Parser.meaning (g.F.Parser.state c.args.self.now.parser)) _ _ _ _ c.in_err-output.ensures.shown
+    peek_err _ g.met.I.Items.lawful _ (g.F.Parser.grammar (g.F.Parser.state c.args.self.now.parser)).meaning _ _ _ _ c.in_err-output.ensures.shown
     (err_from_residual c.from_residual.ensures)
 
 pub returns-clause-shown : goal.returns-clause-shown
-returns-clause-shown g c = peek_ok _ g.met.I.Items.lawful _ (g.F.Parser.meaning (g.F.Parser.state c.args.self.now.parser)) _ _ c.prove_known.ensures _ _
+returns-clause-shown g c = peek_ok _ g.met.I.Items.lawful _ (g.F.Parser.grammar (g.F.Parser.state c.args.self.now.parser)).meaning _ _ c.prove_known.ensures _ _
     c.in_ok-output.ensures.shown

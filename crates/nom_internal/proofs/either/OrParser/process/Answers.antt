@@ -4,6 +4,7 @@ use Rattle.nom_internal.proofs.either.OrParser.process.Goals as goal
 pub returns-clause-shown : goal.returns-clause-shown
 returns-clause-shown g c =
     let p = c.args.self.now in
-    either_shown _ (g.F.Parser.IsOutput (g.F.Parser.state p.first)) (g.G.Parser.IsOutput (g.G.Parser.state p.second)) g.F.Error.ParseError.errors.joined
-    g.F.Error.ParseError.errors.grows (g.F.Parser.meaning (g.F.Parser.state p.first))
-    (g.G.Parser.meaning (g.G.Parser.state p.second)) _ _ _ _ c.process-answer.ensures.shown c.next_branch.ensures.shown
+    either_shown _ (g.F.Parser.grammar (g.F.Parser.state p.first)).IsOutput (g.G.Parser.grammar (g.G.Parser.state p.second)).IsOutput
+    g.F.Error.ParseError.errors.joined
+    g.F.Error.ParseError.errors.grows (g.F.Parser.grammar (g.F.Parser.state p.first)).meaning
+    (g.G.Parser.grammar (g.G.Parser.state p.second)).meaning _ _ _ _ c.process-answer.ensures.shown c.next_branch.ensures.shown

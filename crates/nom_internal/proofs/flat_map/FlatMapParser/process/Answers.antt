@@ -7,5 +7,6 @@ returns-in_err-rest-clause-shown g c = then_err g.met.I.Items.lawful c.in_err-re
 
 pub returns-clause-shown : goal.returns-clause-shown
 returns-clause-shown g c = then_ok g.met.I.Items.lawful c.in_ok-rest.ensures.shown
-    (λ u b. given_shown _ (g.F.Parser.IsOutput (g.F.Parser.state c.args.self.now.first)) _ g.H.Parser.IsOutput g.H.Parser.meaning _ _ u _ _
+    (λ u b. given_shown _ (g.F.Parser.grammar (g.F.Parser.state c.args.self.now.first)).IsOutput _ (λ s. (g.H.Parser.grammar s).IsOutput)
+    (λ s. (g.H.Parser.grammar s).meaning) _ _ u _ _
     c.make-next.result _ b c.in-Some.is c.make-next.ensures c.process-2.ensures.shown)

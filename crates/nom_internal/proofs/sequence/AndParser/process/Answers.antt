@@ -14,7 +14,7 @@ returns-in_err-rest-2-clause-shown g c =
 pub returns-clause-shown : goal.returns-clause-shown
 returns-clause-shown g c = then_ok g.met.I.Items.lawful c.in_ok-rest.ensures.shown
     (λ u b. output_ok c.in_ok-rest-2.ensures.shown
-    (λ v d. both_built (g.F.Parser.IsOutput _ u) (g.G.Parser.IsOutput _ v) _ _ _ _ b d c.combine.ensures.both c.combine.ensures.none))
+    (λ v d. both_built ((g.F.Parser.grammar _).IsOutput u) ((g.G.Parser.grammar _).IsOutput v) _ _ _ _ b d c.combine.ensures.both c.combine.ensures.none))
 
 pub returns-in_err-rest-clause-besides : goal.returns-in_err-rest-clause-besides
 returns-in_err-rest-clause-besides g c = Stopped c.in_err-rest.ensures.besides (ap rest_of (err_from_residual c.from_residual.ensures))

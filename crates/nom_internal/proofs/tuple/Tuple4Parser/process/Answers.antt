@@ -7,12 +7,13 @@ returns-clause-shown g c =
     let p = c.args.self.now in
     let l = g.met.I.Items.lawful in
     let mode = modes g.OM.Output.Mode.BUILDS g.OM.Error.Mode.BUILDS g.OM.Incomplete.IsStreaming.STREAMING in
-    let one = first_of_members g.I.Items.model (g.A.Parser.IsOutput (g.A.Parser.state p.0)) (g.A.Parser.meaning (g.A.Parser.state p.0)) mode c.args.input
+    let one = first_of_members g.I.Items.model (g.A.Parser.grammar (g.A.Parser.state p.0)).IsOutput (g.A.Parser.grammar (g.A.Parser.state p.0)).meaning
+    mode c.args.input
     c.first_member-answer.result c.first_member-answer.ensures.shown in
-    let two = and_member l (g.B.Parser.IsOutput (g.B.Parser.state p.1)) (g.B.Parser.meaning (g.B.Parser.state p.1)) one
+    let two = and_member l (g.B.Parser.grammar (g.B.Parser.state p.1)).IsOutput (g.B.Parser.grammar (g.B.Parser.state p.1)).meaning one
     c.next_member-answer.result c.next_member-answer.ensures.shown in
-    let three = and_member l (g.C.Parser.IsOutput (g.C.Parser.state p.2)) (g.C.Parser.meaning (g.C.Parser.state p.2)) two
+    let three = and_member l (g.C.Parser.grammar (g.C.Parser.state p.2)).IsOutput (g.C.Parser.grammar (g.C.Parser.state p.2)).meaning two
     c.next_member-answer-2.result c.next_member-answer-2.ensures.shown in
-    let four = and_member l (g.D.Parser.IsOutput (g.D.Parser.state p.3)) (g.D.Parser.meaning (g.D.Parser.state p.3)) three
+    let four = and_member l (g.D.Parser.grammar (g.D.Parser.state p.3)).IsOutput (g.D.Parser.grammar (g.D.Parser.state p.3)).meaning three
     c.next_member-answer-3.result c.next_member-answer-3.ensures.shown in
     tuple_shown _ _ (λ t o h. h) four c.formed.ensures

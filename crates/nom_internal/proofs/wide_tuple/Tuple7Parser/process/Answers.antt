@@ -7,18 +7,19 @@ returns-clause-shown g c =
     let p = c.args.self.now in
     let l = g.met.I.Items.lawful in
     let mode = modes g.OM.Output.Mode.BUILDS g.OM.Error.Mode.BUILDS g.OM.Incomplete.IsStreaming.STREAMING in
-    let one = first_of_members g.I.Items.model (g.A.Parser.IsOutput (g.A.Parser.state p.0)) (g.A.Parser.meaning (g.A.Parser.state p.0)) mode c.args.input
+    let one = first_of_members g.I.Items.model (g.A.Parser.grammar (g.A.Parser.state p.0)).IsOutput (g.A.Parser.grammar (g.A.Parser.state p.0)).meaning
+    mode c.args.input
     c.first_member-answer.result c.first_member-answer.ensures.shown in
-    let two = and_member l (g.B.Parser.IsOutput (g.B.Parser.state p.1)) (g.B.Parser.meaning (g.B.Parser.state p.1)) one
+    let two = and_member l (g.B.Parser.grammar (g.B.Parser.state p.1)).IsOutput (g.B.Parser.grammar (g.B.Parser.state p.1)).meaning one
     c.next_member-answer.result c.next_member-answer.ensures.shown in
-    let three = and_member l (g.C.Parser.IsOutput (g.C.Parser.state p.2)) (g.C.Parser.meaning (g.C.Parser.state p.2)) two
+    let three = and_member l (g.C.Parser.grammar (g.C.Parser.state p.2)).IsOutput (g.C.Parser.grammar (g.C.Parser.state p.2)).meaning two
     c.next_member-answer-2.result c.next_member-answer-2.ensures.shown in
-    let four = and_member l (g.D.Parser.IsOutput (g.D.Parser.state p.3)) (g.D.Parser.meaning (g.D.Parser.state p.3)) three
+    let four = and_member l (g.D.Parser.grammar (g.D.Parser.state p.3)).IsOutput (g.D.Parser.grammar (g.D.Parser.state p.3)).meaning three
     c.next_member-answer-3.result c.next_member-answer-3.ensures.shown in
-    let five = and_member l (g.E.Parser.IsOutput (g.E.Parser.state p.4)) (g.E.Parser.meaning (g.E.Parser.state p.4)) four
+    let five = and_member l (g.E.Parser.grammar (g.E.Parser.state p.4)).IsOutput (g.E.Parser.grammar (g.E.Parser.state p.4)).meaning four
     c.next_member-answer-4.result c.next_member-answer-4.ensures.shown in
-    let six = and_member l (g.F.Parser.IsOutput (g.F.Parser.state p.5)) (g.F.Parser.meaning (g.F.Parser.state p.5)) five
+    let six = and_member l (g.F.Parser.grammar (g.F.Parser.state p.5)).IsOutput (g.F.Parser.grammar (g.F.Parser.state p.5)).meaning five
     c.next_member-answer-5.result c.next_member-answer-5.ensures.shown in
-    let seven = and_member l (g.G.Parser.IsOutput (g.G.Parser.state p.6)) (g.G.Parser.meaning (g.G.Parser.state p.6)) six
+    let seven = and_member l (g.G.Parser.grammar (g.G.Parser.state p.6)).IsOutput (g.G.Parser.grammar (g.G.Parser.state p.6)).meaning six
     c.next_member-answer-6.result c.next_member-answer-6.ensures.shown in
     tuple_shown _ _ (λ t o h. h) seven c.formed.ensures

@@ -13,12 +13,12 @@ returns-then-self-clause-shown g c =
     let s = c.args.self.now in
     inverted_fails g.F.Error.ParseError.errors Kind.ManyMN
     (items_meaning g.I.Items.model g.F.Error.ParseError.errors (bounded_limits Kind.ManyMN s.min s.max) (Unit {0})
-    (g.F.Parser.meaning (g.F.Parser.state s.parser))) _ (lt-ltb s.max s.min c.if-self.true) c.failure.ensures
+    (g.F.Parser.grammar (g.F.Parser.state s.parser)).meaning) _ (lt-ltb s.max s.min c.if-self.true) c.failure.ensures
 
 pub returns-clause-shown : goal.returns-clause-shown
 returns-clause-shown g c =
     let s = c.args.self.now in
     not_inverted g.F.Error.ParseError.errors Kind.ManyMN
     (items_meaning g.I.Items.model g.F.Error.ParseError.errors (bounded_limits Kind.ManyMN s.min s.max) (Unit {0})
-    (g.F.Parser.meaning (g.F.Parser.state s.parser))) true _ (le-ltb s.max s.min c.if-self.false)
-    (shown_as (list_of_none (g.F.Parser.IsOutput (g.F.Parser.state s.parser)) _ c.none_yet-none.ensures.empty) c.items.ensures.shown)
+    (g.F.Parser.grammar (g.F.Parser.state s.parser)).meaning) true _ (le-ltb s.max s.min c.if-self.false)
+    (shown_as (list_of_none (g.F.Parser.grammar (g.F.Parser.state s.parser)).IsOutput _ c.none_yet-none.ensures.empty) c.bounded_items.ensures.shown)

@@ -9,16 +9,18 @@ use Rattle.nom_multi.proofs.many.Many1Parser.process.Goals as goal
 pub returns-in_err-rest-clause-shown : goal.returns-in_err-rest-clause-shown
 returns-in_err-rest-clause-shown g c = then_err g.met.I.Items.lawful c.in_err-rest.ensures.shown c.from_residual.ensures
 
-pub items-requires-2-clause-built : goal.items-requires-2-clause-built
-items-requires-2-clause-built g c =
+pub any_items-requires-clause-built : goal.any_items-requires-clause-built
+any_items-requires-clause-built g c =
     let first = accepts c.in_ok-rest.ensures.shown in
-    kept_ready ListPushes (λ _. Unit {0}) (g.F.Parser.IsOutput (g.F.Parser.state c.args.self.now.parser)) _ _ _ _ first.built_is
+    kept_ready ListPushes (λ _. Unit {0}) (g.F.Parser.grammar (g.F.Parser.state c.args.self.now.parser)).IsOutput _ _ _ _ first.built_is
 
 pub returns-clause-shown : goal.returns-clause-shown
 returns-clause-shown g c =
-    let is_output = g.F.Parser.IsOutput (g.F.Parser.state c.args.self.now.parser) in
-    let more = shown_at (λ s. Accumulated ListPushes (λ _. Unit {0}) (g.F.Parser.IsOutput s) c.in_ok-rest.first)
-    (λ s. many0_meaning g.I.Items.model g.F.Error.ParseError.errors (g.F.Parser.meaning s)) c.in_ok-rest.ensures.kept c.items-2.ensures.shown in
+    let is_output = (g.F.Parser.grammar (g.F.Parser.state c.args.self.now.parser)).IsOutput in
+    let more = shown_at (λ s. record {
+      meaning = many0_meaning g.I.Items.model g.F.Error.ParseError.errors (g.F.Parser.grammar s).meaning;
+      IsOutput = Accumulated ListPushes (λ _. Unit {0}) (g.F.Parser.grammar s).IsOutput c.in_ok-rest.first;
+    }) c.in_ok-rest.ensures.kept c.any_items.ensures.shown in
     then_ok g.met.I.Items.lawful c.in_ok-rest.ensures.shown
     (λ vs first. shown_as (λ us list kept. list_of_none is_output _ c.none_yet-none.ensures.empty _ list
     (kept_both ListPushes (λ _. Unit {0}) is_output _ _ _ vs us list first kept)) more)

@@ -20,31 +20,29 @@ loop-next-init g c = record {
 pub returns-in-End-clause-shown : goal.returns-in-End-clause-shown
 returns-in-End-clause-shown g c =
     let i = c.loop-next.invariant in
-    let told = stands_at (λ s. g.G.Parser.IsOutput s) (λ s. g.F.Parser.IsOutput s) (λ s. g.G.Parser.meaning s)
-    (λ s. g.F.Parser.meaning s) i.end_kept i.parser_kept c.in-Ok.ensures.shown in
+    let told = stands_at g.G.Parser.grammar g.F.Parser.grammar i.end_kept i.parser_kept c.in-Ok.ensures.shown in
     let found = accepts told in
-    let end = is_end _ (g.G.Parser.IsOutput (g.G.Parser.state c.args.self.now.end))
-    (g.F.Parser.IsOutput (g.F.Parser.state c.args.self.now.parser)) found.tree c.emitted.ensures c.in-End.is found.built_is in
-    till_ended g.F.Error.ParseError.errors (g.F.Parser.meaning (g.F.Parser.state c.args.self.now.parser))
-    (g.G.Parser.meaning (g.G.Parser.state c.args.self.now.end))
-    (λ t o. AllZip (g.F.Parser.IsOutput (g.F.Parser.state c.args.self.now.parser)) t.0 o.0.items ×
-    (g.G.Parser.IsOutput (g.G.Parser.state c.args.self.now.end)) t.1 o.1)
+    let end = is_end _ (g.G.Parser.grammar (g.G.Parser.state c.args.self.now.end)).IsOutput
+    (g.F.Parser.grammar (g.F.Parser.state c.args.self.now.parser)).IsOutput found.tree c.emitted.ensures c.in-End.is found.built_is in
+    till_ended g.F.Error.ParseError.errors (g.F.Parser.grammar (g.F.Parser.state c.args.self.now.parser)).meaning
+    (g.G.Parser.grammar (g.G.Parser.state c.args.self.now.end)).meaning
+    (λ t o. AllZip (g.F.Parser.grammar (g.F.Parser.state c.args.self.now.parser)).IsOutput t.0 o.0.items ×
+    (g.G.Parser.grammar (g.G.Parser.state c.args.self.now.end)).IsOutput t.1 o.1)
     (modes g.OM.Output.Mode.BUILDS g.OM.Error.Mode.BUILDS g.OM.Incomplete.IsStreaming.STREAMING) i.collected g.met.I.Items.lawful end.0 found.answered
-    end.1 found.rest_is _ (both_built (λ list. AllZip (g.F.Parser.IsOutput (g.F.Parser.state c.args.self.now.parser)) i.collected.trees list.items)
-    ((g.G.Parser.IsOutput (g.G.Parser.state c.args.self.now.end)) end.0) _ _ _ _ i.collected.held end.2 c.combine.ensures.both c.combine.ensures.none)
+    end.1 found.rest_is _ (both_built (λ list. AllZip (g.F.Parser.grammar (g.F.Parser.state c.args.self.now.parser)).IsOutput i.collected.trees list.items)
+    ((g.G.Parser.grammar (g.G.Parser.state c.args.self.now.end)).IsOutput end.0) _ _ _ _ i.collected.held end.2 c.combine.ensures.both c.combine.ensures.none)
 
 pub returns-then-input_len-clause-shown : goal.returns-then-input_len-clause-shown
 returns-then-input_len-clause-shown g c =
     let i = c.loop-next.invariant in
-    let told = stands_at (λ s. g.G.Parser.IsOutput s) (λ s. g.F.Parser.IsOutput s) (λ s. g.G.Parser.meaning s)
-    (λ s. g.F.Parser.meaning s) i.end_kept i.parser_kept c.in-Ok.ensures.shown in
+    let told = stands_at g.G.Parser.grammar g.F.Parser.grammar i.end_kept i.parser_kept c.in-Ok.ensures.shown in
     let found = accepts told in
-    let item = is_item _ (g.G.Parser.IsOutput (g.G.Parser.state c.args.self.now.end))
-    (g.F.Parser.IsOutput (g.F.Parser.state c.args.self.now.parser)) found.tree c.emitted.ensures c.in-Item.is found.built_is in
-    till_stuck g.F.Error.ParseError.errors (g.F.Parser.meaning (g.F.Parser.state c.args.self.now.parser))
-    (g.G.Parser.meaning (g.G.Parser.state c.args.self.now.end))
-    (λ t o. AllZip (g.F.Parser.IsOutput (g.F.Parser.state c.args.self.now.parser)) t.0 o.0.items ×
-    (g.G.Parser.IsOutput (g.G.Parser.state c.args.self.now.end)) t.1 o.1)
+    let item = is_item _ (g.G.Parser.grammar (g.G.Parser.state c.args.self.now.end)).IsOutput
+    (g.F.Parser.grammar (g.F.Parser.state c.args.self.now.parser)).IsOutput found.tree c.emitted.ensures c.in-Item.is found.built_is in
+    till_stuck g.F.Error.ParseError.errors (g.F.Parser.grammar (g.F.Parser.state c.args.self.now.parser)).meaning
+    (g.G.Parser.grammar (g.G.Parser.state c.args.self.now.end)).meaning
+    (λ t o. AllZip (g.F.Parser.grammar (g.F.Parser.state c.args.self.now.parser)).IsOutput t.0 o.0.items ×
+    (g.G.Parser.grammar (g.G.Parser.state c.args.self.now.end)).IsOutput t.1 o.1)
     (modes g.OM.Output.Mode.BUILDS g.OM.Error.Mode.BUILDS g.OM.Incomplete.IsStreaming.STREAMING) i.collected item.0 found.answered item.1
     (is_empty found.rest_is c.input_len.ensures c.input_len-in-Item.ensures c.if-input_len.true) _ c.refusal.ensures
 
@@ -59,16 +57,15 @@ push_item-requires-clause-item g c =
 pub returns-in_err-push_item-in-Item-clause-shown : goal.returns-in_err-push_item-in-Item-clause-shown
 returns-in_err-push_item-in-Item-clause-shown g c =
     let i = c.loop-next.invariant in
-    let told = stands_at (λ s. g.G.Parser.IsOutput s) (λ s. g.F.Parser.IsOutput s) (λ s. g.G.Parser.meaning s)
-    (λ s. g.F.Parser.meaning s) i.end_kept i.parser_kept c.in-Ok.ensures.shown in
+    let told = stands_at g.G.Parser.grammar g.F.Parser.grammar i.end_kept i.parser_kept c.in-Ok.ensures.shown in
     let found = accepts told in
-    let item = is_item _ (g.G.Parser.IsOutput (g.G.Parser.state c.args.self.now.end))
-    (g.F.Parser.IsOutput (g.F.Parser.state c.args.self.now.parser)) found.tree c.emitted.ensures c.in-Item.is found.built_is in
+    let item = is_item _ (g.G.Parser.grammar (g.G.Parser.state c.args.self.now.end)).IsOutput
+    (g.F.Parser.grammar (g.F.Parser.state c.args.self.now.parser)).IsOutput found.tree c.emitted.ensures c.in-Item.is found.built_is in
     rw (err_from_residual c.from_residual.ensures) (
-    till_lacks_room g.F.Error.ParseError.errors (g.F.Parser.meaning (g.F.Parser.state c.args.self.now.parser))
-    (g.G.Parser.meaning (g.G.Parser.state c.args.self.now.end))
-    (λ t o. AllZip (g.F.Parser.IsOutput (g.F.Parser.state c.args.self.now.parser)) t.0 o.0.items ×
-    (g.G.Parser.IsOutput (g.G.Parser.state c.args.self.now.end)) t.1 o.1)
+    till_lacks_room g.F.Error.ParseError.errors (g.F.Parser.grammar (g.F.Parser.state c.args.self.now.parser)).meaning
+    (g.G.Parser.grammar (g.G.Parser.state c.args.self.now.end)).meaning
+    (λ t o. AllZip (g.F.Parser.grammar (g.F.Parser.state c.args.self.now.parser)).IsOutput t.0 o.0.items ×
+    (g.G.Parser.grammar (g.G.Parser.state c.args.self.now.end)).IsOutput t.1 o.1)
     (modes g.OM.Output.Mode.BUILDS g.OM.Error.Mode.BUILDS g.OM.Incomplete.IsStreaming.STREAMING) i.collected item.0 found.answered item.1
     (consumes found.rest_is c.input_len.ensures c.input_len-in-Item.ensures c.if-input_len.false)
     (room_built (λ list. vec_capacity list ≤ vec_len list) _ _ _ i.collected.held c.in_err-push_item-in-Item.ensures.full))
@@ -81,63 +78,59 @@ loop-next-smaller g c =
 pub loop-next-preserved : goal.loop-next-preserved
 loop-next-preserved g c =
     let i = c.loop-next.invariant in
-    let told = stands_at (λ s. g.G.Parser.IsOutput s) (λ s. g.F.Parser.IsOutput s) (λ s. g.G.Parser.meaning s)
-    (λ s. g.F.Parser.meaning s) i.end_kept i.parser_kept c.in-Ok.ensures.shown in
+    let told = stands_at g.G.Parser.grammar g.F.Parser.grammar i.end_kept i.parser_kept c.in-Ok.ensures.shown in
     let found = accepts told in
-    let item = is_item _ (g.G.Parser.IsOutput (g.G.Parser.state c.args.self.now.end))
-    (g.F.Parser.IsOutput (g.F.Parser.state c.args.self.now.parser)) found.tree c.emitted.ensures c.in-Item.is found.built_is in
+    let item = is_item _ (g.G.Parser.grammar (g.G.Parser.state c.args.self.now.end)).IsOutput
+    (g.F.Parser.grammar (g.F.Parser.state c.args.self.now.parser)).IsOutput found.tree c.emitted.ensures c.in-Item.is found.built_is in
     record {
       parser_kept = c.in-Ok.ensures.parser_kept ∙ i.parser_kept;
       end_kept = c.in-Ok.ensures.end_kept ∙ i.end_kept;
       collected = till_more g.met.I.Items.lawful
-          ((end_or_item (g.G.Parser.meaning (g.G.Parser.state c.args.self.now.end))
-          (g.F.Parser.meaning (g.F.Parser.state c.args.self.now.parser))).answers g.OM.Incomplete.IsStreaming.STREAMING) i.collected item.0
+          ((end_or_item (g.G.Parser.grammar (g.G.Parser.state c.args.self.now.end)).meaning
+          (g.F.Parser.grammar (g.F.Parser.state c.args.self.now.parser)).meaning).answers g.OM.Incomplete.IsStreaming.STREAMING) i.collected item.0
           found.answered item.1 (consumes found.rest_is c.input_len.ensures c.input_len-in-Item.ensures c.if-input_len.false) found.rest_is
-          (list_pushed (g.F.Parser.IsOutput (g.F.Parser.state c.args.self.now.parser)) _ _ _ _ _ _ c.in_ok-push_item-in-Item.ensures.kept i.collected.held
+          (list_pushed (g.F.Parser.grammar (g.F.Parser.state c.args.self.now.parser)).IsOutput
+          _ _ _ _ _ _ c.in_ok-push_item-in-Item.ensures.kept i.collected.held
           item.2);
     }
 
 pub returns-in-Err-Error-clause-shown : goal.returns-in-Err-Error-clause-shown
 returns-in-Err-Error-clause-shown g c =
     let i = c.loop-next.invariant in
-    let told = stands_at (λ s. g.G.Parser.IsOutput s) (λ s. g.F.Parser.IsOutput s) (λ s. g.G.Parser.meaning s)
-    (λ s. g.F.Parser.meaning s) i.end_kept i.parser_kept c.in-Err-Error.ensures.shown in
-    till_refused g.F.Error.ParseError.errors (g.F.Parser.meaning (g.F.Parser.state c.args.self.now.parser))
-    (g.G.Parser.meaning (g.G.Parser.state c.args.self.now.end))
-    (λ t o. AllZip (g.F.Parser.IsOutput (g.F.Parser.state c.args.self.now.parser)) t.0 o.0.items ×
-    (g.G.Parser.IsOutput (g.G.Parser.state c.args.self.now.end)) t.1 o.1)
+    let told = stands_at g.G.Parser.grammar g.F.Parser.grammar i.end_kept i.parser_kept c.in-Err-Error.ensures.shown in
+    till_refused g.F.Error.ParseError.errors (g.F.Parser.grammar (g.F.Parser.state c.args.self.now.parser)).meaning
+    (g.G.Parser.grammar (g.G.Parser.state c.args.self.now.end)).meaning
+    (λ t o. AllZip (g.F.Parser.grammar (g.F.Parser.state c.args.self.now.parser)).IsOutput t.0 o.0.items ×
+    (g.G.Parser.grammar (g.G.Parser.state c.args.self.now.end)).IsOutput t.1 o.1)
     (modes g.OM.Output.Mode.BUILDS g.OM.Error.Mode.BUILDS g.OM.Incomplete.IsStreaming.STREAMING) i.collected told c.in-Err-Error.field-0-is _
     c.close_error.ensures
 
 pub returns-in-Err-Failure-clause-shown : goal.returns-in-Err-Failure-clause-shown
 returns-in-Err-Failure-clause-shown g c =
     let i = c.loop-next.invariant in
-    let told = stands_at (λ s. g.G.Parser.IsOutput s) (λ s. g.F.Parser.IsOutput s) (λ s. g.G.Parser.meaning s)
-    (λ s. g.F.Parser.meaning s) i.end_kept i.parser_kept c.in-Err-Failure.ensures.shown in
-    till_failed g.F.Error.ParseError.errors (g.F.Parser.meaning (g.F.Parser.state c.args.self.now.parser))
-    (g.G.Parser.meaning (g.G.Parser.state c.args.self.now.end))
-    (λ t o. AllZip (g.F.Parser.IsOutput (g.F.Parser.state c.args.self.now.parser)) t.0 o.0.items ×
-    (g.G.Parser.IsOutput (g.G.Parser.state c.args.self.now.end)) t.1 o.1)
+    let told = stands_at g.G.Parser.grammar g.F.Parser.grammar i.end_kept i.parser_kept c.in-Err-Failure.ensures.shown in
+    till_failed g.F.Error.ParseError.errors (g.F.Parser.grammar (g.F.Parser.state c.args.self.now.parser)).meaning
+    (g.G.Parser.grammar (g.G.Parser.state c.args.self.now.end)).meaning
+    (λ t o. AllZip (g.F.Parser.grammar (g.F.Parser.state c.args.self.now.parser)).IsOutput t.0 o.0.items ×
+    (g.G.Parser.grammar (g.G.Parser.state c.args.self.now.end)).IsOutput t.1 o.1)
     (modes g.OM.Output.Mode.BUILDS g.OM.Error.Mode.BUILDS g.OM.Incomplete.IsStreaming.STREAMING) i.collected told c.in-Err-Failure.field-0-is
 
 pub returns-in-Err-Incomplete-clause-shown : goal.returns-in-Err-Incomplete-clause-shown
 returns-in-Err-Incomplete-clause-shown g c =
     let i = c.loop-next.invariant in
-    let told = stands_at (λ s. g.G.Parser.IsOutput s) (λ s. g.F.Parser.IsOutput s) (λ s. g.G.Parser.meaning s)
-    (λ s. g.F.Parser.meaning s) i.end_kept i.parser_kept c.in-Err-Incomplete.ensures.shown in
-    till_lacks g.F.Error.ParseError.errors (g.F.Parser.meaning (g.F.Parser.state c.args.self.now.parser))
-    (g.G.Parser.meaning (g.G.Parser.state c.args.self.now.end))
-    (λ t o. AllZip (g.F.Parser.IsOutput (g.F.Parser.state c.args.self.now.parser)) t.0 o.0.items ×
-    (g.G.Parser.IsOutput (g.G.Parser.state c.args.self.now.end)) t.1 o.1)
+    let told = stands_at g.G.Parser.grammar g.F.Parser.grammar i.end_kept i.parser_kept c.in-Err-Incomplete.ensures.shown in
+    till_lacks g.F.Error.ParseError.errors (g.F.Parser.grammar (g.F.Parser.state c.args.self.now.parser)).meaning
+    (g.G.Parser.grammar (g.G.Parser.state c.args.self.now.end)).meaning
+    (λ t o. AllZip (g.F.Parser.grammar (g.F.Parser.state c.args.self.now.parser)).IsOutput t.0 o.0.items ×
+    (g.G.Parser.grammar (g.G.Parser.state c.args.self.now.end)).IsOutput t.1 o.1)
     (modes g.OM.Output.Mode.BUILDS g.OM.Error.Mode.BUILDS g.OM.Incomplete.IsStreaming.STREAMING) i.collected told c.in-Err-Incomplete.field-0-is
 
 pub returns-in-Err-OutOfMemory-clause-shown : goal.returns-in-Err-OutOfMemory-clause-shown
 returns-in-Err-OutOfMemory-clause-shown g c =
     let i = c.loop-next.invariant in
-    let told = stands_at (λ s. g.G.Parser.IsOutput s) (λ s. g.F.Parser.IsOutput s) (λ s. g.G.Parser.meaning s)
-    (λ s. g.F.Parser.meaning s) i.end_kept i.parser_kept c.in-Err-OutOfMemory.ensures.shown in
-    till_ran_out g.F.Error.ParseError.errors (g.F.Parser.meaning (g.F.Parser.state c.args.self.now.parser))
-    (g.G.Parser.meaning (g.G.Parser.state c.args.self.now.end))
-    (λ t o. AllZip (g.F.Parser.IsOutput (g.F.Parser.state c.args.self.now.parser)) t.0 o.0.items ×
-    (g.G.Parser.IsOutput (g.G.Parser.state c.args.self.now.end)) t.1 o.1)
+    let told = stands_at g.G.Parser.grammar g.F.Parser.grammar i.end_kept i.parser_kept c.in-Err-OutOfMemory.ensures.shown in
+    till_ran_out g.F.Error.ParseError.errors (g.F.Parser.grammar (g.F.Parser.state c.args.self.now.parser)).meaning
+    (g.G.Parser.grammar (g.G.Parser.state c.args.self.now.end)).meaning
+    (λ t o. AllZip (g.F.Parser.grammar (g.F.Parser.state c.args.self.now.parser)).IsOutput t.0 o.0.items ×
+    (g.G.Parser.grammar (g.G.Parser.state c.args.self.now.end)).IsOutput t.1 o.1)
     (modes g.OM.Output.Mode.BUILDS g.OM.Error.Mode.BUILDS g.OM.Incomplete.IsStreaming.STREAMING) i.collected told c.in-Err-OutOfMemory.field-0-is

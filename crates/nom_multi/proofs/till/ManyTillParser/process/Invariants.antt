@@ -10,9 +10,10 @@ invariant-loop-next g l = record {
   parser_kept : g.F.Parser.state l.self.parser ≡ g.F.Parser.state l.fn.self.parser;
   end_kept : g.G.Parser.state l.self.end ≡ g.G.Parser.state l.fn.self.end;
   collected : Till g.I.Items.model
-      ((end_or_item (g.G.Parser.meaning (g.G.Parser.state l.fn.self.end)) (g.F.Parser.meaning (g.F.Parser.state l.fn.self.parser))).answers
+      ((end_or_item (g.G.Parser.grammar (g.G.Parser.state l.fn.self.end)).meaning (g.F.Parser.grammar (g.F.Parser.state l.fn.self.parser)).meaning).answers
       g.OM.Incomplete.IsStreaming.STREAMING)
-      (λ vs. Built g.OM.Output.Mode.BUILDS (λ list. AllZip (g.F.Parser.IsOutput (g.F.Parser.state l.fn.self.parser)) vs list.items) l.kept) l.fn.input l.rest;
+      (λ vs. Built g.OM.Output.Mode.BUILDS (λ list. AllZip (g.F.Parser.grammar (g.F.Parser.state l.fn.self.parser)).IsOutput vs list.items) l.kept)
+      l.fn.input l.rest;
 }
 
 abbrev pub decreases-loop-next : goal.decreases-loop-next

@@ -8,20 +8,20 @@ use Rattle.nom_error.specs.declared.kind.ErrorKind.TheVariants as Kind
 pub returns-in_err-rest-clause-shown : goal.returns-in_err-rest-clause-shown
 returns-in_err-rest-clause-shown g c = then_err g.met.I.Items.lawful c.in_err-rest.ensures.shown c.from_residual.ensures
 
-pub items-requires-2-clause-built : goal.items-requires-2-clause-built
-items-requires-2-clause-built g c =
+pub any_items-requires-clause-built : goal.any_items-requires-clause-built
+any_items-requires-clause-built g c =
     let first = accepts c.in_ok-rest.ensures.shown in
-    kept_ready _ _ (g.F.Parser.IsOutput (g.F.Parser.state c.args.self.now.parser)) _ _ _ _ first.built_is
+    kept_ready _ _ (g.F.Parser.grammar (g.F.Parser.state c.args.self.now.parser)).IsOutput _ _ _ _ first.built_is
 
 pub returns-in_err-after-clause-shown : goal.returns-in_err-after-clause-shown
 returns-in_err-after-clause-shown g c =
-    let more = items_at g.F.Parser.IsOutput g.F.Parser.meaning g.F.Error.ParseError.errors (any_limits Kind.Many1) c.in_ok-rest.ensures.kept
+    let more = items_at g.F.Parser.grammar g.F.Error.ParseError.errors (any_limits Kind.Many1) c.in_ok-rest.ensures.kept
     c.in_err-after.ensures.shown in
     then_ok g.met.I.Items.lawful c.in_ok-rest.ensures.shown (λ vs b. output_err more c.from_residual-in_err-after.ensures)
 
 pub returns-clause-shown : goal.returns-clause-shown
 returns-clause-shown g c =
-    let more = items_at g.F.Parser.IsOutput g.F.Parser.meaning g.F.Error.ParseError.errors (any_limits Kind.Many1) c.in_ok-rest.ensures.kept
+    let more = items_at g.F.Parser.grammar g.F.Error.ParseError.errors (any_limits Kind.Many1) c.in_ok-rest.ensures.kept
     c.in_ok-after.ensures.shown in
     then_ok g.met.I.Items.lawful c.in_ok-rest.ensures.shown
     (λ vs b. output_ok more (λ us k. carried_both (λ k. k.value) (λ k. k.fold.now) _ _ _ _ _ _ _ _ c.start-none.ensures.starts vs us b _ _

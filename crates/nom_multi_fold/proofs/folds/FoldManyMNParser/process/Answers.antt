@@ -13,14 +13,14 @@ returns-then-self-clause-shown g c =
     let s = c.args.self.now in
     unfit_refuses g.F.Error.ParseError.errors Kind.ManyMN (s.max < s.min)
     (items_meaning g.I.Items.model g.F.Error.ParseError.errors (bounded_limits Kind.ManyMN s.min s.max) ⊥
-    (g.F.Parser.meaning (g.F.Parser.state s.parser))) c.if-self.true c.refusal.ensures
+    (g.F.Parser.grammar (g.F.Parser.state s.parser)).meaning) c.if-self.true c.refusal.ensures
 
 pub returns-in_err-rest-clause-shown : goal.returns-in_err-rest-clause-shown
 returns-in_err-rest-clause-shown g c =
     let s = c.args.self.now in
     fit_shown g.F.Error.ParseError.errors Kind.ManyMN false (s.max < s.min)
     (items_meaning g.I.Items.model g.F.Error.ParseError.errors (bounded_limits Kind.ManyMN s.min s.max) ⊥
-    (g.F.Parser.meaning (g.F.Parser.state s.parser))) (λ h. omega (arith, h, c.if-self.false))
+    (g.F.Parser.grammar (g.F.Parser.state s.parser)).meaning) (λ h. omega (arith, h, c.if-self.false))
     (output_err c.in_err-rest.ensures.shown c.from_residual.ensures)
 
 pub returns-clause-shown : goal.returns-clause-shown
@@ -28,6 +28,6 @@ returns-clause-shown g c =
     let s = c.args.self.now in
     fit_shown g.F.Error.ParseError.errors Kind.ManyMN false (s.max < s.min)
     (items_meaning g.I.Items.model g.F.Error.ParseError.errors (bounded_limits Kind.ManyMN s.min s.max) ⊥
-    (g.F.Parser.meaning (g.F.Parser.state s.parser))) (λ h. omega (arith, h, c.if-self.false))
+    (g.F.Parser.grammar (g.F.Parser.state s.parser)).meaning) (λ h. omega (arith, h, c.if-self.false))
     (output_ok c.in_ok-rest.ensures.shown
     (λ vs b. carried_built (λ k. k.value) (λ k. k.fold.now) _ _ _ _ _ _ _ c.start-first.ensures.starts vs _ _ c.carried.ensures b))

@@ -13,14 +13,14 @@ returns-then-is_inverted-clause-shown g c =
     let range = g.R.NomRange in
     unfit_fails g.F.Error.ParseError.errors Kind.Fold (IsEmpty (range.IsSpent s.range) (range.lower s.range) (range.upper s.range))
     (items_meaning g.I.Items.model g.F.Error.ParseError.errors (range_limits Kind.Fold (range.lower s.range) (range.upper s.range)) ⊥
-    (g.F.Parser.meaning (g.F.Parser.state s.parser))) (c.is_inverted.ensures.0 c.if-is_inverted.true) c.failure.ensures
+    (g.F.Parser.grammar (g.F.Parser.state s.parser)).meaning) (c.is_inverted.ensures.0 c.if-is_inverted.true) c.failure.ensures
 
 pub returns-in_err-rest-clause-shown : goal.returns-in_err-rest-clause-shown
 returns-in_err-rest-clause-shown g c =
     let s = c.args.self.now in
     let range = g.R.NomRange in
     range_shown g.F.Error.ParseError.errors Kind.Fold (range.IsSpent s.range) (range.lower s.range)
-    (range.upper s.range) ⊥ (g.F.Parser.meaning (g.F.Parser.state s.parser)) c.least.ensures c.most.ensures
+    (range.upper s.range) ⊥ (g.F.Parser.grammar (g.F.Parser.state s.parser)).meaning c.least.ensures c.most.ensures
     (not_so _ c.if-is_inverted.false c.is_inverted.ensures.1) (output_err c.in_err-rest.ensures.shown c.from_residual.ensures)
 
 pub returns-clause-shown : goal.returns-clause-shown
@@ -28,7 +28,7 @@ returns-clause-shown g c =
     let s = c.args.self.now in
     let range = g.R.NomRange in
     range_shown g.F.Error.ParseError.errors Kind.Fold (range.IsSpent s.range) (range.lower s.range)
-    (range.upper s.range) ⊥ (g.F.Parser.meaning (g.F.Parser.state s.parser)) c.least.ensures c.most.ensures
+    (range.upper s.range) ⊥ (g.F.Parser.grammar (g.F.Parser.state s.parser)).meaning c.least.ensures c.most.ensures
     (not_so _ c.if-is_inverted.false c.is_inverted.ensures.1)
     (output_ok c.in_ok-rest.ensures.shown
     (λ vs b. carried_built (λ k. k.value) (λ k. k.fold.now) _ _ _ _ _ _ _ c.start-first.ensures.starts vs _ _ c.carried.ensures b))

@@ -13,14 +13,14 @@ returns-then-is_inverted-clause-shown g c =
     let range = g.R.NomRange in
     unfit_fails g.F.Error.ParseError.errors Kind.Many (IsEmpty (range.IsSpent s.range) (range.lower s.range) (range.upper s.range))
     (items_meaning g.I.Items.model g.F.Error.ParseError.errors (range_limits Kind.Many (range.lower s.range) (range.upper s.range)) (Unit {0})
-    (g.F.Parser.meaning (g.F.Parser.state s.parser))) (c.is_inverted.ensures.0 c.if-is_inverted.true) c.failure.ensures
+    (g.F.Parser.grammar (g.F.Parser.state s.parser)).meaning) (c.is_inverted.ensures.0 c.if-is_inverted.true) c.failure.ensures
 
 pub returns-in_err-rest-clause-shown : goal.returns-in_err-rest-clause-shown
 returns-in_err-rest-clause-shown g c =
     let s = c.args.self.now in
     let range = g.R.NomRange in
     range_shown g.F.Error.ParseError.errors Kind.Many (range.IsSpent s.range) (range.lower s.range) (range.upper s.range) (Unit {0})
-    (g.F.Parser.meaning (g.F.Parser.state s.parser)) c.least.ensures c.most.ensures (not_so _ c.if-is_inverted.false c.is_inverted.ensures.1)
+    (g.F.Parser.grammar (g.F.Parser.state s.parser)).meaning c.least.ensures c.most.ensures (not_so _ c.if-is_inverted.false c.is_inverted.ensures.1)
     (output_err c.in_err-rest.ensures.shown c.from_residual.ensures)
 
 pub returns-clause-shown : goal.returns-clause-shown
@@ -28,7 +28,7 @@ returns-clause-shown g c =
     let s = c.args.self.now in
     let range = g.R.NomRange in
     range_shown g.F.Error.ParseError.errors Kind.Many (range.IsSpent s.range) (range.lower s.range) (range.upper s.range) (Unit {0})
-    (g.F.Parser.meaning (g.F.Parser.state s.parser)) c.least.ensures c.most.ensures (not_so _ c.if-is_inverted.false c.is_inverted.ensures.1)
+    (g.F.Parser.grammar (g.F.Parser.state s.parser)).meaning c.least.ensures c.most.ensures (not_so _ c.if-is_inverted.false c.is_inverted.ensures.1)
     (output_ok c.in_ok-rest.ensures.shown
-    (λ vs b. collected_built (λ k. k.collection) g.C.Collection.items (g.F.Parser.IsOutput (g.F.Parser.state s.parser)) _ _
+    (λ vs b. collected_built (λ k. k.collection) g.C.Collection.items (g.F.Parser.grammar (g.F.Parser.state s.parser)).IsOutput _ _
     c.gather-none.ensures.empty vs _ _ c.collected.ensures b))

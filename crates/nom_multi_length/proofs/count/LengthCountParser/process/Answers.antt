@@ -11,9 +11,9 @@ returns-in_err-rest-clause-shown g c = then_err g.met.I.Items.lawful c.in_err-re
 
 pub returns-clause-shown : goal.returns-clause-shown
 returns-clause-shown g c =
-    let is_item = g.G.Parser.IsOutput (g.G.Parser.state c.args.self.now.parser) in
-    after_ok _ g.met.I.Items.lawful (λ u vs. vs) (g.F.Parser.IsOutput (g.F.Parser.state c.args.self.now.length)) _ (λ vs o. AllZip is_item vs o.items)
-    (g.F.Parser.meaning (g.F.Parser.state c.args.self.now.length))
-    (items_by_count g.I.Items.model g.F.Error.ParseError.errors (g.G.Parser.meaning (g.G.Parser.state c.args.self.now.parser))) _ c.args.input _ _
+    let is_item = (g.G.Parser.grammar (g.G.Parser.state c.args.self.now.parser)).IsOutput in
+    after_ok _ g.met.I.Items.lawful (λ u vs. vs) (g.F.Parser.grammar (g.F.Parser.state c.args.self.now.length)).IsOutput _ (λ vs o. AllZip is_item vs o.items)
+    (g.F.Parser.grammar (g.F.Parser.state c.args.self.now.length)).meaning
+    (items_by_count g.I.Items.model g.F.Error.ParseError.errors (g.G.Parser.grammar (g.G.Parser.state c.args.self.now.parser)).meaning) _ c.args.input _ _
     c.in-Some.length c.to_usize-count.result _ c.in_ok-rest.ensures.shown c.in-Some.is c.to_usize-count.ensures
     (λ u. shown_as (list_of_none is_item _ c.none_yet-none.ensures.empty) c.items_exactly.ensures.shown)

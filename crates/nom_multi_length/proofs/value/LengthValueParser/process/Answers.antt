@@ -9,7 +9,7 @@ returns-in_err-rest-clause-shown g c = then_err g.met.I.Items.lawful c.in_err-re
 pub returns-clause-shown : goal.returns-clause-shown
 returns-clause-shown g c =
     after_ok _ g.met.I.Items.lawful (λ u t. t)
-    (g.F.Parser.IsOutput (g.F.Parser.state c.args.self.now.length)) _ (g.G.Parser.IsOutput (g.G.Parser.state c.args.self.now.parser))
-    (g.F.Parser.meaning (g.F.Parser.state c.args.self.now.length))
-    (values_by_length g.I.Items.model g.F.Error.ParseError.errors (g.G.Parser.meaning (g.G.Parser.state c.args.self.now.parser))) _ c.args.input _ _
+    (g.F.Parser.grammar (g.F.Parser.state c.args.self.now.length)).IsOutput _ (g.G.Parser.grammar (g.G.Parser.state c.args.self.now.parser)).IsOutput
+    (g.F.Parser.grammar (g.F.Parser.state c.args.self.now.length)).meaning
+    (values_by_length g.I.Items.model g.F.Error.ParseError.errors (g.G.Parser.grammar (g.G.Parser.state c.args.self.now.parser)).meaning) _ c.args.input _ _
     c.in-Some.length c.to_usize.result _ c.in_ok-rest.ensures.shown c.in-Some.is c.to_usize.ensures (λ u. c.within.ensures.shown)

@@ -13,8 +13,8 @@ returns-clause-shown g c =
     let i = c.args.input in
     let word = word_meaning w g.I.Item.Value.code e in
     let o1 = IsModelledBy w in
-    let m0 = g.F.Parser.meaning (g.F.Parser.state c.args.self.now.parser) in
-    let o0 = g.F.Parser.IsOutput (g.F.Parser.state c.args.self.now.parser) in
+    let m0 = (g.F.Parser.grammar (g.F.Parser.state c.args.self.now.parser)).meaning in
+    let o0 = (g.F.Parser.grammar (g.F.Parser.state c.args.self.now.parser)).IsOutput in
     let t1 = next_shown w o0 o1 e m0 (word (codes "nan")) mode i c.process-answer.result c.next_branch-answer.result c.process-answer.ensures.shown
     c.next_branch-answer.ensures.shown in
     let a1 = next_meaning e m0 (word (codes "nan")) in

@@ -12,8 +12,8 @@ returns-in-Some-outputs g c outputs s t h k =
     let joins = g.M.Error.ParseError.errors.joined in
     let grows = g.M.Error.ParseError.errors.grows in
     let ms = g.M.Nested.members s.0 in
-    let m = g.A.Parser.meaning s.1 in
-    let o = g.A.Parser.IsOutput s.1 in
+    let m = (g.A.Parser.grammar s.1).meaning in
+    let o = (g.A.Parser.grammar s.1).IsOutput in
     let others = g.M.Nested.AreOutputs s.0 t.0 in
     let over = step_applied joins grows m (λ v. (t.0, Some v)) (or_others joins grows t NoChoice ms) t.1
     (subst (λ z. IsOver z) (last_tried joins grows m t NoChoice ms) k) in
@@ -27,8 +27,8 @@ returns-in-None-outputs g c outputs s t h k =
     let joins = g.M.Error.ParseError.errors.joined in
     let grows = g.M.Error.ParseError.errors.grows in
     let ms = g.M.Nested.members s.0 in
-    let m = g.A.Parser.meaning s.1 in
-    let o = g.A.Parser.IsOutput s.1 in
+    let m = (g.A.Parser.grammar s.1).meaning in
+    let o = (g.A.Parser.grammar s.1).IsOutput in
     let others = g.M.Nested.AreOutputs s.0 t.0 in
     let over = step_applied joins grows m (λ v. (t.0, Some v)) (or_others joins grows t NoChoice ms) t.1
     (subst (λ z. IsOver z) (last_tried joins grows m t NoChoice ms) k) in
@@ -40,8 +40,8 @@ returns-in-None g c outputs s t h k =
     let joins = g.M.Error.ParseError.errors.joined in
     let grows = g.M.Error.ParseError.errors.grows in
     let ms = g.M.Nested.members s.0 in
-    let m = g.A.Parser.meaning s.1 in
-    let o = g.A.Parser.IsOutput s.1 in
+    let m = (g.A.Parser.grammar s.1).meaning in
+    let o = (g.A.Parser.grammar s.1).IsOutput in
     let others = g.M.Nested.AreOutputs s.0 t.0 in
     let over = step_applied joins grows m (λ v. (t.0, Some v)) (or_others joins grows t NoChoice ms) t.1
     (subst (λ z. IsOver z) (last_tried joins grows m t NoChoice ms) k) in

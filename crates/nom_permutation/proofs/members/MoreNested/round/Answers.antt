@@ -11,12 +11,12 @@ use Rattle.nom_permutation.proofs.members.MoreNested.round.Goals as goal
 pub round-round-requires : goal.round-round-requires
 round-round-requires g c =
     let p = c.args.self.now in
-    others_sound (g.A.Parser.meaning (g.A.Parser.state p.member)) (g.M.Nested.members (g.M.Nested.state p.others)) c.requires
+    others_sound (g.A.Parser.grammar (g.A.Parser.state p.member)).meaning (g.M.Nested.members (g.M.Nested.state p.others)) c.requires
 
 pub try_slot-requires : goal.try_slot-requires
 try_slot-requires g c =
     let p = c.args.self.now in
-    last_sound (g.A.Parser.meaning (g.A.Parser.state p.member)) (g.M.Nested.members (g.M.Nested.state p.others)) c.requires
+    last_sound (g.A.Parser.grammar (g.A.Parser.state p.member)).meaning (g.M.Nested.members (g.M.Nested.state p.others)) c.requires
 
 pub returns-clause-shown : goal.returns-clause-shown
 returns-clause-shown g c t h =
@@ -30,9 +30,9 @@ returns-clause-shown g c t h =
     let mode = modes outputs errors s in
     let others = g.M.Nested.state c.args.self.now.others in
     let last = g.A.Parser.state c.args.self.now.member in
-    let o = g.A.Parser.IsOutput last in
+    let o = (g.A.Parser.grammar last).IsOutput in
     let ms = g.M.Nested.members others in
-    let m = g.A.Parser.meaning last in
+    let m = (g.A.Parser.grammar last).meaning in
     let tried = c.round-round.new.slots in
     let before = c.args.slots.now.1 in
     let after = c.try_slot.new.slot in
@@ -47,8 +47,8 @@ returns-clause-shown g c t h =
 pub returns-clause-counted : goal.returns-clause-counted
 returns-clause-counted g c =
     let last = g.A.Parser.state c.args.self.now.member in
-    let counted = tries_counted g.I.Items.model (g.A.Parser.IsOutput last) g.M.Error.ParseError.errors.joined g.M.Error.ParseError.errors.grows
-    (g.A.Parser.meaning last) g.OM.Output.Mode.BUILDS g.OM.Error.Mode.BUILDS g.OM.Incomplete.IsStreaming.STREAMING c.args.input c.try_slot.new.slot
+    let counted = tries_counted g.I.Items.model (g.A.Parser.grammar last).IsOutput g.M.Error.ParseError.errors.joined g.M.Error.ParseError.errors.grows
+    (g.A.Parser.grammar last).meaning g.OM.Output.Mode.BUILDS g.OM.Error.Mode.BUILDS g.OM.Incomplete.IsStreaming.STREAMING c.args.input c.try_slot.new.slot
     c.args.slots.now.1 c.round-round.result c.try_slot.result c.try_slot.ensures.shown in
     omega (arith, c.round-round.ensures.counted, counted)
 

@@ -14,14 +14,14 @@ first_built outputs P x v e h = flat_built outputs P (λ o. P o.member) (λ v. r
 
 pub returns-in-Some : goal.returns-in-Some
 returns-in-Some g c outputs s t h k =
-    let o = g.A.Parser.IsOutput s in
-    let over = step_applied g.A.Error.ParseError.errors.joined g.A.Error.ParseError.errors.grows (g.A.Parser.meaning s) (λ v. Some v) NoChoice t k in
+    let o = (g.A.Parser.grammar s).IsOutput in
+    let over = step_applied g.A.Error.ParseError.errors.joined g.A.Error.ParseError.errors.grows (g.A.Parser.grammar s).meaning (λ v. Some v) NoChoice t k in
     first_built outputs (IsApplied o t) c.taken.result c.in-Some.member c.in-Some.is
     (taken_built outputs o t over.1 c.args.slots c.taken.result over.2 h c.taken.ensures)
 
 pub returns-in-None : goal.returns-in-None
 returns-in-None g c outputs s t h k =
-    let o = g.A.Parser.IsOutput s in
-    let over = step_applied g.A.Error.ParseError.errors.joined g.A.Error.ParseError.errors.grows (g.A.Parser.meaning s) (λ v. Some v) NoChoice t k in
+    let o = (g.A.Parser.grammar s).IsOutput in
+    let over = step_applied g.A.Error.ParseError.errors.joined g.A.Error.ParseError.errors.grows (g.A.Parser.grammar s).meaning (λ v. Some v) NoChoice t k in
     none_built outputs (IsApplied o t) (λ (p : One _). IsApplied o t p.member) c.taken.result c.in-None.is
     (taken_built outputs o t over.1 c.args.slots c.taken.result over.2 h c.taken.ensures)

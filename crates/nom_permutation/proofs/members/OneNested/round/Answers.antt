@@ -8,9 +8,9 @@ pub returns-clause-shown : goal.returns-clause-shown
 returns-clause-shown g c t h =
     let outputs = g.OM.Output.Mode.BUILDS in
     let state = g.A.Parser.state c.args.self.now.member in
-    let o = g.A.Parser.IsOutput state in
+    let o = (g.A.Parser.grammar state).IsOutput in
     let before = c.args.slots.now in
     let after = c.try_slot.new.slot in
-    member_step g.I.Items.model o g.A.Error.ParseError.errors.joined g.A.Error.ParseError.errors.grows (g.A.Parser.meaning state) (λ v. Some v)
+    member_step g.I.Items.model o g.A.Error.ParseError.errors.joined g.A.Error.ParseError.errors.grows (g.A.Parser.grammar state).meaning (λ v. Some v)
     outputs g.OM.Error.Mode.BUILDS g.OM.Incomplete.IsStreaming.STREAMING c.args.input t (λ u. SlotHolds outputs o u before) (λ u. SlotHolds outputs o u after)
     before after (λ e u k. holds_same outputs o u before after e k) (λ v k l. k) NoChoice t _ _ h (refl, h) c.try_slot.ensures.shown

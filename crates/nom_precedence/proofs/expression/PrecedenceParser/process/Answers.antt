@@ -14,8 +14,8 @@ abbrev read : (g : given.Over) → g.P.Parser.State → g.F.Parser.State → g.Q
     (Pair g.C.Parser.Tree (Term g.P.Parser.Tree g.F.Parser.Tree g.Q.Parser.Tree)))) g.row.F-Error.Denot
 read g p f q b n =
     read_meaning g.I.Items.model g.F.Error.ParseError.errors
-    (operator_meaning g.F.Error.ParseError.errors (HasLevel (g.C.Parser.IsOutput b) (λ o. o.0)) n (g.C.Parser.meaning b))
-    (term_meaning g.I.Items.model (g.P.Parser.meaning p) (g.F.Parser.meaning f) (g.Q.Parser.meaning q))
+    (operator_meaning g.F.Error.ParseError.errors (HasLevel (g.C.Parser.grammar b).IsOutput (λ o. o.0)) n (g.C.Parser.grammar b).meaning)
+    (term_meaning g.I.Items.model (g.P.Parser.grammar p).meaning (g.F.Parser.grammar f).meaning (g.Q.Parser.grammar q).meaning)
 
 pub returns-in_err-end-clause-shown : goal.returns-in_err-end-clause-shown
 returns-in_err-end-clause-shown g c =

@@ -11,7 +11,7 @@ pub returns-in-None-clause-decides : goal.returns-in-None-clause-decides
 returns-in-None-clause-decides g c =
     let i = c.parses.invariant in
     let o = c.tell.ensures.others in
-    decides_item g.R.Read.remaining g.G.Grammar.IsItem g.G.Grammar.meaning _ _ i.kept _ _ i.reads i.opened i.settings i.offset
+    decides_item g.R.Read.remaining g.G.Grammar.grammar _ _ i.kept _ _ i.reads i.opened i.settings i.offset
     _ _ c.take-taken.result _ c.in-None.ensures c.take-taken.ensures.takes c.take-taken.ensures.last c.tell.ensures.tells o.1 o.0 o.2 c.tell.ensures.offset
 
 pub returns-then-self-clause-decides : goal.returns-then-self-clause-decides
@@ -20,13 +20,12 @@ returns-then-self-clause-decides g c =
     let state = g.G.Grammar.state c.parses.grammar in
     let u = c.parses.self in
     let held = c.take-taken.new.held in
-    let w = waits_there (g.G.Grammar.IsItem state) (g.G.Grammar.meaning state) u.held held c.take-taken.result c.in-Some.needed
+    let w = waits_there (g.G.Grammar.grammar state) u.held held c.take-taken.result c.in-Some.needed
     c.in-Some.ensures c.take-taken.ensures.stays c.take-taken.ensures.takes in
-    let reads = as_after (λ z. Reads g.R.Read.remaining (g.G.Grammar.IsItem (g.G.Grammar.state c.args.grammar.now))
-    (g.G.Grammar.meaning (g.G.Grammar.state c.args.grammar.now)) c.args.self.now z ⊥) u held w.0 i.reads in
+    let reads = as_after (λ z. Reads g.R.Read.remaining (g.G.Grammar.grammar (g.G.Grammar.state c.args.grammar.now)) c.args.self.now z ⊥) u held w.0 i.reads in
     let opened = as_after (IsOpen g.R.Read.remaining) u held w.0 i.opened in
-    let waits = subst (λ z. Takes (g.G.Grammar.IsItem z) (g.G.Grammar.meaning z) true (held_of held) (held_of held) (Undecided c.in-Some.needed)) i.kept w.1 in
-    decides_end g.R.Read.remaining g.G.Grammar.IsItem g.G.Grammar.meaning _ _ (c.take-taken.ensures.kept ∙ i.kept) _ _ reads opened i.settings i.offset
+    let waits = subst (λ z. Takes (g.G.Grammar.grammar z) true (held_of held) (held_of held) (Undecided c.in-Some.needed)) i.kept w.1 in
+    decides_end g.R.Read.remaining g.G.Grammar.grammar _ _ (c.take-taken.ensures.kept ∙ i.kept) _ _ reads opened i.settings i.offset
     _ waits _ _ c.if-self.true c.end.ensures.ends c.end.ensures.others.0 c.end.ensures.others.1 c.end.ensures.offset
 
 pub returns-then-self-held-clause-decides : goal.returns-then-self-held-clause-decides
@@ -35,13 +34,12 @@ returns-then-self-held-clause-decides g c =
     let state = g.G.Grammar.state c.parses.grammar in
     let u = c.parses.self in
     let held = c.take-taken.new.held in
-    let w = waits_there (g.G.Grammar.IsItem state) (g.G.Grammar.meaning state) u.held held c.take-taken.result c.in-Some.needed
+    let w = waits_there (g.G.Grammar.grammar state) u.held held c.take-taken.result c.in-Some.needed
     c.in-Some.ensures c.take-taken.ensures.stays c.take-taken.ensures.takes in
-    let reads = as_after (λ z. Reads g.R.Read.remaining (g.G.Grammar.IsItem (g.G.Grammar.state c.args.grammar.now))
-    (g.G.Grammar.meaning (g.G.Grammar.state c.args.grammar.now)) c.args.self.now z ⊥) u held w.0 i.reads in
+    let reads = as_after (λ z. Reads g.R.Read.remaining (g.G.Grammar.grammar (g.G.Grammar.state c.args.grammar.now)) c.args.self.now z ⊥) u held w.0 i.reads in
     let opened = as_after (IsOpen g.R.Read.remaining) u held w.0 i.opened in
-    let waits = subst (λ z. Takes (g.G.Grammar.IsItem z) (g.G.Grammar.meaning z) true (held_of held) (held_of held) (Undecided c.in-Some.needed)) i.kept w.1 in
-    decides_full g.R.Read.remaining g.G.Grammar.IsItem g.G.Grammar.meaning _ _ (c.take-taken.ensures.kept ∙ i.kept) _ _ reads opened i.settings i.offset
+    let waits = subst (λ z. Takes (g.G.Grammar.grammar z) true (held_of held) (held_of held) (Undecided c.in-Some.needed)) i.kept w.1 in
+    decides_full g.R.Read.remaining g.G.Grammar.grammar _ _ (c.take-taken.ensures.kept ∙ i.kept) _ _ reads opened i.settings i.offset
     _ waits (omega (arith, c.len-held.ensures, c.if-self-held.true))
 
 pub returns-in-Err-clause-decides : goal.returns-in-Err-clause-decides
@@ -50,15 +48,14 @@ returns-in-Err-clause-decides g c =
     let state = g.G.Grammar.state c.parses.grammar in
     let u = c.parses.self in
     let held = c.take-taken.new.held in
-    let w = waits_there (g.G.Grammar.IsItem state) (g.G.Grammar.meaning state) u.held held c.take-taken.result c.in-Some.needed
+    let w = waits_there (g.G.Grammar.grammar state) u.held held c.take-taken.result c.in-Some.needed
     c.in-Some.ensures c.take-taken.ensures.stays c.take-taken.ensures.takes in
-    let reads = as_after (λ z. Reads g.R.Read.remaining (g.G.Grammar.IsItem (g.G.Grammar.state c.args.grammar.now))
-    (g.G.Grammar.meaning (g.G.Grammar.state c.args.grammar.now)) c.args.self.now z ⊥) u held w.0 i.reads in
+    let reads = as_after (λ z. Reads g.R.Read.remaining (g.G.Grammar.grammar (g.G.Grammar.state c.args.grammar.now)) c.args.self.now z ⊥) u held w.0 i.reads in
     let opened = as_after (IsOpen g.R.Read.remaining) u held w.0 i.opened in
-    let waits = subst (λ z. Takes (g.G.Grammar.IsItem z) (g.G.Grammar.meaning z) true (held_of held) (held_of held) (Undecided c.in-Some.needed)) i.kept w.1 in
-    subst (λ z. Decides g.R.Read.remaining (g.G.Grammar.IsItem (g.G.Grammar.state c.args.grammar.now))
-    (g.G.Grammar.meaning (g.G.Grammar.state c.args.grammar.now)) c.args.self.now c.fill.new.self z) (sym c.unfilled.ensures) (
-    decides_unread g.R.Read.remaining g.G.Grammar.IsItem g.G.Grammar.meaning _ _ (c.take-taken.ensures.kept ∙ i.kept) _ _ reads opened i.settings i.offset
+    let waits = subst (λ z. Takes (g.G.Grammar.grammar z) true (held_of held) (held_of held) (Undecided c.in-Some.needed)) i.kept w.1 in
+    subst (λ z. Decides g.R.Read.remaining (g.G.Grammar.grammar (g.G.Grammar.state c.args.grammar.now)) c.args.self.now c.fill.new.self z)
+    (sym c.unfilled.ensures) (
+    decides_unread g.R.Read.remaining g.G.Grammar.grammar _ _ (c.take-taken.ensures.kept ∙ i.kept) _ _ reads opened i.settings i.offset
     _ waits c.if-self.false (omega (arith, c.len-held.ensures, c.if-self-held.false)) _
     (c.wanted-wanted.ensures.wanted ∙ ap (wanted_of u.settings c.in-Some.needed) c.len-held.ensures)
     _ c.in-Err.why (λ e. c.in-Err.ensures.memory (ap Err e)) c.in-Err.ensures.fills c.in-Err.ensures.no_more
@@ -70,16 +67,15 @@ parses-preserved g c =
     let state = g.G.Grammar.state c.parses.grammar in
     let u = c.parses.self in
     let held = c.take-taken.new.held in
-    let w = waits_there (g.G.Grammar.IsItem state) (g.G.Grammar.meaning state) u.held held c.take-taken.result c.in-Some.needed
+    let w = waits_there (g.G.Grammar.grammar state) u.held held c.take-taken.result c.in-Some.needed
     c.in-Some.ensures c.take-taken.ensures.stays c.take-taken.ensures.takes in
-    let reads = as_after (λ z. Reads g.R.Read.remaining (g.G.Grammar.IsItem (g.G.Grammar.state c.args.grammar.now))
-    (g.G.Grammar.meaning (g.G.Grammar.state c.args.grammar.now)) c.args.self.now z ⊥) u held w.0 i.reads in
+    let reads = as_after (λ z. Reads g.R.Read.remaining (g.G.Grammar.grammar (g.G.Grammar.state c.args.grammar.now)) c.args.self.now z ⊥) u held w.0 i.reads in
     let opened = as_after (IsOpen g.R.Read.remaining) u held w.0 i.opened in
-    let waits = subst (λ z. Takes (g.G.Grammar.IsItem z) (g.G.Grammar.meaning z) true (held_of held) (held_of held) (Undecided c.in-Some.needed)) i.kept w.1 in
+    let waits = subst (λ z. Takes (g.G.Grammar.grammar z) true (held_of held) (held_of held) (Undecided c.in-Some.needed)) i.kept w.1 in
     record {
       kept = c.take-taken.ensures.kept ∙ i.kept;
       opened = c.in-Ok.ensures.open;
-      reads = reads_further g.R.Read.remaining g.G.Grammar.IsItem g.G.Grammar.meaning _ _ (c.take-taken.ensures.kept ∙ i.kept)
+      reads = reads_further g.R.Read.remaining g.G.Grammar.grammar _ _ (c.take-taken.ensures.kept ∙ i.kept)
           _ _ reads opened i.settings i.offset _ waits c.if-self.false (omega (arith, c.len-held.ensures, c.if-self-held.false)) _
           (c.wanted-wanted.ensures.wanted ∙ ap (wanted_of u.settings c.in-Some.needed) c.len-held.ensures)
           ⊥ _ c.in-Ok.ensures.fills c.in-Ok.ensures.no_more (c.in-Ok.ensures.enough refl);

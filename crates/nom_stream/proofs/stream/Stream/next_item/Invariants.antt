@@ -7,8 +7,7 @@ abbrev pub invariant-parses : goal.invariant-parses
 invariant-parses g l = record {
   kept : g.G.Grammar.state l.grammar ≡ g.G.Grammar.state l.fn.grammar;
   opened : IsOpen g.R.Read.remaining l.self;
-  reads : Reads g.R.Read.remaining (g.G.Grammar.IsItem (g.G.Grammar.state l.fn.grammar))
-      (g.G.Grammar.meaning (g.G.Grammar.state l.fn.grammar)) l.fn.self l.self ⊥;
+  reads : Reads g.R.Read.remaining (g.G.Grammar.grammar (g.G.Grammar.state l.fn.grammar)) l.fn.self l.self ⊥;
   settings : l.self.settings ≡ l.fn.self.settings;
   offset : l.self.offset ≡ l.fn.self.offset;
 }

@@ -32,8 +32,8 @@ fn two_of<I: Input + Content + PartialEq, P: Parser<I, Output = I, Error = Trail
     b: P,
     rows: &[Row<I>],
 ) -> Option<usize>
-    requires a { (P.meaning (P.state a)).IsSound }
-    requires b { (P.meaning (P.state b)).IsSound }
+    requires a { (P.grammar (P.state a)).meaning.IsSound }
+    requires b { (P.grammar (P.state b)).meaning.IsSound }
 {
     wrong_row(alt((a, b)), rows)
 }
@@ -55,9 +55,9 @@ fn three_of<I: Input + Content + PartialEq, P: Parser<I, Output = I, Error = Tra
     c: P,
     rows: &[Row<I>],
 ) -> Option<usize>
-    requires a { (P.meaning (P.state a)).IsSound }
-    requires b { (P.meaning (P.state b)).IsSound }
-    requires c { (P.meaning (P.state c)).IsSound }
+    requires a { (P.grammar (P.state a)).meaning.IsSound }
+    requires b { (P.grammar (P.state b)).meaning.IsSound }
+    requires c { (P.grammar (P.state c)).meaning.IsSound }
 {
     wrong_row(alt((a, b, c)), rows)
 }
@@ -82,9 +82,9 @@ fn three_with_a_failure<
     I: Input + Content + PartialEq,
     P: Parser<I, Output = I, Error = Trail> + Drop,
 >(a: P, b: P, c: P, rows: &[Row<I>]) -> Option<usize>
-    requires a { (P.meaning (P.state a)).IsSound }
-    requires b { (P.meaning (P.state b)).IsSound }
-    requires c { (P.meaning (P.state c)).IsSound }
+    requires a { (P.grammar (P.state a)).meaning.IsSound }
+    requires b { (P.grammar (P.state b)).meaning.IsSound }
+    requires c { (P.grammar (P.state c)).meaning.IsSound }
 {
     wrong_row(alt((a, cut(b), c)), rows)
 }
@@ -111,13 +111,13 @@ fn seven_of<I: Input + Content + PartialEq, P: Parser<I, Output = I, Error = Tra
     g: P,
     rows: &[Row<I>],
 ) -> Option<usize>
-    requires a { (P.meaning (P.state a)).IsSound }
-    requires b { (P.meaning (P.state b)).IsSound }
-    requires c { (P.meaning (P.state c)).IsSound }
-    requires d { (P.meaning (P.state d)).IsSound }
-    requires e { (P.meaning (P.state e)).IsSound }
-    requires f { (P.meaning (P.state f)).IsSound }
-    requires g { (P.meaning (P.state g)).IsSound }
+    requires a { (P.grammar (P.state a)).meaning.IsSound }
+    requires b { (P.grammar (P.state b)).meaning.IsSound }
+    requires c { (P.grammar (P.state c)).meaning.IsSound }
+    requires d { (P.grammar (P.state d)).meaning.IsSound }
+    requires e { (P.grammar (P.state e)).meaning.IsSound }
+    requires f { (P.grammar (P.state f)).meaning.IsSound }
+    requires g { (P.grammar (P.state g)).meaning.IsSound }
 {
     wrong_row(alt((a, b, c, d, e, f, g)), rows)
 }
@@ -151,14 +151,14 @@ fn eight_of<I: Input + Content + PartialEq, P: Parser<I, Output = I, Error = Tra
     h: P,
     rows: &[Row<I>],
 ) -> Option<usize>
-    requires a { (P.meaning (P.state a)).IsSound }
-    requires b { (P.meaning (P.state b)).IsSound }
-    requires c { (P.meaning (P.state c)).IsSound }
-    requires d { (P.meaning (P.state d)).IsSound }
-    requires e { (P.meaning (P.state e)).IsSound }
-    requires f { (P.meaning (P.state f)).IsSound }
-    requires g { (P.meaning (P.state g)).IsSound }
-    requires h { (P.meaning (P.state h)).IsSound }
+    requires a { (P.grammar (P.state a)).meaning.IsSound }
+    requires b { (P.grammar (P.state b)).meaning.IsSound }
+    requires c { (P.grammar (P.state c)).meaning.IsSound }
+    requires d { (P.grammar (P.state d)).meaning.IsSound }
+    requires e { (P.grammar (P.state e)).meaning.IsSound }
+    requires f { (P.grammar (P.state f)).meaning.IsSound }
+    requires g { (P.grammar (P.state g)).meaning.IsSound }
+    requires h { (P.grammar (P.state h)).meaning.IsSound }
 {
     wrong_row(alt((a, b, c, d, e, f, g, h)), rows)
 }
@@ -192,8 +192,8 @@ fn either_of<I: Input + Content + PartialEq, P: Parser<I, Output = I, Error = Tr
     b: P,
     rows: &[Row<I>],
 ) -> Option<usize>
-    requires a { (P.meaning (P.state a)).IsSound }
-    requires b { (P.meaning (P.state b)).IsSound }
+    requires a { (P.grammar (P.state a)).meaning.IsSound }
+    requires b { (P.grammar (P.state b)).meaning.IsSound }
 {
     wrong_row(a.or(b), rows)
 }

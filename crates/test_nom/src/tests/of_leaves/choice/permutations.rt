@@ -29,9 +29,9 @@ fn three_of<
     P: Parser<I, Output = A, Error = Error<I>> + Drop,
     Q: Parser<I, Output = B, Error = Error<I>> + Drop,
 >(a: P, b: P, c: Q, rows: &[Row<I, (A, A, B)>]) -> Option<usize>
-    requires a { (P.meaning (P.state a)).IsSound }
-    requires b { (P.meaning (P.state b)).IsSound }
-    requires c { (Q.meaning (Q.state c)).IsSound }
+    requires a { (P.grammar (P.state a)).meaning.IsSound }
+    requires b { (P.grammar (P.state b)).meaning.IsSound }
+    requires c { (Q.grammar (Q.state c)).meaning.IsSound }
 {
     wrong_row(permutation((a, b, c)), rows)
 }
@@ -71,8 +71,8 @@ fn two_of<
     A: PartialEq + Drop,
     P: Parser<I, Output = A, Error = Error<I>> + Drop,
 >(a: P, b: P, rows: &[Row<I, (A, A)>]) -> Option<usize>
-    requires a { (P.meaning (P.state a)).IsSound }
-    requires b { (P.meaning (P.state b)).IsSound }
+    requires a { (P.grammar (P.state a)).meaning.IsSound }
+    requires b { (P.grammar (P.state b)).meaning.IsSound }
 {
     wrong_row(permutation((a, b)), rows)
 }
@@ -104,14 +104,14 @@ fn eight_of<
     h: P,
     rows: &[Row<I, (O, O, O, O, O, O, O, O)>],
 ) -> Option<usize>
-    requires a { (P.meaning (P.state a)).IsSound }
-    requires b { (P.meaning (P.state b)).IsSound }
-    requires c { (P.meaning (P.state c)).IsSound }
-    requires d { (P.meaning (P.state d)).IsSound }
-    requires e { (P.meaning (P.state e)).IsSound }
-    requires f { (P.meaning (P.state f)).IsSound }
-    requires g { (P.meaning (P.state g)).IsSound }
-    requires h { (P.meaning (P.state h)).IsSound }
+    requires a { (P.grammar (P.state a)).meaning.IsSound }
+    requires b { (P.grammar (P.state b)).meaning.IsSound }
+    requires c { (P.grammar (P.state c)).meaning.IsSound }
+    requires d { (P.grammar (P.state d)).meaning.IsSound }
+    requires e { (P.grammar (P.state e)).meaning.IsSound }
+    requires f { (P.grammar (P.state f)).meaning.IsSound }
+    requires g { (P.grammar (P.state g)).meaning.IsSound }
+    requires h { (P.grammar (P.state h)).meaning.IsSound }
 {
     wrong_row(permutation((a, b, c, d, e, f, g, h)), rows)
 }

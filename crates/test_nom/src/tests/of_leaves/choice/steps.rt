@@ -76,7 +76,7 @@ fn answers<OM: OutputMode, I: Input + Content + PartialEq, P: Parser<I, Output =
     input: I,
     wanted: &Answer<I>,
 ) -> bool
-    requires { (P.meaning (P.state parser.old)).IsSound }
+    requires { (P.grammar (P.state parser.old)).meaning.IsSound }
     ensures { P.state parser.new ≡ P.state parser.old }
 {
     let found = parser.process::<OM>(input);
@@ -98,7 +98,7 @@ fn answers_in<
     I: Input + Content + PartialEq,
     P: Parser<I, Output = I, Error = Trail>,
 >(parser: &mut P, input: I, wanted: &Answer<I>) -> bool
-    requires { (P.meaning (P.state parser.old)).IsSound }
+    requires { (P.grammar (P.state parser.old)).meaning.IsSound }
     ensures { P.state parser.new ≡ P.state parser.old }
 {
     answers::<OutputM<Emit, Emit, S>, _, _>(parser, input, wanted)
@@ -112,7 +112,7 @@ fn holds<I: Input + Content + PartialEq, P: Parser<I, Output = I, Error = Trail>
     parser: &mut P,
     row: &Row<I>,
 ) -> bool
-    requires { (P.meaning (P.state parser.old)).IsSound }
+    requires { (P.grammar (P.state parser.old)).meaning.IsSound }
     ensures { P.state parser.new ≡ P.state parser.old }
 {
     let complete = match &row.2 {
@@ -129,7 +129,7 @@ pub fn wrong_row<I: Input + Content + PartialEq, P: Parser<I, Output = I, Error 
     mut parser: P,
     rows: &[Row<I>],
 ) -> Option<usize>
-    requires { (P.meaning (P.state parser)).IsSound }
+    requires { (P.grammar (P.state parser)).meaning.IsSound }
 {
     for (index, row) in rows.iter().enumerate() {
         if !holds(&mut parser, row) {
@@ -144,7 +144,7 @@ pub fn refusal_of<'a, P: Parser<&'a [u8], Error = Trail> + Drop>(
     mut parser: P,
     input: &'a [u8],
 ) -> Option<Trail>
-    requires { (P.meaning (P.state parser)).IsSound }
+    requires { (P.grammar (P.state parser)).meaning.IsSound }
 {
     match parser.parse(input) {
         Err(Err::Error(trail)) => Some(trail),

@@ -5,9 +5,9 @@ use Rattle.test_lists.proofs.tests.of_hostile.passed_on.value_runs_out.Goals as 
 
 pub may_run_out-requires : goal.may_run_out-requires
 may_run_out-requires g c = (
-  subst (λ x. (g.L.Parser.meaning (g.L.Parser.state x)).IsSound) (sym c.length_value.ensures.length) c.requires.length,
+  subst (λ x. (g.L.Parser.grammar (g.L.Parser.state x)).meaning.IsSound) (sym c.length_value.ensures.length) c.requires.length,
   (
-    subst (λ x. (g.P.Parser.meaning (g.P.Parser.state x)).IsSound) (sym c.length_value.ensures.parser) c.requires.part,
-    subst (λ x. IsOne (HasSize (g.L.Parser.IsOutput (g.L.Parser.state x)) (λ n. n))) (sym c.length_value.ensures.length) c.requires.one,
+    subst (λ x. (g.P.Parser.grammar (g.P.Parser.state x)).meaning.IsSound) (sym c.length_value.ensures.parser) c.requires.part,
+    subst (λ x. IsOne (HasSize (g.L.Parser.grammar (g.L.Parser.state x)).IsOutput (λ n. n))) (sym c.length_value.ensures.length) c.requires.one,
   ),
 )
