@@ -5,5 +5,6 @@ pub mod Consumed
 pub mod Given
 pub mod Judges
 pub mod Maps
+pub mod Owed
 pub mod Shown
 pub mod Tuples

@@ -1,10 +1,11 @@
 -- Grammars: what a parser means, and which outputs its parse trees stand for. A word for one is named as the parser, with `_of`, or
 -- with `_by` where a closure of any contract is in it.
-use Rattle.std.specs.Prelude.{◌≡◌, Bool}
+use Rattle.std.specs.Prelude.{◌≡◌, ℕ, Bool}
 use Rattle.nom_error.specs.Answers.{PResult, IResult}
 use Rattle.nom_error.specs.Modes.{Modes}
 use Rattle.nom_traits.specs.Input.{Model}
 use Rattle.nom_traits.specs.Slices.{Slice, IsModelledBy}
+use Rattle.nom_internal.specs.Outcome.Outcome.{Accept}
 use Rattle.nom_internal.specs.Meaning.{Meaning, ShowsMeaning, ParsesMeaning}
 
 pub record Grammar (I V O E : Type 0) : Type 1 where
@@ -28,3 +29,10 @@ module _ {I A E : Type 0} (w : Model I A) where
 -- a leaf whose tree is its output
 abbrev pub valued : {I V E : Type 0} → Meaning I V E → Grammar I V V E
 valued m = record { meaning = m; IsOutput = λ t o. o ≡ t }
+
+-- an output for what is accepted at i
+pub record GivesAt {I V O E : Type 0} (g : Grammar I V O E) (streaming : Bool) (i : I) (o : O) : Type 0 where
+  pub length : ℕ
+  pub tree : V
+  pub accepted : g.meaning.answers streaming i (Accept length tree)
+  pub is_output : g.IsOutput tree o

@@ -34,7 +34,7 @@ pub use Rattle.nom_internal.specs.Choice.NextBlames.{NextFails, NextRefuses}
 pub use Rattle.nom_internal.specs.Choice.OrBlames.{FirstFails, FirstRefuses}
 pub use Rattle.nom_internal.specs.Closures.{GivesFor, IsCallable, IsJudge, SeesAlike}
 pub use Rattle.nom_internal.specs.Families.{AnyKey, Family, IsLawfulFamily, IsOne, OfValue, always, always_lawful, of_value, of_value_lawful, of_value_steady}
-pub use Rattle.nom_internal.specs.Grammar.{Grammar, Parses, Shows, sliced, valued}
+pub use Rattle.nom_internal.specs.Grammar.{GivesAt, Grammar, Parses, Shows, sliced, valued}
 pub use Rattle.nom_internal.specs.Judged.{Judged, JudgedBlames, OfError, OnUnfit, judged_case, judged_meaning, kept_if}
 pub use Rattle.nom_internal.specs.Leaf.{Leaf, LeafAnswers, LeafLaws, leaf_lawful, leaf_meaning, leaf_steady}
 pub use Rattle.nom_internal.specs.Mapped.{BuildsError, ConvertsResult, ConvertsSome, into_by, into_meaning, map_by, map_case, map_meaning, renamed_case}
@@ -49,7 +49,8 @@ pub use Rattle.nom_internal.specs.Outcome.Reason.{Fails, Needs}
 pub use Rattle.nom_internal.specs.Outcome.ShowsAnswer.{RanOut, Shown}
 pub use Rattle.nom_internal.specs.Pinned.{IsPinned, either_pinned, pair_pinned, slice_pinned, value_pinned}
 pub use Rattle.nom_internal.specs.Recognized.{IsSliced, recognized_meaning}
-pub use Rattle.nom_internal.specs.Results.{AsksForMore, HasRests, HoldsSame, IsFull, OfRest, ThenBesides, WithRest, rest_of}
+pub use Rattle.nom_internal.specs.Results.{AsksForMore, BoundBesides, HasRests, HoldsSame, IsFull, JudgedBesides, MadeBesides, OfRest, OrBesides}
+pub use Rattle.nom_internal.specs.Results.{ThenBesides, WithRest, rest_of}
 pub use Rattle.nom_internal.specs.Sequence.{GoesOn, OnRest, PairOutput, Then, ThenBlames, ThenRunsOut, after, pair_meaning, pair_of, sequence_meaning}
 pub use Rattle.nom_internal.specs.Sequence.{then_meaning}
 pub use Rattle.nom_internal.specs.Sequence.ThenRunsOut.{RunsOutFirst, RunsOutNext}

@@ -1,6 +1,10 @@
 //! One parser on what another one gives.
+ghost use Rattle.std.specs.Prelude.{true};
+ghost use Rattle.nom_error.specs.Modes.{with_outputs};
 ghost use Rattle.nom_internal.specs.Bounded.{and_then_of};
+ghost use Rattle.nom_internal.specs.Grammar.{GivesAt};
 ghost use Rattle.nom_internal.specs.Pinned.{IsPinned};
+ghost use Rattle.nom_internal.specs.Results.{BoundBesides};
 
 use crate::parser::{Parser, StreamParser};
 use nom_error::answer::PResult;
@@ -34,6 +38,9 @@ impl<
     ghost Tree = { G.Tree };
 
     ghost grammar = { λ s. and_then_of I.model F.Output.model (F.grammar s.0) (G.grammar s.1) };
+
+    ghost Besides = { λ mode old new i. BoundBesides (F.Besides (with_outputs true mode) old.first new.first i)
+        (GivesAt (F.grammar (F.state old.first)) mode.streaming i) (G.Besides mode old.second new.second) };
 
     // The second needn't be a stream parser, which alone has a law of what it pins.
 

@@ -2,6 +2,7 @@
 ghost use Rattle.std.specs.Prelude.{◌≡◌};
 ghost use Rattle.nom_error.specs.Modes.{modes};
 ghost use Rattle.nom_internal.specs.Choice.{OnError, JoinsErrors, ClosesError, JoinsResult, ClosesResult, ShowsNext};
+ghost use Rattle.nom_internal.specs.Results.{rest_of};
 
 use crate::parser::Parser;
 use nom_error::answer::{Err, PResult};
@@ -55,6 +56,7 @@ pub fn after_refusal<I: Items, P: Parser<I>, OM: OutputMode>(
     ensures shown { ShowsNext I.model (P.grammar (P.state next.old)).IsOutput P.Error.errors.joined P.Error.errors.grows (P.grammar (P.state next.old)).meaning
         (modes OM.Output.BUILDS OM.Error.BUILDS OM.Incomplete.STREAMING) input error result }
     ensures kept { P.state next.new ≡ P.state next.old }
+    ensures besides { P.Besides (modes OM.Output.BUILDS OM.Error.BUILDS OM.Incomplete.STREAMING) next.old next.new input (rest_of result) }
 {
     join(error, next.process::<OM>(input))
 }
@@ -71,6 +73,8 @@ pub fn next_branch<I: Items, P: Parser<I>, OM: OutputMode>(
         (P.grammar (P.state next.old)).meaning
         (modes OM.Output.BUILDS OM.Error.BUILDS OM.Incomplete.STREAMING) input) before result }
     ensures kept { P.state next.new ≡ P.state next.old }
+    ensures besides { OnError (λ _ r. P.Besides (modes OM.Output.BUILDS OM.Error.BUILDS OM.Incomplete.STREAMING) next.old next.new input (rest_of r))
+        before result }
 {
     match before {
         Ok(taken) => Ok(taken),

@@ -1,6 +1,7 @@
 //! One of two parsers.
 ghost use Rattle.std.specs.Prelude.{◌⊎◌};
 ghost use Rattle.nom_internal.specs.Choice.{either_of};
+ghost use Rattle.nom_internal.specs.Results.{OrBesides};
 
 use crate::choice::next_branch;
 use crate::parser::{Parser, StreamParser};
@@ -34,6 +35,8 @@ impl<
     ghost Tree = { F.Tree ⊎ G.Tree };
 
     ghost grammar = { λ s. either_of F.Error.errors.joined F.Error.errors.grows (F.grammar s.0) (G.grammar s.1) };
+
+    ghost Besides = { λ mode old new i. OrBesides (F.Besides mode old.first new.first i) (G.Besides mode old.second new.second i) };
 
     #[inline(always)]
     fn process<OM: OutputMode>(&mut self, input: I) -> PResult<I, Self::Output, Self::Error> {

@@ -1,5 +1,9 @@
 //! Parsers that closures give.
+ghost use Rattle.std.specs.Prelude.{true};
+ghost use Rattle.nom_error.specs.Modes.{with_outputs};
 ghost use Rattle.nom_internal.specs.FlatMap.{maker, OfEachGiven, flat_map_by};
+ghost use Rattle.nom_internal.specs.Grammar.{GivesAt};
+ghost use Rattle.nom_internal.specs.Results.{MadeBesides, ThenBesides};
 
 use crate::parser::{Parser, StreamParser};
 use nom_error::answer::PResult;
@@ -33,6 +37,9 @@ impl<
     ghost Tree = { H.State × H.Tree };
 
     ghost grammar = { λ s. flat_map_by I.model (maker (G.pre s.1) (G.post s.1) H.state) (F.grammar s.0) H.grammar };
+
+    ghost Besides = { λ mode old new i. ThenBesides (F.Besides (with_outputs true mode) old.first new.first i)
+        (MadeBesides (GivesAt (F.grammar (F.state old.first)) mode.streaming i) (G.post old.make) (H.Besides mode)) };
 
     #[inline(always)]
     fn process<OM: OutputMode>(&mut self, input: I) -> PResult<I, H::Output, F::Error> {

@@ -4,7 +4,7 @@ ghost use Rattle.nom_error.specs.Answers.{Refuses};
 ghost use Rattle.nom_error.specs.Modes.{with_outputs};
 ghost use Rattle.nom_internal.specs.Closures.{SeesAlike};
 ghost use Rattle.nom_internal.specs.Judged.{map_opt_by, map_res_by};
-ghost use Rattle.nom_internal.specs.Results.{WhereAccepted};
+ghost use Rattle.nom_internal.specs.Results.{JudgedBesides};
 ghost use Rattle.nom_internal.specs.laws.JudgedLaws.{judged_lawful, judged_steady};
 ghost use Rattle.nom_internal.specs.laws.MappedLaws.{given_pinned};
 
@@ -40,7 +40,7 @@ impl<I: Items, F: Parser<I> + Drop, O: Drop, G: Fn(F::Output) -> Option<O>> Pars
 
     ghost grammar = { λ s. map_opt_by F.Error.errors (G.pre s.1) (G.post s.1) (F.grammar s.0) };
 
-    ghost Besides = { λ mode old new i. WhereAccepted (F.Besides (with_outputs true mode) old.parser new.parser i) };
+    ghost Besides = { λ mode old new i. JudgedBesides (F.Besides (with_outputs true mode) old.parser new.parser i) };
 
     #[inline(always)]
     fn process<OM: OutputMode>(&mut self, input: I) -> PResult<I, O, F::Error> {
@@ -117,7 +117,7 @@ where
 
     ghost grammar = { λ s. map_res_by F.Error.externals (G.pre s.1) (G.post s.1) (F.grammar s.0) };
 
-    ghost Besides = { λ mode old new i. WhereAccepted (F.Besides (with_outputs true mode) old.parser new.parser i) };
+    ghost Besides = { λ mode old new i. JudgedBesides (F.Besides (with_outputs true mode) old.parser new.parser i) };
 
     #[inline(always)]
     fn process<OM: OutputMode>(&mut self, input: I) -> PResult<I, O, F::Error> {

@@ -1,110 +1,37 @@
-//! Tuples of up to four parsers, and the steps by which tuples of any width are run. The members run in
-//! sequence, and outputs are gathered in nested pairs. As in nom a member builds its output in every mode,
-//! and the tuple drops what isn't asked for.
-ghost use Rattle.std.specs.Prelude.{◌≡◌, Some, None, cond, true};
+//! Tuples of up to four parsers, and the step by which a member of a tuple of any width is run. The members run in
+//! sequence. As in nom a member builds its output in every mode, and the tuple drops what isn't asked for.
+ghost use Rattle.std.specs.Prelude.{◌≡◌, true};
 ghost use Rattle.std.proofs.Common.{refl};
-ghost use Rattle.nom_error.specs.Modes.{modes};
+ghost use Rattle.nom_error.specs.Modes.{modes, with_outputs};
 ghost use Rattle.nom_internal.specs.Meaning.{ShowsMeaning};
 ghost use Rattle.nom_internal.specs.Sequence.{pair_of};
-ghost use Rattle.nom_internal.specs.Tuples.{tuple_of, OnAccepted, ShowsMember, IsPaired, IsFormed, OneOutput};
+ghost use Rattle.nom_internal.specs.Results.{rest_of, with_output, ThenBesides};
+ghost use Rattle.nom_internal.specs.Tuples.{tuple_of};
 ghost use Rattle.nom_internal.specs.Pinned.{pair_pinned};
 ghost use Rattle.nom_internal.specs.laws.TupleLaws.{built_lawful, pair_lawful, built_steady, pair_steady, flat_pinned, single_pinned};
 
-use crate::flat::{Flat, One, made_flat};
+use crate::built::built;
 use crate::parser::{Parser, StreamParser};
-use crate::sequence::combine;
-use nom_error::answer::PResult;
-use nom_error::mode::{Emit, Mode, OutputM, OutputMode};
+use nom_error::answer::{Err, PResult};
+use nom_error::mode::{Emit, OutputM, OutputMode};
 use nom_traits::input::Items;
 
-/// An answer, with its output as the first of nested pairs.
+/// What a member answers. Its output is built in every mode.
 #[inline(always)]
-fn begun<I, T: Drop, E>(answer: PResult<I, T, E>) -> PResult<I, One<T>, E>
-    ensures { OnAccepted (IsFormed true (λ o. record { member = o })) answer result }
-{
-    match answer {
-        Ok(accepted) => {
-            let (rest, value) = accepted;
-            match value {
-                Some(member) => Ok((rest, Some(One { member }))),
-                None => Ok((rest, None)),
-            }
-        }
-        Err(error) => Err(error),
-    }
-}
-
-/// What the first member answers. Its output is built in every mode.
-#[inline(always)]
-pub fn first_member<I: Items, P: Parser<I>, OM: OutputMode>(
-    first: &mut P,
+pub fn member<I: Items, P: Parser<I>, OM: OutputMode>(
+    part: &mut P,
     input: I,
-) -> PResult<I, One<P::Output>, P::Error>
-    requires { (P.grammar (P.state first.old)).meaning.IsSound }
-    ensures shown { ShowsMeaning I.model (OneOutput (P.grammar (P.state first.old)).IsOutput) (P.grammar (P.state first.old)).meaning
-        (modes true OM.Error.BUILDS OM.Incomplete.STREAMING) input result }
-    ensures kept { P.state first.new ≡ P.state first.old }
+) -> Result<(I, P::Output), Err<P::Error, Option<P::Error>>>
+    requires { (P.grammar (P.state part.old)).meaning.IsSound }
+    ensures shown { ShowsMeaning I.model (P.grammar (P.state part.old)).IsOutput (P.grammar (P.state part.old)).meaning
+        (modes true OM.Error.BUILDS OM.Incomplete.STREAMING) input (with_output result) }
+    ensures kept { P.state part.new ≡ P.state part.old }
+    ensures besides { P.Besides (modes true OM.Error.BUILDS OM.Incomplete.STREAMING) part.old part.new input (rest_of result) }
 {
-    begun(first.process::<OutputM<Emit, OM::Error, OM::Incomplete>>(input))
-}
-
-/// An answer, with its output after another.
-#[inline(always)]
-fn paired<I, T: Drop, U: Drop, E>(
-    first: Option<T>,
-    second: PResult<I, U, E>,
-) -> PResult<I, (T, U), E>
-    ensures { (t : T) → first ≡ Some t → OnAccepted (IsPaired t) second result }
-{
-    match second {
-        Ok(accepted) => {
-            let (rest, value) = accepted;
-            Ok((rest, combine(first, value)))
-        }
-        Err(error) => Err(error),
-    }
-}
-
-/// What one more member answers after those before it. Its output is built in every mode.
-#[inline(always)]
-pub fn next_member<I: Items, T: Drop, P: Parser<I>, OM: OutputMode>(
-    before: PResult<I, T, P::Error>,
-    next: &mut P,
-) -> PResult<I, (T, P::Output), P::Error>
-    requires { (P.grammar (P.state next.old)).meaning.IsSound }
-    ensures shown { OnAccepted (ShowsMember I.model (P.grammar (P.state next.old)).IsOutput (P.grammar (P.state next.old)).meaning
-        (modes OM.Output.BUILDS OM.Error.BUILDS OM.Incomplete.STREAMING)) before result }
-    ensures kept { P.state next.new ≡ P.state next.old }
-{
-    match before {
-        Ok(accepted) => {
-            let (rest, first) = accepted;
-            let second = next.process::<OutputM<Emit, OM::Error, OM::Incomplete>>(rest);
-            paired(first, second)
-        }
-        Err(error) => Err(error),
-    }
-}
-
-/// Nested pairs as their tuple, where outputs are asked for.
-#[inline(always)]
-fn asked<M: Mode, N: Flat + Drop>(nested: Option<N>) -> Option<N::Tuple>
-    ensures { (t : N) → nested ≡ Some t → result ≡ cond M.BUILDS (Some (N.flatten t)) None }
-{
-    if M::BUILDS { made_flat(nested) } else { None }
-}
-
-/// An answer, with nested pairs as their tuple, where outputs are asked for.
-#[inline(always)]
-pub fn formed<I, N: Flat + Drop, E, M: Mode>(answer: PResult<I, N, E>) -> PResult<I, N::Tuple, E>
-    ensures { OnAccepted (IsFormed M.BUILDS N.flatten) answer result }
-{
-    match answer {
-        Ok(accepted) => {
-            let (rest, value) = accepted;
-            Ok((rest, asked::<M, N>(value)))
-        }
-        Err(error) => Err(error),
+    let (rest, output) = part.process::<OutputM<Emit, OM::Error, OM::Incomplete>>(input)?;
+    match output {
+        Some(output) => Ok((rest, output)),
+        None => unreachable!(),
     }
 }
 
@@ -121,10 +48,12 @@ impl<I: Items, A: Parser<I>> Parser<I> for (A,) {
 
     ghost grammar = { λ s. tuple_of (λ o. o.0) (A.grammar s) };
 
+    ghost Besides = { λ mode old new i. A.Besides (with_outputs true mode) old.0 new.0 i };
+
     #[inline(always)]
     fn process<OM: OutputMode>(&mut self, input: I) -> PResult<I, Self::Output, Self::Error> {
-        let answer = first_member::<I, A, OM>(&mut self.0, input);
-        formed::<I, _, A::Error, OM::Output>(answer)
+        let (rest, a) = member::<I, A, OM>(&mut self.0, input)?;
+        Ok((rest, built::<OM::Output, _>((a,))))
     }
 
     ghost lawful = { λ s k. built_lawful (A.lawful s k) };
@@ -151,11 +80,13 @@ impl<I: Items, A: Parser<I>, B: Parser<I, Error = A::Error>> Parser<I> for (A, B
 
     ghost grammar = { λ s. tuple_of (λ o. (o.0, o.1)) (pair_of I.model (A.grammar s.0) (B.grammar s.1)) };
 
+    ghost Besides = { λ mode old new i. ThenBesides (A.Besides (with_outputs true mode) old.0 new.0 i) (B.Besides (with_outputs true mode) old.1 new.1) };
+
     #[inline(always)]
     fn process<OM: OutputMode>(&mut self, input: I) -> PResult<I, Self::Output, Self::Error> {
-        let answer = first_member::<I, A, OM>(&mut self.0, input);
-        let answer = next_member::<I, _, B, OM>(answer, &mut self.1);
-        formed::<I, _, A::Error, OM::Output>(answer)
+        let (rest, a) = member::<I, A, OM>(&mut self.0, input)?;
+        let (rest, b) = member::<I, B, OM>(&mut self.1, rest)?;
+        Ok((rest, built::<OM::Output, _>((a, b))))
     }
 
     ghost lawful = { λ s k. built_lawful (pair_lawful I.lawful (A.lawful s.0 k.0) (B.lawful s.1 k.1)) };
@@ -186,12 +117,15 @@ impl<I: Items, A: Parser<I>, B: Parser<I, Error = A::Error>, C: Parser<I, Error 
 
     ghost grammar = { λ s. tuple_of (λ o. ((o.0, o.1), o.2)) (pair_of I.model (pair_of I.model (A.grammar s.0) (B.grammar s.1)) (C.grammar s.2)) };
 
+    ghost Besides = { λ mode old new i. ThenBesides (ThenBesides (A.Besides (with_outputs true mode) old.0 new.0 i)
+        (B.Besides (with_outputs true mode) old.1 new.1)) (C.Besides (with_outputs true mode) old.2 new.2) };
+
     #[inline(always)]
     fn process<OM: OutputMode>(&mut self, input: I) -> PResult<I, Self::Output, Self::Error> {
-        let answer = first_member::<I, A, OM>(&mut self.0, input);
-        let answer = next_member::<I, _, B, OM>(answer, &mut self.1);
-        let answer = next_member::<I, _, C, OM>(answer, &mut self.2);
-        formed::<I, _, A::Error, OM::Output>(answer)
+        let (rest, a) = member::<I, A, OM>(&mut self.0, input)?;
+        let (rest, b) = member::<I, B, OM>(&mut self.1, rest)?;
+        let (rest, c) = member::<I, C, OM>(&mut self.2, rest)?;
+        Ok((rest, built::<OM::Output, _>((a, b, c))))
     }
 
     ghost lawful = { λ s k. built_lawful (pair_lawful I.lawful (pair_lawful I.lawful (A.lawful s.0 k.0.0) (B.lawful s.1 k.0.1)) (C.lawful s.2 k.1)) };
@@ -231,13 +165,17 @@ impl<
     ghost grammar = { λ s. tuple_of (λ o. (((o.0, o.1), o.2), o.3))
         (pair_of I.model (pair_of I.model (pair_of I.model (A.grammar s.0) (B.grammar s.1)) (C.grammar s.2)) (D.grammar s.3)) };
 
+    ghost Besides = { λ mode old new i. ThenBesides (ThenBesides (ThenBesides (A.Besides (with_outputs true mode) old.0 new.0 i)
+        (B.Besides (with_outputs true mode) old.1 new.1)) (C.Besides (with_outputs true mode) old.2 new.2))
+        (D.Besides (with_outputs true mode) old.3 new.3) };
+
     #[inline(always)]
     fn process<OM: OutputMode>(&mut self, input: I) -> PResult<I, Self::Output, Self::Error> {
-        let answer = first_member::<I, A, OM>(&mut self.0, input);
-        let answer = next_member::<I, _, B, OM>(answer, &mut self.1);
-        let answer = next_member::<I, _, C, OM>(answer, &mut self.2);
-        let answer = next_member::<I, _, D, OM>(answer, &mut self.3);
-        formed::<I, _, A::Error, OM::Output>(answer)
+        let (rest, a) = member::<I, A, OM>(&mut self.0, input)?;
+        let (rest, b) = member::<I, B, OM>(&mut self.1, rest)?;
+        let (rest, c) = member::<I, C, OM>(&mut self.2, rest)?;
+        let (rest, d) = member::<I, D, OM>(&mut self.3, rest)?;
+        Ok((rest, built::<OM::Output, _>((a, b, c, d))))
     }
 
     ghost lawful = { λ s k. built_lawful (pair_lawful I.lawful

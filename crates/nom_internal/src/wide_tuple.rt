@@ -1,12 +1,16 @@
 //! Tuples of five to eight parsers.
+ghost use Rattle.std.specs.Prelude.{true};
 ghost use Rattle.std.proofs.Common.{refl};
+ghost use Rattle.nom_error.specs.Modes.{with_outputs};
+ghost use Rattle.nom_internal.specs.Results.{ThenBesides};
 ghost use Rattle.nom_internal.specs.Sequence.{pair_of};
 ghost use Rattle.nom_internal.specs.Tuples.{tuple_of};
 ghost use Rattle.nom_internal.specs.Pinned.{pair_pinned};
 ghost use Rattle.nom_internal.specs.laws.TupleLaws.{built_lawful, pair_lawful, built_steady, pair_steady, flat_pinned};
 
+use crate::built::built;
 use crate::parser::{Parser, StreamParser};
-use crate::tuple::{first_member, formed, next_member};
+use crate::tuple::member;
 use nom_error::answer::PResult;
 use nom_error::mode::OutputMode;
 use nom_traits::input::Items;
@@ -33,14 +37,18 @@ impl<
         (pair_of I.model (pair_of I.model (pair_of I.model (pair_of I.model (A.grammar s.0) (B.grammar s.1)) (C.grammar s.2)) (D.grammar s.3))
         (E.grammar s.4)) };
 
+    ghost Besides = { λ mode old new i. ThenBesides (ThenBesides (ThenBesides (ThenBesides (A.Besides (with_outputs true mode) old.0 new.0 i)
+        (B.Besides (with_outputs true mode) old.1 new.1)) (C.Besides (with_outputs true mode) old.2 new.2))
+        (D.Besides (with_outputs true mode) old.3 new.3)) (E.Besides (with_outputs true mode) old.4 new.4) };
+
     #[inline(always)]
     fn process<OM: OutputMode>(&mut self, input: I) -> PResult<I, Self::Output, Self::Error> {
-        let answer = first_member::<I, A, OM>(&mut self.0, input);
-        let answer = next_member::<I, _, B, OM>(answer, &mut self.1);
-        let answer = next_member::<I, _, C, OM>(answer, &mut self.2);
-        let answer = next_member::<I, _, D, OM>(answer, &mut self.3);
-        let answer = next_member::<I, _, E, OM>(answer, &mut self.4);
-        formed::<I, _, A::Error, OM::Output>(answer)
+        let (rest, a) = member::<I, A, OM>(&mut self.0, input)?;
+        let (rest, b) = member::<I, B, OM>(&mut self.1, rest)?;
+        let (rest, c) = member::<I, C, OM>(&mut self.2, rest)?;
+        let (rest, d) = member::<I, D, OM>(&mut self.3, rest)?;
+        let (rest, e) = member::<I, E, OM>(&mut self.4, rest)?;
+        Ok((rest, built::<OM::Output, _>((a, b, c, d, e))))
     }
 
     ghost lawful = { λ s k. built_lawful (pair_lawful I.lawful
@@ -96,15 +104,20 @@ impl<
         (pair_of I.model (pair_of I.model (pair_of I.model (pair_of I.model (pair_of I.model (A.grammar s.0) (B.grammar s.1)) (C.grammar s.2))
         (D.grammar s.3)) (E.grammar s.4)) (F.grammar s.5)) };
 
+    ghost Besides = { λ mode old new i. ThenBesides (ThenBesides (ThenBesides (ThenBesides (ThenBesides (A.Besides (with_outputs true mode) old.0 new.0 i)
+        (B.Besides (with_outputs true mode) old.1 new.1)) (C.Besides (with_outputs true mode) old.2 new.2))
+        (D.Besides (with_outputs true mode) old.3 new.3)) (E.Besides (with_outputs true mode) old.4 new.4))
+        (F.Besides (with_outputs true mode) old.5 new.5) };
+
     #[inline(always)]
     fn process<OM: OutputMode>(&mut self, input: I) -> PResult<I, Self::Output, Self::Error> {
-        let answer = first_member::<I, A, OM>(&mut self.0, input);
-        let answer = next_member::<I, _, B, OM>(answer, &mut self.1);
-        let answer = next_member::<I, _, C, OM>(answer, &mut self.2);
-        let answer = next_member::<I, _, D, OM>(answer, &mut self.3);
-        let answer = next_member::<I, _, E, OM>(answer, &mut self.4);
-        let answer = next_member::<I, _, F, OM>(answer, &mut self.5);
-        formed::<I, _, A::Error, OM::Output>(answer)
+        let (rest, a) = member::<I, A, OM>(&mut self.0, input)?;
+        let (rest, b) = member::<I, B, OM>(&mut self.1, rest)?;
+        let (rest, c) = member::<I, C, OM>(&mut self.2, rest)?;
+        let (rest, d) = member::<I, D, OM>(&mut self.3, rest)?;
+        let (rest, e) = member::<I, E, OM>(&mut self.4, rest)?;
+        let (rest, f) = member::<I, F, OM>(&mut self.5, rest)?;
+        Ok((rest, built::<OM::Output, _>((a, b, c, d, e, f))))
     }
 
     ghost lawful = { λ s k. built_lawful (pair_lawful I.lawful
@@ -166,16 +179,22 @@ impl<
         (pair_of I.model (pair_of I.model (pair_of I.model (pair_of I.model (pair_of I.model (pair_of I.model (A.grammar s.0) (B.grammar s.1))
         (C.grammar s.2)) (D.grammar s.3)) (E.grammar s.4)) (F.grammar s.5)) (G.grammar s.6)) };
 
+    ghost Besides = { λ mode old new i.
+        ThenBesides (ThenBesides (ThenBesides (ThenBesides (ThenBesides (ThenBesides (A.Besides (with_outputs true mode) old.0 new.0 i)
+        (B.Besides (with_outputs true mode) old.1 new.1)) (C.Besides (with_outputs true mode) old.2 new.2))
+        (D.Besides (with_outputs true mode) old.3 new.3)) (E.Besides (with_outputs true mode) old.4 new.4))
+        (F.Besides (with_outputs true mode) old.5 new.5)) (G.Besides (with_outputs true mode) old.6 new.6) };
+
     #[inline(always)]
     fn process<OM: OutputMode>(&mut self, input: I) -> PResult<I, Self::Output, Self::Error> {
-        let answer = first_member::<I, A, OM>(&mut self.0, input);
-        let answer = next_member::<I, _, B, OM>(answer, &mut self.1);
-        let answer = next_member::<I, _, C, OM>(answer, &mut self.2);
-        let answer = next_member::<I, _, D, OM>(answer, &mut self.3);
-        let answer = next_member::<I, _, E, OM>(answer, &mut self.4);
-        let answer = next_member::<I, _, F, OM>(answer, &mut self.5);
-        let answer = next_member::<I, _, G, OM>(answer, &mut self.6);
-        formed::<I, _, A::Error, OM::Output>(answer)
+        let (rest, a) = member::<I, A, OM>(&mut self.0, input)?;
+        let (rest, b) = member::<I, B, OM>(&mut self.1, rest)?;
+        let (rest, c) = member::<I, C, OM>(&mut self.2, rest)?;
+        let (rest, d) = member::<I, D, OM>(&mut self.3, rest)?;
+        let (rest, e) = member::<I, E, OM>(&mut self.4, rest)?;
+        let (rest, f) = member::<I, F, OM>(&mut self.5, rest)?;
+        let (rest, g) = member::<I, G, OM>(&mut self.6, rest)?;
+        Ok((rest, built::<OM::Output, _>((a, b, c, d, e, f, g))))
     }
 
     ghost lawful = { λ s k. built_lawful (pair_lawful I.lawful
@@ -241,17 +260,24 @@ impl<
         (pair_of I.model (pair_of I.model (pair_of I.model (pair_of I.model (pair_of I.model (pair_of I.model (pair_of I.model (A.grammar s.0)
         (B.grammar s.1)) (C.grammar s.2)) (D.grammar s.3)) (E.grammar s.4)) (F.grammar s.5)) (G.grammar s.6)) (H.grammar s.7)) };
 
+    ghost Besides = { λ mode old new i.
+        ThenBesides (ThenBesides (ThenBesides (ThenBesides (ThenBesides (ThenBesides (ThenBesides (A.Besides (with_outputs true mode) old.0 new.0 i)
+        (B.Besides (with_outputs true mode) old.1 new.1)) (C.Besides (with_outputs true mode) old.2 new.2))
+        (D.Besides (with_outputs true mode) old.3 new.3)) (E.Besides (with_outputs true mode) old.4 new.4))
+        (F.Besides (with_outputs true mode) old.5 new.5)) (G.Besides (with_outputs true mode) old.6 new.6))
+        (H.Besides (with_outputs true mode) old.7 new.7) };
+
     #[inline(always)]
     fn process<OM: OutputMode>(&mut self, input: I) -> PResult<I, Self::Output, Self::Error> {
-        let answer = first_member::<I, A, OM>(&mut self.0, input);
-        let answer = next_member::<I, _, B, OM>(answer, &mut self.1);
-        let answer = next_member::<I, _, C, OM>(answer, &mut self.2);
-        let answer = next_member::<I, _, D, OM>(answer, &mut self.3);
-        let answer = next_member::<I, _, E, OM>(answer, &mut self.4);
-        let answer = next_member::<I, _, F, OM>(answer, &mut self.5);
-        let answer = next_member::<I, _, G, OM>(answer, &mut self.6);
-        let answer = next_member::<I, _, H, OM>(answer, &mut self.7);
-        formed::<I, _, A::Error, OM::Output>(answer)
+        let (rest, a) = member::<I, A, OM>(&mut self.0, input)?;
+        let (rest, b) = member::<I, B, OM>(&mut self.1, rest)?;
+        let (rest, c) = member::<I, C, OM>(&mut self.2, rest)?;
+        let (rest, d) = member::<I, D, OM>(&mut self.3, rest)?;
+        let (rest, e) = member::<I, E, OM>(&mut self.4, rest)?;
+        let (rest, f) = member::<I, F, OM>(&mut self.5, rest)?;
+        let (rest, g) = member::<I, G, OM>(&mut self.6, rest)?;
+        let (rest, h) = member::<I, H, OM>(&mut self.7, rest)?;
+        Ok((rest, built::<OM::Output, _>((a, b, c, d, e, f, g, h))))
     }
 
     ghost lawful = { λ s k. built_lawful (pair_lawful I.lawful

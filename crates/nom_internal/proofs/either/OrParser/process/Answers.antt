@@ -1,4 +1,5 @@
 use Rattle.nom_internal.proofs.Choices.{either_shown}
+use Rattle.nom_internal.proofs.Owed.{or_besides}
 use Rattle.nom_internal.proofs.either.OrParser.process.Goals as goal
 
 pub returns-clause-shown : goal.returns-clause-shown
@@ -8,3 +9,6 @@ returns-clause-shown g c =
     g.F.Error.ParseError.errors.joined
     g.F.Error.ParseError.errors.grows (g.F.Parser.grammar (g.F.Parser.state p.first)).meaning
     (g.G.Parser.grammar (g.G.Parser.state p.second)).meaning _ _ _ _ c.process-answer.ensures.shown c.next_branch.ensures.shown
+
+pub returns-clause-besides : goal.returns-clause-besides
+returns-clause-besides g c = or_besides _ _ c.process-answer.result _ c.process-answer.ensures.besides c.next_branch.ensures.besides

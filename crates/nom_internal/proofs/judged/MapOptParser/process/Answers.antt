@@ -1,5 +1,8 @@
 use Rattle.std.specs.Prelude.{refl}
+use Rattle.std.proofs.Common.{ap}
 use Rattle.nom_error.specs.declared.kind.ErrorKind.TheVariants as Kind
+use Rattle.nom_internal.specs.Prelude.{rest_of}
+use Rattle.nom_internal.specs.Results.JudgedBesides.{Kept, Dropped}
 use Rattle.nom_internal.proofs.Shown.{err_from_residual}
 use Rattle.nom_internal.proofs.Judges.{judged_err, judged_fit, judged_unfit, kept_given}
 use Rattle.nom_internal.proofs.judged.MapOptParser.process.Goals as goal
@@ -18,3 +21,12 @@ pub returns-in-None-map-clause-shown : goal.returns-in-None-map-clause-shown
 returns-in-None-map-clause-shown g c =
     judged_unfit (λ i _. g.F.Error.ParseError.errors.of_kind i Kind.MapOpt) (g.F.Parser.grammar _).meaning c.requires.sound.1 c.in-Some.is c.in-None-map.ensures
     refl c.in_ok-rest.ensures.shown c.refusal.ensures
+
+pub returns-in_err-rest-clause-besides : goal.returns-in_err-rest-clause-besides
+returns-in_err-rest-clause-besides g c = Kept (rw (ap rest_of (err_from_residual c.from_residual.ensures)) c.in_err-rest.ensures.besides)
+
+pub returns-in-Some-map-clause-besides : goal.returns-in-Some-map-clause-besides
+returns-in-Some-map-clause-besides g c = Kept c.in_ok-rest.ensures.besides
+
+pub returns-in-None-map-clause-besides : goal.returns-in-None-map-clause-besides
+returns-in-None-map-clause-besides g c = Dropped _ c.in_ok-rest.ensures.besides refl
