@@ -6,6 +6,7 @@ use nom_messages_run::pipe::tell_messages;
 use nom_messages_run::report::Messages;
 use nom_run::counted::Counted;
 use nom_run::program::{status_of, tell_fault};
+use nom_run::stream::Sink;
 use nom_stream::settings::Settings;
 use nom_stream::stream::Stream;
 use std::alloc::Global;
@@ -36,19 +37,19 @@ fn asks_for_input(rt: &(impl Env + Alloc<A = Global>)) -> bool {
 }
 
 // The lines of standard input, and the status.
-fn tell_input(rt: &(impl Input + Print + Alloc<A = Global>)) -> u8 {
+fn tell_input<W: Sink>(rt: &(impl Input + Alloc<A = Global>), sink: &mut W) -> u8 {
     let mut stream = Stream::new(rt.alloc(), rt.reader(), SETTINGS);
-    let mut sink = Counted::new(io::writer(rt));
-    match tell_messages(rt.alloc(), &mut stream, &mut sink) {
+    match tell_messages(rt.alloc(), &mut stream, sink) {
         Ok(status) => status,
-        Err(error) => tell_fault(rt, error),
+        Err(error) => tell_fault(sink, error),
     }
 }
 
 fn main(rt: HostRuntime) -> ExitCode {
+    let mut sink = Counted::new(io::writer(&rt));
     ExitCode::from(if asks_for_input(&rt) {
-        tell_input(&rt)
+        tell_input(&rt, &mut sink)
     } else {
-        status_of(&rt, &Messages)
+        status_of(&rt, &Messages, &mut sink)
     })
 }

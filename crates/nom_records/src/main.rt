@@ -3,9 +3,12 @@
 #![tactic(auto)]
 
 use nom_records_run::report::Records;
+use nom_run::counted::Counted;
 use nom_run::program::status_of;
+use std::io;
 use std::process::ExitCode;
 
 fn main(rt: HostRuntime) -> ExitCode {
-    ExitCode::from(status_of(&rt, &Records))
+    let mut sink = Counted::new(io::writer(&rt));
+    ExitCode::from(status_of(&rt, &Records, &mut sink))
 }

@@ -16,6 +16,10 @@ CountsErr old new r = MatchResult r (λ _. new ≡ old) (λ _. new ≡ one_more 
 abbrev pub CountsStall : {E : Type 0} → ℕ → ℕ → ℕ → Result ℕ E → Type 0
 CountsStall old new some r = MatchResult r (λ n. (0 < n → new ≡ old) × (some ≡ 0 → new ≡ old) × (n ≡ 0 → 0 < some → new ≡ one_more old)) (λ _. new ≡ old)
 
+-- no write failed
+abbrev pub NoWriteFailed : (failures failures' stalls stalls' : ℕ) → Type 0
+NoWriteFailed failures failures' stalls stalls' = (failures' ≡ failures) × (stalls' ≡ stalls)
+
 -- one write failed: it gave an error, or it took none of some bytes
 abbrev pub WriteFailed : (failures failures' stalls stalls' : ℕ) → Type 0
 WriteFailed failures failures' stalls stalls' = (failures' ≡ one_more failures) ⊎ ((failures' ≡ failures) × (stalls' ≡ one_more stalls))

@@ -1,23 +1,23 @@
 //! Programs `NAME FILE [CUT ..]` that report on a file, given in the parts that the cuts (offsets in bytes) make
 //! of it.
 //!
-//! All is written to standard output. Where there is no report one line tells why, and the status
-//! is 3; after a write that failed nothing more is written.
-ghost use Rattle.std.specs.Prelude.{◌≡◌, ◌<◌, length, map, IfOk, IfErr, string_bytes};
-ghost use Rattle.nom_run.specs.Lines.{fault_text};
+//! Where there is no report one line tells why, and the status is 3; after a write that failed nothing more is written.
+ghost use Rattle.std.specs.Prelude.{◌≡◌, ◌<◌, ⊤, length, map, IfOk, IfErr, string_bytes};
+ghost use Rattle.nom_run.specs.Lines.{BeganReport, Told, WroteReport, WroteText, fault_text};
 ghost use Rattle.nom_run.specs.Asked.{Asks, IsWrong};
-ghost use Rattle.nom_run.specs.Stream.{MatchRunError};
+ghost use Rattle.nom_run.specs.Stream.{MatchRunError, WriteFailed};
 
 use crate::counted::Counted;
 use crate::error::RunError;
 use crate::report::Report;
 use crate::run::{run, write_all};
+use crate::stream::Sink;
 use crate::words::read_cuts;
 use std::alloc::Global;
+use std::env;
 use std::fs::File;
 use std::io::ErrorKind;
 use std::rt::{Env, Files};
-use std::{env, io};
 
 // The status where there is no report.
 const NO_REPORT: u8 = 3;
@@ -36,7 +36,9 @@ fn refused<E: Drop>(_error: E) -> RunError
 }
 
 // The words of the command line, with the program's name first. `Usage` where one isn't text.
-fn read_words(rt: &(impl Env + Alloc<A = Global>)) -> Result<Vec<String>, RunError> {
+fn read_words(rt: &(impl Env + Alloc<A = Global>)) -> Result<Vec<String>, RunError>
+    ensures { IfErr result (λ e. MatchRunError e ⊥ ⊥ ⊤ ⊤) }
+{
     match env::args(rt) {
         Ok(words) => words.collect::<Vec<String>>(rt.alloc()).map_err(refused),
         Err(error) => Err(match error.kind() {
@@ -73,19 +75,33 @@ fn read_task(alloc: Global, words: &[String]) -> Result<Task, RunError>
     Ok(Task { file, cuts })
 }
 
-fn answer<R: Report>(
-    rt: &(impl Env + Files + Print + Alloc<A = Global>),
+// Writes the report on the file that the command line names.
+fn answer<R: Report, W: Sink>(
+    rt: &(impl Env + Files + Alloc<A = Global>),
     report: &R,
-) -> Result<u8, RunError> {
-    let words = read_words(rt)?;
-    let task = read_task(rt.alloc(), &words)?;
+    sink: &mut W,
+) -> Result<u8, RunError>
+    ensures status { IfOk result (λ status. WroteReport R.is_report (W.held sink.old) (W.held sink.new) status
+        × (W.failures sink.new ≡ W.failures sink.old)) }
+    ensures error { IfErr result (λ e. MatchRunError e (sink.new ≡ sink.old)
+        (BeganReport R.is_report (W.held sink.old) (W.held sink.new)
+        × WriteFailed (W.failures sink.old) (W.failures sink.new) (W.stalls sink.old) (W.stalls sink.new))
+        (sink.new ≡ sink.old) (sink.new ≡ sink.old)) }
+{
+    let words = match read_words(rt) {
+        Ok(words) => words,
+        Err(error) => return Err(error),
+    };
+    let task = match read_task(rt.alloc(), &words) {
+        Ok(task) => task,
+        Err(error) => return Err(error),
+    };
     let file = match File::open(rt, task.file.as_str()) {
         Ok(file) => file,
         Err(_) => return Err(RunError::Read),
     };
     let mut source = Counted::new(file);
-    let mut sink = Counted::new(io::writer(rt));
-    run(rt.alloc(), report, &mut source, &task.cuts, &mut sink)
+    run(rt.alloc(), report, &mut source, &task.cuts, sink)
 }
 
 fn fault(error: RunError) -> &'static str
@@ -99,20 +115,29 @@ fn fault(error: RunError) -> &'static str
     }
 }
 
-/// Writes the line that tells why there is no report, in the way in which a report is written; answers the status.
-pub fn tell_fault(rt: &impl Print, error: RunError) -> u8
-    ensures { result ≡ 3 }
+/// Writes the line that tells why there is no report; answers the status. After a write that failed nothing is written.
+pub fn tell_fault<W: Sink>(sink: &mut W, error: RunError) -> u8
+    ensures status { result ≡ 3 }
+    ensures wrote { WroteText (W.held sink.old) (W.held sink.new) (W.failures sink.old) (W.failures sink.new)
+        (W.stalls sink.old) (W.stalls sink.new) (fault_text error) }
+    ensures after_write { error ≡ RunError.Write → sink.new ≡ sink.old }
 {
-    let mut sink = Counted::new(io::writer(rt));
-    let _ = write_all(&mut sink, fault(error).as_bytes());
+    let _ = write_all(sink, fault(error).as_bytes());
     NO_REPORT
 }
 
 /// Writes the report on the file that the command line names, or the line that tells why there is none; answers
 /// the status.
-pub fn status_of<R: Report>(rt: &(impl Env + Files + Print + Alloc<A = Global>), report: &R) -> u8 {
-    match answer(rt, report) {
+pub fn status_of<R: Report, W: Sink>(
+    rt: &(impl Env + Files + Alloc<A = Global>),
+    report: &R,
+    sink: &mut W,
+) -> u8
+    ensures { Told R.is_report (W.held sink.old) (W.held sink.new) (W.failures sink.old) (W.failures sink.new)
+        (W.stalls sink.old) (W.stalls sink.new) result }
+{
+    match answer(rt, report, sink) {
         Ok(status) => status,
-        Err(error) => tell_fault(rt, error),
+        Err(error) => tell_fault(sink, error),
     }
 }

@@ -71,6 +71,8 @@ fn read_all<A: Allocator, S: Source>(source: &mut S, bytes: &mut Vec<u8, A>) -> 
 ///
 /// A failed call is not tried again, and a write that takes no byte is a failure: both are `Write`.
 pub fn write_all<W: Sink>(sink: &mut W, text: &[u8]) -> Result<(), RunError>
+    ensures none { text.now ≡ [] → sink.new ≡ sink.old }
+    ensures stalls { IfOk result (λ _. W.stalls sink.new ≡ W.stalls sink.old) }
     ensures whole { IfOk result (λ _. Appends (W.held sink.old) (W.held sink.new) text.now × (W.failures sink.new ≡ W.failures sink.old)) }
     ensures error { IfErr result (λ e. MatchRunError e ⊥ (WroteFront (W.held sink.old) (W.held sink.new) text.now ×
         WriteFailed (W.failures sink.old) (W.failures sink.new) (W.stalls sink.old) (W.stalls sink.new)) ⊥ ⊥) }

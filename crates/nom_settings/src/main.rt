@@ -1,13 +1,14 @@
 //! `nom_settings FILE`: the settings of a file, each with its line and column, its section, its name and its value.
 #![tactic(auto)]
 
+use nom_run::counted::Counted;
 use nom_run::error::RunError;
 use nom_run::program::{status_of, tell_fault};
 use nom_settings_run::report::Settings;
 use std::alloc::Global;
-use std::env;
 use std::process::ExitCode;
 use std::rt::Env;
+use std::{env, io};
 
 /// Whether the command line has words after the file's name. It has none where it can't be read.
 fn has_more(rt: &(impl Env + Alloc<A = Global>)) -> bool {
@@ -18,8 +19,10 @@ fn has_more(rt: &(impl Env + Alloc<A = Global>)) -> bool {
 }
 
 fn main(rt: HostRuntime) -> ExitCode {
-    if has_more(&rt) {
-        return ExitCode::from(tell_fault(&rt, RunError::Usage));
-    }
-    ExitCode::from(status_of(&rt, &Settings))
+    let mut sink = Counted::new(io::writer(&rt));
+    ExitCode::from(if has_more(&rt) {
+        tell_fault(&mut sink, RunError::Usage)
+    } else {
+        status_of(&rt, &Settings, &mut sink)
+    })
 }

@@ -10,7 +10,7 @@ use Rattle.nom_stream.specs.declared.stream.Stream.{Stream}
 use Rattle.nom_stream.specs.Held.{held_of, last_of}
 use Rattle.nom_stream.specs.Items.{Bytes, HoldsLast, Takes}
 use Rattle.nom_stream.specs.Streams.{Answers, Ends, Tells}
-use Rattle.nom_stream.specs.Streams.Answers.{Decided, AtEnd, Full, Unfilled}
+use Rattle.nom_stream.specs.Streams.Answers.{Decided, AtEnd, Full, Faulted, Lacking}
 use Rattle.nom_stream.specs.Streams.Ends.{Clean, Within, Completed}
 use Rattle.nom_stream.specs.Wholes.{BytesOfWhole}
 use Rattle.nom_stream.proofs.Outcomes.{meant}
@@ -52,7 +52,8 @@ module _ {R A V O : Type 0} (grammar : Grammar Bytes V O (Error Bytes)) (u t : S
   lends (Decided taken d g l e) = of_taken grammar t.held n o after true (held_of u.held) taken g l e
   lends (AtEnd e k g h) = of_ends k h
   lends (Full a b w e) = absurd (cc (e))
-  lends (Unfilled why l b before last d w e) = absurd (cc (e))
+  lends (Faulted why b w e) = absurd (cc (e))
+  lends (Lacking l b before last d k w few e) = absurd (cc (e))
 
 module _ {R A V O : Type 0} (left : R → Option (List ℕ)) (grammar : Grammar Bytes V O (Error Bytes)) where
   pub bytes_whole : BytesOfWhole A left grammar

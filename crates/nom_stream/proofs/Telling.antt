@@ -1,23 +1,27 @@
 -- What is told of what is held.
-use Rattle.std.proofs.Common.{arith, ◌≡◌, ℕ, ◌+◌, ◌<◌, ◌≤◌, true, false, List, ◌++◌, length, Option, Err, refl, sym, ◌∙◌, ap, subst}
-use Rattle.std.proofs.Common.{length-append, inl, inr}
+use Rattle.std.proofs.Common.{arith, ◌≡◌, ℕ, ◌+◌, ◌<◌, ◌≤◌, ◌⊎◌, true, false, List, [], ◌++◌, length, Option, None, Some, Result, Err, refl, sym, ◌∙◌, ap, subst}
+use Rattle.std.proofs.Common.{append-nil, length-append, inl, inr}
+use Rattle.std_io.specs.declared.io.error.Error as Io
 use Rattle.nom_internal.specs.Prelude.{Needed, Grammar}
 use Rattle.nom_error.specs.declared.value.Error.{Error}
 use Rattle.nom_stream.specs.declared.held.Held.{Held}
 use Rattle.nom_stream.specs.declared.step.Taken.{Taken}
+use Rattle.nom_stream.specs.declared.step.Taken.TheVariants as Took
 use Rattle.nom_stream.specs.declared.step.Taken.TheVariants.{Undecided}
 use Rattle.nom_stream.specs.declared.stream.Stop.TheVariants as Stopped
 use Rattle.nom_stream.specs.declared.stream.Stream.{Stream}
 use Rattle.nom_stream.specs.declared.stream.Unread.{Unread}
 use Rattle.nom_stream.specs.Held.{held_of}
 use Rattle.nom_stream.specs.Items.{Bytes, HoldsLast, IsUndecided, Stays, Takes}
-use Rattle.nom_stream.specs.Streams.{AreFillings, Decides, Ends, Fills, IsEnough, IsOpen, IsUnread, LacksRoom}
-use Rattle.nom_stream.specs.Streams.{ReadAsNeeded, Reads, Tells, Told, counted, stop_of}
+use Rattle.nom_stream.specs.Readers.{NoFault, OneFault, one_more}
+use Rattle.nom_stream.specs.Streams.{AreFillings, CountsFaults, CountsUnread, Decides, Ends, Fills, Gives, IsEnough, IsOpen, IsUnread, IsUntold, LacksRoom}
+use Rattle.nom_stream.specs.Streams.{ReadAsNeeded, Reads, Tells, TellsFault, TellsNoFault, Told, counted, stop_of}
 use Rattle.nom_stream.specs.Streams.AreFillings.{NoFilling, OneMore}
 use Rattle.nom_stream.specs.Wanted.{most_read, wanted_of}
-use Rattle.nom_stream.specs.Streams.Answers.{Decided, AtEnd, Full, Unfilled}
-use Rattle.nom_stream.specs.Streams.Ends.{Completed}
+use Rattle.nom_stream.specs.Streams.Answers.{Decided, AtEnd, Full, Faulted, Lacking}
+use Rattle.nom_stream.specs.Streams.Ends.{Clean, Within, Completed}
 use Rattle.nom_stream.specs.Streams.ReadAsNeeded.{NoneRead, MoreRead}
+use Rattle.nom_stream.proofs.Outcomes.{nil_of}
 use Rattle.nom_stream.proofs.Reading.{gives_more}
 
 module _ {R A V O : Type 0} (grammar : Grammar Bytes V O (Error Bytes)) (s t : Stream R A) where
@@ -29,44 +33,100 @@ module _ {R A V O : Type 0} (grammar : Grammar Bytes V O (Error Bytes)) (s t : S
       Completed some complete taken (subst (λ z. Takes grammar false (held_of s.held) (held_of z) taken) (sym e) g)
       (subst (λ z. HoldsLast (held_of s.held) z taken) (sym e) l) tells
 
-module _ {R A State V O : Type 0} (left : R → Option (List ℕ)) (grammar : State → Grammar Bytes V O (Error Bytes))
-    (p q : State) (same : p ≡ q) (s u : Stream R A) (reads : Reads left (grammar q) s u ⊥) (opened : IsOpen left u)
-    (settings : u.settings ≡ s.settings) (offset : u.offset ≡ s.offset) where
-  -- why bytes couldn't be read is nothing to what was read before
-  weakened : (Unreadable : Type 0) (given : List ℕ) → ReadAsNeeded (grammar q) s u ⊥ given → ReadAsNeeded (grammar q) s u Unreadable given
-  weakened Unreadable given (NoneRead e f) = NoneRead e f
-  weakened Unreadable given (MoreRead earlier last e all f (inl a)) = MoreRead earlier last e all f (inl a)
-  weakened Unreadable given (MoreRead earlier last e all f (inr (inl a))) = MoreRead earlier last e all f (inr (inl a))
-  weakened Unreadable given (MoreRead earlier last e all f (inr (inr (inl a)))) = MoreRead earlier last e all f (inr (inr (inl a)))
-  weakened Unreadable given (MoreRead earlier last e all f (inr (inr (inr a)))) = absurd a
+-- the faults of a reader, over several readings
+module _ {R A : Type 0} (s u t : Stream R A) where
+  same_faults : NoFault s.source u.source → NoFault u.source t.source → NoFault s.source t.source
+  same_faults f g = (g.0 ∙ f.0, g.1 ∙ f.1)
 
-  reads_so_far : (Unreadable : Type 0) → Reads left (grammar q) s u Unreadable
-  reads_so_far Unreadable = record { given = reads.given; gives = reads.gives; as_needed = weakened Unreadable reads.given reads.as_needed }
+  one_fault : (e : Io.Error) → NoFault s.source u.source → OneFault u.source t.source e → OneFault s.source t.source e
+  one_fault e f g = (g.0 ∙ ap one_more f.0, g.1)
+
+  fault_then : (e : Io.Error) → OneFault s.source u.source e → NoFault u.source t.source → OneFault s.source t.source e
+  fault_then e f g = (g.0 ∙ f.0, g.1 ∙ f.1)
+
+  pub none_told : TellsNoFault s u → u.untold ≡ None → TellsNoFault u t → TellsNoFault s t
+  none_told (inl f) e (inl g) = inl (same_faults f.0 g.0, g.1 ∙ f.1)
+  none_told (inl f) e (inr g) = inr (sym f.1 ∙ g.0, ((g.1).0, one_fault (g.1).0 f.0 (g.1).1, (g.1).2))
+  none_told (inr f) e g = let h = (f.1).2 in absurd (cc (e, h))
+
+  told_after : (e : Io.Error) → TellsNoFault s u → t.untold ≡ None →
+      ((u.untold ≡ None) × OneFault u.source t.source e) ⊎ ((u.untold ≡ Some e) × NoFault u.source t.source) → TellsFault s t e
+  told_after e (inl f) n (inl g) = (n, inl (sym f.1 ∙ g.0, one_fault e f.0 g.1))
+  told_after e (inl f) n (inr g) = (n, inr (sym f.1 ∙ g.0, same_faults f.0 g.1))
+  told_after e (inr f) n (inl g) = let h = (f.1).2 in let k = g.0 in absurd (cc (k, h))
+  told_after e (inr f) n (inr g) =
+      let h = (f.1).2 in
+      let k = g.0 in
+      let same : (f.1).0 ≡ e = cc (k, h) in
+      (n, inl (f.0, fault_then e (subst (OneFault s.source u.source) same (f.1).1) g.1))
+
+  pub one_told : (e : Io.Error) → TellsNoFault s u → TellsFault u t e → TellsFault s t e
+  one_told e f g = told_after e f g.0 g.1
+
+-- where the reader and what is untold stay, so do the faults
+still_none : {R A : Type 0} (s u t : Stream R A) → t.source ≡ u.source → t.untold ≡ u.untold → TellsNoFault s u → TellsNoFault s t
+still_none s u t a b (inl f) = inl (subst (NoFault s.source) (sym a) f.0, b ∙ f.1)
+still_none s u t a b (inr f) = inr (f.0, ((f.1).0, subst (λ z. OneFault s.source z (f.1).0) (sym a) (f.1).1, b ∙ (f.1).2))
+
+-- an answer that tells no fault
+counts_none : {R A O : Type 0} (s t : Stream R A) (taken : Taken O) (r : Told O) → Tells taken r → TellsNoFault s t → CountsFaults s t r
+counts_none s t (Took.Item n o) r e f = subst (CountsFaults s t) (sym e) f
+counts_none s t Took.Nothing r e f = subst (CountsFaults s t) (sym e) f
+counts_none s t (Took.Undecided k) r e f = subst (CountsFaults s t) (sym e) f
+counts_none s t (Took.Refused k n) r e f = subst (CountsFaults s t) (sym e) f
+counts_none s t (Took.Failed k n) r e f = subst (CountsFaults s t) (sym e) f
+counts_none s t Took.OutOfMemory r e f = subst (CountsFaults s t) (sym e) f
+
+counts_end : {R A V O : Type 0} (grammar : Grammar Bytes V O (Error Bytes)) (s u t : Stream R A) (k : Needed) (r : Told O) → Ends grammar u t k r →
+    TellsNoFault s t → CountsFaults s t r
+counts_end grammar s u t k r (Clean a b e) f = subst (CountsFaults s t) (sym e) f
+counts_end grammar s u t k r (Within a b c e) f = subst (CountsFaults s t) (sym e) f
+counts_end grammar s u t k r (Completed a b taken g l e) f = counts_none s t taken r e f
+
+module _ {R A State V O : Type 0} (left : R → Option (List ℕ)) (grammar : State → Grammar Bytes V O (Error Bytes))
+    (p q : State) (same : p ≡ q) (s u : Stream R A) (reads : Reads left (grammar q) s u (IsUntold u)) (opened : IsOpen left u)
+    (settings : u.settings ≡ s.settings) (offset : u.offset ≡ s.offset) (faults : TellsNoFault s u)
+    (no_read : s.ended ≡ true → (u.source ≡ s.source) × (u.ended ≡ true)) where
+  -- why bytes couldn't be read is nothing to what was read before
+  weakened : (Others : Type 0) (given : List ℕ) → ReadAsNeeded (grammar q) s u (IsUntold u) given →
+      ReadAsNeeded (grammar q) s u (Others ⊎ IsUntold u) given
+  weakened Others given (NoneRead e f) = NoneRead e f
+  weakened Others given (MoreRead earlier last e all f (inl a)) = MoreRead earlier last e all f (inl a)
+  weakened Others given (MoreRead earlier last e all f (inr (inl a))) = MoreRead earlier last e all f (inr (inl a))
+  weakened Others given (MoreRead earlier last e all f (inr (inr (inl a)))) = MoreRead earlier last e all f (inr (inr (inl a)))
+  weakened Others given (MoreRead earlier last e all f (inr (inr (inr a)))) = MoreRead earlier last e all f (inr (inr (inr (inr a))))
+
+  reads_so_far : (Others : Type 0) → Reads left (grammar q) s u (Others ⊎ IsUntold u)
+  reads_so_far Others = record { given = reads.given; gives = reads.gives; as_needed = weakened Others reads.given reads.as_needed }
 
   -- where more may be read, each filling gave as many bytes as were wanted
   all_filled : (given : List ℕ) → held_of u.held ≡ held_of s.held ++ given → u.ended ≡ false → length (held_of u.held) < u.settings.most →
-      ReadAsNeeded (grammar q) s u ⊥ given → AreFillings (grammar q) s.settings (held_of s.held) given
-  all_filled given added goes_on few (NoneRead e f) = NoFilling e
-  all_filled given added goes_on few (MoreRead earlier last e all f (inl a)) =
+      u.untold ≡ None → ReadAsNeeded (grammar q) s u (IsUntold u) given → AreFillings (grammar q) s.settings (held_of s.held) given
+  all_filled given added goes_on few told (NoneRead e f) = NoFilling e
+  all_filled given added goes_on few told (MoreRead earlier last e all f (inl a)) =
       let then : length (held_of u.held) ≡ length (held_of s.held) + length earlier + length last =
       ap length (added ∙ ap (λ z. held_of s.held ++ z) e) ∙ simp length-append (omega arith) in
       OneMore earlier last all f (omega (arith, a, then, length-append (held_of s.held) earlier)) e
-  all_filled given added goes_on few (MoreRead earlier last e all f (inr (inl a))) = absurd (cc (goes_on, a))
-  all_filled given added goes_on few (MoreRead earlier last e all f (inr (inr (inl a)))) = absurd (omega (arith, few, a))
-  all_filled given added goes_on few (MoreRead earlier last e all f (inr (inr (inr a)))) = absurd a
+  all_filled given added goes_on few told (MoreRead earlier last e all f (inr (inl a))) = absurd (cc (goes_on, a))
+  all_filled given added goes_on few told (MoreRead earlier last e all f (inr (inr (inl a)))) = absurd (omega (arith, few, a))
+  all_filled given added goes_on few told (MoreRead earlier last e all f (inr (inr (inr a)))) = let h = a.1 in absurd (cc (told, h))
 
   -- it is decided, and told
   pub decides_item : (t : Stream R A) (h : Held A) (taken : Taken O) (r : Told O) → (IsUndecided taken → ⊥) →
       Takes (grammar p) true (held_of u.held) (held_of h) taken → HoldsLast (held_of u.held) h taken → Tells taken r → t.held ≡ h →
-      t.source ≡ u.source → t.settings ≡ u.settings → t.offset ≡ counted u.offset r → Decides left (grammar q) s t r
-  decides_item t h taken r d g l tells held source set count = record {
+      t.source ≡ u.source → t.settings ≡ u.settings → t.ended ≡ u.ended → t.untold ≡ u.untold → t.offset ≡ counted u.offset r →
+      Decides left (grammar q) s t r
+  decides_item t h taken r d g l tells held source set end told count = record {
     filled = u;
     reads = reads_so_far (IsUnread r);
+    faults = counts_none s t taken r tells (still_none s u t source told faults);
     open_then = opened;
     answers = Decided taken d (subst (λ z. Takes (grammar z) true (held_of u.held) (held_of t.held) taken) same
         (subst (λ z. Takes (grammar p) true (held_of u.held) (held_of z) taken) (sym held) g))
         (subst (λ z. HoldsLast (held_of u.held) z taken) (sym held) l) tells;
+    no_read = no_read;
     source = source;
+    ended = end;
     settings = (settings, set ∙ settings);
     offset = count ∙ ap (λ z. counted z r) offset;
   }
@@ -75,13 +135,17 @@ module _ {R A State V O : Type 0} (left : R → Option (List ℕ)) (grammar : St
   module _ (k : Needed) (undecided : Takes (grammar q) true (held_of u.held) (held_of u.held) (Undecided k)) where
     -- the reader is at its end
     pub decides_end : (t : Stream R A) (r : Told O) → u.ended ≡ true → Ends (grammar p) u t k r →
-        t.source ≡ u.source → t.settings ≡ u.settings → t.offset ≡ counted u.offset r → Decides left (grammar q) s t r
-    decides_end t r e ends source' set' count' = record {
+        t.source ≡ u.source → t.settings ≡ u.settings → t.ended ≡ u.ended → t.untold ≡ u.untold → t.offset ≡ counted u.offset r →
+        Decides left (grammar q) s t r
+    decides_end t r e ends source' set' end' told' count' = record {
       filled = u;
       reads = reads_so_far (IsUnread r);
+      faults = counts_end (grammar p) s u t k r ends (still_none s u t source' told' faults);
       open_then = opened;
       answers = AtEnd e k undecided (subst (λ z. Ends (grammar z) u t k r) same ends);
+      no_read = no_read;
       source = source';
+      ended = end';
       settings = (settings, set' ∙ settings);
       offset = count' ∙ ap (λ z. counted z r) offset;
     }
@@ -91,18 +155,26 @@ module _ {R A State V O : Type 0} (left : R → Option (List ℕ)) (grammar : St
     decides_full full = record {
       filled = u;
       reads = reads_so_far (IsUnread (Err Stopped.TooLong));
+      faults = faults;
       open_then = opened;
       answers = Full full refl (k, undecided) refl;
+      no_read = no_read;
       source = refl;
+      ended = refl;
       settings = (settings, settings);
       offset = offset;
     }
 
+    -- at the end no read is made
+    goes_on_from : u.ended ≡ false → s.ended ≡ true → ⊥
+    goes_on_from goes_on e = let h = (no_read e).1 in cc (goes_on, h)
+
     -- more is read, since what is held doesn't decide
-    pub reads_further : u.ended ≡ false → length (held_of u.held) < u.settings.most → (wants : ℕ) → wants ≡ wanted_of u.settings k (length (held_of u.held)) →
-        (Unreadable : Type 0) (t : Stream R A) → Fills left u t → length (held_of t.held) < wants + length (held_of u.held) + most_read u.settings →
+    pub reads_further : u.ended ≡ false → length (held_of u.held) < u.settings.most → u.untold ≡ None → (wants : ℕ) →
+        wants ≡ wanted_of u.settings k (length (held_of u.held)) → (Unreadable : Type 0) (t : Stream R A) → Fills left u t →
+        length (held_of t.held) < wants + length (held_of u.held) + most_read u.settings →
         IsEnough (wants + length (held_of u.held)) t Unreadable → Reads left (grammar q) s t Unreadable
-    reads_further goes_on few wants as_many Unreadable t f below enough =
+    reads_further goes_on few told wants as_many Unreadable t f below enough =
         let here : held_of u.held ≡ held_of s.held ++ reads.given = reads.gives.added in
         let wanted : wants ≡ wanted_of s.settings k (length (held_of s.held ++ reads.given)) =
         as_many ∙ ap (λ z. wanted_of z k (length (held_of u.held))) settings ∙ ap (λ z. wanted_of s.settings k (length z)) here in
@@ -111,7 +183,7 @@ module _ {R A State V O : Type 0} (left : R → Option (List ℕ)) (grammar : St
         record {
           given = reads.given ++ f.given;
           gives = gives_more left s u u t reads.given f.given reads.gives refl refl f.gives;
-          as_needed = MoreRead reads.given f.given refl (all_filled reads.given reads.gives.added goes_on few reads.as_needed)
+          as_needed = MoreRead reads.given f.given refl (all_filled reads.given reads.gives.added goes_on few told reads.as_needed)
               (record {
                 needed = k;
                 waits = subst (λ z. Takes (grammar q) true z z (Undecided k)) here undecided;
@@ -120,20 +192,89 @@ module _ {R A State V O : Type 0} (left : R → Option (List ℕ)) (grammar : St
               (subst (λ z. IsEnough z t Unreadable) all enough);
         }
 
-    -- or can't be
+    -- or a read failed: nothing is read then
+    module _ (t : Stream R A) (e : Io.Error) (f : Fills left u t) (none : held_of t.held ≡ held_of u.held) where
+      abbrev Unreadable : Type 0
+      Unreadable = IsUnread {O = O} (Err (Stopped.Fault e)) ⊎ IsUntold t
+
+      unread : Unreadable
+      unread = inl (Unread.Fault e, refl)
+
+      nothing : f.given ≡ []
+      nothing = nil_of f.given (omega (arith, ap length f.gives.added, ap length none, length-append (held_of u.held) f.given))
+
+      as_before : (given : List ℕ) → held_of u.held ≡ held_of s.held ++ given → ReadAsNeeded (grammar q) s u (IsUntold u) given →
+          ReadAsNeeded (grammar q) s t Unreadable given
+      as_before given added (NoneRead e' f') =
+          let here : held_of u.held ≡ held_of s.held ++ [] = added ∙ ap (λ z. held_of s.held ++ z) e' in
+          MoreRead [] [] e' (NoFilling refl) (record {
+            needed = k;
+            waits = subst (λ z. Takes (grammar q) true z z (Undecided k)) here undecided;
+            no_more = omega arith;
+          }) (inr (inr (inr unread)))
+      as_before given added (MoreRead earlier last e' all f' enough) = MoreRead earlier last e' all f' (inr (inr (inr unread)))
+
+      faulted_reads : Reads left (grammar q) s t Unreadable
+      faulted_reads = record {
+        given = reads.given;
+        gives = subst (Gives left s t) (ap (λ z. reads.given ++ z) nothing ∙ append-nil reads.given)
+            (gives_more left s u u t reads.given f.given reads.gives refl refl f.gives);
+        as_needed = as_before reads.given reads.gives.added reads.as_needed;
+      }
+
+      pub decides_fault : u.ended ≡ false → TellsFault u t e → IsOpen left t → t.settings ≡ u.settings → t.offset ≡ u.offset →
+          Decides left (grammar q) s t (Err (Stopped.Fault e))
+      decides_fault goes_on tells opened' set' count' = record {
+        filled = t;
+        reads = faulted_reads;
+        faults = one_told s u t e faults tells;
+        open_then = opened';
+        answers = Faulted e refl (k, subst (λ z. Takes (grammar q) true z z (Undecided k)) (sym none) undecided) refl;
+        no_read = λ h. absurd (goes_on_from goes_on h);
+        source = refl;
+        ended = refl;
+        settings = (set' ∙ settings, set' ∙ settings);
+        offset = count' ∙ offset;
+      }
+
+    -- or there is no room
+    pub decides_lack : u.ended ≡ false → length (held_of u.held) < u.settings.most → (wants : ℕ) → wants ≡ wanted_of u.settings k (length (held_of u.held)) →
+        (t : Stream R A) → (u.untold ≡ None) × TellsNoFault u t → LacksRoom t × (length (held_of t.held) < wants + length (held_of u.held)) → Fills left u t →
+        length (held_of t.held) < wants + length (held_of u.held) + most_read u.settings → IsOpen left t → t.settings ≡ u.settings → t.offset ≡ u.offset →
+        Decides left (grammar q) s t (Err Stopped.OutOfMemory)
+    decides_lack goes_on few wants as_many t tells lacks f below opened' set' count' =
+        let wanted : wants ≡ wanted_of t.settings k (length (held_of u.held)) = as_many ∙ ap (λ z. wanted_of z k (length (held_of u.held))) (sym set') in
+        record {
+          filled = t;
+          reads = reads_further goes_on few tells.0 wants as_many (IsUnread {O = O} (Err Stopped.OutOfMemory) ⊎ IsUntold t) t f below
+              (inr (inr (inr (inl (Unread.OutOfMemory, refl)))));
+          faults = none_told s u t faults tells.0 tells.1;
+          open_then = opened';
+          answers = Lacking lacks.0 refl (held_of u.held) f.given f.gives.added k undecided
+              (omega (arith, lacks.1, ap length f.gives.added, length-append (held_of u.held) f.given, wanted)) refl;
+          no_read = λ h. absurd (goes_on_from goes_on h);
+          source = refl;
+          ended = refl;
+          settings = (set' ∙ settings, set' ∙ settings);
+          offset = count' ∙ offset;
+        }
+
+    -- by why
     pub decides_unread : u.ended ≡ false → length (held_of u.held) < u.settings.most → (wants : ℕ) → wants ≡ wanted_of u.settings k (length (held_of u.held)) →
-        (t : Stream R A) (why : Unread) → (why ≡ Unread.OutOfMemory → LacksRoom t) → Fills left u t →
+        (t : Stream R A) (why : Unread) → CountsUnread u t {T = Unit {0}} (Err why) →
+        (◌≡◌ {A = Result (Unit {0}) Unread} (Err why) (Err Unread.OutOfMemory) → LacksRoom t × (length (held_of t.held) < wants + length (held_of u.held))) →
+        ((e : Io.Error) → ◌≡◌ {A = Result (Unit {0}) Unread} (Err why) (Err (Unread.Fault e)) → held_of t.held ≡ held_of u.held) → Fills left u t →
         length (held_of t.held) < wants + length (held_of u.held) + most_read u.settings → IsOpen left t → t.settings ≡ u.settings → t.offset ≡ u.offset →
         Decides left (grammar q) s t (Err (stop_of why))
-    decides_unread goes_on few wants as_many t why lacks f below opened' set' count' = record {
-      filled = t;
-      reads = reads_further goes_on few wants as_many (IsUnread (Err (stop_of why))) t f below (inr (inr (inr (why, refl))));
-      open_then = opened';
-      answers = Unfilled why lacks refl (held_of u.held) f.given f.gives.added (k, undecided) refl;
-      source = refl;
-      settings = (set' ∙ settings, set' ∙ settings);
-      offset = count' ∙ offset;
-    }
+    decides_unread goes_on few wants as_many t (Unread.Fault e) tells lacks none f below opened' set' count' =
+        decides_fault t e f (none e refl) goes_on tells opened' set' count'
+    decides_unread goes_on few wants as_many t Unread.OutOfMemory tells lacks none f below opened' set' count' =
+        decides_lack goes_on few wants as_many t tells (lacks refl) f below opened' set' count'
+
+-- no read was made where the reader had ended: it hasn't
+pub none_at_end : {R A : Type 0} (s u t : Stream R A) → u.ended ≡ false → (s.ended ≡ true → (u.source ≡ s.source) × (u.ended ≡ true)) → s.ended ≡ true →
+    (t.source ≡ s.source) × (t.ended ≡ true)
+none_at_end s u t goes_on f e = let h = (f e).1 in absurd (cc (goes_on, h))
 
 -- where all is held as it was, so is the stream
 pub as_after : {R A : Type 0} (P : Stream R A → Type 0) (s : Stream R A) (h : Held A) → h ≡ s.held → P s → P (record s { held = h })

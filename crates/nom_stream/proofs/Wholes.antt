@@ -9,11 +9,10 @@ use Rattle.nom_error.specs.declared.value.Error.{Error}
 use Rattle.nom_stream.specs.declared.step.Taken.{Taken}
 use Rattle.nom_stream.specs.declared.step.Taken.TheVariants as Took
 use Rattle.nom_stream.specs.declared.stream.Stream.{Stream}
-use Rattle.nom_stream.specs.declared.stream.Unread.{Unread}
 use Rattle.nom_stream.specs.Held.{held_of}
 use Rattle.nom_stream.specs.Items.{Bytes, IsUndecided, Takes}
-use Rattle.nom_stream.specs.Streams.{Answers, Decides, Ends, Gives, IsOpen, Tells, Told, stop_of}
-use Rattle.nom_stream.specs.Streams.Answers.{Decided, AtEnd, Full, Unfilled}
+use Rattle.nom_stream.specs.Streams.{Answers, Decides, Ends, Gives, IsOpen, Tells, Told}
+use Rattle.nom_stream.specs.Streams.Answers.{Decided, AtEnd, Full, Faulted, Lacking}
 use Rattle.nom_stream.specs.Streams.Ends.{Clean, Within, Completed}
 use Rattle.nom_stream.specs.Wholes.{AtWhole, TellsFailure, HasLeft, IsLacking, TellsWhole, AnswersWhole, used_of}
 use Rattle.nom_stream.proofs.Outcomes.{Means, meant}
@@ -31,7 +30,7 @@ module _ {R A : Type 0} (left : R → Option (List ℕ)) where
   -- what was read is among the bytes that no item had, before and after
   pub left_read : (s u : Stream R A) (given xs : List ℕ) → Gives left s u given → HasLeft left s xs → HasLeft left u xs
   left_read s u given xs g h =
-      let c = consumes_known (left s.source) (left u.source) h.0 given h.1 g.consumed in
+      let c = consumes_known (left s.source.inner) (left u.source.inner) h.0 given h.1 g.consumed in
       (c.0, c.1, h.2 ∙ ap (λ z. held_of s.held ++ z) c.2 ∙ sym (append_assoc (held_of s.held) given c.0) ∙ ap (λ z. z ++ c.0) (sym g.added))
 
 module _ {V : Type 0} (m : Meaning Bytes V (Error Bytes)) (lawful : IsLawful bytes_model m) (x i : Bytes) (kx : bytes_model.IsKnown x)
@@ -103,10 +102,6 @@ module _ {R A V O : Type 0} (grammar : Grammar Bytes V O (Error Bytes)) (t : Str
   moves more x (Took.Failed k at) h r e = stays x.now r (ap used_of e) h.1
   moves more x Took.OutOfMemory h r e = stays x.now r (ap used_of e) h
 
-  unread_used : (why : Unread) → used_of {O = O} (Err (stop_of why)) ≡ 0
-  unread_used (Unread.Fault e) = refl
-  unread_used Unread.OutOfMemory = refl
-
   moves_taken : (more : Bool) (old : List ℕ) (taken : Taken O) (r : Told O) → Takes grammar more old (held_of t.held) taken → Tells taken r → Moves old r
   moves_taken more old taken r k e = subst (λ z. Moves z r) k.is_held (moves more k.input taken (meant grammar more old (held_of t.held) taken k) r e)
 
@@ -119,13 +114,14 @@ module _ {R A V O : Type 0} (grammar : Grammar Bytes V O (Error Bytes)) (t : Str
   moves_answer u r (Decided taken d g l e) = moves_taken true (held_of u.held) taken r g e
   moves_answer u r (AtEnd e k g h) = moves_ends u k r h
   moves_answer u r (Full a b w e) = stays (held_of u.held) r (ap used_of e) b
-  moves_answer u r (Unfilled why l b before last d w e) = stays (held_of u.held) r (ap used_of e ∙ unread_used why) b
+  moves_answer u r (Faulted why b w e) = stays (held_of u.held) r (ap used_of e) b
+  moves_answer u r (Lacking l b before last d k w few e) = stays (held_of u.held) r (ap used_of e) b
 
 module _ {R A V O : Type 0} (left : R → Option (List ℕ)) (grammar : Grammar Bytes V O (Error Bytes)) (u t : Stream R A)
     (opened : IsOpen left u) (same_source : t.source ≡ u.source) (same_settings : t.settings ≡ u.settings) (i : Bytes) (ki : bytes_model.IsKnown i)
     (has : HasLeft left u i.now) (p : Outcome V) (b : AtWhole grammar.meaning u.settings.complete i p) where
   at_end : u.ended ≡ true → i.now ≡ held_of u.held
-  at_end e = has.2 ∙ ap (λ z. held_of u.held ++ z) (end_known (left u.source) has.0 has.1 (opened.at_end e)) ∙ append-nil (held_of u.held)
+  at_end e = has.2 ∙ ap (λ z. held_of u.held ++ z) (end_known (left u.source.inner) has.0 has.1 (opened.at_end e)) ∙ append-nil (held_of u.held)
 
   of_decided : (taken : Taken O) (r : Told O) → (IsUndecided taken → ⊥) → Takes grammar true (held_of u.held) (held_of t.held) taken →
       Tells taken r → TellsWhole grammar t r i p
@@ -165,16 +161,13 @@ module _ {R A V O : Type 0} (left : R → Option (List ℕ)) (grammar : Grammar 
       tells grammar t i p false y (λ o c f. one o c) (λ c. inr (inl (sym (one (Stop (Fails TooLarge)) c))))
       (λ f c. c ∙ sym all_too) taken (λ f. absurd (cc (f))) (meant grammar false (held_of u.held) (held_of t.held) taken q) r e
 
-  of_unread : (why : Unread) → TellsWhole {O = O} grammar t (Err (stop_of why)) i p
-  of_unread (Unread.Fault e) = tt
-  of_unread Unread.OutOfMemory = tt
-
   pub of_answer : (r : Told O) → Answers grammar u t r → TellsWhole grammar t r i p
   of_answer r (Decided taken d g l e) = of_decided taken r d g e
   of_answer r (AtEnd e k g h) = of_ends e k r g h
   of_answer r (Full a c w e) = subst (λ z. TellsWhole grammar t z i p) (sym e)
       (subst (λ z. z ≤ length (held_of t.held)) (ap (λ z. z.most) (sym same_settings)) (subst (λ z. u.settings.most ≤ length z) (sym c) a))
-  of_answer r (Unfilled why l c before last d w e) = subst (λ z. TellsWhole grammar t z i p) (sym e) (of_unread why)
+  of_answer r (Faulted why c w e) = subst (λ z. TellsWhole grammar t z i p) (sym e) tt
+  of_answer r (Lacking l c before last d k w few e) = subst (λ z. TellsWhole grammar t z i p) (sym e) tt
 
 module _ {R A V O : Type 0} (left : R → Option (List ℕ)) (grammar : Grammar Bytes V O (Error Bytes)) where
   pub answers_whole : AnswersWhole A left grammar
@@ -195,7 +188,7 @@ module _ {R A V O : Type 0} (left : R → Option (List ℕ)) (grammar : Grammar 
         f.1,
         (
           held_of t.held ++ then.0,
-          (then.0, ap left d.source ∙ then.1, refl),
+          (then.0, ap (λ z. left z.inner) d.source ∙ then.1, refl),
           then.2 ∙ ap (λ z. z ++ then.0) f.2 ∙
               append_assoc f.0 (held_of t.held) then.0,
         ),

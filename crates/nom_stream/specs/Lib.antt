@@ -1,5 +1,6 @@
 pub mod Held
 pub mod Items
+pub mod Readers
 pub mod Streams
 pub mod Wanted
 pub mod Wholes

@@ -2,6 +2,7 @@
 use Rattle.std.specs.Prelude.{◌≡◌, ℕ, zero, suc, ◌+◌, ◌-◌, ◌^◌, ◌<◌, ◌≤◌, ◌⊎◌, min, Bool, true, false}
 use Rattle.std.specs.Prelude.{List, [], ◌++◌, length, Option, Some, None, Result, Ok, Err, vec_capacity, vec_len}
 use Rattle.std.specs.Io.KnownBytes.{Consumes, IsAtEnd}
+use Rattle.std_io.specs.declared.io.error.Error as Io
 use Rattle.nom_internal.specs.Prelude.{Needed, Grammar}
 use Rattle.nom_error.specs.declared.value.Error.{Error}
 use Rattle.nom_stream.specs.declared.stream.Stop as Why
@@ -13,6 +14,8 @@ use Rattle.nom_stream.specs.declared.step.Taken.{Taken}
 use Rattle.nom_stream.specs.declared.step.Taken.TheVariants as Took
 use Rattle.nom_stream.specs.Held.{held_of, IsWithin}
 use Rattle.nom_stream.specs.Items.{Bytes, HoldsLast, IsUndecided, Takes}
+use Rattle.nom_stream.specs.declared.reader.Reader.{Reader}
+use Rattle.nom_stream.specs.Readers.{NoFault, OneFault}
 use Rattle.nom_stream.specs.Wanted.{most_read, wanted_of}
 
 -- an item with how many bytes it has, none at the end, or why there is none
@@ -50,12 +53,12 @@ module _ {R A : Type 0} (left : R → Option (List ℕ)) where
   pub record IsOpen (s : Stream R A) : Type 0 where
     pub within : IsWithin s.held
     pub bounded : vec_len s.held.bytes ≤ s.settings.most
-    pub at_end : s.ended ≡ true → IsAtEnd (left s.source)
+    pub at_end : s.ended ≡ true → IsAtEnd (left s.source.inner)
 
   module _ (s t : Stream R A) where
     -- these bytes were read, and are held after the others
     pub record Gives (given : List ℕ) : Type 0 where
-      pub consumed : Consumes (left s.source) (left t.source) given
+      pub consumed : Consumes (left s.source.inner) (left t.source.inner) given
       pub added : held_of t.held ≡ held_of s.held ++ given
 
     -- some bytes were read, or none: nothing is lost
@@ -65,16 +68,52 @@ module _ {R A : Type 0} (left : R → Option (List ℕ)) where
 
     -- one read: at the end alone are none given
     abbrev pub ReadsOnce : Result ℕ Unread → Type 0
-    ReadsOnce (Ok n) = (given : List ℕ) × Gives given × (length given ≡ n) × (n ≡ 0 → IsAtEnd (left t.source))
+    ReadsOnce (Ok n) = (given : List ℕ) × Gives given × (length given ≡ n) × (n ≡ 0 → IsAtEnd (left t.source.inner))
     ReadsOnce (Err e) = Gives []
 
 -- that many bytes are held; or the reader is at its end, no more may be held, or bytes couldn't be read
 abbrev pub IsEnough : {R A : Type 0} → (count : ℕ) → Stream R A → (Unreadable : Type 0) → Type 0
 IsEnough count t Unreadable = (count ≤ length (held_of t.held)) ⊎ (t.ended ≡ true) ⊎ (t.settings.most ≤ length (held_of t.held)) ⊎ Unreadable
 
--- memory is wanted: the buffer has too little for the bytes that are held and a read
+-- memory is wanted: the buffer has too little for the bytes that are held and those that a read asks for, as far as the limit lets it
 abbrev pub LacksRoom : {R A : Type 0} → Stream R A → Type 0
-LacksRoom t = vec_capacity t.held.bytes < length (held_of t.held) + most_read t.settings
+LacksRoom t = vec_capacity t.held.bytes < min (length (held_of t.held) + most_read t.settings) t.settings.most
+
+-- of one read
+abbrev pub CountsOnce : {R T : Type 0} → (old new : Reader R) → Result T Unread → Type 0
+CountsOnce old new (Ok x) = NoFault old new
+CountsOnce old new (Err (Unread.Fault e)) = OneFault old new e
+CountsOnce old new (Err Unread.OutOfMemory) = NoFault old new
+
+-- an error is yet to be told
+abbrev pub IsUntold : {R A : Type 0} → Stream R A → Type 0
+IsUntold t = (e : Io.Error) × (t.untold ≡ Some e)
+
+-- The faults of a reader, from one state of a stream to another.
+module _ {R A : Type 0} (s t : Stream R A) where
+  -- None is told. No read failed; or one did after others had given bytes, and its error is yet to be told.
+  abbrev pub TellsNoFault : Type 0
+  TellsNoFault = (NoFault s.source t.source × (t.untold ≡ s.untold)) ⊎ ((s.untold ≡ None) × ((e : Io.Error) × OneFault s.source t.source e × (t.untold ≡ Some e)))
+
+  -- One is told: of a read that failed just now, or of one before.
+  abbrev pub TellsFault : Io.Error → Type 0
+  TellsFault e = (t.untold ≡ None) × (((s.untold ≡ None) × OneFault s.source t.source e) ⊎ ((s.untold ≡ Some e) × NoFault s.source t.source))
+
+  -- an error that is yet to be told is told before anything is read
+  abbrev pub CountsUnread : {T : Type 0} → Result T Unread → Type 0
+  CountsUnread (Ok x) = (s.untold ≡ None) × TellsNoFault
+  CountsUnread (Err (Unread.Fault e)) = TellsFault e
+  CountsUnread (Err Unread.OutOfMemory) = (s.untold ≡ None) × TellsNoFault
+
+  abbrev pub CountsFaults : {O : Type 0} → Told O → Type 0
+  CountsFaults (Ok x) = TellsNoFault
+  CountsFaults (Err (Stopped.Refused e n)) = TellsNoFault
+  CountsFaults (Err (Stopped.Failed e n)) = TellsNoFault
+  CountsFaults (Err Stopped.Nothing) = TellsNoFault
+  CountsFaults (Err (Stopped.Incomplete k)) = TellsNoFault
+  CountsFaults (Err Stopped.TooLong) = TellsNoFault
+  CountsFaults (Err (Stopped.Fault e)) = TellsFault e
+  CountsFaults (Err Stopped.OutOfMemory) = TellsNoFault
 
 -- bytes couldn't be read
 abbrev pub IsUnread : {O : Type 0} → Told O → Type 0
@@ -128,9 +167,11 @@ module _ {R A V O : Type 0} (grammar : Grammar Bytes V O (Error Bytes)) (s t : S
     AtEnd : s.ended ≡ true → (k : Needed) → Takes grammar true (held_of s.held) (held_of s.held) (Took.Undecided k) → Ends k r → Answers r
     -- as many bytes are held as may be, and don't decide
     Full : s.settings.most ≤ length (held_of s.held) → held_of t.held ≡ held_of s.held → Waits grammar (held_of s.held) → r ≡ Err Stopped.TooLong → Answers r
-    -- it wasn't decided by the bytes before the last ones, and more couldn't be read
-    Unfilled : (why : Unread) → (why ≡ Unread.OutOfMemory → LacksRoom s) → held_of t.held ≡ held_of s.held → (before last : List ℕ) →
-        held_of s.held ≡ before ++ last → Waits grammar before → r ≡ Err (stop_of why) → Answers r
+    -- it isn't decided, and a read failed
+    Faulted : (e : Io.Error) → held_of t.held ≡ held_of s.held → Waits grammar (held_of s.held) → r ≡ Err (Stopped.Fault e) → Answers r
+    -- It wasn't decided by the bytes before the last ones, which are fewer than were wanted; and there is no room for more.
+    Lacking : LacksRoom s → held_of t.held ≡ held_of s.held → (before last : List ℕ) → held_of s.held ≡ before ++ last → (k : Needed) →
+        Takes grammar true before before (Took.Undecided k) → length last < wanted_of s.settings k (length before) → r ≡ Err Stopped.OutOfMemory → Answers r
 
 module _ {R A V O : Type 0} (left : R → Option (List ℕ)) (grammar : Grammar Bytes V O (Error Bytes)) (s t : Stream R A) where
   -- bytes were read as they were needed
@@ -143,9 +184,13 @@ module _ {R A V O : Type 0} (left : R → Option (List ℕ)) (grammar : Grammar 
 pub record Decides {R A V O : Type 0} (left : R → Option (List ℕ)) (grammar : Grammar Bytes V O (Error Bytes)) (s t : Stream R A) (r : Told O) : Type 0 where
   -- the stream as it stood then
   pub filled : Stream R A
-  pub reads : Reads left grammar s filled (IsUnread r)
+  pub reads : Reads left grammar s filled (IsUnread r ⊎ IsUntold filled)
+  pub faults : CountsFaults s t r
   pub open_then : IsOpen left filled
   pub answers : Answers grammar filled t r
+  -- once the reader is at its end no read is made
+  pub no_read : s.ended ≡ true → (filled.source ≡ s.source) × (filled.ended ≡ true)
   pub source : t.source ≡ filled.source
+  pub ended : t.ended ≡ filled.ended
   pub settings : (filled.settings ≡ s.settings) × (t.settings ≡ s.settings)
   pub offset : t.offset ≡ counted s.offset r

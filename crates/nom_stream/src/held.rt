@@ -1,9 +1,10 @@
 //! The bytes that were read and aren't used yet, and reads of more.
-ghost use Rattle.std.specs.Prelude.{◌≡◌, ℕ, true, ◌+◌, ◌-◌, ◌^◌, ◌<◌, ◌≤◌, ◌++◌, List, [], Err, drop, length, max, IfOk, OnErr, OnOk, vec_capacity, vec_len};
-ghost use Rattle.std.specs.Io.{ReadsAtMost};
-ghost use Rattle.std.specs.Io.KnownBytes.{Consumes, IsAtEnd, Keeps, ReadConsumes};
+ghost use Rattle.std.specs.Prelude.{◌≡◌, ℕ, ◌+◌, ◌-◌, ◌^◌, ◌<◌, ◌≤◌, ◌++◌, List, [], drop, length, max, IfOk, OnErr, OnOk, vec_capacity, vec_len};
+ghost use Rattle.std.specs.Io.KnownBytes.{Consumes, IsAtEnd, Keeps};
 ghost use Rattle.nom_stream.specs.Held.{held_of, last_of, IsWithin};
+ghost use Rattle.nom_stream.specs.Readers.{CountsRead};
 
+use crate::reader::Reader;
 use nom_error::answer::OutOfMemory;
 use std::alloc::Allocator;
 use std::io;
@@ -20,31 +21,6 @@ pub struct Held<A: Allocator> {
 
 // So long a buffer costs little, and holds many small reads.
 const SMALL: usize = 4096;
-
-// Whether a read was interrupted.
-fn is_interrupted(answer: &io::Result<usize>) -> bool
-    ensures { result ≡ true → (e : _) × (answer.now ≡ Err e) }
-{
-    match answer {
-        Ok(_) => false,
-        Err(error) => error.kind() == io::ErrorKind::Interrupted,
-    }
-}
-
-// One read, made again where it is interrupted.
-fn read_again<R: Read>(source: &mut R, room: &mut [u8]) -> io::Result<usize>
-    ensures bound { ReadsAtMost result room.new }
-    ensures bytes { ReadConsumes (R.remaining source.old) (R.remaining source.new) result room.new }
-    ensures len { length room.new ≡ length room.old }
-{
-    for _turn in 0..u64::MAX {
-        let answer = source.read(room);
-        if !is_interrupted(&answer) {
-            return answer;
-        }
-    }
-    source.read(room)
-}
 
 impl<A: Allocator> Held<A> {
     /// None yet.
@@ -196,20 +172,21 @@ impl<A: Allocator> Held<A> {
     }
 
     /// One read of that many bytes at the most, after them; made again where it is interrupted.
-    pub fn read_from<R: Read>(&mut self, source: &mut R, count: usize) -> io::Result<usize>
+    pub fn read_from<R: Read>(&mut self, source: &mut Reader<R>, count: usize) -> io::Result<usize>
         requires within { IsWithin self.old }
         requires room { self.old.end + count ≤ vec_len self.old.bytes }
         ensures within { IsWithin self.new }
         ensures given { IfOk result (λ n. (given : List ℕ) × (length given ≡ n) × (held_of self.new ≡ held_of self.old ++ given)
-            × Consumes (R.remaining source.old) (R.remaining source.new) given) }
+            × Consumes (R.remaining source.old.inner) (R.remaining source.new.inner) given) }
         ensures bound { IfOk result (λ n. n ≤ count) }
-        ensures at_end { IfOk result (λ n. n ≡ 0 → 0 < count → IsAtEnd (R.remaining source.new)) }
-        ensures fault { OnErr result ((held_of self.new ≡ held_of self.old) × Keeps (R.remaining source.old) (R.remaining source.new)) }
+        ensures at_end { IfOk result (λ n. n ≡ 0 → 0 < count → IsAtEnd (R.remaining source.new.inner)) }
+        ensures fault { OnErr result ((held_of self.new ≡ held_of self.old) × Keeps (R.remaining source.old.inner) (R.remaining source.new.inner)) }
+        ensures counts { CountsRead source.old source.new result }
         ensures start { self.new.start ≡ self.old.start }
         ensures buffer { vec_len self.new.bytes ≡ vec_len self.old.bytes }
     {
         let end = self.end;
-        match read_again(source, &mut self.bytes[end..end + count]) {
+        match source.read(&mut self.bytes[end..end + count]) {
             Ok(given) => {
                 self.end = end + given;
                 Ok(given)

@@ -5,6 +5,7 @@
 pub mod grammar;
 pub mod held;
 pub mod promises;
+pub mod reader;
 pub mod settings;
 pub mod step;
 pub mod stream;

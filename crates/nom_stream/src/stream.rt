@@ -1,12 +1,14 @@
 //! The items of a reader.
-ghost use Rattle.std.specs.Prelude.{◌≡◌, true, false, ◌<◌, ◌≤◌, ◌+◌, ◌^◌, Err, IfOk, IfSome, IsOk, [], length, ◌⊎◌};
+ghost use Rattle.std.specs.Prelude.{◌≡◌, true, false, ◌<◌, ◌≤◌, ◌+◌, ◌^◌, None, Err, IfOk, IfSome, IsOk, [], length, vec_capacity, ◌⊎◌};
 ghost use Rattle.nom_stream.specs.Held.{held_of, last_of};
-ghost use Rattle.nom_stream.specs.Streams.{Decides, Ends, Fills, IsEnough, IsOpen, LacksRoom, ReadsOnce, Tells, counted, stop_of};
+ghost use Rattle.nom_stream.specs.Streams.{CountsOnce, CountsUnread, Decides, Ends, Fills, IsEnough, IsOpen, IsUntold, LacksRoom};
+ghost use Rattle.nom_stream.specs.Streams.{ReadsOnce, Tells, counted, stop_of};
 ghost use Rattle.nom_stream.specs.Wanted.{most_read};
 ghost use Rattle.nom_stream.specs.declared.step.Taken.TheVariants.{Undecided};
 
 use crate::grammar::Grammar;
 use crate::held::Held;
+use crate::reader::Reader;
 use crate::settings::Settings;
 use crate::step::{Taken, needed_of, take};
 use nom_error::answer::Needed;
@@ -47,13 +49,16 @@ pub enum Stop {
 /// The items of a reader, one for each `next_item`.
 #[derive(Drop)]
 pub struct Stream<R, A: Allocator> {
-    pub source: R,
+    pub source: Reader<R>,
     pub held: Held<A>,
     pub settings: Settings,
     /// How many bytes the items had so far; it stays at the greatest `u64`.
     pub offset: u64,
     /// Whether the reader has come to its end.
     pub ended: bool,
+    /// The error of a read that failed after others had given bytes, and that wasn't told, since these decided. It is told
+    /// before anything else is read.
+    pub untold: Option<io::Error>,
 }
 
 // What is told where bytes couldn't be read.
@@ -70,17 +75,19 @@ impl<R: Read, A: Allocator + Copy> Stream<R, A> {
     /// A stream from where a reader stands.
     pub fn new(alloc: A, source: R, settings: Settings) -> Self
         ensures open { IsOpen R.remaining result }
-        ensures source { result.source ≡ source }
+        ensures source { (result.source.inner ≡ source) × (result.source.faults ≡ 0) }
+        ensures told { result.untold ≡ None }
         ensures none { held_of result.held ≡ [] }
         ensures offset { result.offset ≡ 0 }
         ensures settings { result.settings ≡ settings }
     {
         Stream {
-            source,
+            source: Reader::new(source),
             held: Held::new(alloc),
             settings,
             offset: 0,
             ended: false,
+            untold: None,
         }
     }
 
@@ -91,12 +98,13 @@ impl<R: Read, A: Allocator + Copy> Stream<R, A> {
         requires some { 0 < count }
         requires most { length (held_of self.old.held) + count ≤ self.old.settings.most }
         requires fits { length (held_of self.old.held) + count < 2 ^ 64 }
-        requires asks { count ≤ most_read self.old.settings }
         ensures open { IsOpen R.remaining self.new }
         ensures reads { ReadsOnce R.remaining self.old self.new result }
         ensures bound { IfOk result (λ n. n ≤ count) }
-        ensures memory { result ≡ Err Unread.OutOfMemory → LacksRoom self.new }
-        ensures others { (self.new.settings ≡ self.old.settings) × (self.new.offset ≡ self.old.offset) × (self.new.ended ≡ false) }
+        ensures memory { result ≡ Err Unread.OutOfMemory → vec_capacity self.new.held.bytes < length (held_of self.new.held) + count }
+        ensures counts { CountsOnce self.old.source self.new.source result }
+        ensures others { (self.new.settings ≡ self.old.settings) × (self.new.offset ≡ self.old.offset) × (self.new.ended ≡ false)
+            × (self.new.untold ≡ self.old.untold) }
     {
         match self.held.find_room(count, self.settings.most) {
             Ok(()) => {}
@@ -109,7 +117,7 @@ impl<R: Read, A: Allocator + Copy> Stream<R, A> {
     }
 
     // Reads that many bytes, unless the reader comes to its end, or the limit is reached; some at least. No read is made once
-    // they are there.
+    // they are there. Where one fails after others gave bytes, these are parsed before the fault is told.
     #[inline(never)]
     fn read_wanted(&mut self, wants: usize) -> Result<(), Unread>
         requires open { IsOpen R.remaining self.old }
@@ -118,23 +126,43 @@ impl<R: Read, A: Allocator + Copy> Stream<R, A> {
         requires most { length (held_of self.old.held) < self.old.settings.most }
         ensures open { IsOpen R.remaining self.new }
         ensures fills { Fills R.remaining self.old self.new }
-        ensures enough { IsOk result → IsEnough (wants + length (held_of self.old.held)) self.new ⊥ }
+        ensures enough { IsOk result → IsEnough (wants + length (held_of self.old.held)) self.new (IsUntold self.new) }
         ensures no_more { length (held_of self.new.held) < wants + length (held_of self.old.held) + most_read self.old.settings }
-        ensures memory { result ≡ Err Unread.OutOfMemory → LacksRoom self.new }
+        ensures memory { result ≡ Err Unread.OutOfMemory → LacksRoom self.new × (length (held_of self.new.held) < wants + length (held_of self.old.held)) }
+        ensures none { (e : _) → result ≡ Err (Unread.Fault e) → held_of self.new.held ≡ held_of self.old.held }
+        ensures faults { CountsUnread self.old self.new result }
         ensures some { IsOk result → (self.new.ended ≡ true) ⊎ (length (held_of self.old.held) < length (held_of self.new.held)) }
         ensures settings { self.new.settings ≡ self.old.settings }
         ensures offset { self.new.offset ≡ self.old.offset }
     {
+        match self.untold {
+            Some(error) => {
+                self.untold = None;
+                return Err(Unread::Fault(error));
+            }
+            None => {}
+        }
         let mut wanted = wants;
         while wanted > 0 && self.held.len() < self.settings.most {
             let spare = self.settings.most - self.held.len();
             let count = self.settings.read.max(1).min(spare);
-            let given = self.read_once(count)?;
-            if given == 0 {
-                self.ended = true;
-                return Ok(());
+            match self.read_once(count) {
+                Ok(given) => {
+                    if given == 0 {
+                        self.ended = true;
+                        return Ok(());
+                    }
+                    wanted = wanted.saturating_sub(given);
+                }
+                Err(Unread::Fault(error)) => {
+                    if wanted == wants {
+                        return Err(Unread::Fault(error));
+                    }
+                    self.untold = Some(error);
+                    return Ok(());
+                }
+                Err(Unread::OutOfMemory) => return Err(Unread::OutOfMemory),
             }
-            wanted = wanted.saturating_sub(given);
         }
         Ok(())
     }
@@ -148,9 +176,11 @@ impl<R: Read, A: Allocator + Copy> Stream<R, A> {
         requires most { length (held_of self.old.held) < self.old.settings.most }
         ensures open { IsOpen R.remaining self.new }
         ensures fills { Fills R.remaining self.old self.new }
-        ensures enough { IsOk result → IsEnough (wants + length (held_of self.old.held)) self.new ⊥ }
+        ensures enough { IsOk result → IsEnough (wants + length (held_of self.old.held)) self.new (IsUntold self.new) }
         ensures no_more { length (held_of self.new.held) < wants + length (held_of self.old.held) + most_read self.old.settings }
-        ensures memory { result ≡ Err Unread.OutOfMemory → LacksRoom self.new }
+        ensures memory { result ≡ Err Unread.OutOfMemory → LacksRoom self.new × (length (held_of self.new.held) < wants + length (held_of self.old.held)) }
+        ensures none { (e : _) → result ≡ Err (Unread.Fault e) → held_of self.new.held ≡ held_of self.old.held }
+        ensures faults { CountsUnread self.old self.new result }
         ensures some { IsOk result → (self.new.ended ≡ true) ⊎ (length (held_of self.old.held) < length (held_of self.new.held)) }
         ensures settings { self.new.settings ≡ self.old.settings }
         ensures offset { self.new.offset ≡ self.old.offset }
@@ -164,7 +194,7 @@ impl<R: Read, A: Allocator + Copy> Stream<R, A> {
         ensures tells { Tells taken result }
         ensures offset { self.new.offset ≡ counted self.old.offset result }
         ensures others { (self.new.source ≡ self.old.source) × (self.new.held ≡ self.old.held)
-            × (self.new.settings ≡ self.old.settings) × (self.new.ended ≡ self.old.ended) }
+            × (self.new.settings ≡ self.old.settings) × (self.new.ended ≡ self.old.ended) × (self.new.untold ≡ self.old.untold) }
     {
         match taken {
             Taken::Item(used, item) => {
@@ -193,7 +223,8 @@ impl<R: Read, A: Allocator + Copy> Stream<R, A> {
         ensures ends { Ends (G.grammar (G.state grammar.old)) self.old self.new needed result }
         ensures offset { self.new.offset ≡ counted self.old.offset result }
         ensures last { IfOk result (λ r. IfSome r (λ p. p.0 ≤ self.new.held.start)) }
-        ensures others { (self.new.source ≡ self.old.source) × (self.new.settings ≡ self.old.settings) }
+        ensures others { (self.new.source ≡ self.old.source) × (self.new.settings ≡ self.old.settings)
+            × (self.new.ended ≡ self.old.ended) × (self.new.untold ≡ self.old.untold) }
     {
         if self.held.len() == 0 {
             return Ok(None);
@@ -219,7 +250,8 @@ impl<R: Read, A: Allocator + Copy> Stream<R, A> {
         ensures ends { Ends (G.grammar (G.state grammar.old)) self.old self.new needed result }
         ensures offset { self.new.offset ≡ counted self.old.offset result }
         ensures last { IfOk result (λ r. IfSome r (λ p. p.0 ≤ self.new.held.start)) }
-        ensures others { (self.new.source ≡ self.old.source) × (self.new.settings ≡ self.old.settings) }
+        ensures others { (self.new.source ≡ self.old.source) × (self.new.settings ≡ self.old.settings)
+            × (self.new.ended ≡ self.old.ended) × (self.new.untold ≡ self.old.untold) }
     {
         self.finish(needed, grammar)
     }
@@ -227,7 +259,8 @@ impl<R: Read, A: Allocator + Copy> Stream<R, A> {
     /// The next item, with how many bytes it has; none at the end of the data.
     ///
     /// What is held is parsed. Where it isn't decided more is read, and it is parsed again. An item's bytes aren't held
-    /// any more, but `last` lends them until the next call. After a `Stop` all is held, and the call can be made again.
+    /// any more, but `last` lends them until the next call. After a `Stop` all is held, and the call can be made again. At a
+    /// fault what is held doesn't decide. At the end no more is read.
     #[inline(always)]
     pub fn next_item<G: Grammar>(
         &mut self,
@@ -283,10 +316,10 @@ impl<R: Read, A: Allocator + Copy> Stream<R, A> {
     /// The reader, and the bytes that were read and that no item had.
     pub fn into_parts(self) -> (R, Vec<u8, A>)
         requires { IsOpen R.remaining self }
-        ensures source { result.0 ≡ self.source }
+        ensures source { result.0 ≡ self.source.inner }
         ensures held { result.1.items ≡ held_of self.held }
     {
         let Stream { source, held, .. } = self;
-        (source, held.into_vec())
+        (source.into_inner(), held.into_vec())
     }
 }

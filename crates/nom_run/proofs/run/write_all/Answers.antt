@@ -1,4 +1,4 @@
-use Rattle.std.proofs.Common.{arith, ◌≤◌, ◌<◌, ◌-◌, ◌∙◌, length}
+use Rattle.std.proofs.Common.{arith, ap, ◌≤◌, ◌<◌, ◌-◌, ◌∙◌, length}
 use Rattle.std.proofs.lemmas.List.{places}
 use Rattle.nom_run.proofs.Known.{appends-more, take-on}
 use Rattle.nom_run.proofs.run.write_all.Goals as goal
@@ -10,6 +10,7 @@ loop-at-preserved g c =
     let high : c.in-Ok.count ≤ length c.args.text.now - c.loop-at.at = grind (arith, places, b) in
     let some : 0 < c.in-Ok.count = omega (arith, c.if-count-eq0.false) in
     record {
+      none = λ e. absurd (omega (arith, ap length e));
       within = omega arith;
       wrote = rw (take-on c.args.text.now c.loop-at.at c.in-Ok.count low high)
           (appends-more (g.W.Sink.held c.args.sink.now) (g.W.Sink.held c.loop-at.sink)

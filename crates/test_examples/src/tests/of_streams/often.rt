@@ -49,7 +49,7 @@ fn counts<G: Grammar + Drop>(
         Ok(Some((used, _item))) => used,
         _ => 0,
     };
-    (parses.count, stream.source.reads, used)
+    (parses.count, stream.source.inner.reads, used)
 }
 
 /// A field of 101 bytes, and the semicolon of the next one: the parser asks for one byte more each time, so it is parsed

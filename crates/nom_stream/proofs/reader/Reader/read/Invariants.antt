@@ -1,9 +1,11 @@
 use Rattle.std.proofs.Common.{◌≡◌, length}
 use Rattle.std.specs.Io.KnownBytes.{Keeps}
-use Rattle.nom_stream.proofs.held.read_again.Given as goal
+use Rattle.nom_stream.specs.Readers.{NoFault}
+use Rattle.nom_stream.proofs.reader.Reader.read.Given as goal
 
 abbrev pub invariant-loop-turn : goal.invariant-loop-turn
 invariant-loop-turn g l = record {
-  kept : Keeps (g.R.Read.remaining l.fn.source) (g.R.Read.remaining l.source);
+  kept : Keeps (g.R.Read.remaining l.fn.self.inner) (g.R.Read.remaining l.self.inner);
   len : length l.room ≡ length l.fn.room;
+  none : NoFault l.fn.self l.self;
 }

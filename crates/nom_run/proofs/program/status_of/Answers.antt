@@ -1,0 +1,6 @@
+use Rattle.nom_run.proofs.Ended.{told_end}
+use Rattle.nom_run.proofs.program.status_of.Goals as goal
+
+pub returns-in-Err : goal.returns-in-Err
+returns-in-Err g c = told_end g.R.Report.is_report g.W.Sink.held g.W.Sink.failures g.W.Sink.stalls c.args.sink.now c.answer.new.sink c.tell_fault.new.sink
+    _ c.tell_fault.ensures.status c.in-Err.error c.in-Err.ensures.error c.tell_fault.ensures.wrote c.tell_fault.ensures.after_write
