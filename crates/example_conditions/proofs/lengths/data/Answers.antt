@@ -1,0 +1,11 @@
+use Rattle.std.proofs.Common.{subst, sym}
+use Rattle.nom_internal.specs.Prelude.{IsOne}
+use Rattle.nom_multi_length.specs.Lengths.{HasSize}
+use Rattle.example_conditions.proofs.lengths.data.Goals as goal
+
+pub answer_of-requires : goal.answer_of-requires
+answer_of-requires g c =
+    let e = c.length_data.ensures in (
+      subst (λ x. (g.L.Parser.grammar (g.L.Parser.state x)).meaning.IsSound) (sym e) c.requires.length,
+      (tt, subst (λ x. IsOne (HasSize (g.L.Parser.grammar (g.L.Parser.state x)).IsOutput (λ n. n))) (sym e) c.requires.one),
+    )

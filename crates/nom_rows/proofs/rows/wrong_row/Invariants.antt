@@ -1,6 +1,0 @@
-use Rattle.std.proofs.Common.{◌≡◌}
-use Rattle.nom_rows.proofs.rows.wrong_row.Given as goal
-
--- each call leaves the parser as it was
-abbrev pub invariant-loop-index : goal.invariant-loop-index
-invariant-loop-index g l = g.P.Parser.state l.parser ≡ g.P.Parser.state l.fn.parser

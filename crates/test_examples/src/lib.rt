@@ -1,5 +1,0 @@
-//! Tests of the examples, and of streams.
-#![tactic(auto)]
-
-#[cfg(test)]
-mod tests;

@@ -1,2 +1,0 @@
-pub mod Nothing
-pub mod FirstByte

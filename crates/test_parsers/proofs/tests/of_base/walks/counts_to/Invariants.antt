@@ -1,5 +1,0 @@
-use Rattle.std.proofs.Common.{length, ◌≤◌}
-use Rattle.test_parsers.proofs.tests.of_base.walks.counts_to.Given as goal
-
-abbrev pub invariant-loop-count : goal.invariant-loop-count
-invariant-loop-count g l = length l.yielded ≤ l.wanted
