@@ -9,6 +9,7 @@ pub mod bytes;
 pub mod character;
 pub mod combinator;
 pub mod error;
+pub mod extend;
 pub mod laws;
 pub mod multi;
 pub mod number;

@@ -1,13 +1,13 @@
 -- What items in turn show, of which one may be stuck.
 use Rattle.std.proofs.Common.{◌≡◌, ℕ, ◌<◌, Bool, true, false, Ok, Err, Option, Some, None, List, [], ◌∷◌, ◌++◌, refl, arith, zero, suc}
-use Rattle.nom_internal.specs.Prelude.{PResult, size_of, Needed, Incomplete, Failure, OutOfMemory, Built, modes, Model, InputLaws, IsSuffixOf, Outcome, Accept}
-use Rattle.nom_internal.specs.Prelude.{Refuse, Stop, Fails, Needs, ShowsAnswer, RanOut, Meaning, labelled_meaning, always}
-use Rattle.nom_error.specs.declared.answer.Err as Answer
-use Rattle.nom_internal.proofs.Cased.{here}
-use Rattle.nom_repeat.specs.Repeat.{TurnsBy}
-use Rattle.nom_repeat.specs.Repeat.Turn.{Takes, Ends}
-use Rattle.nom_repeat.proofs.Parts.{part_failed, part_lacks, part_ran_out}
-use Rattle.nom_repeat.proofs.Repeated.{Collected, collected_more, ended, ended_after, failed, lacking, ran_out, ran_out_within}
+use Rattle.nom.specs.Prelude.{PResult, size_of, Needed, Incomplete, Failure, OutOfMemory, Built, modes, Model, InputLaws, IsSuffixOf, Outcome, Accept}
+use Rattle.nom.specs.Prelude.{Refuse, Stop, Fails, Needs, ShowsAnswer, RanOut, Meaning, labelled_meaning, always}
+use Rattle.nom.specs.Err as Answer
+use Rattle.nom.proofs.Cased.{here}
+use Rattle.nom.specs.Repeat.{TurnsBy}
+use Rattle.nom.specs.Repeat.Turn.{Takes, Ends}
+use Rattle.nom.proofs.Parts.{part_failed, part_lacks, part_ran_out}
+use Rattle.nom.proofs.Repeated.{Collected, collected_more, ended, ended_after, failed, lacking, ran_out, ran_out_within}
 use Rattle.nom_precedence.specs.Stuck.{Read}
 use Rattle.nom_precedence.specs.Stuck.Read.{Whole, Stuck}
 use Rattle.nom_precedence.specs.Chains.{read_turn, chain_turn, IfTaken, chain_rule, chained, chain_meaning}

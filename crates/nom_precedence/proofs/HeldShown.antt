@@ -2,8 +2,8 @@
 use Rattle.std.proofs.Common.{◌≡◌, ℕ, Bool, true, false, Option, Some, None, List, [], ◌∷◌, ◌++◌, refl, sym, subst}
 use Rattle.std.specs.Prelude.{IfSome, IsSome}
 use Rattle.std.specs.List.{AllZip}
-use Rattle.nom_internal.specs.Prelude.{Built, BuiltFrom, BuiltFromBoth}
-use Rattle.nom_repeat.proofs.Accumulating.{zip_push}
+use Rattle.nom.specs.Prelude.{Built, BuiltFrom, BuiltFromBoth}
+use Rattle.nom.proofs.Accumulating.{zip_push}
 use Rattle.nom_operators.specs.Steps.{IsNested, Joined, Pushed, Runs, waiting}
 use Rattle.nom_operators.proofs.StepsShown.{none_waits}
 use Rattle.nom_operators.proofs.Runs.{runs_more}

@@ -2,8 +2,8 @@
 use Rattle.std.proofs.Common.{◌≡◌, Bool, true, false, Option, Some, None, List, [], ◌∷◌, ◌++◌, sym, subst}
 use Rattle.std.specs.List.{AllZip}
 use Rattle.std.specs.Prelude.{option_to_list}
-use Rattle.nom_internal.specs.Prelude.{Built}
-use Rattle.nom_repeat.proofs.Accumulating.{zip_push}
+use Rattle.nom.specs.Prelude.{Built}
+use Rattle.nom.proofs.Accumulating.{zip_push}
 
 -- one more
 pub listed : {V X : Type 0} (P : V → X → Type 0) (builds : Bool) (vs : List V) (v : V) (item : Option X) (old new : List X) →

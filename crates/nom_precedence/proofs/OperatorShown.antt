@@ -1,14 +1,14 @@
 -- What operators with levels show, and what is stuck or closed.
 use Rattle.std.proofs.Common.{◌≡◌, ℕ, ◌<◌, ◌≤◌, ltb, lt-ltb, le-ltb, Bool, true, false, Ok, Err, Option, Some, inl, inr, refl, sym, ap, subst}
 use Rattle.std.specs.Result.{IsErrAnd, IsErr}
-use Rattle.nom_internal.specs.Prelude.{PResult, Refuses, Errors, Built, modes, Needed, Model, InputLaws, IsSuffixOf, Accept, Refuse, Stop, Fails, Outright}
-use Rattle.nom_internal.specs.Prelude.{ShowsAnswer, RanOut, Shown, Meaning, ShowsMeaning, closed_meaning, labelled_meaning, RunsOutBeside, ClosesResult}
-use Rattle.nom_error.specs.declared.answer.Err as Answer
-use Rattle.nom_error.specs.declared.kind.ErrorKind.TheVariants as Kind
-use Rattle.nom_internal.proofs.Cased.{here, passing_err, labels_err, labels_ok}
-use Rattle.nom_internal.proofs.Choices.{closed_shown}
-use Rattle.nom_internal.proofs.Shown.{accepts, then_err, then_ok, output_err, output_ok, err_from_residual, built_error}
-use Rattle.nom_repeat.specs.Inverted.{GivesFailure}
+use Rattle.nom.specs.Prelude.{PResult, Refuses, Errors, Built, modes, Needed, Model, InputLaws, IsSuffixOf, Accept, Refuse, Stop, Fails, Outright}
+use Rattle.nom.specs.Prelude.{ShowsAnswer, RanOut, Shown, Meaning, ShowsMeaning, closed_meaning, labelled_meaning, RunsOutBeside, ClosesResult}
+use Rattle.nom.specs.Err as Answer
+use Rattle.nom.specs.ErrorKind.TheVariants as Kind
+use Rattle.nom.proofs.Cased.{here, passing_err, labels_err, labels_ok}
+use Rattle.nom.proofs.Choices.{closed_shown}
+use Rattle.nom.proofs.Shown.{accepts, then_err, then_ok, output_err, output_ok, err_from_residual, built_error}
+use Rattle.nom.specs.Inverted.{GivesFailure}
 use Rattle.nom_precedence.specs.Operators.{HasLevel, if_level, operator_case, operator_meaning}
 use Rattle.nom_precedence.specs.Stuck.{Read, both, read_after, read_both, freed_case, freed_meaning}
 use Rattle.nom_precedence.specs.Stuck.Read.{Whole, Stuck}

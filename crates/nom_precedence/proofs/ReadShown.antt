@@ -1,11 +1,11 @@
 -- What parts show in sequence, of which one may be stuck.
 use Rattle.std.proofs.Common.{◌≡◌, Bool, true, false, Ok, Err, Option, Some, None, refl, sym, subst, []}
 use Rattle.std.specs.Result.{IsErrAnd, IsErr}
-use Rattle.nom_internal.specs.Prelude.{PResult, Needed, OutOfMemory, Built, BuiltFrom, BuiltFromBoth, Modes, modes, Model, InputLaws, Outcome, Accept}
-use Rattle.nom_internal.specs.Prelude.{ShowsAnswer, RanOut, Shown, Meaning, ShowsMeaning, labelled_meaning}
-use Rattle.nom_error.specs.declared.answer.Err as Answer
-use Rattle.nom_internal.proofs.Cased.{labels_err, labels_ok}
-use Rattle.nom_internal.proofs.Shown.{accepts, then_err, then_ok, output_err, output_ok}
+use Rattle.nom.specs.Prelude.{PResult, Needed, OutOfMemory, Built, BuiltFrom, BuiltFromBoth, Modes, modes, Model, InputLaws, Outcome, Accept}
+use Rattle.nom.specs.Prelude.{ShowsAnswer, RanOut, Shown, Meaning, ShowsMeaning, labelled_meaning}
+use Rattle.nom.specs.Err as Answer
+use Rattle.nom.proofs.Cased.{labels_err, labels_ok}
+use Rattle.nom.proofs.Shown.{accepts, then_err, then_ok, output_err, output_ok}
 use Rattle.nom_precedence.specs.Stuck.{Read, both, read_after, read_both}
 use Rattle.nom_precedence.specs.Stuck.Read.{Whole, Stuck}
 use Rattle.nom_precedence.specs.Told.{IsRead, ShowsRead}

@@ -1,8 +1,8 @@
 -- What is built of a term.
 use Rattle.std.proofs.Common.{◌≡◌, ◌++◌, Bool, true, false, Option, Some, None, MatchOption, List, [], ◌∷◌, refl, sym, ◌∙◌, ap, subst}
 use Rattle.std.specs.List.{AllZip}
-use Rattle.nom_internal.specs.Prelude.{Built, BuiltFrom}
-use Rattle.nom_repeat.specs.Accumulated.{Adds, Accumulated}
+use Rattle.nom.specs.Prelude.{Built, BuiltFrom}
+use Rattle.nom.specs.Accumulated.{Adds, Accumulated}
 use Rattle.nom_precedence.specs.Expressions.{Tail, term_of}
 use Rattle.nom_precedence.specs.Steps.{AppliedPushes, Before}
 use Rattle.nom_precedence.specs.Told.{After, IsHeld, IsTail, IsTerm}

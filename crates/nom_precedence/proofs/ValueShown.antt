@@ -1,7 +1,7 @@
 -- What is built of an expression.
 use Rattle.std.proofs.Common.{◌≡◌, ℕ, Bool, true, false, Option, Some, None, List, [], ◌∷◌, refl, subst}
 use Rattle.std.specs.List.{AllZip}
-use Rattle.nom_internal.specs.Prelude.{Built}
+use Rattle.nom.specs.Prelude.{Built}
 use Rattle.nom_operators.proofs.Spine.{Joins}
 use Rattle.nom_operators.proofs.Runs.{made_stands}
 use Rattle.nom_operators.specs.Trees.Tree.{Leaf, Node}

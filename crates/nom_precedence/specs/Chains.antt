@@ -1,9 +1,9 @@
 -- Items of one part in turn, until one is refused. The items are read whole, with the list of their trees; or one is stuck: it
 -- consumes nothing, or is stuck itself.
 use Rattle.std.specs.Prelude.{◌≡◌, ℕ, true, false, Option, Some, None, List, zero, suc}
-use Rattle.nom_internal.specs.Prelude.{with_errors, Model, Outcome, Accept, Refuse, Stop, Fails, Needs, Meaning, always}
-use Rattle.nom_repeat.specs.Repeat.{Turn, Rule, repeat_meaning}
-use Rattle.nom_repeat.specs.Repeat.Turn.{Takes, Ends}
+use Rattle.nom.specs.Prelude.{with_errors, Model, Outcome, Accept, Refuse, Stop, Fails, Needs, Meaning, always}
+use Rattle.nom.specs.Repeat.{Turn, Rule, repeat_meaning}
+use Rattle.nom.specs.Repeat.Turn.{Takes, Ends}
 use Rattle.nom_precedence.specs.Stuck.{Read}
 use Rattle.nom_precedence.specs.Stuck.Read.{Whole, Stuck}
 

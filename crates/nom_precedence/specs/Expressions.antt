@@ -1,7 +1,7 @@
 -- Expressions: terms with operators between them.
 use Rattle.std.specs.Prelude.{◌≡◌, ℕ, true, false, List}
-use Rattle.nom_internal.specs.Prelude.{Errors, with_errors, with_outputs, Model, Meaning, IsOne, labelled_meaning, closed_meaning, TooLarge}
-use Rattle.nom_error.specs.declared.kind.ErrorKind.TheVariants as Kind
+use Rattle.nom.specs.Prelude.{Errors, with_errors, with_outputs, Model, Meaning, IsOne, labelled_meaning, closed_meaning, TooLarge}
+use Rattle.nom.specs.ErrorKind.TheVariants as Kind
 use Rattle.nom_precedence.specs.Premises.{Premises, with_premises}
 use Rattle.nom_precedence.specs.Stuck.{Read, read_both, freed_meaning}
 use Rattle.nom_precedence.specs.Stuck.Read.{Whole}

@@ -1,8 +1,8 @@
 -- An operator with its level.
 use Rattle.std.specs.Prelude.{◌≡◌, ℕ, Bool, true, false, ltb}
-use Rattle.nom_internal.specs.Prelude.{Errors, with_outputs, Outcome, Accept, Refuse, Stop, Fails, Needs, Outright, Meaning, OfValue, IsOne, Case, case_meaning}
-use Rattle.nom_internal.specs.Prelude.{Passes, AsAsked, TooLarge}
-use Rattle.nom_error.specs.declared.kind.ErrorKind.TheVariants as Kind
+use Rattle.nom.specs.Prelude.{Errors, with_outputs, Outcome, Accept, Refuse, Stop, Fails, Needs, Outright, Meaning, OfValue, IsOne, Case, case_meaning}
+use Rattle.nom.specs.Prelude.{Passes, AsAsked, TooLarge}
+use Rattle.nom.specs.ErrorKind.TheVariants as Kind
 
 -- a tree stands for a level: an output of it has that level
 pub record HasLevel {P O : Type 0} (IsOutput : P → O → Type 0) (level : O → ℕ) (u : P) (k : ℕ) : Type 0 where

@@ -1,5 +1,5 @@
 -- A meaning whose premises are told at once, in place of those that its definition gathers.
-use Rattle.nom_internal.specs.Prelude.{Modes, Model, Meaning, IsLawful, IsSteady, Cause}
+use Rattle.nom.specs.Prelude.{Modes, Model, Meaning, IsLawful, IsSteady, Cause}
 
 -- when a parser is sound, frugal, settles, and never fails
 pub record Premises : Type 1 where

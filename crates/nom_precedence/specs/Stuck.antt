@@ -1,9 +1,9 @@
 -- What may be stuck: a part that consumed nothing, where each of its kind must consume. It is a refusal of the whole, at the place
 -- where it is stuck; but below the whole it is told from the refusals of parts, which end what they end, so it is a tree of its own.
 use Rattle.std.specs.Prelude.{◌≡◌, ℕ, true}
-use Rattle.nom_internal.specs.Prelude.{Errors, Model, IsSuffixOf, Outcome, Accept, Refuse, Stop, Fails, Needs, Meaning, Family, Case, case_meaning, Passes}
-use Rattle.nom_internal.specs.Prelude.{AsAsked, then_meaning, success_meaning}
-use Rattle.nom_error.specs.declared.kind.ErrorKind.TheVariants as Kind
+use Rattle.nom.specs.Prelude.{Errors, Model, IsSuffixOf, Outcome, Accept, Refuse, Stop, Fails, Needs, Meaning, Family, Case, case_meaning, Passes}
+use Rattle.nom.specs.Prelude.{AsAsked, then_meaning, success_meaning}
+use Rattle.nom.specs.ErrorKind.TheVariants as Kind
 
 -- it was read whole, with a tree; or it is stuck after what was consumed
 pub data Read (V : Type 0) : Type 0 where

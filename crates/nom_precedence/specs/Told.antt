@@ -1,7 +1,7 @@
 -- What is told of what was read.
 use Rattle.std.specs.Prelude.{◌≡◌, ℕ, Bool, true, List, [], ◌∷◌, Option, Some}
 use Rattle.std.specs.List.{AllZip}
-use Rattle.nom_internal.specs.Prelude.{PResult, Built, modes, Model, ShowsAnswer, Meaning}
+use Rattle.nom.specs.Prelude.{PResult, Built, modes, Model, ShowsAnswer, Meaning}
 use Rattle.nom_precedence.specs.Stuck.{Read}
 use Rattle.nom_precedence.specs.Stuck.Read.{Whole, Stuck}
 use Rattle.nom_precedence.specs.Expressions.{Term}

@@ -1,5 +1,5 @@
-//! Operator precedence: terms with operators between them, by levels. It stands on the public contracts of
-//! parsers alone.
+//! Operator precedence: terms with operators between them, by levels. It stands on `nom`, as a crate of a user's
+//! would, and on the trees of operators.
 #![tactic(auto)]
 
 ghost use Rattle.std.specs.Prelude.{◌≡◌};

@@ -1,6 +1,6 @@
 //! Pairs of an operator and a term, in turn.
 ghost use Rattle.std.specs.Prelude.{◌≡◌, ◌≤◌, [], IfSome, IsSome, None, true, length, vec_capacity, vec_len};
-ghost use Rattle.nom_internal.specs.Prelude.{Built, BuiltFrom, BuiltFromBoth, modes, ShowsAnswer};
+ghost use Rattle.nom.specs.Prelude.{Built, BuiltFrom, BuiltFromBoth, modes, ShowsAnswer};
 ghost use Rattle.nom_operators.specs.Groups.{groups_left};
 ghost use Rattle.nom_operators.specs.Steps.{IsNested, Joined, Pushed, waiting};
 ghost use Rattle.nom_precedence.specs.Chains.{chain_meaning};
@@ -12,15 +12,11 @@ ghost use Rattle.nom_operators.specs.declared.operation.Operation.TheVariants.{B
 
 use crate::read::Read;
 use crate::term::term;
-use nom_error::answer::{Err, PResult};
-use nom_error::kind::ErrorKind;
-use nom_error::mode::{Check, Emit, OutputM, OutputMode};
-use nom_internal::built::emitted;
-use nom_internal::parser::Parser;
+use nom::error::ErrorKind;
+use nom::extend::{emitted, failure};
+use nom::{Check, Emit, Err, Input, Items, OutputM, OutputMode, PResult, Parser};
 use nom_operators::operation::{Assoc, Operation};
 use nom_operators::waiting::{Held, close_all, put};
-use nom_repeat::inverted::failure;
-use nom_traits::input::{Input, Items};
 use std::alloc::Allocator;
 
 /// An operator with its level, which is built in every mode; a level that isn't there is a failure.

@@ -1,6 +1,6 @@
 //! Terms: prefixes, an operand, postfixes.
 ghost use Rattle.std.specs.Prelude.{◌≡◌, IsSome, None, true, MatchOption};
-ghost use Rattle.nom_internal.specs.Prelude.{BuiltFrom};
+ghost use Rattle.nom.specs.Prelude.{BuiltFrom};
 ghost use Rattle.nom_precedence.specs.Expressions.{tail_meaning, term_meaning};
 ghost use Rattle.nom_precedence.specs.Steps.{AppliedPushes, Before};
 ghost use Rattle.nom_precedence.specs.Told.{ShowsRead, IsHeld, IsTail, IsTerm};
@@ -8,13 +8,9 @@ ghost use Rattle.nom_operators.specs.declared.operation.Operation.{Operation};
 ghost use Rattle.nom_operators.specs.declared.operation.Operation.TheVariants.{Postfix, Prefix};
 
 use crate::read::{Read, affixes, prefixes};
-use nom_error::answer::{OutOfMemory, PResult};
-use nom_error::mode::OutputMode;
-use nom_internal::built::emitted;
-use nom_internal::parser::Parser;
+use nom::extend::{Accumulator, emitted};
+use nom::{Input, Items, OutOfMemory, OutputMode, PResult, Parser};
 use nom_operators::operation::Operation;
-use nom_repeat::accumulator::Accumulator;
-use nom_traits::input::{Input, Items};
 use std::alloc::Allocator;
 use std::marker::PhantomData;
 

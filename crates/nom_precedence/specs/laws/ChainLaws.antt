@@ -1,11 +1,11 @@
 -- The laws of items in turn, of which one may be stuck.
 use Rattle.std.specs.Prelude.{◌≡◌, ℕ, ◌⊎◌, true, Option, Some, None, zero, suc}
 use Rattle.std.proofs.Common.{inl, inr}
-use Rattle.nom_internal.specs.Prelude.{Model, InputLaws, Outcome, Cause, Accept, Refuse, Stop, Fails, Needs, Meaning, IsLawful, IsSteady}
-use Rattle.nom_internal.specs.Prelude.{always, always_lawful}
-use Rattle.nom_repeat.specs.Repeat.{Ran}
-use Rattle.nom_repeat.specs.Repeat.Turn.{Ends}
-use Rattle.nom_repeat.specs.laws.RepeatLaws.{KeepsTurn, KeepsReply, EndsAt, RuleLaws, repeat_lawful, repeat_steady}
+use Rattle.nom.specs.Prelude.{Model, InputLaws, Outcome, Cause, Accept, Refuse, Stop, Fails, Needs, Meaning, IsLawful, IsSteady}
+use Rattle.nom.specs.Prelude.{always, always_lawful}
+use Rattle.nom.specs.Repeat.{Ran}
+use Rattle.nom.specs.Repeat.Turn.{Ends}
+use Rattle.nom.specs.RepeatLaws.{KeepsTurn, KeepsReply, EndsAt, RuleLaws, repeat_lawful, repeat_steady}
 use Rattle.nom_precedence.specs.Stuck.{Read}
 use Rattle.nom_precedence.specs.Stuck.Read.{Whole, Stuck}
 use Rattle.nom_precedence.specs.Chains.{read_turn, chain_turn, ChainBlames, IfTaken, ChainAsks, chain_rule, chain_meaning}

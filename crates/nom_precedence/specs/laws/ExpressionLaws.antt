@@ -1,8 +1,8 @@
 -- The laws of expressions, by those of their parts.
 use Rattle.std.specs.Prelude.{◌≡◌, ℕ, true}
-use Rattle.nom_internal.specs.Prelude.{Errors, Model, InputLaws, Meaning, IsLawful, IsSteady, IsOne}
-use Rattle.nom_error.specs.declared.kind.ErrorKind.TheVariants as Kind
-use Rattle.nom_internal.specs.laws.CaseLaws.{labelled_lawful, labelled_steady, closed_lawful, closed_steady}
+use Rattle.nom.specs.Prelude.{Errors, Model, InputLaws, Meaning, IsLawful, IsSteady, IsOne}
+use Rattle.nom.specs.ErrorKind.TheVariants as Kind
+use Rattle.nom.specs.CaseLaws.{labelled_lawful, labelled_steady, closed_lawful, closed_steady}
 use Rattle.nom_precedence.specs.Stuck.{Read}
 use Rattle.nom_precedence.specs.laws.StuckLaws.{both_lawful, both_steady, freed_lawful, freed_steady}
 use Rattle.nom_precedence.specs.laws.ChainLaws.{chain_lawful, chain_steady}

@@ -1,9 +1,9 @@
 -- The laws of operators with levels.
 use Rattle.std.specs.Prelude.{◌≡◌, ℕ, Bool, true, false, ltb, refl}
 use Rattle.std.proofs.Common.{sym, ◌∙◌, ap, subst}
-use Rattle.nom_internal.specs.Prelude.{Errors, Model, IsBoundary, itself, Outcome, Cause, Accept, Refuse, Stop, Fails, Needs, Outright, TooLarge, IsDecided}
-use Rattle.nom_internal.specs.Prelude.{Meaning, IsLawful, IsSteady, OfValue, IsOne, Passes, GivesFor, IsPinned}
-use Rattle.nom_internal.specs.laws.CaseLaws.{CaseLaws, here_known, here_related, here_alike, here_place, case_lawful, case_steady}
+use Rattle.nom.specs.Prelude.{Errors, Model, IsBoundary, itself, Outcome, Cause, Accept, Refuse, Stop, Fails, Needs, Outright, TooLarge, IsDecided}
+use Rattle.nom.specs.Prelude.{Meaning, IsLawful, IsSteady, OfValue, IsOne, Passes, GivesFor, IsPinned}
+use Rattle.nom.specs.CaseLaws.{CaseLaws, here_known, here_related, here_alike, here_place, case_lawful, case_steady}
 use Rattle.nom_precedence.specs.Operators.{HasLevel, if_level, OperatorBlames, OperatorAsks, operator_case, operator_meaning}
 
 level_accepts : {P : Type 0} (b : Bool) (n m k : ℕ) (t : ℕ × P) (u : P) → Accept n t ≡ if_level b m k u → m ≡ n

@@ -1,11 +1,11 @@
 -- The laws of what may be stuck.
 use Rattle.std.specs.Prelude.{◌≡◌, ℕ, true, refl}
 use Rattle.std.proofs.Common.{sym, ◌∙◌, subst}
-use Rattle.nom_internal.specs.Prelude.{Errors, Modes, Model, InputLaws, IsBoundary, Outcome, Cause, Accept, Refuse, Stop, Fails, Needs, Meaning, IsLawful}
-use Rattle.nom_internal.specs.Prelude.{IsSteady, IsLawfulFamily, AnyKey, success_lawful, success_steady}
-use Rattle.nom_internal.specs.laws.CaseLaws.{CaseLaws, case_lawful, case_steady}
-use Rattle.nom_internal.specs.laws.RecognizedLaws.{AcceptLaws, plain_laws}
-use Rattle.nom_internal.specs.laws.SequenceLaws.{then_lawful, then_steady}
+use Rattle.nom.specs.Prelude.{Errors, Modes, Model, InputLaws, IsBoundary, Outcome, Cause, Accept, Refuse, Stop, Fails, Needs, Meaning, IsLawful}
+use Rattle.nom.specs.Prelude.{IsSteady, IsLawfulFamily, AnyKey, success_lawful, success_steady}
+use Rattle.nom.specs.CaseLaws.{CaseLaws, case_lawful, case_steady}
+use Rattle.nom.specs.RecognizedLaws.{AcceptLaws, plain_laws}
+use Rattle.nom.specs.SequenceLaws.{then_lawful, then_steady}
 use Rattle.nom_precedence.specs.Stuck.{Read, read_after, unless_stuck, read_both, freed, IfStuck, StuckBlames, StuckAsks, freed_case, freed_meaning}
 use Rattle.nom_precedence.specs.Stuck.Read.{Whole, Stuck}
 

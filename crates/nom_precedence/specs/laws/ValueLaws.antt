@@ -1,7 +1,7 @@
 -- Values of one tree are equal as viewed.
 use Rattle.std.specs.Prelude.{◌≡◌, ℕ, Bool, List, [], ◌∷◌}
 use Rattle.std.proofs.Common.{sym, ◌∙◌, ap, subst}
-use Rattle.nom_internal.specs.Prelude.{View, pair_view, itself, IsPinned}
+use Rattle.nom.specs.Prelude.{View, pair_view, itself, IsPinned}
 use Rattle.nom_operators.specs.declared.operation.Operation.{Operation}
 use Rattle.nom_operators.specs.declared.operation.Operation.TheVariants.{Prefix, Postfix, Binary}
 use Rattle.nom_operators.specs.Trees.{Tree}

@@ -1,7 +1,7 @@
 use Rattle.std.proofs.Common.{ℕ, refl, length, List, Option}
-use Rattle.nom_error.specs.declared.kind.ErrorKind.TheVariants as Kind
-use Rattle.nom_internal.specs.Prelude.{Meaning, closed_meaning}
-use Rattle.nom_internal.proofs.Shown.{accepts, built_error}
+use Rattle.nom.specs.ErrorKind.TheVariants as Kind
+use Rattle.nom.specs.Prelude.{Meaning, closed_meaning}
+use Rattle.nom.proofs.Shown.{accepts, built_error}
 use Rattle.nom_precedence.specs.Stuck.{Read}
 use Rattle.nom_precedence.specs.Chains.{chain_meaning}
 use Rattle.nom_precedence.specs.Expressions.{Pair, Term, pair_meaning, term_meaning}

@@ -1,9 +1,9 @@
 use Rattle.std.proofs.Common.{ℕ, refl, ◌∙◌, false, length, subst, Option, Result}
-use Rattle.nom_internal.specs.Prelude.{Needed, Accept}
-use Rattle.nom_error.specs.declared.answer.Err as Answer
-use Rattle.nom_internal.proofs.Shown.{accepts}
-use Rattle.nom_repeat.proofs.Parts.{part_refused}
-use Rattle.nom_repeat.proofs.Repeated.{collected_none, is_empty, consumes, is_shorter}
+use Rattle.nom.specs.Prelude.{Needed, Accept}
+use Rattle.nom.specs.Err as Answer
+use Rattle.nom.proofs.Shown.{accepts}
+use Rattle.nom.proofs.Parts.{part_refused}
+use Rattle.nom.proofs.Repeated.{collected_none, is_empty, consumes, is_shorter}
 use Rattle.nom_precedence.specs.Told.{ShowsRead}
 use Rattle.nom_precedence.specs.declared.read.Read as Told
 use Rattle.nom_precedence.proofs.ReadShown.{told_ok, is_whole, is_stuck, at_states}

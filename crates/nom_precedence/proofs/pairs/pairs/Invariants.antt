@@ -1,5 +1,5 @@
 use Rattle.std.proofs.Common.{◌≡◌, ℕ, length}
-use Rattle.nom_internal.specs.Prelude.{Built, input_len, Meaning}
+use Rattle.nom.specs.Prelude.{Built, input_len, Meaning}
 use Rattle.nom_precedence.specs.Stuck.{Read}
 use Rattle.nom_precedence.specs.Expressions.{Pair, Term, pair_meaning, term_meaning}
 use Rattle.nom_precedence.specs.Operators.{HasLevel, operator_meaning}

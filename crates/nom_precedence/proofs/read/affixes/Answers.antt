@@ -1,10 +1,10 @@
 use Rattle.std.proofs.Common.{refl, ◌∙◌, false}
-use Rattle.nom_internal.specs.Prelude.{labelled_meaning}
-use Rattle.nom_internal.proofs.Shown.{accepts, err_from_residual}
-use Rattle.nom_repeat.specs.Accumulated.{Accumulated}
-use Rattle.nom_repeat.proofs.Accumulating.{kept_none, kept_ready, built_any, pushed, room_built, room_grows}
-use Rattle.nom_repeat.proofs.Parts.{part_refused, shown_at}
-use Rattle.nom_repeat.proofs.Repeated.{collected_none, is_empty, consumes, is_shorter}
+use Rattle.nom.specs.Prelude.{labelled_meaning}
+use Rattle.nom.proofs.Shown.{accepts, err_from_residual}
+use Rattle.nom.specs.Accumulated.{Accumulated}
+use Rattle.nom.proofs.Accumulating.{kept_none, kept_ready, built_any, pushed, room_built, room_grows}
+use Rattle.nom.proofs.Parts.{part_refused, shown_at}
+use Rattle.nom.proofs.Repeated.{collected_none, is_empty, consumes, is_shorter}
 use Rattle.nom_precedence.specs.Stuck.Read.{Whole}
 use Rattle.nom_precedence.proofs.ReadShown.{whole_err}
 use Rattle.nom_precedence.proofs.ChainShown.{accepts_whole, refuses_whole, chain_ended, chain_stuck, chain_lacks_room, chain_failed, chain_lacks}

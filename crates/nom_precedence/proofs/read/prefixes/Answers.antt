@@ -1,11 +1,11 @@
 use Rattle.std.proofs.Common.{refl, ◌∙◌, false, subst, sym, []}
-use Rattle.nom_internal.specs.Prelude.{labelled_meaning}
-use Rattle.nom_internal.proofs.Shown.{accepts, err_from_residual}
+use Rattle.nom.specs.Prelude.{labelled_meaning}
+use Rattle.nom.proofs.Shown.{accepts, err_from_residual}
 use Rattle.std.specs.List.{AllZip}
 use Rattle.nom_precedence.proofs.HeldShown.{held_built}
 use Rattle.nom_precedence.proofs.ListShown.{listed, all_listed}
-use Rattle.nom_repeat.proofs.Parts.{part_refused, shown_at}
-use Rattle.nom_repeat.proofs.Repeated.{collected_none, is_empty, consumes, is_shorter}
+use Rattle.nom.proofs.Parts.{part_refused, shown_at}
+use Rattle.nom.proofs.Repeated.{collected_none, is_empty, consumes, is_shorter}
 use Rattle.nom_precedence.specs.Stuck.Read.{Whole}
 use Rattle.nom_precedence.proofs.ReadShown.{whole_err}
 use Rattle.nom_precedence.proofs.ChainShown.{accepts_whole, refuses_whole, chain_ended, chain_stuck, chain_lacks_room, chain_failed, chain_lacks}

@@ -1,6 +1,6 @@
 use Rattle.std.proofs.Common.{◌≡◌, true}
 use Rattle.std.specs.List.{AllZip}
-use Rattle.nom_internal.specs.Prelude.{input_len, labelled_meaning}
+use Rattle.nom.specs.Prelude.{input_len, labelled_meaning}
 use Rattle.nom_precedence.specs.Stuck.Read.{Whole}
 use Rattle.nom_precedence.proofs.ChainShown.{Chain}
 use Rattle.nom_precedence.proofs.read.prefixes.Given as goal

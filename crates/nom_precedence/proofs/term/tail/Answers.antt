@@ -1,7 +1,7 @@
 use Rattle.std.proofs.Common.{refl, sym, subst}
 use Rattle.std.specs.Prelude.{IsSome}
-use Rattle.nom_internal.specs.Prelude.{labelled_meaning}
-use Rattle.nom_internal.proofs.Shown.{accepts}
+use Rattle.nom.specs.Prelude.{labelled_meaning}
+use Rattle.nom.proofs.Shown.{accepts}
 use Rattle.nom_precedence.specs.Expressions.{affixes_meaning}
 use Rattle.nom_precedence.specs.Stuck.Read.{Whole}
 use Rattle.nom_precedence.specs.Told.{IsTail}

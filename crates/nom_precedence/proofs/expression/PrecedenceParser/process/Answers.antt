@@ -1,5 +1,5 @@
 use Rattle.std.proofs.Common.{ℕ, length, List}
-use Rattle.nom_internal.specs.Prelude.{Meaning}
+use Rattle.nom.specs.Prelude.{Meaning}
 use Rattle.nom_precedence.specs.Stuck.{Read}
 use Rattle.nom_precedence.specs.Expressions.{Pair, Term, read_meaning, term_meaning}
 use Rattle.nom_precedence.specs.Operators.{HasLevel, operator_meaning}

@@ -1,0 +1,9 @@
+pub use Rattle.nom_internal.proofs.Cased
+pub use Rattle.nom_internal.proofs.Choices
+pub use Rattle.nom_internal.proofs.Given
+pub use Rattle.nom_internal.proofs.Judges
+pub use Rattle.nom_internal.proofs.Maps
+pub use Rattle.nom_internal.proofs.Shown
+pub use Rattle.nom_repeat.proofs.Accumulating
+pub use Rattle.nom_repeat.proofs.Parts
+pub use Rattle.nom_repeat.proofs.Repeated
