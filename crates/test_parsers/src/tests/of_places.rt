@@ -20,7 +20,7 @@ type Bytes<'a> = Located<&'a [u8]>;
 
 /// Offset, line and column.
 fn at<I: Input + ByteItems>(input: Located<I>) -> (usize, usize, usize) {
-    (input.offset(), input.line(), input.column())
+    (input.location_offset(), input.line(), input.column())
 }
 
 /// What stands before a semicolon.
