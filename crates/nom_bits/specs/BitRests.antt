@@ -1,11 +1,13 @@
 -- Rests of inputs of bits, and of the inputs of bytes under them.
-use Rattle.std.specs.Prelude.{◌≡◌, ℕ, ◌+◌, ◌-◌, ◌*◌, ◌/◌, ◌%◌, ◌<◌, ◌≤◌, Bool, true, false, List, [], ◌∷◌, ◌++◌, length, refl}
-use Rattle.std.proofs.Common.{arith, sym, ◌∙◌, ap, subst, lit<, drop, take, append-nil, length-append}
+use Rattle.std.specs.Prelude.{◌≡◌, ℕ, ◌+◌, ◌-◌, ◌*◌, ◌/◌, ◌%◌, ◌<◌, ◌≤◌, Bool, true, false, List, [], ◌∷◌, ◌++◌, length, refl, Option, Some, None}
+use Rattle.std.proofs.Common.{zero, suc, arith, sym, ◌∙◌, ap, subst, lit<, drop, take, append-nil, append_assoc, length-append}
 use Rattle.std.proofs.lemmas.Grind.{flat_map-append}
 use Rattle.std.proofs.lemmas.List.{length-drop, length-take-le, take-append-drop}
 use Rattle.nom_internal.specs.Prelude.{Model, items_len, IsBoundary, IsSuffixOf, Related, InputLaws, same_cut, items_len-ones, rest_related, IsCount}
 use Rattle.nom_internal.specs.Prelude.{place_slice, place_first, first_related, same_count, same_length, byte_bits, all_bits, whole_bytes, AreBytes, past_bits}
 use Rattle.nom_internal.specs.Prelude.{bits_model, bits_lawful}
+use Rattle.nom_internal.specs.Prelude.{OfRest, ThenBesides, rest_rest, items_len-append}
+use Rattle.nom_internal.specs.Results.ThenBesides.{Stopped, Both}
 use Rattle.nom_traits.specs.BitLists.{length-all_bits, whole-all_bits, few_bits}
 use Rattle.nom_traits.specs.BitPlaces.{passes_bits}
 
@@ -65,6 +67,10 @@ module _ {I : Type 0} (w : Model I ℕ) where
   abbrev pub bits_ahead : I × ℕ → ℕ
   bits_ahead i = length ((bits_model w).elements i) % 8
 
+  -- what is left follows a front
+  abbrev rest_place : (x : I) (n : ℕ) (j : I) → IsSuffixOf w x n j → IsBoundary w x n
+  rest_place x n j p = record { front = p.front; rest = w.elements j; whole = p.whole; length_is = p.length_is }
+
   module _ (l : InputLaws w) where
     -- two counts of items of one length, on related inputs, are one
     pub same_counts : (longer : Bool) (x y : I) (c d n : ℕ) → Related w longer x y → IsCount w x c n → IsCount w y d n → c ≡ d
@@ -72,6 +78,53 @@ module _ {I : Type 0} (w : Model I ℕ) where
         let first = first_related w longer x y n (place_slice w x n p.place) r (place_first w x n p.place) in
         let same = same_length w l y n n (place_slice w x n p.place) (place_slice w y n q.place) first (place_first w y n q.place) refl in
         sym p.count_is ∙ (ap (λ t. length t.items) same ∙ q.count_is)
+
+    -- so many bytes, and then so many more
+    pub skips_more : (x : I) (a : ℕ) (j : I) (b : ℕ) (k : I) → Skips x a j → Skips j b k → Skips x (a + b) k
+    skips_more x a j b k p q =
+        let first : IsCount w x (length p.rest_is.front) p.end = record { place = rest_place x p.end j p.rest_is; count_is = refl } in
+        let next : IsCount w j (length q.rest_is.front) q.end = record { place = rest_place j q.end k q.rest_is; count_is = refl } in
+        let m = same_counts false x x _ a p.end (record { elements_are = refl; mark_is = refl }) first p.counted in
+        let n = same_counts false j j _ b q.end (record { elements_are = refl; mark_is = refl }) next q.counted in
+        record {
+          end = p.end + q.end;
+          counted = record {
+            place = record {
+              front = p.rest_is.front ++ q.rest_is.front;
+              rest = w.elements k;
+              whole = p.rest_is.whole ∙ (ap (λ xs. p.rest_is.front ++ xs) q.rest_is.whole ∙ sym (append_assoc p.rest_is.front q.rest_is.front (w.elements k)));
+              length_is = omega (arith, items_len-append w.item_len p.rest_is.front q.rest_is.front, p.rest_is.length_is, q.rest_is.length_is);
+            };
+            count_is = length-append p.rest_is.front q.rest_is.front ∙ (ap (λ c. c + length q.rest_is.front) m ∙ ap (λ c. a + c) n);
+          };
+          rest_is = rest_rest w l x p.end j q.end k p.rest_is q.rest_is;
+        }
+
+    stands_as : (i k : I × ℕ) (m n : ℕ) → m ≡ n → StandsAfter i m k → StandsAfter i n k
+    stands_as i k m n e h = subst (λ c. StandsAfter i c k) e h
+
+    -- so many bits, and then so many more
+    pub stands_more : (i j k : I × ℕ) (m n : ℕ) → StandsAfter i m j → StandsAfter j n k → StandsAfter i (m + n) k
+    stands_more i j k zero n p q = stands_as i k n (0 + n) (omega arith) (subst (λ x. StandsAfter x n k) (p.none refl) q)
+    stands_more i j k (suc m) zero p q = stands_as i k (suc m) (suc m + 0) (omega arith) (rw (q.none refl) p)
+    stands_more i j k (suc m) (suc n) p q =
+        let some : 0 < suc m = omega arith in
+        let more : 0 < suc n = omega arith in
+        let bit : j.1 ≡ (i.1 + suc m) % 8 = p.bit some in
+        let bytes : (i.1 + suc m) / 8 + (j.1 + suc n) / 8 ≡ (i.1 + (suc m + suc n)) / 8 = omega (arith, bit) in
+        let last : (j.1 + suc n) % 8 ≡ (i.1 + (suc m + suc n)) % 8 = omega (arith, bit) in
+        record {
+          none = λ e. absurd (omega (arith, e));
+          bytes = λ _. subst (λ c. Skips i.0 c k.0) bytes (skips_more i.0 _ j.0 _ k.0 (p.bytes some) (q.bytes more));
+          bit = λ _. q.bit more ∙ last;
+        }
+
+    -- two parts that stand so many bits on, one after the other
+    pub then_stands : (i : I × ℕ) (m n both : ℕ) (rest : Option (I × ℕ)) → m + n ≡ both →
+        ThenBesides (OfRest (StandsAfter i m)) (λ j. OfRest (StandsAfter j n)) rest → OfRest (StandsAfter i both) rest
+    then_stands i m n both None e h = tt
+    then_stands i m n both (Some k) e (Stopped f s) = absurd (cc (s))
+    then_stands i m n both (Some k) e (Both j f s) = stands_as i k (m + n) both e (stands_more i j k m n f s)
 
     -- and so are two lengths of one count
     pub same_lengths : (longer : Bool) (x y : I) (c m n : ℕ) → Related w longer x y → IsCount w x c m → IsCount w y c n → m ≡ n

@@ -1,8 +1,8 @@
 //! Parsers of bits among parsers of bytes, and of bytes among parsers of bits.
-ghost use Rattle.std.specs.Prelude.{◌≡◌};
-ghost use Rattle.nom_internal.specs.Prelude.{size_of, bits_model, IsSuffixOf, ConvertsSome, OfRest};
+ghost use Rattle.std.specs.Prelude.{◌≡◌, true};
+ghost use Rattle.nom_internal.specs.Prelude.{size_of, bits_model, with_streaming, IsSuffixOf, ConvertsSome};
 ghost use Rattle.nom_bits.specs.BitRests.{bits_ahead};
-ghost use Rattle.nom_bits.specs.Bridges.{bytes_needed, InBytes, InBits, IsNeed, IsTooLargeAt, bits_of, bytes_of};
+ghost use Rattle.nom_bits.specs.Bridges.{bytes_needed, InBytes, InBits, IsNeed, IsTooLargeAt, BitsBesides, BytesBesides, bits_of, bytes_of};
 ghost use Rattle.nom_bits.specs.laws.BridgeLaws.{bits_of_lawful, bits_of_steady, bytes_of_lawful, bytes_of_steady};
 
 use crate::convert::ErrorConvert;
@@ -130,6 +130,8 @@ where
 
     ghost grammar = { λ s. bits_of I.model P.Error.converts (P.grammar s) };
 
+    ghost Besides = { λ mode old new i. BitsBesides I.model (P.Besides (with_streaming true mode) old.parser new.parser (i, 0)) };
+
     #[inline(always)]
     fn process<OM: OutputMode>(&mut self, input: I) -> PResult<I, P::Output, E> {
         input.prove_known();
@@ -183,7 +185,7 @@ where
     ghost Tree = { P.Tree };
 
     /// It rests at a whole byte.
-    ghost Besides = { λ _ _ _ _. OfRest (λ rest. rest.1 ≡ 0) };
+    ghost Besides = { λ mode old new. BytesBesides I.model (P.Besides (with_streaming true mode) old.parser new.parser) };
 
     ghost grammar = { λ s. bytes_of I.model E.errors P.Error.converts (P.grammar s) };
 

@@ -9,6 +9,7 @@ pub mod convert;
 mod field;
 mod leaf;
 pub mod number;
+pub mod promises;
 pub mod streaming;
 
 pub use crate::bridge::{Bits, Bytes};

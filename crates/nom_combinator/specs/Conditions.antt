@@ -23,6 +23,12 @@ abbrev pub CondPins : {F : Type 0} → (F → Type 0) → Option F → Type 0
 CondPins Pins (Some f) = Pins f
 CondPins Pins None = Unit {0}
 
+-- what a call owes besides its outcome: the part's, where there is one, and else that nothing is consumed
+abbrev pub CondBesides : {F I : Type 0} → (F → F → I → Option I → Type 0) → Option F → Option F → I → Option I → Type 0
+CondBesides Owes (Some f) (Some g) i rest = Owes f g i rest
+CondBesides Owes (Some f) None i rest = ⊥
+CondBesides Owes None g i rest = rest ≡ Some i
+
 -- a grammar on a condition
 abbrev pub cond_of : {I S V O E : Type 0} → (S → Grammar I V O E) → Option S → Grammar I (Option V) (Option O) E
 cond_of g s = record { meaning = cond_meaning (λ u. (g u).meaning) s; IsOutput = CondOutput (λ u. (g u).IsOutput) s }

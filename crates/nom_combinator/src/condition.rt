@@ -1,6 +1,6 @@
 //! A part that runs on a condition.
 ghost use Rattle.std.specs.Prelude.{Option};
-ghost use Rattle.nom_combinator.specs.Conditions.{state_of, CondPins, cond_of};
+ghost use Rattle.nom_combinator.specs.Conditions.{state_of, CondBesides, CondPins, cond_of};
 ghost use Rattle.nom_combinator.specs.laws.ConditionLaws.{cond_lawful, cond_steady, cond_pinned};
 
 use nom_error::answer::PResult;
@@ -27,6 +27,8 @@ impl<I: Items, F: Parser<I> + Drop> Parser<I> for Cond<F> {
     ghost Tree = { Option F.Tree };
 
     ghost grammar = { cond_of F.grammar };
+
+    ghost Besides = { λ mode old new. CondBesides (F.Besides mode) old.parser new.parser };
 
     #[inline(always)]
     fn process<OM: OutputMode>(&mut self, input: I) -> PResult<I, Self::Output, Self::Error> {

@@ -56,6 +56,8 @@ where
 
     ghost grammar = { λ s. context_of F.Error.contexts s.0 (F.grammar s.1) };
 
+    ghost Besides = { λ mode old new. F.Besides mode old.parser new.parser };
+
     #[inline(always)]
     fn process<OM: OutputMode>(&mut self, input: I) -> PResult<I, Self::Output, Self::Error> {
         match self.parser.process::<OM>(input) {

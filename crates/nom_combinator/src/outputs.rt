@@ -1,8 +1,9 @@
 //! Parsers whose outputs are tested, or replaced.
-ghost use Rattle.std.specs.Prelude.{◌≡◌};
+ghost use Rattle.std.specs.Prelude.{◌≡◌, true};
 ghost use Rattle.std.specs.Borrow.{Bor};
 ghost use Rattle.std.specs.Fn.{FnReturnsAt};
-ghost use Rattle.nom_internal.specs.Cloned.{ClonesEqual, clones_pinned};
+ghost use Rattle.nom_internal.specs.Cloned.{ClonesAlike, clones_pinned};
+ghost use Rattle.nom_internal.specs.Prelude.{JudgedBesides, with_outputs};
 ghost use Rattle.nom_internal.specs.laws.JudgedLaws.{judged_lawful, judged_steady};
 ghost use Rattle.nom_combinator.specs.Outputs.{value_by, verify_by};
 ghost use Rattle.nom_combinator.specs.laws.OutputLaws.{tested_pinned, value_lawful, value_steady};
@@ -45,6 +46,8 @@ impl<I: Items, F: Parser<I> + Drop, G: Fn(&F::Output) -> bool> Parser<I> for Ver
     ghost Tree = { F.Tree };
 
     ghost grammar = { λ s. verify_by F.Error.errors (λ o. (p : Bor F.Output) → p.now ≡ o → G.pre s.1 p) (FnReturnsAt G.Fn s.1) (F.grammar s.0) };
+
+    ghost Besides = { λ mode old new i. JudgedBesides (F.Besides (with_outputs true mode) old.parser new.parser i) };
 
     #[inline(always)]
     fn process<OM: OutputMode>(&mut self, input: I) -> PResult<I, F::Output, F::Error> {
@@ -97,6 +100,8 @@ impl<I: Items, O: Clone, F: Parser<I> + Drop> Parser<I> for Value<O, F> {
     // a clone of the value
     ghost grammar = { λ s. value_by s.0 (O.is_infallible s.0) (O.is_clone s.0) (F.grammar s.1) };
 
+    ghost Besides = { λ mode old new i. JudgedBesides (F.Besides mode old.parser new.parser i) };
+
     #[inline(always)]
     fn process<OM: OutputMode>(&mut self, input: I) -> PResult<I, O, F::Error> {
         let (rest, _) = self.parser.process::<OM>(input)?;
@@ -110,7 +115,7 @@ impl<I: Items, O: Clone, F: Parser<I> + Drop> Parser<I> for Value<O, F> {
 }
 
 impl<I: Items, O: Clone + Viewed, F: StreamParser<I> + Drop> StreamParser<I> for Value<O, F> {
-    ghost Pins = { λ p. ClonesEqual O.is_clone p.value };
+    ghost Pins = { λ p. ClonesAlike O.view O.is_clone p.value };
 
     ghost pinned = { λ p k h. clones_pinned h };
 

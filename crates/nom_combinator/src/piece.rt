@@ -1,5 +1,6 @@
 //! The parsers that give what a part consumes.
-ghost use Rattle.nom_internal.specs.Prelude.{Slice, slice_pinned, pair_pinned};
+ghost use Rattle.std.specs.Prelude.{false};
+ghost use Rattle.nom_internal.specs.Prelude.{Slice, slice_pinned, pair_pinned, with_outputs};
 ghost use Rattle.nom_internal.specs.laws.RecognizedLaws.{recognized_lawful, recognized_steady};
 ghost use Rattle.nom_combinator.specs.Verdicts.{recognize_of, consumed_of};
 ghost use Rattle.nom_combinator.specs.laws.VerdictLaws.{consumed_lawful, consumed_steady};
@@ -29,6 +30,8 @@ impl<I: Input, F: Parser<I> + Drop> Parser<I> for Recognize<F> {
     ghost Tree = { Slice I.model };
 
     ghost grammar = { λ s. recognize_of I.model (F.grammar s) };
+
+    ghost Besides = { λ mode old new. F.Besides (with_outputs false mode) old.parser new.parser };
 
     #[inline(always)]
     fn process<OM: OutputMode>(&mut self, input: I) -> PResult<I, I, F::Error> {
@@ -68,6 +71,8 @@ impl<I: Input, F: Parser<I> + Drop> Parser<I> for Consumed<F> {
     ghost Tree = { Slice I.model × F.Tree };
 
     ghost grammar = { λ s. consumed_of I.model (F.grammar s) };
+
+    ghost Besides = { λ mode old new. F.Besides mode old.parser new.parser };
 
     #[inline(always)]
     fn process<OM: OutputMode>(&mut self, input: I) -> PResult<I, Self::Output, Self::Error> {

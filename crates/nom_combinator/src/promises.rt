@@ -1,10 +1,12 @@
 //! What combinators promise beside what every parser does. These functions do nothing: their contracts are the promises.
 ghost use Rattle.nom_combinator.specs.Promises.{ConsumesNothing, GivesFront, GivesFrontAndOutput, NeverRefuses, NeverWaits};
 
+use crate::outputs::Value;
 use crate::piece::{Consumed, Recognize};
 use crate::verdict::{Cut, MakeComplete, Not, Opt, Peek};
-use nom_internal::parser::Parser;
+use nom_internal::parser::{Parser, StreamParser};
 use nom_traits::input::{Input, Items};
+use std::alloc::Allocator;
 
 /// `cut` never answers an `Error`.
 pub fn cut_never_refuses<I: Items, F: Parser<I> + Drop>(_parser: &Cut<F>)
@@ -41,4 +43,11 @@ pub fn recognize_gives_front<I: Input, F: Parser<I> + Drop>(_parser: &Recognize<
 pub fn consumed_gives_front<I: Input, F: Parser<I> + Drop>(_parser: &Consumed<F>)
     ensures { GivesFrontAndOutput I.model (F.grammar (F.state _parser.now.parser)).IsOutput (F.grammar (F.state _parser.now.parser)).meaning
         (⟦<Consumed<F> as Parser<I>>⟧.grammar (F.state _parser.now.parser)).meaning }
+{}
+
+/// Clones of a text are compared by its characters, so `value` of one pins, whatever the part.
+pub fn value_pins_text<I: Items, F: StreamParser<I> + Drop, A: Allocator + Clone>(
+    _parser: &Value<String<A>, F>,
+)
+    ensures { ⟦<Value<String<A>, F> as StreamParser<I>>⟧.Pins _parser.now }
 {}

@@ -1,7 +1,8 @@
 //! The parsers that tell something of a part's outcome.
-ghost use Rattle.std.specs.Prelude.{◌≡◌, Option};
+ghost use Rattle.std.specs.Prelude.{◌≡◌, Option, Some, true, false};
+ghost use Rattle.nom_internal.specs.Prelude.{OrBesides, ThenBesides, with_errors, with_outputs, with_streaming};
 ghost use Rattle.nom_combinator.specs.Verdicts.{cut_of, opt_of, peek_of};
-ghost use Rattle.nom_combinator.specs.Verdicts.{not_of, complete_of};
+ghost use Rattle.nom_combinator.specs.Verdicts.{NotBesides, not_of, complete_of};
 ghost use Rattle.nom_combinator.specs.laws.VerdictLaws.{complete_lawful, cut_lawful, cut_steady, opt_pinned, opt_lawful, opt_steady, peek_lawful};
 ghost use Rattle.nom_combinator.specs.laws.VerdictLaws.{peek_steady, not_lawful, not_steady};
 
@@ -31,6 +32,8 @@ impl<I: Items, F: Parser<I> + Drop> Parser<I> for Cut<F> {
     ghost Tree = { F.Tree };
 
     ghost grammar = { λ s. cut_of (F.grammar s) };
+
+    ghost Besides = { λ mode old new. F.Besides (with_errors true mode) old.parser new.parser };
 
     #[inline(always)]
     fn process<OM: OutputMode>(&mut self, input: I) -> PResult<I, Self::Output, Self::Error> {
@@ -77,6 +80,8 @@ impl<I: Items, F: Parser<I> + Drop> Parser<I> for Opt<F> {
 
     ghost grammar = { λ s. opt_of (F.grammar s) };
 
+    ghost Besides = { λ mode old new i. OrBesides (F.Besides (with_errors false mode) old.parser new.parser i) (λ rest. rest ≡ Some i) };
+
     #[inline(always)]
     fn process<OM: OutputMode>(&mut self, input: I) -> PResult<I, Self::Output, Self::Error> {
         input.prove_known();
@@ -122,6 +127,8 @@ impl<I: Items, F: Parser<I> + Drop> Parser<I> for Peek<F> {
 
     ghost grammar = { λ s. peek_of (F.grammar s) };
 
+    ghost Besides = { λ mode old new i. ThenBesides (F.Besides mode old.parser new.parser i) (λ _ rest. rest ≡ Some i) };
+
     #[inline(always)]
     fn process<OM: OutputMode>(&mut self, input: I) -> PResult<I, Self::Output, Self::Error> {
         input.prove_known();
@@ -158,6 +165,8 @@ impl<I: Items, F: Parser<I> + Drop> Parser<I> for Not<F> {
     ghost Tree = { Unit {0} };
 
     ghost grammar = { λ s. not_of F.Error.errors (F.grammar s) };
+
+    ghost Besides = { λ mode old new i. NotBesides (F.Besides (with_outputs false (with_errors false mode)) old.parser new.parser i) i };
 
     #[inline(always)]
     fn process<OM: OutputMode>(&mut self, input: I) -> PResult<I, Self::Output, Self::Error> {
@@ -205,6 +214,8 @@ impl<I: Items, F: Parser<I> + Drop> Parser<I> for MakeComplete<F> {
     ghost Tree = { F.Tree };
 
     ghost grammar = { λ s. complete_of F.Error.errors (F.grammar s) };
+
+    ghost Besides = { λ mode old new. F.Besides (with_streaming false mode) old.parser new.parser };
 
     #[inline(always)]
     fn process<OM: OutputMode>(&mut self, input: I) -> PResult<I, Self::Output, Self::Error> {

@@ -1,6 +1,6 @@
 //! A part that leaves nothing.
 ghost use Rattle.std.specs.Prelude.{false};
-ghost use Rattle.nom_internal.specs.Prelude.{with_outputs};
+ghost use Rattle.nom_internal.specs.Prelude.{JudgedBesides, with_outputs};
 ghost use Rattle.nom_internal.specs.laws.SequenceLaws.{sequence_lawful};
 ghost use Rattle.nom_ends.specs.laws.AllLaws.{eof_lawful};
 ghost use Rattle.nom_ends.specs.Ends.{all_consuming_of};
@@ -29,6 +29,8 @@ impl<I: Input, F: Parser<I> + Drop> Parser<I> for AllConsuming<F> {
     ghost Tree = { F.Tree };
 
     ghost grammar = { λ s. all_consuming_of I.model F.Error.errors (F.grammar s) };
+
+    ghost Besides = { λ mode old new i. JudgedBesides (F.Besides mode old.parser new.parser i) };
 
     #[inline(always)]
     fn process<OM: OutputMode>(&mut self, input: I) -> PResult<I, Self::Output, Self::Error> {

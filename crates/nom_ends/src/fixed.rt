@@ -1,7 +1,7 @@
 //! Parsers whose answer is fixed, whatever the input.
 ghost use Rattle.std.specs.Prelude.{◌≡◌};
-ghost use Rattle.nom_internal.specs.Cloned.{ClonesEqual, clones_pinned};
-ghost use Rattle.nom_internal.specs.Prelude.{value_pinned, valued};
+ghost use Rattle.nom_internal.specs.Cloned.{ClonesAlike, clones_pinned};
+ghost use Rattle.nom_internal.specs.Prelude.{OfRest, value_pinned, valued};
 ghost use Rattle.nom_ends.specs.Ends.{clone_meaning, fail_meaning};
 ghost use Rattle.nom_ends.specs.laws.EndLaws.{clone_lawful, clone_steady, fail_lawful, fail_steady};
 
@@ -39,6 +39,9 @@ impl<I: Items, O: Clone, E: ParseError<I>> Parser<I> for Success<O, I, E> {
       IsOutput = λ _. O.is_clone value;
     } };
 
+    /// It rests where it starts.
+    ghost Besides = { λ _ _ _ i. OfRest (λ rest. rest ≡ i) };
+
     #[inline(always)]
     fn process<OM: OutputMode>(&mut self, input: I) -> PResult<I, O, E> {
         input.prove_known();
@@ -52,7 +55,7 @@ impl<I: Items, O: Clone, E: ParseError<I>> Parser<I> for Success<O, I, E> {
 }
 
 impl<I: Items, O: Clone + Viewed, E: ParseError<I>> StreamParser<I> for Success<O, I, E> {
-    ghost Pins = { λ p. ClonesEqual O.is_clone p.value };
+    ghost Pins = { λ p. ClonesAlike O.view O.is_clone p.value };
 
     ghost pinned = { λ p k h. clones_pinned h };
 

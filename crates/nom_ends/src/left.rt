@@ -1,6 +1,6 @@
 //! Parsers of all that is left, alike in both modes.
 ghost use Rattle.std.specs.Prelude.{◌≡◌, ℕ};
-ghost use Rattle.nom_internal.specs.Prelude.{Slice, sliced, valued};
+ghost use Rattle.nom_internal.specs.Prelude.{OfRest, Slice, sliced, valued};
 ghost use Rattle.nom_ends.specs.Ends.{eof_meaning, rest_meaning, rest_len_meaning};
 ghost use Rattle.nom_ends.specs.laws.AllLaws.{eof_lawful, rest_lawful, rest_len_lawful};
 
@@ -39,6 +39,9 @@ impl<I: Input, E: ParseError<I>> Parser<I> for Eof<I, E> {
     ghost Tree = { Slice I.model };
 
     ghost grammar = { λ _. sliced I.model (eof_meaning I.model E.errors) };
+
+    /// It rests where it starts.
+    ghost Besides = { λ _ _ _ i. OfRest (λ rest. rest ≡ i) };
 
     #[inline(always)]
     fn process<OM: OutputMode>(&mut self, input: I) -> PResult<I, I, E> {
@@ -118,6 +121,9 @@ impl<I: Input, E: ParseError<I>> Parser<I> for RestLen<I, E> {
     ghost Tree = { ℕ };
 
     ghost grammar = { λ _. valued (rest_len_meaning I.model) };
+
+    /// It rests where it starts.
+    ghost Besides = { λ _ _ _ i. OfRest (λ rest. rest ≡ i) };
 
     #[inline(always)]
     fn process<OM: OutputMode>(&mut self, input: I) -> PResult<I, usize, E> {

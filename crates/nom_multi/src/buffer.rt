@@ -1,6 +1,6 @@
 //! Items in a buffer.
 ghost use Rattle.std.specs.Prelude.{◌≡◌, ◌<◌, ℕ, List, length, None};
-ghost use Rattle.nom_internal.specs.Prelude.{Built, modes, ShowsMeaning};
+ghost use Rattle.nom_internal.specs.Prelude.{Built, modes, rest_of, ShowsMeaning};
 ghost use Rattle.nom_multi.specs.Fill.{fill_meaning, IsDone, IsFilled, IsPut, IsRanOut, fill_of};
 
 use nom_error::answer::{Err, PResult};
@@ -39,7 +39,17 @@ impl<'a, I: Items, T: Drop, F: Parser<I, Output = T> + Drop> Parser<I> for Fill<
     ghost grammar = { λ s. fill_of I.model F.Error.errors s.1 (F.grammar s.0) };
 
     #[inline]
-    fn process<OM: OutputMode>(&mut self, input: I) -> PResult<I, (), F::Error> {
+    fn process<OM: OutputMode>(&mut self, input: I) -> PResult<I, (), F::Error>
+        requires sound { (F.grammar (F.state self.old.parser)).meaning.IsSound }
+        ensures shown { ShowsMeaning I.model IsDone (fill_meaning I.model F.Error.errors (length self.old.buffer.now) (F.grammar (F.state self.old.parser)).meaning)
+            (modes OM.Output.BUILDS OM.Error.BUILDS OM.Incomplete.STREAMING) input result }
+        ensures kept { ◌≡◌ {A = F.State × ℕ} (F.state self.new.parser, length self.new.buffer.now) (F.state self.old.parser, length self.old.buffer.now) }
+        // Where memory ran out in an item, that is the answer.
+        ensures filled { IsFilled I.model (F.grammar (F.state self.old.parser)).IsOutput (F.grammar (F.state self.old.parser)).meaning
+            (modes OM.Output.BUILDS OM.Error.BUILDS OM.Incomplete.STREAMING) input self.old.buffer.now self.new.buffer.now (IsRanOut result) }
+        ensures besides { IsFilled I.model (F.grammar (F.state self.old.parser)).IsOutput (F.grammar (F.state self.old.parser)).meaning
+            (modes OM.Output.BUILDS OM.Error.BUILDS OM.Incomplete.STREAMING) input self.old.buffer.now self.new.buffer.now (rest_of result ≡ None) }
+    {
         fill_buffer::<OM, I, T, F>(&mut self.parser, self.buffer, input)
     }
 

@@ -1,7 +1,6 @@
 -- The laws of bit fields.
 use Rattle.std.specs.Prelude.{◌≡◌, ℕ, ◌<◌, Bool, true, false, length, refl}
 use Rattle.std.proofs.Common.{sym, ◌∙◌, ap, subst, inl, inr, arith, length-append}
-use Rattle.nom_error.specs.declared.kind.ErrorKind.TheVariants as Kind
 use Rattle.nom_internal.specs.Prelude.{Errors, Model, IsBoundary, Related, same_cut, items_len-ones, Slice, IsFirst, first_related, bits_model, spelled}
 use Rattle.nom_internal.specs.Prelude.{IsLawful, IsSteady, LeafLaws, leaf_lawful, leaf_steady}
 use Rattle.nom_internal.specs.laws.CaseLaws.{labelled_lawful, labelled_steady}

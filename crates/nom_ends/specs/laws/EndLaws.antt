@@ -1,5 +1,4 @@
 -- The laws of parsers that look at no item.
-use Rattle.nom_error.specs.declared.kind.ErrorKind.TheVariants as Kind
 use Rattle.nom_internal.specs.Prelude.{Errors, Model, IsLawful, IsSteady, LeafLaws, leaf_lawful, leaf_steady, success_meaning, success_lawful, success_steady}
 use Rattle.nom_ends.specs.Ends.{clone_meaning, fail_leaf, fail_meaning}
 

@@ -4,6 +4,7 @@ use Rattle.std.proofs.Common.{subst}
 use Rattle.nom_error.specs.declared.kind.ErrorKind.TheVariants as Kind
 use Rattle.nom_internal.proofs.Shown.{err_from_residual}
 use Rattle.nom_internal.proofs.Judges.{judged_err, judged_fit, judged_unfit, kept_output}
+use Rattle.nom_internal.specs.Results.JudgedBesides.{Dropped}
 use Rattle.nom_combinator.proofs.outputs.VerifyParser.process.Goals as goal
 
 pub returns-in_err-rest-clause-shown : goal.returns-in_err-rest-clause-shown
@@ -22,3 +23,6 @@ returns-else-fits-clause-shown g c =
     let says = subst (FnReturnsAt g.G.Fn c.args.self.now.test _) c.if-fits.false c.passes-fits.ensures in
     judged_unfit (λ i _. g.F.Error.ParseError.errors.of_kind i Kind.Verify) (g.F.Parser.grammar _).meaning
     {r = false} c.requires.sound.1 c.in-Some.is says refl c.in_ok-rest.ensures.shown c.refusal.ensures
+
+pub returns-else-fits-clause-besides : goal.returns-else-fits-clause-besides
+returns-else-fits-clause-besides g c = Dropped _ c.in_ok-rest.ensures.besides refl

@@ -1,5 +1,7 @@
 use Rattle.nom_combinator.proofs.Judged.{not_accepted, not_refused, not_passes}
 use Rattle.nom_error.specs.declared.kind.ErrorKind.TheVariants as Kind
+use Rattle.std.proofs.Common.{refl}
+use Rattle.nom_combinator.specs.Verdicts.NotBesides.{Unwanted}
 use Rattle.nom_combinator.proofs.verdict.NotParser.process.Goals as goal
 
 pub returns-in-Ok-clause-shown : goal.returns-in-Ok-clause-shown
@@ -29,3 +31,6 @@ pub returns-clause-shown : goal.returns-clause-shown
 returns-clause-shown g c = not_passes _ g.met.I.Items.lawful _ (λ i. g.F.Error.ParseError.errors.of_kind i Kind.Not) g.F.Error.ParseError.errors.grows
     (g.F.Parser.grammar (g.F.Parser.state c.args.self.now.parser)).meaning _ _ _ _ c.in-Err-OutOfMemory.field-0-is (λ x e. cc (e))
     c.in-Err-OutOfMemory.ensures.shown
+
+pub returns-in-Ok-clause-besides : goal.returns-in-Ok-clause-besides
+returns-in-Ok-clause-besides g c = Unwanted _ c.in-Ok.ensures.besides refl
