@@ -1,18 +1,51 @@
--- How choices among several parsers show their answers.
-use Rattle.nom_internal.specs.Prelude.{PResult, Errors, Modes, Model, Meaning, ShowsMeaning, EitherOutput, OnError, ClosesResult, ShowsNext}
+-- How choices among several parsers show their answers, and what they owe besides.
+use Rattle.std.specs.Prelude.{◌≡◌, Ok, Err, Option}
+use Rattle.std.proofs.Common.{sym, ap, subst}
 use Rattle.nom_error.specs.declared.kind.ErrorKind.TheVariants.{Alt}
+use Rattle.nom_internal.specs.Prelude.{Incomplete, Error, Failure, OutOfMemory, PResult, Errors, Modes, Model, Grammar, Shows}
+use Rattle.nom_internal.specs.Prelude.{OnError, ClosesResult, ShowsNext, OrBesides, rest_of}
 use Rattle.nom_internal.proofs.Choices.{either_shown, closed_shown}
-use Rattle.nom_branch.specs.Alternatives.{next_meaning, choice_meaning}
+use Rattle.nom_internal.proofs.Owed.{or_besides}
+use Rattle.nom_branch.specs.Alternatives.{or_of, alt_of}
 
--- the branches before, and the next one
-pub next_shown : {I A P Q O E : Type 0} (w : Model I A) (First : P → O → Type 0) (Second : Q → O → Type 0) (e : Errors I E) (a : Meaning I P E)
-    (b : Meaning I Q E) (mode : Modes) (i : I) (before r : PResult I O E) →
-    ShowsMeaning w First a mode i before → OnError (ShowsNext w Second e.joined e.grows b mode i) before r →
-    ShowsMeaning w (EitherOutput First Second) (next_meaning e a b) mode i r
-next_shown w First Second e = either_shown w First Second e.joined e.grows
+-- what the branches so far answer, as a fact that names their grammar
+pub record IsChosen {I A V O E : Type 0} (w : Model I A) (e : Errors I E) (mode : Modes) (i : I) (g : Grammar I V O E) (r : PResult I O E) : Type 0 where
+  pub shown : Shows w g mode i r
 
--- all branches, closed
-pub choice_shown : {I A V O E : Type 0} (w : Model I A) (IsOutput : V → O → Type 0) (e : Errors I E) (m : Meaning I V E) (mode : Modes) (i : I)
-    (before r : PResult I O E) → ShowsMeaning w IsOutput m mode i before →
-    ClosesResult (e.appended i Alt) e.grows before r → ShowsMeaning w IsOutput (choice_meaning e m) mode i r
-choice_shown w IsOutput e m mode i = closed_shown w IsOutput mode i m (λ j. e.appended j Alt) e.grows
+module _ {I A V O E : Type 0} (w : Model I A) (e : Errors I E) (mode : Modes) (i : I) (g : Grammar I V O E) where
+  -- the first branch
+  pub first_chosen : (r : PResult I O E) → Shows w g mode i r → IsChosen w e mode i g r
+  first_chosen r h = record { shown = h }
+
+module _ {I A V O E : Type 0} {w : Model I A} {e : Errors I E} {mode : Modes} {i : I} {g : Grammar I V O E} {before : PResult I O E} where
+  -- one more branch
+  pub next_chosen : {U : Type 0} → IsChosen w e mode i g before → (h : Grammar I U O E) (r : PResult I O E) →
+      OnError (ShowsNext w h.IsOutput e.joined e.grows h.meaning mode i) before r → IsChosen w e mode i (or_of e g h) r
+  next_chosen k h r n = record { shown = either_shown w g.IsOutput h.IsOutput e.joined e.grows g.meaning h.meaning mode i before r k.shown n }
+
+  -- all branches, closed
+  pub all_chosen : IsChosen w e mode i g before → (r : PResult I O E) → ClosesResult (e.appended i Alt) e.grows before r → Shows w (alt_of e g) mode i r
+  all_chosen k r c = closed_shown w g.IsOutput mode i g.meaning (λ j. e.appended j Alt) e.grows before r k.shown c
+
+-- what the branches so far owe besides, as a fact that names it
+pub record IsOwed {I O E : Type 0} (Owes : Option I → Type 0) (r : PResult I O E) : Type 0 where
+  pub owed : Owes (rest_of r)
+
+module _ {I O E : Type 0} (Owes : Option I → Type 0) where
+  pub first_owed : (r : PResult I O E) → Owes (rest_of r) → IsOwed Owes r
+  first_owed r h = record { owed = h }
+
+  closed_owed : (Closes : E → E → Type 0) (Grows : Type 0) (before r : PResult I O E) → ClosesResult Closes Grows before r → Owes (rest_of before) → Owes (rest_of r)
+  closed_owed Closes Grows (Ok v) r h k = subst Owes (sym (ap rest_of h)) k
+  closed_owed Closes Grows (Err (Incomplete n)) r h k = subst Owes (sym (ap rest_of h)) k
+  closed_owed Closes Grows (Err (Error e)) r h k = subst Owes (sym (ap rest_of h.2)) k
+  closed_owed Closes Grows (Err (Failure e)) r h k = subst Owes (sym (ap rest_of h)) k
+  closed_owed Closes Grows (Err OutOfMemory) r h k = subst Owes (sym (ap rest_of h)) k
+
+module _ {I O E : Type 0} {Owes : Option I → Type 0} {before : PResult I O E} where
+  pub next_owed : IsOwed Owes before → (Next : Option I → Type 0) (r : PResult I O E) → OnError (λ _ r. Next (rest_of r)) before r →
+      IsOwed (OrBesides Owes Next) r
+  next_owed k Next r n = record { owed = or_besides Owes Next before r k.owed n }
+
+  pub all_owed : IsOwed Owes before → (Closes : E → E → Type 0) (Grows : Type 0) (r : PResult I O E) → ClosesResult Closes Grows before r → Owes (rest_of r)
+  all_owed k Closes Grows r c = closed_owed Owes Closes Grows before r c k.owed

@@ -3,13 +3,13 @@
 
 ghost use Rattle.std.specs.Prelude.{◌≡◌};
 
-mod branches;
 mod choice;
 mod lists;
+mod tuples;
+mod wide;
+mod widest;
 
-pub use crate::branches::{Branches, Choice};
-pub use crate::choice::FirstOf;
-pub use crate::lists::AnyOf;
+pub use crate::choice::Choice;
 
 /// The first of the parsers in `list` that doesn't refuse: its answer is the choice's, and no later one
 /// is tried.
@@ -21,8 +21,8 @@ pub use crate::lists::AnyOf;
 /// whole is closed by `append` with `Alt` at the start. A tuple of one parser is that parser, whose errors
 /// aren't closed. An array or a slice without parsers refuses with `Alt`.
 #[inline(always)]
-pub fn alt<List: Branches>(list: List) -> Choice<List>
-    ensures { result ≡ List.choice list }
+pub fn alt<List>(list: List) -> Choice<List>
+    ensures { result.parsers ≡ list }
 {
-    list.choice()
+    Choice { parsers: list }
 }

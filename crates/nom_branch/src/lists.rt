@@ -2,19 +2,14 @@
 ghost use Rattle.std.specs.Prelude.{ℕ, List, map};
 ghost use Rattle.nom_branch_list.specs.Lists.{Each, list_of};
 
+use crate::choice::Choice;
 use nom_branch_list::choose;
 use nom_error::answer::PResult;
 use nom_error::mode::OutputMode;
 use nom_internal::parser::{Parser, StreamParser};
 use nom_traits::input::Items;
 
-/// The first of the parsers of an array or a slice that doesn't refuse, made by `alt`.
-#[derive(Drop)]
-pub struct AnyOf<L> {
-    pub parsers: L,
-}
-
-impl<I: Items, A: Parser<I>> Parser<I> for AnyOf<&mut [A]> {
+impl<I: Items, A: Parser<I>> Parser<I> for Choice<&mut [A]> {
     ghost use Rattle.nom_branch.specs.laws.ListLaws.{list_lawful};
 
     type Output = A::Output;
@@ -39,7 +34,7 @@ impl<I: Items, A: Parser<I>> Parser<I> for AnyOf<&mut [A]> {
     ghost lawful = { list_lawful I.model A.Error.errors (λ s. (A.grammar s).meaning) A.lawful };
 }
 
-impl<I: Items, A: StreamParser<I>> StreamParser<I> for AnyOf<&mut [A]> {
+impl<I: Items, A: StreamParser<I>> StreamParser<I> for Choice<&mut [A]> {
     ghost use Rattle.nom_branch.specs.laws.ListLaws.{list_pinned, list_steady};
 
     ghost Pins = { λ p. Each A.Pins p.parsers.now };
@@ -49,7 +44,7 @@ impl<I: Items, A: StreamParser<I>> StreamParser<I> for AnyOf<&mut [A]> {
     ghost steady = { list_steady I.model A.Error.errors (λ s. (A.grammar s).meaning) A.steady };
 }
 
-impl<I: Items, A: Parser<I>, const N: usize> Parser<I> for AnyOf<[A; N]> {
+impl<I: Items, A: Parser<I>, const N: usize> Parser<I> for Choice<[A; N]> {
     ghost use Rattle.nom_branch.specs.laws.ListLaws.{list_lawful};
 
     type Output = A::Output;
@@ -72,7 +67,7 @@ impl<I: Items, A: Parser<I>, const N: usize> Parser<I> for AnyOf<[A; N]> {
     ghost lawful = { list_lawful I.model A.Error.errors (λ s. (A.grammar s).meaning) A.lawful };
 }
 
-impl<I: Items, A: StreamParser<I>, const N: usize> StreamParser<I> for AnyOf<[A; N]> {
+impl<I: Items, A: StreamParser<I>, const N: usize> StreamParser<I> for Choice<[A; N]> {
     ghost use Rattle.nom_branch.specs.laws.ListLaws.{list_pinned, list_steady};
 
     ghost Pins = { λ p. Each A.Pins p.parsers };

@@ -204,9 +204,9 @@ impl<I: ByteItems> Located<I> {
         self.fragment
     }
 
-    /// How many bytes stand before it.
+    /// How many bytes stand before it in the whole. `offset`, of `Offset`, gives how many stand between it and a rest of it.
     #[inline(always)]
-    pub fn offset(&self) -> usize
+    pub fn location_offset(&self) -> usize
         ensures { result ≡ self.now.offset }
     {
         self.offset

@@ -2,8 +2,10 @@
 -- applied; where all that are left refuse, so does the permutation, with their errors joined from left to right and closed there.
 use Rattle.std.specs.Prelude.{◌≡◌, ℕ, true, List, length}
 use Rattle.std.proofs.Common.{zero, suc}
-use Rattle.nom_internal.specs.Prelude.{Modes, Model, Accept, Meaning, closed_meaning, Family, then_meaning, Cause}
+use Rattle.nom_error.specs.declared.kind.ErrorKind.TheVariants as Kind
+use Rattle.nom_internal.specs.Prelude.{Modes, Errors, Model, Accept, Meaning, Grammar, closed_meaning, Family, then_meaning, Cause}
 use Rattle.nom_permutation.specs.Members.{Member, EachMember, AreSound, Choice, tried}
+use Rattle.nom_permutation.specs.Rounds.{FlatOutput}
 use Rattle.nom_permutation.specs.Members.Choice.{NoChoice, Among}
 
 -- an acceptance of no items
@@ -58,3 +60,10 @@ module _ {I A T E : Type 0} (w : Model I A) (Joins : E → E → E → Type 0) (
   -- as many rounds as there are members
   abbrev pub permutation_meaning : T → Meaning I T E
   permutation_meaning none = promised Grows ms (rounds_meaning (length ms) none)
+
+-- a permutation, with the outputs of nested members made flat
+abbrev pub once_each_of : {I A T O U E : Type 0} → Model I A → Errors I E → List (Member I T E) → T → (T → O → Type 0) → (U → O) → Grammar I T U E
+once_each_of w e ms none AreOutputs pairs = record {
+  meaning = permutation_meaning w e.joined (λ i. e.appended i Kind.Permutation) e.grows ms none;
+  IsOutput = FlatOutput AreOutputs pairs;
+}

@@ -8,12 +8,12 @@ mod nest;
 mod permutations;
 pub mod promises;
 mod rounds;
+mod wide;
 mod widths;
 
-pub use crate::members::{Nested, StreamNested};
+pub use crate::members::Nested;
 pub use crate::nest::{More, Nests};
 pub use crate::permutations::{OnceEach, Permutation};
-pub use crate::widths::StreamMembers;
 pub use nom_internal::flat::{Flat, One};
 
 /// Each of the parsers in `list` once, in any order, with their outputs in the order of the list.

@@ -1,15 +1,15 @@
 //! The members of a permutation, nested: a first one, or some and one more after them.
 ghost use Rattle.std.specs.Prelude.{◌≡◌, ◌+◌, ◌∷◌, [], ℕ, Bool, List, Option, Some, None, length};
-ghost use Rattle.nom_internal.specs.Prelude.{Built, modes, View};
+ghost use Rattle.nom_internal.specs.Prelude.{Built, modes};
 ghost use Rattle.nom_permutation.specs.Members.{Member, AreSound, IsOver, member, tried, with_last};
-ghost use Rattle.nom_permutation.specs.laws.NestedLaws.{AreGood, ArePinned, AreStream};
+ghost use Rattle.nom_permutation.specs.laws.NestedLaws.{AreGood};
 ghost use Rattle.nom_permutation.specs.Rounds.{HasTried, SlotHolds, IsApplied, applies, waits};
 
 use crate::nest::More;
 use nom_error::mode::OutputMode;
 use nom_error::value::ParseError;
 use nom_internal::flat::One;
-use nom_internal::parser::{Parser, StreamParser};
+use nom_internal::parser::Parser;
 use nom_permutation_slots::{Round, Slot, taken, try_slot};
 use nom_traits::input::Items;
 
@@ -78,18 +78,6 @@ pub trait Nested<I: Items>: Sized {
     ghost good: { (s : State) → AreGood I.model (members s) none };
 }
 
-/// Members that are stream parsers.
-pub trait StreamNested<I: Items>: Nested<I> {
-    /// How their outputs are compared.
-    ghost view: { View Self.Outputs };
-
-    ghost Pins: { Self → Type 0 };
-
-    ghost pinned: { (p : Self) → ArePinned view (Self.members (Self.state p)) (Pins p) (Self.AreOutputs (Self.state p)) };
-
-    ghost stream: { (s : Self.State) → AreStream I.model (Self.members s) };
-}
-
 impl<I: Items, A: Parser<I>> Nested<I> for One<A> {
     ghost use Rattle.nom_permutation.specs.laws.NestedLaws.{one_good};
     ghost use Rattle.nom_permutation.specs.laws.RoundLaws.{first_over};
@@ -146,18 +134,6 @@ impl<I: Items, A: Parser<I>> Nested<I> for One<A> {
         t slot h z };
 
     ghost good = { λ s. one_good (A.grammar s).meaning (A.lawful s) };
-}
-
-impl<I: Items, A: StreamParser<I>> StreamNested<I> for One<A> {
-    ghost use Rattle.nom_permutation.specs.laws.NestedLaws.{one_view, one_pinned, one_stream};
-
-    ghost view = { one_view A.Output.view };
-
-    ghost Pins = { λ p. A.Pins p.member };
-
-    ghost pinned = { λ p. one_pinned (A.grammar (A.state p.member)).meaning (A.grammar (A.state p.member)).IsOutput (A.pinned p.member) };
-
-    ghost stream = { λ s. one_stream (A.grammar s).meaning (A.steady s) };
 }
 
 impl<I: Items, M: Nested<I>, A: Parser<I, Error = M::Error>> Nested<I> for More<M, A> {
@@ -225,18 +201,4 @@ impl<I: Items, M: Nested<I>, A: Parser<I, Error = M::Error>> Nested<I> for More<
         (M.waiting slots.0) slots.1 (M.members s.0) (λ k. M.over outputs s.0 t.0 slots.0 h.0 k) h.1 z };
 
     ghost good = { λ s. more_good (A.grammar s.1).meaning (M.good s.0) (A.lawful s.1) };
-}
-
-impl<I: Items, M: StreamNested<I>, A: StreamParser<I, Error = M::Error>> StreamNested<I>
-    for More<M, A> {
-    ghost use Rattle.nom_permutation.specs.laws.NestedLaws.{more_pinned, more_stream};
-    ghost use Rattle.nom_traits.specs.View.{pair_view};
-
-    ghost view = { pair_view M.view A.Output.view };
-
-    ghost Pins = { λ p. M.Pins p.others × A.Pins p.member };
-
-    ghost pinned = { λ p. more_pinned (A.grammar (A.state p.member)).meaning (A.grammar (A.state p.member)).IsOutput (M.pinned p.others) (A.pinned p.member) };
-
-    ghost stream = { λ s. more_stream (A.grammar s.1).meaning (M.stream s.0) (A.steady s.1) };
 }

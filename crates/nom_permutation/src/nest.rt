@@ -10,6 +10,21 @@ pub struct More<M, A> {
     pub member: A,
 }
 
+// By width.
+pub type Two<A, B> = More<One<A>, B>;
+
+pub type Three<A, B, C> = More<Two<A, B>, C>;
+
+pub type Four<A, B, C, D> = More<Three<A, B, C>, D>;
+
+pub type Five<A, B, C, D, E> = More<Four<A, B, C, D>, E>;
+
+pub type Six<A, B, C, D, E, F> = More<Five<A, B, C, D, E>, F>;
+
+pub type Seven<A, B, C, D, E, F, G> = More<Six<A, B, C, D, E, F>, G>;
+
+pub type Eight<A, B, C, D, E, F, G, H> = More<Seven<A, B, C, D, E, F, G>, H>;
+
 /// A tuple of 2 to 8, nested by its members before the last and its last.
 pub trait Nests {
     type Nested;
@@ -21,7 +36,7 @@ pub trait Nests {
 }
 
 impl<A, B> Nests for (A, B) {
-    type Nested = More<One<A>, B>;
+    type Nested = Two<A, B>;
 
     ghost nested = { λ p. record { others = record { member = p.0 }; member = p.1 } };
 
@@ -36,7 +51,7 @@ impl<A, B> Nests for (A, B) {
 }
 
 impl<A, B, C> Nests for (A, B, C) {
-    type Nested = More<More<One<A>, B>, C>;
+    type Nested = Three<A, B, C>;
 
     ghost nested = { λ p. record { others = record { others = record { member = p.0 }; member = p.1 }; member = p.2 } };
 
@@ -54,7 +69,7 @@ impl<A, B, C> Nests for (A, B, C) {
 }
 
 impl<A, B, C, D> Nests for (A, B, C, D) {
-    type Nested = More<More<More<One<A>, B>, C>, D>;
+    type Nested = Four<A, B, C, D>;
 
     ghost nested = { λ p. record {
       others = record { others = record { others = record { member = p.0 }; member = p.1 }; member = p.2 };
@@ -78,7 +93,7 @@ impl<A, B, C, D> Nests for (A, B, C, D) {
 }
 
 impl<A, B, C, D, E> Nests for (A, B, C, D, E) {
-    type Nested = More<More<More<More<One<A>, B>, C>, D>, E>;
+    type Nested = Five<A, B, C, D, E>;
 
     ghost nested = { λ p. record {
       others = record {
@@ -111,7 +126,7 @@ impl<A, B, C, D, E> Nests for (A, B, C, D, E) {
 }
 
 impl<A, B, C, D, E, F> Nests for (A, B, C, D, E, F) {
-    type Nested = More<More<More<More<More<One<A>, B>, C>, D>, E>, F>;
+    type Nested = Six<A, B, C, D, E, F>;
 
     ghost nested = { λ p. record {
       others = record {
@@ -155,7 +170,7 @@ impl<A, B, C, D, E, F> Nests for (A, B, C, D, E, F) {
 }
 
 impl<A, B, C, D, E, F, G> Nests for (A, B, C, D, E, F, G) {
-    type Nested = More<More<More<More<More<More<One<A>, B>, C>, D>, E>, F>, G>;
+    type Nested = Seven<A, B, C, D, E, F, G>;
 
     ghost nested = { λ p. record {
       others = record {
@@ -204,7 +219,7 @@ impl<A, B, C, D, E, F, G> Nests for (A, B, C, D, E, F, G) {
 }
 
 impl<A, B, C, D, E, F, G, H> Nests for (A, B, C, D, E, F, G, H) {
-    type Nested = More<More<More<More<More<More<More<One<A>, B>, C>, D>, E>, F>, G>, H>;
+    type Nested = Eight<A, B, C, D, E, F, G, H>;
 
     ghost nested = { λ p. record {
       others = record {

@@ -1,7 +1,8 @@
 -- The laws of permutations.
 use Rattle.std.specs.Prelude.{◌≡◌, ℕ, Bool, List, [], ◌∷◌, length, Option, Some, None}
 use Rattle.std.proofs.Common.{sym, ◌∙◌, subst, zero, suc}
-use Rattle.nom_internal.specs.Prelude.{Modes, Model, InputLaws, IsBoundary, Cause, Accept, Stop, Fails, Meaning, IsLawful, IsSteady, labelled_meaning}
+use Rattle.nom_error.specs.declared.kind.ErrorKind.TheVariants as Kind
+use Rattle.nom_internal.specs.Prelude.{Modes, Errors, Model, InputLaws, IsBoundary, Cause, Accept, Stop, Fails, Meaning, IsLawful, IsSteady, labelled_meaning}
 use Rattle.nom_internal.specs.Prelude.{IsLawfulFamily, AnyKey, then_meaning}
 use Rattle.nom_internal.specs.laws.CaseLaws.{no_place, labelled_lawful, labelled_steady, closed_lawful, closed_steady}
 use Rattle.nom_internal.specs.laws.ChoiceLaws.{or_lawful, or_steady}
@@ -170,9 +171,16 @@ module _ {I A T E : Type 0} (w : Model I A) (Joins : E → E → E → Type 0) (
         promised_steady w Grows ms (then_steady l (promised_family Grows ms (rounds_meaning w Joins Closes Grows ms n))
         (round_steady w Closes Grows t tried (members_steady w Joins Grows t NoChoice ms tt h)) (λ u. rounds_steady h n u))
 
-    pub permutation_lawful : AreLawful w ms → (none : T) → IsLawful w (permutation_meaning w Joins Closes Grows ms none)
+    permutation_lawful : AreLawful w ms → (none : T) → IsLawful w (permutation_meaning w Joins Closes Grows ms none)
     permutation_lawful h none = good_lawful w Grows ms (rounds_meaning w Joins Closes Grows ms (length ms) none)
         (record { lawful = rounds_lawful h (length ms) none; promises = rounds_promise (length ms) none })
 
-    pub permutation_steady : AreSteady w ms → (none : T) → IsSteady w (permutation_meaning w Joins Closes Grows ms none)
+    permutation_steady : AreSteady w ms → (none : T) → IsSteady w (permutation_meaning w Joins Closes Grows ms none)
     permutation_steady h none = promised_steady w Grows ms (rounds_steady h (length ms) none)
+
+module _ {I A T E : Type 0} {w : Model I A} (l : InputLaws w) (e : Errors I E) (ms : List (Member I T E)) where
+  pub once_each_lawful : AreLawful w ms → (none : T) → IsLawful w (permutation_meaning w e.joined (λ i. e.appended i Kind.Permutation) e.grows ms none)
+  once_each_lawful = permutation_lawful w e.joined (λ i. e.appended i Kind.Permutation) e.grows ms l
+
+  pub once_each_steady : AreSteady w ms → (none : T) → IsSteady w (permutation_meaning w e.joined (λ i. e.appended i Kind.Permutation) e.grows ms none)
+  once_each_steady = permutation_steady w e.joined (λ i. e.appended i Kind.Permutation) e.grows ms l

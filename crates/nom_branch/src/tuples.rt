@@ -1,0 +1,215 @@
+//! Choices among two to five parsers, of any types.
+ghost use Rattle.std.specs.Prelude.{◌⊎◌};
+ghost use Rattle.nom_branch.specs.Alternatives.{alt_of, or_of};
+ghost use Rattle.nom_internal.specs.Prelude.{OrBesides};
+
+use crate::choice::Choice;
+use nom_error::answer::PResult;
+use nom_error::kind::ErrorKind;
+use nom_error::mode::OutputMode;
+use nom_internal::choice::{close, next_branch};
+use nom_internal::parser::{Parser, StreamParser};
+use nom_traits::input::Items;
+
+impl<I: Items, A: Parser<I>, B: Parser<I, Output = A::Output, Error = A::Error>> Parser<I>
+    for Choice<(A, B)> {
+    ghost use Rattle.nom_branch.specs.laws.AlternativeLaws.{next_lawful, choice_lawful};
+
+    type Output = A::Output;
+
+    type Error = A::Error;
+
+    ghost State = { A.State × B.State };
+
+    ghost state = { λ p. (A.state p.parsers.0, B.state p.parsers.1) };
+
+    // The branch that is taken, and its tree.
+    ghost Tree = { A.Tree ⊎ B.Tree };
+
+    ghost grammar = { λ s. alt_of A.Error.errors (or_of A.Error.errors (A.grammar s.0) (B.grammar s.1)) };
+
+    ghost Besides = { λ mode old new i. OrBesides (A.Besides mode old.parsers.0 new.parsers.0 i) (B.Besides mode old.parsers.1 new.parsers.1 i) };
+
+    #[inline(always)]
+    fn process<OM: OutputMode>(&mut self, input: I) -> PResult<I, Self::Output, Self::Error> {
+        let answer = self.parsers.0.process::<OM>(input);
+        let answer = next_branch::<I, B, OM>(answer, &mut self.parsers.1, input);
+        close(answer, input, ErrorKind::Alt)
+    }
+
+    ghost lawful = { λ s k. choice_lawful A.Error.errors (next_lawful A.Error.errors (A.lawful s.0 k.0) (B.lawful s.1 k.1)) };
+}
+
+impl<
+    I: Items,
+    A: StreamParser<I>,
+    B: StreamParser<I, Output = A::Output, Error = A::Error>,
+> StreamParser<I> for Choice<(A, B)> {
+    ghost use Rattle.nom_branch.specs.laws.AlternativeLaws.{next_steady, choice_steady};
+    ghost use Rattle.nom_internal.specs.Pinned.{either_pinned};
+
+    ghost Pins = { λ p. A.Pins p.parsers.0 × B.Pins p.parsers.1 };
+
+    ghost pinned = { λ p k h. either_pinned (A.pinned p.parsers.0 k.0 h.0) (B.pinned p.parsers.1 k.1 h.1) };
+
+    ghost steady = { λ s k. choice_steady A.Error.errors (next_steady A.Error.errors (A.steady s.0 k.0) (B.steady s.1 k.1)) };
+}
+
+impl<
+    I: Items,
+    A: Parser<I>,
+    B: Parser<I, Output = A::Output, Error = A::Error>,
+    C: Parser<I, Output = A::Output, Error = A::Error>,
+> Parser<I> for Choice<(A, B, C)> {
+    ghost use Rattle.nom_branch.specs.laws.AlternativeLaws.{next_lawful, choice_lawful};
+
+    type Output = A::Output;
+
+    type Error = A::Error;
+
+    ghost State = { A.State × B.State × C.State };
+
+    ghost state = { λ p. (A.state p.parsers.0, B.state p.parsers.1, C.state p.parsers.2) };
+
+    // The branch that is taken, and its tree.
+    ghost Tree = { (A.Tree ⊎ B.Tree) ⊎ C.Tree };
+
+    ghost grammar = { λ s. alt_of A.Error.errors (or_of A.Error.errors (or_of A.Error.errors (A.grammar s.0) (B.grammar s.1)) (C.grammar s.2)) };
+
+    ghost Besides = { λ mode old new i. OrBesides (OrBesides (A.Besides mode old.parsers.0 new.parsers.0 i) (B.Besides mode old.parsers.1 new.parsers.1 i)) (C.Besides mode old.parsers.2 new.parsers.2 i) };
+
+    #[inline(always)]
+    fn process<OM: OutputMode>(&mut self, input: I) -> PResult<I, Self::Output, Self::Error> {
+        let answer = self.parsers.0.process::<OM>(input);
+        let answer = next_branch::<I, B, OM>(answer, &mut self.parsers.1, input);
+        let answer = next_branch::<I, C, OM>(answer, &mut self.parsers.2, input);
+        close(answer, input, ErrorKind::Alt)
+    }
+
+    ghost lawful = { λ s k. choice_lawful A.Error.errors (next_lawful A.Error.errors (next_lawful A.Error.errors (A.lawful s.0 k.0.0) (B.lawful s.1 k.0.1)) (C.lawful s.2 k.1)) };
+}
+
+impl<
+    I: Items,
+    A: StreamParser<I>,
+    B: StreamParser<I, Output = A::Output, Error = A::Error>,
+    C: StreamParser<I, Output = A::Output, Error = A::Error>,
+> StreamParser<I> for Choice<(A, B, C)> {
+    ghost use Rattle.nom_branch.specs.laws.AlternativeLaws.{next_steady, choice_steady};
+    ghost use Rattle.nom_internal.specs.Pinned.{either_pinned};
+
+    ghost Pins = { λ p. A.Pins p.parsers.0 × B.Pins p.parsers.1 × C.Pins p.parsers.2 };
+
+    ghost pinned = { λ p k h. either_pinned (either_pinned (A.pinned p.parsers.0 k.0.0 h.0) (B.pinned p.parsers.1 k.0.1 h.1)) (C.pinned p.parsers.2 k.1 h.2) };
+
+    ghost steady = { λ s k. choice_steady A.Error.errors (next_steady A.Error.errors (next_steady A.Error.errors (A.steady s.0 k.0.0) (B.steady s.1 k.0.1)) (C.steady s.2 k.1)) };
+}
+
+impl<
+    I: Items,
+    A: Parser<I>,
+    B: Parser<I, Output = A::Output, Error = A::Error>,
+    C: Parser<I, Output = A::Output, Error = A::Error>,
+    D: Parser<I, Output = A::Output, Error = A::Error>,
+> Parser<I> for Choice<(A, B, C, D)> {
+    ghost use Rattle.nom_branch.specs.laws.AlternativeLaws.{next_lawful, choice_lawful};
+
+    type Output = A::Output;
+
+    type Error = A::Error;
+
+    ghost State = { A.State × B.State × C.State × D.State };
+
+    ghost state = { λ p. (A.state p.parsers.0, B.state p.parsers.1, C.state p.parsers.2, D.state p.parsers.3) };
+
+    // The branch that is taken, and its tree.
+    ghost Tree = { ((A.Tree ⊎ B.Tree) ⊎ C.Tree) ⊎ D.Tree };
+
+    ghost grammar = { λ s. alt_of A.Error.errors (or_of A.Error.errors (or_of A.Error.errors (or_of A.Error.errors (A.grammar s.0) (B.grammar s.1)) (C.grammar s.2)) (D.grammar s.3)) };
+
+    ghost Besides = { λ mode old new i. OrBesides (OrBesides (OrBesides (A.Besides mode old.parsers.0 new.parsers.0 i) (B.Besides mode old.parsers.1 new.parsers.1 i)) (C.Besides mode old.parsers.2 new.parsers.2 i)) (D.Besides mode old.parsers.3 new.parsers.3 i) };
+
+    #[inline(always)]
+    fn process<OM: OutputMode>(&mut self, input: I) -> PResult<I, Self::Output, Self::Error> {
+        let answer = self.parsers.0.process::<OM>(input);
+        let answer = next_branch::<I, B, OM>(answer, &mut self.parsers.1, input);
+        let answer = next_branch::<I, C, OM>(answer, &mut self.parsers.2, input);
+        let answer = next_branch::<I, D, OM>(answer, &mut self.parsers.3, input);
+        close(answer, input, ErrorKind::Alt)
+    }
+
+    ghost lawful = { λ s k. choice_lawful A.Error.errors (next_lawful A.Error.errors (next_lawful A.Error.errors (next_lawful A.Error.errors (A.lawful s.0 k.0.0.0) (B.lawful s.1 k.0.0.1)) (C.lawful s.2 k.0.1)) (D.lawful s.3 k.1)) };
+}
+
+impl<
+    I: Items,
+    A: StreamParser<I>,
+    B: StreamParser<I, Output = A::Output, Error = A::Error>,
+    C: StreamParser<I, Output = A::Output, Error = A::Error>,
+    D: StreamParser<I, Output = A::Output, Error = A::Error>,
+> StreamParser<I> for Choice<(A, B, C, D)> {
+    ghost use Rattle.nom_branch.specs.laws.AlternativeLaws.{next_steady, choice_steady};
+    ghost use Rattle.nom_internal.specs.Pinned.{either_pinned};
+
+    ghost Pins = { λ p. A.Pins p.parsers.0 × B.Pins p.parsers.1 × C.Pins p.parsers.2 × D.Pins p.parsers.3 };
+
+    ghost pinned = { λ p k h. either_pinned (either_pinned (either_pinned (A.pinned p.parsers.0 k.0.0.0 h.0) (B.pinned p.parsers.1 k.0.0.1 h.1)) (C.pinned p.parsers.2 k.0.1 h.2)) (D.pinned p.parsers.3 k.1 h.3) };
+
+    ghost steady = { λ s k. choice_steady A.Error.errors (next_steady A.Error.errors (next_steady A.Error.errors (next_steady A.Error.errors (A.steady s.0 k.0.0.0) (B.steady s.1 k.0.0.1)) (C.steady s.2 k.0.1)) (D.steady s.3 k.1)) };
+}
+
+impl<
+    I: Items,
+    A: Parser<I>,
+    B: Parser<I, Output = A::Output, Error = A::Error>,
+    C: Parser<I, Output = A::Output, Error = A::Error>,
+    D: Parser<I, Output = A::Output, Error = A::Error>,
+    E: Parser<I, Output = A::Output, Error = A::Error>,
+> Parser<I> for Choice<(A, B, C, D, E)> {
+    ghost use Rattle.nom_branch.specs.laws.AlternativeLaws.{next_lawful, choice_lawful};
+
+    type Output = A::Output;
+
+    type Error = A::Error;
+
+    ghost State = { A.State × B.State × C.State × D.State × E.State };
+
+    ghost state = { λ p. (A.state p.parsers.0, B.state p.parsers.1, C.state p.parsers.2, D.state p.parsers.3, E.state p.parsers.4) };
+
+    // The branch that is taken, and its tree.
+    ghost Tree = { (((A.Tree ⊎ B.Tree) ⊎ C.Tree) ⊎ D.Tree) ⊎ E.Tree };
+
+    ghost grammar = { λ s. alt_of A.Error.errors (or_of A.Error.errors (or_of A.Error.errors (or_of A.Error.errors (or_of A.Error.errors (A.grammar s.0) (B.grammar s.1)) (C.grammar s.2)) (D.grammar s.3)) (E.grammar s.4)) };
+
+    ghost Besides = { λ mode old new i. OrBesides (OrBesides (OrBesides (OrBesides (A.Besides mode old.parsers.0 new.parsers.0 i) (B.Besides mode old.parsers.1 new.parsers.1 i)) (C.Besides mode old.parsers.2 new.parsers.2 i)) (D.Besides mode old.parsers.3 new.parsers.3 i)) (E.Besides mode old.parsers.4 new.parsers.4 i) };
+
+    #[inline(always)]
+    fn process<OM: OutputMode>(&mut self, input: I) -> PResult<I, Self::Output, Self::Error> {
+        let answer = self.parsers.0.process::<OM>(input);
+        let answer = next_branch::<I, B, OM>(answer, &mut self.parsers.1, input);
+        let answer = next_branch::<I, C, OM>(answer, &mut self.parsers.2, input);
+        let answer = next_branch::<I, D, OM>(answer, &mut self.parsers.3, input);
+        let answer = next_branch::<I, E, OM>(answer, &mut self.parsers.4, input);
+        close(answer, input, ErrorKind::Alt)
+    }
+
+    ghost lawful = { λ s k. choice_lawful A.Error.errors (next_lawful A.Error.errors (next_lawful A.Error.errors (next_lawful A.Error.errors (next_lawful A.Error.errors (A.lawful s.0 k.0.0.0.0) (B.lawful s.1 k.0.0.0.1)) (C.lawful s.2 k.0.0.1)) (D.lawful s.3 k.0.1)) (E.lawful s.4 k.1)) };
+}
+
+impl<
+    I: Items,
+    A: StreamParser<I>,
+    B: StreamParser<I, Output = A::Output, Error = A::Error>,
+    C: StreamParser<I, Output = A::Output, Error = A::Error>,
+    D: StreamParser<I, Output = A::Output, Error = A::Error>,
+    E: StreamParser<I, Output = A::Output, Error = A::Error>,
+> StreamParser<I> for Choice<(A, B, C, D, E)> {
+    ghost use Rattle.nom_branch.specs.laws.AlternativeLaws.{next_steady, choice_steady};
+    ghost use Rattle.nom_internal.specs.Pinned.{either_pinned};
+
+    ghost Pins = { λ p. A.Pins p.parsers.0 × B.Pins p.parsers.1 × C.Pins p.parsers.2 × D.Pins p.parsers.3 × E.Pins p.parsers.4 };
+
+    ghost pinned = { λ p k h. either_pinned (either_pinned (either_pinned (either_pinned (A.pinned p.parsers.0 k.0.0.0.0 h.0) (B.pinned p.parsers.1 k.0.0.0.1 h.1)) (C.pinned p.parsers.2 k.0.0.1 h.2)) (D.pinned p.parsers.3 k.0.1 h.3)) (E.pinned p.parsers.4 k.1 h.4) };
+
+    ghost steady = { λ s k. choice_steady A.Error.errors (next_steady A.Error.errors (next_steady A.Error.errors (next_steady A.Error.errors (next_steady A.Error.errors (A.steady s.0 k.0.0.0.0) (B.steady s.1 k.0.0.0.1)) (C.steady s.2 k.0.0.1)) (D.steady s.3 k.0.1)) (E.steady s.4 k.1)) };
+}
