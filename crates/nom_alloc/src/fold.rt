@@ -1,80 +1,88 @@
 //! Folds of items by a closure that may take memory.
-ghost use Rattle.std.specs.Prelude.{List, Ok};
-ghost use Rattle.nom_internal.specs.Prelude.{Built};
-ghost use Rattle.nom_multi_fold.specs.Folded.{FoldPushes, CanFold, IsStart, IsCarried};
+ghost use Rattle.std.specs.Prelude.{◌≡◌, List, Ok};
+ghost use Rattle.nom_internal.specs.Prelude.{Built, modes, ShowsMeaning};
 ghost use Rattle.nom_multi_fold.specs.Folds.{Folds, AreCallable, FoldsAlike};
-ghost use Rattle.nom_alloc.specs.FoldAlloc.{LacksFor, LacksSome, fold_many0_alloc_by};
+ghost use Rattle.nom_alloc.specs.FoldAlloc.{FoldsItem, fold_many0_alloc_by, folded_meaning};
 
-use nom_error::answer::{OutOfMemory, PResult};
+use nom_error::answer::{Err, OutOfMemory, PResult};
 use nom_error::kind::ErrorKind;
-use nom_error::mode::{Mode, OutputMode};
+use nom_error::mode::{Check, Mode, OutputM, OutputMode};
+use nom_error::value::refusal;
 use nom_internal::parser::{Parser, StreamParser};
-use nom_repeat::accumulator::Accumulator;
-use nom_repeat::bounds::any_items;
-use nom_traits::input::Input;
+use nom_traits::input::{Input, Items};
 use nom_traits::view::Viewed;
 
-/// The value that a fold carries, and the closure that takes an item to the next value. Between two items
-/// there is a value, until the closure finds no memory.
-#[derive(Drop)]
-pub struct Folded<'a, R, G> {
-    pub value: Option<R>,
-    pub fold: &'a G,
-}
-
-impl<'a, T: Drop, R: Drop, G: Fn(R, T) -> Result<R, OutOfMemory>> Accumulator<T>
-    for Folded<'a, R, G> {
-    ghost Pushes = { FoldPushes (λ k. k.value) (λ k. k.fold.now) (λ f r x y. G.post f r x (Ok y)) };
-
-    ghost CanPush = { CanFold (λ k. k.value) (λ k. k.fold.now) G.pre };
-
-    ghost IsFull = { λ k. LacksFor (G.post k.fold.now) };
-
-    ghost Grows = { LacksSome G.post };
-
-    ghost fills = { λ k h. (k.fold.now, h) };
-
-    #[inline(always)]
-    fn push(&mut self, item: T) -> Result<(), OutOfMemory> {
-        match self.value.take() {
-            Some(value) => {
-                self.value = Some((self.fold)(value, item)?);
-                Ok(())
-            }
-            None => unreachable!(),
-        }
+/// What one more item makes of a value, where outputs are built.
+#[inline(always)]
+fn folded<R: Drop, T: Drop, G: Fn(R, T) -> Result<R, OutOfMemory>>(
+    value: Option<R>,
+    item: Option<T>,
+    fold: &G,
+) -> Result<Option<R>, OutOfMemory>
+    requires { (r : R) (x : T) → G.pre fold.now r x }
+    ensures { FoldsItem (G.post fold.now) value item result }
+{
+    match value {
+        Some(value) => match item {
+            Some(item) => match fold(value, item) {
+                Ok(next) => Ok(Some(next)),
+                Err(lacking) => Err(lacking),
+            },
+            None => Ok(None),
+        },
+        None => Ok(None),
     }
 }
 
 /// The first value, where outputs are built.
 #[inline(always)]
-fn start<'a, M: Mode, T, R, H: Fn() -> R, G: Fn(R, T) -> Result<R, OutOfMemory>>(
-    init: &H,
-    fold: &'a G,
-) -> Option<Folded<'a, R, G>>
-    requires init { H.pre init.now }
-    requires takes { (r : R) (x : T) → G.pre fold.now r x }
-    ensures starts { Built M.BUILDS (IsStart (λ k. k.value) (λ k. k.fold.now) (H.post init.now) fold.now) result }
-    ensures ready { Built M.BUILDS (CanFold (λ k. k.value) (λ k. k.fold.now) G.pre) result }
+fn start<M: Mode, R: Drop, H: Fn() -> R>(init: &H) -> Option<R>
+    requires { H.pre init.now }
+    ensures { Built M.BUILDS (H.post init.now) result }
 {
-    if M::BUILDS {
-        Some(Folded {
-            value: Some(init()),
-            fold,
-        })
-    } else {
-        None
-    }
+    if M::BUILDS { Some(init()) } else { None }
 }
 
-/// The value that a fold carries, where outputs are built.
+/// Folds items until one is refused. Between two items there is a value, where outputs are built.
 #[inline(always)]
-fn carried<'a, R: Drop, G>(kept: Option<Folded<'a, R, G>>) -> Option<R>
-    ensures { IsCarried (λ k. k.value) kept.entry result }
+fn fold_items<
+    OM: OutputMode,
+    I: Input,
+    F: Parser<I>,
+    R: Drop,
+    H: Fn() -> R,
+    G: Fn(R, F::Output) -> Result<R, OutOfMemory>,
+>(parser: &mut F, input: I, init: &H, fold: &G) -> PResult<I, R, F::Error>
+    requires sound { (F.grammar (F.state parser.old)).meaning.IsSound }
+    requires init { H.pre init.now }
+    requires takes { (r : R) (x : F.Output) → G.pre fold.now r x }
+    ensures shown { ShowsMeaning I.model (Folds (F.grammar (F.state parser.old)).IsOutput (H.post init.now) (λ r x y. G.post fold.now r x (Ok y)))
+        (folded_meaning I.model F.Error.errors (F.grammar (F.state parser.old)).IsOutput (H.post init.now) (G.post fold.now)
+        (F.grammar (F.state parser.old)).meaning) (modes OM.Output.BUILDS OM.Error.BUILDS OM.Incomplete.STREAMING) input result }
+    ensures kept { F.state parser.new ≡ F.state parser.old }
 {
-    match kept {
-        Some(kept) => kept.value,
-        None => None,
+    input.prove_known();
+    let mut rest = input;
+    let mut value = start::<OM::Output, R, H>(init);
+    loop {
+        match parser.process::<OutputM<OM::Output, Check, OM::Incomplete>>(rest) {
+            Ok((next, item)) => {
+                if next.input_len() == rest.input_len() {
+                    return Err(refusal::<OM::Error, I, F::Error>(rest, ErrorKind::Many0));
+                }
+                match folded::<R, F::Output, G>(value, item, fold) {
+                    Ok(more) => {
+                        value = more;
+                        rest = next;
+                    }
+                    Err(_) => return Err(Err::OutOfMemory),
+                }
+            }
+            Err(Err::Error(_)) => return Ok((rest, value)),
+            Err(Err::Failure(error)) => return Err(Err::Failure(error)),
+            Err(Err::Incomplete(needed)) => return Err(Err::Incomplete(needed)),
+            Err(Err::OutOfMemory) => return Err(Err::OutOfMemory),
+        }
     }
 }
 
@@ -106,19 +114,11 @@ impl<
 
     ghost Tree = { List F.Tree };
 
-    ghost grammar = { λ s. fold_many0_alloc_by I.model F.Error.errors (AreCallable (H.pre s.1) (G.pre s.2)) (LacksSome G.post) (H.post s.1) (G.post s.2)
-        (F.grammar s.0) };
+    ghost grammar = { λ s. fold_many0_alloc_by I.model F.Error.errors (AreCallable (H.pre s.1) (G.pre s.2)) (H.post s.1) (G.post s.2) (F.grammar s.0) };
 
     #[inline]
     fn process<OM: OutputMode>(&mut self, input: I) -> PResult<I, R, F::Error> {
-        let first = start::<OM::Output, F::Output, R, H, G>(&self.init, &self.fold);
-        let (rest, last) = any_items::<OM, I, F, Folded<R, G>>(
-            &mut self.parser,
-            input,
-            first,
-            ErrorKind::Many0,
-        )?;
-        Ok((rest, carried(last)))
+        fold_items::<OM, I, F, R, H, G>(&mut self.parser, input, &self.init, &self.fold)
     }
 
     ghost lawful = { λ s k. fold_many0_alloc_lawful I.lawful F.Error.errors (F.lawful s.0 k.0) };
