@@ -22,7 +22,7 @@ pub use crate::choice::Choice;
 /// aren't closed. An array or a slice without parsers refuses with `Alt`.
 #[inline(always)]
 pub fn alt<List>(list: List) -> Choice<List>
-    ensures { result.parsers ≡ list }
+    ensures { result ≡ record { parsers = list } }
 {
     Choice { parsers: list }
 }

@@ -1,4 +1,7 @@
 //! Choices among two to five parsers, of any types.
+//!
+//! Each width has an implementation of its own, whose bounds stand side by side: of nested ones each would ask for the
+//! types of those within again. The error type is asked for before the output, which is then found sooner.
 ghost use Rattle.std.specs.Prelude.{◌⊎◌};
 ghost use Rattle.nom_branch.specs.Alternatives.{alt_of, or_of};
 ghost use Rattle.nom_internal.specs.Prelude.{OrBesides};
@@ -11,7 +14,7 @@ use nom_internal::choice::{close, next_branch};
 use nom_internal::parser::{Parser, StreamParser};
 use nom_traits::input::Items;
 
-impl<I: Items, A: Parser<I>, B: Parser<I, Output = A::Output, Error = A::Error>> Parser<I>
+impl<I: Items, A: Parser<I>, B: Parser<I, Error = A::Error, Output = A::Output>> Parser<I>
     for Choice<(A, B)> {
     ghost use Rattle.nom_branch.specs.laws.AlternativeLaws.{next_lawful, choice_lawful};
 
@@ -43,7 +46,7 @@ impl<I: Items, A: Parser<I>, B: Parser<I, Output = A::Output, Error = A::Error>>
 impl<
     I: Items,
     A: StreamParser<I>,
-    B: StreamParser<I, Output = A::Output, Error = A::Error>,
+    B: StreamParser<I, Error = A::Error, Output = A::Output>,
 > StreamParser<I> for Choice<(A, B)> {
     ghost use Rattle.nom_branch.specs.laws.AlternativeLaws.{next_steady, choice_steady};
     ghost use Rattle.nom_internal.specs.Pinned.{either_pinned};
@@ -58,8 +61,8 @@ impl<
 impl<
     I: Items,
     A: Parser<I>,
-    B: Parser<I, Output = A::Output, Error = A::Error>,
-    C: Parser<I, Output = A::Output, Error = A::Error>,
+    B: Parser<I, Error = A::Error, Output = A::Output>,
+    C: Parser<I, Error = A::Error, Output = A::Output>,
 > Parser<I> for Choice<(A, B, C)> {
     ghost use Rattle.nom_branch.specs.laws.AlternativeLaws.{next_lawful, choice_lawful};
 
@@ -92,8 +95,8 @@ impl<
 impl<
     I: Items,
     A: StreamParser<I>,
-    B: StreamParser<I, Output = A::Output, Error = A::Error>,
-    C: StreamParser<I, Output = A::Output, Error = A::Error>,
+    B: StreamParser<I, Error = A::Error, Output = A::Output>,
+    C: StreamParser<I, Error = A::Error, Output = A::Output>,
 > StreamParser<I> for Choice<(A, B, C)> {
     ghost use Rattle.nom_branch.specs.laws.AlternativeLaws.{next_steady, choice_steady};
     ghost use Rattle.nom_internal.specs.Pinned.{either_pinned};
@@ -108,9 +111,9 @@ impl<
 impl<
     I: Items,
     A: Parser<I>,
-    B: Parser<I, Output = A::Output, Error = A::Error>,
-    C: Parser<I, Output = A::Output, Error = A::Error>,
-    D: Parser<I, Output = A::Output, Error = A::Error>,
+    B: Parser<I, Error = A::Error, Output = A::Output>,
+    C: Parser<I, Error = A::Error, Output = A::Output>,
+    D: Parser<I, Error = A::Error, Output = A::Output>,
 > Parser<I> for Choice<(A, B, C, D)> {
     ghost use Rattle.nom_branch.specs.laws.AlternativeLaws.{next_lawful, choice_lawful};
 
@@ -144,9 +147,9 @@ impl<
 impl<
     I: Items,
     A: StreamParser<I>,
-    B: StreamParser<I, Output = A::Output, Error = A::Error>,
-    C: StreamParser<I, Output = A::Output, Error = A::Error>,
-    D: StreamParser<I, Output = A::Output, Error = A::Error>,
+    B: StreamParser<I, Error = A::Error, Output = A::Output>,
+    C: StreamParser<I, Error = A::Error, Output = A::Output>,
+    D: StreamParser<I, Error = A::Error, Output = A::Output>,
 > StreamParser<I> for Choice<(A, B, C, D)> {
     ghost use Rattle.nom_branch.specs.laws.AlternativeLaws.{next_steady, choice_steady};
     ghost use Rattle.nom_internal.specs.Pinned.{either_pinned};
@@ -161,10 +164,10 @@ impl<
 impl<
     I: Items,
     A: Parser<I>,
-    B: Parser<I, Output = A::Output, Error = A::Error>,
-    C: Parser<I, Output = A::Output, Error = A::Error>,
-    D: Parser<I, Output = A::Output, Error = A::Error>,
-    E: Parser<I, Output = A::Output, Error = A::Error>,
+    B: Parser<I, Error = A::Error, Output = A::Output>,
+    C: Parser<I, Error = A::Error, Output = A::Output>,
+    D: Parser<I, Error = A::Error, Output = A::Output>,
+    E: Parser<I, Error = A::Error, Output = A::Output>,
 > Parser<I> for Choice<(A, B, C, D, E)> {
     ghost use Rattle.nom_branch.specs.laws.AlternativeLaws.{next_lawful, choice_lawful};
 
@@ -199,10 +202,10 @@ impl<
 impl<
     I: Items,
     A: StreamParser<I>,
-    B: StreamParser<I, Output = A::Output, Error = A::Error>,
-    C: StreamParser<I, Output = A::Output, Error = A::Error>,
-    D: StreamParser<I, Output = A::Output, Error = A::Error>,
-    E: StreamParser<I, Output = A::Output, Error = A::Error>,
+    B: StreamParser<I, Error = A::Error, Output = A::Output>,
+    C: StreamParser<I, Error = A::Error, Output = A::Output>,
+    D: StreamParser<I, Error = A::Error, Output = A::Output>,
+    E: StreamParser<I, Error = A::Error, Output = A::Output>,
 > StreamParser<I> for Choice<(A, B, C, D, E)> {
     ghost use Rattle.nom_branch.specs.laws.AlternativeLaws.{next_steady, choice_steady};
     ghost use Rattle.nom_internal.specs.Pinned.{either_pinned};

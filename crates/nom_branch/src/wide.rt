@@ -14,11 +14,11 @@ use nom_traits::input::Items;
 impl<
     I: Items,
     A: Parser<I>,
-    B: Parser<I, Output = A::Output, Error = A::Error>,
-    C: Parser<I, Output = A::Output, Error = A::Error>,
-    D: Parser<I, Output = A::Output, Error = A::Error>,
-    E: Parser<I, Output = A::Output, Error = A::Error>,
-    F: Parser<I, Output = A::Output, Error = A::Error>,
+    B: Parser<I, Error = A::Error, Output = A::Output>,
+    C: Parser<I, Error = A::Error, Output = A::Output>,
+    D: Parser<I, Error = A::Error, Output = A::Output>,
+    E: Parser<I, Error = A::Error, Output = A::Output>,
+    F: Parser<I, Error = A::Error, Output = A::Output>,
 > Parser<I> for Choice<(A, B, C, D, E, F)> {
     ghost use Rattle.nom_branch.specs.laws.AlternativeLaws.{next_lawful, choice_lawful};
 
@@ -54,11 +54,11 @@ impl<
 impl<
     I: Items,
     A: StreamParser<I>,
-    B: StreamParser<I, Output = A::Output, Error = A::Error>,
-    C: StreamParser<I, Output = A::Output, Error = A::Error>,
-    D: StreamParser<I, Output = A::Output, Error = A::Error>,
-    E: StreamParser<I, Output = A::Output, Error = A::Error>,
-    F: StreamParser<I, Output = A::Output, Error = A::Error>,
+    B: StreamParser<I, Error = A::Error, Output = A::Output>,
+    C: StreamParser<I, Error = A::Error, Output = A::Output>,
+    D: StreamParser<I, Error = A::Error, Output = A::Output>,
+    E: StreamParser<I, Error = A::Error, Output = A::Output>,
+    F: StreamParser<I, Error = A::Error, Output = A::Output>,
 > StreamParser<I> for Choice<(A, B, C, D, E, F)> {
     ghost use Rattle.nom_branch.specs.laws.AlternativeLaws.{next_steady, choice_steady};
     ghost use Rattle.nom_internal.specs.Pinned.{either_pinned};
@@ -73,12 +73,12 @@ impl<
 impl<
     I: Items,
     A: Parser<I>,
-    B: Parser<I, Output = A::Output, Error = A::Error>,
-    C: Parser<I, Output = A::Output, Error = A::Error>,
-    D: Parser<I, Output = A::Output, Error = A::Error>,
-    E: Parser<I, Output = A::Output, Error = A::Error>,
-    F: Parser<I, Output = A::Output, Error = A::Error>,
-    G: Parser<I, Output = A::Output, Error = A::Error>,
+    B: Parser<I, Error = A::Error, Output = A::Output>,
+    C: Parser<I, Error = A::Error, Output = A::Output>,
+    D: Parser<I, Error = A::Error, Output = A::Output>,
+    E: Parser<I, Error = A::Error, Output = A::Output>,
+    F: Parser<I, Error = A::Error, Output = A::Output>,
+    G: Parser<I, Error = A::Error, Output = A::Output>,
 > Parser<I> for Choice<(A, B, C, D, E, F, G)> {
     ghost use Rattle.nom_branch.specs.laws.AlternativeLaws.{next_lawful, choice_lawful};
 
@@ -115,12 +115,12 @@ impl<
 impl<
     I: Items,
     A: StreamParser<I>,
-    B: StreamParser<I, Output = A::Output, Error = A::Error>,
-    C: StreamParser<I, Output = A::Output, Error = A::Error>,
-    D: StreamParser<I, Output = A::Output, Error = A::Error>,
-    E: StreamParser<I, Output = A::Output, Error = A::Error>,
-    F: StreamParser<I, Output = A::Output, Error = A::Error>,
-    G: StreamParser<I, Output = A::Output, Error = A::Error>,
+    B: StreamParser<I, Error = A::Error, Output = A::Output>,
+    C: StreamParser<I, Error = A::Error, Output = A::Output>,
+    D: StreamParser<I, Error = A::Error, Output = A::Output>,
+    E: StreamParser<I, Error = A::Error, Output = A::Output>,
+    F: StreamParser<I, Error = A::Error, Output = A::Output>,
+    G: StreamParser<I, Error = A::Error, Output = A::Output>,
 > StreamParser<I> for Choice<(A, B, C, D, E, F, G)> {
     ghost use Rattle.nom_branch.specs.laws.AlternativeLaws.{next_steady, choice_steady};
     ghost use Rattle.nom_internal.specs.Pinned.{either_pinned};

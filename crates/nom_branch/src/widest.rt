@@ -14,13 +14,13 @@ use nom_traits::input::Items;
 impl<
     I: Items,
     A: Parser<I>,
-    B: Parser<I, Output = A::Output, Error = A::Error>,
-    C: Parser<I, Output = A::Output, Error = A::Error>,
-    D: Parser<I, Output = A::Output, Error = A::Error>,
-    E: Parser<I, Output = A::Output, Error = A::Error>,
-    F: Parser<I, Output = A::Output, Error = A::Error>,
-    G: Parser<I, Output = A::Output, Error = A::Error>,
-    H: Parser<I, Output = A::Output, Error = A::Error>,
+    B: Parser<I, Error = A::Error, Output = A::Output>,
+    C: Parser<I, Error = A::Error, Output = A::Output>,
+    D: Parser<I, Error = A::Error, Output = A::Output>,
+    E: Parser<I, Error = A::Error, Output = A::Output>,
+    F: Parser<I, Error = A::Error, Output = A::Output>,
+    G: Parser<I, Error = A::Error, Output = A::Output>,
+    H: Parser<I, Error = A::Error, Output = A::Output>,
 > Parser<I> for Choice<(A, B, C, D, E, F, G, H)> {
     ghost use Rattle.nom_branch.specs.laws.AlternativeLaws.{next_lawful, choice_lawful};
 
@@ -58,13 +58,13 @@ impl<
 impl<
     I: Items,
     A: StreamParser<I>,
-    B: StreamParser<I, Output = A::Output, Error = A::Error>,
-    C: StreamParser<I, Output = A::Output, Error = A::Error>,
-    D: StreamParser<I, Output = A::Output, Error = A::Error>,
-    E: StreamParser<I, Output = A::Output, Error = A::Error>,
-    F: StreamParser<I, Output = A::Output, Error = A::Error>,
-    G: StreamParser<I, Output = A::Output, Error = A::Error>,
-    H: StreamParser<I, Output = A::Output, Error = A::Error>,
+    B: StreamParser<I, Error = A::Error, Output = A::Output>,
+    C: StreamParser<I, Error = A::Error, Output = A::Output>,
+    D: StreamParser<I, Error = A::Error, Output = A::Output>,
+    E: StreamParser<I, Error = A::Error, Output = A::Output>,
+    F: StreamParser<I, Error = A::Error, Output = A::Output>,
+    G: StreamParser<I, Error = A::Error, Output = A::Output>,
+    H: StreamParser<I, Error = A::Error, Output = A::Output>,
 > StreamParser<I> for Choice<(A, B, C, D, E, F, G, H)> {
     ghost use Rattle.nom_branch.specs.laws.AlternativeLaws.{next_steady, choice_steady};
     ghost use Rattle.nom_internal.specs.Pinned.{either_pinned};

@@ -19,8 +19,8 @@ use std::marker::PhantomData;
 /// One of two characters.
 #[inline(always)]
 pub(crate) fn either<I, E>(first: char, second: char) -> Choice<(Char<I, E>, Char<I, E>)>
-    ensures first { result.first.wanted ≡ first }
-    ensures second { result.second.wanted ≡ second }
+    ensures first { result.parsers.0.wanted ≡ first }
+    ensures second { result.parsers.1.wanted ≡ second }
 {
     alt((char(first), char(second)))
 }

@@ -7,7 +7,7 @@ pub returns : goal.returns
 returns c =
     let parts = ap (λ p. p.parser.parser) c.terminated.ensures.first ∙ (ap (λ p. p.parser) c.map.ensures.parser ∙ c.recognize-digits.ensures) in
     let minus = ap (λ p. p.0.parser.wanted) parts ∙ (ap (λ p. p.wanted) c.opt-minus.ensures ∙ c.char.ensures) in
-    let first = ap (λ p. p.1.first.tag.now) parts ∙ (ap (λ l. l.first.tag.now) c.alt-whole.ensures ∙ ap (λ t. t.now) c.tag.ensures) in
+    let first = ap (λ p. p.1.parsers.0.tag.now) parts ∙ (ap (λ l. l.parsers.0.tag.now) c.alt-whole.ensures ∙ ap (λ t. t.now) c.tag.ensures) in
     let dot = ap (λ p. p.2.parser.first.wanted) parts ∙
     (ap (λ p. p.first.wanted) c.opt-fraction.ensures ∙ (ap (λ p. p.wanted) c.pair.ensures.first ∙ c.char-2.ensures)) in
     let power = ap (λ p. p.3.parser) parts ∙ c.opt-exponent.ensures in

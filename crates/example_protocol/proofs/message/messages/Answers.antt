@@ -10,14 +10,14 @@ returns g c =
     let list = ap (λ p. p.parser.parser.parser) c.terminated-stream.ensures.first ∙
     (ap (λ p. p.parser.parser) c.many0.ensures.parser ∙
     (ap (λ p. p.parser) c.length_value-message.ensures.parser ∙ (c.all_consuming-body.ensures ∙ c.alt.ensures))) in
-    let ping = ap (λ l. l.first.first.parser.first.tag.now) list ∙
+    let ping = ap (λ l. l.parsers.0.parser.first.tag.now) list ∙
     (ap (λ p. p.first.tag.now) c.map.ensures.parser ∙ (ap (λ p. p.tag.now) c.pair-number.ensures.first ∙ ap (λ t. t.now) c.tag.ensures)) in
-    let number = ap (λ l. l.first.first.parser.second.endian) list ∙
+    let number = ap (λ l. l.parsers.0.parser.second.endian) list ∙
     (ap (λ p. p.second.endian) c.map.ensures.parser ∙ (ap (λ p. p.endian) c.pair-number.ensures.second ∙ c.be_u32.ensures)) in
-    let text = ap (λ l. l.first.second.parser.first.tag.now) list ∙
+    let text = ap (λ l. l.parsers.1.parser.first.tag.now) list ∙
     (ap (λ p. p.first.tag.now) c.map-2.ensures.parser ∙
     (ap (λ p. p.tag.now) c.preceded-string.ensures.first ∙ ap (λ t. t.now) c.tag-2.ensures)) in
-    let close = ap (λ l. l.second.parser.tag.now) list ∙ (ap (λ p. p.tag.now) c.map-3.ensures.parser ∙ ap (λ t. t.now) c.tag-leave.ensures) in
+    let close = ap (λ l. l.parsers.2.parser.tag.now) list ∙ (ap (λ p. p.tag.now) c.map-3.ensures.parser ∙ ap (λ t. t.now) c.tag-leave.ensures) in
     let length = ap (λ p. p.parser.length.endian) c.terminated-stream.ensures.first ∙
     (ap (λ p. p.length.endian) c.many0.ensures.parser ∙ (ap (λ p. p.endian) c.length_value-message.ensures.length ∙ c.be_u16.ensures)) in
     let end = ap (λ p. p.tag.now) c.terminated-stream.ensures.second ∙ ap (λ t. t.now) c.tag-end.ensures in

@@ -7,11 +7,12 @@ returns g c =
     let mantissa = c.pair-shape.result.first.parser in
     let sign = mantissa.first.parser in
     let both = mantissa.second in
-    let after = both.first.second in
-    let alone = both.second in
+    let after = both.parsers.0.second in
+    let alone = both.parsers.1 in
     let power = c.pair-shape.result.second.parser in
-    let found = part_wants sign.first.wanted sign.second.wanted after.first.first.wanted alone.second.first.wanted power.first.first.wanted
-    power.first.second.wanted after.first.second.class after.first.second.wanted after.second.class after.second.wanted alone.first.class alone.first.wanted
+    let found = part_wants sign.parsers.0.wanted sign.parsers.1.wanted after.parsers.0.first.wanted alone.second.first.wanted power.first.parsers.0.wanted
+    power.first.parsers.1.wanted after.parsers.0.second.class after.parsers.0.second.wanted after.parsers.1.class after.parsers.1.wanted
+    alone.first.class alone.first.wanted
     power.second.parser.signed in
     let same : found ≡ parts_want =
     rw (

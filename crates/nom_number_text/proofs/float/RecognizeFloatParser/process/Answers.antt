@@ -6,12 +6,12 @@ pub returns-clause-shown : goal.returns-clause-shown
 returns-clause-shown g c =
     let shape = c.recognize-shape.result.parser in
     let sign = shape.first.parser in
-    let whole = shape.second.first.first.parser in
-    let part = shape.second.first.second.parser in
+    let whole = shape.second.first.parsers.0.parser in
+    let part = shape.second.first.parsers.1.parser in
     let exponent = shape.second.second.parser.parser in
     let after = exponent.second.first.parser in
-    let found = wants sign.first.wanted sign.second.wanted whole.second.parser.first.wanted part.first.wanted exponent.first.first.wanted
-    exponent.first.second.wanted after.first.wanted after.second.wanted in
+    let found = wants sign.parsers.0.wanted sign.parsers.1.wanted whole.second.parser.first.wanted part.first.wanted exponent.first.parsers.0.wanted
+    exponent.first.parsers.1.wanted after.parsers.0.wanted after.parsers.1.wanted in
     let same : found ≡ fraction_wants =
     rw (
       c.recognize-shape.ensures,
