@@ -1,5 +1,5 @@
 //! The report on a file of records.
-ghost use Rattle.std.specs.Prelude.{length};
+ghost use Rattle.std.specs.Prelude.{IfOk, length, string_bytes};
 ghost use Rattle.nom_internal.specs.Prelude.{bytes_model};
 ghost use Rattle.nom_growing.specs.Growing.{IsGrown};
 ghost use Rattle.nom_records_run.specs.Report.{AreRecords, IsReport, record_grammar, record_text};
@@ -12,7 +12,9 @@ use nom_growing::growing::{Grown, parse_growing};
 use nom_multi::many0;
 use nom_multi_length::length_data;
 use nom_number::be_u8;
-use nom_run::report::{Lines, Report, beginning_len, tell};
+use nom_run::error::RunError;
+use nom_run::report::{Lines, Report, beginning_len, tell, write_built};
+use nom_run::stream::Sink;
 use nom_run::text::add_bytes;
 use nom_sequence::{preceded, terminated};
 use nom_traits::input::Items;
@@ -50,18 +52,31 @@ impl<'a> Lines<&'a [u8]> for Records {
     }
 }
 
+// The text of the report, and its status.
+fn text_of<A: Allocator + Copy>(
+    alloc: A,
+    bytes: &[u8],
+    cuts: &[usize],
+) -> Result<(String<A>, u8), OutOfMemory>
+    requires { NoneAbove cuts.now (length bytes.now) }
+    ensures { IfOk result (λ r. IsReport bytes.now cuts.now (string_bytes r.0) r.1) }
+{
+    bytes.prove_known();
+    let grown = grown_records(alloc, bytes, cuts);
+    let beginning = beginning_len(bytes.len(), cuts, grown.index);
+    tell(alloc, &Records, grown.index, beginning, grown.result)
+}
+
 impl Report for Records {
     ghost is_report = { IsReport };
 
-    fn report<A: Allocator + Copy>(
+    fn write<A: Allocator + Copy, W: Sink>(
         &self,
         alloc: A,
         bytes: &[u8],
         cuts: &[usize],
-    ) -> Result<(String<A>, u8), OutOfMemory> {
-        bytes.prove_known();
-        let grown = grown_records(alloc, bytes, cuts);
-        let beginning = beginning_len(bytes.len(), cuts, grown.index);
-        tell(alloc, self, grown.index, beginning, grown.result)
+        sink: &mut W,
+    ) -> Result<u8, RunError> {
+        write_built(text_of(alloc, bytes, cuts), sink)
     }
 }

@@ -1,7 +1,8 @@
+pub mod Built
 pub mod Ended
 pub mod Hex
 pub mod Known
 pub mod Numbers
+pub mod Piecewise
 pub mod Reported
 pub mod Told
-pub mod WriteEnds

@@ -5,11 +5,11 @@ use Rattle.std.specs.List.{AllZip}
 use Rattle.nom_run.specs.Texts.{lines_text}
 
 module _ {X : Type 0} (line : X → List ℕ) where
-  lines-append : (xs ys : List X) → lines_text line (xs ++ ys) ≡ lines_text line xs ++ lines_text line ys
+  pub lines-append : (xs ys : List X) → lines_text line (xs ++ ys) ≡ lines_text line xs ++ lines_text line ys
   lines-append [] ys = refl
   lines-append (x ∷ xs) ys = ap (λ t. line x ++ t) (lines-append xs ys) ∙ sym (append_assoc (line x) (lines_text line xs) (lines_text line ys))
 
-  lines-more : (xs : List X) (i : ℕ) (d : X) → i < length xs → lines_text line (take (i + 1) xs) ≡ lines_text line (take i xs) ++ line (get_or xs i d)
+  pub lines-more : (xs : List X) (i : ℕ) (d : X) → i < length xs → lines_text line (take (i + 1) xs) ≡ lines_text line (take i xs) ++ line (get_or xs i d)
   lines-more xs i d h =
       ap (lines_text line) (take_more xs i d h) ∙ lines-append (take i xs) (get_or xs i d ∷ []) ∙
       ap (λ t. lines_text line (take i xs) ++ t) (append-nil (line (get_or xs i d)))

@@ -1,5 +1,6 @@
 pub mod Asked
 pub mod Lines
+pub mod Pieces
 pub mod Report
 pub mod Stream
 pub mod Texts

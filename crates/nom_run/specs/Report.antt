@@ -1,5 +1,5 @@
 -- The report on the bytes of a file that comes in pieces.
-use Rattle.std.specs.Prelude.{◌≡◌, ℕ, ◌-◌, ◌<◌, ◌≤◌, true, List, ◌++◌, length, slice_index, Ok, Err, Option}
+use Rattle.std.specs.Prelude.{◌≡◌, ℕ, ◌-◌, ◌<◌, ◌≤◌, true, List, ◌++◌, length, slice_index, Result, Ok, Err, Option, String, string_bytes}
 use Rattle.std.specs.Borrow.{Bor}
 use Rattle.nom_error.specs.declared.value.Error.{Error}
 use Rattle.nom_internal.specs.Prelude.{Needed, IResult, size_of, bytes_model, Outcome, Accept, Refuse, Stop, Fails, Needs, Meaning}
@@ -10,6 +10,11 @@ use Rattle.nom_run.specs.Texts.{decided_text, rest_text, error_text, failure_tex
 
 abbrev Bytes : Type 0
 Bytes = Bor (List ℕ)
+
+-- the text and the status that were built
+abbrev pub IsBuilt : {A E : Type 0} → Result (String A × ℕ) E → List ℕ → ℕ → Type 0
+IsBuilt (Ok r) text status = (text ≡ string_bytes r.0) × (status ≡ r.1)
+IsBuilt (Err e) text status = ⊥
 
 -- The text and the status for an outcome on a beginning of the whole: `index` is that of the cut where it begins, and
 -- offsets count from the beginning's first byte. Of an acceptance stand the lines of its tree. It is of a grammar that never

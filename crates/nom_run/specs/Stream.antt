@@ -51,6 +51,14 @@ pub record WroteFront (held new : Option (List ℕ)) (text : List ℕ) : Type 0 
   pub within : count < length text
   pub wrote : Appends held new (take count text)
 
+-- By what a text and its status are: such a text was written, with this status; or a beginning of one, and not all.
+module _ (IsText : (text : List ℕ) → (status : ℕ) → Type 0) (held held' : Option (List ℕ)) where
+  abbrev pub WroteSuch : (status : ℕ) → Type 0
+  WroteSuch status = (text : List ℕ) × IsText text status × Appends held held' text
+
+  abbrev pub BeganSuch : Type 0
+  BeganSuch = (text : List ℕ) × (status : ℕ) × IsText text status × WroteFront held held' text
+
 -- By what a report is: whether a text and a status are that on bytes, given in the parts that cuts make of them.
 module _ (IsReport : (bytes cuts text : List ℕ) → (status : ℕ) → Type 0) (left left' held held' : Option (List ℕ)) (cuts : List ℕ) where
   -- the source was read to its end, and the report on what was read was written, with this status

@@ -5,6 +5,7 @@
 pub mod called;
 pub mod counted;
 pub mod error;
+pub mod pieces;
 pub mod program;
 pub mod report;
 pub mod run;

@@ -1,9 +1,12 @@
 //! Reports on bytes, and what is common to them.
-ghost use Rattle.std.specs.Prelude.{◌≡◌, ◌++◌, ℕ, ◌<◌, ◌≤◌, List, IfOk, length, slice_index, string_bytes};
-ghost use Rattle.nom_run.specs.Report.{IsTold, IsToldStop};
-ghost use Rattle.nom_run.specs.Stream.{NoneAbove};
+ghost use Rattle.std.specs.Prelude.{◌≡◌, ◌++◌, ℕ, ◌<◌, ◌≤◌, List, IfOk, IfErr, length, slice_index, string_bytes};
+ghost use Rattle.nom_run.specs.Report.{IsBuilt, IsTold, IsToldStop};
+ghost use Rattle.nom_run.specs.Stream.{BeganSuch, MatchRunError, NoWriteFailed, NoneAbove, WriteFailed, WroteSuch};
 ghost use Rattle.nom_run.specs.Texts.{decided_text, lines_text, rest_text};
 
+use crate::error::RunError;
+use crate::run::write_all;
+use crate::stream::Sink;
 use crate::text::{add_decided, add_error, add_failure, add_need, add_rest};
 use nom_error::answer::{Err, IResult, OutOfMemory};
 use nom_error::value::Error;
@@ -14,16 +17,45 @@ pub trait Report {
     // Whether a text and a status are the report on bytes, given in the parts that cuts make of them.
     ghost is_report: { List ℕ → List ℕ → List ℕ → ℕ → Type 0 };
 
-    /// The text of the report on `bytes`, given in the parts that `cuts` (offsets in bytes) make of them, and the
-    /// status.
-    fn report<A: Allocator + Copy>(
+    /// Writes the text of the report on `bytes`, given in the parts that `cuts` (offsets in bytes) make of them, and answers
+    /// the status.
+    ///
+    /// Where memory runs out nothing was written. A failed write is not tried again.
+    fn write<A: Allocator + Copy, W: Sink>(
         &self,
         alloc: A,
         bytes: &[u8],
         cuts: &[usize],
-    ) -> Result<(String<A>, u8), OutOfMemory>
+        sink: &mut W,
+    ) -> Result<u8, RunError>
         requires { NoneAbove cuts.now (length bytes.now) }
-        ensures { IfOk result (λ r. is_report bytes.now cuts.now (string_bytes r.0) r.1) };
+        ensures status { IfOk result (λ status. WroteSuch (is_report bytes.now cuts.now) (W.held sink.old) (W.held sink.new) status
+            × NoWriteFailed (W.failures sink.old) (W.failures sink.new) (W.stalls sink.old) (W.stalls sink.new)) }
+        ensures error { IfErr result (λ e. MatchRunError e ⊥ (BeganSuch (is_report bytes.now cuts.now) (W.held sink.old) (W.held sink.new)
+            × WriteFailed (W.failures sink.old) (W.failures sink.new) (W.stalls sink.old) (W.stalls sink.new))
+            (sink.new ≡ sink.old) ⊥) };
+}
+
+/// Writes a text that was built whole, and answers its status.
+pub fn write_built<A: Allocator, W: Sink>(
+    built: Result<(String<A>, u8), OutOfMemory>,
+    sink: &mut W,
+) -> Result<u8, RunError>
+    ensures status { IfOk result (λ status. WroteSuch (IsBuilt built) (W.held sink.old) (W.held sink.new) status
+        × NoWriteFailed (W.failures sink.old) (W.failures sink.new) (W.stalls sink.old) (W.stalls sink.new)) }
+    ensures error { IfErr result (λ e. MatchRunError e ⊥ (BeganSuch (IsBuilt built) (W.held sink.old) (W.held sink.new)
+        × WriteFailed (W.failures sink.old) (W.failures sink.new) (W.stalls sink.old) (W.stalls sink.new))
+        (sink.new ≡ sink.old) ⊥) }
+{
+    let answer = match built {
+        Ok(answer) => answer,
+        Err(_) => return Err(RunError::OutOfMemory),
+    };
+    let (text, status) = answer;
+    match write_all(sink, text.as_bytes()) {
+        Ok(()) => Ok(status),
+        Err(error) => Err(error),
+    }
 }
 
 /// Which lines a report has of an item that a grammar gives.

@@ -96,9 +96,9 @@ pub fn write_all<W: Sink>(sink: &mut W, text: &[u8]) -> Result<(), RunError>
 /// (offsets in bytes) make of it; answers the status.
 ///
 /// `Usage` where a cut is below the one before, before anything is read, or above the length, after
-/// reading. A failed call is not tried again, and a write that takes no byte is a failure. The whole
-/// text is built before its first byte is written. `OutOfMemory` only where something could grow: some
-/// bytes were read, or the source came to its end and there is a report to build.
+/// reading. A failed call is not tried again, and a write that takes no byte is a failure. All memory that the report
+/// takes is taken before its first byte is written. `OutOfMemory` only where something could grow: some bytes were read,
+/// or the source came to its end and there is a report to build.
 pub fn run<A: Allocator + Copy, R: Report, S: Source, W: Sink>(
     alloc: A,
     report: &R,
@@ -128,11 +128,8 @@ pub fn run<A: Allocator + Copy, R: Report, S: Source, W: Sink>(
     if !none_above(cuts, bytes.len()) {
         return Err(RunError::Usage);
     }
-    let answer = match report.report(alloc, &bytes, cuts) {
-        Ok(answer) => answer,
-        Err(_) => return Err(RunError::OutOfMemory),
-    };
-    let (text, status) = answer;
-    write_all(sink, text.as_bytes())?;
-    Ok(status)
+    match report.write(alloc, &bytes, cuts, sink) {
+        Ok(status) => Ok(status),
+        Err(error) => Err(error),
+    }
 }

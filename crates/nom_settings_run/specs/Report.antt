@@ -31,6 +31,16 @@ abbrev pub line_text : (line column : ℕ) (section name value : List ℕ) → L
 line_text line column section name value =
     decimal line ++ (codes ":" ++ (decimal column ++ (codes " [" ++ (section ++ (codes "] " ++ (name ++ (codes "=" ++ (value ++ codes "\n"))))))))
 
+-- the parts of that line, as they are written
+abbrev pub place_text : (line column : ℕ) → List ℕ
+place_text line column = (decimal line ++ codes ":") ++ (decimal column ++ codes " [")
+
+abbrev pub names_text : (section name : List ℕ) → List ℕ
+names_text section name = (section ++ codes "] ") ++ (name ++ codes "=")
+
+abbrev pub entry_text : (section name value : List ℕ) → List ℕ
+entry_text section name value = names_text section name ++ (value ++ codes "\n")
+
 -- the line of a fault: where it stands, and its kind
 abbrev pub fault_text : (line column : ℕ) → ErrorKind → List ℕ
 fault_text line column kind = decimal line ++ codes ":" ++ decimal column ++ codes ": " ++ description_of kind ++ codes "\n"

@@ -1,14 +1,22 @@
 //! The report on a file of settings.
-ghost use Rattle.std.specs.Prelude.{◌≡◌, ◌++◌, ◌≤◌, IfOk, length, string_bytes, take};
-ghost use Rattle.nom_settings_run.specs.Report.{IsReport, IsTold, IsToldBytes, IsToldStop, fault_text, line_text, section_text, setting_text};
+ghost use Rattle.std.specs.Prelude.{◌≡◌, ◌++◌, ◌≤◌, IfOk, IfErr, decimal, length, string_bytes, take};
+ghost use Rattle.std.specs.Io.KnownBytes.{Appends};
+ghost use Rattle.nom_run.specs.Pieces.{BeganText, HasRoom, WroteBut};
+ghost use Rattle.nom_run.specs.Stream.{BeganSuch, MatchRunError, NoWriteFailed, WriteFailed, WroteSuch};
+ghost use Rattle.nom_settings_run.specs.Report.{IsReport, IsTold, IsToldBytes, IsToldStop, entry_text, fault_text, line_text, names_text, place_text};
+ghost use Rattle.nom_settings_run.specs.Report.{section_text, sections_text, setting_text};
 
 use crate::settings::{Section, settings};
+use itoa::Buffer;
 use nom_error::answer::{Err, IResult, OutOfMemory};
 use nom_error::kind::ErrorKind;
 use nom_error::value::Error;
 use nom_located::Located;
 use nom_located::promises::stands_after;
-use nom_run::report::{Lines, Report, add_lines};
+use nom_run::error::RunError;
+use nom_run::pieces::{InPieces, flush, make_room, put, put_each};
+use nom_run::report::{Report, write_built};
+use nom_run::stream::Sink;
 use nom_traits::input::{Input, Items};
 use std::alloc::Allocator;
 use std::fmt::Write;
@@ -17,36 +25,168 @@ use std::str;
 /// A text that knows its line and column.
 pub type Text<'a> = Located<&'a str>;
 
+// Adds a text.
+fn put_text<A: Allocator, W: Sink>(
+    sink: &mut W,
+    room: &mut Vec<u8, A>,
+    text: &str,
+) -> Result<(), RunError>
+    requires { HasRoom room.old }
+    ensures room { HasRoom room.new }
+    ensures wrote { IfOk result (λ _. WroteBut (W.held sink.old) (W.held sink.new) (room.old.items ++ text.now) room.new.items
+        × NoWriteFailed (W.failures sink.old) (W.failures sink.new) (W.stalls sink.old) (W.stalls sink.new)) }
+    ensures error { IfErr result (λ e. MatchRunError e ⊥ (BeganText (W.held sink.old) (W.held sink.new) (room.old.items ++ text.now)
+        × WriteFailed (W.failures sink.old) (W.failures sink.new) (W.stalls sink.old) (W.stalls sink.new)) ⊥ ⊥) }
+{
+    put(sink, room, text.as_bytes())
+}
+
+// Adds a text, and another one after it.
+fn put_pair<A: Allocator, W: Sink>(
+    sink: &mut W,
+    room: &mut Vec<u8, A>,
+    first: &str,
+    second: &str,
+) -> Result<(), RunError>
+    requires { HasRoom room.old }
+    ensures room { HasRoom room.new }
+    ensures wrote { IfOk result (λ _. WroteBut (W.held sink.old) (W.held sink.new) (room.old.items ++ (first.now ++ second.now)) room.new.items
+        × NoWriteFailed (W.failures sink.old) (W.failures sink.new) (W.stalls sink.old) (W.stalls sink.new)) }
+    ensures error { IfErr result (λ e. MatchRunError e ⊥ (BeganText (W.held sink.old) (W.held sink.new) (room.old.items ++ (first.now ++ second.now))
+        × WriteFailed (W.failures sink.old) (W.failures sink.new) (W.stalls sink.old) (W.stalls sink.new)) ⊥ ⊥) }
+{
+    match put_text(sink, room, first) {
+        Ok(()) => {}
+        Err(error) => return Err(error),
+    }
+    put_text(sink, room, second)
+}
+
+// Adds a number, and a text after it.
+fn put_number<A: Allocator, W: Sink>(
+    sink: &mut W,
+    room: &mut Vec<u8, A>,
+    number: usize,
+    after: &str,
+) -> Result<(), RunError>
+    requires { HasRoom room.old }
+    ensures room { HasRoom room.new }
+    ensures wrote { IfOk result (λ _. WroteBut (W.held sink.old) (W.held sink.new) (room.old.items ++ (decimal number ++ after.now)) room.new.items
+        × NoWriteFailed (W.failures sink.old) (W.failures sink.new) (W.stalls sink.old) (W.stalls sink.new)) }
+    ensures error { IfErr result (λ e. MatchRunError e ⊥ (BeganText (W.held sink.old) (W.held sink.new) (room.old.items ++ (decimal number ++ after.now))
+        × WriteFailed (W.failures sink.old) (W.failures sink.new) (W.stalls sink.old) (W.stalls sink.new)) ⊥ ⊥) }
+{
+    let mut digits = Buffer::new();
+    put_pair(sink, room, digits.format(number), after)
+}
+
+// Adds the beginning of a line, up to the section's name.
+fn put_place<A: Allocator, W: Sink>(
+    sink: &mut W,
+    room: &mut Vec<u8, A>,
+    line: usize,
+    column: usize,
+) -> Result<(), RunError>
+    requires { HasRoom room.old }
+    ensures room { HasRoom room.new }
+    ensures wrote { IfOk result (λ _. WroteBut (W.held sink.old) (W.held sink.new) (room.old.items ++ place_text line column) room.new.items
+        × NoWriteFailed (W.failures sink.old) (W.failures sink.new) (W.stalls sink.old) (W.stalls sink.new)) }
+    ensures error { IfErr result (λ e. MatchRunError e ⊥ (BeganText (W.held sink.old) (W.held sink.new) (room.old.items ++ place_text line column)
+        × WriteFailed (W.failures sink.old) (W.failures sink.new) (W.stalls sink.old) (W.stalls sink.new)) ⊥ ⊥) }
+{
+    match put_number(sink, room, line, ":") {
+        Ok(()) => {}
+        Err(error) => return Err(error),
+    }
+    put_number(sink, room, column, " [")
+}
+
+// Adds the names of the section and of the setting.
+fn put_names<A: Allocator, W: Sink>(
+    sink: &mut W,
+    room: &mut Vec<u8, A>,
+    section: &str,
+    name: &str,
+) -> Result<(), RunError>
+    requires { HasRoom room.old }
+    ensures room { HasRoom room.new }
+    ensures wrote { IfOk result (λ _. WroteBut (W.held sink.old) (W.held sink.new) (room.old.items ++ names_text section.now name.now) room.new.items
+        × NoWriteFailed (W.failures sink.old) (W.failures sink.new) (W.stalls sink.old) (W.stalls sink.new)) }
+    ensures error { IfErr result (λ e. MatchRunError e ⊥ (BeganText (W.held sink.old) (W.held sink.new) (room.old.items ++ names_text section.now name.now)
+        × WriteFailed (W.failures sink.old) (W.failures sink.new) (W.stalls sink.old) (W.stalls sink.new)) ⊥ ⊥) }
+{
+    match put_pair(sink, room, section, "] ") {
+        Ok(()) => {}
+        Err(error) => return Err(error),
+    }
+    put_pair(sink, room, name, "=")
+}
+
+// Adds the names and the value.
+fn put_entry<A: Allocator, W: Sink>(
+    sink: &mut W,
+    room: &mut Vec<u8, A>,
+    section: &str,
+    name: &str,
+    value: &str,
+) -> Result<(), RunError>
+    requires { HasRoom room.old }
+    ensures room { HasRoom room.new }
+    ensures wrote { IfOk result (λ _. WroteBut (W.held sink.old) (W.held sink.new) (room.old.items ++ entry_text section.now name.now value.now) room.new.items
+        × NoWriteFailed (W.failures sink.old) (W.failures sink.new) (W.stalls sink.old) (W.stalls sink.new)) }
+    ensures error { IfErr result (λ e. MatchRunError e ⊥ (BeganText (W.held sink.old) (W.held sink.new) (room.old.items ++ entry_text section.now name.now value.now)
+        × WriteFailed (W.failures sink.old) (W.failures sink.new) (W.stalls sink.old) (W.stalls sink.new)) ⊥ ⊥) }
+{
+    match put_names(sink, room, section, name) {
+        Ok(()) => {}
+        Err(error) => return Err(error),
+    }
+    put_pair(sink, room, value, "\n")
+}
+
 // Adds a line, by the parts of it.
-fn add_line<A: Allocator + Copy>(
-    text: &mut String<A>,
+fn put_line<A: Allocator, W: Sink>(
+    sink: &mut W,
+    room: &mut Vec<u8, A>,
     line: usize,
     column: usize,
     section: &str,
     name: &str,
     value: &str,
-) -> Result<(), OutOfMemory>
-    ensures { IfOk result (λ _. string_bytes text.new ≡ string_bytes text.old ++ line_text line column section.now name.now value.now) }
+) -> Result<(), RunError>
+    requires { HasRoom room.old }
+    ensures room { HasRoom room.new }
+    ensures wrote { IfOk result (λ _. WroteBut (W.held sink.old) (W.held sink.new) (room.old.items ++ line_text line column section.now name.now value.now) room.new.items
+        × NoWriteFailed (W.failures sink.old) (W.failures sink.new) (W.stalls sink.old) (W.stalls sink.new)) }
+    ensures error { IfErr result (λ e. MatchRunError e ⊥ (BeganText (W.held sink.old) (W.held sink.new) (room.old.items ++ line_text line column section.now name.now value.now)
+        × WriteFailed (W.failures sink.old) (W.failures sink.new) (W.stalls sink.old) (W.stalls sink.new)) ⊥ ⊥) }
 {
-    match write!(text, "{line}:{column} [{section}] {name}={value}\n") {
-        Ok(()) => Ok(()),
-        Err(_) => Err(OutOfMemory),
+    match put_place(sink, room, line, column) {
+        Ok(()) => {}
+        Err(error) => return Err(error),
     }
+    put_entry(sink, room, section, name, value)
 }
 
 // Adds the line of a setting.
-fn add_setting<'a, A: Allocator + Copy>(
-    text: &mut String<A>,
+fn put_setting<'a, A: Allocator, W: Sink>(
+    sink: &mut W,
+    room: &mut Vec<u8, A>,
     section: Text<'a>,
     setting: (Text<'a>, Text<'a>),
-) -> Result<(), OutOfMemory>
-    ensures { IfOk result (λ _. string_bytes text.new ≡ string_bytes text.old ++ setting_text section.entry setting.entry) }
+) -> Result<(), RunError>
+    requires { HasRoom room.old }
+    ensures room { HasRoom room.new }
+    ensures wrote { IfOk result (λ _. WroteBut (W.held sink.old) (W.held sink.new) (room.old.items ++ setting_text section.entry setting.entry) room.new.items
+        × NoWriteFailed (W.failures sink.old) (W.failures sink.new) (W.stalls sink.old) (W.stalls sink.new)) }
+    ensures error { IfErr result (λ e. MatchRunError e ⊥ (BeganText (W.held sink.old) (W.held sink.new) (room.old.items ++ setting_text section.entry setting.entry)
+        × WriteFailed (W.failures sink.old) (W.failures sink.new) (W.stalls sink.old) (W.stalls sink.new)) ⊥ ⊥) }
 {
     let (name, value) = setting;
     let title = section.fragment();
     let key = name.fragment();
     let held = value.fragment();
-    add_line(text, name.line(), name.column(), title, key, held)
+    put_line(sink, room, name.line(), name.column(), title, key, held)
 }
 
 // The settings of a section, which is named in the line of each.
@@ -55,27 +195,55 @@ struct Under<'a> {
     section: Text<'a>,
 }
 
-impl<'a> Lines<(Text<'a>, Text<'a>)> for Under<'a> {
+impl<'a> InPieces<(Text<'a>, Text<'a>)> for Under<'a> {
     ghost lines = { λ s o. setting_text s.section o };
 
-    fn add<A: Allocator + Copy>(
+    fn put<A: Allocator, W: Sink>(
         &self,
-        text: &mut String<A>,
+        sink: &mut W,
+        room: &mut Vec<u8, A>,
         setting: &(Text<'a>, Text<'a>),
-    ) -> Result<(), OutOfMemory> {
-        add_setting(text, self.section, *setting)
+    ) -> Result<(), RunError> {
+        put_setting(sink, room, self.section, *setting)
     }
 }
 
-impl<'a, A: Allocator + Copy> Lines<Section<Text<'a>, A>> for Settings {
+impl<'a, B: Allocator + Copy> InPieces<Section<Text<'a>, B>> for Settings {
     ghost lines = { λ _ o. section_text o.0 o.1.items };
 
-    fn add<B: Allocator + Copy>(
+    fn put<A: Allocator, W: Sink>(
         &self,
-        text: &mut String<B>,
-        found: &Section<Text<'a>, A>,
-    ) -> Result<(), OutOfMemory> {
-        add_lines(text, &Under { section: found.0 }, &found.1)
+        sink: &mut W,
+        room: &mut Vec<u8, A>,
+        found: &Section<Text<'a>, B>,
+    ) -> Result<(), RunError> {
+        put_each(sink, room, &Under { section: found.0 }, &found.1)
+    }
+}
+
+// Writes the lines of sections.
+fn write_sections<'a, A: Allocator + Copy, W: Sink>(
+    alloc: A,
+    found: &[Section<Text<'a>, A>],
+    sink: &mut W,
+) -> Result<(), RunError>
+    ensures wrote { IfOk result (λ _. Appends (W.held sink.old) (W.held sink.new) (sections_text found.now)
+        × NoWriteFailed (W.failures sink.old) (W.failures sink.new) (W.stalls sink.old) (W.stalls sink.new)) }
+    ensures error { IfErr result (λ e. MatchRunError e ⊥ (BeganText (W.held sink.old) (W.held sink.new) (sections_text found.now)
+        × WriteFailed (W.failures sink.old) (W.failures sink.new) (W.stalls sink.old) (W.stalls sink.new))
+        (sink.new ≡ sink.old) ⊥) }
+{
+    let mut room = match make_room(alloc) {
+        Ok(room) => room,
+        Err(_) => return Err(RunError::OutOfMemory),
+    };
+    match put_each(sink, &mut room, &Settings, found) {
+        Ok(()) => {}
+        Err(error) => return Err(error),
+    }
+    match flush(sink, &mut room) {
+        Ok(()) => Ok(()),
+        Err(error) => Err(error),
     }
 }
 
@@ -129,20 +297,24 @@ fn tell_stop<'a, A: Allocator + Copy>(
     }
 }
 
-// The text and the status for an answer.
-fn tell<'a, A: Allocator + Copy>(
+// Writes the text for an answer, and answers its status.
+fn write_answer<'a, A: Allocator + Copy, W: Sink>(
     alloc: A,
     answer: IResult<Text<'a>, Vec<Section<Text<'a>, A>, A>, Error<Text<'a>>>,
-) -> Result<(String<A>, u8), OutOfMemory>
-    ensures { IfOk result (λ r. IsTold answer.entry (string_bytes r.0) r.1) }
+    sink: &mut W,
+) -> Result<u8, RunError>
+    ensures status { IfOk result (λ status. WroteSuch (IsTold answer.entry) (W.held sink.old) (W.held sink.new) status
+        × NoWriteFailed (W.failures sink.old) (W.failures sink.new) (W.stalls sink.old) (W.stalls sink.new)) }
+    ensures error { IfErr result (λ e. MatchRunError e ⊥ (BeganSuch (IsTold answer.entry) (W.held sink.old) (W.held sink.new)
+        × WriteFailed (W.failures sink.old) (W.failures sink.new) (W.stalls sink.old) (W.stalls sink.new))
+        (sink.new ≡ sink.old) ⊥) }
 {
     match answer {
-        Ok((_rest, found)) => {
-            let mut text = String::new(alloc);
-            add_lines(&mut text, &Settings, &found)?;
-            Ok((text, 0))
-        }
-        Err(stop) => tell_stop(alloc, stop),
+        Ok((_rest, found)) => match write_sections(alloc, &found, sink) {
+            Ok(()) => Ok(0),
+            Err(error) => Err(error),
+        },
+        Err(stop) => write_built(tell_stop(alloc, stop), sink),
     }
 }
 
@@ -168,19 +340,20 @@ pub struct Settings;
 impl Report for Settings {
     ghost is_report = { IsReport };
 
-    fn report<A: Allocator + Copy>(
+    fn write<A: Allocator + Copy, W: Sink>(
         &self,
         alloc: A,
         bytes: &[u8],
         _cuts: &[usize],
-    ) -> Result<(String<A>, u8), OutOfMemory> {
+        sink: &mut W,
+    ) -> Result<u8, RunError> {
         match str::from_utf8(bytes) {
             Ok(text) => {
                 let whole = Located::new(text);
                 whole.prove_known();
-                tell(alloc, settings(alloc, whole))
+                write_answer(alloc, settings(alloc, whole), sink)
             }
-            Err(error) => tell_bytes(alloc, bytes, error.valid_up_to()),
+            Err(error) => write_built(tell_bytes(alloc, bytes, error.valid_up_to()), sink),
         }
     }
 }

@@ -11,9 +11,10 @@ use std::alloc::Allocator;
 
 /// Reads the source to its end and writes the report on the settings that it gave; answers the status.
 ///
-/// A failed call is not tried again, and a write that takes no byte is a failure. The whole text is built before its
-/// first byte is written. `OutOfMemory` only where something could grow: some bytes were read, or the source came to
-/// its end and there is a report to build. It is never `Usage`.
+/// A failed call is not tried again, and a write that takes no byte is a failure. The text is written in pieces, so that
+/// memory stays bounded by the bytes that are read; all of it is taken before the first byte is written. `OutOfMemory`
+/// only where something could grow: some bytes were read, or the source came to its end and there is a report to write.
+/// It is never `Usage`.
 pub fn run<A: Allocator + Copy, S: Source, W: Sink>(
     alloc: A,
     source: &mut S,

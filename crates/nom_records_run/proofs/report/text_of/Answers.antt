@@ -1,6 +1,6 @@
 use Rattle.nom_run.proofs.Reported.{on_ok}
 use Rattle.nom_records_run.proofs.Reported.{reported_records}
-use Rattle.nom_records_run.proofs.report.RecordsReport.report.Goals as goal
+use Rattle.nom_records_run.proofs.report.text_of.Goals as goal
 
 pub returns : goal.returns
 returns g c =

@@ -1,0 +1,130 @@
+//! A text that is written in pieces, however long it is.
+ghost use Rattle.std.specs.Prelude.{◌≡◌, ◌++◌, ◌+◌, ◌≤◌, ℕ, List, [], length, IfOk, IfErr, vec_len};
+ghost use Rattle.std.specs.Io.KnownBytes.{Appends};
+ghost use Rattle.nom_run.specs.Pieces.{BeganText, HasRoom, WroteBut};
+ghost use Rattle.nom_run.specs.Stream.{MatchRunError, NoWriteFailed, WriteFailed};
+ghost use Rattle.nom_run.specs.Texts.{lines_text};
+
+use crate::error::RunError;
+use crate::run::write_all;
+use crate::stream::Sink;
+use nom_error::answer::OutOfMemory;
+use std::alloc::Allocator;
+
+// So many bytes are written at once.
+const FULL: usize = 65536;
+
+/// Room for bytes that aren't written yet. It is all the memory that is taken.
+pub fn make_room<A: Allocator>(alloc: A) -> Result<Vec<u8, A>, OutOfMemory>
+    ensures { IfOk result (λ room. HasRoom room × (room.items ≡ [])) }
+{
+    match Vec::with_capacity(alloc, FULL) {
+        Ok(room) => Ok(room),
+        Err(_) => Err(OutOfMemory),
+    }
+}
+
+/// Writes what isn't written yet.
+pub fn flush<A: Allocator, W: Sink>(sink: &mut W, room: &mut Vec<u8, A>) -> Result<(), RunError>
+    requires { HasRoom room.old }
+    ensures room { HasRoom room.new }
+    ensures none { IfOk result (λ _. room.new.items ≡ []) }
+    ensures wrote { IfOk result (λ _. Appends (W.held sink.old) (W.held sink.new) room.old.items
+        × NoWriteFailed (W.failures sink.old) (W.failures sink.new) (W.stalls sink.old) (W.stalls sink.new)) }
+    ensures error { IfErr result (λ e. MatchRunError e ⊥ (BeganText (W.held sink.old) (W.held sink.new) room.old.items
+        × WriteFailed (W.failures sink.old) (W.failures sink.new) (W.stalls sink.old) (W.stalls sink.new)) ⊥ ⊥) }
+{
+    match write_all(sink, room) {
+        Ok(()) => {}
+        Err(error) => return Err(error),
+    }
+    room.clear();
+    Ok(())
+}
+
+/// Adds bytes. Those for which there is no room are written, after those before them.
+pub fn put<A: Allocator, W: Sink>(
+    sink: &mut W,
+    room: &mut Vec<u8, A>,
+    bytes: &[u8],
+) -> Result<(), RunError>
+    requires { HasRoom room.old }
+    ensures room { HasRoom room.new }
+    ensures wrote { IfOk result (λ _. WroteBut (W.held sink.old) (W.held sink.new) (room.old.items ++ bytes.now) room.new.items
+        × NoWriteFailed (W.failures sink.old) (W.failures sink.new) (W.stalls sink.old) (W.stalls sink.new)) }
+    ensures error { IfErr result (λ e. MatchRunError e ⊥ (BeganText (W.held sink.old) (W.held sink.new) (room.old.items ++ bytes.now)
+        × WriteFailed (W.failures sink.old) (W.failures sink.new) (W.stalls sink.old) (W.stalls sink.new)) ⊥ ⊥) }
+{
+    if bytes.len() <= FULL - room.len() {
+        keep(room, bytes);
+        return Ok(());
+    }
+    match flush(sink, room) {
+        Ok(()) => {}
+        Err(error) => return Err(error),
+    }
+    if bytes.len() <= FULL {
+        keep(room, bytes);
+        return Ok(());
+    }
+    match write_all(sink, bytes) {
+        Ok(()) => Ok(()),
+        Err(error) => Err(error),
+    }
+}
+
+// Adds bytes for which there is room.
+fn keep<A: Allocator>(room: &mut Vec<u8, A>, bytes: &[u8])
+    requires room { HasRoom room.old }
+    requires fits { vec_len room.old + length bytes.now ≤ 65536 }
+    ensures room { HasRoom room.new }
+    ensures kept { room.new.items ≡ room.old.items ++ bytes.now }
+{
+    match room.extend_from_slice(bytes) {
+        Ok(()) => {}
+        Err(_) => unreachable!(),
+    }
+}
+
+/// How an item is written.
+pub trait InPieces<T> {
+    ghost lines: { Self → T → List ℕ };
+
+    /// Adds the lines of an item.
+    fn put<A: Allocator, W: Sink>(
+        &self,
+        sink: &mut W,
+        room: &mut Vec<u8, A>,
+        item: &T,
+    ) -> Result<(), RunError>
+        requires { HasRoom room.old }
+        ensures room { HasRoom room.new }
+        ensures wrote { IfOk result (λ _. WroteBut (W.held sink.old) (W.held sink.new) (room.old.items ++ lines self.now item.now) room.new.items
+            × NoWriteFailed (W.failures sink.old) (W.failures sink.new) (W.stalls sink.old) (W.stalls sink.new)) }
+        ensures error { IfErr result (λ e. MatchRunError e ⊥ (BeganText (W.held sink.old) (W.held sink.new) (room.old.items ++ lines self.now item.now)
+            × WriteFailed (W.failures sink.old) (W.failures sink.new) (W.stalls sink.old) (W.stalls sink.new)) ⊥ ⊥) };
+}
+
+/// Adds the lines of items, in their order.
+pub fn put_each<A: Allocator, W: Sink, T, P: InPieces<T>>(
+    sink: &mut W,
+    room: &mut Vec<u8, A>,
+    each: &P,
+    items: &[T],
+) -> Result<(), RunError>
+    requires { HasRoom room.old }
+    ensures room { HasRoom room.new }
+    ensures wrote { IfOk result (λ _. WroteBut (W.held sink.old) (W.held sink.new) (room.old.items ++ lines_text (P.lines each.now) items.now) room.new.items
+        × NoWriteFailed (W.failures sink.old) (W.failures sink.new) (W.stalls sink.old) (W.stalls sink.new)) }
+    ensures error { IfErr result (λ e. MatchRunError e ⊥
+        (BeganText (W.held sink.old) (W.held sink.new) (room.old.items ++ lines_text (P.lines each.now) items.now)
+        × WriteFailed (W.failures sink.old) (W.failures sink.new) (W.stalls sink.old) (W.stalls sink.new)) ⊥ ⊥) }
+{
+    for item in items {
+        match each.put(sink, room, item) {
+            Ok(()) => {}
+            Err(error) => return Err(error),
+        }
+    }
+    Ok(())
+}
