@@ -1,6 +1,6 @@
 //! A parser whose outputs a closure maps, which may take memory.
 ghost use Rattle.std.specs.Prelude.{Ok};
-ghost use Rattle.nom_internal.specs.Prelude.{SeesAlike};
+ghost use Rattle.nom_internal.specs.Prelude.{JudgedBesides, SeesAlike};
 ghost use Rattle.nom_internal.specs.laws.MappedLaws.{given_pinned};
 ghost use Rattle.nom_alloc.specs.MapAlloc.{map_alloc_by};
 ghost use Rattle.nom_alloc.specs.laws.MapAllocLaws.{map_alloc_lawful, map_alloc_steady};
@@ -32,6 +32,8 @@ impl<I: Items, F: Parser<I> + Drop, O: Drop, G: Fn(F::Output) -> Result<O, OutOf
     ghost Tree = { F.Tree };
 
     ghost grammar = { λ s. map_alloc_by (G.pre s.1) (G.post s.1) (F.grammar s.0) };
+
+    ghost Besides = { λ mode old new i. JudgedBesides (F.Besides mode old.parser new.parser i) };
 
     #[inline(always)]
     fn process<OM: OutputMode>(&mut self, input: I) -> PResult<I, O, F::Error> {
