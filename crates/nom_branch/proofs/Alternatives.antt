@@ -2,11 +2,24 @@
 use Rattle.std.specs.Prelude.{◌≡◌, Ok, Err, Option}
 use Rattle.std.proofs.Common.{sym, ap, subst}
 use Rattle.nom_error.specs.declared.kind.ErrorKind.TheVariants.{Alt}
-use Rattle.nom_internal.specs.Prelude.{Incomplete, Error, Failure, OutOfMemory, PResult, Errors, Modes, Model, Grammar, Shows}
-use Rattle.nom_internal.specs.Prelude.{OnError, ClosesResult, ShowsNext, OrBesides, rest_of}
+use Rattle.nom_internal.specs.Prelude.{Incomplete, Error, Failure, OutOfMemory, PResult, Errors, Modes, Model, Meaning, ShowsMeaning, EitherOutput}
+use Rattle.nom_internal.specs.Prelude.{Grammar, Shows, OnError, ClosesResult, ShowsNext, OrBesides, rest_of}
 use Rattle.nom_internal.proofs.Choices.{either_shown, closed_shown}
 use Rattle.nom_internal.proofs.Owed.{or_besides}
-use Rattle.nom_branch.specs.Alternatives.{or_of, alt_of}
+use Rattle.nom_branch.specs.Alternatives.{next_meaning, choice_meaning, or_of, alt_of}
+
+-- the branches before, and the next one
+pub next_shown : {I A P Q O E : Type 0} (w : Model I A) (First : P → O → Type 0) (Second : Q → O → Type 0) (e : Errors I E) (a : Meaning I P E)
+    (b : Meaning I Q E) (mode : Modes) (i : I) (before r : PResult I O E) →
+    ShowsMeaning w First a mode i before → OnError (ShowsNext w Second e.joined e.grows b mode i) before r →
+    ShowsMeaning w (EitherOutput First Second) (next_meaning e a b) mode i r
+next_shown w First Second e = either_shown w First Second e.joined e.grows
+
+-- all branches, closed
+pub choice_shown : {I A V O E : Type 0} (w : Model I A) (IsOutput : V → O → Type 0) (e : Errors I E) (m : Meaning I V E) (mode : Modes) (i : I)
+    (before r : PResult I O E) → ShowsMeaning w IsOutput m mode i before →
+    ClosesResult (e.appended i Alt) e.grows before r → ShowsMeaning w IsOutput (choice_meaning e m) mode i r
+choice_shown w IsOutput e m mode i = closed_shown w IsOutput mode i m (λ j. e.appended j Alt) e.grows
 
 -- what the branches so far answer, as a fact that names their grammar
 pub record IsChosen {I A V O E : Type 0} (w : Model I A) (e : Errors I E) (mode : Modes) (i : I) (g : Grammar I V O E) (r : PResult I O E) : Type 0 where
@@ -21,11 +34,11 @@ module _ {I A V O E : Type 0} {w : Model I A} {e : Errors I E} {mode : Modes} {i
   -- one more branch
   pub next_chosen : {U : Type 0} → IsChosen w e mode i g before → (h : Grammar I U O E) (r : PResult I O E) →
       OnError (ShowsNext w h.IsOutput e.joined e.grows h.meaning mode i) before r → IsChosen w e mode i (or_of e g h) r
-  next_chosen k h r n = record { shown = either_shown w g.IsOutput h.IsOutput e.joined e.grows g.meaning h.meaning mode i before r k.shown n }
+  next_chosen k h r n = record { shown = next_shown w g.IsOutput h.IsOutput e g.meaning h.meaning mode i before r k.shown n }
 
   -- all branches, closed
   pub all_chosen : IsChosen w e mode i g before → (r : PResult I O E) → ClosesResult (e.appended i Alt) e.grows before r → Shows w (alt_of e g) mode i r
-  all_chosen k r c = closed_shown w g.IsOutput mode i g.meaning (λ j. e.appended j Alt) e.grows before r k.shown c
+  all_chosen k r c = choice_shown w g.IsOutput e g.meaning mode i before r k.shown c
 
 -- what the branches so far owe besides, as a fact that names it
 pub record IsOwed {I O E : Type 0} (Owes : Option I → Type 0) (r : PResult I O E) : Type 0 where
