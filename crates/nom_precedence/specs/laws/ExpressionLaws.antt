@@ -1,7 +1,6 @@
 -- The laws of expressions, by those of their parts.
 use Rattle.std.specs.Prelude.{◌≡◌, ℕ, true}
 use Rattle.nom.specs.Prelude.{Errors, Model, InputLaws, Meaning, IsLawful, IsSteady, IsOne}
-use Rattle.nom.specs.ErrorKind.TheVariants as Kind
 use Rattle.nom.specs.CaseLaws.{labelled_lawful, labelled_steady, closed_lawful, closed_steady}
 use Rattle.nom_precedence.specs.Stuck.{Read}
 use Rattle.nom_precedence.specs.laws.StuckLaws.{both_lawful, both_steady, freed_lawful, freed_steady}
