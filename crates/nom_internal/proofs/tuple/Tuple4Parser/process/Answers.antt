@@ -78,7 +78,9 @@ returns-in_err-rest-3-clause-besides g c =
 pub returns-in_err-rest-4-clause-besides : goal.returns-in_err-rest-4-clause-besides
 returns-in_err-rest-4-clause-besides g c =
     let none = ap rest_of (err_from_residual c.from_residual-in_err-rest-4.ensures) in
-    rw none (Both _ (Both _ (Both _ c.in_ok-rest.ensures.besides c.in_ok-rest-2.ensures.besides) c.in_ok-rest-3.ensures.besides) c.in_err-rest-4.ensures.besides)
+    rw none (Both _ (Both _ (Both _ c.in_ok-rest.ensures.besides c.in_ok-rest-2.ensures.besides) c.in_ok-rest-3.ensures.besides)
+    c.in_err-rest-4.ensures.besides)
 
 pub returns-clause-besides : goal.returns-clause-besides
-returns-clause-besides g c = Both _ (Both _ (Both _ c.in_ok-rest.ensures.besides c.in_ok-rest-2.ensures.besides) c.in_ok-rest-3.ensures.besides) c.in_ok-rest-4.ensures.besides
+returns-clause-besides g c = Both _ (Both _ (Both _ c.in_ok-rest.ensures.besides c.in_ok-rest-2.ensures.besides) c.in_ok-rest-3.ensures.besides)
+    c.in_ok-rest-4.ensures.besides

@@ -114,17 +114,21 @@ returns-in_err-rest-3-clause-besides g c =
 pub returns-in_err-rest-4-clause-besides : goal.returns-in_err-rest-4-clause-besides
 returns-in_err-rest-4-clause-besides g c =
     let none = ap rest_of (err_from_residual c.from_residual-in_err-rest-4.ensures) in
-    Stopped (Stopped (Both _ (Both _ (Both _ c.in_ok-rest.ensures.besides c.in_ok-rest-2.ensures.besides) c.in_ok-rest-3.ensures.besides) c.in_err-rest-4.ensures.besides) refl) none
+    Stopped (Stopped (Both _ (Both _ (Both _ c.in_ok-rest.ensures.besides c.in_ok-rest-2.ensures.besides) c.in_ok-rest-3.ensures.besides)
+    c.in_err-rest-4.ensures.besides) refl) none
 
 pub returns-in_err-rest-5-clause-besides : goal.returns-in_err-rest-5-clause-besides
 returns-in_err-rest-5-clause-besides g c =
     let none = ap rest_of (err_from_residual c.from_residual-in_err-rest-5.ensures) in
-    Stopped (Both _ (Both _ (Both _ (Both _ c.in_ok-rest.ensures.besides c.in_ok-rest-2.ensures.besides) c.in_ok-rest-3.ensures.besides) c.in_ok-rest-4.ensures.besides) c.in_err-rest-5.ensures.besides) none
+    Stopped (Both _ (Both _ (Both _ (Both _ c.in_ok-rest.ensures.besides c.in_ok-rest-2.ensures.besides) c.in_ok-rest-3.ensures.besides)
+    c.in_ok-rest-4.ensures.besides) c.in_err-rest-5.ensures.besides) none
 
 pub returns-in_err-rest-6-clause-besides : goal.returns-in_err-rest-6-clause-besides
 returns-in_err-rest-6-clause-besides g c =
     let none = ap rest_of (err_from_residual c.from_residual-in_err-rest-6.ensures) in
-    rw none (Both _ (Both _ (Both _ (Both _ (Both _ c.in_ok-rest.ensures.besides c.in_ok-rest-2.ensures.besides) c.in_ok-rest-3.ensures.besides) c.in_ok-rest-4.ensures.besides) c.in_ok-rest-5.ensures.besides) c.in_err-rest-6.ensures.besides)
+    rw none (Both _ (Both _ (Both _ (Both _ (Both _ c.in_ok-rest.ensures.besides c.in_ok-rest-2.ensures.besides) c.in_ok-rest-3.ensures.besides)
+    c.in_ok-rest-4.ensures.besides) c.in_ok-rest-5.ensures.besides) c.in_err-rest-6.ensures.besides)
 
 pub returns-clause-besides : goal.returns-clause-besides
-returns-clause-besides g c = Both _ (Both _ (Both _ (Both _ (Both _ c.in_ok-rest.ensures.besides c.in_ok-rest-2.ensures.besides) c.in_ok-rest-3.ensures.besides) c.in_ok-rest-4.ensures.besides) c.in_ok-rest-5.ensures.besides) c.in_ok-rest-6.ensures.besides
+returns-clause-besides g c = Both _ (Both _ (Both _ (Both _ (Both _ c.in_ok-rest.ensures.besides c.in_ok-rest-2.ensures.besides)
+    c.in_ok-rest-3.ensures.besides) c.in_ok-rest-4.ensures.besides) c.in_ok-rest-5.ensures.besides) c.in_ok-rest-6.ensures.besides
