@@ -35,6 +35,14 @@ macro_rules! eight_tags {
     };
 }
 
+/// The choice of eight, with what stands before and after a letter.
+macro_rules! widest_choice {
+    ($rt:expr, $input:ty, $make:ident, $form:ident, $before:literal, $after:literal) => {
+        chosen!($rt, $input, $make, $form, concat!($before, "h", $after), 'h' 8usize, 'a' 1usize, 'b' 2usize, 'c' 3usize,
+            'd' 4usize, 'e' 5usize, 'f' 6usize, 'g' 7usize);
+    };
+}
+
 /// Choices of two to eight, with what stands before and after a letter.
 macro_rules! choices {
     ($rt:expr, $input:ty, $make:ident, $form:ident, $before:literal, $after:literal) => {
@@ -47,37 +55,30 @@ macro_rules! choices {
             'd' 4usize, 'e' 5usize);
         chosen!($rt, $input, $make, $form, concat!($before, "g", $after), 'g' 7usize, 'a' 1usize, 'b' 2usize, 'c' 3usize,
             'd' 4usize, 'e' 5usize, 'f' 6usize);
-        chosen!($rt, $input, $make, $form, concat!($before, "h", $after), 'h' 8usize, 'a' 1usize, 'b' 2usize, 'c' 3usize,
-            'd' 4usize, 'e' 5usize, 'f' 6usize, 'g' 7usize);
+        widest_choice!($rt, $input, $make, $form, $before, $after);
     };
 }
 
 #[test]
 fn of_maps(rt: HostRuntime) {
     choices!(rt, &str, text, by_map, "", "");
-    choices!(rt, &[u8], bytes, by_map, "", "");
-    choices!(rt, Located<&str>, located, by_map, "", "");
+    widest_choice!(rt, &[u8], bytes, by_map, "", "");
+    widest_choice!(rt, Located<&str>, located, by_map, "", "");
 }
 
 #[test]
 fn of_verified(rt: HostRuntime) {
-    choices!(rt, &str, text, by_verify, "", "");
     choices!(rt, &[u8], bytes, by_verify, "", "");
-    choices!(rt, Located<&str>, located, by_verify, "", "");
 }
 
 #[test]
 fn of_pairs(rt: HostRuntime) {
-    choices!(rt, &str, text, by_pair, "", "!");
-    choices!(rt, &[u8], bytes, by_pair, "", "!");
     choices!(rt, Located<&str>, located, by_pair, "", "!");
 }
 
 #[test]
 fn of_delimited(rt: HostRuntime) {
     choices!(rt, &str, text, by_delimited, "(", ")");
-    choices!(rt, &[u8], bytes, by_delimited, "(", ")");
-    choices!(rt, Located<&str>, located, by_delimited, "(", ")");
 }
 
 /// What a parser of texts gives for all of a text, and that it refuses another.

@@ -26,9 +26,12 @@ macro_rules! in_sequence {
 /// Over each kind of input.
 macro_rules! tuples {
     ($rt:expr, $form:ident, $written:expr, $short:expr) => {
-        in_sequence!($rt, &str, text, $form, $written, $short, 'a' 1usize, 'b' 2usize, 'c' 3usize, 'd' 4usize, 'e' 5usize, 'f' 6usize, 'g' 7usize, 'h' 8usize);
-        in_sequence!($rt, &[u8], bytes, $form, $written, $short, 'a' 1usize, 'b' 2usize, 'c' 3usize, 'd' 4usize, 'e' 5usize, 'f' 6usize, 'g' 7usize, 'h' 8usize);
-        in_sequence!($rt, Located<&str>, located, $form, $written, $short, 'a' 1usize, 'b' 2usize, 'c' 3usize, 'd' 4usize, 'e' 5usize, 'f' 6usize, 'g' 7usize, 'h' 8usize);
+        in_sequence!($rt, &str, text, $form, $written, $short,
+            'a' 1usize, 'b' 2usize, 'c' 3usize, 'd' 4usize, 'e' 5usize, 'f' 6usize, 'g' 7usize, 'h' 8usize);
+        in_sequence!($rt, &[u8], bytes, $form, $written, $short,
+            'a' 1usize, 'b' 2usize, 'c' 3usize, 'd' 4usize, 'e' 5usize, 'f' 6usize, 'g' 7usize, 'h' 8usize);
+        in_sequence!($rt, Located<&str>, located, $form, $written, $short,
+            'a' 1usize, 'b' 2usize, 'c' 3usize, 'd' 4usize, 'e' 5usize, 'f' 6usize, 'g' 7usize, 'h' 8usize);
     };
 }
 
