@@ -48,7 +48,8 @@ module _ {I O E : Type 0} (Owes : Option I → Type 0) where
   pub first_owed : (r : PResult I O E) → Owes (rest_of r) → IsOwed Owes r
   first_owed r h = record { owed = h }
 
-  closed_owed : (Closes : E → E → Type 0) (Grows : Type 0) (before r : PResult I O E) → ClosesResult Closes Grows before r → Owes (rest_of before) → Owes (rest_of r)
+  closed_owed : (Closes : E → E → Type 0) (Grows : Type 0) (before r : PResult I O E) → ClosesResult Closes Grows before r →
+      Owes (rest_of before) → Owes (rest_of r)
   closed_owed Closes Grows (Ok v) r h k = subst Owes (sym (ap rest_of h)) k
   closed_owed Closes Grows (Err (Incomplete n)) r h k = subst Owes (sym (ap rest_of h)) k
   closed_owed Closes Grows (Err (Error e)) r h k = subst Owes (sym (ap rest_of h.2)) k

@@ -79,7 +79,8 @@ impl<
 
     ghost grammar = { λ s. alt_of A.Error.errors (or_of A.Error.errors (or_of A.Error.errors (A.grammar s.0) (B.grammar s.1)) (C.grammar s.2)) };
 
-    ghost Besides = { λ mode old new i. OrBesides (OrBesides (A.Besides mode old.parsers.0 new.parsers.0 i) (B.Besides mode old.parsers.1 new.parsers.1 i)) (C.Besides mode old.parsers.2 new.parsers.2 i) };
+    ghost Besides = { λ mode old new i. OrBesides (OrBesides (A.Besides mode old.parsers.0 new.parsers.0 i)
+        (B.Besides mode old.parsers.1 new.parsers.1 i)) (C.Besides mode old.parsers.2 new.parsers.2 i) };
 
     #[inline(always)]
     fn process<OM: OutputMode>(&mut self, input: I) -> PResult<I, Self::Output, Self::Error> {
@@ -89,7 +90,8 @@ impl<
         close(answer, input, ErrorKind::Alt)
     }
 
-    ghost lawful = { λ s k. choice_lawful A.Error.errors (next_lawful A.Error.errors (next_lawful A.Error.errors (A.lawful s.0 k.0.0) (B.lawful s.1 k.0.1)) (C.lawful s.2 k.1)) };
+    ghost lawful = { λ s k. choice_lawful A.Error.errors (next_lawful A.Error.errors (next_lawful A.Error.errors (A.lawful s.0 k.0.0)
+        (B.lawful s.1 k.0.1)) (C.lawful s.2 k.1)) };
 }
 
 impl<
@@ -103,9 +105,11 @@ impl<
 
     ghost Pins = { λ p. A.Pins p.parsers.0 × B.Pins p.parsers.1 × C.Pins p.parsers.2 };
 
-    ghost pinned = { λ p k h. either_pinned (either_pinned (A.pinned p.parsers.0 k.0.0 h.0) (B.pinned p.parsers.1 k.0.1 h.1)) (C.pinned p.parsers.2 k.1 h.2) };
+    ghost pinned = { λ p k h. either_pinned (either_pinned (A.pinned p.parsers.0 k.0.0 h.0) (B.pinned p.parsers.1 k.0.1 h.1))
+        (C.pinned p.parsers.2 k.1 h.2) };
 
-    ghost steady = { λ s k. choice_steady A.Error.errors (next_steady A.Error.errors (next_steady A.Error.errors (A.steady s.0 k.0.0) (B.steady s.1 k.0.1)) (C.steady s.2 k.1)) };
+    ghost steady = { λ s k. choice_steady A.Error.errors (next_steady A.Error.errors (next_steady A.Error.errors (A.steady s.0 k.0.0)
+        (B.steady s.1 k.0.1)) (C.steady s.2 k.1)) };
 }
 
 impl<
@@ -128,9 +132,11 @@ impl<
     // The branch that is taken, and its tree.
     ghost Tree = { ((A.Tree ⊎ B.Tree) ⊎ C.Tree) ⊎ D.Tree };
 
-    ghost grammar = { λ s. alt_of A.Error.errors (or_of A.Error.errors (or_of A.Error.errors (or_of A.Error.errors (A.grammar s.0) (B.grammar s.1)) (C.grammar s.2)) (D.grammar s.3)) };
+    ghost grammar = { λ s. alt_of A.Error.errors (or_of A.Error.errors (or_of A.Error.errors (or_of A.Error.errors (A.grammar s.0) (B.grammar s.1))
+        (C.grammar s.2)) (D.grammar s.3)) };
 
-    ghost Besides = { λ mode old new i. OrBesides (OrBesides (OrBesides (A.Besides mode old.parsers.0 new.parsers.0 i) (B.Besides mode old.parsers.1 new.parsers.1 i)) (C.Besides mode old.parsers.2 new.parsers.2 i)) (D.Besides mode old.parsers.3 new.parsers.3 i) };
+    ghost Besides = { λ mode old new i. OrBesides (OrBesides (OrBesides (A.Besides mode old.parsers.0 new.parsers.0 i)
+        (B.Besides mode old.parsers.1 new.parsers.1 i)) (C.Besides mode old.parsers.2 new.parsers.2 i)) (D.Besides mode old.parsers.3 new.parsers.3 i) };
 
     #[inline(always)]
     fn process<OM: OutputMode>(&mut self, input: I) -> PResult<I, Self::Output, Self::Error> {
@@ -141,7 +147,8 @@ impl<
         close(answer, input, ErrorKind::Alt)
     }
 
-    ghost lawful = { λ s k. choice_lawful A.Error.errors (next_lawful A.Error.errors (next_lawful A.Error.errors (next_lawful A.Error.errors (A.lawful s.0 k.0.0.0) (B.lawful s.1 k.0.0.1)) (C.lawful s.2 k.0.1)) (D.lawful s.3 k.1)) };
+    ghost lawful = { λ s k. choice_lawful A.Error.errors (next_lawful A.Error.errors (next_lawful A.Error.errors (next_lawful A.Error.errors
+        (A.lawful s.0 k.0.0.0) (B.lawful s.1 k.0.0.1)) (C.lawful s.2 k.0.1)) (D.lawful s.3 k.1)) };
 }
 
 impl<
@@ -156,9 +163,11 @@ impl<
 
     ghost Pins = { λ p. A.Pins p.parsers.0 × B.Pins p.parsers.1 × C.Pins p.parsers.2 × D.Pins p.parsers.3 };
 
-    ghost pinned = { λ p k h. either_pinned (either_pinned (either_pinned (A.pinned p.parsers.0 k.0.0.0 h.0) (B.pinned p.parsers.1 k.0.0.1 h.1)) (C.pinned p.parsers.2 k.0.1 h.2)) (D.pinned p.parsers.3 k.1 h.3) };
+    ghost pinned = { λ p k h. either_pinned (either_pinned (either_pinned (A.pinned p.parsers.0 k.0.0.0 h.0) (B.pinned p.parsers.1 k.0.0.1 h.1))
+        (C.pinned p.parsers.2 k.0.1 h.2)) (D.pinned p.parsers.3 k.1 h.3) };
 
-    ghost steady = { λ s k. choice_steady A.Error.errors (next_steady A.Error.errors (next_steady A.Error.errors (next_steady A.Error.errors (A.steady s.0 k.0.0.0) (B.steady s.1 k.0.0.1)) (C.steady s.2 k.0.1)) (D.steady s.3 k.1)) };
+    ghost steady = { λ s k. choice_steady A.Error.errors (next_steady A.Error.errors (next_steady A.Error.errors (next_steady A.Error.errors
+        (A.steady s.0 k.0.0.0) (B.steady s.1 k.0.0.1)) (C.steady s.2 k.0.1)) (D.steady s.3 k.1)) };
 }
 
 impl<
@@ -182,9 +191,12 @@ impl<
     // The branch that is taken, and its tree.
     ghost Tree = { (((A.Tree ⊎ B.Tree) ⊎ C.Tree) ⊎ D.Tree) ⊎ E.Tree };
 
-    ghost grammar = { λ s. alt_of A.Error.errors (or_of A.Error.errors (or_of A.Error.errors (or_of A.Error.errors (or_of A.Error.errors (A.grammar s.0) (B.grammar s.1)) (C.grammar s.2)) (D.grammar s.3)) (E.grammar s.4)) };
+    ghost grammar = { λ s. alt_of A.Error.errors (or_of A.Error.errors (or_of A.Error.errors (or_of A.Error.errors (or_of A.Error.errors
+        (A.grammar s.0) (B.grammar s.1)) (C.grammar s.2)) (D.grammar s.3)) (E.grammar s.4)) };
 
-    ghost Besides = { λ mode old new i. OrBesides (OrBesides (OrBesides (OrBesides (A.Besides mode old.parsers.0 new.parsers.0 i) (B.Besides mode old.parsers.1 new.parsers.1 i)) (C.Besides mode old.parsers.2 new.parsers.2 i)) (D.Besides mode old.parsers.3 new.parsers.3 i)) (E.Besides mode old.parsers.4 new.parsers.4 i) };
+    ghost Besides = { λ mode old new i. OrBesides (OrBesides (OrBesides (OrBesides (A.Besides mode old.parsers.0 new.parsers.0 i)
+        (B.Besides mode old.parsers.1 new.parsers.1 i)) (C.Besides mode old.parsers.2 new.parsers.2 i))
+        (D.Besides mode old.parsers.3 new.parsers.3 i)) (E.Besides mode old.parsers.4 new.parsers.4 i) };
 
     #[inline(always)]
     fn process<OM: OutputMode>(&mut self, input: I) -> PResult<I, Self::Output, Self::Error> {
@@ -196,7 +208,8 @@ impl<
         close(answer, input, ErrorKind::Alt)
     }
 
-    ghost lawful = { λ s k. choice_lawful A.Error.errors (next_lawful A.Error.errors (next_lawful A.Error.errors (next_lawful A.Error.errors (next_lawful A.Error.errors (A.lawful s.0 k.0.0.0.0) (B.lawful s.1 k.0.0.0.1)) (C.lawful s.2 k.0.0.1)) (D.lawful s.3 k.0.1)) (E.lawful s.4 k.1)) };
+    ghost lawful = { λ s k. choice_lawful A.Error.errors (next_lawful A.Error.errors (next_lawful A.Error.errors (next_lawful A.Error.errors
+        (next_lawful A.Error.errors (A.lawful s.0 k.0.0.0.0) (B.lawful s.1 k.0.0.0.1)) (C.lawful s.2 k.0.0.1)) (D.lawful s.3 k.0.1)) (E.lawful s.4 k.1)) };
 }
 
 impl<
@@ -212,7 +225,9 @@ impl<
 
     ghost Pins = { λ p. A.Pins p.parsers.0 × B.Pins p.parsers.1 × C.Pins p.parsers.2 × D.Pins p.parsers.3 × E.Pins p.parsers.4 };
 
-    ghost pinned = { λ p k h. either_pinned (either_pinned (either_pinned (either_pinned (A.pinned p.parsers.0 k.0.0.0.0 h.0) (B.pinned p.parsers.1 k.0.0.0.1 h.1)) (C.pinned p.parsers.2 k.0.0.1 h.2)) (D.pinned p.parsers.3 k.0.1 h.3)) (E.pinned p.parsers.4 k.1 h.4) };
+    ghost pinned = { λ p k h. either_pinned (either_pinned (either_pinned (either_pinned (A.pinned p.parsers.0 k.0.0.0.0 h.0)
+        (B.pinned p.parsers.1 k.0.0.0.1 h.1)) (C.pinned p.parsers.2 k.0.0.1 h.2)) (D.pinned p.parsers.3 k.0.1 h.3)) (E.pinned p.parsers.4 k.1 h.4) };
 
-    ghost steady = { λ s k. choice_steady A.Error.errors (next_steady A.Error.errors (next_steady A.Error.errors (next_steady A.Error.errors (next_steady A.Error.errors (A.steady s.0 k.0.0.0.0) (B.steady s.1 k.0.0.0.1)) (C.steady s.2 k.0.0.1)) (D.steady s.3 k.0.1)) (E.steady s.4 k.1)) };
+    ghost steady = { λ s k. choice_steady A.Error.errors (next_steady A.Error.errors (next_steady A.Error.errors (next_steady A.Error.errors
+        (next_steady A.Error.errors (A.steady s.0 k.0.0.0.0) (B.steady s.1 k.0.0.0.1)) (C.steady s.2 k.0.0.1)) (D.steady s.3 k.0.1)) (E.steady s.4 k.1)) };
 }

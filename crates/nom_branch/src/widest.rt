@@ -30,14 +30,29 @@ impl<
 
     ghost State = { A.State × B.State × C.State × D.State × E.State × F.State × G.State × H.State };
 
-    ghost state = { λ p. (A.state p.parsers.0, B.state p.parsers.1, C.state p.parsers.2, D.state p.parsers.3, E.state p.parsers.4, F.state p.parsers.5, G.state p.parsers.6, H.state p.parsers.7) };
+    ghost state = { λ p. (
+      A.state p.parsers.0,
+      B.state p.parsers.1,
+      C.state p.parsers.2,
+      D.state p.parsers.3,
+      E.state p.parsers.4,
+      F.state p.parsers.5,
+      G.state p.parsers.6,
+      H.state p.parsers.7,
+    ) };
 
     // The branch that is taken, and its tree.
     ghost Tree = { ((((((A.Tree ⊎ B.Tree) ⊎ C.Tree) ⊎ D.Tree) ⊎ E.Tree) ⊎ F.Tree) ⊎ G.Tree) ⊎ H.Tree };
 
-    ghost grammar = { λ s. alt_of A.Error.errors (or_of A.Error.errors (or_of A.Error.errors (or_of A.Error.errors (or_of A.Error.errors (or_of A.Error.errors (or_of A.Error.errors (or_of A.Error.errors (A.grammar s.0) (B.grammar s.1)) (C.grammar s.2)) (D.grammar s.3)) (E.grammar s.4)) (F.grammar s.5)) (G.grammar s.6)) (H.grammar s.7)) };
+    ghost grammar = { λ s. alt_of A.Error.errors (or_of A.Error.errors (or_of A.Error.errors (or_of A.Error.errors (or_of A.Error.errors
+        (or_of A.Error.errors (or_of A.Error.errors (or_of A.Error.errors (A.grammar s.0) (B.grammar s.1)) (C.grammar s.2)) (D.grammar s.3))
+        (E.grammar s.4)) (F.grammar s.5)) (G.grammar s.6)) (H.grammar s.7)) };
 
-    ghost Besides = { λ mode old new i. OrBesides (OrBesides (OrBesides (OrBesides (OrBesides (OrBesides (OrBesides (A.Besides mode old.parsers.0 new.parsers.0 i) (B.Besides mode old.parsers.1 new.parsers.1 i)) (C.Besides mode old.parsers.2 new.parsers.2 i)) (D.Besides mode old.parsers.3 new.parsers.3 i)) (E.Besides mode old.parsers.4 new.parsers.4 i)) (F.Besides mode old.parsers.5 new.parsers.5 i)) (G.Besides mode old.parsers.6 new.parsers.6 i)) (H.Besides mode old.parsers.7 new.parsers.7 i) };
+    ghost Besides = { λ mode old new i. OrBesides (OrBesides (OrBesides (OrBesides (OrBesides (OrBesides (OrBesides
+        (A.Besides mode old.parsers.0 new.parsers.0 i) (B.Besides mode old.parsers.1 new.parsers.1 i))
+        (C.Besides mode old.parsers.2 new.parsers.2 i)) (D.Besides mode old.parsers.3 new.parsers.3 i))
+        (E.Besides mode old.parsers.4 new.parsers.4 i)) (F.Besides mode old.parsers.5 new.parsers.5 i))
+        (G.Besides mode old.parsers.6 new.parsers.6 i)) (H.Besides mode old.parsers.7 new.parsers.7 i) };
 
     #[inline(always)]
     fn process<OM: OutputMode>(&mut self, input: I) -> PResult<I, Self::Output, Self::Error> {
@@ -52,7 +67,10 @@ impl<
         close(answer, input, ErrorKind::Alt)
     }
 
-    ghost lawful = { λ s k. choice_lawful A.Error.errors (next_lawful A.Error.errors (next_lawful A.Error.errors (next_lawful A.Error.errors (next_lawful A.Error.errors (next_lawful A.Error.errors (next_lawful A.Error.errors (next_lawful A.Error.errors (A.lawful s.0 k.0.0.0.0.0.0.0) (B.lawful s.1 k.0.0.0.0.0.0.1)) (C.lawful s.2 k.0.0.0.0.0.1)) (D.lawful s.3 k.0.0.0.0.1)) (E.lawful s.4 k.0.0.0.1)) (F.lawful s.5 k.0.0.1)) (G.lawful s.6 k.0.1)) (H.lawful s.7 k.1)) };
+    ghost lawful = { λ s k. choice_lawful A.Error.errors (next_lawful A.Error.errors (next_lawful A.Error.errors (next_lawful A.Error.errors
+        (next_lawful A.Error.errors (next_lawful A.Error.errors (next_lawful A.Error.errors (next_lawful A.Error.errors
+        (A.lawful s.0 k.0.0.0.0.0.0.0) (B.lawful s.1 k.0.0.0.0.0.0.1)) (C.lawful s.2 k.0.0.0.0.0.1)) (D.lawful s.3 k.0.0.0.0.1))
+        (E.lawful s.4 k.0.0.0.1)) (F.lawful s.5 k.0.0.1)) (G.lawful s.6 k.0.1)) (H.lawful s.7 k.1)) };
 }
 
 impl<
@@ -69,9 +87,16 @@ impl<
     ghost use Rattle.nom_branch.specs.laws.AlternativeLaws.{next_steady, choice_steady};
     ghost use Rattle.nom_internal.specs.Pinned.{either_pinned};
 
-    ghost Pins = { λ p. A.Pins p.parsers.0 × B.Pins p.parsers.1 × C.Pins p.parsers.2 × D.Pins p.parsers.3 × E.Pins p.parsers.4 × F.Pins p.parsers.5 × G.Pins p.parsers.6 × H.Pins p.parsers.7 };
+    ghost Pins = { λ p. A.Pins p.parsers.0 × B.Pins p.parsers.1 × C.Pins p.parsers.2 × D.Pins p.parsers.3 × E.Pins p.parsers.4 × F.Pins p.parsers.5
+        × G.Pins p.parsers.6 × H.Pins p.parsers.7 };
 
-    ghost pinned = { λ p k h. either_pinned (either_pinned (either_pinned (either_pinned (either_pinned (either_pinned (either_pinned (A.pinned p.parsers.0 k.0.0.0.0.0.0.0 h.0) (B.pinned p.parsers.1 k.0.0.0.0.0.0.1 h.1)) (C.pinned p.parsers.2 k.0.0.0.0.0.1 h.2)) (D.pinned p.parsers.3 k.0.0.0.0.1 h.3)) (E.pinned p.parsers.4 k.0.0.0.1 h.4)) (F.pinned p.parsers.5 k.0.0.1 h.5)) (G.pinned p.parsers.6 k.0.1 h.6)) (H.pinned p.parsers.7 k.1 h.7) };
+    ghost pinned = { λ p k h. either_pinned (either_pinned (either_pinned (either_pinned (either_pinned (either_pinned (either_pinned
+        (A.pinned p.parsers.0 k.0.0.0.0.0.0.0 h.0) (B.pinned p.parsers.1 k.0.0.0.0.0.0.1 h.1)) (C.pinned p.parsers.2 k.0.0.0.0.0.1 h.2))
+        (D.pinned p.parsers.3 k.0.0.0.0.1 h.3)) (E.pinned p.parsers.4 k.0.0.0.1 h.4)) (F.pinned p.parsers.5 k.0.0.1 h.5))
+        (G.pinned p.parsers.6 k.0.1 h.6)) (H.pinned p.parsers.7 k.1 h.7) };
 
-    ghost steady = { λ s k. choice_steady A.Error.errors (next_steady A.Error.errors (next_steady A.Error.errors (next_steady A.Error.errors (next_steady A.Error.errors (next_steady A.Error.errors (next_steady A.Error.errors (next_steady A.Error.errors (A.steady s.0 k.0.0.0.0.0.0.0) (B.steady s.1 k.0.0.0.0.0.0.1)) (C.steady s.2 k.0.0.0.0.0.1)) (D.steady s.3 k.0.0.0.0.1)) (E.steady s.4 k.0.0.0.1)) (F.steady s.5 k.0.0.1)) (G.steady s.6 k.0.1)) (H.steady s.7 k.1)) };
+    ghost steady = { λ s k. choice_steady A.Error.errors (next_steady A.Error.errors (next_steady A.Error.errors (next_steady A.Error.errors
+        (next_steady A.Error.errors (next_steady A.Error.errors (next_steady A.Error.errors (next_steady A.Error.errors
+        (A.steady s.0 k.0.0.0.0.0.0.0) (B.steady s.1 k.0.0.0.0.0.0.1)) (C.steady s.2 k.0.0.0.0.0.1)) (D.steady s.3 k.0.0.0.0.1))
+        (E.steady s.4 k.0.0.0.1)) (F.steady s.5 k.0.0.1)) (G.steady s.6 k.0.1)) (H.steady s.7 k.1)) };
 }
