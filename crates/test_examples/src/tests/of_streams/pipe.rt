@@ -157,24 +157,30 @@ fn a_write_that_fails(rt: HostRuntime) {
     }
 }
 
-/// Heaps without room for the lines, with room for these alone, and with enough.
+/// Heaps without room for a line, with room for lines alone, and with enough: each of these ends is met.
 #[test]
 fn memory_that_runs_out(rt: HostRuntime) -> Result<(), AllocError> {
     let want = lines(rt.alloc(), 42, "end at 42\n");
     let last = &b"out of memory\n"[..];
-    for (size, status) in [
-        (1024usize, Err(RunError::OutOfMemory)),
-        (66576, Ok(3)),
-        (131072, Ok(0)),
-    ] {
-        let heap = LocalHeap::new(rt.alloc(), size)?;
+    let mut met = [false; 3];
+    for units in 2..40usize {
+        let heap = LocalHeap::new(rt.alloc(), 16 * units)?;
         let got = told(&heap, rt.alloc(), steps(DATA, 5), eager(), 99);
-        assert!(rt; got.status == status, "with {size}");
-        match status {
-            Ok(0) => assert!(rt; got.bytes.as_slice() == want.as_slice()),
-            Ok(_) => assert!(rt; got.bytes.ends_with(last)),
-            Err(_) => assert!(rt; got.bytes.is_empty()),
+        match got.status {
+            Ok(0) => {
+                assert!(rt; got.bytes.as_slice() == want.as_slice());
+                met[2] = true;
+            }
+            Ok(status) => {
+                assert!(rt; status == 3 && got.bytes.ends_with(last));
+                met[1] = true;
+            }
+            Err(error) => {
+                assert!(rt; error == RunError::OutOfMemory && got.bytes.is_empty());
+                met[0] = true;
+            }
         }
     }
+    assert!(rt; met[0] && met[1] && met[2], "{met:?}");
     Ok(())
 }
