@@ -13,7 +13,7 @@ use Rattle.nom_stream.specs.declared.stream.Stream.{Stream}
 use Rattle.nom_stream.specs.Held.{last_of}
 use Rattle.nom_stream.specs.Items.{Bytes}
 use Rattle.nom_stream.specs.Streams.{Answers, Decides, Told, counted}
-use Rattle.nom_stream.specs.Streams.Answers.{Decided, AtEnd, Full, Unfilled}
+use Rattle.nom_stream.specs.Streams.Answers.{Decided, AtEnd, Full, Faulted, Lacking}
 use Rattle.nom_stream.specs.Wholes.{AnswersWhole, AtWhole, BytesOfWhole, HasLeft, ItemsOfWhole, TellsWhole}
 use Rattle.example_streams.specs.declared.messages.Received.{Received}
 use Rattle.nom_messages_run.specs.Pipe.{Ends, Lines, received_text, stopped}
@@ -65,7 +65,8 @@ module _ {R A V : Type 0} (left : R → Option (List ℕ)) (grammar : Grammar By
   lawful_of u t r (Decided taken d g l e) = g.parses.lawful
   lawful_of u t r (AtEnd e k g h) = g.parses.lawful
   lawful_of u t r (Full a b w e) = (w.1).parses.lawful
-  lawful_of u t r (Unfilled why l b before last d w e) = (w.1).parses.lawful
+  lawful_of u t r (Faulted why b w e) = (w.1).parses.lawful
+  lawful_of u t r (Lacking l b before last d k w few e) = w.parses.lawful
 
   -- where the last line tells that there is no further item, none is accepted
   none_accepted : (lawful : IsLawful bytes_model grammar.meaning) (t : Stream R A) (complete : Bool) (place : Bytes) → bytes_model.IsKnown place →

@@ -1,5 +1,5 @@
 -- The lines of messages that come one after another, and the last line.
-use Rattle.std.specs.Prelude.{◌≡◌, ℕ, ◌-◌, ◌⊎◌, List, [], ◌∷◌, ◌++◌, length, drop, codes, Option, Some, None, Ok, Err}
+use Rattle.std.specs.Prelude.{◌≡◌, ℕ, ◌-◌, ◌<◌, ◌⊎◌, List, [], ◌∷◌, ◌++◌, length, drop, codes, Option, Some, None, Ok, Err}
 use Rattle.std.specs.Fmt.{decimal}
 use Rattle.std.specs.Io.KnownBytes.{Appends}
 use Rattle.nom_internal.specs.Prelude.{size_of, Grammar}
@@ -77,7 +77,8 @@ module _ {R A V : Type 0} (left : R → Option (List ℕ)) (grammar : Grammar By
       pub text_is : text ≡ lines ++ ending_text why t.offset
       pub status_is : status ≡ ending_status why
 
-  -- What was written: the lines and the last line; the lines of that many messages; or a beginning of either.
+  -- What was written: the lines and the last line; the lines of that many messages; or a beginning of either, where there is at
+  -- least one line, and not all.
   module _ (s t : Stream R A) (held held' : Option (List ℕ)) where
     abbrev pub WroteAll : (status : ℕ) → Type 0
     WroteAll status = (text : List ℕ) × Ends s t text status × Appends held held' text
@@ -87,9 +88,10 @@ module _ {R A V : Type 0} (left : R → Option (List ℕ)) (grammar : Grammar By
 
     pub record WroteSome : Type 0 where
       pub text : List ℕ
-      pub is_text : ((count : ℕ) × Lists s t text count) ⊎ ((status : ℕ) × Ends s t text status)
+      pub is_text : ((count : ℕ) × (0 < count) × Lists s t text count) ⊎ ((status : ℕ) × Ends s t text status)
       pub front : List ℕ
       pub rest : List ℕ
+      pub some : 0 < length rest
       pub begins : text ≡ front ++ rest
       pub wrote : Appends held held' front
 
@@ -97,6 +99,6 @@ module _ {R A V : Type 0} (left : R → Option (List ℕ)) (grammar : Grammar By
 abbrev pub Wrote : (held held' : Option (List ℕ)) → (text left : List ℕ) → Type 0
 Wrote held held' text left = (front : List ℕ) × (text ≡ front ++ left) × Appends held held' front
 
--- A beginning of a text was written.
+-- A beginning of a text was written, and not all.
 abbrev pub WroteFront : (held held' : Option (List ℕ)) → (text : List ℕ) → Type 0
-WroteFront held held' text = (left : List ℕ) × Wrote held held' text left
+WroteFront held held' text = (left : List ℕ) × (0 < length left) × Wrote held held' text left

@@ -1,7 +1,7 @@
 //! The lines of messages that come one after another, from a reader of any length.
 ghost use Rattle.std.specs.Prelude.{◌≡◌, ◌++◌, ◌^◌, ◌-◌, [], IfOk, IfErr, string_bytes};
 ghost use Rattle.std.specs.Io.KnownBytes.{Appends};
-ghost use Rattle.nom_run.specs.Stream.{MatchRunError};
+ghost use Rattle.nom_run.specs.Stream.{MatchRunError, NoWriteFailed, WriteFailed};
 ghost use Rattle.nom_stream.specs.Streams.{IsOpen};
 ghost use Rattle.nom_messages_run.specs.Pipe.{Wrote, WroteAll, WroteFront, WroteLines, WroteSome, ending_status, ending_text, place_text, received_text};
 ghost use Rattle.example_streams.specs.Messages.{message_of};
@@ -19,10 +19,8 @@ use std::alloc::Allocator;
 use std::fmt::Write;
 use std::io::Read;
 
-// So many bytes of lines are written at once. No line is longer than the room above them.
+// So many bytes of lines are written at once.
 const FULL: usize = 65536;
-
-const ROOM: usize = 66560;
 
 // Adds the line of a message, of which these are the bytes.
 fn add_received<A: Allocator + Copy>(
@@ -94,9 +92,11 @@ fn add_ending<A: Allocator + Copy>(
 
 // Writes the text, which is empty then.
 fn flush<A: Allocator, W: Sink>(sink: &mut W, text: &mut String<A>) -> Result<(), RunError>
-    ensures wrote { IfOk result (λ _. Appends (W.held sink.old) (W.held sink.new) (string_bytes text.old)) }
+    ensures wrote { IfOk result (λ _. Appends (W.held sink.old) (W.held sink.new) (string_bytes text.old)
+        × NoWriteFailed (W.failures sink.old) (W.failures sink.new) (W.stalls sink.old) (W.stalls sink.new)) }
     ensures none { IfOk result (λ _. string_bytes text.new ≡ []) }
-    ensures error { IfErr result (λ e. MatchRunError e ⊥ (WroteFront (W.held sink.old) (W.held sink.new) (string_bytes text.old)) ⊥ ⊥) }
+    ensures error { IfErr result (λ e. MatchRunError e ⊥ (WroteFront (W.held sink.old) (W.held sink.new) (string_bytes text.old)
+        × WriteFailed (W.failures sink.old) (W.failures sink.new) (W.stalls sink.old) (W.stalls sink.new)) ⊥ ⊥) }
 {
     match write_all(sink, text.as_bytes()) {
         Ok(()) => {}
@@ -104,17 +104,6 @@ fn flush<A: Allocator, W: Sink>(sink: &mut W, text: &mut String<A>) -> Result<()
     }
     text.clear();
     Ok(())
-}
-
-// The room for lines.
-fn make_room<A: Allocator>(alloc: A) -> Result<String<A>, RunError>
-    ensures none { IfOk result (λ t. string_bytes t ≡ []) }
-    ensures error { IfErr result (λ e. e ≡ RunError.OutOfMemory) }
-{
-    match String::with_capacity(alloc, ROOM) {
-        Ok(text) => Ok(text),
-        Err(_) => Err(RunError::OutOfMemory),
-    }
 }
 
 // Adds the line of a message, of which these are the bytes. Where there are many lines they are written.
@@ -125,9 +114,12 @@ fn list<A: Allocator + Copy, W: Sink>(
     bytes: &[u8],
 ) -> Result<(), RunError>
     ensures wrote { IfOk result (λ _. Wrote (W.held sink.old) (W.held sink.new)
-        (string_bytes text.old ++ received_text message bytes.now) (string_bytes text.new)) }
+        (string_bytes text.old ++ received_text message bytes.now) (string_bytes text.new)
+        × NoWriteFailed (W.failures sink.old) (W.failures sink.new) (W.stalls sink.old) (W.stalls sink.new)) }
     ensures error { IfErr result (λ e. MatchRunError e ⊥
-        (WroteFront (W.held sink.old) (W.held sink.new) (string_bytes text.old ++ received_text message bytes.now)) (sink.new ≡ sink.old) ⊥) }
+        (WroteFront (W.held sink.old) (W.held sink.new) (string_bytes text.old ++ received_text message bytes.now)
+        × WriteFailed (W.failures sink.old) (W.failures sink.new) (W.stalls sink.old) (W.stalls sink.new))
+        (sink.new ≡ sink.old) ⊥) }
 {
     match add_received(text, message, bytes) {
         Ok(()) => {}
@@ -147,23 +139,28 @@ fn end<A: Allocator + Copy, W: Sink>(
     offset: u64,
 ) -> Result<u8, RunError>
     ensures status { IfOk result (λ status. (status ≡ ending_status why)
-        × Appends (W.held sink.old) (W.held sink.new) (string_bytes text.old ++ ending_text why offset)) }
+        × Appends (W.held sink.old) (W.held sink.new) (string_bytes text.old ++ ending_text why offset)
+        × NoWriteFailed (W.failures sink.old) (W.failures sink.new) (W.stalls sink.old) (W.stalls sink.new)) }
     ensures error { IfErr result (λ e. MatchRunError e ⊥
-        (WroteFront (W.held sink.old) (W.held sink.new) (string_bytes text.old ++ ending_text why offset)) (sink.new ≡ sink.old) ⊥) }
+        (WroteFront (W.held sink.old) (W.held sink.new) (string_bytes text.old ++ ending_text why offset)
+        × WriteFailed (W.failures sink.old) (W.failures sink.new) (W.stalls sink.old) (W.stalls sink.new))
+        (sink.new ≡ sink.old) ⊥) }
 {
     match add_ending(text, why, offset) {
         Ok(()) => {}
         Err(_) => return Err(RunError::OutOfMemory),
     }
-    flush(sink, text)?;
-    Ok(status_of(why))
+    match flush(sink, text) {
+        Ok(()) => Ok(status_of(why)),
+        Err(error) => Err(error),
+    }
 }
 
 /// Writes the lines of the messages that a stream gives, one after another, and the last line, which tells why there is
 /// no further one; answers the status.
 ///
-/// `Write` where a write failed, and `OutOfMemory` where the text couldn't grow: of the lines a beginning was written.
-/// `Read` after 2^64 - 1 messages.
+/// `Write` where a write failed, and `OutOfMemory` where there was no room for a line: of the lines up to that one a
+/// beginning was written, and not all. A failed write isn't tried again. `Read` after 2^64 - 1 messages.
 pub fn tell_items<R: Read, A: Allocator + Copy, G: Grammar<Item = Received>, W: Sink>(
     alloc: A,
     stream: &mut Stream<R, A>,
@@ -175,19 +172,20 @@ pub fn tell_items<R: Read, A: Allocator + Copy, G: Grammar<Item = Received>, W: 
     ensures kept { G.state grammar.new ≡ G.state grammar.old }
     ensures open { IsOpen R.remaining stream.new }
     ensures status { IfOk result (λ status. WroteAll R.remaining (G.grammar (G.state grammar.old))
-        stream.old stream.new (W.held sink.old) (W.held sink.new) status) }
+        stream.old stream.new (W.held sink.old) (W.held sink.new) status
+        × NoWriteFailed (W.failures sink.old) (W.failures sink.new) (W.stalls sink.old) (W.stalls sink.new)) }
     ensures error { IfErr result (λ e. MatchRunError e
         (WroteLines R.remaining (G.grammar (G.state grammar.old))
-        stream.old stream.new (W.held sink.old) (W.held sink.new) (2 ^ 64 - 1))
+        stream.old stream.new (W.held sink.old) (W.held sink.new) (2 ^ 64 - 1)
+        × NoWriteFailed (W.failures sink.old) (W.failures sink.new) (W.stalls sink.old) (W.stalls sink.new))
         (WroteSome R.remaining (G.grammar (G.state grammar.old))
-        stream.old stream.new (W.held sink.old) (W.held sink.new))
+        stream.old stream.new (W.held sink.old) (W.held sink.new)
+        × WriteFailed (W.failures sink.old) (W.failures sink.new) (W.stalls sink.old) (W.stalls sink.new))
         (WroteSome R.remaining (G.grammar (G.state grammar.old))
-        stream.old stream.new (W.held sink.old) (W.held sink.new)) ⊥) }
+        stream.old stream.new (W.held sink.old) (W.held sink.new)
+        × NoWriteFailed (W.failures sink.old) (W.failures sink.new) (W.stalls sink.old) (W.stalls sink.new)) ⊥) }
 {
-    let mut text = match make_room(alloc) {
-        Ok(text) => text,
-        Err(error) => return Err(error),
-    };
+    let mut text = String::new(alloc);
     for _turn in 0..u64::MAX {
         match stream.next_item(grammar) {
             Ok(Some((used, message))) => {
@@ -215,11 +213,15 @@ pub fn tell_messages<R: Read, A: Allocator + Copy, W: Sink>(
     requires { IsOpen R.remaining stream.old }
     ensures open { IsOpen R.remaining stream.new }
     ensures status { IfOk result (λ status. WroteAll R.remaining message_of
-        stream.old stream.new (W.held sink.old) (W.held sink.new) status) }
+        stream.old stream.new (W.held sink.old) (W.held sink.new) status
+        × NoWriteFailed (W.failures sink.old) (W.failures sink.new) (W.stalls sink.old) (W.stalls sink.new)) }
     ensures error { IfErr result (λ e. MatchRunError e
-        (WroteLines R.remaining message_of stream.old stream.new (W.held sink.old) (W.held sink.new) (2 ^ 64 - 1))
-        (WroteSome R.remaining message_of stream.old stream.new (W.held sink.old) (W.held sink.new))
-        (WroteSome R.remaining message_of stream.old stream.new (W.held sink.old) (W.held sink.new)) ⊥) }
+        (WroteLines R.remaining message_of stream.old stream.new (W.held sink.old) (W.held sink.new) (2 ^ 64 - 1)
+        × NoWriteFailed (W.failures sink.old) (W.failures sink.new) (W.stalls sink.old) (W.stalls sink.new))
+        (WroteSome R.remaining message_of stream.old stream.new (W.held sink.old) (W.held sink.new)
+        × WriteFailed (W.failures sink.old) (W.failures sink.new) (W.stalls sink.old) (W.stalls sink.new))
+        (WroteSome R.remaining message_of stream.old stream.new (W.held sink.old) (W.held sink.new)
+        × NoWriteFailed (W.failures sink.old) (W.failures sink.new) (W.stalls sink.old) (W.stalls sink.new)) ⊥) }
 {
     tell_items(alloc, stream, &mut Messages, sink)
 }

@@ -1,10 +1,13 @@
 //! The report on a file of messages.
-ghost use Rattle.std.specs.Prelude.{◌≡◌, ◌++◌, IfOk, string_bytes};
+ghost use Rattle.std.specs.Prelude.{◌≡◌, ◌++◌, IfOk, length, string_bytes};
+ghost use Rattle.nom_run.specs.Stream.{NoneAbove};
 ghost use Rattle.nom_messages_run.specs.Report.{IsReport, message_text, ping_text};
 
 use example_protocol::{Message, messages};
 use nom::{Items, OutOfMemory};
-use nom_run::report::{Lines, Report, beginning_len, tell};
+use nom_run::error::RunError;
+use nom_run::report::{Lines, Report, beginning_len, tell, write_built};
+use nom_run::stream::Sink;
 use nom_run::text::{add_bytes, add_words};
 use std::alloc::Allocator;
 use std::fmt::Write;
@@ -38,18 +41,31 @@ impl<'a> Lines<Message<'a>> for Messages {
     }
 }
 
+// The text of the report, and its status.
+fn text_of<A: Allocator + Copy>(
+    alloc: A,
+    bytes: &[u8],
+    cuts: &[usize],
+) -> Result<(String<A>, u8), OutOfMemory>
+    requires { NoneAbove cuts.now (length bytes.now) }
+    ensures { IfOk result (λ r. IsReport bytes.now cuts.now (string_bytes r.0) r.1) }
+{
+    bytes.prove_known();
+    let grown = messages(alloc, bytes, cuts);
+    let beginning = beginning_len(bytes.len(), cuts, grown.index);
+    tell(alloc, &Messages, grown.index, beginning, grown.result)
+}
+
 impl Report for Messages {
     ghost is_report = { IsReport };
 
-    fn report<A: Allocator + Copy>(
+    fn write<A: Allocator + Copy, W: Sink>(
         &self,
         alloc: A,
         bytes: &[u8],
         cuts: &[usize],
-    ) -> Result<(String<A>, u8), OutOfMemory> {
-        bytes.prove_known();
-        let grown = messages(alloc, bytes, cuts);
-        let beginning = beginning_len(bytes.len(), cuts, grown.index);
-        tell(alloc, self, grown.index, beginning, grown.result)
+        sink: &mut W,
+    ) -> Result<u8, RunError> {
+        write_built(text_of(alloc, bytes, cuts), sink)
     }
 }

@@ -1,7 +1,7 @@
 use Rattle.nom_growing.specs.ByteCuts.{byte_cuts_below}
 use Rattle.nom_run.proofs.Reported.{on_ok}
 use Rattle.nom_messages_run.proofs.Reported.{reported_messages}
-use Rattle.nom_messages_run.proofs.report.MessagesReport.report.Goals as goal
+use Rattle.nom_messages_run.proofs.report.text_of.Goals as goal
 
 pub messages-grown-requires : goal.messages-grown-requires
 messages-grown-requires g c = byte_cuts_below c.args.bytes c.args.cuts.now c.requires
