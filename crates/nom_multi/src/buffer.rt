@@ -42,7 +42,8 @@ impl<'a, I: Items, T: Drop, F: Parser<I, Output = T> + Drop> Parser<I> for Fill<
     fn process<OM: OutputMode>(&mut self, input: I) -> PResult<I, (), F::Error>
         requires sound { (F.grammar (F.state self.old.parser)).meaning.IsSound }
         ensures shown { ShowsMeaning I.model IsDone
-            (fill_meaning I.model F.Error.errors (length self.old.buffer.now) (F.grammar (F.state self.old.parser)).meaning) (modes OM.Output.BUILDS OM.Error.BUILDS OM.Incomplete.STREAMING) input result }
+            (fill_meaning I.model F.Error.errors (length self.old.buffer.now) (F.grammar (F.state self.old.parser)).meaning)
+            (modes OM.Output.BUILDS OM.Error.BUILDS OM.Incomplete.STREAMING) input result }
         ensures kept { ◌≡◌ {A = F.State × ℕ} (F.state self.new.parser, length self.new.buffer.now) (F.state self.old.parser, length self.old.buffer.now) }
         // Where memory ran out in an item, that is the answer.
         ensures filled { IsFilled I.model (F.grammar (F.state self.old.parser)).IsOutput (F.grammar (F.state self.old.parser)).meaning

@@ -134,7 +134,8 @@ fn put_entry<A: Allocator, W: Sink>(
     ensures room { HasRoom room.new }
     ensures wrote { IfOk result (λ _. WroteBut (W.held sink.old) (W.held sink.new) (room.old.items ++ entry_text section.now name.now value.now) room.new.items
         × NoWriteFailed (W.failures sink.old) (W.failures sink.new) (W.stalls sink.old) (W.stalls sink.new)) }
-    ensures error { IfErr result (λ e. MatchRunError e ⊥ (BeganText (W.held sink.old) (W.held sink.new) (room.old.items ++ entry_text section.now name.now value.now)
+    ensures error { IfErr result (λ e. MatchRunError e ⊥ (BeganText (W.held sink.old) (W.held sink.new)
+        (room.old.items ++ entry_text section.now name.now value.now)
         × WriteFailed (W.failures sink.old) (W.failures sink.new) (W.stalls sink.old) (W.stalls sink.new)) ⊥ ⊥) }
 {
     match put_names(sink, room, section, name) {
@@ -156,9 +157,11 @@ fn put_line<A: Allocator, W: Sink>(
 ) -> Result<(), RunError>
     requires { HasRoom room.old }
     ensures room { HasRoom room.new }
-    ensures wrote { IfOk result (λ _. WroteBut (W.held sink.old) (W.held sink.new) (room.old.items ++ line_text line column section.now name.now value.now) room.new.items
+    ensures wrote { IfOk result (λ _. WroteBut (W.held sink.old) (W.held sink.new) (room.old.items ++ line_text line column section.now name.now
+        value.now) room.new.items
         × NoWriteFailed (W.failures sink.old) (W.failures sink.new) (W.stalls sink.old) (W.stalls sink.new)) }
-    ensures error { IfErr result (λ e. MatchRunError e ⊥ (BeganText (W.held sink.old) (W.held sink.new) (room.old.items ++ line_text line column section.now name.now value.now)
+    ensures error { IfErr result (λ e. MatchRunError e ⊥ (BeganText (W.held sink.old) (W.held sink.new)
+        (room.old.items ++ line_text line column section.now name.now value.now)
         × WriteFailed (W.failures sink.old) (W.failures sink.new) (W.stalls sink.old) (W.stalls sink.new)) ⊥ ⊥) }
 {
     match put_place(sink, room, line, column) {
@@ -179,7 +182,8 @@ fn put_setting<'a, A: Allocator, W: Sink>(
     ensures room { HasRoom room.new }
     ensures wrote { IfOk result (λ _. WroteBut (W.held sink.old) (W.held sink.new) (room.old.items ++ setting_text section.entry setting.entry) room.new.items
         × NoWriteFailed (W.failures sink.old) (W.failures sink.new) (W.stalls sink.old) (W.stalls sink.new)) }
-    ensures error { IfErr result (λ e. MatchRunError e ⊥ (BeganText (W.held sink.old) (W.held sink.new) (room.old.items ++ setting_text section.entry setting.entry)
+    ensures error { IfErr result (λ e. MatchRunError e ⊥ (BeganText (W.held sink.old) (W.held sink.new)
+        (room.old.items ++ setting_text section.entry setting.entry)
         × WriteFailed (W.failures sink.old) (W.failures sink.new) (W.stalls sink.old) (W.stalls sink.new)) ⊥ ⊥) }
 {
     let (name, value) = setting;

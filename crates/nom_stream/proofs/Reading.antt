@@ -59,7 +59,8 @@ module _ {R A : Type 0} (left : R → Option (List ℕ)) where
   pub gives_more : (s u w t : Stream R A) (xs ys : List ℕ) → Gives left s u xs → w.source ≡ u.source → held_of w.held ≡ held_of u.held →
       Gives left w t ys → Gives left s t (xs ++ ys)
   gives_more s u w t xs ys f e h g = record {
-    consumed = consumes_more (left s.source.inner) (left u.source.inner) (left t.source.inner) xs ys f.consumed (subst (λ z. Consumes (left z.inner) (left t.source.inner) ys) e g.consumed);
+    consumed = consumes_more (left s.source.inner) (left u.source.inner) (left t.source.inner) xs ys f.consumed
+        (subst (λ z. Consumes (left z.inner) (left t.source.inner) ys) e g.consumed);
     added = g.added ∙ ap (λ z. z ++ ys) (h ∙ f.added) ∙ append_assoc (held_of s.held) xs ys;
   }
 

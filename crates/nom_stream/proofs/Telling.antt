@@ -1,5 +1,6 @@
 -- What is told of what is held.
-use Rattle.std.proofs.Common.{arith, ◌≡◌, ℕ, ◌+◌, ◌<◌, ◌≤◌, ◌⊎◌, true, false, List, [], ◌++◌, length, Option, None, Some, Result, Err, refl, sym, ◌∙◌, ap, subst}
+use Rattle.std.proofs.Common.{arith, ◌≡◌, ℕ, ◌+◌, ◌<◌, ◌≤◌, ◌⊎◌, true, false, List, [], ◌++◌, length, Option}
+use Rattle.std.proofs.Common.{None, Some, Result, Err, refl, sym, ◌∙◌, ap, subst}
 use Rattle.std.proofs.Common.{append-nil, length-append, inl, inr}
 use Rattle.std_io.specs.declared.io.error.Error as Io
 use Rattle.nom_internal.specs.Prelude.{Needed, Grammar}

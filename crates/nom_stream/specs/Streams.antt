@@ -93,7 +93,8 @@ IsUntold t = (e : Io.Error) × (t.untold ≡ Some e)
 module _ {R A : Type 0} (s t : Stream R A) where
   -- None is told. No read failed; or one did after others had given bytes, and its error is yet to be told.
   abbrev pub TellsNoFault : Type 0
-  TellsNoFault = (NoFault s.source t.source × (t.untold ≡ s.untold)) ⊎ ((s.untold ≡ None) × ((e : Io.Error) × OneFault s.source t.source e × (t.untold ≡ Some e)))
+  TellsNoFault = (NoFault s.source t.source × (t.untold ≡ s.untold)) ⊎ ((s.untold ≡ None) ×
+      ((e : Io.Error) × OneFault s.source t.source e × (t.untold ≡ Some e)))
 
   -- One is told: of a read that failed just now, or of one before.
   abbrev pub TellsFault : Io.Error → Type 0

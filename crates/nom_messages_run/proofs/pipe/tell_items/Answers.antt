@@ -93,4 +93,5 @@ returns-in-Ok-flush-clause-error g c =
 pub returns-clause-error : goal.returns-clause-error
 returns-clause-error g c =
     on_failed_write g.W.Sink.held g.W.Sink.failures g.W.Sink.stalls c.args.sink.now c.loop-turn.sink c.flush.new.sink c.loop-turn.invariant.writes _ _ _
-    (λ w. some_written _ _ _ _ _ _ _ _ c.loop-turn.invariant.going (omega (arith, c.loop-turn-test.false)) _ w) c.in-Err-flush.error c.in-Err-flush.ensures.error
+    (λ w. some_written _ _ _ _ _ _ _ _ c.loop-turn.invariant.going (omega (arith, c.loop-turn-test.false)) _ w) c.in-Err-flush.error
+    c.in-Err-flush.ensures.error

@@ -4,12 +4,15 @@ use Rattle.nom_run.proofs.Piecewise.{begun_both, begun_first, done_both}
 use Rattle.nom_settings_run.proofs.report.put_names.Goals as goal
 
 pub returns-in-Err-clause-error : goal.returns-in-Err-clause-error
-returns-in-Err-clause-error g c = begun_first g.W.Sink.held g.W.Sink.failures g.W.Sink.stalls c.args.sink.now c.put_pair.new.sink c.put_pair.new.sink c.args.room.now.items (c.args.section.now ++ codes "] ") (c.args.name.now ++ codes "=") [] c.in-Err.error c.in-Err.ensures.error
+returns-in-Err-clause-error g c = begun_first g.W.Sink.held g.W.Sink.failures g.W.Sink.stalls c.args.sink.now c.put_pair.new.sink c.put_pair.new.sink
+    c.args.room.now.items (c.args.section.now ++ codes "] ") (c.args.name.now ++ codes "=") [] c.in-Err.error c.in-Err.ensures.error
 
 pub returns-clause-wrote : goal.returns-clause-wrote
-returns-clause-wrote g c = done_both g.W.Sink.held g.W.Sink.failures g.W.Sink.stalls c.args.sink.now c.put_pair.new.sink c.put_pair-2.new.sink c.args.room.now.items (c.args.section.now ++ codes "] ") (c.args.name.now ++ codes "=") c.put_pair.new.room.items c.in-Ok.ensures.wrote
+returns-clause-wrote g c = done_both g.W.Sink.held g.W.Sink.failures g.W.Sink.stalls c.args.sink.now c.put_pair.new.sink c.put_pair-2.new.sink
+    c.args.room.now.items (c.args.section.now ++ codes "] ") (c.args.name.now ++ codes "=") c.put_pair.new.room.items c.in-Ok.ensures.wrote
     c.put_pair-2.result c.put_pair-2.new.room.items c.put_pair-2.ensures.wrote
 
 pub returns-clause-error : goal.returns-clause-error
-returns-clause-error g c = begun_both g.W.Sink.held g.W.Sink.failures g.W.Sink.stalls c.args.sink.now c.put_pair.new.sink c.put_pair-2.new.sink c.args.room.now.items (c.args.section.now ++ codes "] ") (c.args.name.now ++ codes "=") c.put_pair.new.room.items c.in-Ok.ensures.wrote
+returns-clause-error g c = begun_both g.W.Sink.held g.W.Sink.failures g.W.Sink.stalls c.args.sink.now c.put_pair.new.sink c.put_pair-2.new.sink
+    c.args.room.now.items (c.args.section.now ++ codes "] ") (c.args.name.now ++ codes "=") c.put_pair.new.room.items c.in-Ok.ensures.wrote
     c.put_pair-2.result c.put_pair-2.ensures.error

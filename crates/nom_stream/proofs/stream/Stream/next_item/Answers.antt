@@ -23,7 +23,8 @@ returns-then-self-clause-decides g c =
     let held = c.take-taken.new.held in
     let w = waits_there (g.G.Grammar.grammar state) u.held held c.take-taken.result c.in-Some.needed
     c.in-Some.ensures c.take-taken.ensures.stays c.take-taken.ensures.takes in
-    let reads = as_after (λ z. Reads g.R.Read.remaining (g.G.Grammar.grammar (g.G.Grammar.state c.args.grammar.now)) c.args.self.now z (IsUntold z)) u held w.0 i.reads in
+    let reads = as_after (λ z. Reads g.R.Read.remaining (g.G.Grammar.grammar (g.G.Grammar.state c.args.grammar.now)) c.args.self.now z (IsUntold z)) u
+    held w.0 i.reads in
     let opened = as_after (IsOpen g.R.Read.remaining) u held w.0 i.opened in
     let waits = subst (λ z. Takes (g.G.Grammar.grammar z) true (held_of held) (held_of held) (Undecided c.in-Some.needed)) i.kept w.1 in
     decides_end g.R.Read.remaining g.G.Grammar.grammar _ _ (c.take-taken.ensures.kept ∙ i.kept) _ _ reads opened i.settings i.offset i.faults i.no_read
@@ -38,7 +39,8 @@ returns-then-self-held-clause-decides g c =
     let held = c.take-taken.new.held in
     let w = waits_there (g.G.Grammar.grammar state) u.held held c.take-taken.result c.in-Some.needed
     c.in-Some.ensures c.take-taken.ensures.stays c.take-taken.ensures.takes in
-    let reads = as_after (λ z. Reads g.R.Read.remaining (g.G.Grammar.grammar (g.G.Grammar.state c.args.grammar.now)) c.args.self.now z (IsUntold z)) u held w.0 i.reads in
+    let reads = as_after (λ z. Reads g.R.Read.remaining (g.G.Grammar.grammar (g.G.Grammar.state c.args.grammar.now)) c.args.self.now z (IsUntold z)) u
+    held w.0 i.reads in
     let opened = as_after (IsOpen g.R.Read.remaining) u held w.0 i.opened in
     let waits = subst (λ z. Takes (g.G.Grammar.grammar z) true (held_of held) (held_of held) (Undecided c.in-Some.needed)) i.kept w.1 in
     decides_full g.R.Read.remaining g.G.Grammar.grammar _ _ (c.take-taken.ensures.kept ∙ i.kept) _ _ reads opened i.settings i.offset i.faults i.no_read
@@ -52,7 +54,8 @@ returns-in-Err-clause-decides g c =
     let held = c.take-taken.new.held in
     let w = waits_there (g.G.Grammar.grammar state) u.held held c.take-taken.result c.in-Some.needed
     c.in-Some.ensures c.take-taken.ensures.stays c.take-taken.ensures.takes in
-    let reads = as_after (λ z. Reads g.R.Read.remaining (g.G.Grammar.grammar (g.G.Grammar.state c.args.grammar.now)) c.args.self.now z (IsUntold z)) u held w.0 i.reads in
+    let reads = as_after (λ z. Reads g.R.Read.remaining (g.G.Grammar.grammar (g.G.Grammar.state c.args.grammar.now)) c.args.self.now z (IsUntold z)) u
+    held w.0 i.reads in
     let opened = as_after (IsOpen g.R.Read.remaining) u held w.0 i.opened in
     let waits = subst (λ z. Takes (g.G.Grammar.grammar z) true (held_of held) (held_of held) (Undecided c.in-Some.needed)) i.kept w.1 in
     subst (λ z. Decides g.R.Read.remaining (g.G.Grammar.grammar (g.G.Grammar.state c.args.grammar.now)) c.args.self.now c.fill.new.self z)
@@ -71,7 +74,8 @@ parses-preserved g c =
     let held = c.take-taken.new.held in
     let w = waits_there (g.G.Grammar.grammar state) u.held held c.take-taken.result c.in-Some.needed
     c.in-Some.ensures c.take-taken.ensures.stays c.take-taken.ensures.takes in
-    let reads = as_after (λ z. Reads g.R.Read.remaining (g.G.Grammar.grammar (g.G.Grammar.state c.args.grammar.now)) c.args.self.now z (IsUntold z)) u held w.0 i.reads in
+    let reads = as_after (λ z. Reads g.R.Read.remaining (g.G.Grammar.grammar (g.G.Grammar.state c.args.grammar.now)) c.args.self.now z (IsUntold z)) u
+    held w.0 i.reads in
     let opened = as_after (IsOpen g.R.Read.remaining) u held w.0 i.opened in
     let waits = subst (λ z. Takes (g.G.Grammar.grammar z) true (held_of held) (held_of held) (Undecided c.in-Some.needed)) i.kept w.1 in
     record {
