@@ -157,7 +157,7 @@ pub fn capped(most: u8, input: &[u8]) -> IResult<&[u8], u8> {
 }
 
 /// A pair as a type of a user's own.
-pub fn color(input: &[u8]) -> IResult<&[u8], Color> {
+pub fn read_color(input: &[u8]) -> IResult<&[u8], Color> {
     mapped_pair(
         be_u8::<_, At>(),
         be_u8(),
@@ -167,7 +167,7 @@ pub fn color(input: &[u8]) -> IResult<&[u8], Color> {
 }
 
 /// What holds a slice of the input.
-pub fn piece(input: &[u8]) -> IResult<&[u8], Piece<'_>> {
+pub fn read_piece(input: &[u8]) -> IResult<&[u8], Piece<'_>> {
     mapped(
         take::<_, _, At>(2usize),
         |s: &[u8]| Piece {

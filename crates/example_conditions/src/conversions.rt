@@ -84,7 +84,7 @@ pub fn less_four(input: &[u8]) -> IResult<&[u8], Wide, Why> {
     pinned(into::<_, Wide, Why>(less), input)
 }
 
-/// The same by the method, with an error that stays.
-pub fn wide(input: &[u8]) -> IResult<&[u8], Wide> {
+/// A number by the method, with an error that stays.
+pub fn widened(input: &[u8]) -> IResult<&[u8], Wide> {
     Parser::into::<Wide, At>(be_u8::<_, At>()).parse(input)
 }
