@@ -10,7 +10,6 @@ mod map;
 pub use crate::fold::FoldMany0Alloc;
 pub use crate::map::MapAlloc;
 use nom_error::answer::OutOfMemory;
-use nom_error::value::ParseError;
 use nom_internal::parser::Parser;
 use nom_traits::input::{Input, Items};
 
@@ -19,13 +18,10 @@ use nom_traits::input::{Input, Items};
 ///
 /// The closure takes its allocator by capture. It is called only where outputs are built.
 #[inline(always)]
-pub fn map_alloc<
-    I: Items,
-    O: Drop,
-    E: ParseError<I>,
-    F: Parser<I, Error = E>,
-    G: Fn(F::Output) -> Result<O, OutOfMemory>,
->(parser: F, map: G) -> MapAlloc<F, G>
+pub fn map_alloc<I: Items, O: Drop, F: Parser<I>, G: Fn(F::Output) -> Result<O, OutOfMemory>>(
+    parser: F,
+    map: G,
+) -> MapAlloc<F, G>
     ensures parser { result.parser ≡ parser }
     ensures map { result.map ≡ map }
 {
@@ -40,8 +36,7 @@ pub fn map_alloc<
 pub fn fold_many0_alloc<
     I: Input,
     R: Drop,
-    E: ParseError<I>,
-    F: Parser<I, Error = E>,
+    F: Parser<I>,
     H: Fn() -> R,
     G: Fn(R, F::Output) -> Result<R, OutOfMemory>,
 >(parser: F, init: H, fold: G) -> FoldMany0Alloc<F, H, G>

@@ -144,10 +144,7 @@ pub fn flat_map<I: Items, F: Parser<I>, H: Parser<I, Error = F::Error>, G: Fn(F:
 
 /// A parser with what a closure gives for its output. The closure is called only where outputs are built.
 #[inline(always)]
-pub fn map<I: Items, O: Drop, E: ParseError<I>, F: Parser<I, Error = E>, G: Fn(F::Output) -> O>(
-    parser: F,
-    map: G,
-) -> Map<F, G>
+pub fn map<I: Items, O: Drop, F: Parser<I>, G: Fn(F::Output) -> O>(parser: F, map: G) -> Map<F, G>
     ensures parser { result.parser ≡ parser }
     ensures map { result.map ≡ map }
 {
@@ -157,13 +154,10 @@ pub fn map<I: Items, O: Drop, E: ParseError<I>, F: Parser<I, Error = E>, G: Fn(F
 /// A parser with what a closure gives for its output. Where that is `None`, the input is refused at its
 /// start, with `MapOpt`.
 #[inline(always)]
-pub fn map_opt<
-    I: Items,
-    O: Drop,
-    E: ParseError<I>,
-    F: Parser<I, Error = E>,
-    G: Fn(F::Output) -> Option<O>,
->(parser: F, map: G) -> MapOpt<F, G>
+pub fn map_opt<I: Items, O: Drop, F: Parser<I>, G: Fn(F::Output) -> Option<O>>(
+    parser: F,
+    map: G,
+) -> MapOpt<F, G>
     ensures parser { result.parser ≡ parser }
     ensures map { result.map ≡ map }
 {
@@ -173,14 +167,12 @@ pub fn map_opt<
 /// A parser with what a closure gives for its output. Where that is an error, the input is refused at its
 /// start, with the error that `from_external_error` makes of it with `MapRes`.
 #[inline(always)]
-pub fn map_res<
-    I: Items,
-    O: Drop,
-    E: ParseError<I> + FromExternalError<I, X>,
-    X: Drop,
-    F: Parser<I, Error = E>,
-    G: Fn(F::Output) -> Result<O, X>,
->(parser: F, map: G) -> MapRes<F, G>
+pub fn map_res<I: Items, O: Drop, X: Drop, F: Parser<I>, G: Fn(F::Output) -> Result<O, X>>(
+    parser: F,
+    map: G,
+) -> MapRes<F, G>
+where
+    F::Error: FromExternalError<I, X>,
     ensures parser { result.parser ≡ parser }
     ensures map { result.map ≡ map }
 {
@@ -190,10 +182,7 @@ pub fn map_res<
 /// A parser whose outputs pass a test. Where one doesn't, the input is refused at its start, with
 /// `Verify`.
 #[inline(always)]
-pub fn verify<I: Items, E: ParseError<I>, F: Parser<I, Error = E>, G: Fn(&F::Output) -> bool>(
-    parser: F,
-    test: G,
-) -> Verify<F, G>
+pub fn verify<I: Items, F: Parser<I>, G: Fn(&F::Output) -> bool>(parser: F, test: G) -> Verify<F, G>
     ensures parser { result.parser ≡ parser }
     ensures test { result.test ≡ test }
 {
