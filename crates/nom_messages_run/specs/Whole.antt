@@ -2,7 +2,7 @@
 use Rattle.std.specs.Prelude.{◌≡◌, ℕ, ◌+◌, ◌-◌, ◌^◌, ◌<◌, ◌≤◌, min, Bool, false, List, [], ◌∷◌, ◌++◌, length, take, Option, Some, None}
 use Rattle.std.specs.Io.KnownBytes.{Appends}
 use Rattle.nom_error.specs.declared.value.Error.{Error}
-use Rattle.nom_internal.specs.Prelude.{bytes_model, IsSuffixOf, Outcome, Accept, Stop, Grammar}
+use Rattle.nom_internal.specs.Prelude.{bytes_model, IsSuffixOf, Outcome, Accept, Grammar}
 use Rattle.nom_iterator.specs.Iterated.{AreItems}
 use Rattle.nom_stream.specs.declared.stream.Stop as Why
 use Rattle.nom_stream.specs.declared.stream.Stop.TheVariants as Stop

@@ -1,5 +1,5 @@
 -- The faults of a reader.
-use Rattle.std.specs.Prelude.{◌≡◌, ℕ, ◌+◌, ◌-◌, ◌^◌, min, Option, Some, Result, MatchResult}
+use Rattle.std.specs.Prelude.{◌≡◌, ℕ, ◌+◌, ◌-◌, ◌^◌, min, Some, Result, MatchResult}
 use Rattle.std.specs.IoError.{error_kind}
 use Rattle.std_io.specs.declared.io.error.Error.{Error}
 use Rattle.std_io.specs.declared.io.kind.ErrorKind.TheVariants.{Interrupted}

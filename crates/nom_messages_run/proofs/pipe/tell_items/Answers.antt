@@ -1,4 +1,4 @@
-use Rattle.std.proofs.Common.{arith, ◌≡◌, ◌++◌, Some, None, Ok, Err, refl, ◌∙◌, subst, string_bytes}
+use Rattle.std.proofs.Common.{arith, ◌≡◌, ◌++◌, Some, None, Ok, Err, ◌∙◌, subst, string_bytes}
 use Rattle.nom_stream.specs.Streams.{Decides}
 use Rattle.nom_messages_run.specs.Pipe.{Wrote, WroteFront, WroteLines, received_text}
 use Rattle.nom_messages_run.proofs.Piped.{all_written, end_begun, ended, ending_some, goes_on, line_begun, none_then, received_some, some_written}

@@ -1,4 +1,4 @@
-use Rattle.std.proofs.Common.{arith, true, Err, refl, sym, ◌∙◌, ap, subst}
+use Rattle.std.proofs.Common.{arith, true, refl, sym, ◌∙◌, ap, subst}
 use Rattle.nom_stream.proofs.Telling.{as_after, decides_item, decides_end, decides_full, decides_unread, none_at_end, none_told, reads_further, waits_there}
 use Rattle.nom_stream.specs.Held.{held_of}
 use Rattle.nom_stream.specs.Items.{Takes}
