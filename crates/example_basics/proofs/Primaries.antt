@@ -24,13 +24,13 @@ text_errors = record {
   grows = ⊥;
 }
 
-module _ {X : Type 0} (Test : ℕ → Bool → Type 0) (IsSound : Type 0) (Takes : Text → Type 0) (Gives : Text → Result ℕ X → Type 0)
+module _ {X : Type 0} (Test : ℕ → Bool → Type 0) (Takes : Text → Type 0) (Gives : Text → Result ℕ X → Type 0)
     (Makes : Text → X → Error Text → Type 0) where
   abbrev run_leaf : Leaf Text (Slice text_model)
   run_leaf = runs text_model Test (Some 2) 2
 
   abbrev run_meaning : (m n : ℕ) → Meaning Text (Slice text_model) (Error Text)
-  run_meaning m n = fixed_meaning false (bounded_meaning text_model Test IsSound text_errors m n)
+  run_meaning m n = fixed_meaning false (bounded_meaning text_model Test text_errors m n)
 
   abbrev mapped_meaning : (m n : ℕ) → Meaning Text (Slice text_model) (Error Text)
   mapped_meaning m n = judged_meaning (IsModelledBy text_model) Takes Gives is_ok (λ i. OfError (Makes i)) ⊥ (run_meaning m n)

@@ -37,7 +37,7 @@ abbrev pub MissesBracket : Bytes → Error Bytes → Type 0
 MissesBracket i e = IsSuffixOf bytes_model i (opened i.now + closed i.now) e.input × (e.code ≡ Char)
 
 abbrev pub brackets_meaning : Meaning Bytes ℕ (Error Bytes)
-brackets_meaning = leaf_meaning (Unit {0}) MissesBracket ⊥ (plain_leaf IsNested IsOpen)
+brackets_meaning = leaf_meaning MissesBracket ⊥ (plain_leaf IsNested IsOpen)
 
 run_within : (byte : ℕ) (xs : List ℕ) → run_of byte xs ≤ length xs
 run_within byte [] = omega arith

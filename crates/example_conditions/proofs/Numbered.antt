@@ -12,7 +12,7 @@ use Rattle.example_conditions.specs.Listed.{IsNumber, kept, letters, numbered}
 
 letters_lawful : IsLawful text_model letters
 letters_lawful = first_item_lawful text_model IsScalar text_values (λ x. x) (λ x b. b ≡ (x == 97)) (test_is_fixed IsScalar (λ x. x == 97)) (Some (len_utf8 97))
-    (Unit {0}) kept (OfChar 97)
+    kept (OfChar 97)
 
 pub numbered_lawful : (M : Type 0) → IsLawful text_model (numbered M)
 numbered_lawful M = map_lawful (many0_lawful text_lawful kept letters_lawful)

@@ -40,7 +40,7 @@ pub fn pinned<I: Input, O: Viewed + Drop, P: StreamParser<I, Output = O, Error =
     mut parser: P,
     input: I,
 ) -> IResult<I, O>
-    requires sound { (P.grammar (P.state parser)).meaning.IsSound }
+    requires runs { (P.grammar (P.state parser)).meaning.Runs }
     requires pins { P.Pins parser }
 {
     parser.parse(input)
@@ -54,7 +54,7 @@ where
     O: Viewed + Drop,
     P: StreamParser<I, Output = A, Error = Error<I>> + Drop,
     G: Fn(A) -> O + Drop,
-    requires part { (P.grammar (P.state part)).meaning.IsSound }
+    requires part { (P.grammar (P.state part)).meaning.Runs }
     requires pins { P.Pins part }
     requires takes { IsCallable (P.grammar (P.state part)).IsOutput (G.pre by) }
     requires alike { SeesAlike A.view O.view (G.post by) }
@@ -70,8 +70,8 @@ where
     O: Viewed + Drop,
     P: StreamParser<I, Output = A, Error = Error<I>> + Drop,
     G: Fn((A, A)) -> O + Drop,
-    requires first { (P.grammar (P.state first)).meaning.IsSound }
-    requires second { (P.grammar (P.state second)).meaning.IsSound }
+    requires first { (P.grammar (P.state first)).meaning.Runs }
+    requires second { (P.grammar (P.state second)).meaning.Runs }
     requires pins { P.Pins first }
     requires second_pins { P.Pins second }
     requires takes { (o : A × A) → G.pre by o }
@@ -90,7 +90,7 @@ where
     P: StreamParser<I, Output = A, Error = Error<I>> + Drop,
     F: Fn(A) -> B + Drop,
     G: Fn(B) -> O + Drop,
-    requires part { (P.grammar (P.state part)).meaning.IsSound }
+    requires part { (P.grammar (P.state part)).meaning.Runs }
     requires pins { P.Pins part }
     requires takes { IsCallable (P.grammar (P.state part)).IsOutput (F.pre first) }
     requires alike { SeesAlike A.view B.view (F.post first) }
@@ -107,8 +107,8 @@ where
     O: Viewed + Drop,
     P: StreamParser<I, Output = O, Error = Error<I>> + Drop,
     Q: StreamParser<I, Output = O, Error = Error<I>> + Drop,
-    requires first { (P.grammar (P.state first)).meaning.IsSound }
-    requires second { (Q.grammar (Q.state second)).meaning.IsSound }
+    requires first { (P.grammar (P.state first)).meaning.Runs }
+    requires second { (Q.grammar (Q.state second)).meaning.Runs }
     requires pins { P.Pins first }
     requires second_pins { Q.Pins second }
 {
@@ -125,8 +125,8 @@ where
     P: StreamParser<I, Output = A, Error = Error<I>> + Drop,
     F: Fn(A) -> Option<O> + Drop,
     G: Fn(A) -> Result<O, X> + Drop,
-    requires a { (P.grammar (P.state a)).meaning.IsSound }
-    requires b { (P.grammar (P.state b)).meaning.IsSound }
+    requires a { (P.grammar (P.state a)).meaning.Runs }
+    requires b { (P.grammar (P.state b)).meaning.Runs }
     requires a_pins { P.Pins a }
     requires b_pins { P.Pins b }
     requires first { IsJudge (P.grammar (P.state a)).IsOutput (F.pre first) (F.post first) is_some }

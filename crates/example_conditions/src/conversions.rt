@@ -72,7 +72,7 @@ fn pinned<'a, P: StreamParser<&'a [u8], Output = Wide, Error = Why> + Drop>(
     mut parser: P,
     input: &'a [u8],
 ) -> IResult<&'a [u8], Wide, Why>
-    requires sound { (P.grammar (P.state parser)).meaning.IsSound }
+    requires runs { (P.grammar (P.state parser)).meaning.Runs }
     requires pins { P.Pins parser }
 {
     parser.parse(input)

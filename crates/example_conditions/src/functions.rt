@@ -55,7 +55,7 @@ fn answer_of<I: Input, P: Parser<I, Error = Error<I>> + Drop>(
     mut parser: P,
     input: I,
 ) -> IResult<I, P::Output>
-    requires { (P.grammar (P.state parser)).meaning.IsSound }
+    requires { (P.grammar (P.state parser)).meaning.Runs }
 {
     parser.parse(input)
 }

@@ -12,7 +12,7 @@ fn answer_of<I: Input, P: Parser<I, Error = Error<I>> + Drop>(
     mut parser: P,
     input: I,
 ) -> IResult<I, P::Output>
-    requires { (P.grammar (P.state parser)).meaning.IsSound }
+    requires { (P.grammar (P.state parser)).meaning.Runs }
 {
     parser.parse(input)
 }
@@ -22,7 +22,7 @@ pub fn data<I: Input, L: Parser<I, Output = usize, Error = Error<I>> + Drop>(
     length: L,
     input: I,
 ) -> IResult<I, I>
-    requires length { (L.grammar (L.state length)).meaning.IsSound }
+    requires length { (L.grammar (L.state length)).meaning.Runs }
     requires one { IsOne (HasSize (L.grammar (L.state length)).IsOutput (λ n. n)) }
 {
     answer_of(length_data(length), input)
@@ -34,7 +34,7 @@ pub fn all_data<I: Input, L: Parser<I, Output = usize, Error = Error<I>> + Drop>
     length: L,
     input: I,
 ) -> IResult<I, Vec<I>>
-    requires length { (L.grammar (L.state length)).meaning.IsSound }
+    requires length { (L.grammar (L.state length)).meaning.Runs }
     requires one { IsOne (HasSize (L.grammar (L.state length)).IsOutput (λ n. n)) }
 {
     answer_of(many0(alloc, length_data(length)), input)
@@ -46,9 +46,9 @@ where
     I: Input,
     L: Parser<I, Output = usize, Error = Error<I>> + Drop,
     P: Parser<I, Error = Error<I>> + Drop,
-    requires length { (L.grammar (L.state length)).meaning.IsSound }
+    requires length { (L.grammar (L.state length)).meaning.Runs }
     requires one { IsOne (HasSize (L.grammar (L.state length)).IsOutput (λ n. n)) }
-    requires part { (P.grammar (P.state part)).meaning.IsSound }
+    requires part { (P.grammar (P.state part)).meaning.Runs }
 {
     answer_of(length_value(length, part), input)
 }

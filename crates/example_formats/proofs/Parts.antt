@@ -38,12 +38,11 @@ use Rattle.example_formats.proofs.Functions.{given_itself, is_parser}
 
 char_lawful : (c : ℕ) → IsLawful text_model (char_of c).meaning
 char_lawful c = first_item_lawful text_model IsScalar text_values (λ x. x) (λ x b. b ≡ (x == c)) (test_is_fixed IsScalar (λ x. x == c)) (Some (len_utf8 c))
-    (Unit {0})
     faults (OfChar c)
 
 set_lawful : (set : List ℕ) (kind : ErrorKind) → IsLawful text_model (one_of_by set kind).meaning
 set_lawful set kind = first_item_lawful text_model IsScalar text_values (λ x. x) (λ x b. IsTrue b ↔ Contains (chars set) x)
-    (λ x v meets fails. one_answer meets fails) None (Unit {0}) faults (OfKind kind)
+    (λ x v meets fails. one_answer meets fails) None faults (OfKind kind)
 
 digits_lawful : IsLawful text_model digits_of.meaning
 digits_lawful = class_lawful text_model IsScalar text_values (λ x. x) faults Digit (Some Kind.Digit)

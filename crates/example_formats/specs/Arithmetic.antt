@@ -145,7 +145,7 @@ char_of c = record { meaning = char_meaning text_model (λ x. x) faults c; IsOut
 
 abbrev pub one_of_by : List ℕ → ErrorKind → Grammar ℕ ℕ
 one_of_by set kind = record {
-  meaning = satisfy_meaning text_model (λ x. x) (λ x b. IsTrue b ↔ Contains (chars set) x) (Unit {0}) faults kind;
+  meaning = satisfy_meaning text_model (λ x. x) (λ x b. IsTrue b ↔ Contains (chars set) x) faults kind;
   IsOutput =
       λ t o. o ≡ t;
 }

@@ -10,11 +10,11 @@ use Rattle.example_formats.specs.declared.ini.Section.{Section}
 
 -- the characters up to the end of the line
 abbrev value_of : TextGrammar (Slice text_model) Text
-value_of = sliced text_model (run_meaning text_model (λ c b. b ≡ in_value c) (Unit {0}))
+value_of = sliced text_model (run_meaning text_model (λ c b. b ≡ in_value c))
 
 -- characters that a set doesn't hold, one at least; a refusal is of a kind
 abbrev is_not_by : List ℕ → ErrorKind → TextGrammar (Slice text_model) Text
-is_not_by set kind = sliced text_model (run1_meaning text_model (λ c b. IsTrue (not b) ↔ Contains (chars set) c) (Unit {0}) plain_errors kind)
+is_not_by set kind = sliced text_model (run1_meaning text_model (λ c b. IsTrue (not b) ↔ Contains (chars set) c) plain_errors kind)
 
 -- the trees of a section: its name, and its settings
 abbrev pub Parts : Type 0

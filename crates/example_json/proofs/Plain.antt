@@ -29,7 +29,7 @@ use Rattle.example_json.proofs.Told.{Told, Taken}
 
 -- the plain characters at the start, if there are any
 abbrev pub plain_run : TextGrammar Part Text
-plain_run = sliced text_model (run_meaning text_model (λ c b. b ≡ in_text c) (Unit {0}))
+plain_run = sliced text_model (run_meaning text_model (λ c b. b ≡ in_text c))
 
 pub never_stops : {i : Text} {s : Told Text} {e : Answer.Err (Error Text) (Error Text) Needed} → s ≡ Err e → Parses plain_run false i s → ⊥
 never_stops is (ParseRanOut e h) = absurd h.2

@@ -54,6 +54,7 @@ list_rule = record {
   Blames = λ _ _ _ _ P e. P e;
   part = λ _ mode. mode;
   Asks = λ _ _ a. IsTaken a;
+  Runs = λ Part. Part;
   IsSound = λ Part. Part;
   IsFrugal = λ _ _. ⊥;
   NeverFails = λ Part. Part;
@@ -67,6 +68,7 @@ item_at first further (suc k) = further
 abbrev pub items_at : {V : Type 0} → Meaning Text V (Error Text) → Meaning Text V (Error Text) → Family ℕ Text V (Error Text)
 items_at first further = record {
   at = item_at first further;
+  Runs = first.Runs × further.Runs;
   IsSound = first.IsSound × further.IsSound;
   IsFrugal = λ _. ⊥;
   Settles = first.Settles × further.Settles;

@@ -1,7 +1,7 @@
 -- What has no value in it, by the grammar of JSON: words, numbers, texts, and the white space between them.
 use Rattle.std.specs.Prelude.{◌≡◌, ℕ, ◌↔◌, ◌⊎◌, Bool, true, false, not, ltb, ◌==◌, ◌&&◌, IsTrue, None, List, Contains, chars, codes}
 use Rattle.std.specs.Char.{IsScalar, is_digit}
-use Rattle.nom_internal.specs.Prelude.{ErrorKind, Slice, text_model, recognized_meaning, pair_meaning}
+use Rattle.nom_internal.specs.Prelude.{ErrorKind, Slice, text_model, recognized_meaning, pair_meaning, premised}
 use Rattle.nom_error.specs.declared.kind.ErrorKind.TheVariants as Kind
 use Rattle.nom_traits.specs.declared.character.AsciiClass.TheVariants.{MultiSpace}
 use Rattle.nom_bytes.specs.ParsedRuns.{bounded_meaning, run1_meaning}
@@ -30,7 +30,7 @@ token_of c = terminated_of (char_of c) spaces_of
 
 -- one of some characters; a refusal is of a kind
 abbrev pub one_by : List ℕ → ErrorKind → TextGrammar ℕ ℕ
-one_by set kind = valued (satisfy_meaning text_model (λ x. x) (λ x b. IsTrue b ↔ Contains (chars set) x) (Unit {0}) plain_errors kind)
+one_by set kind = valued (satisfy_meaning text_model (λ x. x) (λ x b. IsTrue b ↔ Contains (chars set) x) plain_errors kind)
 
 -- what a grammar consumes
 abbrev recognize_of : {V O : Type 0} → TextGrammar V O → TextGrammar Part Text
@@ -67,14 +67,14 @@ in_text c = (not (ltb c 32)) && ((not (c == 34)) && (not (c == 92)))
 
 -- such characters, one at least; a refusal is of a kind
 abbrev pub plain_by : ErrorKind → TextGrammar Part Text
-plain_by kind = sliced text_model (run1_meaning text_model (λ c b. b ≡ in_text c) (((c : ℕ) → Unit {0}) × IsFixed IsScalar (λ c b. b ≡ in_text c))
-    plain_errors kind)
+plain_by kind = sliced text_model (premised ((c : ℕ) → Unit {0}) (IsFixed IsScalar (λ c b. b ≡ in_text c))
+    (run1_meaning text_model (λ c b. b ≡ in_text c) plain_errors kind))
 
 -- digits in base 16, that many at least and at most
 abbrev pub hexes_by : (least most : ℕ) → TextGrammar Part Text
 hexes_by least most =
-    sliced text_model (bounded_meaning text_model (λ c b. b ≡ is_digit c 16) (((c : ℕ) → Unit {0}) × IsFixed IsScalar (λ c b. b ≡ is_digit c 16)) plain_errors
-    least most)
+    sliced text_model (premised ((c : ℕ) → Unit {0}) (IsFixed IsScalar (λ c b. b ≡ is_digit c 16))
+    (bounded_meaning text_model (λ c b. b ≡ is_digit c 16) plain_errors least most))
 
 -- what stands after a backslash: a letter, or a `u` and digits
 abbrev pub escape_by : (letters : List ℕ) (mark least most : ℕ) (kind : ErrorKind) → TextGrammar (ℕ ⊎ ℕ) ℕ

@@ -27,7 +27,7 @@ module _ {I : Type 0} (w : Model I ℕ) where
   }
 
   abbrev pub letter_meaning : {E : Type 0} → Errors I E → Meaning I ℕ E
-  letter_meaning errs = leaf_meaning (Unit {0}) (λ i. errs.of_kind i Char) errs.grows letters
+  letter_meaning errs = leaf_meaning (λ i. errs.of_kind i Char) errs.grows letters
 
 one_first : (xs : List ℕ) (a b : ℕ) → BeginsWith xs a → BeginsWith xs b → a ≡ b
 one_first xs a b p q =

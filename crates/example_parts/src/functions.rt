@@ -79,7 +79,7 @@ pub fn grown<I: Input, O: Viewed + Drop, E: ParseError<I>, F: Fn(I) -> IResult<I
     input: I,
     cuts: &[usize],
 ) -> Grown<I, O, E>
-    requires sound { (⟦<StreamFunc<F, I, O, E> as Parser<I>>⟧.grammar f).meaning.IsSound }
+    requires runs { (⟦<StreamFunc<F, I, O, E> as Parser<I>>⟧.grammar f).meaning.Runs }
     requires cuts { AreCuts I.model input cuts.now }
 {
     parse_growing(stream_func(f), input, cuts)
@@ -97,7 +97,7 @@ fn complete<I: Input, O: Viewed + Drop, E: ParseError<I>, F: Fn(I) -> IResult<I,
     f: F,
     input: I,
 ) -> IResult<I, O, E>
-    requires { (⟦<Func<F, I, O, E> as Parser<I>>⟧.grammar f).meaning.IsSound }
+    requires { (⟦<Func<F, I, O, E> as Parser<I>>⟧.grammar f).meaning.Runs }
 {
     let mut parser = func(f);
     parser.parse_complete(input)

@@ -55,7 +55,7 @@ fn unfailing<I: Input, P: StreamParser<I> + Drop>(
     input: I,
     cuts: &[usize],
 ) -> Grown<I, P::Output, P::Error>
-    requires sound { (P.grammar (P.state parser)).meaning.IsSound }
+    requires runs { (P.grammar (P.state parser)).meaning.Runs }
     requires cuts { AreCuts I.model input cuts.now }
     ensures grown { IsGrown I.model (P.grammar (P.state parser)).IsOutput (P.grammar (P.state parser)).meaning input cuts.now result.index result.result }
     ensures failures { HasNoFailure I.model (P.grammar (P.state parser)).meaning }

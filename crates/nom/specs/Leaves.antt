@@ -21,10 +21,10 @@ module _ {I E : Type 0} (w : Model I ℕ) (errs : Errors I E) where
   take_of lack count = sliced w (take_meaning w errs lack count)
 
   abbrev pub is_a_of : List ℕ → Grammar I (Slice w) I E
-  is_a_of set = sliced w (run1_meaning w (λ item b. IsTrue b ↔ Contains set item) (Unit {0}) errs Kind.IsA)
+  is_a_of set = sliced w (run1_meaning w (λ item b. IsTrue b ↔ Contains set item) errs Kind.IsA)
 
   abbrev pub is_not_of : List ℕ → Grammar I (Slice w) I E
-  is_not_of set = sliced w (run1_meaning w (λ item b. IsTrue (not b) ↔ Contains set item) (Unit {0}) errs Kind.IsNot)
+  is_not_of set = sliced w (run1_meaning w (λ item b. IsTrue (not b) ↔ Contains set item) errs Kind.IsNot)
 
   abbrev pub char_of : ℕ → Grammar I ℕ ℕ E
   char_of c = valued (char_meaning w (λ x. x) errs c)
@@ -34,7 +34,7 @@ module _ {I E : Type 0} (w : Model I ℕ) (errs : Errors I E) where
 
   -- the items that pass a test, one at least
   abbrev pub take_while1_of : (ℕ → Bool) → Grammar I (Slice w) I E
-  take_while1_of test = sliced w (run1_meaning w (λ item b. b ≡ test item) (Unit {0}) errs Kind.TakeWhile1)
+  take_while1_of test = sliced w (run1_meaning w (λ item b. b ≡ test item) errs Kind.TakeWhile1)
 
   -- a number of that many bytes, in an order
   abbrev pub number_of : Endianness → ℕ → Grammar I ℕ ℕ E

@@ -47,6 +47,7 @@ module _ {I V T R : Type 0} (IsOutput : V → T → Type 0) (Inits : R → Type 
 -- a meaning whose memory may run out for another cause too, which never comes where it is frugal
 abbrev pub beside : {I V E : Type 0} → (Modes → I → Type 0) → (Modes → Type 0) → Meaning I V E → Meaning I V E
 beside Lacks Never m = record {
+  Runs = m.Runs;
   IsSound = m.IsSound;
   answers = m.answers;
   blames = m.blames;

@@ -23,7 +23,8 @@ map_alloc_case IsOutput Takes Gives = record {
   Blames = λ i a Part. Part;
   part = λ mode. mode;
   Asks = λ mode i a. (mode.outputs ≡ true) × LacksMemory IsOutput Gives a;
-  IsSound = λ Part. Part × IsCallable IsOutput Takes;
+  Runs = λ Part. Part × IsCallable IsOutput Takes;
+  IsSound = λ Part. Part;
   IsFrugal = λ Part mode. Part mode × (mode.outputs ≡ true → TakesNoMemory Gives);
   NeverFails = λ Part. Part;
 }

@@ -53,7 +53,7 @@ fn fold_items<
     H: Fn() -> R,
     G: Fn(R, F::Output) -> Result<R, OutOfMemory>,
 >(parser: &mut F, input: I, init: &H, fold: &G) -> PResult<I, R, F::Error>
-    requires sound { (F.grammar (F.state parser.old)).meaning.IsSound }
+    requires runs { (F.grammar (F.state parser.old)).meaning.Runs }
     requires init { H.pre init.now }
     requires takes { (r : R) (x : F.Output) → G.pre fold.now r x }
     ensures shown { ShowsMeaning I.model (Folds (F.grammar (F.state parser.old)).IsOutput (H.post init.now) (λ r x y. G.post fold.now r x (Ok y)))
@@ -121,7 +121,7 @@ impl<
         fold_items::<OM, I, F, R, H, G>(&mut self.parser, input, &self.init, &self.fold)
     }
 
-    ghost lawful = { λ s k. fold_many0_alloc_lawful I.lawful F.Error.errors (F.lawful s.0 k.0) };
+    ghost lawful = { λ s k. fold_many0_alloc_lawful I.lawful F.Error.errors (F.lawful s.0 k) };
 }
 
 impl<
@@ -136,7 +136,7 @@ impl<
 
     ghost Pins = { λ p. F.Pins p.parser × FoldsAlike F.Output.view R.view (H.post p.init) (λ r x y. G.post p.fold r x (Ok y)) };
 
-    ghost pinned = { λ p k h. folds_pinned (F.pinned p.parser k.0 h.0) h.1 };
+    ghost pinned = { λ p k h. folds_pinned (F.pinned p.parser k h.0) h.1 };
 
-    ghost steady = { λ s k. fold_many0_alloc_steady I.lawful F.Error.errors (F.steady s.0 k.0) };
+    ghost steady = { λ s k. fold_many0_alloc_steady I.lawful F.Error.errors (F.steady s.0 k) };
 }

@@ -47,7 +47,7 @@ impl<I: Items, F: Parser<I> + Drop, O: Drop, G: Fn(F::Output) -> Result<O, OutOf
         }
     }
 
-    ghost lawful = { λ s k. map_alloc_lawful (G.post s.1) (F.lawful s.0 k.0) };
+    ghost lawful = { λ s k. map_alloc_lawful (G.post s.1) (F.lawful s.0 k) };
 }
 
 impl<
@@ -58,7 +58,7 @@ impl<
 > StreamParser<I> for MapAlloc<F, G> {
     ghost Pins = { λ p. F.Pins p.parser × SeesAlike F.Output.view O.view (λ a o. G.post p.map a (Ok o)) };
 
-    ghost pinned = { λ p k h. given_pinned (F.pinned p.parser k.0 h.0) h.1 };
+    ghost pinned = { λ p k h. given_pinned (F.pinned p.parser k h.0) h.1 };
 
-    ghost steady = { λ s k. map_alloc_steady (G.post s.1) (F.steady s.0 k.0) };
+    ghost steady = { λ s k. map_alloc_steady (G.post s.1) (F.steady s.0 k) };
 }

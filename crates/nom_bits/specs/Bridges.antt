@@ -73,6 +73,7 @@ module _ {I T E F : Type 0} (w : Model I ℕ) (Converts : E → F → Type 0) wh
     Blames = λ i. ConvertedBlame Converts;
     part = with_streaming true;
     Asks = λ _ i a. ⊥;
+    Runs = λ Part. Part;
     IsSound = λ Part. Part;
     IsFrugal = λ Part mode. Part (with_streaming true mode);
     NeverFails = λ Part. Part;
@@ -95,6 +96,7 @@ module _ {I T E F : Type 0} (w : Model I ℕ) (errs : Errors (I × ℕ) F) (Conv
     Blames = BytesBlame;
     part = with_streaming true;
     Asks = λ _ i. OnTooLarge errs.grows;
+    Runs = λ Part. Part;
     IsSound = λ Part. Part;
     IsFrugal = λ Part mode. Part (with_streaming true mode) × (errs.grows → ⊥);
     NeverFails = λ Part cause. Part cause × (cause ≡ Outright);

@@ -1,7 +1,7 @@
 -- Bit fields.
 use Rattle.std.specs.Prelude.{◌≡◌, ℕ, ◌<◌, ◌≤◌, nat_eq, ◌⊎◌, Bool, false, List, ◌++◌, length, Some}
 use Rattle.nom_error.specs.declared.kind.ErrorKind.TheVariants as Kind
-use Rattle.nom_internal.specs.Prelude.{Errors, Model, bits_model, spelled, Meaning, Leaf, leaf_meaning, labelled_meaning}
+use Rattle.nom_internal.specs.Prelude.{Errors, Model, bits_model, spelled, Meaning, Leaf, leaf_meaning, labelled_meaning, premised}
 
 module _ {I : Type 0} (w : Model I ℕ) where
   -- the next bits, as many as count, spell a number
@@ -36,13 +36,13 @@ module _ {I : Type 0} (w : Model I ℕ) where
   abbrev pub TagBlames : {E : Type 0} → Errors (I × ℕ) E → ℕ → I × ℕ → E → Type 0
   TagBlames errs count i e = (IsShort i count × errs.of_kind i Kind.Eof e) ⊎ ((count ≤ length ((bits_model w).elements i)) × errs.of_kind i Kind.TagBits e)
 
-  -- a number takes that many bits at most: that is the premise
+  -- a number takes that many bits at most: that is the premise of a call
   abbrev pub take_meaning : {E : Type 0} → Errors (I × ℕ) E → (width count : ℕ) → Meaning (I × ℕ) ℕ E
-  take_meaning errs width count = leaf_meaning (count ≤ width) (λ i. errs.of_kind i Kind.Eof) errs.grows (fields count)
+  take_meaning errs width count = premised (count ≤ width) (Unit {0}) (leaf_meaning (λ i. errs.of_kind i Kind.Eof) errs.grows (fields count))
 
   abbrev pub tag_meaning : {E : Type 0} → Errors (I × ℕ) E → (width wanted count : ℕ) → Meaning (I × ℕ) ℕ E
-  tag_meaning errs width wanted count = leaf_meaning (count ≤ width) (TagBlames errs count) errs.grows (tagged_fields wanted count)
+  tag_meaning errs width wanted count = premised (count ≤ width) (Unit {0}) (leaf_meaning (TagBlames errs count) errs.grows (tagged_fields wanted count))
 
   -- the next bit: a field of one bit is 1
   abbrev pub bool_meaning : {E : Type 0} → Errors (I × ℕ) E → Meaning (I × ℕ) Bool E
-  bool_meaning errs = labelled_meaning (λ number. nat_eq number 1) (leaf_meaning (Unit {0}) (λ i. errs.of_kind i Kind.Eof) errs.grows (fields 1))
+  bool_meaning errs = labelled_meaning (λ number. nat_eq number 1) (leaf_meaning (λ i. errs.of_kind i Kind.Eof) errs.grows (fields 1))

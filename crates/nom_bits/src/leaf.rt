@@ -47,7 +47,7 @@ impl<I: Input<Item = u8>, O: BitUint, E: ParseError<(I, usize)>> Parser<(I, usiz
 
     #[inline(always)]
     fn process<OM: OutputMode>(&mut self, input: (I, usize)) -> PResult<(I, usize), O, E>
-        requires sound { (take_meaning I.model E.errors O.WIDTH self.old.count).IsSound }
+        requires runs { (take_meaning I.model E.errors O.WIDTH self.old.count).Runs }
         ensures shown { ShowsMeaning (bits_model I.model) (λ t v. v ≡ O.of_bits t) (take_meaning I.model E.errors O.WIDTH self.old.count)
             (modes OM.Output.BUILDS OM.Error.BUILDS OM.Incomplete.STREAMING) input result }
         ensures kept { self.new.count ≡ self.old.count }
@@ -107,7 +107,7 @@ impl<I: Input<Item = u8>, O: BitUint, E: ParseError<(I, usize)>> Parser<(I, usiz
 
     #[inline(always)]
     fn process<OM: OutputMode>(&mut self, input: (I, usize)) -> PResult<(I, usize), O, E>
-        requires sound { (tag_meaning I.model E.errors O.WIDTH self.old.pattern self.old.count).IsSound }
+        requires runs { (tag_meaning I.model E.errors O.WIDTH self.old.pattern self.old.count).Runs }
         ensures shown { ShowsMeaning (bits_model I.model) (λ t v. v ≡ O.of_bits t) (tag_meaning I.model E.errors O.WIDTH self.old.pattern self.old.count)
             (modes OM.Output.BUILDS OM.Error.BUILDS OM.Incomplete.STREAMING) input result }
         ensures kept { ◌≡◌ {A = ℕ × ℕ} (self.new.pattern, self.new.count) (self.old.pattern, self.old.count) }
@@ -164,7 +164,7 @@ impl<I: Input<Item = u8>, E: ParseError<(I, usize)>> Parser<(I, usize)> for Bool
 
     #[inline(always)]
     fn process<OM: OutputMode>(&mut self, input: (I, usize)) -> PResult<(I, usize), bool, E>
-        requires sound { (bool_meaning I.model E.errors).IsSound }
+        requires runs { (bool_meaning I.model E.errors).Runs }
         ensures shown { ShowsMeaning (bits_model I.model) (λ t v. v ≡ t) (bool_meaning I.model E.errors)
             (modes OM.Output.BUILDS OM.Error.BUILDS OM.Incomplete.STREAMING) input result }
         // The pair that is left.

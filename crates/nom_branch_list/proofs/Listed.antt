@@ -12,7 +12,7 @@ use Rattle.nom_internal.proofs.Cased.{labelled_shown}
 use Rattle.nom_internal.proofs.Choices.{next_labelled, on_error_map, or_shown, closed_shown}
 use Rattle.nom_internal.proofs.Shown.{refused}
 use Rattle.nom_branch_list.specs.Lists.{branch_meaning, others_meaning, any_branch_meaning, list_meaning, IsElementAt, ListOutput}
-use Rattle.nom_branch_list.specs.Sound.{sound_at}
+use Rattle.nom_branch_list.specs.Sound.{runs_at}
 
 stands_at : {S : Type 0} (ss : List S) (k : ℕ) (d : S) → k < length ss → IsElementAt ss k (get_or ss k d)
 stands_at [] k d h = absurd (omega (arith, h))
@@ -63,12 +63,12 @@ module _ {S I V E : Type 0} (e : Errors I E) (part : S → Meaning I V E) where
       ap (λ j. or_meaning e.joined e.grows (any_branch_meaning e part (take k ss)) (branch_meaning j (part (get_or ss k d)))) n)
 
 module _ {B S I V E : Type 0} (e : Errors I E) (part : S → Meaning I V E) (st : B → S) where
-  -- each branch is sound, as the calls before kept their states
-  pub branch_sound : (bs os : List B) (k : ℕ) (x : B) → map st bs ≡ map st os → k < length bs → (list_meaning e part (map st os)).IsSound →
-      (part (st (get_or bs k x))).IsSound
-  branch_sound bs os k x same h p =
+  -- each branch runs, as the calls before kept their states
+  pub branch_runs : (bs os : List B) (k : ℕ) (x : B) → map st bs ≡ map st os → k < length bs → (list_meaning e part (map st os)).Runs →
+      (part (st (get_or bs k x))).Runs
+  branch_runs bs os k x same h p =
       let there : k < length (map st os) = omega (arith, h, ap length same, length-map bs st) in
-      rw (state_at st bs (map st os) k x same) (sound_at e part (map st os) k (get_or (map st os) k (st x)) (stands_at (map st os) k (st x) there) p)
+      rw (state_at st bs (map st os) k x same) (runs_at e part (map st os) k (get_or (map st os) k (st x)) (stands_at (map st os) k (st x) there) p)
 
 module _ {B S I A V O E : Type 0} (w : Model I A) (e : Errors I E) (part : S → Grammar I V O E) (st : B → S) (mode : Modes) (i : I) where
   abbrev means : S → Meaning I V E

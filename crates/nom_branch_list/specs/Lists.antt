@@ -14,7 +14,7 @@ no_branch = record {
 
 -- a choice among no parsers: a refusal with `Alt` at the start
 abbrev pub none_meaning : {I V E : Type 0} → Errors I E → Meaning I V E
-none_meaning e = leaf_meaning (Unit {0}) (λ i. e.of_kind i Alt) e.grows no_branch
+none_meaning e = leaf_meaning (λ i. e.of_kind i Alt) e.grows no_branch
 
 -- a parser of a list: its trees tell its place
 abbrev pub branch_meaning : {I V E : Type 0} → ℕ → Meaning I V E → Meaning I (ℕ × V) E

@@ -17,7 +17,7 @@ pub fn choose<I: Items, A: Parser<I>, OM: OutputMode>(
     branches: &mut [A],
     input: I,
 ) -> PResult<I, A::Output, A::Error>
-    requires { (list_of A.Error.errors A.grammar (map A.state branches.old)).meaning.IsSound }
+    requires { (list_of A.Error.errors A.grammar (map A.state branches.old)).meaning.Runs }
     ensures shown { Shows I.model (list_of A.Error.errors A.grammar (map A.state branches.old))
         (modes OM.Output.BUILDS OM.Error.BUILDS OM.Incomplete.STREAMING) input result }
     ensures kept { map A.state branches.new ≡ map A.state branches.old }

@@ -56,7 +56,7 @@ module _ {I A : Type 0} (w : Model I A) (l : InputLaws w) (Meets Ends : A → Ty
 
   module _ {E : Type 0} (wanted : Bool) (Blames : I → E → Type 0) (Grows : Type 0) (mode : Modes) (i : I) where
     abbrev Shows : PResult I I E → Type 0
-    Shows r = ShowsMeaning w (IsModelledBy w) (leaf_meaning (Unit {0}) Blames Grows (runs w Test None (cond wanted 1 0))) mode i r
+    Shows r = ShowsMeaning w (IsModelledBy w) (leaf_meaning Blames Grows (runs w Test None (cond wanted 1 0))) mode i r
 
     -- a split after the run, where one item is wanted at least or none, shows the run's meaning, whatever its premise
     pub split_shown : (IsRefusal : Answer.Err E (Option E) Needed → Type 0) →

@@ -38,18 +38,17 @@ module _ {I A : Type 0} (w : Model I A) (Test : A → Bool → Type 0) (bound : 
     Lacks = λ i k. All (λ x. Test x true) (w.elements i) × IsWithin bound (length (w.elements i)) × (k ≡ Some (max 1 (least - input_len w i)));
   }
 
--- IsSound is the test's premise.
-module _ {I A : Type 0} (w : Model I A) (Test : A → Bool → Type 0) (IsSound : Type 0) where
+module _ {I A : Type 0} (w : Model I A) (Test : A → Bool → Type 0) where
   -- a run that may be empty: nothing is refused
   abbrev pub run_meaning : {E : Type 0} → Meaning I (Slice w) E
-  run_meaning = leaf_meaning IsSound (λ _ _. ⊥) ⊥ (runs w Test None 0)
+  run_meaning = leaf_meaning (λ _ _. ⊥) ⊥ (runs w Test None 0)
 
   -- a run of one item at least
   abbrev pub run1_meaning : {E : Type 0} → Errors I E → ErrorKind → Meaning I (Slice w) E
-  run1_meaning errs kind = leaf_meaning IsSound (λ i. errs.of_kind i kind) errs.grows (runs w Test None 1)
+  run1_meaning errs kind = leaf_meaning (λ i. errs.of_kind i kind) errs.grows (runs w Test None 1)
 
   abbrev pub bounded_meaning : {E : Type 0} → Errors I E → (least most : ℕ) → Meaning I (Slice w) E
-  bounded_meaning errs least most = leaf_meaning IsSound (λ i. errs.of_kind i Kind.TakeWhileMN) errs.grows (runs w Test (Some most) least)
+  bounded_meaning errs least most = leaf_meaning (λ i. errs.of_kind i Kind.TakeWhileMN) errs.grows (runs w Test (Some most) least)
 
 module _ {I A : Type 0} (w : Model I A) (Test : A → Bool → Type 0) (most : ℕ) where
   -- how far a run under a bound reaches, and how many items it has: to an item that follows it, or through all of the input

@@ -14,4 +14,4 @@ module _ {I A : Type 0} (w : Model I A) where
   }
 
   abbrev pub tag_meaning : {T E : Type 0} → Errors I E → (size : T → ℕ) → (T → List A → CompareResult → Type 0) → T → Meaning I (Slice w) E
-  tag_meaning errs size Compares tag = leaf_meaning (Unit {0}) (λ i. errs.of_kind i Kind.Tag) errs.grows (tags size Compares tag)
+  tag_meaning errs size Compares tag = leaf_meaning (λ i. errs.of_kind i Kind.Tag) errs.grows (tags size Compares tag)

@@ -14,4 +14,4 @@ module _ {I A : Type 0} (w : Model I A) where
   }
 
   abbrev pub until_meaning : {T E : Type 0} → Errors I E → (T → List A → Option ℕ → Type 0) → (one : Bool) → T → Meaning I (Slice w) E
-  until_meaning errs Finds one needle = leaf_meaning (Unit {0}) (λ i. errs.of_kind i Kind.TakeUntil) errs.grows (untils Finds one needle)
+  until_meaning errs Finds one needle = leaf_meaning (λ i. errs.of_kind i Kind.TakeUntil) errs.grows (untils Finds one needle)

@@ -1,7 +1,7 @@
 //! The parser of runs with a bound.
 ghost use Rattle.std.specs.Prelude.{◌≡◌, ◌-◌, ℕ, max, Some};
 ghost use Rattle.nom_error.specs.declared.kind.ErrorKind.TheVariants as Kind;
-ghost use Rattle.nom_internal.specs.Prelude.{Slice, slice_pinned, sliced};
+ghost use Rattle.nom_internal.specs.Prelude.{Slice, slice_pinned, sliced, premised, premised_lawful, premised_steady};
 ghost use Rattle.nom_bytes.specs.ParsedRuns.{Reaches, bounded_meaning};
 ghost use Rattle.nom_bytes.specs.laws.RunLaws.{run_lawful, run_steady};
 
@@ -23,7 +23,7 @@ fn bounded_run<I: Input, P: Predicate<I::Item>>(
     predicate: &P,
     most: usize,
 ) -> (Option<usize>, usize)
-    requires { P.IsSound (P.state predicate.now) }
+    requires { P.Runs (P.state predicate.now) }
     ensures { Reaches I.model (P.answers (P.state predicate.now)) most input result.0 result.1 }
 {
     let mut count = 0usize;
@@ -66,7 +66,7 @@ impl<I: Input, P: Predicate<I::Item>, E: ParseError<I>> Parser<I> for TakeWhileM
 
     ghost Tree = { Slice I.model };
 
-    ghost grammar = { λ s. sliced I.model (bounded_meaning I.model (P.answers s.0) (P.IsSound s.0) E.errors s.1 s.2) };
+    ghost grammar = { λ s. sliced I.model (premised (P.Runs s.0) (P.IsSound s.0) (bounded_meaning I.model (P.answers s.0) E.errors s.1 s.2)) };
 
     #[inline(always)]
     fn process<OM: OutputMode>(&mut self, input: I) -> PResult<I, I, E> {
@@ -90,8 +90,8 @@ impl<I: Input, P: Predicate<I::Item>, E: ParseError<I>> Parser<I> for TakeWhileM
         }
     }
 
-    ghost lawful = { λ s k. run_lawful I.model I.Item.IsValue I.values (P.answers s.0) (P.fixed s.0 k) (Some s.2) s.1 (P.IsSound s.0)
-        (λ i. E.errors.of_kind i Kind.TakeWhileMN) E.errors.grows };
+    ghost lawful = { λ s k. premised_lawful (run_lawful I.model I.Item.IsValue I.values (P.answers s.0) (P.fixed s.0 k) (Some s.2) s.1
+        (λ i. E.errors.of_kind i Kind.TakeWhileMN) E.errors.grows) };
 }
 
 impl<I: Input, P: Predicate<I::Item>, E: ParseError<I>> StreamParser<I> for TakeWhileMN<P, I, E> {
@@ -99,8 +99,8 @@ impl<I: Input, P: Predicate<I::Item>, E: ParseError<I>> StreamParser<I> for Take
 
     ghost pinned = { λ p k h. slice_pinned I.views };
 
-    ghost steady = { λ s k. run_steady I.model I.Item.IsValue I.values (P.answers s.0) (P.fixed s.0 k) (Some s.2) s.1 (P.IsSound s.0)
-        (λ i. E.errors.of_kind i Kind.TakeWhileMN) E.errors.grows };
+    ghost steady = { λ s k. premised_steady (run_steady I.model I.Item.IsValue I.values (P.answers s.0) (P.fixed s.0 k) (Some s.2) s.1
+        (λ i. E.errors.of_kind i Kind.TakeWhileMN) E.errors.grows) };
 }
 
 /// The first items that meet the test, `m` at least and `n` at most.

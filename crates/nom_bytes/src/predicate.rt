@@ -17,22 +17,25 @@ pub trait Predicate<T: Value> {
     /// What it answers at an item: true where the item meets it.
     ghost answers: { State → T → Bool → Type 0 };
 
-    /// The premise: it may be called at each item, and answers no item in both ways.
+    /// The premise of a call: it may be called at each item.
+    ghost Runs: { State → Type 0 };
+
+    /// The premise of its laws: it answers no item in both ways.
     ghost IsSound: { State → Type 0 };
 
     /// Whether the item meets the test.
     fn meets(&self, item: T) -> bool
-        requires { IsSound (state self.now) }
+        requires { Runs (state self.now) }
         ensures { answers (state self.now) item result };
 
     /// The place of the first item that doesn't meet the test; `None` where all do.
     #[inline(always)]
     fn end<I: Input<Item = T>>(&self, input: I) -> Option<usize>
-        requires { IsSound (state self.now) }
+        requires { Runs (state self.now) }
         ensures { IsPosition I.model (λ x. answers (state self.now) x true) (λ x. answers (state self.now) x false) input result }
     {
         let fails = |item: T| -> bool
-            requires { IsSound (state self.now) }
+            requires { Runs (state self.now) }
             ensures { answers (state self.entry.now) item (not result) }
         { !self.meets(item) };
         input.position(fails)
@@ -55,14 +58,16 @@ impl<T: Value, F: Fn(T) -> bool> Predicate<T> for Where<F> {
 
     ghost answers = { λ f. F.post f };
 
-    ghost IsSound = { λ f. ((x : T) → F.pre f x) × IsFixed T.IsValue (F.post f) };
+    ghost Runs = { λ f. (x : T) → F.pre f x };
+
+    ghost IsSound = { λ f. IsFixed T.IsValue (F.post f) };
 
     #[inline(always)]
     fn meets(&self, item: T) -> bool {
         (self.test)(item)
     }
 
-    ghost fixed = { λ f h. h.1 };
+    ghost fixed = { λ f h. h };
 }
 
 /// The items at which the closure answers false.
@@ -78,14 +83,16 @@ impl<T: Value, F: Fn(T) -> bool> Predicate<T> for Unless<F> {
 
     ghost answers = { λ f x b. F.post f x (not b) };
 
-    ghost IsSound = { λ f. ((x : T) → F.pre f x) × IsFixed T.IsValue (F.post f) };
+    ghost Runs = { λ f. (x : T) → F.pre f x };
+
+    ghost IsSound = { λ f. IsFixed T.IsValue (F.post f) };
 
     #[inline(always)]
     fn meets(&self, item: T) -> bool {
         !(self.test)(item)
     }
 
-    ghost fixed = { λ f h x v p q. h.1 x v q p };
+    ghost fixed = { λ f h x v p q. h x v q p };
 }
 
 /// The items of a set.
@@ -100,6 +107,8 @@ impl<T: Value, L: FindToken<T>> Predicate<T> for Within<L> {
     ghost state = { λ p. p.list };
 
     ghost answers = { λ list item b. IsTrue b ↔ L.finds list item };
+
+    ghost Runs = { λ _. Unit {0} };
 
     ghost IsSound = { λ _. Unit {0} };
 
@@ -136,6 +145,8 @@ impl<T: Value, L: FindToken<T>> Predicate<T> for Outside<L> {
     ghost state = { λ p. p.list };
 
     ghost answers = { λ list item b. IsTrue (not b) ↔ L.finds list item };
+
+    ghost Runs = { λ _. Unit {0} };
 
     ghost IsSound = { λ _. Unit {0} };
 

@@ -1,6 +1,6 @@
 //! The parsers of runs that may be empty.
 ghost use Rattle.std.specs.Prelude.{◌≡◌, None};
-ghost use Rattle.nom_internal.specs.Prelude.{Slice, slice_pinned, sliced};
+ghost use Rattle.nom_internal.specs.Prelude.{Slice, slice_pinned, sliced, premised, premised_lawful, premised_steady};
 ghost use Rattle.nom_bytes.specs.ParsedRuns.{run_meaning};
 ghost use Rattle.nom_bytes.specs.laws.RunLaws.{run_lawful, run_steady};
 
@@ -30,7 +30,7 @@ impl<I: Input, P: Predicate<I::Item>, E: ParseError<I>> Parser<I> for SplitPosit
 
     ghost Tree = { Slice I.model };
 
-    ghost grammar = { λ s. sliced I.model (run_meaning I.model (P.answers s) (P.IsSound s)) };
+    ghost grammar = { λ s. sliced I.model (premised (P.Runs s) (P.IsSound s) (run_meaning I.model (P.answers s))) };
 
     #[inline(always)]
     fn process<OM: OutputMode>(&mut self, input: I) -> PResult<I, I, E> {
@@ -38,7 +38,7 @@ impl<I: Input, P: Predicate<I::Item>, E: ParseError<I>> Parser<I> for SplitPosit
         input.split_at_position_mode::<OM, _, E>(|item| !predicate.meets(item))
     }
 
-    ghost lawful = { λ s k. run_lawful I.model I.Item.IsValue I.values (P.answers s) (P.fixed s k) None 0 (P.IsSound s) (λ _ _. ⊥) ⊥ };
+    ghost lawful = { λ s k. premised_lawful (run_lawful I.model I.Item.IsValue I.values (P.answers s) (P.fixed s k) None 0 (λ _ _. ⊥) ⊥) };
 }
 
 impl<I: Input, P: Predicate<I::Item>, E: ParseError<I>> StreamParser<I> for SplitPosition<P, I, E> {
@@ -46,7 +46,7 @@ impl<I: Input, P: Predicate<I::Item>, E: ParseError<I>> StreamParser<I> for Spli
 
     ghost pinned = { λ p k h. slice_pinned I.views };
 
-    ghost steady = { λ s k. run_steady I.model I.Item.IsValue I.values (P.answers s) (P.fixed s k) None 0 {E = E} (P.IsSound s) (λ _ _. ⊥) ⊥ };
+    ghost steady = { λ s k. premised_steady (run_steady I.model I.Item.IsValue I.values (P.answers s) (P.fixed s k) None 0 {E = E} (λ _ _. ⊥) ⊥) };
 }
 
 /// The longest list of first items that meet the test; it may be empty.

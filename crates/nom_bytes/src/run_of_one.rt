@@ -1,6 +1,6 @@
 //! The parsers of runs of one item at least.
 ghost use Rattle.std.specs.Prelude.{◌≡◌, None, true, false, MatchOption};
-ghost use Rattle.nom_internal.specs.Prelude.{ErrorKind, Refuses, Slice, slice_pinned, sliced};
+ghost use Rattle.nom_internal.specs.Prelude.{ErrorKind, Refuses, Slice, slice_pinned, sliced, premised, premised_lawful, premised_steady};
 ghost use Rattle.nom_traits.specs.Splits.{FrontBuilt, IsRunLength, IsRunOpen, Splits};
 ghost use Rattle.nom_bytes.specs.ParsedRuns.{run1_meaning};
 ghost use Rattle.nom_bytes.specs.laws.RunLaws.{run_lawful, run_steady};
@@ -21,7 +21,7 @@ fn met_len<I: Input, S: IsStreaming, P: Predicate<I::Item>>(
     predicate: &P,
     input: I,
 ) -> Option<usize>
-    requires { P.IsSound (P.state predicate.now) }
+    requires { P.Runs (P.state predicate.now) }
     ensures { MatchOption result
         (IsRunOpen I.model (λ x. P.answers (P.state predicate.now) x true) (λ x. P.answers (P.state predicate.now) x false) S.STREAMING input)
         (IsRunLength I.model (λ x. P.answers (P.state predicate.now) x true) (λ x. P.answers (P.state predicate.now) x false) S.STREAMING input) }
@@ -40,7 +40,7 @@ fn split1<OM: OutputMode, I: Input, P: Predicate<I::Item>, E: ParseError<I>>(
     kind: ErrorKind,
     input: I,
 ) -> PResult<I, I, E>
-    requires { P.IsSound (P.state predicate.now) }
+    requires { P.Runs (P.state predicate.now) }
     ensures { Splits I.model (λ x. P.answers (P.state predicate.now) x true)
         (λ x. P.answers (P.state predicate.now) x false) OM.Incomplete.STREAMING input true (FrontBuilt I.model OM.Output.BUILDS)
         (Refuses (E.errors.of_kind input kind) E.errors.grows OM.Error.BUILDS) result }
@@ -71,15 +71,15 @@ impl<I: Input, P: Predicate<I::Item>, E: ParseError<I>> Parser<I> for SplitPosit
 
     ghost Tree = { Slice I.model };
 
-    ghost grammar = { λ s. sliced I.model (run1_meaning I.model (P.answers s.0) (P.IsSound s.0) E.errors s.1) };
+    ghost grammar = { λ s. sliced I.model (premised (P.Runs s.0) (P.IsSound s.0) (run1_meaning I.model (P.answers s.0) E.errors s.1)) };
 
     #[inline(always)]
     fn process<OM: OutputMode>(&mut self, input: I) -> PResult<I, I, E> {
         split1::<OM, I, P, E>(&self.predicate, self.kind, input)
     }
 
-    ghost lawful = { λ s k. run_lawful I.model I.Item.IsValue I.values (P.answers s.0) (P.fixed s.0 k) None 1 (P.IsSound s.0)
-        (λ i. E.errors.of_kind i s.1) E.errors.grows };
+    ghost lawful = { λ s k. premised_lawful (run_lawful I.model I.Item.IsValue I.values (P.answers s.0) (P.fixed s.0 k) None 1
+        (λ i. E.errors.of_kind i s.1) E.errors.grows) };
 }
 
 impl<I: Input, P: Predicate<I::Item>, E: ParseError<I>> StreamParser<I>
@@ -88,8 +88,8 @@ impl<I: Input, P: Predicate<I::Item>, E: ParseError<I>> StreamParser<I>
 
     ghost pinned = { λ p k h. slice_pinned I.views };
 
-    ghost steady = { λ s k. run_steady I.model I.Item.IsValue I.values (P.answers s.0) (P.fixed s.0 k) None 1 (P.IsSound s.0)
-        (λ i. E.errors.of_kind i s.1) E.errors.grows };
+    ghost steady = { λ s k. premised_steady (run_steady I.model I.Item.IsValue I.values (P.answers s.0) (P.fixed s.0 k) None 1
+        (λ i. E.errors.of_kind i s.1) E.errors.grows) };
 }
 
 /// `take_while`, one item at least: where the first doesn't meet the test, it refuses with

@@ -56,6 +56,7 @@ escape_rule Gives Grows at = record {
   Blames = λ i k j a P e. OnReplied ⊥ (Gives i e) (Gives (at i j) e) (P e) a;
   part = λ _ mode. mode;
   Asks = λ mode k. OnReplied (mode.outputs ≡ true) ((k ≡ 0) × (mode.errors ≡ true) × Grows) ((mode.errors ≡ true) × Grows) ⊥;
+  Runs = λ Part. Part;
   IsSound = λ Part. Part;
   IsFrugal = λ PartIs mode. PartIs mode × (mode.outputs ≡ true → ⊥) × (mode.errors ≡ true → Grows → ⊥);
   NeverFails = λ Part. Part;

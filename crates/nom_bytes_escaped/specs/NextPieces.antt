@@ -11,7 +11,7 @@ use Rattle.nom_bytes_escaped.specs.declared.next_piece.NextPiece.TheVariants.{Fo
 
 -- a leaf that refuses nothing
 abbrev pub look : {I V E : Type 0} → Leaf I V → Meaning I V E
-look leaf = leaf_meaning (Unit {0}) (λ i e. ⊥) ⊥ leaf
+look leaf = leaf_meaning (λ i e. ⊥) ⊥ leaf
 
 -- whether an item is left
 abbrev pub IsLeft : {A : Type 0} → Bool → List A → Bool → Type 0
@@ -87,7 +87,7 @@ by_control g Control.Last = success_meaning Dangling
 by_control g (Control.Before u) = labelled_meaning (λ v. Found (Escapable v)) g
 
 abbrev pub after_control : {I U W E : Type 0} → Meaning I W E → Family (Control (Unit {0})) I (NextPiece (Piece U W)) E
-after_control g = record { at = by_control g; IsSound = g.IsSound; IsFrugal = g.IsFrugal; Settles = g.Settles; NeverFails = g.NeverFails }
+after_control g = record { at = by_control g; Runs = g.Runs; IsSound = g.IsSound; IsFrugal = g.IsFrugal; Settles = g.Settles; NeverFails = g.NeverFails }
 
 -- the control character, and after it an escapable piece
 abbrev pub escape_meaning : {I A U W E : Type 0} → Model I A → (A → Type 0) → Option ℕ → Meaning I W E → Meaning I (NextPiece (Piece U W)) E
@@ -103,7 +103,7 @@ by_left done m true = m
 by_left done m false = success_meaning done
 
 abbrev pub where_left : {I V E : Type 0} → V → Meaning I V E → Family Bool I V E
-where_left done m = record { at = by_left done m; IsSound = m.IsSound; IsFrugal = m.IsFrugal; Settles = m.Settles; NeverFails = m.NeverFails }
+where_left done m = record { at = by_left done m; Runs = m.Runs; IsSound = m.IsSound; IsFrugal = m.IsFrugal; Settles = m.Settles; NeverFails = m.NeverFails }
 
 -- A piece, where an item is left. The size that lacks after a last control character is `lack`.
 abbrev pub next_piece_meaning : {I A U W E : Type 0} → Model I A → (A → Type 0) → Option ℕ → Meaning I U E → Meaning I W E → Meaning I (NextPiece (Piece U W)) E

@@ -94,8 +94,8 @@ pub(crate) fn piece_at<OM: OutputMode, I: Input, F: Parser<I>, G: Parser<I, Erro
 ) -> PResult<I, NextPiece<Piece<Option<F::Output>, Option<G::Output>>>, F::Error>
 where
     I::Item: AsChar,
-    requires normal { (F.grammar (F.state normal.old)).meaning.IsSound }
-    requires escapable { (G.grammar (G.state escapable.old)).meaning.IsSound }
+    requires normal { (F.grammar (F.state normal.old)).meaning.Runs }
+    requires escapable { (G.grammar (G.state escapable.old)).meaning.Runs }
     ensures shown { ShowsNextPiece I.model (F.grammar (F.state normal.old)).IsOutput (G.grammar (G.state escapable.old)).IsOutput
         (modes OM.Output.BUILDS OM.Error.BUILDS OM.Incomplete.STREAMING) (λ x. I.Item.code x ≡ control_char) (size_of lack)
         (F.grammar (F.state normal.old)).meaning (G.grammar (G.state escapable.old)).meaning input result }

@@ -26,7 +26,7 @@ IsOf code class x b = has_code class (code x) ≡ b
 -- the longest list of first items that are of the class
 abbrev pub class_meaning : {I A E : Type 0} (w : Model I A) → (code : A → ℕ) → Errors I E → AsciiClass → Option ErrorKind → Meaning I (Slice w) E
 class_meaning w code errs class wanted =
-    leaf_meaning (Unit {0}) (wanted_error errs wanted) (wanted_grows errs wanted) (runs w (IsOf code class) None (least_of wanted))
+    leaf_meaning (wanted_error errs wanted) (wanted_grows errs wanted) (runs w (IsOf code class) None (least_of wanted))
 
 module _ {I A E : Type 0} (w : Model I A) (IsValue : A → Type 0) (values : (i : I) → w.IsKnown i → AreValues IsValue (w.elements i)) (code : A → ℕ)
     (errs : Errors I E) (class : AsciiClass) (wanted : Option ErrorKind) where

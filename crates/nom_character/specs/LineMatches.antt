@@ -55,7 +55,7 @@ module _ {I A : Type 0} (w : Model I A) (pattern : Bool → List A → Match) wh
   }
 
   abbrev pub match_meaning : {E : Type 0} → Errors I E → ErrorKind → Meaning I (Slice w) E
-  match_meaning errs kind = leaf_meaning (Unit {0}) (λ i. errs.of_kind i kind) errs.grows match_leaf
+  match_meaning errs kind = leaf_meaning (λ i. errs.of_kind i kind) errs.grows match_leaf
 
 module _ {I A E : Type 0} (w : Model I A) (code : A → ℕ) (errs : Errors I E) where
   abbrev pub crlf_meaning : Meaning I (Slice w) E

@@ -1,7 +1,7 @@
 //! The parsers of one character.
 ghost use Rattle.std.specs.Prelude.{◌≡◌, ℕ, true, ◌==◌, Some, None};
 ghost use Rattle.std.specs.Char.{len_utf8};
-ghost use Rattle.nom_internal.specs.Prelude.{ErrorKind, value_pinned, valued};
+ghost use Rattle.nom_internal.specs.Prelude.{ErrorKind, value_pinned, valued, premised, premised_lawful, premised_steady};
 ghost use Rattle.nom_error.specs.declared.kind.ErrorKind.TheVariants as Kind;
 ghost use Rattle.nom_character_first.specs.declared.first.Blame.TheVariants.{OfKind, OfChar};
 ghost use Rattle.nom_character_first.specs.FirstItem.{char_meaning, satisfy_meaning, anychar_meaning};
@@ -52,7 +52,7 @@ where
     }
 
     ghost lawful = { λ wanted k. first_item_lawful I.model I.Item.IsValue I.values I.Item.code (λ x b. b ≡ (I.Item.code x == wanted))
-        (test_is_fixed I.Item.IsValue (λ x. I.Item.code x == wanted)) (Some (len_utf8 wanted)) (Unit {0}) E.errors (OfChar wanted) };
+        (test_is_fixed I.Item.IsValue (λ x. I.Item.code x == wanted)) (Some (len_utf8 wanted)) E.errors (OfChar wanted) };
 }
 
 impl<I: Input, E: ParseError<I>> StreamParser<I> for Char<I, E>
@@ -64,7 +64,7 @@ where
     ghost pinned = { λ p k h. value_pinned };
 
     ghost steady = { λ wanted k. first_item_steady I.model I.Item.IsValue I.values I.Item.code (λ x b. b ≡ (I.Item.code x == wanted))
-        (test_is_fixed I.Item.IsValue (λ x. I.Item.code x == wanted)) (Some (len_utf8 wanted)) (Unit {0}) E.errors (OfChar wanted) };
+        (test_is_fixed I.Item.IsValue (λ x. I.Item.code x == wanted)) (Some (len_utf8 wanted)) E.errors (OfChar wanted) };
 }
 
 /// A character that passes a test, made by `satisfy`, `one_of` and `none_of`.
@@ -89,7 +89,7 @@ where
 
     ghost Tree = { ℕ };
 
-    ghost grammar = { λ s. valued (satisfy_meaning I.model I.Item.code (P.answers s.0) (P.IsSound s.0) E.errors s.1) };
+    ghost grammar = { λ s. valued (premised (P.Runs s.0) (P.IsSound s.0) (satisfy_meaning I.model I.Item.code (P.answers s.0) E.errors s.1)) };
 
     #[inline(always)]
     fn process<OM: OutputMode>(&mut self, input: I) -> PResult<I, char, E> {
@@ -101,8 +101,8 @@ where
         )
     }
 
-    ghost lawful = { λ s k. first_item_lawful I.model I.Item.IsValue I.values I.Item.code (P.answers s.0) (P.fixed s.0 k) None (P.IsSound s.0) E.errors
-        (OfKind s.1) };
+    ghost lawful = { λ s k. premised_lawful (first_item_lawful I.model I.Item.IsValue I.values I.Item.code (P.answers s.0) (P.fixed s.0 k) None E.errors
+        (OfKind s.1)) };
 }
 
 impl<I: Input, P: Predicate<I::Item>, E: ParseError<I>> StreamParser<I> for Satisfy<P, I, E>
@@ -113,8 +113,8 @@ where
 
     ghost pinned = { λ p k h. value_pinned };
 
-    ghost steady = { λ s k. first_item_steady I.model I.Item.IsValue I.values I.Item.code (P.answers s.0) (P.fixed s.0 k) None (P.IsSound s.0) E.errors
-        (OfKind s.1) };
+    ghost steady = { λ s k. premised_steady (first_item_steady I.model I.Item.IsValue I.values I.Item.code (P.answers s.0) (P.fixed s.0 k) None E.errors
+        (OfKind s.1)) };
 }
 
 /// Any one character.
@@ -156,7 +156,7 @@ where
     }
 
     ghost lawful = { λ _ k. first_item_lawful I.model I.Item.IsValue I.values I.Item.code (λ x b. b ≡ true) (test_is_fixed I.Item.IsValue (λ x. true)) (Some 1)
-        (Unit {0}) E.errors (OfKind Kind.Eof) };
+        E.errors (OfKind Kind.Eof) };
 }
 
 impl<I: Input, E: ParseError<I>> StreamParser<I> for AnyChar<I, E>
@@ -168,5 +168,5 @@ where
     ghost pinned = { λ p k h. value_pinned };
 
     ghost steady = { λ _ k. first_item_steady I.model I.Item.IsValue I.values I.Item.code (λ x b. b ≡ true) (test_is_fixed I.Item.IsValue (λ x. true)) (Some 1)
-        (Unit {0}) E.errors (OfKind Kind.Eof) };
+        E.errors (OfKind Kind.Eof) };
 }

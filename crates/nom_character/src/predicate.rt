@@ -20,14 +20,16 @@ impl<T: AsChar, F: Fn(char) -> bool> Predicate<T> for CharWhere<F> {
 
     ghost answers = { λ f x. F.post f (T.code x) };
 
-    ghost IsSound = { λ f. ((c : _) → F.pre f c) × IsFixed T.IsValue (λ x. F.post f (T.code x)) };
+    ghost Runs = { λ f. (c : _) → F.pre f c };
+
+    ghost IsSound = { λ f. IsFixed T.IsValue (λ x. F.post f (T.code x)) };
 
     #[inline(always)]
     fn meets(&self, item: T) -> bool {
         (self.test)(item.as_char())
     }
 
-    ghost fixed = { λ f h. h.1 };
+    ghost fixed = { λ f h. h };
 }
 
 /// The items whose characters are in a set.
@@ -42,6 +44,8 @@ impl<T: AsChar, L: FindToken<char>> Predicate<T> for CharWithin<L> {
     ghost state = { λ p. p.list };
 
     ghost answers = { λ list x b. IsTrue b ↔ L.finds list (T.code x) };
+
+    ghost Runs = { λ _. Unit {0} };
 
     ghost IsSound = { λ _. Unit {0} };
 
@@ -66,6 +70,8 @@ impl<T: AsChar, L: FindToken<char>> Predicate<T> for CharOutside<L> {
 
     ghost answers = { λ list x b. IsTrue (not b) ↔ L.finds list (T.code x) };
 
+    ghost Runs = { λ _. Unit {0} };
+
     ghost IsSound = { λ _. Unit {0} };
 
     #[inline(always)]
@@ -89,6 +95,8 @@ impl<T: AsChar> Predicate<T> for Is {
 
     ghost answers = { λ wanted x b. b ≡ (T.code x == wanted) };
 
+    ghost Runs = { λ _. Unit {0} };
+
     ghost IsSound = { λ _. Unit {0} };
 
     #[inline(always)]
@@ -109,6 +117,8 @@ impl<T: AsChar> Predicate<T> for Any {
     ghost state = { λ _. tt };
 
     ghost answers = { λ _ x b. b ≡ true };
+
+    ghost Runs = { λ _. Unit {0} };
 
     ghost IsSound = { λ _. Unit {0} };
 

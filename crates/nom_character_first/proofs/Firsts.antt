@@ -22,9 +22,9 @@ first_given w steps s t i None g k = none_given steps s t (w.elements i) g k
 first_given w steps s t i (Some x) g k = let r = some_given steps s t x (w.elements i) g k in record { rest = r.0; whole = r.1 }
 
 -- what is lacking, told in another way
-module _ {I A E : Type 0} {w : Model I A} (code : A → ℕ) (Test : A → Bool → Type 0) (IsSound : Type 0) (errs : Errors I E) (blame : Blame) {mode : Modes}
+module _ {I A E : Type 0} {w : Model I A} (code : A → ℕ) (Test : A → Bool → Type 0) (errs : Errors I E) (blame : Blame) {mode : Modes}
     {i : I} where
   pub head_lacking : {k l : Option ℕ} {r : PResult I ℕ E} → k ≡ l →
-      ShowsMeaning w (λ t c. c ≡ t) (first_item_meaning w code Test IsSound errs blame k) mode i r →
-      ShowsMeaning w (λ t c. c ≡ t) (first_item_meaning w code Test IsSound errs blame l) mode i r
-  head_lacking {r = r} e h = subst (λ z. ShowsMeaning w (λ t c. c ≡ t) (first_item_meaning w code Test IsSound errs blame z) mode i r) e h
+      ShowsMeaning w (λ t c. c ≡ t) (first_item_meaning w code Test errs blame k) mode i r →
+      ShowsMeaning w (λ t c. c ≡ t) (first_item_meaning w code Test errs blame l) mode i r
+  head_lacking {r = r} e h = subst (λ z. ShowsMeaning w (λ t c. c ≡ t) (first_item_meaning w code Test errs blame z) mode i r) e h

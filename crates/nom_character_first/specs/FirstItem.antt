@@ -26,19 +26,18 @@ module _ {I A : Type 0} (w : Model I A) where
     Lacks = λ i k. (w.elements i ≡ []) × (k ≡ lack);
   }
 
-  -- IsSound is the test's premise.
-  abbrev pub first_item_meaning : {E : Type 0} → (code : A → ℕ) → (Test : A → Bool → Type 0) → (IsSound : Type 0) → Errors I E → Blame → (lack : Option ℕ) →
+  abbrev pub first_item_meaning : {E : Type 0} → (code : A → ℕ) → (Test : A → Bool → Type 0) → Errors I E → Blame → (lack : Option ℕ) →
       Meaning I ℕ E
-  first_item_meaning code Test IsSound errs blame lack = leaf_meaning IsSound (blamed errs blame) errs.grows (heads code Test lack)
+  first_item_meaning code Test errs blame lack = leaf_meaning (blamed errs blame) errs.grows (heads code Test lack)
 
   -- a character; its length in UTF-8 lacks where there is no item
   abbrev pub char_meaning : {E : Type 0} → (code : A → ℕ) → Errors I E → ℕ → Meaning I ℕ E
-  char_meaning code errs c = first_item_meaning code (λ x b. b ≡ (code x == c)) (Unit {0}) errs (OfChar c) (Some (len_utf8 c))
+  char_meaning code errs c = first_item_meaning code (λ x b. b ≡ (code x == c)) errs (OfChar c) (Some (len_utf8 c))
 
   -- an item that passes a test; none can tell what lacks where there is no item
-  abbrev pub satisfy_meaning : {E : Type 0} → (code : A → ℕ) → (Test : A → Bool → Type 0) → (IsSound : Type 0) → Errors I E → ErrorKind → Meaning I ℕ E
-  satisfy_meaning code Test IsSound errs kind = first_item_meaning code Test IsSound errs (OfKind kind) None
+  abbrev pub satisfy_meaning : {E : Type 0} → (code : A → ℕ) → (Test : A → Bool → Type 0) → Errors I E → ErrorKind → Meaning I ℕ E
+  satisfy_meaning code Test errs kind = first_item_meaning code Test errs (OfKind kind) None
 
   -- any item; 1 lacks where there is none
   abbrev pub anychar_meaning : {E : Type 0} → (code : A → ℕ) → Errors I E → Meaning I ℕ E
-  anychar_meaning code errs = first_item_meaning code (λ x b. b ≡ true) (Unit {0}) errs (OfKind Kind.Eof) (Some 1)
+  anychar_meaning code errs = first_item_meaning code (λ x b. b ≡ true) errs (OfKind Kind.Eof) (Some 1)

@@ -87,9 +87,9 @@ pub fn first_where<OM: OutputMode, I: Input, P: Predicate<I::Item>, E: ParseErro
 ) -> PResult<I, char, E>
 where
     I::Item: AsChar,
-    requires { P.IsSound (P.state test.now) }
+    requires { P.Runs (P.state test.now) }
     ensures { ShowsMeaning I.model (λ t c. c ≡ t)
-        (first_item_meaning I.model I.Item.code (P.answers (P.state test.now)) (P.IsSound (P.state test.now)) E.errors blame (size_of lack))
+        (first_item_meaning I.model I.Item.code (P.answers (P.state test.now)) E.errors blame (size_of lack))
         (modes OM.Output.BUILDS OM.Error.BUILDS OM.Incomplete.STREAMING) input result }
 {
     match first(input) {

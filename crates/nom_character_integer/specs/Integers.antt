@@ -79,7 +79,7 @@ module _ {I A : Type 0} (w : Model I A) (code : A → ℕ) (signed : Bool) (fits
   }
 
   abbrev pub integer_meaning : {E : Type 0} → Errors I E → Meaning I ℤ E
-  integer_meaning errs = leaf_meaning (Unit {0}) (λ i. errs.of_kind i Kind.Digit) errs.grows integers
+  integer_meaning errs = leaf_meaning (λ i. errs.of_kind i Kind.Digit) errs.grows integers
 
 -- the numbers below 2 ^ bits, and those of a signed type of some bits, before which a sign may stand
 module _ {I A E : Type 0} (w : Model I A) (code : A → ℕ) where

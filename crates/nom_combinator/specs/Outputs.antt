@@ -18,6 +18,7 @@ value_case v IsSure = record {
   Blames = λ i a Part. Part;
   part = λ mode. mode;
   Asks = λ mode i a. IsAcceptance a × (mode.outputs ≡ true) × ¬ IsSure;
+  Runs = λ Part. Part;
   IsSound = λ Part. Part;
   IsFrugal = λ Part mode. Part mode × (mode.outputs ≡ true → IsSure);
   NeverFails = λ Part. Part;

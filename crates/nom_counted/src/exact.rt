@@ -23,7 +23,7 @@ pub fn items_exactly<OM: OutputMode, I: Items, F: Parser<I>, K: Accumulator<F::O
     before: Option<K>,
     count: usize,
 ) -> PResult<I, K, F::Error>
-    requires sound { (F.grammar (F.state parser.old)).meaning.IsSound }
+    requires runs { (F.grammar (F.state parser.old)).meaning.Runs }
     requires built { Built OM.Output.BUILDS K.CanPush before }
     ensures shown { ShowsMeaning I.model (Accumulated K.Pushes K.CanPush (F.grammar (F.state parser.old)).IsOutput before)
         (items_meaning I.model F.Error.errors (exact_limits count) K.Grows (F.grammar (F.state parser.old)).meaning)

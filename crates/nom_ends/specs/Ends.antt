@@ -21,7 +21,7 @@ fail_leaf = record {
 
 -- with the kind Fail
 abbrev pub fail_meaning : {I V E : Type 0} → Errors I E → Meaning I V E
-fail_meaning errs = leaf_meaning (Unit {0}) (λ i e. errs.of_kind i Kind.Fail e) errs.grows fail_leaf
+fail_meaning errs = leaf_meaning (λ i e. errs.of_kind i Kind.Fail e) errs.grows fail_leaf
 
 -- what is accepted and what is refused, alike in both modes
 abbrev pub plain_leaf : {I V : Type 0} → (I → ℕ → V → Type 0) → (I → Type 0) → Leaf I V
@@ -50,17 +50,17 @@ module _ {I A : Type 0} (w : Model I A) where
 
   -- an input with an item is refused with the kind Eof
   abbrev pub eof_meaning : {E : Type 0} → Errors I E → Meaning I (Slice w) E
-  eof_meaning errs = leaf_meaning (Unit {0}) (λ i e. errs.of_kind i Kind.Eof e) errs.grows (plain_leaf IsEnd (λ i. w.elements i ≡ [] → ⊥))
+  eof_meaning errs = leaf_meaning (λ i e. errs.of_kind i Kind.Eof e) errs.grows (plain_leaf IsEnd (λ i. w.elements i ≡ [] → ⊥))
 
   -- a part, and then the end, with the part's tree: what is left after it is refused there
   abbrev pub all_consuming_meaning : {V E : Type 0} → Errors I E → Meaning I V E → Meaning I V E
   all_consuming_meaning errs m = sequence_meaning w (λ u v. u) (λ o. o) (with_outputs false) m (eof_meaning errs)
 
   abbrev pub rest_meaning : {E : Type 0} → Meaning I (Slice w) E
-  rest_meaning = leaf_meaning (Unit {0}) (λ i e. ⊥) ⊥ (plain_leaf IsAll (λ i. ⊥))
+  rest_meaning = leaf_meaning (λ i e. ⊥) ⊥ (plain_leaf IsAll (λ i. ⊥))
 
   abbrev pub rest_len_meaning : {E : Type 0} → Meaning I ℕ E
-  rest_len_meaning = leaf_meaning (Unit {0}) (λ i e. ⊥) ⊥ (plain_leaf IsLength (λ i. ⊥))
+  rest_len_meaning = leaf_meaning (λ i e. ⊥) ⊥ (plain_leaf IsLength (λ i. ⊥))
 
 -- a grammar, and then the end
 abbrev pub all_consuming_of : {I A V O E : Type 0} → Model I A → Errors I E → Grammar I V O E → Grammar I V O E

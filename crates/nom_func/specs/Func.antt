@@ -81,6 +81,7 @@ module _ {I A O E : Type 0} (w : Model I A) (view : View O) where
     -- What a function means, with its premise: alike in both modes.
     abbrev pub func_meaning : Type 0 → Meaning I view.Value E
     func_meaning IsSound = record {
+      Runs = Runs;
       IsSound = IsSound;
       answers = λ s. FuncAnswers;
       blames = λ s. FuncBlames Gives;

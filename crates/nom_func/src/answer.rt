@@ -13,7 +13,7 @@ pub fn answer<I: Items, P: StreamParser<I>>(
     parser: &mut P,
     input: I,
 ) -> IResult<I, P::Output, P::Error>
-    requires sound { (P.grammar (P.state parser.old)).meaning.IsSound }
+    requires runs { (P.grammar (P.state parser.old)).meaning.Runs }
     requires pins { P.Pins parser.old }
     ensures answer { AnswersBy I.model P.Output.view (P.grammar (P.state parser.old)).IsOutput (P.grammar (P.state parser.old)).meaning false input result }
     ensures kept { P.state parser.new ≡ P.state parser.old }
@@ -29,7 +29,7 @@ pub fn stream_answer<I: Items, P: StreamParser<I>>(
     parser: &mut P,
     input: I,
 ) -> IResult<I, P::Output, P::Error>
-    requires sound { (P.grammar (P.state parser.old)).meaning.IsSound }
+    requires runs { (P.grammar (P.state parser.old)).meaning.Runs }
     requires pins { P.Pins parser.old }
     requires never_too_large { NeverTooLarge (P.grammar (P.state parser.old)).meaning }
     ensures answer { StreamsBy I.model P.Output.view (P.grammar (P.state parser.old)).IsOutput (P.grammar (P.state parser.old)).meaning true input result }

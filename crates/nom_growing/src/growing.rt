@@ -50,6 +50,7 @@ pub fn parse_growing<I: Input, P: StreamParser<I> + Drop>(
     whole: I,
     cuts: &[usize],
 ) -> Grown<I, P::Output, P::Error>
+    requires runs { (P.grammar (P.state parser)).meaning.Runs }
     requires sound { (P.grammar (P.state parser)).meaning.IsSound }
     requires cuts { AreCuts I.model whole cuts.now }
     ensures grown { IsGrown I.model (P.grammar (P.state parser)).IsOutput (P.grammar (P.state parser)).meaning whole cuts.now result.index result.result }

@@ -1,7 +1,7 @@
 -- What parts show whose acceptances closures judge.
 use Rattle.std.proofs.Common.{◌≡◌, ℕ, Bool, true, false, Ok, Err, Option, Some, refl, sym, ap, subst, inl, inr}
 use Rattle.nom_internal.specs.Prelude.{Needed, PResult, Refuses, Built, Modes, with_outputs, Model, Outcome, Accept, Refuse, RanOut, Shown, Meaning}
-use Rattle.nom_internal.specs.Prelude.{ShowsMeaning, RunsOutBeside, GivesFor, IsJudge, kept_if, judged_case, judged_meaning}
+use Rattle.nom_internal.specs.Prelude.{ShowsMeaning, RunsOutBeside, GivesFor, IsAsked, kept_if, judged_case, judged_meaning}
 use Rattle.nom_error.specs.declared.answer.Err as Answer
 use Rattle.nom_internal.proofs.Shown.{Accepts, accepts, built_error}
 use Rattle.nom_internal.proofs.Cased.{here, passing_err}
@@ -43,13 +43,13 @@ module _ {I A V P R O E : Type 0} {w : Model I A} {IsOutput : V → P → Type 0
     (Makes : I → R → E → Type 0) {Grows : Type 0} {IsResult : V → O → Type 0} (m : Meaning I V E) {mode : Modes} {i : I} where
   -- whatever isn't an acceptance passes
   pub judged_err : {f : Answer.Err E (Option E) Needed} {r : PResult I O E} →
-      IsJudge IsOutput Takes Gives fits → ShowsMeaning w IsOutput m (with_outputs true mode) i (Err f) → r ≡ Err f →
+      IsAsked IsOutput Takes Gives fits → ShowsMeaning w IsOutput m (with_outputs true mode) i (Err f) → r ≡ Err f →
       JudgedShown w IsOutput Takes Gives fits Makes Grows IsResult m mode i r
   judged_err {f = f} k h e = subst (λ z. JudgedShown w IsOutput Takes Gives fits Makes Grows IsResult m mode i z) (sym e)
       (err_shown w IsOutput Takes Gives fits Makes Grows IsResult m mode i f h)
 
   -- an acceptance that fits stays
-  pub judged_fit : {j : I} {x : Option P} {p : P} {r : R} {b : Option O} → IsJudge IsOutput Takes Gives fits → x ≡ Some p → Gives p r → fits r ≡ true →
+  pub judged_fit : {j : I} {x : Option P} {p : P} {r : R} {b : Option O} → IsAsked IsOutput Takes Gives fits → x ≡ Some p → Gives p r → fits r ≡ true →
       ShowsMeaning w IsOutput m (with_outputs true mode) i (Ok (j, x)) → ((t : V) → IsOutput t p → Built mode.outputs (IsResult t) b) →
       JudgedShown w IsOutput Takes Gives fits Makes Grows IsResult m mode i (Ok (j, b))
   judged_fit {j = j} {p = p} {r = r} {b = b} k e g f h made =
@@ -63,7 +63,7 @@ module _ {I A V P R O E : Type 0} {w : Model I A} {IsOutput : V → P → Type 0
       )) (j, b, a.rest_is, made a.tree is, refl)
 
   -- and one that doesn't is refused
-  pub judged_unfit : {j : I} {x : Option P} {p : P} {r : R} {k : Answer.Err E (Option E) Needed} → IsJudge IsOutput Takes Gives fits → x ≡ Some p →
+  pub judged_unfit : {j : I} {x : Option P} {p : P} {r : R} {k : Answer.Err E (Option E) Needed} → IsAsked IsOutput Takes Gives fits → x ≡ Some p →
       Gives p r → fits r ≡ false → ShowsMeaning w IsOutput m (with_outputs true mode) i (Ok (j, x)) → Refuses (Makes i r) Grows mode.errors k →
       JudgedShown w IsOutput Takes Gives fits Makes Grows IsResult m mode i (Err k)
   judged_unfit {p = p} {r = r} {k = k} l e g f h q =

@@ -33,6 +33,7 @@ bounded_case At = record {
   Blames = λ i a Part. Part;
   part = λ mode. mode;
   Asks = λ _ i a. ⊥;
+  Runs = λ Part. Part;
   IsSound = λ Part. Part;
   IsFrugal = λ Part. Part;
   NeverFails = λ Part. Part;
@@ -42,6 +43,7 @@ bounded_case At = record {
 abbrev pub bounded_family : {I J B P Q E : Type 0} → Model J B → (P → J → Type 0) → Meaning J Q E → Family P I Q E
 bounded_family v IsOutput m = record {
   at = λ u. case_meaning (bounded_case (IsBound v IsOutput u)) m;
+  Runs = m.Runs;
   IsSound = m.IsSound × AreAlike v IsOutput;
   IsFrugal = m.IsFrugal;
   Settles = m.Settles;

@@ -35,6 +35,7 @@ pub record Case (I J P T E F : Type 0) : Type 1 where
   -- may memory be asked for beside the part, by what is built and by the part's outcome
   pub Asks : Modes → I → Outcome P → Type 0
   -- by what holds of the part
+  pub Runs : Type 0 → Type 0
   pub IsSound : Type 0 → Type 0
   pub IsFrugal : (Modes → Type 0) → Modes → Type 0
   pub NeverFails : (Cause → Type 0) → Cause → Type 0
@@ -55,6 +56,7 @@ pub data CaseRunsOut {I J P : Type 0} (At : I → J → Type 0) (Part : J → Ou
 
 abbrev pub case_meaning : {I J P T E F : Type 0} → Case I J P T E F → Meaning J P E → Meaning I T F
 case_meaning c m = record {
+  Runs = c.Runs m.Runs;
   IsSound = c.IsSound m.IsSound;
   answers = λ s i o. OnPart c.At (m.answers (mode_of c.mode s)) (λ _ a. c.Becomes i a o) i;
   blames = λ s i e. OnPart c.At (m.answers (mode_of c.mode s)) (λ j a. c.Blames i a (m.blames (mode_of c.mode s) j) e) i;
@@ -80,6 +82,7 @@ plain_case outputs Becomes = record {
   Blames = λ i a P. P;
   part = λ mode. with_outputs (outputs mode.outputs) mode;
   Asks = λ _ i a. ⊥;
+  Runs = λ Part. Part;
   IsSound = λ Part. Part;
   IsFrugal = λ Part mode. Part (with_outputs (outputs mode.outputs) mode);
   NeverFails = λ Part. Part;
@@ -102,6 +105,7 @@ fixed_case mode = record {
   Blames = λ i a P. P;
   part = with_streaming mode;
   Asks = λ _ i a. ⊥;
+  Runs = λ Part. Part;
   IsSound = λ Part. Part;
   IsFrugal = λ Part asked. Part (with_streaming mode asked);
   NeverFails = λ Part. Part;
@@ -132,6 +136,7 @@ closed_case Closes Grows = record {
   Blames = λ i. Closed (Closes i);
   part = λ mode. mode;
   Asks = λ mode i. OnRefused ((mode.errors ≡ true) × Grows);
+  Runs = λ Part. Part;
   IsSound = λ Part. Part;
   IsFrugal = λ Part mode. Part mode × (mode.errors ≡ true → Grows → ⊥);
   NeverFails = λ Part. Part;

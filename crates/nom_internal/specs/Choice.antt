@@ -52,6 +52,7 @@ NextRunsOut Grows m mode i = m.may_run_out mode i ⊎ (m.answers mode.streaming 
 -- and, where errors are built, making one takes no memory.
 abbrev pub or_meaning : {I V E : Type 0} → (E → E → E → Type 0) → Type 0 → Meaning I V E → Meaning I V E → Meaning I V E
 or_meaning Joins Grows a b = record {
+  Runs = a.Runs × b.Runs;
   IsSound = a.IsSound × b.IsSound;
   answers = λ s. OnRefusal (a.answers s) (b.answers s);
   blames = OrBlames Joins a b;
@@ -73,6 +74,7 @@ pub data OtherwiseBlames {I V E : Type 0} (a b : Meaning I V E) (s : Bool) (i : 
 -- The first parser, and where it refuses, its error dropped, the second. The dropped error isn't built.
 abbrev pub otherwise_meaning : {I V E : Type 0} → Meaning I V E → Meaning I V E → Meaning I V E
 otherwise_meaning a b = record {
+  Runs = a.Runs × b.Runs;
   IsSound = a.IsSound × b.IsSound;
   answers = λ s. OnRefusal (a.answers s) (b.answers s);
   blames = OtherwiseBlames a b;

@@ -12,10 +12,12 @@ pub record GivesFor {V P R : Type 0} (IsOutput : V → P → Type 0) (Gives : P 
 pub record IsCallable {V P : Type 0} (IsOutput : V → P → Type 0) (Takes : P → Type 0) : Type 0 where
   pub takes : (t : V) (p : P) → IsOutput t p → Takes p
 
--- A closure takes every output of the part, and judges the outputs of one tree alike: so a verdict that rests on what it gives
--- is fixed by the tree.
-pub record IsJudge {V P R : Type 0} (IsOutput : V → P → Type 0) (Takes : P → Type 0) (Gives : P → R → Type 0) (fits : R → Bool) : Type 0 where
+-- and an output is accepted where what the closure gives for it fits
+pub record IsAsked {V P R : Type 0} (IsOutput : V → P → Type 0) (Takes : P → Type 0) (Gives : P → R → Type 0) (fits : R → Bool) : Type 0 where
   pub takes : (t : V) (p : P) → IsOutput t p → Takes p
+
+-- A closure judges the outputs of one tree alike: so a verdict that rests on what it gives is fixed by the tree.
+pub record IsJudge {V P R : Type 0} (IsOutput : V → P → Type 0) (Gives : P → R → Type 0) (fits : R → Bool) : Type 0 where
   pub fixed : (t : V) (p q : P) (r x : R) → IsOutput t p → IsOutput t q → Gives p r → Gives q x → fits r ≡ fits x
 
 -- A closure gives results that are equal as viewed for arguments that are. No verdict rests on it: it is asked only where outputs

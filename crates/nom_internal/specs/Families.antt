@@ -9,6 +9,7 @@ use Rattle.nom_internal.specs.Outcome.{Cause}
 pub record Family (K I V E : Type 0) : Type 1 where
   pub at : K → Meaning I V E
   -- what holds of all of them
+  pub Runs : Type 0
   pub IsSound : Type 0
   pub IsFrugal : Modes → Type 0
   pub Settles : Type 0
@@ -16,7 +17,7 @@ pub record Family (K I V E : Type 0) : Type 1 where
 
 -- one meaning, whatever the key
 abbrev pub always : {K I V E : Type 0} → Meaning I V E → Family K I V E
-always m = record { at = λ _. m; IsSound = m.IsSound; IsFrugal = m.IsFrugal; Settles = m.Settles; NeverFails = m.NeverFails }
+always m = record { at = λ _. m; Runs = m.Runs; IsSound = m.IsSound; IsFrugal = m.IsFrugal; Settles = m.Settles; NeverFails = m.NeverFails }
 
 -- the laws of a sound family, of the keys of which the fact holds
 pub record IsLawfulFamily {K I A V E : Type 0} (w : Model I A) (IsKey : K → Type 0) (f : Family K I V E) : Type 0 where
@@ -51,6 +52,7 @@ IsOne {P} {V} IsValue = (u : P) (m n : V) → IsValue u m → IsValue u n → m 
 abbrev pub of_value : {P V I Q E : Type 0} → (P → V → Type 0) → Family V I Q E → Family P I Q E
 of_value IsValue f = record {
   at = λ u. record {
+    Runs = f.Runs;
     IsSound = f.IsSound;
     answers = λ s i o. OfValue (IsValue u) (λ v. (f.at v).answers s i o);
     blames = λ s i e. OfValue (IsValue u) (λ v. (f.at v).blames s i e);
@@ -59,6 +61,7 @@ of_value IsValue f = record {
     Settles = f.Settles;
     NeverFails = f.NeverFails;
   };
+  Runs = f.Runs;
   IsSound = f.IsSound × IsOne IsValue;
   IsFrugal = f.IsFrugal;
   Settles = f.Settles;

@@ -26,9 +26,13 @@ module _ {P O H S : Type 0} (IsOutput : P → O → Type 0) (g : Maker O H S) wh
     pub given : g.Gives output parser
     pub state_is : g.state parser ≡ u
 
-  -- every output is taken, and the parsers that are given are sound, and of one state for the outputs of one tree
-  pub record IsMaker (IsSound : S → Type 0) : Type 0 where
+  -- every output is taken, and the parsers that are given run
+  pub record IsMaker (Runs : S → Type 0) : Type 0 where
     pub takes : (t : P) (o : O) → IsOutput t o → g.Takes o
+    pub runs : (t : P) (o : O) (h : H) → IsOutput t o → g.Gives o h → Runs (g.state h)
+
+  -- the parsers that are given are sound, and of one state for the outputs of one tree
+  pub record MakesOne (IsSound : S → Type 0) : Type 0 where
     pub sound : (t : P) (o : O) (h : H) → IsOutput t o → g.Gives o h → IsSound (g.state h)
     pub fixed : (t : P) (o q : O) (h k : H) → IsOutput t o → IsOutput t q → g.Gives o h → g.Gives q k → g.state h ≡ g.state k
 
@@ -50,7 +54,8 @@ module _ {P O H S : Type 0} (IsOutput : P → O → Type 0) (g : Maker O H S) wh
   abbrev pub states_family : {I Q E : Type 0} → (S → Meaning I Q E) → Family S I (S × Q) E
   states_family m = record {
     at = λ u. labelled_meaning (λ q. (u, q)) (m u);
-    IsSound = IsMaker (λ u. (m u).IsSound);
+    Runs = IsMaker (λ u. (m u).Runs);
+    IsSound = MakesOne (λ u. (m u).IsSound);
     IsFrugal = λ mode. OfEach (λ u. (m u).IsFrugal mode);
     Settles = OfEach (λ u. (m u).Settles);
     NeverFails = λ cause. OfEach (λ u. (m u).NeverFails cause);
@@ -60,7 +65,8 @@ module _ {P O H S : Type 0} (IsOutput : P → O → Type 0) (g : Maker O H S) wh
   abbrev pub given_family : {I Q E : Type 0} → (S → Meaning I Q E) → Family P I (S × Q) E
   given_family m = record {
     at = (of_value GivesState (states_family m)).at;
-    IsSound = IsMaker (λ u. (m u).IsSound);
+    Runs = IsMaker (λ u. (m u).Runs);
+    IsSound = MakesOne (λ u. (m u).IsSound);
     IsFrugal = λ mode. OfEach (λ u. (m u).IsFrugal mode);
     Settles = OfEach (λ u. (m u).Settles);
     NeverFails = λ cause. OfEach (λ u. (m u).NeverFails cause);

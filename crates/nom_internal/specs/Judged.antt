@@ -10,7 +10,7 @@ use Rattle.nom_internal.specs.Meaning.{Meaning}
 use Rattle.nom_internal.specs.Grammar.{Grammar}
 use Rattle.nom_internal.specs.Cases.{Case, case_meaning, Passes}
 use Rattle.nom_internal.specs.Cases.PartMode.{AsAsked}
-use Rattle.nom_internal.specs.Closures.{GivesFor, IsJudge}
+use Rattle.nom_internal.specs.Closures.{GivesFor, IsAsked, IsJudge}
 
 -- the outcome where it fits, and else a refusal
 abbrev pub kept_if : {V : Type 0} → Bool → Outcome V → Outcome V
@@ -46,7 +46,8 @@ judged_case IsOutput Takes Gives fits Makes Grows = record {
   Blames = λ i. JudgedBlames (GivesFor IsOutput Gives) fits (Makes i);
   part = with_outputs true;
   Asks = λ mode i. OnUnfit (GivesFor IsOutput Gives) fits (λ _. (mode.errors ≡ true) × Grows);
-  IsSound = λ Part. Part × IsJudge IsOutput Takes Gives fits;
+  Runs = λ Part. Part × IsAsked IsOutput Takes Gives fits;
+  IsSound = λ Part. Part × IsJudge IsOutput Gives fits;
   IsFrugal = λ Part mode. Part (with_outputs true mode) × (mode.errors ≡ true → Grows → ⊥);
   NeverFails = λ Part. Part;
 }

@@ -21,10 +21,11 @@ LeafAnswers leaf s i Refuse = leaf.Refuses s i
 LeafAnswers leaf s i (Stop (Fails cause)) = ⊥
 LeafAnswers leaf s i (Stop (Needs k)) = (s ≡ true) × leaf.Lacks i k
 
--- a leaf with a premise and with the error of its refusals, for which alone it takes memory
-abbrev pub leaf_meaning : {I V E : Type 0} → Type 0 → (I → E → Type 0) → Type 0 → Leaf I V → Meaning I V E
-leaf_meaning IsSound Blames Grows leaf = record {
-  IsSound = IsSound;
+-- a leaf with the error of its refusals, for which alone it takes memory
+abbrev pub leaf_meaning : {I V E : Type 0} → (I → E → Type 0) → Type 0 → Leaf I V → Meaning I V E
+leaf_meaning Blames Grows leaf = record {
+  Runs = Unit {0};
+  IsSound = Unit {0};
   answers = LeafAnswers leaf;
   blames = λ s. Blames;
   may_run_out = λ mode i. leaf.Refuses mode.streaming i × (mode.errors ≡ true) × Grows;
@@ -85,8 +86,8 @@ module _ {I A V : Type 0} {w : Model I A} {leaf : Leaf I V} (l : LeafLaws w leaf
   answers_settle i (Stop (Fails cause)) h a d = a
   answers_settle i (Stop (Needs k)) h a d = absurd d
 
-  module _ {E : Type 0} {IsSound : Type 0} {Blames : I → E → Type 0} {Grows : Type 0} where
-    pub leaf_lawful : IsLawful w (leaf_meaning IsSound Blames Grows leaf)
+  module _ {E : Type 0} {Blames : I → E → Type 0} {Grows : Type 0} where
+    pub leaf_lawful : IsLawful w (leaf_meaning Blames Grows leaf)
     leaf_lawful = record {
       within = λ s i n v h a. l.place s i n v h a;
       one_outcome = λ s. answers_agree false s (λ e. cc);
@@ -97,5 +98,5 @@ module _ {I A V : Type 0} {w : Model I A} {leaf : Leaf I V} (l : LeafLaws w leaf
       never_fails = λ cause g s i h a. a;
     }
 
-    pub leaf_steady : IsSteady w (leaf_meaning IsSound Blames Grows leaf)
+    pub leaf_steady : IsSteady w (leaf_meaning Blames Grows leaf)
     leaf_steady = record { stays = answers_agree true true (λ e. e) }

@@ -21,7 +21,8 @@ map_case IsOutput Takes = record {
   Blames = λ i a Part. Part;
   part = λ mode. mode;
   Asks = λ mode i a. ⊥;
-  IsSound = λ Part. Part × IsCallable IsOutput Takes;
+  Runs = λ Part. Part × IsCallable IsOutput Takes;
+  IsSound = λ Part. Part;
   IsFrugal = λ Part. Part;
   NeverFails = λ Part. Part;
 }
@@ -45,6 +46,7 @@ renamed_case {E = E} Makes Grows = record {
   Blames = λ i a Part f. (e : E) × IsFault a × Part e × Makes i e f;
   part = λ mode. mode;
   Asks = λ mode i a. BuildsError mode.errors a × Grows;
+  Runs = λ Part. Part;
   IsSound = λ Part. Part;
   IsFrugal = λ Part mode. Part mode × (Grows → ⊥);
   NeverFails = λ Part. Part;

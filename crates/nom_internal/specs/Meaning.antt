@@ -10,7 +10,9 @@ use Rattle.nom_internal.specs.Outcome.Cause.{TooLarge}
 
 -- what a parser over I means, with parse trees V and errors E; its mode is streaming (true) or complete (false)
 pub record Meaning (I V E : Type 0) : Type 1 where
-  -- the premises: its closures are total and answer as fixed functions, and its parts are sound
+  -- the premise of a call: its closures take what they are given, and its parts run
+  pub Runs : Type 0
+  -- the premise of its laws: its closures answer as fixed functions, and its parts are sound
   pub IsSound : Type 0
   -- its outcome, by mode and input
   pub answers : Bool → I → Outcome V → Type 0
@@ -24,6 +26,10 @@ pub record Meaning (I V E : Type 0) : Type 1 where
   pub Settles : Type 0
   -- it never fails by this cause
   pub NeverFails : Cause → Type 0
+
+-- a meaning with other premises
+abbrev pub premised : {I V E : Type 0} → (Runs IsSound : Type 0) → Meaning I V E → Meaning I V E
+premised Runs IsSound m = record m { Runs = Runs; IsSound = IsSound }
 
 -- what a parser lacks is never too large, so that a failure is final
 abbrev pub NeverTooLarge : {I V E : Type 0} → Meaning I V E → Type 0
@@ -67,6 +73,22 @@ module _ {I A V E : Type 0} (w : Model I A) (m : Meaning I V E) where
   -- the law of a stream parser: a decided streaming outcome stays on every longer input
   pub record IsSteady : Type 0 where
     pub stays : Agree w true (m.answers true) (m.answers true)
+
+-- of which no law speaks
+module _ {I A V E : Type 0} {w : Model I A} {m : Meaning I V E} {Runs IsSound : Type 0} where
+  pub premised_lawful : IsLawful w m → IsLawful w (premised Runs IsSound m)
+  premised_lawful l = record {
+    within = l.within;
+    one_outcome = l.one_outcome;
+    alike = l.alike;
+    frugal = l.frugal;
+    settles = l.settles;
+    blames_alike = l.blames_alike;
+    never_fails = l.never_fails;
+  }
+
+  pub premised_steady : IsSteady w m → IsSteady w (premised Runs IsSound m)
+  premised_steady l = record { stays = l.stays }
 
 -- what `process` returns of a parser that means m, at i: what is built of outputs and errors, and the mode
 abbrev pub ShowsMeaning : {I A V O E : Type 0} → Model I A → (V → O → Type 0) → Meaning I V E → Modes → I →

@@ -32,7 +32,7 @@ pub use Rattle.nom_internal.specs.Choice.{ClosesError, ClosesResult, EitherOutpu
 pub use Rattle.nom_internal.specs.Choice.{OnError, OnRefusal, OrBlames, OtherwiseBlames, ShowsNext, either_meaning, either_of, or_meaning, otherwise_meaning}
 pub use Rattle.nom_internal.specs.Choice.NextBlames.{NextFails, NextRefuses}
 pub use Rattle.nom_internal.specs.Choice.OrBlames.{FirstFails, FirstRefuses}
-pub use Rattle.nom_internal.specs.Closures.{GivesFor, IsCallable, IsJudge, SeesAlike}
+pub use Rattle.nom_internal.specs.Closures.{GivesFor, IsCallable, IsAsked, IsJudge, SeesAlike}
 pub use Rattle.nom_internal.specs.Families.{AnyKey, Family, IsLawfulFamily, IsOne, OfValue, always, always_lawful, of_value, of_value_lawful, of_value_steady}
 pub use Rattle.nom_internal.specs.Grammar.{GivesAt, Grammar, Parses, Shows, sliced, valued}
 pub use Rattle.nom_internal.specs.Judged.{Judged, JudgedBlames, OfError, OnUnfit, judged_case, judged_meaning, kept_if}
@@ -40,6 +40,7 @@ pub use Rattle.nom_internal.specs.Leaf.{Leaf, LeafAnswers, LeafLaws, leaf_lawful
 pub use Rattle.nom_internal.specs.Mapped.{BuildsError, ConvertsResult, ConvertsSome, into_by, into_meaning, map_by, map_case, map_meaning, renamed_case}
 pub use Rattle.nom_internal.specs.Mapped.{renamed_meaning}
 pub use Rattle.nom_internal.specs.Meaning.{Agree, Carries, IsLawful, IsSteady, Keeps, Meaning, NeverTooLarge, ParsesMeaning, SameBlame, ShowsMeaning, Within}
+pub use Rattle.nom_internal.specs.Meaning.{premised, premised_lawful, premised_steady}
 pub use Rattle.nom_internal.specs.Outcome.{Cause, Reason, IsDecided, IsFailure, IsFault, OnOutcome, Outcome, ParsesOutcome, ParsesAnswer, ShowsOutcome}
 pub use Rattle.nom_internal.specs.Outcome.{ShowsAnswer, mapped}
 pub use Rattle.nom_internal.specs.Outcome.Cause.{Outright, TooLarge}

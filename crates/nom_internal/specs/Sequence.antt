@@ -51,6 +51,7 @@ module _ {I A P : Type 0} (w : Model I A) (First : I → Outcome P → Type 0) (
 -- A part, and then what its tree says, with a tree made of theirs, and with what each of them builds.
 abbrev pub then_meaning : {I A P Q T E : Type 0} → Model I A → (P → Q → T) → (Modes → Modes) → (Modes → Modes) → Meaning I P E → Family P I Q E → Meaning I T E
 then_meaning w tree first_mode next_mode a f = record {
+  Runs = a.Runs × f.Runs;
   IsSound = a.IsSound × f.IsSound;
   answers = λ s. Then w tree (a.answers s) (λ u. (f.at u).answers s);
   blames = λ s. ThenBlames w (a.answers s) (a.blames s) (λ u. (f.at u).answers s) (λ u. (f.at u).blames s);

@@ -14,7 +14,7 @@ success_leaf v = record {
 }
 
 abbrev pub success_meaning : {I V E : Type 0} → V → Meaning I V E
-success_meaning v = leaf_meaning (Unit {0}) (λ i e. ⊥) ⊥ (success_leaf v)
+success_meaning v = leaf_meaning (λ i e. ⊥) ⊥ (success_leaf v)
 
 -- the place before all items
 pub place_zero : {I A : Type 0} (w : Model I A) (i : I) (n : ℕ) → n ≡ 0 → IsBoundary w i n

@@ -52,7 +52,7 @@ pub fn after_refusal<I: Items, P: Parser<I>, OM: OutputMode>(
     next: &mut P,
     input: I,
 ) -> PResult<I, P::Output, P::Error>
-    requires { (P.grammar (P.state next.old)).meaning.IsSound }
+    requires { (P.grammar (P.state next.old)).meaning.Runs }
     ensures shown { ShowsNext I.model (P.grammar (P.state next.old)).IsOutput P.Error.errors.joined P.Error.errors.grows (P.grammar (P.state next.old)).meaning
         (modes OM.Output.BUILDS OM.Error.BUILDS OM.Incomplete.STREAMING) input error result }
     ensures kept { P.state next.new ≡ P.state next.old }
@@ -68,7 +68,7 @@ pub fn next_branch<I: Items, P: Parser<I>, OM: OutputMode>(
     next: &mut P,
     input: I,
 ) -> PResult<I, P::Output, P::Error>
-    requires { (P.grammar (P.state next.old)).meaning.IsSound }
+    requires { (P.grammar (P.state next.old)).meaning.Runs }
     ensures shown { OnError (ShowsNext I.model (P.grammar (P.state next.old)).IsOutput P.Error.errors.joined P.Error.errors.grows
         (P.grammar (P.state next.old)).meaning
         (modes OM.Output.BUILDS OM.Error.BUILDS OM.Incomplete.STREAMING) input) before result }

@@ -41,14 +41,14 @@ impl<I: Items, F: Parser<I> + Drop, O: Drop, G: Fn(F::Output) -> O> Parser<I> fo
         }
     }
 
-    ghost lawful = { λ s k. map_lawful (F.lawful s.0 k.0) };
+    ghost lawful = { λ s k. map_lawful (F.lawful s.0 k) };
 }
 
 impl<I: Items, F: StreamParser<I> + Drop, O: Viewed + Drop, G: Fn(F::Output) -> O> StreamParser<I>
     for Map<F, G> {
     ghost Pins = { λ p. F.Pins p.parser × SeesAlike F.Output.view O.view (G.post p.map) };
 
-    ghost pinned = { λ p k h. given_pinned (F.pinned p.parser k.0 h.0) h.1 };
+    ghost pinned = { λ p k h. given_pinned (F.pinned p.parser k h.0) h.1 };
 
-    ghost steady = { λ s k. map_steady (F.steady s.0 k.0) };
+    ghost steady = { λ s k. map_steady (F.steady s.0 k) };
 }

@@ -48,7 +48,7 @@ pub trait Parser<I: Items>: Sized {
     /// Runs the parser in the mode `OM`: builds the output and the error only where it asks for them,
     /// and answers as it says whether more input may come.
     fn process<OM: OutputMode>(&mut self, input: I) -> PResult<I, Self::Output, Self::Error>
-        requires sound { (grammar (state self.old)).meaning.IsSound }
+        requires runs { (grammar (state self.old)).meaning.Runs }
         ensures shown { Shows I.model (grammar (state self.old)) (modes OM.Output.BUILDS OM.Error.BUILDS OM.Incomplete.STREAMING) input result }
         // A call keeps the meaning.
         ensures kept { state self.new ≡ state self.old }
@@ -62,7 +62,7 @@ pub trait Parser<I: Items>: Sized {
     /// Parses an input of which more may come.
     #[inline(always)]
     final fn parse(&mut self, input: I) -> IResult<I, Self::Output, Self::Error>
-        requires sound { (grammar (state self.old)).meaning.IsSound }
+        requires runs { (grammar (state self.old)).meaning.Runs }
         ensures shown { Parses I.model (grammar (state self.old)) true input result }
         ensures kept { state self.new ≡ state self.old }
         ensures besides { Besides (modes true true true) self.old self.new input (rest_of result) }
@@ -73,7 +73,7 @@ pub trait Parser<I: Items>: Sized {
     /// Parses an input that is complete.
     #[inline(always)]
     final fn parse_complete(&mut self, input: I) -> IResult<I, Self::Output, Self::Error>
-        requires sound { (grammar (state self.old)).meaning.IsSound }
+        requires runs { (grammar (state self.old)).meaning.Runs }
         ensures shown { Parses I.model (grammar (state self.old)) false input result }
         ensures kept { state self.new ≡ state self.old }
         ensures besides { Besides (modes true true false) self.old self.new input (rest_of result) }

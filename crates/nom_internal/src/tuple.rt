@@ -22,7 +22,7 @@ pub fn member<I: Items, P: Parser<I>, OM: OutputMode>(
     part: &mut P,
     input: I,
 ) -> Result<(I, P::Output), Err<P::Error, Option<P::Error>>>
-    requires { (P.grammar (P.state part.old)).meaning.IsSound }
+    requires { (P.grammar (P.state part.old)).meaning.Runs }
     ensures shown { ShowsMeaning I.model (P.grammar (P.state part.old)).IsOutput (P.grammar (P.state part.old)).meaning
         (modes true OM.Error.BUILDS OM.Incomplete.STREAMING) input (with_output result) }
     ensures kept { P.state part.new ≡ P.state part.old }

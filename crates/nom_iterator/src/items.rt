@@ -42,8 +42,8 @@ impl<I: Items, E: ParseError<I>, F: Parser<I, Error = E> + Drop> Iterator
     for ParserIterator<I, E, F> {
     type Item = F::Output;
 
-    // The parser is sound.
-    ghost can_next = { λ s. (F.grammar (F.state s.parser)).meaning.IsSound };
+    // The parser runs.
+    ghost can_next = { λ s. (F.grammar (F.state s.parser)).meaning.Runs };
 
     ghost next_gives = { λ s r t. IsStep I.model (F.grammar (F.state s.parser)).IsOutput (F.grammar (F.state s.parser)).meaning (F.state s.parser)
         (F.state t.parser) s.input s.state r t.input t.state };

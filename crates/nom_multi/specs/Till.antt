@@ -55,6 +55,7 @@ till_rule errs = record {
   Blames = λ _ _ j a P e. TillBlames errs j a P e;
   part = λ _ mode. mode;
   Asks = λ mode _ a. TillAsks ((mode.errors ≡ true) × errs.grows) (mode.outputs ≡ true) a;
+  Runs = λ Part. Part;
   IsSound = λ Part. Part;
   IsFrugal = λ PartIs mode. PartIs mode × (mode.outputs ≡ true → ⊥) × (mode.errors ≡ true → errs.grows → ⊥);
   NeverFails = λ Part. Part;

@@ -40,7 +40,7 @@ impl<'a, I: Items, T: Drop, F: Parser<I, Output = T> + Drop> Parser<I> for Fill<
 
     #[inline]
     fn process<OM: OutputMode>(&mut self, input: I) -> PResult<I, (), F::Error>
-        requires sound { (F.grammar (F.state self.old.parser)).meaning.IsSound }
+        requires runs { (F.grammar (F.state self.old.parser)).meaning.Runs }
         ensures shown { ShowsMeaning I.model IsDone
             (fill_meaning I.model F.Error.errors (length self.old.buffer.now) (F.grammar (F.state self.old.parser)).meaning)
             (modes OM.Output.BUILDS OM.Error.BUILDS OM.Incomplete.STREAMING) input result }
@@ -76,7 +76,7 @@ pub fn fill_buffer<OM: OutputMode, I: Items, T: Drop, F: Parser<I, Output = T>>(
     buffer: &mut [T],
     input: I,
 ) -> PResult<I, (), F::Error>
-    requires { (F.grammar (F.state parser.old)).meaning.IsSound }
+    requires { (F.grammar (F.state parser.old)).meaning.Runs }
     ensures shown { ShowsMeaning I.model IsDone (fill_meaning I.model F.Error.errors (length buffer.old) (F.grammar (F.state parser.old)).meaning)
         (modes OM.Output.BUILDS OM.Error.BUILDS OM.Incomplete.STREAMING) input result }
     ensures kept { F.state parser.new ≡ F.state parser.old }

@@ -106,8 +106,8 @@ fn end_or_next<OM: OutputMode, I: Input, F: Parser<I>, G: Parser<I, Error = F::E
     end: &mut G,
     input: I,
 ) -> PResult<I, Step<Option<G::Output>, Option<F::Output>>, F::Error>
-    requires parser { (F.grammar (F.state parser.old)).meaning.IsSound }
-    requires end { (G.grammar (G.state end.old)).meaning.IsSound }
+    requires parser { (F.grammar (F.state parser.old)).meaning.Runs }
+    requires end { (G.grammar (G.state end.old)).meaning.Runs }
     ensures shown { ShowsAnswer I.model (IsStep OM.Output.BUILDS (G.grammar (G.state end.old)).IsOutput (F.grammar (F.state parser.old)).IsOutput)
         (modes true OM.Error.BUILDS OM.Incomplete.STREAMING) input
         ((end_or_item (G.grammar (G.state end.old)).meaning (F.grammar (F.state parser.old)).meaning).answers OM.Incomplete.STREAMING input)

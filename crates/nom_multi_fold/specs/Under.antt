@@ -1,29 +1,13 @@
--- A meaning under a premise, as of closures, and its laws.
-use Rattle.nom_internal.specs.Prelude.{Model, Meaning, IsLawful, IsSteady}
+-- A meaning whose closures are called beside its part, and its laws.
+use Rattle.nom_internal.specs.Prelude.{Model, Meaning, IsLawful, IsSteady, premised, premised_lawful, premised_steady}
 
--- what the part means, where the premise holds beside the part's own
+-- what the part means, where it runs and the premise holds
 abbrev pub under : {I V E : Type 0} → Type 0 → Meaning I V E → Meaning I V E
-under Premise m = record {
-  IsSound = m.IsSound × Premise;
-  answers = m.answers;
-  blames = m.blames;
-  may_run_out = m.may_run_out;
-  IsFrugal = m.IsFrugal;
-  Settles = m.Settles;
-  NeverFails = m.NeverFails;
-}
+under Premise m = premised (m.Runs × Premise) m.IsSound m
 
 module _ {I A V E : Type 0} {w : Model I A} {Premise : Type 0} {m : Meaning I V E} where
   pub under_lawful : IsLawful w m → IsLawful w (under Premise m)
-  under_lawful p = record {
-    within = p.within;
-    one_outcome = p.one_outcome;
-    alike = p.alike;
-    frugal = p.frugal;
-    settles = p.settles;
-    blames_alike = p.blames_alike;
-    never_fails = p.never_fails;
-  }
+  under_lawful p = premised_lawful p
 
   pub under_steady : IsSteady w m → IsSteady w (under Premise m)
-  under_steady p = record { stays = p.stays }
+  under_steady p = premised_steady p

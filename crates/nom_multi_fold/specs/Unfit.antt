@@ -11,6 +11,7 @@ Where IsUnfit P Q = (IsUnfit × P) ⊎ ((IsUnfit → ⊥) × Q)
 -- means.
 abbrev pub unfit : {I V E : Type 0} → Errors I E → ErrorKind → Bool → Type 0 → Meaning I V E → Meaning I V E
 unfit {V = V} errs kind fails IsUnfit m = record {
+  Runs = m.Runs;
   IsSound = m.IsSound;
   answers = λ s i o. Where IsUnfit (o ≡ error_outcome fails) (m.answers s i o);
   blames = λ s i e. Where IsUnfit (errs.of_kind i kind e) (m.blames s i e);

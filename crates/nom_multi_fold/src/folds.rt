@@ -52,7 +52,7 @@ impl<I: Input, F: Parser<I> + Drop, R: Drop, H: Fn() -> R, G: Fn(R, F::Output) -
         Ok((rest, carried(last)))
     }
 
-    ghost lawful = { λ s k. fold_many0_lawful I.lawful F.Error.errors (F.lawful s.0 k.0) };
+    ghost lawful = { λ s k. fold_many0_lawful I.lawful F.Error.errors (F.lawful s.0 k) };
 }
 
 impl<
@@ -66,9 +66,9 @@ impl<
 
     ghost Pins = { λ p. F.Pins p.parser × FoldsAlike F.Output.view R.view (H.post p.init) (G.post p.fold) };
 
-    ghost pinned = { λ p k h. folds_pinned (F.pinned p.parser k.0 h.0) h.1 };
+    ghost pinned = { λ p k h. folds_pinned (F.pinned p.parser k h.0) h.1 };
 
-    ghost steady = { λ s k. fold_many0_steady I.lawful F.Error.errors (F.steady s.0 k.0) };
+    ghost steady = { λ s k. fold_many0_steady I.lawful F.Error.errors (F.steady s.0 k) };
 }
 
 /// The fold of items until one is refused, one at least; made by `fold_many1`. The closures are called only
@@ -115,7 +115,7 @@ impl<I: Input, F: Parser<I> + Drop, R: Drop, H: Fn() -> R, G: Fn(R, F::Output) -
         Ok((after, carried(last)))
     }
 
-    ghost lawful = { λ s k. fold_many1_lawful I.lawful F.Error.errors (F.lawful s.0 (k.0).0) };
+    ghost lawful = { λ s k. fold_many1_lawful I.lawful F.Error.errors (F.lawful s.0 k.0) };
 }
 
 impl<
@@ -129,9 +129,9 @@ impl<
 
     ghost Pins = { λ p. F.Pins p.parser × FoldsAlike F.Output.view R.view (H.post p.init) (G.post p.fold) };
 
-    ghost pinned = { λ p k h. folds_pinned (F.pinned p.parser (k.0).0 h.0) h.1 };
+    ghost pinned = { λ p k h. folds_pinned (F.pinned p.parser k.0 h.0) h.1 };
 
-    ghost steady = { λ s k. fold_many1_steady I.lawful F.Error.errors (F.steady s.0 (k.0).0) };
+    ghost steady = { λ s k. fold_many1_steady I.lawful F.Error.errors (F.steady s.0 k.0) };
 }
 
 /// The fold of items until one is refused, as many as the bounds say; made by `fold_many_m_n`. The closures
@@ -178,7 +178,7 @@ impl<I: Input, F: Parser<I> + Drop, R: Drop, H: Fn() -> R, G: Fn(R, F::Output) -
         Ok((rest, carried(last)))
     }
 
-    ghost lawful = { λ s k. fold_many_m_n_lawful I.lawful F.Error.errors s.3 s.4 (F.lawful s.0 k.0) };
+    ghost lawful = { λ s k. fold_many_m_n_lawful I.lawful F.Error.errors s.3 s.4 (F.lawful s.0 k) };
 }
 
 impl<
@@ -192,7 +192,7 @@ impl<
 
     ghost Pins = { λ p. F.Pins p.parser × FoldsAlike F.Output.view R.view (H.post p.init) (G.post p.fold) };
 
-    ghost pinned = { λ p k h. folds_pinned (F.pinned p.parser k.0 h.0) h.1 };
+    ghost pinned = { λ p k h. folds_pinned (F.pinned p.parser k h.0) h.1 };
 
-    ghost steady = { λ s k. fold_many_m_n_steady I.lawful F.Error.errors s.3 s.4 (F.steady s.0 k.0) };
+    ghost steady = { λ s k. fold_many_m_n_steady I.lawful F.Error.errors s.3 s.4 (F.steady s.0 k) };
 }

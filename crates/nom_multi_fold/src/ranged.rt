@@ -138,7 +138,7 @@ impl<
         Ok((rest, carried(last)))
     }
 
-    ghost lawful = { λ s k. range_fold_lawful I.lawful F.Error.errors Kind.Fold (R.IsSpent s.3) (R.lower s.3) (R.upper s.3) (F.lawful s.0 k.0) };
+    ghost lawful = { λ s k. range_fold_lawful I.lawful F.Error.errors Kind.Fold (R.IsSpent s.3) (R.lower s.3) (R.upper s.3) (F.lawful s.0 k) };
 }
 
 impl<
@@ -154,7 +154,7 @@ impl<
 
     ghost Pins = { λ p. F.Pins p.parser × FoldsAlike F.Output.view T.view (H.post p.init) (G.post p.fold) };
 
-    ghost pinned = { λ p k h. folds_pinned (F.pinned p.parser k.0 h.0) h.1 };
+    ghost pinned = { λ p k h. folds_pinned (F.pinned p.parser k h.0) h.1 };
 
-    ghost steady = { λ s k. range_fold_steady I.lawful F.Error.errors Kind.Fold (R.IsSpent s.3) (R.lower s.3) (R.upper s.3) (F.steady s.0 k.0) };
+    ghost steady = { λ s k. range_fold_steady I.lawful F.Error.errors Kind.Fold (R.IsSpent s.3) (R.lower s.3) (R.upper s.3) (F.steady s.0 k) };
 }

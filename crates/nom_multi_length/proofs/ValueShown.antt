@@ -12,7 +12,7 @@ use Rattle.nom_multi_length.specs.Values.{cuts, window_meaning, settled_meaning,
 
 module _ {I A E : Type 0} (w : Model I A) (errs : Errors I E) (n : ℕ) (mode : Modes) (i : I) where
   abbrev leaf : Meaning I (Slice w) E
-  leaf = leaf_meaning (Unit {0}) (λ i. errs.of_kind i Kind.LengthValue) errs.grows (cuts w n)
+  leaf = leaf_meaning (λ i. errs.of_kind i Kind.LengthValue) errs.grows (cuts w n)
 
   abbrev Cut : PResult I I E → Type 0
   Cut = ShowsMeaning w (IsModelledBy w) (window_meaning w errs n) mode i

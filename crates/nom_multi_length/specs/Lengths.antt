@@ -21,6 +21,7 @@ after_length w tree IsLength a f = then_meaning w tree (with_outputs true) (λ o
 abbrev pub takes_by_count : {I A E : Type 0} → (w : Model I A) → Errors I E → (ℕ → List A → Option ℕ) → Family ℕ I (Slice w) E
 takes_by_count w errs lack = record {
   at = take_meaning w errs lack;
+  Runs = Unit {0};
   IsSound = Unit {0};
   IsFrugal = λ mode. mode.errors ≡ true → errs.grows → ⊥;
   Settles = Unit {0};
@@ -36,6 +37,7 @@ length_data_meaning w errs lack IsLength a = after_length w (λ u t. (u, t)) IsL
 abbrev pub items_by_count : {I A V E : Type 0} → (w : Model I A) → Errors I E → Meaning I V E → Family ℕ I (List V) E
 items_by_count w errs m = record {
   at = λ n. items_meaning w errs (exact_limits n) (Unit {0}) m;
+  Runs = m.Runs;
   IsSound = m.IsSound;
   IsFrugal = λ mode. m.IsFrugal (modes mode.outputs mode.errors mode.streaming) × (mode.outputs ≡ true → ⊥) × (mode.errors ≡ true → errs.grows → ⊥);
   Settles = m.Settles;

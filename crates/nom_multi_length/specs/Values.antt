@@ -17,7 +17,7 @@ cuts w n = record {
 
 -- in both modes as where more may come
 abbrev pub window_meaning : {I A E : Type 0} (w : Model I A) → Errors I E → ℕ → Meaning I (Slice w) E
-window_meaning w errs n = fixed_meaning true (leaf_meaning (Unit {0}) (λ i. errs.of_kind i Kind.LengthValue) errs.grows (cuts w n))
+window_meaning w errs n = fixed_meaning true (leaf_meaning (λ i. errs.of_kind i Kind.LengthValue) errs.grows (cuts w n))
 
 -- an outcome on all that there is: where more is needed, a refusal
 abbrev pub settled : {V : Type 0} → Outcome V → Outcome V
@@ -37,6 +37,7 @@ SettledBlames Own Part (Stop (Needs k)) e = Own e
 -- accept in the complete mode: so it doesn't settle.
 abbrev pub settled_meaning : {I V E : Type 0} → Errors I E → Meaning I V E → Meaning I V E
 settled_meaning {V = V} errs m = record {
+  Runs = m.Runs;
   IsSound = m.IsSound;
   answers = λ s i o. (a : Outcome V) × m.answers s i a × (o ≡ settled a);
   blames = λ s i e. (a : Outcome V) × m.answers s i a × SettledBlames (errs.of_kind i Kind.Complete) (m.blames s i) a e;
@@ -59,6 +60,7 @@ SettlesResult Own Grows errors (Err OutOfMemory) r = r ≡ Err OutOfMemory
 abbrev pub values_by_length : {I A V E : Type 0} → (w : Model I A) → Errors I E → Meaning I V E → Family ℕ I V E
 values_by_length w errs m = record {
   at = λ n. and_then_meaning w w (IsModelledBy w) (window_meaning w errs n) (settled_meaning errs m);
+  Runs = m.Runs;
   IsSound = m.IsSound;
   IsFrugal = λ mode. m.IsFrugal mode × (mode.errors ≡ true → errs.grows → ⊥);
   Settles = ⊥;

@@ -44,7 +44,7 @@ fn settled<OM: OutputMode, I: Input, G: Parser<I>>(
     parser: &mut G,
     input: I,
 ) -> PResult<I, G::Output, G::Error>
-    requires sound { (G.grammar (G.state parser.old)).meaning.IsSound }
+    requires runs { (G.grammar (G.state parser.old)).meaning.Runs }
     ensures shown { ShowsMeaning I.model (G.grammar (G.state parser.old)).IsOutput (settled_meaning G.Error.errors (G.grammar (G.state parser.old)).meaning)
         (modes OM.Output.BUILDS OM.Error.BUILDS OM.Incomplete.STREAMING) input result }
     ensures kept { G.state parser.new ≡ G.state parser.old }
@@ -59,7 +59,7 @@ fn within<OM: OutputMode, I: Input, G: Parser<I>>(
     input: I,
     length: usize,
 ) -> PResult<I, G::Output, G::Error>
-    requires sound { (G.grammar (G.state parser.old)).meaning.IsSound }
+    requires runs { (G.grammar (G.state parser.old)).meaning.Runs }
     ensures shown { ShowsMeaning I.model (G.grammar (G.state parser.old)).IsOutput
         ((values_by_length I.model G.Error.errors (G.grammar (G.state parser.old)).meaning).at length)
         (modes OM.Output.BUILDS OM.Error.BUILDS OM.Incomplete.STREAMING) input result }

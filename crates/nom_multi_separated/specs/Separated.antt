@@ -35,6 +35,7 @@ follows w errs separator m (v ∷ vs) = further_meaning w errs separator m
 abbrev pub following : {I A P V E : Type 0} → Model I A → Errors I E → Meaning I P E → Meaning I V E → Family (List V) I (List V) E
 following w errs separator m = record {
   at = follows w errs separator m;
+  Runs = (further_meaning w errs separator m).Runs;
   IsSound = (further_meaning w errs separator m).IsSound;
   IsFrugal = (further_meaning w errs separator m).IsFrugal;
   Settles = (further_meaning w errs separator m).Settles;

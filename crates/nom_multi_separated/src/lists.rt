@@ -158,7 +158,7 @@ fn first_item<OM: OutputMode, I: Input, F: Parser<I>, K: Accumulator<F::Output> 
     input: I,
     before: Option<K>,
 ) -> PResult<I, (bool, Option<K>), F::Error>
-    requires sound { (F.grammar (F.state parser.old)).meaning.IsSound }
+    requires runs { (F.grammar (F.state parser.old)).meaning.Runs }
     requires built { Built OM.Output.BUILDS K.CanPush before }
     ensures shown { ShowsAnswer I.model (Found K.Pushes K.CanPush (F.grammar (F.state parser.old)).IsOutput OM.Output.BUILDS before)
         (modes true OM.Error.BUILDS OM.Incomplete.STREAMING) input

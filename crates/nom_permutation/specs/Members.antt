@@ -19,6 +19,9 @@ abbrev pub EachMember : {I T E : Type 0} → (Member I T E → Type 0) → List 
 EachMember Fact [] = Unit {0}
 EachMember Fact (m ∷ ms) = Fact m × EachMember Fact ms
 
+abbrev pub AllRun : {I T E : Type 0} → List (Member I T E) → Type 0
+AllRun = EachMember (λ m. m.meaning.Runs)
+
 abbrev pub AreSound : {I T E : Type 0} → List (Member I T E) → Type 0
 AreSound = EachMember (λ m. m.meaning.IsSound)
 

@@ -4,13 +4,14 @@ use Rattle.std.specs.Prelude.{◌≡◌, ℕ, true, List, length}
 use Rattle.std.proofs.Common.{zero, suc}
 use Rattle.nom_error.specs.declared.kind.ErrorKind.TheVariants as Kind
 use Rattle.nom_internal.specs.Prelude.{Modes, Errors, Model, Accept, Meaning, Grammar, closed_meaning, Family, then_meaning, Cause}
-use Rattle.nom_permutation.specs.Members.{Member, EachMember, AreSound, Choice, tried}
+use Rattle.nom_permutation.specs.Members.{Member, EachMember, AllRun, AreSound, Choice, tried}
 use Rattle.nom_permutation.specs.Rounds.{FlatOutput}
 use Rattle.nom_permutation.specs.Members.Choice.{NoChoice, Among}
 
 -- an acceptance of no items
 abbrev pub done_meaning : {I V E : Type 0} → V → Meaning I V E
 done_meaning t = record {
+  Runs = Unit {0};
   IsSound = Unit {0};
   answers = λ s i o. o ≡ Accept 0 t;
   blames = λ s i e. ⊥;
@@ -33,6 +34,7 @@ NoneFails ms cause = EachMember (λ m. m.meaning.NeverFails cause) ms
 -- a meaning that promises what all members do
 abbrev pub promised : {I T V E : Type 0} → Type 0 → List (Member I T E) → Meaning I V E → Meaning I V E
 promised Grows ms m = record {
+  Runs = AllRun ms;
   IsSound = AreSound ms;
   answers = m.answers;
   blames = m.blames;
@@ -43,7 +45,7 @@ promised Grows ms m = record {
 }
 
 abbrev pub promised_family : {I T V E : Type 0} → Type 0 → List (Member I T E) → (T → Meaning I V E) → Family T I V E
-promised_family Grows ms at = record { at = at; IsSound = AreSound ms; IsFrugal = AreFrugal Grows ms; Settles = AllSettle ms; NeverFails = NoneFails ms }
+promised_family Grows ms at = record { at = at; Runs = AllRun ms; IsSound = AreSound ms; IsFrugal = AreFrugal Grows ms; Settles = AllSettle ms; NeverFails = NoneFails ms }
 
 -- a round: the choice among the members that aren't applied, closed where it stands; of none, nothing
 abbrev pub round_meaning : {I T E : Type 0} → (I → E → E → Type 0) → Type 0 → T → Choice I T E → Meaning I T E

@@ -1,7 +1,7 @@
 //! The members of a permutation, nested: a first one, or some and one more after them.
 ghost use Rattle.std.specs.Prelude.{◌≡◌, ◌+◌, ◌∷◌, [], ℕ, Bool, List, Option, Some, None, length};
 ghost use Rattle.nom_internal.specs.Prelude.{Built, modes};
-ghost use Rattle.nom_permutation.specs.Members.{Member, AreSound, IsOver, member, tried, with_last};
+ghost use Rattle.nom_permutation.specs.Members.{Member, AllRun, IsOver, member, tried, with_last};
 ghost use Rattle.nom_permutation.specs.laws.NestedLaws.{AreGood};
 ghost use Rattle.nom_permutation.specs.Rounds.{HasTried, SlotHolds, IsApplied, applies, waits};
 
@@ -54,7 +54,7 @@ pub trait Nested<I: Items>: Sized {
         slots: &mut Self::Slots,
         input: I,
     ) -> Option<Round<I, Self::Error>>
-        requires { AreSound (members (state self.old)) }
+        requires { AllRun (members (state self.old)) }
         ensures shown { (t : Tree) → AreHeld OM.Output.BUILDS (state self.old) t slots.old →
             HasTried I.model (modes OM.Output.BUILDS OM.Error.BUILDS OM.Incomplete.STREAMING) input
             (λ u. AreHeld OM.Output.BUILDS (state self.old) u slots.new) t

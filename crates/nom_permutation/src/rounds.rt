@@ -2,7 +2,7 @@
 ghost use Rattle.std.specs.Prelude.{◌≡◌};
 ghost use Rattle.nom_error.specs.declared.kind.ErrorKind.TheVariants as Kind;
 ghost use Rattle.nom_internal.specs.Prelude.{modes, ShowsMeaning};
-ghost use Rattle.nom_permutation.specs.Members.{AreSound};
+ghost use Rattle.nom_permutation.specs.Members.{AllRun};
 ghost use Rattle.nom_permutation.specs.Permutation.{permutation_meaning};
 ghost use Rattle.nom_permutation.specs.Rounds.{FlatOutput};
 
@@ -22,7 +22,7 @@ pub fn rounds<I: Items, N: Nested<I>, OM: OutputMode>(
 ) -> PResult<I, <N::Outputs as Flat>::Tuple, N::Error>
 where
     N::Outputs: Flat,
-    requires { AreSound (N.members (N.state members.old)) }
+    requires { AllRun (N.members (N.state members.old)) }
     ensures shown { ShowsMeaning I.model (FlatOutput (N.AreOutputs (N.state members.old)) N.Outputs.pairs)
         (permutation_meaning I.model N.Error.errors.joined (λ i. N.Error.errors.appended i Kind.Permutation) N.Error.errors.grows
         (N.members (N.state members.old)) N.none) (modes OM.Output.BUILDS OM.Error.BUILDS OM.Incomplete.STREAMING) input result }

@@ -41,7 +41,7 @@ fn try_first<I: Items, P: Parser<I>, OM: OutputMode>(
     member: &mut P,
     input: I,
 ) -> Round<I, P::Error>
-    requires { (P.grammar (P.state member.old)).meaning.IsSound }
+    requires { (P.grammar (P.state member.old)).meaning.Runs }
     ensures shown { TriesFirst I.model (P.grammar (P.state member.old)).IsOutput (P.grammar (P.state member.old)).meaning
         (modes OM.Output.BUILDS OM.Error.BUILDS OM.Incomplete.STREAMING) input slot.old slot.new result }
     ensures kept { P.state member.new ≡ P.state member.old }
@@ -58,7 +58,7 @@ fn try_next<I: Items, P: Parser<I>, OM: OutputMode>(
     member: &mut P,
     input: I,
 ) -> Round<I, P::Error>
-    requires { (P.grammar (P.state member.old)).meaning.IsSound }
+    requires { (P.grammar (P.state member.old)).meaning.Runs }
     ensures shown { TriesNext I.model (P.grammar (P.state member.old)).IsOutput P.Error.errors.joined P.Error.errors.grows
         (P.grammar (P.state member.old)).meaning
         (modes OM.Output.BUILDS OM.Error.BUILDS OM.Incomplete.STREAMING) input error slot.old slot.new result }
@@ -88,7 +88,7 @@ pub fn try_slot<I: Items, P: Parser<I>, OM: OutputMode>(
     member: &mut P,
     input: I,
 ) -> Option<Round<I, P::Error>>
-    requires { (P.grammar (P.state member.old)).meaning.IsSound }
+    requires { (P.grammar (P.state member.old)).meaning.Runs }
     ensures shown { Tries I.model (P.grammar (P.state member.old)).IsOutput P.Error.errors.joined P.Error.errors.grows (P.grammar (P.state member.old)).meaning
         (modes OM.Output.BUILDS OM.Error.BUILDS OM.Incomplete.STREAMING) input slot.old round slot.new result }
     ensures kept { P.state member.new ≡ P.state member.old }

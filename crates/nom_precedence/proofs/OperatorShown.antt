@@ -79,6 +79,7 @@ module _ {I A P H E : Type 0} {w : Model I A} (errs : Errors I E) (IsBinary : P 
 -- the same meaning, which runs out of memory as where outputs are built, or aren't
 abbrev with_want : {I V E : Type 0} → Bool → Meaning I V E → Meaning I V E
 with_want outputs m = record {
+  Runs = m.Runs;
   IsSound = m.IsSound;
   answers = m.answers;
   blames = m.blames;

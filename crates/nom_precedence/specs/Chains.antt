@@ -48,6 +48,7 @@ chain_rule Grows = record {
   Blames = λ _ _ _ a P e. ChainBlames a P e;
   part = λ _ mode. with_errors false mode;
   Asks = λ mode _ a. ChainAsks ((mode.outputs ≡ true) × Grows) a;
+  Runs = λ Part. Part;
   IsSound = λ Part. Part;
   IsFrugal = λ PartIs mode. PartIs (with_errors false mode) × (mode.outputs ≡ true → Grows → ⊥);
   NeverFails = λ Part. Part;

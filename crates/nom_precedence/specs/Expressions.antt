@@ -55,7 +55,8 @@ expression_meaning w errs operator term = freed_meaning w errs (read_meaning w e
 -- is frugal where outputs aren't built. Errors of refusals are built for the first operand alone. An operator's output is always built.
 abbrev pub premises : {I P V Q B E : Type 0} → Errors I E → Type 0 → (B → ℕ → Type 0) → Meaning I P E → Meaning I V E → Meaning I Q E → Meaning I B E → Premises
 premises errs CanFold IsLevel prefix operand postfix binary = record {
-  IsSound = prefix.IsSound × operand.IsSound × postfix.IsSound × binary.IsSound × IsOne IsLevel × CanFold;
+  Runs = prefix.Runs × operand.Runs × postfix.Runs × binary.Runs × CanFold;
+  IsSound = prefix.IsSound × operand.IsSound × postfix.IsSound × binary.IsSound × IsOne IsLevel;
   IsFrugal = λ mode.
       (mode.outputs ≡ true → ⊥)
       × (errs.grows → ⊥)

@@ -40,6 +40,7 @@ operator_case errs IsLevel levels = record {
   Blames = λ i. OperatorBlames IsLevel levels (errs.of_kind i Kind.Precedence);
   part = with_outputs true;
   Asks = λ mode i. OperatorAsks IsLevel levels errs.grows;
+  Runs = λ Part. Part;
   IsSound = λ Part. Part × IsOne IsLevel;
   IsFrugal = λ Part mode. Part (with_outputs true mode) × (errs.grows → ⊥);
   NeverFails = λ Part cause. Part cause × (cause ≡ TooLarge);

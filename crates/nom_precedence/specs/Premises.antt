@@ -1,8 +1,9 @@
 -- A meaning whose premises are told at once, in place of those that its definition gathers.
 use Rattle.nom.specs.Prelude.{Modes, Model, Meaning, IsLawful, IsSteady, Cause}
 
--- when a parser is sound, frugal, settles, and never fails
+-- when a parser runs, is sound, frugal, settles, and never fails
 pub record Premises : Type 1 where
+  pub Runs : Type 0
   pub IsSound : Type 0
   pub IsFrugal : Modes → Type 0
   pub Settles : Type 0
@@ -11,6 +12,7 @@ pub record Premises : Type 1 where
 -- the same answers, errors and running out of memory
 abbrev pub with_premises : {I V E : Type 0} → Premises → Meaning I V E → Meaning I V E
 with_premises p m = record {
+  Runs = p.Runs;
   IsSound = p.IsSound;
   answers = m.answers;
   blames = m.blames;

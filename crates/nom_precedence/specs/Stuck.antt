@@ -22,7 +22,7 @@ read_after m (Whole v) = m
 read_after m Stuck = success_meaning Stuck
 
 abbrev pub unless_stuck : {I V W E : Type 0} → Meaning I (Read W) E → Family (Read V) I (Read W) E
-unless_stuck m = record { at = read_after m; IsSound = m.IsSound; IsFrugal = m.IsFrugal; Settles = m.Settles; NeverFails = m.NeverFails }
+unless_stuck m = record { at = read_after m; Runs = m.Runs; IsSound = m.IsSound; IsFrugal = m.IsFrugal; Settles = m.Settles; NeverFails = m.NeverFails }
 
 -- a part, and another after it, unless it is stuck
 abbrev pub read_both : {I A V W T E : Type 0} → Model I A → (V → W → T) → Meaning I (Read V) E → Meaning I (Read W) E → Meaning I (Read T) E
@@ -63,6 +63,7 @@ freed_case w errs = record {
   Blames = StuckBlames w errs;
   part = λ mode. mode;
   Asks = λ mode i. StuckAsks ((mode.errors ≡ true) × errs.grows);
+  Runs = λ Part. Part;
   IsSound = λ Part. Part;
   IsFrugal = λ Part mode. Part mode × (mode.errors ≡ true → errs.grows → ⊥);
   NeverFails = λ Part. Part;

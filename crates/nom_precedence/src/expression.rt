@@ -126,10 +126,10 @@ fn read<
     fold: &G,
     input: I,
 ) -> PResult<I, Read<Option<F::Output>>, F::Error>
-    requires prefix { (P.grammar (P.state prefix.old)).meaning.IsSound }
-    requires operand { (F.grammar (F.state operand.old)).meaning.IsSound }
-    requires postfix { (Q.grammar (Q.state postfix.old)).meaning.IsSound }
-    requires binary { (C.grammar (C.state binary.old)).meaning.IsSound }
+    requires prefix { (P.grammar (P.state prefix.old)).meaning.Runs }
+    requires operand { (F.grammar (F.state operand.old)).meaning.Runs }
+    requires postfix { (Q.grammar (Q.state postfix.old)).meaning.Runs }
+    requires binary { (C.grammar (C.state binary.old)).meaning.Runs }
     requires fold { (x : Operation P.Output Q.Output B F.Output) → G.pre fold.now x }
     ensures shown { ShowsRead I.model (λ e y. StandsFor (folding (P.grammar (P.state prefix.old)).IsOutput (F.grammar (F.state operand.old)).IsOutput
         (Q.grammar (Q.state postfix.old)).IsOutput (C.grammar (C.state binary.old)).IsOutput (G.post fold.now)) (groups_left levels.now) e.0 e.1 y)

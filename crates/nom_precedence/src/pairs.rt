@@ -25,7 +25,7 @@ fn operator<OM: OutputMode, I: Input, B: Drop, C: Parser<I, Output = (usize, B)>
     levels: &[Assoc],
     input: I,
 ) -> PResult<I, (usize, B), C::Error>
-    requires { (C.grammar (C.state binary.old)).meaning.IsSound }
+    requires { (C.grammar (C.state binary.old)).meaning.Runs }
     ensures shown { ShowsAnswer I.model (IsOwn (C.grammar (C.state binary.old)).IsOutput) (modes true OM.Error.BUILDS OM.Incomplete.STREAMING) input
         ((operator_meaning C.Error.errors (HasLevel (C.grammar (C.state binary.old)).IsOutput (λ o. o.0)) (length levels.now)
         (C.grammar (C.state binary.old)).meaning).answers OM.Incomplete.STREAMING input)
@@ -76,10 +76,10 @@ fn pair<
     fold: &G,
     input: I,
 ) -> PResult<I, Read<Option<((usize, B), F::Output)>>, F::Error>
-    requires prefix { (P.grammar (P.state prefix.old)).meaning.IsSound }
-    requires operand { (F.grammar (F.state operand.old)).meaning.IsSound }
-    requires postfix { (Q.grammar (Q.state postfix.old)).meaning.IsSound }
-    requires binary { (C.grammar (C.state binary.old)).meaning.IsSound }
+    requires prefix { (P.grammar (P.state prefix.old)).meaning.Runs }
+    requires operand { (F.grammar (F.state operand.old)).meaning.Runs }
+    requires postfix { (Q.grammar (Q.state postfix.old)).meaning.Runs }
+    requires binary { (C.grammar (C.state binary.old)).meaning.Runs }
     requires fold { (x : Operation P.Output Q.Output B F.Output) → G.pre fold.now x }
     ensures shown { ShowsRead I.model (IsPairOf (C.grammar (C.state binary.old)).IsOutput
         (IsTerm (P.grammar (P.state prefix.old)).IsOutput (λ p x y. G.post fold.now (Prefix p x) y) (F.grammar (F.state operand.old)).IsOutput
@@ -187,10 +187,10 @@ pub fn pairs<
     input: I,
     before: Option<F::Output>,
 ) -> PResult<I, Read<Option<F::Output>>, F::Error>
-    requires prefix { (P.grammar (P.state prefix.old)).meaning.IsSound }
-    requires operand { (F.grammar (F.state operand.old)).meaning.IsSound }
-    requires postfix { (Q.grammar (Q.state postfix.old)).meaning.IsSound }
-    requires binary { (C.grammar (C.state binary.old)).meaning.IsSound }
+    requires prefix { (P.grammar (P.state prefix.old)).meaning.Runs }
+    requires operand { (F.grammar (F.state operand.old)).meaning.Runs }
+    requires postfix { (Q.grammar (Q.state postfix.old)).meaning.Runs }
+    requires binary { (C.grammar (C.state binary.old)).meaning.Runs }
     requires fold { (x : Operation P.Output Q.Output B F.Output) → G.pre fold.now x }
     requires before { Built OM.Output.BUILDS (λ _. Unit {0}) before }
     ensures shown { ShowsRead I.model (IsMade (groups_left levels.now) (λ c. c.0) (λ x c y z. G.post fold.now (Binary x c.1 y) z)

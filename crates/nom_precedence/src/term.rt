@@ -119,8 +119,8 @@ fn tail<
     fold: &G,
     input: I,
 ) -> PResult<I, Read<Option<F::Output>>, F::Error>
-    requires operand { (F.grammar (F.state operand.old)).meaning.IsSound }
-    requires postfix { (Q.grammar (Q.state postfix.old)).meaning.IsSound }
+    requires operand { (F.grammar (F.state operand.old)).meaning.Runs }
+    requires postfix { (Q.grammar (Q.state postfix.old)).meaning.Runs }
     requires fold { (x : Operation P Q.Output B F.Output) → G.pre fold.now x }
     ensures shown { ShowsRead I.model (IsTail (F.grammar (F.state operand.old)).IsOutput (Q.grammar (Q.state postfix.old)).IsOutput
         (λ x c y. G.post fold.now (Postfix x c) y)) (tail_meaning I.model (F.grammar (F.state operand.old)).meaning (Q.grammar (Q.state postfix.old)).meaning)
@@ -155,9 +155,9 @@ pub fn term<
     fold: &G,
     input: I,
 ) -> PResult<I, Read<Option<F::Output>>, F::Error>
-    requires prefix { (P.grammar (P.state prefix.old)).meaning.IsSound }
-    requires operand { (F.grammar (F.state operand.old)).meaning.IsSound }
-    requires postfix { (Q.grammar (Q.state postfix.old)).meaning.IsSound }
+    requires prefix { (P.grammar (P.state prefix.old)).meaning.Runs }
+    requires operand { (F.grammar (F.state operand.old)).meaning.Runs }
+    requires postfix { (Q.grammar (Q.state postfix.old)).meaning.Runs }
     requires fold { (x : Operation P.Output Q.Output B F.Output) → G.pre fold.now x }
     ensures shown { ShowsRead I.model (IsTerm (P.grammar (P.state prefix.old)).IsOutput (λ p x y. G.post fold.now (Prefix p x) y)
         (F.grammar (F.state operand.old)).IsOutput (Q.grammar (Q.state postfix.old)).IsOutput (λ x c y. G.post fold.now (Postfix x c) y))

@@ -21,6 +21,7 @@ HasError false mode = mode.errors ≡ true
 -- Where the test holds, a failure (true) or a refusal, with an error of the kind at the input; and else what the part means.
 abbrev pub error_if : {I V E : Type 0} → Errors I E → ErrorKind → Bool → Bool → Meaning I V E → Meaning I V E
 error_if {V = V} errs kind fails test m = record {
+  Runs = m.Runs;
   IsSound = m.IsSound;
   answers = λ s i o. Either test (o ≡ error_outcome fails) (m.answers s i o);
   blames = λ s i e. Either test (errs.of_kind i kind e) (m.blames s i e);

@@ -84,6 +84,7 @@ items_rule errs b Grows = record {
   Blames = λ i _ j a P e. ItemBlames errs b i j a P e;
   part = λ _ mode. modes mode.outputs (item_errors b.too_few mode.errors) mode.streaming;
   Asks = λ mode k a. ItemAsks b ((mode.errors ≡ true) × errs.grows) ((mode.outputs ≡ true) × Grows) k a;
+  Runs = λ Part. Part;
   IsSound = λ Part. Part;
   IsFrugal = λ PartIs mode. PartIs (modes mode.outputs (item_errors b.too_few mode.errors) mode.streaming) × (mode.outputs ≡ true → Grows → ⊥) ×
       (mode.errors ≡ true → errs.grows → ⊥);

@@ -76,7 +76,8 @@ pub record Rule (I P V T E : Type 0) : Type 1 where
   pub part : ℕ → Modes → Modes
   -- may it ask for memory after that many items, by what is built and by what the part replies
   pub Asks : Modes → ℕ → Option (Outcome P) → Type 0
-  -- by what holds of the parts: its premise, that it is frugal, that it never fails
+  -- by what holds of the parts: its premises, that it is frugal, that it never fails
+  pub Runs : Type 0 → Type 0
   pub IsSound : Type 0 → Type 0
   pub IsFrugal : (Modes → Type 0) → Modes → Type 0
   pub NeverFails : (Cause → Type 0) → Cause → Type 0
@@ -84,6 +85,7 @@ pub record Rule (I P V T E : Type 0) : Type 1 where
 -- The repetition, by a rule, of a part for each count of items before it, with a tree made of its items' trees and its end's.
 abbrev pub repeat_meaning : {I A P V T R E : Type 0} → Model I A → Rule I P V T E → (List V → T → R) → Family ℕ I P E → Meaning I R E
 repeat_meaning w r tree f = record {
+  Runs = r.Runs f.Runs;
   IsSound = r.IsSound f.IsSound;
   answers = λ s. Repeats w (TurnsBy r.bound r.turn (λ k. (f.at k).answers s)) tree;
   blames = λ s i e. Reaches w (TurnsBy r.bound r.turn (λ k. (f.at k).answers s))

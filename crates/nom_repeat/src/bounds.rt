@@ -21,7 +21,7 @@ pub fn any_items<OM: OutputMode, I: Input, F: Parser<I>, K: Accumulator<F::Outpu
     before: Option<K>,
     kind: ErrorKind,
 ) -> PResult<I, K, F::Error>
-    requires sound { (F.grammar (F.state parser.old)).meaning.IsSound }
+    requires runs { (F.grammar (F.state parser.old)).meaning.Runs }
     requires built { Built OM.Output.BUILDS K.CanPush before }
     ensures shown { ShowsMeaning I.model (Accumulated K.Pushes K.CanPush (F.grammar (F.state parser.old)).IsOutput before)
         (items_meaning I.model F.Error.errors (any_limits kind) K.Grows (F.grammar (F.state parser.old)).meaning)
@@ -47,7 +47,7 @@ pub fn one_item<OM: OutputMode, EM: Mode, I: Input, F: Parser<I>, K: Accumulator
     too_few: TooFew,
     at_start: bool,
 ) -> PResult<I, K, F::Error>
-    requires sound { (F.grammar (F.state parser.old)).meaning.IsSound }
+    requires runs { (F.grammar (F.state parser.old)).meaning.Runs }
     requires built { Built OM.Output.BUILDS K.CanPush before }
     requires errors { EM.BUILDS ≡ item_errors too_few OM.Error.BUILDS }
     requires limits { AreLimits (one_limits too_few at_start) }
@@ -76,7 +76,7 @@ pub fn bounded_items<OM: OutputMode, I: Input, F: Parser<I>, K: Accumulator<F::O
     least: usize,
     most: usize,
 ) -> PResult<I, K, F::Error>
-    requires sound { (F.grammar (F.state parser.old)).meaning.IsSound }
+    requires runs { (F.grammar (F.state parser.old)).meaning.Runs }
     requires built { Built OM.Output.BUILDS K.CanPush before }
     ensures shown { ShowsMeaning I.model (Accumulated K.Pushes K.CanPush (F.grammar (F.state parser.old)).IsOutput before)
         (items_meaning I.model F.Error.errors (bounded_limits kind least most) K.Grows (F.grammar (F.state parser.old)).meaning)

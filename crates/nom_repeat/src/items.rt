@@ -52,7 +52,7 @@ pub fn items<OM: OutputMode, EM: Mode, I: Input, F: Parser<I>, K: Accumulator<F:
     before: Option<K>,
     limits: Limits,
 ) -> PResult<I, K, F::Error>
-    requires sound { (F.grammar (F.state parser.old)).meaning.IsSound }
+    requires runs { (F.grammar (F.state parser.old)).meaning.Runs }
     requires built { Built OM.Output.BUILDS K.CanPush before }
     requires errors { EM.BUILDS ≡ item_errors limits.too_few OM.Error.BUILDS }
     requires limits { AreLimits limits }

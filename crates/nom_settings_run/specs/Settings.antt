@@ -31,11 +31,11 @@ module _ {I : Type 0} (w : Model I ℕ) where
 
   -- the characters up to the end of the line
   abbrev value_of : Meaning I (Slice w) (Error I)
-  value_of = run_meaning w (λ c b. b ≡ in_value c) (Unit {0})
+  value_of = run_meaning w (λ c b. b ≡ in_value c)
 
   -- characters that a set doesn't hold, one at least; a refusal is of a kind
   abbrev is_not_by : List ℕ → ErrorKind → Meaning I (Slice w) (Error I)
-  is_not_by set kind = run1_meaning w (λ c b. IsTrue (not b) ↔ Contains (chars set) c) (Unit {0}) kept kind
+  is_not_by set kind = run1_meaning w (λ c b. IsTrue (not b) ↔ Contains (chars set) c) kept kind
 
   -- two characters, the first of which may be missing
   abbrev end_of : (first second : ℕ) → Meaning I (Option ℕ × ℕ) (Error I)

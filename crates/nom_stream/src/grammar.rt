@@ -31,6 +31,7 @@ pub trait Grammar {
     /// Parses one item at the start of the input, by whether more input may come. The laws of the meaning come with the
     /// answer: `parse_item` gives them for every stream parser.
     fn item<'a>(&mut self, input: &'a [u8], more: bool) -> IResult<&'a [u8], Self::Item>
+        requires runs { (grammar (state self.old)).meaning.Runs }
         requires sound { (grammar (state self.old)).meaning.IsSound }
         ensures parses { ParsesItem (grammar (state self.old)) more input.entry result }
         ensures kept { state self.new ≡ state self.old };
@@ -51,6 +52,7 @@ pub fn parse_item<'a, P: StreamParser<&'a [u8], Error = Error<&'a [u8]>> + Drop>
     input: &'a [u8],
     more: bool,
 ) -> IResult<&'a [u8], P::Output>
+    requires runs { (P.grammar (P.state parser)).meaning.Runs }
     requires sound { (P.grammar (P.state parser)).meaning.IsSound }
     ensures parses { ParsesItem (P.grammar (P.state parser)) more input.entry result }
 {

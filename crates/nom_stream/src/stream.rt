@@ -216,6 +216,7 @@ impl<R: Read, A: Allocator + Copy> Stream<R, A> {
         needed: Needed,
         grammar: &mut G,
     ) -> Result<Option<(usize, G::Item)>, Stop>
+        requires runs { (G.grammar (G.state grammar.old)).meaning.Runs }
         requires sound { (G.grammar (G.state grammar.old)).meaning.IsSound }
         requires open { IsOpen R.remaining self.old }
         ensures kept { G.state grammar.new ≡ G.state grammar.old }
@@ -243,6 +244,7 @@ impl<R: Read, A: Allocator + Copy> Stream<R, A> {
         needed: Needed,
         grammar: &mut G,
     ) -> Result<Option<(usize, G::Item)>, Stop>
+        requires runs { (G.grammar (G.state grammar.old)).meaning.Runs }
         requires sound { (G.grammar (G.state grammar.old)).meaning.IsSound }
         requires open { IsOpen R.remaining self.old }
         ensures kept { G.state grammar.new ≡ G.state grammar.old }
@@ -266,6 +268,7 @@ impl<R: Read, A: Allocator + Copy> Stream<R, A> {
         &mut self,
         grammar: &mut G,
     ) -> Result<Option<(usize, G::Item)>, Stop>
+        requires runs { (G.grammar (G.state grammar.old)).meaning.Runs }
         requires sound { (G.grammar (G.state grammar.old)).meaning.IsSound }
         requires open { IsOpen R.remaining self.old }
         ensures kept { G.state grammar.new ≡ G.state grammar.old }

@@ -2,7 +2,7 @@
 use Rattle.std.specs.Prelude.{◌≡◌, ℕ, ◌<◌, Bool, true, false, length, refl}
 use Rattle.std.proofs.Common.{sym, ◌∙◌, ap, subst, inl, inr, arith, length-append}
 use Rattle.nom_internal.specs.Prelude.{Errors, Model, IsBoundary, Related, same_cut, items_len-ones, Slice, IsFirst, first_related, bits_model, spelled}
-use Rattle.nom_internal.specs.Prelude.{IsLawful, IsSteady, LeafLaws, leaf_lawful, leaf_steady}
+use Rattle.nom_internal.specs.Prelude.{IsLawful, IsSteady, LeafLaws, leaf_lawful, leaf_steady, premised_lawful, premised_steady}
 use Rattle.nom_internal.specs.laws.CaseLaws.{labelled_lawful, labelled_steady}
 use Rattle.nom_bits.specs.Fields.{IsField, IsShort, fields, tagged_fields, take_meaning, tag_meaning, bool_meaning}
 
@@ -86,16 +86,16 @@ module _ {I : Type 0} (w : Model I ℕ) where
 
   module _ {E : Type 0} (errs : Errors (I × ℕ) E) where
     pub take_lawful : (width count : ℕ) → IsLawful (bits_model w) (take_meaning w errs width count)
-    take_lawful width count = leaf_lawful (field_laws count)
+    take_lawful width count = premised_lawful (leaf_lawful (field_laws count))
 
     pub take_steady : (width count : ℕ) → IsSteady (bits_model w) (take_meaning w errs width count)
-    take_steady width count = leaf_steady (field_laws count)
+    take_steady width count = premised_steady (leaf_steady (field_laws count))
 
     pub tag_lawful : (width wanted count : ℕ) → IsLawful (bits_model w) (tag_meaning w errs width wanted count)
-    tag_lawful width wanted count = leaf_lawful (tag_laws wanted count)
+    tag_lawful width wanted count = premised_lawful (leaf_lawful (tag_laws wanted count))
 
     pub tag_steady : (width wanted count : ℕ) → IsSteady (bits_model w) (tag_meaning w errs width wanted count)
-    tag_steady width wanted count = leaf_steady (tag_laws wanted count)
+    tag_steady width wanted count = premised_steady (leaf_steady (tag_laws wanted count))
 
     pub bool_lawful : IsLawful (bits_model w) (bool_meaning w errs)
     bool_lawful = labelled_lawful (leaf_lawful (field_laws 1))

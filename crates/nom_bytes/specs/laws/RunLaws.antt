@@ -158,9 +158,9 @@ module _ {I A : Type 0} (w : Model I A) (IsValue : A → Type 0) (values : (i : 
       refused_settles = λ i h a. (a.0, a.1, run_closed w Test bound false i a.0 a.1 a.2, a.3);
     }
 
-    module _ {E : Type 0} (IsSound : Type 0) (Blames : I → E → Type 0) (Grows : Type 0) where
-      pub run_lawful : IsLawful w (leaf_meaning IsSound Blames Grows (runs w Test bound least))
+    module _ {E : Type 0} (Blames : I → E → Type 0) (Grows : Type 0) where
+      pub run_lawful : IsLawful w (leaf_meaning Blames Grows (runs w Test bound least))
       run_lawful = leaf_lawful run_laws
 
-      pub run_steady : IsSteady w (leaf_meaning IsSound Blames Grows (runs w Test bound least))
+      pub run_steady : IsSteady w (leaf_meaning Blames Grows (runs w Test bound least))
       run_steady = leaf_steady run_laws

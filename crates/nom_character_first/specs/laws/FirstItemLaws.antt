@@ -67,9 +67,9 @@ module _ {I A : Type 0} (w : Model I A) (IsValue : A → Type 0) (values : (i : 
     refused_settles = λ i h a. refused_settles i a;
   }
 
-  module _ {E : Type 0} (IsSound : Type 0) (errs : Errors I E) (blame : Blame) where
-    pub first_item_lawful : IsLawful w (first_item_meaning w code Test IsSound errs blame lack)
+  module _ {E : Type 0} (errs : Errors I E) (blame : Blame) where
+    pub first_item_lawful : IsLawful w (first_item_meaning w code Test errs blame lack)
     first_item_lawful = leaf_lawful first_item_laws
 
-    pub first_item_steady : IsSteady w (first_item_meaning w code Test IsSound errs blame lack)
+    pub first_item_steady : IsSteady w (first_item_meaning w code Test errs blame lack)
     first_item_steady = leaf_steady first_item_laws

@@ -36,7 +36,7 @@ module _ {I A V : Type 0} (w : Model I A) (Accepts : I → ℕ → V → Type 0)
   one_answer s i (Stop (Needs j)) p a b = absurd a.1
 
   module _ {E : Type 0} (Blames : I → E → Type 0) (Grows : Type 0) where
-    pub plain_lawful : IsLawful w (leaf_meaning (Unit {0}) Blames Grows (plain_leaf Accepts Refuses))
+    pub plain_lawful : IsLawful w (leaf_meaning Blames Grows (plain_leaf Accepts Refuses))
     plain_lawful = record {
       within = λ s i n v h a. l.place i n v a;
       one_outcome = λ s x y o p kx ky r a d b. one_answer s y o p (answers_alike s s x y o r a) b;

@@ -4,9 +4,9 @@ use Rattle.nom_internal.specs.Prelude.{Model, InputLaws, View, Meaning, IsLawful
 use Rattle.nom_internal.specs.Prelude.{IsPinned}
 use Rattle.nom_internal.specs.laws.CaseLaws.{labelled_lawful, labelled_steady}
 use Rattle.nom_internal.specs.laws.SequenceLaws.{then_lawful, then_steady}
-use Rattle.nom_internal.specs.FlatMap.{Maker, GivesState, IsMaker, OfEachGiven, IsGiven, states_family, given_family, flat_map_meaning}
+use Rattle.nom_internal.specs.FlatMap.{Maker, GivesState, MakesOne, OfEachGiven, IsGiven, states_family, given_family, flat_map_meaning}
 
-module _ {P O H S : Type 0} (IsOutput : P → O → Type 0) (g : Maker O H S) (IsSound : S → Type 0) (k : IsMaker IsOutput g IsSound) where
+module _ {P O H S : Type 0} (IsOutput : P → O → Type 0) (g : Maker O H S) (IsSound : S → Type 0) (k : MakesOne IsOutput g IsSound) where
   one_state : IsOne (GivesState IsOutput g)
   one_state t u x a b = sym a.state_is ∙ (k.fixed t a.output b.output a.parser b.parser a.is_output b.is_output a.given b.given ∙ b.state_is)
 
@@ -14,7 +14,7 @@ module _ {P O H S : Type 0} (IsOutput : P → O → Type 0) (g : Maker O H S) (I
   state_sound t u a = subst IsSound a.state_is (k.sound t a.output a.parser a.is_output a.given)
 
 module _ {I A P O H S Q E : Type 0} {w : Model I A} {IsOutput : P → O → Type 0} {g : Maker O H S} {m : S → Meaning I Q E}
-    (k : IsMaker IsOutput g (λ u. (m u).IsSound)) where
+    (k : MakesOne IsOutput g (λ u. (m u).IsSound)) where
   module _ (l : (u : S) → (m u).IsSound → IsLawful w (m u)) where
     states_lawful : IsLawfulFamily w (λ u. (t : P) × GivesState IsOutput g t u) (states_family IsOutput g m)
     states_lawful = record {
@@ -43,7 +43,7 @@ module _ {I A P O H S Q E : Type 0} {w : Model I A} {IsOutput : P → O → Type
 -- the outputs of one tree are one, where those of each parser are
 module _ {P O H S Q X : Type 0} {IsOutput : P → O → Type 0} {g : Maker O H S} {IsSound : S → Type 0} {Pins : H → Type 0} {view : View X}
     {IsResult : S → Q → X → Type 0} where
-  pub given_pinned : IsMaker IsOutput g IsSound → OfEachGiven IsOutput g Pins →
+  pub given_pinned : MakesOne IsOutput g IsSound → OfEachGiven IsOutput g Pins →
       ((h : H) → IsSound (g.state h) → Pins h → IsPinned view (IsResult (g.state h))) → IsPinned view (IsGiven IsOutput g IsResult)
   given_pinned k e f = record {
     one_view = λ t a b p q.

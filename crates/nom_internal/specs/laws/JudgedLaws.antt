@@ -38,7 +38,7 @@ module _ {V R : Type 0} (Says : V → R → Type 0) (fits : R → Bool) where
 
 module _ {I A V P R E : Type 0} {w : Model I A} {IsOutput : V → P → Type 0} {Takes : P → Type 0} {Gives : P → R → Type 0} {fits : R → Bool}
     {Makes : I → R → E → Type 0} {Grows : Type 0} where
-  judged_laws : IsJudge IsOutput Takes Gives fits → CaseLaws true w w (judged_case IsOutput Takes Gives fits Makes Grows)
+  judged_laws : IsJudge IsOutput Gives fits → CaseLaws true w w (judged_case IsOutput Takes Gives fits Makes Grows)
   judged_laws j =
       let one : (t : V) (r x : R) → GivesFor IsOutput Gives t r → GivesFor IsOutput Gives t x → fits r ≡ fits x =
       λ t r x g h. j.fixed t g.output h.output r x g.is_output h.is_output g.given h.given in
@@ -57,7 +57,7 @@ module _ {I A V P R E : Type 0} {w : Model I A} {IsOutput : V → P → Type 0} 
         asks_none = λ Part mode i a h g. unfit_only (GivesFor IsOutput Gives) fits ((mode.errors ≡ true) × Grows) a (λ z. h.1 z.0 z.1) g;
       }
 
-  module _ {m : Meaning I V E} (j : IsJudge IsOutput Takes Gives fits) where
+  module _ {m : Meaning I V E} (j : IsJudge IsOutput Gives fits) where
     pub judged_lawful : IsLawful w m → IsLawful w (judged_meaning IsOutput Takes Gives fits Makes Grows m)
     judged_lawful l = case_lawful (judged_laws j) l
 

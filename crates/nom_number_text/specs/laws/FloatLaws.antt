@@ -45,10 +45,8 @@ module _ {I A E : Type 0} (w : Model I A) (l : InputLaws w) (IsValue : A → Typ
     (code : A → ℕ) (errs : Errors I E) where
   pub char_stream : (c : ℕ) → IsStream w (char_meaning w code errs c)
   char_stream c = record {
-    lawful = first_item_lawful w IsValue values code (λ x b. b ≡ (code x == c)) (test_is_fixed IsValue (λ x. code x == c)) (Some (len_utf8 c)) (Unit {0}) errs
-        (OfChar c);
-    steady = first_item_steady w IsValue values code (λ x b. b ≡ (code x == c)) (test_is_fixed IsValue (λ x. code x == c)) (Some (len_utf8 c)) (Unit {0}) errs
-        (OfChar c);
+    lawful = first_item_lawful w IsValue values code (λ x b. b ≡ (code x == c)) (test_is_fixed IsValue (λ x. code x == c)) (Some (len_utf8 c)) errs (OfChar c);
+    steady = first_item_steady w IsValue values code (λ x b. b ≡ (code x == c)) (test_is_fixed IsValue (λ x. code x == c)) (Some (len_utf8 c)) errs (OfChar c);
   }
 
   pub either_stream : (c d : ℕ) → IsStream w (either_char_meaning w code errs c d)

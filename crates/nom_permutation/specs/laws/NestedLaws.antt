@@ -4,13 +4,23 @@ use Rattle.std.proofs.Common.{◌∙◌, arith, ap, subst, sym}
 use Rattle.nom_internal.specs.Prelude.{Model, View, pair_view, IsPinned, pair_pinned, Meaning, IsLawful, IsSteady}
 use Rattle.nom_permutation_slots.specs.declared.slots.Slot.{Slot}
 use Rattle.nom_internal.specs.declared.flat.One.{One}
-use Rattle.nom_permutation.specs.Members.{Member, member, EachMember, AreSound, AreLawful, AreSteady, Choice, IsOver, or_waiting, or_members, tried}
+use Rattle.nom_permutation.specs.Members.{Member, member, EachMember, AllRun, AreSound, AreLawful, AreSteady, Choice, IsOver, or_waiting, or_members, tried}
 use Rattle.nom_permutation.specs.Members.{among_more, with_last}
 use Rattle.nom_permutation.specs.Members.Choice.{NoChoice, Among}
 use Rattle.nom_permutation.specs.Left.{is_left, left, here, LeavesOneFewer}
 use Rattle.nom_permutation.specs.laws.MemberLaws.{applied_pinned}
 use Rattle.nom_permutation.specs.Rounds.{SlotHolds, IsApplied, waits}
 use Rattle.nom_permutation.specs.laws.RoundLaws.{step_over}
+
+-- a premise of all members is one of those before the last, and of the last
+module _ {I T P E : Type 0} (Premise : {V : Type 0} → Meaning I V E → Type 0) (m : Meaning I P E) where
+  each_other : (ms : List (Member I T E)) → EachMember (λ x. Premise x.meaning) (with_last ms m) → EachMember (λ x. Premise x.meaning) ms
+  each_other [] h = tt
+  each_other (x ∷ xs) h = (h.0, each_other xs h.1)
+
+  the_last : (ms : List (Member I T E)) → EachMember (λ x. Premise x.meaning) (with_last ms m) → Premise m
+  the_last [] h = h.0
+  the_last (x ∷ xs) h = the_last xs h.1
 
 module _ {I T P E : Type 0} (m : Meaning I P E) where
   each_last : (Fact : Member I T E → Type 0) (More : Member I (T × Option P) E → Type 0) → ((x : Member I T E) → Fact x → More (among_more x)) →
@@ -22,14 +32,17 @@ module _ {I T P E : Type 0} (m : Meaning I P E) where
   last_length [] = omega arith
   last_length (x ∷ xs) = omega (arith, last_length xs)
 
-  -- all are sound where those before the last are, and the last
-  pub others_sound : (ms : List (Member I T E)) → AreSound (with_last ms m) → AreSound ms
-  others_sound [] h = tt
-  others_sound (x ∷ xs) h = (h.0, others_sound xs h.1)
+  pub others_run : (ms : List (Member I T E)) → AllRun (with_last ms m) → AllRun ms
+  others_run = each_other (λ x. x.Runs) m
 
-  pub last_sound : (ms : List (Member I T E)) → AreSound (with_last ms m) → m.IsSound
-  last_sound [] h = h.0
-  last_sound (x ∷ xs) h = last_sound xs h.1
+  pub last_runs : (ms : List (Member I T E)) → AllRun (with_last ms m) → m.Runs
+  last_runs = the_last (λ x. x.Runs) m
+
+  others_sound : (ms : List (Member I T E)) → AreSound (with_last ms m) → AreSound ms
+  others_sound = each_other (λ x. x.IsSound) m
+
+  last_sound : (ms : List (Member I T E)) → AreSound (with_last ms m) → m.IsSound
+  last_sound = the_last (λ x. x.IsSound) m
 
   left_last : (ms : List (Member I T E)) (t : T × Option P) → left (with_last ms m) t ≡ left ms t.0 + is_left t.1
   left_last [] t = omega arith

@@ -2,7 +2,7 @@ use Rattle.std.proofs.Common.{◌≡◌, ◌<◌, length, map, ap, arith}
 use Rattle.std.proofs.lemmas.List.{length-map}
 use Rattle.std.proofs.lemmas.Bool.Decides.{nat_tests}
 use Rattle.nom_internal.specs.Prelude.{modes}
-use Rattle.nom_branch_list.proofs.Listed.{branch_sound, branch_kept, branch_first, branch_step, branch_close, branch_none}
+use Rattle.nom_branch_list.proofs.Listed.{branch_runs, branch_kept, branch_first, branch_step, branch_close, branch_none}
 use Rattle.nom_branch_list.proofs.lists.choose.Goals as goal
 
 pub returns-then-is_empty-clause-shown : goal.returns-then-is_empty-clause-shown
@@ -16,7 +16,7 @@ pub process-answer-requires : goal.process-answer-requires
 process-answer-requires g c =
     let some : 0 < length c.args.branches.now = grind (arith, nat_tests) in
     record {
-      sound = branch_sound g.A.Error.ParseError.errors (λ s. (g.A.Parser.grammar s).meaning) g.A.Parser.state c.args.branches.now c.args.branches.now 0
+      runs = branch_runs g.A.Error.ParseError.errors (λ s. (g.A.Parser.grammar s).meaning) g.A.Parser.state c.args.branches.now c.args.branches.now 0
           c.index-branches-0.result (λ _. map g.A.Parser.state c.args.branches.now) some c.requires;
     }
 
@@ -34,7 +34,7 @@ loop-k-init g c =
 pub next_branch-answer-requires : goal.next_branch-answer-requires
 next_branch-answer-requires g c =
     let k : c.loop-k.k < length c.loop-k.branches = omega arith in
-    branch_sound g.A.Error.ParseError.errors (λ s. (g.A.Parser.grammar s).meaning) g.A.Parser.state c.loop-k.branches c.args.branches.now c.loop-k.k
+    branch_runs g.A.Error.ParseError.errors (λ s. (g.A.Parser.grammar s).meaning) g.A.Parser.state c.loop-k.branches c.args.branches.now c.loop-k.k
     c.index-branches-k.result c.loop-k.invariant.kept k c.requires
 
 pub loop-k-preserved : goal.loop-k-preserved

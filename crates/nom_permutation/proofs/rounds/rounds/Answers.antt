@@ -2,7 +2,7 @@ use Rattle.std.specs.Prelude.{◌≡◌, Ok, Err, refl}
 use Rattle.std.proofs.Common.{arith, sym, ◌∙◌, ap, subst, suc}
 use Rattle.nom_internal.specs.Prelude.{modes, ClosesError}
 use Rattle.nom_error.specs.declared.kind.ErrorKind.TheVariants as Kind
-use Rattle.nom_permutation.specs.Members.{AreSound, tried}
+use Rattle.nom_permutation.specs.Members.{AllRun, tried}
 use Rattle.nom_permutation.specs.Permutation.{round_meaning}
 use Rattle.nom_permutation.specs.Rounds.{applies, HasTried, ShowsRound, FlatOutput}
 use Rattle.nom_permutation.proofs.Places.{flat_built}
@@ -32,7 +32,7 @@ loop-slots-init g c =
     }
 
 pub round-requires : goal.round-requires
-round-requires g c = subst (λ z. AreSound (g.N.Nested.members z)) (sym c.loop-slots.invariant.kept) c.requires
+round-requires g c = subst (λ z. AllRun (g.N.Nested.members z)) (sym c.loop-slots.invariant.kept) c.requires
 
 pub returns-in-None-clause-shown : goal.returns-in-None-clause-shown
 returns-in-None-clause-shown g c =

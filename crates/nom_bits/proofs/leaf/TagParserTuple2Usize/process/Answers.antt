@@ -7,7 +7,7 @@ pub spelling-number-requires-clause-within : goal.spelling-number-requires-claus
 spelling-number-requires-clause-within g c = split_within g.I.Items.model c.in-Some.ensures
 
 pub number_built-requires : goal.number_built-requires
-number_built-requires g c = fits_width _ _ _ c.spelling-number.ensures.range c.requires.sound
+number_built-requires g c = fits_width _ _ _ c.spelling-number.ensures.range c.requires.runs
 
 pub returns-then-number-self-clause-shown : goal.returns-then-number-self-clause-shown
 returns-then-number-self-clause-shown g c =

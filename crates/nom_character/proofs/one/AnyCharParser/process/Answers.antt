@@ -6,5 +6,5 @@ use Rattle.nom_character.proofs.one.AnyCharParser.process.Goals as goal
 
 pub returns-clause-shown : goal.returns-clause-shown
 returns-clause-shown g c =
-    head_lacking g.I.Item.Value.code (λ x b. b ≡ true) (Unit {0}) g.E.ParseError.errors (OfKind Kind.Eof)
+    head_lacking g.I.Item.Value.code (λ x b. b ≡ true) g.E.ParseError.errors (OfKind Kind.Eof)
     (c.new-lack.ensures.some (omega arith)) c.first_where.ensures

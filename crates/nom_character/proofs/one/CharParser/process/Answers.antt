@@ -9,4 +9,4 @@ returns-clause-shown g c =
     let wanted = c.args.self.now.wanted in
     let bounds = len_utf8_bounds wanted in
     let lack = c.new-lack.ensures.some (omega (arith, c.len_utf8.ensures.value, bounds.0)) ∙ ap Some c.len_utf8.ensures.value in
-    head_lacking g.I.Item.Value.code (λ x b. b ≡ (g.I.Item.Value.code x == wanted)) (Unit {0}) g.E.ParseError.errors (OfChar wanted) lack c.first_where.ensures
+    head_lacking g.I.Item.Value.code (λ x b. b ≡ (g.I.Item.Value.code x == wanted)) g.E.ParseError.errors (OfChar wanted) lack c.first_where.ensures

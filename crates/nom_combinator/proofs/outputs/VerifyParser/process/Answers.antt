@@ -10,19 +10,19 @@ use Rattle.nom_combinator.proofs.outputs.VerifyParser.process.Goals as goal
 pub returns-in_err-rest-clause-shown : goal.returns-in_err-rest-clause-shown
 returns-in_err-rest-clause-shown g c =
     judged_err (λ i _. g.F.Error.ParseError.errors.of_kind i Kind.Verify)
-    (g.F.Parser.grammar _).meaning c.requires.sound.1 c.in_err-rest.ensures.shown (err_from_residual c.from_residual.ensures)
+    (g.F.Parser.grammar _).meaning c.requires.runs.1 c.in_err-rest.ensures.shown (err_from_residual c.from_residual.ensures)
 
 pub returns-then-fits-clause-shown : goal.returns-then-fits-clause-shown
 returns-then-fits-clause-shown g c =
     let says = subst (FnReturnsAt g.G.Fn c.args.self.now.test _) c.if-fits.true c.passes-fits.ensures in
     judged_fit (λ i _. g.F.Error.ParseError.errors.of_kind i Kind.Verify) (g.F.Parser.grammar _).meaning
-    {r = true} c.requires.sound.1 c.in-Some.is says refl c.in_ok-rest.ensures.shown (kept_output _ _ _ _ _ says c.built.ensures)
+    {r = true} c.requires.runs.1 c.in-Some.is says refl c.in_ok-rest.ensures.shown (kept_output _ _ _ _ _ says c.built.ensures)
 
 pub returns-else-fits-clause-shown : goal.returns-else-fits-clause-shown
 returns-else-fits-clause-shown g c =
     let says = subst (FnReturnsAt g.G.Fn c.args.self.now.test _) c.if-fits.false c.passes-fits.ensures in
     judged_unfit (λ i _. g.F.Error.ParseError.errors.of_kind i Kind.Verify) (g.F.Parser.grammar _).meaning
-    {r = false} c.requires.sound.1 c.in-Some.is says refl c.in_ok-rest.ensures.shown c.refusal.ensures
+    {r = false} c.requires.runs.1 c.in-Some.is says refl c.in_ok-rest.ensures.shown c.refusal.ensures
 
 pub returns-else-fits-clause-besides : goal.returns-else-fits-clause-besides
 returns-else-fits-clause-besides g c = Dropped _ c.in_ok-rest.ensures.besides refl

@@ -2,7 +2,7 @@ use Rattle.nom_func.proofs.FuncShown.{func_ok, func_incomplete, func_error, func
 use Rattle.nom_func.proofs.func.FuncParser.process.Goals as goal
 
 pub returns-in-Ok-clause-shown : goal.returns-in-Ok-clause-shown
-returns-in-Ok-clause-shown g c = func_ok c.requires.sound c.prove_known.ensures c.in-Ok.ensures c.built.ensures
+returns-in-Ok-clause-shown g c = func_ok c.requires.runs c.prove_known.ensures c.in-Ok.ensures c.built.ensures
 
 pub returns-in-Err-Incomplete-clause-shown : goal.returns-in-Err-Incomplete-clause-shown
 returns-in-Err-Incomplete-clause-shown g c = func_incomplete c.prove_known.ensures c.in-Err-Incomplete.ensures c.in-Err-Incomplete.field-0-is

@@ -10,16 +10,16 @@ use Rattle.nom_internal.proofs.judged.MapOptParser.process.Goals as goal
 pub returns-in_err-rest-clause-shown : goal.returns-in_err-rest-clause-shown
 returns-in_err-rest-clause-shown g c =
     judged_err (λ i _. g.F.Error.ParseError.errors.of_kind i Kind.MapOpt)
-    (g.F.Parser.grammar _).meaning c.requires.sound.1 c.in_err-rest.ensures.shown (err_from_residual c.from_residual.ensures)
+    (g.F.Parser.grammar _).meaning c.requires.runs.1 c.in_err-rest.ensures.shown (err_from_residual c.from_residual.ensures)
 
 pub returns-in-Some-map-clause-shown : goal.returns-in-Some-map-clause-shown
 returns-in-Some-map-clause-shown g c =
-    judged_fit (λ i _. g.F.Error.ParseError.errors.of_kind i Kind.MapOpt) (g.F.Parser.grammar _).meaning c.requires.sound.1 c.in-Some.is c.in-Some-map.ensures
+    judged_fit (λ i _. g.F.Error.ParseError.errors.of_kind i Kind.MapOpt) (g.F.Parser.grammar _).meaning c.requires.runs.1 c.in-Some.is c.in-Some-map.ensures
     refl c.in_ok-rest.ensures.shown (kept_given _ _ _ _ _ _ c.in-Some-map.ensures c.built.ensures)
 
 pub returns-in-None-map-clause-shown : goal.returns-in-None-map-clause-shown
 returns-in-None-map-clause-shown g c =
-    judged_unfit (λ i _. g.F.Error.ParseError.errors.of_kind i Kind.MapOpt) (g.F.Parser.grammar _).meaning c.requires.sound.1 c.in-Some.is c.in-None-map.ensures
+    judged_unfit (λ i _. g.F.Error.ParseError.errors.of_kind i Kind.MapOpt) (g.F.Parser.grammar _).meaning c.requires.runs.1 c.in-Some.is c.in-None-map.ensures
     refl c.in_ok-rest.ensures.shown c.refusal.ensures
 
 pub returns-in_err-rest-clause-besides : goal.returns-in_err-rest-clause-besides

@@ -2,7 +2,7 @@ use Rattle.std.specs.Prelude.{Some}
 use Rattle.std.proofs.Common.{arith, sym, subst}
 use Rattle.nom_internal.specs.Prelude.{modes}
 use Rattle.nom_permutation.specs.Members.Choice.{NoChoice}
-use Rattle.nom_permutation.specs.laws.NestedLaws.{others_sound, last_sound, or_others, last_tried}
+use Rattle.nom_permutation.specs.laws.NestedLaws.{others_run, last_runs, or_others, last_tried}
 use Rattle.nom_permutation.specs.Rounds.{SlotHolds, HasTried}
 use Rattle.nom_permutation.proofs.Places.{holds_same, member_step, tries_counted}
 use Rattle.nom_permutation.proofs.Wider.{others_tried}
@@ -11,12 +11,12 @@ use Rattle.nom_permutation.proofs.members.MoreNested.round.Goals as goal
 pub round-round-requires : goal.round-round-requires
 round-round-requires g c =
     let p = c.args.self.now in
-    others_sound (g.A.Parser.grammar (g.A.Parser.state p.member)).meaning (g.M.Nested.members (g.M.Nested.state p.others)) c.requires
+    others_run (g.A.Parser.grammar (g.A.Parser.state p.member)).meaning (g.M.Nested.members (g.M.Nested.state p.others)) c.requires
 
 pub try_slot-requires : goal.try_slot-requires
 try_slot-requires g c =
     let p = c.args.self.now in
-    last_sound (g.A.Parser.grammar (g.A.Parser.state p.member)).meaning (g.M.Nested.members (g.M.Nested.state p.others)) c.requires
+    last_runs (g.A.Parser.grammar (g.A.Parser.state p.member)).meaning (g.M.Nested.members (g.M.Nested.state p.others)) c.requires
 
 pub returns-clause-shown : goal.returns-clause-shown
 returns-clause-shown g c t h =
