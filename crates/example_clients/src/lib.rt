@@ -4,5 +4,6 @@
 
 pub mod closures;
 pub mod dates;
+pub mod own;
 pub mod packets;
 pub mod parts;

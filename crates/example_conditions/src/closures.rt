@@ -2,7 +2,7 @@
 //! outputs of one tree alike, and that they give results that are equal as viewed for outputs that are. A chain of parsers
 //! over parts and closures of any type says in its clauses what it takes of them.
 ghost use Rattle.std.specs.Prelude.{◌≡◌, ℕ, List, Option, Some, Ok, is_some, is_ok};
-ghost use Rattle.nom_internal.specs.Prelude.{pair_view, IsCallable, IsJudge, SeesAlike};
+ghost use Rattle.nom_internal.specs.Prelude.{pair_view, IsAsked, IsCallable, IsJudge, SeesAlike};
 
 use nom::bytes::take;
 use nom::combinator::{map, map_res, value, verify};
@@ -41,6 +41,7 @@ pub fn pinned<I: Input, O: Viewed + Drop, P: StreamParser<I, Output = O, Error =
     input: I,
 ) -> IResult<I, O>
     requires runs { (P.grammar (P.state parser)).meaning.Runs }
+    requires sound { (P.grammar (P.state parser)).meaning.IsSound }
     requires pins { P.Pins parser }
 {
     parser.parse(input)
@@ -55,6 +56,7 @@ where
     P: StreamParser<I, Output = A, Error = Error<I>> + Drop,
     G: Fn(A) -> O + Drop,
     requires part { (P.grammar (P.state part)).meaning.Runs }
+    requires part_sound { (P.grammar (P.state part)).meaning.IsSound }
     requires pins { P.Pins part }
     requires takes { IsCallable (P.grammar (P.state part)).IsOutput (G.pre by) }
     requires alike { SeesAlike A.view O.view (G.post by) }
@@ -71,7 +73,9 @@ where
     P: StreamParser<I, Output = A, Error = Error<I>> + Drop,
     G: Fn((A, A)) -> O + Drop,
     requires first { (P.grammar (P.state first)).meaning.Runs }
+    requires first_sound { (P.grammar (P.state first)).meaning.IsSound }
     requires second { (P.grammar (P.state second)).meaning.Runs }
+    requires second_sound { (P.grammar (P.state second)).meaning.IsSound }
     requires pins { P.Pins first }
     requires second_pins { P.Pins second }
     requires takes { (o : A × A) → G.pre by o }
@@ -91,6 +95,7 @@ where
     F: Fn(A) -> B + Drop,
     G: Fn(B) -> O + Drop,
     requires part { (P.grammar (P.state part)).meaning.Runs }
+    requires part_sound { (P.grammar (P.state part)).meaning.IsSound }
     requires pins { P.Pins part }
     requires takes { IsCallable (P.grammar (P.state part)).IsOutput (F.pre first) }
     requires alike { SeesAlike A.view B.view (F.post first) }
@@ -108,7 +113,9 @@ where
     P: StreamParser<I, Output = O, Error = Error<I>> + Drop,
     Q: StreamParser<I, Output = O, Error = Error<I>> + Drop,
     requires first { (P.grammar (P.state first)).meaning.Runs }
+    requires first_sound { (P.grammar (P.state first)).meaning.IsSound }
     requires second { (Q.grammar (Q.state second)).meaning.Runs }
+    requires second_sound { (Q.grammar (Q.state second)).meaning.IsSound }
     requires pins { P.Pins first }
     requires second_pins { Q.Pins second }
 {
@@ -126,11 +133,15 @@ where
     F: Fn(A) -> Option<O> + Drop,
     G: Fn(A) -> Result<O, X> + Drop,
     requires a { (P.grammar (P.state a)).meaning.Runs }
+    requires a_sound { (P.grammar (P.state a)).meaning.IsSound }
     requires b { (P.grammar (P.state b)).meaning.Runs }
+    requires b_sound { (P.grammar (P.state b)).meaning.IsSound }
     requires a_pins { P.Pins a }
     requires b_pins { P.Pins b }
-    requires first { IsJudge (P.grammar (P.state a)).IsOutput (F.pre first) (F.post first) is_some }
-    requires second { IsJudge (P.grammar (P.state b)).IsOutput (G.pre second) (G.post second) is_ok }
+    requires first { IsAsked (P.grammar (P.state a)).IsOutput (F.pre first) (F.post first) is_some }
+    requires second { IsAsked (P.grammar (P.state b)).IsOutput (G.pre second) (G.post second) is_ok }
+    requires first_judges { IsJudge (P.grammar (P.state a)).IsOutput (F.post first) is_some }
+    requires second_judges { IsJudge (P.grammar (P.state b)).IsOutput (G.post second) is_ok }
     requires first_alike { SeesAlike A.view O.view (λ v o. F.post first v (Some o)) }
     requires second_alike { SeesAlike A.view O.view (λ v o. G.post second v (Ok o)) }
 {

@@ -73,6 +73,7 @@ fn pinned<'a, P: StreamParser<&'a [u8], Output = Wide, Error = Why> + Drop>(
     input: &'a [u8],
 ) -> IResult<&'a [u8], Wide, Why>
     requires runs { (P.grammar (P.state parser)).meaning.Runs }
+    requires sound { (P.grammar (P.state parser)).meaning.IsSound }
     requires pins { P.Pins parser }
 {
     parser.parse(input)

@@ -16,17 +16,17 @@ type Fail<'a> = Error<&'a [u8]>;
 
 /// Letters, as a function of the library reads them.
 pub fn letters(input: &[u8]) -> IResult<&[u8], &[u8]> {
-    recognize(func(complete::alpha0::<&[u8], Fail>)).parse(input)
+    answer_of(recognize(func(complete::alpha0::<&[u8], Fail>)), input)
 }
 
 /// A number.
 pub fn number(input: &[u8]) -> IResult<&[u8], u8> {
-    func(complete::u8::<&[u8], Fail>).parse(input)
+    answer_of(func(complete::u8::<&[u8], Fail>), input)
 }
 
 /// All that is left.
 pub fn all(input: &[u8]) -> IResult<&[u8], &[u8]> {
-    func(rest::<&[u8], Fail>).parse(input)
+    answer_of(func(rest::<&[u8], Fail>), input)
 }
 
 /// How much is left, by a closure. Its result names no lifetime but those of its argument, so the error holds no input.
@@ -50,12 +50,13 @@ pub fn listed<'a, 'h>(heap: &'h LocalHeap, input: &'a str) -> IResult<&'a str, u
     list.parse_complete(input)
 }
 
-/// What a parser answers.
+/// What a sound parser answers.
 fn answer_of<I: Input, P: Parser<I, Error = Error<I>> + Drop>(
     mut parser: P,
     input: I,
 ) -> IResult<I, P::Output>
-    requires { (P.grammar (P.state parser)).meaning.Runs }
+    requires runs { (P.grammar (P.state parser)).meaning.Runs }
+    requires sound { (P.grammar (P.state parser)).meaning.IsSound }
 {
     parser.parse(input)
 }

@@ -7,12 +7,13 @@ use nom::multi::{length_data, length_value, many0};
 use nom::{IResult, Input, Parser};
 use std::alloc::Global;
 
-/// What a parser answers.
+/// What a sound parser answers.
 fn answer_of<I: Input, P: Parser<I, Error = Error<I>> + Drop>(
     mut parser: P,
     input: I,
 ) -> IResult<I, P::Output>
-    requires { (P.grammar (P.state parser)).meaning.Runs }
+    requires runs { (P.grammar (P.state parser)).meaning.Runs }
+    requires sound { (P.grammar (P.state parser)).meaning.IsSound }
 {
     parser.parse(input)
 }
@@ -23,6 +24,7 @@ pub fn data<I: Input, L: Parser<I, Output = usize, Error = Error<I>> + Drop>(
     input: I,
 ) -> IResult<I, I>
     requires length { (L.grammar (L.state length)).meaning.Runs }
+    requires length_sound { (L.grammar (L.state length)).meaning.IsSound }
     requires one { IsOne (HasSize (L.grammar (L.state length)).IsOutput (λ n. n)) }
 {
     answer_of(length_data(length), input)
@@ -35,6 +37,7 @@ pub fn all_data<I: Input, L: Parser<I, Output = usize, Error = Error<I>> + Drop>
     input: I,
 ) -> IResult<I, Vec<I>>
     requires length { (L.grammar (L.state length)).meaning.Runs }
+    requires length_sound { (L.grammar (L.state length)).meaning.IsSound }
     requires one { IsOne (HasSize (L.grammar (L.state length)).IsOutput (λ n. n)) }
 {
     answer_of(many0(alloc, length_data(length)), input)
@@ -47,8 +50,10 @@ where
     L: Parser<I, Output = usize, Error = Error<I>> + Drop,
     P: Parser<I, Error = Error<I>> + Drop,
     requires length { (L.grammar (L.state length)).meaning.Runs }
+    requires length_sound { (L.grammar (L.state length)).meaning.IsSound }
     requires one { IsOne (HasSize (L.grammar (L.state length)).IsOutput (λ n. n)) }
     requires part { (P.grammar (P.state part)).meaning.Runs }
+    requires part_sound { (P.grammar (P.state part)).meaning.IsSound }
 {
     answer_of(length_value(length, part), input)
 }

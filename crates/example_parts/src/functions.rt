@@ -10,10 +10,12 @@ ghost use Rattle.example_parts.specs.Firsts.{first_outcome, small_outcome};
 use nom::combinator::verify;
 use nom::error::{Error, ErrorKind, ParseError};
 use nom::number::be_u8;
+use nom::promises::has_one_outcome;
 use nom::{
     Err, Func, Grown, IResult, Input, Items, Needed, Parser, StreamFunc, Viewed, func,
     parse_growing, stream_func,
 };
+use std::cell::Cell;
 
 type Fail<'a> = Error<&'a [u8]>;
 
@@ -80,6 +82,7 @@ pub fn grown<I: Input, O: Viewed + Drop, E: ParseError<I>, F: Fn(I) -> IResult<I
     cuts: &[usize],
 ) -> Grown<I, O, E>
     requires runs { (⟦<StreamFunc<F, I, O, E> as Parser<I>>⟧.grammar f).meaning.Runs }
+    requires sound { (⟦<StreamFunc<F, I, O, E> as Parser<I>>⟧.grammar f).meaning.IsSound }
     requires cuts { AreCuts I.model input cuts.now }
 {
     parse_growing(stream_func(f), input, cuts)
@@ -97,7 +100,8 @@ fn complete<I: Input, O: Viewed + Drop, E: ParseError<I>, F: Fn(I) -> IResult<I,
     f: F,
     input: I,
 ) -> IResult<I, O, E>
-    requires { (⟦<Func<F, I, O, E> as Parser<I>>⟧.grammar f).meaning.Runs }
+    requires runs { (⟦<Func<F, I, O, E> as Parser<I>>⟧.grammar f).meaning.Runs }
+    requires sound { (⟦<Func<F, I, O, E> as Parser<I>>⟧.grammar f).meaning.IsSound }
 {
     let mut parser = func(f);
     parser.parse_complete(input)
@@ -115,8 +119,19 @@ pub fn grown_byte<'a>(input: &'a [u8], cuts: &[usize]) -> Grown<&'a [u8], u8, Fa
     grown(first, input, cuts)
 }
 
-/// The first byte, where it is even; an odd one is refused, with `Verify`.
+/// The first byte, where it is even; an odd one is refused, with `Verify`. Each input has one outcome.
 pub fn even(input: &[u8]) -> IResult<&[u8], u8> {
     let mut even = verify(be_u8::<_, Fail>(), |byte: &u8| *byte % 2 == 0);
+    has_one_outcome(&even);
     even.parse(input)
+}
+
+/// The first byte, by a closure that counts how often it is asked. It runs, and what it is keeps no law.
+pub fn at_first(input: &[u8]) -> IResult<&[u8], u8> {
+    let calls = Cell::new(0u8);
+    let mut once = verify(be_u8::<_, Fail>(), |_: &u8| {
+        calls.set(calls.get().saturating_add(1));
+        calls.get() < 2
+    });
+    once.parse(input)
 }

@@ -56,6 +56,7 @@ fn unfailing<I: Input, P: StreamParser<I> + Drop>(
     cuts: &[usize],
 ) -> Grown<I, P::Output, P::Error>
     requires runs { (P.grammar (P.state parser)).meaning.Runs }
+    requires sound { (P.grammar (P.state parser)).meaning.IsSound }
     requires cuts { AreCuts I.model input cuts.now }
     ensures grown { IsGrown I.model (P.grammar (P.state parser)).IsOutput (P.grammar (P.state parser)).meaning input cuts.now result.index result.result }
     ensures failures { HasNoFailure I.model (P.grammar (P.state parser)).meaning }

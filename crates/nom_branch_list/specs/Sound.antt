@@ -2,7 +2,7 @@
 use Rattle.std.specs.Prelude.{ℕ, ◌+◌, List, [], ◌∷◌}
 use Rattle.std.proofs.Common.{subst, zero, suc}
 use Rattle.nom_internal.specs.Prelude.{Errors, Meaning, or_meaning}
-use Rattle.nom_branch_list.specs.Lists.{branch_meaning, others_meaning, list_meaning, IsElementAt}
+use Rattle.nom_branch_list.specs.Lists.{branch_meaning, others_meaning, any_branch_meaning, list_meaning, IsElementAt}
 
 -- a premise of a choice is that of both of its parsers
 module _ {S I V E : Type 0} (e : Errors I E) (part : S → Meaning I V E) (Whole : Meaning I (ℕ × V) E → Type 0) (Part : Meaning I V E → Type 0)
@@ -23,7 +23,7 @@ module _ {S I V E : Type 0} (e : Errors I E) (part : S → Meaning I V E) (Whole
   after m k (x ∷ xs) (suc j) s l h = after (or_meaning e.joined e.grows m (branch_meaning k (part x))) (k + 1) xs j s l h
 
   -- and of each of its parsers
-  at : (ss : List S) (j : ℕ) (s : S) → IsElementAt ss j s → Whole (list_meaning e part ss) → Part (part s)
+  at : (ss : List S) (j : ℕ) (s : S) → IsElementAt ss j s → Whole (any_branch_meaning e part ss) → Part (part s)
   at [] j s l h = absurd l
   at (x ∷ xs) zero s l h = subst (λ z. Part (part z)) l (labelled 0 (part x) (before (branch_meaning 0 (part x)) 1 xs h))
   at (x ∷ xs) (suc j) s l h = after (branch_meaning 0 (part x)) 1 xs j s l h
@@ -34,8 +34,10 @@ module _ {S I V E : Type 0} (e : Errors I E) (part : S → Meaning I V E) where
   sound_before = before e part (λ m. m.IsSound) (λ m. m.IsSound) (λ a b h. h) (λ k m h. h)
 
   pub sound_at : (ss : List S) (j : ℕ) (s : S) → IsElementAt ss j s → (list_meaning e part ss).IsSound → (part s).IsSound
-  sound_at = at e part (λ m. m.IsSound) (λ m. m.IsSound) (λ a b h. h) (λ k m h. h)
+  sound_at [] j s l h = absurd l
+  sound_at (x ∷ xs) j s l h = at e part (λ m. m.IsSound) (λ m. m.IsSound) (λ a b h. h) (λ k m h. h) (x ∷ xs) j s l h
 
   -- where it runs, so does each of its parsers
   pub runs_at : (ss : List S) (j : ℕ) (s : S) → IsElementAt ss j s → (list_meaning e part ss).Runs → (part s).Runs
-  runs_at = at e part (λ m. m.Runs) (λ m. m.Runs) (λ a b h. h) (λ k m h. h)
+  runs_at [] j s l h = absurd l
+  runs_at (x ∷ xs) j s l h = at e part (λ m. m.Runs) (λ m. m.Runs) (λ a b h. h) (λ k m h. h) (x ∷ xs) j s l h

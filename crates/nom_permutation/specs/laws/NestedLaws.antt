@@ -13,12 +13,12 @@ use Rattle.nom_permutation.specs.Rounds.{SlotHolds, IsApplied, waits}
 use Rattle.nom_permutation.specs.laws.RoundLaws.{step_over}
 
 -- a premise of all members is one of those before the last, and of the last
-module _ {I T P E : Type 0} (Premise : {V : Type 0} → Meaning I V E → Type 0) (m : Meaning I P E) where
-  each_other : (ms : List (Member I T E)) → EachMember (λ x. Premise x.meaning) (with_last ms m) → EachMember (λ x. Premise x.meaning) ms
+module _ {I T P E : Type 0} (Premise : (V : Type 0) → Meaning I V E → Type 0) (m : Meaning I P E) where
+  each_other : (ms : List (Member I T E)) → EachMember (λ x. Premise x.Tree x.meaning) (with_last ms m) → EachMember (λ x. Premise x.Tree x.meaning) ms
   each_other [] h = tt
   each_other (x ∷ xs) h = (h.0, each_other xs h.1)
 
-  the_last : (ms : List (Member I T E)) → EachMember (λ x. Premise x.meaning) (with_last ms m) → Premise m
+  the_last : (ms : List (Member I T E)) → EachMember (λ x. Premise x.Tree x.meaning) (with_last ms m) → Premise P m
   the_last [] h = h.0
   the_last (x ∷ xs) h = the_last xs h.1
 
@@ -33,16 +33,16 @@ module _ {I T P E : Type 0} (m : Meaning I P E) where
   last_length (x ∷ xs) = omega (arith, last_length xs)
 
   pub others_run : (ms : List (Member I T E)) → AllRun (with_last ms m) → AllRun ms
-  others_run = each_other (λ x. x.Runs) m
+  others_run = each_other (λ V x. x.Runs) m
 
   pub last_runs : (ms : List (Member I T E)) → AllRun (with_last ms m) → m.Runs
-  last_runs = the_last (λ x. x.Runs) m
+  last_runs = the_last (λ V x. x.Runs) m
 
   others_sound : (ms : List (Member I T E)) → AreSound (with_last ms m) → AreSound ms
-  others_sound = each_other (λ x. x.IsSound) m
+  others_sound = each_other (λ V x. x.IsSound) m
 
   last_sound : (ms : List (Member I T E)) → AreSound (with_last ms m) → m.IsSound
-  last_sound = the_last (λ x. x.IsSound) m
+  last_sound = the_last (λ V x. x.IsSound) m
 
   left_last : (ms : List (Member I T E)) (t : T × Option P) → left (with_last ms m) t ≡ left ms t.0 + is_left t.1
   left_last [] t = omega arith

@@ -4,4 +4,4 @@ use Rattle.nom_func.proofs.FuncSound.{outright_stream_func}
 use Rattle.example_parts.proofs.functions.grown_nothing.Goals as goal
 
 pub grown-requires-clause-sound : goal.grown-requires-clause-sound
-grown-requires-clause-sound c = outright_stream_func bytes_lawful (λ i. 0) (λ i k. tt) (λ i r g. g) (λ longer i j r. refl)
+grown-requires-clause-sound c = outright_stream_func bytes_lawful (λ i. 0) (λ i r g. g) (λ longer i j r. refl)

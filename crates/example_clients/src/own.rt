@@ -1,0 +1,147 @@
+//! Functions of one's own as parts: any function of the shape `fn(Input) -> IResult<Input, Output>` by `func`, with nothing
+//! written but the view of a type that one gives.
+
+use nom::branch::alt;
+use nom::bytes::{is_not, take};
+use nom::character::complete::digit1;
+use nom::character::{char, one_of};
+use nom::combinator::{flat_map, iterator, map_opt, map_res, opt, rest, verify};
+use nom::multi::{fold_many0, length_data, length_value, many0};
+use nom::number::be_u8;
+use nom::sequence::delimited;
+use nom::{IResult, Parser, Viewed, func};
+use std::alloc::Allocator;
+use std::str::{Utf8Error, from_utf8};
+
+/// A day of a month.
+#[derive(Clone, Copy, Debug, PartialEq, Eq)]
+pub struct Day {
+    pub month: u32,
+    pub day: u32,
+}
+
+impl Viewed for Day {}
+
+/// A decimal digit.
+pub fn digit(input: &str) -> IResult<&str, u32> {
+    let (rest, digit) = one_of("0123456789").parse_complete(input)?;
+    match digit.to_digit(10) {
+        Some(value) => Ok((rest, value)),
+        None => Ok((rest, 0)),
+    }
+}
+
+/// Two digits.
+pub fn two(input: &str) -> IResult<&str, u32> {
+    let (input, tens) = digit(input)?;
+    let (input, ones) = digit(input)?;
+    Ok((input, tens.saturating_mul(10).saturating_add(ones)))
+}
+
+/// A month and a day, as `11-27`.
+pub fn day(input: &str) -> IResult<&str, Day> {
+    let (input, month) = two(input)?;
+    let (input, _) = char('-').parse_complete(input)?;
+    let (input, day) = two(input)?;
+    Ok((input, Day { month, day }))
+}
+
+/// A day that is named.
+pub fn named(input: &str) -> IResult<&str, Day> {
+    let (input, name) = is_not(";").parse_complete(input)?;
+    match name {
+        "new year" => Ok((input, Day { month: 1, day: 1 })),
+        _ => Ok((input, Day { month: 12, day: 31 })),
+    }
+}
+
+/// A day, or none.
+pub fn maybe_day(input: &str) -> IResult<&str, Option<Day>> {
+    opt(func(day)).parse_complete(input)
+}
+
+/// Days, one after another.
+pub fn days<A: Allocator + Copy>(alloc: A, input: &str) -> IResult<&str, Vec<Day, A>> {
+    many0(alloc, func(day)).parse_complete(input)
+}
+
+/// A day, in figures or by its name.
+pub fn either_day(input: &str) -> IResult<&str, Day> {
+    alt((func(day), func(named))).parse_complete(input)
+}
+
+/// A number of as many digits as there are.
+pub fn number(input: &str) -> IResult<&str, u32> {
+    map_res(func(digit1), |digits: &str| digits.parse::<u32>()).parse_complete(input)
+}
+
+/// The text of bytes.
+pub fn input_to_str(bytes: &[u8]) -> Result<&str, Utf8Error> {
+    from_utf8(bytes)
+}
+
+/// A text, with its length in front.
+pub fn text(input: &[u8]) -> IResult<&[u8], &str> {
+    map_res(length_data(be_u8()), input_to_str).parse_complete(input)
+}
+
+/// The character of a text that has one.
+pub fn single_char(text: &str) -> Option<char> {
+    let mut characters = text.chars();
+    let first = characters.next();
+    if characters.next().is_none() { first } else { None }
+}
+
+/// A character in quotes.
+pub fn quoted(input: &str) -> IResult<&str, char> {
+    map_opt(delimited(char('\''), is_not("'"), char('\'')), single_char).parse_complete(input)
+}
+
+/// A minute of an hour.
+pub fn minute(input: &str) -> IResult<&str, u32> {
+    verify(func(two), |minute: &u32| *minute < 60).parse_complete(input)
+}
+
+/// A length, twice as long where its highest bit is set.
+pub fn own_length(input: &[u8]) -> IResult<&[u8], u16> {
+    let (input, first) = be_u8().parse(input)?;
+    if first < 128 {
+        return Ok((input, first as u16));
+    }
+    let (input, second) = be_u8().parse(input)?;
+    Ok((input, (first - 128) as u16 * 256 + second as u16))
+}
+
+/// A mark and what follows it.
+pub fn own_body(input: &[u8]) -> IResult<&[u8], (u8, &[u8])> {
+    let (input, mark) = be_u8().parse_complete(input)?;
+    let (input, all) = rest(input)?;
+    Ok((input, (mark, all)))
+}
+
+/// A body with its length in front.
+pub fn packet(input: &[u8]) -> IResult<&[u8], (u8, &[u8])> {
+    length_value(func(own_length), func(own_body)).parse(input)
+}
+
+/// As many bytes as a length in front says.
+pub fn counted(input: &[u8]) -> IResult<&[u8], &[u8]> {
+    flat_map(func(own_length), take).parse(input)
+}
+
+/// The sum of days' numbers.
+pub fn sum(input: &str) -> IResult<&str, u32> {
+    fold_many0(func(day), || 0u32, |sum: u32, day: Day| sum.saturating_add(day.day))
+        .parse_complete(input)
+}
+
+/// How many of the days are the first of a month.
+pub fn firsts(input: &str) -> usize {
+    let mut firsts = 0usize;
+    for day in iterator(input, func(day)) {
+        if day.day == 1 {
+            firsts = firsts.saturating_add(1);
+        }
+    }
+    firsts
+}
