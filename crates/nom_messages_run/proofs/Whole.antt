@@ -60,13 +60,13 @@ module _ {R A V : Type 0} (left : R → Option (List ℕ)) (grammar : Grammar By
     pub offset : t.offset ≡ min (s.offset + used) (2 ^ 64 - 1)
     pub settings : t.settings ≡ s.settings
 
-  -- every answer rests on lawful meanings
-  lawful_of : (u t : Stream R A) (r : Told Received) → Answers grammar u t r → IsLawful bytes_model grammar.meaning
-  lawful_of u t r (Decided taken d g l e) = g.parses.lawful
-  lawful_of u t r (AtEnd e k g h) = g.parses.lawful
-  lawful_of u t r (Full a b w e) = (w.1).parses.lawful
-  lawful_of u t r (Faulted why b w e) = (w.1).parses.lawful
-  lawful_of u t r (Lacking l b before last d k w few e) = w.parses.lawful
+  -- every answer rests on meanings that are lawful where they are sound
+  lawful_of : grammar.meaning.IsSound → (u t : Stream R A) (r : Told Received) → Answers grammar u t r → IsLawful bytes_model grammar.meaning
+  lawful_of sound u t r (Decided taken d g l e) = g.parses.lawful sound
+  lawful_of sound u t r (AtEnd e k g h) = g.parses.lawful sound
+  lawful_of sound u t r (Full a b w e) = (w.1).parses.lawful sound
+  lawful_of sound u t r (Faulted why b w e) = (w.1).parses.lawful sound
+  lawful_of sound u t r (Lacking l b before last d k w few e) = w.parses.lawful sound
 
   -- where the last line tells that there is no further item, none is accepted
   none_accepted : (lawful : IsLawful bytes_model grammar.meaning) (t : Stream R A) (complete : Bool) (place : Bytes) → bytes_model.IsKnown place →
@@ -117,7 +117,8 @@ module _ {R A V : Type 0} (left : R → Option (List ℕ)) (grammar : Grammar By
     settings = k.settings ∙ settings;
   }
 
-  module _ (answers : AnswersWhole A left grammar) (items : ItemsOfWhole A left grammar) (bytes : BytesOfWhole A left grammar) where
+  module _ (sound : grammar.meaning.IsSound) (answers : AnswersWhole A left grammar) (items : ItemsOfWhole A left grammar)
+      (bytes : BytesOfWhole A left grammar) where
     abbrev AreListed : Stream R A → Stream R A → ℕ → List ℕ → Type 0
     AreListed s t count text =
         (whole : Bytes) → bytes_model.IsKnown whole → HasLeft left s whole.now → s.offset ≤ 2 ^ 64 - 1 →
@@ -210,7 +211,7 @@ module _ {R A V : Type 0} (left : R → Option (List ℕ)) (grammar : Grammar By
           with_last p.0 p.1 (λ _. is)
       last_line (v ∷ vs) is =
           let p = subst (AllItems grammar.meaning s.settings.complete (suc limit) k.place) is k.go_on in
-          let lawful = lawful_of (e.last).filled t (stopped e.why) (e.last).answers in
+          let lawful = lawful_of sound (e.last).filled t (stopped e.why) (e.last).answers in
           with_last (Accept p.0 v) p.2
           (λ end. absurd (none_accepted lawful t s.settings.complete k.place k.known e.why p.0 v p.2 (told (Accept p.0 v) p.2) end))
 

@@ -168,7 +168,6 @@ pub fn tell_items<R: Read, A: Allocator + Copy, G: Grammar<Item = Received>, W: 
     sink: &mut W,
 ) -> Result<u8, RunError>
     requires runs { (G.grammar (G.state grammar.old)).meaning.Runs }
-    requires sound { (G.grammar (G.state grammar.old)).meaning.IsSound }
     requires open { IsOpen R.remaining stream.old }
     ensures kept { G.state grammar.new ≡ G.state grammar.old }
     ensures open { IsOpen R.remaining stream.new }

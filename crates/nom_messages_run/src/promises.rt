@@ -15,6 +15,7 @@ pub fn lines_of_whole<R: Read, A: Allocator + Copy, G: Grammar<Item = Received>>
     stream: &Stream<R, A>,
     grammar: &G,
 )
+    requires { (G.grammar (G.state grammar.now)).meaning.IsSound }
     ensures { LinesOfWhole A R.remaining (G.grammar (G.state grammar.now)) }
 {
     answers_of_whole(stream, grammar);

@@ -15,7 +15,7 @@ use Rattle.nom_stream.proofs.Wholes.{answers_whole, left_after}
 abbrev AllItems : {V : Type 0} → Meaning Bytes V (Error Bytes) → Bool → ℕ → Bytes → List V → Type 0
 AllItems m complete = AreItems bytes_model (AtWhole m complete)
 
-module _ {R A V O : Type 0} (left : R → Option (List ℕ)) (grammar : Grammar Bytes V O (Error Bytes)) where
+module _ {R A V O : Type 0} (left : R → Option (List ℕ)) (grammar : Grammar Bytes V O (Error Bytes)) (sound : grammar.meaning.IsSound) where
   -- after an answer that gave no item the same bytes are left
   still_left : (s t : Stream R A) (r : Told O) (whole : Bytes) → used_of r ≡ 0 → Decides left grammar s t r → HasLeft left s whole.now →
       HasLeft left t whole.now
@@ -74,13 +74,13 @@ module _ {R A V O : Type 0} (left : R → Option (List ℕ)) (grammar : Grammar 
       (limit : ℕ) (trees : List V) → AllItems grammar.meaning s.settings.complete (suc (length (items_of rs) + limit)) whole trees →
       AreOfWhole left grammar s t (Ok (Some (n, o)) ∷ rs) whole limit trees
   item_first s u t n o rs d others whole known has low limit [] a =
-      let told = answers_whole left grammar s u (Ok (Some (n, o))) d whole known has a.0 a.1 in
+      let told = answers_whole left grammar sound s u (Ok (Some (n, o))) d whole known has a.0 a.1 in
       absurd (subst Ends (sym told.2) a.2)
   item_first s u t n o rs d others whole known has low limit (v ∷ vs) a =
       let size = a.0 in
       let next = a.1 in
       let rest = a.3 in
-      let told = answers_whole left grammar s u (Ok (Some (n, o))) d whole known has (Accept size v) a.2 in
+      let told = answers_whole left grammar sound s u (Ok (Some (n, o))) d whole known has (Accept size v) a.2 in
       let tree : told.0 ≡ v = cc (told.2) in
       let count : n ≡ size = cc (told.2) in
       let l = left_after left grammar s u (Ok (Some (n, o))) whole.now d has in

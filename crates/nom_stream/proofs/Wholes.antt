@@ -119,7 +119,7 @@ module _ {R A V O : Type 0} (grammar : Grammar Bytes V O (Error Bytes)) (t : Str
 
 module _ {R A V O : Type 0} (left : R → Option (List ℕ)) (grammar : Grammar Bytes V O (Error Bytes)) (u t : Stream R A)
     (opened : IsOpen left u) (same_source : t.source ≡ u.source) (same_settings : t.settings ≡ u.settings) (i : Bytes) (ki : bytes_model.IsKnown i)
-    (has : HasLeft left u i.now) (p : Outcome V) (b : AtWhole grammar.meaning u.settings.complete i p) where
+    (has : HasLeft left u i.now) (p : Outcome V) (b : AtWhole grammar.meaning u.settings.complete i p) (sound : grammar.meaning.IsSound) where
   at_end : u.ended ≡ true → i.now ≡ held_of u.held
   at_end e = has.2 ∙ ap (λ z. held_of u.held ++ z) (end_known (left u.source.inner) has.0 has.1 (opened.at_end e)) ∙ append-nil (held_of u.held)
 
@@ -128,7 +128,7 @@ module _ {R A V O : Type 0} (left : R → Option (List ℕ)) (grammar : Grammar 
   of_decided taken r d g e =
       let x = g.input in
       let longer : i.now ≡ x.now ++ has.0 = has.2 ∙ ap (λ z. z ++ has.0) (sym g.is_held) in
-      tells grammar t i p true x (λ o a f. decided grammar.meaning g.parses.lawful x i g.known ki g.parses.steady has.0 longer u.settings.complete o p a
+      tells grammar t i p true x (λ o a f. decided grammar.meaning (g.parses.lawful sound) x i g.known ki (g.parses.steady sound) has.0 longer u.settings.complete o p a
       (f refl) b) (λ a. inr (inr (x, has.0, longer, a)))
       (λ f. absurd (f refl)) taken (λ _. d) (meant grammar true (held_of u.held) (held_of t.held) taken g) r e
 
@@ -141,7 +141,7 @@ module _ {R A V O : Type 0} (left : R → Option (List ℕ)) (grammar : Grammar 
       subst (λ z. TellsWhole grammar t z i p) (sym e) (
         at_end ended ∙ a,
         size_of k,
-        lacking_alike grammar.meaning g.parses.lawful x i g.known ki all
+        lacking_alike grammar.meaning (g.parses.lawful sound) x i g.known ki all
             (size_of k) h.0,
       )
   of_ends ended k r g (Within s a c e) =
@@ -149,7 +149,7 @@ module _ {R A V O : Type 0} (left : R → Option (List ℕ)) (grammar : Grammar 
       let h = meant grammar true (held_of u.held) (held_of u.held) (Took.Undecided k) g in
       let all : i.now ≡ x.now = at_end ended ∙ sym g.is_held in
       subst (λ z. TellsWhole grammar t z i p) (sym e)
-      (c ∙ sym (at_end ended), lacking grammar.meaning g.parses.lawful x i g.known ki all u.settings.complete a (size_of k) p h.0 b)
+      (c ∙ sym (at_end ended), lacking grammar.meaning (g.parses.lawful sound) x i g.known ki all u.settings.complete a (size_of k) p h.0 b)
   of_ends ended k r g (Completed s a taken q l e) =
       let x = g.input in
       let y = q.input in
@@ -157,7 +157,7 @@ module _ {R A V O : Type 0} (left : R → Option (List ℕ)) (grammar : Grammar 
       let all : i.now ≡ x.now = at_end ended ∙ sym g.is_held in
       let all_too : i.now ≡ y.now = at_end ended ∙ sym q.is_held in
       let one : (o : Outcome V) → grammar.meaning.answers false y o → o ≡ p =
-      λ o c. completed grammar.meaning g.parses.lawful x i g.known ki all u.settings.complete a y q.known all_too (size_of k) o p h.0 c b in
+      λ o c. completed grammar.meaning (g.parses.lawful sound) x i g.known ki all u.settings.complete a y q.known all_too (size_of k) o p h.0 c b in
       tells grammar t i p false y (λ o c f. one o c) (λ c. inr (inl (sym (one (Stop (Fails TooLarge)) c))))
       (λ f c. c ∙ sym all_too) taken (λ f. absurd (cc (f))) (meant grammar false (held_of u.held) (held_of t.held) taken q) r e
 
@@ -170,12 +170,12 @@ module _ {R A V O : Type 0} (left : R → Option (List ℕ)) (grammar : Grammar 
   of_answer r (Lacking l c before last d k w few e) = subst (λ z. TellsWhole grammar t z i p) (sym e) tt
 
 module _ {R A V O : Type 0} (left : R → Option (List ℕ)) (grammar : Grammar Bytes V O (Error Bytes)) where
-  pub answers_whole : AnswersWhole A left grammar
-  answers_whole s t r d whole known has p b =
+  pub answers_whole : grammar.meaning.IsSound → AnswersWhole A left grammar
+  answers_whole sound s t r d whole known has p b =
       let u = d.filled in
       let then = left_read left s u d.reads.given whole.now d.reads.gives has in
       of_answer left grammar u t d.open_then d.source (d.settings.1 ∙ sym d.settings.0) whole known then p
-      (subst (λ z. AtWhole grammar.meaning z.complete whole p) (sym d.settings.0) b) r d.answers
+      (subst (λ z. AtWhole grammar.meaning z.complete whole p) (sym d.settings.0) b) sound r d.answers
 
   -- and the bytes that no item had are a rest of the whole
   pub left_after : (s t : Stream R A) (r : Told O) (xs : List ℕ) → Decides left grammar s t r → HasLeft left s xs → (front : List ℕ) ×

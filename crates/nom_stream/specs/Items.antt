@@ -17,12 +17,12 @@ Bytes = Bor (List ℕ)
 abbrev pub Answered : Type 0 → Type 0
 Answered O = IResult Bytes O (Error Bytes)
 
--- What is answered at an input, by whether more may come, is what the grammar means there; and the laws of its meaning: one outcome
--- for each input, and what is decided stays on every longer one.
+-- What is answered at an input, by whether more may come, is what the grammar means there; and where it is sound, the laws of its
+-- meaning: one outcome for each input, and what is decided stays on every longer one.
 pub record ParsesItem {V O : Type 0} (grammar : Grammar Bytes V O (Error Bytes)) (more : Bool) (x : Bytes) (r : Answered O) : Type 0 where
   pub shown : Parses bytes_model grammar more x r
-  pub lawful : IsLawful bytes_model grammar.meaning
-  pub steady : IsSteady bytes_model grammar.meaning
+  pub lawful : grammar.meaning.IsSound → IsLawful bytes_model grammar.meaning
+  pub steady : grammar.meaning.IsSound → IsSteady bytes_model grammar.meaning
 
 -- what is told where nothing is accepted: of an error its kind, and the length of the input that it holds
 abbrev pub IsStopped : {O : Type 0} → Answer.Err (Error Bytes) (Error Bytes) Needed → Taken O → Type 0

@@ -32,16 +32,14 @@ pub trait Grammar {
     /// answer: `parse_item` gives them for every stream parser.
     fn item<'a>(&mut self, input: &'a [u8], more: bool) -> IResult<&'a [u8], Self::Item>
         requires runs { (grammar (state self.old)).meaning.Runs }
-        requires sound { (grammar (state self.old)).meaning.IsSound }
         ensures parses { ParsesItem (grammar (state self.old)) more input.entry result }
         ensures kept { state self.new ≡ state self.old };
 }
 
-// The laws of a sound stream parser.
+// The laws of a stream parser, where it is sound.
 fn laws_of<I: Items, P: StreamParser<I>>(_parser: &P)
-    requires { (P.grammar (P.state _parser.now)).meaning.IsSound }
-    ensures lawful { IsLawful I.model (P.grammar (P.state _parser.now)).meaning }
-    ensures steady { IsSteady I.model (P.grammar (P.state _parser.now)).meaning }
+    ensures lawful { (P.grammar (P.state _parser.now)).meaning.IsSound → IsLawful I.model (P.grammar (P.state _parser.now)).meaning }
+    ensures steady { (P.grammar (P.state _parser.now)).meaning.IsSound → IsSteady I.model (P.grammar (P.state _parser.now)).meaning }
 {}
 
 /// What a stream parser answers at an input, by whether more may come: the body of `Grammar::item` for any parser of this
@@ -53,7 +51,6 @@ pub fn parse_item<'a, P: StreamParser<&'a [u8], Error = Error<&'a [u8]>> + Drop>
     more: bool,
 ) -> IResult<&'a [u8], P::Output>
     requires runs { (P.grammar (P.state parser)).meaning.Runs }
-    requires sound { (P.grammar (P.state parser)).meaning.IsSound }
     ensures parses { ParsesItem (P.grammar (P.state parser)) more input.entry result }
 {
     laws_of(&parser);

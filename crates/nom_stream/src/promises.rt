@@ -1,4 +1,5 @@
-//! What the items of every stream promise. These functions do nothing: their contracts are the promises.
+//! What the items of every stream promise, where their grammar is sound. These functions do nothing: their contracts are the
+//! promises.
 ghost use Rattle.nom_stream.specs.Wholes.{AnswersWhole, BytesOfWhole, ItemsOfWhole};
 
 use crate::grammar::Grammar;
@@ -15,6 +16,7 @@ pub fn answers_of_whole<R: Read, A: Allocator + Copy, G: Grammar>(
     _stream: &Stream<R, A>,
     _grammar: &G,
 )
+    requires { (G.grammar (G.state _grammar.now)).meaning.IsSound }
     ensures { AnswersWhole A R.remaining (G.grammar (G.state _grammar.now)) }
 {}
 
@@ -25,6 +27,7 @@ pub fn items_of_whole<R: Read, A: Allocator + Copy, G: Grammar>(
     _stream: &Stream<R, A>,
     _grammar: &G,
 )
+    requires { (G.grammar (G.state _grammar.now)).meaning.IsSound }
     ensures { ItemsOfWhole A R.remaining (G.grammar (G.state _grammar.now)) }
 {}
 

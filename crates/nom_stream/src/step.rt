@@ -49,7 +49,6 @@ pub fn take<A: Allocator, G: Grammar>(
     more: bool,
 ) -> Taken<G::Item>
     requires runs { (G.grammar (G.state grammar.old)).meaning.Runs }
-    requires sound { (G.grammar (G.state grammar.old)).meaning.IsSound }
     requires within { IsWithin held.old }
     ensures kept { G.state grammar.new ≡ G.state grammar.old }
     ensures within { IsWithin held.new }

@@ -217,7 +217,6 @@ impl<R: Read, A: Allocator + Copy> Stream<R, A> {
         grammar: &mut G,
     ) -> Result<Option<(usize, G::Item)>, Stop>
         requires runs { (G.grammar (G.state grammar.old)).meaning.Runs }
-        requires sound { (G.grammar (G.state grammar.old)).meaning.IsSound }
         requires open { IsOpen R.remaining self.old }
         ensures kept { G.state grammar.new ≡ G.state grammar.old }
         ensures open { IsOpen R.remaining self.new }
@@ -245,7 +244,6 @@ impl<R: Read, A: Allocator + Copy> Stream<R, A> {
         grammar: &mut G,
     ) -> Result<Option<(usize, G::Item)>, Stop>
         requires runs { (G.grammar (G.state grammar.old)).meaning.Runs }
-        requires sound { (G.grammar (G.state grammar.old)).meaning.IsSound }
         requires open { IsOpen R.remaining self.old }
         ensures kept { G.state grammar.new ≡ G.state grammar.old }
         ensures open { IsOpen R.remaining self.new }
@@ -269,7 +267,6 @@ impl<R: Read, A: Allocator + Copy> Stream<R, A> {
         grammar: &mut G,
     ) -> Result<Option<(usize, G::Item)>, Stop>
         requires runs { (G.grammar (G.state grammar.old)).meaning.Runs }
-        requires sound { (G.grammar (G.state grammar.old)).meaning.IsSound }
         requires open { IsOpen R.remaining self.old }
         ensures kept { G.state grammar.new ≡ G.state grammar.old }
         ensures open { IsOpen R.remaining self.new }
