@@ -1,7 +1,7 @@
 -- What counts of items show: the number fits, since each item but a first one consumes.
 use Rattle.std.proofs.Common.{◌≡◌, ℕ, ◌+◌, ◌-◌, ◌^◌, ◌<◌, ◌≤◌, Bool, true, false, Ok, Option, Some, ◌⊎◌, inl, inr, List, [], ◌∷◌, ◌++◌}
 use Rattle.std.proofs.Common.{length, zero, suc, refl, arith, ap, subst}
-use Rattle.nom_internal.specs.Prelude.{PResult, Errors, Built, Modes, Model, InputLaws, IsSuffixOf, input_len, same_self, rest_related, Outcome, Accept}
+use Rattle.nom_internal.specs.Prelude.{PResult, Errors, Built, Modes, Model, InputLaws, IsSuffixOf, input_len, same_self, rest_related, Outcome, Accept, Refuse, Stop, GoesOn, after}
 use Rattle.nom_internal.specs.Prelude.{Meaning, IsLawful, ShowsMeaning}
 use Rattle.nom_error.specs.declared.kind.ErrorKind.TheVariants as Kind
 use Rattle.nom_internal.proofs.Consumed.{rest_self, rest_length}
@@ -13,7 +13,7 @@ use Rattle.nom_repeat.proofs.CountAccumulated.{CountPushes, count_of_none}
 use Rattle.nom_repeat.proofs.Few.{taken_accepted, taken_consumes, accepted_tree, taken_within, few_accepted}
 use Rattle.nom_repeat.proofs.Accumulating.{kept_both}
 use Rattle.nom_repeat.proofs.Parts.{shown_by}
-use Rattle.nom_multi_fold.specs.Counts.{IsNumber, many0_count_meaning, many1_count_meaning}
+use Rattle.nom_multi_fold.specs.Counts.{IsCounted, IsNumber, many0_count_meaning, many1_count_meaning}
 use Rattle.nom_multi_fold.specs.Dropped.{dropped_meaning}
 use Rattle.nom_multi_fold.specs.laws.DroppedLaws.{dropped_lawful}
 use Rattle.nom_repeat.specs.Bounds.{any_limits, one_limits}
@@ -27,8 +27,12 @@ module _ {I A V E : Type 0} {w : Model I A} (errs : Errors I E) (m : Meaning I V
     {before : Option ℕ} (none : Built mode.outputs (λ n. n ≡ 0) before) where
   pub count0_shown : {r : PResult I ℕ E} →
       ShowsMeaning w (CountAccumulated before) (many0_count_meaning w errs m) mode i r → ShowsMeaning w IsNumber (many0_count_meaning w errs m) mode i r
-  count0_shown h = shown_by (λ n vs x a k. count_of_none (λ _ _. Unit {0}) mode.outputs none vs x
-      (omega (arith, fits, few_accepted w errs (any_limits Kind.Many0Count) ⊥ (dropped_meaning m) Kind.Many0Count refl mode.streaming i n vs a)) k) h
+  count0_shown h = shown_by (λ n vs x a k. omega (
+        arith,
+        fits,
+        few_accepted w errs (any_limits Kind.Many0Count) ⊥ (dropped_meaning m) Kind.Many0Count refl mode.streaming i n vs a,
+        count_of_none (λ _ _. Unit {0}) mode.outputs none vs x k,
+      )) h
 
 module _ {I A V : Type 0} (w : Model I A) (Item : I → Outcome V → Type 0) where
   -- a first item, or none
@@ -94,16 +98,36 @@ module _ {I A V E : Type 0} (w : Model I A) (l : InputLaws w) (errs : Errors I E
           let end = none_later _ i j h.1 b.trees b.taken known r stays b.pieces in
           omega (arith, append_length vs us, ap length h.2, first, later, end)
 
-module _ {I A V E : Type 0} {w : Model I A} (l : InputLaws w) (errs : Errors I E) (m : Meaning I V E) (lawful : IsLawful w m) {mode : Modes} {i : I}
-    (known : w.IsKnown i) (fits : input_len w i < 2 ^ 64) {before : Option ℕ} (none : Built mode.outputs (λ n. n ≡ 0) before) where
+  -- so what is accepted of an input whose length fits are items whose number does
+  pub few : (i : I) (n : ℕ) (ts : List V) → w.IsKnown i → input_len w i < 2 ^ 64 → (many1_count_meaning w errs m).answers s i (Accept n ts) → length ts < 2 ^ 64
+  few i n ts known fits a = by_first a.first a.answered a.goes_on
+    where
+      abbrev First : Outcome (List V) → Type 0
+      First = (items_meaning w errs (one_limits (Fresh Kind.Many1Count) true) ⊥ (dropped_meaning m)).answers s i
+
+      abbrev Later : I → Outcome (List V) → Type 0
+      Later = (items_meaning w errs (any_limits Kind.Many1Count) ⊥ (dropped_meaning m)).answers s
+
+      by_later : (c : ℕ) (vs : List V) → First (Accept c vs) → (j : I) → IsSuffixOf w i c j → (p : Outcome (List V)) → Later j p →
+          Accept n ts ≡ after c (λ us. vs ++ us) p → length ts < 2 ^ 64
+      by_later c vs x j r (Accept k us) y e = let same : ts ≡ vs ++ us = cc (e) in omega (arith, ap length same, both_fit i j c vs k us fits known x r y)
+      by_later c vs x j r Refuse y e = cc (e)
+      by_later c vs x j r (Stop why) y e = cc (e)
+
+      by_first : (o : Outcome (List V)) → First o → GoesOn w (λ vs us. vs ++ us) (λ _. Later) i o (Accept n ts) → length ts < 2 ^ 64
+      by_first (Accept c vs) x g = by_later c vs x g.0 g.2 g.1 g.3 g.4
+      by_first Refuse x g = cc (g)
+      by_first (Stop why) x g = cc (g)
+
+module _ {I A V E : Type 0} {w : Model I A} (l : InputLaws w) (errs : Errors I E) (m : Meaning I V E) {mode : Modes} {i : I}
+    {before : Option ℕ} (none : Built mode.outputs (λ n. n ≡ 0) before) where
   pub count1_shown : {j : I} {x : Option ℕ} {r : PResult I ℕ E} →
       ShowsMeaning w (CountAccumulated before) (items_meaning w errs (one_limits (Fresh Kind.Many1Count) true) ⊥ (dropped_meaning m)) mode i (Ok (j, x)) →
       ShowsMeaning w (CountAccumulated x) (items_meaning w errs (any_limits Kind.Many1Count) ⊥ (dropped_meaning m)) mode j r →
-      ShowsMeaning w IsNumber (many1_count_meaning w errs m) mode i r
+      ShowsMeaning w IsCounted (many1_count_meaning w errs m) mode i r
   count1_shown {j = j} {x = x} {r = r} h more =
       let a : Accepts w (CountAccumulated before) mode.outputs i
       ((items_meaning w errs (one_limits (Fresh Kind.Many1Count) true) ⊥ (dropped_meaning m)).answers mode.streaming i) j x = accepts h in
-      next_shown w l (λ vs us. vs ++ us) _ _ _ _ _ _ IsNumber mode i j a.length a.tree a.answered a.rest_is r
+      next_shown w l (λ vs us. vs ++ us) _ _ _ _ _ _ IsCounted mode i j a.length a.tree a.answered a.rest_is r
       (shown_by (λ n us y b k. count_of_none (λ _ _. Unit {0}) mode.outputs none (a.tree ++ us) y
-      (both_fit w l errs m lawful mode.streaming i j a.length a.tree n us fits known a.answered a.rest_is b)
       (kept_both CountPushes (λ _. Unit {0}) (λ _ _. Unit {0}) mode.outputs before x a.tree us y a.built_is k)) more)

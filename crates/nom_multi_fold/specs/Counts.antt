@@ -1,6 +1,6 @@
 -- How many items there are.
-use Rattle.std.specs.Prelude.{◌≡◌, ℕ, true, List, ◌++◌, length}
-use Rattle.nom_internal.specs.Prelude.{Errors, Model, Meaning, sequence_meaning, Grammar}
+use Rattle.std.specs.Prelude.{◌≡◌, ℕ, ◌%◌, ◌^◌, ◌<◌, Bool, true, List, ◌++◌, length}
+use Rattle.nom_internal.specs.Prelude.{Errors, Model, input_len, Accept, Meaning, sequence_meaning, Grammar}
 use Rattle.nom_error.specs.declared.kind.ErrorKind.TheVariants as Kind
 use Rattle.nom_repeat.specs.Items.{items_meaning}
 use Rattle.nom_repeat.specs.declared.items.TooFew.TheVariants.{Fresh}
@@ -10,6 +10,15 @@ use Rattle.nom_repeat.specs.Bounds.{any_limits, one_limits}
 -- the number of the items
 abbrev pub IsNumber : {V : Type 0} → List V → ℕ → Type 0
 IsNumber vs n = n ≡ length vs
+
+-- and as a count of 64 bits has it
+abbrev pub IsCounted : {V : Type 0} → List V → ℕ → Type 0
+IsCounted vs n = n ≡ length vs % 2 ^ 64
+
+-- what is accepted of an input whose length fits 64 bits are items whose number fits
+abbrev pub AcceptsFew : {I A V E : Type 0} → Model I A → Meaning I (List V) E → Type 0
+AcceptsFew {I} {V = V} w m =
+    (s : Bool) (i : I) (n : ℕ) (vs : List V) → w.IsKnown i → input_len w i < 2 ^ 64 → m.answers s i (Accept n vs) → length vs < 2 ^ 64
 
 -- Any number of items, of which nothing is built; one that consumes nothing is refused. Counting them takes no memory.
 abbrev pub many0_count_meaning : {I A V E : Type 0} → Model I A → Errors I E → Meaning I V E → Meaning I (List V) E
@@ -21,9 +30,10 @@ many1_count_meaning w errs m =
     sequence_meaning w (λ vs us. vs ++ us) (λ o. o) (λ o. o) (items_meaning w errs (one_limits (Fresh Kind.Many1Count) true) ⊥ (dropped_meaning m))
     (items_meaning w errs (any_limits Kind.Many1Count) ⊥ (dropped_meaning m))
 
--- the number of items of a grammar, of any number or of one at least
+-- The number of items of a grammar, of any number or of one at least. Of one at least the first may be empty, so that of a part
+-- which isn't sound more than 2 ^ 64 - 1 might come, and the count begins anew; of a sound one there are never so many.
 abbrev pub many0_count_of : {I A V O E : Type 0} → Model I A → Errors I E → Grammar I V O E → Grammar I (List V) ℕ E
 many0_count_of w errs g = record { meaning = many0_count_meaning w errs g.meaning; IsOutput = IsNumber }
 
 abbrev pub many1_count_of : {I A V O E : Type 0} → Model I A → Errors I E → Grammar I V O E → Grammar I (List V) ℕ E
-many1_count_of w errs g = record { meaning = many1_count_meaning w errs g.meaning; IsOutput = IsNumber }
+many1_count_of w errs g = record { meaning = many1_count_meaning w errs g.meaning; IsOutput = IsCounted }

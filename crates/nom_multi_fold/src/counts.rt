@@ -79,7 +79,7 @@ impl<I: Input, F: Parser<I> + Drop> Parser<I> for Many1Count<F> {
 
     #[inline]
     fn process<OM: OutputMode>(&mut self, input: I) -> PResult<I, usize, F::Error> {
-        fits(input);
+        input.prove_known();
         let none = built::<OM::Output, usize>(0);
         let (rest, first) = one_item::<OM, Check, I, Dropped<F>, usize>(
             &mut self.item,
@@ -95,11 +95,11 @@ impl<I: Input, F: Parser<I> + Drop> Parser<I> for Many1Count<F> {
 }
 
 impl<I: Input, F: StreamParser<I> + Drop> StreamParser<I> for Many1Count<F> {
-    ghost use Rattle.nom_multi_fold.specs.laws.CountLaws.{number_pinned, many1_count_steady};
+    ghost use Rattle.nom_multi_fold.specs.laws.CountLaws.{counted_pinned, many1_count_steady};
 
     ghost Pins = { λ _. Unit {0} };
 
-    ghost pinned = { λ p k h. number_pinned };
+    ghost pinned = { λ p k h. counted_pinned };
 
     ghost steady = { λ s k. many1_count_steady I.lawful F.Error.errors (F.steady s k.0) };
 }

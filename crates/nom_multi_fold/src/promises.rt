@@ -4,6 +4,7 @@
 ghost use Rattle.std.specs.Prelude.{◌<◌, None, Some};
 ghost use Rattle.nom_ranges.specs.Ranges.{fewest, most_items, limit};
 ghost use Rattle.nom_repeat.specs.Accepted.{AcceptsItems, AcceptsOneAndMore};
+ghost use Rattle.nom_multi_fold.specs.Counts.{AcceptsFew};
 ghost use Rattle.nom_multi_fold.specs.Ranges.{IsEmpty};
 
 use crate::counts::{Many0Count, Many1Count};
@@ -27,6 +28,13 @@ pub fn many0_count_accepts<I: Input, F: Parser<I> + Drop>(_parser: &Many0Count<F
 pub fn many1_count_accepts<I: Input, F: Parser<I> + Drop>(_parser: &Many1Count<F>)
     ensures { AcceptsOneAndMore I.model (F.grammar (F.state _parser.now.item.parser)).meaning (F.grammar (F.state _parser.now.item.parser)).meaning
         (⟦<Many1Count<F> as Parser<I>>⟧.grammar (F.state _parser.now.item.parser)).meaning }
+{}
+
+/// `many1_count` of a sound part accepts fewer than 2^64 items of an input that is shorter than that: so what it gives is
+/// their number.
+pub fn many1_count_counts<I: Input, F: Parser<I> + Drop>(_parser: &Many1Count<F>)
+    requires { (F.grammar (F.state _parser.now.item.parser)).meaning.IsSound }
+    ensures { AcceptsFew I.model (⟦<Many1Count<F> as Parser<I>>⟧.grammar (F.state _parser.now.item.parser)).meaning }
 {}
 
 /// `fold_many0` accepts just the items that its part accepts, one after the other, none of them empty, up to

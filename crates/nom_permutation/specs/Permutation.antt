@@ -45,7 +45,14 @@ promised Grows ms m = record {
 }
 
 abbrev pub promised_family : {I T V E : Type 0} → Type 0 → List (Member I T E) → (T → Meaning I V E) → Family T I V E
-promised_family Grows ms at = record { at = at; Runs = AllRun ms; IsSound = AreSound ms; IsFrugal = AreFrugal Grows ms; Settles = AllSettle ms; NeverFails = NoneFails ms }
+promised_family Grows ms at = record {
+  at = at;
+  Runs = AllRun ms;
+  IsSound = AreSound ms;
+  IsFrugal = AreFrugal Grows ms;
+  Settles = AllSettle ms;
+  NeverFails = NoneFails ms;
+}
 
 -- a round: the choice among the members that aren't applied, closed where it stands; of none, nothing
 abbrev pub round_meaning : {I T E : Type 0} → (I → E → E → Type 0) → Type 0 → T → Choice I T E → Meaning I T E

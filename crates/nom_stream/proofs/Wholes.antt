@@ -128,7 +128,8 @@ module _ {R A V O : Type 0} (left : R → Option (List ℕ)) (grammar : Grammar 
   of_decided taken r d g e =
       let x = g.input in
       let longer : i.now ≡ x.now ++ has.0 = has.2 ∙ ap (λ z. z ++ has.0) (sym g.is_held) in
-      tells grammar t i p true x (λ o a f. decided grammar.meaning (g.parses.lawful sound) x i g.known ki (g.parses.steady sound) has.0 longer u.settings.complete o p a
+      tells grammar t i p true x (λ o a f. decided grammar.meaning (g.parses.lawful sound) x i g.known ki (g.parses.steady sound)
+      has.0 longer u.settings.complete o p a
       (f refl) b) (λ a. inr (inr (x, has.0, longer, a)))
       (λ f. absurd (f refl)) taken (λ _. d) (meant grammar true (held_of u.held) (held_of t.held) taken g) r e
 

@@ -5,13 +5,16 @@ use Rattle.nom_internal.specs.laws.SequenceLaws.{sequence_lawful, sequence_stead
 use Rattle.nom_repeat.specs.laws.ItemsLaws.{items_lawful, items_steady}
 use Rattle.std.proofs.Common.{sym, ◌∙◌}
 use Rattle.nom_multi_fold.specs.laws.DroppedLaws.{dropped_lawful, dropped_steady}
-use Rattle.nom_multi_fold.specs.Counts.{IsNumber, many0_count_meaning, many1_count_meaning}
+use Rattle.nom_multi_fold.specs.Counts.{IsCounted, IsNumber, many0_count_meaning, many1_count_meaning}
 use Rattle.nom_repeat.specs.Bounds.{any_limits, one_limits}
 use Rattle.nom_error.specs.declared.kind.ErrorKind.TheVariants as Kind
 use Rattle.nom_repeat.specs.declared.items.TooFew.TheVariants.{Fresh}
 
 pub number_pinned : {V : Type 0} → IsPinned itself (IsNumber {V = V})
 number_pinned = record { one_view = λ t a b p q. p ∙ sym q }
+
+pub counted_pinned : {V : Type 0} → IsPinned itself (IsCounted {V = V})
+counted_pinned = record { one_view = λ t a b p q. p ∙ sym q }
 
 module _ {I A V E : Type 0} {w : Model I A} (l : InputLaws w) (errs : Errors I E) {m : Meaning I V E} where
   pub many0_count_lawful : IsLawful w m → IsLawful w (many0_count_meaning w errs m)
