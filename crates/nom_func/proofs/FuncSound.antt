@@ -1,11 +1,13 @@
 -- Functions that answer as a meaning says are parsers.
 use Rattle.std.proofs.Common.{◌≡◌, ℕ, Bool, true, false, List, [], ◌++◌, Ok, Err, ◌⊎◌, refl, sym, ◌∙◌, subst, ap, inl, inr}
-use Rattle.nom_internal.specs.Prelude.{Incomplete, Error, Failure, OutOfMemory, IResult, size_of, modes, Model, InputLaws, IsSuffixOf, Related}
+use Rattle.nom_internal.specs.Prelude.{Incomplete, Error, Failure, OutOfMemory, Errors, IResult, size_of, modes, Model, InputLaws, IsSuffixOf, Related}
 use Rattle.nom_internal.specs.Prelude.{View, Outcome, Accept, Refuse, Stop, Fails, Needs, Outright, TooLarge, IsDecided, ParsesOutcome}
 use Rattle.nom_internal.specs.Prelude.{ParsesAnswer}
 use Rattle.nom_internal.specs.Prelude.{ParseRanOut, Parsed, Meaning, IsLawful, IsSteady, NeverTooLarge, Agree, Keeps, ParsesMeaning, IsPinned}
 use Rattle.nom_traits.specs.Cuts.{CutsAs, CutsNowhere, suffix_cuts, suffix_at, suffix_somewhere}
-use Rattle.nom_func.specs.Func.{Tells, TakenAs, TellOne, TellsItems, FuncOutcome, NeverFailsItself, IsParser, IsStreamParser, Answers, AnswersBy, StreamsBy}
+use Rattle.nom_func.specs.Func.{Tells, TakenAs, TellOne, TellsItems, FuncOutcome, FuncRunsOut, NeverFailsItself, IsParser, IsStreamParser, Answers, AnswersBy}
+use Rattle.nom_func.specs.Func.{StreamsBy}
+use Rattle.nom_func.specs.Func.FuncRunsOut.{RunsOutInside, RunsOutNoRest}
 
 module _ {I A O E : Type 0} (w : Model I A) (view : View O) where
   -- an acceptance that leaves a rest is taken with that rest
@@ -34,14 +36,30 @@ module _ {I A O E : Type 0} (w : Model I A) (view : View O) where
   taken_once i (Err (Failure e)) o p h k = k ∙ sym h
   taken_once i (Err OutOfMemory) o p h k = absurd h
 
--- a function that leaves rests, and answers no failure, never fails
-pub never_fails_itself : {I A O E : Type 0} {w : Model I A} {Gives : I → IResult I O E → Type 0} →
-    ((i : I) (e : E) → w.IsKnown i → Gives i (Err (Failure e)) → ⊥) →
-    ((i j : I) (v : O) → w.IsKnown i → Gives i (Ok (j, v)) → (n : ℕ) × IsSuffixOf w i n j) → NeverFailsItself w Gives
-never_fails_itself {w = w} no_failure rests = record {
-  no_failure = no_failure;
-  rests = λ i j v k g none. let r = rests i j v k g in suffix_somewhere w i r.0 j r.1 none;
-}
+  -- where it leaves a rest, it tells what it is taken as
+  pub taken_tells : (i : I) (r : IResult I O E) (o : Outcome view.Value) → ((j : I) (v : O) → r ≡ Ok (j, v) → (n : ℕ) × IsSuffixOf w i n j) →
+      TakenAs w view i r o → Tells w view i r o
+  taken_tells i (Ok (j, v)) o rest h = let s = rest j v refl in (s.0, s.1, taken_rest i s.0 j v (Ok (j, v)) o s.1 refl h)
+  taken_tells i (Err (Incomplete d)) o rest h = h
+  taken_tells i (Err (Error e)) o rest h = h
+  taken_tells i (Err (Failure e)) o rest h = h
+  taken_tells i (Err OutOfMemory) o rest h = h
+
+-- of a function that leaves rests
+module _ {I A O E : Type 0} {w : Model I A} {Gives : I → IResult I O E → Type 0}
+    (rests : (i j : I) (v : O) → w.IsKnown i → Gives i (Ok (j, v)) → (n : ℕ) × IsSuffixOf w i n j) where
+  -- where it answers no failure, it never fails
+  pub never_fails_itself : ((i : I) (e : E) → w.IsKnown i → Gives i (Err (Failure e)) → ⊥) → NeverFailsItself w Gives
+  never_fails_itself no_failure = record {
+    no_failure = no_failure;
+    rests = λ i j v k g none. let r = rests i j v k g in suffix_somewhere w i r.0 j r.1 none;
+  }
+
+  -- where it never runs out of memory, its parser doesn't
+  pub never_runs_out : {errs : Errors I E} → ((i : I) → w.IsKnown i → Gives i (Err OutOfMemory) → ⊥) → (i : I) → w.IsKnown i →
+      FuncRunsOut w errs Gives i → ⊥
+  never_runs_out inside i k (RunsOutInside g) = inside i k g
+  never_runs_out inside i k (RunsOutNoRest j v g none grows) = let r = rests i j v k g in suffix_somewhere w i r.0 j r.1 none
 
 module _ {V O : Type 0} (view : View O) (IsOutput : V → O → Type 0) where
   -- an outcome as a function's answer tells it: by the view of an output, and with a failure that is one of its own
