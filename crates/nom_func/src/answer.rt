@@ -7,13 +7,14 @@ use nom_error::answer::IResult;
 use nom_internal::parser::{Parser, StreamParser};
 use nom_traits::input::Items;
 
-/// What a parser answers of a complete input, as `parse_complete`; a function that ensures this may be handed to `func`.
+/// What a parser answers of a complete input, as `parse_complete`; a function that ensures this is sound in `func`.
 #[inline(always)]
 pub fn answer<I: Items, P: StreamParser<I>>(
     parser: &mut P,
     input: I,
 ) -> IResult<I, P::Output, P::Error>
     requires runs { (P.grammar (P.state parser.old)).meaning.Runs }
+    requires sound { (P.grammar (P.state parser.old)).meaning.IsSound }
     requires pins { P.Pins parser.old }
     ensures answer { AnswersBy I.model P.Output.view (P.grammar (P.state parser.old)).IsOutput (P.grammar (P.state parser.old)).meaning false input result }
     ensures kept { P.state parser.new ≡ P.state parser.old }
@@ -22,14 +23,15 @@ pub fn answer<I: Items, P: StreamParser<I>>(
     parser.parse_complete(input)
 }
 
-/// What a parser answers of an input of which more may come, as `parse`; a function that ensures this may be handed to
-/// `stream_func`, and to `func`.
+/// What a parser answers of an input of which more may come, as `parse`; a function that ensures this is sound in
+/// `stream_func`, and in `func`.
 #[inline(always)]
 pub fn stream_answer<I: Items, P: StreamParser<I>>(
     parser: &mut P,
     input: I,
 ) -> IResult<I, P::Output, P::Error>
     requires runs { (P.grammar (P.state parser.old)).meaning.Runs }
+    requires sound { (P.grammar (P.state parser.old)).meaning.IsSound }
     requires pins { P.Pins parser.old }
     requires never_too_large { NeverTooLarge (P.grammar (P.state parser.old)).meaning }
     ensures answer { StreamsBy I.model P.Output.view (P.grammar (P.state parser.old)).IsOutput (P.grammar (P.state parser.old)).meaning true input result }

@@ -1,13 +1,14 @@
 //! Functions as parsers.
-ghost use Rattle.nom_func.specs.Func.{viewed_pinned, IsParser, IsStreamParser, func_of};
+ghost use Rattle.nom_func.specs.Func.{viewed_pinned, AcceptsCut, IsNoRestAt, IsParser, IsStreamParser, func_of};
 ghost use Rattle.nom_func.specs.laws.FuncLaws.{func_lawful, stream_func_lawful, stream_func_steady};
 
 use nom_error::answer::{Err, IResult, PResult};
-use nom_error::mode::OutputMode;
+use nom_error::kind::ErrorKind;
+use nom_error::mode::{Mode, OutputMode};
 use nom_error::value::ParseError;
 use nom_internal::built::built;
 use nom_internal::parser::{Parser, StreamParser};
-use nom_traits::input::Items;
+use nom_traits::rests::CutRest;
 use nom_traits::view::Viewed;
 use std::marker::PhantomData;
 
@@ -18,7 +19,33 @@ pub struct Func<F, I, O, E> {
     pub of: PhantomData<(I, O, E)>,
 }
 
-impl<I: Items, O: Viewed + Drop, E: ParseError<I>, F: Fn(I) -> IResult<I, O, E>> Parser<I>
+/// The failure of a function that left what is as long as no rest.
+#[cold]
+fn no_rest<I: Drop, E: ParseError<I>>(input: I) -> Err<E, Option<E>>
+    ensures { IsNoRestAt E.errors input result }
+{
+    match E::from_error_kind(input, ErrorKind::Fail) {
+        Ok(error) => Err::Failure(error),
+        Err(_) => Err::OutOfMemory,
+    }
+}
+
+/// What is answered for an acceptance that left an input: the rest is cut anew.
+#[inline(always)]
+fn accepted<M: Mode, I: CutRest, O: Drop, E: ParseError<I>>(
+    input: I,
+    left: I,
+    value: O,
+) -> PResult<I, O, E>
+    ensures { AcceptsCut I.model E.errors M.BUILDS input left value result }
+{
+    match input.cut_rest(left) {
+        Some(rest) => Ok((rest, built::<M, O>(value))),
+        None => Err(no_rest(input)),
+    }
+}
+
+impl<I: CutRest, O: Viewed + Drop, E: ParseError<I>, F: Fn(I) -> IResult<I, O, E>> Parser<I>
     for Func<F, I, O, E> {
     type Output = O;
 
@@ -30,13 +57,13 @@ impl<I: Items, O: Viewed + Drop, E: ParseError<I>, F: Fn(I) -> IResult<I, O, E>>
 
     ghost Tree = { O.view.Value };
 
-    ghost grammar = { λ f. func_of I.model O.view (F.post f) (IsParser I.model O.view (F.post f) (F.pre f)) };
+    ghost grammar = { λ f. func_of I.model O.view E.errors (F.post f) (F.pre f) (IsParser I.model O.view (F.post f)) };
 
     #[inline(always)]
     fn process<OM: OutputMode>(&mut self, input: I) -> PResult<I, O, E> {
         input.prove_known();
         match (self.f)(input) {
-            Ok((rest, value)) => Ok((rest, built::<OM::Output, O>(value))),
+            Ok((left, value)) => accepted::<OM::Output, I, O, E>(input, left, value),
             Err(Err::Incomplete(needed)) => Err(Err::Incomplete(needed)),
             Err(Err::Error(error)) => Err(Err::Error(built::<OM::Error, E>(error))),
             Err(Err::Failure(error)) => Err(Err::Failure(error)),
@@ -44,7 +71,7 @@ impl<I: Items, O: Viewed + Drop, E: ParseError<I>, F: Fn(I) -> IResult<I, O, E>>
         }
     }
 
-    ghost lawful = { λ f. func_lawful I.model O.view (F.post f) (F.pre f) };
+    ghost lawful = { λ f. func_lawful I.model O.view (F.post f) E.errors (F.pre f) };
 }
 
 /// A function as a stream parser; made by `stream_func`.
@@ -53,7 +80,7 @@ pub struct StreamFunc<F, I, O, E> {
     pub func: Func<F, I, O, E>,
 }
 
-impl<I: Items, O: Viewed + Drop, E: ParseError<I>, F: Fn(I) -> IResult<I, O, E>> Parser<I>
+impl<I: CutRest, O: Viewed + Drop, E: ParseError<I>, F: Fn(I) -> IResult<I, O, E>> Parser<I>
     for StreamFunc<F, I, O, E> {
     type Output = O;
 
@@ -65,21 +92,21 @@ impl<I: Items, O: Viewed + Drop, E: ParseError<I>, F: Fn(I) -> IResult<I, O, E>>
 
     ghost Tree = { O.view.Value };
 
-    ghost grammar = { λ f. func_of I.model O.view (F.post f) (IsStreamParser I.model O.view (F.post f) (F.pre f)) };
+    ghost grammar = { λ f. func_of I.model O.view E.errors (F.post f) (F.pre f) (IsStreamParser I.model O.view (F.post f)) };
 
     #[inline(always)]
     fn process<OM: OutputMode>(&mut self, input: I) -> PResult<I, O, E> {
         self.func.process::<OM>(input)
     }
 
-    ghost lawful = { λ f. stream_func_lawful I.model O.view (F.post f) (F.pre f) };
+    ghost lawful = { λ f. stream_func_lawful I.model O.view (F.post f) E.errors (F.pre f) };
 }
 
-impl<I: Items, O: Viewed + Drop, E: ParseError<I>, F: Fn(I) -> IResult<I, O, E>> StreamParser<I>
+impl<I: CutRest, O: Viewed + Drop, E: ParseError<I>, F: Fn(I) -> IResult<I, O, E>> StreamParser<I>
     for StreamFunc<F, I, O, E> {
     ghost Pins = { λ _. Unit {0} };
 
     ghost pinned = { λ p k h. viewed_pinned };
 
-    ghost steady = { λ f. stream_func_steady I.model O.view (F.post f) (F.pre f) };
+    ghost steady = { λ f. stream_func_steady I.model O.view (F.post f) E.errors (F.pre f) };
 }

@@ -18,6 +18,7 @@ use nom_traits::character::CodeSet;
 use nom_traits::compare::{Compare, CompareResult};
 use nom_traits::input::{Input, Items};
 use nom_traits::offset::Offset;
+use nom_traits::rests::{CountItems, CutRest};
 use nom_traits::view::Viewed;
 use std::alloc::{AllocError, Allocator};
 use std::fmt;
@@ -148,6 +149,23 @@ impl<I: Input + ByteItems> Input for Located<I> {
     ghost views = { moving_views (located (λ x. x.fragment) (λ x. place x.offset x.line x.column) I.read) I.model I.view I.views };
 
     ghost view_injective = { moving_injective (located (λ x. x.fragment) (λ x. place x.offset x.line x.column) I.read) I.model I.view I.view_injective };
+}
+
+impl<I: Input + ByteItems + CutRest> CutRest for Located<I> {
+    #[inline]
+    fn cut_rest(self, left: Self) -> Option<Self> {
+        match self.fragment.cut_rest(left.fragment) {
+            Some(rest) => Some(self.take_from(self.fragment.input_len() - rest.input_len())),
+            None => None,
+        }
+    }
+}
+
+impl<I: ByteItems + CountItems> CountItems for Located<I> {
+    #[inline(always)]
+    fn item_count(self) -> usize {
+        self.fragment.item_count()
+    }
 }
 
 /// Line and column after bytes, from those before them.

@@ -1,9 +1,11 @@
+pub mod BitCuts
 pub mod ByteCompared
 pub mod ByteCuts
 pub mod ByteLanes
 pub mod ByteRuns
 pub mod Nearest
 pub mod PlaceWalks
+pub mod RestCuts
 pub mod Splitting
 pub mod TextAfter
 pub mod TextCompared

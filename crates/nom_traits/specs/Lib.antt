@@ -5,6 +5,7 @@ pub mod Bytes
 pub mod Classes
 pub mod CompareTags
 pub mod Compares
+pub mod Cuts
 pub mod Digits
 pub mod Input
 pub mod Lanes

@@ -11,6 +11,7 @@ pub mod elements;
 pub mod input;
 mod lanes;
 pub mod offset;
+pub mod rests;
 pub mod split;
 pub mod text;
 pub mod view;
