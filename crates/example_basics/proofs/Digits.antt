@@ -42,24 +42,8 @@ module _ (a b : ℕ) (h : are_digits a b ≡ true) where
       ((omega arith, (first, (second, tt))), omega (arith, first, second)) in
       subst (λ ds. IsNumeral 16 ds × (digits_value 16 ds < 2 ^ 8)) (sym (pair_digits a b h)) fits
 
--- texts that are equal as models are read alike
-same_verdict : {E : Type 0} (cs : List ℕ) (r x : Result ℕ E) → ParsesUnsigned 8 16 (encode_utf8_all cs) r → ParsesUnsigned 8 16 (encode_utf8_all cs) x →
-    is_ok r ≡ is_ok x
-same_verdict cs (Ok v) (Ok w) g h = refl
-same_verdict cs (Ok v) (Err e) g h = absurd (h g.0)
-same_verdict cs (Err e) (Ok w) g h = absurd (g h.0)
-same_verdict cs (Err e) (Err f) g h = refl
-
 abbrev pub ReadsText : {E : Type 0} → Text → Result ℕ E → Type 0
 ReadsText p r = ParsesUnsigned 8 16 (encode_utf8_all (chars p.now)) r
-
-pub read_judge : {E : Type 0} {Takes : Text → Type 0} {Gives : Text → Result ℕ E → Type 0} → ((p : Text) → Takes p) →
-    ((p : Text) (r : Result ℕ E) → Gives p r → ReadsText p r) → IsJudge (IsModelledBy text_model) Takes Gives is_ok
-read_judge takes gives = record {
-  takes = λ t p s. takes p;
-  fixed = λ t p q r x a b g h. same_verdict t.items r x (subst (λ cs. ParsesUnsigned 8 16 (encode_utf8_all cs) r) a.elements_are (gives p r g))
-      (subst (λ cs. ParsesUnsigned 8 16 (encode_utf8_all cs) x) b.elements_are (gives q x h));
-}
 
 -- two digits, and all that is after them
 pub record IsTwo (i : Text) (n : ℕ) (items : List ℕ) : Type 0 where

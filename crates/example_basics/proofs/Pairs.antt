@@ -1,19 +1,20 @@
 -- Pairs of digits in base 16, and tuples of three of them.
-use Rattle.std.proofs.Common.{◌≡◌, ℕ, ◌+◌, ◌*◌, ◌<◌, Bool, true, false, List, [], ◌∷◌, ◌++◌, refl, sym, ◌∙◌, ap, subst, arith, append_assoc}
+use Rattle.std.proofs.Common.{◌≡◌, ℕ, ◌+◌, ◌*◌, ◌<◌, Bool, true, false, List, [], ◌∷◌, ◌++◌, refl, sym, ◌∙◌, ap, subst, arith, append_assoc, Ok}
 use Rattle.std.specs.Prelude.{cond, chars, nat_lt}
 use Rattle.std.specs.Char.{digit_value, is_digit, len_utf8}
 use Rattle.std.proofs.lemmas.Bool.{and_parts, ltb-true, lt-ltb}
 use Rattle.std.proofs.lemmas.Bool.Decides.{nat_tests}
-use Rattle.nom_internal.specs.Prelude.{Needed, Model, IsBoundary, IsSuffixOf, items_len, same_cut, same_self, items_len-append, text_model, text_lawful, itself}
+use Rattle.nom_internal.specs.Prelude.{Errors, Needed, Model, IsBoundary, IsSuffixOf, items_len, same_cut, same_self, items_len-append, text_model, text_lawful, itself}
 use Rattle.nom_internal.specs.Prelude.{Outcome, Accept, Refuse, Stop, after, GoesOn, Then}
 use Rattle.nom_error.specs.declared.answer.Err as Answer
 use Rattle.nom_error.specs.declared.answer.Err.TheVariants as Answered
 use Rattle.nom_error.specs.declared.kind.ErrorKind.TheVariants.{TakeWhileMN}
 use Rattle.nom_error.specs.declared.value.Error.{Error}
-use Rattle.nom_func.specs.Func.{TellsItems, FuncOutcome, IsParser, FuncAnswers, FuncBlames}
-use Rattle.nom_func.specs.Func.FuncBlames.{OfRefusal, OfFailure}
-use Rattle.nom_func.specs.laws.FuncLaws.{agrees}
-use Rattle.nom_func.proofs.FuncSound.{items_func}
+use Rattle.nom_traits.specs.Cuts.{CutsNowhere, suffix_somewhere}
+use Rattle.nom_func.specs.Func.{FuncAnswers, FuncBlames, FuncRunsOut}
+use Rattle.nom_func.specs.Func.FuncBlames.{OfRefusal, OfFailure, OfNoRest}
+use Rattle.nom_func.specs.Func.FuncRunsOut.{RunsOutInside, RunsOutNoRest}
+use Rattle.nom_func.proofs.FuncSound.{taken_once}
 use Rattle.example_basics.specs.Colors.{Text, are_digits, on_pair, pair_of, place_missing, IsFault as IsFaultAt, AnswersPair}
 
 abbrev Fault : Type 0
@@ -88,29 +89,14 @@ text_between i j k n m p q r =
 pub pair_place : (i : Text) (v : ℕ) → IsPair (chars i.now) v → IsBoundary text_model i 2
 pair_place i v p = record { front = p.first ∷ (p.second ∷ []); rest = p.rest; whole = p.whole; length_is = pair_span p.first p.second p.digits }
 
--- the function of one pair, as a parser
-abbrev items_parser : IsParser {E = Error Text} text_model itself (TellsItems text_model itself pair_of) (λ i. Unit {0})
-items_parser = items_func {E = Error Text} {w = text_model} {view = itself} pair_of
-
-told : (i : Text) (o : Outcome ℕ) → FuncOutcome {E = Error Text} text_model itself AnswersPair i o →
-    FuncOutcome {E = Error Text} text_model itself (TellsItems text_model itself pair_of) i o
-told i o a = record { answer = a.answer; given = a.given.outcome_is; told = a.told }
-
-pub pair_parser : IsParser text_model itself AnswersPair (λ i. Unit {0})
-pair_parser = record {
-  takes = λ i h. tt;
-  rests = λ i r h g. items_parser.rests i r h g.outcome_is;
-  alike = λ i j r q h a b. items_parser.alike i j r q h a.outcome_is b.outcome_is;
-}
-
--- its outcome is that of the characters
+-- the outcome of the function of one pair is that of the characters
 pub pair_answered : (i : Text) (o : Outcome ℕ) → FuncAnswers text_model itself AnswersPair i o → pair_of (chars i.now) ≡ o
-pair_answered i o a =
-    let of_items : FuncOutcome {E = Error Text} text_model itself (TellsItems text_model itself pair_of) a.at (pair_of (chars a.at.now)) =
-    record { answer = a.outcome.answer; given = a.outcome.given.outcome_is; told = a.outcome.given.outcome_is } in
-    ap pair_of (sym a.alike.elements_are) ∙
-    agrees text_model itself (TellsItems text_model itself pair_of) false items_parser.alike a.at a.at (pair_of (chars a.at.now)) o
-    a.known a.known (same_self text_model a.at) of_items tt (told a.at o a.outcome)
+pair_answered i o a = ap pair_of (sym a.alike.elements_are) ∙
+    sym (taken_once text_model itself a.at a.outcome.answer (pair_of (chars a.at.now)) o a.outcome.given.outcome_is a.outcome.told)
+
+-- it leaves rests
+never_nowhere : (i j : Text) (v : ℕ) → AnswersPair i (Ok (j, v)) → CutsNowhere text_model i j → ⊥
+never_nowhere i j v g none = let told = g.outcome_is in suffix_somewhere text_model i told.0 j told.1 none
 
 -- a refusal, with its error at the start
 pub record IsMissed (i : Text) (e : Error Text) : Type 0 where
@@ -126,9 +112,15 @@ missed_by i e h f =
 never_failed : (i : Text) (e : Error Text) → IsFaultAt i (0, TakeWhileMN) (Answered.Failure e) → ⊥
 never_failed i e f = cc (f.1)
 
-pub pair_missed : (i : Text) (e : Error Text) → FuncBlames AnswersPair i e → IsMissed i e
-pair_missed i e (OfRefusal g) = missed_by i e g.outcome_is g.fault_is
-pair_missed i e (OfFailure g) = absurd (never_failed i e g.fault_is)
+module _ {errs : Errors Text (Error Text)} where
+  pub pair_missed : (i : Text) (e : Error Text) → FuncBlames text_model errs AnswersPair i e → IsMissed i e
+  pair_missed i e (OfRefusal g) = missed_by i e g.outcome_is g.fault_is
+  pair_missed i e (OfFailure g) = absurd (never_failed i e g.fault_is)
+  pair_missed i e (OfNoRest j v g none k) = absurd (never_nowhere i j v g none)
+
+  pub pair_frugal : (i : Text) → FuncRunsOut text_model errs AnswersPair i → ⊥
+  pair_frugal i (RunsOutInside g) = g.outcome_is
+  pair_frugal i (RunsOutNoRest j v g none k) = never_nowhere i j v g none
 
 -- an acceptance or a refusal
 abbrev pub IsPlain : {V : Type 0} → Outcome V → Type 0

@@ -8,11 +8,12 @@ use Rattle.nom_error.specs.declared.answer.Err.TheVariants as Answered
 use Rattle.nom_error.specs.declared.kind.ErrorKind.TheVariants.{TakeWhileMN}
 use Rattle.nom_error.specs.declared.value.Error.{Error}
 use Rattle.nom_internal.specs.Sequence.ThenBlames.{BlamesFirst, BlamesNext}
-use Rattle.nom_func.specs.Func.{FuncAnswers, FuncBlames, IsViewed}
+use Rattle.nom_func.specs.Func.{FuncAnswers, FuncBlames, FuncRunsOut, IsViewed}
 use Rattle.nom_internal.specs.Sequence.{PairOutput}
 use Rattle.example_basics.specs.Colors.{Text, on_pair, parts_of, place_missing, AnswersPair}
 use Rattle.example_basics.proofs.Pairs.{IsPair, IsMissed, IsPlain, Both, both, sequence_plain, pair_accepted, on_pair_at, on_pair_none, missing_at}
-use Rattle.example_basics.proofs.Pairs.{missing_none, after_pair, text_between, pair_place, pair_answered, pair_missed, pair_plain}
+use Rattle.example_basics.proofs.Pairs.{missing_none, after_pair, text_between, pair_place, pair_answered, pair_frugal, pair_missed, pair_plain}
+use Rattle.example_basics.proofs.Primaries.{text_errors}
 
 abbrev Pair : Text → Outcome ℕ → Type 0
 Pair = FuncAnswers text_model itself AnswersPair
@@ -24,13 +25,13 @@ abbrev Three : Text → Outcome ((ℕ × ℕ) × ℕ) → Type 0
 Three = Then text_model (λ t v. (t, v)) Two (λ _. Pair)
 
 abbrev TwoBlames : Text → Error Text → Type 0
-TwoBlames = ThenBlames text_model Pair (FuncBlames AnswersPair) (λ _. Pair) (λ _. FuncBlames AnswersPair)
+TwoBlames = ThenBlames text_model Pair (FuncBlames text_model text_errors AnswersPair) (λ _. Pair) (λ _. FuncBlames text_model text_errors AnswersPair)
 
 abbrev ThreeBlames : Text → Error Text → Type 0
-ThreeBlames = ThenBlames text_model Two TwoBlames (λ _. Pair) (λ _. FuncBlames AnswersPair)
+ThreeBlames = ThenBlames text_model Two TwoBlames (λ _. Pair) (λ _. FuncBlames text_model text_errors AnswersPair)
 
 abbrev RanOut : Text → Type 0
-RanOut i = AnswersPair i (Err Answered.OutOfMemory)
+RanOut i = FuncRunsOut text_model text_errors AnswersPair i
 
 abbrev TwoRunsOut : Text → Type 0
 TwoRunsOut = ThenRunsOut text_model Pair RanOut (λ _. RanOut)
@@ -168,12 +169,12 @@ three_plain i o a = sequence_plain text_model (λ t v. (t, v)) Two (λ _. Pair) 
     (sequence_plain text_model (λ u v. (u, v)) Pair (λ _. Pair) i (pair_plain i) (λ u j. pair_plain j)) (λ u j. pair_plain j) o a
 
 two_frugal : (i : Text) → TwoRunsOut i → ⊥
-two_frugal i (RunsOutFirst x) = x.outcome_is
-two_frugal i (RunsOutNext x) = x.fact.outcome_is
+two_frugal i (RunsOutFirst x) = pair_frugal i x
+two_frugal i (RunsOutNext x) = pair_frugal x.rest x.fact
 
 three_frugal : (i : Text) → ThreeRunsOut i → ⊥
 three_frugal i (RunsOutFirst x) = two_frugal i x
-three_frugal i (RunsOutNext x) = x.fact.outcome_is
+three_frugal i (RunsOutNext x) = pair_frugal x.rest x.fact
 
 pairs_are : (t : ℕ × ℕ × ℕ) (u : (ℕ × ℕ) × ℕ) → PairOutput (PairOutput (IsViewed itself) (IsViewed itself)) (IsViewed itself) u ((t.0, t.1), t.2) →
     ((t.0, t.1), t.2) ≡ u

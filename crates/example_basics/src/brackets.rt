@@ -7,6 +7,7 @@ ghost use Rattle.example_basics.specs.Brackets.{brackets_meaning};
 use nom::bytes::tag;
 use nom::character::char;
 use nom::error::Error;
+use nom::promises::has_one_outcome;
 use nom::sequence::terminated;
 use nom::{IResult, Items, Parser, func};
 
@@ -29,8 +30,9 @@ pub fn nested_brackets(input: &[u8]) -> IResult<&[u8], usize>
     }
 }
 
-/// Nested brackets and a semicolon.
+/// Nested brackets and a semicolon. Each input has one outcome.
 pub fn brackets_line(input: &[u8]) -> IResult<&[u8], usize> {
     let mut line = terminated(func(nested_brackets), tag(";"));
+    has_one_outcome(&line);
     line.parse_complete(input)
 }

@@ -1,4 +1,3 @@
-pub mod Alike
 pub mod Folds
 pub mod Functions
 pub mod FirstItem

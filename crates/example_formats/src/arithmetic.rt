@@ -1,7 +1,7 @@
 //! Whole numbers with operators between them, and brackets, to their value: by `precedence`.
 ghost use Rattle.std.specs.Prelude.{◌≡◌, codes};
 ghost use Rattle.nom_internal.specs.Prelude.{text_model};
-ghost use Rattle.nom_func.specs.Func.{IsParser};
+ghost use Rattle.nom_func.specs.Func.{TakesAll};
 ghost use Rattle.example_formats.specs.Arithmetic.{
   Answers,
   Applies,
@@ -224,7 +224,7 @@ fn applied<'a>(operation: Signed<'a>) -> Worth<'a>
 fn sum_over<'a, F>(alloc: Global, inside: F, input: &'a str) -> Answer<'a, Worth<'a>>
 where
     F: Fn(&'a str) -> Answer<'a, Worth<'a>> + Drop,
-    requires { IsParser text_model view (F.post inside) (F.pre inside) }
+    requires { TakesAll text_model (F.pre inside) }
     ensures { Parses (sum_in (F.pre inside) (F.post inside)) input.entry result }
 {
     let levels = [Assoc::Right, Assoc::Left, Assoc::Left];

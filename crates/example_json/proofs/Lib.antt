@@ -2,7 +2,6 @@ pub mod Between
 pub mod Branches
 pub mod Ended
 pub mod Lists
-pub mod Meant
 pub mod Plain
 pub mod Told
 pub mod Tokens

@@ -1,15 +1,11 @@
 use Rattle.std.proofs.Common.{ap}
 use Rattle.example_basics.proofs.Painted.{mark_taken, mark_missed, color_answer, color_missing, color_unmarked}
-use Rattle.example_basics.proofs.Pairs.{pair_parser}
 use Rattle.example_basics.proofs.Triples.{triple_read, triple_fault}
 use Rattle.example_basics.proofs.hex.hex_color.Goals as goal
 
 pub returns-in_err-input : goal.returns-in_err-input
 returns-in_err-input c = color_unmarked c.prove_known.ensures (mark_missed _ (ap (λ x. x.now) c.tag.ensures) c.in_err-input.ensures.shown)
     c.from_residual.ensures
-
-pub parse-requires-2 : goal.parse-requires-2
-parse-requires-2 c = record { sound = ((pair_parser, pair_parser), pair_parser) }
 
 pub returns-in_err-input-2 : goal.returns-in_err-input-2
 returns-in_err-input-2 c = color_missing (mark_taken _ (ap (λ x. x.now) c.tag.ensures) c.in_ok-input.ensures.shown)

@@ -1,11 +1,11 @@
 use Rattle.std.proofs.Common.{ap, ◌∙◌, subst, sym}
 use Rattle.nom_internal.specs.Prelude.{text_model}
-use Rattle.nom_func.specs.Func.{IsParser}
+use Rattle.nom_func.specs.Func.{TakesAll}
 use Rattle.nom_operators.specs.Groups.{groups_left}
 use Rattle.example_formats.specs.Arithmetic.{Applies, Parses, func_of, minus_of, none_of, operand_by, operator_of, sum_by, view}
 use Rattle.example_formats.proofs.Folds.{stands_by}
 use Rattle.example_formats.proofs.Functions.{parses_by}
-use Rattle.example_formats.proofs.Parts.{minus_part, number_part, one_level, operator_part, sum_by_parts}
+use Rattle.example_formats.proofs.Parts.{sum_by_parts}
 use Rattle.example_formats.proofs.arithmetic.sum_over.Goals as goal
 
 pub parse_complete-requires : goal.parse_complete-requires
@@ -13,8 +13,8 @@ parse_complete-requires g c =
     let brackets = ap (λ o. o.parsers.0) c.precedence.ensures.operand ∙ ap (λ l. l.parsers.0) c.alt-operand.ensures in
     let inside = ap (λ b. b.second.first.parser.f) brackets ∙ (ap (λ p. p.parser.f) c.delimited-brackets.ensures.second ∙
     (ap (λ p. p.f) c.cut.ensures ∙ c.func.ensures)) in
-    let part = subst (λ f. IsParser text_model view (goal.F-post g f) (goal.F-pre g f)) (sym inside) c.requires in
-    record { sound = (minus_part _ (λ i. tt), ((tt, (part, tt)), number_part _ (λ i. tt)), tt, operator_part _ (λ i. tt), one_level, λ x. tt) }
+    let part = subst (λ f. TakesAll text_model (goal.F-pre g f)) (sym inside) c.requires in
+    record { runs = ((λ i k. tt), ((tt, (part, tt)), (λ i k. tt)), tt, (λ i k. tt), λ x. tt) }
 
 pub returns : goal.returns
 returns g c =

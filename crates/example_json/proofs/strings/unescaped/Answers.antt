@@ -1,35 +1,8 @@
 use Rattle.std.proofs.Common.{false, ◌∙◌, ap, subst}
 use Rattle.nom.specs.Texts.{Parses}
 use Rattle.example_json.specs.Strings.{unescaped_by}
-use Rattle.example_json.proofs.Meant.{alone_judge, joined_judge}
 use Rattle.example_json.proofs.Written.{signs_told}
 use Rattle.example_json.proofs.strings.unescaped.Goals as goal
-
-pub parse_complete-requires : goal.parse_complete-requires
-parse_complete-requires g c = record {
-  sound = (
-    (
-      tt,
-      (
-        (λ x. tt, λ x s p q. cc (p, q)),
-        (
-          tt,
-          (
-            (tt, record { takes = λ t p s. tt }),
-            (
-              tt,
-              (
-                ((λ x. tt, λ x s p q. cc (p, q)), alone_judge (λ p. tt)),
-                (((λ x. tt, λ x s p q. cc (p, q)), (tt, (λ x. tt, λ x s p q. cc (p, q)))), joined_judge (λ p. tt)),
-              ),
-            ),
-          ),
-        ),
-      ),
-    ),
-    tt,
-  );
-}
 
 pub returns : goal.returns
 returns g c =
