@@ -12,7 +12,7 @@ use nom::error::{Error, ErrorKind, ParseError};
 use nom::number::be_u8;
 use nom::promises::has_one_outcome;
 use nom::{
-    Err, Func, Grown, IResult, Input, Items, Needed, Parser, StreamFunc, Viewed, func,
+    CutRest, Err, Func, Grown, IResult, Input, Items, Needed, Parser, StreamFunc, Viewed, func,
     parse_growing, stream_func,
 };
 use std::cell::Cell;
@@ -76,7 +76,7 @@ pub fn length_left(input: &[u8]) -> IResult<&[u8], usize>
 
 /// What a function parses of an input that grows. The functions below are handed to this one, so that each of
 /// their proofs is of the function alone.
-pub fn grown<I: Input, O: Viewed + Drop, E: ParseError<I>, F: Fn(I) -> IResult<I, O, E> + Drop>(
+pub fn grown<I: Input + CutRest, O: Viewed + Drop, E: ParseError<I>, F: Fn(I) -> IResult<I, O, E> + Drop>(
     f: F,
     input: I,
     cuts: &[usize],
@@ -96,7 +96,7 @@ pub fn grown_nothing<'a>(input: &'a [u8], cuts: &[usize]) -> Grown<&'a [u8], usi
 }
 
 /// What a function parses of an input that is complete.
-fn complete<I: Input, O: Viewed + Drop, E: ParseError<I>, F: Fn(I) -> IResult<I, O, E> + Drop>(
+fn complete<I: Input + CutRest, O: Viewed + Drop, E: ParseError<I>, F: Fn(I) -> IResult<I, O, E> + Drop>(
     f: F,
     input: I,
 ) -> IResult<I, O, E>

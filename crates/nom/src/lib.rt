@@ -50,4 +50,5 @@ pub use nom_traits::compare::{Compare, CompareResult};
 pub use nom_traits::convert::ToUsize;
 pub use nom_traits::input::{Input, Items, Value};
 pub use nom_traits::offset::Offset;
+pub use nom_traits::rests::{CountItems, CutRest};
 pub use nom_traits::view::Viewed;
