@@ -98,26 +98,27 @@ module _ {I A V E : Type 0} (w : Model I A) (l : InputLaws w) (errs : Errors I E
           let end = none_later _ i j h.1 b.trees b.taken known r stays b.pieces in
           omega (arith, append_length vs us, ap length h.2, first, later, end)
 
+  abbrev First : I → Outcome (List V) → Type 0
+  First = (items_meaning w errs (one_limits (Fresh Kind.Many1Count) true) ⊥ (dropped_meaning m)).answers s
+
+  abbrev Later : I → Outcome (List V) → Type 0
+  Later = (items_meaning w errs (any_limits Kind.Many1Count) ⊥ (dropped_meaning m)).answers s
+
   -- so what is accepted of an input whose length fits are items whose number does
+  module _ (i : I) (n : ℕ) (ts : List V) (known : w.IsKnown i) (fits : input_len w i < 2 ^ 64) where
+    by_later : (c : ℕ) (vs : List V) → First i (Accept c vs) → (j : I) → IsSuffixOf w i c j → (p : Outcome (List V)) → Later j p →
+        Accept n ts ≡ after c (λ us. vs ++ us) p → length ts < 2 ^ 64
+    by_later c vs x j r (Accept k us) y e = let same : ts ≡ vs ++ us = cc (e) in omega (arith, ap length same, both_fit i j c vs k us fits known x r y)
+    by_later c vs x j r Refuse y e = cc (e)
+    by_later c vs x j r (Stop why) y e = cc (e)
+
+    by_first : (o : Outcome (List V)) → First i o → GoesOn w (λ vs us. vs ++ us) (λ _. Later) i o (Accept n ts) → length ts < 2 ^ 64
+    by_first (Accept c vs) x g = by_later c vs x g.0 g.2 g.1 g.3 g.4
+    by_first Refuse x g = cc (g)
+    by_first (Stop why) x g = cc (g)
+
   pub few : (i : I) (n : ℕ) (ts : List V) → w.IsKnown i → input_len w i < 2 ^ 64 → (many1_count_meaning w errs m).answers s i (Accept n ts) → length ts < 2 ^ 64
-  few i n ts known fits a = by_first a.first a.answered a.goes_on
-    where
-      abbrev First : Outcome (List V) → Type 0
-      First = (items_meaning w errs (one_limits (Fresh Kind.Many1Count) true) ⊥ (dropped_meaning m)).answers s i
-
-      abbrev Later : I → Outcome (List V) → Type 0
-      Later = (items_meaning w errs (any_limits Kind.Many1Count) ⊥ (dropped_meaning m)).answers s
-
-      by_later : (c : ℕ) (vs : List V) → First (Accept c vs) → (j : I) → IsSuffixOf w i c j → (p : Outcome (List V)) → Later j p →
-          Accept n ts ≡ after c (λ us. vs ++ us) p → length ts < 2 ^ 64
-      by_later c vs x j r (Accept k us) y e = let same : ts ≡ vs ++ us = cc (e) in omega (arith, ap length same, both_fit i j c vs k us fits known x r y)
-      by_later c vs x j r Refuse y e = cc (e)
-      by_later c vs x j r (Stop why) y e = cc (e)
-
-      by_first : (o : Outcome (List V)) → First o → GoesOn w (λ vs us. vs ++ us) (λ _. Later) i o (Accept n ts) → length ts < 2 ^ 64
-      by_first (Accept c vs) x g = by_later c vs x g.0 g.2 g.1 g.3 g.4
-      by_first Refuse x g = cc (g)
-      by_first (Stop why) x g = cc (g)
+  few i n ts known fits a = by_first i n ts known fits a.first a.answered a.goes_on
 
 module _ {I A V E : Type 0} {w : Model I A} (l : InputLaws w) (errs : Errors I E) (m : Meaning I V E) {mode : Modes} {i : I}
     {before : Option ℕ} (none : Built mode.outputs (λ n. n ≡ 0) before) where
