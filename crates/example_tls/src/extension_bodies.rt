@@ -7,9 +7,7 @@ use crate::types::{
 };
 use nom::branch::alt;
 use nom::bytes::{tag, take, take_while};
-use nom::combinator::{
-    all_consuming, map, map_opt, map_parser, opt, peek, recognize, success, verify,
-};
+use nom::combinator::{all_consuming, map, map_opt, map_parser, recognize, verify};
 use nom::multi::{many0_count, many1_count};
 use nom::number::{be_u8, be_u16, be_u32, be_u64};
 use nom::sequence::{pair, preceded};
