@@ -1,7 +1,8 @@
 -- What counts of items show: the number fits, since each item but a first one consumes.
 use Rattle.std.proofs.Common.{◌≡◌, ℕ, ◌+◌, ◌-◌, ◌^◌, ◌<◌, ◌≤◌, Bool, true, false, Ok, Option, Some, ◌⊎◌, inl, inr, List, [], ◌∷◌, ◌++◌}
 use Rattle.std.proofs.Common.{length, zero, suc, refl, arith, ap, subst}
-use Rattle.nom_internal.specs.Prelude.{PResult, Errors, Built, Modes, Model, InputLaws, IsSuffixOf, input_len, same_self, rest_related, Outcome, Accept, Refuse, Stop, GoesOn, after}
+use Rattle.nom_internal.specs.Prelude.{PResult, Errors, Built, Modes, Model, InputLaws, IsSuffixOf, input_len, same_self, rest_related, Outcome}
+use Rattle.nom_internal.specs.Prelude.{Accept, Refuse, Stop, GoesOn, after}
 use Rattle.nom_internal.specs.Prelude.{Meaning, IsLawful, ShowsMeaning}
 use Rattle.nom_error.specs.declared.kind.ErrorKind.TheVariants as Kind
 use Rattle.nom_internal.proofs.Consumed.{rest_self, rest_length}
