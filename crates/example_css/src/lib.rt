@@ -2,7 +2,8 @@
 //!
 //! A client of `nom` with no contract: its parsers are functions that are parts of others. Names and strings are slices
 //! of the text, as they are written; `decoding` reads their escapes. Selectors that hold selectors, as `:not(..)`, may do
-//! so to a depth.
+//! so to a depth. What may follow a pseudo element, and whether a namespace is declared, isn't looked at. A comment may
+//! stand where white space may, but joins nothing by itself.
 #![tactic(auto)]
 
 pub mod attributes;

@@ -2,7 +2,7 @@
 
 use crate::lexical::{escape, name, run_of_names, string, word};
 use crate::nth::any_nth;
-use crate::spaces::{close, comma, open, some_spaces};
+use crate::spaces::{close, comma, opening, some_spaces};
 use crate::tree::{Head, ListKind, Nth, NthKind, Simple};
 use nom::branch::alt;
 use nom::bytes::{is_not, tag, tag_no_case};
@@ -15,12 +15,12 @@ use std::alloc::Allocator;
 
 /// The name of a pseudo class with brackets, and their beginning.
 fn class_function(input: &str) -> IResult<&str, &str> {
-    delimited(char(':'), func(name), func(open)).parse_complete(input)
+    delimited(char(':'), func(name), func(opening)).parse_complete(input)
 }
 
 /// The name of a pseudo element with brackets, and their beginning.
 fn element_function(input: &str) -> IResult<&str, &str> {
-    delimited(tag("::"), func(name), func(open)).parse_complete(input)
+    delimited(tag("::"), func(name), func(opening)).parse_complete(input)
 }
 
 /// Whether a pseudo element may be written as a pseudo class is, for its age.

@@ -5,7 +5,7 @@ use crate::pseudo::any_head;
 use crate::simple::{any_combinator, any_simple, signed_combinator};
 use crate::spaces::{close, comma, spaces};
 use crate::tree::{Head, ListKind, Piece, Selector};
-use nom::combinator::{eof, opt};
+use nom::combinator::{cond, eof, opt};
 use nom::error::{Error, ErrorKind};
 use nom::{Err, IResult, Parser, func};
 use std::alloc::Global;
@@ -52,13 +52,14 @@ fn add_type<'a>(
     Ok(rest)
 }
 
-/// Puts a combinator behind the pieces of a selector, if one with a sign is there.
+/// Puts a combinator behind the pieces of a relative selector, if one with a sign is there.
 fn add_combinator<'a>(
     pieces: &mut Vec<Piece<'a>>,
+    relative: bool,
     input: &'a str,
 ) -> Result<&'a str, Err<Error<&'a str>>> {
-    let (rest, sign) = opt(func(signed_combinator)).parse_complete(input)?;
-    if let Some(sign) = sign {
+    let (rest, sign) = cond(relative, opt(func(signed_combinator))).parse_complete(input)?;
+    if let Some(Some(sign)) = sign {
         add(pieces, Piece::Combinator(sign))?;
     }
     Ok(rest)
@@ -140,11 +141,7 @@ fn selector<'a>(
     input: &'a str,
 ) -> IResult<&'a str, Selector<'a>> {
     let mut pieces = Vec::new(alloc);
-    let start = if relative {
-        add_combinator(&mut pieces, input)?
-    } else {
-        input
-    };
+    let start = add_combinator(&mut pieces, relative, input)?;
     let mut place = add_tests(alloc, depth, &mut pieces, start)?;
     for _ in 0..input.len() {
         let Ok((after, combinator)) = any_combinator(place) else {

@@ -69,6 +69,6 @@ pub fn close(input: &str) -> IResult<&str, ()> {
 }
 
 /// The beginning of brackets.
-pub fn open(input: &str) -> IResult<&str, ()> {
+pub fn opening(input: &str) -> IResult<&str, ()> {
     value((), terminated(char('('), func(spaces))).parse_complete(input)
 }

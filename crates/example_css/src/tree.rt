@@ -158,6 +158,7 @@ pub enum Simple<'a> {
 impl Viewed for Simple<'_> {}
 
 /// A piece of a selector.
+#[cycle(tree)]
 #[derive(Debug, Drop)]
 pub enum Piece<'a> {
     Combinator(Combinator),
@@ -168,6 +169,7 @@ pub enum Piece<'a> {
 }
 
 /// A selector: tests of one element after each other, and combinators between those of different elements.
+#[cycle(tree)]
 #[derive(Debug, Drop)]
 pub struct Selector<'a> {
     pub pieces: Vec<Piece<'a>>,

@@ -6,8 +6,8 @@ use nom::multi::many0;
 use nom::{Parser, func};
 use std::alloc::Allocator;
 
-/// The most pointers of a name.
-const MOST_POINTERS: usize = 126;
+/// The most parts of a name, between which there are pointers.
+const MOST_PARTS: usize = 127;
 
 /// The most bytes of a name: its labels with their lengths, and its end.
 const MOST_BYTES: usize = 255;
@@ -65,7 +65,7 @@ pub fn labels<'a, A: Allocator + Copy>(
     let mut place = place_of(message, name, after)?;
     let mut part = name;
     let mut length = 1usize;
-    for _ in 0..=MOST_POINTERS {
+    for _ in 0..MOST_PARTS {
         length = length.saturating_add(part.labels.len());
         if length > MOST_BYTES {
             return Err(NameFault::TooLong);

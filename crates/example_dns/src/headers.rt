@@ -2,7 +2,7 @@
 
 use crate::types::{Flags, Header};
 use nom::bits::{bits, bool as flag, take as take_bits};
-use nom::combinator::map;
+use nom::combinator::{complete, map};
 use nom::error::Error;
 use nom::number::be_u16;
 use nom::{IResult, Parser, func};
@@ -16,16 +16,16 @@ type FirstFlags = (bool, u8, bool, bool, bool);
 /// Recursion available, a bit that is 0, authentic, checking disabled, and the answer's number.
 type SecondFlags = (bool, bool, bool, bool, u8);
 
-/// The first byte of flags.
+/// The first byte of flags. `bits` asks for more where there is none; that is refused with `Complete`.
 fn first_flags(input: &[u8]) -> IResult<&[u8], FirstFlags> {
     let operation = take_bits::<_, _, u8, BitError<'_>>(4u8);
-    bits((flag(), operation, flag(), flag(), flag())).parse_complete(input)
+    complete(bits((flag(), operation, flag(), flag(), flag()))).parse_complete(input)
 }
 
 /// The second byte of flags.
 fn second_flags(input: &[u8]) -> IResult<&[u8], SecondFlags> {
     let answer = take_bits::<_, _, u8, BitError<'_>>(4u8);
-    bits((flag(), flag(), flag(), flag(), answer)).parse_complete(input)
+    complete(bits((flag(), flag(), flag(), flag(), answer))).parse_complete(input)
 }
 
 /// Flags from their bytes.

@@ -2,9 +2,9 @@
 
 use crate::types::Name;
 use nom::branch::alt;
-use nom::bytes::tag;
-use nom::combinator::{map, map_opt, recognize, value, verify};
-use nom::multi::{length_data, many0_count};
+use nom::bytes::{tag, take};
+use nom::combinator::{flat_map, map, map_opt, recognize, value, verify};
+use nom::multi::many0_count;
 use nom::number::{be_u8, be_u16};
 use nom::{IResult, Parser, func};
 
@@ -15,7 +15,7 @@ fn label_length(input: &[u8]) -> IResult<&[u8], u8> {
 
 /// A label.
 pub fn label(input: &[u8]) -> IResult<&[u8], &[u8]> {
-    length_data(func(label_length)).parse_complete(input)
+    flat_map(func(label_length), |length: u8| take(length)).parse_complete(input)
 }
 
 /// All labels that follow each other, each with its length.

@@ -4,31 +4,30 @@ use crate::extension_bodies::{
     authority_list, fragment_power, key_share_list, number_list, offered_keys, protocol_list,
     raw_extension, server_name_list, status_request, version_list, zeros,
 };
-use crate::opaque::{filled8, filled16};
+use crate::opaque::{bytes16, filled8, filled16};
 use crate::types::{Extension, OfferedKeys, RawExtension, StatusRequest};
 use nom::branch::alt;
 use nom::bytes::tag;
-use nom::combinator::{all_consuming, cut, map, map_opt, rest, verify};
-use nom::multi::length_value;
+use nom::combinator::{all_consuming, cut, map, map_opt, map_parser, verify};
 use nom::number::be_u16;
 use nom::sequence::{preceded, terminated};
 use nom::{IResult, Parser, func};
 
 /// The names of the server that the client wants.
 fn wanted_names(input: &[u8]) -> IResult<&[u8], Extension<'_>> {
-    let body = length_value(be_u16(), all_consuming(func(server_name_list)));
+    let body = map_parser(func(bytes16), all_consuming(func(server_name_list)));
     let names = preceded(tag(&b"\0\0"[..]), cut(body));
     map(names, |names: &[u8]| Extension::ServerNames(names)).parse_complete(input)
 }
 
 fn wanted_length(input: &[u8]) -> IResult<&[u8], Extension<'_>> {
-    let body = length_value(be_u16(), all_consuming(func(fragment_power)));
+    let body = map_parser(func(bytes16), all_consuming(func(fragment_power)));
     let power = preceded(tag(&b"\0\x01"[..]), cut(body));
     map(power, |power: u8| Extension::MaxFragmentLength(power)).parse_complete(input)
 }
 
 fn wanted_status(input: &[u8]) -> IResult<&[u8], Extension<'_>> {
-    let body = length_value(be_u16(), all_consuming(func(status_request)));
+    let body = map_parser(func(bytes16), all_consuming(func(status_request)));
     let request = preceded(tag(&b"\0\x05"[..]), cut(body));
     map(request, |request: StatusRequest<'_>| {
         Extension::StatusRequest(request)
@@ -58,7 +57,7 @@ fn number_kind(input: &[u8]) -> IResult<&[u8], u16> {
 
 /// Groups, and signature schemes, of certificates too.
 fn number_lists(input: &[u8]) -> IResult<&[u8], Extension<'_>> {
-    let body = length_value(be_u16(), all_consuming(func(number_list)));
+    let body = map_parser(func(bytes16), all_consuming(func(number_list)));
     map_opt((func(number_kind), cut(body)), as_numbers).parse_complete(input)
 }
 
@@ -78,18 +77,18 @@ fn byte_kind(input: &[u8]) -> IResult<&[u8], u16> {
 
 /// Formats of points, and ways to use a key that both have.
 pub fn byte_lists(input: &[u8]) -> IResult<&[u8], Extension<'_>> {
-    let body = length_value(be_u16(), all_consuming(func(filled8)));
+    let body = map_parser(func(bytes16), all_consuming(func(filled8)));
     map_opt((func(byte_kind), cut(body)), as_bytes).parse_complete(input)
 }
 
 fn wanted_protocols(input: &[u8]) -> IResult<&[u8], Extension<'_>> {
-    let body = length_value(be_u16(), all_consuming(func(protocol_list)));
+    let body = map_parser(func(bytes16), all_consuming(func(protocol_list)));
     let protocols = preceded(tag(&b"\0\x10"[..]), cut(body));
     map(protocols, |list: &[u8]| Extension::Protocols(list)).parse_complete(input)
 }
 
 fn padding(input: &[u8]) -> IResult<&[u8], Extension<'_>> {
-    let body = length_value(be_u16(), all_consuming(func(zeros)));
+    let body = map_parser(func(bytes16), all_consuming(func(zeros)));
     let padding = preceded(tag(&b"\0\x15"[..]), cut(body));
     map(padding, |count: usize| Extension::Padding(count)).parse_complete(input)
 }
@@ -114,38 +113,38 @@ fn client_flags(input: &[u8]) -> IResult<&[u8], Extension<'_>> {
 
 /// A ticket of TLS 1.2, empty where the client has none.
 pub fn session_ticket(input: &[u8]) -> IResult<&[u8], Extension<'_>> {
-    let ticket = preceded(tag(&b"\0\x23"[..]), cut(length_value(be_u16(), func(rest))));
+    let ticket = preceded(tag(&b"\0\x23"[..]), cut(func(bytes16)));
     map(ticket, |ticket: &[u8]| Extension::SessionTicket(ticket)).parse_complete(input)
 }
 
 fn offers(input: &[u8]) -> IResult<&[u8], Extension<'_>> {
-    let body = length_value(be_u16(), all_consuming(func(offered_keys)));
+    let body = map_parser(func(bytes16), all_consuming(func(offered_keys)));
     let keys = preceded(tag(&b"\0\x29"[..]), cut(body));
     map(keys, |keys: OfferedKeys<'_>| Extension::OfferedKeys(keys)).parse_complete(input)
 }
 
 fn client_versions(input: &[u8]) -> IResult<&[u8], Extension<'_>> {
-    let body = length_value(be_u16(), all_consuming(func(version_list)));
+    let body = map_parser(func(bytes16), all_consuming(func(version_list)));
     let versions = preceded(tag(&b"\0\x2b"[..]), cut(body));
     map(versions, |list: &[u8]| Extension::Versions(list)).parse_complete(input)
 }
 
 /// The cookie of a server that wanted another hello.
 pub fn cookie(input: &[u8]) -> IResult<&[u8], Extension<'_>> {
-    let body = length_value(be_u16(), all_consuming(func(filled16)));
+    let body = map_parser(func(bytes16), all_consuming(func(filled16)));
     let cookie = preceded(tag(&b"\0\x2c"[..]), cut(body));
     map(cookie, |cookie: &[u8]| Extension::Cookie(cookie)).parse_complete(input)
 }
 
 /// The authorities whose certificates are trusted.
 pub fn trusted(input: &[u8]) -> IResult<&[u8], Extension<'_>> {
-    let body = length_value(be_u16(), all_consuming(func(authority_list)));
+    let body = map_parser(func(bytes16), all_consuming(func(authority_list)));
     let authorities = preceded(tag(&b"\0\x2f"[..]), cut(body));
     map(authorities, |list: &[u8]| Extension::Authorities(list)).parse_complete(input)
 }
 
 fn client_shares(input: &[u8]) -> IResult<&[u8], Extension<'_>> {
-    let body = length_value(be_u16(), all_consuming(func(key_share_list)));
+    let body = map_parser(func(bytes16), all_consuming(func(key_share_list)));
     let shares = preceded(tag(&b"\0\x33"[..]), cut(body));
     map(shares, |list: &[u8]| Extension::KeyShares(list)).parse_complete(input)
 }

@@ -43,7 +43,7 @@ fn ciphers(input: &[u8]) -> IResult<&[u8], &[u8]> {
 
 /// The number of a cipher suite.
 pub fn any_cipher(input: &[u8]) -> IResult<&[u8], CipherSuite> {
-    map(be_u16(), |number: u16| CipherSuite(number)).parse_complete(input)
+    map(be_u16(), CipherSuite).parse_complete(input)
 }
 
 /// How a hello of either side begins: its version, its random bytes and its session.

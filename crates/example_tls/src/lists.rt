@@ -13,7 +13,7 @@ use crate::types::{
     CertificateEntry, CipherSuite, Extension, Group, Identity, KeyShare, Scheme, ServerName,
     SignedTimestamp, Version,
 };
-use nom::combinator::{all_consuming, map_parser};
+use nom::combinator::all_consuming;
 use nom::multi::{fold_many0, many0};
 use nom::{IResult, Parser, func};
 use std::alloc::Allocator;
@@ -109,7 +109,9 @@ pub fn entries<'a, A: Allocator + Copy>(
 
 /// A timestamp after its length.
 fn framed_timestamp(input: &[u8]) -> IResult<&[u8], SignedTimestamp<'_>> {
-    map_parser(func(filled16), all_consuming(func(signed_timestamp))).parse_complete(input)
+    func(filled16)
+        .and_then(all_consuming(func(signed_timestamp)))
+        .parse_complete(input)
 }
 
 /// The timestamps of logs.

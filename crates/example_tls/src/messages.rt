@@ -1,5 +1,6 @@
-//! The messages of a handshake, after their kinds and lengths. One of a known kind whose body isn't one is a failure; an
-//! unknown kind is refused with `MapOpt`.
+//! The messages of a handshake, after their kinds and lengths. Records may cut a message in pieces, so one that is shorter
+//! than its length says is `Incomplete`. One of a known kind whose body isn't one is a failure; an unknown kind is refused
+//! with `MapOpt`.
 
 use crate::certificates::{certificate_chain, certificate_list, new_request, old_request};
 use crate::extension_bodies::{extension_list, status_response};
@@ -11,15 +12,20 @@ use crate::types::{
 };
 use nom::branch::alt;
 use nom::bytes::tag;
-use nom::combinator::{all_consuming, cut, map, map_opt, rest};
+use nom::combinator::{all_consuming, cut, map, map_opt, rest, verify};
 use nom::multi::{length_value, many0};
 use nom::number::{be_u8, be_u24};
 use nom::sequence::{pair, preceded, terminated};
 use nom::{IResult, Parser, func};
 use std::alloc::Allocator;
 
+/// The length of a client's hello. One that no hello has is refused with `Verify`.
+fn hello_length(input: &[u8]) -> IResult<&[u8], u32> {
+    verify(be_u24(), |length: &u32| *length <= 131396).parse_complete(input)
+}
+
 fn from_client(input: &[u8]) -> IResult<&[u8], Message<'_>> {
-    let body = length_value(be_u24(), all_consuming(func(client_hello)));
+    let body = length_value(func(hello_length), all_consuming(func(client_hello)));
     let hello = preceded(tag(&b"\x01"[..]), cut(body));
     map(hello, |hello: ClientHello<'_>| Message::ClientHello(hello)).parse_complete(input)
 }

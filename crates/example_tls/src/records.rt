@@ -10,8 +10,14 @@ use nom::number::{be_u8, be_u16};
 use nom::{IResult, Parser, func};
 use std::alloc::Allocator;
 
-/// The most bytes of a fragment.
-const MOST: u16 = 16384;
+/// The most bytes of a fragment that isn't protected.
+const MOST_PLAIN: u16 = 16384;
+
+/// The most bytes of a fragment that TLS 1.2 protects.
+const MOST_CIPHER: u16 = 18432;
+
+/// The most bytes of a fragment that TLS 1.3 protects.
+const MOST_PROTECTED: u16 = 16640;
 
 fn content_type_of(number: u8) -> Option<ContentType> {
     match number {
@@ -44,17 +50,17 @@ fn record_version(input: &[u8]) -> IResult<&[u8], Version> {
 
 /// The length of a fragment that isn't protected.
 fn plain_length(input: &[u8]) -> IResult<&[u8], u16> {
-    verify(be_u16(), |length: &u16| *length <= MOST).parse_complete(input)
+    verify(be_u16(), |length: &u16| *length <= MOST_PLAIN).parse_complete(input)
 }
 
 /// The length of a fragment that TLS 1.2 protects.
 fn cipher_length(input: &[u8]) -> IResult<&[u8], u16> {
-    verify(be_u16(), |length: &u16| *length <= MOST + 2048).parse_complete(input)
+    verify(be_u16(), |length: &u16| *length <= MOST_CIPHER).parse_complete(input)
 }
 
 /// The length of a fragment that TLS 1.3 protects.
 fn protected_length(input: &[u8]) -> IResult<&[u8], u16> {
-    verify(be_u16(), |length: &u16| *length <= MOST + 256).parse_complete(input)
+    verify(be_u16(), |length: &u16| *length <= MOST_PROTECTED).parse_complete(input)
 }
 
 /// A record from its parts.
@@ -91,7 +97,7 @@ pub fn plaintext(input: &[u8]) -> IResult<&[u8], Record<'_>> {
     .parse_complete(input)
 }
 
-/// A record that TLS 1.2 protects, of at most 16384 + 2048 bytes.
+/// A record that TLS 1.2 protects, of at most 18432 bytes.
 pub fn ciphertext(input: &[u8]) -> IResult<&[u8], Record<'_>> {
     let fragment = length_data(func(cipher_length));
     map(
@@ -101,7 +107,7 @@ pub fn ciphertext(input: &[u8]) -> IResult<&[u8], Record<'_>> {
     .parse_complete(input)
 }
 
-/// A record that TLS 1.3 protects, of at most 16384 + 256 bytes, which tells that it has application data in it.
+/// A record that TLS 1.3 protects, of at most 16640 bytes, which tells that it has application data in it.
 pub fn protected(input: &[u8]) -> IResult<&[u8], Record<'_>> {
     let kind = value(ContentType::ApplicationData, tag(&b"\x17"[..]));
     let version = value(Version(0x0303), tag(&b"\x03\x03"[..]));

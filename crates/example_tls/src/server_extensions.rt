@@ -5,12 +5,12 @@ use crate::client_extensions::{byte_lists, cookie, parameters, session_ticket, t
 use crate::extension_bodies::{
     any_group, fragment_power, key_share, one_protocol, status_response, timestamp_list,
 };
+use crate::opaque::bytes16;
 use crate::records::any_version;
 use crate::types::{Extension, Group, KeyShare, Version};
 use nom::branch::alt;
 use nom::bytes::tag;
-use nom::combinator::{all_consuming, cut, map, map_opt};
-use nom::multi::length_value;
+use nom::combinator::{all_consuming, cut, map, map_opt, map_parser};
 use nom::number::{be_u16, be_u32};
 use nom::sequence::{preceded, terminated};
 use nom::{IResult, Parser, func};
@@ -33,31 +33,31 @@ fn server_flags(input: &[u8]) -> IResult<&[u8], Extension<'_>> {
 }
 
 fn given_length(input: &[u8]) -> IResult<&[u8], Extension<'_>> {
-    let body = length_value(be_u16(), all_consuming(func(fragment_power)));
+    let body = map_parser(func(bytes16), all_consuming(func(fragment_power)));
     let power = preceded(tag(&b"\0\x01"[..]), cut(body));
     map(power, |power: u8| Extension::MaxFragmentLength(power)).parse_complete(input)
 }
 
 fn taken_protocol(input: &[u8]) -> IResult<&[u8], Extension<'_>> {
-    let body = length_value(be_u16(), all_consuming(func(one_protocol)));
+    let body = map_parser(func(bytes16), all_consuming(func(one_protocol)));
     let protocol = preceded(tag(&b"\0\x10"[..]), cut(body));
     map(protocol, |name: &[u8]| Extension::Protocol(name)).parse_complete(input)
 }
 
 fn logged(input: &[u8]) -> IResult<&[u8], Extension<'_>> {
-    let body = length_value(be_u16(), all_consuming(func(timestamp_list)));
+    let body = map_parser(func(bytes16), all_consuming(func(timestamp_list)));
     let timestamps = preceded(tag(&b"\0\x12"[..]), cut(body));
     map(timestamps, |list: &[u8]| Extension::Timestamps(list)).parse_complete(input)
 }
 
 fn selected_key(input: &[u8]) -> IResult<&[u8], Extension<'_>> {
-    let body = length_value(be_u16(), all_consuming(be_u16()));
+    let body = map_parser(func(bytes16), all_consuming(be_u16()));
     let index = preceded(tag(&b"\0\x29"[..]), cut(body));
     map(index, |index: u16| Extension::SelectedKey(index)).parse_complete(input)
 }
 
 fn selected_version(input: &[u8]) -> IResult<&[u8], Extension<'_>> {
-    let body = length_value(be_u16(), all_consuming(func(any_version)));
+    let body = map_parser(func(bytes16), all_consuming(func(any_version)));
     let version = preceded(tag(&b"\0\x2b"[..]), cut(body));
     map(version, |version: Version| {
         Extension::SelectedVersion(version)
@@ -66,19 +66,19 @@ fn selected_version(input: &[u8]) -> IResult<&[u8], Extension<'_>> {
 }
 
 fn server_share(input: &[u8]) -> IResult<&[u8], Extension<'_>> {
-    let body = length_value(be_u16(), all_consuming(func(key_share)));
+    let body = map_parser(func(bytes16), all_consuming(func(key_share)));
     let share = preceded(tag(&b"\0\x33"[..]), cut(body));
     map(share, |share: KeyShare<'_>| Extension::ServerShare(share)).parse_complete(input)
 }
 
 fn wanted_group(input: &[u8]) -> IResult<&[u8], Extension<'_>> {
-    let body = length_value(be_u16(), all_consuming(func(any_group)));
+    let body = map_parser(func(bytes16), all_consuming(func(any_group)));
     let group = preceded(tag(&b"\0\x33"[..]), cut(body));
     map(group, |group: Group| Extension::WantedGroup(group)).parse_complete(input)
 }
 
 fn given_status(input: &[u8]) -> IResult<&[u8], Extension<'_>> {
-    let body = length_value(be_u16(), all_consuming(func(status_response)));
+    let body = map_parser(func(bytes16), all_consuming(func(status_response)));
     let response = preceded(tag(&b"\0\x05"[..]), cut(body));
     map(response, |response: &[u8]| {
         Extension::StatusResponse(response)
@@ -87,7 +87,7 @@ fn given_status(input: &[u8]) -> IResult<&[u8], Extension<'_>> {
 }
 
 fn early_data_size(input: &[u8]) -> IResult<&[u8], Extension<'_>> {
-    let body = length_value(be_u16(), all_consuming(be_u32()));
+    let body = map_parser(func(bytes16), all_consuming(be_u32()));
     let size = preceded(tag(&b"\0\x2a"[..]), cut(body));
     map(size, |size: u32| Extension::MaxEarlyData(size)).parse_complete(input)
 }
