@@ -26,4 +26,4 @@ returns-clause-shown g c =
       IsOutput = CountAccumulated c.in_ok-rest.first;
     }) c.in_ok-rest.ensures.kept c.any_items.ensures.shown in
     count1_shown g.met.I.Items.lawful g.F.Error.ParseError.errors (g.F.Parser.grammar s).meaning
-    (g.met.F.Parser.lawful s c.requires.runs.0) c.fits.ensures.known c.fits.ensures.fits c.built-none.ensures c.in_ok-rest.ensures.shown more
+    (g.met.F.Parser.lawful s c.requires.runs.1) c.fits.ensures.known c.fits.ensures.fits c.built-none.ensures c.in_ok-rest.ensures.shown more
