@@ -1,5 +1,5 @@
 -- What the fold of one item shows.
-use Rattle.std.proofs.Common.{◌≡◌, ℕ, ◌<◌, true, Result, Ok, Err, Option, Some, List, [], ◌∷◌, ◌++◌, inl, refl, arith}
+use Rattle.std.proofs.Common.{true, Result, Ok, Err, Option, Some, [], ◌∷◌, inl, refl, arith}
 use Rattle.nom_error.specs.declared.answer.OutOfMemory.{OutOfMemory}
 use Rattle.nom_error.specs.declared.answer.Err as Answer
 use Rattle.nom_error.specs.declared.kind.ErrorKind.TheVariants as Kind

@@ -1,5 +1,5 @@
 -- The laws of folds by closures that may take memory.
-use Rattle.std.specs.Prelude.{◌≡◌, ℕ, ◌+◌, ◌⊎◌, true, List, [], ◌∷◌, Result, Ok}
+use Rattle.std.specs.Prelude.{ℕ, ◌+◌, ◌⊎◌, true, List, [], ◌∷◌, Result, Ok}
 use Rattle.std.proofs.Common.{inl, inr}
 use Rattle.nom_error.specs.declared.answer.OutOfMemory.{OutOfMemory}
 use Rattle.nom_error.specs.declared.kind.ErrorKind.TheVariants as Kind
@@ -11,7 +11,6 @@ use Rattle.nom_repeat.specs.laws.ItemsLaws.{items_lawful, items_steady}
 use Rattle.nom_repeat.specs.Bounds.{any_limits, one_limits}
 use Rattle.nom_repeat.specs.declared.items.Limits.{Limits}
 use Rattle.nom_repeat.specs.declared.items.TooFew.TheVariants.{Fresh}
-use Rattle.nom_multi_fold.specs.Folds.{Folds}
 use Rattle.nom_multi_fold.specs.Under.{under_lawful, under_steady}
 use Rattle.nom_alloc.specs.FoldAlloc.{FoldsWithoutMemory, LacksAt, beside, begun_meaning, folded_meaning, later_items, fold_many0_alloc_meaning}
 use Rattle.nom_alloc.specs.FoldAlloc.{fold_many1_alloc_meaning}
