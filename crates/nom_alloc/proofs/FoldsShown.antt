@@ -1,14 +1,15 @@
 -- What a fold shows whose closures may take memory.
 use Rattle.std.proofs.Common.{◌≡◌, ℕ, ◌+◌, ◌<◌, Bool, true, false, Result, Ok, Err, Option, Some, None, List, [], ◌∷◌, ◌++◌, ◌⊎◌, inl, inr, refl, subst}
-use Rattle.std.proofs.Common.{length, arith, sym, ◌∙◌}
+use Rattle.std.proofs.Common.{length, arith, sym, ◌∙◌, ap}
 use Rattle.std.specs.Prelude.{ltb}
 use Rattle.std.specs.List.{AllZip, FoldsTo}
+use Rattle.std.specs.Result.{IsErr, IsErrAnd}
 use Rattle.std.proofs.lemmas.Bool.{le-ltb}
 use Rattle.std.proofs.lemmas.Fn.{FoldsTo-push}
 use Rattle.nom_error.specs.declared.answer.OutOfMemory.{OutOfMemory}
 use Rattle.nom_error.specs.declared.answer.Err as Answer
 use Rattle.nom_internal.specs.Prelude.{PResult, Needed, Incomplete, Failure, Built, Modes, Model, Errors, RanOut, Shown, Meaning, ShowsMeaning, Outcome, Accept}
-use Rattle.nom_internal.proofs.Shown.{Accepts}
+use Rattle.nom_internal.proofs.Shown.{Accepts, err_from_residual}
 use Rattle.nom_repeat.specs.Items.{item_turn, items_meaning}
 use Rattle.nom_repeat.specs.Repeat.{IsBelow, Pieces, TurnsBy}
 use Rattle.nom_repeat.specs.declared.items.Limits.{Limits}
@@ -196,22 +197,26 @@ module _ {V T R : Type 0} (IsOutput : V → T → Type 0) (Inits : R → Type 0)
 
 -- a first value was made, or there was no memory for it
 module _ {R : Type 0} (Inits : Result R OutOfMemory → Type 0) where
-  pub first_made : (builds : Bool) (x : Option R) → Starts builds Inits (Ok x) → Built builds (λ r. Inits (Ok r)) x
-  first_made true x h = h
-  first_made false x h = cc (h)
+  module _ (E : Type 0) where
+    pub first_made : (builds : Bool) (x : Option R) → Starts {E = E} builds Inits (Ok x) → Built builds (λ r. Inits (Ok r)) x
+    first_made true x h = h
+    first_made false x h = cc (h)
 
-  first_lacks : (builds : Bool) (e : OutOfMemory) → Starts builds Inits (Err e) → (builds ≡ true) × LacksFirst Inits
-  first_lacks true e h = (refl, record { lacking = e; lacks = h })
-  first_lacks false e h = absurd (cc (h))
+    first_lacks : (builds : Bool) (e : Answer.Err E (Option E) Needed) → Starts builds Inits (Err e) →
+        (builds ≡ true) × LacksFirst Inits × (e ≡ Answer.Err.OutOfMemory)
+    first_lacks true e h = (refl, record { lacking = h.0; lacks = h.1 }, h.2)
+    first_lacks false e h = absurd (cc (h))
 
   module _ {I A V O E : Type 0} {w : Model I A} {IsOutput : V → O → Type 0} (m : Meaning I V E) (mode : Modes) {i : I} where
     pub begun_shown : {r : PResult I O E} → ShowsMeaning w IsOutput m mode i r → ShowsMeaning w IsOutput (begun_meaning Inits m) mode i r
     begun_shown (RanOut e h) = RanOut e (inl h)
     begun_shown (Shown o a s) = Shown o a s
 
-    pub begun_lacks : (e : OutOfMemory) → Starts mode.outputs Inits (Err e) →
-        ShowsMeaning w IsOutput (begun_meaning Inits m) mode i (Err Answer.Err.OutOfMemory)
-    begun_lacks e h = RanOut refl (inr (first_lacks mode.outputs e h))
+    pub begun_lacks : (e : Answer.Err E (Option E) Needed) {r : PResult I O E} → Starts mode.outputs Inits (Err e) → IsErr r × IsErrAnd r (λ y. y ≡ e) →
+        ShowsMeaning w IsOutput (begun_meaning Inits m) mode i r
+    begun_lacks e h q =
+        let lack = first_lacks E mode.outputs e h in
+        RanOut (err_from_residual q ∙ ap Err lack.2) (inr (lack.0, lack.1))
 
 -- no list is shorter than none
 pub none_below : {V : Type 0} (vs : List V) → ltb (length vs) 0 ≡ false

@@ -1,8 +1,9 @@
 -- Folds of items by closures that may take memory.
 use Rattle.std.specs.Prelude.{◌≡◌, ℕ, ◌++◌, ◌⊎◌, Bool, true, false, None, List, Option, Some, Result, Ok, Err}
 use Rattle.nom_error.specs.declared.answer.OutOfMemory.{OutOfMemory}
+use Rattle.nom_error.specs.declared.answer.Err as Answer
 use Rattle.nom_error.specs.declared.kind.ErrorKind.TheVariants as Kind
-use Rattle.nom_internal.specs.Prelude.{Errors, Grammar, Model, Meaning, Modes, Outcome, Family, then_meaning}
+use Rattle.nom_internal.specs.Prelude.{Errors, Needed, Grammar, Model, Meaning, Modes, Outcome, Family, then_meaning}
 use Rattle.nom_repeat.specs.Items.{item_turn, items_meaning}
 use Rattle.nom_repeat.specs.Repeat.{Pieces, TurnsBy}
 use Rattle.nom_repeat.specs.Repeat.Turn.{Takes}
@@ -17,9 +18,9 @@ abbrev pub IsValue : {R : Type 0} → Option R → R → Type 0
 IsValue x r = x ≡ Some r
 
 -- the first value, where outputs are built: the closure makes it, or finds no memory
-abbrev pub Starts : {R : Type 0} → Bool → (Result R OutOfMemory → Type 0) → Result (Option R) OutOfMemory → Type 0
+abbrev pub Starts : {R E : Type 0} → Bool → (Result R OutOfMemory → Type 0) → Result (Option R) (Answer.Err E (Option E) Needed) → Type 0
 Starts {R} true Inits (Ok x) = (r : R) × (x ≡ Some r) × Inits (Ok r)
-Starts true Inits (Err e) = Inits (Err e)
+Starts true Inits (Err e) = (f : OutOfMemory) × Inits (Err f) × (e ≡ Answer.Err.OutOfMemory)
 Starts false Inits q = q ≡ Ok None
 
 -- what one more item makes of a value, where both are built: the closure takes the item, or finds no memory

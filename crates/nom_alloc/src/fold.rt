@@ -39,9 +39,9 @@ fn folded<R: Drop, T: Drop, G: Fn(R, T) -> Result<R, OutOfMemory>>(
 
 /// The first value, where outputs are built.
 #[inline(always)]
-fn start<M: Mode, R: Drop, H: Fn() -> Result<R, OutOfMemory>>(
+fn start<M: Mode, R: Drop, E: Drop, H: Fn() -> Result<R, OutOfMemory>>(
     init: &H,
-) -> Result<Option<R>, OutOfMemory>
+) -> Result<Option<R>, Err<E, Option<E>>>
     requires { H.pre init.now }
     ensures { Starts M.BUILDS (H.post init.now) result }
 {
@@ -50,7 +50,7 @@ fn start<M: Mode, R: Drop, H: Fn() -> Result<R, OutOfMemory>>(
     }
     match init() {
         Ok(first) => Ok(Some(first)),
-        Err(lacking) => Err(lacking),
+        Err(_lacking) => Err(Err::OutOfMemory),
     }
 }
 
@@ -159,7 +159,7 @@ impl<
 
     #[inline]
     fn process<OM: OutputMode>(&mut self, input: I) -> PResult<I, R, F::Error> {
-        let first = start::<OM::Output, R, H>(&self.init)?;
+        let first = start::<OM::Output, R, F::Error, H>(&self.init)?;
         fold_items::<OM, I, F, R, G>(&mut self.parser, input, first, &self.fold, ErrorKind::Many0)
     }
 
@@ -215,7 +215,7 @@ impl<
 
     #[inline]
     fn process<OM: OutputMode>(&mut self, input: I) -> PResult<I, R, F::Error> {
-        let none = start::<OM::Output, R, H>(&self.init)?;
+        let none = start::<OM::Output, R, F::Error, H>(&self.init)?;
         let (rest, first) = fold_one::<OM, I, F, R, G>(&mut self.parser, input, none, &self.fold)?;
         fold_items::<OM, I, F, R, G>(&mut self.parser, rest, first, &self.fold, ErrorKind::Many1)
     }
