@@ -124,6 +124,9 @@ many0_count_of = Grammars.many0_count_of bytes_model plain_errors
 abbrev pub many1_count_of : {V O : Type 0} → BytesGrammar V O → BytesGrammar (List V) ℕ
 many1_count_of = Grammars.many1_count_of bytes_model plain_errors
 
+abbrev pub many_m_n_count_of : {V O : Type 0} → ℕ → ℕ → BytesGrammar V O → BytesGrammar (List V) ℕ
+many_m_n_count_of = Grammars.many_m_n_count_of bytes_model plain_errors
+
 abbrev pub map_of : {V O P : Type 0} → (O → P) → BytesGrammar V O → BytesGrammar V P
 map_of = Grammars.map_of
 

@@ -15,7 +15,7 @@ pub use Rattle.nom_multi.specs.Many.{many0_of, many1_of}
 pub use Rattle.nom_multi.specs.Bounded.{count_of, many_m_n_of}
 pub use Rattle.nom_multi.specs.Till.{many_till_of}
 pub use Rattle.nom_multi_separated.specs.Separated.{separated_list0_of, separated_list1_of}
-pub use Rattle.nom_multi_fold.specs.Counts.{many0_count_of, many1_count_of}
+pub use Rattle.nom_multi_fold.specs.Counts.{many0_count_of, many1_count_of, many_m_n_count_of}
 
 -- what a function that others take as a part by `func` answers by the grammar, with what its outputs are compared by
 abbrev pub AnswersAsPart : {I A V O E : Type 0} → Model I A → View O → Grammar I V O E → Bool → I → IResult I O E → Type 0

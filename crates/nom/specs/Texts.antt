@@ -121,6 +121,9 @@ many0_count_of = Grammars.many0_count_of text_model plain_errors
 abbrev pub many1_count_of : {V O : Type 0} → TextGrammar V O → TextGrammar (List V) ℕ
 many1_count_of = Grammars.many1_count_of text_model plain_errors
 
+abbrev pub many_m_n_count_of : {V O : Type 0} → ℕ → ℕ → TextGrammar V O → TextGrammar (List V) ℕ
+many_m_n_count_of = Grammars.many_m_n_count_of text_model plain_errors
+
 abbrev pub map_of : {V O P : Type 0} → (O → P) → TextGrammar V O → TextGrammar V P
 map_of = Grammars.map_of
 

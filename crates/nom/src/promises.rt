@@ -22,7 +22,7 @@ pub use nom_multi::promises::{
 };
 pub use nom_multi_fold::promises::{
     fold_accepts, fold_many_m_n_accepts, fold_many0_accepts, fold_many1_accepts, many_accepts,
-    many0_count_accepts, many1_count_accepts, many1_count_counts,
+    many_m_n_count_accepts, many0_count_accepts, many1_count_accepts, many1_count_counts,
 };
 pub use nom_multi_length::promises::length_count_accepts;
 pub use nom_multi_separated::promises::{separated_list0_accepts, separated_list1_accepts};

@@ -1,3 +1,4 @@
 pub mod FoldAlloc
 pub mod MapAlloc
+pub mod ValueAlloc
 pub mod laws

@@ -1,1 +1,3 @@
+pub mod FoldAllocLaws
 pub mod MapAllocLaws
+pub mod ValueAllocLaws

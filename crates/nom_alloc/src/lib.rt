@@ -6,9 +6,11 @@ ghost use Rattle.std.specs.Prelude.{◌≡◌};
 
 mod fold;
 mod map;
+mod value;
 
-pub use crate::fold::FoldMany0Alloc;
+pub use crate::fold::{FoldMany0Alloc, FoldMany1Alloc};
 pub use crate::map::MapAlloc;
+pub use crate::value::ValueAlloc;
 use nom_error::answer::OutOfMemory;
 use nom_internal::parser::Parser;
 use nom_traits::input::{Input, Items};
@@ -28,16 +30,34 @@ pub fn map_alloc<I: Items, O: Drop, F: Parser<I>, G: Fn(F::Output) -> Result<O, 
     MapAlloc { parser, map }
 }
 
-/// The fold of items until one is refused, by a closure that may take memory: as `fold_many0`, but
-/// `OutOfMemory` is answered where the closure finds none.
+/// A value in the place of what a part accepts, made by a closure which may take memory: as `value`, but
+/// the value is made anew for each acceptance, and `OutOfMemory` is answered where the closure finds none.
+/// So a value that owns memory can stand for a part.
 ///
-/// The closures take their allocator by capture. They are called only where outputs are built.
+/// The closure takes its allocator by capture. It is called only where outputs are built, after the part
+/// accepted. The part's own outputs are dropped.
+#[inline(always)]
+pub fn value_alloc<I: Items, O: Drop, G: Fn() -> Result<O, OutOfMemory>, F: Parser<I>>(
+    make: G,
+    parser: F,
+) -> ValueAlloc<G, F>
+    ensures make { result.make ≡ make }
+    ensures parser { result.parser ≡ parser }
+{
+    ValueAlloc { make, parser }
+}
+
+/// The fold of items until one is refused, by closures that may take memory: as `fold_many0`, but
+/// `OutOfMemory` is answered where one of them finds none.
+///
+/// The closures take their allocator by capture. They are called only where outputs are built; `init` once,
+/// before the first item.
 #[inline(always)]
 pub fn fold_many0_alloc<
     I: Input,
     R: Drop,
     F: Parser<I>,
-    H: Fn() -> R,
+    H: Fn() -> Result<R, OutOfMemory>,
     G: Fn(R, F::Output) -> Result<R, OutOfMemory>,
 >(parser: F, init: H, fold: G) -> FoldMany0Alloc<F, H, G>
     ensures parser { result.parser ≡ parser }
@@ -45,4 +65,26 @@ pub fn fold_many0_alloc<
     ensures fold { result.fold ≡ fold }
 {
     FoldMany0Alloc { parser, init, fold }
+}
+
+/// The fold of items until one is refused, one at least, by closures that may take memory: as `fold_many1`,
+/// but `OutOfMemory` is answered where one of them finds none.
+///
+/// A refusal of the first item is one with `Many1` at the start; a later one ends the fold with success. From
+/// the second item on, one that is accepted without consuming anything is refused with `Many1`. The closures
+/// take their allocator by capture. They are called only where outputs are built; `init` once, before the
+/// first item.
+#[inline(always)]
+pub fn fold_many1_alloc<
+    I: Input,
+    R: Drop,
+    F: Parser<I>,
+    H: Fn() -> Result<R, OutOfMemory>,
+    G: Fn(R, F::Output) -> Result<R, OutOfMemory>,
+>(parser: F, init: H, fold: G) -> FoldMany1Alloc<F, H, G>
+    ensures parser { result.parser ≡ parser }
+    ensures init { result.init ≡ init }
+    ensures fold { result.fold ≡ fold }
+{
+    FoldMany1Alloc { parser, init, fold }
 }

@@ -12,7 +12,7 @@ use Rattle.nom_repeat.specs.declared.items.Limits.{Limits}
 use Rattle.nom_repeat.specs.declared.items.TooFew.TheVariants.{Fresh}
 use Rattle.nom_repeat.proofs.AcceptedItems.{items_accept, accepted_in_turn, in_turn_accepted}
 use Rattle.nom_repeat.proofs.AcceptedMore.{one_and_more_accept}
-use Rattle.nom_multi_fold.specs.Counts.{many0_count_meaning, many1_count_meaning}
+use Rattle.nom_multi_fold.specs.Counts.{many0_count_meaning, many1_count_meaning, many_m_n_count_meaning}
 use Rattle.nom_multi_fold.specs.Dropped.{dropped_meaning}
 use Rattle.nom_multi_fold.specs.Folds.{fold_many0_meaning, fold_many1_meaning, fold_many_m_n_meaning}
 use Rattle.nom_multi_fold.specs.Ranges.{range_limits, IsEmpty, range_meaning}
@@ -76,21 +76,29 @@ module _ {I A V : Type 0} (w : Model I A) (P Q : I → Outcome V → Type 0) (f 
   pieces_by k i [] n p = (p.0, ends_by k i p.1)
   pieces_by k i (v ∷ vs) n p = (p.0, p.1, p.2, ((p.3).0, f i (Accept p.0 v) (p.3).1, (p.3).2), p.4, pieces_by (k + 1) p.2 vs p.1 p.5, p.6)
 
-module _ {I A V E : Type 0} (w : Model I A) (errs : Errors I E) (m : Meaning I V E) (s : Bool) where
-  in_turn_by : (i : I) (n : ℕ) (vs : List V) → InTurn w ((dropped_meaning m).answers s) (λ a. 0 < a) 0 None i n vs →
-      InTurn w (m.answers s) (λ a. 0 < a) 0 None i n vs
-  in_turn_by i n vs p = pieces_by w ((dropped_meaning m).answers s) (m.answers s) (λ j o h. undropped m s j o h) (λ a. 0 < a) 0 None 0 i vs n p
+module _ {I A V E : Type 0} (w : Model I A) (m : Meaning I V E) (s : Bool) (least : ℕ) (most : Option ℕ) where
+  in_turn_by : (i : I) (n : ℕ) (vs : List V) → InTurn w ((dropped_meaning m).answers s) (λ a. 0 < a) least most i n vs →
+      InTurn w (m.answers s) (λ a. 0 < a) least most i n vs
+  in_turn_by i n vs p = pieces_by w ((dropped_meaning m).answers s) (m.answers s) (λ j o h. undropped m s j o h) (λ a. 0 < a) least most 0 i vs n p
 
-  in_turn_from : (i : I) (n : ℕ) (vs : List V) → InTurn w (m.answers s) (λ a. 0 < a) 0 None i n vs →
-      InTurn w ((dropped_meaning m).answers s) (λ a. 0 < a) 0 None i n vs
-  in_turn_from i n vs p = pieces_by w (m.answers s) ((dropped_meaning m).answers s) (λ j o h. is_dropped m s j o h) (λ a. 0 < a) 0 None 0 i vs n p
+  in_turn_from : (i : I) (n : ℕ) (vs : List V) → InTurn w (m.answers s) (λ a. 0 < a) least most i n vs →
+      InTurn w ((dropped_meaning m).answers s) (λ a. 0 < a) least most i n vs
+  in_turn_from i n vs p = pieces_by w (m.answers s) ((dropped_meaning m).answers s) (λ j o h. is_dropped m s j o h) (λ a. 0 < a) least most 0 i vs n p
 
 module _ {I A V E : Type 0} (w : Model I A) (errs : Errors I E) (m : Meaning I V E) where
   pub many0_count_accepts_items : AcceptsItems w (Unit {0}) (λ a. 0 < a) 0 None m (many0_count_meaning w errs m)
   many0_count_accepts_items s i n vs = (
-    (λ a. (tt, in_turn_by w errs m s i n vs (accepted_in_turn w errs (any_limits Kind.Many0Count) ⊥ (dropped_meaning m) s i n vs a))),
-    (λ h. in_turn_accepted w errs (any_limits Kind.Many0Count) ⊥ (dropped_meaning m) s i n vs (in_turn_from w errs m s i n vs h.1)),
+    (λ a. (tt, in_turn_by w m s 0 None i n vs (accepted_in_turn w errs (any_limits Kind.Many0Count) ⊥ (dropped_meaning m) s i n vs a))),
+    (λ h. in_turn_accepted w errs (any_limits Kind.Many0Count) ⊥ (dropped_meaning m) s i n vs (in_turn_from w m s 0 None i n vs h.1)),
   )
+
+  pub many_m_n_count_accepts_items : (least most : ℕ) →
+      AcceptsItems w (most < least → ⊥) (λ a. 0 < a) least (Some most) m (many_m_n_count_meaning w errs least most m)
+  many_m_n_count_accepts_items least most s i n vs =
+      let both = fit_accept w errs Kind.ManyMN true (most < least) (bounded_limits Kind.ManyMN least most) ⊥ (dropped_meaning m) s i n vs in (
+        (λ a. let h = both.0 a in (h.0, in_turn_by w m s least (Some most) i n vs h.1)),
+        (λ h. both.1 (h.0, in_turn_from w m s least (Some most) i n vs h.1)),
+      )
 
   pub many1_count_accepts_more : AcceptsOneAndMore w m m (many1_count_meaning w errs m)
   many1_count_accepts_more s i n vs = (forward, backward)
@@ -110,7 +118,7 @@ module _ {I A V E : Type 0} (w : Model I A) (errs : Errors I E) (m : Meaning I V
             trees = h.trees;
             accepted = undropped m s i (Accept h.first_length h.tree) h.accepted;
             rest_is = h.rest_is;
-            more = in_turn_by w errs m s h.rest h.more_length h.trees h.more;
+            more = in_turn_by w m s 0 None h.rest h.more_length h.trees h.more;
             length_is = h.length_is;
             trees_are = h.trees_are;
           }
@@ -124,7 +132,7 @@ module _ {I A V E : Type 0} (w : Model I A) (errs : Errors I E) (m : Meaning I V
         trees = h.trees;
         accepted = is_dropped m s i (Accept h.first_length h.tree) h.accepted;
         rest_is = h.rest_is;
-        more = in_turn_from w errs m s h.rest h.more_length h.trees h.more;
+        more = in_turn_from w m s 0 None h.rest h.more_length h.trees h.more;
         length_is = h.length_is;
         trees_are = h.trees_are;
       })

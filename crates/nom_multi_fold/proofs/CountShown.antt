@@ -1,7 +1,7 @@
 -- What counts of items show: the number fits, since each item but a first one consumes.
 use Rattle.std.proofs.Common.{◌≡◌, ℕ, ◌+◌, ◌-◌, ◌^◌, ◌<◌, ◌≤◌, Bool, true, false, Ok, Option, Some, ◌⊎◌, inl, inr, List, [], ◌∷◌, ◌++◌}
 use Rattle.std.proofs.Common.{length, zero, suc, refl, arith, ap, subst}
-use Rattle.nom_internal.specs.Prelude.{PResult, Errors, Built, Modes, Model, InputLaws, IsSuffixOf, input_len, same_self, rest_related, Outcome}
+use Rattle.nom_internal.specs.Prelude.{PResult, Errors, ErrorKind, Built, Modes, Model, InputLaws, IsSuffixOf, input_len, same_self, rest_related, Outcome}
 use Rattle.nom_internal.specs.Prelude.{Accept, Refuse, Stop, GoesOn, after}
 use Rattle.nom_internal.specs.Prelude.{Meaning, IsLawful, ShowsMeaning}
 use Rattle.nom_error.specs.declared.kind.ErrorKind.TheVariants as Kind
@@ -14,10 +14,11 @@ use Rattle.nom_repeat.proofs.CountAccumulated.{CountPushes, count_of_none}
 use Rattle.nom_repeat.proofs.Few.{taken_accepted, taken_consumes, accepted_tree, taken_within, few_accepted}
 use Rattle.nom_repeat.proofs.Accumulating.{kept_both}
 use Rattle.nom_repeat.proofs.Parts.{shown_by}
-use Rattle.nom_multi_fold.specs.Counts.{IsCounted, IsNumber, many0_count_meaning, many1_count_meaning}
+use Rattle.nom_multi_fold.specs.Counts.{IsCounted, IsNumber, many1_count_meaning}
 use Rattle.nom_multi_fold.specs.Dropped.{dropped_meaning}
 use Rattle.nom_multi_fold.specs.laws.DroppedLaws.{dropped_lawful}
 use Rattle.nom_repeat.specs.Bounds.{any_limits, one_limits}
+use Rattle.nom_repeat.specs.declared.items.Limits.{Limits}
 use Rattle.nom_repeat.specs.declared.items.TooFew.TheVariants.{Fresh}
 
 -- an accumulator of items, of which nothing is built
@@ -26,12 +27,14 @@ CountAccumulated before vs n = Accumulated {T = Unit {0}} CountPushes (λ _. Uni
 
 module _ {I A V E : Type 0} {w : Model I A} (errs : Errors I E) (m : Meaning I V E) {mode : Modes} {i : I} (fits : input_len w i < 2 ^ 64)
     {before : Option ℕ} (none : Built mode.outputs (λ n. n ≡ 0) before) where
-  pub count0_shown : {r : PResult I ℕ E} →
-      ShowsMeaning w (CountAccumulated before) (many0_count_meaning w errs m) mode i r → ShowsMeaning w IsNumber (many0_count_meaning w errs m) mode i r
-  count0_shown h = shown_by (λ n vs x a k. omega (
+  -- where each item consumes
+  pub counted_shown : (b : Limits) (kind : ErrorKind) → b.empty ≡ Some kind → {r : PResult I ℕ E} →
+      ShowsMeaning w (CountAccumulated before) (items_meaning w errs b ⊥ (dropped_meaning m)) mode i r →
+      ShowsMeaning w IsNumber (items_meaning w errs b ⊥ (dropped_meaning m)) mode i r
+  counted_shown b kind is h = shown_by (λ n vs x a k. omega (
         arith,
         fits,
-        few_accepted w errs (any_limits Kind.Many0Count) ⊥ (dropped_meaning m) Kind.Many0Count refl mode.streaming i n vs a,
+        few_accepted w errs b ⊥ (dropped_meaning m) kind is mode.streaming i n vs a,
         count_of_none (λ _ _. Unit {0}) mode.outputs none vs x k,
       )) h
 

@@ -5,7 +5,8 @@ use Rattle.nom_error.specs.declared.kind.ErrorKind.TheVariants as Kind
 use Rattle.nom_repeat.specs.Items.{items_meaning}
 use Rattle.nom_repeat.specs.declared.items.TooFew.TheVariants.{Fresh}
 use Rattle.nom_multi_fold.specs.Dropped.{dropped_meaning}
-use Rattle.nom_repeat.specs.Bounds.{any_limits, one_limits}
+use Rattle.nom_multi_fold.specs.Unfit.{unfit}
+use Rattle.nom_repeat.specs.Bounds.{any_limits, one_limits, bounded_limits}
 
 -- the number of the items
 abbrev pub IsNumber : {V : Type 0} → List V → ℕ → Type 0
@@ -30,10 +31,20 @@ many1_count_meaning w errs m =
     sequence_meaning w (λ vs us. vs ++ us) (λ o. o) (λ o. o) (items_meaning w errs (one_limits (Fresh Kind.Many1Count) true) ⊥ (dropped_meaning m))
     (items_meaning w errs (any_limits Kind.Many1Count) ⊥ (dropped_meaning m))
 
--- The number of items of a grammar, of any number or of one at least. Of one at least the first may be empty, so that of a part
--- which isn't sound more than 2 ^ 64 - 1 might come, and the count begins anew; of a sound one there are never so many.
+-- Items within two bounds, none of them empty, of which nothing is built. Where one is refused before the least number, the kind is
+-- added at its place. Bounds that are the wrong way round are a failure.
+abbrev pub many_m_n_count_meaning : {I A V E : Type 0} → Model I A → Errors I E → ℕ → ℕ → Meaning I V E → Meaning I (List V) E
+many_m_n_count_meaning w errs least most m =
+    unfit errs Kind.ManyMN true (most < least) (items_meaning w errs (bounded_limits Kind.ManyMN least most) ⊥ (dropped_meaning m))
+
+-- The number of items of a grammar, of any number, of one at least or of as many as two bounds say. Of one at least the first may be
+-- empty, so that of a part which isn't sound more than 2 ^ 64 - 1 might come, and the count begins anew; of a sound one there are never
+-- so many.
 abbrev pub many0_count_of : {I A V O E : Type 0} → Model I A → Errors I E → Grammar I V O E → Grammar I (List V) ℕ E
 many0_count_of w errs g = record { meaning = many0_count_meaning w errs g.meaning; IsOutput = IsNumber }
 
 abbrev pub many1_count_of : {I A V O E : Type 0} → Model I A → Errors I E → Grammar I V O E → Grammar I (List V) ℕ E
 many1_count_of w errs g = record { meaning = many1_count_meaning w errs g.meaning; IsOutput = IsCounted }
+
+abbrev pub many_m_n_count_of : {I A V O E : Type 0} → Model I A → Errors I E → ℕ → ℕ → Grammar I V O E → Grammar I (List V) ℕ E
+many_m_n_count_of w errs least most g = record { meaning = many_m_n_count_meaning w errs least most g.meaning; IsOutput = IsNumber }

@@ -1,7 +1,7 @@
 //! How many items there are.
-ghost use Rattle.std.specs.Prelude.{◌^◌, ◌<◌, List};
+ghost use Rattle.std.specs.Prelude.{◌^◌, ◌<◌, ℕ, List};
 ghost use Rattle.nom_internal.specs.Prelude.{input_len};
-ghost use Rattle.nom_multi_fold.specs.Counts.{many0_count_of, many1_count_of};
+ghost use Rattle.nom_multi_fold.specs.Counts.{many0_count_of, many1_count_of, many_m_n_count_of};
 
 use crate::dropped::Dropped;
 use nom_error::answer::PResult;
@@ -11,7 +11,8 @@ use nom_error::value::ParseError;
 use nom_internal::built::built;
 use nom_internal::parser::{Parser, StreamParser};
 use nom_repeat::accumulator::Accumulator;
-use nom_repeat::bounds::{any_items, one_item};
+use nom_repeat::bounds::{any_items, bounded_items, one_item};
+use nom_repeat::inverted::failure;
 use nom_repeat::items::TooFew;
 use nom_traits::input::{Input, Items};
 
@@ -102,6 +103,59 @@ impl<I: Input, F: StreamParser<I> + Drop> StreamParser<I> for Many1Count<F> {
     ghost pinned = { λ p k h. counted_pinned };
 
     ghost steady = { λ s k. many1_count_steady I.lawful F.Error.errors (F.steady s k.0) };
+}
+
+/// The number of items until one is refused, as many as the bounds say; made by `many_m_n_count`.
+#[derive(Drop)]
+pub struct ManyMNCount<F> {
+    pub min: usize,
+    pub max: usize,
+    pub item: Dropped<F>,
+}
+
+impl<I: Input, F: Parser<I> + Drop> Parser<I> for ManyMNCount<F> {
+    ghost use Rattle.nom_multi_fold.specs.laws.CountLaws.{many_m_n_count_lawful};
+
+    type Output = usize;
+
+    type Error = F::Error;
+
+    ghost State = { ℕ × ℕ × F.State };
+
+    ghost state = { λ p. (p.min, p.max, F.state p.item.parser) };
+
+    ghost Tree = { List F.Tree };
+
+    ghost grammar = { λ s. many_m_n_count_of I.model F.Error.errors s.0 s.1 (F.grammar s.2) };
+
+    #[inline]
+    fn process<OM: OutputMode>(&mut self, input: I) -> PResult<I, usize, F::Error> {
+        if self.max < self.min {
+            return Err(failure(input, ErrorKind::ManyMN));
+        }
+        fits(input);
+        let none = built::<OM::Output, usize>(0);
+        bounded_items::<OM, I, Dropped<F>, usize>(
+            &mut self.item,
+            input,
+            none,
+            ErrorKind::ManyMN,
+            self.min,
+            self.max,
+        )
+    }
+
+    ghost lawful = { λ s k. many_m_n_count_lawful I.lawful F.Error.errors s.0 s.1 (F.lawful s.2 k) };
+}
+
+impl<I: Input, F: StreamParser<I> + Drop> StreamParser<I> for ManyMNCount<F> {
+    ghost use Rattle.nom_multi_fold.specs.laws.CountLaws.{number_pinned, many_m_n_count_steady};
+
+    ghost Pins = { λ _. Unit {0} };
+
+    ghost pinned = { λ p k h. number_pinned };
+
+    ghost steady = { λ s k. many_m_n_count_steady I.lawful F.Error.errors s.0 s.1 (F.steady s.2 k) };
 }
 
 /// An input is known, and its length is a `usize`.

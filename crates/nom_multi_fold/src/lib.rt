@@ -11,7 +11,7 @@ mod gathered;
 pub mod promises;
 mod ranged;
 
-pub use crate::counts::{Many0Count, Many1Count};
+pub use crate::counts::{Many0Count, Many1Count, ManyMNCount};
 pub use crate::dropped::Dropped;
 pub use crate::folds::{FoldMany0, FoldMany1, FoldManyMN};
 pub use crate::ranged::{Fold, Many};
@@ -41,6 +41,26 @@ pub fn many1_count<F>(parser: F) -> Many1Count<F>
     ensures { result.item.parser ≡ parser }
 {
     Many1Count {
+        item: Dropped { parser },
+    }
+}
+
+/// The number of items until one is refused, `min` at least and `max` at most: as `many_m_n`, but no list is
+/// made, so no memory is asked for.
+///
+/// A refusal before `min` items refuses all, with the item's error, to which `ManyMN` is added at the item. An
+/// item that consumes nothing is refused with `ManyMN`. After `max` items none is tried. Where `min` is above
+/// `max`, the answer is a `Failure` with `ManyMN`. All else that an item answers is passed on. No output of an
+/// item is built.
+#[inline(always)]
+pub fn many_m_n_count<F>(min: usize, max: usize, parser: F) -> ManyMNCount<F>
+    ensures min { result.min ≡ min }
+    ensures max { result.max ≡ max }
+    ensures parser { result.item.parser ≡ parser }
+{
+    ManyMNCount {
+        min,
+        max,
         item: Dropped { parser },
     }
 }

@@ -7,7 +7,7 @@ ghost use Rattle.nom_repeat.specs.Accepted.{AcceptsItems, AcceptsOneAndMore};
 ghost use Rattle.nom_multi_fold.specs.Counts.{AcceptsFew};
 ghost use Rattle.nom_multi_fold.specs.Ranges.{IsEmpty};
 
-use crate::counts::{Many0Count, Many1Count};
+use crate::counts::{Many0Count, Many1Count, ManyMNCount};
 use crate::folds::{FoldMany0, FoldMany1, FoldManyMN};
 use crate::ranged::{Fold, Many};
 use nom_build::collection::Collection;
@@ -35,6 +35,15 @@ pub fn many1_count_accepts<I: Input, F: Parser<I> + Drop>(_parser: &Many1Count<F
 pub fn many1_count_counts<I: Input, F: Parser<I> + Drop>(_parser: &Many1Count<F>)
     requires { (F.grammar (F.state _parser.now.item.parser)).meaning.IsSound }
     ensures { AcceptsFew I.model (⟦<Many1Count<F> as Parser<I>>⟧.grammar (F.state _parser.now.item.parser)).meaning }
+{}
+
+/// `many_m_n_count`, where its bounds fit each other, accepts just the items that its part accepts, one after
+/// the other, none of them empty: up to where the part refuses, after the least number at least, or up to the
+/// most.
+pub fn many_m_n_count_accepts<I: Input, F: Parser<I> + Drop>(_parser: &ManyMNCount<F>)
+    ensures { AcceptsItems I.model (_parser.now.max < _parser.now.min → ⊥) (λ a. 0 < a) _parser.now.min (Some _parser.now.max)
+        (F.grammar (F.state _parser.now.item.parser)).meaning
+        (⟦<ManyMNCount<F> as Parser<I>>⟧.grammar (_parser.now.min, _parser.now.max, F.state _parser.now.item.parser)).meaning }
 {}
 
 /// `fold_many0` accepts just the items that its part accepts, one after the other, none of them empty, up to

@@ -1,19 +1,19 @@
 use Rattle.std.proofs.Common.{inr, refl}
-use Rattle.nom_error.specs.declared.kind.ErrorKind.TheVariants as Kind
 use Rattle.nom_internal.specs.Prelude.{modes}
 use Rattle.nom_internal.proofs.Shown.{accepts}
 use Rattle.nom_repeat.specs.Bounds.{any_limits}
 use Rattle.nom_repeat.proofs.Parts.{shown_at}
 use Rattle.nom_repeat.proofs.Repeated.{collected_none, consumes, is_empty, is_shorter}
-use Rattle.nom_repeat.proofs.ItemsShown.{items_failed, items_lack, items_more, items_part_ran_out, items_refused, items_stuck}
-use Rattle.nom_alloc.proofs.FoldsShown.{folds_by, folds_lack, folds_more, folds_none, none_below}
+use Rattle.nom_repeat.proofs.ItemsShown.{items_more, items_part_ran_out, items_refused, items_stuck}
+use Rattle.nom_alloc.specs.FoldAlloc.{IsValue}
+use Rattle.nom_alloc.proofs.FoldsShown.{folds_by, folds_failed, folds_lack, folds_more, folds_none, folds_wait, none_below}
 use Rattle.nom_alloc.proofs.fold.fold_items.Goals as goal
 
 pub loop-next-init : goal.loop-next-init
 loop-next-init g c = record {
   state_kept = refl;
   collected = collected_none g.met.I.Items.lawful c.prove_known.ensures (folds_none (g.F.Parser.grammar (g.F.Parser.state c.args.parser.now)).IsOutput
-      (λ r. g.H.Fn.post c.args.init.now tt r) (λ r x q. g.G.Fn.post c.args.fold.now (r, (x, tt)) q) _ _ c.start-value.ensures);
+      (IsValue c.args.first) (λ r x q. g.G.Fn.post c.args.fold.now (r, (x, tt)) q) _ _ c.requires.begun);
 }
 
 pub returns-then-input_len-clause-shown : goal.returns-then-input_len-clause-shown
@@ -23,9 +23,9 @@ returns-then-input_len-clause-shown g c =
     let grammar = g.F.Parser.grammar (g.F.Parser.state c.args.parser.now) in
     let item = accepts (shown_at g.F.Parser.grammar i.state_kept c.in-Ok.ensures.shown) in
     let empty = is_empty item.rest_is c.input_len.ensures c.input_len-in-Ok.ensures c.if-input_len.true in
-    folds_by g.F.Error.ParseError.errors grammar.IsOutput (λ r. g.H.Fn.post c.args.init.now tt r)
-    (λ r x q. g.G.Fn.post c.args.fold.now (r, (x, tt)) q) grammar.meaning mode
-    (items_stuck g.F.Error.ParseError.errors (any_limits Kind.Many0) ⊥ grammar.meaning i.collected tt item Kind.Many0 refl empty c.refusal.ensures)
+    folds_by g.F.Error.ParseError.errors grammar.IsOutput (λ r x q. g.G.Fn.post c.args.fold.now (r, (x, tt)) q) grammar.meaning mode
+    (any_limits c.args.kind) (IsValue c.args.first)
+    (items_stuck g.F.Error.ParseError.errors (any_limits c.args.kind) ⊥ grammar.meaning i.collected tt item c.args.kind refl empty c.refusal.ensures)
 
 pub loop-next-smaller : goal.loop-next-smaller
 loop-next-smaller g c =
@@ -40,8 +40,8 @@ loop-next-preserved g c =
     let moves = consumes item.rest_is c.input_len.ensures c.input_len-in-Ok.ensures c.if-input_len.false in
     record {
       state_kept = cc;
-      collected = items_more g.met.I.Items.lawful (any_limits Kind.Many0) i.collected tt item (inr moves)
-          (folds_more grammar.IsOutput (λ r. g.H.Fn.post c.args.init.now tt r)
+      collected = items_more g.met.I.Items.lawful (any_limits c.args.kind) i.collected tt item (inr moves)
+          (folds_more grammar.IsOutput (IsValue c.args.first)
           (λ r x q. g.G.Fn.post c.args.fold.now (r, (x, tt)) q) _ i.collected.trees item.tree _ _ _ c.in-Ok-folded.ensures i.collected.held item.built_is);
     }
 
@@ -52,9 +52,9 @@ returns-in-Err-clause-shown g c =
     let grammar = g.F.Parser.grammar (g.F.Parser.state c.args.parser.now) in
     let item = accepts (shown_at g.F.Parser.grammar i.state_kept c.in-Ok.ensures.shown) in
     let moves = consumes item.rest_is c.input_len.ensures c.input_len-in-Ok.ensures c.if-input_len.false in
-    folds_lack g.F.Error.ParseError.errors grammar.IsOutput (λ r. g.H.Fn.post c.args.init.now tt r)
-    (λ r x q. g.G.Fn.post c.args.fold.now (r, (x, tt)) q) grammar.meaning mode
-    _ i.collected item moves i.collected.held c.in-Err.ensures
+    folds_lack g.F.Error.ParseError.errors grammar.IsOutput (λ r x q. g.G.Fn.post c.args.fold.now (r, (x, tt)) q) grammar.meaning mode
+    (any_limits c.args.kind) (IsValue c.args.first)
+    _ i.collected tt item (inr moves) i.collected.held c.in-Err.ensures
 
 pub returns-in-Err-Error-clause-shown : goal.returns-in-Err-Error-clause-shown
 returns-in-Err-Error-clause-shown g c =
@@ -62,9 +62,9 @@ returns-in-Err-Error-clause-shown g c =
     let mode = modes g.OM.Output.Mode.BUILDS g.OM.Error.Mode.BUILDS g.OM.Incomplete.IsStreaming.STREAMING in
     let grammar = g.F.Parser.grammar (g.F.Parser.state c.args.parser.now) in
     let part = shown_at g.F.Parser.grammar i.state_kept c.in-Err-Error.ensures.shown in
-    folds_by g.F.Error.ParseError.errors grammar.IsOutput (λ r. g.H.Fn.post c.args.init.now tt r)
-    (λ r x q. g.G.Fn.post c.args.fold.now (r, (x, tt)) q) grammar.meaning mode
-    (items_refused g.F.Error.ParseError.errors (any_limits Kind.Many0) ⊥ grammar.meaning i.collected tt
+    folds_by g.F.Error.ParseError.errors grammar.IsOutput (λ r x q. g.G.Fn.post c.args.fold.now (r, (x, tt)) q) grammar.meaning mode
+    (any_limits c.args.kind) (IsValue c.args.first)
+    (items_refused g.F.Error.ParseError.errors (any_limits c.args.kind) ⊥ grammar.meaning i.collected tt
     (none_below i.collected.trees) c.in-Err-Error.field-0-is part i.collected.held)
 
 pub returns-in-Err-Failure-clause-shown : goal.returns-in-Err-Failure-clause-shown
@@ -73,10 +73,9 @@ returns-in-Err-Failure-clause-shown g c =
     let mode = modes g.OM.Output.Mode.BUILDS g.OM.Error.Mode.BUILDS g.OM.Incomplete.IsStreaming.STREAMING in
     let grammar = g.F.Parser.grammar (g.F.Parser.state c.args.parser.now) in
     let part = shown_at g.F.Parser.grammar i.state_kept c.in-Err-Failure.ensures.shown in
-    folds_by g.F.Error.ParseError.errors grammar.IsOutput (λ r. g.H.Fn.post c.args.init.now tt r)
-    (λ r x q. g.G.Fn.post c.args.fold.now (r, (x, tt)) q) grammar.meaning mode
-    (items_failed g.F.Error.ParseError.errors (any_limits Kind.Many0) ⊥ grammar.meaning i.collected tt
-    c.in-Err-Failure.field-0-is part)
+    rw c.in-Err-Failure.field-0-is (
+    folds_failed g.F.Error.ParseError.errors grammar.IsOutput (λ r x q. g.G.Fn.post c.args.fold.now (r, (x, tt)) q) grammar.meaning mode
+    (any_limits c.args.kind) (IsValue c.args.first) i.collected tt c.in-Err-Failure.field-0-is part)
 
 pub returns-in-Err-Incomplete-clause-shown : goal.returns-in-Err-Incomplete-clause-shown
 returns-in-Err-Incomplete-clause-shown g c =
@@ -84,10 +83,9 @@ returns-in-Err-Incomplete-clause-shown g c =
     let mode = modes g.OM.Output.Mode.BUILDS g.OM.Error.Mode.BUILDS g.OM.Incomplete.IsStreaming.STREAMING in
     let grammar = g.F.Parser.grammar (g.F.Parser.state c.args.parser.now) in
     let part = shown_at g.F.Parser.grammar i.state_kept c.in-Err-Incomplete.ensures.shown in
-    folds_by g.F.Error.ParseError.errors grammar.IsOutput (λ r. g.H.Fn.post c.args.init.now tt r)
-    (λ r x q. g.G.Fn.post c.args.fold.now (r, (x, tt)) q) grammar.meaning mode
-    (items_lack g.F.Error.ParseError.errors (any_limits Kind.Many0) ⊥ grammar.meaning i.collected tt
-    c.in-Err-Incomplete.field-0-is part)
+    rw c.in-Err-Incomplete.field-0-is (
+    folds_wait g.F.Error.ParseError.errors grammar.IsOutput (λ r x q. g.G.Fn.post c.args.fold.now (r, (x, tt)) q) grammar.meaning mode
+    (any_limits c.args.kind) (IsValue c.args.first) i.collected tt c.in-Err-Incomplete.field-0-is part)
 
 pub returns-in-Err-OutOfMemory-clause-shown : goal.returns-in-Err-OutOfMemory-clause-shown
 returns-in-Err-OutOfMemory-clause-shown g c =
@@ -95,7 +93,7 @@ returns-in-Err-OutOfMemory-clause-shown g c =
     let mode = modes g.OM.Output.Mode.BUILDS g.OM.Error.Mode.BUILDS g.OM.Incomplete.IsStreaming.STREAMING in
     let grammar = g.F.Parser.grammar (g.F.Parser.state c.args.parser.now) in
     let part = shown_at g.F.Parser.grammar i.state_kept c.in-Err-OutOfMemory.ensures.shown in
-    folds_by g.F.Error.ParseError.errors grammar.IsOutput (λ r. g.H.Fn.post c.args.init.now tt r)
-    (λ r x q. g.G.Fn.post c.args.fold.now (r, (x, tt)) q) grammar.meaning mode
-    (items_part_ran_out g.F.Error.ParseError.errors (any_limits Kind.Many0) ⊥ grammar.meaning i.collected tt
+    folds_by g.F.Error.ParseError.errors grammar.IsOutput (λ r x q. g.G.Fn.post c.args.fold.now (r, (x, tt)) q) grammar.meaning mode
+    (any_limits c.args.kind) (IsValue c.args.first)
+    (items_part_ran_out g.F.Error.ParseError.errors (any_limits c.args.kind) ⊥ grammar.meaning i.collected tt
     c.in-Err-OutOfMemory.field-0-is part)

@@ -1,10 +1,10 @@
 use Rattle.std.specs.Prelude.{◌≡◌, None}
-use Rattle.nom_error.specs.declared.kind.ErrorKind.TheVariants as Kind
 use Rattle.nom_internal.specs.Prelude.{Built, input_len}
 use Rattle.nom_repeat.specs.Bounds.{any_limits}
 use Rattle.nom_repeat.specs.Items.{item_turn}
 use Rattle.nom_repeat.specs.Repeat.{TurnsBy}
 use Rattle.nom_repeat.proofs.Repeated.{Collected}
+use Rattle.nom_alloc.specs.FoldAlloc.{IsValue}
 use Rattle.nom_alloc.proofs.FoldsShown.{Reached}
 use Rattle.nom_alloc.proofs.fold.fold_items.Given as goal
 
@@ -12,9 +12,9 @@ abbrev pub invariant-loop-next : goal.invariant-loop-next
 invariant-loop-next g l = record {
   state_kept : g.F.Parser.state l.parser ≡ g.F.Parser.state l.fn.parser;
   collected : Collected g.I.Items.model
-      (TurnsBy None (item_turn (any_limits Kind.Many0))
+      (TurnsBy None (item_turn (any_limits l.fn.kind))
       (λ _. (g.F.Parser.grammar (g.F.Parser.state l.fn.parser)).meaning.answers g.OM.Incomplete.IsStreaming.STREAMING))
-      (λ vs. Built g.OM.Output.Mode.BUILDS (Reached (g.F.Parser.grammar (g.F.Parser.state l.fn.parser)).IsOutput (λ r. g.H.Fn.post l.fn.init tt r)
+      (λ vs. Built g.OM.Output.Mode.BUILDS (Reached (g.F.Parser.grammar (g.F.Parser.state l.fn.parser)).IsOutput (IsValue l.fn.first)
       (λ r x q. g.G.Fn.post l.fn.fold (r, (x, tt)) q) vs) l.value) l.fn.input l.rest;
 }
 
