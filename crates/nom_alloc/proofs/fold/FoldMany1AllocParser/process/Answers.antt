@@ -14,11 +14,13 @@ returns-in_err-none-clause-shown g c =
     let grammar = g.F.Parser.grammar (g.F.Parser.state c.args.self.now.parser) in
     let errs = g.F.Error.ParseError.errors in
     let mode = modes g.OM.Output.Mode.BUILDS g.OM.Error.Mode.BUILDS g.OM.Incomplete.IsStreaming.STREAMING in
-    begun_lacks (λ r. g.H.Fn.post c.args.self.now.init tt r) (first_and_later g.I.Items.model errs grammar.IsOutput (λ r x q. g.G.Fn.post c.args.self.now.fold (r, (x, tt)) q) grammar.meaning
+    begun_lacks (λ r. g.H.Fn.post c.args.self.now.init tt r) (first_and_later g.I.Items.model errs grammar.IsOutput
+    (λ r x q. g.G.Fn.post c.args.self.now.fold (r, (x, tt)) q) grammar.meaning
     (λ r. g.H.Fn.post c.args.self.now.init tt (Ok r))) mode _ c.in_err-none.ensures c.from_residual.ensures
 
 pub fold_one-requires-clause-begun : goal.fold_one-requires-clause-begun
-fold_one-requires-clause-begun g c = value_itself g.OM.Output.Mode.BUILDS _ _ (first_made (λ r. g.H.Fn.post c.args.self.now.init tt r) _ g.OM.Output.Mode.BUILDS _ c.in_ok-none.ensures)
+fold_one-requires-clause-begun g c = value_itself g.OM.Output.Mode.BUILDS _ _ (first_made (λ r. g.H.Fn.post c.args.self.now.init tt r) _
+    g.OM.Output.Mode.BUILDS _ c.in_ok-none.ensures)
 
 pub returns-in_err-rest-clause-shown : goal.returns-in_err-rest-clause-shown
 returns-in_err-rest-clause-shown g c =
@@ -26,9 +28,11 @@ returns-in_err-rest-clause-shown g c =
     let errs = g.F.Error.ParseError.errors in
     let mode = modes g.OM.Output.Mode.BUILDS g.OM.Error.Mode.BUILDS g.OM.Incomplete.IsStreaming.STREAMING in
     let made = first_made (λ r. g.H.Fn.post c.args.self.now.init tt r) _ g.OM.Output.Mode.BUILDS _ c.in_ok-none.ensures in
-    begun_shown (λ r. g.H.Fn.post c.args.self.now.init tt r) (first_and_later g.I.Items.model errs grammar.IsOutput (λ r x q. g.G.Fn.post c.args.self.now.fold (r, (x, tt)) q) grammar.meaning
+    begun_shown (λ r. g.H.Fn.post c.args.self.now.init tt r) (first_and_later g.I.Items.model errs grammar.IsOutput
+    (λ r x q. g.G.Fn.post c.args.self.now.fold (r, (x, tt)) q) grammar.meaning
     (λ r. g.H.Fn.post c.args.self.now.init tt (Ok r))) mode
-    (then_err g.met.I.Items.lawful (shown_from errs grammar.IsOutput (λ r x q. g.G.Fn.post c.args.self.now.fold (r, (x, tt)) q) grammar.meaning mode first_limits _ _
+    (then_err g.met.I.Items.lawful (shown_from errs grammar.IsOutput (λ r x q. g.G.Fn.post c.args.self.now.fold (r,
+    (x, tt)) q) grammar.meaning mode first_limits _ _
     (value_of g.OM.Output.Mode.BUILDS _ _ made) c.in_err-rest.ensures.shown) c.from_residual-in_err-rest.ensures)
 
 pub fold_items-requires-clause-begun : goal.fold_items-requires-clause-begun
@@ -44,12 +48,16 @@ returns-clause-shown g c =
     let one = shown_from errs grammar.IsOutput (λ r x q. g.G.Fn.post c.args.self.now.fold (r, (x, tt)) q) grammar.meaning mode first_limits _ _
     (value_of g.OM.Output.Mode.BUILDS _ _ made) c.in_ok-rest.ensures.shown in
     let more = shown_at (λ z. record {
-      meaning = folded_meaning g.I.Items.model errs (g.F.Parser.grammar z).IsOutput (λ r x q. g.G.Fn.post c.args.self.now.fold (r, (x, tt)) q) (g.F.Parser.grammar z).meaning
+      meaning = folded_meaning g.I.Items.model errs (g.F.Parser.grammar z).IsOutput (λ r x q. g.G.Fn.post c.args.self.now.fold (r, (x, tt)) q)
+      (g.F.Parser.grammar z).meaning
           (any_limits Kind.Many1) (IsValue c.in_ok-rest.first);
       IsOutput = Reached (g.F.Parser.grammar z).IsOutput (IsValue c.in_ok-rest.first) (λ r x q. g.G.Fn.post c.args.self.now.fold (r, (x, tt)) q);
     }) c.in_ok-rest.ensures.kept c.fold_items.ensures.shown in
-    begun_shown (λ r. g.H.Fn.post c.args.self.now.init tt r) (first_and_later g.I.Items.model errs grammar.IsOutput (λ r x q. g.G.Fn.post c.args.self.now.fold (r, (x, tt)) q) grammar.meaning
+    begun_shown (λ r. g.H.Fn.post c.args.self.now.init tt r) (first_and_later g.I.Items.model errs grammar.IsOutput
+    (λ r x q. g.G.Fn.post c.args.self.now.fold (r, (x, tt)) q) grammar.meaning
     (λ r. g.H.Fn.post c.args.self.now.init tt (Ok r))) mode
     (then_ok g.met.I.Items.lawful one
-    (λ vs b. shown_as (λ us r. folds_after grammar.IsOutput (λ r. g.H.Fn.post c.args.self.now.init tt (Ok r)) (λ r x q. g.G.Fn.post c.args.self.now.fold (r, (x, tt)) q) vs us r)
-    (shown_from errs grammar.IsOutput (λ r x q. g.G.Fn.post c.args.self.now.fold (r, (x, tt)) q) grammar.meaning mode (any_limits Kind.Many1) _ _ (value_of g.OM.Output.Mode.BUILDS _ _ b) more)))
+    (λ vs b. shown_as (λ us r. folds_after grammar.IsOutput (λ r. g.H.Fn.post c.args.self.now.init tt (Ok r)) (λ r x q. g.G.Fn.post c.args.self.now.fold
+    (r, (x, tt)) q) vs us r)
+    (shown_from errs grammar.IsOutput (λ r x q. g.G.Fn.post c.args.self.now.fold (r, (x, tt)) q) grammar.meaning mode (any_limits Kind.Many1) _ _
+    (value_of g.OM.Output.Mode.BUILDS _ _ b) more)))
