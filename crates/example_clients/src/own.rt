@@ -89,7 +89,11 @@ pub fn text(input: &[u8]) -> IResult<&[u8], &str> {
 pub fn single_char(text: &str) -> Option<char> {
     let mut characters = text.chars();
     let first = characters.next();
-    if characters.next().is_none() { first } else { None }
+    if characters.next().is_none() {
+        first
+    } else {
+        None
+    }
 }
 
 /// A character in quotes.
@@ -131,8 +135,12 @@ pub fn counted(input: &[u8]) -> IResult<&[u8], &[u8]> {
 
 /// The sum of days' numbers.
 pub fn sum(input: &str) -> IResult<&str, u32> {
-    fold_many0(func(day), || 0u32, |sum: u32, day: Day| sum.saturating_add(day.day))
-        .parse_complete(input)
+    fold_many0(
+        func(day),
+        || 0u32,
+        |sum: u32, day: Day| sum.saturating_add(day.day),
+    )
+    .parse_complete(input)
 }
 
 /// How many of the days are the first of a month.

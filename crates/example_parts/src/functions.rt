@@ -76,11 +76,12 @@ pub fn length_left(input: &[u8]) -> IResult<&[u8], usize>
 
 /// What a function parses of an input that grows. The functions below are handed to this one, so that each of
 /// their proofs is of the function alone.
-pub fn grown<I: Input + CutRest, O: Viewed + Drop, E: ParseError<I>, F: Fn(I) -> IResult<I, O, E> + Drop>(
-    f: F,
-    input: I,
-    cuts: &[usize],
-) -> Grown<I, O, E>
+pub fn grown<
+    I: Input + CutRest,
+    O: Viewed + Drop,
+    E: ParseError<I>,
+    F: Fn(I) -> IResult<I, O, E> + Drop,
+>(f: F, input: I, cuts: &[usize]) -> Grown<I, O, E>
     requires runs { (⟦<StreamFunc<F, I, O, E> as Parser<I>>⟧.grammar f).meaning.Runs }
     requires sound { (⟦<StreamFunc<F, I, O, E> as Parser<I>>⟧.grammar f).meaning.IsSound }
     requires cuts { AreCuts I.model input cuts.now }
@@ -96,10 +97,12 @@ pub fn grown_nothing<'a>(input: &'a [u8], cuts: &[usize]) -> Grown<&'a [u8], usi
 }
 
 /// What a function parses of an input that is complete.
-fn complete<I: Input + CutRest, O: Viewed + Drop, E: ParseError<I>, F: Fn(I) -> IResult<I, O, E> + Drop>(
-    f: F,
-    input: I,
-) -> IResult<I, O, E>
+fn complete<
+    I: Input + CutRest,
+    O: Viewed + Drop,
+    E: ParseError<I>,
+    F: Fn(I) -> IResult<I, O, E> + Drop,
+>(f: F, input: I) -> IResult<I, O, E>
     requires runs { (⟦<Func<F, I, O, E> as Parser<I>>⟧.grammar f).meaning.Runs }
     requires sound { (⟦<Func<F, I, O, E> as Parser<I>>⟧.grammar f).meaning.IsSound }
 {

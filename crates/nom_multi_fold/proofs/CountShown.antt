@@ -32,11 +32,11 @@ module _ {I A V E : Type 0} {w : Model I A} (errs : Errors I E) (m : Meaning I V
       ShowsMeaning w (CountAccumulated before) (items_meaning w errs b ⊥ (dropped_meaning m)) mode i r →
       ShowsMeaning w IsNumber (items_meaning w errs b ⊥ (dropped_meaning m)) mode i r
   counted_shown b kind is h = shown_by (λ n vs x a k. omega (
-        arith,
-        fits,
-        few_accepted w errs b ⊥ (dropped_meaning m) kind is mode.streaming i n vs a,
-        count_of_none (λ _ _. Unit {0}) mode.outputs none vs x k,
-      )) h
+    arith,
+    fits,
+    few_accepted w errs b ⊥ (dropped_meaning m) kind is mode.streaming i n vs a,
+    count_of_none (λ _ _. Unit {0}) mode.outputs none vs x k,
+  )) h
 
 module _ {I A V : Type 0} (w : Model I A) (Item : I → Outcome V → Type 0) where
   -- a first item, or none

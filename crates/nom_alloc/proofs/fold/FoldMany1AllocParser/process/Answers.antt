@@ -31,8 +31,10 @@ returns-in_err-rest-clause-shown g c =
     begun_shown (λ r. g.H.Fn.post c.args.self.now.init tt r) (first_and_later g.I.Items.model errs grammar.IsOutput
     (λ r x q. g.G.Fn.post c.args.self.now.fold (r, (x, tt)) q) grammar.meaning
     (λ r. g.H.Fn.post c.args.self.now.init tt (Ok r))) mode
-    (then_err g.met.I.Items.lawful (shown_from errs grammar.IsOutput (λ r x q. g.G.Fn.post c.args.self.now.fold (r,
-    (x, tt)) q) grammar.meaning mode first_limits _ _
+    (then_err g.met.I.Items.lawful (shown_from errs grammar.IsOutput (λ r x q. g.G.Fn.post c.args.self.now.fold (
+      r,
+      (x, tt),
+    ) q) grammar.meaning mode first_limits _ _
     (value_of g.OM.Output.Mode.BUILDS _ _ made) c.in_err-rest.ensures.shown) c.from_residual-in_err-rest.ensures)
 
 pub fold_items-requires-clause-begun : goal.fold_items-requires-clause-begun
@@ -49,7 +51,7 @@ returns-clause-shown g c =
     (value_of g.OM.Output.Mode.BUILDS _ _ made) c.in_ok-rest.ensures.shown in
     let more = shown_at (λ z. record {
       meaning = folded_meaning g.I.Items.model errs (g.F.Parser.grammar z).IsOutput (λ r x q. g.G.Fn.post c.args.self.now.fold (r, (x, tt)) q)
-      (g.F.Parser.grammar z).meaning
+          (g.F.Parser.grammar z).meaning
           (any_limits Kind.Many1) (IsValue c.in_ok-rest.first);
       IsOutput = Reached (g.F.Parser.grammar z).IsOutput (IsValue c.in_ok-rest.first) (λ r x q. g.G.Fn.post c.args.self.now.fold (r, (x, tt)) q);
     }) c.in_ok-rest.ensures.kept c.fold_items.ensures.shown in
