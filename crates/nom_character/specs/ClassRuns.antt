@@ -34,7 +34,7 @@ module _ {I A E : Type 0} (w : Model I A) (IsValue : A → Type 0) (values : (i 
   one_class x v p q = cc (p, q)
 
   pub class_lawful : IsLawful w (class_meaning w code errs class wanted)
-  class_lawful = run_lawful w IsValue values (IsOf code class) one_class None (least_of wanted) (Unit {0}) (wanted_error errs wanted) (wanted_grows errs wanted)
+  class_lawful = run_lawful w IsValue values (IsOf code class) one_class None (least_of wanted) (wanted_error errs wanted) (wanted_grows errs wanted)
 
   pub class_steady : IsSteady w (class_meaning w code errs class wanted)
-  class_steady = run_steady w IsValue values (IsOf code class) one_class None (least_of wanted) (Unit {0}) (wanted_error errs wanted) (wanted_grows errs wanted)
+  class_steady = run_steady w IsValue values (IsOf code class) one_class None (least_of wanted) (wanted_error errs wanted) (wanted_grows errs wanted)
