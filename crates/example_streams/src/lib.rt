@@ -2,6 +2,5 @@
 #![tactic(auto)]
 
 pub mod fields;
-pub mod frames;
 pub mod messages;
 pub mod records;

@@ -2,7 +2,6 @@
 //! than a limit says.
 #![tactic(auto)]
 
-pub mod function;
 pub mod grammar;
 pub mod held;
 pub mod promises;
