@@ -39,7 +39,7 @@ pub fn two(input: &str) -> IResult<&str, u32> {
 }
 
 /// A month and a day, as `11-27`.
-pub fn day(input: &str) -> IResult<&str, Day> {
+pub fn date(input: &str) -> IResult<&str, Day> {
     let (input, month) = two(input)?;
     let (input, _) = char('-').parse_complete(input)?;
     let (input, day) = two(input)?;
@@ -57,17 +57,17 @@ pub fn named(input: &str) -> IResult<&str, Day> {
 
 /// A day, or none.
 pub fn maybe_day(input: &str) -> IResult<&str, Option<Day>> {
-    opt(func(day)).parse_complete(input)
+    opt(func(date)).parse_complete(input)
 }
 
 /// Days, one after another.
 pub fn days<A: Allocator + Copy>(alloc: A, input: &str) -> IResult<&str, Vec<Day, A>> {
-    many0(alloc, func(day)).parse_complete(input)
+    many0(alloc, func(date)).parse_complete(input)
 }
 
 /// A day, in figures or by its name.
 pub fn either_day(input: &str) -> IResult<&str, Day> {
-    alt((func(day), func(named))).parse_complete(input)
+    alt((func(date), func(named))).parse_complete(input)
 }
 
 /// A number of as many digits as there are.
@@ -136,7 +136,7 @@ pub fn counted(input: &[u8]) -> IResult<&[u8], &[u8]> {
 /// The sum of days' numbers.
 pub fn sum(input: &str) -> IResult<&str, u32> {
     fold_many0(
-        func(day),
+        func(date),
         || 0u32,
         |sum: u32, day: Day| sum.saturating_add(day.day),
     )
@@ -146,7 +146,7 @@ pub fn sum(input: &str) -> IResult<&str, u32> {
 /// How many of the days are the first of a month.
 pub fn firsts(input: &str) -> usize {
     let mut firsts = 0usize;
-    for day in iterator(input, func(day)) {
+    for day in iterator(input, func(date)) {
         if day.day == 1 {
             firsts = firsts.saturating_add(1);
         }
