@@ -30,9 +30,19 @@ pub fn nested_brackets(input: &[u8]) -> IResult<&[u8], usize>
     }
 }
 
+/// What a parser answers of which each input has one outcome.
+fn answer_once<I: Items, P: Parser<I> + Drop>(
+    mut parser: P,
+    input: I,
+) -> IResult<I, P::Output, P::Error>
+    requires runs { (P.grammar (P.state parser)).meaning.Runs }
+    requires sound { (P.grammar (P.state parser)).meaning.IsSound }
+{
+    has_one_outcome(&parser);
+    parser.parse_complete(input)
+}
+
 /// Nested brackets and a semicolon. Each input has one outcome.
 pub fn brackets_line(input: &[u8]) -> IResult<&[u8], usize> {
-    let mut line = terminated(func(nested_brackets), tag(";"));
-    has_one_outcome(&line);
-    line.parse_complete(input)
+    answer_once(terminated(func(nested_brackets), tag(";")), input)
 }

@@ -9,8 +9,7 @@ use Rattle.nom_internal.specs.Prelude.{EitherOutput, Meaning, ParsesMeaning}
 use Rattle.nom_error.specs.declared.answer.Err.TheVariants as Answered
 use Rattle.nom_error.specs.declared.kind.ErrorKind.TheVariants as Kind
 use Rattle.nom_traits.specs.declared.character.AsciiClass.TheVariants.{Digit}
-use Rattle.nom_func.specs.Func.{IsParser}
-use Rattle.nom_func.specs.Func as Functions
+use Rattle.nom_func.specs.Func.{IsParser, IsViewed, TakesAll, func_meaning}
 use Rattle.nom_character.specs.ClassRuns.{class_meaning}
 use Rattle.nom_character_first.specs.FirstItem.{char_meaning, satisfy_meaning}
 use Rattle.nom_sequence.specs.Sequences.{preceded_meaning, terminated_meaning}
@@ -135,7 +134,10 @@ pub record Given {V O P : Type 0} (Gives : Text → O → P → Type 0) (g : Gra
 
 -- a function as a part, by which texts it takes, and what it answers
 abbrev pub func_of : {O : Type 0} (model : View O) → (Text → Type 0) → (Text → Told O → Type 0) → Grammar model.Value O
-func_of model Takes Gives = Functions.func_of text_model model faults Gives Takes (IsParser text_model model Gives)
+func_of model Takes Gives = record {
+  meaning = func_meaning text_model model Gives faults (TakesAll text_model Takes) (IsParser text_model model Gives);
+  IsOutput = IsViewed model;
+}
 
 -- it takes any text
 abbrev pub Any : Text → Type 0
