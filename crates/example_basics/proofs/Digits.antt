@@ -1,14 +1,14 @@
 -- Two digits in base 16, as a run that is mapped.
-use Rattle.std.proofs.Common.{◌≡◌, ℕ, ◌+◌, ◌*◌, ◌<◌, ◌≤◌, Bool, true, false, List, [], ◌∷◌, ◌++◌, drop, length, Result, Ok, Err, refl, sym, ◌∙◌, ap}
+use Rattle.std.proofs.Common.{◌≡◌, ℕ, ◌+◌, ◌*◌, ◌<◌, ◌≤◌, Bool, true, false, List, [], ◌∷◌, ◌++◌, drop, length, Result, refl, sym, ◌∙◌, ap}
 use Rattle.std.proofs.Common.{subst, arith, inl, inr}
-use Rattle.std.specs.Prelude.{cond, chars, encode_utf8_all, ◌^◌, Some, ◌⊎◌, is_ok}
+use Rattle.std.specs.Prelude.{cond, chars, encode_utf8_all, ◌^◌, Some, ◌⊎◌}
 use Rattle.std.specs.Char.{digit_value, is_digit, len_utf8}
 use Rattle.std.specs.List.{All}
 use Rattle.std.specs.Str.Parse.{ParsesUnsigned, IsNumeral, digits_value, without_leading_plus}
 use Rattle.std.proofs.lemmas.Bool.{and_parts, and_from, and_left, and_right, cases_lt, ltb-true, ne_eqb}
 use Rattle.std.proofs.lemmas.List.Elements.{All-head, All-tail}
 use Rattle.std.proofs.lemmas.Str.{encode_ascii}
-use Rattle.nom_internal.specs.Prelude.{items_len, Slice, IsModelledBy, Stops, text_model, IsJudge, Accept, Refuse}
+use Rattle.nom_internal.specs.Prelude.{items_len, Slice, Stops, text_model, Accept, Refuse}
 use Rattle.nom_bytes.specs.ParsedRuns.{IsRunSlice, IsEnough}
 use Rattle.example_basics.specs.Colors.{Text, are_digits, pair_of}
 use Rattle.example_basics.proofs.Pairs.{digit_code, pair_span}

@@ -5,7 +5,7 @@ use Rattle.std.specs.Char.{digit_value, is_digit, len_utf8}
 use Rattle.std.proofs.lemmas.Bool.{and_parts, ltb-true, lt-ltb}
 use Rattle.std.proofs.lemmas.Bool.Decides.{nat_tests}
 use Rattle.nom_internal.specs.Prelude.{Errors, Needed}
-use Rattle.nom_internal.specs.Prelude.{Model, IsBoundary, IsSuffixOf, items_len, same_cut, same_self, items_len-append, text_model, text_lawful, itself}
+use Rattle.nom_internal.specs.Prelude.{Model, IsBoundary, IsSuffixOf, items_len, same_cut, items_len-append, text_model, text_lawful, itself}
 use Rattle.nom_internal.specs.Prelude.{Outcome, Accept, Refuse, Stop, after, GoesOn, Then}
 use Rattle.nom_error.specs.declared.answer.Err as Answer
 use Rattle.nom_error.specs.declared.answer.Err.TheVariants as Answered

@@ -1,12 +1,9 @@
 -- Functions as parts of a grammar.
-use Rattle.std.proofs.Common.{◌≡◌, ℕ, false, true, List, Ok, Err, refl, sym, ◌∙◌, ap, subst, arith}
-use Rattle.nom_internal.specs.Prelude.{Needed, size_of, modes, ErrorKind, IsSuffixOf, IsSame, text_model, View, IsLawful, Outcome, Accept, Refuse, Stop, Fails}
-use Rattle.nom_internal.specs.Prelude.{Needs, Outright, ParsesAnswer, ParseRanOut, Parsed}
+use Rattle.std.proofs.Common.{◌≡◌, ℕ, false, true, List, Ok, Err, refl, sym, subst}
+use Rattle.nom_internal.specs.Prelude.{Needed, modes, ErrorKind, text_model, Outcome, Accept, Refuse, Stop, Fails}
+use Rattle.nom_internal.specs.Prelude.{Needs, ParsesAnswer, ParseRanOut, Parsed}
 use Rattle.nom_error.specs.declared.answer.Err as Answer
 use Rattle.nom_error.specs.declared.answer.Err.TheVariants as Answered
-use Rattle.nom_internal.proofs.Consumed.{rest_length}
-use Rattle.nom_func.specs.Func.{IsParser, Tells}
-use Rattle.nom_func.proofs.FuncSound.{parser_of}
 use Rattle.example_formats.specs.declared.arithmetic.Fault.{Fault}
 use Rattle.example_formats.specs.Arithmetic.{Given, Grammar, IsGiven, Parses, Text, Told}
 

@@ -1,38 +1,14 @@
 -- What stands in the brackets of a sum, and a sum by its parts.
-use Rattle.std.proofs.Common.{◌≡◌, ℕ, ◌-◌, zero, suc, List, length, Err, Some, None, refl, sym, ◌∙◌, ap, subst, arith}
+use Rattle.std.proofs.Common.{◌≡◌, ℕ, ◌-◌, zero, suc, List, Err, refl, subst, arith}
 use mathlib.Core.HProp.{h_prop_ext}
 use mathlib.Core.Path.{fun_ext}
-use Rattle.std.specs.Prelude.{◌==◌, ◌↔◌, chars, codes, Contains, IsTrue, encode_utf8_all}
-use Rattle.std.specs.Int.{w64}
-use Rattle.std.specs.Str.Parse.{ParsesSigned}
-use Rattle.std.specs.Char.{IsScalar, len_utf8}
 use Rattle.nom_error.specs.declared.answer.Err.TheVariants as Answered
-use Rattle.nom_internal.specs.Prelude.{ErrorKind, text_model, text_lawful, text_values, itself, pair_view, text_view, IsOne, IsLawful, Outcome, Stop, Fails}
-use Rattle.nom_internal.specs.Prelude.{Outright, IsPinned, either_pinned, value_pinned}
 use Rattle.nom_error.specs.declared.kind.ErrorKind.TheVariants as Kind
-use Rattle.nom_traits.specs.declared.character.AsciiClass.TheVariants.{Digit}
-use Rattle.nom_func.specs.Func.{IsParser, Tells, viewed_pinned}
-use Rattle.nom_func.proofs.FuncSound.{parser_of}
-use Rattle.nom_func.specs.laws.FuncLaws.{func_lawful}
-use Rattle.nom_bytes.specs.Predicates.{one_answer}
-use Rattle.nom_character.specs.ClassRuns.{class_lawful}
-use Rattle.nom_character_first.specs.declared.first.Blame.TheVariants.{OfChar, OfKind}
-use Rattle.nom_character_first.specs.laws.FirstItemLaws.{first_item_lawful, test_is_fixed}
-use Rattle.nom_branch.specs.laws.AlternativeLaws.{choice_lawful, next_lawful}
-use Rattle.nom_sequence.specs.laws.SequenceLaws.{preceded_lawful, terminated_lawful}
-use Rattle.nom_combinator.specs.laws.VerdictLaws.{cut_lawful}
-use Rattle.nom_ends.specs.laws.EndLaws.{fail_lawful}
 use Rattle.nom_operators.specs.declared.operation.Assoc.{Assoc}
-use Rattle.nom_precedence.specs.laws.ExpressionLaws.{precedence_lawful}
-use Rattle.nom_precedence.specs.Operators.{HasLevel}
-use Rattle.nom_precedence.specs.laws.ValueLaws.{GivesAlike, folding_pinned}
-use Rattle.nom_operators.specs.Groups.{groups_left}
-use Rattle.nom_precedence.specs.Values.{folding}
-use Rattle.example_formats.specs.declared.arithmetic.Fault.{Fault}
 use Rattle.example_formats.specs.declared.arithmetic.Fault.TheVariants.{TooDeep}
-use Rattle.example_formats.specs.Arithmetic.{Any, Applies, Given, Grammar, Inside, IsLeveled, IsNumber, IsPlace, Parses, Sign, Text, Told, Worth, char_of}
-use Rattle.example_formats.specs.Arithmetic.{digits_of, faults, func_of, level_of, levels, minus_of, none_of, one_of_by, operand_by, operator_of}
-use Rattle.example_formats.specs.Arithmetic.{sign_view, Sum, sum_by, sum_in, sum_of, view}
+use Rattle.example_formats.specs.Arithmetic.{Any, Grammar, Inside, Parses, Text, Told, Worth}
+use Rattle.example_formats.specs.Arithmetic.{func_of, levels}
+use Rattle.example_formats.specs.Arithmetic.{Sum, sum_by, sum_in, sum_of, view}
 
 pub inside_none : (d : ℕ) (i : Text) → d ≡ 0 → Inside d i (Err (Answered.Failure (TooDeep i)))
 inside_none zero i e = refl
