@@ -3,7 +3,6 @@ use Rattle.std.proofs.Common.{◌≡◌, ℕ, false, true, List, Ok, Err, refl, 
 use Rattle.nom_internal.specs.Prelude.{Needed, modes, ErrorKind, text_model, Outcome, Accept, Refuse, Stop, Fails}
 use Rattle.nom_internal.specs.Prelude.{Needs, ParsesAnswer, ParseRanOut, Parsed}
 use Rattle.nom_error.specs.declared.answer.Err as Answer
-use Rattle.nom_error.specs.declared.answer.Err.TheVariants as Answered
 use Rattle.example_formats.specs.declared.arithmetic.Fault.{Fault}
 use Rattle.example_formats.specs.Arithmetic.{Given, Grammar, IsGiven, Parses, Text, Told}
 

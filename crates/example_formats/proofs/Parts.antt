@@ -3,7 +3,6 @@ use Rattle.std.proofs.Common.{◌≡◌, ℕ, ◌-◌, zero, suc, List, Err, ref
 use mathlib.Core.HProp.{h_prop_ext}
 use mathlib.Core.Path.{fun_ext}
 use Rattle.nom_error.specs.declared.answer.Err.TheVariants as Answered
-use Rattle.nom_error.specs.declared.kind.ErrorKind.TheVariants as Kind
 use Rattle.nom_operators.specs.declared.operation.Assoc.{Assoc}
 use Rattle.example_formats.specs.declared.arithmetic.Fault.TheVariants.{TooDeep}
 use Rattle.example_formats.specs.Arithmetic.{Any, Grammar, Inside, Parses, Text, Told, Worth}
