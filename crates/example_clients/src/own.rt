@@ -130,7 +130,7 @@ pub fn packet(input: &[u8]) -> IResult<&[u8], (u8, &[u8])> {
 
 /// As many bytes as a length in front says.
 pub fn counted(input: &[u8]) -> IResult<&[u8], &[u8]> {
-    flat_map(func(own_length), take).parse(input)
+    flat_map(func(own_length), |length: u16| take(length)).parse(input)
 }
 
 /// The sum of days' numbers.
@@ -143,13 +143,10 @@ pub fn sum(input: &str) -> IResult<&str, u32> {
     .parse_complete(input)
 }
 
-/// How many of the days are the first of a month.
-pub fn firsts(input: &str) -> usize {
-    let mut firsts = 0usize;
-    for day in iterator(input, func(date)) {
-        if day.day == 1 {
-            firsts = firsts.saturating_add(1);
-        }
-    }
-    firsts
+/// The first two days, where there are as many.
+pub fn first_two(input: &str) -> (Option<Day>, Option<Day>) {
+    let mut days = iterator(input, func(date));
+    let first = days.next();
+    let second = days.next();
+    (first, second)
 }
