@@ -2,5 +2,6 @@
 #![tactic(auto)]
 
 pub mod fields;
+pub mod frames;
 pub mod messages;
 pub mod records;

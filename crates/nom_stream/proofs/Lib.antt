@@ -1,5 +1,6 @@
 mod Buffer
 mod Calls
+mod Functions
 mod Lent
 mod Outcomes
 mod Reading

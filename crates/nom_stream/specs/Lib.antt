@@ -1,3 +1,4 @@
+pub mod Functions
 pub mod Held
 pub mod Items
 pub mod Readers

@@ -2,6 +2,7 @@
 //! than a limit says.
 #![tactic(auto)]
 
+pub mod function;
 pub mod grammar;
 pub mod held;
 pub mod promises;
