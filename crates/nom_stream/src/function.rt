@@ -55,7 +55,8 @@ impl<O: Viewed + Drop, F: Fn(&[u8]) -> IResult<&[u8], O>> Grammar for ItemFunc<F
 
     ghost Tree = { O.view.Value };
 
-    ghost grammar = { λ f. func_of bytes_model O.view ⟦<Error<&'static [u8]> as ParseError<&'static [u8]>>⟧.errors (F.post f) (F.pre f) (IsStreamParser bytes_model O.view (F.post f)) };
+    ghost grammar = { λ f. func_of bytes_model O.view ⟦<Error<&'static [u8]> as ParseError<&'static [u8]>>⟧.errors (F.post f) (F.pre f)
+        (IsStreamParser bytes_model O.view (F.post f)) };
 
     fn item<'a>(&mut self, input: &'a [u8], _more: bool) -> IResult<&'a [u8], O> {
         input.prove_known();
