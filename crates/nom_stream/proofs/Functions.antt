@@ -33,7 +33,8 @@ module _ {O : Type 0} {view : View O} {errs : Errors Bytes (Error Bytes)} {Gives
   pub item_stopped : (f : Answer.Err (Error Bytes) (Error Bytes) Needed) → bytes_model.IsKnown i → Gives i (Err f) →
       ParsesAnswer bytes_model (IsViewed view) i (FuncAnswers bytes_model view Gives i) (FuncBlames bytes_model errs Gives i)
       (FuncRunsOut bytes_model errs Gives i) (Err f)
-  item_stopped (Stopped.Incomplete n) h g = Parsed (Stop (Needs (size_of n))) (answered (Stop (Needs (size_of n))) (Err (Incomplete n)) h g refl) (n, refl, refl)
+  item_stopped (Stopped.Incomplete n) h g =
+      Parsed (Stop (Needs (size_of n))) (answered (Stop (Needs (size_of n))) (Err (Incomplete n)) h g refl) (n, refl, refl)
   item_stopped (Stopped.Error e) h g = Parsed Refuse (answered Refuse (Err (Stopped.Error e)) h g refl) (e, OfRefusal g, refl)
   item_stopped (Stopped.Failure e) h g =
       Parsed (Stop (Fails Outright)) (answered (Stop (Fails Outright)) (Err (Failure e)) h g refl) (e, OfFailure g, refl)
