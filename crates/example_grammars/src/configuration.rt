@@ -3,7 +3,6 @@
 use nom::branch::alt;
 use nom::bytes::{is_not, tag, take_while1};
 use nom::combinator::{map, opt, value};
-use nom::error::Error;
 use nom::multi::many0;
 use nom::sequence::{preceded, separated_pair, terminated};
 use nom::{IResult, Parser};
@@ -18,14 +17,8 @@ pub enum Line<'a> {
 
 /// The lines of a text, each ended by a line feed. A comment may be empty; a name is of letters, and a
 /// value isn't empty.
-pub fn settings<'a>(
-    alloc: Global,
-    input: &'a str,
-) -> IResult<&'a str, Vec<Line<'a>>, Error<&'a str>> {
-    let comment = value(
-        Line::Comment,
-        preceded(tag::<&str, &'a str, Error<&'a str>>("#"), opt(is_not("\n"))),
-    );
+pub fn settings(alloc: Global, input: &str) -> IResult<&str, Vec<Line<'_>>> {
+    let comment = value(Line::Comment, preceded(tag("#"), opt(is_not("\n"))));
     let setting = map(
         separated_pair(
             take_while1(|c: char| c.is_alphabetic()),

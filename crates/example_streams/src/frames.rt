@@ -28,10 +28,9 @@ pub fn count_bytes<R: Read + Drop, A: Allocator + Copy>(
         complete: false,
     };
     let mut stream = Stream::new(alloc, source, settings);
-    let mut frames = item_func(frame);
     let mut count = 0usize;
-    for _ in 0..most {
-        match stream.next_item(&mut frames) {
+    for _turn in 0..most {
+        match stream.next_item(&mut item_func(frame)) {
             Ok(Some((_, len))) => count = count.saturating_add(len),
             Ok(None) => return Ok(count),
             Err(why) => return Err(why),

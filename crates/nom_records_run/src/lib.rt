@@ -2,7 +2,6 @@
 #![tactic(auto)]
 
 pub mod report;
-pub mod run;
 
 pub use nom_run::counted::Counted;
 pub use nom_run::error::RunError;

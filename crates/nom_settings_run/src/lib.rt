@@ -2,5 +2,4 @@
 #![tactic(auto)]
 
 pub mod report;
-pub mod run;
 pub mod settings;
