@@ -3,10 +3,11 @@
 use crate::types::Name;
 use nom::branch::alt;
 use nom::bytes::{tag, take};
-use nom::combinator::{flat_map, map, map_opt, recognize, value, verify};
+use nom::combinator::{map_opt, recognize, value, verify};
+use nom::error::{Error, ErrorKind};
 use nom::multi::many0_count;
 use nom::number::{be_u8, be_u16};
-use nom::{IResult, Parser, func};
+use nom::{Err, IResult, Parser, func};
 
 /// From 1 to 63; another number is refused with `Verify`.
 fn label_length(input: &[u8]) -> IResult<&[u8], u8> {
@@ -15,7 +16,8 @@ fn label_length(input: &[u8]) -> IResult<&[u8], u8> {
 
 /// A label.
 pub fn label(input: &[u8]) -> IResult<&[u8], &[u8]> {
-    flat_map(func(label_length), |length: u8| take(length)).parse_complete(input)
+    let (input, length) = label_length(input)?;
+    take(length).parse_complete(input)
 }
 
 /// All labels that follow each other, each with its length.
@@ -29,9 +31,9 @@ fn root(input: &[u8]) -> IResult<&[u8], Option<u16>> {
 }
 
 /// The place that a pointer has, which is marked by its two highest bits.
-fn target(number: u16) -> Option<u16> {
+fn target(number: u16) -> Option<Option<u16>> {
     if number >= 0xc000 {
-        Some(number & 0x3fff)
+        Some(Some(number & 0x3fff))
     } else {
         None
     }
@@ -39,7 +41,7 @@ fn target(number: u16) -> Option<u16> {
 
 /// A pointer to another place of the message.
 fn pointer(input: &[u8]) -> IResult<&[u8], Option<u16>> {
-    map(map_opt(be_u16(), target), |place: u16| Some(place)).parse_complete(input)
+    map_opt(be_u16(), target).parse_complete(input)
 }
 
 /// What the labels of a name are followed by.
@@ -47,20 +49,14 @@ fn name_end(input: &[u8]) -> IResult<&[u8], Option<u16>> {
     alt((func(root), func(pointer))).parse_complete(input)
 }
 
-/// Whether a name's own labels, with a byte for its end, have at most 255 bytes.
-fn is_short(parts: &(&[u8], Option<u16>)) -> bool {
-    parts.0.len() < 255
-}
-
-/// The labels of a name, and its pointer.
-fn name_parts(input: &[u8]) -> IResult<&[u8], (&[u8], Option<u16>)> {
-    verify((func(label_run), func(name_end)), is_short).parse_complete(input)
-}
-
-/// A name, as it is written. One whose labels have more than 255 bytes is refused with `Verify`; a length from 64 to 191
-/// with `MapOpt`.
+/// A name, as it is written. One whose labels, with a byte for its end, have more than 255 bytes is refused with `Verify`; a
+/// length from 64 to 191 with `MapOpt`.
 pub fn any_name(input: &[u8]) -> IResult<&[u8], Name<'_>> {
-    let (rest, (labels, pointer)) = name_parts(input)?;
+    let (rest, labels) = label_run(input)?;
+    let (rest, pointer) = name_end(rest)?;
+    if labels.len() >= 255 {
+        return Err(Err::Error(Error::new(input, ErrorKind::Verify)));
+    }
     let name = Name {
         labels,
         pointer,

@@ -4,10 +4,10 @@ use crate::names::any_name;
 use crate::types::{Addition, Extended, ExtendedOption, Question, Record};
 use nom::branch::alt;
 use nom::bytes::tag;
-use nom::combinator::{all_consuming, map, map_parser, recognize};
+use nom::combinator::{all_consuming, eof, recognize};
 use nom::multi::{length_data, many0, many0_count};
 use nom::number::{be_u8, be_u16, be_u32};
-use nom::sequence::{pair, preceded};
+use nom::sequence::pair;
 use nom::{IResult, Parser, func};
 use std::alloc::Allocator;
 
@@ -23,19 +23,17 @@ fn sized(input: &[u8]) -> IResult<&[u8], &[u8]> {
 
 /// A question.
 pub fn any_question(input: &[u8]) -> IResult<&[u8], Question<'_>> {
-    map(
-        (func(any_name), func(kind_and_class)),
-        |(name, (kind, class))| Question { name, kind, class },
-    )
-    .parse_complete(input)
+    let (input, name) = any_name(input)?;
+    let (rest, (kind, class)) = kind_and_class(input)?;
+    Ok((rest, Question { name, kind, class }))
 }
 
 /// A resource record, with the bytes of its data.
 pub fn any_record(input: &[u8]) -> IResult<&[u8], Record<'_>> {
-    let (input, (name, (kind, class))) = (func(any_name), func(kind_and_class)).parse_complete(
-        input,
-    )?;
-    let (rest, (time_to_live, data)) = (be_u32(), func(sized)).parse_complete(input)?;
+    let (input, name) = any_name(input)?;
+    let (input, (kind, class)) = kind_and_class(input)?;
+    let (input, time_to_live) = be_u32().parse_complete(input)?;
+    let (rest, data) = sized(input)?;
     let record = Record {
         name,
         kind,
@@ -49,21 +47,17 @@ pub fn any_record(input: &[u8]) -> IResult<&[u8], Record<'_>> {
 
 /// An option of an extension.
 pub fn extended_option(input: &[u8]) -> IResult<&[u8], ExtendedOption<'_>> {
-    map(
-        (be_u16(), func(sized)),
-        |(code, data)| ExtendedOption { code, data },
-    )
-    .parse_complete(input)
-}
-
-/// Options to the end.
-fn option_run(input: &[u8]) -> IResult<&[u8], &[u8]> {
-    recognize(all_consuming(many0_count(func(extended_option)))).parse_complete(input)
+    let (input, code) = be_u16().parse_complete(input)?;
+    let (rest, data) = sized(input)?;
+    Ok((rest, ExtendedOption { code, data }))
 }
 
 /// The bytes of options, each of which is whole.
 fn option_list(input: &[u8]) -> IResult<&[u8], &[u8]> {
-    map_parser(func(sized), func(option_run)).parse_complete(input)
+    let (rest, list) = sized(input)?;
+    let (end, options) = recognize(many0_count(func(extended_option))).parse_complete(list)?;
+    let (_, _) = eof(end)?;
+    Ok((rest, options))
 }
 
 /// The options of an extension.
@@ -81,7 +75,8 @@ fn extended_head(input: &[u8]) -> IResult<&[u8], (u16, u8, u8, u16)> {
 
 /// The record of an extension, whose name is the root, and whose kind is 41.
 pub fn extension(input: &[u8]) -> IResult<&[u8], Extended<'_>> {
-    let (input, head) = preceded(tag(&b"\0\0\x29"[..]), func(extended_head)).parse_complete(input)?;
+    let (input, _) = tag(&b"\0\0\x29"[..]).parse_complete(input)?;
+    let (input, head) = extended_head(input)?;
     let (payload, answer, version, flags) = head;
     let (rest, options) = option_list(input)?;
     let extended = Extended {
@@ -94,13 +89,19 @@ pub fn extension(input: &[u8]) -> IResult<&[u8], Extended<'_>> {
     Ok((rest, extended))
 }
 
+/// An extension as a record of the last section.
+fn extended_addition(input: &[u8]) -> IResult<&[u8], Addition<'_>> {
+    let (rest, extended) = extension(input)?;
+    Ok((rest, Addition::Extended(extended)))
+}
+
+/// Any other record of the last section.
+fn plain_addition(input: &[u8]) -> IResult<&[u8], Addition<'_>> {
+    let (rest, record) = any_record(input)?;
+    Ok((rest, Addition::Record(record)))
+}
+
 /// A record of the last section.
 pub fn any_addition(input: &[u8]) -> IResult<&[u8], Addition<'_>> {
-    let extended = map(func(extension), |extended: Extended<'_>| {
-        Addition::Extended(extended)
-    });
-    let record = map(func(any_record), |record: Record<'_>| {
-        Addition::Record(record)
-    });
-    alt((extended, record)).parse_complete(input)
+    alt((func(extended_addition), func(plain_addition))).parse_complete(input)
 }

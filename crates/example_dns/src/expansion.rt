@@ -74,7 +74,7 @@ pub fn labels<'a, A: Allocator + Copy>(
         let Some(pointer) = part.pointer else {
             return Ok(list);
         };
-        let target = pointer as usize;
+        let target = usize::from(pointer);
         if target >= place {
             return Err(NameFault::Forward);
         }

@@ -2,10 +2,10 @@
 
 use crate::types::{Flags, Header};
 use nom::bits::{bits, bool as flag, take as take_bits};
-use nom::combinator::{complete, map};
+use nom::combinator::complete;
 use nom::error::Error;
 use nom::number::be_u16;
-use nom::{IResult, Parser, func};
+use nom::{IResult, Parser};
 
 /// Errors of parsers over bits.
 type BitError<'a> = Error<(&'a [u8], usize)>;
@@ -28,11 +28,13 @@ fn second_flags(input: &[u8]) -> IResult<&[u8], SecondFlags> {
     complete(bits((flag(), flag(), flag(), flag(), answer))).parse_complete(input)
 }
 
-/// Flags from their bytes.
-fn as_flags(bytes: (FirstFlags, SecondFlags)) -> Flags {
-    let ((response, operation, authoritative, truncated, recursion_desired), second) = bytes;
+/// What the bits of a header say.
+pub fn any_flags(input: &[u8]) -> IResult<&[u8], Flags> {
+    let (input, first) = first_flags(input)?;
+    let (rest, second) = second_flags(input)?;
+    let (response, operation, authoritative, truncated, recursion_desired) = first;
     let (recursion_available, _, authentic, checking_disabled, answer) = second;
-    Flags {
+    let flags = Flags {
         response,
         operation,
         authoritative,
@@ -42,12 +44,8 @@ fn as_flags(bytes: (FirstFlags, SecondFlags)) -> Flags {
         authentic,
         checking_disabled,
         answer,
-    }
-}
-
-/// What the bits of a header say.
-pub fn any_flags(input: &[u8]) -> IResult<&[u8], Flags> {
-    map((func(first_flags), func(second_flags)), as_flags).parse_complete(input)
+    };
+    Ok((rest, flags))
 }
 
 /// The numbers of questions, answers, authorities and additions.
@@ -57,8 +55,9 @@ fn counts(input: &[u8]) -> IResult<&[u8], (u16, u16, u16, u16)> {
 
 /// The header of a message, twelve bytes.
 pub fn any_header(input: &[u8]) -> IResult<&[u8], Header> {
-    let mut parts = (be_u16(), func(any_flags), func(counts));
-    let (rest, (identification, flags, numbers)) = parts.parse_complete(input)?;
+    let (input, identification) = be_u16().parse_complete(input)?;
+    let (input, flags) = any_flags(input)?;
+    let (rest, numbers) = counts(input)?;
     let (questions, answers, authorities, additions) = numbers;
     let header = Header {
         identification,

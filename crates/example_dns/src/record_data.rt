@@ -1,21 +1,18 @@
 //! The data of records, by their kinds. Data that isn't all that its kind has is refused; what follows it, with `Eof`.
 
 use crate::names::any_name;
-use crate::types::{Exchange, Name, Record, RecordData, Service, Times, Zone};
-use nom::combinator::{all_consuming, map, recognize, rest};
+use crate::types::{Exchange, Record, RecordData, Service, Times, Zone};
+use nom::combinator::{all_consuming, eof, recognize, rest};
 use nom::multi::{length_data, many0, many1_count};
 use nom::number::{be_u8, be_u16, be_u32};
-use nom::sequence::pair;
 use nom::{IResult, Parser, func};
 use std::alloc::Allocator;
 use std::net::{Ipv4Addr, Ipv6Addr};
 
 /// An address of four bytes.
 pub fn address(input: &[u8]) -> IResult<&[u8], Ipv4Addr> {
-    map((be_u8(), be_u8(), be_u8(), be_u8()), |(a, b, c, d)| {
-        Ipv4Addr::new(a, b, c, d)
-    })
-    .parse_complete(input)
+    let (rest, (a, b, c, d)) = (be_u8(), be_u8(), be_u8(), be_u8()).parse_complete(input)?;
+    Ok((rest, Ipv4Addr::new(a, b, c, d)))
 }
 
 /// Half of an address of sixteen bytes.
@@ -25,62 +22,57 @@ fn half(input: &[u8]) -> IResult<&[u8], (u16, u16, u16, u16)> {
 
 /// An address of sixteen bytes.
 pub fn long_address(input: &[u8]) -> IResult<&[u8], Ipv6Addr> {
-    map(
-        pair(func(half), func(half)),
-        |((a, b, c, d), (e, f, g, h))| Ipv6Addr::new(a, b, c, d, e, f, g, h),
-    )
-    .parse_complete(input)
+    let (input, (a, b, c, d)) = half(input)?;
+    let (rest, (e, f, g, h)) = half(input)?;
+    Ok((rest, Ipv6Addr::new(a, b, c, d, e, f, g, h)))
 }
 
 /// When to ask for a zone again.
 fn any_times(input: &[u8]) -> IResult<&[u8], Times> {
-    map(
-        (be_u32(), be_u32(), be_u32(), be_u32(), be_u32()),
-        |(serial, refresh, retry, expire, minimum)| Times {
-            serial,
-            refresh,
-            retry,
-            expire,
-            minimum,
-        },
-    )
-    .parse_complete(input)
+    let mut numbers = (be_u32(), be_u32(), be_u32(), be_u32(), be_u32());
+    let (rest, (serial, refresh, retry, expire, minimum)) = numbers.parse_complete(input)?;
+    let times = Times {
+        serial,
+        refresh,
+        retry,
+        expire,
+        minimum,
+    };
+    Ok((rest, times))
 }
 
 /// The start of a zone.
 pub fn any_zone(input: &[u8]) -> IResult<&[u8], Zone<'_>> {
-    map(
-        (func(any_name), func(any_name), func(any_times)),
-        |(server, mailbox, times)| Zone {
-            server,
-            mailbox,
-            times,
-        },
-    )
-    .parse_complete(input)
+    let (input, server) = any_name(input)?;
+    let (input, mailbox) = any_name(input)?;
+    let (rest, times) = any_times(input)?;
+    let zone = Zone {
+        server,
+        mailbox,
+        times,
+    };
+    Ok((rest, zone))
 }
 
 /// A host that takes mail.
 pub fn any_exchange(input: &[u8]) -> IResult<&[u8], Exchange<'_>> {
-    map(
-        (be_u16(), func(any_name)),
-        |(preference, host)| Exchange { preference, host },
-    )
-    .parse_complete(input)
+    let (input, preference) = be_u16().parse_complete(input)?;
+    let (rest, host) = any_name(input)?;
+    Ok((rest, Exchange { preference, host }))
 }
 
 /// A host and port of a service.
 pub fn any_service(input: &[u8]) -> IResult<&[u8], Service<'_>> {
-    map(
-        (be_u16(), be_u16(), be_u16(), func(any_name)),
-        |(priority, weight, port, host)| Service {
-            priority,
-            weight,
-            port,
-            host,
-        },
-    )
-    .parse_complete(input)
+    let (input, numbers) = (be_u16(), be_u16(), be_u16()).parse_complete(input)?;
+    let (priority, weight, port) = numbers;
+    let (rest, host) = any_name(input)?;
+    let service = Service {
+        priority,
+        weight,
+        port,
+        host,
+    };
+    Ok((rest, service))
 }
 
 /// A text of at most 255 bytes.
@@ -97,65 +89,58 @@ pub fn texts<'a, A: Allocator + Copy>(
 }
 
 fn address_data(input: &[u8]) -> IResult<&[u8], RecordData<'_>> {
-    map(all_consuming(func(address)), |address: Ipv4Addr| {
-        RecordData::Address(address)
-    })
-    .parse_complete(input)
+    let (input, address) = address(input)?;
+    let (rest, _) = eof(input)?;
+    Ok((rest, RecordData::Address(address)))
 }
 
 fn long_address_data(input: &[u8]) -> IResult<&[u8], RecordData<'_>> {
-    map(all_consuming(func(long_address)), |address: Ipv6Addr| {
-        RecordData::LongAddress(address)
-    })
-    .parse_complete(input)
+    let (input, address) = long_address(input)?;
+    let (rest, _) = eof(input)?;
+    Ok((rest, RecordData::LongAddress(address)))
 }
 
 fn server_data(input: &[u8]) -> IResult<&[u8], RecordData<'_>> {
-    map(all_consuming(func(any_name)), |name: Name<'_>| {
-        RecordData::NameServer(name)
-    })
-    .parse_complete(input)
+    let (input, name) = any_name(input)?;
+    let (rest, _) = eof(input)?;
+    Ok((rest, RecordData::NameServer(name)))
 }
 
 fn canonical_data(input: &[u8]) -> IResult<&[u8], RecordData<'_>> {
-    map(all_consuming(func(any_name)), |name: Name<'_>| {
-        RecordData::CanonicalName(name)
-    })
-    .parse_complete(input)
+    let (input, name) = any_name(input)?;
+    let (rest, _) = eof(input)?;
+    Ok((rest, RecordData::CanonicalName(name)))
 }
 
 fn pointer_data(input: &[u8]) -> IResult<&[u8], RecordData<'_>> {
-    map(all_consuming(func(any_name)), |name: Name<'_>| {
-        RecordData::Pointer(name)
-    })
-    .parse_complete(input)
+    let (input, name) = any_name(input)?;
+    let (rest, _) = eof(input)?;
+    Ok((rest, RecordData::Pointer(name)))
 }
 
 fn zone_data(input: &[u8]) -> IResult<&[u8], RecordData<'_>> {
-    map(all_consuming(func(any_zone)), |zone: Zone<'_>| {
-        RecordData::Zone(zone)
-    })
-    .parse_complete(input)
+    let (input, zone) = any_zone(input)?;
+    let (rest, _) = eof(input)?;
+    Ok((rest, RecordData::Zone(zone)))
 }
 
 fn exchange_data(input: &[u8]) -> IResult<&[u8], RecordData<'_>> {
-    map(all_consuming(func(any_exchange)), |host: Exchange<'_>| {
-        RecordData::Exchange(host)
-    })
-    .parse_complete(input)
+    let (input, host) = any_exchange(input)?;
+    let (rest, _) = eof(input)?;
+    Ok((rest, RecordData::Exchange(host)))
 }
 
 fn service_data(input: &[u8]) -> IResult<&[u8], RecordData<'_>> {
-    map(all_consuming(func(any_service)), |host: Service<'_>| {
-        RecordData::Service(host)
-    })
-    .parse_complete(input)
+    let (input, service) = any_service(input)?;
+    let (rest, _) = eof(input)?;
+    Ok((rest, RecordData::Service(service)))
 }
 
 /// At least one text.
 fn text_data(input: &[u8]) -> IResult<&[u8], RecordData<'_>> {
-    let list = recognize(all_consuming(many1_count(func(one_text))));
-    map(list, |list: &[u8]| RecordData::Texts(list)).parse_complete(input)
+    let (rest, list) = recognize(many1_count(func(one_text))).parse_complete(input)?;
+    let (rest, _) = eof(rest)?;
+    Ok((rest, RecordData::Texts(list)))
 }
 
 /// The data of a record. Of a class other than 1, the Internet, and of an unknown kind it is kept as it is.
@@ -178,5 +163,6 @@ pub fn data_of(record: Record<'_>) -> IResult<&[u8], RecordData<'_>> {
 }
 
 fn unknown_data(input: &[u8]) -> IResult<&[u8], RecordData<'_>> {
-    map(func(rest), |bytes: &[u8]| { RecordData::Unknown(bytes) }).parse_complete(input)
+    let (end, bytes) = rest(input)?;
+    Ok((end, RecordData::Unknown(bytes)))
 }
