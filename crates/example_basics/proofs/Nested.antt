@@ -6,12 +6,13 @@ use Rattle.std.specs.Result.{IsErrAnd, IsErr}
 use Rattle.std.proofs.lemmas.Bool.Decides.{nat_tests}
 use Rattle.std.proofs.Math.Seq.{drop-append_seam}
 use Rattle.std.proofs.lemmas.List.{drop-drop}
-use Rattle.nom_internal.specs.Prelude.{IResult, Needed, Errors, bytes_model, bytes_lawful, IsSuffixOf, items_len, rest_rest, items_len-ones, Accept, Refuse}
+use Rattle.nom_internal.specs.Prelude.{IResult, Needed, bytes_model, bytes_lawful, IsSuffixOf, items_len, rest_rest, items_len-ones, Accept, Refuse}
 use Rattle.nom_internal.specs.Prelude.{Stop, Fails, Needs, ParseRanOut, Parsed, ParsesMeaning}
 use Rattle.nom_error.specs.declared.answer.Err as Answer
 use Rattle.nom_error.specs.declared.answer.Err.TheVariants as Answered
 use Rattle.nom_error.specs.declared.kind.ErrorKind.TheVariants.{Char}
 use Rattle.nom_error.specs.declared.value.Error.{Error}
+use Rattle.nom_error.specs.PlainErrors.{plain_errors}
 use Rattle.nom_internal.proofs.Consumed.{rest_self}
 use Rattle.nom_internal.proofs.Shown.{err_from_residual}
 use Rattle.nom_character_first.specs.FirstItem.{IsFirstItem, char_meaning}
@@ -23,19 +24,9 @@ Bytes = Bor (List ℕ)
 abbrev Result_of : Type 0 → Type 0
 Result_of T = IResult Bytes T (Error Bytes)
 
--- what the error type gives
-abbrev errors : Errors Bytes (Error Bytes)
-errors = record {
-  of_kind = λ i k e. e ≡ record { input = i; code = k };
-  appended = λ i k other e. e ≡ other;
-  of_char = λ i c e. e ≡ record { input = i; code = Char };
-  joined = λ first other e. e ≡ other;
-  grows = ⊥;
-}
-
 -- what the parser of one character answers at i
 abbrev CharAnswer : ℕ → Bytes → Result_of ℕ → Type 0
-CharAnswer c i r = ParsesMeaning bytes_model (λ t x. x ≡ t) (char_meaning bytes_model (λ b. b) errors c) false i r
+CharAnswer c i r = ParsesMeaning bytes_model (λ t x. x ≡ t) (char_meaning bytes_model (λ b. b) plain_errors c) false i r
 
 abbrev NestedAnswer : Bytes → Result_of ℕ → Type 0
 NestedAnswer i r = ParsesMeaning bytes_model (λ t n. n ≡ t) brackets_meaning false i r

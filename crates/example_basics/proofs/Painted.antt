@@ -18,14 +18,14 @@ use Rattle.nom_bytes.specs.Tags.{tags, tag_meaning}
 use Rattle.nom_internal.proofs.Consumed.{rest_self}
 use Rattle.example_basics.specs.declared.hex.Color.{Color}
 use Rattle.example_basics.specs.Colors.{Text, parts_of, color_of, color_fault, place_missing, AnswersColor}
-use Rattle.example_basics.proofs.Primaries.{text_errors}
+use Rattle.nom_error.specs.PlainErrors.{plain_errors}
 use Rattle.example_basics.proofs.Triples.{IsTriple, IsTripleFault}
 
 abbrev Fault : Type 0
 Fault = Answer.Err (Error Text) (Error Text) Needed
 
 abbrev mark_meaning : List ℕ → Meaning Text (Slice text_model) (Error Text)
-mark_meaning t = fixed_meaning false (tag_meaning text_model text_errors length ComparesText t)
+mark_meaning t = fixed_meaning false (tag_meaning text_model plain_errors length ComparesText t)
 
 -- what the parser of a tag answers at i
 abbrev pub MarkAnswer : List ℕ → Text → Result (Text × Text) Fault → Type 0

@@ -3,26 +3,17 @@ use Rattle.std.proofs.Common.{◌≡◌, ℕ, ◌+◌, ◌*◌, Bool, true, fals
 use Rattle.std.specs.Prelude.{chars, encode_utf8_all, Some, is_ok}
 use Rattle.std.specs.Char.{digit_value, is_digit}
 use Rattle.std.specs.Str.Parse.{digits_value, without_leading_plus, ParsesUnsigned}
-use Rattle.nom_internal.specs.Prelude.{IResult, Errors, Modes, modes, IsSuffixOf, Slice, IsModelledBy, text_model, text_lawful, Outcome, Accept, Refuse, Stop}
+use Rattle.nom_internal.specs.Prelude.{IResult, Modes, modes, IsSuffixOf, Slice, IsModelledBy, text_model, text_lawful, Outcome, Accept, Refuse, Stop}
 use Rattle.nom_internal.specs.Prelude.{Fails, Needs, ParseRanOut, Parsed, Meaning, ParsesMeaning, Leaf, LeafAnswers, GivesFor, Passes, fixed_meaning}
 use Rattle.nom_internal.specs.Prelude.{RunsOutInPart, RunsOutBeside, judged_meaning, kept_if, Judged, OnUnfit, JudgedBlames, OfError}
-use Rattle.nom_error.specs.declared.kind.ErrorKind.TheVariants.{Char, TakeWhileMN}
+use Rattle.nom_error.specs.declared.kind.ErrorKind.TheVariants.{TakeWhileMN}
 use Rattle.nom_error.specs.declared.value.Error.{Error}
+use Rattle.nom_error.specs.PlainErrors.{plain_errors}
 use Rattle.nom_bytes.specs.ParsedRuns.{runs, bounded_meaning}
 use Rattle.nom_internal.proofs.Consumed.{rest_self}
 use Rattle.example_basics.specs.Colors.{Text, pair_of, AnswersPair}
 use Rattle.example_basics.proofs.Pairs.{IsPair, on_pair_at}
 use Rattle.example_basics.proofs.Digits.{IsTwo, ReadsText, pair_value, pair_fits, two_taken, two_missing}
-
--- what the error type gives
-abbrev pub text_errors : Errors Text (Error Text)
-text_errors = record {
-  of_kind = λ i k e. e ≡ record { input = i; code = k };
-  appended = λ i k other e. e ≡ other;
-  of_char = λ i c e. e ≡ record { input = i; code = Char };
-  joined = λ first other e. e ≡ other;
-  grows = ⊥;
-}
 
 module _ {X : Type 0} (Test : ℕ → Bool → Type 0) (Takes : Text → Type 0) (Gives : Text → Result ℕ X → Type 0)
     (Makes : Text → X → Error Text → Type 0) where
@@ -30,7 +21,7 @@ module _ {X : Type 0} (Test : ℕ → Bool → Type 0) (Takes : Text → Type 0)
   run_leaf = runs text_model Test (Some 2) 2
 
   abbrev run_meaning : (m n : ℕ) → Meaning Text (Slice text_model) (Error Text)
-  run_meaning m n = fixed_meaning false (bounded_meaning text_model Test text_errors m n)
+  run_meaning m n = fixed_meaning false (bounded_meaning text_model Test plain_errors m n)
 
   abbrev mapped_meaning : (m n : ℕ) → Meaning Text (Slice text_model) (Error Text)
   mapped_meaning m n = judged_meaning (IsModelledBy text_model) Takes Gives is_ok (λ i. OfError (Makes i)) ⊥ (run_meaning m n)

@@ -13,7 +13,7 @@ use Rattle.nom_internal.specs.Sequence.{PairOutput}
 use Rattle.example_basics.specs.Colors.{Text, on_pair, parts_of, place_missing, AnswersPair}
 use Rattle.example_basics.proofs.Pairs.{IsPair, IsMissed, IsPlain, Both, both, sequence_plain, pair_accepted, on_pair_at, on_pair_none, missing_at}
 use Rattle.example_basics.proofs.Pairs.{missing_none, after_pair, text_between, pair_place, pair_answered, pair_frugal, pair_missed, pair_plain}
-use Rattle.example_basics.proofs.Primaries.{text_errors}
+use Rattle.nom_error.specs.PlainErrors.{plain_errors}
 
 abbrev Pair : Text → Outcome ℕ → Type 0
 Pair = FuncAnswers text_model itself AnswersPair
@@ -25,13 +25,13 @@ abbrev Three : Text → Outcome ((ℕ × ℕ) × ℕ) → Type 0
 Three = Then text_model (λ t v. (t, v)) Two (λ _. Pair)
 
 abbrev TwoBlames : Text → Error Text → Type 0
-TwoBlames = ThenBlames text_model Pair (FuncBlames text_model text_errors AnswersPair) (λ _. Pair) (λ _. FuncBlames text_model text_errors AnswersPair)
+TwoBlames = ThenBlames text_model Pair (FuncBlames text_model plain_errors AnswersPair) (λ _. Pair) (λ _. FuncBlames text_model plain_errors AnswersPair)
 
 abbrev ThreeBlames : Text → Error Text → Type 0
-ThreeBlames = ThenBlames text_model Two TwoBlames (λ _. Pair) (λ _. FuncBlames text_model text_errors AnswersPair)
+ThreeBlames = ThenBlames text_model Two TwoBlames (λ _. Pair) (λ _. FuncBlames text_model plain_errors AnswersPair)
 
 abbrev RanOut : Text → Type 0
-RanOut i = FuncRunsOut text_model text_errors AnswersPair i
+RanOut i = FuncRunsOut text_model plain_errors AnswersPair i
 
 abbrev TwoRunsOut : Text → Type 0
 TwoRunsOut = ThenRunsOut text_model Pair RanOut (λ _. RanOut)

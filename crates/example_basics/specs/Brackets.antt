@@ -6,8 +6,8 @@ use Rattle.nom_error.specs.declared.kind.ErrorKind.TheVariants.{Char}
 use Rattle.nom_error.specs.declared.value.Error.{Error}
 use Rattle.nom_internal.specs.Prelude.{bytes_model, IsSuffixOf, Meaning, IsLawful, leaf_meaning}
 use Rattle.nom_traits.proofs.ByteCuts.{byte_place}
-use Rattle.nom_ends.specs.Ends.{plain_leaf}
-use Rattle.nom_ends.specs.laws.AllLaws.{PlainLaws, plain_lawful}
+use Rattle.nom_combinator.specs.Ends.{plain_leaf}
+use Rattle.nom_combinator.specs.laws.AllLaws.{PlainLaws, plain_lawful}
 
 abbrev Bytes : Type 0
 Bytes = Bor (List ℕ)

@@ -1,5 +1,5 @@
 //! What a caller knows of any sound parser that settles, whatever it is made of.
-ghost use Rattle.nom_growing.specs.Promises.{AcceptsFronts, AnswersStay, HasNoFailure, HasOneOutcome, IsCompleteToo, NeverRunsOut, StaysOnLonger};
+ghost use Rattle.nom_internal.specs.Promises.{AcceptsFronts, AnswersStay, HasNoFailure, HasOneOutcome, IsCompleteToo, NeverRunsOut, StaysOnLonger};
 
 use nom::promises::{
     accepts_fronts, answers_stay, has_no_failure, has_one_outcome, is_complete_too, never_runs_out,

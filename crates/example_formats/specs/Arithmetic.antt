@@ -15,7 +15,7 @@ use Rattle.nom_character_first.specs.FirstItem.{char_meaning, satisfy_meaning}
 use Rattle.nom_sequence.specs.Sequences.{preceded_meaning, terminated_meaning}
 use Rattle.nom_branch.specs.Alternatives.{choice_meaning, next_meaning}
 use Rattle.nom_combinator.specs.Verdicts.{cut_meaning}
-use Rattle.nom_ends.specs.Ends.{fail_meaning}
+use Rattle.nom_combinator.specs.Ends.{fail_meaning}
 use Rattle.nom_operators.specs.declared.operation.Assoc.{Assoc}
 use Rattle.nom_operators.specs.declared.operation.Assoc.TheVariants.{Left, Right}
 use Rattle.nom_operators.specs.declared.operation.Operation.{Operation}

@@ -9,7 +9,7 @@ use Rattle.nom_bytes.specs.Predicates.{IsFixed}
 use Rattle.nom_character.specs.ClassRuns.{class_meaning}
 use Rattle.nom_character_first.specs.FirstItem.{satisfy_meaning}
 use Rattle.nom_combinator.specs.Verdicts.{cut_meaning, opt_meaning, peek_meaning}
-use Rattle.nom_ends.specs.Ends.{fail_meaning}
+use Rattle.nom_combinator.specs.Ends.{fail_meaning}
 use Rattle.nom_bytes_escaped.specs.Escapes.{escaped_meaning}
 use Rattle.nom.specs.Grammar.{sliced, valued}
 use Rattle.nom.specs.Texts.{Text, TextGrammar, alt_of, char_of, delimited_of, digit1_of, plain_errors, map_of, opt_of, or_of, pair_of, preceded_of, tag_of}

@@ -2,12 +2,13 @@
 use Rattle.std.specs.Prelude.{◌≡◌, ℕ, ◌+◌, ◌-◌, ◌*◌, ◌<◌, ◌≤◌, ◌==◌, ◌⊎◌}
 use Rattle.std.specs.Prelude.{if◌then◌else◌, cond, true, List, length, Option, Some, String, chars, codes, encode_utf8, encode_utf8_all, string_bytes}
 use Rattle.std.specs.List.{All}
-use Rattle.std.specs.Option.{SomeIff, is_some}
+use Rattle.std.specs.Option.{SomeIff}
 use Rattle.std.specs.Char.{IsScalar}
 use Rattle.std.specs.Str.Parse.{digits_value}
 use Rattle.std.specs.Cow.{IsBorrowedStr, cow_str_bytes}
 use Rattle.std.specs.declared.borrow.CowStr.{CowStr}
-use Rattle.nom_internal.specs.Prelude.{ErrorKind, text_model, GivesFor, judged_meaning}
+use Rattle.nom_internal.specs.Prelude.{ErrorKind, text_model}
+use Rattle.nom_internal.specs.Judged.{map_opt_by}
 use Rattle.nom_error.specs.declared.kind.ErrorKind.TheVariants as Kind
 use Rattle.nom_bytes_escaped.specs.declared.next_piece.Piece.{Piece}
 use Rattle.nom_bytes_escaped.specs.Escapes.{escaped_transform_meaning}
@@ -45,10 +46,7 @@ IsJoined digits r = SomeIff r (IsHigh (four_of digits.0) × IsLow (four_of digit
 
 -- what is given for an output; where that is nothing, the input is refused
 abbrev pub map_opt_of : {V O P : Type 0} → (O → Option P → Type 0) → TextGrammar V O → TextGrammar V P
-map_opt_of Gives g = record {
-  meaning = judged_meaning g.IsOutput (λ _. Unit {0}) Gives is_some (λ i _. plain_errors.of_kind i Kind.MapOpt) plain_errors.grows g.meaning;
-  IsOutput = GivesFor g.IsOutput (λ o p. Gives o (Some p));
-}
+map_opt_of = map_opt_by plain_errors (λ _. Unit {0})
 
 -- a letter or four digits after a backslash, or two times four, as the character that they stand for
 abbrev pub EscapeTree : Type 0

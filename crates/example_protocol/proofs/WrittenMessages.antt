@@ -5,10 +5,20 @@ use Rattle.nom_error.specs.declared.value.Error.{Error}
 use Rattle.nom_growing.specs.Growing.{AnswersOn, IsBeginning, IsGrown}
 use Rattle.nom_growing.specs.Growing.AnswersOn.{RanOutOn, ShownOn}
 use Rattle.nom_growing.specs.Growing.IsBeginning.{AtCut, AtEnd}
-use Rattle.nom_growing.specs.Promises.{HasNoFailure}
-use Rattle.nom.specs.Bytes.{Bytes, BytesGrammar, Endianness, Big}
+use Rattle.nom_internal.specs.Promises.{HasNoFailure}
+use Rattle.nom.specs.Bytes.{Bytes, BytesGrammar, Endianness, Big, all_consuming_of, alt_of, length_data_of, length_value_of, many0_of, map_of, number_of}
+use Rattle.nom.specs.Bytes.{or_of, pair_of, preceded_of, tag_of, terminated_of}
 use Rattle.example_protocol.specs.declared.message.Message.{Message}
-use Rattle.example_protocol.specs.Messages.{Body, messages_of, written_of}
+use Rattle.example_protocol.specs.declared.message.Message.TheVariants.{Ping, Text, Close}
+use Rattle.example_protocol.specs.Messages.{Body, messages_of}
+
+-- the grammar, by which bytes each kind begins and the messages end, and by the orders of numbers of several bytes
+abbrev written_of : {M : Type 0} → (ping text close end : List ℕ) → (length_endian number_endian : Endianness) → BytesGrammar (List Body) (Vec Message M)
+written_of ping text close end length_endian number_endian =
+    let first = map_of (λ o. Ping o.1) (pair_of (tag_of ping) (number_of number_endian 4)) in
+    let second = map_of Text (preceded_of (tag_of text) (length_data_of (number_of Big 1))) in
+    let body = alt_of (or_of (or_of first second) (map_of (λ _. Close) (tag_of close))) in
+    terminated_of (many0_of (length_value_of (number_of length_endian 2) (all_consuming_of body))) (tag_of end)
 
 -- what holds of the grammar by its parts holds of the grammar
 pub by_its_parts : {M : Type 0} (P : BytesGrammar (List Body) (Vec Message M) → Type 0) (ping text close end : List ℕ) (l n : Endianness) →

@@ -3,7 +3,7 @@ use Rattle.std.specs.Prelude.{◌≡◌, ℕ, ◌⊎◌, true, List, [], ◌∷�
 use Rattle.nom_internal.specs.Prelude.{IResult, OutOfMemory, bytes_model, Slice, Outcome, ParsesOutcome}
 use Rattle.nom_error.specs.declared.value.Error.{Error}
 use Rattle.nom.specs.Bytes.{Bytes, BytesGrammar, all_consuming_of, alt_of, length_data_of, length_value_of, many0_of, map_of, number_of, or_of}
-use Rattle.nom.specs.Bytes.{pair_of, preceded_of, tag_of, terminated_of, Endianness, Big}
+use Rattle.nom.specs.Bytes.{pair_of, preceded_of, tag_of, terminated_of, Big}
 use Rattle.example_protocol.specs.declared.message.Message.{Message}
 use Rattle.example_protocol.specs.declared.message.Message.TheVariants.{Ping, Text, Close}
 
@@ -11,20 +11,16 @@ use Rattle.example_protocol.specs.declared.message.Message.TheVariants.{Ping, Te
 abbrev pub Body : Type 0
 Body = ((Slice bytes_model × ℕ) ⊎ (ℕ × Slice bytes_model)) ⊎ Slice bytes_model
 
--- By which bytes each kind begins and the messages end, and the orders of numbers of several bytes.
-module _ (ping text close end : List ℕ) (length_endian number_endian : Endianness) where
-  abbrev pub body_of : BytesGrammar Body Message
-  body_of = alt_of (or_of (or_of
-      (map_of (λ o. Ping o.1) (pair_of (tag_of ping) (number_of number_endian 4)))
-      (map_of Text (preceded_of (tag_of text) (length_data_of (number_of Big 1)))))
-      (map_of (λ _. Close) (tag_of close)))
+-- each kind by the byte that it begins with
+abbrev pub body_of : BytesGrammar Body Message
+body_of = alt_of (or_of (or_of
+    (map_of (λ o. Ping o.1) (pair_of (tag_of (1 ∷ [])) (number_of Big 4)))
+    (map_of Text (preceded_of (tag_of (2 ∷ [])) (length_data_of (number_of Big 1)))))
+    (map_of (λ _. Close) (tag_of (3 ∷ []))))
 
-  -- messages, each a body after its length, and an end
-  abbrev pub written_of : {M : Type 0} → BytesGrammar (List Body) (Vec Message M)
-  written_of = terminated_of (many0_of (length_value_of (number_of length_endian 2) (all_consuming_of body_of))) (tag_of end)
-
+-- messages, each a body after its length, and an end
 abbrev pub messages_of : {M : Type 0} → BytesGrammar (List Body) (Vec Message M)
-messages_of = written_of (1 ∷ []) (2 ∷ []) (3 ∷ []) (0 ∷ 0 ∷ []) Big Big
+messages_of = terminated_of (many0_of (length_value_of (number_of Big 2) (all_consuming_of body_of))) (tag_of (0 ∷ 0 ∷ []))
 
 -- What is answered is what the grammar makes of the whole, running out of memory aside: nothing tells where the cuts were, but an error, which
 -- holds the input as it was on a beginning.

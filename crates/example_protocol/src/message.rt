@@ -2,7 +2,7 @@
 ghost use Rattle.std.specs.Prelude.{◌≡◌};
 ghost use Rattle.nom_internal.specs.Prelude.{bytes_model};
 ghost use Rattle.nom_growing.specs.Growing.{AreCuts, IsGrown};
-ghost use Rattle.nom_growing.specs.Promises.{HasNoFailure};
+ghost use Rattle.nom_internal.specs.Promises.{HasNoFailure};
 ghost use Rattle.example_protocol.specs.Messages.{TellsWhole, messages_of};
 ghost use Rattle.example_protocol.specs.declared.message.Message.TheVariants.{Ping, Text, Close};
 
@@ -12,9 +12,8 @@ use nom::combinator::{all_consuming, map};
 use nom::error::Error;
 use nom::multi::{length_data, length_value, many0};
 use nom::number::{be_u8, be_u16, be_u32};
-use nom::promises::has_no_failure;
 use nom::sequence::{pair, preceded, terminated};
-use nom::{Grown, Input, Items, StreamParser, Viewed, parse_growing};
+use nom::{Grown, Items, Viewed, parse_growing};
 use std::alloc::Allocator;
 
 /// A message.
@@ -46,23 +45,6 @@ fn close<'a>(_kind: &'a [u8]) -> Message<'a>
     ensures { result ≡ Close }
 {
     Message::Close
-}
-
-/// What a parser answers of an input that grows, and that it never fails: by one call, since each call with a
-/// concrete parser spells out all that the parser is made of.
-fn unfailing<I: Input, P: StreamParser<I> + Drop>(
-    parser: P,
-    input: I,
-    cuts: &[usize],
-) -> Grown<I, P::Output, P::Error>
-    requires runs { (P.grammar (P.state parser)).meaning.Runs }
-    requires sound { (P.grammar (P.state parser)).meaning.IsSound }
-    requires cuts { AreCuts I.model input cuts.now }
-    ensures grown { IsGrown I.model (P.grammar (P.state parser)).IsOutput (P.grammar (P.state parser)).meaning input cuts.now result.index result.result }
-    ensures failures { HasNoFailure I.model (P.grammar (P.state parser)).meaning }
-{
-    has_no_failure(&parser);
-    parse_growing(parser, input, cuts)
 }
 
 /// The messages of a source, of which each number of `cuts` tells how many bytes were there when it gave the
@@ -97,5 +79,5 @@ pub fn messages<'a, A: Allocator + Copy>(
     let message = length_value(be_u16(), body);
     let end = tag::<_, _, Error<&[u8]>>(&b"\0\0"[..]);
     let stream = terminated(many0(alloc, message), end);
-    unfailing(stream, bytes, cuts)
+    parse_growing(stream, bytes, cuts)
 }

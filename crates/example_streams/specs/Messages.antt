@@ -1,22 +1,18 @@
 -- The messages of `example_protocol`, as they are received.
-use Rattle.std.specs.Prelude.{ℕ, List, [], ◌∷◌, length}
-use Rattle.nom.specs.Bytes.{BytesGrammar, Endianness, Big, all_consuming_of, alt_of, length_data_of, length_value_of, map_of, number_of, or_of}
+use Rattle.std.specs.Prelude.{[], ◌∷◌, length}
+use Rattle.nom.specs.Bytes.{BytesGrammar, Big, all_consuming_of, alt_of, length_data_of, length_value_of, map_of, number_of, or_of}
 use Rattle.nom.specs.Bytes.{pair_of, preceded_of, tag_of}
 use Rattle.example_protocol.specs.Messages.{Body}
 use Rattle.example_streams.specs.declared.messages.Received.{Received}
 use Rattle.example_streams.specs.declared.messages.Received.TheVariants.{Ping, Text, Close}
 
--- By which bytes each kind begins, and the orders of numbers of several bytes.
-module _ (ping text close : List ℕ) (length_endian number_endian : Endianness) where
-  abbrev pub body_of : BytesGrammar Body Received
-  body_of = alt_of (or_of (or_of
-      (map_of (λ o. Ping o.1) (pair_of (tag_of ping) (number_of number_endian 4)))
-      (map_of (λ bytes. Text (length bytes.now)) (preceded_of (tag_of text) (length_data_of (number_of Big 1)))))
-      (map_of (λ _. Close) (tag_of close)))
+-- each kind by the byte that it begins with
+abbrev pub body_of : BytesGrammar Body Received
+body_of = alt_of (or_of (or_of
+    (map_of (λ o. Ping o.1) (pair_of (tag_of (1 ∷ [])) (number_of Big 4)))
+    (map_of (λ bytes. Text (length bytes.now)) (preceded_of (tag_of (2 ∷ [])) (length_data_of (number_of Big 1)))))
+    (map_of (λ _. Close) (tag_of (3 ∷ []))))
 
-  -- a body after its length
-  abbrev pub written_of : BytesGrammar Body Received
-  written_of = length_value_of (number_of length_endian 2) (all_consuming_of body_of)
-
+-- a body after its length
 abbrev pub message_of : BytesGrammar Body Received
-message_of = written_of (1 ∷ []) (2 ∷ []) (3 ∷ []) Big Big
+message_of = length_value_of (number_of Big 2) (all_consuming_of body_of)

@@ -1,27 +1,19 @@
 -- Grammars over slices of bytes, with `Error`: the words of `Grammar` and `Leaves` for `&[u8]`.
-use Rattle.std.specs.Prelude.{◌≡◌, ℕ, ◌-◌, Some, length, Bool, ◌⊎◌, List, Option, Vec}
+use Rattle.std.specs.Prelude.{ℕ, ℤ, ◌-◌, Some, length, Bool, ◌⊎◌, List, Option, Vec}
+use Rattle.std.specs.Int.{Width}
 use Rattle.std.specs.Borrow.{Bor}
-use Rattle.nom_internal.specs.Prelude.{IResult, Errors, bytes_model, Slice, ComparesBytes, View}
-use Rattle.nom_error.specs.declared.kind.ErrorKind.TheVariants.{Char}
+use Rattle.nom_internal.specs.Prelude.{IResult, bytes_model, Slice, ComparesBytes, ComparesBytesNoCase, View}
 use Rattle.nom_error.specs.declared.value.Error.{Error}
+pub use Rattle.nom_error.specs.PlainErrors.{plain_errors}
 pub use Rattle.nom_number.specs.declared.order.Endianness.{Endianness}
 pub use Rattle.nom_number.specs.declared.order.Endianness.TheVariants.{Big, Little, Native}
+use Rattle.nom_search.specs.Substrings.{FindsBytes}
 use Rattle.nom.specs.Grammar as Grammars
 use Rattle.nom.specs.Grammar.{Grammar}
 use Rattle.nom.specs.Leaves as Leaves
 
 abbrev pub Bytes : Type 0
 Bytes = Bor (List ℕ)
-
--- the errors of `Error`: the input where it refuses, and the kind
-abbrev pub plain_errors : Errors Bytes (Error Bytes)
-plain_errors = record {
-  of_kind = λ i kind e. e ≡ record { input = i; code = kind };
-  appended = λ _ _ other e. e ≡ other;
-  of_char = λ i _ e. e ≡ record { input = i; code = Char };
-  joined = λ _ other e. e ≡ other;
-  grows = ⊥;
-}
 
 abbrev pub BytesGrammar : (V O : Type 0) → Type 1
 BytesGrammar V O = Grammar Bytes V O (Error Bytes)
@@ -145,3 +137,133 @@ length_data_of = Grammars.length_data_of bytes_model plain_errors (λ count xs. 
 
 abbrev pub length_value_of : {V U O : Type 0} → BytesGrammar V ℕ → BytesGrammar U O → BytesGrammar U O
 length_value_of = Grammars.length_value_of bytes_model plain_errors
+
+-- without regard to the case of ASCII letters
+abbrev pub tag_no_case_of : List ℕ → BytesGrammar (Slice bytes_model) Bytes
+tag_no_case_of = Leaves.tag_of bytes_model plain_errors ComparesBytesNoCase
+
+-- the items before the first place of a needle; the other asks for one at least
+abbrev pub take_until_of : List ℕ → BytesGrammar (Slice bytes_model) Bytes
+take_until_of = Leaves.take_until_of bytes_model plain_errors FindsBytes
+
+abbrev pub take_until1_of : List ℕ → BytesGrammar (Slice bytes_model) Bytes
+take_until1_of = Leaves.take_until1_of bytes_model plain_errors FindsBytes
+
+abbrev pub take_while_of : (ℕ → Bool) → BytesGrammar (Slice bytes_model) Bytes
+take_while_of = Leaves.take_while_of bytes_model plain_errors
+
+abbrev pub take_till_of : (ℕ → Bool) → BytesGrammar (Slice bytes_model) Bytes
+take_till_of = Leaves.take_till_of bytes_model plain_errors
+
+abbrev pub take_till1_of : (ℕ → Bool) → BytesGrammar (Slice bytes_model) Bytes
+take_till1_of = Leaves.take_till1_of bytes_model plain_errors
+
+abbrev pub take_while_m_n_of : (m n : ℕ) → (ℕ → Bool) → BytesGrammar (Slice bytes_model) Bytes
+take_while_m_n_of = Leaves.take_while_m_n_of bytes_model plain_errors
+
+abbrev pub satisfy_of : (ℕ → Bool) → BytesGrammar ℕ ℕ
+satisfy_of = Leaves.satisfy_of bytes_model plain_errors
+
+abbrev pub one_of_of : List ℕ → BytesGrammar ℕ ℕ
+one_of_of set = Leaves.one_of_of bytes_model plain_errors set
+
+abbrev pub none_of_of : List ℕ → BytesGrammar ℕ ℕ
+none_of_of set = Leaves.none_of_of bytes_model plain_errors set
+
+abbrev pub anychar_of : BytesGrammar ℕ ℕ
+anychar_of = Leaves.anychar_of bytes_model plain_errors
+
+abbrev pub crlf_of : BytesGrammar (Slice bytes_model) Bytes
+crlf_of = Leaves.crlf_of bytes_model plain_errors
+
+abbrev pub line_ending_of : BytesGrammar (Slice bytes_model) Bytes
+line_ending_of = Leaves.line_ending_of bytes_model plain_errors
+
+abbrev pub not_line_ending_of : BytesGrammar (Slice bytes_model) Bytes
+not_line_ending_of = Leaves.not_line_ending_of bytes_model plain_errors
+
+-- runs of a class of ASCII characters
+abbrev pub alpha0_of : BytesGrammar (Slice bytes_model) Bytes
+alpha0_of = Leaves.alpha0_of bytes_model plain_errors
+
+abbrev pub alpha1_of : BytesGrammar (Slice bytes_model) Bytes
+alpha1_of = Leaves.alpha1_of bytes_model plain_errors
+
+abbrev pub digit0_of : BytesGrammar (Slice bytes_model) Bytes
+digit0_of = Leaves.digit0_of bytes_model plain_errors
+
+abbrev pub hex_digit0_of : BytesGrammar (Slice bytes_model) Bytes
+hex_digit0_of = Leaves.hex_digit0_of bytes_model plain_errors
+
+abbrev pub hex_digit1_of : BytesGrammar (Slice bytes_model) Bytes
+hex_digit1_of = Leaves.hex_digit1_of bytes_model plain_errors
+
+abbrev pub oct_digit0_of : BytesGrammar (Slice bytes_model) Bytes
+oct_digit0_of = Leaves.oct_digit0_of bytes_model plain_errors
+
+abbrev pub oct_digit1_of : BytesGrammar (Slice bytes_model) Bytes
+oct_digit1_of = Leaves.oct_digit1_of bytes_model plain_errors
+
+abbrev pub bin_digit0_of : BytesGrammar (Slice bytes_model) Bytes
+bin_digit0_of = Leaves.bin_digit0_of bytes_model plain_errors
+
+abbrev pub bin_digit1_of : BytesGrammar (Slice bytes_model) Bytes
+bin_digit1_of = Leaves.bin_digit1_of bytes_model plain_errors
+
+abbrev pub alphanumeric0_of : BytesGrammar (Slice bytes_model) Bytes
+alphanumeric0_of = Leaves.alphanumeric0_of bytes_model plain_errors
+
+abbrev pub alphanumeric1_of : BytesGrammar (Slice bytes_model) Bytes
+alphanumeric1_of = Leaves.alphanumeric1_of bytes_model plain_errors
+
+abbrev pub space0_of : BytesGrammar (Slice bytes_model) Bytes
+space0_of = Leaves.space0_of bytes_model plain_errors
+
+abbrev pub space1_of : BytesGrammar (Slice bytes_model) Bytes
+space1_of = Leaves.space1_of bytes_model plain_errors
+
+abbrev pub multispace0_of : BytesGrammar (Slice bytes_model) Bytes
+multispace0_of = Leaves.multispace0_of bytes_model plain_errors
+
+abbrev pub multispace1_of : BytesGrammar (Slice bytes_model) Bytes
+multispace1_of = Leaves.multispace1_of bytes_model plain_errors
+
+-- decimal integers: `decimal_of 32` is `u32()`, and `signed_decimal_of w32` is `i32()`
+abbrev pub decimal_of : (bits : ℕ) → BytesGrammar ℤ ℕ
+decimal_of = Leaves.decimal_of bytes_model plain_errors
+
+abbrev pub signed_decimal_of : Width → BytesGrammar ℤ ℤ
+signed_decimal_of = Leaves.signed_decimal_of bytes_model plain_errors
+
+abbrev pub hex_u32_of : BytesGrammar ℕ ℕ
+hex_u32_of = Leaves.hex_u32_of bytes_model plain_errors
+
+abbrev pub recognize_float_of : BytesGrammar (Slice bytes_model) Bytes
+recognize_float_of = Leaves.recognize_float_of bytes_model plain_errors
+
+abbrev pub eof_of : BytesGrammar (Slice bytes_model) Bytes
+eof_of = Leaves.eof_of bytes_model plain_errors
+
+abbrev pub rest_of : BytesGrammar (Slice bytes_model) Bytes
+rest_of = Leaves.rest_of bytes_model plain_errors
+
+abbrev pub rest_len_of : BytesGrammar ℕ ℕ
+rest_len_of = Leaves.rest_len_of bytes_model plain_errors
+
+abbrev pub fail_of : {V : Type 0} → BytesGrammar V V
+fail_of = Leaves.fail_of plain_errors
+
+abbrev pub verify_of : {V O : Type 0} → (O → Bool) → BytesGrammar V O → BytesGrammar V O
+verify_of = Grammars.verify_of plain_errors
+
+abbrev pub map_opt_of : {V O P : Type 0} → (O → Option P) → BytesGrammar V O → BytesGrammar V P
+map_opt_of = Grammars.map_opt_of plain_errors
+
+abbrev pub value_of : {V O P : Type 0} → P → BytesGrammar V O → BytesGrammar P P
+value_of = Grammars.value_of
+
+abbrev pub signed_number_of : Endianness → ℕ → BytesGrammar ℤ ℤ
+signed_number_of = Leaves.signed_number_of bytes_model plain_errors
+
+abbrev pub length_count_of : {V U P M : Type 0} → BytesGrammar V ℕ → BytesGrammar U P → BytesGrammar (List U) (Vec P M)
+length_count_of = Grammars.length_count_of bytes_model plain_errors

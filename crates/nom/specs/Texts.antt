@@ -1,25 +1,18 @@
 -- Grammars over texts, with `Error`: the words of `Grammar` and `Leaves` for `&str`.
-use Rattle.std.specs.Prelude.{◌≡◌, ℕ, None, Bool, ◌⊎◌, List, Option, Vec, chars}
+use Rattle.std.specs.Prelude.{ℕ, ℤ, None, Bool, ◌⊎◌, List, Option, Vec, chars}
+use Rattle.std.specs.Char.{len_utf8}
+use Rattle.std.specs.Int.{Width}
 use Rattle.std.specs.Borrow.{Bor}
-use Rattle.nom_internal.specs.Prelude.{IResult, Errors, text_model, ComparesText, Slice, View}
-use Rattle.nom_error.specs.declared.kind.ErrorKind.TheVariants.{Char}
+use Rattle.nom_internal.specs.Prelude.{IResult, text_model, ComparesText, ComparesTextNoCase, Slice, View}
 use Rattle.nom_error.specs.declared.value.Error.{Error}
+pub use Rattle.nom_error.specs.PlainErrors.{plain_errors}
+use Rattle.nom_search.specs.Substrings.{FindsFirst}
 use Rattle.nom.specs.Grammar as Grammars
 use Rattle.nom.specs.Grammar.{Grammar}
 use Rattle.nom.specs.Leaves as Leaves
 
 abbrev pub Text : Type 0
 Text = Bor (List ℕ)
-
--- the errors of `Error`: the input where it refuses, and the kind
-abbrev pub plain_errors : Errors Text (Error Text)
-plain_errors = record {
-  of_kind = λ i kind e. e ≡ record { input = i; code = kind };
-  appended = λ _ _ other e. e ≡ other;
-  of_char = λ i _ e. e ≡ record { input = i; code = Char };
-  joined = λ _ other e. e ≡ other;
-  grows = ⊥;
-}
 
 abbrev pub TextGrammar : (V O : Type 0) → Type 1
 TextGrammar V O = Grammar Text V O (Error Text)
@@ -132,3 +125,130 @@ take_while1_of = Leaves.take_while1_of text_model plain_errors
 
 abbrev pub all_consuming_of : {V O : Type 0} → TextGrammar V O → TextGrammar V O
 all_consuming_of = Grammars.all_consuming_of text_model plain_errors
+
+-- without regard to the case of ASCII letters
+abbrev pub tag_no_case_of : List ℕ → TextGrammar (Slice text_model) Text
+tag_no_case_of = Leaves.tag_of text_model plain_errors ComparesTextNoCase
+
+-- the items before the first place of a needle; the other asks for one at least
+abbrev pub take_until_of : List ℕ → TextGrammar (Slice text_model) Text
+take_until_of needle = Leaves.take_until_of text_model plain_errors (FindsFirst len_utf8) (chars needle)
+
+abbrev pub take_until1_of : List ℕ → TextGrammar (Slice text_model) Text
+take_until1_of needle = Leaves.take_until1_of text_model plain_errors (FindsFirst len_utf8) (chars needle)
+
+abbrev pub take_while_of : (ℕ → Bool) → TextGrammar (Slice text_model) Text
+take_while_of = Leaves.take_while_of text_model plain_errors
+
+abbrev pub take_till_of : (ℕ → Bool) → TextGrammar (Slice text_model) Text
+take_till_of = Leaves.take_till_of text_model plain_errors
+
+abbrev pub take_till1_of : (ℕ → Bool) → TextGrammar (Slice text_model) Text
+take_till1_of = Leaves.take_till1_of text_model plain_errors
+
+abbrev pub take_while_m_n_of : (m n : ℕ) → (ℕ → Bool) → TextGrammar (Slice text_model) Text
+take_while_m_n_of = Leaves.take_while_m_n_of text_model plain_errors
+
+abbrev pub satisfy_of : (ℕ → Bool) → TextGrammar ℕ ℕ
+satisfy_of = Leaves.satisfy_of text_model plain_errors
+
+abbrev pub one_of_of : List ℕ → TextGrammar ℕ ℕ
+one_of_of set = Leaves.one_of_of text_model plain_errors (chars set)
+
+abbrev pub none_of_of : List ℕ → TextGrammar ℕ ℕ
+none_of_of set = Leaves.none_of_of text_model plain_errors (chars set)
+
+abbrev pub anychar_of : TextGrammar ℕ ℕ
+anychar_of = Leaves.anychar_of text_model plain_errors
+
+abbrev pub crlf_of : TextGrammar (Slice text_model) Text
+crlf_of = Leaves.crlf_of text_model plain_errors
+
+abbrev pub line_ending_of : TextGrammar (Slice text_model) Text
+line_ending_of = Leaves.line_ending_of text_model plain_errors
+
+abbrev pub not_line_ending_of : TextGrammar (Slice text_model) Text
+not_line_ending_of = Leaves.not_line_ending_of text_model plain_errors
+
+-- runs of a class of ASCII characters
+abbrev pub alpha0_of : TextGrammar (Slice text_model) Text
+alpha0_of = Leaves.alpha0_of text_model plain_errors
+
+abbrev pub alpha1_of : TextGrammar (Slice text_model) Text
+alpha1_of = Leaves.alpha1_of text_model plain_errors
+
+abbrev pub digit0_of : TextGrammar (Slice text_model) Text
+digit0_of = Leaves.digit0_of text_model plain_errors
+
+abbrev pub hex_digit0_of : TextGrammar (Slice text_model) Text
+hex_digit0_of = Leaves.hex_digit0_of text_model plain_errors
+
+abbrev pub hex_digit1_of : TextGrammar (Slice text_model) Text
+hex_digit1_of = Leaves.hex_digit1_of text_model plain_errors
+
+abbrev pub oct_digit0_of : TextGrammar (Slice text_model) Text
+oct_digit0_of = Leaves.oct_digit0_of text_model plain_errors
+
+abbrev pub oct_digit1_of : TextGrammar (Slice text_model) Text
+oct_digit1_of = Leaves.oct_digit1_of text_model plain_errors
+
+abbrev pub bin_digit0_of : TextGrammar (Slice text_model) Text
+bin_digit0_of = Leaves.bin_digit0_of text_model plain_errors
+
+abbrev pub bin_digit1_of : TextGrammar (Slice text_model) Text
+bin_digit1_of = Leaves.bin_digit1_of text_model plain_errors
+
+abbrev pub alphanumeric0_of : TextGrammar (Slice text_model) Text
+alphanumeric0_of = Leaves.alphanumeric0_of text_model plain_errors
+
+abbrev pub alphanumeric1_of : TextGrammar (Slice text_model) Text
+alphanumeric1_of = Leaves.alphanumeric1_of text_model plain_errors
+
+abbrev pub space0_of : TextGrammar (Slice text_model) Text
+space0_of = Leaves.space0_of text_model plain_errors
+
+abbrev pub space1_of : TextGrammar (Slice text_model) Text
+space1_of = Leaves.space1_of text_model plain_errors
+
+abbrev pub multispace0_of : TextGrammar (Slice text_model) Text
+multispace0_of = Leaves.multispace0_of text_model plain_errors
+
+abbrev pub multispace1_of : TextGrammar (Slice text_model) Text
+multispace1_of = Leaves.multispace1_of text_model plain_errors
+
+-- decimal integers: `decimal_of 32` is `u32()`, and `signed_decimal_of w32` is `i32()`
+abbrev pub decimal_of : (bits : ℕ) → TextGrammar ℤ ℕ
+decimal_of = Leaves.decimal_of text_model plain_errors
+
+abbrev pub signed_decimal_of : Width → TextGrammar ℤ ℤ
+signed_decimal_of = Leaves.signed_decimal_of text_model plain_errors
+
+abbrev pub hex_u32_of : TextGrammar ℕ ℕ
+hex_u32_of = Leaves.hex_u32_of text_model plain_errors
+
+abbrev pub recognize_float_of : TextGrammar (Slice text_model) Text
+recognize_float_of = Leaves.recognize_float_of text_model plain_errors
+
+abbrev pub eof_of : TextGrammar (Slice text_model) Text
+eof_of = Leaves.eof_of text_model plain_errors
+
+abbrev pub rest_of : TextGrammar (Slice text_model) Text
+rest_of = Leaves.rest_of text_model plain_errors
+
+abbrev pub rest_len_of : TextGrammar ℕ ℕ
+rest_len_of = Leaves.rest_len_of text_model plain_errors
+
+abbrev pub fail_of : {V : Type 0} → TextGrammar V V
+fail_of = Leaves.fail_of plain_errors
+
+abbrev pub verify_of : {V O : Type 0} → (O → Bool) → TextGrammar V O → TextGrammar V O
+verify_of = Grammars.verify_of plain_errors
+
+abbrev pub map_opt_of : {V O P : Type 0} → (O → Option P) → TextGrammar V O → TextGrammar V P
+map_opt_of = Grammars.map_opt_of plain_errors
+
+abbrev pub value_of : {V O P : Type 0} → P → TextGrammar V O → TextGrammar P P
+value_of = Grammars.value_of
+
+abbrev pub length_count_of : {V U P M : Type 0} → TextGrammar V ℕ → TextGrammar U P → TextGrammar (List U) (Vec P M)
+length_count_of = Grammars.length_count_of text_model plain_errors

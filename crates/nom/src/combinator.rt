@@ -2,11 +2,9 @@
 
 pub use nom_alloc::{MapAlloc, ValueAlloc, map_alloc, value_alloc};
 pub use nom_combinator::{
-    Cond, Consumed, Cut, MakeComplete, Not, Opt, Peek, Recognize, Value, Verify, complete, cond,
-    consumed, cut, flat_map, into, map, map_opt, map_parser, map_res, not, opt, peek, recognize,
-    value, verify,
-};
-pub use nom_ends::{
-    AllConsuming, Fail, Success, all_consuming, eof, fail, rest, rest_len, success,
+    AllConsuming, Cond, Consumed, Cut, Fail, MakeComplete, Not, Opt, Peek, Recognize, Success,
+    Value, Verify, all_consuming, complete, cond, consumed, cut, eof, fail, flat_map, into, map,
+    map_opt, map_parser, map_res, not, opt, peek, recognize, rest, rest_len, success, value,
+    verify,
 };
 pub use nom_iterator::{ParserIterator, State, iterator};

@@ -18,7 +18,6 @@ pub mod sequence;
 
 pub use nom_bits::convert::ErrorConvert;
 pub use nom_bits::number::BitUint;
-pub use nom_build::collection::{Collection, ViewedCollection};
 pub use nom_error::answer::{Err, IResult, Needed, OutOfMemory, PResult};
 pub use nom_error::finish::{Finish, FinishError};
 pub use nom_error::mode::{
@@ -42,6 +41,7 @@ pub use nom_parse_to::parse::ParseTo;
 pub use nom_ranges::range::NomRange;
 pub use nom_ranges::saturating::SaturatingIterator;
 pub use nom_search::bytes::{AsBytes, ByteItems};
+pub use nom_search::collection::{Collection, ViewedCollection};
 pub use nom_search::extend::{Builder, ExtendInto};
 pub use nom_search::substring::FindSubstring;
 pub use nom_search::token::FindToken;

@@ -5,7 +5,7 @@ pub use nom_combinator::promises::{
     complete_never_waits, consumed_gives_front, cut_never_refuses, not_consumes_nothing,
     opt_never_refuses, peek_consumes_nothing, recognize_gives_front,
 };
-pub use nom_growing::promises::{
+pub use nom_internal::promises::{
     accepts_fronts, answers_complete, answers_stay, has_no_failure, has_one_outcome,
     is_complete_too, never_runs_out, stays_on_longer,
 };
@@ -20,10 +20,10 @@ pub use nom_multi::promises::{
     count_accepts, has_few_items, many_m_n_accepts, many_till_accepts, many0_accepts,
     many1_accepts, refuses_at_empty,
 };
+pub use nom_multi::separated_promises::{separated_list0_accepts, separated_list1_accepts};
 pub use nom_multi_fold::promises::{
     fold_accepts, fold_many_m_n_accepts, fold_many0_accepts, fold_many1_accepts, many_accepts,
     many_m_n_count_accepts, many0_count_accepts, many1_count_accepts, many1_count_counts,
 };
 pub use nom_multi_length::promises::length_count_accepts;
-pub use nom_multi_separated::promises::{separated_list0_accepts, separated_list1_accepts};
 pub use nom_permutation::promises::applies_each_once;

@@ -1,2 +1,4 @@
 pub mod Alternatives
 pub mod laws
+pub mod Lists
+pub mod Sound

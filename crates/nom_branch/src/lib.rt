@@ -4,6 +4,7 @@
 ghost use Rattle.std.specs.Prelude.{◌≡◌};
 
 mod choice;
+mod choose;
 mod lists;
 mod tuples;
 mod wide;

@@ -1,9 +1,9 @@
 //! Choices among parsers of one type, in an array or a slice.
 ghost use Rattle.std.specs.Prelude.{ℕ, List, map};
-ghost use Rattle.nom_branch_list.specs.Lists.{Each, list_of};
+ghost use Rattle.nom_branch.specs.Lists.{Each, list_of};
 
 use crate::choice::Choice;
-use nom_branch_list::choose;
+use crate::choose::choose;
 use nom_error::answer::PResult;
 use nom_error::mode::OutputMode;
 use nom_internal::parser::{Parser, StreamParser};

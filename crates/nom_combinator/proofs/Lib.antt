@@ -3,3 +3,5 @@ pub mod Judged
 pub mod Conditional
 pub mod Contextual
 pub mod Promised
+pub mod Rests
+pub mod WholeLeft

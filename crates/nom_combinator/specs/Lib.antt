@@ -4,3 +4,4 @@ pub mod Outputs
 pub mod Promises
 pub mod Verdicts
 pub mod laws
+pub mod Ends

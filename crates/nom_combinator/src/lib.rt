@@ -4,6 +4,10 @@
 ghost use Rattle.std.specs.Prelude.{◌≡◌, Some, None, true, false};
 
 mod condition;
+mod consuming;
+pub mod ends;
+pub mod fixed;
+pub mod left;
 mod named;
 mod outputs;
 mod piece;
@@ -11,6 +15,9 @@ pub mod promises;
 mod verdict;
 
 pub use crate::condition::Cond;
+pub use crate::consuming::AllConsuming;
+pub use crate::ends::{all_consuming, eof, fail, rest, rest_len, success};
+pub use crate::fixed::{Fail, Success};
 pub use crate::named::Context;
 pub use crate::outputs::{Value, Verify};
 pub use crate::piece::{Consumed, Recognize};

@@ -4,3 +4,4 @@ pub mod Errors
 pub mod Inputs
 pub mod Kinds
 pub mod Modes
+pub mod PlainErrors

@@ -2,10 +2,10 @@
 ghost use Rattle.std.specs.Prelude.{◌≡◌, ℕ, ◌++◌, MatchResult, Some, codes};
 ghost use Rattle.std.specs.Fmt.{◌++?◌};
 ghost use Rattle.nom_error.specs.declared.kind.ErrorKind.{ErrorKind};
-ghost use Rattle.nom_error.specs.declared.kind.ErrorKind.TheVariants.{Char};
 ghost use Rattle.nom_error.specs.Answers.{Refuses};
 ghost use Rattle.nom_error.specs.Errors.{Errors};
 ghost use Rattle.nom_error.specs.Kinds.{name_of};
+ghost use Rattle.nom_error.specs.PlainErrors.{plain_errors};
 
 use crate::answer::{Err, OutOfMemory};
 use crate::kind::ErrorKind;
@@ -47,14 +47,7 @@ impl<I> Error<I> {
 }
 
 impl<I: Drop> ParseError<I> for Error<I> {
-    // The error from below is kept, and of two the second.
-    ghost errors = { record {
-      of_kind = λ i k e. e ≡ record { input = i; code = k };
-      appended = λ _ _ other e. e ≡ other;
-      of_char = λ i _ e. e ≡ record { input = i; code = Char };
-      joined = λ _ other e. e ≡ other;
-      grows = ⊥;
-    } };
+    ghost errors = { plain_errors };
 
     #[inline(always)]
     fn from_error_kind(input: I, kind: ErrorKind) -> Result<Self, OutOfMemory> {

@@ -7,7 +7,7 @@ use Rattle.nom_internal.specs.Prelude.{IsPrefixOf, IsSuffixOf, input_len, same_s
 use Rattle.nom_internal.specs.Prelude.{Fails, Needs, Outright, TooLarge, ParsesOutcome, ParsesAnswer, IsDecided, ParseRanOut, Parsed, Meaning, IsLawful}
 use Rattle.nom_internal.specs.Prelude.{IsSteady}
 use Rattle.nom_internal.specs.Prelude.{ParsesMeaning}
-use Rattle.nom_growing.specs.Promises.{IsOfWhole}
+use Rattle.nom_internal.specs.Promises.{IsOfWhole}
 use Rattle.nom_internal.proofs.Consumed.{before_length}
 use Rattle.nom_growing.specs.Growing.{Waits, AnswersOn, IsGrown, AgreesWithWhole}
 use Rattle.nom_growing.specs.Growing.IsBeginning.{AtCut, AtEnd}

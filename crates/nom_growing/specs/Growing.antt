@@ -3,7 +3,7 @@ use Rattle.std.specs.Prelude.{◌≡◌, ℕ, ◌<◌, ◌≤◌, true, ◌⊎�
 use Rattle.nom_internal.specs.Prelude.{IResult, OutOfMemory, modes, Model, IsBoundary, IsPrefixOf, View, Outcome, Stop, Fails, Needs, TooLarge}
 use Rattle.nom_internal.specs.Prelude.{ParsesOutcome, Meaning}
 use Rattle.nom_internal.specs.Prelude.{ParsesMeaning}
-use Rattle.nom_growing.specs.Promises.{IsOfWhole}
+use Rattle.nom_internal.specs.Promises.{IsOfWhole}
 
 module _ {I A : Type 0} (w : Model I A) (whole : I) (cuts : List ℕ) where
   -- each cut is a place

@@ -1,4 +1,3 @@
 pub mod ByteCuts
 pub mod Growing
-pub mod Promises
 pub mod TextCuts

@@ -1,6 +1,7 @@
 //! Inputs that grow.
 ghost use Rattle.std.specs.Prelude.{ℕ, MatchBool};
 ghost use Rattle.nom_internal.specs.Prelude.{IsSuffixOf, IsPrefixOf, AsksForMore, HasRests, WithRest};
+ghost use Rattle.nom_internal.specs.Promises.{HasNoFailure};
 ghost use Rattle.nom_growing.specs.Growing.{AreCuts, IsGrown, AgreesWithWhole};
 
 use nom_error::answer::{Err, IResult};
@@ -57,6 +58,8 @@ pub fn parse_growing<I: Input, P: StreamParser<I> + Drop>(
     // Where the parser pins, one parse of the whole answers the same.
     ensures whole { AgreesWithWhole I.model P.Output.view (P.Pins parser) (P.grammar (P.state parser)).IsOutput
         (P.grammar (P.state parser)).meaning whole cuts.now result.index result.result }
+    // Where it never fails, it has no such outcome.
+    ensures failures { HasNoFailure I.model (P.grammar (P.state parser)).meaning }
 {
     whole.prove_known();
     for (index, cut) in cuts.iter().enumerate() {

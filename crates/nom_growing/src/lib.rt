@@ -1,5 +1,4 @@
-//! Inputs that grow, and what every parser promises.
+//! Inputs that grow.
 #![tactic(auto)]
 
 pub mod growing;
-pub mod promises;

@@ -1,6 +1,7 @@
 pub mod Bounded
 pub mod Cased
 pub mod Choices
+pub mod Completed
 pub mod Consumed
 pub mod Given
 pub mod Judges

@@ -13,6 +13,7 @@ pub mod Meaning
 pub mod Outcome
 pub mod Pinned
 pub mod Prelude
+pub mod Promises
 pub mod Recognized
 pub mod Results
 pub mod Sequence

@@ -15,6 +15,7 @@ pub mod judged;
 pub mod map;
 pub mod one_mode;
 pub mod parser;
+pub mod promises;
 pub mod sequence;
 pub mod slices;
 pub mod tuple;

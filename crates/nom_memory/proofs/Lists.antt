@@ -11,7 +11,7 @@ use Rattle.nom_sequence.specs.Sequences.{preceded_meaning}
 use Rattle.nom_sequence.specs.laws.SequenceLaws.{preceded_lawful}
 use Rattle.nom_multi.specs.Bounded.{count_meaning, many_m_n_meaning}
 use Rattle.nom_multi.specs.Many.{many0_meaning, many1_meaning}
-use Rattle.nom_multi_separated.specs.Separated.{further_meaning, optional_limits, follows, separated0_meaning, separated1_meaning}
+use Rattle.nom_multi.specs.Separated.{further_meaning, optional_limits, follows, separated0_meaning, separated1_meaning}
 use Rattle.nom_multi_fold.specs.Ranges.{range_limits, range_meaning}
 use Rattle.nom_multi_length.specs.Lengths.{length_count_meaning}
 use Rattle.std.specs.Prelude.{ltb}

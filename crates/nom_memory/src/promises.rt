@@ -1,19 +1,18 @@
 //! Where lists and texts may run out of memory. These functions do nothing: their contracts are the promises.
 //!
 //! All say the same: where the parts are frugal and the error type takes no memory, memory runs out only where
-//! outputs are built, and a first item was accepted. So nothing is reserved ahead, and a call that gives up
-//! although there was nothing to keep is wrong.
+//! outputs are built, and a first item was accepted. So a call that gives up although there was nothing to keep is
+//! wrong: where room that is asked for ahead isn't there, items are read all the same.
 ghost use Rattle.std.specs.Prelude.{◌≡◌};
 ghost use Rattle.nom_memory.specs.Growths.{GrowsByCounted, GrowsByItems, GrowsByPieces, GrowsBySeparated, GrowsUntil};
 
-use nom_build::collection::Collection;
 use nom_bytes_escaped::EscapedTransform;
 use nom_internal::parser::Parser;
-use nom_multi::{Count, Many0, Many1, ManyMN, ManyTill};
+use nom_multi::{Count, Many0, Many1, ManyMN, ManyTill, SeparatedList0, SeparatedList1};
 use nom_multi_fold::Many;
 use nom_multi_length::LengthCount;
-use nom_multi_separated::{SeparatedList0, SeparatedList1};
 use nom_ranges::range::NomRange;
+use nom_search::collection::Collection;
 use nom_search::extend::{Builder, ExtendInto};
 use nom_traits::character::AsChar;
 use nom_traits::convert::ToUsize;

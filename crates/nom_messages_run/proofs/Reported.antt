@@ -1,11 +1,11 @@
 -- The report, from the answer on messages that come in pieces.
-use Rattle.std.proofs.Common.{◌≡◌, ℕ, true, ◌<◌, ◌≤◌, List, [], ◌∷◌, length, slice_index, Vec, ◌∙◌, ap, inl, inr}
+use Rattle.std.proofs.Common.{◌≡◌, ℕ, true, ◌<◌, ◌≤◌, List, length, slice_index, Vec, ◌∙◌, ap, inl, inr}
 use Rattle.nom_error.specs.declared.value.Error.{Error}
 use Rattle.std.specs.Prelude.{codes}
 use Rattle.nom_internal.specs.Prelude.{IResult, bytes_model, Cause}
 use Rattle.nom_growing.specs.Growing.{IsGrown}
-use Rattle.nom_growing.specs.Promises.{HasNoFailure}
-use Rattle.nom.specs.Bytes.{Bytes, Big}
+use Rattle.nom_internal.specs.Promises.{HasNoFailure}
+use Rattle.nom.specs.Bytes.{Bytes}
 use Rattle.example_protocol.specs.declared.message.Message.{Message}
 use Rattle.example_protocol.specs.Messages.{Body, body_of, messages_of}
 use Rattle.nom_run.specs.Report.{IsTold}
@@ -18,7 +18,7 @@ abbrev AreBodies : {A : Type 0} → List Body → Vec Message A → Type 0
 AreBodies {A} = (messages_of {M = A}).IsOutput
 
 abbrev IsBody : Body → Message → Type 0
-IsBody = (body_of (1 ∷ []) (2 ∷ []) (3 ∷ []) (0 ∷ 0 ∷ []) Big Big).IsOutput
+IsBody = body_of.IsOutput
 
 -- a message has the line of its tree
 same_line : (t : Body) (m : Message) → IsBody t m → message_text m ≡ body_text t

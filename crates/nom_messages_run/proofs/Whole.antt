@@ -66,7 +66,7 @@ module _ {R A V : Type 0} (left : R → Option (List ℕ)) (grammar : Grammar By
   lawful_of sound u t r (AtEnd e k g h) = g.parses.lawful sound
   lawful_of sound u t r (Full a b w e) = (w.1).parses.lawful sound
   lawful_of sound u t r (Faulted why b w e) = (w.1).parses.lawful sound
-  lawful_of sound u t r (Lacking l b before last d k w few e) = w.parses.lawful sound
+  lawful_of sound u t r (Lacking l b w e) = (w.1).parses.lawful sound
 
   -- where the last line tells that there is no further item, none is accepted
   none_accepted : (lawful : IsLawful bytes_model grammar.meaning) (t : Stream R A) (complete : Bool) (place : Bytes) → bytes_model.IsKnown place →

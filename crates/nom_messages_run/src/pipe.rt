@@ -48,10 +48,8 @@ fn add_place<A: Allocator + Copy>(
 ) -> Result<(), OutOfMemory>
     ensures { IfOk result (λ _. string_bytes text.new ≡ string_bytes text.old ++ place_text what.now offset) }
 {
-    match write!(text, "{what} at {offset}\n") {
-        Ok(()) => Ok(()),
-        Err(_) => Err(OutOfMemory),
-    }
+    write!(text, "{what} at {offset}\n")?;
+    Ok(())
 }
 
 // The status where there is no further message.

@@ -16,10 +16,8 @@ use std::fmt::Write;
 pub fn add_ping<A: Allocator + Copy>(text: &mut String<A>, number: u32) -> Result<(), OutOfMemory>
     ensures { IfOk result (λ _. string_bytes text.new ≡ string_bytes text.old ++ ping_text number) }
 {
-    match write!(text, "ping {number}\n") {
-        Ok(()) => Ok(()),
-        Err(_) => Err(OutOfMemory),
-    }
+    write!(text, "ping {number}\n")?;
+    Ok(())
 }
 
 /// The report on a file of messages.

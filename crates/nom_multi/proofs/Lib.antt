@@ -3,3 +3,5 @@ pub mod FillShown
 pub mod Promised
 pub mod TillShown
 pub mod Until
+pub mod SeparatedAccepting
+pub mod SeparatedShown

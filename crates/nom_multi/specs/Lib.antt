@@ -4,3 +4,5 @@ pub mod Many
 pub mod Promises
 pub mod Till
 pub mod laws
+pub mod SeparatedPromises
+pub mod Separated

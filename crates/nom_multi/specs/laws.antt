@@ -2,3 +2,4 @@ pub mod BoundedLaws
 pub mod FillLaws
 pub mod ManyLaws
 pub mod TillLaws
+pub mod SeparatedLaws

@@ -2,14 +2,14 @@
 ghost use Rattle.std.specs.Prelude.{ℕ, List};
 ghost use Rattle.nom_multi.specs.Bounded.{count_of, many_m_n_of};
 
-use nom_counted::exact::items_exactly;
 use nom_error::answer::PResult;
 use nom_error::kind::ErrorKind;
 use nom_error::mode::OutputMode;
 use nom_error::value::ParseError;
 use nom_internal::parser::{Parser, StreamParser};
-use nom_repeat::accumulator::none_yet;
+use nom_repeat::accumulator::{none_yet, with_room};
 use nom_repeat::bounds::bounded_items;
+use nom_repeat::exact::items_exactly;
 use nom_repeat::inverted::failure;
 use nom_traits::input::{Input, Items};
 use std::alloc::Allocator;
@@ -39,7 +39,7 @@ impl<I: Items, A: Allocator + Copy, F: Parser<I> + Drop> Parser<I> for Count<A, 
 
     #[inline]
     fn process<OM: OutputMode>(&mut self, input: I) -> PResult<I, Self::Output, Self::Error> {
-        let none = none_yet::<OM::Output, F::Output, A>(self.alloc);
+        let none = with_room::<OM::Output, F::Output, A>(self.alloc, self.count);
         items_exactly::<OM, I, F, Vec<F::Output, A>>(&mut self.parser, input, none, self.count)
     }
 

@@ -7,11 +7,16 @@ mod bounded;
 mod buffer;
 mod many;
 pub mod promises;
+mod separated;
+mod separated_lists;
+pub mod separated_promises;
 mod till;
 
 pub use crate::bounded::{Count, ManyMN};
 pub use crate::buffer::{Fill, fill_buffer};
 pub use crate::many::{Many0, Many1};
+pub use crate::separated::{separated_list0, separated_list1};
+pub use crate::separated_lists::{SeparatedList0, SeparatedList1};
 pub use crate::till::ManyTill;
 use std::alloc::Allocator;
 
@@ -46,7 +51,8 @@ pub fn many1<A: Allocator + Copy, F>(alloc: A, parser: F) -> Many1<A, F>
 /// Just that many items: a list of their outputs, which takes its memory from `alloc`.
 ///
 /// An item that is refused refuses all, with the item's error, to which `Count` is added at the start.
-/// Items may consume nothing. No memory is taken ahead.
+/// Items may consume nothing. The list gets room for its items ahead, for 1,024 at most; without the
+/// memory for it, and beyond it, it grows by the items that are accepted.
 #[inline(always)]
 pub fn count<A: Allocator + Copy, F>(alloc: A, parser: F, count: usize) -> Count<A, F>
     ensures alloc { result.alloc ≡ alloc }

@@ -3,10 +3,10 @@ ghost use Rattle.std.specs.Prelude.{◌≡◌, []};
 ghost use Rattle.nom_internal.specs.Prelude.{Built};
 ghost use Rattle.nom_multi_fold.specs.Ranges.{Gathers, IsGathered};
 
-use nom_build::collection::Collection;
 use nom_error::answer::OutOfMemory;
 use nom_error::mode::Mode;
 use nom_repeat::accumulator::Accumulator;
+use nom_search::collection::Collection;
 use std::alloc::Allocator;
 use std::marker::PhantomData;
 

@@ -6,7 +6,6 @@ ghost use Rattle.nom_multi_fold.specs.Ranges.{many_of, fold_by};
 
 use crate::folded::{Folded, carried, start};
 use crate::gathered::{Gathered, collected, gather};
-use nom_build::collection::{Collection, ViewedCollection};
 use nom_error::answer::PResult;
 use nom_error::kind::ErrorKind;
 use nom_error::mode::OutputMode;
@@ -17,6 +16,7 @@ use nom_ranges::range::NomRange;
 use nom_repeat::accumulator::Accumulator;
 use nom_repeat::bounds::bounded_items;
 use nom_repeat::inverted::failure;
+use nom_search::collection::{Collection, ViewedCollection};
 use nom_traits::input::{Input, Items};
 use nom_traits::view::Viewed;
 use std::alloc::Allocator;

@@ -2,12 +2,12 @@
 ghost use Rattle.std.specs.Prelude.{List};
 ghost use Rattle.nom_multi_length.specs.Lengths.{length_count_of};
 
-use nom_counted::exact::items_exactly;
 use nom_error::answer::PResult;
 use nom_error::mode::{Emit, OutputM, OutputMode};
 use nom_error::value::ParseError;
 use nom_internal::parser::{Parser, StreamParser};
-use nom_repeat::accumulator::none_yet;
+use nom_repeat::accumulator::with_room;
+use nom_repeat::exact::items_exactly;
 use nom_traits::convert::ToUsize;
 use nom_traits::input::Items;
 use std::alloc::Allocator;
@@ -49,7 +49,7 @@ impl<
             Some(length) => length.to_usize(),
             None => unreachable!(),
         };
-        let none = none_yet::<OM::Output, G::Output, A>(self.alloc);
+        let none = with_room::<OM::Output, G::Output, A>(self.alloc, count);
         items_exactly::<OM, I, G, Vec<G::Output, A>>(&mut self.parser, rest, none, count)
     }
 

@@ -30,9 +30,9 @@ pub fn length_data<F>(parser: F) -> LengthData<F>
 /// of them, which takes its memory from `alloc`.
 ///
 /// Where an item is refused, so is all, and `Count` is added to its error at the place after the
-/// length. An item may consume nothing. All else that an item answers is passed on. No memory is taken
-/// ahead: the list grows by the items that are accepted, and where it can't, the answer is
-/// `OutOfMemory`.
+/// length. An item may consume nothing. All else that an item answers is passed on. The list gets
+/// room for its items ahead, for 1,024 at most, whatever length is claimed; without the memory for it, and
+/// beyond it, it grows by the items that are accepted, and where it can't, the answer is `OutOfMemory`.
 #[inline(always)]
 pub fn length_count<A: Allocator + Copy, F, G>(
     alloc: A,

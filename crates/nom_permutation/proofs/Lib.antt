@@ -3,3 +3,4 @@ mod Orders
 pub mod Places
 mod Turns
 pub mod Wider
+mod First

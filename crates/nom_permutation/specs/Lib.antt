@@ -5,3 +5,4 @@ pub mod Order
 pub mod Permutation
 pub mod Rounds
 pub mod laws
+pub mod Tries

@@ -8,6 +8,7 @@ mod nest;
 mod permutations;
 pub mod promises;
 mod rounds;
+mod slots;
 mod wide;
 mod widths;
 

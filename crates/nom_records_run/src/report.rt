@@ -1,33 +1,33 @@
 //! The report on a file of records.
 ghost use Rattle.std.specs.Prelude.{IfOk, length, string_bytes};
 ghost use Rattle.nom_internal.specs.Prelude.{bytes_model};
+ghost use Rattle.nom_internal.specs.Promises.{HasNoFailure};
 ghost use Rattle.nom_growing.specs.Growing.{IsGrown};
-ghost use Rattle.nom_records_run.specs.Report.{AreRecords, IsReport, record_grammar, record_text};
+ghost use Rattle.nom_records_run.specs.Report.{IsReport, record_grammar, record_text, records_of};
 ghost use Rattle.nom_run.specs.Stream.{NoneAbove};
 
-use nom_bytes::tag;
+use nom::bytes::tag;
+use nom::error::Error;
+use nom::multi::{length_data, many0};
+use nom::number::be_u8;
+use nom::sequence::{preceded, terminated};
+use nom::{Grown, Items, parse_growing};
 use nom_error::answer::OutOfMemory;
-use nom_error::value::Error;
-use nom_growing::growing::{Grown, parse_growing};
-use nom_multi::many0;
-use nom_multi_length::length_data;
-use nom_number::be_u8;
 use nom_run::error::RunError;
 use nom_run::report::{Lines, Report, beginning_len, tell, write_built};
 use nom_run::stream::Sink;
 use nom_run::text::add_bytes;
-use nom_sequence::{preceded, terminated};
-use nom_traits::input::Items;
 use std::alloc::Allocator;
 
-// What the grammar answers on bytes that come in the parts that `cuts` make of them.
+// What the grammar answers on bytes that come in the parts that `cuts` make of them. It never fails.
 fn grown_records<'a, A: Allocator + Copy>(
     alloc: A,
     bytes: &'a [u8],
     cuts: &[usize],
 ) -> Grown<&'a [u8], Vec<&'a [u8], A>, Error<&'a [u8]>>
     requires { NoneAbove cuts.now (length bytes.now) }
-    ensures { IsGrown bytes_model AreRecords record_grammar bytes.entry cuts.now result.index result.result }
+    ensures { IsGrown bytes_model (records_of {M = A}).IsOutput record_grammar bytes.entry cuts.now result.index result.result ×
+        HasNoFailure bytes_model record_grammar }
 {
     let record = preceded(
         tag::<_, _, Error<&[u8]>>(&b"R"[..]),

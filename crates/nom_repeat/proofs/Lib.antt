@@ -9,3 +9,4 @@ pub mod Accumulating
 pub mod ListAccumulated
 pub mod Parts
 pub mod Repeated
+mod Places

@@ -15,6 +15,10 @@ const FIRST_ROOM: usize = 64;
 /// How many items a list gets room for at its first push anyway.
 const LEAST_ROOM: usize = 4;
 
+/// How many items a list of a number that is known gets room for ahead, at most. The number may be one that the input
+/// claims, and no item of it has been read.
+const MOST_AHEAD: usize = 1024;
+
 /// An accumulator of items of type `T`: a list, a number, the value of a fold.
 pub trait Accumulator<T> {
     /// What one more item makes of it.
@@ -135,6 +139,22 @@ pub fn none_yet<M: Mode, T, A: Allocator>(alloc: A) -> Option<Vec<T, A>>
 {
     if M::BUILDS {
         Some(Vec::new(alloc))
+    } else {
+        None
+    }
+}
+
+/// A list of no items, where a list is built, with room for `count` items, or for `MOST_AHEAD` of more. Without the
+/// memory for it the list grows by its items.
+#[inline(always)]
+pub fn with_room<M: Mode, T: Drop, A: Allocator>(alloc: A, count: usize) -> Option<Vec<T, A>>
+    ensures empty { Built M.BUILDS (λ list. list.items ≡ []) result }
+    ensures ready { Built M.BUILDS (λ _. Unit {0}) result }
+{
+    if M::BUILDS {
+        let mut list = Vec::new(alloc);
+        let _ = list.reserve(count.min(MOST_AHEAD));
+        Some(list)
     } else {
         None
     }

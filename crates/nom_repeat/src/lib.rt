@@ -4,5 +4,6 @@
 
 pub mod accumulator;
 pub mod bounds;
+pub mod exact;
 pub mod inverted;
 pub mod items;

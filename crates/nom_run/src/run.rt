@@ -33,10 +33,8 @@ fn none_above(cuts: &[usize], end: usize) -> bool
 fn keep<A: Allocator>(bytes: &mut Vec<u8, A>, more: &[u8]) -> Result<(), OutOfMemory>
     ensures { IfOk result (λ _. bytes.new.items ≡ bytes.old.items ++ more.now) }
 {
-    match bytes.extend_from_slice(more) {
-        Ok(()) => Ok(()),
-        Err(_) => Err(OutOfMemory),
-    }
+    bytes.extend_from_slice(more)?;
+    Ok(())
 }
 
 // Reads what is left, onto `bytes`.

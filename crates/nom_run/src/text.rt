@@ -18,20 +18,16 @@ pub fn add_decided<A: Allocator + Copy>(
 ) -> Result<(), OutOfMemory>
     ensures { IfOk result (λ _. string_bytes text.new ≡ string_bytes text.old ++ decided_text index) }
 {
-    match write!(text, "decided at {index}\n") {
-        Ok(()) => Ok(()),
-        Err(_) => Err(OutOfMemory),
-    }
+    write!(text, "decided at {index}\n")?;
+    Ok(())
 }
 
 /// Adds `rest` and how many bytes are left.
 pub fn add_rest<A: Allocator + Copy>(text: &mut String<A>, count: usize) -> Result<(), OutOfMemory>
     ensures { IfOk result (λ _. string_bytes text.new ≡ string_bytes text.old ++ rest_text count) }
 {
-    match write!(text, "rest {count}\n") {
-        Ok(()) => Ok(()),
-        Err(_) => Err(OutOfMemory),
-    }
+    write!(text, "rest {count}\n")?;
+    Ok(())
 }
 
 /// Adds `error`, the kind of a refusal, and the offset in bytes at which it lies.
@@ -43,10 +39,8 @@ pub fn add_error<A: Allocator + Copy>(
     ensures { IfOk result (λ _. string_bytes text.new ≡ string_bytes text.old ++ error_text kind offset) }
 {
     let name = kind.description();
-    match write!(text, "error {name} at {offset}\n") {
-        Ok(()) => Ok(()),
-        Err(_) => Err(OutOfMemory),
-    }
+    write!(text, "error {name} at {offset}\n")?;
+    Ok(())
 }
 
 /// Adds `failure`, the kind of a failure, and the offset in bytes at which it lies.
@@ -58,10 +52,8 @@ pub fn add_failure<A: Allocator + Copy>(
     ensures { IfOk result (λ _. string_bytes text.new ≡ string_bytes text.old ++ failure_text kind offset) }
 {
     let name = kind.description();
-    match write!(text, "failure {name} at {offset}\n") {
-        Ok(()) => Ok(()),
-        Err(_) => Err(OutOfMemory),
-    }
+    write!(text, "failure {name} at {offset}\n")?;
+    Ok(())
 }
 
 /// Adds `need` and how much more is needed, or `more` where that isn't known.
@@ -71,14 +63,11 @@ pub fn add_need<A: Allocator + Copy>(
 ) -> Result<(), OutOfMemory>
     ensures { IfOk result (λ _. string_bytes text.new ≡ string_bytes text.old ++ need_text (size_of needed)) }
 {
-    let wrote = match needed {
-        Needed::Unknown => write!(text, "need more\n"),
-        Needed::Size(size) => write!(text, "need {size}\n"),
-    };
-    match wrote {
-        Ok(()) => Ok(()),
-        Err(_) => Err(OutOfMemory),
+    match needed {
+        Needed::Unknown => write!(text, "need more\n")?,
+        Needed::Size(size) => write!(text, "need {size}\n")?,
     }
+    Ok(())
 }
 
 // Adds a byte as two digits in base 16.
@@ -86,10 +75,8 @@ pub fn add_need<A: Allocator + Copy>(
 fn add_byte<A: Allocator + Copy>(text: &mut String<A>, byte: u8) -> Result<(), OutOfMemory>
     ensures { IfOk result (λ _. string_bytes text.new ≡ string_bytes text.old ++ (hex_digit (byte / 16) ∷ hex_digit (byte % 16) ∷ [])) }
 {
-    match write!(text, "{byte:02x}") {
-        Ok(()) => Ok(()),
-        Err(_) => Err(OutOfMemory),
-    }
+    write!(text, "{byte:02x}")?;
+    Ok(())
 }
 
 /// Adds each byte as two digits in base 16, lower case.
@@ -106,10 +93,8 @@ pub fn add_hex<A: Allocator + Copy>(text: &mut String<A>, bytes: &[u8]) -> Resul
 pub fn add_words<A: Allocator + Copy>(text: &mut String<A>, words: &str) -> Result<(), OutOfMemory>
     ensures { IfOk result (λ _. string_bytes text.new ≡ string_bytes text.old ++ words.now) }
 {
-    match text.push_str(words) {
-        Ok(()) => Ok(()),
-        Err(_) => Err(OutOfMemory),
-    }
+    text.push_str(words)?;
+    Ok(())
 }
 
 // Adds a space and the digits of the bytes, where there are any.
@@ -131,10 +116,8 @@ fn add_count<A: Allocator + Copy>(
 ) -> Result<(), OutOfMemory>
     ensures { IfOk result (λ _. string_bytes text.new ≡ string_bytes text.old ++ (name.now ++ decimal count)) }
 {
-    match write!(text, "{name}{count}") {
-        Ok(()) => Ok(()),
-        Err(_) => Err(OutOfMemory),
-    }
+    write!(text, "{name}{count}")?;
+    Ok(())
 }
 
 /// Adds a line for bytes: their name, with the space after it, their count, and the bytes in base 16 where there

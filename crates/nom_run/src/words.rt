@@ -20,10 +20,8 @@ fn number(word: &str) -> Option<usize>
 fn add_cut<A: Allocator>(cuts: &mut Vec<usize, A>, cut: usize) -> Result<(), OutOfMemory>
     ensures { IfOk result (λ _. cuts.new.items ≡ cuts.old.items ++ (cut ∷ [])) }
 {
-    match cuts.push(cut) {
-        Ok(()) => Ok(()),
-        Err(_) => Err(OutOfMemory),
-    }
+    cuts.push(cut)?;
+    Ok(())
 }
 
 /// The numbers that the words write. `Usage` where one isn't one or more decimal digits, doesn't fit,

@@ -1,3 +1,4 @@
 pub mod BytePlaces
 pub mod TextPlaces
 pub mod Tokens
+mod CollectedText

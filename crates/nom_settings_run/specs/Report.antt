@@ -14,7 +14,7 @@ use Rattle.nom_traits.specs.contracts.input.CharValue.TheImpl as CharValue
 use Rattle.nom_located.specs.declared.located.Located.{Located}
 use Rattle.nom_located.specs.Located.{IsAfter, Place, place, located_model}
 use Rattle.nom_run.specs.Texts.{lines_text}
-use Rattle.nom_settings_run.specs.Settings.{SectionTree, SettingTree, settings_grammar}
+use Rattle.nom_settings_run.specs.Settings.{SectionTree, SettingTree, settings_of}
 
 -- a text that knows its line and column, and its model
 abbrev pub Text : Type 0
@@ -78,8 +78,8 @@ pub record OfText (bytes text : List ℕ) (status : ℕ) : Type 0 where
   pub whole_is : whole.fragment.now ≡ bytes
   pub begins : place_of whole ≡ place 0 1 1
   pub outcome : Outcome (List (SectionTree seen_there))
-  pub answered : (settings_grammar seen_there).answers false whole outcome
-  pub says : Says ((settings_grammar seen_there).blames false whole) outcome text status
+  pub answered : (settings_of seen_there {M = Unit {0}}).meaning.answers false whole outcome
+  pub says : Says ((settings_of seen_there {M = Unit {0}}).meaning.blames false whole) outcome text status
 
 -- the fault `Char` after the bytes that are text
 pub record IsToldBytes (before text : List ℕ) (status : ℕ) : Type 0 where

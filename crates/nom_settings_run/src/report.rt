@@ -261,10 +261,8 @@ fn add_fault<A: Allocator + Copy>(
     ensures { IfOk result (λ _. string_bytes text.new ≡ string_bytes text.old ++ fault_text line column kind) }
 {
     let name = kind.description();
-    match write!(text, "{line}:{column}: {name}\n") {
-        Ok(()) => Ok(()),
-        Err(_) => Err(OutOfMemory),
-    }
+    write!(text, "{line}:{column}: {name}\n")?;
+    Ok(())
 }
 
 // The text and the status of a fault.

@@ -1,18 +1,15 @@
 //! Settings in sections, as INI files have them.
 ghost use Rattle.std.specs.Prelude.{◌≡◌, false};
-ghost use Rattle.nom_internal.specs.Prelude.{ParsesMeaning};
-ghost use Rattle.nom_settings_run.specs.Settings.{AreSections, in_value, settings_grammar};
+ghost use Rattle.nom.specs.Grammar.{Parses};
+ghost use Rattle.nom_settings_run.specs.Settings.{in_value, settings_of};
 
-use nom_bytes::{is_not, take_while};
-use nom_character::char;
-use nom_combinator::{complete, cut, opt};
-use nom_ends::all_consuming;
-use nom_error::answer::IResult;
-use nom_error::value::Error;
-use nom_internal::parser::Parser;
-use nom_multi::many0;
-use nom_sequence::{pair, preceded, terminated};
-use nom_traits::input::Input;
+use nom::bytes::{is_not, take_while};
+use nom::character::char;
+use nom::combinator::{all_consuming, complete, cut, opt};
+use nom::error::Error;
+use nom::multi::many0;
+use nom::sequence::{pair, preceded, terminated};
+use nom::{IResult, Input, Parser};
 use std::alloc::Allocator;
 
 /// A section: its name, and its settings in their order, each a name and a value. All are slices of the input.
@@ -40,7 +37,7 @@ pub fn settings<A: Allocator + Copy, I: Input<Item = char>>(
     alloc: A,
     input: I,
 ) -> IResult<I, Vec<Section<I, A>, A>, Error<I>>
-    ensures { ParsesMeaning I.model (AreSections I.model) (settings_grammar I.model) false input result }
+    ensures { Parses I.model (settings_of I.model) false input result }
 {
     let end_of_header = pair(opt(char('\r')), char('\n'));
     let title = terminated(is_not("]\r\n"), pair(char(']'), end_of_header));

@@ -53,7 +53,7 @@ module _ {R A V O : Type 0} (grammar : Grammar Bytes V O (Error Bytes)) (u t : S
   lends (AtEnd e k g h) = of_ends k h
   lends (Full a b w e) = absurd (cc (e))
   lends (Faulted why b w e) = absurd (cc (e))
-  lends (Lacking l b before last d k w few e) = absurd (cc (e))
+  lends (Lacking l b w e) = absurd (cc (e))
 
 module _ {R A V O : Type 0} (left : R → Option (List ℕ)) (grammar : Grammar Bytes V O (Error Bytes)) where
   pub bytes_whole : BytesOfWhole A left grammar

@@ -4,5 +4,6 @@ mod Functions
 mod Lent
 mod Outcomes
 mod Reading
+mod Repeats
 mod Telling
 mod Wholes

@@ -1,10 +1,10 @@
 -- What is read over several reads.
-use Rattle.std.proofs.Common.{arith, ◌≡◌, ℕ, ◌<◌, Bool, true, false, List, [], ◌++◌, Option, Some, None, Result, Ok, Err, refl, sym, ◌∙◌, ap, subst}
-use Rattle.std.proofs.Common.{append_assoc, append-nil, ◌⊎◌, inl, inr, take}
+use Rattle.std.proofs.Common.{◌≡◌, ℕ, List, [], ◌++◌, Option, Some, None, Result, Ok, Err, refl, sym, ◌∙◌, ap, subst}
+use Rattle.std.proofs.Common.{append_assoc, append-nil, take}
 use Rattle.std.specs.Io.KnownBytes.{Consumes, Keeps, ReadConsumes}
 use Rattle.nom_stream.specs.declared.stream.Stream.{Stream}
 use Rattle.nom_stream.specs.Held.{held_of}
-use Rattle.nom_stream.specs.Streams.{Gives, turns_left}
+use Rattle.nom_stream.specs.Streams.{Gives}
 
 consumes_more : (a b c : Option (List ℕ)) (xs ys : List ℕ) → Consumes a b xs → Consumes b c ys → Consumes a c (xs ++ ys)
 consumes_more None b c xs ys p q = tt
@@ -63,10 +63,3 @@ module _ {R A : Type 0} (left : R → Option (List ℕ)) where
         (subst (λ z. Consumes (left z.inner) (left t.source.inner) ys) e g.consumed);
     added = g.added ∙ ap (λ z. z ++ ys) (h ∙ f.added) ∙ append_assoc (held_of s.held) xs ys;
   }
-
--- at the end there is no further turn, and where more is held there is one less
-pub fewer_turns : (ended : Bool) (most before after : ℕ) → before < most → (ended ≡ true) ⊎ (before < after) →
-    turns_left ended most after < turns_left false most before
-fewer_turns true most before after b p = omega arith
-fewer_turns false most before after b (inl e) = absurd (cc (e))
-fewer_turns false most before after b (inr h) = omega (arith, b, h)

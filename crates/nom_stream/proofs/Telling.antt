@@ -1,6 +1,6 @@
 -- What is told of what is held.
-use Rattle.std.proofs.Common.{arith, ◌≡◌, ℕ, ◌+◌, ◌<◌, ◌≤◌, ◌⊎◌, true, false, List, [], ◌++◌, length, Option}
-use Rattle.std.proofs.Common.{None, Some, Result, Err, refl, sym, ◌∙◌, ap, subst}
+use Rattle.std.proofs.Common.{arith, ◌≡◌, ℕ, ◌+◌, ◌<◌, ◌≤◌, ◌⊎◌, Bool, true, false, List, [], ◌++◌, length, Option}
+use Rattle.std.proofs.Common.{None, Some, Ok, Err, refl, sym, ◌∙◌, ap, subst}
 use Rattle.std.proofs.Common.{append-nil, length-append, inl, inr}
 use Rattle.std_io.specs.declared.io.error.Error as Io
 use Rattle.nom_internal.specs.Prelude.{Needed, Grammar}
@@ -15,8 +15,8 @@ use Rattle.nom_stream.specs.declared.stream.Unread.{Unread}
 use Rattle.nom_stream.specs.Held.{held_of}
 use Rattle.nom_stream.specs.Items.{Bytes, HoldsLast, IsUndecided, Stays, Takes}
 use Rattle.nom_stream.specs.Readers.{NoFault, OneFault, one_more}
-use Rattle.nom_stream.specs.Streams.{AreFillings, CountsFaults, CountsUnread, Decides, Ends, Fills, Gives, IsEnough, IsOpen, IsUnread, IsUntold, LacksRoom}
-use Rattle.nom_stream.specs.Streams.{ReadAsNeeded, Reads, Tells, TellsFault, TellsNoFault, Told, counted, stop_of}
+use Rattle.nom_stream.specs.Streams.{Answers, AreFillings, CountsFaults, Decides, Ends, Fills, Gives, IsEnough, IsOpen, IsUnread, IsUntold, LacksRoom}
+use Rattle.nom_stream.specs.Streams.{ReadAsNeeded, Reads, ReadsNothing, Tells, TellsFault, TellsNoFault, Told, Waited, counted}
 use Rattle.nom_stream.specs.Streams.AreFillings.{NoFilling, OneMore}
 use Rattle.nom_stream.specs.Wanted.{most_read, wanted_of}
 use Rattle.nom_stream.specs.Streams.Answers.{Decided, AtEnd, Full, Faulted, Lacking}
@@ -32,6 +32,13 @@ module _ {R A V O : Type 0} (grammar : Grammar Bytes V O (Error Bytes)) (s t : S
       Ends grammar s t k r
   completed k h taken r e some complete g l tells =
       Completed some complete taken (subst (λ z. Takes grammar false (held_of s.held) (held_of z) taken) (sym e) g)
+      (subst (λ z. HoldsLast (held_of s.held) z taken) (sym e) l) tells
+
+  -- what is told of what is held, where that decides
+  pub decided : (h : Held A) (taken : Taken O) (r : Told O) → t.held ≡ h → (IsUndecided taken → ⊥) →
+      Takes grammar true (held_of s.held) (held_of h) taken → HoldsLast (held_of s.held) h taken → Tells taken r → Answers grammar s t r
+  decided h taken r e d g l tells =
+      Decided taken d (subst (λ z. Takes grammar true (held_of s.held) (held_of z) taken) (sym e) g)
       (subst (λ z. HoldsLast (held_of s.held) z taken) (sym e) l) tells
 
 -- the faults of a reader, over several readings
@@ -78,6 +85,12 @@ counts_none s t (Took.Refused k n) r e f = subst (CountsFaults s t) (sym e) f
 counts_none s t (Took.Failed k n) r e f = subst (CountsFaults s t) (sym e) f
 counts_none s t Took.OutOfMemory r e f = subst (CountsFaults s t) (sym e) f
 
+more_reasons : {R A : Type 0} (count : ℕ) (t : Stream R A) (P Q : Type 0) → IsEnough count t P → IsEnough count t (P ⊎ Q)
+more_reasons count t P Q (inl a) = inl a
+more_reasons count t P Q (inr (inl a)) = inr (inl a)
+more_reasons count t P Q (inr (inr (inl a))) = inr (inr (inl a))
+more_reasons count t P Q (inr (inr (inr a))) = inr (inr (inr (inl a)))
+
 counts_end : {R A V O : Type 0} (grammar : Grammar Bytes V O (Error Bytes)) (s u t : Stream R A) (k : Needed) (r : Told O) → Ends grammar u t k r →
     TellsNoFault s t → CountsFaults s t r
 counts_end grammar s u t k r (Clean a b e) f = subst (CountsFaults s t) (sym e) f
@@ -85,32 +98,36 @@ counts_end grammar s u t k r (Within a b c e) f = subst (CountsFaults s t) (sym 
 counts_end grammar s u t k r (Completed a b taken g l e) f = counts_none s t taken r e f
 
 module _ {R A State V O : Type 0} (left : R → Option (List ℕ)) (grammar : State → Grammar Bytes V O (Error Bytes))
-    (p q : State) (same : p ≡ q) (s u : Stream R A) (reads : Reads left (grammar q) s u (IsUntold u)) (opened : IsOpen left u)
+    (p q : State) (same : p ≡ q) (s u : Stream R A) (lacks : Bool) (room : lacks ≡ true → LacksRoom u)
+    (reads : Reads left (grammar q) s u (IsUntold u ⊎ (lacks ≡ true))) (opened : IsOpen left u)
     (settings : u.settings ≡ s.settings) (offset : u.offset ≡ s.offset) (faults : TellsNoFault s u)
     (no_read : s.ended ≡ true → (u.source ≡ s.source) × (u.ended ≡ true)) where
-  -- why bytes couldn't be read is nothing to what was read before
-  weakened : (Others : Type 0) (given : List ℕ) → ReadAsNeeded (grammar q) s u (IsUntold u) given →
-      ReadAsNeeded (grammar q) s u (Others ⊎ IsUntold u) given
-  weakened Others given (NoneRead e f) = NoneRead e f
-  weakened Others given (MoreRead earlier last e all f (inl a)) = MoreRead earlier last e all f (inl a)
-  weakened Others given (MoreRead earlier last e all f (inr (inl a))) = MoreRead earlier last e all f (inr (inl a))
-  weakened Others given (MoreRead earlier last e all f (inr (inr (inl a)))) = MoreRead earlier last e all f (inr (inr (inl a)))
-  weakened Others given (MoreRead earlier last e all f (inr (inr (inr a)))) = MoreRead earlier last e all f (inr (inr (inr (inr a))))
+  -- what is told now is nothing to what was read before
+  weakened : (r : Told O) (given : List ℕ) → ReadAsNeeded (grammar q) s u (IsUntold u ⊎ (lacks ≡ true)) given →
+      ReadAsNeeded (grammar q) s u (IsUnread u r) given
+  weakened r given (NoneRead e f) = NoneRead e f
+  weakened r given (MoreRead earlier last e all f (inl a)) = MoreRead earlier last e all f (inl a)
+  weakened r given (MoreRead earlier last e all f (inr (inl a))) = MoreRead earlier last e all f (inr (inl a))
+  weakened r given (MoreRead earlier last e all f (inr (inr (inl a)))) = MoreRead earlier last e all f (inr (inr (inl a)))
+  weakened r given (MoreRead earlier last e all f (inr (inr (inr (inl a))))) = MoreRead earlier last e all f (inr (inr (inr (inr (inl a)))))
+  weakened r given (MoreRead earlier last e all f (inr (inr (inr (inr a))))) = MoreRead earlier last e all f (inr (inr (inr (inr (inr (room a))))))
 
-  reads_so_far : (Others : Type 0) → Reads left (grammar q) s u (Others ⊎ IsUntold u)
-  reads_so_far Others = record { given = reads.given; gives = reads.gives; as_needed = weakened Others reads.given reads.as_needed }
+  reads_so_far : (r : Told O) → Reads left (grammar q) s u (IsUnread u r)
+  reads_so_far r = record { given = reads.given; gives = reads.gives; as_needed = weakened r reads.given reads.as_needed }
 
   -- where more may be read, each filling gave as many bytes as were wanted
   all_filled : (given : List ℕ) → held_of u.held ≡ held_of s.held ++ given → u.ended ≡ false → length (held_of u.held) < u.settings.most →
-      u.untold ≡ None → ReadAsNeeded (grammar q) s u (IsUntold u) given → AreFillings (grammar q) s.settings (held_of s.held) given
-  all_filled given added goes_on few told (NoneRead e f) = NoFilling e
-  all_filled given added goes_on few told (MoreRead earlier last e all f (inl a)) =
+      u.untold ≡ None → lacks ≡ false → ReadAsNeeded (grammar q) s u (IsUntold u ⊎ (lacks ≡ true)) given →
+      AreFillings (grammar q) s.settings (held_of s.held) given
+  all_filled given added goes_on few told enough (NoneRead e f) = NoFilling e
+  all_filled given added goes_on few told enough (MoreRead earlier last e all f (inl a)) =
       let then : length (held_of u.held) ≡ length (held_of s.held) + length earlier + length last =
       ap length (added ∙ ap (λ z. held_of s.held ++ z) e) ∙ simp length-append (omega arith) in
       OneMore earlier last all f (omega (arith, a, then, length-append (held_of s.held) earlier)) e
-  all_filled given added goes_on few told (MoreRead earlier last e all f (inr (inl a))) = absurd (cc (goes_on, a))
-  all_filled given added goes_on few told (MoreRead earlier last e all f (inr (inr (inl a)))) = absurd (omega (arith, few, a))
-  all_filled given added goes_on few told (MoreRead earlier last e all f (inr (inr (inr a)))) = let h = a.1 in absurd (cc (told, h))
+  all_filled given added goes_on few told enough (MoreRead earlier last e all f (inr (inl a))) = absurd (cc (goes_on, a))
+  all_filled given added goes_on few told enough (MoreRead earlier last e all f (inr (inr (inl a)))) = absurd (omega (arith, few, a))
+  all_filled given added goes_on few told enough (MoreRead earlier last e all f (inr (inr (inr (inl a))))) = let h = a.1 in absurd (cc (told, h))
+  all_filled given added goes_on few told enough (MoreRead earlier last e all f (inr (inr (inr (inr a))))) = absurd (cc (enough, a))
 
   -- it is decided, and told
   pub decides_item : (t : Stream R A) (h : Held A) (taken : Taken O) (r : Told O) → (IsUndecided taken → ⊥) →
@@ -119,12 +136,10 @@ module _ {R A State V O : Type 0} (left : R → Option (List ℕ)) (grammar : St
       Decides left (grammar q) s t r
   decides_item t h taken r d g l tells held source set end told count = record {
     filled = u;
-    reads = reads_so_far (IsUnread r);
+    reads = reads_so_far r;
     faults = counts_none s t taken r tells (still_none s u t source told faults);
     open_then = opened;
-    answers = Decided taken d (subst (λ z. Takes (grammar z) true (held_of u.held) (held_of t.held) taken) same
-        (subst (λ z. Takes (grammar p) true (held_of u.held) (held_of z) taken) (sym held) g))
-        (subst (λ z. HoldsLast (held_of u.held) z taken) (sym held) l) tells;
+    answers = subst (λ z. Answers (grammar z) u t r) same (decided (grammar p) u t h taken r held d g l tells);
     no_read = no_read;
     source = source;
     ended = end;
@@ -135,27 +150,25 @@ module _ {R A State V O : Type 0} (left : R → Option (List ℕ)) (grammar : St
   -- It is not.
   module _ (k : Needed) (undecided : Takes (grammar q) true (held_of u.held) (held_of u.held) (Undecided k)) where
     -- the reader is at its end
-    pub decides_end : (t : Stream R A) (r : Told O) → u.ended ≡ true → Ends (grammar p) u t k r →
-        t.source ≡ u.source → t.settings ≡ u.settings → t.ended ≡ u.ended → t.untold ≡ u.untold → t.offset ≡ counted u.offset r →
-        Decides left (grammar q) s t r
-    decides_end t r e ends source' set' end' told' count' = record {
+    pub decides_end : (t : Stream R A) (r : Told O) → u.ended ≡ true → Ends (grammar p) u t k r → ReadsNothing left u t r → Decides left (grammar q) s t r
+    decides_end t r e ends o = record {
       filled = u;
-      reads = reads_so_far (IsUnread r);
-      faults = counts_end (grammar p) s u t k r ends (still_none s u t source' told' faults);
+      reads = reads_so_far r;
+      faults = counts_end (grammar p) s u t k r ends (still_none s u t o.source o.untold faults);
       open_then = opened;
       answers = AtEnd e k undecided (subst (λ z. Ends (grammar z) u t k r) same ends);
       no_read = no_read;
-      source = source';
-      ended = end';
-      settings = (settings, set' ∙ settings);
-      offset = count' ∙ ap (λ z. counted z r) offset;
+      source = o.source;
+      ended = o.ended;
+      settings = (settings, o.settings ∙ settings);
+      offset = o.offset ∙ ap (λ z. counted z r) offset;
     }
 
     -- no more may be held
     pub decides_full : u.settings.most ≤ length (held_of u.held) → Decides left (grammar q) s u (Err Stopped.TooLong)
     decides_full full = record {
       filled = u;
-      reads = reads_so_far (IsUnread (Err Stopped.TooLong));
+      reads = reads_so_far (Err Stopped.TooLong);
       faults = faults;
       open_then = opened;
       answers = Full full refl (k, undecided) refl;
@@ -171,11 +184,11 @@ module _ {R A State V O : Type 0} (left : R → Option (List ℕ)) (grammar : St
     goes_on_from goes_on e = let h = (no_read e).1 in cc (goes_on, h)
 
     -- more is read, since what is held doesn't decide
-    pub reads_further : u.ended ≡ false → length (held_of u.held) < u.settings.most → u.untold ≡ None → (wants : ℕ) →
+    reads_on : u.ended ≡ false → length (held_of u.held) < u.settings.most → u.untold ≡ None → lacks ≡ false → (wants : ℕ) →
         wants ≡ wanted_of u.settings k (length (held_of u.held)) → (Unreadable : Type 0) (t : Stream R A) → Fills left u t →
         length (held_of t.held) < wants + length (held_of u.held) + most_read u.settings →
         IsEnough (wants + length (held_of u.held)) t Unreadable → Reads left (grammar q) s t Unreadable
-    reads_further goes_on few told wants as_many Unreadable t f below enough =
+    reads_on goes_on few told has_room wants as_many Unreadable t f below enough =
         let here : held_of u.held ≡ held_of s.held ++ reads.given = reads.gives.added in
         let wanted : wants ≡ wanted_of s.settings k (length (held_of s.held ++ reads.given)) =
         as_many ∙ ap (λ z. wanted_of z k (length (held_of u.held))) settings ∙ ap (λ z. wanted_of s.settings k (length z)) here in
@@ -184,7 +197,7 @@ module _ {R A State V O : Type 0} (left : R → Option (List ℕ)) (grammar : St
         record {
           given = reads.given ++ f.given;
           gives = gives_more left s u u t reads.given f.given reads.gives refl refl f.gives;
-          as_needed = MoreRead reads.given f.given refl (all_filled reads.given reads.gives.added goes_on few told reads.as_needed)
+          as_needed = MoreRead reads.given f.given refl (all_filled reads.given reads.gives.added goes_on few told has_room reads.as_needed)
               (record {
                 needed = k;
                 waits = subst (λ z. Takes (grammar q) true z z (Undecided k)) here undecided;
@@ -196,15 +209,15 @@ module _ {R A State V O : Type 0} (left : R → Option (List ℕ)) (grammar : St
     -- or a read failed: nothing is read then
     module _ (t : Stream R A) (e : Io.Error) (f : Fills left u t) (none : held_of t.held ≡ held_of u.held) where
       abbrev Unreadable : Type 0
-      Unreadable = IsUnread {O = O} (Err (Stopped.Fault e)) ⊎ IsUntold t
+      Unreadable = IsUnread {O = O} t (Err (Stopped.Fault e))
 
       unread : Unreadable
-      unread = inl (Unread.Fault e, refl)
+      unread = inl (e, refl)
 
       nothing : f.given ≡ []
       nothing = nil_of f.given (omega (arith, ap length f.gives.added, ap length none, length-append (held_of u.held) f.given))
 
-      as_before : (given : List ℕ) → held_of u.held ≡ held_of s.held ++ given → ReadAsNeeded (grammar q) s u (IsUntold u) given →
+      as_before : (given : List ℕ) → held_of u.held ≡ held_of s.held ++ given → ReadAsNeeded (grammar q) s u (IsUntold u ⊎ (lacks ≡ true)) given →
           ReadAsNeeded (grammar q) s t Unreadable given
       as_before given added (NoneRead e' f') =
           let here : held_of u.held ≡ held_of s.held ++ [] = added ∙ ap (λ z. held_of s.held ++ z) e' in
@@ -223,9 +236,9 @@ module _ {R A State V O : Type 0} (left : R → Option (List ℕ)) (grammar : St
         as_needed = as_before reads.given reads.gives.added reads.as_needed;
       }
 
-      pub decides_fault : u.ended ≡ false → TellsFault u t e → IsOpen left t → t.settings ≡ u.settings → t.offset ≡ u.offset →
+      faulted : u.ended ≡ false → TellsFault u t e → IsOpen left t → t.settings ≡ u.settings → t.offset ≡ u.offset →
           Decides left (grammar q) s t (Err (Stopped.Fault e))
-      decides_fault goes_on tells opened' set' count' = record {
+      faulted goes_on tells opened' set' count' = record {
         filled = t;
         reads = faulted_reads;
         faults = one_told s u t e faults tells;
@@ -238,39 +251,49 @@ module _ {R A State V O : Type 0} (left : R → Option (List ℕ)) (grammar : St
         offset = count' ∙ offset;
       }
 
-    -- or there is no room
-    pub decides_lack : u.ended ≡ false → length (held_of u.held) < u.settings.most → (wants : ℕ) → wants ≡ wanted_of u.settings k (length (held_of u.held)) →
-        (t : Stream R A) → (u.untold ≡ None) × TellsNoFault u t → LacksRoom t × (length (held_of t.held) < wants + length (held_of u.held)) → Fills left u t →
-        length (held_of t.held) < wants + length (held_of u.held) + most_read u.settings → IsOpen left t → t.settings ≡ u.settings → t.offset ≡ u.offset →
-        Decides left (grammar q) s t (Err Stopped.OutOfMemory)
-    decides_lack goes_on few wants as_many t tells lacks f below opened' set' count' =
-        let wanted : wants ≡ wanted_of t.settings k (length (held_of u.held)) = as_many ∙ ap (λ z. wanted_of z k (length (held_of u.held))) (sym set') in
-        record {
-          filled = t;
-          reads = reads_further goes_on few tells.0 wants as_many (IsUnread {O = O} (Err Stopped.OutOfMemory) ⊎ IsUntold t) t f below
-              (inr (inr (inr (inl (Unread.OutOfMemory, refl)))));
-          faults = none_told s u t faults tells.0 tells.1;
-          open_then = opened';
-          answers = Lacking lacks.0 refl (held_of u.held) f.given f.gives.added k undecided
-              (omega (arith, lacks.1, ap length f.gives.added, length-append (held_of u.held) f.given, wanted)) refl;
-          no_read = λ h. absurd (goes_on_from goes_on h);
-          source = refl;
-          ended = refl;
-          settings = (set' ∙ settings, set' ∙ settings);
-          offset = count' ∙ offset;
-        }
+    pub decides_fault : u.ended ≡ false → (wants : ℕ) (w : Stream R A) (why : Unread) (e : Io.Error) → why ≡ Unread.Fault e →
+        Waited left u w wants (Err why) → Decides left (grammar q) s w (Err (Stopped.Fault e))
+    decides_fault goes_on wants w why e is_so waited =
+        let d = subst (λ z. Waited left u w wants (Err z)) is_so waited in
+        faulted w e d.fills (d.none e refl) goes_on d.faults d.opened d.settings d.offset
 
-    -- by why
-    pub decides_unread : u.ended ≡ false → length (held_of u.held) < u.settings.most → (wants : ℕ) → wants ≡ wanted_of u.settings k (length (held_of u.held)) →
-        (t : Stream R A) (why : Unread) → CountsUnread u t {T = Unit {0}} (Err why) →
-        (◌≡◌ {A = Result (Unit {0}) Unread} (Err why) (Err Unread.OutOfMemory) → LacksRoom t × (length (held_of t.held) < wants + length (held_of u.held))) →
-        ((e : Io.Error) → ◌≡◌ {A = Result (Unit {0}) Unread} (Err why) (Err (Unread.Fault e)) → held_of t.held ≡ held_of u.held) → Fills left u t →
-        length (held_of t.held) < wants + length (held_of u.held) + most_read u.settings → IsOpen left t → t.settings ≡ u.settings → t.offset ≡ u.offset →
-        Decides left (grammar q) s t (Err (stop_of why))
-    decides_unread goes_on few wants as_many t (Unread.Fault e) tells lacks none f below opened' set' count' =
-        decides_fault t e f (none e refl) goes_on tells opened' set' count'
-    decides_unread goes_on few wants as_many t Unread.OutOfMemory tells lacks none f below opened' set' count' =
-        decides_lack goes_on few wants as_many t tells (lacks refl) f below opened' set' count'
+    -- or there is no room for more
+    pub decides_lack : lacks ≡ true → Decides left (grammar q) s u (Err Stopped.OutOfMemory)
+    decides_lack e = record {
+      filled = u;
+      reads = reads_so_far (Err Stopped.OutOfMemory);
+      faults = faults;
+      open_then = opened;
+      answers = Lacking (room e) refl (k, undecided) refl;
+      no_read = no_read;
+      source = refl;
+      ended = refl;
+      settings = (settings, settings);
+      offset = offset;
+    }
+
+    -- it goes on with more bytes, as many as were wanted
+    pub reads_further : u.ended ≡ false → length (held_of u.held) < u.settings.most → lacks ≡ false → (wants : ℕ) →
+        wants ≡ wanted_of u.settings k (length (held_of u.held)) → (t : Stream R A) (x : Unit {0}) → Waited left u t wants (Ok x) → (lack : Bool) →
+        Reads left (grammar q) s t (IsUntold t ⊎ (lack ≡ true))
+    reads_further goes_on few has_room wants as_many t x d lack =
+        reads_on goes_on few d.faults.0 has_room wants as_many (IsUntold t ⊎ (lack ≡ true)) t d.fills d.no_more
+        (more_reasons (wants + length (held_of u.held)) t (IsUntold t) (lack ≡ true) (d.enough refl))
+
+    -- or with fewer, where there is no room for more
+    pub reads_short : u.ended ≡ false → length (held_of u.held) < u.settings.most → lacks ≡ false → (wants : ℕ) →
+        wants ≡ wanted_of u.settings k (length (held_of u.held)) → (t : Stream R A) (why : Unread) → why ≡ Unread.OutOfMemory →
+        Waited left u t wants (Err why) → (lack : Bool) → lack ≡ true → Reads left (grammar q) s t (IsUntold t ⊎ (lack ≡ true))
+    reads_short goes_on few has_room wants as_many t why is_so waited lack e =
+        let d = subst (λ z. Waited left u t wants (Err z)) is_so waited in
+        reads_on goes_on few d.faults.0 has_room wants as_many (IsUntold t ⊎ (lack ≡ true)) t d.fills d.no_more (inr (inr (inr (inr e))))
+
+-- where there was no room for more no fault was told
+pub without_room : {R A : Type 0} (left : R → Option (List ℕ)) (u t : Stream R A) (wants : ℕ) (why : Unread) → why ≡ Unread.OutOfMemory →
+    Waited left u t wants (Err why) → (u.untold ≡ None) × TellsNoFault u t × LacksRoom t
+without_room left u t wants why is_so waited =
+    let d = subst (λ z. Waited left u t wants (Err z)) is_so waited in
+    (d.faults.0, d.faults.1, d.memory refl)
 
 -- no read was made where the reader had ended: it hasn't
 pub none_at_end : {R A : Type 0} (s u t : Stream R A) → u.ended ≡ false → (s.ended ≡ true → (u.source ≡ s.source) × (u.ended ≡ true)) → s.ended ≡ true →

@@ -115,7 +115,7 @@ module _ {R A V O : Type 0} (grammar : Grammar Bytes V O (Error Bytes)) (t : Str
   moves_answer u r (AtEnd e k g h) = moves_ends u k r h
   moves_answer u r (Full a b w e) = stays (held_of u.held) r (ap used_of e) b
   moves_answer u r (Faulted why b w e) = stays (held_of u.held) r (ap used_of e) b
-  moves_answer u r (Lacking l b before last d k w few e) = stays (held_of u.held) r (ap used_of e) b
+  moves_answer u r (Lacking l b w e) = stays (held_of u.held) r (ap used_of e) b
 
 module _ {R A V O : Type 0} (left : R → Option (List ℕ)) (grammar : Grammar Bytes V O (Error Bytes)) (u t : Stream R A)
     (opened : IsOpen left u) (same_source : t.source ≡ u.source) (same_settings : t.settings ≡ u.settings) (i : Bytes) (ki : bytes_model.IsKnown i)
@@ -168,7 +168,7 @@ module _ {R A V O : Type 0} (left : R → Option (List ℕ)) (grammar : Grammar 
   of_answer r (Full a c w e) = subst (λ z. TellsWhole grammar t z i p) (sym e)
       (subst (λ z. z ≤ length (held_of t.held)) (ap (λ z. z.most) (sym same_settings)) (subst (λ z. u.settings.most ≤ length z) (sym c) a))
   of_answer r (Faulted why c w e) = subst (λ z. TellsWhole grammar t z i p) (sym e) tt
-  of_answer r (Lacking l c before last d k w few e) = subst (λ z. TellsWhole grammar t z i p) (sym e) tt
+  of_answer r (Lacking l c w e) = subst (λ z. TellsWhole grammar t z i p) (sym e) tt
 
 module _ {R A V O : Type 0} (left : R → Option (List ℕ)) (grammar : Grammar Bytes V O (Error Bytes)) where
   pub answers_whole : grammar.meaning.IsSound → AnswersWhole A left grammar

@@ -1,6 +1,6 @@
 -- Items of a reader.
 use Rattle.std.specs.Prelude.{◌≡◌, ℕ, zero, suc, ◌+◌, ◌-◌, ◌^◌, ◌<◌, ◌≤◌, ◌⊎◌, min, Bool, true, false}
-use Rattle.std.specs.Prelude.{List, [], ◌++◌, length, Option, Some, None, Result, Ok, Err, vec_capacity, vec_len}
+use Rattle.std.specs.Prelude.{List, [], ◌++◌, length, Option, Some, None, Result, Ok, Err, IfOk, IfSome, IsOk, vec_capacity, vec_len}
 use Rattle.std.specs.Io.KnownBytes.{Consumes, IsAtEnd}
 use Rattle.std_io.specs.declared.io.error.Error as Io
 use Rattle.nom_internal.specs.Prelude.{Needed, Grammar}
@@ -31,21 +31,17 @@ Tells (Took.Refused e n) r = r ≡ Err (Stopped.Refused e n)
 Tells (Took.Failed e n) r = r ≡ Err (Stopped.Failed e n)
 Tells Took.OutOfMemory r = r ≡ Err Stopped.OutOfMemory
 
--- what is told where bytes couldn't be read
-abbrev pub stop_of : Unread → Why.Stop
-stop_of (Unread.Fault e) = Stopped.Fault e
-stop_of Unread.OutOfMemory = Stopped.OutOfMemory
-
 -- the offset after an answer: an item's bytes are counted, up to the greatest `u64`
 abbrev pub counted : {O : Type 0} → ℕ → Told O → ℕ
 counted offset (Ok (Some (n, o))) = min (offset + n) (2 ^ 64 - 1)
 counted offset (Ok None) = offset
 counted offset (Err e) = offset
 
--- how many more parses there can be: none at the end, and else one for each byte that may be held, and one
-abbrev pub turns_left : (ended : Bool) (most held : ℕ) → ℕ
-turns_left true most held = zero
-turns_left false most held = suc (most - held)
+-- how many more parses there can be: none at the end, none where there is no room for more bytes, and else one for each byte that may be held, and one
+abbrev pub turns_left : (ended lacks : Bool) (most held : ℕ) → ℕ
+turns_left true lacks most held = zero
+turns_left false true most held = zero
+turns_left false false most held = suc (most - held)
 
 module _ {R A : Type 0} (left : R → Option (List ℕ)) where
   -- The buffer, with the bytes that are used and the room for more, is never longer than the most bytes that may be held; and the
@@ -116,9 +112,30 @@ module _ {R A : Type 0} (s t : Stream R A) where
   CountsFaults (Err (Stopped.Fault e)) = TellsFault e
   CountsFaults (Err Stopped.OutOfMemory) = TellsNoFault
 
--- bytes couldn't be read
-abbrev pub IsUnread : {O : Type 0} → Told O → Type 0
-IsUnread r = (why : Unread) × (r ≡ Err (stop_of why))
+-- More bytes may be waited for: the reader isn't at its end, and more may be held.
+pub record MayWait {R A : Type 0} (left : R → Option (List ℕ)) (s : Stream R A) (wants : ℕ) : Type 0 where
+  pub opened : IsOpen left s
+  pub some : 0 < wants
+  pub goes_on : s.ended ≡ false
+  pub most : length (held_of s.held) < s.settings.most
+
+-- That many bytes more were waited for: they were read, unless the reader is at its end, no more may be held, or a read failed after
+-- others gave bytes; less than one read more was. Or memory ran out, or the first read failed.
+pub record Waited {R A : Type 0} (left : R → Option (List ℕ)) (s t : Stream R A) (wants : ℕ) (r : Result (Unit {0}) Unread) : Type 0 where
+  pub opened : IsOpen left t
+  pub fills : Fills left s t
+  pub enough : IsOk r → IsEnough (wants + length (held_of s.held)) t (IsUntold t)
+  pub some : IsOk r → (t.ended ≡ true) ⊎ (length (held_of s.held) < length (held_of t.held))
+  pub no_more : length (held_of t.held) < wants + length (held_of s.held) + most_read s.settings
+  pub memory : r ≡ Err Unread.OutOfMemory → LacksRoom t
+  pub none : (e : Io.Error) → r ≡ Err (Unread.Fault e) → held_of t.held ≡ held_of s.held
+  pub faults : CountsUnread s t r
+  pub settings : t.settings ≡ s.settings
+  pub offset : t.offset ≡ s.offset
+
+-- bytes couldn't be read: a read failed, and that is told, or is yet to be; or there is no room for one
+abbrev pub IsUnread : {R A O : Type 0} → Stream R A → Told O → Type 0
+IsUnread t r = ((e : Io.Error) × (r ≡ Err (Stopped.Fault e))) ⊎ IsUntold t ⊎ LacksRoom t
 
 -- these bytes leave the item undecided
 abbrev pub Waits : {V O : Type 0} → Grammar Bytes V O (Error Bytes) → List ℕ → Type 0
@@ -170,9 +187,19 @@ module _ {R A V O : Type 0} (grammar : Grammar Bytes V O (Error Bytes)) (s t : S
     Full : s.settings.most ≤ length (held_of s.held) → held_of t.held ≡ held_of s.held → Waits grammar (held_of s.held) → r ≡ Err Stopped.TooLong → Answers r
     -- it isn't decided, and a read failed
     Faulted : (e : Io.Error) → held_of t.held ≡ held_of s.held → Waits grammar (held_of s.held) → r ≡ Err (Stopped.Fault e) → Answers r
-    -- It wasn't decided by the bytes before the last ones, which are fewer than were wanted; and there is no room for more.
-    Lacking : LacksRoom s → held_of t.held ≡ held_of s.held → (before last : List ℕ) → held_of s.held ≡ before ++ last → (k : Needed) →
-        Takes grammar true before before (Took.Undecided k) → length last < wanted_of s.settings k (length before) → r ≡ Err Stopped.OutOfMemory → Answers r
+    -- it isn't decided, and there is no room for more
+    Lacking : LacksRoom s → held_of t.held ≡ held_of s.held → Waits grammar (held_of s.held) → r ≡ Err Stopped.OutOfMemory → Answers r
+
+-- What else holds of a stream after an answer for which nothing was read: the bytes of an item are counted, and are the last that were
+-- used.
+pub record ReadsNothing {R A O : Type 0} (left : R → Option (List ℕ)) (s t : Stream R A) (r : Told O) : Type 0 where
+  pub opened : IsOpen left t
+  pub offset : t.offset ≡ counted s.offset r
+  pub last : IfOk r (λ r. IfSome r (λ p. p.0 ≤ t.held.start))
+  pub source : t.source ≡ s.source
+  pub settings : t.settings ≡ s.settings
+  pub ended : t.ended ≡ s.ended
+  pub untold : t.untold ≡ s.untold
 
 module _ {R A V O : Type 0} (left : R → Option (List ℕ)) (grammar : Grammar Bytes V O (Error Bytes)) (s t : Stream R A) where
   -- bytes were read as they were needed
@@ -185,7 +212,7 @@ module _ {R A V O : Type 0} (left : R → Option (List ℕ)) (grammar : Grammar 
 pub record Decides {R A V O : Type 0} (left : R → Option (List ℕ)) (grammar : Grammar Bytes V O (Error Bytes)) (s t : Stream R A) (r : Told O) : Type 0 where
   -- the stream as it stood then
   pub filled : Stream R A
-  pub reads : Reads left grammar s filled (IsUnread r ⊎ IsUntold filled)
+  pub reads : Reads left grammar s filled (IsUnread filled r)
   pub faults : CountsFaults s t r
   pub open_then : IsOpen left filled
   pub answers : Answers grammar filled t r

@@ -19,7 +19,7 @@ pub struct Held<A: Allocator> {
     pub end: usize,
 }
 
-// So long a buffer costs little, and holds many small reads.
+// So many bytes cost little, and hold many small reads.
 const SMALL: usize = 4096;
 
 impl<A: Allocator> Held<A> {
@@ -151,8 +151,8 @@ impl<A: Allocator> Held<A> {
         Ok(())
     }
 
-    // The same, where there is no room after them. A buffer too short for them grows to `SMALL` bytes, if it may be that
-    // long, so that small reads seldom move bytes.
+    // The same, where there is no room after them. Where there is none at the front either, the buffer grows by `SMALL` bytes,
+    // if it may be that long, so that small reads seldom come here.
     #[inline(never)]
     fn clear_room(&mut self, count: usize, most: usize) -> Result<(), OutOfMemory>
         requires within { IsWithin self.old }
@@ -164,7 +164,10 @@ impl<A: Allocator> Held<A> {
         ensures bounded { vec_len self.new.bytes ≤ max (vec_len self.old.bytes) (max most (length (held_of self.old) + count)) }
     {
         self.settle();
-        let ample = SMALL.min(most).saturating_sub(self.end).max(count);
+        if count <= self.bytes.len() - self.end {
+            return Ok(());
+        }
+        let ample = SMALL.min(most.saturating_sub(self.end)).max(count);
         match self.make_room(ample) {
             Ok(()) => Ok(()),
             Err(_) => self.make_room(count),

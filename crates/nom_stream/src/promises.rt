@@ -1,8 +1,10 @@
 //! What the items of every stream promise, where their grammar is sound. These functions do nothing: their contracts are the
 //! promises.
+ghost use Rattle.nom_stream.specs.Repeats.{ParsesFew};
 ghost use Rattle.nom_stream.specs.Wholes.{AnswersWhole, BytesOfWhole, ItemsOfWhole};
 
 use crate::grammar::Grammar;
+use crate::settings::Settings;
 use crate::stream::Stream;
 use std::alloc::Allocator;
 use std::io::Read;
@@ -38,4 +40,11 @@ pub fn bytes_of_whole<R: Read, A: Allocator + Copy, G: Grammar>(
     _grammar: &G,
 )
     ensures { BytesOfWhole A R.remaining (G.grammar (G.state _grammar.now)) }
+{}
+
+/// With patience, for every way in which a reader gives its bytes, and whatever a parser asks for: the parses that left an
+/// item undecided, each before as many bytes were read as were wanted (`AreFillings`), were together of at most as many bytes
+/// as are held then.
+pub fn parses_few<G: Grammar>(_settings: &Settings, _grammar: &G)
+    ensures { ParsesFew (G.grammar (G.state _grammar.now)) _settings.now }
 {}

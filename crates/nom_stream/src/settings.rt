@@ -11,9 +11,10 @@ pub struct Settings {
     pub read: usize,
     /// The most bytes that are held. An item that these don't decide is too long.
     pub most: usize,
-    /// Whether an item of unknown length is parsed again only once twice as much of it is held, so that all its parses
-    /// together are of at most some four times its bytes; otherwise after each read, as a peer that waits for an answer
-    /// needs it.
+    /// Whether an item is parsed again only once twice as much of it is held, or as many bytes more as its parser asks for,
+    /// if that is more. Then all its parses together are of at most some four times its bytes. Otherwise it is parsed as
+    /// soon as as many bytes came as its parser asks for, as a peer that waits for an answer needs it: where it asks for
+    /// one, after each read.
     pub patient: bool,
     /// Whether an item that the end of the data leaves undecided is answered as a complete input.
     pub complete: bool,
@@ -26,9 +27,10 @@ impl Settings {
         ensures wanted { result ≡ wanted_of self.now needed held }
         ensures some { 0 < result }
     {
-        match needed {
-            Needed::Unknown => { if self.patient { held.max(1) } else { 1 } }
+        let asked = match needed {
+            Needed::Unknown => 1,
             Needed::Size(size) => size.get(),
-        }
+        };
+        if self.patient { asked.max(held) } else { asked }
     }
 }

@@ -1,9 +1,8 @@
 //! The items of a reader.
-ghost use Rattle.std.specs.Prelude.{◌≡◌, true, false, ◌<◌, ◌≤◌, ◌+◌, ◌^◌, None, Err, IfOk, IfSome, IsOk, [], length, vec_capacity, ◌⊎◌};
+ghost use Rattle.std.specs.Prelude.{◌≡◌, false, ◌<◌, ◌≤◌, ◌+◌, ◌^◌, None, Err, IfOk, IfSome, [], length, vec_capacity};
 ghost use Rattle.nom_stream.specs.Held.{held_of, last_of};
-ghost use Rattle.nom_stream.specs.Streams.{CountsOnce, CountsUnread, Decides, Ends, Fills, IsEnough, IsOpen, IsUntold, LacksRoom};
-ghost use Rattle.nom_stream.specs.Streams.{ReadsOnce, Tells, counted, stop_of};
-ghost use Rattle.nom_stream.specs.Wanted.{most_read};
+ghost use Rattle.nom_stream.specs.Streams.{CountsOnce, Decides, Ends, IsOpen, MayWait, ReadsNothing};
+ghost use Rattle.nom_stream.specs.Streams.{ReadsOnce, Tells, Waited, counted};
 ghost use Rattle.nom_stream.specs.declared.step.Taken.TheVariants.{Undecided};
 
 use crate::grammar::Grammar;
@@ -61,16 +60,6 @@ pub struct Stream<R, A: Allocator> {
     pub untold: Option<io::Error>,
 }
 
-// What is told where bytes couldn't be read.
-fn unfilled<T>(why: Unread) -> Result<T, Stop>
-    ensures { result ≡ Err (stop_of why) }
-{
-    Err(match why {
-        Unread::Fault(error) => Stop::Fault(error),
-        Unread::OutOfMemory => Stop::OutOfMemory,
-    })
-}
-
 impl<R: Read, A: Allocator + Copy> Stream<R, A> {
     /// A stream from where a reader stands.
     pub fn new(alloc: A, source: R, settings: Settings) -> Self
@@ -120,20 +109,8 @@ impl<R: Read, A: Allocator + Copy> Stream<R, A> {
     // they are there. Where one fails after others gave bytes, these are parsed before the fault is told.
     #[inline(never)]
     fn read_wanted(&mut self, wants: usize) -> Result<(), Unread>
-        requires open { IsOpen R.remaining self.old }
-        requires some { 0 < wants }
-        requires goes_on { self.old.ended ≡ false }
-        requires most { length (held_of self.old.held) < self.old.settings.most }
-        ensures open { IsOpen R.remaining self.new }
-        ensures fills { Fills R.remaining self.old self.new }
-        ensures enough { IsOk result → IsEnough (wants + length (held_of self.old.held)) self.new (IsUntold self.new) }
-        ensures no_more { length (held_of self.new.held) < wants + length (held_of self.old.held) + most_read self.old.settings }
-        ensures memory { result ≡ Err Unread.OutOfMemory → LacksRoom self.new × (length (held_of self.new.held) < wants + length (held_of self.old.held)) }
-        ensures none { (e : _) → result ≡ Err (Unread.Fault e) → held_of self.new.held ≡ held_of self.old.held }
-        ensures faults { CountsUnread self.old self.new result }
-        ensures some { IsOk result → (self.new.ended ≡ true) ⊎ (length (held_of self.old.held) < length (held_of self.new.held)) }
-        ensures settings { self.new.settings ≡ self.old.settings }
-        ensures offset { self.new.offset ≡ self.old.offset }
+        requires { MayWait R.remaining self.old wants }
+        ensures { Waited R.remaining self.old self.new wants result }
     {
         match self.untold {
             Some(error) => {
@@ -170,20 +147,8 @@ impl<R: Read, A: Allocator + Copy> Stream<R, A> {
     // The same, with room for the answer as in `end`.
     #[inline(always)]
     fn fill(&mut self, wants: usize) -> Result<(), Unread>
-        requires open { IsOpen R.remaining self.old }
-        requires some { 0 < wants }
-        requires goes_on { self.old.ended ≡ false }
-        requires most { length (held_of self.old.held) < self.old.settings.most }
-        ensures open { IsOpen R.remaining self.new }
-        ensures fills { Fills R.remaining self.old self.new }
-        ensures enough { IsOk result → IsEnough (wants + length (held_of self.old.held)) self.new (IsUntold self.new) }
-        ensures no_more { length (held_of self.new.held) < wants + length (held_of self.old.held) + most_read self.old.settings }
-        ensures memory { result ≡ Err Unread.OutOfMemory → LacksRoom self.new × (length (held_of self.new.held) < wants + length (held_of self.old.held)) }
-        ensures none { (e : _) → result ≡ Err (Unread.Fault e) → held_of self.new.held ≡ held_of self.old.held }
-        ensures faults { CountsUnread self.old self.new result }
-        ensures some { IsOk result → (self.new.ended ≡ true) ⊎ (length (held_of self.old.held) < length (held_of self.new.held)) }
-        ensures settings { self.new.settings ≡ self.old.settings }
-        ensures offset { self.new.offset ≡ self.old.offset }
+        requires { MayWait R.remaining self.old wants }
+        ensures { Waited R.remaining self.old self.new wants result }
     {
         self.read_wanted(wants)
     }
@@ -219,12 +184,8 @@ impl<R: Read, A: Allocator + Copy> Stream<R, A> {
         requires runs { (G.grammar (G.state grammar.old)).meaning.Runs }
         requires open { IsOpen R.remaining self.old }
         ensures kept { G.state grammar.new ≡ G.state grammar.old }
-        ensures open { IsOpen R.remaining self.new }
         ensures ends { Ends (G.grammar (G.state grammar.old)) self.old self.new needed result }
-        ensures offset { self.new.offset ≡ counted self.old.offset result }
-        ensures last { IfOk result (λ r. IfSome r (λ p. p.0 ≤ self.new.held.start)) }
-        ensures others { (self.new.source ≡ self.old.source) × (self.new.settings ≡ self.old.settings)
-            × (self.new.ended ≡ self.old.ended) × (self.new.untold ≡ self.old.untold) }
+        ensures others { ReadsNothing R.remaining self.old self.new result }
     {
         if self.held.len() == 0 {
             return Ok(None);
@@ -246,12 +207,8 @@ impl<R: Read, A: Allocator + Copy> Stream<R, A> {
         requires runs { (G.grammar (G.state grammar.old)).meaning.Runs }
         requires open { IsOpen R.remaining self.old }
         ensures kept { G.state grammar.new ≡ G.state grammar.old }
-        ensures open { IsOpen R.remaining self.new }
         ensures ends { Ends (G.grammar (G.state grammar.old)) self.old self.new needed result }
-        ensures offset { self.new.offset ≡ counted self.old.offset result }
-        ensures last { IfOk result (λ r. IfSome r (λ p. p.0 ≤ self.new.held.start)) }
-        ensures others { (self.new.source ≡ self.old.source) × (self.new.settings ≡ self.old.settings)
-            × (self.new.ended ≡ self.old.ended) × (self.new.untold ≡ self.old.untold) }
+        ensures others { ReadsNothing R.remaining self.old self.new result }
     {
         self.finish(needed, grammar)
     }
@@ -260,7 +217,7 @@ impl<R: Read, A: Allocator + Copy> Stream<R, A> {
     ///
     /// What is held is parsed. Where it isn't decided more is read, and it is parsed again. An item's bytes aren't held
     /// any more, but `last` lends them until the next call. After a `Stop` all is held, and the call can be made again. At a
-    /// fault what is held doesn't decide. At the end no more is read.
+    /// fault what is held doesn't decide, nor where there is no room for more. At the end no more is read.
     #[inline(always)]
     pub fn next_item<G: Grammar>(
         &mut self,
@@ -275,6 +232,8 @@ impl<R: Read, A: Allocator + Copy> Stream<R, A> {
         ensures last { IfOk result (λ r. IfSome r (λ p. p.0 ≤ self.new.held.start)) }
         ensures settings { self.new.settings ≡ self.old.settings }
     {
+        // Whether there was no room for more bytes: those that came before that may decide.
+        let mut lacks = false;
         'parses: loop {
             let taken = take(&mut self.held, grammar, true);
             let needed = match needed_of(&taken) {
@@ -284,6 +243,9 @@ impl<R: Read, A: Allocator + Copy> Stream<R, A> {
             if self.ended {
                 return self.end(needed, grammar);
             }
+            if lacks {
+                return Err(Stop::OutOfMemory);
+            }
             let held = self.held.len();
             if self.settings.most <= held {
                 return Err(Stop::TooLong);
@@ -291,7 +253,8 @@ impl<R: Read, A: Allocator + Copy> Stream<R, A> {
             let wanted = self.settings.wanted(needed, held);
             match self.fill(wanted) {
                 Ok(()) => {}
-                Err(why) => return unfilled(why),
+                Err(Unread::Fault(error)) => return Err(Stop::Fault(error)),
+                Err(Unread::OutOfMemory) => lacks = true,
             }
         }
     }

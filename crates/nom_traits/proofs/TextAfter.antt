@@ -1,5 +1,5 @@
 -- The place in a text after a number of characters.
-use Rattle.std.proofs.Common.{◌≡◌, ℕ, ◌+◌, ◌-◌, ◌<◌, ◌≤◌, ◌++◌, List, [], ◌∷◌, Bor, length, sym, ◌∙◌, ap, refl, arith, append_assoc, length-append}
+use Rattle.std.proofs.Common.{◌≡◌, ℕ, ◌+◌, ◌-◌, ◌<◌, ◌≤◌, ◌++◌, List, [], ◌∷◌, Bor, length, sym, ◌∙◌, ap, subst, refl, arith, append_assoc, length-append}
 use Rattle.std.specs.Prelude.{chars, encode_utf8_all, encode_utf8, IsUtf8}
 use Rattle.std.specs.Char.{len_utf8}
 use Rattle.std.proofs.lemmas.Str.{length-encode, encodes-chars, chars_past_char, IsUtf8-past_char, length-le-encodes}
@@ -35,6 +35,12 @@ after_found {rest = rest} {passed = passed} a h = record {
   place = record { front = passed; rest = chars rest; whole = a.whole; length_is = sym a.index_is };
   count_is = omega (arith, a.left_is);
 }
+
+-- the place, by the length of what is left
+pub after_rest : {i : Bor (List ℕ)} {rest left_text passed : List ℕ} {index left count : ℕ} → IsAfter i.now rest passed index left count → left ≤ 0 →
+    left_text ≡ rest → IsCount text_model i count (length i.now - length left_text)
+after_rest {i = i} {rest = rest} {count = count} a h e =
+    subst (IsCount text_model i count) (omega (arith, a.room, ap length e)) (after_found a (omega (arith, h)))
 
 pub after_end : {bs rest passed : List ℕ} {index left count : ℕ} → IsAfter bs rest passed index left count → length rest ≡ 0 → 0 < left →
     length (chars bs) < count

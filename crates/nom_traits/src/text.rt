@@ -150,18 +150,13 @@ fn index_after(text: &str, count: usize) -> Result<usize, Needed>
         (λ k. (length (chars text.now) < count) × (size_of k ≡ None)) }
 {
     text.prove_known();
-    let mut index = 0;
+    let mut rest = text.chars();
     let mut left = count;
-    for c in text.chars() {
-        if left == 0 {
-            return Ok(index);
+    while left > 0 {
+        match rest.next() {
+            Some(_) => left -= 1,
+            None => return Err(Needed::Unknown),
         }
-        index += c.len_utf8();
-        left -= 1;
     }
-    if left == 0 {
-        Ok(index)
-    } else {
-        Err(Needed::Unknown)
-    }
+    Ok(text.len() - rest.as_str().len())
 }

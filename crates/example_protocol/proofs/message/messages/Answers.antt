@@ -1,7 +1,7 @@
 use Rattle.std.proofs.Common.{◌∙◌, ap}
 use Rattle.nom_internal.specs.Prelude.{bytes_model}
 use Rattle.nom_growing.specs.Growing.{IsGrown}
-use Rattle.nom_growing.specs.Promises.{HasNoFailure}
+use Rattle.nom_internal.specs.Promises.{HasNoFailure}
 use Rattle.example_protocol.proofs.WrittenMessages.{by_its_parts, of_whole}
 use Rattle.example_protocol.proofs.message.messages.Goals as goal
 
@@ -23,8 +23,8 @@ returns g c =
     let end = ap (λ p. p.tag.now) c.terminated-stream.ensures.second ∙ ap (λ t. t.now) c.tag-end.ensures in
     let bytes = c.args.bytes in
     let cuts = c.args.cuts.now in
-    let index = c.unfailing.result.index in
-    let answer = c.unfailing.result.result in
+    let index = c.parse_growing.result.index in
+    let answer = c.parse_growing.result.result in
     let both = by_its_parts (λ h. IsGrown bytes_model h.IsOutput h.meaning bytes cuts index answer × HasNoFailure bytes_model h.meaning) _ _ _ _
-    _ _ ping text close end length number (c.unfailing.ensures.grown, c.unfailing.ensures.failures) in
+    _ _ ping text close end length number (c.parse_growing.ensures.grown, c.parse_growing.ensures.failures) in
     (of_whole _ _ bytes cuts index c.prove_known.ensures answer both (search), both.0, both.1)

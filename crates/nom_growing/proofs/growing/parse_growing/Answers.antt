@@ -42,3 +42,9 @@ pub returns-clause-whole : goal.returns-clause-whole
 returns-clause-whole g c =
     agrees g.I.Items.model g.met.I.Items.lawful _ _ _ (g.P.Parser.grammar (g.P.Parser.state c.args.parser)).meaning c.args.whole c.args.cuts.now _ _
     (g.met.P.StreamParser.pinned _ c.requires.sound) (returns-clause-grown g c)
+
+pub returns-then-not-waits-clause-failures : goal.returns-then-not-waits-clause-failures
+returns-then-not-waits-clause-failures g c cause s i k never a = (g.met.P.Parser.lawful _ c.requires.sound).never_fails cause never s i k a
+
+pub returns-clause-failures : goal.returns-clause-failures
+returns-clause-failures g c cause s i k never a = (g.met.P.Parser.lawful _ c.requires.sound).never_fails cause never s i k a

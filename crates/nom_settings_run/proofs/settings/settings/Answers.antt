@@ -1,6 +1,5 @@
 use Rattle.std.proofs.Common.{false, ◌∙◌, ap}
-use Rattle.nom_internal.specs.Prelude.{ParsesMeaning}
-use Rattle.nom_settings_run.specs.Settings.{AreSections}
+use Rattle.nom.specs.Grammar.{Parses}
 use Rattle.nom_settings_run.proofs.Written.{by_its_parts}
 use Rattle.nom_settings_run.proofs.settings.settings.Goals as goal
 
@@ -31,5 +30,5 @@ returns g c =
     let cr₂ = ap (λ p. p.first.parser.wanted) last ∙ (ap (λ p. p.parser.wanted) c.pair-2.ensures.first
     ∙ (ap (λ p. p.wanted) c.opt-2.ensures ∙ c.char-4.ensures)) in
     let lf₂ = ap (λ p. p.second.wanted) last ∙ (ap (λ p. p.wanted) c.pair-2.ensures.second ∙ c.char-5.ensures) in
-    by_its_parts w (λ m. ParsesMeaning w (AreSections w) m false c.args.input c.parse_complete.result) _ _ _ _ _ _ _ _ _ _ _ opens closes sign cr lf cr₂
+    by_its_parts w (λ h. Parses w h false c.args.input c.parse_complete.result) _ _ _ _ _ _ _ _ _ _ _ opens closes sign cr lf cr₂
     lf₂ set name kind name_kind c.parse_complete.ensures.shown

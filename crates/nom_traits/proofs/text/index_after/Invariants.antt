@@ -1,7 +1,7 @@
+use Rattle.std.specs.Prelude.{ℕ, List}
 use Rattle.nom_traits.proofs.TextAfter.{IsAfter}
 use Rattle.nom_traits.proofs.text.index_after.Given as goal
 
-abbrev pub invariant-loop-c : goal.invariant-loop-c
-invariant-loop-c l =
-    (goal.iterator-loop-c).can_next l.c-iterator × (goal.iterator-loop-c).is_finite l.c-iterator ×
-    IsAfter l.text l.c-iterator.rest.now l.yielded l.index l.left l.count
+-- the characters passed, and the place after them
+abbrev pub invariant-loop-left : goal.invariant-loop-left
+invariant-loop-left l = (passed : List ℕ) × (index : ℕ) × IsAfter l.text l.rest.rest.now passed index l.left l.count

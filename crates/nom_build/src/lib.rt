@@ -1,4 +1,0 @@
-//! What outputs are collected in.
-#![tactic(auto)]
-
-pub mod collection;

@@ -1,0 +1,22 @@
+use Rattle.std.proofs.Common.{ap}
+use Rattle.nom_internal.specs.Prelude.{rest_of}
+use Rattle.nom_internal.specs.Results.JudgedBesides.{Kept, Dropped}
+use Rattle.nom_internal.proofs.Shown.{err_from_residual, then_err, then_ok, output_err, output_ok}
+use Rattle.nom_combinator.proofs.consuming.AllConsumingParser.process.Goals as goal
+
+pub returns-in_err-rest-clause-shown : goal.returns-in_err-rest-clause-shown
+returns-in_err-rest-clause-shown g c = then_err g.met.I.Items.lawful c.in_err-rest.ensures.shown c.from_residual.ensures
+
+pub returns-in_err-rest-2-clause-shown : goal.returns-in_err-rest-2-clause-shown
+returns-in_err-rest-2-clause-shown g c =
+    then_ok g.met.I.Items.lawful c.in_ok-rest.ensures.shown (λ u b. output_err c.in_err-rest-2.ensures.shown c.from_residual-in_err-rest-2.ensures)
+
+pub returns-clause-shown : goal.returns-clause-shown
+returns-clause-shown g c = then_ok g.met.I.Items.lawful c.in_ok-rest.ensures.shown (λ u b. output_ok c.in_ok-rest-2.ensures.shown (λ v d. b))
+
+pub returns-in_err-rest-2-clause-besides : goal.returns-in_err-rest-2-clause-besides
+returns-in_err-rest-2-clause-besides g c =
+    Dropped _ c.in_ok-rest.ensures.besides (ap rest_of (err_from_residual c.from_residual-in_err-rest-2.ensures))
+
+pub returns-clause-besides : goal.returns-clause-besides
+returns-clause-besides g c = Kept (rw c.in_ok-rest-2.ensures.besides c.in_ok-rest.ensures.besides)

@@ -1,0 +1,98 @@
+//! Parsers whose answer is fixed, whatever the input.
+ghost use Rattle.std.specs.Prelude.{◌≡◌};
+ghost use Rattle.nom_internal.specs.Cloned.{ClonesAlike, clones_pinned};
+ghost use Rattle.nom_internal.specs.Prelude.{OfRest, value_pinned, valued};
+ghost use Rattle.nom_combinator.specs.Ends.{clone_meaning, fail_meaning};
+ghost use Rattle.nom_combinator.specs.laws.EndLaws.{clone_lawful, clone_steady, fail_lawful, fail_steady};
+
+use nom_error::answer::{Err, PResult};
+use nom_error::kind::ErrorKind;
+use nom_error::mode::OutputMode;
+use nom_error::value::{ParseError, refusal};
+use nom_internal::built::cloned;
+use nom_internal::parser::{Parser, StreamParser};
+use nom_traits::input::Items;
+use nom_traits::view::Viewed;
+use std::marker::PhantomData;
+
+/// A value of which a clone is given at once; made by `success`.
+#[derive(Drop)]
+pub struct Success<O, I, E> {
+    pub value: O,
+    pub of: PhantomData<(I, E)>,
+}
+
+impl<I: Items, O: Clone, E: ParseError<I>> Parser<I> for Success<O, I, E> {
+    type Output = O;
+
+    type Error = E;
+
+    ghost State = { O };
+
+    ghost state = { λ p. p.value };
+
+    ghost Tree = { O };
+
+    // a clone of the value
+    ghost grammar = { λ value. record {
+      meaning = clone_meaning value (O.is_infallible value);
+      IsOutput = λ _. O.is_clone value;
+    } };
+
+    /// It rests where it starts.
+    ghost Besides = { λ _ _ _ i. OfRest (λ rest. rest ≡ i) };
+
+    #[inline(always)]
+    fn process<OM: OutputMode>(&mut self, input: I) -> PResult<I, O, E> {
+        input.prove_known();
+        match cloned::<OM::Output, O>(&self.value) {
+            Ok(output) => Ok((input, output)),
+            Err(_) => Err(Err::OutOfMemory),
+        }
+    }
+
+    ghost lawful = { λ value k. clone_lawful E I.model value (O.is_infallible value) };
+}
+
+impl<I: Items, O: Clone + Viewed, E: ParseError<I>> StreamParser<I> for Success<O, I, E> {
+    ghost Pins = { λ p. ClonesAlike O.view O.is_clone p.value };
+
+    ghost pinned = { λ p k h. clones_pinned h };
+
+    ghost steady = { λ value k. clone_steady E I.model value (O.is_infallible value) };
+}
+
+/// A refusal, made by `fail`.
+#[derive(Drop)]
+pub struct Fail<O, I, E> {
+    pub of: PhantomData<(O, I, E)>,
+}
+
+impl<I: Items, O: Drop, E: ParseError<I>> Parser<I> for Fail<O, I, E> {
+    type Output = O;
+
+    type Error = E;
+
+    ghost State = { Unit {0} };
+
+    ghost state = { λ _. tt };
+
+    ghost Tree = { O };
+
+    ghost grammar = { λ _. valued (fail_meaning E.errors) };
+
+    #[inline(always)]
+    fn process<OM: OutputMode>(&mut self, input: I) -> PResult<I, O, E> {
+        Err(refusal::<OM::Error, I, E>(input, ErrorKind::Fail))
+    }
+
+    ghost lawful = { λ _ k. fail_lawful O I.model E.errors };
+}
+
+impl<I: Items, O: Drop + Viewed, E: ParseError<I>> StreamParser<I> for Fail<O, I, E> {
+    ghost Pins = { λ _. Unit {0} };
+
+    ghost pinned = { λ p k h. value_pinned };
+
+    ghost steady = { λ _ k. fail_steady O I.model E.errors };
+}

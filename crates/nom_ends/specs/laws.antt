@@ -1,2 +1,0 @@
-pub mod AllLaws
-pub mod EndLaws

@@ -1,0 +1,36 @@
+//! What lists with a separator promise beside what every parser does. These functions do nothing: their
+//! contracts are the promises.
+ghost use Rattle.nom_repeat.specs.Accepted.{AcceptsOneAndMore};
+ghost use Rattle.nom_sequence.specs.Sequences.{preceded_meaning};
+ghost use Rattle.nom_multi.specs.SeparatedPromises.{AcceptsNoneOrMore};
+
+use crate::separated_lists::{SeparatedList0, SeparatedList1};
+use nom_internal::parser::Parser;
+use nom_traits::input::Input;
+use std::alloc::Allocator;
+
+/// `separated_list1` accepts a first item, and after it just the pairs of a separator and an item that they
+/// accept, one after the other, none of them empty, up to where the separator or the item after it refuses.
+pub fn separated_list1_accepts<
+    I: Input,
+    A: Allocator + Copy,
+    F: Parser<I> + Drop,
+    G: Parser<I, Error = F::Error> + Drop,
+>(_parser: &SeparatedList1<A, G, F>)
+    ensures { AcceptsOneAndMore I.model (F.grammar (F.state _parser.now.next.second)).meaning
+        (preceded_meaning I.model (G.grammar (G.state _parser.now.next.first)).meaning (F.grammar (F.state _parser.now.next.second)).meaning)
+        (⟦<SeparatedList1<A, G, F> as Parser<I>>⟧.grammar (G.state _parser.now.next.first, F.state _parser.now.next.second)).meaning }
+{}
+
+/// `separated_list0` accepts nothing, with no items, where the first item is refused; and else just what
+/// `separated_list1` accepts.
+pub fn separated_list0_accepts<
+    I: Input,
+    A: Allocator + Copy,
+    F: Parser<I> + Drop,
+    G: Parser<I, Error = F::Error> + Drop,
+>(_parser: &SeparatedList0<A, G, F>)
+    ensures { AcceptsNoneOrMore I.model (F.grammar (F.state _parser.now.next.second)).meaning
+        (preceded_meaning I.model (G.grammar (G.state _parser.now.next.first)).meaning (F.grammar (F.state _parser.now.next.second)).meaning)
+        (⟦<SeparatedList0<A, G, F> as Parser<I>>⟧.grammar (G.state _parser.now.next.first, F.state _parser.now.next.second)).meaning }
+{}

@@ -1,3 +1,0 @@
-pub mod Promises
-pub mod Separated
-pub mod laws

@@ -1,0 +1,51 @@
+//! The loop of exactly n items.
+ghost use Rattle.std.specs.Prelude.{◌≡◌};
+ghost use Rattle.nom_internal.specs.Prelude.{Built, modes, ShowsMeaning};
+ghost use Rattle.nom_repeat.specs.Bounds.{exact_limits};
+ghost use Rattle.nom_repeat.specs.Items.{items_meaning};
+ghost use Rattle.nom_repeat.specs.Accumulated.{Accumulated};
+
+use crate::accumulator::{Accumulator, push_item};
+use nom_error::answer::{Err, PResult};
+use nom_error::kind::ErrorKind;
+use nom_error::mode::{Mode, OutputM, OutputMode};
+use nom_error::value::ParseError;
+use nom_internal::choice::close_error;
+use nom_internal::parser::Parser;
+use nom_traits::input::Items;
+
+/// Exactly `count` items of a parser, one after another, of any length each: what was kept before, and what is
+/// kept of each. Where an item is refused, so is all, with its error, to which `Count` is added at the start.
+#[inline(always)]
+pub fn items_exactly<OM: OutputMode, I: Items, F: Parser<I>, K: Accumulator<F::Output> + Drop>(
+    parser: &mut F,
+    input: I,
+    before: Option<K>,
+    count: usize,
+) -> PResult<I, K, F::Error>
+    requires runs { (F.grammar (F.state parser.old)).meaning.Runs }
+    requires built { Built OM.Output.BUILDS K.CanPush before }
+    ensures shown { ShowsMeaning I.model (Accumulated K.Pushes K.CanPush (F.grammar (F.state parser.old)).IsOutput before)
+        (items_meaning I.model F.Error.errors (exact_limits count) K.Grows (F.grammar (F.state parser.old)).meaning)
+        (modes OM.Output.BUILDS OM.Error.BUILDS OM.Incomplete.STREAMING) input result }
+    ensures kept { F.state parser.new ≡ F.state parser.old }
+{
+    input.prove_known();
+    let mut rest = input;
+    let mut kept = before;
+    let mut done = 0usize;
+    while done < count {
+        match parser.process::<OutputM<OM::Output, OM::Error, OM::Incomplete>>(rest) {
+            Ok((next, item)) => {
+                push_item::<OM::Output, _, _>(&mut kept, item)?;
+                rest = next;
+                done += 1;
+            }
+            Err(Err::Error(error)) => return Err(close_error(error, input, ErrorKind::Count)),
+            Err(Err::Failure(error)) => return Err(Err::Failure(error)),
+            Err(Err::Incomplete(needed)) => return Err(Err::Incomplete(needed)),
+            Err(Err::OutOfMemory) => return Err(Err::OutOfMemory),
+        }
+    }
+    Ok((rest, kept))
+}
