@@ -1,4 +1,5 @@
 -- Inputs with line and column: their words, and the cuts of those that hold bytes.
+pub use Rattle.nom_located.specs.Lines.{EndsLine, IsLineStart, IsLineStop, IsUtf8Column, begins_character}
 pub use Rattle.nom_located.specs.Located.{IsAfter, Place, line_ends, located, past_bytes, place, located_model}
 use Rattle.std.specs.Prelude.{ℕ, List, length}
 use Rattle.std.specs.Borrow.{Bor}

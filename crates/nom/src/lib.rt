@@ -18,6 +18,7 @@ pub mod sequence;
 
 pub use nom_bits::convert::ErrorConvert;
 pub use nom_bits::number::BitUint;
+pub use nom_bytes::position;
 pub use nom_error::answer::{Err, IResult, Needed, OutOfMemory, PResult};
 pub use nom_error::finish::{Finish, FinishError};
 pub use nom_error::mode::{
@@ -36,7 +37,7 @@ pub use nom_internal::judged::{MapOpt, MapRes};
 pub use nom_internal::map::Map;
 pub use nom_internal::parser::{Parser, StreamParser};
 pub use nom_internal::sequence::And;
-pub use nom_located::Located;
+pub use nom_located::{Line, Located, line_of};
 pub use nom_parse_to::parse::ParseTo;
 pub use nom_ranges::range::NomRange;
 pub use nom_ranges::saturating::SaturatingIterator;

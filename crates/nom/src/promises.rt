@@ -1,5 +1,5 @@
 //! What every parser promises, what combinators, the items of an iterator, a permutation, lists, counts and folds do,
-//! where lists and texts may run out of memory, and where fronts and rests stand.
+//! where lists and texts may run out of memory, where fronts and rests stand, and that they keep their label.
 
 pub use nom_combinator::promises::{
     complete_never_waits, consumed_gives_front, cut_never_refuses, not_consumes_nothing,
@@ -10,7 +10,9 @@ pub use nom_internal::promises::{
     is_complete_too, never_runs_out, stays_on_longer,
 };
 pub use nom_iterator::promises::{finishes_so, gives_items, items_are_one, items_fit, items_stay};
-pub use nom_located::promises::{stands_after, stands_there};
+pub use nom_located::promises::{
+    counts_characters, front_keeps_extra, rest_keeps_extra, stands_after, stands_there,
+};
 pub use nom_memory::promises::{
     count_grows_by_items, escaped_transform_grows_by_pieces, length_count_grows_by_items,
     many_grows_by_items, many_m_n_grows_by_items, many_till_grows_by_items, many0_grows_by_items,

@@ -44,10 +44,10 @@ read_append : {A : Type 0} (read : A → List ℕ) (xs ys : List A) → read_all
 read_append read [] ys = refl
 read_append read (x ∷ xs) ys = ap (λ l. read x ++ l) (read_append read xs ys) ∙ sym (append_assoc (read x) (read_all read xs) (read_all read ys))
 
-module _ {I A : Type 0} (w : Model I A) (read : A → List ℕ) {bytes : I → List ℕ} (reads : ReadsBytes w bytes read) {S : Type 0} (fragment : S → I)
-    (at : S → Place) where
+module _ {I A : Type 0} (w : Model I A) (read : A → List ℕ) {bytes : I → List ℕ} (reads : ReadsBytes w bytes read) {S X : Type 0} (fragment : S → I)
+    (at : S → Place) (label : S → X) where
   -- the bytes of the items before a rest are the first bytes of the whole
-  bytes_before : (x y : S) (n : ℕ) → w.IsKnown (fragment x) → (q : IsSuffixOf (located_model fragment at read w) x n y) →
+  bytes_before : (x y : S) (n : ℕ) → w.IsKnown (fragment x) → (q : IsSuffixOf (located_model fragment at label read w) x n y) →
       read_all read q.front ≡ take n (bytes (fragment x))
   bytes_before x y n h q =
       let whole : bytes (fragment x) ≡ read_all read q.front ++ read_all read (w.elements (fragment y)) = reads.whole (fragment x) h
@@ -56,10 +56,10 @@ module _ {I A : Type 0} (w : Model I A) (read : A → List ℕ) {bytes : I → L
       sym (ap (take n) whole ∙ (ap (λ k. take k (read_all read q.front ++ read_all read (w.elements (fragment y)))) size
       ∙ take-append_seam (read_all read q.front) (read_all read (w.elements (fragment y)))))
 
-  pub rest_after : (x y : S) (n : ℕ) → w.IsKnown (fragment x) → IsSuffixOf (located_model fragment at read w) x n y →
+  pub rest_after : (x y : S) (n : ℕ) → w.IsKnown (fragment x) → IsSuffixOf (located_model fragment at label read w) x n y →
       IsAfter (at x) (take n (bytes (fragment x))) (at y)
   rest_after x y n h q =
       let bs = bytes_before x y n h q in
-      let there : at y ≡ past_bytes (at x) (take n (bytes (fragment x))) = ap (λ m. m.0) q.mark_is ∙ (moved_read read (at x) q.front
+      let there : at y ≡ past_bytes (at x) (take n (bytes (fragment x))) = ap (λ m. m.0.0) q.mark_is ∙ (ap (λ m. m.0) (moved_read read (at x) (label x) q.front)
       ∙ ap (past_bytes (at x)) bs) in
       subst (IsAfter (at x) (take n (bytes (fragment x)))) (sym there) (is_after (at x) (take n (bytes (fragment x))))

@@ -1,3 +1,4 @@
+pub mod Characters
 pub mod Counted
 pub mod Cuts
 pub mod LineEnds

@@ -1,3 +1,4 @@
+pub mod Lines
 pub mod Located
 pub mod Moving
 pub mod laws

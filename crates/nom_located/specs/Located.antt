@@ -30,10 +30,16 @@ pub record Fits (p : Place) (len : ℕ) : Type 0 where
   pub column_from : 1 ≤ p.column
   pub column_to : p.column ≤ p.offset + 1
 
--- Values that hold an input, whose items are read as bytes, and a place: an item moves the place by its bytes.
-module _ {S I A : Type 0} (fragment : S → I) (at : S → Place) (read : A → List ℕ) where
+-- Values that hold an input, whose items are read as bytes, a place and a label: an item moves the place by its bytes, and the label stays.
+module _ {S I A X : Type 0} (fragment : S → I) (at : S → Place) (label : S → X) (read : A → List ℕ) where
   abbrev pub located : Moving S I A
-  located = record { held = fragment; Mark = Place; mark = at; step = λ p a. past_bytes p (read a); Fits = Fits }
+  located = record {
+    held = fragment;
+    Mark = Place × X;
+    mark = λ x. (at x, label x);
+    step = λ p a. (past_bytes p.0 (read a), p.1);
+    Fits = λ p n. Fits p.0 n;
+  }
 
   abbrev pub located_model : Model I A → Model S A
   located_model w = moving_model located w

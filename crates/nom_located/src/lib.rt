@@ -3,5 +3,7 @@
 
 mod located;
 pub mod promises;
+mod source;
 
 pub use crate::located::Located;
+pub use crate::source::{Line, line_of};

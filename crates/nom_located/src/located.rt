@@ -4,19 +4,23 @@ ghost use Rattle.std.specs.Fmt.{decimal};
 ghost use Rattle.std.proofs.Common.{ap};
 ghost use Rattle.memchr.specs.Find.{IsFirst, Passes, is_byte};
 ghost use Rattle.nom_traits.specs.Input.{input_len};
+ghost use Rattle.nom_located.specs.Lines.{IsUtf8Column};
 ghost use Rattle.nom_located.specs.Moving.{moving_view};
 ghost use Rattle.nom_located.specs.laws.MovingLaws.{moving_comparing, moving_finding, moving_lawful, moving_reads, moving_injective, moving_views};
 ghost use Rattle.nom_located.specs.Located.{Fits, located, place, past_bytes, located_model};
 
+use crate::source::column_in_characters;
 use memchr::memchr;
 use nom_error::answer::{Needed, OutOfMemory};
+use nom_hex::hex::HexDisplay;
 use nom_parse_to::parse::ParseTo;
 use nom_search::bytes::{AsBytes, ByteItems};
 use nom_search::extend::ExtendInto;
 use nom_search::substring::FindSubstring;
+use nom_search::token::FindToken;
 use nom_traits::character::CodeSet;
 use nom_traits::compare::{Compare, CompareResult};
-use nom_traits::input::{Input, Items};
+use nom_traits::input::{Input, Items, Value};
 use nom_traits::offset::Offset;
 use nom_traits::rests::{CountItems, CutRest};
 use nom_traits::view::Viewed;
@@ -25,20 +29,24 @@ use std::fmt;
 
 /// An input, with its offset, line and column: how many bytes stand before it in the whole, and its line and its place in
 /// that line, both from 1 on, in bytes. The byte 10 ends a line. Each rest of it knows where it stands, and so does the
-/// input that an error keeps; a front stands where the whole does. Two are equal where all four parts are.
-#[derive(Debug, PartialEq, Eq)]
-pub struct Located<I: Items> {
+/// input that an error keeps; a front stands where the whole does. All of them carry a label of the user's, `extra`, as the
+/// name of a file. Two are equal where the other four parts are, whatever their labels.
+#[derive(Debug)]
+#[derive_where(PartialEq, Eq, Hash; I)]
+pub struct Located<I: Items, X = ()> {
     fragment: I,
     offset: usize,
     line: usize,
     column: usize,
+    #[derive_where(skip(EqHashOrd))]
+    extra: X,
     ghost fits: { Fits (place offset line column) (input_len I.model fragment) },
 }
 
-impl<I: Items> Copy for Located<I> {}
+impl<I: Items, X: Copy> Copy for Located<I, X> {}
 
 /// Where it stands, as `LINE:COLUMN`.
-impl<I: Items> fmt::Display for Located<I> {
+impl<I: Items, X> fmt::Display for Located<I, X> {
     ghost output = { λ x. Some (decimal x.line ++ codes ":" ++ decimal x.column) };
 
     fn fmt<W: fmt::Write>(&self, f: &mut fmt::Formatter<W>) -> fmt::Result {
@@ -46,38 +54,39 @@ impl<I: Items> fmt::Display for Located<I> {
     }
 }
 
-impl<I: Items> Clone for Located<I> {
+impl<I: Items, X: Copy> Clone for Located<I, X> {
     fn clone(&self) -> Result<Self, AllocError>
-        ensures { IfOk result (λ x. (x.fragment ≡ self.now.fragment) × (x.offset ≡ self.now.offset) × (x.line ≡ self.now.line) × (x.column ≡ self.now.column)) }
+        ensures { IfOk result (λ x. (x.fragment ≡ self.now.fragment) × (x.offset ≡ self.now.offset) × (x.line ≡ self.now.line) × (x.column ≡ self.now.column) × (x.extra ≡ self.now.extra)) }
     {
         Ok(Located {
             fragment: self.fragment,
             offset: self.offset,
             line: self.line,
             column: self.column,
+            extra: self.extra,
         })
     }
 }
 
-impl<I: Viewed + ByteItems> Viewed for Located<I> {
-    ghost view = { moving_view (located (λ x. x.fragment) (λ x. place x.offset x.line x.column) I.read) I.view };
+impl<I: Viewed + ByteItems, X: Copy> Viewed for Located<I, X> {
+    ghost view = { moving_view (located (λ x. x.fragment) (λ x. place x.offset x.line x.column) (λ x. x.extra) I.read) I.view };
 }
 
-impl<I: ByteItems> Items for Located<I> {
+impl<I: ByteItems, X: Copy> Items for Located<I, X> {
     type Item = I::Item;
 
-    ghost model = { located_model (λ x. x.fragment) (λ x. place x.offset x.line x.column) I.read I.model };
+    ghost model = { located_model (λ x. x.fragment) (λ x. place x.offset x.line x.column) (λ x. x.extra) I.read I.model };
 
     fn prove_known(self) {
         self.fragment.prove_known();
     }
 
-    ghost lawful = { moving_lawful (located (λ x. x.fragment) (λ x. place x.offset x.line x.column) I.read) I.model I.lawful };
+    ghost lawful = { moving_lawful (located (λ x. x.fragment) (λ x. place x.offset x.line x.column) (λ x. x.extra) I.read) I.model I.lawful };
 
     ghost values = { λ x h. I.values x.fragment h.0 };
 }
 
-impl<I: Input + ByteItems> Input for Located<I> {
+impl<I: Input + ByteItems, X: Copy> Input for Located<I, X> {
     ghost lack = { I.lack };
 
     type Iter = I::Iter;
@@ -98,6 +107,7 @@ impl<I: Input + ByteItems> Input for Located<I> {
             offset: self.offset,
             line: self.line,
             column: self.column,
+            extra: self.extra,
         }
     }
 
@@ -112,6 +122,7 @@ impl<I: Input + ByteItems> Input for Located<I> {
             offset: self.offset + index,
             line,
             column,
+            extra: self.extra,
         }
     }
 
@@ -146,12 +157,12 @@ impl<I: Input + ByteItems> Input for Located<I> {
 
     ghost more = { I.more };
 
-    ghost views = { moving_views (located (λ x. x.fragment) (λ x. place x.offset x.line x.column) I.read) I.model I.view I.views };
+    ghost views = { moving_views (located (λ x. x.fragment) (λ x. place x.offset x.line x.column) (λ x. x.extra) I.read) I.model I.view I.views };
 
-    ghost view_injective = { moving_injective (located (λ x. x.fragment) (λ x. place x.offset x.line x.column) I.read) I.model I.view I.view_injective };
+    ghost view_injective = { moving_injective (located (λ x. x.fragment) (λ x. place x.offset x.line x.column) (λ x. x.extra) I.read) I.model I.view I.view_injective };
 }
 
-impl<I: Input + ByteItems + CutRest> CutRest for Located<I> {
+impl<I: Input + ByteItems + CutRest, X: Copy> CutRest for Located<I, X> {
     #[inline]
     fn cut_rest(self, left: Self) -> Option<Self> {
         match self.fragment.cut_rest(left.fragment) {
@@ -161,7 +172,7 @@ impl<I: Input + ByteItems + CutRest> CutRest for Located<I> {
     }
 }
 
-impl<I: ByteItems + CountItems> CountItems for Located<I> {
+impl<I: ByteItems + CountItems, X: Copy> CountItems for Located<I, X> {
     #[inline(always)]
     fn item_count(self) -> usize {
         self.fragment.item_count()
@@ -188,7 +199,7 @@ fn line_after(bytes: &[u8], offset: usize, line: usize, column: usize) -> (usize
 
 /// The first place from `start` on where a line ends.
 #[inline(always)]
-fn next_end(bytes: &[u8], start: usize) -> Option<usize>
+pub(crate) fn next_end(bytes: &[u8], start: usize) -> Option<usize>
     requires { start ≤ length bytes.now }
     ensures { IsFirst (Passes (is_byte 10) bytes.now) start (length bytes.now) result }
 {
@@ -199,10 +210,20 @@ fn next_end(bytes: &[u8], start: usize) -> Option<usize>
 }
 
 impl<I: ByteItems> Located<I> {
-    /// An input at its start: offset 0, line 1, column 1.
+    /// An input at its start: offset 0, line 1, column 1. It has no label: that is `()`.
     #[inline(always)]
     pub fn new(fragment: I) -> Located<I>
         ensures { (result.fragment ≡ fragment) × (result.offset ≡ 0) × (result.line ≡ 1) × (result.column ≡ 1) }
+    {
+        Located::new_extra(fragment, ())
+    }
+}
+
+impl<I: ByteItems, X: Copy> Located<I, X> {
+    /// An input at its start, with a label: offset 0, line 1, column 1.
+    #[inline(always)]
+    pub fn new_extra(fragment: I, extra: X) -> Located<I, X>
+        ensures { (result.fragment ≡ fragment) × (result.offset ≡ 0) × (result.line ≡ 1) × (result.column ≡ 1) × (result.extra ≡ extra) }
     {
         fragment.prove_known();
         let _length = fragment.as_bytes().len();
@@ -211,6 +232,32 @@ impl<I: ByteItems> Located<I> {
             offset: 0,
             line: 1,
             column: 1,
+            extra,
+        }
+    }
+
+    /// Its label.
+    #[inline(always)]
+    pub fn extra(&self) -> X
+        ensures { result ≡ self.now.extra }
+    {
+        self.extra
+    }
+
+    /// The same input at the same place, with what a function makes of its label.
+    #[inline(always)]
+    pub fn map_extra<Y: Copy, F: FnOnce(X) -> Y>(self, f: F) -> Located<I, Y>
+        requires { F.pre f self.extra }
+        ensures fragment { result.fragment ≡ self.fragment }
+        ensures place { place result.offset result.line result.column ≡ place self.offset self.line self.column }
+        ensures extra { F.post f self.extra result.extra }
+    {
+        Located {
+            fragment: self.fragment,
+            offset: self.offset,
+            line: self.line,
+            column: self.column,
+            extra: f(self.extra),
         }
     }
 
@@ -245,9 +292,17 @@ impl<I: ByteItems> Located<I> {
     {
         self.column
     }
+
+    /// Its place in its line, in characters of UTF-8; the first is 1. `source` has the bytes of the whole, from the first on.
+    pub fn utf8_column(&self, source: &[u8]) -> usize
+        requires { self.now.offset ≤ length source.now }
+        ensures { IsUtf8Column source.now self.now.offset result }
+    {
+        column_in_characters(source, self.offset)
+    }
 }
 
-impl<I: ByteItems> AsBytes for Located<I> {
+impl<I: ByteItems, X: Copy> AsBytes for Located<I, X> {
     ghost bytes = { λ x. I.bytes x.fragment };
 
     #[inline(always)]
@@ -256,20 +311,20 @@ impl<I: ByteItems> AsBytes for Located<I> {
     }
 }
 
-impl<I: ByteItems> ByteItems for Located<I> {
+impl<I: ByteItems, X: Copy> ByteItems for Located<I, X> {
     ghost read = { I.read };
 
-    ghost reading = { moving_reads (located (λ x. x.fragment) (λ x. place x.offset x.line x.column) I.read) I.model I.reading };
+    ghost reading = { moving_reads (located (λ x. x.fragment) (λ x. place x.offset x.line x.column) (λ x. x.extra) I.read) I.model I.reading };
 }
 
-impl<I: ByteItems> Offset for Located<I> {
+impl<I: ByteItems, X: Copy> Offset for Located<I, X> {
     #[inline(always)]
     fn offset(&self, second: &Self) -> usize {
         second.offset - self.offset
     }
 }
 
-impl<T, I: ByteItems + Compare<T>> Compare<T> for Located<I> {
+impl<T, I: ByteItems + Compare<T>, X: Copy> Compare<T> for Located<I, X> {
     ghost Tag = { I.Tag };
 
     ghost tag_model = { I.tag_model };
@@ -295,12 +350,12 @@ impl<T, I: ByteItems + Compare<T>> Compare<T> for Located<I> {
         self.fragment.compare_no_case(tag)
     }
 
-    ghost comparing = { moving_comparing (located (λ x. x.fragment) (λ x. place x.offset x.line x.column) I.read) I.model I.comparing };
+    ghost comparing = { moving_comparing (located (λ x. x.fragment) (λ x. place x.offset x.line x.column) (λ x. x.extra) I.read) I.model I.comparing };
 
-    ghost comparing_no_case = { moving_comparing (located (λ x. x.fragment) (λ x. place x.offset x.line x.column) I.read) I.model I.comparing_no_case };
+    ghost comparing_no_case = { moving_comparing (located (λ x. x.fragment) (λ x. place x.offset x.line x.column) (λ x. x.extra) I.read) I.model I.comparing_no_case };
 }
 
-impl<T, I: ByteItems + FindSubstring<T>> FindSubstring<T> for Located<I> {
+impl<T, I: ByteItems + FindSubstring<T>, X: Copy> FindSubstring<T> for Located<I, X> {
     ghost Needle = { I.Needle };
 
     ghost needle_model = { I.needle_model };
@@ -312,10 +367,10 @@ impl<T, I: ByteItems + FindSubstring<T>> FindSubstring<T> for Located<I> {
         self.fragment.find_substring(substr)
     }
 
-    ghost finding = { moving_finding (located (λ x. x.fragment) (λ x. place x.offset x.line x.column) I.read) I.model I.finding };
+    ghost finding = { moving_finding (located (λ x. x.fragment) (λ x. place x.offset x.line x.column) (λ x. x.extra) I.read) I.model I.finding };
 }
 
-impl<R, I: ByteItems + ParseTo<R>> ParseTo<R> for Located<I> {
+impl<R, I: ByteItems + ParseTo<R>, X: Copy> ParseTo<R> for Located<I, X> {
     ghost parses = { λ x. I.parses x.fragment };
 
     #[inline(always)]
@@ -324,7 +379,7 @@ impl<R, I: ByteItems + ParseTo<R>> ParseTo<R> for Located<I> {
     }
 }
 
-impl<A: Allocator + Copy, I: ByteItems + ExtendInto<A>> ExtendInto<A> for Located<I> {
+impl<A: Allocator + Copy, I: ByteItems + ExtendInto<A>, X: Copy> ExtendInto<A> for Located<I, X> {
     type Item = <I as ExtendInto<A>>::Item;
 
     type Extender = <I as ExtendInto<A>>::Extender;
@@ -344,4 +399,51 @@ impl<A: Allocator + Copy, I: ByteItems + ExtendInto<A>> ExtendInto<A> for Locate
     }
 
     ghost views = { λ x y h. I.ExtendInto.views x.fragment y.fragment (ap (λ p. p.1) h) };
+}
+
+/// An input at its start, as `new` makes it.
+impl<I: ByteItems> From<I> for Located<I> {
+    ghost from_gives = { λ fragment at. (at.fragment ≡ fragment) × (place at.offset at.line at.column ≡ place 0 1 1) };
+
+    #[inline(always)]
+    fn from(fragment: I) -> Located<I> {
+        Located::new(fragment)
+    }
+}
+
+/// The tokens are those of the fragment.
+impl<T: Value, I: ByteItems + FindToken<T>, X: Copy> FindToken<T> for Located<I, X> {
+    ghost finds = { λ x t. I.finds x.fragment t };
+
+    #[inline(always)]
+    fn find_token(&self, token: T) -> bool {
+        self.fragment.find_token(token)
+    }
+
+    #[inline(always)]
+    fn codes(&self) -> Option<&[u8]> {
+        self.fragment.codes()
+    }
+}
+
+/// The fragment is dumped, with offsets from 0 on; by `to_hex_from` with its `location_offset` they are those of the whole.
+impl<I: ByteItems + HexDisplay, X: Copy> HexDisplay for Located<I, X> {
+    ghost bytes = { λ x. I.HexDisplay.bytes x.fragment };
+
+    fn to_hex<A: Allocator + Copy>(
+        self,
+        alloc: A,
+        chunk_size: usize,
+    ) -> Result<String<A>, OutOfMemory> {
+        self.fragment.to_hex(alloc, chunk_size)
+    }
+
+    fn to_hex_from<A: Allocator + Copy>(
+        self,
+        alloc: A,
+        chunk_size: usize,
+        from: usize,
+    ) -> Result<String<A>, OutOfMemory> {
+        self.fragment.to_hex_from(alloc, chunk_size, from)
+    }
 }

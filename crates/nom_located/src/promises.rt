@@ -1,6 +1,7 @@
 //! What the place of an input promises. These functions do nothing: their contracts are the promises.
-ghost use Rattle.std.specs.Prelude.{◌≡◌, take};
+ghost use Rattle.std.specs.Prelude.{◌≡◌, chars, count_by, length, take};
 ghost use Rattle.nom_traits.specs.Input.{IsPrefixOf, IsSuffixOf};
+ghost use Rattle.nom_located.specs.Lines.{begins_character};
 ghost use Rattle.nom_located.specs.Located.{IsAfter, place, located_model};
 
 use crate::located::Located;
@@ -10,15 +11,50 @@ use nom_traits::input::{Input, Items};
 /// A rest stands after the bytes before it: their number is added to the offset, and to the line the number of
 /// them that are 10. Its column is 1 and the number of bytes after the last such; where there is none, it is the
 /// column before and the number of all.
-pub fn stands_after<I: Input + ByteItems>(input: Located<I>, _length: usize, _rest: Located<I>)
-    requires { IsSuffixOf (located_model (λ x. x.fragment) (λ x. place x.offset x.line x.column) I.read I.model) input _length _rest }
+pub fn stands_after<I: Input + ByteItems, X: Copy>(
+    input: Located<I, X>,
+    _length: usize,
+    _rest: Located<I, X>,
+)
+    requires { IsSuffixOf (located_model (λ x. x.fragment) (λ x. place x.offset x.line x.column) (λ x. x.extra) I.read I.model) input _length _rest }
     ensures { IsAfter (place input.offset input.line input.column) (take _length (I.bytes input.fragment)) (place _rest.offset _rest.line _rest.column) }
 {
     input.prove_known();
 }
 
 /// A front stands where the whole does.
-pub fn stands_there<I: Input + ByteItems>(_input: Located<I>, _length: usize, _front: Located<I>)
-    requires { IsPrefixOf (located_model (λ x. x.fragment) (λ x. place x.offset x.line x.column) I.read I.model) _input _length _front }
+pub fn stands_there<I: Input + ByteItems, X: Copy>(
+    _input: Located<I, X>,
+    _length: usize,
+    _front: Located<I, X>,
+)
+    requires { IsPrefixOf (located_model (λ x. x.fragment) (λ x. place x.offset x.line x.column) (λ x. x.extra) I.read I.model) _input _length _front }
     ensures { place _front.offset _front.line _front.column ≡ place _input.offset _input.line _input.column }
+{}
+
+/// A rest has the label of the whole.
+pub fn rest_keeps_extra<I: Input + ByteItems, X: Copy>(
+    input: Located<I, X>,
+    _length: usize,
+    _rest: Located<I, X>,
+)
+    requires { IsSuffixOf (located_model (λ x. x.fragment) (λ x. place x.offset x.line x.column) (λ x. x.extra) I.read I.model) input _length _rest }
+    ensures { _rest.extra ≡ input.extra }
+{
+    input.prove_known();
+}
+
+/// A front has the label of the whole.
+pub fn front_keeps_extra<I: Input + ByteItems, X: Copy>(
+    _input: Located<I, X>,
+    _length: usize,
+    _front: Located<I, X>,
+)
+    requires { IsPrefixOf (located_model (λ x. x.fragment) (λ x. place x.offset x.line x.column) (λ x. x.extra) I.read I.model) _input _length _front }
+    ensures { _front.extra ≡ _input.extra }
+{}
+
+/// In a text the bytes that begin a character are as many as its characters, so that `utf8_column` counts these.
+pub fn counts_characters(_text: &str)
+    ensures { count_by begins_character _text.now ≡ length (chars _text.now) }
 {}

@@ -33,7 +33,7 @@ line_parts line column s n v = four_parts (decimal line) (codes ":") (decimal co
 -- outputs have the lines of their trees
 setting_same : (u : Slice seen_there) (s : Text) → IsModelledBy seen_there u s → (t : SettingTree seen_there) (o : Text × Text) →
     (setting_of seen_there).IsOutput t o → setting_text s o ≡ setting_tree_text u t
-setting_same u s h t o k = same_line _ _ _ _ _ _ _ _ _ _ (ap (λ m. m.0.line) k.0.mark_is) (ap (λ m. m.0.column) k.0.mark_is) (same_bytes u s h)
+setting_same u s h t o k = same_line _ _ _ _ _ _ _ _ _ _ (ap (λ m. m.0.0.line) k.0.mark_is) (ap (λ m. m.0.0.column) k.0.mark_is) (same_bytes u s h)
     (same_bytes t.0 o.0 k.0) (same_bytes t.1 o.1 k.1)
 
 section_same : {A : Type 0} (t : SectionTree seen_there) (o : Text × Vec (Text × Text) A) → (section_of seen_there {M = A}).IsOutput t o →

@@ -18,13 +18,13 @@ use Rattle.nom_settings_run.specs.Settings.{SectionTree, SettingTree, settings_o
 
 -- a text that knows its line and column, and its model
 abbrev pub Text : Type 0
-Text = Located (Bor (List ℕ)) ℕ TextItems.ghosts CharValue.ghosts
+Text = Located (Bor (List ℕ)) Unit ℕ TextItems.ghosts CharValue.ghosts
 
 abbrev pub place_of : Text → Place
 place_of x = place x.offset x.line x.column
 
 abbrev pub seen_there : Model Text ℕ
-seen_there = located_model (λ x. x.fragment) place_of encode_utf8 text_model
+seen_there = located_model (λ x. x.fragment) place_of (λ x. x.extra) encode_utf8 text_model
 
 -- the line of a setting: where its name stands, the name of its section, and its name and value
 abbrev pub line_text : (line column : ℕ) (section name value : List ℕ) → List ℕ

@@ -8,5 +8,5 @@ use Rattle.nom_settings_run.proofs.report.tell_bytes.Goals as goal
 pub take_from-there-requires : goal.take_from-there-requires
 take_from-there-requires g c =
     let e = ap (λ s. length s.now) c.new-start.ensures.0 in
-    place_moving (located (λ x. x.fragment) (λ x. place x.offset x.line x.column) (λ b. b ∷ [])) bytes_model c.new-start.result c.args.count
+    place_moving (located (λ x. x.fragment) (λ x. place x.offset x.line x.column) (λ x. x.extra) (λ b. b ∷ [])) bytes_model c.new-start.result c.args.count
     (byte_cuts c.new-start.result.fragment (c.args.count ∷ []) (omega (arith, e, c.requires), tt) 0 (omega arith))

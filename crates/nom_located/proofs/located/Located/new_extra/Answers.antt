@@ -1,6 +1,6 @@
 use Rattle.std.proofs.Common.{arith, ap, length}
 use Rattle.nom_search.specs.Reads.{bytes_length}
-use Rattle.nom_located.proofs.located.Located.new.Goals as goal
+use Rattle.nom_located.proofs.located.Located.new_extra.Goals as goal
 
 pub invariant_of-result : goal.invariant_of-result
 invariant_of-result g c =

@@ -1,0 +1,7 @@
+use Rattle.nom_located.specs.Located.{place}
+use Rattle.nom_located.specs.laws.LocatedLaws.{rest_label}
+use Rattle.nom_located.proofs.promises.rest_keeps_extra.Goals as goal
+
+pub returns : goal.returns
+returns g c = rest_label g.I.Items.model g.I.ByteItems.read g.met.I.ByteItems.reading (λ x. x.fragment) (λ x. place x.offset x.line x.column)
+    (λ x. x.extra) c.args.input c.args._rest c.args._length c.requires
