@@ -13,12 +13,13 @@ pub mod extend;
 pub mod laws;
 pub mod multi;
 pub mod number;
+mod place;
 pub mod promises;
 pub mod sequence;
 
+pub use crate::place::position;
 pub use nom_bits::convert::ErrorConvert;
 pub use nom_bits::number::BitUint;
-pub use nom_bytes::position;
 pub use nom_error::answer::{Err, IResult, Needed, OutOfMemory, PResult};
 pub use nom_error::finish::{Finish, FinishError};
 pub use nom_error::mode::{

@@ -36,15 +36,6 @@ pub fn take<C: ToUsize + Drop, I, E>(count: C) -> Take<I, E>
     }
 }
 
-/// Where the input stands, as that of `Located`: its output is the empty front of the input. It takes nothing, and accepts
-/// every input, streaming and complete.
-#[inline(always)]
-pub fn position<I, E>() -> Take<I, E>
-    ensures { result.count ≡ 0 }
-{
-    take(0usize)
-}
-
 /// A tag that the input begins with; its output is that front of the input.
 ///
 /// Any other input is refused with `Tag`. Where the input is only a beginning of the tag, streaming
