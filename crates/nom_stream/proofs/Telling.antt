@@ -1,6 +1,6 @@
 -- What is told of what is held.
-use Rattle.std.proofs.Common.{arith, ◌≡◌, ℕ, ◌+◌, ◌<◌, ◌≤◌, ◌⊎◌, Bool, true, false, List, [], ◌++◌, length, Option}
-use Rattle.std.proofs.Common.{None, Some, Ok, Err, refl, sym, ◌∙◌, ap, subst}
+use Rattle.std.proofs.Common.{arith, ◌≡◌, ℕ, zero, suc, ◌+◌, ◌-◌, ◌<◌, ◌≤◌, ◌⊎◌, Bool, true, false, List, [], ◌++◌, length, Option}
+use Rattle.std.proofs.Common.{None, Some, Result, Ok, Err, refl, sym, ◌∙◌, ap, subst}
 use Rattle.std.proofs.Common.{append-nil, length-append, inl, inr}
 use Rattle.std_io.specs.declared.io.error.Error as Io
 use Rattle.nom_internal.specs.Prelude.{Needed, Grammar}
@@ -97,28 +97,47 @@ counts_end grammar s u t k r (Clean a b e) f = subst (CountsFaults s t) (sym e) 
 counts_end grammar s u t k r (Within a b c e) f = subst (CountsFaults s t) (sym e) f
 counts_end grammar s u t k r (Completed a b taken g l e) f = counts_none s t taken r e f
 
-module _ {R A State V O : Type 0} (left : R → Option (List ℕ)) (grammar : State → Grammar Bytes V O (Error Bytes))
-    (p q : State) (same : p ≡ q) (s u : Stream R A) (lacks : Bool) (room : lacks ≡ true → LacksRoom u)
-    (reads : Reads left (grammar q) s u (IsUntold u ⊎ (lacks ≡ true))) (opened : IsOpen left u)
-    (settings : u.settings ≡ s.settings) (offset : u.offset ≡ s.offset) (faults : TellsNoFault s u)
-    (no_read : s.ended ≡ true → (u.source ≡ s.source) × (u.ended ≡ true)) where
+-- how many more parses there can be: none at the end, none where there is no room for more bytes, and else one for each byte that may be held, and one
+abbrev pub turns_left : (ended lacks : Bool) (most held : ℕ) → ℕ
+turns_left true lacks most held = zero
+turns_left false true most held = zero
+turns_left false false most held = suc (most - held)
+
+-- What is so of a stream u before a parse, of which s was the beginning: bytes were read as they were needed, and nothing was told. Where
+-- `lacks`, there was no room for more.
+pub record SoFar {R A V O : Type 0} (left : R → Option (List ℕ)) (grammar : Grammar Bytes V O (Error Bytes)) (s u : Stream R A) (lacks : Bool) : Type 0 where
+  pub opened : IsOpen left u
+  pub reads : Reads left grammar s u (IsUntold u ⊎ (lacks ≡ true))
+  pub room : lacks ≡ true → LacksRoom u
+  pub faults : TellsNoFault s u
+  pub no_read : s.ended ≡ true → (u.source ≡ s.source) × (u.ended ≡ true)
+  pub settings : u.settings ≡ s.settings
+  pub offset : u.offset ≡ s.offset
+
+-- so it is, and the bytes that are held leave the item undecided
+pub record Stands {R A V O : Type 0} (left : R → Option (List ℕ)) (grammar : Grammar Bytes V O (Error Bytes)) (s u : Stream R A) (lacks : Bool) (k : Needed) :
+    Type 0 where
+  pub so_far : SoFar left grammar s u lacks
+  pub waits : Takes grammar true (held_of u.held) (held_of u.held) (Undecided k)
+
+module _ {R A V O : Type 0} (left : R → Option (List ℕ)) (grammar : Grammar Bytes V O (Error Bytes)) (s u : Stream R A) (lacks : Bool)
+    (i : SoFar left grammar s u lacks) where
   -- what is told now is nothing to what was read before
-  weakened : (r : Told O) (given : List ℕ) → ReadAsNeeded (grammar q) s u (IsUntold u ⊎ (lacks ≡ true)) given →
-      ReadAsNeeded (grammar q) s u (IsUnread u r) given
+  weakened : (r : Told O) (given : List ℕ) → ReadAsNeeded grammar s u (IsUntold u ⊎ (lacks ≡ true)) given → ReadAsNeeded grammar s u (IsUnread u r) given
   weakened r given (NoneRead e f) = NoneRead e f
   weakened r given (MoreRead earlier last e all f (inl a)) = MoreRead earlier last e all f (inl a)
   weakened r given (MoreRead earlier last e all f (inr (inl a))) = MoreRead earlier last e all f (inr (inl a))
   weakened r given (MoreRead earlier last e all f (inr (inr (inl a)))) = MoreRead earlier last e all f (inr (inr (inl a)))
   weakened r given (MoreRead earlier last e all f (inr (inr (inr (inl a))))) = MoreRead earlier last e all f (inr (inr (inr (inr (inl a)))))
-  weakened r given (MoreRead earlier last e all f (inr (inr (inr (inr a))))) = MoreRead earlier last e all f (inr (inr (inr (inr (inr (room a))))))
+  weakened r given (MoreRead earlier last e all f (inr (inr (inr (inr a))))) = MoreRead earlier last e all f (inr (inr (inr (inr (inr (i.room a))))))
 
-  reads_so_far : (r : Told O) → Reads left (grammar q) s u (IsUnread u r)
-  reads_so_far r = record { given = reads.given; gives = reads.gives; as_needed = weakened r reads.given reads.as_needed }
+  reads_so_far : (r : Told O) → Reads left grammar s u (IsUnread u r)
+  reads_so_far r = record { given = i.reads.given; gives = i.reads.gives; as_needed = weakened r i.reads.given i.reads.as_needed }
 
   -- where more may be read, each filling gave as many bytes as were wanted
   all_filled : (given : List ℕ) → held_of u.held ≡ held_of s.held ++ given → u.ended ≡ false → length (held_of u.held) < u.settings.most →
-      u.untold ≡ None → lacks ≡ false → ReadAsNeeded (grammar q) s u (IsUntold u ⊎ (lacks ≡ true)) given →
-      AreFillings (grammar q) s.settings (held_of s.held) given
+      u.untold ≡ None → lacks ≡ false → ReadAsNeeded grammar s u (IsUntold u ⊎ (lacks ≡ true)) given →
+      AreFillings grammar s.settings (held_of s.held) given
   all_filled given added goes_on few told enough (NoneRead e f) = NoFilling e
   all_filled given added goes_on few told enough (MoreRead earlier last e all f (inl a)) =
       let then : length (held_of u.held) ≡ length (held_of s.held) + length earlier + length last =
@@ -131,184 +150,188 @@ module _ {R A State V O : Type 0} (left : R → Option (List ℕ)) (grammar : St
 
   -- it is decided, and told
   pub decides_item : (t : Stream R A) (h : Held A) (taken : Taken O) (r : Told O) → (IsUndecided taken → ⊥) →
-      Takes (grammar p) true (held_of u.held) (held_of h) taken → HoldsLast (held_of u.held) h taken → Tells taken r → t.held ≡ h →
-      t.source ≡ u.source → t.settings ≡ u.settings → t.ended ≡ u.ended → t.untold ≡ u.untold → t.offset ≡ counted u.offset r →
-      Decides left (grammar q) s t r
-  decides_item t h taken r d g l tells held source set end told count = record {
+      Takes grammar true (held_of u.held) (held_of h) taken → HoldsLast (held_of u.held) h taken → Tells taken r → t.offset ≡ counted u.offset r →
+      (t.source ≡ u.source) × (t.held ≡ h) × (t.settings ≡ u.settings) × (t.ended ≡ u.ended) × (t.untold ≡ u.untold) → Decides left grammar s t r
+  decides_item t h taken r d g l tells count o = record {
     filled = u;
     reads = reads_so_far r;
-    faults = counts_none s t taken r tells (still_none s u t source told faults);
-    open_then = opened;
-    answers = subst (λ z. Answers (grammar z) u t r) same (decided (grammar p) u t h taken r held d g l tells);
-    no_read = no_read;
-    source = source;
-    ended = end;
-    settings = (settings, set ∙ settings);
-    offset = count ∙ ap (λ z. counted z r) offset;
+    faults = counts_none s t taken r tells (still_none s u t o.0 o.4 i.faults);
+    open_then = i.opened;
+    answers = decided grammar u t h taken r o.1 d g l tells;
+    no_read = i.no_read;
+    source = o.0;
+    ended = o.3;
+    settings = (i.settings, o.2 ∙ i.settings);
+    offset = count ∙ ap (λ z. counted z r) i.offset;
   }
 
-  -- It is not.
-  module _ (k : Needed) (undecided : Takes (grammar q) true (held_of u.held) (held_of u.held) (Undecided k)) where
-    -- the reader is at its end
-    pub decides_end : (t : Stream R A) (r : Told O) → u.ended ≡ true → Ends (grammar p) u t k r → ReadsNothing left u t r → Decides left (grammar q) s t r
-    decides_end t r e ends o = record {
-      filled = u;
-      reads = reads_so_far r;
-      faults = counts_end (grammar p) s u t k r ends (still_none s u t o.source o.untold faults);
-      open_then = opened;
-      answers = AtEnd e k undecided (subst (λ z. Ends (grammar z) u t k r) same ends);
-      no_read = no_read;
-      source = o.source;
-      ended = o.ended;
-      settings = (settings, o.settings ∙ settings);
-      offset = o.offset ∙ ap (λ z. counted z r) offset;
-    }
-
-    -- no more may be held
-    pub decides_full : u.settings.most ≤ length (held_of u.held) → Decides left (grammar q) s u (Err Stopped.TooLong)
-    decides_full full = record {
-      filled = u;
-      reads = reads_so_far (Err Stopped.TooLong);
-      faults = faults;
-      open_then = opened;
-      answers = Full full refl (k, undecided) refl;
-      no_read = no_read;
-      source = refl;
-      ended = refl;
-      settings = (settings, settings);
-      offset = offset;
-    }
-
-    -- at the end no read is made
-    goes_on_from : u.ended ≡ false → s.ended ≡ true → ⊥
-    goes_on_from goes_on e = let h = (no_read e).1 in cc (goes_on, h)
-
-    -- more is read, since what is held doesn't decide
-    reads_on : u.ended ≡ false → length (held_of u.held) < u.settings.most → u.untold ≡ None → lacks ≡ false → (wants : ℕ) →
-        wants ≡ wanted_of u.settings k (length (held_of u.held)) → (Unreadable : Type 0) (t : Stream R A) → Fills left u t →
-        length (held_of t.held) < wants + length (held_of u.held) + most_read u.settings →
-        IsEnough (wants + length (held_of u.held)) t Unreadable → Reads left (grammar q) s t Unreadable
-    reads_on goes_on few told has_room wants as_many Unreadable t f below enough =
-        let here : held_of u.held ≡ held_of s.held ++ reads.given = reads.gives.added in
-        let wanted : wants ≡ wanted_of s.settings k (length (held_of s.held ++ reads.given)) =
-        as_many ∙ ap (λ z. wanted_of z k (length (held_of u.held))) settings ∙ ap (λ z. wanted_of s.settings k (length z)) here in
-        let all : wants + length (held_of u.held) ≡ wanted_of s.settings k (length (held_of s.held ++ reads.given)) + length (held_of s.held ++ reads.given) =
-        ap (λ z. z + length (held_of u.held)) wanted ∙ ap (λ z. wanted_of s.settings k (length (held_of s.held ++ reads.given)) + length z) here in
-        record {
-          given = reads.given ++ f.given;
-          gives = gives_more left s u u t reads.given f.given reads.gives refl refl f.gives;
-          as_needed = MoreRead reads.given f.given refl (all_filled reads.given reads.gives.added goes_on few told has_room reads.as_needed)
-              (record {
-                needed = k;
-                waits = subst (λ z. Takes (grammar q) true z z (Undecided k)) here undecided;
-                no_more = omega (arith, below, ap length f.gives.added, length-append (held_of u.held) f.given, wanted, ap most_read settings);
-              })
-              (subst (λ z. IsEnough z t Unreadable) all enough);
-        }
-
-    -- or a read failed: nothing is read then
-    module _ (t : Stream R A) (e : Io.Error) (f : Fills left u t) (none : held_of t.held ≡ held_of u.held) where
-      abbrev Unreadable : Type 0
-      Unreadable = IsUnread {O = O} t (Err (Stopped.Fault e))
-
-      unread : Unreadable
-      unread = inl (e, refl)
-
-      nothing : f.given ≡ []
-      nothing = nil_of f.given (omega (arith, ap length f.gives.added, ap length none, length-append (held_of u.held) f.given))
-
-      as_before : (given : List ℕ) → held_of u.held ≡ held_of s.held ++ given → ReadAsNeeded (grammar q) s u (IsUntold u ⊎ (lacks ≡ true)) given →
-          ReadAsNeeded (grammar q) s t Unreadable given
-      as_before given added (NoneRead e' f') =
-          let here : held_of u.held ≡ held_of s.held ++ [] = added ∙ ap (λ z. held_of s.held ++ z) e' in
-          MoreRead [] [] e' (NoFilling refl) (record {
-            needed = k;
-            waits = subst (λ z. Takes (grammar q) true z z (Undecided k)) here undecided;
-            no_more = omega arith;
-          }) (inr (inr (inr unread)))
-      as_before given added (MoreRead earlier last e' all f' enough) = MoreRead earlier last e' all f' (inr (inr (inr unread)))
-
-      faulted_reads : Reads left (grammar q) s t Unreadable
-      faulted_reads = record {
-        given = reads.given;
-        gives = subst (Gives left s t) (ap (λ z. reads.given ++ z) nothing ∙ append-nil reads.given)
-            (gives_more left s u u t reads.given f.given reads.gives refl refl f.gives);
-        as_needed = as_before reads.given reads.gives.added reads.as_needed;
+-- It is not.
+module _ {R A V O : Type 0} {left : R → Option (List ℕ)} {grammar : Grammar Bytes V O (Error Bytes)} {s u : Stream R A} {lacks : Bool} {k : Needed}
+    (there : Stands left grammar s u lacks k) where
+  -- the reader is at its end
+  pub decides_end : (t : Stream R A) (r : Told O) → u.ended ≡ true → Ends grammar u t k r → ReadsNothing left u t r → Decides left grammar s t r
+  decides_end t r e ends o =
+      let i = there.so_far in
+      record {
+        filled = u;
+        reads = reads_so_far left grammar s u lacks i r;
+        faults = counts_end grammar s u t k r ends (still_none s u t o.source o.untold i.faults);
+        open_then = i.opened;
+        answers = AtEnd e k there.waits ends;
+        no_read = i.no_read;
+        source = o.source;
+        ended = o.ended;
+        settings = (i.settings, o.settings ∙ i.settings);
+        offset = o.offset ∙ ap (λ z. counted z r) i.offset;
       }
 
-      faulted : u.ended ≡ false → TellsFault u t e → IsOpen left t → t.settings ≡ u.settings → t.offset ≡ u.offset →
-          Decides left (grammar q) s t (Err (Stopped.Fault e))
-      faulted goes_on tells opened' set' count' = record {
-        filled = t;
-        reads = faulted_reads;
-        faults = one_told s u t e faults tells;
-        open_then = opened';
-        answers = Faulted e refl (k, subst (λ z. Takes (grammar q) true z z (Undecided k)) (sym none) undecided) refl;
+  -- an answer for which nothing is done, and that has no item
+  stopped : (r : Told O) → CountsFaults s u r → u.offset ≡ counted u.offset r → Answers grammar u u r → Decides left grammar s u r
+  stopped r faults same answers =
+      let i = there.so_far in
+      record {
+        filled = u;
+        reads = reads_so_far left grammar s u lacks i r;
+        faults = faults;
+        open_then = i.opened;
+        answers = answers;
+        no_read = i.no_read;
+        source = refl;
+        ended = refl;
+        settings = (i.settings, i.settings);
+        offset = same ∙ ap (λ z. counted z r) i.offset;
+      }
+
+  -- no more may be held
+  pub decides_full : u.settings.most ≤ length (held_of u.held) → Decides left grammar s u (Err Stopped.TooLong)
+  decides_full full = stopped (Err Stopped.TooLong) there.so_far.faults refl (Full full refl (k, there.waits) refl)
+
+  -- or there is no room for more
+  pub decides_lack : lacks ≡ true → Decides left grammar s u (Err Stopped.OutOfMemory)
+  decides_lack e = stopped (Err Stopped.OutOfMemory) there.so_far.faults refl (Lacking (there.so_far.room e) refl (k, there.waits) refl)
+
+  -- at the end no read is made
+  goes_on_from : u.ended ≡ false → s.ended ≡ true → ⊥
+  goes_on_from goes_on e = let h = (there.so_far.no_read e).1 in cc (goes_on, h)
+
+  -- more is read, since what is held doesn't decide
+  reads_on : u.ended ≡ false → length (held_of u.held) < u.settings.most → u.untold ≡ None → lacks ≡ false → (wants : ℕ) →
+      wants ≡ wanted_of u.settings k (length (held_of u.held)) → (Unreadable : Type 0) (t : Stream R A) → Fills left u t →
+      length (held_of t.held) < wants + length (held_of u.held) + most_read u.settings →
+      IsEnough (wants + length (held_of u.held)) t Unreadable → Reads left grammar s t Unreadable
+  reads_on goes_on few told has_room wants as_many Unreadable t f below enough =
+      let i = there.so_far in
+      let given = i.reads.given in
+      let here : held_of u.held ≡ held_of s.held ++ given = i.reads.gives.added in
+      let wanted : wants ≡ wanted_of s.settings k (length (held_of s.held ++ given)) =
+      as_many ∙ ap (λ z. wanted_of z k (length (held_of u.held))) i.settings ∙ ap (λ z. wanted_of s.settings k (length z)) here in
+      let all : wants + length (held_of u.held) ≡ wanted_of s.settings k (length (held_of s.held ++ given)) + length (held_of s.held ++ given) =
+      ap (λ z. z + length (held_of u.held)) wanted ∙ ap (λ z. wanted_of s.settings k (length (held_of s.held ++ given)) + length z) here in
+      record {
+        given = given ++ f.given;
+        gives = gives_more left s u u t given f.given i.reads.gives refl refl f.gives;
+        as_needed = MoreRead given f.given refl (all_filled left grammar s u lacks i given here goes_on few told has_room i.reads.as_needed)
+            (record {
+              needed = k;
+              waits = subst (λ z. Takes grammar true z z (Undecided k)) here there.waits;
+              no_more = omega (arith, below, ap length f.gives.added, length-append (held_of u.held) f.given, wanted, ap most_read i.settings);
+            })
+            (subst (λ z. IsEnough z t Unreadable) all enough);
+      }
+
+  -- or a read failed: nothing is read then
+  module _ (t : Stream R A) (e : Io.Error) (f : Fills left u t) (none : held_of t.held ≡ held_of u.held) where
+    abbrev Unreadable : Type 0
+    Unreadable = IsUnread {O = O} t (Err (Stopped.Fault e))
+
+    unread : Unreadable
+    unread = inl (e, refl)
+
+    nothing : f.given ≡ []
+    nothing = nil_of f.given (omega (arith, ap length f.gives.added, ap length none, length-append (held_of u.held) f.given))
+
+    as_before : (given : List ℕ) → held_of u.held ≡ held_of s.held ++ given → ReadAsNeeded grammar s u (IsUntold u ⊎ (lacks ≡ true)) given →
+        ReadAsNeeded grammar s t Unreadable given
+    as_before given added (NoneRead e' f') =
+        let here : held_of u.held ≡ held_of s.held ++ [] = added ∙ ap (λ z. held_of s.held ++ z) e' in
+        MoreRead [] [] e' (NoFilling refl) (record {
+          needed = k;
+          waits = subst (λ z. Takes grammar true z z (Undecided k)) here there.waits;
+          no_more = omega arith;
+        }) (inr (inr (inr unread)))
+    as_before given added (MoreRead earlier last e' all f' enough) = MoreRead earlier last e' all f' (inr (inr (inr unread)))
+
+    faulted_reads : Reads left grammar s t Unreadable
+    faulted_reads =
+        let reads = there.so_far.reads in
+        record {
+          given = reads.given;
+          gives = subst (Gives left s t) (ap (λ z. reads.given ++ z) nothing ∙ append-nil reads.given)
+              (gives_more left s u u t reads.given f.given reads.gives refl refl f.gives);
+          as_needed = as_before reads.given reads.gives.added reads.as_needed;
+        }
+
+  pub decides_fault : u.ended ≡ false → (wants : ℕ) (w : Stream R A) (why : Unread) (e : Io.Error) → why ≡ Unread.Fault e →
+      Waited left u w wants (Err why) → Decides left grammar s w (Err (Stopped.Fault e))
+  decides_fault goes_on wants w why e is_so waited =
+      let i = there.so_far in
+      let d = subst (λ z. Waited left u w wants (Err z)) is_so waited in
+      let none : held_of w.held ≡ held_of u.held = d.none e refl in
+      record {
+        filled = w;
+        reads = faulted_reads w e d.fills none;
+        faults = one_told s u w e i.faults d.faults;
+        open_then = d.opened;
+        answers = Faulted e refl (k, subst (λ z. Takes grammar true z z (Undecided k)) (sym none) there.waits) refl;
         no_read = λ h. absurd (goes_on_from goes_on h);
         source = refl;
         ended = refl;
-        settings = (set' ∙ settings, set' ∙ settings);
-        offset = count' ∙ offset;
+        settings = (d.settings ∙ i.settings, d.settings ∙ i.settings);
+        offset = d.offset ∙ i.offset;
       }
 
-    pub decides_fault : u.ended ≡ false → (wants : ℕ) (w : Stream R A) (why : Unread) (e : Io.Error) → why ≡ Unread.Fault e →
-        Waited left u w wants (Err why) → Decides left (grammar q) s w (Err (Stopped.Fault e))
-    decides_fault goes_on wants w why e is_so waited =
-        let d = subst (λ z. Waited left u w wants (Err z)) is_so waited in
-        faulted w e d.fills (d.none e refl) goes_on d.faults d.opened d.settings d.offset
+  -- so it is of a stream after more was waited for, which told no fault
+  further : (t : Stream R A) (wants : ℕ) (r : Result (Unit {0}) Unread) (lack : Bool) → u.ended ≡ false → Waited left u t wants r → u.untold ≡ None →
+      TellsNoFault u t → (lack ≡ true → LacksRoom t) → Reads left grammar s t (IsUntold t ⊎ (lack ≡ true)) → SoFar left grammar s t lack
+  further t wants r lack goes_on d told faults room reads =
+      let i = there.so_far in
+      record {
+        opened = d.opened;
+        reads = reads;
+        room = room;
+        faults = none_told s u t i.faults told faults;
+        no_read = λ h. absurd (goes_on_from goes_on h);
+        settings = d.settings ∙ i.settings;
+        offset = d.offset ∙ i.offset;
+      }
 
-    -- or there is no room for more
-    pub decides_lack : lacks ≡ true → Decides left (grammar q) s u (Err Stopped.OutOfMemory)
-    decides_lack e = record {
-      filled = u;
-      reads = reads_so_far (Err Stopped.OutOfMemory);
-      faults = faults;
-      open_then = opened;
-      answers = Lacking (room e) refl (k, undecided) refl;
-      no_read = no_read;
-      source = refl;
-      ended = refl;
-      settings = (settings, settings);
-      offset = offset;
+  -- it goes on with more bytes, as many as were wanted
+  pub goes_further : u.ended ≡ false → length (held_of u.held) < u.settings.most → lacks ≡ false → (wants : ℕ) →
+      wants ≡ wanted_of u.settings k (length (held_of u.held)) → (t : Stream R A) (x : Unit {0}) → Waited left u t wants (Ok x) → (lack : Bool) → lack ≡ lacks →
+      SoFar left grammar s t lack
+  goes_further goes_on few has_room wants as_many t x d lack same =
+      further t wants (Ok x) lack goes_on d d.faults.0 d.faults.1 (λ e. absurd (cc (e, same, has_room)))
+      (reads_on goes_on few d.faults.0 has_room wants as_many (IsUntold t ⊎ (lack ≡ true)) t d.fills d.no_more
+      (more_reasons (wants + length (held_of u.held)) t (IsUntold t) (lack ≡ true) (d.enough refl)))
+
+  -- or with fewer, where there is no room for more
+  pub goes_short : u.ended ≡ false → length (held_of u.held) < u.settings.most → lacks ≡ false → (wants : ℕ) →
+      wants ≡ wanted_of u.settings k (length (held_of u.held)) → (t : Stream R A) (why : Unread) → why ≡ Unread.OutOfMemory →
+      Waited left u t wants (Err why) → (lack : Bool) → lack ≡ true → SoFar left grammar s t lack
+  goes_short goes_on few has_room wants as_many t why is_so waited lack e =
+      let d = subst (λ z. Waited left u t wants (Err z)) is_so waited in
+      further t wants (Err Unread.OutOfMemory) lack goes_on d d.faults.0 d.faults.1 (λ _. d.memory refl)
+      (reads_on goes_on few d.faults.0 has_room wants as_many (IsUntold t ⊎ (lack ≡ true)) t d.fills d.no_more (inr (inr (inr (inr e)))))
+
+-- where what was taken leaves the item undecided, all is held as it was
+pub stands_there : {R A V O State : Type 0} (left : R → Option (List ℕ)) (grammar : State → Grammar Bytes V O (Error Bytes)) (p q : State) → p ≡ q →
+    (s u : Stream R A) (lacks : Bool) → SoFar left (grammar q) s u lacks → (h : Held A) (taken : Taken O) (k : Needed) → taken ≡ Undecided k →
+    Stays u.held h taken → Takes (grammar p) true (held_of u.held) (held_of h) taken → Stands left (grammar q) s (record u { held = h }) lacks k
+stands_there left grammar p q same s u lacks i h taken k e stays takes =
+    let held : h ≡ u.held = subst (Stays u.held h) e stays in
+    let now : Takes (grammar p) true (held_of u.held) (held_of h) (Undecided k) = subst (Takes (grammar p) true (held_of u.held) (held_of h)) e takes in
+    record {
+      so_far = subst (λ z. SoFar left (grammar q) s (record u { held = z }) lacks) (sym held) i;
+      waits = subst (λ z. Takes (grammar z) true (held_of h) (held_of h) (Undecided k)) same
+          (subst (λ z. Takes (grammar p) true (held_of z) (held_of h) (Undecided k)) (sym held) now);
     }
-
-    -- it goes on with more bytes, as many as were wanted
-    pub reads_further : u.ended ≡ false → length (held_of u.held) < u.settings.most → lacks ≡ false → (wants : ℕ) →
-        wants ≡ wanted_of u.settings k (length (held_of u.held)) → (t : Stream R A) (x : Unit {0}) → Waited left u t wants (Ok x) → (lack : Bool) →
-        Reads left (grammar q) s t (IsUntold t ⊎ (lack ≡ true))
-    reads_further goes_on few has_room wants as_many t x d lack =
-        reads_on goes_on few d.faults.0 has_room wants as_many (IsUntold t ⊎ (lack ≡ true)) t d.fills d.no_more
-        (more_reasons (wants + length (held_of u.held)) t (IsUntold t) (lack ≡ true) (d.enough refl))
-
-    -- or with fewer, where there is no room for more
-    pub reads_short : u.ended ≡ false → length (held_of u.held) < u.settings.most → lacks ≡ false → (wants : ℕ) →
-        wants ≡ wanted_of u.settings k (length (held_of u.held)) → (t : Stream R A) (why : Unread) → why ≡ Unread.OutOfMemory →
-        Waited left u t wants (Err why) → (lack : Bool) → lack ≡ true → Reads left (grammar q) s t (IsUntold t ⊎ (lack ≡ true))
-    reads_short goes_on few has_room wants as_many t why is_so waited lack e =
-        let d = subst (λ z. Waited left u t wants (Err z)) is_so waited in
-        reads_on goes_on few d.faults.0 has_room wants as_many (IsUntold t ⊎ (lack ≡ true)) t d.fills d.no_more (inr (inr (inr (inr e))))
-
--- where there was no room for more no fault was told
-pub without_room : {R A : Type 0} (left : R → Option (List ℕ)) (u t : Stream R A) (wants : ℕ) (why : Unread) → why ≡ Unread.OutOfMemory →
-    Waited left u t wants (Err why) → (u.untold ≡ None) × TellsNoFault u t × LacksRoom t
-without_room left u t wants why is_so waited =
-    let d = subst (λ z. Waited left u t wants (Err z)) is_so waited in
-    (d.faults.0, d.faults.1, d.memory refl)
-
--- no read was made where the reader had ended: it hasn't
-pub none_at_end : {R A : Type 0} (s u t : Stream R A) → u.ended ≡ false → (s.ended ≡ true → (u.source ≡ s.source) × (u.ended ≡ true)) → s.ended ≡ true →
-    (t.source ≡ s.source) × (t.ended ≡ true)
-none_at_end s u t goes_on f e = let h = (f e).1 in absurd (cc (goes_on, h))
-
--- where all is held as it was, so is the stream
-pub as_after : {R A : Type 0} (P : Stream R A → Type 0) (s : Stream R A) (h : Held A) → h ≡ s.held → P s → P (record s { held = h })
-as_after P s h e p = subst (λ z. P (record s { held = z })) (sym e) p
-
--- and what was taken there leaves the item undecided
-pub waits_there : {A V O : Type 0} (grammar : Grammar Bytes V O (Error Bytes)) (old new : Held A) (taken : Taken O) (k : Needed) →
-    taken ≡ Undecided k → Stays old new taken → Takes grammar true (held_of old) (held_of new) taken →
-    (new ≡ old) × Takes grammar true (held_of new) (held_of new) (Undecided k)
-waits_there grammar old new taken k e stays takes =
-    let same : new ≡ old = subst (Stays old new) e stays in
-    let there : Takes grammar true (held_of old) (held_of new) (Undecided k) = subst (λ z. Takes grammar true (held_of old) (held_of new) z) e takes in
-    (same, subst (λ z. Takes grammar true (held_of z) (held_of new) (Undecided k)) (sym same) there)

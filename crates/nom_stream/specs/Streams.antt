@@ -1,5 +1,5 @@
 -- Items of a reader.
-use Rattle.std.specs.Prelude.{◌≡◌, ℕ, zero, suc, ◌+◌, ◌-◌, ◌^◌, ◌<◌, ◌≤◌, ◌⊎◌, min, Bool, true, false}
+use Rattle.std.specs.Prelude.{◌≡◌, ℕ, ◌+◌, ◌-◌, ◌^◌, ◌<◌, ◌≤◌, ◌⊎◌, min, Bool, true, false}
 use Rattle.std.specs.Prelude.{List, [], ◌++◌, length, Option, Some, None, Result, Ok, Err, IfOk, IfSome, IsOk, vec_capacity, vec_len}
 use Rattle.std.specs.Io.KnownBytes.{Consumes, IsAtEnd}
 use Rattle.std_io.specs.declared.io.error.Error as Io
@@ -36,12 +36,6 @@ abbrev pub counted : {O : Type 0} → ℕ → Told O → ℕ
 counted offset (Ok (Some (n, o))) = min (offset + n) (2 ^ 64 - 1)
 counted offset (Ok None) = offset
 counted offset (Err e) = offset
-
--- how many more parses there can be: none at the end, none where there is no room for more bytes, and else one for each byte that may be held, and one
-abbrev pub turns_left : (ended lacks : Bool) (most held : ℕ) → ℕ
-turns_left true lacks most held = zero
-turns_left false true most held = zero
-turns_left false false most held = suc (most - held)
 
 module _ {R A : Type 0} (left : R → Option (List ℕ)) where
   -- The buffer, with the bytes that are used and the room for more, is never longer than the most bytes that may be held; and the

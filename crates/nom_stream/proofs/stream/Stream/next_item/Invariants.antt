@@ -1,18 +1,12 @@
-use Rattle.std.proofs.Common.{◌≡◌, ◌⊎◌, true, length}
+use Rattle.std.proofs.Common.{◌≡◌, length}
 use Rattle.nom_stream.specs.Held.{held_of}
-use Rattle.nom_stream.specs.Streams.{Reads, IsOpen, IsUntold, LacksRoom, TellsNoFault, turns_left}
+use Rattle.nom_stream.proofs.Telling.{SoFar, turns_left}
 use Rattle.nom_stream.proofs.stream.Stream.next_item.Given as goal
 
 abbrev pub invariant-parses : goal.invariant-parses
 invariant-parses g l = record {
   kept : g.G.Grammar.state l.grammar ≡ g.G.Grammar.state l.fn.grammar;
-  opened : IsOpen g.R.Read.remaining l.self;
-  reads : Reads g.R.Read.remaining (g.G.Grammar.grammar (g.G.Grammar.state l.fn.grammar)) l.fn.self l.self (IsUntold l.self ⊎ (l.lacks ≡ true));
-  room : l.lacks ≡ true → LacksRoom l.self;
-  faults : TellsNoFault l.fn.self l.self;
-  no_read : l.fn.self.ended ≡ true → (l.self.source ≡ l.fn.self.source) × (l.self.ended ≡ true);
-  settings : l.self.settings ≡ l.fn.self.settings;
-  offset : l.self.offset ≡ l.fn.self.offset;
+  so_far : SoFar g.R.Read.remaining (g.G.Grammar.grammar (g.G.Grammar.state l.fn.grammar)) l.fn.self l.self l.lacks;
 }
 
 abbrev pub decreases-parses : goal.decreases-parses
