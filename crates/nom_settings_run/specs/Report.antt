@@ -51,7 +51,7 @@ bytes_of t = encode_utf8_all t.items
 
 -- the lines of settings, by their trees
 abbrev pub setting_tree_text : Slice seen_there → SettingTree seen_there → List ℕ
-setting_tree_text section t = line_text t.0.mark.0.line t.0.mark.0.column (bytes_of section) (bytes_of t.0) (bytes_of t.1)
+setting_tree_text section t = line_text t.0.mark.0.0.line t.0.mark.0.0.column (bytes_of section) (bytes_of t.0) (bytes_of t.1)
 
 abbrev pub section_tree_text : SectionTree seen_there → List ℕ
 section_tree_text t = lines_text (setting_tree_text t.0) t.1
