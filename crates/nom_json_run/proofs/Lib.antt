@@ -1,0 +1,4 @@
+pub mod Firsts
+pub mod Strings
+pub mod Values
+pub mod Walks
