@@ -270,3 +270,8 @@ pub bracket_from : (o : Bracket) (i r : List ℕ) → begins (opening o) i ≡ t
     (j : List ℕ) × JsonInside o (after_spaces (rest i)) j × (r ≡ after_spaces j)
 bracket_from Array i r e h = array_from (rest i) r (subst (λ xs. JsonValue xs r) (head_is 91 i e) h)
 bracket_from Object i r e h = object_from (rest i) r (subst (λ xs. JsonValue xs r) (head_is 123 i e) h)
+
+pub named_some : (w i : List ℕ) → IsNamed w i → 0 < length w
+named_some w i (as_null e b) = let h : length w ≡ 4 = ap length e in omega (arith, h)
+named_some w i (as_true e b) = let h : length w ≡ 4 = ap length e in omega (arith, h)
+named_some w i (as_false e b) = let h : length w ≡ 5 = ap length e in omega (arith, h)

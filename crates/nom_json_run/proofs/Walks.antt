@@ -1,6 +1,6 @@
 -- Steps through a text, by the brackets that lie open.
-use Rattle.std.specs.Prelude.{◌≡◌, ℕ, ◌==◌, ◌↔◌, ◌⊎◌, true, false, List, [], ◌∷◌, ◌++◌, length, refl}
-use Rattle.std.proofs.Common.{sym, ◌∙◌, ap, subst, inl, inr, reverse}
+use Rattle.std.specs.Prelude.{◌≡◌, ℕ, ◌<◌, ◌==◌, ◌↔◌, ◌⊎◌, true, false, List, [], ◌∷◌, ◌++◌, length, drop, refl}
+use Rattle.std.proofs.Common.{arith, sym, ◌∙◌, ap, subst, inl, inr, reverse, length-drop}
 use Rattle.std.proofs.lemmas.List.{reverse-append}
 use Rattle.nom_json_run.specs.Json.{JsonInside, JsonItem, JsonItems, JsonValue, after_spaces, begins, closing, opening, rest}
 use Rattle.nom_json_run.specs.Json.JsonValue.{brackets}
@@ -16,7 +16,7 @@ inner_push xs ys b e = ap reverse e ∙ reverse-append xs (b ∷ [])
 
 pub empty_is : (xs : List Bracket) → length xs ≡ 0 → reverse xs ≡ []
 empty_is [] e = refl
-empty_is (x ∷ xs) e = absurd (omega e)
+empty_is (x ∷ xs) e = absurd (omega (arith, e))
 
 opened_to : (o : Bracket) (inner : List Bracket) (i : List ℕ) → begins (opening o) i ≡ true → ClosesAfter (JsonValue i) inner →
     ClosesInside o inner (after_spaces (rest i))
@@ -125,3 +125,8 @@ no_value inner i none h = none h.0 h.1
 
 pub begun : (i j : List ℕ) → j ≡ i → JsonValue i [] ↔ ClosesAfter (JsonValue j) []
 begun i j e = (λ h. ([], subst (λ xs. JsonValue xs []) (sym e) h, refl), λ h. subst (λ r. JsonValue i r) h.2 (subst (λ xs. JsonValue xs h.0) e h.1))
+
+pub not_end : (bs : List ℕ) (at : ℕ) → at < length bs → drop at bs ≡ [] → ⊥
+not_end bs at h e =
+    let none : length (drop at bs) ≡ 0 = ap length e in
+    omega (arith, h, none, length-drop at bs)

@@ -293,6 +293,7 @@ pub fn number(bytes: &[u8], start: usize) -> Result<usize, Fault>
 #[inline(always)]
 pub fn word(bytes: &[u8], start: usize, wanted: &'static str) -> Result<usize, Fault>
     requires { start ≤ length bytes.now }
+    ensures length { IfOk result (λ n. start + length wanted.now ≤ n) }
     ensures ok { IfOk result (λ n. Reaches bytes.now (after_word wanted.now (drop start bytes.now)) start n) }
     ensures err { IfErr result (λ f. (after_word wanted.now (drop start bytes.now) ≡ None) × (f.at ≤ length bytes.now)) }
 {
