@@ -67,6 +67,20 @@ fn named(bytes: &[u8], at: usize, wanted: &'static str) -> Result<usize, Fault>
     }
 }
 
+// Of a number of which nothing is there, a value is missing.
+fn value_fault(at: usize, fault: Fault) -> Fault
+    ensures { result.at ≡ fault.at }
+{
+    Fault {
+        at: fault.at,
+        missing: if fault.at == at {
+            Missing::Value
+        } else {
+            fault.missing
+        },
+    }
+}
+
 // A number, and the white space after it; else no value is there.
 #[inline(always)]
 fn numeric(bytes: &[u8], at: usize) -> Result<usize, Fault>
@@ -82,7 +96,7 @@ fn numeric(bytes: &[u8], at: usize) -> Result<usize, Fault>
 {
     match number(bytes, at) {
         Ok(stop) => Ok(spaces(bytes, stop)),
-        Err(fault) => Err(fault),
+        Err(fault) => Err(value_fault(at, fault)),
     }
 }
 

@@ -3,4 +3,5 @@
 
 pub mod bracket;
 pub mod check;
+pub mod report;
 pub mod scan;

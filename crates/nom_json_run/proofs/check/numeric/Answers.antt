@@ -1,4 +1,4 @@
-use Rattle.std.proofs.Common.{drop, arith}
+use Rattle.std.proofs.Common.{drop, arith, length, ◌≤◌, subst, sym}
 use Rattle.nom_json_run.proofs.Values.{number_only, value_none}
 use Rattle.nom_json_run.proofs.check.numeric.Goals as goal
 
@@ -15,5 +15,5 @@ pub returns-in-Err-clause-err : goal.returns-in-Err-clause-err
 returns-in-Err-clause-err c = (
   value_none (drop c.args.at c.args.bytes.now) c.requires.quote c.requires.truth c.requires.untruth c.requires.nothing c.requires.array
       c.requires.object c.in-Err.ensures.err.0,
-  c.in-Err.ensures.err.1,
+  subst (λ n. n ≤ length c.args.bytes.now) (sym c.value_fault.ensures) c.in-Err.ensures.err.1,
 )
