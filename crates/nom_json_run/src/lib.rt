@@ -3,5 +3,6 @@
 
 pub mod bracket;
 pub mod check;
+pub mod lines;
 pub mod report;
 pub mod scan;

@@ -18,7 +18,7 @@ use std::str;
 type Error<'a> = nom_report::Report<&'a [u8]>;
 
 // What is wanted goes by a name.
-fn named<'a>(place: &'a [u8], name: &'static str) -> Result<Error<'a>, OutOfMemory> {
+pub(crate) fn named<'a>(place: &'a [u8], name: &'static str) -> Result<Error<'a>, OutOfMemory> {
     match nom_report::Report::from_error_kind(place, ErrorKind::Fail) {
         Ok(error) => nom_report::Report::add_context(place, name, error),
         Err(error) => Err(error),
@@ -73,7 +73,7 @@ fn word_name(word: &'static str) -> &'static str {
 }
 
 // What a fault tells: the place, and what would have been accepted there.
-fn error_of<'a>(bytes: &'a [u8], fault: Fault) -> Result<Error<'a>, OutOfMemory>
+pub(crate) fn error_of<'a>(bytes: &'a [u8], fault: Fault) -> Result<Error<'a>, OutOfMemory>
     requires { fault.at ≤ length bytes.now }
 {
     let place = &bytes[fault.at..];
