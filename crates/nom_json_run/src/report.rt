@@ -1,6 +1,6 @@
 //! The report on a file.
 ghost use Rattle.std.specs.Prelude.{◌≡◌, ◌≤◌, IfOk, length, string_bytes};
-ghost use Rattle.nom_json_run.specs.Report.{IsReport, IsTold};
+ghost use Rattle.nom_json_run.specs.Report.{IsOctetsReport, IsReport, IsTextReport, IsTold};
 
 use crate::bracket::{Bracket, Fault, Missing};
 use crate::check::verdict;
@@ -115,7 +115,7 @@ fn tell_fault<A: Allocator + Copy>(
     fault: Fault,
 ) -> Result<(String<A>, u8), OutOfMemory>
     requires { fault.at ≤ length text.now }
-    ensures { IfOk result (λ r. r.1 ≡ 1) }
+    ensures { IfOk result (λ r. (r.1 ≡ 1) × IsTextReport text.now (string_bytes r.0)) }
 {
     let bytes = text.as_bytes();
     let error = match error_of(bytes, fault) {
@@ -137,7 +137,7 @@ fn tell_bytes<A: Allocator + Copy>(
     at: usize,
 ) -> Result<(String<A>, u8), OutOfMemory>
     requires { at ≤ length bytes.now }
-    ensures { IfOk result (λ r. r.1 ≡ 1) }
+    ensures { IfOk result (λ r. (r.1 ≡ 1) × IsOctetsReport bytes.now (string_bytes r.0)) }
 {
     let error = match named(&bytes[at..], "a character in UTF-8") {
         Ok(error) => error,
