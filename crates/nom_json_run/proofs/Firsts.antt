@@ -1,0 +1,109 @@
+-- The first byte from a place on.
+use Rattle.std.specs.Prelude.{◌≡◌, ℕ, zero, suc, ◌+◌, ◌-◌, ◌==◌, ◌<◌, ◌≤◌, ◌↔◌, Bool, true, false, if◌then◌else◌, List, [], ◌∷◌, Option, None, Some, Result, Ok, Err, IfOk, IfErr, length, drop, slice_index, refl}
+use Rattle.std.proofs.Common.{arith, sym, ◌∙◌, ap, length-drop}
+use Rattle.std.proofs.lemmas.List.{drop_more, drop_all}
+use Rattle.nom_json_run.specs.Json.{after_digits, after_hex, after_sign, after_minus, after_spaces, after_word, begins, first_is, is_digit, is_hex, is_sign, is_space, rest}
+use Rattle.nom_json_run.specs.Scans.{Reaches}
+use Rattle.nom_json_run.specs.declared.bracket.Fault.{Fault}
+
+pub first_at : (test : ℕ → Bool) (bs : List ℕ) (i : ℕ) → i < length bs → first_is test (drop i bs) ≡ test (slice_index bs i)
+first_at test bs i h = ap (first_is test) (drop_more bs i 0 h)
+
+pub first_over : (test : ℕ → Bool) (bs : List ℕ) (i : ℕ) → length bs ≤ i → first_is test (drop i bs) ≡ false
+first_over test bs i h = ap (first_is test) (drop_all i bs h)
+
+some : (test : ℕ → Bool) (xs : List ℕ) → first_is test xs ≡ true → 0 < length xs
+some test [] e = absurd (cc)
+some test (x ∷ xs) e = omega arith
+
+pub first_within : (test : ℕ → Bool) (bs : List ℕ) (i : ℕ) → first_is test (drop i bs) ≡ true → i < length bs
+first_within test bs i e = omega (arith, some test (drop i bs) e, length-drop i bs)
+
+pub rest_at : (test : ℕ → Bool) (bs : List ℕ) (i : ℕ) → first_is test (drop i bs) ≡ true → rest (drop i bs) ≡ drop (i + 1) bs
+rest_at test bs i e = ap rest (drop_more bs i 0 (first_within test bs i e))
+
+spaces_on : (xs : List ℕ) → first_is is_space xs ≡ true → after_spaces (rest xs) ≡ after_spaces xs
+spaces_on [] e = absurd (cc)
+spaces_on (b ∷ bs) e = sym (ap (λ t. if t then after_spaces bs else b ∷ bs) e)
+
+pub spaces_pass : (bs : List ℕ) (i : ℕ) → first_is is_space (drop i bs) ≡ true → after_spaces (drop (i + 1) bs) ≡ after_spaces (drop i bs)
+spaces_pass bs i e = ap after_spaces (sym (rest_at is_space bs i e)) ∙ spaces_on (drop i bs) e
+
+pub spaces_stop : (xs : List ℕ) → first_is is_space xs ≡ false → after_spaces xs ≡ xs
+spaces_stop [] e = refl
+spaces_stop (b ∷ bs) e = ap (λ t. if t then after_spaces bs else b ∷ bs) e
+
+digits_on : (xs : List ℕ) → first_is is_digit xs ≡ true → after_digits (rest xs) ≡ after_digits xs
+digits_on [] e = absurd (cc)
+digits_on (b ∷ bs) e = sym (ap (λ t. if t then after_digits bs else b ∷ bs) e)
+
+pub digits_pass : (bs : List ℕ) (i : ℕ) → first_is is_digit (drop i bs) ≡ true → after_digits (drop (i + 1) bs) ≡ after_digits (drop i bs)
+digits_pass bs i e = ap after_digits (sym (rest_at is_digit bs i e)) ∙ digits_on (drop i bs) e
+
+pub digits_stop : (xs : List ℕ) → first_is is_digit xs ≡ false → after_digits xs ≡ xs
+digits_stop [] e = refl
+digits_stop (b ∷ bs) e = ap (λ t. if t then after_digits bs else b ∷ bs) e
+
+-- where the first byte passes a test, what follows it decides
+pub taken : (test : ℕ → Bool) (bs : List ℕ) (i : ℕ) (next : List ℕ → Option (List ℕ)) (other : Option (List ℕ)) → first_is test (drop i bs) ≡ true →
+    (if first_is test (drop i bs) then next (rest (drop i bs)) else other) ≡ next (drop (i + 1) bs)
+taken test bs i next other e = ap (λ t. if t then next (rest (drop i bs)) else other) e ∙ ap next (rest_at test bs i e)
+
+pub passed_over : (next : Option (List ℕ)) (other : Option (List ℕ)) (t : Bool) → t ≡ false → (if t then next else other) ≡ other
+passed_over next other t e = ap (λ u. if u then next else other) e
+
+pub sign_taken : (bs : List ℕ) (i : ℕ) → first_is is_sign (drop i bs) ≡ true → drop (i + 1) bs ≡ after_sign (drop i bs)
+sign_taken bs i e = sym (ap (λ t. if t then rest (drop i bs) else drop i bs) e ∙ rest_at is_sign bs i e)
+
+pub minus_taken : (bs : List ℕ) (i : ℕ) → begins 45 (drop i bs) ≡ true → drop (i + 1) bs ≡ after_minus (drop i bs)
+minus_taken bs i e = sym (ap (λ t. if t then rest (drop i bs) else drop i bs) e ∙ rest_at (λ b. b == 45) bs i e)
+
+-- from one place to an earlier one, and from one part to another
+pub reach_map : (bs : List ℕ) (r : Result ℕ Fault) (a b : Option (List ℕ)) (i j : ℕ) → i ≤ j → b ≡ a → IfOk r (λ n. Reaches bs a j n) →
+    IfOk r (λ n. Reaches bs b i n)
+reach_map bs (Ok n) a b i j le e h = record { begins = omega (arith, h.begins, le); within = h.within; follows = e ∙ h.follows }
+reach_map bs (Err f) a b i j le e h = h
+
+pub fail_map : (bs : List ℕ) (r : Result ℕ Fault) (a b : Option (List ℕ)) → b ≡ a → IfErr r (λ f. (a ≡ None) × (f.at ≤ length bs)) →
+    IfErr r (λ f. (b ≡ None) × (f.at ≤ length bs))
+fail_map bs (Ok n) a b e h = h
+fail_map bs (Err f) a b e h = (e ∙ h.0, h.1)
+
+hex_count : (k : ℕ) → k < 4 → 4 - k ≡ suc (4 - (k + 1))
+hex_count k h = omega (arith, h)
+
+pub hex_step : (bs : List ℕ) (s k : ℕ) → k < 4 → first_is is_hex (drop (s + k) bs) ≡ true →
+    after_hex (4 - (k + 1)) (drop (s + (k + 1)) bs) ≡ after_hex (4 - k) (drop (s + k) bs)
+hex_step bs s k h e =
+    let p : (s + k) + 1 ≡ s + (k + 1) = omega arith in
+    sym (ap (λ m. after_hex m (drop (s + k) bs)) (hex_count k h) ∙ (taken is_hex bs (s + k) (after_hex (4 - (k + 1))) None e
+    ∙ ap (λ i. after_hex (4 - (k + 1)) (drop i bs)) p))
+
+pub hex_stop : (bs : List ℕ) (s k : ℕ) → k < 4 → first_is is_hex (drop (s + k) bs) ≡ false → after_hex (4 - k) (drop (s + k) bs) ≡ None
+hex_stop bs s k h e = ap (λ m. after_hex m (drop (s + k) bs)) (hex_count k h)
+    ∙ passed_over (after_hex (4 - (k + 1)) (rest (drop (s + k) bs))) None (first_is is_hex (drop (s + k) bs)) e
+
+pub hex_start : (bs : List ℕ) (s : ℕ) → after_hex 4 (drop (s + 0) bs) ≡ after_hex 4 (drop s bs)
+hex_start bs s =
+    let e : s + 0 ≡ s = omega arith in
+    ap (λ i. after_hex 4 (drop i bs)) e
+
+pub word_start : (w v bs : List ℕ) (s : ℕ) → w ≡ v → after_word w (drop (s + 0) bs) ≡ after_word v (drop s bs)
+word_start w v bs s f =
+    let e : s + 0 ≡ s = omega arith in
+    ap (λ i. after_word w (drop i bs)) e ∙ ap (λ u. after_word u (drop s bs)) f
+
+pub word_step : (w bs : List ℕ) (s k : ℕ) → k < length w → begins (slice_index w k) (drop (s + k) bs) ≡ true →
+    after_word (drop (k + 1) w) (drop (s + (k + 1)) bs) ≡ after_word (drop k w) (drop (s + k) bs)
+word_step w bs s k h e =
+    let p : (s + k) + 1 ≡ s + (k + 1) = omega arith in
+    sym (ap (λ v. after_word v (drop (s + k) bs)) (drop_more w k 0 h)
+    ∙ (taken (λ b. b == slice_index w k) bs (s + k) (after_word (drop (k + 1) w)) None e ∙ ap (λ i. after_word (drop (k + 1) w) (drop i bs)) p))
+
+pub word_stop : (w bs : List ℕ) (s k : ℕ) → k < length w → begins (slice_index w k) (drop (s + k) bs) ≡ false →
+    after_word (drop k w) (drop (s + k) bs) ≡ None
+word_stop w bs s k h e = ap (λ v. after_word v (drop (s + k) bs)) (drop_more w k 0 h)
+    ∙ passed_over (after_word (drop (k + 1) w) (rest (drop (s + k) bs))) None (begins (slice_index w k) (drop (s + k) bs)) e
+
+pub word_end : (w bs : List ℕ) (s k : ℕ) → length w ≤ k → after_word (drop k w) (drop (s + k) bs) ≡ Some (drop (s + k) bs)
+word_end w bs s k h = ap (λ v. after_word v (drop (s + k) bs)) (drop_all k w h)

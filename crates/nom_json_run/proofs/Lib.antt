@@ -1,0 +1,6 @@
+pub mod Firsts
+pub mod LineParts
+pub mod Listed
+pub mod Strings
+pub mod Values
+pub mod Walks

@@ -1,0 +1,5 @@
+pub mod Json
+pub mod Lines
+pub mod Report
+pub mod Scans
+pub mod Walk

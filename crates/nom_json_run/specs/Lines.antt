@@ -1,0 +1,69 @@
+-- JSON Lines: what is told of lines that come one after another.
+use Rattle.std.specs.Prelude.{◌≡◌, ℕ, ◌+◌, ◌⊎◌, Bool, true, false, if◌then◌else◌, List, [], ◌∷◌, ◌++◌, length, Option, None, Some, Ok, Err, codes}
+use Rattle.std.specs.Borrow.{Bor}
+use Rattle.std.specs.Fmt.{decimal}
+use Rattle.std.specs.Io.KnownBytes.{Appends}
+use Rattle.nom_internal.specs.Prelude.{bytes_model, Slice}
+use Rattle.nom.specs.Bytes.{BytesGrammar, is_not_of, map_of, opt_of, tag_of, terminated_of}
+use Rattle.nom_stream.specs.declared.stream.Stop.TheVariants as Stop
+use Rattle.nom_stream.specs.declared.stream.Stream.{Stream}
+use Rattle.nom_stream.specs.Held.{last_of}
+use Rattle.nom_stream.specs.Streams.{Decides}
+use Rattle.nom_json_run.specs.Json.{IsJson}
+
+-- the length of a line, without its end
+abbrev pub line_len : Option (Bor (List ℕ)) → ℕ
+line_len None = 0
+line_len (Some bytes) = length bytes.now
+
+-- line = (any byte but the end of a line)+? end?, where the end is the byte 10; only the last line of the data may lack it
+abbrev pub line_of : BytesGrammar (Option (Slice bytes_model)) ℕ
+line_of = map_of line_len (terminated_of (opt_of (is_not_of (10 ∷ []))) (opt_of (tag_of (10 ∷ []))))
+
+-- the text for a line that is no JSON text: its number, a column in it, and what is wrong there
+abbrev pub fault_line : (number column : ℕ) (message : List ℕ) → List ℕ
+fault_line number column message = decimal number ++ codes ":" ++ decimal column ++ codes ": " ++ message ++ codes "\n"
+
+abbrev pub IsLineText : (number : ℕ) → (text : List ℕ) → Type 0
+IsLineText number text = (column : ℕ) × (message : List ℕ) × (text ≡ fault_line number column message)
+
+-- Of a line that is a JSON text nothing is told; of another its text. Whether any line was wrong, before and then.
+abbrev pub IsLine : (number : ℕ) (bytes text : List ℕ) (before then_ : Bool) → Type 0
+IsLine number bytes text before then_ =
+    (IsJson bytes × (text ≡ []) × (then_ ≡ before)) ⊎ ((IsJson bytes → ⊥) × IsLineText number text × (then_ ≡ true))
+
+-- what is told of a line was written
+abbrev pub ListsLine : (held held' : Option (List ℕ)) (number : ℕ) (bytes : List ℕ) (before then_ : Bool) → Type 0
+ListsLine held held' number bytes before then_ = (text : List ℕ) × IsLine number bytes text before then_ × Appends held held' text
+
+abbrev pub TellsLine : (held held' : Option (List ℕ)) (number : ℕ) → Type 0
+TellsLine held held' number = (text : List ℕ) × IsLineText number text × Appends held held' text
+
+-- So many lines came, from one state of a stream to another: the text is that of those which are no JSON text, in order, and whether
+-- there are any. (The end of a line is white space, so that a line may be taken with it.)
+pub data CheckedLines {R A : Type 0} (left : R → Option (List ℕ)) (s : Stream R A) : (count : ℕ) (t : Stream R A) (text : List ℕ) (wrong : Bool) → Type 0 where
+  none : CheckedLines left s 0 s [] false
+  good : {count : ℕ} {t u : Stream R A} {n x : ℕ} {text : List ℕ} {wrong : Bool} → CheckedLines left s count t text wrong →
+      Decides left line_of t u (Ok (Some (n, x))) → IsJson (last_of n u.held) → CheckedLines left s (count + 1) u text wrong
+  bad : {count : ℕ} {t u : Stream R A} {n x : ℕ} {text more : List ℕ} {wrong : Bool} → CheckedLines left s count t text wrong →
+      Decides left line_of t u (Ok (Some (n, x))) → (IsJson (last_of n u.held) → ⊥) → IsLineText (count + 1) more →
+      CheckedLines left s (count + 1) u (text ++ more) true
+
+module _ {R A : Type 0} (left : R → Option (List ℕ)) (s t : Stream R A) (held held' : Option (List ℕ)) where
+  -- that many lines came, and what is told of them was written
+  pub record Going (count : ℕ) (wrong : Bool) : Type 0 where
+    pub text : List ℕ
+    pub lines : CheckedLines left s count t text wrong
+    pub wrote : Appends held held' text
+
+-- The lines came to the end of the data, and what is told of them was written, with status 1 where there is a wrong one, and else 0;
+-- or the next one was longer than may be held, which is told too, with status 3.
+pub record ToldLines {R A : Type 0} (left : R → Option (List ℕ)) (s t : Stream R A) (held held' : Option (List ℕ)) (status : ℕ) : Type 0 where
+  pub count : ℕ
+  pub before : Stream R A
+  pub text : List ℕ
+  pub wrong : Bool
+  pub lines : CheckedLines left s count before text wrong
+  pub ends : (Decides left line_of before t (Ok None) × (status ≡ (if wrong then 1 else 0)) × Appends held held' text) ⊎
+      (Decides left line_of before t (Err Stop.TooLong) × (status ≡ 3) ×
+      ((more : List ℕ) × IsLineText (count + 1) more × Appends held held' (text ++ more)))

@@ -1,0 +1,52 @@
+-- What is left of a JSON text at a place within it, by the brackets that lie open there, the innermost first.
+use Rattle.std.specs.Prelude.{◌≡◌, ℕ, ◌<◌, ◌≤◌, ◌⊎◌, ◌↔◌, true, List, [], ◌∷◌, Option, MatchOption, length, drop, codes}
+use Rattle.nom_json_run.specs.Json.{JsonInside, JsonItem, JsonItems, JsonValue, after_spaces, begins, closing, rest, IsValue}
+use Rattle.nom_json_run.specs.declared.bracket.Bracket.{Bracket}
+use Rattle.nom_json_run.specs.declared.bracket.Fault.{Fault}
+use Rattle.nom_json_run.specs.declared.bracket.Awaits.{Awaits}
+use Rattle.nom_json_run.specs.declared.bracket.Awaits.TheVariants.{Value, After}
+use Rattle.nom_json_run.specs.declared.bracket.Step.{Step}
+use Rattle.nom_json_run.specs.declared.bracket.Step.TheVariants.{Go, Stop, Done}
+
+-- the items after one, each after a comma, and then s
+abbrev pub Further : Bracket → List ℕ → List ℕ → Type 0
+Further o r s = (r ≡ s) ⊎ ((begins 44 r ≡ true) × JsonItems o (after_spaces (rest r)) s)
+
+-- after a value: further items and the closing bracket of each that lies open, and then the end
+abbrev pub Closes : List Bracket → List ℕ → Type 0
+Closes [] r = r ≡ []
+Closes (o ∷ outer) r = (j : List ℕ) × Further o r j × (begins (closing o) j ≡ true) × Closes outer (after_spaces (rest j))
+
+abbrev pub ClosesAfter : (List ℕ → Type 0) → List Bracket → Type 0
+ClosesAfter Part inner = (r : List ℕ) × Part r × Closes inner r
+
+-- what stands between brackets from the opening one on, and what follows them
+abbrev pub ClosesInside : Bracket → List Bracket → List ℕ → Type 0
+ClosesInside o outer i = (r : List ℕ) × JsonInside o i r × Closes outer (after_spaces r)
+
+-- what stands at the place: a value, or what follows one
+abbrev pub Completes : Awaits → List Bracket → List ℕ → Type 0
+Completes Value inner i = ClosesAfter (JsonValue i) inner
+Completes After inner i = Closes inner i
+
+-- A step from a place: where it goes on, the same is awaited of the bytes as before; where it stops it can't come; or all has come.
+abbrev pub Stepped : (bytes : List ℕ) → (Before : Type 0) → (at : ℕ) → (inner : List Bracket) → Step → Type 0
+Stepped bytes Before at inner (Go stop awaits) = (at < stop) × (stop ≤ length bytes) × (Before ↔ Completes awaits inner (drop stop bytes))
+Stepped bytes Before at inner (Stop fault) = (fault.at ≤ length bytes) × (Before → ⊥)
+Stepped bytes Before at inner Done = Before
+
+-- what follows the name of a member, or the place itself, is a value where an item stands at the place
+pub record IsKey (bytes : List ℕ) (o : Bracket) (at stop : ℕ) : Type 0 where
+  pub begins : at ≤ stop
+  pub within : stop ≤ length bytes
+  pub same : (r : List ℕ) → JsonItem o (drop at bytes) r ↔ JsonValue (drop stop bytes) r
+
+-- the first character of a word stands at the place
+pub data IsNamed (word i : List ℕ) : Type 0 where
+  as_null : word ≡ codes "null" → begins 110 i ≡ true → IsNamed word i
+  as_true : word ≡ codes "true" → begins 116 i ≡ true → IsNamed word i
+  as_false : word ≡ codes "false" → begins 102 i ≡ true → IsNamed word i
+
+-- no fault where the bytes are a value, with white space around it; else a fault at a place of them
+abbrev pub IsVerdict : (bytes : List ℕ) → Option Fault → Type 0
+IsVerdict bytes verdict = MatchOption verdict (IsValue bytes) (λ fault. (IsValue bytes → ⊥) × (fault.at ≤ length bytes))

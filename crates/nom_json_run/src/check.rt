@@ -1,0 +1,308 @@
+//! Whether bytes are a JSON text. The brackets that lie open are kept in a list, so that none lies too deep.
+ghost use Rattle.std.specs.Prelude.{◌≡◌, ◌≤◌, ◌∷◌, [], ◌⊎◌, IfOk, IfErr, MatchOption, false, true, length, drop, reverse};
+ghost use Rattle.nom_json_run.specs.Json.{JsonItem, JsonString, JsonValue, begins, closing, opening};
+ghost use Rattle.nom_json_run.specs.Scans.{EndsThere, IsNone};
+ghost use Rattle.nom_json_run.specs.Walk.{Closes, ClosesAfter, Completes, IsKey, IsNamed, IsVerdict, Stepped};
+
+use crate::bracket::{Awaits, Bracket, Fault, Missing, Step};
+use crate::scan::{byte_is, number, spaces, string, word};
+use nom_error::answer::OutOfMemory;
+use std::alloc::Allocator;
+
+#[inline(always)]
+fn closing_byte(bracket: Bracket) -> u8
+    ensures { result ≡ closing bracket }
+{
+    match bracket {
+        Bracket::Array => b']',
+        Bracket::Object => b'}',
+    }
+}
+
+// The brackets that lie open are a list, the outermost first: `reverse` has the innermost first.
+#[inline(always)]
+fn push<A: Allocator>(open: &mut Vec<Bracket, A>, bracket: Bracket) -> Result<(), OutOfMemory>
+    ensures { IfOk result (λ _. reverse open.new.items ≡ bracket ∷ reverse open.old.items) }
+{
+    match open.push(bracket) {
+        Ok(()) => Ok(()),
+        Err(_) => Err(OutOfMemory),
+    }
+}
+
+#[inline(always)]
+fn pop<A: Allocator>(open: &mut Vec<Bracket, A>) -> Option<Bracket>
+    ensures { MatchOption result ((reverse open.old.items ≡ []) × (reverse open.new.items ≡ []))
+        (λ b. reverse open.old.items ≡ b ∷ reverse open.new.items) }
+{
+    match open.pop() {
+        Some(bracket) => Some(bracket),
+        None => None,
+    }
+}
+
+// A text between quotes, and the white space after it.
+#[inline(always)]
+fn quoted(bytes: &[u8], at: usize) -> Result<usize, Fault>
+    requires { begins 34 (drop at bytes.now) ≡ true }
+    ensures ok { IfOk result (λ n. EndsThere bytes.now (JsonString (drop at bytes.now)) at n) }
+    ensures err { IfErr result (λ f. IsNone (JsonString (drop at bytes.now)) × (f.at ≤ length bytes.now)) }
+{
+    match string(bytes, at + 1) {
+        Ok(stop) => Ok(spaces(bytes, stop)),
+        Err(fault) => Err(fault),
+    }
+}
+
+// A word, and the white space after it.
+#[inline(always)]
+fn named(bytes: &[u8], at: usize, wanted: &'static str) -> Result<usize, Fault>
+    requires { IsNamed wanted.now (drop at bytes.now) }
+    ensures ok { IfOk result (λ n. EndsThere bytes.now (JsonValue (drop at bytes.now)) at n) }
+    ensures err { IfErr result (λ f. IsNone (JsonValue (drop at bytes.now)) × (f.at ≤ length bytes.now)) }
+{
+    match word(bytes, at, wanted) {
+        Ok(stop) => Ok(spaces(bytes, stop)),
+        Err(fault) => Err(fault),
+    }
+}
+
+// Of a number of which nothing is there, a value is missing.
+fn value_fault(at: usize, fault: Fault) -> Fault
+    ensures { result.at ≡ fault.at }
+{
+    Fault {
+        at: fault.at,
+        missing: if fault.at == at {
+            Missing::Value
+        } else {
+            fault.missing
+        },
+    }
+}
+
+// A number, and the white space after it; else no value is there.
+#[inline(always)]
+fn numeric(bytes: &[u8], at: usize) -> Result<usize, Fault>
+    requires within { at ≤ length bytes.now }
+    requires array { begins 91 (drop at bytes.now) ≡ false }
+    requires object { begins 123 (drop at bytes.now) ≡ false }
+    requires quote { begins 34 (drop at bytes.now) ≡ false }
+    requires truth { begins 116 (drop at bytes.now) ≡ false }
+    requires untruth { begins 102 (drop at bytes.now) ≡ false }
+    requires nothing { begins 110 (drop at bytes.now) ≡ false }
+    ensures ok { IfOk result (λ n. EndsThere bytes.now (JsonValue (drop at bytes.now)) at n) }
+    ensures err { IfErr result (λ f. IsNone (JsonValue (drop at bytes.now)) × (f.at ≤ length bytes.now)) }
+{
+    match number(bytes, at) {
+        Ok(stop) => Ok(spaces(bytes, stop)),
+        Err(fault) => Err(value_fault(at, fault)),
+    }
+}
+
+// A value without brackets, and the white space after it.
+#[inline(always)]
+fn scalar(bytes: &[u8], at: usize) -> Result<usize, Fault>
+    requires within { at ≤ length bytes.now }
+    requires array { begins 91 (drop at bytes.now) ≡ false }
+    requires object { begins 123 (drop at bytes.now) ≡ false }
+    ensures ok { IfOk result (λ n. EndsThere bytes.now (JsonValue (drop at bytes.now)) at n) }
+    ensures err { IfErr result (λ f. IsNone (JsonValue (drop at bytes.now)) × (f.at ≤ length bytes.now)) }
+{
+    if byte_is(bytes, at, b'"') {
+        return quoted(bytes, at);
+    }
+    if byte_is(bytes, at, b't') {
+        return named(bytes, at, "true");
+    }
+    if byte_is(bytes, at, b'f') {
+        return named(bytes, at, "false");
+    }
+    if byte_is(bytes, at, b'n') {
+        return named(bytes, at, "null");
+    }
+    numeric(bytes, at)
+}
+
+// The name of a member, its colon, and the white space after it.
+#[inline(always)]
+fn member_name(bytes: &[u8], at: usize) -> Result<usize, Fault>
+    requires { at ≤ length bytes.now }
+    ensures ok { IfOk result (λ n. IsKey bytes.now Bracket.Object at n) }
+    ensures err { IfErr result (λ f. IsNone (JsonItem Bracket.Object (drop at bytes.now)) × (f.at ≤ length bytes.now)) }
+{
+    if !byte_is(bytes, at, b'"') {
+        return Err(Fault {
+            at,
+            missing: Missing::Name,
+        });
+    }
+    match quoted(bytes, at) {
+        Ok(colon) => {
+            if byte_is(bytes, colon, b':') {
+                Ok(spaces(bytes, colon + 1))
+            } else {
+                Err(Fault {
+                    at: colon,
+                    missing: Missing::Colon,
+                })
+            }
+        }
+        Err(fault) => Err(fault),
+    }
+}
+
+// Where the value of an item begins.
+#[inline(always)]
+fn key(bytes: &[u8], at: usize, bracket: Bracket) -> Result<usize, Fault>
+    requires { at ≤ length bytes.now }
+    ensures ok { IfOk result (λ n. IsKey bytes.now bracket at n) }
+    ensures err { IfErr result (λ f. IsNone (JsonItem bracket (drop at bytes.now)) × (f.at ≤ length bytes.now)) }
+{
+    match bracket {
+        Bracket::Array => Ok(at),
+        Bracket::Object => member_name(bytes, at),
+    }
+}
+
+// From an opening bracket on.
+#[inline(always)]
+fn open_step<A: Allocator>(
+    bytes: &[u8],
+    at: usize,
+    open: &mut Vec<Bracket, A>,
+    bracket: Bracket,
+) -> Result<Step, OutOfMemory>
+    requires { begins (opening bracket) (drop at bytes.now) ≡ true }
+    ensures { IfOk result (λ s. Stepped bytes.now (ClosesAfter (JsonValue (drop at bytes.now)) (reverse open.old.items)) at (reverse open.new.items) s) }
+{
+    let inside = spaces(bytes, at + 1);
+    if byte_is(bytes, inside, closing_byte(bracket)) {
+        return Ok(Step::Go(spaces(bytes, inside + 1), Awaits::After));
+    }
+    match push(open, bracket) {
+        Ok(()) => {}
+        Err(error) => return Err(error),
+    }
+    match key(bytes, inside, bracket) {
+        Ok(stop) => Ok(Step::Go(stop, Awaits::Value)),
+        Err(fault) => Ok(Step::Stop(fault)),
+    }
+}
+
+// From a place on where a value is awaited.
+#[inline(always)]
+fn value_step<A: Allocator>(
+    bytes: &[u8],
+    at: usize,
+    open: &mut Vec<Bracket, A>,
+) -> Result<Step, OutOfMemory>
+    requires { at ≤ length bytes.now }
+    ensures { IfOk result (λ s. Stepped bytes.now (ClosesAfter (JsonValue (drop at bytes.now)) (reverse open.old.items)) at (reverse open.new.items) s) }
+{
+    if byte_is(bytes, at, b'[') {
+        return open_step(bytes, at, open, Bracket::Array);
+    }
+    if byte_is(bytes, at, b'{') {
+        return open_step(bytes, at, open, Bracket::Object);
+    }
+    match scalar(bytes, at) {
+        Ok(stop) => Ok(Step::Go(stop, Awaits::After)),
+        Err(fault) => Ok(Step::Stop(fault)),
+    }
+}
+
+// From a place on that follows a value in brackets.
+#[inline(always)]
+fn inner_step<A: Allocator>(
+    bytes: &[u8],
+    at: usize,
+    open: &mut Vec<Bracket, A>,
+    bracket: Bracket,
+) -> Result<Step, OutOfMemory>
+    requires { at ≤ length bytes.now }
+    ensures { IfOk result (λ s. Stepped bytes.now (Closes (bracket ∷ reverse open.old.items) (drop at bytes.now)) at (reverse open.new.items) s) }
+{
+    if byte_is(bytes, at, closing_byte(bracket)) {
+        return Ok(Step::Go(spaces(bytes, at + 1), Awaits::After));
+    }
+    if !byte_is(bytes, at, b',') {
+        return Ok(Step::Stop(Fault {
+            at,
+            missing: Missing::Comma(bracket),
+        }));
+    }
+    match push(open, bracket) {
+        Ok(()) => {}
+        Err(error) => return Err(error),
+    }
+    let item = spaces(bytes, at + 1);
+    match key(bytes, item, bracket) {
+        Ok(stop) => Ok(Step::Go(stop, Awaits::Value)),
+        Err(fault) => Ok(Step::Stop(fault)),
+    }
+}
+
+// From a place on that follows a value.
+#[inline(always)]
+fn after_step<A: Allocator>(
+    bytes: &[u8],
+    at: usize,
+    open: &mut Vec<Bracket, A>,
+) -> Result<Step, OutOfMemory>
+    requires { at ≤ length bytes.now }
+    ensures { IfOk result (λ s. Stepped bytes.now (Closes (reverse open.old.items) (drop at bytes.now)) at (reverse open.new.items) s) }
+{
+    match pop(open) {
+        Some(bracket) => inner_step(bytes, at, open, bracket),
+        None => {
+            if at < bytes.len() {
+                Ok(Step::Stop(Fault {
+                    at,
+                    missing: Missing::End,
+                }))
+            } else {
+                Ok(Step::Done)
+            }
+        }
+    }
+}
+
+#[inline(always)]
+fn step<A: Allocator>(
+    bytes: &[u8],
+    at: usize,
+    awaits: Awaits,
+    open: &mut Vec<Bracket, A>,
+) -> Result<Step, OutOfMemory>
+    requires { at ≤ length bytes.now }
+    ensures { IfOk result (λ s. Stepped bytes.now (Completes awaits (reverse open.old.items) (drop at bytes.now)) at (reverse open.new.items) s) }
+{
+    match awaits {
+        Awaits::Value => value_step(bytes, at, open),
+        Awaits::After => after_step(bytes, at, open),
+    }
+}
+
+/// Whether bytes are a JSON value with white space around it, and no more: the first place where something is missing, if
+/// they aren't. What lies in brackets may lie as deep as memory holds the brackets.
+pub fn verdict<A: Allocator>(alloc: A, bytes: &[u8]) -> Result<Option<Fault>, OutOfMemory>
+    ensures { IfOk result (λ fault. IsVerdict bytes.now fault) }
+{
+    let mut open = Vec::new(alloc);
+    let mut at = spaces(bytes, 0);
+    let mut awaits = Awaits::Value;
+    'steps: loop {
+        match step(bytes, at, awaits, &mut open) {
+            Ok(done) => match done {
+                Step::Go(stop, next) => {
+                    at = stop;
+                    awaits = next;
+                }
+                Step::Stop(fault) => return Ok(Some(fault)),
+                Step::Done => return Ok(None),
+            },
+            Err(error) => return Err(error),
+        }
+    }
+}

@@ -1,0 +1,269 @@
+//! JSON Lines: a JSON text in each line, from a reader of any length.
+ghost use Rattle.std.specs.Prelude.{◌≡◌, ◌++◌, ◌≤◌, ◌<◌, ◌^◌, ⊤, Option, if◌then◌else◌, IfErr, IfOk, length, string_bytes};
+ghost use Rattle.std.specs.Io.KnownBytes.{Appends};
+ghost use Rattle.nom_internal.specs.Prelude.{bytes_model, Slice};
+ghost use Rattle.nom_run.specs.Stream.{MatchRunError, NoWriteFailed, WriteFailed};
+ghost use Rattle.nom_stream.specs.Streams.{IsOpen};
+ghost use Rattle.nom_json_run.specs.Lines.{IsLine, IsLineText, ListsLine, TellsLine, ToldLines, fault_line, line_len, line_of};
+
+use crate::bracket::Fault;
+use crate::check::verdict;
+use crate::report::{error_of, named};
+use nom::IResult;
+use nom::bytes::{is_not, tag};
+use nom::combinator::{map, opt};
+use nom::error::Error;
+use nom::sequence::terminated;
+use nom_error::answer::OutOfMemory;
+use nom_report::{Placed, render_bytes, render_from};
+use nom_run::error::RunError;
+use nom_run::run::write_all;
+use nom_run::stream::Sink;
+use nom_stream::grammar::{Grammar, parse_item};
+use nom_stream::stream::{Stop, Stream};
+use std::alloc::Allocator;
+use std::fmt::Write;
+use std::io::Read;
+use std::str;
+
+/// Lines, each by its length without its end.
+#[derive(Clone, Copy)]
+pub struct Lines;
+
+fn len_of<'a>(bytes: Option<&'a [u8]>) -> usize
+    ensures { result ≡ line_len bytes.entry }
+{
+    match bytes {
+        Some(bytes) => bytes.len(),
+        None => 0,
+    }
+}
+
+impl Grammar for Lines {
+    type Item = usize;
+
+    ghost State = { Unit {0} };
+
+    ghost state = { λ _. tt };
+
+    ghost Tree = { Option (Slice bytes_model) };
+
+    ghost grammar = { λ _. line_of };
+
+    fn item<'a>(&mut self, input: &'a [u8], more: bool) -> IResult<&'a [u8], usize> {
+        let inside = opt(is_not::<_, _, Error<&[u8]>>(&b"\n"[..]));
+        let end = opt(tag::<_, _, Error<&[u8]>>(&b"\n"[..]));
+        parse_item(map(terminated(inside, end), len_of), input, more)
+    }
+}
+
+// Adds the text for a line.
+fn add_line<A: Allocator + Copy>(
+    text: &mut String<A>,
+    number: u64,
+    column: usize,
+    message: &str,
+) -> Result<(), OutOfMemory>
+    ensures { IfOk result (λ _. string_bytes text.new ≡ string_bytes text.old ++ fault_line number column message.now) }
+{
+    write!(text, "{number}:{column}: {message}\n")?;
+    Ok(())
+}
+
+// The text for a line.
+fn line_text<A: Allocator + Copy>(
+    alloc: A,
+    number: u64,
+    column: usize,
+    message: &str,
+) -> Result<String<A>, OutOfMemory>
+    ensures { IfOk result (λ t. IsLineText number (string_bytes t)) }
+{
+    let mut text = String::new(alloc);
+    add_line(&mut text, number, column, message)?;
+    Ok(text)
+}
+
+// The first line of a report.
+fn first_line(report: &str) -> &str {
+    match report.split_once('\n') {
+        Some((first, _)) => first,
+        None => report,
+    }
+}
+
+// How many characters begin in bytes of UTF-8.
+fn characters(bytes: &[u8]) -> usize
+    ensures { result ≤ length bytes.now }
+{
+    bytes.iter().filter(|b| **b < 128 || 192 <= **b).count()
+}
+
+// The text for a line that is no JSON text, by its first fault. Columns count characters, from 1 on.
+fn fault_text<A: Allocator + Copy>(
+    alloc: A,
+    number: u64,
+    line: &str,
+    fault: Fault,
+) -> Result<String<A>, OutOfMemory>
+    requires { fault.at ≤ length line.now }
+    ensures { IfOk result (λ t. IsLineText number (string_bytes t)) }
+{
+    let bytes = line.as_bytes();
+    let error = match error_of(bytes, fault) {
+        Ok(error) => error,
+        Err(error) => return Err(error),
+    };
+    let mut out = String::new(alloc);
+    match render_from("", line, bytes.place(), &error, &mut out) {
+        Ok(()) => {}
+        Err(error) => return Err(error),
+    }
+    let column = 1 + characters(&bytes[..fault.at]);
+    line_text(alloc, number, column, first_line(out.as_str()))
+}
+
+// The text for a line whose bytes are no text from a place on.
+fn bytes_text<A: Allocator + Copy>(
+    alloc: A,
+    number: u64,
+    line: &[u8],
+    at: usize,
+) -> Result<String<A>, OutOfMemory>
+    requires { at ≤ length line.now }
+    ensures { IfOk result (λ t. IsLineText number (string_bytes t)) }
+{
+    let error = match named(&line[at..], "a character in UTF-8") {
+        Ok(error) => error,
+        Err(error) => return Err(error),
+    };
+    let mut out = String::new(alloc);
+    match render_bytes("", line, &error, &mut out) {
+        Ok(()) => {}
+        Err(error) => return Err(error),
+    }
+    let column = 1 + characters(&line[..at]);
+    line_text(alloc, number, column, first_line(out.as_str()))
+}
+
+// What is told of a line, and whether a line was wrong, before or now.
+fn told<A: Allocator + Copy>(
+    alloc: A,
+    number: u64,
+    line: &[u8],
+    wrong: bool,
+) -> Result<(String<A>, bool), OutOfMemory>
+    ensures { IfOk result (λ r. IsLine number line.now (string_bytes r.0) wrong r.1) }
+{
+    match str::from_utf8(line) {
+        Ok(text) => match verdict(alloc, text.as_bytes()) {
+            Ok(None) => Ok((String::new(alloc), wrong)),
+            Ok(Some(fault)) => match fault_text(alloc, number, text, fault) {
+                Ok(text) => Ok((text, true)),
+                Err(error) => Err(error),
+            },
+            Err(error) => Err(error),
+        },
+        Err(error) => match bytes_text(alloc, number, line, error.valid_up_to()) {
+            Ok(text) => Ok((text, true)),
+            Err(error) => Err(error),
+        },
+    }
+}
+
+// Writes what is told of a line, and answers whether a line was wrong, before or now.
+fn list<A: Allocator + Copy, W: Sink>(
+    alloc: A,
+    sink: &mut W,
+    number: u64,
+    line: &[u8],
+    wrong: bool,
+) -> Result<bool, RunError>
+    ensures wrote { IfOk result (λ then_. ListsLine (W.held sink.old) (W.held sink.new) number line.now wrong then_
+        × NoWriteFailed (W.failures sink.old) (W.failures sink.new) (W.stalls sink.old) (W.stalls sink.new)) }
+    ensures error { IfErr result (λ e. MatchRunError e ⊥
+        (WriteFailed (W.failures sink.old) (W.failures sink.new) (W.stalls sink.old) (W.stalls sink.new)) (sink.new ≡ sink.old) ⊥) }
+{
+    let found = match told(alloc, number, line, wrong) {
+        Ok(found) => found,
+        Err(_) => return Err(RunError::OutOfMemory),
+    };
+    let (text, next) = found;
+    match write_all(sink, text.as_bytes()) {
+        Ok(()) => Ok(next),
+        Err(error) => Err(error),
+    }
+}
+
+// Tells that a line is longer than may be held.
+fn tell_too_long<A: Allocator + Copy, W: Sink>(
+    alloc: A,
+    sink: &mut W,
+    number: u64,
+) -> Result<u8, RunError>
+    ensures wrote { IfOk result (λ status. (status ≡ 3) × TellsLine (W.held sink.old) (W.held sink.new) number
+        × NoWriteFailed (W.failures sink.old) (W.failures sink.new) (W.stalls sink.old) (W.stalls sink.new)) }
+    ensures error { IfErr result (λ e. MatchRunError e ⊥
+        (WriteFailed (W.failures sink.old) (W.failures sink.new) (W.stalls sink.old) (W.stalls sink.new)) (sink.new ≡ sink.old) ⊥) }
+{
+    let text = match line_text(
+        alloc,
+        number,
+        1,
+        "error: the line is longer than may be held",
+    ) {
+        Ok(text) => text,
+        Err(_) => return Err(RunError::OutOfMemory),
+    };
+    match write_all(sink, text.as_bytes()) {
+        Ok(()) => Ok(3),
+        Err(error) => Err(error),
+    }
+}
+
+fn status_of(wrong: bool) -> u8
+    ensures { result ≡ (if wrong then 1 else 0) }
+{
+    if wrong { 1 } else { 0 }
+}
+
+/// Writes a line for each line of a stream that is no JSON text in UTF-8, with its number; answers the status: 1 where there
+/// is one, and else 0. A line longer than the stream may hold is told and ends it, with status 3.
+///
+/// The data may end with the end of a line or without it. An empty line is no JSON text. `Write` where a write failed, which
+/// isn't tried again; `Read` where a read failed, and after 2^64 - 1 lines.
+pub fn tell_lines<R: Read, A: Allocator + Copy, W: Sink>(
+    alloc: A,
+    stream: &mut Stream<R, A>,
+    sink: &mut W,
+) -> Result<u8, RunError>
+    requires { IsOpen R.remaining stream.old }
+    ensures open { IsOpen R.remaining stream.new }
+    ensures status { IfOk result (λ status. ToldLines R.remaining stream.old stream.new (W.held sink.old) (W.held sink.new) status
+        × NoWriteFailed (W.failures sink.old) (W.failures sink.new) (W.stalls sink.old) (W.stalls sink.new)) }
+    ensures error { IfErr result (λ e. MatchRunError e
+        (NoWriteFailed (W.failures sink.old) (W.failures sink.new) (W.stalls sink.old) (W.stalls sink.new))
+        (WriteFailed (W.failures sink.old) (W.failures sink.new) (W.stalls sink.old) (W.stalls sink.new))
+        (NoWriteFailed (W.failures sink.old) (W.failures sink.new) (W.stalls sink.old) (W.stalls sink.new)) ⊥) }
+{
+    let mut grammar = Lines;
+    let mut wrong = false;
+    for turn in 0..u64::MAX {
+        match stream.next_item(&mut grammar) {
+            Ok(Some((used, _length))) => {
+                match list(alloc, sink, turn + 1, stream.last(used), wrong) {
+                    Ok(next) => wrong = next,
+                    Err(error) => return Err(error),
+                }
+            }
+            Ok(None) => return Ok(status_of(wrong)),
+            Err(Stop::TooLong) => match tell_too_long(alloc, sink, turn + 1) {
+                Ok(status) => return Ok(status),
+                Err(error) => return Err(error),
+            },
+            Err(Stop::OutOfMemory) => return Err(RunError::OutOfMemory),
+            Err(_why) => return Err(RunError::Read),
+        }
+    }
+    Err(RunError::Read)
+}

@@ -1,0 +1,190 @@
+//! The report on a file.
+ghost use Rattle.std.specs.Prelude.{◌≡◌, ◌≤◌, IfOk, length, string_bytes};
+ghost use Rattle.nom_json_run.specs.Report.{IsOctetsReport, IsReport, IsTextReport, IsTold};
+
+use crate::bracket::{Bracket, Fault, Missing};
+use crate::check::verdict;
+use nom_error::answer::OutOfMemory;
+use nom_error::kind::ErrorKind;
+use nom_error::outside::ContextError;
+use nom_error::value::ParseError;
+use nom_report::{Placed, render_bytes, render_from};
+use nom_run::error::RunError;
+use nom_run::report::{Report, write_built};
+use nom_run::stream::Sink;
+use std::alloc::Allocator;
+use std::str;
+
+type Error<'a> = nom_report::Report<&'a [u8]>;
+
+// What is wanted goes by a name.
+pub(crate) fn named<'a>(place: &'a [u8], name: &'static str) -> Result<Error<'a>, OutOfMemory> {
+    match nom_report::Report::from_error_kind(place, ErrorKind::Fail) {
+        Ok(error) => nom_report::Report::add_context(place, name, error),
+        Err(error) => Err(error),
+    }
+}
+
+fn either<'a>(
+    first: Result<Error<'a>, OutOfMemory>,
+    second: Result<Error<'a>, OutOfMemory>,
+) -> Result<Error<'a>, OutOfMemory> {
+    match first {
+        Ok(first) => match second {
+            Ok(second) => first.or(second),
+            Err(error) => Err(error),
+        },
+        Err(error) => Err(error),
+    }
+}
+
+fn character<'a>(place: &'a [u8], wanted: char) -> Result<Error<'a>, OutOfMemory> {
+    nom_report::Report::from_char(place, wanted)
+}
+
+// Whether a byte, and white space after it, stands before a place.
+fn stands_before(bytes: &[u8], at: usize, byte: u8) -> bool
+    requires { at ≤ length bytes.now }
+{
+    let mut at = at;
+    while at > 0 {
+        at -= 1;
+        match bytes[at] {
+            b' ' | b'\n' | b'\r' | b'\t' => {}
+            found => return found == byte,
+        }
+    }
+    false
+}
+
+fn closing(bracket: Bracket) -> char {
+    match bracket {
+        Bracket::Array => ']',
+        Bracket::Object => '}',
+    }
+}
+
+fn word_name(word: &'static str) -> &'static str {
+    match word.as_bytes() {
+        [b'n', ..] => "null",
+        [b't', ..] => "true",
+        _ => "false",
+    }
+}
+
+// What a fault tells: the place, and what would have been accepted there.
+pub(crate) fn error_of<'a>(bytes: &'a [u8], fault: Fault) -> Result<Error<'a>, OutOfMemory>
+    requires { fault.at ≤ length bytes.now }
+{
+    let place = &bytes[fault.at..];
+    match fault.missing {
+        Missing::Value => {
+            let value = named(place, "a value");
+            if stands_before(bytes, fault.at, b'[') {
+                either(value, character(place, ']'))
+            } else {
+                value
+            }
+        }
+        Missing::Word(word) => named(place, word_name(word)),
+        Missing::Digit => named(place, "a digit"),
+        Missing::Character => either(named(place, "a character"), character(place, '"')),
+        Missing::Escape => named(place, "the letter of an escape"),
+        Missing::Hex => named(place, "a digit in base 16"),
+        Missing::Name => {
+            let name = named(place, "a name in quotes");
+            if stands_before(bytes, fault.at, b'{') {
+                either(name, character(place, '}'))
+            } else {
+                name
+            }
+        }
+        Missing::Colon => character(place, ':'),
+        Missing::Comma(bracket) => {
+            either(character(place, ','), character(place, closing(bracket)))
+        }
+        Missing::End => named(place, "the end of the text"),
+    }
+}
+
+// The text and the status for a fault in a text.
+fn tell_fault<A: Allocator + Copy>(
+    alloc: A,
+    name: &str,
+    text: &str,
+    fault: Fault,
+) -> Result<(String<A>, u8), OutOfMemory>
+    requires { fault.at ≤ length text.now }
+    ensures { IfOk result (λ r. (r.1 ≡ 1) × IsTextReport text.now (string_bytes r.0)) }
+{
+    let bytes = text.as_bytes();
+    let error = match error_of(bytes, fault) {
+        Ok(error) => error,
+        Err(error) => return Err(error),
+    };
+    let mut out = String::new(alloc);
+    match render_from(name, text, bytes.place(), &error, &mut out) {
+        Ok(()) => Ok((out, 1)),
+        Err(error) => Err(error),
+    }
+}
+
+// The text and the status for bytes that are no text from a place on.
+fn tell_bytes<A: Allocator + Copy>(
+    alloc: A,
+    name: &str,
+    bytes: &[u8],
+    at: usize,
+) -> Result<(String<A>, u8), OutOfMemory>
+    requires { at ≤ length bytes.now }
+    ensures { IfOk result (λ r. (r.1 ≡ 1) × IsOctetsReport bytes.now (string_bytes r.0)) }
+{
+    let error = match named(&bytes[at..], "a character in UTF-8") {
+        Ok(error) => error,
+        Err(error) => return Err(error),
+    };
+    let mut out = String::new(alloc);
+    match render_bytes(name, bytes, &error, &mut out) {
+        Ok(()) => Ok((out, 1)),
+        Err(error) => Err(error),
+    }
+}
+
+/// The text and the status for bytes: none and 0 where they are a JSON text in UTF-8, and else a report on the first fault,
+/// and 1.
+pub fn text_of<A: Allocator + Copy>(
+    alloc: A,
+    name: &str,
+    bytes: &[u8],
+) -> Result<(String<A>, u8), OutOfMemory>
+    ensures { IfOk result (λ r. IsTold bytes.now (string_bytes r.0) r.1) }
+{
+    match str::from_utf8(bytes) {
+        Ok(text) => match verdict(alloc, text.as_bytes()) {
+            Ok(None) => Ok((String::new(alloc), 0)),
+            Ok(Some(fault)) => tell_fault(alloc, name, text, fault),
+            Err(error) => Err(error),
+        },
+        Err(error) => tell_bytes(alloc, name, bytes, error.valid_up_to()),
+    }
+}
+
+/// The report on a file of a name. It is the same in whichever parts the bytes come.
+#[derive(Drop)]
+pub struct Checked<'a> {
+    pub name: &'a str,
+}
+
+impl<'a> Report for Checked<'a> {
+    ghost is_report = { IsReport };
+
+    fn write<A: Allocator + Copy, W: Sink>(
+        &self,
+        alloc: A,
+        bytes: &[u8],
+        _cuts: &[usize],
+        sink: &mut W,
+    ) -> Result<u8, RunError> {
+        write_built(text_of(alloc, self.name, bytes), sink)
+    }
+}
