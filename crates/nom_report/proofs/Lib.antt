@@ -1,3 +1,5 @@
 mod Adding
 mod Among
+mod Choices
 mod Fronts
+mod Furthest

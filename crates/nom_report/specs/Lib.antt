@@ -1,4 +1,5 @@
 pub mod Around
+pub mod Furthest
 pub mod Kept
 pub mod Named
 pub mod Reports

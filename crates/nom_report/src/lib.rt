@@ -7,6 +7,7 @@ mod enclosing;
 mod expectation;
 mod list;
 mod place;
+pub mod promises;
 mod several;
 mod value;
 
