@@ -1,5 +1,5 @@
 -- Expectations that are added one after another.
-use Rattle.std.proofs.Common.{◌≡◌, ℕ, ◌+◌, ◌<◌, Bool, true, false, ◌||◌, List, [], ◌∷◌, ◌++◌, map, take, length, get_or, sym, ◌∙◌, ap, subst, refl}
+use Rattle.std.proofs.Common.{ℕ, ◌+◌, ◌<◌, List, [], ◌∷◌, ◌++◌, map, take, length, get_or, sym, subst, refl}
 use Rattle.std.proofs.lemmas.List.{map_more}
 use Rattle.nom_report.specs.Wanted.{Wanted}
 use Rattle.nom_report.specs.Kept.{Kept, Adds, AddsEach}

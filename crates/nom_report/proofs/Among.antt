@@ -1,5 +1,5 @@
 -- What is among a list, by its places.
-use Rattle.std.proofs.Common.{◌≡◌, ℕ, ◌<◌, Bool, true, false, IsTrue, List, map, length, get_or, sym, ◌∙◌, true≢false}
+use Rattle.std.proofs.Common.{◌≡◌, ℕ, ◌<◌, Bool, false, IsTrue, List, map, length, get_or, sym, ◌∙◌, true≢false}
 use Rattle.std.proofs.lemmas.List.{get_or-map}
 
 -- where what stands at a place isn't seen as y, y doesn't stand there

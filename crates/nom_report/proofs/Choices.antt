@@ -1,13 +1,11 @@
 -- What a choice tells of its branches, one branch after another.
-use Rattle.std.proofs.Common.{◌≡◌, ℕ, Bool, false, List, [], ◌∷◌, ◌++◌, refl, sym, ◌∙◌, ap, subst, inl, inr, ◌⊎◌}
-use Rattle.nom_error.specs.declared.kind.ErrorKind.TheVariants.{Alt}
-use Rattle.nom_internal.specs.Prelude.{Model, Meaning, IsLawful, Outcome, Accept, Refuse, Stop, Fails, Needs, OnOutcome, IsFailure, labelled, labelled_meaning}
-use Rattle.nom_internal.specs.Prelude.{FirstFails, FirstRefuses, NextFails, NextRefuses, GoesOnRefused, OnRefusal, OrBlames, NextBlames, Closed, same_self}
-use Rattle.nom_internal.specs.Prelude.{Joined}
+use Rattle.std.proofs.Common.{◌≡◌, ℕ, Bool, List, [], ◌∷◌, ◌++◌, refl, sym, subst, inl, inr, ◌⊎◌}
+use Rattle.nom_internal.specs.Prelude.{Model, Meaning, IsLawful, Outcome, Accept, Refuse, Stop, Fails, Needs, IsFailure, labelled, labelled_meaning}
+use Rattle.nom_internal.specs.Prelude.{FirstFails, FirstRefuses, NextFails, NextRefuses, GoesOnRefused, Closed, same_self}
 use Rattle.nom_branch.specs.Alternatives.{next_meaning, choice_meaning}
 use Rattle.nom_branch.specs.laws.AlternativeLaws.{next_lawful}
-use Rattle.nom_report.specs.Reports.{IsFurthest, report_errors}
-use Rattle.nom_report.specs.Furthest.{EachRefuses, TellsFurthest, TellsOfBranches, refuses_with}
+use Rattle.nom_report.specs.Reports.{report_errors}
+use Rattle.nom_report.specs.Furthest.{EachRefuses, TellsOfBranches, refuses_with}
 use Rattle.nom_report.specs.declared.value.Report.{Report}
 use Rattle.nom_report.proofs.Furthest.{tells_one, tells_more}
 

@@ -1,12 +1,12 @@
 -- What the joining of reports keeps, one after another.
-use Rattle.std.proofs.Common.{◌≡◌, ℕ, ◌+◌, ◌<◌, ◌≤◌, Bool, true, false, ◌||◌, IsTrue, ◌⊎◌, List, [], ◌∷◌, ◌++◌, length, get_or, zero, suc, inl, inr, refl, sym, ◌∙◌, ap, subst, arith, length-append}
+use Rattle.std.proofs.Common.{◌≡◌, ℕ, ◌+◌, ◌≤◌, Bool, true, false, ◌||◌, IsTrue, ◌⊎◌, List, [], ◌∷◌, ◌++◌, length, get_or, zero, suc, inl, inr, refl, sym, ◌∙◌, ap, subst, arith, length-append}
 use Rattle.std.proofs.lemmas.List.{get_or_append_left, get_or-append-add}
 use Rattle.std.specs.List.{IsAmong}
 use Rattle.nom_branch.specs.Lists.{Each}
 use Rattle.nom_report.specs.Wanted.{Wanted}
 use Rattle.nom_report.specs.Kept.{Kept, kept, Adds, AddsEach, Joins}
 use Rattle.nom_report.specs.Kept.Adds.{IsKnown, HasRoom, IsLeftOut}
-use Rattle.nom_report.specs.Reports.{IsFurthest, WantsBoth}
+use Rattle.nom_report.specs.Reports.{IsFurthest}
 use Rattle.nom_report.specs.Reports.IsFurthest.{FirstGotFurther, SecondGotFurther, GotAsFar}
 use Rattle.nom_report.specs.Furthest.{One, HasAll, TellsFurthest}
 use Rattle.nom_report.specs.declared.value.Report.{Report}

@@ -1,5 +1,10 @@
 mod Adding
 mod Among
 mod Choices
+mod Contexts
 mod Fronts
 mod Furthest
+mod Items
+mod Lines
+mod Whole
+mod Windows

@@ -1,5 +1,5 @@
 -- The expectations that a report keeps, and how those of two are joined.
-use Rattle.std.specs.Prelude.{◌≡◌, ℕ, ◌<◌, Bool, true, false, ◌||◌, List, [], ◌∷◌, ◌++◌, length, map, take}
+use Rattle.std.specs.Prelude.{◌≡◌, ◌<◌, Bool, true, false, ◌||◌, List, [], ◌∷◌, ◌++◌, length, map, take}
 use Rattle.std.specs.List.{IsAmong}
 use Rattle.nom_report.specs.Wanted.{Wanted, seen}
 use Rattle.nom_report.specs.declared.several.TheConstants.{MOST_EXPECTED}

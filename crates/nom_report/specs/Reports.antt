@@ -1,8 +1,7 @@
 -- What a report says, and what the functions of an error type make of reports.
-use Rattle.std.specs.Prelude.{◌≡◌, ℕ, ◌<◌, ◌≤◌, ◌⊎◌, List, [], ◌∷◌, false}
+use Rattle.std.specs.Prelude.{◌≡◌, ℕ, ◌<◌, ◌≤◌, ◌⊎◌, List, [], false}
 use Rattle.nom_error.specs.Errors.{Errors, Contexts, Externals}
 use Rattle.nom_report.specs.Wanted.{Wanted, WantedChar, WantedKind, WantedLabel}
-use Rattle.nom_report.specs.Named.{Context}
 use Rattle.nom_report.specs.Kept.{Joins, just, kept}
 use Rattle.nom_report.specs.Around.{around, IsEnclosed}
 use Rattle.nom_report.specs.declared.value.Report.{Report}

@@ -1,6 +1,5 @@
 -- What was expected at a place: expectations as contracts see them, and how they are joined.
-use Rattle.std.specs.Prelude.{◌≡◌, ◌↔◌, ℕ, ◌<◌, Bool, IsTrue, ◌⊎◌, List, [], ◌∷◌, ◌++◌, length, map, take}
-use Rattle.std.specs.List.{IsAmong}
+use Rattle.std.specs.Prelude.{ℕ, List}
 use Rattle.nom_error.specs.declared.kind.ErrorKind.{ErrorKind}
 use Rattle.nom_report.specs.declared.expectation.Expected.{Expected}
 use Rattle.nom_report.specs.declared.expectation.Expected.TheVariants.{Char, Kind, Label}

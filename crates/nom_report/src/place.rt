@@ -1,6 +1,7 @@
 //! Inputs whose places can be told.
-ghost use Rattle.std.specs.Prelude.{◌≡◌, ℕ, ◌+◌, ◌-◌, ◌^◌, length};
+ghost use Rattle.std.specs.Prelude.{◌≡◌, ℕ, ◌+◌};
 ghost use Rattle.nom_traits.specs.Input.{IsSuffixOf};
+ghost use Rattle.nom_report.specs.Left.{slice_place};
 ghost use Rattle.nom_report.specs.laws.Places.{bytes_rests, text_rests};
 
 use nom_traits::input::Items;
@@ -26,7 +27,7 @@ pub trait Placed: Items {
 const LONGEST: usize = 0x8000_0000_0000_0000;
 
 impl Placed for &[u8] {
-    ghost place = { λ s. 2 ^ 63 - length s.now };
+    ghost place = { slice_place };
 
     #[inline(always)]
     fn place(&self) -> usize {
@@ -37,7 +38,7 @@ impl Placed for &[u8] {
 }
 
 impl Placed for &str {
-    ghost place = { λ s. 2 ^ 63 - length s.now };
+    ghost place = { slice_place };
 
     #[inline(always)]
     fn place(&self) -> usize {

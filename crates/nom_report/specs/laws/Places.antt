@@ -1,7 +1,7 @@
 -- The laws of places that are told by what is left.
-use Rattle.std.specs.Prelude.{◌≡◌, ℕ, ◌+◌, ◌-◌, ◌<◌, ◌^◌, List, length, chars, encode_utf8_all}
+use Rattle.std.specs.Prelude.{◌≡◌, ℕ, ◌+◌, ◌-◌, ◌<◌, ◌^◌, List, length, chars}
 use Rattle.std.specs.Borrow.{Bor}
-use Rattle.std.proofs.Common.{arith, sym, ◌∙◌, ap, length-append}
+use Rattle.std.proofs.Common.{arith, ◌∙◌, ap}
 use Rattle.nom_traits.specs.Input.{Model, items_len, IsSuffixOf}
 use Rattle.nom_traits.specs.Rests.{items_len-append, items_len-ones}
 use Rattle.nom_traits.specs.Bytes.{bytes_model}

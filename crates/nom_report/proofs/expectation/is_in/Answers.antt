@@ -1,4 +1,4 @@
-use Rattle.std.proofs.Common.{below_more, IsTrue, Bool, true, false, ◌≡◌, subst}
+use Rattle.std.proofs.Common.{below_more}
 use Rattle.nom_report.specs.Wanted.{seen}
 use Rattle.nom_report.proofs.Among.{not_at, not_so}
 use Rattle.nom_report.proofs.expectation.is_in.Goals as goal
