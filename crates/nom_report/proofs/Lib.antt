@@ -1,4 +1,5 @@
 mod Adding
+mod Again
 mod Among
 mod Choices
 mod Contexts

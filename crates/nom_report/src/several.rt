@@ -7,7 +7,7 @@ use crate::expectation::Expected;
 use std::alloc::AllocError;
 
 /// How many expectations a report keeps.
-pub const MOST_EXPECTED: usize = 6;
+pub const MOST_EXPECTED: usize = 8;
 
 /// The first `len` of the items.
 pub struct Several {
