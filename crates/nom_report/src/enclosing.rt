@@ -3,6 +3,7 @@ ghost use Rattle.std.specs.Prelude.{◌≡◌, ◌<◌, ◌≤◌, ◌++◌, ◌
 ghost use Rattle.nom_report.specs.declared.enclosing.TheConstants.{MOST_ENCLOSING};
 
 use std::alloc::AllocError;
+use std::fmt;
 
 /// What a parser under `context` had begun to read: the context's name, and the place where it began, as `Placed` tells it.
 #[derive(Clone, Copy, Debug, PartialEq, Eq)]
@@ -14,7 +15,8 @@ pub struct Enclosing {
 /// How many contexts a report keeps.
 pub const MOST_ENCLOSING: usize = 4;
 
-/// The first `len` of the items.
+/// The first `len` of the items. The others are the first one, so that equal lists are equal.
+#[derive(PartialEq, Eq)]
 pub struct Contexts {
     pub items: [Enclosing; MOST_ENCLOSING],
     pub len: usize,
@@ -27,6 +29,13 @@ impl Copy for Contexts {}
 impl Clone for Contexts {
     fn clone(&self) -> Result<Self, AllocError> {
         Ok(*self)
+    }
+}
+
+/// The list.
+impl fmt::Debug for Contexts {
+    fn fmt<W: fmt::Write>(&self, f: &mut fmt::Formatter<W>) -> fmt::Result {
+        write!(f, "{:?}", &self.items[..self.len])
     }
 }
 

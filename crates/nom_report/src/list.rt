@@ -9,14 +9,14 @@ use std::slice;
 
 /// The first of some expectations, which are at least one. One is kept as it is, so that an error that is made and dropped
 /// costs little.
-#[derive(Clone, Copy)]
+#[derive(Clone, Copy, Debug, PartialEq, Eq)]
 pub enum First<M> {
     One(Expected),
     Many(M),
 }
 
 /// Expectations, as many as fit, and whether there were more.
-#[derive(Clone, Copy)]
+#[derive(Clone, Copy, Debug, PartialEq, Eq)]
 pub struct Expectations {
     first: First<Several>,
     more: bool,

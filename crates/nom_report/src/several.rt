@@ -5,11 +5,13 @@ ghost use Rattle.nom_report.specs.declared.several.TheConstants.{MOST_EXPECTED};
 
 use crate::expectation::Expected;
 use std::alloc::AllocError;
+use std::fmt;
 
 /// How many expectations a report keeps.
 pub const MOST_EXPECTED: usize = 8;
 
-/// The first `len` of the items.
+/// The first `len` of the items. The others are the first one, so that equal lists are equal.
+#[derive(PartialEq, Eq)]
 pub struct Several {
     pub items: [Expected; MOST_EXPECTED],
     pub len: usize,
@@ -22,6 +24,13 @@ impl Copy for Several {}
 impl Clone for Several {
     fn clone(&self) -> Result<Self, AllocError> {
         Ok(*self)
+    }
+}
+
+/// The list.
+impl fmt::Debug for Several {
+    fn fmt<W: fmt::Write>(&self, f: &mut fmt::Formatter<W>) -> fmt::Result {
+        write!(f, "{:?}", &self.items[..self.len])
     }
 }
 

@@ -21,7 +21,7 @@ use nom_error::value::ParseError;
 ///
 /// Under `context` what was expected goes by the context's name where nothing was consumed, as "a number" in place of
 /// `Digit`; and else the context is one that encloses the place.
-#[derive(Clone, Copy)]
+#[derive(Clone, Copy, Debug, PartialEq, Eq)]
 pub struct Report<I> {
     at: I,
     expected: Expectations,
