@@ -1,0 +1,11 @@
+mod Adding
+mod Again
+mod Among
+mod Choices
+mod Contexts
+mod Fronts
+mod Furthest
+mod Items
+mod Lines
+mod Whole
+mod Windows

@@ -1,0 +1,12 @@
+pub mod Around
+pub mod Furthest
+pub mod Kept
+pub mod Left
+pub mod Named
+pub mod Octets
+pub mod Quotes
+pub mod Rendered
+pub mod Reports
+pub mod Wanted
+pub mod Words
+pub mod laws

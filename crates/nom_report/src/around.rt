@@ -1,0 +1,59 @@
+//! The contexts around a place.
+ghost use Rattle.std.specs.Prelude.{◌≡◌, ◌<◌, ◌∷◌, [], IsTrue, false, map};
+ghost use Rattle.nom_report.specs.Named.{named};
+ghost use Rattle.nom_report.specs.Around.{IsEnclosed, around};
+
+use crate::enclosing::{Contexts, Enclosing, MOST_ENCLOSING};
+
+/// The contexts around a place, the innermost first, as many as fit, and whether there were more.
+#[derive(Clone, Copy, Debug, PartialEq, Eq)]
+pub struct Around {
+    contexts: Option<Contexts>,
+    more: bool,
+}
+
+impl Around {
+    #[inline(always)]
+    pub fn none() -> Around
+        ensures none { around result ≡ [] }
+        ensures all { result.more ≡ false }
+    {
+        Around {
+            contexts: None,
+            more: false,
+        }
+    }
+
+    #[inline(always)]
+    pub fn as_slice(&self) -> &[Enclosing]
+        ensures { map named result.now ≡ around self.now }
+    {
+        match &self.contexts {
+            None => &[],
+            Some(contexts) => &contexts.items[..contexts.len],
+        }
+    }
+
+    #[inline(always)]
+    pub fn has_more(&self) -> bool
+        ensures { result ≡ self.now.more }
+    {
+        self.more
+    }
+
+    // Adds one that lies around the others.
+    pub fn add(&mut self, it: Enclosing)
+        ensures { IsEnclosed self.old (named it) self.new }
+    {
+        match &mut self.contexts {
+            None => self.contexts = Some(Contexts::one(it)),
+            Some(contexts) => {
+                if contexts.len < MOST_ENCLOSING {
+                    contexts.push(it);
+                } else {
+                    self.more = true;
+                }
+            }
+        }
+    }
+}

@@ -1,0 +1,63 @@
+//! What encloses a place.
+ghost use Rattle.std.specs.Prelude.{◌≡◌, ◌<◌, ◌≤◌, ◌++◌, ◌∷◌, [], length, map, take};
+ghost use Rattle.nom_report.specs.declared.enclosing.TheConstants.{MOST_ENCLOSING};
+
+use std::alloc::AllocError;
+use std::fmt;
+
+/// What a parser under `context` had begun to read: the context's name, and the place where it began, as `Placed` tells it.
+#[derive(Clone, Copy, Debug, PartialEq, Eq)]
+pub struct Enclosing {
+    pub label: &'static str,
+    pub place: usize,
+}
+
+/// How many contexts a report keeps.
+pub const MOST_ENCLOSING: usize = 4;
+
+/// The first `len` of the items. The others are the first one, so that equal lists are equal.
+#[derive(PartialEq, Eq)]
+pub struct Contexts {
+    pub items: [Enclosing; MOST_ENCLOSING],
+    pub len: usize,
+    ghost fits: { len ≤ MOST_ENCLOSING },
+    ghost room: { length items ≡ MOST_ENCLOSING },
+}
+
+impl Copy for Contexts {}
+
+impl Clone for Contexts {
+    fn clone(&self) -> Result<Self, AllocError> {
+        Ok(*self)
+    }
+}
+
+/// The list.
+impl fmt::Debug for Contexts {
+    fn fmt<W: fmt::Write>(&self, f: &mut fmt::Formatter<W>) -> fmt::Result {
+        write!(f, "{:?}", &self.items[..self.len])
+    }
+}
+
+impl Contexts {
+    ghost use Rattle.nom_report.specs.Named.{named};
+
+    #[inline(always)]
+    pub fn one(it: Enclosing) -> Contexts
+        ensures { map named (take result.len result.items) ≡ named it ∷ [] }
+    {
+        Contexts {
+            items: [it; MOST_ENCLOSING],
+            len: 1,
+        }
+    }
+
+    #[inline(always)]
+    pub fn push(&mut self, it: Enclosing)
+        requires { self.old.len < MOST_ENCLOSING }
+        ensures { map named (take self.new.len self.new.items) ≡ map named (take self.old.len self.old.items) ++ (named it ∷ []) }
+    {
+        self.items[self.len] = it;
+        self.len += 1;
+    }
+}

@@ -1,0 +1,18 @@
+//! The places of inputs that know their line and column.
+ghost use Rattle.nom_located.specs.laws.LocatedLaws.{rest_offset};
+
+use crate::place::Placed;
+use nom_located::Located;
+use nom_search::bytes::ByteItems;
+
+/// Its offset, which is that of the whole also in a piece that was cut out of it.
+impl<I: ByteItems> Placed for Located<I> {
+    ghost place = { λ x. x.offset };
+
+    #[inline(always)]
+    fn place(&self) -> usize {
+        self.location_offset()
+    }
+
+    ghost rests = { λ i j n k p. rest_offset I.model I.read I.reading (λ x. x.fragment) (λ x. record { offset = x.offset; line = x.line; column = x.column }) i j n p };
+}

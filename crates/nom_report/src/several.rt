@@ -1,0 +1,55 @@
+//! Two expectations and more.
+ghost use Rattle.std.specs.Prelude.{◌≡◌, ◌<◌, ◌≤◌, ◌++◌, ◌∷◌, [], length, map, take};
+ghost use Rattle.nom_report.specs.Wanted.{seen};
+ghost use Rattle.nom_report.specs.declared.several.TheConstants.{MOST_EXPECTED};
+
+use crate::expectation::Expected;
+use std::alloc::AllocError;
+use std::fmt;
+
+/// How many expectations a report keeps.
+pub const MOST_EXPECTED: usize = 8;
+
+/// The first `len` of the items. The others are the first one, so that equal lists are equal.
+#[derive(PartialEq, Eq)]
+pub struct Several {
+    pub items: [Expected; MOST_EXPECTED],
+    pub len: usize,
+    ghost fits: { len ≤ MOST_EXPECTED },
+    ghost room: { length items ≡ MOST_EXPECTED },
+}
+
+impl Copy for Several {}
+
+impl Clone for Several {
+    fn clone(&self) -> Result<Self, AllocError> {
+        Ok(*self)
+    }
+}
+
+/// The list.
+impl fmt::Debug for Several {
+    fn fmt<W: fmt::Write>(&self, f: &mut fmt::Formatter<W>) -> fmt::Result {
+        write!(f, "{:?}", &self.items[..self.len])
+    }
+}
+
+impl Several {
+    #[inline(always)]
+    pub fn two(first: Expected, second: Expected) -> Several
+        ensures { map seen (take result.len result.items) ≡ seen first ∷ seen second ∷ [] }
+    {
+        let mut items = [first; MOST_EXPECTED];
+        items[1] = second;
+        Several { items, len: 2 }
+    }
+
+    #[inline(always)]
+    pub fn push(&mut self, it: Expected)
+        requires { self.old.len < MOST_EXPECTED }
+        ensures { map seen (take self.new.len self.new.items) ≡ map seen (take self.old.len self.old.items) ++ (seen it ∷ []) }
+    {
+        self.items[self.len] = it;
+        self.len += 1;
+    }
+}

@@ -1,0 +1,113 @@
+//! The text of a report.
+ghost use Rattle.std.specs.Prelude.{◌≡◌, ◌-◌, ◌++◌, IfOk, codes, map, string_bytes};
+ghost use Rattle.nom_report.specs.Left.{slice_place};
+ghost use Rattle.nom_report.specs.Named.{named};
+ghost use Rattle.nom_report.specs.Rendered.{IsRendered, TellsContext, TellsContexts, more_text, name_text};
+
+use crate::enclosing::Enclosing;
+use crate::place::Placed;
+use crate::quote::{add_place, add_quote, cut};
+use crate::value::Report;
+use crate::words::add_all_expected;
+use nom_error::answer::OutOfMemory;
+use std::alloc::Allocator;
+use std::fmt::Write;
+
+// Adds a context, with the place where it begins.
+fn add_context<A: Allocator + Copy>(
+    out: &mut String<A>,
+    source: &str,
+    start: usize,
+    context: &Enclosing,
+) -> Result<(), OutOfMemory>
+    ensures { IfOk result (λ _. (t : _) × TellsContext source.now start (named context.now) t × (string_bytes out.new ≡ string_bytes out.old ++ t)) }
+{
+    let label = context.label;
+    let (before, _after) = cut(source, context.place.saturating_sub(start));
+    write!(out, "while reading {label}, which begins at ")?;
+    add_place(out, before)?;
+    write!(out, "\n")?;
+    Ok(())
+}
+
+// Adds the contexts of a report.
+fn add_contexts<A: Allocator + Copy>(
+    out: &mut String<A>,
+    source: &str,
+    start: usize,
+    contexts: &[Enclosing],
+) -> Result<(), OutOfMemory>
+    ensures { IfOk result (λ _. (t : _) × TellsContexts source.now start (map named contexts.now) t × (string_bytes out.new ≡ string_bytes out.old ++ t)) }
+{
+    for context in contexts {
+        add_context(out, source, start, context)?;
+    }
+    Ok(())
+}
+
+/// Adds the name of a source.
+pub fn add_name<A: Allocator + Copy>(out: &mut String<A>, name: &str) -> Result<(), OutOfMemory>
+    ensures { IfOk result (λ _. string_bytes out.new ≡ string_bytes out.old ++ name_text name.now) }
+{
+    write!(out, " --> {name}:")?;
+    Ok(())
+}
+
+/// Ends a line.
+pub fn add_end<A: Allocator + Copy>(out: &mut String<A>) -> Result<(), OutOfMemory>
+    ensures { IfOk result (λ _. string_bytes out.new ≡ string_bytes out.old ++ codes "\n") }
+{
+    write!(out, "\n")?;
+    Ok(())
+}
+
+/// Adds that there are more contexts.
+pub fn add_more<A: Allocator + Copy>(out: &mut String<A>, more: bool) -> Result<(), OutOfMemory>
+    ensures { IfOk result (λ _. string_bytes out.new ≡ string_bytes out.old ++ more_text more) }
+{
+    if more {
+        write!(out, "..\n")?;
+    }
+    Ok(())
+}
+
+/// Adds the text of a report on a text: `source` is the whole text, and `start` the place of the input that was parsed, as
+/// `Placed` tells it: of a `Located` that is 0.
+///
+/// The first line tells what was expected, the second where: ` --> settings.ini:3:7`, by the line and the column, in
+/// characters. Then comes the line itself, after its number, and below it a caret; and a line for each context. Of a line of
+/// more than 76 characters those around the caret are quoted, with `..` for the others. A tab is kept, and U+FFFD is shown
+/// for another control character.
+pub fn render_from<I: Placed, A: Allocator + Copy>(
+    name: &str,
+    source: &str,
+    start: usize,
+    error: &Report<I>,
+    out: &mut String<A>,
+) -> Result<(), OutOfMemory>
+    ensures { IfOk result (λ _. (t : _) × IsRendered I.place name.now source.now start error.now t × (string_bytes out.new ≡ string_bytes out.old ++ t)) }
+{
+    let at = error.at();
+    let (before, after) = cut(source, at.place().saturating_sub(start));
+    add_all_expected(out, error.expected(), error.has_more_expected())?;
+    add_name(out, name)?;
+    add_place(out, before)?;
+    add_end(out)?;
+    add_quote(out, before, after)?;
+    add_contexts(out, source, start, error.inside())?;
+    add_more(out, error.has_more_inside())?;
+    Ok(())
+}
+
+/// Adds the text of a report on a text, of which `source` is the whole, as `render_from` does.
+pub fn render<A: Allocator + Copy>(
+    name: &str,
+    source: &str,
+    error: &Report<&str>,
+    out: &mut String<A>,
+) -> Result<(), OutOfMemory>
+    ensures { IfOk result (λ _. (t : _) × IsRendered slice_place name.now source.now (slice_place source.entry) error.now t
+        × (string_bytes out.new ≡ string_bytes out.old ++ t)) }
+{
+    render_from(name, source, source.place(), error, out)
+}

@@ -1,0 +1,61 @@
+//! Parsing for which good input costs no errors.
+ghost use Rattle.std.specs.Prelude.{◌≡◌, true, false};
+ghost use Rattle.nom_internal.specs.Prelude.{Parses};
+
+use nom_error::answer::{Err, IResult};
+use nom_error::mode::{Check, Complete, Emit, OutputM, Streaming};
+use nom_internal::parser::Parser;
+use nom_traits::input::Items;
+
+/// What `parse_complete` answers. The input is parsed without errors first, and again, for the error, only where it is refused
+/// or memory ran out: so what is accepted costs less than with the smallest error type, and what is refused costs twice.
+///
+/// That holds for what combinators are made of. A function that is wrapped by `func` builds its errors whenever it refuses.
+#[inline(always)]
+pub fn parse_complete_twice<I: Items, P: Parser<I>>(
+    parser: &mut P,
+    input: I,
+) -> IResult<I, P::Output, P::Error>
+    requires { (P.grammar (P.state parser.old)).meaning.Runs }
+    ensures shown { Parses I.model (P.grammar (P.state parser.old)) false input result }
+    ensures kept { P.state parser.new ≡ P.state parser.old }
+{
+    match parser.process::<OutputM<Emit, Check, Complete>>(input) {
+        Ok(accepted) => {
+            let (rest, output) = accepted;
+            match output {
+                Some(output) => Ok((rest, output)),
+                None => unreachable!(),
+            }
+        }
+        Err(Err::Incomplete(needed)) => Err(Err::Incomplete(needed)),
+        Err(Err::Failure(error)) => Err(Err::Failure(error)),
+        Err(Err::Error(_)) => parser.parse_complete(input),
+        Err(Err::OutOfMemory) => parser.parse_complete(input),
+    }
+}
+
+/// What `parse` answers, as `parse_complete_twice` does.
+#[inline(always)]
+pub fn parse_twice<I: Items, P: Parser<I>>(
+    parser: &mut P,
+    input: I,
+) -> IResult<I, P::Output, P::Error>
+    requires { (P.grammar (P.state parser.old)).meaning.Runs }
+    ensures shown { Parses I.model (P.grammar (P.state parser.old)) true input result }
+    ensures kept { P.state parser.new ≡ P.state parser.old }
+{
+    match parser.process::<OutputM<Emit, Check, Streaming>>(input) {
+        Ok(accepted) => {
+            let (rest, output) = accepted;
+            match output {
+                Some(output) => Ok((rest, output)),
+                None => unreachable!(),
+            }
+        }
+        Err(Err::Incomplete(needed)) => Err(Err::Incomplete(needed)),
+        Err(Err::Failure(error)) => Err(Err::Failure(error)),
+        Err(Err::Error(_)) => parser.parse(input),
+        Err(Err::OutOfMemory) => parser.parse(input),
+    }
+}

@@ -1,0 +1,142 @@
+//! The error type.
+ghost use Rattle.std.specs.Prelude.{◌≡◌, map};
+ghost use Rattle.nom_report.specs.Around.{around};
+ghost use Rattle.nom_report.specs.Kept.{kept};
+ghost use Rattle.nom_report.specs.Named.{named};
+ghost use Rattle.nom_report.specs.Reports.{Wants, report_contexts, report_errors, report_externals};
+ghost use Rattle.nom_report.specs.Wanted.{seen};
+
+use crate::around::Around;
+use crate::enclosing::Enclosing;
+use crate::expectation::Expected;
+use crate::list::Expectations;
+use crate::place::Placed;
+use nom_error::answer::OutOfMemory;
+use nom_error::kind::ErrorKind;
+use nom_error::outside::{ContextError, FromExternalError};
+use nom_error::value::ParseError;
+
+/// An error for people. It tells the furthest place that any alternative reached, what would have been accepted there, and
+/// what encloses it. It takes no memory: of what doesn't fit it tells that there was more.
+///
+/// Under `context` what was expected goes by the context's name where nothing was consumed, as "a number" in place of
+/// `Digit`; and else the context is one that encloses the place.
+#[derive(Clone, Copy, Debug, PartialEq, Eq)]
+pub struct Report<I> {
+    at: I,
+    expected: Expectations,
+    inside: Around,
+}
+
+impl<I> Report<I> {
+    // One thing that was wanted.
+    #[inline(always)]
+    fn new(at: I, wanted: Expected) -> Report<I>
+        ensures { Wants at (seen wanted) result }
+    {
+        Report {
+            at,
+            expected: Expectations::one(wanted),
+            inside: Around::none(),
+        }
+    }
+
+    /// What would have been accepted: each once, in the order in which it was tried. There is one at least.
+    pub fn expected(&self) -> &[Expected]
+        ensures { map seen result.now ≡ (kept self.now.expected).wanted }
+    {
+        self.expected.as_slice()
+    }
+
+    /// Whether more would have been accepted than `expected` tells.
+    pub fn has_more_expected(&self) -> bool
+        ensures { result ≡ self.now.expected.more }
+    {
+        self.expected.has_more()
+    }
+
+    /// The contexts around the place, the innermost first.
+    pub fn inside(&self) -> &[Enclosing]
+        ensures { map named result.now ≡ around self.now.inside }
+    {
+        self.inside.as_slice()
+    }
+
+    /// Whether there are contexts around those that `inside` tells.
+    pub fn has_more_inside(&self) -> bool
+        ensures { result ≡ self.now.inside.more }
+    {
+        self.inside.has_more()
+    }
+}
+
+impl<I: Copy> Report<I> {
+    /// The furthest place that an alternative reached: the input there.
+    pub fn at(&self) -> I
+        ensures { result ≡ self.now.at }
+    {
+        self.at
+    }
+}
+
+impl<I: Placed> ParseError<I> for Report<I> {
+    ghost errors = { report_errors I.place };
+
+    #[inline(always)]
+    fn from_error_kind(input: I, kind: ErrorKind) -> Result<Self, OutOfMemory> {
+        Ok(Report::new(input, Expected::Kind(kind)))
+    }
+
+    #[inline(always)]
+    fn append(_input: I, _kind: ErrorKind, other: Self) -> Result<Self, OutOfMemory> {
+        Ok(other)
+    }
+
+    #[inline(always)]
+    fn from_char(input: I, wanted: char) -> Result<Self, OutOfMemory> {
+        Ok(Report::new(input, Expected::Char(wanted)))
+    }
+
+    #[inline(always)]
+    fn or(self, other: Self) -> Result<Self, OutOfMemory> {
+        let first = self.at.place();
+        let second = other.at.place();
+        if second < first {
+            return Ok(self);
+        }
+        if first < second {
+            return Ok(other);
+        }
+        let mut both = self;
+        both.expected.join(&other.expected);
+        Ok(both)
+    }
+}
+
+impl<I: Placed> ContextError<I> for Report<I> {
+    ghost contexts = { report_contexts I.place };
+
+    fn add_context(input: I, context: &'static str, other: Self) -> Result<Self, OutOfMemory> {
+        let mut error = other;
+        let begins = input.place();
+        if error.at.place() <= begins {
+            error.expected = Expectations::one(Expected::Label(context));
+        } else {
+            error.inside.add(Enclosing {
+                label: context,
+                place: begins,
+            });
+        }
+        Ok(error)
+    }
+}
+
+/// The other error isn't kept.
+impl<I: Placed, X: Drop> FromExternalError<I, X> for Report<I> {
+    ghost externals = { report_externals };
+
+    #[inline(always)]
+    fn from_external_error(input: I, kind: ErrorKind, _e: X) -> Result<Self, OutOfMemory> {
+        Ok(Report::new(input, Expected::Kind(kind)))
+    }
+}
