@@ -1,4 +1,5 @@
 pub mod OneTree
+pub mod PendingShown
 pub mod Runs
 pub mod Spine
 pub mod StepsShown

@@ -1,1 +1,2 @@
+pub mod OperatorTreeLaws
 pub mod TreeLaws
