@@ -1,0 +1,40 @@
+-- Items with operators between them, folded from the left.
+use Rattle.std.specs.Prelude.{◌≡◌, List, Option, Some}
+use Rattle.std.specs.List.{AllZip, FoldsTo}
+use Rattle.nom_error.specs.Errors.{Errors}
+use Rattle.nom_error.specs.declared.kind.ErrorKind.TheVariants as Kind
+use Rattle.nom_internal.specs.Prelude.{Grammar, Meaning, Model, sequence_meaning, premised}
+use Rattle.nom_repeat.specs.Bounds.{any_limits}
+use Rattle.nom_repeat.specs.Items.{items_meaning}
+use Rattle.nom_language.specs.Precedences.{pair_grammar}
+
+-- the value of a first item and of pairs of an operator and an item, from left to right
+pub record IsFolded {T C H O : Type 0} (IsItem : T → O → Type 0) (IsOperator : C → H → Type 0) (Gives : O → H → O → O → Type 0) (e : T × List (C × T))
+    (y : O) : Type 0 where
+  pub first : O
+  pub is_first : IsItem e.0 first
+  pub pairs : List (H × O)
+  pub are_pairs : AllZip (λ t o. IsOperator t.0 o.0 × IsItem t.1 o.1) e.1 pairs
+  pub folded : FoldsTo (λ x p z. Gives x p.0 p.1 z) first pairs y
+
+-- One more pair folds the value with it.
+pub record FoldPushes {K L H O : Type 0} (value : K → Option O) (builder : K → L) (Gives : L → O → H → O → O → Type 0) (old : K) (item : H × O) (new : K)
+    : Type 0 where
+  pub before : O
+  pub rest : O
+  pub before_is : value old ≡ Some before
+  pub after_is : value new ≡ Some rest
+  pub given : Gives (builder old) before item.0 item.1 rest
+  pub builder_is : builder new ≡ builder old
+
+-- A first item, whose refusal is passed on; and then pairs of an operator and an item, as many as are accepted. A pair that consumes
+-- nothing is refused.
+abbrev pub left_assoc_by : {I A T C H O E : Type 0} → Model I A → Errors I E → (CanBuild : Type 0) → (O → H → O → O → Type 0) → Grammar I T O E →
+    Grammar I C H E → Grammar I (T × List (C × T)) O E
+left_assoc_by w errs CanBuild Gives child operator = record {
+  meaning =
+      premised (child.meaning.Runs × operator.meaning.Runs × CanBuild) (child.meaning.IsSound × operator.meaning.IsSound)
+      (sequence_meaning w (λ t ps. (t, ps)) (λ o. o) (λ o. o) child.meaning
+      (items_meaning w errs (any_limits Kind.SeparatedList) ⊥ (pair_grammar w operator child).meaning));
+  IsOutput = IsFolded child.IsOutput operator.IsOutput Gives;
+}

@@ -1,0 +1,5 @@
+pub mod Evaluated
+pub mod LeftFolds
+pub mod Operators
+pub mod Precedences
+pub mod laws
