@@ -6,8 +6,8 @@ use Rattle.nom_error.specs.declared.kind.ErrorKind.TheVariants as Kind
 use Rattle.nom_internal.specs.Prelude.{Grammar, Meaning, Model, Outcome, Accept, IsJudge, closed_meaning, judged_meaning, sequence_meaning, premised, OfError}
 use Rattle.nom_repeat.specs.Bounds.{any_limits}
 use Rattle.nom_repeat.specs.Items.{items_meaning}
-use Rattle.nom_internal.specs.Tuples.{tuple_of}
-use Rattle.nom_internal.specs.Sequence.{pair_of}
+use Rattle.nom_internal.specs.Tuples.{built_meaning}
+use Rattle.nom_internal.specs.Sequence.{pair_meaning}
 use Rattle.nom_operators.specs.declared.operation.Operation.{Operation}
 use Rattle.nom_operators.specs.declared.precedences.Binary.{Binary}
 use Rattle.nom_language.specs.Evaluated.{TermOutput, IsEvaluated}
@@ -25,31 +25,34 @@ growing_meaning first m = record m {
   IsFrugal = λ _. ⊥;
 }
 
--- pairs of a binary operator and a term, as a tuple
-abbrev pub pair_grammar : {I A C H T O E : Type 0} → Model I A → Grammar I C H E → Grammar I T O E → Grammar I (C × T) (H × O) E
-pair_grammar w binary term = tuple_of (λ o. (o.0, o.1)) (pair_of w binary term)
+-- a binary operator and a term after it, as a tuple
+abbrev pub next_meaning : {I A C T E : Type 0} → Model I A → Meaning I C E → Meaning I T E → Meaning I (C × T) E
+next_meaning w binary term = built_meaning (pair_meaning w binary term)
 
 -- A first term, to whose refusal `Precedence` is added at the start; and then pairs, as many as are accepted. Where an operator or its
 -- term is refused, the pairs end before that operator. A pair that consumes nothing is refused. What waits takes memory.
-abbrev pub terms_meaning : {I A T C O H E : Type 0} → Model I A → Errors I E → Grammar I T O E → Grammar I C H E → Meaning I (T × List (C × T)) E
-terms_meaning w errs term binary = growing_meaning term.meaning (sequence_meaning w (λ t ps. (t, ps)) (λ o. o) (λ o. o)
-    (closed_meaning (λ i. errs.appended i Kind.Precedence) errs.grows term.meaning)
-    (items_meaning w errs (any_limits Kind.Precedence) (Unit {0}) (pair_grammar w binary term).meaning))
+abbrev pub terms_meaning : {I A T C E : Type 0} → Model I A → Errors I E → Meaning I T E → Meaning I C E → Meaning I (T × List (C × T)) E
+terms_meaning w errs term binary = growing_meaning term (sequence_meaning w (λ t ps. (t, ps)) (λ o. o) (λ o. o)
+    (closed_meaning (λ i. errs.appended i Kind.Precedence) errs.grows term)
+    (items_meaning w errs (any_limits Kind.Precedence) (Unit {0}) (next_meaning w binary term)))
 
--- what was evaluated is judged by whether it is a value
+-- what was evaluated stands for itself
 abbrev pub Itself : {R : Type 0} → R → R → Type 0
 Itself r s = s ≡ r
 
--- An expression, by the grammars of its terms and of its binary operators, and by what the fold gives for each operation. What is read is
--- evaluated in every mode: a refusal of the fold refuses it, at the start. The premise of its laws is that the fold either refuses all
--- that a tree stands for, or nothing.
+-- What is read is evaluated in every mode, by what a tree stands for: a refusal of the fold refuses it, at the start. The premise of the
+-- laws is that the fold either refuses all that a tree stands for, or nothing.
+abbrev pub expression_meaning : {I A T C O X E : Type 0} → Model I A → Errors I E → Externals I X E → (CanFold : Type 0) →
+    (T × List (C × T) → Result O X → Type 0) → Meaning I T E → Meaning I C E → Meaning I (T × List (C × T)) E
+expression_meaning {O = O} {X = X} w errs externals CanFold Evaluates term binary =
+    premised (term.Runs × binary.Runs × CanFold) (term.IsSound × binary.IsSound × IsJudge {R = Result O X} Evaluates Itself is_ok)
+    (judged_meaning {R = Result O X} Evaluates (λ _. Unit {0}) Itself is_ok (λ i. OfError (externals.of_external i Kind.Precedence)) externals.grows
+    (terms_meaning w errs term binary))
+
+-- an expression, by the grammars of its terms and of its binary operators, and by what the fold gives for each operation
 abbrev pub expression_by : {I A T C P Q B O X M E : Type 0} → Model I A → Errors I E → Externals I X E → (CanFold : Type 0) →
     (Operation P Q B O → Result O X → Type 0) → Grammar I T (TermOutput P O Q M) E → Grammar I C (Binary B) E → Grammar I (T × List (C × T)) O E
-expression_by {O = O} {X = X} w errs externals CanFold Gives term binary = record {
-  meaning =
-      premised (term.meaning.Runs × binary.meaning.Runs × CanFold)
-      (term.meaning.IsSound × binary.meaning.IsSound × IsJudge {R = Result O X} (IsEvaluated term.IsOutput binary.IsOutput Gives) Itself is_ok)
-      (judged_meaning {R = Result O X} (IsEvaluated term.IsOutput binary.IsOutput Gives) (λ _. Unit {0}) Itself is_ok
-      (λ i. OfError (externals.of_external i Kind.Precedence)) externals.grows (terms_meaning w errs term binary));
+expression_by w errs externals CanFold Gives term binary = record {
+  meaning = expression_meaning w errs externals CanFold (IsEvaluated term.IsOutput binary.IsOutput Gives) term.meaning binary.meaning;
   IsOutput = λ e y. IsEvaluated term.IsOutput binary.IsOutput Gives e (Ok y);
 }

@@ -1,5 +1,6 @@
 //! The value of what is read of an expression.
-ghost use Rattle.std.specs.Prelude.{◌≡◌, IfSome, IsSome, [], List};
+ghost use Rattle.std.specs.Prelude.{◌≡◌, IfSome, IsSome, [], List, true};
+ghost use Rattle.nom_internal.specs.Prelude.{BuiltFrom};
 ghost use Rattle.nom_language.specs.Evaluated.{HasReadInto, PairPushes, symbols_of_term};
 ghost use Rattle.nom_operators.specs.Evaluations.{IsValueOf};
 ghost use Rattle.nom_operators.specs.OperatorTrees.{Symbol};
@@ -88,7 +89,7 @@ fn term<P: Drop, O: Drop, Q: Drop, A: Allocator>(
 
 /// What is made of a first term. None where there is no memory for its prefixes.
 #[inline(always)]
-pub fn evaluation<
+pub fn begin_evaluation<
     'a,
     P: Drop,
     Q: Drop,
@@ -130,12 +131,34 @@ pub fn evaluated<
     X: Drop,
     A: Allocator,
     G: Fn(Operation<P, Q, B, O>) -> Result<O, X>,
+>(evaluation: Option<Evaluation<'_, P, Q, B, O, X, A, G>>) -> Option<Result<O, X>>
+    requires { IfSome evaluation (λ k. IsSome k.partial × IfSome k.partial (λ r. IsNested r.innermost k.outer.items)
+        × ((x : Operation P Q B O) → G.pre k.fold.now x)) }
+    ensures { BuiltFrom true (λ k r. (ss : List (Symbol (Unary P) O (Unary Q) (Binary B))) → HasReadInto (λ k. k.partial) (λ k. k.outer.items)
+        (λ k. k.fold.now) (λ f o r. G.post f o r) k.fold.now ss k → IsValueOf (G.post k.fold.now) ss r) evaluation.entry result }
+{
+    match evaluation {
+        Some(evaluation) => Some(value_of(evaluation)),
+        None => None,
+    }
+}
+
+/// The same, of what was read.
+#[inline(always)]
+fn value_of<
+    P: Drop,
+    Q: Drop,
+    B: Drop,
+    O: Drop,
+    X: Drop,
+    A: Allocator,
+    G: Fn(Operation<P, Q, B, O>) -> Result<O, X>,
 >(evaluation: Evaluation<'_, P, Q, B, O, X, A, G>) -> Result<O, X>
     requires some { IsSome evaluation.partial }
     requires nested { IfSome evaluation.partial (λ r. IsNested r.innermost evaluation.outer.items) }
     requires fold { (x : Operation P Q B O) → G.pre evaluation.fold.now x }
     ensures { (ss : List (Symbol (Unary P) O (Unary Q) (Binary B))) → HasReadInto (λ k. k.partial) (λ k. k.outer.items) (λ k. k.fold.now)
-        (λ f o r. G.post f o r) evaluation.fold.now ss evaluation.entry → IsValueOf (G.post evaluation.fold.now) ss result }
+        (λ f o r. G.post f o r) evaluation.entry.fold.now ss evaluation.entry → IsValueOf (G.post evaluation.entry.fold.now) ss result }
 {
     let Evaluation {
         partial,

@@ -6,7 +6,7 @@ ghost use Rattle.nom_language.specs.Evaluated.{IsEvaluated};
 ghost use Rattle.nom_language.specs.Precedences.{expression_by, terms_meaning};
 ghost use Rattle.nom_operators.specs.declared.operation.Operation.{Operation};
 
-use crate::evaluation::{Evaluation, evaluated, evaluation};
+use crate::evaluation::{Evaluation, begin_evaluation, evaluated};
 use nom_error::answer::{Err, PResult};
 use nom_error::kind::ErrorKind;
 use nom_error::mode::{Emit, Mode, OutputM, OutputMode};
@@ -99,7 +99,7 @@ fn terms<
     requires binary { (C.grammar (C.state pair.old.0)).meaning.Runs }
     requires fold { (x : Operation P Q B O) → G.pre fold.now x }
     ensures shown { ShowsMeaning {O = Result O X} I.model (IsEvaluated (T.grammar (T.state pair.old.1)).IsOutput (C.grammar (C.state pair.old.0)).IsOutput
-        (G.post fold.now)) (terms_meaning I.model T.Error.errors (T.grammar (T.state pair.old.1)) (C.grammar (C.state pair.old.0)))
+        (G.post fold.now)) (terms_meaning I.model T.Error.errors (T.grammar (T.state pair.old.1)).meaning (C.grammar (C.state pair.old.0)).meaning)
         (modes true OM.Error.BUILDS OM.Incomplete.STREAMING) input result }
     ensures term_kept { T.state pair.new.1 ≡ T.state pair.old.1 }
     ensures binary_kept { C.state pair.new.0 ≡ C.state pair.old.0 }
@@ -108,7 +108,7 @@ fn terms<
         .1
         .process::<OutputM<Emit, OM::Error, OM::Incomplete>>(input);
     let (rest, first) = close(read, input, ErrorKind::Precedence)?;
-    match evaluation::<P, Q, B, O, X, A, G>(alloc, emitted(first), fold) {
+    match begin_evaluation::<P, Q, B, O, X, A, G>(alloc, emitted(first), fold) {
         Some(begun) => {
             let (end, all) = any_items::<
                 OutputM<Emit, OM::Error, OM::Incomplete>,
@@ -116,7 +116,7 @@ fn terms<
                 (C, T),
                 Evaluation<'_, P, Q, B, O, X, A, G>,
             >(pair, rest, Some(begun), ErrorKind::Precedence)?;
-            Ok((end, Some(evaluated(emitted(all)))))
+            Ok((end, evaluated(all)))
         }
         None => Err(Err::OutOfMemory),
     }

@@ -2,12 +2,8 @@
 //! with its precedence, and a fold that may refuse. The value is that of the one tree that the precedences give.
 #![tactic(auto)]
 
-mod evaluation;
-mod expression;
-mod left;
-mod operator;
+pub mod evaluation;
+pub mod expression;
+pub mod left;
+pub mod operator;
 pub mod precedence;
-
-pub use crate::expression::Expression;
-pub use crate::left::LeftAssoc;
-pub use crate::operator::{BinaryOp, UnaryOp};
