@@ -19,7 +19,7 @@ any_items-requires-clause-built g c =
     let first = accepts c.in_ok-rest.ensures.shown in
     given_built g.OM.Output.Mode.BUILDS _ (λ x k. (k.value ≡ Some x) × (k.builder.now ≡ c.args.self.now.builder)) _ _ _
     (λ x k p q. (subst IsSome (sym q.0) refl, λ a h b. subst (λ f. g.G.Fn.pre f (a, (h, (b, tt)))) (sym q.1) (c.requires.runs.2 a h b)))
-    c.begun.ensures first.built_is
+    c.begun-begun.ensures first.built_is
 
 pub returns-in_err-end-clause-shown : goal.returns-in_err-end-clause-shown
 returns-in_err-end-clause-shown g c =
@@ -30,7 +30,7 @@ returns-in_err-end-clause-shown g c =
           (next_meaning g.I.Items.model binary.meaning (g.F.Parser.grammar s).meaning);
       IsOutput = Accumulated (FoldPushes (λ k. k.value) (λ k. k.builder.now) (λ f a h b z. g.G.Fn.post f (a, (h, (b, tt))) z))
           (λ k. IsSome k.value × ((x : g.row.F-Output.Denot) (h : g.row.C-Output.Denot) (y : g.row.F-Output.Denot) → g.G.Fn.pre k.builder.now (x, (h, (y, tt)))))
-          (λ t o. binary.IsOutput t.0 o.0 × (g.F.Parser.grammar s).IsOutput t.1 o.1) c.begun.result;
+          (λ t o. binary.IsOutput t.0 o.0 × (g.F.Parser.grammar s).IsOutput t.1 o.1) c.begun-begun.result;
     }) c.in_ok-rest.ensures.kept c.in_err-end.ensures.shown in
     then_ok g.met.I.Items.lawful c.in_ok-rest.ensures.shown (λ t b. output_err more c.from_residual-in_err-end.ensures)
 
@@ -44,8 +44,8 @@ returns-clause-shown g c =
           (next_meaning g.I.Items.model binary.meaning (g.F.Parser.grammar s).meaning);
       IsOutput = Accumulated (FoldPushes (λ k. k.value) (λ k. k.builder.now) (λ f a h b z. g.G.Fn.post f (a, (h, (b, tt))) z))
           (λ k. IsSome k.value × ((x : g.row.F-Output.Denot) (h : g.row.C-Output.Denot) (y : g.row.F-Output.Denot) → g.G.Fn.pre k.builder.now (x, (h, (y, tt)))))
-          (λ t o. binary.IsOutput t.0 o.0 × (g.F.Parser.grammar s).IsOutput t.1 o.1) c.begun.result;
+          (λ t o. binary.IsOutput t.0 o.0 × (g.F.Parser.grammar s).IsOutput t.1 o.1) c.begun-begun.result;
     }) c.in_ok-rest.ensures.kept c.in_ok-end.ensures.shown in
     then_ok g.met.I.Items.lawful c.in_ok-rest.ensures.shown (λ t b. output_ok more (λ us k. left_built (λ k. k.value) (λ k. k.builder.now)
     (λ f a h b z. g.G.Fn.post f (a, (h, (b, tt))) z) item.IsOutput binary.IsOutput _ g.OM.Output.Mode.BUILDS t us self.builder _ _ _ _
-    c.begun.ensures c.value_of.ensures b k))
+    c.begun-begun.ensures c.value_of.ensures b k))
