@@ -1,6 +1,5 @@
 -- What is evaluated of terms, as they are read.
-use Rattle.std.specs.Prelude.{◌≡◌, ◌⊎◌, Bool, true, List, [], ◌∷◌, ◌++◌, Option, Some, None, IfSome, IsSome, Result, Ok, refl}
-use Rattle.std.specs.List.{AllZip}
+use Rattle.std.specs.Prelude.{◌≡◌, ◌⊎◌, Bool, true, List, [], ◌∷◌, ◌++◌, Option, Some, None, IfSome, IsSome, Result, refl}
 use Rattle.std.proofs.Common.{sym, ◌∙◌, ap, subst, inl, append_assoc, append-nil}
 use Rattle.nom_internal.specs.Prelude.{PResult, Built, BuiltFrom, Modes, Model, Outcome, Accept, ShowsAnswer, RanOut, Shown, Meaning, closed_meaning}
 use Rattle.nom_internal.proofs.Shown.{Accepts}

@@ -1,6 +1,6 @@
 -- What is built of outputs that are built, and what a fold from the left makes of pairs.
-use Rattle.std.specs.Prelude.{◌≡◌, Bool, true, false, List, [], ◌∷◌, Option, Some, None, IsSome, MatchOption, refl}
-use Rattle.std.specs.List.{AllZip, FoldsTo}
+use Rattle.std.specs.Prelude.{◌≡◌, Bool, true, false, List, [], ◌∷◌, Option, Some, None, MatchOption, refl}
+use Rattle.std.specs.List.{FoldsTo}
 use Rattle.std.proofs.Common.{sym, ◌∙◌, ap, subst}
 use Rattle.nom_internal.specs.Prelude.{Built, BuiltFrom}
 use Rattle.nom_repeat.specs.Accumulated.{Adds, Accumulated}

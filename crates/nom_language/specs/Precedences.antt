@@ -1,9 +1,9 @@
 -- Expressions: terms with operators between them, and a fold that may refuse.
-use Rattle.std.specs.Prelude.{◌≡◌, ℕ, ◌⊎◌, Bool, true, List, Result, Ok, Err, is_ok}
+use Rattle.std.specs.Prelude.{◌≡◌, ℕ, ◌⊎◌, Bool, List, Result, Ok, is_ok}
 use Rattle.nom_error.specs.Errors.{Errors, Externals}
-use Rattle.nom_error.specs.Modes.{Modes}
 use Rattle.nom_error.specs.declared.kind.ErrorKind.TheVariants as Kind
-use Rattle.nom_internal.specs.Prelude.{Grammar, Meaning, Model, Outcome, Accept, IsJudge, closed_meaning, judged_meaning, sequence_meaning, premised, OfError}
+use Rattle.nom_internal.specs.Prelude.{Grammar, Meaning, Model, Accept, IsJudge, closed_meaning, judged_meaning, sequence_meaning, premised, OfError}
+use Rattle.nom_combinator.specs.Verdicts.{not_meaning}
 use Rattle.nom_repeat.specs.Bounds.{any_limits}
 use Rattle.nom_repeat.specs.Items.{items_meaning}
 use Rattle.nom_internal.specs.Tuples.{built_meaning}
@@ -55,4 +55,12 @@ abbrev pub expression_by : {I A T C P Q B O X M E : Type 0} → Model I A → Er
 expression_by w errs externals CanFold Gives term binary = record {
   meaning = expression_meaning w errs externals CanFold (IsEvaluated term.IsOutput binary.IsOutput Gives) term.meaning binary.meaning;
   IsOutput = λ e y. IsEvaluated term.IsOutput binary.IsOutput Gives e (Ok y);
+}
+
+-- an expression, and then no operator: so each operator has its operands
+abbrev pub require_operands_of : {I A H T O B E : Type 0} → Model I A → Errors I E → Grammar I H B E → Grammar I T O E → Grammar I T O E
+require_operands_of w errs binary expression = record {
+  meaning = premised expression.meaning.Runs expression.meaning.IsSound (sequence_meaning w (λ e _. e) (λ o. o) (λ o. o) expression.meaning
+      (not_meaning (λ i. errs.of_kind i Kind.Precedence) errs.grows binary.meaning));
+  IsOutput = expression.IsOutput;
 }

@@ -7,6 +7,7 @@ ghost use Rattle.nom_language.specs.Precedences.{expression_by, terms_meaning};
 ghost use Rattle.nom_operators.specs.declared.operation.Operation.{Operation};
 
 use crate::evaluation::{Evaluation, begin_evaluation, evaluated};
+use crate::operands::RequireOperands;
 use nom_error::answer::{Err, PResult};
 use nom_error::kind::ErrorKind;
 use nom_error::mode::{Emit, Mode, OutputM, OutputMode};
@@ -28,6 +29,17 @@ pub struct Expression<A, C, T, G> {
     /// A binary operator and a term after it.
     pub pair: (C, T),
     pub fold: G,
+}
+
+impl<A, C, T, G> Expression<A, C, T, G> {
+    /// The same, but an operator after the expression whose right operand is missing is refused with `Precedence`, where
+    /// else the expression ends before it.
+    #[inline(always)]
+    pub fn require_operands(self) -> RequireOperands<A, C, T, G>
+        ensures { result.expression ≡ self }
+    {
+        RequireOperands { expression: self }
+    }
 }
 
 impl<

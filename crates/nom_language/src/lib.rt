@@ -5,5 +5,6 @@
 pub mod evaluation;
 pub mod expression;
 pub mod left;
+pub mod operands;
 pub mod operator;
 pub mod precedence;

@@ -2,6 +2,7 @@ pub mod Closes
 pub mod Evaluations
 pub mod Groups
 pub mod OperatorTrees
+pub mod OperatorViews
 pub mod Pending
 pub mod Steps
 pub mod Trees

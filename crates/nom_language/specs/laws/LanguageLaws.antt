@@ -1,12 +1,14 @@
 -- The laws of expressions, and of items that are folded from the left, by those of their parts.
 use Rattle.std.specs.Prelude.{List, Result, is_ok}
 use Rattle.nom_error.specs.Errors.{Errors, Externals}
-use Rattle.nom_internal.specs.Prelude.{Meaning, Model, InputLaws, IsLawful, IsSteady, IsJudge, premised_lawful, premised_steady}
+use Rattle.nom_internal.specs.Prelude.{Meaning, Model, InputLaws, IsLawful, IsSteady, IsJudge, premised, premised_lawful, premised_steady, sequence_meaning}
 use Rattle.nom_internal.specs.laws.CaseLaws.{closed_lawful, closed_steady}
 use Rattle.nom_internal.specs.laws.JudgedLaws.{judged_lawful, judged_steady}
 use Rattle.nom_internal.specs.laws.SequenceLaws.{sequence_lawful, sequence_steady}
 use Rattle.nom_internal.specs.laws.TupleLaws.{built_lawful, pair_lawful, built_steady, pair_steady}
 use Rattle.nom_error.specs.declared.kind.ErrorKind.TheVariants as Kind
+use Rattle.nom_combinator.specs.Verdicts.{not_meaning}
+use Rattle.nom_combinator.specs.laws.VerdictLaws.{not_lawful, not_steady}
 use Rattle.nom_repeat.specs.Bounds.{any_limits}
 use Rattle.nom_repeat.specs.laws.ItemsLaws.{items_lawful, items_steady}
 use Rattle.nom_language.specs.LeftFolds.{left_assoc_meaning}
@@ -49,3 +51,12 @@ module _ {I A T C E : Type 0} {w : Model I A} (l : InputLaws w) (errs : Errors I
 
   pub left_assoc_steady : IsSteady w child → IsSteady w operator → IsSteady w (left_assoc_meaning w errs CanBuild child operator)
   left_assoc_steady p q = premised_steady (sequence_steady l p (items_steady l errs (any_limits Kind.SeparatedList) (built_steady (pair_steady l q p))))
+
+module _ {I A H T E : Type 0} {w : Model I A} (l : InputLaws w) (errs : Errors I E) {Runs IsSound : Type 0} {expression : Meaning I T E} {binary : Meaning I H E} where
+  pub require_operands_lawful : IsLawful w expression → IsLawful w binary → IsLawful w (premised Runs IsSound
+      (sequence_meaning w (λ e _. e) (λ o. o) (λ o. o) expression (not_meaning (λ i. errs.of_kind i Kind.Precedence) errs.grows binary)))
+  require_operands_lawful p q = premised_lawful (sequence_lawful l p (not_lawful q))
+
+  pub require_operands_steady : IsSteady w expression → IsSteady w binary → IsSteady w (premised Runs IsSound
+      (sequence_meaning w (λ e _. e) (λ o. o) (λ o. o) expression (not_meaning (λ i. errs.of_kind i Kind.Precedence) errs.grows binary)))
+  require_operands_steady p q = premised_steady (sequence_steady l p (not_steady q))

@@ -1,5 +1,5 @@
-use Rattle.std.proofs.Common.{◌≡◌, Some, inr, refl, subst, sym, true}
-use Rattle.std.specs.Prelude.{IfSome, IsSome, Result}
+use Rattle.std.proofs.Common.{Some, inr, refl, subst, sym, true}
+use Rattle.std.specs.Prelude.{IfSome, IsSome}
 use Rattle.nom_error.specs.declared.kind.ErrorKind.TheVariants as Kind
 use Rattle.nom_internal.specs.Prelude.{RanOut, modes}
 use Rattle.nom_internal.proofs.Choices.{closed_shown}

@@ -1,7 +1,7 @@
 use Rattle.std.proofs.Common.{◌∙◌, Ok, Some, ap, refl, subst, sym}
 use Rattle.std.specs.Prelude.{Result}
 use Rattle.nom_error.specs.declared.kind.ErrorKind.TheVariants as Kind
-use Rattle.nom_internal.specs.Prelude.{Meaning, OfError}
+use Rattle.nom_internal.specs.Prelude.{OfError}
 use Rattle.nom_internal.proofs.Judges.{judged_err, judged_fit, judged_unfit}
 use Rattle.nom_internal.proofs.Shown.{built_error, err_from_residual}
 use Rattle.nom_language.specs.Evaluated.{IsEvaluated}
