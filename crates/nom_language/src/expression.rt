@@ -15,11 +15,12 @@ use nom_error::outside::FromExternalError;
 use nom_error::value::ParseError;
 use nom_internal::built::{built, emitted};
 use nom_internal::choice::close;
-use nom_internal::parser::Parser;
+use nom_internal::parser::{Parser, StreamParser};
 use nom_operators::operation::Operation;
 use nom_operators::precedences::{Binary, Unary};
 use nom_repeat::bounds::any_items;
 use nom_traits::input::{Input, Items};
+use nom_traits::view::Viewed;
 use std::alloc::Allocator;
 
 /// Terms with operators between them, made by `precedence`.
@@ -90,6 +91,32 @@ where
     }
 
     ghost lawful = { λ s k. expression_lawful I.lawful T.Error.errors T.Error.externals k.2 (T.lawful s.1 k.0) (C.lawful s.0 k.1) };
+}
+
+impl<
+    I: Input,
+    A: Allocator + Copy,
+    P: Viewed + Drop,
+    Q: Viewed + Drop,
+    B: Viewed + Drop,
+    O: Viewed + Drop,
+    X: Drop,
+    C: StreamParser<I, Output = Binary<B>, Error = T::Error> + Drop,
+    T: StreamParser<I, Output = (Vec<Unary<P>, A>, O, Vec<Unary<Q>, A>)> + Drop,
+    G: Fn(Operation<P, Q, B, O>) -> Result<O, X>,
+> StreamParser<I> for Expression<A, C, T, G>
+where
+    T::Error: FromExternalError<I, X>,
+{
+    ghost use Rattle.nom_language.specs.laws.LanguageLaws.{expression_steady};
+    ghost use Rattle.nom_language.specs.laws.PinnedLaws.{expression_pinned};
+    ghost use Rattle.nom_operators.specs.laws.ViewLaws.{OperatesAlike};
+
+    ghost Pins = { λ p. T.Pins p.pair.1 × C.Pins p.pair.0 × OperatesAlike (G.post p.fold) P.view Q.view B.view O.view };
+
+    ghost pinned = { λ p k h. expression_pinned P.view Q.view B.view O.view (T.pinned p.pair.1 k.0 h.0) (C.pinned p.pair.0 k.1 h.1) h.2 };
+
+    ghost steady = { λ s k. expression_steady I.lawful T.Error.errors T.Error.externals k.2 (T.steady s.1 k.0) (C.steady s.0 k.1) };
 }
 
 /// A first term, to whose refusal `Precedence` is added at the start, and then pairs, with the value of them all, or the

@@ -7,7 +7,7 @@ use nom_error::answer::{OutOfMemory, PResult};
 use nom_error::kind::ErrorKind;
 use nom_error::mode::OutputMode;
 use nom_error::value::ParseError;
-use nom_internal::parser::Parser;
+use nom_internal::parser::{Parser, StreamParser};
 use nom_repeat::accumulator::Accumulator;
 use nom_repeat::bounds::any_items;
 use nom_traits::input::{Input, Items};
@@ -55,6 +55,22 @@ impl<
     }
 
     ghost lawful = { λ s k. left_assoc_lawful I.lawful F.Error.errors (F.lawful s.1 k.0) (C.lawful s.0 k.1) };
+}
+
+impl<
+    I: Input,
+    C: StreamParser<I, Error = F::Error> + Drop,
+    F: StreamParser<I> + Drop,
+    G: Fn(F::Output, C::Output, F::Output) -> F::Output,
+> StreamParser<I> for LeftAssoc<C, F, G> {
+    ghost use Rattle.nom_language.specs.laws.LanguageLaws.{left_assoc_steady};
+    ghost use Rattle.nom_language.specs.laws.PinnedLaws.{BuildsAlike, left_assoc_pinned};
+
+    ghost Pins = { λ p. F.Pins p.pair.1 × C.Pins p.pair.0 × BuildsAlike (G.post p.builder) C.Output.view F.Output.view };
+
+    ghost pinned = { λ p k h. left_assoc_pinned (F.pinned p.pair.1 k.0 h.0) (C.pinned p.pair.0 k.1 h.1) h.2 };
+
+    ghost steady = { λ s k. left_assoc_steady I.lawful F.Error.errors (F.steady s.1 k.0) (C.steady s.0 k.1) };
 }
 
 /// A value that is folded with the pairs that come.

@@ -13,10 +13,11 @@ use nom_error::mode::{Check, OutputM, OutputMode};
 use nom_error::outside::FromExternalError;
 use nom_error::value::{ParseError, refusal};
 use nom_internal::built::built;
-use nom_internal::parser::Parser;
+use nom_internal::parser::{Parser, StreamParser};
 use nom_operators::operation::Operation;
 use nom_operators::precedences::{Binary, Unary};
 use nom_traits::input::{Input, Items};
+use nom_traits::view::Viewed;
 use std::alloc::Allocator;
 
 /// An expression whose operators all have their operands, made by `require_operands`.
@@ -62,7 +63,36 @@ where
     }
 
     ghost lawful = { λ s k. require_operands_lawful I.lawful T.Error.errors
-        (expression_lawful I.lawful T.Error.errors T.Error.externals k.2 (T.lawful s.1 k.0) (C.lawful s.0 k.1)) (C.lawful s.0 k.1) };
+        (expression_lawful I.lawful T.Error.errors T.Error.externals {CanFold = Unit {0}} k.2 (T.lawful s.1 k.0) (C.lawful s.0 k.1)) (C.lawful s.0 k.1) };
+}
+
+impl<
+    I: Input,
+    A: Allocator + Copy,
+    P: Viewed + Drop,
+    Q: Viewed + Drop,
+    B: Viewed + Drop,
+    O: Viewed + Drop,
+    X: Drop,
+    C: StreamParser<I, Output = Binary<B>, Error = T::Error> + Drop,
+    T: StreamParser<I, Output = (Vec<Unary<P>, A>, O, Vec<Unary<Q>, A>)> + Drop,
+    G: Fn(Operation<P, Q, B, O>) -> Result<O, X>,
+> StreamParser<I> for RequireOperands<A, C, T, G>
+where
+    T::Error: FromExternalError<I, X>,
+{
+    ghost use Rattle.nom_language.specs.laws.LanguageLaws.{expression_steady, require_operands_steady};
+    ghost use Rattle.nom_language.specs.laws.PinnedLaws.{expression_pinned};
+    ghost use Rattle.nom_operators.specs.laws.ViewLaws.{OperatesAlike};
+
+    ghost Pins = { λ p. T.Pins p.expression.pair.1 × C.Pins p.expression.pair.0
+        × OperatesAlike (G.post p.expression.fold) P.view Q.view B.view O.view };
+
+    ghost pinned = { λ p k h. expression_pinned P.view Q.view B.view O.view (T.pinned p.expression.pair.1 k.0 h.0)
+        (C.pinned p.expression.pair.0 k.1 h.1) h.2 };
+
+    ghost steady = { λ s k. require_operands_steady I.lawful T.Error.errors
+        (expression_steady I.lawful T.Error.errors T.Error.externals {CanFold = Unit {0}} k.2 (T.steady s.1 k.0) (C.steady s.0 k.1)) (C.steady s.0 k.1) };
 }
 
 /// No operator, which is refused with `Precedence`.

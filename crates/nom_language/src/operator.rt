@@ -6,7 +6,7 @@ ghost use Rattle.nom_operators.specs.declared.operation.Assoc.{Assoc};
 
 use nom_error::answer::PResult;
 use nom_error::mode::OutputMode;
-use nom_internal::parser::Parser;
+use nom_internal::parser::{Parser, StreamParser};
 use nom_operators::operation::Assoc;
 use nom_operators::precedences::{Binary, Unary};
 use nom_traits::input::Items;
@@ -40,6 +40,16 @@ impl<I: Items, F: Parser<I> + Drop> Parser<I> for UnaryOp<F> {
     ghost lawful = { λ s k. F.lawful s.0 k };
 }
 
+impl<I: Items, F: StreamParser<I> + Drop> StreamParser<I> for UnaryOp<F> {
+    ghost use Rattle.nom_language.specs.laws.PinnedLaws.{unary_pinned};
+
+    ghost Pins = { λ p. F.Pins p.parser };
+
+    ghost pinned = { λ p k h. unary_pinned p.precedence (F.pinned p.parser k h) };
+
+    ghost steady = { λ s k. F.steady s.0 k };
+}
+
 /// A binary operator with its precedence, made by `binary_op`.
 #[derive(Drop)]
 pub struct BinaryOp<F> {
@@ -68,6 +78,16 @@ impl<I: Items, F: Parser<I> + Drop> Parser<I> for BinaryOp<F> {
     }
 
     ghost lawful = { λ s k. F.lawful s.0 k };
+}
+
+impl<I: Items, F: StreamParser<I> + Drop> StreamParser<I> for BinaryOp<F> {
+    ghost use Rattle.nom_language.specs.laws.PinnedLaws.{binary_pinned};
+
+    ghost Pins = { λ p. F.Pins p.parser };
+
+    ghost pinned = { λ p k h. binary_pinned p.precedence p.assoc (F.pinned p.parser k h) };
+
+    ghost steady = { λ s k. F.steady s.0 k };
 }
 
 /// An output with a precedence, where it is built.
