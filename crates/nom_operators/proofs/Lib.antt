@@ -3,3 +3,4 @@ pub mod PendingShown
 pub mod Runs
 pub mod Spine
 pub mod StepsShown
+pub mod TreesExist

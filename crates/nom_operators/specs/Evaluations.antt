@@ -1,9 +1,9 @@
 -- What the fold gives for a tree of operators, from its leaves up.
-use Rattle.std.specs.Prelude.{◌≡◌, List, ◌∷◌, ◌++◌, map, Result, Ok, Err}
+use Rattle.std.specs.Prelude.{◌≡◌, List, [], ◌∷◌, ◌++◌, map, Result, Ok, Err}
 use Rattle.nom_operators.specs.Groups.{is_left}
 use Rattle.nom_operators.specs.OperatorTrees.{OperatorTree, Symbol, Binding, IsTreeOf}
 use Rattle.nom_operators.specs.OperatorTrees.OperatorTree.{Bare, Prefixed, Postfixed, Between}
-use Rattle.nom_operators.specs.OperatorTrees.Symbol.{OfPrefix, OfOperand, OfPostfix}
+use Rattle.nom_operators.specs.OperatorTrees.Symbol.{OfPrefix, OfOperand, OfPostfix, OfBinary}
 use Rattle.nom_operators.specs.declared.operation.Operation.{Operation}
 use Rattle.nom_operators.specs.declared.operation.Operation.TheVariants as Does
 use Rattle.nom_operators.specs.declared.precedences.Unary.{Unary}
@@ -50,3 +50,13 @@ module _ {P Q B O X : Type 0} (Gives : Operation P Q B O → Result O X → Type
 -- a term: prefixes, an operand, and postfixes
 abbrev pub term_symbols : {P O Q B : Type 0} → List P → O → List Q → List (Symbol P O Q B)
 term_symbols ps o qs = map OfPrefix ps ++ OfOperand o ∷ map OfPostfix qs
+
+-- binary operators, each with the term after it
+abbrev pub pair_symbols : {P O Q B : Type 0} → List (B × (List P × O × List Q)) → List (Symbol P O Q B)
+pair_symbols [] = []
+pair_symbols (p ∷ ps) = (OfBinary p.0 ∷ term_symbols p.1.0 p.1.1 p.1.2) ++ pair_symbols ps
+
+-- a term, and pairs of an operator and a term, have a tree
+abbrev pub HasTree : (P O Q B : Type 0) → Type 0
+HasTree P O Q B = (ps : List (Unary P)) (o : O) (qs : List (Unary Q)) (pairs : List (Binary B × (List (Unary P) × O × List (Unary Q)))) →
+    (x : OperatorTree (Unary P) O (Unary Q) (Binary B)) × IsTreeOf by_precedence (term_symbols ps o qs ++ pair_symbols pairs) x

@@ -2,7 +2,7 @@
 ghost use Rattle.nom_operators.specs.Trees.{HasOneTree};
 ghost use Rattle.nom_operators.specs.Groups.{groups_left};
 ghost use Rattle.nom_operators.specs.OperatorTrees.{HasNoOther};
-ghost use Rattle.nom_operators.specs.Evaluations.{by_precedence};
+ghost use Rattle.nom_operators.specs.Evaluations.{HasTree, by_precedence};
 ghost use Rattle.nom_operators.specs.declared.precedences.Unary.{Unary};
 ghost use Rattle.nom_operators.specs.declared.precedences.Binary.{Binary};
 
@@ -15,7 +15,8 @@ pub fn one_tree<T, B>(levels: &[Assoc])
     let _count = levels.len();
 }
 
-/// What stands in an expression, with operators before, after and between its operands, has one tree at most.
-pub fn no_other_tree<P, O, Q, B>()
-    ensures { HasNoOther (Unary P) O (Unary Q) (Binary B) by_precedence }
+/// A term, and pairs of a binary operator and a term, with operators before and after their operands, have one tree.
+pub fn one_operator_tree<P, O, Q, B>()
+    ensures tree { HasTree P O Q B }
+    ensures other { HasNoOther (Unary P) O (Unary Q) (Binary B) by_precedence }
 {}
