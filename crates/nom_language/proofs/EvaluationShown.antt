@@ -12,7 +12,8 @@ use Rattle.nom_operators.specs.declared.pending.Partial.{Partial}
 use Rattle.nom_operators.specs.declared.pending.Pending.{Pending}
 use Rattle.nom_operators.specs.declared.precedences.Unary.{Unary}
 use Rattle.nom_operators.specs.declared.precedences.Binary.{Binary}
-use Rattle.nom_language.specs.Evaluated.{TermOutput, symbols_of_term, symbols_of_pairs, IsEvaluated, OfThat, HasReadInto, PairPushes}
+use Rattle.nom_language.specs.Evaluated.{TermOutput, symbols_of_term, symbols_of_pairs, IsEvaluated}
+use Rattle.nom_language.specs.helpers.Accumulated.{OfThat, HasReadInto, PairPushes}
 use Rattle.nom_language.specs.Precedences.{AcceptsAt}
 use Rattle.nom_language.proofs.LeftShown.{some_same}
 

@@ -4,7 +4,8 @@ use Rattle.std.specs.List.{FoldsTo}
 use Rattle.std.proofs.Common.{sym, ◌∙◌, ap, subst}
 use Rattle.nom_internal.specs.Prelude.{Built, BuiltFrom}
 use Rattle.nom_repeat.specs.Accumulated.{Adds, Accumulated}
-use Rattle.nom_language.specs.LeftFolds.{IsFolded, FoldPushes}
+use Rattle.nom_language.specs.LeftFolds.{IsFolded}
+use Rattle.nom_language.specs.helpers.Accumulated.{FoldPushes}
 
 none_some : {X : Type 0} (x : X) → None ≡ Some x → ⊥
 none_some x e = absurd (cc (e))

@@ -1,14 +1,10 @@
--- What is made of terms with operators between them, as they are read.
-use Rattle.std.specs.Prelude.{◌≡◌, List, [], ◌∷◌, ◌++◌, Option, Some, None, Result, Vec}
+-- What terms with operators between them stand for.
+use Rattle.std.specs.Prelude.{List, [], ◌∷◌, ◌++◌, Result, Vec}
 use Rattle.std.specs.List.{AllZip}
 use Rattle.nom_operators.specs.Evaluations.{IsValueOf, term_symbols}
 use Rattle.nom_operators.specs.OperatorTrees.{Symbol}
 use Rattle.nom_operators.specs.OperatorTrees.Symbol.{OfBinary}
-use Rattle.nom_operators.specs.Pending.{HasRead}
-use Rattle.nom_operators.specs.Steps.{waiting}
 use Rattle.nom_operators.specs.declared.operation.Operation.{Operation}
-use Rattle.nom_operators.specs.declared.pending.Partial.{Partial}
-use Rattle.nom_operators.specs.declared.pending.Pending.{Pending}
 use Rattle.nom_operators.specs.declared.precedences.Unary.{Unary}
 use Rattle.nom_operators.specs.declared.precedences.Binary.{Binary}
 
@@ -32,20 +28,3 @@ pub record IsEvaluated {T C P Q B O X M : Type 0} (IsTerm : T → TermOutput P O
   pub pairs : List (Binary B × TermOutput P O Q M)
   pub are_pairs : AllZip (λ t o. IsBinary t.0 o.0 × IsTerm t.1 o.1) e.1 pairs
   pub is_value : IsValueOf Gives (symbols_of_term first ++ symbols_of_pairs pairs) r
-
--- of a value that is there the fact holds
-abbrev pub OfThat : {X : Type 0} → Option X → (X → Type 0) → Type 0
-OfThat (Some x) Fact = Fact x
-OfThat None Fact = ⊥
-
-module _ {K L P Q B O X : Type 0} (partial : K → Option (Partial P B (Result O X))) (outer : K → List (Pending P B (Result O X))) (fold : K → L)
-    (Gives : L → Operation P Q B O → Result O X → Type 0) where
-  -- an accumulator stands for what was read
-  abbrev pub HasReadInto : L → List (Symbol (Unary P) O (Unary Q) (Binary B)) → K → Type 0
-  HasReadInto f ss k = OfThat (partial k) (λ r. HasRead (Gives f) ss (waiting r.innermost (outer k)) r.value)
-
-  -- what a pair makes of it: it stands for the pair too
-  pub record PairPushes {M : Type 0} (old : K) (item : Binary B × TermOutput P O Q M) (new : K) : Type 0 where
-    pub fold_is : fold new ≡ fold old
-    pub reads : (ss : List (Symbol (Unary P) O (Unary Q) (Binary B))) → HasReadInto (fold old) ss old →
-        HasReadInto (fold old) (ss ++ OfBinary item.0 ∷ symbols_of_term item.1) new

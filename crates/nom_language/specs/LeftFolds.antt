@@ -1,5 +1,5 @@
 -- Items with operators between them, folded from the left.
-use Rattle.std.specs.Prelude.{◌≡◌, List, Option, Some}
+use Rattle.std.specs.Prelude.{List}
 use Rattle.std.specs.List.{AllZip, FoldsTo}
 use Rattle.nom_error.specs.Errors.{Errors}
 use Rattle.nom_error.specs.declared.kind.ErrorKind.TheVariants as Kind
@@ -16,16 +16,6 @@ pub record IsFolded {T C H O : Type 0} (IsItem : T → O → Type 0) (IsOperator
   pub pairs : List (H × O)
   pub are_pairs : AllZip (λ t o. IsOperator t.0 o.0 × IsItem t.1 o.1) e.1 pairs
   pub folded : FoldsTo (λ x p z. Gives x p.0 p.1 z) first pairs y
-
--- One more pair folds the value with it.
-pub record FoldPushes {K L H O : Type 0} (value : K → Option O) (builder : K → L) (Gives : L → O → H → O → O → Type 0) (old : K) (item : H × O) (new : K)
-    : Type 0 where
-  pub before : O
-  pub rest : O
-  pub before_is : value old ≡ Some before
-  pub after_is : value new ≡ Some rest
-  pub given : Gives (builder old) before item.0 item.1 rest
-  pub builder_is : builder new ≡ builder old
 
 -- A first item, whose refusal is passed on; and then pairs of an operator and an item, as many as are accepted. A pair that consumes
 -- nothing is refused.

@@ -2,4 +2,5 @@ pub mod Evaluated
 pub mod LeftFolds
 pub mod Operators
 pub mod Precedences
+pub mod helpers
 pub mod laws

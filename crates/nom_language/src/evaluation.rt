@@ -1,10 +1,11 @@
 //! The value of what is read of an expression.
 ghost use Rattle.std.specs.Prelude.{◌≡◌, IfSome, IsSome, [], List, true};
 ghost use Rattle.nom_internal.specs.Prelude.{BuiltFrom};
-ghost use Rattle.nom_language.specs.Evaluated.{HasReadInto, PairPushes, symbols_of_term};
+ghost use Rattle.nom_language.specs.Evaluated.{symbols_of_term};
+ghost use Rattle.nom_language.specs.helpers.Accumulated.{HasReadInto, PairPushes};
 ghost use Rattle.nom_operators.specs.Evaluations.{IsValueOf};
 ghost use Rattle.nom_operators.specs.OperatorTrees.{Symbol};
-ghost use Rattle.nom_operators.specs.Pending.{HasRead};
+ghost use Rattle.nom_operators.specs.helpers.Pending.{HasRead};
 ghost use Rattle.nom_operators.specs.Steps.{IsNested, waiting};
 ghost use Rattle.nom_operators.specs.declared.operation.Operation.{Operation};
 ghost use Rattle.nom_operators.specs.declared.precedences.Unary.{Unary};

@@ -1,7 +1,8 @@
 //! Items with operators between them, folded from the left.
 ghost use Rattle.std.specs.Prelude.{◌≡◌, IsSome, List, MatchOption, None, Some, true};
 ghost use Rattle.nom_internal.specs.Prelude.{BuiltFrom};
-ghost use Rattle.nom_language.specs.LeftFolds.{FoldPushes, left_assoc_by};
+ghost use Rattle.nom_language.specs.LeftFolds.{left_assoc_by};
+ghost use Rattle.nom_language.specs.helpers.Accumulated.{FoldPushes};
 
 use nom_error::answer::{OutOfMemory, PResult};
 use nom_error::kind::ErrorKind;

@@ -9,7 +9,7 @@ use Rattle.nom_operators.specs.Groups.{is_left}
 use Rattle.nom_operators.specs.OperatorTrees.{OperatorTree, Symbol, symbols, Binding, RightEdge}
 use Rattle.nom_operators.specs.OperatorTrees.OperatorTree.{Bare, Prefixed, Postfixed, Between}
 use Rattle.nom_operators.specs.OperatorTrees.Symbol.{OfPrefix, OfOperand, OfPostfix, OfBinary}
-use Rattle.nom_operators.specs.Pending.{level_of_pending, EndsNone, with_prefixes, PendingGives, StandsBefore, IsPartlyRead, HasRead, IsEnding}
+use Rattle.nom_operators.specs.helpers.Pending.{level_of_pending, EndsNone, with_prefixes, PendingGives, StandsBefore, IsPartlyRead, HasRead, IsEnding}
 use Rattle.nom_operators.specs.declared.operation.Operation.{Operation}
 use Rattle.nom_operators.specs.declared.precedences.Unary.{Unary}
 use Rattle.nom_operators.specs.declared.precedences.Binary.{Binary}

@@ -6,7 +6,7 @@ use Rattle.nom_operators.specs.Evaluations.{HasTree, IsValueOf, pair_symbols, te
 use Rattle.nom_operators.specs.Groups.{is_left}
 use Rattle.nom_operators.specs.OperatorTrees.{Symbol, ends_operand}
 use Rattle.nom_operators.specs.OperatorTrees.Symbol.{OfPrefix, OfOperand, OfPostfix, OfBinary}
-use Rattle.nom_operators.specs.Pending.{EndsNone, HasRead, IsEnding, IsPartlyRead, PendingGives, StandsBefore, level_of_pending}
+use Rattle.nom_operators.specs.helpers.Pending.{EndsNone, HasRead, IsEnding, IsPartlyRead, PendingGives, StandsBefore, level_of_pending}
 use Rattle.nom_operators.specs.declared.operation.Operation.{Operation}
 use Rattle.nom_operators.specs.declared.precedences.Unary.{Unary}
 use Rattle.nom_operators.specs.declared.precedences.Binary.{Binary}

@@ -3,7 +3,7 @@ pub mod Evaluations
 pub mod Groups
 pub mod OperatorTrees
 pub mod OperatorViews
-pub mod Pending
 pub mod Steps
 pub mod Trees
+pub mod helpers
 pub mod laws

@@ -5,7 +5,7 @@ ghost use Rattle.nom_operators.specs.Evaluations.{IsValueOf, PostfixGives, term_
 ghost use Rattle.nom_operators.specs.Groups.{is_left};
 ghost use Rattle.nom_operators.specs.OperatorTrees.{Symbol, ends_operand};
 ghost use Rattle.nom_operators.specs.OperatorTrees.Symbol.{OfBinary, OfOperand, OfPostfix};
-ghost use Rattle.nom_operators.specs.Pending.{EndsNone, HasRead, IsEnding, PendingGives, StandsBefore, level_of_pending, with_prefixes};
+ghost use Rattle.nom_operators.specs.helpers.Pending.{EndsNone, HasRead, IsEnding, PendingGives, StandsBefore, level_of_pending, with_prefixes};
 ghost use Rattle.nom_operators.specs.Steps.{IsNested, waiting};
 ghost use Rattle.nom_operators.specs.declared.operation.Operation.{Operation};
 ghost use Rattle.nom_operators.specs.declared.precedences.Unary.{Unary};

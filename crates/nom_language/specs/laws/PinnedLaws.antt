@@ -1,11 +1,10 @@
 -- Values of one tree are equal as viewed.
-use Rattle.std.specs.Prelude.{◌≡◌, ℕ, List, [], ◌∷◌, ◌++◌, map, Result, Ok, Vec, refl}
+use Rattle.std.specs.Prelude.{◌≡◌, ℕ, List, [], ◌∷◌, ◌++◌, map, Result, Ok, refl}
 use Rattle.std.specs.List.{AllZip, FoldsTo}
-use Rattle.std.proofs.Common.{sym, ◌∙◌, ap, subst}
+use Rattle.std.proofs.Common.{sym, ◌∙◌, ap}
 use Rattle.std.proofs.lemmas.List.{map-append}
 use Rattle.nom_internal.specs.Prelude.{View, IsPinned, vec_view}
 use Rattle.nom_traits.specs.View.{view_3}
-use Rattle.nom_operators.specs.OperatorTrees.{Symbol}
 use Rattle.nom_operators.specs.OperatorTrees.Symbol.{OfBinary}
 use Rattle.nom_operators.specs.OperatorViews.{unary_view, binary_view}
 use Rattle.nom_operators.specs.declared.operation.Assoc.{Assoc}

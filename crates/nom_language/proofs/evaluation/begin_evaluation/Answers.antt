@@ -1,4 +1,4 @@
-use Rattle.nom_operators.specs.Pending.{HasRead}
+use Rattle.nom_operators.specs.helpers.Pending.{HasRead}
 use Rattle.nom_operators.specs.Steps.{waiting}
 use Rattle.nom_language.proofs.EvaluationShown.{as_term}
 use Rattle.nom_language.proofs.evaluation.begin_evaluation.Goals as goal

@@ -1,4 +1,4 @@
-use Rattle.nom_operators.specs.Pending.{HasRead}
+use Rattle.nom_operators.specs.helpers.Pending.{HasRead}
 use Rattle.nom_operators.specs.Steps.{waiting}
 use Rattle.nom_language.proofs.EvaluationShown.{that_is}
 use Rattle.nom_language.proofs.evaluation.value_of.Goals as goal

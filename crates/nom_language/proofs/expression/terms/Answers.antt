@@ -10,7 +10,7 @@ use Rattle.nom_repeat.specs.Bounds.{any_limits}
 use Rattle.nom_repeat.specs.Items.{items_meaning}
 use Rattle.nom_operators.specs.Steps.{IsNested}
 use Rattle.nom_operators.specs.declared.operation.Operation.{Operation}
-use Rattle.nom_language.specs.Evaluated.{PairPushes}
+use Rattle.nom_language.specs.helpers.Accumulated.{PairPushes}
 use Rattle.nom_language.specs.Precedences.{next_meaning}
 use Rattle.nom_language.specs.declared.evaluation.Evaluation.{Evaluation}
 use Rattle.nom_language.proofs.EvaluationShown.{beside, built_some, closed_accepts, evaluated_built, that_some}

@@ -1,6 +1,6 @@
 use Rattle.std.proofs.Common.{rules, ◌∷◌, ◌++◌, [], subst, sym, ◌∙◌}
 use Rattle.nom_operators.specs.OperatorTrees.Symbol.{OfOperand, OfPostfix}
-use Rattle.nom_operators.specs.Pending.{HasRead}
+use Rattle.nom_operators.specs.helpers.Pending.{HasRead}
 use Rattle.nom_operators.specs.Steps.{waiting}
 use Rattle.nom_operators.proofs.PendingShown.{operand_read, begins_turned, goes_on_turned, ends_turned}
 use Rattle.nom_operators.proofs.pending.apply_all.Goals as goal

@@ -1,7 +1,7 @@
 use Rattle.std.proofs.Common.{◌≡◌, ◌∷◌, ◌++◌, List, map, reverse, length}
 use Rattle.nom_operators.specs.OperatorTrees.{Symbol}
 use Rattle.nom_operators.specs.OperatorTrees.Symbol.{OfOperand, OfPostfix}
-use Rattle.nom_operators.specs.Pending.{HasRead, StandsBefore}
+use Rattle.nom_operators.specs.helpers.Pending.{HasRead, StandsBefore}
 use Rattle.nom_operators.specs.Steps.{IsNested, waiting}
 use Rattle.nom_operators.specs.declared.precedences.Unary.{Unary}
 use Rattle.nom_operators.specs.declared.precedences.Binary.{Binary}

@@ -1,6 +1,6 @@
 use Rattle.std.proofs.Common.{rules, ◌≡◌, true, subst}
 use Rattle.nom_operators.specs.OperatorTrees.{ends_operand}
-use Rattle.nom_operators.specs.Pending.{IsEnding}
+use Rattle.nom_operators.specs.helpers.Pending.{IsEnding}
 use Rattle.nom_operators.specs.Steps.{waiting}
 use Rattle.nom_operators.proofs.PendingShown.{next_read}
 use Rattle.nom_operators.proofs.pending.end_operands.Goals as goal

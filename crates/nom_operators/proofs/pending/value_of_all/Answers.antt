@@ -1,5 +1,5 @@
 use Rattle.std.proofs.Common.{subst}
-use Rattle.nom_operators.specs.Pending.{IsPartlyRead}
+use Rattle.nom_operators.specs.helpers.Pending.{IsPartlyRead}
 use Rattle.nom_operators.proofs.PendingShown.{all_read, any_edge, next_read}
 use Rattle.nom_operators.proofs.StepsShown.{none_waits}
 use Rattle.nom_operators.proofs.pending.value_of_all.Goals as goal

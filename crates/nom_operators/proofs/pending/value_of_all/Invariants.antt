@@ -1,6 +1,6 @@
 use Rattle.std.proofs.Common.{List, length}
 use Rattle.nom_operators.specs.OperatorTrees.{Symbol}
-use Rattle.nom_operators.specs.Pending.{HasRead, IsPartlyRead}
+use Rattle.nom_operators.specs.helpers.Pending.{HasRead, IsPartlyRead}
 use Rattle.nom_operators.specs.Steps.{IsNested, waiting}
 use Rattle.nom_operators.specs.declared.precedences.Unary.{Unary}
 use Rattle.nom_operators.specs.declared.precedences.Binary.{Binary}

@@ -1,5 +1,5 @@
 use Rattle.std.proofs.Common.{◌≡◌, reverse, length}
-use Rattle.nom_operators.specs.Pending.{with_prefixes}
+use Rattle.nom_operators.specs.helpers.Pending.{with_prefixes}
 use Rattle.nom_operators.specs.Steps.{IsNested, waiting}
 use Rattle.nom_operators.proofs.pending.wait_all.Given as goal
 

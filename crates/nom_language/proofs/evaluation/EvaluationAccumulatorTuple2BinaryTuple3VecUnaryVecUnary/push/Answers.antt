@@ -1,6 +1,6 @@
 use Rattle.std.proofs.Common.{rules, ◌∷◌, ◌++◌, refl}
 use Rattle.nom_operators.specs.OperatorTrees.Symbol.{OfBinary}
-use Rattle.nom_operators.specs.Pending.{HasRead}
+use Rattle.nom_operators.specs.helpers.Pending.{HasRead}
 use Rattle.nom_operators.specs.Steps.{waiting}
 use Rattle.nom_language.proofs.EvaluationShown.{as_term, that_is}
 use Rattle.nom_language.proofs.evaluation.EvaluationAccumulatorTuple2BinaryTuple3VecUnaryVecUnary.push.Goals as goal

@@ -6,7 +6,7 @@ use Rattle.nom_repeat.proofs.Parts.{shown_at}
 use Rattle.nom_repeat.specs.Accumulated.{Accumulated}
 use Rattle.nom_repeat.specs.Bounds.{any_limits}
 use Rattle.nom_repeat.specs.Items.{items_meaning}
-use Rattle.nom_language.specs.LeftFolds.{FoldPushes}
+use Rattle.nom_language.specs.helpers.Accumulated.{FoldPushes}
 use Rattle.nom_language.specs.Precedences.{next_meaning}
 use Rattle.nom_language.proofs.LeftShown.{given_built, left_built}
 use Rattle.nom_language.proofs.left.LeftAssocParser.process.Goals as goal
