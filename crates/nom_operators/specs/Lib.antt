@@ -1,5 +1,9 @@
 pub mod Closes
+pub mod Evaluations
 pub mod Groups
+pub mod OperatorTrees
+pub mod OperatorViews
 pub mod Steps
 pub mod Trees
+pub mod helpers
 pub mod laws

@@ -1,1 +1,3 @@
+pub mod OperatorTreeLaws
 pub mod TreeLaws
+pub mod ViewLaws

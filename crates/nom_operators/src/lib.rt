@@ -3,7 +3,10 @@
 #![tactic(auto)]
 
 pub mod operation;
+pub mod pending;
+pub mod precedences;
 pub mod promises;
 pub mod waiting;
 
 pub use crate::operation::{Assoc, Operation};
+pub use crate::precedences::{Binary, Unary};

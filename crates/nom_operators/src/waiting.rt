@@ -103,7 +103,7 @@ fn close<P: Drop, Q: Drop, B: Drop, O: Drop, A: Allocator, G: Fn(Operation<P, Q,
 
 /// Takes the innermost of those that stand in a list.
 #[inline(always)]
-fn next<E: Drop, A: Allocator>(outer: &mut Vec<E, A>) -> Option<E>
+pub fn next<E: Drop, A: Allocator>(outer: &mut Vec<E, A>) -> Option<E>
     ensures next { reverse outer.old.items ≡ waiting result outer.new.items }
     ensures nested { IsNested result outer.new.items }
     ensures room { (vec_capacity outer.new ≡ vec_capacity outer.old) × (vec_len outer.new ≤ vec_len outer.old) }
@@ -116,7 +116,7 @@ fn next<E: Drop, A: Allocator>(outer: &mut Vec<E, A>) -> Option<E>
 
 /// Puts what was the innermost, if there is one, into the list, and tells whether there was memory for it.
 #[inline(always)]
-fn keep<E: Drop, A: Allocator>(outer: &mut Vec<E, A>, innermost: Option<E>) -> bool
+pub fn keep<E: Drop, A: Allocator>(outer: &mut Vec<E, A>, innermost: Option<E>) -> bool
     ensures kept { IsTrue result → reverse outer.new.items ≡ waiting innermost outer.old.items }
     ensures full { result ≡ false → vec_capacity outer.old ≤ vec_len outer.old }
 {

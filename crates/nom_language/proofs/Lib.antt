@@ -1,0 +1,2 @@
+pub mod EvaluationShown
+pub mod LeftShown

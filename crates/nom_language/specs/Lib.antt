@@ -1,0 +1,6 @@
+pub mod Evaluated
+pub mod LeftFolds
+pub mod Operators
+pub mod Precedences
+pub mod helpers
+pub mod laws

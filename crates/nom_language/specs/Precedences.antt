@@ -1,0 +1,66 @@
+-- Expressions: terms with operators between them, and a fold that may refuse.
+use Rattle.std.specs.Prelude.{◌≡◌, ℕ, ◌⊎◌, Bool, List, Result, Ok, is_ok}
+use Rattle.nom_error.specs.Errors.{Errors, Externals}
+use Rattle.nom_error.specs.declared.kind.ErrorKind.TheVariants as Kind
+use Rattle.nom_internal.specs.Prelude.{Grammar, Meaning, Model, Accept, IsJudge, closed_meaning, judged_meaning, sequence_meaning, premised, OfError}
+use Rattle.nom_combinator.specs.Verdicts.{not_meaning}
+use Rattle.nom_repeat.specs.Bounds.{any_limits}
+use Rattle.nom_repeat.specs.Items.{items_meaning}
+use Rattle.nom_internal.specs.Tuples.{built_meaning}
+use Rattle.nom_internal.specs.Sequence.{pair_meaning}
+use Rattle.nom_operators.specs.declared.operation.Operation.{Operation}
+use Rattle.nom_operators.specs.declared.precedences.Binary.{Binary}
+use Rattle.nom_language.specs.Evaluated.{TermOutput, IsEvaluated}
+
+-- an acceptance of some length, with some tree
+pub record AcceptsAt {I V E : Type 0} (m : Meaning I V E) (streaming : Bool) (i : I) : Type 0 where
+  pub length : ℕ
+  pub tree : V
+  pub accepted : m.answers streaming i (Accept length tree)
+
+-- a meaning where memory may run out after a first part too
+abbrev pub growing_meaning : {I V W E : Type 0} → Meaning I V E → Meaning I W E → Meaning I W E
+growing_meaning first m = record m {
+  may_run_out = λ mode i. m.may_run_out mode i ⊎ AcceptsAt first mode.streaming i;
+  IsFrugal = λ _. ⊥;
+}
+
+-- a binary operator and a term after it, as a tuple
+abbrev pub next_meaning : {I A C T E : Type 0} → Model I A → Meaning I C E → Meaning I T E → Meaning I (C × T) E
+next_meaning w binary term = built_meaning (pair_meaning w binary term)
+
+-- A first term, to whose refusal `Precedence` is added at the start; and then pairs, as many as are accepted. Where an operator or its
+-- term is refused, the pairs end before that operator. A pair that consumes nothing is refused. What waits takes memory.
+abbrev pub terms_meaning : {I A T C E : Type 0} → Model I A → Errors I E → Meaning I T E → Meaning I C E → Meaning I (T × List (C × T)) E
+terms_meaning w errs term binary = growing_meaning term (sequence_meaning w (λ t ps. (t, ps)) (λ o. o) (λ o. o)
+    (closed_meaning (λ i. errs.appended i Kind.Precedence) errs.grows term)
+    (items_meaning w errs (any_limits Kind.Precedence) (Unit {0}) (next_meaning w binary term)))
+
+-- what was evaluated stands for itself
+abbrev pub Itself : {R : Type 0} → R → R → Type 0
+Itself r s = s ≡ r
+
+-- What is read is evaluated in every mode, by what a tree stands for: a refusal of the fold refuses it, at the start. The premise of the
+-- laws is that the fold either refuses all that a tree stands for, or nothing.
+abbrev pub expression_meaning : {I A T C O X E : Type 0} → Model I A → Errors I E → Externals I X E → (CanFold : Type 0) →
+    (T × List (C × T) → Result O X → Type 0) → Meaning I T E → Meaning I C E → Meaning I (T × List (C × T)) E
+expression_meaning {O = O} {X = X} w errs externals CanFold Evaluates term binary =
+    premised (term.Runs × binary.Runs × CanFold) (term.IsSound × binary.IsSound × IsJudge {R = Result O X} Evaluates Itself is_ok)
+    (judged_meaning {R = Result O X} Evaluates (λ _. Unit {0}) Itself is_ok (λ i. OfError (externals.of_external i Kind.Precedence)) externals.grows
+    (terms_meaning w errs term binary))
+
+-- an expression, by the grammars of its terms and of its binary operators, and by what the fold gives for each operation
+abbrev pub expression_by : {I A T C P Q B O X M E : Type 0} → Model I A → Errors I E → Externals I X E → (CanFold : Type 0) →
+    (Operation P Q B O → Result O X → Type 0) → Grammar I T (TermOutput P O Q M) E → Grammar I C (Binary B) E → Grammar I (T × List (C × T)) O E
+expression_by w errs externals CanFold Gives term binary = record {
+  meaning = expression_meaning w errs externals CanFold (IsEvaluated term.IsOutput binary.IsOutput Gives) term.meaning binary.meaning;
+  IsOutput = λ e y. IsEvaluated term.IsOutput binary.IsOutput Gives e (Ok y);
+}
+
+-- an expression, and then no operator: so each operator has its operands
+abbrev pub require_operands_of : {I A H T O B E : Type 0} → Model I A → Errors I E → Grammar I H B E → Grammar I T O E → Grammar I T O E
+require_operands_of w errs binary expression = record {
+  meaning = premised expression.meaning.Runs expression.meaning.IsSound (sequence_meaning w (λ e _. e) (λ o. o) (λ o. o) expression.meaning
+      (not_meaning (λ i. errs.of_kind i Kind.Precedence) errs.grows binary.meaning));
+  IsOutput = expression.IsOutput;
+}

@@ -1,0 +1,2 @@
+pub mod LanguageLaws
+pub mod PinnedLaws

@@ -1,0 +1,62 @@
+-- The laws of expressions, and of items that are folded from the left, by those of their parts.
+use Rattle.std.specs.Prelude.{List, Result, is_ok}
+use Rattle.nom_error.specs.Errors.{Errors, Externals}
+use Rattle.nom_internal.specs.Prelude.{Meaning, Model, InputLaws, IsLawful, IsSteady, IsJudge, premised, premised_lawful, premised_steady, sequence_meaning}
+use Rattle.nom_internal.specs.laws.CaseLaws.{closed_lawful, closed_steady}
+use Rattle.nom_internal.specs.laws.JudgedLaws.{judged_lawful, judged_steady}
+use Rattle.nom_internal.specs.laws.SequenceLaws.{sequence_lawful, sequence_steady}
+use Rattle.nom_internal.specs.laws.TupleLaws.{built_lawful, pair_lawful, built_steady, pair_steady}
+use Rattle.nom_error.specs.declared.kind.ErrorKind.TheVariants as Kind
+use Rattle.nom_combinator.specs.Verdicts.{not_meaning}
+use Rattle.nom_combinator.specs.laws.VerdictLaws.{not_lawful, not_steady}
+use Rattle.nom_repeat.specs.Bounds.{any_limits}
+use Rattle.nom_repeat.specs.laws.ItemsLaws.{items_lawful, items_steady}
+use Rattle.nom_language.specs.LeftFolds.{left_assoc_meaning}
+use Rattle.nom_language.specs.Precedences.{growing_meaning, terms_meaning, Itself, expression_meaning}
+
+module _ {I A V W E : Type 0} {w : Model I A} {first : Meaning I V E} {m : Meaning I W E} where
+  growing_lawful : IsLawful w m → IsLawful w (growing_meaning first m)
+  growing_lawful l = record {
+    within = l.within;
+    one_outcome = l.one_outcome;
+    alike = l.alike;
+    frugal = λ mode i k h. absurd h;
+    settles = l.settles;
+    blames_alike = l.blames_alike;
+    never_fails = l.never_fails;
+  }
+
+  growing_steady : IsSteady w m → IsSteady w (growing_meaning first m)
+  growing_steady l = record { stays = l.stays }
+
+module _ {I A T C E : Type 0} {w : Model I A} (l : InputLaws w) (errs : Errors I E) {term : Meaning I T E} {binary : Meaning I C E} where
+  terms_lawful : IsLawful w term → IsLawful w binary → IsLawful w (terms_meaning w errs term binary)
+  terms_lawful p q = growing_lawful (sequence_lawful l (closed_lawful p) (items_lawful l errs (any_limits Kind.Precedence) (built_lawful (pair_lawful l q p))))
+
+  terms_steady : IsSteady w term → IsSteady w binary → IsSteady w (terms_meaning w errs term binary)
+  terms_steady p q = growing_steady (sequence_steady l (closed_steady p) (items_steady l errs (any_limits Kind.Precedence) (built_steady (pair_steady l q p))))
+
+module _ {I A T C O X E : Type 0} {w : Model I A} (l : InputLaws w) (errs : Errors I E) (externals : Externals I X E) {CanFold : Type 0}
+    {Evaluates : T × List (C × T) → Result O X → Type 0} {term : Meaning I T E} {binary : Meaning I C E}
+    (j : IsJudge {R = Result O X} Evaluates Itself is_ok) where
+  pub expression_lawful : IsLawful w term → IsLawful w binary → IsLawful w (expression_meaning w errs externals CanFold Evaluates term binary)
+  expression_lawful p q = premised_lawful (judged_lawful {Takes = λ _. Unit {0}} j (terms_lawful l errs p q))
+
+  pub expression_steady : IsSteady w term → IsSteady w binary → IsSteady w (expression_meaning w errs externals CanFold Evaluates term binary)
+  expression_steady p q = premised_steady (judged_steady {Takes = λ _. Unit {0}} j (terms_steady l errs p q))
+
+module _ {I A T C E : Type 0} {w : Model I A} (l : InputLaws w) (errs : Errors I E) {CanBuild : Type 0} {child : Meaning I T E} {operator : Meaning I C E} where
+  pub left_assoc_lawful : IsLawful w child → IsLawful w operator → IsLawful w (left_assoc_meaning w errs CanBuild child operator)
+  left_assoc_lawful p q = premised_lawful (sequence_lawful l p (items_lawful l errs (any_limits Kind.SeparatedList) (built_lawful (pair_lawful l q p))))
+
+  pub left_assoc_steady : IsSteady w child → IsSteady w operator → IsSteady w (left_assoc_meaning w errs CanBuild child operator)
+  left_assoc_steady p q = premised_steady (sequence_steady l p (items_steady l errs (any_limits Kind.SeparatedList) (built_steady (pair_steady l q p))))
+
+module _ {I A H T E : Type 0} {w : Model I A} (l : InputLaws w) (errs : Errors I E) {Runs IsSound : Type 0} {expression : Meaning I T E} {binary : Meaning I H E} where
+  pub require_operands_lawful : IsLawful w expression → IsLawful w binary → IsLawful w (premised Runs IsSound
+      (sequence_meaning w (λ e _. e) (λ o. o) (λ o. o) expression (not_meaning (λ i. errs.of_kind i Kind.Precedence) errs.grows binary)))
+  require_operands_lawful p q = premised_lawful (sequence_lawful l {second_mode = λ o. o} p (not_lawful q))
+
+  pub require_operands_steady : IsSteady w expression → IsSteady w binary → IsSteady w (premised Runs IsSound
+      (sequence_meaning w (λ e _. e) (λ o. o) (λ o. o) expression (not_meaning (λ i. errs.of_kind i Kind.Precedence) errs.grows binary)))
+  require_operands_steady p q = premised_steady (sequence_steady l {second_mode = λ o. o} p (not_steady q))

@@ -1,0 +1,174 @@
+//! The value of what is read of an expression.
+ghost use Rattle.std.specs.Prelude.{◌≡◌, IfSome, IsSome, [], List, true};
+ghost use Rattle.nom_internal.specs.Prelude.{BuiltFrom};
+ghost use Rattle.nom_language.specs.Evaluated.{symbols_of_term};
+ghost use Rattle.nom_language.specs.helpers.Accumulated.{HasReadInto, PairPushes};
+ghost use Rattle.nom_operators.specs.Evaluations.{IsValueOf};
+ghost use Rattle.nom_operators.specs.OperatorTrees.{Symbol};
+ghost use Rattle.nom_operators.specs.helpers.Pending.{HasRead};
+ghost use Rattle.nom_operators.specs.Steps.{IsNested, waiting};
+ghost use Rattle.nom_operators.specs.declared.operation.Operation.{Operation};
+ghost use Rattle.nom_operators.specs.declared.precedences.Unary.{Unary};
+ghost use Rattle.nom_operators.specs.declared.precedences.Binary.{Binary};
+
+use nom_error::answer::OutOfMemory;
+use nom_operators::operation::Operation;
+use nom_operators::pending::{Partial, Pending, Term, begin, put_term, value_of_all};
+use nom_operators::precedences::{Binary, Unary};
+use nom_repeat::accumulator::Accumulator;
+use std::alloc::Allocator;
+use std::marker::PhantomData;
+
+/// A first term and pairs, as they are read: operators that wait, and the value after the innermost.
+#[derive(Drop)]
+pub struct Evaluation<'a, P, Q, B, O, X, A: Allocator, G> {
+    pub partial: Option<Partial<P, B, Result<O, X>>>,
+    pub outer: Vec<Pending<P, B, Result<O, X>>, A>,
+    pub fold: &'a G,
+    pub of: PhantomData<Q>,
+}
+
+impl<
+    'a,
+    P: Drop,
+    Q: Drop,
+    B: Drop,
+    O: Drop,
+    X: Drop,
+    A: Allocator,
+    G: Fn(Operation<P, Q, B, O>) -> Result<O, X>,
+> Accumulator<(Binary<B>, (Vec<Unary<P>, A>, O, Vec<Unary<Q>, A>))>
+    for Evaluation<'a, P, Q, B, O, X, A, G> {
+    ghost Pushes = { λ old x new. PairPushes (λ k. k.partial) (λ k. k.outer.items) (λ k. k.fold.now) (λ f o r. G.post f o r) old x new };
+
+    ghost CanPush = { λ k. IsSome k.partial × IfSome k.partial (λ r. IsNested r.innermost k.outer.items)
+        × ((x : Operation P Q B O) → G.pre k.fold.now x) };
+
+    ghost IsFull = { λ _. Unit {0} };
+
+    ghost Grows = { Unit {0} };
+
+    ghost fills = { λ _ _. tt };
+
+    #[inline(always)]
+    fn push(
+        &mut self,
+        item: (Binary<B>, (Vec<Unary<P>, A>, O, Vec<Unary<Q>, A>)),
+    ) -> Result<(), OutOfMemory> {
+        match self.partial.take() {
+            Some(partial) => {
+                let (operator, output) = item;
+                match put_term(partial, &mut self.outer, operator, term(output), self.fold) {
+                    Some(new) => {
+                        self.partial = Some(new);
+                        Ok(())
+                    }
+                    None => Err(OutOfMemory),
+                }
+            }
+            None => unreachable!(),
+        }
+    }
+}
+
+/// A term's output as a term.
+#[inline(always)]
+fn term<P: Drop, O: Drop, Q: Drop, A: Allocator>(
+    output: (Vec<Unary<P>, A>, O, Vec<Unary<Q>, A>),
+) -> Term<P, O, Q, A>
+    ensures prefixes { result.prefixes.items ≡ output.0.items }
+    ensures operand { result.operand ≡ output.1 }
+    ensures postfixes { result.postfixes.items ≡ output.2.items }
+{
+    let (prefixes, operand, postfixes) = output;
+    Term {
+        prefixes,
+        operand,
+        postfixes,
+    }
+}
+
+/// What is made of a first term. None where there is no memory for its prefixes.
+#[inline(always)]
+pub fn begin_evaluation<
+    'a,
+    P: Drop,
+    Q: Drop,
+    B: Drop,
+    O: Drop,
+    X: Drop,
+    A: Allocator + Copy,
+    G: Fn(Operation<P, Q, B, O>) -> Result<O, X>,
+>(
+    alloc: A,
+    first: (Vec<Unary<P>, A>, O, Vec<Unary<Q>, A>),
+    fold: &'a G,
+) -> Option<Evaluation<'a, P, Q, B, O, X, A, G>>
+    requires { (x : Operation P Q B O) → G.pre fold.now x }
+    ensures read { IfSome result (λ k. HasReadInto (λ k. k.partial) (λ k. k.outer.items) (λ k. k.fold.now) (λ f o r. G.post f o r) fold.now
+        (symbols_of_term first) k) }
+    ensures nested { IfSome result (λ k. IfSome k.partial (λ r. IsNested r.innermost k.outer.items)) }
+    ensures fold { IfSome result (λ k. k.fold.now ≡ fold.now) }
+{
+    let mut outer: Vec<Pending<P, B, Result<O, X>>, A> = Vec::new(alloc);
+    match begin(&mut outer, term(first), fold) {
+        Some(partial) => Some(Evaluation {
+            partial: Some(partial),
+            outer,
+            fold,
+            of: PhantomData,
+        }),
+        None => None,
+    }
+}
+
+/// The value of all that was read, or the first refusal of the fold.
+#[inline(always)]
+pub fn evaluated<
+    P: Drop,
+    Q: Drop,
+    B: Drop,
+    O: Drop,
+    X: Drop,
+    A: Allocator,
+    G: Fn(Operation<P, Q, B, O>) -> Result<O, X>,
+>(evaluation: Option<Evaluation<'_, P, Q, B, O, X, A, G>>) -> Option<Result<O, X>>
+    requires { IfSome evaluation (λ k. IsSome k.partial × IfSome k.partial (λ r. IsNested r.innermost k.outer.items)
+        × ((x : Operation P Q B O) → G.pre k.fold.now x)) }
+    ensures { BuiltFrom true (λ k r. (ss : List (Symbol (Unary P) O (Unary Q) (Binary B))) → HasReadInto (λ k. k.partial) (λ k. k.outer.items)
+        (λ k. k.fold.now) (λ f o r. G.post f o r) k.fold.now ss k → IsValueOf (G.post k.fold.now) ss r) evaluation.entry result }
+{
+    match evaluation {
+        Some(evaluation) => Some(value_of(evaluation)),
+        None => None,
+    }
+}
+
+/// The same, of what was read.
+#[inline(always)]
+fn value_of<
+    P: Drop,
+    Q: Drop,
+    B: Drop,
+    O: Drop,
+    X: Drop,
+    A: Allocator,
+    G: Fn(Operation<P, Q, B, O>) -> Result<O, X>,
+>(evaluation: Evaluation<'_, P, Q, B, O, X, A, G>) -> Result<O, X>
+    requires some { IsSome evaluation.partial }
+    requires nested { IfSome evaluation.partial (λ r. IsNested r.innermost evaluation.outer.items) }
+    requires fold { (x : Operation P Q B O) → G.pre evaluation.fold.now x }
+    ensures { (ss : List (Symbol (Unary P) O (Unary Q) (Binary B))) → HasReadInto (λ k. k.partial) (λ k. k.outer.items) (λ k. k.fold.now)
+        (λ f o r. G.post f o r) evaluation.entry.fold.now ss evaluation.entry → IsValueOf (G.post evaluation.entry.fold.now) ss result }
+{
+    let Evaluation {
+        partial,
+        outer,
+        fold,
+        of: _,
+    } = evaluation;
+    match partial {
+        Some(partial) => value_of_all(partial, outer, fold),
+        None => unreachable!(),
+    }
+}

@@ -1,0 +1,181 @@
+//! Expressions.
+ghost use Rattle.std.specs.Prelude.{◌≡◌, List, Result, true};
+ghost use Rattle.nom_error.specs.Answers.{Refuses};
+ghost use Rattle.nom_internal.specs.Prelude.{modes, ShowsMeaning};
+ghost use Rattle.nom_language.specs.Evaluated.{IsEvaluated};
+ghost use Rattle.nom_language.specs.Precedences.{expression_by, terms_meaning};
+ghost use Rattle.nom_operators.specs.declared.operation.Operation.{Operation};
+
+use crate::evaluation::{Evaluation, begin_evaluation, evaluated};
+use crate::operands::RequireOperands;
+use nom_error::answer::{Err, PResult};
+use nom_error::kind::ErrorKind;
+use nom_error::mode::{Emit, Mode, OutputM, OutputMode};
+use nom_error::outside::FromExternalError;
+use nom_error::value::ParseError;
+use nom_internal::built::{built, emitted};
+use nom_internal::choice::close;
+use nom_internal::parser::{Parser, StreamParser};
+use nom_operators::operation::Operation;
+use nom_operators::precedences::{Binary, Unary};
+use nom_repeat::bounds::any_items;
+use nom_traits::input::{Input, Items};
+use nom_traits::view::Viewed;
+use std::alloc::Allocator;
+
+/// Terms with operators between them, made by `precedence`.
+#[derive(Drop)]
+pub struct Expression<A, C, T, G> {
+    pub alloc: A,
+    /// A binary operator and a term after it.
+    pub pair: (C, T),
+    pub fold: G,
+}
+
+impl<A, C, T, G> Expression<A, C, T, G> {
+    /// The same, but an operator after the expression whose right operand is missing is refused with `Precedence`, where
+    /// else the expression ends before it.
+    #[inline(always)]
+    pub fn require_operands(self) -> RequireOperands<A, C, T, G>
+        ensures { result.expression ≡ self }
+    {
+        RequireOperands { expression: self }
+    }
+}
+
+impl<
+    I: Input,
+    A: Allocator + Copy,
+    P: Drop,
+    Q: Drop,
+    B: Drop,
+    O: Drop,
+    X: Drop,
+    C: Parser<I, Output = Binary<B>, Error = T::Error> + Drop,
+    T: Parser<I, Output = (Vec<Unary<P>, A>, O, Vec<Unary<Q>, A>)> + Drop,
+    G: Fn(Operation<P, Q, B, O>) -> Result<O, X>,
+> Parser<I> for Expression<A, C, T, G>
+where
+    T::Error: FromExternalError<I, X>,
+{
+    ghost use Rattle.nom_language.specs.laws.LanguageLaws.{expression_lawful};
+
+    type Output = O;
+
+    type Error = T::Error;
+
+    ghost State = { C.State × T.State × G };
+
+    ghost state = { λ p. (C.state p.pair.0, T.state p.pair.1, p.fold) };
+
+    ghost Tree = { T.Tree × List (C.Tree × T.Tree) };
+
+    ghost grammar = { λ s. expression_by I.model T.Error.errors T.Error.externals ((x : Operation P Q B O) → G.pre s.2 x) (G.post s.2)
+        (T.grammar s.1) (C.grammar s.0) };
+
+    fn process<OM: OutputMode>(&mut self, input: I) -> PResult<I, O, T::Error> {
+        let (end, answer) = terms::<OM, I, A, P, Q, B, O, X, C, T, G>(
+            self.alloc,
+            &mut self.pair,
+            &self.fold,
+            input,
+        )?;
+        match emitted(answer) {
+            Ok(value) => Ok((end, built::<OM::Output, O>(value))),
+            Err(refused) => Err(outside_refusal::<OM::Error, I, X, T::Error>(
+                input,
+                ErrorKind::Precedence,
+                refused,
+            )),
+        }
+    }
+
+    ghost lawful = { λ s k. expression_lawful I.lawful T.Error.errors T.Error.externals k.2 (T.lawful s.1 k.0) (C.lawful s.0 k.1) };
+}
+
+impl<
+    I: Input,
+    A: Allocator + Copy,
+    P: Viewed + Drop,
+    Q: Viewed + Drop,
+    B: Viewed + Drop,
+    O: Viewed + Drop,
+    X: Drop,
+    C: StreamParser<I, Output = Binary<B>, Error = T::Error> + Drop,
+    T: StreamParser<I, Output = (Vec<Unary<P>, A>, O, Vec<Unary<Q>, A>)> + Drop,
+    G: Fn(Operation<P, Q, B, O>) -> Result<O, X>,
+> StreamParser<I> for Expression<A, C, T, G>
+where
+    T::Error: FromExternalError<I, X>,
+{
+    ghost use Rattle.nom_language.specs.laws.LanguageLaws.{expression_steady};
+    ghost use Rattle.nom_language.specs.laws.PinnedLaws.{expression_pinned};
+    ghost use Rattle.nom_operators.specs.laws.ViewLaws.{OperatesAlike};
+
+    ghost Pins = { λ p. T.Pins p.pair.1 × C.Pins p.pair.0 × OperatesAlike (G.post p.fold) P.view Q.view B.view O.view };
+
+    ghost pinned = { λ p k h. expression_pinned P.view Q.view B.view O.view (T.pinned p.pair.1 k.0 h.0) (C.pinned p.pair.0 k.1 h.1) h.2 };
+
+    ghost steady = { λ s k. expression_steady I.lawful T.Error.errors T.Error.externals k.2 (T.steady s.1 k.0) (C.steady s.0 k.1) };
+}
+
+/// A first term, to whose refusal `Precedence` is added at the start, and then pairs, with the value of them all, or the
+/// first refusal of the fold.
+fn terms<
+    OM: OutputMode,
+    I: Input,
+    A: Allocator + Copy,
+    P: Drop,
+    Q: Drop,
+    B: Drop,
+    O: Drop,
+    X: Drop,
+    C: Parser<I, Output = Binary<B>, Error = T::Error>,
+    T: Parser<I, Output = (Vec<Unary<P>, A>, O, Vec<Unary<Q>, A>)>,
+    G: Fn(Operation<P, Q, B, O>) -> Result<O, X>,
+>(alloc: A, pair: &mut (C, T), fold: &G, input: I) -> PResult<I, Result<O, X>, T::Error>
+    requires term { (T.grammar (T.state pair.old.1)).meaning.Runs }
+    requires binary { (C.grammar (C.state pair.old.0)).meaning.Runs }
+    requires fold { (x : Operation P Q B O) → G.pre fold.now x }
+    ensures shown { ShowsMeaning {O = Result O X} I.model (IsEvaluated (T.grammar (T.state pair.old.1)).IsOutput (C.grammar (C.state pair.old.0)).IsOutput
+        (G.post fold.now)) (terms_meaning I.model T.Error.errors (T.grammar (T.state pair.old.1)).meaning (C.grammar (C.state pair.old.0)).meaning)
+        (modes true OM.Error.BUILDS OM.Incomplete.STREAMING) input result }
+    ensures term_kept { T.state pair.new.1 ≡ T.state pair.old.1 }
+    ensures binary_kept { C.state pair.new.0 ≡ C.state pair.old.0 }
+{
+    let read = pair
+        .1
+        .process::<OutputM<Emit, OM::Error, OM::Incomplete>>(input);
+    let (rest, first) = close(read, input, ErrorKind::Precedence)?;
+    match begin_evaluation::<P, Q, B, O, X, A, G>(alloc, emitted(first), fold) {
+        Some(begun) => {
+            let (end, all) = any_items::<
+                OutputM<Emit, OM::Error, OM::Incomplete>,
+                I,
+                (C, T),
+                Evaluation<'_, P, Q, B, O, X, A, G>,
+            >(pair, rest, Some(begun), ErrorKind::Precedence)?;
+            Ok((end, evaluated(all)))
+        }
+        None => Err(Err::OutOfMemory),
+    }
+}
+
+/// A refusal with an error that is made of another, where errors are built.
+#[inline(always)]
+fn outside_refusal<M: Mode, I: Drop, X: Drop, E: FromExternalError<I, X> + Drop>(
+    input: I,
+    kind: ErrorKind,
+    error: X,
+) -> Err<E, Option<E>>
+    ensures { Refuses (E.externals.of_external input kind error) E.externals.grows M.BUILDS result }
+{
+    if M::BUILDS {
+        match E::from_external_error(input, kind, error) {
+            Ok(made) => Err::Error(Some(made)),
+            Err(_) => Err::OutOfMemory,
+        }
+    } else {
+        Err::Error(None)
+    }
+}
