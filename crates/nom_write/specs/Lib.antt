@@ -1,0 +1,5 @@
+pub mod Digits
+pub mod Parts
+pub mod Reads
+pub mod Written
+pub mod laws

@@ -1,0 +1,2 @@
+pub mod LeafReads
+pub mod SequenceReads

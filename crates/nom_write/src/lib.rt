@@ -1,0 +1,10 @@
+//! Parsers of bytes that also write: what a parser writes of a value, it reads back as that value.
+#![tactic(auto)]
+
+pub mod bytes;
+pub mod number;
+pub mod promises;
+pub mod sequence;
+pub mod writer;
+
+pub use crate::writer::{Constant, WriteError, Writer};

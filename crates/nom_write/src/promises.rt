@@ -1,0 +1,14 @@
+//! What a writer and its parser promise together.
+ghost use Rattle.nom_write.specs.Reads.{ReadsBack};
+
+use crate::writer::Writer;
+use nom_traits::input::Items;
+
+/// What is written of a value is read back, in either mode, on every input that begins with it and goes on as it may: exactly it
+/// is accepted, and what follows is the rest. The output is equal to the value as viewed, where the parser pins. `OutOfMemory`
+/// aside. The function does nothing: its contract is the promise.
+pub fn reads_back<I: Items<Item = u8>, P: Writer<I>>(_parser: &P)
+    requires sound { (P.grammar (P.state _parser.now)).meaning.IsSound }
+    requires can { P.CanWrite _parser.now }
+    ensures { ReadsBack I.model P.Output.view (P.Pins _parser.now) (P.grammar (P.state _parser.now)) (P.Form _parser.now) (P.MayFollow _parser.now) }
+{}
