@@ -1,3 +1,4 @@
 pub mod Adding
 pub mod Digits
+pub mod Lists
 pub mod Reading

@@ -1,4 +1,6 @@
 pub mod Digits
+pub mod Lengths
+pub mod Lists
 pub mod Parts
 pub mod Reads
 pub mod Written

@@ -1,2 +1,3 @@
 pub mod LeafReads
+pub mod LengthReads
 pub mod SequenceReads

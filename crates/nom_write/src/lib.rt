@@ -2,6 +2,8 @@
 #![tactic(auto)]
 
 pub mod bytes;
+pub mod length;
+pub mod list;
 pub mod number;
 pub mod promises;
 pub mod sequence;

@@ -14,7 +14,7 @@ pub follows : {I A : Type 0} (w : Model I A) → InputLaws w → (i j : I) (xs r
 follows w l i j xs rest e s = (same_cut w.item_len l.positive s.front (w.elements j) xs rest (sym s.whole ∙ e) s.length_is).1
 
 -- by an equation of the items
-as_whole : {I A V : Type 0} (w : Model I A) {P : I → Outcome V → Type 0} {Fact : V → Type 0} {Follow : List A → Type 0} {xs ys : List A} → xs ≡ ys →
+pub as_whole : {I A V : Type 0} (w : Model I A) {P : I → Outcome V → Type 0} {Fact : V → Type 0} {Follow : List A → Type 0} {xs ys : List A} → xs ≡ ys →
     ReadsBefore w P Fact Follow ys → ReadsBefore w P Fact Follow xs
 as_whole w {P} {Fact} {Follow} e r = subst (ReadsBefore w P Fact Follow) (sym e) r
 
