@@ -14,10 +14,10 @@ abbrev pub EachFail : {O : Type 0} → (O → List ℕ → Type 0) → (O → (r
 EachFail Form Fails [] room start e = ⊥
 EachFail Form Fails (v ∷ vs) room start e = BothFail (Form v) (Fails v) (EachFail Form Fails vs) room start e
 
--- a form that isn't empty, as an item needs it that a list without a count takes
-abbrev pub Some : {O : Type 0} → (O → List ℕ → Type 0) → O → List ℕ → Type 0
-Some Form v xs = Form v xs × (0 < length xs)
+-- a form of an item; where `some`, one that isn't empty, as a list without a count takes it
+abbrev pub ItemForm : {O : Type 0} → Bool → (O → List ℕ → Type 0) → O → List ℕ → Type 0
+ItemForm some Form v xs = Form v xs × (some ≡ true → 0 < length xs)
 
--- a value that can't be written, or whose form is empty
-abbrev pub SomeFail : {O : Type 0} → (O → List ℕ → Type 0) → (O → (room start : ℕ) → WriteError → Type 0) → O → (room start : ℕ) → WriteError → Type 0
-SomeFail Form Fails v room start e = Fails v room start e ⊎ (Form v [] × (e ≡ Mismatch start))
+-- an item can't be written, or its form is empty where none may be
+abbrev pub ItemFails : {O : Type 0} → Bool → (O → List ℕ → Type 0) → (O → (room start : ℕ) → WriteError → Type 0) → O → (room start : ℕ) → WriteError → Type 0
+ItemFails some Form Fails v room start e = Fails v room start e ⊎ ((some ≡ true) × Form v [] × (e ≡ Mismatch start))

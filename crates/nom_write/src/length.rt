@@ -1,6 +1,6 @@
 //! What stands after a length.
-ghost use Rattle.std.specs.Prelude.{◌≡◌, ◌<◌, ◌≤◌, ℕ, List, MatchOption, length, vec_capacity};
-ghost use Rattle.nom_write.specs.Lists.{Each, EachFail};
+ghost use Rattle.std.specs.Prelude.{◌≡◌, ◌<◌, ◌≤◌, ℕ, false, List, MatchOption, length, vec_capacity};
+ghost use Rattle.nom_write.specs.Lists.{Each, EachFail, ItemFails, ItemForm};
 ghost use Rattle.nom_write.specs.Parts.{Both, BothFail};
 ghost use Rattle.nom_write.specs.Reads.{Holds};
 ghost use Rattle.nom_write.specs.Lengths.{FormOfSize, SizeFails};
@@ -156,10 +156,11 @@ impl<
 > Writer<I> for LengthCount<M, F, G> {
     ghost use Rattle.nom_write.specs.laws.LengthReads.{length_count_reads};
 
-    ghost Form = { λ p v. Both (FormOfSize F.Output.size (F.Form p.length) (length v.items)) (Each (G.Form p.parser) v.items) };
+    ghost Form = { λ p v. Both (FormOfSize F.Output.size (F.Form p.length) (length v.items)) (Each (ItemForm false (G.Form p.parser)) v.items) };
 
     ghost Fails = { λ p v. BothFail (FormOfSize F.Output.size (F.Form p.length) (length v.items))
-        (SizeFails F.Output.size F.Output.Exceeds (F.Fails p.length) (length v.items)) (EachFail (G.Form p.parser) (G.Fails p.parser) v.items) };
+        (SizeFails F.Output.size F.Output.Exceeds (F.Fails p.length) (length v.items)) (EachFail (ItemForm false (G.Form p.parser))
+        (ItemFails false (G.Form p.parser) (G.Fails p.parser)) v.items) };
 
     ghost CanWrite = { λ p. (F.CanWrite p.length × G.CanWrite p.parser) × ((rest : List ℕ) → F.MayFollow p.length rest) ×
         ((rest : List ℕ) → G.MayFollow p.parser rest) };
@@ -174,7 +175,7 @@ impl<
         let size = values.len();
         let start = out.len();
         match write_size::<I, F, A>(&self.length, size, out) {
-            Ok(()) => match write_each::<I, G, A>(&self.parser, values, out) {
+            Ok(()) => match write_each::<I, G, A>(&self.parser, values, false, out) {
                 Ok(()) => Ok(()),
                 Err(error) => {
                     out.truncate(start);
