@@ -28,14 +28,14 @@ module _ {I A V : Type 0} (w : Model I A) where
 abbrev pub NoItem : {I A V E : Type 0} → Model I A → Meaning I V E → List A → Type 0
 NoItem {I} {V = V} w m rest = (s : Bool) (i : I) (o : Outcome V) → w.IsKnown i → w.elements i ≡ rest → m.answers s i o → o ≡ Refuse
 
-module _ {I A V O E : Type 0} (w : Model I A) (g : Grammar I V O E) (Follow : List A → Type 0) where
-  -- the items stand for the value, before what may follow: they are read in both modes, and the value is an output of each tree
-  abbrev pub Reads : O → List A → Type 0
-  Reads v xs = (streaming : Bool) → ReadsBefore w (g.meaning.answers streaming) (λ t. g.IsOutput t v) Follow xs
+module _ {I A V O E : Type 0} (w : Model I A) (g : Grammar I V O E) where
+  -- A form of a value, before what may follow, is read in both modes, and the value is an output of each tree.
+  pub record Reads (Form : O → List A → Type 0) (Follow : List A → Type 0) : Type 0 where
+    pub reads : (v : O) (xs : List A) → Form v xs → (streaming : Bool) → ReadsBefore w (g.meaning.answers streaming) (λ t. g.IsOutput t v) Follow xs
 
-  -- the items are read, as whatever tree
-  abbrev pub ReadsSome : List A → Type 0
-  ReadsSome xs = (streaming : Bool) → ReadsBefore w (g.meaning.answers streaming) (λ _. Unit {0}) Follow xs
+  -- items are read, as whatever tree, whatever follows
+  pub record ReadsSome (xs : List A) : Type 0 where
+    pub reads : (streaming : Bool) → ReadsBefore w (g.meaning.answers streaming) (λ _. Unit {0}) Anything xs
 
 module _ {I A V O E : Type 0} (w : Model I A) (view : View O) (Pins : Type 0) (g : Grammar I V O E) where
   -- What is answered on an input that begins with items: it is accepted, with what follows the items as the rest and, where outputs are

@@ -13,7 +13,7 @@ use std::alloc::Allocator;
 
 /// Of the tag itself alone: another value is a mismatch.
 impl<'a, 'b, E: ParseError<&'a [u8]>> Writer<&'a [u8]> for Tag<&'b [u8], &'a [u8], E> {
-    ghost use Rattle.nom_write.specs.laws.LeafReads.{tag_value_reads};
+    ghost use Rattle.nom_write.specs.laws.LeafReads.{tag_reads};
 
     ghost Form = { λ p v xs. (xs ≡ p.tag.now) × Holds bytes_model v p.tag.now };
 
@@ -34,11 +34,11 @@ impl<'a, 'b, E: ParseError<&'a [u8]>> Writer<&'a [u8]> for Tag<&'b [u8], &'a [u8
         }
     }
 
-    ghost reads = { λ p k c v. tag_value_reads p.tag.now v };
+    ghost reads = { λ p k c. tag_reads E.errors p.tag.now };
 }
 
 impl<'a, 'b, E: ParseError<&'a [u8]>> Constant<&'a [u8]> for Tag<&'b [u8], &'a [u8], E> {
-    ghost use Rattle.nom_write.specs.laws.LeafReads.{tag_reads};
+    ghost use Rattle.nom_write.specs.laws.LeafReads.{tag_reads_some};
 
     ghost bytes = { λ p. p.tag.now };
 
@@ -47,5 +47,5 @@ impl<'a, 'b, E: ParseError<&'a [u8]>> Constant<&'a [u8]> for Tag<&'b [u8], &'a [
         add(out, self.tag)
     }
 
-    ghost accepts = { λ p k s. tag_reads p.tag.now s (λ _. Unit {0}) (λ t h. tt) };
+    ghost accepts = { λ p k. tag_reads_some E.errors p.tag.now };
 }

@@ -143,8 +143,7 @@ impl<I: ByteInput, F: Writer<I, Output: OfSize> + Drop> Writer<I> for LengthData
         }
     }
 
-    ghost reads = { λ p k c v xs. length_data_reads I.lawful F.Error.errors I.lack F.Output.size (F.grammar (F.state p.parser)) k.1.1 (F.Form p.parser)
-        (F.MayFollow p.parser) c.1 (F.reads p.parser k.0 c.0) I.one_mark v xs };
+    ghost reads = { λ p k c. length_data_reads I.lawful F.Error.errors F.Output.size k.1.1 c.1 (F.reads p.parser k.0 c.0) I.lack I.one_mark };
 }
 
 /// The number of the values, and each of them.
@@ -186,7 +185,5 @@ impl<
         }
     }
 
-    ghost reads = { λ p k c v xs. length_count_reads I.lawful F.Error.errors F.Output.size (F.grammar (F.state p.length)) (G.grammar (G.state p.parser)) k.1.1
-        (F.Form p.length) (F.MayFollow p.length) c.1 (F.reads p.length k.0 c.0.0) (G.Form p.parser) (G.MayFollow p.parser) c.2 (G.reads p.parser k.1.0 c.0.1)
-        v xs };
+    ghost reads = { λ p k c. length_count_reads I.lawful F.Error.errors F.Output.size k.1.1 c.1 (F.reads p.length k.0 c.0.0) c.2 (G.reads p.parser k.1.0 c.0.1) };
 }

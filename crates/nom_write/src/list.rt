@@ -63,8 +63,7 @@ pub(crate) fn write_each<I: Items<Item = u8>, G: Writer<I>, A: Allocator>(
 
 /// Each of the values, whose forms aren't empty. What follows begins with no item.
 impl<I: Input<Item = u8>, M: Allocator + Copy, G: Writer<I> + Drop> Writer<I> for Many0<M, G> {
-    ghost use Rattle.nom_write.specs.laws.ListReads.{any_reads};
-    ghost use Rattle.nom_error.specs.declared.kind.ErrorKind.{ErrorKind};
+    ghost use Rattle.nom_write.specs.laws.ListReads.{many0_reads};
 
     ghost Form = { λ p v. Each (ItemForm true (G.Form p.parser)) v.items };
 
@@ -83,8 +82,7 @@ impl<I: Input<Item = u8>, M: Allocator + Copy, G: Writer<I> + Drop> Writer<I> fo
         write_each::<I, G, A>(&self.parser, value.as_slice(), true, out)
     }
 
-    ghost reads = { λ p k c v xs f s. any_reads I.model I.lawful G.Error.errors (G.grammar (G.state p.parser)) (G.Form p.parser) (G.MayFollow p.parser) c.1
-        (G.reads p.parser k c.0) s ErrorKind.Many0 v.items xs f };
+    ghost reads = { λ p k c. many0_reads I.lawful G.Error.errors c.1 (G.reads p.parser k c.0) };
 }
 
 /// Each of the values, if they are as many as the count says; else they are a mismatch.
@@ -112,6 +110,5 @@ impl<I: Items<Item = u8>, M: Allocator + Copy, G: Writer<I> + Drop> Writer<I> fo
         }
     }
 
-    ghost reads = { λ p k c v xs f s. count_reads I.model I.lawful G.Error.errors (G.grammar (G.state p.parser)) (G.Form p.parser) (G.MayFollow p.parser) c.1
-        (G.reads p.parser k c.0) s p.count v.items xs f };
+    ghost reads = { λ p k c. count_reads I.lawful G.Error.errors c.1 (G.reads p.parser k c.0) p.count };
 }

@@ -25,7 +25,7 @@ impl<I: Input<Item = u8>, E: ParseError<I>> Writer<I> for BeU8<I, E> {
         }
     }
 
-    ghost reads = { λ p k c v xs. byte_reads I.model v xs };
+    ghost reads = { λ p k c. byte_reads I.model E.errors };
 }
 
 /// A layout whose numbers can be written.
@@ -137,5 +137,5 @@ impl<F: ToBits, I: Input<Item = u8>, E: ParseError<I>> Writer<I> for Binary<F, I
         }
     }
 
-    ghost reads = { λ p k c v xs. binary_reads I.model F.of_bits p.endian F.BYTES v xs };
+    ghost reads = { λ p k c. binary_reads I.model E.errors F.of_bits p.endian F.BYTES };
 }

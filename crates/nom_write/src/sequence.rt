@@ -39,8 +39,7 @@ impl<I: Items<Item = u8>, F: Writer<I> + Drop, G: Writer<I, Error = F::Error> + 
         }
     }
 
-    ghost reads = { λ p k c v xs f. pair_reads I.lawful (F.grammar (F.state p.first)) (G.grammar (G.state p.second)) (F.Form p.first) (G.Form p.second) (F.MayFollow p.first) (G.MayFollow p.second) c.2
-        (F.reads p.first k.0 c.0) (G.reads p.second k.1 c.1) f };
+    ghost reads = { λ p k c. pair_reads I.lawful c.2 (F.reads p.first k.0 c.0) (G.reads p.second k.1 c.1) };
 }
 
 impl<I: Items<Item = u8>, F: Constant<I> + Drop, G: Writer<I, Error = F::Error> + Drop> Writer<I>
@@ -72,8 +71,7 @@ impl<I: Items<Item = u8>, F: Constant<I> + Drop, G: Writer<I, Error = F::Error> 
         }
     }
 
-    ghost reads = { λ p k c v xs f. preceded_reads I.lawful (F.grammar (F.state p.first)) (G.grammar (G.state p.second)) (F.bytes p.first) (G.Form p.second) (G.MayFollow p.second)
-        (F.accepts p.first k.0) (G.reads p.second k.1 c) f };
+    ghost reads = { λ p k c. preceded_reads I.lawful (F.accepts p.first k.0) (G.reads p.second k.1 c) };
 }
 
 impl<I: Items<Item = u8>, F: Writer<I> + Drop, G: Constant<I, Error = F::Error> + Drop> Writer<I>
@@ -103,6 +101,5 @@ impl<I: Items<Item = u8>, F: Writer<I> + Drop, G: Constant<I, Error = F::Error> 
         }
     }
 
-    ghost reads = { λ p k c v xs f. terminated_reads I.lawful (F.grammar (F.state p.first)) (G.grammar (G.state p.second)) (G.bytes p.second) (F.Form p.first) (F.MayFollow p.first) c.1
-        (F.reads p.first k.0 c.0) (G.accepts p.second k.1) f };
+    ghost reads = { λ p k c. terminated_reads I.lawful c.1 (F.reads p.first k.0 c.0) (G.accepts p.second k.1) };
 }

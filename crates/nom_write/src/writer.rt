@@ -1,6 +1,6 @@
 //! What a parser that also writes is.
 ghost use Rattle.std.specs.Prelude.{◌≡◌, ℕ, ◌≤◌, List, length, vec_capacity};
-ghost use Rattle.nom_write.specs.Reads.{Anything, Reads, ReadsSome};
+ghost use Rattle.nom_write.specs.Reads.{Reads, ReadsSome};
 ghost use Rattle.nom_write.specs.Written.{LacksRoom, Written};
 
 use nom_internal::parser::StreamParser;
@@ -45,8 +45,8 @@ pub trait Writer<I: Items<Item = u8>>: StreamParser<I> {
         ensures room { vec_capacity out.old ≤ vec_capacity out.new };
 
     /// What stands for a value is read back as it.
-    ghost reads: { (p : Self) → (Self.grammar (Self.state p)).meaning.IsSound → CanWrite p → (v : Self.Output) (xs : List ℕ) → Form p v xs →
-        Reads I.model (Self.grammar (Self.state p)) (MayFollow p) v xs };
+    ghost reads: { (p : Self) → (Self.grammar (Self.state p)).meaning.IsSound → CanWrite p → Reads I.model (Self.grammar (Self.state p))
+        (Form p) (MayFollow p) };
 }
 
 /// A parser of bytes that also writes without a value, for parts whose output is dropped.
@@ -60,7 +60,7 @@ pub trait Constant<I: Items<Item = u8>>: StreamParser<I> {
         ensures room { vec_capacity out.old ≤ vec_capacity out.new };
 
     /// They are accepted, whatever follows.
-    ghost accepts: { (p : Self) → (Self.grammar (Self.state p)).meaning.IsSound → ReadsSome I.model (Self.grammar (Self.state p)) Anything (bytes p) };
+    ghost accepts: { (p : Self) → (Self.grammar (Self.state p)).meaning.IsSound → ReadsSome I.model (Self.grammar (Self.state p)) (bytes p) };
 }
 
 /// Adds bytes to a list, or leaves it as it was.

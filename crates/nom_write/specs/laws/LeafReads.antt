@@ -4,7 +4,7 @@ use Rattle.std.proofs.Common.{arith, sym, ◌∙◌, ap, subst}
 use Rattle.nom_internal.specs.Prelude.{Errors, Model, InputLaws, items_len, items_len-ones, same_self, Slice, IsFirst, Meaning, IsLawful, Outcome, Accept, OnPart, labelled}
 use Rattle.nom_internal.specs.Prelude.{bytes_model, bytes_lawful, bytes_comparing, ComparesBytes}
 use Rattle.std.specs.Borrow.{Bor}
-use Rattle.nom_internal.specs.Prelude.{IsModelledBy}
+use Rattle.nom_internal.specs.Prelude.{IsModelledBy, sliced, valued}
 use Rattle.nom_bytes.specs.Takes.{take_meaning}
 use Rattle.nom_bytes.specs.laws.TakeLaws.{take_lawful}
 use Rattle.nom_bytes.specs.Tags.{tag_meaning}
@@ -12,7 +12,7 @@ use Rattle.nom_bytes.specs.laws.TagLaws.{tag_lawful}
 use Rattle.nom_internal.specs.Prelude.{value_of}
 use Rattle.nom_number.specs.declared.order.Endianness.{Endianness}
 use Rattle.nom_number.specs.Numbers.{binary_number, bytes_lack, number_meaning}
-use Rattle.nom_write.specs.Reads.{Anything, Holds, ReadsBefore}
+use Rattle.nom_write.specs.Reads.{Anything, Holds, Reads, ReadsBefore, ReadsSome}
 
 -- what a lawful meaning accepts on each input that begins with the items is what it answers there
 pub lawful_reads : {I A V E : Type 0} (w : Model I A) (m : Meaning I V E) → IsLawful w m → (s : Bool) (IsTree : V → Type 0) (xs : List A) →
@@ -61,28 +61,33 @@ module _ {I A : Type 0} (w : Model I A) (s : Bool) (xs : List A) where
       (λ t. v ≡ t) Anything xs (λ t h. e ∙ ap value (sym h)) (take_reads (λ t. t.items ≡ xs) (λ t h. h) (bytes_lack w) count n)
 
 -- the bytes of a tag
-pub tag_reads : (tag : List ℕ) (s : Bool) (IsTree : Slice bytes_model → Type 0) → ((t : Slice bytes_model) → t.items ≡ tag → IsTree t) →
+tag_items : (tag : List ℕ) (s : Bool) (IsTree : Slice bytes_model → Type 0) → ((t : Slice bytes_model) → t.items ≡ tag → IsTree t) →
     ReadsBefore bytes_model ((tag_meaning bytes_model no_errors length ComparesBytes tag).answers s) IsTree Anything tag
-tag_reads tag s IsTree stands = lawful_reads bytes_model (tag_meaning bytes_model no_errors length ComparesBytes tag)
+tag_items tag s IsTree stands = lawful_reads bytes_model (tag_meaning bytes_model no_errors length ComparesBytes tag)
     (tag_lawful bytes_model bytes_lawful no_errors length ComparesBytes bytes_comparing tag) s IsTree tag (λ i rest known e.
     let t : Slice bytes_model = record { items = tag; mark = tt } in
     let first : IsFirst bytes_model i (items_len bytes_model.item_len tag) t = record { rest = rest; whole = e; length_is = refl; mark_is = refl } in
     (t, (items_len-ones tag, first, record { front = tag; rest = rest; whole = e; tag_is = refl }), stands t refl))
 
--- a value that is the tag
-pub tag_value_reads : (tag : List ℕ) (v : Bor (List ℕ)) (xs : List ℕ) → (xs ≡ tag) × Holds bytes_model v tag → (s : Bool) →
-    ReadsBefore bytes_model ((tag_meaning bytes_model no_errors length ComparesBytes tag).answers s) (λ t. IsModelledBy bytes_model t v) Anything xs
-tag_value_reads tag v xs f s = subst (ReadsBefore bytes_model ((tag_meaning bytes_model no_errors length ComparesBytes tag).answers s)
-    (λ t. IsModelledBy bytes_model t v) Anything) (sym f.0) (tag_reads tag s (λ t. IsModelledBy bytes_model t v)
-    (λ t h. record { known = f.1.known; elements_are = f.1.elements_are ∙ sym h; mark_is = refl }))
+module _ {E : Type 0} (errs : Errors (Bor (List ℕ)) E) (tag : List ℕ) where
+  pub tag_reads_some : ReadsSome bytes_model (sliced bytes_model (tag_meaning bytes_model errs length ComparesBytes tag)) tag
+  tag_reads_some = record { reads = λ s. tag_items tag s (λ _. Unit {0}) (λ t h. tt) }
 
--- a byte
-pub byte_reads : {I : Type 0} (w : Model I ℕ) (v : ℕ) (xs : List ℕ) → xs ≡ v ∷ [] → (s : Bool) →
-    ReadsBefore w ((number_meaning w no_errors (value_of 256) 1).answers s) (λ t. v ≡ t) Anything xs
-byte_reads w v xs e s = number_reads w s xs (value_of 256) 1 v (ap length e) (omega arith ∙ ap (value_of 256) (sym e))
+  pub tag_reads : Reads bytes_model (sliced bytes_model (tag_meaning bytes_model errs length ComparesBytes tag)) (λ v xs. (xs ≡ tag) × Holds bytes_model v tag) Anything
+  tag_reads = record {
+    reads = λ v xs f s. subst (ReadsBefore bytes_model ((tag_meaning bytes_model no_errors length ComparesBytes tag).answers s)
+        (λ t. IsModelledBy bytes_model t v) Anything) (sym f.0) (tag_items tag s (λ t. IsModelledBy bytes_model t v)
+        (λ t h. record { known = f.1.known; elements_are = f.1.elements_are ∙ sym h; mark_is = refl }));
+  }
 
--- a number in some bytes
-pub binary_reads : {I N : Type 0} (w : Model I ℕ) (of_bits : ℕ → N) (endian : Endianness) (count : ℕ) (v : N) (xs : List ℕ) →
-    (length xs ≡ count) × (of_bits (binary_number endian xs) ≡ v) → (s : Bool) →
-    ReadsBefore w ((number_meaning w no_errors (λ bytes. of_bits (binary_number endian bytes)) count).answers s) (λ t. v ≡ t) Anything xs
-binary_reads w of_bits endian count v xs f s = number_reads w s xs (λ bytes. of_bits (binary_number endian bytes)) count v f.0 (sym f.1)
+module _ {I E : Type 0} (w : Model I ℕ) (errs : Errors I E) where
+  pub byte_reads : Reads w (valued (number_meaning w errs (value_of 256) 1)) (λ v xs. xs ≡ v ∷ []) Anything
+  byte_reads = record { reads = λ v xs e s. number_reads w s xs (value_of 256) 1 v (ap length e) (omega arith ∙ ap (value_of 256) (sym e)) }
+
+  -- a number in some bytes
+  pub binary_reads : {N : Type 0} (of_bits : ℕ → N) (endian : Endianness) (count : ℕ) →
+      Reads w (valued (number_meaning w errs (λ bytes. of_bits (binary_number endian bytes)) count))
+      (λ v xs. (length xs ≡ count) × (of_bits (binary_number endian xs) ≡ v)) Anything
+  binary_reads of_bits endian count = record {
+    reads = λ v xs f s. number_reads w s xs (λ bytes. of_bits (binary_number endian bytes)) count v f.0 (sym f.1);
+  }

@@ -23,40 +23,45 @@ of_value_reads w IsValue N n one IsTree Follow xs p = record {
   read = λ i rest o known e f a. p.read i rest o known e f (subst (λ z. N z i o) (one a.value a.is_value) a.fact);
 }
 
-module _ {I P O E : Type 0} {w : Model I ℕ} (l : InputLaws w) (errs : Errors I E) where
+module _ {I P O E : Type 0} {w : Model I ℕ} (l : InputLaws w) (errs : Errors I E) (size : O → ℕ) {g : Grammar I P O E} (one : IsOne (HasSize g.IsOutput size))
+    {Form : O → List ℕ → Type 0} {Follow : List ℕ → Type 0} (all : (rest : List ℕ) → Follow rest) (p : Reads w g Form Follow) where
   -- a length, and as many items
-  pub length_data_reads : (lack : ℕ → List ℕ → Option ℕ) (size : O → ℕ) (g : Grammar I P O E) → IsOne (HasSize g.IsOutput size) →
-      (Form : O → List ℕ → Type 0) (Follow : List ℕ → Type 0) → ((rest : List ℕ) → Follow rest) →
-      ((v : O) (xs : List ℕ) → Form v xs → Reads w g Follow v xs) → ((m n : w.Mark) → m ≡ n) → (v : I) (xs : List ℕ) →
-      Both (FormOfSize size Form (length (w.elements v))) (Holds w v) xs → Reads w (length_data_of w errs lack size g) Anything v xs
-  length_data_reads lack size g one Form Follow all reads one_mark v xs f s =
-      let n = f.first.0 in
-      let ys = f.back in
-      let count : length ys ≡ size n = sym (f.first.1 ∙ ap length f.second.elements_are) in
-      as_whole w f.whole (then_reads w l (λ u t. (u, t)) (g.meaning.answers s)
-      (λ u j o. OfValue (HasSize g.IsOutput size u) (λ k. (take_meaning w no_errors lack k).answers s j o)) (λ u. g.IsOutput u n) (λ t. IsModelledBy w t v)
-      (λ t. IsModelledBy w t.1 v) (λ u t h k. k) Follow Anything f.front ys (λ rest h. all (ys ++ rest)) (reads n f.front f.first.2 s) (λ u h.
-      of_value_reads w (HasSize g.IsOutput size u) (λ k. (take_meaning w no_errors lack k).answers s) (size n)
-      (λ k is. one u k (size n) is (record { output = n; is_output = h; size_is = refl })) (λ t. IsModelledBy w t v) Anything ys
-      (take_reads w s ys (λ t. IsModelledBy w t v) (λ t e. record {
-        known = f.second.known;
-        elements_are = f.second.elements_are ∙ sym e;
-        mark_is = one_mark _ _;
-      }) lack (size n) count)))
+  pub length_data_reads : (lack : ℕ → List ℕ → Option ℕ) → ((m n : w.Mark) → m ≡ n) →
+      Reads w (length_data_of w errs lack size g) (λ v. Both (FormOfSize size Form (length (w.elements v))) (Holds w v)) Anything
+  length_data_reads lack one_mark = record { reads = reads }
+    where
+      reads : (v : I) (xs : List ℕ) → Both (FormOfSize size Form (length (w.elements v))) (Holds w v) xs → (s : Bool) →
+          ReadsBefore w ((length_data_of w errs lack size g).meaning.answers s) (λ t. IsModelledBy w t.1 v) Anything xs
+      reads v xs f s =
+          let n = f.first.0 in
+          let ys = f.back in
+          let count : length ys ≡ size n = sym (f.first.1 ∙ ap length f.second.elements_are) in
+          as_whole w f.whole (then_reads w l (λ u t. (u, t)) (g.meaning.answers s)
+          (λ u j o. OfValue (HasSize g.IsOutput size u) (λ k. (take_meaning w no_errors lack k).answers s j o)) (λ u. g.IsOutput u n) (λ t. IsModelledBy w t v)
+          (λ t. IsModelledBy w t.1 v) (λ u t h k. k) Follow Anything f.front ys (λ rest h. all (ys ++ rest)) (p.reads n f.front f.first.2 s) (λ u h.
+          of_value_reads w (HasSize g.IsOutput size u) (λ k. (take_meaning w no_errors lack k).answers s) (size n)
+          (λ k is. one u k (size n) is (record { output = n; is_output = h; size_is = refl })) (λ t. IsModelledBy w t v) Anything ys
+          (take_reads w s ys (λ t. IsModelledBy w t v) (λ t e. record {
+            known = f.second.known;
+            elements_are = f.second.elements_are ∙ sym e;
+            mark_is = one_mark _ _;
+          }) lack (size n) count)))
 
   -- a number, and as many items of another grammar
-  pub length_count_reads : {U X M : Type 0} (size : O → ℕ) (g : Grammar I P O E) (h : Grammar I U X E) → IsOne (HasSize g.IsOutput size) →
-      (Form : O → List ℕ → Type 0) (Follow : List ℕ → Type 0) → ((rest : List ℕ) → Follow rest) →
-      ((v : O) (xs : List ℕ) → Form v xs → Reads w g Follow v xs) → (NextForm : X → List ℕ → Type 0) (NextFollow : List ℕ → Type 0) →
-      ((rest : List ℕ) → NextFollow rest) → ((v : X) (xs : List ℕ) → NextForm v xs → Reads w h NextFollow v xs) → (v : Vec X M) (xs : List ℕ) →
-      Both (FormOfSize size Form (length v.items)) (Each (ItemForm false NextForm) v.items) xs → Reads w (length_count_of {M = M} w errs size g h) Anything v xs
-  length_count_reads size g h one Form Follow all reads NextForm NextFollow next_all next_reads v xs f s =
-      let n = f.first.0 in
-      let ys = f.back in
-      as_whole w f.whole (then_reads w l (λ u t. t) (g.meaning.answers s)
-      (λ u j o. OfValue (HasSize g.IsOutput size u) (λ k. (items_meaning w errs (exact_limits k) (Unit {0}) h.meaning).answers s j o))
-      (λ u. g.IsOutput u n) (λ ts. AllZip h.IsOutput ts v.items) (λ ts. AllZip h.IsOutput ts v.items) (λ u t x k. k) Follow Anything f.front ys
-      (λ rest k. all (ys ++ rest)) (reads n f.front f.first.2 s) (λ u x.
-      of_value_reads w (HasSize g.IsOutput size u) (λ k. (items_meaning w errs (exact_limits k) (Unit {0}) h.meaning).answers s) (length v.items)
-      (λ k is. one u k (size n) is (record { output = n; is_output = x; size_is = refl }) ∙ f.first.1) (λ ts. AllZip h.IsOutput ts v.items) Anything ys
-      (exact_reads w l errs h NextForm NextFollow next_all next_reads s v.items ys f.second)))
+  pub length_count_reads : {U X M : Type 0} {h : Grammar I U X E} {NextForm : X → List ℕ → Type 0} {NextFollow : List ℕ → Type 0} →
+      ((rest : List ℕ) → NextFollow rest) → Reads w h NextForm NextFollow →
+      Reads w (length_count_of {M = M} w errs size g h) (λ v. Both (FormOfSize size Form (length v.items)) (Each (ItemForm false NextForm) v.items)) Anything
+  length_count_reads {U} {X} {M} {h} {NextForm} {NextFollow} next_all q = record { reads = reads }
+    where
+      reads : (v : Vec X M) (xs : List ℕ) → Both (FormOfSize size Form (length v.items)) (Each (ItemForm false NextForm) v.items) xs → (s : Bool) →
+          ReadsBefore w ((length_count_of {M = M} w errs size g h).meaning.answers s) (λ ts. AllZip h.IsOutput ts v.items) Anything xs
+      reads v xs f s =
+          let n = f.first.0 in
+          let ys = f.back in
+          as_whole w f.whole (then_reads w l (λ u t. t) (g.meaning.answers s)
+          (λ u j o. OfValue (HasSize g.IsOutput size u) (λ k. (items_meaning w errs (exact_limits k) (Unit {0}) h.meaning).answers s j o))
+          (λ u. g.IsOutput u n) (λ ts. AllZip h.IsOutput ts v.items) (λ ts. AllZip h.IsOutput ts v.items) (λ u t x k. k) Follow Anything f.front ys
+          (λ rest k. all (ys ++ rest)) (p.reads n f.front f.first.2 s) (λ u x.
+          of_value_reads w (HasSize g.IsOutput size u) (λ k. (items_meaning w errs (exact_limits k) (Unit {0}) h.meaning).answers s) (length v.items)
+          (λ k is. one u k (size n) is (record { output = n; is_output = x; size_is = refl }) ∙ f.first.1) (λ ts. AllZip h.IsOutput ts v.items) Anything ys
+          (exact_reads w l errs h NextForm NextFollow next_all q s v.items ys f.second)))

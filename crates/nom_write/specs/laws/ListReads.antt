@@ -5,6 +5,9 @@ use Rattle.std.proofs.Common.{sym, ◌∙◌, ap, subst, append_assoc, arith}
 use Rattle.std.proofs.lemmas.Bool.{le-ltb}
 use Rattle.nom_error.specs.declared.kind.ErrorKind.{ErrorKind}
 use Rattle.nom_internal.specs.Prelude.{Errors, Model, InputLaws, items_len, items_len-append, IsSuffixOf, Outcome, Accept, Grammar, after}
+use Rattle.nom_error.specs.declared.kind.ErrorKind.TheVariants as Kind
+use Rattle.nom_multi.specs.Bounded.{count_of}
+use Rattle.nom_multi.specs.Many.{many0_of}
 use Rattle.nom_repeat.specs.Repeat.{Turn, Pieces, Replies, TurnsBy}
 use Rattle.nom_repeat.specs.Repeat.Turn.{Takes, Ends}
 use Rattle.nom_repeat.specs.declared.items.Limits.{Limits}
@@ -18,7 +21,7 @@ use Rattle.nom_write.specs.laws.SequenceReads.{follows}
 -- Items of a grammar within limits. Of as many values as `total` says each form is an item that is taken, and after them the items end,
 -- where what follows is of a kind.
 module _ {I V O E : Type 0} (w : Model I ℕ) (l : InputLaws w) (g : Grammar I V O E) (limits : Limits) (Form : O → List ℕ → Type 0) (Follow : List ℕ → Type 0)
-    (all : (rest : List ℕ) → Follow rest) (reads : (v : O) (xs : List ℕ) → Form v xs → Reads w g Follow v xs) (After : List ℕ → Type 0) (total : ℕ) (s : Bool)
+    (all : (rest : List ℕ) → Follow rest) (reads : Reads w g Form Follow) (After : List ℕ → Type 0) (total : ℕ) (s : Bool)
     (runs : (k : ℕ) (i : I) → k < total → Replies limits.most (λ k. g.meaning.answers s) k i None → ⊥)
     (takes : (k : ℕ) (v : O) (xs : List ℕ) (t : V) → Form v xs → item_turn limits k (Some (Accept (items_len w.item_len xs) t)) ≡ Takes (items_len w.item_len xs) t)
     (ends : (i : I) (rest : List ℕ) (turn : Turn V (Unit {0})) → w.IsKnown i → w.elements i ≡ rest → After rest →
@@ -34,7 +37,7 @@ module _ {I V O E : Type 0} (w : Model I ℕ) (l : InputLaws w) (g : Grammar I V
           (t : V) × (turn ≡ Takes (items_len w.item_len front) t) × g.IsOutput t v
       of_reply None h f = absurd (runs k i below h)
       of_reply (Some o) h f =
-          let q = (reads v front p s).read i rest o known e (all rest) h.1 in
+          let q = (reads.reads v front p s).read i rest o known e (all rest) h.1 in
           (q.0, f ∙ (ap (λ z. item_turn limits k (Some z)) q.1 ∙ takes k v front q.0 p), q.2)
 
   items_read : (vs : List O) (xs rest : List ℕ) (k : ℕ) (i : I) (ts : List V) (taken : ℕ) (ending : Outcome (Unit {0})) → w.IsKnown i →
@@ -93,12 +96,17 @@ some_len : {I : Type 0} (w : Model I ℕ) → InputLaws w → (xs : List ℕ) �
 some_len w l [] h = absurd (omega (arith, h))
 some_len w l (x ∷ xs) h = omega (arith, l.positive x)
 
+-- forms of items that are of a kind
+item_reads : {I V O E : Type 0} (w : Model I ℕ) (g : Grammar I V O E) (some : Bool) (Form : O → List ℕ → Type 0) (Follow : List ℕ → Type 0) → Reads w g Form Follow →
+    Reads w g (ItemForm some Form) Follow
+item_reads w g some Form Follow p = record { reads = λ v xs f. p.reads v xs f.0 }
+
 module _ {I V O E : Type 0} (w : Model I ℕ) (l : InputLaws w) (errs : Errors I E) (g : Grammar I V O E) (Form : O → List ℕ → Type 0) (Follow : List ℕ → Type 0)
-    (all : (rest : List ℕ) → Follow rest) (reads : (v : O) (xs : List ℕ) → Form v xs → Reads w g Follow v xs) (s : Bool) where
+    (all : (rest : List ℕ) → Follow rest) (p : Reads w g Form Follow) (s : Bool) where
   -- just as many items as there are values
   pub exact_reads : (vs : List O) (xs : List ℕ) → Each (ItemForm false Form) vs xs →
       ReadsBefore w ((items_meaning w errs (exact_limits (length vs)) (Unit {0}) g.meaning).answers s) (λ ts. AllZip g.IsOutput ts vs) Anything xs
-  exact_reads vs xs h = list_read w l g (exact_limits (length vs)) (ItemForm false Form) Follow all (λ v xs f. reads v xs f.0) Anything (length vs) s
+  exact_reads vs xs h = list_read w l g (exact_limits (length vs)) (ItemForm false Form) Follow all (item_reads w g false Form Follow p) Anything (length vs) s
       (λ k i below none. none below) (λ k v xs t f. exactly_taken (length vs) k (items_len w.item_len xs) t) ends errs vs xs refl h
     where
       ends : (i : I) (rest : List ℕ) (turn : Turn V (Unit {0})) → w.IsKnown i → w.elements i ≡ rest → Anything rest →
@@ -110,15 +118,10 @@ module _ {I V O E : Type 0} (w : Model I ℕ) (l : InputLaws w) (errs : Errors I
           of_reply None h f = f
           of_reply (Some o) h f = absurd (omega (arith, h.0))
 
-  pub count_reads : (count : ℕ) (vs : List O) (xs : List ℕ) → (length vs ≡ count) × Each (ItemForm false Form) vs xs →
-      ReadsBefore w ((items_meaning w errs (exact_limits count) (Unit {0}) g.meaning).answers s) (λ ts. AllZip g.IsOutput ts vs) Anything xs
-  count_reads count vs xs h = subst (λ n. ReadsBefore w ((items_meaning w errs (exact_limits n) (Unit {0}) g.meaning).answers s)
-      (λ ts. AllZip g.IsOutput ts vs) Anything xs) h.0 (exact_reads vs xs h.1)
-
   -- any number of items that aren't empty, before what begins with none
-  pub any_reads : (kind : ErrorKind) (vs : List O) (xs : List ℕ) → Each (ItemForm true Form) vs xs →
+  any_items_reads : (kind : ErrorKind) (vs : List O) (xs : List ℕ) → Each (ItemForm true Form) vs xs →
       ReadsBefore w ((items_meaning w errs (any_limits kind) (Unit {0}) g.meaning).answers s) (λ ts. AllZip g.IsOutput ts vs) (NoItem w g.meaning) xs
-  any_reads kind vs xs h = list_read w l g (any_limits kind) (ItemForm true Form) Follow all (λ v xs f. reads v xs f.0) (NoItem w g.meaning) (length vs) s
+  any_items_reads kind vs xs h = list_read w l g (any_limits kind) (ItemForm true Form) Follow all (item_reads w g true Form Follow p) (NoItem w g.meaning) (length vs) s
       (λ k i below none. none tt) (λ k v xs t f. some_taken kind k (items_len w.item_len xs) t (some_len w l xs (f.1 refl))) ends errs vs xs refl h
     where
       ends : (i : I) (rest : List ℕ) (turn : Turn V (Unit {0})) → w.IsKnown i → w.elements i ≡ rest → NoItem w g.meaning rest →
@@ -130,3 +133,17 @@ module _ {I V O E : Type 0} (w : Model I ℕ) (l : InputLaws w) (errs : Errors I
           of_reply None h f = absurd (h tt)
           of_reply (Some o) h f = f ∙ (ap (λ z. item_turn (any_limits kind) (length vs) (Some z)) (none s i o known e h.1) ∙
               ap (λ b. refused_turn {V = V} b) (le-ltb (length vs) 0 (omega arith)))
+
+module _ {I V O E : Type 0} {w : Model I ℕ} (l : InputLaws w) (errs : Errors I E) {g : Grammar I V O E} {Form : O → List ℕ → Type 0} {Follow : List ℕ → Type 0}
+    (all : (rest : List ℕ) → Follow rest) (p : Reads w g Form Follow) where
+  -- just that many items
+  pub count_reads : {M : Type 0} (count : ℕ) → Reads w (count_of {M = M} w errs count g)
+      (λ v xs. (length v.items ≡ count) × Each (ItemForm false Form) v.items xs) Anything
+  count_reads count = record {
+    reads = λ v xs h s. subst (λ n. ReadsBefore w ((items_meaning w errs (exact_limits n) (Unit {0}) g.meaning).answers s)
+        (λ ts. AllZip g.IsOutput ts v.items) Anything xs) h.0 (exact_reads w l errs g Form Follow all p s v.items xs h.1);
+  }
+
+  -- any number of items
+  pub many0_reads : {M : Type 0} → Reads w (many0_of {M = M} w errs g) (λ v. Each (ItemForm true Form) v.items) (NoItem w g.meaning)
+  many0_reads = record { reads = λ v xs h s. any_items_reads w l errs g Form Follow all p s Kind.Many0 v.items xs h }

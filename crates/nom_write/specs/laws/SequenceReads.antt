@@ -3,6 +3,7 @@ use Rattle.std.specs.Prelude.{◌≡◌, ℕ, ◌+◌, Bool, List, ◌++◌, ref
 use Rattle.std.proofs.Common.{sym, ◌∙◌, ap, subst, append_assoc}
 use Rattle.nom_internal.specs.Prelude.{Model, InputLaws, items_len, items_len-append, IsSuffixOf, Grammar, Outcome, Accept, GoesOn, Then, after}
 use Rattle.nom_internal.specs.Prelude.{PairOutput, pair_of}
+use Rattle.nom_internal.specs.Tuples.{tuple_of}
 use Rattle.nom_traits.specs.Rests.{same_cut}
 use Rattle.nom_sequence.specs.Sequences.{preceded_of, terminated_of}
 use Rattle.nom_write.specs.Parts.{Both, Meets}
@@ -40,25 +41,34 @@ module _ {I A P Q T : Type 0} (w : Model I A) (l : InputLaws w) (tree : P → Q 
           let whole : o ≡ Accept (n + m) t = g.4 ∙ ap (λ z. after n (tree f.0) z) k.1 in
           (t, subst (λ z. o ≡ Accept z t) (sym (items_len-append w.item_len xs ys)) whole, joins f.0 k.0 f.2 k.2)
 
-module _ {I V W O P E : Type 0} {w : Model I ℕ} (l : InputLaws w) (g : Grammar I V O E) (h : Grammar I W P E) where
-  module _ (FirstForm : O → List ℕ → Type 0) (NextForm : P → List ℕ → Type 0) (First Next : List ℕ → Type 0) where
-    pub pair_reads : {v : O × P} {xs : List ℕ} → Meets First (λ ys. (b : P) × NextForm b ys) Next →
-        ((a : O) (ys : List ℕ) → FirstForm a ys → Reads w g First a ys) → ((b : P) (ys : List ℕ) → NextForm b ys → Reads w h Next b ys) →
-        Both (FirstForm v.0) (NextForm v.1) xs → Reads w (pair_of w g h) Next v xs
-    pair_reads {v} meets p q f s = as_whole w f.whole (then_reads w l (λ u v. (u, v)) (g.meaning.answers s) (λ u. h.meaning.answers s)
+module _ {I V W O P E : Type 0} {w : Model I ℕ} (l : InputLaws w) {g : Grammar I V O E} {h : Grammar I W P E} where
+  pub pair_reads : {FirstForm : O → List ℕ → Type 0} {NextForm : P → List ℕ → Type 0} {First Next : List ℕ → Type 0} →
+      Meets First (λ ys. (b : P) × NextForm b ys) Next → Reads w g FirstForm First → Reads w h NextForm Next →
+      Reads w (pair_of w g h) (λ v. Both (FirstForm v.0) (NextForm v.1)) Next
+  pair_reads {First = First} {Next} meets p q = record {
+    reads = λ v xs f s. as_whole w f.whole (then_reads w l (λ u v. (u, v)) (g.meaning.answers s) (λ u. h.meaning.answers s)
         (λ t. g.IsOutput t v.0) (λ t. h.IsOutput t v.1) (λ t. PairOutput g.IsOutput h.IsOutput t v) (λ u v x y. (x, y)) First Next f.front f.back
-        (λ rest n. meets f.back rest (v.1, f.second) n) (p v.0 f.front f.first s) (λ u x. q v.1 f.back f.second s))
+        (λ rest n. meets f.back rest (v.1, f.second) n) (p.reads v.0 f.front f.first s) (λ u x. q.reads v.1 f.back f.second s));
+  }
 
-  pub preceded_reads : (bytes : List ℕ) (NextForm : P → List ℕ → Type 0) (Next : List ℕ → Type 0) {b : P} {xs : List ℕ} → ReadsSome w g Anything bytes →
-      ((b : P) (ys : List ℕ) → NextForm b ys → Reads w h Next b ys) → Both (λ ys. ys ≡ bytes) (NextForm b) xs → Reads w (preceded_of w g h) Next b xs
-  preceded_reads bytes NextForm Next {b} p q f s = as_whole w f.whole (then_reads w l (λ u v. v) (g.meaning.answers s) (λ u. h.meaning.answers s)
-      (λ u. Unit {0}) (λ t. h.IsOutput t b) (λ t. h.IsOutput t b) (λ u v x y. y) Anything Next f.front f.back (λ rest n. tt)
-      (subst (λ z. ReadsBefore w (g.meaning.answers s) (λ _. Unit {0}) Anything z) (sym f.first) (p s)) (λ u x. q b f.back f.second s))
+  pub preceded_reads : {bytes : List ℕ} {NextForm : P → List ℕ → Type 0} {Next : List ℕ → Type 0} → ReadsSome w g bytes → Reads w h NextForm Next →
+      Reads w (preceded_of w g h) (λ v. Both (λ ys. ys ≡ bytes) (NextForm v)) Next
+  preceded_reads {bytes} {Next = Next} p q = record {
+    reads = λ b xs f s. as_whole w f.whole (then_reads w l (λ u v. v) (g.meaning.answers s) (λ u. h.meaning.answers s)
+        (λ u. Unit {0}) (λ t. h.IsOutput t b) (λ t. h.IsOutput t b) (λ u v x y. y) Anything Next f.front f.back (λ rest n. tt)
+        (as_whole w f.first (p.reads s)) (λ u x. q.reads b f.back f.second s));
+  }
 
-  pub terminated_reads : (bytes : List ℕ) (FirstForm : O → List ℕ → Type 0) (First : List ℕ → Type 0) {a : O} {xs : List ℕ} →
-      ((rest : List ℕ) → First (bytes ++ rest)) → ((a : O) (ys : List ℕ) → FirstForm a ys → Reads w g First a ys) → ReadsSome w h Anything bytes →
-      Both (FirstForm a) (λ ys. ys ≡ bytes) xs → Reads w (terminated_of w g h) Anything a xs
-  terminated_reads bytes FirstForm First {a} meets p q f s = as_whole w f.whole (then_reads w l (λ u v. u) (g.meaning.answers s) (λ u. h.meaning.answers s)
-      (λ t. g.IsOutput t a) (λ v. Unit {0}) (λ t. g.IsOutput t a) (λ u v x y. x) First Anything f.front f.back
-      (λ rest n. subst (λ z. First (z ++ rest)) (sym f.second) (meets rest)) (p a f.front f.first s)
-      (λ u x. subst (λ z. ReadsBefore w (h.meaning.answers s) (λ _. Unit {0}) Anything z) (sym f.second) (q s)))
+  pub terminated_reads : {bytes : List ℕ} {FirstForm : O → List ℕ → Type 0} {First : List ℕ → Type 0} → ((rest : List ℕ) → First (bytes ++ rest)) →
+      Reads w g FirstForm First → ReadsSome w h bytes → Reads w (terminated_of w g h) (λ v. Both (FirstForm v) (λ ys. ys ≡ bytes)) Anything
+  terminated_reads {bytes} {First = First} meets p q = record {
+    reads = λ a xs f s. as_whole w f.whole (then_reads w l (λ u v. u) (g.meaning.answers s) (λ u. h.meaning.answers s)
+        (λ t. g.IsOutput t a) (λ v. Unit {0}) (λ t. g.IsOutput t a) (λ u v x y. x) First Anything f.front f.back
+        (λ rest n. subst (λ z. First (z ++ rest)) (sym f.second) (meets rest)) (p.reads a f.front f.first s)
+        (λ u x. as_whole w f.second (q.reads s)));
+  }
+
+-- a tuple, by the nested pairs of its outputs
+pub tuple_reads : {I V O F E : Type 0} {w : Model I ℕ} {g : Grammar I V O E} {Form : O → List ℕ → Type 0} {Follow : List ℕ → Type 0} (pairs : F → O) →
+    Reads w g Form Follow → Reads w (tuple_of pairs g) (λ v. Form (pairs v)) Follow
+tuple_reads pairs p = record { reads = λ v. p.reads (pairs v) }
