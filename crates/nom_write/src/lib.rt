@@ -7,6 +7,7 @@ pub mod list;
 pub mod number;
 pub mod promises;
 pub mod sequence;
+pub mod tuple;
 pub mod writer;
 
 pub use crate::writer::{Constant, WriteError, Writer};
