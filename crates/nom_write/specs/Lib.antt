@@ -1,6 +1,8 @@
+pub mod Choices
 pub mod Digits
 pub mod Lengths
 pub mod Lists
+pub mod Options
 pub mod Parts
 pub mod Reads
 pub mod Written

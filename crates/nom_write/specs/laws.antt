@@ -1,3 +1,4 @@
+pub mod ChoiceReads
 pub mod LeafReads
 pub mod LengthReads
 pub mod ListReads

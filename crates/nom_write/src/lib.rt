@@ -2,12 +2,14 @@
 #![tactic(auto)]
 
 pub mod bytes;
+pub mod choice;
 pub mod length;
 pub mod list;
 pub mod number;
 pub mod promises;
 pub mod sequence;
 pub mod tuple;
+pub mod verdict;
 pub mod writer;
 
 pub use crate::writer::{Constant, WriteError, Writer};

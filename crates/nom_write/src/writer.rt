@@ -1,5 +1,5 @@
 //! What a parser that also writes is.
-ghost use Rattle.std.specs.Prelude.{◌≡◌, ℕ, ◌≤◌, List, length, vec_capacity};
+ghost use Rattle.std.specs.Prelude.{◌≡◌, ℕ, ◌≤◌, false, IsTrue, List, length, vec_capacity};
 ghost use Rattle.nom_write.specs.Reads.{Reads, ReadsSome};
 ghost use Rattle.nom_write.specs.Written.{LacksRoom, Written};
 
@@ -16,6 +16,21 @@ pub enum WriteError {
     TooLong(usize),
     /// The part at this place isn't a value that its parser gives.
     Mismatch(usize),
+}
+
+impl WriteError {
+    /// Whether the value can't be written, whatever the memory.
+    #[inline(always)]
+    pub fn is_unfit(&self) -> bool
+        ensures unfit { IsTrue result → self.now ≡ WriteError.OutOfMemory → ⊥ }
+        ensures memory { result ≡ false → self.now ≡ WriteError.OutOfMemory }
+    {
+        match self {
+            WriteError::OutOfMemory => false,
+            WriteError::TooLong(_) => true,
+            WriteError::Mismatch(_) => true,
+        }
+    }
 }
 
 /// A parser of bytes that also writes: what it writes of a value, it reads back as that value.
