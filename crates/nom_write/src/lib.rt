@@ -5,6 +5,7 @@ pub mod bytes;
 pub mod choice;
 pub mod length;
 pub mod list;
+pub mod map;
 pub mod number;
 pub mod promises;
 pub mod sequence;
@@ -12,4 +13,5 @@ pub mod tuple;
 pub mod verdict;
 pub mod writer;
 
+pub use crate::map::{MapBoth, map_both};
 pub use crate::writer::{Constant, WriteError, Writer};

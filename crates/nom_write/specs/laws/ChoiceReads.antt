@@ -107,10 +107,10 @@ module _ {I V O E : Type 0} {w : Model I ℕ} {g : Grammar I V O E} {Form : O �
             (None, become_refused w opt_outcome (g.meaning.answers s) rest i o known whole (k.1 s) a ∙ ap (λ z. Accept (items_len w.item_len z) None) (sym f), refl);
       }
 
-  -- a map: what stands for an argument stands for what the closure gives for it
-  pub map_reads : {R : Type 0} (IsTaken : O → Type 0) (Gives : O → R → Type 0) → Reads w g Form Follow →
-      Reads w (map_by IsTaken Gives g) (λ v xs. (x : O) × Gives x v × Form x xs) Follow
-  map_reads {R} IsTaken Gives p = record {
-    reads = λ v xs f s. become_reads w (λ a. a) (λ u. u) (λ n u. refl) (g.meaning.answers s) (λ u. g.IsOutput u f.0) _ Follow Follow xs (λ rest k. k)
-        (λ u k. record { output = f.0; is_output = k; given = f.1 }) (p.reads f.0 xs f.2 s);
+  -- a map: what stands for what a value is mapped back to stands for the value, which it is mapped to again
+  pub map_back_reads : {R : Type 0} (IsTaken : O → Type 0) (Gives : O → R → Type 0) (Back : R → O → Type 0) →
+      ((v : R) (x : O) → Back v x → Gives x v) → Reads w g Form Follow → Reads w (map_by IsTaken Gives g) (λ v xs. (x : O) × Back v x × Form x xs) Follow
+  map_back_reads {R} IsTaken Gives Back again p = record {
+    reads = λ v xs f s. become_reads w (λ a. a) (λ u. u) (λ n u. refl) (g.meaning.answers s) (λ u. g.IsOutput u f.0) (λ t. (map_by IsTaken Gives g).IsOutput t v)
+        Follow Follow xs (λ rest k. k) (λ u k. record { output = f.0; is_output = k; given = again v f.0 f.1 }) (p.reads f.0 xs f.2 s);
   }
