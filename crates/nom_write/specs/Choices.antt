@@ -1,5 +1,5 @@
 -- Forms of a choice: the first part's, or where the first can't write a value the second's.
-use Rattle.std.specs.Prelude.{◌≡◌, ℕ, ◌⊎◌, List, ◌++◌}
+use Rattle.std.specs.Prelude.{◌≡◌, ℕ, ◌⊎◌, List, ◌∷◌, ◌++◌}
 use Rattle.nom_internal.specs.Prelude.{Model, Meaning}
 use Rattle.nom_write.specs.declared.writer.WriteError.{WriteError}
 use Rattle.nom_write.specs.declared.writer.WriteError.TheVariants.{OutOfMemory}
@@ -20,3 +20,7 @@ EitherFails FirstFails SecondFails room start e = (FirstFails room start e × (e
 -- whatever begins with bytes of a kind a parser refuses
 pub record Apart {I V E : Type 0} (w : Model I ℕ) (m : Meaning I V E) (Kind : List ℕ → Type 0) : Type 0 where
   pub refuses : (xs rest : List ℕ) → Kind xs → NoItem w m (xs ++ rest)
+
+-- they begin with a byte
+abbrev pub Begins : ℕ → List ℕ → Type 0
+Begins b xs = (ys : List ℕ) × (xs ≡ b ∷ ys)

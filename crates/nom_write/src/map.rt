@@ -1,5 +1,6 @@
 //! Maps, with a map back.
-ghost use Rattle.std.specs.Prelude.{◌≡◌};
+ghost use Rattle.std.specs.Prelude.{◌≡◌, ◌⊎◌, Some, None};
+ghost use Rattle.nom_write.specs.declared.writer.WriteError.{WriteError};
 ghost use Rattle.std.specs.Borrow.{Bor};
 ghost use Rattle.std.specs.Fn.{FnReturnsAt};
 ghost use Rattle.nom_internal.specs.Prelude.{SeesAlike, map_by};
@@ -22,8 +23,8 @@ pub struct MapBoth<F, G, H> {
     pub back: H,
 }
 
-/// Reads as `map(parser, to)`, and writes what `from` makes of a value. That `to` gives the value for it again has to be proved
-/// where a value is written.
+/// Reads as `map(parser, to)`, and writes what `from` makes of a value; where that is none, as of another variant of an enum, the
+/// value is a mismatch. That `to` gives the value for it again has to be proved where a value is written.
 #[inline(always)]
 pub fn map_both<F, G, H>(parser: F, to: G, from: H) -> MapBoth<F, G, H>
     ensures { result ≡ record { map = record { parser = parser; map = to }; back = from } }
@@ -70,35 +71,38 @@ impl<I: Items, F: StreamParser<I> + Drop, O: Viewed + Drop, G: Fn(F::Output) -> 
 
 /// What a closure maps a value back to.
 #[inline(always)]
-fn mapped_back<O, P, H: Fn(&O) -> P>(back: &H, value: &O) -> P
+fn mapped_back<O, P, H: Fn(&O) -> Option<P>>(back: &H, value: &O) -> Option<P>
     requires callable { (p : Bor O) → p.now ≡ value.now → H.pre back.now p }
     ensures { FnReturnsAt H.Fn back.now value.now result }
 {
     back(value)
 }
 
-/// What the value is mapped back to. It must be mapped to the value again.
+/// What the value is mapped back to, which must be mapped to the value again.
 impl<
     I: Items<Item = u8>,
     F: Writer<I> + Drop,
     O: Viewed + Drop,
     G: Fn(F::Output) -> O,
-    H: Fn(&O) -> F::Output,
+    H: Fn(&O) -> Option<F::Output>,
 > Writer<I> for MapBoth<F, G, H> {
-    ghost Form = { λ p v xs. (x : F.Output) × FnReturnsAt H.Fn p.back v x × F.Form p.map.parser x xs };
+    ghost Form = { λ p v xs. (x : F.Output) × FnReturnsAt H.Fn p.back v (Some x) × F.Form p.map.parser x xs };
 
-    ghost Fails = { λ p v room start e. (x : F.Output) × FnReturnsAt H.Fn p.back v x × F.Fails p.map.parser x room start e };
+    ghost Fails = { λ p v room start e. (FnReturnsAt H.Fn p.back v None × (e ≡ WriteError.Mismatch start)) ⊎
+        ((x : F.Output) × FnReturnsAt H.Fn p.back v (Some x) × F.Fails p.map.parser x room start e) };
 
     ghost MayFollow = { λ p. F.MayFollow p.map.parser };
 
     ghost CanWrite = { λ p. F.CanWrite p.map.parser × ((v : O) (r : Bor O) → r.now ≡ v → H.pre p.back r) ×
-        ((v : O) (x : F.Output) → FnReturnsAt H.Fn p.back v x → G.post p.map.map x v) };
+        ((v : O) (x : F.Output) → FnReturnsAt H.Fn p.back v (Some x) → G.post p.map.map x v) };
 
     #[inline]
     fn write<A: Allocator>(&self, value: &O, out: &mut Vec<u8, A>) -> Result<(), WriteError> {
-        let part = mapped_back(&self.back, value);
-        self.map.parser.write(&part, out)
+        match mapped_back(&self.back, value) {
+            Some(part) => self.map.parser.write(&part, out),
+            None => Err(WriteError::Mismatch(out.len())),
+        }
     }
 
-    ghost reads = { λ p k c. map_back_reads (G.pre p.map.map) (G.post p.map.map) (FnReturnsAt H.Fn p.back) c.2 (F.reads p.map.parser k c.0) };
+    ghost reads = { λ p k c. map_back_reads (G.pre p.map.map) (G.post p.map.map) (λ v x. FnReturnsAt H.Fn p.back v (Some x)) c.2 (F.reads p.map.parser k c.0) };
 }

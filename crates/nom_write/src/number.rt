@@ -7,7 +7,7 @@ ghost use Rattle.nom_write.specs.laws.LeafReads.{byte_reads, binary_reads};
 
 use crate::writer::{WriteError, Writer, add};
 use nom_error::value::ParseError;
-use nom_number::layout::{Layout, U8, U16, U24, U32, U64, U128};
+use nom_number::layout::{I8, I16, I32, I64, I128, Layout, U8, U16, U24, U32, U64, U128};
 use nom_number::{BeU8, Binary, Endianness};
 use nom_traits::input::Input;
 use std::alloc::Allocator;
@@ -92,6 +92,71 @@ impl ToBits for U24 {
             Some(*number as u128)
         } else {
             None
+        }
+    }
+}
+
+impl ToBits for I8 {
+    ghost Exceeds = { λ n. ⊥ };
+
+    #[inline(always)]
+    fn to_bits(number: &i8) -> Option<u128> {
+        if *number < 0 {
+            Some(0xff - (-(*number + 1)) as u128)
+        } else {
+            Some(*number as u128)
+        }
+    }
+}
+
+impl ToBits for I16 {
+    ghost Exceeds = { λ n. ⊥ };
+
+    #[inline(always)]
+    fn to_bits(number: &i16) -> Option<u128> {
+        if *number < 0 {
+            Some(0xffff - (-(*number + 1)) as u128)
+        } else {
+            Some(*number as u128)
+        }
+    }
+}
+
+impl ToBits for I32 {
+    ghost Exceeds = { λ n. ⊥ };
+
+    #[inline(always)]
+    fn to_bits(number: &i32) -> Option<u128> {
+        if *number < 0 {
+            Some(0xffffffff - (-(*number + 1)) as u128)
+        } else {
+            Some(*number as u128)
+        }
+    }
+}
+
+impl ToBits for I64 {
+    ghost Exceeds = { λ n. ⊥ };
+
+    #[inline(always)]
+    fn to_bits(number: &i64) -> Option<u128> {
+        if *number < 0 {
+            Some(0xffffffffffffffff - (-(*number + 1)) as u128)
+        } else {
+            Some(*number as u128)
+        }
+    }
+}
+
+impl ToBits for I128 {
+    ghost Exceeds = { λ n. ⊥ };
+
+    #[inline(always)]
+    fn to_bits(number: &i128) -> Option<u128> {
+        if *number < 0 {
+            Some(0xffffffffffffffffffffffffffffffff - (-(*number + 1)) as u128)
+        } else {
+            Some(*number as u128)
         }
     }
 }
