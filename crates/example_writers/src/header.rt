@@ -18,13 +18,27 @@ pub fn write_header<A: Allocator>(
     out: &mut Vec<u8, A>,
 ) -> Result<(), WriteError> {
     let version = preceded(tag::<_, _, Error<&[u8]>>(&b"H"[..]), be_u8());
-    let fields = (version, be_u16(), be_u32(), le_u16(), length_data(be_u8()), be_u64());
+    let fields = (
+        version,
+        be_u16(),
+        be_u32(),
+        le_u16(),
+        length_data(be_u8()),
+        be_u64(),
+    );
     fields.write(header, out)
 }
 
 /// Reads a header.
 pub fn read_header(bytes: &[u8]) -> IResult<&[u8], Header<'_>> {
     let version = preceded(tag(&b"H"[..]), be_u8());
-    let mut fields = (version, be_u16(), be_u32(), le_u16(), length_data(be_u8()), be_u64());
+    let mut fields = (
+        version,
+        be_u16(),
+        be_u32(),
+        le_u16(),
+        length_data(be_u8()),
+        be_u64(),
+    );
     fields.parse(bytes)
 }

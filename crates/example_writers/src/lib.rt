@@ -3,4 +3,3 @@
 
 pub mod header;
 pub mod records;
-
