@@ -1,7 +1,8 @@
 -- What begins with another byte than a tag is refused, by the tag, and by what begins with it.
 use Rattle.std.proofs.Common.{◌≡◌, ℕ, Bool, List, ◌∷◌, ◌++◌, length, refl, sym, ◌∙◌, ap, subst}
 use Rattle.std.specs.Borrow.{Bor}
-use Rattle.nom_internal.specs.Prelude.{Errors, Family, GoesOn, LeafAnswers, Meaning, Model, Modes, Outcome, Accept, Refuse, Stop, Fails, Needs, Slice, then_meaning}
+use Rattle.nom_internal.specs.Prelude.{Errors, Family, GoesOn, LeafAnswers, Meaning, Model, Modes, Outcome, Accept, Refuse, Stop, Fails, Needs, Slice}
+use Rattle.nom_internal.specs.Prelude.{then_meaning}
 use Rattle.nom_internal.specs.Prelude.{bytes_model, ComparesBytes}
 use Rattle.nom_bytes.specs.Tags.{tag_meaning, tags}
 use Rattle.nom_write.specs.Choices.{Apart, Begins}
@@ -36,5 +37,6 @@ tag_apart errs tag a b more tag_is apart = record { refuses = refuses }
 pub then_apart : {I P Q T E : Type 0} (w : Model I ℕ) (tree : P → Q → T) (first next : Modes → Modes) (m : Meaning I P E) (f : Family P I Q E)
     (Kind : List ℕ → Type 0) → Apart w m Kind → Apart w (then_meaning w tree first next m f) Kind
 then_apart w tree first next m f Kind p = record {
-  refuses = λ xs rest k s i o known e a. subst (λ z. GoesOn w tree (λ u. (f.at u).answers s) i z o) (p.refuses xs rest k s i a.first known e a.answered) a.goes_on;
+  refuses = λ xs rest k s i o known e a. subst (λ z. GoesOn w tree (λ u. (f.at u).answers s) i z o)
+      (p.refuses xs rest k s i a.first known e a.answered) a.goes_on;
 }

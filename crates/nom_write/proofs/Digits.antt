@@ -52,7 +52,8 @@ low_more i (suc k) n = ap (λ xs. byte_at i n ∷ xs) (low_more (suc i) k n ∙ 
 -- the one order is the other, turned around
 turned : (k n : ℕ) → reverse (bytes_low_first 0 k n) ≡ bytes_high_first k n
 turned zero n = refl
-turned (suc k) n = ap reverse (low_more 0 k n ∙ ap (λ j. bytes_low_first 0 k n ++ byte_at j n ∷ []) (omega arith)) ∙ (reverse-append (bytes_low_first 0 k n) (byte_at k n ∷ []) ∙ ap (λ xs. byte_at k n ∷ xs) (turned k n))
+turned (suc k) n = ap reverse (low_more 0 k n ∙ ap (λ j. bytes_low_first 0 k n ++ byte_at j n ∷ []) (omega arith)) ∙ (reverse-append
+    (bytes_low_first 0 k n) (byte_at k n ∷ []) ∙ ap (λ xs. byte_at k n ∷ xs) (turned k n))
 
 byte_is : (k n : ℕ) → byte_at k n ≡ n / 256 ^ k % 256
 byte_is zero n = omega arith

@@ -44,7 +44,8 @@ module _ {O : Type 0} (Form : O → List ℕ → Type 0) (Fails : O → (room st
               (inr (b.0, b.2, subst (λ n. EachFail Form Fails (drop (k + 1) vs) room n e) longer h)));
         }
 
-    pub one_fails : (old mid : List ℕ) → SoFar k old mid → (room : ℕ) (e : WriteError) → Fails v room (length mid) e → EachFail Form Fails vs room (length old) e
+    pub one_fails : (old mid : List ℕ) → SoFar k old mid → (room : ℕ) (e : WriteError) → Fails v room (length mid) e → EachFail Form Fails vs room
+        (length old) e
     one_fails old mid a room e h = a.fails room e (subst (λ us. EachFail Form Fails us room (length mid) e) (sym here) (inl h))
 
   pub all_added : (k : ℕ) → length vs ≤ k → (old new : List ℕ) → SoFar k old new → (xs : List ℕ) × (new ≡ old ++ xs) × Each Form vs xs

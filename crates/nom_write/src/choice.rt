@@ -55,7 +55,8 @@ fn write_first_of_three<
     requires first { P.CanWrite first.now }
     requires second { Q.CanWrite second.now }
     requires third { R.CanWrite third.now }
-    ensures written { Written (Either (Either (P.Form first.now value.now) (P.Fails first.now value.now) (Q.Form second.now value.now)) (EitherFails (P.Fails first.now value.now) (Q.Fails second.now value.now)) (R.Form third.now value.now))
+    ensures written { Written (Either (Either (P.Form first.now value.now) (P.Fails first.now value.now) (Q.Form second.now value.now)) (EitherFails
+        (P.Fails first.now value.now) (Q.Fails second.now value.now)) (R.Form third.now value.now))
         (EitherFails (EitherFails (P.Fails first.now value.now) (Q.Fails second.now value.now)) (R.Fails third.now value.now)) out.old out.new result }
     ensures room { vec_capacity out.old ≤ vec_capacity out.new }
 {
@@ -92,8 +93,11 @@ fn write_first_of_four<
     requires second { Q.CanWrite second.now }
     requires third { R.CanWrite third.now }
     requires fourth { S.CanWrite fourth.now }
-    ensures written { Written (Either (Either (Either (P.Form first.now value.now) (P.Fails first.now value.now) (Q.Form second.now value.now)) (EitherFails (P.Fails first.now value.now) (Q.Fails second.now value.now)) (R.Form third.now value.now)) (EitherFails (EitherFails (P.Fails first.now value.now) (Q.Fails second.now value.now)) (R.Fails third.now value.now)) (S.Form fourth.now value.now))
-        (EitherFails (EitherFails (EitherFails (P.Fails first.now value.now) (Q.Fails second.now value.now)) (R.Fails third.now value.now)) (S.Fails fourth.now value.now)) out.old out.new result }
+    ensures written { Written (Either (Either (Either (P.Form first.now value.now) (P.Fails first.now value.now) (Q.Form second.now value.now))
+        (EitherFails (P.Fails first.now value.now) (Q.Fails second.now value.now)) (R.Form third.now value.now)) (EitherFails (EitherFails
+        (P.Fails first.now value.now) (Q.Fails second.now value.now)) (R.Fails third.now value.now)) (S.Form fourth.now value.now))
+        (EitherFails (EitherFails (EitherFails (P.Fails first.now value.now) (Q.Fails second.now value.now)) (R.Fails third.now value.now))
+        (S.Fails fourth.now value.now)) out.old out.new result }
     ensures room { vec_capacity out.old ≤ vec_capacity out.new }
 {
     match write_first_of_three::<I, P, Q, R, A>(first, second, third, value, out) {
@@ -132,8 +136,13 @@ fn write_first_of_five<
     requires third { R.CanWrite third.now }
     requires fourth { S.CanWrite fourth.now }
     requires fifth { T.CanWrite fifth.now }
-    ensures written { Written (Either (Either (Either (Either (P.Form first.now value.now) (P.Fails first.now value.now) (Q.Form second.now value.now)) (EitherFails (P.Fails first.now value.now) (Q.Fails second.now value.now)) (R.Form third.now value.now)) (EitherFails (EitherFails (P.Fails first.now value.now) (Q.Fails second.now value.now)) (R.Fails third.now value.now)) (S.Form fourth.now value.now)) (EitherFails (EitherFails (EitherFails (P.Fails first.now value.now) (Q.Fails second.now value.now)) (R.Fails third.now value.now)) (S.Fails fourth.now value.now)) (T.Form fifth.now value.now))
-        (EitherFails (EitherFails (EitherFails (EitherFails (P.Fails first.now value.now) (Q.Fails second.now value.now)) (R.Fails third.now value.now)) (S.Fails fourth.now value.now)) (T.Fails fifth.now value.now)) out.old out.new result }
+    ensures written { Written (Either (Either (Either (Either (P.Form first.now value.now) (P.Fails first.now value.now)
+        (Q.Form second.now value.now)) (EitherFails (P.Fails first.now value.now) (Q.Fails second.now value.now)) (R.Form third.now value.now))
+        (EitherFails (EitherFails (P.Fails first.now value.now) (Q.Fails second.now value.now)) (R.Fails third.now value.now))
+        (S.Form fourth.now value.now)) (EitherFails (EitherFails (EitherFails (P.Fails first.now value.now) (Q.Fails second.now value.now))
+        (R.Fails third.now value.now)) (S.Fails fourth.now value.now)) (T.Form fifth.now value.now))
+        (EitherFails (EitherFails (EitherFails (EitherFails (P.Fails first.now value.now) (Q.Fails second.now value.now))
+        (R.Fails third.now value.now)) (S.Fails fourth.now value.now)) (T.Fails fifth.now value.now)) out.old out.new result }
     ensures room { vec_capacity out.old ≤ vec_capacity out.new }
 {
     match write_first_of_four::<I, P, Q, R, S, A>(first, second, third, fourth, value, out) {
@@ -175,8 +184,16 @@ fn write_first_of_six<
     requires fourth { S.CanWrite fourth.now }
     requires fifth { T.CanWrite fifth.now }
     requires sixth { U.CanWrite sixth.now }
-    ensures written { Written (Either (Either (Either (Either (Either (P.Form first.now value.now) (P.Fails first.now value.now) (Q.Form second.now value.now)) (EitherFails (P.Fails first.now value.now) (Q.Fails second.now value.now)) (R.Form third.now value.now)) (EitherFails (EitherFails (P.Fails first.now value.now) (Q.Fails second.now value.now)) (R.Fails third.now value.now)) (S.Form fourth.now value.now)) (EitherFails (EitherFails (EitherFails (P.Fails first.now value.now) (Q.Fails second.now value.now)) (R.Fails third.now value.now)) (S.Fails fourth.now value.now)) (T.Form fifth.now value.now)) (EitherFails (EitherFails (EitherFails (EitherFails (P.Fails first.now value.now) (Q.Fails second.now value.now)) (R.Fails third.now value.now)) (S.Fails fourth.now value.now)) (T.Fails fifth.now value.now)) (U.Form sixth.now value.now))
-        (EitherFails (EitherFails (EitherFails (EitherFails (EitherFails (P.Fails first.now value.now) (Q.Fails second.now value.now)) (R.Fails third.now value.now)) (S.Fails fourth.now value.now)) (T.Fails fifth.now value.now)) (U.Fails sixth.now value.now)) out.old out.new result }
+    ensures written { Written (Either (Either (Either (Either (Either (P.Form first.now value.now) (P.Fails first.now value.now)
+        (Q.Form second.now value.now)) (EitherFails (P.Fails first.now value.now) (Q.Fails second.now value.now)) (R.Form third.now value.now))
+        (EitherFails (EitherFails (P.Fails first.now value.now) (Q.Fails second.now value.now)) (R.Fails third.now value.now))
+        (S.Form fourth.now value.now)) (EitherFails (EitherFails (EitherFails (P.Fails first.now value.now) (Q.Fails second.now value.now))
+        (R.Fails third.now value.now)) (S.Fails fourth.now value.now)) (T.Form fifth.now value.now)) (EitherFails (EitherFails (EitherFails
+        (EitherFails (P.Fails first.now value.now) (Q.Fails second.now value.now)) (R.Fails third.now value.now)) (S.Fails fourth.now value.now))
+        (T.Fails fifth.now value.now)) (U.Form sixth.now value.now))
+        (EitherFails (EitherFails (EitherFails (EitherFails (EitherFails (P.Fails first.now value.now) (Q.Fails second.now value.now))
+        (R.Fails third.now value.now)) (S.Fails fourth.now value.now)) (T.Fails fifth.now value.now))
+        (U.Fails sixth.now value.now)) out.old out.new result }
     ensures room { vec_capacity out.old ≤ vec_capacity out.new }
 {
     match write_first_of_five::<I, P, Q, R, S, T, A>(
@@ -223,8 +240,18 @@ fn write_first_of_seven<
     requires fifth { T.CanWrite fifth.now }
     requires sixth { U.CanWrite sixth.now }
     requires seventh { V.CanWrite seventh.now }
-    ensures written { Written (Either (Either (Either (Either (Either (Either (P.Form first.now value.now) (P.Fails first.now value.now) (Q.Form second.now value.now)) (EitherFails (P.Fails first.now value.now) (Q.Fails second.now value.now)) (R.Form third.now value.now)) (EitherFails (EitherFails (P.Fails first.now value.now) (Q.Fails second.now value.now)) (R.Fails third.now value.now)) (S.Form fourth.now value.now)) (EitherFails (EitherFails (EitherFails (P.Fails first.now value.now) (Q.Fails second.now value.now)) (R.Fails third.now value.now)) (S.Fails fourth.now value.now)) (T.Form fifth.now value.now)) (EitherFails (EitherFails (EitherFails (EitherFails (P.Fails first.now value.now) (Q.Fails second.now value.now)) (R.Fails third.now value.now)) (S.Fails fourth.now value.now)) (T.Fails fifth.now value.now)) (U.Form sixth.now value.now)) (EitherFails (EitherFails (EitherFails (EitherFails (EitherFails (P.Fails first.now value.now) (Q.Fails second.now value.now)) (R.Fails third.now value.now)) (S.Fails fourth.now value.now)) (T.Fails fifth.now value.now)) (U.Fails sixth.now value.now)) (V.Form seventh.now value.now))
-        (EitherFails (EitherFails (EitherFails (EitherFails (EitherFails (EitherFails (P.Fails first.now value.now) (Q.Fails second.now value.now)) (R.Fails third.now value.now)) (S.Fails fourth.now value.now)) (T.Fails fifth.now value.now)) (U.Fails sixth.now value.now)) (V.Fails seventh.now value.now)) out.old out.new result }
+    ensures written { Written (Either (Either (Either (Either (Either (Either (P.Form first.now value.now) (P.Fails first.now value.now)
+        (Q.Form second.now value.now)) (EitherFails (P.Fails first.now value.now) (Q.Fails second.now value.now)) (R.Form third.now value.now))
+        (EitherFails (EitherFails (P.Fails first.now value.now) (Q.Fails second.now value.now)) (R.Fails third.now value.now))
+        (S.Form fourth.now value.now)) (EitherFails (EitherFails (EitherFails (P.Fails first.now value.now) (Q.Fails second.now value.now))
+        (R.Fails third.now value.now)) (S.Fails fourth.now value.now)) (T.Form fifth.now value.now)) (EitherFails (EitherFails (EitherFails
+        (EitherFails (P.Fails first.now value.now) (Q.Fails second.now value.now)) (R.Fails third.now value.now)) (S.Fails fourth.now value.now))
+        (T.Fails fifth.now value.now)) (U.Form sixth.now value.now)) (EitherFails (EitherFails (EitherFails (EitherFails (EitherFails
+        (P.Fails first.now value.now) (Q.Fails second.now value.now)) (R.Fails third.now value.now)) (S.Fails fourth.now value.now))
+        (T.Fails fifth.now value.now)) (U.Fails sixth.now value.now)) (V.Form seventh.now value.now))
+        (EitherFails (EitherFails (EitherFails (EitherFails (EitherFails (EitherFails (P.Fails first.now value.now) (Q.Fails second.now value.now))
+        (R.Fails third.now value.now)) (S.Fails fourth.now value.now)) (T.Fails fifth.now value.now)) (U.Fails sixth.now value.now))
+        (V.Fails seventh.now value.now)) out.old out.new result }
     ensures room { vec_capacity out.old ≤ vec_capacity out.new }
 {
     match write_first_of_six::<I, P, Q, R, S, T, U, A>(
@@ -274,8 +301,21 @@ fn write_first_of_eight<
     requires sixth { U.CanWrite sixth.now }
     requires seventh { V.CanWrite seventh.now }
     requires eighth { W.CanWrite eighth.now }
-    ensures written { Written (Either (Either (Either (Either (Either (Either (Either (P.Form first.now value.now) (P.Fails first.now value.now) (Q.Form second.now value.now)) (EitherFails (P.Fails first.now value.now) (Q.Fails second.now value.now)) (R.Form third.now value.now)) (EitherFails (EitherFails (P.Fails first.now value.now) (Q.Fails second.now value.now)) (R.Fails third.now value.now)) (S.Form fourth.now value.now)) (EitherFails (EitherFails (EitherFails (P.Fails first.now value.now) (Q.Fails second.now value.now)) (R.Fails third.now value.now)) (S.Fails fourth.now value.now)) (T.Form fifth.now value.now)) (EitherFails (EitherFails (EitherFails (EitherFails (P.Fails first.now value.now) (Q.Fails second.now value.now)) (R.Fails third.now value.now)) (S.Fails fourth.now value.now)) (T.Fails fifth.now value.now)) (U.Form sixth.now value.now)) (EitherFails (EitherFails (EitherFails (EitherFails (EitherFails (P.Fails first.now value.now) (Q.Fails second.now value.now)) (R.Fails third.now value.now)) (S.Fails fourth.now value.now)) (T.Fails fifth.now value.now)) (U.Fails sixth.now value.now)) (V.Form seventh.now value.now)) (EitherFails (EitherFails (EitherFails (EitherFails (EitherFails (EitherFails (P.Fails first.now value.now) (Q.Fails second.now value.now)) (R.Fails third.now value.now)) (S.Fails fourth.now value.now)) (T.Fails fifth.now value.now)) (U.Fails sixth.now value.now)) (V.Fails seventh.now value.now)) (W.Form eighth.now value.now))
-        (EitherFails (EitherFails (EitherFails (EitherFails (EitherFails (EitherFails (EitherFails (P.Fails first.now value.now) (Q.Fails second.now value.now)) (R.Fails third.now value.now)) (S.Fails fourth.now value.now)) (T.Fails fifth.now value.now)) (U.Fails sixth.now value.now)) (V.Fails seventh.now value.now)) (W.Fails eighth.now value.now)) out.old out.new result }
+    ensures written { Written (Either (Either (Either (Either (Either (Either (Either (P.Form first.now value.now) (P.Fails first.now value.now)
+        (Q.Form second.now value.now)) (EitherFails (P.Fails first.now value.now) (Q.Fails second.now value.now)) (R.Form third.now value.now))
+        (EitherFails (EitherFails (P.Fails first.now value.now) (Q.Fails second.now value.now)) (R.Fails third.now value.now))
+        (S.Form fourth.now value.now)) (EitherFails (EitherFails (EitherFails (P.Fails first.now value.now) (Q.Fails second.now value.now))
+        (R.Fails third.now value.now)) (S.Fails fourth.now value.now)) (T.Form fifth.now value.now)) (EitherFails (EitherFails (EitherFails
+        (EitherFails (P.Fails first.now value.now) (Q.Fails second.now value.now)) (R.Fails third.now value.now)) (S.Fails fourth.now value.now))
+        (T.Fails fifth.now value.now)) (U.Form sixth.now value.now)) (EitherFails (EitherFails (EitherFails (EitherFails (EitherFails
+        (P.Fails first.now value.now) (Q.Fails second.now value.now)) (R.Fails third.now value.now)) (S.Fails fourth.now value.now))
+        (T.Fails fifth.now value.now)) (U.Fails sixth.now value.now)) (V.Form seventh.now value.now)) (EitherFails (EitherFails (EitherFails
+        (EitherFails (EitherFails (EitherFails (P.Fails first.now value.now) (Q.Fails second.now value.now)) (R.Fails third.now value.now))
+        (S.Fails fourth.now value.now)) (T.Fails fifth.now value.now)) (U.Fails sixth.now value.now)) (V.Fails seventh.now value.now))
+        (W.Form eighth.now value.now))
+        (EitherFails (EitherFails (EitherFails (EitherFails (EitherFails (EitherFails (EitherFails (P.Fails first.now value.now)
+        (Q.Fails second.now value.now)) (R.Fails third.now value.now)) (S.Fails fourth.now value.now)) (T.Fails fifth.now value.now))
+        (U.Fails sixth.now value.now)) (V.Fails seventh.now value.now)) (W.Fails eighth.now value.now)) out.old out.new result }
     ensures room { vec_capacity out.old ≤ vec_capacity out.new }
 {
     match write_first_of_seven::<I, P, Q, R, S, T, U, V, A>(
@@ -340,7 +380,8 @@ impl<I: Items<Item = u8>, P: Writer<I>, Q: Writer<I, Error = P::Error, Output = 
         write_first_of_two::<I, P, Q, A>(&self.parsers.0, &self.parsers.1, value, out)
     }
 
-    ghost reads = { λ p k c. alt_reads P.Error.errors (either_reads P.Error.errors.joined P.Error.errors.grows c.1 (P.reads p.parsers.0 k.0 c.0.0) (Q.reads p.parsers.1 k.1 c.0.1)) };
+    ghost reads = { λ p k c. alt_reads P.Error.errors (either_reads P.Error.errors.joined P.Error.errors.grows c.1 (P.reads p.parsers.0 k.0 c.0.0)
+        (Q.reads p.parsers.1 k.1 c.0.1)) };
 }
 
 impl<
@@ -349,7 +390,8 @@ impl<
     Q: Writer<I, Error = P::Error, Output = P::Output>,
     R: Writer<I, Error = P::Error, Output = P::Output>,
 > Writer<I> for Choice<(P, Q, R)> {
-    ghost Form = { λ p v. Either (Either (P.Form p.parsers.0 v) (P.Fails p.parsers.0 v) (Q.Form p.parsers.1 v)) (EitherFails (P.Fails p.parsers.0 v) (Q.Fails p.parsers.1 v)) (R.Form p.parsers.2 v) };
+    ghost Form = { λ p v. Either (Either (P.Form p.parsers.0 v) (P.Fails p.parsers.0 v) (Q.Form p.parsers.1 v)) (EitherFails (P.Fails p.parsers.0 v)
+        (Q.Fails p.parsers.1 v)) (R.Form p.parsers.2 v) };
 
     ghost Fails = { λ p v. EitherFails (EitherFails (P.Fails p.parsers.0 v) (Q.Fails p.parsers.1 v)) (R.Fails p.parsers.2 v) };
 
@@ -375,7 +417,9 @@ impl<
         )
     }
 
-    ghost reads = { λ p k c. alt_reads P.Error.errors (either_reads P.Error.errors.joined P.Error.errors.grows (either_apart P.Error.errors.joined P.Error.errors.grows c.2.0 c.2.1) (either_reads P.Error.errors.joined P.Error.errors.grows c.1 (P.reads p.parsers.0 k.0.0 c.0.0) (Q.reads p.parsers.1 k.0.1 c.0.1)) (R.reads p.parsers.2 k.1 c.0.2)) };
+    ghost reads = { λ p k c. alt_reads P.Error.errors (either_reads P.Error.errors.joined P.Error.errors.grows
+        (either_apart P.Error.errors.joined P.Error.errors.grows c.2.0 c.2.1) (either_reads P.Error.errors.joined P.Error.errors.grows c.1
+        (P.reads p.parsers.0 k.0.0 c.0.0) (Q.reads p.parsers.1 k.0.1 c.0.1)) (R.reads p.parsers.2 k.1 c.0.2)) };
 }
 
 impl<
@@ -385,11 +429,15 @@ impl<
     R: Writer<I, Error = P::Error, Output = P::Output>,
     S: Writer<I, Error = P::Error, Output = P::Output>,
 > Writer<I> for Choice<(P, Q, R, S)> {
-    ghost Form = { λ p v. Either (Either (Either (P.Form p.parsers.0 v) (P.Fails p.parsers.0 v) (Q.Form p.parsers.1 v)) (EitherFails (P.Fails p.parsers.0 v) (Q.Fails p.parsers.1 v)) (R.Form p.parsers.2 v)) (EitherFails (EitherFails (P.Fails p.parsers.0 v) (Q.Fails p.parsers.1 v)) (R.Fails p.parsers.2 v)) (S.Form p.parsers.3 v) };
+    ghost Form = { λ p v. Either (Either (Either (P.Form p.parsers.0 v) (P.Fails p.parsers.0 v) (Q.Form p.parsers.1 v)) (EitherFails
+        (P.Fails p.parsers.0 v) (Q.Fails p.parsers.1 v)) (R.Form p.parsers.2 v)) (EitherFails (EitherFails (P.Fails p.parsers.0 v)
+        (Q.Fails p.parsers.1 v)) (R.Fails p.parsers.2 v)) (S.Form p.parsers.3 v) };
 
-    ghost Fails = { λ p v. EitherFails (EitherFails (EitherFails (P.Fails p.parsers.0 v) (Q.Fails p.parsers.1 v)) (R.Fails p.parsers.2 v)) (S.Fails p.parsers.3 v) };
+    ghost Fails = { λ p v. EitherFails (EitherFails (EitherFails (P.Fails p.parsers.0 v) (Q.Fails p.parsers.1 v)) (R.Fails p.parsers.2 v))
+        (S.Fails p.parsers.3 v) };
 
-    ghost MayFollow = { λ p rest. (((P.MayFollow p.parsers.0 rest) × Q.MayFollow p.parsers.1 rest) × R.MayFollow p.parsers.2 rest) × S.MayFollow p.parsers.3 rest };
+    ghost MayFollow = { λ p rest. (((P.MayFollow p.parsers.0 rest) × Q.MayFollow p.parsers.1 rest) × R.MayFollow p.parsers.2 rest) × S.MayFollow
+        p.parsers.3 rest };
 
     ghost CanWrite = { λ p. (P.CanWrite p.parsers.0 × Q.CanWrite p.parsers.1 × R.CanWrite p.parsers.2 × S.CanWrite p.parsers.3) ×
         (Apart I.model (P.grammar (P.state p.parsers.0)).meaning (λ xs. (v : P.Output) × Q.Form p.parsers.1 v xs)) ×
@@ -415,7 +463,11 @@ impl<
         )
     }
 
-    ghost reads = { λ p k c. alt_reads P.Error.errors (either_reads P.Error.errors.joined P.Error.errors.grows (either_apart P.Error.errors.joined P.Error.errors.grows (either_apart P.Error.errors.joined P.Error.errors.grows c.3.0 c.3.1) c.3.2) (either_reads P.Error.errors.joined P.Error.errors.grows (either_apart P.Error.errors.joined P.Error.errors.grows c.2.0 c.2.1) (either_reads P.Error.errors.joined P.Error.errors.grows c.1 (P.reads p.parsers.0 k.0.0.0 c.0.0) (Q.reads p.parsers.1 k.0.0.1 c.0.1)) (R.reads p.parsers.2 k.0.1 c.0.2)) (S.reads p.parsers.3 k.1 c.0.3)) };
+    ghost reads = { λ p k c. alt_reads P.Error.errors (either_reads P.Error.errors.joined P.Error.errors.grows
+        (either_apart P.Error.errors.joined P.Error.errors.grows (either_apart P.Error.errors.joined P.Error.errors.grows c.3.0 c.3.1) c.3.2)
+        (either_reads P.Error.errors.joined P.Error.errors.grows (either_apart P.Error.errors.joined P.Error.errors.grows c.2.0 c.2.1)
+        (either_reads P.Error.errors.joined P.Error.errors.grows c.1 (P.reads p.parsers.0 k.0.0.0 c.0.0) (Q.reads p.parsers.1 k.0.0.1 c.0.1))
+        (R.reads p.parsers.2 k.0.1 c.0.2)) (S.reads p.parsers.3 k.1 c.0.3)) };
 }
 
 impl<
@@ -426,11 +478,16 @@ impl<
     S: Writer<I, Error = P::Error, Output = P::Output>,
     T: Writer<I, Error = P::Error, Output = P::Output>,
 > Writer<I> for Choice<(P, Q, R, S, T)> {
-    ghost Form = { λ p v. Either (Either (Either (Either (P.Form p.parsers.0 v) (P.Fails p.parsers.0 v) (Q.Form p.parsers.1 v)) (EitherFails (P.Fails p.parsers.0 v) (Q.Fails p.parsers.1 v)) (R.Form p.parsers.2 v)) (EitherFails (EitherFails (P.Fails p.parsers.0 v) (Q.Fails p.parsers.1 v)) (R.Fails p.parsers.2 v)) (S.Form p.parsers.3 v)) (EitherFails (EitherFails (EitherFails (P.Fails p.parsers.0 v) (Q.Fails p.parsers.1 v)) (R.Fails p.parsers.2 v)) (S.Fails p.parsers.3 v)) (T.Form p.parsers.4 v) };
+    ghost Form = { λ p v. Either (Either (Either (Either (P.Form p.parsers.0 v) (P.Fails p.parsers.0 v) (Q.Form p.parsers.1 v)) (EitherFails
+        (P.Fails p.parsers.0 v) (Q.Fails p.parsers.1 v)) (R.Form p.parsers.2 v)) (EitherFails (EitherFails (P.Fails p.parsers.0 v)
+        (Q.Fails p.parsers.1 v)) (R.Fails p.parsers.2 v)) (S.Form p.parsers.3 v)) (EitherFails (EitherFails (EitherFails (P.Fails p.parsers.0 v)
+        (Q.Fails p.parsers.1 v)) (R.Fails p.parsers.2 v)) (S.Fails p.parsers.3 v)) (T.Form p.parsers.4 v) };
 
-    ghost Fails = { λ p v. EitherFails (EitherFails (EitherFails (EitherFails (P.Fails p.parsers.0 v) (Q.Fails p.parsers.1 v)) (R.Fails p.parsers.2 v)) (S.Fails p.parsers.3 v)) (T.Fails p.parsers.4 v) };
+    ghost Fails = { λ p v. EitherFails (EitherFails (EitherFails (EitherFails (P.Fails p.parsers.0 v) (Q.Fails p.parsers.1 v))
+        (R.Fails p.parsers.2 v)) (S.Fails p.parsers.3 v)) (T.Fails p.parsers.4 v) };
 
-    ghost MayFollow = { λ p rest. ((((P.MayFollow p.parsers.0 rest) × Q.MayFollow p.parsers.1 rest) × R.MayFollow p.parsers.2 rest) × S.MayFollow p.parsers.3 rest) × T.MayFollow p.parsers.4 rest };
+    ghost MayFollow = { λ p rest. ((((P.MayFollow p.parsers.0 rest) × Q.MayFollow p.parsers.1 rest) × R.MayFollow p.parsers.2 rest) × S.MayFollow
+        p.parsers.3 rest) × T.MayFollow p.parsers.4 rest };
 
     ghost CanWrite = { λ p. (P.CanWrite p.parsers.0 × Q.CanWrite p.parsers.1 × R.CanWrite p.parsers.2 × S.CanWrite p.parsers.3 × T.CanWrite p.parsers.4) ×
         (Apart I.model (P.grammar (P.state p.parsers.0)).meaning (λ xs. (v : P.Output) × Q.Form p.parsers.1 v xs)) ×
@@ -461,7 +518,13 @@ impl<
         )
     }
 
-    ghost reads = { λ p k c. alt_reads P.Error.errors (either_reads P.Error.errors.joined P.Error.errors.grows (either_apart P.Error.errors.joined P.Error.errors.grows (either_apart P.Error.errors.joined P.Error.errors.grows (either_apart P.Error.errors.joined P.Error.errors.grows c.4.0 c.4.1) c.4.2) c.4.3) (either_reads P.Error.errors.joined P.Error.errors.grows (either_apart P.Error.errors.joined P.Error.errors.grows (either_apart P.Error.errors.joined P.Error.errors.grows c.3.0 c.3.1) c.3.2) (either_reads P.Error.errors.joined P.Error.errors.grows (either_apart P.Error.errors.joined P.Error.errors.grows c.2.0 c.2.1) (either_reads P.Error.errors.joined P.Error.errors.grows c.1 (P.reads p.parsers.0 k.0.0.0.0 c.0.0) (Q.reads p.parsers.1 k.0.0.0.1 c.0.1)) (R.reads p.parsers.2 k.0.0.1 c.0.2)) (S.reads p.parsers.3 k.0.1 c.0.3)) (T.reads p.parsers.4 k.1 c.0.4)) };
+    ghost reads = { λ p k c. alt_reads P.Error.errors (either_reads P.Error.errors.joined P.Error.errors.grows
+        (either_apart P.Error.errors.joined P.Error.errors.grows (either_apart P.Error.errors.joined P.Error.errors.grows
+        (either_apart P.Error.errors.joined P.Error.errors.grows c.4.0 c.4.1) c.4.2) c.4.3) (either_reads P.Error.errors.joined P.Error.errors.grows
+        (either_apart P.Error.errors.joined P.Error.errors.grows (either_apart P.Error.errors.joined P.Error.errors.grows c.3.0 c.3.1) c.3.2)
+        (either_reads P.Error.errors.joined P.Error.errors.grows (either_apart P.Error.errors.joined P.Error.errors.grows c.2.0 c.2.1)
+        (either_reads P.Error.errors.joined P.Error.errors.grows c.1 (P.reads p.parsers.0 k.0.0.0.0 c.0.0) (Q.reads p.parsers.1 k.0.0.0.1 c.0.1))
+        (R.reads p.parsers.2 k.0.0.1 c.0.2)) (S.reads p.parsers.3 k.0.1 c.0.3)) (T.reads p.parsers.4 k.1 c.0.4)) };
 }
 
 impl<
@@ -473,13 +536,21 @@ impl<
     T: Writer<I, Error = P::Error, Output = P::Output>,
     U: Writer<I, Error = P::Error, Output = P::Output>,
 > Writer<I> for Choice<(P, Q, R, S, T, U)> {
-    ghost Form = { λ p v. Either (Either (Either (Either (Either (P.Form p.parsers.0 v) (P.Fails p.parsers.0 v) (Q.Form p.parsers.1 v)) (EitherFails (P.Fails p.parsers.0 v) (Q.Fails p.parsers.1 v)) (R.Form p.parsers.2 v)) (EitherFails (EitherFails (P.Fails p.parsers.0 v) (Q.Fails p.parsers.1 v)) (R.Fails p.parsers.2 v)) (S.Form p.parsers.3 v)) (EitherFails (EitherFails (EitherFails (P.Fails p.parsers.0 v) (Q.Fails p.parsers.1 v)) (R.Fails p.parsers.2 v)) (S.Fails p.parsers.3 v)) (T.Form p.parsers.4 v)) (EitherFails (EitherFails (EitherFails (EitherFails (P.Fails p.parsers.0 v) (Q.Fails p.parsers.1 v)) (R.Fails p.parsers.2 v)) (S.Fails p.parsers.3 v)) (T.Fails p.parsers.4 v)) (U.Form p.parsers.5 v) };
+    ghost Form = { λ p v. Either (Either (Either (Either (Either (P.Form p.parsers.0 v) (P.Fails p.parsers.0 v) (Q.Form p.parsers.1 v)) (EitherFails
+        (P.Fails p.parsers.0 v) (Q.Fails p.parsers.1 v)) (R.Form p.parsers.2 v)) (EitherFails (EitherFails (P.Fails p.parsers.0 v)
+        (Q.Fails p.parsers.1 v)) (R.Fails p.parsers.2 v)) (S.Form p.parsers.3 v)) (EitherFails (EitherFails (EitherFails (P.Fails p.parsers.0 v)
+        (Q.Fails p.parsers.1 v)) (R.Fails p.parsers.2 v)) (S.Fails p.parsers.3 v)) (T.Form p.parsers.4 v)) (EitherFails (EitherFails (EitherFails
+        (EitherFails (P.Fails p.parsers.0 v) (Q.Fails p.parsers.1 v)) (R.Fails p.parsers.2 v)) (S.Fails p.parsers.3 v)) (T.Fails p.parsers.4 v))
+        (U.Form p.parsers.5 v) };
 
-    ghost Fails = { λ p v. EitherFails (EitherFails (EitherFails (EitherFails (EitherFails (P.Fails p.parsers.0 v) (Q.Fails p.parsers.1 v)) (R.Fails p.parsers.2 v)) (S.Fails p.parsers.3 v)) (T.Fails p.parsers.4 v)) (U.Fails p.parsers.5 v) };
+    ghost Fails = { λ p v. EitherFails (EitherFails (EitherFails (EitherFails (EitherFails (P.Fails p.parsers.0 v) (Q.Fails p.parsers.1 v))
+        (R.Fails p.parsers.2 v)) (S.Fails p.parsers.3 v)) (T.Fails p.parsers.4 v)) (U.Fails p.parsers.5 v) };
 
-    ghost MayFollow = { λ p rest. (((((P.MayFollow p.parsers.0 rest) × Q.MayFollow p.parsers.1 rest) × R.MayFollow p.parsers.2 rest) × S.MayFollow p.parsers.3 rest) × T.MayFollow p.parsers.4 rest) × U.MayFollow p.parsers.5 rest };
+    ghost MayFollow = { λ p rest. (((((P.MayFollow p.parsers.0 rest) × Q.MayFollow p.parsers.1 rest) × R.MayFollow p.parsers.2 rest) × S.MayFollow
+        p.parsers.3 rest) × T.MayFollow p.parsers.4 rest) × U.MayFollow p.parsers.5 rest };
 
-    ghost CanWrite = { λ p. (P.CanWrite p.parsers.0 × Q.CanWrite p.parsers.1 × R.CanWrite p.parsers.2 × S.CanWrite p.parsers.3 × T.CanWrite p.parsers.4 × U.CanWrite p.parsers.5) ×
+    ghost CanWrite = { λ p. (P.CanWrite p.parsers.0 × Q.CanWrite p.parsers.1 × R.CanWrite p.parsers.2 × S.CanWrite p.parsers.3 × T.CanWrite
+        p.parsers.4 × U.CanWrite p.parsers.5) ×
         (Apart I.model (P.grammar (P.state p.parsers.0)).meaning (λ xs. (v : P.Output) × Q.Form p.parsers.1 v xs)) ×
         (Apart I.model (P.grammar (P.state p.parsers.0)).meaning (λ xs. (v : P.Output) × R.Form p.parsers.2 v xs) ×
         Apart I.model (Q.grammar (Q.state p.parsers.1)).meaning (λ xs. (v : P.Output) × R.Form p.parsers.2 v xs)) ×
@@ -514,7 +585,16 @@ impl<
         )
     }
 
-    ghost reads = { λ p k c. alt_reads P.Error.errors (either_reads P.Error.errors.joined P.Error.errors.grows (either_apart P.Error.errors.joined P.Error.errors.grows (either_apart P.Error.errors.joined P.Error.errors.grows (either_apart P.Error.errors.joined P.Error.errors.grows (either_apart P.Error.errors.joined P.Error.errors.grows c.5.0 c.5.1) c.5.2) c.5.3) c.5.4) (either_reads P.Error.errors.joined P.Error.errors.grows (either_apart P.Error.errors.joined P.Error.errors.grows (either_apart P.Error.errors.joined P.Error.errors.grows (either_apart P.Error.errors.joined P.Error.errors.grows c.4.0 c.4.1) c.4.2) c.4.3) (either_reads P.Error.errors.joined P.Error.errors.grows (either_apart P.Error.errors.joined P.Error.errors.grows (either_apart P.Error.errors.joined P.Error.errors.grows c.3.0 c.3.1) c.3.2) (either_reads P.Error.errors.joined P.Error.errors.grows (either_apart P.Error.errors.joined P.Error.errors.grows c.2.0 c.2.1) (either_reads P.Error.errors.joined P.Error.errors.grows c.1 (P.reads p.parsers.0 k.0.0.0.0.0 c.0.0) (Q.reads p.parsers.1 k.0.0.0.0.1 c.0.1)) (R.reads p.parsers.2 k.0.0.0.1 c.0.2)) (S.reads p.parsers.3 k.0.0.1 c.0.3)) (T.reads p.parsers.4 k.0.1 c.0.4)) (U.reads p.parsers.5 k.1 c.0.5)) };
+    ghost reads = { λ p k c. alt_reads P.Error.errors (either_reads P.Error.errors.joined P.Error.errors.grows
+        (either_apart P.Error.errors.joined P.Error.errors.grows (either_apart P.Error.errors.joined P.Error.errors.grows
+        (either_apart P.Error.errors.joined P.Error.errors.grows (either_apart P.Error.errors.joined P.Error.errors.grows c.5.0 c.5.1) c.5.2) c.5.3)
+        c.5.4) (either_reads P.Error.errors.joined P.Error.errors.grows (either_apart P.Error.errors.joined P.Error.errors.grows
+        (either_apart P.Error.errors.joined P.Error.errors.grows (either_apart P.Error.errors.joined P.Error.errors.grows c.4.0 c.4.1) c.4.2) c.4.3)
+        (either_reads P.Error.errors.joined P.Error.errors.grows (either_apart P.Error.errors.joined P.Error.errors.grows
+        (either_apart P.Error.errors.joined P.Error.errors.grows c.3.0 c.3.1) c.3.2) (either_reads P.Error.errors.joined P.Error.errors.grows
+        (either_apart P.Error.errors.joined P.Error.errors.grows c.2.0 c.2.1) (either_reads P.Error.errors.joined P.Error.errors.grows c.1
+        (P.reads p.parsers.0 k.0.0.0.0.0 c.0.0) (Q.reads p.parsers.1 k.0.0.0.0.1 c.0.1)) (R.reads p.parsers.2 k.0.0.0.1 c.0.2))
+        (S.reads p.parsers.3 k.0.0.1 c.0.3)) (T.reads p.parsers.4 k.0.1 c.0.4)) (U.reads p.parsers.5 k.1 c.0.5)) };
 }
 
 impl<
@@ -527,13 +607,23 @@ impl<
     U: Writer<I, Error = P::Error, Output = P::Output>,
     V: Writer<I, Error = P::Error, Output = P::Output>,
 > Writer<I> for Choice<(P, Q, R, S, T, U, V)> {
-    ghost Form = { λ p v. Either (Either (Either (Either (Either (Either (P.Form p.parsers.0 v) (P.Fails p.parsers.0 v) (Q.Form p.parsers.1 v)) (EitherFails (P.Fails p.parsers.0 v) (Q.Fails p.parsers.1 v)) (R.Form p.parsers.2 v)) (EitherFails (EitherFails (P.Fails p.parsers.0 v) (Q.Fails p.parsers.1 v)) (R.Fails p.parsers.2 v)) (S.Form p.parsers.3 v)) (EitherFails (EitherFails (EitherFails (P.Fails p.parsers.0 v) (Q.Fails p.parsers.1 v)) (R.Fails p.parsers.2 v)) (S.Fails p.parsers.3 v)) (T.Form p.parsers.4 v)) (EitherFails (EitherFails (EitherFails (EitherFails (P.Fails p.parsers.0 v) (Q.Fails p.parsers.1 v)) (R.Fails p.parsers.2 v)) (S.Fails p.parsers.3 v)) (T.Fails p.parsers.4 v)) (U.Form p.parsers.5 v)) (EitherFails (EitherFails (EitherFails (EitherFails (EitherFails (P.Fails p.parsers.0 v) (Q.Fails p.parsers.1 v)) (R.Fails p.parsers.2 v)) (S.Fails p.parsers.3 v)) (T.Fails p.parsers.4 v)) (U.Fails p.parsers.5 v)) (V.Form p.parsers.6 v) };
+    ghost Form = { λ p v. Either (Either (Either (Either (Either (Either (P.Form p.parsers.0 v) (P.Fails p.parsers.0 v) (Q.Form p.parsers.1 v))
+        (EitherFails (P.Fails p.parsers.0 v) (Q.Fails p.parsers.1 v)) (R.Form p.parsers.2 v)) (EitherFails (EitherFails (P.Fails p.parsers.0 v)
+        (Q.Fails p.parsers.1 v)) (R.Fails p.parsers.2 v)) (S.Form p.parsers.3 v)) (EitherFails (EitherFails (EitherFails (P.Fails p.parsers.0 v)
+        (Q.Fails p.parsers.1 v)) (R.Fails p.parsers.2 v)) (S.Fails p.parsers.3 v)) (T.Form p.parsers.4 v)) (EitherFails (EitherFails (EitherFails
+        (EitherFails (P.Fails p.parsers.0 v) (Q.Fails p.parsers.1 v)) (R.Fails p.parsers.2 v)) (S.Fails p.parsers.3 v)) (T.Fails p.parsers.4 v))
+        (U.Form p.parsers.5 v)) (EitherFails (EitherFails (EitherFails (EitherFails (EitherFails (P.Fails p.parsers.0 v) (Q.Fails p.parsers.1 v))
+        (R.Fails p.parsers.2 v)) (S.Fails p.parsers.3 v)) (T.Fails p.parsers.4 v)) (U.Fails p.parsers.5 v)) (V.Form p.parsers.6 v) };
 
-    ghost Fails = { λ p v. EitherFails (EitherFails (EitherFails (EitherFails (EitherFails (EitherFails (P.Fails p.parsers.0 v) (Q.Fails p.parsers.1 v)) (R.Fails p.parsers.2 v)) (S.Fails p.parsers.3 v)) (T.Fails p.parsers.4 v)) (U.Fails p.parsers.5 v)) (V.Fails p.parsers.6 v) };
+    ghost Fails = { λ p v. EitherFails (EitherFails (EitherFails (EitherFails (EitherFails (EitherFails (P.Fails p.parsers.0 v)
+        (Q.Fails p.parsers.1 v)) (R.Fails p.parsers.2 v)) (S.Fails p.parsers.3 v)) (T.Fails p.parsers.4 v)) (U.Fails p.parsers.5 v))
+        (V.Fails p.parsers.6 v) };
 
-    ghost MayFollow = { λ p rest. ((((((P.MayFollow p.parsers.0 rest) × Q.MayFollow p.parsers.1 rest) × R.MayFollow p.parsers.2 rest) × S.MayFollow p.parsers.3 rest) × T.MayFollow p.parsers.4 rest) × U.MayFollow p.parsers.5 rest) × V.MayFollow p.parsers.6 rest };
+    ghost MayFollow = { λ p rest. ((((((P.MayFollow p.parsers.0 rest) × Q.MayFollow p.parsers.1 rest) × R.MayFollow p.parsers.2 rest) × S.MayFollow
+        p.parsers.3 rest) × T.MayFollow p.parsers.4 rest) × U.MayFollow p.parsers.5 rest) × V.MayFollow p.parsers.6 rest };
 
-    ghost CanWrite = { λ p. (P.CanWrite p.parsers.0 × Q.CanWrite p.parsers.1 × R.CanWrite p.parsers.2 × S.CanWrite p.parsers.3 × T.CanWrite p.parsers.4 × U.CanWrite p.parsers.5 × V.CanWrite p.parsers.6) ×
+    ghost CanWrite = { λ p. (P.CanWrite p.parsers.0 × Q.CanWrite p.parsers.1 × R.CanWrite p.parsers.2 × S.CanWrite p.parsers.3 × T.CanWrite
+        p.parsers.4 × U.CanWrite p.parsers.5 × V.CanWrite p.parsers.6) ×
         (Apart I.model (P.grammar (P.state p.parsers.0)).meaning (λ xs. (v : P.Output) × Q.Form p.parsers.1 v xs)) ×
         (Apart I.model (P.grammar (P.state p.parsers.0)).meaning (λ xs. (v : P.Output) × R.Form p.parsers.2 v xs) ×
         Apart I.model (Q.grammar (Q.state p.parsers.1)).meaning (λ xs. (v : P.Output) × R.Form p.parsers.2 v xs)) ×
@@ -575,7 +665,20 @@ impl<
         )
     }
 
-    ghost reads = { λ p k c. alt_reads P.Error.errors (either_reads P.Error.errors.joined P.Error.errors.grows (either_apart P.Error.errors.joined P.Error.errors.grows (either_apart P.Error.errors.joined P.Error.errors.grows (either_apart P.Error.errors.joined P.Error.errors.grows (either_apart P.Error.errors.joined P.Error.errors.grows (either_apart P.Error.errors.joined P.Error.errors.grows c.6.0 c.6.1) c.6.2) c.6.3) c.6.4) c.6.5) (either_reads P.Error.errors.joined P.Error.errors.grows (either_apart P.Error.errors.joined P.Error.errors.grows (either_apart P.Error.errors.joined P.Error.errors.grows (either_apart P.Error.errors.joined P.Error.errors.grows (either_apart P.Error.errors.joined P.Error.errors.grows c.5.0 c.5.1) c.5.2) c.5.3) c.5.4) (either_reads P.Error.errors.joined P.Error.errors.grows (either_apart P.Error.errors.joined P.Error.errors.grows (either_apart P.Error.errors.joined P.Error.errors.grows (either_apart P.Error.errors.joined P.Error.errors.grows c.4.0 c.4.1) c.4.2) c.4.3) (either_reads P.Error.errors.joined P.Error.errors.grows (either_apart P.Error.errors.joined P.Error.errors.grows (either_apart P.Error.errors.joined P.Error.errors.grows c.3.0 c.3.1) c.3.2) (either_reads P.Error.errors.joined P.Error.errors.grows (either_apart P.Error.errors.joined P.Error.errors.grows c.2.0 c.2.1) (either_reads P.Error.errors.joined P.Error.errors.grows c.1 (P.reads p.parsers.0 k.0.0.0.0.0.0 c.0.0) (Q.reads p.parsers.1 k.0.0.0.0.0.1 c.0.1)) (R.reads p.parsers.2 k.0.0.0.0.1 c.0.2)) (S.reads p.parsers.3 k.0.0.0.1 c.0.3)) (T.reads p.parsers.4 k.0.0.1 c.0.4)) (U.reads p.parsers.5 k.0.1 c.0.5)) (V.reads p.parsers.6 k.1 c.0.6)) };
+    ghost reads = { λ p k c. alt_reads P.Error.errors (either_reads P.Error.errors.joined P.Error.errors.grows
+        (either_apart P.Error.errors.joined P.Error.errors.grows (either_apart P.Error.errors.joined P.Error.errors.grows
+        (either_apart P.Error.errors.joined P.Error.errors.grows (either_apart P.Error.errors.joined P.Error.errors.grows
+        (either_apart P.Error.errors.joined P.Error.errors.grows c.6.0 c.6.1) c.6.2) c.6.3) c.6.4) c.6.5)
+        (either_reads P.Error.errors.joined P.Error.errors.grows (either_apart P.Error.errors.joined P.Error.errors.grows
+        (either_apart P.Error.errors.joined P.Error.errors.grows (either_apart P.Error.errors.joined P.Error.errors.grows
+        (either_apart P.Error.errors.joined P.Error.errors.grows c.5.0 c.5.1) c.5.2) c.5.3) c.5.4)
+        (either_reads P.Error.errors.joined P.Error.errors.grows (either_apart P.Error.errors.joined P.Error.errors.grows
+        (either_apart P.Error.errors.joined P.Error.errors.grows (either_apart P.Error.errors.joined P.Error.errors.grows c.4.0 c.4.1) c.4.2) c.4.3)
+        (either_reads P.Error.errors.joined P.Error.errors.grows (either_apart P.Error.errors.joined P.Error.errors.grows
+        (either_apart P.Error.errors.joined P.Error.errors.grows c.3.0 c.3.1) c.3.2) (either_reads P.Error.errors.joined P.Error.errors.grows
+        (either_apart P.Error.errors.joined P.Error.errors.grows c.2.0 c.2.1) (either_reads P.Error.errors.joined P.Error.errors.grows c.1
+        (P.reads p.parsers.0 k.0.0.0.0.0.0 c.0.0) (Q.reads p.parsers.1 k.0.0.0.0.0.1 c.0.1)) (R.reads p.parsers.2 k.0.0.0.0.1 c.0.2))
+        (S.reads p.parsers.3 k.0.0.0.1 c.0.3)) (T.reads p.parsers.4 k.0.0.1 c.0.4)) (U.reads p.parsers.5 k.0.1 c.0.5)) (V.reads p.parsers.6 k.1 c.0.6)) };
 }
 
 impl<
@@ -589,13 +692,26 @@ impl<
     V: Writer<I, Error = P::Error, Output = P::Output>,
     W: Writer<I, Error = P::Error, Output = P::Output>,
 > Writer<I> for Choice<(P, Q, R, S, T, U, V, W)> {
-    ghost Form = { λ p v. Either (Either (Either (Either (Either (Either (Either (P.Form p.parsers.0 v) (P.Fails p.parsers.0 v) (Q.Form p.parsers.1 v)) (EitherFails (P.Fails p.parsers.0 v) (Q.Fails p.parsers.1 v)) (R.Form p.parsers.2 v)) (EitherFails (EitherFails (P.Fails p.parsers.0 v) (Q.Fails p.parsers.1 v)) (R.Fails p.parsers.2 v)) (S.Form p.parsers.3 v)) (EitherFails (EitherFails (EitherFails (P.Fails p.parsers.0 v) (Q.Fails p.parsers.1 v)) (R.Fails p.parsers.2 v)) (S.Fails p.parsers.3 v)) (T.Form p.parsers.4 v)) (EitherFails (EitherFails (EitherFails (EitherFails (P.Fails p.parsers.0 v) (Q.Fails p.parsers.1 v)) (R.Fails p.parsers.2 v)) (S.Fails p.parsers.3 v)) (T.Fails p.parsers.4 v)) (U.Form p.parsers.5 v)) (EitherFails (EitherFails (EitherFails (EitherFails (EitherFails (P.Fails p.parsers.0 v) (Q.Fails p.parsers.1 v)) (R.Fails p.parsers.2 v)) (S.Fails p.parsers.3 v)) (T.Fails p.parsers.4 v)) (U.Fails p.parsers.5 v)) (V.Form p.parsers.6 v)) (EitherFails (EitherFails (EitherFails (EitherFails (EitherFails (EitherFails (P.Fails p.parsers.0 v) (Q.Fails p.parsers.1 v)) (R.Fails p.parsers.2 v)) (S.Fails p.parsers.3 v)) (T.Fails p.parsers.4 v)) (U.Fails p.parsers.5 v)) (V.Fails p.parsers.6 v)) (W.Form p.parsers.7 v) };
+    ghost Form = { λ p v. Either (Either (Either (Either (Either (Either (Either (P.Form p.parsers.0 v) (P.Fails p.parsers.0 v)
+        (Q.Form p.parsers.1 v)) (EitherFails (P.Fails p.parsers.0 v) (Q.Fails p.parsers.1 v)) (R.Form p.parsers.2 v)) (EitherFails (EitherFails
+        (P.Fails p.parsers.0 v) (Q.Fails p.parsers.1 v)) (R.Fails p.parsers.2 v)) (S.Form p.parsers.3 v)) (EitherFails (EitherFails (EitherFails
+        (P.Fails p.parsers.0 v) (Q.Fails p.parsers.1 v)) (R.Fails p.parsers.2 v)) (S.Fails p.parsers.3 v)) (T.Form p.parsers.4 v)) (EitherFails
+        (EitherFails (EitherFails (EitherFails (P.Fails p.parsers.0 v) (Q.Fails p.parsers.1 v)) (R.Fails p.parsers.2 v)) (S.Fails p.parsers.3 v))
+        (T.Fails p.parsers.4 v)) (U.Form p.parsers.5 v)) (EitherFails (EitherFails (EitherFails (EitherFails (EitherFails (P.Fails p.parsers.0 v)
+        (Q.Fails p.parsers.1 v)) (R.Fails p.parsers.2 v)) (S.Fails p.parsers.3 v)) (T.Fails p.parsers.4 v)) (U.Fails p.parsers.5 v))
+        (V.Form p.parsers.6 v)) (EitherFails (EitherFails (EitherFails (EitherFails (EitherFails (EitherFails (P.Fails p.parsers.0 v)
+        (Q.Fails p.parsers.1 v)) (R.Fails p.parsers.2 v)) (S.Fails p.parsers.3 v)) (T.Fails p.parsers.4 v)) (U.Fails p.parsers.5 v))
+        (V.Fails p.parsers.6 v)) (W.Form p.parsers.7 v) };
 
-    ghost Fails = { λ p v. EitherFails (EitherFails (EitherFails (EitherFails (EitherFails (EitherFails (EitherFails (P.Fails p.parsers.0 v) (Q.Fails p.parsers.1 v)) (R.Fails p.parsers.2 v)) (S.Fails p.parsers.3 v)) (T.Fails p.parsers.4 v)) (U.Fails p.parsers.5 v)) (V.Fails p.parsers.6 v)) (W.Fails p.parsers.7 v) };
+    ghost Fails = { λ p v. EitherFails (EitherFails (EitherFails (EitherFails (EitherFails (EitherFails (EitherFails (P.Fails p.parsers.0 v)
+        (Q.Fails p.parsers.1 v)) (R.Fails p.parsers.2 v)) (S.Fails p.parsers.3 v)) (T.Fails p.parsers.4 v)) (U.Fails p.parsers.5 v))
+        (V.Fails p.parsers.6 v)) (W.Fails p.parsers.7 v) };
 
-    ghost MayFollow = { λ p rest. (((((((P.MayFollow p.parsers.0 rest) × Q.MayFollow p.parsers.1 rest) × R.MayFollow p.parsers.2 rest) × S.MayFollow p.parsers.3 rest) × T.MayFollow p.parsers.4 rest) × U.MayFollow p.parsers.5 rest) × V.MayFollow p.parsers.6 rest) × W.MayFollow p.parsers.7 rest };
+    ghost MayFollow = { λ p rest. (((((((P.MayFollow p.parsers.0 rest) × Q.MayFollow p.parsers.1 rest) × R.MayFollow p.parsers.2 rest) × S.MayFollow
+        p.parsers.3 rest) × T.MayFollow p.parsers.4 rest) × U.MayFollow p.parsers.5 rest) × V.MayFollow p.parsers.6 rest) × W.MayFollow p.parsers.7 rest };
 
-    ghost CanWrite = { λ p. (P.CanWrite p.parsers.0 × Q.CanWrite p.parsers.1 × R.CanWrite p.parsers.2 × S.CanWrite p.parsers.3 × T.CanWrite p.parsers.4 × U.CanWrite p.parsers.5 × V.CanWrite p.parsers.6 × W.CanWrite p.parsers.7) ×
+    ghost CanWrite = { λ p. (P.CanWrite p.parsers.0 × Q.CanWrite p.parsers.1 × R.CanWrite p.parsers.2 × S.CanWrite p.parsers.3 × T.CanWrite
+        p.parsers.4 × U.CanWrite p.parsers.5 × V.CanWrite p.parsers.6 × W.CanWrite p.parsers.7) ×
         (Apart I.model (P.grammar (P.state p.parsers.0)).meaning (λ xs. (v : P.Output) × Q.Form p.parsers.1 v xs)) ×
         (Apart I.model (P.grammar (P.state p.parsers.0)).meaning (λ xs. (v : P.Output) × R.Form p.parsers.2 v xs) ×
         Apart I.model (Q.grammar (Q.state p.parsers.1)).meaning (λ xs. (v : P.Output) × R.Form p.parsers.2 v xs)) ×
@@ -645,5 +761,22 @@ impl<
         )
     }
 
-    ghost reads = { λ p k c. alt_reads P.Error.errors (either_reads P.Error.errors.joined P.Error.errors.grows (either_apart P.Error.errors.joined P.Error.errors.grows (either_apart P.Error.errors.joined P.Error.errors.grows (either_apart P.Error.errors.joined P.Error.errors.grows (either_apart P.Error.errors.joined P.Error.errors.grows (either_apart P.Error.errors.joined P.Error.errors.grows (either_apart P.Error.errors.joined P.Error.errors.grows c.7.0 c.7.1) c.7.2) c.7.3) c.7.4) c.7.5) c.7.6) (either_reads P.Error.errors.joined P.Error.errors.grows (either_apart P.Error.errors.joined P.Error.errors.grows (either_apart P.Error.errors.joined P.Error.errors.grows (either_apart P.Error.errors.joined P.Error.errors.grows (either_apart P.Error.errors.joined P.Error.errors.grows (either_apart P.Error.errors.joined P.Error.errors.grows c.6.0 c.6.1) c.6.2) c.6.3) c.6.4) c.6.5) (either_reads P.Error.errors.joined P.Error.errors.grows (either_apart P.Error.errors.joined P.Error.errors.grows (either_apart P.Error.errors.joined P.Error.errors.grows (either_apart P.Error.errors.joined P.Error.errors.grows (either_apart P.Error.errors.joined P.Error.errors.grows c.5.0 c.5.1) c.5.2) c.5.3) c.5.4) (either_reads P.Error.errors.joined P.Error.errors.grows (either_apart P.Error.errors.joined P.Error.errors.grows (either_apart P.Error.errors.joined P.Error.errors.grows (either_apart P.Error.errors.joined P.Error.errors.grows c.4.0 c.4.1) c.4.2) c.4.3) (either_reads P.Error.errors.joined P.Error.errors.grows (either_apart P.Error.errors.joined P.Error.errors.grows (either_apart P.Error.errors.joined P.Error.errors.grows c.3.0 c.3.1) c.3.2) (either_reads P.Error.errors.joined P.Error.errors.grows (either_apart P.Error.errors.joined P.Error.errors.grows c.2.0 c.2.1) (either_reads P.Error.errors.joined P.Error.errors.grows c.1 (P.reads p.parsers.0 k.0.0.0.0.0.0.0 c.0.0) (Q.reads p.parsers.1 k.0.0.0.0.0.0.1 c.0.1)) (R.reads p.parsers.2 k.0.0.0.0.0.1 c.0.2)) (S.reads p.parsers.3 k.0.0.0.0.1 c.0.3)) (T.reads p.parsers.4 k.0.0.0.1 c.0.4)) (U.reads p.parsers.5 k.0.0.1 c.0.5)) (V.reads p.parsers.6 k.0.1 c.0.6)) (W.reads p.parsers.7 k.1 c.0.7)) };
+    ghost reads = { λ p k c. alt_reads P.Error.errors (either_reads P.Error.errors.joined P.Error.errors.grows
+        (either_apart P.Error.errors.joined P.Error.errors.grows (either_apart P.Error.errors.joined P.Error.errors.grows
+        (either_apart P.Error.errors.joined P.Error.errors.grows (either_apart P.Error.errors.joined P.Error.errors.grows
+        (either_apart P.Error.errors.joined P.Error.errors.grows (either_apart P.Error.errors.joined P.Error.errors.grows c.7.0 c.7.1) c.7.2) c.7.3)
+        c.7.4) c.7.5) c.7.6) (either_reads P.Error.errors.joined P.Error.errors.grows (either_apart P.Error.errors.joined P.Error.errors.grows
+        (either_apart P.Error.errors.joined P.Error.errors.grows (either_apart P.Error.errors.joined P.Error.errors.grows
+        (either_apart P.Error.errors.joined P.Error.errors.grows (either_apart P.Error.errors.joined P.Error.errors.grows c.6.0 c.6.1) c.6.2) c.6.3)
+        c.6.4) c.6.5) (either_reads P.Error.errors.joined P.Error.errors.grows (either_apart P.Error.errors.joined P.Error.errors.grows
+        (either_apart P.Error.errors.joined P.Error.errors.grows (either_apart P.Error.errors.joined P.Error.errors.grows
+        (either_apart P.Error.errors.joined P.Error.errors.grows c.5.0 c.5.1) c.5.2) c.5.3) c.5.4)
+        (either_reads P.Error.errors.joined P.Error.errors.grows (either_apart P.Error.errors.joined P.Error.errors.grows
+        (either_apart P.Error.errors.joined P.Error.errors.grows (either_apart P.Error.errors.joined P.Error.errors.grows c.4.0 c.4.1) c.4.2) c.4.3)
+        (either_reads P.Error.errors.joined P.Error.errors.grows (either_apart P.Error.errors.joined P.Error.errors.grows
+        (either_apart P.Error.errors.joined P.Error.errors.grows c.3.0 c.3.1) c.3.2) (either_reads P.Error.errors.joined P.Error.errors.grows
+        (either_apart P.Error.errors.joined P.Error.errors.grows c.2.0 c.2.1) (either_reads P.Error.errors.joined P.Error.errors.grows c.1
+        (P.reads p.parsers.0 k.0.0.0.0.0.0.0 c.0.0) (Q.reads p.parsers.1 k.0.0.0.0.0.0.1 c.0.1)) (R.reads p.parsers.2 k.0.0.0.0.0.1 c.0.2))
+        (S.reads p.parsers.3 k.0.0.0.0.1 c.0.3)) (T.reads p.parsers.4 k.0.0.0.1 c.0.4)) (U.reads p.parsers.5 k.0.0.1 c.0.5))
+        (V.reads p.parsers.6 k.0.1 c.0.6)) (W.reads p.parsers.7 k.1 c.0.7)) };
 }

@@ -105,7 +105,8 @@ fn write_size<I: Items<Item = u8>, F: Writer<I, Output: OfSize>, A: Allocator>(
     out: &mut Vec<u8, A>,
 ) -> Result<(), WriteError>
     requires { F.CanWrite parser.now }
-    ensures written { Written (FormOfSize F.Output.size (F.Form parser.now) size) (SizeFails F.Output.size F.Output.Exceeds (F.Fails parser.now) size) out.old out.new result }
+    ensures written { Written (FormOfSize F.Output.size (F.Form parser.now) size) (SizeFails F.Output.size F.Output.Exceeds
+        (F.Fails parser.now) size) out.old out.new result }
     ensures room { vec_capacity out.old ≤ vec_capacity out.new }
 {
     match F::Output::of_size(size) {
@@ -185,5 +186,6 @@ impl<
         }
     }
 
-    ghost reads = { λ p k c. length_count_reads I.lawful F.Error.errors F.Output.size k.1.1 c.1 (F.reads p.length k.0 c.0.0) c.2 (G.reads p.parser k.1.0 c.0.1) };
+    ghost reads = { λ p k c. length_count_reads I.lawful F.Error.errors F.Output.size k.1.1 c.1 (F.reads p.length k.0 c.0.0) c.2
+        (G.reads p.parser k.1.0 c.0.1) };
 }

@@ -19,7 +19,8 @@ fn write_item<I: Items<Item = u8>, G: Writer<I>, A: Allocator>(
     out: &mut Vec<u8, A>,
 ) -> Result<(), WriteError>
     requires { G.CanWrite parser.now }
-    ensures written { Written (ItemForm some (G.Form parser.now) value.now) (ItemFails some (G.Form parser.now) (G.Fails parser.now) value.now) out.old out.new result }
+    ensures written { Written (ItemForm some (G.Form parser.now) value.now) (ItemFails some (G.Form parser.now)
+        (G.Fails parser.now) value.now) out.old out.new result }
     ensures room { vec_capacity out.old ≤ vec_capacity out.new }
 {
     let start = out.len();

@@ -18,7 +18,8 @@ impl<I: Items<Item = u8>, F: Writer<I> + Drop, G: Writer<I, Error = F::Error> + 
 
     ghost MayFollow = { λ p. G.MayFollow p.second };
 
-    ghost CanWrite = { λ p. F.CanWrite p.first × G.CanWrite p.second × Meets (F.MayFollow p.first) (λ ys. (b : G.Output) × G.Form p.second b ys) (G.MayFollow p.second) };
+    ghost CanWrite = { λ p. F.CanWrite p.first × G.CanWrite p.second × Meets (F.MayFollow p.first) (λ ys. (b : G.Output) × G.Form p.second b ys)
+        (G.MayFollow p.second) };
 
     #[inline]
     fn write<A: Allocator>(

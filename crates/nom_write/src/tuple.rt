@@ -51,7 +51,8 @@ fn write_three<I: Items<Item = u8>, P: Writer<I>, Q: Writer<I>, R: Writer<I>, A:
     requires second { Q.CanWrite second.now }
     requires third { R.CanWrite third.now }
     ensures written { Written (Both (Both (P.Form first.now a.now) (Q.Form second.now b.now)) (R.Form third.now c.now))
-        (BothFail (Both (P.Form first.now a.now) (Q.Form second.now b.now)) (BothFail (P.Form first.now a.now) (P.Fails first.now a.now) (Q.Fails second.now b.now)) (R.Fails third.now c.now)) out.old out.new result }
+        (BothFail (Both (P.Form first.now a.now) (Q.Form second.now b.now)) (BothFail (P.Form first.now a.now) (P.Fails first.now a.now)
+        (Q.Fails second.now b.now)) (R.Fails third.now c.now)) out.old out.new result }
     ensures room { vec_capacity out.old ≤ vec_capacity out.new }
 {
     let start = out.len();
@@ -92,7 +93,9 @@ fn write_four<
     requires third { R.CanWrite third.now }
     requires fourth { S.CanWrite fourth.now }
     ensures written { Written (Both (Both (Both (P.Form first.now a.now) (Q.Form second.now b.now)) (R.Form third.now c.now)) (S.Form fourth.now d.now))
-        (BothFail (Both (Both (P.Form first.now a.now) (Q.Form second.now b.now)) (R.Form third.now c.now)) (BothFail (Both (P.Form first.now a.now) (Q.Form second.now b.now)) (BothFail (P.Form first.now a.now) (P.Fails first.now a.now) (Q.Fails second.now b.now)) (R.Fails third.now c.now)) (S.Fails fourth.now d.now)) out.old out.new result }
+        (BothFail (Both (Both (P.Form first.now a.now) (Q.Form second.now b.now)) (R.Form third.now c.now)) (BothFail (Both (P.Form first.now a.now)
+        (Q.Form second.now b.now)) (BothFail (P.Form first.now a.now) (P.Fails first.now a.now) (Q.Fails second.now b.now))
+        (R.Fails third.now c.now)) (S.Fails fourth.now d.now)) out.old out.new result }
     ensures room { vec_capacity out.old ≤ vec_capacity out.new }
 {
     let start = out.len();
@@ -136,8 +139,12 @@ fn write_five<
     requires third { R.CanWrite third.now }
     requires fourth { S.CanWrite fourth.now }
     requires fifth { T.CanWrite fifth.now }
-    ensures written { Written (Both (Both (Both (Both (P.Form first.now a.now) (Q.Form second.now b.now)) (R.Form third.now c.now)) (S.Form fourth.now d.now)) (T.Form fifth.now e.now))
-        (BothFail (Both (Both (Both (P.Form first.now a.now) (Q.Form second.now b.now)) (R.Form third.now c.now)) (S.Form fourth.now d.now)) (BothFail (Both (Both (P.Form first.now a.now) (Q.Form second.now b.now)) (R.Form third.now c.now)) (BothFail (Both (P.Form first.now a.now) (Q.Form second.now b.now)) (BothFail (P.Form first.now a.now) (P.Fails first.now a.now) (Q.Fails second.now b.now)) (R.Fails third.now c.now)) (S.Fails fourth.now d.now)) (T.Fails fifth.now e.now)) out.old out.new result }
+    ensures written { Written (Both (Both (Both (Both (P.Form first.now a.now) (Q.Form second.now b.now)) (R.Form third.now c.now))
+        (S.Form fourth.now d.now)) (T.Form fifth.now e.now))
+        (BothFail (Both (Both (Both (P.Form first.now a.now) (Q.Form second.now b.now)) (R.Form third.now c.now)) (S.Form fourth.now d.now)) (BothFail
+        (Both (Both (P.Form first.now a.now) (Q.Form second.now b.now)) (R.Form third.now c.now)) (BothFail (Both (P.Form first.now a.now)
+        (Q.Form second.now b.now)) (BothFail (P.Form first.now a.now) (P.Fails first.now a.now) (Q.Fails second.now b.now))
+        (R.Fails third.now c.now)) (S.Fails fourth.now d.now)) (T.Fails fifth.now e.now)) out.old out.new result }
     ensures room { vec_capacity out.old ≤ vec_capacity out.new }
 {
     let start = out.len();
@@ -185,8 +192,14 @@ fn write_six<
     requires fourth { S.CanWrite fourth.now }
     requires fifth { T.CanWrite fifth.now }
     requires sixth { U.CanWrite sixth.now }
-    ensures written { Written (Both (Both (Both (Both (Both (P.Form first.now a.now) (Q.Form second.now b.now)) (R.Form third.now c.now)) (S.Form fourth.now d.now)) (T.Form fifth.now e.now)) (U.Form sixth.now f.now))
-        (BothFail (Both (Both (Both (Both (P.Form first.now a.now) (Q.Form second.now b.now)) (R.Form third.now c.now)) (S.Form fourth.now d.now)) (T.Form fifth.now e.now)) (BothFail (Both (Both (Both (P.Form first.now a.now) (Q.Form second.now b.now)) (R.Form third.now c.now)) (S.Form fourth.now d.now)) (BothFail (Both (Both (P.Form first.now a.now) (Q.Form second.now b.now)) (R.Form third.now c.now)) (BothFail (Both (P.Form first.now a.now) (Q.Form second.now b.now)) (BothFail (P.Form first.now a.now) (P.Fails first.now a.now) (Q.Fails second.now b.now)) (R.Fails third.now c.now)) (S.Fails fourth.now d.now)) (T.Fails fifth.now e.now)) (U.Fails sixth.now f.now)) out.old out.new result }
+    ensures written { Written (Both (Both (Both (Both (Both (P.Form first.now a.now) (Q.Form second.now b.now)) (R.Form third.now c.now))
+        (S.Form fourth.now d.now)) (T.Form fifth.now e.now)) (U.Form sixth.now f.now))
+        (BothFail (Both (Both (Both (Both (P.Form first.now a.now) (Q.Form second.now b.now)) (R.Form third.now c.now)) (S.Form fourth.now d.now))
+        (T.Form fifth.now e.now)) (BothFail (Both (Both (Both (P.Form first.now a.now) (Q.Form second.now b.now)) (R.Form third.now c.now))
+        (S.Form fourth.now d.now)) (BothFail (Both (Both (P.Form first.now a.now) (Q.Form second.now b.now)) (R.Form third.now c.now)) (BothFail
+        (Both (P.Form first.now a.now) (Q.Form second.now b.now)) (BothFail (P.Form first.now a.now) (P.Fails first.now a.now)
+        (Q.Fails second.now b.now)) (R.Fails third.now c.now)) (S.Fails fourth.now d.now)) (T.Fails fifth.now e.now))
+        (U.Fails sixth.now f.now)) out.old out.new result }
     ensures room { vec_capacity out.old ≤ vec_capacity out.new }
 {
     let start = out.len();
@@ -240,8 +253,16 @@ fn write_seven<
     requires fifth { T.CanWrite fifth.now }
     requires sixth { U.CanWrite sixth.now }
     requires seventh { V.CanWrite seventh.now }
-    ensures written { Written (Both (Both (Both (Both (Both (Both (P.Form first.now a.now) (Q.Form second.now b.now)) (R.Form third.now c.now)) (S.Form fourth.now d.now)) (T.Form fifth.now e.now)) (U.Form sixth.now f.now)) (V.Form seventh.now g.now))
-        (BothFail (Both (Both (Both (Both (Both (P.Form first.now a.now) (Q.Form second.now b.now)) (R.Form third.now c.now)) (S.Form fourth.now d.now)) (T.Form fifth.now e.now)) (U.Form sixth.now f.now)) (BothFail (Both (Both (Both (Both (P.Form first.now a.now) (Q.Form second.now b.now)) (R.Form third.now c.now)) (S.Form fourth.now d.now)) (T.Form fifth.now e.now)) (BothFail (Both (Both (Both (P.Form first.now a.now) (Q.Form second.now b.now)) (R.Form third.now c.now)) (S.Form fourth.now d.now)) (BothFail (Both (Both (P.Form first.now a.now) (Q.Form second.now b.now)) (R.Form third.now c.now)) (BothFail (Both (P.Form first.now a.now) (Q.Form second.now b.now)) (BothFail (P.Form first.now a.now) (P.Fails first.now a.now) (Q.Fails second.now b.now)) (R.Fails third.now c.now)) (S.Fails fourth.now d.now)) (T.Fails fifth.now e.now)) (U.Fails sixth.now f.now)) (V.Fails seventh.now g.now)) out.old out.new result }
+    ensures written { Written (Both (Both (Both (Both (Both (Both (P.Form first.now a.now) (Q.Form second.now b.now)) (R.Form third.now c.now))
+        (S.Form fourth.now d.now)) (T.Form fifth.now e.now)) (U.Form sixth.now f.now)) (V.Form seventh.now g.now))
+        (BothFail (Both (Both (Both (Both (Both (P.Form first.now a.now) (Q.Form second.now b.now)) (R.Form third.now c.now))
+        (S.Form fourth.now d.now)) (T.Form fifth.now e.now)) (U.Form sixth.now f.now)) (BothFail (Both (Both (Both (Both (P.Form first.now a.now)
+        (Q.Form second.now b.now)) (R.Form third.now c.now)) (S.Form fourth.now d.now)) (T.Form fifth.now e.now)) (BothFail (Both (Both (Both
+        (P.Form first.now a.now) (Q.Form second.now b.now)) (R.Form third.now c.now)) (S.Form fourth.now d.now)) (BothFail (Both (Both
+        (P.Form first.now a.now) (Q.Form second.now b.now)) (R.Form third.now c.now)) (BothFail (Both (P.Form first.now a.now)
+        (Q.Form second.now b.now)) (BothFail (P.Form first.now a.now) (P.Fails first.now a.now) (Q.Fails second.now b.now))
+        (R.Fails third.now c.now)) (S.Fails fourth.now d.now)) (T.Fails fifth.now e.now)) (U.Fails sixth.now f.now))
+        (V.Fails seventh.now g.now)) out.old out.new result }
     ensures room { vec_capacity out.old ≤ vec_capacity out.new }
 {
     let start = out.len();
@@ -299,8 +320,17 @@ fn write_eight<
     requires sixth { U.CanWrite sixth.now }
     requires seventh { V.CanWrite seventh.now }
     requires eighth { W.CanWrite eighth.now }
-    ensures written { Written (Both (Both (Both (Both (Both (Both (Both (P.Form first.now a.now) (Q.Form second.now b.now)) (R.Form third.now c.now)) (S.Form fourth.now d.now)) (T.Form fifth.now e.now)) (U.Form sixth.now f.now)) (V.Form seventh.now g.now)) (W.Form eighth.now h.now))
-        (BothFail (Both (Both (Both (Both (Both (Both (P.Form first.now a.now) (Q.Form second.now b.now)) (R.Form third.now c.now)) (S.Form fourth.now d.now)) (T.Form fifth.now e.now)) (U.Form sixth.now f.now)) (V.Form seventh.now g.now)) (BothFail (Both (Both (Both (Both (Both (P.Form first.now a.now) (Q.Form second.now b.now)) (R.Form third.now c.now)) (S.Form fourth.now d.now)) (T.Form fifth.now e.now)) (U.Form sixth.now f.now)) (BothFail (Both (Both (Both (Both (P.Form first.now a.now) (Q.Form second.now b.now)) (R.Form third.now c.now)) (S.Form fourth.now d.now)) (T.Form fifth.now e.now)) (BothFail (Both (Both (Both (P.Form first.now a.now) (Q.Form second.now b.now)) (R.Form third.now c.now)) (S.Form fourth.now d.now)) (BothFail (Both (Both (P.Form first.now a.now) (Q.Form second.now b.now)) (R.Form third.now c.now)) (BothFail (Both (P.Form first.now a.now) (Q.Form second.now b.now)) (BothFail (P.Form first.now a.now) (P.Fails first.now a.now) (Q.Fails second.now b.now)) (R.Fails third.now c.now)) (S.Fails fourth.now d.now)) (T.Fails fifth.now e.now)) (U.Fails sixth.now f.now)) (V.Fails seventh.now g.now)) (W.Fails eighth.now h.now)) out.old out.new result }
+    ensures written { Written (Both (Both (Both (Both (Both (Both (Both (P.Form first.now a.now) (Q.Form second.now b.now)) (R.Form third.now c.now))
+        (S.Form fourth.now d.now)) (T.Form fifth.now e.now)) (U.Form sixth.now f.now)) (V.Form seventh.now g.now)) (W.Form eighth.now h.now))
+        (BothFail (Both (Both (Both (Both (Both (Both (P.Form first.now a.now) (Q.Form second.now b.now)) (R.Form third.now c.now))
+        (S.Form fourth.now d.now)) (T.Form fifth.now e.now)) (U.Form sixth.now f.now)) (V.Form seventh.now g.now)) (BothFail (Both (Both (Both
+        (Both (Both (P.Form first.now a.now) (Q.Form second.now b.now)) (R.Form third.now c.now)) (S.Form fourth.now d.now))
+        (T.Form fifth.now e.now)) (U.Form sixth.now f.now)) (BothFail (Both (Both (Both (Both (P.Form first.now a.now) (Q.Form second.now b.now))
+        (R.Form third.now c.now)) (S.Form fourth.now d.now)) (T.Form fifth.now e.now)) (BothFail (Both (Both (Both (P.Form first.now a.now)
+        (Q.Form second.now b.now)) (R.Form third.now c.now)) (S.Form fourth.now d.now)) (BothFail (Both (Both (P.Form first.now a.now)
+        (Q.Form second.now b.now)) (R.Form third.now c.now)) (BothFail (Both (P.Form first.now a.now) (Q.Form second.now b.now)) (BothFail
+        (P.Form first.now a.now) (P.Fails first.now a.now) (Q.Fails second.now b.now)) (R.Fails third.now c.now)) (S.Fails fourth.now d.now))
+        (T.Fails fifth.now e.now)) (U.Fails sixth.now f.now)) (V.Fails seventh.now g.now)) (W.Fails eighth.now h.now)) out.old out.new result }
     ensures room { vec_capacity out.old ≤ vec_capacity out.new }
 {
     let start = out.len();
@@ -348,7 +378,8 @@ impl<
 > Writer<I> for (P, Q, R) {
     ghost Form = { λ p v. Both (Both (P.Form p.0 v.0) (Q.Form p.1 v.1)) (R.Form p.2 v.2) };
 
-    ghost Fails = { λ p v. BothFail (Both (P.Form p.0 v.0) (Q.Form p.1 v.1)) (BothFail (P.Form p.0 v.0) (P.Fails p.0 v.0) (Q.Fails p.1 v.1)) (R.Fails p.2 v.2) };
+    ghost Fails = { λ p v. BothFail (Both (P.Form p.0 v.0) (Q.Form p.1 v.1)) (BothFail (P.Form p.0 v.0) (P.Fails p.0 v.0) (Q.Fails p.1 v.1))
+        (R.Fails p.2 v.2) };
 
     ghost MayFollow = { λ p. R.MayFollow p.2 };
 
@@ -365,7 +396,8 @@ impl<
         write_three::<I, P, Q, R, A>(&self.0, &self.1, &self.2, &value.0, &value.1, &value.2, out)
     }
 
-    ghost reads = { λ p k c. tuple_reads (λ o. ((o.0, o.1), o.2)) (pair_reads I.lawful c.2 (pair_reads I.lawful c.1 (P.reads p.0 k.0.0 c.0.0) (Q.reads p.1 k.0.1 c.0.1)) (R.reads p.2 k.1 c.0.2)) };
+    ghost reads = { λ p k c. tuple_reads (λ o. ((o.0, o.1), o.2)) (pair_reads I.lawful c.2 (pair_reads I.lawful c.1 (P.reads p.0 k.0.0 c.0.0)
+        (Q.reads p.1 k.0.1 c.0.1)) (R.reads p.2 k.1 c.0.2)) };
 }
 
 impl<
@@ -377,7 +409,8 @@ impl<
 > Writer<I> for (P, Q, R, S) {
     ghost Form = { λ p v. Both (Both (Both (P.Form p.0 v.0) (Q.Form p.1 v.1)) (R.Form p.2 v.2)) (S.Form p.3 v.3) };
 
-    ghost Fails = { λ p v. BothFail (Both (Both (P.Form p.0 v.0) (Q.Form p.1 v.1)) (R.Form p.2 v.2)) (BothFail (Both (P.Form p.0 v.0) (Q.Form p.1 v.1)) (BothFail (P.Form p.0 v.0) (P.Fails p.0 v.0) (Q.Fails p.1 v.1)) (R.Fails p.2 v.2)) (S.Fails p.3 v.3) };
+    ghost Fails = { λ p v. BothFail (Both (Both (P.Form p.0 v.0) (Q.Form p.1 v.1)) (R.Form p.2 v.2)) (BothFail (Both (P.Form p.0 v.0)
+        (Q.Form p.1 v.1)) (BothFail (P.Form p.0 v.0) (P.Fails p.0 v.0) (Q.Fails p.1 v.1)) (R.Fails p.2 v.2)) (S.Fails p.3 v.3) };
 
     ghost MayFollow = { λ p. S.MayFollow p.3 };
 
@@ -397,7 +430,8 @@ impl<
         )
     }
 
-    ghost reads = { λ p k c. tuple_reads (λ o. (((o.0, o.1), o.2), o.3)) (pair_reads I.lawful c.3 (pair_reads I.lawful c.2 (pair_reads I.lawful c.1 (P.reads p.0 k.0.0.0 c.0.0) (Q.reads p.1 k.0.0.1 c.0.1)) (R.reads p.2 k.0.1 c.0.2)) (S.reads p.3 k.1 c.0.3)) };
+    ghost reads = { λ p k c. tuple_reads (λ o. (((o.0, o.1), o.2), o.3)) (pair_reads I.lawful c.3 (pair_reads I.lawful c.2 (pair_reads I.lawful c.1
+        (P.reads p.0 k.0.0.0 c.0.0) (Q.reads p.1 k.0.0.1 c.0.1)) (R.reads p.2 k.0.1 c.0.2)) (S.reads p.3 k.1 c.0.3)) };
 }
 
 impl<
@@ -410,7 +444,9 @@ impl<
 > Writer<I> for (P, Q, R, S, T) {
     ghost Form = { λ p v. Both (Both (Both (Both (P.Form p.0 v.0) (Q.Form p.1 v.1)) (R.Form p.2 v.2)) (S.Form p.3 v.3)) (T.Form p.4 v.4) };
 
-    ghost Fails = { λ p v. BothFail (Both (Both (Both (P.Form p.0 v.0) (Q.Form p.1 v.1)) (R.Form p.2 v.2)) (S.Form p.3 v.3)) (BothFail (Both (Both (P.Form p.0 v.0) (Q.Form p.1 v.1)) (R.Form p.2 v.2)) (BothFail (Both (P.Form p.0 v.0) (Q.Form p.1 v.1)) (BothFail (P.Form p.0 v.0) (P.Fails p.0 v.0) (Q.Fails p.1 v.1)) (R.Fails p.2 v.2)) (S.Fails p.3 v.3)) (T.Fails p.4 v.4) };
+    ghost Fails = { λ p v. BothFail (Both (Both (Both (P.Form p.0 v.0) (Q.Form p.1 v.1)) (R.Form p.2 v.2)) (S.Form p.3 v.3)) (BothFail (Both (Both
+        (P.Form p.0 v.0) (Q.Form p.1 v.1)) (R.Form p.2 v.2)) (BothFail (Both (P.Form p.0 v.0) (Q.Form p.1 v.1)) (BothFail (P.Form p.0 v.0)
+        (P.Fails p.0 v.0) (Q.Fails p.1 v.1)) (R.Fails p.2 v.2)) (S.Fails p.3 v.3)) (T.Fails p.4 v.4) };
 
     ghost MayFollow = { λ p. T.MayFollow p.4 };
 
@@ -432,7 +468,9 @@ impl<
         )
     }
 
-    ghost reads = { λ p k c. tuple_reads (λ o. ((((o.0, o.1), o.2), o.3), o.4)) (pair_reads I.lawful c.4 (pair_reads I.lawful c.3 (pair_reads I.lawful c.2 (pair_reads I.lawful c.1 (P.reads p.0 k.0.0.0.0 c.0.0) (Q.reads p.1 k.0.0.0.1 c.0.1)) (R.reads p.2 k.0.0.1 c.0.2)) (S.reads p.3 k.0.1 c.0.3)) (T.reads p.4 k.1 c.0.4)) };
+    ghost reads = { λ p k c. tuple_reads (λ o. ((((o.0, o.1), o.2), o.3), o.4)) (pair_reads I.lawful c.4 (pair_reads I.lawful c.3
+        (pair_reads I.lawful c.2 (pair_reads I.lawful c.1 (P.reads p.0 k.0.0.0.0 c.0.0) (Q.reads p.1 k.0.0.0.1 c.0.1)) (R.reads p.2 k.0.0.1 c.0.2))
+        (S.reads p.3 k.0.1 c.0.3)) (T.reads p.4 k.1 c.0.4)) };
 }
 
 impl<
@@ -444,9 +482,13 @@ impl<
     T: Writer<I, Error = P::Error>,
     U: Writer<I, Error = P::Error>,
 > Writer<I> for (P, Q, R, S, T, U) {
-    ghost Form = { λ p v. Both (Both (Both (Both (Both (P.Form p.0 v.0) (Q.Form p.1 v.1)) (R.Form p.2 v.2)) (S.Form p.3 v.3)) (T.Form p.4 v.4)) (U.Form p.5 v.5) };
+    ghost Form = { λ p v. Both (Both (Both (Both (Both (P.Form p.0 v.0) (Q.Form p.1 v.1)) (R.Form p.2 v.2)) (S.Form p.3 v.3)) (T.Form p.4 v.4))
+        (U.Form p.5 v.5) };
 
-    ghost Fails = { λ p v. BothFail (Both (Both (Both (Both (P.Form p.0 v.0) (Q.Form p.1 v.1)) (R.Form p.2 v.2)) (S.Form p.3 v.3)) (T.Form p.4 v.4)) (BothFail (Both (Both (Both (P.Form p.0 v.0) (Q.Form p.1 v.1)) (R.Form p.2 v.2)) (S.Form p.3 v.3)) (BothFail (Both (Both (P.Form p.0 v.0) (Q.Form p.1 v.1)) (R.Form p.2 v.2)) (BothFail (Both (P.Form p.0 v.0) (Q.Form p.1 v.1)) (BothFail (P.Form p.0 v.0) (P.Fails p.0 v.0) (Q.Fails p.1 v.1)) (R.Fails p.2 v.2)) (S.Fails p.3 v.3)) (T.Fails p.4 v.4)) (U.Fails p.5 v.5) };
+    ghost Fails = { λ p v. BothFail (Both (Both (Both (Both (P.Form p.0 v.0) (Q.Form p.1 v.1)) (R.Form p.2 v.2)) (S.Form p.3 v.3)) (T.Form p.4 v.4))
+        (BothFail (Both (Both (Both (P.Form p.0 v.0) (Q.Form p.1 v.1)) (R.Form p.2 v.2)) (S.Form p.3 v.3)) (BothFail (Both (Both (P.Form p.0 v.0)
+        (Q.Form p.1 v.1)) (R.Form p.2 v.2)) (BothFail (Both (P.Form p.0 v.0) (Q.Form p.1 v.1)) (BothFail (P.Form p.0 v.0) (P.Fails p.0 v.0)
+        (Q.Fails p.1 v.1)) (R.Fails p.2 v.2)) (S.Fails p.3 v.3)) (T.Fails p.4 v.4)) (U.Fails p.5 v.5) };
 
     ghost MayFollow = { λ p. U.MayFollow p.5 };
 
@@ -476,7 +518,9 @@ impl<
         )
     }
 
-    ghost reads = { λ p k c. tuple_reads (λ o. (((((o.0, o.1), o.2), o.3), o.4), o.5)) (pair_reads I.lawful c.5 (pair_reads I.lawful c.4 (pair_reads I.lawful c.3 (pair_reads I.lawful c.2 (pair_reads I.lawful c.1 (P.reads p.0 k.0.0.0.0.0 c.0.0) (Q.reads p.1 k.0.0.0.0.1 c.0.1)) (R.reads p.2 k.0.0.0.1 c.0.2)) (S.reads p.3 k.0.0.1 c.0.3)) (T.reads p.4 k.0.1 c.0.4)) (U.reads p.5 k.1 c.0.5)) };
+    ghost reads = { λ p k c. tuple_reads (λ o. (((((o.0, o.1), o.2), o.3), o.4), o.5)) (pair_reads I.lawful c.5 (pair_reads I.lawful c.4
+        (pair_reads I.lawful c.3 (pair_reads I.lawful c.2 (pair_reads I.lawful c.1 (P.reads p.0 k.0.0.0.0.0 c.0.0) (Q.reads p.1 k.0.0.0.0.1 c.0.1))
+        (R.reads p.2 k.0.0.0.1 c.0.2)) (S.reads p.3 k.0.0.1 c.0.3)) (T.reads p.4 k.0.1 c.0.4)) (U.reads p.5 k.1 c.0.5)) };
 }
 
 impl<
@@ -489,9 +533,14 @@ impl<
     U: Writer<I, Error = P::Error>,
     V: Writer<I, Error = P::Error>,
 > Writer<I> for (P, Q, R, S, T, U, V) {
-    ghost Form = { λ p v. Both (Both (Both (Both (Both (Both (P.Form p.0 v.0) (Q.Form p.1 v.1)) (R.Form p.2 v.2)) (S.Form p.3 v.3)) (T.Form p.4 v.4)) (U.Form p.5 v.5)) (V.Form p.6 v.6) };
+    ghost Form = { λ p v. Both (Both (Both (Both (Both (Both (P.Form p.0 v.0) (Q.Form p.1 v.1)) (R.Form p.2 v.2)) (S.Form p.3 v.3)) (T.Form p.4 v.4))
+        (U.Form p.5 v.5)) (V.Form p.6 v.6) };
 
-    ghost Fails = { λ p v. BothFail (Both (Both (Both (Both (Both (P.Form p.0 v.0) (Q.Form p.1 v.1)) (R.Form p.2 v.2)) (S.Form p.3 v.3)) (T.Form p.4 v.4)) (U.Form p.5 v.5)) (BothFail (Both (Both (Both (Both (P.Form p.0 v.0) (Q.Form p.1 v.1)) (R.Form p.2 v.2)) (S.Form p.3 v.3)) (T.Form p.4 v.4)) (BothFail (Both (Both (Both (P.Form p.0 v.0) (Q.Form p.1 v.1)) (R.Form p.2 v.2)) (S.Form p.3 v.3)) (BothFail (Both (Both (P.Form p.0 v.0) (Q.Form p.1 v.1)) (R.Form p.2 v.2)) (BothFail (Both (P.Form p.0 v.0) (Q.Form p.1 v.1)) (BothFail (P.Form p.0 v.0) (P.Fails p.0 v.0) (Q.Fails p.1 v.1)) (R.Fails p.2 v.2)) (S.Fails p.3 v.3)) (T.Fails p.4 v.4)) (U.Fails p.5 v.5)) (V.Fails p.6 v.6) };
+    ghost Fails = { λ p v. BothFail (Both (Both (Both (Both (Both (P.Form p.0 v.0) (Q.Form p.1 v.1)) (R.Form p.2 v.2)) (S.Form p.3 v.3))
+        (T.Form p.4 v.4)) (U.Form p.5 v.5)) (BothFail (Both (Both (Both (Both (P.Form p.0 v.0) (Q.Form p.1 v.1)) (R.Form p.2 v.2)) (S.Form p.3 v.3))
+        (T.Form p.4 v.4)) (BothFail (Both (Both (Both (P.Form p.0 v.0) (Q.Form p.1 v.1)) (R.Form p.2 v.2)) (S.Form p.3 v.3)) (BothFail (Both (Both
+        (P.Form p.0 v.0) (Q.Form p.1 v.1)) (R.Form p.2 v.2)) (BothFail (Both (P.Form p.0 v.0) (Q.Form p.1 v.1)) (BothFail (P.Form p.0 v.0)
+        (P.Fails p.0 v.0) (Q.Fails p.1 v.1)) (R.Fails p.2 v.2)) (S.Fails p.3 v.3)) (T.Fails p.4 v.4)) (U.Fails p.5 v.5)) (V.Fails p.6 v.6) };
 
     ghost MayFollow = { λ p. V.MayFollow p.6 };
 
@@ -523,7 +572,10 @@ impl<
         )
     }
 
-    ghost reads = { λ p k c. tuple_reads (λ o. ((((((o.0, o.1), o.2), o.3), o.4), o.5), o.6)) (pair_reads I.lawful c.6 (pair_reads I.lawful c.5 (pair_reads I.lawful c.4 (pair_reads I.lawful c.3 (pair_reads I.lawful c.2 (pair_reads I.lawful c.1 (P.reads p.0 k.0.0.0.0.0.0 c.0.0) (Q.reads p.1 k.0.0.0.0.0.1 c.0.1)) (R.reads p.2 k.0.0.0.0.1 c.0.2)) (S.reads p.3 k.0.0.0.1 c.0.3)) (T.reads p.4 k.0.0.1 c.0.4)) (U.reads p.5 k.0.1 c.0.5)) (V.reads p.6 k.1 c.0.6)) };
+    ghost reads = { λ p k c. tuple_reads (λ o. ((((((o.0, o.1), o.2), o.3), o.4), o.5), o.6)) (pair_reads I.lawful c.6 (pair_reads I.lawful c.5
+        (pair_reads I.lawful c.4 (pair_reads I.lawful c.3 (pair_reads I.lawful c.2 (pair_reads I.lawful c.1 (P.reads p.0 k.0.0.0.0.0.0 c.0.0)
+        (Q.reads p.1 k.0.0.0.0.0.1 c.0.1)) (R.reads p.2 k.0.0.0.0.1 c.0.2)) (S.reads p.3 k.0.0.0.1 c.0.3)) (T.reads p.4 k.0.0.1 c.0.4))
+        (U.reads p.5 k.0.1 c.0.5)) (V.reads p.6 k.1 c.0.6)) };
 }
 
 impl<
@@ -537,13 +589,21 @@ impl<
     V: Writer<I, Error = P::Error>,
     W: Writer<I, Error = P::Error>,
 > Writer<I> for (P, Q, R, S, T, U, V, W) {
-    ghost Form = { λ p v. Both (Both (Both (Both (Both (Both (Both (P.Form p.0 v.0) (Q.Form p.1 v.1)) (R.Form p.2 v.2)) (S.Form p.3 v.3)) (T.Form p.4 v.4)) (U.Form p.5 v.5)) (V.Form p.6 v.6)) (W.Form p.7 v.7) };
+    ghost Form = { λ p v. Both (Both (Both (Both (Both (Both (Both (P.Form p.0 v.0) (Q.Form p.1 v.1)) (R.Form p.2 v.2)) (S.Form p.3 v.3))
+        (T.Form p.4 v.4)) (U.Form p.5 v.5)) (V.Form p.6 v.6)) (W.Form p.7 v.7) };
 
-    ghost Fails = { λ p v. BothFail (Both (Both (Both (Both (Both (Both (P.Form p.0 v.0) (Q.Form p.1 v.1)) (R.Form p.2 v.2)) (S.Form p.3 v.3)) (T.Form p.4 v.4)) (U.Form p.5 v.5)) (V.Form p.6 v.6)) (BothFail (Both (Both (Both (Both (Both (P.Form p.0 v.0) (Q.Form p.1 v.1)) (R.Form p.2 v.2)) (S.Form p.3 v.3)) (T.Form p.4 v.4)) (U.Form p.5 v.5)) (BothFail (Both (Both (Both (Both (P.Form p.0 v.0) (Q.Form p.1 v.1)) (R.Form p.2 v.2)) (S.Form p.3 v.3)) (T.Form p.4 v.4)) (BothFail (Both (Both (Both (P.Form p.0 v.0) (Q.Form p.1 v.1)) (R.Form p.2 v.2)) (S.Form p.3 v.3)) (BothFail (Both (Both (P.Form p.0 v.0) (Q.Form p.1 v.1)) (R.Form p.2 v.2)) (BothFail (Both (P.Form p.0 v.0) (Q.Form p.1 v.1)) (BothFail (P.Form p.0 v.0) (P.Fails p.0 v.0) (Q.Fails p.1 v.1)) (R.Fails p.2 v.2)) (S.Fails p.3 v.3)) (T.Fails p.4 v.4)) (U.Fails p.5 v.5)) (V.Fails p.6 v.6)) (W.Fails p.7 v.7) };
+    ghost Fails = { λ p v. BothFail (Both (Both (Both (Both (Both (Both (P.Form p.0 v.0) (Q.Form p.1 v.1)) (R.Form p.2 v.2)) (S.Form p.3 v.3))
+        (T.Form p.4 v.4)) (U.Form p.5 v.5)) (V.Form p.6 v.6)) (BothFail (Both (Both (Both (Both (Both (P.Form p.0 v.0) (Q.Form p.1 v.1))
+        (R.Form p.2 v.2)) (S.Form p.3 v.3)) (T.Form p.4 v.4)) (U.Form p.5 v.5)) (BothFail (Both (Both (Both (Both (P.Form p.0 v.0) (Q.Form p.1 v.1))
+        (R.Form p.2 v.2)) (S.Form p.3 v.3)) (T.Form p.4 v.4)) (BothFail (Both (Both (Both (P.Form p.0 v.0) (Q.Form p.1 v.1)) (R.Form p.2 v.2))
+        (S.Form p.3 v.3)) (BothFail (Both (Both (P.Form p.0 v.0) (Q.Form p.1 v.1)) (R.Form p.2 v.2)) (BothFail (Both (P.Form p.0 v.0)
+        (Q.Form p.1 v.1)) (BothFail (P.Form p.0 v.0) (P.Fails p.0 v.0) (Q.Fails p.1 v.1)) (R.Fails p.2 v.2)) (S.Fails p.3 v.3)) (T.Fails p.4 v.4))
+        (U.Fails p.5 v.5)) (V.Fails p.6 v.6)) (W.Fails p.7 v.7) };
 
     ghost MayFollow = { λ p. W.MayFollow p.7 };
 
-    ghost CanWrite = { λ p. (P.CanWrite p.0 × Q.CanWrite p.1 × R.CanWrite p.2 × S.CanWrite p.3 × T.CanWrite p.4 × U.CanWrite p.5 × V.CanWrite p.6 × W.CanWrite p.7) ×
+    ghost CanWrite = { λ p. (P.CanWrite p.0 × Q.CanWrite p.1 × R.CanWrite p.2 × S.CanWrite p.3 × T.CanWrite p.4 × U.CanWrite p.5 × V.CanWrite p.6 ×
+        W.CanWrite p.7) ×
         Meets (P.MayFollow p.0) (λ ys. (b : Q.Output) × Q.Form p.1 b ys) (Q.MayFollow p.1) ×
         Meets (Q.MayFollow p.1) (λ ys. (b : R.Output) × R.Form p.2 b ys) (R.MayFollow p.2) ×
         Meets (R.MayFollow p.2) (λ ys. (b : S.Output) × S.Form p.3 b ys) (S.MayFollow p.3) ×
@@ -573,5 +633,8 @@ impl<
         )
     }
 
-    ghost reads = { λ p k c. tuple_reads (λ o. (((((((o.0, o.1), o.2), o.3), o.4), o.5), o.6), o.7)) (pair_reads I.lawful c.7 (pair_reads I.lawful c.6 (pair_reads I.lawful c.5 (pair_reads I.lawful c.4 (pair_reads I.lawful c.3 (pair_reads I.lawful c.2 (pair_reads I.lawful c.1 (P.reads p.0 k.0.0.0.0.0.0.0 c.0.0) (Q.reads p.1 k.0.0.0.0.0.0.1 c.0.1)) (R.reads p.2 k.0.0.0.0.0.1 c.0.2)) (S.reads p.3 k.0.0.0.0.1 c.0.3)) (T.reads p.4 k.0.0.0.1 c.0.4)) (U.reads p.5 k.0.0.1 c.0.5)) (V.reads p.6 k.0.1 c.0.6)) (W.reads p.7 k.1 c.0.7)) };
+    ghost reads = { λ p k c. tuple_reads (λ o. (((((((o.0, o.1), o.2), o.3), o.4), o.5), o.6), o.7)) (pair_reads I.lawful c.7 (pair_reads I.lawful c.6
+        (pair_reads I.lawful c.5 (pair_reads I.lawful c.4 (pair_reads I.lawful c.3 (pair_reads I.lawful c.2 (pair_reads I.lawful c.1
+        (P.reads p.0 k.0.0.0.0.0.0.0 c.0.0) (Q.reads p.1 k.0.0.0.0.0.0.1 c.0.1)) (R.reads p.2 k.0.0.0.0.0.1 c.0.2)) (S.reads p.3 k.0.0.0.0.1 c.0.3))
+        (T.reads p.4 k.0.0.0.1 c.0.4)) (U.reads p.5 k.0.0.1 c.0.5)) (V.reads p.6 k.0.1 c.0.6)) (W.reads p.7 k.1 c.0.7)) };
 }

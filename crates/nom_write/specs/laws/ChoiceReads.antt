@@ -1,7 +1,8 @@
 -- What is read of choices, and of a part whose outcome becomes another.
 use Rattle.std.specs.Prelude.{◌≡◌, ℕ, ◌+◌, Bool, List, [], ◌++◌, ◌⊎◌, Option, Some, None, refl}
 use Rattle.std.proofs.Common.{sym, ◌∙◌, ap, subst, inl, inr}
-use Rattle.nom_internal.specs.Prelude.{Errors, Model, items_len, Grammar, Outcome, Accept, Refuse, GoesOnRefused, OnRefusal, EitherOutput, Meaning, OnPart, labelled, either_meaning, either_of, map_by}
+use Rattle.nom_internal.specs.Prelude.{Errors, Model, items_len, Grammar, Outcome, Accept, Refuse, GoesOnRefused, OnRefusal, EitherOutput, Meaning}
+use Rattle.nom_internal.specs.Prelude.{OnPart, labelled, either_meaning, either_of, map_by}
 use Rattle.nom_branch.specs.Alternatives.{alt_of}
 use Rattle.nom_combinator.specs.Verdicts.{OptOutput, cut_of, opt_of, opt_outcome}
 use Rattle.nom_write.specs.declared.writer.WriteError.{WriteError}
@@ -10,7 +11,8 @@ use Rattle.nom_write.specs.Options.{OptForm}
 use Rattle.nom_write.specs.Reads.{Anything, NoItem, Reads, ReadsBefore}
 
 -- a part, with what its outcome becomes: of an acceptance one of that length
-module _ {I P T : Type 0} (w : Model I ℕ) (becomes : Outcome P → Outcome T) (label : P → T) (keeps : (n : ℕ) (u : P) → becomes (Accept n u) ≡ Accept n (label u)) where
+module _ {I P T : Type 0} (w : Model I ℕ) (becomes : Outcome P → Outcome T) (label : P → T) (keeps : (n : ℕ) (u : P) → becomes (Accept n u) ≡ Accept n
+    (label u)) where
   pub become_reads : (F : I → Outcome P → Type 0) (IsPart : P → Type 0) (IsTree : T → Type 0) (First Next : List ℕ → Type 0) (xs : List ℕ) →
       ((rest : List ℕ) → Next rest → First rest) → ((u : P) → IsPart u → IsTree (label u)) → ReadsBefore w F IsPart First xs →
       ReadsBefore w (λ i o. OnPart (λ (x y : I). x ≡ y) F (λ _ a. o ≡ becomes a) i) IsTree Next xs
@@ -51,7 +53,8 @@ module _ {I P Q O E : Type 0} {w : Model I ℕ} (Joins : E → E → E → Type 
       reads : (v : O) (xs : List ℕ) → Either (FirstForm v) (FirstFails v) (SecondForm v) xs → (s : Bool) →
           ReadsBefore w ((either_of Joins Grows g h).meaning.answers s) (IsTree v) Both xs
       reads v xs (inl f) s =
-          let r = become_reads w (labelled inl) inl (λ n u. refl) (g.meaning.answers s) (λ u. g.IsOutput u v) (IsTree v) First Both xs (λ rest k. k.0) (λ u k. k)
+          let r = become_reads w (labelled inl) inl (λ n u. refl) (g.meaning.answers s) (λ u. g.IsOutput u v) (IsTree v) First Both xs (λ rest k. k.0)
+          (λ u k. k)
           (p.reads v xs f s) in
           record {
             read = λ i rest o known e f a.
@@ -60,7 +63,8 @@ module _ {I P Q O E : Type 0} {w : Model I ℕ} (Joins : E → E → E → Type 
                 (k.0, g, k.2);
           }
       reads v xs (inr f) s =
-          let r = become_reads w (labelled inr) inr (λ n u. refl) (h.meaning.answers s) (λ u. h.IsOutput u v) (IsTree v) Second Both xs (λ rest k. k.1) (λ u k. k)
+          let r = become_reads w (labelled inr) inr (λ n u. refl) (h.meaning.answers s) (λ u. h.IsOutput u v) (IsTree v) Second Both xs
+          (λ rest k. k.1) (λ u k. k)
           (q.reads v xs f.1 s) in
           record {
             read = λ i rest o known e k a. r.read i rest o known e k
@@ -68,7 +72,8 @@ module _ {I P Q O E : Type 0} {w : Model I ℕ} (Joins : E → E → E → Type 
           }
 
 -- what both refuse their choice refuses
-pub either_apart : {I P Q E : Type 0} {w : Model I ℕ} (Joins : E → E → E → Type 0) (Grows : Type 0) {m : Meaning I P E} {n : Meaning I Q E} {Kind : List ℕ → Type 0} →
+pub either_apart : {I P Q E : Type 0} {w : Model I ℕ} (Joins : E → E → E → Type 0)
+    (Grows : Type 0) {m : Meaning I P E} {n : Meaning I Q E} {Kind : List ℕ → Type 0} →
     Apart w m Kind → Apart w n Kind → Apart w (either_meaning Joins Grows m n) Kind
 either_apart {I} {w = w} Joins Grows {m} {n} a b = record {
   refuses = λ xs rest t s i o known e r.
@@ -98,19 +103,25 @@ module _ {I V O E : Type 0} {w : Model I ℕ} {g : Grammar I V O E} {Form : O �
       Both : List ℕ → Type 0
       Both rest = Follow rest × NoItem w g.meaning rest
 
-      reads : (v : Option O) (xs : List ℕ) → OptForm Form v xs → (s : Bool) → ReadsBefore w ((opt_of g).meaning.answers s) (λ t. OptOutput g.IsOutput t v) Both xs
+      reads : (v : Option O) (xs : List ℕ) → OptForm Form v xs → (s : Bool) → ReadsBefore w ((opt_of g).meaning.answers s)
+          (λ t. OptOutput g.IsOutput t v) Both xs
       reads (Some v) xs f s = become_reads w opt_outcome Some (λ n u. refl) (g.meaning.answers s) (λ u. g.IsOutput u v)
           (λ t. OptOutput g.IsOutput t (Some v)) Follow Both xs (λ rest k. k.0) (λ u k. (v, refl, k)) (p.reads v xs f s)
       reads None xs f s = record {
         read = λ i rest o known e k a.
-            let whole : w.elements i ≡ rest = e ∙ ap (λ z. z ++ rest) f in
-            (None, become_refused w opt_outcome (g.meaning.answers s) rest i o known whole (k.1 s) a ∙ ap (λ z. Accept (items_len w.item_len z) None) (sym f), refl);
+            let whole : w.elements i ≡ rest = e ∙ ap (λ z. z ++ rest) f in (
+              None,
+              become_refused w opt_outcome (g.meaning.answers s) rest i o known whole (k.1 s) a ∙ ap (λ z. Accept (items_len w.item_len z) None)
+                  (sym f),
+              refl,
+            );
       }
 
   -- a map: what stands for what a value is mapped back to stands for the value, which it is mapped to again
   pub map_back_reads : {R : Type 0} (IsTaken : O → Type 0) (Gives : O → R → Type 0) (Back : R → O → Type 0) →
       ((v : R) (x : O) → Back v x → Gives x v) → Reads w g Form Follow → Reads w (map_by IsTaken Gives g) (λ v xs. (x : O) × Back v x × Form x xs) Follow
   map_back_reads {R} IsTaken Gives Back again p = record {
-    reads = λ v xs f s. become_reads w (λ a. a) (λ u. u) (λ n u. refl) (g.meaning.answers s) (λ u. g.IsOutput u f.0) (λ t. (map_by IsTaken Gives g).IsOutput t v)
+    reads = λ v xs f s. become_reads w (λ a. a) (λ u. u) (λ n u. refl) (g.meaning.answers s) (λ u. g.IsOutput u f.0) (λ t.
+        (map_by IsTaken Gives g).IsOutput t v)
         Follow Follow xs (λ rest k. k) (λ u k. record { output = f.0; is_output = k; given = again v f.0 f.1 }) (p.reads f.0 xs f.2 s);
   }

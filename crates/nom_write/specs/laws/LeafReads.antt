@@ -1,7 +1,8 @@
 -- What is read of leaves.
 use Rattle.std.specs.Prelude.{◌≡◌, ℕ, Bool, List, [], ◌∷◌, ◌++◌, length, Option, refl}
 use Rattle.std.proofs.Common.{arith, sym, ◌∙◌, ap, subst}
-use Rattle.nom_internal.specs.Prelude.{Errors, Model, InputLaws, items_len, items_len-ones, same_self, Slice, IsFirst, Meaning, IsLawful, Outcome, Accept, OnPart, labelled}
+use Rattle.nom_internal.specs.Prelude.{Errors, Model, InputLaws, items_len, items_len-ones, same_self, Slice, IsFirst, Meaning, IsLawful, Outcome}
+use Rattle.nom_internal.specs.Prelude.{Accept, OnPart, labelled}
 use Rattle.nom_internal.specs.Prelude.{bytes_model, bytes_lawful, bytes_comparing, ComparesBytes}
 use Rattle.std.specs.Borrow.{Bor}
 use Rattle.nom_internal.specs.Prelude.{IsModelledBy, sliced, valued}
@@ -73,7 +74,8 @@ module _ {E : Type 0} (errs : Errors (Bor (List ℕ)) E) (tag : List ℕ) where
   pub tag_reads_some : ReadsSome bytes_model (sliced bytes_model (tag_meaning bytes_model errs length ComparesBytes tag)) tag
   tag_reads_some = record { reads = λ s. tag_items tag s (λ _. Unit {0}) (λ t h. tt) }
 
-  pub tag_reads : Reads bytes_model (sliced bytes_model (tag_meaning bytes_model errs length ComparesBytes tag)) (λ v xs. (xs ≡ tag) × Holds bytes_model v tag) Anything
+  pub tag_reads : Reads bytes_model (sliced bytes_model (tag_meaning bytes_model errs length ComparesBytes tag)) (λ v xs.
+      (xs ≡ tag) × Holds bytes_model v tag) Anything
   tag_reads = record {
     reads = λ v xs f s. subst (ReadsBefore bytes_model ((tag_meaning bytes_model no_errors length ComparesBytes tag).answers s)
         (λ t. IsModelledBy bytes_model t v) Anything) (sym f.0) (tag_items tag s (λ t. IsModelledBy bytes_model t v)

@@ -23,7 +23,8 @@ use Rattle.nom_write.specs.laws.SequenceReads.{follows}
 module _ {I V O E : Type 0} (w : Model I ℕ) (l : InputLaws w) (g : Grammar I V O E) (limits : Limits) (Form : O → List ℕ → Type 0) (Follow : List ℕ → Type 0)
     (all : (rest : List ℕ) → Follow rest) (reads : Reads w g Form Follow) (After : List ℕ → Type 0) (total : ℕ) (s : Bool)
     (runs : (k : ℕ) (i : I) → k < total → Replies limits.most (λ k. g.meaning.answers s) k i None → ⊥)
-    (takes : (k : ℕ) (v : O) (xs : List ℕ) (t : V) → Form v xs → item_turn limits k (Some (Accept (items_len w.item_len xs) t)) ≡ Takes (items_len w.item_len xs) t)
+    (takes : (k : ℕ) (v : O) (xs : List ℕ) (t : V) → Form v xs → item_turn limits k (Some (Accept (items_len w.item_len xs) t)) ≡ Takes
+    (items_len w.item_len xs) t)
     (ends : (i : I) (rest : List ℕ) (turn : Turn V (Unit {0})) → w.IsKnown i → w.elements i ≡ rest → After rest →
     TurnsBy limits.most (item_turn limits) (λ k. g.meaning.answers s) total i turn → turn ≡ Ends (Accept 0 tt)) where
   abbrev Turns : ℕ → I → Turn V (Unit {0}) → Type 0
@@ -97,7 +98,8 @@ some_len w l [] h = absurd (omega (arith, h))
 some_len w l (x ∷ xs) h = omega (arith, l.positive x)
 
 -- forms of items that are of a kind
-item_reads : {I V O E : Type 0} (w : Model I ℕ) (g : Grammar I V O E) (some : Bool) (Form : O → List ℕ → Type 0) (Follow : List ℕ → Type 0) → Reads w g Form Follow →
+item_reads : {I V O E : Type 0} (w : Model I ℕ) (g : Grammar I V O E) (some : Bool) (Form : O → List ℕ → Type 0) (Follow : List ℕ → Type 0) →
+    Reads w g Form Follow →
     Reads w g (ItemForm some Form) Follow
 item_reads w g some Form Follow p = record { reads = λ v xs f. p.reads v xs f.0 }
 
@@ -121,7 +123,8 @@ module _ {I V O E : Type 0} (w : Model I ℕ) (l : InputLaws w) (errs : Errors I
   -- any number of items that aren't empty, before what begins with none
   any_items_reads : (kind : ErrorKind) (vs : List O) (xs : List ℕ) → Each (ItemForm true Form) vs xs →
       ReadsBefore w ((items_meaning w errs (any_limits kind) (Unit {0}) g.meaning).answers s) (λ ts. AllZip g.IsOutput ts vs) (NoItem w g.meaning) xs
-  any_items_reads kind vs xs h = list_read w l g (any_limits kind) (ItemForm true Form) Follow all (item_reads w g true Form Follow p) (NoItem w g.meaning) (length vs) s
+  any_items_reads kind vs xs h = list_read w l g (any_limits kind) (ItemForm true Form) Follow all (item_reads w g true Form Follow p)
+      (NoItem w g.meaning) (length vs) s
       (λ k i below none. none tt) (λ k v xs t f. some_taken kind k (items_len w.item_len xs) t (some_len w l xs (f.1 refl))) ends errs vs xs refl h
     where
       ends : (i : I) (rest : List ℕ) (turn : Turn V (Unit {0})) → w.IsKnown i → w.elements i ≡ rest → NoItem w g.meaning rest →
