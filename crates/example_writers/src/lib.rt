@@ -1,0 +1,5 @@
+//! Formats that are read and written by one parser.
+#![tactic(auto)]
+
+pub mod header;
+pub mod records;

@@ -1,0 +1,26 @@
+-- Forms of a choice: the first part's, or where the first can't write a value the second's.
+use Rattle.std.specs.Prelude.{◌≡◌, ℕ, ◌⊎◌, List, ◌∷◌, ◌++◌}
+use Rattle.nom_internal.specs.Prelude.{Model, Meaning}
+use Rattle.nom_write.specs.declared.writer.WriteError.{WriteError}
+use Rattle.nom_write.specs.declared.writer.WriteError.TheVariants.{OutOfMemory}
+use Rattle.nom_write.specs.Reads.{NoItem}
+
+-- a part can't write a value, whatever the memory
+abbrev pub IsUnfit : ((room start : ℕ) → WriteError → Type 0) → Type 0
+IsUnfit Fails = (room : ℕ) × (start : ℕ) × (e : WriteError) × Fails room start e × (e ≡ OutOfMemory → ⊥)
+
+-- a form of the first, or one of the second where the first can't
+abbrev pub Either : (List ℕ → Type 0) → ((room start : ℕ) → WriteError → Type 0) → (List ℕ → Type 0) → List ℕ → Type 0
+Either First FirstFails Second xs = First xs ⊎ (IsUnfit FirstFails × Second xs)
+
+-- the first runs out of memory, or it can't write the value, and the second fails
+abbrev pub EitherFails : ((room start : ℕ) → WriteError → Type 0) → ((room start : ℕ) → WriteError → Type 0) → (room start : ℕ) → WriteError → Type 0
+EitherFails FirstFails SecondFails room start e = (FirstFails room start e × (e ≡ OutOfMemory)) ⊎ (IsUnfit FirstFails × SecondFails room start e)
+
+-- whatever begins with bytes of a kind a parser refuses
+pub record Apart {I V E : Type 0} (w : Model I ℕ) (m : Meaning I V E) (Kind : List ℕ → Type 0) : Type 0 where
+  pub refuses : (xs rest : List ℕ) → Kind xs → NoItem w m (xs ++ rest)
+
+-- they begin with a byte
+abbrev pub Begins : ℕ → List ℕ → Type 0
+Begins b xs = (ys : List ℕ) × (xs ≡ b ∷ ys)

@@ -1,0 +1,9 @@
+pub mod Choices
+pub mod Digits
+pub mod Lengths
+pub mod Lists
+pub mod Options
+pub mod Parts
+pub mod Reads
+pub mod Written
+pub mod laws

@@ -1,0 +1,5 @@
+pub mod ChoiceReads
+pub mod LeafReads
+pub mod LengthReads
+pub mod ListReads
+pub mod SequenceReads

@@ -1,0 +1,67 @@
+-- What is read of a length and what it counts.
+use Rattle.std.specs.Prelude.{◌≡◌, ℕ, Bool, false, List, ◌++◌, length, Vec, Option, refl}
+use Rattle.std.specs.List.{AllZip}
+use Rattle.std.proofs.Common.{sym, ◌∙◌, ap, subst}
+use Rattle.nom_internal.specs.Prelude.{Errors, Model, InputLaws, IsModelledBy, Outcome, Grammar, IsOne, OfValue}
+use Rattle.nom_bytes.specs.Takes.{take_meaning}
+use Rattle.nom_repeat.specs.Items.{items_meaning}
+use Rattle.nom_repeat.specs.Bounds.{exact_limits}
+use Rattle.nom_multi_length.specs.Lengths.{HasSize, length_count_of, length_data_of}
+use Rattle.nom_write.specs.Lengths.{FormOfSize}
+use Rattle.nom_write.specs.Lists.{Each, ItemForm}
+use Rattle.nom_write.specs.Parts.{Both}
+use Rattle.nom_write.specs.Reads.{Anything, Holds, Reads, ReadsBefore}
+use Rattle.nom_write.specs.laws.LeafReads.{no_errors, take_reads}
+use Rattle.nom_write.specs.laws.ListReads.{exact_reads}
+use Rattle.nom_write.specs.laws.SequenceReads.{as_whole, then_reads}
+
+-- what is meant by the one value that a tree stands for
+of_value_reads : {I A V Q : Type 0} (w : Model I A) (IsValue : V → Type 0) (N : V → I → Outcome Q → Type 0) (n : V) →
+    ((k : V) → IsValue k → k ≡ n) → (IsTree : Q → Type 0) (Follow : List A → Type 0) (xs : List A) → ReadsBefore w (N n) IsTree Follow xs →
+    ReadsBefore w (λ i o. OfValue IsValue (λ v. N v i o)) IsTree Follow xs
+of_value_reads w IsValue N n one IsTree Follow xs p = record {
+  read = λ i rest o known e f a. p.read i rest o known e f (subst (λ z. N z i o) (one a.value a.is_value) a.fact);
+}
+
+module _ {I P O E : Type 0} {w : Model I ℕ} (l : InputLaws w) (errs : Errors I E) (size : O → ℕ) {g : Grammar I P O E} (one : IsOne (HasSize g.IsOutput size))
+    {Form : O → List ℕ → Type 0} {Follow : List ℕ → Type 0} (all : (rest : List ℕ) → Follow rest) (p : Reads w g Form Follow) where
+  -- a length, and as many items
+  pub length_data_reads : (lack : ℕ → List ℕ → Option ℕ) → ((m n : w.Mark) → m ≡ n) →
+      Reads w (length_data_of w errs lack size g) (λ v. Both (FormOfSize size Form (length (w.elements v))) (Holds w v)) Anything
+  length_data_reads lack one_mark = record { reads = reads }
+    where
+      reads : (v : I) (xs : List ℕ) → Both (FormOfSize size Form (length (w.elements v))) (Holds w v) xs → (s : Bool) →
+          ReadsBefore w ((length_data_of w errs lack size g).meaning.answers s) (λ t. IsModelledBy w t.1 v) Anything xs
+      reads v xs f s =
+          let n = f.first.0 in
+          let ys = f.back in
+          let count : length ys ≡ size n = sym (f.first.1 ∙ ap length f.second.elements_are) in
+          as_whole w f.whole (then_reads w l (λ u t. (u, t)) (g.meaning.answers s)
+          (λ u j o. OfValue (HasSize g.IsOutput size u) (λ k. (take_meaning w no_errors lack k).answers s j o)) (λ u. g.IsOutput u n) (λ t. IsModelledBy w t v)
+          (λ t. IsModelledBy w t.1 v) (λ u t h k. k) Follow Anything f.front ys (λ rest h. all (ys ++ rest)) (p.reads n f.front f.first.2 s) (λ u h.
+          of_value_reads w (HasSize g.IsOutput size u) (λ k. (take_meaning w no_errors lack k).answers s) (size n)
+          (λ k is. one u k (size n) is (record { output = n; is_output = h; size_is = refl })) (λ t. IsModelledBy w t v) Anything ys
+          (take_reads w s ys (λ t. IsModelledBy w t v) (λ t e. record {
+            known = f.second.known;
+            elements_are = f.second.elements_are ∙ sym e;
+            mark_is = one_mark _ _;
+          }) lack (size n) count)))
+
+  -- a number, and as many items of another grammar
+  pub length_count_reads : {U X M : Type 0} {h : Grammar I U X E} {NextForm : X → List ℕ → Type 0} {NextFollow : List ℕ → Type 0} →
+      ((rest : List ℕ) → NextFollow rest) → Reads w h NextForm NextFollow →
+      Reads w (length_count_of {M = M} w errs size g h) (λ v. Both (FormOfSize size Form (length v.items)) (Each (ItemForm false NextForm) v.items)) Anything
+  length_count_reads {U} {X} {M} {h} {NextForm} {NextFollow} next_all q = record { reads = reads }
+    where
+      reads : (v : Vec X M) (xs : List ℕ) → Both (FormOfSize size Form (length v.items)) (Each (ItemForm false NextForm) v.items) xs → (s : Bool) →
+          ReadsBefore w ((length_count_of {M = M} w errs size g h).meaning.answers s) (λ ts. AllZip h.IsOutput ts v.items) Anything xs
+      reads v xs f s =
+          let n = f.first.0 in
+          let ys = f.back in
+          as_whole w f.whole (then_reads w l (λ u t. t) (g.meaning.answers s)
+          (λ u j o. OfValue (HasSize g.IsOutput size u) (λ k. (items_meaning w errs (exact_limits k) (Unit {0}) h.meaning).answers s j o))
+          (λ u. g.IsOutput u n) (λ ts. AllZip h.IsOutput ts v.items) (λ ts. AllZip h.IsOutput ts v.items) (λ u t x k. k) Follow Anything f.front ys
+          (λ rest k. all (ys ++ rest)) (p.reads n f.front f.first.2 s) (λ u x.
+          of_value_reads w (HasSize g.IsOutput size u) (λ k. (items_meaning w errs (exact_limits k) (Unit {0}) h.meaning).answers s) (length v.items)
+          (λ k is. one u k (size n) is (record { output = n; is_output = x; size_is = refl }) ∙ f.first.1) (λ ts. AllZip h.IsOutput ts v.items) Anything ys
+          (exact_reads w l errs h NextForm NextFollow next_all q s v.items ys f.second)))

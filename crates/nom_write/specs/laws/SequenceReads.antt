@@ -1,0 +1,74 @@
+-- What is read of parts in sequence: what is written of the second, with all that may follow it, may follow the first.
+use Rattle.std.specs.Prelude.{◌≡◌, ℕ, ◌+◌, Bool, List, ◌++◌, refl}
+use Rattle.std.proofs.Common.{sym, ◌∙◌, ap, subst, append_assoc}
+use Rattle.nom_internal.specs.Prelude.{Model, InputLaws, items_len, items_len-append, IsSuffixOf, Grammar, Outcome, Accept, GoesOn, Then, after}
+use Rattle.nom_internal.specs.Prelude.{PairOutput, pair_of}
+use Rattle.nom_internal.specs.Tuples.{tuple_of}
+use Rattle.nom_traits.specs.Rests.{same_cut}
+use Rattle.nom_sequence.specs.Sequences.{preceded_of, terminated_of}
+use Rattle.nom_write.specs.Parts.{Both, Meets}
+use Rattle.nom_write.specs.Reads.{Anything, IsTaken, Reads, ReadsBefore, ReadsSome}
+
+-- what follows items of a front, by the front's length
+pub follows : {I A : Type 0} (w : Model I A) → InputLaws w → (i j : I) (xs rest : List A) → w.elements i ≡ xs ++ rest →
+    IsSuffixOf w i (items_len w.item_len xs) j → w.elements j ≡ rest
+follows w l i j xs rest e s = (same_cut w.item_len l.positive s.front (w.elements j) xs rest (sym s.whole ∙ e) s.length_is).1
+
+-- by an equation of the items
+pub as_whole : {I A V : Type 0} (w : Model I A) {P : I → Outcome V → Type 0} {Fact : V → Type 0} {Follow : List A → Type 0} {xs ys : List A} → xs ≡ ys →
+    ReadsBefore w P Fact Follow ys → ReadsBefore w P Fact Follow xs
+as_whole w {P} {Fact} {Follow} e r = subst (ReadsBefore w P Fact Follow) (sym e) r
+
+module _ {I A P Q T : Type 0} (w : Model I A) (l : InputLaws w) (tree : P → Q → T) (F : I → Outcome P → Type 0) (N : P → I → Outcome Q → Type 0)
+    (IsFirst : P → Type 0) (IsNext : Q → Type 0) (IsTree : T → Type 0) (joins : (u : P) (v : Q) → IsFirst u → IsNext v → IsTree (tree u v))
+    (First Next : List A → Type 0) (xs ys : List A) (meets : (rest : List A) → Next rest → First (ys ++ rest)) where
+  -- one part after another
+  pub then_reads : ReadsBefore w F IsFirst First xs → ((u : P) → IsFirst u → ReadsBefore w (N u) IsNext Next ys) →
+      ReadsBefore w (Then w tree F N) IsTree Next (xs ++ ys)
+  then_reads p q = record { read = reads }
+    where
+      reads : (i : I) (rest : List A) (o : Outcome T) → w.IsKnown i → w.elements i ≡ (xs ++ ys) ++ rest → Next rest → Then w tree F N i o →
+          IsTaken w IsTree (items_len w.item_len (xs ++ ys)) o
+      reads i rest o known e next a =
+          let e' : w.elements i ≡ xs ++ (ys ++ rest) = e ∙ append_assoc xs ys rest in
+          let f = p.read i (ys ++ rest) a.first known e' (meets rest next) a.answered in
+          let g : GoesOn w tree N i (Accept (items_len w.item_len xs) f.0) o = subst (λ z. GoesOn w tree N i z o) f.1 a.goes_on in
+          let j = g.0 in
+          let k = (q f.0 f.2).read j rest g.1 g.2.known (follows w l i j xs (ys ++ rest) e' g.2) next g.3 in
+          let n = items_len w.item_len xs in
+          let m = items_len w.item_len ys in
+          let t : T = tree f.0 k.0 in
+          let whole : o ≡ Accept (n + m) t = g.4 ∙ ap (λ z. after n (tree f.0) z) k.1 in
+          (t, subst (λ z. o ≡ Accept z t) (sym (items_len-append w.item_len xs ys)) whole, joins f.0 k.0 f.2 k.2)
+
+module _ {I V W O P E : Type 0} {w : Model I ℕ} (l : InputLaws w) {g : Grammar I V O E} {h : Grammar I W P E} where
+  pub pair_reads : {FirstForm : O → List ℕ → Type 0} {NextForm : P → List ℕ → Type 0} {First Next : List ℕ → Type 0} →
+      Meets First (λ ys. (b : P) × NextForm b ys) Next → Reads w g FirstForm First → Reads w h NextForm Next →
+      Reads w (pair_of w g h) (λ v. Both (FirstForm v.0) (NextForm v.1)) Next
+  pair_reads {First = First} {Next} meets p q = record {
+    reads = λ v xs f s. as_whole w f.whole (then_reads w l (λ u v. (u, v)) (g.meaning.answers s) (λ u. h.meaning.answers s)
+        (λ t. g.IsOutput t v.0) (λ t. h.IsOutput t v.1) (λ t. PairOutput g.IsOutput h.IsOutput t v) (λ u v x y. (x, y)) First Next f.front f.back
+        (λ rest n. meets f.back rest (v.1, f.second) n) (p.reads v.0 f.front f.first s) (λ u x. q.reads v.1 f.back f.second s));
+  }
+
+  pub preceded_reads : {bytes : List ℕ} {NextForm : P → List ℕ → Type 0} {Next : List ℕ → Type 0} → ReadsSome w g bytes → Reads w h NextForm Next →
+      Reads w (preceded_of w g h) (λ v. Both (λ ys. ys ≡ bytes) (NextForm v)) Next
+  preceded_reads {bytes} {Next = Next} p q = record {
+    reads = λ b xs f s. as_whole w f.whole (then_reads w l (λ u v. v) (g.meaning.answers s) (λ u. h.meaning.answers s)
+        (λ u. Unit {0}) (λ t. h.IsOutput t b) (λ t. h.IsOutput t b) (λ u v x y. y) Anything Next f.front f.back (λ rest n. tt)
+        (as_whole w f.first (p.reads s)) (λ u x. q.reads b f.back f.second s));
+  }
+
+  pub terminated_reads : {bytes : List ℕ} {FirstForm : O → List ℕ → Type 0} {First : List ℕ → Type 0} → ((rest : List ℕ) → First (bytes ++ rest)) →
+      Reads w g FirstForm First → ReadsSome w h bytes → Reads w (terminated_of w g h) (λ v. Both (FirstForm v) (λ ys. ys ≡ bytes)) Anything
+  terminated_reads {bytes} {First = First} meets p q = record {
+    reads = λ a xs f s. as_whole w f.whole (then_reads w l (λ u v. u) (g.meaning.answers s) (λ u. h.meaning.answers s)
+        (λ t. g.IsOutput t a) (λ v. Unit {0}) (λ t. g.IsOutput t a) (λ u v x y. x) First Anything f.front f.back
+        (λ rest n. subst (λ z. First (z ++ rest)) (sym f.second) (meets rest)) (p.reads a f.front f.first s)
+        (λ u x. as_whole w f.second (q.reads s)));
+  }
+
+-- a tuple, by the nested pairs of its outputs
+pub tuple_reads : {I V O F E : Type 0} {w : Model I ℕ} {g : Grammar I V O E} {Form : O → List ℕ → Type 0} {Follow : List ℕ → Type 0} (pairs : F → O) →
+    Reads w g Form Follow → Reads w (tuple_of pairs g) (λ v. Form (pairs v)) Follow
+tuple_reads pairs p = record { reads = λ v. p.reads (pairs v) }

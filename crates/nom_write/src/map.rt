@@ -1,0 +1,108 @@
+//! Maps, with a map back.
+ghost use Rattle.std.specs.Prelude.{◌≡◌, ◌⊎◌, Some, None};
+ghost use Rattle.nom_write.specs.declared.writer.WriteError.{WriteError};
+ghost use Rattle.std.specs.Borrow.{Bor};
+ghost use Rattle.std.specs.Fn.{FnReturnsAt};
+ghost use Rattle.nom_internal.specs.Prelude.{SeesAlike, map_by};
+ghost use Rattle.nom_internal.specs.laws.MappedLaws.{given_pinned, map_lawful, map_steady};
+ghost use Rattle.nom_write.specs.laws.ChoiceReads.{map_back_reads};
+
+use crate::writer::{WriteError, Writer};
+use nom_error::answer::PResult;
+use nom_error::mode::OutputMode;
+use nom_internal::map::Map;
+use nom_internal::parser::{Parser, StreamParser};
+use nom_traits::input::Items;
+use nom_traits::view::Viewed;
+use std::alloc::Allocator;
+
+/// A parser whose outputs a closure maps, with a closure that maps a value back; made by `map_both`.
+#[derive(Drop)]
+pub struct MapBoth<F, G, H> {
+    pub map: Map<F, G>,
+    pub back: H,
+}
+
+/// Reads as `map(parser, to)`, and writes what `from` makes of a value; where that is none, as of another variant of an enum, the
+/// value is a mismatch. That `to` gives the value for it again has to be proved where a value is written.
+#[inline(always)]
+pub fn map_both<F, G, H>(parser: F, to: G, from: H) -> MapBoth<F, G, H>
+    ensures { result ≡ record { map = record { parser = parser; map = to }; back = from } }
+{
+    MapBoth {
+        map: Map { parser, map: to },
+        back: from,
+    }
+}
+
+impl<I: Items, F: Parser<I> + Drop, O: Drop, G: Fn(F::Output) -> O, H> Parser<I>
+    for MapBoth<F, G, H> {
+    type Output = O;
+
+    type Error = F::Error;
+
+    ghost State = { F.State × G };
+
+    ghost state = { λ p. (F.state p.map.parser, p.map.map) };
+
+    ghost Tree = { F.Tree };
+
+    ghost grammar = { λ s. map_by (G.pre s.1) (G.post s.1) (F.grammar s.0) };
+
+    ghost Besides = { λ mode old new. F.Besides mode old.map.parser new.map.parser };
+
+    #[inline(always)]
+    fn process<OM: OutputMode>(&mut self, input: I) -> PResult<I, O, F::Error> {
+        self.map.process::<OM>(input)
+    }
+
+    ghost lawful = { λ s k. map_lawful (F.lawful s.0 k) };
+}
+
+impl<I: Items, F: StreamParser<I> + Drop, O: Viewed + Drop, G: Fn(F::Output) -> O, H> StreamParser<
+    I,
+> for MapBoth<F, G, H> {
+    ghost Pins = { λ p. F.Pins p.map.parser × SeesAlike F.Output.view O.view (G.post p.map.map) };
+
+    ghost pinned = { λ p k h. given_pinned (F.pinned p.map.parser k h.0) h.1 };
+
+    ghost steady = { λ s k. map_steady (F.steady s.0 k) };
+}
+
+/// What a closure maps a value back to.
+#[inline(always)]
+fn mapped_back<O, P, H: Fn(&O) -> Option<P>>(back: &H, value: &O) -> Option<P>
+    requires callable { (p : Bor O) → p.now ≡ value.now → H.pre back.now p }
+    ensures { FnReturnsAt H.Fn back.now value.now result }
+{
+    back(value)
+}
+
+/// What the value is mapped back to, which must be mapped to the value again.
+impl<
+    I: Items<Item = u8>,
+    F: Writer<I> + Drop,
+    O: Viewed + Drop,
+    G: Fn(F::Output) -> O,
+    H: Fn(&O) -> Option<F::Output>,
+> Writer<I> for MapBoth<F, G, H> {
+    ghost Form = { λ p v xs. (x : F.Output) × FnReturnsAt H.Fn p.back v (Some x) × F.Form p.map.parser x xs };
+
+    ghost Fails = { λ p v room start e. (FnReturnsAt H.Fn p.back v None × (e ≡ WriteError.Mismatch start)) ⊎
+        ((x : F.Output) × FnReturnsAt H.Fn p.back v (Some x) × F.Fails p.map.parser x room start e) };
+
+    ghost MayFollow = { λ p. F.MayFollow p.map.parser };
+
+    ghost CanWrite = { λ p. F.CanWrite p.map.parser × ((v : O) (r : Bor O) → r.now ≡ v → H.pre p.back r) ×
+        ((v : O) (x : F.Output) → FnReturnsAt H.Fn p.back v (Some x) → G.post p.map.map x v) };
+
+    #[inline]
+    fn write<A: Allocator>(&self, value: &O, out: &mut Vec<u8, A>) -> Result<(), WriteError> {
+        match mapped_back(&self.back, value) {
+            Some(part) => self.map.parser.write(&part, out),
+            None => Err(WriteError::Mismatch(out.len())),
+        }
+    }
+
+    ghost reads = { λ p k c. map_back_reads (G.pre p.map.map) (G.post p.map.map) (λ v x. FnReturnsAt H.Fn p.back v (Some x)) c.2 (F.reads p.map.parser k c.0) };
+}

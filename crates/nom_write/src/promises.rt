@@ -1,0 +1,31 @@
+//! What a writer and its parser promise together.
+ghost use Rattle.std.specs.Prelude.{◌≡◌, ℕ, List, ◌++◌};
+ghost use Rattle.nom_write.specs.Reads.{IsReadBack, ReadsBack};
+
+use crate::writer::Writer;
+use nom_error::answer::IResult;
+use nom_traits::input::Items;
+
+/// What is written of a value is read back, in either mode, on every input that begins with it and goes on as it may: exactly it
+/// is accepted, and what follows is the rest. The output is equal to the value as viewed, where the parser pins. `OutOfMemory`
+/// aside. The function does nothing: its contract is the promise.
+pub fn reads_back<I: Items<Item = u8>, P: Writer<I>>(_parser: &P)
+    requires sound { (P.grammar (P.state _parser.now)).meaning.IsSound }
+    requires can { P.CanWrite _parser.now }
+    ensures { ReadsBack I.model P.Output.view (P.Pins _parser.now) (P.grammar (P.state _parser.now)) (P.Form _parser.now) (P.MayFollow _parser.now) }
+{}
+
+/// What one `parse` answers on an input that begins with what was written of a value: the value, as viewed, and what follows.
+pub fn parse_back<I: Items<Item = u8>, P: Writer<I>>(
+    parser: &mut P,
+    input: I,
+) -> IResult<I, P::Output, P::Error>
+    requires runs { (P.grammar (P.state parser.old)).meaning.Runs }
+    requires sound { (P.grammar (P.state parser.old)).meaning.IsSound }
+    requires can { P.CanWrite parser.old }
+    ensures { (v : P.Output) (xs rest : List ℕ) → P.Form parser.old v xs → I.model.elements input ≡ xs ++ rest → P.MayFollow parser.old rest →
+        IsReadBack I.model P.Output.view (P.Pins parser.old) (P.grammar (P.state parser.old)) v xs rest input result }
+{
+    input.prove_known();
+    parser.parse(input)
+}

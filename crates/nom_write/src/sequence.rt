@@ -1,0 +1,106 @@
+//! Parts in sequence.
+ghost use Rattle.std.specs.Prelude.{◌≡◌, ◌+◌, ℕ, List, ◌++◌, ◌⊎◌, length};
+ghost use Rattle.nom_write.specs.Written.{LacksRoom};
+ghost use Rattle.nom_write.specs.Parts.{Both, BothFail, Meets};
+ghost use Rattle.nom_write.specs.laws.SequenceReads.{pair_reads, preceded_reads, terminated_reads};
+
+use crate::writer::{Constant, WriteError, Writer};
+use nom_internal::sequence::And;
+use nom_sequence::{Preceded, Terminated};
+use nom_traits::input::Items;
+use std::alloc::Allocator;
+
+impl<I: Items<Item = u8>, F: Writer<I> + Drop, G: Writer<I, Error = F::Error> + Drop> Writer<I>
+    for And<F, G> {
+    ghost Form = { λ p v. Both (F.Form p.first v.0) (G.Form p.second v.1) };
+
+    ghost Fails = { λ p v. BothFail (F.Form p.first v.0) (F.Fails p.first v.0) (G.Fails p.second v.1) };
+
+    ghost MayFollow = { λ p. G.MayFollow p.second };
+
+    ghost CanWrite = { λ p. F.CanWrite p.first × G.CanWrite p.second × Meets (F.MayFollow p.first) (λ ys. (b : G.Output) × G.Form p.second b ys)
+        (G.MayFollow p.second) };
+
+    #[inline]
+    fn write<A: Allocator>(
+        &self,
+        value: &(F::Output, G::Output),
+        out: &mut Vec<u8, A>,
+    ) -> Result<(), WriteError> {
+        let start = out.len();
+        match self.first.write(&value.0, out) {
+            Ok(()) => match self.second.write(&value.1, out) {
+                Ok(()) => Ok(()),
+                Err(error) => {
+                    out.truncate(start);
+                    Err(error)
+                }
+            },
+            Err(error) => Err(error),
+        }
+    }
+
+    ghost reads = { λ p k c. pair_reads I.lawful c.2 (F.reads p.first k.0 c.0) (G.reads p.second k.1 c.1) };
+}
+
+impl<I: Items<Item = u8>, F: Constant<I> + Drop, G: Writer<I, Error = F::Error> + Drop> Writer<I>
+    for Preceded<F, G> {
+    ghost Form = { λ p v. Both (λ xs. xs ≡ F.bytes p.first) (G.Form p.second v) };
+
+    ghost Fails = { λ p v. BothFail (λ xs. xs ≡ F.bytes p.first) (LacksRoom (length (F.bytes p.first))) (G.Fails p.second v) };
+
+    ghost MayFollow = { λ p. G.MayFollow p.second };
+
+    ghost CanWrite = { λ p. G.CanWrite p.second };
+
+    #[inline]
+    fn write<A: Allocator>(
+        &self,
+        value: &G::Output,
+        out: &mut Vec<u8, A>,
+    ) -> Result<(), WriteError> {
+        let start = out.len();
+        match self.first.write_constant(out) {
+            Ok(()) => match self.second.write(value, out) {
+                Ok(()) => Ok(()),
+                Err(error) => {
+                    out.truncate(start);
+                    Err(error)
+                }
+            },
+            Err(error) => Err(error),
+        }
+    }
+
+    ghost reads = { λ p k c. preceded_reads I.lawful (F.accepts p.first k.0) (G.reads p.second k.1 c) };
+}
+
+impl<I: Items<Item = u8>, F: Writer<I> + Drop, G: Constant<I, Error = F::Error> + Drop> Writer<I>
+    for Terminated<F, G> {
+    ghost Form = { λ p v. Both (F.Form p.first v) (λ xs. xs ≡ G.bytes p.second) };
+
+    ghost Fails = { λ p v. BothFail (F.Form p.first v) (F.Fails p.first v) (LacksRoom (length (G.bytes p.second))) };
+
+    ghost CanWrite = { λ p. F.CanWrite p.first × ((rest : List ℕ) → F.MayFollow p.first (G.bytes p.second ++ rest)) };
+
+    #[inline]
+    fn write<A: Allocator>(
+        &self,
+        value: &F::Output,
+        out: &mut Vec<u8, A>,
+    ) -> Result<(), WriteError> {
+        let start = out.len();
+        match self.first.write(value, out) {
+            Ok(()) => match self.second.write_constant(out) {
+                Ok(()) => Ok(()),
+                Err(error) => {
+                    out.truncate(start);
+                    Err(error)
+                }
+            },
+            Err(error) => Err(error),
+        }
+    }
+
+    ghost reads = { λ p k c. terminated_reads I.lawful c.1 (F.reads p.first k.0 c.0) (G.accepts p.second k.1) };
+}

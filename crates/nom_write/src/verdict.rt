@@ -1,0 +1,56 @@
+//! Options, and refusals that are final.
+ghost use Rattle.nom_write.specs.Options.{OptFails, OptForm};
+ghost use Rattle.nom_write.specs.Reads.{NoItem};
+ghost use Rattle.nom_write.specs.laws.ChoiceReads.{cut_reads, opt_reads};
+
+use crate::writer::{WriteError, Writer};
+use nom_combinator::{Cut, Opt};
+use nom_traits::input::Items;
+use std::alloc::Allocator;
+
+/// The part's.
+impl<I: Items<Item = u8>, F: Writer<I> + Drop> Writer<I> for Cut<F> {
+    ghost Form = { λ p. F.Form p.parser };
+
+    ghost Fails = { λ p. F.Fails p.parser };
+
+    ghost MayFollow = { λ p. F.MayFollow p.parser };
+
+    ghost CanWrite = { λ p. F.CanWrite p.parser };
+
+    #[inline(always)]
+    fn write<A: Allocator>(
+        &self,
+        value: &F::Output,
+        out: &mut Vec<u8, A>,
+    ) -> Result<(), WriteError> {
+        self.parser.write(value, out)
+    }
+
+    ghost reads = { λ p k c. cut_reads (F.reads p.parser k c) };
+}
+
+/// The value, or nothing. What follows begins with no item.
+impl<I: Items<Item = u8>, F: Writer<I> + Drop> Writer<I> for Opt<F> {
+    ghost Form = { λ p. OptForm (F.Form p.parser) };
+
+    ghost Fails = { λ p. OptFails (F.Fails p.parser) };
+
+    ghost MayFollow = { λ p rest. F.MayFollow p.parser rest × NoItem I.model (F.grammar (F.state p.parser)).meaning rest };
+
+    ghost CanWrite = { λ p. F.CanWrite p.parser };
+
+    #[inline]
+    fn write<A: Allocator>(
+        &self,
+        value: &Option<F::Output>,
+        out: &mut Vec<u8, A>,
+    ) -> Result<(), WriteError> {
+        match value {
+            Some(value) => self.parser.write(value, out),
+            None => Ok(()),
+        }
+    }
+
+    ghost reads = { λ p k c. opt_reads (F.reads p.parser k c) };
+}
