@@ -6,7 +6,7 @@ use nom_located::Located;
 use nom_search::bytes::ByteItems;
 
 /// Its offset, which is that of the whole also in a piece that was cut out of it.
-impl<I: ByteItems> Placed for Located<I> {
+impl<I: ByteItems, X: Copy> Placed for Located<I, X> {
     ghost place = { λ x. x.offset };
 
     #[inline(always)]
@@ -14,5 +14,6 @@ impl<I: ByteItems> Placed for Located<I> {
         self.location_offset()
     }
 
-    ghost rests = { λ i j n k p. rest_offset I.model I.read I.reading (λ x. x.fragment) (λ x. record { offset = x.offset; line = x.line; column = x.column }) i j n p };
+    ghost rests = { λ i j n k p. rest_offset I.model I.read I.reading (λ x. x.fragment)
+        (λ x. record { offset = x.offset; line = x.line; column = x.column }) (λ x. x.extra) i j n p };
 }
