@@ -14,5 +14,6 @@ impl<I: ByteItems> Placed for Located<I> {
         self.location_offset()
     }
 
-    ghost rests = { λ i j n k p. rest_offset I.model I.read I.reading (λ x. x.fragment) (λ x. record { offset = x.offset; line = x.line; column = x.column }) i j n p };
+    ghost rests = { λ i j n k p. rest_offset I.model I.read I.reading (λ x. x.fragment)
+        (λ x. record { offset = x.offset; line = x.line; column = x.column }) i j n p };
 }
