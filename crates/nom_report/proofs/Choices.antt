@@ -30,7 +30,8 @@ failure_is f (Stop (Needs k)) h = h
 
 module _ {I A E : Type 0} (w : Model I A) where
   -- a sound parser that refuses doesn't fail
-  no_failure : {V : Type 0} (m : Meaning I V E) → IsLawful w m → (s : Bool) (i : I) (o : Outcome V) → w.IsKnown i → m.answers s i Refuse → m.answers s i o →
+  no_failure : {V : Type 0} (m : Meaning I V E) → IsLawful w m → (s : Bool) (i : I) (o : Outcome V) → w.IsKnown i → m.answers s i Refuse →
+      m.answers s i o →
       IsFailure o → ⊥
   no_failure m l s i o k r a h = subst IsFailure (sym (l.one_outcome s i i Refuse o k k (same_self w i) r tt a)) h
 
@@ -55,7 +56,8 @@ module _ {I P T E : Type 0} (f : P → T) (m : Meaning I P E) (s : Bool) (i : I)
   unlabelled_blames e p = subst (λ z. m.blames s z e) (sym p.at_is) p.fact
 
 -- the error of a refusal that is closed by a word that adds nothing
-closed_is : {V E : Type 0} (o : Outcome V) (Blames : E → Type 0) (e : E) → (IsFailure o → ⊥) → Closed (λ other x. x ≡ other) o Blames e → Blames e
+closed_is : {V E : Type 0} (o : Outcome V) (Blames : E → Type 0) (e : E) → (IsFailure o → ⊥) →
+    Closed (λ other x. x ≡ other) o Blames e → Blames e
 closed_is (Accept n v) Blames e n' h = absurd h
 closed_is Refuse Blames e n (x, h, q) = subst Blames (sym q) h
 closed_is (Stop (Fails cause)) Blames e n h = absurd (n tt)
@@ -78,14 +80,15 @@ module _ {I A : Type 0} (w : Model I A) (place : I → ℕ) where
       absurd (no_failure w b m s i f.0 k (unlabelled_refuses {T = P ⊎ Q} inr b s i both.1) f.1 f.2)
   next_tells {P} {Q} a b l m s bs t i e k r (FirstRefuses q (NextRefuses u h)) =
       let first = t i h.first k (unlabelled_refuses {T = P ⊎ Q} inl a s i q) (unlabelled_blames {T = P ⊎ Q} inl a s i h.first h.first_is) in
-      let second : refuses_with s b i h.second = (unlabelled_refuses {T = P ⊎ Q} inr b s i u, unlabelled_blames {T = P ⊎ Q} inr b s i h.second h.second_is) in (
+      let second : refuses_with s b i h.second =
+      (unlabelled_refuses {T = P ⊎ Q} inr b s i u, unlabelled_blames {T = P ⊎ Q} inr b s i h.second h.second_is) in (
         first.0 ++ (h.second ∷ []),
         each_refuses_more bs (refuses_with s b) i first.0 h.second first.1 second,
         tells_more place first.0 h.first h.second e first.2 h.joined,
       )
 
-  choice_tells : {V : Type 0} (m : Meaning I V (Report I)) → IsLawful w m → (s : Bool) (bs : List (I → Report I → Type 0)) → TellsOfBranches place w bs m s →
-      TellsOfBranches place w bs (choice_meaning (report_errors place) m) s
+  choice_tells : {V : Type 0} (m : Meaning I V (Report I)) → IsLawful w m → (s : Bool) (bs : List (I → Report I → Type 0)) →
+      TellsOfBranches place w bs m s → TellsOfBranches place w bs (choice_meaning (report_errors place) m) s
   choice_tells m l s bs t i e k r h =
       let refused : m.answers s i Refuse = subst (λ z. m.answers s z Refuse) (sym r.at_is) (subst (λ o. m.answers s r.at o) (sym r.fact) r.answered) in
       let here : m.answers s i h.outcome = subst (λ z. m.answers s z h.outcome) (sym h.at_is) h.answered in

@@ -1,19 +1,21 @@
 -- Contexts that are told one after another.
-use Rattle.std.proofs.Common.{◌≡◌, ℕ, ◌+◌, ◌<◌, List, [], ◌∷◌, ◌++◌, map, take, length, get_or, refl, sym, ◌∙◌, ap, subst, append_assoc, append-nil}
+use Rattle.std.proofs.Common.{◌≡◌, ℕ, ◌+◌, ◌<◌, List, [], ◌∷◌, ◌++◌, map, take, length, get_or, refl, sym, ◌∙◌, ap, subst}
+use Rattle.std.proofs.Common.{append_assoc, append-nil}
 use Rattle.std.specs.List.{flat_map}
 use Rattle.std.proofs.lemmas.Grind.{flat_map-append}
 use Rattle.std.proofs.lemmas.List.{map_more}
 use Rattle.nom_report.specs.Named.{Context}
 use Rattle.nom_report.specs.Rendered.{TellsContext, TellsContexts}
 
-tells_then : (source : List ℕ) (start : ℕ) (cs : List Context) (c : Context) (t u : List ℕ) → TellsContexts source start cs t → TellsContext source start c u →
-    TellsContexts source start (cs ++ (c ∷ [])) (t ++ u)
+tells_then : (source : List ℕ) (start : ℕ) (cs : List Context) (c : Context) (t u : List ℕ) → TellsContexts source start cs t →
+    TellsContext source start c u → TellsContexts source start (cs ++ (c ∷ [])) (t ++ u)
 tells_then source start [] c t u h k = (u, [], k, refl, ap (λ z. z ++ u) h ∙ sym (append-nil u))
 tells_then source start (x ∷ cs) c t u (first, rest, f, r, e) k =
     (first, rest ++ u, f, tells_then source start cs c rest u r k, ap (λ z. z ++ u) e ∙ append_assoc first rest u)
 
 -- one more of the contexts, and the text that has grown by what tells of it
-pub told_more : {X : Type 0} (source : List ℕ) (start : ℕ) (f : X → Context) (xs : List X) (i : ℕ) (d : X) (new before begin : List ℕ) → i < length xs →
+pub told_more : {X : Type 0} (source : List ℕ) (start : ℕ) (f : X → Context) (xs : List X) (i : ℕ) (d : X) (new before begin : List ℕ) →
+    i < length xs →
     (t : List ℕ) × TellsContexts source start (map f (take i xs)) t × (before ≡ begin ++ t) →
     (u : List ℕ) × TellsContext source start (f (get_or xs i d)) u × (new ≡ before ++ u) →
     (v : List ℕ) × TellsContexts source start (map f (take (i + 1) xs)) v × (new ≡ begin ++ v)

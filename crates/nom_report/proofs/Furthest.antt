@@ -1,5 +1,6 @@
 -- What the joining of reports keeps, one after another.
-use Rattle.std.proofs.Common.{◌≡◌, ℕ, ◌+◌, ◌≤◌, Bool, true, false, ◌||◌, IsTrue, ◌⊎◌, List, [], ◌∷◌, ◌++◌, length, get_or, zero, suc, inl, inr, refl, sym, ◌∙◌, ap, subst, arith, length-append}
+use Rattle.std.proofs.Common.{◌≡◌, ℕ, ◌+◌, ◌≤◌, Bool, true, false, ◌||◌, IsTrue, ◌⊎◌, List, [], ◌∷◌, ◌++◌, length}
+use Rattle.std.proofs.Common.{get_or, zero, suc, inl, inr, refl, sym, ◌∙◌, ap, subst, arith, length-append}
 use Rattle.std.proofs.lemmas.List.{get_or_append_left, get_or-append-add}
 use Rattle.std.specs.List.{IsAmong}
 use Rattle.nom_branch.specs.Lists.{Each}
@@ -123,11 +124,13 @@ module _ {I : Type 0} (place : I → ℕ) where
   tells_one e = record { stands_at_one = inl refl; none_further = (omega arith, tt); tells_all = ((λ q it h. inl h), tt) }
 
   -- one report more
-  pub tells_more : (es : List (Report I)) (a b e : Report I) → TellsFurthest place es a → IsFurthest place a b e → TellsFurthest place (es ++ (b ∷ [])) e
+  pub tells_more : (es : List (Report I)) (a b e : Report I) → TellsFurthest place es a → IsFurthest place a b e →
+      TellsFurthest place (es ++ (b ∷ [])) e
   tells_more es a b e t (FirstGotFurther l is) = subst (TellsFurthest place (es ++ (b ∷ []))) (sym is) (record {
     stands_at_one = one_more (λ x. x.at ≡ a.at) es b t.stands_at_one;
     none_further = each_more (λ x. place x.at ≤ place a.at) es b t.none_further (omega (arith, l));
-    tells_all = each_more (λ x. place x.at ≡ place a.at → HasAll (kept x.expected) (kept a.expected)) es b t.tells_all (λ q. absurd (omega (arith, l, q)));
+    tells_all = each_more (λ x. place x.at ≡ place a.at → HasAll (kept x.expected) (kept a.expected)) es b t.tells_all
+        (λ q. absurd (omega (arith, l, q)));
   })
   tells_more es a b e t (SecondGotFurther l is) = subst (TellsFurthest place (es ++ (b ∷ []))) (sym is) (record {
     stands_at_one = one_last (λ x. x.at ≡ b.at) es b refl;

@@ -1,5 +1,6 @@
 -- The characters of a text from one on, and no more than so many, one character after another.
-use Rattle.std.proofs.Common.{◌≡◌, ℕ, ◌-◌, ◌<◌, ◌≤◌, Bool, List, [], ◌∷◌, ◌++◌, length, map, take, drop, sym, ◌∙◌, ap, arith, length-append, append-nil, append_assoc}
+use Rattle.std.proofs.Common.{◌≡◌, ℕ, ◌-◌, ◌<◌, ◌≤◌, Bool, List, [], ◌∷◌, ◌++◌, length, map, take, drop, sym, ◌∙◌, ap}
+use Rattle.std.proofs.Common.{arith, length-append, append-nil, append_assoc}
 use Rattle.std.proofs.lemmas.List.{drop-append-le, length-drop, map-append, take_all}
 use Rattle.std.proofs.lemmas.Str.{encodes-append}
 use Rattle.std.proofs.Math.Utf8.{encode, encodes}
@@ -19,5 +20,6 @@ written_more below skip count ys c l m =
     ∙ ap (λ z. written_text below (take count (drop skip ys)) ++ z) (append-nil (encode (written_char below c)))))
 
 -- a text that grew twice
-pub appended : (new before start first both last : List ℕ) → new ≡ before ++ last → before ≡ start ++ first → both ≡ first ++ last → new ≡ start ++ both
+pub appended : (new before start first both last : List ℕ) → new ≡ before ++ last → before ≡ start ++ first →
+    both ≡ first ++ last → new ≡ start ++ both
 appended new before start first both last n b f = n ∙ (ap (λ z. z ++ last) b ∙ (append_assoc start first last ∙ ap (λ z. start ++ z) (sym f)))

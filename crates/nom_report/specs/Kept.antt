@@ -27,7 +27,8 @@ just it = record { wanted = it ∷ []; more = false }
 -- e is a, where the thing is wanted there; a and the thing at the end, where there is room; and a that tells of more where there isn't
 pub data Adds (a : Kept) (it : Wanted) (e : Kept) : Type 0 where
   IsKnown : IsAmong a.wanted it → e ≡ a → Adds a it e
-  HasRoom : (IsAmong a.wanted it → ⊥) → length a.wanted < MOST_EXPECTED → e ≡ record { wanted = a.wanted ++ (it ∷ []); more = a.more } → Adds a it e
+  HasRoom : (IsAmong a.wanted it → ⊥) → length a.wanted < MOST_EXPECTED →
+      e ≡ record { wanted = a.wanted ++ (it ∷ []); more = a.more } → Adds a it e
   IsLeftOut : (IsAmong a.wanted it → ⊥) → length a.wanted ≡ MOST_EXPECTED → e ≡ record { wanted = a.wanted; more = true } → Adds a it e
 
 -- one after another

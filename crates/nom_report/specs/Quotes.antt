@@ -1,5 +1,6 @@
 -- The line of a source at a place, and a caret below it. A source is its bytes before the place and after it.
-use Rattle.std.specs.Prelude.{◌≡◌, ◌≢◌, ℕ, ◌+◌, ◌-◌, ◌<◌, Bool, true, false, nat_eq, nat_le, nat_lt, if◌then◌else◌, List, [], ◌∷◌, ◌++◌, length, map, take, drop, chars, codes, count_by, min, replicate, slice_index, encode_utf8_all}
+use Rattle.std.specs.Prelude.{◌≡◌, ◌≢◌, ℕ, ◌+◌, ◌-◌, ◌<◌, Bool, true, false, nat_eq, nat_le, nat_lt, if◌then◌else◌, List, []}
+use Rattle.std.specs.Prelude.{◌∷◌, ◌++◌, length, map, take, drop, chars, codes, count_by, min, replicate, slice_index, encode_utf8_all}
 use Rattle.std.specs.Fmt.{decimal}
 use Rattle.std.specs.Str.{IsCharBoundary}
 use Rattle.nom_report.specs.Words.{shown_char}

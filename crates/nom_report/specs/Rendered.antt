@@ -19,7 +19,8 @@ pub record TellsContext (source : List ℕ) (start : ℕ) (context : Context) (t
 -- one after another, from the innermost on
 abbrev pub TellsContexts : List ℕ → ℕ → List Context → List ℕ → Type 0
 TellsContexts source start [] t = t ≡ []
-TellsContexts source start (c ∷ cs) t = (first : List ℕ) × (rest : List ℕ) × TellsContext source start c first × TellsContexts source start cs rest × (t ≡ first ++ rest)
+TellsContexts source start (c ∷ cs) t = (first : List ℕ) × (rest : List ℕ) × TellsContext source start c first ×
+    TellsContexts source start cs rest × (t ≡ first ++ rest)
 
 abbrev pub more_text : Bool → List ℕ
 more_text more = if more then codes "..\n" else []

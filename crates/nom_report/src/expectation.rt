@@ -39,6 +39,7 @@ fn is_kind(it: &Expected, wanted: ErrorKind) -> bool
     }
 }
 
+#[inline(always)]
 fn is_label(it: &Expected, wanted: &str) -> bool
     ensures { IsTrue result ↔ (seen it.now ≡ WantedLabel wanted.now) }
 {
@@ -50,7 +51,7 @@ fn is_label(it: &Expected, wanted: &str) -> bool
 }
 
 /// Whether the two are one.
-#[inline]
+#[inline(always)]
 pub fn is_same(it: &Expected, other: &Expected) -> bool
     ensures { IsTrue result ↔ (seen it.now ≡ seen other.now) }
 {
@@ -62,7 +63,7 @@ pub fn is_same(it: &Expected, other: &Expected) -> bool
 }
 
 /// Whether it is one of the items.
-#[inline]
+#[inline(always)]
 pub fn is_in(items: &[Expected], it: &Expected) -> bool
     ensures { MatchBool result (IsAmong (map seen items.now) (seen it.now)) (IsAmong (map seen items.now) (seen it.now) → ⊥) }
 {

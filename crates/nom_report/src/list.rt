@@ -74,6 +74,7 @@ impl Expectations {
     }
 
     // Adds those of another, which were wanted at the same place.
+    #[inline(always)]
     pub fn join(&mut self, other: &Expectations)
         ensures { Joins (kept self.old) (kept other.now) (kept self.new) }
     {

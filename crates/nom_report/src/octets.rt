@@ -2,7 +2,8 @@
 ghost use Rattle.std.specs.Prelude.{◌≡◌, ◌++◌, ◌≤◌, IfOk, decimal, length, map, string_bytes};
 ghost use Rattle.nom_report.specs.Left.{slice_place};
 ghost use Rattle.nom_report.specs.Named.{named};
-ghost use Rattle.nom_report.specs.Octets.{begins_text, octet_text, octets_caret, octets_context, octets_contexts, octets_line, octets_quote, octets_report, octets_text, offset_in};
+ghost use Rattle.nom_report.specs.Octets.{begins_text, octet_text, octets_caret, octets_context, octets_contexts, octets_line, octets_quote, octets_report};
+ghost use Rattle.nom_report.specs.Octets.{octets_text, offset_in};
 
 use crate::enclosing::Enclosing;
 use crate::place::Placed;

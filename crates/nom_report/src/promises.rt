@@ -21,7 +21,8 @@ pub fn furthest_of_two<
     ensures { (s : _) → TellsOfBranches I.place I.model (refuses_with s (A.grammar (A.state _choice.now.parsers.0)).meaning
         ∷ refuses_with s (B.grammar (B.state _choice.now.parsers.1)).meaning
         ∷ [])
-        (alt_of (report_errors I.place) (or_of (report_errors I.place) (A.grammar (A.state _choice.now.parsers.0))
+        (alt_of (report_errors I.place)
+        (or_of (report_errors I.place) (A.grammar (A.state _choice.now.parsers.0))
         (B.grammar (B.state _choice.now.parsers.1)))).meaning s }
 {}
 
@@ -40,7 +41,8 @@ pub fn furthest_of_three<
         ∷ refuses_with s (B.grammar (B.state _choice.now.parsers.1)).meaning
         ∷ refuses_with s (C.grammar (C.state _choice.now.parsers.2)).meaning
         ∷ [])
-        (alt_of (report_errors I.place) (or_of (report_errors I.place) (or_of (report_errors I.place) (A.grammar (A.state _choice.now.parsers.0))
+        (alt_of (report_errors I.place)
+        (or_of (report_errors I.place) (or_of (report_errors I.place) (A.grammar (A.state _choice.now.parsers.0))
         (B.grammar (B.state _choice.now.parsers.1)))
         (C.grammar (C.state _choice.now.parsers.2)))).meaning s }
 {}
@@ -63,7 +65,8 @@ pub fn furthest_of_four<
         ∷ refuses_with s (C.grammar (C.state _choice.now.parsers.2)).meaning
         ∷ refuses_with s (D.grammar (D.state _choice.now.parsers.3)).meaning
         ∷ [])
-        (alt_of (report_errors I.place) (or_of (report_errors I.place) (or_of (report_errors I.place) (or_of (report_errors I.place) (A.grammar (A.state _choice.now.parsers.0))
+        (alt_of (report_errors I.place)
+        (or_of (report_errors I.place) (or_of (report_errors I.place) (or_of (report_errors I.place) (A.grammar (A.state _choice.now.parsers.0))
         (B.grammar (B.state _choice.now.parsers.1)))
         (C.grammar (C.state _choice.now.parsers.2)))
         (D.grammar (D.state _choice.now.parsers.3)))).meaning s }
@@ -90,7 +93,9 @@ pub fn furthest_of_five<
         ∷ refuses_with s (D.grammar (D.state _choice.now.parsers.3)).meaning
         ∷ refuses_with s (E.grammar (E.state _choice.now.parsers.4)).meaning
         ∷ [])
-        (alt_of (report_errors I.place) (or_of (report_errors I.place) (or_of (report_errors I.place) (or_of (report_errors I.place) (or_of (report_errors I.place) (A.grammar (A.state _choice.now.parsers.0))
+        (alt_of (report_errors I.place)
+        (or_of (report_errors I.place) (or_of (report_errors I.place) (or_of (report_errors I.place) (or_of (report_errors I.place)
+        (A.grammar (A.state _choice.now.parsers.0))
         (B.grammar (B.state _choice.now.parsers.1)))
         (C.grammar (C.state _choice.now.parsers.2)))
         (D.grammar (D.state _choice.now.parsers.3)))
@@ -121,7 +126,9 @@ pub fn furthest_of_six<
         ∷ refuses_with s (E.grammar (E.state _choice.now.parsers.4)).meaning
         ∷ refuses_with s (F.grammar (F.state _choice.now.parsers.5)).meaning
         ∷ [])
-        (alt_of (report_errors I.place) (or_of (report_errors I.place) (or_of (report_errors I.place) (or_of (report_errors I.place) (or_of (report_errors I.place) (or_of (report_errors I.place) (A.grammar (A.state _choice.now.parsers.0))
+        (alt_of (report_errors I.place)
+        (or_of (report_errors I.place) (or_of (report_errors I.place) (or_of (report_errors I.place) (or_of (report_errors I.place)
+        (or_of (report_errors I.place) (A.grammar (A.state _choice.now.parsers.0))
         (B.grammar (B.state _choice.now.parsers.1)))
         (C.grammar (C.state _choice.now.parsers.2)))
         (D.grammar (D.state _choice.now.parsers.3)))
@@ -156,7 +163,9 @@ pub fn furthest_of_seven<
         ∷ refuses_with s (F.grammar (F.state _choice.now.parsers.5)).meaning
         ∷ refuses_with s (G.grammar (G.state _choice.now.parsers.6)).meaning
         ∷ [])
-        (alt_of (report_errors I.place) (or_of (report_errors I.place) (or_of (report_errors I.place) (or_of (report_errors I.place) (or_of (report_errors I.place) (or_of (report_errors I.place) (or_of (report_errors I.place) (A.grammar (A.state _choice.now.parsers.0))
+        (alt_of (report_errors I.place)
+        (or_of (report_errors I.place) (or_of (report_errors I.place) (or_of (report_errors I.place) (or_of (report_errors I.place)
+        (or_of (report_errors I.place) (or_of (report_errors I.place) (A.grammar (A.state _choice.now.parsers.0))
         (B.grammar (B.state _choice.now.parsers.1)))
         (C.grammar (C.state _choice.now.parsers.2)))
         (D.grammar (D.state _choice.now.parsers.3)))
@@ -195,7 +204,9 @@ pub fn furthest_of_eight<
         ∷ refuses_with s (G.grammar (G.state _choice.now.parsers.6)).meaning
         ∷ refuses_with s (H.grammar (H.state _choice.now.parsers.7)).meaning
         ∷ [])
-        (alt_of (report_errors I.place) (or_of (report_errors I.place) (or_of (report_errors I.place) (or_of (report_errors I.place) (or_of (report_errors I.place) (or_of (report_errors I.place) (or_of (report_errors I.place) (or_of (report_errors I.place) (A.grammar (A.state _choice.now.parsers.0))
+        (alt_of (report_errors I.place)
+        (or_of (report_errors I.place) (or_of (report_errors I.place) (or_of (report_errors I.place) (or_of (report_errors I.place)
+        (or_of (report_errors I.place) (or_of (report_errors I.place) (or_of (report_errors I.place) (A.grammar (A.state _choice.now.parsers.0))
         (B.grammar (B.state _choice.now.parsers.1)))
         (C.grammar (C.state _choice.now.parsers.2)))
         (D.grammar (D.state _choice.now.parsers.3)))

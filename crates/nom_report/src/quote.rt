@@ -1,6 +1,7 @@
 //! The line of a source at a place, and a caret below it.
 ghost use Rattle.std.specs.Prelude.{◌≡◌, ◌++◌, ◌≤◌, [], if◌then◌else◌, IfOk, length, chars, decimal, drop, replicate, string_bytes, take};
-ghost use Rattle.nom_report.specs.Quotes.{IsCut, IsFirstLine, IsLastLine, IsPlaceText, IsQuote, IsWithoutReturn, caret_text, columns, left_out, line_of, line_text, quote_text, shown_after, written_char, written_text};
+ghost use Rattle.nom_report.specs.Quotes.{IsCut, IsFirstLine, IsLastLine, IsPlaceText, IsQuote, IsWithoutReturn, caret_text, columns, left_out, line_of};
+ghost use Rattle.nom_report.specs.Quotes.{line_text, quote_text, shown_after, written_char, written_text};
 
 use crate::words::shown;
 use nom_error::answer::OutOfMemory;

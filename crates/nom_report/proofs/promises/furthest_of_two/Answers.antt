@@ -5,6 +5,10 @@ pub returns : goal.returns
 returns g c s =
     let w = g.I.Items.model in
     let place = g.I.Placed.place in
-    let of_a = first {w = w} {place = place} {s = s} (g.A.Parser.grammar (g.A.Parser.state c.args._choice.now.parsers.0)).meaning (g.met.A.Parser.lawful (g.A.Parser.state c.args._choice.now.parsers.0) c.requires.of_a) in
-    let of_b = next {w = w} {place = place} {s = s} (g.B.Parser.grammar (g.B.Parser.state c.args._choice.now.parsers.1)).meaning (g.met.B.Parser.lawful (g.B.Parser.state c.args._choice.now.parsers.1) c.requires.of_b) of_a in
+    let of_a =
+    first {w = w} {place = place} {s = s} (g.A.Parser.grammar (g.A.Parser.state c.args._choice.now.parsers.0)).meaning
+    (g.met.A.Parser.lawful (g.A.Parser.state c.args._choice.now.parsers.0) c.requires.of_a) in
+    let of_b =
+    next {w = w} {place = place} {s = s} (g.B.Parser.grammar (g.B.Parser.state c.args._choice.now.parsers.1)).meaning
+    (g.met.B.Parser.lawful (g.B.Parser.state c.args._choice.now.parsers.1) c.requires.of_b) of_a in
     closed of_b

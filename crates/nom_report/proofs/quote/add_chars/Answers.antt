@@ -23,6 +23,7 @@ loop-c-preserved-in-Continue-1 g c =
 
 pub returns : goal.returns
 returns g c =
-    let end = YieldsList-end (YieldsList-from_chars c.args.text.now c.utf8.text cc) c.loop-c.yielded _ c.loop-c.yielded_by _ _ c.in-None.is c.next.ensures.steps in
+    let end = YieldsList-end (YieldsList-from_chars c.args.text.now c.utf8.text cc) c.loop-c.yielded _ c.loop-c.yielded_by _ _ c.in-None.is
+    c.next.ensures.steps in
     c.loop-c.invariant.written ∙ ap (λ cs. string_bytes c.args.out.now ++ written_text c.args.below (take c.args.count (drop c.args.skip cs)))
     (sym (map-id c.loop-c.yielded) ∙ end.0)
