@@ -1,12 +1,13 @@
-//! Tags.
+//! Tags, and pieces of a length that is given.
 ghost use Rattle.std.specs.Prelude.{◌≡◌, ◌⊎◌, length};
 ghost use Rattle.nom_internal.specs.Prelude.{bytes_model};
 ghost use Rattle.nom_write.specs.Reads.{Holds};
 ghost use Rattle.nom_write.specs.Written.{LacksRoom};
 ghost use Rattle.nom_write.specs.declared.writer.WriteError.{WriteError};
 
+use crate::length::ByteInput;
 use crate::writer::{Constant, WriteError, Writer, add};
-use nom_bytes::Tag;
+use nom_bytes::{Tag, Take};
 use nom_error::value::ParseError;
 use nom_traits::input::Items;
 use std::alloc::Allocator;
@@ -48,4 +49,26 @@ impl<'a, 'b, E: ParseError<&'a [u8]>> Constant<&'a [u8]> for Tag<&'b [u8], &'a [
     }
 
     ghost accepts = { λ p k. tag_reads_some E.errors p.tag.now };
+}
+
+/// Bytes of that length; others are a mismatch.
+impl<I: ByteInput, E: ParseError<I>> Writer<I> for Take<I, E> {
+    ghost use Rattle.nom_write.specs.laws.LeafReads.{take_value_reads};
+
+    ghost Form = { λ p v xs. (length xs ≡ p.count) × Holds I.model v xs };
+
+    ghost Fails = { λ p v room start e. ((length (I.model.elements v) ≡ p.count → ⊥) × (e ≡ WriteError.Mismatch start)) ⊎ LacksRoom p.count room start e };
+
+    #[inline]
+    fn write<A: Allocator>(&self, value: &I, out: &mut Vec<u8, A>) -> Result<(), WriteError> {
+        (*value).prove_known();
+        let data = value.as_bytes();
+        if data.len() == self.count {
+            add(out, data)
+        } else {
+            Err(WriteError::Mismatch(out.len()))
+        }
+    }
+
+    ghost reads = { λ p k c. take_value_reads I.model E.errors I.lack p.count I.one_mark };
 }

@@ -1,5 +1,5 @@
 //! Binary integers.
-ghost use Rattle.std.specs.Prelude.{◌≡◌, ◌<◌, ◌≤◌, ◌*◌, ◌^◌, ◌⊎◌, ◌∷◌, [], MatchOption, length, vec_capacity};
+ghost use Rattle.std.specs.Prelude.{◌≡◌, ◌<◌, ◌≤◌, ◌*◌, ◌^◌, ◌⊎◌, ◌<ℤ◌, neg_ℤ, pos, ◌∷◌, [], MatchOption, length, vec_capacity};
 ghost use Rattle.nom_number.specs.Numbers.{binary_number};
 ghost use Rattle.nom_write.specs.Digits.{AreBytesOf};
 ghost use Rattle.nom_write.specs.Written.{LacksRoom, Written};
@@ -7,7 +7,7 @@ ghost use Rattle.nom_write.specs.laws.LeafReads.{byte_reads, binary_reads};
 
 use crate::writer::{WriteError, Writer, add};
 use nom_error::value::ParseError;
-use nom_number::layout::{I8, I16, I32, I64, I128, Layout, U8, U16, U24, U32, U64, U128};
+use nom_number::layout::{I8, I16, I24, I32, I64, I128, Layout, U8, U16, U24, U32, U64, U128};
 use nom_number::{BeU8, Binary, Endianness};
 use nom_traits::input::Input;
 use std::alloc::Allocator;
@@ -155,6 +155,22 @@ impl ToBits for I128 {
     fn to_bits(number: &i128) -> Option<u128> {
         if *number < 0 {
             Some(0xffffffffffffffffffffffffffffffff - (-(*number + 1)) as u128)
+        } else {
+            Some(*number as u128)
+        }
+    }
+}
+
+impl ToBits for I24 {
+    ghost Exceeds = { λ n. (n <ℤ neg_ℤ (pos 8388608)) ⊎ (pos 8388607 <ℤ n) };
+
+    #[inline(always)]
+    fn to_bits(number: &i32) -> Option<u128> {
+        if *number < -0x800000 || *number > 0x7fffff {
+            return None;
+        }
+        if *number < 0 {
+            Some(0xffffff - (-(*number + 1)) as u128)
         } else {
             Some(*number as u128)
         }

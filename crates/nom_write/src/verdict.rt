@@ -1,10 +1,11 @@
-//! Options, and refusals that are final.
+//! Options, refusals that are final, and errors with a name.
 ghost use Rattle.nom_write.specs.Options.{OptFails, OptForm};
 ghost use Rattle.nom_write.specs.Reads.{NoItem};
-ghost use Rattle.nom_write.specs.laws.ChoiceReads.{cut_reads, opt_reads};
+ghost use Rattle.nom_write.specs.laws.ChoiceReads.{context_reads, cut_reads, opt_reads};
 
 use crate::writer::{WriteError, Writer};
-use nom_combinator::{Cut, Opt};
+use nom_combinator::{Context, Cut, Opt};
+use nom_error::outside::ContextError;
 use nom_traits::input::Items;
 use std::alloc::Allocator;
 
@@ -53,4 +54,29 @@ impl<I: Items<Item = u8>, F: Writer<I> + Drop> Writer<I> for Opt<F> {
     }
 
     ghost reads = { λ p k c. opt_reads (F.reads p.parser k c) };
+}
+
+/// The part's: a name is a matter of errors alone.
+impl<I: Items<Item = u8>, F: Writer<I> + Drop> Writer<I> for Context<F>
+where
+    F::Error: ContextError<I>,
+{
+    ghost Form = { λ p. F.Form p.parser };
+
+    ghost Fails = { λ p. F.Fails p.parser };
+
+    ghost MayFollow = { λ p. F.MayFollow p.parser };
+
+    ghost CanWrite = { λ p. F.CanWrite p.parser };
+
+    #[inline(always)]
+    fn write<A: Allocator>(
+        &self,
+        value: &F::Output,
+        out: &mut Vec<u8, A>,
+    ) -> Result<(), WriteError> {
+        self.parser.write(value, out)
+    }
+
+    ghost reads = { λ p k c. context_reads F.Error.contexts p.context.now (F.reads p.parser k c) };
 }

@@ -4,6 +4,8 @@ use Rattle.std.proofs.Common.{sym, ◌∙◌, ap, subst, inl, inr}
 use Rattle.nom_internal.specs.Prelude.{Errors, Model, items_len, Grammar, Outcome, Accept, Refuse, GoesOnRefused, OnRefusal, EitherOutput, Meaning}
 use Rattle.nom_internal.specs.Prelude.{OnPart, labelled, either_meaning, either_of, map_by}
 use Rattle.nom_branch.specs.Alternatives.{alt_of}
+use Rattle.nom_combinator.specs.Contexts.{context_of}
+use Rattle.nom_error.specs.Errors.{Contexts}
 use Rattle.nom_combinator.specs.Verdicts.{OptOutput, cut_of, opt_of, opt_outcome}
 use Rattle.nom_write.specs.declared.writer.WriteError.{WriteError}
 use Rattle.nom_write.specs.Choices.{Apart, Either, IsUnfit}
@@ -93,6 +95,12 @@ module _ {I V O E : Type 0} {w : Model I ℕ} {g : Grammar I V O E} {Form : O �
   pub cut_reads : Reads w g Form Follow → Reads w (cut_of g) Form Follow
   cut_reads p = record {
     reads = λ v xs f s. become_reads w _ (λ u. u) (λ n u. refl) (g.meaning.answers s) (λ u. g.IsOutput u v) (λ u. g.IsOutput u v) Follow Follow xs
+        (λ rest k. k) (λ u k. k) (p.reads v xs f s);
+  }
+
+  pub context_reads : (contexts : Contexts I E) (name : List ℕ) → Reads w g Form Follow → Reads w (context_of contexts name g) Form Follow
+  context_reads contexts name p = record {
+    reads = λ v xs f s. become_reads w (λ a. a) (λ u. u) (λ n u. refl) (g.meaning.answers s) (λ u. g.IsOutput u v) (λ u. g.IsOutput u v) Follow Follow xs
         (λ rest k. k) (λ u k. k) (p.reads v xs f s);
   }
 

@@ -93,3 +93,14 @@ module _ {I E : Type 0} (w : Model I ℕ) (errs : Errors I E) where
   binary_reads of_bits endian count = record {
     reads = λ v xs f s. number_reads w s xs (λ bytes. of_bits (binary_number endian bytes)) count v f.0 (sym f.1);
   }
+
+-- a piece of that many items
+pub take_value_reads : {I E : Type 0} (w : Model I ℕ) (errs : Errors I E) (lack : ℕ → List ℕ → Option ℕ) (count : ℕ) → ((m n : w.Mark) → m ≡ n) →
+    Reads w (sliced w (take_meaning w errs lack count)) (λ v xs. (length xs ≡ count) × Holds w v xs) Anything
+take_value_reads w errs lack count one_mark = record {
+  reads = λ v xs f s. take_reads w s xs (λ t. IsModelledBy w t v) (λ t e. record {
+    known = f.1.known;
+    elements_are = f.1.elements_are ∙ sym e;
+    mark_is = one_mark _ _;
+  }) lack count f.0;
+}
