@@ -1,5 +1,5 @@
 -- Characters of strings, by their first byte.
-use Rattle.std.specs.Prelude.{◌≡◌, ℕ, ◌+◌, ◌==◌, ◌↔◌, Bool, true, false, List, [], ◌∷◌, Option, None, Some, length, drop, slice_index, refl}
+use Rattle.std.specs.Prelude.{◌≡◌, ℕ, ◌+◌, ◌==◌, ◌↔◌, Bool, true, false, List, [], ◌∷◌, Option, None, Some, drop}
 use Rattle.std.proofs.Common.{arith, sym, ◌∙◌, ap, subst}
 use Rattle.nom_json_run.specs.Json.{JsonCharacters, after_escape, begins, first_is, is_plain, rest}
 use Rattle.nom_json_run.specs.Json.JsonCharacters.{close, plain, escape}

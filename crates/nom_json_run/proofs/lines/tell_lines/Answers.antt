@@ -1,4 +1,4 @@
-use Rattle.std.proofs.Common.{◌+◌, Err, None, Ok, Some, refl, subst}
+use Rattle.std.proofs.Common.{◌+◌, Err, Ok, refl, subst}
 use Rattle.nom_stream.specs.Streams.{Decides}
 use Rattle.nom_json_run.specs.Lines.{ListsLine, line_of}
 use Rattle.nom_json_run.proofs.Listed.{ended, going_none, going_on, none_then, too_long}
