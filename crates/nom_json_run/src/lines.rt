@@ -99,6 +99,18 @@ fn characters(bytes: &[u8]) -> usize
     bytes.iter().filter(|b| **b < 128 || 192 <= **b).count()
 }
 
+// How many bytes a line has without its end.
+fn inside_len(line: &[u8]) -> usize
+    ensures { result ≤ length line.now }
+{
+    let count = line.len();
+    if count > 0 && line[count - 1] == b'\n' {
+        count - 1
+    } else {
+        count
+    }
+}
+
 // The text for a line that is no JSON text, by its first fault. Columns count characters, from 1 on.
 fn fault_text<A: Allocator + Copy>(
     alloc: A,
@@ -119,7 +131,9 @@ fn fault_text<A: Allocator + Copy>(
         Ok(()) => {}
         Err(error) => return Err(error),
     }
-    let column = 1 + characters(&bytes[..fault.at]);
+    // (the end of a line is white space, and what is missing is missing before it)
+    let at = fault.at.min(inside_len(bytes));
+    let column = 1 + characters(&bytes[..at]);
     line_text(alloc, number, column, first_line(out.as_str()))
 }
 
