@@ -4,7 +4,7 @@ ghost use Rattle.std.specs.Io.KnownBytes.{Appends};
 ghost use Rattle.nom_internal.specs.Prelude.{bytes_model, Slice};
 ghost use Rattle.nom_run.specs.Stream.{MatchRunError, NoWriteFailed, WriteFailed};
 ghost use Rattle.nom_stream.specs.Streams.{IsOpen};
-ghost use Rattle.nom_json_run.specs.Lines.{IsLine, IsLineText, ListsLine, TellsLine, ToldLines, fault_line, line_len, line_of};
+ghost use Rattle.nom_json_run.specs.Lines.{IsLine, IsLineText, ListsLine, TellsLine, ToldLines, fault_line, line_len, json_line_of};
 
 use crate::bracket::Fault;
 use crate::check::verdict;
@@ -48,7 +48,7 @@ impl Grammar for Lines {
 
     ghost Tree = { Option (Slice bytes_model) };
 
-    ghost grammar = { λ _. line_of };
+    ghost grammar = { λ _. json_line_of };
 
     fn item<'a>(&mut self, input: &'a [u8], more: bool) -> IResult<&'a [u8], usize> {
         let inside = opt(is_not::<_, _, Error<&[u8]>>(&b"\n"[..]));
