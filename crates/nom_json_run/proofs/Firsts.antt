@@ -1,9 +1,11 @@
 -- The first byte from a place on.
-use Rattle.std.specs.Prelude.{◌≡◌, ℕ, zero, suc, ◌+◌, ◌-◌, ◌==◌, ◌<◌, ◌≤◌, ◌↔◌, Bool, true, false, if◌then◌else◌, List, [], ◌∷◌, Option, None, Some, Result, Ok, Err, IfOk, IfErr, length, drop, slice_index, refl}
+use Rattle.std.specs.Prelude.{◌≡◌, ℕ, suc, ◌+◌, ◌-◌, ◌==◌, ◌<◌, ◌≤◌, Bool, true, false, if◌then◌else◌, List, [], ◌∷◌}
+use Rattle.std.specs.Prelude.{Option, None, Some, Result, Ok, Err, IfOk, IfErr, length, drop, slice_index, refl}
 use Rattle.std.proofs.Common.{arith, sym, ◌∙◌, ap, length-drop}
 use Rattle.std.proofs.lemmas.List.{drop_more, drop_all}
-use Rattle.nom_json_run.specs.Json.{after_digits, after_hex, after_sign, after_minus, after_spaces, after_word, begins, first_is, is_digit, is_hex, is_sign, is_space, rest}
-use Rattle.nom_json_run.specs.Scans.{Reaches}
+use Rattle.nom_json_run.specs.Json.{after_digits, after_hex, after_sign, after_minus, after_spaces, after_word, begins, first_is}
+use Rattle.nom_json_run.specs.Json.{is_digit, is_hex, is_sign, is_space, rest}
+use Rattle.nom_json_run.specs.Scans.{LeadsTo}
 use Rattle.nom_json_run.specs.declared.bracket.Fault.{Fault}
 
 pub first_at : (test : ℕ → Bool) (bs : List ℕ) (i : ℕ) → i < length bs → first_is test (drop i bs) ≡ test (slice_index bs i)
@@ -59,8 +61,8 @@ pub minus_taken : (bs : List ℕ) (i : ℕ) → begins 45 (drop i bs) ≡ true �
 minus_taken bs i e = sym (ap (λ t. if t then rest (drop i bs) else drop i bs) e ∙ rest_at (λ b. b == 45) bs i e)
 
 -- from one place to an earlier one, and from one part to another
-pub reach_map : (bs : List ℕ) (r : Result ℕ Fault) (a b : Option (List ℕ)) (i j : ℕ) → i ≤ j → b ≡ a → IfOk r (λ n. Reaches bs a j n) →
-    IfOk r (λ n. Reaches bs b i n)
+pub reach_map : (bs : List ℕ) (r : Result ℕ Fault) (a b : Option (List ℕ)) (i j : ℕ) → i ≤ j → b ≡ a → IfOk r (λ n. LeadsTo bs a j n) →
+    IfOk r (λ n. LeadsTo bs b i n)
 reach_map bs (Ok n) a b i j le e h = record { begins = omega (arith, h.begins, le); within = h.within; follows = e ∙ h.follows }
 reach_map bs (Err f) a b i j le e h = h
 

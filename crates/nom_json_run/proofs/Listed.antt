@@ -1,16 +1,14 @@
 -- Lines, one after another.
-use Rattle.std.specs.Prelude.{◌≡◌, ℕ, ◌+◌, Bool, true, false, if◌then◌else◌, List, [], ◌++◌, Option, Some, None, Result, Ok, Err, IfOk, IfErr, refl}
+use Rattle.std.specs.Prelude.{◌≡◌, ℕ, ◌+◌, Bool, false, if◌then◌else◌, List, [], ◌++◌, Option, Some, None, Ok, Err}
 use Rattle.std.proofs.Common.{sym, ◌∙◌, ap, subst, inl, inr, append-nil}
 use Rattle.std.specs.Io.KnownBytes.{Appends}
 use Rattle.nom_run.proofs.Known.{appends-more, appends-none}
-use Rattle.nom_run.specs.declared.error.RunError.{RunError}
-use Rattle.nom_run.specs.declared.error.RunError.TheVariants.{Read, Write, OutOfMemory, Usage}
-use Rattle.nom_run.specs.Stream.{MatchRunError, NoWriteFailed, WriteFailed}
+use Rattle.nom_run.specs.Stream.{NoWriteFailed, WriteFailed}
 use Rattle.nom_stream.specs.declared.stream.Stop.TheVariants as Stop
 use Rattle.nom_stream.specs.declared.stream.Stream.{Stream}
 use Rattle.nom_stream.specs.Held.{last_of}
 use Rattle.nom_stream.specs.Streams.{Decides}
-use Rattle.nom_json_run.specs.Lines.{CheckedLines, Going, IsLine, ListsLine, TellsLine, ToldLines, line_of}
+use Rattle.nom_json_run.specs.Lines.{CheckedLines, Going, IsLine, ListsLine, TellsLine, ToldLines, json_line_of}
 use Rattle.nom_json_run.specs.Lines.CheckedLines.{none, good, bad}
 
 module _ {R A : Type 0} (left : R → Option (List ℕ)) (s : Stream R A) where
@@ -18,7 +16,7 @@ module _ {R A : Type 0} (left : R → Option (List ℕ)) (s : Stream R A) where
   going_none held = record { text = []; lines = none; wrote = appends-none held }
 
   going_line : (t u : Stream R A) (held a b : Option (List ℕ)) (count n x : ℕ) (before then_ : Bool) (more : List ℕ) → Going left s t held a count before →
-      Decides left line_of t u (Ok (Some (n, x))) → IsLine (count + 1) (last_of n u.held) more before then_ → Appends a b more →
+      Decides left json_line_of t u (Ok (Some (n, x))) → IsLine (count + 1) (last_of n u.held) more before then_ → Appends a b more →
       Going left s u held b (count + 1) then_
   going_line t u held a b count n x before then_ more g d (inl (j, e, w)) p = record {
     text = g.text;
@@ -32,11 +30,11 @@ module _ {R A : Type 0} (left : R → Option (List ℕ)) (s : Stream R A) where
   }
 
   pub going_on : (t u : Stream R A) (held a b : Option (List ℕ)) (count n x : ℕ) (before then_ : Bool) → Going left s t held a count before →
-      Decides left line_of t u (Ok (Some (n, x))) → ListsLine a b (count + 1) (last_of n u.held) before then_ → Going left s u held b (count + 1) then_
+      Decides left json_line_of t u (Ok (Some (n, x))) → ListsLine a b (count + 1) (last_of n u.held) before then_ → Going left s u held b (count + 1) then_
   going_on t u held a b count n x before then_ g d h = going_line t u held a b count n x before then_ h.0 g d h.1 h.2
 
   pub ended : (t u : Stream R A) (held a : Option (List ℕ)) (count status : ℕ) (wrong : Bool) → Going left s t held a count wrong →
-      Decides left line_of t u (Ok None) → status ≡ (if wrong then 1 else 0) → ToldLines left s u held a status
+      Decides left json_line_of t u (Ok None) → status ≡ (if wrong then 1 else 0) → ToldLines left s u held a status
   ended t u held a count status wrong g d e = record {
     count = count;
     before = t;
@@ -47,7 +45,7 @@ module _ {R A : Type 0} (left : R → Option (List ℕ)) (s : Stream R A) where
   }
 
   pub too_long : (t u : Stream R A) (held a b : Option (List ℕ)) (count status : ℕ) (wrong : Bool) → Going left s t held a count wrong →
-      Decides left line_of t u (Err Stop.TooLong) → status ≡ 3 → TellsLine a b (count + 1) → ToldLines left s u held b status
+      Decides left json_line_of t u (Err Stop.TooLong) → status ≡ 3 → TellsLine a b (count + 1) → ToldLines left s u held b status
   too_long t u held a b count status wrong g d e h = record {
     count = count;
     before = t;

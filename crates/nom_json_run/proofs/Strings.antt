@@ -1,9 +1,9 @@
 -- Characters of strings, by their first byte.
-use Rattle.std.specs.Prelude.{◌≡◌, ℕ, ◌+◌, ◌==◌, ◌↔◌, Bool, true, false, List, [], ◌∷◌, Option, None, Some, length, drop, slice_index, refl}
+use Rattle.std.specs.Prelude.{◌≡◌, ℕ, ◌+◌, ◌==◌, ◌↔◌, Bool, true, false, List, [], ◌∷◌, Option, None, Some, drop}
 use Rattle.std.proofs.Common.{arith, sym, ◌∙◌, ap, subst}
 use Rattle.nom_json_run.specs.Json.{JsonCharacters, after_escape, begins, first_is, is_plain, rest}
 use Rattle.nom_json_run.specs.Json.JsonCharacters.{close, plain, escape}
-use Rattle.nom_json_run.specs.Scans.{IsNone, IsOnly}
+use Rattle.nom_json_run.specs.Scans.{EndsNowhere, EndsOnly}
 use Rattle.nom_json_run.proofs.Firsts.{rest_at}
 
 pub both : {A B C : Type 0} → (A ↔ B) → (B ↔ C) → A ↔ C
@@ -41,7 +41,7 @@ close_to xs r p (close q e) = e
 close_to xs r p (plain q h) = absurd (no_quote xs q p)
 close_to xs r p (escape j q e h) = absurd (not_both xs p q)
 
-pub closes : (bs : List ℕ) (i : ℕ) → begins 34 (drop i bs) ≡ true → IsOnly (JsonCharacters (drop i bs)) (drop (i + 1) bs)
+pub closes : (bs : List ℕ) (i : ℕ) → begins 34 (drop i bs) ≡ true → EndsOnly (JsonCharacters (drop i bs)) (drop (i + 1) bs)
 closes bs i p r = (
   λ h. close_to (drop i bs) r p h ∙ rest_at (λ b. b == 34) bs i p,
   λ e. close p (e ∙ sym (rest_at (λ b. b == 34) bs i p)),
@@ -70,10 +70,10 @@ escape_none xs r p f (close q e) = not_both xs q p
 escape_none xs r p f (plain q h) = no_backslash xs q p
 escape_none xs r p f (escape j q e h) = none_some j (after_escape (rest xs)) e f
 
-pub no_escape : (bs : List ℕ) (i : ℕ) → begins 92 (drop i bs) ≡ true → after_escape (drop (i + 1) bs) ≡ None → IsNone (JsonCharacters (drop i bs))
+pub no_escape : (bs : List ℕ) (i : ℕ) → begins 92 (drop i bs) ≡ true → after_escape (drop (i + 1) bs) ≡ None → EndsNowhere (JsonCharacters (drop i bs))
 no_escape bs i p f r h = escape_none (drop i bs) r p (ap after_escape (rest_at (λ b. b == 92) bs i p) ∙ f) h
 
-pub no_character : (xs : List ℕ) → first_is is_plain xs ≡ false → begins 34 xs ≡ false → begins 92 xs ≡ false → IsNone (JsonCharacters xs)
+pub no_character : (xs : List ℕ) → first_is is_plain xs ≡ false → begins 34 xs ≡ false → begins 92 xs ≡ false → EndsNowhere (JsonCharacters xs)
 no_character xs p q s r (close e f) = differs (begins 34 xs) e q
 no_character xs p q s r (plain e h) = differs (first_is is_plain xs) e p
 no_character xs p q s r (escape j e f h) = differs (begins 92 xs) e s

@@ -7,9 +7,9 @@ use Rattle.nom_json_run.specs.Json.{JsonCharacters, JsonInside, JsonItem, JsonSt
 use Rattle.nom_json_run.specs.Json.{opening, rest}
 use Rattle.nom_json_run.specs.Json.JsonValue.{null, truth, untruth, number, text, brackets}
 use Rattle.nom_json_run.specs.Json.JsonItem.{element, member}
-use Rattle.nom_json_run.specs.Scans.{EndsThere, IsNone, IsOnly}
-use Rattle.nom_json_run.specs.Walk.{IsNamed}
-use Rattle.nom_json_run.specs.Walk.IsNamed.{as_null, as_true, as_false}
+use Rattle.nom_json_run.specs.Scans.{EndsAtStop, EndsNowhere, EndsOnly}
+use Rattle.nom_json_run.specs.Walk.{IsWordAt}
+use Rattle.nom_json_run.specs.Walk.IsWordAt.{as_null, as_true, as_false}
 use Rattle.nom_json_run.specs.declared.bracket.Bracket.{Bracket}
 use Rattle.nom_json_run.specs.declared.bracket.Bracket.TheVariants.{Array, Object}
 use Rattle.nom_json_run.specs.declared.bracket.Fault.{Fault}
@@ -111,21 +111,21 @@ untruth_none i r f (brackets Object j e h s) = no_true e
 at_head : (v w i : List ℕ) (c : ℕ) (o : Option (List ℕ)) → w ≡ v → begins c i ≡ true → after_word w i ≡ o → after_word v (c ∷ rest i) ≡ o
 at_head v w i c o e b f = ap (after_word v) (sym (head_is c i b)) ∙ (ap (λ x. after_word x i) (sym e) ∙ f)
 
-named_to : (w i k r : List ℕ) → IsNamed w i → after_word w i ≡ Some k → JsonValue i r → r ≡ after_spaces k
+named_to : (w i k r : List ℕ) → IsWordAt w i → after_word w i ≡ Some k → JsonValue i r → r ≡ after_spaces k
 named_to w i k r (as_null e b) f h = null_to (rest i) k r (at_head (codes "null") w i 110 (Some k) e b f) (subst (λ xs. JsonValue xs r) (head_is 110 i b) h)
 named_to w i k r (as_true e b) f h = truth_to (rest i) k r (at_head (codes "true") w i 116 (Some k) e b f) (subst (λ xs. JsonValue xs r) (head_is 116 i b) h)
 named_to w i k r (as_false e b) f h = untruth_to (rest i) k r (at_head (codes "false") w i 102 (Some k) e b f)
     (subst (λ xs. JsonValue xs r) (head_is 102 i b) h)
 
-named_from : (w i k r : List ℕ) → IsNamed w i → after_word w i ≡ Some k → r ≡ after_spaces k → JsonValue i r
+named_from : (w i k r : List ℕ) → IsWordAt w i → after_word w i ≡ Some k → r ≡ after_spaces k → JsonValue i r
 named_from w i k r (as_null e b) f s = null k (ap (λ x. after_word x i) (sym e) ∙ f) s
 named_from w i k r (as_true e b) f s = truth k (ap (λ x. after_word x i) (sym e) ∙ f) s
 named_from w i k r (as_false e b) f s = untruth k (ap (λ x. after_word x i) (sym e) ∙ f) s
 
-pub named_only : (w i k j : List ℕ) → IsNamed w i → after_word w i ≡ Some k → j ≡ after_spaces k → IsOnly (JsonValue i) j
+pub named_only : (w i k j : List ℕ) → IsWordAt w i → after_word w i ≡ Some k → j ≡ after_spaces k → EndsOnly (JsonValue i) j
 named_only w i k j n f s r = (λ h. named_to w i k r n f h ∙ sym s, λ e. named_from w i k r n f (e ∙ s))
 
-pub named_none : (w i : List ℕ) → IsNamed w i → after_word w i ≡ None → IsNone (JsonValue i)
+pub named_none : (w i : List ℕ) → IsWordAt w i → after_word w i ≡ None → EndsNowhere (JsonValue i)
 named_none w i (as_null e b) f r h = null_none (rest i) r (at_head (codes "null") w i 110 None e b f) (subst (λ xs. JsonValue xs r) (head_is 110 i b) h)
 named_none w i (as_true e b) f r h = truth_none (rest i) r (at_head (codes "true") w i 116 None e b f) (subst (λ xs. JsonValue xs r) (head_is 116 i b) h)
 named_none w i (as_false e b) f r h = untruth_none (rest i) r (at_head (codes "false") w i 102 None e b f)
@@ -144,7 +144,7 @@ number_to i k r f (number j g s) = s ∙ ap after_spaces (one_some j k (after_nu
 number_to i k r f (text t) = absurd (some_none k (after_number i) f (no_number 34 i t.opens refl))
 number_to i k r f (brackets o j e h s) = absurd (some_none k (after_number i) f (bracket_begins o i e))
 
-pub number_only : (i k j : List ℕ) → after_number i ≡ Some k → j ≡ after_spaces k → IsOnly (JsonValue i) j
+pub number_only : (i k j : List ℕ) → after_number i ≡ Some k → j ≡ after_spaces k → EndsOnly (JsonValue i) j
 number_only i k j f s r = (λ h. number_to i k r f h ∙ sym s, λ e. number k f (e ∙ s))
 
 bracket_not : (o : Bracket) (i : List ℕ) → begins 91 i ≡ false → begins 123 i ≡ false → begins (opening o) i ≡ true → ⊥
@@ -153,7 +153,7 @@ bracket_not Object i a b e = differ (begins 123 i) e b
 
 -- no value begins with another byte
 pub value_none : (i : List ℕ) → begins 34 i ≡ false → begins 116 i ≡ false → begins 102 i ≡ false → begins 110 i ≡ false → begins 91 i ≡ false →
-    begins 123 i ≡ false → after_number i ≡ None → IsNone (JsonValue i)
+    begins 123 i ≡ false → after_number i ≡ None → EndsNowhere (JsonValue i)
 value_none i q t f n a b none r (null j g s) = differ (begins 110 i) (word_begins 110 (codes "ull") i j g) n
 value_none i q t f n a b none r (truth j g s) = differ (begins 116 i) (word_begins 116 (codes "rue") i j g) t
 value_none i q t f n a b none r (untruth j g s) = differ (begins 102 i) (word_begins 102 (codes "alse") i j g) f
@@ -176,8 +176,8 @@ text_value i e r h =
     let p = head_is 34 i e in
     subst (λ xs. JsonString xs r) (sym p) (text_from (rest i) r (subst (λ xs. JsonValue xs r) p h))
 
-pub text_ends : (bs i : List ℕ) (at : ℕ) (x : Result ℕ Fault) → begins 34 i ≡ true → IfOk x (λ n. EndsThere bs (JsonString i) at n) →
-    IfOk x (λ n. EndsThere bs (JsonValue i) at n)
+pub text_ends : (bs i : List ℕ) (at : ℕ) (x : Result ℕ Fault) → begins 34 i ≡ true → IfOk x (λ n. EndsAtStop bs (JsonString i) at n) →
+    IfOk x (λ n. EndsAtStop bs (JsonValue i) at n)
 text_ends bs i at (Ok n) e h = record {
   begins = h.begins;
   within = h.within;
@@ -185,14 +185,14 @@ text_ends bs i at (Ok n) e h = record {
 }
 text_ends bs i at (Err x) e h = h
 
-pub text_fails : (bs i : List ℕ) (x : Result ℕ Fault) → begins 34 i ≡ true → IfErr x (λ f. IsNone (JsonString i) × (f.at ≤ length bs)) →
-    IfErr x (λ f. IsNone (JsonValue i) × (f.at ≤ length bs))
+pub text_fails : (bs i : List ℕ) (x : Result ℕ Fault) → begins 34 i ≡ true → IfErr x (λ f. EndsNowhere (JsonString i) × (f.at ≤ length bs)) →
+    IfErr x (λ f. EndsNowhere (JsonValue i) × (f.at ≤ length bs))
 text_fails bs i (Ok n) e h = h
 text_fails bs i (Err x) e h = (λ r v. h.0 r (text_value i e r v), h.1)
 
 -- a string, by its characters
-pub string_only : (bs : List ℕ) (at stop n : ℕ) → begins 34 (drop at bs) ≡ true → IsOnly (JsonCharacters (drop (at + 1) bs)) (drop stop bs) →
-    drop n bs ≡ after_spaces (drop stop bs) → IsOnly (JsonString (drop at bs)) (drop n bs)
+pub string_only : (bs : List ℕ) (at stop n : ℕ) → begins 34 (drop at bs) ≡ true → EndsOnly (JsonCharacters (drop (at + 1) bs)) (drop stop bs) →
+    drop n bs ≡ after_spaces (drop stop bs) → EndsOnly (JsonString (drop at bs)) (drop n bs)
 string_only bs at stop n e only s r =
     let p = rest_at (λ b. b == 34) bs at e in (
       λ t. t.spaces ∙ (ap after_spaces ((only t.after).0 (subst (λ xs. JsonCharacters xs t.after) p t.characters)) ∙ sym s),
@@ -204,10 +204,11 @@ string_only bs at stop n e only s r =
       },
     )
 
-pub string_none : (bs : List ℕ) (at : ℕ) → begins 34 (drop at bs) ≡ true → IsNone (JsonCharacters (drop (at + 1) bs)) → IsNone (JsonString (drop at bs))
+pub string_none : (bs : List ℕ) (at : ℕ) → begins 34 (drop at bs) ≡ true → EndsNowhere (JsonCharacters (drop (at + 1) bs)) →
+    EndsNowhere (JsonString (drop at bs))
 string_none bs at e none r t = none t.after (subst (λ xs. JsonCharacters xs t.after) (rest_at (λ b. b == 34) bs at e) t.characters)
 
-pub string_no : (i : List ℕ) → begins 34 i ≡ false → IsNone (JsonString i)
+pub string_no : (i : List ℕ) → begins 34 i ≡ false → EndsNowhere (JsonString i)
 string_no i q r t = differ (begins 34 i) t.opens q
 
 -- items
@@ -217,23 +218,23 @@ element_same i r = (element_to i r, λ h. element refl h) where
   element_to i r (element e h) = h
   element_to i r (member j e t b h) = absurd (cc)
 
-member_to : (i j r : List ℕ) → IsOnly (JsonString i) j → JsonItem Object i r → (begins 58 j ≡ true) × JsonValue (after_spaces (rest j)) r
+member_to : (i j r : List ℕ) → EndsOnly (JsonString i) j → JsonItem Object i r → (begins 58 j ≡ true) × JsonValue (after_spaces (rest j)) r
 member_to i j r only (element e h) = absurd (cc)
 member_to i j r only (member k e t b h) =
     let p = (only k).0 t in
     (subst (λ xs. begins 58 xs ≡ true) p b, subst (λ xs. JsonValue (after_spaces (rest xs)) r) p h)
 
-pub member_same : (i j k : List ℕ) → IsOnly (JsonString i) j → begins 58 j ≡ true → k ≡ after_spaces (rest j) → (r : List ℕ) →
+pub member_same : (i j k : List ℕ) → EndsOnly (JsonString i) j → begins 58 j ≡ true → k ≡ after_spaces (rest j) → (r : List ℕ) →
     JsonItem Object i r ↔ JsonValue k r
 member_same i j k only b s r = (
   λ h. subst (λ xs. JsonValue xs r) (sym s) ((member_to i j r only h).1),
   λ h. member j refl ((only j).1 refl) b (subst (λ xs. JsonValue xs r) s h),
 )
 
-pub member_no_colon : (i j : List ℕ) → IsOnly (JsonString i) j → begins 58 j ≡ false → IsNone (JsonItem Object i)
+pub member_no_colon : (i j : List ℕ) → EndsOnly (JsonString i) j → begins 58 j ≡ false → EndsNowhere (JsonItem Object i)
 member_no_colon i j only b r h = differ (begins 58 j) (member_to i j r only h).0 b
 
-pub member_no_name : (i : List ℕ) → IsNone (JsonString i) → IsNone (JsonItem Object i)
+pub member_no_name : (i : List ℕ) → EndsNowhere (JsonString i) → EndsNowhere (JsonItem Object i)
 member_no_name i none r (element e h) = absurd (cc)
 member_no_name i none r (member k e t b h) = none k t
 
@@ -244,7 +245,7 @@ closing_none Array i r (member k e t b h) = absurd (cc)
 closing_none Object i r (element e h) = absurd (cc)
 closing_none Object i r (member k e t b h) = no_true t.opens
 
-pub item_none : (o : Bracket) (i : List ℕ) → begins (closing o) i ≡ true → IsNone (JsonItem o i)
+pub item_none : (o : Bracket) (i : List ℕ) → begins (closing o) i ≡ true → EndsNowhere (JsonItem o i)
 item_none o i e r h = closing_none o (rest i) r (subst (λ xs. JsonItem o xs r) (head_is (closing o) i e) h)
 
 -- brackets
@@ -271,7 +272,7 @@ pub bracket_from : (o : Bracket) (i r : List ℕ) → begins (opening o) i ≡ t
 bracket_from Array i r e h = array_from (rest i) r (subst (λ xs. JsonValue xs r) (head_is 91 i e) h)
 bracket_from Object i r e h = object_from (rest i) r (subst (λ xs. JsonValue xs r) (head_is 123 i e) h)
 
-pub named_some : (w i : List ℕ) → IsNamed w i → 0 < length w
+pub named_some : (w i : List ℕ) → IsWordAt w i → 0 < length w
 named_some w i (as_null e b) = let h : length w ≡ 4 = ap length e in omega (arith, h)
 named_some w i (as_true e b) = let h : length w ≡ 4 = ap length e in omega (arith, h)
 named_some w i (as_false e b) = let h : length w ≡ 5 = ap length e in omega (arith, h)

@@ -17,8 +17,8 @@ line_len None = 0
 line_len (Some bytes) = length bytes.now
 
 -- line = (any byte but the end of a line)+? end?, where the end is the byte 10; only the last line of the data may lack it
-abbrev pub line_of : BytesGrammar (Option (Slice bytes_model)) ℕ
-line_of = map_of line_len (terminated_of (opt_of (is_not_of (10 ∷ []))) (opt_of (tag_of (10 ∷ []))))
+abbrev pub json_line_of : BytesGrammar (Option (Slice bytes_model)) ℕ
+json_line_of = map_of line_len (terminated_of (opt_of (is_not_of (10 ∷ []))) (opt_of (tag_of (10 ∷ []))))
 
 -- the text for a line that is no JSON text: its number, a column in it, and what is wrong there
 abbrev pub fault_line : (number column : ℕ) (message : List ℕ) → List ℕ
@@ -44,9 +44,9 @@ TellsLine held held' number = (text : List ℕ) × IsLineText number text × App
 pub data CheckedLines {R A : Type 0} (left : R → Option (List ℕ)) (s : Stream R A) : (count : ℕ) (t : Stream R A) (text : List ℕ) (wrong : Bool) → Type 0 where
   none : CheckedLines left s 0 s [] false
   good : {count : ℕ} {t u : Stream R A} {n x : ℕ} {text : List ℕ} {wrong : Bool} → CheckedLines left s count t text wrong →
-      Decides left line_of t u (Ok (Some (n, x))) → IsJson (last_of n u.held) → CheckedLines left s (count + 1) u text wrong
+      Decides left json_line_of t u (Ok (Some (n, x))) → IsJson (last_of n u.held) → CheckedLines left s (count + 1) u text wrong
   bad : {count : ℕ} {t u : Stream R A} {n x : ℕ} {text more : List ℕ} {wrong : Bool} → CheckedLines left s count t text wrong →
-      Decides left line_of t u (Ok (Some (n, x))) → (IsJson (last_of n u.held) → ⊥) → IsLineText (count + 1) more →
+      Decides left json_line_of t u (Ok (Some (n, x))) → (IsJson (last_of n u.held) → ⊥) → IsLineText (count + 1) more →
       CheckedLines left s (count + 1) u (text ++ more) true
 
 module _ {R A : Type 0} (left : R → Option (List ℕ)) (s t : Stream R A) (held held' : Option (List ℕ)) where
@@ -64,6 +64,6 @@ pub record ToldLines {R A : Type 0} (left : R → Option (List ℕ)) (s t : Stre
   pub text : List ℕ
   pub wrong : Bool
   pub lines : CheckedLines left s count before text wrong
-  pub ends : (Decides left line_of before t (Ok None) × (status ≡ (if wrong then 1 else 0)) × Appends held held' text) ⊎
-      (Decides left line_of before t (Err Stop.TooLong) × (status ≡ 3) ×
+  pub ends : (Decides left json_line_of before t (Ok None) × (status ≡ (if wrong then 1 else 0)) × Appends held held' text) ⊎
+      (Decides left json_line_of before t (Err Stop.TooLong) × (status ≡ 3) ×
       ((more : List ℕ) × IsLineText (count + 1) more × Appends held held' (text ++ more)))

@@ -13,25 +13,25 @@ abbrev pub Further : Bracket → List ℕ → List ℕ → Type 0
 Further o r s = (r ≡ s) ⊎ ((begins 44 r ≡ true) × JsonItems o (after_spaces (rest r)) s)
 
 -- after a value: further items and the closing bracket of each that lies open, and then the end
-abbrev pub Closes : List Bracket → List ℕ → Type 0
-Closes [] r = r ≡ []
-Closes (o ∷ outer) r = (j : List ℕ) × Further o r j × (begins (closing o) j ≡ true) × Closes outer (after_spaces (rest j))
+abbrev pub ClosesAll : List Bracket → List ℕ → Type 0
+ClosesAll [] r = r ≡ []
+ClosesAll (o ∷ outer) r = (j : List ℕ) × Further o r j × (begins (closing o) j ≡ true) × ClosesAll outer (after_spaces (rest j))
 
 abbrev pub ClosesAfter : (List ℕ → Type 0) → List Bracket → Type 0
-ClosesAfter Part inner = (r : List ℕ) × Part r × Closes inner r
+ClosesAfter Part inner = (r : List ℕ) × Part r × ClosesAll inner r
 
 -- what stands between brackets from the opening one on, and what follows them
 abbrev pub ClosesInside : Bracket → List Bracket → List ℕ → Type 0
-ClosesInside o outer i = (r : List ℕ) × JsonInside o i r × Closes outer (after_spaces r)
+ClosesInside o outer i = (r : List ℕ) × JsonInside o i r × ClosesAll outer (after_spaces r)
 
 -- what stands at the place: a value, or what follows one
-abbrev pub Completes : Awaits → List Bracket → List ℕ → Type 0
-Completes Value inner i = ClosesAfter (JsonValue i) inner
-Completes After inner i = Closes inner i
+abbrev pub FinishesText : Awaits → List Bracket → List ℕ → Type 0
+FinishesText Value inner i = ClosesAfter (JsonValue i) inner
+FinishesText After inner i = ClosesAll inner i
 
 -- A step from a place: where it goes on, the same is awaited of the bytes as before; where it stops it can't come; or all has come.
 abbrev pub Stepped : (bytes : List ℕ) → (Before : Type 0) → (at : ℕ) → (inner : List Bracket) → Step → Type 0
-Stepped bytes Before at inner (Go stop awaits) = (at < stop) × (stop ≤ length bytes) × (Before ↔ Completes awaits inner (drop stop bytes))
+Stepped bytes Before at inner (Go stop awaits) = (at < stop) × (stop ≤ length bytes) × (Before ↔ FinishesText awaits inner (drop stop bytes))
 Stepped bytes Before at inner (Stop fault) = (fault.at ≤ length bytes) × (Before → ⊥)
 Stepped bytes Before at inner Done = Before
 
@@ -42,10 +42,10 @@ pub record IsKey (bytes : List ℕ) (o : Bracket) (at stop : ℕ) : Type 0 where
   pub same : (r : List ℕ) → JsonItem o (drop at bytes) r ↔ JsonValue (drop stop bytes) r
 
 -- the first character of a word stands at the place
-pub data IsNamed (word i : List ℕ) : Type 0 where
-  as_null : word ≡ codes "null" → begins 110 i ≡ true → IsNamed word i
-  as_true : word ≡ codes "true" → begins 116 i ≡ true → IsNamed word i
-  as_false : word ≡ codes "false" → begins 102 i ≡ true → IsNamed word i
+pub data IsWordAt (word i : List ℕ) : Type 0 where
+  as_null : word ≡ codes "null" → begins 110 i ≡ true → IsWordAt word i
+  as_true : word ≡ codes "true" → begins 116 i ≡ true → IsWordAt word i
+  as_false : word ≡ codes "false" → begins 102 i ≡ true → IsWordAt word i
 
 -- no fault where the bytes are a value, with white space around it; else a fault at a place of them
 abbrev pub IsVerdict : (bytes : List ℕ) → Option Fault → Type 0

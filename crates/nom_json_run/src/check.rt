@@ -1,8 +1,8 @@
 //! Whether bytes are a JSON text. The brackets that lie open are kept in a list, so that none lies too deep.
 ghost use Rattle.std.specs.Prelude.{◌≡◌, ◌≤◌, ◌∷◌, [], ◌⊎◌, IfOk, IfErr, MatchOption, false, true, length, drop, reverse};
 ghost use Rattle.nom_json_run.specs.Json.{JsonItem, JsonString, JsonValue, begins, closing, opening};
-ghost use Rattle.nom_json_run.specs.Scans.{EndsThere, IsNone};
-ghost use Rattle.nom_json_run.specs.Walk.{Closes, ClosesAfter, Completes, IsKey, IsNamed, IsVerdict, Stepped};
+ghost use Rattle.nom_json_run.specs.Scans.{EndsAtStop, EndsNowhere};
+ghost use Rattle.nom_json_run.specs.Walk.{ClosesAll, ClosesAfter, FinishesText, IsKey, IsWordAt, IsVerdict, Stepped};
 
 use crate::bracket::{Awaits, Bracket, Fault, Missing, Step};
 use crate::scan::{byte_is, number, spaces, string, word};
@@ -45,8 +45,8 @@ fn pop<A: Allocator>(open: &mut Vec<Bracket, A>) -> Option<Bracket>
 #[inline(always)]
 fn quoted(bytes: &[u8], at: usize) -> Result<usize, Fault>
     requires { begins 34 (drop at bytes.now) ≡ true }
-    ensures ok { IfOk result (λ n. EndsThere bytes.now (JsonString (drop at bytes.now)) at n) }
-    ensures err { IfErr result (λ f. IsNone (JsonString (drop at bytes.now)) × (f.at ≤ length bytes.now)) }
+    ensures ok { IfOk result (λ n. EndsAtStop bytes.now (JsonString (drop at bytes.now)) at n) }
+    ensures err { IfErr result (λ f. EndsNowhere (JsonString (drop at bytes.now)) × (f.at ≤ length bytes.now)) }
 {
     match string(bytes, at + 1) {
         Ok(stop) => Ok(spaces(bytes, stop)),
@@ -57,9 +57,9 @@ fn quoted(bytes: &[u8], at: usize) -> Result<usize, Fault>
 // A word, and the white space after it.
 #[inline(always)]
 fn named(bytes: &[u8], at: usize, wanted: &'static str) -> Result<usize, Fault>
-    requires { IsNamed wanted.now (drop at bytes.now) }
-    ensures ok { IfOk result (λ n. EndsThere bytes.now (JsonValue (drop at bytes.now)) at n) }
-    ensures err { IfErr result (λ f. IsNone (JsonValue (drop at bytes.now)) × (f.at ≤ length bytes.now)) }
+    requires { IsWordAt wanted.now (drop at bytes.now) }
+    ensures ok { IfOk result (λ n. EndsAtStop bytes.now (JsonValue (drop at bytes.now)) at n) }
+    ensures err { IfErr result (λ f. EndsNowhere (JsonValue (drop at bytes.now)) × (f.at ≤ length bytes.now)) }
 {
     match word(bytes, at, wanted) {
         Ok(stop) => Ok(spaces(bytes, stop)),
@@ -91,8 +91,8 @@ fn numeric(bytes: &[u8], at: usize) -> Result<usize, Fault>
     requires truth { begins 116 (drop at bytes.now) ≡ false }
     requires untruth { begins 102 (drop at bytes.now) ≡ false }
     requires nothing { begins 110 (drop at bytes.now) ≡ false }
-    ensures ok { IfOk result (λ n. EndsThere bytes.now (JsonValue (drop at bytes.now)) at n) }
-    ensures err { IfErr result (λ f. IsNone (JsonValue (drop at bytes.now)) × (f.at ≤ length bytes.now)) }
+    ensures ok { IfOk result (λ n. EndsAtStop bytes.now (JsonValue (drop at bytes.now)) at n) }
+    ensures err { IfErr result (λ f. EndsNowhere (JsonValue (drop at bytes.now)) × (f.at ≤ length bytes.now)) }
 {
     match number(bytes, at) {
         Ok(stop) => Ok(spaces(bytes, stop)),
@@ -106,8 +106,8 @@ fn scalar(bytes: &[u8], at: usize) -> Result<usize, Fault>
     requires within { at ≤ length bytes.now }
     requires array { begins 91 (drop at bytes.now) ≡ false }
     requires object { begins 123 (drop at bytes.now) ≡ false }
-    ensures ok { IfOk result (λ n. EndsThere bytes.now (JsonValue (drop at bytes.now)) at n) }
-    ensures err { IfErr result (λ f. IsNone (JsonValue (drop at bytes.now)) × (f.at ≤ length bytes.now)) }
+    ensures ok { IfOk result (λ n. EndsAtStop bytes.now (JsonValue (drop at bytes.now)) at n) }
+    ensures err { IfErr result (λ f. EndsNowhere (JsonValue (drop at bytes.now)) × (f.at ≤ length bytes.now)) }
 {
     if byte_is(bytes, at, b'"') {
         return quoted(bytes, at);
@@ -129,7 +129,7 @@ fn scalar(bytes: &[u8], at: usize) -> Result<usize, Fault>
 fn member_name(bytes: &[u8], at: usize) -> Result<usize, Fault>
     requires { at ≤ length bytes.now }
     ensures ok { IfOk result (λ n. IsKey bytes.now Bracket.Object at n) }
-    ensures err { IfErr result (λ f. IsNone (JsonItem Bracket.Object (drop at bytes.now)) × (f.at ≤ length bytes.now)) }
+    ensures err { IfErr result (λ f. EndsNowhere (JsonItem Bracket.Object (drop at bytes.now)) × (f.at ≤ length bytes.now)) }
 {
     if !byte_is(bytes, at, b'"') {
         return Err(Fault {
@@ -157,7 +157,7 @@ fn member_name(bytes: &[u8], at: usize) -> Result<usize, Fault>
 fn key(bytes: &[u8], at: usize, bracket: Bracket) -> Result<usize, Fault>
     requires { at ≤ length bytes.now }
     ensures ok { IfOk result (λ n. IsKey bytes.now bracket at n) }
-    ensures err { IfErr result (λ f. IsNone (JsonItem bracket (drop at bytes.now)) × (f.at ≤ length bytes.now)) }
+    ensures err { IfErr result (λ f. EndsNowhere (JsonItem bracket (drop at bytes.now)) × (f.at ≤ length bytes.now)) }
 {
     match bracket {
         Bracket::Array => Ok(at),
@@ -221,7 +221,7 @@ fn inner_step<A: Allocator>(
     bracket: Bracket,
 ) -> Result<Step, OutOfMemory>
     requires { at ≤ length bytes.now }
-    ensures { IfOk result (λ s. Stepped bytes.now (Closes (bracket ∷ reverse open.old.items) (drop at bytes.now)) at (reverse open.new.items) s) }
+    ensures { IfOk result (λ s. Stepped bytes.now (ClosesAll (bracket ∷ reverse open.old.items) (drop at bytes.now)) at (reverse open.new.items) s) }
 {
     if byte_is(bytes, at, closing_byte(bracket)) {
         return Ok(Step::Go(spaces(bytes, at + 1), Awaits::After));
@@ -251,7 +251,7 @@ fn after_step<A: Allocator>(
     open: &mut Vec<Bracket, A>,
 ) -> Result<Step, OutOfMemory>
     requires { at ≤ length bytes.now }
-    ensures { IfOk result (λ s. Stepped bytes.now (Closes (reverse open.old.items) (drop at bytes.now)) at (reverse open.new.items) s) }
+    ensures { IfOk result (λ s. Stepped bytes.now (ClosesAll (reverse open.old.items) (drop at bytes.now)) at (reverse open.new.items) s) }
 {
     match pop(open) {
         Some(bracket) => inner_step(bytes, at, open, bracket),
@@ -276,7 +276,7 @@ fn step<A: Allocator>(
     open: &mut Vec<Bracket, A>,
 ) -> Result<Step, OutOfMemory>
     requires { at ≤ length bytes.now }
-    ensures { IfOk result (λ s. Stepped bytes.now (Completes awaits (reverse open.old.items) (drop at bytes.now)) at (reverse open.new.items) s) }
+    ensures { IfOk result (λ s. Stepped bytes.now (FinishesText awaits (reverse open.old.items) (drop at bytes.now)) at (reverse open.new.items) s) }
 {
     match awaits {
         Awaits::Value => value_step(bytes, at, open),

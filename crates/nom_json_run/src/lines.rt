@@ -4,7 +4,7 @@ ghost use Rattle.std.specs.Io.KnownBytes.{Appends};
 ghost use Rattle.nom_internal.specs.Prelude.{bytes_model, Slice};
 ghost use Rattle.nom_run.specs.Stream.{MatchRunError, NoWriteFailed, WriteFailed};
 ghost use Rattle.nom_stream.specs.Streams.{IsOpen};
-ghost use Rattle.nom_json_run.specs.Lines.{IsLine, IsLineText, ListsLine, TellsLine, ToldLines, fault_line, line_len, line_of};
+ghost use Rattle.nom_json_run.specs.Lines.{IsLine, IsLineText, ListsLine, TellsLine, ToldLines, fault_line, line_len, json_line_of};
 
 use crate::bracket::Fault;
 use crate::check::verdict;
@@ -48,7 +48,7 @@ impl Grammar for Lines {
 
     ghost Tree = { Option (Slice bytes_model) };
 
-    ghost grammar = { λ _. line_of };
+    ghost grammar = { λ _. json_line_of };
 
     fn item<'a>(&mut self, input: &'a [u8], more: bool) -> IResult<&'a [u8], usize> {
         let inside = opt(is_not::<_, _, Error<&[u8]>>(&b"\n"[..]));
@@ -99,6 +99,18 @@ fn characters(bytes: &[u8]) -> usize
     bytes.iter().filter(|b| **b < 128 || 192 <= **b).count()
 }
 
+// How many bytes a line has without its end.
+fn inside_len(line: &[u8]) -> usize
+    ensures { result ≤ length line.now }
+{
+    let count = line.len();
+    if count > 0 && line[count - 1] == b'\n' {
+        count - 1
+    } else {
+        count
+    }
+}
+
 // The text for a line that is no JSON text, by its first fault. Columns count characters, from 1 on.
 fn fault_text<A: Allocator + Copy>(
     alloc: A,
@@ -119,7 +131,9 @@ fn fault_text<A: Allocator + Copy>(
         Ok(()) => {}
         Err(error) => return Err(error),
     }
-    let column = 1 + characters(&bytes[..fault.at]);
+    // (the end of a line is white space, and what is missing is missing before it)
+    let at = fault.at.min(inside_len(bytes));
+    let column = 1 + characters(&bytes[..at]);
     line_text(alloc, number, column, first_line(out.as_str()))
 }
 

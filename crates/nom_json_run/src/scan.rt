@@ -3,7 +3,7 @@ ghost use Rattle.std.specs.Prelude.{◌≡◌, ◌+◌, ◌<◌, ◌≤◌, None
 ghost use Rattle.nom_json_run.specs.Json.{JsonCharacters, after_digits, after_digits1, after_escape, after_exponent, after_fraction};
 ghost use Rattle.nom_json_run.specs.Json.{after_hex, after_integer, after_minus, after_number, after_sign, after_spaces, after_word, begins, first_is};
 ghost use Rattle.nom_json_run.specs.Json.{is_digit, is_hex, is_letter, is_mark, is_plain, is_sign, is_space};
-ghost use Rattle.nom_json_run.specs.Scans.{EndsThere, IsNone, Reaches, SameEnds};
+ghost use Rattle.nom_json_run.specs.Scans.{EndsAtStop, EndsNowhere, LeadsTo, SameEnds};
 
 use crate::bracket::{Fault, Missing};
 
@@ -187,7 +187,7 @@ fn digits(bytes: &[u8], start: usize) -> usize
 fn digits1(bytes: &[u8], start: usize) -> Result<usize, Fault>
     requires { start ≤ length bytes.now }
     ensures some { IfOk result (λ n. start < n) }
-    ensures ok { IfOk result (λ n. Reaches bytes.now (after_digits1 (drop start bytes.now)) start n) }
+    ensures ok { IfOk result (λ n. LeadsTo bytes.now (after_digits1 (drop start bytes.now)) start n) }
     ensures err { IfErr result (λ f. (after_digits1 (drop start bytes.now) ≡ None) × (f.at ≤ length bytes.now)) }
 {
     if digit_at(bytes, start) {
@@ -204,7 +204,7 @@ fn digits1(bytes: &[u8], start: usize) -> Result<usize, Fault>
 fn integer(bytes: &[u8], start: usize) -> Result<usize, Fault>
     requires { start ≤ length bytes.now }
     ensures some { IfOk result (λ n. start < n) }
-    ensures ok { IfOk result (λ n. Reaches bytes.now (after_integer (drop start bytes.now)) start n) }
+    ensures ok { IfOk result (λ n. LeadsTo bytes.now (after_integer (drop start bytes.now)) start n) }
     ensures err { IfErr result (λ f. (after_integer (drop start bytes.now) ≡ None) × (f.at ≤ length bytes.now)) }
 {
     if byte_is(bytes, start, b'0') {
@@ -217,7 +217,7 @@ fn integer(bytes: &[u8], start: usize) -> Result<usize, Fault>
 #[inline(always)]
 fn fraction(bytes: &[u8], start: usize) -> Result<usize, Fault>
     requires { start ≤ length bytes.now }
-    ensures ok { IfOk result (λ n. Reaches bytes.now (after_fraction (drop start bytes.now)) start n) }
+    ensures ok { IfOk result (λ n. LeadsTo bytes.now (after_fraction (drop start bytes.now)) start n) }
     ensures err { IfErr result (λ f. (after_fraction (drop start bytes.now) ≡ None) × (f.at ≤ length bytes.now)) }
 {
     if byte_is(bytes, start, b'.') {
@@ -244,7 +244,7 @@ fn after_a_sign(bytes: &[u8], start: usize) -> usize
 #[inline(always)]
 fn exponent(bytes: &[u8], start: usize) -> Result<usize, Fault>
     requires { start ≤ length bytes.now }
-    ensures ok { IfOk result (λ n. Reaches bytes.now (after_exponent (drop start bytes.now)) start n) }
+    ensures ok { IfOk result (λ n. LeadsTo bytes.now (after_exponent (drop start bytes.now)) start n) }
     ensures err { IfErr result (λ f. (after_exponent (drop start bytes.now) ≡ None) × (f.at ≤ length bytes.now)) }
 {
     if mark_at(bytes, start) {
@@ -274,7 +274,7 @@ fn after_a_minus(bytes: &[u8], start: usize) -> usize
 pub fn number(bytes: &[u8], start: usize) -> Result<usize, Fault>
     requires { start ≤ length bytes.now }
     ensures some { IfOk result (λ n. start < n) }
-    ensures ok { IfOk result (λ n. Reaches bytes.now (after_number (drop start bytes.now)) start n) }
+    ensures ok { IfOk result (λ n. LeadsTo bytes.now (after_number (drop start bytes.now)) start n) }
     ensures err { IfErr result (λ f. (after_number (drop start bytes.now) ≡ None) × (f.at ≤ length bytes.now)) }
 {
     let unsigned = after_a_minus(bytes, start);
@@ -294,7 +294,7 @@ pub fn number(bytes: &[u8], start: usize) -> Result<usize, Fault>
 pub fn word(bytes: &[u8], start: usize, wanted: &'static str) -> Result<usize, Fault>
     requires { start ≤ length bytes.now }
     ensures length { IfOk result (λ n. start + length wanted.now ≤ n) }
-    ensures ok { IfOk result (λ n. Reaches bytes.now (after_word wanted.now (drop start bytes.now)) start n) }
+    ensures ok { IfOk result (λ n. LeadsTo bytes.now (after_word wanted.now (drop start bytes.now)) start n) }
     ensures err { IfErr result (λ f. (after_word wanted.now (drop start bytes.now) ≡ None) × (f.at ≤ length bytes.now)) }
 {
     let text = wanted.as_bytes();
@@ -314,7 +314,7 @@ pub fn word(bytes: &[u8], start: usize, wanted: &'static str) -> Result<usize, F
 /// Four digits in base 16.
 fn hexes(bytes: &[u8], start: usize) -> Result<usize, Fault>
     requires { start ≤ length bytes.now }
-    ensures ok { IfOk result (λ n. Reaches bytes.now (after_hex 4 (drop start bytes.now)) start n) }
+    ensures ok { IfOk result (λ n. LeadsTo bytes.now (after_hex 4 (drop start bytes.now)) start n) }
     ensures err { IfErr result (λ f. (after_hex 4 (drop start bytes.now) ≡ None) × (f.at ≤ length bytes.now)) }
 {
     for count in 0usize..4 {
@@ -331,7 +331,7 @@ fn hexes(bytes: &[u8], start: usize) -> Result<usize, Fault>
 /// What follows a backslash.
 fn escape(bytes: &[u8], start: usize) -> Result<usize, Fault>
     requires { start ≤ length bytes.now }
-    ensures ok { IfOk result (λ n. Reaches bytes.now (after_escape (drop start bytes.now)) start n) }
+    ensures ok { IfOk result (λ n. LeadsTo bytes.now (after_escape (drop start bytes.now)) start n) }
     ensures err { IfErr result (λ f. (after_escape (drop start bytes.now) ≡ None) × (f.at ≤ length bytes.now)) }
 {
     if byte_is(bytes, start, b'u') {
@@ -365,8 +365,8 @@ fn plain_run(bytes: &[u8], start: usize) -> usize
 /// The characters of a string, after the quote that opens it, and the quote that closes it.
 pub fn string(bytes: &[u8], start: usize) -> Result<usize, Fault>
     requires { start ≤ length bytes.now }
-    ensures ok { IfOk result (λ n. EndsThere bytes.now (JsonCharacters (drop start bytes.now)) start n) }
-    ensures err { IfErr result (λ f. IsNone (JsonCharacters (drop start bytes.now)) × (f.at ≤ length bytes.now)) }
+    ensures ok { IfOk result (λ n. EndsAtStop bytes.now (JsonCharacters (drop start bytes.now)) start n) }
+    ensures err { IfErr result (λ f. EndsNowhere (JsonCharacters (drop start bytes.now)) × (f.at ≤ length bytes.now)) }
 {
     let mut at = start;
     'pieces: loop {

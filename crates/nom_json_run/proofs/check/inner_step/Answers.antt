@@ -1,7 +1,7 @@
-use Rattle.std.proofs.Common.{◌≡◌, ◌==◌, ◌∙◌, ◌∷◌, true, false, drop, reverse, arith, ap, subst, sym}
+use Rattle.std.proofs.Common.{◌≡◌, ◌==◌, ◌∙◌, ◌∷◌, true, drop, reverse, arith, ap, subst, sym}
 use Rattle.std.specs.Prelude.{◌↔◌}
-use Rattle.nom_json_run.specs.Json.{JsonValue, after_spaces, begins, closing, opening}
-use Rattle.nom_json_run.specs.Walk.{Closes, ClosesAfter}
+use Rattle.nom_json_run.specs.Json.{JsonValue, after_spaces, begins, closing}
+use Rattle.nom_json_run.specs.Walk.{ClosesAll, ClosesAfter}
 use Rattle.nom_json_run.proofs.Firsts.{rest_at}
 use Rattle.nom_json_run.proofs.Strings.{both}
 use Rattle.nom_json_run.proofs.Walks.{closing_on, comma_on, key_on, no_key}
@@ -33,7 +33,7 @@ returns-in-Ok-key g c =
     let comma = comma_on o inner at item e (c.spaces-item.ensures.follows ∙ ap after_spaces (sym (rest_at (λ b. b == 44) bs c.args.at e))) in (
       omega (arith, c.spaces-item.ensures.begins, found.begins),
       found.within,
-      subst (λ xs. Closes (o ∷ inner) at ↔ ClosesAfter (JsonValue stop) xs) (sym c.in-Ok.ensures)
+      subst (λ xs. ClosesAll (o ∷ inner) at ↔ ClosesAfter (JsonValue stop) xs) (sym c.in-Ok.ensures)
           (both comma (key_on o (o ∷ inner) item stop found.same)),
     )
 

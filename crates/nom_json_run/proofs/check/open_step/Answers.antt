@@ -1,7 +1,7 @@
 use Rattle.std.proofs.Common.{◌≡◌, ◌==◌, ◌∙◌, ◌∷◌, true, false, drop, reverse, arith, ap, subst, sym}
 use Rattle.std.specs.Prelude.{◌↔◌}
 use Rattle.nom_json_run.specs.Json.{JsonValue, after_spaces, begins, closing, opening}
-use Rattle.nom_json_run.specs.Walk.{Closes, ClosesAfter}
+use Rattle.nom_json_run.specs.Walk.{ClosesAfter}
 use Rattle.nom_json_run.proofs.Firsts.{rest_at}
 use Rattle.nom_json_run.proofs.Strings.{both}
 use Rattle.nom_json_run.proofs.Walks.{closed_at_once, items_on, key_on, no_key, opened}

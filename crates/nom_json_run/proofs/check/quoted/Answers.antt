@@ -1,4 +1,4 @@
-use Rattle.std.proofs.Common.{drop, arith}
+use Rattle.std.proofs.Common.{arith}
 use Rattle.nom_json_run.proofs.Values.{string_none, string_only}
 use Rattle.nom_json_run.proofs.check.quoted.Goals as goal
 
