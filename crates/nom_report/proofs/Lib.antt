@@ -5,6 +5,7 @@ mod Choices
 mod Contexts
 mod Fronts
 mod Furthest
+mod Inner
 mod Items
 mod Lines
 mod Whole

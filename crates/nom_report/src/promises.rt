@@ -3,11 +3,18 @@ ghost use Rattle.std.specs.Prelude.{◌∷◌, []};
 ghost use Rattle.nom_branch.specs.Alternatives.{alt_of, or_of};
 ghost use Rattle.nom_report.specs.Furthest.{TellsOfBranches, refuses_with};
 ghost use Rattle.nom_report.specs.Reports.{report_errors};
+ghost use Rattle.nom_report.specs.Within.{StaysWithin};
 
 use crate::place::Placed;
 use crate::value::Report;
 use nom_branch::Choice;
 use nom_internal::parser::Parser;
+
+/// A report that is made at a rest of an input lies neither before the input's start nor behind its end; and what is made of
+/// reports that lie in an input, by a choice or under a context, lies in it too.
+pub fn stays_within<I: Placed>(_input: I)
+    ensures { StaysWithin I.model I.place }
+{}
 
 /// Where a choice of two refuses, its report stands at the furthest place that any branch's does; all that was expected
 /// there by a branch is expected, unless it is told that there was more.
