@@ -3,6 +3,7 @@ mod Again
 mod Among
 mod Choices
 mod Contexts
+mod Each
 mod Fronts
 mod Furthest
 mod Inner

@@ -1,7 +1,8 @@
 //! What a report promises of choices. These functions do nothing: their contracts are the promises.
-ghost use Rattle.std.specs.Prelude.{◌∷◌, []};
+ghost use Rattle.std.specs.Prelude.{◌∷◌, [], map};
 ghost use Rattle.nom_branch.specs.Alternatives.{alt_of, or_of};
-ghost use Rattle.nom_report.specs.Furthest.{TellsOfBranches, refuses_with};
+ghost use Rattle.nom_branch.specs.Lists.{Each};
+ghost use Rattle.nom_report.specs.Furthest.{TellsOfBranches, TellsOfEach, refuses_with};
 ghost use Rattle.nom_report.specs.Reports.{report_errors};
 ghost use Rattle.nom_report.specs.Within.{StaysWithin};
 
@@ -221,4 +222,10 @@ pub fn furthest_of_eight<
         (F.grammar (F.state _choice.now.parsers.5)))
         (G.grammar (G.state _choice.now.parsers.6)))
         (H.grammar (H.state _choice.now.parsers.7)))).meaning s }
+{}
+
+/// The same of a choice among the parsers of a list, of which there is one at least.
+pub fn furthest_of_each<I: Placed, A: Parser<I, Error = Report<I>>>(_branches: &[A])
+    requires { Each (λ s. (A.grammar s).meaning.IsSound) (map A.state _branches.now) }
+    ensures { (s : _) → TellsOfEach I.place I.model (λ t. (A.grammar t).meaning) (map A.state _branches.now) s }
 {}
